@@ -1,0 +1,2 @@
+//! Number theory.
+#![tactic(auto)]
