@@ -1,0 +1,6 @@
+pub mod Ring
+pub mod Integers
+pub mod IntegerRing
+pub mod Divisors
+pub mod Quotients
+pub mod SignedDivisors

@@ -1,1 +1,4 @@
+pub mod Division
+pub mod Gcd
 pub mod Limit
+pub mod Laws

@@ -1,0 +1,236 @@
+-- Commutative rings, and a solver of equations in them: both sides are written as expressions over numbered variables, put in a normal form that computes, and compared by `refl`.
+use Rattle.std.proofs.Common.{◌≡◌, ℕ, Bool, true, false, cond, List, [], ◌∷◌, refl, sym, ap, ap₂, subst, ◌∙◌, get_or, eqb, ltb, not, ◌&&◌, T, eqb→eq}
+
+pub record Ring (A : Type 0) : Type 0 where
+  pub null : A
+  pub unit : A
+  pub add : A → A → A
+  pub mul : A → A → A
+  pub neg : A → A
+  pub add_assoc : (a b c : A) → add (add a b) c ≡ add a (add b c)
+  pub add_comm : (a b : A) → add a b ≡ add b a
+  pub null-add : (a : A) → add null a ≡ a
+  pub add-neg : (a : A) → add a (neg a) ≡ null
+  pub mul_assoc : (a b c : A) → mul (mul a b) c ≡ mul a (mul b c)
+  pub mul_comm : (a b : A) → mul a b ≡ mul b a
+  pub unit-mul : (a : A) → mul unit a ≡ a
+  pub mul-add : (a b c : A) → mul a (add b c) ≡ add (mul a b) (mul a c)
+
+-- derived laws
+pub add-null : {A : Type 0} (R : Ring A) (a : A) → R.add a R.null ≡ a
+add-null R a = R.add_comm a R.null ∙ R.null-add a
+
+pub add_left_cancel : {A : Type 0} (R : Ring A) (a b c : A) → R.add a b ≡ R.add a c → b ≡ c
+add_left_cancel R a b c e =
+    let undo : (x : _) → R.add (R.neg a) (R.add a x) ≡ x =
+    λ x. sym (R.add_assoc (R.neg a) a x) ∙ ap (λ y. R.add y x) (R.add_comm (R.neg a) a ∙ R.add-neg a) ∙ R.null-add x in
+    sym (undo b) ∙ ap (R.add (R.neg a)) e ∙ undo c
+
+pub mul-null : {A : Type 0} (R : Ring A) (a : A) → R.mul a R.null ≡ R.null
+mul-null R a = add_left_cancel R (R.mul a R.null) (R.mul a R.null) R.null
+    (sym (R.mul-add a R.null R.null) ∙ ap (R.mul a) (R.null-add R.null) ∙ sym (add-null R (R.mul a R.null)))
+
+-- an inverse is the negation
+pub neg_unique : {A : Type 0} (R : Ring A) (a b : A) → R.add a b ≡ R.null → b ≡ R.neg a
+neg_unique R a b e = add_left_cancel R a b (R.neg a) (e ∙ sym (R.add-neg a))
+
+pub mul-neg : {A : Type 0} (R : Ring A) (a b : A) → R.mul a (R.neg b) ≡ R.neg (R.mul a b)
+mul-neg R a b = neg_unique R (R.mul a b) (R.mul a (R.neg b)) (sym (R.mul-add a b (R.neg b)) ∙ ap (R.mul a) (R.add-neg b) ∙ mul-null R a)
+
+pub neg-mul : {A : Type 0} (R : Ring A) (a b : A) → R.mul (R.neg a) b ≡ R.neg (R.mul a b)
+neg-mul R a b = R.mul_comm (R.neg a) b ∙ mul-neg R b a ∙ ap R.neg (R.mul_comm b a)
+
+pub neg-neg : {A : Type 0} (R : Ring A) (a : A) → R.neg (R.neg a) ≡ a
+neg-neg R a = sym (neg_unique R (R.neg a) a (R.add_comm (R.neg a) a ∙ R.add-neg a))
+
+pub add_left_comm : {A : Type 0} (R : Ring A) (a b c : A) → R.add a (R.add b c) ≡ R.add b (R.add a c)
+add_left_comm R a b c = sym (R.add_assoc a b c) ∙ ap (λ x. R.add x c) (R.add_comm a b) ∙ R.add_assoc b a c
+
+pub mul_left_comm : {A : Type 0} (R : Ring A) (a b c : A) → R.mul a (R.mul b c) ≡ R.mul b (R.mul a c)
+mul_left_comm R a b c = sym (R.mul_assoc a b c) ∙ ap (λ x. R.mul x c) (R.mul_comm a b) ∙ R.mul_assoc b a c
+
+pub add-mul : {A : Type 0} (R : Ring A) (a b c : A) → R.mul (R.add a b) c ≡ R.add (R.mul a c) (R.mul b c)
+add-mul R a b c = R.mul_comm (R.add a b) c ∙ R.mul-add c a b ∙ ap₂ R.add (R.mul_comm c a) (R.mul_comm c b)
+
+pub neg-add : {A : Type 0} (R : Ring A) (a b : A) → R.neg (R.add a b) ≡ R.add (R.neg a) (R.neg b)
+neg-add R a b = sym (neg_unique R (R.add a b) (R.add (R.neg a) (R.neg b))
+    (R.add_assoc a b (R.add (R.neg a) (R.neg b)) ∙ ap (R.add a) (add_left_comm R b (R.neg a) (R.neg b) ∙ ap (R.add (R.neg a)) (R.add-neg b) ∙ add-null R (R.neg a)) ∙ R.add-neg a))
+
+pub neg-null : {A : Type 0} (R : Ring A) → R.neg R.null ≡ R.null
+neg-null R = sym (neg_unique R R.null R.null (R.null-add R.null))
+
+-- expressions
+pub data Ex : Type 0 where
+  v : ℕ → Ex
+  nil : Ex
+  one : Ex
+  plus : Ex → Ex → Ex
+  times : Ex → Ex → Ex
+  minus : Ex → Ex
+
+abbrev pub value : {A : Type 0} → Ring A → List A → Ex → A
+value R ρ (v i) = get_or ρ i R.null
+value R ρ nil = R.null
+value R ρ one = R.unit
+value R ρ (plus a b) = R.add (value R ρ a) (value R ρ b)
+value R ρ (times a b) = R.mul (value R ρ a) (value R ρ b)
+value R ρ (minus a) = R.neg (value R ρ a)
+
+-- a product of variables with a sign (true: negative), and a sum of such
+pub data Term : Type 0 where
+  term : Bool → List ℕ → Term
+
+abbrev pub same : List ℕ → List ℕ → Bool
+same [] [] = true
+same [] (y ∷ ys) = false
+same (x ∷ xs) [] = false
+same (x ∷ xs) (y ∷ ys) = eqb x y && same xs ys
+
+abbrev pub before : List ℕ → List ℕ → Bool
+before [] ys = true
+before (x ∷ xs) [] = false
+before (x ∷ xs) (y ∷ ys) = cond (eqb x y) (before xs ys) (ltb x y)
+
+abbrev pub differ : Bool → Bool → Bool
+differ true true = false
+differ true false = true
+differ false true = true
+differ false false = false
+
+abbrev pub put : ℕ → List ℕ → List ℕ
+put i [] = i ∷ []
+put i (j ∷ m) = cond (ltb j i) (j ∷ put i m) (i ∷ j ∷ m)
+
+abbrev pub product : List ℕ → List ℕ → List ℕ
+product [] n = n
+product (i ∷ m) n = put i (product m n)
+
+abbrev pub insert : Bool → List ℕ → List Term → List Term
+insert s m [] = term s m ∷ []
+insert s m (term t n ∷ p) =
+    cond (same m n && differ s t) p
+    (cond (before m n) (term s m ∷ term t n ∷ p) (term t n ∷ insert s m p))
+
+abbrev pub sum_of : List Term → List Term → List Term
+sum_of [] q = q
+sum_of (term s m ∷ p) q = insert s m (sum_of p q)
+
+abbrev pub scaled : Bool → List ℕ → List Term → List Term
+scaled s m [] = []
+scaled s m (term t n ∷ p) = insert (differ s t) (product m n) (scaled s m p)
+
+abbrev pub product_of : List Term → List Term → List Term
+product_of [] q = []
+product_of (term s m ∷ p) q = sum_of (scaled s m q) (product_of p q)
+
+abbrev pub negated : List Term → List Term
+negated [] = []
+negated (term s m ∷ p) = term (not s) m ∷ negated p
+
+abbrev pub norm : Ex → List Term
+norm (v i) = term false (i ∷ []) ∷ []
+norm nil = []
+norm one = term false [] ∷ []
+norm (plus a b) = sum_of (norm a) (norm b)
+norm (times a b) = product_of (norm a) (norm b)
+norm (minus a) = negated (norm a)
+
+-- what they mean
+abbrev pub signed : {A : Type 0} → Ring A → Bool → A → A
+signed R true x = R.neg x
+signed R false x = x
+
+abbrev pub mono : {A : Type 0} → Ring A → List A → List ℕ → A
+mono R ρ [] = R.unit
+mono R ρ (i ∷ m) = R.mul (get_or ρ i R.null) (mono R ρ m)
+
+abbrev pub poly : {A : Type 0} → Ring A → List A → List Term → A
+poly R ρ [] = R.null
+poly R ρ (term s m ∷ p) = R.add (signed R s (mono R ρ m)) (poly R ρ p)
+
+same_is : (m n : List ℕ) → T (same m n) → m ≡ n
+same_is [] [] h = refl
+same_is [] (y ∷ ys) h = elim h [ ]
+same_is (x ∷ xs) [] h = elim h [ ]
+same_is (x ∷ xs) (y ∷ ys) h = both (eqb x y) (same xs ys) h (λ e. eqb→eq x y e) (λ e. same_is xs ys e)
+  where
+    both : (a b : Bool) → T (a && b) → (T a → x ≡ y) → (T b → xs ≡ ys) → x ∷ xs ≡ y ∷ ys
+    both true true h f g = ap₂ (λ a rest. a ∷ rest) (f tt) (g tt)
+    both true false h f g = elim h [ ]
+    both false b h f g = elim h [ ]
+
+put_is : {A : Type 0} (R : Ring A) (ρ : List A) (i : ℕ) (m : List ℕ) → mono R ρ (put i m) ≡ R.mul (get_or ρ i R.null) (mono R ρ m)
+put_is R ρ i [] = refl
+put_is R ρ i (j ∷ m) = at (ltb j i) (put_is R ρ i m)
+  where
+    at : (b : Bool) → mono R ρ (put i m) ≡ R.mul (get_or ρ i R.null) (mono R ρ m) → mono R ρ (cond b (j ∷ put i m) (i ∷ j ∷ m)) ≡ R.mul (get_or ρ i R.null) (R.mul (get_or ρ j R.null) (mono R ρ m))
+    at true ih = ap (R.mul (get_or ρ j R.null)) ih ∙ mul_left_comm R (get_or ρ j R.null) (get_or ρ i R.null) (mono R ρ m)
+    at false ih = refl
+
+product_is : {A : Type 0} (R : Ring A) (ρ : List A) (m n : List ℕ) → mono R ρ (product m n) ≡ R.mul (mono R ρ m) (mono R ρ n)
+product_is R ρ [] n = sym (R.unit-mul (mono R ρ n))
+product_is R ρ (i ∷ m) n = put_is R ρ i (product m n) ∙ ap (R.mul (get_or ρ i R.null)) (product_is R ρ m n) ∙ sym (R.mul_assoc (get_or ρ i R.null) (mono R ρ m) (mono R ρ n))
+
+apart : {A : Type 0} (R : Ring A) (s t : Bool) (x y : A) → T (differ s t) → x ≡ R.add (signed R s y) (R.add (signed R t y) x)
+apart R true true x y h = elim h [ ]
+apart R false false x y h = elim h [ ]
+apart R true false x y h = sym (sym (R.add_assoc (R.neg y) y x) ∙ ap (λ z. R.add z x) (R.add_comm (R.neg y) y ∙ R.add-neg y) ∙ R.null-add x)
+apart R false true x y h = sym (sym (R.add_assoc y (R.neg y) x) ∙ ap (λ z. R.add z x) (R.add-neg y) ∙ R.null-add x)
+
+insert_is : {A : Type 0} (R : Ring A) (ρ : List A) (s : Bool) (m : List ℕ) (p : List Term) → poly R ρ (insert s m p) ≡ R.add (signed R s (mono R ρ m)) (poly R ρ p)
+insert_is R ρ s m [] = refl
+insert_is R ρ s m (term t n ∷ p) = at (same m n) (differ s t) (before m n) (λ h. same_is m n h) (λ h. h)
+    (ap (R.add (signed R t (mono R ρ n))) (insert_is R ρ s m p) ∙ add_left_comm R (signed R t (mono R ρ n)) (signed R s (mono R ρ m)) (poly R ρ p))
+  where
+    later : (b : Bool) → R.add (signed R t (mono R ρ n)) (poly R ρ (insert s m p)) ≡ R.add (signed R s (mono R ρ m)) (R.add (signed R t (mono R ρ n)) (poly R ρ p)) → poly R ρ (cond b (term s m ∷ term t n ∷ p) (term t n ∷ insert s m p)) ≡ R.add (signed R s (mono R ρ m)) (R.add (signed R t (mono R ρ n)) (poly R ρ p))
+    later true ih = refl
+    later false ih = ih
+
+    at : (a d b : Bool) → (T a → m ≡ n) → (T d → T (differ s t)) → R.add (signed R t (mono R ρ n)) (poly R ρ (insert s m p)) ≡ R.add (signed R s (mono R ρ m)) (R.add (signed R t (mono R ρ n)) (poly R ρ p)) → poly R ρ (cond (a && d) p (cond b (term s m ∷ term t n ∷ p) (term t n ∷ insert s m p))) ≡ R.add (signed R s (mono R ρ m)) (R.add (signed R t (mono R ρ n)) (poly R ρ p))
+    at true true b e f ih = subst (λ (k : List ℕ). poly R ρ p ≡ R.add (signed R s (mono R ρ m)) (R.add (signed R t (mono R ρ k)) (poly R ρ p))) (e tt) (apart R s t (poly R ρ p) (mono R ρ m) (f tt))
+    at true false b e f ih = later b ih
+    at false d b e f ih = later b ih
+
+sum_is : {A : Type 0} (R : Ring A) (ρ : List A) (p q : List Term) → poly R ρ (sum_of p q) ≡ R.add (poly R ρ p) (poly R ρ q)
+sum_is R ρ [] q = sym (R.null-add (poly R ρ q))
+sum_is R ρ (term s m ∷ p) q = insert_is R ρ s m (sum_of p q) ∙ ap (R.add (signed R s (mono R ρ m))) (sum_is R ρ p q) ∙ sym (R.add_assoc (signed R s (mono R ρ m)) (poly R ρ p) (poly R ρ q))
+
+signs : {A : Type 0} (R : Ring A) (s t : Bool) (x y : A) → signed R (differ s t) (R.mul x y) ≡ R.mul (signed R s x) (signed R t y)
+signs R true true x y = sym (neg-mul R x (R.neg y) ∙ ap R.neg (mul-neg R x y) ∙ neg-neg R (R.mul x y))
+signs R true false x y = sym (neg-mul R x y)
+signs R false true x y = sym (mul-neg R x y)
+signs R false false x y = refl
+
+scaled_is : {A : Type 0} (R : Ring A) (ρ : List A) (s : Bool) (m : List ℕ) (p : List Term) → poly R ρ (scaled s m p) ≡ R.mul (signed R s (mono R ρ m)) (poly R ρ p)
+scaled_is R ρ s m [] = sym (mul-null R (signed R s (mono R ρ m)))
+scaled_is R ρ s m (term t n ∷ p) =
+    insert_is R ρ (differ s t) (product m n) (scaled s m p)
+    ∙ ap₂ R.add (ap (signed R (differ s t)) (product_is R ρ m n) ∙ signs R s t (mono R ρ m) (mono R ρ n)) (scaled_is R ρ s m p)
+    ∙ sym (R.mul-add (signed R s (mono R ρ m)) (signed R t (mono R ρ n)) (poly R ρ p))
+
+product_of_is : {A : Type 0} (R : Ring A) (ρ : List A) (p q : List Term) → poly R ρ (product_of p q) ≡ R.mul (poly R ρ p) (poly R ρ q)
+product_of_is R ρ [] q = sym (R.mul_comm R.null (poly R ρ q) ∙ mul-null R (poly R ρ q))
+product_of_is R ρ (term s m ∷ p) q =
+    sum_is R ρ (scaled s m q) (product_of p q)
+    ∙ ap₂ R.add (scaled_is R ρ s m q) (product_of_is R ρ p q)
+    ∙ sym (add-mul R (signed R s (mono R ρ m)) (poly R ρ p) (poly R ρ q))
+
+negated_is : {A : Type 0} (R : Ring A) (ρ : List A) (p : List Term) → poly R ρ (negated p) ≡ R.neg (poly R ρ p)
+negated_is R ρ [] = sym (neg-null R)
+negated_is R ρ (term s m ∷ p) = ap₂ R.add (turned s) (negated_is R ρ p) ∙ sym (neg-add R (signed R s (mono R ρ m)) (poly R ρ p))
+  where
+    turned : (b : Bool) → signed R (not b) (mono R ρ m) ≡ R.neg (signed R b (mono R ρ m))
+    turned true = sym (neg-neg R (mono R ρ m))
+    turned false = refl
+
+pub norm_is : {A : Type 0} (R : Ring A) (ρ : List A) (e : Ex) → poly R ρ (norm e) ≡ value R ρ e
+norm_is R ρ (v i) = add-null R (R.mul (get_or ρ i R.null) R.unit) ∙ R.mul_comm (get_or ρ i R.null) R.unit ∙ R.unit-mul (get_or ρ i R.null)
+norm_is R ρ nil = refl
+norm_is R ρ one = add-null R R.unit
+norm_is R ρ (plus a b) = sum_is R ρ (norm a) (norm b) ∙ ap₂ R.add (norm_is R ρ a) (norm_is R ρ b)
+norm_is R ρ (times a b) = product_of_is R ρ (norm a) (norm b) ∙ ap₂ R.mul (norm_is R ρ a) (norm_is R ρ b)
+norm_is R ρ (minus a) = negated_is R ρ (norm a) ∙ ap R.neg (norm_is R ρ a)
+
+-- two expressions with one normal form have one value
+pub ring : {A : Type 0} (R : Ring A) (ρ : List A) (a b : Ex) → norm a ≡ norm b → value R ρ a ≡ value R ρ b
+ring R ρ a b e = sym (norm_is R ρ a) ∙ ap (poly R ρ) e ∙ norm_is R ρ b

@@ -1,0 +1,7 @@
+-- Division of a whole number with a sign by a natural number.
+use Rattle.std.specs.Prelude.{ℕ, suc, ◌/◌, ℤ, pos, negsuc, neg_ℤ}
+
+-- n / g, toward 0; 0 where g is 0
+abbrev pub over : ℤ → ℕ → ℤ
+over (pos n) g = pos (n / g)
+over (negsuc n) g = neg_ℤ (pos (suc n / g))

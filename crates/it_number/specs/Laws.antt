@@ -1,0 +1,20 @@
+-- What the gate proves of greatest common divisors and least common multiples.
+use Rattle.std.specs.Prelude.{ℕ, ◌*◌}
+use Rattle.std.specs.Int.{IsGcd}
+use Prim.Native.Nat.{◌∣◌}
+use Rattle.it_number.specs.Gcd.{gcd, lcm}
+
+-- gcd a b divides both, and every number that divides both divides it
+abbrev pub GcdIsGreatest : Type 0
+GcdIsGreatest = (a b : ℕ) → IsGcd a b (gcd a b)
+
+-- m is a multiple of both, and divides each multiple of both
+abbrev pub IsLcm : ℕ → ℕ → ℕ → Type 0
+IsLcm a b m = (a ∣ m) × (b ∣ m) × ((n : ℕ) → a ∣ n → b ∣ n → m ∣ n)
+
+abbrev pub LcmIsLeast : Type 0
+LcmIsLeast = (a b : ℕ) → IsLcm a b (lcm a b)
+
+-- Euclid's lemma: what divides a product and has no common divisor with one factor divides the other
+abbrev pub EuclidsLemma : Type 0
+EuclidsLemma = (a b c : ℕ) → IsGcd a b 1 → a ∣ b * c → a ∣ c

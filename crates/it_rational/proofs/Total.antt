@@ -1,0 +1,63 @@
+-- The order of the rational numbers is total, and ties are equal.
+use Rattle.std.proofs.Common.{◌≡◌, ℕ, zero, suc, ◌<◌, ℤ, pos, negsuc, ◌+ℤ◌, ◌-ℤ◌, ◌*ℤ◌, ◌<ℤ◌, [], ◌∷◌, refl, ap, subst, arith, int_cmp, Ordering, Less, Equal}
+use Rattle.std.proofs.lemmas.Int.{ints}
+use Rattle.std.specs.Cmp.{IsTotalOrder, int_ranks, int_cmp_total}
+use Rattle.std.specs.Ordering.{MatchOrdering}
+use Rattle.it_number.proofs.Ring.{ring, v, plus, times, minus}
+use Rattle.it_number.proofs.IntegerRing.{ring_ℤ}
+use Rattle.it_rational.specs.Rational.{Rational, rational_cmp}
+use Rattle.it_rational.proofs.Names.{same_across}
+
+above : (a b : ℤ) → pos 0 <ℤ a → pos 0 <ℤ b → pos 0 <ℤ (a *ℤ b)
+above (pos (suc a)) (pos (suc b)) h k = omega (arith, ints)
+above (pos zero) b h k = absurd (omega (arith, ints))
+above (pos (suc a)) (pos zero) h k = absurd (omega (arith, ints))
+above (pos (suc a)) (negsuc b) h k = absurd (omega (arith, ints))
+above (negsuc a) b h k = absurd (omega (arith, ints))
+
+uncancel_above : (k x : ℤ) → pos 0 <ℤ k → pos 0 <ℤ (k *ℤ x) → pos 0 <ℤ x
+uncancel_above (pos k) (pos (suc x)) h g = omega (arith, ints)
+uncancel_above (pos k) (pos zero) h g = absurd (omega (arith, ints))
+uncancel_above (pos zero) (negsuc x) h g = absurd (omega (arith, ints))
+uncancel_above (pos (suc k)) (negsuc x) h g = absurd (omega (arith, ints))
+uncancel_above (negsuc k) x h g = absurd (omega (arith, ints))
+
+less_of : (a b : ℤ) → int_cmp a b ≡ Less → a <ℤ b
+less_of a b e = subst (λ (r : Ordering). MatchOrdering r (a <ℤ b) (a ≡ b) (b <ℤ a)) e (int_ranks a b)
+
+equal_of : (a b : ℤ) → int_cmp a b ≡ Equal → a ≡ b
+equal_of a b e = subst (λ (r : Ordering). MatchOrdering r (a <ℤ b) (a ≡ b) (b <ℤ a)) e (int_ranks a b)
+
+less_is : (a b : ℤ) → a <ℤ b → int_cmp a b ≡ Less
+less_is a b h = grind (arith, ints)
+
+chain : (xn xd yn yd zn zd : ℤ) → pos 0 <ℤ xd → pos 0 <ℤ yd → pos 0 <ℤ zd → (xn *ℤ yd) <ℤ (yn *ℤ xd) → (yn *ℤ zd) <ℤ (zn *ℤ yd) → (xn *ℤ zd) <ℤ (zn *ℤ xd)
+chain xn xd yn yd zn zd hx hy hz p q =
+    let one : pos 0 <ℤ (zd *ℤ (yn *ℤ xd -ℤ xn *ℤ yd)) = above zd (yn *ℤ xd -ℤ xn *ℤ yd) hz (omega (arith, ints, p)) in
+    let two : pos 0 <ℤ (xd *ℤ (zn *ℤ yd -ℤ yn *ℤ zd)) = above xd (zn *ℤ yd -ℤ yn *ℤ zd) hx (omega (arith, ints, q)) in
+    let law : zd *ℤ (yn *ℤ xd -ℤ xn *ℤ yd) +ℤ xd *ℤ (zn *ℤ yd -ℤ yn *ℤ zd) ≡ yd *ℤ (zn *ℤ xd -ℤ xn *ℤ zd) =
+    ring ring_ℤ (xn ∷ xd ∷ yn ∷ yd ∷ zn ∷ zd ∷ [])
+    (plus (times (v 5) (plus (times (v 2) (v 1)) (minus (times (v 0) (v 3))))) (times (v 1) (plus (times (v 4) (v 3)) (minus (times (v 2) (v 5))))))
+    (times (v 3) (plus (times (v 4) (v 1)) (minus (times (v 0) (v 5))))) refl in
+    last (xn *ℤ zd) (zn *ℤ xd) (uncancel_above yd (zn *ℤ xd -ℤ xn *ℤ zd) hy (subst (λ (s : ℤ). pos 0 <ℤ s) law (both (zd *ℤ (yn *ℤ xd -ℤ xn *ℤ yd)) (xd *ℤ (zn *ℤ yd -ℤ yn *ℤ zd)) one two)))
+  where
+    both : (s t : ℤ) → pos 0 <ℤ s → pos 0 <ℤ t → pos 0 <ℤ (s +ℤ t)
+    both s t h k = omega (arith, ints)
+
+    last : (s t : ℤ) → pos 0 <ℤ (t -ℤ s) → s <ℤ t
+    last s t h = omega (arith, ints)
+
+above_zero : (d : ℕ) → 0 < d → pos 0 <ℤ pos d
+above_zero d h = omega (arith, ints)
+
+pub tied : (x y : Rational) → rational_cmp x y ≡ Equal → x ≡ y
+tied x y e = same_across x y (equal_of (x.num *ℤ pos y.den) (y.num *ℤ pos x.den) e)
+
+pub rational_total : IsTotalOrder rational_cmp
+rational_total = record {
+  antisymm = λ x y. int_cmp_total.antisymm (x.num *ℤ pos y.den) (y.num *ℤ pos x.den);
+  trans = λ x y z p q. less_is (x.num *ℤ pos z.den) (z.num *ℤ pos x.den)
+      (chain x.num (pos x.den) y.num (pos y.den) z.num (pos z.den) (above_zero x.den x.positive) (above_zero y.den y.positive) (above_zero z.den z.positive)
+      (less_of (x.num *ℤ pos y.den) (y.num *ℤ pos x.den) p) (less_of (y.num *ℤ pos z.den) (z.num *ℤ pos y.den) q));
+  congr = λ x y z e. ap (λ w. rational_cmp w z) (tied x y e);
+}

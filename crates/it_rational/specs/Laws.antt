@@ -1,0 +1,36 @@
+-- The laws of the rational numbers that the gate proves.
+use Rattle.std.specs.Prelude.{◌≡◌, ◌≢◌, pos}
+use Rattle.std.specs.Cmp.{IsTotalOrder}
+use Rattle.it_rational.specs.Rational.{Rational, whole, plus, times, minus, inverse, rational_cmp}
+
+abbrev pub SumsAssociate : Type 0
+SumsAssociate = (a b c : Rational) → plus (plus a b) c ≡ plus a (plus b c)
+
+abbrev pub SumsCommute : Type 0
+SumsCommute = (a b : Rational) → plus a b ≡ plus b a
+
+abbrev pub ZeroIsNeutral : Type 0
+ZeroIsNeutral = (a : Rational) → plus (whole (pos 0)) a ≡ a
+
+abbrev pub NegationsCancel : Type 0
+NegationsCancel = (a : Rational) → plus a (minus a) ≡ whole (pos 0)
+
+abbrev pub ProductsAssociate : Type 0
+ProductsAssociate = (a b c : Rational) → times (times a b) c ≡ times a (times b c)
+
+abbrev pub ProductsCommute : Type 0
+ProductsCommute = (a b : Rational) → times a b ≡ times b a
+
+abbrev pub OneIsNeutral : Type 0
+OneIsNeutral = (a : Rational) → times (whole (pos 1)) a ≡ a
+
+abbrev pub ProductsDistribute : Type 0
+ProductsDistribute = (a b c : Rational) → times a (plus b c) ≡ plus (times a b) (times a c)
+
+-- a number that isn't 0 times its inverse is 1
+abbrev pub InversesCancel : Type 0
+InversesCancel = (a : Rational) → a.num ≢ pos 0 → times a (inverse a) ≡ whole (pos 1)
+
+-- total, transitive, and ties only between equal numbers
+abbrev pub OrderIsTotal : Type 0
+OrderIsTotal = IsTotalOrder rational_cmp

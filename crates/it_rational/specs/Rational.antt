@@ -1,0 +1,59 @@
+-- The rational numbers: a record in lowest terms, so that two that are equal are one.
+use Rattle.std.specs.Prelude.{ℕ, zero, suc, ◌*◌, ◌/◌, ◌<◌, Bool, true, false, ℤ, pos, negsuc, ◌+ℤ◌, ◌*ℤ◌, neg_ℤ, unsigned_abs}
+use Rattle.std.specs.Int.{IsGcd}
+use Rattle.std.specs.Ordering.{int_cmp}
+use Rattle.std.specs.declared.cmp.Ordering.{Ordering}
+use Rattle.it_number.specs.Gcd.{gcd}
+use Rattle.it_number.specs.Division.{over}
+use Rattle.it_number.proofs.Quotients.{rest_pos, rest_lowest, one_pos, one_lowest}
+
+-- a rational number, in lowest terms
+pub record Rational : Type 0 where
+  pub num : ℤ
+  pub den : ℕ
+  pub positive : 0 < den
+  pub lowest : IsGcd (unsigned_abs num) den 1
+
+-- n / d in lowest terms; 0 where d is 0
+unfoldable pub quotient : ℤ → ℕ → Rational
+quotient n zero = record { num = pos 0; den = 1; positive = one_pos; lowest = one_lowest }
+quotient n (suc d) = record {
+  num = over n (gcd (unsigned_abs n) (suc d));
+  den = suc d / gcd (unsigned_abs n) (suc d);
+  positive = rest_pos n d;
+  lowest = rest_lowest n d;
+}
+
+abbrev pub whole : ℤ → Rational
+whole n = quotient n 1
+
+abbrev pub plus : Rational → Rational → Rational
+plus a b = quotient (a.num *ℤ pos b.den +ℤ b.num *ℤ pos a.den) (a.den * b.den)
+
+abbrev pub times : Rational → Rational → Rational
+times a b = quotient (a.num *ℤ b.num) (a.den * b.den)
+
+abbrev pub minus : Rational → Rational
+minus a = quotient (neg_ℤ a.num) a.den
+
+-- d / n in lowest terms; 0 where n is 0
+abbrev pub turned_over : ℤ → ℕ → Rational
+turned_over (pos n) d = quotient (pos d) n
+turned_over (negsuc n) d = quotient (neg_ℤ (pos d)) (suc n)
+
+-- 1 / a; 0 where a is 0
+abbrev pub inverse : Rational → Rational
+inverse a = turned_over a.num a.den
+
+-- the order of the rationals
+abbrev pub rational_cmp : Rational → Rational → Ordering
+rational_cmp a b = int_cmp (a.num *ℤ pos b.den) (b.num *ℤ pos a.den)
+
+-- whether a whole number is at least 0
+abbrev pub sign_least : ℤ → Bool
+sign_least (pos n) = true
+sign_least (negsuc n) = false
+
+-- whether a rational number is at least 0
+abbrev pub is_at_least_zero : Rational → Bool
+is_at_least_zero q = sign_least q.num
