@@ -1,3 +1,4 @@
 pub mod Sets
 pub mod Spaces
 pub mod Rows
+pub mod Answers

@@ -1,0 +1,84 @@
+-- A fact of every item of a list, by the list's structure, through the ways in which lists are made.
+use Rattle.std.proofs.Common.{◌≡◌, ℕ, zero, suc, ◌+◌, ◌<◌, ◌≤◌, ◌⊎◌, inl, inr, List, [], ◌∷◌, ◌++◌, map, Bool, true, false, cond, refl, sym, subst, ◌∙◌, arith, All}
+use Rattle.std.specs.List.{filter, flat_map}
+use Rattle.std.proofs.lemmas.List.Elements.{All-head, All-tail}
+use Rattle.it_polymatroid.specs.Elementals.{span}
+
+abbrev pub Every : {X : Type 0} → (X → Type 0) → List X → Type 0
+Every P [] = Unit {0}
+Every P (x ∷ xs) = P x × Every P xs
+
+pub every_of : {X : Type 0} (P : X → Type 0) (xs : List X) → All P xs → Every P xs
+every_of P [] a = tt
+every_of P (x ∷ xs) a = (All-head P x xs a, every_of P xs (All-tail P x xs a))
+
+pub all_of : {X : Type 0} (P : X → Type 0) (xs : List X) → Every P xs → All P xs
+all_of P [] e i d h = absurd (omega arith)
+all_of P (x ∷ xs) e zero d h = e.0
+all_of P (x ∷ xs) e (suc i) d h = all_of P xs e.1 i d (omega arith)
+
+pub every-same : {X : Type 0} (P Q : X → Type 0) (xs : List X) → ((x : X) → P x → Q x) → Every P xs → Every Q xs
+every-same P Q [] f e = tt
+every-same P Q (x ∷ xs) f e = (f x e.0, every-same P Q xs f e.1)
+
+pub every-append : {X : Type 0} (P : X → Type 0) (xs ys : List X) → Every P xs → Every P ys → Every P (xs ++ ys)
+every-append P [] ys e f = f
+every-append P (x ∷ xs) ys e f = (e.0, every-append P xs ys e.1 f)
+
+pub every_front : {X : Type 0} (P : X → Type 0) (xs ys : List X) → Every P (xs ++ ys) → Every P xs
+every_front P [] ys e = tt
+every_front P (x ∷ xs) ys e = (e.0, every_front P xs ys e.1)
+
+pub every_back : {X : Type 0} (P : X → Type 0) (xs ys : List X) → Every P (xs ++ ys) → Every P ys
+every_back P [] ys e = e
+every_back P (x ∷ xs) ys e = every_back P xs ys e.1
+
+pub every-map : {X Y : Type 0} (P : Y → Type 0) (f : X → Y) (xs : List X) → Every (λ x. P (f x)) xs → Every P (map f xs)
+every-map P f [] e = tt
+every-map P f (x ∷ xs) e = (e.0, every-map P f xs e.1)
+
+pub every_mapped : {X Y : Type 0} (P : Y → Type 0) (f : X → Y) (xs : List X) → Every P (map f xs) → Every (λ x. P (f x)) xs
+every_mapped P f [] e = tt
+every_mapped P f (x ∷ xs) e = (e.0, every_mapped P f xs e.1)
+
+pub every-flat_map : {X Y : Type 0} (P : Y → Type 0) (f : X → List Y) (xs : List X) → Every (λ x. Every P (f x)) xs → Every P (flat_map f xs)
+every-flat_map P f [] e = tt
+every-flat_map P f (x ∷ xs) e = every-append P (f x) (flat_map f xs) e.0 (every-flat_map P f xs e.1)
+
+pub every_flat_mapped : {X Y : Type 0} (P : Y → Type 0) (f : X → List Y) (xs : List X) → Every P (flat_map f xs) → Every (λ x. Every P (f x)) xs
+every_flat_mapped P f [] e = tt
+every_flat_mapped P f (x ∷ xs) e = (every_front P (f x) (flat_map f xs) e, every_flat_mapped P f xs (every_back P (f x) (flat_map f xs) e))
+
+pub every-filter : {X : Type 0} (P : X → Type 0) (test : X → Bool) (xs : List X) → Every (λ x. test x ≡ true → P x) xs → Every P (filter test xs)
+every-filter P test [] e = tt
+every-filter P test (x ∷ xs) e = at (test x) e.0 (every-filter P test xs e.1)
+  where
+    at : (b : Bool) → (b ≡ true → P x) → Every P (filter test xs) → Every P (cond b (x ∷ filter test xs) (filter test xs))
+    at true f r = (f refl, r)
+    at false f r = r
+
+pub every_filtered : {X : Type 0} (P : X → Type 0) (test : X → Bool) (xs : List X) → Every P (filter test xs) → Every (λ x. test x ≡ true → P x) xs
+every_filtered P test [] e = tt
+every_filtered P test (x ∷ xs) e = at (test x) refl e (λ r. every_filtered P test xs r)
+  where
+    at : (b : Bool) → test x ≡ b → Every P (cond b (x ∷ filter test xs) (filter test xs)) → (Every P (filter test xs) → Every (λ x. test x ≡ true → P x) xs) → (test x ≡ true → P x) × Every (λ x. test x ≡ true → P x) xs
+    at true f r back = (λ g. r.0, back r.1)
+    at false f r back = (λ g. absurd (apart (sym f ∙ g)), back r)
+      where
+        apart : false ≡ true → ⊥
+        apart e = cc
+
+pub every-span : (P : ℕ → Type 0) (from count : ℕ) → ((i : ℕ) → from ≤ i → i < from + count → P i) → Every P (span from count)
+every-span P from zero f = tt
+every-span P from (suc count) f = (f from (omega arith) (omega arith), every-span P (from + 1) count (λ i h k. f i (omega arith) (omega arith)))
+
+pub every_spanned : (P : ℕ → Type 0) (from count : ℕ) → Every P (span from count) → (i : ℕ) → from ≤ i → i < from + count → P i
+every_spanned P from zero e i h k = absurd (omega arith)
+every_spanned P from (suc count) e i h k = at (same_or_more from i h) (λ l. every_spanned P (from + 1) count e.1 i l (omega arith))
+  where
+    same_or_more : (a b : ℕ) → a ≤ b → (a ≡ b) ⊎ (a + 1 ≤ b)
+    same_or_more a b h = grind arith
+
+    at : (from ≡ i) ⊎ (from + 1 ≤ i) → (from + 1 ≤ i → P i) → P i
+    at (inl s) f = subst P s e.0
+    at (inr l) f = f l

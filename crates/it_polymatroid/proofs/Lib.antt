@@ -1,0 +1,5 @@
+pub mod Every
+pub mod Halves
+pub mod Instances
+pub mod Generate
+pub mod TableLemmas

@@ -1,0 +1,26 @@
+-- Pairs of sets of a table.
+use Rattle.std.proofs.Common.{◌≡◌, ℕ, ◌^◌, ◌<◌, ℤ, pos, bit_and, bit_or, arith}
+use Rattle.std.proofs.lemmas.Nat.{or_lt, and_le_r}
+use Rattle.it_space.specs.Sets.{IsInside}
+use Rattle.it_polymatroid.specs.Polymatroid.{IsPolymatroid}
+use Rattle.it_polymatroid.specs.Tables.{PairsHoldAt}
+
+pub union_below : (n s t : ℕ) → s < 2 ^ n → t < 2 ^ n → bit_or s t < 2 ^ n
+union_below n s t h k = or_lt n s t h k
+
+pub meet_below : (n s t : ℕ) → s < 2 ^ n → t < 2 ^ n → bit_and s t < 2 ^ n
+meet_below n s t h k = omega (arith, and_le_r s t)
+
+-- the axioms at each two sets are the axioms
+pub by_pairs : (n : ℕ) (h : ℕ → ℤ) → h 0 ≡ pos 0 → ((s : ℕ) → s < 2 ^ n → PairsHoldAt n h s) → IsPolymatroid n h
+by_pairs n h z f = record {
+  empty = z;
+  rises = λ s t l i. (f s (inside_below s t l i) t l).rises i;
+  submodular = λ s t k l. (f s k t l).submodular;
+}
+  where
+    inside_below : (s t : ℕ) → t < 2 ^ n → IsInside s t → s < 2 ^ n
+    inside_below s t l i = omega (arith, i, and_le_r s t)
+
+pub to_pairs : (n : ℕ) (h : ℕ → ℤ) → IsPolymatroid n h → (s : ℕ) → s < 2 ^ n → PairsHoldAt n h s
+to_pairs n h p s k t l = record { rises = p.rises s t l; submodular = p.submodular s t k l }

@@ -1,0 +1,47 @@
+-- Certificates and counterpoints: what makes a yes and a no right, with nothing of a solver in it.
+use Rattle.std.specs.Prelude.{◌≡◌, ℕ, ◌<◌, ℤ, pos, neg_ℤ, ◌+ℤ◌, ◌*ℤ◌, ◌≤ℤ◌, List, [], ◌∷◌, length, slice_index_or, Bool, false, cond, nat_eq, All}
+use Rattle.it_space.specs.Answers.{Weights}
+use Rattle.it_polymatroid.specs.Polymatroid.{IsPolymatroid}
+use Rattle.it_polymatroid.specs.Elementals.{Conditional, elementals, worth}
+
+-- A linear form is a function of the points, which are maps from coordinates to numbers; it is 0 at the empty set's place, coordinate 0.
+abbrev pub Form : Type 0
+Form = (ℕ → ℤ) → ℤ
+
+-- what an answer may be built from: for each number below `count` a form that is to be at least 0, or to be 0 where it is an equation
+pub record Generators : Type 0 where
+  pub count : ℕ
+  pub worth_of : ℕ → Form
+  pub is_equation : ℕ → Bool
+
+-- the elemental inequalities alone, by their place in the list
+abbrev pub elemental_generators : ℕ → Generators
+elemental_generators n = record {
+  count = length (elementals n);
+  worth_of = λ i h. worth n h (slice_index_or (elementals n) i (Conditional 0));
+  is_equation = λ _. false;
+}
+
+-- the sum over a list of numbered weights
+abbrev pub weighted : List (ℕ × ℤ) → (ℕ → ℤ) → ℤ
+weighted [] f = pos 0
+weighted (w ∷ ws) f = w.1 *ℤ f w.0 +ℤ weighted ws f
+
+-- a weight that may stand in a certificate: of a generator that is there, and not negative unless that is an equation
+abbrev pub IsAllowed : Generators → ℕ × ℤ → Type 0
+IsAllowed g w = (w.0 < g.count) × (g.is_equation w.0 ≡ false → pos 0 ≤ℤ w.1)
+
+-- the map that is 1 at a coordinate and 0 elsewhere, at which a linear form has its coefficient there
+abbrev pub one_at : ℕ → ℕ → ℤ
+one_at c s = cond (nat_eq s c) (pos 1) (pos 0)
+
+-- A certificate (Farkas 1902): weights by which the generators add up to a positive multiple of the target, at each coordinate below `size`.
+pub record IsCertificate (size : ℕ) (g : Generators) (target : Form) (w : Weights) : Type 0 where
+  pub scale_from_one : pos 1 ≤ℤ w.scale
+  pub allowed : All (IsAllowed g) w.parts
+  pub adds_up : (c : ℕ) → 0 < c → c < size → w.scale *ℤ target (one_at c) ≡ weighted w.parts (λ i. g.worth_of i (one_at c))
+
+-- a polymatroid on n variables at which the target is -1 or less
+pub record IsCounterpoint (n : ℕ) (target : Form) (h : ℕ → ℤ) : Type 0 where
+  pub polymatroid : IsPolymatroid n h
+  pub violated : target h ≤ℤ neg_ℤ (pos 1)

@@ -1,0 +1,4 @@
+pub mod Polymatroid
+pub mod Elementals
+pub mod Certificates
+pub mod Tables

@@ -1,0 +1,29 @@
+-- Set functions by the list of their values, in order of the sets' numbers.
+use Rattle.std.specs.Prelude.{◌≡◌, ℕ, ◌^◌, ◌≤◌, ◌<◌, ℤ, pos, ◌+ℤ◌, ◌≤ℤ◌, bit_and, bit_or, List, length, slice_index_or, All}
+use Rattle.it_number.specs.Limit.{IsWithin}
+use Rattle.it_space.specs.Sets.{IsInside}
+
+-- a function on the sets of some variables
+pub record SetFunction : Type 0 where
+  pub variables : ℕ
+  pub values : List ℤ
+
+-- the value at a set; 0 past the last set
+abbrev pub value_at : SetFunction → ℕ → ℤ
+value_at f s = slice_index_or f.values s (pos 0)
+
+-- the functions that a table holds: of at most 10 variables, 0 at the empty set, all values within the limit
+pub record IsTable (f : SetFunction) : Type 0 where
+  pub few : f.variables ≤ 10
+  pub complete : length f.values ≡ 2 ^ f.variables
+  pub empty : value_at f 0 ≡ pos 0
+  pub within : All IsWithin f.values
+
+-- the axioms of polymatroids at two sets
+pub record PairHolds (h : ℕ → ℤ) (s t : ℕ) : Type 0 where
+  pub rises : IsInside s t → h s ≤ℤ h t
+  pub submodular : (h (bit_or s t) +ℤ h (bit_and s t)) ≤ℤ (h s +ℤ h t)
+
+-- and at one set with each other
+abbrev pub PairsHoldAt : ℕ → (ℕ → ℤ) → ℕ → Type 0
+PairsHoldAt n h s = (t : ℕ) → t < 2 ^ n → PairHolds h s t

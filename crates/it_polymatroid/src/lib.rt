@@ -1,0 +1,9 @@
+//! Polymatroids, the elemental inequalities, certificates and counterpoints.
+#![tactic(auto)]
+
+mod laws;
+mod sums;
+mod tables;
+
+pub use laws::elementals_generate;
+pub use tables::{Table, is_polymatroid};
