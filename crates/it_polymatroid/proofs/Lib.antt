@@ -3,3 +3,5 @@ pub mod Halves
 pub mod Instances
 pub mod Generate
 pub mod TableLemmas
+pub mod Forms
+pub mod Certified

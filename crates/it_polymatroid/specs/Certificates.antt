@@ -1,5 +1,5 @@
 -- Certificates and counterpoints: what makes a yes and a no right, with nothing of a solver in it.
-use Rattle.std.specs.Prelude.{◌≡◌, ℕ, ◌<◌, ℤ, pos, neg_ℤ, ◌+ℤ◌, ◌*ℤ◌, ◌≤ℤ◌, List, [], ◌∷◌, length, slice_index_or, Bool, false, cond, nat_eq, All}
+use Rattle.std.specs.Prelude.{◌≡◌, ℕ, zero, suc, ◌<◌, ℤ, pos, neg_ℤ, ◌+ℤ◌, ◌*ℤ◌, ◌≤ℤ◌, List, [], ◌∷◌, length, slice_index_or, Bool, true, false, cond, nat_eq, All}
 use Rattle.it_space.specs.Answers.{Weights}
 use Rattle.it_polymatroid.specs.Polymatroid.{IsPolymatroid}
 use Rattle.it_polymatroid.specs.Elementals.{Conditional, elementals, worth}
@@ -45,3 +45,18 @@ pub record IsCertificate (size : ℕ) (g : Generators) (target : Form) (w : Weig
 pub record IsCounterpoint (n : ℕ) (target : Form) (h : ℕ → ℤ) : Type 0 where
   pub polymatroid : IsPolymatroid n h
   pub violated : target h ≤ℤ neg_ℤ (pos 1)
+
+-- the sum over the coordinates below `size` of value times coefficient
+abbrev pub dot : ℕ → (ℕ → ℤ) → (ℕ → ℤ) → ℤ
+dot zero f p = pos 0
+dot (suc size) f p = f size *ℤ p size +ℤ dot size f p
+
+-- f is linear in the values at the coordinates below `size`
+pub record IsLinear (size : ℕ) (f : Form) : Type 0 where
+  pub sum : (p : ℕ → ℤ) → p 0 ≡ pos 0 → f p ≡ dot size (λ c. f (one_at c)) p
+
+-- Weak duality: a target with a certificate over linear generators is at least 0 wherever the generators are met.
+abbrev pub CertificatesProve : Type 0
+CertificatesProve = (size : ℕ) (g : Generators) (target : Form) (w : Weights) → ((i : ℕ) → i < g.count → IsLinear size (g.worth_of i)) → IsLinear size target
+    → IsCertificate size g target w → (p : ℕ → ℤ) → p 0 ≡ pos 0
+    → ((i : ℕ) → i < g.count → pos 0 ≤ℤ g.worth_of i p) → ((i : ℕ) → i < g.count → g.is_equation i ≡ true → g.worth_of i p ≡ pos 0) → pos 0 ≤ℤ target p

@@ -5,5 +5,5 @@ mod laws;
 mod sums;
 mod tables;
 
-pub use laws::elementals_generate;
+pub use laws::{certificates_prove, elementals_generate};
 pub use tables::{Table, is_polymatroid};
