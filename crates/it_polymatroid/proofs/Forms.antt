@@ -27,6 +27,10 @@ dot_from_one zero f g p e h = refl
 dot_from_one (suc zero) f g p e h = rw e (omega (arith, ints))
 dot_from_one (suc (suc n)) f g p e h = ap₂ (λ x y. x *ℤ p (suc n) +ℤ y) (h (suc n) (omega arith) (omega arith)) (dot_from_one (suc n) f g p e (λ c k l. h c k (omega arith)))
 
+-- the map of a coordinate is 0 at the empty set
+pub one_at-zero : (c : ℕ) → 0 < c → one_at c 0 ≡ pos 0
+one_at-zero c h = ap (λ b. cond b (pos 1) (pos 0)) (ne_eqb 0 c (omega arith))
+
 -- one coordinate alone
 dot_past : (n x : ℕ) (p : ℕ → ℤ) → n ≤ x → dot n (λ c. one_at c x) p ≡ pos 0
 dot_past zero x p h = refl
@@ -53,12 +57,12 @@ linear-add size f g l m = record { sum = λ p e. ap₂ (λ x y. x +ℤ y) (l.sum
 pub linear-scale : (size : ℕ) (k : ℤ) (f : Form) → IsLinear size f → IsLinear size (λ p. k *ℤ f p)
 linear-scale size k f l = record { sum = λ p e. ap (λ x. k *ℤ x) (l.sum p e) ∙ sym (dot-scale size k (λ c. f (one_at c)) p) }
 
--- forms with the same values
-pub linear_same : (size : ℕ) (f g : Form) → ((p : ℕ → ℤ) → f p ≡ g p) → IsLinear size f → IsLinear size g
-linear_same size f g same l = record { sum = λ p e. sym (same p) ∙ l.sum p e ∙ dot-same size (λ c. f (one_at c)) (λ c. g (one_at c)) p (λ c h. same (one_at c)) }
+-- forms with the same values at every point
+pub linear_same : (size : ℕ) (f g : Form) → ((p : ℕ → ℤ) → p 0 ≡ pos 0 → f p ≡ g p) → IsLinear size f → IsLinear size g
+linear_same size f g same l = record { sum = λ p e. sym (same p e) ∙ l.sum p e ∙ dot_from_one size (λ c. f (one_at c)) (λ c. g (one_at c)) p e (λ c h k. same (one_at c) (one_at-zero c h)) }
 
 pub linear-sub : (size : ℕ) (f g : Form) → IsLinear size f → IsLinear size g → IsLinear size (λ p. f p -ℤ g p)
-linear-sub size f g l m = linear_same size (λ p. f p +ℤ neg_ℤ (pos 1) *ℤ g p) (λ p. f p -ℤ g p) (λ p. turned (f p) (g p))
+linear-sub size f g l m = linear_same size (λ p. f p +ℤ neg_ℤ (pos 1) *ℤ g p) (λ p. f p -ℤ g p) (λ p e. turned (f p) (g p))
     (linear-add size f (λ p. neg_ℤ (pos 1) *ℤ g p) l (linear-scale size (neg_ℤ (pos 1)) g m))
   where
     turned : (x y : ℤ) → x +ℤ neg_ℤ (pos 1) *ℤ y ≡ x -ℤ y
