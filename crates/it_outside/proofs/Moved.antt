@@ -6,7 +6,7 @@ use Rattle.std.proofs.lemmas.List.{take_all, length-drop, length-take}
 use Rattle.it_outside.specs.Traffic.{Gains, GaveAtMost, GaveMore, TookFront}
 
 -- the slice from i on, as code writes it, is all but the first i
-from_start : (xs : List ℕ) (i : ℕ) → take (length xs - i) (drop i xs) ≡ drop i xs
+pub from_start : (xs : List ℕ) (i : ℕ) → take (length xs - i) (drop i xs) ≡ drop i xs
 from_start xs i = take_all (length xs - i) (drop i xs) (simp length-drop (omega arith))
 
 -- a sink that took nothing

@@ -2,7 +2,11 @@
 #![tactic(auto)]
 
 mod ends;
+mod memory;
+mod standard;
 mod whole;
 
 pub use ends::{Failed, Sink, Source};
+pub use memory::{MemorySink, MemorySource};
+pub use standard::{StdSink, StdSource};
 pub use whole::{InFault, OutFault, read_all, write_all};
