@@ -2,8 +2,11 @@
 #![tactic(auto)]
 
 mod ends;
+pub mod laws;
 mod memory;
 mod standard;
+#[cfg(test)]
+mod tests;
 mod whole;
 
 pub use ends::{Failed, Sink, Source};

@@ -1,8 +1,8 @@
-ghost use Rattle.std.specs.Prelude.{ℕ, ◌≡◌, ◌<◌, ◌≤◌, length, take, None, IfOk, IfSome};
+ghost use Rattle.std.specs.Prelude.{ℕ, ◌≡◌, ◌<◌, ◌≤◌, length, take, None, IfOk, OnErr, IfSome, IfNone};
 ghost use Rattle.std.specs.Io.{ReadsAtMost, WritesAtMost};
 ghost use Rattle.std.specs.Io.KnownBytes.{Appends, ReadConsumes};
 ghost use Rattle.it_outside.specs.Causes.{HasCause};
-ghost use Rattle.it_outside.specs.Standard.{faults_after};
+ghost use Rattle.it_outside.specs.Standard.{AppendsFront, faults_after};
 ghost use Rattle.it_outside.specs.Traffic.{WriteGains};
 
 use crate::ends::{Failed, Sink, Source};
@@ -85,6 +85,7 @@ fn write_through<W: Write + Drop>(writer: &mut W, piece: &[u8]) -> Option<usize>
     ensures bound { IfSome result (λ count. count ≤ length piece.now) }
     ensures moves { IfSome result (λ count. 0 < length piece.now → 0 < count) }
     ensures bytes { IfSome result (λ count. Appends (W.contents writer.old) (W.contents writer.new) (take count piece.now)) }
+    ensures front { IfNone result (AppendsFront (W.contents writer.old) (W.contents writer.new) piece.now) }
 {
     let count = writer.write(piece).ok()?;
     if count == 0 && !piece.is_empty() {
@@ -107,8 +108,9 @@ impl<W: Write + Drop> Sink for StdSink<W> {
         ensures bytes { WriteGains None None result piece.now }
         ensures cause { HasCause self.old.faults self.new.faults result }
 
-        // What is taken is handed to the writer.
+        // What is taken is handed to the writer. Where the call fails, the writer may have taken a front of the piece.
         ensures handed_on { IfOk result (λ count. Appends (W.contents self.old.inner) (W.contents self.new.inner) (take count piece.now)) }
+        ensures front { OnErr result (AppendsFront (W.contents self.old.inner) (W.contents self.new.inner) piece.now) }
         ensures counted { self.new.faults ≡ faults_after self.old.faults result }
     {
         match write_through(&mut self.writer, piece) {
