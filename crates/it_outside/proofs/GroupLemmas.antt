@@ -6,16 +6,6 @@ use Rattle.it_outside.specs.Groups.{Groups, Begun, GroupsInPart}
 use Rattle.it_outside.specs.Traffic.{Gains, TookFront, IsFront}
 use Rattle.it_outside.proofs.Moved.{Gains-trans, Gains-nil}
 
--- numbers of items
-add-zero : (k : ℕ) → k + 0 ≡ k
-add-zero k = omega arith
-
-add-suc : (k n : ℕ) → k + suc n ≡ (k + 1) + n
-add-suc k n = omega arith
-
-place : (i n : ℕ) → n ≡ i → i + 1 ≡ 1 + n
-place i n e = omega arith
-
 module _ {Q A S : Type 0} (right : S → Q → A → Type 0) (after : S → Q → A → S) (text : ℕ → Q → A → List ℕ) where
   -- one group more
   Groups-append : (k : ℕ) (s : S) (qs : List Q) (t : S) (out : List ℕ) (q : Q) (a : A) (bytes : List ℕ) → Groups right after text k s qs t out → right t q a
@@ -25,13 +15,14 @@ module _ {Q A S : Type 0} (right : S → Q → A → Type 0) (after : S → Q �
     [],
     subst (λ x. right x q a) same is_right,
     (ap (λ x. after x q a) same, refl),
-    ap (λ o. o ++ bytes) none ∙ is ∙ ap (λ n. text n q a) (add-zero k) ∙ sym (append-nil (text k q a)),
+    ap (λ o. o ++ bytes) none ∙ is ∙ ap (λ n. text n q a) (let e : k + 0 ≡ k = omega arith in e) ∙ sym (append-nil (text k q a)),
   )
   Groups-append k s (x ∷ xs) t out q a bytes (b, rest, first, groups, joined) is_right is = (
     b,
     rest ++ bytes,
     first,
-    Groups-append (k + 1) (after s x b) xs t rest q a bytes groups is_right (is ∙ ap (λ n. text n q a) (add-suc k (length xs))),
+    Groups-append (k + 1) (after s x b) xs t rest q a bytes groups is_right
+        (is ∙ ap (λ n. text n q a) (let e : k + suc (length xs) ≡ (k + 1) + length xs = omega arith in e)),
     ap (λ o. o ++ bytes) joined ∙ append_assoc (text k x b) rest bytes,
   )
 
@@ -55,7 +46,7 @@ module _ {Q A S : Type 0} (right : S → Q → A → Type 0) (after : S → Q �
     few = omega arith;
     groups = subst (λ ys. Groups right after text 1 s ys (after t q answer) (u.out ++ bytes)) (sym ((take_at_read qs i q within).1 ∙ ap (λ y. take i qs ++ y ∷ []) read))
         (Groups-append 1 s (take i qs) t u.out q answer bytes u.groups is_right
-        (is ∙ ap (λ n. text n q answer) (place i (length (take i qs)) (length-take-le i qs u.few))));
+        (is ∙ ap (λ n. text n q answer) (let e : i + 1 ≡ 1 + length (take i qs) = omega (arith, length-take-le i qs u.few) in e)));
     wrote = Gains-trans a b c u.out bytes u.wrote wrote;
   }
 
@@ -109,6 +100,6 @@ module _ {Q A S : Type 0} (right : S → Q → A → Type 0) (after : S → Q �
       first = u.groups;
       is = refl;
       next = Begun-front (1 + i) t qs i q answer wrote.part within read is_right
-          (subst (IsFront wrote.part) (is ∙ ap (λ n. text n q answer) (place i i refl)) wrote.front);
+          (subst (IsFront wrote.part) (is ∙ ap (λ n. text n q answer) (let e : i + 1 ≡ 1 + i = omega arith in e)) wrote.front);
     };
   }

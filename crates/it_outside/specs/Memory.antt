@@ -1,10 +1,7 @@
 -- Sources and sinks in memory, as contracts see them, and what a call leaves of them.
-use Rattle.std.specs.Prelude.{ℕ, ◌≡◌, ◌+◌, ◌-◌, ◌^◌, ◌<◌, ◌⊎◌, List, ◌++◌, length, min, take, drop, Contains, Result, Ok, Err}
+use Rattle.std.specs.Prelude.{ℕ, ◌≡◌, ◌-◌, ◌<◌, ◌⊎◌, List, [], ◌++◌, length, min, take, drop, Contains, Result, Ok, Err}
+use Rattle.it_outside.specs.Causes.{next_count}
 use Rattle.it_outside.specs.declared.ends.Failed.{Failed}
-
--- a count of 64 bits after one more, which stays at the last value of its type
-abbrev pub next_count : ℕ → ℕ
-next_count count = min (count + 1) (2 ^ 64 - 1)
 
 -- A source: the bytes that are left, how many a call gives at most, the numbers of the calls that fail, from 1, how many calls
 -- there were, and how many of them failed.
@@ -14,6 +11,10 @@ pub record SourceState : Type 0 where
   pub failing : List ℕ
   pub calls : ℕ
   pub faults : ℕ
+
+-- the source before its first call
+abbrev pub new_source : List ℕ → ℕ → List ℕ → SourceState
+new_source bytes step failing = record { left = bytes; step = step; failing = failing; calls = 0; faults = 0 }
 
 -- the next call is a listed one
 abbrev pub ReadFails : SourceState → Type 0
@@ -37,6 +38,10 @@ pub record SinkState : Type 0 where
   pub failing : List ℕ
   pub calls : ℕ
   pub faults : ℕ
+
+-- the sink before its first call
+abbrev pub new_sink : ℕ → List ℕ → SinkState
+new_sink step failing = record { bytes = []; room = 0; step = step; failing = failing; calls = 0; faults = 0 }
 
 -- the next call is a listed one, or has bytes and no room for them
 abbrev pub WriteFails : SinkState → List ℕ → Type 0

@@ -2,7 +2,7 @@ ghost use Rattle.std.specs.Prelude.{◌≡◌, ◌<◌, ◌≤◌, ◌++◌, ◌
 ghost use Rattle.std.specs.Io.{ReadsAtMost, WritesAtMost};
 ghost use Rattle.std.specs.Io.KnownBytes.{ReadConsumes};
 ghost use Rattle.it_outside.specs.Causes.{HasCause};
-ghost use Rattle.it_outside.specs.Memory.{ReadFails, WriteFails, after_read, after_write, read_count, write_count};
+ghost use Rattle.it_outside.specs.Memory.{ReadFails, WriteFails, after_read, after_write, new_sink, new_source, read_count, write_count};
 ghost use Rattle.it_outside.specs.Traffic.{WriteGains};
 
 use crate::ends::{Failed, Sink, Source};
@@ -26,16 +26,23 @@ impl Model for MemorySource {
 
     ghost Value = { SourceState };
 
-    ghost view = { λ s. record { left = drop s.at s.bytes.items; step = s.step; failing = s.failing.items; calls = s.calls; faults = s.faults } };
+    ghost view = { λ s. record {
+      left = drop s.at s.bytes.items;
+      step = s.step;
+      failing = s.failing.items;
+      calls = s.calls;
+      faults = s.faults;
+    } };
 
     ghost invariant = { λ s. (s.at ≤ vec_len s.bytes) × (0 < s.step) };
 }
 
 impl MemorySource {
-    /// Gives `bytes`, at most `step` at a call, and fails at the calls whose numbers, from 1, stand in `failing`.
+    /// Gives `bytes`, at most `step` at a call, and fails at the calls whose numbers stand in `failing`.
+    /// Calls are counted from 1, and the number stays at the last `u64` once it is there.
     pub fn new(bytes: Vec<u8>, step: usize, failing: Vec<u64>) -> MemorySource
         requires { 0 < step }
-        ensures { result ≡ record { left = bytes.items; step = step; failing = failing.items; calls = 0; faults = 0 } }
+        ensures { result ≡ new_source bytes.items step failing.items }
     {
         MemorySource {
             bytes,
@@ -105,17 +112,25 @@ impl Model for MemorySink {
 
     ghost Value = { SinkState };
 
-    ghost view = { λ s. record { bytes = s.bytes.items; room = s.room; step = s.step; failing = s.failing.items; calls = s.calls; faults = s.faults } };
+    ghost view = { λ s. record {
+      bytes = s.bytes.items;
+      room = s.room;
+      step = s.step;
+      failing = s.failing.items;
+      calls = s.calls;
+      faults = s.faults;
+    } };
 
     ghost invariant = { λ s. (vec_len s.bytes + s.room ≤ vec_capacity s.bytes) × (0 < s.step) };
 }
 
 impl MemorySink {
-    /// Takes at most `step` bytes at a call, and fails at the calls whose numbers, from 1, stand in `failing`.
-    /// It has no room at first.
+    /// Takes at most `step` bytes at a call, and fails at the calls whose numbers stand in `failing`.
+    /// Calls are counted from 1, and the number stays at the last `u64` once it is there.
+    /// There is no room at first.
     pub fn new(alloc: Global, step: usize, failing: Vec<u64>) -> MemorySink
         requires { 0 < step }
-        ensures { result ≡ record { bytes = []; room = 0; step = step; failing = failing.items; calls = 0; faults = 0 } }
+        ensures { result ≡ new_sink step failing.items }
     {
         MemorySink {
             bytes: Vec::new(alloc),

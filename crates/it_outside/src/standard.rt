@@ -1,8 +1,8 @@
-ghost use Rattle.std.specs.Prelude.{ℕ, ◌≡◌, ◌<◌, ◌≤◌, length, take, None, IfOk, OnErr, IfSome, IfNone};
+ghost use Rattle.std.specs.Prelude.{◌≡◌, ◌<◌, length, None, IfOk};
 ghost use Rattle.std.specs.Io.{ReadsAtMost, WritesAtMost};
-ghost use Rattle.std.specs.Io.KnownBytes.{Appends, ReadConsumes};
+ghost use Rattle.std.specs.Io.KnownBytes.{ReadConsumes};
 ghost use Rattle.it_outside.specs.Causes.{HasCause};
-ghost use Rattle.it_outside.specs.Standard.{AppendsFront, faults_after};
+ghost use Rattle.it_outside.specs.Standard.{PassesOn, faults_after};
 ghost use Rattle.it_outside.specs.Traffic.{WriteGains};
 
 use crate::ends::{Failed, Sink, Source};
@@ -44,7 +44,8 @@ impl<R: Read + Drop> Source for StdSource<R> {
         ensures cause { HasCause self.old.faults self.new.faults result }
 
         // What is given is what the reader gave.
-        ensures handed_on { ReadConsumes (R.remaining self.old.inner) (R.remaining self.new.inner) result buf.new }
+        ensures handed_on { ReadConsumes (R.remaining self.old.inner) (R.remaining self.new.inner) result
+            buf.new }
         ensures counted { self.new.faults ≡ faults_after self.old.faults result }
     {
         match self.reader.read(buf) {
@@ -80,19 +81,22 @@ impl<W: Write + Drop> StdSink<W> {
     }
 }
 
-/// Writes and flushes. None where one of them failed, or nothing was taken of a piece that has a byte.
-fn write_through<W: Write + Drop>(writer: &mut W, piece: &[u8]) -> Option<usize>
-    ensures bound { IfSome result (λ count. count ≤ length piece.now) }
-    ensures moves { IfSome result (λ count. 0 < length piece.now → 0 < count) }
-    ensures bytes { IfSome result (λ count. Appends (W.contents writer.old) (W.contents writer.new) (take count piece.now)) }
-    ensures front { IfNone result (AppendsFront (W.contents writer.old) (W.contents writer.new) piece.now) }
+/// Writes and flushes. It fails where one of them does, or where nothing was taken of a piece that has a byte.
+fn write_through<W: Write + Drop>(writer: &mut W, piece: &[u8]) -> Result<usize, Failed>
+    ensures bound { WritesAtMost result piece.now }
+    ensures moves { IfOk result (λ count. 0 < length piece.now → 0 < count) }
+    ensures bytes { PassesOn (W.contents writer.old) (W.contents writer.new) result piece.now }
 {
-    let count = writer.write(piece).ok()?;
+    let Ok(count) = writer.write(piece) else {
+        return Err(Failed);
+    };
     if count == 0 && !piece.is_empty() {
-        return None;
+        return Err(Failed);
     }
-    writer.flush().ok()?;
-    Some(count)
+    match writer.flush() {
+        Ok(()) => Ok(count),
+        Err(_) => Err(Failed),
+    }
 }
 
 impl<W: Write + Drop> Sink for StdSink<W> {
@@ -108,17 +112,14 @@ impl<W: Write + Drop> Sink for StdSink<W> {
         ensures bytes { WriteGains None None result piece.now }
         ensures cause { HasCause self.old.faults self.new.faults result }
 
-        // What is taken is handed to the writer. Where the call fails, the writer may have taken a front of the piece.
-        ensures handed_on { IfOk result (λ count. Appends (W.contents self.old.inner) (W.contents self.new.inner) (take count piece.now)) }
-        ensures front { OnErr result (AppendsFront (W.contents self.old.inner) (W.contents self.new.inner) piece.now) }
+        // What is taken is handed to the writer, which may take a front of the piece in a write that fails.
+        ensures handed_on { PassesOn (W.contents self.old.inner) (W.contents self.new.inner) result piece.now }
         ensures counted { self.new.faults ≡ faults_after self.old.faults result }
     {
-        match write_through(&mut self.writer, piece) {
-            Some(count) => Ok(count),
-            None => {
-                self.faults = self.faults.saturating_add(1);
-                Err(Failed)
-            }
+        let result = write_through(&mut self.writer, piece);
+        if result.is_err() {
+            self.faults = self.faults.saturating_add(1);
         }
+        result
     }
 }

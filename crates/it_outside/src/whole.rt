@@ -35,7 +35,8 @@ pub fn read_all<S: Source>(alloc: Global, source: &mut S, limit: usize) -> Resul
     ensures read { IsErrOf result InFault.ReadFault → Rose (S.faults source.old) (S.faults source.new) }
 
     // What was given before a failed read or a want of memory is lost.
-    ensures lost { IfErr result (λ fault. fault ≢ InFault.TooLong → GaveAtMost (S.left source.old) (S.left source.new) limit) }
+    ensures lost { IfErr result (λ fault. fault ≢ InFault.TooLong →
+        GaveAtMost (S.left source.old) (S.left source.new) limit) }
     ensures later { S.faults source.old ≤ S.faults source.new }
 {
     let mut bytes = Vec::new(alloc);
