@@ -1,0 +1,57 @@
+-- Sources and sinks in memory, as contracts see them, and what a call leaves of them.
+use Rattle.std.specs.Prelude.{ℕ, ◌≡◌, ◌-◌, ◌<◌, ◌⊎◌, List, [], ◌++◌, length, min, take, drop, Contains, Result, Ok, Err}
+use Rattle.it_outside.specs.Causes.{next_count}
+use Rattle.it_outside.specs.declared.ends.Failed.{Failed}
+
+-- A source: the bytes that are left, how many a call gives at most, the numbers of the calls that fail, from 1, how many calls
+-- there were, and how many of them failed.
+pub record SourceState : Type 0 where
+  pub left : List ℕ
+  pub step : ℕ
+  pub failing : List ℕ
+  pub calls : ℕ
+  pub faults : ℕ
+
+-- the source before its first call
+abbrev pub new_source : List ℕ → ℕ → List ℕ → SourceState
+new_source bytes step failing = record { left = bytes; step = step; failing = failing; calls = 0; faults = 0 }
+
+-- the next call is a listed one
+abbrev pub ReadFails : SourceState → Type 0
+ReadFails s = Contains s.failing (next_count s.calls)
+
+-- how many bytes a read into a buffer of this length gives
+abbrev pub read_count : SourceState → ℕ → ℕ
+read_count s room = min (min s.step room) (length s.left)
+
+-- the source after a read with this result
+abbrev pub after_read : SourceState → Result ℕ Failed → SourceState
+after_read s (Ok count) = record s { left = drop count s.left; calls = next_count s.calls }
+after_read s (Err failed) = record s { calls = next_count s.calls; faults = next_count s.faults }
+
+-- A sink: the bytes that it took, how many more it has room for, how many a call takes at most, the numbers of the calls that
+-- fail, from 1, how many calls there were, and how many of them failed.
+pub record SinkState : Type 0 where
+  pub bytes : List ℕ
+  pub room : ℕ
+  pub step : ℕ
+  pub failing : List ℕ
+  pub calls : ℕ
+  pub faults : ℕ
+
+-- the sink before its first call
+abbrev pub new_sink : ℕ → List ℕ → SinkState
+new_sink step failing = record { bytes = []; room = 0; step = step; failing = failing; calls = 0; faults = 0 }
+
+-- the next call is a listed one, or has bytes and no room for them
+abbrev pub WriteFails : SinkState → List ℕ → Type 0
+WriteFails s piece = Contains s.failing (next_count s.calls) ⊎ ((0 < length piece) × (s.room ≡ 0))
+
+-- how many bytes of a piece a write takes
+abbrev pub write_count : SinkState → List ℕ → ℕ
+write_count s piece = min (min s.step (length piece)) s.room
+
+-- the sink after a write of this piece with this result
+abbrev pub after_write : SinkState → List ℕ → Result ℕ Failed → SinkState
+after_write s piece (Ok count) = record s { bytes = s.bytes ++ take count piece; room = s.room - count; calls = next_count s.calls }
+after_write s piece (Err failed) = record s { calls = next_count s.calls; faults = next_count s.faults }

@@ -1,0 +1,41 @@
+-- What a call took from a source and gave to a sink, where those tell their bytes.
+use Rattle.std.specs.Prelude.{ℕ, ◌≡◌, ◌<◌, ◌≤◌, List, [], ◌++◌, length, take, None, Some, Option, Result, Ok, Err, ⊤}
+use Rattle.std.specs.Io.KnownBytes.{Consumes, IsAtEnd}
+
+-- What a sink took, where it tells it. A sink may stop telling, as one that keeps a limited number of bytes; it doesn't begin to.
+abbrev pub Gains : Option (List ℕ) → Option (List ℕ) → List ℕ → Type 0
+Gains None None bytes = ⊤
+Gains None (Some now) bytes = ⊥
+Gains (Some before) None bytes = ⊤
+Gains (Some before) (Some now) bytes = now ≡ before ++ bytes
+
+-- a write took the first n bytes at `Ok(n)`, and nothing at `Err`
+abbrev pub WriteGains : {E : Type 0} → Option (List ℕ) → Option (List ℕ) → Result ℕ E → List ℕ → Type 0
+WriteGains old new (Ok n) piece = Gains old new (take n piece)
+WriteGains old new (Err e) piece = Gains old new []
+
+abbrev pub IsFront : List ℕ → List ℕ → Type 0
+IsFront part text = (rest : List ℕ) × (text ≡ part ++ rest)
+
+-- these are all the bytes that a source gave, up to its end
+pub record Gave (old new : Option (List ℕ)) (bytes : List ℕ) : Type 0 where
+  pub given : Consumes old new bytes
+  pub ended : IsAtEnd new
+
+-- a source gave more bytes than this
+pub record GaveMore (old new : Option (List ℕ)) (limit : ℕ) : Type 0 where
+  pub bytes : List ℕ
+  pub given : Consumes old new bytes
+  pub more : limit < length bytes
+
+-- a source gave no more bytes than this
+pub record GaveAtMost (old new : Option (List ℕ)) (limit : ℕ) : Type 0 where
+  pub bytes : List ℕ
+  pub given : Consumes old new bytes
+  pub few : length bytes ≤ limit
+
+-- a sink took a front of this text and nothing else
+pub record TookFront (old new : Option (List ℕ)) (text : List ℕ) : Type 0 where
+  pub part : List ℕ
+  pub taken : Gains old new part
+  pub front : IsFront part text

@@ -1,0 +1,15 @@
+//! Where bytes come from and go to: sources and sinks, each with a count of faults that never falls.
+#![tactic(auto)]
+
+mod ends;
+pub mod laws;
+mod memory;
+mod standard;
+#[cfg(test)]
+mod tests;
+mod whole;
+
+pub use ends::{Failed, Sink, Source};
+pub use memory::{MemorySink, MemorySource};
+pub use standard::{StdSink, StdSource};
+pub use whole::{InFault, OutFault, read_all, write_all};

@@ -1,0 +1,76 @@
+ghost use Rattle.std.specs.Prelude.{◌≡◌, ◌≢◌, ◌≤◌, length, IfOk, IfErr, OnOk, OnErr, IsErrOf};
+ghost use Rattle.it_outside.specs.Causes.{Rose};
+ghost use Rattle.it_outside.specs.Traffic.{Gains, Gave, GaveAtMost, GaveMore, TookFront};
+
+use crate::ends::{Sink, Source};
+use std::alloc::Global;
+
+/// Why a source wasn't read to its end.
+#[derive(Clone, Copy, Debug, PartialEq, Eq)]
+pub enum InFault {
+    /// A read failed.
+    ReadFault,
+    /// There were more bytes than the limit allows.
+    TooLong,
+    /// There was no memory for the bytes.
+    Memory,
+}
+
+/// Why a piece wasn't written whole.
+#[derive(Clone, Copy, Debug, PartialEq, Eq)]
+pub enum OutFault {
+    /// A write failed.
+    WriteFault,
+}
+
+/// How many bytes `read_all` asks for at a time.
+const CHUNK: usize = 4096;
+
+/// All that the source gives up to its end, of at most `limit` bytes.
+#[tactic(auto, unfolding(crate::specs::Causes::Rose))]
+pub fn read_all<S: Source>(alloc: Global, source: &mut S, limit: usize) -> Result<Vec<u8>, InFault>
+    ensures whole { IfOk result (λ bytes. Gave (S.left source.old) (S.left source.new) bytes.items) }
+    ensures fits { IfOk result (λ bytes. length bytes.items ≤ limit) }
+    ensures long { IsErrOf result InFault.TooLong → GaveMore (S.left source.old) (S.left source.new) limit }
+    ensures read { IsErrOf result InFault.ReadFault → Rose (S.faults source.old) (S.faults source.new) }
+
+    // What was given before a failed read or a want of memory is lost.
+    ensures lost { IfErr result (λ fault. fault ≢ InFault.TooLong →
+        GaveAtMost (S.left source.old) (S.left source.new) limit) }
+    ensures later { S.faults source.old ≤ S.faults source.new }
+{
+    let mut bytes = Vec::new(alloc);
+    let mut chunk = [0; CHUNK];
+    loop {
+        let Ok(count) = source.read(&mut chunk) else {
+            return Err(InFault::ReadFault);
+        };
+        if count == 0 {
+            return Ok(bytes);
+        }
+        if count > limit - bytes.len() {
+            return Err(InFault::TooLong);
+        }
+        if bytes.extend_from_slice(&chunk[..count]).is_err() {
+            return Err(InFault::Memory);
+        }
+    }
+}
+
+/// Writes the whole piece, and takes no memory of its own.
+#[tactic(auto, unfolding(crate::specs::Causes::Rose))]
+pub fn write_all<K: Sink>(sink: &mut K, piece: &[u8]) -> Result<(), OutFault>
+    ensures whole { OnOk result (Gains (K.taken sink.old) (K.taken sink.new) piece.now) }
+    ensures part { OnErr result (TookFront (K.taken sink.old) (K.taken sink.new) piece.now) }
+    ensures write { OnErr result (Rose (K.faults sink.old) (K.faults sink.new)) }
+    ensures later { K.faults sink.old ≤ K.faults sink.new }
+{
+    let mut at = 0;
+    while at < piece.len() {
+        let Ok(count) = sink.write(&piece[at..]) else {
+            return Err(OutFault::WriteFault);
+        };
+        at += count;
+    }
+    Ok(())
+}
