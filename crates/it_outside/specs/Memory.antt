@@ -3,12 +3,15 @@ use Rattle.std.specs.Prelude.{ℕ, ◌≡◌, ◌-◌, ◌<◌, ◌⊎◌, List,
 use Rattle.it_outside.specs.Causes.{next_count}
 use Rattle.it_outside.specs.declared.ends.Failed.{Failed}
 
--- A source: the bytes that are left, how many a call gives at most, the numbers of the calls that fail, from 1, how many calls
--- there were, and how many of them failed.
+-- a source
 pub record SourceState : Type 0 where
+  -- the bytes that are left
   pub left : List ℕ
+  -- how many a call gives at most
   pub step : ℕ
+  -- the numbers of the calls that fail, from 1
   pub failing : List ℕ
+  -- how many calls there were, and how many of them failed
   pub calls : ℕ
   pub faults : ℕ
 
@@ -29,13 +32,17 @@ abbrev pub after_read : SourceState → Result ℕ Failed → SourceState
 after_read s (Ok count) = record s { left = drop count s.left; calls = next_count s.calls }
 after_read s (Err failed) = record s { calls = next_count s.calls; faults = next_count s.faults }
 
--- A sink: the bytes that it took, how many more it has room for, how many a call takes at most, the numbers of the calls that
--- fail, from 1, how many calls there were, and how many of them failed.
+-- a sink
 pub record SinkState : Type 0 where
+  -- the bytes that it took
   pub bytes : List ℕ
+  -- how many more it has room for
   pub room : ℕ
+  -- how many a call takes at most
   pub step : ℕ
+  -- the numbers of the calls that fail, from 1
   pub failing : List ℕ
+  -- how many calls there were, and how many of them failed
   pub calls : ℕ
   pub faults : ℕ
 

@@ -149,11 +149,11 @@ impl MemorySink {
         self.bytes.as_slice()
     }
 
-    /// Makes room for at least `more` bytes.
+    /// Makes room for at least `more` bytes, counting the room that is spare already.
     pub fn reserve(&mut self, more: usize) -> Result<(), AllocError>
         ensures ok { OnOk result (self.new ≡ record self.old { room = max self.old.room more }) }
         ensures err { OnErr result (self.new ≡ self.old) }
-        ensures there { more ≤ self.old.room → IsOk result }
+        ensures enough { more ≤ self.old.room → IsOk result }
     {
         self.bytes.reserve(more)?;
         self.room = self.room.max(more);
