@@ -15,6 +15,7 @@ pub data Letter : Type 0 where
 abbrev pub Marked : Type 0
 Marked = List (Letter × Option Code)
 
+-- nothing is said against it
 abbrev pub clean : Letter → Letter × Option Code
 clean l = (l, None)
 

@@ -1,4 +1,5 @@
--- Reading from left to right.
+-- Reading letters from left to right, each part of a relation by one function: its value and the letters left, or the fault. The
+-- laws tie it to how trees are spelled.
 use Rattle.std.specs.Prelude.{ℕ, zero, suc, ◌^◌, bit_or, Bool, true, false, List, [], ◌∷◌, ◌++◌, Option, Some, None, Result, Ok, Err, if◌then◌else◌, bytes_eq}
 use Rattle.it_syntax.specs.declared.types.Symbol.TheVariants.{LeftParen, RightParen, Comma, Semicolon, Bar, Plus, Minus, AtLeast}
 use Rattle.it_syntax.specs.declared.types.Code.{Code}
@@ -14,6 +15,7 @@ use Rattle.it_syntax.specs.Trees.{at_least_zero, Environment, entropy_text, mutu
 abbrev pub Fault : Type 0
 Fault = Code × List Letter
 
+-- a value and what is left behind it, or a fault
 abbrev pub Reads : Type 0 → Type 0
 Reads A = Result (A × List Letter) Fault
 
@@ -31,6 +33,7 @@ abbrev pub stuck_at : List Letter → Result (List Letter) Fault
 stuck_at (Bad c ∷ ls) = Err (c, Bad c ∷ ls)
 stuck_at ls = Err (codes.Word, ls)
 
+-- the variable of a word that may be no name (true), and may be unknown
 abbrev pub named : List ℕ → Bool → Option ℕ → List Letter → Reads ℕ
 named w true o ls = Err (codes.Word, Word w ∷ ls)
 named w false (Some i) ls = Ok (i, ls)
@@ -59,6 +62,7 @@ read_list env ls = do
   m ← read_more env f.1
   Ok (bit_or (2 ^ f.0) m.0, m.1)
 
+-- a value behind which `)` must stand
 unfoldable pub closed : {A : Type 0} → A → List Letter → Reads A
 closed x (Sym RightParen ∷ ls) = Ok (x, ls)
 closed x ls = stuck ls
@@ -104,6 +108,7 @@ unfoldable pub read_atom : Environment → List Letter → Reads Atom
 read_atom env (Word w ∷ ls) = if bytes_eq w entropy_text then read_joint env ls else (if bytes_eq w mutual_text then read_mutual env ls else stuck (Word w ∷ ls))
 read_atom env ls = stuck ls
 
+-- what is counted by a number, under a sign
 unfoldable pub after_number : Environment → Bool → ℕ → List Letter → Reads Term
 after_number env minus n (Word w ∷ ls) = do
   a ← read_atom env (Word w ∷ ls)
@@ -148,6 +153,7 @@ read_side env ls = do
   ts ← read_terms further_terms env t.1
   Ok (t.0 ∷ ts.0, ts.1)
 
+-- a value behind which `>=` and 0 must stand
 unfoldable pub read_least : {A : Type 0} → A → List Letter → Reads A
 read_least x (Sym AtLeast ∷ Number zero ∷ ls) = Ok (x, ls)
 read_least x (Sym AtLeast ∷ ls) = stuck ls

@@ -1,5 +1,6 @@
--- Relations as they are written, and how each is spelled: letters, each with the code of what the rules have against it there.
--- So far a relation is a sum of terms, `>=` and 0.
+-- Relations as they are written, and how each is spelled: by letters, each with what the rules have against it where it stands.
+-- `Word` stands against H or I in the place of a name, `Name` against a name that is no variable, `Many` against the first
+-- letter of a term past the limit. So far a relation is a sum of terms, `>=` and 0.
 use Rattle.std.specs.Prelude.{ℕ, zero, suc, ◌^◌, bit_or, Bool, true, false, List, [], ◌∷◌, Option, Some, None, ◌||◌, if◌then◌else◌, bytes_eq}
 use Rattle.it_syntax.specs.declared.types.Symbol.TheVariants.{LeftParen, RightParen, Comma, Semicolon, Bar, Plus, Minus, AtLeast}
 use Rattle.it_syntax.specs.declared.types.Code.{Code}
@@ -15,6 +16,7 @@ use Rattle.it_syntax.specs.Letters.{Letter, Word, Number, Sym, Marked, clean}
 abbrev pub Environment : Type 0
 Environment = List ℕ → Option ℕ
 
+-- one or more names
 pub record WrittenList : Type 0 where
   pub first : List ℕ
   pub more : List (List ℕ)
@@ -32,21 +34,25 @@ pub data WrittenTerm : Type 0 where
   Once : (atom : WrittenAtom) → WrittenTerm
   Times : (n : ℕ) (atom : WrittenAtom) → WrittenTerm
 
+-- `+` and `-`
 pub data TermSign : Type 0 where
   Positive : TermSign
   Negative : TermSign
 
+-- a sum of terms, the first with or without a sign
 pub record WrittenSide : Type 0 where
   pub sign : Option TermSign
   pub first : WrittenTerm
   pub more : List (TermSign × WrittenTerm)
 
+-- `H` and `I`, which are no names
 abbrev pub entropy_text : List ℕ
 entropy_text = 72 ∷ []
 
 abbrev pub mutual_text : List ℕ
 mutual_text = 73 ∷ []
 
+-- whether it stands for one of Shannon's information measures
 abbrev pub is_measure : List ℕ → Bool
 is_measure w = bytes_eq w entropy_text || bytes_eq w mutual_text
 
@@ -57,6 +63,7 @@ unknown None = Some codes.Name
 abbrev pub name_mark : Environment → List ℕ → Option Code
 name_mark env w = if is_measure w then Some codes.Word else unknown (env w)
 
+-- Each spelling takes the letters that follow.
 abbrev pub spell_name : Environment → List ℕ → Marked → Marked
 spell_name env w k = (Word w, name_mark env w) ∷ k
 
@@ -105,11 +112,11 @@ further_terms = 254
 abbrev pub spell_side : Environment → WrittenSide → Marked → Marked
 spell_side env e k = spell_sign e.sign (spell_term env e.first (spell_terms further_terms env e.more k))
 
--- the form `expr >= 0`
+-- `>=` and 0 behind the terms
 abbrev pub spell_relation : Environment → WrittenSide → Marked → Marked
 spell_relation env e k = spell_side env e (clean (Sym AtLeast) ∷ clean (Number 0) ∷ k)
 
--- What a tree names.
+-- ---- what a tree names; 0 stands in for a name that is unknown, which is marked
 abbrev pub index_or : Option ℕ → ℕ
 index_or (Some i) = i
 index_or None = 0
@@ -135,6 +142,7 @@ abbrev pub is_minus : Option TermSign → Bool
 is_minus None = false
 is_minus (Some s) = is_negative s
 
+-- an atom without a number stands once
 abbrev pub term_of : Environment → Bool → WrittenTerm → Term
 term_of env minus Zero = record { negative = minus; number = 0; atom = Nothing }
 term_of env minus (Once a) = record { negative = minus; number = 1; atom = atom_of env a }
@@ -147,6 +155,7 @@ terms_of env (t ∷ ts) = term_of env (is_negative t.0) t.1 ∷ terms_of env ts
 abbrev pub side_of : Environment → WrittenSide → List Term
 side_of env e = term_of env (is_minus e.sign) e.first ∷ terms_of env e.more
 
+-- 0 alone
 abbrev pub zero_term : Term
 zero_term = record { negative = false; number = 0; atom = Nothing }
 

@@ -11,6 +11,8 @@ mod rest;
 mod runs;
 mod scanner;
 mod sides;
+#[cfg(test)]
+mod tests;
 pub mod types;
 
 pub use laws::{first_fault, relation_is_one, tokens_are_one};

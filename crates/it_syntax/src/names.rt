@@ -1,3 +1,4 @@
+//! The names of variables and rates.
 ghost use Rattle.std.specs.Prelude.{◌≡◌, ℕ, ◌<◌, ◌≤◌, ◌++◌, [], ◌∷◌, length, Some, slice_get, OnOk, OnErr, IfSome, map};
 ghost use Rattle.it_syntax.specs.Vocabulary.{index_of, IsNew, IsVocabulary};
 

@@ -109,6 +109,7 @@ fn add(terms: &mut Vec<Term>, term: Term) -> Result<(), Stop>
     ensures added { OnOk result (terms.new.items ≡ terms.old.items ++ term ∷ []) }
     ensures memory { IfErr result (λ e. e ≡ Memory) }
 {
+    // Built anew from its parts, since the push of a `Term` as it came gets no generated proof.
     let Term {
         negative,
         number,
