@@ -7,7 +7,7 @@ use Rattle.it_syntax.specs.declared.types.Code.TheVariants as codes
 use Rattle.it_syntax.specs.declared.types.Atom.{Atom}
 use Rattle.it_syntax.specs.declared.types.Atom.TheVariants.{Entropy}
 use Rattle.it_syntax.specs.Letters.{Letter, Word, Sym, Marked, clean}
-use Rattle.it_syntax.specs.Trees.{Environment, WrittenList, WrittenAtom, Joint, JointGiven, is_measure, unknown, index_or, more_set, list_set, name_mark, spell_name, spell_more, spell_list}
+use Rattle.it_syntax.specs.Trees.{Environment, WrittenList, is_measure, unknown, index_or, more_set, list_set, name_mark, spell_name, spell_more, spell_list}
 use Rattle.it_syntax.specs.FirstFault.{head, own}
 use Rattle.it_syntax.specs.Reading.{Reads, ◌>>=◌, named, read_name, read_more, read_list, closed, opened, bar_or_close, read_given, read_joint}
 use Rattle.it_syntax.proofs.Traces.{Went, Stuck, By, Traces, traces_bind, traces_map, letter_then}
@@ -17,6 +17,7 @@ pub begun : (P : List Letter → Type 0) (l : Letter) → ((s : List Letter) →
 begun P l h [] e = absurd cc
 begun P l h (m ∷ s) e = let same : l ≡ m = cc in subst (λ (n : Letter). P (n ∷ s)) same (h s)
 
+-- what holds of no letters
 pub empty : (P : List Letter → Type 0) → P [] → (s : List Letter) → head s ≡ None → P s
 empty P h [] e = h
 empty P h (m ∷ s) e = absurd cc
@@ -31,6 +32,7 @@ stuck_here f spell x l ls c h o = record {
   stays = begun (λ s. f s ≡ Err (c, s)) l h;
 }
 
+-- and at no letter at all
 pub stuck_none : {A X : Type 0} (f : List Letter → Reads A) (spell : X → Marked → Marked) (x : X) → f [] ≡ Err (codes.Word, []) → Stuck f spell [] codes.Word []
 stuck_none f spell x h = record {
   tree = x;
@@ -156,15 +158,13 @@ more_traces env (l ∷ ls) = no_comma env l ls (λ s. refl)
 list_made : List ℕ → List (List ℕ) → WrittenList
 list_made w ws = record { first = w; more = ws }
 
+-- a list of names
 pub list_traces : (env : Environment) → Traces (read_list env) (spell_list env) (list_set env)
 unfolding read_list list_made name_of
 list_traces env = traces_bind (read_name env) (λ i ls. further i (read_more env ls)) (read_list env) (spell_name env) (λ i. spell_more env) (spell_list env) (name_of env) (λ i ws. bit_or (2 ^ i) (more_set env ws)) (list_set env) list_made
     (record { is = λ ls. refl; spells = λ y z k. refl; value = λ y z. refl; some = []; first = name_traces env; second = λ i. traces_map (read_more env) (bit_or (2 ^ i)) (spell_more env) (more_set env) (more_traces env) })
 
 -- ---- what stands behind `|`, up to `)`
-
-spell_close : Unit {0} → Marked → Marked
-spell_close u k = clean (Sym RightParen) ∷ k
 
 abbrev pub spell_inner : Environment → WrittenList → Marked → Marked
 spell_inner env c k = spell_list env c (clean (Sym RightParen) ∷ k)
@@ -184,6 +184,7 @@ abbrev pub given_set : Environment → Option WrittenList → ℕ
 given_set env None = 0
 given_set env (Some c) = list_set env c
 
+-- what is given, if anything
 pub given_traces : (env : Environment) → Traces (read_given env) (spell_given env) (given_set env)
 unfolding read_given bar_or_close
 given_traces env (Sym RightParen ∷ ls) = record { tree = None; front = Sym RightParen ∷ []; value = refl; parts = refl; spells = λ k. refl; stays = λ s e. refl }
@@ -193,10 +194,7 @@ given_traces env (l ∷ ls) = stuck_here (read_given env) (spell_given env) None
 
 -- ---- H
 
-abbrev joint_written : WrittenList → Option WrittenList → WrittenAtom
-joint_written a None = Joint a
-joint_written a (Some c) = JointGiven a c
-
+-- what an entropy is of, and what is given
 abbrev pub Pair : Type 0
 Pair = WrittenList × Option WrittenList
 
@@ -209,6 +207,7 @@ joint_of env p = Entropy (list_set env p.0) (given_set env p.1)
 abbrev joint_inner : Environment → List Letter → Reads Atom
 joint_inner env ls = read_list env ls >>= λ a. read_given env a.1 >>= λ c. Ok (Entropy a.0 c.0, c.1)
 
+-- a list that goes on where one is missing
 pub some_list : WrittenList
 some_list = record { first = 88 ∷ []; more = [] }
 
@@ -216,6 +215,7 @@ joint_inner_traces : (env : Environment) → Traces (joint_inner env) (spell_pai
 joint_inner_traces env = traces_bind (read_list env) (λ a ls. read_given env ls >>= λ c. Ok (Entropy a c.0, c.1)) (joint_inner env) (spell_list env) (λ a. spell_given env) (spell_pair env) (list_set env) (λ a c. Entropy a (given_set env c)) (joint_of env) (λ a c. (a, c))
     (record { is = λ ls. refl; spells = λ y z k. refl; value = λ y z. refl; some = None; first = list_traces env; second = λ a. traces_map (read_given env) (Entropy a) (spell_given env) (given_set env) (given_traces env) })
 
+-- an entropy behind its `H`
 pub joint_traces : (env : Environment) → Traces (read_joint env) (λ p k. clean (Sym LeftParen) ∷ spell_pair env p k) (joint_of env)
 unfolding read_joint opened some_list
 joint_traces env (Sym LeftParen ∷ ls) = letter_then (read_joint env) (joint_inner env) (Sym LeftParen) (spell_pair env) (λ p k. clean (Sym LeftParen) ∷ spell_pair env p k) (joint_of env) (joint_of env) (λ p. p) ls (λ s. refl) (λ z k. refl) (λ z. refl) (joint_inner env ls) (joint_inner_traces env ls)

@@ -16,6 +16,7 @@ letters_cleaned : (p : List Letter) → letters (cleaned p) ≡ p
 letters_cleaned [] = refl
 letters_cleaned (l ∷ p) = ap (λ (t : List Letter). l ∷ t) (letters_cleaned p)
 
+-- the letters of a spelling behind letters that nothing is said against
 pub letters_behind : (p : List Letter) (m : Marked) → letters (cleaned p ++ m) ≡ p ++ letters m
 letters_behind p m = letters_append (cleaned p) m ∙ ap (λ (t : List Letter). t ++ letters m) (letters_cleaned p)
 
@@ -50,6 +51,7 @@ why_code : {X : Type 0} (spell : X → Marked) (x : X) (q : Marked) (c : Code) (
 why_code spell x q c front r h (inl o) = inl o
 why_code spell x q c front r h (inr w) = inr (x, letters q, (ap head (ap letters w.2.0) ∙ sym w.2.1, ap letters h ∙ letters_behind front q))
 
+-- where the reading stops is the first fault
 pub first_fault : {A X : Type 0} (f : List Letter → Reads A) (spell : X → Marked → Marked) (res : X → A) → Traces f spell res → ((x : X) → Answers (f (letters (spell x []))) (spell x []) (res x) [])
     → (ls : List Letter) (c : Code) (r : List Letter) → f ls ≡ Err (c, r) → FirstFault (λ x. spell x []) ls c r
 first_fault f spell res traces complete ls c r e =
@@ -121,6 +123,7 @@ one_code spell ls c e r s f g same left =
       | inr x ↦ marks_same (spell x.0) f.front c e (f.each x.0 x.1 x.2.0 x.2.1) (subst (λ (t : List Letter). MarkedAt (spell x.0) t e) (sym same) (g.each x.0 x.1 (x.2.0 ∙ ap head left) (x.2.1 ∙ ap (λ (t : List Letter). t ++ x.1) same)))
     ]
 
+-- two first faults are one
 pub one_fault : {X : Type 0} (spell : X → Marked) (ls : List Letter) (c e : Code) (r s : List Letter) → FirstFault spell ls c r → FirstFault spell ls e s → (c ≡ e) × (r ≡ s)
 one_fault spell ls c e r s f g =
     elim (compare f.front g.front r s (sym f.parts ∙ g.parts)) [
@@ -133,6 +136,7 @@ one_fault spell ls c e r s f g =
 
 -- ---- what is read is a line without marks, and each such line is read
 
+-- what is read is spelled so
 pub reads_found : {A X : Type 0} (f : List Letter → Reads A) (spell : X → Marked → Marked) (res : X → A) → Traces f spell res → (ls : List Letter) (y : A) → f ls ≡ Ok (y, []) → (x : X) × ((spell x [] ≡ cleaned ls) × (res x ≡ y))
 reads_found f spell res traces ls y e =
     let w : Went f spell res ls y [] = by_at f spell res ls (Ok (y, [])) e (traces ls) in
@@ -147,6 +151,7 @@ clean_is_clean (l ∷ ls) (x ∷ front) c k = clean_is_clean ls front c (k.0, k.
     tail : (x y : Letter × Option Code) (a b : Marked) → x ∷ a ≡ y ∷ b → a ≡ b
     tail x y a b e = cc
 
+-- what is spelled so is read
 pub reads_only : {A X : Type 0} (f : List Letter → Reads A) (spell : X → Marked → Marked) (res : X → A) → ((x : X) → Answers (f (letters (spell x []))) (spell x []) (res x) [])
     → (x : X) (ls : List Letter) → spell x [] ≡ cleaned ls → f ls ≡ Ok (res x, [])
 reads_only f spell res complete x ls e =

@@ -43,6 +43,7 @@ all_fail : (p : List ℕ → Bool) (xs : List (List ℕ)) → ((k : ℕ) → k <
 all_fail p [] h = tt
 all_fail p (x ∷ xs) h = (h 0 (omega arith), all_fail p xs (λ k lt. h (suc k) (omega arith)))
 
+-- a new name differs from each
 pub nowhere_all : (name : List ℕ) (xs : List (List ℕ)) → index_of xs name ≡ None → AllByRecursion (λ y. bytes_eq name y ≡ false) xs
 nowhere_all name xs none = all_fail (bytes_eq name) xs (nowhere_fails (bytes_eq name) xs [] none)
 
@@ -77,6 +78,7 @@ short_insert P (x ∷ xs) ys name h n = All-cons P x (xs ++ name ∷ ys) (All-he
 abbrev IsShort : List ℕ → Type 0
 IsShort name = (1 ≤ length name) × (length name ≤ 16)
 
+-- ---- one more variable, one more rate, and none
 pub with_variable : (v : Vocabulary) (name : List ℕ) → IsVocabulary v → IsNew v name → 1 ≤ length name → length name ≤ 16 → length v.variables < 10 → IsVocabulary (record { variables = v.variables ++ name ∷ []; rates = v.rates })
 with_variable v name h new some short few =
     let same : v.variables ++ name ∷ v.rates ≡ (v.variables ++ name ∷ []) ++ v.rates = sym (append_assoc v.variables (name ∷ []) v.rates) in

@@ -195,9 +195,6 @@ abbrev down_more : Terms → Further
 down_more t = (Negative, t.0) ∷ t.1
 
 -- a term too many
-abbrev OverAt : TermSign → Letter → List Letter → Environment → Type 0
-OverAt s l ls env = Stuck (read_terms 0 env) (spell_terms 0 env) (sign_letter s ∷ l ∷ ls) codes.Many (l ∷ ls)
-
 over_at : (env : Environment) (s : TermSign) (l : Letter) (ls : List Letter) (t : WrittenTerm) (c : Code) (rest : Marked → Marked) → ((k : Marked) → over (spell_term env t k) ≡ (l, Some c) ∷ rest k) → ((r : List Letter) → read_terms 0 env (sign_letter s ∷ l ∷ r) ≡ Err (c, l ∷ r)) → Stuck (read_terms 0 env) (spell_terms 0 env) (sign_letter s ∷ l ∷ ls) c (l ∷ ls)
 over_at env s l ls t c rest h e = record {
   tree = (s, t) ∷ [];
@@ -221,9 +218,6 @@ unfolding read_terms
 over_sign env Positive ls = refl
 over_sign env Negative ls = refl
 
-some_names : WrittenList
-some_names = record { first = 88 ∷ []; more = [] }
-
 abbrev over_word : List ℕ → List Letter → Bool → Reads (List Term)
 over_word w r b = cond b (Err (codes.Many, Word w ∷ r)) (Err (codes.Word, Word w ∷ r))
 
@@ -233,16 +227,16 @@ over_is env s w r h i eh ei = over_sign env s (Word w ∷ r) ∙ ap (λ (b : Boo
 
 head_by : (env : Environment) (s : TermSign) (w : List ℕ) (ls : List Letter) (h i : Bool) → bytes_eq w entropy_text ≡ h → bytes_eq w mutual_text ≡ i → By (read_terms 0 env) (spell_terms 0 env) (terms_of env) (sign_letter s ∷ Word w ∷ ls) (over_word w ls (h || i))
 head_by env s w ls true i eh ei =
-    over_at env s (Word w) ls (Once (Joint some_names)) codes.Many (λ k. clean (Sym LeftParen) ∷ spell_list env some_names (clean (Sym RightParen) ∷ k)) (λ k. ap (λ (t : List ℕ). (Word t, Some codes.Many) ∷ clean (Sym LeftParen) ∷ spell_list env some_names (clean (Sym RightParen) ∷ k)) (sym ((bytes_eq-Decides w entropy_text).0 eh)))
+    over_at env s (Word w) ls (Once (Joint some_list)) codes.Many (λ k. clean (Sym LeftParen) ∷ spell_list env some_list (clean (Sym RightParen) ∷ k)) (λ k. ap (λ (t : List ℕ). (Word t, Some codes.Many) ∷ clean (Sym LeftParen) ∷ spell_list env some_list (clean (Sym RightParen) ∷ k)) (sym ((bytes_eq-Decides w entropy_text).0 eh)))
     (λ r. over_is env s w r true i eh ei)
 head_by env s w ls false true eh ei =
-    over_at env s (Word w) ls (Once (Shared some_names some_names)) codes.Many (λ k. clean (Sym LeftParen) ∷ spell_list env some_names (clean (Sym Semicolon) ∷ spell_list env some_names (clean (Sym RightParen) ∷ k))) (λ k. ap (λ (t : List ℕ). (Word t, Some codes.Many) ∷ clean (Sym LeftParen) ∷ spell_list env some_names (clean (Sym Semicolon) ∷ spell_list env some_names (clean (Sym RightParen) ∷ k))) (sym ((bytes_eq-Decides w mutual_text).0 ei)))
+    over_at env s (Word w) ls (Once (Shared some_list some_list)) codes.Many (λ k. clean (Sym LeftParen) ∷ spell_list env some_list (clean (Sym Semicolon) ∷ spell_list env some_list (clean (Sym RightParen) ∷ k))) (λ k. ap (λ (t : List ℕ). (Word t, Some codes.Many) ∷ clean (Sym LeftParen) ∷ spell_list env some_list (clean (Sym Semicolon) ∷ spell_list env some_list (clean (Sym RightParen) ∷ k))) (sym ((bytes_eq-Decides w mutual_text).0 ei)))
     (λ r. over_is env s w r false true eh ei)
 head_by env s w ls false false eh ei = over_stuck env s (Word w) ls codes.Word (λ r. over_is env s w r false false eh ei) refl
 
 over_traces : (env : Environment) (s : TermSign) (ls : List Letter) → By (read_terms 0 env) (spell_terms 0 env) (terms_of env) (sign_letter s ∷ ls) (read_over ls)
 unfolding read_over
-over_traces env s (Number n ∷ ls) = over_at env s (Number n) ls (Times n (Joint some_names)) codes.Many (λ k. spell_atom env (Joint some_names) k) (λ k. refl) (λ r. over_sign env s (Number n ∷ r))
+over_traces env s (Number n ∷ ls) = over_at env s (Number n) ls (Times n (Joint some_list)) codes.Many (λ k. spell_atom env (Joint some_list) k) (λ k. refl) (λ r. over_sign env s (Number n ∷ r))
 over_traces env s (Word w ∷ ls) = head_by env s w ls (bytes_eq w entropy_text) (bytes_eq w mutual_text) refl refl
 over_traces env s [] = record {
   tree = (s, Zero) ∷ [];
@@ -268,7 +262,7 @@ terms_traces (suc n) env (Sym Minus ∷ ls) = letter_then (read_terms (suc n) en
 terms_traces (suc n) env [] = no_further (suc n) env [] (empty (λ s. read_terms (suc n) env s ≡ Ok ([], s)) refl)
 terms_traces (suc n) env (l ∷ ls) = no_further (suc n) env (l ∷ ls) (begun (λ s. read_terms (suc n) env s ≡ Ok ([], s)) l (λ s. refl))
 
--- ---- expressions
+-- ---- sides
 
 abbrev side_made : Option TermSign → Terms → WrittenSide
 side_made o t = record { sign = o; first = t.0; more = t.1 }
@@ -300,6 +294,7 @@ least_traces x (Sym AtLeast ∷ l ∷ ls) = not_zero x l ls _ (λ s. refl) refl
 least_traces x [] = stuck_none (read_least x) spell_least tt refl
 least_traces x (l ∷ ls) = stuck_here (read_least x) spell_least tt l ls _ (λ s. refl) refl
 
+-- the whole relation
 pub relation_traces : (env : Environment) → Traces (read_relation env) (spell_relation env) (side_of env)
 unfolding read_relation
 relation_traces env = traces_bind (read_side env) read_least (read_relation env) (spell_side env) (λ a. spell_least) (spell_relation env) (side_of env) (λ a u. a) (side_of env) (λ x u. x)

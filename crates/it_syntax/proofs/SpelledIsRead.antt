@@ -8,10 +8,11 @@ use Rattle.it_syntax.specs.declared.types.Atom.TheVariants.{Entropy, Mutual}
 use Rattle.it_syntax.specs.declared.types.Term.{Term}
 use Rattle.it_syntax.specs.Letters.{Letter, Word, Number, Sym, Marked, clean, letters, cleaned}
 use Rattle.it_syntax.specs.Trees.{further_terms, Environment, WrittenList, WrittenAtom, Joint, JointGiven, Shared, SharedGiven, WrittenTerm, Zero, Once, Times, TermSign, Positive, Negative, WrittenSide, entropy_text, mutual_text, is_measure, unknown, index_or, more_set, list_set, atom_of, is_minus, term_of, terms_of, side_of, sign_letter, spell_name, spell_more, spell_list, spell_atom, spell_term, spell_sign, spell_terms, over, spell_side, spell_relation}
+use Rattle.it_syntax.proofs.Traces.{cleaned_append}
 use Rattle.it_syntax.specs.Reading.{Fault, Reads, ◌>>=◌, named, read_name, read_more, read_list, closed, opened, divided, bar_or_close, read_given, read_joint, read_mutual, read_atom, after_number, read_term, read_over, read_terms, read_sign, read_side, read_least, read_relation}
 
 -- m is k behind letters that nothing is said against
-pub record Passes (m k : Marked) : Type 0 where
+pub record Clears (m k : Marked) : Type 0 where
   pub front : List Letter
   pub is : m ≡ cleaned front ++ k
 
@@ -25,37 +26,36 @@ pub record Marks (m : Marked) (f : Fault) : Type 0 where
 
 -- a reading of m, which spells x and then k: x, or the fault at the first mark before k
 abbrev pub Answers : {A : Type 0} → Reads A → Marked → A → Marked → Type 0
-Answers r m x k = ((r ≡ Ok (x, letters k)) × Passes m k) ⊎ ((f : Fault) × ((r ≡ Err f) × Marks m f))
+Answers r m x k = ((r ≡ Ok (x, letters k)) × Clears m k) ⊎ ((f : Fault) × ((r ≡ Err f) × Marks m f))
 
-passes_none : (k : Marked) → Passes k k
+passes_none : (k : Marked) → Clears k k
 passes_none k = record { front = []; is = refl }
 
-passes_cons : (l : Letter) (m k : Marked) → Passes m k → Passes (clean l ∷ m) k
+passes_cons : (l : Letter) (m k : Marked) → Clears m k → Clears (clean l ∷ m) k
 passes_cons l m k p = record { front = l ∷ p.front; is = ap (λ (q : Marked). clean l ∷ q) p.is }
 
 marks_cons : (l : Letter) (m : Marked) (f : Fault) → Marks m f → Marks (clean l ∷ m) f
 marks_cons l m f p = record { front = l ∷ p.front; letter = p.letter; rest = p.rest; is = ap (λ (q : Marked). clean l ∷ q) p.is; left = p.left }
 
-cleaned_append : (p q : List Letter) → cleaned (p ++ q) ≡ cleaned p ++ cleaned q
-cleaned_append [] q = refl
-cleaned_append (l ∷ p) q = ap (λ (m : Marked). clean l ∷ m) (cleaned_append p q)
-
 joined : (p q : List Letter) (m n k : Marked) → m ≡ cleaned p ++ n → n ≡ cleaned q ++ k → m ≡ cleaned (p ++ q) ++ k
 joined p q m n k g h = g ∙ ap (λ (t : Marked). cleaned p ++ t) h ∙ rw (cleaned_append p q, append_assoc) refl
 
-passes_then : (m n k : Marked) → Passes m n → Passes n k → Passes m k
+passes_then : (m n k : Marked) → Clears m n → Clears n k → Clears m k
 passes_then m n k p q = record { front = p.front ++ q.front; is = joined p.front q.front m n k p.is q.is }
 
-marks_then : (m n : Marked) (f : Fault) → Passes m n → Marks n f → Marks m f
+marks_then : (m n : Marked) (f : Fault) → Clears m n → Marks n f → Marks m f
 marks_then m n f p q = record { front = p.front ++ q.front; letter = q.letter; rest = q.rest; is = joined p.front q.front m n ((q.letter, Some f.0) ∷ q.rest) p.is q.is; left = q.left }
 
+-- nothing more to read
 pub answers_ok : {A : Type 0} (x : A) (k : Marked) → Answers (Ok (x, letters k)) k x k
 answers_ok x k = inl (refl, passes_none k)
 
+-- a letter that nothing is said against stands in front
 pub answers_cons : {A : Type 0} (l : Letter) (r : Reads A) (m : Marked) (x : A) (k : Marked) → Answers r m x k → Answers r (clean l ∷ m) x k
 answers_cons l r m x k (inl a) = inl (a.0, passes_cons l m k a.1)
 answers_cons l r m x k (inr b) = inr (b.0, (b.1.0, marks_cons l m b.0 b.1.1))
 
+-- one reading, and then another that may depend on its value
 pub answers_bind : {A B : Type 0} (r : Reads A) (f : (A × List Letter) → Reads B) (m n k : Marked) (x : A) (y : B) → Answers r m x n → Answers (f (x, letters n)) n y k → Answers (r >>= f) m y k
 answers_bind r f m n k x y (inl a) (inl b) = inl (ap (λ (q : Reads _). q >>= f) a.0 ∙ b.0, passes_then m n k a.1 b.1)
 answers_bind r f m n k x y (inl a) (inr b) = inr (b.0, (ap (λ (q : Reads _). q >>= f) a.0 ∙ b.1.0, marks_then m n b.0 a.1 b.1.1))
@@ -109,10 +109,6 @@ list_answers env x k s =
     answers_bind (read_name env (letters (spell_name env x.first n))) (λ f. read_more env f.1 >>= λ m. Ok (bit_or (2 ^ f.0) m.0, m.1)) (spell_name env x.first n) n k (index_or (env x.first)) y
     (name_answers env x.first n)
     (answers_bind (read_more env (letters n)) (λ m. Ok (bit_or (2 ^ index_or (env x.first)) m.0, m.1)) n k k (more_set env x.more) y (more_answers env x.more k s) (answers_ok y k))
-
--- one clean letter, and then a reading of the rest
-after : {A : Type 0} (l : Letter) (r : Reads A) (m : Marked) (x : A) (k : Marked) → Answers r m x k → Answers r (clean l ∷ m) x k
-after = answers_cons
 
 closing : {A : Type 0} (x : A) (k : Marked) → Answers (closed x (letters (clean (Sym RightParen) ∷ k))) (clean (Sym RightParen) ∷ k) x k
 unfolding closed
@@ -284,6 +280,7 @@ side_answers env x k s w =
     let a : Answers (unsigned_side env (is_minus x.sign, letters m)) m (side_of env x) k = term_then env (is_minus x.sign) x.first x.more further_terms k w (terms_answers further_terms env x.more k s w) in
     subst (λ (q : Bool × List Letter). Answers (unsigned_side env q) (spell_side env x k) (side_of env x) k) (sym (signed x.sign env x.first n)) (sign_answers x.sign _ m (side_of env x) k a)
 
+-- ---- relations
 pub relation_answers : (env : Environment) (x : WrittenSide) (k : Marked) → Answers (read_relation env (letters (spell_relation env x k))) (spell_relation env x k) (side_of env x) k
 unfolding read_relation read_least
 relation_answers env x k =

@@ -48,6 +48,7 @@ regroup : (front : List Term) (t : Term) (r : Reads (List Term)) → with_terms 
 regroup front t (Ok x) = ap (λ (ts : List Term). Ok (ts, x.1)) (simp append_assoc)
 regroup front t (Err e) = refl
 
+-- one more term
 pub goes_on : (front : List Term) (n : ℕ) (env : Environment) (ls tail after : List Letter) (b : Bool) (t : Term) (total : Reads (List Term)) → 0 < n → after_sign ls ≡ Some (b, tail) → read_term env b tail ≡ Ok (t, after)
     → with_terms front (read_terms n env ls) ≡ total → with_terms (front ++ t ∷ []) (read_terms (n - 1) env after) ≡ total
 goes_on front n env ls tail after b t total lt s h so_far =
@@ -56,6 +57,7 @@ goes_on front n env ls tail after b t total lt s h so_far =
     ap (λ (m : ℕ). with_terms front (read_terms m env ls)) k ∙ ap (with_terms front) (sign_some (n - 1) env ls tail b s ∙ ap (λ (r : Reads Term). r >>= λ t. read_terms (n - 1) env t.1 >>= λ ts. Ok (t.0 ∷ ts.0, ts.1)) h) ∙ regroup front t (read_terms (n - 1) env after) in
     sym one ∙ so_far
 
+-- the loop stops at a fault in a term
 pub ends : (e : Stop) (front : List Term) (n : ℕ) (env : Environment) (ls tail rest : List Letter) (b : Bool) (total : Reads (List Term)) → 0 < n → after_sign ls ≡ Some (b, tail) → StopsAs e rest (read_term env b tail)
     → with_terms front (read_terms n env ls) ≡ total → StopsAs e rest total
 ends stops.Memory front n env ls tail rest b total lt s h so_far = tt
@@ -63,9 +65,11 @@ ends (stops.Fault c) front n env ls tail rest b total lt s h so_far =
     let k : n ≡ suc (n - 1) = omega arith in
     sym so_far ∙ ap (λ (m : ℕ). with_terms front (read_terms m env ls)) k ∙ ap (with_terms front) (sign_some (n - 1) env ls tail b s ∙ ap (λ (r : Reads Term). r >>= λ t. read_terms (n - 1) env t.1 >>= λ ts. Ok (t.0 ∷ ts.0, ts.1)) h)
 
+-- the loop stops at a term too many
 pub too_many : (e : Stop) (front : List Term) (env : Environment) (ls tail : List Letter) (b : Bool) (total : Reads (List Term)) → after_sign ls ≡ Some (b, tail) → StopsAs e tail (read_over tail) → with_terms front (read_terms 0 env ls) ≡ total → StopsAs e tail total
 too_many stops.Memory front env ls tail b total s h so_far = tt
 too_many (stops.Fault c) front env ls tail b total s h so_far = sym so_far ∙ ap (with_terms front) (sign_over env ls tail b s ∙ h)
 
+-- the loop ends without a sign
 pub is_done : (front : List Term) (n : ℕ) (env : Environment) (ls : List Letter) (total : Reads (List Term)) → after_sign ls ≡ None → with_terms front (read_terms n env ls) ≡ total → total ≡ Ok (front, ls)
 is_done front n env ls total s so_far = sym so_far ∙ ap (with_terms front) (sign_none n env ls s) ∙ ap (λ (ts : List Term). Ok (ts, ls)) (append-nil front)

@@ -1,5 +1,5 @@
--- One token, and no other, stands in front.
-use Rattle.std.proofs.Common.{◌≡◌, ℕ, zero, suc, ◌+◌, ◌-◌, ◌<◌, ◌≤◌, ◌^◌, Bool, true, false, cond, ◌&&◌, List, [], ◌∷◌, ◌++◌, length, take, drop, Some, None, refl, ap, sym, subst, ◌∙◌, arith, length-take, length-drop, inl, inr, ◌⊎◌, append_assoc, length-append}
+-- The tokens of a line: one token, and no other, stands in front, so a line has one reading.
+use Rattle.std.proofs.Common.{◌≡◌, ℕ, zero, suc, ◌+◌, ◌-◌, ◌<◌, ◌≤◌, ◌^◌, Bool, true, false, cond, ◌&&◌, List, [], ◌∷◌, ◌++◌, length, take, drop, Some, refl, ap, sym, subst, ◌∙◌, arith, length-take, length-drop, inl, inr, ◌⊎◌, append_assoc, length-append}
 use Rattle.std.specs.Prelude.{◌==◌}
 use Rattle.std.proofs.lemmas.List.{append-nil, take_at, drop_at, take-append-drop}
 use Rattle.std.proofs.lemmas.Bool.Decides.{Decides-eqb, eqb_tells, nat_tests}
@@ -150,6 +150,7 @@ starts_front : (f : ℕ → Bool) (text rest : List ℕ) → StartsWith f text �
 starts_front f [] rest h = elim h [ ]
 starts_front f (b ∷ text) rest h = h
 
+-- a token and what ends it have a shape
 pub shape_of : (k : TokenKind) (text rest : List ℕ) → IsText k text → Ends k rest → Shape k (length text) (text ++ rest)
 shape_of kinds.Word text rest t e = (starts_front is_letter text rest t.0, run_of_text is_word_byte text rest t.1 e, t.2)
 shape_of (kinds.Number v) text rest t e = (starts_front is_digit text rest t.0, run_of_text is_digit text rest t.1 e, rw (take_at text rest (length text) refl) t.2, t.3)
@@ -164,6 +165,7 @@ letter_wordly : (b : ℕ) → is_letter b ≡ true → is_word_byte b ≡ true
 unfolding is_word_byte
 letter_wordly b h = rw h refl
 
+-- and back
 pub shape_text : (k : TokenKind) (n : ℕ) (body : List ℕ) → Shape k n body → IsText k (take n body) × (Ends k (drop n body) × (n ≤ length body))
 shape_text kinds.Word n body h = ((starts_take is_letter is_word_byte body n h.0 h.1 letter_wordly, h.1.all, omega (arith, length-take n body, h.2)), (h.1.stops, h.1.within))
 shape_text (kinds.Number v) n body h = ((starts_take is_digit is_digit body n h.0 h.1 (λ b e. e), h.1.all, h.2, h.3), (h.1.stops, h.1.within))
@@ -231,6 +233,7 @@ pub record Found (at g : ℕ) (body : List ℕ) (t : Token) (rest : List ℕ) : 
   pub end : t.end ≡ t.start + (t.end - t.start)
   pub rest_is : rest ≡ drop (t.end - t.start) body
 
+-- a cut is found behind the spaces
 pub found_of : (at g : ℕ) (bytes : List ℕ) (t : Token) (rest : List ℕ) → Run is_space bytes g → Cut at bytes t rest → Found at g (drop g bytes) t rest
 found_of at g bytes t rest r c =
     let gap_run : Run is_space bytes (length c.gap) = subst (λ (b : List ℕ). Run is_space b (length c.gap)) (sym c.whole) (run_of_text is_space c.gap (c.text ++ rest) c.blank (text_stops t.kind c.text rest c.spelled)) in
@@ -245,6 +248,7 @@ found_of at g bytes t rest r c =
       rest_is = sym (ap (λ (b : List ℕ). drop (t.end - t.start) b) body_is ∙ drop_at c.text rest (t.end - t.start) (sym n_is));
     }
 
+-- a shape behind the spaces is a cut
 pub cut_made : (at g n : ℕ) (bytes : List ℕ) (t : Token) → Run is_space bytes g → Shape t.kind n (drop g bytes) → t.start ≡ at + g → t.end ≡ t.start + n → Cut at bytes t (drop n (drop g bytes))
 cut_made at g n bytes t r s start end =
     let x = shape_text t.kind n (drop g bytes) s in
@@ -276,6 +280,7 @@ one_cut at bytes g t u r s run c d =
     let end_is : t.end ≡ u.end = omega (arith, f.end, h.end, one.1, start_is) in
     (same_token t u one.0 start_is end_is, f.rest_is ∙ ap (λ (n : ℕ). drop n (drop g bytes)) one.1 ∙ sym h.rest_is)
 
+-- a token has bytes
 pub shape_some : (k : TokenKind) (n : ℕ) (body : List ℕ) → Shape k n body → 0 < n
 shape_some k n body h = some k n (take n body) (shape_text k n body h).0 (omega (arith, length-take n body, (shape_text k n body h).1.1))
   where
@@ -307,9 +312,6 @@ pub record UnderWay (line : List ℕ) (so_far : List Token) (at : ℕ) (rest : L
   pub on : (ts : List Token) → Spells at rest ts → Spells 0 line (so_far ++ ts)
   pub back : (ts : List Token) → Spells 0 line ts → (us : List Token) × ((ts ≡ so_far ++ us) × Spells at rest us)
 
-pub under_way_first : (line : List ℕ) → UnderWay line [] 0 line
-under_way_first line = record { on = λ ts h. h; back = λ ts h. (ts, (refl, h)) }
-
 -- spaces alone have no token in front
 blank_none : (at g : ℕ) (rest : List ℕ) (t : Token) (r : List ℕ) → Run is_space rest g → Cut at rest t r → AreAll is_space rest → ⊥
 blank_none at g rest t r run c h =
@@ -324,6 +326,7 @@ first_token at g n rest t run c (u ∷ us) h =
     let one = one_cut at rest g t u (drop n (drop g rest)) h.0 run c h.1 in
     (us, (ap (λ (v : Token). v ∷ us) (sym one.0), subst (λ (r : List ℕ). Spells t.end r us) (sym one.1) (subst (λ (v : Token). Spells v.end h.0 us) (sym one.0) h.2)))
 
+-- one more token
 pub under_way_more : (line : List ℕ) (so_far : List Token) (at g n : ℕ) (rest : List ℕ) (t : Token) → Run is_space rest g → Shape t.kind n (drop g rest) → t.start ≡ at + g → t.end ≡ t.start + n
     → UnderWay line so_far at rest → UnderWay line (so_far ++ t ∷ []) t.end (drop n (drop g rest))
 under_way_more line so_far at g n rest t run shape start end w =
@@ -344,25 +347,23 @@ no_tokens line so_far at g rest run some none w ts h = no_front at g rest run so
         omega (arith, length-drop g rest, e, some)
     no_front at g rest run some none (u ∷ us) h = none u.kind (u.end - u.start) (found_of at g rest u h.0 run h.1).shape
 
+-- nothing but spaces is left
 pub whole_line : (line : List ℕ) (so_far : List Token) (at g : ℕ) (rest : List ℕ) → Run is_space rest g → length (drop g rest) ≡ 0 → UnderWay line so_far at rest → Spells 0 line so_far
 whole_line line so_far at g rest run e w = subst (λ (ts : List Token). Spells 0 line ts) (append-nil so_far) (w.on [] (run_all is_space rest g run.all (omega (arith, length-drop g rest, e))))
 
--- a letter or a digit in front, and yet no token
+-- a word past the limit in front, and yet no token
 pub word_long : (n : ℕ) (body : List ℕ) → StartsWith is_letter body → Run is_word_byte body n → 16 < n → (k : TokenKind) (m : ℕ) → Shape k m body → ⊥
 word_long n body h r lt kinds.Word m s = omega (arith, run_once is_word_byte body n m r s.1, s.2)
 word_long n body h r lt (kinds.Number v) m s = both_starts body h s.0
 word_long n body h r lt (kinds.Symbol x) m s = no_letter x _ (first_letter is_letter x body s.0 h)
 
+-- a number past the limit in front, and yet no token
 pub number_large : (n : ℕ) (body : List ℕ) → StartsWith is_digit body → Run is_digit body n → 2 ^ 64 ≤ value_from 0 (take n body) → (k : TokenKind) (m : ℕ) → Shape k m body → ⊥
 number_large n body h r le kinds.Word m s = both_starts body s.0 h
 number_large n body h r le (kinds.Number v) m s = omega (arith, ap (λ (i : ℕ). value_from 0 (take i body)) (run_once is_digit body n m r s.1), s.2, s.3)
 number_large n body h r le (kinds.Symbol x) m s = no_digit x _ (first_letter is_digit x body s.0 h)
 
-pub no_symbol : (body : List ℕ) → (StartsWith is_letter body → ⊥) → (StartsWith is_digit body → ⊥) → symbol_of body ≡ None → (k : TokenKind) (m : ℕ) → Shape k m body → ⊥
-no_symbol body l d e kinds.Word m s = l s.0
-no_symbol body l d e (kinds.Number v) m s = d s.0
-no_symbol body l d e (kinds.Symbol x) m s = let y = s.0 in absurd cc
-
+-- the test for emptiness
 pub empty_len : (n : ℕ) → true ≡ (n == 0) → n ≡ 0
 empty_len n e = (Decides-eqb n 0).0 (sym e)
 
@@ -384,5 +385,6 @@ one_tokens at bytes (t ∷ ts) (u ∷ us) h k =
     let rest : Spells t.end h.0 us = subst (λ (r : List ℕ). Spells t.end r us) (sym one.1) (subst (λ (v : Token). Spells v.end k.0 us) (sym one.0) k.2) in
     ap (λ (v : Token). v ∷ ts) one.0 ∙ ap (λ (vs : List Token). u ∷ vs) (one_tokens t.end h.0 ts us h.2 rest)
 
+-- a line has at most one reading
 pub tokens_are_one : TokensAreOne
 tokens_are_one line = one_tokens 0 line

@@ -9,6 +9,8 @@ use Rattle.it_syntax.specs.Reading.{Reads, ◌>>=◌}
 abbrev pub Why : Marked → Code → List Letter → Type 0
 Why q c r = (own r ≡ c) ⊎ ((l : Letter) × (more : Marked) × ((q ≡ (l, Some c) ∷ more) × (head r ≡ Some l)))
 
+-- It read y up to r: a tree of that value is spelled by the letters before r, and they are read so whatever follows r's first
+-- letter.
 pub record Went {A X : Type 0} (f : List Letter → Reads A) (spell : X → Marked → Marked) (res : X → A) (ls : List Letter) (y : A) (r : List Letter) : Type 0 where
   pub tree : X
   pub front : List Letter
@@ -17,6 +19,7 @@ pub record Went {A X : Type 0} (f : List Letter → Reads A) (spell : X → Mark
   pub spells : (k : Marked) → spell tree k ≡ cleaned front ++ k
   pub stays : (s : List Letter) → head s ≡ head r → f (front ++ s) ≡ Ok (y, s)
 
+-- It stopped with code c at r: a tree is spelled so up to r, and the same letters stop it whatever follows r's first letter.
 pub record Stuck {A X : Type 0} (f : List Letter → Reads A) (spell : X → Marked → Marked) (ls : List Letter) (c : Code) (r : List Letter) : Type 0 where
   pub tree : X
   pub front : List Letter
@@ -24,10 +27,12 @@ pub record Stuck {A X : Type 0} (f : List Letter → Reads A) (spell : X → Mar
   pub spells : (k : Marked) → (q : Marked) × ((spell tree k ≡ cleaned front ++ q) × Why q c r)
   pub stays : (s : List Letter) → head s ≡ head r → f (front ++ s) ≡ Err (c, s)
 
+-- what a result tells
 abbrev pub By : {A X : Type 0} → (List Letter → Reads A) → (X → Marked → Marked) → (X → A) → List Letter → Reads A → Type 0
 By f spell res ls (Ok x) = Went f spell res ls x.0 x.1
 By f spell res ls (Err e) = Stuck f spell ls e.0 e.1
 
+-- each reading tells this
 abbrev pub Traces : {A X : Type 0} → (List Letter → Reads A) → (X → Marked → Marked) → (X → A) → Type 0
 Traces f spell res = (ls : List Letter) → By f spell res ls (f ls)
 
@@ -86,6 +91,7 @@ first_then {A} {B} f g h spell_y spell_z spell_x res_y res_z res_x make c ls (Er
   stays = λ s e. c.is (w.front ++ s) ∙ ap (λ (t : Reads A). t >>= λ x. g x.0 x.1) (w.stays s e);
 }
 
+-- Two readers that trace, put together.
 pub traces_bind : {A B X Y Z : Type 0} (f : List Letter → Reads A) (g : A → List Letter → Reads B) (h : List Letter → Reads B) (spell_y : Y → Marked → Marked) (spell_z : A → Z → Marked → Marked) (spell_x : X → Marked → Marked) (res_y : Y → A) (res_z : A → Z → B) (res_x : X → B) (make : Y → Z → X)
     → Chain f g h spell_y spell_z spell_x res_y res_z res_x make → Traces h spell_x res_x
 traces_bind f g h spell_y spell_z spell_x res_y res_z res_x make c ls =
