@@ -1,0 +1,223 @@
+-- The readers of a relation, one after the other: what a reading tells.
+use Rattle.std.proofs.Common.{◌≡◌, ℕ, ◌^◌, Bool, true, false, cond, List, [], ◌∷◌, ◌++◌, Option, Some, None, Ok, Err, refl, ap, ◌∙◌, subst, inl, inr}
+use Rattle.std.specs.Prelude.{bit_or}
+use Rattle.it_syntax.specs.declared.types.Symbol.TheVariants.{LeftParen, RightParen, Comma, Bar}
+use Rattle.it_syntax.specs.declared.types.Code.{Code}
+use Rattle.it_syntax.specs.declared.types.Code.TheVariants as codes
+use Rattle.it_syntax.specs.declared.types.Atom.{Atom}
+use Rattle.it_syntax.specs.declared.types.Atom.TheVariants.{Entropy}
+use Rattle.it_syntax.specs.Letters.{Letter, Word, Sym, Marked, clean}
+use Rattle.it_syntax.specs.Trees.{Environment, WrittenList, is_measure, unknown, index_or, more_set, list_set, name_mark, spell_name, spell_more, spell_list}
+use Rattle.it_syntax.specs.FirstFault.{head, own}
+use Rattle.it_syntax.specs.Reading.{Reads, ◌>>=◌, named, read_name, read_more, read_list, closed, opened, bar_or_close, read_given, read_joint}
+use Rattle.it_syntax.proofs.Traces.{Went, Stuck, By, Traces, traces_bind, traces_map, letter_then}
+
+-- what holds of the letters that begin as r does
+pub begun : (P : List Letter → Type 0) (l : Letter) → ((s : List Letter) → P (l ∷ s)) → (s : List Letter) → head s ≡ Some l → P s
+begun P l h [] e = absurd cc
+begun P l h (m ∷ s) e = let same : l ≡ m = cc in subst (λ (n : Letter). P (n ∷ s)) same (h s)
+
+-- what holds of no letters
+pub empty : (P : List Letter → Type 0) → P [] → (s : List Letter) → head s ≡ None → P s
+empty P h [] e = h
+empty P h (m ∷ s) e = absurd cc
+
+-- no rule goes on at the first letter
+pub stuck_here : {A X : Type 0} (f : List Letter → Reads A) (spell : X → Marked → Marked) (x : X) (l : Letter) (ls : List Letter) (c : Code) → ((s : List Letter) → f (l ∷ s) ≡ Err (c, l ∷ s)) → own (l ∷ ls) ≡ c → Stuck f spell (l ∷ ls) c (l ∷ ls)
+stuck_here f spell x l ls c h o = record {
+  tree = x;
+  front = [];
+  parts = refl;
+  spells = λ k. (spell x k, (refl, inl o));
+  stays = begun (λ s. f s ≡ Err (c, s)) l h;
+}
+
+-- and at no letter at all
+pub stuck_none : {A X : Type 0} (f : List Letter → Reads A) (spell : X → Marked → Marked) (x : X) → f [] ≡ Err (codes.Word, []) → Stuck f spell [] codes.Word []
+stuck_none f spell x h = record {
+  tree = x;
+  front = [];
+  parts = refl;
+  spells = λ k. (spell x k, (refl, inl refl));
+  stays = empty (λ s. f s ≡ Err (codes.Word, s)) h;
+}
+
+some_name : List ℕ
+some_name = 88 ∷ []
+
+name_of : Environment → List ℕ → ℕ
+name_of env w = index_or (env w)
+
+-- ---- names
+
+named_by : (env : Environment) (w : List ℕ) (ls : List Letter) (h : Bool) (o : Option ℕ) → is_measure w ≡ h → env w ≡ o → By (read_name env) (spell_name env) (name_of env) (Word w ∷ ls) (named w h o ls)
+unfolding read_name name_of
+named_by env w ls true o eh eo = stuck_here (read_name env) (spell_name env) w (Word w) ls codes.Word (λ s. ap (λ (b : Bool). named w b (env w) s) eh) refl
+named_by env w ls false None eh eo = record {
+  tree = w;
+  front = [];
+  parts = refl;
+  spells = λ k. ((Word w, name_mark env w) ∷ k, (refl, inr (Word w, k, (ap (λ (m : Option Code). (Word w, m) ∷ k) (ap (λ (b : Bool). cond b (Some codes.Word) (unknown (env w))) eh ∙ ap unknown eo), refl))));
+  stays = begun (λ s. read_name env s ≡ Err (codes.Name, s)) (Word w) (λ s. ap (λ (b : Bool). named w b (env w) s) eh ∙ ap (λ (p : Option ℕ). named w false p s) eo);
+}
+named_by env w ls false (Some i) eh eo = record {
+  tree = w;
+  front = Word w ∷ [];
+  value = ap index_or eo;
+  parts = refl;
+  spells = λ k. ap (λ (m : Option Code). (Word w, m) ∷ k) (ap (λ (b : Bool). cond b (Some codes.Word) (unknown (env w))) eh ∙ ap unknown eo);
+  stays = λ s e. ap (λ (b : Bool). named w b (env w) s) eh ∙ ap (λ (p : Option ℕ). named w false p s) eo;
+}
+
+name_traces : (env : Environment) → Traces (read_name env) (spell_name env) (name_of env)
+unfolding read_name
+name_traces env (Word w ∷ ls) = named_by env w ls (is_measure w) (env w) refl refl
+name_traces env [] = stuck_none (read_name env) (spell_name env) some_name refl
+name_traces env (l ∷ ls) = stuck_here (read_name env) (spell_name env) some_name l ls _ (λ s. refl) refl
+
+closed_traces : (x : ℕ) → Traces (closed x) (λ (u : Unit {0}) k. clean (Sym RightParen) ∷ k) (λ u. x)
+unfolding closed
+closed_traces x (Sym RightParen ∷ ls) = record { tree = tt; front = Sym RightParen ∷ []; value = refl; parts = refl; spells = λ k. refl; stays = λ s e. refl }
+closed_traces x [] = stuck_none (closed x) (λ (u : Unit {0}) k. clean (Sym RightParen) ∷ k) tt refl
+closed_traces x (l ∷ ls) = stuck_here (closed x) (λ (u : Unit {0}) k. clean (Sym RightParen) ∷ k) tt l ls _ (λ s. refl) refl
+
+-- ---- further names
+
+abbrev further : ℕ → Reads ℕ → Reads ℕ
+further i t = t >>= λ m. Ok (bit_or (2 ^ i) m.0, m.1)
+
+-- what reading further names does behind a comma and a name
+more_at : (env : Environment) (w : List ℕ) (s : List Letter) (h : Bool) (o : Option ℕ) → is_measure w ≡ h → env w ≡ o → read_more env (Sym Comma ∷ Word w ∷ s) ≡ (named w h o s >>= λ n. further n.0 (read_more env s))
+unfolding read_more
+more_at env w s h o eh eo = ap (λ (b : Bool). named w b (env w) s >>= λ n. further n.0 (read_more env s)) eh ∙ ap (λ (p : Option ℕ). named w h p s >>= λ n. further n.0 (read_more env s)) eo
+
+mark_is : (env : Environment) (w : List ℕ) (h : Bool) (o : Option ℕ) → is_measure w ≡ h → env w ≡ o → name_mark env w ≡ cond h (Some codes.Word) (unknown o)
+mark_is env w h o eh eo = ap (λ (b : Bool). cond b (Some codes.Word) (unknown (env w))) eh ∙ ap (λ (p : Option ℕ). cond h (Some codes.Word) (unknown p)) eo
+
+more_by : (env : Environment) (w : List ℕ) (ls : List Letter) (h : Bool) (o : Option ℕ) → is_measure w ≡ h → env w ≡ o → (t : Reads ℕ) → By (read_more env) (spell_more env) (more_set env) ls t
+    → By (read_more env) (spell_more env) (more_set env) (Sym Comma ∷ Word w ∷ ls) (named w h o ls >>= λ n. further n.0 t)
+more_by env w ls true o eh eo t b = record {
+  tree = w ∷ [];
+  front = Sym Comma ∷ [];
+  parts = refl;
+  spells = λ k. ((Word w, name_mark env w) ∷ k, (refl, inl refl));
+  stays = begun (λ s. read_more env (Sym Comma ∷ s) ≡ Err (codes.Word, s)) (Word w) (λ s. more_at env w s true o eh eo);
+}
+more_by env w ls false None eh eo t b = record {
+  tree = w ∷ [];
+  front = Sym Comma ∷ [];
+  parts = refl;
+  spells = λ k. ((Word w, name_mark env w) ∷ k, (refl, inr (Word w, k, (ap (λ (m : Option Code). (Word w, m) ∷ k) (mark_is env w false None eh eo), refl))));
+  stays = begun (λ s. read_more env (Sym Comma ∷ s) ≡ Err (codes.Name, s)) (Word w) (λ s. more_at env w s false None eh eo);
+}
+more_by env w ls false (Some i) eh eo (Ok x) b = record {
+  tree = w ∷ b.tree;
+  front = Sym Comma ∷ Word w ∷ b.front;
+  value = ap (λ (j : ℕ). bit_or (2 ^ j) (more_set env b.tree)) (ap index_or eo) ∙ ap (bit_or (2 ^ i)) b.value;
+  parts = ap (λ (s : List Letter). Sym Comma ∷ Word w ∷ s) b.parts;
+  spells = λ k. ap (λ (m : Option Code). clean (Sym Comma) ∷ (Word w, m) ∷ spell_more env b.tree k) (mark_is env w false (Some i) eh eo) ∙ ap (λ (q : Marked). clean (Sym Comma) ∷ clean (Word w) ∷ q) (b.spells k);
+  stays = λ s e. more_at env w (b.front ++ s) false (Some i) eh eo ∙ ap (further i) (b.stays s e);
+}
+more_by env w ls false (Some i) eh eo (Err x) b = record {
+  tree = w ∷ b.tree;
+  front = Sym Comma ∷ Word w ∷ b.front;
+  parts = ap (λ (s : List Letter). Sym Comma ∷ Word w ∷ s) b.parts;
+  spells = λ k. let q = b.spells k in (q.0, (ap (λ (m : Option Code). clean (Sym Comma) ∷ (Word w, m) ∷ spell_more env b.tree k) (mark_is env w false (Some i) eh eo) ∙ ap (λ (r : Marked). clean (Sym Comma) ∷ clean (Word w) ∷ r) q.1.0, q.1.1));
+  stays = λ s e. more_at env w (b.front ++ s) false (Some i) eh eo ∙ ap (further i) (b.stays s e);
+}
+
+-- behind a comma stands no name
+no_name : (env : Environment) (l : Letter) (ls : List Letter) (c : Code) → ((s : List Letter) → read_more env (Sym Comma ∷ l ∷ s) ≡ Err (c, l ∷ s)) → own (l ∷ ls) ≡ c → Stuck (read_more env) (spell_more env) (Sym Comma ∷ l ∷ ls) c (l ∷ ls)
+no_name env l ls c h o = record {
+  tree = some_name ∷ [];
+  front = Sym Comma ∷ [];
+  parts = refl;
+  spells = λ k. ((Word some_name, name_mark env some_name) ∷ k, (refl, inl o));
+  stays = begun (λ s. read_more env (Sym Comma ∷ s) ≡ Err (c, s)) l h;
+}
+
+no_comma : (env : Environment) (l : Letter) (ls : List Letter) → ((s : List Letter) → read_more env (l ∷ s) ≡ Ok (0, l ∷ s)) → Went (read_more env) (spell_more env) (more_set env) (l ∷ ls) 0 (l ∷ ls)
+no_comma env l ls h = record { tree = []; front = []; value = refl; parts = refl; spells = λ k. refl; stays = begun (λ s. read_more env s ≡ Ok (0, s)) l h }
+
+more_traces : (env : Environment) → Traces (read_more env) (spell_more env) (more_set env)
+unfolding read_more
+more_traces env (Sym Comma ∷ Word w ∷ ls) = more_by env w ls (is_measure w) (env w) refl refl (read_more env ls) (more_traces env ls)
+more_traces env (Sym Comma ∷ []) = record {
+  tree = some_name ∷ [];
+  front = Sym Comma ∷ [];
+  parts = refl;
+  spells = λ k. ((Word some_name, name_mark env some_name) ∷ k, (refl, inl refl));
+  stays = empty (λ s. read_more env (Sym Comma ∷ s) ≡ Err (codes.Word, s)) refl;
+}
+more_traces env (Sym Comma ∷ l ∷ ls) = no_name env l ls _ (λ s. refl) refl
+more_traces env [] = record { tree = []; front = []; value = refl; parts = refl; spells = λ k. refl; stays = empty (λ s. read_more env s ≡ Ok (0, s)) refl }
+more_traces env (l ∷ ls) = no_comma env l ls (λ s. refl)
+
+-- ---- lists
+
+list_made : List ℕ → List (List ℕ) → WrittenList
+list_made w ws = record { first = w; more = ws }
+
+-- a list of names
+pub list_traces : (env : Environment) → Traces (read_list env) (spell_list env) (list_set env)
+unfolding read_list list_made name_of
+list_traces env = traces_bind (read_name env) (λ i ls. further i (read_more env ls)) (read_list env) (spell_name env) (λ i. spell_more env) (spell_list env) (name_of env) (λ i ws. bit_or (2 ^ i) (more_set env ws)) (list_set env) list_made
+    (record { is = λ ls. refl; spells = λ y z k. refl; value = λ y z. refl; some = []; first = name_traces env; second = λ i. traces_map (read_more env) (bit_or (2 ^ i)) (spell_more env) (more_set env) (more_traces env) })
+
+-- ---- what stands behind `|`, up to `)`
+
+abbrev pub spell_inner : Environment → WrittenList → Marked → Marked
+spell_inner env c k = spell_list env c (clean (Sym RightParen) ∷ k)
+
+abbrev inner : Environment → List Letter → Reads ℕ
+inner env ls = read_list env ls >>= λ c. closed c.0 c.1
+
+inner_traces : (env : Environment) → Traces (inner env) (spell_inner env) (list_set env)
+inner_traces env = traces_bind (read_list env) closed (inner env) (spell_list env) (λ x (u : Unit {0}) k. clean (Sym RightParen) ∷ k) (spell_inner env) (list_set env) (λ x u. x) (list_set env) (λ c u. c)
+    (record { is = λ ls. refl; spells = λ y z k. refl; value = λ y z. refl; some = tt; first = list_traces env; second = closed_traces })
+
+abbrev pub spell_given : Environment → Option WrittenList → Marked → Marked
+spell_given env None k = clean (Sym RightParen) ∷ k
+spell_given env (Some c) k = clean (Sym Bar) ∷ spell_inner env c k
+
+abbrev pub given_set : Environment → Option WrittenList → ℕ
+given_set env None = 0
+given_set env (Some c) = list_set env c
+
+-- what is given, if anything
+pub given_traces : (env : Environment) → Traces (read_given env) (spell_given env) (given_set env)
+unfolding read_given bar_or_close
+given_traces env (Sym RightParen ∷ ls) = record { tree = None; front = Sym RightParen ∷ []; value = refl; parts = refl; spells = λ k. refl; stays = λ s e. refl }
+given_traces env (Sym Bar ∷ ls) = letter_then (read_given env) (inner env) (Sym Bar) (spell_inner env) (spell_given env) (list_set env) (given_set env) Some ls (λ s. refl) (λ z k. refl) (λ z. refl) (inner env ls) (inner_traces env ls)
+given_traces env [] = stuck_none (read_given env) (spell_given env) None refl
+given_traces env (l ∷ ls) = stuck_here (read_given env) (spell_given env) None l ls _ (λ s. refl) refl
+
+-- ---- H
+
+-- what an entropy is of, and what is given
+abbrev pub Pair : Type 0
+Pair = WrittenList × Option WrittenList
+
+abbrev pub spell_pair : Environment → Pair → Marked → Marked
+spell_pair env p k = spell_list env p.0 (spell_given env p.1 k)
+
+abbrev pub joint_of : Environment → Pair → Atom
+joint_of env p = Entropy (list_set env p.0) (given_set env p.1)
+
+abbrev joint_inner : Environment → List Letter → Reads Atom
+joint_inner env ls = read_list env ls >>= λ a. read_given env a.1 >>= λ c. Ok (Entropy a.0 c.0, c.1)
+
+-- a list that goes on where one is missing
+pub some_list : WrittenList
+some_list = record { first = 88 ∷ []; more = [] }
+
+joint_inner_traces : (env : Environment) → Traces (joint_inner env) (spell_pair env) (joint_of env)
+joint_inner_traces env = traces_bind (read_list env) (λ a ls. read_given env ls >>= λ c. Ok (Entropy a c.0, c.1)) (joint_inner env) (spell_list env) (λ a. spell_given env) (spell_pair env) (list_set env) (λ a c. Entropy a (given_set env c)) (joint_of env) (λ a c. (a, c))
+    (record { is = λ ls. refl; spells = λ y z k. refl; value = λ y z. refl; some = None; first = list_traces env; second = λ a. traces_map (read_given env) (Entropy a) (spell_given env) (given_set env) (given_traces env) })
+
+-- an entropy behind its `H`
+pub joint_traces : (env : Environment) → Traces (read_joint env) (λ p k. clean (Sym LeftParen) ∷ spell_pair env p k) (joint_of env)
+unfolding read_joint opened some_list
+joint_traces env (Sym LeftParen ∷ ls) = letter_then (read_joint env) (joint_inner env) (Sym LeftParen) (spell_pair env) (λ p k. clean (Sym LeftParen) ∷ spell_pair env p k) (joint_of env) (joint_of env) (λ p. p) ls (λ s. refl) (λ z k. refl) (λ z. refl) (joint_inner env ls) (joint_inner_traces env ls)
+joint_traces env [] = stuck_none (read_joint env) (λ p k. clean (Sym LeftParen) ∷ spell_pair env p k) (some_list, None) refl
+joint_traces env (l ∷ ls) = stuck_here (read_joint env) (λ p k. clean (Sym LeftParen) ∷ spell_pair env p k) (some_list, None) l ls _ (λ s. refl) refl

@@ -1,0 +1,13 @@
+pub mod NameLemmas
+pub mod RunLemmas
+pub mod TokenLemmas
+pub mod ListLemmas
+pub mod TermLemmas
+pub mod SpelledIsRead
+pub mod Traces
+pub mod AtomTraces
+pub mod SideTraces
+pub mod FirstFaults
+pub mod RelationLemmas
+pub mod LimitLemmas
+pub mod SpanLemmas

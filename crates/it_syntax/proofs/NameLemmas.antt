@@ -1,0 +1,120 @@
+-- Names in lists: where one stands, and that they differ.
+use Rattle.std.proofs.Common.{◌≡◌, ℕ, suc, ◌<◌, ◌≤◌, Bool, true, false, cond, List, [], ◌∷◌, ◌++◌, length, get_or, Some, None, refl, sym, ap, ◌∙◌, subst, arith, append_assoc, nat_lt}
+use Rattle.std.specs.Prelude.{All, bytes_eq}
+use Rattle.std.specs.List.{position, position_or_len, IsDistinct, AllByRecursion}
+use Rattle.std.proofs.Common.{◌+◌, length-append, Vec, Global, map}
+use Rattle.std.proofs.lemmas.List.{get_or-map}
+use Rattle.std.proofs.lemmas.List.{append-nil}
+use Rattle.std.proofs.lemmas.List.Elements.{All-nil, All-cons, All-head, All-tail}
+use Rattle.std.proofs.lemmas.Slice.Eq.{bytes_eq-Decides}
+use Rattle.std.proofs.lemmas.List.Sums.{position_or_len_is, fails_before_first}
+use Rattle.std.proofs.lemmas.Bool.Decides.{nat_tests}
+use Rattle.it_syntax.specs.Vocabulary.{index_of, Vocabulary, IsVocabulary, IsNew}
+
+chosen_some : {A : Type 0} (b : Bool) (x y : A) → b ≡ true → cond b x y ≡ x
+chosen_some true x y e = refl
+chosen_some false x y e = absurd cc
+
+-- the first place that passes
+pub found_at : (p : List ℕ → Bool) (xs : List (List ℕ)) (i : ℕ) (d : List ℕ) → i < length xs → ((k : ℕ) → k < i → p (get_or xs k d) ≡ false) → p (get_or xs i d) ≡ true → position p xs ≡ Some i
+found_at p xs i d lt before at =
+    let e : position_or_len p xs ≡ i = position_or_len_is p xs i d (omega arith) before (λ _. at) in
+    rw e (chosen_some (nat_lt i (length xs)) (Some i) None (grind (arith, nat_tests)))
+
+chosen_none : {A : Type 0} (b : Bool) (x y : A) → b ≡ false → cond b x y ≡ y
+chosen_none false x y e = refl
+chosen_none true x y e = absurd cc
+
+-- no place passes
+pub found_nowhere : (p : List ℕ → Bool) (xs : List (List ℕ)) (d : List ℕ) → ((k : ℕ) → k < length xs → p (get_or xs k d) ≡ false) → position p xs ≡ None
+found_nowhere p xs d before =
+    let e : position_or_len p xs ≡ length xs = position_or_len_is p xs (length xs) d (omega arith) before (λ (lt : length xs < length xs). absurd (omega arith)) in
+    rw e (chosen_none (nat_lt (length xs) (length xs)) (Some (length xs)) None (grind (arith, nat_tests)))
+
+-- and back
+pub nowhere_fails : (p : List ℕ → Bool) (xs : List (List ℕ)) (d : List ℕ) → position p xs ≡ None → (k : ℕ) → k < length xs → p (get_or xs k d) ≡ false
+nowhere_fails p xs d none k lt = fails_before_first p xs k d (past (nat_lt (position_or_len p xs) (length xs)) refl none)
+  where
+    past : (b : Bool) → nat_lt (position_or_len p xs) (length xs) ≡ b → cond b (Some (position_or_len p xs)) None ≡ None → k < position_or_len p xs
+    past true e h = absurd cc
+    past false e h = grind (arith, nat_tests)
+
+all_fail : (p : List ℕ → Bool) (xs : List (List ℕ)) → ((k : ℕ) → k < length xs → p (get_or xs k []) ≡ false) → AllByRecursion (λ y. p y ≡ false) xs
+all_fail p [] h = tt
+all_fail p (x ∷ xs) h = (h 0 (omega arith), all_fail p xs (λ k lt. h (suc k) (omega arith)))
+
+-- a new name differs from each
+pub nowhere_all : (name : List ℕ) (xs : List (List ℕ)) → index_of xs name ≡ None → AllByRecursion (λ y. bytes_eq name y ≡ false) xs
+nowhere_all name xs none = all_fail (bytes_eq name) xs (nowhere_fails (bytes_eq name) xs [] none)
+
+turned : (xs ys : List ℕ) → bytes_eq xs ys ≡ false → bytes_eq ys xs ≡ false
+turned xs ys e = at (bytes_eq ys xs) refl
+  where
+    at : (b : Bool) → bytes_eq ys xs ≡ b → b ≡ false
+    at false h = refl
+    at true h =
+        let same : ys ≡ xs = (bytes_eq-Decides ys xs).0 h in
+        let is : bytes_eq xs ys ≡ true = subst (λ (zs : List ℕ). bytes_eq zs ys ≡ true) same (subst (λ (zs : List ℕ). bytes_eq ys zs ≡ true) (sym same) h) in
+        absurd cc
+
+all_insert : (p : List ℕ → Bool) (xs ys : List (List ℕ)) (name : List ℕ) → AllByRecursion (λ y. p y ≡ false) (xs ++ ys) → p name ≡ false → AllByRecursion (λ y. p y ≡ false) (xs ++ name ∷ ys)
+all_insert p [] ys name h e = (e, h)
+all_insert p (x ∷ xs) ys name h e = (h.0, all_insert p xs ys name h.1 e)
+
+all_join : (p : List ℕ → Bool) (xs ys : List (List ℕ)) → AllByRecursion (λ y. p y ≡ false) xs → AllByRecursion (λ y. p y ≡ false) ys → AllByRecursion (λ y. p y ≡ false) (xs ++ ys)
+all_join p [] ys h k = k
+all_join p (x ∷ xs) ys h k = (h.0, all_join p xs ys h.1 k)
+
+-- one more name that is none of these
+pub distinct_insert : (xs ys : List (List ℕ)) (name : List ℕ) → IsDistinct bytes_eq (xs ++ ys) → AllByRecursion (λ y. bytes_eq name y ≡ false) xs → AllByRecursion (λ y. bytes_eq name y ≡ false) ys → IsDistinct bytes_eq (xs ++ name ∷ ys)
+unfolding IsDistinct
+distinct_insert [] ys name d h k = (k, d)
+distinct_insert (x ∷ xs) ys name d h k = (all_insert (bytes_eq x) xs ys name d.0 (turned name x h.0), distinct_insert xs ys name d.1 h.1 k)
+
+short_insert : (P : List ℕ → Type 0) (xs ys : List (List ℕ)) (name : List ℕ) → All P (xs ++ ys) → P name → All P (xs ++ name ∷ ys)
+short_insert P [] ys name h n = All-cons P name ys n h
+short_insert P (x ∷ xs) ys name h n = All-cons P x (xs ++ name ∷ ys) (All-head P x (xs ++ ys) h) (short_insert P xs ys name (All-tail P x (xs ++ ys) h) n)
+
+abbrev IsShort : List ℕ → Type 0
+IsShort name = (1 ≤ length name) × (length name ≤ 16)
+
+-- ---- one more variable, one more rate, and none
+pub with_variable : (v : Vocabulary) (name : List ℕ) → IsVocabulary v → IsNew v name → 1 ≤ length name → length name ≤ 16 → length v.variables < 10 → IsVocabulary (record { variables = v.variables ++ name ∷ []; rates = v.rates })
+with_variable v name h new some short few =
+    let same : v.variables ++ name ∷ v.rates ≡ (v.variables ++ name ∷ []) ++ v.rates = sym (append_assoc v.variables (name ∷ []) v.rates) in
+    record {
+      few_variables = omega (arith, length-append v.variables (name ∷ []), few);
+      few_rates = h.few_rates;
+      short = subst (λ (names : List (List ℕ)). All IsShort names) same (short_insert IsShort v.variables v.rates name h.short (some, short));
+      distinct = subst (λ (names : List (List ℕ)). IsDistinct bytes_eq names) same (distinct_insert v.variables v.rates name h.distinct (nowhere_all name v.variables new.0) (nowhere_all name v.rates new.1));
+    }
+
+pub with_rate : (v : Vocabulary) (name : List ℕ) → IsVocabulary v → IsNew v name → 1 ≤ length name → length name ≤ 16 → length v.rates < 16 → IsVocabulary (record { variables = v.variables; rates = v.rates ++ name ∷ [] })
+with_rate v name h new some short few =
+    let same : (v.variables ++ v.rates) ++ name ∷ [] ≡ v.variables ++ (v.rates ++ name ∷ []) = append_assoc v.variables v.rates (name ∷ []) in
+    let all : List (List ℕ) = v.variables ++ v.rates in
+    let whole : all ++ [] ≡ all = append-nil all in
+    record {
+      few_variables = h.few_variables;
+      few_rates = omega (arith, length-append v.rates (name ∷ []), few);
+      short = subst (λ (names : List (List ℕ)). All IsShort names) same (short_insert IsShort all [] name (subst (λ (names : List (List ℕ)). All IsShort names) (sym whole) h.short) (some, short));
+      distinct = subst (λ (names : List (List ℕ)). IsDistinct bytes_eq names) same (distinct_insert all [] name (subst (λ (names : List (List ℕ)). IsDistinct bytes_eq names) (sym whole) h.distinct) (all_join (bytes_eq name) v.variables v.rates (nowhere_all name v.variables new.0) (nowhere_all name v.rates new.1)) tt);
+    }
+
+pub no_names : IsVocabulary (record { variables = []; rates = [] })
+unfolding IsDistinct
+no_names = record { few_variables = omega arith; few_rates = omega arith; short = All-nil IsShort; distinct = tt }
+
+-- the name that stands at an index
+pub item_at : (names : List (Vec ℕ Global)) (i : ℕ) (v : Vec ℕ Global) → i < length names → v ≡ get_or names i v → get_or (map (λ w. w.items) names) i [] ≡ v.items
+item_at names i v lt is = get_or-map (λ (w : Vec ℕ Global). w.items) names i v [] lt ∙ ap (λ (w : Vec ℕ Global). w.items) (sym is)
+
+-- one more place that fails
+pub fails_more : (p : List ℕ → Bool) (xs : List (List ℕ)) (i : ℕ) → ((k : ℕ) → k < i → p (get_or xs k []) ≡ false) → p (get_or xs i []) ≡ false → (k : ℕ) → k < i + 1 → p (get_or xs k []) ≡ false
+fails_more p xs i before here k lt = by (nat_lt k i) refl
+  where
+    by : (b : Bool) → nat_lt k i ≡ b → p (get_or xs k []) ≡ false
+    by true e = before k (grind (arith, nat_tests))
+    by false e =
+        let same : i ≡ k = grind (arith, nat_tests) in
+        subst (λ (j : ℕ). p (get_or xs j []) ≡ false) same here

@@ -1,0 +1,60 @@
+-- Runs of bytes of one kind, and the number that digits are.
+use Rattle.std.proofs.Common.{◌≡◌, ℕ, zero, suc, ◌+◌, ◌-◌, ◌*◌, ◌<◌, ◌≤◌, Bool, true, false, List, [], ◌∷◌, length, get_or, take, drop, refl, arith}
+use Rattle.it_syntax.specs.Spelling.{AreAll, Stops, is_digit, value_from}
+use Rattle.std.proofs.lemmas.Bool.Decides.{nat_tests}
+
+-- one more byte of the kind
+pub all_more : (f : ℕ → Bool) (xs : List ℕ) (i : ℕ) → i < length xs → AreAll f (take i xs) → f (get_or xs i 0) ≡ true → AreAll f (take (suc i) xs)
+all_more f [] i lt h e = tt
+all_more f (x ∷ xs) zero lt h e = (e, tt)
+all_more f (x ∷ xs) (suc i) lt h e = (h.0, all_more f xs i (omega arith) h.1 e)
+
+-- a byte of another kind
+pub stops_at : (f : ℕ → Bool) (xs : List ℕ) (i : ℕ) → i < length xs → f (get_or xs i 0) ≡ false → Stops f (drop i xs)
+stops_at f [] i lt e = absurd (omega arith)
+stops_at f (x ∷ xs) zero lt e = e
+stops_at f (x ∷ xs) (suc i) lt e = stops_at f xs i (omega arith) e
+
+-- the end
+pub stops_end : (f : ℕ → Bool) (xs : List ℕ) → Stops f (drop (length xs) xs)
+stops_end f [] = tt
+stops_end f (x ∷ xs) = stops_end f xs
+
+pub ruleset run_lemmas = (all_more, stops_at, stops_end)
+
+-- one digit more
+pub value_step : (n : ℕ) (ds : List ℕ) (i : ℕ) → i < length ds → value_from n (drop i ds) ≡ value_from (10 * n + (get_or ds i 0 - 48)) (drop (suc i) ds)
+value_step n [] i lt = absurd (omega arith)
+value_step n (d ∷ ds) zero lt = refl
+value_step n (d ∷ ds) (suc i) lt = value_step n ds i (omega arith)
+
+-- the next digit is one, and so are those behind it
+pub digit_step : (ds : List ℕ) (i : ℕ) → i < length ds → AreAll is_digit (drop i ds) → (48 ≤ get_or ds i 0) × ((get_or ds i 0 ≤ 57) × AreAll is_digit (drop (suc i) ds))
+digit_step [] i lt h = absurd (omega arith)
+digit_step (d ∷ ds) zero lt h = let e = h.0 in (digit_low d e, (digit_high d e, h.1))
+  where
+    digit_low : (d : ℕ) → is_digit d ≡ true → 48 ≤ d
+    digit_low d e = grind (arith, nat_tests)
+
+    digit_high : (d : ℕ) → is_digit d ≡ true → d ≤ 57
+    digit_high d e = grind (arith, nat_tests)
+digit_step (d ∷ ds) (suc i) lt h = digit_step ds i (omega arith) h
+
+-- digits behind a number make it no smaller
+pub value_grows : (n : ℕ) (ds : List ℕ) → n ≤ value_from n ds
+value_grows n [] = omega arith
+value_grows n (d ∷ ds) = omega (arith, value_grows (10 * n + (d - 48)) ds)
+
+-- no digit is left
+pub value_end : (n : ℕ) (ds : List ℕ) → value_from n (drop (length ds) ds) ≡ n
+value_end n [] = refl
+value_end n (d ∷ ds) = value_end n ds
+
+-- at an index past the end no digit is left
+pub value_past : (n : ℕ) (ds : List ℕ) (i : ℕ) → length ds ≤ i → value_from n (drop i ds) ≡ n
+value_past n [] zero le = refl
+value_past n [] (suc i) le = refl
+value_past n (d ∷ ds) zero le = absurd (omega arith)
+value_past n (d ∷ ds) (suc i) le = value_past n ds i (omega arith)
+
+pub ruleset value_lemmas = (value_step, digit_step, value_grows, value_end)

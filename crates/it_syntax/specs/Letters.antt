@@ -1,0 +1,26 @@
+-- A line as a list of letters: its tokens, and then its end. The grammar is stated over them, and marks what it has against one.
+use Rattle.std.specs.Prelude.{ℕ, List, map, Option, None}
+use Rattle.it_syntax.specs.declared.types.Symbol.{Symbol}
+use Rattle.it_syntax.specs.declared.types.Code.{Code}
+
+-- `Bad` stands for what is no token
+pub data Letter : Type 0 where
+  Word : (text : List ℕ) → Letter
+  Number : (value : ℕ) → Letter
+  Sym : (symbol : Symbol) → Letter
+  End : Letter
+  Bad : (code : Code) → Letter
+
+-- a letter, and the code of what the rules say against it where it stands
+abbrev pub Marked : Type 0
+Marked = List (Letter × Option Code)
+
+-- nothing is said against it
+abbrev pub clean : Letter → Letter × Option Code
+clean l = (l, None)
+
+abbrev pub letters : Marked → List Letter
+letters m = map (λ (x : Letter × Option Code). x.0) m
+
+abbrev pub cleaned : List Letter → Marked
+cleaned ls = map clean ls

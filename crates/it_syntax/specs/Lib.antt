@@ -1,0 +1,12 @@
+pub mod Vocabulary
+pub mod Meaning
+pub mod Faults
+pub mod Spelling
+pub mod Fronts
+pub mod Letters
+pub mod Spans
+pub mod Trees
+pub mod Reading
+pub mod FirstFault
+pub mod Gives
+pub mod Relations

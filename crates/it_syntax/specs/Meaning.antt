@@ -1,0 +1,55 @@
+-- What a relation says of entropies and rates, by cases on the tree that was read (Yeung 1997, "A Framework for Linear Information
+-- Inequalities"). A map p gives the number at each coordinate of n variables: p s the joint entropy of the set s, p 0 that of
+-- the empty set, p (2 ^ n + r) rate r.
+use Rattle.std.specs.Prelude.{◌≡◌, ℕ, ◌+◌, ◌<◌, ◌^◌, bit_or, ℤ, pos, neg_ℤ, ◌+ℤ◌, ◌-ℤ◌, ◌*ℤ◌, ◌≤ℤ◌, List, [], ◌∷◌, if◌then◌else◌}
+use Rattle.it_syntax.specs.declared.types.Atom.{Atom}
+use Rattle.it_syntax.specs.declared.types.Atom.TheVariants.{Nothing, Entropy, Mutual, Rate}
+use Rattle.it_syntax.specs.declared.types.Term.{Term}
+use Rattle.it_syntax.specs.declared.types.Sign.{Sign}
+use Rattle.it_syntax.specs.declared.types.Sign.TheVariants.{AtLeast, AtMost, Equal}
+use Rattle.it_syntax.specs.declared.types.Relation.{Relation}
+
+-- a relation as contracts compare it: each side by the list of its terms
+pub record Stated : Type 0 where
+  pub left : List Term
+  pub sign : Sign
+  pub right : List Term
+
+abbrev pub stated : Relation → Stated
+stated r = record { left = r.left.terms.items; sign = r.sign; right = r.right.terms.items }
+
+-- H(A|B) = h(A, B) - h(B) and I(A;B|C) = h(A, C) + h(B, C) - h(A, B, C) - h(C)
+abbrev pub atom_at : ℕ → (ℕ → ℤ) → Atom → ℤ
+atom_at n p Nothing = pos 0
+atom_at n p (Entropy of given) = p (bit_or of given) -ℤ p given
+atom_at n p (Mutual left right given) =
+    (p (bit_or left given) +ℤ p (bit_or right given)) -ℤ (p (bit_or (bit_or left right) given) +ℤ p given)
+atom_at n p (Rate r) = p (2 ^ n + r)
+
+abbrev pub term_at : ℕ → (ℕ → ℤ) → Term → ℤ
+term_at n p t = (if t.negative then neg_ℤ (pos t.number) else pos t.number) *ℤ atom_at n p t.atom
+
+-- the sum of the terms
+abbrev pub side_at : ℕ → (ℕ → ℤ) → List Term → ℤ
+side_at n p [] = pos 0
+side_at n p (t ∷ ts) = term_at n p t +ℤ side_at n p ts
+
+-- the left side less the right one
+abbrev pub difference_at : ℕ → (ℕ → ℤ) → Stated → ℤ
+difference_at n p r = side_at n p r.left -ℤ side_at n p r.right
+
+abbrev pub Compares : Sign → ℤ → ℤ → Type 0
+Compares AtLeast x y = y ≤ℤ x
+Compares AtMost x y = x ≤ℤ y
+Compares Equal x y = x ≡ y
+
+-- the relation is true of the map
+abbrev pub Holds : ℕ → (ℕ → ℤ) → Stated → Type 0
+Holds n p r = Compares r.sign (side_at n p r.left) (side_at n p r.right)
+
+-- its sets are sets of n variables, and its rates are among m
+abbrev pub IsAtomOf : ℕ → ℕ → Atom → Type 0
+IsAtomOf n m Nothing = Unit {0}
+IsAtomOf n m (Entropy of given) = (of < 2 ^ n) × (given < 2 ^ n)
+IsAtomOf n m (Mutual left right given) = (left < 2 ^ n) × (right < 2 ^ n) × (given < 2 ^ n)
+IsAtomOf n m (Rate r) = r < m

@@ -1,0 +1,29 @@
+-- The letters of a line's tokens, by the bytes that each token takes.
+use Rattle.std.proofs.Props.{props}
+use Rattle.std.specs.Prelude.{ℕ, ◌-◌, ◌≤◌, List, [], ◌∷◌, length, take, drop}
+use Rattle.it_syntax.specs.declared.types.Token.{Token}
+use Rattle.it_syntax.specs.declared.types.TokenKind.{TokenKind}
+use Rattle.it_syntax.specs.declared.types.TokenKind.TheVariants as kinds
+use Rattle.it_syntax.specs.Letters.{Letter, Word, Number, Sym, End}
+
+abbrev pub text_of : List ℕ → Token → List ℕ
+text_of line t = take (t.end - t.start) (drop t.start line)
+
+abbrev pub letter_of : List ℕ → ℕ → ℕ → TokenKind → Letter
+letter_of line start end kinds.Word = Word (take (end - start) (drop start line))
+letter_of line start end (kinds.Number n) = Number n
+letter_of line start end (kinds.Symbol s) = Sym s
+
+-- the tokens, and then the line's end
+abbrev pub letters_of : List ℕ → List Token → List Letter
+letters_of line [] = End ∷ []
+letters_of line (t ∷ ts) = letter_of line t.start t.end t.kind ∷ letters_of line ts
+
+-- each token takes bytes of the line
+abbrev pub InLine : List ℕ → List Token → Type 0
+InLine line [] = Unit {0}
+InLine line (t ∷ ts) = ((t.start ≤ t.end) × (t.end ≤ length line)) × InLine line ts
+
+pub InLine-prop : (line : List ℕ) (ts : List Token) → IsProp (InLine line ts)
+InLine-prop line [] = hlevel
+InLine-prop line (t ∷ ts) = hlevel (props, InLine-prop line ts)

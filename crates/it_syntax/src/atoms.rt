@@ -1,0 +1,125 @@
+//! Readers of entropies and mutual informations.
+ghost use Rattle.it_syntax.specs.Gives.{Gives, Passes, left};
+ghost use Rattle.it_syntax.specs.Reading.{closed, opened, divided, bar_or_close, read_given, read_joint, read_mutual, read_atom};
+ghost use Rattle.it_syntax.specs.Relations.{env_of};
+
+use crate::lists::{ENTROPY, MUTUAL, list};
+use crate::names::Names;
+use crate::rest::{Piece, Rest, Stop};
+use crate::types::{Atom, Code, Symbol};
+use it_space::VarSet;
+
+/// The set, behind which `)` must stand.
+#[tactic(auto, unfolding(crate::specs::Reading::closed))]
+fn closed(set: VarSet, rest: &mut Rest<'_>) -> Result<VarSet, Stop>
+    ensures { Gives result (left rest.new) (closed set (left rest.old)) }
+{
+    match rest.front() {
+        (Piece::Symbol(Symbol::RightParen), behind) => {
+            *rest = behind;
+            Ok(set)
+        }
+        _ => Err(Stop::Fault(Code::Word)),
+    }
+}
+
+#[tactic(auto, unfolding(crate::specs::Reading::opened))]
+fn opened(rest: &mut Rest<'_>) -> Result<(), Stop>
+    ensures { Passes result (left rest.new) (opened (left rest.old)) }
+{
+    match rest.front() {
+        (Piece::Symbol(Symbol::LeftParen), behind) => {
+            *rest = behind;
+            Ok(())
+        }
+        _ => Err(Stop::Fault(Code::Word)),
+    }
+}
+
+#[tactic(auto, unfolding(crate::specs::Reading::divided))]
+fn divided(rest: &mut Rest<'_>) -> Result<(), Stop>
+    ensures { Passes result (left rest.new) (divided (left rest.old)) }
+{
+    match rest.front() {
+        (Piece::Symbol(Symbol::Semicolon), behind) => {
+            *rest = behind;
+            Ok(())
+        }
+        _ => Err(Stop::Fault(Code::Word)),
+    }
+}
+
+/// Whether `|` stands there, and not `)`.
+#[tactic(auto, unfolding(crate::specs::Reading::bar_or_close))]
+fn bar_or_close(rest: &mut Rest<'_>) -> Result<bool, Stop>
+    ensures { Gives result (left rest.new) (bar_or_close (left rest.old)) }
+{
+    match rest.front() {
+        (Piece::Symbol(Symbol::Bar), behind) => {
+            *rest = behind;
+            Ok(true)
+        }
+        (Piece::Symbol(Symbol::RightParen), behind) => {
+            *rest = behind;
+            Ok(false)
+        }
+        _ => Err(Stop::Fault(Code::Word)),
+    }
+}
+
+/// What is given, up to `)`.
+#[tactic(auto, unfolding(crate::specs::Reading::read_given))]
+fn given(rest: &mut Rest<'_>, names: &Names) -> Result<VarSet, Stop>
+    ensures { Gives result (left rest.new) (read_given (env_of names.now) (left rest.old)) }
+{
+    if bar_or_close(rest)? {
+        let set = list(rest, names)?;
+        closed(set, rest)
+    } else {
+        Ok(VarSet::empty())
+    }
+}
+
+/// An entropy, behind its `H`.
+#[tactic(auto, unfolding(crate::specs::Reading::read_joint))]
+fn joint(rest: &mut Rest<'_>, names: &Names) -> Result<Atom, Stop>
+    ensures { Gives result (left rest.new) (read_joint (env_of names.now) (left rest.old)) }
+{
+    opened(rest)?;
+    let of = list(rest, names)?;
+    let given = given(rest, names)?;
+    Ok(Atom::Entropy { of, given })
+}
+
+/// A mutual information, behind its `I`.
+#[tactic(auto, unfolding(crate::specs::Reading::read_mutual))]
+fn mutual(rest: &mut Rest<'_>, names: &Names) -> Result<Atom, Stop>
+    ensures { Gives result (left rest.new) (read_mutual (env_of names.now) (left rest.old)) }
+{
+    opened(rest)?;
+    let left = list(rest, names)?;
+    divided(rest)?;
+    let right = list(rest, names)?;
+    let given = given(rest, names)?;
+    Ok(Atom::Mutual { left, right, given })
+}
+
+#[tactic(auto, unfolding(crate::specs::Reading::read_atom))]
+pub fn atom(rest: &mut Rest<'_>, names: &Names) -> Result<Atom, Stop>
+    ensures { Gives result (left rest.new) (read_atom (env_of names.now) (left rest.old)) }
+{
+    match rest.front() {
+        (Piece::Word(word), behind) => {
+            if word == ENTROPY {
+                *rest = behind;
+                joint(rest, names)
+            } else if word == MUTUAL {
+                *rest = behind;
+                mutual(rest, names)
+            } else {
+                Err(Stop::Fault(Code::Word))
+            }
+        }
+        _ => Err(Stop::Fault(Code::Word)),
+    }
+}

@@ -1,0 +1,20 @@
+//! Laws of the definitions that the contracts cite.
+ghost use Rattle.it_syntax.specs.Spelling.{TokensAreOne};
+ghost use Rattle.it_syntax.specs.Relations.{RelationIsOne, ReadingStopsFirst, FaultIsOne};
+
+/// A line has at most one reading as tokens.
+#[tactic(auto, using(crate::proofs::TokenLemmas::tokens_are_one))]
+pub fn tokens_are_one()
+    ensures { TokensAreOne }
+{}
+
+/// Tokens have at most one reading as a relation.
+pub fn relation_is_one()
+    ensures { RelationIsOne }
+{}
+
+/// Tokens that are no relation have one first fault, and there the reading stops.
+pub fn first_fault()
+    ensures first { ReadingStopsFirst }
+    ensures one { FaultIsOne }
+{}

@@ -1,0 +1,21 @@
+//! The tokens of a line, names, and relations between sums of entropies.
+#![tactic(auto)]
+
+mod atoms;
+mod laws;
+mod lists;
+mod names;
+mod pieces;
+mod relations;
+mod rest;
+mod runs;
+mod scanner;
+mod sides;
+#[cfg(test)]
+mod tests;
+pub mod types;
+
+pub use laws::{first_fault, relation_is_one, tokens_are_one};
+pub use names::Names;
+pub use relations::relation;
+pub use scanner::tokens;

@@ -1,0 +1,123 @@
+//! The names of variables and rates.
+ghost use Rattle.std.specs.Prelude.{◌≡◌, ℕ, ◌<◌, ◌≤◌, ◌++◌, [], ◌∷◌, length, Some, slice_get, OnOk, OnErr, IfSome, map};
+ghost use Rattle.it_syntax.specs.Vocabulary.{index_of, IsNew, IsVocabulary};
+
+use it_space::Space;
+use std::alloc::{AllocError, Global};
+use std::marker::Model;
+
+/// The variables and rates of a question by name, each kind counted from 0 in order of declaration.
+#[derive(Debug, Drop)]
+pub struct Names {
+    alloc: Global,
+    variables: Vec<Vec<u8>>,
+    rates: Vec<Vec<u8>>,
+}
+
+impl Model for Names {
+    ghost use Rattle.std.specs.Prelude.{map};
+    ghost use Rattle.it_syntax.specs.Vocabulary.{Vocabulary, IsVocabulary};
+
+    ghost Value = { Vocabulary };
+
+    ghost view = { λ n. record { variables = map (λ v. v.items) n.variables.items; rates = map (λ v. v.items) n.rates.items } };
+
+    ghost invariant = { λ n. IsVocabulary (record { variables = map (λ v. v.items) n.variables.items; rates = map (λ v. v.items) n.rates.items }) };
+}
+
+impl Names {
+    /// No names yet.
+    pub fn new(alloc: Global) -> Names
+        ensures { result ≡ record { variables = []; rates = [] } }
+    {
+        Names {
+            alloc,
+            variables: Vec::new(alloc),
+            rates: Vec::new(alloc),
+        }
+    }
+
+    /// Declares one more variable; after want of memory nothing has changed.
+    pub fn add_variable(&mut self, name: &[u8]) -> Result<(), AllocError>
+        requires new { IsNew self.old name.now }
+        requires some { 1 ≤ length name.now }
+        requires short { length name.now ≤ 16 }
+        requires few { length self.old.variables < 10 }
+        ensures added { OnOk result (self.new ≡ record { variables = self.old.variables ++ name.now ∷ []; rates = self.old.rates }) }
+        ensures unchanged { OnErr result (self.new ≡ self.old) }
+    {
+        let name = Vec::from_slice(self.alloc, name)?;
+        self.variables.push(name)?;
+        Ok(())
+    }
+
+    /// Declares one more rate; after want of memory nothing has changed.
+    pub fn add_rate(&mut self, name: &[u8]) -> Result<(), AllocError>
+        requires new { IsNew self.old name.now }
+        requires some { 1 ≤ length name.now }
+        requires short { length name.now ≤ 16 }
+        requires few { length self.old.rates < 16 }
+        ensures added { OnOk result (self.new ≡ record { variables = self.old.variables; rates = self.old.rates ++ name.now ∷ [] }) }
+        ensures unchanged { OnErr result (self.new ≡ self.old) }
+    {
+        let name = Vec::from_slice(self.alloc, name)?;
+        self.rates.push(name)?;
+        Ok(())
+    }
+
+    /// The variable of this name, and None exactly where there is none.
+    pub fn variable(&self, name: &[u8]) -> Option<u8>
+        ensures index { result ≡ index_of self.now.variables name.now }
+        ensures within { IfSome result (λ i. i < length self.now.variables) }
+        ensures vocabulary { IsVocabulary self.now }
+    {
+        index_in(&self.variables, name)
+    }
+
+    /// The rate of this name, and None exactly where there is none.
+    pub fn rate(&self, name: &[u8]) -> Option<u8>
+        ensures index { result ≡ index_of self.now.rates name.now }
+        ensures within { IfSome result (λ i. i < length self.now.rates) }
+        ensures vocabulary { IsVocabulary self.now }
+    {
+        index_in(&self.rates, name)
+    }
+
+    pub fn variable_name(&self, i: u8) -> &[u8]
+        requires { i < length self.now.variables }
+        ensures { slice_get self.now.variables i ≡ Some result.now }
+    {
+        self.variables[i as usize].as_slice()
+    }
+
+    pub fn rate_name(&self, i: u8) -> &[u8]
+        requires { i < length self.now.rates }
+        ensures { slice_get self.now.rates i ≡ Some result.now }
+    {
+        self.rates[i as usize].as_slice()
+    }
+
+    /// How many variables and rates there are.
+    pub fn space(&self) -> Space
+        ensures counts { result ≡ record { variables = length self.now.variables; rates = length self.now.rates } }
+        ensures vocabulary { IsVocabulary self.now }
+    {
+        Space {
+            variables: self.variables.len() as u8,
+            rates: self.rates.len() as u8,
+        }
+    }
+}
+
+fn index_in(names: &[Vec<u8>], name: &[u8]) -> Option<u8>
+    requires { length names.now ≤ 16 }
+    ensures index { result ≡ index_of (map (λ v. v.items) names.now) name.now }
+    ensures within { IfSome result (λ i. i < length names.now) }
+{
+    for (i, known) in names.iter().enumerate() {
+        if name == known.as_slice() {
+            return Some(i as u8);
+        }
+    }
+    None
+}

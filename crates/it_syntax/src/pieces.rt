@@ -1,0 +1,40 @@
+//! The pieces of a line, one after the other.
+ghost use Rattle.std.specs.Prelude.{◌≡◌, ◌≤◌, length};
+ghost use Rattle.it_syntax.specs.Gives.{with_front, left};
+ghost use Rattle.it_syntax.specs.Spans.{text_of};
+
+use crate::rest::{Piece, Rest};
+use crate::types::{Token, TokenKind};
+
+fn text<'a>(line: &'a [u8], token: &Token) -> &'a [u8]
+    requires order { token.now.start ≤ token.now.end }
+    requires inside { token.now.end ≤ length line.now }
+    ensures { result.now ≡ text_of line.now token.now }
+{
+    &line[token.start as usize..token.end as usize]
+}
+
+impl<'a> Rest<'a> {
+    /// The first piece, and what is behind it; nothing is behind the end.
+    pub fn front(self) -> (Piece<'a>, Rest<'a>)
+        ensures { left self.entry ≡ with_front result.0 (left result.1) }
+    {
+        match self.tokens {
+            [first, tail @ ..] => {
+                let piece = match first.kind {
+                    TokenKind::Word => Piece::Word(text(self.line, first)),
+                    TokenKind::Number(n) => Piece::Number(n),
+                    TokenKind::Symbol(s) => Piece::Symbol(s),
+                };
+                (
+                    piece,
+                    Rest {
+                        line: self.line,
+                        tokens: tail,
+                    },
+                )
+            }
+            [] => (Piece::End, self),
+        }
+    }
+}

@@ -1,0 +1,29 @@
+//! What is left of a line.
+ghost use Rattle.it_syntax.specs.Spans.{InLine, InLine-prop};
+
+use crate::types::{Code, Symbol, Token};
+
+/// A piece of a line: a token, or the line's end.
+#[derive(Clone, Copy, Debug)]
+pub enum Piece<'a> {
+    Word(&'a [u8]),
+    Number(u64),
+    Symbol(Symbol),
+    End,
+}
+
+/// The tokens that are left of a line. A reader takes from the front what it reads, and at a fault leaves it at the
+/// token that the fault is at.
+#[derive(Clone, Copy)]
+pub struct Rest<'a> {
+    pub line: &'a [u8],
+    pub tokens: &'a [Token],
+    pub ghost inside: { InLine line.now tokens.now } by { InLine-prop line.now tokens.now },
+}
+
+/// Why a reader stopped: memory, or a fault at the first of what is left.
+#[derive(Clone, Copy, Debug)]
+pub enum Stop {
+    Memory,
+    Fault(Code),
+}

@@ -1,0 +1,86 @@
+//! What stands at the front of some bytes: spaces, digits, the bytes of a word, a symbol.
+ghost use Rattle.std.specs.Prelude.{◌≡◌};
+ghost use Rattle.it_syntax.specs.Spelling.{is_letter, is_digit, is_word_byte, is_space};
+ghost use Rattle.it_syntax.specs.Fronts.{Run, symbol_of};
+
+use crate::types::Symbol;
+
+pub fn is_letter(b: u8) -> bool
+    ensures { result ≡ is_letter b }
+{
+    (b'A' <= b && b <= b'Z') || (b'a' <= b && b <= b'z')
+}
+
+pub fn is_digit(b: u8) -> bool
+    ensures { result ≡ is_digit b }
+{
+    b'0' <= b && b <= b'9'
+}
+
+#[tactic(auto, unfolding(crate::specs::Spelling::is_word_byte))]
+fn is_word_byte(b: u8) -> bool
+    ensures { result ≡ is_word_byte b }
+{
+    is_letter(b) || (is_digit(b) || b == b'_')
+}
+
+/// The number of spaces in front.
+#[tactic(auto, using(crate::proofs::RunLemmas::run_lemmas))]
+pub fn spaces(bytes: &[u8]) -> usize
+    ensures { Run is_space bytes.now result }
+{
+    for (i, b) in bytes.iter().enumerate() {
+        if *b != b' ' {
+            return i;
+        }
+    }
+    bytes.len()
+}
+
+/// The number of word bytes in front.
+#[tactic(auto, using(crate::proofs::RunLemmas::run_lemmas))]
+pub fn word_bytes(bytes: &[u8]) -> usize
+    ensures { Run is_word_byte bytes.now result }
+{
+    for (i, b) in bytes.iter().enumerate() {
+        if !is_word_byte(*b) {
+            return i;
+        }
+    }
+    bytes.len()
+}
+
+/// The number of digits in front.
+#[tactic(auto, using(crate::proofs::RunLemmas::run_lemmas))]
+pub fn digits(bytes: &[u8]) -> usize
+    ensures { Run is_digit bytes.now result }
+{
+    for (i, b) in bytes.iter().enumerate() {
+        if !is_digit(*b) {
+            return i;
+        }
+    }
+    bytes.len()
+}
+
+/// The longest symbol in front.
+#[tactic(auto, unfolding(crate::specs::Fronts::symbol_of))]
+pub fn symbol(bytes: &[u8]) -> Option<Symbol>
+    ensures { result ≡ symbol_of bytes.now }
+{
+    match bytes {
+        [b'(', ..] => Some(Symbol::LeftParen),
+        [b')', ..] => Some(Symbol::RightParen),
+        [b',', ..] => Some(Symbol::Comma),
+        [b';', ..] => Some(Symbol::Semicolon),
+        [b'|', ..] => Some(Symbol::Bar),
+        [b'+', ..] => Some(Symbol::Plus),
+        [b'-', b'>', ..] => Some(Symbol::Arrow),
+        [b'-', ..] => Some(Symbol::Minus),
+        [b'>', b'=', ..] => Some(Symbol::AtLeast),
+        [b'<', b'=', ..] => Some(Symbol::AtMost),
+        [b'=', ..] => Some(Symbol::Equal),
+        [b':', b'=', ..] => Some(Symbol::Assign),
+        _ => None,
+    }
+}

@@ -1,0 +1,132 @@
+//! What reading a line gives: tokens, relations, and faults.
+
+use it_space::VarSet;
+use std::alloc::{AllocError, AllocFailed};
+
+/// The symbols, in order: `(` `)` `,` `;` `|` `+` `-` `->` `>=` `<=` `=` `:=`.
+#[derive(Clone, Copy, Debug, PartialEq, Eq)]
+pub enum Symbol {
+    LeftParen,
+    RightParen,
+    Comma,
+    Semicolon,
+    Bar,
+    Plus,
+    Minus,
+    Arrow,
+    AtLeast,
+    AtMost,
+    Equal,
+    Assign,
+}
+
+#[derive(Clone, Copy, Debug, PartialEq, Eq)]
+pub enum TokenKind {
+    Word,
+    Number(u64),
+    Symbol(Symbol),
+}
+
+/// A token and the bytes of its line that it takes: from `start` to `end`, counted from 0, without the byte at `end`.
+#[derive(Clone, Copy, Debug, PartialEq, Eq)]
+pub struct Token {
+    pub kind: TokenKind,
+    pub start: u32,
+    pub end: u32,
+}
+
+/// What is wrong with a line: a byte that begins no token; a word that no rule allows there; an unknown name; a name
+/// that is taken; a number that is too large; something past a limit; a file that ends too early; a form that isn't
+/// read yet.
+#[derive(Clone, Copy, Debug, PartialEq, Eq)]
+pub enum Code {
+    Byte,
+    Word,
+    Name,
+    Twice,
+    Number,
+    Many,
+    Unfinished,
+    Later,
+}
+
+/// Why a line wasn't read: memory ran out, or a fault at a column, counted from 1.
+#[derive(Clone, Copy, Debug, PartialEq, Eq)]
+pub enum SyntaxFault {
+    Memory,
+    Fault { column: u32, code: Code },
+}
+
+impl From<AllocError> for SyntaxFault {
+    ghost use Rattle.std.specs.Prelude.{◌≡◌};
+    ghost use Rattle.it_syntax.specs.declared.types.SyntaxFault.TheVariants.{Memory};
+
+    ghost from_gives = { λ _ e. e ≡ Memory };
+
+    fn from(_error: AllocError) -> SyntaxFault {
+        SyntaxFault::Memory
+    }
+}
+
+impl<T: Drop> From<AllocFailed<T>> for SyntaxFault {
+    ghost use Rattle.std.specs.Prelude.{◌≡◌};
+    ghost use Rattle.it_syntax.specs.declared.types.SyntaxFault.TheVariants.{Memory};
+
+    ghost from_gives = { λ _ e. e ≡ Memory };
+
+    fn from(_error: AllocFailed<T>) -> SyntaxFault {
+        SyntaxFault::Memory
+    }
+}
+
+/// The one fault until each is told at its place.
+pub(crate) const LATER: SyntaxFault = SyntaxFault::Fault {
+    column: 1,
+    code: Code::Later,
+};
+
+/// How the sides of a relation compare: `>=`, `<=` or `=`.
+#[derive(Clone, Copy, Debug, PartialEq, Eq)]
+pub enum Sign {
+    AtLeast,
+    AtMost,
+    Equal,
+}
+
+/// What a term counts: nothing, for a number 0 that stands alone; the entropy H(of|given); the mutual information
+/// I(left;right|given); a rate, by its number. Where nothing is given the set is empty.
+#[derive(Clone, Copy, Debug, PartialEq, Eq)]
+pub enum Atom {
+    Nothing,
+    Entropy {
+        of: VarSet,
+        given: VarSet,
+    },
+    Mutual {
+        left: VarSet,
+        right: VarSet,
+        given: VarSet,
+    },
+    Rate(u8),
+}
+
+/// A number of times an atom. An atom without a number stands once.
+#[derive(Clone, Copy, Debug, PartialEq, Eq)]
+pub struct Term {
+    pub negative: bool,
+    pub number: u64,
+    pub atom: Atom,
+}
+
+/// One side of a relation: the sum of its terms, as they were written.
+#[derive(Debug, Drop)]
+pub struct Expr {
+    pub terms: Vec<Term>,
+}
+
+#[derive(Debug, Drop)]
+pub struct Relation {
+    pub left: Expr,
+    pub sign: Sign,
+    pub right: Expr,
+}
