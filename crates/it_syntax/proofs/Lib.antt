@@ -11,3 +11,4 @@ pub mod FirstFaults
 pub mod RelationLemmas
 pub mod LimitLemmas
 pub mod SpanLemmas
+pub mod WordLengths

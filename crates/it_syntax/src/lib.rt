@@ -7,7 +7,7 @@ mod lists;
 mod names;
 mod pieces;
 mod relations;
-mod rest;
+pub mod rest;
 mod runs;
 mod scanner;
 mod sides;

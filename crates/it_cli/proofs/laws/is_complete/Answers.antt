@@ -1,0 +1,5 @@
+use Rattle.it_cli.proofs.EndLemmas as proof
+use Rattle.it_cli.proofs.laws.is_complete.Goals as goal
+
+pub returns : goal.returns
+returns c = proof.is_complete

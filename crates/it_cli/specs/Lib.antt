@@ -1,0 +1,7 @@
+pub mod Questions
+pub mod Readings
+pub mod Lines
+pub mod Closed
+pub mod Right
+pub mod Ends
+pub mod Numbers
