@@ -7,13 +7,14 @@ use Rattle.std.specs.Int.{bit_at}
 use Rattle.it_polymatroid.specs.Polymatroid.{IsPolymatroid}
 use Rattle.it_polymatroid.proofs.Halves.{ElementalsHold}
 
-with_pow : (k i : ℕ) → bit_at k i ≡ 0 → bit_or k (2 ^ i) ≡ k + 2 ^ i
+-- a set with one variable more
+pub with_pow : (k i : ℕ) → bit_at k i ≡ 0 → bit_or k (2 ^ i) ≡ k + 2 ^ i
 with_pow k i z = or_disjoint k (2 ^ i) (and_pow k i ∙ ap (λ n. n * 2 ^ i) z ∙ omega arith)
 
 pow_lt : (i n : ℕ) → i < n → 2 ^ i < 2 ^ n
 pow_lt i n h = pow_below i n h
 
-with_lt : (n k i : ℕ) → i < n → k < 2 ^ n → bit_at k i ≡ 0 → k + 2 ^ i < 2 ^ n
+pub with_lt : (n k i : ℕ) → i < n → k < 2 ^ n → bit_at k i ≡ 0 → k + 2 ^ i < 2 ^ n
 with_lt n k i hi hk z = rw (← with_pow k i z) (or_lt n k (2 ^ i) hk (pow_below i n hi))
 
 still_lacks : (k i j : ℕ) → i < j → bit_at k i ≡ 0 → bit_at k j ≡ 0 → bit_at (k + 2 ^ i) j ≡ 0

@@ -3,3 +3,4 @@ pub mod Halves
 pub mod Instances
 pub mod Generate
 pub mod TableLemmas
+pub mod Images
