@@ -1,0 +1,171 @@
+//! Fractions in lowest terms.
+ghost use Rattle.std.specs.Prelude.{◌≡◌, ◌≢◌, ◌<◌, pos, unsigned_abs, true, false, IsTrue, ◌↔◌, OkIff};
+ghost use Rattle.std.specs.Bool.{OnTrue, OnFalse};
+ghost use Rattle.std.specs.Int.{IsGcd};
+ghost use Rattle.it_number.specs.Limit.{IsWithin};
+ghost use Rattle.it_rational.specs.Rational.{inverse, is_at_least_zero, minus, plus, quotient, times, whole};
+ghost use Rattle.it_fraction.specs.Fits.{DifferenceFits, IsNarrow, SumFits};
+ghost use Rattle.it_fraction.specs.Sign.{sign_of};
+
+use crate::products::{parts_product, whole_product};
+use crate::sums::{parts_sum, whole_sum};
+use std::marker::Model;
+
+/// A number that an operation names is more than 2^127 - 1 in absolute value.
+#[derive(Debug, Clone, Copy, PartialEq, Eq)]
+pub struct Wide;
+
+/// A rational number in lowest terms, whose numerator is at most 2^127 - 1 in absolute value and
+/// whose denominator is from 1 to 2^127 - 1.
+#[derive(Clone, Copy)]
+pub struct Fraction {
+    top: i128,
+    bottom: u128,
+    ghost some: { 0 < bottom },
+    ghost lowest: { IsGcd (unsigned_abs top) bottom 1 },
+}
+
+impl Model for Fraction {
+    ghost use Rattle.std.specs.Prelude.{pos};
+    ghost use Rattle.it_number.specs.Limit.{IsWithin};
+    ghost use Rattle.it_rational.specs.Rational.{Rational};
+
+    ghost Value = { Rational };
+
+    ghost view = { λ f. record { num = f.top; den = f.bottom; positive = f.some; lowest = f.lowest } };
+
+    ghost inverse = { λ q. record { top = q.num; bottom = q.den; some = q.positive; lowest = q.lowest } };
+
+    ghost invariant = { λ f. (IsWithin f.top) × (IsWithin (pos f.bottom)) };
+}
+
+// the fraction of parts in lowest terms
+pub fn made(top: i128, bottom: u128) -> Fraction
+    requires top_within { IsWithin top }
+    requires bottom_within { IsWithin (pos bottom) }
+    requires some { 0 < bottom }
+    requires lowest { IsGcd (unsigned_abs top) bottom 1 }
+    ensures { result ≡ quotient top bottom }
+{
+    Fraction { top, bottom }
+}
+
+impl Fraction {
+    pub fn whole(value: i128) -> Fraction
+        requires { IsWithin value }
+        ensures { result ≡ whole value }
+    {
+        made(value, 1)
+    }
+
+    /// The numerator in lowest terms.
+    pub fn num(self) -> i128
+        ensures value { result ≡ self.num }
+        ensures within { IsWithin result }
+    {
+        self.top
+    }
+
+    /// The denominator in lowest terms, at least 1.
+    pub fn den(self) -> i128
+        ensures value { result ≡ pos self.den }
+        ensures within { IsWithin result }
+    {
+        self.bottom as i128
+    }
+
+    pub fn is_zero(self) -> bool
+        ensures { IsTrue result ↔ (self.num ≡ pos 0) }
+    {
+        self.top == 0
+    }
+
+    pub fn is_negative(self) -> bool
+        ensures yes { OnTrue result (is_at_least_zero self ≡ false) }
+        ensures no { OnFalse result (is_at_least_zero self ≡ true) }
+    {
+        if self.top < 0 { true } else { false }
+    }
+
+    #[tactic(auto, using(crate::proofs::Signs::minus_below, crate::proofs::Signs::minus_least))]
+    pub fn is_positive(self) -> bool
+        ensures yes { OnTrue result (is_at_least_zero (minus self) ≡ false) }
+        ensures no { OnFalse result (is_at_least_zero (minus self) ≡ true) }
+    {
+        if self.top > 0 { true } else { false }
+    }
+
+    /// -1, 0 or 1.
+    pub fn sign(self) -> i8
+        ensures { result ≡ sign_of self }
+    {
+        self.top.signum() as i8
+    }
+
+    pub fn neg(self) -> Fraction
+        ensures { result ≡ minus self }
+    {
+        made(-self.top, self.bottom)
+    }
+
+    /// The sum, by way of the greatest common divisor of the denominators
+    /// (Knuth, The Art of Computer Programming vol. 2, 4.5.1).
+    #[inline]
+    pub fn add(self, other: Fraction) -> Result<Fraction, Wide>
+        ensures { OkIff result (SumFits self other) (plus self other) }
+    {
+        if self.bottom == 1 && other.bottom == 1 {
+            return whole_sum(self.top, other.top);
+        }
+        if self.is_zero() {
+            return Ok(other);
+        }
+        if other.is_zero() {
+            return Ok(self);
+        }
+        parts_sum(self.top, self.bottom, other.top, other.bottom)
+    }
+
+    /// The difference, as the sum with the other number negated.
+    #[inline]
+    pub fn sub(self, other: Fraction) -> Result<Fraction, Wide>
+        ensures { OkIff result (DifferenceFits self other) (plus self (minus other)) }
+    {
+        self.add(other.neg())
+    }
+
+    /// The product, whose common divisors are taken out before anything is multiplied.
+    #[inline]
+    pub fn mul(self, other: Fraction) -> Result<Fraction, Wide>
+        ensures { OkIff result (IsNarrow (times self other)) (times self other) }
+    {
+        if self.bottom == 1 && other.bottom == 1 {
+            return whole_product(self.top, other.top);
+        }
+        if self.is_zero() || other.is_zero() {
+            return Ok(Fraction::whole(0));
+        }
+        parts_product(self.top, self.bottom, other.top, other.bottom)
+    }
+
+    #[inline]
+    pub fn div(self, other: Fraction) -> Result<Fraction, Wide>
+        requires { other.num ≢ pos 0 }
+        ensures { OkIff result (IsNarrow (times self (inverse other))) (times self (inverse other)) }
+    {
+        self.mul(other.turned())
+    }
+
+    // 1 over this number
+    fn turned(self) -> Fraction
+        requires { self.num ≢ pos 0 }
+        ensures { result ≡ inverse self }
+    {
+        let bottom = self.top.unsigned_abs();
+        if self.top < 0 {
+            made(-(self.bottom as i128), bottom)
+        } else {
+            made(self.bottom as i128, bottom)
+        }
+    }
+}
