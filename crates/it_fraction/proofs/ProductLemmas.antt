@@ -21,7 +21,8 @@ use native.Mathlib.Nat.{div-mul_cancel, dvd-mul_right_of_dvd}
 rest_divides : (a g : ℕ) → g ∣ a → a / g ∣ a
 rest_divides a g h = subst (λ n. a / g ∣ n) (div-mul_cancel g h) (dvd-mul_right_of_dvd (a / g) (dvd_refl (a / g)) g)
 
-rest_pos : (a g : ℕ) → g ∣ a → 0 < a → 0 < a / g
+-- what is left of a number above 0 is above 0
+pub rest_pos : (a g : ℕ) → g ∣ a → 0 < a → 0 < a / g
 rest_pos a g h p = some (a / g) (div-mul_cancel g h)
   where
     some : (k : ℕ) → k * g ≡ a → 0 < k

@@ -1,14 +1,22 @@
 //! Fractions in lowest terms.
 ghost use Rattle.std.specs.Prelude.{◌≡◌, ◌≢◌, ◌<◌, pos, unsigned_abs, true, false, IsTrue, ◌↔◌, OkIff};
 ghost use Rattle.std.specs.Bool.{OnTrue, OnFalse};
+ghost use Rattle.std.specs.Cmp.{eq_by_cmp_equiv, partial_equiv_from_equiv, partial_order_from_agreeing_total};
+ghost use Rattle.std.specs.Cmp.Rules.{comparing};
 ghost use Rattle.std.specs.Int.{IsGcd};
+ghost use Rattle.std.specs.Ordering.{as_partial_cmp, eq_by_cmp};
+ghost use Rattle.std.proofs.Common.{rules};
 ghost use Rattle.it_number.specs.Limit.{IsWithin};
-ghost use Rattle.it_rational.specs.Rational.{inverse, is_at_least_zero, minus, plus, quotient, times, whole};
+ghost use Rattle.it_rational.specs.Rational.{inverse, is_at_least_zero, minus, plus, quotient, ratio, rational_cmp, times, whole};
+ghost use Rattle.it_rational.proofs.Total.{rational_total};
 ghost use Rattle.it_fraction.specs.Fits.{DifferenceFits, IsNarrow, SumFits};
 ghost use Rattle.it_fraction.specs.Sign.{sign_of};
 
+use crate::order::compare_parts;
 use crate::products::{parts_product, whole_product};
+use crate::steps::{common, part, signed_part};
 use crate::sums::{parts_sum, whole_sum};
+use std::cmp::Ordering;
 use std::marker::Model;
 
 /// A number that an operation names is more than 2^127 - 1 in absolute value.
@@ -50,12 +58,38 @@ pub fn made(top: i128, bottom: u128) -> Fraction
     Fraction { top, bottom }
 }
 
+// num / den
+fn reduced(num: i128, den: u128) -> Fraction
+    requires num_within { IsWithin num }
+    requires den_within { IsWithin (pos den) }
+    requires den_some { 0 < den }
+    ensures { result ≡ quotient num den }
+{
+    let shared = common(num.unsigned_abs(), den);
+    made(signed_part(num, shared), part(den, shared))
+}
+
 impl Fraction {
     pub fn whole(value: i128) -> Fraction
         requires { IsWithin value }
         ensures { result ≡ whole value }
     {
         made(value, 1)
+    }
+
+    /// num / den, where den may be below 0.
+    pub fn lowest(num: i128, den: i128) -> Fraction
+        requires num_within { IsWithin num }
+        requires den_within { IsWithin den }
+        requires den_some { den ≢ pos 0 }
+        ensures { result ≡ ratio num den }
+    {
+        let size = den.unsigned_abs();
+        if den < 0 {
+            reduced(-num, size)
+        } else {
+            reduced(num, size)
+        }
     }
 
     /// The numerator in lowest terms.
@@ -148,6 +182,7 @@ impl Fraction {
         parts_product(self.top, self.bottom, other.top, other.bottom)
     }
 
+    /// The quotient, as the product with the other number turned over.
     #[inline]
     pub fn div(self, other: Fraction) -> Result<Fraction, Wide>
         requires { other.num ≢ pos 0 }
@@ -167,5 +202,61 @@ impl Fraction {
         } else {
             made(self.bottom as i128, bottom)
         }
+    }
+
+    /// How the two numbers compare: by their signs, then by their whole parts, and where these agree
+    /// by the rests turned over. It never refuses.
+    pub fn compare(self, other: Fraction) -> Ordering
+        ensures { result ≡ rational_cmp self other }
+    {
+        if self.bottom == other.bottom {
+            return self.top.cmp(&other.top);
+        }
+        let top = self.top.unsigned_abs();
+        let other_top = other.top.unsigned_abs();
+        match (self.top < 0, other.top < 0) {
+            (false, false) => compare_parts(top, self.bottom, other_top, other.bottom),
+            (false, true) => Ordering::Greater,
+            (true, false) => Ordering::Less,
+            (true, true) => compare_parts(other_top, other.bottom, top, self.bottom),
+        }
+    }
+}
+
+impl PartialEq for Fraction {
+    ghost eq = { eq_by_cmp rational_cmp };
+
+    ghost laws = { partial_equiv_from_equiv (eq_by_cmp_equiv rational_total) };
+
+    fn eq(&self, other: &Fraction) -> bool {
+        self.top == other.top && self.bottom == other.bottom
+    }
+}
+
+impl Eq for Fraction {
+    ghost laws = { eq_by_cmp_equiv rational_total };
+}
+
+impl Ord for Fraction {
+    ghost cmp = { rational_cmp };
+
+    ghost total = { rational_total };
+
+    ghost matches_partial_cmp = { Prim.search (comparing, rules) };
+
+    ghost matches_eq = { Prim.search (comparing, rules) };
+
+    fn cmp(&self, other: &Fraction) -> Ordering {
+        self.compare(*other)
+    }
+}
+
+impl PartialOrd for Fraction {
+    ghost partial_cmp = { as_partial_cmp rational_cmp };
+
+    ghost laws = { partial_order_from_agreeing_total rational_cmp rational_total (Prim.search (comparing, rules)) (Prim.search (comparing, rules)) };
+
+    fn partial_cmp(&self, other: &Fraction) -> Option<Ordering> {
+        Some(self.cmp(other))
     }
 }

@@ -1,9 +1,12 @@
 //! Exact rational numbers over 128-bit parts.
 #![tactic(auto)]
 
+mod divisors;
 mod fraction;
+mod order;
 mod products;
 mod steps;
 mod sums;
 
+pub use divisors::{gcd, lcm};
 pub use fraction::{Fraction, Wide};

@@ -10,7 +10,7 @@ use crate::fraction::Wide;
 const LARGEST: u128 = i128::MAX as u128;
 
 // the greatest common divisor
-#[tactic(auto, using(crate::proofs::Divisors::gcd_above, crate::proofs::Divisors::gcd_of_one))]
+#[tactic(auto, using(crate::proofs::DivisorLemmas::gcd_above, crate::proofs::DivisorLemmas::gcd_of_one))]
 pub fn common(a: u128, b: u128) -> u128
     ensures value { result ≡ gcd a b }
     ensures some { 0 < b → 0 < result }

@@ -132,3 +132,7 @@ lcm_is a b = at (eq-zero-or-pos (gcd a b))
       subst (λ n. b ∣ n) (sym (product_over_left a b (gcd a b) is.0)) (dvd-mul_right b (a / gcd a b)),
       λ n p q. lcm-least a b (gcd a b) n h is p q,
     )
+
+pub lcm-over : (a b : ℕ) → a * (b / gcd a b) ≡ lcm a b
+unfolding lcm
+lcm-over a b = sym (product_over a b (gcd a b) (gcd_is a b).1)
