@@ -1,5 +1,5 @@
 -- Sums and products with a zero, and of whole numbers. With a zero nothing is ever too large.
-use Rattle.std.proofs.Common.{◌≡◌, ℕ, ℤ, pos, ◌+ℤ◌, ◌*ℤ◌, unsigned_abs, ◌↔◌, refl, sym, ap, subst, ◌∙◌, arith, lit<}
+use Rattle.std.proofs.Common.{◌≡◌, ℕ, ℤ, pos, neg_ℤ, ◌+ℤ◌, ◌*ℤ◌, unsigned_abs, ◌↔◌, refl, sym, ap, subst, ◌∙◌, arith, lit<}
 use Rattle.std.proofs.lemmas.Int.{ints}
 use Rattle.it_number.specs.Limit.{IsWithin}
 use Rattle.it_number.proofs.Divisors.{gcd-one, one-gcd}
@@ -143,3 +143,13 @@ product-zero-narrow x y e = rw (product-zero x y e) zero_narrow
 -- 0 over a number
 pub zero-quotient-narrow : (x y : Rational) → x.num ≡ pos 0 → IsNarrow (times x (inverse y))
 zero-quotient-narrow x y e = zero-product-narrow x (inverse y) e
+
+-- a negation is no wider
+pub minus-narrow : (x : Rational) → IsNarrow x → IsNarrow (minus x)
+minus-narrow x n =
+    let size : unsigned_abs (neg_ℤ x.num) ≡ unsigned_abs x.num = size_of x.num in
+    let parts = own_parts (neg_ℤ x.num) x.den x.positive (rw size x.lowest) in
+    rw (parts.0, parts.1, size) n
+  where
+    size_of : (z : ℤ) → unsigned_abs (neg_ℤ z) ≡ unsigned_abs z
+    size_of z = omega (arith, ints)

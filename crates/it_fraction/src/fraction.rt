@@ -14,7 +14,7 @@ ghost use Rattle.it_fraction.specs.Sign.{sign_of};
 
 use crate::order::compare_parts;
 use crate::products::{parts_product, whole_product};
-use crate::steps::{common, part, signed_part};
+use crate::steps::{common, divided, signed_divided};
 use crate::sums::{parts_sum, whole_sum};
 use std::cmp::Ordering;
 use std::marker::Model;
@@ -25,7 +25,7 @@ pub struct Wide;
 
 /// A rational number in lowest terms, whose numerator is at most 2^127 - 1 in absolute value and
 /// whose denominator is from 1 to 2^127 - 1.
-#[derive(Clone, Copy)]
+#[derive(Debug, Clone, Copy)]
 pub struct Fraction {
     top: i128,
     bottom: u128,
@@ -66,7 +66,7 @@ fn reduced(num: i128, den: u128) -> Fraction
     ensures { result ≡ quotient num den }
 {
     let shared = common(num.unsigned_abs(), den);
-    made(signed_part(num, shared), part(den, shared))
+    made(signed_divided(num, shared), divided(den, shared))
 }
 
 impl Fraction {

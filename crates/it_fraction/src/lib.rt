@@ -3,6 +3,7 @@
 
 mod divisors;
 mod fraction;
+pub mod laws;
 mod order;
 mod products;
 mod steps;

@@ -6,7 +6,7 @@ ghost use Rattle.it_rational.specs.Rational.{quotient, whole};
 ghost use Rattle.it_fraction.specs.Fits.{IsNarrow};
 
 use crate::fraction::{Fraction, Wide, made};
-use crate::steps::{common, part, product, signed_part, signed_product};
+use crate::steps::{common, divided, product, signed_divided, signed_product};
 
 // the product of a / b and c / d
 pub fn parts_product(a: i128, b: u128, c: i128, d: u128) -> Result<Fraction, Wide>
@@ -20,8 +20,11 @@ pub fn parts_product(a: i128, b: u128, c: i128, d: u128) -> Result<Fraction, Wid
 {
     let left_shared = common(a.unsigned_abs(), d);
     let right_shared = common(c.unsigned_abs(), b);
-    let top = signed_product(signed_part(a, left_shared), signed_part(c, right_shared))?;
-    let bottom = product(part(b, right_shared), part(d, left_shared))?;
+    let top = signed_product(
+        signed_divided(a, left_shared),
+        signed_divided(c, right_shared),
+    )?;
+    let bottom = product(divided(b, right_shared), divided(d, left_shared))?;
     Ok(made(top, bottom))
 }
 

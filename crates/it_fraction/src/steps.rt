@@ -66,7 +66,7 @@ pub fn divided_with_rest(a: u128, k: u128) -> (u128, u128)
 }
 
 // a / k
-pub fn part(a: u128, k: u128) -> u128
+pub fn divided(a: u128, k: u128) -> u128
     requires { 0 < k }
     ensures { result ≡ a / k }
 {
@@ -80,12 +80,12 @@ pub fn part(a: u128, k: u128) -> u128
 }
 
 // a / k, toward 0
-pub fn signed_part(a: i128, k: u128) -> i128
+pub fn signed_divided(a: i128, k: u128) -> i128
     requires within { IsWithin a }
     requires some { 0 < k }
     ensures { result ≡ over a k }
 {
-    let size = part(a.unsigned_abs(), k) as i128;
+    let size = divided(a.unsigned_abs(), k) as i128;
     if a < 0 { -size } else { size }
 }
 

@@ -5,29 +5,29 @@ use Rattle.it_number.specs.Gcd.{gcd}
 use Rattle.it_rational.specs.Rational.{quotient}
 use Rattle.it_fraction.proofs.DivisorLemmas.{reduced-some, reduced-lowest, reduced-is}
 use Rattle.it_fraction.proofs.fraction.reduced.Goals as goal
-use Rattle.it_fraction.proofs.fraction.reduced.Goals.{After-common-shared, After-signed_part}
+use Rattle.it_fraction.proofs.fraction.reduced.Goals.{After-common-shared, After-signed_divided}
 
 shared_is : (c : After-common-shared) → c.common-shared.result ≡ gcd (unsigned_abs c.args.num) c.args.den
 shared_is c =
     let f : FitsSigned w128 c.args.num = c.ranges.num in
     c.common-shared.ensures.value ∙ ap (λ n. gcd n c.args.den) (simp to_z-of_z at c.unsigned_abs.ensures.value)
 
-top_is : (c : After-signed_part) → c.signed_part.result ≡ over c.args.num c.common-shared.result
-top_is c = let f : FitsSigned w128 c.args.num = c.ranges.num in simp to_z-of_z at c.signed_part.ensures
+top_is : (c : After-signed_divided) → c.signed_divided.result ≡ over c.args.num c.common-shared.result
+top_is c = let f : FitsSigned w128 c.args.num = c.ranges.num in simp to_z-of_z at c.signed_divided.ensures
 
 pub made-requires-clause-some : goal.made-requires-clause-some
 made-requires-clause-some c =
     let e = shared_is (goal.at.made-requires-clause-some c).After-common-shared in
-    rw c.part.ensures (reduced-some c.args.num c.args.den c.common-shared.result c.requires.den_some e)
+    rw c.divided.ensures (reduced-some c.args.num c.args.den c.common-shared.result c.requires.den_some e)
 
 pub made-requires-clause-lowest : goal.made-requires-clause-lowest
 made-requires-clause-lowest c =
     let g = goal.at.made-requires-clause-lowest c in
-    let f : FitsSigned w128 c.signed_part.result = search rules in
-    simp to_z-of_z (rw (top_is g.After-signed_part, c.part.ensures) (reduced-lowest c.args.num c.args.den c.common-shared.result c.requires.den_some (shared_is g.After-common-shared)))
+    let f : FitsSigned w128 c.signed_divided.result = search rules in
+    simp to_z-of_z (rw (top_is g.After-signed_divided, c.divided.ensures) (reduced-lowest c.args.num c.args.den c.common-shared.result c.requires.den_some (shared_is g.After-common-shared)))
 
 pub returns : goal.returns
 returns c =
     let g = goal.at.returns c in
-    let f : FitsSigned w128 c.signed_part.result = search rules in
-    simp to_z-of_z at c.made.ensures ∙ ap₂ quotient (top_is g.After-signed_part) c.part.ensures ∙ reduced-is c.args.num c.args.den c.common-shared.result c.requires.den_some (shared_is g.After-common-shared)
+    let f : FitsSigned w128 c.signed_divided.result = search rules in
+    simp to_z-of_z at c.made.ensures ∙ ap₂ quotient (top_is g.After-signed_divided) c.divided.ensures ∙ reduced-is c.args.num c.args.den c.common-shared.result c.requires.den_some (shared_is g.After-common-shared)
