@@ -17,7 +17,7 @@ pow_lt i n h = pow_below i n h
 pub with_lt : (n k i : ℕ) → i < n → k < 2 ^ n → bit_at k i ≡ 0 → k + 2 ^ i < 2 ^ n
 with_lt n k i hi hk z = rw (← with_pow k i z) (or_lt n k (2 ^ i) hk (pow_below i n hi))
 
-still_lacks : (k i j : ℕ) → i < j → bit_at k i ≡ 0 → bit_at k j ≡ 0 → bit_at (k + 2 ^ i) j ≡ 0
+pub still_lacks : (k i j : ℕ) → i < j → bit_at k i ≡ 0 → bit_at k j ≡ 0 → bit_at (k + 2 ^ i) j ≡ 0
 still_lacks k i j h zi zj = let other : bit_at (2 ^ i) j ≡ 0 = bit_at-pow_other i j (λ e. omega arith) in
     rw (← with_pow k i zi) (bit_at_or k (2 ^ i) j ∙ omega arith)
 
