@@ -72,6 +72,13 @@ gcd-step a b = same_from_IsGcd a b (gcd b (a % b)) (gcd a b) (IsGcd-from_mod a b
 pub gcd-zero : (a b : ℕ) → b ≡ 0 → gcd a b ≡ a
 gcd-zero a b e = same_from_IsGcd a b (gcd a b) a (gcd_is a b) (IsGcd-from_zero a b e)
 
+-- 1 shares nothing
+pub gcd-one : (a : ℕ) → gcd a 1 ≡ 1
+gcd-one a = dvd_antisymm (gcd_is a 1).1 (one-dvd (gcd a 1))
+
+pub one-gcd : (a : ℕ) → gcd 1 a ≡ 1
+one-gcd a = dvd_antisymm (gcd_is 1 a).0 (one-dvd (gcd 1 a))
+
 -- the divisor is no larger than a part that isn't 0
 pub gcd_le : (a b : ℕ) → 0 < b → gcd a b ≤ b
 gcd_le a b h = le_of_dvd h (gcd_is a b).1
@@ -125,3 +132,7 @@ lcm_is a b = at (eq-zero-or-pos (gcd a b))
       subst (λ n. b ∣ n) (sym (product_over_left a b (gcd a b) is.0)) (dvd-mul_right b (a / gcd a b)),
       λ n p q. lcm-least a b (gcd a b) n h is p q,
     )
+
+pub lcm-over : (a b : ℕ) → a * (b / gcd a b) ≡ lcm a b
+unfolding lcm
+lcm-over a b = sym (product_over a b (gcd a b) (gcd_is a b).1)

@@ -7,6 +7,7 @@ use Rattle.std.specs.Int.{bit_at}
 use Rattle.it_polymatroid.specs.Polymatroid.{IsPolymatroid}
 use Rattle.it_polymatroid.proofs.Halves.{ElementalsHold}
 
+-- a set with one variable more
 pub with_pow : (k i : ℕ) → bit_at k i ≡ 0 → bit_or k (2 ^ i) ≡ k + 2 ^ i
 with_pow k i z = or_disjoint k (2 ^ i) (and_pow k i ∙ ap (λ n. n * 2 ^ i) z ∙ omega arith)
 

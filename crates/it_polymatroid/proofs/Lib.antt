@@ -5,3 +5,4 @@ pub mod Generate
 pub mod TableLemmas
 pub mod Forms
 pub mod Certified
+pub mod Images

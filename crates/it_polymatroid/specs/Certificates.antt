@@ -1,8 +1,8 @@
 -- Certificates and counterpoints: what makes a yes and a no right, with nothing of a solver in it.
-use Rattle.std.specs.Prelude.{◌≡◌, ℕ, zero, suc, ◌<◌, ℤ, pos, neg_ℤ, ◌+ℤ◌, ◌*ℤ◌, ◌≤ℤ◌, List, [], ◌∷◌, length, slice_index_or, Bool, true, false, cond, nat_eq, All}
+use Rattle.std.specs.Prelude.{◌≡◌, ℕ, zero, suc, ◌<◌, ℤ, pos, neg_ℤ, ◌+ℤ◌, ◌*ℤ◌, ◌≤ℤ◌, List, [], ◌∷◌, length, Bool, true, false, cond, nat_eq, All}
 use Rattle.it_space.specs.Answers.{Weights}
 use Rattle.it_polymatroid.specs.Polymatroid.{IsPolymatroid}
-use Rattle.it_polymatroid.specs.Elementals.{Conditional, elementals, worth}
+use Rattle.it_polymatroid.specs.Elementals.{elementals, elemental_at, worth}
 
 -- A linear form is a function of the points, which are maps from coordinates to numbers; it is 0 at the empty set's place, coordinate 0.
 abbrev pub Form : Type 0
@@ -18,7 +18,7 @@ pub record Generators : Type 0 where
 abbrev pub elemental_generators : ℕ → Generators
 elemental_generators n = record {
   count = length (elementals n);
-  worth_of = λ i h. worth n h (slice_index_or (elementals n) i (Conditional 0));
+  worth_of = λ i h. worth n h (elemental_at n i);
   is_equation = λ _. false;
 }
 

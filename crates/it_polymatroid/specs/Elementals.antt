@@ -1,5 +1,5 @@
 -- The elemental inequalities of n variables, in order (Yeung 1997): each variable given all others, then each two variables given each set of others.
-use Rattle.std.specs.Prelude.{◌≡◌, ℕ, zero, suc, ◌+◌, ◌-◌, ◌^◌, ℤ, pos, ◌+ℤ◌, ◌-ℤ◌, ◌≤ℤ◌, List, [], ◌∷◌, ◌++◌, map, filter, flat_map, Bool, not, ◌&&◌, All}
+use Rattle.std.specs.Prelude.{◌≡◌, ℕ, zero, suc, ◌+◌, ◌-◌, ◌^◌, ℤ, pos, ◌+ℤ◌, ◌-ℤ◌, ◌≤ℤ◌, List, [], ◌∷◌, ◌++◌, slice_index_or, map, filter, flat_map, Bool, not, ◌&&◌, All}
 use Rattle.it_space.specs.Sets.{has_member}
 use Rattle.it_polymatroid.specs.Polymatroid.{IsPolymatroid}
 
@@ -29,6 +29,10 @@ mutuals_of n i j = map (Mutual i j) (filter (λ k. lacks i k && lacks j k) (span
 abbrev pub elementals : ℕ → List Elemental
 elementals n = map Conditional (span 0 n)
     ++ flat_map (λ i. flat_map (mutuals_of n i) (span (i + 1) (n - (i + 1)))) (span 0 n)
+
+-- the inequality of a number, counted from 0
+abbrev pub elemental_at : ℕ → ℕ → Elemental
+elemental_at n i = slice_index_or (elementals n) i (Conditional 0)
 
 -- h meets all of them
 abbrev pub MeetsElementals : ℕ → (ℕ → ℤ) → Type 0

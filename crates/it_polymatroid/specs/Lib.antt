@@ -2,3 +2,4 @@ pub mod Polymatroid
 pub mod Elementals
 pub mod Certificates
 pub mod Tables
+pub mod Substitutions

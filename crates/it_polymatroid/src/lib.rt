@@ -2,8 +2,10 @@
 #![tactic(auto)]
 
 mod laws;
+mod substitutions;
 mod sums;
 mod tables;
 
 pub use laws::{certificates_prove, elementals_generate};
+pub use substitutions::{Substitution, pull_back};
 pub use tables::{Table, is_polymatroid};

@@ -43,7 +43,8 @@ impl Table {
     /// The value at a set of the table's variables.
     pub fn at(&self, set: VarSet) -> i128
         requires { set < 2 ^ self.now.variables }
-        ensures { result ≡ value_at self.now set }
+        ensures value { result ≡ value_at self.now set }
+        ensures table { IsTable self.now }
     {
         self.values[set.number() as usize]
     }

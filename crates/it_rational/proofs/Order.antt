@@ -35,7 +35,7 @@ times_least a b h k = quotient_least (a.num *ℤ b.num) (a.den * b.den) (mul-pos
 pub times-inverse : (a : Rational) → a.num ≢ pos 0 → Q.times a (Q.inverse a) ≡ Q.whole (pos 1)
 times-inverse a n = at a.num refl
   where
-    at : (m : ℤ) → a.num ≡ m → Q.times a (Q.turned_over m a.den) ≡ Q.whole (pos 1)
+    at : (m : ℤ) → a.num ≡ m → Q.times a (Q.ratio (pos a.den) m) ≡ Q.whole (pos 1)
     at (pos zero) e = absurd (n e)
     at (pos (suc m)) e = same_value (Q.times a (quotient (pos a.den) (suc m))) (Q.whole (pos 1)) (a.num *ℤ pos a.den) (pos 1) (a.den * suc m) 1 (mul-pos a.positive (omega arith)) (omega arith)
         (times_names a (quotient (pos a.den) (suc m)) a.num (pos a.den) a.den (suc m) a.positive (omega arith) refl (quotient_names (pos a.den) (suc m) (omega arith)))

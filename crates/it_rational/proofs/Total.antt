@@ -1,14 +1,16 @@
 -- The order of the rational numbers is total, and ties are equal.
-use Rattle.std.proofs.Common.{◌≡◌, ℕ, zero, suc, ◌<◌, ℤ, pos, negsuc, ◌+ℤ◌, ◌-ℤ◌, ◌*ℤ◌, ◌<ℤ◌, [], ◌∷◌, refl, ap, subst, arith, int_cmp, Ordering, Less, Equal}
+use Rattle.std.proofs.Common.{◌≡◌, ℕ, zero, suc, ◌<◌, ℤ, pos, negsuc, ◌+ℤ◌, ◌-ℤ◌, ◌*ℤ◌, ◌<ℤ◌, [], ◌∷◌, refl, ap, subst, arith, int_cmp, Ordering, Less, Equal, ◌≢◌, sym, ◌∙◌, Greater, Bool, true, false}
 use Rattle.std.proofs.lemmas.Int.{ints}
-use Rattle.std.specs.Cmp.{IsTotalOrder, int_ranks, int_cmp_total}
-use Rattle.std.specs.Ordering.{MatchOrdering}
+use Rattle.std.specs.Cmp.{IsTotalOrder, int_ranks, int_cmp_total, int_cmp_is}
+use Rattle.it_number.proofs.Integers.{zring}
+use Rattle.std.specs.Ordering.{MatchOrdering, is_eq}
 use Rattle.it_number.proofs.Ring.{ring, v, plus, times, minus}
 use Rattle.it_number.proofs.IntegerRing.{ring_ℤ}
 use Rattle.it_rational.specs.Rational.{Rational, rational_cmp}
 use Rattle.it_rational.proofs.Names.{same_across}
 
-above : (a b : ℤ) → pos 0 <ℤ a → pos 0 <ℤ b → pos 0 <ℤ (a *ℤ b)
+-- a product of numbers above 0
+pub above : (a b : ℤ) → pos 0 <ℤ a → pos 0 <ℤ b → pos 0 <ℤ (a *ℤ b)
 above (pos (suc a)) (pos (suc b)) h k = omega (arith, ints)
 above (pos zero) b h k = absurd (omega (arith, ints))
 above (pos (suc a)) (pos zero) h k = absurd (omega (arith, ints))
@@ -61,3 +63,27 @@ rational_total = record {
       (less_of (x.num *ℤ pos y.den) (y.num *ℤ pos x.den) p) (less_of (y.num *ℤ pos z.den) (z.num *ℤ pos y.den) q));
   congr = λ x y z e. ap (λ w. rational_cmp w z) (tied x y e);
 }
+
+-- over one denominator the numerators decide
+pub rational_cmp-same_den : (x y : Rational) → x.den ≡ y.den → int_cmp x.num y.num ≡ rational_cmp x y
+rational_cmp-same_den x y e = int_cmp_is (x.num *ℤ pos y.den) (y.num *ℤ pos x.den) (int_cmp x.num y.num)
+    (subst (λ (d : ℕ). MatchOrdering (int_cmp x.num y.num) ((x.num *ℤ pos y.den) <ℤ (y.num *ℤ pos d)) (x.num *ℤ pos y.den ≡ y.num *ℤ pos d) ((y.num *ℤ pos d) <ℤ (x.num *ℤ pos y.den))) (sym e)
+    (scaled x.num y.num (pos y.den) (above_zero y.den y.positive) (int_cmp x.num y.num) (int_ranks x.num y.num)))
+  where
+    rises : (a b d : ℤ) → pos 0 <ℤ d → a <ℤ b → (a *ℤ d) <ℤ (b *ℤ d)
+    rises a b d h k = let p = above d (b -ℤ a) h (omega (arith, ints, k)) in omega (arith, zring, p)
+
+    scaled : (a b d : ℤ) → pos 0 <ℤ d → (r : Ordering) → MatchOrdering r (a <ℤ b) (a ≡ b) (b <ℤ a) → MatchOrdering r ((a *ℤ d) <ℤ (b *ℤ d)) (a *ℤ d ≡ b *ℤ d) ((b *ℤ d) <ℤ (a *ℤ d))
+    scaled a b d h Less k = rises a b d h k
+    scaled a b d h Equal k = ap (λ (z : ℤ). z *ℤ d) k
+    scaled a b d h Greater k = rises b a d h k
+
+-- a test that tells equal numbers from others answers as the order does
+pub is_eq-rational_cmp : (b : Bool) (x y : Rational) → (b ≡ true → x ≡ y) → (b ≡ false → x ≢ y) → b ≡ is_eq (rational_cmp x y)
+is_eq-rational_cmp true x y f g = sym (ap (λ (q : Rational). is_eq (rational_cmp x q)) (sym (f refl)) ∙ ap is_eq (sym (int_cmp_is (x.num *ℤ pos x.den) (x.num *ℤ pos x.den) Equal refl)))
+is_eq-rational_cmp false x y f g = at (rational_cmp x y) refl
+  where
+    at : (r : Ordering) → rational_cmp x y ≡ r → false ≡ is_eq r
+    at Less e = refl
+    at Equal e = absurd (g refl (tied x y e))
+    at Greater e = refl

@@ -36,14 +36,14 @@ times a b = quotient (a.num *ℤ b.num) (a.den * b.den)
 abbrev pub minus : Rational → Rational
 minus a = quotient (neg_ℤ a.num) a.den
 
--- d / n in lowest terms; 0 where n is 0
-abbrev pub turned_over : ℤ → ℕ → Rational
-turned_over (pos n) d = quotient (pos d) n
-turned_over (negsuc n) d = quotient (neg_ℤ (pos d)) (suc n)
+-- n / d in lowest terms, for d with a sign; 0 where d is 0
+abbrev pub ratio : ℤ → ℤ → Rational
+ratio n (pos d) = quotient n d
+ratio n (negsuc d) = quotient (neg_ℤ n) (suc d)
 
 -- 1 / a; 0 where a is 0
 abbrev pub inverse : Rational → Rational
-inverse a = turned_over a.num a.den
+inverse a = ratio (pos a.den) a.num
 
 -- the order of the rationals
 abbrev pub rational_cmp : Rational → Rational → Ordering

@@ -2,13 +2,17 @@
 #![tactic(auto)]
 
 mod answers;
+mod normal_rows;
 mod points;
 mod rows;
 mod sets;
 mod spaces;
+mod values;
 
 pub use answers::{Answer, Certificate};
+pub use normal_rows::normal;
 pub use points::Point;
 pub use rows::Row;
 pub use sets::VarSet;
 pub use spaces::Space;
+pub use values::value;

@@ -28,6 +28,14 @@ impl Row {
         Row { terms }
     }
 
+    /// The terms of the row that is let go.
+    pub(crate) fn into_terms(self) -> Vec<(u32, i128)>
+        ensures terms { result.items ≡ self }
+        ensures canonical { IsCanonical self }
+    {
+        self.terms
+    }
+
     pub fn terms(&self) -> &[(u32, i128)]
         ensures { result.now ≡ self.now }
     {

@@ -1,0 +1,14 @@
+use Rattle.std.proofs.Common.{FitsSigned, to_z-of_z, to_z, of_z, pos, ◌*ℤ◌, sym, ap}
+use Rattle.std.specs.Int.{w128}
+use Rattle.it_rational.proofs.Names.{quotient_is}
+use Rattle.it_fraction.proofs.fraction.made.Goals as goal
+
+pub invariant_of-result : goal.invariant_of-result
+invariant_of-result c =
+    let f : FitsSigned w128 c.args.top = c.ranges.top in
+    simp to_z-of_z (c.requires.some, (c.requires.lowest, tt))
+
+pub returns : goal.returns
+returns c =
+    let f : FitsSigned w128 c.args.top = c.ranges.top in
+    sym (quotient_is (to_z w128 (of_z w128 c.args.top)) c.args.top c.args.bottom c.args.bottom c.requires.some _ _ (ap (λ z. z *ℤ pos c.args.bottom) (to_z-of_z f)))

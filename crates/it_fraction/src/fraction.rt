@@ -1,0 +1,262 @@
+//! Fractions in lowest terms.
+ghost use Rattle.std.specs.Prelude.{◌≡◌, ◌≢◌, ◌<◌, pos, unsigned_abs, true, false, IsTrue, ◌↔◌, OkIff};
+ghost use Rattle.std.specs.Bool.{OnTrue, OnFalse};
+ghost use Rattle.std.specs.Cmp.{eq_by_cmp_equiv, partial_equiv_from_equiv, partial_order_from_agreeing_total};
+ghost use Rattle.std.specs.Cmp.Rules.{comparing};
+ghost use Rattle.std.specs.Int.{IsGcd};
+ghost use Rattle.std.specs.Ordering.{as_partial_cmp, eq_by_cmp};
+ghost use Rattle.std.proofs.Common.{rules};
+ghost use Rattle.it_number.specs.Limit.{IsWithin};
+ghost use Rattle.it_rational.specs.Rational.{inverse, is_at_least_zero, minus, plus, quotient, ratio, rational_cmp, times, whole};
+ghost use Rattle.it_rational.proofs.Total.{rational_total};
+ghost use Rattle.it_fraction.specs.Fits.{DifferenceFits, IsNarrow, SumFits};
+ghost use Rattle.it_fraction.specs.Sign.{sign_of};
+
+use crate::order::compare_parts;
+use crate::products::{parts_product, whole_product};
+use crate::steps::{common, divided, signed_divided};
+use crate::sums::{parts_sum, whole_sum};
+use std::cmp::Ordering;
+use std::marker::Model;
+
+/// A number that an operation names is more than 2^127 - 1 in absolute value.
+#[derive(Debug, Clone, Copy, PartialEq, Eq)]
+pub struct Wide;
+
+/// A rational number in lowest terms, whose numerator is at most 2^127 - 1 in absolute value and
+/// whose denominator is from 1 to 2^127 - 1.
+#[derive(Debug, Clone, Copy)]
+pub struct Fraction {
+    top: i128,
+    bottom: u128,
+    ghost some: { 0 < bottom },
+    ghost lowest: { IsGcd (unsigned_abs top) bottom 1 },
+}
+
+impl Model for Fraction {
+    ghost use Rattle.std.specs.Prelude.{pos};
+    ghost use Rattle.it_number.specs.Limit.{IsWithin};
+    ghost use Rattle.it_rational.specs.Rational.{Rational};
+
+    ghost Value = { Rational };
+
+    ghost view = { λ f. record { num = f.top; den = f.bottom; positive = f.some; lowest = f.lowest } };
+
+    ghost inverse = { λ q. record { top = q.num; bottom = q.den; some = q.positive; lowest = q.lowest } };
+
+    ghost invariant = { λ f. (IsWithin f.top) × (IsWithin (pos f.bottom)) };
+}
+
+// the fraction of parts in lowest terms
+pub fn made(top: i128, bottom: u128) -> Fraction
+    requires top_within { IsWithin top }
+    requires bottom_within { IsWithin (pos bottom) }
+    requires some { 0 < bottom }
+    requires lowest { IsGcd (unsigned_abs top) bottom 1 }
+    ensures { result ≡ quotient top bottom }
+{
+    Fraction { top, bottom }
+}
+
+// num / den
+fn reduced(num: i128, den: u128) -> Fraction
+    requires num_within { IsWithin num }
+    requires den_within { IsWithin (pos den) }
+    requires den_some { 0 < den }
+    ensures { result ≡ quotient num den }
+{
+    let shared = common(num.unsigned_abs(), den);
+    made(signed_divided(num, shared), divided(den, shared))
+}
+
+impl Fraction {
+    pub fn whole(value: i128) -> Fraction
+        requires { IsWithin value }
+        ensures { result ≡ whole value }
+    {
+        made(value, 1)
+    }
+
+    /// num / den, where den may be below 0.
+    pub fn lowest(num: i128, den: i128) -> Fraction
+        requires num_within { IsWithin num }
+        requires den_within { IsWithin den }
+        requires den_some { den ≢ pos 0 }
+        ensures { result ≡ ratio num den }
+    {
+        let size = den.unsigned_abs();
+        if den < 0 {
+            reduced(-num, size)
+        } else {
+            reduced(num, size)
+        }
+    }
+
+    /// The numerator in lowest terms.
+    pub fn num(self) -> i128
+        ensures value { result ≡ self.num }
+        ensures within { IsWithin result }
+    {
+        self.top
+    }
+
+    /// The denominator in lowest terms, at least 1.
+    pub fn den(self) -> i128
+        ensures value { result ≡ pos self.den }
+        ensures within { IsWithin result }
+    {
+        self.bottom as i128
+    }
+
+    pub fn is_zero(self) -> bool
+        ensures { IsTrue result ↔ (self.num ≡ pos 0) }
+    {
+        self.top == 0
+    }
+
+    pub fn is_negative(self) -> bool
+        ensures yes { OnTrue result (is_at_least_zero self ≡ false) }
+        ensures no { OnFalse result (is_at_least_zero self ≡ true) }
+    {
+        if self.top < 0 { true } else { false }
+    }
+
+    #[tactic(auto, using(crate::proofs::Signs::minus_below, crate::proofs::Signs::minus_least))]
+    pub fn is_positive(self) -> bool
+        ensures yes { OnTrue result (is_at_least_zero (minus self) ≡ false) }
+        ensures no { OnFalse result (is_at_least_zero (minus self) ≡ true) }
+    {
+        if self.top > 0 { true } else { false }
+    }
+
+    /// -1, 0 or 1.
+    pub fn sign(self) -> i8
+        ensures { result ≡ sign_of self }
+    {
+        self.top.signum() as i8
+    }
+
+    pub fn neg(self) -> Fraction
+        ensures { result ≡ minus self }
+    {
+        made(-self.top, self.bottom)
+    }
+
+    /// The sum, by way of the greatest common divisor of the denominators
+    /// (Knuth, The Art of Computer Programming vol. 2, 4.5.1).
+    #[inline]
+    pub fn add(self, other: Fraction) -> Result<Fraction, Wide>
+        ensures { OkIff result (SumFits self other) (plus self other) }
+    {
+        if self.bottom == 1 && other.bottom == 1 {
+            return whole_sum(self.top, other.top);
+        }
+        if self.is_zero() {
+            return Ok(other);
+        }
+        if other.is_zero() {
+            return Ok(self);
+        }
+        parts_sum(self.top, self.bottom, other.top, other.bottom)
+    }
+
+    /// The difference, as the sum with the other number negated.
+    #[inline]
+    pub fn sub(self, other: Fraction) -> Result<Fraction, Wide>
+        ensures { OkIff result (DifferenceFits self other) (plus self (minus other)) }
+    {
+        self.add(other.neg())
+    }
+
+    /// The product, whose common divisors are taken out before anything is multiplied.
+    #[inline]
+    pub fn mul(self, other: Fraction) -> Result<Fraction, Wide>
+        ensures { OkIff result (IsNarrow (times self other)) (times self other) }
+    {
+        if self.bottom == 1 && other.bottom == 1 {
+            return whole_product(self.top, other.top);
+        }
+        if self.is_zero() || other.is_zero() {
+            return Ok(Fraction::whole(0));
+        }
+        parts_product(self.top, self.bottom, other.top, other.bottom)
+    }
+
+    /// The quotient, as the product with the other number turned over.
+    #[inline]
+    pub fn div(self, other: Fraction) -> Result<Fraction, Wide>
+        requires { other.num ≢ pos 0 }
+        ensures { OkIff result (IsNarrow (times self (inverse other))) (times self (inverse other)) }
+    {
+        self.mul(other.turned())
+    }
+
+    // 1 over this number
+    fn turned(self) -> Fraction
+        requires { self.num ≢ pos 0 }
+        ensures { result ≡ inverse self }
+    {
+        let bottom = self.top.unsigned_abs();
+        if self.top < 0 {
+            made(-(self.bottom as i128), bottom)
+        } else {
+            made(self.bottom as i128, bottom)
+        }
+    }
+
+    /// How the two numbers compare: by their signs, then by their whole parts, and where these agree
+    /// by the rests turned over. It never refuses.
+    pub fn compare(self, other: Fraction) -> Ordering
+        ensures { result ≡ rational_cmp self other }
+    {
+        if self.bottom == other.bottom {
+            return self.top.cmp(&other.top);
+        }
+        let top = self.top.unsigned_abs();
+        let other_top = other.top.unsigned_abs();
+        match (self.top < 0, other.top < 0) {
+            (false, false) => compare_parts(top, self.bottom, other_top, other.bottom),
+            (false, true) => Ordering::Greater,
+            (true, false) => Ordering::Less,
+            (true, true) => compare_parts(other_top, other.bottom, top, self.bottom),
+        }
+    }
+}
+
+impl PartialEq for Fraction {
+    ghost eq = { eq_by_cmp rational_cmp };
+
+    ghost laws = { partial_equiv_from_equiv (eq_by_cmp_equiv rational_total) };
+
+    fn eq(&self, other: &Fraction) -> bool {
+        self.top == other.top && self.bottom == other.bottom
+    }
+}
+
+impl Eq for Fraction {
+    ghost laws = { eq_by_cmp_equiv rational_total };
+}
+
+impl Ord for Fraction {
+    ghost cmp = { rational_cmp };
+
+    ghost total = { rational_total };
+
+    ghost matches_partial_cmp = { Prim.search (comparing, rules) };
+
+    ghost matches_eq = { Prim.search (comparing, rules) };
+
+    fn cmp(&self, other: &Fraction) -> Ordering {
+        self.compare(*other)
+    }
+}
+
+impl PartialOrd for Fraction {
+    ghost partial_cmp = { as_partial_cmp rational_cmp };
+
+    ghost laws = { partial_order_from_agreeing_total rational_cmp rational_total (Prim.search (comparing, rules)) (Prim.search (comparing, rules)) };
+
+    fn partial_cmp(&self, other: &Fraction) -> Option<Ordering> {
+        Some(self.cmp(other))
+    }
+}

@@ -1,0 +1,41 @@
+//! Laws of the arithmetic, over the rational numbers that fractions name: so they hold also where a
+//! call on the way is refused. They are proved and do nothing when they run.
+ghost use Rattle.std.specs.Prelude.{◌≡◌, pos};
+ghost use Rattle.it_rational.specs.Rational.{inverse, plus, times, whole};
+ghost use Rattle.it_fraction.specs.Fits.{DifferenceFits, IsNarrow, SumFits};
+
+use crate::fraction::Fraction;
+
+pub fn sums_associate(x: Fraction, y: Fraction, z: Fraction)
+    ensures { plus (plus x y) z ≡ plus x (plus y z) }
+{}
+
+pub fn sums_commute(x: Fraction, y: Fraction)
+    ensures { plus x y ≡ plus y x }
+{}
+
+pub fn products_associate(x: Fraction, y: Fraction, z: Fraction)
+    ensures { times (times x y) z ≡ times x (times y z) }
+{}
+
+pub fn products_commute(x: Fraction, y: Fraction)
+    ensures { times x y ≡ times y x }
+{}
+
+pub fn products_distribute(x: Fraction, y: Fraction, z: Fraction)
+    ensures { times x (plus y z) ≡ plus (times x y) (times x z) }
+{}
+
+/// An operation with a zero is never refused.
+pub fn zeros_fit(x: Fraction)
+    ensures sum { SumFits x (whole (pos 0)) }
+    ensures sum_from_zero { SumFits (whole (pos 0)) x }
+    ensures difference { DifferenceFits x (whole (pos 0)) }
+    ensures difference_from_zero { DifferenceFits (whole (pos 0)) x }
+    ensures product { IsNarrow (times x (whole (pos 0))) }
+    ensures product_from_zero { IsNarrow (times (whole (pos 0)) x) }
+    ensures quotient_of_zero { IsNarrow (times (whole (pos 0)) (inverse x)) }
+{
+    let _num = x.num();
+    let _den = x.den();
+}

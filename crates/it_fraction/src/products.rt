@@ -1,0 +1,36 @@
+//! Products of fractions by their parts.
+ghost use Rattle.std.specs.Prelude.{◌≡◌, ◌<◌, ◌*◌, ◌*ℤ◌, pos, unsigned_abs, OkIff};
+ghost use Rattle.std.specs.Int.{IsGcd};
+ghost use Rattle.it_number.specs.Limit.{IsWithin};
+ghost use Rattle.it_rational.specs.Rational.{quotient, whole};
+ghost use Rattle.it_fraction.specs.Fits.{IsNarrow};
+
+use crate::fraction::{Fraction, Wide, made};
+use crate::steps::{common, divided, product, signed_divided, signed_product};
+
+// the product of a / b and c / d
+pub fn parts_product(a: i128, b: u128, c: i128, d: u128) -> Result<Fraction, Wide>
+    requires b_some { 0 < b }
+    requires d_some { 0 < d }
+    requires a_within { IsWithin a }
+    requires c_within { IsWithin c }
+    requires left { IsGcd (unsigned_abs a) b 1 }
+    requires right { IsGcd (unsigned_abs c) d 1 }
+    ensures { OkIff result (IsNarrow (quotient (a *ℤ c) (b * d))) (quotient (a *ℤ c) (b * d)) }
+{
+    let left_shared = common(a.unsigned_abs(), d);
+    let right_shared = common(c.unsigned_abs(), b);
+    let top = signed_product(
+        signed_divided(a, left_shared),
+        signed_divided(c, right_shared),
+    )?;
+    let bottom = product(divided(b, right_shared), divided(d, left_shared))?;
+    Ok(made(top, bottom))
+}
+
+// the product of two whole numbers
+pub fn whole_product(a: i128, c: i128) -> Result<Fraction, Wide>
+    ensures { OkIff result (IsWithin (a *ℤ c)) (whole (a *ℤ c)) }
+{
+    Ok(Fraction::whole(signed_product(a, c)?))
+}

@@ -1,0 +1,134 @@
+//! Single steps on whole numbers. What may pass the largest number is refused exactly where it does.
+//! Each step has a short path for numbers of 64 bits, whose division is several times faster.
+ghost use Rattle.std.specs.Prelude.{◌≡◌, ◌<◌, ◌*◌, ◌/◌, ◌%◌, ◌+ℤ◌, ◌*ℤ◌, pos, OkIff};
+ghost use Rattle.it_number.specs.Division.{over};
+ghost use Rattle.it_number.specs.Gcd.{gcd};
+ghost use Rattle.it_number.specs.Limit.{IsWithin};
+
+use crate::fraction::Wide;
+
+const LARGEST: u128 = i128::MAX as u128;
+
+// the greatest common divisor
+#[tactic(auto, using(crate::proofs::DivisorLemmas::gcd_above, crate::proofs::DivisorLemmas::gcd_of_one))]
+pub fn common(a: u128, b: u128) -> u128
+    ensures value { result ≡ gcd a b }
+    ensures some { 0 < b → 0 < result }
+{
+    if a == 1 || b == 1 {
+        return 1;
+    }
+    match (u64::try_from(a), u64::try_from(b)) {
+        (Ok(a), Ok(b)) => u128::from(short_common(a, b)),
+        _ => long_common(a, b),
+    }
+}
+
+fn short_common(a: u64, b: u64) -> u64
+    ensures { result ≡ gcd a b }
+{
+    let mut larger = a;
+    let mut smaller = b;
+    while smaller != 0 {
+        let rest = larger % smaller;
+        larger = smaller;
+        smaller = rest;
+    }
+    larger
+}
+
+fn long_common(a: u128, b: u128) -> u128
+    ensures { result ≡ gcd a b }
+{
+    let mut larger = a;
+    let mut smaller = b;
+    while smaller > u128::from(u64::MAX) {
+        let rest = larger % smaller;
+        larger = smaller;
+        smaller = rest;
+    }
+    if smaller == 0 {
+        return larger;
+    }
+    u128::from(short_common(smaller as u64, (larger % smaller) as u64))
+}
+
+// a / k and a % k
+pub fn divided_with_rest(a: u128, k: u128) -> (u128, u128)
+    requires { 0 < k }
+    ensures whole { result.0 ≡ a / k }
+    ensures rest { result.1 ≡ a % k }
+{
+    match (u64::try_from(a), u64::try_from(k)) {
+        (Ok(a), Ok(k)) => (u128::from(a / k), u128::from(a % k)),
+        _ => (a / k, a % k),
+    }
+}
+
+// a / k
+pub fn divided(a: u128, k: u128) -> u128
+    requires { 0 < k }
+    ensures { result ≡ a / k }
+{
+    if k == 1 {
+        return a;
+    }
+    match (u64::try_from(a), u64::try_from(k)) {
+        (Ok(a), Ok(k)) => u128::from(a / k),
+        _ => a / k,
+    }
+}
+
+// a / k, toward 0
+pub fn signed_divided(a: i128, k: u128) -> i128
+    requires within { IsWithin a }
+    requires some { 0 < k }
+    ensures { result ≡ over a k }
+{
+    let size = divided(a.unsigned_abs(), k) as i128;
+    if a < 0 { -size } else { size }
+}
+
+pub fn sum(a: i128, b: i128) -> Result<i128, Wide>
+    ensures { OkIff result (IsWithin (a +ℤ b)) (a +ℤ b) }
+{
+    match a.checked_add(b) {
+        Some(sum) if sum != i128::MIN => Ok(sum),
+        _ => Err(Wide),
+    }
+}
+
+pub fn product(a: u128, b: u128) -> Result<u128, Wide>
+    ensures { OkIff result (IsWithin (pos (a * b))) (a * b) }
+{
+    match a.checked_mul(b) {
+        Some(product) if product <= LARGEST => Ok(product),
+        _ => Err(Wide),
+    }
+}
+
+pub fn signed_product(a: i128, b: i128) -> Result<i128, Wide>
+    ensures { OkIff result (IsWithin (a *ℤ b)) (a *ℤ b) }
+{
+    if let (Ok(a), Ok(b)) = (i64::try_from(a), i64::try_from(b)) {
+        return Ok(short_product(a, b));
+    }
+    match a.checked_mul(b) {
+        Some(product) if product != i128::MIN => Ok(product),
+        _ => Err(Wide),
+    }
+}
+
+fn short_product(a: i64, b: i64) -> i128
+    ensures value { result ≡ a *ℤ b }
+    ensures within { IsWithin result }
+{
+    i128::from(a) * i128::from(b)
+}
+
+pub fn scaled(a: i128, k: u128) -> Result<i128, Wide>
+    requires { IsWithin (pos k) }
+    ensures { OkIff result (IsWithin (a *ℤ pos k)) (a *ℤ pos k) }
+{
+    signed_product(a, k as i128)
+}

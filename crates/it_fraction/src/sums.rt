@@ -1,0 +1,37 @@
+//! Sums of fractions by their parts.
+ghost use Rattle.std.specs.Prelude.{◌≡◌, ◌<◌, ◌*◌, ◌+ℤ◌, ◌*ℤ◌, pos, unsigned_abs, OkIff};
+ghost use Rattle.std.specs.Int.{IsGcd};
+ghost use Rattle.it_number.specs.Limit.{IsWithin};
+ghost use Rattle.it_rational.specs.Rational.{quotient, whole};
+ghost use Rattle.it_fraction.specs.Fits.{PartsFit};
+
+use crate::fraction::{Fraction, Wide, made};
+use crate::steps::{common, divided, product, scaled, signed_divided, sum};
+
+// the sum of a / b and c / d
+pub fn parts_sum(a: i128, b: u128, c: i128, d: u128) -> Result<Fraction, Wide>
+    requires b_some { 0 < b }
+    requires d_some { 0 < d }
+    requires b_within { IsWithin (pos b) }
+    requires d_within { IsWithin (pos d) }
+    requires left { IsGcd (unsigned_abs a) b 1 }
+    requires right { IsGcd (unsigned_abs c) d 1 }
+    ensures { OkIff result (PartsFit a b c d) (quotient (a *ℤ pos d +ℤ c *ℤ pos b) (b * d)) }
+{
+    let shared = common(b, d);
+    let left_factor = divided(d, shared);
+    let right_factor = divided(b, shared);
+    let left = scaled(a, left_factor)?;
+    let right = scaled(c, right_factor)?;
+    let total = sum(left, right)?;
+    let rest = common(total.unsigned_abs(), shared);
+    let bottom = product(right_factor, divided(d, rest))?;
+    Ok(made(signed_divided(total, rest), bottom))
+}
+
+// the sum of two whole numbers
+pub fn whole_sum(a: i128, c: i128) -> Result<Fraction, Wide>
+    ensures { OkIff result (IsWithin (a +ℤ c)) (whole (a +ℤ c)) }
+{
+    Ok(Fraction::whole(sum(a, c)?))
+}

@@ -1,0 +1,12 @@
+-- Substitutions: each variable stands for a set of other variables, and a set of variables for the union of what its members stand for.
+use Rattle.std.specs.Prelude.{ℕ, zero, suc, ◌+◌, bit_or, List, [], ◌∷◌, if◌then◌else◌}
+use Rattle.it_space.specs.Sets.{has_member}
+
+-- the union over the members of s from variable `first` on; the list has what each stands for, in order
+abbrev pub union_from : ℕ → List ℕ → ℕ → ℕ
+union_from first [] s = 0
+union_from first (x ∷ xs) s = bit_or (if has_member s first then x else 0) (union_from (first + 1) xs s)
+
+-- what a set stands for
+abbrev pub image : List ℕ → ℕ → ℕ
+image sets s = union_from 0 sets s

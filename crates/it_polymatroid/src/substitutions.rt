@@ -1,0 +1,91 @@
+ghost use Rattle.std.specs.Prelude.{◌≡◌, ◌<◌, ◌≤◌, ◌^◌, ℕ, pos, length, slice_index_or, All, IfOk, OnOk};
+ghost use Rattle.it_number.specs.Limit.{IsWithin};
+ghost use Rattle.it_polymatroid.specs.Polymatroid.{IsPolymatroid};
+ghost use Rattle.it_polymatroid.specs.Substitutions.{image};
+ghost use Rattle.it_polymatroid.specs.Tables.{IsTable, value_at};
+
+use crate::tables::Table;
+use it_space::VarSet;
+use std::alloc::{AllocError, Global};
+use std::marker::Model;
+
+/// For each variable, in order of their numbers, the set of other variables that it stands for.
+#[derive(Debug, Drop)]
+pub struct Substitution {
+    sets: Vec<VarSet>,
+}
+
+impl Model for Substitution {
+    ghost use Rattle.std.specs.Prelude.{List, ℕ};
+
+    ghost Value = { List ℕ };
+
+    ghost view = { λ s. s.sets.items };
+}
+
+impl Substitution {
+    pub fn new(sets: Vec<VarSet>) -> Substitution
+        ensures { result ≡ sets.items }
+    {
+        Substitution { sets }
+    }
+
+    /// How many variables it is of.
+    fn len(&self) -> usize
+        ensures { result ≡ length self.now }
+    {
+        self.sets.len()
+    }
+
+    /// The union of what the members stand for.
+    fn image(&self, set: VarSet) -> VarSet
+        requires { length self.now ≤ 16 }
+        ensures { result ≡ image self.now set }
+    {
+        union_of(self.sets.as_slice(), set)
+    }
+}
+
+fn union_of(sets: &[VarSet], of: VarSet) -> VarSet
+    requires { length sets.now ≤ 16 }
+    ensures { result ≡ image sets.now of }
+{
+    let mut union = VarSet::empty();
+    for i in 0..sets.len() {
+        if of.has(i as u8) {
+            union = union.union(sets[i]);
+        }
+    }
+    union
+}
+
+/// The function on the sets of the substitution's variables that has at each set the table's value at the set that it
+/// stands for.
+pub fn pull_back(alloc: Global, table: &Table, by: &Substitution) -> Result<Table, AllocError>
+    requires some { 1 ≤ length by.now }
+    requires few { length by.now ≤ 10 }
+    requires within { All (λ s. s < 2 ^ table.now.variables) by.now }
+    ensures variables { IfOk result (λ t. t.variables ≡ length by.now) }
+    ensures values { IfOk result (λ t. (s : ℕ) → s < 2 ^ length by.now → value_at t s ≡ value_at table.now (image by.now s)) }
+    ensures polymatroid { IfOk result (λ t. IsPolymatroid table.now.variables (value_at table.now) → IsPolymatroid t.variables (value_at t)) }
+{
+    let variables = by.len() as u8;
+    let values = pulled_values(alloc, table, by)?;
+    Ok(Table::new(variables, values))
+}
+
+fn pulled_values(alloc: Global, table: &Table, by: &Substitution) -> Result<Vec<i128>, AllocError>
+    requires few { length by.now ≤ 10 }
+    requires within { All (λ s. s < 2 ^ table.now.variables) by.now }
+    ensures complete { IfOk result (λ v. length v.items ≡ 2 ^ length by.now) }
+    ensures within { IfOk result (λ v. All IsWithin v.items) }
+    ensures table { OnOk result (IsTable table.now) }
+    ensures values { IfOk result (λ v. (s : ℕ) → s < 2 ^ length by.now → slice_index_or v.items s (pos 0) ≡ value_at table.now (image by.now s)) }
+{
+    let count = 1u16 << by.len();
+    let mut values = Vec::with_capacity(alloc, count as usize)?;
+    for number in 0..count {
+        values.push(table.at(by.image(VarSet::from_number(number))))?;
+    }
+    Ok(values)
+}
