@@ -1,11 +1,11 @@
 -- The lines of an answer, as bytes.
-use Rattle.std.specs.Prelude.{ℕ, ◌+◌, ◌-◌, ◌^◌, ◌<◌, ℤ, unsigned_abs, map, not, List, [], ◌∷◌, ◌++◌, length, slice_index_or, Bool, true, false, if◌then◌else◌, ◌==◌, codes, decimal, All}
+use Rattle.std.specs.Prelude.{ℕ, ◌+◌, ◌-◌, ◌^◌, ◌<◌, ℤ, unsigned_abs, map, not, List, [], ◌∷◌, ◌++◌, length, Bool, true, false, if◌then◌else◌, ◌==◌, codes, decimal, All}
 use Rattle.std.specs.Fmt.{signed_decimal}
 use Rattle.it_space.specs.Sets.{has_member}
 use Rattle.it_space.specs.Answers.{Weights, Reply, Proved, Refuted}
 use Rattle.it_space.specs.declared.answers.Answer.{Answer}
 use Rattle.it_space.specs.declared.answers.Answer.TheVariants.{Yes, No}
-use Rattle.it_polymatroid.specs.Elementals.{Elemental, Conditional, Mutual, elementals}
+use Rattle.it_polymatroid.specs.Elementals.{Elemental, Conditional, Mutual, elemental_at}
 
 -- a separator, where something stands before
 abbrev pub between_if : Bool → List ℕ → List ℕ
@@ -41,7 +41,7 @@ elemental_text names (Mutual i j k) =
 
 -- the generator of this number
 unfoldable pub generator_text : List (List ℕ) → ℕ → List ℕ
-generator_text names g = elemental_text names (slice_index_or (elementals (length names)) g (Conditional 0))
+generator_text names g = elemental_text names (elemental_at (length names) g)
 
 unfoldable pub part_text : List (List ℕ) → ℕ × ℤ → List ℕ
 part_text names part = signed_decimal part.1 ++ codes " " ++ generator_text names part.0

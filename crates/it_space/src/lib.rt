@@ -2,6 +2,7 @@
 #![tactic(auto)]
 
 mod answers;
+mod faults;
 mod normal_rows;
 mod points;
 mod rows;
@@ -10,6 +11,7 @@ mod spaces;
 mod values;
 
 pub use answers::{Answer, Certificate};
+pub use faults::RowFault;
 pub use normal_rows::normal;
 pub use points::Point;
 pub use rows::Row;

@@ -1,4 +1,5 @@
 ghost use Rattle.std.specs.Prelude.{◌≡◌, ◌↔◌, [], IsTrue};
+ghost use Rattle.it_number.specs.Limit.{IsWithin};
 ghost use Rattle.it_space.specs.Rows.{IsCanonical, coefficient};
 
 use std::marker::Model;
@@ -44,7 +45,8 @@ impl Row {
 
     /// The coefficient at a coordinate, 0 where the row has no term there.
     pub fn coefficient(&self, at: u32) -> i128
-        ensures { result ≡ coefficient self.now at }
+        ensures value { result ≡ coefficient self.now at }
+        ensures within { IsWithin result }
     {
         coefficient_of(self.terms.as_slice(), at)
     }
@@ -60,7 +62,8 @@ impl Row {
 /// The coefficient at a coordinate by binary search.
 fn coefficient_of(terms: &[(u32, i128)], at: u32) -> i128
     requires { IsCanonical terms.now }
-    ensures { result ≡ coefficient terms.now at }
+    ensures value { result ≡ coefficient terms.now at }
+    ensures within { IsWithin result }
 {
     match terms.binary_search_by_key(&at, |term| term.0) {
         Ok(i) => terms[i].1,
