@@ -1,37 +1,20 @@
 -- Names in lists: where one stands, and that they differ.
-use Rattle.std.proofs.Common.{◌≡◌, ℕ, suc, ◌<◌, ◌≤◌, Bool, true, false, cond, List, [], ◌∷◌, ◌++◌, length, get_or, Some, None, refl, sym, ap, ◌∙◌, subst, arith, append_assoc, nat_lt}
+use Rattle.std.proofs.Common.{◌≡◌, ℕ, suc, ◌<◌, ◌≤◌, Bool, true, false, cond, List, Option, [], ◌∷◌, ◌++◌, length, get_or, Some, None, refl, sym, ap, ◌∙◌, subst, arith, append_assoc, nat_lt, ◌+◌, length-append, Vec, Global, map, not}
 use Rattle.std.specs.Prelude.{All, bytes_eq}
-use Rattle.std.specs.List.{position, position_or_len, IsDistinct, AllByRecursion}
-use Rattle.std.proofs.Common.{◌+◌, length-append, Vec, Global, map}
-use Rattle.std.proofs.lemmas.List.{get_or-map}
+use Rattle.std.specs.List.{position, position_or_len, list_any, IsDistinct, AllByRecursion}
+use Rattle.std.proofs.lemmas.List.{length-map}
+use Rattle.indexmap.specs.IndexSet.{insert_key}
 use Rattle.std.proofs.lemmas.List.{append-nil}
 use Rattle.std.proofs.lemmas.List.Elements.{All-nil, All-cons, All-head, All-tail}
 use Rattle.std.proofs.lemmas.Slice.Eq.{bytes_eq-Decides}
-use Rattle.std.proofs.lemmas.List.Sums.{position_or_len_is, fails_before_first}
+use Rattle.std.proofs.lemmas.List.Sums.{fails_before_first}
 use Rattle.std.proofs.lemmas.Bool.Decides.{nat_tests}
 use Rattle.it_syntax.specs.Vocabulary.{index_of, Vocabulary, IsVocabulary, IsNew}
 
-chosen_some : {A : Type 0} (b : Bool) (x y : A) → b ≡ true → cond b x y ≡ x
-chosen_some true x y e = refl
-chosen_some false x y e = absurd cc
+abbrev place : ℕ → ℕ → Option ℕ
+place n m = cond (nat_lt n m) (Some n) None
 
--- the first place that passes
-pub found_at : (p : List ℕ → Bool) (xs : List (List ℕ)) (i : ℕ) (d : List ℕ) → i < length xs → ((k : ℕ) → k < i → p (get_or xs k d) ≡ false) → p (get_or xs i d) ≡ true → position p xs ≡ Some i
-found_at p xs i d lt before at =
-    let e : position_or_len p xs ≡ i = position_or_len_is p xs i d (omega arith) before (λ _. at) in
-    rw e (chosen_some (nat_lt i (length xs)) (Some i) None (grind (arith, nat_tests)))
-
-chosen_none : {A : Type 0} (b : Bool) (x y : A) → b ≡ false → cond b x y ≡ y
-chosen_none false x y e = refl
-chosen_none true x y e = absurd cc
-
--- no place passes
-pub found_nowhere : (p : List ℕ → Bool) (xs : List (List ℕ)) (d : List ℕ) → ((k : ℕ) → k < length xs → p (get_or xs k d) ≡ false) → position p xs ≡ None
-found_nowhere p xs d before =
-    let e : position_or_len p xs ≡ length xs = position_or_len_is p xs (length xs) d (omega arith) before (λ (lt : length xs < length xs). absurd (omega arith)) in
-    rw e (chosen_none (nat_lt (length xs) (length xs)) (Some (length xs)) None (grind (arith, nat_tests)))
-
--- and back
+-- where none is found each fails
 pub nowhere_fails : (p : List ℕ → Bool) (xs : List (List ℕ)) (d : List ℕ) → position p xs ≡ None → (k : ℕ) → k < length xs → p (get_or xs k d) ≡ false
 nowhere_fails p xs d none k lt = fails_before_first p xs k d (past (nat_lt (position_or_len p xs) (length xs)) refl none)
   where
@@ -105,16 +88,19 @@ pub no_names : IsVocabulary (record { variables = []; rates = [] })
 unfolding IsDistinct
 no_names = record { few_variables = omega arith; few_rates = omega arith; short = All-nil IsShort; distinct = tt }
 
--- the name that stands at an index
-pub item_at : (names : List (Vec ℕ Global)) (i : ℕ) (v : Vec ℕ Global) → i < length names → v ≡ get_or names i v → get_or (map (λ w. w.items) names) i [] ≡ v.items
-item_at names i v lt is = get_or-map (λ (w : Vec ℕ Global). w.items) names i v [] lt ∙ ap (λ (w : Vec ℕ Global). w.items) (sym is)
+prefix_map : (p : List ℕ → Bool) (vs : List (Vec ℕ Global)) → position_or_len p (map (λ v. v.items) vs) ≡ position_or_len (λ v. p v.items) vs
+prefix_map p [] = refl
+prefix_map p (v ∷ vs) = ap (λ (n : ℕ). cond (not (p v.items)) (1 + n) 0) (prefix_map p vs)
 
--- one more place that fails
-pub fails_more : (p : List ℕ → Bool) (xs : List (List ℕ)) (i : ℕ) → ((k : ℕ) → k < i → p (get_or xs k []) ≡ false) → p (get_or xs i []) ≡ false → (k : ℕ) → k < i + 1 → p (get_or xs k []) ≡ false
-fails_more p xs i before here k lt = by (nat_lt k i) refl
-  where
-    by : (b : Bool) → nat_lt k i ≡ b → p (get_or xs k []) ≡ false
-    by true e = before k (grind (arith, nat_tests))
-    by false e =
-        let same : i ≡ k = grind (arith, nat_tests) in
-        subst (λ (j : ℕ). p (get_or xs j []) ≡ false) same here
+-- where a name stands among vectors
+pub position_map : (p : List ℕ → Bool) (vs : List (Vec ℕ Global)) → position p (map (λ v. v.items) vs) ≡ position (λ v. p v.items) vs
+position_map p vs =
+    ap (λ (n : ℕ). place n (length (map (λ (v : Vec ℕ Global). v.items) vs))) (prefix_map p vs) ∙ ap (λ (n : ℕ). place (position_or_len (λ (v : Vec ℕ Global). p v.items) vs) n) (length-map vs (λ (v : Vec ℕ Global). v.items))
+
+none_any : (name : List ℕ) (vs : List (Vec ℕ Global)) → AllByRecursion (λ y. bytes_eq name y ≡ false) (map (λ v. v.items) vs) → list_any (λ v. bytes_eq name v.items) vs ≡ false
+none_any name [] h = refl
+none_any name (v ∷ vs) h = rw h.0 (none_any name vs h.1)
+
+-- a new name goes last
+pub insert_new : (vs : List (Vec ℕ Global)) (v : Vec ℕ Global) → index_of (map (λ w. w.items) vs) v.items ≡ None → insert_key (λ x y. bytes_eq x.items y.items) vs v ≡ vs ++ v ∷ []
+insert_new vs v none = rw (none_any v.items vs (nowhere_all v.items (map (λ (w : Vec ℕ Global). w.items) vs) none)) refl

@@ -16,6 +16,7 @@ mod tests;
 pub mod types;
 
 pub use laws::{first_fault, relation_is_one, tokens_are_one};
+pub use lists::is_measure;
 pub use names::Names;
 pub use relations::relation;
 pub use scanner::tokens;

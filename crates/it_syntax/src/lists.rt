@@ -17,7 +17,7 @@ pub const ENTROPY: &[u8] = b"H";
 /// The word that stands for a mutual information.
 pub const MUTUAL: &[u8] = b"I";
 
-/// Whether it is one of the two words that are no names.
+/// Whether it is `H` or `I`, which stand for entropy and mutual information and are no names.
 pub fn is_measure(text: &[u8]) -> bool
     ensures { result ≡ is_measure text.now }
 {

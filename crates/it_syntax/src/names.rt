@@ -2,6 +2,7 @@
 ghost use Rattle.std.specs.Prelude.{◌≡◌, ℕ, ◌<◌, ◌≤◌, ◌++◌, [], ◌∷◌, length, Some, slice_get, OnOk, OnErr, IfSome, map};
 ghost use Rattle.it_syntax.specs.Vocabulary.{index_of, IsNew, IsVocabulary};
 
+use indexmap::IndexSet;
 use it_space::Space;
 use std::alloc::{AllocError, Global};
 use std::marker::Model;
@@ -10,8 +11,8 @@ use std::marker::Model;
 #[derive(Debug, Drop)]
 pub struct Names {
     alloc: Global,
-    variables: Vec<Vec<u8>>,
-    rates: Vec<Vec<u8>>,
+    variables: IndexSet<Vec<u8>>,
+    rates: IndexSet<Vec<u8>>,
 }
 
 impl Model for Names {
@@ -20,9 +21,9 @@ impl Model for Names {
 
     ghost Value = { Vocabulary };
 
-    ghost view = { λ n. record { variables = map (λ v. v.items) n.variables.items; rates = map (λ v. v.items) n.rates.items } };
+    ghost view = { λ n. record { variables = map (λ v. v.items) n.variables.keys; rates = map (λ v. v.items) n.rates.keys } };
 
-    ghost invariant = { λ n. IsVocabulary (record { variables = map (λ v. v.items) n.variables.items; rates = map (λ v. v.items) n.rates.items }) };
+    ghost invariant = { λ n. IsVocabulary (record { variables = map (λ v. v.items) n.variables.keys; rates = map (λ v. v.items) n.rates.keys }) };
 }
 
 impl Names {
@@ -32,8 +33,8 @@ impl Names {
     {
         Names {
             alloc,
-            variables: Vec::new(alloc),
-            rates: Vec::new(alloc),
+            variables: IndexSet::new(alloc),
+            rates: IndexSet::new(alloc),
         }
     }
 
@@ -47,7 +48,7 @@ impl Names {
         ensures unchanged { OnErr result (self.new ≡ self.old) }
     {
         let name = Vec::from_slice(self.alloc, name)?;
-        self.variables.push(name)?;
+        self.variables.insert(name)?;
         Ok(())
     }
 
@@ -61,7 +62,7 @@ impl Names {
         ensures unchanged { OnErr result (self.new ≡ self.old) }
     {
         let name = Vec::from_slice(self.alloc, name)?;
-        self.rates.push(name)?;
+        self.rates.insert(name)?;
         Ok(())
     }
 
@@ -87,14 +88,14 @@ impl Names {
         requires { i < length self.now.variables }
         ensures { slice_get self.now.variables i ≡ Some result.now }
     {
-        self.variables[i as usize].as_slice()
+        self.variables.as_slice()[i as usize].as_slice()
     }
 
     pub fn rate_name(&self, i: u8) -> &[u8]
         requires { i < length self.now.rates }
         ensures { slice_get self.now.rates i ≡ Some result.now }
     {
-        self.rates[i as usize].as_slice()
+        self.rates.as_slice()[i as usize].as_slice()
     }
 
     /// How many variables and rates there are.
@@ -109,15 +110,10 @@ impl Names {
     }
 }
 
-fn index_in(names: &[Vec<u8>], name: &[u8]) -> Option<u8>
-    requires { length names.now ≤ 16 }
-    ensures index { result ≡ index_of (map (λ v. v.items) names.now) name.now }
-    ensures within { IfSome result (λ i. i < length names.now) }
+fn index_in(names: &IndexSet<Vec<u8>>, name: &[u8]) -> Option<u8>
+    requires { length names.now.keys ≤ 16 }
+    ensures index { result ≡ index_of (map (λ v. v.items) names.now.keys) name.now }
+    ensures within { IfSome result (λ i. i < length names.now.keys) }
 {
-    for (i, known) in names.iter().enumerate() {
-        if name == known.as_slice() {
-            return Some(i as u8);
-        }
-    }
-    None
+    Some(names.get_index_of(name)? as u8)
 }

@@ -1,5 +1,5 @@
 use crate::types::{Atom, Code, Relation, Sign, Symbol, SyntaxFault, Term, Token, TokenKind};
-use crate::{Names, relation, tokens};
+use crate::{Names, is_measure, relation, tokens};
 use std::alloc::{AllocError, Global};
 use std::process::Abort;
 use std::test::Fail;
@@ -130,6 +130,10 @@ fn names_are_found_in_order(rt: HostRuntime) -> Result<(), Fail> {
     assert_eq!(rt; names.rate(b"X"), None);
     assert_eq!(rt; names.variable_name(1), b"Y".as_slice());
     assert_eq!(rt; names.rate_name(0), b"R".as_slice());
+    assert_eq!(rt;
+        (is_measure(b"H"), is_measure(b"I"), is_measure(b"HI")),
+        (true, true, false)
+    );
     Ok(())
 }
 
