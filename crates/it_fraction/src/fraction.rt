@@ -1,5 +1,5 @@
 //! Fractions in lowest terms.
-ghost use Rattle.std.specs.Prelude.{◌≡◌, ◌≢◌, ◌<◌, pos, unsigned_abs, true, false, IsTrue, ◌↔◌, OkIff};
+ghost use Rattle.std.specs.Prelude.{◌≡◌, ◌≢◌, ◌<◌, ◌≤ℤ◌, pos, unsigned_abs, true, false, IsTrue, ◌↔◌, OkIff};
 ghost use Rattle.std.specs.Bool.{OnTrue, OnFalse};
 ghost use Rattle.std.specs.Cmp.{eq_by_cmp_equiv, partial_equiv_from_equiv, partial_order_from_agreeing_total};
 ghost use Rattle.std.specs.Cmp.Rules.{comparing};
@@ -103,6 +103,7 @@ impl Fraction {
     /// The denominator in lowest terms, at least 1.
     pub fn den(self) -> i128
         ensures value { result ≡ pos self.den }
+        ensures some { pos 1 ≤ℤ result }
         ensures within { IsWithin result }
     {
         self.bottom as i128
@@ -114,6 +115,7 @@ impl Fraction {
         self.top == 0
     }
 
+    /// Whether the number is below 0.
     pub fn is_negative(self) -> bool
         ensures yes { OnTrue result (is_at_least_zero self ≡ false) }
         ensures no { OnFalse result (is_at_least_zero self ≡ true) }
@@ -121,6 +123,7 @@ impl Fraction {
         if self.top < 0 { true } else { false }
     }
 
+    /// Whether the number is above 0, so that its negation isn't at least 0.
     #[tactic(auto, using(crate::proofs::Signs::minus_below, crate::proofs::Signs::minus_least))]
     pub fn is_positive(self) -> bool
         ensures yes { OnTrue result (is_at_least_zero (minus self) ≡ false) }
@@ -142,8 +145,9 @@ impl Fraction {
         made(-self.top, self.bottom)
     }
 
-    /// The sum, by way of the greatest common divisor of the denominators
-    /// (Knuth, The Art of Computer Programming vol. 2, 4.5.1).
+    /// The sum, by way of the greatest common divisor of the denominators (Knuth, The Art of Computer
+    /// Programming vol. 2, 4.5.1). It is refused exactly where one of the four numbers of this way is
+    /// too large, so also where the sum itself would fit.
     #[inline]
     pub fn add(self, other: Fraction) -> Result<Fraction, Wide>
         ensures { OkIff result (SumFits self other) (plus self other) }
@@ -160,7 +164,7 @@ impl Fraction {
         parts_sum(self.top, self.bottom, other.top, other.bottom)
     }
 
-    /// The difference, as the sum with the other number negated.
+    /// The difference, as the sum with the other number negated; refused as that sum is.
     #[inline]
     pub fn sub(self, other: Fraction) -> Result<Fraction, Wide>
         ensures { OkIff result (DifferenceFits self other) (plus self (minus other)) }
@@ -168,7 +172,8 @@ impl Fraction {
         self.add(other.neg())
     }
 
-    /// The product, whose common divisors are taken out before anything is multiplied.
+    /// The product, whose common divisors are taken out before anything is multiplied. It is refused
+    /// exactly where a part of the result in lowest terms is too large.
     #[inline]
     pub fn mul(self, other: Fraction) -> Result<Fraction, Wide>
         ensures { OkIff result (IsNarrow (times self other)) (times self other) }
@@ -182,7 +187,7 @@ impl Fraction {
         parts_product(self.top, self.bottom, other.top, other.bottom)
     }
 
-    /// The quotient, as the product with the other number turned over.
+    /// The quotient, as the product with the other number turned over; refused as that product is.
     #[inline]
     pub fn div(self, other: Fraction) -> Result<Fraction, Wide>
         requires { other.num ≢ pos 0 }

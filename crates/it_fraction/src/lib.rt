@@ -11,3 +11,6 @@ mod sums;
 
 pub use divisors::{gcd, lcm};
 pub use fraction::{Fraction, Wide};
+
+#[cfg(test)]
+mod tests;

@@ -20,10 +20,9 @@ pub fn parts_product(a: i128, b: u128, c: i128, d: u128) -> Result<Fraction, Wid
 {
     let left_shared = common(a.unsigned_abs(), d);
     let right_shared = common(c.unsigned_abs(), b);
-    let top = signed_product(
-        signed_divided(a, left_shared),
-        signed_divided(c, right_shared),
-    )?;
+    let left = signed_divided(a, left_shared);
+    let right = signed_divided(c, right_shared);
+    let top = signed_product(left, right)?;
     let bottom = product(divided(b, right_shared), divided(d, left_shared))?;
     Ok(made(top, bottom))
 }

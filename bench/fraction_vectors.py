@@ -1,0 +1,75 @@
+#!/usr/bin/env python3
+"""Prints the table ROWS of crates/it_fraction/src/tests.rt: the results of Python's exact fractions, and None where
+a number that the operation names passes 2^127 - 1. For a sum these are Knuth's (The Art of Computer Programming
+vol. 2, 4.5.1), for a product and a quotient the two parts in lowest terms."""
+from fractions import Fraction
+from math import gcd
+
+TOP = 2**127 - 1
+
+PAIRS = [
+    ((2**126, 3), (3, 2**125)),
+    ((1, 2**100), (1, 2**100)),
+    ((TOP, 1), (1, 1)),
+    ((2**64, 1), (1, 2**64)),
+    ((1, TOP), (1, TOP)),
+    ((1, TOP), (2, 1)),
+    ((TOP - 1, TOP), (TOP - 2, TOP - 1)),
+    ((0, 1), (0, 1)),
+    ((0, 1), (-5, 7)),
+    ((TOP, 3), (0, 1)),
+    ((0, 1), (-TOP, 1)),
+    ((-TOP, 1), (1, 1)),
+    ((-TOP, 1), (-1, 1)),
+    ((TOP, 1), (-TOP, 1)),
+    ((TOP, 2), (TOP, 2)),
+    ((1, 6), (1, 10)),
+    ((-1, 6), (1, 6)),
+    ((5, -6), (-3, 4)),
+    ((7, 12), (-5, 18)),
+    ((6, 4), (3, 2)),
+    ((TOP, 2**126), (2**126, TOP)),
+    ((2**126, 1), (2**126, 1)),
+    ((2**63, 1), (2**63 - 1, 1)),
+    ((-(2**63), 1), (2**63, 1)),
+    ((2**62 + 1, 2**63 - 1), (2**62 - 1, 2**63 - 1)),
+    ((1, 2**64), (1, 2**63)),
+    ((10**30 + 57, 10**24 + 7), (-(10**18) - 9, 10**24 + 7)),
+    ((3**60, 2**90), (5**40, 2**94)),
+    ((1, 3**40), (1, 2**64)),
+    ((3**40, 2**63), (2**60, 3**37)),
+]
+
+
+def within(*numbers):
+    return all(abs(number) <= TOP for number in numbers)
+
+
+def total(x, y):
+    a, b, c, d = x.numerator, x.denominator, y.numerator, y.denominator
+    g = gcd(b, d)
+    left, right = a * (d // g), c * (b // g)
+    t = left + right
+    return x + y if within(left, right, t, (b // g) * (d // gcd(t, g))) else None
+
+
+def narrow(x):
+    return x if within(x.numerator, x.denominator) else None
+
+
+def shown(x):
+    return "None" if x is None else f"Some(({x.numerator}, {x.denominator}))"
+
+
+for left, right in PAIRS:
+    x, y = Fraction(*left), Fraction(*right)
+    order = "Less" if x < y else "Greater" if x > y else "Equal"
+    print(f"""    Row {{
+        left: {left},
+        right: {right},
+        sum: {shown(total(x, y))},
+        difference: {shown(total(x, -y))},
+        product: {shown(narrow(x * y))},
+        quotient: {shown(narrow(x / y) if y else None)},
+        order: Ordering::{order},
+    }},""")

@@ -1,0 +1,66 @@
+//! A kernel of fraction arithmetic, for timing. `bench_fractions KERNEL PARTS TURNS` makes 256 pairs
+//! of fractions, does one operation on each pair TURNS times, and prints a sum over the results.
+//! KERNEL is add, mul or compare; PARTS is whole, small (below 2^20) or wide (near 2^100).
+#![tactic(auto)]
+
+mod pairs;
+
+use crate::pairs::{Pair, pairs};
+use it_fraction::{Fraction, Wide};
+use std::io;
+
+// the sum so far with one more result
+fn counted(sum: i128, outcome: Result<Fraction, Wide>) -> i128 {
+    match outcome {
+        Ok(fraction) => sum
+            .wrapping_add(fraction.num())
+            .wrapping_add(fraction.den()),
+        Err(Wide) => sum.wrapping_sub(1),
+    }
+}
+
+fn sums(pairs: &[Pair], turns: u32) -> i128 {
+    let mut sum: i128 = 0;
+    for _ in 0..turns {
+        for pair in pairs {
+            sum = counted(sum, pair.left.add(pair.right));
+        }
+    }
+    sum
+}
+
+fn products(pairs: &[Pair], turns: u32) -> i128 {
+    let mut sum: i128 = 0;
+    for _ in 0..turns {
+        for pair in pairs {
+            sum = counted(sum, pair.left.mul(pair.right));
+        }
+    }
+    sum
+}
+
+fn orders(pairs: &[Pair], turns: u32) -> i128 {
+    let mut sum: i128 = 0;
+    for _ in 0..turns {
+        for pair in pairs {
+            sum = sum.wrapping_add(pair.left.compare(pair.right) as i128);
+        }
+    }
+    sum
+}
+
+fn main(rt: HostRuntime) -> io::Result<()> {
+    let alloc = rt.alloc();
+    let words = std::env::args(&rt)?.skip(1).collect::<Vec<String>>(alloc)?;
+    let [kernel, parts, turns] = words.as_slice() else {
+        return println!(rt; "usage: bench_fractions KERNEL PARTS TURNS");
+    };
+    let turns = turns.as_str().parse::<u32>().unwrap_or(0);
+    let pairs = pairs(alloc, kernel.as_str(), parts.as_str())?;
+    let sum = match kernel.as_str() {
+        "add" => sums(&pairs, turns),
+        "mul" => products(&pairs, turns),
+        _ => orders(&pairs, turns),
+    };
+    println!(rt; "{sum}")
+}
