@@ -13,7 +13,7 @@ ghost use Rattle.it_cli.specs.Readings.{IsLaterWhere, asked};
 
 use it_syntax::rest::{Piece, Rest};
 use it_syntax::types::{Relation, Symbol, SyntaxFault, Token};
-use it_syntax::{Names, relation, tokens};
+use it_syntax::{Names, is_measure, relation, tokens};
 use std::alloc::{AllocError, AllocFailed, Global};
 
 /// What a file asks: whether the relation holds at every polymatroid on the variables.
@@ -116,12 +116,6 @@ fn declared(alloc: Global, line: &[u8]) -> Result<Names, FileFault>
     names.add_variable(first)?;
     names.add_variable(second)?;
     Ok(names)
-}
-
-fn is_measure(word: &[u8]) -> bool
-    ensures { result ≡ is_measure word.now }
-{
-    word == b"H".as_slice() || word == b"I".as_slice()
 }
 
 /// Whether a line of these tokens begins with this word.

@@ -17,3 +17,7 @@ returns-in_err-relation-clause-fault c =
     let p = err_from_is_err_and c.from_residual-in_err-relation.result c.from_residual-in_err-relation.ensures.1 in
     let lines = two_items c.args.lines.now _ c.in-len2.len_at_least c.in-len2.len_below in
     rw (p.1, p.2) (weaker _ _ c.in_err-relation.field-0.0 (unasked_relation _ _ _ c.in_ok-names.names lines c.in_ok-names.ensures.read) c.in_err-relation.ensures.fault)
+
+pub returns-clause-read : goal.returns-clause-read
+returns-clause-read c =
+    record { first = _; second = _; two = two_items c.args.lines.now _ c.in-len2.len_at_least c.in-len2.len_below; declares = c.in_ok-names.ensures.read; proves = c.in_ok-relation.ensures.read }
