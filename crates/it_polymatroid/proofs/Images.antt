@@ -1,7 +1,7 @@
 -- What sets of variables stand for, and polymatroids pulled back.
-use Rattle.std.proofs.Common.{◌≡◌, ℕ, zero, suc, ◌+◌, ◌-◌, ◌*◌, ◌^◌, ◌<◌, ◌≤◌, ◌⊎◌, inl, inr, ℤ, pos, ◌+ℤ◌, ◌≤ℤ◌, bit_and, bit_or, min, max, refl, sym, ap, ap₂, subst, subst₂, ◌∙◌, arith, List, [], ◌∷◌, ◌++◌, lit<, Bool, true, false, cond, nat_eq, length, drop, get_or, All}
+use Rattle.std.proofs.Common.{◌≡◌, ℕ, zero, suc, ◌+◌, ◌^◌, ◌<◌, ◌≤◌, ◌⊎◌, inl, inr, ℤ, pos, ◌≤ℤ◌, bit_and, bit_or, max, refl, sym, ap, ap₂, subst₂, ◌∙◌, arith, List, [], ◌∷◌, ◌++◌, Bool, true, false, cond, nat_eq, length, drop, get_or, All}
 use Rattle.std.proofs.lemmas.Int.{ints}
-use Rattle.std.proofs.lemmas.List.{drop_more, get_or_append_left, get_or-append-add, get_or_past}
+use Rattle.std.proofs.lemmas.List.{drop_more, get_or_append_left, get_or-append-add}
 use Rattle.std.proofs.lemmas.Bool.{cases_lt}
 use Rattle.it_number.specs.Limit.{IsWithin}
 use Rattle.it_polymatroid.specs.Tables.{SetFunction, IsTable, value_at}
@@ -108,7 +108,7 @@ pulled_polymatroid n m h g sets a is p = record {
   rises = λ s t l i. subst₂ (λ (x y : ℤ). x ≤ℤ y) (sym (is s (omega (arith, i, and_le_r s t)))) (sym (is t l)) (p.rises (image sets s) (image sets t) (below t) (image_inside sets s t i));
   submodular = λ s t k l.
       let low : h (image sets (bit_and s t)) ≤ℤ h (bit_and (image sets s) (image sets t)) = p.rises (image sets (bit_and s t)) (bit_and (image sets s) (image sets t)) (meet_lt n (image sets s) (image sets t) (below t))
-          (inside_meet (image sets (bit_and s t)) (image sets s) (image sets t) (image_inside sets (bit_and s t) s (meet_left s t)) (image_inside sets (bit_and s t) t (meet_right s t))) in
+      (inside_meet (image sets (bit_and s t)) (image sets s) (image sets t) (image_inside sets (bit_and s t) s (meet_left s t)) (image_inside sets (bit_and s t) t (meet_right s t))) in
       let both = p.submodular (image sets s) (image sets t) (below s) (below t) in
       let u : g (bit_or s t) ≡ h (bit_or (image sets s) (image sets t)) = is (bit_or s t) (or_lt m s t k l) ∙ ap h (union-or 0 sets s t) in
       let v : g (bit_and s t) ≡ h (image sets (bit_and s t)) = is (bit_and s t) (meet_lt m s t l) in
@@ -129,14 +129,6 @@ values-push values f n v e h is s l = at (cases_lt s n)
     at (inl k) = get_or_append_left values (v ∷ []) (pos 0) s (omega arith) ∙ h s k
     at (inr k) = let same : s ≡ n = omega arith in let here : s ≡ length values + 0 = omega arith in
         ap (λ m. get_or (values ++ v ∷ []) m (pos 0)) here ∙ get_or-append-add values (v ∷ []) 0 (pos 0) ∙ is ∙ ap f (sym same)
-
--- all values of a table are within the limit
-pub table_within : (f : SetFunction) → IsTable f → (s : ℕ) → IsWithin (value_at f s)
-table_within f t s = at (cases_lt s (length f.values))
-  where
-    at : (s < length f.values) ⊎ (length f.values ≤ s) → IsWithin (value_at f s)
-    at (inl h) = t.within s (pos 0) h
-    at (inr h) = rw (get_or_past f.values s (pos 0) h) (lit< tt)
 
 -- the values pulled back are a table
 pub pulled_table : (f : SetFunction) (sets : List ℕ) (m : ℕ) (values : List ℤ) → IsTable f → m ≡ length sets → m ≤ 10 → length values ≡ 2 ^ length sets → All IsWithin values

@@ -1,5 +1,5 @@
 -- Substitutions: each variable stands for a set of other variables, and a set of variables for the union of what its members stand for.
-use Rattle.std.specs.Prelude.{ℕ, zero, suc, ◌+◌, bit_or, List, [], ◌∷◌, if◌then◌else◌}
+use Rattle.std.specs.Prelude.{ℕ, ◌+◌, bit_or, List, [], ◌∷◌, if◌then◌else◌}
 use Rattle.it_space.specs.Sets.{has_member}
 
 -- the union over the members of s from variable `first` on; the list has what each stands for, in order

@@ -1,5 +1,4 @@
-use Rattle.std.proofs.Common.{◌≡◌, ◌<◌, ◌≤◌, ◌^◌, ◌∙◌, ℕ, pos, get_or, length, sym, ap, subst, arith}
-use Rattle.it_polymatroid.specs.Substitutions.{image}
+use Rattle.std.proofs.Common.{pos, get_or, length, arith}
 use Rattle.it_polymatroid.specs.Tables.{value_at}
 use Rattle.it_polymatroid.proofs.Images.{pulled_table, pulled_polymatroid}
 use Rattle.it_polymatroid.proofs.substitutions.pull_back.Goals as goal

@@ -1,4 +1,4 @@
-use Rattle.std.proofs.Common.{◌≡◌, ◌<◌, ◌^◌, ℕ, pos, length, get_or, All}
+use Rattle.std.proofs.Common.{◌≡◌, ◌<◌, ℕ, pos, length, get_or, All}
 use Rattle.it_number.specs.Limit.{IsWithin}
 use Rattle.it_polymatroid.specs.Substitutions.{image}
 use Rattle.it_polymatroid.specs.Tables.{IsTable, value_at}

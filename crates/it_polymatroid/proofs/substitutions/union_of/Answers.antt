@@ -16,12 +16,16 @@ step sets s u v i x b h is has e inv =
     ∙ inv
 
 pub loop-i-preserved : goal.loop-i-preserved
-loop-i-preserved c = (refl, elim c.if-has.branch [
-    then-has w ↦ step c.args.sets.now c.args.of c.loop-i.union c.if-has.union c.loop-i.i w.index-sets-i.result true c.loop-i-test.true w.index-sets-i.is (sym c.has.ensures ∙ w.if-has.true)
+loop-i-preserved c = (
+  refl,
+  elim c.if-has.branch [
+    | then-has w ↦ step c.args.sets.now c.args.of c.loop-i.union c.if-has.union c.loop-i.i w.index-sets-i.result true c.loop-i-test.true w.index-sets-i.is (sym c.has.ensures ∙ w.if-has.true)
         (w.union-is ∙ w.union-union.ensures) c.loop-i.invariant.1
     | else-has w ↦ step c.args.sets.now c.args.of c.loop-i.union c.if-has.union c.loop-i.i (get_or c.args.sets.now c.loop-i.i 0) false c.loop-i-test.true
         (get_or_default c.args.sets.now c.loop-i.i 0 (get_or c.args.sets.now c.loop-i.i 0) c.loop-i-test.true) (sym c.has.ensures ∙ w.if-has.false)
-        (w.union-is ∙ sym (or_zero_r c.loop-i.union)) c.loop-i.invariant.1 ])
+        (w.union-is ∙ sym (or_zero_r c.loop-i.union)) c.loop-i.invariant.1
+  ],
+)
 
 pub returns : goal.returns
 returns c = union-end c.args.sets.now c.args.of c.loop-i.union c.loop-i.i (omega arith) c.loop-i.invariant.1
