@@ -1,7 +1,7 @@
 -- What sets of variables stand for, and polymatroids pulled back.
-use Rattle.std.proofs.Common.{◌≡◌, ℕ, zero, suc, ◌+◌, ◌^◌, ◌<◌, ◌≤◌, ◌⊎◌, inl, inr, ℤ, pos, ◌≤ℤ◌, bit_and, bit_or, max, refl, sym, ap, ap₂, subst₂, ◌∙◌, arith, List, [], ◌∷◌, ◌++◌, lit<, Bool, true, false, cond, nat_eq, length, drop, get_or, All}
+use Rattle.std.proofs.Common.{◌≡◌, ℕ, zero, suc, ◌+◌, ◌^◌, ◌<◌, ◌≤◌, ◌⊎◌, inl, inr, ℤ, pos, ◌≤ℤ◌, bit_and, bit_or, max, refl, sym, ap, ap₂, subst₂, ◌∙◌, arith, List, [], ◌∷◌, ◌++◌, Bool, true, false, cond, nat_eq, length, drop, get_or, All}
 use Rattle.std.proofs.lemmas.Int.{ints}
-use Rattle.std.proofs.lemmas.List.{drop_more, get_or_append_left, get_or-append-add, get_or_past}
+use Rattle.std.proofs.lemmas.List.{drop_more, get_or_append_left, get_or-append-add}
 use Rattle.std.proofs.lemmas.Bool.{cases_lt}
 use Rattle.it_number.specs.Limit.{IsWithin}
 use Rattle.it_polymatroid.specs.Tables.{SetFunction, IsTable, value_at}
@@ -129,14 +129,6 @@ values-push values f n v e h is s l = at (cases_lt s n)
     at (inl k) = get_or_append_left values (v ∷ []) (pos 0) s (omega arith) ∙ h s k
     at (inr k) = let same : s ≡ n = omega arith in let here : s ≡ length values + 0 = omega arith in
         ap (λ m. get_or (values ++ v ∷ []) m (pos 0)) here ∙ get_or-append-add values (v ∷ []) 0 (pos 0) ∙ is ∙ ap f (sym same)
-
--- all values of a table are within the limit
-pub table_within : (f : SetFunction) → IsTable f → (s : ℕ) → IsWithin (value_at f s)
-table_within f t s = at (cases_lt s (length f.values))
-  where
-    at : (s < length f.values) ⊎ (length f.values ≤ s) → IsWithin (value_at f s)
-    at (inl h) = t.within s (pos 0) h
-    at (inr h) = rw (get_or_past f.values s (pos 0) h) (lit< tt)
 
 -- the values pulled back are a table
 pub pulled_table : (f : SetFunction) (sets : List ℕ) (m : ℕ) (values : List ℤ) → IsTable f → m ≡ length sets → m ≤ 10 → length values ≡ 2 ^ length sets → All IsWithin values

@@ -1,9 +1,12 @@
 -- Pairs of sets of a table.
-use Rattle.std.proofs.Common.{◌≡◌, ℕ, ◌^◌, ◌<◌, ℤ, pos, bit_and, bit_or, arith}
+use Rattle.std.proofs.Common.{◌≡◌, ◌⊎◌, inl, inr, ℕ, ◌^◌, ◌<◌, ◌≤◌, ℤ, pos, bit_and, bit_or, length, arith, lit<}
+use Rattle.std.proofs.lemmas.Bool.{cases_lt}
+use Rattle.std.proofs.lemmas.List.{get_or_past}
+use Rattle.it_number.specs.Limit.{IsWithin}
 use Rattle.std.proofs.lemmas.Nat.{or_lt, and_le_r}
 use Rattle.it_space.specs.Sets.{IsInside}
 use Rattle.it_polymatroid.specs.Polymatroid.{IsPolymatroid}
-use Rattle.it_polymatroid.specs.Tables.{PairsHoldAt}
+use Rattle.it_polymatroid.specs.Tables.{SetFunction, IsTable, value_at, PairsHoldAt}
 
 pub union_below : (n s t : ℕ) → s < 2 ^ n → t < 2 ^ n → bit_or s t < 2 ^ n
 union_below n s t h k = or_lt n s t h k
@@ -24,3 +27,11 @@ by_pairs n h z f = record {
 
 pub to_pairs : (n : ℕ) (h : ℕ → ℤ) → IsPolymatroid n h → (s : ℕ) → s < 2 ^ n → PairsHoldAt n h s
 to_pairs n h p s k t l = record { rises = p.rises s t l; submodular = p.submodular s t k l }
+
+-- all values of a table are within the limit
+pub table_within : (f : SetFunction) → IsTable f → (s : ℕ) → IsWithin (value_at f s)
+table_within f t s = at (cases_lt s (length f.values))
+  where
+    at : (s < length f.values) ⊎ (length f.values ≤ s) → IsWithin (value_at f s)
+    at (inl h) = t.within s (pos 0) h
+    at (inr h) = rw (get_or_past f.values s (pos 0) h) (lit< tt)

@@ -3,7 +3,8 @@ use Rattle.std.proofs.lemmas.List.Elements.{All-push}
 use Rattle.it_number.specs.Limit.{IsWithin}
 use Rattle.it_polymatroid.specs.Substitutions.{image}
 use Rattle.it_polymatroid.specs.Tables.{value_at}
-use Rattle.it_polymatroid.proofs.Images.{union_below, values-push, table_within}
+use Rattle.it_polymatroid.proofs.Images.{union_below, values-push}
+use Rattle.it_polymatroid.proofs.TableLemmas.{table_within}
 use Rattle.it_polymatroid.proofs.substitutions.pulled_values.Goals as goal
 use mir.Syntax.{w128}
 

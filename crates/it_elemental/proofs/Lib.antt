@@ -1,0 +1,11 @@
+pub mod Spans
+pub mod Lacking
+pub mod Blocks
+pub mod PairLemmas
+pub mod PlaceLemmas
+pub mod RowLemmas
+pub mod FitLemmas
+pub mod BrokenLemmas
+pub mod Members
+pub mod Sums
+pub mod ExpansionLemmas
