@@ -10,3 +10,4 @@ pub mod Reading
 pub mod FirstFault
 pub mod Gives
 pub mod Relations
+pub mod Givens
