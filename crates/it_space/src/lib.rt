@@ -20,3 +20,6 @@ pub use rows::Row;
 pub use sets::VarSet;
 pub use spaces::Space;
 pub use values::value;
+
+#[cfg(test)]
+mod tests;
