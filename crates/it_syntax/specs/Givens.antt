@@ -1,6 +1,7 @@
 -- What the constraints of `given` lines say of entropies (Yeung 1997, "A Framework for Linear Information Inequalities"):
 -- relations, chains, independence and functions.
 use Rattle.std.specs.Prelude.{◌≡◌, ℕ, ◌+◌, ◌<◌, ◌≤◌, ◌^◌, bit_or, ℤ, pos, ◌+ℤ◌, List, [], ◌∷◌, length, All}
+use Rattle.std.specs.List.{fold}
 use Rattle.it_syntax.specs.declared.types.Atom.{Atom}
 use Rattle.it_syntax.specs.declared.types.Atom.TheVariants.{Entropy, Mutual}
 use Rattle.it_syntax.specs.declared.types.Given.{Given}
@@ -21,8 +22,7 @@ condition (givens.Independent members given) = Independence members.items given
 condition (givens.Function value argument) = Function value argument
 
 abbrev pub union_of : List ℕ → ℕ
-union_of [] = 0
-union_of (s ∷ ss) = bit_or s (union_of ss)
+union_of sets = fold bit_or 0 sets
 
 -- The links of a chain A1 to Ak: I(A1,..,A(i-1); A(i+1) | Ai) for each i from 2 to k - 1. `past` is the union of the sets
 -- before those in the list.
