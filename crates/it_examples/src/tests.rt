@@ -11,9 +11,131 @@ const ROOM: usize = 4096;
 /// A step with which a whole input or output goes at one call.
 const WHOLE: usize = 2_000_000;
 
-const USAGE: &[u8] = b"usage: itip answer|check|bench [--format text|json|proof] [--pivots N] [--rows N] [--tries N] [--seed N] [--count N]\n";
+const USAGE: &[u8] =
+    b"usage: itip answer|check|bench [--format text|json|proof] [--pivots N] [--rows N] [--tries N] [--seed N] [--count N]\n";
 
 const MUTUAL: &[u8] = b"vars X, Y\nprove I(X;Y) >= 0\n";
+
+/// Questions, and the lines that answer them, worked out by hand.
+const ANSWERED: [(&[u8], &[u8]); 22] = [
+    (MUTUAL, b"1 yes 1 : 1 I(X;Y)\n"),
+    (
+        b"vars X, Y\nprove 2 H(X) + H(Y) - H(X,Y) >= 0",
+        b"1 yes 1 : 1 H(X|Y) + 2 I(X;Y)\n",
+    ),
+    (
+        b"vars X, Y\nprove H(X) - H(X,Y) >= 0\n",
+        b"1 no h(X)=0 h(Y)=1 h(X,Y)=1\n",
+    ),
+    (
+        b"vars X, Y\nprove H(Y) - H(X,Y) >= 0\n",
+        b"1 no h(X)=1 h(Y)=0 h(X,Y)=1\n",
+    ),
+    (
+        b"vars X, Y\nprove - I(X;Y) >= 0\n",
+        b"1 no h(X)=1 h(Y)=1 h(X,Y)=1\n",
+    ),
+    (b"vars X, Y\nprove 0 >= 0\n", b"1 yes 1 : 0\n"),
+    (b"vars X, Y\nprove 0 + 00 - 0 >= 000\n", b"1 yes 1 : 0\n"),
+    (
+        b"vars Left, right_2\nprove H(Left|right_2) >= 0\n",
+        b"1 yes 1 : 1 H(Left|right_2)\n",
+    ),
+    (b"vars X, Y\nprove I(X;X) - H(X) >= 0\n", b"1 yes 1 : 0\n"),
+    (
+        b"vars X, Y\nprove I(X,Y;Y,X|X) - H(Y|X) >= 0\n",
+        b"1 yes 1 : 0\n",
+    ),
+    (
+        b"\n\nvars X,Y\n   \nprove   H( X , X | Y ) >=0\n\n",
+        b"1 yes 1 : 1 H(X|Y)\n",
+    ),
+    (
+        b"vars Y, X\nprove H(X) >= 0\n",
+        b"1 yes 1 : 1 H(X|Y) + 1 I(Y;X)\n",
+    ),
+    (
+        b"vars X, Y\nprove 18446744073709551615 H(X,Y) >= 0\n",
+        b"1 yes 1 : 18446744073709551615 H(X|Y) + 18446744073709551615 H(Y|X) + 18446744073709551615 I(X;Y)\n",
+    ),
+    (
+        b"vars vars, prove\nprove H(vars|prove) >= 0\n",
+        b"1 yes 1 : 1 H(vars|prove)\n",
+    ),
+    (
+        b"vars X, Y\nprove + 3 H(X) - 3 H(X|Y) - 3 I(X;Y) >= 0\n",
+        b"1 yes 1 : 0\n",
+    ),
+    (
+        b"vars X, Y\nprove H(X) + H(Y) - 2 H(X,Y) >= 0\n",
+        b"1 no h(X)=1 h(Y)=0 h(X,Y)=1\n",
+    ),
+    (
+        b"vars X, Y\nprove H(X,Y) - I(X;Y) - H(X|Y) - H(Y|X) >= 0\n",
+        b"1 yes 1 : 0\n",
+    ),
+    (
+        b"vars X, Y\nprove H(X,Y) - H(X) >= 0\n",
+        b"1 yes 1 : 1 H(Y|X)\n",
+    ),
+    (b"vars X, Y\nprove I(X;Y|X) >= 0\n", b"1 yes 1 : 0\n"),
+    (
+        b"vars X, Y\nprove I(Y;Y|X) + 4 I(Y;X) >= 0\n",
+        b"1 yes 1 : 1 H(Y|X) + 4 I(X;Y)\n",
+    ),
+    (
+        b"vars X, Y\nprove I(X;Y) - H(X) >= 0\n",
+        b"1 no h(X)=1 h(Y)=0 h(X,Y)=1\n",
+    ),
+    (
+        b"vars X, Y\nprove H(X) - H(Y) >= 0\n",
+        b"1 no h(X)=0 h(Y)=1 h(X,Y)=1\n",
+    ),
+];
+
+/// Inputs of a form that isn't answered, each by one thing.
+const UNANSWERED: [&[u8]; 40] = [
+    b"",
+    b"\n",
+    b"   \n  ",
+    b"vars X, Y\n",
+    b"prove I(X;Y) >= 0\n",
+    b"prove I(X;Y) >= 0\nvars X, Y\n",
+    b"vars X\nprove H(X) >= 0\n",
+    b"vars X, Y, Z\nprove H(X) >= 0\n",
+    b"vars X, X\nprove H(X) >= 0\n",
+    b"vars X, H\nprove H(X) >= 0\n",
+    b"vars I, Y\nprove H(Y) >= 0\n",
+    b"vars X Y\nprove H(Y) >= 0\n",
+    b"vars X, Y,\nprove H(Y) >= 0\n",
+    b"var X, Y\nprove H(Y) >= 0\n",
+    b"vars X, Y\nproves H(Y) >= 0\n",
+    b"vars X, Y\nprove H(Z) >= 0\n",
+    b"vars X, Y\nprove H() >= 0\n",
+    b"vars X, Y\nprove H(X >= 0\n",
+    b"vars X, Y\nprove H(X|) >= 0\n",
+    b"vars X, Y\nprove I(X) >= 0\n",
+    b"vars X, Y\nprove I(X;Y;X) >= 0\n",
+    b"vars X, Y\nprove I(X|Y) >= 0\n",
+    b"vars X, Y\nprove H(H) >= 0\n",
+    b"vars X, Y\nprove 2 >= 0\n",
+    b"vars X, Y\nprove H(X) 2 >= 0\n",
+    b"vars X, Y\nprove H(X) H(Y) >= 0\n",
+    b"vars X, Y\nprove H(X) + + H(Y) >= 0\n",
+    b"vars X, Y\nprove H(X) >= 1\n",
+    b"vars X, Y\nprove H(X) >= 0 0\n",
+    b"vars X, Y\nprove H(X) >=\n",
+    b"vars X, Y\nprove H(X) > 0\n",
+    b"vars X, Y\nprove H(X) <= 0\n",
+    b"vars X, Y\nprove H(X) = 0\n",
+    b"vars X, Y\nprove 18446744073709551616 H(X) >= 0\n",
+    b"vars X, abcdefghijklmnopq\nprove H(X) >= 0\n",
+    b"vars X, Y # names\nprove H(X) >= 0\n",
+    b"vars\tX, Y\nprove H(X) >= 0\n",
+    b"vars X, Y\r\nprove H(X) >= 0\r\n",
+    b"vars X, Y\nprove H(X) >= 0\nprove H(Y) >= 0\n",
+    b"vars X, Y prove H(X) >= 0\n",
+];
 
 /// A source of these bytes that gives `step` at a call and fails at the calls `failing`.
 fn source(
@@ -25,11 +147,7 @@ fn source(
     requires { 0 < step }
 {
     let failing = Vec::from_slice(alloc, failing)?;
-    Ok(MemorySource::new(
-        Vec::from_slice(alloc, bytes)?,
-        step,
-        failing,
-    ))
+    Ok(MemorySource::new(Vec::from_slice(alloc, bytes)?, step, failing))
 }
 
 /// A sink with room that takes `step` bytes at a call and fails at the calls `failing`.
@@ -44,88 +162,7 @@ fn sink(alloc: Global, step: usize, failing: &[u64]) -> Result<MemorySink, Alloc
 #[test]
 fn questions_get_their_lines(rt: HostRuntime) -> Result<(), Fail> {
     let alloc = rt.alloc();
-    let cases: [(&[u8], &[u8]); 22] = [
-        (MUTUAL, b"1 yes 1 : 1 I(X;Y)\n"),
-        (
-            b"vars X, Y\nprove 2 H(X) + H(Y) - H(X,Y) >= 0",
-            b"1 yes 1 : 1 H(X|Y) + 2 I(X;Y)\n",
-        ),
-        (
-            b"vars X, Y\nprove H(X) - H(X,Y) >= 0\n",
-            b"1 no h(X)=0 h(Y)=1 h(X,Y)=1\n",
-        ),
-        (
-            b"vars X, Y\nprove H(Y) - H(X,Y) >= 0\n",
-            b"1 no h(X)=1 h(Y)=0 h(X,Y)=1\n",
-        ),
-        (
-            b"vars X, Y\nprove - I(X;Y) >= 0\n",
-            b"1 no h(X)=1 h(Y)=1 h(X,Y)=1\n",
-        ),
-        (b"vars X, Y\nprove 0 >= 0\n", b"1 yes 1 : 0\n"),
-        (b"vars X, Y\nprove 0 + 00 - 0 >= 000\n", b"1 yes 1 : 0\n"),
-        (
-            b"vars Left, right_2\nprove H(Left|right_2) >= 0\n",
-            b"1 yes 1 : 1 H(Left|right_2)\n",
-        ),
-        (
-            b"vars X, Y\nprove I(X;X) - H(X) >= 0\n",
-            b"1 yes 1 : 0\n",
-        ),
-        (
-            b"vars X, Y\nprove I(X,Y;Y,X|X) - H(Y|X) >= 0\n",
-            b"1 yes 1 : 0\n",
-        ),
-        (
-            b"\n\nvars X,Y\n   \nprove   H( X , X | Y ) >=0\n\n",
-            b"1 yes 1 : 1 H(X|Y)\n",
-        ),
-        (
-            b"vars Y, X\nprove H(X) >= 0\n",
-            b"1 yes 1 : 1 H(X|Y) + 1 I(Y;X)\n",
-        ),
-        (
-            b"vars X, Y\nprove 18446744073709551615 H(X,Y) >= 0\n",
-            b"1 yes 1 : 18446744073709551615 H(X|Y) + 18446744073709551615 H(Y|X) + 18446744073709551615 I(X;Y)\n",
-        ),
-        (
-            b"vars vars, prove\nprove H(vars|prove) >= 0\n",
-            b"1 yes 1 : 1 H(vars|prove)\n",
-        ),
-        (
-            b"vars X, Y\nprove + 3 H(X) - 3 H(X|Y) - 3 I(X;Y) >= 0\n",
-            b"1 yes 1 : 0\n",
-        ),
-        (
-            b"vars X, Y\nprove H(X) + H(Y) - 2 H(X,Y) >= 0\n",
-            b"1 no h(X)=1 h(Y)=0 h(X,Y)=1\n",
-        ),
-        (
-            b"vars X, Y\nprove H(X,Y) - I(X;Y) - H(X|Y) - H(Y|X) >= 0\n",
-            b"1 yes 1 : 0\n",
-        ),
-        (
-            b"vars X, Y\nprove H(X,Y) - H(X) >= 0\n",
-            b"1 yes 1 : 1 H(Y|X)\n",
-        ),
-        (
-            b"vars X, Y\nprove I(X;Y|X) >= 0\n",
-            b"1 yes 1 : 0\n",
-        ),
-        (
-            b"vars X, Y\nprove I(Y;Y|X) + 4 I(Y;X) >= 0\n",
-            b"1 yes 1 : 1 H(Y|X) + 4 I(X;Y)\n",
-        ),
-        (
-            b"vars X, Y\nprove I(X;Y) - H(X) >= 0\n",
-            b"1 no h(X)=1 h(Y)=0 h(X,Y)=1\n",
-        ),
-        (
-            b"vars X, Y\nprove H(X) - H(Y) >= 0\n",
-            b"1 no h(X)=0 h(Y)=1 h(X,Y)=1\n",
-        ),
-    ];
-    for (i, (input, want)) in cases.iter().enumerate() {
+    for (i, (input, want)) in ANSWERED.iter().enumerate() {
         let mut source = source(alloc, input, WHOLE, &[])?;
         let mut sink = sink(alloc, WHOLE, &[])?;
         let status = itip(alloc, &["answer"], &mut source, &mut sink);
@@ -138,49 +175,7 @@ fn questions_get_their_lines(rt: HostRuntime) -> Result<(), Fail> {
 #[test]
 fn other_forms_are_refused(rt: HostRuntime) -> Result<(), Fail> {
     let alloc = rt.alloc();
-    let inputs: [&[u8]; 40] = [
-        b"",
-        b"\n",
-        b"   \n  ",
-        b"vars X, Y\n",
-        b"prove I(X;Y) >= 0\n",
-        b"prove I(X;Y) >= 0\nvars X, Y\n",
-        b"vars X\nprove H(X) >= 0\n",
-        b"vars X, Y, Z\nprove H(X) >= 0\n",
-        b"vars X, X\nprove H(X) >= 0\n",
-        b"vars X, H\nprove H(X) >= 0\n",
-        b"vars I, Y\nprove H(Y) >= 0\n",
-        b"vars X Y\nprove H(Y) >= 0\n",
-        b"vars X, Y,\nprove H(Y) >= 0\n",
-        b"var X, Y\nprove H(Y) >= 0\n",
-        b"vars X, Y\nproves H(Y) >= 0\n",
-        b"vars X, Y\nprove H(Z) >= 0\n",
-        b"vars X, Y\nprove H() >= 0\n",
-        b"vars X, Y\nprove H(X >= 0\n",
-        b"vars X, Y\nprove H(X|) >= 0\n",
-        b"vars X, Y\nprove I(X) >= 0\n",
-        b"vars X, Y\nprove I(X;Y;X) >= 0\n",
-        b"vars X, Y\nprove I(X|Y) >= 0\n",
-        b"vars X, Y\nprove H(H) >= 0\n",
-        b"vars X, Y\nprove 2 >= 0\n",
-        b"vars X, Y\nprove H(X) 2 >= 0\n",
-        b"vars X, Y\nprove H(X) H(Y) >= 0\n",
-        b"vars X, Y\nprove H(X) + + H(Y) >= 0\n",
-        b"vars X, Y\nprove H(X) >= 1\n",
-        b"vars X, Y\nprove H(X) >= 0 0\n",
-        b"vars X, Y\nprove H(X) >=\n",
-        b"vars X, Y\nprove H(X) > 0\n",
-        b"vars X, Y\nprove H(X) <= 0\n",
-        b"vars X, Y\nprove H(X) = 0\n",
-        b"vars X, Y\nprove 18446744073709551616 H(X) >= 0\n",
-        b"vars X, abcdefghijklmnopq\nprove H(X) >= 0\n",
-        b"vars X, Y # names\nprove H(X) >= 0\n",
-        b"vars\tX, Y\nprove H(X) >= 0\n",
-        b"vars X, Y\r\nprove H(X) >= 0\r\n",
-        b"vars X, Y\nprove H(X) >= 0\nprove H(Y) >= 0\n",
-        b"vars X, Y prove H(X) >= 0\n",
-    ];
-    for (i, input) in inputs.iter().enumerate() {
+    for (i, input) in UNANSWERED.iter().enumerate() {
         let mut source = source(alloc, input, WHOLE, &[])?;
         let mut sink = sink(alloc, WHOLE, &[])?;
         let status = itip(alloc, &["answer"], &mut source, &mut sink);
