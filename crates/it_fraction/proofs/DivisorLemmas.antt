@@ -1,5 +1,6 @@
 -- Greatest common divisors in the form in which code meets them, and a quotient in lowest terms by its parts.
-use Rattle.std.proofs.Common.{◌≡◌, ℕ, ℤ, pos, ◌*ℤ◌, ◌*◌, ◌/◌, ◌<◌, ◌^◌, ◌⊎◌, inl, inr, sym, ap, refl, [], ◌∷◌, ◌∙◌, unsigned_abs}
+use Rattle.std.proofs.Common.{◌≡◌, ℕ, ℤ, pos, ◌*ℤ◌, ◌*◌, ◌/◌, ◌<◌, ◌^◌, bit_or, arith, ◌⊎◌, inl, inr, sym, ap, refl, [], ◌∷◌, ◌∙◌, unsigned_abs}
+use Rattle.std.proofs.lemmas.Nat.{le_or_l, le_or_r}
 use Rattle.std.specs.Int.{IsGcd}
 use Rattle.it_number.specs.Division.{over}
 use Rattle.it_number.specs.Gcd.{gcd, lcm}
@@ -49,3 +50,7 @@ module _ (n : ℤ) (d g : ℕ) (h : 0 < d) (e : g ≡ gcd (unsigned_abs n) d) wh
 -- a least common multiple as it is formed
 pub lcm-formed : (a b left right shared rest : ℕ) → left ≡ a → right ≡ b → shared ≡ gcd left right → rest ≡ right / shared → left * rest ≡ lcm a b
 lcm-formed a b left right shared rest l r s e = rw (e, s, l, r) (lcm-over a b)
+
+-- numbers above 0 whose digits together are 1 are both 1
+pub both_one : (b d : ℕ) → bit_or b d ≡ 1 → 0 < b → 0 < d → (b ≡ 1) × (d ≡ 1)
+both_one b d e hb hd = (omega (arith, e, le_or_l b d), omega (arith, e, le_or_r b d))

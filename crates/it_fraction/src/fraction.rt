@@ -69,6 +69,17 @@ fn reduced(num: i128, den: u128) -> Fraction
     made(signed_divided(num, shared), divided(den, shared))
 }
 
+// whether both are 1, by one comparison
+#[inline]
+#[tactic(auto, using(crate::proofs::DivisorLemmas::both_one))]
+fn are_one(b: u128, d: u128) -> bool
+    requires b_some { 0 < b }
+    requires d_some { 0 < d }
+    ensures yes { OnTrue result ((b ≡ 1) × (d ≡ 1)) }
+{
+    if b | d == 1 { true } else { false }
+}
+
 impl Fraction {
     pub fn whole(value: i128) -> Fraction
         requires { IsWithin value }
@@ -152,7 +163,7 @@ impl Fraction {
     pub fn add(self, other: Fraction) -> Result<Fraction, Wide>
         ensures { OkIff result (SumFits self other) (plus self other) }
     {
-        if self.bottom == 1 && other.bottom == 1 {
+        if are_one(self.bottom, other.bottom) {
             return whole_sum(self.top, other.top);
         }
         if self.is_zero() {
@@ -178,7 +189,7 @@ impl Fraction {
     pub fn mul(self, other: Fraction) -> Result<Fraction, Wide>
         ensures { OkIff result (IsNarrow (times self other)) (times self other) }
     {
-        if self.bottom == 1 && other.bottom == 1 {
+        if are_one(self.bottom, other.bottom) {
             return whole_product(self.top, other.top);
         }
         if self.is_zero() || other.is_zero() {

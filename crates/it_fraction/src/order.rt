@@ -18,11 +18,8 @@ pub fn compare_parts(a: u128, b: u128, c: u128, d: u128) -> Ordering
     'rests: loop {
         let (whole, rest) = divided_with_rest(top, bottom);
         let (other_whole, other_rest) = divided_with_rest(other_top, other_bottom);
-        if whole < other_whole {
-            return Ordering::Less;
-        }
-        if whole > other_whole {
-            return Ordering::Greater;
+        if whole != other_whole {
+            return whole.cmp(&other_whole);
         }
         if rest == 0 {
             return if other_rest == 0 {

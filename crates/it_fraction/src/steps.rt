@@ -92,10 +92,20 @@ pub fn signed_divided(a: i128, k: u128) -> i128
 pub fn sum(a: i128, b: i128) -> Result<i128, Wide>
     ensures { OkIff result (IsWithin (a +ℤ b)) (a +ℤ b) }
 {
+    if let (Ok(a), Ok(b)) = (i64::try_from(a), i64::try_from(b)) {
+        return Ok(short_sum(a, b));
+    }
     match a.checked_add(b) {
         Some(sum) if sum != i128::MIN => Ok(sum),
         _ => Err(Wide),
     }
+}
+
+fn short_sum(a: i64, b: i64) -> i128
+    ensures value { result ≡ a +ℤ b }
+    ensures within { IsWithin result }
+{
+    i128::from(a) + i128::from(b)
 }
 
 pub fn product(a: u128, b: u128) -> Result<u128, Wide>

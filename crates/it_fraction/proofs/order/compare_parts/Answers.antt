@@ -1,14 +1,11 @@
 use Rattle.std.proofs.Common.{◌*◌, arith, sym, ◌∙◌, ap, ap₂, nat_cmp, mul_comm}
-use Rattle.it_fraction.proofs.WholeParts.{less_is, greater_is, below, rests, both_zero, left_zero, right_zero}
+use Rattle.it_fraction.proofs.WholeParts.{apart_is, rests, both_zero, left_zero, right_zero}
 use Rattle.it_fraction.proofs.order.compare_parts.Goals as goal
 
 pub returns-then-whole-other_whole : goal.returns-then-whole-other_whole
 returns-then-whole-other_whole c = let i = c.rests.invariant in
-    sym (less_is (c.rests.top * c.rests.other_bottom) (c.rests.other_top * c.rests.bottom) (below c.rests.top c.rests.bottom c.rests.other_top c.rests.other_bottom i.some i.other_some (omega arith))) ∙ i.same
-
-pub returns-then-whole-other_whole-2 : goal.returns-then-whole-other_whole-2
-returns-then-whole-other_whole-2 c = let i = c.rests.invariant in
-    sym (greater_is (c.rests.top * c.rests.other_bottom) (c.rests.other_top * c.rests.bottom) (below c.rests.other_top c.rests.other_bottom c.rests.top c.rests.bottom i.other_some i.some (omega arith))) ∙ i.same
+    c.cmp.ensures ∙ apart_is c.rests.top c.rests.bottom c.rests.other_top c.rests.other_bottom _ _ i.some i.other_some c.divided_with_rest-whole.ensures.whole c.divided_with_rest-other_whole.ensures.whole
+    (λ e. omega (arith, e)) ∙ i.same
 
 pub returns-then-other_rest-eq0 : goal.returns-then-other_rest-eq0
 returns-then-other_rest-eq0 c = let i = c.rests.invariant in

@@ -8,13 +8,13 @@ use Rattle.it_fraction.proofs.Results.{OkIff-same}
 use Rattle.it_fraction.proofs.ZeroLemmas.{whole-sum-fits, whole-sum, zero-sum-fits, zero-sum, sum-zero-fits, sum-zero}
 use Rattle.it_fraction.proofs.fraction.Fraction.add.Goals as goal
 
-pub returns-then-other-eq1 : goal.returns-then-other-eq1
-returns-then-other-eq1 c =
+pub returns-then-are_one : goal.returns-then-are_one
+returns-then-are_one c =
     let x = c.args.self in let y = c.args.other in
     let fx : FitsSigned w128 c.self.inside.top = search rules in
     let fy : FitsSigned w128 c.other.inside.top = search rules in
-    let ex : x.den ≡ 1 = sym (ap (λ q. q.den) c.self.view_is) ∙ c.if-self-eq1.true in
-    let ey : y.den ≡ 1 = sym (ap (λ q. q.den) c.other.view_is) ∙ c.if-other-eq1.true in
+    let ex : x.den ≡ 1 = sym (ap (λ q. q.den) c.self.view_is) ∙ c.if-are_one.ensures.yes.0 in
+    let ey : y.den ≡ 1 = sym (ap (λ q. q.den) c.other.view_is) ∙ c.if-are_one.ensures.yes.1 in
     let tops : c.self.inside.top +ℤ c.other.inside.top ≡ x.num +ℤ y.num = ap₂ (λ (q r : Rational). q.num +ℤ r.num) c.self.view_is c.other.view_is in
     OkIff-same _ _ _ _ _ (whole-sum-fits x y ex ey (subst IsNarrow c.self.view_is c.self.invariant) (subst IsNarrow c.other.view_is c.other.invariant)) (whole-sum x y ex ey)
     (subst (λ (z : ℤ). OkIff c.whole_sum.result (IsWithin z) (whole z)) tops (simp to_z-of_z at c.whole_sum.ensures))

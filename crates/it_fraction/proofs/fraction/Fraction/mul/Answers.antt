@@ -9,13 +9,13 @@ use Rattle.it_fraction.proofs.ZeroLemmas.{whole-product, whole-narrow, zero-prod
 use Rattle.it_fraction.proofs.fraction.Fraction.mul.Goals as goal
 use Rattle.it_fraction.proofs.fraction.Fraction.mul.Goals.{then-is_zero-via-then-is_zero, then-is_zero-via-else-is_zero+then-is_zero-2}
 
-pub returns-then-other-eq1 : goal.returns-then-other-eq1
-returns-then-other-eq1 c =
+pub returns-then-are_one : goal.returns-then-are_one
+returns-then-are_one c =
     let x = c.args.self in let y = c.args.other in
     let fx : FitsSigned w128 c.self.inside.top = search rules in
     let fy : FitsSigned w128 c.other.inside.top = search rules in
-    let ex : x.den ≡ 1 = sym (ap (λ q. q.den) c.self.view_is) ∙ c.if-self-eq1.true in
-    let ey : y.den ≡ 1 = sym (ap (λ q. q.den) c.other.view_is) ∙ c.if-other-eq1.true in
+    let ex : x.den ≡ 1 = sym (ap (λ q. q.den) c.self.view_is) ∙ c.if-are_one.ensures.yes.0 in
+    let ey : y.den ≡ 1 = sym (ap (λ q. q.den) c.other.view_is) ∙ c.if-are_one.ensures.yes.1 in
     let tops : c.self.inside.top *ℤ c.other.inside.top ≡ x.num *ℤ y.num = ap₂ (λ (q r : Rational). q.num *ℤ r.num) c.self.view_is c.other.view_is in
     subst (λ (q : Rational). OkIff c.whole_product.result (IsNarrow q) q) (whole-product x y ex ey)
     (OkIff-same _ _ _ _ _ (whole-narrow (x.num *ℤ y.num)) refl (subst (λ (z : ℤ). OkIff c.whole_product.result (IsWithin z) (whole z)) tops (simp to_z-of_z at c.whole_product.ensures)))
