@@ -1,6 +1,5 @@
--- Worked runs. The first is on the coordinates h(X), h(Y), h(X,Y) with the columns H(X|Y), H(Y|X), I(X;Y) and the target
--- h(X) - h(X,Y): columns 2 and 0 enter by rows 1 and 0, and the run ends by the point (0, 1, 1). The others have the columns
--- (1, 0, 0), (0, m, 0), (0, 0, m - 1) and (1, 0, 0), (0, m, 1), (0, 1, m) with m = 2^64 - 1 and the target (0, 1, 1).
+-- A worked run: on the coordinates h(X), h(Y), h(X,Y) with the columns H(X|Y), H(Y|X), I(X;Y) and the target h(X) - h(X,Y),
+-- columns 2 and 0 enter by rows 1 and 0, and the run ends by the point (0, 1, 1).
 use Rattle.std.proofs.Common.{◌≡◌, ℕ, pos, negsuc, List, [], ◌∷◌, refl, map}
 use Rattle.it_number.specs.Gcd.{gcd, gcd_within}
 use Rattle.it_rational.specs.Rational.{Rational, quotient}

@@ -1,7 +1,7 @@
 -- The lists of weights and of a point's values as they are filled, one after another.
 use Rattle.std.proofs.Common.{◌≡◌, ℕ, suc, ◌+◌, ◌-◌, ◌<◌, ◌++◌, pos, negsuc, ◌<ℤ◌, true, false, cond, ◌&&◌, Bool, List, [], ◌∷◌, refl, sym, ap, ap₂, ◌∙◌, arith}
 use Rattle.std.proofs.lemmas.Int.{ints}
-use Rattle.std.proofs.lemmas.List.{append-nil, append_assoc}
+use Rattle.std.proofs.lemmas.List.{append_assoc}
 use Rattle.it_rational.specs.Rational.{Rational, whole, minus, times, is_at_least_zero}
 use Rattle.it_rational.proofs.RationalLaws.{ring_ℚ}
 use Rattle.it_rational.proofs.Field.{order_ℚ, rational_strict}
@@ -22,12 +22,6 @@ module _ (m n : ℕ) (t : Table Rational) where
   -- the list so far with what is still to come is the list of all
   abbrev pub SoFar : List (ℕ × Rational) → ℕ → Type 0
   SoFar out j = out ++ weights_from ring_ℚ order_ℚ m n t j (n - j) ≡ weights ring_ℚ order_ℚ m n t
-
-  pub so_far_begins : SoFar [] 0
-  so_far_begins = ap (weights_from ring_ℚ order_ℚ m n t 0) here
-    where
-      here : n - 0 ≡ n
-      here = omega arith
 
   split_off : (j : ℕ) → j < n → From j (n - j) ≡ cond (is_at_least_zero (W j) && is_at_least_zero (minus (W j))) (From (j + 1) (n - (j + 1))) ((j, W j) ∷ From (j + 1) (n - (j + 1)))
   split_off j l = ap (From j) here ∙ ap (λ (k : ℕ). cond (is_at_least_zero (W j) && is_at_least_zero (minus (W j))) (From k (n - (j + 1))) ((j, W j) ∷ From k (n - (j + 1)))) there
@@ -54,19 +48,10 @@ module _ (m n : ℕ) (t : Table Rational) where
       kept true false f g = ap₂ (λ x y. x && y) f g
       kept false b f g = ap₂ (λ x y. x && y) f g
 
-  pub so_far_ends : (out : List (ℕ × Rational)) (j : ℕ) → n - j ≡ 0 → SoFar out j → out ≡ weights ring_ℚ order_ℚ m n t
-  so_far_ends out j e h = sym (append-nil out) ∙ ap (λ k. out ++ From j k) (sym e) ∙ h
-
 -- the values so far with those that are still to come are those of the point
 abbrev pub ValuesSoFar : Shown → List Rational → ℕ → Type 0
 ValuesSoFar t out k = (p : Problem Rational) → HasSigns t p
     → out ++ point_from ring_ℚ order_ℚ (height t) t.generators p (table t) k (height t - k) ≡ point ring_ℚ order_ℚ (height t) t.generators p (table t)
-
-pub values_begin : (t : Shown) → ValuesSoFar t [] 0
-values_begin t p s = ap (point_from ring_ℚ order_ℚ (height t) t.generators p (table t) 0) here
-  where
-    here : height t - 0 ≡ height t
-    here = omega arith
 
 pub values_more : (t : Shown) (out : List Rational) (k : ℕ) (x : Rational) → k < height t → x ≡ times (sign_number t k) ((table t).entry (height t) (t.generators + k))
     → ValuesSoFar t out k → ValuesSoFar t (out ++ x ∷ []) (k + 1)
@@ -84,10 +69,6 @@ values_more t out k x l e h p s =
 
     there : suc k ≡ k + 1
     there = omega arith
-
-pub values_end : (t : Shown) (out : List Rational) (k : ℕ) → height t - k ≡ 0 → ValuesSoFar t out k → (p : Problem Rational) → HasSigns t p
-    → out ≡ point ring_ℚ order_ℚ (height t) t.generators p (table t)
-values_end t out k e h p s = sym (append-nil out) ∙ ap (λ i. out ++ point_from ring_ℚ order_ℚ (height t) t.generators p (table t) k i) (sym e) ∙ h p s
 
 -- what a row's sign says
 pub sign_below : (b : Bool) → cond b (negsuc 0) (pos 1) <ℤ pos 0 → true ≡ b

@@ -1,5 +1,5 @@
 -- One step of the run and its ends, for a loop that makes the run.
-use Rattle.std.proofs.Common.{◌≡◌, inl, inr, ℕ, zero, suc, ◌+◌, ◌-◌, ◌<◌, pos, refl, sym, ap, subst, ◌∙◌, arith, Some, None}
+use Rattle.std.proofs.Common.{◌≡◌, inl, inr, ℕ, zero, suc, ◌+◌, ◌-◌, ◌<◌, pos, refl, sym, ap, subst, ◌∙◌, arith, Some}
 use Rattle.std.proofs.lemmas.Bool.{true≢false}
 use Rattle.it_rational.specs.Rational.{Rational, whole, is_at_least_zero}
 use Rattle.it_rational.proofs.RationalLaws.{ring_ℚ}
@@ -49,9 +49,6 @@ module _ (m n : ℕ) where
 
   pub wide_ratio : (t : Table Rational) (c : ℕ) → Found t c → ¬ (RatiosFit m n t c) → IsWide m n t
   wide_ratio t c f w = (moves t c f, λ s. w (subst (RatiosFit m n t) f.is s.ratios))
-
-  pub no_none : (t : Table Rational) (c : ℕ) → Found t c → IsReady m n t → IsLeaving m n t c None → ⊥
-  no_none t c f r l = let x : leaving ring_ℚ order_ℚ m n t c < m = subst (λ (c : ℕ). leaving ring_ℚ order_ℚ m n t c < m) f.is (r (moves t c f)) in omega (arith, x, l)
 
   -- the numbers of the pivot that the step makes
   to_step : (t : Table Rational) (c r : ℕ) → Found t c → IsLeaving m n t c (Some r) → (P : ℕ → ℕ → Type 0) → P r c → P (leaving ring_ℚ order_ℚ m n t (entering ring_ℚ order_ℚ m n t)) (entering ring_ℚ order_ℚ m n t)

@@ -3,7 +3,7 @@ use Rattle.std.proofs.Common.{◌≡◌, ◌≢◌, ℕ, ◌+◌, ◌<◌, ◌�
 use Rattle.std.proofs.lemmas.Bool.{cases_eq}
 use Rattle.std.proofs.lemmas.List.{get_or-set_same, get_or-set_other, length-set, length-map, map-set}
 use Rattle.it_rational.specs.Rational.{Rational, times, inverse}
-use Rattle.it_tableau.specs.Rows.{at, row_at, RowStepFits, IsReduced, DividedFits, IsDivided, RowsPivotFits, ArePivoted}
+use Rattle.it_tableau.specs.Rows.{at, row_at, RowStepFits, IsReduced, IsDivided, RowsPivotFits, ArePivoted}
 use Rattle.it_tableau.proofs.RowsLemmas.{row_read}
 
 pub record UnderWay (old now : List (List Rational)) (own : List Rational) (r c i : ℕ) (p : Rational) : Type 0 where
@@ -56,15 +56,6 @@ stepped old now own y r c i p h fit red u = record {
 
 pub refused : (old now : List (List Rational)) (own : List Rational) (r c i : ℕ) (p : Rational) → i < length old → i ≢ r → UnderWay old now own r c i p → ¬ (RowStepFits (row_at old i) own c p) → ¬ (RowsPivotFits old r c)
 refused old now own r c i p h d u n f = n (subst (λ (x : List Rational). RowStepFits (row_at old i) x c p) (sym u.own_is) (subst (RowStepFits (row_at old i) (row_at old r) c) (sym u.p_is) (f.others i h d)))
-
-pub refused_own : (old now : List (List Rational)) (own : List Rational) (r c i : ℕ) (p : Rational) → UnderWay old now own r c i p → ¬ (DividedFits own p) → ¬ (RowsPivotFits old r c)
-refused_own old now own r c i p u n f = n (subst (λ (x : List Rational). DividedFits x p) (sym u.own_is) (subst (DividedFits (row_at old r)) (sym u.p_is) f.own))
-
-pub fitted : (old now : List (List Rational)) (own : List Rational) (r c i : ℕ) (p : Rational) → length old ≤ i → UnderWay old now own r c i p → DividedFits own p → RowsPivotFits old r c
-fitted old now own r c i p h u f = record {
-  others = λ k l d. subst (RowStepFits (row_at old k) (row_at old r) c) u.p_is (subst (λ (x : List Rational). RowStepFits (row_at old k) x c p) u.own_is (u.fits k (omega arith) d));
-  own = subst (DividedFits (row_at old r)) u.p_is (subst (λ (x : List Rational). DividedFits x p) u.own_is f);
-}
 
 pub pivoted : (old now : List (List Rational)) (own y : List Rational) (r c i : ℕ) (p : Rational) → r < length old → length old ≤ i → UnderWay old now own r c i p → IsDivided own p y → ArePivoted old r c (slice_set now r y)
 pivoted old now own y r c i p hr h u g = record {

@@ -1,8 +1,8 @@
 -- Lists of rows of which one is written.
-use Rattle.std.proofs.Common.{◌≡◌, ◌≢◌, ℕ, ◌+◌, ◌<◌, ◌≤◌, List, [], ◌∷◌, ◌++◌, length, length-append, map, get_or, slice_set, sym, ap, subst, ◌∙◌, ◌⊎◌, inl, inr, arith, Result, Ok, Err}
+use Rattle.std.proofs.Common.{◌≡◌, ℕ, ◌+◌, ◌<◌, ◌≤◌, List, [], ◌∷◌, ◌++◌, length, length-append, map, get_or, slice_set, sym, ap, subst, ◌∙◌, ◌⊎◌, inl, inr, arith, Result, Ok, Err}
 use Rattle.std.specs.Result.{IfErr, IsErrAnd, OnErr}
 use Rattle.std.proofs.lemmas.Bool.{cases_eq}
-use Rattle.std.proofs.lemmas.List.{map-set, get_or-set_same, get_or-set_other, get_or-map, length-map, get_or_default, get_or_append_left}
+use Rattle.std.proofs.lemmas.List.{get_or-set_same, get_or-set_other, get_or-map, get_or_default, get_or_append_left}
 use Rattle.std.proofs.Math.Seq.{get_or-append_seam}
 use Rattle.it_rational.specs.Rational.{Rational}
 use Rattle.it_tableau.specs.Rows.{at, row_at, zero_rational, Shows}
@@ -10,31 +10,12 @@ use Rattle.it_tableau.specs.Rows.{at, row_at, zero_rational, Shows}
 pub row_read : {V : Type 0} (f : V → List Rational) (xs : List V) (i : ℕ) (d : V) → i < length xs → row_at (map f xs) i ≡ f (get_or xs i d)
 row_read f xs i d h = get_or-map f xs i d [] h
 
-pub row_set_same : {V : Type 0} (f : V → List Rational) (xs : List V) (i : ℕ) (y : V) → i < length xs → row_at (map f (slice_set xs i y)) i ≡ f y
-row_set_same f xs i y h = ap (λ l. get_or l i []) (map-set f xs i y) ∙ get_or-set_same (map f xs) i (f y) [] (let e : length (map f xs) ≡ length xs = length-map xs f in subst (λ (n : ℕ). i < n) (sym e) h)
-
-pub row_set_other : {V : Type 0} (f : V → List Rational) (xs : List V) (i k : ℕ) (y : V) → k ≢ i → row_at (map f (slice_set xs i y)) k ≡ row_at (map f xs) k
-row_set_other f xs i k y h = ap (λ l. get_or l k []) (map-set f xs i y) ∙ get_or-set_other (map f xs) i k (f y) [] h
-
--- what holds of the rows below i and of the row written at i holds of the rows below i + 1
-pub done_more : {V : Type 0} (f : V → List Rational) (xs : List V) (i : ℕ) (y : V) (P : ℕ → List Rational → Type 0) → i < length xs
-    → ((k : ℕ) → k < i → P k (row_at (map f xs) k)) → P i (f y) → (k : ℕ) → k < i + 1 → P k (row_at (map f (slice_set xs i y)) k)
-done_more f xs i y P h done here k l = at (cases_eq k i)
-  where
-    at : (k ≡ i) ⊎ (k ≡ i → ⊥) → P k (row_at (map f (slice_set xs i y)) k)
-    at (inl e) = subst (λ (x : ℕ). P x (row_at (map f (slice_set xs i y)) x)) (sym e) (subst (P i) (sym (row_set_same f xs i y h)) here)
-    at (inr d) = subst (P k) (sym (row_set_other f xs i k y d)) (done k (omega arith))
-
 pub fits_more : (i : ℕ) (Q : ℕ → Type 0) → ((k : ℕ) → k < i → Q k) → Q i → (k : ℕ) → k < i + 1 → Q k
 fits_more i Q h here k l = at (cases_eq k i)
   where
     at : (k ≡ i) ⊎ (k ≡ i → ⊥) → Q k
     at (inl e) = subst Q (sym e) here
     at (inr d) = h k (omega arith)
-
-pub rest_more : {V : Type 0} (f : V → List Rational) (xs ys : List V) (i : ℕ) (y : V) → ((k : ℕ) → i ≤ k → row_at (map f xs) k ≡ row_at (map f ys) k)
-    → (k : ℕ) → i + 1 ≤ k → row_at (map f (slice_set xs i y)) k ≡ row_at (map f ys) k
-rest_more f xs ys i y h k l = row_set_other f xs i k y (λ e. omega arith) ∙ h k (omega arith)
 
 pub on_err : {X E : Type 0} (r : Result X E) (P : Type 0) → P → OnErr r P
 on_err (Ok x) P p = tt

@@ -14,7 +14,7 @@ use Rattle.it_tableau.specs.Sums.{sum_to}
 use Rattle.it_tableau.specs.Fits.{StartFits}
 use Rattle.it_tableau.specs.Problems.{problem_of, start_of}
 use Rattle.it_tableau.specs.Rows.{at, row_at, column_sum, ColumnsFit, Shows}
-use Rattle.it_tableau.specs.Shown.{AreStartRows, HasShape, table_of}
+use Rattle.it_tableau.specs.Shown.{AreStartRows, table_of}
 use Rattle.it_tableau.specs.Tables.{Problem, Table, sign, start_row}
 use Rattle.it_tableau.proofs.Sums.{sum_same, sum_null}
 use Rattle.it_tableau.proofs.ViewLemmas.{past, past_row, same_functions}
@@ -102,14 +102,3 @@ module _ (cs : List ℕ) (columns : List Terms) (target : Terms) where
         start_shown = ap₂ (λ (e : ℕ → ℕ → Rational) (b : ℕ → ℕ). let t : Table Rational = record { entry = e; basis = b } in t)
             (same_functions (λ i. same_functions (λ j. entries i j (cases_lt i m) (cases_eq i m) (cases_lt j (n + m + 1)))))
             (same_functions (λ i. basic i (cases_lt i m)))
-
-        pub start_shape : HasShape (length basis) (length columns) (rows ++ cost ∷ []) basis
-        start_shape = record {
-          rows_are = all_length ∙ ap (λ k. k + 1) (sym count);
-          entries_are = λ i l. row_length i (cases_lt i m) l ∙ ap (λ k. n + k + 1) (sym count);
-          basis_is = refl;
-        }
-          where
-            row_length : (i : ℕ) → (i < length cs) ⊎ (length cs ≤ i) → i < length basis + 1 → length (row_at (rows ++ cost ∷ []) i) ≡ length columns + length cs + 1
-            row_length i (inl h) l = ap length (upper i h) ∙ (a.entries_are i h).length_is
-            row_length i (inr h) l = ap length (last i (omega (arith, count))) ∙ s.length_is

@@ -92,15 +92,6 @@ numbers_to m n rows basis r c hr s f = record {
   own = λ j k. f.own j (omega (arith, s.entries_are r (omega arith)));
 }
 
-pub numbers_from : (m n : ℕ) (rows : List (List Rational)) (basis : List ℕ) (r c : ℕ) → r < m → HasShape m n rows basis → PivotFits m n (table_of rows basis) r c → RowsPivotFits rows r c
-numbers_from m n rows basis r c hr s f = record {
-  others = λ i l d. let k : i < m + 1 = omega (arith, s.rows_are) in record {
-    quotient = f.quotients i k d;
-    row_fits = λ j q. f.entries i j k d (omega (arith, s.entries_are i k));
-  };
-  own = λ j q. f.own j (omega (arith, s.entries_are r (omega arith)));
-}
-
 -- pivoted rows are still sound
 pub pivot_sound : (n w : ℕ) (old new : List (List Rational)) (basis : List ℕ) (negated : List Bool) (r c : ℕ) → r < length basis → IsSound n w old basis negated → ArePivoted old r c new
     → IsSound n w new (slice_set basis r c) negated
