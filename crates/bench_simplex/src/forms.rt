@@ -1,0 +1,71 @@
+//! Forms of entropies, by coordinates: a set of variables has the number whose binary digits are its members.
+use it_space::Row;
+use std::alloc::{AllocError, Global};
+
+// the entropies of the variables less their joint entropy
+fn parts(alloc: Global, variables: u8) -> Result<Row, AllocError> {
+    Ok(match variables {
+        3 => Row::new(Vec::from_slice(alloc, &[(1, 1), (2, 1), (4, 1), (7, -1)])?),
+        4 => Row::new(Vec::from_slice(alloc, &[(1, 1), (2, 1), (4, 1), (8, 1), (15, -1)])?),
+        5 => Row::new(Vec::from_slice(
+            alloc,
+            &[(1, 1), (2, 1), (4, 1), (8, 1), (16, 1), (31, -1)],
+        )?),
+        _ => Row::new(Vec::from_slice(
+            alloc,
+            &[(1, 1), (2, 1), (4, 1), (8, 1), (16, 1), (32, 1), (63, -1)],
+        )?),
+    })
+}
+
+// the joint entropy less those of the variables
+fn whole(alloc: Global, variables: u8) -> Result<Row, AllocError> {
+    Ok(match variables {
+        3 => Row::new(Vec::from_slice(alloc, &[(1, -1), (2, -1), (4, -1), (7, 1)])?),
+        4 => Row::new(Vec::from_slice(alloc, &[(1, -1), (2, -1), (4, -1), (8, -1), (15, 1)])?),
+        5 => Row::new(Vec::from_slice(
+            alloc,
+            &[(1, -1), (2, -1), (4, -1), (8, -1), (16, -1), (31, 1)],
+        )?),
+        _ => Row::new(Vec::from_slice(
+            alloc,
+            &[
+                (1, -1),
+                (2, -1),
+                (4, -1),
+                (8, -1),
+                (16, -1),
+                (32, -1),
+                (63, 1),
+            ],
+        )?),
+    })
+}
+
+// I(A;B|C) + I(A;B|D) + I(C;D) - I(A;B)
+fn ingleton(alloc: Global) -> Result<Row, AllocError> {
+    let terms = Vec::from_slice(
+        alloc,
+        &[
+            (1, -1),
+            (2, -1),
+            (3, 1),
+            (5, 1),
+            (6, 1),
+            (7, -1),
+            (9, 1),
+            (10, 1),
+            (11, -1),
+            (12, -1),
+        ],
+    )?;
+    Ok(Row::new(terms))
+}
+
+pub fn form(alloc: Global, question: &str, variables: u8) -> Result<Row, AllocError> {
+    match question {
+        "whole" => whole(alloc, variables),
+        "ingleton" if variables >= 4 => ingleton(alloc),
+        _ => parts(alloc, variables),
+    }
+}

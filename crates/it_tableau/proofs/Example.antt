@@ -1,0 +1,41 @@
+-- A worked table: on the coordinates h(X), h(Y), h(X,Y) the columns H(X|Y), H(Y|X), I(X;Y) and the target h(X) - h(X,Y). Its
+-- start, the pivot at row 1 and column 2, and then the pivot at row 0 and column 0.
+use Rattle.std.proofs.Common.{◌≡◌, ℕ, ℤ, pos, negsuc, List, [], ◌∷◌, refl}
+use Rattle.it_number.specs.Gcd.{gcd, gcd_within}
+use Rattle.it_rational.specs.Rational.{Rational, quotient}
+use Rattle.it_rational.proofs.RationalLaws.{ring_ℚ}
+use Rattle.it_rational.proofs.Field.{order_ℚ}
+use Rattle.it_tableau.specs.Tables.{Table, pivot}
+use Rattle.it_tableau.specs.Problems.{start_of}
+
+abbrev first : Table Rational
+first = start_of (1 ∷ 2 ∷ 3 ∷ [])
+    (((2, negsuc 0) ∷ (3, pos 1) ∷ []) ∷ ((1, negsuc 0) ∷ (3, pos 1) ∷ []) ∷ ((1, pos 1) ∷ (2, pos 1) ∷ (3, negsuc 0) ∷ []) ∷ [])
+    ((1, pos 1) ∷ (3, negsuc 0) ∷ [])
+
+abbrev second : Table Rational
+second = pivot ring_ℚ order_ℚ first 1 2
+
+abbrev third : Table Rational
+third = pivot ring_ℚ order_ℚ second 0 0
+
+-- the numerators of a row at the three columns and the right side
+abbrev tops : Table Rational → ℕ → List ℤ
+tops t i = (t.entry i 0).num ∷ (t.entry i 1).num ∷ (t.entry i 2).num ∷ (t.entry i 6).num ∷ []
+
+first_rows : (tops first 0 ≡ pos 0 ∷ negsuc 0 ∷ pos 1 ∷ pos 1 ∷ []) × (tops first 1 ≡ negsuc 0 ∷ pos 0 ∷ pos 1 ∷ pos 0 ∷ [])
+    × (tops first 2 ≡ negsuc 0 ∷ negsuc 0 ∷ pos 1 ∷ pos 1 ∷ []) × (tops first 3 ≡ pos 2 ∷ pos 2 ∷ negsuc 2 ∷ negsuc 1 ∷ [])
+unfolding quotient gcd gcd_within
+first_rows = (refl, refl, refl, refl)
+
+second_cost : tops second 3 ≡ negsuc 0 ∷ pos 2 ∷ pos 0 ∷ negsuc 1 ∷ []
+unfolding quotient gcd gcd_within
+second_cost = refl
+
+third_cost : tops third 3 ≡ pos 0 ∷ pos 1 ∷ pos 0 ∷ negsuc 0 ∷ []
+unfolding quotient gcd gcd_within
+third_cost = refl
+
+third_artificials : ((third.entry 3 3).num ≡ pos 0) × ((third.entry 3 4).num ≡ pos 1) × ((third.entry 3 5).num ≡ negsuc 0)
+unfolding quotient gcd gcd_within
+third_artificials = (refl, refl, refl)

@@ -1,0 +1,12 @@
+pub mod Sums
+pub mod BasicColumns
+pub mod Kept
+pub mod StartLemmas
+pub mod Example
+pub mod RowsLemmas
+pub mod PivotLemmas
+pub mod ViewLemmas
+pub mod StartRows
+pub mod WholeNumbers
+pub mod StartView
+pub mod Positive

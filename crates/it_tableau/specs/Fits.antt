@@ -1,0 +1,28 @@
+-- The numbers that the start and a pivot form, named: an operation is wide where one of them passes the largest number of the
+-- product. No order of the operations is named.
+use Rattle.std.specs.Prelude.{◌≢◌, ℕ, ◌+◌, ◌<◌, ◌≤◌}
+use Rattle.it_rational.specs.Rational.{Rational, times, inverse}
+use Rattle.it_rational.proofs.RationalLaws.{ring_ℚ}
+use Rattle.it_rational.proofs.Field.{order_ℚ}
+use Rattle.it_fraction.specs.Fits.{IsNarrow, DifferenceFits}
+use Rattle.it_tableau.specs.Sums.{sum_to}
+use Rattle.it_tableau.specs.Tables.{Table, Problem, start_row}
+
+-- each partial sum of the cost row, in the order of the rows
+abbrev pub StartFits : ℕ → ℕ → Problem Rational → Type 0
+StartFits m n p = (k j : ℕ) → k ≤ m → j < n + m + 1 → IsNarrow (sum_to ring_ℚ k (λ i. start_row ring_ℚ order_ℚ m n p i j))
+
+abbrev pub QuotientFits : Rational → Rational → Type 0
+QuotientFits x y = IsNarrow (times x (inverse y))
+
+-- x less y times q, the product first and then the difference
+pub record EntryFits (x y q : Rational) : Type 0 where
+  pub product : IsNarrow (times y q)
+  pub difference : DifferenceFits x (times y q)
+
+-- the numbers of the pivot at row r and column c: for each other row, the cost row too, its quotient and what its entries and
+-- its right side become; and the quotients that row r becomes
+pub record PivotFits (m n : ℕ) (t : Table Rational) (r c : ℕ) : Type 0 where
+  pub quotients : (i : ℕ) → i < m + 1 → i ≢ r → QuotientFits (t.entry i c) (t.entry r c)
+  pub entries : (i j : ℕ) → i < m + 1 → i ≢ r → j < n + m + 1 → EntryFits (t.entry i j) (t.entry r j) (times (t.entry i c) (inverse (t.entry r c)))
+  pub own : (j : ℕ) → j < n + m + 1 → QuotientFits (t.entry r j) (t.entry r c)

@@ -1,0 +1,32 @@
+-- What every table of the first phase keeps, and which pivots keep it.
+use Rattle.std.specs.Prelude.{◌≡◌, ◌⊎◌, ℕ, ◌+◌, ◌<◌, ◌≤◌, cond, eqb, ltb}
+use Rattle.it_number.proofs.Ring.{Ring}
+use Rattle.it_rational.proofs.Ordered.{Order, Least, Above}
+use Rattle.it_tableau.specs.Sums.{sum_to}
+use Rattle.it_tableau.specs.Tables.{Table, Problem, less, start_row, ratio}
+
+module _ {A : Type 0} (R : Ring A) (O : Order R) (m n : ℕ) where
+  -- the cost of a basic column: 0, and -1 where it is an artificial
+  abbrev pub cost_of : ℕ → A
+  cost_of j = cond (ltb j n) R.null (R.neg R.unit)
+
+  pub record Holds (p : Problem A) (t : Table A) : Type 0 where
+    -- each row, the cost row too, is the sum of its entries at the artificials times the start rows
+    pub combines : (i j : ℕ) → i ≤ m → t.entry i j ≡ sum_to R m (λ k. R.mul (t.entry i (n + k)) (start_row R O m n p k j))
+    -- each start row is the sum of its entries at the basic columns times the rows
+    pub spans : (k j : ℕ) → k < m → start_row R O m n p k j ≡ sum_to R m (λ i. R.mul (start_row R O m n p k (t.basis i)) (t.entry i j))
+    -- right sides are at least 0
+    pub rights : (i : ℕ) → i < m → Least R O (t.entry i (n + m))
+    -- the cost row is the negated sum of the rows whose basic column is an artificial
+    pub costs : (j : ℕ) → t.entry m j ≡ sum_to R m (λ i. R.mul (cost_of (t.basis i)) (t.entry i j))
+    -- a basic column is a unit column
+    pub units : (i k : ℕ) → i < m → k < m → t.entry i (t.basis k) ≡ cond (eqb i k) R.unit R.null
+    -- a basic artificial is the row's own: one that has left doesn't come back
+    pub own : (k : ℕ) → k < m → (t.basis k < n) ⊎ (t.basis k ≡ n + k)
+
+  -- column c may become basic in row r: it is no artificial, its entry is above 0, and no row with such an entry has a smaller ratio
+  pub record MayEnter (t : Table A) (r c : ℕ) : Type 0 where
+    pub column : c < n
+    pub row : r < m
+    pub above : Above R O (t.entry r c)
+    pub least : (i : ℕ) → i < m → Above R O (t.entry i c) → Least R O (less R (ratio R O m n t c i) (ratio R O m n t c r))

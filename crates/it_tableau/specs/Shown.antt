@@ -1,0 +1,83 @@
+-- What contracts see of a tableau.
+use Rattle.std.specs.Prelude.{◌≡◌, ℕ, ◌+◌, ◌<◌, ℤ, pos, negsuc, Bool, false, not, cond, List, [], ◌∷◌, ◌++◌, length, slice_index_or}
+use Rattle.it_rational.specs.Rational.{Rational, minus, whole, is_at_least_zero}
+use Rattle.it_space.specs.Rows.{Terms, coefficient}
+use Rattle.it_rational.proofs.RationalLaws.{ring_ℚ}
+use Rattle.it_rational.proofs.Field.{order_ℚ}
+use Rattle.it_tableau.specs.Tables.{Table, start_row}
+use Rattle.it_tableau.specs.Rows.{at, column_sum, row_at, IsWholeNumber, Shows}
+use Rattle.it_tableau.specs.Problems.{problem_of, start_of}
+
+pub record Shown : Type 0 where
+  -- how many columns there are but the artificial ones
+  pub generators : ℕ
+  -- the rows with their right sides, and last the cost row
+  pub rows : List (List Rational)
+  pub basis : List ℕ
+  -- whether a row was negated at the start
+  pub negated : List Bool
+  -- an operation failed half-way: nothing is known of the rest
+  pub spent : Bool
+
+-- the number of rows but the cost row
+abbrev pub height : Shown → ℕ
+height t = length t.basis
+
+-- the number of columns but the right side
+abbrev pub width : Shown → ℕ
+width t = t.generators + height t
+
+abbrev pub table_of : List (List Rational) → List ℕ → Table Rational
+table_of rows basis = record { entry = λ i j. at (row_at rows i) j; basis = λ i. slice_index_or basis i 0 }
+
+abbrev pub table : Shown → Table Rational
+table t = table_of t.rows t.basis
+
+abbrev pub sign_at : Shown → ℕ → ℤ
+sign_at t i = cond (slice_index_or t.negated i false) (negsuc 0) (pos 1)
+
+-- q is above 0
+abbrev pub IsPositive : Rational → Type 0
+IsPositive q = is_at_least_zero (minus q) ≡ false
+
+-- m rows and the cost row, each of n + m columns and a right side, and m basic columns
+pub record HasShape (m n : ℕ) (rows : List (List Rational)) (basis : List ℕ) : Type 0 where
+  pub rows_are : length rows ≡ m + 1
+  pub entries_are : (i : ℕ) → i < m + 1 → length (row_at rows i) ≡ n + m + 1
+  pub basis_is : length basis ≡ m
+
+-- the parts of a tableau that isn't spent agree
+pub record IsSound (n width : ℕ) (rows : List (List Rational)) (basis : List ℕ) (negated : List Bool) : Type 0 where
+  pub width_is : width ≡ n + length basis
+  pub shape : HasShape (length basis) n rows basis
+  pub signs_are : length negated ≡ length basis
+
+-- the first k rows of the start
+pub record AreStartRows (coordinates : List ℕ) (columns : List Terms) (target : Terms) (k : ℕ) (rows : List (List Rational)) : Type 0 where
+  pub rows_are : length rows ≡ k
+  pub entries_are : (i : ℕ) → i < k
+      → Shows (start_row ring_ℚ order_ℚ (length coordinates) (length columns) (problem_of coordinates columns target) i) (length columns + length coordinates + 1) (row_at rows i)
+  pub wholes : (i j : ℕ) → i < k → j < length columns + length coordinates + 1
+      → IsWholeNumber (start_row ring_ℚ order_ℚ (length coordinates) (length columns) (problem_of coordinates columns target) i j)
+
+-- the rows of the start, and below them their cost row
+pub record AreAllRows (coordinates : List ℕ) (columns : List Terms) (target : Terms) (all : List (List Rational)) : Type 0 where
+  pub rows : List (List Rational)
+  pub cost : List Rational
+  pub all_are : all ≡ rows ++ cost ∷ []
+  pub rows_are : AreStartRows coordinates columns target (length coordinates) rows
+  pub cost_is : Shows (λ j. minus (column_sum rows j (length rows))) (length columns + length coordinates + 1) cost
+
+-- the start of the run on the rows' coefficients at the coordinates
+pub record IsStart (coordinates : List ℕ) (columns : List Terms) (target : Terms) (t : Shown) : Type 0 where
+  pub usable : t.spent ≡ false
+  pub generators_are : t.generators ≡ length columns
+  pub height_is : height t ≡ length coordinates
+  pub table_is : table t ≡ start_of coordinates columns target
+  pub signs_are : (k : ℕ) → k < length coordinates → slice_index_or t.negated k false ≡ not (is_at_least_zero (whole (coefficient target (slice_index_or coordinates k 0))))
+
+-- what a pivot leaves as it is
+pub record KeepsFrame (old new : Shown) : Type 0 where
+  pub generators : new.generators ≡ old.generators
+  pub height : length new.basis ≡ length old.basis
+  pub negated : new.negated ≡ old.negated

@@ -1,0 +1,13 @@
+//! Laws of tables.
+ghost use Rattle.it_tableau.specs.Laws.{PivotsKeep, StartHolds};
+
+/// Each row of the start is the sum of its entries at the artificial columns times the start's rows, and what else every
+/// table of a run keeps.
+pub fn start_holds()
+    ensures { StartHolds }
+{}
+
+/// A pivot on a smallest ratio, in a column that isn't artificial, keeps all of it.
+pub fn pivots_keep()
+    ensures { PivotsKeep }
+{}

@@ -1,0 +1,12 @@
+//! The exact table of the simplex method: its start on sparse rows with an artificial column for each row, and the pivot.
+#![tactic(auto)]
+
+mod laws;
+mod rows;
+mod start;
+mod tableau;
+#[cfg(test)]
+mod tests;
+
+pub use laws::{pivots_keep, start_holds};
+pub use tableau::Tableau;

@@ -1,0 +1,182 @@
+//! The tableau.
+ghost use Rattle.std.specs.Prelude.{◌≡◌, ◌+◌, ◌<◌, ℕ, false, true, length, IfErr, IfOk, OkIff, OnErr, OnOk, slice_index_or};
+ghost use Rattle.it_rational.proofs.Field.{order_ℚ};
+ghost use Rattle.it_rational.proofs.RationalLaws.{ring_ℚ};
+ghost use Rattle.it_fraction.specs.Fits.{IsNarrow};
+ghost use Rattle.it_tableau.specs.Fits.{PivotFits, StartFits};
+ghost use Rattle.it_tableau.specs.Problems.{problem_of};
+ghost use Rattle.it_tableau.specs.Shown.{height, sign_at, table, width, IsPositive, IsStart, KeepsFrame};
+ghost use Rattle.it_tableau.specs.Tables.{pivot, ratio};
+
+use crate::rows::{pivot_rows, read};
+use crate::start::{artificials, negations, start_table};
+use it_fraction::{Fraction, Wide};
+use it_space::{Row, RowFault};
+use std::alloc::Global;
+use std::marker::Model;
+
+/// A table of the first phase of the simplex method, in exact fractions.
+#[derive(Drop)]
+pub struct Tableau {
+    alloc: Global,
+    generators: usize,
+    width: usize,
+    rows: Vec<Vec<Fraction>>,
+    basis: Vec<usize>,
+    negated: Vec<bool>,
+    spent: bool,
+}
+
+impl Model for Tableau {
+    ghost use Rattle.std.specs.Prelude.{◌≡◌, false, map};
+    ghost use Rattle.it_tableau.specs.Shown.{Shown, IsSound};
+
+    ghost Value = { Shown };
+
+    ghost view = { λ t. record { generators = t.generators; rows = map (λ v. v.items) t.rows.items; basis = t.basis.items; negated = t.negated.items; spent = t.spent } };
+
+    ghost invariant = { λ t. t.spent ≡ false → IsSound t.generators t.width (map (λ v. v.items) t.rows.items) t.basis.items t.negated.items };
+}
+
+impl Tableau {
+    /// The start on the rows' coefficients at the coordinates: a row for each coordinate in order, negated where the target's
+    /// coefficient is below 0, and a column for each row in order. The coordinates are to ascend and to hold all that the rows
+    /// use: what stands elsewhere is left out.
+    pub fn start(
+        alloc: Global,
+        coordinates: &[u32],
+        columns: &[Row],
+        target: &Row,
+    ) -> Result<Tableau, RowFault>
+        ensures ok { OnOk result (StartFits (length coordinates.now) (length columns.now) (problem_of coordinates.now columns.now target.now)) }
+        ensures value { IfOk result (λ t. IsStart coordinates.now columns.now target.now t) }
+        ensures wide { IfErr result (λ fault. fault ≡ RowFault.Wide → ¬ (StartFits (length coordinates.now) (length columns.now) (problem_of coordinates.now columns.now target.now))) }
+    {
+        let rows = start_table(alloc, coordinates, columns, target)?;
+        let basis = artificials(alloc, columns.len(), coordinates.len())?;
+        let negated = negations(alloc, coordinates, target)?;
+        Ok(Tableau {
+            alloc,
+            generators: columns.len(),
+            width: columns.len() + coordinates.len(),
+            rows,
+            basis,
+            negated,
+            spent: false,
+        })
+    }
+
+    /// How many rows there are, without the cost row.
+    pub fn rows(&self) -> usize
+        requires usable { self.now.spent ≡ false }
+        ensures { result ≡ height self.now }
+    {
+        self.basis.len()
+    }
+
+    /// How many columns there are, the artificial ones among them.
+    pub fn columns(&self) -> usize
+        requires usable { self.now.spent ≡ false }
+        ensures { result ≡ width self.now }
+    {
+        self.width
+    }
+
+    /// How many columns there are that aren't artificial. They come first.
+    pub fn generators(&self) -> usize
+        requires usable { self.now.spent ≡ false }
+        ensures { result ≡ self.now.generators }
+    {
+        self.generators
+    }
+
+    /// The column that is basic in a row.
+    pub fn basic(&self, row: usize) -> usize
+        requires usable { self.now.spent ≡ false }
+        requires row { row < height self.now }
+        ensures { result ≡ (table self.now).basis row }
+    {
+        self.basis[row]
+    }
+
+    /// -1 where the row was negated at the start, else 1.
+    pub fn sign(&self, row: usize) -> i8
+        requires usable { self.now.spent ≡ false }
+        requires row { row < height self.now }
+        ensures { result ≡ sign_at self.now row }
+    {
+        if self.negated[row] { -1 } else { 1 }
+    }
+
+    pub fn entry(&self, row: usize, column: usize) -> Fraction
+        requires usable { self.now.spent ≡ false }
+        requires row { row < height self.now }
+        requires column { column < width self.now }
+        ensures { result ≡ (table self.now).entry row column }
+    {
+        read(self.rows.as_slice(), row, column)
+    }
+
+    /// The right side of a row.
+    pub fn rhs(&self, row: usize) -> Fraction
+        requires usable { self.now.spent ≡ false }
+        requires row { row < height self.now }
+        ensures { result ≡ (table self.now).entry row (width self.now) }
+    {
+        read(self.rows.as_slice(), row, self.width)
+    }
+
+    /// The entry of the cost row.
+    pub fn cost(&self, column: usize) -> Fraction
+        requires usable { self.now.spent ≡ false }
+        requires column { column < width self.now }
+        ensures { result ≡ (table self.now).entry (height self.now) column }
+    {
+        read(self.rows.as_slice(), self.basis.len(), column)
+    }
+
+    /// The right side of the cost row.
+    pub fn cost_rhs(&self) -> Fraction
+        requires usable { self.now.spent ≡ false }
+        ensures { result ≡ (table self.now).entry (height self.now) (width self.now) }
+    {
+        read(self.rows.as_slice(), self.basis.len(), self.width)
+    }
+
+    /// The right side of a row divided by its entry in a column.
+    #[tactic(auto, using(crate::proofs::Positive::positive_some))]
+    pub fn ratio(&self, row: usize, column: usize) -> Result<Fraction, Wide>
+        requires usable { self.now.spent ≡ false }
+        requires row { row < height self.now }
+        requires column { column < width self.now }
+        requires positive { IsPositive ((table self.now).entry row column) }
+        ensures { OkIff result (IsNarrow (ratio ring_ℚ order_ℚ (height self.now) self.now.generators (table self.now) column row)) (ratio ring_ℚ order_ℚ (height self.now) self.now.generators (table self.now) column row) }
+    {
+        self.rhs(row).div(self.entry(row, column))
+    }
+
+    /// Makes a column basic in a row. After an error the tableau is spent: all that can be done with it is to let it go.
+    pub fn pivot(&mut self, row: usize, column: usize) -> Result<(), RowFault>
+        requires usable { self.old.spent ≡ false }
+        requires row { row < height self.old }
+        requires column { column < width self.old }
+        requires positive { IsPositive ((table self.old).entry row column) }
+        ensures ok { OnOk result (PivotFits (height self.old) self.old.generators (table self.old) row column) }
+        ensures value { OnOk result (table self.new ≡ pivot ring_ℚ order_ℚ (table self.old) row column) }
+        ensures usable { OnOk result (self.new.spent ≡ false) }
+        ensures frame { KeepsFrame self.old self.new }
+        ensures wide { IfErr result (λ fault. fault ≡ RowFault.Wide → ¬ (PivotFits (height self.old) self.old.generators (table self.old) row column)) }
+        ensures spent { OnErr result (self.new.spent ≡ true) }
+    {
+        match pivot_rows(self.alloc, self.rows.as_mut_slice(), row, column) {
+            Ok(()) => {
+                self.basis[row] = column;
+                Ok(())
+            }
+            Err(_) => {
+                self.spent = true;
+                Err(RowFault::Wide)
+            }
+        }
+    }
+}
