@@ -4,6 +4,8 @@
 mod givens;
 mod relations;
 mod sums;
+#[cfg(test)]
+mod tests;
 
 pub use givens::canon_given;
 pub use relations::canon;
