@@ -12,3 +12,5 @@ pub mod RelationLemmas
 pub mod LimitLemmas
 pub mod SpanLemmas
 pub mod WordLengths
+pub mod ComparisonTraces
+pub mod ComparisonAnswers

@@ -10,3 +10,5 @@ pub mod Reading
 pub mod FirstFault
 pub mod Gives
 pub mod Relations
+pub mod Comparisons
+pub mod ComparisonReading
