@@ -34,6 +34,7 @@ fn after_number(
                 atom,
             })
         }
+        (Piece::Bad(code), _) if number != 0 => Err(Stop::Fault(code)),
         _ => {
             if number == 0 {
                 Ok(Term {
@@ -100,6 +101,7 @@ fn over(rest: &Rest<'_>) -> Stop
                 Stop::Fault(Code::Word)
             }
         }
+        (Piece::Bad(code), _) => Stop::Fault(code),
         _ => Stop::Fault(Code::Word),
     }
 }
