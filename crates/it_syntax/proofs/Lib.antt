@@ -14,3 +14,7 @@ pub mod SpanLemmas
 pub mod WordLengths
 pub mod ComparisonTraces
 pub mod ComparisonAnswers
+pub mod LineLemmas
+pub mod ComparisonLemmas
+pub mod ComparisonTermLemmas
+pub mod ComparisonLimits

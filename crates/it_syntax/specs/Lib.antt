@@ -12,3 +12,5 @@ pub mod Gives
 pub mod Relations
 pub mod Comparisons
 pub mod ComparisonReading
+pub mod Lines
+pub mod ComparisonLines
