@@ -20,7 +20,7 @@ mod tests;
 pub mod types;
 
 pub use comparisons::comparison;
-pub use laws::{first_fault, relation_is_one, tokens_are_one};
+pub use laws::{comparison_is_one, first_fault, relation_is_one, tokens_are_one};
 pub use lists::is_measure;
 pub use names::Names;
 pub use relations::relation;
