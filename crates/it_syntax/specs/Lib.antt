@@ -14,3 +14,4 @@ pub mod Comparisons
 pub mod ComparisonReading
 pub mod Lines
 pub mod ComparisonLines
+pub mod Givens

@@ -145,3 +145,13 @@ pub struct Relation {
     pub sign: Sign,
     pub right: Expr,
 }
+
+/// A constraint as it was written: a relation; a chain of sets, each of which is all that the next depends on; sets that
+/// are independent given another, which is empty where none is named; a set that is a function of another.
+#[derive(Debug, Drop)]
+pub enum Given {
+    Relation(Relation),
+    Markov(Vec<VarSet>),
+    Independent { members: Vec<VarSet>, given: VarSet },
+    Function { value: VarSet, argument: VarSet },
+}

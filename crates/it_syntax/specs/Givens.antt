@@ -1,0 +1,68 @@
+-- What the constraints of `given` lines say of entropies (Yeung 1997, "A Framework for Linear Information Inequalities"):
+-- relations, chains, independence and functions.
+use Rattle.std.specs.Prelude.{◌≡◌, ℕ, ◌+◌, ◌<◌, ◌≤◌, ◌^◌, bit_or, ℤ, pos, ◌+ℤ◌, List, [], ◌∷◌, length, All}
+use Rattle.std.specs.List.{fold}
+use Rattle.it_syntax.specs.declared.types.Atom.{Atom}
+use Rattle.it_syntax.specs.declared.types.Atom.TheVariants.{Entropy, Mutual}
+use Rattle.it_syntax.specs.declared.types.Given.{Given}
+use Rattle.it_syntax.specs.declared.types.Given.TheVariants as givens
+use Rattle.it_syntax.specs.Meaning.{Stated, stated, atom_at, Holds, IsAtomOf}
+
+-- a given as contracts compare it: each vector by the list of its items
+pub data Condition : Type 0 where
+  Related : (relation : Stated) → Condition
+  Chain : (sets : List ℕ) → Condition
+  Independence : (members : List ℕ) (given : ℕ) → Condition
+  Function : (value argument : ℕ) → Condition
+
+abbrev pub condition : Given → Condition
+condition (givens.Relation r) = Related (stated r)
+condition (givens.Markov sets) = Chain sets.items
+condition (givens.Independent members given) = Independence members.items given
+condition (givens.Function value argument) = Function value argument
+
+abbrev pub union_of : List ℕ → ℕ
+union_of sets = fold bit_or 0 sets
+
+-- The links of a chain A1 to Ak: I(A1,..,A(i-1); A(i+1) | Ai) for each i from 2 to k - 1. `past` is the union of the sets
+-- before those in the list.
+abbrev pub links_from : ℕ → List ℕ → List Atom
+links_from past (here ∷ next ∷ sets) = Mutual past next here ∷ links_from (bit_or past here) (next ∷ sets)
+links_from past (here ∷ []) = []
+links_from past [] = []
+
+abbrev pub links : List ℕ → List Atom
+links [] = []
+links (first ∷ sets) = links_from first sets
+
+-- the sum of the H(A|W) over the members A
+abbrev pub sum_given : ℕ → (ℕ → ℤ) → List ℕ → ℕ → ℤ
+sum_given n p [] given = pos 0
+sum_given n p (member ∷ members) given = atom_at n p (Entropy member given) +ℤ sum_given n p members given
+
+-- The condition is true of the map: each link of a chain is 0, the joint entropy of independent sets is the sum of theirs,
+-- a function has no entropy given its argument.
+abbrev pub IsTrueAt : ℕ → (ℕ → ℤ) → Condition → Type 0
+IsTrueAt n p (Related r) = Holds n p r
+IsTrueAt n p (Chain sets) = All (λ link. atom_at n p link ≡ pos 0) (links sets)
+IsTrueAt n p (Independence members given) = atom_at n p (Entropy (union_of members) given) ≡ sum_given n p members given
+IsTrueAt n p (Function value argument) = atom_at n p (Entropy value argument) ≡ pos 0
+
+-- sets of n variables, rates among m, and at most 256 terms
+pub record IsRelationOf (n m : ℕ) (r : Stated) : Type 0 where
+  pub few : length r.left + length r.right ≤ 256
+  pub left : All (λ t. IsAtomOf n m t.atom) r.left
+  pub right : All (λ t. IsAtomOf n m t.atom) r.right
+
+-- so many sets of n variables
+pub record AreSetsOf (n least most : ℕ) (sets : List ℕ) : Type 0 where
+  pub some : least ≤ length sets
+  pub few : length sets ≤ most
+  pub within : All (λ s. s < 2 ^ n) sets
+
+-- the conditions on n variables and m rates that are within the limits: 3 to 16 sets in a chain, 2 to 16 in an independence
+abbrev pub IsConditionOf : ℕ → ℕ → Condition → Type 0
+IsConditionOf n m (Related r) = IsRelationOf n m r
+IsConditionOf n m (Chain sets) = AreSetsOf n 3 16 sets
+IsConditionOf n m (Independence members given) = AreSetsOf n 2 16 members × (given < 2 ^ n)
+IsConditionOf n m (Function value argument) = (value < 2 ^ n) × (argument < 2 ^ n)
