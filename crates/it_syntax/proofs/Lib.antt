@@ -18,3 +18,6 @@ pub mod LineLemmas
 pub mod ComparisonLemmas
 pub mod ComparisonTermLemmas
 pub mod ComparisonLimits
+pub mod LetterReaders
+pub mod ConditionTraces
+pub mod ConditionAnswers

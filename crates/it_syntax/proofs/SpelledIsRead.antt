@@ -116,7 +116,7 @@ unfolding closed
 closing x k = answers_cons (Sym RightParen) (Ok (x, letters k)) k x k (answers_ok x k)
 
 -- a list of names, and what is read behind it
-list_then : {A : Type 0} (env : Environment) (a : WrittenList) (f : ℕ → List Letter → Reads A) (n k : Marked) (y : A) → NoComma n → Answers (f (list_set env a) (letters n)) n y k → Answers (read_list env (letters (spell_list env a n)) >>= λ x. f x.0 x.1) (spell_list env a n) y k
+pub list_then : {A : Type 0} (env : Environment) (a : WrittenList) (f : ℕ → List Letter → Reads A) (n k : Marked) (y : A) → NoComma n → Answers (f (list_set env a) (letters n)) n y k → Answers (read_list env (letters (spell_list env a n)) >>= λ x. f x.0 x.1) (spell_list env a n) y k
 list_then env a f n k y s h = answers_bind (read_list env (letters (spell_list env a n))) (λ x. f x.0 x.1) (spell_list env a n) n k (list_set env a) y (list_answers env a n s) h
 
 given_none : (env : Environment) (k : Marked) → Answers (read_given env (letters (clean (Sym RightParen) ∷ k))) (clean (Sym RightParen) ∷ k) 0 k

@@ -15,3 +15,5 @@ pub mod ComparisonReading
 pub mod Lines
 pub mod ComparisonLines
 pub mod Givens
+pub mod Conditions
+pub mod ConditionReading
