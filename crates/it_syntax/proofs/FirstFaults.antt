@@ -12,7 +12,7 @@ letters_append : (m n : Marked) → letters (m ++ n) ≡ letters m ++ letters n
 letters_append [] n = refl
 letters_append (x ∷ m) n = ap (λ (t : List Letter). x.0 ∷ t) (letters_append m n)
 
-letters_cleaned : (p : List Letter) → letters (cleaned p) ≡ p
+pub letters_cleaned : (p : List Letter) → letters (cleaned p) ≡ p
 letters_cleaned [] = refl
 letters_cleaned (l ∷ p) = ap (λ (t : List Letter). l ∷ t) (letters_cleaned p)
 
@@ -142,7 +142,8 @@ reads_found f spell res traces ls y e =
     let w : Went f spell res ls y [] = by_at f spell res ls (Ok (y, [])) e (traces ls) in
     (w.tree, (w.spells [] ∙ sym (cleaned_append w.front []) ∙ ap cleaned (sym w.parts), w.value))
 
-clean_is_clean : (ls front : List Letter) (c : Code) → MarkedAt (cleaned ls) front c → ⊥
+-- in letters that nothing is said against is no mark
+pub clean_is_clean : (ls front : List Letter) (c : Code) → MarkedAt (cleaned ls) front c → ⊥
 clean_is_clean [] [] c k = let e = k.2 in absurd cc
 clean_is_clean (l ∷ ls) [] c k = let e : None ≡ Some c = second_is (l, None) (k.0, Some c) (cleaned ls) k.1 k.2 in absurd cc
 clean_is_clean [] (x ∷ front) c k = let e = k.2 in absurd cc

@@ -12,3 +12,12 @@ pub mod RelationLemmas
 pub mod LimitLemmas
 pub mod SpanLemmas
 pub mod WordLengths
+pub mod ComparisonTraces
+pub mod ComparisonAnswers
+pub mod LineLemmas
+pub mod ComparisonLemmas
+pub mod ComparisonTermLemmas
+pub mod ComparisonLimits
+pub mod LetterReaders
+pub mod ConditionTraces
+pub mod ConditionAnswers

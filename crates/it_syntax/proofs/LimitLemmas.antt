@@ -18,29 +18,32 @@ use Rattle.it_syntax.specs.Reading.{Fault, Reads, ◌>>=◌, stuck, named, read_
 use Rattle.it_syntax.specs.Relations.{env_of, KeepsLimits}
 
 -- of what was read, if it was
-abbrev Sure : {A : Type 0} → (A → Type 0) → Result A Fault → Type 0
+abbrev pub Sure : {A : Type 0} → (A → Type 0) → Result A Fault → Type 0
 Sure P (Ok x) = P x
 Sure P (Err e) = Unit {0}
 
-sure_bind : {A B : Type 0} (P : A → Type 0) (Q : B → Type 0) (r : Result A Fault) (f : A → Result B Fault) → Sure P r → ((x : A) → P x → Sure Q (f x)) → Sure Q (r >>= f)
+-- one reading, and then another
+pub sure_bind : {A B : Type 0} (P : A → Type 0) (Q : B → Type 0) (r : Result A Fault) (f : A → Result B Fault) → Sure P r → ((x : A) → P x → Sure Q (f x)) → Sure Q (r >>= f)
 sure_bind P Q (Ok x) f h k = k x h
 sure_bind P Q (Err e) f h k = tt
 
-Any : {A : Type 0} → A → Type 0
+-- nothing is asked of it
+pub Any : {A : Type 0} → A → Type 0
 Any x = Unit {0}
 
-any : {A : Type 0} (r : Result A Fault) → Sure Any r
+pub any : {A : Type 0} (r : Result A Fault) → Sure Any r
 unfolding Any
 any (Ok x) = tt
 any (Err e) = tt
 
-stuck_sure : {A : Type 0} (P : A × List Letter → Type 0) (ls : List Letter) → Sure P (stuck ls)
+-- nothing is read
+pub stuck_sure : {A : Type 0} (P : A × List Letter → Type 0) (ls : List Letter) → Sure P (stuck ls)
 stuck_sure P [] = tt
 stuck_sure P (Bad c ∷ ls) = tt
 stuck_sure P (l ∷ ls) = tt
 
 -- the names are those of n variables
-abbrev Knows : Environment → ℕ → Type 0
+abbrev pub Knows : Environment → ℕ → Type 0
 Knows env n = (w : List ℕ) (i : ℕ) → env w ≡ Some i → i < n
 
 abbrev IsBelow : ℕ → ℕ × List Letter → Type 0
@@ -94,7 +97,7 @@ given_sure env n k ls = sure_bind Any (IsBelow (2 ^ n)) (bar_or_close ls) (λ ba
     chosen true rest = sure_bind (IsBelow (2 ^ n)) (IsBelow (2 ^ n)) (read_list env rest) (λ c. closed c.0 c.1) (list_sure env n k rest) (λ c hc. closed_sure (λ (s : ℕ). s < 2 ^ n) c.0 hc c.1)
     chosen false rest = some_sets n
 
-abbrev HasSets : ℕ → ℕ → Atom × List Letter → Type 0
+abbrev pub HasSets : ℕ → ℕ → Atom × List Letter → Type 0
 HasSets n m x = IsAtomOf n m x.0
 
 joint_sure : (env : Environment) (n m : ℕ) → Knows env n → (ls : List Letter) → Sure (HasSets n m) (read_joint env ls)
@@ -113,7 +116,8 @@ mutual_sure env n m k ls =
     (λ middle v. sure_bind (IsBelow (2 ^ n)) (HasSets n m) (read_list env middle) (λ b. read_given env b.1 >>= λ c. Ok (Mutual a.0 b.0 c.0, c.1)) (list_sure env n k middle)
     (λ b hb. sure_bind (IsBelow (2 ^ n)) (HasSets n m) (read_given env b.1) (λ c. Ok (Mutual a.0 b.0 c.0, c.1)) (given_sure env n k b.1) (λ c hc. (ha, hb, hc))))))
 
-atom_sure : (env : Environment) (n m : ℕ) → Knows env n → (ls : List Letter) → Sure (HasSets n m) (read_atom env ls)
+-- the sets of an atom are of the variables that there are
+pub atom_sure : (env : Environment) (n m : ℕ) → Knows env n → (ls : List Letter) → Sure (HasSets n m) (read_atom env ls)
 unfolding read_atom
 atom_sure env n m k (Word w ∷ ls) = chosen (bytes_eq w entropy_text) (bytes_eq w mutual_text)
   where
@@ -125,7 +129,7 @@ atom_sure env n m k [] = tt
 atom_sure env n m k (Bad c ∷ ls) = tt
 atom_sure env n m k (l ∷ ls) = tt
 
-abbrev TermHasSets : ℕ → ℕ → Term × List Letter → Type 0
+abbrev pub TermHasSets : ℕ → ℕ → Term × List Letter → Type 0
 TermHasSets n m x = IsAtomOf n m x.0.atom
 
 abbrev counted : Bool → ℕ → Atom × List Letter → Reads Term
@@ -162,7 +166,7 @@ over_sure P (Bad c ∷ ls) = tt
 over_sure P (l ∷ ls) = tt
 
 -- at most so many terms, over the variables that there are
-abbrev AreFew : ℕ → ℕ → ℕ → List Term × List Letter → Type 0
+abbrev pub AreFew : ℕ → ℕ → ℕ → List Term × List Letter → Type 0
 AreFew n m most x = (length x.0 ≤ most) × All (λ t. IsAtomOf n m t.atom) x.0
 
 more_terms_sure : (env : Environment) (n m most : ℕ) → Knows env n → (b : Bool) (ls : List Letter) → ((rest : List Letter) → Sure (AreFew n m most) (read_terms most env rest)) → Sure (AreFew n m (suc most)) (read_term env b ls >>= λ t. read_terms most env t.1 >>= λ ts. Ok (t.0 ∷ ts.0, ts.1))
@@ -199,7 +203,8 @@ relation_sure : (env : Environment) (n m : ℕ) → Knows env n → (ls : List L
 unfolding read_relation
 relation_sure env n m k ls = sure_bind (AreFew n m 255) (AreFew n m 255) (read_side env ls) (λ e. read_least e.0 e.1) (side_sure env n m k ls) (λ e he. least_sure (λ (ts : List Term). (length ts ≤ 255) × All (λ t. IsAtomOf n m t.atom) ts) e.0 he e.1)
 
-knows_names : (v : Vocabulary) → Knows (env_of v) (length v.variables)
+-- the names of a vocabulary are its variables
+pub knows_names : (v : Vocabulary) → Knows (env_of v) (length v.variables)
 unfolding env_of
 knows_names v w i e = (position-Some (bytes_eq w) v.variables i [] e).0
 

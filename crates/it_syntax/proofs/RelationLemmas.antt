@@ -13,13 +13,14 @@ use Rattle.it_syntax.proofs.SpelledIsRead.{Answers, answers_ok, answers_cons, an
 use Rattle.it_syntax.proofs.SideTraces.{relation_traces}
 use Rattle.it_syntax.proofs.FirstFaults.{first_fault, one_fault, reads_found, reads_only}
 
-spell_end : Unit {0} → Marked → Marked
+-- the line's end
+unfoldable pub spell_end : Unit {0} → Marked → Marked
 spell_end u k = clean End ∷ k
 
-nothing : Unit {0} → Unit {0}
+unfoldable pub nothing : Unit {0} → Unit {0}
 nothing u = tt
 
-end_traces : Traces line_end spell_end nothing
+pub end_traces : Traces line_end spell_end nothing
 unfolding line_end spell_end nothing
 end_traces (End ∷ ls) = record { tree = tt; front = End ∷ []; value = refl; parts = refl; spells = λ k. refl; stays = λ s e. refl }
 end_traces [] = stuck_none line_end spell_end tt refl

@@ -109,7 +109,8 @@ atom_by env w ls false true eh ei =
     (λ s. word_is env w s false true eh ei) (shared_spelled env w (sym ((bytes_eq-Decides w mutual_text).0 ei))) (shared_value env) (read_mutual env ls) (mutual_traces env ls)
 atom_by env w ls false false eh ei = stuck_here (read_atom env) (spell_atom env) some_atom (Word w) ls codes.Word (λ s. word_is env w s false false eh ei) refl
 
-atom_traces : (env : Environment) → Traces (read_atom env) (spell_atom env) (atom_of env)
+-- an entropy or a mutual information
+pub atom_traces : (env : Environment) → Traces (read_atom env) (spell_atom env) (atom_of env)
 unfolding read_atom
 atom_traces env (Word w ∷ ls) = atom_by env w ls (bytes_eq w entropy_text) (bytes_eq w mutual_text) refl refl
 atom_traces env [] = stuck_none (read_atom env) (spell_atom env) some_atom refl

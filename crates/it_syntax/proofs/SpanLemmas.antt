@@ -1,6 +1,8 @@
 -- Tokens lie in their line.
-use Rattle.std.proofs.Common.{◌≡◌, ℕ, zero, suc, ◌+◌, List, [], ◌∷◌, ◌++◌, length, drop, ap, ◌∙◌, arith, length-append}
+use Rattle.std.proofs.Common.{◌≡◌, ℕ, zero, suc, ◌+◌, ◌<◌, ◌≤◌, List, [], ◌∷◌, ◌++◌, length, drop, ap, ◌∙◌, arith, length-append}
+use Rattle.std.proofs.Math.ListN.{get_or}
 use Rattle.it_syntax.specs.declared.types.Token.{Token}
+use Rattle.it_syntax.specs.declared.types.TokenKind.TheVariants as kinds
 use Rattle.it_syntax.specs.Spelling.{Spells}
 use Rattle.it_syntax.specs.Spans.{InLine}
 
@@ -21,3 +23,13 @@ in_line_drop line [] zero h = tt
 in_line_drop line [] (suc n) h = tt
 in_line_drop line (t ∷ ts) zero h = h
 in_line_drop line (t ∷ ts) (suc n) h = in_line_drop line ts n h.1
+
+-- stands in for a token that isn't there
+abbrev pub no_token : Token
+no_token = record { kind = kinds.Word; start = 0; end = 0 }
+
+-- each token takes bytes of its line
+pub in_line_at : (line : List ℕ) (ts : List Token) (i : ℕ) (d : Token) → i < length ts → InLine line ts → ((get_or ts i d).start ≤ (get_or ts i d).end) × ((get_or ts i d).end ≤ length line)
+in_line_at line [] i d lt h = absurd (omega (arith, lt))
+in_line_at line (t ∷ ts) zero d lt h = h.0
+in_line_at line (t ∷ ts) (suc i) d lt h = in_line_at line ts i d (omega (arith, lt)) h.1

@@ -101,7 +101,8 @@ more_answers env (w ∷ ws) k s =
     (named_answers w (is_measure w) (env w) n)
     (answers_bind (read_more env (letters n)) (λ m. Ok (bit_or (2 ^ index_or (env w)) m.0, m.1)) n k k (more_set env ws) x (more_answers env ws k s) (answers_ok x k)))
 
-list_answers : (env : Environment) (x : WrittenList) (k : Marked) → NoComma k → Answers (read_list env (letters (spell_list env x k))) (spell_list env x k) (list_set env x) k
+-- a list of names
+pub list_answers : (env : Environment) (x : WrittenList) (k : Marked) → NoComma k → Answers (read_list env (letters (spell_list env x k))) (spell_list env x k) (list_set env x) k
 unfolding read_list
 list_answers env x k s =
     let n = spell_more env x.more k in
@@ -115,7 +116,7 @@ unfolding closed
 closing x k = answers_cons (Sym RightParen) (Ok (x, letters k)) k x k (answers_ok x k)
 
 -- a list of names, and what is read behind it
-list_then : {A : Type 0} (env : Environment) (a : WrittenList) (f : ℕ → List Letter → Reads A) (n k : Marked) (y : A) → NoComma n → Answers (f (list_set env a) (letters n)) n y k → Answers (read_list env (letters (spell_list env a n)) >>= λ x. f x.0 x.1) (spell_list env a n) y k
+pub list_then : {A : Type 0} (env : Environment) (a : WrittenList) (f : ℕ → List Letter → Reads A) (n k : Marked) (y : A) → NoComma n → Answers (f (list_set env a) (letters n)) n y k → Answers (read_list env (letters (spell_list env a n)) >>= λ x. f x.0 x.1) (spell_list env a n) y k
 list_then env a f n k y s h = answers_bind (read_list env (letters (spell_list env a n))) (λ x. f x.0 x.1) (spell_list env a n) n k (list_set env a) y (list_answers env a n s) h
 
 given_none : (env : Environment) (k : Marked) → Answers (read_given env (letters (clean (Sym RightParen) ∷ k))) (clean (Sym RightParen) ∷ k) 0 k
@@ -152,7 +153,8 @@ mutual_then env a b s n k free g =
 behind : {A : Type 0} (w l : Letter) (r : Reads A) (m : Marked) (x : A) (k : Marked) → Answers r m x k → Answers r (clean w ∷ clean l ∷ m) x k
 behind w l r m x k a = answers_cons w r (clean l ∷ m) x k (answers_cons l r m x k a)
 
-atom_answers : (env : Environment) (x : WrittenAtom) (k : Marked) → Answers (read_atom env (letters (spell_atom env x k))) (spell_atom env x k) (atom_of env x) k
+-- an entropy or a mutual information
+pub atom_answers : (env : Environment) (x : WrittenAtom) (k : Marked) → Answers (read_atom env (letters (spell_atom env x k))) (spell_atom env x k) (atom_of env x) k
 unfolding read_atom
 atom_answers env (Joint a) k = behind (Word entropy_text) (Sym LeftParen) _ _ _ k (joint_then env a 0 (clean (Sym RightParen) ∷ k) k tt (given_none env k))
 atom_answers env (JointGiven a c) k = behind (Word entropy_text) (Sym LeftParen) _ _ _ k (joint_then env a (list_set env c) (clean (Sym Bar) ∷ spell_list env c (clean (Sym RightParen) ∷ k)) k tt (given_some env c k))
@@ -264,7 +266,8 @@ signed None env t k = unsigned env t k
 signed (Some Positive) env t k = refl
 signed (Some Negative) env t k = refl
 
-sign_answers : {A : Type 0} (o : Option TermSign) (r : Reads A) (m : Marked) (x : A) (k : Marked) → Answers r m x k → Answers r (spell_sign o m) x k
+-- behind an optional sign
+pub sign_answers : {A : Type 0} (o : Option TermSign) (r : Reads A) (m : Marked) (x : A) (k : Marked) → Answers r m x k → Answers r (spell_sign o m) x k
 sign_answers None r m x k a = a
 sign_answers (Some s) r m x k a = answers_cons (sign_letter s) r m x k a
 

@@ -5,18 +5,19 @@ use Rattle.it_syntax.specs.declared.rest.Stop.TheVariants as stops
 use Rattle.it_syntax.specs.declared.rest.Piece.{Piece}
 use Rattle.it_syntax.specs.declared.rest.Piece.TheVariants as pieces
 use Rattle.it_syntax.specs.declared.rest.Rest.{Rest}
-use Rattle.it_syntax.specs.Letters.{Letter, Word, Number, Sym, End}
+use Rattle.it_syntax.specs.Letters.{Letter, Word, Number, Sym, End, Bad}
 use Rattle.it_syntax.specs.Reading.{Reads, Fault}
-use Rattle.it_syntax.specs.Spans.{letters_of}
+use Rattle.it_syntax.specs.Spans.{letters_until, last_letter}
 
 abbrev pub left : Rest → List Letter
-left r = letters_of r.line.now r.tokens.now
+left r = letters_until r.line.now r.tokens.now (last_letter r.misspelling)
 
 abbrev pub with_front : Piece → List Letter → List Letter
 with_front (pieces.Word w) ls = Word w.now ∷ ls
 with_front (pieces.Number n) ls = Number n ∷ ls
 with_front (pieces.Symbol s) ls = Sym s ∷ ls
 with_front pieces.End ls = End ∷ []
+with_front (pieces.Bad c) ls = Bad c ∷ []
 
 -- the code's reader stopped as reading stops, with `rest` left, unless memory ran out
 abbrev pub StopsAs : {A : Type 0} → Stop → List Letter → Result A Fault → Type 0

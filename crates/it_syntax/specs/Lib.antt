@@ -10,4 +10,10 @@ pub mod Reading
 pub mod FirstFault
 pub mod Gives
 pub mod Relations
+pub mod Comparisons
+pub mod ComparisonReading
+pub mod Lines
+pub mod ComparisonLines
 pub mod Givens
+pub mod Conditions
+pub mod ConditionReading

@@ -1,10 +1,11 @@
 -- The letters of a line's tokens, by the bytes that each token takes.
 use Rattle.std.proofs.Props.{props}
-use Rattle.std.specs.Prelude.{ℕ, ◌-◌, ◌≤◌, List, [], ◌∷◌, length, take, drop}
+use Rattle.std.specs.Prelude.{ℕ, ◌-◌, ◌≤◌, List, [], ◌∷◌, length, take, drop, Option, Some, None}
 use Rattle.it_syntax.specs.declared.types.Token.{Token}
 use Rattle.it_syntax.specs.declared.types.TokenKind.{TokenKind}
 use Rattle.it_syntax.specs.declared.types.TokenKind.TheVariants as kinds
-use Rattle.it_syntax.specs.Letters.{Letter, Word, Number, Sym, End}
+use Rattle.it_syntax.specs.declared.types.Misspelling.{Misspelling}
+use Rattle.it_syntax.specs.Letters.{Letter, Word, Number, Sym, End, Bad}
 
 abbrev pub text_of : List ℕ → Token → List ℕ
 text_of line t = take (t.end - t.start) (drop t.start line)
@@ -14,10 +15,19 @@ letter_of line start end kinds.Word = Word (take (end - start) (drop start line)
 letter_of line start end (kinds.Number n) = Number n
 letter_of line start end (kinds.Symbol s) = Sym s
 
+-- the tokens, and then a last letter
+abbrev pub letters_until : List ℕ → List Token → Letter → List Letter
+letters_until line [] last = last ∷ []
+letters_until line (t ∷ ts) last = letter_of line t.start t.end t.kind ∷ letters_until line ts last
+
 -- the tokens, and then the line's end
 abbrev pub letters_of : List ℕ → List Token → List Letter
-letters_of line [] = End ∷ []
-letters_of line (t ∷ ts) = letter_of line t.start t.end t.kind ∷ letters_of line ts
+letters_of line ts = letters_until line ts End
+
+-- what stands behind the tokens
+abbrev pub last_letter : Option Misspelling → Letter
+last_letter None = End
+last_letter (Some m) = Bad m.code
 
 -- each token takes bytes of the line
 abbrev pub InLine : List ℕ → List Token → Type 0

@@ -19,6 +19,7 @@ fn closed(set: VarSet, rest: &mut Rest<'_>) -> Result<VarSet, Stop>
             *rest = behind;
             Ok(set)
         }
+        (Piece::Bad(code), _) => Err(Stop::Fault(code)),
         _ => Err(Stop::Fault(Code::Word)),
     }
 }
@@ -32,6 +33,7 @@ fn opened(rest: &mut Rest<'_>) -> Result<(), Stop>
             *rest = behind;
             Ok(())
         }
+        (Piece::Bad(code), _) => Err(Stop::Fault(code)),
         _ => Err(Stop::Fault(Code::Word)),
     }
 }
@@ -45,6 +47,7 @@ fn divided(rest: &mut Rest<'_>) -> Result<(), Stop>
             *rest = behind;
             Ok(())
         }
+        (Piece::Bad(code), _) => Err(Stop::Fault(code)),
         _ => Err(Stop::Fault(Code::Word)),
     }
 }
@@ -63,6 +66,7 @@ fn bar_or_close(rest: &mut Rest<'_>) -> Result<bool, Stop>
             *rest = behind;
             Ok(false)
         }
+        (Piece::Bad(code), _) => Err(Stop::Fault(code)),
         _ => Err(Stop::Fault(Code::Word)),
     }
 }
@@ -120,6 +124,7 @@ pub fn atom(rest: &mut Rest<'_>, names: &Names) -> Result<Atom, Stop>
                 Err(Stop::Fault(Code::Word))
             }
         }
+        (Piece::Bad(code), _) => Err(Stop::Fault(code)),
         _ => Err(Stop::Fault(Code::Word)),
     }
 }

@@ -1,5 +1,6 @@
 //! Laws of the definitions that the contracts cite.
 ghost use Rattle.it_syntax.specs.Spelling.{TokensAreOne};
+ghost use Rattle.it_syntax.specs.ComparisonLines.{ComparisonIsOne, ComparisonFaultIsOne, ComparisonOrFault};
 ghost use Rattle.it_syntax.specs.Relations.{RelationIsOne, ReadingStopsFirst, FaultIsOne};
 
 /// A line has at most one reading as tokens.
@@ -17,4 +18,11 @@ pub fn relation_is_one()
 pub fn first_fault()
     ensures first { ReadingStopsFirst }
     ensures one { FaultIsOne }
+{}
+
+/// A line from a token on is at most one relation of two sums, or has at most one first fault, and not both.
+pub fn comparison_is_one()
+    ensures one { ComparisonIsOne }
+    ensures fault { ComparisonFaultIsOne }
+    ensures either { ComparisonOrFault }
 {}

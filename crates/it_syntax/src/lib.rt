@@ -2,20 +2,25 @@
 #![tactic(auto)]
 
 mod atoms;
+mod comparisons;
 mod laws;
 mod lists;
 mod names;
 mod pieces;
+mod places;
 mod relations;
+mod quantities;
 pub mod rest;
 mod runs;
 mod scanner;
 mod sides;
+mod sums;
 #[cfg(test)]
 mod tests;
 pub mod types;
 
-pub use laws::{first_fault, relation_is_one, tokens_are_one};
+pub use comparisons::comparison;
+pub use laws::{comparison_is_one, first_fault, relation_is_one, tokens_are_one};
 pub use lists::is_measure;
 pub use names::Names;
 pub use relations::relation;

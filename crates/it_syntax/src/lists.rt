@@ -51,6 +51,7 @@ fn name(rest: &mut Rest<'_>, names: &Names) -> Result<u8, Stop>
                 None => Err(Stop::Fault(Code::Name)),
             }
         }
+        (Piece::Bad(code), _) => Err(Stop::Fault(code)),
         _ => Err(Stop::Fault(Code::Word)),
     }
 }

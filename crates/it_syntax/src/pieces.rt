@@ -21,10 +21,14 @@ impl<'a> Rest<'a> {
         requires { Spells 0 line.now tokens.now }
         ensures { left result ≡ letters_of line.entry.now tokens.entry.now }
     {
-        Rest { line, tokens }
+        Rest {
+            line,
+            tokens,
+            misspelling: None,
+        }
     }
 
-    /// The first piece, and what is behind it; nothing is behind the end.
+    /// The first piece, and what is behind it; nothing is behind the end or a misspelling.
     pub fn front(self) -> (Piece<'a>, Rest<'a>)
         ensures { left self.entry ≡ with_front result.0 (left result.1) }
     {
@@ -40,10 +44,14 @@ impl<'a> Rest<'a> {
                     Rest {
                         line: self.line,
                         tokens: tail,
+                        misspelling: self.misspelling,
                     },
                 )
             }
-            [] => (Piece::End, self),
+            [] => match self.misspelling {
+                Some(misspelling) => (Piece::Bad(misspelling.code), self),
+                None => (Piece::End, self),
+            },
         }
     }
 }

@@ -19,15 +19,19 @@ use std::alloc::{AllocError, Global};
 fn least(terms: Vec<Term>, rest: &mut Rest<'_>) -> Result<Vec<Term>, Stop>
     ensures { GivesBy (λ x. x.items) result (left rest.new) (read_least terms.items (left rest.old)) }
 {
-    let (Piece::Symbol(Symbol::AtLeast), behind) = rest.front() else {
-        return Err(Stop::Fault(Code::Word));
-    };
-    *rest = behind;
-    let (Piece::Number(0), behind) = rest.front() else {
-        return Err(Stop::Fault(Code::Word));
-    };
-    *rest = behind;
-    Ok(terms)
+    match rest.front() {
+        (Piece::Symbol(Symbol::AtLeast), behind) => *rest = behind,
+        (Piece::Bad(code), _) => return Err(Stop::Fault(code)),
+        _ => return Err(Stop::Fault(Code::Word)),
+    }
+    match rest.front() {
+        (Piece::Number(0), behind) => {
+            *rest = behind;
+            Ok(terms)
+        }
+        (Piece::Bad(code), _) => Err(Stop::Fault(code)),
+        _ => Err(Stop::Fault(Code::Word)),
+    }
 }
 
 /// The side that is 0 alone.
@@ -59,6 +63,7 @@ fn whole(alloc: Global, rest: &mut Rest<'_>, names: &Names) -> Result<Relation, 
             sign: Sign::AtLeast,
             right,
         }),
+        (Piece::Bad(code), _) => Err(Stop::Fault(code)),
         _ => Err(Stop::Fault(Code::Word)),
     }
 }
@@ -89,6 +94,7 @@ pub fn relation(
     let mut rest = Rest {
         line,
         tokens: tokens.split_at(from).1,
+        misspelling: None,
     };
     match whole(alloc, &mut rest, names) {
         Ok(relation) => Ok(relation),

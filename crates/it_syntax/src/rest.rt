@@ -1,23 +1,25 @@
 //! What is left of a line.
 ghost use Rattle.it_syntax.specs.Spans.{InLine, InLine-prop};
 
-use crate::types::{Code, Symbol, Token};
+use crate::types::{Code, Misspelling, Symbol, Token};
 
-/// A piece of a line: a token, or the line's end.
+/// A piece of a line: a token, a misspelling, or the line's end.
 #[derive(Clone, Copy, Debug)]
 pub enum Piece<'a> {
     Word(&'a [u8]),
     Number(u64),
     Symbol(Symbol),
     End,
+    Bad(Code),
 }
 
-/// The tokens that are left of a line. A reader takes from the front what it reads, and at a fault leaves it at the
+/// The tokens that are left of a line, and what stands behind them if it isn't the line's end. A reader takes from the front what it reads, and at a fault leaves it at the
 /// token that the fault is at.
 #[derive(Clone, Copy)]
 pub struct Rest<'a> {
     pub line: &'a [u8],
     pub tokens: &'a [Token],
+    pub misspelling: Option<Misspelling>,
     pub ghost inside: { InLine line.now tokens.now } by { InLine-prop line.now tokens.now },
 }
 

@@ -34,6 +34,7 @@ fn after_number(
                 atom,
             })
         }
+        (Piece::Bad(code), _) if number != 0 => Err(Stop::Fault(code)),
         _ => {
             if number == 0 {
                 Ok(Term {
@@ -70,7 +71,7 @@ fn term(negative: bool, rest: &mut Rest<'_>, names: &Names) -> Result<Term, Stop
 }
 
 /// Takes the sign that stands there, and says whether it is `-`; None where none stands there.
-fn sign(rest: &mut Rest<'_>) -> Option<bool>
+pub fn sign(rest: &mut Rest<'_>) -> Option<bool>
     ensures { MatchOption result ((after_sign (left rest.old) ≡ None) × (left rest.new ≡ left rest.old)) (λ negative. after_sign (left rest.old) ≡ Some (negative, left rest.new)) }
 {
     match rest.front() {
@@ -100,12 +101,13 @@ fn over(rest: &Rest<'_>) -> Stop
                 Stop::Fault(Code::Word)
             }
         }
+        (Piece::Bad(code), _) => Stop::Fault(code),
         _ => Stop::Fault(Code::Word),
     }
 }
 
 /// Puts a term behind the others.
-fn add(terms: &mut Vec<Term>, term: Term) -> Result<(), Stop>
+pub fn add(terms: &mut Vec<Term>, term: Term) -> Result<(), Stop>
     ensures added { OnOk result (terms.new.items ≡ terms.old.items ++ term ∷ []) }
     ensures memory { IfErr result (λ e. e ≡ Memory) }
 {
@@ -147,7 +149,7 @@ fn terms(alloc: Global, first: Term, rest: &mut Rest<'_>, names: &Names) -> Resu
 
 /// Takes a sign, if one stands there, and says whether it is `-`.
 #[tactic(auto, unfolding(crate::specs::Reading::read_sign))]
-fn first_sign(rest: &mut Rest<'_>) -> bool
+pub fn first_sign(rest: &mut Rest<'_>) -> bool
     ensures { (result, left rest.new) ≡ read_sign (left rest.old) }
 {
     sign(rest).unwrap_or(false)

@@ -50,6 +50,21 @@ pub enum Code {
     Later,
 }
 
+/// Where a line has no token: a byte that begins none (`Byte`), a number that is too large (`Number`) or a word that is
+/// too long (`Many`), at a column counted from 1.
+#[derive(Clone, Copy, Debug, PartialEq, Eq)]
+pub struct Misspelling {
+    pub column: u32,
+    pub code: Code,
+}
+
+/// The tokens of a line up to its first misspelling, if it has one.
+#[derive(Debug, Drop)]
+pub struct LineTokens {
+    pub tokens: Vec<Token>,
+    pub misspelling: Option<Misspelling>,
+}
+
 /// Why a line wasn't read: memory ran out, or a fault at a column, counted from 1.
 #[derive(Clone, Copy, Debug, PartialEq, Eq)]
 pub enum SyntaxFault {

@@ -1,0 +1,132 @@
+-- A relation that is read keeps the limits: sets of the variables and rates that there are, and at most 256 terms.
+use Rattle.std.proofs.Common.{◌≡◌, ℕ, zero, suc, ◌+◌, ◌-◌, ◌<◌, ◌≤◌, Bool, true, false, cond, List, [], ◌∷◌, length, Option, Some, None, Ok, Err, refl, subst, arith}
+use Rattle.std.specs.Prelude.{All, bytes_eq}
+use Rattle.std.proofs.lemmas.List.Elements.{All-nil, All-cons}
+use Rattle.std.proofs.lemmas.List.Quantifiers.{position-Some}
+use Rattle.it_syntax.specs.declared.types.Symbol.TheVariants.{Plus, Minus}
+use Rattle.it_syntax.specs.declared.types.Code.TheVariants as codes
+use Rattle.it_syntax.specs.declared.types.Atom.{Atom}
+use Rattle.it_syntax.specs.declared.types.Term.{Term}
+use Rattle.it_syntax.specs.Letters.{Letter, Word, Number, Sym, Bad}
+use Rattle.it_syntax.specs.Meaning.{Stated, IsAtomOf}
+use Rattle.it_syntax.specs.Vocabulary.{Vocabulary, index_of}
+use Rattle.it_syntax.specs.Trees.{Environment, is_measure}
+use Rattle.it_syntax.specs.Comparisons.{Scope, most_terms}
+use Rattle.it_syntax.specs.ComparisonLines.{scope_of}
+use Rattle.it_syntax.specs.Lines.{to_end}
+use Rattle.it_syntax.specs.Reading.{Reads, ◌>>=◌, read_atom, read_sign, line_end}
+use Rattle.it_syntax.specs.ComparisonReading.{rated, read_quantity, after_number, read_term, surplus, read_over, read_terms, read_counted, read_sum, read_compare, read_comparison}
+use Rattle.it_syntax.specs.Relations.{env_of, KeepsLimits}
+use Rattle.it_syntax.proofs.LimitLemmas.{Sure, sure_bind, Any, any, stuck_sure, Knows, HasSets, TermHasSets, AreFew, atom_sure, knows_names}
+
+-- the names of a scope are those of n variables and m rates
+pub record Covers (s : Scope) (n m : ℕ) : Type 0 where
+  pub variables : Knows s.variables n
+  pub rates : Knows s.rates m
+
+quantity_sure : (s : Scope) (n m : ℕ) → Covers s n m → (ls : List Letter) → Sure (HasSets n m) (read_quantity s ls)
+unfolding read_quantity
+quantity_sure s n m k (Word w ∷ ls) = chosen (is_measure w) (s.rates w) (k.rates w)
+  where
+    chosen : (b : Bool) (o : Option ℕ) → ((i : ℕ) → o ≡ Some i → i < m) → Sure (HasSets n m) (cond b (read_atom s.variables (Word w ∷ ls)) (rated w o ls))
+    chosen true o h = atom_sure s.variables n m k.variables (Word w ∷ ls)
+    chosen false (Some i) h = h i refl
+    chosen false None h = tt
+quantity_sure s n m k [] = tt
+quantity_sure s n m k (Bad c ∷ ls) = tt
+quantity_sure s n m k (l ∷ ls) = tt
+
+abbrev counted : Bool → ℕ → Atom × List Letter → Reads Term
+counted b number a = Ok (record { negative = b; number = number; atom = a.0 }, a.1)
+
+counted_sure : (s : Scope) (n m : ℕ) → Covers s n m → (b : Bool) (number : ℕ) (ls : List Letter) → Sure (TermHasSets n m) (read_quantity s ls >>= counted b number)
+counted_sure s n m k b number ls = sure_bind (HasSets n m) (TermHasSets n m) (read_quantity s ls) (counted b number) (quantity_sure s n m k ls) (λ a ha. ha)
+
+after_number_sure : (s : Scope) (n m : ℕ) → Covers s n m → (b : Bool) (number : ℕ) (ls : List Letter) → Sure (TermHasSets n m) (after_number s b number ls)
+unfolding after_number
+after_number_sure s n m k b number (Word w ∷ ls) = counted_sure s n m k b number (Word w ∷ ls)
+after_number_sure s n m k b zero [] = tt
+after_number_sure s n m k b zero (l ∷ ls) = tt
+after_number_sure s n m k b (suc number) [] = tt
+after_number_sure s n m k b (suc number) (Bad c ∷ ls) = tt
+after_number_sure s n m k b (suc number) (l ∷ ls) = tt
+
+term_sure : (s : Scope) (n m : ℕ) → Covers s n m → (b : Bool) (ls : List Letter) → Sure (TermHasSets n m) (read_term s b ls)
+unfolding read_term
+term_sure s n m k b (Number number ∷ ls) = after_number_sure s n m k b number ls
+term_sure s n m k b [] = counted_sure s n m k b 1 []
+term_sure s n m k b (l ∷ ls) = counted_sure s n m k b 1 (l ∷ ls)
+
+over_sure : (P : List Term × List Letter → Type 0) (s : Scope) (ls : List Letter) → Sure P (read_over s ls)
+unfolding read_over
+over_sure P s (Number n ∷ ls) = tt
+over_sure P s (Word w ∷ ls) = chosen (is_measure w) (s.rates w)
+  where
+    chosen : (b : Bool) (o : Option ℕ) → Sure P (cond b (Err (codes.Many, Word w ∷ ls)) (surplus w o ls))
+    chosen true o = tt
+    chosen false (Some i) = tt
+    chosen false None = tt
+over_sure P s [] = tt
+over_sure P s (Bad c ∷ ls) = tt
+over_sure P s (l ∷ ls) = tt
+
+more_terms_sure : (s : Scope) (n m most : ℕ) → Covers s n m → (b : Bool) (ls : List Letter) → ((rest : List Letter) → Sure (AreFew n m most) (read_terms most s rest)) → Sure (AreFew n m (suc most)) (read_term s b ls >>= λ t. read_terms most s t.1 >>= λ ts. Ok (t.0 ∷ ts.0, ts.1))
+more_terms_sure s n m most k b ls h =
+    sure_bind (TermHasSets n m) (AreFew n m (suc most)) (read_term s b ls) (λ t. read_terms most s t.1 >>= λ ts. Ok (t.0 ∷ ts.0, ts.1)) (term_sure s n m k b ls)
+    (λ t ht. sure_bind (AreFew n m most) (AreFew n m (suc most)) (read_terms most s t.1) (λ ts. Ok (t.0 ∷ ts.0, ts.1)) (h t.1) (λ ts hts. (omega (arith, hts.0), All-cons (λ (u : Term). IsAtomOf n m u.atom) t.0 ts.0 ht hts.1)))
+
+terms_sure : (s : Scope) (n m most : ℕ) → Covers s n m → (ls : List Letter) → Sure (AreFew n m most) (read_terms most s ls)
+unfolding read_terms
+terms_sure s n m zero k (Sym Plus ∷ ls) = over_sure (AreFew n m zero) s ls
+terms_sure s n m zero k (Sym Minus ∷ ls) = over_sure (AreFew n m zero) s ls
+terms_sure s n m zero k [] = (omega arith, All-nil (λ (u : Term). IsAtomOf n m u.atom))
+terms_sure s n m zero k (l ∷ ls) = (omega arith, All-nil (λ (u : Term). IsAtomOf n m u.atom))
+terms_sure s n m (suc most) k (Sym Plus ∷ ls) = more_terms_sure s n m most k false ls (terms_sure s n m most k)
+terms_sure s n m (suc most) k (Sym Minus ∷ ls) = more_terms_sure s n m most k true ls (terms_sure s n m most k)
+terms_sure s n m (suc most) k [] = (omega arith, All-nil (λ (u : Term). IsAtomOf n m u.atom))
+terms_sure s n m (suc most) k (l ∷ ls) = (omega arith, All-nil (λ (u : Term). IsAtomOf n m u.atom))
+
+sum_sure : (s : Scope) (n m most : ℕ) → Covers s n m → (ls : List Letter) → Sure (AreFew n m most) (read_sum most s ls)
+unfolding read_sum read_counted
+sum_sure s n m zero k ls = over_sure (AreFew n m zero) s (read_sign ls).1
+sum_sure s n m (suc most) k ls = more_terms_sure s n m most k (read_sign ls).0 (read_sign ls).1 (terms_sure s n m most k)
+
+abbrev IsWithinLimits : ℕ → ℕ → Stated × List Letter → Type 0
+IsWithinLimits n m y = (length y.0.left + length y.0.right ≤ most_terms) × All (λ t. IsAtomOf n m t.atom) y.0.left × All (λ t. IsAtomOf n m t.atom) y.0.right
+
+comparison_sure : (s : Scope) (n m : ℕ) → Covers s n m → (ls : List Letter) → Sure (IsWithinLimits n m) (read_comparison s ls)
+unfolding read_comparison
+comparison_sure s n m k ls =
+    sure_bind (AreFew n m most_terms) (IsWithinLimits n m) (read_sum most_terms s ls) (λ left. read_compare left.1 >>= λ sign. read_sum (most_terms - length left.0) s sign.1 >>= λ right. Ok (record { left = left.0; sign = sign.0; right = right.0 }, right.1)) (sum_sure s n m most_terms k ls)
+    (λ left hl. sure_bind Any (IsWithinLimits n m) (read_compare left.1) (λ sign. read_sum (most_terms - length left.0) s sign.1 >>= λ right. Ok (record { left = left.0; sign = sign.0; right = right.0 }, right.1)) (any (read_compare left.1))
+    (λ sign u. sure_bind (AreFew n m (most_terms - length left.0)) (IsWithinLimits n m) (read_sum (most_terms - length left.0) s sign.1) (λ right. Ok (record { left = left.0; sign = sign.0; right = right.0 }, right.1)) (sum_sure s n m (most_terms - length left.0) k sign.1)
+    (λ right hr. (omega (arith, hl.0, hr.0), hl.1, hr.1))))
+
+scope_covers : (v : Vocabulary) (rates : Bool) → Covers (scope_of v rates) (length v.variables) (length v.rates)
+unfolding scope_of
+scope_covers v rates = record { variables = knows_names v; rates = λ w i. known w i rates }
+  where
+    known : (w : List ℕ) (i : ℕ) (b : Bool) → cond b (index_of v.rates w) None ≡ Some i → i < length v.rates
+    known w i true e = (position-Some (bytes_eq w) v.rates i [] e).0
+    known w i false e = absurd cc
+
+-- a sum that is read has at most so many terms
+pub sum_few : (v : Vocabulary) (rates : Bool) (most : ℕ) (ls r : List Letter) (ts : List Term) → read_sum most (scope_of v rates) ls ≡ Ok (ts, r) → length ts ≤ most
+sum_few v rates most ls r ts e = (subst (Sure (AreFew (length v.variables) (length v.rates) most)) e (sum_sure (scope_of v rates) (length v.variables) (length v.rates) most (scope_covers v rates) ls)).0
+
+abbrev Limited : Vocabulary → Stated × List Letter → Type 0
+Limited v y = KeepsLimits v y.0
+
+limited : (v : Vocabulary) (rates : Bool) (ls : List Letter) → Sure (Limited v) (read_comparison (scope_of v rates) ls)
+limited v rates ls = weaker (read_comparison (scope_of v rates) ls) (comparison_sure (scope_of v rates) (length v.variables) (length v.rates) (scope_covers v rates) ls)
+  where
+    weaker : (r : Reads Stated) → Sure (IsWithinLimits (length v.variables) (length v.rates)) r → Sure (Limited v) r
+    weaker (Ok y) h = record { few = h.0; left = h.1; right = h.2 }
+    weaker (Err f) h = tt
+
+-- a relation that is read up to its line's end keeps the limits
+pub comparison_limited : (v : Vocabulary) (rates : Bool) (ls r : List Letter) (y : Stated) → to_end (read_comparison (scope_of v rates)) ls ≡ Ok (y, r) → KeepsLimits v y
+unfolding to_end
+comparison_limited v rates ls r y e =
+    let f = read_comparison (scope_of v rates) in
+    subst (Sure (Limited v)) e (sure_bind (Limited v) (Limited v) (f ls) (λ x. line_end x.1 >>= λ e. Ok (x.0, e.1)) (limited v rates ls) (λ x hx. sure_bind Any (Limited v) (line_end x.1) (λ e. Ok (x.0, e.1)) (any (line_end x.1)) (λ e u. hx)))

@@ -1,0 +1,87 @@
+-- Reading a relation from left to right, each part by one function: its value and the letters left, or the fault.
+use Rattle.std.specs.Prelude.{ℕ, zero, suc, ◌-◌, Bool, true, false, List, [], ◌∷◌, length, Option, Some, None, Ok, Err, if◌then◌else◌}
+use Rattle.it_syntax.specs.declared.types.Symbol.TheVariants as symbols
+use Rattle.it_syntax.specs.declared.types.Symbol.TheVariants.{Plus, Minus}
+use Rattle.it_syntax.specs.declared.types.Code.TheVariants as codes
+use Rattle.it_syntax.specs.declared.types.Atom.{Atom}
+use Rattle.it_syntax.specs.declared.types.Atom.TheVariants.{Nothing, Rate}
+use Rattle.it_syntax.specs.declared.types.Term.{Term}
+use Rattle.it_syntax.specs.declared.types.Sign.{Sign}
+use Rattle.it_syntax.specs.declared.types.Sign.TheVariants.{AtLeast, AtMost, Equal}
+use Rattle.it_syntax.specs.Letters.{Letter, Word, Number, Sym}
+use Rattle.it_syntax.specs.Meaning.{Stated}
+use Rattle.it_syntax.specs.Trees.{is_measure}
+use Rattle.it_syntax.specs.Comparisons.{Scope, most_terms}
+use Rattle.it_syntax.specs.Reading.{Reads, ◌>>=◌, stuck, read_atom, read_sign}
+
+-- a word that may be an unknown rate
+abbrev pub rated : List ℕ → Option ℕ → List Letter → Reads Atom
+rated w (Some i) ls = Ok (Rate i, ls)
+rated w None ls = Err (codes.Name, Word w ∷ ls)
+
+unfoldable pub read_quantity : Scope → List Letter → Reads Atom
+read_quantity s (Word w ∷ ls) = if is_measure w then read_atom s.variables (Word w ∷ ls) else rated w (s.rates w) ls
+read_quantity s ls = stuck ls
+
+-- what is counted by a number, under a sign
+unfoldable pub after_number : Scope → Bool → ℕ → List Letter → Reads Term
+after_number s minus n (Word w ∷ ls) = do
+  q ← read_quantity s (Word w ∷ ls)
+  Ok (record { negative = minus; number = n; atom = q.0 }, q.1)
+after_number s minus zero ls = Ok (record { negative = minus; number = 0; atom = Nothing }, ls)
+after_number s minus (suc n) ls = stuck ls
+
+unfoldable pub read_term : Scope → Bool → List Letter → Reads Term
+read_term s minus (Number n ∷ ls) = after_number s minus n ls
+read_term s minus ls = do
+  q ← read_quantity s ls
+  Ok (record { negative = minus; number = 1; atom = q.0 }, q.1)
+
+-- a rate too many, if it isn't unknown
+abbrev pub surplus : List ℕ → Option ℕ → List Letter → Reads (List Term)
+surplus w (Some i) ls = Err (codes.Many, Word w ∷ ls)
+surplus w None ls = Err (codes.Name, Word w ∷ ls)
+
+-- a term too many: its first letter is the fault, if no rule stands against it
+unfoldable pub read_over : Scope → List Letter → Reads (List Term)
+read_over s (Number n ∷ ls) = Err (codes.Many, Number n ∷ ls)
+read_over s (Word w ∷ ls) = if is_measure w then Err (codes.Many, Word w ∷ ls) else surplus w (s.rates w) ls
+read_over s ls = stuck ls
+
+-- further terms, of which n are allowed
+unfoldable pub read_terms : ℕ → Scope → List Letter → Reads (List Term)
+read_terms zero s (Sym Plus ∷ ls) = read_over s ls
+read_terms zero s (Sym Minus ∷ ls) = read_over s ls
+read_terms (suc n) s (Sym Plus ∷ ls) = do
+  t ← read_term s false ls
+  ts ← read_terms n s t.1
+  Ok (t.0 ∷ ts.0, ts.1)
+read_terms (suc n) s (Sym Minus ∷ ls) = do
+  t ← read_term s true ls
+  ts ← read_terms n s t.1
+  Ok (t.0 ∷ ts.0, ts.1)
+read_terms n s ls = Ok ([], ls)
+
+-- a first term and further ones, of which n are allowed in all
+unfoldable pub read_counted : ℕ → Scope → Bool → List Letter → Reads (List Term)
+read_counted zero s minus ls = read_over s ls
+read_counted (suc n) s minus ls = do
+  t ← read_term s minus ls
+  ts ← read_terms n s t.1
+  Ok (t.0 ∷ ts.0, ts.1)
+
+unfoldable pub read_sum : ℕ → Scope → List Letter → Reads (List Term)
+read_sum n s ls = read_counted n s (read_sign ls).0 (read_sign ls).1
+
+unfoldable pub read_compare : List Letter → Reads Sign
+read_compare (Sym symbols.AtLeast ∷ ls) = Ok (AtLeast, ls)
+read_compare (Sym symbols.AtMost ∷ ls) = Ok (AtMost, ls)
+read_compare (Sym symbols.Equal ∷ ls) = Ok (Equal, ls)
+read_compare ls = stuck ls
+
+unfoldable pub read_comparison : Scope → List Letter → Reads Stated
+read_comparison s ls = do
+  left ← read_sum most_terms s ls
+  sign ← read_compare left.1
+  right ← read_sum (most_terms - length left.0) s sign.1
+  Ok (record { left = left.0; sign = sign.0; right = right.0 }, right.1)

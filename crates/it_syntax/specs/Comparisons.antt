@@ -1,0 +1,104 @@
+-- Relations as they are written, and how each is spelled: a sum, `>=`, `<=` or `=`, and a sum. A sum counts entropies, mutual
+-- informations and rates. `Name` stands against a rate that is unknown or that may not stand there, `Many` against the first letter
+-- of a term past the limit.
+use Rattle.std.specs.Prelude.{◌≡◌, ℕ, zero, suc, ◌-◌, Bool, false, List, [], ◌∷◌, length, Option}
+use Rattle.it_syntax.specs.declared.types.Symbol.TheVariants as symbols
+use Rattle.it_syntax.specs.declared.types.Atom.{Atom}
+use Rattle.it_syntax.specs.declared.types.Atom.TheVariants.{Nothing, Rate}
+use Rattle.it_syntax.specs.declared.types.Term.{Term}
+use Rattle.it_syntax.specs.declared.types.Sign.{Sign}
+use Rattle.it_syntax.specs.declared.types.Sign.TheVariants.{AtLeast, AtMost, Equal}
+use Rattle.it_syntax.specs.Meaning.{Stated}
+use Rattle.it_syntax.specs.Letters.{Letter, Word, Number, Sym, Marked, clean}
+use Rattle.it_syntax.specs.Trees.{Environment, WrittenAtom, TermSign, is_measure, unknown, spell_atom, sign_letter, spell_sign, over, index_or, atom_of, is_negative, is_minus}
+
+-- which variable a name is, and which rate, where rates may stand
+pub record Scope : Type 0 where
+  pub variables : Environment
+  pub rates : Environment
+
+-- a word other than H and I
+pub record RateName : Type 0 where
+  pub text : List ℕ
+  pub is_name : is_measure text ≡ false
+
+pub data WrittenQuantity : Type 0 where
+  Measure : (atom : WrittenAtom) → WrittenQuantity
+  RateOf : (name : RateName) → WrittenQuantity
+
+-- `0`, a quantity, a number and a quantity
+pub data WrittenTerm : Type 0 where
+  Zero : WrittenTerm
+  Once : (quantity : WrittenQuantity) → WrittenTerm
+  Times : (n : ℕ) (quantity : WrittenQuantity) → WrittenTerm
+
+-- the first term with or without a sign
+pub record WrittenSum : Type 0 where
+  pub sign : Option TermSign
+  pub first : WrittenTerm
+  pub more : List (TermSign × WrittenTerm)
+
+pub record WrittenComparison : Type 0 where
+  pub left : WrittenSum
+  pub sign : Sign
+  pub right : WrittenSum
+
+-- Each spelling takes the letters that follow.
+abbrev pub spell_quantity : Scope → WrittenQuantity → Marked → Marked
+spell_quantity s (Measure a) k = spell_atom s.variables a k
+spell_quantity s (RateOf r) k = (Word r.text, unknown (s.rates r.text)) ∷ k
+
+abbrev pub spell_term : Scope → WrittenTerm → Marked → Marked
+spell_term s Zero k = clean (Number 0) ∷ k
+spell_term s (Once q) k = spell_quantity s q k
+spell_term s (Times n q) k = clean (Number n) ∷ spell_quantity s q k
+
+-- further terms, of which n are allowed
+abbrev pub spell_terms : ℕ → Scope → List (TermSign × WrittenTerm) → Marked → Marked
+spell_terms n s [] k = k
+spell_terms zero s (t ∷ ts) k = clean (sign_letter t.0) ∷ over (spell_term s t.1 (spell_terms zero s ts k))
+spell_terms (suc n) s (t ∷ ts) k = clean (sign_letter t.0) ∷ spell_term s t.1 (spell_terms n s ts k)
+
+-- a first term and further ones, n in all
+abbrev pub spell_counted : ℕ → Scope → WrittenTerm → List (TermSign × WrittenTerm) → Marked → Marked
+spell_counted zero s t ts k = over (spell_term s t (spell_terms zero s ts k))
+spell_counted (suc n) s t ts k = spell_term s t (spell_terms n s ts k)
+
+abbrev pub spell_sum : ℕ → Scope → WrittenSum → Marked → Marked
+spell_sum n s e k = spell_sign e.sign (spell_counted n s e.first e.more k)
+
+abbrev pub compare_letter : Sign → Letter
+compare_letter AtLeast = Sym symbols.AtLeast
+compare_letter AtMost = Sym symbols.AtMost
+compare_letter Equal = Sym symbols.Equal
+
+-- how many terms both sides have together, at most
+abbrev pub most_terms : ℕ
+most_terms = 256
+
+abbrev pub number_of_terms : WrittenSum → ℕ
+number_of_terms e = suc (length e.more)
+
+abbrev pub spell_comparison : Scope → WrittenComparison → Marked → Marked
+spell_comparison s x k = spell_sum most_terms s x.left (clean (compare_letter x.sign) ∷ spell_sum (most_terms - number_of_terms x.left) s x.right k)
+
+-- ---- what a tree says; 0 stands in for a name that is unknown, which is marked
+abbrev pub quantity_of : Scope → WrittenQuantity → Atom
+quantity_of s (Measure a) = atom_of s.variables a
+quantity_of s (RateOf r) = Rate (index_or (s.rates r.text))
+
+-- a quantity without a number stands once
+abbrev pub term_of : Scope → Bool → WrittenTerm → Term
+term_of s minus Zero = record { negative = minus; number = 0; atom = Nothing }
+term_of s minus (Once q) = record { negative = minus; number = 1; atom = quantity_of s q }
+term_of s minus (Times n q) = record { negative = minus; number = n; atom = quantity_of s q }
+
+abbrev pub terms_of : Scope → List (TermSign × WrittenTerm) → List Term
+terms_of s [] = []
+terms_of s (t ∷ ts) = term_of s (is_negative t.0) t.1 ∷ terms_of s ts
+
+abbrev pub sum_of : Scope → WrittenSum → List Term
+sum_of s e = term_of s (is_minus e.sign) e.first ∷ terms_of s e.more
+
+abbrev pub comparison_of : Scope → WrittenComparison → Stated
+comparison_of s x = record { left = sum_of s x.left; sign = x.sign; right = sum_of s x.right }

@@ -1,0 +1,92 @@
+-- Reading the constraint of a `given` line from left to right.
+use Rattle.std.specs.Prelude.{ℕ, zero, suc, Bool, true, false, List, [], ◌∷◌, Option, Some, None, Result, Ok, Err, if◌then◌else◌, bytes_eq}
+use Rattle.it_syntax.specs.declared.types.Symbol.TheVariants.{Arrow, Semicolon, Bar}
+use Rattle.it_syntax.specs.declared.types.Code.TheVariants as codes
+use Rattle.it_syntax.specs.Letters.{Letter, Word, Sym}
+use Rattle.it_syntax.specs.Trees.{Environment, is_measure}
+use Rattle.it_syntax.specs.Comparisons.{Scope}
+use Rattle.it_syntax.specs.ComparisonReading.{read_comparison}
+use Rattle.it_syntax.specs.Conditions.{Divider, Arrows, Semicolons, markov_text, indep_text, func_text, of_text}
+use Rattle.it_syntax.specs.Givens.{Condition, Related, Chain, Independence, Function}
+use Rattle.it_syntax.specs.Reading.{Fault, Reads, ◌>>=◌, stuck, stuck_at, read_list, divided}
+
+-- a symbol or a word that must stand there
+unfoldable pub pointed : List Letter → Result (List Letter) Fault
+pointed (Sym Arrow ∷ ls) = Ok ls
+pointed ls = stuck_at ls
+
+unfoldable pub read_of : List Letter → Result (List Letter) Fault
+read_of (Word w ∷ ls) = if bytes_eq w of_text then Ok ls else stuck_at (Word w ∷ ls)
+read_of ls = stuck_at ls
+
+-- what stands behind a divider, if one stands there
+abbrev pub behind_divider : Divider → List Letter → Option (List Letter)
+behind_divider Arrows (Sym Arrow ∷ ls) = Some ls
+behind_divider Semicolons (Sym Semicolon ∷ ls) = Some ls
+behind_divider d ls = None
+
+-- a member too many, if its name may be one (false) and is known
+abbrev pub spare : List ℕ → Bool → Option ℕ → List Letter → Reads (List ℕ)
+spare w true o ls = Err (codes.Word, Word w ∷ ls)
+spare w false (Some i) ls = Err (codes.Many, Word w ∷ ls)
+spare w false None ls = Err (codes.Name, Word w ∷ ls)
+
+unfoldable pub read_spare : Environment → List Letter → Reads (List ℕ)
+read_spare env (Word w ∷ ls) = spare w (is_measure w) (env w) ls
+read_spare env ls = stuck ls
+
+-- what is read by `f` behind a divider, or nothing
+abbrev pub if_divided : (List Letter → Reads (List ℕ)) → Option (List Letter) → List Letter → Reads (List ℕ)
+if_divided f (Some behind) ls = f behind
+if_divided f None ls = Ok ([], ls)
+
+abbrev pub member_then : (List Letter → Reads (List ℕ)) → Environment → List Letter → Reads (List ℕ)
+member_then f env ls = do
+  a ← read_list env ls
+  more ← f a.1
+  Ok (a.0 ∷ more.0, more.1)
+
+-- further members, of which n are allowed
+unfoldable pub read_members : ℕ → Divider → Environment → List Letter → Reads (List ℕ)
+read_members zero d env ls = if_divided (read_spare env) (behind_divider d ls) ls
+read_members (suc n) d env ls = if_divided (member_then (read_members n d env) env) (behind_divider d ls) ls
+
+unfoldable pub read_chain : Environment → List Letter → Reads Condition
+read_chain env ls = do
+  a ← read_list env ls
+  first ← pointed a.1
+  b ← read_list env first
+  second ← pointed b.1
+  c ← read_list env second
+  more ← read_members 13 Arrows env c.1
+  Ok (Chain (a.0 ∷ b.0 ∷ c.0 ∷ more.0), more.1)
+
+-- the set behind `|`, or nothing
+unfoldable pub read_bar : Environment → List Letter → Reads ℕ
+read_bar env (Sym Bar ∷ ls) = read_list env ls
+read_bar env ls = Ok (0, ls)
+
+unfoldable pub read_independence : Environment → List Letter → Reads Condition
+read_independence env ls = do
+  a ← read_list env ls
+  first ← divided a.1
+  b ← read_list env first
+  more ← read_members 14 Semicolons env b.1
+  w ← read_bar env more.1
+  Ok (Independence (a.0 ∷ b.0 ∷ more.0) w.0, w.1)
+
+unfoldable pub read_function : Environment → List Letter → Reads Condition
+read_function env ls = do
+  z ← read_list env ls
+  behind ← read_of z.1
+  x ← read_list env behind
+  Ok (Function z.0 x.0, x.1)
+
+unfoldable pub read_plain : Scope → List Letter → Reads Condition
+read_plain s ls = do
+  y ← read_comparison s ls
+  Ok (Related y.0, y.1)
+
+unfoldable pub read_condition : Scope → List Letter → Reads Condition
+read_condition s (Word w ∷ ls) = if bytes_eq w markov_text then read_chain s.variables ls else (if bytes_eq w indep_text then read_independence s.variables ls else (if bytes_eq w func_text then read_function s.variables ls else read_plain s (Word w ∷ ls)))
+read_condition s ls = read_plain s ls

@@ -1,0 +1,118 @@
+-- The constraints of `given` lines as they are written, and how each is spelled. A relation holds no rates; `markov A -> B -> C`
+-- is a chain of 3 to 16 lists, `indep A ; B | W` an independence of 2 to 16, `func A of B` a function. What begins with `markov`,
+-- `indep` or `func` is never a relation.
+use Rattle.std.specs.Prelude.{◌≡◌, ℕ, zero, suc, Bool, false, List, [], ◌∷◌, Option, Some, None, ◌||◌, bytes_eq}
+use Rattle.it_syntax.specs.declared.types.Symbol.TheVariants.{Arrow, Semicolon, Bar}
+use Rattle.it_syntax.specs.Letters.{Letter, Word, Sym, Marked, clean}
+use Rattle.it_syntax.specs.Trees.{Environment, WrittenList, TermSign, spell_list, list_set, over}
+use Rattle.it_syntax.specs.Comparisons.{Scope, WrittenTerm, Once, RateOf, WrittenComparison, spell_comparison, comparison_of}
+use Rattle.it_syntax.specs.Givens.{Condition, Related, Chain, Independence, Function}
+
+abbrev pub markov_text : List ℕ
+markov_text = 109 ∷ 97 ∷ 114 ∷ 107 ∷ 111 ∷ 118 ∷ []
+
+abbrev pub indep_text : List ℕ
+indep_text = 105 ∷ 110 ∷ 100 ∷ 101 ∷ 112 ∷ []
+
+abbrev pub func_text : List ℕ
+func_text = 102 ∷ 117 ∷ 110 ∷ 99 ∷ []
+
+abbrev pub of_text : List ℕ
+of_text = 111 ∷ 102 ∷ []
+
+-- `markov`, `indep` or `func`
+abbrev pub is_form : List ℕ → Bool
+is_form w = bytes_eq w markov_text || (bytes_eq w indep_text || bytes_eq w func_text)
+
+-- the first term, behind its sign, is written as one of these words alone
+abbrev pub is_form_first : Option TermSign → WrittenTerm → Bool
+is_form_first None (Once (RateOf r)) = is_form r.text
+is_form_first o t = false
+
+-- a relation that doesn't begin so
+pub record PlainRelation : Type 0 where
+  pub relation : WrittenComparison
+  pub plain : is_form_first relation.left.sign relation.left.first ≡ false
+
+pub record WrittenChain : Type 0 where
+  pub first : WrittenList
+  pub second : WrittenList
+  pub third : WrittenList
+  pub more : List WrittenList
+
+pub record WrittenIndependence : Type 0 where
+  pub first : WrittenList
+  pub second : WrittenList
+  pub more : List WrittenList
+  pub given : Option WrittenList
+
+pub record WrittenFunction : Type 0 where
+  pub value : WrittenList
+  pub argument : WrittenList
+
+pub data WrittenCondition : Type 0 where
+  Compared : (relation : PlainRelation) → WrittenCondition
+  Chained : (chain : WrittenChain) → WrittenCondition
+  Separate : (independence : WrittenIndependence) → WrittenCondition
+  Determined : (function : WrittenFunction) → WrittenCondition
+
+-- what stands between the members of a chain, and of an independence
+pub data Divider : Type 0 where
+  Arrows : Divider
+  Semicolons : Divider
+
+abbrev pub divider_letter : Divider → Letter
+divider_letter Arrows = Sym Arrow
+divider_letter Semicolons = Sym Semicolon
+
+-- further members, of which n are allowed: 16 members in all
+abbrev pub spell_members : ℕ → Divider → Environment → List WrittenList → Marked → Marked
+spell_members n d env [] k = k
+spell_members zero d env (l ∷ ls) k = clean (divider_letter d) ∷ over (spell_list env l (spell_members zero d env ls k))
+spell_members (suc n) d env (l ∷ ls) k = clean (divider_letter d) ∷ spell_list env l (spell_members n d env ls k)
+
+-- three members stand before the further ones
+abbrev pub spell_chain : Environment → WrittenChain → Marked → Marked
+spell_chain env x k = spell_list env x.first (clean (Sym Arrow) ∷ spell_list env x.second (clean (Sym Arrow) ∷ spell_list env x.third (spell_members 13 Arrows env x.more k)))
+
+abbrev pub spell_bar : Environment → Option WrittenList → Marked → Marked
+spell_bar env None k = k
+spell_bar env (Some c) k = clean (Sym Bar) ∷ spell_list env c k
+
+-- and two here
+abbrev pub spell_independence : Environment → WrittenIndependence → Marked → Marked
+spell_independence env x k = spell_list env x.first (clean (Sym Semicolon) ∷ spell_list env x.second (spell_members 14 Semicolons env x.more (spell_bar env x.given k)))
+
+abbrev pub spell_function : Environment → WrittenFunction → Marked → Marked
+spell_function env x k = spell_list env x.value (clean (Word of_text) ∷ spell_list env x.argument k)
+
+abbrev pub spell_condition : Scope → WrittenCondition → Marked → Marked
+spell_condition s (Compared x) k = spell_comparison s x.relation k
+spell_condition s (Chained x) k = clean (Word markov_text) ∷ spell_chain s.variables x k
+spell_condition s (Separate x) k = clean (Word indep_text) ∷ spell_independence s.variables x k
+spell_condition s (Determined x) k = clean (Word func_text) ∷ spell_function s.variables x k
+
+-- ---- what a tree says
+abbrev pub sets_of : Environment → List WrittenList → List ℕ
+sets_of env [] = []
+sets_of env (l ∷ ls) = list_set env l ∷ sets_of env ls
+
+-- nothing is given where no list is named
+abbrev pub bar_set : Environment → Option WrittenList → ℕ
+bar_set env None = 0
+bar_set env (Some c) = list_set env c
+
+abbrev pub chain_of : Environment → WrittenChain → Condition
+chain_of env x = Chain (list_set env x.first ∷ list_set env x.second ∷ list_set env x.third ∷ sets_of env x.more)
+
+abbrev pub independence_of : Environment → WrittenIndependence → Condition
+independence_of env x = Independence (list_set env x.first ∷ list_set env x.second ∷ sets_of env x.more) (bar_set env x.given)
+
+abbrev pub function_of : Environment → WrittenFunction → Condition
+function_of env x = Function (list_set env x.value) (list_set env x.argument)
+
+abbrev pub condition_of : Scope → WrittenCondition → Condition
+condition_of s (Compared x) = Related (comparison_of s x.relation)
+condition_of s (Chained x) = chain_of s.variables x
+condition_of s (Separate x) = independence_of s.variables x
+condition_of s (Determined x) = function_of s.variables x

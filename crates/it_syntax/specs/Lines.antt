@@ -1,0 +1,58 @@
+-- What a whole line is in a language that is told by its trees, how each is spelled and what it says; and the column of a fault.
+use Rattle.std.specs.Prelude.{◌≡◌, ℕ, ◌+◌, ◌-◌, ◌≤◌, List, [], ◌∷◌, length, drop, Option, Some, None, slice_get, Ok}
+use Rattle.it_syntax.specs.declared.types.Token.{Token}
+use Rattle.it_syntax.specs.declared.types.Code.{Code}
+use Rattle.it_syntax.specs.declared.types.Misspelling.{Misspelling}
+use Rattle.it_syntax.specs.declared.types.LineTokens.{LineTokens}
+use Rattle.it_syntax.specs.declared.types.SyntaxFault.{SyntaxFault}
+use Rattle.it_syntax.specs.declared.types.SyntaxFault.TheVariants.{Memory, Fault}
+use Rattle.it_syntax.specs.Letters.{Letter, End, Marked, clean, cleaned}
+use Rattle.it_syntax.specs.Spans.{letters_until, last_letter}
+use Rattle.it_syntax.specs.FirstFault.{FirstFault}
+use Rattle.it_syntax.specs.Reading.{Reads, ◌>>=◌, line_end}
+
+-- the tree, and then the line's end
+abbrev pub spell_ended : {X : Type 0} → (X → Marked → Marked) → X → Marked
+spell_ended spell x = spell x (clean End ∷ [])
+
+-- these letters are a line that says y, and nothing is said against one
+abbrev pub SaysAs : {X Y : Type 0} → (X → Marked → Marked) → (X → Y) → List Letter → Y → Type 0
+SaysAs spell value ls y = (x : _) × ((spell_ended spell x ≡ cleaned ls) × (value x ≡ y))
+
+-- a reader up to the line's end
+unfoldable pub to_end : {A : Type 0} → (List Letter → Reads A) → List Letter → Reads A
+to_end f ls = do
+  x ← f ls
+  e ← line_end x.1
+  Ok (x.0, e.1)
+
+-- the letters of a line from its token number `from` on
+abbrev pub letters_from : List ℕ → LineTokens → ℕ → List Letter
+letters_from line ts from = letters_until line (drop from ts.tokens.items) (last_letter ts.misspelling)
+
+abbrev pub end_of : Option Token → ℕ
+end_of None = 0
+end_of (Some t) = t.end
+
+-- the column of what stands behind the tokens: the misspelling's, or the one after the last token
+abbrev pub column_behind : List Token → Option Misspelling → ℕ
+column_behind ts None = end_of (slice_get ts (length ts - 1)) + 1
+column_behind ts (Some m) = m.column
+
+-- the column of the first of these tokens, counted from 1, or where there is none the column behind
+abbrev pub column_of : List Token → ℕ → ℕ
+column_of [] behind = behind
+column_of (t ∷ ts) behind = t.start + 1
+
+-- Of a line from its token number `from` on, the first fault is `code`, at this column.
+pub record FaultAt {X : Type 0} (spell : X → Marked → Marked) (line : List ℕ) (ts : LineTokens) (from : ℕ) (column : ℕ) (code : Code) : Type 0 where
+  -- the number of the token that it comes at, or the number of tokens
+  pub at : ℕ
+  pub within : at ≤ length ts.tokens.items
+  pub first : FirstFault (spell_ended spell) (letters_from line ts from) code (letters_from line ts at)
+  pub place : column ≡ column_of (drop at ts.tokens.items) (column_behind ts.tokens.items ts.misspelling)
+
+-- of an error: memory ran out, or it is the first fault
+abbrev pub IsFirstFault : {X : Type 0} → (X → Marked → Marked) → List ℕ → LineTokens → ℕ → SyntaxFault → Type 0
+IsFirstFault spell line ts from Memory = Unit {0}
+IsFirstFault spell line ts from (Fault column code) = FaultAt spell line ts from column code

@@ -1,0 +1,133 @@
+//! The reader of a relation between two sums.
+ghost use Rattle.std.specs.Prelude.{◌≡◌, ◌≤◌, length, IfOk, IfErr};
+ghost use Rattle.it_syntax.specs.Comparisons.{spell_comparison};
+ghost use Rattle.it_syntax.specs.ComparisonLines.{scope_of, IsComparison};
+ghost use Rattle.it_syntax.specs.ComparisonReading.{read_compare, read_comparison};
+ghost use Rattle.it_syntax.specs.Gives.{Gives, GivesBy, GivesAll, left};
+ghost use Rattle.it_syntax.specs.Lines.{IsFirstFault, to_end};
+ghost use Rattle.it_syntax.specs.Meaning.{stated};
+ghost use Rattle.it_syntax.specs.Reading.{line_end};
+ghost use Rattle.it_syntax.specs.Relations.{KeepsLimits};
+ghost use Rattle.it_syntax.specs.Spans.{InLine};
+
+use crate::names::Names;
+use crate::rest::{Piece, Rest, Stop};
+use crate::sums::sum;
+use crate::types::{Code, Expr, LineTokens, Relation, Sign, Symbol, SyntaxFault};
+use std::alloc::Global;
+
+/// The most terms of a relation, both sides together.
+const MOST_TERMS: usize = 256;
+
+#[tactic(auto, unfolding(crate::specs::ComparisonReading::read_compare))]
+fn compare(rest: &mut Rest<'_>) -> Result<Sign, Stop>
+    ensures { Gives result (left rest.new) (read_compare (left rest.old)) }
+{
+    match rest.front() {
+        (Piece::Symbol(Symbol::AtLeast), behind) => {
+            *rest = behind;
+            Ok(Sign::AtLeast)
+        }
+        (Piece::Symbol(Symbol::AtMost), behind) => {
+            *rest = behind;
+            Ok(Sign::AtMost)
+        }
+        (Piece::Symbol(Symbol::Equal), behind) => {
+            *rest = behind;
+            Ok(Sign::Equal)
+        }
+        (Piece::Bad(code), _) => Err(Stop::Fault(code)),
+        _ => Err(Stop::Fault(Code::Word)),
+    }
+}
+
+/// A relation.
+#[tactic(auto, unfolding(crate::specs::ComparisonReading::read_comparison))]
+pub fn relation_part(
+    alloc: Global,
+    rest: &mut Rest<'_>,
+    names: &Names,
+    rates: bool,
+) -> Result<Relation, Stop>
+    ensures { GivesBy stated result (left rest.new) (read_comparison (scope_of names.now rates) (left rest.old)) }
+{
+    let left = sum(alloc, MOST_TERMS, rest, names, rates)?;
+    let sign = compare(rest)?;
+    let right = sum(alloc, MOST_TERMS - left.len(), rest, names, rates)?;
+    Ok(Relation {
+        left: Expr { terms: left },
+        sign,
+        right: Expr { terms: right },
+    })
+}
+
+/// Whether the line ends there.
+#[tactic(auto, unfolding(crate::specs::Reading::line_end))]
+pub fn line_end(rest: &Rest<'_>) -> Result<(), Stop>
+    ensures { GivesAll (λ x. x) result (left rest.now) (line_end (left rest.now)) }
+{
+    match rest.front() {
+        (Piece::End, _) => Ok(()),
+        (Piece::Bad(code), _) => Err(Stop::Fault(code)),
+        _ => Err(Stop::Fault(Code::Word)),
+    }
+}
+
+/// A relation, up to the line's end.
+#[tactic(auto, unfolding(crate::specs::Lines::to_end))]
+fn whole(
+    alloc: Global,
+    rest: &mut Rest<'_>,
+    names: &Names,
+    rates: bool,
+) -> Result<Relation, Stop>
+    ensures { GivesAll stated result (left rest.new) (to_end (read_comparison (scope_of names.now rates)) (left rest.old)) }
+{
+    let relation = relation_part(alloc, rest, names, rates)?;
+    line_end(rest)?;
+    Ok(relation)
+}
+
+/// The relation that a line is from its token number `from` on, with `>=`, `<=` or `=` between two sums. `tokens` are what
+/// the call `line_tokens` gave for this line.
+///
+/// A term is a number and an entropy `H(A)` or `H(A|C)`, a mutual information `I(A;B)` or `I(A;B|C)`, or a rate, or such
+/// a thing without a number, or 0; A, B and C are names of variables with `,` between them. `rates` says whether rates
+/// may stand there. At most 256 terms are read, both sides together. The fault is the first: `Word` at what no rule
+/// allows there, `Name` at a name that is unknown or at a rate where none may stand, `Many` at the first token of the
+/// term past the limit, behind its sign, and what `tokens` has for a misspelling; the line's end has the column after its
+/// last token.
+pub fn comparison(
+    alloc: Global,
+    line: &[u8],
+    tokens: &LineTokens,
+    from: usize,
+    names: &Names,
+    rates: bool,
+) -> Result<Relation, SyntaxFault>
+    requires short { length line.now ≤ 1048577 }
+    requires inside { InLine line.now tokens.now.tokens.items }
+    requires within { from ≤ length tokens.now.tokens.items }
+    ensures read { IfOk result (λ r. IsComparison names.now rates line.now tokens.now from (stated r)) }
+    ensures limits { IfOk result (λ r. KeepsLimits names.now (stated r)) }
+    ensures fault { IfErr result (IsFirstFault (spell_comparison (scope_of names.now rates)) line.now tokens.now from) }
+{
+    let all = Rest {
+        line,
+        tokens: tokens.tokens.as_slice(),
+        misspelling: tokens.misspelling,
+    };
+    let mut rest = Rest {
+        line,
+        tokens: all.tokens.split_at(from).1,
+        misspelling: tokens.misspelling,
+    };
+    match whole(alloc, &mut rest, names, rates) {
+        Ok(relation) => Ok(relation),
+        Err(Stop::Memory) => Err(SyntaxFault::Memory),
+        Err(Stop::Fault(code)) => Err(SyntaxFault::Fault {
+            column: all.column(rest.tokens.len()),
+            code,
+        }),
+    }
+}

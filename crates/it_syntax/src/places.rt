@@ -1,0 +1,34 @@
+//! The columns of faults.
+ghost use Rattle.std.specs.Prelude.{◌≡◌, ◌≤◌, ◌-◌, length, drop};
+ghost use Rattle.it_syntax.specs.Lines.{column_behind, column_of};
+
+use crate::rest::Rest;
+
+impl<'a> Rest<'a> {
+    /// The column of what stands behind the tokens: a misspelling's, or the one after the last token.
+    fn column_behind(self) -> u32
+        requires { length self.line.now ≤ 1048577 }
+        ensures { result ≡ column_behind self.entry.tokens.now self.entry.misspelling }
+    {
+        match self.misspelling {
+            Some(misspelling) => misspelling.column,
+            None => match self.tokens {
+                [.., last] => last.end + 1,
+                [] => 1,
+            },
+        }
+    }
+
+    /// The column, counted from 1, at which the last `left` tokens begin.
+    pub fn column(self, left: usize) -> u32
+        requires short { length self.line.now ≤ 1048577 }
+        requires within { left ≤ length self.tokens.now }
+        ensures { result ≡ column_of (drop (length self.entry.tokens.now - left) self.entry.tokens.now) (column_behind self.entry.tokens.now self.entry.misspelling) }
+    {
+        let behind = self.column_behind();
+        match self.tokens.split_at(self.tokens.len() - left).1 {
+            [first, ..] => first.start + 1,
+            [] => behind,
+        }
+    }
+}

@@ -1,0 +1,133 @@
+//! Readers of entropies, mutual informations and rates, and of terms that count them.
+ghost use Rattle.std.specs.Prelude.{◌≡◌};
+ghost use Rattle.it_syntax.specs.Reading.{read_atom};
+ghost use Rattle.it_syntax.specs.ComparisonLines.{scope_of};
+ghost use Rattle.it_syntax.specs.ComparisonReading.{read_quantity, after_number, read_term, read_over};
+ghost use Rattle.it_syntax.specs.Gives.{Gives, StopsAs, left};
+
+use crate::atoms::atom;
+use crate::lists::is_measure;
+use crate::names::Names;
+use crate::rest::{Piece, Rest, Stop};
+use crate::types::{Atom, Code, Term};
+
+/// The rate of this name, if rates may stand there.
+#[tactic(auto, unfolding(crate::specs::ComparisonLines::scope_of))]
+fn rate(names: &Names, rates: bool, name: &[u8]) -> Option<u8>
+    ensures { result ≡ (scope_of names.now rates).rates name.now }
+{
+    if rates { names.rate(name) } else { None }
+}
+
+/// An entropy or a mutual information.
+#[tactic(auto, unfolding(crate::specs::ComparisonLines::scope_of))]
+fn measure(rest: &mut Rest<'_>, names: &Names, rates: bool) -> Result<Atom, Stop>
+    ensures { Gives result (left rest.new) (read_atom (scope_of names.now rates).variables (left rest.old)) }
+{
+    let _ = rates;
+    atom(rest, names)
+}
+
+/// An entropy, a mutual information or a rate.
+#[tactic(auto, unfolding(crate::specs::ComparisonReading::read_quantity))]
+fn quantity(rest: &mut Rest<'_>, names: &Names, rates: bool) -> Result<Atom, Stop>
+    ensures { Gives result (left rest.new) (read_quantity (scope_of names.now rates) (left rest.old)) }
+{
+    match rest.front() {
+        (Piece::Word(word), behind) => {
+            if is_measure(word) {
+                return measure(rest, names, rates);
+            }
+            match rate(names, rates, word) {
+                Some(i) => {
+                    *rest = behind;
+                    Ok(Atom::Rate(i))
+                }
+                None => Err(Stop::Fault(Code::Name)),
+            }
+        }
+        (Piece::Bad(code), _) => Err(Stop::Fault(code)),
+        _ => Err(Stop::Fault(Code::Word)),
+    }
+}
+
+#[tactic(auto, unfolding(crate::specs::ComparisonReading::after_number))]
+fn after_number(
+    negative: bool,
+    number: u64,
+    rest: &mut Rest<'_>,
+    names: &Names,
+    rates: bool,
+) -> Result<Term, Stop>
+    ensures { Gives result (left rest.new) (after_number (scope_of names.now rates) negative number (left rest.old)) }
+{
+    match rest.front() {
+        (Piece::Word(_), _) => {
+            let atom = quantity(rest, names, rates)?;
+            Ok(Term {
+                negative,
+                number,
+                atom,
+            })
+        }
+        (Piece::Bad(code), _) if number != 0 => Err(Stop::Fault(code)),
+        _ => {
+            if number == 0 {
+                Ok(Term {
+                    negative,
+                    number,
+                    atom: Atom::Nothing,
+                })
+            } else {
+                Err(Stop::Fault(Code::Word))
+            }
+        }
+    }
+}
+
+/// A term, behind its sign.
+#[tactic(auto, unfolding(crate::specs::ComparisonReading::read_term))]
+pub fn term(
+    negative: bool,
+    rest: &mut Rest<'_>,
+    names: &Names,
+    rates: bool,
+) -> Result<Term, Stop>
+    ensures { Gives result (left rest.new) (read_term (scope_of names.now rates) negative (left rest.old)) }
+{
+    match rest.front() {
+        (Piece::Number(number), behind) => {
+            *rest = behind;
+            after_number(negative, number, rest, names, rates)
+        }
+        _ => {
+            let atom = quantity(rest, names, rates)?;
+            Ok(Term {
+                negative,
+                number: 1,
+                atom,
+            })
+        }
+    }
+}
+
+/// The fault of a term too many.
+#[tactic(auto, unfolding(crate::specs::ComparisonReading::read_over))]
+pub fn over(rest: &Rest<'_>, names: &Names, rates: bool) -> Stop
+    ensures { StopsAs result (left rest.now) (read_over (scope_of names.now rates) (left rest.now)) }
+{
+    match rest.front() {
+        (Piece::Number(_), _) => Stop::Fault(Code::Many),
+        (Piece::Word(word), _) => {
+            if is_measure(word) {
+                return Stop::Fault(Code::Many);
+            }
+            match rate(names, rates, word) {
+                Some(_) => Stop::Fault(Code::Many),
+                None => Stop::Fault(Code::Name),
+            }
+        }
+        (Piece::Bad(code), _) => Stop::Fault(code),
+        _ => Stop::Fault(Code::Word),
+    }
+}

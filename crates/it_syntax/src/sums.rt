@@ -1,0 +1,76 @@
+//! Readers of sums of terms.
+ghost use Rattle.std.specs.Prelude.{◌≡◌, [], ◌∷◌};
+ghost use Rattle.it_syntax.specs.ComparisonLines.{scope_of};
+ghost use Rattle.it_syntax.specs.ComparisonReading.{read_terms, read_counted, read_sum};
+ghost use Rattle.it_syntax.specs.Gives.{GivesBy, left};
+ghost use Rattle.it_syntax.specs.Reading.{with_terms};
+
+use crate::names::Names;
+use crate::quantities::{over, term};
+use crate::rest::{Rest, Stop};
+use crate::sides::{add, first_sign, sign};
+use crate::types::Term;
+use std::alloc::Global;
+
+/// The first term and further ones, at most `most` further ones.
+fn terms(
+    alloc: Global,
+    first: Term,
+    most: usize,
+    rest: &mut Rest<'_>,
+    names: &Names,
+    rates: bool,
+) -> Result<Vec<Term>, Stop>
+    ensures { GivesBy (λ x. x.items) result (left rest.new) (with_terms (first ∷ []) (read_terms most (scope_of names.now rates) (left rest.old))) }
+{
+    let mut found = Vec::new(alloc);
+    add(&mut found, first)?;
+    let mut allowed = most;
+    while let Some(negative) = sign(rest) {
+        if allowed == 0 {
+            return Err(over(rest, names, rates));
+        }
+        match term(negative, rest, names, rates) {
+            Ok(next) => add(&mut found, next)?,
+            Err(stop) => return Err(stop),
+        }
+        allowed -= 1;
+    }
+    Ok(found)
+}
+
+/// At least one term, at most `most`.
+#[tactic(auto, unfolding(crate::specs::ComparisonReading::read_counted))]
+fn counted(
+    alloc: Global,
+    most: usize,
+    negative: bool,
+    rest: &mut Rest<'_>,
+    names: &Names,
+    rates: bool,
+) -> Result<Vec<Term>, Stop>
+    ensures { GivesBy (λ x. x.items) result (left rest.new) (read_counted most (scope_of names.now rates) negative (left rest.old)) }
+{
+    if most == 0 {
+        return Err(over(rest, names, rates));
+    }
+    match term(negative, rest, names, rates) {
+        Ok(first) => terms(alloc, first, most - 1, rest, names, rates),
+        Err(stop) => Err(stop),
+    }
+}
+
+/// A sum of at most `most` terms.
+#[tactic(auto, unfolding(crate::specs::ComparisonReading::read_sum))]
+pub fn sum(
+    alloc: Global,
+    most: usize,
+    rest: &mut Rest<'_>,
+    names: &Names,
+    rates: bool,
+) -> Result<Vec<Term>, Stop>
+    ensures { GivesBy (λ x. x.items) result (left rest.new) (read_sum most (scope_of names.now rates) (left rest.old)) }
+{
+    let negative = first_sign(rest);
+    counted(alloc, most, negative, rest, names, rates)
+}
