@@ -21,3 +21,6 @@ pub mod ComparisonLimits
 pub mod LetterReaders
 pub mod ConditionTraces
 pub mod ConditionAnswers
+pub mod MemberLemmas
+pub mod ConditionLemmas
+pub mod ConditionLimits

@@ -17,3 +17,4 @@ pub mod ComparisonLines
 pub mod Givens
 pub mod Conditions
 pub mod ConditionReading
+pub mod ConditionLines

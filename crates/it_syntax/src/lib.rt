@@ -3,8 +3,10 @@
 
 mod atoms;
 mod comparisons;
+mod givens;
 mod laws;
 mod lists;
+mod members;
 mod names;
 mod pieces;
 mod places;
@@ -20,7 +22,8 @@ mod tests;
 pub mod types;
 
 pub use comparisons::comparison;
-pub use laws::{comparison_is_one, first_fault, relation_is_one, tokens_are_one};
+pub use givens::given;
+pub use laws::{comparison_is_one, first_fault, given_is_one, relation_is_one, tokens_are_one};
 pub use lists::is_measure;
 pub use names::Names;
 pub use relations::relation;
