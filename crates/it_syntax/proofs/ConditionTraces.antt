@@ -49,6 +49,7 @@ of_takes = record { takes = λ s. refl; refuses = refuses }
     by : (w : List ℕ) (ls : List Letter) (b : Bool) → bytes_eq w of_text ≡ b → (head (Word w ∷ ls) ≡ Some (Word of_text)) ⊎ ((c : Code) × (own (Word w ∷ ls) ≡ c) × ((s : List Letter) → head s ≡ head (Word w ∷ ls) → read_of s ≡ Err (c, s)))
     by w ls true e = inl (ap (λ (t : List ℕ). Some (Word t)) ((bytes_eq-Decides w of_text).0 e))
     by w ls false e = inr (codes.Word, refl, begun (λ s. read_of s ≡ Err (codes.Word, s)) (Word w) (λ s. ap (λ (b : Bool). cond b (Ok s) (Err (codes.Word, Word w ∷ s))) e))
+
     refuses : (ls : List Letter) → (head ls ≡ Some (Word of_text)) ⊎ ((c : Code) × (own ls ≡ c) × ((s : List Letter) → head s ≡ head ls → read_of s ≡ Err (c, s)))
     refuses (Word w ∷ ls) = by w ls (bytes_eq w of_text) refl
     refuses [] = inr (codes.Word, refl, empty (λ s. read_of s ≡ Err (codes.Word, s)) refl)

@@ -24,3 +24,4 @@ pub mod ConditionAnswers
 pub mod MemberLemmas
 pub mod ConditionLemmas
 pub mod ConditionLimits
+pub mod MisspellingLemmas

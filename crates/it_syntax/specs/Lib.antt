@@ -18,3 +18,4 @@ pub mod Givens
 pub mod Conditions
 pub mod ConditionReading
 pub mod ConditionLines
+pub mod Misspellings

@@ -22,8 +22,11 @@ use it_space::VarSet;
 use std::alloc::Global;
 
 const MARKOV: &[u8] = b"markov";
+
 const INDEPENDENT: &[u8] = b"indep";
+
 const FUNCTION: &[u8] = b"func";
+
 const OF: &[u8] = b"of";
 
 /// The most members of a chain, behind its first three: 16 in all.

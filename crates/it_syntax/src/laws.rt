@@ -1,4 +1,5 @@
 //! Laws of the definitions that the contracts cite.
+ghost use Rattle.it_syntax.specs.Misspellings.{LineTokensAreOne};
 ghost use Rattle.it_syntax.specs.Spelling.{TokensAreOne};
 ghost use Rattle.it_syntax.specs.ComparisonLines.{ComparisonIsOne, ComparisonFaultIsOne, ComparisonOrFault};
 ghost use Rattle.it_syntax.specs.ConditionLines.{GivenIsOne, GivenFaultIsOne, GivenOrFault};
@@ -33,4 +34,10 @@ pub fn given_is_one()
     ensures one { GivenIsOne }
     ensures fault { GivenFaultIsOne }
     ensures either { GivenOrFault }
+{}
+
+/// A line is one list of tokens, up to at most one misspelling.
+#[tactic(auto, using(crate::proofs::MisspellingLemmas::line_tokens_are_one))]
+pub fn line_tokens_are_one()
+    ensures { LineTokensAreOne }
 {}
