@@ -91,10 +91,10 @@ unfolding read_sum read_counted
 sum_sure s n m zero k ls = over_sure (AreFew n m zero) s (read_sign ls).1
 sum_sure s n m (suc most) k ls = more_terms_sure s n m most k (read_sign ls).0 (read_sign ls).1 (terms_sure s n m most k)
 
-abbrev IsWithinLimits : ℕ → ℕ → Stated × List Letter → Type 0
+abbrev pub IsWithinLimits : ℕ → ℕ → Stated × List Letter → Type 0
 IsWithinLimits n m y = (length y.0.left + length y.0.right ≤ most_terms) × All (λ t. IsAtomOf n m t.atom) y.0.left × All (λ t. IsAtomOf n m t.atom) y.0.right
 
-comparison_sure : (s : Scope) (n m : ℕ) → Covers s n m → (ls : List Letter) → Sure (IsWithinLimits n m) (read_comparison s ls)
+pub comparison_sure : (s : Scope) (n m : ℕ) → Covers s n m → (ls : List Letter) → Sure (IsWithinLimits n m) (read_comparison s ls)
 unfolding read_comparison
 comparison_sure s n m k ls =
     sure_bind (AreFew n m most_terms) (IsWithinLimits n m) (read_sum most_terms s ls) (λ left. read_compare left.1 >>= λ sign. read_sum (most_terms - length left.0) s sign.1 >>= λ right. Ok (record { left = left.0; sign = sign.0; right = right.0 }, right.1)) (sum_sure s n m most_terms k ls)
@@ -102,7 +102,8 @@ comparison_sure s n m k ls =
     (λ sign u. sure_bind (AreFew n m (most_terms - length left.0)) (IsWithinLimits n m) (read_sum (most_terms - length left.0) s sign.1) (λ right. Ok (record { left = left.0; sign = sign.0; right = right.0 }, right.1)) (sum_sure s n m (most_terms - length left.0) k sign.1)
     (λ right hr. (omega (arith, hl.0, hr.0), hl.1, hr.1))))
 
-scope_covers : (v : Vocabulary) (rates : Bool) → Covers (scope_of v rates) (length v.variables) (length v.rates)
+-- a scope covers the names of its vocabulary
+pub scope_covers : (v : Vocabulary) (rates : Bool) → Covers (scope_of v rates) (length v.variables) (length v.rates)
 unfolding scope_of
 scope_covers v rates = record { variables = knows_names v; rates = λ w i. known w i rates }
   where

@@ -1,17 +1,19 @@
 -- A constraint of a `given` line that is spelled so is read, up to the first mark.
-use Rattle.std.proofs.Common.{◌≡◌, ℕ, zero, suc, Bool, true, false, cond, List, [], ◌∷◌, Option, Some, None, Ok, Err, refl, sym, ap, ◌∙◌, subst, inl, inr}
+use Rattle.std.proofs.Common.{◌≡◌, ℕ, zero, suc, Bool, true, false, cond, List, [], ◌∷◌, ◌++◌, Option, Some, None, Ok, Err, refl, sym, ap, ◌∙◌, subst, inl, inr}
 use Rattle.std.specs.Prelude.{bytes_eq, ◌||◌}
+use Rattle.it_syntax.specs.declared.rest.Divider.{Divider}
+use Rattle.it_syntax.specs.declared.rest.Divider.TheVariants.{Arrows, Semicolons}
 use Rattle.it_syntax.specs.declared.types.Symbol.TheVariants.{Arrow, Semicolon, Bar}
 use Rattle.it_syntax.specs.declared.types.Code.{Code}
 use Rattle.it_syntax.specs.declared.types.Code.TheVariants as codes
 use Rattle.it_syntax.specs.Letters.{Letter, Word, Sym, Marked, clean, letters}
 use Rattle.it_syntax.specs.Trees.{Environment, WrittenList, is_measure, unknown, name_mark, spell_more, spell_list, list_set, over}
 use Rattle.it_syntax.specs.Comparisons.{Scope, spell_comparison, comparison_of}
-use Rattle.it_syntax.specs.Conditions.{markov_text, indep_text, func_text, of_text, PlainRelation, WrittenChain, WrittenIndependence, WrittenFunction, WrittenCondition, Compared, Chained, Separate, Determined, Divider, Arrows, Semicolons, divider_letter, spell_members, spell_chain, spell_bar, spell_independence, spell_function, spell_condition, sets_of, bar_set, chain_of, independence_of, function_of, condition_of}
+use Rattle.it_syntax.specs.Conditions.{markov_text, indep_text, func_text, of_text, PlainRelation, WrittenChain, WrittenIndependence, WrittenFunction, WrittenCondition, Compared, Chained, Separate, Determined, divider_letter, spell_members, spell_chain, spell_bar, spell_independence, spell_function, spell_condition, sets_of, bar_set, chain_of, independence_of, function_of, condition_of}
 use Rattle.it_syntax.specs.Givens.{Condition, Related, Chain, Independence, Function}
 use Rattle.it_syntax.specs.Reading.{Fault, Reads, ◌>>=◌, divided, read_list}
 use Rattle.it_syntax.specs.ComparisonReading.{read_comparison}
-use Rattle.it_syntax.specs.ConditionReading.{pointed, read_of, behind_divider, spare, read_spare, if_divided, member_then, read_members, read_chain, read_bar, read_independence, read_function, read_plain, read_condition}
+use Rattle.it_syntax.specs.ConditionReading.{pointed, read_of, behind_divider, spare, read_spare, if_divided, member_then, read_members, with_sets, read_chain, read_bar, read_independence, read_function, read_plain, read_condition}
 use Rattle.it_syntax.proofs.SpelledIsRead.{Answers, answers_ok, answers_cons, answers_bind, NoComma, NoWord, NoSign, list_answers, list_then}
 use Rattle.it_syntax.proofs.ComparisonAnswers.{comparison_answers}
 use Rattle.it_syntax.proofs.ConditionTraces.{opens_form, opens, chosen}
@@ -71,6 +73,11 @@ members_answers (suc n) d env (x ∷ xs) k none free =
     (list_then env x (λ a ls. read_members n d env ls >>= λ more. Ok (a ∷ more.0, more.1)) rest k y (no_comma n d env xs k free)
     (answers_bind (read_members n d env (letters rest)) (λ more. Ok (list_set env x ∷ more.0, more.1)) rest k k (sets_of env xs) y (members_answers n d env xs k none free) (answers_ok y k))))
 
+sets_answers : (n : ℕ) (d : Divider) (env : Environment) (front : List ℕ) (xs : List WrittenList) (k : Marked) → NoDivider d k → NoComma k → Answers (with_sets front (read_members n d env (letters (spell_members n d env xs k)))) (spell_members n d env xs k) (front ++ sets_of env xs) k
+sets_answers n d env front xs k none free =
+    let m = spell_members n d env xs k in
+    answers_bind (read_members n d env (letters m)) (λ x. Ok (front ++ x.0, x.1)) m k k (sets_of env xs) (front ++ sets_of env xs) (members_answers n d env xs k none free) (answers_ok (front ++ sets_of env xs) k)
+
 -- ---- chains, independences, functions
 
 chain_answers : (env : Environment) (x : WrittenChain) (k : Marked) → NoDivider Arrows k → NoComma k → Answers (read_chain env (letters (spell_chain env x k))) (spell_chain env x k) (chain_of env x) k
@@ -83,12 +90,12 @@ chain_answers env x k none free =
     let b = list_set env x.second in
     let c = list_set env x.third in
     let y = chain_of env x in
-    list_then env x.first (λ a ls. pointed ls >>= λ first. read_list env first >>= λ b. pointed b.1 >>= λ second. read_list env second >>= λ c. read_members 13 Arrows env c.1 >>= λ more. Ok (Chain (a ∷ b.0 ∷ c.0 ∷ more.0), more.1)) (clean (Sym Arrow) ∷ second) k y tt
+    list_then env x.first (λ a ls. pointed ls >>= λ first. read_list env first >>= λ b. pointed b.1 >>= λ second. read_list env second >>= λ c. with_sets (a ∷ b.0 ∷ c.0 ∷ []) (read_members 13 Arrows env c.1) >>= λ sets. Ok (Chain sets.0, sets.1)) (clean (Sym Arrow) ∷ second) k y tt
     (answers_cons (Sym Arrow) _ second y k
-    (list_then env x.second (λ b ls. pointed ls >>= λ second. read_list env second >>= λ c. read_members 13 Arrows env c.1 >>= λ more. Ok (Chain (a ∷ b ∷ c.0 ∷ more.0), more.1)) (clean (Sym Arrow) ∷ third) k y tt
+    (list_then env x.second (λ b ls. pointed ls >>= λ second. read_list env second >>= λ c. with_sets (a ∷ b ∷ c.0 ∷ []) (read_members 13 Arrows env c.1) >>= λ sets. Ok (Chain sets.0, sets.1)) (clean (Sym Arrow) ∷ third) k y tt
     (answers_cons (Sym Arrow) _ third y k
-    (list_then env x.third (λ c ls. read_members 13 Arrows env ls >>= λ more. Ok (Chain (a ∷ b ∷ c ∷ more.0), more.1)) more k y (no_comma 13 Arrows env x.more k free)
-    (answers_bind (read_members 13 Arrows env (letters more)) (λ more. Ok (Chain (a ∷ b ∷ c ∷ more.0), more.1)) more k k (sets_of env x.more) y (members_answers 13 Arrows env x.more k none free) (answers_ok y k))))))
+    (list_then env x.third (λ c ls. with_sets (a ∷ b ∷ c ∷ []) (read_members 13 Arrows env ls) >>= λ sets. Ok (Chain sets.0, sets.1)) more k y (no_comma 13 Arrows env x.more k free)
+    (answers_bind (with_sets (a ∷ b ∷ c ∷ []) (read_members 13 Arrows env (letters more))) (λ sets. Ok (Chain sets.0, sets.1)) more k k (a ∷ b ∷ c ∷ sets_of env x.more) y (sets_answers 13 Arrows env (a ∷ b ∷ c ∷ []) x.more k none free) (answers_ok y k))))))
 
 abbrev NoBar : Marked → Type 0
 NoBar ((Sym Bar, m) ∷ k) = ⊥
@@ -121,13 +128,13 @@ independence_answers env x k none unbarred free =
     let second = spell_list env x.second more in
     let a = list_set env x.first in
     let b = list_set env x.second in
-    let cs = sets_of env x.more in
+    let cs = a ∷ b ∷ sets_of env x.more in
     let y = independence_of env x in
-    list_then env x.first (λ a ls. divided ls >>= λ first. read_list env first >>= λ b. read_members 14 Semicolons env b.1 >>= λ more. read_bar env more.1 >>= λ w. Ok (Independence (a ∷ b.0 ∷ more.0) w.0, w.1)) (clean (Sym Semicolon) ∷ second) k y tt
+    list_then env x.first (λ a ls. divided ls >>= λ first. read_list env first >>= λ b. with_sets (a ∷ b.0 ∷ []) (read_members 14 Semicolons env b.1) >>= λ sets. read_bar env sets.1 >>= λ w. Ok (Independence sets.0 w.0, w.1)) (clean (Sym Semicolon) ∷ second) k y tt
     (answers_cons (Sym Semicolon) _ second y k
-    (list_then env x.second (λ b ls. read_members 14 Semicolons env ls >>= λ more. read_bar env more.1 >>= λ w. Ok (Independence (a ∷ b ∷ more.0) w.0, w.1)) more k y (no_comma 14 Semicolons env x.more given (bar_no_comma env x.given k free))
-    (answers_bind (read_members 14 Semicolons env (letters more)) (λ more. read_bar env more.1 >>= λ w. Ok (Independence (a ∷ b ∷ more.0) w.0, w.1)) more given k cs y (members_answers 14 Semicolons env x.more given (bar_no_divider env x.given k none) (bar_no_comma env x.given k free))
-    (answers_bind (read_bar env (letters given)) (λ w. Ok (Independence (a ∷ b ∷ cs) w.0, w.1)) given k k (bar_set env x.given) y (bar_answers env x.given k unbarred free) (answers_ok y k)))))
+    (list_then env x.second (λ b ls. with_sets (a ∷ b ∷ []) (read_members 14 Semicolons env ls) >>= λ sets. read_bar env sets.1 >>= λ w. Ok (Independence sets.0 w.0, w.1)) more k y (no_comma 14 Semicolons env x.more given (bar_no_comma env x.given k free))
+    (answers_bind (with_sets (a ∷ b ∷ []) (read_members 14 Semicolons env (letters more))) (λ sets. read_bar env sets.1 >>= λ w. Ok (Independence sets.0 w.0, w.1)) more given k cs y (sets_answers 14 Semicolons env (a ∷ b ∷ []) x.more given (bar_no_divider env x.given k none) (bar_no_comma env x.given k free))
+    (answers_bind (read_bar env (letters given)) (λ w. Ok (Independence cs w.0, w.1)) given k k (bar_set env x.given) y (bar_answers env x.given k unbarred free) (answers_ok y k)))))
 
 function_answers : (env : Environment) (x : WrittenFunction) (k : Marked) → NoComma k → Answers (read_function env (letters (spell_function env x k))) (spell_function env x k) (function_of env x) k
 unfolding read_function read_of

@@ -2,6 +2,8 @@
 use Rattle.std.proofs.Common.{◌≡◌, ℕ, zero, suc, Bool, true, false, cond, List, [], ◌∷◌, Option, Some, None, Ok, Err, refl, sym, ap, ◌∙◌, subst, inl, inr, ◌⊎◌}
 use Rattle.std.specs.Prelude.{bytes_eq, ◌||◌}
 use Rattle.std.proofs.lemmas.Slice.Eq.{bytes_eq-Decides}
+use Rattle.it_syntax.specs.declared.rest.Divider.{Divider}
+use Rattle.it_syntax.specs.declared.rest.Divider.TheVariants.{Arrows, Semicolons}
 use Rattle.it_syntax.specs.declared.types.Symbol.TheVariants.{Arrow, Semicolon, Bar}
 use Rattle.it_syntax.specs.declared.types.Code.{Code}
 use Rattle.it_syntax.specs.declared.types.Code.TheVariants as codes
@@ -10,11 +12,11 @@ use Rattle.it_syntax.specs.Letters.{Letter, Word, Sym, Marked, clean, letters}
 use Rattle.it_syntax.specs.FirstFault.{head, own}
 use Rattle.it_syntax.specs.Trees.{Environment, WrittenList, Joint, JointGiven, Shared, SharedGiven, TermSign, Positive, Negative, is_measure, unknown, name_mark, spell_more, spell_list, list_set, over}
 use Rattle.it_syntax.specs.Comparisons.{Scope, Measure, RateOf, WrittenTerm, Zero, Once, Times, WrittenComparison, spell_sum, spell_comparison, comparison_of}
-use Rattle.it_syntax.specs.Conditions.{markov_text, indep_text, func_text, of_text, is_form, is_form_first, PlainRelation, WrittenChain, WrittenIndependence, WrittenFunction, WrittenCondition, Compared, Chained, Separate, Determined, Divider, Arrows, Semicolons, divider_letter, spell_members, spell_chain, spell_bar, spell_independence, spell_function, spell_condition, sets_of, bar_set, chain_of, independence_of, function_of, condition_of}
+use Rattle.it_syntax.specs.Conditions.{markov_text, indep_text, func_text, of_text, is_form, is_form_first, PlainRelation, WrittenChain, WrittenIndependence, WrittenFunction, WrittenCondition, Compared, Chained, Separate, Determined, divider_letter, spell_members, spell_chain, spell_bar, spell_independence, spell_function, spell_condition, sets_of, bar_set, chain_of, independence_of, function_of, condition_of}
 use Rattle.it_syntax.specs.Givens.{Condition, Related, Chain, Independence, Function}
 use Rattle.it_syntax.specs.Reading.{Reads, ◌>>=◌, divided, read_list}
 use Rattle.it_syntax.specs.ComparisonReading.{read_comparison}
-use Rattle.it_syntax.specs.ConditionReading.{pointed, read_of, behind_divider, spare, read_spare, if_divided, member_then, read_members, read_chain, read_bar, read_independence, read_function, read_plain, read_condition}
+use Rattle.it_syntax.specs.ConditionReading.{pointed, read_of, behind_divider, spare, read_spare, if_divided, member_then, read_members, with_sets, read_chain, read_bar, read_independence, read_function, read_plain, read_condition}
 use Rattle.it_syntax.proofs.Traces.{Went, Stuck, By, Traces, traces_bind, traces_map, letter_then, switch, renamed}
 use Rattle.it_syntax.proofs.AtomTraces.{begun, empty, stuck_here, stuck_none, some_list, list_traces}
 use Rattle.it_syntax.proofs.ComparisonTraces.{comparison_traces}
@@ -47,6 +49,7 @@ of_takes = record { takes = λ s. refl; refuses = refuses }
     by : (w : List ℕ) (ls : List Letter) (b : Bool) → bytes_eq w of_text ≡ b → (head (Word w ∷ ls) ≡ Some (Word of_text)) ⊎ ((c : Code) × (own (Word w ∷ ls) ≡ c) × ((s : List Letter) → head s ≡ head (Word w ∷ ls) → read_of s ≡ Err (c, s)))
     by w ls true e = inl (ap (λ (t : List ℕ). Some (Word t)) ((bytes_eq-Decides w of_text).0 e))
     by w ls false e = inr (codes.Word, refl, begun (λ s. read_of s ≡ Err (codes.Word, s)) (Word w) (λ s. ap (λ (b : Bool). cond b (Ok s) (Err (codes.Word, Word w ∷ s))) e))
+
     refuses : (ls : List Letter) → (head ls ≡ Some (Word of_text)) ⊎ ((c : Code) × (own ls ≡ c) × ((s : List Letter) → head s ≡ head ls → read_of s ≡ Err (c, s)))
     refuses (Word w ∷ ls) = by w ls (bytes_eq w of_text) refl
     refuses [] = inr (codes.Word, refl, empty (λ s. read_of s ≡ Err (codes.Word, s)) refl)
@@ -128,14 +131,14 @@ members_traces (suc n) Semicolons env (l ∷ ls) = no_member (suc n) Semicolons 
 -- ---- chains
 
 abbrev from_third : Environment → ℕ → ℕ → List Letter → Reads Condition
-from_third env a b ls = read_list env ls >>= λ c. read_members 13 Arrows env c.1 >>= λ more. Ok (Chain (a ∷ b ∷ c.0 ∷ more.0), more.1)
+from_third env a b ls = read_list env ls >>= λ c. with_sets (a ∷ b ∷ c.0 ∷ []) (read_members 13 Arrows env c.1) >>= λ sets. Ok (Chain sets.0, sets.1)
 
 abbrev third_of : Environment → ℕ → ℕ → Members → Condition
 third_of env a b m = Chain (a ∷ b ∷ members_of env m)
 
 third_traces : (env : Environment) (a b : ℕ) → Traces (from_third env a b) (spell_member 13 Arrows env) (third_of env a b)
-third_traces env a b = traces_bind (read_list env) (λ c ls. read_members 13 Arrows env ls >>= λ more. Ok (Chain (a ∷ b ∷ c ∷ more.0), more.1)) (from_third env a b) (spell_list env) (λ c. spell_members 13 Arrows env) (spell_member 13 Arrows env) (list_set env) (λ c more. Chain (a ∷ b ∷ c ∷ sets_of env more)) (third_of env a b) (λ c more. (c, more))
-    (record { is = λ ls. refl; spells = λ y z k. refl; value = λ y z. refl; some = []; first = list_traces env; second = λ c. traces_map (read_members 13 Arrows env) (λ more. Chain (a ∷ b ∷ c ∷ more)) (spell_members 13 Arrows env) (sets_of env) (members_traces 13 Arrows env) })
+third_traces env a b = traces_bind (read_list env) (λ c ls. with_sets (a ∷ b ∷ c ∷ []) (read_members 13 Arrows env ls) >>= λ sets. Ok (Chain sets.0, sets.1)) (from_third env a b) (spell_list env) (λ c. spell_members 13 Arrows env) (spell_member 13 Arrows env) (list_set env) (λ c more. Chain (a ∷ b ∷ c ∷ sets_of env more)) (third_of env a b) (λ c more. (c, more))
+    (record { is = λ ls. refl; spells = λ y z k. refl; value = λ y z. refl; some = []; first = list_traces env; second = λ c. traces_map (λ ls. with_sets (a ∷ b ∷ c ∷ []) (read_members 13 Arrows env ls)) Chain (spell_members 13 Arrows env) (λ more. a ∷ b ∷ c ∷ sets_of env more) (traces_map (read_members 13 Arrows env) (λ more. a ∷ b ∷ c ∷ more) (spell_members 13 Arrows env) (sets_of env) (members_traces 13 Arrows env)) })
 
 abbrev Seconds : Type 0
 Seconds = WrittenList × Members
@@ -186,14 +189,14 @@ abbrev spell_others : Environment → Others → Marked → Marked
 spell_others env o k = spell_members 14 Semicolons env o.0 (spell_bar env o.1 k)
 
 abbrev from_others : Environment → ℕ → ℕ → List Letter → Reads Condition
-from_others env a b ls = read_members 14 Semicolons env ls >>= λ more. read_bar env more.1 >>= λ w. Ok (Independence (a ∷ b ∷ more.0) w.0, w.1)
+from_others env a b ls = with_sets (a ∷ b ∷ []) (read_members 14 Semicolons env ls) >>= λ sets. read_bar env sets.1 >>= λ w. Ok (Independence sets.0 w.0, w.1)
 
 abbrev others_of : Environment → ℕ → ℕ → Others → Condition
 others_of env a b o = Independence (a ∷ b ∷ sets_of env o.0) (bar_set env o.1)
 
 others_traces : (env : Environment) (a b : ℕ) → Traces (from_others env a b) (spell_others env) (others_of env a b)
-others_traces env a b = traces_bind (read_members 14 Semicolons env) (λ more ls. read_bar env ls >>= λ w. Ok (Independence (a ∷ b ∷ more) w.0, w.1)) (from_others env a b) (spell_members 14 Semicolons env) (λ more. spell_bar env) (spell_others env) (sets_of env) (λ more w. Independence (a ∷ b ∷ more) (bar_set env w)) (others_of env a b) (λ more w. (more, w))
-    (record { is = λ ls. refl; spells = λ y z k. refl; value = λ y z. refl; some = None; first = members_traces 14 Semicolons env; second = λ more. traces_map (read_bar env) (Independence (a ∷ b ∷ more)) (spell_bar env) (bar_set env) (bar_traces env) })
+others_traces env a b = traces_bind (λ ls. with_sets (a ∷ b ∷ []) (read_members 14 Semicolons env ls)) (λ sets ls. read_bar env ls >>= λ w. Ok (Independence sets w.0, w.1)) (from_others env a b) (spell_members 14 Semicolons env) (λ sets. spell_bar env) (spell_others env) (λ more. a ∷ b ∷ sets_of env more) (λ sets w. Independence sets (bar_set env w)) (others_of env a b) (λ more w. (more, w))
+    (record { is = λ ls. refl; spells = λ y z k. refl; value = λ y z. refl; some = None; first = traces_map (read_members 14 Semicolons env) (λ more. a ∷ b ∷ more) (spell_members 14 Semicolons env) (sets_of env) (members_traces 14 Semicolons env); second = λ sets. traces_map (read_bar env) (Independence sets) (spell_bar env) (bar_set env) (bar_traces env) })
 
 abbrev Partners : Type 0
 Partners = WrittenList × Others

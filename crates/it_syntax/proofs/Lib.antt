@@ -21,3 +21,7 @@ pub mod ComparisonLimits
 pub mod LetterReaders
 pub mod ConditionTraces
 pub mod ConditionAnswers
+pub mod MemberLemmas
+pub mod ConditionLemmas
+pub mod ConditionLimits
+pub mod MisspellingLemmas

@@ -46,7 +46,7 @@ stuck_sure P (l ∷ ls) = tt
 abbrev pub Knows : Environment → ℕ → Type 0
 Knows env n = (w : List ℕ) (i : ℕ) → env w ≡ Some i → i < n
 
-abbrev IsBelow : ℕ → ℕ × List Letter → Type 0
+abbrev pub IsBelow : ℕ → ℕ × List Letter → Type 0
 IsBelow n x = x.0 < n
 
 named_sure : (n : ℕ) (w : List ℕ) (h : Bool) (o : Option ℕ) (ls : List Letter) → ((i : ℕ) → o ≡ Some i → i < n) → Sure (IsBelow n) (named w h o ls)
@@ -64,7 +64,7 @@ name_sure env n k (l ∷ ls) = tt
 single_below : (i n : ℕ) → i < n → 2 ^ i < 2 ^ n
 single_below i n lt = pow-lt lt
 
-some_sets : (n : ℕ) → 0 < 2 ^ n
+pub some_sets : (n : ℕ) → 0 < 2 ^ n
 some_sets n = omega (arith, ones_lt n)
 
 more_sure : (env : Environment) (n : ℕ) → Knows env n → (ls : List Letter) → Sure (IsBelow (2 ^ n)) (read_more env ls)
@@ -76,7 +76,8 @@ more_sure env n k (Sym Comma ∷ ls) = stuck_sure (IsBelow (2 ^ n)) ls
 more_sure env n k [] = some_sets n
 more_sure env n k (l ∷ ls) = some_sets n
 
-list_sure : (env : Environment) (n : ℕ) → Knows env n → (ls : List Letter) → Sure (IsBelow (2 ^ n)) (read_list env ls)
+-- the set of a list is of the variables that there are
+pub list_sure : (env : Environment) (n : ℕ) → Knows env n → (ls : List Letter) → Sure (IsBelow (2 ^ n)) (read_list env ls)
 unfolding read_list
 list_sure env n k ls =
     sure_bind (IsBelow n) (IsBelow (2 ^ n)) (read_name env ls) (λ f. read_more env f.1 >>= λ m. Ok (bit_or (2 ^ f.0) m.0, m.1)) (name_sure env n k ls)

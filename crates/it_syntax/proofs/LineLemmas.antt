@@ -111,13 +111,15 @@ left_is line ts from n front r e h =
 pub fault_at : {X : Type 0} (spell : X → Marked → Marked) (line : List ℕ) (ts : LineTokens) (from n : ℕ) (c : Code) (r : List Letter) → FirstFault (spell_ended spell) (letters_from line ts from) c r → length r ≡ suc n
     → (n ≤ length ts.tokens.items) × FaultAt spell line ts from (column_of (drop (length ts.tokens.items - n) ts.tokens.items) (column_behind ts.tokens.items ts.misspelling)) c
 fault_at spell line ts from n c r f h =
-    let k = left_is line ts from n f.front r f.parts h in
-    (k.0, record {
-      at = length ts.tokens.items - n;
-      within = omega arith;
-      first = subst (λ (q : List Letter). FirstFault (spell_ended spell) (letters_from line ts from) c q) k.1 f;
-      place = refl;
-    })
+    let k = left_is line ts from n f.front r f.parts h in (
+      k.0,
+      record {
+        at = length ts.tokens.items - n;
+        within = omega arith;
+        first = subst (λ (q : List Letter). FirstFault (spell_ended spell) (letters_from line ts from) c q) k.1 f;
+        place = refl;
+      },
+    )
 
 -- a reader that stopped did so at the first fault, and left tokens of the line
 pub refused : {A X : Type 0} (f : List Letter → Reads A) (spell : X → Marked → Marked) (value : X → A) → IsReader f spell value → (line : List ℕ) (ts : LineTokens) (from : ℕ) (text : List ℕ) (us : List Token) (last : Letter) (c : Code)

@@ -13,22 +13,22 @@ use Rattle.it_syntax.specs.Fronts.{Run, Shape, symbol_of, starts_with, find_symb
 
 -- ---- runs
 
-run_of_text : (f : ℕ → Bool) (text rest : List ℕ) → AreAll f text → Stops f rest → Run f (text ++ rest) (length text)
+pub run_of_text : (f : ℕ → Bool) (text rest : List ℕ) → AreAll f text → Stops f rest → Run f (text ++ rest) (length text)
 run_of_text f [] rest h s = record { within = omega arith; all = tt; stops = s }
 run_of_text f (b ∷ text) rest h s = let r = run_of_text f text rest h.1 s in record { within = omega (arith, r.within); all = (h.0, r.all); stops = r.stops }
 
-run_once : (f : ℕ → Bool) (bs : List ℕ) (n m : ℕ) → Run f bs n → Run f bs m → n ≡ m
+pub run_once : (f : ℕ → Bool) (bs : List ℕ) (n m : ℕ) → Run f bs n → Run f bs m → n ≡ m
 run_once f [] n m r s = omega (arith, r.within, s.within)
 run_once f (b ∷ bs) zero zero r s = refl
 run_once f (b ∷ bs) zero (suc m) r s = let x = r.stops in let y = s.all.0 in absurd cc
 run_once f (b ∷ bs) (suc n) zero r s = let x = s.stops in let y = r.all.0 in absurd cc
 run_once f (b ∷ bs) (suc n) (suc m) r s = ap suc (run_once f bs n m (record { within = omega (arith, r.within); all = r.all.1; stops = r.stops }) (record { within = omega (arith, s.within); all = s.all.1; stops = s.stops }))
 
-blank_run : (f : ℕ → Bool) (xs : List ℕ) → AreAll f xs → Run f xs (length xs)
+pub blank_run : (f : ℕ → Bool) (xs : List ℕ) → AreAll f xs → Run f xs (length xs)
 blank_run f [] h = record { within = omega arith; all = tt; stops = tt }
 blank_run f (x ∷ xs) h = let r = blank_run f xs h.1 in record { within = omega (arith, r.within); all = (h.0, r.all); stops = r.stops }
 
-run_all : (f : ℕ → Bool) (xs : List ℕ) (g : ℕ) → AreAll f (take g xs) → length xs ≤ g → AreAll f xs
+pub run_all : (f : ℕ → Bool) (xs : List ℕ) (g : ℕ) → AreAll f (take g xs) → length xs ≤ g → AreAll f xs
 run_all f [] g h le = tt
 run_all f (x ∷ xs) zero h le = absurd (omega arith)
 run_all f (x ∷ xs) (suc g) h le = (h.0, run_all f xs g h.1 (omega arith))
@@ -179,7 +179,7 @@ shape_text (kinds.Symbol s) n body h =
 first_letter : (f : ℕ → Bool) (s : Symbol) (body : List ℕ) → symbol_of body ≡ Some s → StartsWith f body → StartsWith f (symbol_text s ++ drop (length (symbol_text s)) body)
 first_letter f s body e h = subst (StartsWith f) (symbol_is s body e) h
 
-both_starts : (body : List ℕ) → StartsWith is_letter body → StartsWith is_digit body → ⊥
+pub both_starts : (body : List ℕ) → StartsWith is_letter body → StartsWith is_digit body → ⊥
 both_starts [] h k = elim h [ ]
 both_starts (b ∷ body) h k = no_both b h k
 
@@ -202,7 +202,7 @@ one_shape (kinds.Symbol s) (kinds.Symbol r) n m body g h =
 
 -- ---- a line
 
-not_space : (f : ℕ → Bool) → f 32 ≡ false → (b : ℕ) → f b ≡ true → is_space b ≡ false
+pub not_space : (f : ℕ → Bool) → f 32 ≡ false → (b : ℕ) → f b ≡ true → is_space b ≡ false
 not_space f n b h = other_byte f 32 n b h
 
 text_stops : (k : TokenKind) (text rest : List ℕ) → IsText k text → Stops is_space (text ++ rest)
@@ -313,7 +313,7 @@ pub record UnderWay (line : List ℕ) (so_far : List Token) (at : ℕ) (rest : L
   pub back : (ts : List Token) → Spells 0 line ts → (us : List Token) × ((ts ≡ so_far ++ us) × Spells at rest us)
 
 -- spaces alone have no token in front
-blank_none : (at g : ℕ) (rest : List ℕ) (t : Token) (r : List ℕ) → Run is_space rest g → Cut at rest t r → AreAll is_space rest → ⊥
+pub blank_none : (at g : ℕ) (rest : List ℕ) (t : Token) (r : List ℕ) → Run is_space rest g → Cut at rest t r → AreAll is_space rest → ⊥
 blank_none at g rest t r run c h =
     let f = found_of at g rest t r run c in
     let e = run_once is_space rest g (length rest) run (blank_run is_space rest h) in
@@ -373,7 +373,7 @@ some_len (suc n) e = omega arith
 
 -- ---- one reading
 
-gap_run : (at : ℕ) (bytes : List ℕ) (t : Token) (rest : List ℕ) (c : Cut at bytes t rest) → Run is_space bytes (length c.gap)
+pub gap_run : (at : ℕ) (bytes : List ℕ) (t : Token) (rest : List ℕ) (c : Cut at bytes t rest) → Run is_space bytes (length c.gap)
 gap_run at bytes t rest c = subst (λ (b : List ℕ). Run is_space b (length c.gap)) (sym c.whole) (run_of_text is_space c.gap (c.text ++ rest) c.blank (text_stops t.kind c.text rest c.spelled))
 
 one_tokens : (at : ℕ) (bytes : List ℕ) (ts us : List Token) → Spells at bytes ts → Spells at bytes us → ts ≡ us

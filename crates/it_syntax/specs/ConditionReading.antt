@@ -1,12 +1,14 @@
 -- Reading the constraint of a `given` line from left to right.
-use Rattle.std.specs.Prelude.{ℕ, zero, suc, Bool, true, false, List, [], ◌∷◌, Option, Some, None, Result, Ok, Err, if◌then◌else◌, bytes_eq}
+use Rattle.std.specs.Prelude.{ℕ, zero, suc, Bool, true, false, List, [], ◌∷◌, ◌++◌, Option, Some, None, Result, Ok, Err, if◌then◌else◌, bytes_eq}
+use Rattle.it_syntax.specs.declared.rest.Divider.{Divider}
+use Rattle.it_syntax.specs.declared.rest.Divider.TheVariants.{Arrows, Semicolons}
 use Rattle.it_syntax.specs.declared.types.Symbol.TheVariants.{Arrow, Semicolon, Bar}
 use Rattle.it_syntax.specs.declared.types.Code.TheVariants as codes
 use Rattle.it_syntax.specs.Letters.{Letter, Word, Sym}
 use Rattle.it_syntax.specs.Trees.{Environment, is_measure}
 use Rattle.it_syntax.specs.Comparisons.{Scope}
 use Rattle.it_syntax.specs.ComparisonReading.{read_comparison}
-use Rattle.it_syntax.specs.Conditions.{Divider, Arrows, Semicolons, markov_text, indep_text, func_text, of_text}
+use Rattle.it_syntax.specs.Conditions.{markov_text, indep_text, func_text, of_text}
 use Rattle.it_syntax.specs.Givens.{Condition, Related, Chain, Independence, Function}
 use Rattle.it_syntax.specs.Reading.{Fault, Reads, ◌>>=◌, stuck, stuck_at, read_list, divided}
 
@@ -51,6 +53,10 @@ unfoldable pub read_members : ℕ → Divider → Environment → List Letter �
 read_members zero d env ls = if_divided (read_spare env) (behind_divider d ls) ls
 read_members (suc n) d env ls = if_divided (member_then (read_members n d env) env) (behind_divider d ls) ls
 
+-- sets read before, and those still read
+abbrev pub with_sets : List ℕ → Reads (List ℕ) → Reads (List ℕ)
+with_sets front r = r >>= λ x. Ok (front ++ x.0, x.1)
+
 unfoldable pub read_chain : Environment → List Letter → Reads Condition
 read_chain env ls = do
   a ← read_list env ls
@@ -58,8 +64,8 @@ read_chain env ls = do
   b ← read_list env first
   second ← pointed b.1
   c ← read_list env second
-  more ← read_members 13 Arrows env c.1
-  Ok (Chain (a.0 ∷ b.0 ∷ c.0 ∷ more.0), more.1)
+  sets ← with_sets (a.0 ∷ b.0 ∷ c.0 ∷ []) (read_members 13 Arrows env c.1)
+  Ok (Chain sets.0, sets.1)
 
 -- the set behind `|`, or nothing
 unfoldable pub read_bar : Environment → List Letter → Reads ℕ
@@ -71,9 +77,9 @@ read_independence env ls = do
   a ← read_list env ls
   first ← divided a.1
   b ← read_list env first
-  more ← read_members 14 Semicolons env b.1
-  w ← read_bar env more.1
-  Ok (Independence (a.0 ∷ b.0 ∷ more.0) w.0, w.1)
+  sets ← with_sets (a.0 ∷ b.0 ∷ []) (read_members 14 Semicolons env b.1)
+  w ← read_bar env sets.1
+  Ok (Independence sets.0 w.0, w.1)
 
 unfoldable pub read_function : Environment → List Letter → Reads Condition
 read_function env ls = do

@@ -2,6 +2,8 @@
 -- is a chain of 3 to 16 lists, `indep A ; B | W` an independence of 2 to 16, `func A of B` a function. What begins with `markov`,
 -- `indep` or `func` is never a relation.
 use Rattle.std.specs.Prelude.{◌≡◌, ℕ, zero, suc, Bool, false, List, [], ◌∷◌, Option, Some, None, ◌||◌, bytes_eq}
+use Rattle.it_syntax.specs.declared.rest.Divider.{Divider}
+use Rattle.it_syntax.specs.declared.rest.Divider.TheVariants.{Arrows, Semicolons}
 use Rattle.it_syntax.specs.declared.types.Symbol.TheVariants.{Arrow, Semicolon, Bar}
 use Rattle.it_syntax.specs.Letters.{Letter, Word, Sym, Marked, clean}
 use Rattle.it_syntax.specs.Trees.{Environment, WrittenList, TermSign, spell_list, list_set, over}
@@ -57,10 +59,6 @@ pub data WrittenCondition : Type 0 where
   Determined : (function : WrittenFunction) → WrittenCondition
 
 -- what stands between the members of a chain, and of an independence
-pub data Divider : Type 0 where
-  Arrows : Divider
-  Semicolons : Divider
-
 abbrev pub divider_letter : Divider → Letter
 divider_letter Arrows = Sym Arrow
 divider_letter Semicolons = Sym Semicolon

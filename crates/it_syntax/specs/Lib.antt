@@ -17,3 +17,5 @@ pub mod ComparisonLines
 pub mod Givens
 pub mod Conditions
 pub mod ConditionReading
+pub mod ConditionLines
+pub mod Misspellings

@@ -39,7 +39,7 @@ fn opened(rest: &mut Rest<'_>) -> Result<(), Stop>
 }
 
 #[tactic(auto, unfolding(crate::specs::Reading::divided))]
-fn divided(rest: &mut Rest<'_>) -> Result<(), Stop>
+pub fn divided(rest: &mut Rest<'_>) -> Result<(), Stop>
     ensures { Passes result (left rest.new) (divided (left rest.old)) }
 {
     match rest.front() {

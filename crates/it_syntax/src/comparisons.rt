@@ -75,12 +75,7 @@ pub fn line_end(rest: &Rest<'_>) -> Result<(), Stop>
 
 /// A relation, up to the line's end.
 #[tactic(auto, unfolding(crate::specs::Lines::to_end))]
-fn whole(
-    alloc: Global,
-    rest: &mut Rest<'_>,
-    names: &Names,
-    rates: bool,
-) -> Result<Relation, Stop>
+fn whole(alloc: Global, rest: &mut Rest<'_>, names: &Names, rates: bool) -> Result<Relation, Stop>
     ensures { GivesAll stated result (left rest.new) (to_end (read_comparison (scope_of names.now rates)) (left rest.old)) }
 {
     let relation = relation_part(alloc, rest, names, rates)?;

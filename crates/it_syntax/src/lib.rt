@@ -3,13 +3,16 @@
 
 mod atoms;
 mod comparisons;
+mod cutting;
+mod givens;
 mod laws;
 mod lists;
+mod members;
 mod names;
 mod pieces;
 mod places;
-mod relations;
 mod quantities;
+mod relations;
 pub mod rest;
 mod runs;
 mod scanner;
@@ -20,7 +23,9 @@ mod tests;
 pub mod types;
 
 pub use comparisons::comparison;
-pub use laws::{comparison_is_one, first_fault, relation_is_one, tokens_are_one};
+pub use cutting::line_tokens;
+pub use givens::given;
+pub use laws::{comparison_is_one, first_fault, given_is_one, line_tokens_are_one, relation_is_one, tokens_are_one};
 pub use lists::is_measure;
 pub use names::Names;
 pub use relations::relation;

@@ -25,7 +25,7 @@ pub fn is_measure(text: &[u8]) -> bool
 }
 
 #[tactic(auto, unfolding(crate::specs::Relations::env_of))]
-fn variable(names: &Names, name: &[u8]) -> Option<u8>
+pub fn variable(names: &Names, name: &[u8]) -> Option<u8>
     ensures found { result ≡ env_of names.now name.now }
     ensures small { IfSome result (λ i. i < 16) }
 {

@@ -87,12 +87,7 @@ fn after_number(
 
 /// A term, behind its sign.
 #[tactic(auto, unfolding(crate::specs::ComparisonReading::read_term))]
-pub fn term(
-    negative: bool,
-    rest: &mut Rest<'_>,
-    names: &Names,
-    rates: bool,
-) -> Result<Term, Stop>
+pub fn term(negative: bool, rest: &mut Rest<'_>, names: &Names, rates: bool) -> Result<Term, Stop>
     ensures { Gives result (left rest.new) (read_term (scope_of names.now rates) negative (left rest.old)) }
 {
     match rest.front() {

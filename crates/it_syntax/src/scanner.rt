@@ -11,16 +11,16 @@ use crate::types::{LATER, Symbol, SyntaxFault, Token, TokenKind};
 use std::alloc::Global;
 
 /// The most bytes that a word has.
-const LONGEST_WORD: usize = 16;
+pub const LONGEST_WORD: usize = 16;
 
-fn behind(bytes: &[u8], n: usize) -> &[u8]
+pub fn behind(bytes: &[u8], n: usize) -> &[u8]
     requires { n ≤ length bytes.now }
     ensures { result.now ≡ drop n bytes.now }
 {
     bytes.split_at(n).1
 }
 
-fn symbol_len(symbol: Symbol) -> usize
+pub fn symbol_len(symbol: Symbol) -> usize
     ensures { result ≡ length (symbol_text symbol) }
 {
     match symbol {
@@ -31,7 +31,7 @@ fn symbol_len(symbol: Symbol) -> usize
 
 /// The number that the digits are.
 #[tactic(auto, using(crate::proofs::RunLemmas::value_lemmas))]
-fn value(text: &[u8]) -> Option<u64>
+pub fn value(text: &[u8]) -> Option<u64>
     requires { AreAll is_digit text.now }
     ensures { SomeIff result (value_from 0 text.now < 2 ^ 64) (value_from 0 text.now) }
 {

@@ -1,0 +1,40 @@
+-- The tokens of a line up to its first misspelling: a byte that begins no token, a word of more than 16 bytes, or a number of more
+-- than 2 ^ 64 - 1.
+use Rattle.std.specs.Prelude.{◌≡◌, ℕ, ◌+◌, ◌^◌, ◌<◌, ◌≤◌, false, List, [], ◌∷◌, ◌++◌, length, take, Option, Some, None}
+use Rattle.it_syntax.specs.declared.types.Code.{Code}
+use Rattle.it_syntax.specs.declared.types.Code.TheVariants as codes
+use Rattle.it_syntax.specs.declared.types.Misspelling.{Misspelling}
+use Rattle.it_syntax.specs.declared.types.Token.{Token}
+use Rattle.it_syntax.specs.Fronts.{Run, symbol_of}
+use Rattle.it_syntax.specs.Spelling.{is_letter, is_digit, is_word_byte, is_space, value_from, AreAll, StartsWith, Cut}
+
+-- the first byte begins no token and is no space
+abbrev pub BeginsNothing : List ℕ → Type 0
+BeginsNothing [] = ⊥
+BeginsNothing (b ∷ bs) = (is_letter b ≡ false) × (is_digit b ≡ false) × (is_space b ≡ false) × (symbol_of (b ∷ bs) ≡ None)
+
+-- what stands in front is wrong by this code
+abbrev pub IsWrong : Code → List ℕ → Type 0
+IsWrong codes.Byte body = BeginsNothing body
+IsWrong codes.Many body = StartsWith is_letter body × ((n : ℕ) × (Run is_word_byte body n × (16 < n)))
+IsWrong codes.Number body = StartsWith is_digit body × ((n : ℕ) × (Run is_digit body n × (2 ^ 64 ≤ value_from 0 (take n body))))
+IsWrong c body = ⊥
+
+-- Behind spaces, a misspelling stands in the bytes from column `at` on.
+pub record Misspelled (at : ℕ) (bytes : List ℕ) (m : Misspelling) : Type 0 where
+  pub gap : List ℕ
+  pub body : List ℕ
+  pub whole : bytes ≡ gap ++ body
+  pub blank : AreAll is_space gap
+  pub wrong : IsWrong m.code body
+  pub column : m.column ≡ at + length gap + 1
+
+-- The bytes from column `at` on are these tokens, and then spaces alone or a misspelling.
+abbrev pub SpellsUntil : ℕ → List ℕ → List Token → Option Misspelling → Type 0
+SpellsUntil at bytes [] None = AreAll is_space bytes
+SpellsUntil at bytes [] (Some m) = Misspelled at bytes m
+SpellsUntil at bytes (t ∷ ts) m = (rest : List ℕ) × Cut at bytes t rest × SpellsUntil t.end rest ts m
+
+-- a line is one list of tokens with at most one misspelling
+abbrev pub LineTokensAreOne : Type 0
+LineTokensAreOne = (line : List ℕ) (ts us : List Token) (m k : Option Misspelling) → SpellsUntil 0 line ts m → SpellsUntil 0 line us k → (ts ≡ us) × (m ≡ k)

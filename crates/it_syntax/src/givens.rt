@@ -1,0 +1,235 @@
+//! The reader of the constraint of a `given` line.
+ghost use Rattle.std.specs.Prelude.{◌≡◌, ◌≤◌, false, [], ◌∷◌, length, IfOk, IfErr};
+ghost use Rattle.it_syntax.specs.declared.rest.Stop.TheVariants.{Memory};
+ghost use Rattle.it_syntax.specs.ComparisonLines.{scope_of};
+ghost use Rattle.it_syntax.specs.Conditions.{spell_condition};
+ghost use Rattle.it_syntax.specs.ConditionLines.{IsGiven};
+ghost use Rattle.it_syntax.specs.ConditionReading.{pointed, read_of, read_bar, read_chain, read_independence, read_function, read_plain, read_condition};
+ghost use Rattle.it_syntax.specs.Gives.{Gives, GivesBy, GivesAll, Passes, left};
+ghost use Rattle.it_syntax.specs.Givens.{condition, IsConditionOf};
+ghost use Rattle.it_syntax.specs.Lines.{IsFirstFault, to_end};
+ghost use Rattle.it_syntax.specs.Relations.{env_of};
+ghost use Rattle.it_syntax.specs.Spans.{InLine};
+
+use crate::atoms::divided;
+use crate::comparisons::{line_end, relation_part};
+use crate::lists::list;
+use crate::members::{add, members};
+use crate::names::Names;
+use crate::rest::{Divider, Piece, Rest, Stop};
+use crate::types::{Code, Given, LineTokens, Symbol, SyntaxFault};
+use it_space::VarSet;
+use std::alloc::Global;
+
+const MARKOV: &[u8] = b"markov";
+
+const INDEPENDENT: &[u8] = b"indep";
+
+const FUNCTION: &[u8] = b"func";
+
+const OF: &[u8] = b"of";
+
+/// The most members of a chain, behind its first three: 16 in all.
+const FURTHER_LINKS: usize = 13;
+
+/// The most members of an independence, behind its first two: 16 in all.
+const FURTHER_MEMBERS: usize = 14;
+
+#[tactic(auto, unfolding(crate::specs::ConditionReading::pointed))]
+fn pointed(rest: &mut Rest<'_>) -> Result<(), Stop>
+    ensures { Passes result (left rest.new) (pointed (left rest.old)) }
+{
+    match rest.front() {
+        (Piece::Symbol(Symbol::Arrow), behind) => {
+            *rest = behind;
+            Ok(())
+        }
+        (Piece::Bad(code), _) => Err(Stop::Fault(code)),
+        _ => Err(Stop::Fault(Code::Word)),
+    }
+}
+
+#[tactic(auto, unfolding(crate::specs::ConditionReading::read_of))]
+fn word_of(rest: &mut Rest<'_>) -> Result<(), Stop>
+    ensures { Passes result (left rest.new) (read_of (left rest.old)) }
+{
+    match rest.front() {
+        (Piece::Word(word), behind) => {
+            if word == OF {
+                *rest = behind;
+                Ok(())
+            } else {
+                Err(Stop::Fault(Code::Word))
+            }
+        }
+        (Piece::Bad(code), _) => Err(Stop::Fault(code)),
+        _ => Err(Stop::Fault(Code::Word)),
+    }
+}
+
+/// The set behind `|`; the empty set where none stands there.
+#[tactic(auto, unfolding(crate::specs::ConditionReading::read_bar))]
+fn bar(rest: &mut Rest<'_>, names: &Names) -> Result<VarSet, Stop>
+    ensures { Gives result (left rest.new) (read_bar (env_of names.now) (left rest.old)) }
+{
+    match rest.front() {
+        (Piece::Symbol(Symbol::Bar), behind) => {
+            *rest = behind;
+            list(rest, names)
+        }
+        _ => Ok(VarSet::empty()),
+    }
+}
+
+/// Sets one after the other.
+fn three(alloc: Global, first: VarSet, second: VarSet, third: VarSet) -> Result<Vec<VarSet>, Stop>
+    ensures sets { IfOk result (λ sets. sets.items ≡ first ∷ second ∷ third ∷ []) }
+    ensures memory { IfErr result (λ e. e ≡ Memory) }
+{
+    let mut sets = Vec::new(alloc);
+    add(&mut sets, first)?;
+    add(&mut sets, second)?;
+    add(&mut sets, third)?;
+    Ok(sets)
+}
+
+fn two(alloc: Global, first: VarSet, second: VarSet) -> Result<Vec<VarSet>, Stop>
+    ensures sets { IfOk result (λ sets. sets.items ≡ first ∷ second ∷ []) }
+    ensures memory { IfErr result (λ e. e ≡ Memory) }
+{
+    let mut sets = Vec::new(alloc);
+    add(&mut sets, first)?;
+    add(&mut sets, second)?;
+    Ok(sets)
+}
+
+/// A chain, behind its `markov`.
+#[tactic(auto, unfolding(crate::specs::ConditionReading::read_chain))]
+fn chain(alloc: Global, rest: &mut Rest<'_>, names: &Names) -> Result<Given, Stop>
+    ensures { GivesBy condition result (left rest.new) (read_chain (env_of names.now) (left rest.old)) }
+{
+    let first = list(rest, names)?;
+    pointed(rest)?;
+    let second = list(rest, names)?;
+    pointed(rest)?;
+    let third = list(rest, names)?;
+    match three(alloc, first, second, third) {
+        Ok(sets) => {
+            let sets = members(sets, FURTHER_LINKS, Divider::Arrows, rest, names)?;
+            Ok(Given::Markov(sets))
+        }
+        Err(_) => Err(Stop::Memory),
+    }
+}
+
+/// An independence, behind its `indep`.
+#[tactic(auto, unfolding(crate::specs::ConditionReading::read_independence))]
+fn independence(alloc: Global, rest: &mut Rest<'_>, names: &Names) -> Result<Given, Stop>
+    ensures { GivesBy condition result (left rest.new) (read_independence (env_of names.now) (left rest.old)) }
+{
+    let first = list(rest, names)?;
+    divided(rest)?;
+    let second = list(rest, names)?;
+    match two(alloc, first, second) {
+        Ok(sets) => {
+            let members = members(sets, FURTHER_MEMBERS, Divider::Semicolons, rest, names)?;
+            let given = bar(rest, names)?;
+            Ok(Given::Independent { members, given })
+        }
+        Err(_) => Err(Stop::Memory),
+    }
+}
+
+/// A function, behind its `func`.
+#[tactic(auto, unfolding(crate::specs::ConditionReading::read_function))]
+fn function(rest: &mut Rest<'_>, names: &Names) -> Result<Given, Stop>
+    ensures { GivesBy condition result (left rest.new) (read_function (env_of names.now) (left rest.old)) }
+{
+    let value = list(rest, names)?;
+    word_of(rest)?;
+    let argument = list(rest, names)?;
+    Ok(Given::Function { value, argument })
+}
+
+/// A relation without rates.
+#[tactic(auto, unfolding(crate::specs::ConditionReading::read_plain))]
+fn plain(alloc: Global, rest: &mut Rest<'_>, names: &Names) -> Result<Given, Stop>
+    ensures { GivesBy condition result (left rest.new) (read_plain (scope_of names.now false) (left rest.old)) }
+{
+    let relation = relation_part(alloc, rest, names, false)?;
+    Ok(Given::Relation(relation))
+}
+
+#[tactic(auto, unfolding(crate::specs::ConditionReading::read_condition, crate::specs::ComparisonLines::scope_of))]
+pub fn given_part(alloc: Global, rest: &mut Rest<'_>, names: &Names) -> Result<Given, Stop>
+    ensures { GivesBy condition result (left rest.new) (read_condition (scope_of names.now false) (left rest.old)) }
+{
+    match rest.front() {
+        (Piece::Word(word), behind) => {
+            if word == MARKOV {
+                *rest = behind;
+                chain(alloc, rest, names)
+            } else if word == INDEPENDENT {
+                *rest = behind;
+                independence(alloc, rest, names)
+            } else if word == FUNCTION {
+                *rest = behind;
+                function(rest, names)
+            } else {
+                plain(alloc, rest, names)
+            }
+        }
+        _ => plain(alloc, rest, names),
+    }
+}
+
+/// A constraint, up to the line's end.
+#[tactic(auto, unfolding(crate::specs::Lines::to_end))]
+fn whole(alloc: Global, rest: &mut Rest<'_>, names: &Names) -> Result<Given, Stop>
+    ensures { GivesAll condition result (left rest.new) (to_end (read_condition (scope_of names.now false)) (left rest.old)) }
+{
+    let given = given_part(alloc, rest, names)?;
+    line_end(rest)?;
+    Ok(given)
+}
+
+/// The constraint that a `given` line is from its token number `from` on. `tokens` are what the call `line_tokens` gave for
+/// this line.
+///
+/// A constraint is a relation without rates, as the call `comparison` reads it; `markov A -> B -> C` with further members,
+/// 3 to 16 in all; `indep A ; B` with further members, 2 to 16 in all, and then perhaps `| W`; or `func Z of X`. What
+/// begins with the word `markov`, `indep` or `func` is never a relation. The fault is the first; `Many` also comes at the
+/// first name of the member past the limit.
+pub fn given(
+    alloc: Global,
+    line: &[u8],
+    tokens: &LineTokens,
+    from: usize,
+    names: &Names,
+) -> Result<Given, SyntaxFault>
+    requires short { length line.now ≤ 1048577 }
+    requires inside { InLine line.now tokens.now.tokens.items }
+    requires within { from ≤ length tokens.now.tokens.items }
+    ensures read { IfOk result (λ g. IsGiven names.now line.now tokens.now from (condition g)) }
+    ensures limits { IfOk result (λ g. IsConditionOf (length names.now.variables) (length names.now.rates) (condition g)) }
+    ensures fault { IfErr result (IsFirstFault (spell_condition (scope_of names.now false)) line.now tokens.now from) }
+{
+    let all = Rest {
+        line,
+        tokens: tokens.tokens.as_slice(),
+        misspelling: tokens.misspelling,
+    };
+    let mut rest = Rest {
+        line,
+        tokens: all.tokens.split_at(from).1,
+        misspelling: tokens.misspelling,
+    };
+    match whole(alloc, &mut rest, names) {
+        Ok(given) => Ok(given),
+        Err(Stop::Memory) => Err(SyntaxFault::Memory),
+        Err(Stop::Fault(code)) => Err(SyntaxFault::Fault {
+            column: all.column(rest.tokens.len()),
+            code,
+        }),
+    }
+}
