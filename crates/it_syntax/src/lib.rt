@@ -25,7 +25,10 @@ pub mod types;
 pub use comparisons::comparison;
 pub use cutting::line_tokens;
 pub use givens::given;
-pub use laws::{comparison_is_one, first_fault, given_is_one, line_tokens_are_one, relation_is_one, tokens_are_one};
+pub use laws::{
+    comparison_is_one, first_fault, given_is_one, line_tokens_are_one, relation_is_one,
+    tokens_are_one,
+};
 pub use lists::is_measure;
 pub use names::Names;
 pub use relations::relation;
