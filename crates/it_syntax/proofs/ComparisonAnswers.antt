@@ -1,5 +1,5 @@
 -- A relation that is spelled so is read, up to the first mark.
-use Rattle.std.proofs.Common.{◌≡◌, ℕ, zero, suc, ◌-◌, Bool, true, false, cond, List, [], ◌∷◌, length, Option, Some, None, Ok, Err, refl, sym, ap, ◌∙◌, subst, inl, inr}
+use Rattle.std.proofs.Common.{◌≡◌, ℕ, zero, suc, ◌-◌, Bool, true, false, cond, List, [], ◌∷◌, length, Option, Some, None, Ok, Err, refl, sym, subst, inl, inr}
 use Rattle.it_syntax.specs.declared.types.Symbol.TheVariants.{Plus, Minus}
 use Rattle.it_syntax.specs.declared.types.Code.{Code}
 use Rattle.it_syntax.specs.declared.types.Code.TheVariants as codes
@@ -9,10 +9,9 @@ use Rattle.it_syntax.specs.declared.types.Term.{Term}
 use Rattle.it_syntax.specs.declared.types.Sign.{Sign}
 use Rattle.it_syntax.specs.declared.types.Sign.TheVariants.{AtLeast, AtMost, Equal}
 use Rattle.it_syntax.specs.Letters.{Letter, Word, Number, Sym, Marked, clean, letters}
-use Rattle.it_syntax.specs.Meaning.{Stated}
-use Rattle.it_syntax.specs.Trees.{Joint, JointGiven, Shared, SharedGiven, TermSign, Positive, Negative, entropy_text, mutual_text, is_measure, unknown, index_or, spell_sign, sign_letter, over, is_minus}
-use Rattle.it_syntax.specs.Comparisons.{Scope, RateName, WrittenQuantity, Measure, RateOf, WrittenTerm, Zero, Once, Times, WrittenSum, WrittenComparison, spell_quantity, spell_term, spell_terms, spell_counted, spell_sum, compare_letter, most_terms, number_of_terms, spell_comparison, quantity_of, term_of, terms_of, sum_of, comparison_of}
-use Rattle.it_syntax.specs.Reading.{Fault, Reads, ◌>>=◌, read_atom, read_sign}
+use Rattle.it_syntax.specs.Trees.{Joint, JointGiven, Shared, SharedGiven, TermSign, Positive, Negative, entropy_text, mutual_text, unknown, index_or, spell_sign, over, is_minus}
+use Rattle.it_syntax.specs.Comparisons.{Scope, WrittenQuantity, Measure, RateOf, WrittenTerm, Zero, Once, Times, WrittenSum, WrittenComparison, spell_quantity, spell_term, spell_terms, spell_counted, spell_sum, compare_letter, most_terms, number_of_terms, spell_comparison, quantity_of, term_of, terms_of, sum_of, comparison_of}
+use Rattle.it_syntax.specs.Reading.{Reads, ◌>>=◌, read_atom, read_sign}
 use Rattle.it_syntax.specs.ComparisonReading.{rated, read_quantity, after_number, read_term, surplus, read_over, read_terms, read_counted, read_sum, read_compare, read_comparison}
 use Rattle.it_syntax.proofs.SpelledIsRead.{Answers, answers_ok, answers_cons, answers_bind, NoWord, NoSign, atom_answers, sign_answers}
 use Rattle.it_syntax.proofs.ComparisonTraces.{terms_counted}

@@ -10,14 +10,14 @@ use Rattle.it_syntax.specs.declared.types.Term.{Term}
 use Rattle.it_syntax.specs.Letters.{Letter, Word, Number, Sym, Bad}
 use Rattle.it_syntax.specs.Meaning.{Stated, IsAtomOf}
 use Rattle.it_syntax.specs.Vocabulary.{Vocabulary, index_of}
-use Rattle.it_syntax.specs.Trees.{Environment, is_measure}
+use Rattle.it_syntax.specs.Trees.{is_measure}
 use Rattle.it_syntax.specs.Comparisons.{Scope, most_terms}
 use Rattle.it_syntax.specs.ComparisonLines.{scope_of}
 use Rattle.it_syntax.specs.Lines.{to_end}
 use Rattle.it_syntax.specs.Reading.{Reads, ◌>>=◌, read_atom, read_sign, line_end}
 use Rattle.it_syntax.specs.ComparisonReading.{rated, read_quantity, after_number, read_term, surplus, read_over, read_terms, read_counted, read_sum, read_compare, read_comparison}
-use Rattle.it_syntax.specs.Relations.{env_of, KeepsLimits}
-use Rattle.it_syntax.proofs.LimitLemmas.{Sure, sure_bind, Any, any, stuck_sure, Knows, HasSets, TermHasSets, AreFew, atom_sure, knows_names}
+use Rattle.it_syntax.specs.Relations.{KeepsLimits}
+use Rattle.it_syntax.proofs.LimitLemmas.{Sure, sure_bind, Any, any, Knows, HasSets, TermHasSets, AreFew, atom_sure, knows_names}
 
 -- the names of a scope are those of n variables and m rates
 pub record Covers (s : Scope) (n m : ℕ) : Type 0 where

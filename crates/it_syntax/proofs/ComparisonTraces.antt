@@ -14,8 +14,8 @@ use Rattle.it_syntax.specs.declared.types.Sign.TheVariants.{AtLeast, AtMost, Equ
 use Rattle.it_syntax.specs.Letters.{Letter, Word, Number, Sym, Marked, clean}
 use Rattle.it_syntax.specs.Meaning.{Stated}
 use Rattle.it_syntax.specs.FirstFault.{head, own}
-use Rattle.it_syntax.specs.Trees.{Joint, Shared, TermSign, Positive, Negative, entropy_text, mutual_text, is_measure, unknown, index_or, atom_of, sign_letter, spell_list, spell_atom, over}
-use Rattle.it_syntax.specs.Comparisons.{Scope, RateName, WrittenQuantity, Measure, RateOf, WrittenTerm, Zero, Once, Times, WrittenSum, WrittenComparison, spell_quantity, spell_term, spell_terms, spell_counted, spell_sum, compare_letter, most_terms, number_of_terms, spell_comparison, quantity_of, term_of, terms_of, sum_of, comparison_of}
+use Rattle.it_syntax.specs.Trees.{Joint, Shared, TermSign, Positive, Negative, entropy_text, mutual_text, is_measure, unknown, index_or, atom_of, spell_list, spell_atom, over}
+use Rattle.it_syntax.specs.Comparisons.{Scope, WrittenQuantity, Measure, RateOf, WrittenTerm, Zero, Once, Times, WrittenSum, WrittenComparison, spell_quantity, spell_term, spell_terms, spell_counted, spell_sum, compare_letter, most_terms, spell_comparison, quantity_of, term_of, terms_of, sum_of, comparison_of}
 use Rattle.it_syntax.specs.Reading.{Reads, ◌>>=◌, read_atom, read_sign}
 use Rattle.it_syntax.specs.ComparisonReading.{rated, read_quantity, after_number, read_term, surplus, read_over, read_terms, read_counted, read_sum, read_compare, read_comparison}
 use Rattle.it_syntax.proofs.Traces.{Went, Stuck, By, Traces, traces_bind, traces_map, letter_then, switch, renamed}

@@ -1,5 +1,5 @@
 -- A constraint of a `given` line that is spelled so is read, up to the first mark.
-use Rattle.std.proofs.Common.{◌≡◌, ℕ, zero, suc, Bool, true, false, cond, List, [], ◌∷◌, ◌++◌, Option, Some, None, Ok, Err, refl, sym, ap, ◌∙◌, subst, inl, inr}
+use Rattle.std.proofs.Common.{◌≡◌, ℕ, zero, suc, Bool, true, false, cond, List, [], ◌∷◌, ◌++◌, Option, Some, None, Ok, refl, sym, ◌∙◌, subst, inr}
 use Rattle.std.specs.Prelude.{bytes_eq, ◌||◌}
 use Rattle.it_syntax.specs.declared.rest.Divider.{Divider}
 use Rattle.it_syntax.specs.declared.rest.Divider.TheVariants.{Arrows, Semicolons}
@@ -11,7 +11,7 @@ use Rattle.it_syntax.specs.Trees.{Environment, WrittenList, is_measure, unknown,
 use Rattle.it_syntax.specs.Comparisons.{Scope, spell_comparison, comparison_of}
 use Rattle.it_syntax.specs.Conditions.{markov_text, indep_text, func_text, of_text, PlainRelation, WrittenChain, WrittenIndependence, WrittenFunction, WrittenCondition, Compared, Chained, Separate, Determined, divider_letter, spell_members, spell_chain, spell_bar, spell_independence, spell_function, spell_condition, sets_of, bar_set, chain_of, independence_of, function_of, condition_of}
 use Rattle.it_syntax.specs.Givens.{Condition, Related, Chain, Independence, Function}
-use Rattle.it_syntax.specs.Reading.{Fault, Reads, ◌>>=◌, divided, read_list}
+use Rattle.it_syntax.specs.Reading.{Reads, ◌>>=◌, divided, read_list}
 use Rattle.it_syntax.specs.ComparisonReading.{read_comparison}
 use Rattle.it_syntax.specs.ConditionReading.{pointed, read_of, behind_divider, spare, read_spare, if_divided, member_then, read_members, with_sets, read_chain, read_bar, read_independence, read_function, read_plain, read_condition}
 use Rattle.it_syntax.proofs.SpelledIsRead.{Answers, answers_ok, answers_cons, answers_bind, NoComma, NoWord, NoSign, list_answers, list_then}

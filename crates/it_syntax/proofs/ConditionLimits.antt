@@ -1,5 +1,5 @@
 -- A constraint that is read keeps the limits: sets of the variables that there are, and no more members than are allowed.
-use Rattle.std.proofs.Common.{◌≡◌, ℕ, zero, suc, ◌^◌, ◌<◌, ◌≤◌, Bool, true, false, cond, List, [], ◌∷◌, ◌++◌, length, Option, Some, None, Ok, Err, subst, arith}
+use Rattle.std.proofs.Common.{◌≡◌, ℕ, zero, suc, ◌^◌, ◌<◌, ◌≤◌, Bool, true, false, cond, List, [], ◌∷◌, ◌++◌, length, Option, Some, None, Ok, subst, arith}
 use Rattle.std.specs.Prelude.{All, bytes_eq}
 use Rattle.std.proofs.lemmas.List.Elements.{All-nil, All-cons}
 use Rattle.it_syntax.specs.declared.rest.Divider.{Divider}
@@ -7,7 +7,6 @@ use Rattle.it_syntax.specs.declared.rest.Divider.TheVariants.{Arrows, Semicolons
 use Rattle.it_syntax.specs.declared.types.Symbol.TheVariants.{Bar}
 use Rattle.it_syntax.specs.Letters.{Letter, Word, Sym, Bad}
 use Rattle.it_syntax.specs.Vocabulary.{Vocabulary}
-use Rattle.it_syntax.specs.Meaning.{Stated}
 use Rattle.it_syntax.specs.Trees.{Environment, is_measure}
 use Rattle.it_syntax.specs.Comparisons.{Scope}
 use Rattle.it_syntax.specs.ComparisonLines.{scope_of}

@@ -1,5 +1,5 @@
 -- The constraints of `given` lines are traced.
-use Rattle.std.proofs.Common.{◌≡◌, ℕ, zero, suc, Bool, true, false, cond, List, [], ◌∷◌, Option, Some, None, Ok, Err, refl, sym, ap, ◌∙◌, subst, inl, inr, ◌⊎◌}
+use Rattle.std.proofs.Common.{◌≡◌, ℕ, zero, suc, Bool, true, false, cond, List, [], ◌∷◌, Option, Some, None, Ok, Err, refl, sym, ap, ◌∙◌, inl, inr, ◌⊎◌}
 use Rattle.std.specs.Prelude.{bytes_eq, ◌||◌}
 use Rattle.std.proofs.lemmas.Slice.Eq.{bytes_eq-Decides}
 use Rattle.it_syntax.specs.declared.rest.Divider.{Divider}
@@ -10,14 +10,14 @@ use Rattle.it_syntax.specs.declared.types.Code.TheVariants as codes
 use Rattle.it_syntax.specs.declared.types.Sign.TheVariants as signs
 use Rattle.it_syntax.specs.Letters.{Letter, Word, Sym, Marked, clean, letters}
 use Rattle.it_syntax.specs.FirstFault.{head, own}
-use Rattle.it_syntax.specs.Trees.{Environment, WrittenList, Joint, JointGiven, Shared, SharedGiven, TermSign, Positive, Negative, is_measure, unknown, name_mark, spell_more, spell_list, list_set, over}
+use Rattle.it_syntax.specs.Trees.{Environment, WrittenList, Joint, JointGiven, Shared, SharedGiven, TermSign, Positive, Negative, is_measure, unknown, name_mark, spell_list, list_set, over}
 use Rattle.it_syntax.specs.Comparisons.{Scope, Measure, RateOf, WrittenTerm, Zero, Once, Times, WrittenComparison, spell_sum, spell_comparison, comparison_of}
-use Rattle.it_syntax.specs.Conditions.{markov_text, indep_text, func_text, of_text, is_form, is_form_first, PlainRelation, WrittenChain, WrittenIndependence, WrittenFunction, WrittenCondition, Compared, Chained, Separate, Determined, divider_letter, spell_members, spell_chain, spell_bar, spell_independence, spell_function, spell_condition, sets_of, bar_set, chain_of, independence_of, function_of, condition_of}
+use Rattle.it_syntax.specs.Conditions.{markov_text, indep_text, func_text, of_text, is_form, is_form_first, WrittenChain, WrittenIndependence, WrittenFunction, WrittenCondition, Compared, Chained, Separate, Determined, spell_members, spell_chain, spell_bar, spell_independence, spell_function, spell_condition, sets_of, bar_set, chain_of, independence_of, function_of, condition_of}
 use Rattle.it_syntax.specs.Givens.{Condition, Related, Chain, Independence, Function}
 use Rattle.it_syntax.specs.Reading.{Reads, ◌>>=◌, divided, read_list}
 use Rattle.it_syntax.specs.ComparisonReading.{read_comparison}
-use Rattle.it_syntax.specs.ConditionReading.{pointed, read_of, behind_divider, spare, read_spare, if_divided, member_then, read_members, with_sets, read_chain, read_bar, read_independence, read_function, read_plain, read_condition}
-use Rattle.it_syntax.proofs.Traces.{Went, Stuck, By, Traces, traces_bind, traces_map, letter_then, switch, renamed}
+use Rattle.it_syntax.specs.ConditionReading.{pointed, read_of, spare, read_spare, member_then, read_members, with_sets, read_chain, read_bar, read_independence, read_function, read_plain, read_condition}
+use Rattle.it_syntax.proofs.Traces.{Went, Stuck, By, Traces, traces_bind, traces_map, letter_then, switch}
 use Rattle.it_syntax.proofs.AtomTraces.{begun, empty, stuck_here, stuck_none, some_list, list_traces}
 use Rattle.it_syntax.proofs.ComparisonTraces.{comparison_traces}
 use Rattle.it_syntax.proofs.LetterReaders.{TakesLetter, behind_traces, Restricts, restricted}

@@ -1,11 +1,10 @@
 -- A letter that must stand there, and then another reader: what a reading tells. And trees that meet a condition.
-use Rattle.std.proofs.Common.{◌≡◌, Bool, true, false, cond, List, [], ◌∷◌, ◌++◌, Option, Some, None, Result, Ok, Err, refl, sym, ap, ◌∙◌, subst, inl, inr, ◌⊎◌}
+use Rattle.std.proofs.Common.{◌≡◌, List, [], ◌∷◌, ◌++◌, Some, Result, Ok, Err, refl, sym, ap, ◌∙◌, subst, inl, inr, ◌⊎◌}
 use Rattle.it_syntax.specs.declared.types.Code.{Code}
 use Rattle.it_syntax.specs.Letters.{Letter, Marked, clean, letters, cleaned}
 use Rattle.it_syntax.specs.FirstFault.{head, own}
 use Rattle.it_syntax.specs.Reading.{Fault, Reads, ◌>>=◌}
-use Rattle.it_syntax.proofs.Traces.{Why, Went, Stuck, By, Traces, letter_then}
-use Rattle.it_syntax.proofs.AtomTraces.{begun}
+use Rattle.it_syntax.proofs.Traces.{Why, Stuck, By, Traces, letter_then}
 use Rattle.it_syntax.proofs.FirstFaults.{letters_behind, letters_cleaned}
 
 -- m takes the letter l, and is stuck at each other

@@ -1,5 +1,5 @@
 -- A line is one list of tokens, up to at most one misspelling.
-use Rattle.std.proofs.Common.{◌≡◌, ℕ, zero, suc, ◌+◌, ◌-◌, ◌<◌, ◌≤◌, ◌^◌, Bool, true, false, List, [], ◌∷◌, ◌++◌, length, take, drop, Option, Some, None, refl, ap, sym, subst, ◌∙◌, arith, length-drop, length-take, length-append, append_assoc}
+use Rattle.std.proofs.Common.{◌≡◌, ℕ, ◌+◌, ◌-◌, Bool, false, List, [], ◌∷◌, ◌++◌, length, take, drop, Option, Some, None, refl, ap, sym, subst, ◌∙◌, arith, length-drop, length-take, length-append, append_assoc}
 use Rattle.std.proofs.lemmas.List.{append-nil, drop_at, take-append-drop}
 use Rattle.it_syntax.specs.declared.types.Code.{Code}
 use Rattle.it_syntax.specs.declared.types.Code.TheVariants as codes
@@ -7,10 +7,10 @@ use Rattle.it_syntax.specs.declared.types.Misspelling.{Misspelling}
 use Rattle.it_syntax.specs.declared.types.Token.{Token}
 use Rattle.it_syntax.specs.declared.types.TokenKind.{TokenKind}
 use Rattle.it_syntax.specs.declared.types.TokenKind.TheVariants as kinds
-use Rattle.it_syntax.specs.Fronts.{Run, Shape, symbol_of}
+use Rattle.it_syntax.specs.Fronts.{Run, Shape}
 use Rattle.it_syntax.specs.Misspellings.{BeginsNothing, IsWrong, Misspelled, SpellsUntil, LineTokensAreOne}
 use Rattle.it_syntax.specs.Spans.{InLine}
-use Rattle.it_syntax.specs.Spelling.{is_letter, is_digit, is_word_byte, is_space, AreAll, StartsWith, Stops, Cut}
+use Rattle.it_syntax.specs.Spelling.{is_letter, is_digit, is_space, AreAll, StartsWith, Stops, Cut}
 use Rattle.it_syntax.proofs.TokenLemmas.{run_of_text, run_once, blank_run, run_all, not_space, both_starts, found_of, one_cut, cut_made, gap_run, blank_none, word_long, number_large}
 
 starts_stop : (f : ℕ → Bool) → f 32 ≡ false → (body : List ℕ) → StartsWith f body → Stops is_space body

@@ -1,12 +1,12 @@
 -- The words of a line have 1 to 16 bytes.
-use Rattle.std.proofs.Common.{◌≡◌, ℕ, ◌+◌, ◌-◌, ◌<◌, ◌≤◌, List, [], ◌∷◌, ◌++◌, length, take, drop, refl, sym, ap, ◌∙◌, arith, min, length-append, length-drop}
+use Rattle.std.proofs.Common.{◌≡◌, ℕ, ◌+◌, ◌-◌, ◌≤◌, List, [], ◌∷◌, ◌++◌, length, take, drop, ap, ◌∙◌, arith, min, length-append, length-drop}
 use Rattle.std.proofs.lemmas.List.{length-take}
 use Rattle.it_syntax.specs.declared.types.Token.{Token}
 use Rattle.it_syntax.specs.declared.types.TokenKind.{TokenKind}
 use Rattle.it_syntax.specs.declared.types.TokenKind.TheVariants as kinds
 use Rattle.it_syntax.specs.Letters.{Letter, Word, Number, Sym, End, Bad}
 use Rattle.it_syntax.specs.Spans.{letter_of, letters_of}
-use Rattle.it_syntax.specs.Spelling.{Spells, Cut, IsText, StartsWith, is_letter}
+use Rattle.it_syntax.specs.Spelling.{Spells, IsText, StartsWith, is_letter}
 
 abbrev pub HasShortWords : List Letter → Type 0
 HasShortWords [] = Unit {0}

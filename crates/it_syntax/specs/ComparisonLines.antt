@@ -4,9 +4,8 @@ use Rattle.it_syntax.specs.declared.types.Code.{Code}
 use Rattle.it_syntax.specs.declared.types.LineTokens.{LineTokens}
 use Rattle.it_syntax.specs.Vocabulary.{Vocabulary, index_of}
 use Rattle.it_syntax.specs.Meaning.{Stated}
-use Rattle.it_syntax.specs.Letters.{Marked}
 use Rattle.it_syntax.specs.Relations.{env_of}
-use Rattle.it_syntax.specs.Comparisons.{Scope, WrittenComparison, spell_comparison, comparison_of}
+use Rattle.it_syntax.specs.Comparisons.{Scope, spell_comparison, comparison_of}
 use Rattle.it_syntax.specs.Lines.{SaysAs, letters_from, FaultAt}
 
 -- the variables and, where rates may stand, the rates by name

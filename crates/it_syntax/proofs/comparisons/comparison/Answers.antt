@@ -1,4 +1,3 @@
-use Rattle.std.proofs.Common.{List, ℕ, length, subst, sym, refl}
 use Rattle.it_syntax.specs.Comparisons.{spell_comparison, comparison_of}
 use Rattle.it_syntax.specs.ComparisonLines.{scope_of}
 use Rattle.it_syntax.specs.ComparisonReading.{read_comparison}

@@ -1,4 +1,4 @@
-use Rattle.std.proofs.Common.{◌≡◌, ◌-◌, List, length, subst, sym, arith}
+use Rattle.std.proofs.Common.{◌-◌, List, length, subst, sym, arith}
 use Rattle.it_syntax.specs.declared.types.Token.{Token}
 use Rattle.it_syntax.specs.Spans.{InLine}
 use Rattle.it_syntax.proofs.SpanLemmas.{no_token, in_line_at, in_line_drop}

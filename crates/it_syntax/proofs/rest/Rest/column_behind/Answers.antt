@@ -1,4 +1,4 @@
-use Rattle.std.proofs.Common.{◌≡◌, ◌+◌, ◌-◌, length, ap, sym, arith, ℕ, Option}
+use Rattle.std.proofs.Common.{◌+◌, ◌-◌, length, ap, sym, arith, Option}
 use Rattle.std.proofs.lemmas.Option.{slice_get-get_or}
 use Rattle.it_syntax.specs.declared.types.Token.{Token}
 use Rattle.it_syntax.specs.Lines.{end_of}
