@@ -6,8 +6,6 @@ mod comparisons;
 mod cutting;
 mod givens;
 mod laws;
-#[cfg(test)]
-mod line_tests;
 mod lists;
 mod members;
 mod names;
