@@ -1,0 +1,45 @@
+-- What the questions of a file keep: sets of their variables, rates that there are, and the limits.
+use Rattle.std.specs.Prelude.{◌≡◌, ℕ, ◌<◌, ◌≤◌, ◌^◌, ◌+◌, List, [], ◌++◌, length, All, eqb}
+use Rattle.std.specs.List.{IsDistinct}
+use Rattle.it_syntax.specs.Vocabulary.{Vocabulary}
+use Rattle.it_syntax.specs.Givens.{IsRelationOf, IsConditionOf}
+use Rattle.it_question.specs.Questions.{Lines, Bounded, Aim, Proves, Eliminates, Contains, Posed}
+
+-- lines over these names
+pub record AreLinesOver (v : Vocabulary) (own : Lines) : Type 0 where
+  pub few_givens : length own.givens ≤ 64
+  pub few_rows : length own.rows ≤ 64
+  pub givens : All (IsConditionOf (length v.variables) (length v.rates)) own.givens
+  pub rows : All (IsRelationOf (length v.variables) (length v.rates)) own.rows
+
+-- a region of a question with these names: their variables, and behind them at most 4 auxiliaries, 8 in all
+pub record IsRegionOf (v : Vocabulary) (r : Bounded) : Type 0 where
+  pub own : List (List ℕ)
+  pub variables : r.names.variables ≡ v.variables ++ own
+  pub rates : r.names.rates ≡ v.rates
+  pub counted : r.auxiliaries ≡ length own
+  pub few : length own ≤ 4
+  pub few_variables : length r.names.variables ≤ 8
+  pub lines : AreLinesOver r.names r.lines
+
+-- four sets of n variables
+pub record IsTryOf (n : ℕ) (sets : List ℕ) : Type 0 where
+  pub four : length sets ≡ 4
+  pub within : All (λ s. s < 2 ^ n) sets
+
+pub record AreRatesOf (m : ℕ) (rates : List ℕ) : Type 0 where
+  pub within : All (λ r. r < m) rates
+  pub distinct : IsDistinct eqb rates
+
+abbrev pub IsAimOver : Vocabulary → Aim → Type 0
+IsAimOver v (Proves r) = IsRelationOf (length v.variables) (length v.rates) r
+IsAimOver v (Eliminates rates) = AreRatesOf (length v.rates) rates
+IsAimOver v (Contains first second tries) = IsRegionOf v first × IsRegionOf v second × (length tries ≤ 64) × All (IsTryOf (length first.names.variables)) tries
+
+-- 1 to 8 variables and at most 16 rates, and lines over them
+pub record IsQuestion (q : Posed) : Type 0 where
+  pub some : 1 ≤ length q.names.variables
+  pub few : length q.names.variables ≤ 8
+  pub few_rates : length q.names.rates ≤ 16
+  pub lines : AreLinesOver q.names q.lines
+  pub aim : IsAimOver q.names q.aim

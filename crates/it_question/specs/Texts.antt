@@ -1,0 +1,54 @@
+-- The text of a question: its lines from `vars` to the verb, each without blanks at both ends and with a line feed behind it.
+use Rattle.std.specs.Prelude.{ℕ, ◌+◌, ◌==◌, List, [], ◌∷◌, ◌++◌, length, take, drop, if◌then◌else◌}
+use Rattle.it_question.specs.Lines.{TokenLine}
+use Rattle.it_question.specs.Questions.{Lines, Bounded, Aim, Proves, Eliminates, Contains, Posed, Asked}
+
+abbrev pub without_leading : List ℕ → List ℕ
+without_leading [] = []
+without_leading (b ∷ bytes) = if b == 32 then without_leading bytes else b ∷ bytes
+
+abbrev pub unless_blank : ℕ → List ℕ → List ℕ
+unless_blank b [] = if b == 32 then [] else b ∷ []
+unless_blank b (c ∷ bytes) = b ∷ c ∷ bytes
+
+abbrev pub without_trailing : List ℕ → List ℕ
+without_trailing [] = []
+without_trailing (b ∷ bytes) = unless_blank b (without_trailing bytes)
+
+abbrev pub trimmed : List ℕ → List ℕ
+trimmed line = without_trailing (without_leading line)
+
+abbrev pub text_of_lines : List TokenLine → List ℕ
+text_of_lines [] = []
+text_of_lines (l ∷ ls) = trimmed l.text ++ 10 ∷ text_of_lines ls
+
+-- ---- how many lines a question has
+
+-- a line of names stands where there are names
+abbrev pub one_if_some : {X : Type 0} → List X → ℕ
+one_if_some [] = 0
+one_if_some (x ∷ xs) = 1
+
+abbrev pub own_lines : Lines → ℕ
+own_lines own = length own.givens + length own.rows
+
+abbrev pub one_unless_zero : ℕ → ℕ
+one_unless_zero n = if n == 0 then 0 else 1
+
+-- with its `region` line
+abbrev pub region_lines : Bounded → ℕ
+region_lines r = 1 + one_unless_zero r.auxiliaries + own_lines r.lines
+
+-- with the verb's line
+abbrev pub aim_lines : Aim → ℕ
+aim_lines (Proves r) = 1
+aim_lines (Eliminates rates) = 1
+aim_lines (Contains first second tries) = region_lines first + region_lines second + length tries + 1
+
+abbrev pub question_lines : Posed → ℕ
+question_lines q = 1 + one_if_some q.names.rates + own_lines q.lines + aim_lines q.aim
+
+-- the questions of these lines, one after the other, with their texts
+abbrev pub with_texts : List TokenLine → List Posed → List Asked
+with_texts lines [] = []
+with_texts lines (q ∷ qs) = record { posed = q; text = text_of_lines (take (question_lines q) lines) } ∷ with_texts (drop (question_lines q) lines) qs

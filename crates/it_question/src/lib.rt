@@ -1,0 +1,7 @@
+//! Question files: the lines of a file, and the questions that they ask.
+#![tactic(auto)]
+
+mod files;
+pub mod types;
+
+pub use files::questions;

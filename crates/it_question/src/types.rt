@@ -1,0 +1,61 @@
+//! What a question file asks.
+
+use it_space::VarSet;
+use it_syntax::Names;
+use it_syntax::types::{Code, Given, Relation};
+use std::alloc::AllocError;
+
+/// A region of a containment question: the question's names followed by the region's auxiliary variables, how many these
+/// are, and the region's own lines.
+#[derive(Debug, Drop)]
+pub struct Region {
+    pub names: Names,
+    pub auxiliaries: u8,
+    pub givens: Vec<Given>,
+    pub rows: Vec<Relation>,
+}
+
+/// What a question wants: that a relation is proved; that rates are eliminated, by number and in the order in which they
+/// were listed; that the first region lies in the second. Each of `tries` is a substitution to be tried first: a set
+/// of the first region's variables for each auxiliary variable of the second region, in order, and the empty set in the
+/// places behind.
+#[derive(Debug, Drop)]
+pub enum Verb {
+    Prove(Relation),
+    Eliminate(Vec<u8>),
+    Contain {
+        first: Region,
+        second: Region,
+        tries: Vec<[VarSet; 4]>,
+    },
+}
+
+/// A question. `text` holds its lines from `vars` to the verb, each from its first token to its last with tabs as spaces,
+/// and a line feed behind it; lines without tokens are left out. `givens` and `rows` are the constraints of the
+/// lines before the verb or the first region, in order.
+#[derive(Debug, Drop)]
+pub struct Question {
+    pub names: Names,
+    pub text: Vec<u8>,
+    pub givens: Vec<Given>,
+    pub rows: Vec<Relation>,
+    pub verb: Verb,
+}
+
+/// Why a file has no reading: memory ran out, or its first fault, at a line and a column that are counted from 1.
+#[derive(Clone, Copy, Debug, PartialEq, Eq)]
+pub enum FileFault {
+    Memory,
+    Fault { line: u32, column: u32, code: Code },
+}
+
+impl From<AllocError> for FileFault {
+    ghost use Rattle.std.specs.Prelude.{◌≡◌};
+    ghost use Rattle.it_question.specs.declared.types.FileFault.TheVariants.{Memory};
+
+    ghost from_gives = { λ _ e. e ≡ Memory };
+
+    fn from(_error: AllocError) -> FileFault {
+        FileFault::Memory
+    }
+}
