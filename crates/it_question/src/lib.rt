@@ -1,7 +1,9 @@
 //! Question files: the lines of a file, and the questions that they ask.
 #![tactic(auto)]
 
+mod cursor;
 mod files;
+mod pieces;
 pub mod types;
 
 pub use files::questions;
