@@ -3,7 +3,10 @@
 
 mod cursor;
 mod files;
+mod names;
 mod pieces;
+mod sorts;
 pub mod types;
+mod words;
 
 pub use files::questions;
