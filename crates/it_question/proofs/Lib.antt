@@ -1,1 +1,3 @@
 pub mod NewNameLemmas
+pub mod PartLemmas
+pub mod CursorLemmas

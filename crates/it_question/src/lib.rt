@@ -4,6 +4,7 @@
 mod cursor;
 mod files;
 mod names;
+mod parts;
 mod pieces;
 mod sorts;
 pub mod types;
