@@ -1,3 +1,5 @@
 pub mod NewNameLemmas
 pub mod PartLemmas
 pub mod CursorLemmas
+pub mod OwnLineLemmas
+pub mod RateLemmas

@@ -1,11 +1,15 @@
 //! Question files: the lines of a file, and the questions that they ask.
 #![tactic(auto)]
 
+mod asking;
+mod bodies;
 mod cursor;
 mod files;
 mod names;
+mod own;
 mod parts;
 mod pieces;
+mod rates;
 mod sorts;
 pub mod types;
 mod words;
