@@ -3,3 +3,4 @@ pub mod PartLemmas
 pub mod CursorLemmas
 pub mod OwnLineLemmas
 pub mod RateLemmas
+pub mod QuestionLemmas
