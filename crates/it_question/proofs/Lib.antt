@@ -4,3 +4,6 @@ pub mod CursorLemmas
 pub mod OwnLineLemmas
 pub mod RateLemmas
 pub mod QuestionLemmas
+pub mod AuxiliaryLemmas
+pub mod TryLemmas
+pub mod RegionLemmas

@@ -5,6 +5,7 @@ pub mod Questions
 pub mod Keywords
 pub mod Trees
 pub mod Sorts
+pub mod Tries
 pub mod Reading
 pub mod Texts
 pub mod Files

@@ -5,7 +5,7 @@ ghost use Rattle.it_syntax.specs.Gives.{GivesBy};
 ghost use Rattle.it_question.specs.Bodies.{body};
 ghost use Rattle.it_question.specs.Cursors.{left};
 ghost use Rattle.it_question.specs.Questions.{aim};
-ghost use Rattle.it_question.specs.Reading.{read_proof, read_elimination, read_containment, read_aim, read_question, read_end, read_file};
+ghost use Rattle.it_question.specs.Reading.{read_proof, read_elimination, read_aim, read_question, read_end, read_file};
 
 use crate::bodies::Body;
 use crate::cursor::Cursor;
@@ -13,6 +13,7 @@ use crate::names::{names_line, names_to_end};
 use crate::own::own_lines;
 use crate::parts::relation;
 use crate::rates::rates;
+use crate::regions::{MOST_VARIABLES, containment};
 use crate::sorts::NameSort;
 use crate::types::Verb;
 use crate::words::{ELIMINATE, PROVE, RATES, REGION, VARS, behind_word};
@@ -22,8 +23,6 @@ use it_syntax::types::Code;
 use std::alloc::Global;
 
 const MOST_QUESTIONS: usize = 1000;
-
-const MOST_VARIABLES: usize = 8;
 
 const MOST_RATES: usize = 16;
 
@@ -46,18 +45,6 @@ fn elimination(alloc: Global, cursor: &mut Cursor<'_>, names: &Names) -> Result<
 {
     let rates = rates(alloc, cursor, names)?;
     Ok(Verb::Eliminate(rates))
-}
-
-fn containment(
-    _alloc: Global,
-    cursor: &mut Cursor<'_>,
-    names: &Names,
-    givens: usize,
-    rows: usize,
-) -> Result<Verb, Stop>
-    ensures { GivesBy aim result (left cursor.new) (read_containment givens rows names.now (left cursor.old)) }
-{
-    Err(Stop::Memory)
 }
 
 /// What is asked, if so many more lines of each kind may stand in regions.

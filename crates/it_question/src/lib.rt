@@ -10,7 +10,9 @@ mod own;
 mod parts;
 mod pieces;
 mod rates;
+mod regions;
 mod sorts;
+mod tries;
 pub mod types;
 mod words;
 

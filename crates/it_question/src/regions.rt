@@ -1,0 +1,152 @@
+//! Readers of regions, and of the question whether one lies in the other.
+ghost use Rattle.std.specs.Prelude.{◌≡◌, ◌-◌, length, IfOk, IfErr};
+ghost use Rattle.it_syntax.specs.declared.rest.Stop.TheVariants.{Memory};
+ghost use Rattle.it_syntax.specs.Gives.{Gives, GivesBy};
+ghost use Rattle.it_question.specs.declared.sorts.NameSort.TheVariants as sorts;
+ghost use Rattle.it_question.specs.Keywords.{aux_text};
+ghost use Rattle.it_question.specs.Cursors.{left};
+ghost use Rattle.it_question.specs.Questions.{aim, bounded};
+ghost use Rattle.it_question.specs.Reading.{read_names_line, read_region, read_word_line, read_containment};
+ghost use Rattle.it_question.specs.Sorts.{HasRoom};
+ghost use Rattle.it_question.specs.Trees.{Variable, auxiliaries_left, givens_left, rows_left};
+
+use crate::cursor::Cursor;
+use crate::names::names_line;
+use crate::own::own_lines;
+use crate::sorts::NameSort;
+use crate::tries::tries;
+use crate::types::{Region, Verb};
+use crate::words::{AUXILIARIES, CONTAIN, REGION, line_end, word};
+use it_syntax::Names;
+use it_syntax::rest::Stop;
+use std::alloc::Global;
+
+/// The most variables of a question, with a region's own.
+pub const MOST_VARIABLES: usize = 8;
+
+/// The most variables that a region has of its own.
+const MOST_AUXILIARIES: usize = 4;
+
+impl Region {
+    /// How many more `given` lines may follow those of this region.
+    fn givens_left(&self, most: usize) -> usize
+        ensures { result ≡ givens_left most (bounded self.now).lines }
+    {
+        most.saturating_sub(self.givens.len())
+    }
+
+    /// How many more `row` lines may follow those of this region.
+    fn rows_left(&self, most: usize) -> usize
+        ensures { result ≡ rows_left most (bounded self.now).lines }
+    {
+        most.saturating_sub(self.rows.len())
+    }
+}
+
+/// How many variables a region may add to these.
+fn auxiliaries_left(names: &Names) -> usize
+    ensures left { result ≡ auxiliaries_left names.now }
+    ensures room { HasRoom sorts.Variable result names.now }
+{
+    let variables = names.space().variables as usize;
+    MOST_AUXILIARIES.min(MOST_VARIABLES.saturating_sub(variables))
+}
+
+/// How many variables a region has added to these.
+fn auxiliaries(inside: &Names, names: &Names) -> u8
+    ensures { result ≡ length inside.now.variables - length names.now.variables }
+{
+    inside
+        .space()
+        .variables
+        .saturating_sub(names.space().variables)
+}
+
+fn copied(names: &Names) -> Result<Names, Stop>
+    ensures copy { IfOk result (λ n. n ≡ names.now) }
+    ensures memory { IfErr result (λ e. e ≡ Memory) }
+{
+    match names.copied() {
+        Ok(names) => Ok(names),
+        Err(_) => Err(Stop::Memory),
+    }
+}
+
+/// The variables of a region of a question with these names.
+fn region_names(cursor: &mut Cursor<'_>, names: &Names) -> Result<Names, Stop>
+    ensures { GivesBy (λ x. x) result (left cursor.new) (read_names_line Variable (auxiliaries_left names.now) aux_text names.now (left cursor.old)) }
+{
+    let mut inside = copied(names)?;
+    names_line(
+        cursor,
+        &mut inside,
+        NameSort::Variable,
+        auxiliaries_left(names),
+        AUXILIARIES,
+    )?;
+    Ok(inside)
+}
+
+/// A region of a question with these names, behind its `region`; so many lines of each kind are allowed.
+#[tactic(auto, unfolding(crate::specs::Reading::read_region))]
+fn region(
+    alloc: Global,
+    cursor: &mut Cursor<'_>,
+    names: &Names,
+    givens: usize,
+    rows: usize,
+) -> Result<Region, Stop>
+    ensures { GivesBy bounded result (left cursor.new) (read_region givens rows names.now (left cursor.old)) }
+{
+    line_end(cursor)?;
+    let inside = region_names(cursor, names)?;
+    let own = own_lines(alloc, cursor, &inside, givens, rows)?;
+    let auxiliaries = auxiliaries(&inside, names);
+    Ok(Region {
+        names: inside,
+        auxiliaries,
+        givens: own.givens,
+        rows: own.rows,
+    })
+}
+
+/// A line that is this word alone.
+#[tactic(auto, unfolding(crate::specs::Reading::read_word_line))]
+fn word_line(cursor: &mut Cursor<'_>, text: &[u8]) -> Result<(), Stop>
+    ensures { Gives result (left cursor.new) (read_word_line text.now (left cursor.old)) }
+{
+    word(cursor, text)?;
+    line_end(cursor)
+}
+
+/// Two regions, sets to be tried and `contain`, behind the first `region`.
+#[tactic(auto, unfolding(crate::specs::Reading::read_containment))]
+pub fn containment(
+    alloc: Global,
+    cursor: &mut Cursor<'_>,
+    names: &Names,
+    givens: usize,
+    rows: usize,
+) -> Result<Verb, Stop>
+    ensures { GivesBy aim result (left cursor.new) (read_containment givens rows names.now (left cursor.old)) }
+{
+    let first = region(alloc, cursor, names, givens, rows)?;
+    word(cursor, REGION)?;
+    let givens = first.givens_left(givens);
+    let rows = first.rows_left(rows);
+    let second = region(alloc, cursor, names, givens, rows)?;
+    let tries = tries(
+        alloc,
+        cursor,
+        names,
+        &first.names,
+        &second.names,
+        second.auxiliaries,
+    )?;
+    word_line(cursor, CONTAIN)?;
+    Ok(Verb::Contain {
+        first,
+        second,
+        tries,
+    })
+}
