@@ -2,6 +2,7 @@
 #![tactic(auto)]
 
 mod files;
+mod plain;
 pub mod types;
 
 pub use files::questions;
