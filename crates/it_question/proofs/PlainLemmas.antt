@@ -1,5 +1,5 @@
 -- Where a line ends, and what is read of it.
-use Rattle.std.proofs.Common.{◌≡◌, ℕ, zero, suc, ◌+◌, ◌-◌, ◌<◌, ◌≤◌, ◌==◌, Bool, true, false, not, cond, List, [], ◌∷◌, ◌++◌, length, get_or, take, drop, take_all, refl, sym, ap, ◌∙◌, arith}
+use Rattle.std.proofs.Common.{◌≡◌, ℕ, zero, suc, ◌-◌, ◌<◌, ◌≤◌, ◌==◌, Bool, true, false, not, cond, List, [], ◌∷◌, ◌++◌, length, take, drop, take_all, refl, sym, ap, ◌∙◌, arith}
 use Rattle.it_syntax.specs.Spelling.{AreAll, Stops}
 use Rattle.it_syntax.specs.Fronts.{Run}
 use Rattle.it_syntax.proofs.RunLemmas.{all_more, stops_at, stops_end}

@@ -80,6 +80,12 @@ AreLines n (bytes ∷ more) lines =
 abbrev pub AreLinesOf : List ℕ → List TokenLine → Type 0
 AreLinesOf bytes lines = AreLines 1 (split_lines bytes) lines
 
+-- a line was put behind others, if it has tokens
+abbrev pub Added : ℕ → List ℕ → List TokenLine → List TokenLine → Type 0
+Added n bytes old new =
+    (SpellsUntil 0 (plain bytes) [] None × (new ≡ old))
+    ⊎ ((l : TokenLine) × (new ≡ old ++ l ∷ []) × IsLine n bytes l × HasTokens l)
+
 -- the letters of a line, and of lines one after the other
 abbrev pub line_letters : TokenLine → List Letter
 line_letters l = letters_until l.text l.tokens (last_letter l.misspelling)
