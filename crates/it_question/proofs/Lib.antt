@@ -1,0 +1,4 @@
+pub mod NameAnswers
+pub mod LineAnswers
+pub mod DistinctAnswers
+pub mod TryAnswers
