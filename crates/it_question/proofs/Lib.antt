@@ -2,3 +2,4 @@ pub mod NameAnswers
 pub mod LineAnswers
 pub mod DistinctAnswers
 pub mod TryAnswers
+pub mod RegionAnswers
