@@ -1,8 +1,8 @@
 -- The rates of an `eliminate` line that are spelled so are read, up to the first mark.
-use Rattle.std.proofs.Common.{◌≡◌, ℕ, Bool, true, false, cond, List, [], ◌∷◌, ◌++◌, Option, Some, None, Ok, refl, inl, inr}
+use Rattle.std.proofs.Common.{ℕ, Bool, true, false, cond, List, [], ◌∷◌, ◌++◌, Option, Some, None, Ok, refl, inl, inr}
 use Rattle.it_syntax.specs.declared.types.Symbol.TheVariants.{Comma}
 use Rattle.it_syntax.specs.declared.types.Code.TheVariants as codes
-use Rattle.it_syntax.specs.Letters.{Letter, Word, Sym, Marked, clean, letters}
+use Rattle.it_syntax.specs.Letters.{Word, Sym, Marked, letters}
 use Rattle.it_syntax.specs.Reading.{Reads, ◌>>=◌}
 use Rattle.it_syntax.specs.Trees.{Environment, WrittenList, is_measure, index_or}
 use Rattle.it_question.specs.Trees.{is_among, once_mark, spell_once, spell_once_more, spell_distinct, indexes_of, distinct_of}

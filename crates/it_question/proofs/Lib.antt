@@ -3,3 +3,4 @@ pub mod LineAnswers
 pub mod DistinctAnswers
 pub mod TryAnswers
 pub mod RegionAnswers
+pub mod FileAnswers

@@ -1,14 +1,13 @@
 -- Regions, and a containment of two, that are spelled so are read, up to the first mark.
-use Rattle.std.proofs.Common.{◌≡◌, ℕ, ◌-◌, true, false, List, [], ◌∷◌, length, Option, None, Some, Ok, refl}
-use Rattle.std.specs.Prelude.{bytes_eq}
+use Rattle.std.proofs.Common.{◌≡◌, ℕ, ◌-◌, List, [], ◌∷◌, length, Option, None, Ok, refl}
 use Rattle.it_syntax.specs.Vocabulary.{Vocabulary}
-use Rattle.it_syntax.specs.Letters.{Letter, Word, End, Marked, clean, letters}
-use Rattle.it_syntax.specs.Reading.{Reads, ◌>>=◌, line_end}
+use Rattle.it_syntax.specs.Letters.{Word, End, Marked, clean, letters}
+use Rattle.it_syntax.specs.Reading.{◌>>=◌, line_end}
 use Rattle.it_syntax.specs.Relations.{env_of}
 use Rattle.it_syntax.specs.Trees.{Environment}
-use Rattle.it_question.specs.Keywords.{given_text, row_text, region_text, aux_text, try_text, contain_text}
-use Rattle.it_question.specs.Questions.{Lines, Bounded, Aim, Contains}
-use Rattle.it_question.specs.Trees.{WrittenRegion, WrittenTry, WrittenContainment, Variable, auxiliaries_left, spell_names_line, names_line_of, spell_own, own_of, spell_region, region_of, auxiliary_env, givens_left, rows_left, most_lines, unnamed, spell_tries, tries_of, spell_containment, containment_of}
+use Rattle.it_question.specs.Keywords.{region_text, aux_text, contain_text}
+use Rattle.it_question.specs.Questions.{Bounded, Contains}
+use Rattle.it_question.specs.Trees.{WrittenRegion, WrittenTry, WrittenContainment, Variable, auxiliaries_left, spell_names_line, names_line_of, spell_own, own_of, spell_region, region_of, auxiliary_env, givens_left, rows_left, most_lines, unnamed, spell_tries, tries_of, containment_of}
 use Rattle.it_question.specs.Reading.{behind_word, read_word, read_word_line, read_names_line, read_lines, read_tries, read_region, read_containment}
 use Rattle.it_syntax.proofs.SpelledIsRead.{Answers, answers_ok, answers_cons, answers_bind}
 use Rattle.it_question.proofs.NameAnswers.{names_line_answers}

@@ -1,14 +1,13 @@
 -- `try` lines that are spelled so are read, up to the first mark.
-use Rattle.std.proofs.Common.{◌≡◌, ℕ, zero, suc, ◌-◌, ◌≤◌, ◌<◌, Bool, true, false, cond, List, [], ◌∷◌, Option, Some, None, Ok, Err, refl, sym, ap, ◌∙◌, subst, arith, inl, inr}
-use Rattle.std.specs.Prelude.{is_some}
-use Rattle.it_syntax.specs.declared.types.Symbol.TheVariants.{Comma, Semicolon, Assign}
+use Rattle.std.proofs.Common.{◌≡◌, ℕ, zero, suc, ◌-◌, ◌≤◌, Bool, true, false, cond, List, [], ◌∷◌, Option, Some, None, Ok, Err, refl, sym, ap, subst, arith, inl, inr}
+use Rattle.it_syntax.specs.declared.types.Symbol.TheVariants.{Semicolon, Assign}
 use Rattle.it_syntax.specs.declared.types.Code.TheVariants as codes
 use Rattle.it_syntax.specs.Letters.{Letter, Word, Number, Sym, End, Marked, clean, letters}
 use Rattle.it_syntax.specs.Reading.{Reads, ◌>>=◌, line_end}
-use Rattle.it_syntax.specs.Trees.{Environment, WrittenList, is_measure, index_or}
+use Rattle.it_syntax.specs.Trees.{Environment, is_measure, index_or}
 use Rattle.it_question.specs.Keywords.{try_text}
 use Rattle.it_question.specs.Trees.{WrittenSet, Empty, Listed, WrittenPart, WrittenTry, Sets, unnamed, is_named, with_set, is_whole, sets_of, part_mark, spell_set, set_of, spell_part, with_part, spell_parts, with_parts, whole_mark, spell_try, try_of, try_mark, spell_tries, tries_of}
-use Rattle.it_question.specs.Reading.{behind_word, limited, read_assign, read_set, if_unnamed, auxiliary, read_auxiliary, read_part, read_parts, read_whole, read_try, allowed, try_then, if_tried, read_tries}
+use Rattle.it_question.specs.Reading.{behind_word, read_assign, read_set, if_unnamed, auxiliary, read_auxiliary, read_part, read_parts, read_whole, read_try, allowed, try_then, if_tried, read_tries}
 use Rattle.it_syntax.proofs.SpelledIsRead.{Answers, answers_ok, answers_cons, answers_bind, NoComma, list_answers}
 
 -- ---- how many auxiliaries have no set yet
