@@ -1,3 +1,9 @@
 pub mod PlainLemmas
 pub mod TextLemmas
 pub mod FileLineLemmas
+pub mod NameAnswers
+pub mod LineAnswers
+pub mod DistinctAnswers
+pub mod TryAnswers
+pub mod RegionAnswers
+pub mod FileAnswers
