@@ -1,1 +1,2 @@
 pub mod NameTraces
+pub mod LineTraces
