@@ -1,2 +1,3 @@
 pub mod NameTraces
 pub mod LineTraces
+pub mod DistinctTraces
