@@ -1,3 +1,4 @@
 pub mod NameTraces
 pub mod LineTraces
 pub mod DistinctTraces
+pub mod TryTraces
