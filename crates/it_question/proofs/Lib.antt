@@ -2,3 +2,4 @@ pub mod NameTraces
 pub mod LineTraces
 pub mod DistinctTraces
 pub mod TryTraces
+pub mod RegionTraces
