@@ -3,3 +3,4 @@ pub mod LineTraces
 pub mod DistinctTraces
 pub mod TryTraces
 pub mod RegionTraces
+pub mod FileTraces
