@@ -7,3 +7,9 @@ pub mod DistinctAnswers
 pub mod TryAnswers
 pub mod RegionAnswers
 pub mod FileAnswers
+pub mod NameTraces
+pub mod LineTraces
+pub mod DistinctTraces
+pub mod TryTraces
+pub mod RegionTraces
+pub mod FileTraces
