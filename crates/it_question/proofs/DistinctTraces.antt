@@ -1,44 +1,34 @@
 -- The rates of an `eliminate` line are traced.
-use Rattle.std.proofs.Common.{◌≡◌, ℕ, Bool, true, false, cond, List, [], ◌∷◌, ◌++◌, Option, Some, None, Ok, Err, refl, sym, ap, ◌∙◌, subst, inl, inr}
+use Rattle.std.proofs.Common.{◌≡◌, ℕ, Bool, true, false, cond, List, [], ◌∷◌, ◌++◌, Option, Some, None, Ok, Err, refl, ap, ◌∙◌, inl, inr}
 use Rattle.it_syntax.specs.declared.types.Symbol.TheVariants.{Comma}
 use Rattle.it_syntax.specs.declared.types.Code.{Code}
 use Rattle.it_syntax.specs.declared.types.Code.TheVariants as codes
 use Rattle.it_syntax.specs.Letters.{Letter, Word, Sym, Marked, clean}
-use Rattle.it_syntax.specs.FirstFault.{head, own}
+use Rattle.it_syntax.specs.FirstFault.{own}
 use Rattle.it_syntax.specs.Reading.{Reads, ◌>>=◌}
 use Rattle.it_syntax.specs.Trees.{Environment, WrittenList, is_measure, index_or}
-use Rattle.it_syntax.proofs.Traces.{Went, Stuck, By, Traces, traces_bind, traces_map}
+use Rattle.it_syntax.proofs.Traces.{Stuck, By, Traces, traces_bind, traces_map}
 use Rattle.it_syntax.proofs.AtomTraces.{begun, empty, stuck_here, stuck_none}
 use Rattle.it_question.specs.Trees.{is_among, once_mark, spell_once, spell_once_more, spell_distinct, indexes_of, distinct_of}
 use Rattle.it_question.specs.Reading.{if_unseen, once, read_once, read_once_more, read_distinct}
-use Rattle.it_question.proofs.NameTraces.{marked_here, nothing_read}
-
-some_name : List ℕ
-some_name = 88 ∷ []
-
-abbrev number_of : Environment → List ℕ → ℕ
-number_of env w = index_or (env w)
+use Rattle.it_question.proofs.NameTraces.{some_name, number_of, IsJudged, marked_here, nothing_read}
 
 -- ---- a rate
 
--- how a word reads: whether it is a measure, which rate it is, and whether that was named
-abbrev pub Reading : Environment → List ℕ → List ℕ → Bool → Option ℕ → Type 0
-Reading env seen w h o = (is_measure w ≡ h) × (env w ≡ o)
-
-once_is : (env : Environment) (seen : List ℕ) (w : List ℕ) (h : Bool) (o : Option ℕ) → Reading env seen w h o → (ls : List Letter) → read_once env seen (Word w ∷ ls) ≡ once h seen o w ls
+once_is : (env : Environment) (seen : List ℕ) (w : List ℕ) (h : Bool) (o : Option ℕ) → IsJudged env w h o → (ls : List Letter) → read_once env seen (Word w ∷ ls) ≡ once h seen o w ls
 unfolding read_once
 once_is env seen w h o e ls = ap (λ (b : Bool). once b seen (env w) w ls) e.0 ∙ ap (λ (p : Option ℕ). once h seen p w ls) e.1
 
-mark_is : (env : Environment) (seen : List ℕ) (w : List ℕ) (h : Bool) (o : Option ℕ) → Reading env seen w h o → (k : Marked) → spell_once env seen w k ≡ (Word w, once_mark h seen o) ∷ k
+mark_is : (env : Environment) (seen : List ℕ) (w : List ℕ) (h : Bool) (o : Option ℕ) → IsJudged env w h o → (k : Marked) → spell_once env seen w k ≡ (Word w, once_mark h seen o) ∷ k
 mark_is env seen w h o e k = ap (λ (b : Bool). (Word w, once_mark b seen (env w)) ∷ k) e.0 ∙ ap (λ (p : Option ℕ). (Word w, once_mark h seen p) ∷ k) e.1
 
-known_is : (env : Environment) (seen : List ℕ) (w : List ℕ) (i : ℕ) (b : Bool) → Reading env seen w false (Some i) → is_among seen i ≡ b → (ls : List Letter) → read_once env seen (Word w ∷ ls) ≡ if_unseen i w b ls (Word w ∷ ls)
+known_is : (env : Environment) (seen : List ℕ) (w : List ℕ) (i : ℕ) (b : Bool) → IsJudged env w false (Some i) → is_among seen i ≡ b → (ls : List Letter) → read_once env seen (Word w ∷ ls) ≡ if_unseen i w b ls (Word w ∷ ls)
 known_is env seen w i b e eb ls = once_is env seen w false (Some i) e ls ∙ ap (λ (x : Bool). if_unseen i w x ls (Word w ∷ ls)) eb
 
-known_mark : (env : Environment) (seen : List ℕ) (w : List ℕ) (i : ℕ) (b : Bool) → Reading env seen w false (Some i) → is_among seen i ≡ b → (k : Marked) → spell_once env seen w k ≡ (Word w, cond b (Some codes.Twice) None) ∷ k
+known_mark : (env : Environment) (seen : List ℕ) (w : List ℕ) (i : ℕ) (b : Bool) → IsJudged env w false (Some i) → is_among seen i ≡ b → (k : Marked) → spell_once env seen w k ≡ (Word w, cond b (Some codes.Twice) None) ∷ k
 known_mark env seen w i b e eb k = mark_is env seen w false (Some i) e k ∙ ap (λ (x : Bool). (Word w, cond x (Some codes.Twice) None) ∷ k) eb
 
-known_by : (env : Environment) (seen : List ℕ) (w : List ℕ) (ls : List Letter) (i : ℕ) (b : Bool) → Reading env seen w false (Some i) → is_among seen i ≡ b → By (read_once env seen) (spell_once env seen) (number_of env) (Word w ∷ ls) (if_unseen i w b ls (Word w ∷ ls))
+known_by : (env : Environment) (seen : List ℕ) (w : List ℕ) (ls : List Letter) (i : ℕ) (b : Bool) → IsJudged env w false (Some i) → is_among seen i ≡ b → By (read_once env seen) (spell_once env seen) (number_of env) (Word w ∷ ls) (if_unseen i w b ls (Word w ∷ ls))
 known_by env seen w ls i true e eb = marked_here (read_once env seen) (spell_once env seen) w (Word w) ls codes.Twice (λ k. k) (known_mark env seen w i true e eb) (known_is env seen w i true e eb)
 known_by env seen w ls i false e eb = record {
   tree = w;
@@ -49,7 +39,7 @@ known_by env seen w ls i false e eb = record {
   stays = λ s h. known_is env seen w i false e eb s;
 }
 
-once_by : (env : Environment) (seen : List ℕ) (w : List ℕ) (ls : List Letter) (h : Bool) (o : Option ℕ) → Reading env seen w h o → By (read_once env seen) (spell_once env seen) (number_of env) (Word w ∷ ls) (once h seen o w ls)
+once_by : (env : Environment) (seen : List ℕ) (w : List ℕ) (ls : List Letter) (h : Bool) (o : Option ℕ) → IsJudged env w h o → By (read_once env seen) (spell_once env seen) (number_of env) (Word w ∷ ls) (once h seen o w ls)
 once_by env seen w ls true o e = marked_here (read_once env seen) (spell_once env seen) w (Word w) ls codes.Word (λ k. k) (mark_is env seen w true o e) (once_is env seen w true o e)
 once_by env seen w ls false None e = marked_here (read_once env seen) (spell_once env seen) w (Word w) ls codes.Name (λ k. k) (mark_is env seen w false None e) (once_is env seen w false None e)
 once_by env seen w ls false (Some i) e = known_by env seen w ls i (is_among seen i) e refl
@@ -85,7 +75,7 @@ more_marked env seen w ls c h e = record {
 }
 
 -- what further rates tell behind a rate
-more_known : (env : Environment) (seen : List ℕ) (w : List ℕ) (ls : List Letter) (i : ℕ) → Reading env seen w false (Some i) → is_among seen i ≡ false → (t : Reads (List ℕ)) → By (read_once_more env (seen ++ i ∷ [])) (spell_once_more env (seen ++ i ∷ [])) (indexes_of env) ls t
+more_known : (env : Environment) (seen : List ℕ) (w : List ℕ) (ls : List Letter) (i : ℕ) → IsJudged env w false (Some i) → is_among seen i ≡ false → (t : Reads (List ℕ)) → By (read_once_more env (seen ++ i ∷ [])) (spell_once_more env (seen ++ i ∷ [])) (indexes_of env) ls t
     → By (read_once_more env seen) (spell_once_more env seen) (indexes_of env) (Sym Comma ∷ Word w ∷ ls) (behind_rate i t)
 more_known env seen w ls i e eb (Ok x) b = record {
   tree = w ∷ b.tree;
@@ -107,12 +97,12 @@ more_known env seen w ls i e eb (Err x) b = record {
 abbrev Behind : Environment → List ℕ → List Letter → Type 0
 Behind env seen ls = (i : ℕ) → By (read_once_more env (seen ++ i ∷ [])) (spell_once_more env (seen ++ i ∷ [])) (indexes_of env) ls (read_once_more env (seen ++ i ∷ []) ls)
 
-more_seen : (env : Environment) (seen : List ℕ) (w : List ℕ) (ls : List Letter) (i : ℕ) (b : Bool) → Reading env seen w false (Some i) → is_among seen i ≡ b → Behind env seen ls
+more_seen : (env : Environment) (seen : List ℕ) (w : List ℕ) (ls : List Letter) (i : ℕ) (b : Bool) → IsJudged env w false (Some i) → is_among seen i ≡ b → Behind env seen ls
     → By (read_once_more env seen) (spell_once_more env seen) (indexes_of env) (Sym Comma ∷ Word w ∷ ls) (with_rate env seen ls (if_unseen i w b ls (Word w ∷ ls)))
 more_seen env seen w ls i true e eb h = more_marked env seen w ls codes.Twice (known_mark env seen w i true e eb) (known_is env seen w i true e eb)
 more_seen env seen w ls i false e eb h = more_known env seen w ls i e eb (read_once_more env (seen ++ i ∷ []) ls) (h i)
 
-more_by : (env : Environment) (seen : List ℕ) (w : List ℕ) (ls : List Letter) (h : Bool) (o : Option ℕ) → Reading env seen w h o → Behind env seen ls
+more_by : (env : Environment) (seen : List ℕ) (w : List ℕ) (ls : List Letter) (h : Bool) (o : Option ℕ) → IsJudged env w h o → Behind env seen ls
     → By (read_once_more env seen) (spell_once_more env seen) (indexes_of env) (Sym Comma ∷ Word w ∷ ls) (with_rate env seen ls (once h seen o w ls))
 more_by env seen w ls true o e h = more_marked env seen w ls codes.Word (mark_is env seen w true o e) (once_is env seen w true o e)
 more_by env seen w ls false None e h = more_marked env seen w ls codes.Name (mark_is env seen w false None e) (once_is env seen w false None e)

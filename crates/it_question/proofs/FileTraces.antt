@@ -1,5 +1,5 @@
 -- Questions and files are traced.
-use Rattle.std.proofs.Common.{◌≡◌, ℕ, zero, suc, ◌-◌, Bool, true, false, cond, List, [], ◌∷◌, Option, Some, None, Ok, Err, refl, sym, ap, ◌∙◌, subst, arith}
+use Rattle.std.proofs.Common.{◌≡◌, ℕ, zero, suc, ◌-◌, Bool, true, false, cond, List, [], ◌∷◌, Option, None, Ok, Err, refl, sym, ap, ◌∙◌, subst, arith}
 use Rattle.std.specs.Prelude.{bytes_eq}
 use Rattle.std.proofs.lemmas.Slice.Eq.{bytes_eq-Decides}
 use Rattle.it_syntax.specs.declared.types.Code.TheVariants as codes
@@ -12,7 +12,7 @@ use Rattle.it_syntax.specs.Trees.{WrittenList}
 use Rattle.it_syntax.specs.Comparisons.{WrittenComparison, spell_comparison, comparison_of}
 use Rattle.it_syntax.specs.ComparisonLines.{scope_of}
 use Rattle.it_syntax.specs.ComparisonReading.{read_comparison}
-use Rattle.it_syntax.proofs.Traces.{Went, Stuck, By, Traces, traces_bind, traces_map, letter_then, switch, renamed}
+use Rattle.it_syntax.proofs.Traces.{By, Traces, traces_bind, traces_map, letter_then, switch, renamed}
 use Rattle.it_syntax.proofs.AtomTraces.{stuck_here, stuck_none}
 use Rattle.it_syntax.proofs.ComparisonTraces.{comparison_traces}
 use Rattle.it_question.specs.Lines.{file_end}
@@ -20,7 +20,7 @@ use Rattle.it_question.specs.Keywords.{vars_text, rates_text, region_text, prove
 use Rattle.it_question.specs.Questions.{Lines, Aim, Proves, Eliminates, Posed}
 use Rattle.it_question.specs.Trees.{WrittenLine, WrittenAim, Proving, Eliminating, Containing, WrittenQuestion, Variable, Rate, no_names, most_questions, most_variables, most_rates, most_lines, spell_new_names, new_names_of, spell_names_line, names_line_of, spell_own, own_of, spell_distinct, distinct_of, rates_env, givens_left, rows_left, containment_of, spell_aim, aim_of, spell_question, question_of, spell_questions, questions_of}
 use Rattle.it_question.specs.Reading.{behind_word, read_new_names, read_names_line, read_lines, read_distinct, read_containment, read_proof, read_elimination, read_aim, read_question, read_end, question_then, if_asked, read_questions, read_file}
-use Rattle.it_question.proofs.NameTraces.{ended_traces, marked_here, IsAbsent, at_word, behind_traced, new_names_traces, names_line_traces}
+use Rattle.it_question.proofs.NameTraces.{ended_traces, marked_here, at_word, behind_traced, new_names_traces, names_line_traces}
 use Rattle.it_question.proofs.LineTraces.{some_relation, lines_traces}
 use Rattle.it_question.proofs.DistinctTraces.{distinct_traces}
 use Rattle.it_question.proofs.RegionTraces.{spell_behind_containment, containment_traces}

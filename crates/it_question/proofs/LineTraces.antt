@@ -1,11 +1,10 @@
 -- The `given` and `row` lines are traced.
-use Rattle.std.proofs.Common.{◌≡◌, ◌≤◌, ℕ, zero, suc, ◌+◌, ◌-◌, Bool, true, false, List, [], ◌∷◌, Option, Some, None, Ok, Err, refl, sym, ap, ◌∙◌, subst, arith}
+use Rattle.std.proofs.Common.{◌≡◌, ◌≤◌, ℕ, zero, suc, ◌+◌, ◌-◌, true, false, List, [], ◌∷◌, Option, None, Ok, Err, refl, sym, ap, ◌∙◌, subst, arith}
 use Rattle.it_syntax.specs.declared.types.Code.TheVariants as codes
 use Rattle.it_syntax.specs.declared.types.Sign.TheVariants as signs
 use Rattle.it_syntax.specs.Vocabulary.{Vocabulary}
 use Rattle.it_syntax.specs.Meaning.{Stated}
 use Rattle.it_syntax.specs.Letters.{Letter, Word, End, Marked, clean}
-use Rattle.it_syntax.specs.FirstFault.{head}
 use Rattle.it_syntax.specs.Lines.{to_end}
 use Rattle.it_syntax.specs.Reading.{Reads, ◌>>=◌}
 use Rattle.it_syntax.specs.Comparisons.{WrittenSum, WrittenComparison, Zero, spell_comparison, comparison_of}
@@ -14,24 +13,24 @@ use Rattle.it_syntax.specs.ComparisonReading.{read_comparison}
 use Rattle.it_syntax.specs.Conditions.{WrittenCondition, Compared, spell_condition, condition_of}
 use Rattle.it_syntax.specs.ConditionReading.{read_condition}
 use Rattle.it_syntax.specs.Givens.{Condition}
-use Rattle.it_syntax.proofs.Traces.{Went, Stuck, By, Traces, traces_bind, traces_map}
+use Rattle.it_syntax.proofs.Traces.{By, Traces, traces_bind, traces_map}
 use Rattle.it_syntax.proofs.ComparisonTraces.{comparison_traces}
 use Rattle.it_syntax.proofs.ConditionTraces.{condition_traces}
 use Rattle.it_question.specs.Keywords.{given_text, row_text}
 use Rattle.it_question.specs.Questions.{Lines}
-use Rattle.it_question.specs.Trees.{WrittenLine, GivenLine, RowLine, limit_mark, spell_own, no_lines, own_of}
+use Rattle.it_question.specs.Trees.{WrittenLine, GivenLine, RowLine, spell_own, no_lines, own_of}
 use Rattle.it_question.specs.Reading.{behind_word, limited, given_then, row_then, by_keyword, read_own, read_lines}
-use Rattle.it_question.proofs.NameTraces.{ended_traces, marked_here, nothing_read, IsAbsent, word_behind, at_word, behind_traced}
+use Rattle.it_question.proofs.NameTraces.{ended_traces, marked_here, nothing_read, word_behind, at_word, behind_traced}
 
-zero_sum : WrittenSum
+abbrev zero_sum : WrittenSum
 zero_sum = record { sign = None; first = Zero; more = [] }
 
 -- a relation that goes on where one is missing
-pub some_relation : WrittenComparison
+abbrev pub some_relation : WrittenComparison
 some_relation = record { left = zero_sum; sign = signs.Equal; right = zero_sum }
 
 some_condition : WrittenCondition
-some_condition = Compared (record { relation = record { left = record { sign = None; first = Zero; more = [] }; sign = signs.Equal; right = record { sign = None; first = Zero; more = [] } }; plain = refl })
+some_condition = Compared (record { relation = some_relation; plain = refl })
 
 -- ---- a line, and the lines behind it
 
@@ -96,7 +95,7 @@ at_keywords : (f h : List Letter → List Letter → Reads Lines) (g r : ℕ) (v
     → By (by_words f h) (spell_own g r v) (own_of v) ls (by_words f h ls)
 at_keywords f h g r v ls given row = at_word given_text (by_words f h) (spell_own g r v) (own_of v) ls given
     (λ a. at_word row_text (by_words f h) (spell_own g r v) (own_of v) ls row
-      (λ b. nothing_read (by_words f h) (spell_own g r v) (own_of v) [] ls (λ k. refl) (λ s e. none_stands f h s (a s e) (b s e))))
+    (λ b. nothing_read (by_words f h) (spell_own g r v) (own_of v) [] ls (λ k. refl) (λ s e. none_stands f h s (a s e) (b s e))))
 
 -- ---- lines one after the other
 
@@ -145,6 +144,7 @@ own_traces (suc n) g r v h ls = at_keywords (givens_by n g r v) (rows_by n g r v
     (λ behind. given_by n g r v behind (λ (p : 1 ≤ g). own_traces n (g - 1) r v (omega (arith, h, p))))
     (λ behind. row_by n g r v behind (λ (p : 1 ≤ r). own_traces n g (r - 1) v (omega (arith, h, p))))
 
+-- and with no more lines than are allowed
 pub lines_traces : (g r : ℕ) (v : Vocabulary) → Traces (read_lines g r v) (spell_own g r v) (own_of v)
 unfolding read_lines
 lines_traces g r v = own_traces (g + r) g r v (omega arith)

@@ -7,11 +7,11 @@ use Rattle.it_syntax.specs.declared.types.Code.{Code}
 use Rattle.it_syntax.specs.declared.types.Code.TheVariants as codes
 use Rattle.it_syntax.specs.Vocabulary.{Vocabulary}
 use Rattle.it_syntax.specs.Letters.{Letter, Word, Sym, End, Marked, clean}
-use Rattle.it_syntax.specs.FirstFault.{head, own}
+use Rattle.it_syntax.specs.FirstFault.{head}
 use Rattle.it_syntax.specs.Lines.{to_end}
 use Rattle.it_syntax.specs.Reading.{Reads, ◌>>=◌, line_end}
-use Rattle.it_syntax.specs.Trees.{WrittenList, is_measure}
-use Rattle.it_syntax.proofs.Traces.{Went, Stuck, By, Traces, traces_bind, traces_map, letter_then}
+use Rattle.it_syntax.specs.Trees.{Environment, WrittenList, is_measure, index_or}
+use Rattle.it_syntax.proofs.Traces.{Stuck, By, Traces, traces_bind, traces_map, letter_then}
 use Rattle.it_syntax.proofs.AtomTraces.{begun, empty, stuck_here, stuck_none}
 use Rattle.it_syntax.proofs.RelationLemmas.{spell_end, nothing, end_traces}
 use Rattle.it_question.specs.Trees.{Sort, with_name, is_taken, new_mark, spell_new, spell_new_more, spell_new_names, with_names, new_names_of, spell_names_line, names_line_of}
@@ -41,6 +41,20 @@ pub nothing_read : {A X : Type 0} (f : List Letter → Reads A) (spell : X → M
     → ((k : Marked) → spell tree k ≡ k) → ((s : List Letter) → head s ≡ head ls → f s ≡ Ok (value tree, s)) → By f spell value ls (f ls)
 nothing_read {A} f spell value tree ls h stays = subst (λ (t : Reads A). By f spell value ls t) (sym (stays ls refl))
     (record { tree = tree; front = []; value = refl; parts = refl; spells = h; stays = stays })
+
+-- ---- names
+
+-- a name that goes on where one is missing
+pub some_name : List ℕ
+some_name = 88 ∷ []
+
+-- the number of a name; 0 stands in for one that is unknown
+abbrev pub number_of : Environment → List ℕ → ℕ
+number_of env w = index_or (env w)
+
+-- whether a word is a measure, and which number it has as a name
+abbrev pub IsJudged : Environment → List ℕ → Bool → Option ℕ → Type 0
+IsJudged env w h o = (is_measure w ≡ h) × (env w ≡ o)
 
 -- ---- words
 
@@ -101,9 +115,6 @@ behind_traced {A} text f g spell_z spell_x value_z value_x make behind is spells
     (letter_then f g (Word text) spell_z spell_x value_z value_x make behind is spells values (g behind) (traces behind))
 
 -- ---- new names
-
-some_name : List ℕ
-some_name = 88 ∷ []
 
 new_is : (sort : Sort) (n : ℕ) (v : Vocabulary) (w : List ℕ) (h t : Bool) → is_measure w ≡ h → is_taken v w ≡ t → (ls : List Letter) → read_new sort n v (Word w ∷ ls) ≡ newly sort n v w h t ls
 unfolding read_new
@@ -186,7 +197,7 @@ pub names_line_traces : (sort : Sort) (n : ℕ) (keyword : List ℕ) (v : Vocabu
 unfolding read_names_line
 names_line_traces sort n keyword v ls = at_word keyword (read_names_line sort n keyword v) (spell_names_line sort n keyword v) (names_line_of sort v) ls
     (λ behind. behind_traced keyword (read_names_line sort n keyword v) (to_end (read_new_names sort n v)) (λ l k. spell_new_names sort n v l (clean End ∷ k)) (spell_names_line sort n keyword v) (new_names_of sort v) (names_line_of sort v) Some behind
-      (λ s. ap (λ (o : Option (List Letter)). if_behind sort n v o (Word keyword ∷ s)) (word_behind keyword s)) (λ z k. refl) (λ z. refl)
-      (ended_traces (read_new_names sort n v) (spell_new_names sort n v) (new_names_of sort v) (new_names_traces sort n v)))
+    (λ s. ap (λ (o : Option (List Letter)). if_behind sort n v o (Word keyword ∷ s)) (word_behind keyword s)) (λ z k. refl) (λ z. refl)
+    (ended_traces (read_new_names sort n v) (spell_new_names sort n v) (new_names_of sort v) (new_names_traces sort n v)))
     (λ h. nothing_read (read_names_line sort n keyword v) (spell_names_line sort n keyword v) (names_line_of sort v) None ls (λ k. refl)
-      (λ s e. ap (λ (o : Option (List Letter)). if_behind sort n v o s) (h s e)))
+    (λ s e. ap (λ (o : Option (List Letter)). if_behind sort n v o s) (h s e)))

@@ -1,5 +1,5 @@
 -- Regions and containment questions are traced.
-use Rattle.std.proofs.Common.{ℕ, ◌-◌, List, [], ◌∷◌, length, Option, Some, None, Ok, Err, refl}
+use Rattle.std.proofs.Common.{ℕ, ◌-◌, List, [], ◌∷◌, length, Option, None, Ok, refl}
 use Rattle.it_syntax.specs.Vocabulary.{Vocabulary}
 use Rattle.it_syntax.specs.Letters.{Letter, Word, End, Marked, clean}
 use Rattle.it_syntax.specs.Reading.{Reads, ◌>>=◌, line_end}

@@ -6,44 +6,34 @@ use Rattle.it_syntax.specs.declared.types.Code.TheVariants as codes
 use Rattle.it_syntax.specs.Letters.{Letter, Word, Number, Sym, End, Marked, clean}
 use Rattle.it_syntax.specs.FirstFault.{head, own}
 use Rattle.it_syntax.specs.Reading.{Reads, ◌>>=◌, read_list, line_end}
-use Rattle.it_syntax.specs.Trees.{Environment, WrittenList, is_measure, index_or, spell_list, list_set}
-use Rattle.it_syntax.proofs.Traces.{Went, Stuck, By, Traces, traces_bind, traces_map, letter_then, switch, renamed}
+use Rattle.it_syntax.specs.Trees.{Environment, is_measure, index_or, spell_list, list_set}
+use Rattle.it_syntax.proofs.Traces.{By, Traces, traces_bind, traces_map, letter_then, switch, renamed}
 use Rattle.it_syntax.proofs.AtomTraces.{begun, empty, stuck_here, stuck_none, list_traces}
 use Rattle.it_syntax.proofs.LetterReaders.{TakesLetter, behind_traces}
 use Rattle.it_question.specs.Keywords.{try_text}
 use Rattle.it_question.specs.Trees.{WrittenSet, Empty, Listed, WrittenPart, WrittenTry, Sets, is_named, with_set, is_whole, sets_of, part_mark, spell_set, set_of, spell_part, with_part, spell_parts, with_parts, whole_mark, spell_try, try_of, try_mark, spell_tries, tries_of}
 use Rattle.it_question.specs.Reading.{behind_word, read_assign, read_set, if_unnamed, auxiliary, read_auxiliary, read_part, read_parts, read_whole, read_try, allowed, try_then, if_tried, read_tries}
-use Rattle.it_question.proofs.NameTraces.{marked_here, nothing_read, IsAbsent, at_word, behind_traced}
+use Rattle.it_question.proofs.NameTraces.{some_name, number_of, IsJudged, marked_here, nothing_read, IsAbsent, at_word, behind_traced}
 
 -- ---- the name of an auxiliary
-
-some_name : List ℕ
-some_name = 88 ∷ []
 
 abbrev pub spell_auxiliary : Environment → Sets → List ℕ → Marked → Marked
 spell_auxiliary aux sets w k = (Word w, part_mark (is_measure w) sets (aux w)) ∷ k
 
-abbrev number_of : Environment → List ℕ → ℕ
-number_of aux w = index_or (aux w)
-
--- whether a word is a measure, and which auxiliary it is
-abbrev Reading : Environment → List ℕ → Bool → Option ℕ → Type 0
-Reading aux w h o = (is_measure w ≡ h) × (aux w ≡ o)
-
-auxiliary_is : (aux : Environment) (sets : Sets) (w : List ℕ) (h : Bool) (o : Option ℕ) → Reading aux w h o → (ls : List Letter) → read_auxiliary aux sets (Word w ∷ ls) ≡ auxiliary h sets o w ls
+auxiliary_is : (aux : Environment) (sets : Sets) (w : List ℕ) (h : Bool) (o : Option ℕ) → IsJudged aux w h o → (ls : List Letter) → read_auxiliary aux sets (Word w ∷ ls) ≡ auxiliary h sets o w ls
 unfolding read_auxiliary
 auxiliary_is aux sets w h o e ls = ap (λ (b : Bool). auxiliary b sets (aux w) w ls) e.0 ∙ ap (λ (p : Option ℕ). auxiliary h sets p w ls) e.1
 
-mark_is : (aux : Environment) (sets : Sets) (w : List ℕ) (h : Bool) (o : Option ℕ) → Reading aux w h o → (k : Marked) → spell_auxiliary aux sets w k ≡ (Word w, part_mark h sets o) ∷ k
+mark_is : (aux : Environment) (sets : Sets) (w : List ℕ) (h : Bool) (o : Option ℕ) → IsJudged aux w h o → (k : Marked) → spell_auxiliary aux sets w k ≡ (Word w, part_mark h sets o) ∷ k
 mark_is aux sets w h o e k = ap (λ (b : Bool). (Word w, part_mark b sets (aux w)) ∷ k) e.0 ∙ ap (λ (p : Option ℕ). (Word w, part_mark h sets p) ∷ k) e.1
 
-known_is : (aux : Environment) (sets : Sets) (w : List ℕ) (i : ℕ) (b : Bool) → Reading aux w false (Some i) → is_named sets i ≡ b → (ls : List Letter) → read_auxiliary aux sets (Word w ∷ ls) ≡ if_unnamed i b ls (Word w ∷ ls)
+known_is : (aux : Environment) (sets : Sets) (w : List ℕ) (i : ℕ) (b : Bool) → IsJudged aux w false (Some i) → is_named sets i ≡ b → (ls : List Letter) → read_auxiliary aux sets (Word w ∷ ls) ≡ if_unnamed i b ls (Word w ∷ ls)
 known_is aux sets w i b e eb ls = auxiliary_is aux sets w false (Some i) e ls ∙ ap (λ (x : Bool). if_unnamed i x ls (Word w ∷ ls)) eb
 
-known_mark : (aux : Environment) (sets : Sets) (w : List ℕ) (i : ℕ) (b : Bool) → Reading aux w false (Some i) → is_named sets i ≡ b → (k : Marked) → spell_auxiliary aux sets w k ≡ (Word w, cond b (Some codes.Twice) None) ∷ k
+known_mark : (aux : Environment) (sets : Sets) (w : List ℕ) (i : ℕ) (b : Bool) → IsJudged aux w false (Some i) → is_named sets i ≡ b → (k : Marked) → spell_auxiliary aux sets w k ≡ (Word w, cond b (Some codes.Twice) None) ∷ k
 known_mark aux sets w i b e eb k = mark_is aux sets w false (Some i) e k ∙ ap (λ (x : Bool). (Word w, cond x (Some codes.Twice) None) ∷ k) eb
 
-known_by : (aux : Environment) (sets : Sets) (w : List ℕ) (ls : List Letter) (i : ℕ) (b : Bool) → Reading aux w false (Some i) → is_named sets i ≡ b → By (read_auxiliary aux sets) (spell_auxiliary aux sets) (number_of aux) (Word w ∷ ls) (if_unnamed i b ls (Word w ∷ ls))
+known_by : (aux : Environment) (sets : Sets) (w : List ℕ) (ls : List Letter) (i : ℕ) (b : Bool) → IsJudged aux w false (Some i) → is_named sets i ≡ b → By (read_auxiliary aux sets) (spell_auxiliary aux sets) (number_of aux) (Word w ∷ ls) (if_unnamed i b ls (Word w ∷ ls))
 known_by aux sets w ls i true e eb = marked_here (read_auxiliary aux sets) (spell_auxiliary aux sets) w (Word w) ls codes.Twice (λ k. k) (known_mark aux sets w i true e eb) (known_is aux sets w i true e eb)
 known_by aux sets w ls i false e eb = record {
   tree = w;
@@ -54,11 +44,12 @@ known_by aux sets w ls i false e eb = record {
   stays = λ s h. known_is aux sets w i false e eb s;
 }
 
-auxiliary_by : (aux : Environment) (sets : Sets) (w : List ℕ) (ls : List Letter) (h : Bool) (o : Option ℕ) → Reading aux w h o → By (read_auxiliary aux sets) (spell_auxiliary aux sets) (number_of aux) (Word w ∷ ls) (auxiliary h sets o w ls)
+auxiliary_by : (aux : Environment) (sets : Sets) (w : List ℕ) (ls : List Letter) (h : Bool) (o : Option ℕ) → IsJudged aux w h o → By (read_auxiliary aux sets) (spell_auxiliary aux sets) (number_of aux) (Word w ∷ ls) (auxiliary h sets o w ls)
 auxiliary_by aux sets w ls true o e = marked_here (read_auxiliary aux sets) (spell_auxiliary aux sets) w (Word w) ls codes.Word (λ k. k) (mark_is aux sets w true o e) (auxiliary_is aux sets w true o e)
 auxiliary_by aux sets w ls false None e = marked_here (read_auxiliary aux sets) (spell_auxiliary aux sets) w (Word w) ls codes.Name (λ k. k) (mark_is aux sets w false None e) (auxiliary_is aux sets w false None e)
 auxiliary_by aux sets w ls false (Some i) e = known_by aux sets w ls i (is_named sets i) e refl
 
+-- an auxiliary that has no set
 pub auxiliary_traces : (aux : Environment) (sets : Sets) → Traces (read_auxiliary aux sets) (spell_auxiliary aux sets) (λ w. index_or (aux w))
 unfolding read_auxiliary
 auxiliary_traces aux sets (Word w ∷ ls) = auxiliary_by aux sets w ls (is_measure w) (aux w) (refl, refl)
