@@ -13,3 +13,4 @@ pub mod DistinctTraces
 pub mod TryTraces
 pub mod RegionTraces
 pub mod FileTraces
+pub mod PlaceLemmas

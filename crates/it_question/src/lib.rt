@@ -5,6 +5,7 @@ mod cursor;
 mod files;
 mod lines;
 mod pieces;
+mod places;
 mod plain;
 mod texts;
 pub mod types;
