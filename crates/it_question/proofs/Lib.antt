@@ -4,3 +4,5 @@ pub mod DistinctAnswers
 pub mod TryAnswers
 pub mod RegionAnswers
 pub mod FileAnswers
+pub mod NameLimits
+pub mod LineLimits
