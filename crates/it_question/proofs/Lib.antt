@@ -6,3 +6,5 @@ pub mod RegionAnswers
 pub mod FileAnswers
 pub mod NameLimits
 pub mod LineLimits
+pub mod RateLimits
+pub mod TryLimits
