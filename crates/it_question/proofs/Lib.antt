@@ -8,3 +8,4 @@ pub mod NameLimits
 pub mod LineLimits
 pub mod RateLimits
 pub mod TryLimits
+pub mod LimitLemmas
