@@ -1,6 +1,6 @@
 -- The questions of a file keep the limits: those that are read, and so those that are spelled where nothing is marked.
-use Rattle.std.proofs.Common.{◌≡◌, ℕ, zero, suc, ◌+◌, ◌-◌, ◌≤◌, Bool, true, false, cond, List, [], ◌∷◌, ◌++◌, length, Option, None, Some, Ok, Err, refl, sym, ap, ◌∙◌, subst, arith, length-append, inl, inr}
-use Rattle.std.specs.Prelude.{All, bytes_eq, min}
+use Rattle.std.proofs.Common.{◌≡◌, ℕ, zero, suc, ◌+◌, ◌-◌, ◌≤◌, Bool, true, false, cond, List, [], ◌∷◌, ◌++◌, length, Option, None, Some, Ok, Err, sym, ap, ◌∙◌, subst, arith, length-append, inl, inr}
+use Rattle.std.specs.Prelude.{All, bytes_eq}
 use Rattle.std.proofs.Math.Nat.{min-le_left, min-le_right}
 use Rattle.std.proofs.lemmas.List.Elements.{All-nil, All-cons}
 use Rattle.it_syntax.specs.declared.types.Code.TheVariants as codes
@@ -14,12 +14,12 @@ use Rattle.it_syntax.specs.ComparisonLines.{scope_of}
 use Rattle.it_syntax.specs.ComparisonReading.{read_comparison}
 use Rattle.it_question.specs.Lines.{file_end}
 use Rattle.it_question.specs.Keywords.{vars_text, rates_text, region_text, aux_text, prove_text, eliminate_text, contain_text}
-use Rattle.it_question.specs.Limits.{AreRatesOf, AreLinesOver, IsRegionOf, IsTryOf, IsAimOver, IsQuestion}
+use Rattle.it_question.specs.Limits.{AreRatesOf, AreLinesOver, IsRegionOf, IsAimOver, IsQuestion}
 use Rattle.it_question.specs.Questions.{Lines, Bounded, Aim, Proves, Eliminates, Contains, Posed}
 use Rattle.it_question.specs.Trees.{Variable, Rate, WrittenQuestion, no_names, most_questions, most_variables, most_rates, most_lines, auxiliaries_left, auxiliary_env, givens_left, rows_left, rates_env, unnamed, spell_questions, questions_of}
 use Rattle.it_question.specs.Reading.{behind_word, read_word, read_word_line, read_new_names, read_names_line, read_lines, read_distinct, read_tries, read_region, read_containment, read_proof, read_elimination, read_aim, read_question, read_end, question_then, if_asked, read_questions, read_file}
-use Rattle.it_syntax.proofs.FirstFaults.{clean_is_clean, letters_cleaned}
-use Rattle.it_syntax.proofs.LimitLemmas.{Sure, sure_bind, Any, any, stuck_sure, knows_names}
+use Rattle.it_syntax.proofs.FirstFaults.{clean_is_clean}
+use Rattle.it_syntax.proofs.LimitLemmas.{Sure, sure_bind, Any, any, knows_names}
 use Rattle.it_question.proofs.FileAnswers.{questions_answers}
 use Rattle.it_question.proofs.NameLimits.{ended_sure, IsGrown, Grows, new_names_sure, names_line_sure}
 use Rattle.it_question.proofs.LineLimits.{OverRelation, relation_sure, AreOwn, Own, lines_sure}
@@ -71,14 +71,14 @@ unfolding read_containment
 containment_sure g r v few_g few_r few ls =
     sure_bind (Region v) (Over v) (read_region g r v ls) (λ first. read_word region_text first.1 >>= λ x. read_region (givens_left g first.0.lines) (rows_left r first.0.lines) v x.1 >>= λ second. read_tries most_lines (auxiliary_env v second.0.names) (env_of first.0.names) (unnamed second.0.auxiliaries) second.1 >>= λ tries. read_word_line contain_text tries.1 >>= λ e. Ok (Contains first.0 second.0 tries.0, e.1)) (region_sure g r v few_g few_r few ls)
     (λ first hf.
-      let givens = givens_left g first.0.lines in
-      let rows = rows_left r first.0.lines in
-      let env = env_of first.0.names in
-      let n = length first.0.names.variables in
-      sure_bind Any (Over v) (read_word region_text first.1) (λ x. read_region givens rows v x.1 >>= λ second. read_tries most_lines (auxiliary_env v second.0.names) env (unnamed second.0.auxiliaries) second.1 >>= λ tries. read_word_line contain_text tries.1 >>= λ e. Ok (Contains first.0 second.0 tries.0, e.1)) (any (read_word region_text first.1))
-      (λ x u. sure_bind (Region v) (Over v) (read_region givens rows v x.1) (λ second. read_tries most_lines (auxiliary_env v second.0.names) env (unnamed second.0.auxiliaries) second.1 >>= λ tries. read_word_line contain_text tries.1 >>= λ e. Ok (Contains first.0 second.0 tries.0, e.1)) (region_sure givens rows v (omega (arith, few_g)) (omega (arith, few_r)) few x.1)
-      (λ second hs. sure_bind (AreTries n most_lines) (Over v) (read_tries most_lines (auxiliary_env v second.0.names) env (unnamed second.0.auxiliaries) second.1) (λ tries. read_word_line contain_text tries.1 >>= λ e. Ok (Contains first.0 second.0 tries.0, e.1)) (tries_sure most_lines (auxiliary_env v second.0.names) env n (knows_names first.0.names) second.0.auxiliaries second.1)
-      (λ tries ht. sure_bind Any (Over v) (read_word_line contain_text tries.1) (λ e. Ok (Contains first.0 second.0 tries.0, e.1)) (any (read_word_line contain_text tries.1)) (λ e w. (hf, hs, ht.0, ht.1))))))
+    let givens = givens_left g first.0.lines in
+    let rows = rows_left r first.0.lines in
+    let env = env_of first.0.names in
+    let n = length first.0.names.variables in
+    sure_bind Any (Over v) (read_word region_text first.1) (λ x. read_region givens rows v x.1 >>= λ second. read_tries most_lines (auxiliary_env v second.0.names) env (unnamed second.0.auxiliaries) second.1 >>= λ tries. read_word_line contain_text tries.1 >>= λ e. Ok (Contains first.0 second.0 tries.0, e.1)) (any (read_word region_text first.1))
+    (λ x u. sure_bind (Region v) (Over v) (read_region givens rows v x.1) (λ second. read_tries most_lines (auxiliary_env v second.0.names) env (unnamed second.0.auxiliaries) second.1 >>= λ tries. read_word_line contain_text tries.1 >>= λ e. Ok (Contains first.0 second.0 tries.0, e.1)) (region_sure givens rows v (omega (arith, few_g)) (omega (arith, few_r)) few x.1)
+    (λ second hs. sure_bind (AreTries n most_lines) (Over v) (read_tries most_lines (auxiliary_env v second.0.names) env (unnamed second.0.auxiliaries) second.1) (λ tries. read_word_line contain_text tries.1 >>= λ e. Ok (Contains first.0 second.0 tries.0, e.1)) (tries_sure most_lines (auxiliary_env v second.0.names) env n (knows_names first.0.names) second.0.auxiliaries second.1)
+    (λ tries ht. sure_bind Any (Over v) (read_word_line contain_text tries.1) (λ e. Ok (Contains first.0 second.0 tries.0, e.1)) (any (read_word_line contain_text tries.1)) (λ e w. (hf, hs, ht.0, ht.1))))))
 
 proof_sure : (v : Vocabulary) (ls : List Letter) → Sure (Over v) (read_proof v ls)
 unfolding read_proof

@@ -1,5 +1,5 @@
 -- `given` and `row` lines that are read keep the limits: constraints over the names, and no more than are allowed.
-use Rattle.std.proofs.Common.{◌≡◌, ℕ, zero, suc, ◌+◌, ◌-◌, ◌≤◌, false, true, List, [], ◌∷◌, length, Option, None, Some, Ok, Err, refl, arith}
+use Rattle.std.proofs.Common.{◌≡◌, ℕ, zero, suc, ◌+◌, ◌-◌, ◌≤◌, false, true, List, ◌∷◌, length, Option, None, Some, Ok, Err, refl, arith}
 use Rattle.std.specs.Prelude.{All}
 use Rattle.std.proofs.lemmas.List.Elements.{All-nil, All-cons}
 use Rattle.it_syntax.specs.declared.types.Code.TheVariants as codes
@@ -82,6 +82,7 @@ own_sure (suc n) g r v ls =
     givens : (a : ℕ) → ((ls : List Letter) → Sure (Own (a - 1) r v) (read_own n (a - 1) r v ls)) → (behind : List Letter) → Sure (Own a r v) (limited a (given_then (read_own n (a - 1) r v) v) behind ls)
     givens zero h behind = tt
     givens (suc a) h behind = given_sure a r v (read_own n (suc a - 1) r v) h behind
+
     rows : (b : ℕ) → ((ls : List Letter) → Sure (Own g (b - 1) v) (read_own n g (b - 1) v ls)) → (behind : List Letter) → Sure (Own g b v) (limited b (row_then (read_own n g (b - 1) v) v) behind ls)
     rows zero h behind = tt
     rows (suc b) h behind = row_sure g b v (read_own n g (suc b - 1) v) h behind

@@ -1,14 +1,14 @@
 -- The rates of an `eliminate` line that are read are rates that there are, each once.
 use Rattle.std.proofs.Common.{◌≡◌, ℕ, ◌<◌, Bool, true, false, List, [], ◌∷◌, ◌++◌, length, Option, None, Some, Ok, refl, sym, ◌∙◌}
 use Rattle.std.specs.Prelude.{All, eqb, ◌||◌, ◌==◌, bytes_eq}
-use Rattle.std.specs.List.{IsDistinct, AllByRecursion, list_any}
+use Rattle.std.specs.List.{IsDistinct, AllByRecursion}
 use Rattle.std.proofs.lemmas.List.Elements.{All-nil, All-cons}
 use Rattle.std.proofs.lemmas.List.Folds.{list_any-append}
 use Rattle.std.proofs.lemmas.List.Quantifiers.{position-Some}
 use Rattle.it_syntax.specs.declared.types.Symbol.TheVariants.{Comma}
 use Rattle.it_syntax.specs.Vocabulary.{Vocabulary}
 use Rattle.it_syntax.specs.Letters.{Letter, Word, Sym, Bad}
-use Rattle.it_syntax.specs.Reading.{Reads, ◌>>=◌}
+use Rattle.it_syntax.specs.Reading.{◌>>=◌}
 use Rattle.it_syntax.specs.Trees.{Environment, is_measure}
 use Rattle.it_question.specs.Limits.{AreRatesOf}
 use Rattle.it_question.specs.Trees.{is_among, rates_env}

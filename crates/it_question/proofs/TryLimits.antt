@@ -1,9 +1,9 @@
 -- `try` lines that are read keep the limits: four sets of the variables, and no more lines than are allowed.
-use Rattle.std.proofs.Common.{◌≡◌, ℕ, zero, suc, ◌≤◌, ◌<◌, ◌^◌, Bool, true, false, List, [], ◌∷◌, length, Option, None, Some, Ok, refl, sym, ap, ◌∙◌, subst, arith}
-use Rattle.std.specs.Prelude.{All, map}
+use Rattle.std.proofs.Common.{◌≡◌, ℕ, zero, suc, ◌≤◌, ◌<◌, ◌^◌, Bool, true, false, List, [], ◌∷◌, length, Option, None, Some, Ok, refl, ap, ◌∙◌, arith}
+use Rattle.std.specs.Prelude.{All}
 use Rattle.std.proofs.lemmas.List.{length-map}
 use Rattle.std.proofs.lemmas.List.Elements.{All-nil, All-cons, All-head, All-tail, All-map}
-use Rattle.it_syntax.specs.Letters.{Letter, Word, Number}
+use Rattle.it_syntax.specs.Letters.{Letter, Number}
 use Rattle.it_syntax.specs.declared.types.Symbol.TheVariants.{Semicolon}
 use Rattle.it_syntax.specs.Letters.{Sym}
 use Rattle.it_syntax.specs.Reading.{Reads, ◌>>=◌}
@@ -27,10 +27,13 @@ unnamed_within n k = four k
   where
     none : IsWithin n None
     none = some_sets n
+
     empty : IsWithin n (Some 0)
     empty = some_sets n
+
     of_four : (a b c d : Option ℕ) → IsWithin n a → IsWithin n b → IsWithin n c → IsWithin n d → AreWithin n (a ∷ b ∷ c ∷ d ∷ [])
     of_four a b c d ha hb hc hd = record { four = refl; within = All-cons (IsWithin n) a (b ∷ c ∷ d ∷ []) ha (All-cons (IsWithin n) b (c ∷ d ∷ []) hb (All-cons (IsWithin n) c (d ∷ []) hc (All-cons (IsWithin n) d [] hd (All-nil (IsWithin n))))) }
+
     four : (k : ℕ) → AreWithin n (unnamed k)
     four zero = of_four (Some 0) (Some 0) (Some 0) (Some 0) empty empty empty empty
     four (suc zero) = of_four None (Some 0) (Some 0) (Some 0) none empty empty empty
