@@ -109,20 +109,23 @@ aim_sure g r v few_g few_r few (l ∷ ls) = tt
 abbrev Asks : Posed × List Letter → Type 0
 Asks x = IsQuestion x.0
 
+-- rates leave the variables as they are
+declared : (variables names : Vocabulary) (hv : IsGrown Variable 1 8 no_names variables) → IsGrown Rate 0 16 variables names → names.variables ≡ hv.own
+declared variables names hv hn = ap (λ (w : Vocabulary). w.variables) hn.is ∙ ap (λ (w : Vocabulary). w.variables) hv.is
+
+few_variables : (variables names : Vocabulary) → IsGrown Variable 1 8 no_names variables → IsGrown Rate 0 16 variables names → length names.variables ≤ 8
+few_variables variables names hv hn = subst (λ (ws : List (List ℕ)). length ws ≤ 8) (sym (declared variables names hv hn)) hv.few
+
 question_over : (variables names : Vocabulary) (own : Lines) (aim : Aim) → IsGrown Variable 1 8 no_names variables → IsGrown Rate 0 16 variables names → AreLinesOver names own → IsAimOver names aim → IsQuestion (record { names = names; lines = own; aim = aim })
 question_over variables names own aim hv hn lines over =
-    let declared : names.variables ≡ hv.own = ap (λ (w : Vocabulary). w.variables) hn.is ∙ ap (λ (w : Vocabulary). w.variables) hv.is in
     let rated : names.rates ≡ hn.own = ap (λ (w : Vocabulary). w.rates) hn.is ∙ ap (λ (w : Vocabulary). w.rates ++ hn.own) hv.is in
     record {
-      some = subst (λ (ws : List (List ℕ)). 1 ≤ length ws) (sym declared) hv.some;
-      few = subst (λ (ws : List (List ℕ)). length ws ≤ 8) (sym declared) hv.few;
+      some = subst (λ (ws : List (List ℕ)). 1 ≤ length ws) (sym (declared variables names hv hn)) hv.some;
+      few = few_variables variables names hv hn;
       few_rates = subst (λ (ws : List (List ℕ)). length ws ≤ 16) (sym rated) hn.few;
       lines = lines;
       aim = over;
     }
-
-few_variables : (variables names : Vocabulary) → IsGrown Variable 1 8 no_names variables → IsGrown Rate 0 16 variables names → length names.variables ≤ 8
-few_variables variables names hv hn = subst (λ (ws : List (List ℕ)). length ws ≤ 8) (sym (ap (λ (w : Vocabulary). w.variables) hn.is ∙ ap (λ (w : Vocabulary). w.variables) hv.is)) hv.few
 
 question_sure : (ls : List Letter) → Sure Asks (read_question ls)
 unfolding read_question

@@ -3,9 +3,8 @@ use Rattle.std.proofs.Common.{◌≡◌, ℕ, zero, suc, ◌≤◌, ◌<◌, ◌
 use Rattle.std.specs.Prelude.{All}
 use Rattle.std.proofs.lemmas.List.{length-map}
 use Rattle.std.proofs.lemmas.List.Elements.{All-nil, All-cons, All-head, All-tail, All-map}
-use Rattle.it_syntax.specs.Letters.{Letter, Number}
+use Rattle.it_syntax.specs.Letters.{Letter, Number, Sym}
 use Rattle.it_syntax.specs.declared.types.Symbol.TheVariants.{Semicolon}
-use Rattle.it_syntax.specs.Letters.{Sym}
 use Rattle.it_syntax.specs.Reading.{Reads, ◌>>=◌}
 use Rattle.it_syntax.specs.Trees.{Environment}
 use Rattle.it_question.specs.Keywords.{try_text}
