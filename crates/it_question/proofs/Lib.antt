@@ -19,3 +19,5 @@ pub mod LineLimits
 pub mod RateLimits
 pub mod TryLimits
 pub mod LimitLemmas
+pub mod NewNameLemmas
+pub mod CarryLemmas

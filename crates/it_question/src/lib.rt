@@ -4,10 +4,13 @@
 mod cursor;
 mod files;
 mod lines;
+mod names;
 mod pieces;
 mod places;
 mod plain;
+mod sorts;
 mod texts;
 pub mod types;
+mod words;
 
 pub use files::questions;
