@@ -1,3 +1,6 @@
+pub mod PlainLemmas
+pub mod TextLemmas
+pub mod FileLineLemmas
 pub mod NameAnswers
 pub mod LineAnswers
 pub mod DistinctAnswers
@@ -9,3 +12,9 @@ pub mod LineLimits
 pub mod RateLimits
 pub mod TryLimits
 pub mod LimitLemmas
+pub mod NameTraces
+pub mod LineTraces
+pub mod DistinctTraces
+pub mod TryTraces
+pub mod RegionTraces
+pub mod FileTraces

@@ -1,4 +1,5 @@
 pub mod Lines
+pub mod Cursors
 pub mod Questions
 pub mod Keywords
 pub mod Trees

@@ -1,0 +1,30 @@
+//! The pieces of a file, one after the other.
+ghost use Rattle.std.specs.Prelude.{◌≡◌, [], map, Option};
+ghost use Rattle.it_question.specs.Cursors.{token_line, left, with_letter};
+ghost use Rattle.it_question.specs.Lines.{letters_of_lines};
+
+use crate::cursor::{Cursor, Line};
+use it_syntax::rest::{Piece, Rest};
+
+impl<'a> Cursor<'a> {
+    /// At the first of some lines.
+    #[tactic(auto, unfolding(crate::specs::Cursors::left))]
+    pub fn at(lines: &'a [Line]) -> Cursor<'a>
+        ensures { left result ≡ letters_of_lines (map token_line lines.entry.now) }
+    {
+        match lines {
+            [first, behind @ ..] => Cursor {
+                rest: Some(Rest {
+                    line: first.text.as_slice(),
+                    tokens: first.tokens.tokens.as_slice(),
+                    misspelling: first.tokens.misspelling,
+                }),
+                behind,
+            },
+            [] => Cursor {
+                rest: None,
+                behind: lines,
+            },
+        }
+    }
+}
