@@ -7,6 +7,11 @@ pub mod DistinctAnswers
 pub mod TryAnswers
 pub mod RegionAnswers
 pub mod FileAnswers
+pub mod NameLimits
+pub mod LineLimits
+pub mod RateLimits
+pub mod TryLimits
+pub mod LimitLemmas
 pub mod NameTraces
 pub mod LineTraces
 pub mod DistinctTraces
