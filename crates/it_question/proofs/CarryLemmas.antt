@@ -34,14 +34,18 @@ then_end r = r >>= λ x. line_end x.1 >>= λ e. Ok (x.0, e.1)
 abbrev whole : {A : Type 0} → A → List Letter → Reads A
 whole x r = Ok (x, r)
 
+ok_is : {A : Type 0} (p q : A × List Letter) → whole p.0 p.1 ≡ whole q.0 q.1 → p ≡ q
+ok_is p q e = cc
+
 ended_value : {A X : Type 0} (f : List Letter → Reads A) (spell : X → Marked → Marked) (value : X → A) → Traces f spell value
     → (ls more : List Letter) (x : A) (t : Reads A) → f ls ≡ t → then_end t ≡ whole x [] → then_end (f (ls ++ more)) ≡ whole x more
 unfolding line_end
 ended_value f spell value traces ls more x (Err e) h g = absurd cc
 ended_value f spell value traces ls more x (Ok (y, [])) h g = absurd cc
 ended_value {A} f spell value traces ls more x (Ok (y, End ∷ r)) h g =
-    let none : r ≡ [] = cc in
-    let same : y ≡ x = cc in
+    let pair = ok_is (y, r) (x, []) g in
+    let none : r ≡ [] = ap (λ (p : A × List Letter). p.1) pair in
+    let same : y ≡ x = ap (λ (p : A × List Letter). p.0) pair in
     ap then_end (carried f spell value traces ls more y End r h) ∙ ap (λ (t : List Letter). whole y (t ++ more)) none ∙ ap (λ (z : A). whole z more) same
 ended_value f spell value traces ls more x (Ok (y, Word w ∷ r)) h g = absurd cc
 ended_value f spell value traces ls more x (Ok (y, Number n ∷ r)) h g = absurd cc

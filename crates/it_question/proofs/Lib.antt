@@ -19,10 +19,5 @@ pub mod TryTraces
 pub mod RegionTraces
 pub mod FileTraces
 pub mod PlaceLemmas
-pub mod NameLimits
-pub mod LineLimits
-pub mod RateLimits
-pub mod TryLimits
-pub mod LimitLemmas
 pub mod NewNameLemmas
 pub mod CarryLemmas
