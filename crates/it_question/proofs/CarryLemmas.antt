@@ -1,10 +1,17 @@
 -- What a reader gives on the letters of a line it gives on those of a file, behind which more letters stand.
-use Rattle.std.proofs.Common.{◌≡◌, List, [], ◌∷◌, ◌++◌, Some, Result, Ok, Err, refl, sym, ap, ◌∙◌, subst, append_assoc}
+use Rattle.std.proofs.Common.{◌≡◌, ℕ, List, [], ◌∷◌, ◌++◌, Some, Result, Ok, Err, refl, sym, ap, ◌∙◌, subst, append_assoc}
 use Rattle.it_syntax.specs.declared.types.Code.{Code}
-use Rattle.it_syntax.specs.Letters.{Letter, Word, Number, Sym, End, Bad, Marked}
+use Rattle.it_syntax.specs.declared.types.Token.{Token}
+use Rattle.it_syntax.specs.declared.rest.Rest.{Rest}
+use Rattle.it_syntax.specs.declared.rest.Stop.{Stop}
+use Rattle.it_syntax.specs.declared.rest.Stop.TheVariants as stops
+use Rattle.it_syntax.specs.Letters.{Letter, Word, Number, Sym, End, Bad, Marked, clean}
+use Rattle.it_syntax.specs.Spans.{letter_of, letters_until, last_letter}
+use Rattle.it_syntax.specs.Gives.{left, GivesBy, GivesAll, StopsAs}
 use Rattle.it_syntax.specs.Lines.{to_end}
 use Rattle.it_syntax.specs.Reading.{Fault, Reads, ◌>>=◌, line_end}
 use Rattle.it_syntax.proofs.Traces.{Went, Stuck, By, Traces}
+use Rattle.it_question.proofs.NameTraces.{ended_traces}
 
 by_at : {A X : Type 0} (f : List Letter → Reads A) (spell : X → Marked → Marked) (value : X → A) → Traces f spell value → (ls : List Letter) (t : Reads A) → f ls ≡ t → By f spell value ls t
 by_at f spell value traces ls t e = subst (λ (u : Reads _). By f spell value ls u) e (traces ls)
@@ -34,6 +41,9 @@ then_end r = r >>= λ x. line_end x.1 >>= λ e. Ok (x.0, e.1)
 abbrev whole : {A : Type 0} → A → List Letter → Reads A
 whole x r = Ok (x, r)
 
+abbrev stopped : {A : Type 0} → Code → List Letter → Reads A
+stopped c r = Err (c, r)
+
 ok_is : {A : Type 0} (p q : A × List Letter) → whole p.0 p.1 ≡ whole q.0 q.1 → p ≡ q
 ok_is p q e = cc
 
@@ -57,3 +67,33 @@ pub carried_line : {A X : Type 0} (f : List Letter → Reads A) (spell : X → M
     → (ls more : List Letter) (x : A) → to_end f ls ≡ Ok (x, []) → to_end f (ls ++ more) ≡ Ok (x, more)
 unfolding to_end
 carried_line f spell value traces ls more x e = ended_value f spell value traces ls more x (f ls) refl e
+
+-- ---- the code's readers
+
+-- a line's letters, and the first of them
+first_letter : (line : List ℕ) (ts : List Token) (last : Letter) → (l : Letter) × ((r : List Letter) × (letters_until line ts last ≡ l ∷ r))
+first_letter line [] last = (last, ([], refl))
+first_letter line (t ∷ ts) last = (letter_of line t.start t.end t.kind, (letters_until line ts last, refl))
+
+-- a part of a line was read
+pub gives_carried : {A X Y : Type 0} (f : List Letter → Reads A) (spell : X → Marked → Marked) (value : X → A) → Traces f spell value
+    → (view : Y → A) (result : Result Y Stop) (old : List Letter) (new : Rest) (more : List Letter) → GivesBy view result (left new) (f old) → GivesBy view result (left new ++ more) (f (old ++ more))
+gives_carried {A} f spell value traces view (Ok x) old new more e =
+    let s = first_letter new.line.now new.tokens.now (last_letter new.misspelling) in
+    carried f spell value traces old more (view x) s.0 s.1.0 (e ∙ ap (whole (view x)) s.1.1) ∙ ap (λ (r : List Letter). whole (view x) (r ++ more)) (sym s.1.1)
+gives_carried f spell value traces view (Err stops.Memory) old new more e = tt
+gives_carried {A} f spell value traces view (Err (stops.Fault c)) old new more e =
+    let s = first_letter new.line.now new.tokens.now (last_letter new.misspelling) in
+    carried_fault f spell value traces old more c s.0 s.1.0 (e ∙ ap (stopped {A = A} c) s.1.1) ∙ ap (λ (r : List Letter). stopped {A = A} c (r ++ more)) (sym s.1.1)
+
+-- a whole line was read, and a fault in it is where it was
+pub line_carried : {A X Y : Type 0} (f : List Letter → Reads A) (spell : X → Marked → Marked) (value : X → A) → Traces f spell value
+    → (view : Y → A) (x : Y) (old more : List Letter) → GivesAll view (Ok x) [] (to_end f old) → to_end f (old ++ more) ≡ Ok (view x, more)
+line_carried f spell value traces view x old more e = carried_line f spell value traces old more (view x) e
+
+pub line_fault_carried : {A X : Type 0} (f : List Letter → Reads A) (spell : X → Marked → Marked) (value : X → A) → Traces f spell value
+    → (stop : Stop) (old : List Letter) (new : Rest) (more : List Letter) → StopsAs stop (left new) (to_end f old) → StopsAs stop (left new ++ more) (to_end f (old ++ more))
+line_fault_carried f spell value traces stops.Memory old new more e = tt
+line_fault_carried {A} {X} f spell value traces (stops.Fault c) old new more e =
+    let s = first_letter new.line.now new.tokens.now (last_letter new.misspelling) in
+    carried_fault (to_end f) (λ x k. spell x (clean End ∷ k)) value (ended_traces f spell value traces) old more c s.0 s.1.0 (e ∙ ap (stopped {A = A} c) s.1.1) ∙ ap (λ (r : List Letter). stopped {A = A} c (r ++ more)) (sym s.1.1)

@@ -21,3 +21,4 @@ pub mod FileTraces
 pub mod PlaceLemmas
 pub mod NewNameLemmas
 pub mod CarryLemmas
+pub mod SetLemmas

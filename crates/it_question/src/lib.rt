@@ -10,6 +10,7 @@ mod places;
 mod plain;
 mod sorts;
 mod texts;
+mod tries;
 pub mod types;
 mod words;
 
