@@ -22,3 +22,5 @@ pub mod PlaceLemmas
 pub mod NewNameLemmas
 pub mod CarryLemmas
 pub mod SetLemmas
+pub mod PartLemmas
+pub mod CursorLemmas

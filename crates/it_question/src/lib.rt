@@ -5,6 +5,7 @@ mod cursor;
 mod files;
 mod lines;
 mod names;
+mod parts;
 mod pieces;
 mod places;
 mod plain;
