@@ -20,7 +20,7 @@ pub mod RegionTraces
 pub mod FileTraces
 pub mod PlaceLemmas
 pub mod NewNameLemmas
-pub mod CarryLemmas
 pub mod SetLemmas
 pub mod PartLemmas
 pub mod CursorLemmas
+pub mod TryLoopLemmas
