@@ -13,3 +13,5 @@ pub mod DistinctTraces
 pub mod TryTraces
 pub mod RegionTraces
 pub mod FileTraces
+pub mod LetterLemmas
+pub mod FileLemmas
