@@ -1,27 +1,28 @@
 -- A file has one reading or one first fault, and how its letters are read tells which.
-use Rattle.std.proofs.Common.{◌≡◌, ℕ, zero, suc, ◌+◌, Bool, true, false, cond, List, [], ◌∷◌, ◌++◌, length, Option, Some, None, Ok, Err, refl, sym, ap, ◌∙◌, subst, inl, inr, append_assoc}
-use Rattle.std.specs.Prelude.{◌-◌, slice_get, bytes_eq}
+use Rattle.std.proofs.Common.{◌≡◌, ℕ, ◌+◌, List, [], ◌∷◌, ◌++◌, length, Option, Some, None, Ok, Err, refl, sym, ap, ◌∙◌, subst, inl, inr, append_assoc}
+use Rattle.std.specs.Prelude.{◌-◌, slice_get}
+use Rattle.std.proofs.lemmas.List.{append-nil}
 use Rattle.it_syntax.specs.declared.types.Code.{Code}
-use Rattle.it_syntax.specs.declared.types.Code.TheVariants as codes
 use Rattle.it_syntax.specs.declared.types.Misspelling.{Misspelling}
 use Rattle.it_syntax.specs.declared.types.Token.{Token}
-use Rattle.it_syntax.specs.Letters.{Letter, Word, Bad, Marked, clean, letters, cleaned}
+use Rattle.it_syntax.specs.Letters.{Letter, Marked, clean, letters, cleaned}
 use Rattle.it_syntax.specs.FirstFault.{FirstFault}
 use Rattle.it_syntax.specs.Misspellings.{SpellsUntil}
-use Rattle.it_syntax.specs.Reading.{Reads, ◌>>=◌}
-use Rattle.it_syntax.proofs.Traces.{By}
+use Rattle.it_syntax.specs.Reading.{Reads}
+use Rattle.it_syntax.proofs.Traces.{By, Went}
 use Rattle.it_syntax.proofs.MisspellingLemmas.{line_tokens_are_one}
-use Rattle.it_syntax.proofs.FirstFaults.{first_fault, one_fault, reads_found, reads_only, clean_is_clean, letters_cleaned}
+use Rattle.it_syntax.proofs.FirstFaults.{letters_behind, first_fault, one_fault, reads_found, reads_only, clean_is_clean, letters_cleaned}
 use Rattle.it_question.specs.Files.{FileIsOne, FileFaultIsOne, FileOrFault}
-use Rattle.it_question.specs.Keywords.{vars_text}
 use Rattle.it_question.specs.Lines.{TokenLine, AreLines, AreLinesOf, IsLine, HasTokens, IsFilled, split_lines, plain, file_end, letters_of_lines, places_of_lines}
 use Rattle.it_question.specs.Questions.{Posed}
-use Rattle.it_question.specs.Reading.{behind_word, read_question, read_end, question_then, if_asked, read_questions, read_file}
+use Rattle.it_question.specs.Reading.{read_file}
 use Rattle.it_question.specs.Texts.{with_texts}
-use Rattle.it_question.specs.Trees.{WrittenQuestion, most_questions, spell_question, question_of, spell_questions, questions_of, spell_file}
+use Rattle.it_question.specs.Trees.{WrittenQuestion, most_questions, spell_questions, questions_of, spell_file}
 use Rattle.it_question.proofs.FileAnswers.{file_answers}
-use Rattle.it_question.proofs.FileTraces.{question_traces, file_traces}
+use Rattle.it_question.proofs.FileTraces.{file_traces}
 use Rattle.it_question.proofs.LetterLemmas.{lines_once}
+use Rattle.it_question.proofs.LinePuts.{questions_put}
+use Rattle.it_question.proofs.Puts.{letters_append}
 
 -- ---- its lines are one
 
@@ -52,59 +53,20 @@ lines_are_one n (bytes ∷ split) lines more (inr h) (inr g) =
 
 -- ---- the file's end is read last
 
--- what is read ends with the file's end
-abbrev Finishes : List Letter → Reads (List Posed) → Type 0
-Finishes ls (Ok x) = (front : List Letter) × (ls ≡ front ++ file_end ∷ x.1)
-Finishes ls (Err e) = Unit {0}
-
-behind_front : (ls front behind : List Letter) (r : Reads (List Posed)) → ls ≡ front ++ behind → Finishes behind r → Finishes ls r
-behind_front ls front behind (Ok x) e h = (front ++ h.0, e ∙ ap (λ (t : List Letter). front ++ t) h.1 ∙ sym (append_assoc front h.0 (file_end ∷ x.1)))
-behind_front ls front behind (Err x) e h = tt
-
-end_finishes : (ls : List Letter) → Finishes ls (read_end ls)
-unfolding read_end
-end_finishes (Bad codes.Unfinished ∷ ls) = ([], refl)
-end_finishes [] = tt
-end_finishes (l ∷ ls) = tt
-
-with_question : (q : Posed) (ls : List Letter) (r : Reads (List Posed)) → Finishes ls r → Finishes ls (r >>= λ qs. Ok (q ∷ qs.0, qs.1))
-with_question q ls (Ok x) h = h
-with_question q ls (Err x) h = tt
-
-question_finishes : (f : List Letter → Reads (List Posed)) → ((ls : List Letter) → Finishes ls (f ls)) → (ls : List Letter) → Finishes ls (question_then f ls)
-question_finishes f h ls = by (read_question ls) (question_traces ls)
-  where
-    by : (r : Reads Posed) → By read_question spell_question question_of ls r → Finishes ls (r >>= λ q. f q.1 >>= λ qs. Ok (q.0 ∷ qs.0, qs.1))
-    by (Ok q) w = let r = f q.1 >>= λ qs. Ok (q.0 ∷ qs.0, qs.1) in behind_front ls w.front q.1 r w.parts (with_question q.0 q.1 (f q.1) (h q.1))
-    by (Err e) w = tt
-
-asked_finishes : (f : List Letter → Reads (List Posed)) → ((ls : List Letter) → Finishes ls (f ls)) → (ls : List Letter) → Finishes ls (if_asked f (behind_word vars_text ls) ls)
-unfolding behind_word
-asked_finishes f h (Word w ∷ ls) = by (bytes_eq w vars_text)
-  where
-    by : (b : Bool) → Finishes (Word w ∷ ls) (if_asked f (cond b (Some ls) None) (Word w ∷ ls))
-    by true = behind_front (Word w ∷ ls) (Word w ∷ []) ls (f ls) refl (h ls)
-    by false = end_finishes (Word w ∷ ls)
-asked_finishes f h [] = end_finishes []
-asked_finishes f h (l ∷ ls) = end_finishes (l ∷ ls)
-
-questions_finish : (n : ℕ) (ls : List Letter) → Finishes ls (read_questions n ls)
-unfolding read_questions
-questions_finish zero ls = asked_finishes (λ behind. Err (codes.Many, ls)) (λ behind. tt) ls
-questions_finish (suc n) ls = asked_finishes (question_then (read_questions n)) (question_finishes (read_questions n) (questions_finish n)) ls
+abbrev spell_to_end : List WrittenQuestion → Marked → Marked
+spell_to_end xs k = spell_questions most_questions xs (clean file_end ∷ k)
 
 -- nothing is left of the letters of a file that is read
 pub read_whole : (bytes : List ℕ) (lines : List TokenLine) (ys : List Posed) (r : List Letter) → AreLinesOf bytes lines → read_file (letters_of_lines lines) ≡ Ok (ys, r) → r ≡ []
-unfolding read_file
 read_whole bytes lines ys r cut e =
     let ls = letters_of_lines lines in
-    let h : Finishes ls (Ok (ys, r)) = subst (Finishes ls) e (questions_finish most_questions ls) in
-    lines_once 1 (split_lines bytes) lines cut h.0 r h.1
+    let w : Went read_file spell_to_end questions_of ls ys r = subst (λ (t : Reads (List Posed)). By read_file spell_to_end questions_of ls t) e (file_traces ls) in
+    let p = questions_put most_questions w.tree in
+    let front : w.front ≡ letters p.front ++ file_end ∷ [] =
+    sym (append-nil w.front) ∙ sym (letters_behind w.front []) ∙ ap letters (sym (w.spells []) ∙ p.is (clean file_end ∷ [])) ∙ letters_append p.front (clean file_end ∷ []) in
+    lines_once 1 (split_lines bytes) lines cut (letters p.front) r (w.parts ∙ ap (λ (t : List Letter). t ++ r) front ∙ append_assoc (letters p.front) (file_end ∷ []) r)
 
 -- ---- what reading tells
-
-abbrev spell_to_end : List WrittenQuestion → Marked → Marked
-spell_to_end xs k = spell_questions most_questions xs (clean file_end ∷ k)
 
 -- what is read is what the file asks
 pub read_asks : (bytes : List ℕ) (lines : List TokenLine) (ys : List Posed) (r : List Letter) → AreLinesOf bytes lines → read_file (letters_of_lines lines) ≡ Ok (ys, r) → (trees : List WrittenQuestion) × ((spell_file trees ≡ cleaned (letters_of_lines lines)) × (questions_of trees ≡ ys))

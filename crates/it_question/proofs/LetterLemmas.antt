@@ -1,5 +1,5 @@
 -- The letters of a file's lines, and their places.
-use Rattle.std.proofs.Common.{◌≡◌, ℕ, suc, ◌+◌, ◌≤◌, ◌==◌, Bool, true, false, cond, List, [], ◌∷◌, ◌++◌, length, map, Option, Some, None, refl, sym, ap, ◌∙◌, subst, inl, inr, length-append, arith}
+use Rattle.std.proofs.Common.{◌≡◌, ℕ, suc, ◌+◌, ◌≤◌, ◌==◌, Bool, true, false, cond, List, [], ◌∷◌, ◌++◌, length, map, Option, Some, None, refl, sym, ap, ◌∙◌, subst, inl, inr, length-append, append_assoc, arith}
 use Rattle.std.proofs.lemmas.List.{length-map}
 use Rattle.it_syntax.specs.declared.types.Code.{Code}
 use Rattle.it_syntax.specs.declared.types.Code.TheVariants as codes
@@ -79,11 +79,11 @@ letters_bound bytes lines h = omega (arith, lines_bound 1 (split_lines bytes) li
 abbrev pub EndsOnce : List Letter → Type 0
 EndsOnce ls = (front behind : List Letter) → ls ≡ front ++ file_end ∷ behind → behind ≡ []
 
-once_more : (l : Letter) (ls : List Letter) → (l ≡ file_end → ⊥) → EndsOnce ls → EndsOnce (l ∷ ls)
+pub once_more : (l : Letter) (ls : List Letter) → (l ≡ file_end → ⊥) → EndsOnce ls → EndsOnce (l ∷ ls)
 once_more l ls other h [] behind e = absurd (other cc)
 once_more l ls other h (x ∷ front) behind e = h front behind cc
 
-once_alone : EndsOnce (file_end ∷ [])
+pub once_alone : EndsOnce (file_end ∷ [])
 once_alone [] behind e = cc
 once_alone (x ∷ []) behind e = absurd cc
 once_alone (x ∷ y ∷ front) behind e = absurd cc
@@ -101,7 +101,15 @@ until_once line at bytes [] None ls h o = once_more End ls (λ e. absurd cc) o
 until_once line at bytes [] (Some m) ls h o = once_more (Bad m.code) ls (wrong_other m.code h.body h.wrong) o
 until_once line at bytes (t ∷ ts) m ls h o = once_more (letter_of line t.start t.end t.kind) (letters_until line ts (last_letter m) ++ ls) (letter_other line t.start t.end t.kind) (until_once line t.end h.0 ts m ls h.2 o)
 
--- the letters of a file have its end last, and nowhere else
+-- the letters of a file end with its end
+pub lines_end : (n : ℕ) (split : List (List ℕ)) (lines : List TokenLine) → AreLines n split lines → (front : List Letter) × (letters_of_lines lines ≡ front ++ file_end ∷ [])
+lines_end n [] lines h = ([], ap letters_of_lines h)
+lines_end n (bytes ∷ more) lines (inl h) = lines_end (n + 1) more lines h.1
+lines_end n (bytes ∷ more) lines (inr h) =
+    let k = lines_end (n + 1) more h.1 h.5 in
+    (line_letters h.0 ++ k.0, ap letters_of_lines h.2 ∙ ap (λ (t : List Letter). line_letters h.0 ++ t) k.1 ∙ sym (append_assoc (line_letters h.0) k.0 (file_end ∷ [])))
+
+-- they have it last, and nowhere else
 pub lines_once : (n : ℕ) (split : List (List ℕ)) (lines : List TokenLine) → AreLines n split lines → EndsOnce (letters_of_lines lines)
 lines_once n [] lines h = subst (λ (ls : List TokenLine). EndsOnce (letters_of_lines ls)) (sym h) once_alone
 lines_once n (bytes ∷ more) lines (inl h) = lines_once (n + 1) more lines h.1

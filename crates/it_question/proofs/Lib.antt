@@ -15,3 +15,8 @@ pub mod RegionTraces
 pub mod FileTraces
 pub mod LetterLemmas
 pub mod FileLemmas
+pub mod Puts
+pub mod TokenPuts
+pub mod LinePuts
+pub mod TokensExist
+pub mod ExistenceLemmas
