@@ -24,3 +24,10 @@ pub mod SetLemmas
 pub mod PartLemmas
 pub mod CursorLemmas
 pub mod TryLoopLemmas
+pub mod LetterLemmas
+pub mod FileLemmas
+pub mod Puts
+pub mod TokenPuts
+pub mod LinePuts
+pub mod TokensExist
+pub mod ExistenceLemmas
