@@ -31,3 +31,5 @@ pub mod TokenPuts
 pub mod LinePuts
 pub mod TokensExist
 pub mod ExistenceLemmas
+pub mod OwnLineLemmas
+pub mod RateLemmas

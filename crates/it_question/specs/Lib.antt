@@ -1,5 +1,6 @@
 pub mod Lines
 pub mod Cursors
+pub mod Bodies
 pub mod Questions
 pub mod Keywords
 pub mod Trees

@@ -1,14 +1,18 @@
 //! Question files: the lines of a file, and the questions that they ask.
 #![tactic(auto)]
 
+mod asking;
+mod bodies;
 mod cursor;
 mod files;
 mod lines;
 mod names;
+mod own;
 mod parts;
 mod pieces;
 mod places;
 mod plain;
+mod rates;
 mod sorts;
 mod texts;
 mod tries;
