@@ -20,3 +20,7 @@ pub mod TokenPuts
 pub mod LinePuts
 pub mod TokensExist
 pub mod ExistenceLemmas
+pub mod Blanks
+pub mod PlainLines
+pub mod TrimmedLines
+pub mod TextLaws
