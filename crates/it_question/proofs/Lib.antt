@@ -23,4 +23,7 @@ pub mod ExistenceLemmas
 pub mod Blanks
 pub mod PlainLines
 pub mod TrimmedLines
+pub mod LineParts
+pub mod TextLines
+pub mod CleanLetters
 pub mod TextLaws

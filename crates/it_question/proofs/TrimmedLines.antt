@@ -138,9 +138,9 @@ moved line front bytes at to (t ∷ ts) e n h =
     let end = start + length c.text in
     let cut = cut_trimmed at to bytes t rest c in
     let whole : (front bytes rest : List ℕ) → bytes ≡ c.gap ++ (c.text ++ rest) → front ++ bytes ≡ (front ++ (c.gap ++ c.text)) ++ rest =
-        λ front bytes rest e. ap (λ (b : List ℕ). front ++ b) (e ∙ sym (append_assoc c.gap c.text rest)) ∙ sym (append_assoc front (c.gap ++ c.text) rest) in
+    λ front bytes rest e. ap (λ (b : List ℕ). front ++ b) (e ∙ sym (append_assoc c.gap c.text rest)) ∙ sym (append_assoc front (c.gap ++ c.text) rest) in
     let len : (front : List ℕ) → length (front ++ (c.gap ++ c.text)) ≡ length front + (length c.gap + length c.text) =
-        λ front. length-append front (c.gap ++ c.text) ∙ ap (λ (i : ℕ). length front + i) (length-append c.gap c.text) in
+    λ front. length-append front (c.gap ++ c.text) ∙ ap (λ (i : ℕ). length front + i) (length-append c.gap c.text) in
     let more : Moved end (without_trailing rest) line ts = moved line (front ++ (c.gap ++ c.text)) rest t.end end ts (e ∙ whole front bytes rest c.whole) (omega (arith, len front, n, c.start, c.end)) h.2 in
     record {
       tokens = record { kind = t.kind; start = start; end = end } ∷ more.tokens;

@@ -3,6 +3,7 @@
 
 mod cursor;
 mod files;
+mod laws;
 mod lines;
 mod pieces;
 mod plain;
@@ -10,3 +11,4 @@ mod texts;
 pub mod types;
 
 pub use files::questions;
+pub use laws::{file_has_one, file_is_one, text_reads_back};
