@@ -1,5 +1,5 @@
 -- Questions, and a file of them, that are spelled so are read, up to the first mark.
-use Rattle.std.proofs.Common.{◌≡◌, ℕ, zero, suc, ◌-◌, true, List, [], ◌∷◌, None, Ok, refl, arith, inr}
+use Rattle.std.proofs.Common.{◌≡◌, ℕ, zero, suc, ◌-◌, true, List, [], ◌∷◌, None, Ok, refl, arith}
 use Rattle.it_syntax.specs.declared.types.Code.TheVariants as codes
 use Rattle.it_syntax.specs.Vocabulary.{Vocabulary}
 use Rattle.it_syntax.specs.Letters.{Word, End, Marked, clean, letters}
@@ -15,7 +15,7 @@ use Rattle.it_question.specs.Questions.{Proves, Eliminates}
 use Rattle.it_question.specs.Trees.{WrittenAim, Proving, Eliminating, Containing, WrittenQuestion, Variable, Rate, no_names, most_questions, most_variables, most_rates, most_lines, spell_new_names, new_names_of, spell_names_line, spell_own, own_of, rates_env, spell_distinct, distinct_of, givens_left, rows_left, spell_aim, aim_of, names_of, spell_question, question_of, spell_questions, questions_of}
 use Rattle.it_question.specs.Reading.{behind_word, read_new_names, read_names_line, read_lines, read_distinct, read_proof, read_elimination, read_aim, read_question, read_end, read_questions, read_file}
 use Rattle.it_syntax.proofs.SpelledIsRead.{Answers, answers_ok, answers_cons, answers_bind}
-use Rattle.it_question.proofs.NameAnswers.{ended_answers, ended_names_answers, names_line_answers}
+use Rattle.it_question.proofs.NameAnswers.{marked_answers, ended_answers, ended_names_answers, names_line_answers}
 use Rattle.it_question.proofs.LineAnswers.{NoOwn, relation_ended, lines_answers, own_no_word}
 use Rattle.it_question.proofs.DistinctAnswers.{distinct_answers}
 use Rattle.it_question.proofs.RegionAnswers.{spell_contained, containment_answers}
@@ -89,7 +89,7 @@ questions_answers zero [] k = answers_cons file_end _ k [] k (answers_ok [] k)
 questions_answers (suc n) [] k = answers_cons file_end _ k [] k (answers_ok [] k)
 questions_answers zero (x ∷ xs) k =
     let m = spell_question x (spell_questions (0 - 1) xs (clean file_end ∷ k)) in
-    inr ((codes.Many, Word vars_text ∷ letters m), (refl, record { front = []; letter = Word vars_text; rest = m; is = refl; left = refl }))
+    marked_answers codes.Many (Word vars_text) m _ _
 questions_answers (suc n) (x ∷ xs) k =
     let e : (suc n - 1) ≡ n = omega arith in
     let m = spell_questions n xs (clean file_end ∷ k) in

@@ -7,6 +7,11 @@ pub mod DistinctAnswers
 pub mod TryAnswers
 pub mod RegionAnswers
 pub mod FileAnswers
+pub mod NameLimits
+pub mod LineLimits
+pub mod RateLimits
+pub mod TryLimits
+pub mod LimitLemmas
 pub mod NameTraces
 pub mod LineTraces
 pub mod DistinctTraces
@@ -27,3 +32,6 @@ pub mod LineParts
 pub mod TextLines
 pub mod CleanLetters
 pub mod TextLaws
+pub mod PlaceLemmas
+pub mod NewNameLemmas
+pub mod CarryLemmas

@@ -1,5 +1,5 @@
 -- `given` and `row` lines that are spelled so are read, up to the first mark.
-use Rattle.std.proofs.Common.{◌≡◌, ℕ, zero, suc, ◌+◌, ◌-◌, ◌≤◌, true, false, List, [], ◌∷◌, Option, Some, None, Ok, Err, refl, sym, subst, arith, inr}
+use Rattle.std.proofs.Common.{◌≡◌, ℕ, zero, suc, ◌+◌, ◌-◌, ◌≤◌, true, false, List, [], ◌∷◌, Option, Some, None, Ok, Err, refl, sym, subst, arith}
 use Rattle.std.specs.Prelude.{bytes_eq}
 use Rattle.it_syntax.specs.declared.types.Code.TheVariants as codes
 use Rattle.it_syntax.specs.Vocabulary.{Vocabulary}
@@ -18,7 +18,7 @@ use Rattle.it_question.specs.Reading.{behind_word, limited, given_then, row_then
 use Rattle.it_syntax.proofs.SpelledIsRead.{Answers, answers_ok, answers_cons, answers_bind}
 use Rattle.it_syntax.proofs.ComparisonAnswers.{comparison_answers}
 use Rattle.it_syntax.proofs.ConditionAnswers.{condition_answers}
-use Rattle.it_question.proofs.NameAnswers.{ended_answers}
+use Rattle.it_question.proofs.NameAnswers.{marked_answers, ended_answers}
 
 -- neither `given` nor `row` stands there
 pub record NoOwn (k : Marked) : Type 0 where
@@ -60,7 +60,7 @@ row_answers f v x m own k h =
 
 -- a line that is one too many
 one_too_many : (w : List ℕ) (m : Marked) (y : Lines) (k : Marked) → Answers (limited 0 (λ ls. Ok (y, ls)) (letters m) (Word w ∷ letters m)) ((Word w, Some codes.Many) ∷ m) y k
-one_too_many w m y k = inr ((codes.Many, Word w ∷ letters m), (refl, record { front = []; letter = Word w; rest = m; is = refl; left = refl }))
+one_too_many w m y k = marked_answers codes.Many (Word w) m _ _
 
 no_own : (f h : List Letter → Reads Lines) (k : Marked) → NoOwn k → Answers (by_keyword f h (behind_word given_text (letters k)) (behind_word row_text (letters k)) (letters k)) k no_lines k
 no_own f h k none =

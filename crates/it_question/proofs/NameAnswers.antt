@@ -1,7 +1,8 @@
 -- New names that are spelled so are read, up to the first mark.
-use Rattle.std.proofs.Common.{◌≡◌, ℕ, zero, suc, ◌-◌, Bool, true, false, List, [], ◌∷◌, Option, Some, None, Ok, refl, subst, sym, arith, inl, inr}
+use Rattle.std.proofs.Common.{◌≡◌, ℕ, zero, suc, ◌-◌, Bool, true, false, List, [], ◌∷◌, Option, Some, None, Ok, Err, refl, subst, sym, arith, inl, inr}
 use Rattle.std.specs.Prelude.{bytes_eq}
 use Rattle.it_syntax.specs.declared.types.Symbol.TheVariants.{Comma}
+use Rattle.it_syntax.specs.declared.types.Code.{Code}
 use Rattle.it_syntax.specs.declared.types.Code.TheVariants as codes
 use Rattle.it_syntax.specs.Vocabulary.{Vocabulary}
 use Rattle.it_syntax.specs.Letters.{Letter, Word, Sym, End, Marked, clean, letters}
@@ -12,6 +13,10 @@ use Rattle.it_question.specs.Trees.{Sort, with_name, is_taken, new_mark, spell_n
 use Rattle.it_question.specs.Reading.{behind_word, newly, read_new, read_new_more, read_new_names, if_behind, read_names_line}
 use Rattle.it_syntax.proofs.SpelledIsRead.{Answers, answers_ok, answers_cons, answers_bind, NoComma}
 
+-- a letter that is marked is a fault
+pub marked_answers : {A : Type 0} (c : Code) (l : Letter) (m : Marked) (x : A) (k : Marked) → Answers (Err (c, l ∷ letters m)) ((l, Some c) ∷ m) x k
+marked_answers c l m x k = inr ((c, l ∷ letters m), (refl, record { front = []; letter = l; rest = m; is = refl; left = refl }))
+
 -- up to the line's end
 pub ended_answers : {A : Type 0} (f : List Letter → Reads A) (m k : Marked) (x : A) → Answers (f (letters m)) m x (clean End ∷ k) → Answers (to_end f (letters m)) m x k
 unfolding to_end line_end
@@ -20,9 +25,9 @@ ended_answers f m k x h = answers_bind (f (letters m)) (λ y. line_end y.1 >>= �
 -- ---- new names
 
 newly_answers : (sort : Sort) (n : ℕ) (v : Vocabulary) (w : List ℕ) (measure taken : Bool) (k : Marked) → Answers (newly sort n v w measure taken (letters k)) ((Word w, new_mark measure taken n) ∷ k) (with_name sort v w) k
-newly_answers sort n v w true taken k = inr ((codes.Word, Word w ∷ letters k), (refl, record { front = []; letter = Word w; rest = k; is = refl; left = refl }))
-newly_answers sort n v w false true k = inr ((codes.Twice, Word w ∷ letters k), (refl, record { front = []; letter = Word w; rest = k; is = refl; left = refl }))
-newly_answers sort zero v w false false k = inr ((codes.Many, Word w ∷ letters k), (refl, record { front = []; letter = Word w; rest = k; is = refl; left = refl }))
+newly_answers sort n v w true taken k = marked_answers codes.Word (Word w) k _ _
+newly_answers sort n v w false true k = marked_answers codes.Twice (Word w) k _ _
+newly_answers sort zero v w false false k = marked_answers codes.Many (Word w) k _ _
 newly_answers sort (suc n) v w false false k = inl (refl, record { front = Word w ∷ []; is = refl })
 
 new_answers : (sort : Sort) (n : ℕ) (v : Vocabulary) (w : List ℕ) (k : Marked) → Answers (read_new sort n v (letters (spell_new sort n v w k))) (spell_new sort n v w k) (with_name sort v w) k
@@ -31,9 +36,9 @@ new_answers sort n v w k = newly_answers sort n v w (is_measure w) (is_taken v w
 
 -- where none is allowed nothing behind the name is read
 newly_stops : (sort : Sort) (v : Vocabulary) (w : List ℕ) (measure taken : Bool) (m : Marked) (x : Vocabulary) (k : Marked) → Answers (newly sort 0 v w measure taken (letters m)) ((Word w, new_mark measure taken 0) ∷ m) x k
-newly_stops sort v w true taken m x k = inr ((codes.Word, Word w ∷ letters m), (refl, record { front = []; letter = Word w; rest = m; is = refl; left = refl }))
-newly_stops sort v w false true m x k = inr ((codes.Twice, Word w ∷ letters m), (refl, record { front = []; letter = Word w; rest = m; is = refl; left = refl }))
-newly_stops sort v w false false m x k = inr ((codes.Many, Word w ∷ letters m), (refl, record { front = []; letter = Word w; rest = m; is = refl; left = refl }))
+newly_stops sort v w true taken m x k = marked_answers codes.Word (Word w) m _ _
+newly_stops sort v w false true m x k = marked_answers codes.Twice (Word w) m _ _
+newly_stops sort v w false false m x k = marked_answers codes.Many (Word w) m _ _
 
 new_stops : (sort : Sort) (v : Vocabulary) (w : List ℕ) (m : Marked) (x : Vocabulary) (k : Marked) → Answers (read_new sort 0 v (letters (spell_new sort 0 v w m))) (spell_new sort 0 v w m) x k
 unfolding read_new

@@ -1,5 +1,5 @@
 -- `try` lines that are spelled so are read, up to the first mark.
-use Rattle.std.proofs.Common.{◌≡◌, ℕ, zero, suc, ◌-◌, ◌≤◌, Bool, true, false, cond, List, [], ◌∷◌, Option, Some, None, Ok, Err, refl, sym, ap, subst, arith, inl, inr}
+use Rattle.std.proofs.Common.{◌≡◌, ℕ, zero, suc, ◌-◌, ◌≤◌, Bool, true, false, cond, List, [], ◌∷◌, Option, Some, None, Ok, Err, refl, sym, ap, subst, arith, inl}
 use Rattle.it_syntax.specs.declared.types.Symbol.TheVariants.{Semicolon, Assign}
 use Rattle.it_syntax.specs.declared.types.Code.TheVariants as codes
 use Rattle.it_syntax.specs.Letters.{Letter, Word, Number, Sym, End, Marked, clean, letters}
@@ -9,10 +9,11 @@ use Rattle.it_question.specs.Keywords.{try_text}
 use Rattle.it_question.specs.Trees.{WrittenSet, Empty, Listed, WrittenPart, WrittenTry, Sets, unnamed, is_named, with_set, is_whole, sets_of, part_mark, spell_set, set_of, spell_part, with_part, spell_parts, with_parts, whole_mark, spell_try, try_of, try_mark, spell_tries, tries_of}
 use Rattle.it_question.specs.Reading.{behind_word, read_assign, read_set, if_unnamed, auxiliary, read_auxiliary, read_part, read_parts, read_whole, read_try, allowed, try_then, if_tried, read_tries}
 use Rattle.it_syntax.proofs.SpelledIsRead.{Answers, answers_ok, answers_cons, answers_bind, NoComma, list_answers}
+use Rattle.it_question.proofs.NameAnswers.{marked_answers}
 
 -- ---- how many auxiliaries have no set yet
 
-abbrev pub count : Sets → ℕ
+abbrev count : Sets → ℕ
 count [] = 0
 count (None ∷ sets) = suc (count sets)
 count (Some set ∷ sets) = count sets
@@ -46,20 +47,16 @@ unfolding read_set
 set_answers env Empty k free = answers_cons (Number 0) _ k 0 k (answers_ok 0 k)
 set_answers env (Listed l) k free = list_answers env l k free
 
--- the name of a part that is marked
-marked_stops : {A B : Type 0} (c : _) (l : Letter) (f : A → Reads B) (m : Marked) (y : B) (k : Marked) → Answers (Err (c, l ∷ letters m) >>= f) ((l, Some c) ∷ m) y k
-marked_stops c l f m y k = inr ((c, l ∷ letters m), (refl, record { front = []; letter = l; rest = m; is = refl; left = refl }))
-
 -- the name of a part, and what is read behind it if the auxiliary has no set yet
 unnamed_then : {A : Type 0} (i : ℕ) (w : List ℕ) (b : Bool) (f : ℕ × List Letter → Reads A) (n : Marked) (y : A) (k : Marked) → (b ≡ false → Answers (f (i, letters n)) n y k)
     → Answers (if_unnamed i b (letters n) (Word w ∷ letters n) >>= f) ((Word w, cond b (Some codes.Twice) None) ∷ n) y k
-unnamed_then i w true f n y k h = marked_stops codes.Twice (Word w) f n y k
+unnamed_then i w true f n y k h = marked_answers codes.Twice (Word w) n y k
 unnamed_then i w false f n y k h = answers_cons (Word w) _ n y k (h refl)
 
 auxiliary_then : {A : Type 0} (measure : Bool) (sets : Sets) (o : Option ℕ) (w : List ℕ) (f : ℕ × List Letter → Reads A) (n : Marked) (y : A) (k : Marked) → (is_named sets (index_or o) ≡ false → Answers (f (index_or o, letters n)) n y k)
     → Answers (auxiliary measure sets o w (letters n) >>= f) ((Word w, part_mark measure sets o) ∷ n) y k
-auxiliary_then true sets o w f n y k h = marked_stops codes.Word (Word w) f n y k
-auxiliary_then false sets None w f n y k h = marked_stops codes.Name (Word w) f n y k
+auxiliary_then true sets o w f n y k h = marked_answers codes.Word (Word w) n y k
+auxiliary_then false sets None w f n y k h = marked_answers codes.Name (Word w) n y k
 auxiliary_then false sets (Some i) w f n y k h = unnamed_then i w (is_named sets i) f n y k h
 
 -- behind the name
@@ -74,6 +71,7 @@ set_behind_answers env sets i x k free =
     answers_cons (Sym Assign) _ m y k
     (answers_bind (read_set env (letters m)) (λ set. Ok (with_set sets i set.0, set.1)) m k k (set_of env x) y (set_answers env x k free) (answers_ok y k))
 
+-- three readings, one behind the other
 bind_assoc : {A B C : Type 0} (r : Reads A) (f : A × List Letter → Reads B) (g : B × List Letter → Reads C) → (r >>= f >>= g) ≡ (r >>= λ x. f x >>= g)
 bind_assoc (Ok x) f g = refl
 bind_assoc (Err e) f g = refl
@@ -102,7 +100,7 @@ part_stops aux env sets x n y k none =
 
 -- ---- further parts
 
-abbrev pub NoSemicolon : Marked → Type 0
+abbrev NoSemicolon : Marked → Type 0
 NoSemicolon ((Sym Semicolon, m) ∷ k) = ⊥
 NoSemicolon k = Unit {0}
 
@@ -139,7 +137,7 @@ parts_answers (suc n) aux env sets (x ∷ xs) k few free single =
 whole_answers : (b : Bool) (k : Marked) → Answers (read_whole b (End ∷ letters k)) ((End, whole_mark b) ∷ k) tt k
 unfolding read_whole line_end
 whole_answers true k = inl (refl, record { front = End ∷ []; is = refl })
-whole_answers false k = inr ((codes.Word, End ∷ letters k), (refl, record { front = []; letter = End; rest = k; is = refl; left = refl }))
+whole_answers false k = marked_answers codes.Word End k _ _
 
 try_answers : (aux env : Environment) (sets : Sets) (x : WrittenTry) (k : Marked) → count sets ≤ 4 → Answers (read_try aux env sets (letters (spell_try aux env sets x k))) (spell_try aux env sets x k) (try_of aux env sets x) k
 unfolding read_try
@@ -155,11 +153,11 @@ try_answers aux env sets x k few =
 
 -- a line that may not stand there, or is one too many
 allowed_stops : {A : Type 0} (b : Bool) (w : List ℕ) (f : List Letter → Reads A) (m : Marked) (y : A) (k : Marked) → Answers (allowed b 0 f (letters m) (Word w ∷ letters m)) ((Word w, try_mark b 0) ∷ m) y k
-allowed_stops true w f m y k = inr ((codes.Word, Word w ∷ letters m), (refl, record { front = []; letter = Word w; rest = m; is = refl; left = refl }))
-allowed_stops false w f m y k = inr ((codes.Many, Word w ∷ letters m), (refl, record { front = []; letter = Word w; rest = m; is = refl; left = refl }))
+allowed_stops true w f m y k = marked_answers codes.Word (Word w) m _ _
+allowed_stops false w f m y k = marked_answers codes.Many (Word w) m _ _
 
 allowed_then : {A : Type 0} (b : Bool) (n : ℕ) (w : List ℕ) (f : List Letter → Reads A) (m : Marked) (y : A) (k : Marked) → Answers (f (letters m)) m y k → Answers (allowed b (suc n) f (letters m) (Word w ∷ letters m)) ((Word w, try_mark b (suc n)) ∷ m) y k
-allowed_then true n w f m y k h = inr ((codes.Word, Word w ∷ letters m), (refl, record { front = []; letter = Word w; rest = m; is = refl; left = refl }))
+allowed_then true n w f m y k h = marked_answers codes.Word (Word w) m _ _
 allowed_then false n w f m y k h = answers_cons (Word w) _ m y k h
 
 try_then_answers : (f : List Letter → Reads (List (List ℕ))) (aux env : Environment) (sets : Sets) (x : WrittenTry) (m : Marked) (ys : List (List ℕ)) (k : Marked) → count sets ≤ 4 → Answers (f (letters m)) m ys k → Answers (try_then f aux env sets (letters (spell_try aux env sets x m))) (spell_try aux env sets x m) (try_of aux env sets x ∷ ys) k

@@ -5,10 +5,14 @@ mod cursor;
 mod files;
 mod laws;
 mod lines;
+mod names;
 mod pieces;
+mod places;
 mod plain;
+mod sorts;
 mod texts;
 pub mod types;
+mod words;
 
 pub use files::questions;
 pub use laws::{file_has_one, file_is_one, text_reads_back};
