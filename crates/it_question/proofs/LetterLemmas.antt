@@ -1,6 +1,5 @@
 -- The letters of a file's lines, and their places.
-use Rattle.std.proofs.Common.{◌≡◌, ℕ, suc, ◌+◌, ◌≤◌, ◌==◌, Bool, true, false, cond, List, [], ◌∷◌, ◌++◌, length, map, Option, Some, None, refl, sym, ap, ◌∙◌, subst, inl, inr, length-append, append_assoc, arith}
-use Rattle.std.proofs.lemmas.List.{length-map}
+use Rattle.std.proofs.Common.{◌≡◌, ℕ, suc, ◌+◌, ◌≤◌, ◌==◌, Bool, true, false, cond, List, [], ◌∷◌, ◌++◌, length, Option, Some, None, refl, sym, ap, ◌∙◌, subst, inl, inr, length-append, append_assoc, arith}
 use Rattle.it_syntax.specs.declared.types.Code.{Code}
 use Rattle.it_syntax.specs.declared.types.Code.TheVariants as codes
 use Rattle.it_syntax.specs.declared.types.Misspelling.{Misspelling}
@@ -8,27 +7,19 @@ use Rattle.it_syntax.specs.declared.types.Token.{Token}
 use Rattle.it_syntax.specs.declared.types.TokenKind.{TokenKind}
 use Rattle.it_syntax.specs.declared.types.TokenKind.TheVariants as kinds
 use Rattle.it_syntax.specs.Letters.{Letter, End, Bad}
-use Rattle.it_syntax.specs.Lines.{column_behind}
 use Rattle.it_syntax.specs.Misspellings.{IsWrong, SpellsUntil}
 use Rattle.it_syntax.specs.Spans.{letter_of, letters_until, last_letter}
 use Rattle.it_syntax.proofs.TokenLemmas.{shape_of, shape_some}
 use Rattle.it_question.specs.Lines.{TokenLine, AreLines, AreLinesOf, IsLine, in_front, split_lines, file_end, line_letters, letters_of_lines, line_places, places_of_lines}
 use Rattle.it_question.proofs.FileLineLemmas.{plain_shorter}
+use Rattle.it_question.proofs.PlaceLemmas.{line_letters_length, letters_length, line_places_length}
 
 -- ---- how many there are
-
-until_length : (line : List ℕ) (ts : List Token) (last : Letter) → length (letters_until line ts last) ≡ suc (length ts)
-until_length line [] last = refl
-until_length line (t ∷ ts) last = ap suc (until_length line ts last)
 
 -- each letter has a place
 pub places_length : (lines : List TokenLine) → length (places_of_lines lines) ≡ length (letters_of_lines lines)
 places_length [] = refl
-places_length (l ∷ lines) =
-    let place : Token → ℕ × ℕ = λ (t : Token). (l.number, t.start + 1) in
-    let behind : ℕ × ℕ = (l.number, column_behind l.tokens l.misspelling) in
-    let here : length (line_places l) ≡ suc (length l.tokens) = length-append (map place l.tokens) (behind ∷ []) ∙ omega (arith, length-map l.tokens place) in
-    length-append (line_places l) (places_of_lines lines) ∙ omega (arith, here, until_length l.text l.tokens (last_letter l.misspelling), places_length lines) ∙ sym (length-append (line_letters l) (letters_of_lines lines))
+places_length (l ∷ lines) = length-append (line_places l) (places_of_lines lines) ∙ omega (arith, line_places_length l, places_length lines) ∙ sym (letters_length l lines)
 
 -- each token takes a byte
 tokens_fewer : (at : ℕ) (bytes : List ℕ) (ts : List Token) (m : Option Misspelling) → SpellsUntil at bytes ts m → length ts ≤ length bytes
@@ -41,7 +32,7 @@ tokens_fewer at bytes (t ∷ ts) m h =
 line_bound : (n : ℕ) (bytes : List ℕ) (l : TokenLine) → IsLine n bytes l → length (line_letters l) ≤ length bytes + 1
 line_bound n bytes l h =
     let shorter : length l.text ≤ length bytes = subst (λ (t : List ℕ). length t ≤ length bytes) (sym h.text) (plain_shorter bytes) in
-    omega (arith, until_length l.text l.tokens (last_letter l.misspelling), tokens_fewer 0 l.text l.tokens l.misspelling h.spelled, shorter)
+    omega (arith, line_letters_length l, tokens_fewer 0 l.text l.tokens l.misspelling h.spelled, shorter)
 
 -- the bytes of lines, and one more for each
 room : List (List ℕ) → ℕ

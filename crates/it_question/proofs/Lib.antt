@@ -33,3 +33,12 @@ pub mod TokensExist
 pub mod ExistenceLemmas
 pub mod OwnLineLemmas
 pub mod RateLemmas
+pub mod Blanks
+pub mod PlainLines
+pub mod TrimmedLines
+pub mod LineParts
+pub mod TextLines
+pub mod CleanLetters
+pub mod TextLaws
+pub mod PlaceLemmas
+pub mod NewNameLemmas

@@ -5,6 +5,7 @@ mod asking;
 mod bodies;
 mod cursor;
 mod files;
+mod laws;
 mod lines;
 mod names;
 mod own;
@@ -20,3 +21,4 @@ pub mod types;
 mod words;
 
 pub use files::questions;
+pub use laws::{file_has_one, file_is_one, text_reads_back};
