@@ -57,7 +57,7 @@ no_letters : (m : Marked) → letters m ≡ [] → m ≡ []
 no_letters [] e = refl
 no_letters (x ∷ m) e = absurd cc
 
-letters_left : (bytes : List ℕ) (lines : List TokenLine) (c : Code) → AreLinesOf bytes lines → read_file (letters_of_lines lines) ≡ Err (c, []) → ⊥
+pub letters_left : (bytes : List ℕ) (lines : List TokenLine) (c : Code) → AreLinesOf bytes lines → read_file (letters_of_lines lines) ≡ Err (c, []) → ⊥
 letters_left bytes lines c cut e =
     let ls = letters_of_lines lines in
     let f : FirstFault spell_file ls c [] = read_stops lines c [] e in

@@ -40,5 +40,5 @@ pub mod LineParts
 pub mod TextLines
 pub mod CleanLetters
 pub mod TextLaws
-pub mod PlaceLemmas
-pub mod NewNameLemmas
+pub mod LineCountLemmas
+pub mod FileReadings

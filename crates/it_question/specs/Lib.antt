@@ -9,3 +9,4 @@ pub mod Reading
 pub mod Texts
 pub mod Files
 pub mod Limits
+pub mod Stops
