@@ -42,3 +42,4 @@ pub mod CleanLetters
 pub mod TextLaws
 pub mod LineCountLemmas
 pub mod FileReadings
+pub mod QuestionLemmas

@@ -6,7 +6,8 @@ ghost use Rattle.it_syntax.specs.Gives.{GivesBy};
 ghost use Rattle.it_syntax.specs.Meaning.{stated};
 ghost use Rattle.it_question.specs.Bodies.{lines_of, with_given, with_row};
 ghost use Rattle.it_question.specs.Cursors.{left};
-ghost use Rattle.it_question.specs.Reading.{read_own, read_lines};
+ghost use Rattle.it_question.specs.Reading.{read_lines};
+ghost use Rattle.it_question.specs.Trees.{givens_left, rows_left};
 
 use crate::bodies::OwnLines;
 use crate::cursor::Cursor;
@@ -16,6 +17,22 @@ use it_syntax::Names;
 use it_syntax::rest::Stop;
 use it_syntax::types::{Code, Given, Relation};
 use std::alloc::Global;
+
+impl OwnLines {
+    /// How many more `given` lines may follow these.
+    pub fn givens_left(&self, most: usize) -> usize
+        ensures { result ≡ givens_left most (lines_of self.now) }
+    {
+        most.saturating_sub(self.givens.len())
+    }
+
+    /// How many more `row` lines may follow these.
+    pub fn rows_left(&self, most: usize) -> usize
+        ensures { result ≡ rows_left most (lines_of self.now) }
+    {
+        most.saturating_sub(self.rows.len())
+    }
+}
 
 fn add_given(own: &mut OwnLines, given: Given) -> Result<(), Stop>
     ensures added { OnOk result (lines_of own.new ≡ with_given (lines_of own.old) (condition given)) }
