@@ -1,5 +1,6 @@
 pub mod Lines
 pub mod Cursors
+pub mod Bodies
 pub mod Questions
 pub mod Keywords
 pub mod Trees
@@ -8,3 +9,4 @@ pub mod Reading
 pub mod Texts
 pub mod Files
 pub mod Limits
+pub mod Stops

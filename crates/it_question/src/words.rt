@@ -10,6 +10,26 @@ use crate::cursor::Cursor;
 use it_syntax::rest::{Piece, Stop};
 use it_syntax::types::{Code, Symbol};
 
+pub const VARS: &[u8] = b"vars";
+
+pub const RATES: &[u8] = b"rates";
+
+pub const GIVEN: &[u8] = b"given";
+
+pub const ROW: &[u8] = b"row";
+
+pub const REGION: &[u8] = b"region";
+
+pub const AUXILIARIES: &[u8] = b"aux";
+
+pub const TRY: &[u8] = b"try";
+
+pub const PROVE: &[u8] = b"prove";
+
+pub const ELIMINATE: &[u8] = b"eliminate";
+
+pub const CONTAIN: &[u8] = b"contain";
+
 /// What is behind this word, if it stands there.
 #[tactic(auto, unfolding(crate::specs::Reading::behind_word))]
 pub fn behind_word<'a>(cursor: Cursor<'a>, text: &[u8]) -> Option<Cursor<'a>>
