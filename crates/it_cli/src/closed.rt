@@ -145,7 +145,7 @@ fn less(s: Sums, t: Sums) -> Sums
 }
 
 /// A polymatroid on X and Y: X alone has an entropy, Y alone has one, or both are the same.
-#[derive(Clone, Copy, Debug, PartialEq, Eq)]
+#[derive(Clone, Copy)]
 pub enum Extreme {
     FirstAlone,
     SecondAlone,
@@ -154,7 +154,7 @@ pub enum Extreme {
 
 /// What the closed form says of a target: it has these weights of H(X|Y), H(Y|X) and I(X;Y), or this polymatroid
 /// breaks it.
-#[derive(Clone, Copy, Debug, PartialEq, Eq)]
+#[derive(Clone, Copy)]
 pub enum Verdict {
     Valid(i128, i128, i128),
     Broken(Extreme),
@@ -264,9 +264,11 @@ pub fn closed(alloc: Global, relation: &Relation) -> Result<Answer, AllocError>
 {
     let left = summed(relation.left.terms.as_slice());
     let right = summed(relation.right.terms.as_slice());
+    let forward = judged(less(left, right));
+    let back = judged(less(right, left));
     match relation.sign {
-        Sign::AtLeast => by_one(alloc, judged(less(left, right))),
-        Sign::AtMost => by_one(alloc, judged(less(right, left))),
-        Sign::Equal => by_two(alloc, judged(less(left, right)), judged(less(right, left))),
+        Sign::AtLeast => by_one(alloc, forward),
+        Sign::AtMost => by_one(alloc, back),
+        Sign::Equal => by_two(alloc, forward, back),
     }
 }
