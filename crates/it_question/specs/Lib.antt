@@ -1,7 +1,9 @@
 pub mod Lines
+pub mod Cursors
 pub mod Questions
 pub mod Keywords
 pub mod Trees
+pub mod Sorts
 pub mod Reading
 pub mod Texts
 pub mod Files

@@ -1,5 +1,5 @@
 -- What the questions of a file keep: sets of their variables, rates that there are, and the limits.
-use Rattle.std.specs.Prelude.{◌≡◌, ℕ, ◌<◌, ◌≤◌, ◌^◌, ◌+◌, List, [], ◌++◌, length, All, eqb}
+use Rattle.std.specs.Prelude.{◌≡◌, ℕ, ◌<◌, ◌≤◌, ◌^◌, List, ◌++◌, length, All, eqb}
 use Rattle.std.specs.List.{IsDistinct}
 use Rattle.it_syntax.specs.Vocabulary.{Vocabulary}
 use Rattle.it_syntax.specs.Givens.{IsRelationOf, IsConditionOf}

@@ -1,14 +1,14 @@
 -- Question files as they are written, and how each is spelled: by letters, each with what the rules have against it where it
 -- stands. `Word` stands against H or I in the place of a name, `Name` against a name of which none of that kind is declared,
 -- `Twice` against a new name that is taken and a name that is named again, `Many` against the first letter past a limit.
-use Rattle.std.specs.Prelude.{◌≡◌, ℕ, zero, suc, ◌-◌, ◌==◌, min, drop, Bool, true, false, ◌||◌, List, [], ◌∷◌, ◌++◌, length, map, is_some, Option, Some, None, slice_get, if◌then◌else◌}
+use Rattle.std.specs.Prelude.{ℕ, zero, suc, ◌-◌, ◌==◌, min, drop, Bool, true, false, ◌||◌, List, [], ◌∷◌, ◌++◌, length, map, is_some, Option, Some, None, if◌then◌else◌}
 use Rattle.std.specs.List.{list_any}
 use Rattle.it_syntax.specs.declared.types.Symbol.TheVariants.{Comma, Semicolon, Assign}
 use Rattle.it_syntax.specs.declared.types.Code.{Code}
 use Rattle.it_syntax.specs.declared.types.Code.TheVariants as codes
 use Rattle.it_syntax.specs.Vocabulary.{Vocabulary, index_of}
-use Rattle.it_syntax.specs.Letters.{Letter, Word, Number, Sym, End, Marked, clean}
-use Rattle.it_syntax.specs.Trees.{Environment, WrittenList, is_measure, unknown, index_or, spell_list, list_set}
+use Rattle.it_syntax.specs.Letters.{Word, Number, Sym, End, Marked, clean}
+use Rattle.it_syntax.specs.Trees.{Environment, WrittenList, is_measure, index_or, spell_list, list_set}
 use Rattle.it_syntax.specs.Relations.{env_of}
 use Rattle.it_syntax.specs.Comparisons.{WrittenComparison, spell_comparison, comparison_of}
 use Rattle.it_syntax.specs.ComparisonLines.{scope_of}

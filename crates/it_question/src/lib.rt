@@ -1,7 +1,16 @@
 //! Question files: the lines of a file, and the questions that they ask.
 #![tactic(auto)]
 
+mod cursor;
 mod files;
+mod lines;
+mod names;
+mod pieces;
+mod places;
+mod plain;
+mod sorts;
+mod texts;
 pub mod types;
+mod words;
 
 pub use files::questions;
