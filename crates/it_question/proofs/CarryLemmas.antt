@@ -1,10 +1,10 @@
 -- What a reader gives on the letters of a line it gives on those of a file, behind which more letters stand.
-use Rattle.std.proofs.Common.{◌≡◌, List, [], ◌∷◌, ◌++◌, Some, Result, Ok, Err, refl, sym, ap, ◌∙◌, subst, append_assoc}
+use Rattle.std.proofs.Common.{◌≡◌, List, [], ◌∷◌, ◌++◌, Ok, Err, refl, ap, ◌∙◌, subst, append_assoc}
 use Rattle.it_syntax.specs.declared.types.Code.{Code}
 use Rattle.it_syntax.specs.Letters.{Letter, Word, Number, Sym, End, Bad, Marked}
 use Rattle.it_syntax.specs.Lines.{to_end}
-use Rattle.it_syntax.specs.Reading.{Fault, Reads, ◌>>=◌, line_end}
-use Rattle.it_syntax.proofs.Traces.{Went, Stuck, By, Traces}
+use Rattle.it_syntax.specs.Reading.{Reads, ◌>>=◌, line_end}
+use Rattle.it_syntax.proofs.Traces.{By, Traces}
 
 by_at : {A X : Type 0} (f : List Letter → Reads A) (spell : X → Marked → Marked) (value : X → A) → Traces f spell value → (ls : List Letter) (t : Reads A) → f ls ≡ t → By f spell value ls t
 by_at f spell value traces ls t e = subst (λ (u : Reads _). By f spell value ls u) e (traces ls)

@@ -48,23 +48,23 @@ get_back [] ys n le = let e : n - 0 ≡ n = omega arith in rw e refl
 get_back (x ∷ xs) ys zero le = absurd (omega arith)
 get_back (x ∷ xs) ys (suc n) le = let e : suc n - suc (length xs) ≡ n - length xs = omega arith in get_back xs ys n (omega arith) ∙ ap (slice_get ys) (sym e)
 
-places_length : (l : TokenLine) → length (line_places l) ≡ suc (length l.tokens)
-places_length l = length-append {A = ℕ × ℕ} (map (λ (t : Token). (l.number, t.start + 1)) l.tokens) _ ∙ omega (arith, length-map {B = ℕ × ℕ} l.tokens (λ (t : Token). (l.number, t.start + 1)))
+pub line_places_length : (l : TokenLine) → length (line_places l) ≡ suc (length l.tokens)
+line_places_length l = length-append {A = ℕ × ℕ} (map (λ (t : Token). (l.number, t.start + 1)) l.tokens) _ ∙ omega (arith, length-map {B = ℕ × ℕ} l.tokens (λ (t : Token). (l.number, t.start + 1)))
 
 pub place_here : (lines : List Line) (i n : ℕ) (l : Line) → i < length lines → l ≡ slice_index_or lines i l → n ≤ length l.tokens.tokens.items
     → slice_get (places_of_lines (map token_line (drop i lines))) n ≡ slice_get (line_places (token_line l)) n
 place_here lines i n l lt e le =
     ap (λ (ls : List TokenLine). slice_get (places_of_lines ls) n) (from_line lines i l lt)
     ∙ ap (λ (x : Line). slice_get (line_places (token_line x) ++ places_of_lines (map token_line (drop (i + 1) lines))) n) (sym e)
-    ∙ get_front (line_places (token_line l)) (places_of_lines (map token_line (drop (i + 1) lines))) n (omega (arith, places_length (token_line l), le))
+    ∙ get_front (line_places (token_line l)) (places_of_lines (map token_line (drop (i + 1) lines))) n (omega (arith, line_places_length (token_line l), le))
 
 pub place_behind : (lines : List Line) (i n k : ℕ) (l : Line) → i < length lines → l ≡ slice_index_or lines i l → k ≡ length l.tokens.tokens.items → k < n
     → slice_get (places_of_lines (map token_line (drop i lines))) n ≡ slice_get (places_of_lines (map token_line (drop (i + 1) lines))) (n - (k + 1))
 place_behind lines i n k l lt e same le =
     ap (λ (ls : List TokenLine). slice_get (places_of_lines ls) n) (from_line lines i l lt)
     ∙ ap (λ (x : Line). slice_get (line_places (token_line x) ++ places_of_lines (map token_line (drop (i + 1) lines))) n) (sym e)
-    ∙ get_back (line_places (token_line l)) (places_of_lines (map token_line (drop (i + 1) lines))) n (omega (arith, places_length (token_line l), same, le))
-    ∙ ap (slice_get (places_of_lines (map token_line (drop (i + 1) lines)))) (less_is n (length l.tokens.tokens.items) k (length (line_places (token_line l))) (places_length (token_line l)) same)
+    ∙ get_back (line_places (token_line l)) (places_of_lines (map token_line (drop (i + 1) lines))) n (omega (arith, line_places_length (token_line l), same, le))
+    ∙ ap (slice_get (places_of_lines (map token_line (drop (i + 1) lines)))) (less_is n (length l.tokens.tokens.items) k (length (line_places (token_line l))) (line_places_length (token_line l)) same)
   where
     less_is : (n a k b : ℕ) → b ≡ suc a → k ≡ a → n - b ≡ n - (k + 1)
     less_is n a k b h g = omega (arith, h, g)

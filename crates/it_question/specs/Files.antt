@@ -1,5 +1,5 @@
 -- What a file asks, and the first fault of one that has no reading.
-use Rattle.std.specs.Prelude.{◌≡◌, ℕ, ◌-◌, List, [], ◌∷◌, ◌++◌, length, Some, slice_get}
+use Rattle.std.specs.Prelude.{◌≡◌, ℕ, ◌-◌, List, [], ◌∷◌, ◌++◌, length, Some, slice_get, ◌⊎◌}
 use Rattle.it_syntax.specs.declared.types.Code.{Code}
 use Rattle.it_syntax.specs.Letters.{Letter, cleaned}
 use Rattle.it_syntax.specs.FirstFault.{FirstFault}
@@ -40,6 +40,10 @@ FileFaultIsOne = (bytes : List ℕ) (line column row place : ℕ) (c d : Code) �
 
 abbrev pub FileOrFault : Type 0
 FileOrFault = (bytes : List ℕ) (qs : List Asked) (line column : ℕ) (c : Code) → IsFile bytes qs → FileFaultAt bytes line column c → ⊥
+
+-- A file has a reading or a first fault.
+abbrev pub FileHasOne : Type 0
+FileHasOne = (bytes : List ℕ) → ((qs : List Asked) × IsFile bytes qs) ⊎ ((line : ℕ) × (column : ℕ) × (c : Code) × FileFaultAt bytes line column c)
 
 -- The text of a question reads as that question alone.
 abbrev pub TextReadsBack : Type 0

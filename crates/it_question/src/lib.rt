@@ -3,6 +3,7 @@
 
 mod cursor;
 mod files;
+mod laws;
 mod lines;
 mod names;
 mod pieces;
@@ -14,3 +15,4 @@ pub mod types;
 mod words;
 
 pub use files::questions;
+pub use laws::{file_has_one, file_is_one, text_reads_back};
