@@ -1,5 +1,4 @@
 //! Theorems on how a run ends, each as the contract of a function.
-ghost use Rattle.it_question.specs.Files.{FileIsOne, FileFaultIsOne, FileOrFault};
 ghost use Rattle.it_cli.specs.Ends.{Headline, IsComplete, FaultIsDue, LaterIsDue, LongIsDue, UsageIsDue};
 ghost use Rattle.it_cli.specs.Right.{ANoIsTrue, AYesIsTrue, OneVerdict};
 
@@ -11,16 +10,11 @@ pub fn headline()
 /// With a reading, an input that is given and read, whose questions are answered so far, and no fault counted, all is
 /// answered or memory is wanted.
 pub fn is_complete()
-    requires one { FileIsOne }
-    requires apart { FileOrFault }
     ensures { IsComplete }
 {}
 
 /// The usage line and the refusals come where they are due, but for want of memory and for faults.
 pub fn are_due()
-    requires one { FileIsOne }
-    requires one_fault { FileFaultIsOne }
-    requires apart { FileOrFault }
     ensures usage { UsageIsDue }
     ensures long { LongIsDue }
     ensures fault { FaultIsDue }
