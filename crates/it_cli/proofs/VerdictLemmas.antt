@@ -79,8 +79,8 @@ unequal x y h k = omega (arith, ints, k)
 abbrev Breaks : ℕ → Sign → List Term → List Term → List ℤ → Type 0
 Breaks n sign ls rs values = IsPolymatroid n (map_of values) × (Compares sign (side_at n (map_of values) ls) (side_at n (map_of values) rs) → ⊥)
 
-broken : (n : ℕ) (sign : Sign) (ls rs : List Term) (later : Bool) (values : List ℤ)
-    → RefutesFirst n (targets_by sign (λ p. side_at n p ls -ℤ side_at n p rs) (λ p. side_at n p rs -ℤ side_at n p ls)) later values → Breaks n sign ls rs values
+broken : (n : ℕ) (sign : Sign) (ls rs : List Term) (is_back : Bool) (values : List ℤ)
+    → RefutesFirst n (targets_by sign (λ p. side_at n p ls -ℤ side_at n p rs) (λ p. side_at n p rs -ℤ side_at n p ls)) is_back values → Breaks n sign ls rs values
 broken n AtLeast ls rs false values c = (c.counterpoint.polymatroid, apart (side_at n (map_of values) ls) (side_at n (map_of values) rs) c.counterpoint.violated)
 broken n AtLeast ls rs true values c = absurd c
 broken n AtMost ls rs false values c = (c.counterpoint.polymatroid, apart (side_at n (map_of values) rs) (side_at n (map_of values) ls) c.counterpoint.violated)
@@ -90,10 +90,10 @@ broken n Equal ls rs true values c = (c.1.counterpoint.polymatroid, λ e. unequa
 
 -- a right no is true
 pub a_no_is_true : ANoIsTrue
-a_no_is_true q r later values e right =
-    broken (length q.names.variables) r.sign r.left r.right later values (subst (λ a. IsVerdictOn (length q.names.variables) a (Refuted later values)) e right)
+a_no_is_true q r is_back values e right =
+    broken (length q.names.variables) r.sign r.left r.right is_back values (subst (λ a. IsVerdictOn (length q.names.variables) a (Refuted is_back values)) e right)
 
 pub one_verdict : OneVerdict
-one_verdict q ws later values i k yes_answer no_answer =
-    let refuted = a_no_is_true q k.relation later values k.proves no_answer in
+one_verdict q ws is_back values i k yes_answer no_answer =
+    let refuted = a_no_is_true q k.relation is_back values k.proves no_answer in
     refuted.1 (a_yes_is_true q k.relation ws i k k.proves yes_answer (map_of values) refuted.0)

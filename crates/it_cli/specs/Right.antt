@@ -45,9 +45,9 @@ CertifyAll n [] (w ∷ ws) = ⊥
 CertifyAll n (f ∷ fs) [] = ⊥
 CertifyAll n (f ∷ fs) (w ∷ ws) = Certifies n f w × CertifyAll n fs ws
 
--- The values refute the first target; or, `back`, the second one, where the first has a certificate.
+-- The values refute the first target; or, `is_back`, the second one, where the first has a certificate.
 abbrev pub RefutesFirst : ℕ → List Form → Bool → List ℤ → Type 0
-RefutesFirst n [] later values = ⊥
+RefutesFirst n [] is_back values = ⊥
 RefutesFirst n (f ∷ fs) false values = Refutes n f values
 RefutesFirst n (f ∷ []) true values = ⊥
 RefutesFirst n (f ∷ b ∷ fs) true values = ((w : Weights) × Certifies n f w) × Refutes n b values
@@ -55,7 +55,7 @@ RefutesFirst n (f ∷ b ∷ fs) true values = ((w : Weights) × Certifies n f w)
 -- A yes is a certificate of each target, a no a polymatroid that breaks the first target that has none.
 abbrev pub IsVerdict : ℕ → List Form → Reply → Type 0
 IsVerdict n fs (Proved ws) = CertifyAll n fs ws
-IsVerdict n fs (Refuted later values) = RefutesFirst n fs later values
+IsVerdict n fs (Refuted is_back values) = RefutesFirst n fs is_back values
 
 abbrev pub IsVerdictOn : ℕ → Aim → Reply → Type 0
 IsVerdictOn n (Proves r) reply = IsVerdict n (targets n r) reply
@@ -106,9 +106,9 @@ AYesIsTrue = (q : Posed) (r : Stated) (ws : List Weights) → IsQuestion q → I
 
 -- where it is a right no, its values are a polymatroid at which the relation doesn't hold
 abbrev pub ANoIsTrue : Type 0
-ANoIsTrue = (q : Posed) (r : Stated) (later : Bool) (values : List ℤ) → q.aim ≡ Proves r → Right q (Refuted later values)
+ANoIsTrue = (q : Posed) (r : Stated) (is_back : Bool) (values : List ℤ) → q.aim ≡ Proves r → Right q (Refuted is_back values)
     → IsPolymatroid (length q.names.variables) (map_of values) × (Holds (length q.names.variables) (map_of values) r → ⊥)
 
 -- no question has both a right yes and a right no
 abbrev pub OneVerdict : Type 0
-OneVerdict = (q : Posed) (ws : List Weights) (later : Bool) (values : List ℤ) → IsQuestion q → IsAnswerable q → Right q (Proved ws) → Right q (Refuted later values) → ⊥
+OneVerdict = (q : Posed) (ws : List Weights) (is_back : Bool) (values : List ℤ) → IsQuestion q → IsAnswerable q → Right q (Proved ws) → Right q (Refuted is_back values) → ⊥

@@ -1,8 +1,8 @@
 //! Two variables in closed form.
-ghost use Rattle.std.specs.Prelude.{◌≡◌, ◌<◌, ◌≤◌, ◌+◌, ◌*◌, ◌^◌, ℕ, ℤ, pos, neg_ℤ, ◌+ℤ◌, ◌-ℤ◌, ◌*ℤ◌, unsigned_abs, int_lt, length, map, All, IfOk, false, [], ◌∷◌};
+ghost use Rattle.std.specs.Prelude.{◌≡◌, ◌<◌, ◌≤◌, ◌+◌, ◌^◌, pos, ◌+ℤ◌, ◌-ℤ◌, unsigned_abs, int_lt, length, All, IfOk};
 ghost use Rattle.it_space.specs.Answers.{reply_of, weights_of, Refuted};
 ghost use Rattle.it_syntax.specs.Meaning.{stated};
-ghost use Rattle.it_cli.specs.Closed.{plus_at, plus_pair, plus_atom, number_of, no_sums, sums_from, sums_of, less, size_of, weights_of_sums, weights_by, values_of, verdict_of, reply_by, reply_by_two, closed_reply};
+ghost use Rattle.it_cli.specs.Closed.{plus_at, plus_pair, plus_atom, number_of, sums_of, less, size_of, weights_of_sums, weights_by, values_of, verdict_of, reply_by, reply_by_two, closed_reply};
 ghost use Rattle.it_cli.specs.Lines.{IsPrintable};
 
 use it_space::{Answer, Certificate, Point, Space, VarSet};

@@ -1,13 +1,11 @@
 //! The top call.
-ghost use Rattle.std.specs.Prelude.{◌≡◌, ◌≤◌, ◌<◌, ◌+◌, ℕ, length, map, All, IfOk, ◌⊎◌, true, false};
-ghost use Rattle.it_outside.specs.Causes.{Rose};
-ghost use Rattle.it_outside.specs.Traffic.{Gains, TookFront};
+ghost use Rattle.std.specs.Prelude.{◌≡◌, ◌≤◌, length, map, All, IfOk, true, false};
 ghost use Rattle.it_question.specs.Limits.{IsQuestion};
 ghost use Rattle.it_question.specs.Questions.{asked, posed};
 ghost use Rattle.it_cli.specs.Questions.{AreAnswerable, IsAnswerable};
-ghost use Rattle.it_cli.specs.Refusals.{fault_line, later_line, long_line};
+ghost use Rattle.it_cli.specs.Refusals.{fault_line};
 ghost use Rattle.it_cli.specs.Right.{IsAnswerText};
-ghost use Rattle.it_cli.specs.Ends.{is_answer_word, Told, ToldOrMemory, Replied, Settled, Handled, Ends, run_of, usage_line};
+ghost use Rattle.it_cli.specs.Ends.{is_answer_word, Told, ToldOrMemory, Replied, Settled, Handled, Ends, run_of};
 
 use crate::closed::closed;
 use crate::printing::answer_line;
