@@ -5,8 +5,8 @@ pub mod Questions
 pub mod Keywords
 pub mod Trees
 pub mod Sorts
-pub mod Tries
 pub mod Reading
 pub mod Texts
 pub mod Files
 pub mod Limits
+pub mod Stops

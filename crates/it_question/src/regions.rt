@@ -14,7 +14,7 @@ use crate::cursor::Cursor;
 use crate::names::names_line;
 use crate::own::own_lines;
 use crate::sorts::NameSort;
-use crate::tries::tries;
+use crate::tries::{Regions, tries};
 use crate::types::{Region, Verb};
 use crate::words::{AUXILIARIES, CONTAIN, REGION, line_end, word};
 use it_syntax::Names;
@@ -26,6 +26,9 @@ pub const MOST_VARIABLES: usize = 8;
 
 /// The most variables that a region has of its own.
 const MOST_AUXILIARIES: usize = 4;
+
+/// The most `try` lines of a question.
+const MOST_TRIES: usize = 64;
 
 impl Region {
     /// How many more `given` lines may follow those of this region.
@@ -135,14 +138,12 @@ pub fn containment(
     let givens = first.givens_left(givens);
     let rows = first.rows_left(rows);
     let second = region(alloc, cursor, names, givens, rows)?;
-    let tries = tries(
-        alloc,
-        cursor,
-        names,
-        &first.names,
-        &second.names,
-        second.auxiliaries,
-    )?;
+    let regions = Regions {
+        question: names,
+        first: &first.names,
+        second: &second.names,
+    };
+    let tries = tries(alloc, cursor, regions, second.auxiliaries, MOST_TRIES)?;
     word_line(cursor, CONTAIN)?;
     Ok(Verb::Contain {
         first,

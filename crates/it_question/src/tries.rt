@@ -1,13 +1,13 @@
 //! Readers of `try` lines.
 ghost use Rattle.std.specs.Bool.{OnTrue, OnFalse};
-ghost use Rattle.std.specs.Prelude.{◌≡◌, ◌<◌, ◌++◌, [], ◌∷◌, Some, None, OnOk, IfOk, IfErr};
+ghost use Rattle.std.specs.Prelude.{◌≡◌, ◌<◌, ◌++◌, [], ◌∷◌, Some, None, IfOk, IfSome, OnOk, IfErr, length};
 ghost use Rattle.it_syntax.specs.declared.rest.Stop.TheVariants.{Memory};
 ghost use Rattle.it_syntax.specs.Gives.{Gives, GivesBy, Passes};
+ghost use Rattle.it_syntax.specs.Reading.{read_list};
 ghost use Rattle.it_syntax.specs.Relations.{env_of};
 ghost use Rattle.it_question.specs.Cursors.{left};
-ghost use Rattle.it_question.specs.Reading.{read_auxiliary, read_assign, read_set, read_part, read_parts, read_whole, read_try, read_tries};
-ghost use Rattle.it_question.specs.Tries.{after_semicolon, place};
-ghost use Rattle.it_question.specs.Trees.{auxiliary_env, unnamed, is_named, with_set, is_whole, set_or, sets_of, most_lines};
+ghost use Rattle.it_question.specs.Reading.{after_semicolon, read_auxiliary, read_assign, read_set, read_part, read_parts, read_whole, read_try, read_tries};
+ghost use Rattle.it_question.specs.Trees.{auxiliary_env, is_named, with_set, is_whole, set_or, sets_of, unnamed};
 
 use crate::cursor::Cursor;
 use crate::parts::names_set;
@@ -18,105 +18,73 @@ use it_syntax::types::{Code, Symbol};
 use it_syntax::{Names, is_measure};
 use std::alloc::Global;
 
-/// The most further parts of a line that are read.
-const MOST_PARTS: usize = 4;
+/// A set for each auxiliary of the second region, by number, and none where it has none yet. The places behind the
+/// auxiliaries have the empty set.
+pub type Sets = [Option<VarSet>; 4];
 
-/// The most `try` lines of a question.
-const MOST_TRIES: usize = 64;
+/// The regions that substitutions go between: the names of the question, and those of each region.
+#[derive(Clone, Copy)]
+pub struct Regions<'a> {
+    pub question: &'a Names,
+    pub first: &'a Names,
+    pub second: &'a Names,
+}
 
-/// No set yet for an auxiliary; a place behind so many auxiliaries has the empty set.
-fn place(i: u8, auxiliaries: u8) -> Option<VarSet>
-    ensures { result ≡ place i auxiliaries }
+/// Which auxiliary of the second region has this name.
+#[tactic(auto, unfolding(crate::specs::Trees::auxiliary_env))]
+fn auxiliary_of(regions: Regions<'_>, name: &[u8]) -> Option<u8>
+    ensures { result ≡ auxiliary_env regions.entry.question.now regions.entry.second.now name.now }
 {
-    if i < auxiliaries {
-        None
+    let own = regions.question.space().variables;
+    match regions.second.variable(name) {
+        Some(i) => if i < own { None } else { Some(i - own) },
+        None => None,
+    }
+}
+
+#[tactic(auto, using(crate::proofs::SetLemmas::set_lemmas))]
+fn is_named(sets: &Sets, i: u8) -> bool
+    ensures { result ≡ is_named sets.now i }
+{
+    if (i as usize) < sets.len() {
+        sets[i as usize].is_some()
     } else {
-        Some(VarSet::empty())
+        true
     }
 }
 
-fn unnamed(auxiliaries: u8) -> [Option<VarSet>; 4]
-    ensures { result ≡ unnamed auxiliaries }
-{
-    [
-        place(0, auxiliaries),
-        place(1, auxiliaries),
-        place(2, auxiliaries),
-        place(3, auxiliaries),
-    ]
-}
-
-fn is_named(sets: &[Option<VarSet>; 4], i: u8) -> bool
-    ensures named { result ≡ is_named sets.now i }
-    ensures small { OnFalse result (i < 4) }
-{
-    match sets.get(i as usize) {
-        Some(set) => set.is_some(),
-        None => true,
-    }
-}
-
-fn name(sets: &mut [Option<VarSet>; 4], i: u8, set: VarSet)
-    requires { i < 4 }
-    ensures { sets.new ≡ with_set sets.old i set }
-{
-    sets[i as usize] = Some(set);
-}
-
-fn is_whole(sets: &[Option<VarSet>; 4]) -> bool
+#[tactic(auto, using(crate::proofs::SetLemmas::set_lemmas))]
+fn is_whole(sets: &Sets) -> bool
     ensures { result ≡ is_whole sets.now }
 {
-    match sets {
-        [Some(_), Some(_), Some(_), Some(_)] => true,
-        _ => false,
+    for set in sets.iter() {
+        if set.is_none() {
+            return false;
+        }
+    }
+    true
+}
+
+#[tactic(auto, using(crate::proofs::SetLemmas::set_lemmas))]
+fn put(sets: &mut Sets, i: u8, set: VarSet)
+    ensures { sets.new ≡ with_set sets.old i set }
+{
+    if (i as usize) < sets.len() {
+        sets[i as usize] = Some(set);
     }
 }
 
-fn set_or(set: Option<VarSet>) -> VarSet
-    ensures { result ≡ set_or set }
-{
-    match set {
-        Some(set) => set,
-        None => VarSet::empty(),
-    }
-}
-
-fn sets_of(sets: &[Option<VarSet>; 4]) -> [VarSet; 4]
-    ensures { result ≡ sets_of sets.now }
-{
-    let [first, second, third, fourth] = *sets;
-    [set_or(first), set_or(second), set_or(third), set_or(fourth)]
-}
-
-/// Which of the names that the second region adds to the question's variables it is.
-#[tactic(auto, unfolding(crate::specs::Trees::auxiliary_env))]
-fn auxiliary_index(names: &Names, second: &Names, word: &[u8]) -> Option<u8>
-    ensures { result ≡ auxiliary_env names.now second.now word.now }
-{
-    let shared = names.space().variables;
-    match second.variable(word) {
-        Some(i) if i >= shared => Some(i - shared),
-        _ => None,
-    }
-}
-
-/// The auxiliary that a part is for, which has no set yet.
+/// The auxiliary that is named, if it has no set yet.
 #[tactic(auto, unfolding(crate::specs::Reading::read_auxiliary))]
-fn auxiliary(
-    cursor: &mut Cursor<'_>,
-    names: &Names,
-    second: &Names,
-    sets: &[Option<VarSet>; 4],
-) -> Result<u8, Stop>
-    ensures gives { Gives result (left cursor.new) (read_auxiliary (auxiliary_env names.now second.now) sets.now (left cursor.old)) }
-    ensures small { IfOk result (λ i. i < 4) }
+fn auxiliary(cursor: &mut Cursor<'_>, regions: Regions<'_>, sets: &Sets) -> Result<u8, Stop>
+    ensures { Gives result (left cursor.new) (read_auxiliary (auxiliary_env regions.entry.question.now regions.entry.second.now) sets.now (left cursor.old)) }
 {
     match cursor.front() {
         Some((Piece::Word(word), behind)) => {
             if is_measure(word) {
                 return Err(Stop::Fault(Code::Word));
             }
-            match auxiliary_index(names, second, word) {
+            match auxiliary_of(regions, word) {
                 Some(i) => {
                     if is_named(sets, i) {
                         return Err(Stop::Fault(Code::Twice));
@@ -146,40 +114,37 @@ fn assign(cursor: &mut Cursor<'_>) -> Result<(), Stop>
     }
 }
 
-/// `0` for the empty set, or names.
+/// `0`, or a list of names.
 #[tactic(auto, unfolding(crate::specs::Reading::read_set))]
-fn set(cursor: &mut Cursor<'_>, first: &Names) -> Result<VarSet, Stop>
-    ensures { Gives result (left cursor.new) (read_set (env_of first.now) (left cursor.old)) }
+fn set(cursor: &mut Cursor<'_>, names: &Names) -> Result<VarSet, Stop>
+    ensures { Gives result (left cursor.new) (read_set (env_of names.now) (left cursor.old)) }
 {
     match cursor.front() {
-        Some((Piece::Number(0), behind)) => {
-            *cursor = behind;
-            Ok(VarSet::empty())
+        Some((Piece::Number(number), behind)) => {
+            if number == 0 {
+                *cursor = behind;
+                Ok(VarSet::empty())
+            } else {
+                Err(Stop::Fault(Code::Word))
+            }
         }
-        Some((Piece::Number(_), _)) => Err(Stop::Fault(Code::Word)),
-        _ => names_set(cursor, first),
+        _ => names_set(cursor, names),
     }
 }
 
-/// The set of one auxiliary.
+/// `name := set`.
 #[tactic(auto, unfolding(crate::specs::Reading::read_part))]
-fn part(
-    cursor: &mut Cursor<'_>,
-    names: &Names,
-    first: &Names,
-    second: &Names,
-    sets: &mut [Option<VarSet>; 4],
-) -> Result<(), Stop>
-    ensures { GivesBy (λ x. sets.new) result (left cursor.new) (read_part (auxiliary_env names.now second.now) (env_of first.now) sets.old (left cursor.old)) }
+fn part(cursor: &mut Cursor<'_>, regions: Regions<'_>, sets: &mut Sets) -> Result<(), Stop>
+    ensures { GivesBy (λ x. sets.new) result (left cursor.new) (read_part (auxiliary_env regions.entry.question.now regions.entry.second.now) (env_of regions.entry.first.now) sets.old (left cursor.old)) }
 {
-    let i = auxiliary(cursor, names, second, sets)?;
+    let i = auxiliary(cursor, regions, sets)?;
     assign(cursor)?;
-    let set = set(cursor, first)?;
-    name(sets, i, set);
+    let set = set(cursor, regions.first)?;
+    put(sets, i, set);
     Ok(())
 }
 
-/// Takes a semicolon, if one stands there, and says whether.
+/// Takes a `;`, if one stands there, and says whether.
 fn semicolon(cursor: &mut Cursor<'_>) -> bool
     ensures taken { OnTrue result (after_semicolon (left cursor.old) ≡ Some (left cursor.new)) }
     ensures none { OnFalse result (after_semicolon (left cursor.old) ≡ None) }
@@ -194,19 +159,13 @@ fn semicolon(cursor: &mut Cursor<'_>) -> bool
     }
 }
 
-/// Further parts, each behind a semicolon.
-fn parts(
-    cursor: &mut Cursor<'_>,
-    names: &Names,
-    first: &Names,
-    second: &Names,
-    sets: &mut [Option<VarSet>; 4],
-) -> Result<(), Stop>
-    ensures { GivesBy (λ x. sets.new) result (left cursor.new) (read_parts 4 (auxiliary_env names.now second.now) (env_of first.now) sets.old (left cursor.old)) }
+/// Further parts, each behind a `;`.
+fn parts(cursor: &mut Cursor<'_>, regions: Regions<'_>, sets: &mut Sets) -> Result<(), Stop>
+    ensures { GivesBy (λ x. sets.new) result (left cursor.new) (read_parts 4 (auxiliary_env regions.entry.question.now regions.entry.second.now) (env_of regions.entry.first.now) sets.old (left cursor.old)) }
 {
-    let mut allowed = MOST_PARTS;
+    let mut allowed: u8 = 4;
     while semicolon(cursor) {
-        match part(cursor, names, first, second, sets) {
+        match part(cursor, regions, sets) {
             Ok(()) => {}
             Err(stop) => return Err(stop),
         }
@@ -218,9 +177,9 @@ fn parts(
     Ok(())
 }
 
-/// The end of a line, at which each auxiliary has its set.
+/// The line's end, if each auxiliary has its set.
 #[tactic(auto, unfolding(crate::specs::Reading::read_whole))]
-fn whole(cursor: &mut Cursor<'_>, sets: &[Option<VarSet>; 4]) -> Result<(), Stop>
+fn whole(cursor: &mut Cursor<'_>, sets: &Sets) -> Result<(), Stop>
     ensures { Gives result (left cursor.new) (read_whole (is_whole sets.now) (left cursor.old)) }
 {
     if is_whole(sets) {
@@ -232,48 +191,83 @@ fn whole(cursor: &mut Cursor<'_>, sets: &[Option<VarSet>; 4]) -> Result<(), Stop
     }
 }
 
-/// A line, behind its `try`.
+fn set_of(set: &Option<VarSet>) -> VarSet
+    ensures { result ≡ set_or set.now }
+{
+    match set {
+        Some(set) => *set,
+        None => VarSet::empty(),
+    }
+}
+
+fn sets_of(sets: &Sets) -> [VarSet; 4]
+    ensures { result ≡ sets_of sets.now }
+{
+    [
+        set_of(&sets[0]),
+        set_of(&sets[1]),
+        set_of(&sets[2]),
+        set_of(&sets[3]),
+    ]
+}
+
+fn filled() -> Option<VarSet>
+    ensures { result ≡ Some 0 }
+{
+    Some(VarSet::empty())
+}
+
+/// No set yet for each of so many auxiliaries.
+fn unnamed(auxiliaries: u8) -> Sets
+    ensures { result ≡ unnamed auxiliaries }
+{
+    match auxiliaries {
+        0 => [filled(), filled(), filled(), filled()],
+        1 => [None, filled(), filled(), filled()],
+        2 => [None, None, filled(), filled()],
+        3 => [None, None, None, filled()],
+        _ => [None, None, None, None],
+    }
+}
+
+/// A substitution, up to the line's end.
 #[tactic(auto, unfolding(crate::specs::Reading::read_try))]
-fn try_line(
+fn substitution(
     cursor: &mut Cursor<'_>,
-    names: &Names,
-    first: &Names,
-    second: &Names,
+    regions: Regions<'_>,
     auxiliaries: u8,
 ) -> Result<[VarSet; 4], Stop>
-    ensures { Gives result (left cursor.new) (read_try (auxiliary_env names.now second.now) (env_of first.now) (unnamed auxiliaries) (left cursor.old)) }
+    ensures { Gives result (left cursor.new) (read_try (auxiliary_env regions.entry.question.now regions.entry.second.now) (env_of regions.entry.first.now) (unnamed auxiliaries) (left cursor.old)) }
 {
     let mut sets = unnamed(auxiliaries);
-    part(cursor, names, first, second, &mut sets)?;
-    parts(cursor, names, first, second, &mut sets)?;
+    part(cursor, regions, &mut sets)?;
+    parts(cursor, regions, &mut sets)?;
     whole(cursor, &sets)?;
     Ok(sets_of(&sets))
 }
 
-fn add(tries: &mut Vec<[VarSet; 4]>, next: [VarSet; 4]) -> Result<(), Stop>
-    ensures added { OnOk result (tries.new.items ≡ tries.old.items ++ next ∷ []) }
+fn add(tries: &mut Vec<[VarSet; 4]>, sets: [VarSet; 4]) -> Result<(), Stop>
+    ensures added { OnOk result (tries.new.items ≡ tries.old.items ++ sets ∷ []) }
     ensures memory { IfErr result (λ e. e ≡ Memory) }
 {
-    match tries.push(next) {
+    match tries.push(sets) {
         Ok(()) => Ok(()),
         Err(_) => Err(Stop::Memory),
     }
 }
 
-/// The `try` lines that stand there: sets of the first region's variables for the names that the second adds to the
-/// question's.
+/// The `try` lines that stand there, at most so many. The second region has so many auxiliaries.
 pub fn tries(
     alloc: Global,
     cursor: &mut Cursor<'_>,
-    names: &Names,
-    first: &Names,
-    second: &Names,
+    regions: Regions<'_>,
     auxiliaries: u8,
+    most: usize,
 ) -> Result<Vec<[VarSet; 4]>, Stop>
-    ensures { GivesBy (λ x. x.items) result (left cursor.new) (read_tries most_lines (auxiliary_env names.now second.now) (env_of first.now) (unnamed auxiliaries) (left cursor.old)) }
+    ensures { GivesBy (λ x. x.items) result (left cursor.new) (read_tries most (auxiliary_env regions.entry.question.now regions.entry.second.now) (env_of regions.entry.first.now) (unnamed auxiliaries) (left cursor.old)) }
 {
     let mut found = Vec::new(alloc);
-    let mut allowed = MOST_TRIES;
+    let mut allowed = most;
     while let Some(behind) = behind_word(*cursor, TRY) {
         if auxiliaries == 0 {
             return Err(Stop::Fault(Code::Word));
@@ -282,7 +276,7 @@ pub fn tries(
             return Err(Stop::Fault(Code::Many));
         }
         *cursor = behind;
-        match try_line(cursor, names, first, second, auxiliaries) {
+        match substitution(cursor, regions, auxiliaries) {
             Ok(next) => add(&mut found, next)?,
             Err(stop) => return Err(stop),
         }

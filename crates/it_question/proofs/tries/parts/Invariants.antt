@@ -5,9 +5,11 @@ use Rattle.it_question.specs.Reading.{read_parts}
 use Rattle.it_question.specs.Trees.{auxiliary_env}
 use Rattle.it_question.proofs.tries.parts.Given as goal
 
--- what is still read is the whole
 abbrev pub invariant-loop-cursor : goal.invariant-loop-cursor
-invariant-loop-cursor l = read_parts l.allowed (auxiliary_env l.names l.second) (env_of l.first) l.sets (left l.cursor) ≡ read_parts 4 (auxiliary_env l.names l.second) (env_of l.first) l.initial.sets (left l.initial.cursor)
+invariant-loop-cursor l =
+    let aux = auxiliary_env l.regions.question.now l.regions.second.now in
+    let env = env_of l.regions.first.now in
+    read_parts l.allowed aux env l.sets (left l.cursor) ≡ read_parts 4 aux env l.fn.sets (left l.fn.cursor)
 
 abbrev pub decreases-loop-cursor : goal.decreases-loop-cursor
 decreases-loop-cursor l = l.allowed
