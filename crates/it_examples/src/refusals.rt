@@ -103,6 +103,118 @@ const FILES: [(&[u8], &[u8]); 63] = [
     (b"vars X\nprove", b"refused 2:6 word\n"),
 ];
 
+/// Faults of spelling in every kind of line, CR LF, and a second question, which knows none of the names of the first.
+const SPELLINGS: [(&[u8], &[u8]); 42] = [
+    (b"vars X, $\n", b"refused 1:9 byte\n"),
+    (b"vars 18446744073709551616\n", b"refused 1:6 number\n"),
+    (b"vars X\n$\n", b"refused 2:1 byte\n"),
+    (b"vars X\n18446744073709551616\n", b"refused 2:1 number\n"),
+    (b"vars X\nabcdefghijklmnopq\n", b"refused 2:1 many\n"),
+    (b"vars X\nrates $\n", b"refused 2:7 byte\n"),
+    (
+        b"vars X\nrates R, 18446744073709551616\n",
+        b"refused 2:10 number\n",
+    ),
+    (b"vars X\nrates abcdefghijklmnopq\n", b"refused 2:7 many\n"),
+    (
+        b"vars X\nrates X, abcdefghijklmnopq\n",
+        b"refused 2:7 twice\n",
+    ),
+    (b"vars X\ngiven $\n", b"refused 2:7 byte\n"),
+    (b"vars X\ngiven markov X -> $\n", b"refused 2:19 byte\n"),
+    (
+        b"vars X\ngiven indep 18446744073709551616\n",
+        b"refused 2:13 number\n",
+    ),
+    (
+        b"vars X\ngiven func X of abcdefghijklmnopq\n",
+        b"refused 2:17 many\n",
+    ),
+    (b"vars X\nrow 0 $\n", b"refused 2:7 byte\n"),
+    (
+        b"vars X\nrow H(18446744073709551616) >= 0\n",
+        b"refused 2:7 number\n",
+    ),
+    (
+        b"vars X\nrow abcdefghijklmnopq >= 0\n",
+        b"refused 2:5 many\n",
+    ),
+    (b"vars X\nregion $\n", b"refused 2:8 byte\n"),
+    (
+        b"vars X\nregion 18446744073709551616\n",
+        b"refused 2:8 number\n",
+    ),
+    (b"vars X\nregion abcdefghijklmnopq\n", b"refused 2:8 many\n"),
+    (b"vars X\nregion\n/\n", b"refused 3:1 byte\n"),
+    (b"vars X\nregion\nregion\n(\n", b"refused 4:1 word\n"),
+    (b"vars X\nregion\naux U, $\n", b"refused 3:8 byte\n"),
+    (
+        b"vars X\nregion\naux 18446744073709551616\n",
+        b"refused 3:5 number\n",
+    ),
+    (
+        b"vars X\nregion\naux U abcdefghijklmnopq\n",
+        b"refused 3:7 many\n",
+    ),
+    (
+        b"vars X\nregion\nregion\naux U\ntry U := abcdefghijklmnopq\n",
+        b"refused 5:10 many\n",
+    ),
+    (
+        b"vars X\nregion\nregion\naux U\ntry U := X\n$\n",
+        b"refused 6:1 byte\n",
+    ),
+    (b"vars X\nrates R\neliminate $\n", b"refused 3:11 byte\n"),
+    (
+        b"vars X\nrates R\neliminate R, 18446744073709551616\n",
+        b"refused 3:14 number\n",
+    ),
+    (
+        b"vars X\nrates R\neliminate abcdefghijklmnopq\n",
+        b"refused 3:11 many\n",
+    ),
+    (
+        b"vars X\nregion\nregion\ncontain $\n",
+        b"refused 4:9 byte\n",
+    ),
+    (
+        b"vars X\nregion\nregion\ncontain 18446744073709551616\n",
+        b"refused 4:9 number\n",
+    ),
+    (
+        b"vars X\nregion\nregion\ncontain abcdefghijklmnopq\n",
+        b"refused 4:9 many\n",
+    ),
+    (b"vars X\nprove 0 >= 0\n$\n", b"refused 3:1 byte\n"),
+    (
+        b"vars X\nprove 0 >= 0\n18446744073709551616\n",
+        b"refused 3:1 number\n",
+    ),
+    (
+        b"vars X\nprove 0 >= 0\nabcdefghijklmnopq\n",
+        b"refused 3:1 many\n",
+    ),
+    (b"vars X\r\n\r\n", b"refused 3:1 unfinished\n"),
+    (b"vars X,\r\nprove 0 >= 0\r\n", b"refused 1:8 word\n"),
+    (b"vars X\r\nprove H(X) >=\r\n", b"refused 2:14 word\n"),
+    (
+        b"vars X, Y\nprove 0 >= 0\nvars X\nprove H(Y) >= 0\n",
+        b"refused 4:9 name\n",
+    ),
+    (
+        b"vars X\nrates R\nprove 0 >= 0\nvars X\nprove R >= 0\n",
+        b"refused 5:7 name\n",
+    ),
+    (
+        b"vars X, Y\nprove 0 >= 0\nvars X, Y\n",
+        b"refused 4:1 unfinished\n",
+    ),
+    (
+        b"vars X\ngiven + markov >= 0\nprove 0 >= 0\n",
+        b"refused 2:9 name\n",
+    ),
+];
+
 /// New names: `vars`, `rates` and `aux`.
 const DECLARATIONS: [(&[u8], &[u8]); 52] = [
     (b"vars  \n", b"refused 1:5 word\n"),
@@ -699,6 +811,7 @@ fn broken_files_are_refused(rt: HostRuntime) -> Result<(), Fail> {
     let alloc = rt.alloc();
     let refused = Status::Refused;
     each_gets(&rt, alloc, "files", &FILES, refused)?;
+    each_gets(&rt, alloc, "spellings", &SPELLINGS, refused)?;
     each_gets(&rt, alloc, "declarations", &DECLARATIONS, refused)?;
     each_gets(&rt, alloc, "relations", &RELATIONS, refused)?;
     each_gets(&rt, alloc, "conditions", &CONDITIONS, refused)?;
