@@ -7,6 +7,7 @@ use std::marker::PhantomData;
 const PAIRS: u32 = 256;
 const LIMIT: u128 = 1 << 126;
 const LARGEST: u128 = i128::MAX as u128;
+const SHORT: u128 = u64::MAX as u128;
 
 struct Wide;
 
@@ -15,7 +16,6 @@ trait Steps: Copy {
     const SHORT: bool;
     fn common(a: u128, b: u128) -> u128;
     fn divided(a: u128, k: u128) -> u128;
-    fn divided_with_rest(a: u128, k: u128) -> (u128, u128);
     fn product(a: i128, b: i128) -> Option<i128>;
 }
 
@@ -35,10 +35,6 @@ impl Steps for Plain {
 
     fn divided(a: u128, k: u128) -> u128 {
         a / k
-    }
-
-    fn divided_with_rest(a: u128, k: u128) -> (u128, u128) {
-        (a / k, a % k)
     }
 
     fn product(a: i128, b: i128) -> Option<i128> {
@@ -94,14 +90,6 @@ impl Steps for Short {
     }
 
     #[inline]
-    fn divided_with_rest(a: u128, k: u128) -> (u128, u128) {
-        match (u64::try_from(a), u64::try_from(k)) {
-            (Ok(a), Ok(k)) => (u128::from(a / k), u128::from(a % k)),
-            _ => (a / k, a % k),
-        }
-    }
-
-    #[inline]
     fn product(a: i128, b: i128) -> Option<i128> {
         if let (Ok(a), Ok(b)) = (i64::try_from(a), i64::try_from(b)) {
             return Some(i128::from(a) * i128::from(b));
@@ -136,19 +124,34 @@ fn signed_divided<S: Steps>(a: i128, k: u128) -> i128 {
     if a < 0 { -size } else { size }
 }
 
-fn compare_parts<S: Steps>(a: u128, b: u128, c: u128, d: u128) -> Ordering {
+fn short_compare(a: u64, b: u64, c: u64, d: u64) -> Ordering {
     let (mut top, mut bottom, mut other_top, mut other_bottom) = (a, b, c, d);
     loop {
-        let (whole, rest) = S::divided_with_rest(top, bottom);
-        let (other_whole, other_rest) = S::divided_with_rest(other_top, other_bottom);
+        let (whole, other_whole) = (top / bottom, other_top / other_bottom);
         if whole != other_whole {
             return whole.cmp(&other_whole);
         }
-        if rest == 0 {
-            return if other_rest == 0 { Ordering::Equal } else { Ordering::Less };
+        let (rest, other_rest) = (top % bottom, other_top % other_bottom);
+        if rest == 0 || other_rest == 0 {
+            return rest.cmp(&other_rest);
         }
-        if other_rest == 0 {
-            return Ordering::Greater;
+        (top, bottom, other_top, other_bottom) = (other_bottom, other_rest, bottom, rest);
+    }
+}
+
+fn compare_parts<S: Steps>(a: u128, b: u128, c: u128, d: u128) -> Ordering {
+    let (mut top, mut bottom, mut other_top, mut other_bottom) = (a, b, c, d);
+    loop {
+        if S::SHORT && top <= SHORT && bottom <= SHORT && other_top <= SHORT && other_bottom <= SHORT {
+            return short_compare(top as u64, bottom as u64, other_top as u64, other_bottom as u64);
+        }
+        let (whole, other_whole) = (top / bottom, other_top / other_bottom);
+        if whole != other_whole {
+            return whole.cmp(&other_whole);
+        }
+        let (rest, other_rest) = (top % bottom, other_top % other_bottom);
+        if rest == 0 || other_rest == 0 {
+            return rest.cmp(&other_rest);
         }
         (top, bottom, other_top, other_bottom) = (other_bottom, other_rest, bottom, rest);
     }
@@ -223,13 +226,17 @@ impl<S: Steps> Fraction<S> {
         if S::SHORT && self.bottom == other.bottom {
             return self.top.cmp(&other.top);
         }
-        let (top, other_top) = (self.top.unsigned_abs(), other.top.unsigned_abs());
         match (self.top < 0, other.top < 0) {
-            (false, false) => compare_parts::<S>(top, self.bottom, other_top, other.bottom),
+            (false, false) => self.compare_size(other),
             (false, true) => Ordering::Greater,
             (true, false) => Ordering::Less,
-            (true, true) => compare_parts::<S>(other_top, other.bottom, top, self.bottom),
+            (true, true) => other.compare_size(self),
         }
+    }
+
+    fn compare_size(self, other: Self) -> Ordering {
+        let (top, other_top) = (self.top.unsigned_abs(), other.top.unsigned_abs());
+        compare_parts::<S>(top, self.bottom, other_top, other.bottom)
     }
 }
 
@@ -312,14 +319,21 @@ fn run<S: Steps>(kernel: &str, parts: &str, turns: u32) -> i128 {
     let mut state = 0x9e37_79b9_7f4a_7c15;
     let pairs: Vec<Pair<S>> = (0..PAIRS).map(|_| made_pair(kernel, parts, &mut state)).collect();
     let mut sum: i128 = 0;
+    let mut orders: i64 = 0;
     for _ in 0..turns {
         match kernel {
             "add" => pairs.iter().for_each(|(x, y)| sum = counted(sum, x.add(*y))),
             "mul" => pairs.iter().for_each(|(x, y)| sum = counted(sum, x.mul(*y))),
-            _ => pairs.iter().for_each(|(x, y)| sum = sum.wrapping_add(x.compare(*y) as i128)),
+            _ => pairs.iter().for_each(|(x, y)| {
+                orders = match x.compare(*y) {
+                    Ordering::Less => orders.wrapping_sub(1),
+                    Ordering::Equal => orders,
+                    Ordering::Greater => orders.wrapping_add(1),
+                }
+            }),
         }
     }
-    sum
+    sum.wrapping_add(i128::from(orders))
 }
 
 fn main() {

@@ -7,6 +7,7 @@ mod pairs;
 
 use crate::pairs::{Pair, pairs};
 use it_fraction::{Fraction, Wide};
+use std::cmp::Ordering;
 use std::io;
 
 // the sum so far with one more result
@@ -39,11 +40,15 @@ fn products(pairs: &[Pair], turns: u32) -> i128 {
     sum
 }
 
-fn orders(pairs: &[Pair], turns: u32) -> i128 {
-    let mut sum: i128 = 0;
+fn orders(pairs: &[Pair], turns: u32) -> i64 {
+    let mut sum: i64 = 0;
     for _ in 0..turns {
         for pair in pairs {
-            sum = sum.wrapping_add(pair.left.compare(pair.right) as i128);
+            sum = match pair.left.compare(pair.right) {
+                Ordering::Less => sum.wrapping_sub(1),
+                Ordering::Equal => sum,
+                Ordering::Greater => sum.wrapping_add(1),
+            };
         }
     }
     sum
@@ -60,7 +65,7 @@ fn main(rt: HostRuntime) -> io::Result<()> {
     let sum = match kernel.as_str() {
         "add" => sums(&pairs, turns),
         "mul" => products(&pairs, turns),
-        _ => orders(&pairs, turns),
+        _ => i128::from(orders(&pairs, turns)),
     };
     println!(rt; "{sum}")
 }

@@ -11,7 +11,7 @@ use Rattle.it_syntax.specs.declared.types.Atom.{Atom}
 use Rattle.it_syntax.specs.declared.types.Atom.TheVariants.{Mutual}
 use Rattle.it_syntax.specs.Meaning.{atom_at}
 use Rattle.it_syntax.specs.Givens.{union_of, links, links_from}
-use Rattle.it_canon.specs.Demands.{equations, equation, States, ArePartsFrom, AreParts}
+use Rattle.it_canon.specs.Demands.{Demand, equations, equation, States, AreStated, parts_from, AreParts}
 
 -- a union of sets of n variables is one
 pub union_below : (n : ℕ) (sets : List ℕ) → All (λ s. s < 2 ^ n) sets → union_of sets < 2 ^ n
@@ -42,9 +42,13 @@ links-length past [] = refl
 links-length past (s ∷ []) = refl
 links-length past (s ∷ t ∷ sets) = omega (arith, links-length (bit_or past s) (t ∷ sets))
 
-chain-length : (n : ℕ) (sets : List ℕ) → length (equations n (links sets)) ≡ length sets - 2
+pub chain-length : (n : ℕ) (sets : List ℕ) → length (equations n (links sets)) ≡ length sets - 2
 chain-length n [] = refl
 chain-length n (s ∷ sets) = length-map (links_from s sets) (λ link. equation (λ p. atom_at n p link)) ∙ links-length s sets ∙ omega arith
+
+-- one constraint for each demand, in order, as parts of a line from number `part` on
+abbrev pub ArePartsFrom : ℕ → Space → ℕ → ℕ → List Demand → List Constraint → Type 0
+ArePartsFrom part s line parts ds cs = AreStated s (parts_from part line parts ds) cs
 
 -- the equations of the links before place i are there: with those of the links from there on they are all
 pub record IsChained (space : Space) (line parts : ℕ) (sets : List ℕ) (past i : ℕ) (constraints : List Constraint) : Type 0 where

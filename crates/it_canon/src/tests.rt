@@ -1,10 +1,14 @@
-ghost use Rattle.std.specs.Prelude.{◌<◌, ◌≤◌, ◌^◌, length, All};
+ghost use Rattle.std.specs.Prelude.{◌<◌, ◌≤◌, ◌^◌, length, map, All};
 ghost use Rattle.std.specs.Bool.{OnTrue};
 ghost use Rattle.it_syntax.specs.Givens.{condition, IsRelationOf, AreSetsOf, IsConditionOf};
 ghost use Rattle.it_syntax.specs.Meaning.{IsAtomOf, stated};
+ghost use Rattle.it_question.specs.Limits.{IsQuestion};
+ghost use Rattle.it_question.specs.Questions.{posed};
 
-use crate::{canon, canon_given};
-use it_space::{Kind, Origin, Space, VarSet};
+use crate::{canon, canon_given, problem, system};
+use it_question::types::{Question, Verb};
+use it_space::{Constraint, Kind, Origin, Row, Space, VarSet};
+use it_syntax::Names;
 use it_syntax::types::{Atom, Expr, Given, Relation, Sign, Term};
 use std::alloc::{AllocError, Global};
 use std::process::Abort;
@@ -340,4 +344,138 @@ fn each_demand_of_a_given_is_a_constraint(rt: HostRuntime) -> Result<(), Fail> {
         &[entropy(1, Y, 0)],
     )?);
     demands(&rt, alloc, equal, equation, &[&[(2, 3), (4, -1)]])
+}
+
+fn are_conditions(givens: &[Given]) -> bool
+    ensures { OnTrue result (All (IsConditionOf 4 2) (map condition givens.now)) }
+{
+    givens.iter().all(|given| is_condition(given))
+}
+
+fn are_relations(rows: &[Relation]) -> bool
+    ensures { OnTrue result (All (IsRelationOf 4 2) (map stated rows.now)) }
+{
+    rows.iter().all(|row| is_relation(row))
+}
+
+/// Whether the question has this space, lines within the limits, and a relation to prove.
+fn is_question(question: &Question) -> bool
+    ensures { OnTrue result (IsQuestion (posed question.now)) }
+{
+    let (givens, rows) = (question.givens.as_slice(), question.rows.as_slice());
+    let Verb::Prove(target) = &question.verb else {
+        return false;
+    };
+    question.names.space() == SPACE
+        && givens.len() <= 64
+        && rows.len() <= 64
+        && are_conditions(givens)
+        && are_relations(rows)
+        && is_relation(target)
+}
+
+/// The variables W, X, Y, Z and the rates R and S.
+fn some_names(alloc: Global) -> Result<Names, AllocError> {
+    let mut names = Names::new(alloc);
+    let variables: [&[u8]; 4] = [b"W", b"X", b"Y", b"Z"];
+    for name in variables {
+        let is_new = names.variable(name).is_none() && names.rate(name).is_none();
+        if is_new && 1 <= name.len() && name.len() <= 16 && names.space().variables < 10 {
+            names.add_variable(name)?;
+        }
+    }
+    let rates: [&[u8]; 2] = [b"R", b"S"];
+    for name in rates {
+        let is_new = names.variable(name).is_none() && names.rate(name).is_none();
+        if is_new && 1 <= name.len() && name.len() <= 16 && names.space().rates < 16 {
+            names.add_rate(name)?;
+        }
+    }
+    Ok(names)
+}
+
+/// Given the chain X -> Y -> Z, and rows R <= H(X) and S = H(Y): prove 0 >= 0.
+fn asked(alloc: Global) -> Result<Question, AllocError> {
+    let mut givens = Vec::new(alloc);
+    givens.push(Given::Markov(sets(alloc, &[X, Y, Z])?))?;
+    let mut rows = Vec::new(alloc);
+    rows.push(related(alloc, &[rate(1, 0)], Sign::AtMost, &[entropy(1, X, 0)])?)?;
+    rows.push(related(alloc, &[rate(1, 1)], Sign::Equal, &[entropy(1, Y, 0)])?)?;
+    Ok(Question {
+        names: some_names(alloc)?,
+        text: Vec::new(alloc),
+        givens,
+        rows,
+        verb: Verb::Prove(related(alloc, &[NOTHING], Sign::AtLeast, &[NOTHING])?),
+    })
+}
+
+/// The constraint has this origin, kind and row.
+fn is_stated(
+    rt: &impl Abort,
+    constraint: &Constraint,
+    origin: Origin,
+    kind: Kind,
+    row: &[(u32, i128)],
+) {
+    assert_eq!(rt; constraint.origin, origin);
+    assert_eq!(rt; constraint.kind, kind);
+    assert_eq!(rt; constraint.row.terms(), row);
+}
+
+fn are_asked(rt: &impl Abort, constraints: &[Constraint]) {
+    assert_eq!(rt; constraints.len(), 3);
+    let chain = Origin::Given {
+        line: 1,
+        part: 1,
+        parts: 1,
+    };
+    let link: [(u32, i128); 4] = [(4, -1), (6, 1), (12, 1), (14, -1)];
+    is_stated(rt, &constraints[0], chain, Kind::Equation, &link);
+    let (first, second) = (Origin::Rate { line: 1 }, Origin::Rate { line: 2 });
+    is_stated(
+        rt,
+        &constraints[1],
+        first,
+        Kind::Inequality,
+        &[(2, 1), (16, -1)],
+    );
+    is_stated(
+        rt,
+        &constraints[2],
+        second,
+        Kind::Equation,
+        &[(4, -1), (17, 1)],
+    );
+}
+
+#[test]
+fn a_question_has_constraints(rt: HostRuntime) -> Result<(), Fail> {
+    let alloc = rt.alloc();
+    let question = asked(alloc)?;
+    assert!(rt; is_question(&question));
+    let problem = problem(alloc, &question)?;
+    are_asked(&rt, problem.constraints.as_slice());
+    Ok(())
+}
+
+fn has_terms(rt: &impl Abort, row: &Row, terms: &[(u32, i128)]) {
+    assert_eq!(rt; row.terms(), terms);
+}
+
+fn are_halves(rt: &impl Abort, rows: &[Row]) {
+    assert_eq!(rt; rows.len(), 3);
+    has_terms(rt, &rows[0], &[(2, 1), (16, -1)]);
+    has_terms(rt, &rows[1], &[(4, -1), (17, 1)]);
+    has_terms(rt, &rows[2], &[(4, 1), (17, -1)]);
+}
+
+#[test]
+fn an_equation_has_two_rows_in_a_system(rt: HostRuntime) -> Result<(), Fail> {
+    let alloc = rt.alloc();
+    let question = asked(alloc)?;
+    assert!(rt; is_question(&question));
+    let system = system(alloc, &question)?;
+    are_halves(&rt, system.rows.as_slice());
+    Ok(())
 }

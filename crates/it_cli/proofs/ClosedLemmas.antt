@@ -1,24 +1,30 @@
 -- The closed form gives right answers.
-use Rattle.std.proofs.Common.{◌≡◌, ℕ, zero, suc, ◌-◌, ◌^◌, ◌<◌, ℤ, pos, neg_ℤ, ◌+ℤ◌, ◌-ℤ◌, ◌*ℤ◌, ◌≤ℤ◌, refl, sym, ap, subst, ◌∙◌, arith, List, [], ◌∷◌, All, Bool, true, false, bit_or, int_lt, if◌then◌else◌}
+use Rattle.std.proofs.Common.{◌≡◌, ℕ, zero, suc, ◌<◌, ◌≤◌, ◌+◌, ℤ, pos, neg_ℤ, ◌+ℤ◌, ◌-ℤ◌, ◌*ℤ◌, ◌≤ℤ◌, refl, sym, ap, subst, ◌∙◌, arith, List, [], ◌∷◌, length, All, Bool, true, false, bit_or, int_lt, if◌then◌else◌}
 use Rattle.std.proofs.lemmas.Int.{ints}
 use Rattle.std.proofs.lemmas.Nat.{or_lt}
 use Rattle.std.proofs.lemmas.List.Elements.{All-head, All-tail}
 use Rattle.it_number.proofs.Integers.{zring}
 use Rattle.it_number.proofs.Ring.{ring, v, plus, times, minus, one, nil}
 use Rattle.it_number.proofs.IntegerRing.{ring_ℤ}
-use Rattle.it_space.specs.Answers.{Weights, Reply, Proved, Refuted}
+use Rattle.it_space.specs.Answers.{Reply}
+use Rattle.it_syntax.specs.declared.types.Sign.{Sign}
+use Rattle.it_syntax.specs.declared.types.Sign.TheVariants.{AtLeast, AtMost, Equal}
 use Rattle.it_syntax.specs.declared.types.Atom.{Atom}
 use Rattle.it_syntax.specs.declared.types.Atom.TheVariants.{Nothing, Entropy, Mutual, Rate}
 use Rattle.it_syntax.specs.declared.types.Term.{Term}
-use Rattle.it_syntax.specs.Meaning.{IsAtomOf, atom_at, side_at}
-use Rattle.it_polymatroid.specs.Polymatroid.{IsPolymatroid}
+use Rattle.it_syntax.specs.Meaning.{Stated, IsAtomOf, atom_at, side_at}
+use Rattle.it_syntax.specs.Givens.{IsRelationOf}
+use Rattle.it_question.specs.Questions.{Posed, Asked, Proves}
+use Rattle.it_question.specs.Limits.{IsQuestion, IsAimOver}
 use Rattle.it_space.specs.Rows.{map_of}
-use Rattle.it_polymatroid.specs.Certificates.{IsLinear, elemental_generators, weighted, IsAllowed, IsCertificate, one_at}
-use Rattle.it_polymatroid.proofs.Forms.{linear_at, linear-add, linear-scale, linear_same, one_at-zero}
-use Rattle.it_polymatroid.proofs.Certified.{elementals_prove}
-use Rattle.it_cli.specs.Closed.{Sums, no_sums, sums_at, plus_at, plus_pair, plus_atom, plus_term, number_of, sums_from, weights_of_sums, closed_reply}
-use Rattle.it_cli.specs.Questions.{Asked, IsOnTwo}
-use Rattle.it_cli.specs.Right.{variables, target_of, Refutes, Right, IsAnswerText, AYesIsTrue, OneVerdict}
+use Rattle.it_polymatroid.specs.Certificates.{Form, elemental_generators, weighted, IsAllowed, one_at}
+use Rattle.it_polymatroid.proofs.Forms.{one_at-zero}
+use Rattle.it_cli.specs.declared.closed.Extreme.TheVariants.{FirstAlone, SecondAlone, Same}
+use Rattle.it_cli.specs.declared.closed.Verdict.{Verdict}
+use Rattle.it_cli.specs.declared.closed.Verdict.TheVariants.{Valid, Broken}
+use Rattle.it_cli.specs.Closed.{Sums, no_sums, sums_at, plus_at, plus_pair, plus_atom, plus_term, number_of, sums_from, sums_of, less, weights_of_sums, weights_by, values_of, verdict_of, reply_by, reply_by_two, closed_by, closed_reply}
+use Rattle.it_cli.specs.Questions.{IsAnswerable}
+use Rattle.it_cli.specs.Right.{forward, back, targets_by, targets, Certifies, Refutes, IsVerdict, IsVerdictOn, Right, IsAnswerText}
 use Rattle.it_cli.specs.Lines.{lines}
 use Rattle.it_cli.proofs.TwoVariables.{small}
 
@@ -63,43 +69,40 @@ sums_from_is p e s (t ∷ ts) h =
     ∙ ap (λ x. x +ℤ side_at 2 p ts) (plus_atom_is p e s t.atom (number_of t) (All-head (λ t. IsAtomOf 2 0 t.atom) t ts h))
     ∙ omega (arith, ints)
 
--- what the target is worth, in terms of three coefficients
-abbrev IsWorth : Asked → Sums → Type 0
-IsWorth q s = (p : ℕ → ℤ) → p 0 ≡ pos 0 → target_of q p ≡ sums_at p s
+-- the form's value is that of three coefficients
+abbrev IsWorth : Form → Sums → Type 0
+IsWorth f s = (p : ℕ → ℤ) → p 0 ≡ pos 0 → f p ≡ sums_at p s
 
-worth_is : (q : Asked) → IsOnTwo q → IsWorth q (sums_from no_sums q.relation.left)
-worth_is q k p e =
-    ap (λ n. side_at n p q.relation.left -ℤ side_at n p q.relation.right) k.two
-    ∙ ap (λ ts. side_at 2 p q.relation.left -ℤ side_at 2 p ts) k.zero
-    ∙ sym (sums_from_is p e no_sums q.relation.left k.sets ∙ nothing (p 1) (p 2) (p 3) (side_at 2 p q.relation.left))
+side_is : (ts : List Term) → All (λ t. IsAtomOf 2 0 t.atom) ts → IsWorth (λ p. side_at 2 p ts) (sums_of ts)
+side_is ts h p e = sym (sums_from_is p e no_sums ts h ∙ nothing (p 1) (p 2) (p 3) (side_at 2 p ts))
   where
-    nothing : (a b c d : ℤ) → ((pos 0 *ℤ a +ℤ pos 0 *ℤ b) +ℤ pos 0 *ℤ c) +ℤ d ≡ d -ℤ (pos 0 *ℤ pos 0 +ℤ pos 0)
+    nothing : (a b c d : ℤ) → ((pos 0 *ℤ a +ℤ pos 0 *ℤ b) +ℤ pos 0 *ℤ c) +ℤ d ≡ d
     nothing a b c d = omega (arith, ints)
 
-counterpoint : (q : Asked) (s : Sums) (x y both : ℤ) → variables q ≡ 2 → IsWorth q s → x ≤ℤ both → y ≤ℤ both → both ≤ℤ (x +ℤ y)
-    → ((s.x *ℤ x +ℤ s.y *ℤ y) +ℤ s.both *ℤ both) ≤ℤ neg_ℤ (pos 1) → Refutes q (x ∷ y ∷ both ∷ [])
-counterpoint q s x y both e w up_x up_y below low = record {
-  complete = subst (λ n. 3 ≡ 2 ^ n - 1) (sym e) refl;
+less_is : (f g : Form) (s t : Sums) → IsWorth f s → IsWorth g t → IsWorth (λ p. f p -ℤ g p) (less s t)
+unfolding less
+less_is f g s t h k p e = ap (λ x. x -ℤ g p) (h p e) ∙ ap (λ x. sums_at p s -ℤ x) (k p e) ∙ omega (arith, zring)
+
+counterpoint : (f : Form) (s : Sums) (x y both : ℤ) → IsWorth f s → x ≤ℤ both → y ≤ℤ both → both ≤ℤ (x +ℤ y)
+    → ((s.x *ℤ x +ℤ s.y *ℤ y) +ℤ s.both *ℤ both) ≤ℤ neg_ℤ (pos 1) → Refutes 2 f (x ∷ y ∷ both ∷ [])
+counterpoint f s x y both w up_x up_y below low = record {
+  complete = refl;
   counterpoint = record {
-    polymatroid = subst (λ n. IsPolymatroid n (map_of (x ∷ y ∷ both ∷ []))) (sym e) (small x y both up_x up_y below);
+    polymatroid = small x y both up_x up_y below;
     violated = subst (λ (z : ℤ). z ≤ℤ neg_ℤ (pos 1)) (sym (w (map_of (x ∷ y ∷ both ∷ [])) refl)) low;
   };
 }
 
-certificate : (q : Asked) (s : Sums) → variables q ≡ 2 → IsWorth q s → pos 0 ≤ℤ (weights_of_sums s).0 → pos 0 ≤ℤ (weights_of_sums s).1 → pos 0 ≤ℤ (weights_of_sums s).2
-    → IsCertificate (2 ^ variables q) (elemental_generators (variables q)) (target_of q)
-    (record { scale = pos 1; parts = (0, (weights_of_sums s).0) ∷ (1, (weights_of_sums s).1) ∷ (2, (weights_of_sums s).2) ∷ [] })
+certificate : (f : Form) (s : Sums) → IsWorth f s → pos 0 ≤ℤ (weights_of_sums s).0 → pos 0 ≤ℤ (weights_of_sums s).1 → pos 0 ≤ℤ (weights_of_sums s).2
+    → Certifies 2 f (weights_by (weights_of_sums s).0 (weights_of_sums s).1 (weights_of_sums s).2)
 unfolding weights_of_sums
-certificate q s e w h0 h1 h2 = subst (λ n. IsCertificate (2 ^ n) (elemental_generators n) (target_of q) weights) (sym e) (record {
+certificate f s w h0 h1 h2 = record {
   scale_from_one = omega (arith, ints);
   allowed = allowed;
   adds_up = λ c some below.
       ap (λ (z : ℤ). pos 1 *ℤ z) (w (one_at c) (one_at-zero c some)) ∙ sum s.x s.y s.both (one_at c 1) (one_at c 2) (one_at c 3) ∙ last (one_at c) (one_at-zero c some);
-})
+}
   where
-    weights : Weights
-    weights = record { scale = pos 1; parts = (0, s.x +ℤ s.both) ∷ (1, s.y +ℤ s.both) ∷ (2, (s.x +ℤ s.y) +ℤ s.both) ∷ [] }
-
     allowed : All (IsAllowed (elemental_generators 2)) ((0, s.x +ℤ s.both) ∷ (1, s.y +ℤ s.both) ∷ (2, (s.x +ℤ s.y) +ℤ s.both) ∷ [])
     allowed zero d l = (omega arith, λ _. h0)
     allowed (suc zero) d l = (omega arith, λ _. h1)
@@ -123,10 +126,14 @@ negative a h = omega (arith, ints, h)
 least : (a : ℤ) → int_lt a (pos 0) ≡ false → pos 0 ≤ℤ a
 least a h = omega (arith, ints, h)
 
--- the closed form is right
-pub closed_right : (q : Asked) → IsOnTwo q → Right q (closed_reply (sums_from no_sums q.relation.left))
+-- what a verdict says of a target
+abbrev IsSound : Form → Verdict → Type 0
+IsSound f (Valid x y common) = Certifies 2 f (weights_by x y common)
+IsSound f (Broken h) = Refutes 2 f (values_of h)
+
+verdict_is_sound : (f : Form) (s : Sums) → IsWorth f s → IsSound f (verdict_of s)
 unfolding weights_of_sums
-closed_right q k = by_tests (sums_from no_sums q.relation.left) (worth_is q k) _ _ _ refl refl refl
+verdict_is_sound f s w = by_tests _ _ _ refl refl refl
   where
     first : (x y both : ℤ) → (x *ℤ pos 1 +ℤ y *ℤ pos 0) +ℤ both *ℤ pos 1 ≡ x +ℤ both
     first x y both = omega (arith, ints)
@@ -137,48 +144,48 @@ closed_right q k = by_tests (sums_from no_sums q.relation.left) (worth_is q k) _
     third : (x y both : ℤ) → (x *ℤ pos 1 +ℤ y *ℤ pos 1) +ℤ both *ℤ pos 1 ≡ (x +ℤ y) +ℤ both
     third x y both = omega (arith, ints)
 
-    by_tests : (s : Sums) → IsWorth q s → (a b c : Bool) → int_lt (weights_of_sums s).0 (pos 0) ≡ a → int_lt (weights_of_sums s).1 (pos 0) ≡ b → int_lt (weights_of_sums s).2 (pos 0) ≡ c
-        → Right q (if a then Refuted false (pos 1 ∷ pos 0 ∷ pos 1 ∷ []) else
-        if b then Refuted false (pos 0 ∷ pos 1 ∷ pos 1 ∷ []) else
-        if c then Refuted false (pos 1 ∷ pos 1 ∷ pos 1 ∷ []) else
-        Proved (record { scale = pos 1; parts = (0, (weights_of_sums s).0) ∷ (1, (weights_of_sums s).1) ∷ (2, (weights_of_sums s).2) ∷ [] } ∷ []))
-    by_tests s w true b c f g h = counterpoint q s (pos 1) (pos 0) (pos 1) k.two w (omega (arith, ints)) (omega (arith, ints)) (omega (arith, ints)) (rw first (negative _ f))
-    by_tests s w false true c f g h = counterpoint q s (pos 0) (pos 1) (pos 1) k.two w (omega (arith, ints)) (omega (arith, ints)) (omega (arith, ints)) (rw second (negative _ g))
-    by_tests s w false false true f g h = counterpoint q s (pos 1) (pos 1) (pos 1) k.two w (omega (arith, ints)) (omega (arith, ints)) (omega (arith, ints)) (rw third (negative _ h))
-    by_tests s w false false false f g h = certificate q s k.two w (least _ f) (least _ g) (least _ h)
+    by_tests : (a b c : Bool) → int_lt (weights_of_sums s).0 (pos 0) ≡ a → int_lt (weights_of_sums s).1 (pos 0) ≡ b → int_lt (weights_of_sums s).2 (pos 0) ≡ c
+        → IsSound f (if a then Broken FirstAlone else if b then Broken SecondAlone else if c then Broken Same else Valid (weights_of_sums s).0 (weights_of_sums s).1 (weights_of_sums s).2)
+    by_tests true b c g h k = counterpoint f s (pos 1) (pos 0) (pos 1) w (omega (arith, ints)) (omega (arith, ints)) (omega (arith, ints)) (rw first (negative _ g))
+    by_tests false true c g h k = counterpoint f s (pos 0) (pos 1) (pos 1) w (omega (arith, ints)) (omega (arith, ints)) (omega (arith, ints)) (rw second (negative _ h))
+    by_tests false false true g h k = counterpoint f s (pos 1) (pos 1) (pos 1) w (omega (arith, ints)) (omega (arith, ints)) (omega (arith, ints)) (rw third (negative _ k))
+    by_tests false false false g h k = certificate f s w (least _ g) (least _ h) (least _ k)
 
-pub closed_text : (q : Asked) (k : ℕ) (terms : List Term) (names : List (List ℕ)) (r : Reply) (text : List ℕ) → IsOnTwo q → terms ≡ q.relation.left → names ≡ q.names.variables
-    → r ≡ closed_reply (sums_from no_sums terms) → text ≡ lines k names r → IsAnswerText k tt q text
-closed_text q k terms names r text l e f g h = record {
+one_target : (f : Form) (v : Verdict) → IsSound f v → IsVerdict 2 (f ∷ []) (reply_by v)
+one_target f (Valid x y common) h = (h, tt)
+one_target f (Broken b) h = h
+
+two_targets : (f g : Form) (v w : Verdict) → IsSound f v → IsSound g w → IsVerdict 2 (f ∷ g ∷ []) (reply_by_two v w)
+two_targets f g (Broken b) w h k = h
+two_targets f g (Valid x y common) (Broken b) h k = ((weights_by x y common, h), k)
+two_targets f g (Valid x y common) (Valid z t shared) h k = (h, (k, tt))
+
+closed_is_verdict : (sign : Sign) (f b : Form) (l r : Sums) → IsWorth f (less l r) → IsWorth b (less r l) → IsVerdict 2 (targets_by sign f b) (closed_by sign l r)
+closed_is_verdict AtLeast f b l r h k = one_target f (verdict_of (less l r)) (verdict_is_sound f (less l r) h)
+closed_is_verdict AtMost f b l r h k = one_target b (verdict_of (less r l)) (verdict_is_sound b (less r l) k)
+closed_is_verdict Equal f b l r h k = two_targets f b (verdict_of (less l r)) (verdict_of (less r l)) (verdict_is_sound f (less l r) h) (verdict_is_sound b (less r l) k)
+
+relation_is_right : (r : Stated) → IsRelationOf 2 0 r → IsVerdict 2 (targets 2 r) (closed_reply r)
+relation_is_right r h = closed_is_verdict r.sign (forward 2 r) (back 2 r) (sums_of r.left) (sums_of r.right)
+    (less_is (λ p. side_at 2 p r.left) (λ p. side_at 2 p r.right) (sums_of r.left) (sums_of r.right) (side_is r.left h.left) (side_is r.right h.right))
+    (less_is (λ p. side_at 2 p r.right) (λ p. side_at 2 p r.left) (sums_of r.right) (sums_of r.left) (side_is r.right h.right) (side_is r.left h.left))
+
+-- the relation of a question that is answered has sets of its variables, and no rates
+pub relation_on : (q : Posed) (r : Stated) → IsQuestion q → IsAnswerable q → q.aim ≡ Proves r → IsRelationOf (length q.names.variables) 0 r
+relation_on q r i k e = subst (λ m. IsRelationOf (length q.names.variables) m r) (ap length k.no_rates) (subst (IsAimOver q.names) e i.aim)
+
+pub few_terms : (q : Posed) (r : Stated) → IsQuestion q → IsAnswerable q → q.aim ≡ Proves r → length r.left + length r.right ≤ 256
+few_terms q r i k e = (relation_on q r i k e).few
+
+-- the closed form is right
+pub closed_right : (q : Posed) (r : Stated) → IsQuestion q → IsAnswerable q → q.aim ≡ Proves r → Right q (closed_reply r)
+closed_right q r i k e = subst (λ n. IsVerdictOn n q.aim (closed_reply r)) (sym k.two) (subst (λ a. IsVerdictOn 2 a (closed_reply r)) (sym e)
+    (relation_is_right r (subst (λ n. IsRelationOf n 0 r) k.two (relation_on q r i k e))))
+
+pub closed_text : (q : Asked) (k : ℕ) (s : Stated) (names : List (List ℕ)) (r : Reply) (text : List ℕ) → IsQuestion q.posed → IsAnswerable q.posed → q.posed.aim ≡ Proves s
+    → names ≡ q.posed.names.variables → r ≡ closed_reply s → text ≡ lines k names r → IsAnswerText k tt q text
+closed_text q k s names r text i l e f g h = record {
   reply = r;
-  right = subst (Right q) (sym (g ∙ ap (λ ts. closed_reply (sums_from no_sums ts)) e)) (closed_right q l);
+  right = subst (Right q.posed) (sym g) (closed_right q.posed s i l e);
   is = h ∙ ap (λ ns. lines k ns r) f;
 }
-
--- the target is linear
-target_is_linear : (q : Asked) → IsOnTwo q → IsLinear 4 (target_of q)
-target_is_linear q k = of_sums (sums_from no_sums q.relation.left) (worth_is q k)
-  where
-    of_sums : (s : Sums) → IsWorth q s → IsLinear 4 (target_of q)
-    of_sums s w = linear_same 4 (λ p. sums_at p s) (target_of q) (λ p e. sym (w p e))
-        (linear-add 4 (λ p. s.x *ℤ p 1 +ℤ s.y *ℤ p 2) (λ p. s.both *ℤ p 3)
-        (linear-add 4 (λ p. s.x *ℤ p 1) (λ p. s.y *ℤ p 2)
-        (linear-scale 4 s.x (λ p. p 1) (linear_at 4 1 (omega arith))) (linear-scale 4 s.y (λ p. p 2) (linear_at 4 2 (omega arith))))
-        (linear-scale 4 s.both (λ p. p 3) (linear_at 4 3 (omega arith))))
-
--- a right yes is true
-pub a_yes_is_true : AYesIsTrue
-a_yes_is_true q [] k r h m = absurd r
-a_yes_is_true q (w ∷ []) k r h m = elementals_prove 4 2 (target_of q) w (omega arith) (target_is_linear q k)
-    (subst (λ n. IsCertificate (2 ^ n) (elemental_generators n) (target_of q) w) k.two r) h (subst (λ n. IsPolymatroid n h) k.two m)
-a_yes_is_true q (w ∷ x ∷ ws) k r h m = absurd r
-
-refuted : (q : Asked) (back : Bool) (values : List ℤ) → Right q (Refuted back values) → Refutes q values
-refuted q true values r = absurd r
-refuted q false values r = r
-
-pub one_verdict : OneVerdict
-one_verdict q ws back values k proved_answer no_answer =
-    let r : Refutes q values = refuted q back values no_answer in
-    let least = a_yes_is_true q ws k proved_answer (map_of values) r.counterpoint.polymatroid in
-    omega (arith, ints, least, r.counterpoint.violated)

@@ -1,6 +1,6 @@
 pub mod LineLemmas
 pub mod TwoVariables
 pub mod ClosedLemmas
+pub mod VerdictLemmas
 pub mod RightLemmas
-pub mod ReadingLemmas
 pub mod EndLemmas

@@ -1,12 +1,11 @@
 -- Answers to questions in order: the groups of it_outside, at right answers.
-use Rattle.std.proofs.Common.{inl, inr, ◌≡◌, ℕ, ◌+◌, ◌<◌, ◌≤◌, List, length, map, get_or, Option, sym, ap, subst, ◌∙◌, arith}
+use Rattle.std.proofs.Common.{inl, inr, ◌≡◌, ℕ, ◌+◌, ◌<◌, ◌≤◌, List, length, map, get_or, All, Option, sym, ap, subst, ◌∙◌, arith}
 use Rattle.std.proofs.lemmas.List.{length-map, get_or-map}
 use Rattle.it_outside.specs.Causes.{Rose}
 use Rattle.it_outside.specs.Traffic.{Gains, TookFront}
 use Rattle.it_outside.proofs.GroupLemmas.{UnderWay, under_way_first, under_way_more, under_way_done, under_way_waits, under_way_stops}
-use Rattle.it_cli.specs.declared.reading.Question.{Question}
-use Rattle.it_cli.specs.Questions.{Asked}
-use Rattle.it_cli.specs.Readings.{asked}
+use Rattle.it_question.specs.declared.types.Question.{Question}
+use Rattle.it_question.specs.Questions.{Asked, Posed, asked, posed}
 use Rattle.it_cli.specs.Right.{IsRight, after_answer, text_of, IsAnswerText}
 use Rattle.it_cli.specs.Ends.{WroteInPart, WroteAll}
 
@@ -39,3 +38,7 @@ pub rose_later : (a b c : ℕ) → a ≤ b → Rose b c → Rose a c
 unfolding Rose
 rose_later a b c h (inl k) = inl (omega arith)
 rose_later a b c h (inr e) = inr e
+
+-- what is true of the questions as definitions have them is true of them as code has them
+pub all_posed : (P : Posed → Type 0) (qs : List Question) → All (λ q. P q.posed) (map asked qs) → All (λ q. P (posed q)) qs
+all_posed P qs h i d l = subst (λ (a : Asked). P a.posed) (get_or-map asked qs i d (asked d) l) (h i (asked d) (simp length-map l))

@@ -1,6 +1,6 @@
 pub mod Questions
-pub mod Readings
 pub mod Lines
+pub mod Refusals
 pub mod Closed
 pub mod Right
 pub mod Ends

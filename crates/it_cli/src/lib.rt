@@ -4,7 +4,7 @@
 mod closed;
 pub mod laws;
 mod printing;
-mod reading;
+mod refusals;
 mod status;
 mod top;
 

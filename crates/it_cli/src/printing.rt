@@ -10,7 +10,7 @@ use it_syntax::Names;
 use itoa::Buffer;
 use std::alloc::{AllocError, Global};
 
-fn write_number(out: &mut Vec<u8>, number: usize) -> Result<(), AllocError>
+pub fn write_number(out: &mut Vec<u8>, number: usize) -> Result<(), AllocError>
     ensures { OnOk result (out.new.items ≡ out.old.items ++ decimal number) }
 {
     let mut buffer = Buffer::new();

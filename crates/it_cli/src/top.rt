@@ -1,17 +1,20 @@
 //! The top call.
-ghost use Rattle.std.specs.Prelude.{◌≡◌, ◌≤◌, ◌<◌, ◌+◌, ℕ, length, map, All, IfOk, ◌⊎◌, false};
-ghost use Rattle.it_outside.specs.Causes.{Rose};
-ghost use Rattle.it_outside.specs.Traffic.{Gains, TookFront};
-ghost use Rattle.it_cli.specs.Questions.{FileIsOne, IsOnTwo};
-ghost use Rattle.it_cli.specs.Readings.{asked};
-ghost use Rattle.it_cli.specs.Right.{IsAnswerText, AYesIsTrue};
-ghost use Rattle.it_cli.specs.Ends.{is_answer_word, Told, Replied, Handled, Ends, IsComplete, run_of, UsageIsDue, LongIsDue, LaterIsDue, Headline, IsDone, HasNone, Wrote, usage_line};
+ghost use Rattle.std.specs.Prelude.{◌≡◌, ◌≤◌, length, map, All, IfOk, true, false};
+ghost use Rattle.it_question.specs.Limits.{IsQuestion};
+ghost use Rattle.it_question.specs.Questions.{asked, posed};
+ghost use Rattle.it_cli.specs.Questions.{AreAnswerable, IsAnswerable};
+ghost use Rattle.it_cli.specs.Refusals.{fault_line};
+ghost use Rattle.it_cli.specs.Right.{IsAnswerText};
+ghost use Rattle.it_cli.specs.Ends.{is_answer_word, Told, ToldOrMemory, Replied, Settled, Handled, Ends, run_of};
 
 use crate::closed::closed;
 use crate::printing::answer_line;
-use crate::reading::{FileFault, Question, questions};
+use crate::refusals::{LATER, LONG, fault_line};
 use crate::status::Status;
 use it_outside::{InFault, Sink, Source, read_all, write_all};
+use it_question::questions;
+use it_question::types::{FileFault, Question, Verb};
+use it_syntax::types::Code;
 use std::alloc::{AllocError, Global};
 
 /// The most bytes that an input has.
@@ -19,10 +22,6 @@ const LIMIT: usize = 1048576;
 
 const USAGE: &[u8] =
     b"usage: itip answer|check|bench [--format text|json|proof] [--pivots N] [--rows N] [--tries N] [--seed N] [--count N]\n";
-
-const LONG: &[u8] = b"refused long\n";
-
-const LATER: &[u8] = b"refused 1:1 later\n";
 
 fn is_answer(words: &[&str]) -> bool
     ensures { result ≡ is_answer_word (map (λ w. w.now) words.now) }
@@ -42,17 +41,47 @@ fn told<K: Sink>(sink: &mut K, line: &[u8], status: Status) -> Status
     }
 }
 
+/// Whether a question is answered so far.
+fn is_answerable(question: &Question) -> bool
+    ensures yes { result ≡ true → IsAnswerable (posed question.now) }
+    ensures no { result ≡ false → IsAnswerable (posed question.now) → ⊥ }
+{
+    let space = question.names.space();
+    space.variables == 2
+        && space.rates == 0
+        && question.givens.is_empty()
+        && question.rows.is_empty()
+        && matches!(question.verb, Verb::Prove(_))
+}
+
+fn are_answerable(questions: &[Question]) -> bool
+    ensures yes { result ≡ true → AreAnswerable (map asked questions.now) }
+    ensures no { result ≡ false → AreAnswerable (map asked questions.now) → ⊥ }
+{
+    for question in questions {
+        if !is_answerable(question) {
+            return false;
+        }
+    }
+    true
+}
+
 fn answer_one(alloc: Global, k: usize, question: &Question) -> Result<Vec<u8>, AllocError>
-    requires { IsOnTwo (asked question.now) }
+    requires limits { IsQuestion (posed question.now) }
+    requires answerable { IsAnswerable (posed question.now) }
     ensures { IfOk result (λ text. IsAnswerText k tt (asked question.now) text.items) }
 {
-    let answer = closed(alloc, question.relation.left.terms.as_slice())?;
+    let Verb::Prove(relation) = &question.verb else {
+        unreachable!()
+    };
+    let answer = closed(alloc, relation)?;
     let text = answer_line(alloc, k, &question.names, &answer)?;
     Ok(text)
 }
 
 fn answer_all<K: Sink>(alloc: Global, questions: &[Question], sink: &mut K) -> Status
-    requires { All (λ q. IsOnTwo (asked q)) questions.now }
+    requires limits { All (λ q. IsQuestion (posed q)) questions.now }
+    requires answerable { AreAnswerable (map asked questions.now) }
     ensures { Replied (K.taken sink.old) (K.taken sink.new) (K.faults sink.old) (K.faults sink.new) (map asked questions.now) result }
 {
     for (i, question) in questions.iter().enumerate() {
@@ -66,15 +95,35 @@ fn answer_all<K: Sink>(alloc: Global, questions: &[Question], sink: &mut K) -> S
     Status::Done
 }
 
+/// What is done for the questions of a file.
+fn settle<K: Sink>(alloc: Global, questions: &[Question], sink: &mut K) -> Status
+    requires { All (λ q. IsQuestion (posed q)) questions.now }
+    ensures { Settled (K.taken sink.old) (K.taken sink.new) (K.faults sink.old) (K.faults sink.new) (map asked questions.now) result }
+{
+    if !are_answerable(questions) {
+        return told(sink, LATER, Status::Refused);
+    }
+    answer_all(alloc, questions, sink)
+}
+
+/// What is done for a fault of the file.
+fn tell_fault<K: Sink>(alloc: Global, line: u32, column: u32, code: Code, sink: &mut K) -> Status
+    ensures { ToldOrMemory (K.taken sink.old) (K.taken sink.new) (K.faults sink.old) (K.faults sink.new) (fault_line line column code) Status.Refused result }
+{
+    match fault_line(alloc, line, column, code) {
+        Ok(text) => told(sink, text.as_slice(), Status::Refused),
+        Err(_) => Status::Memory,
+    }
+}
+
 /// What is done for the bytes of a whole input.
-#[tactic(auto, unfolding(crate::specs::Ends::IsOutOfForm))]
 fn reply<K: Sink>(alloc: Global, bytes: &[u8], sink: &mut K) -> Status
     requires { length bytes.now ≤ 1048576 }
     ensures { Handled (K.taken sink.old) (K.taken sink.new) (K.faults sink.old) (K.faults sink.new) bytes.now result }
 {
     match questions(alloc, bytes) {
-        Ok(questions) => answer_all(alloc, questions.as_slice(), sink),
-        Err(FileFault::Later) => told(sink, LATER, Status::Refused),
+        Ok(questions) => settle(alloc, questions.as_slice(), sink),
+        Err(FileFault::Fault { line, column, code }) => tell_fault(alloc, line, column, code, sink),
         Err(FileFault::Memory) => Status::Memory,
     }
 }

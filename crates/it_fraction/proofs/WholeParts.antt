@@ -1,15 +1,20 @@
 -- Two fractions compare as their whole parts do, and where these agree as the rests turned over.
-use Rattle.std.proofs.Common.{◌≡◌, ℕ, ◌+◌, ◌*◌, ◌/◌, ◌%◌, ◌<◌, ◌≤◌, ◌⊎◌, inl, inr, sym, nat_cmp, Less, Equal, Greater, arith, ap, ap₂, ◌∙◌, mul-lt-mul_of_pos_right, mul-le-mul_right, mod-lt, mul-pos}
+use Rattle.std.proofs.Common.{◌≡◌, ℕ, ◌+◌, ◌*◌, ◌/◌, ◌%◌, ◌<◌, ◌≤◌, ◌⊎◌, inl, inr, sym, nat_cmp, Less, Greater, arith, ap, ap₂, ◌∙◌, mul-lt-mul_of_pos_right, mul-le-mul_right, mod-lt, mul-pos, mul_comm, zero, suc, zero-mul}
 use Rattle.std.proofs.lemmas.Bool.{cases_order}
+
+-- a turn of Euclid's algorithm on both: x / y compares with z / w as a / b does with c / d
+abbrev pub IsTurn : (x y z w a b c d : ℕ) → Type 0
+IsTurn x y z w a b c d = record {
+  some : 0 < y;
+  other_some : 0 < w;
+  same : nat_cmp (x * w) (z * y) ≡ nat_cmp (a * d) (c * b);
+}
 
 pub less_is : (x y : ℕ) → x < y → nat_cmp x y ≡ Less
 less_is x y h = grind arith
 
 pub greater_is : (x y : ℕ) → y < x → nat_cmp x y ≡ Greater
 greater_is x y h = grind arith
-
-pub equal_is : (x y : ℕ) → x ≡ y → nat_cmp x y ≡ Equal
-equal_is x y h = grind arith
 
 pub same_shift : (x y k : ℕ) → nat_cmp (x + k) (y + k) ≡ nat_cmp x y
 same_shift x y k = grind arith
@@ -36,20 +41,32 @@ rests a b c d e = ap₂ nat_cmp (law a b d) (law c d b ∙ ap (λ n. (c % d) * b
     turn : a / b ≡ c / d → (c / d) * d * b ≡ (a / b) * b * d
     turn e = omega (arith, ap (λ n. n * (d * b)) e)
 
-pub both_zero : (a b c d : ℕ) → a / b ≡ c / d → a % b ≡ 0 → c % d ≡ 0 → nat_cmp (a * d) (c * b) ≡ Equal
-both_zero a b c d e x y = rests a b c d e ∙ equal_is ((a % b) * d) ((c % d) * b) (omega (arith, ap (λ n. n * d) x, ap (λ n. n * b) y))
-
 -- whole parts that differ decide
-pub apart_is : (a b c d w v : ℕ) → 0 < b → 0 < d → w ≡ a / b → v ≡ c / d → (w ≡ v → ⊥) → nat_cmp w v ≡ nat_cmp (a * d) (c * b)
-apart_is a b c d w v hb hd e f n = at (cases_order w v)
+pub apart : (a b c d : ℕ) → 0 < b → 0 < d → (a / b ≡ c / d → ⊥) → nat_cmp (a / b) (c / d) ≡ nat_cmp (a * d) (c * b)
+apart a b c d hb hd n = at (cases_order (a / b) (c / d))
   where
-    at : (w ≡ v) ⊎ ((w < v) ⊎ (v < w)) → nat_cmp w v ≡ nat_cmp (a * d) (c * b)
-    at (inl s) = absurd (n s)
-    at (inr (inl l)) = less_is w v l ∙ sym (less_is (a * d) (c * b) (below a b c d hb hd (omega arith)))
-    at (inr (inr g)) = greater_is w v g ∙ sym (greater_is (a * d) (c * b) (below c d a b hd hb (omega arith)))
+    at : (a / b ≡ c / d) ⊎ ((a / b < c / d) ⊎ (c / d < a / b)) → nat_cmp (a / b) (c / d) ≡ nat_cmp (a * d) (c * b)
+    at (inl e) = absurd (n e)
+    at (inr (inl l)) = less_is (a / b) (c / d) l ∙ sym (less_is (a * d) (c * b) (below a b c d hb hd l))
+    at (inr (inr g)) = greater_is (a / b) (c / d) g ∙ sym (greater_is (a * d) (c * b) (below c d a b hd hb g))
 
-pub left_zero : (a b c d : ℕ) → 0 < b → a / b ≡ c / d → a % b ≡ 0 → 0 < c % d → nat_cmp (a * d) (c * b) ≡ Less
-left_zero a b c d h e x y = rests a b c d e ∙ less_is ((a % b) * d) ((c % d) * b) (omega (arith, ap (λ n. n * d) x, mul-pos y h))
+-- 0 and a number compare as their multiples do
+pub zero_first : (y k n : ℕ) → 0 < k → nat_cmp 0 y ≡ nat_cmp (0 * n) (y * k)
+zero_first zero k n h = simp zero-mul
+zero_first (suc y) k n h = let p : 0 < suc y * k = mul-pos (omega arith) h in grind arith
 
-pub right_zero : (a b c d : ℕ) → 0 < d → a / b ≡ c / d → 0 < a % b → c % d ≡ 0 → nat_cmp (a * d) (c * b) ≡ Greater
-right_zero a b c d h e x y = rests a b c d e ∙ greater_is ((a % b) * d) ((c % d) * b) (omega (arith, ap (λ n. n * b) y, mul-pos x h))
+pub zero_second : (x k n : ℕ) → 0 < n → nat_cmp x 0 ≡ nat_cmp (x * n) (0 * k)
+zero_second zero k n h = simp zero-mul
+zero_second (suc x) k n h = let p : 0 < suc x * n = mul-pos (omega arith) h in grind arith
+
+-- a rest of 0 decides
+pub ended : (a b c d : ℕ) → 0 < b → 0 < d → a / b ≡ c / d → (a % b ≡ 0) ⊎ (c % d ≡ 0) → nat_cmp (a % b) (c % d) ≡ nat_cmp (a * d) (c * b)
+ended a b c d hb hd e z = at z ∙ sym (rests a b c d e)
+  where
+    at : (a % b ≡ 0) ⊎ (c % d ≡ 0) → nat_cmp (a % b) (c % d) ≡ nat_cmp ((a % b) * d) ((c % d) * b)
+    at (inl x) = rw x (zero_first (c % d) b d hb)
+    at (inr y) = rw y (zero_second (a % b) b d hd)
+
+-- the rests turned over
+pub turned : (a b c d : ℕ) → a / b ≡ c / d → nat_cmp (d * (a % b)) (b * (c % d)) ≡ nat_cmp (a * d) (c * b)
+turned a b c d e = ap₂ nat_cmp (mul_comm d (a % b)) (mul_comm b (c % d)) ∙ sym (rests a b c d e)

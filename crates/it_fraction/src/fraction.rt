@@ -1,10 +1,10 @@
 //! Fractions in lowest terms.
-ghost use Rattle.std.specs.Prelude.{◌≡◌, ◌≢◌, ◌<◌, ◌≤ℤ◌, pos, unsigned_abs, true, false, IsTrue, ◌↔◌, OkIff};
+ghost use Rattle.std.specs.Prelude.{◌≡◌, ◌≢◌, ◌<◌, ◌≤ℤ◌, ◌*◌, pos, unsigned_abs, true, false, IsTrue, ◌↔◌, OkIff};
 ghost use Rattle.std.specs.Bool.{OnTrue, OnFalse};
 ghost use Rattle.std.specs.Cmp.{eq_by_cmp_equiv, partial_equiv_from_equiv, partial_order_from_agreeing_total};
 ghost use Rattle.std.specs.Cmp.Rules.{comparing};
 ghost use Rattle.std.specs.Int.{IsGcd};
-ghost use Rattle.std.specs.Ordering.{as_partial_cmp, eq_by_cmp};
+ghost use Rattle.std.specs.Ordering.{as_partial_cmp, eq_by_cmp, nat_cmp};
 ghost use Rattle.std.proofs.Common.{rules};
 ghost use Rattle.it_number.specs.Limit.{IsWithin};
 ghost use Rattle.it_rational.specs.Rational.{inverse, is_at_least_zero, minus, plus, quotient, ratio, rational_cmp, times, whole};
@@ -228,14 +228,21 @@ impl Fraction {
         if self.bottom == other.bottom {
             return self.top.cmp(&other.top);
         }
-        let top = self.top.unsigned_abs();
-        let other_top = other.top.unsigned_abs();
         match (self.top < 0, other.top < 0) {
-            (false, false) => compare_parts(top, self.bottom, other_top, other.bottom),
+            (false, false) => self.compare_size(other),
             (false, true) => Ordering::Greater,
             (true, false) => Ordering::Less,
-            (true, true) => compare_parts(other_top, other.bottom, top, self.bottom),
+            (true, true) => other.compare_size(self),
         }
+    }
+
+    // how the absolute values compare
+    fn compare_size(self, other: Fraction) -> Ordering
+        ensures { result ≡ nat_cmp (unsigned_abs self.num * other.den) (unsigned_abs other.num * self.den) }
+    {
+        let top = self.top.unsigned_abs();
+        let other_top = other.top.unsigned_abs();
+        compare_parts(top, self.bottom, other_top, other.bottom)
     }
 }
 

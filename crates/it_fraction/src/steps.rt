@@ -1,6 +1,6 @@
 //! Single steps on whole numbers. What may pass the largest number is refused exactly where it does.
 //! Each step has a short path for numbers of 64 bits, whose division is several times faster.
-ghost use Rattle.std.specs.Prelude.{◌≡◌, ◌<◌, ◌*◌, ◌/◌, ◌%◌, ◌+ℤ◌, ◌*ℤ◌, pos, OkIff};
+ghost use Rattle.std.specs.Prelude.{◌≡◌, ◌<◌, ◌*◌, ◌/◌, ◌+ℤ◌, ◌*ℤ◌, pos, OkIff};
 ghost use Rattle.it_number.specs.Division.{over};
 ghost use Rattle.it_number.specs.Gcd.{gcd};
 ghost use Rattle.it_number.specs.Limit.{IsWithin};
@@ -51,18 +51,6 @@ fn long_common(a: u128, b: u128) -> u128
         return larger;
     }
     u128::from(short_common(smaller as u64, (larger % smaller) as u64))
-}
-
-// a / k and a % k
-pub fn divided_with_rest(a: u128, k: u128) -> (u128, u128)
-    requires { 0 < k }
-    ensures whole { result.0 ≡ a / k }
-    ensures rest { result.1 ≡ a % k }
-{
-    match (u64::try_from(a), u64::try_from(k)) {
-        (Ok(a), Ok(k)) => (u128::from(a / k), u128::from(a % k)),
-        _ => (a / k, a % k),
-    }
 }
 
 // a / k

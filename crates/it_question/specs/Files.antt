@@ -1,5 +1,5 @@
 -- What a file asks, and the first fault of one that has no reading.
-use Rattle.std.specs.Prelude.{◌≡◌, ℕ, ◌-◌, List, [], ◌∷◌, ◌++◌, length, Some, slice_get}
+use Rattle.std.specs.Prelude.{◌≡◌, ℕ, ◌-◌, List, [], ◌∷◌, ◌++◌, length, Option, Some, slice_get, ◌⊎◌}
 use Rattle.it_syntax.specs.declared.types.Code.{Code}
 use Rattle.it_syntax.specs.Letters.{Letter, cleaned}
 use Rattle.it_syntax.specs.FirstFault.{FirstFault}
@@ -18,13 +18,17 @@ pub record IsFile (bytes : List ℕ) (qs : List Asked) : Type 0 where
   pub spelled : spell_file trees ≡ cleaned (letters_of_lines lines)
   pub are : with_texts lines (questions_of trees) ≡ qs
 
+-- where the first of the letters that are left of these lines stands
+abbrev pub place_of : List TokenLine → List Letter → Option (ℕ × ℕ)
+place_of lines left = slice_get (places_of_lines lines) (length (letters_of_lines lines) - length left)
+
 -- Of these bytes the first fault is `code`, at this line and column: where letters are left at it, in the place of the first of them.
 pub record FileFaultAt (bytes : List ℕ) (line column : ℕ) (code : Code) : Type 0 where
   pub lines : List TokenLine
   pub cut : AreLinesOf bytes lines
   pub left : List Letter
   pub first : FirstFault spell_file (letters_of_lines lines) code left
-  pub place : slice_get (places_of_lines lines) (length (letters_of_lines lines) - length left) ≡ Some (line, column)
+  pub place : place_of lines left ≡ Some (line, column)
 
 -- of an error: memory ran out, or it is the first fault
 abbrev pub IsFirstFileFault : List ℕ → FileFault → Type 0
@@ -40,6 +44,10 @@ FileFaultIsOne = (bytes : List ℕ) (line column row place : ℕ) (c d : Code) �
 
 abbrev pub FileOrFault : Type 0
 FileOrFault = (bytes : List ℕ) (qs : List Asked) (line column : ℕ) (c : Code) → IsFile bytes qs → FileFaultAt bytes line column c → ⊥
+
+-- A file has a reading or a first fault.
+abbrev pub FileHasOne : Type 0
+FileHasOne = (bytes : List ℕ) → ((qs : List Asked) × IsFile bytes qs) ⊎ ((line : ℕ) × (column : ℕ) × (c : Code) × FileFaultAt bytes line column c)
 
 -- The text of a question reads as that question alone.
 abbrev pub TextReadsBack : Type 0

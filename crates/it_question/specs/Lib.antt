@@ -1,8 +1,12 @@
 pub mod Lines
+pub mod Cursors
+pub mod Bodies
 pub mod Questions
 pub mod Keywords
 pub mod Trees
+pub mod Sorts
 pub mod Reading
 pub mod Texts
 pub mod Files
 pub mod Limits
+pub mod Stops

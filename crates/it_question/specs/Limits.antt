@@ -1,5 +1,5 @@
 -- What the questions of a file keep: sets of their variables, rates that there are, and the limits.
-use Rattle.std.specs.Prelude.{◌≡◌, ℕ, ◌<◌, ◌≤◌, ◌^◌, ◌+◌, List, [], ◌++◌, length, All, eqb}
+use Rattle.std.specs.Prelude.{◌≡◌, ℕ, ◌<◌, ◌≤◌, ◌^◌, List, ◌++◌, length, All, eqb}
 use Rattle.std.specs.List.{IsDistinct}
 use Rattle.it_syntax.specs.Vocabulary.{Vocabulary}
 use Rattle.it_syntax.specs.Givens.{IsRelationOf, IsConditionOf}
@@ -43,3 +43,12 @@ pub record IsQuestion (q : Posed) : Type 0 where
   pub few_rates : length q.names.rates ≤ 16
   pub lines : AreLinesOver q.names q.lines
   pub aim : IsAimOver q.names q.aim
+
+-- what the number of lines of a question takes
+abbrev pub FewLines : Lines → Type 0
+FewLines own = (length own.givens ≤ 64) × (length own.rows ≤ 64)
+
+abbrev pub FewLinesOf : Aim → Type 0
+FewLinesOf (Proves r) = Unit {0}
+FewLinesOf (Eliminates rates) = Unit {0}
+FewLinesOf (Contains first second tries) = FewLines first.lines × FewLines second.lines × (length tries ≤ 64)

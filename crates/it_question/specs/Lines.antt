@@ -2,7 +2,7 @@
 -- line feed; a last piece without one is a line if it has a byte. A carriage return directly before the line feed or the file's
 -- end counts for nothing, `#` begins a comment up to the line's end, and a tab is read as a space. A line without tokens is
 -- passed over.
-use Rattle.std.specs.Prelude.{◌≡◌, ℕ, ◌+◌, ◌==◌, List, [], ◌∷◌, ◌++◌, map, Option, Some, None, if◌then◌else◌, ◌⊎◌}
+use Rattle.std.specs.Prelude.{◌≡◌, ℕ, ◌+◌, ◌==◌, Bool, not, List, [], ◌∷◌, ◌++◌, map, Option, Some, None, if◌then◌else◌, ◌⊎◌}
 use Rattle.it_syntax.specs.declared.types.Token.{Token}
 use Rattle.it_syntax.specs.declared.types.Misspelling.{Misspelling}
 use Rattle.it_syntax.specs.declared.types.Code.TheVariants as codes
@@ -29,6 +29,10 @@ without_return (b ∷ c ∷ bytes) = b ∷ without_return (c ∷ bytes)
 abbrev pub before_comment : List ℕ → List ℕ
 before_comment [] = []
 before_comment (b ∷ bytes) = if b == 35 then [] else b ∷ before_comment bytes
+
+-- any byte but one
+unfoldable pub is_other : ℕ → ℕ → Bool
+is_other stop b = not (b == stop)
 
 -- a tab is a space
 abbrev pub untabbed : ℕ → ℕ
@@ -75,6 +79,12 @@ AreLines n (bytes ∷ more) lines =
 
 abbrev pub AreLinesOf : List ℕ → List TokenLine → Type 0
 AreLinesOf bytes lines = AreLines 1 (split_lines bytes) lines
+
+-- a line was put behind others, if it has tokens
+abbrev pub Added : ℕ → List ℕ → List TokenLine → List TokenLine → Type 0
+Added n bytes old new =
+    (SpellsUntil 0 (plain bytes) [] None × (new ≡ old))
+    ⊎ ((l : TokenLine) × (new ≡ old ++ l ∷ []) × IsLine n bytes l × HasTokens l)
 
 -- the letters of a line, and of lines one after the other
 abbrev pub line_letters : TokenLine → List Letter

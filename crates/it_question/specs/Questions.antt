@@ -1,5 +1,5 @@
 -- What a question file asks, as contracts compare it: each vector by the list of its items.
-use Rattle.std.specs.Prelude.{◌≡◌, ℕ, ◌+◌, ◌-◌, List, [], ◌∷◌, length, map, ◌==◌, if◌then◌else◌}
+use Rattle.std.specs.Prelude.{ℕ, List, map}
 use Rattle.it_syntax.specs.Vocabulary.{Vocabulary}
 use Rattle.it_syntax.specs.Meaning.{Stated, stated}
 use Rattle.it_syntax.specs.Givens.{Condition, condition}

@@ -160,6 +160,10 @@ read_part aux env sets ls = do
   set ← read_set env behind
   Ok (with_set sets i.0 set.0, set.1)
 
+abbrev pub after_semicolon : List Letter → Option (List Letter)
+after_semicolon (Sym Semicolon ∷ ls) = Some ls
+after_semicolon ls = None
+
 -- further parts, each behind `;`: no more than there are auxiliaries without a set
 unfoldable pub read_parts : ℕ → Environment → Environment → Sets → List Letter → Reads Sets
 read_parts zero aux env sets (Sym Semicolon ∷ ls) = read_part aux env sets ls

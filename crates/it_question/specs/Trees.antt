@@ -1,14 +1,14 @@
 -- Question files as they are written, and how each is spelled: by letters, each with what the rules have against it where it
 -- stands. `Word` stands against H or I in the place of a name, `Name` against a name of which none of that kind is declared,
 -- `Twice` against a new name that is taken and a name that is named again, `Many` against the first letter past a limit.
-use Rattle.std.specs.Prelude.{◌≡◌, ℕ, zero, suc, ◌-◌, ◌==◌, min, drop, Bool, true, false, ◌||◌, List, [], ◌∷◌, ◌++◌, length, map, is_some, Option, Some, None, slice_get, if◌then◌else◌}
+use Rattle.std.specs.Prelude.{ℕ, zero, suc, ◌-◌, ◌==◌, min, nat_lt, Bool, true, false, ◌||◌, List, [], ◌∷◌, ◌++◌, length, map, is_some, Option, Some, None, if◌then◌else◌}
 use Rattle.std.specs.List.{list_any}
 use Rattle.it_syntax.specs.declared.types.Symbol.TheVariants.{Comma, Semicolon, Assign}
 use Rattle.it_syntax.specs.declared.types.Code.{Code}
 use Rattle.it_syntax.specs.declared.types.Code.TheVariants as codes
 use Rattle.it_syntax.specs.Vocabulary.{Vocabulary, index_of}
-use Rattle.it_syntax.specs.Letters.{Letter, Word, Number, Sym, End, Marked, clean}
-use Rattle.it_syntax.specs.Trees.{Environment, WrittenList, is_measure, unknown, index_or, spell_list, list_set}
+use Rattle.it_syntax.specs.Letters.{Word, Number, Sym, End, Marked, clean}
+use Rattle.it_syntax.specs.Trees.{Environment, WrittenList, is_measure, index_or, spell_list, list_set}
 use Rattle.it_syntax.specs.Relations.{env_of}
 use Rattle.it_syntax.specs.Comparisons.{WrittenComparison, spell_comparison, comparison_of}
 use Rattle.it_syntax.specs.ComparisonLines.{scope_of}
@@ -281,9 +281,14 @@ spell_region g r v x k = clean (Word region_text) ∷ clean End ∷ spell_names_
 abbrev pub region_of : Vocabulary → WrittenRegion → Bounded
 region_of v x = let names = names_line_of Variable v x.auxiliaries in record { names = names; auxiliaries = length names.variables - length v.variables; lines = own_of names x.own }
 
--- which of the auxiliaries of a region a name is
+-- a number behind the first n, counted from there
+abbrev pub behind_first : ℕ → Option ℕ → Option ℕ
+behind_first n None = None
+behind_first n (Some i) = if nat_lt i n then None else Some (i - n)
+
+-- which of the auxiliaries of a region a name is: they stand behind the question's variables
 unfoldable pub auxiliary_env : Vocabulary → Vocabulary → Environment
-auxiliary_env v names w = index_of (drop (length v.variables) names.variables) w
+auxiliary_env v names w = behind_first (length v.variables) (index_of names.variables w)
 
 abbrev pub givens_left : ℕ → Lines → ℕ
 givens_left g own = g - length own.givens

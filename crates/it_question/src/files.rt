@@ -1,19 +1,67 @@
 //! The questions of a file.
-ghost use Rattle.std.specs.Prelude.{◌≤◌, length, map, All, IfOk, IfErr};
-ghost use Rattle.it_question.specs.Files.{IsFile, IsFirstFileFault};
+ghost use Rattle.std.specs.Prelude.{◌≤◌, ◌^◌, length, map, All, IfOk, IfErr};
+ghost use Rattle.it_question.specs.Cursors.{token_line, left};
+ghost use Rattle.it_question.specs.Files.{place_of, IsFile, IsFirstFileFault};
+ghost use Rattle.it_question.specs.Stops.{IsLeft, IfFault, IsFaultAt, IsStopAt};
 ghost use Rattle.it_question.specs.Limits.{IsQuestion};
+ghost use Rattle.it_question.specs.Lines.{letters_of_lines};
 ghost use Rattle.it_question.specs.Questions.{asked, posed};
 
+use crate::asking::bodies;
+use crate::cursor::{Cursor, Line};
+use crate::lines::file_lines;
+use crate::places::{count, left, place};
+use crate::texts::with_texts;
 use crate::types::{FileFault, Question};
+use it_syntax::rest::Stop;
+use it_syntax::types::Code;
 use std::alloc::Global;
 
+/// The fault at what is left of these lines.
+fn fault(lines: &[Line], cursor: Cursor<'_>, code: Code) -> FileFault
+    requires few { length (letters_of_lines (map token_line lines.now)) ≤ 2 ^ 32 }
+    requires there { IsLeft (map token_line lines.now) (left cursor) }
+    ensures { IsFaultAt (place_of (map token_line lines.now) (left cursor.entry)) code result }
+{
+    let at = count(lines) - left(&cursor);
+    let (line, column) = place(lines, at).unwrap();
+    FileFault::Fault { line, column, code }
+}
+
+/// Why reading stopped at what is left of these lines.
+fn stopped(lines: &[Line], cursor: Cursor<'_>, stop: Stop) -> FileFault
+    requires few { length (letters_of_lines (map token_line lines.now)) ≤ 2 ^ 32 }
+    requires there { IfFault stop (IsLeft (map token_line lines.now) (left cursor)) }
+    ensures { IsStopAt (place_of (map token_line lines.now) (left cursor.entry)) stop result }
+{
+    match stop {
+        Stop::Memory => FileFault::Memory,
+        Stop::Fault(code) => fault(lines, cursor, code),
+    }
+}
+
+/// The questions that a file asks, in order. A file has lines that end with a line feed, which the last may lack; a carriage
+/// return directly before a line feed or the file's end counts for nothing, `#` begins a comment up to the line's end, a
+/// tab is read as a space, and lines without tokens are passed over.
+///
+/// The fault is the first one at which no rule of the language goes on: `Byte` at a byte that begins no token, `Number` at
+/// a number above 2^64 - 1, `Many` at a word of more than 16 bytes and at the first token past a limit, `Word` at what
+/// no rule allows there, `Name` at a name of which none of that kind is declared, `Twice` at a new name that is taken or a
+/// name that is named again, `Unfinished` at the file's end inside a question. A line's end has the column after its last
+/// token, and the file's end the line after the last one and column 1.
 pub fn questions(alloc: Global, bytes: &[u8]) -> Result<Vec<Question>, FileFault>
     requires { length bytes.now ≤ 1048577 }
     ensures read { IfOk result (λ qs. IsFile bytes.now (map asked qs.items)) }
     ensures limits { IfOk result (λ qs. All (λ q. IsQuestion (posed q)) qs.items) }
     ensures fault { IfErr result (IsFirstFileFault bytes.now) }
 {
-    let _ = alloc;
-    let _ = bytes;
-    Err(FileFault::Memory)
+    let lines = file_lines(alloc, bytes)?;
+    let mut cursor = Cursor::at(lines.as_slice());
+    match bodies(alloc, &mut cursor) {
+        Ok(bodies) => {
+            let questions = with_texts(alloc, lines.as_slice(), bodies)?;
+            Ok(questions)
+        }
+        Err(stop) => Err(stopped(lines.as_slice(), cursor, stop)),
+    }
 }

@@ -1,7 +1,24 @@
 //! Question files: the lines of a file, and the questions that they ask.
 #![tactic(auto)]
 
+mod asking;
+mod bodies;
+mod cursor;
 mod files;
+mod laws;
+mod lines;
+mod names;
+mod own;
+mod parts;
+mod pieces;
+mod places;
+mod plain;
+mod rates;
+mod sorts;
+mod texts;
+mod tries;
 pub mod types;
+mod words;
 
 pub use files::questions;
+pub use laws::{file_has_one, file_is_one, text_reads_back};

@@ -11,6 +11,7 @@ use Rattle.it_syntax.specs.Fronts.{Run, Shape}
 use Rattle.it_syntax.specs.Misspellings.{BeginsNothing, IsWrong, Misspelled, SpellsUntil, LineTokensAreOne}
 use Rattle.it_syntax.specs.Spans.{InLine}
 use Rattle.it_syntax.specs.Spelling.{is_letter, is_digit, is_space, AreAll, StartsWith, Stops, Cut}
+use Rattle.it_syntax.proofs.SpanLemmas.{text_length}
 use Rattle.it_syntax.proofs.TokenLemmas.{run_of_text, run_once, blank_run, run_all, not_space, both_starts, found_of, one_cut, cut_made, gap_run, blank_none, word_long, number_large}
 
 starts_stop : (f : ℕ → Bool) → f 32 ≡ false → (body : List ℕ) → StartsWith f body → Stops is_space body
@@ -158,7 +159,7 @@ until_within line at bytes (t ∷ ts) m e h =
     let c = h.1 in
     let total : length bytes ≡ length c.gap + (length c.text + length h.0) = ap length c.whole ∙ length-append c.gap (c.text ++ h.0) ∙ ap (λ (n : ℕ). length c.gap + n) (length-append c.text h.0) in
     let end : t.end + length h.0 ≡ length line = omega (arith, c.start, c.end, total, e) in
-    ((omega (arith, c.end), omega (arith, end)), until_within line t.end h.0 ts m end h.2)
+    ((omega (arith, c.end), omega (arith, end)), text_length t.kind c.text (t.end - t.start) (omega (arith, c.end)) c.spelled, until_within line t.end h.0 ts m end h.2)
 
 -- the tokens of a line lie in it
 pub until_in_line : (line : List ℕ) (ts : List Token) (m : Option Misspelling) → SpellsUntil 0 line ts m → InLine line ts

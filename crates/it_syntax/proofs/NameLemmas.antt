@@ -1,7 +1,7 @@
 -- Names in lists: where one stands, and that they differ.
 use Rattle.std.proofs.Common.{◌≡◌, ℕ, suc, ◌<◌, ◌≤◌, Bool, true, false, cond, List, Option, [], ◌∷◌, ◌++◌, length, get_or, Some, None, refl, sym, ap, ◌∙◌, subst, arith, append_assoc, nat_lt, ◌+◌, length-append, Vec, Global, map, not}
-use Rattle.std.specs.Prelude.{All, bytes_eq}
-use Rattle.std.specs.List.{position, position_or_len, list_any, IsDistinct, AllByRecursion}
+use Rattle.std.specs.Prelude.{All, bytes_eq, vec_len}
+use Rattle.std.specs.List.{position, position_or_len, list_any, IsDistinct, AllByRecursion, AllZip}
 use Rattle.std.proofs.lemmas.List.{length-map}
 use Rattle.indexmap.specs.IndexSet.{insert_key}
 use Rattle.std.proofs.lemmas.List.{append-nil}
@@ -104,3 +104,18 @@ none_any name (v ∷ vs) h = rw h.0 (none_any name vs h.1)
 -- a new name goes last
 pub insert_new : (vs : List (Vec ℕ Global)) (v : Vec ℕ Global) → index_of (map (λ w. w.items) vs) v.items ≡ None → insert_key (λ x y. bytes_eq x.items y.items) vs v ≡ vs ++ v ∷ []
 insert_new vs v none = rw (none_any v.items vs (nowhere_all v.items (map (λ (w : Vec ℕ Global). w.items) vs) none)) refl
+
+-- ---- copies
+
+copied_items : (xs ys : List ℕ) → AllZip (λ x y. y ≡ x) xs ys → ys ≡ xs
+copied_items [] [] h = refl
+copied_items [] (y ∷ ys) h = absurd h
+copied_items (x ∷ xs) [] h = absurd h
+copied_items (x ∷ xs) (y ∷ ys) h = let tails = copied_items xs ys h.1 in rw (h.0, tails) refl
+
+-- copied vectors have the same items
+pub copied_vectors : (vs ws : List (Vec ℕ Global)) → AllZip (λ v w. AllZip (λ x y. y ≡ x) v.items w.items × (vec_len w ≡ vec_len v)) vs ws → map (λ v. v.items) ws ≡ map (λ v. v.items) vs
+copied_vectors [] [] h = refl
+copied_vectors [] (w ∷ ws) h = absurd h
+copied_vectors (v ∷ vs) [] h = absurd h
+copied_vectors (v ∷ vs) (w ∷ ws) h = let tails = copied_vectors vs ws h.1 in let heads = copied_items v.items w.items h.0.0 in rw (heads, tails) refl

@@ -1,5 +1,5 @@
 -- What the code's readers give, against what reading gives.
-use Rattle.std.specs.Prelude.{◌≡◌, List, [], ◌∷◌, Result, Ok, Err}
+use Rattle.std.specs.Prelude.{◌≡◌, ◌≤◌, List, [], ◌∷◌, length, Result, Ok, Err}
 use Rattle.it_syntax.specs.declared.rest.Stop.{Stop}
 use Rattle.it_syntax.specs.declared.rest.Stop.TheVariants as stops
 use Rattle.it_syntax.specs.declared.rest.Piece.{Piece}
@@ -18,6 +18,11 @@ with_front (pieces.Number n) ls = Number n ∷ ls
 with_front (pieces.Symbol s) ls = Sym s ∷ ls
 with_front pieces.End ls = End ∷ []
 with_front (pieces.Bad c) ls = Bad c ∷ []
+
+-- a word has 1 to 16 bytes
+abbrev pub HasLength : Piece → Type 0
+HasLength (pieces.Word w) = (1 ≤ length w.now) × (length w.now ≤ 16)
+HasLength p = Unit {0}
 
 -- the code's reader stopped as reading stops, with `rest` left, unless memory ran out
 abbrev pub StopsAs : {A : Type 0} → Stop → List Letter → Result A Fault → Type 0

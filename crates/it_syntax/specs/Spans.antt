@@ -29,11 +29,22 @@ abbrev pub last_letter : Option Misspelling → Letter
 last_letter None = End
 last_letter (Some m) = Bad m.code
 
--- each token takes bytes of the line
+-- a word has 1 to 16 bytes
+abbrev pub IsLength : TokenKind → ℕ → Type 0
+IsLength kinds.Word n = (1 ≤ n) × (n ≤ 16)
+IsLength (kinds.Number v) n = Unit {0}
+IsLength (kinds.Symbol s) n = Unit {0}
+
+pub IsLength-prop : (k : TokenKind) (n : ℕ) → IsProp (IsLength k n)
+IsLength-prop kinds.Word n = hlevel props
+IsLength-prop (kinds.Number v) n = hlevel
+IsLength-prop (kinds.Symbol s) n = hlevel
+
+-- each token takes bytes of the line, as many as it may have
 abbrev pub InLine : List ℕ → List Token → Type 0
 InLine line [] = Unit {0}
-InLine line (t ∷ ts) = ((t.start ≤ t.end) × (t.end ≤ length line)) × InLine line ts
+InLine line (t ∷ ts) = ((t.start ≤ t.end) × (t.end ≤ length line)) × IsLength t.kind (t.end - t.start) × InLine line ts
 
 pub InLine-prop : (line : List ℕ) (ts : List Token) → IsProp (InLine line ts)
 InLine-prop line [] = hlevel
-InLine-prop line (t ∷ ts) = hlevel (props, InLine-prop line ts)
+InLine-prop line (t ∷ ts) = hlevel (props, IsLength-prop t.kind (t.end - t.start), InLine-prop line ts)

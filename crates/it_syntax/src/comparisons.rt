@@ -75,7 +75,12 @@ pub fn line_end(rest: &Rest<'_>) -> Result<(), Stop>
 
 /// A relation, up to the line's end.
 #[tactic(auto, unfolding(crate::specs::Lines::to_end))]
-fn whole(alloc: Global, rest: &mut Rest<'_>, names: &Names, rates: bool) -> Result<Relation, Stop>
+pub fn relation_to_end(
+    alloc: Global,
+    rest: &mut Rest<'_>,
+    names: &Names,
+    rates: bool,
+) -> Result<Relation, Stop>
     ensures { GivesAll stated result (left rest.new) (to_end (read_comparison (scope_of names.now rates)) (left rest.old)) }
 {
     let relation = relation_part(alloc, rest, names, rates)?;
@@ -117,7 +122,7 @@ pub fn comparison(
         tokens: all.tokens.split_at(from).1,
         misspelling: tokens.misspelling,
     };
-    match whole(alloc, &mut rest, names, rates) {
+    match relation_to_end(alloc, &mut rest, names, rates) {
         Ok(relation) => Ok(relation),
         Err(Stop::Memory) => Err(SyntaxFault::Memory),
         Err(Stop::Fault(code)) => Err(SyntaxFault::Fault {

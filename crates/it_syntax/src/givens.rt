@@ -185,7 +185,7 @@ pub fn given_part(alloc: Global, rest: &mut Rest<'_>, names: &Names) -> Result<G
 
 /// A constraint, up to the line's end.
 #[tactic(auto, unfolding(crate::specs::Lines::to_end))]
-fn whole(alloc: Global, rest: &mut Rest<'_>, names: &Names) -> Result<Given, Stop>
+pub fn given_to_end(alloc: Global, rest: &mut Rest<'_>, names: &Names) -> Result<Given, Stop>
     ensures { GivesAll condition result (left rest.new) (to_end (read_condition (scope_of names.now false)) (left rest.old)) }
 {
     let given = given_part(alloc, rest, names)?;
@@ -224,7 +224,7 @@ pub fn given(
         tokens: all.tokens.split_at(from).1,
         misspelling: tokens.misspelling,
     };
-    match whole(alloc, &mut rest, names) {
+    match given_to_end(alloc, &mut rest, names) {
         Ok(given) => Ok(given),
         Err(Stop::Memory) => Err(SyntaxFault::Memory),
         Err(Stop::Fault(code)) => Err(SyntaxFault::Fault {

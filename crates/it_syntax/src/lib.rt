@@ -9,6 +9,7 @@ mod laws;
 mod lists;
 mod members;
 mod names;
+pub mod parts;
 mod pieces;
 mod places;
 mod quantities;

@@ -1,5 +1,5 @@
 //! The names of variables and rates.
-ghost use Rattle.std.specs.Prelude.{◌≡◌, ℕ, ◌<◌, ◌≤◌, ◌++◌, [], ◌∷◌, length, Some, slice_get, OnOk, OnErr, IfSome, map};
+ghost use Rattle.std.specs.Prelude.{◌≡◌, ℕ, ◌<◌, ◌≤◌, ◌++◌, [], ◌∷◌, length, Some, slice_get, OnOk, OnErr, IfOk, IfSome, map};
 ghost use Rattle.it_syntax.specs.Vocabulary.{index_of, IsNew, IsVocabulary};
 
 use indexmap::IndexSet;
@@ -36,6 +36,19 @@ impl Names {
             variables: IndexSet::new(alloc),
             rates: IndexSet::new(alloc),
         }
+    }
+
+    /// The same names once more.
+    pub fn copied(&self) -> Result<Names, AllocError>
+        ensures { IfOk result (λ n. n ≡ self.now) }
+    {
+        let variables = self.variables.clone()?;
+        let rates = self.rates.clone()?;
+        Ok(Names {
+            alloc: self.alloc,
+            variables,
+            rates,
+        })
     }
 
     /// Declares one more variable; after want of memory nothing has changed.

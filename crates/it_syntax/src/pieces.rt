@@ -1,6 +1,6 @@
 //! The pieces of a line, one after the other.
 ghost use Rattle.std.specs.Prelude.{◌≡◌, ◌≤◌, length};
-ghost use Rattle.it_syntax.specs.Gives.{with_front, left};
+ghost use Rattle.it_syntax.specs.Gives.{HasLength, with_front, left};
 ghost use Rattle.it_syntax.specs.Spans.{letters_of, text_of};
 ghost use Rattle.it_syntax.specs.Spelling.{Spells};
 
@@ -28,9 +28,10 @@ impl<'a> Rest<'a> {
         }
     }
 
-    /// The first piece, and what is behind it; nothing is behind the end or a misspelling.
+    /// The first piece, and what is behind it; nothing is behind the end or a misspelling. A word has 1 to 16 bytes.
     pub fn front(self) -> (Piece<'a>, Rest<'a>)
-        ensures { left self.entry ≡ with_front result.0 (left result.1) }
+        ensures front { left self.entry ≡ with_front result.0 (left result.1) }
+        ensures length { HasLength result.0 }
     {
         match self.tokens {
             [first, tail @ ..] => {

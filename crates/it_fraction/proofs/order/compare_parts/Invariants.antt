@@ -1,12 +1,9 @@
-use Rattle.std.proofs.Common.{◌≡◌, ◌+◌, ◌*◌, ◌<◌, nat_cmp}
+use Rattle.std.proofs.Common.{◌+◌}
+use Rattle.it_fraction.proofs.WholeParts.{IsTurn}
 use Rattle.it_fraction.proofs.order.compare_parts.Given as goal
 
 abbrev pub invariant-rests : goal.invariant-rests
-invariant-rests l = record {
-  some : 0 < l.bottom;
-  other_some : 0 < l.other_bottom;
-  same : nat_cmp (l.top * l.other_bottom) (l.other_top * l.bottom) ≡ nat_cmp (l.fn.a * l.fn.d) (l.fn.c * l.fn.b);
-}
+invariant-rests l = IsTurn l.top l.bottom l.other_top l.other_bottom l.fn.a l.fn.b l.fn.c l.fn.d
 
 abbrev pub decreases-rests : goal.decreases-rests
 decreases-rests l = l.bottom + l.other_bottom

@@ -18,7 +18,7 @@ pub column-requires-clause-within : goal.column-requires-clause-within
 column-requires-clause-within c =
     let s = scope_of c.args.names.now false in
     let e = rw (c.in-Err-Fault.field-0-is, c.split_at.ensures.back, c.as_slice.ensures.value) at c.in-Err-Fault.ensures in
-    rw c.as_slice.ensures.value (refused (read_condition s) (spell_condition s) (condition_of s) (condition_reader s) c.args.line.now c.args.tokens.now c.args.from c.whole.new.rest.line.now c.whole.new.rest.tokens.now (last_letter c.whole.new.rest.misspelling) c.in-Err-Fault.code e).0
+    rw c.as_slice.ensures.value (refused (read_condition s) (spell_condition s) (condition_of s) (condition_reader s) c.args.line.now c.args.tokens.now c.args.from c.given_to_end.new.rest.line.now c.given_to_end.new.rest.tokens.now (last_letter c.given_to_end.new.rest.misspelling) c.in-Err-Fault.code e).0
 
 pub returns-in-Ok-clause-read : goal.returns-in-Ok-clause-read
 returns-in-Ok-clause-read c =
@@ -33,4 +33,4 @@ pub returns-in-Err-Fault-clause-fault : goal.returns-in-Err-Fault-clause-fault
 returns-in-Err-Fault-clause-fault c =
     let s = scope_of c.args.names.now false in
     let e = rw (c.in-Err-Fault.field-0-is, c.split_at.ensures.back, c.as_slice.ensures.value) at c.in-Err-Fault.ensures in
-    rw (c.column.ensures, c.as_slice.ensures.value) (refused (read_condition s) (spell_condition s) (condition_of s) (condition_reader s) c.args.line.now c.args.tokens.now c.args.from c.whole.new.rest.line.now c.whole.new.rest.tokens.now (last_letter c.whole.new.rest.misspelling) c.in-Err-Fault.code e).1
+    rw (c.column.ensures, c.as_slice.ensures.value) (refused (read_condition s) (spell_condition s) (condition_of s) (condition_reader s) c.args.line.now c.args.tokens.now c.args.from c.given_to_end.new.rest.line.now c.given_to_end.new.rest.tokens.now (last_letter c.given_to_end.new.rest.misspelling) c.in-Err-Fault.code e).1

@@ -1,0 +1,43 @@
+//! The lines with which an input is refused.
+ghost use Rattle.std.specs.Prelude.{◌≡◌, ◌++◌, IfOk};
+ghost use Rattle.it_cli.specs.Refusals.{code_word, fault_line};
+
+use crate::printing::write_number;
+use it_syntax::types::Code;
+use std::alloc::{AllocError, Global};
+
+pub const LONG: &[u8] = b"refused long\n";
+
+pub const LATER: &[u8] = b"refused 1:1 later\n";
+
+#[tactic(auto, unfolding(crate::specs::Refusals::code_word))]
+fn word(code: Code) -> &'static [u8]
+    ensures { result.now ≡ code_word code }
+{
+    match code {
+        Code::Byte => b"byte",
+        Code::Word => b"word",
+        Code::Name => b"name",
+        Code::Twice => b"twice",
+        Code::Number => b"number",
+        Code::Many => b"many",
+        Code::Unfinished => b"unfinished",
+        Code::Later => b"later",
+    }
+}
+
+/// The line of a file's first fault.
+#[tactic(auto, unfolding(crate::specs::Refusals::fault_line))]
+pub fn fault_line(alloc: Global, line: u32, column: u32, code: Code) -> Result<Vec<u8>, AllocError>
+    ensures { IfOk result (λ text. text.items ≡ fault_line line column code) }
+{
+    let mut out = Vec::new(alloc);
+    out.extend_from_slice(b"refused ")?;
+    write_number(&mut out, line as usize)?;
+    out.extend_from_slice(b":")?;
+    write_number(&mut out, column as usize)?;
+    out.extend_from_slice(b" ")?;
+    out.extend_from_slice(word(code))?;
+    out.extend_from_slice(b"\n")?;
+    Ok(out)
+}

@@ -1,0 +1,107 @@
+-- Questions, and a file of them, that are spelled so are read, up to the first mark.
+use Rattle.std.proofs.Common.{◌≡◌, ℕ, zero, suc, ◌-◌, true, List, [], ◌∷◌, None, Ok, refl, arith}
+use Rattle.it_syntax.specs.declared.types.Code.TheVariants as codes
+use Rattle.it_syntax.specs.Vocabulary.{Vocabulary}
+use Rattle.it_syntax.specs.Letters.{Word, End, Marked, clean, letters}
+use Rattle.it_syntax.specs.Lines.{to_end}
+use Rattle.it_syntax.specs.Reading.{◌>>=◌}
+use Rattle.it_syntax.specs.Trees.{WrittenList}
+use Rattle.it_syntax.specs.Comparisons.{WrittenComparison, spell_comparison, comparison_of}
+use Rattle.it_syntax.specs.ComparisonLines.{scope_of}
+use Rattle.it_syntax.specs.ComparisonReading.{read_comparison}
+use Rattle.it_question.specs.Lines.{file_end}
+use Rattle.it_question.specs.Keywords.{vars_text, rates_text, prove_text, eliminate_text, region_text}
+use Rattle.it_question.specs.Questions.{Proves, Eliminates}
+use Rattle.it_question.specs.Trees.{WrittenAim, Proving, Eliminating, Containing, WrittenQuestion, Variable, Rate, no_names, most_questions, most_variables, most_rates, most_lines, spell_new_names, new_names_of, spell_names_line, spell_own, own_of, rates_env, spell_distinct, distinct_of, givens_left, rows_left, spell_aim, aim_of, names_of, spell_question, question_of, spell_questions, questions_of}
+use Rattle.it_question.specs.Reading.{behind_word, read_new_names, read_names_line, read_lines, read_distinct, read_proof, read_elimination, read_aim, read_question, read_end, read_questions, read_file}
+use Rattle.it_syntax.proofs.SpelledIsRead.{Answers, answers_ok, answers_cons, answers_bind}
+use Rattle.it_question.proofs.NameAnswers.{marked_answers, ended_answers, ended_names_answers, names_line_answers}
+use Rattle.it_question.proofs.LineAnswers.{NoOwn, relation_ended, lines_answers, own_no_word}
+use Rattle.it_question.proofs.DistinctAnswers.{distinct_answers}
+use Rattle.it_question.proofs.RegionAnswers.{spell_contained, containment_answers}
+
+-- ---- what a question wants
+
+proof_answers : (v : Vocabulary) (x : WrittenComparison) (k : Marked) → Answers (read_proof v (letters (spell_comparison (scope_of v true) x (clean End ∷ k)))) (spell_comparison (scope_of v true) x (clean End ∷ k)) (Proves (comparison_of (scope_of v true) x)) k
+unfolding read_proof
+proof_answers v x k =
+    let s = scope_of v true in
+    let m = spell_comparison s x (clean End ∷ k) in
+    let c = comparison_of s x in
+    answers_bind (to_end (read_comparison s) (letters m)) (λ x. Ok (Proves x.0, x.1)) m k k c (Proves c) (relation_ended v x k) (answers_ok (Proves c) k)
+
+elimination_answers : (v : Vocabulary) (l : WrittenList) (k : Marked) → Answers (read_elimination v (letters (spell_distinct (rates_env v) l (clean End ∷ k)))) (spell_distinct (rates_env v) l (clean End ∷ k)) (Eliminates (distinct_of (rates_env v) l)) k
+unfolding read_elimination
+elimination_answers v l k =
+    let env = rates_env v in
+    let m = spell_distinct env l (clean End ∷ k) in
+    let rates = distinct_of env l in
+    answers_bind (to_end (read_distinct env) (letters m)) (λ x. Ok (Eliminates x.0, x.1)) m k k rates (Eliminates rates) (ended_answers (read_distinct env) m k rates (distinct_answers env l (clean End ∷ k) tt)) (answers_ok (Eliminates rates) k)
+
+aim_answers : (g r : ℕ) (v : Vocabulary) (x : WrittenAim) (k : Marked) → Answers (read_aim g r v (letters (spell_aim g r v x k))) (spell_aim g r v x k) (aim_of v x) k
+unfolding read_aim
+aim_answers g r v (Proving x) k = answers_cons (Word prove_text) _ (spell_comparison (scope_of v true) x (clean End ∷ k)) (aim_of v (Proving x)) k (proof_answers v x k)
+aim_answers g r v (Eliminating l) k = answers_cons (Word eliminate_text) _ (spell_distinct (rates_env v) l (clean End ∷ k)) (aim_of v (Eliminating l)) k (elimination_answers v l k)
+aim_answers g r v (Containing x) k = answers_cons (Word region_text) _ (spell_contained g r v x k) (aim_of v (Containing x)) k (containment_answers g r v x k)
+
+-- it begins with a word that begins no line before it
+aim_no_own : (g r : ℕ) (v : Vocabulary) (x : WrittenAim) (k : Marked) → NoOwn (spell_aim g r v x k)
+unfolding behind_word
+aim_no_own g r v (Proving x) k = record { no_given = refl; no_row = refl }
+aim_no_own g r v (Eliminating l) k = record { no_given = refl; no_row = refl }
+aim_no_own g r v (Containing x) k = record { no_given = refl; no_row = refl }
+
+aim_no_rates : (g r : ℕ) (v : Vocabulary) (x : WrittenAim) (k : Marked) → behind_word rates_text (letters (spell_aim g r v x k)) ≡ None
+unfolding behind_word
+aim_no_rates g r v (Proving x) k = refl
+aim_no_rates g r v (Eliminating l) k = refl
+aim_no_rates g r v (Containing x) k = refl
+
+-- ---- questions
+
+-- a question behind `vars`
+pub question_answers : (x : WrittenQuestion) (k : Marked) → Answers (read_question (letters (spell_question x k))) (spell_question x k) (question_of x) k
+unfolding read_question
+question_answers x k =
+    let variables = new_names_of Variable no_names x.variables in
+    let names = names_of x in
+    let own = own_of names x.own in
+    let givens = givens_left most_lines own in
+    let rows = rows_left most_lines own in
+    let verb = spell_aim givens rows names x.aim k in
+    let lines = spell_own most_lines most_lines names x.own verb in
+    let rates = spell_names_line Rate most_rates rates_text variables x.rates lines in
+    let all = spell_new_names Variable most_variables no_names x.variables (clean End ∷ rates) in
+    let aim = aim_of names x.aim in
+    let y = question_of x in
+    answers_bind (to_end (read_new_names Variable most_variables no_names) (letters all)) (λ variables. read_names_line Rate most_rates rates_text variables.0 variables.1 >>= λ names. read_lines most_lines most_lines names.0 names.1 >>= λ own. read_aim (givens_left most_lines own.0) (rows_left most_lines own.0) names.0 own.1 >>= λ aim. Ok (record { names = names.0; lines = own.0; aim = aim.0 }, aim.1)) all rates k variables y
+    (ended_names_answers Variable most_variables no_names x.variables rates)
+    (answers_bind (read_names_line Rate most_rates rates_text variables (letters rates)) (λ names. read_lines most_lines most_lines names.0 names.1 >>= λ own. read_aim (givens_left most_lines own.0) (rows_left most_lines own.0) names.0 own.1 >>= λ aim. Ok (record { names = names.0; lines = own.0; aim = aim.0 }, aim.1)) rates lines k names y
+    (names_line_answers Rate most_rates rates_text variables x.rates lines refl (own_no_word rates_text most_lines most_lines names x.own verb refl refl (aim_no_rates givens rows names x.aim k)))
+    (answers_bind (read_lines most_lines most_lines names (letters lines)) (λ own. read_aim (givens_left most_lines own.0) (rows_left most_lines own.0) names own.1 >>= λ aim. Ok (record { names = names; lines = own.0; aim = aim.0 }, aim.1)) lines verb k own y
+    (lines_answers most_lines most_lines names x.own verb (aim_no_own givens rows names x.aim k))
+    (answers_bind (read_aim givens rows names (letters verb)) (λ aim. Ok (record { names = names; lines = own; aim = aim.0 }, aim.1)) verb k k aim y (aim_answers givens rows names x.aim k) (answers_ok y k))))
+
+-- questions up to the file's end, of which n are allowed
+pub questions_answers : (n : ℕ) (xs : List WrittenQuestion) (k : Marked) → Answers (read_questions n (letters (spell_questions n xs (clean file_end ∷ k)))) (spell_questions n xs (clean file_end ∷ k)) (questions_of xs) k
+unfolding read_questions read_end behind_word
+questions_answers zero [] k = answers_cons file_end _ k [] k (answers_ok [] k)
+questions_answers (suc n) [] k = answers_cons file_end _ k [] k (answers_ok [] k)
+questions_answers zero (x ∷ xs) k =
+    let m = spell_question x (spell_questions (0 - 1) xs (clean file_end ∷ k)) in
+    marked_answers codes.Many (Word vars_text) m _ _
+questions_answers (suc n) (x ∷ xs) k =
+    let e : (suc n - 1) ≡ n = omega arith in
+    let m = spell_questions n xs (clean file_end ∷ k) in
+    let y = question_of x in
+    let ys = questions_of xs in
+    let all = spell_question x m in
+    rw e
+    (answers_cons (Word vars_text) _ all (y ∷ ys) k
+    (answers_bind (read_question (letters all)) (λ q. read_questions n q.1 >>= λ qs. Ok (q.0 ∷ qs.0, qs.1)) all m k y (y ∷ ys) (question_answers x m)
+    (answers_bind (read_questions n (letters m)) (λ qs. Ok (y ∷ qs.0, qs.1)) m k k ys (y ∷ ys) (questions_answers n xs k) (answers_ok (y ∷ ys) k))))
+
+-- a file up to its end
+pub file_answers : (xs : List WrittenQuestion) (k : Marked) → Answers (read_file (letters (spell_questions most_questions xs (clean file_end ∷ k)))) (spell_questions most_questions xs (clean file_end ∷ k)) (questions_of xs) k
+unfolding read_file
+file_answers xs k = questions_answers most_questions xs k

@@ -1,0 +1,116 @@
+-- A file has one reading or one first fault, and how its letters are read tells which.
+use Rattle.std.proofs.Common.{◌≡◌, ℕ, ◌+◌, List, [], ◌∷◌, ◌++◌, length, Option, Some, None, Ok, Err, refl, sym, ap, ◌∙◌, subst, inl, inr, append_assoc}
+use Rattle.std.specs.Prelude.{◌-◌, slice_get}
+use Rattle.std.proofs.lemmas.List.{append-nil}
+use Rattle.it_syntax.specs.declared.types.Code.{Code}
+use Rattle.it_syntax.specs.declared.types.Misspelling.{Misspelling}
+use Rattle.it_syntax.specs.declared.types.Token.{Token}
+use Rattle.it_syntax.specs.Letters.{Letter, Marked, clean, letters, cleaned}
+use Rattle.it_syntax.specs.FirstFault.{FirstFault}
+use Rattle.it_syntax.specs.Misspellings.{SpellsUntil}
+use Rattle.it_syntax.specs.Reading.{Reads}
+use Rattle.it_syntax.proofs.Traces.{By, Went}
+use Rattle.it_syntax.proofs.MisspellingLemmas.{line_tokens_are_one}
+use Rattle.it_syntax.proofs.FirstFaults.{letters_behind, first_fault, one_fault, reads_found, reads_only, clean_is_clean, letters_cleaned}
+use Rattle.it_question.specs.Files.{FileIsOne, FileFaultIsOne, FileOrFault}
+use Rattle.it_question.specs.Lines.{TokenLine, AreLines, AreLinesOf, IsLine, HasTokens, IsFilled, split_lines, plain, file_end, letters_of_lines, places_of_lines}
+use Rattle.it_question.specs.Questions.{Posed}
+use Rattle.it_question.specs.Reading.{read_file}
+use Rattle.it_question.specs.Texts.{with_texts}
+use Rattle.it_question.specs.Trees.{WrittenQuestion, most_questions, spell_questions, questions_of, spell_file}
+use Rattle.it_question.proofs.FileAnswers.{file_answers}
+use Rattle.it_question.proofs.FileTraces.{file_traces}
+use Rattle.it_question.proofs.LetterLemmas.{lines_once}
+use Rattle.it_question.proofs.LinePuts.{questions_put}
+use Rattle.it_question.proofs.Puts.{letters_append}
+
+-- ---- its lines are one
+
+line_made : ℕ → List ℕ → List Token → Option Misspelling → TokenLine
+line_made n text ts m = record { number = n; text = text; tokens = ts; misspelling = m }
+
+blank_or_filled : (n : ℕ) (bytes : List ℕ) (l : TokenLine) → SpellsUntil 0 (plain bytes) [] None → IsLine n bytes l → HasTokens l → ⊥
+blank_or_filled n bytes l blank h filled =
+    let one = line_tokens_are_one (plain bytes) l.tokens [] l.misspelling None (subst (λ (t : List ℕ). SpellsUntil 0 t l.tokens l.misspelling) h.text h.spelled) blank in
+    subst (λ (m : Option Misspelling). IsFilled [] m) one.1 (subst (λ (ts : List Token). IsFilled ts l.misspelling) one.0 filled)
+
+line_is_one : (n : ℕ) (bytes : List ℕ) (l k : TokenLine) → IsLine n bytes l → IsLine n bytes k → l ≡ k
+unfolding line_made
+line_is_one n bytes l k h g =
+    let text : l.text ≡ k.text = h.text ∙ sym g.text in
+    let one = line_tokens_are_one k.text l.tokens k.tokens l.misspelling k.misspelling (subst (λ (t : List ℕ). SpellsUntil 0 t l.tokens l.misspelling) text h.spelled) g.spelled in
+    ap (λ (i : ℕ). line_made i l.text l.tokens l.misspelling) (h.number ∙ sym g.number) ∙ ap (λ (t : List ℕ). line_made k.number t l.tokens l.misspelling) text
+    ∙ ap (λ (ts : List Token). line_made k.number k.text ts l.misspelling) one.0 ∙ ap (λ (m : Option Misspelling). line_made k.number k.text k.tokens m) one.1
+
+-- the lines of bytes are one list
+pub lines_are_one : (n : ℕ) (split : List (List ℕ)) (lines more : List TokenLine) → AreLines n split lines → AreLines n split more → lines ≡ more
+lines_are_one n [] lines more h g = h ∙ sym g
+lines_are_one n (bytes ∷ split) lines more (inl h) (inl g) = lines_are_one (n + 1) split lines more h.1 g.1
+lines_are_one n (bytes ∷ split) lines more (inl h) (inr g) = absurd (blank_or_filled n bytes g.0 h.0 g.3 g.4)
+lines_are_one n (bytes ∷ split) lines more (inr h) (inl g) = absurd (blank_or_filled n bytes h.0 g.0 h.3 h.4)
+lines_are_one n (bytes ∷ split) lines more (inr h) (inr g) =
+    h.2 ∙ ap (λ (l : TokenLine). l ∷ h.1) (line_is_one n bytes h.0 g.0 h.3 g.3) ∙ ap (λ (ls : List TokenLine). g.0 ∷ ls) (lines_are_one (n + 1) split h.1 g.1 h.5 g.5) ∙ sym g.2
+
+-- ---- the file's end is read last
+
+abbrev spell_to_end : List WrittenQuestion → Marked → Marked
+spell_to_end xs k = spell_questions most_questions xs (clean file_end ∷ k)
+
+-- nothing is left of the letters of a file that is read
+pub read_whole : (bytes : List ℕ) (lines : List TokenLine) (ys : List Posed) (r : List Letter) → AreLinesOf bytes lines → read_file (letters_of_lines lines) ≡ Ok (ys, r) → r ≡ []
+read_whole bytes lines ys r cut e =
+    let ls = letters_of_lines lines in
+    let w : Went read_file spell_to_end questions_of ls ys r = subst (λ (t : Reads (List Posed)). By read_file spell_to_end questions_of ls t) e (file_traces ls) in
+    let p = questions_put most_questions w.tree in
+    let front : w.front ≡ letters p.front ++ file_end ∷ [] =
+    sym (append-nil w.front) ∙ sym (letters_behind w.front []) ∙ ap letters (sym (w.spells []) ∙ p.is (clean file_end ∷ [])) ∙ letters_append p.front (clean file_end ∷ []) in
+    lines_once 1 (split_lines bytes) lines cut (letters p.front) r (w.parts ∙ ap (λ (t : List Letter). t ++ r) front ∙ append_assoc (letters p.front) (file_end ∷ []) r)
+
+-- ---- what reading tells
+
+-- what is read is what the file asks
+pub read_asks : (bytes : List ℕ) (lines : List TokenLine) (ys : List Posed) (r : List Letter) → AreLinesOf bytes lines → read_file (letters_of_lines lines) ≡ Ok (ys, r) → (trees : List WrittenQuestion) × ((spell_file trees ≡ cleaned (letters_of_lines lines)) × (questions_of trees ≡ ys))
+read_asks bytes lines ys r cut e =
+    let whole : read_file (letters_of_lines lines) ≡ Ok (ys, []) = e ∙ ap (λ (s : List Letter). Ok (ys, s)) (read_whole bytes lines ys r cut e) in
+    reads_found read_file spell_to_end questions_of file_traces (letters_of_lines lines) ys whole
+
+-- where reading stops is the first fault
+pub read_stops : (lines : List TokenLine) (c : Code) (r : List Letter) → read_file (letters_of_lines lines) ≡ Err (c, r) → FirstFault spell_file (letters_of_lines lines) c r
+read_stops lines c r e = first_fault read_file spell_to_end questions_of file_traces (λ xs. file_answers xs []) (letters_of_lines lines) c r e
+
+-- ---- one reading, or one fault
+
+asks_one : (ls : List Letter) (xs ys : List WrittenQuestion) → spell_file xs ≡ cleaned ls → spell_file ys ≡ cleaned ls → questions_of xs ≡ questions_of ys
+asks_one ls xs ys h g =
+    let x : read_file ls ≡ Ok (questions_of xs, []) = reads_only read_file spell_to_end questions_of (λ xs. file_answers xs []) xs ls h in
+    let y : read_file ls ≡ Ok (questions_of ys, []) = reads_only read_file spell_to_end questions_of (λ xs. file_answers xs []) ys ls g in
+    let pair : (questions_of xs, []) ≡ (questions_of ys, []) = cc in
+    ap (λ (p : List Posed × List Letter). p.0) pair
+
+pub file_is_one : FileIsOne
+file_is_one bytes qs rs f g =
+    let lines : f.lines ≡ g.lines = lines_are_one 1 (split_lines bytes) f.lines g.lines f.cut g.cut in
+    let spelled : spell_file f.trees ≡ cleaned (letters_of_lines g.lines) = f.spelled ∙ ap (λ (ls : List TokenLine). cleaned (letters_of_lines ls)) lines in
+    let same = asks_one (letters_of_lines g.lines) f.trees g.trees spelled g.spelled in
+    sym f.are ∙ ap (λ (ls : List TokenLine). with_texts ls (questions_of f.trees)) lines ∙ ap (with_texts g.lines) same ∙ g.are
+
+place_of : List TokenLine → List Letter → Option (ℕ × ℕ)
+place_of lines left = slice_get (places_of_lines lines) (length (letters_of_lines lines) - length left)
+
+pub file_fault_is_one : FileFaultIsOne
+unfolding place_of
+file_fault_is_one bytes line column row place c d f g =
+    let lines : f.lines ≡ g.lines = lines_are_one 1 (split_lines bytes) f.lines g.lines f.cut g.cut in
+    let first : FirstFault spell_file (letters_of_lines g.lines) c f.left = subst (λ (ls : List TokenLine). FirstFault spell_file (letters_of_lines ls) c f.left) lines f.first in
+    let one = one_fault spell_file (letters_of_lines g.lines) c d f.left g.left first g.first in
+    let places : Some (line, column) ≡ Some (row, place) = sym f.place ∙ ap (λ (ls : List TokenLine). place_of ls f.left) lines ∙ ap (place_of g.lines) one.1 ∙ g.place in
+    let pair : (line, column) ≡ (row, place) = cc in
+    (ap (λ (p : ℕ × ℕ). p.0) pair, ap (λ (p : ℕ × ℕ). p.1) pair, one.0)
+
+pub file_or_fault : FileOrFault
+file_or_fault bytes qs line column c f g =
+    let lines : f.lines ≡ g.lines = lines_are_one 1 (split_lines bytes) f.lines g.lines f.cut g.cut in
+    let ls = letters_of_lines g.lines in
+    let spelled : spell_file f.trees ≡ cleaned ls = f.spelled ∙ ap (λ (ls : List TokenLine). cleaned (letters_of_lines ls)) lines in
+    let k = g.first.each f.trees g.left refl (ap letters spelled ∙ letters_cleaned ls ∙ g.first.parts) in
+    clean_is_clean ls g.first.front c (k.0, k.1, sym spelled ∙ k.2)

@@ -1,0 +1,35 @@
+-- The lines of a file, one after the other.
+use Rattle.std.proofs.Common.{◌≡◌, ℕ, suc, ◌+◌, ◌≤◌, ◌==◌, Bool, true, false, cond, List, [], ◌∷◌, ◌++◌, length, refl, sym, ap, ◌∙◌, subst, inl, inr, append_assoc, arith}
+use Rattle.std.proofs.lemmas.List.{length-map}
+use Rattle.it_question.specs.Lines.{TokenLine, AreLines, Added, without_return, before_comment, untabbed, plain}
+
+return_shorter : (line : List ℕ) → length (without_return line) ≤ length line
+return_shorter [] = omega arith
+return_shorter (b ∷ []) = by (b == 13)
+  where
+    by : (t : Bool) → length (cond t [] (b ∷ [])) ≤ 1
+    by true = omega arith
+    by false = omega arith
+return_shorter (b ∷ c ∷ line) = omega (arith, return_shorter (c ∷ line))
+
+comment_shorter : (line : List ℕ) → length (before_comment line) ≤ length line
+comment_shorter [] = omega arith
+comment_shorter (b ∷ line) = by (b == 35) (comment_shorter line)
+  where
+    by : (t : Bool) → length (before_comment line) ≤ length line → length (cond t [] (b ∷ before_comment line)) ≤ suc (length line)
+    by true h = omega arith
+    by false h = omega (arith, h)
+
+-- what is read of a line is no longer
+pub plain_shorter : (line : List ℕ) → length (plain line) ≤ length line
+plain_shorter line = omega (arith, length-map (before_comment (without_return line)) untabbed, comment_shorter (without_return line), return_shorter line)
+
+-- lines so far, and each reading of the lines behind them
+abbrev pub GoOn : ℕ → List (List ℕ) → List (List ℕ) → List TokenLine → Type 0
+GoOn n whole more old = (rest : List TokenLine) → AreLines n more rest → AreLines 1 whole (old ++ rest)
+
+pub goes_on : (n : ℕ) (whole more : List (List ℕ)) (bytes : List ℕ) (old new : List TokenLine) → GoOn n whole (bytes ∷ more) old → Added n bytes old new → GoOn (n + 1) whole more new
+goes_on n whole more bytes old new h (inl a) rest r = subst (λ (t : List TokenLine). AreLines 1 whole (t ++ rest)) (sym a.1) (h rest (inl (a.0, r)))
+goes_on n whole more bytes old new h (inr a) rest r =
+    let e : new ++ rest ≡ old ++ a.0 ∷ rest = ap (λ (t : List TokenLine). t ++ rest) a.1 ∙ append_assoc old (a.0 ∷ []) rest in
+    subst (AreLines 1 whole) (sym e) (h (a.0 ∷ rest) (inr (a.0, rest, refl, a.2, a.3, r)))

@@ -1,0 +1,166 @@
+-- What the spelling of a question puts: as many lines as are counted of it.
+use Rattle.std.proofs.Common.{◌≡◌, ℕ, suc, ◌+◌, ◌-◌, ◌==◌, Bool, true, false, cond, List, [], ◌∷◌, ◌++◌, length, Option, Some, None, refl, sym, ap, ◌∙◌, inl, inr, length-append, arith}
+use Rattle.std.proofs.lemmas.Bool.Decides.{eqb_tells}
+use Rattle.it_syntax.specs.declared.types.Code.{Code}
+use Rattle.it_syntax.specs.declared.types.Symbol.TheVariants as symbols
+use Rattle.it_syntax.specs.Letters.{Word, Number, Sym, clean}
+use Rattle.it_syntax.specs.Trees.{Environment, WrittenList, is_measure, index_or}
+use Rattle.it_syntax.specs.Vocabulary.{Vocabulary}
+use Rattle.it_syntax.specs.ComparisonLines.{scope_of}
+use Rattle.it_syntax.specs.Relations.{env_of}
+use Rattle.it_question.specs.Keywords.{vars_text, rates_text, given_text, row_text, region_text, aux_text, try_text, prove_text, eliminate_text, contain_text}
+use Rattle.it_question.specs.Texts.{one_if_some, own_lines, one_unless_zero, region_lines, aim_lines, question_lines}
+use Rattle.it_question.specs.Trees.{WrittenLine, GivenLine, RowLine, WrittenRegion, WrittenSet, Empty, Listed, WrittenPart, WrittenTry, WrittenAim, Proving, Eliminating, Containing, WrittenQuestion, Sort, Variable, Rate, Sets, most_variables, most_rates, most_lines, with_name, no_names, is_taken, new_mark, spell_new, spell_new_more, spell_new_names, with_names, new_names_of, spell_names_line, names_line_of, limit_mark, spell_own, own_of, once_mark, spell_once, spell_once_more, spell_distinct, rates_env, unnamed, is_whole, part_mark, spell_set, spell_part, with_part, spell_parts, with_parts, whole_mark, try_mark, spell_tries, tries_of, auxiliaries_left, spell_region, region_of, auxiliary_env, givens_left, rows_left, spell_aim, aim_of, names_of, spell_question, question_of, spell_questions}
+use Rattle.it_question.proofs.Puts.{AreTokens, HasLines, Puts, no_tokens, tokens_then, one_token, token_then, no_lines, line_of_tokens, lines_then, lines_as, line_then}
+use Rattle.it_question.proofs.TokenPuts.{list_puts, comparison_puts, condition_puts}
+
+-- ---- names
+
+new_puts : (sort : Sort) (n : ℕ) (v : Vocabulary) (w : List ℕ) → Puts AreTokens (spell_new sort n v w)
+new_puts sort n v w = one_token (Word w, new_mark (is_measure w) (is_taken v w) n) tt
+
+new_more_puts : (sort : Sort) (n : ℕ) (v : Vocabulary) (ws : List (List ℕ)) → Puts AreTokens (spell_new_more sort n v ws)
+new_more_puts sort n v [] = no_tokens
+new_more_puts sort n v (w ∷ ws) = token_then (clean (Sym symbols.Comma)) tt (tokens_then (new_puts sort n v w) (new_more_puts sort (n - 1) (with_name sort v w) ws))
+
+new_names_puts : (sort : Sort) (n : ℕ) (v : Vocabulary) (l : WrittenList) → Puts AreTokens (spell_new_names sort n v l)
+new_names_puts sort n v l = tokens_then (new_puts sort n v l.first) (new_more_puts sort (n - 1) (with_name sort v l.first) l.more)
+
+one_if : Option WrittenList → ℕ
+one_if None = 0
+one_if (Some l) = 1
+
+names_line_puts : (sort : Sort) (n : ℕ) (keyword : List ℕ) (v : Vocabulary) (o : Option WrittenList) → Puts (HasLines (one_if o)) (spell_names_line sort n keyword v o)
+unfolding one_if
+names_line_puts sort n keyword v None = no_lines
+names_line_puts sort n keyword v (Some l) = line_of_tokens None (token_then (clean (Word keyword)) tt (new_names_puts sort n v l))
+
+-- ---- `given` and `row` lines
+
+own_puts : (g r : ℕ) (v : Vocabulary) (ls : List WrittenLine) → Puts (HasLines (own_lines (own_of v ls))) (spell_own g r v ls)
+own_puts g r v [] = no_lines
+own_puts g r v (GivenLine x ∷ ls) = line_then (own_lines (own_of v ls)) (own_lines (own_of v (GivenLine x ∷ ls))) (line_of_tokens None (token_then (Word given_text, limit_mark g) tt (condition_puts (scope_of v false) x))) (own_puts (g - 1) r v ls) (omega arith)
+own_puts g r v (RowLine x ∷ ls) = line_then (own_lines (own_of v ls)) (own_lines (own_of v (RowLine x ∷ ls))) (line_of_tokens None (token_then (Word row_text, limit_mark r) tt (comparison_puts (scope_of v true) x))) (own_puts g (r - 1) v ls) (omega arith)
+
+-- ---- the rates of an `eliminate` line
+
+once_puts : (env : Environment) (seen : List ℕ) (w : List ℕ) → Puts AreTokens (spell_once env seen w)
+once_puts env seen w = one_token (Word w, once_mark (is_measure w) seen (env w)) tt
+
+once_more_puts : (env : Environment) (seen : List ℕ) (ws : List (List ℕ)) → Puts AreTokens (spell_once_more env seen ws)
+once_more_puts env seen [] = no_tokens
+once_more_puts env seen (w ∷ ws) = token_then (clean (Sym symbols.Comma)) tt (tokens_then (once_puts env seen w) (once_more_puts env (seen ++ index_or (env w) ∷ []) ws))
+
+distinct_puts : (env : Environment) (l : WrittenList) → Puts AreTokens (spell_distinct env l)
+distinct_puts env l = tokens_then (once_puts env [] l.first) (once_more_puts env (index_or (env l.first) ∷ []) l.more)
+
+-- ---- `try` lines
+
+set_puts : (env : Environment) (s : WrittenSet) → Puts AreTokens (spell_set env s)
+set_puts env Empty = one_token (clean (Number 0)) tt
+set_puts env (Listed l) = list_puts env l
+
+part_puts : (aux env : Environment) (sets : Sets) (x : WrittenPart) → Puts AreTokens (spell_part aux env sets x)
+part_puts aux env sets x = token_then (Word x.name, part_mark (is_measure x.name) sets (aux x.name)) tt (token_then (clean (Sym symbols.Assign)) tt (set_puts env x.set))
+
+parts_puts : (aux env : Environment) (sets : Sets) (xs : List WrittenPart) → Puts AreTokens (spell_parts aux env sets xs)
+parts_puts aux env sets [] = no_tokens
+parts_puts aux env sets (x ∷ xs) = token_then (clean (Sym symbols.Semicolon)) tt (tokens_then (part_puts aux env sets x) (parts_puts aux env (with_part aux env sets x) xs))
+
+tries_puts : (n : ℕ) (aux env : Environment) (sets : Sets) (xs : List WrittenTry) → Puts (HasLines (length (tries_of aux env sets xs))) (spell_tries n aux env sets xs)
+tries_puts n aux env sets [] = no_lines
+tries_puts n aux env sets (x ∷ xs) =
+    let first = with_part aux env sets x.first in
+    line_then (length (tries_of aux env sets xs)) (length (tries_of aux env sets (x ∷ xs)))
+    (line_of_tokens (whole_mark (is_whole (with_parts aux env first x.more))) (token_then (Word try_text, try_mark (is_whole sets) n) tt (tokens_then (part_puts aux env sets x.first) (parts_puts aux env first x.more))))
+    (tries_puts (n - 1) aux env sets xs) (omega arith)
+
+-- ---- regions
+
+variables_grow : (v : Vocabulary) (ws : List (List ℕ)) → length (with_names Variable v ws).variables ≡ length v.variables + length ws
+variables_grow v [] = omega arith
+variables_grow v (w ∷ ws) = omega (arith, variables_grow (with_name Variable v w) ws, length-append v.variables (w ∷ []))
+
+one_unless_suc : (n : ℕ) → one_unless_zero (suc n) ≡ 1
+one_unless_suc n =
+    let e : (suc n == 0) ≡ false = elim (eqb_tells (suc n) 0) [
+      | inl h ↦ absurd (omega (arith, h.1))
+      | inr h ↦ h.0
+    ] in
+    ap (λ (b : Bool). cond b 0 1) e
+
+-- an `aux` line stands there where the region has auxiliaries
+aux_lines : (v : Vocabulary) (o : Option WrittenList) → one_if o ≡ one_unless_zero (length (names_line_of Variable v o).variables - length v.variables)
+unfolding one_if
+aux_lines v None = let e : length v.variables - length v.variables ≡ 0 = omega arith in sym (ap one_unless_zero e)
+aux_lines v (Some l) =
+    let e : length (new_names_of Variable v l).variables - length v.variables ≡ suc (length l.more) = omega (arith, variables_grow (with_name Variable v l.first) l.more, length-append v.variables (l.first ∷ [])) in
+    sym (ap one_unless_zero e ∙ one_unless_suc (length l.more))
+
+region_puts : (g r : ℕ) (v : Vocabulary) (x : WrittenRegion) → Puts (HasLines (region_lines (region_of v x))) (spell_region g r v x)
+region_puts g r v x =
+    let names = names_line_of Variable v x.auxiliaries in
+    let own = own_lines (own_of names x.own) in
+    line_then (one_if x.auxiliaries + own) (region_lines (region_of v x)) (line_of_tokens None (one_token (clean (Word region_text)) tt))
+    (lines_then (one_if x.auxiliaries) own (names_line_puts Variable (auxiliaries_left v) aux_text v x.auxiliaries) (own_puts g r names x.own)) (omega (arith, aux_lines v x.auxiliaries))
+
+-- ---- questions
+
+aim_puts : (g r : ℕ) (v : Vocabulary) (x : WrittenAim) → Puts (HasLines (aim_lines (aim_of v x))) (spell_aim g r v x)
+aim_puts g r v (Proving x) = line_of_tokens None (token_then (clean (Word prove_text)) tt (comparison_puts (scope_of v true) x))
+aim_puts g r v (Eliminating l) = line_of_tokens None (token_then (clean (Word eliminate_text)) tt (distinct_puts (rates_env v) l))
+aim_puts g r v (Containing x) =
+    let first = region_of v x.first in
+    let second = region_of v x.second in
+    let aux = auxiliary_env v second.names in
+    let env = env_of first.names in
+    let sets = unnamed second.auxiliaries in
+    let tries = length (tries_of aux env sets x.tries) in
+    lines_as (region_lines first + (region_lines second + (tries + 1))) (aim_lines (aim_of v (Containing x)))
+    (lines_then (region_lines first) (region_lines second + (tries + 1)) (region_puts g r v x.first)
+    (lines_then (region_lines second) (tries + 1) (region_puts (givens_left g first.lines) (rows_left r first.lines) v x.second)
+    (lines_then tries 1 (tries_puts most_lines aux env sets x.tries) (line_of_tokens None (one_token (clean (Word contain_text)) tt)))))
+    (omega arith)
+
+kept_rates : (v : Vocabulary) (ws : List (List ℕ)) → (with_names Variable v ws).rates ≡ v.rates
+kept_rates v [] = refl
+kept_rates v (w ∷ ws) = kept_rates (with_name Variable v w) ws
+
+some_behind : {X : Type 0} (xs : List X) (x : X) → one_if_some (xs ++ x ∷ []) ≡ 1
+some_behind [] x = refl
+some_behind (y ∷ xs) x = refl
+
+some_rates : (v : Vocabulary) (ws : List (List ℕ)) → one_if_some v.rates ≡ 1 → one_if_some (with_names Rate v ws).rates ≡ 1
+some_rates v [] e = e
+some_rates v (w ∷ ws) e = some_rates (with_name Rate v w) ws (some_behind v.rates w)
+
+-- a `rates` line stands there where there are rates
+rates_lines : (x : WrittenQuestion) → one_if x.rates ≡ one_if_some (names_of x).rates
+unfolding one_if
+rates_lines x = by x.rates
+  where
+    by : (o : Option WrittenList) → one_if o ≡ one_if_some (names_line_of Rate (new_names_of Variable no_names x.variables) o).rates
+    by None = sym (ap one_if_some (kept_rates (with_name Variable no_names x.variables.first) x.variables.more))
+    by (Some l) = let v = new_names_of Variable no_names x.variables in sym (some_rates (with_name Rate v l.first) l.more (some_behind v.rates l.first))
+
+-- A question, with its word `vars`, is as many lines as are counted of it.
+pub question_puts : (mark : Option Code) (x : WrittenQuestion) → Puts (HasLines (question_lines (question_of x))) (λ k. (Word vars_text, mark) ∷ spell_question x k)
+question_puts mark x =
+    let variables = new_names_of Variable no_names x.variables in
+    let names = names_of x in
+    let own = own_of names x.own in
+    let verb = aim_lines (aim_of names x.aim) in
+    line_then (one_if x.rates + (own_lines own + verb)) (question_lines (question_of x)) (line_of_tokens None (token_then (Word vars_text, mark) tt (new_names_puts Variable most_variables no_names x.variables)))
+    (lines_then (one_if x.rates) (own_lines own + verb) (names_line_puts Rate most_rates rates_text variables x.rates)
+    (lines_then (own_lines own) verb (own_puts most_lines most_lines names x.own)
+    (aim_puts (givens_left most_lines own) (rows_left most_lines own) names x.aim)))
+    (omega (arith, rates_lines x))
+
+abbrev pub all_lines : List WrittenQuestion → ℕ
+all_lines [] = 0
+all_lines (x ∷ xs) = question_lines (question_of x) + all_lines xs
+
+-- and questions are lines
+pub questions_put : (n : ℕ) (xs : List WrittenQuestion) → Puts (HasLines (all_lines xs)) (spell_questions n xs)
+questions_put n [] = no_lines
+questions_put n (x ∷ xs) = lines_then (question_lines (question_of x)) (all_lines xs) (question_puts (limit_mark n) x) (questions_put (n - 1) xs)

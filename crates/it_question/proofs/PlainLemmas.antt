@@ -1,0 +1,66 @@
+-- Where a line ends, and what is read of it.
+use Rattle.std.proofs.Common.{◌≡◌, ℕ, zero, suc, ◌-◌, ◌<◌, ◌≤◌, ◌==◌, Bool, true, false, not, cond, List, [], ◌∷◌, ◌++◌, length, take, drop, take_all, refl, sym, ap, ◌∙◌, arith}
+use Rattle.it_syntax.specs.Spelling.{AreAll, Stops}
+use Rattle.it_syntax.specs.Fronts.{Run}
+use Rattle.it_syntax.proofs.RunLemmas.{all_more, stops_at, stops_end}
+use Rattle.it_question.specs.Lines.{is_other, in_front, split_lines, without_return, before_comment}
+
+pub ruleset run_lemmas = (all_more, stops_at, stops_end)
+
+is_same : (a b : Bool) → not a ≡ b → a ≡ not b
+is_same true false e = refl
+is_same false true e = refl
+is_same true true e = absurd cc
+is_same false false e = absurd cc
+
+-- what stands before the first comment
+pub before_comment_is : (line : List ℕ) (n : ℕ) → Run (is_other 35) line n → before_comment line ≡ take n line
+unfolding is_other
+before_comment_is line n r = by line n r.all r.stops
+  where
+    by : (line : List ℕ) (n : ℕ) → AreAll (is_other 35) (take n line) → Stops (is_other 35) (drop n line) → before_comment line ≡ take n line
+    by [] zero all stops = refl
+    by [] (suc n) all stops = refl
+    by (b ∷ line) zero all stops = ap (λ (t : Bool). cond t [] (b ∷ before_comment line)) (is_same (b == 35) false stops)
+    by (b ∷ line) (suc n) all stops = ap (λ (t : Bool). cond t [] (b ∷ before_comment line)) (is_same (b == 35) true all.0) ∙ ap (λ (t : List ℕ). b ∷ t) (by line n all.1 stops)
+
+-- a line with its line feed, and the bytes behind it
+pub split_at_feed : (bytes : List ℕ) (n : ℕ) (b : ℕ) (behind : List ℕ) → AreAll (is_other 10) (take n bytes) → Stops (is_other 10) (drop n bytes) → drop n bytes ≡ b ∷ behind → split_lines bytes ≡ take n bytes ∷ split_lines behind
+unfolding is_other
+split_at_feed [] zero b behind all stops e = absurd cc
+split_at_feed [] (suc n) b behind all stops e = absurd cc
+split_at_feed (c ∷ bytes) zero b behind all stops e =
+    ap (λ (t : Bool). cond t ([] ∷ split_lines bytes) (in_front c (split_lines bytes))) (is_same (c == 10) false stops) ∙ ap (λ (t : List ℕ). [] ∷ split_lines (drop 1 t)) e
+split_at_feed (c ∷ bytes) (suc n) b behind all stops e =
+    ap (λ (t : Bool). cond t ([] ∷ split_lines bytes) (in_front c (split_lines bytes))) (is_same (c == 10) true all.0) ∙ ap (in_front c) (split_at_feed bytes n b behind all.1 stops e)
+
+-- a last line without one
+pub split_at_end : (bytes : List ℕ) (n : ℕ) → AreAll (is_other 10) (take n bytes) → drop n bytes ≡ [] → 1 ≤ length bytes → split_lines bytes ≡ take n bytes ∷ []
+unfolding is_other
+split_at_end [] n all e some = absurd (omega arith)
+split_at_end (c ∷ bytes) zero all e some = absurd cc
+split_at_end (c ∷ []) (suc zero) all e some = ap (λ (t : Bool). cond t ([] ∷ []) (in_front c [])) (is_same (c == 10) true all.0)
+split_at_end (c ∷ []) (suc (suc n)) all e some = ap (λ (t : Bool). cond t ([] ∷ []) (in_front c [])) (is_same (c == 10) true all.0)
+split_at_end (c ∷ d ∷ bytes) (suc n) all e some = ap (λ (t : Bool). cond t ([] ∷ split_lines (d ∷ bytes)) (in_front c (split_lines (d ∷ bytes)))) (is_same (c == 10) true all.0) ∙ ap (in_front c) (split_at_end (d ∷ bytes) n all.1 e (omega arith))
+
+-- a last carriage return, and a line without one
+pub returned : (front : List ℕ) → without_return (front ++ 13 ∷ []) ≡ front
+returned [] = refl
+returned (b ∷ []) = refl
+returned (b ∷ c ∷ front) = ap (λ (t : List ℕ). b ∷ t) (returned (c ∷ front))
+
+pub not_returned : (front : List ℕ) (b : ℕ) → (b == 13) ≡ false → without_return (front ++ b ∷ []) ≡ front ++ b ∷ []
+not_returned [] b e = ap (λ (t : Bool). cond t [] (b ∷ [])) e
+not_returned (c ∷ []) b e = ap (λ (t : List ℕ). c ∷ t) (not_returned [] b e)
+not_returned (c ∷ d ∷ front) b e = ap (λ (t : List ℕ). c ∷ t) (not_returned (d ∷ front) b e)
+
+-- the first of these lines, as a slice is cut
+pub cut_at_feed : (bytes front rest : List ℕ) (n : ℕ) → Run (is_other 10) bytes n → front ≡ take n bytes → rest ≡ drop n bytes → 1 ≤ length rest → split_lines bytes ≡ front ∷ split_lines (take (length rest - 1) (drop 1 rest))
+cut_at_feed bytes front [] n r f e some = absurd (omega arith)
+cut_at_feed bytes front (b ∷ rest) n r f e some =
+    let all : take (suc (length rest) - 1) rest ≡ rest = take_all (suc (length rest) - 1) rest (omega arith) in
+    split_at_feed bytes n b rest r.all r.stops (sym e) ∙ ap (λ (t : List ℕ). t ∷ split_lines rest) (sym f) ∙ ap (λ (t : List ℕ). front ∷ split_lines t) (sym all)
+
+pub cut_at_end : (bytes front rest : List ℕ) (n : ℕ) → Run (is_other 10) bytes n → front ≡ take n bytes → rest ≡ drop n bytes → length rest < 1 → 1 ≤ length bytes → split_lines bytes ≡ front ∷ split_lines rest
+cut_at_end bytes front [] n r f e none some = split_at_end bytes n r.all (sym e) some ∙ ap (λ (t : List ℕ). t ∷ []) (sym f)
+cut_at_end bytes front (b ∷ rest) n r f e none some = absurd (omega arith)

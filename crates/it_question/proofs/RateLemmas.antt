@@ -1,0 +1,65 @@
+-- The rates of an `eliminate` line one after the other, as a loop reads them.
+use Rattle.std.proofs.Common.{◌≡◌, ℕ, ◌<◌, Bool, true, false, List, [], ◌∷◌, ◌++◌, length, Option, Some, None, Ok, Err, refl, sym, ap, ◌∙◌, append_assoc, arith}
+use Rattle.std.proofs.lemmas.List.{append-nil}
+use Rattle.it_syntax.specs.declared.rest.Stop.{Stop}
+use Rattle.it_syntax.specs.declared.rest.Stop.TheVariants as stops
+use Rattle.it_syntax.specs.declared.types.Symbol.TheVariants.{Comma}
+use Rattle.it_syntax.specs.Letters.{Letter, Word, Number, Sym, End, Bad}
+use Rattle.it_syntax.specs.ConditionReading.{with_sets}
+use Rattle.it_syntax.specs.Gives.{StopsAs}
+use Rattle.it_syntax.specs.Reading.{Reads, ◌>>=◌, after_comma}
+use Rattle.it_syntax.specs.Trees.{Environment, is_measure}
+use Rattle.it_question.specs.Reading.{if_unseen, once, read_once, read_once_more}
+use Rattle.it_question.specs.Trees.{is_among}
+use Rattle.it_question.proofs.NewNameLemmas.{comma_is}
+
+abbrev then_more : Environment → List ℕ → Reads ℕ → Reads (List ℕ)
+then_more env seen r = r >>= λ i. read_once_more env (seen ++ i.0 ∷ []) i.1 >>= λ more. Ok (i.0 ∷ more.0, more.1)
+
+comma_more : (env : Environment) (seen : List ℕ) (ls : List Letter) → read_once_more env seen (Sym Comma ∷ ls) ≡ then_more env seen (read_once env seen ls)
+unfolding read_once_more read_once
+comma_more env seen [] = refl
+comma_more env seen (Word w ∷ ls) = one (is_measure w) (env w)
+  where
+    unseen : (i : ℕ) (b : Bool) → (if_unseen i w b ls (Word w ∷ ls) >>= λ i. read_once_more env (seen ++ i.0 ∷ []) ls >>= λ more. Ok (i.0 ∷ more.0, more.1)) ≡ then_more env seen (if_unseen i w b ls (Word w ∷ ls))
+    unseen i true = refl
+    unseen i false = refl
+
+    one : (h : Bool) (o : Option ℕ) → (once h seen o w ls >>= λ i. read_once_more env (seen ++ i.0 ∷ []) ls >>= λ more. Ok (i.0 ∷ more.0, more.1)) ≡ then_more env seen (once h seen o w ls)
+    one true o = refl
+    one false None = refl
+    one false (Some i) = unseen i (is_among seen i)
+comma_more env seen (Number n ∷ ls) = refl
+comma_more env seen (Sym s ∷ ls) = refl
+comma_more env seen (End ∷ ls) = refl
+comma_more env seen (Bad c ∷ ls) = refl
+
+regroup : (front : List ℕ) (a : ℕ) (r : Reads (List ℕ)) → with_sets front (r >>= λ more. Ok (a ∷ more.0, more.1)) ≡ with_sets (front ++ a ∷ []) r
+regroup front a (Ok x) = ap (λ (sets : List ℕ). Ok (sets, x.1)) (sym (append_assoc front (a ∷ []) x.0))
+regroup front a (Err e) = refl
+
+-- one more rate
+pub goes_on : (seen : List ℕ) (env : Environment) (ls tail after : List Letter) (i : ℕ) (total : Reads (List ℕ)) → after_comma ls ≡ Some tail → read_once env seen tail ≡ Ok (i, after)
+    → with_sets seen (read_once_more env seen ls) ≡ total → with_sets (seen ++ i ∷ []) (read_once_more env (seen ++ i ∷ []) after) ≡ total
+goes_on seen env ls tail after i total e h so_far =
+    sym (ap (with_sets seen) (ap (read_once_more env seen) (comma_is ls tail e) ∙ comma_more env seen tail ∙ ap (then_more env seen) h) ∙ regroup seen i (read_once_more env (seen ++ i ∷ []) after)) ∙ so_far
+
+-- the loop stops at a fault
+pub ends : (e : Stop) (seen : List ℕ) (env : Environment) (ls tail rest : List Letter) (total : Reads (List ℕ)) → after_comma ls ≡ Some tail → StopsAs e rest (read_once env seen tail)
+    → with_sets seen (read_once_more env seen ls) ≡ total → StopsAs e rest total
+ends stops.Memory seen env ls tail rest total e h so_far = tt
+ends (stops.Fault c) seen env ls tail rest total e h so_far = sym so_far ∙ ap (with_sets seen) (ap (read_once_more env seen) (comma_is ls tail e) ∙ comma_more env seen tail ∙ ap (then_more env seen) h)
+
+no_comma : (env : Environment) (seen : List ℕ) (ls : List Letter) → after_comma ls ≡ None → read_once_more env seen ls ≡ Ok ([], ls)
+unfolding read_once_more
+no_comma env seen (Sym Comma ∷ ls) e = absurd cc
+no_comma env seen ls e = refl
+
+-- the loop ends without a comma
+pub is_done : (seen : List ℕ) (env : Environment) (ls : List Letter) (total : Reads (List ℕ)) → after_comma ls ≡ None → with_sets seen (read_once_more env seen ls) ≡ total → total ≡ Ok (seen, ls)
+is_done seen env ls total e so_far = sym so_far ∙ ap (with_sets seen) (no_comma env seen ls e) ∙ ap (λ (rates : List ℕ). Ok (rates, ls)) (append-nil seen)
+
+-- a comma is taken
+pub shorter : (ls t : List Letter) → after_comma ls ≡ Some t → length t < length ls
+shorter (Sym Comma ∷ ls) t e = let same : ls ≡ t = cc in omega (arith, ap length same)
+shorter ls t e = absurd cc

@@ -1,0 +1,84 @@
+-- Regions, and a containment of two, that are spelled so are read, up to the first mark.
+use Rattle.std.proofs.Common.{◌≡◌, ℕ, ◌-◌, List, [], ◌∷◌, length, Option, None, Ok, refl}
+use Rattle.it_syntax.specs.Vocabulary.{Vocabulary}
+use Rattle.it_syntax.specs.Letters.{Word, End, Marked, clean, letters}
+use Rattle.it_syntax.specs.Reading.{◌>>=◌, line_end}
+use Rattle.it_syntax.specs.Relations.{env_of}
+use Rattle.it_syntax.specs.Trees.{Environment}
+use Rattle.it_question.specs.Keywords.{region_text, aux_text, contain_text}
+use Rattle.it_question.specs.Questions.{Bounded, Contains}
+use Rattle.it_question.specs.Trees.{WrittenRegion, WrittenTry, WrittenContainment, Variable, auxiliaries_left, spell_names_line, names_line_of, spell_own, own_of, spell_region, region_of, auxiliary_env, givens_left, rows_left, most_lines, unnamed, spell_tries, tries_of, containment_of}
+use Rattle.it_question.specs.Reading.{behind_word, read_word, read_word_line, read_names_line, read_lines, read_tries, read_region, read_containment}
+use Rattle.it_syntax.proofs.SpelledIsRead.{Answers, answers_ok, answers_cons, answers_bind}
+use Rattle.it_question.proofs.NameAnswers.{names_line_answers}
+use Rattle.it_question.proofs.LineAnswers.{NoOwn, lines_answers, own_no_word}
+use Rattle.it_question.proofs.TryAnswers.{tries_answers}
+
+-- what may follow a region: neither a line of its own nor its `aux` line
+pub record EndsRegion (k : Marked) : Type 0 where
+  pub no_own : NoOwn k
+  pub no_aux : behind_word aux_text (letters k) ≡ None
+
+-- a region behind its word
+abbrev pub spell_bounds : ℕ → ℕ → Vocabulary → WrittenRegion → Marked → Marked
+spell_bounds g r v x k = clean End ∷ spell_names_line Variable (auxiliaries_left v) aux_text v x.auxiliaries (spell_own g r (names_line_of Variable v x.auxiliaries) x.own k)
+
+pub region_answers : (g r : ℕ) (v : Vocabulary) (x : WrittenRegion) (k : Marked) → EndsRegion k → Answers (read_region g r v (letters (spell_bounds g r v x k))) (spell_bounds g r v x k) (region_of v x) k
+unfolding read_region line_end
+region_answers g r v x k ends =
+    let names = names_line_of Variable v x.auxiliaries in
+    let own = own_of names x.own in
+    let n = spell_own g r names x.own k in
+    let m = spell_names_line Variable (auxiliaries_left v) aux_text v x.auxiliaries n in
+    let y = region_of v x in
+    answers_cons End _ m y k
+    (answers_bind (read_names_line Variable (auxiliaries_left v) aux_text v (letters m)) (λ names. read_lines g r names.0 names.1 >>= λ own. Ok (record { names = names.0; auxiliaries = length names.0.variables - length v.variables; lines = own.0 }, own.1)) m n k names y
+    (names_line_answers Variable (auxiliaries_left v) aux_text v x.auxiliaries n refl (own_no_word aux_text g r names x.own k refl refl ends.no_aux))
+    (answers_bind (read_lines g r names (letters n)) (λ own. Ok (record { names = names; auxiliaries = length names.variables - length v.variables; lines = own.0 }, own.1)) n k k own y (lines_answers g r names x.own k ends.no_own) (answers_ok y k)))
+
+-- the second region, the tries and the verb
+abbrev spell_rest : ℕ → ℕ → Vocabulary → Bounded → WrittenContainment → Marked → Marked
+spell_rest g r v first x k =
+    let second = region_of v x.second in
+    spell_region g r v x.second (spell_tries most_lines (auxiliary_env v second.names) (env_of first.names) (unnamed second.auxiliaries) x.tries (clean (Word contain_text) ∷ clean End ∷ k))
+
+tries_end : (n : ℕ) (aux env : Environment) (sets : List (Option ℕ)) (xs : List WrittenTry) (k : Marked) → EndsRegion (spell_tries n aux env sets xs (clean (Word contain_text) ∷ clean End ∷ k))
+unfolding behind_word
+tries_end n aux env sets [] k = record { no_own = record { no_given = refl; no_row = refl }; no_aux = refl }
+tries_end n aux env sets (x ∷ xs) k = record { no_own = record { no_given = refl; no_row = refl }; no_aux = refl }
+
+contain_answers : (k : Marked) → Answers (read_word_line contain_text (letters (clean (Word contain_text) ∷ clean End ∷ k))) (clean (Word contain_text) ∷ clean End ∷ k) tt k
+unfolding read_word_line read_word line_end
+contain_answers k = answers_cons (Word contain_text) _ (clean End ∷ k) tt k (answers_cons End _ k tt k (answers_ok tt k))
+
+-- a containment behind its first word
+abbrev pub spell_contained : ℕ → ℕ → Vocabulary → WrittenContainment → Marked → Marked
+spell_contained g r v x k =
+    let first = region_of v x.first in
+    spell_bounds g r v x.first (spell_rest (givens_left g first.lines) (rows_left r first.lines) v first x k)
+
+pub containment_answers : (g r : ℕ) (v : Vocabulary) (x : WrittenContainment) (k : Marked) → Answers (read_containment g r v (letters (spell_contained g r v x k))) (spell_contained g r v x k) (containment_of v x) k
+unfolding read_containment read_word behind_word
+containment_answers g r v x k =
+    let first = region_of v x.first in
+    let second = region_of v x.second in
+    let aux = auxiliary_env v second.names in
+    let env = env_of first.names in
+    let sets = unnamed second.auxiliaries in
+    let givens = givens_left g first.lines in
+    let rows = rows_left r first.lines in
+    let verb : Marked = clean (Word contain_text) ∷ clean End ∷ k in
+    let lines = spell_tries most_lines aux env sets x.tries verb in
+    let bounds = spell_bounds givens rows v x.second lines in
+    let rest : Marked = clean (Word region_text) ∷ bounds in
+    let tries = tries_of aux env sets x.tries in
+    let y = containment_of v x in
+    let all = spell_bounds g r v x.first rest in
+    answers_bind (read_region g r v (letters all)) (λ first. read_word region_text first.1 >>= λ x. read_region (givens_left g first.0.lines) (rows_left r first.0.lines) v x.1 >>= λ second. read_tries most_lines (auxiliary_env v second.0.names) (env_of first.0.names) (unnamed second.0.auxiliaries) second.1 >>= λ tries. read_word_line contain_text tries.1 >>= λ e. Ok (Contains first.0 second.0 tries.0, e.1)) all rest k first y
+    (region_answers g r v x.first rest (record { no_own = record { no_given = refl; no_row = refl }; no_aux = refl }))
+    (answers_cons (Word region_text) _ bounds y k
+    (answers_bind (read_region givens rows v (letters bounds)) (λ second. read_tries most_lines (auxiliary_env v second.0.names) env (unnamed second.0.auxiliaries) second.1 >>= λ tries. read_word_line contain_text tries.1 >>= λ e. Ok (Contains first second.0 tries.0, e.1)) bounds lines k second y
+    (region_answers givens rows v x.second lines (tries_end most_lines aux env sets x.tries k))
+    (answers_bind (read_tries most_lines aux env sets (letters lines)) (λ tries. read_word_line contain_text tries.1 >>= λ e. Ok (Contains first second tries.0, e.1)) lines verb k tries y
+    (tries_answers most_lines aux env second.auxiliaries x.tries verb refl)
+    (answers_bind (read_word_line contain_text (letters verb)) (λ e. Ok (Contains first second tries, e.1)) verb k k tt y (contain_answers k) (answers_ok y k)))))

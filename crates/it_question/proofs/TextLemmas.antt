@@ -1,0 +1,26 @@
+-- Blanks at the ends of a line.
+use Rattle.std.proofs.Common.{◌≡◌, ℕ, ◌==◌, Bool, true, false, cond, List, [], ◌∷◌, ◌++◌, sym, ap, ◌∙◌, arith}
+use Rattle.std.proofs.lemmas.Bool.Decides.{nat_tests}
+use Rattle.it_question.specs.Texts.{unless_blank, without_trailing}
+
+behind_blank : (line : List ℕ) (b : ℕ) → (b == 32) ≡ true → without_trailing (line ++ b ∷ []) ≡ without_trailing line
+behind_blank [] b e = ap (λ (t : Bool). cond t [] (b ∷ [])) e
+behind_blank (c ∷ line) b e = ap (unless_blank c) (behind_blank line b e)
+
+kept : (line : List ℕ) (b : ℕ) → (b == 32) ≡ false → without_trailing (line ++ b ∷ []) ≡ line ++ b ∷ []
+kept [] b e = ap (λ (t : Bool). cond t [] (b ∷ [])) e
+kept (c ∷ []) b e = ap (unless_blank c) (kept [] b e)
+kept (c ∷ d ∷ line) b e = ap (unless_blank c) (kept (d ∷ line) b e)
+
+is_blank : (b : ℕ) → b ≡ 32 → (b == 32) ≡ true
+is_blank b e = ap (λ (x : ℕ). x == 32) e
+
+no_blank : (b : ℕ) → (b ≡ 32 → ⊥) → (b == 32) ≡ false
+no_blank b h = grind (arith, nat_tests)
+
+-- a last byte that is a space, and one that is none
+pub last_blank : (line front : List ℕ) (b : ℕ) → line ≡ front ++ b ∷ [] → b ≡ 32 → without_trailing front ≡ without_trailing line
+last_blank line front b h e = sym (behind_blank front b (is_blank b e)) ∙ ap without_trailing (sym h)
+
+pub last_kept : (line front : List ℕ) (b : ℕ) → line ≡ front ++ b ∷ [] → (b ≡ 32 → ⊥) → line ≡ without_trailing line
+last_kept line front b h e = h ∙ sym (kept front b (no_blank b e)) ∙ ap without_trailing (sym h)

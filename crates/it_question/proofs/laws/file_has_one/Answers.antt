@@ -1,0 +1,5 @@
+use Rattle.it_question.proofs.ExistenceLemmas.{file_has_one}
+use Rattle.it_question.proofs.laws.file_has_one.Goals as goal
+
+pub returns : goal.returns
+returns c = file_has_one

@@ -1,0 +1,29 @@
+-- The letters that are left of a file.
+use Rattle.std.specs.Prelude.{List, [], ◌∷◌, ◌++◌, map, Option, Some, None}
+use Rattle.it_syntax.specs.declared.rest.Rest.{Rest}
+use Rattle.it_syntax.specs.declared.rest.Piece.{Piece}
+use Rattle.it_syntax.specs.declared.rest.Piece.TheVariants as pieces
+use Rattle.it_syntax.specs.Letters.{Letter, Word, Number, Sym, End, Bad}
+use Rattle.it_syntax.specs.Gives as gives
+use Rattle.it_question.specs.declared.cursor.Cursor.{Cursor}
+use Rattle.it_question.specs.declared.cursor.Line.{Line}
+use Rattle.it_question.specs.Lines.{TokenLine, letters_of_lines}
+
+abbrev pub token_line : Line → TokenLine
+token_line l = record { number = l.number; text = l.text.items; tokens = l.tokens.tokens.items; misspelling = l.tokens.misspelling }
+
+-- what is left of a line, and the lines behind it
+abbrev pub left_of : Option Rest → List Line → List Letter
+left_of None behind = []
+left_of (Some rest) behind = gives.left rest ++ letters_of_lines (map token_line behind)
+
+unfoldable pub left : Cursor → List Letter
+left c = left_of c.rest c.behind.now
+
+-- behind a line's end stands the next line
+abbrev pub with_letter : Piece → List Letter → List Letter
+with_letter (pieces.Word w) ls = Word w.now ∷ ls
+with_letter (pieces.Number n) ls = Number n ∷ ls
+with_letter (pieces.Symbol s) ls = Sym s ∷ ls
+with_letter pieces.End ls = End ∷ ls
+with_letter (pieces.Bad c) ls = Bad c ∷ ls

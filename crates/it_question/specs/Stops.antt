@@ -1,0 +1,27 @@
+-- What the code tells where reading stopped.
+use Rattle.std.specs.Prelude.{◌≡◌, ℕ, ◌-◌, ◌<◌, ◌≤◌, List, length, Option, Some}
+use Rattle.it_syntax.specs.declared.types.Code.{Code}
+use Rattle.it_syntax.specs.declared.rest.Stop.{Stop}
+use Rattle.it_syntax.specs.declared.rest.Stop.TheVariants as stops
+use Rattle.it_syntax.specs.Letters.{Letter}
+use Rattle.it_question.specs.declared.types.FileFault.{FileFault}
+use Rattle.it_question.specs.declared.types.FileFault.TheVariants.{Memory, Fault}
+use Rattle.it_question.specs.Lines.{TokenLine, letters_of_lines, places_of_lines}
+
+-- no more letters are left than there are, and at least one
+pub record IsLeft (lines : List TokenLine) (left : List Letter) : Type 0 where
+  pub within : length left ≤ length (letters_of_lines lines)
+  pub some : length (letters_of_lines lines) - length left < length (places_of_lines lines)
+
+abbrev pub IfFault : Stop → Type 0 → Type 0
+IfFault stops.Memory p = Unit {0}
+IfFault (stops.Fault code) p = p
+
+-- the fault is this code at that place
+abbrev pub IsFaultAt : Option (ℕ × ℕ) → Code → FileFault → Type 0
+IsFaultAt place code Memory = ⊥
+IsFaultAt place code (Fault line column c) = (c ≡ code) × (place ≡ Some (line, column))
+
+abbrev pub IsStopAt : Option (ℕ × ℕ) → Stop → FileFault → Type 0
+IsStopAt place stops.Memory fault = fault ≡ Memory
+IsStopAt place (stops.Fault code) fault = IsFaultAt place code fault

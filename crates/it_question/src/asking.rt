@@ -1,0 +1,161 @@
+//! Readers of what is asked, of a question, and of the questions of a file.
+ghost use Rattle.std.specs.Prelude.{◌≡◌, ◌++◌, [], ◌∷◌, map, OnOk, IfErr};
+ghost use Rattle.it_syntax.specs.declared.rest.Stop.TheVariants.{Memory};
+ghost use Rattle.it_syntax.specs.Gives.{GivesBy};
+ghost use Rattle.it_question.specs.Bodies.{body};
+ghost use Rattle.it_question.specs.Cursors.{left};
+ghost use Rattle.it_question.specs.Questions.{aim};
+ghost use Rattle.it_question.specs.Reading.{read_proof, read_elimination, read_containment, read_aim, read_question, read_end, read_file};
+
+use crate::bodies::Body;
+use crate::cursor::Cursor;
+use crate::names::{names_line, names_to_end};
+use crate::own::own_lines;
+use crate::parts::relation;
+use crate::rates::rates;
+use crate::sorts::NameSort;
+use crate::types::Verb;
+use crate::words::{ELIMINATE, PROVE, RATES, REGION, VARS, behind_word};
+use it_syntax::Names;
+use it_syntax::rest::{Piece, Stop};
+use it_syntax::types::Code;
+use std::alloc::Global;
+
+const MOST_QUESTIONS: usize = 1000;
+
+const MOST_VARIABLES: usize = 8;
+
+const MOST_RATES: usize = 16;
+
+/// The most `given` lines of a question, and the most `row` lines.
+const MOST_LINES: usize = 64;
+
+/// What is to be proved, behind its `prove`.
+#[tactic(auto, unfolding(crate::specs::Reading::read_proof))]
+fn proof(alloc: Global, cursor: &mut Cursor<'_>, names: &Names) -> Result<Verb, Stop>
+    ensures { GivesBy aim result (left cursor.new) (read_proof names.now (left cursor.old)) }
+{
+    let relation = relation(alloc, cursor, names)?;
+    Ok(Verb::Prove(relation))
+}
+
+/// The rates to be eliminated, behind `eliminate`.
+#[tactic(auto, unfolding(crate::specs::Reading::read_elimination))]
+fn elimination(alloc: Global, cursor: &mut Cursor<'_>, names: &Names) -> Result<Verb, Stop>
+    ensures { GivesBy aim result (left cursor.new) (read_elimination names.now (left cursor.old)) }
+{
+    let rates = rates(alloc, cursor, names)?;
+    Ok(Verb::Eliminate(rates))
+}
+
+fn containment(
+    _alloc: Global,
+    cursor: &mut Cursor<'_>,
+    names: &Names,
+    givens: usize,
+    rows: usize,
+) -> Result<Verb, Stop>
+    ensures { GivesBy aim result (left cursor.new) (read_containment givens rows names.now (left cursor.old)) }
+{
+    Err(Stop::Memory)
+}
+
+/// What is asked, if so many more lines of each kind may stand in regions.
+#[tactic(auto, unfolding(crate::specs::Reading::read_aim))]
+fn verb(
+    alloc: Global,
+    cursor: &mut Cursor<'_>,
+    names: &Names,
+    givens: usize,
+    rows: usize,
+) -> Result<Verb, Stop>
+    ensures { GivesBy aim result (left cursor.new) (read_aim givens rows names.now (left cursor.old)) }
+{
+    match cursor.front() {
+        Some((Piece::Word(word), behind)) => {
+            if word == PROVE {
+                *cursor = behind;
+                proof(alloc, cursor, names)
+            } else if word == ELIMINATE {
+                *cursor = behind;
+                elimination(alloc, cursor, names)
+            } else if word == REGION {
+                *cursor = behind;
+                containment(alloc, cursor, names, givens, rows)
+            } else {
+                Err(Stop::Fault(Code::Word))
+            }
+        }
+        Some((Piece::Bad(code), _)) => Err(Stop::Fault(code)),
+        _ => Err(Stop::Fault(Code::Word)),
+    }
+}
+
+/// A question, behind its `vars`.
+#[tactic(auto, unfolding(crate::specs::Reading::read_question))]
+fn question(alloc: Global, cursor: &mut Cursor<'_>) -> Result<Body, Stop>
+    ensures { GivesBy body result (left cursor.new) (read_question (left cursor.old)) }
+{
+    let mut names = Names::new(alloc);
+    names_to_end(cursor, &mut names, NameSort::Variable, MOST_VARIABLES)?;
+    names_line(cursor, &mut names, NameSort::Rate, MOST_RATES, RATES)?;
+    let own = own_lines(alloc, cursor, &names, MOST_LINES, MOST_LINES)?;
+    let givens = own.givens_left(MOST_LINES);
+    let rows = own.rows_left(MOST_LINES);
+    let verb = verb(alloc, cursor, &names, givens, rows)?;
+    Ok(Body {
+        names,
+        givens: own.givens,
+        rows: own.rows,
+        verb,
+    })
+}
+
+/// The end of the file.
+#[tactic(auto, unfolding(crate::specs::Reading::read_end))]
+fn file_end(cursor: &mut Cursor<'_>) -> Result<(), Stop>
+    ensures { GivesBy (λ x. []) result (left cursor.new) (read_end (left cursor.old)) }
+{
+    match cursor.front() {
+        Some((Piece::Bad(Code::Unfinished), behind)) => {
+            *cursor = behind;
+            Ok(())
+        }
+        Some((Piece::Bad(code), _)) => Err(Stop::Fault(code)),
+        _ => Err(Stop::Fault(Code::Word)),
+    }
+}
+
+fn add(bodies: &mut Vec<Body>, next: Body) -> Result<(), Stop>
+    ensures added { OnOk result (map body bodies.new.items ≡ map body bodies.old.items ++ body next ∷ []) }
+    ensures memory { IfErr result (λ e. e ≡ Memory) }
+{
+    match bodies.push(next) {
+        Ok(()) => Ok(()),
+        Err(_) => Err(Stop::Memory),
+    }
+}
+
+/// The questions up to the end of the file.
+#[tactic(auto, unfolding(crate::specs::Reading::read_file))]
+pub fn bodies(alloc: Global, cursor: &mut Cursor<'_>) -> Result<Vec<Body>, Stop>
+    ensures { GivesBy (λ x. map body x.items) result (left cursor.new) (read_file (left cursor.old)) }
+{
+    let mut found = Vec::new(alloc);
+    let mut allowed = MOST_QUESTIONS;
+    while let Some(behind) = behind_word(*cursor, VARS) {
+        if allowed == 0 {
+            return Err(Stop::Fault(Code::Many));
+        }
+        *cursor = behind;
+        match question(alloc, cursor) {
+            Ok(next) => add(&mut found, next)?,
+            Err(stop) => return Err(stop),
+        }
+        allowed -= 1;
+    }
+    match file_end(cursor) {
+        Ok(()) => Ok(found),
+        Err(stop) => Err(stop),
+    }
+}

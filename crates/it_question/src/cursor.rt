@@ -1,0 +1,25 @@
+//! What is left of a file.
+ghost use Rattle.std.specs.Prelude.{◌≤◌, length};
+ghost use Rattle.it_syntax.specs.Spans.{InLine, InLine-prop};
+
+use it_syntax::rest::Rest;
+use it_syntax::types::LineTokens;
+
+/// A line that has tokens or a misspelling, by its number, counted from 1; its text has neither a comment nor tabs. The last
+/// line of a file is its end: no text and no tokens, with `Unfinished` in the place of a misspelling.
+#[derive(Debug, Drop)]
+pub struct Line {
+    pub number: u32,
+    pub text: Vec<u8>,
+    pub tokens: LineTokens,
+    pub ghost short: { length text.items ≤ 1048577 },
+    pub ghost inside: { InLine text.items tokens.tokens.items } by { InLine-prop text.items tokens.tokens.items },
+}
+
+/// What is left of a line, if anything is left, and the lines behind it. A reader takes from the front what it reads, and at
+/// a fault leaves the cursor at the piece that the fault is at.
+#[derive(Clone, Copy)]
+pub struct Cursor<'a> {
+    pub rest: Option<Rest<'a>>,
+    pub behind: &'a [Line],
+}

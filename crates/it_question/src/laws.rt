@@ -1,0 +1,20 @@
+//! Laws of the definitions that the contracts cite.
+ghost use Rattle.it_question.specs.Files.{FileIsOne, FileFaultIsOne, FileOrFault, FileHasOne, TextReadsBack};
+
+/// A file has at most one reading, or has at most one first fault, and not both.
+pub fn file_is_one()
+    ensures one { FileIsOne }
+    ensures fault { FileFaultIsOne }
+    ensures either { FileOrFault }
+{}
+
+/// A file has a reading or a first fault.
+pub fn file_has_one()
+    ensures { FileHasOne }
+{}
+
+/// The text of a question reads as that question alone, with the same text.
+#[tactic(auto, using(crate::proofs::TextLaws::text_reads_back))]
+pub fn text_reads_back()
+    ensures { TextReadsBack }
+{}

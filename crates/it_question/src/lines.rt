@@ -1,0 +1,90 @@
+//! The lines of a file that have tokens, and its end.
+ghost use Rattle.std.specs.Bool.{OnTrue, OnFalse};
+ghost use Rattle.std.specs.Prelude.{◌≡◌, ◌≤◌, ◌++◌, [], ◌∷◌, length, map, None, IfOk, OnOk};
+ghost use Rattle.it_question.specs.Cursors.{token_line};
+ghost use Rattle.it_question.specs.Lines.{AreLinesOf, IsLine, HasTokens, Added, end_line};
+
+use crate::cursor::Line;
+use crate::plain::{first_line, plain};
+use it_syntax::line_tokens;
+use it_syntax::types::{Code, LineTokens, Misspelling};
+use std::alloc::{AllocError, Global};
+
+fn line_of(alloc: Global, number: u32, bytes: &[u8]) -> Result<Line, AllocError>
+    requires { length bytes.now ≤ 1048577 }
+    ensures { IfOk result (λ l. IsLine number bytes.now (token_line l)) }
+{
+    let text = plain(alloc, bytes)?;
+    let tokens = line_tokens(alloc, text.as_slice())?;
+    Ok(Line {
+        number,
+        text,
+        tokens,
+    })
+}
+
+fn has_tokens(line: &Line) -> bool
+    ensures filled { OnTrue result (HasTokens (token_line line.now)) }
+    ensures no_tokens { OnFalse result (line.now.tokens.tokens.items ≡ []) }
+    ensures no_misspelling { OnFalse result (line.now.tokens.misspelling ≡ None) }
+{
+    match line.tokens.misspelling {
+        Some(_) => true,
+        None => match line.tokens.tokens.as_slice() {
+            [] => false,
+            _ => true,
+        },
+    }
+}
+
+/// Puts a line behind the others, if it has tokens.
+fn add(alloc: Global, lines: &mut Vec<Line>, number: u32, bytes: &[u8]) -> Result<(), AllocError>
+    requires { length bytes.now ≤ 1048577 }
+    ensures { OnOk result (Added number bytes.now (map token_line lines.old.items) (map token_line lines.new.items)) }
+{
+    let line = line_of(alloc, number, bytes)?;
+    if has_tokens(&line) {
+        match lines.push(line) {
+            Ok(()) => {}
+            Err(_) => return Err(AllocError),
+        }
+    }
+    Ok(())
+}
+
+/// The end of a file, with the number of the line behind its last.
+fn end(alloc: Global, number: u32) -> Line
+    ensures { token_line result ≡ end_line number }
+{
+    Line {
+        number,
+        text: Vec::new(alloc),
+        tokens: LineTokens {
+            tokens: Vec::new(alloc),
+            misspelling: Some(Misspelling {
+                column: 1,
+                code: Code::Unfinished,
+            }),
+        },
+    }
+}
+
+/// The lines of a file that have tokens, in order, and then the file's end.
+pub fn file_lines(alloc: Global, bytes: &[u8]) -> Result<Vec<Line>, AllocError>
+    requires { length bytes.now ≤ 1048577 }
+    ensures { IfOk result (λ lines. AreLinesOf bytes.now (map token_line lines.items)) }
+{
+    let mut lines = Vec::new(alloc);
+    let mut number: u32 = 1;
+    let mut rest = bytes;
+    while !rest.is_empty() {
+        let (line, behind) = first_line(rest);
+        add(alloc, &mut lines, number, line)?;
+        number += 1;
+        rest = behind;
+    }
+    match lines.push(end(alloc, number)) {
+        Ok(()) => Ok(lines),
+        Err(_) => Err(AllocError),
+    }
+}

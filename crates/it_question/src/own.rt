@@ -1,0 +1,99 @@
+//! The reader of `given` and `row` lines.
+ghost use Rattle.std.specs.Prelude.{◌≡◌, ◌+◌, OnOk, IfErr};
+ghost use Rattle.it_syntax.specs.declared.rest.Stop.TheVariants.{Memory};
+ghost use Rattle.it_syntax.specs.Givens.{condition};
+ghost use Rattle.it_syntax.specs.Gives.{GivesBy};
+ghost use Rattle.it_syntax.specs.Meaning.{stated};
+ghost use Rattle.it_question.specs.Bodies.{lines_of, with_given, with_row};
+ghost use Rattle.it_question.specs.Cursors.{left};
+ghost use Rattle.it_question.specs.Reading.{read_lines};
+ghost use Rattle.it_question.specs.Trees.{givens_left, rows_left};
+
+use crate::bodies::OwnLines;
+use crate::cursor::Cursor;
+use crate::parts::{given, relation};
+use crate::words::{GIVEN, ROW, behind_word};
+use it_syntax::Names;
+use it_syntax::rest::Stop;
+use it_syntax::types::{Code, Given, Relation};
+use std::alloc::Global;
+
+impl OwnLines {
+    /// How many more `given` lines may follow these.
+    pub fn givens_left(&self, most: usize) -> usize
+        ensures { result ≡ givens_left most (lines_of self.now) }
+    {
+        most.saturating_sub(self.givens.len())
+    }
+
+    /// How many more `row` lines may follow these.
+    pub fn rows_left(&self, most: usize) -> usize
+        ensures { result ≡ rows_left most (lines_of self.now) }
+    {
+        most.saturating_sub(self.rows.len())
+    }
+}
+
+fn add_given(own: &mut OwnLines, given: Given) -> Result<(), Stop>
+    ensures added { OnOk result (lines_of own.new ≡ with_given (lines_of own.old) (condition given)) }
+    ensures memory { IfErr result (λ e. e ≡ Memory) }
+{
+    match own.givens.push(given) {
+        Ok(()) => Ok(()),
+        Err(_) => Err(Stop::Memory),
+    }
+}
+
+fn add_row(own: &mut OwnLines, row: Relation) -> Result<(), Stop>
+    ensures added { OnOk result (lines_of own.new ≡ with_row (lines_of own.old) (stated row)) }
+    ensures memory { IfErr result (λ e. e ≡ Memory) }
+{
+    match own.rows.push(row) {
+        Ok(()) => Ok(()),
+        Err(_) => Err(Stop::Memory),
+    }
+}
+
+/// The lines that stand there, at most so many of each kind.
+#[tactic(auto, unfolding(crate::specs::Reading::read_lines))]
+pub fn own_lines(
+    alloc: Global,
+    cursor: &mut Cursor<'_>,
+    names: &Names,
+    most_givens: usize,
+    most_rows: usize,
+) -> Result<OwnLines, Stop>
+    ensures { GivesBy lines_of result (left cursor.new) (read_lines most_givens most_rows names.now (left cursor.old)) }
+{
+    let mut own = OwnLines {
+        givens: Vec::new(alloc),
+        rows: Vec::new(alloc),
+    };
+    let mut givens = most_givens;
+    let mut rows = most_rows;
+    loop {
+        if let Some(behind) = behind_word(*cursor, GIVEN) {
+            if givens == 0 {
+                return Err(Stop::Fault(Code::Many));
+            }
+            *cursor = behind;
+            match given(alloc, cursor, names) {
+                Ok(next) => add_given(&mut own, next)?,
+                Err(stop) => return Err(stop),
+            }
+            givens -= 1;
+        } else if let Some(behind) = behind_word(*cursor, ROW) {
+            if rows == 0 {
+                return Err(Stop::Fault(Code::Many));
+            }
+            *cursor = behind;
+            match relation(alloc, cursor, names) {
+                Ok(next) => add_row(&mut own, next)?,
+                Err(stop) => return Err(stop),
+            }
+            rows -= 1;
+        } else {
+            return Ok(own);
+        }
+    }
+}

@@ -1,0 +1,77 @@
+//! Readers of what a line has behind its first word.
+ghost use Rattle.std.specs.Prelude.{false, true};
+ghost use Rattle.it_syntax.specs.ComparisonLines.{scope_of};
+ghost use Rattle.it_syntax.specs.ComparisonReading.{read_comparison};
+ghost use Rattle.it_syntax.specs.ConditionReading.{read_condition};
+ghost use Rattle.it_syntax.specs.Givens.{condition};
+ghost use Rattle.it_syntax.specs.Gives.{Gives, GivesBy};
+ghost use Rattle.it_syntax.specs.Lines.{to_end};
+ghost use Rattle.it_syntax.specs.Meaning.{stated};
+ghost use Rattle.it_syntax.specs.Reading.{read_list};
+ghost use Rattle.it_syntax.specs.Relations.{env_of};
+ghost use Rattle.it_question.specs.Cursors.{left};
+
+use crate::cursor::Cursor;
+use it_space::VarSet;
+use it_syntax::Names;
+use it_syntax::parts::{given_to_end, list, relation_to_end};
+use it_syntax::rest::Stop;
+use it_syntax::types::{Code, Given, Relation};
+use std::alloc::Global;
+
+/// A relation, with the line's end.
+pub fn relation(alloc: Global, cursor: &mut Cursor<'_>, names: &Names) -> Result<Relation, Stop>
+    ensures { GivesBy stated result (left cursor.new) (to_end (read_comparison (scope_of names.now true)) (left cursor.old)) }
+{
+    match cursor.rest {
+        Some(mut rest) => match relation_to_end(alloc, &mut rest, names, true) {
+            Ok(relation) => {
+                *cursor = Cursor::at(cursor.behind);
+                Ok(relation)
+            }
+            Err(stop) => {
+                cursor.rest = Some(rest);
+                Err(stop)
+            }
+        },
+        None => Err(Stop::Fault(Code::Word)),
+    }
+}
+
+/// A constraint, with the line's end.
+pub fn given(alloc: Global, cursor: &mut Cursor<'_>, names: &Names) -> Result<Given, Stop>
+    ensures { GivesBy condition result (left cursor.new) (to_end (read_condition (scope_of names.now false)) (left cursor.old)) }
+{
+    match cursor.rest {
+        Some(mut rest) => match given_to_end(alloc, &mut rest, names) {
+            Ok(given) => {
+                *cursor = Cursor::at(cursor.behind);
+                Ok(given)
+            }
+            Err(stop) => {
+                cursor.rest = Some(rest);
+                Err(stop)
+            }
+        },
+        None => Err(Stop::Fault(Code::Word)),
+    }
+}
+
+/// The set of a list of names.
+pub fn names_set(cursor: &mut Cursor<'_>, names: &Names) -> Result<VarSet, Stop>
+    ensures { Gives result (left cursor.new) (read_list (env_of names.now) (left cursor.old)) }
+{
+    match cursor.rest {
+        Some(mut rest) => match list(&mut rest, names) {
+            Ok(set) => {
+                cursor.rest = Some(rest);
+                Ok(set)
+            }
+            Err(stop) => {
+                cursor.rest = Some(rest);
+                Err(stop)
+            }
+        },
+        None => Err(Stop::Fault(Code::Word)),
+    }
+}

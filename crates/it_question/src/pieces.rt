@@ -1,0 +1,50 @@
+//! The pieces of a file, one after the other.
+ghost use Rattle.std.specs.Prelude.{◌≡◌, [], map, IfSome, IfNone};
+ghost use Rattle.it_syntax.specs.Gives.{HasLength};
+ghost use Rattle.it_question.specs.Cursors.{token_line, left, with_letter};
+ghost use Rattle.it_question.specs.Lines.{letters_of_lines};
+
+use crate::cursor::{Cursor, Line};
+use it_syntax::rest::{Piece, Rest};
+
+impl<'a> Cursor<'a> {
+    /// At the first of some lines.
+    #[tactic(auto, unfolding(crate::specs::Cursors::left))]
+    pub fn at(lines: &'a [Line]) -> Cursor<'a>
+        ensures { left result ≡ letters_of_lines (map token_line lines.entry.now) }
+    {
+        match lines {
+            [first, behind @ ..] => Cursor {
+                rest: Some(Rest {
+                    line: first.text.as_slice(),
+                    tokens: first.tokens.tokens.as_slice(),
+                    misspelling: first.tokens.misspelling,
+                }),
+                behind,
+            },
+            [] => Cursor {
+                rest: None,
+                behind: lines,
+            },
+        }
+    }
+
+    /// The first piece and what is behind it, if anything is left.
+    #[tactic(auto, unfolding(crate::specs::Cursors::left))]
+    pub fn front(self) -> Option<(Piece<'a>, Cursor<'a>)>
+        ensures front { IfSome result (λ x. left self.entry ≡ with_letter x.0 (left x.1)) }
+        ensures length { IfSome result (λ x. HasLength x.0) }
+        ensures none { IfNone result (left self.entry ≡ []) }
+    {
+        let rest = self.rest?;
+        let (piece, tail) = rest.front();
+        let behind = match piece {
+            Piece::End | Piece::Bad(_) => Cursor::at(self.behind),
+            _ => Cursor {
+                rest: Some(tail),
+                behind: self.behind,
+            },
+        };
+        Some((piece, behind))
+    }
+}

@@ -1,0 +1,59 @@
+//! Where the letters of a file stand.
+ghost use Rattle.std.specs.Prelude.{◌≡◌, ◌≤◌, ◌^◌, length, map, slice_get, Some};
+ghost use Rattle.it_question.specs.Cursors.{token_line, left};
+ghost use Rattle.it_question.specs.Lines.{letters_of_lines, line_places, places_of_lines};
+
+use crate::cursor::{Cursor, Line};
+use it_syntax::rest::Rest;
+
+/// How many letters the lines have: their tokens, and one for each line's end.
+pub fn count(lines: &[Line]) -> usize
+    requires { length (letters_of_lines (map token_line lines.now)) ≤ 2 ^ 32 }
+    ensures { result ≡ length (letters_of_lines (map token_line lines.now)) }
+{
+    let mut total = 0;
+    for line in lines {
+        total += line.tokens.tokens.len() + 1;
+    }
+    total
+}
+
+/// How many letters are left.
+#[tactic(auto, unfolding(crate::specs::Cursors::left))]
+pub fn left(cursor: &Cursor<'_>) -> usize
+    requires { length (left cursor.now) ≤ 2 ^ 32 }
+    ensures { result ≡ length (left cursor.now) }
+{
+    match cursor.rest {
+        Some(rest) => rest.tokens.len() + 1 + count(cursor.behind),
+        None => 0,
+    }
+}
+
+/// The line and the column of a letter of a line.
+fn place_in(line: &Line, at: usize) -> (u32, u32)
+    requires { at ≤ length line.now.tokens.tokens.items }
+    ensures { slice_get (line_places (token_line line.now)) at ≡ Some result }
+{
+    let whole = Rest {
+        line: line.text.as_slice(),
+        tokens: line.tokens.tokens.as_slice(),
+        misspelling: line.tokens.misspelling,
+    };
+    (line.number, whole.column(line.tokens.tokens.len() - at))
+}
+
+/// The line and the column, counted from 1, of the letter number `at`; None where there is none.
+pub fn place(lines: &[Line], at: usize) -> Option<(u32, u32)>
+    ensures { result ≡ slice_get (places_of_lines (map token_line lines.now)) at }
+{
+    let mut rest = at;
+    for line in lines {
+        let tokens = line.tokens.tokens.len();
+        if rest <= tokens {
+            return Some(place_in(line, rest));
+        }
+        rest -= tokens + 1;
+    }
+    None
+}

@@ -1,0 +1,72 @@
+//! The bytes of lines: where a line ends, and what is read of it.
+ghost use Rattle.std.specs.Prelude.{◌≡◌, ◌≤◌, ◌∷◌, ◌+◌, ◌<◌, length, IfOk};
+ghost use Rattle.it_syntax.specs.Fronts.{Run};
+ghost use Rattle.it_question.specs.Lines.{is_other, split_lines, without_return, before_comment, untabbed, plain};
+
+use std::alloc::{AllocError, Global};
+
+#[tactic(auto, unfolding(crate::specs::Lines::is_other))]
+fn is_other(stop: u8, b: u8) -> bool
+    ensures { result ≡ is_other stop b }
+{
+    b != stop
+}
+
+/// The number of bytes in front of the first that is `stop`.
+#[tactic(auto, using(crate::proofs::PlainLemmas::run_lemmas))]
+fn before(bytes: &[u8], stop: u8) -> usize
+    ensures { Run (is_other stop) bytes.now result }
+{
+    for (i, b) in bytes.iter().enumerate() {
+        if !is_other(stop, *b) {
+            return i;
+        }
+    }
+    bytes.len()
+}
+
+/// The first line, without its line feed, and the bytes behind that.
+pub fn first_line(bytes: &[u8]) -> (&[u8], &[u8])
+    requires { 1 ≤ length bytes.now }
+    ensures split { split_lines bytes.now ≡ result.0.now ∷ split_lines result.1.now }
+    ensures shorter { length result.0.now + length result.1.now ≤ length bytes.now }
+    ensures progress { length result.1.now < length bytes.now }
+{
+    let (line, behind) = bytes.split_at(before(bytes, b'\n'));
+    match behind {
+        [_, behind @ ..] => (line, behind),
+        [] => (line, behind),
+    }
+}
+
+#[tactic(auto, using(crate::proofs::PlainLemmas::returned, crate::proofs::PlainLemmas::not_returned))]
+fn without_return(line: &[u8]) -> &[u8]
+    ensures { result.now ≡ without_return line.now }
+{
+    match line.split_last() {
+        Some((last, front)) => { if *last == b'\r' { front } else { line } }
+        None => line,
+    }
+}
+
+fn before_comment(line: &[u8]) -> &[u8]
+    ensures { result.now ≡ before_comment line.now }
+{
+    line.split_at(before(line, b'#')).0
+}
+
+fn untabbed(b: u8) -> u8
+    ensures { result ≡ untabbed b }
+{
+    if b == b'\t' { b' ' } else { b }
+}
+
+/// What is read of a line: what stands before a comment, without a carriage return at the line's end, and with tabs as spaces.
+pub fn plain(alloc: Global, line: &[u8]) -> Result<Vec<u8>, AllocError>
+    ensures { IfOk result (λ v. v.items ≡ plain line.now) }
+{
+    before_comment(without_return(line))
+        .iter()
+        .map(|b| untabbed(*b))
+        .collect(alloc)
+}

@@ -1,0 +1,94 @@
+//! Readers of the rates of an `eliminate` line.
+ghost use Rattle.std.specs.Prelude.{◌≡◌, ◌<◌, ◌++◌, [], ◌∷◌, length, OnOk, IfErr};
+ghost use Rattle.it_syntax.specs.declared.rest.Stop.TheVariants.{Memory};
+ghost use Rattle.it_syntax.specs.ConditionReading.{with_sets};
+ghost use Rattle.it_syntax.specs.Gives.{Gives, GivesBy};
+ghost use Rattle.it_syntax.specs.Lines.{to_end};
+ghost use Rattle.it_question.specs.Cursors.{left};
+ghost use Rattle.it_question.specs.Reading.{read_once, read_once_more, read_distinct};
+ghost use Rattle.it_question.specs.Trees.{rates_env};
+
+use crate::cursor::Cursor;
+use crate::words::{comma, line_end};
+use it_syntax::rest::{Piece, Stop};
+use it_syntax::types::Code;
+use it_syntax::{Names, is_measure};
+use std::alloc::Global;
+
+#[tactic(auto, unfolding(crate::specs::Trees::rates_env))]
+fn rate(names: &Names, name: &[u8]) -> Option<u8>
+    ensures { result ≡ rates_env names.now name.now }
+{
+    names.rate(name)
+}
+
+/// A rate that isn't among these.
+#[tactic(auto, unfolding(crate::specs::Reading::read_once))]
+fn new_rate(cursor: &mut Cursor<'_>, names: &Names, seen: &[u8]) -> Result<u8, Stop>
+    ensures gives { Gives result (left cursor.new) (read_once (rates_env names.now) seen.now (left cursor.old)) }
+    ensures shorter { OnOk result (length (left cursor.new) < length (left cursor.old)) }
+{
+    match cursor.front() {
+        Some((Piece::Word(word), behind)) => {
+            if is_measure(word) {
+                return Err(Stop::Fault(Code::Word));
+            }
+            match rate(names, word) {
+                Some(i) => {
+                    if seen.contains(&i) {
+                        return Err(Stop::Fault(Code::Twice));
+                    }
+                    *cursor = behind;
+                    Ok(i)
+                }
+                None => Err(Stop::Fault(Code::Name)),
+            }
+        }
+        Some((Piece::Bad(code), _)) => Err(Stop::Fault(code)),
+        _ => Err(Stop::Fault(Code::Word)),
+    }
+}
+
+fn add(rates: &mut Vec<u8>, rate: u8) -> Result<(), Stop>
+    ensures added { OnOk result (rates.new.items ≡ rates.old.items ++ rate ∷ []) }
+    ensures memory { IfErr result (λ e. e ≡ Memory) }
+{
+    match rates.push(rate) {
+        Ok(()) => Ok(()),
+        Err(_) => Err(Stop::Memory),
+    }
+}
+
+/// The first rates and further ones, each behind a comma.
+fn more_rates(first: Vec<u8>, cursor: &mut Cursor<'_>, names: &Names) -> Result<Vec<u8>, Stop>
+    ensures { GivesBy (λ x. x.items) result (left cursor.new) (with_sets first.items (read_once_more (rates_env names.now) first.items (left cursor.old))) }
+{
+    let mut found = first;
+    while comma(cursor) {
+        match new_rate(cursor, names, found.as_slice()) {
+            Ok(next) => add(&mut found, next)?,
+            Err(stop) => return Err(stop),
+        }
+    }
+    Ok(found)
+}
+
+#[tactic(auto, unfolding(crate::specs::Reading::read_distinct))]
+fn distinct(alloc: Global, cursor: &mut Cursor<'_>, names: &Names) -> Result<Vec<u8>, Stop>
+    ensures { GivesBy (λ x. x.items) result (left cursor.new) (read_distinct (rates_env names.now) (left cursor.old)) }
+{
+    let first = new_rate(cursor, names, &[])?;
+    match Vec::from_slice(alloc, &[first]) {
+        Ok(found) => more_rates(found, cursor, names),
+        Err(_) => Err(Stop::Memory),
+    }
+}
+
+/// The rates, each once, with the line's end.
+pub fn rates(alloc: Global, cursor: &mut Cursor<'_>, names: &Names) -> Result<Vec<u8>, Stop>
+    ensures { GivesBy (λ x. x.items) result (left cursor.new) (to_end (read_distinct (rates_env names.now)) (left cursor.old)) }
+{
+    let rates = distinct(alloc, cursor, names)?;
+    line_end(cursor)?;
+    Ok(rates)
+}

@@ -1,0 +1,146 @@
+//! The text of a question.
+ghost use Rattle.std.specs.Prelude.{◌≡◌, ◌≤◌, ◌++◌, length, take, drop, map, All, IfOk, OnOk};
+ghost use Rattle.it_question.specs.Bodies.{body, body as body_of};
+ghost use Rattle.it_question.specs.Cursors.{token_line};
+ghost use Rattle.it_question.specs.Limits.{FewLines, FewLinesOf, IsQuestion};
+ghost use Rattle.it_question.specs.Questions.{aim, asked, bounded};
+ghost use Rattle.it_question.specs.Texts.{without_leading, without_trailing, trimmed, text_of_lines, region_lines, aim_lines, question_lines, with_texts};
+
+use crate::bodies::Body;
+use crate::cursor::Line;
+use crate::types::{Question, Region, Verb};
+use std::alloc::{AllocError, Global};
+
+fn without_leading(line: &[u8]) -> &[u8]
+    ensures { result.now ≡ without_leading line.now }
+{
+    let mut rest = line;
+    while let [first, behind @ ..] = rest {
+        if *first != b' ' {
+            return rest;
+        }
+        rest = behind;
+    }
+    rest
+}
+
+fn without_trailing(line: &[u8]) -> &[u8]
+    ensures { result.now ≡ without_trailing line.now }
+{
+    let mut rest = line;
+    while let Some((last, front)) = rest.split_last() {
+        if *last != b' ' {
+            return rest;
+        }
+        rest = front;
+    }
+    rest
+}
+
+/// Without blanks at both ends.
+fn trimmed(line: &[u8]) -> &[u8]
+    ensures { result.now ≡ trimmed line.now }
+{
+    without_trailing(without_leading(line))
+}
+
+/// The lines, each without blanks at both ends and with a line feed behind it.
+pub fn text_of(alloc: Global, lines: &[Line]) -> Result<Vec<u8>, AllocError>
+    ensures { IfOk result (λ text. text.items ≡ text_of_lines (map token_line lines.now)) }
+{
+    let mut text = Vec::new(alloc);
+    for line in lines {
+        text.extend_from_slice(trimmed(line.text.as_slice()))?;
+        match text.push(b'\n') {
+            Ok(()) => {}
+            Err(_) => return Err(AllocError),
+        }
+    }
+    Ok(text)
+}
+
+/// How many lines a region has, its `region` line among them.
+#[tactic(auto, using(crate::proofs::LineCountLemmas::few_givens, crate::proofs::LineCountLemmas::few_rows, crate::proofs::LineCountLemmas::region_lines_are))]
+fn region_lines(region: &Region) -> usize
+    requires { FewLines (bounded region.now).lines }
+    ensures lines { result ≡ region_lines (bounded region.now) }
+    ensures few { result ≤ 130 }
+{
+    let auxiliaries = if region.auxiliaries == 0 { 0 } else { 1 };
+    1 + auxiliaries + (region.givens.len() + region.rows.len())
+}
+
+/// How many lines stand from the verb or the first region on.
+fn verb_lines(verb: &Verb) -> usize
+    requires { FewLinesOf (aim verb.now) }
+    ensures lines { result ≡ aim_lines (aim verb.now) }
+    ensures few { result ≤ 325 }
+{
+    match verb {
+        Verb::Prove(_) => 1,
+        Verb::Eliminate(_) => 1,
+        Verb::Contain {
+            first,
+            second,
+            tries,
+        } => region_lines(first) + region_lines(second) + tries.len() + 1,
+    }
+}
+
+/// How many lines a question has.
+fn question_lines(question: &Body) -> usize
+    requires { IsQuestion (body question.now) }
+    ensures { result ≡ question_lines (body question.now) }
+{
+    let rates = if question.names.space().rates == 0 {
+        0
+    } else {
+        1
+    };
+    1 + rates + (question.givens.len() + question.rows.len()) + verb_lines(&question.verb)
+}
+
+/// The first lines, and those behind them.
+fn cut(lines: &[Line], n: usize) -> (&[Line], &[Line])
+    ensures first { result.0.now ≡ take n lines.now }
+    ensures behind { result.1.now ≡ drop n lines.now }
+{
+    lines.split_at(n.min(lines.len()))
+}
+
+fn with_text(alloc: Global, lines: &[Line], body: Body) -> Result<Question, AllocError>
+    ensures { IfOk result (λ q. asked q ≡ record { posed = body_of body; text = text_of_lines (map token_line lines.now) }) }
+{
+    let text = text_of(alloc, lines)?;
+    Ok(Question {
+        names: body.names,
+        text,
+        givens: body.givens,
+        rows: body.rows,
+        verb: body.verb,
+    })
+}
+
+/// The questions of these lines, one after the other, with their texts.
+pub fn with_texts(
+    alloc: Global,
+    lines: &[Line],
+    bodies: Vec<Body>,
+) -> Result<Vec<Question>, AllocError>
+    requires { All (λ b. IsQuestion (body b)) bodies.items }
+    ensures { IfOk result (λ qs. map asked qs.items ≡ with_texts (map token_line lines.now) (map body bodies.items)) }
+{
+    let mut rest = lines;
+    let mut left = bodies.into_iter();
+    let mut questions = Vec::new(alloc);
+    while let Some(body) = left.next() {
+        let (own, behind) = cut(rest, question_lines(&body));
+        let question = with_text(alloc, own, body)?;
+        match questions.push(question) {
+            Ok(()) => {}
+            Err(_) => return Err(AllocError),
+        }
+        rest = behind;
+    }
+    Ok(questions)
+}

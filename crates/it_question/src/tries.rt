@@ -1,0 +1,286 @@
+//! Readers of `try` lines.
+ghost use Rattle.std.specs.Bool.{OnTrue, OnFalse};
+ghost use Rattle.std.specs.Prelude.{◌≡◌, ◌<◌, ◌++◌, [], ◌∷◌, Some, None, IfOk, IfSome, OnOk, IfErr, length};
+ghost use Rattle.it_syntax.specs.declared.rest.Stop.TheVariants.{Memory};
+ghost use Rattle.it_syntax.specs.Gives.{Gives, GivesBy, Passes};
+ghost use Rattle.it_syntax.specs.Reading.{read_list};
+ghost use Rattle.it_syntax.specs.Relations.{env_of};
+ghost use Rattle.it_question.specs.Cursors.{left};
+ghost use Rattle.it_question.specs.Reading.{after_semicolon, read_auxiliary, read_assign, read_set, read_part, read_parts, read_whole, read_try, read_tries};
+ghost use Rattle.it_question.specs.Trees.{auxiliary_env, is_named, with_set, is_whole, set_or, sets_of, unnamed};
+
+use crate::cursor::Cursor;
+use crate::parts::names_set;
+use crate::words::{TRY, behind_word, line_end};
+use it_space::VarSet;
+use it_syntax::rest::{Piece, Stop};
+use it_syntax::types::{Code, Symbol};
+use it_syntax::{Names, is_measure};
+use std::alloc::Global;
+
+/// A set for each auxiliary of the second region, by number, and none where it has none yet. The places behind the
+/// auxiliaries have the empty set.
+pub type Sets = [Option<VarSet>; 4];
+
+/// The regions that substitutions go between: the names of the question, and those of each region.
+#[derive(Clone, Copy)]
+pub struct Regions<'a> {
+    pub question: &'a Names,
+    pub first: &'a Names,
+    pub second: &'a Names,
+}
+
+/// Which auxiliary of the second region has this name.
+#[tactic(auto, unfolding(crate::specs::Trees::auxiliary_env))]
+fn auxiliary_of(regions: Regions<'_>, name: &[u8]) -> Option<u8>
+    ensures { result ≡ auxiliary_env regions.entry.question.now regions.entry.second.now name.now }
+{
+    let own = regions.question.space().variables;
+    match regions.second.variable(name) {
+        Some(i) => if i < own { None } else { Some(i - own) },
+        None => None,
+    }
+}
+
+#[tactic(auto, using(crate::proofs::SetLemmas::set_lemmas))]
+fn is_named(sets: &Sets, i: u8) -> bool
+    ensures { result ≡ is_named sets.now i }
+{
+    if (i as usize) < sets.len() {
+        sets[i as usize].is_some()
+    } else {
+        true
+    }
+}
+
+#[tactic(auto, using(crate::proofs::SetLemmas::set_lemmas))]
+fn is_whole(sets: &Sets) -> bool
+    ensures { result ≡ is_whole sets.now }
+{
+    for set in sets.iter() {
+        if set.is_none() {
+            return false;
+        }
+    }
+    true
+}
+
+#[tactic(auto, using(crate::proofs::SetLemmas::set_lemmas))]
+fn put(sets: &mut Sets, i: u8, set: VarSet)
+    ensures { sets.new ≡ with_set sets.old i set }
+{
+    if (i as usize) < sets.len() {
+        sets[i as usize] = Some(set);
+    }
+}
+
+/// The auxiliary that is named, if it has no set yet.
+#[tactic(auto, unfolding(crate::specs::Reading::read_auxiliary))]
+fn auxiliary(cursor: &mut Cursor<'_>, regions: Regions<'_>, sets: &Sets) -> Result<u8, Stop>
+    ensures { Gives result (left cursor.new) (read_auxiliary (auxiliary_env regions.entry.question.now regions.entry.second.now) sets.now (left cursor.old)) }
+{
+    match cursor.front() {
+        Some((Piece::Word(word), behind)) => {
+            if is_measure(word) {
+                return Err(Stop::Fault(Code::Word));
+            }
+            match auxiliary_of(regions, word) {
+                Some(i) => {
+                    if is_named(sets, i) {
+                        return Err(Stop::Fault(Code::Twice));
+                    }
+                    *cursor = behind;
+                    Ok(i)
+                }
+                None => Err(Stop::Fault(Code::Name)),
+            }
+        }
+        Some((Piece::Bad(code), _)) => Err(Stop::Fault(code)),
+        _ => Err(Stop::Fault(Code::Word)),
+    }
+}
+
+#[tactic(auto, unfolding(crate::specs::Reading::read_assign))]
+fn assign(cursor: &mut Cursor<'_>) -> Result<(), Stop>
+    ensures { Passes result (left cursor.new) (read_assign (left cursor.old)) }
+{
+    match cursor.front() {
+        Some((Piece::Symbol(Symbol::Assign), behind)) => {
+            *cursor = behind;
+            Ok(())
+        }
+        Some((Piece::Bad(code), _)) => Err(Stop::Fault(code)),
+        _ => Err(Stop::Fault(Code::Word)),
+    }
+}
+
+/// `0`, or a list of names.
+#[tactic(auto, unfolding(crate::specs::Reading::read_set))]
+fn set(cursor: &mut Cursor<'_>, names: &Names) -> Result<VarSet, Stop>
+    ensures { Gives result (left cursor.new) (read_set (env_of names.now) (left cursor.old)) }
+{
+    match cursor.front() {
+        Some((Piece::Number(number), behind)) => {
+            if number == 0 {
+                *cursor = behind;
+                Ok(VarSet::empty())
+            } else {
+                Err(Stop::Fault(Code::Word))
+            }
+        }
+        _ => names_set(cursor, names),
+    }
+}
+
+/// `name := set`.
+#[tactic(auto, unfolding(crate::specs::Reading::read_part))]
+fn part(cursor: &mut Cursor<'_>, regions: Regions<'_>, sets: &mut Sets) -> Result<(), Stop>
+    ensures { GivesBy (λ x. sets.new) result (left cursor.new) (read_part (auxiliary_env regions.entry.question.now regions.entry.second.now) (env_of regions.entry.first.now) sets.old (left cursor.old)) }
+{
+    let i = auxiliary(cursor, regions, sets)?;
+    assign(cursor)?;
+    let set = set(cursor, regions.first)?;
+    put(sets, i, set);
+    Ok(())
+}
+
+/// Takes a `;`, if one stands there, and says whether.
+fn semicolon(cursor: &mut Cursor<'_>) -> bool
+    ensures taken { OnTrue result (after_semicolon (left cursor.old) ≡ Some (left cursor.new)) }
+    ensures none { OnFalse result (after_semicolon (left cursor.old) ≡ None) }
+    ensures same { OnFalse result (left cursor.new ≡ left cursor.old) }
+{
+    match cursor.front() {
+        Some((Piece::Symbol(Symbol::Semicolon), behind)) => {
+            *cursor = behind;
+            true
+        }
+        _ => false,
+    }
+}
+
+/// Further parts, each behind a `;`.
+fn parts(cursor: &mut Cursor<'_>, regions: Regions<'_>, sets: &mut Sets) -> Result<(), Stop>
+    ensures { GivesBy (λ x. sets.new) result (left cursor.new) (read_parts 4 (auxiliary_env regions.entry.question.now regions.entry.second.now) (env_of regions.entry.first.now) sets.old (left cursor.old)) }
+{
+    let mut allowed: u8 = 4;
+    while semicolon(cursor) {
+        match part(cursor, regions, sets) {
+            Ok(()) => {}
+            Err(stop) => return Err(stop),
+        }
+        if allowed == 0 {
+            return Ok(());
+        }
+        allowed -= 1;
+    }
+    Ok(())
+}
+
+/// The line's end, if each auxiliary has its set.
+#[tactic(auto, unfolding(crate::specs::Reading::read_whole))]
+fn whole(cursor: &mut Cursor<'_>, sets: &Sets) -> Result<(), Stop>
+    ensures { Gives result (left cursor.new) (read_whole (is_whole sets.now) (left cursor.old)) }
+{
+    if is_whole(sets) {
+        return line_end(cursor);
+    }
+    match cursor.front() {
+        Some((Piece::Bad(code), _)) => Err(Stop::Fault(code)),
+        _ => Err(Stop::Fault(Code::Word)),
+    }
+}
+
+fn set_of(set: &Option<VarSet>) -> VarSet
+    ensures { result ≡ set_or set.now }
+{
+    match set {
+        Some(set) => *set,
+        None => VarSet::empty(),
+    }
+}
+
+fn sets_of(sets: &Sets) -> [VarSet; 4]
+    ensures { result ≡ sets_of sets.now }
+{
+    [
+        set_of(&sets[0]),
+        set_of(&sets[1]),
+        set_of(&sets[2]),
+        set_of(&sets[3]),
+    ]
+}
+
+fn filled() -> Option<VarSet>
+    ensures { result ≡ Some 0 }
+{
+    Some(VarSet::empty())
+}
+
+/// No set yet for each of so many auxiliaries.
+fn unnamed(auxiliaries: u8) -> Sets
+    ensures { result ≡ unnamed auxiliaries }
+{
+    match auxiliaries {
+        0 => [filled(), filled(), filled(), filled()],
+        1 => [None, filled(), filled(), filled()],
+        2 => [None, None, filled(), filled()],
+        3 => [None, None, None, filled()],
+        _ => [None, None, None, None],
+    }
+}
+
+/// A substitution, up to the line's end.
+#[tactic(auto, unfolding(crate::specs::Reading::read_try))]
+fn substitution(
+    cursor: &mut Cursor<'_>,
+    regions: Regions<'_>,
+    auxiliaries: u8,
+) -> Result<[VarSet; 4], Stop>
+    ensures { Gives result (left cursor.new) (read_try (auxiliary_env regions.entry.question.now regions.entry.second.now) (env_of regions.entry.first.now) (unnamed auxiliaries) (left cursor.old)) }
+{
+    let mut sets = unnamed(auxiliaries);
+    part(cursor, regions, &mut sets)?;
+    parts(cursor, regions, &mut sets)?;
+    whole(cursor, &sets)?;
+    Ok(sets_of(&sets))
+}
+
+fn add(tries: &mut Vec<[VarSet; 4]>, sets: [VarSet; 4]) -> Result<(), Stop>
+    ensures added { OnOk result (tries.new.items ≡ tries.old.items ++ sets ∷ []) }
+    ensures memory { IfErr result (λ e. e ≡ Memory) }
+{
+    match tries.push(sets) {
+        Ok(()) => Ok(()),
+        Err(_) => Err(Stop::Memory),
+    }
+}
+
+/// The `try` lines that stand there, at most so many. The second region has so many auxiliaries.
+pub fn tries(
+    alloc: Global,
+    cursor: &mut Cursor<'_>,
+    regions: Regions<'_>,
+    auxiliaries: u8,
+    most: usize,
+) -> Result<Vec<[VarSet; 4]>, Stop>
+    ensures { GivesBy (λ x. x.items) result (left cursor.new) (read_tries most (auxiliary_env regions.entry.question.now regions.entry.second.now) (env_of regions.entry.first.now) (unnamed auxiliaries) (left cursor.old)) }
+{
+    let mut found = Vec::new(alloc);
+    let mut allowed = most;
+    while let Some(behind) = behind_word(*cursor, TRY) {
+        if auxiliaries == 0 {
+            return Err(Stop::Fault(Code::Word));
+        }
+        if allowed == 0 {
+            return Err(Stop::Fault(Code::Many));
+        }
+        *cursor = behind;
+        match substitution(cursor, regions, auxiliaries) {
+            Ok(next) => add(&mut found, next)?,
+            Err(stop) => return Err(stop),
+        }
+        allowed -= 1;
+    }
+    Ok(found)
+}

@@ -1,0 +1,91 @@
+//! Readers of single words, commas and line ends.
+ghost use Rattle.std.specs.Bool.{OnTrue, OnFalse};
+ghost use Rattle.std.specs.Prelude.{◌≡◌, Some, None, IfSome, IfNone};
+ghost use Rattle.it_syntax.specs.Gives.{Gives};
+ghost use Rattle.it_syntax.specs.Reading.{after_comma, line_end};
+ghost use Rattle.it_question.specs.Cursors.{left};
+ghost use Rattle.it_question.specs.Reading.{behind_word, read_word};
+
+use crate::cursor::Cursor;
+use it_syntax::rest::{Piece, Stop};
+use it_syntax::types::{Code, Symbol};
+
+pub const VARS: &[u8] = b"vars";
+
+pub const RATES: &[u8] = b"rates";
+
+pub const GIVEN: &[u8] = b"given";
+
+pub const ROW: &[u8] = b"row";
+
+pub const REGION: &[u8] = b"region";
+
+pub const AUXILIARIES: &[u8] = b"aux";
+
+pub const TRY: &[u8] = b"try";
+
+pub const PROVE: &[u8] = b"prove";
+
+pub const ELIMINATE: &[u8] = b"eliminate";
+
+pub const CONTAIN: &[u8] = b"contain";
+
+/// What is behind this word, if it stands there.
+#[tactic(auto, unfolding(crate::specs::Reading::behind_word))]
+pub fn behind_word<'a>(cursor: Cursor<'a>, text: &[u8]) -> Option<Cursor<'a>>
+    ensures found { IfSome result (λ behind. behind_word text.now (left cursor.entry) ≡ Some (left behind)) }
+    ensures none { IfNone result (behind_word text.now (left cursor.entry) ≡ None) }
+{
+    match cursor.front() {
+        Some((Piece::Word(word), behind)) => { if word == text { Some(behind) } else { None } }
+        _ => None,
+    }
+}
+
+/// A word that must stand there.
+#[tactic(auto, unfolding(crate::specs::Reading::read_word))]
+pub fn word(cursor: &mut Cursor<'_>, text: &[u8]) -> Result<(), Stop>
+    ensures { Gives result (left cursor.new) (read_word text.now (left cursor.old)) }
+{
+    match cursor.front() {
+        Some((Piece::Word(word), behind)) => {
+            if word == text {
+                *cursor = behind;
+                Ok(())
+            } else {
+                Err(Stop::Fault(Code::Word))
+            }
+        }
+        Some((Piece::Bad(code), _)) => Err(Stop::Fault(code)),
+        _ => Err(Stop::Fault(Code::Word)),
+    }
+}
+
+/// The end of a line.
+pub fn line_end(cursor: &mut Cursor<'_>) -> Result<(), Stop>
+    ensures { Gives result (left cursor.new) (line_end (left cursor.old)) }
+{
+    match cursor.front() {
+        Some((Piece::End, behind)) => {
+            *cursor = behind;
+            Ok(())
+        }
+        Some((Piece::Bad(code), _)) => Err(Stop::Fault(code)),
+        _ => Err(Stop::Fault(Code::Word)),
+    }
+}
+
+/// Takes a comma, if one stands there, and says whether.
+pub fn comma(cursor: &mut Cursor<'_>) -> bool
+    ensures taken { OnTrue result (after_comma (left cursor.old) ≡ Some (left cursor.new)) }
+    ensures none { OnFalse result (after_comma (left cursor.old) ≡ None) }
+    ensures same { OnFalse result (left cursor.new ≡ left cursor.old) }
+{
+    match cursor.front() {
+        Some((Piece::Symbol(Symbol::Comma), behind)) => {
+            *cursor = behind;
+            true
+        }
+        _ => false,
+    }
+}
