@@ -3,10 +3,12 @@ ghost use Rattle.std.specs.Prelude.{◌<◌};
 use it_cli::{Status, itip};
 use it_outside::{MemorySink, MemorySource};
 use std::alloc::{AllocError, Global};
+use std::process::Abort;
+use std::str;
 use std::test::Fail;
 
 /// More room than any output here needs.
-const ROOM: usize = 4096;
+const ROOM: usize = 32_768;
 
 /// A step with which a whole input or output goes at one call.
 const WHOLE: usize = 2_000_000;
@@ -17,7 +19,7 @@ const USAGE: &[u8] =
 const MUTUAL: &[u8] = b"vars X, Y\nprove I(X;Y) >= 0\n";
 
 /// Questions, and the lines that answer them, worked out by hand.
-const ANSWERED: [(&[u8], &[u8]); 22] = [
+const ANSWERED: [(&[u8], &[u8]); 56] = [
     (MUTUAL, b"1 yes 1 : 1 I(X;Y)\n"),
     (
         b"vars X, Y\nprove 2 H(X) + H(Y) - H(X,Y) >= 0",
@@ -91,50 +93,179 @@ const ANSWERED: [(&[u8], &[u8]); 22] = [
         b"vars X, Y\nprove H(X) - H(Y) >= 0\n",
         b"1 no h(X)=0 h(Y)=1 h(X,Y)=1\n",
     ),
+    // the other two signs
+    (
+        b"vars X, Y\nprove H(X,Y) <= H(X) # c\r\n",
+        b"1 no h(X)=0 h(Y)=1 h(X,Y)=1\n",
+    ),
+    (
+        b"vars X, Y\nprove H(X) <= 0\n",
+        b"1 no h(X)=1 h(Y)=0 h(X,Y)=1\n",
+    ),
+    (
+        b"vars X, Y\nprove H(Y) <= H(X,Y)\n",
+        b"1 yes 1 : 1 H(X|Y)\n",
+    ),
+    (
+        b"vars X, Y\nprove I(X;Y) <= H(X)\n",
+        b"1 yes 1 : 1 H(X|Y)\n",
+    ),
+    (
+        b"vars X, Y\nprove H(X,Y) <= H(X) + H(Y)\n",
+        b"1 yes 1 : 1 I(X;Y)\n",
+    ),
+    (
+        b"vars X, Y\nprove 0 <= H(X) - H(X,Y)\n",
+        b"1 no h(X)=0 h(Y)=1 h(X,Y)=1\n",
+    ),
+    (
+        b"vars X, Y\nprove H(X) <= H(X|Y)\n",
+        b"1 no h(X)=1 h(Y)=1 h(X,Y)=1\n",
+    ),
+    (
+        b"vars X, Y\nprove 2 H(X,Y) >= H(X) + H(Y)\n",
+        b"1 yes 1 : 1 H(X|Y) + 1 H(Y|X)\n",
+    ),
+    (
+        b"vars X, Y\nprove 3 H(X) + H(Y|X) >= H(X,Y) + 2 I(X;Y)\n",
+        b"1 yes 1 : 2 H(X|Y)\n",
+    ),
+    (
+        b"vars X, Y\nprove H(X) >= 2 I(X;Y)\n",
+        b"1 no h(X)=1 h(Y)=1 h(X,Y)=1\n",
+    ),
+    (
+        b"vars X, Y\nprove I(X;Y) = H(X) - H(X|Y)\n",
+        b"1 yes 1 : 0 and 1 : 0\n",
+    ),
+    (
+        b"vars X, Y\nprove H(X,Y) = H(X) + H(Y|X)\n",
+        b"1 yes 1 : 0 and 1 : 0\n",
+    ),
+    (b"vars X, Y\nprove 0 = 0\n", b"1 yes 1 : 0 and 1 : 0\n"),
+    // An equality is asked forward first, and then back.
+    (
+        b"vars X, Y\nprove H(X) = H(X,Y)\n",
+        b"1 no h(X)=0 h(Y)=1 h(X,Y)=1\n",
+    ),
+    (
+        b"vars X, Y\nprove H(X,Y) = H(X)\n",
+        b"1 no h(X)=0 h(Y)=1 h(X,Y)=1\n",
+    ),
+    (
+        b"vars X, Y\nprove H(X) + H(Y) = H(X,Y)\n",
+        b"1 no h(X)=1 h(Y)=1 h(X,Y)=1\n",
+    ),
+    (
+        b"vars X, Y\nprove H(X,Y) = H(X) + H(Y)\n",
+        b"1 no h(X)=1 h(Y)=1 h(X,Y)=1\n",
+    ),
+    (
+        b"vars X, Y\nprove H(X|Y) = H(Y|X)\n",
+        b"1 no h(X)=0 h(Y)=1 h(X,Y)=1\n",
+    ),
+    (
+        b"vars X, Y\nprove H(Y|X) = H(X|Y)\n",
+        b"1 no h(X)=1 h(Y)=0 h(X,Y)=1\n",
+    ),
+    (
+        b"vars X, Y\nprove H(X) = 0\n",
+        b"1 no h(X)=1 h(Y)=0 h(X,Y)=1\n",
+    ),
+    (
+        b"vars X, Y\nprove - H(Y) = 0\n",
+        b"1 no h(X)=0 h(Y)=1 h(X,Y)=1\n",
+    ),
+    // numbers near the limit on both sides
+    (
+        b"vars X, Y\nprove 18446744073709551615 H(X) >= - 18446744073709551615 H(X)\n",
+        b"1 yes 1 : 36893488147419103230 H(X|Y) + 36893488147419103230 I(X;Y)\n",
+    ),
+    // blanks, comments, line ends
+    (
+        b"vars X, Y # names\nprove H(X) >= 0\n",
+        b"1 yes 1 : 1 H(X|Y) + 1 I(X;Y)\n",
+    ),
+    (
+        b"vars\tX,\tY\nprove\tH(X)\t>=\t0\t\n",
+        b"1 yes 1 : 1 H(X|Y) + 1 I(X;Y)\n",
+    ),
+    (
+        b"vars X, Y\r\nprove H(X) >= 0\r\n",
+        b"1 yes 1 : 1 H(X|Y) + 1 I(X;Y)\n",
+    ),
+    (
+        b"vars X, Y\r\n\r\nprove H(X) >= 0\r",
+        b"1 yes 1 : 1 H(X|Y) + 1 I(X;Y)\n",
+    ),
+    (
+        b"# \xff $ vars\r\nvars X, Y#Z\n#\n\t# prove\nprove 0>=0#",
+        b"1 yes 1 : 0\n",
+    ),
+    // none, and several
+    (b"", b""),
+    (b"\n", b""),
+    (b"   \n  ", b""),
+    (b"\r", b""),
+    (b"# nothing\r\n\r\n\t# is asked\r\n", b""),
+    (
+        b"vars X, Y\nprove I(X;Y) >= 0\nvars A, B\nprove H(A) <= H(B)\nvars Y, X\nprove H(X,Y) = H(Y,X)\n",
+        b"1 yes 1 : 1 I(X;Y)\n2 no h(A)=1 h(B)=0 h(A,B)=1\n3 yes 1 : 0 and 1 : 0\n",
+    ),
+    (
+        b"# first\nvars X, Y\nprove H(X) = H(Y)\n\n# second\nvars X, Y\n\nprove H(X|Y) <= H(X)",
+        b"1 no h(X)=0 h(Y)=1 h(X,Y)=1\n2 yes 1 : 1 I(X;Y)\n",
+    ),
 ];
 
-/// Inputs of a form that isn't answered, each by one thing.
-const UNANSWERED: [&[u8]; 40] = [
-    b"",
-    b"\n",
-    b"   \n  ",
-    b"vars X, Y\n",
-    b"prove I(X;Y) >= 0\n",
-    b"prove I(X;Y) >= 0\nvars X, Y\n",
+/// Whole files that are read, of which not every question is answered yet.
+const LATER: [&[u8]; 40] = [
+    // another number of variables
     b"vars X\nprove H(X) >= 0\n",
     b"vars X, Y, Z\nprove H(X) >= 0\n",
-    b"vars X, X\nprove H(X) >= 0\n",
-    b"vars X, H\nprove H(X) >= 0\n",
-    b"vars I, Y\nprove H(Y) >= 0\n",
-    b"vars X Y\nprove H(Y) >= 0\n",
-    b"vars X, Y,\nprove H(Y) >= 0\n",
-    b"var X, Y\nprove H(Y) >= 0\n",
-    b"vars X, Y\nproves H(Y) >= 0\n",
-    b"vars X, Y\nprove H(Z) >= 0\n",
-    b"vars X, Y\nprove H() >= 0\n",
-    b"vars X, Y\nprove H(X >= 0\n",
-    b"vars X, Y\nprove H(X|) >= 0\n",
-    b"vars X, Y\nprove I(X) >= 0\n",
-    b"vars X, Y\nprove I(X;Y;X) >= 0\n",
-    b"vars X, Y\nprove I(X|Y) >= 0\n",
-    b"vars X, Y\nprove H(H) >= 0\n",
-    b"vars X, Y\nprove 2 >= 0\n",
-    b"vars X, Y\nprove H(X) 2 >= 0\n",
-    b"vars X, Y\nprove H(X) H(Y) >= 0\n",
-    b"vars X, Y\nprove H(X) + + H(Y) >= 0\n",
-    b"vars X, Y\nprove H(X) >= 1\n",
-    b"vars X, Y\nprove H(X) >= 0 0\n",
-    b"vars X, Y\nprove H(X) >=\n",
-    b"vars X, Y\nprove H(X) > 0\n",
-    b"vars X, Y\nprove H(X) <= 0\n",
-    b"vars X, Y\nprove H(X) = 0\n",
-    b"vars X, Y\nprove 18446744073709551616 H(X) >= 0\n",
-    b"vars X, abcdefghijklmnopq\nprove H(X) >= 0\n",
-    b"vars X, Y # names\nprove H(X) >= 0\n",
-    b"vars\tX, Y\nprove H(X) >= 0\n",
-    b"vars X, Y\r\nprove H(X) >= 0\r\n",
-    b"vars X, Y\nprove H(X) >= 0\nprove H(Y) >= 0\n",
-    b"vars X, Y prove H(X) >= 0\n",
+    b"vars A, B, C, D, E, F, G, J\nprove H(A,B,C,D,E,F,G,J) <= 0",
+    b"vars X, Y\nprove 0 >= 0\nvars X\nprove 0 >= 0\n",
+    b"vars X\nprove 0 >= 0\nvars X, Y\nprove 0 >= 0\n",
+    b"vars X, Y\nprove 0 >= 0\nvars X, Y\nprove 0 = 0\nvars X, Y, Z\nprove 0 <= 0\n",
+    // rates
+    b"vars X, Y\nrates R\nprove 0 >= 0\n",
+    b"vars X, Y\nrates R, S\nprove 2 R - 0 S >= - S + H(X|Y)\n",
+    b"vars X, Y\nrates A, B, C, D, E, F, G, J, K, L, M, N, O, P, Q, R\nprove R >= 0\n",
+    b"vars X, Y\nrates markov\ngiven markov X -> Y -> X,Y\nprove markov >= 0\n",
+    b"vars vars\nrates rates, row\nrow row >= rates\neliminate rates\n",
+    b"vars X, Y\nrates Hx, I_, h, i\nrow Hx = I_ + h - i\nprove 0 >= 0\n",
+    // constraints
+    b"vars X, Y\ngiven H(X) >= 0\nprove 0 >= 0\n",
+    b"vars X, Y\ngiven - 0 = 0\nprove 0 >= 0\n",
+    b"vars X, Y\ngiven markov X -> Y -> X\nprove 0 >= 0\n",
+    b"vars X, Y\ngiven markov X,Y -> Y,Y -> X -> Y -> X,X\nprove 0 >= 0\n",
+    b"vars X, Y\ngiven indep X; Y\nprove 0 >= 0\n",
+    b"vars X, Y\ngiven indep X,Y;Y,X;X|Y,Y\nprove 0 >= 0\n",
+    b"vars X, Y\ngiven func X of Y\nprove 0 >= 0\n",
+    b"vars of, X\ngiven func of of X\nprove 0 >= 0\n",
+    b"vars of, X\ngiven func of,of of of,of\nprove 0 >= 0\n",
+    b"vars markov, indep, func\ngiven func markov of func\nprove 0 >= 0\n",
+    b"vars X, Y\nrow H(X) = 0 H(X)\nprove 0 >= 0\n",
+    b"vars X, Y\nrow 0 >= 0\ngiven 0 <= 0\nrow 0 = 0\nprove 0 >= 0\n",
+    b"vars X, Y\nprove 0 >= 0\nvars X, Y\ngiven 0 >= 0\nprove 0 >= 0\n",
+    // elimination
+    b"vars X, Y\nrates R\neliminate R\n",
+    b"vars X, Y\nrates R, S\nrow R >= S\neliminate S, R",
+    b"vars U, X, Y\nrates R, Rc, Rp\nrow Rc >= 0\nrow Rp >= 0\nrow Rc <= I(U;Y)\nrow Rp <= I(X;Y|U)\nrow R = Rc + Rp\neliminate Rc, Rp\n",
+    // containment
+    b"vars X, Y\nregion\nregion\ncontain\n",
+    b"vars X, Y\nrates R\nregion\nrow R <= I(X;Y)\nregion\naux U\ngiven markov U -> X -> Y\nrow R <= I(U;Y)\ncontain\n",
+    b"vars X, Y\nregion\naux U\nregion\naux U\ntry U := U\ncontain\n",
+    b"vars X, Y\nregion\nregion\naux U\ntry U := 0\ntry U := 000\ntry U := X,Y,X\ncontain\n",
+    b"vars X, Y\nregion\naux V\nregion\naux U, W\ntry W := V;U:=0\ncontain\n",
+    b"vars X, Y\nregion\naux A, B, C, D\nregion\naux A, B, C, D\ntry A := A; B := B; C := C; D := D\ncontain\n",
+    b"vars A, B, C, D\nregion\naux E, F, G, J\nregion\ncontain\n",
+    b"vars X\nregion\naux aux, try, region\nregion\naux contain\ntry contain := try\ncontain\n",
+    b"vars X, Y\nprove 0 >= 0\nvars X\nregion\nregion\ncontain\n",
+    // tabs, comments, carriage returns and blank lines
+    b"#\r\n\tvars\tX#,Y\r\n\r\n  region # R\r\n\t\tregion\r\n\r\ncontain#",
+    b"vars X\r\nrates R\r\ngiven 0>=0\r\nrow R>=0\r\neliminate R\r",
+    b"vars X, Y\nprove 0 >= 0\nvars X\n\n# none\n\nprove 0 >= 0",
 ];
 
 /// A source of these bytes that gives `step` at a call and fails at the calls `failing`.
@@ -159,28 +290,51 @@ fn sink(alloc: Global, step: usize, failing: &[u64]) -> Result<MemorySink, Alloc
     Ok(sink)
 }
 
-#[test]
-fn questions_get_their_lines(rt: HostRuntime) -> Result<(), Fail> {
-    let alloc = rt.alloc();
-    for (i, (input, want)) in ANSWERED.iter().enumerate() {
-        let mut source = source(alloc, input, WHOLE, &[])?;
-        let mut sink = sink(alloc, WHOLE, &[])?;
-        let status = itip(alloc, &["answer"], &mut source, &mut sink);
-        assert_eq!(rt; status, Status::Done, "case {i}");
-        assert_eq!(rt; sink.bytes(), *want, "case {i}");
+/// The input, `case` of this topic, ends with this status, and this is written.
+pub(crate) fn gets(
+    rt: &impl Abort,
+    alloc: Global,
+    topic: &str,
+    case: usize,
+    input: &[u8],
+    want: &[u8],
+    wanted: Status,
+) -> Result<(), Fail> {
+    let mut source = source(alloc, input, WHOLE, &[])?;
+    let mut sink = sink(alloc, WHOLE, &[])?;
+    let status = itip(alloc, &["answer"], &mut source, &mut sink);
+    let written = str::from_utf8(sink.bytes())?;
+    assert_eq!(rt; written, str::from_utf8(want)?, "{topic}, case {case}");
+    assert_eq!(rt; status, wanted, "{topic}, case {case}");
+    Ok(())
+}
+
+/// Each input of a table gets the line beside it.
+pub(crate) fn each_gets(
+    rt: &impl Abort,
+    alloc: Global,
+    topic: &str,
+    table: &[(&[u8], &[u8])],
+    wanted: Status,
+) -> Result<(), Fail> {
+    for (case, (input, want)) in table.iter().enumerate() {
+        gets(rt, alloc, topic, case, input, want, wanted)?;
     }
     Ok(())
 }
 
 #[test]
-fn other_forms_are_refused(rt: HostRuntime) -> Result<(), Fail> {
+fn questions_get_their_lines(rt: HostRuntime) -> Result<(), Fail> {
     let alloc = rt.alloc();
-    for (i, input) in UNANSWERED.iter().enumerate() {
-        let mut source = source(alloc, input, WHOLE, &[])?;
-        let mut sink = sink(alloc, WHOLE, &[])?;
-        let status = itip(alloc, &["answer"], &mut source, &mut sink);
-        assert_eq!(rt; status, Status::Refused, "case {i}");
-        assert_eq!(rt; sink.bytes(), b"refused 1:1 later\n".as_slice(), "case {i}");
+    each_gets(&rt, alloc, "answers", &ANSWERED, Status::Done)
+}
+
+#[test]
+fn what_is_read_may_wait_for_its_answer(rt: HostRuntime) -> Result<(), Fail> {
+    let alloc = rt.alloc();
+    for (case, input) in LATER.iter().enumerate() {
+        let want = b"refused 1:1 later\n".as_slice();
+        gets(&rt, alloc, "later", case, input, want, Status::Refused)?;
     }
     Ok(())
 }
@@ -204,27 +358,6 @@ fn other_words_get_the_usage_line(rt: HostRuntime) -> Result<(), Fail> {
         let status = itip(alloc, words, &mut source, &mut sink);
         assert_eq!(rt; status, Status::Usage, "case {i}");
         assert_eq!(rt; sink.bytes(), USAGE, "case {i}");
-    }
-    Ok(())
-}
-
-#[test]
-fn the_length_is_limited(rt: HostRuntime) -> Result<(), Fail> {
-    let alloc = rt.alloc();
-    let cases: [(usize, &[u8]); 2] = [
-        (1_048_577, b"refused long\n"),
-        (1_048_576, b"refused 1:1 later\n"),
-    ];
-    for (length, want) in cases {
-        let mut bytes = Vec::new(alloc);
-        for _ in 0..length {
-            bytes.push(b'\n')?;
-        }
-        let mut source = MemorySource::new(bytes, WHOLE, Vec::new(alloc));
-        let mut sink = sink(alloc, WHOLE, &[])?;
-        let status = itip(alloc, &["answer"], &mut source, &mut sink);
-        assert_eq!(rt; status, Status::Refused);
-        assert_eq!(rt; sink.bytes(), want);
     }
     Ok(())
 }
