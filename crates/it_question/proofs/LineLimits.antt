@@ -9,7 +9,6 @@ use Rattle.it_syntax.specs.Lines.{to_end}
 use Rattle.it_syntax.specs.Reading.{Reads, ◌>>=◌}
 use Rattle.it_syntax.specs.Meaning.{Stated}
 use Rattle.it_syntax.specs.Givens.{Condition, IsRelationOf, IsConditionOf}
-use Rattle.it_syntax.specs.Relations.{KeepsLimits}
 use Rattle.it_syntax.specs.ComparisonLines.{scope_of}
 use Rattle.it_syntax.specs.ComparisonReading.{read_comparison}
 use Rattle.it_syntax.specs.ConditionReading.{read_condition}
@@ -34,10 +33,7 @@ sure_if P (Err e) h = tt
 
 -- a relation up to its line's end
 pub relation_sure : (v : Vocabulary) (ls : List Letter) → Sure (λ (x : Stated × List Letter). OverRelation v x.0) (to_end (read_comparison (scope_of v true)) ls)
-relation_sure v ls = sure_if (OverRelation v) (to_end (read_comparison (scope_of v true)) ls) (λ y r e. over y (comparison_limited v true ls r y e))
-  where
-    over : (y : Stated) → KeepsLimits v y → OverRelation v y
-    over y h = record { few = h.few; left = h.left; right = h.right }
+relation_sure v ls = sure_if (OverRelation v) (to_end (read_comparison (scope_of v true)) ls) (λ y r e. comparison_limited v true ls r y e)
 
 condition_sure : (v : Vocabulary) (ls : List Letter) → Sure (λ (x : Condition × List Letter). OverCondition v x.0) (to_end (read_condition (scope_of v false)) ls)
 condition_sure v ls = sure_if (OverCondition v) (to_end (read_condition (scope_of v false)) ls) (λ y r e. condition_limited v ls r y e)

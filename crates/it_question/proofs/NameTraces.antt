@@ -13,7 +13,7 @@ use Rattle.it_syntax.specs.Reading.{Reads, ◌>>=◌, line_end}
 use Rattle.it_syntax.specs.Trees.{Environment, WrittenList, is_measure, index_or}
 use Rattle.it_syntax.proofs.Traces.{Stuck, By, Traces, traces_bind, traces_map, letter_then}
 use Rattle.it_syntax.proofs.AtomTraces.{begun, empty, stuck_here, stuck_none}
-use Rattle.it_syntax.proofs.RelationLemmas.{spell_end, nothing, end_traces}
+use Rattle.it_syntax.proofs.LineEnd.{spell_end, nothing, end_traces}
 use Rattle.it_question.specs.Trees.{Sort, with_name, is_taken, new_mark, spell_new, spell_new_more, spell_new_names, with_names, new_names_of, spell_names_line, names_line_of}
 use Rattle.it_question.specs.Reading.{read_word, behind_word, newly, read_new, read_new_more, read_new_names, if_behind, read_names_line}
 

@@ -17,7 +17,7 @@ use Rattle.it_syntax.specs.ComparisonReading.{read_comparison, read_sum, read_co
 use Rattle.it_syntax.specs.ConditionReading.{read_condition, read_plain}
 use Rattle.it_syntax.specs.Reading.{read_sign}
 use Rattle.it_syntax.proofs.Traces.{Went, Stuck, By, Traces}
-use Rattle.it_syntax.proofs.RelationLemmas.{end_traces}
+use Rattle.it_syntax.proofs.LineEnd.{end_traces}
 
 abbrev pub HasLetters : List Letter → Type 0
 HasLetters [] = ⊥

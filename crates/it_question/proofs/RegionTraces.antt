@@ -6,7 +6,7 @@ use Rattle.it_syntax.specs.Reading.{Reads, ◌>>=◌, line_end}
 use Rattle.it_syntax.specs.Relations.{env_of}
 use Rattle.it_syntax.specs.Trees.{WrittenList}
 use Rattle.it_syntax.proofs.Traces.{Traces, traces_bind, traces_map}
-use Rattle.it_syntax.proofs.RelationLemmas.{spell_end, nothing, end_traces}
+use Rattle.it_syntax.proofs.LineEnd.{spell_end, nothing, end_traces}
 use Rattle.it_question.specs.Keywords.{region_text, aux_text, contain_text}
 use Rattle.it_question.specs.Questions.{Lines, Bounded, Aim, Contains}
 use Rattle.it_question.specs.Trees.{WrittenLine, WrittenRegion, WrittenTry, WrittenContainment, Variable, most_lines, spell_names_line, names_line_of, spell_own, own_of, unnamed, spell_tries, tries_of, auxiliaries_left, region_of, auxiliary_env, givens_left, rows_left, containment_of}

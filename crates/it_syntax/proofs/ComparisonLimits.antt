@@ -9,6 +9,7 @@ use Rattle.it_syntax.specs.declared.types.Atom.{Atom}
 use Rattle.it_syntax.specs.declared.types.Term.{Term}
 use Rattle.it_syntax.specs.Letters.{Letter, Word, Number, Sym, Bad}
 use Rattle.it_syntax.specs.Meaning.{Stated, IsAtomOf}
+use Rattle.it_syntax.specs.Givens.{IsRelationOf}
 use Rattle.it_syntax.specs.Vocabulary.{Vocabulary, index_of}
 use Rattle.it_syntax.specs.Trees.{is_measure}
 use Rattle.it_syntax.specs.Comparisons.{Scope, most_terms}
@@ -16,7 +17,6 @@ use Rattle.it_syntax.specs.ComparisonLines.{scope_of}
 use Rattle.it_syntax.specs.Lines.{to_end}
 use Rattle.it_syntax.specs.Reading.{Reads, ◌>>=◌, read_atom, read_sign, line_end}
 use Rattle.it_syntax.specs.ComparisonReading.{rated, read_quantity, after_number, read_term, surplus, read_over, read_terms, read_counted, read_sum, read_compare, read_comparison}
-use Rattle.it_syntax.specs.Relations.{KeepsLimits}
 use Rattle.it_syntax.proofs.LimitLemmas.{Sure, sure_bind, Any, any, Knows, HasSets, TermHasSets, AreFew, atom_sure, knows_names}
 
 -- the names of a scope are those of n variables and m rates
@@ -116,7 +116,7 @@ pub sum_few : (v : Vocabulary) (rates : Bool) (most : ℕ) (ls r : List Letter) 
 sum_few v rates most ls r ts e = (subst (Sure (AreFew (length v.variables) (length v.rates) most)) e (sum_sure (scope_of v rates) (length v.variables) (length v.rates) most (scope_covers v rates) ls)).0
 
 abbrev Limited : Vocabulary → Stated × List Letter → Type 0
-Limited v y = KeepsLimits v y.0
+Limited v y = IsRelationOf (length v.variables) (length v.rates) y.0
 
 limited : (v : Vocabulary) (rates : Bool) (ls : List Letter) → Sure (Limited v) (read_comparison (scope_of v rates) ls)
 limited v rates ls = weaker (read_comparison (scope_of v rates) ls) (comparison_sure (scope_of v rates) (length v.variables) (length v.rates) (scope_covers v rates) ls)
@@ -126,7 +126,7 @@ limited v rates ls = weaker (read_comparison (scope_of v rates) ls) (comparison_
     weaker (Err f) h = tt
 
 -- a relation that is read up to its line's end keeps the limits
-pub comparison_limited : (v : Vocabulary) (rates : Bool) (ls r : List Letter) (y : Stated) → to_end (read_comparison (scope_of v rates)) ls ≡ Ok (y, r) → KeepsLimits v y
+pub comparison_limited : (v : Vocabulary) (rates : Bool) (ls r : List Letter) (y : Stated) → to_end (read_comparison (scope_of v rates)) ls ≡ Ok (y, r) → IsRelationOf (length v.variables) (length v.rates) y
 unfolding to_end
 comparison_limited v rates ls r y e =
     let f = read_comparison (scope_of v rates) in

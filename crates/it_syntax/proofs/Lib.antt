@@ -2,13 +2,12 @@ pub mod NameLemmas
 pub mod RunLemmas
 pub mod TokenLemmas
 pub mod ListLemmas
-pub mod TermLemmas
 pub mod SpelledIsRead
 pub mod Traces
 pub mod AtomTraces
 pub mod SideTraces
 pub mod FirstFaults
-pub mod RelationLemmas
+pub mod LineEnd
 pub mod LimitLemmas
 pub mod SpanLemmas
 pub mod WordLengths

@@ -1,21 +1,19 @@
 -- What is read keeps the limits: sets of the variables that there are, and at most 256 terms.
-use Rattle.std.proofs.Common.{◌≡◌, ℕ, zero, suc, ◌^◌, ◌<◌, ◌≤◌, Bool, true, false, cond, List, [], ◌∷◌, length, Option, Some, None, Result, Ok, Err, refl, subst, arith}
+use Rattle.std.proofs.Common.{◌≡◌, ℕ, ◌^◌, ◌<◌, ◌≤◌, Bool, true, false, cond, List, [], ◌∷◌, length, Option, Some, None, Result, Ok, Err, refl, arith}
 use Rattle.std.specs.Prelude.{All, bit_or, bytes_eq}
 use Rattle.std.proofs.Math.Pow.{pow-lt, ones_lt}
 use Rattle.std.proofs.lemmas.Nat.{or_lt}
-use Rattle.std.proofs.lemmas.List.Elements.{All-nil, All-cons}
 use Rattle.std.proofs.lemmas.List.Quantifiers.{position-Some}
-use Rattle.it_syntax.specs.declared.types.Symbol.TheVariants.{RightParen, Comma, Plus, Minus, AtLeast}
-use Rattle.it_syntax.specs.declared.types.Code.TheVariants as codes
+use Rattle.it_syntax.specs.declared.types.Symbol.TheVariants.{RightParen, Comma}
 use Rattle.it_syntax.specs.declared.types.Atom.{Atom}
 use Rattle.it_syntax.specs.declared.types.Atom.TheVariants.{Entropy, Mutual}
 use Rattle.it_syntax.specs.declared.types.Term.{Term}
-use Rattle.it_syntax.specs.Letters.{Letter, Word, Number, Sym, Bad}
-use Rattle.it_syntax.specs.Meaning.{Stated, IsAtomOf}
+use Rattle.it_syntax.specs.Letters.{Letter, Word, Sym, Bad}
+use Rattle.it_syntax.specs.Meaning.{IsAtomOf}
 use Rattle.it_syntax.specs.Vocabulary.{Vocabulary}
-use Rattle.it_syntax.specs.Trees.{Environment, entropy_text, mutual_text, is_measure, further_terms, zero_term, at_least_zero}
-use Rattle.it_syntax.specs.Reading.{Fault, Reads, ◌>>=◌, stuck, named, read_name, read_more, read_list, closed, opened, divided, bar_or_close, read_given, read_joint, read_mutual, read_atom, after_number, read_term, read_over, read_terms, read_sign, read_side, read_least, read_relation, line_end, read_line}
-use Rattle.it_syntax.specs.Relations.{env_of, KeepsLimits}
+use Rattle.it_syntax.specs.Trees.{Environment, entropy_text, mutual_text, is_measure}
+use Rattle.it_syntax.specs.Reading.{Fault, ◌>>=◌, stuck, named, read_name, read_more, read_list, closed, opened, divided, bar_or_close, read_given, read_joint, read_mutual, read_atom}
+use Rattle.it_syntax.specs.Relations.{env_of}
 
 -- of what was read, if it was
 abbrev pub Sure : {A : Type 0} → (A → Type 0) → Result A Fault → Type 0
@@ -133,91 +131,11 @@ atom_sure env n m k (l ∷ ls) = tt
 abbrev pub TermHasSets : ℕ → ℕ → Term × List Letter → Type 0
 TermHasSets n m x = IsAtomOf n m x.0.atom
 
-abbrev counted : Bool → ℕ → Atom × List Letter → Reads Term
-counted b number a = Ok (record { negative = b; number = number; atom = a.0 }, a.1)
-
-counted_sure : (env : Environment) (n m : ℕ) → Knows env n → (b : Bool) (number : ℕ) (ls : List Letter) → Sure (TermHasSets n m) (read_atom env ls >>= counted b number)
-counted_sure env n m k b number ls = sure_bind (HasSets n m) (TermHasSets n m) (read_atom env ls) (counted b number) (atom_sure env n m k ls) (λ a ha. ha)
-
-after_number_sure : (env : Environment) (n m : ℕ) → Knows env n → (b : Bool) (number : ℕ) (ls : List Letter) → Sure (TermHasSets n m) (after_number env b number ls)
-unfolding after_number
-after_number_sure env n m k b number (Word w ∷ ls) = counted_sure env n m k b number (Word w ∷ ls)
-after_number_sure env n m k b zero [] = tt
-after_number_sure env n m k b zero (l ∷ ls) = tt
-after_number_sure env n m k b (suc number) [] = tt
-after_number_sure env n m k b (suc number) (Bad c ∷ ls) = tt
-after_number_sure env n m k b (suc number) (l ∷ ls) = tt
-
-term_sure : (env : Environment) (n m : ℕ) → Knows env n → (b : Bool) (ls : List Letter) → Sure (TermHasSets n m) (read_term env b ls)
-unfolding read_term
-term_sure env n m k b (Number number ∷ ls) = after_number_sure env n m k b number ls
-term_sure env n m k b [] = counted_sure env n m k b 1 []
-term_sure env n m k b (l ∷ ls) = counted_sure env n m k b 1 (l ∷ ls)
-
-over_sure : (P : List Term × List Letter → Type 0) (ls : List Letter) → Sure P (read_over ls)
-unfolding read_over
-over_sure P (Number n ∷ ls) = tt
-over_sure P (Word w ∷ ls) = chosen (is_measure w)
-  where
-    chosen : (b : Bool) → Sure P (cond b (Err (codes.Many, Word w ∷ ls)) (stuck (Word w ∷ ls)))
-    chosen true = tt
-    chosen false = tt
-over_sure P [] = tt
-over_sure P (Bad c ∷ ls) = tt
-over_sure P (l ∷ ls) = tt
-
 -- at most so many terms, over the variables that there are
 abbrev pub AreFew : ℕ → ℕ → ℕ → List Term × List Letter → Type 0
 AreFew n m most x = (length x.0 ≤ most) × All (λ t. IsAtomOf n m t.atom) x.0
-
-more_terms_sure : (env : Environment) (n m most : ℕ) → Knows env n → (b : Bool) (ls : List Letter) → ((rest : List Letter) → Sure (AreFew n m most) (read_terms most env rest)) → Sure (AreFew n m (suc most)) (read_term env b ls >>= λ t. read_terms most env t.1 >>= λ ts. Ok (t.0 ∷ ts.0, ts.1))
-more_terms_sure env n m most k b ls h =
-    sure_bind (TermHasSets n m) (AreFew n m (suc most)) (read_term env b ls) (λ t. read_terms most env t.1 >>= λ ts. Ok (t.0 ∷ ts.0, ts.1)) (term_sure env n m k b ls)
-    (λ t ht. sure_bind (AreFew n m most) (AreFew n m (suc most)) (read_terms most env t.1) (λ ts. Ok (t.0 ∷ ts.0, ts.1)) (h t.1) (λ ts hts. (omega (arith, hts.0), All-cons (λ (u : Term). IsAtomOf n m u.atom) t.0 ts.0 ht hts.1)))
-
-terms_sure : (env : Environment) (n m most : ℕ) → Knows env n → (ls : List Letter) → Sure (AreFew n m most) (read_terms most env ls)
-unfolding read_terms
-terms_sure env n m zero k (Sym Plus ∷ ls) = over_sure (AreFew n m zero) ls
-terms_sure env n m zero k (Sym Minus ∷ ls) = over_sure (AreFew n m zero) ls
-terms_sure env n m zero k [] = (omega arith, All-nil (λ (u : Term). IsAtomOf n m u.atom))
-terms_sure env n m zero k (l ∷ ls) = (omega arith, All-nil (λ (u : Term). IsAtomOf n m u.atom))
-terms_sure env n m (suc most) k (Sym Plus ∷ ls) = more_terms_sure env n m most k false ls (terms_sure env n m most k)
-terms_sure env n m (suc most) k (Sym Minus ∷ ls) = more_terms_sure env n m most k true ls (terms_sure env n m most k)
-terms_sure env n m (suc most) k [] = (omega arith, All-nil (λ (u : Term). IsAtomOf n m u.atom))
-terms_sure env n m (suc most) k (l ∷ ls) = (omega arith, All-nil (λ (u : Term). IsAtomOf n m u.atom))
-
-side_sure : (env : Environment) (n m : ℕ) → Knows env n → (ls : List Letter) → Sure (AreFew n m 255) (read_side env ls)
-unfolding read_side
-side_sure env n m k ls = more_terms_sure env n m further_terms k (read_sign ls).0 (read_sign ls).1 (terms_sure env n m further_terms k)
-
-least_sure : {A : Type 0} (P : A → Type 0) (x : A) → P x → (ls : List Letter) → Sure (λ (y : A × List Letter). P y.0) (read_least x ls)
-unfolding read_least
-least_sure P x h (Sym AtLeast ∷ Number zero ∷ ls) = h
-least_sure P x h (Sym AtLeast ∷ []) = tt
-least_sure P x h (Sym AtLeast ∷ Bad c ∷ ls) = tt
-least_sure P x h (Sym AtLeast ∷ l ∷ ls) = tt
-least_sure P x h [] = tt
-least_sure P x h (Bad c ∷ ls) = tt
-least_sure P x h (l ∷ ls) = tt
-
-relation_sure : (env : Environment) (n m : ℕ) → Knows env n → (ls : List Letter) → Sure (AreFew n m 255) (read_relation env ls)
-unfolding read_relation
-relation_sure env n m k ls = sure_bind (AreFew n m 255) (AreFew n m 255) (read_side env ls) (λ e. read_least e.0 e.1) (side_sure env n m k ls) (λ e he. least_sure (λ (ts : List Term). (length ts ≤ 255) × All (λ t. IsAtomOf n m t.atom) ts) e.0 he e.1)
 
 -- the names of a vocabulary are its variables
 pub knows_names : (v : Vocabulary) → Knows (env_of v) (length v.variables)
 unfolding env_of
 knows_names v w i e = (position-Some (bytes_eq w) v.variables i [] e).0
-
-line_sure : (v : Vocabulary) (ls : List Letter) → Sure (λ (y : Stated × List Letter). KeepsLimits v y.0) (read_line (env_of v) ls)
-unfolding read_line
-line_sure v ls =
-    let n = length v.variables in
-    let m = length v.rates in
-    sure_bind (AreFew n m 255) (λ (y : Stated × List Letter). KeepsLimits v y.0) (read_relation (env_of v) ls) (λ x. line_end x.1 >>= λ e. Ok (at_least_zero x.0, e.1)) (relation_sure (env_of v) n m (knows_names v) ls)
-    (λ x hx. sure_bind Any (λ (y : Stated × List Letter). KeepsLimits v y.0) (line_end x.1) (λ e. Ok (at_least_zero x.0, e.1)) (any (line_end x.1))
-    (λ e u. record { few = omega (arith, hx.0); left = hx.1; right = All-cons (λ (t : Term). IsAtomOf n m t.atom) zero_term [] tt (All-nil (λ (t : Term). IsAtomOf n m t.atom)) }))
-
--- what is read keeps the limits
-pub read_keeps_limits : (v : Vocabulary) (ls r : List Letter) (y : Stated) → read_line (env_of v) ls ≡ Ok (y, r) → KeepsLimits v y
-read_keeps_limits v ls r y e = subst (Sure (λ (z : Stated × List Letter). KeepsLimits v z.0)) e (line_sure v ls)

@@ -10,7 +10,7 @@ use Rattle.it_syntax.specs.Lines.{spell_ended, SaysAs, to_end, letters_from, col
 use Rattle.it_syntax.specs.Reading.{Reads, ◌>>=◌, line_end}
 use Rattle.it_syntax.proofs.Traces.{Traces, traces_bind, traces_map}
 use Rattle.it_syntax.proofs.SpelledIsRead.{Answers, answers_ok, answers_cons, answers_bind}
-use Rattle.it_syntax.proofs.RelationLemmas.{spell_end, nothing, end_traces}
+use Rattle.it_syntax.proofs.LineEnd.{spell_end, nothing, end_traces}
 use Rattle.it_syntax.proofs.FirstFaults.{first_fault, one_fault, reads_found, reads_only, clean_is_clean, letters_cleaned}
 
 -- A reader of a language, with what its laws are. `Answers` is asked at the line's end alone.

@@ -1,15 +1,13 @@
 -- What is spelled so is read, up to the first mark.
-use Rattle.std.proofs.Common.{◌≡◌, ℕ, zero, suc, Bool, true, false, cond, ◌^◌, List, [], ◌∷◌, ◌++◌, Option, Some, None, Ok, Err, refl, sym, ap, ◌∙◌, subst, inl, inr, ◌⊎◌, append_assoc}
+use Rattle.std.proofs.Common.{◌≡◌, ℕ, Bool, true, false, cond, ◌^◌, List, [], ◌∷◌, ◌++◌, Option, Some, None, Ok, Err, refl, ap, ◌∙◌, inl, inr, ◌⊎◌, append_assoc}
 use Rattle.std.specs.Prelude.{bit_or}
-use Rattle.it_syntax.specs.declared.types.Symbol.TheVariants.{LeftParen, RightParen, Comma, Semicolon, Bar, Plus, Minus, AtLeast}
+use Rattle.it_syntax.specs.declared.types.Symbol.TheVariants.{LeftParen, RightParen, Comma, Semicolon, Bar, Plus, Minus}
 use Rattle.it_syntax.specs.declared.types.Code.TheVariants as codes
-use Rattle.it_syntax.specs.declared.types.Atom.{Atom}
 use Rattle.it_syntax.specs.declared.types.Atom.TheVariants.{Entropy, Mutual}
-use Rattle.it_syntax.specs.declared.types.Term.{Term}
-use Rattle.it_syntax.specs.Letters.{Letter, Word, Number, Sym, Marked, clean, letters, cleaned}
-use Rattle.it_syntax.specs.Trees.{further_terms, Environment, WrittenList, WrittenAtom, Joint, JointGiven, Shared, SharedGiven, WrittenTerm, Zero, Once, Times, TermSign, Positive, Negative, WrittenSide, entropy_text, mutual_text, is_measure, unknown, index_or, more_set, list_set, atom_of, is_minus, term_of, terms_of, side_of, sign_letter, spell_name, spell_more, spell_list, spell_atom, spell_term, spell_sign, spell_terms, over, spell_side, spell_relation}
+use Rattle.it_syntax.specs.Letters.{Letter, Word, Sym, Marked, clean, letters, cleaned}
+use Rattle.it_syntax.specs.Trees.{Environment, WrittenList, WrittenAtom, Joint, JointGiven, Shared, SharedGiven, TermSign, entropy_text, mutual_text, is_measure, unknown, index_or, more_set, list_set, atom_of, sign_letter, spell_name, spell_more, spell_list, spell_atom, spell_sign}
 use Rattle.it_syntax.proofs.Traces.{cleaned_append}
-use Rattle.it_syntax.specs.Reading.{Fault, Reads, ◌>>=◌, named, read_name, read_more, read_list, closed, opened, divided, bar_or_close, read_given, read_joint, read_mutual, read_atom, after_number, read_term, read_over, read_terms, read_sign, read_side, read_least, read_relation}
+use Rattle.it_syntax.specs.Reading.{Fault, Reads, ◌>>=◌, named, read_name, read_more, read_list, closed, opened, divided, bar_or_close, read_given, read_joint, read_mutual, read_atom}
 
 -- m is k behind letters that nothing is said against
 pub record Clears (m k : Marked) : Type 0 where
@@ -161,134 +159,7 @@ atom_answers env (JointGiven a c) k = behind (Word entropy_text) (Sym LeftParen)
 atom_answers env (Shared a b) k = behind (Word mutual_text) (Sym LeftParen) _ _ _ k (mutual_then env a b 0 (clean (Sym RightParen) ∷ k) k tt (given_none env k))
 atom_answers env (SharedGiven a b c) k = behind (Word mutual_text) (Sym LeftParen) _ _ _ k (mutual_then env a b (list_set env c) (clean (Sym Bar) ∷ spell_list env c (clean (Sym RightParen) ∷ k)) k tt (given_some env c k))
 
-zero_answers : (env : Environment) (b : Bool) (k : Marked) → NoWord k → Answers (after_number env b 0 (letters k)) k (term_of env b Zero) k
-unfolding after_number
-zero_answers env b [] s = answers_ok (term_of env b Zero) []
-zero_answers env b ((Word w, m) ∷ k) s = absurd s
-zero_answers env b (x ∷ k) s = answers_ok (term_of env b Zero) (x ∷ k)
-
-abbrev times : Bool → ℕ → Atom × List Letter → Reads Term
-times b n y = Ok (record { negative = b; number = n; atom = y.0 }, y.1)
-
-atom_first : (env : Environment) (b : Bool) (n : ℕ) (a : WrittenAtom) (k : Marked) → after_number env b n (letters (spell_atom env a k)) ≡ (read_atom env (letters (spell_atom env a k)) >>= times b n)
-unfolding after_number
-atom_first env b n (Joint a) k = refl
-atom_first env b n (JointGiven a c) k = refl
-atom_first env b n (Shared a d) k = refl
-atom_first env b n (SharedGiven a d c) k = refl
-
-once_first : (env : Environment) (b : Bool) (a : WrittenAtom) (k : Marked) → read_term env b (letters (spell_atom env a k)) ≡ (read_atom env (letters (spell_atom env a k)) >>= times b 1)
-unfolding read_term
-once_first env b (Joint a) k = refl
-once_first env b (JointGiven a c) k = refl
-once_first env b (Shared a d) k = refl
-once_first env b (SharedGiven a d c) k = refl
-
-term_answers : (env : Environment) (b : Bool) (x : WrittenTerm) (k : Marked) → NoWord k → Answers (read_term env b (letters (spell_term env x k))) (spell_term env x k) (term_of env b x) k
-unfolding read_term
-term_answers env b Zero k s = answers_cons (Number 0) _ k (term_of env b Zero) k (zero_answers env b k s)
-term_answers env b (Times n a) k s =
-    let m = spell_atom env a k in
-    let y = term_of env b (Times n a) in
-    answers_cons (Number n) _ m y k
-    (subst (λ (r : Reads Term). Answers r m y k) (sym (atom_first env b n a k))
-    (answers_bind (read_atom env (letters m)) (times b n) m k k (atom_of env a) y (atom_answers env a k) (answers_ok y k)))
-term_answers env b (Once a) k s =
-    let m = spell_atom env a k in
-    let y = term_of env b (Once a) in
-    subst (λ (r : Reads Term). Answers r m y k) (sym (once_first env b a k))
-    (answers_bind (read_atom env (letters m)) (times b 1) m k k (atom_of env a) y (atom_answers env a k) (answers_ok y k))
-
-no_terms : (n : ℕ) (env : Environment) (k : Marked) → NoSign k → Answers (read_terms n env (letters k)) k [] k
-unfolding read_terms
-no_terms zero env [] s = answers_ok [] []
-no_terms zero env ((Sym Plus, m) ∷ k) s = absurd s
-no_terms zero env ((Sym Minus, m) ∷ k) s = absurd s
-no_terms zero env (x ∷ k) s = answers_ok [] (x ∷ k)
-no_terms (suc n) env [] s = answers_ok [] []
-no_terms (suc n) env ((Sym Plus, m) ∷ k) s = absurd s
-no_terms (suc n) env ((Sym Minus, m) ∷ k) s = absurd s
-no_terms (suc n) env (x ∷ k) s = answers_ok [] (x ∷ k)
-
-no_word : (n : ℕ) (env : Environment) (ts : List (TermSign × WrittenTerm)) (k : Marked) → NoWord k → NoWord (spell_terms n env ts k)
-no_word n env [] k s = s
-no_word zero env ((Positive, t) ∷ ts) k s = tt
-no_word zero env ((Negative, t) ∷ ts) k s = tt
-no_word (suc n) env ((Positive, t) ∷ ts) k s = tt
-no_word (suc n) env ((Negative, t) ∷ ts) k s = tt
-
--- a term, and the terms behind it
-term_then : (env : Environment) (b : Bool) (t : WrittenTerm) (ts : List (TermSign × WrittenTerm)) (n : ℕ) (k : Marked) → NoWord k → Answers (read_terms n env (letters (spell_terms n env ts k))) (spell_terms n env ts k) (terms_of env ts) k
-    → Answers (read_term env b (letters (spell_term env t (spell_terms n env ts k))) >>= λ x. read_terms n env x.1 >>= λ y. Ok (x.0 ∷ y.0, y.1)) (spell_term env t (spell_terms n env ts k)) (term_of env b t ∷ terms_of env ts) k
-term_then env b t ts n k w h =
-    let m = spell_terms n env ts k in
-    let y = term_of env b t ∷ terms_of env ts in
-    answers_bind (read_term env b (letters (spell_term env t m))) (λ x. read_terms n env x.1 >>= λ y. Ok (x.0 ∷ y.0, y.1)) (spell_term env t m) m k (term_of env b t) y (term_answers env b t m (no_word n env ts k w))
-    (answers_bind (read_terms n env (letters m)) (λ z. Ok (term_of env b t ∷ z.0, z.1)) m k k (terms_of env ts) y h (answers_ok y k))
-
-over_marked : (l : Letter) (m k : Marked) (y : List Term) (f : Fault) → f ≡ (codes.Many, l ∷ letters m) → Answers (Err f) ((l, Some codes.Many) ∷ m) y k
-over_marked l m k y f e = inr ((codes.Many, l ∷ letters m), (ap Err e, record { front = []; letter = l; rest = m; is = refl; left = refl }))
-
-over_answers : (env : Environment) (t : WrittenTerm) (m k : Marked) (y : List Term) → Answers (read_over (letters (over (spell_term env t m)))) (over (spell_term env t m)) y k
-unfolding read_over
-over_answers env Zero m k y = over_marked (Number 0) m k y _ refl
-over_answers env (Times n a) m k y = over_marked (Number n) (spell_atom env a m) k y _ refl
-over_answers env (Once (Joint a)) m k y = over_marked (Word entropy_text) _ k y _ refl
-over_answers env (Once (JointGiven a c)) m k y = over_marked (Word entropy_text) _ k y _ refl
-over_answers env (Once (Shared a b)) m k y = over_marked (Word mutual_text) _ k y _ refl
-over_answers env (Once (SharedGiven a b c)) m k y = over_marked (Word mutual_text) _ k y _ refl
-
-terms_answers : (n : ℕ) (env : Environment) (ts : List (TermSign × WrittenTerm)) (k : Marked) → NoSign k → NoWord k → Answers (read_terms n env (letters (spell_terms n env ts k))) (spell_terms n env ts k) (terms_of env ts) k
-unfolding read_terms
-terms_answers n env [] k s w = no_terms n env k s
-terms_answers zero env ((Positive, t) ∷ ts) k s w =
-    answers_cons (Sym Plus) _ (over (spell_term env t (spell_terms zero env ts k))) (term_of env false t ∷ terms_of env ts) k (over_answers env t (spell_terms zero env ts k) k (term_of env false t ∷ terms_of env ts))
-terms_answers zero env ((Negative, t) ∷ ts) k s w =
-    answers_cons (Sym Minus) _ (over (spell_term env t (spell_terms zero env ts k))) (term_of env true t ∷ terms_of env ts) k (over_answers env t (spell_terms zero env ts k) k (term_of env true t ∷ terms_of env ts))
-terms_answers (suc n) env ((Positive, t) ∷ ts) k s w =
-    answers_cons (Sym Plus) _ (spell_term env t (spell_terms n env ts k)) (term_of env false t ∷ terms_of env ts) k (term_then env false t ts n k w (terms_answers n env ts k s w))
-terms_answers (suc n) env ((Negative, t) ∷ ts) k s w =
-    answers_cons (Sym Minus) _ (spell_term env t (spell_terms n env ts k)) (term_of env true t ∷ terms_of env ts) k (term_then env true t ts n k w (terms_answers n env ts k s w))
-
--- after an optional sign
-unsigned : (env : Environment) (t : WrittenTerm) (k : Marked) → read_sign (letters (spell_term env t k)) ≡ (false, letters (spell_term env t k))
-unfolding read_sign
-unsigned env Zero k = refl
-unsigned env (Times n a) k = refl
-unsigned env (Once (Joint a)) k = refl
-unsigned env (Once (JointGiven a c)) k = refl
-unsigned env (Once (Shared a b)) k = refl
-unsigned env (Once (SharedGiven a b c)) k = refl
-
-signed : (o : Option TermSign) (env : Environment) (t : WrittenTerm) (k : Marked) → read_sign (letters (spell_sign o (spell_term env t k))) ≡ (is_minus o, letters (spell_term env t k))
-unfolding read_sign
-signed None env t k = unsigned env t k
-signed (Some Positive) env t k = refl
-signed (Some Negative) env t k = refl
-
 -- behind an optional sign
 pub sign_answers : {A : Type 0} (o : Option TermSign) (r : Reads A) (m : Marked) (x : A) (k : Marked) → Answers r m x k → Answers r (spell_sign o m) x k
 sign_answers None r m x k a = a
 sign_answers (Some s) r m x k a = answers_cons (sign_letter s) r m x k a
-
--- an expression behind its sign
-abbrev unsigned_side : Environment → Bool × List Letter → Reads (List Term)
-unsigned_side env s = read_term env s.0 s.1 >>= λ t. read_terms further_terms env t.1 >>= λ ts. Ok (t.0 ∷ ts.0, ts.1)
-
-side_answers : (env : Environment) (x : WrittenSide) (k : Marked) → NoSign k → NoWord k → Answers (read_side env (letters (spell_side env x k))) (spell_side env x k) (side_of env x) k
-unfolding read_side
-side_answers env x k s w =
-    let n = spell_terms further_terms env x.more k in
-    let m = spell_term env x.first n in
-    let a : Answers (unsigned_side env (is_minus x.sign, letters m)) m (side_of env x) k = term_then env (is_minus x.sign) x.first x.more further_terms k w (terms_answers further_terms env x.more k s w) in
-    subst (λ (q : Bool × List Letter). Answers (unsigned_side env q) (spell_side env x k) (side_of env x) k) (sym (signed x.sign env x.first n)) (sign_answers x.sign _ m (side_of env x) k a)
-
--- ---- relations
-pub relation_answers : (env : Environment) (x : WrittenSide) (k : Marked) → Answers (read_relation env (letters (spell_relation env x k))) (spell_relation env x k) (side_of env x) k
-unfolding read_relation read_least
-relation_answers env x k =
-    let n : Marked = clean (Sym AtLeast) ∷ clean (Number 0) ∷ k in
-    let y = side_of env x in
-    answers_bind (read_side env (letters (spell_side env x n))) (λ e. read_least e.0 e.1) (spell_side env x n) n k y y (side_answers env x n tt tt)
-    (answers_cons (Sym AtLeast) _ (clean (Number 0) ∷ k) y k
-    (answers_cons (Number 0) _ k y k (answers_ok y k)))

@@ -8,7 +8,7 @@ use Rattle.it_syntax.specs.declared.types.Symbol.TheVariants.{LeftParen, RightPa
 use Rattle.it_syntax.specs.declared.types.TokenKind.{TokenKind}
 use Rattle.it_syntax.specs.declared.types.TokenKind.TheVariants as kinds
 use Rattle.it_syntax.specs.declared.types.Token.{Token}
-use Rattle.it_syntax.specs.Spelling.{is_letter, is_digit, is_word_byte, is_space, is_greater, AreAll, StartsWith, Stops, IsText, Ends, Cut, Spells, TokensAreOne, symbol_text, value_from}
+use Rattle.it_syntax.specs.Spelling.{is_letter, is_digit, is_word_byte, is_space, is_greater, AreAll, StartsWith, Stops, IsText, Ends, Cut, Spells, symbol_text, value_from}
 use Rattle.it_syntax.specs.Fronts.{Run, Shape, symbol_of, starts_with, find_symbol}
 
 -- ---- runs
@@ -384,7 +384,3 @@ one_tokens at bytes (t ∷ ts) (u ∷ us) h k =
     let one = one_cut at bytes (length h.1.gap) t u h.0 k.0 (gap_run at bytes t h.0 h.1) h.1 k.1 in
     let rest : Spells t.end h.0 us = subst (λ (r : List ℕ). Spells t.end r us) (sym one.1) (subst (λ (v : Token). Spells v.end k.0 us) (sym one.0) k.2) in
     ap (λ (v : Token). v ∷ ts) one.0 ∙ ap (λ (vs : List Token). u ∷ vs) (one_tokens t.end h.0 ts us h.2 rest)
-
--- a line has at most one reading
-pub tokens_are_one : TokensAreOne
-tokens_are_one line = one_tokens 0 line

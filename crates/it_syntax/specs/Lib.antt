@@ -1,6 +1,5 @@
 pub mod Vocabulary
 pub mod Meaning
-pub mod Faults
 pub mod Spelling
 pub mod Fronts
 pub mod Letters

@@ -5,6 +5,8 @@ use Rattle.it_syntax.specs.declared.types.Code.{Code}
 use Rattle.it_syntax.specs.declared.types.Code.TheVariants as codes
 use Rattle.it_syntax.specs.declared.types.Misspelling.{Misspelling}
 use Rattle.it_syntax.specs.declared.types.Token.{Token}
+use Rattle.it_syntax.specs.declared.types.SyntaxFault.{SyntaxFault}
+use Rattle.it_syntax.specs.declared.types.SyntaxFault.TheVariants.{Memory, Fault}
 use Rattle.it_syntax.specs.Fronts.{Run, symbol_of}
 use Rattle.it_syntax.specs.Spelling.{is_letter, is_digit, is_word_byte, is_space, value_from, AreAll, StartsWith, Cut}
 
@@ -38,3 +40,8 @@ SpellsUntil at bytes (t ∷ ts) m = (rest : List ℕ) × Cut at bytes t rest × 
 -- a line is one list of tokens with at most one misspelling
 abbrev pub LineTokensAreOne : Type 0
 LineTokensAreOne = (line : List ℕ) (ts us : List Token) (m k : Option Misspelling) → SpellsUntil 0 line ts m → SpellsUntil 0 line us k → (ts ≡ us) × (m ≡ k)
+
+-- of an error: memory ran out, or the line's first misspelling is this one
+abbrev pub IsMisspelled : List ℕ → SyntaxFault → Type 0
+IsMisspelled line Memory = Unit {0}
+IsMisspelled line (Fault column code) = (ts : List Token) × SpellsUntil 0 line ts (Some (record { column = column; code = code }))

@@ -1,15 +1,14 @@
--- Reading letters from left to right, each part of a relation by one function: its value and the letters left, or the fault. The
+-- Reading letters from left to right, each part of an entropy or a mutual information by one function: its value and the letters left, or the fault. The
 -- laws tie it to how trees are spelled.
-use Rattle.std.specs.Prelude.{ℕ, zero, suc, ◌^◌, bit_or, Bool, true, false, List, [], ◌∷◌, ◌++◌, Option, Some, None, Result, Ok, Err, if◌then◌else◌, bytes_eq}
-use Rattle.it_syntax.specs.declared.types.Symbol.TheVariants.{LeftParen, RightParen, Comma, Semicolon, Bar, Plus, Minus, AtLeast}
+use Rattle.std.specs.Prelude.{ℕ, ◌^◌, bit_or, Bool, true, false, List, ◌∷◌, ◌++◌, Option, Some, None, Result, Ok, Err, if◌then◌else◌, bytes_eq}
+use Rattle.it_syntax.specs.declared.types.Symbol.TheVariants.{LeftParen, RightParen, Comma, Semicolon, Bar, Plus, Minus}
 use Rattle.it_syntax.specs.declared.types.Code.{Code}
 use Rattle.it_syntax.specs.declared.types.Code.TheVariants as codes
 use Rattle.it_syntax.specs.declared.types.Atom.{Atom}
-use Rattle.it_syntax.specs.declared.types.Atom.TheVariants.{Nothing, Entropy, Mutual}
+use Rattle.it_syntax.specs.declared.types.Atom.TheVariants.{Entropy, Mutual}
 use Rattle.it_syntax.specs.declared.types.Term.{Term}
-use Rattle.it_syntax.specs.Letters.{Letter, Word, Number, Sym, End, Bad}
-use Rattle.it_syntax.specs.Meaning.{Stated}
-use Rattle.it_syntax.specs.Trees.{at_least_zero, Environment, entropy_text, mutual_text, is_measure, further_terms}
+use Rattle.it_syntax.specs.Letters.{Letter, Word, Sym, End, Bad}
+use Rattle.it_syntax.specs.Trees.{Environment, entropy_text, mutual_text, is_measure}
 
 -- a fault and what is left at it
 abbrev pub Fault : Type 0
@@ -108,61 +107,10 @@ unfoldable pub read_atom : Environment → List Letter → Reads Atom
 read_atom env (Word w ∷ ls) = if bytes_eq w entropy_text then read_joint env ls else (if bytes_eq w mutual_text then read_mutual env ls else stuck (Word w ∷ ls))
 read_atom env ls = stuck ls
 
--- what is counted by a number, under a sign
-unfoldable pub after_number : Environment → Bool → ℕ → List Letter → Reads Term
-after_number env minus n (Word w ∷ ls) = do
-  a ← read_atom env (Word w ∷ ls)
-  Ok (record { negative = minus; number = n; atom = a.0 }, a.1)
-after_number env minus zero ls = Ok (record { negative = minus; number = 0; atom = Nothing }, ls)
-after_number env minus (suc n) ls = stuck ls
-
-unfoldable pub read_term : Environment → Bool → List Letter → Reads Term
-read_term env minus (Number n ∷ ls) = after_number env minus n ls
-read_term env minus ls = do
-  a ← read_atom env ls
-  Ok (record { negative = minus; number = 1; atom = a.0 }, a.1)
-
--- a term too many: its first letter is the fault, if no rule stands against it
-unfoldable pub read_over : List Letter → Reads (List Term)
-read_over (Number n ∷ ls) = Err (codes.Many, Number n ∷ ls)
-read_over (Word w ∷ ls) = if is_measure w then Err (codes.Many, Word w ∷ ls) else stuck (Word w ∷ ls)
-read_over ls = stuck ls
-
--- further terms, of which n are allowed
-unfoldable pub read_terms : ℕ → Environment → List Letter → Reads (List Term)
-read_terms zero env (Sym Plus ∷ ls) = read_over ls
-read_terms zero env (Sym Minus ∷ ls) = read_over ls
-read_terms (suc n) env (Sym Plus ∷ ls) = do
-  t ← read_term env false ls
-  ts ← read_terms n env t.1
-  Ok (t.0 ∷ ts.0, ts.1)
-read_terms (suc n) env (Sym Minus ∷ ls) = do
-  t ← read_term env true ls
-  ts ← read_terms n env t.1
-  Ok (t.0 ∷ ts.0, ts.1)
-read_terms n env ls = Ok ([], ls)
-
 unfoldable pub read_sign : List Letter → Bool × List Letter
 read_sign (Sym Plus ∷ ls) = (false, ls)
 read_sign (Sym Minus ∷ ls) = (true, ls)
 read_sign ls = (false, ls)
-
-unfoldable pub read_side : Environment → List Letter → Reads (List Term)
-read_side env ls = do
-  t ← read_term env (read_sign ls).0 (read_sign ls).1
-  ts ← read_terms further_terms env t.1
-  Ok (t.0 ∷ ts.0, ts.1)
-
--- a value behind which `>=` and 0 must stand
-unfoldable pub read_least : {A : Type 0} → A → List Letter → Reads A
-read_least x (Sym AtLeast ∷ Number zero ∷ ls) = Ok (x, ls)
-read_least x (Sym AtLeast ∷ ls) = stuck ls
-read_least x ls = stuck ls
-
-unfoldable pub read_relation : Environment → List Letter → Reads (List Term)
-read_relation env ls = do
-  e ← read_side env ls
-  read_least e.0 e.1
 
 abbrev pub after_sign : List Letter → Option (Bool × List Letter)
 after_sign (Sym Plus ∷ ls) = Some (false, ls)
@@ -177,9 +125,3 @@ with_terms front r = r >>= λ x. Ok (front ++ x.0, x.1)
 unfoldable pub line_end : List Letter → Reads (Unit {0})
 line_end (End ∷ ls) = Ok (tt, ls)
 line_end ls = stuck ls
-
-unfoldable pub read_line : Environment → List Letter → Reads Stated
-read_line env ls = do
-  x ← read_relation env ls
-  e ← line_end x.1
-  Ok (at_least_zero x.0, e.1)

@@ -86,7 +86,3 @@ pub record Cut (at : ℕ) (bytes : List ℕ) (t : Token) (rest : List ℕ) : Typ
 abbrev pub Spells : ℕ → List ℕ → List Token → Type 0
 Spells at bytes [] = AreAll is_space bytes
 Spells at bytes (t ∷ ts) = (rest : List ℕ) × Cut at bytes t rest × Spells t.end rest ts
-
--- a line has at most one reading as tokens
-abbrev pub TokensAreOne : Type 0
-TokensAreOne = (line : List ℕ) (ts us : List Token) → Spells 0 line ts → Spells 0 line us → ts ≡ us

@@ -1,16 +1,12 @@
--- Relations as they are written, and how each is spelled: by letters, each with what the rules have against it where it stands.
--- `Word` stands against H or I in the place of a name, `Name` against a name that is no variable, `Many` against the first
--- letter of a term past the limit. So far a relation is a sum of terms, `>=` and 0.
-use Rattle.std.specs.Prelude.{ℕ, zero, suc, ◌^◌, bit_or, Bool, true, false, List, [], ◌∷◌, Option, Some, None, ◌||◌, if◌then◌else◌, bytes_eq}
-use Rattle.it_syntax.specs.declared.types.Symbol.TheVariants.{LeftParen, RightParen, Comma, Semicolon, Bar, Plus, Minus, AtLeast}
+-- Entropies and mutual informations as they are written, and how each is spelled: by letters, each with what the rules have
+-- against it where it stands. `Word` stands against H or I in the place of a name, `Name` against a name that is no variable.
+use Rattle.std.specs.Prelude.{ℕ, ◌^◌, bit_or, Bool, true, false, List, [], ◌∷◌, Option, Some, None, ◌||◌, if◌then◌else◌, bytes_eq}
+use Rattle.it_syntax.specs.declared.types.Symbol.TheVariants.{LeftParen, RightParen, Comma, Semicolon, Bar, Plus, Minus}
 use Rattle.it_syntax.specs.declared.types.Code.{Code}
 use Rattle.it_syntax.specs.declared.types.Code.TheVariants as codes
 use Rattle.it_syntax.specs.declared.types.Atom.{Atom}
-use Rattle.it_syntax.specs.declared.types.Atom.TheVariants.{Nothing, Entropy, Mutual}
-use Rattle.it_syntax.specs.declared.types.Term.{Term}
-use Rattle.it_syntax.specs.declared.types.Sign.TheVariants as signs
-use Rattle.it_syntax.specs.Meaning.{Stated}
-use Rattle.it_syntax.specs.Letters.{Letter, Word, Number, Sym, Marked, clean}
+use Rattle.it_syntax.specs.declared.types.Atom.TheVariants.{Entropy, Mutual}
+use Rattle.it_syntax.specs.Letters.{Letter, Word, Sym, Marked, clean}
 
 -- which variable a name is
 abbrev pub Environment : Type 0
@@ -28,22 +24,10 @@ pub data WrittenAtom : Type 0 where
   Shared : (left right : WrittenList) → WrittenAtom
   SharedGiven : (left right given : WrittenList) → WrittenAtom
 
--- `0`, an atom, a number and an atom
-pub data WrittenTerm : Type 0 where
-  Zero : WrittenTerm
-  Once : (atom : WrittenAtom) → WrittenTerm
-  Times : (n : ℕ) (atom : WrittenAtom) → WrittenTerm
-
 -- `+` and `-`
 pub data TermSign : Type 0 where
   Positive : TermSign
   Negative : TermSign
-
--- a sum of terms, the first with or without a sign
-pub record WrittenSide : Type 0 where
-  pub sign : Option TermSign
-  pub first : WrittenTerm
-  pub more : List (TermSign × WrittenTerm)
 
 -- `H` and `I`, which are no names
 abbrev pub entropy_text : List ℕ
@@ -80,11 +64,6 @@ spell_atom env (JointGiven a c) k = clean (Word entropy_text) ∷ clean (Sym Lef
 spell_atom env (Shared a b) k = clean (Word mutual_text) ∷ clean (Sym LeftParen) ∷ spell_list env a (clean (Sym Semicolon) ∷ spell_list env b (clean (Sym RightParen) ∷ k))
 spell_atom env (SharedGiven a b c) k = clean (Word mutual_text) ∷ clean (Sym LeftParen) ∷ spell_list env a (clean (Sym Semicolon) ∷ spell_list env b (clean (Sym Bar) ∷ spell_list env c (clean (Sym RightParen) ∷ k)))
 
-abbrev pub spell_term : Environment → WrittenTerm → Marked → Marked
-spell_term env Zero k = clean (Number 0) ∷ k
-spell_term env (Once a) k = spell_atom env a k
-spell_term env (Times n a) k = clean (Number n) ∷ spell_atom env a k
-
 abbrev pub sign_letter : TermSign → Letter
 sign_letter Positive = Sym Plus
 sign_letter Negative = Sym Minus
@@ -98,23 +77,6 @@ abbrev pub over : Marked → Marked
 over [] = []
 over ((l, None) ∷ m) = (l, Some codes.Many) ∷ m
 over ((l, Some c) ∷ m) = (l, Some c) ∷ m
-
--- further terms, of which n are allowed
-abbrev pub spell_terms : ℕ → Environment → List (TermSign × WrittenTerm) → Marked → Marked
-spell_terms n env [] k = k
-spell_terms zero env (t ∷ ts) k = clean (sign_letter t.0) ∷ over (spell_term env t.1 (spell_terms zero env ts k))
-spell_terms (suc n) env (t ∷ ts) k = clean (sign_letter t.0) ∷ spell_term env t.1 (spell_terms n env ts k)
-
--- A relation has at most 256 terms. One is the right side and one the first of the left side, so so many are left.
-abbrev pub further_terms : ℕ
-further_terms = 254
-
-abbrev pub spell_side : Environment → WrittenSide → Marked → Marked
-spell_side env e k = spell_sign e.sign (spell_term env e.first (spell_terms further_terms env e.more k))
-
--- `>=` and 0 behind the terms
-abbrev pub spell_relation : Environment → WrittenSide → Marked → Marked
-spell_relation env e k = spell_side env e (clean (Sym AtLeast) ∷ clean (Number 0) ∷ k)
 
 -- ---- what a tree names; 0 stands in for a name that is unknown, which is marked
 abbrev pub index_or : Option ℕ → ℕ
@@ -141,27 +103,3 @@ is_negative Negative = true
 abbrev pub is_minus : Option TermSign → Bool
 is_minus None = false
 is_minus (Some s) = is_negative s
-
--- an atom without a number stands once
-abbrev pub term_of : Environment → Bool → WrittenTerm → Term
-term_of env minus Zero = record { negative = minus; number = 0; atom = Nothing }
-term_of env minus (Once a) = record { negative = minus; number = 1; atom = atom_of env a }
-term_of env minus (Times n a) = record { negative = minus; number = n; atom = atom_of env a }
-
-abbrev pub terms_of : Environment → List (TermSign × WrittenTerm) → List Term
-terms_of env [] = []
-terms_of env (t ∷ ts) = term_of env (is_negative t.0) t.1 ∷ terms_of env ts
-
-abbrev pub side_of : Environment → WrittenSide → List Term
-side_of env e = term_of env (is_minus e.sign) e.first ∷ terms_of env e.more
-
--- 0 alone
-abbrev pub zero_term : Term
-zero_term = record { negative = false; number = 0; atom = Nothing }
-
--- the relation that these terms are at least 0
-abbrev pub at_least_zero : List Term → Stated
-at_least_zero terms = record { left = terms; sign = signs.AtLeast; right = zero_term ∷ [] }
-
-abbrev pub stated_of : Environment → WrittenSide → Stated
-stated_of env x = at_least_zero (side_of env x)

@@ -3,11 +3,11 @@ ghost use Rattle.std.specs.Prelude.{◌≡◌, ◌≤◌, length, IfOk, IfErr};
 ghost use Rattle.it_syntax.specs.Comparisons.{spell_comparison};
 ghost use Rattle.it_syntax.specs.ComparisonLines.{scope_of, IsComparison};
 ghost use Rattle.it_syntax.specs.ComparisonReading.{read_compare, read_comparison};
+ghost use Rattle.it_syntax.specs.Givens.{IsRelationOf};
 ghost use Rattle.it_syntax.specs.Gives.{Gives, GivesBy, GivesAll, left};
 ghost use Rattle.it_syntax.specs.Lines.{IsFirstFault, to_end};
 ghost use Rattle.it_syntax.specs.Meaning.{stated};
 ghost use Rattle.it_syntax.specs.Reading.{line_end};
-ghost use Rattle.it_syntax.specs.Relations.{KeepsLimits};
 ghost use Rattle.it_syntax.specs.Spans.{InLine};
 
 use crate::names::Names;
@@ -97,7 +97,7 @@ pub fn relation_to_end(
 /// allows there, `Name` at a name that is unknown or at a rate where none may stand, `Many` at the first token of the
 /// term past the limit, behind its sign, and what `tokens` has for a misspelling; the line's end has the column after its
 /// last token.
-pub fn comparison(
+pub fn relation(
     alloc: Global,
     line: &[u8],
     tokens: &LineTokens,
@@ -109,7 +109,7 @@ pub fn comparison(
     requires inside { InLine line.now tokens.now.tokens.items }
     requires within { from ≤ length tokens.now.tokens.items }
     ensures read { IfOk result (λ r. IsComparison names.now rates line.now tokens.now from (stated r)) }
-    ensures limits { IfOk result (λ r. KeepsLimits names.now (stated r)) }
+    ensures limits { IfOk result (λ r. IsRelationOf (length names.now.variables) (length names.now.rates) (stated r)) }
     ensures fault { IfErr result (IsFirstFault (spell_comparison (scope_of names.now rates)) line.now tokens.now from) }
 {
     let all = Rest {

@@ -1,14 +1,45 @@
-//! The tokens of a line, up to its first misspelling.
-ghost use Rattle.std.specs.Prelude.{◌≡◌, ◌≤◌, ℕ, length, IfOk, IfErr};
+//! The tokens of a line.
+ghost use Rattle.std.specs.Prelude.{◌≡◌, ◌≤◌, ◌<◌, ◌^◌, ℕ, length, drop, None, IfOk, IfErr, SomeIff};
 ghost use Rattle.it_syntax.specs.Fronts.{Shape};
-ghost use Rattle.it_syntax.specs.Misspellings.{IsWrong, SpellsUntil};
+ghost use Rattle.it_syntax.specs.Misspellings.{IsWrong, SpellsUntil, IsMisspelled};
 ghost use Rattle.it_syntax.specs.Spans.{InLine};
-ghost use Rattle.it_syntax.specs.Spelling.{is_letter, is_digit, is_space, StartsWith, Stops};
+ghost use Rattle.it_syntax.specs.Spelling.{is_letter, is_digit, is_space, value_from, symbol_text, AreAll, StartsWith, Stops};
 
 use crate::runs::{digits, is_digit, is_letter, spaces, symbol, word_bytes};
-use crate::scanner::{LONGEST_WORD, behind, symbol_len, value};
-use crate::types::{Code, LineTokens, Misspelling, Token, TokenKind};
+use crate::types::{Code, LineTokens, Misspelling, Symbol, SyntaxFault, Token, TokenKind};
 use std::alloc::{AllocError, Global};
+
+/// The most bytes that a word has.
+const LONGEST_WORD: usize = 16;
+
+fn behind(bytes: &[u8], n: usize) -> &[u8]
+    requires { n ≤ length bytes.now }
+    ensures { result.now ≡ drop n bytes.now }
+{
+    bytes.split_at(n).1
+}
+
+fn symbol_len(symbol: Symbol) -> usize
+    ensures { result ≡ length (symbol_text symbol) }
+{
+    match symbol {
+        Symbol::Arrow | Symbol::AtLeast | Symbol::AtMost | Symbol::Assign => 2,
+        _ => 1,
+    }
+}
+
+/// The number that the digits are.
+#[tactic(auto, using(crate::proofs::RunLemmas::value_lemmas))]
+fn value(text: &[u8]) -> Option<u64>
+    requires { AreAll is_digit text.now }
+    ensures { SomeIff result (value_from 0 text.now < 2 ^ 64) (value_from 0 text.now) }
+{
+    let mut n: u64 = 0;
+    for b in text {
+        n = n.checked_mul(10)?.checked_add((*b - b'0') as u64)?;
+    }
+    Some(n)
+}
 
 fn word(body: &[u8]) -> Result<(TokenKind, usize), Code>
     requires { StartsWith is_letter body.now }
@@ -91,5 +122,20 @@ pub fn line_tokens(alloc: Global, line: &[u8]) -> Result<LineTokens, AllocError>
         }
         at = end;
         rest = behind(body, n);
+    }
+}
+
+/// The tokens of a line that has neither a comment nor tabs. The fault is the line's first misspelling, with its column: `Byte`
+/// at a byte that begins no token, `Many` at a word of more than 16 bytes, `Number` at a number of more than 2^64 - 1.
+pub fn tokens(alloc: Global, line: &[u8]) -> Result<Vec<Token>, SyntaxFault>
+    requires { length line.now ≤ 1048577 }
+    ensures read { IfOk result (λ ts. SpellsUntil 0 line.now ts.items None) }
+    ensures inside { IfOk result (λ ts. InLine line.now ts.items) }
+    ensures fault { IfErr result (IsMisspelled line.now) }
+{
+    let found = line_tokens(alloc, line)?;
+    match found.misspelling {
+        None => Ok(found.tokens),
+        Some(Misspelling { column, code }) => Err(SyntaxFault::Fault { column, code }),
     }
 }

@@ -1,8 +1,7 @@
 //! The pieces of a line, one after the other.
 ghost use Rattle.std.specs.Prelude.{◌≡◌, ◌≤◌, length};
 ghost use Rattle.it_syntax.specs.Gives.{HasLength, with_front, left};
-ghost use Rattle.it_syntax.specs.Spans.{letters_of, text_of};
-ghost use Rattle.it_syntax.specs.Spelling.{Spells};
+ghost use Rattle.it_syntax.specs.Spans.{text_of};
 
 use crate::rest::{Piece, Rest};
 use crate::types::{Token, TokenKind};
@@ -16,18 +15,6 @@ fn text<'a>(line: &'a [u8], token: &Token) -> &'a [u8]
 }
 
 impl<'a> Rest<'a> {
-    /// A whole line. `tokens` are what the call `tokens` gave for it.
-    pub fn new(line: &'a [u8], tokens: &'a [Token]) -> Rest<'a>
-        requires { Spells 0 line.now tokens.now }
-        ensures { left result ≡ letters_of line.entry.now tokens.entry.now }
-    {
-        Rest {
-            line,
-            tokens,
-            misspelling: None,
-        }
-    }
-
     /// The first piece, and what is behind it; nothing is behind the end or a misspelling. A word has 1 to 16 bytes.
     pub fn front(self) -> (Piece<'a>, Rest<'a>)
         ensures front { left self.entry ≡ with_front result.0 (left result.1) }

@@ -8,7 +8,7 @@ ghost use Rattle.it_syntax.specs.Reading.{with_terms};
 use crate::names::Names;
 use crate::quantities::{over, term};
 use crate::rest::{Rest, Stop};
-use crate::sides::{add, first_sign, sign};
+use crate::signs::{add, first_sign, sign};
 use crate::types::Term;
 use std::alloc::Global;
 

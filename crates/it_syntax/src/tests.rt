@@ -1,15 +1,14 @@
 use crate::types::{Atom, Code, Relation, Sign, Symbol, SyntaxFault, Term, Token, TokenKind};
-use crate::{Names, is_measure, relation, tokens};
+use crate::{Names, is_measure, line_tokens, relation, tokens};
 use std::alloc::{AllocError, Global};
 use std::process::Abort;
 use std::test::Fail;
 
 const LONGEST_LINE: usize = 1048577;
 
-const LATER: SyntaxFault = SyntaxFault::Fault {
-    column: 1,
-    code: Code::Later,
-};
+fn fault(column: u32, code: Code) -> SyntaxFault {
+    SyntaxFault::Fault { column, code }
+}
 
 fn token(kind: TokenKind, start: u32, end: u32) -> Token {
     Token { kind, start, end }
@@ -77,26 +76,26 @@ fn a_line_is_cut_into_its_longest_tokens(rt: HostRuntime) -> Result<(), Fail> {
 }
 
 #[test]
-fn a_line_with_anything_else_is_refused(rt: HostRuntime) {
+fn a_line_with_anything_else_is_refused_at_its_first_misspelling(rt: HostRuntime) {
     let alloc = rt.alloc();
-    let cases: [&[u8]; 11] = [
-        b"abcdefghijklmno_p",
-        b"18446744073709551616",
-        b"H(X)\t",
-        b"H(X)\r",
-        b"# H(X)",
-        b"X:Y",
-        b"X < Y",
-        b"X > Y",
-        b"_X",
-        b"X.Y",
-        b"\xc3\x89",
+    let cases: [(&[u8], u32, Code); 11] = [
+        (b"abcdefghijklmno_p", 1, Code::Many),
+        (b"18446744073709551616", 1, Code::Number),
+        (b"H(X)\t", 5, Code::Byte),
+        (b"H(X)\r", 5, Code::Byte),
+        (b"# H(X)", 1, Code::Byte),
+        (b"X:Y", 2, Code::Byte),
+        (b"X < Y $", 3, Code::Byte),
+        (b"X > Y", 3, Code::Byte),
+        (b" _X", 2, Code::Byte),
+        (b"X.Y", 2, Code::Byte),
+        (b"\xc3\x89", 1, Code::Byte),
     ];
-    for (i, line) in cases.iter().enumerate() {
+    for (line, column, code) in cases {
         assert!(rt; line.len() <= LONGEST_LINE);
         match tokens(alloc, line) {
-            Ok(_) => assert!(rt; false, "case {i}"),
-            Err(fault) => assert_eq!(rt; fault, LATER, "case {i}"),
+            Ok(_) => assert!(rt; false, "{column}"),
+            Err(found) => assert_eq!(rt; found, fault(column, code)),
         }
     }
 }
@@ -168,9 +167,9 @@ fn read(
     names: &Names,
 ) -> Result<Relation, SyntaxFault> {
     assert!(rt; line.len() <= LONGEST_LINE);
-    let tokens = tokens(alloc, line)?;
-    assert!(rt; 1 <= tokens.len());
-    relation(alloc, line, tokens.as_slice(), 1, names, false)
+    let tokens = line_tokens(alloc, line)?;
+    assert!(rt; 1 <= tokens.tokens.len());
+    relation(alloc, line, &tokens, 1, names, false)
 }
 
 #[test]
@@ -204,46 +203,35 @@ fn a_relation_is_read_as_its_terms(rt: HostRuntime) -> Result<(), Fail> {
 }
 
 #[test]
-fn another_line_is_no_relation(rt: HostRuntime) -> Result<(), Fail> {
+fn another_line_has_its_first_fault(rt: HostRuntime) -> Result<(), Fail> {
     let alloc = rt.alloc();
     let names = some_names(alloc)?;
-    let cases: [&[u8]; 24] = [
-        b"prove",
-        b"prove >= 0",
-        b"prove 2 >= 0",
-        b"prove H(H) >= 0",
-        b"prove H(I) >= 0",
-        b"prove H(W) >= 0",
-        b"prove H(R) >= 0",
-        b"prove R >= 0",
-        b"prove h(X) >= 0",
-        b"prove H(X >= 0",
-        b"prove H() >= 0",
-        b"prove H(X,) >= 0",
-        b"prove H(X|) >= 0",
-        b"prove H(X;Y) >= 0",
-        b"prove I(X,Y) >= 0",
-        b"prove I(X;Y;Z) >= 0",
-        b"prove H(X) H(Y) >= 0",
-        b"prove 2 3 H(X) >= 0",
-        b"prove + - H(X) >= 0",
-        b"prove H(X) <= 0",
-        b"prove H(X) = 0",
-        b"prove H(X) >= 1",
-        b"prove H(X) >= 0 Y",
-        b"prove H(X) >= 0 + 0",
+    let cases: [(&[u8], u32, Code); 13] = [
+        (b"prove", 6, Code::Word),
+        (b"prove >= 0", 7, Code::Word),
+        (b"prove 2 >= 0", 9, Code::Word),
+        (b"prove H(H) >= 0", 9, Code::Word),
+        (b"prove H(W) >= 0", 9, Code::Name),
+        (b"prove R >= 0", 7, Code::Name),
+        (b"prove foo $", 7, Code::Name),
+        (b"prove H(X >= 0", 11, Code::Word),
+        (b"prove H(X,) >= 0", 11, Code::Word),
+        (b"prove I(X,Y) >= 0", 12, Code::Word),
+        (b"prove H(X) > 0", 12, Code::Byte),
+        (b"prove H(X) >= 1", 16, Code::Word),
+        (b"prove H(X) >= 0 Y", 17, Code::Name),
     ];
-    for (i, line) in cases.iter().enumerate() {
+    for (line, column, code) in cases {
         match read(&rt, alloc, line, &names) {
-            Ok(_) => assert!(rt; false, "case {i}"),
-            Err(fault) => assert_eq!(rt; fault, LATER, "case {i}"),
+            Ok(_) => assert!(rt; false, "{column}"),
+            Err(found) => assert_eq!(rt; found, fault(column, code)),
         }
     }
     Ok(())
 }
 
 #[test]
-fn a_left_side_has_at_most_255_terms(rt: HostRuntime) -> Result<(), Fail> {
+fn both_sides_have_at_most_256_terms(rt: HostRuntime) -> Result<(), Fail> {
     let alloc = rt.alloc();
     let names = some_names(alloc)?;
     let mut line = Vec::from_slice(alloc, b"prove ")?;
@@ -259,7 +247,7 @@ fn a_left_side_has_at_most_255_terms(rt: HostRuntime) -> Result<(), Fail> {
     longer.extend_from_slice(b"H(X)+0>=0")?;
     match read(&rt, alloc, longer.as_slice(), &names) {
         Ok(_) => assert!(rt; false),
-        Err(fault) => assert_eq!(rt; fault, LATER),
+        Err(found) => assert_eq!(rt; found, fault(1285, Code::Many)),
     }
     Ok(())
 }

@@ -94,12 +94,6 @@ impl<T: Drop> From<AllocFailed<T>> for SyntaxFault {
     }
 }
 
-/// The one fault until each is told at its place.
-pub(crate) const LATER: SyntaxFault = SyntaxFault::Fault {
-    column: 1,
-    code: Code::Later,
-};
-
 /// How the sides of a relation compare: `>=`, `<=` or `=`.
 #[derive(Clone, Copy, Debug, PartialEq, Eq)]
 pub enum Sign {

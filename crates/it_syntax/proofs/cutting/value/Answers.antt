@@ -1,7 +1,7 @@
 use Rattle.std.proofs.Common.{◌≡◌, ◌∙◌, sym, arith}
 use Rattle.it_syntax.specs.Spelling.{value_from}
 use Rattle.it_syntax.proofs.RunLemmas.{value_past}
-use Rattle.it_syntax.proofs.scanner.value.Goals as goal
+use Rattle.it_syntax.proofs.cutting.value.Goals as goal
 
 pub returns : goal.returns
 returns c =

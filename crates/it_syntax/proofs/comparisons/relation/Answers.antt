@@ -8,7 +8,7 @@ use Rattle.it_syntax.proofs.SpanLemmas.{in_line_drop}
 use Rattle.it_syntax.proofs.LineLemmas.{read_says, refused}
 use Rattle.it_syntax.proofs.ComparisonLemmas.{comparison_reader}
 use Rattle.it_syntax.proofs.ComparisonLimits.{comparison_limited}
-use Rattle.it_syntax.proofs.comparisons.comparison.Goals as goal
+use Rattle.it_syntax.proofs.comparisons.relation.Goals as goal
 
 pub invariant_of-rest : goal.invariant_of-rest
 invariant_of-rest c = record { inside = rw (c.split_at.ensures.back, c.as_slice.ensures.value) (in_line_drop c.args.line.now c.args.tokens.now.tokens.items c.args.from c.requires.inside) }

@@ -1,0 +1,54 @@
+//! Readers of signs, and the terms behind them.
+ghost use Rattle.std.specs.Prelude.{◌≡◌, ◌++◌, [], ◌∷◌, Some, None, MatchOption, OnOk, IfErr};
+ghost use Rattle.it_syntax.specs.declared.rest.Stop.TheVariants.{Memory};
+ghost use Rattle.it_syntax.specs.Gives.{left};
+ghost use Rattle.it_syntax.specs.Reading.{after_sign, read_sign};
+
+use crate::rest::{Piece, Rest, Stop};
+use crate::types::{Symbol, Term};
+
+/// Takes the sign that stands there, and says whether it is `-`; None where none stands there.
+pub fn sign(rest: &mut Rest<'_>) -> Option<bool>
+    ensures { MatchOption result ((after_sign (left rest.old) ≡ None) × (left rest.new ≡ left rest.old)) (λ negative. after_sign (left rest.old) ≡ Some (negative, left rest.new)) }
+{
+    match rest.front() {
+        (Piece::Symbol(Symbol::Plus), behind) => {
+            *rest = behind;
+            Some(false)
+        }
+        (Piece::Symbol(Symbol::Minus), behind) => {
+            *rest = behind;
+            Some(true)
+        }
+        _ => None,
+    }
+}
+
+/// Takes a sign, if one stands there, and says whether it is `-`.
+#[tactic(auto, unfolding(crate::specs::Reading::read_sign))]
+pub fn first_sign(rest: &mut Rest<'_>) -> bool
+    ensures { (result, left rest.new) ≡ read_sign (left rest.old) }
+{
+    sign(rest).unwrap_or(false)
+}
+
+/// Puts a term behind the others.
+pub fn add(terms: &mut Vec<Term>, term: Term) -> Result<(), Stop>
+    ensures added { OnOk result (terms.new.items ≡ terms.old.items ++ term ∷ []) }
+    ensures memory { IfErr result (λ e. e ≡ Memory) }
+{
+    // Built anew from its parts, since the push of a `Term` as it came gets no generated proof.
+    let Term {
+        negative,
+        number,
+        atom,
+    } = term;
+    match terms.push(Term {
+        negative,
+        number,
+        atom,
+    }) {
+        Ok(()) => Ok(()),
+        Err(_) => Err(Stop::Memory),
+    }
+}
