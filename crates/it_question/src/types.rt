@@ -4,6 +4,7 @@ use it_space::VarSet;
 use it_syntax::Names;
 use it_syntax::types::{Code, Given, Relation};
 use std::alloc::AllocError;
+use thiserror::Error;
 
 /// A region of a containment question: the question's names followed by the region's auxiliary variables, how many these
 /// are, and the region's own lines.
@@ -43,9 +44,11 @@ pub struct Question {
 }
 
 /// Why a file has no reading: memory ran out, or its first fault, at a line and a column that are counted from 1.
-#[derive(Clone, Copy, Debug, PartialEq, Eq)]
+#[derive(Clone, Copy, Debug, PartialEq, Eq, Error)]
 pub enum FileFault {
+    #[error("there is too little memory to read the file")]
     Memory,
+    #[error("the file is no question file")]
     Fault { line: u32, column: u32, code: Code },
 }
 
