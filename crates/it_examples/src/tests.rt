@@ -18,6 +18,10 @@ const USAGE: &[u8] =
 
 const MUTUAL: &[u8] = b"vars X, Y\nprove I(X;Y) >= 0\n";
 
+/// The same question three times.
+const THRICE: &[u8] =
+    b"vars X, Y\nprove I(X;Y) >= 0\nvars X, Y\nprove I(X;Y) >= 0\nvars X, Y\nprove I(X;Y) >= 0\n";
+
 /// Questions, and the lines that answer them, worked out by hand.
 const ANSWERED: [(&[u8], &[u8]); 56] = [
     (MUTUAL, b"1 yes 1 : 1 I(X;Y)\n"),
@@ -379,21 +383,39 @@ fn a_failed_read_writes_nothing(rt: HostRuntime) -> Result<(), Fail> {
 #[test]
 fn a_failed_write_leaves_a_front(rt: HostRuntime) -> Result<(), Fail> {
     let alloc = rt.alloc();
-    let cases: [(&[&str], usize, &[u64], &[u8], Status); 5] = [
-        (&["answer"], WHOLE, &[1], b"", Status::WriteFault),
-        (&["answer"], 1, &[5], b"1 ye", Status::WriteFault),
+    let answer: &[&str] = &["answer"];
+    let cases: [(&[&str], &[u8], usize, &[u64], &[u8], Status); 7] = [
+        (answer, MUTUAL, WHOLE, &[1], b"", Status::WriteFault),
+        (answer, MUTUAL, 1, &[5], b"1 ye", Status::WriteFault),
         (
-            &["answer"],
+            answer,
+            MUTUAL,
             WHOLE,
             &[2],
             b"1 yes 1 : 1 I(X;Y)\n",
             Status::Done,
         ),
-        (&["check"], 3, &[2], b"usa", Status::WriteFault),
-        (&[], WHOLE, &[1], b"", Status::WriteFault),
+        (
+            answer,
+            THRICE,
+            WHOLE,
+            &[2],
+            b"1 yes 1 : 1 I(X;Y)\n",
+            Status::WriteFault,
+        ),
+        (
+            answer,
+            b"vars X, X\n",
+            4,
+            &[3],
+            b"refused ",
+            Status::WriteFault,
+        ),
+        (&["check"], MUTUAL, 3, &[2], b"usa", Status::WriteFault),
+        (&[], MUTUAL, WHOLE, &[1], b"", Status::WriteFault),
     ];
-    for (i, (words, step, failing, want, wanted)) in cases.iter().enumerate() {
-        let mut source = source(alloc, MUTUAL, WHOLE, &[])?;
+    for (i, (words, input, step, failing, want, wanted)) in cases.iter().enumerate() {
+        let mut source = source(alloc, input, WHOLE, &[])?;
         let mut sink = sink(alloc, *step, failing)?;
         let status = itip(alloc, words, &mut source, &mut sink);
         assert_eq!(rt; status, *wanted, "case {i}");
