@@ -1,5 +1,5 @@
 -- The closed form gives right answers.
-use Rattle.std.proofs.Common.{◌≡◌, ℕ, zero, suc, ◌<◌, ◌≤◌, ◌+◌, ℤ, pos, neg_ℤ, ◌+ℤ◌, ◌-ℤ◌, ◌*ℤ◌, ◌≤ℤ◌, refl, sym, ap, subst, ◌∙◌, arith, List, [], ◌∷◌, length, All, Bool, true, false, bit_or, int_lt, if◌then◌else◌}
+use Rattle.std.proofs.Common.{◌≡◌, ℕ, zero, suc, ◌<◌, ℤ, pos, neg_ℤ, ◌+ℤ◌, ◌-ℤ◌, ◌*ℤ◌, ◌≤ℤ◌, refl, sym, ap, subst, ◌∙◌, arith, List, [], ◌∷◌, length, All, Bool, true, false, bit_or, int_lt, if◌then◌else◌}
 use Rattle.std.proofs.lemmas.Int.{ints}
 use Rattle.std.proofs.lemmas.Nat.{or_lt}
 use Rattle.std.proofs.lemmas.List.Elements.{All-head, All-tail}
@@ -173,9 +173,6 @@ relation_is_right r h = closed_is_verdict r.sign (forward 2 r) (back 2 r) (sums_
 -- the relation of a question that is answered has sets of its variables, and no rates
 pub relation_on : (q : Posed) (r : Stated) → IsQuestion q → IsAnswerable q → q.aim ≡ Proves r → IsRelationOf (length q.names.variables) 0 r
 relation_on q r i k e = subst (λ m. IsRelationOf (length q.names.variables) m r) (ap length k.no_rates) (subst (IsAimOver q.names) e i.aim)
-
-pub few_terms : (q : Posed) (r : Stated) → IsQuestion q → IsAnswerable q → q.aim ≡ Proves r → length r.left + length r.right ≤ 256
-few_terms q r i k e = (relation_on q r i k e).few
 
 -- the closed form is right
 pub closed_right : (q : Posed) (r : Stated) → IsQuestion q → IsAnswerable q → q.aim ≡ Proves r → Right q (closed_reply r)

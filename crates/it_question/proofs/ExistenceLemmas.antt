@@ -10,7 +10,7 @@ use Rattle.it_syntax.specs.Letters.{Letter, End, Bad, Marked, clean, letters, cl
 use Rattle.it_syntax.specs.FirstFault.{FirstFault}
 use Rattle.it_syntax.specs.Misspellings.{SpellsUntil}
 use Rattle.it_syntax.specs.Reading.{Reads}
-use Rattle.it_syntax.proofs.FirstFaults.{letters_behind, reads_only}
+use Rattle.it_syntax.proofs.FirstFaults.{letters_append, letters_behind, reads_only}
 use Rattle.it_question.specs.Files.{IsFile, FileFaultAt, FileHasOne}
 use Rattle.it_question.specs.Lines.{TokenLine, AreLines, AreLinesOf, split_lines, plain, file_end, end_line, letters_of_lines, places_of_lines}
 use Rattle.it_question.specs.Questions.{Posed, Asked}
@@ -21,7 +21,7 @@ use Rattle.it_question.proofs.FileAnswers.{file_answers}
 use Rattle.it_question.proofs.FileLemmas.{read_asks, read_stops}
 use Rattle.it_question.proofs.LetterLemmas.{EndsOnce, once_more, once_alone, lines_end, places_length}
 use Rattle.it_question.proofs.LinePuts.{questions_put}
-use Rattle.it_question.proofs.Puts.{HasLines, letters_append}
+use Rattle.it_question.proofs.Puts.{HasLines}
 use Rattle.it_question.proofs.TokensExist.{tokens_there}
 
 -- ---- its lines

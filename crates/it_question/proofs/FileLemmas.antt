@@ -11,7 +11,7 @@ use Rattle.it_syntax.specs.Misspellings.{SpellsUntil}
 use Rattle.it_syntax.specs.Reading.{Reads}
 use Rattle.it_syntax.proofs.Traces.{By, Went}
 use Rattle.it_syntax.proofs.MisspellingLemmas.{line_tokens_are_one}
-use Rattle.it_syntax.proofs.FirstFaults.{letters_behind, first_fault, one_fault, reads_found, reads_only, clean_is_clean, letters_cleaned}
+use Rattle.it_syntax.proofs.FirstFaults.{letters_append, letters_behind, first_fault, one_fault, reads_found, reads_only, clean_is_clean, letters_cleaned}
 use Rattle.it_question.specs.Files.{FileIsOne, FileFaultIsOne, FileOrFault}
 use Rattle.it_question.specs.Lines.{TokenLine, AreLines, AreLinesOf, IsLine, HasTokens, IsFilled, split_lines, plain, file_end, letters_of_lines, places_of_lines}
 use Rattle.it_question.specs.Questions.{Posed}
@@ -22,7 +22,6 @@ use Rattle.it_question.proofs.FileAnswers.{file_answers}
 use Rattle.it_question.proofs.FileTraces.{file_traces}
 use Rattle.it_question.proofs.LetterLemmas.{lines_once}
 use Rattle.it_question.proofs.LinePuts.{questions_put}
-use Rattle.it_question.proofs.Puts.{letters_append}
 
 -- ---- its lines are one
 

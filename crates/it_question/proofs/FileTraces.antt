@@ -23,7 +23,8 @@ use Rattle.it_question.specs.Reading.{behind_word, read_new_names, read_names_li
 use Rattle.it_question.proofs.NameTraces.{ended_traces, marked_here, at_word, behind_traced, new_names_traces, names_line_traces}
 use Rattle.it_question.proofs.LineTraces.{some_relation, lines_traces}
 use Rattle.it_question.proofs.DistinctTraces.{distinct_traces}
-use Rattle.it_question.proofs.RegionTraces.{spell_behind_containment, containment_traces}
+use Rattle.it_question.proofs.RegionAnswers.{spell_contained}
+use Rattle.it_question.proofs.RegionTraces.{containment_traces}
 
 -- ---- aims
 
@@ -58,8 +59,8 @@ aim_by g r v w ls true i j eh ei ej = letter_then (read_aim g r v) (read_proof v
     (λ z k. ap (λ (t : List ℕ). clean (Word t) ∷ spell_proof v z k) (sym ((bytes_eq-Decides w prove_text).0 eh))) (λ z. refl) (read_proof v ls) (proof_traces v ls)
 aim_by g r v w ls false true j eh ei ej = letter_then (read_aim g r v) (read_elimination v) (Word w) (spell_elimination v) (spell_aim g r v) (λ l. Eliminates (distinct_of (rates_env v) l)) (aim_of v) Eliminating ls (aim_is g r v w false true j eh ei ej)
     (λ z k. ap (λ (t : List ℕ). clean (Word t) ∷ spell_elimination v z k) (sym ((bytes_eq-Decides w eliminate_text).0 ei))) (λ z. refl) (read_elimination v ls) (elimination_traces v ls)
-aim_by g r v w ls false false true eh ei ej = letter_then (read_aim g r v) (read_containment g r v) (Word w) (spell_behind_containment g r v) (spell_aim g r v) (containment_of v) (aim_of v) Containing ls (aim_is g r v w false false true eh ei ej)
-    (λ z k. ap (λ (t : List ℕ). clean (Word t) ∷ spell_behind_containment g r v z k) (sym ((bytes_eq-Decides w region_text).0 ej))) (λ z. refl) (read_containment g r v ls) (containment_traces g r v ls)
+aim_by g r v w ls false false true eh ei ej = letter_then (read_aim g r v) (read_containment g r v) (Word w) (spell_contained g r v) (spell_aim g r v) (containment_of v) (aim_of v) Containing ls (aim_is g r v w false false true eh ei ej)
+    (λ z k. ap (λ (t : List ℕ). clean (Word t) ∷ spell_contained g r v z k) (sym ((bytes_eq-Decides w region_text).0 ej))) (λ z. refl) (read_containment g r v ls) (containment_traces g r v ls)
 aim_by g r v w ls false false false eh ei ej = stuck_here (read_aim g r v) (spell_aim g r v) some_aim (Word w) ls codes.Word (aim_is g r v w false false false eh ei ej) refl
 
 -- what a question wants, where g and r lines may still stand in its regions

@@ -1,26 +1,23 @@
--- The questions of a file keep the limits: those that are read, and so those that are spelled where nothing is marked.
-use Rattle.std.proofs.Common.{◌≡◌, ℕ, zero, suc, ◌+◌, ◌-◌, ◌≤◌, Bool, true, false, cond, List, [], ◌∷◌, ◌++◌, length, Option, None, Some, Ok, Err, sym, ap, ◌∙◌, subst, arith, length-append, inl, inr}
+-- The questions of a file that is read keep the limits.
+use Rattle.std.proofs.Common.{◌≡◌, ℕ, zero, suc, ◌+◌, ◌-◌, ◌≤◌, Bool, true, false, cond, List, [], ◌∷◌, ◌++◌, length, Option, None, Some, Ok, Err, sym, ap, ◌∙◌, subst, arith, length-append}
 use Rattle.std.specs.Prelude.{All, bytes_eq}
 use Rattle.std.proofs.Math.Nat.{min-le_left, min-le_right}
 use Rattle.std.proofs.lemmas.List.Elements.{All-nil, All-cons}
 use Rattle.it_syntax.specs.declared.types.Code.TheVariants as codes
 use Rattle.it_syntax.specs.Vocabulary.{Vocabulary}
-use Rattle.it_syntax.specs.Letters.{Letter, Word, Bad, Marked, clean, letters, cleaned}
+use Rattle.it_syntax.specs.Letters.{Letter, Word, Bad}
 use Rattle.it_syntax.specs.Lines.{to_end}
 use Rattle.it_syntax.specs.Meaning.{Stated}
 use Rattle.it_syntax.specs.Reading.{Reads, ◌>>=◌, stuck, line_end}
 use Rattle.it_syntax.specs.Relations.{env_of}
 use Rattle.it_syntax.specs.ComparisonLines.{scope_of}
 use Rattle.it_syntax.specs.ComparisonReading.{read_comparison}
-use Rattle.it_question.specs.Lines.{file_end}
 use Rattle.it_question.specs.Keywords.{vars_text, rates_text, region_text, aux_text, prove_text, eliminate_text, contain_text}
 use Rattle.it_question.specs.Limits.{AreRatesOf, AreLinesOver, IsRegionOf, IsAimOver, IsQuestion}
 use Rattle.it_question.specs.Questions.{Lines, Bounded, Aim, Proves, Eliminates, Contains, Posed}
-use Rattle.it_question.specs.Trees.{Variable, Rate, WrittenQuestion, no_names, most_questions, most_variables, most_rates, most_lines, auxiliaries_left, auxiliary_env, givens_left, rows_left, rates_env, unnamed, spell_questions, questions_of}
+use Rattle.it_question.specs.Trees.{Variable, Rate, no_names, most_questions, most_variables, most_rates, most_lines, auxiliaries_left, auxiliary_env, givens_left, rows_left, rates_env, unnamed}
 use Rattle.it_question.specs.Reading.{behind_word, read_word, read_word_line, read_new_names, read_names_line, read_lines, read_distinct, read_tries, read_region, read_containment, read_proof, read_elimination, read_aim, read_question, read_end, question_then, if_asked, read_questions, read_file}
-use Rattle.it_syntax.proofs.FirstFaults.{clean_is_clean}
 use Rattle.it_syntax.proofs.LimitLemmas.{Sure, sure_bind, Any, any, knows_names}
-use Rattle.it_question.proofs.FileAnswers.{questions_answers}
 use Rattle.it_question.proofs.NameLimits.{ended_sure, IsGrown, Grows, new_names_sure, names_line_sure}
 use Rattle.it_question.proofs.LineLimits.{OverRelation, relation_sure, AreOwn, Own, lines_sure}
 use Rattle.it_question.proofs.RateLimits.{knows_rates, Rates, distinct_sure}
@@ -166,12 +163,3 @@ questions_sure (suc n) ls = asked_sure (question_then (read_questions n)) (quest
 pub file_limited : (ls r : List Letter) (qs : List Posed) → read_file ls ≡ Ok (qs, r) → All IsQuestion qs
 unfolding read_file
 file_limited ls r qs e = subst (Sure AreQuestions) e (questions_sure most_questions ls)
-
--- questions that are spelled where nothing is marked
-pub question_limits : (n : ℕ) (xs : List WrittenQuestion) (k : Marked) (ls : List Letter) → spell_questions n xs (clean file_end ∷ k) ≡ cleaned ls → All IsQuestion (questions_of xs)
-question_limits n xs k ls e =
-    let m = spell_questions n xs (clean file_end ∷ k) in
-    elim (questions_answers n xs k) [
-      | inl a ↦ subst (Sure AreQuestions) a.0 (questions_sure n (letters m))
-      | inr b ↦ absurd (clean_is_clean ls b.1.1.front b.0.0 (b.1.1.letter, b.1.1.rest, sym e ∙ b.1.1.is))
-    ]

@@ -4,7 +4,6 @@ use Rattle.std.proofs.lemmas.List.Elements.{All-head, All-tail}
 use Rattle.std.proofs.lemmas.List.{length-map, map-append, take-map, drop-map}
 use Rattle.it_syntax.specs.Meaning.{stated}
 use Rattle.it_syntax.specs.Givens.{condition}
-use Rattle.it_syntax.specs.Vocabulary.{Vocabulary}
 use Rattle.it_question.specs.declared.types.Region.{Region}
 use Rattle.it_question.specs.declared.types.Question.{Question}
 use Rattle.it_question.specs.declared.bodies.Body.{Body}
@@ -12,8 +11,8 @@ use Rattle.it_question.specs.declared.cursor.Line.{Line}
 use Rattle.it_question.specs.Bodies.{body}
 use Rattle.it_question.specs.Cursors.{token_line}
 use Rattle.it_question.specs.Lines.{TokenLine}
-use Rattle.it_question.specs.Questions.{bounded, Aim, Proves, Eliminates, Contains, Posed, Asked, asked}
-use Rattle.it_question.specs.Limits.{IsAimOver, FewLines, FewLinesOf}
+use Rattle.it_question.specs.Questions.{bounded, Posed, Asked, asked}
+use Rattle.it_question.specs.Limits.{FewLines}
 use Rattle.it_question.specs.Texts.{region_lines, one_unless_zero, question_lines, text_of_lines, with_texts}
 
 abbrev asked_with : Posed → List ℕ → Asked
@@ -27,11 +26,6 @@ few_rows r h = omega (arith, h.1, length-map r.rows.items stated)
 
 pub region_lines_are : (r : Region) → region_lines (bounded r) ≡ 1 + one_unless_zero r.auxiliaries + (length r.givens.items + length r.rows.items)
 region_lines_are r = omega (arith, length-map r.givens.items condition, length-map r.rows.items stated)
-
-pub few_lines : (v : Vocabulary) (a : Aim) → IsAimOver v a → FewLinesOf a
-few_lines v (Proves r) h = tt
-few_lines v (Eliminates rates) h = tt
-few_lines v (Contains first second tries) h = ((h.0.lines.few_givens, h.0.lines.few_rows), (h.1.lines.few_givens, h.1.lines.few_rows), h.2)
 
 -- ---- questions with their texts, one after the other
 

@@ -8,6 +8,7 @@ use Rattle.it_syntax.specs.Vocabulary.{Vocabulary, IsNew, index_of}
 use Rattle.it_syntax.specs.Letters.{Letter, Sym}
 use Rattle.it_syntax.specs.Gives.{StopsAs}
 use Rattle.it_syntax.specs.Reading.{Reads, ◌>>=◌, after_comma}
+use Rattle.it_syntax.proofs.ListLemmas.{comma_is}
 use Rattle.it_question.specs.declared.sorts.NameSort.{NameSort}
 use Rattle.it_question.specs.declared.sorts.NameSort.TheVariants as sorts
 use Rattle.it_question.specs.Sorts.{KeepsRates}
@@ -23,10 +24,6 @@ new_of v w e = both (index_of v.variables w) (index_of v.rates w) e
     both None None h = (refl, refl)
     both None (Some j) h = absurd cc
     both (Some i) y h = absurd cc
-
-pub comma_is : (ls t : List Letter) → after_comma ls ≡ Some t → ls ≡ Sym Comma ∷ t
-comma_is (Sym Comma ∷ ls) t e = cc
-comma_is ls t e = absurd cc
 
 -- one more name
 pub goes_on : (sort : Sort) (n : ℕ) (v w : Vocabulary) (ls tail after : List Letter) → after_comma ls ≡ Some tail → read_new sort n v tail ≡ Ok (w, after) → 1 ≤ n → read_new_more sort n v ls ≡ read_new_more sort (n - 1) w after

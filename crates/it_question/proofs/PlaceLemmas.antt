@@ -5,18 +5,14 @@ use Rattle.std.proofs.lemmas.List.{length-map}
 use Rattle.it_syntax.specs.declared.types.Token.{Token}
 use Rattle.it_syntax.specs.declared.types.Misspelling.{Misspelling}
 use Rattle.it_syntax.specs.declared.rest.Rest.{Rest}
-use Rattle.it_syntax.specs.Letters.{Letter}
 use Rattle.it_syntax.specs.Gives as gives
-use Rattle.it_syntax.specs.Spans.{letters_until, last_letter}
+use Rattle.it_syntax.specs.Spans.{last_letter}
 use Rattle.it_syntax.specs.Lines.{column_of, column_behind}
+use Rattle.it_syntax.proofs.LineLemmas.{until_length}
 use Rattle.it_question.specs.declared.cursor.Line.{Line}
 use Rattle.it_question.specs.declared.cursor.Cursor.{Cursor}
 use Rattle.it_question.specs.Cursors.{token_line, left, left_of}
 use Rattle.it_question.specs.Lines.{TokenLine, line_letters, letters_of_lines, line_places, places_of_lines}
-
-pub until_length : (line : List ℕ) (ts : List Token) (last : Letter) → length (letters_until line ts last) ≡ suc (length ts)
-until_length line [] last = refl
-until_length line (t ∷ ts) last = ap suc (until_length line ts last)
 
 pub line_letters_length : (l : TokenLine) → length (line_letters l) ≡ suc (length l.tokens)
 line_letters_length l = until_length l.text l.tokens (last_letter l.misspelling)

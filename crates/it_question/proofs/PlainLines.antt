@@ -1,6 +1,5 @@
 -- A line of tokens alone holds no comment, tab, line feed or carriage return, so it stays as it is when it is read as a line.
-use Rattle.std.proofs.Common.{◌≡◌, ℕ, ◌==◌, ◌&&◌, Bool, true, false, not, cond, List, [], ◌∷◌, ◌++◌, map, None, refl, sym, ap, ◌∙◌, subst, inl, inr}
-use Rattle.std.proofs.lemmas.Bool.Decides.{eqb_tells}
+use Rattle.std.proofs.Common.{◌≡◌, ℕ, ◌==◌, ◌&&◌, Bool, true, false, not, cond, List, [], ◌∷◌, ◌++◌, map, None, refl, sym, ap, ◌∙◌, subst}
 use Rattle.it_syntax.specs.declared.types.Symbol.{Symbol}
 use Rattle.it_syntax.specs.declared.types.Symbol.TheVariants.{LeftParen, RightParen, Comma, Semicolon, Bar, Plus, Minus, Arrow, AtLeast, AtMost, Equal, Assign}
 use Rattle.it_syntax.specs.declared.types.Token.{Token}
@@ -8,6 +7,7 @@ use Rattle.it_syntax.specs.declared.types.TokenKind.{TokenKind}
 use Rattle.it_syntax.specs.declared.types.TokenKind.TheVariants as kinds
 use Rattle.it_syntax.specs.Misspellings.{SpellsUntil}
 use Rattle.it_syntax.specs.Spelling.{is_digit, is_word_byte, is_space, symbol_text, AreAll, IsText}
+use Rattle.it_syntax.proofs.TokenLemmas.{other_byte}
 use Rattle.it_question.specs.Lines.{in_front, split_lines, without_return, before_comment, untabbed, plain}
 
 -- none of the bytes that are read otherwise
@@ -31,13 +31,6 @@ is_so b e = let k = by (b == 9) (b == 10) (b == 13) (b == 35) e in record { no_t
     by false false false false e = (refl, refl, refl, refl)
 
 -- ---- bytes of tokens
-
-other_byte : (f : ℕ → Bool) (c : ℕ) → f c ≡ false → (b : ℕ) → f b ≡ true → (b == c) ≡ false
-other_byte f c no_c b h =
-    elim (eqb_tells b c) [
-      | inl e ↦ let k : f c ≡ true = subst (λ (x : ℕ). f x ≡ true) e.1 h in absurd cc
-      | inr e ↦ e.0
-    ]
 
 -- a kind of bytes that has none of the others
 all_plain : (f : ℕ → Bool) → f 9 ≡ false → f 10 ≡ false → f 13 ≡ false → f 35 ≡ false → (bytes : List ℕ) → AreAll f bytes → AreAll is_plain bytes

@@ -1,9 +1,9 @@
 -- What a spelling puts before the letters that follow: tokens, or a number of whole lines.
 use Rattle.std.proofs.Common.{◌≡◌, ℕ, zero, suc, ◌+◌, List, [], ◌∷◌, ◌++◌, Option, Some, None, refl, sym, ap, ◌∙◌, subst, append_assoc, arith}
-use Rattle.std.proofs.lemmas.List.{map-append}
 use Rattle.it_syntax.specs.declared.types.Code.{Code}
 use Rattle.it_syntax.specs.Letters.{Letter, End, Bad, Marked, letters}
 use Rattle.it_syntax.specs.Trees.{over}
+use Rattle.it_syntax.proofs.FirstFaults.{letters_append}
 
 abbrev pub AreTokens : List Letter → Type 0
 AreTokens [] = Unit {0}
@@ -25,9 +25,6 @@ pub record Puts (P : List Letter → Type 0) (s : Marked → Marked) : Type 0 wh
   pub front : Marked
   pub is : (k : Marked) → s k ≡ front ++ k
   pub kind : P (letters front)
-
-pub letters_append : (m n : Marked) → letters (m ++ n) ≡ letters m ++ letters n
-letters_append m n = map-append (λ (x : Letter × Option Code). x.0) m n
 
 puts_then : (P Q R : List Letter → Type 0) {s t : Marked → Marked} → ((a b : List Letter) → P a → Q b → R (a ++ b)) → Puts P s → Puts Q t → Puts R (λ k. s (t k))
 puts_then P Q R {s} {t} join p q = record {

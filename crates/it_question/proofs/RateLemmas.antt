@@ -1,5 +1,5 @@
 -- The rates of an `eliminate` line one after the other, as a loop reads them.
-use Rattle.std.proofs.Common.{◌≡◌, ℕ, ◌<◌, Bool, true, false, List, [], ◌∷◌, ◌++◌, length, Option, Some, None, Ok, Err, refl, sym, ap, ◌∙◌, append_assoc, arith}
+use Rattle.std.proofs.Common.{◌≡◌, ℕ, Bool, true, false, List, [], ◌∷◌, ◌++◌, Option, Some, None, Ok, Err, refl, sym, ap, ◌∙◌, append_assoc}
 use Rattle.std.proofs.lemmas.List.{append-nil}
 use Rattle.it_syntax.specs.declared.rest.Stop.{Stop}
 use Rattle.it_syntax.specs.declared.rest.Stop.TheVariants as stops
@@ -9,9 +9,9 @@ use Rattle.it_syntax.specs.ConditionReading.{with_sets}
 use Rattle.it_syntax.specs.Gives.{StopsAs}
 use Rattle.it_syntax.specs.Reading.{Reads, ◌>>=◌, after_comma}
 use Rattle.it_syntax.specs.Trees.{Environment, is_measure}
+use Rattle.it_syntax.proofs.ListLemmas.{comma_is}
 use Rattle.it_question.specs.Reading.{if_unseen, once, read_once, read_once_more}
 use Rattle.it_question.specs.Trees.{is_among}
-use Rattle.it_question.proofs.NewNameLemmas.{comma_is}
 
 abbrev then_more : Environment → List ℕ → Reads ℕ → Reads (List ℕ)
 then_more env seen r = r >>= λ i. read_once_more env (seen ++ i.0 ∷ []) i.1 >>= λ more. Ok (i.0 ∷ more.0, more.1)
@@ -58,8 +58,3 @@ no_comma env seen ls e = refl
 -- the loop ends without a comma
 pub is_done : (seen : List ℕ) (env : Environment) (ls : List Letter) (total : Reads (List ℕ)) → after_comma ls ≡ None → with_sets seen (read_once_more env seen ls) ≡ total → total ≡ Ok (seen, ls)
 is_done seen env ls total e so_far = sym so_far ∙ ap (with_sets seen) (no_comma env seen ls e) ∙ ap (λ (rates : List ℕ). Ok (rates, ls)) (append-nil seen)
-
--- a comma is taken
-pub shorter : (ls t : List Letter) → after_comma ls ≡ Some t → length t < length ls
-shorter (Sym Comma ∷ ls) t e = let same : ls ≡ t = cc in omega (arith, ap length same)
-shorter ls t e = absurd cc

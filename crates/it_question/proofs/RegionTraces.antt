@@ -13,6 +13,7 @@ use Rattle.it_question.specs.Trees.{WrittenLine, WrittenRegion, WrittenTry, Writ
 use Rattle.it_question.specs.Reading.{read_word, read_names_line, read_lines, read_tries, read_region, read_word_line, read_containment}
 use Rattle.it_question.proofs.NameTraces.{spell_word, word_traces, names_line_traces}
 use Rattle.it_question.proofs.LineTraces.{lines_traces}
+use Rattle.it_question.proofs.RegionAnswers.{spell_bounds, spell_contained}
 use Rattle.it_question.proofs.TryTraces.{tries_traces}
 
 -- ---- regions
@@ -41,15 +42,12 @@ parts_traces g r v = traces_bind (read_names_line Variable (auxiliaries_left v) 
     (record { is = λ ls. refl; spells = λ y z k. refl; value = λ y z. refl; some = []; first = names_line_traces Variable (auxiliaries_left v) aux_text v; second = λ names. traces_map (read_lines g r names) (bounded_by v names) (spell_own g r names) (own_of names) (lines_traces g r names) })
 
 -- a region behind its word `region`
-abbrev pub spell_behind_region : ℕ → ℕ → Vocabulary → WrittenRegion → Marked → Marked
-spell_behind_region g r v x k = clean End ∷ spell_names_line Variable (auxiliaries_left v) aux_text v x.auxiliaries (spell_own g r (names_line_of Variable v x.auxiliaries) x.own k)
-
 abbrev region_made : Unit {0} → Parts → WrittenRegion
 region_made u x = record { auxiliaries = x.0; own = x.1 }
 
-pub region_traces : (g r : ℕ) (v : Vocabulary) → Traces (read_region g r v) (spell_behind_region g r v) (region_of v)
+pub region_traces : (g r : ℕ) (v : Vocabulary) → Traces (read_region g r v) (spell_bounds g r v) (region_of v)
 unfolding read_region spell_end nothing
-region_traces g r v = traces_bind line_end (λ u. read_parts g r v) (read_region g r v) spell_end (λ u. spell_parts g r v) (spell_behind_region g r v) nothing (λ u. parts_of v) (region_of v) region_made
+region_traces g r v = traces_bind line_end (λ u. read_parts g r v) (read_region g r v) spell_end (λ u. spell_parts g r v) (spell_bounds g r v) nothing (λ u. parts_of v) (region_of v) region_made
     (record { is = λ ls. refl; spells = λ y z k. refl; value = λ y z. refl; some = (None, []); first = end_traces; second = λ u. parts_traces g r v })
 
 -- ---- a line of one word
@@ -93,13 +91,13 @@ abbrev from_second : ℕ → ℕ → Vocabulary → Bounded → List Letter → 
 from_second g r v first ls = read_region g r v ls >>= λ second. behind_second v first second.0 second.1
 
 abbrev spell_second : ℕ → ℕ → Vocabulary → Bounded → Second → Marked → Marked
-spell_second g r v first x k = spell_behind_region g r v x.0 (spell_behind_second v first (region_of v x.0) x.1 k)
+spell_second g r v first x k = spell_bounds g r v x.0 (spell_behind_second v first (region_of v x.0) x.1 k)
 
 abbrev second_of : Vocabulary → Bounded → Second → Aim
 second_of v first x = behind_second_of v first (region_of v x.0) x.1
 
 from_second_traces : (g r : ℕ) (v : Vocabulary) (first : Bounded) → Traces (from_second g r v first) (spell_second g r v first) (second_of v first)
-from_second_traces g r v first = traces_bind (read_region g r v) (behind_second v first) (from_second g r v first) (spell_behind_region g r v) (spell_behind_second v first) (spell_second g r v first) (region_of v) (behind_second_of v first) (second_of v first) (λ x xs. (x, xs))
+from_second_traces g r v first = traces_bind (read_region g r v) (behind_second v first) (from_second g r v first) (spell_bounds g r v) (spell_behind_second v first) (spell_second g r v first) (region_of v) (behind_second_of v first) (second_of v first) (λ x xs. (x, xs))
     (record { is = λ ls. refl; spells = λ y z k. refl; value = λ y z. refl; some = []; first = region_traces g r v; second = behind_second_traces v first })
 
 some_second : Second
@@ -120,13 +118,10 @@ behind_first_traces g r v first =
     (record { is = λ ls. refl; spells = λ y z k. refl; value = λ y z. refl; some = some_second; first = word_traces region_text; second = λ u. from_second_traces h s v first })
 
 -- a containment question behind its first word `region`
-abbrev pub spell_behind_containment : ℕ → ℕ → Vocabulary → WrittenContainment → Marked → Marked
-spell_behind_containment g r v x k = spell_behind_region g r v x.first (spell_behind_first g r v (region_of v x.first) (x.second, x.tries) k)
-
 abbrev containment_made : WrittenRegion → Second → WrittenContainment
 containment_made x y = record { first = x; second = y.0; tries = y.1 }
 
-pub containment_traces : (g r : ℕ) (v : Vocabulary) → Traces (read_containment g r v) (spell_behind_containment g r v) (containment_of v)
+pub containment_traces : (g r : ℕ) (v : Vocabulary) → Traces (read_containment g r v) (spell_contained g r v) (containment_of v)
 unfolding read_containment
-containment_traces g r v = traces_bind (read_region g r v) (behind_first g r v) (read_containment g r v) (spell_behind_region g r v) (spell_behind_first g r v) (spell_behind_containment g r v) (region_of v) (second_of v) (containment_of v) containment_made
+containment_traces g r v = traces_bind (read_region g r v) (behind_first g r v) (read_containment g r v) (spell_bounds g r v) (spell_behind_first g r v) (spell_contained g r v) (region_of v) (second_of v) (containment_of v) containment_made
     (record { is = λ ls. refl; spells = λ y z k. refl; value = λ y z. refl; some = some_second; first = region_traces g r v; second = behind_first_traces g r v })

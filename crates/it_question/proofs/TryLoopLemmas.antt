@@ -129,7 +129,3 @@ tries_end n aux env sets front ls whole h e = sym h ∙ ap (with_tries front) (t
   where
     ok_tries : Tries → List Letter → Reads Tries
     ok_tries t ls = Ok (t, ls)
-
-pub nothing_before : (r : Reads Tries) → with_tries [] r ≡ r
-nothing_before (Ok x) = refl
-nothing_before (Err e) = refl

@@ -8,7 +8,7 @@ use Rattle.it_syntax.specs.Reading.{Fault, Reads}
 use Rattle.it_syntax.proofs.Traces.{Why, Went, Stuck, By, Traces, cleaned_append}
 use Rattle.it_syntax.proofs.SpelledIsRead.{Answers, Marks}
 
-letters_append : (m n : Marked) → letters (m ++ n) ≡ letters m ++ letters n
+pub letters_append : (m n : Marked) → letters (m ++ n) ≡ letters m ++ letters n
 letters_append [] n = refl
 letters_append (x ∷ m) n = ap (λ (t : List Letter). x.0 ∷ t) (letters_append m n)
 

@@ -10,7 +10,6 @@ pub mod FirstFaults
 pub mod LineEnd
 pub mod LimitLemmas
 pub mod SpanLemmas
-pub mod WordLengths
 pub mod ComparisonTraces
 pub mod ComparisonAnswers
 pub mod LineLemmas

@@ -71,7 +71,7 @@ says_or_faulty spell value ls r c y s f =
 
 -- ---- places
 
-until_length : (line : List ℕ) (ts : List Token) (last : Letter) → length (letters_until line ts last) ≡ suc (length ts)
+pub until_length : (line : List ℕ) (ts : List Token) (last : Letter) → length (letters_until line ts last) ≡ suc (length ts)
 until_length line [] last = refl
 until_length line (t ∷ ts) last = ap suc (until_length line ts last)
 

@@ -44,7 +44,7 @@ comma_more env (Sym s ∷ ls) = refl
 comma_more env (End ∷ ls) = refl
 comma_more env (Bad c ∷ ls) = refl
 
-comma_is : (ls t : List Letter) → after_comma ls ≡ Some t → ls ≡ Sym Comma ∷ t
+pub comma_is : (ls t : List Letter) → after_comma ls ≡ Some t → ls ≡ Sym Comma ∷ t
 comma_is (Sym Comma ∷ ls) t e = cc
 comma_is ls t e = absurd cc
 

@@ -1,10 +1,10 @@
 -- Tokens lie in their line.
-use Rattle.std.proofs.Common.{◌≡◌, ℕ, zero, suc, ◌+◌, ◌-◌, ◌<◌, ◌≤◌, List, [], ◌∷◌, ◌++◌, length, drop, ap, ◌∙◌, arith, length-append}
+use Rattle.std.proofs.Common.{◌≡◌, ℕ, zero, suc, ◌<◌, ◌≤◌, List, [], ◌∷◌, length, drop, arith}
 use Rattle.std.proofs.Math.ListN.{get_or}
 use Rattle.it_syntax.specs.declared.types.Token.{Token}
 use Rattle.it_syntax.specs.declared.types.TokenKind.{TokenKind}
 use Rattle.it_syntax.specs.declared.types.TokenKind.TheVariants as kinds
-use Rattle.it_syntax.specs.Spelling.{Spells, IsText, StartsWith, is_letter}
+use Rattle.it_syntax.specs.Spelling.{IsText, StartsWith, is_letter}
 use Rattle.it_syntax.specs.Spans.{IsLength, InLine}
 
 some_first : (text : List ℕ) → StartsWith is_letter text → 1 ≤ length text
@@ -16,18 +16,6 @@ pub text_length : (k : TokenKind) (text : List ℕ) (n : ℕ) → n ≡ length t
 text_length kinds.Word text n e t = (omega (arith, e, some_first text t.0), omega (arith, e, t.2))
 text_length (kinds.Number v) text n e t = tt
 text_length (kinds.Symbol s) text n e t = tt
-
-spans_within : (line : List ℕ) (at : ℕ) (bytes : List ℕ) (ts : List Token) → at + length bytes ≡ length line → Spells at bytes ts → InLine line ts
-spans_within line at bytes [] e h = tt
-spans_within line at bytes (t ∷ ts) e h =
-    let c = h.1 in
-    let total : length bytes ≡ length c.gap + (length c.text + length h.0) = ap length c.whole ∙ length-append c.gap (c.text ++ h.0) ∙ ap (λ (n : ℕ). length c.gap + n) (length-append c.text h.0) in
-    let end : t.end + length h.0 ≡ length line = omega (arith, c.start, c.end, total, e) in
-    ((omega (arith, c.end), omega (arith, end)), text_length t.kind c.text (t.end - t.start) (omega (arith, c.end)) c.spelled, spans_within line t.end h.0 ts end h.2)
-
--- the tokens of a line lie in it
-pub spelled_in_line : (line : List ℕ) (ts : List Token) → Spells 0 line ts → InLine line ts
-spelled_in_line line ts h = spans_within line 0 line ts (omega arith) h
 
 pub in_line_drop : (line : List ℕ) (ts : List Token) (n : ℕ) → InLine line ts → InLine line (drop n ts)
 in_line_drop line [] zero h = tt

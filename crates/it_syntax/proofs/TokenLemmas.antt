@@ -1,14 +1,14 @@
--- The tokens of a line: one token, and no other, stands in front, so a line has one reading.
-use Rattle.std.proofs.Common.{◌≡◌, ℕ, zero, suc, ◌+◌, ◌-◌, ◌<◌, ◌≤◌, ◌^◌, Bool, true, false, cond, ◌&&◌, List, [], ◌∷◌, ◌++◌, length, take, drop, Some, refl, ap, sym, subst, ◌∙◌, arith, length-take, length-drop, inl, inr, ◌⊎◌, append_assoc, length-append}
+-- The tokens of a line: one token, and no other, stands in front.
+use Rattle.std.proofs.Common.{◌≡◌, ℕ, zero, suc, ◌+◌, ◌-◌, ◌<◌, ◌≤◌, ◌^◌, Bool, true, false, cond, ◌&&◌, List, [], ◌∷◌, ◌++◌, length, take, drop, Some, refl, ap, sym, subst, ◌∙◌, arith, length-take, length-drop, inl, inr, ◌⊎◌, length-append}
 use Rattle.std.specs.Prelude.{◌==◌}
-use Rattle.std.proofs.lemmas.List.{append-nil, take_at, drop_at, take-append-drop}
+use Rattle.std.proofs.lemmas.List.{take_at, drop_at, take-append-drop}
 use Rattle.std.proofs.lemmas.Bool.Decides.{Decides-eqb, eqb_tells, nat_tests}
 use Rattle.it_syntax.specs.declared.types.Symbol.{Symbol}
 use Rattle.it_syntax.specs.declared.types.Symbol.TheVariants.{LeftParen, RightParen, Comma, Semicolon, Bar, Plus, Minus, Arrow, AtLeast, AtMost, Equal, Assign}
 use Rattle.it_syntax.specs.declared.types.TokenKind.{TokenKind}
 use Rattle.it_syntax.specs.declared.types.TokenKind.TheVariants as kinds
 use Rattle.it_syntax.specs.declared.types.Token.{Token}
-use Rattle.it_syntax.specs.Spelling.{is_letter, is_digit, is_word_byte, is_space, is_greater, AreAll, StartsWith, Stops, IsText, Ends, Cut, Spells, symbol_text, value_from}
+use Rattle.it_syntax.specs.Spelling.{is_letter, is_digit, is_word_byte, is_space, is_greater, AreAll, StartsWith, Stops, IsText, Ends, Cut, symbol_text, value_from}
 use Rattle.it_syntax.specs.Fronts.{Run, Shape, symbol_of, starts_with, find_symbol}
 
 -- ---- runs
@@ -36,7 +36,7 @@ run_all f (x ∷ xs) (suc g) h le = (h.0, run_all f xs g h.1 (omega arith))
 -- ---- first bytes
 
 -- a kind of bytes that has not this byte
-other_byte : (f : ℕ → Bool) (c : ℕ) → f c ≡ false → (b : ℕ) → f b ≡ true → (b == c) ≡ false
+pub other_byte : (f : ℕ → Bool) (c : ℕ) → f c ≡ false → (b : ℕ) → f b ≡ true → (b == c) ≡ false
 other_byte f c no_c b h =
     elim (eqb_tells b c) [
       | inl e ↦ let same = e.1 in let k : f c ≡ true = subst (λ (x : ℕ). f x ≡ true) same h in absurd cc
@@ -305,12 +305,7 @@ shape_some k n body h = some k n (take n body) (shape_text k n body h).0 (omega 
         symbol_some Equal = omega arith
         symbol_some Assign = omega arith
 
--- ---- the loop
-
--- the tokens so far, and those that are left
-pub record UnderWay (line : List ℕ) (so_far : List Token) (at : ℕ) (rest : List ℕ) : Type 0 where
-  pub on : (ts : List Token) → Spells at rest ts → Spells 0 line (so_far ++ ts)
-  pub back : (ts : List Token) → Spells 0 line ts → (us : List Token) × ((ts ≡ so_far ++ us) × Spells at rest us)
+-- ---- no token in front
 
 -- spaces alone have no token in front
 pub blank_none : (at g : ℕ) (rest : List ℕ) (t : Token) (r : List ℕ) → Run is_space rest g → Cut at rest t r → AreAll is_space rest → ⊥
@@ -318,38 +313,6 @@ blank_none at g rest t r run c h =
     let f = found_of at g rest t r run c in
     let e = run_once is_space rest g (length rest) run (blank_run is_space rest h) in
     omega (arith, length-drop g rest, e, shape_some t.kind (t.end - t.start) (drop g rest) f.shape, (shape_text t.kind (t.end - t.start) (drop g rest) f.shape).1.1)
-
--- the tokens of bytes that have one in front
-first_token : (at g n : ℕ) (rest : List ℕ) (t : Token) → Run is_space rest g → Cut at rest t (drop n (drop g rest)) → (us : List Token) → Spells at rest us → (vs : List Token) × ((us ≡ t ∷ vs) × Spells t.end (drop n (drop g rest)) vs)
-first_token at g n rest t run c [] h = absurd (blank_none at g rest t (drop n (drop g rest)) run c h)
-first_token at g n rest t run c (u ∷ us) h =
-    let one = one_cut at rest g t u (drop n (drop g rest)) h.0 run c h.1 in
-    (us, (ap (λ (v : Token). v ∷ us) (sym one.0), subst (λ (r : List ℕ). Spells t.end r us) (sym one.1) (subst (λ (v : Token). Spells v.end h.0 us) (sym one.0) h.2)))
-
--- one more token
-pub under_way_more : (line : List ℕ) (so_far : List Token) (at g n : ℕ) (rest : List ℕ) (t : Token) → Run is_space rest g → Shape t.kind n (drop g rest) → t.start ≡ at + g → t.end ≡ t.start + n
-    → UnderWay line so_far at rest → UnderWay line (so_far ++ t ∷ []) t.end (drop n (drop g rest))
-under_way_more line so_far at g n rest t run shape start end w =
-    let c = cut_made at g n rest t run shape start end in
-    record {
-      on = λ ts h. subst (λ (us : List Token). Spells 0 line us) (sym (append_assoc so_far (t ∷ []) ts)) (w.on (t ∷ ts) (drop n (drop g rest), c, h));
-      back = λ ts h. let b = w.back ts h in let f = first_token at g n rest t run c b.0 b.1.1 in
-          (f.0, (b.1.0 ∙ ap (λ (us : List Token). so_far ++ us) f.1.0 ∙ sym (append_assoc so_far (t ∷ []) f.0), f.1.1));
-    }
-
--- no token in front, and yet bytes
-pub no_tokens : (line : List ℕ) (so_far : List Token) (at g : ℕ) (rest : List ℕ) → Run is_space rest g → 0 < length (drop g rest) → ((k : TokenKind) (n : ℕ) → Shape k n (drop g rest) → ⊥) → UnderWay line so_far at rest → (ts : List Token) → Spells 0 line ts → ⊥
-no_tokens line so_far at g rest run some none w ts h = no_front at g rest run some none (w.back ts h).0 (w.back ts h).1.1
-  where
-    no_front : (at g : ℕ) (rest : List ℕ) → Run is_space rest g → 0 < length (drop g rest) → ((k : TokenKind) (n : ℕ) → Shape k n (drop g rest) → ⊥) → (us : List Token) → Spells at rest us → ⊥
-    no_front at g rest run some none [] h =
-        let e = run_once is_space rest g (length rest) run (blank_run is_space rest h) in
-        omega (arith, length-drop g rest, e, some)
-    no_front at g rest run some none (u ∷ us) h = none u.kind (u.end - u.start) (found_of at g rest u h.0 run h.1).shape
-
--- nothing but spaces is left
-pub whole_line : (line : List ℕ) (so_far : List Token) (at g : ℕ) (rest : List ℕ) → Run is_space rest g → length (drop g rest) ≡ 0 → UnderWay line so_far at rest → Spells 0 line so_far
-whole_line line so_far at g rest run e w = subst (λ (ts : List Token). Spells 0 line ts) (append-nil so_far) (w.on [] (run_all is_space rest g run.all (omega (arith, length-drop g rest, e))))
 
 -- a word past the limit in front, and yet no token
 pub word_long : (n : ℕ) (body : List ℕ) → StartsWith is_letter body → Run is_word_byte body n → 16 < n → (k : TokenKind) (m : ℕ) → Shape k m body → ⊥
@@ -367,20 +330,7 @@ number_large n body h r le (kinds.Symbol x) m s = no_digit x _ (first_letter is_
 pub empty_len : (n : ℕ) → true ≡ (n == 0) → n ≡ 0
 empty_len n e = (Decides-eqb n 0).0 (sym e)
 
-pub some_len : (n : ℕ) → false ≡ (n == 0) → 0 < n
-some_len zero e = absurd cc
-some_len (suc n) e = omega arith
-
--- ---- one reading
+-- ---- the spaces in front
 
 pub gap_run : (at : ℕ) (bytes : List ℕ) (t : Token) (rest : List ℕ) (c : Cut at bytes t rest) → Run is_space bytes (length c.gap)
 gap_run at bytes t rest c = subst (λ (b : List ℕ). Run is_space b (length c.gap)) (sym c.whole) (run_of_text is_space c.gap (c.text ++ rest) c.blank (text_stops t.kind c.text rest c.spelled))
-
-one_tokens : (at : ℕ) (bytes : List ℕ) (ts us : List Token) → Spells at bytes ts → Spells at bytes us → ts ≡ us
-one_tokens at bytes [] [] h k = refl
-one_tokens at bytes [] (u ∷ us) h k = absurd (blank_none at (length k.1.gap) bytes u k.0 (gap_run at bytes u k.0 k.1) k.1 h)
-one_tokens at bytes (t ∷ ts) [] h k = absurd (blank_none at (length h.1.gap) bytes t h.0 (gap_run at bytes t h.0 h.1) h.1 k)
-one_tokens at bytes (t ∷ ts) (u ∷ us) h k =
-    let one = one_cut at bytes (length h.1.gap) t u h.0 k.0 (gap_run at bytes t h.0 h.1) h.1 k.1 in
-    let rest : Spells t.end h.0 us = subst (λ (r : List ℕ). Spells t.end r us) (sym one.1) (subst (λ (v : Token). Spells v.end k.0 us) (sym one.0) k.2) in
-    ap (λ (v : Token). v ∷ ts) one.0 ∙ ap (λ (vs : List Token). u ∷ vs) (one_tokens t.end h.0 ts us h.2 rest)

@@ -20,10 +20,6 @@ abbrev pub letters_until : List ℕ → List Token → Letter → List Letter
 letters_until line [] last = last ∷ []
 letters_until line (t ∷ ts) last = letter_of line t.start t.end t.kind ∷ letters_until line ts last
 
--- the tokens, and then the line's end
-abbrev pub letters_of : List ℕ → List Token → List Letter
-letters_of line ts = letters_until line ts End
-
 -- what stands behind the tokens
 abbrev pub last_letter : Option Misspelling → Letter
 last_letter None = End

@@ -81,8 +81,3 @@ pub record Cut (at : ℕ) (bytes : List ℕ) (t : Token) (rest : List ℕ) : Typ
   pub ends : Ends t.kind rest
   pub start : t.start ≡ at + length gap
   pub end : t.end ≡ t.start + length text
-
--- The bytes from column `at` on are these tokens, and spaces.
-abbrev pub Spells : ℕ → List ℕ → List Token → Type 0
-Spells at bytes [] = AreAll is_space bytes
-Spells at bytes (t ∷ ts) = (rest : List ℕ) × Cut at bytes t rest × Spells t.end rest ts
