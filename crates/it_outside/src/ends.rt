@@ -1,3 +1,4 @@
+//! Sources and sinks, as the program sees them.
 ghost use Rattle.std.specs.Prelude.{ℕ, List, ◌<◌, length, Option, IfOk};
 ghost use Rattle.std.specs.Io.{ReadsAtMost, WritesAtMost};
 ghost use Rattle.std.specs.Io.KnownBytes.{ReadConsumes};

@@ -1,3 +1,4 @@
+//! Laws of sources that tell their bytes.
 ghost use Rattle.it_outside.specs.Laws.{EndComesLast, MoreWasThere};
 
 /// The law that a source that tells its bytes gave all of them, where it gave them up to its end.

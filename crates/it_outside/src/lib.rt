@@ -5,6 +5,7 @@ mod ends;
 pub mod laws;
 mod memory;
 mod standard;
+mod streams;
 #[cfg(test)]
 mod tests;
 mod whole;
@@ -12,4 +13,5 @@ mod whole;
 pub use ends::{Failed, Sink, Source};
 pub use memory::{MemorySink, MemorySource};
 pub use standard::{StdSink, StdSource};
+pub use streams::{Reader, Writer};
 pub use whole::{InFault, OutFault, read_all, write_all};

@@ -1,22 +1,24 @@
-ghost use Rattle.std.specs.Prelude.{◌≡◌, ◌<◌, length, None, IfOk};
+//! Adapters: sources over readers, and sinks over writers.
+ghost use Rattle.std.specs.Prelude.{◌≡◌, ◌<◌, length, nat_eq, None, IfOk};
 ghost use Rattle.std.specs.Io.{ReadsAtMost, WritesAtMost};
 ghost use Rattle.std.specs.Io.KnownBytes.{ReadConsumes};
 ghost use Rattle.it_outside.specs.Causes.{HasCause};
-ghost use Rattle.it_outside.specs.Standard.{PassesOn, faults_after};
+ghost use Rattle.it_outside.specs.Standard.{PassesOn, ReadsOnce, WritesAndFlushes, faults_after, read_answer, write_answer};
 ghost use Rattle.it_outside.specs.Traffic.{WriteGains};
 
 use crate::ends::{Failed, Sink, Source};
-use std::io::{Read, Write};
+use crate::streams::{Reader, Writer};
+use std::io;
 use std::marker::Model;
 
 /// A source over any reader. It doesn't tell its bytes.
 #[derive(Drop)]
-pub struct StdSource<R: Read + Drop> {
+pub struct StdSource<R: Reader + Drop> {
     reader: R,
     faults: u64,
 }
 
-impl<R: Read + Drop> Model for StdSource<R> {
+impl<R: Reader + Drop> Model for StdSource<R> {
     ghost use Rattle.it_outside.specs.Standard.{Adapter};
 
     ghost Value = { Adapter R };
@@ -24,7 +26,8 @@ impl<R: Read + Drop> Model for StdSource<R> {
     ghost view = { λ s. record { inner = s.reader; faults = s.faults } };
 }
 
-impl<R: Read + Drop> StdSource<R> {
+impl<R: Reader + Drop> StdSource<R> {
+    /// A source over this reader, before its first call.
     pub fn new(reader: R) -> StdSource<R>
         ensures { result ≡ record { inner = reader; faults = 0 } }
     {
@@ -32,7 +35,24 @@ impl<R: Read + Drop> StdSource<R> {
     }
 }
 
-impl<R: Read + Drop> Source for StdSource<R> {
+/// The count of faults after a call with this answer.
+fn faults_after(faults: u64, answer: &Result<usize, Failed>) -> u64
+    ensures { result ≡ faults_after faults answer.now }
+{
+    match answer {
+        Ok(_) => faults,
+        Err(Failed) => faults.saturating_add(1),
+    }
+}
+
+/// The answer to a read with this outcome.
+fn read_answer(outcome: io::Result<usize>) -> Result<usize, Failed>
+    ensures { result ≡ read_answer outcome }
+{
+    outcome.map_err(|_| Failed)
+}
+
+impl<R: Reader + Drop> Source for StdSource<R> {
     ghost left = { λ _. None };
 
     ghost faults = { λ s. s.faults };
@@ -43,29 +63,27 @@ impl<R: Read + Drop> Source for StdSource<R> {
         ensures bytes { ReadConsumes None None result buf.new }
         ensures cause { HasCause self.old.faults self.new.faults result }
 
-        // What is given is what the reader gave.
+        // The reader was called once. What is given is what it gave, and the read fails exactly where it failed.
+        ensures once { ReadsOnce R.Reads self.old.inner result buf.new self.new.inner }
         ensures handed_on { ReadConsumes (R.remaining self.old.inner) (R.remaining self.new.inner) result
             buf.new }
         ensures counted { self.new.faults ≡ faults_after self.old.faults result }
     {
-        match self.reader.read(buf) {
-            Ok(count) => Ok(count),
-            Err(_) => {
-                self.faults = self.faults.saturating_add(1);
-                Err(Failed)
-            }
-        }
+        let outcome = self.reader.read_once(buf);
+        let result = read_answer(outcome);
+        self.faults = faults_after(self.faults, &result);
+        result
     }
 }
 
 /// A sink over any writer, which is flushed after each write. It doesn't tell its bytes.
 #[derive(Drop)]
-pub struct StdSink<W: Write + Drop> {
+pub struct StdSink<W: Writer + Drop> {
     writer: W,
     faults: u64,
 }
 
-impl<W: Write + Drop> Model for StdSink<W> {
+impl<W: Writer + Drop> Model for StdSink<W> {
     ghost use Rattle.it_outside.specs.Standard.{Adapter};
 
     ghost Value = { Adapter W };
@@ -73,7 +91,8 @@ impl<W: Write + Drop> Model for StdSink<W> {
     ghost view = { λ s. record { inner = s.writer; faults = s.faults } };
 }
 
-impl<W: Write + Drop> StdSink<W> {
+impl<W: Writer + Drop> StdSink<W> {
+    /// A sink over this writer, before its first call.
     pub fn new(writer: W) -> StdSink<W>
         ensures { result ≡ record { inner = writer; faults = 0 } }
     {
@@ -81,30 +100,25 @@ impl<W: Write + Drop> StdSink<W> {
     }
 }
 
-/// Writes and flushes. It fails where one of them does, or where nothing was taken of a piece that has a byte.
-fn write_through<W: Write + Drop>(writer: &mut W, piece: &[u8]) -> Result<usize, Failed>
-    ensures bound { WritesAtMost result piece.now }
-    ensures moves { IfOk result (λ count. 0 < length piece.now → 0 < count) }
-    ensures bytes { PassesOn (W.contents writer.old) (W.contents writer.new) result piece.now }
+/// The answer to a write and a flush with these outcomes, of a piece that is empty or not.
+fn write_answer(
+    written: io::Result<usize>,
+    is_empty: bool,
+    flushed: io::Result<()>,
+) -> Result<usize, Failed>
+    ensures { result ≡ write_answer written is_empty flushed }
 {
-    let Ok(count) = writer.write(piece) else {
-        return Err(Failed);
-    };
-    if count == 0 && !piece.is_empty() {
-        return Err(Failed);
-    }
-    match writer.flush() {
-        Ok(()) => Ok(count),
-        Err(_) => Err(Failed),
+    match (written, flushed) {
+        (Ok(count), Ok(())) if count > 0 || is_empty => Ok(count),
+        _ => Err(Failed),
     }
 }
 
-impl<W: Write + Drop> Sink for StdSink<W> {
+impl<W: Writer + Drop> Sink for StdSink<W> {
     ghost taken = { λ _. None };
 
     ghost faults = { λ s. s.faults };
 
-    /// A write that takes nothing of a piece that has a byte counts as failed.
     #[tactic(auto, unfolding(crate::specs::Causes::Rose))]
     fn write(&mut self, piece: &[u8]) -> Result<usize, Failed>
         ensures bound { WritesAtMost result piece.now }
@@ -112,14 +126,17 @@ impl<W: Write + Drop> Sink for StdSink<W> {
         ensures bytes { WriteGains None None result piece.now }
         ensures cause { HasCause self.old.faults self.new.faults result }
 
-        // What is taken is handed to the writer, which may take a front of the piece in a write that fails.
+        // The writer was called once and then flushed, and the write fails exactly where one of them failed or nothing was
+        // taken of a piece that has a byte. The writer may have taken a front of the piece in a write that fails.
+        ensures once { WritesAndFlushes W.Writes W.Flushes (nat_eq (length piece.now) 0) self.old.inner piece.now
+            result self.new.inner }
         ensures handed_on { PassesOn (W.contents self.old.inner) (W.contents self.new.inner) result piece.now }
         ensures counted { self.new.faults ≡ faults_after self.old.faults result }
     {
-        let result = write_through(&mut self.writer, piece);
-        if result.is_err() {
-            self.faults = self.faults.saturating_add(1);
-        }
+        let written = self.writer.write_once(piece);
+        let flushed = self.writer.flush_once();
+        let result = write_answer(written, piece.is_empty(), flushed);
+        self.faults = faults_after(self.faults, &result);
         result
     }
 }

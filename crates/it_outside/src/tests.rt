@@ -1,3 +1,6 @@
+//! Each public call once, with calls that fail at the read, the write and the flush.
+ghost use Rattle.std.specs.Prelude.{◌≡◌, IfOk};
+
 use crate::{InFault, MemorySink, MemorySource, OutFault, StdSink, StdSource, read_all, write_all};
 use std::io;
 use std::io::{ErrorKind, Read, Write};
@@ -61,35 +64,62 @@ fn room_is_what_was_reserved_and_not_yet_taken(rt: HostRuntime) -> Result<(), Fa
     Ok(())
 }
 
-/// A reader that gives one byte and then fails, and a writer that takes one byte at a time and counts.
+/// A reader and writer of one byte a call. It counts its calls of each kind, from 1, and fails at one of them, or at none
+/// where that is 0.
 #[derive(Drop)]
 struct Trial {
-    calls: u32,
+    reads: u32,
+    writes: u32,
     flushes: u32,
+    failing_read: u32,
+    failing_write: u32,
+    failing_flush: u32,
+}
+
+impl Trial {
+    fn new(failing_read: u32, failing_write: u32, failing_flush: u32) -> Trial {
+        Trial {
+            reads: 0,
+            writes: 0,
+            flushes: 0,
+            failing_read,
+            failing_write,
+            failing_flush,
+        }
+    }
+}
+
+/// The outcome of a call with this number.
+fn outcome<T: Drop>(value: T, call: u32, failing: u32) -> io::Result<T>
+    ensures { IfOk result (λ given. given ≡ value) }
+{
+    if call == failing {
+        Err(ErrorKind::Other.into())
+    } else {
+        Ok(value)
+    }
 }
 
 impl Read for Trial {
     fn read(&mut self, buf: &mut [u8]) -> io::Result<usize> {
-        self.calls = self.calls.saturating_add(1);
-        match buf.first_mut() {
-            Some(byte) if self.calls == 1 => {
-                *byte = b'a';
-                Ok(1)
-            }
-            _ => Err(ErrorKind::Other.into()),
-        }
+        self.reads = self.reads.saturating_add(1);
+        let Some(byte) = buf.first_mut() else {
+            return Ok(0);
+        };
+        *byte = b'a';
+        outcome(1, self.reads, self.failing_read)
     }
 }
 
 impl Write for Trial {
     fn write(&mut self, buf: &[u8]) -> io::Result<usize> {
-        self.calls = self.calls.saturating_add(1);
-        Ok(buf.len().min(1))
+        self.writes = self.writes.saturating_add(1);
+        outcome(buf.len().min(1), self.writes, self.failing_write)
     }
 
     fn flush(&mut self) -> io::Result<()> {
         self.flushes = self.flushes.saturating_add(1);
-        Ok(())
+        outcome((), self.flushes, self.failing_flush)
     }
 }
 
@@ -107,31 +137,37 @@ fn adapters_pass_on_what_they_stand_over(rt: HostRuntime) -> Result<(), Fail> {
 }
 
 #[test]
-fn adapters_fail_with_what_they_stand_over(rt: HostRuntime) -> Result<(), Fail> {
-    let alloc = rt.alloc();
-    let mut trial = Trial {
-        calls: 0,
-        flushes: 0,
-    };
-    let mut source = StdSource::new(&mut trial);
-    let read = read_all(alloc, &mut source, 9);
+fn a_source_fails_where_its_reader_does(rt: HostRuntime) {
+    let mut trial = Trial::new(2, 0, 0);
+    let read = read_all(rt.alloc(), &mut StdSource::new(&mut trial), 9);
     assert!(rt; matches!(read, Err(InFault::ReadFault)));
-    assert_eq!(rt; trial.calls, 2);
+    assert_eq!(rt; trial.reads, 2);
+}
 
+#[test]
+fn a_sink_fails_where_its_writer_does(rt: HostRuntime) {
+    // the write that fails, the flush that fails, and how many of both were made of a line of 19 bytes
+    let cases: [(u32, u32, Result<(), OutFault>, u32); 4] = [
+        (0, 0, Ok(()), 19),
+        (3, 0, Err(OutFault::WriteFault), 3),
+        (0, 3, Err(OutFault::WriteFault), 3),
+        (0, 1, Err(OutFault::WriteFault), 1),
+    ];
+    for (i, (failing_write, failing_flush, want, calls)) in cases.iter().enumerate() {
+        let mut trial = Trial::new(0, *failing_write, *failing_flush);
+        assert_eq!(rt;
+            write_all(&mut StdSink::new(&mut trial), LINE),
+            *want,
+            "case {i}"
+        );
+        assert_eq!(rt; (trial.writes, trial.flushes), (*calls, *calls), "case {i}");
+    }
+}
+
+#[test]
+fn a_sink_fails_where_nothing_was_taken(rt: HostRuntime) {
     let mut two = [0; 2];
     let mut sink = StdSink::new(&mut two[..]);
     assert_eq!(rt; write_all(&mut sink, b"abc"), Err(OutFault::WriteFault));
     assert_eq!(rt; two.as_slice(), b"ab".as_slice());
-    Ok(())
-}
-
-#[test]
-fn each_write_is_flushed(rt: HostRuntime) {
-    let mut trial = Trial {
-        calls: 0,
-        flushes: 0,
-    };
-    let mut sink = StdSink::new(&mut trial);
-    assert_eq!(rt; write_all(&mut sink, LINE), Ok(()));
-    assert_eq!(rt; (trial.calls, trial.flushes), (19, 19));
 }
