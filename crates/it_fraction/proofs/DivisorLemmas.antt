@@ -2,7 +2,7 @@
 use Rattle.std.proofs.Common.{◌≡◌, ℕ, ℤ, pos, ◌*ℤ◌, ◌*◌, ◌/◌, ◌<◌, ◌^◌, bit_or, arith, ◌⊎◌, inl, inr, sym, ap, refl, [], ◌∷◌, ◌∙◌, unsigned_abs}
 use Rattle.std.proofs.lemmas.Nat.{le_or_l, le_or_r}
 use Rattle.std.specs.Int.{IsGcd}
-use Rattle.it_number.specs.Division.{over}
+use Rattle.it_number.specs.Division.{int_quotient}
 use Rattle.it_number.specs.Gcd.{gcd, lcm}
 use Rattle.it_number.specs.Limit.{IsWithin}
 use Rattle.it_number.proofs.Divisors.{gcd-one, one-gcd, gcd-pos, gcd_is, coprime_rest, gcd_below, lcm-over}
@@ -33,19 +33,19 @@ module _ (n : ℤ) (d g : ℕ) (h : 0 < d) (e : g ≡ gcd (unsigned_abs n) d) wh
   pub reduced-some : 0 < d / g
   reduced-some = rest_pos d g is.1 h
 
-  pub reduced-lowest : IsGcd (unsigned_abs (over n g)) (d / g) 1
+  pub reduced-lowest : IsGcd (unsigned_abs (int_quotient n g)) (d / g) 1
   reduced-lowest = rw (abs-over n g) (coprime_rest (unsigned_abs n) d g (rw e (gcd-pos (unsigned_abs n) d h)) is)
 
-  pub reduced-is : quotient (over n g) (d / g) ≡ quotient n d
+  pub reduced-is : quotient (int_quotient n g) (d / g) ≡ quotient n d
   reduced-is =
-      quotient_is (over n g) (over n g) (d / g) (d / g) reduced-some reduced-some reduced-lowest refl
-      ∙ sym (quotient_is (over n g) n (d / g) d h reduced-some reduced-lowest across)
+      quotient_is (int_quotient n g) (int_quotient n g) (d / g) (d / g) reduced-some reduced-some reduced-lowest refl
+      ∙ sym (quotient_is (int_quotient n g) n (d / g) d h reduced-some reduced-lowest across)
     where
       law : (x p g : ℤ) → x *ℤ (p *ℤ g) ≡ (x *ℤ g) *ℤ p
       law x p g = ring ring_ℤ (x ∷ p ∷ g ∷ []) (times (v 0) (times (v 1) (v 2))) (times (times (v 0) (v 2)) (v 1)) refl
 
-      across : over n g *ℤ pos d ≡ n *ℤ pos (d / g)
-      across = ap (λ (m : ℕ). over n g *ℤ pos m) (sym (div-mul_cancel g is.1)) ∙ law (over n g) (pos (d / g)) (pos g) ∙ ap (λ z. z *ℤ pos (d / g)) (over_back n g is.0)
+      across : int_quotient n g *ℤ pos d ≡ n *ℤ pos (d / g)
+      across = ap (λ (m : ℕ). int_quotient n g *ℤ pos m) (sym (div-mul_cancel g is.1)) ∙ law (int_quotient n g) (pos (d / g)) (pos g) ∙ ap (λ z. z *ℤ pos (d / g)) (over_back n g is.0)
 
 -- a least common multiple as it is formed
 pub lcm-formed : (a b left right shared rest : ℕ) → left ≡ a → right ≡ b → shared ≡ gcd left right → rest ≡ right / shared → left * rest ≡ lcm a b

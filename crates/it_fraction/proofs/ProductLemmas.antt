@@ -3,7 +3,7 @@ use Rattle.std.proofs.Common.{◌≡◌, ℕ, zero, suc, ◌*◌, ◌/◌, ◌<�
 use Rattle.std.proofs.lemmas.Int.{unsigned_abs-mul}
 use Rattle.std.proofs.lemmas.Nat.Gcd.{IsGcd-swap, dvd_refl}
 use Rattle.std.specs.Int.{IsGcd}
-use Rattle.it_number.specs.Division.{over}
+use Rattle.it_number.specs.Division.{int_quotient}
 use Rattle.it_number.specs.Gcd.{gcd}
 use Rattle.it_number.specs.Limit.{IsWithin}
 use Rattle.it_number.proofs.Divisors.{gcd_is, IsGcd-pos, coprime_below, coprime_product, coprime_rest}
@@ -31,7 +31,7 @@ rest_pos a g h p = some (a / g) (div-mul_cancel g h)
 
 -- the numerator and the denominator of the product
 abbrev pub product_top : ℤ → ℕ → ℤ → ℕ → ℤ
-product_top a b c d = over a (gcd (unsigned_abs a) d) *ℤ over c (gcd (unsigned_abs c) b)
+product_top a b c d = int_quotient a (gcd (unsigned_abs a) d) *ℤ int_quotient c (gcd (unsigned_abs c) b)
 
 abbrev pub product_bottom : ℤ → ℕ → ℤ → ℕ → ℕ
 product_bottom a b c d = (b / gcd (unsigned_abs c) b) * (d / gcd (unsigned_abs a) d)
@@ -62,7 +62,7 @@ module _ (a : ℤ) (b : ℕ) (c : ℤ) (d : ℕ) (hb : 0 < b) (hd : 0 < d) (la :
       let yd : IsGcd y (d / g) 1 = coprime_below (unsigned_abs c) d y (d / g) lc y_below d_below in
       let xd : IsGcd x (d / g) 1 = coprime_rest (unsigned_abs a) d g (IsGcd-pos (unsigned_abs a) d g hd g_is) g_is in
       let yb : IsGcd y (b / h) 1 = coprime_rest (unsigned_abs c) b h (IsGcd-pos (unsigned_abs c) b h hb h_is) h_is in
-      rw (unsigned_abs-mul (over a g) (over c h), abs-over a g, abs-over c h)
+      rw (unsigned_abs-mul (int_quotient a g) (int_quotient c h), abs-over a g, abs-over c h)
       (coprime_product x y ((b / h) * (d / g)) (both x (b / h) (d / g) xb xd) (both y (b / h) (d / g) yb yd))
     where
       both : (x p q : ℕ) → IsGcd x p 1 → IsGcd x q 1 → IsGcd x (p * q) 1
@@ -71,7 +71,7 @@ module _ (a : ℤ) (b : ℕ) (c : ℤ) (d : ℕ) (hb : 0 < b) (hd : 0 < d) (la :
   across : product_top a b c d *ℤ pos (b * d) ≡ (a *ℤ c) *ℤ pos (product_bottom a b c d)
   across =
       ap₂ (λ (m n : ℕ). product_top a b c d *ℤ pos (m * n)) (sym (div-mul_cancel h h_is.1)) (sym (div-mul_cancel g g_is.1))
-      ∙ law (over a g) (over c h) (pos (b / h)) (pos (d / g)) (pos g) (pos h)
+      ∙ law (int_quotient a g) (int_quotient c h) (pos (b / h)) (pos (d / g)) (pos g) (pos h)
       ∙ ap₂ (λ (x y : ℤ). (x *ℤ y) *ℤ pos (product_bottom a b c d)) (over_back a g g_is.0) (over_back c h h_is.0)
     where
       law : (x y p q g h : ℤ) → (x *ℤ y) *ℤ ((p *ℤ h) *ℤ (q *ℤ g)) ≡ ((x *ℤ g) *ℤ (y *ℤ h)) *ℤ (p *ℤ q)

@@ -8,19 +8,19 @@ use Rattle.it_number.proofs.IntegerRing.{ring_ℤ}
 use Rattle.it_number.proofs.Divisors.{gcd_is, IsGcd-pos}
 use Rattle.it_number.proofs.SignedDivisors.{sum_lowest, over_back}
 use Rattle.std.proofs.lemmas.Nat.Gcd.{dvd_trans}
-use Rattle.it_number.specs.Division.{over}
-use native.Mathlib.Nat.{div-mul_cancel}
+use Rattle.it_number.specs.Division.{int_quotient}
 use Rattle.it_rational.proofs.Names.{cancel, quotient_is}
 use Rattle.it_fraction.specs.Fits.{PartsFit, common_numerator, shared_rest}
 use Rattle.it_number.specs.Limit.{IsWithin}
-use native.Mathlib.Nat.{div-le_self}
 use Rattle.it_number.proofs.Quotients.{abs-over}
+use native.Mathlib.Nat.{div-mul_cancel}
+use native.Mathlib.Nat.{div-le_self}
 
 -- the parts that the sum over the shared divisor forms are those of the sum
-sum_across : (a c : ℤ) (b d g b' d' g' : ℕ) → 0 < g → 0 < g' → b' * g ≡ b → d' * g ≡ d → (d / g') * g' ≡ d → (t : ℤ) → t ≡ a *ℤ pos d' +ℤ c *ℤ pos b' → over t g' *ℤ pos g' ≡ t
-    → over t g' *ℤ pos (b * d) ≡ (a *ℤ pos d +ℤ c *ℤ pos b) *ℤ pos (b' * (d / g'))
-sum_across a c b d g b' d' g' some some' eb ed e t et back = cancel (over t g' *ℤ pos (b * d)) ((a *ℤ pos d +ℤ c *ℤ pos b) *ℤ pos (b' * (d / g'))) g' some'
-    (law1 (over t g') (pos b) (pos d) (pos g') ∙ ap (λ x. x *ℤ (pos b *ℤ pos d)) (back ∙ et) ∙ ap (λ n. (a *ℤ pos d' +ℤ c *ℤ pos b') *ℤ (pos n *ℤ pos d)) (sym eb)
+sum_across : (a c : ℤ) (b d g b' d' g' : ℕ) → 0 < g → 0 < g' → b' * g ≡ b → d' * g ≡ d → (d / g') * g' ≡ d → (t : ℤ) → t ≡ a *ℤ pos d' +ℤ c *ℤ pos b' → int_quotient t g' *ℤ pos g' ≡ t
+    → int_quotient t g' *ℤ pos (b * d) ≡ (a *ℤ pos d +ℤ c *ℤ pos b) *ℤ pos (b' * (d / g'))
+sum_across a c b d g b' d' g' some some' eb ed e t et back = cancel (int_quotient t g' *ℤ pos (b * d)) ((a *ℤ pos d +ℤ c *ℤ pos b) *ℤ pos (b' * (d / g'))) g' some'
+    (law1 (int_quotient t g') (pos b) (pos d) (pos g') ∙ ap (λ x. x *ℤ (pos b *ℤ pos d)) (back ∙ et) ∙ ap (λ n. (a *ℤ pos d' +ℤ c *ℤ pos b') *ℤ (pos n *ℤ pos d)) (sym eb)
     ∙ law2 a c (pos b') (pos d') (pos g) (pos d)
     ∙ ap (λ n. (a *ℤ pos n +ℤ c *ℤ (pos b' *ℤ pos g)) *ℤ (pos b' *ℤ pos d)) ed ∙ ap₂ (λ n m. (a *ℤ pos d +ℤ c *ℤ pos n) *ℤ (pos b' *ℤ pos m)) eb (sym e)
     ∙ law3 (a *ℤ pos d +ℤ c *ℤ pos b) (pos b') (pos (d / g')) (pos g'))
@@ -41,7 +41,7 @@ pub record AreParts (a : ℤ) (b : ℕ) (c : ℤ) (d : ℕ) (n : ℤ) (e : ℕ) 
   pub sum_is : quotient n e ≡ quotient (a *ℤ pos d +ℤ c *ℤ pos b) (b * d)
 
 pub sum_parts : (a : ℤ) (b : ℕ) (c : ℤ) (d : ℕ) → 0 < b → 0 < d → IsGcd (unsigned_abs a) b 1 → IsGcd (unsigned_abs c) d 1
-    → AreParts a b c d (over (common_numerator a b c d) (shared_rest a b c d)) ((b / gcd b d) * (d / shared_rest a b c d))
+    → AreParts a b c d (int_quotient (common_numerator a b c d) (shared_rest a b c d)) ((b / gcd b d) * (d / shared_rest a b c d))
 sum_parts a b c d hb hd la lc =
     let g = gcd b d in let is = gcd_is b d in
     let t : ℤ = common_numerator a b c d in
@@ -52,7 +52,7 @@ sum_parts a b c d hb hd la lc =
     let ed : (d / g) * g ≡ d = div-mul_cancel g is.1 in
     let e : (d / g') * g' ≡ d = div-mul_cancel g' (dvd_trans g' it.1 is.1) in
     let pos_den : 0 < (b / g) * (d / g') = mul-pos (positive_factor (b / g) g b hb eb) (positive_factor (d / g') g' d hd e) in
-    let N = over t g' in let D = (b / g) * (d / g') in
+    let N = int_quotient t g' in let D = (b / g) * (d / g') in
     record {
       some = pos_den;
       lowest = low;
@@ -65,7 +65,7 @@ sum_parts a b c d hb hd la lc =
     positive_factor (suc k) g b h e = omega arith
 
 -- a quotient is no wider than what is divided
-pub over-within : (t : ℤ) (k : ℕ) → IsWithin t → IsWithin (over t k)
+pub over-within : (t : ℤ) (k : ℕ) → IsWithin t → IsWithin (int_quotient t k)
 over-within t k h = rw (abs-over t k) (omega (arith, div-le_self (unsigned_abs t) k))
 
 -- the numbers of the sum, as they are formed one after the other
@@ -77,7 +77,7 @@ pub record AreSteps (a : ℤ) (b : ℕ) (c : ℤ) (d : ℕ) (left right sum : �
 
 module _ (a : ℤ) (b : ℕ) (c : ℤ) (d : ℕ) (left right sum : ℤ) (rest bottom : ℕ) (s : AreSteps a b c d left right sum rest) where
   -- they lead to the parts of the sum
-  pub steps-parts : bottom ≡ (b / gcd b d) * (d / rest) → 0 < b → 0 < d → IsGcd (unsigned_abs a) b 1 → IsGcd (unsigned_abs c) d 1 → AreParts a b c d (over sum rest) bottom
+  pub steps-parts : bottom ≡ (b / gcd b d) * (d / rest) → 0 < b → 0 < d → IsGcd (unsigned_abs a) b 1 → IsGcd (unsigned_abs c) d 1 → AreParts a b c d (int_quotient sum rest) bottom
   steps-parts e hb hd la lc = rw (e, s.rest_is, s.sum_is, s.left_is, s.right_is) (sum_parts a b c d hb hd la lc)
 
   -- and the sum fits where they do

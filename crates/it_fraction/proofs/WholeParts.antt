@@ -43,12 +43,12 @@ rests a b c d e = ap₂ nat_cmp (law a b d) (law c d b ∙ ap (λ n. (c % d) * b
 
 -- whole parts that differ decide
 pub apart : (a b c d : ℕ) → 0 < b → 0 < d → (a / b ≡ c / d → ⊥) → nat_cmp (a / b) (c / d) ≡ nat_cmp (a * d) (c * b)
-apart a b c d hb hd n = at (cases_order (a / b) (c / d))
+apart a b c d hb hd n = by_cases (cases_order (a / b) (c / d))
   where
-    at : (a / b ≡ c / d) ⊎ ((a / b < c / d) ⊎ (c / d < a / b)) → nat_cmp (a / b) (c / d) ≡ nat_cmp (a * d) (c * b)
-    at (inl e) = absurd (n e)
-    at (inr (inl l)) = less_is (a / b) (c / d) l ∙ sym (less_is (a * d) (c * b) (below a b c d hb hd l))
-    at (inr (inr g)) = greater_is (a / b) (c / d) g ∙ sym (greater_is (a * d) (c * b) (below c d a b hd hb g))
+    by_cases : (a / b ≡ c / d) ⊎ ((a / b < c / d) ⊎ (c / d < a / b)) → nat_cmp (a / b) (c / d) ≡ nat_cmp (a * d) (c * b)
+    by_cases (inl e) = absurd (n e)
+    by_cases (inr (inl l)) = less_is (a / b) (c / d) l ∙ sym (less_is (a * d) (c * b) (below a b c d hb hd l))
+    by_cases (inr (inr g)) = greater_is (a / b) (c / d) g ∙ sym (greater_is (a * d) (c * b) (below c d a b hd hb g))
 
 -- 0 and a number compare as their multiples do
 pub zero_first : (y k n : ℕ) → 0 < k → nat_cmp 0 y ≡ nat_cmp (0 * n) (y * k)
@@ -61,11 +61,11 @@ zero_second (suc x) k n h = let p : 0 < suc x * n = mul-pos (omega arith) h in g
 
 -- a rest of 0 decides
 pub ended : (a b c d : ℕ) → 0 < b → 0 < d → a / b ≡ c / d → (a % b ≡ 0) ⊎ (c % d ≡ 0) → nat_cmp (a % b) (c % d) ≡ nat_cmp (a * d) (c * b)
-ended a b c d hb hd e z = at z ∙ sym (rests a b c d e)
+ended a b c d hb hd e z = by_cases z ∙ sym (rests a b c d e)
   where
-    at : (a % b ≡ 0) ⊎ (c % d ≡ 0) → nat_cmp (a % b) (c % d) ≡ nat_cmp ((a % b) * d) ((c % d) * b)
-    at (inl x) = rw x (zero_first (c % d) b d hb)
-    at (inr y) = rw y (zero_second (a % b) b d hd)
+    by_cases : (a % b ≡ 0) ⊎ (c % d ≡ 0) → nat_cmp (a % b) (c % d) ≡ nat_cmp ((a % b) * d) ((c % d) * b)
+    by_cases (inl x) = rw x (zero_first (c % d) b d hb)
+    by_cases (inr y) = rw y (zero_second (a % b) b d hd)
 
 -- the rests turned over
 pub turned : (a b c d : ℕ) → a / b ≡ c / d → nat_cmp (d * (a % b)) (b * (c % d)) ≡ nat_cmp (a * d) (c * b)

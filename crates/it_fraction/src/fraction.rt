@@ -7,14 +7,14 @@ ghost use Rattle.std.specs.Int.{IsGcd};
 ghost use Rattle.std.specs.Ordering.{as_partial_cmp, eq_by_cmp, nat_cmp};
 ghost use Rattle.std.proofs.Common.{rules};
 ghost use Rattle.it_number.specs.Limit.{IsWithin};
-ghost use Rattle.it_rational.specs.Rational.{inverse, is_at_least_zero, minus, plus, quotient, ratio, rational_cmp, times, whole};
+ghost use Rattle.it_rational.specs.Rational.{inverse, is_at_least_zero, minus, plus, quotient, signed_quotient, rational_cmp, times, whole};
 ghost use Rattle.it_rational.proofs.Total.{rational_total};
 ghost use Rattle.it_fraction.specs.Fits.{DifferenceFits, IsNarrow, SumFits};
 ghost use Rattle.it_fraction.specs.Sign.{sign_of};
 
 use crate::order::compare_parts;
 use crate::products::{parts_product, whole_product};
-use crate::steps::{common, divided, signed_divided};
+use crate::steps::{common, quotient, signed_quotient};
 use crate::sums::{parts_sum, whole_sum};
 use std::cmp::Ordering;
 use std::marker::Model;
@@ -48,7 +48,7 @@ impl Model for Fraction {
 }
 
 // the fraction of parts in lowest terms
-pub fn made(top: i128, bottom: u128) -> Fraction
+pub fn in_lowest_terms(top: i128, bottom: u128) -> Fraction
     requires top_within { IsWithin top }
     requires bottom_within { IsWithin (pos bottom) }
     requires some { 0 < bottom }
@@ -59,14 +59,14 @@ pub fn made(top: i128, bottom: u128) -> Fraction
 }
 
 // num / den
-fn reduced(num: i128, den: u128) -> Fraction
+fn reduce(num: i128, den: u128) -> Fraction
     requires num_within { IsWithin num }
     requires den_within { IsWithin (pos den) }
     requires den_some { 0 < den }
     ensures { result ≡ quotient num den }
 {
     let shared = common(num.unsigned_abs(), den);
-    made(signed_divided(num, shared), divided(den, shared))
+    in_lowest_terms(signed_quotient(num, shared), quotient(den, shared))
 }
 
 // whether both are 1, by one comparison
@@ -85,7 +85,7 @@ impl Fraction {
         requires { IsWithin value }
         ensures { result ≡ whole value }
     {
-        made(value, 1)
+        in_lowest_terms(value, 1)
     }
 
     /// num / den, where den may be below 0.
@@ -93,13 +93,13 @@ impl Fraction {
         requires num_within { IsWithin num }
         requires den_within { IsWithin den }
         requires den_some { den ≢ pos 0 }
-        ensures { result ≡ ratio num den }
+        ensures { result ≡ signed_quotient num den }
     {
         let size = den.unsigned_abs();
         if den < 0 {
-            reduced(-num, size)
+            reduce(-num, size)
         } else {
-            reduced(num, size)
+            reduce(num, size)
         }
     }
 
@@ -153,7 +153,7 @@ impl Fraction {
     pub fn neg(self) -> Fraction
         ensures { result ≡ minus self }
     {
-        made(-self.top, self.bottom)
+        in_lowest_terms(-self.top, self.bottom)
     }
 
     /// The sum, by way of the greatest common divisor of the denominators (Knuth, The Art of Computer
@@ -214,9 +214,9 @@ impl Fraction {
     {
         let bottom = self.top.unsigned_abs();
         if self.top < 0 {
-            made(-(self.bottom as i128), bottom)
+            in_lowest_terms(-(self.bottom as i128), bottom)
         } else {
-            made(self.bottom as i128, bottom)
+            in_lowest_terms(self.bottom as i128, bottom)
         }
     }
 

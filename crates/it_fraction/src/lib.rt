@@ -1,4 +1,4 @@
-//! Exact rational numbers over 128-bit parts.
+//! Exact rational numbers over 128-bit parts, and sums and products of whole numbers that are within the same limit.
 #![tactic(auto)]
 
 mod divisors;
@@ -11,6 +11,7 @@ mod sums;
 
 pub use divisors::{gcd, lcm};
 pub use fraction::{Fraction, Wide};
+pub use steps::{difference, signed_product, sum};
 
 #[cfg(test)]
 mod tests;

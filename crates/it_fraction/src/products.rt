@@ -5,8 +5,8 @@ ghost use Rattle.it_number.specs.Limit.{IsWithin};
 ghost use Rattle.it_rational.specs.Rational.{quotient, whole};
 ghost use Rattle.it_fraction.specs.Fits.{IsNarrow};
 
-use crate::fraction::{Fraction, Wide, made};
-use crate::steps::{common, divided, product, signed_divided, signed_product};
+use crate::fraction::{Fraction, Wide, in_lowest_terms};
+use crate::steps::{common, product, quotient, signed_product, signed_quotient};
 
 // the product of a / b and c / d
 pub fn parts_product(a: i128, b: u128, c: i128, d: u128) -> Result<Fraction, Wide>
@@ -20,11 +20,11 @@ pub fn parts_product(a: i128, b: u128, c: i128, d: u128) -> Result<Fraction, Wid
 {
     let left_shared = common(a.unsigned_abs(), d);
     let right_shared = common(c.unsigned_abs(), b);
-    let left = signed_divided(a, left_shared);
-    let right = signed_divided(c, right_shared);
+    let left = signed_quotient(a, left_shared);
+    let right = signed_quotient(c, right_shared);
     let top = signed_product(left, right)?;
-    let bottom = product(divided(b, right_shared), divided(d, left_shared))?;
-    Ok(made(top, bottom))
+    let bottom = product(quotient(b, right_shared), quotient(d, left_shared))?;
+    Ok(in_lowest_terms(top, bottom))
 }
 
 // the product of two whole numbers

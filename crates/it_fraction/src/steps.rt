@@ -1,7 +1,7 @@
 //! Single steps on whole numbers. What may pass the largest number is refused exactly where it does.
 //! Each step has a short path for numbers of 64 bits, whose division is several times faster.
-ghost use Rattle.std.specs.Prelude.{◌≡◌, ◌<◌, ◌*◌, ◌/◌, ◌+ℤ◌, ◌*ℤ◌, pos, OkIff};
-ghost use Rattle.it_number.specs.Division.{over};
+ghost use Rattle.std.specs.Prelude.{◌≡◌, ◌<◌, ◌*◌, ◌/◌, ◌+ℤ◌, ◌-ℤ◌, ◌*ℤ◌, pos, OkIff};
+ghost use Rattle.it_number.specs.Division.{int_quotient};
 ghost use Rattle.it_number.specs.Gcd.{gcd};
 ghost use Rattle.it_number.specs.Limit.{IsWithin};
 
@@ -54,7 +54,7 @@ fn long_common(a: u128, b: u128) -> u128
 }
 
 // a / k
-pub fn divided(a: u128, k: u128) -> u128
+pub fn quotient(a: u128, k: u128) -> u128
     requires { 0 < k }
     ensures { result ≡ a / k }
 {
@@ -68,12 +68,12 @@ pub fn divided(a: u128, k: u128) -> u128
 }
 
 // a / k, toward 0
-pub fn signed_divided(a: i128, k: u128) -> i128
+pub fn signed_quotient(a: i128, k: u128) -> i128
     requires within { IsWithin a }
     requires some { 0 < k }
-    ensures { result ≡ over a k }
+    ensures { result ≡ int_quotient a k }
 {
-    let size = divided(a.unsigned_abs(), k) as i128;
+    let size = quotient(a.unsigned_abs(), k) as i128;
     if a < 0 { -size } else { size }
 }
 
@@ -94,6 +94,15 @@ fn short_sum(a: i64, b: i64) -> i128
     ensures within { IsWithin result }
 {
     i128::from(a) + i128::from(b)
+}
+
+pub fn difference(a: i128, b: i128) -> Result<i128, Wide>
+    ensures { OkIff result (IsWithin (a -ℤ b)) (a -ℤ b) }
+{
+    match a.checked_sub(b) {
+        Some(rest) if rest != i128::MIN => Ok(rest),
+        _ => Err(Wide),
+    }
 }
 
 pub fn product(a: u128, b: u128) -> Result<u128, Wide>
@@ -124,7 +133,7 @@ fn short_product(a: i64, b: i64) -> i128
     i128::from(a) * i128::from(b)
 }
 
-pub fn scaled(a: i128, k: u128) -> Result<i128, Wide>
+pub fn multiple(a: i128, k: u128) -> Result<i128, Wide>
     requires { IsWithin (pos k) }
     ensures { OkIff result (IsWithin (a *ℤ pos k)) (a *ℤ pos k) }
 {

@@ -5,8 +5,8 @@ ghost use Rattle.it_number.specs.Limit.{IsWithin};
 ghost use Rattle.it_rational.specs.Rational.{quotient, whole};
 ghost use Rattle.it_fraction.specs.Fits.{PartsFit};
 
-use crate::fraction::{Fraction, Wide, made};
-use crate::steps::{common, divided, product, scaled, signed_divided, sum};
+use crate::fraction::{Fraction, Wide, in_lowest_terms};
+use crate::steps::{common, multiple, product, quotient, signed_quotient, sum};
 
 // the sum of a / b and c / d
 pub fn parts_sum(a: i128, b: u128, c: i128, d: u128) -> Result<Fraction, Wide>
@@ -19,14 +19,14 @@ pub fn parts_sum(a: i128, b: u128, c: i128, d: u128) -> Result<Fraction, Wide>
     ensures { OkIff result (PartsFit a b c d) (quotient (a *ℤ pos d +ℤ c *ℤ pos b) (b * d)) }
 {
     let shared = common(b, d);
-    let left_factor = divided(d, shared);
-    let right_factor = divided(b, shared);
-    let left = scaled(a, left_factor)?;
-    let right = scaled(c, right_factor)?;
+    let left_factor = quotient(d, shared);
+    let right_factor = quotient(b, shared);
+    let left = multiple(a, left_factor)?;
+    let right = multiple(c, right_factor)?;
     let total = sum(left, right)?;
     let rest = common(total.unsigned_abs(), shared);
-    let bottom = product(right_factor, divided(d, rest))?;
-    Ok(made(signed_divided(total, rest), bottom))
+    let bottom = product(right_factor, quotient(d, rest))?;
+    Ok(in_lowest_terms(signed_quotient(total, rest), bottom))
 }
 
 // the sum of two whole numbers

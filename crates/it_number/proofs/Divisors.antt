@@ -115,7 +115,7 @@ lcm-least a b g n h e p q =
 -- the product over the greatest common divisor is the least common multiple
 pub lcm_is : (a b : ℕ) → IsLcm a b (lcm a b)
 unfolding lcm
-lcm_is a b = at (eq-zero-or-pos (gcd a b))
+lcm_is a b = by_cases (eq-zero-or-pos (gcd a b))
   where
     is : IsGcd a b (gcd a b)
     is = gcd_is a b
@@ -123,11 +123,11 @@ lcm_is a b = at (eq-zero-or-pos (gcd a b))
     none : gcd a b ≡ 0 → a ≡ 0
     none e = eq-zero_of_zero-dvd (subst (λ n. n ∣ a) e is.0)
 
-    at : (gcd a b ≡ 0) ⊎ (0 < gcd a b) → IsLcm a b (a * b / gcd a b)
-    at (inl e) =
+    by_cases : (gcd a b ≡ 0) ⊎ (0 < gcd a b) → IsLcm a b (a * b / gcd a b)
+    by_cases (inl e) =
         let z : a * b / gcd a b ≡ 0 = ap (λ n. n * b / gcd a b) (none e) ∙ ap (λ n. n / gcd a b) (zero-mul b) ∙ zero-div (gcd a b) in
         rw z (dvd-zero a, dvd-zero b, λ n p q. subst (λ m. m ∣ n) (none e) p)
-    at (inr h) = (
+    by_cases (inr h) = (
       subst (λ n. a ∣ n) (sym (product_over a b (gcd a b) is.1)) (dvd-mul_right a (b / gcd a b)),
       subst (λ n. b ∣ n) (sym (product_over_left a b (gcd a b) is.0)) (dvd-mul_right b (a / gcd a b)),
       λ n p q. lcm-least a b (gcd a b) n h is p q,

@@ -1,7 +1,7 @@
 -- The integers as a commutative ring, for the solver.
 use Rattle.std.proofs.Common.{ℤ, pos, ◌+ℤ◌, ◌*ℤ◌, neg_ℤ, arith}
 use Rattle.it_number.proofs.Integers.{zlin, mul-add, mul_comm, mul_assoc}
-use Rattle.it_number.proofs.Ring.{Ring}
+use Rattle.it_number.specs.Rings.{Ring}
 use Rattle.std.proofs.lemmas.Int.{ints}
 
 abbrev pub ring_ℤ : Ring ℤ

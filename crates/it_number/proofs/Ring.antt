@@ -1,20 +1,6 @@
 -- Commutative rings, and a solver of equations in them: both sides are written as expressions over numbered variables, put in a normal form that computes, and compared by `refl`.
 use Rattle.std.proofs.Common.{◌≡◌, ℕ, Bool, true, false, cond, List, [], ◌∷◌, refl, sym, ap, ap₂, subst, ◌∙◌, get_or, eqb, ltb, not, ◌&&◌, T, eqb→eq}
-
-pub record Ring (A : Type 0) : Type 0 where
-  pub null : A
-  pub unit : A
-  pub add : A → A → A
-  pub mul : A → A → A
-  pub neg : A → A
-  pub add_assoc : (a b c : A) → add (add a b) c ≡ add a (add b c)
-  pub add_comm : (a b : A) → add a b ≡ add b a
-  pub null-add : (a : A) → add null a ≡ a
-  pub add-neg : (a : A) → add a (neg a) ≡ null
-  pub mul_assoc : (a b c : A) → mul (mul a b) c ≡ mul a (mul b c)
-  pub mul_comm : (a b : A) → mul a b ≡ mul b a
-  pub unit-mul : (a : A) → mul unit a ≡ a
-  pub mul-add : (a b c : A) → mul a (add b c) ≡ add (mul a b) (mul a c)
+use Rattle.it_number.specs.Rings.{Ring}
 
 -- derived laws
 pub add-null : {A : Type 0} (R : Ring A) (a : A) → R.add a R.null ≡ a
@@ -161,11 +147,11 @@ same_is (x ∷ xs) (y ∷ ys) h = both (eqb x y) (same xs ys) h (λ e. eqb→eq 
 
 put_is : {A : Type 0} (R : Ring A) (ρ : List A) (i : ℕ) (m : List ℕ) → mono R ρ (put i m) ≡ R.mul (get_or ρ i R.null) (mono R ρ m)
 put_is R ρ i [] = refl
-put_is R ρ i (j ∷ m) = at (ltb j i) (put_is R ρ i m)
+put_is R ρ i (j ∷ m) = by_test (ltb j i) (put_is R ρ i m)
   where
-    at : (b : Bool) → mono R ρ (put i m) ≡ R.mul (get_or ρ i R.null) (mono R ρ m) → mono R ρ (cond b (j ∷ put i m) (i ∷ j ∷ m)) ≡ R.mul (get_or ρ i R.null) (R.mul (get_or ρ j R.null) (mono R ρ m))
-    at true ih = ap (R.mul (get_or ρ j R.null)) ih ∙ mul_left_comm R (get_or ρ j R.null) (get_or ρ i R.null) (mono R ρ m)
-    at false ih = refl
+    by_test : (b : Bool) → mono R ρ (put i m) ≡ R.mul (get_or ρ i R.null) (mono R ρ m) → mono R ρ (cond b (j ∷ put i m) (i ∷ j ∷ m)) ≡ R.mul (get_or ρ i R.null) (R.mul (get_or ρ j R.null) (mono R ρ m))
+    by_test true ih = ap (R.mul (get_or ρ j R.null)) ih ∙ mul_left_comm R (get_or ρ j R.null) (get_or ρ i R.null) (mono R ρ m)
+    by_test false ih = refl
 
 product_is : {A : Type 0} (R : Ring A) (ρ : List A) (m n : List ℕ) → mono R ρ (product m n) ≡ R.mul (mono R ρ m) (mono R ρ n)
 product_is R ρ [] n = sym (R.unit-mul (mono R ρ n))
@@ -179,17 +165,17 @@ apart R false true x y h = sym (sym (R.add_assoc y (R.neg y) x) ∙ ap (λ z. R.
 
 insert_is : {A : Type 0} (R : Ring A) (ρ : List A) (s : Bool) (m : List ℕ) (p : List Term) → poly R ρ (insert s m p) ≡ R.add (signed R s (mono R ρ m)) (poly R ρ p)
 insert_is R ρ s m [] = refl
-insert_is R ρ s m (term t n ∷ p) = at (same m n) (differ s t) (before m n) (λ h. same_is m n h) (λ h. h)
+insert_is R ρ s m (term t n ∷ p) = by_test (same m n) (differ s t) (before m n) (λ h. same_is m n h) (λ h. h)
     (ap (R.add (signed R t (mono R ρ n))) (insert_is R ρ s m p) ∙ add_left_comm R (signed R t (mono R ρ n)) (signed R s (mono R ρ m)) (poly R ρ p))
   where
     later : (b : Bool) → R.add (signed R t (mono R ρ n)) (poly R ρ (insert s m p)) ≡ R.add (signed R s (mono R ρ m)) (R.add (signed R t (mono R ρ n)) (poly R ρ p)) → poly R ρ (cond b (term s m ∷ term t n ∷ p) (term t n ∷ insert s m p)) ≡ R.add (signed R s (mono R ρ m)) (R.add (signed R t (mono R ρ n)) (poly R ρ p))
     later true ih = refl
     later false ih = ih
 
-    at : (a d b : Bool) → (T a → m ≡ n) → (T d → T (differ s t)) → R.add (signed R t (mono R ρ n)) (poly R ρ (insert s m p)) ≡ R.add (signed R s (mono R ρ m)) (R.add (signed R t (mono R ρ n)) (poly R ρ p)) → poly R ρ (cond (a && d) p (cond b (term s m ∷ term t n ∷ p) (term t n ∷ insert s m p))) ≡ R.add (signed R s (mono R ρ m)) (R.add (signed R t (mono R ρ n)) (poly R ρ p))
-    at true true b e f ih = subst (λ (k : List ℕ). poly R ρ p ≡ R.add (signed R s (mono R ρ m)) (R.add (signed R t (mono R ρ k)) (poly R ρ p))) (e tt) (apart R s t (poly R ρ p) (mono R ρ m) (f tt))
-    at true false b e f ih = later b ih
-    at false d b e f ih = later b ih
+    by_test : (a d b : Bool) → (T a → m ≡ n) → (T d → T (differ s t)) → R.add (signed R t (mono R ρ n)) (poly R ρ (insert s m p)) ≡ R.add (signed R s (mono R ρ m)) (R.add (signed R t (mono R ρ n)) (poly R ρ p)) → poly R ρ (cond (a && d) p (cond b (term s m ∷ term t n ∷ p) (term t n ∷ insert s m p))) ≡ R.add (signed R s (mono R ρ m)) (R.add (signed R t (mono R ρ n)) (poly R ρ p))
+    by_test true true b e f ih = subst (λ (k : List ℕ). poly R ρ p ≡ R.add (signed R s (mono R ρ m)) (R.add (signed R t (mono R ρ k)) (poly R ρ p))) (e tt) (apart R s t (poly R ρ p) (mono R ρ m) (f tt))
+    by_test true false b e f ih = later b ih
+    by_test false d b e f ih = later b ih
 
 sum_is : {A : Type 0} (R : Ring A) (ρ : List A) (p q : List Term) → poly R ρ (sum_of p q) ≡ R.add (poly R ρ p) (poly R ρ q)
 sum_is R ρ [] q = sym (R.null-add (poly R ρ q))

@@ -4,14 +4,14 @@ use Rattle.std.proofs.lemmas.Int.{ints, unsigned_abs-mul}
 use Rattle.std.specs.Int.{IsGcd}
 use Rattle.it_number.proofs.Integers.{zring}
 use Rattle.it_number.proofs.Divisors.{euclid, IsGcd-pos, coprime_below, coprime_product, coprime_rest}
-use Rattle.it_number.specs.Division.{over}
+use Rattle.it_number.specs.Division.{int_quotient}
 use Rattle.it_number.proofs.Quotients.{abs-over}
 use Rattle.std.proofs.lemmas.Nat.Gcd.{IsGcd-swap, dvd_refl, dvd_trans}
 use Prim.Native.Nat.{◌∣◌}
 use native.Mathlib.Nat.{dvd-mul_left, dvd-mul_left_of_dvd, dvd-mul_right_of_dvd, one-dvd, div-mul_cancel, mul-div_cancel'}
 
 -- z over k, back
-pub over_back : (n : ℤ) (g : ℕ) → g ∣ unsigned_abs n → over n g *ℤ pos g ≡ n
+pub over_back : (n : ℤ) (g : ℕ) → g ∣ unsigned_abs n → int_quotient n g *ℤ pos g ≡ n
 over_back (pos n) g h = ap pos (div-mul_cancel g h)
 over_back (negsuc n) g h = omega (arith, ints, zring, div-mul_cancel g h)
 
@@ -21,10 +21,10 @@ of_multiple k z q e = subst (λ n. k ∣ n) (sym (unsigned_abs-mul q (pos k)) �
 
 -- what divides a sum and one part divides the other
 pub divides_rest : (k : ℕ) (x y : ℤ) → k ∣ unsigned_abs (x +ℤ y) → k ∣ unsigned_abs x → k ∣ unsigned_abs y
-divides_rest k x y h g = of_multiple k y (over (x +ℤ y) k -ℤ over x k) (omega (arith, zring, over_back (x +ℤ y) k h, over_back x k g))
+divides_rest k x y h g = of_multiple k y (int_quotient (x +ℤ y) k -ℤ int_quotient x k) (omega (arith, zring, over_back (x +ℤ y) k h, over_back x k g))
 
 pub divides_rest_left : (k : ℕ) (x y : ℤ) → k ∣ unsigned_abs (x +ℤ y) → k ∣ unsigned_abs y → k ∣ unsigned_abs x
-divides_rest_left k x y h g = of_multiple k x (over (x +ℤ y) k -ℤ over y k) (omega (arith, zring, over_back (x +ℤ y) k h, over_back y k g))
+divides_rest_left k x y h g = of_multiple k x (int_quotient (x +ℤ y) k -ℤ int_quotient y k) (omega (arith, zring, over_back (x +ℤ y) k h, over_back y k g))
 
 -- a times d' plus c times b', where a is apart from b, c from d, b' from d': the sum is apart from b'
 apart_one : (a c : ℤ) (b b' d' : ℕ) → IsGcd (unsigned_abs a) b 1 → b' ∣ b → IsGcd b' d' 1 → IsGcd (unsigned_abs (a *ℤ pos d' +ℤ c *ℤ pos b')) b' 1
@@ -39,7 +39,7 @@ apart_one a c b b' d' ab bb bd = (
 
 -- a sum over the shared part is in lowest terms
 pub sum_lowest : (a c : ℤ) (b d g b' d' g' : ℕ) → 0 < d → IsGcd (unsigned_abs a) b 1 → IsGcd (unsigned_abs c) d 1 → IsGcd b d g → b' ≡ b / g → d' ≡ d / g
-    → (t : ℤ) → t ≡ a *ℤ pos d' +ℤ c *ℤ pos b' → IsGcd (unsigned_abs t) g g' → IsGcd (unsigned_abs (over t g')) (b' * (d / g')) 1
+    → (t : ℤ) → t ≡ a *ℤ pos d' +ℤ c *ℤ pos b' → IsGcd (unsigned_abs t) g g' → IsGcd (unsigned_abs (int_quotient t g')) (b' * (d / g')) 1
 sum_lowest a c b d g b' d' g' hd ab cd is eb ed t et it =
     let some : 0 < g = IsGcd-pos b d g hd is in
     let some' : 0 < g' = IsGcd-pos (unsigned_abs t) g g' some it in

@@ -2,6 +2,6 @@
 use Rattle.std.specs.Prelude.{ℕ, suc, ◌/◌, ℤ, pos, negsuc, neg_ℤ}
 
 -- n / g, toward 0; 0 where g is 0
-abbrev pub over : ℤ → ℕ → ℤ
-over (pos n) g = pos (n / g)
-over (negsuc n) g = neg_ℤ (pos (suc n / g))
+abbrev pub int_quotient : ℤ → ℕ → ℤ
+int_quotient (pos n) g = pos (n / g)
+int_quotient (negsuc n) g = neg_ℤ (pos (suc n / g))

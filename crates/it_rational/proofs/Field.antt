@@ -7,7 +7,7 @@ use Rattle.it_rational.specs.Rational as Q
 use Rattle.it_rational.proofs.Names.{same_across, quotient_names}
 use Rattle.it_rational.proofs.RationalLaws.{ring_ℚ}
 use Rattle.it_rational.proofs.Order.{IsLeast, plus_least, times_least, quotient_least, times-inverse}
-use Rattle.it_rational.proofs.Ordered.{Order}
+use Rattle.it_rational.specs.OrderedFields.{Order}
 
 pub from_sign : (z : ℤ) → sign_least z ≡ true → pos 0 ≤ℤ z
 from_sign (pos n) h = omega (arith, ints)
@@ -35,16 +35,16 @@ pub least_of : (q : Rational) → is_at_least_zero q ≡ true → IsLeast q
 least_of q h = from_sign q.num h
 
 pub rational_strict : (q : Rational) → is_at_least_zero q ≡ true → is_at_least_zero (Q.minus q) ≡ true → q ≡ Q.whole (pos 0)
-rational_strict q h k = null_from q (at q.num (Q.minus q).num q.den (Q.minus q).den q.positive (Q.minus q).positive (quotient_names (neg_ℤ q.num) q.den q.positive) (from_sign q.num h) (from_sign (Q.minus q).num k))
+rational_strict q h k = null_from q (for_each q.num (Q.minus q).num q.den (Q.minus q).den q.positive (Q.minus q).positive (quotient_names (neg_ℤ q.num) q.den q.positive) (from_sign q.num h) (from_sign (Q.minus q).num k))
   where
-    at : (a b : ℤ) (d e : ℕ) → 0 < d → 0 < e → b *ℤ pos d ≡ neg_ℤ a *ℤ pos e → pos 0 ≤ℤ a → pos 0 ≤ℤ b → a ≡ pos 0
-    at (pos zero) b d e hd he q h k = refl
-    at (pos (suc a)) (pos b) d e hd he q h k = absurd (omega (arith, ints, q, mul-pos (some a) he))
+    for_each : (a b : ℤ) (d e : ℕ) → 0 < d → 0 < e → b *ℤ pos d ≡ neg_ℤ a *ℤ pos e → pos 0 ≤ℤ a → pos 0 ≤ℤ b → a ≡ pos 0
+    for_each (pos zero) b d e hd he q h k = refl
+    for_each (pos (suc a)) (pos b) d e hd he q h k = absurd (omega (arith, ints, q, mul-pos (some a) he))
       where
         some : (a : ℕ) → 0 < suc a
         some a = omega arith
-    at (pos (suc a)) (negsuc b) d e hd he q h k = absurd (omega (arith, ints))
-    at (negsuc a) b d e hd he q h k = absurd (omega (arith, ints))
+    for_each (pos (suc a)) (negsuc b) d e hd he q h k = absurd (omega (arith, ints))
+    for_each (negsuc a) b d e hd he q h k = absurd (omega (arith, ints))
 
 pub rational_apart : Q.whole (pos 1) ≢ Q.whole (pos 0)
 rational_apart e =
@@ -61,12 +61,12 @@ order_ℚ = record {
   inv = Q.inverse;
   add-least = λ a b h k. to_sign (Q.plus a b).num (plus_least a b (least_of a h) (least_of b k));
   mul-least = λ a b h k. to_sign (Q.times a b).num (times_least a b (least_of a h) (least_of b k));
-  total = λ a. at a (either a.num);
+  total = λ a. by_cases a (either a.num);
   strict = rational_strict;
   apart = rational_apart;
   mul-inv = λ a n. times-inverse a (λ e. n (null_from a e));
 }
   where
-    at : (a : Rational) → (pos 0 ≤ℤ a.num) ⊎ (pos 0 ≤ℤ neg_ℤ a.num) → (is_at_least_zero a ≡ true) ⊎ (is_at_least_zero (Q.minus a) ≡ true)
-    at a (inl h) = inl (to_sign a.num h)
-    at a (inr h) = inr (to_sign (Q.minus a).num (quotient_least (neg_ℤ a.num) a.den a.positive h))
+    by_cases : (a : Rational) → (pos 0 ≤ℤ a.num) ⊎ (pos 0 ≤ℤ neg_ℤ a.num) → (is_at_least_zero a ≡ true) ⊎ (is_at_least_zero (Q.minus a) ≡ true)
+    by_cases a (inl h) = inl (to_sign a.num h)
+    by_cases a (inr h) = inr (to_sign (Q.minus a).num (quotient_least (neg_ℤ a.num) a.den a.positive h))

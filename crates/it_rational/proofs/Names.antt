@@ -3,21 +3,17 @@ use Rattle.std.proofs.Common.{◌≡◌, ℕ, zero, suc, ◌+◌, ◌*◌, ◌/�
 use Rattle.std.proofs.lemmas.Int.{ints, unsigned_abs-mul}
 use Rattle.std.specs.Int.{IsGcd}
 use Rattle.it_number.specs.Gcd.{gcd}
-use Rattle.it_rational.specs.Rational.{Rational, quotient}
+use Rattle.it_rational.specs.Rational.{Rational, quotient, Names}
 use Rattle.it_rational.specs.Rational as Q
 use Rattle.it_number.proofs.Integers.{zring}
 use Rattle.it_number.proofs.Ring.{ring, v, plus, times}
 use Rattle.it_number.proofs.IntegerRing.{ring_ℤ}
 use Rattle.it_number.proofs.Divisors.{lowest_unique, gcd_is}
 use Rattle.it_number.proofs.SignedDivisors.{over_back}
-use Rattle.it_number.specs.Division.{over}
+use Rattle.it_number.specs.Division.{int_quotient}
 use native.Mathlib.Bridge.{le_prop}
 use native.Mathlib.Nat.{div-mul_cancel, ∣_prop, eq_of_mul-eq-mul_right}
 use borrow.Author.Differences.{up, down, same_in}
-
--- q is n / d
-abbrev pub Names : Rational → ℤ → ℕ → Type 0
-Names q n d = q.num *ℤ pos d ≡ n *ℤ pos q.den
 
 across : (N n : ℤ) (D g d : ℕ) → N *ℤ pos g ≡ n → D * g ≡ d → N *ℤ pos d ≡ n *ℤ pos D
 across N n D g d e f = rw (← e, ← f) (omega (arith, zring))
@@ -28,7 +24,7 @@ quotient_names n zero h = absurd (omega arith)
 quotient_names n (suc d) h =
     let g : ℕ = gcd (unsigned_abs n) (suc d) in
     let is : IsGcd (unsigned_abs n) (suc d) g = gcd_is (unsigned_abs n) (suc d) in
-    across (over n g) n (suc d / g) g (suc d) (over_back n g is.0) (div-mul_cancel g is.1)
+    across (int_quotient n g) n (suc d / g) g (suc d) (over_back n g is.0) (div-mul_cancel g is.1)
 
 -- a factor above 0 cancels
 pub cancel : (a b : ℤ) (d : ℕ) → 0 < d → a *ℤ pos d ≡ b *ℤ pos d → a ≡ b

@@ -2,7 +2,8 @@
 use Rattle.std.proofs.Common.{◌≡◌, ◌*◌, ◌<◌, ℤ, pos, ◌+ℤ◌, ◌*ℤ◌, neg_ℤ, List, [], ◌∷◌, refl, arith, mul-pos}
 use Rattle.it_rational.specs.Rational.{Rational, quotient}
 use Rattle.it_rational.specs.Rational as Q
-use Rattle.it_number.proofs.Ring.{Ring, ring, v, plus, times, minus, one, nil}
+use Rattle.it_number.proofs.Ring.{ring, v, plus, times, minus, one, nil}
+use Rattle.it_number.specs.Rings.{Ring}
 use Rattle.it_number.proofs.IntegerRing.{ring_ℤ}
 use Rattle.it_rational.proofs.Names.{quotient_names, same_value, plus_names, times_names, whole_names}
 

@@ -13,37 +13,37 @@ use Rattle.it_rational.proofs.Field.{from_sign, to_sign}
 use Rattle.it_rational.proofs.Total.{tied}
 
 pub below_sign : (q : Rational) → q.num <ℤ pos 0 → is_at_least_zero q ≡ false
-below_sign q h = at q.num h
+below_sign q h = by_sign q.num h
   where
-    at : (z : ℤ) → z <ℤ pos 0 → sign_least z ≡ false
-    at (pos n) h = absurd (omega (arith, ints))
-    at (negsuc n) h = refl
+    by_sign : (z : ℤ) → z <ℤ pos 0 → sign_least z ≡ false
+    by_sign (pos n) h = absurd (omega (arith, ints))
+    by_sign (negsuc n) h = refl
 
 pub least_sign : (q : Rational) → ¬ (q.num <ℤ pos 0) → is_at_least_zero q ≡ true
-least_sign q h = to_sign q.num (at q.num h)
+least_sign q h = to_sign q.num (by_sign q.num h)
   where
-    at : (z : ℤ) → ¬ (z <ℤ pos 0) → pos 0 ≤ℤ z
-    at (pos n) h = omega (arith, ints)
-    at (negsuc n) h = absurd (h (omega (arith, ints)))
+    by_sign : (z : ℤ) → ¬ (z <ℤ pos 0) → pos 0 ≤ℤ z
+    by_sign (pos n) h = omega (arith, ints)
+    by_sign (negsuc n) h = absurd (h (omega (arith, ints)))
 
 pub minus_below : (q : Rational) → pos 0 <ℤ q.num → is_at_least_zero (Q.minus q) ≡ false
-minus_below q h = at (cases_Bool (is_at_least_zero (Q.minus q)))
+minus_below q h = by_cases (cases_Bool (is_at_least_zero (Q.minus q)))
   where
-    at : (is_at_least_zero (Q.minus q) ≡ true) ⊎ (is_at_least_zero (Q.minus q) ≡ false) → is_at_least_zero (Q.minus q) ≡ false
-    at (inr k) = k
-    at (inl k) = absurd (none q.num (Q.minus q).num q.den (Q.minus q).den q.positive (Q.minus q).positive (quotient_names (neg_ℤ q.num) q.den q.positive) h (from_sign (Q.minus q).num k))
+    by_cases : (is_at_least_zero (Q.minus q) ≡ true) ⊎ (is_at_least_zero (Q.minus q) ≡ false) → is_at_least_zero (Q.minus q) ≡ false
+    by_cases (inr k) = k
+    by_cases (inl k) = absurd (none q.num (Q.minus q).num q.den (Q.minus q).den q.positive (Q.minus q).positive (quotient_names (neg_ℤ q.num) q.den q.positive) h (from_sign (Q.minus q).num k))
       where
         none : (n m : ℤ) (d e : ℕ) → 0 < d → 0 < e → m *ℤ pos d ≡ neg_ℤ n *ℤ pos e → pos 0 <ℤ n → pos 0 ≤ℤ m → ⊥
         none n m d e hd he q h k =
             let x : pos 0 ≤ℤ neg_ℤ n = sign_kept (neg_ℤ n) m e d he hd (sym q) k in omega (arith, ints)
 
 pub minus_least : (q : Rational) → ¬ (pos 0 <ℤ q.num) → is_at_least_zero (Q.minus q) ≡ true
-minus_least q h = to_sign (Q.minus q).num (quotient_least (neg_ℤ q.num) q.den q.positive (at q.num h))
+minus_least q h = to_sign (Q.minus q).num (quotient_least (neg_ℤ q.num) q.den q.positive (by_sign q.num h))
   where
-    at : (z : ℤ) → ¬ (pos 0 <ℤ z) → pos 0 ≤ℤ neg_ℤ z
-    at (pos zero) h = omega (arith, ints)
-    at (pos (suc n)) h = absurd (h (omega (arith, ints)))
-    at (negsuc n) h = omega (arith, ints)
+    by_sign : (z : ℤ) → ¬ (pos 0 <ℤ z) → pos 0 ≤ℤ neg_ℤ z
+    by_sign (pos zero) h = omega (arith, ints)
+    by_sign (pos (suc n)) h = absurd (h (omega (arith, ints)))
+    by_sign (negsuc n) h = omega (arith, ints)
 
 difference : (a b : Rational) → (Q.plus a (Q.minus b)).num *ℤ pos (a.den * b.den) ≡ (a.num *ℤ pos b.den +ℤ neg_ℤ b.num *ℤ pos a.den) *ℤ pos (Q.plus a (Q.minus b)).den
 difference a b = plus_names a (Q.minus b) a.num (neg_ℤ b.num) a.den b.den a.positive b.positive refl (quotient_names (neg_ℤ b.num) b.den b.positive)
@@ -57,14 +57,14 @@ difference_least a b h = to_sign (Q.plus a (Q.minus b)).num
     turn x b d h = omega (arith, zring)
 
 pub difference_below : (a b : Rational) → (a.num *ℤ pos b.den) <ℤ (b.num *ℤ pos a.den) → is_at_least_zero (Q.plus a (Q.minus b)) ≡ false
-difference_below a b h = at (cases_Bool (is_at_least_zero (Q.plus a (Q.minus b))))
+difference_below a b h = by_cases (cases_Bool (is_at_least_zero (Q.plus a (Q.minus b))))
   where
     turn : (x b d : ℤ) → x <ℤ (b *ℤ d) → pos 0 ≤ℤ (x +ℤ neg_ℤ b *ℤ d) → ⊥
     turn x b d h k = omega (arith, zring)
 
-    at : (is_at_least_zero (Q.plus a (Q.minus b)) ≡ true) ⊎ (is_at_least_zero (Q.plus a (Q.minus b)) ≡ false) → is_at_least_zero (Q.plus a (Q.minus b)) ≡ false
-    at (inr k) = k
-    at (inl k) = absurd (turn (a.num *ℤ pos b.den) b.num (pos a.den) h
+    by_cases : (is_at_least_zero (Q.plus a (Q.minus b)) ≡ true) ⊎ (is_at_least_zero (Q.plus a (Q.minus b)) ≡ false) → is_at_least_zero (Q.plus a (Q.minus b)) ≡ false
+    by_cases (inr k) = k
+    by_cases (inl k) = absurd (turn (a.num *ℤ pos b.den) b.num (pos a.den) h
         (sign_kept (a.num *ℤ pos b.den +ℤ neg_ℤ b.num *ℤ pos a.den) (Q.plus a (Q.minus b)).num (Q.plus a (Q.minus b)).den (a.den * b.den) (Q.plus a (Q.minus b)).positive (mul-pos a.positive b.positive)
         (sym (difference a b)) (from_sign (Q.plus a (Q.minus b)).num k)))
 

@@ -81,9 +81,9 @@ rational_cmp-same_den x y e = int_cmp_is (x.num *ℤ pos y.den) (y.num *ℤ pos 
 -- a test that tells equal numbers from others answers as the order does
 pub is_eq-rational_cmp : (b : Bool) (x y : Rational) → (b ≡ true → x ≡ y) → (b ≡ false → x ≢ y) → b ≡ is_eq (rational_cmp x y)
 is_eq-rational_cmp true x y f g = sym (ap (λ (q : Rational). is_eq (rational_cmp x q)) (sym (f refl)) ∙ ap is_eq (sym (int_cmp_is (x.num *ℤ pos x.den) (x.num *ℤ pos x.den) Equal refl)))
-is_eq-rational_cmp false x y f g = at (rational_cmp x y) refl
+is_eq-rational_cmp false x y f g = by_order (rational_cmp x y) refl
   where
-    at : (r : Ordering) → rational_cmp x y ≡ r → false ≡ is_eq r
-    at Less e = refl
-    at Equal e = absurd (g refl (tied x y e))
-    at Greater e = refl
+    by_order : (r : Ordering) → rational_cmp x y ≡ r → false ≡ is_eq r
+    by_order Less e = refl
+    by_order Equal e = absurd (g refl (tied x y e))
+    by_order Greater e = refl

@@ -1,2 +1,3 @@
 pub mod Rational
+pub mod OrderedFields
 pub mod Laws

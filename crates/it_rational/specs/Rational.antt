@@ -1,10 +1,10 @@
 -- The rational numbers: a record in lowest terms, so that two that are equal are one.
-use Rattle.std.specs.Prelude.{ℕ, zero, suc, ◌*◌, ◌/◌, ◌<◌, Bool, true, false, ℤ, pos, negsuc, ◌+ℤ◌, ◌*ℤ◌, neg_ℤ, unsigned_abs}
+use Rattle.std.specs.Prelude.{◌≡◌, ℕ, zero, suc, ◌*◌, ◌/◌, ◌<◌, Bool, true, false, ℤ, pos, negsuc, ◌+ℤ◌, ◌*ℤ◌, neg_ℤ, unsigned_abs}
 use Rattle.std.specs.Int.{IsGcd}
 use Rattle.std.specs.Ordering.{int_cmp}
 use Rattle.std.specs.declared.cmp.Ordering.{Ordering}
 use Rattle.it_number.specs.Gcd.{gcd}
-use Rattle.it_number.specs.Division.{over}
+use Rattle.it_number.specs.Division.{int_quotient}
 use Rattle.it_number.proofs.Quotients.{rest_pos, rest_lowest, one_pos, one_lowest}
 
 -- a rational number, in lowest terms
@@ -18,7 +18,7 @@ pub record Rational : Type 0 where
 unfoldable pub quotient : ℤ → ℕ → Rational
 quotient n zero = record { num = pos 0; den = 1; positive = one_pos; lowest = one_lowest }
 quotient n (suc d) = record {
-  num = over n (gcd (unsigned_abs n) (suc d));
+  num = int_quotient n (gcd (unsigned_abs n) (suc d));
   den = suc d / gcd (unsigned_abs n) (suc d);
   positive = rest_pos n d;
   lowest = rest_lowest n d;
@@ -37,13 +37,13 @@ abbrev pub minus : Rational → Rational
 minus a = quotient (neg_ℤ a.num) a.den
 
 -- n / d in lowest terms, for d with a sign; 0 where d is 0
-abbrev pub ratio : ℤ → ℤ → Rational
-ratio n (pos d) = quotient n d
-ratio n (negsuc d) = quotient (neg_ℤ n) (suc d)
+abbrev pub signed_quotient : ℤ → ℤ → Rational
+signed_quotient n (pos d) = quotient n d
+signed_quotient n (negsuc d) = quotient (neg_ℤ n) (suc d)
 
 -- 1 / a; 0 where a is 0
 abbrev pub inverse : Rational → Rational
-inverse a = ratio (pos a.den) a.num
+inverse a = signed_quotient (pos a.den) a.num
 
 -- the order of the rationals
 abbrev pub rational_cmp : Rational → Rational → Ordering
@@ -57,3 +57,7 @@ sign_least (negsuc n) = false
 -- whether a rational number is at least 0
 abbrev pub is_at_least_zero : Rational → Bool
 is_at_least_zero q = sign_least q.num
+
+-- q is n / d
+abbrev pub Names : Rational → ℤ → ℕ → Type 0
+Names q n d = q.num *ℤ pos d ≡ n *ℤ pos q.den

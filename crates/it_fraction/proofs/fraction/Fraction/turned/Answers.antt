@@ -5,16 +5,16 @@ use Rattle.std.proofs.lemmas.Nat.Gcd.{IsGcd-swap}
 use Rattle.it_fraction.proofs.fraction.Fraction.turned.Goals as goal
 use Rattle.it_fraction.proofs.Signs.{unsigned_abs-negated}
 
-pub made-requires-clause-lowest : goal.made-requires-clause-lowest
-made-requires-clause-lowest c =
+pub in_lowest_terms-requires-clause-lowest : goal.in_lowest_terms-requires-clause-lowest
+in_lowest_terms-requires-clause-lowest c =
     let f : FitsSigned w128 c.self.inside.top = search rules in
     let b = simp to_z-of_z at c.unsigned_abs-bottom.ensures.value in
     let p = to_z_pos w128 c.self.inside.bottom c.self.invariant.1 in
     let g : FitsSigned w128 (pos 0 -ℤ pos c.self.inside.bottom) = omega (arith, ints, c.self.invariant.1) in
     rw (p, to_z-of_z g, unsigned_abs-negated (pos c.self.inside.bottom), b) (IsGcd-swap (unsigned_abs c.self.inside.top) c.self.inside.bottom 1 c.self.inside.lowest)
 
-pub made-requires-else-self-lt0-clause-lowest : goal.made-requires-else-self-lt0-clause-lowest
-made-requires-else-self-lt0-clause-lowest c =
+pub in_lowest_terms-requires-else-self-lt0-clause-lowest : goal.in_lowest_terms-requires-else-self-lt0-clause-lowest
+in_lowest_terms-requires-else-self-lt0-clause-lowest c =
     let f : FitsSigned w128 c.self.inside.top = search rules in
     let b = simp to_z-of_z at c.unsigned_abs-bottom.ensures.value in
     let p = to_z_pos w128 c.self.inside.bottom c.self.invariant.1 in

@@ -1,7 +1,7 @@
 use Rattle.std.proofs.Common.{FitsSigned, to_z-of_z, to_z, of_z, pos, ◌*ℤ◌, sym, ap}
 use Rattle.std.specs.Int.{w128}
 use Rattle.it_rational.proofs.Names.{quotient_is}
-use Rattle.it_fraction.proofs.fraction.made.Goals as goal
+use Rattle.it_fraction.proofs.fraction.in_lowest_terms.Goals as goal
 
 pub invariant_of-result : goal.invariant_of-result
 invariant_of-result c =
