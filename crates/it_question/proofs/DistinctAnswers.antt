@@ -3,10 +3,10 @@ use Rattle.std.proofs.Common.{ℕ, Bool, true, false, cond, List, [], ◌∷◌,
 use Rattle.it_syntax.specs.declared.types.Symbol.TheVariants.{Comma}
 use Rattle.it_syntax.specs.declared.types.Code.TheVariants as codes
 use Rattle.it_syntax.specs.Letters.{Word, Sym, Marked, letters}
-use Rattle.it_syntax.specs.Reading.{Reads, ◌>>=◌}
-use Rattle.it_syntax.specs.Trees.{Environment, WrittenList, is_measure, index_or}
-use Rattle.it_question.specs.Trees.{is_among, once_mark, spell_once, spell_once_more, spell_distinct, indexes_of, distinct_of}
-use Rattle.it_question.specs.Reading.{if_unseen, once, read_once, read_once_more, read_distinct}
+use Rattle.it_syntax.specs.AtomReading.{Reads, ◌>>=◌}
+use Rattle.it_syntax.specs.WrittenAtoms.{Environment, WrittenList, is_measure, index_or}
+use Rattle.it_question.specs.WrittenLines.{is_among, once_mark, spell_once, spell_once_more, spell_distinct, indexes_of, distinct_of}
+use Rattle.it_question.specs.Reading.{if_unseen, rate_once, read_once, read_once_more, read_distinct}
 use Rattle.it_syntax.proofs.SpelledIsRead.{Answers, answers_ok, answers_cons, answers_bind, NoComma}
 use Rattle.it_question.proofs.NameAnswers.{marked_answers}
 
@@ -14,7 +14,7 @@ unseen_answers : (i : ℕ) (w : List ℕ) (b : Bool) (k : Marked) → Answers (i
 unseen_answers i w true k = marked_answers codes.Twice (Word w) k _ _
 unseen_answers i w false k = inl (refl, record { front = Word w ∷ []; is = refl })
 
-once_answers : (measure : Bool) (seen : List ℕ) (o : Option ℕ) (w : List ℕ) (k : Marked) → Answers (once measure seen o w (letters k)) ((Word w, once_mark measure seen o) ∷ k) (index_or o) k
+once_answers : (measure : Bool) (seen : List ℕ) (o : Option ℕ) (w : List ℕ) (k : Marked) → Answers (rate_once measure seen o w (letters k)) ((Word w, once_mark measure seen o) ∷ k) (index_or o) k
 once_answers true seen o w k = marked_answers codes.Word (Word w) k _ _
 once_answers false seen None w k = marked_answers codes.Name (Word w) k _ _
 once_answers false seen (Some i) w k = unseen_answers i w (is_among seen i) k
@@ -31,10 +31,10 @@ no_more env seen (x ∷ k) free = answers_ok [] (x ∷ k)
 
 -- a rate, and what is read behind it
 rate_then : (measure : Bool) (seen : List ℕ) (o : Option ℕ) (w : List ℕ) (f : ℕ → Reads (List ℕ)) (n k : Marked) (is : List ℕ) → Answers (f (index_or o)) n is k
-    → Answers (once measure seen o w (letters n) >>= λ i. f i.0 >>= λ more. Ok (i.0 ∷ more.0, more.1)) ((Word w, once_mark measure seen o) ∷ n) (index_or o ∷ is) k
+    → Answers (rate_once measure seen o w (letters n) >>= λ i. f i.0 >>= λ more. Ok (i.0 ∷ more.0, more.1)) ((Word w, once_mark measure seen o) ∷ n) (index_or o ∷ is) k
 rate_then measure seen o w f n k is h =
     let y = index_or o ∷ is in
-    answers_bind (once measure seen o w (letters n)) (λ i. f i.0 >>= λ more. Ok (i.0 ∷ more.0, more.1)) ((Word w, once_mark measure seen o) ∷ n) n k (index_or o) y (once_answers measure seen o w n)
+    answers_bind (rate_once measure seen o w (letters n)) (λ i. f i.0 >>= λ more. Ok (i.0 ∷ more.0, more.1)) ((Word w, once_mark measure seen o) ∷ n) n k (index_or o) y (once_answers measure seen o w n)
     (answers_bind (f (index_or o)) (λ more. Ok (index_or o ∷ more.0, more.1)) n k k is y h (answers_ok y k))
 
 more_answers : (env : Environment) (seen : List ℕ) (ws : List (List ℕ)) (k : Marked) → NoComma k → Answers (read_once_more env seen (letters (spell_once_more env seen ws k))) (spell_once_more env seen ws k) (indexes_of env ws) k

@@ -4,20 +4,20 @@ use Rattle.it_syntax.specs.declared.types.Symbol.TheVariants.{Comma}
 use Rattle.it_syntax.specs.declared.types.Code.{Code}
 use Rattle.it_syntax.specs.declared.types.Code.TheVariants as codes
 use Rattle.it_syntax.specs.Letters.{Letter, Word, Sym, Marked, clean}
-use Rattle.it_syntax.specs.FirstFault.{own}
-use Rattle.it_syntax.specs.Reading.{Reads, ◌>>=◌}
-use Rattle.it_syntax.specs.Trees.{Environment, WrittenList, is_measure, index_or}
+use Rattle.it_syntax.specs.FirstFault.{own_code}
+use Rattle.it_syntax.specs.AtomReading.{Reads, ◌>>=◌}
+use Rattle.it_syntax.specs.WrittenAtoms.{Environment, WrittenList, is_measure, index_or}
 use Rattle.it_syntax.proofs.Traces.{Stuck, By, Traces, traces_bind, traces_map}
 use Rattle.it_syntax.proofs.AtomTraces.{begun, empty, stuck_here, stuck_none}
-use Rattle.it_question.specs.Trees.{is_among, once_mark, spell_once, spell_once_more, spell_distinct, indexes_of, distinct_of}
-use Rattle.it_question.specs.Reading.{if_unseen, once, read_once, read_once_more, read_distinct}
+use Rattle.it_question.specs.WrittenLines.{is_among, once_mark, spell_once, spell_once_more, spell_distinct, indexes_of, distinct_of}
+use Rattle.it_question.specs.Reading.{if_unseen, rate_once, read_once, read_once_more, read_distinct}
 use Rattle.it_question.proofs.NameTraces.{some_name, number_of, IsJudged, marked_here, nothing_read}
 
 -- ---- a rate
 
-once_is : (env : Environment) (seen : List ℕ) (w : List ℕ) (h : Bool) (o : Option ℕ) → IsJudged env w h o → (ls : List Letter) → read_once env seen (Word w ∷ ls) ≡ once h seen o w ls
+once_is : (env : Environment) (seen : List ℕ) (w : List ℕ) (h : Bool) (o : Option ℕ) → IsJudged env w h o → (ls : List Letter) → read_once env seen (Word w ∷ ls) ≡ rate_once h seen o w ls
 unfolding read_once
-once_is env seen w h o e ls = ap (λ (b : Bool). once b seen (env w) w ls) e.0 ∙ ap (λ (p : Option ℕ). once h seen p w ls) e.1
+once_is env seen w h o e ls = ap (λ (b : Bool). rate_once b seen (env w) w ls) e.0 ∙ ap (λ (p : Option ℕ). rate_once h seen p w ls) e.1
 
 mark_is : (env : Environment) (seen : List ℕ) (w : List ℕ) (h : Bool) (o : Option ℕ) → IsJudged env w h o → (k : Marked) → spell_once env seen w k ≡ (Word w, once_mark h seen o) ∷ k
 mark_is env seen w h o e k = ap (λ (b : Bool). (Word w, once_mark b seen (env w)) ∷ k) e.0 ∙ ap (λ (p : Option ℕ). (Word w, once_mark h seen p) ∷ k) e.1
@@ -39,7 +39,7 @@ known_by env seen w ls i false e eb = record {
   stays = λ s h. known_is env seen w i false e eb s;
 }
 
-once_by : (env : Environment) (seen : List ℕ) (w : List ℕ) (ls : List Letter) (h : Bool) (o : Option ℕ) → IsJudged env w h o → By (read_once env seen) (spell_once env seen) (number_of env) (Word w ∷ ls) (once h seen o w ls)
+once_by : (env : Environment) (seen : List ℕ) (w : List ℕ) (ls : List Letter) (h : Bool) (o : Option ℕ) → IsJudged env w h o → By (read_once env seen) (spell_once env seen) (number_of env) (Word w ∷ ls) (rate_once h seen o w ls)
 once_by env seen w ls true o e = marked_here (read_once env seen) (spell_once env seen) w (Word w) ls codes.Word (λ k. k) (mark_is env seen w true o e) (once_is env seen w true o e)
 once_by env seen w ls false None e = marked_here (read_once env seen) (spell_once env seen) w (Word w) ls codes.Name (λ k. k) (mark_is env seen w false None e) (once_is env seen w false None e)
 once_by env seen w ls false (Some i) e = known_by env seen w ls i (is_among seen i) e refl
@@ -103,13 +103,13 @@ more_seen env seen w ls i true e eb h = more_marked env seen w ls codes.Twice (k
 more_seen env seen w ls i false e eb h = more_known env seen w ls i e eb (read_once_more env (seen ++ i ∷ []) ls) (h i)
 
 more_by : (env : Environment) (seen : List ℕ) (w : List ℕ) (ls : List Letter) (h : Bool) (o : Option ℕ) → IsJudged env w h o → Behind env seen ls
-    → By (read_once_more env seen) (spell_once_more env seen) (indexes_of env) (Sym Comma ∷ Word w ∷ ls) (with_rate env seen ls (once h seen o w ls))
+    → By (read_once_more env seen) (spell_once_more env seen) (indexes_of env) (Sym Comma ∷ Word w ∷ ls) (with_rate env seen ls (rate_once h seen o w ls))
 more_by env seen w ls true o e h = more_marked env seen w ls codes.Word (mark_is env seen w true o e) (once_is env seen w true o e)
 more_by env seen w ls false None e h = more_marked env seen w ls codes.Name (mark_is env seen w false None e) (once_is env seen w false None e)
 more_by env seen w ls false (Some i) e h = more_seen env seen w ls i (is_among seen i) e refl h
 
 -- behind a comma stands no word
-no_rate : (env : Environment) (seen : List ℕ) (l : Letter) (ls : List Letter) (c : Code) → ((s : List Letter) → read_once_more env seen (Sym Comma ∷ l ∷ s) ≡ Err (c, l ∷ s)) → own (l ∷ ls) ≡ c → Stuck (read_once_more env seen) (spell_once_more env seen) (Sym Comma ∷ l ∷ ls) c (l ∷ ls)
+no_rate : (env : Environment) (seen : List ℕ) (l : Letter) (ls : List Letter) (c : Code) → ((s : List Letter) → read_once_more env seen (Sym Comma ∷ l ∷ s) ≡ Err (c, l ∷ s)) → own_code (l ∷ ls) ≡ c → Stuck (read_once_more env seen) (spell_once_more env seen) (Sym Comma ∷ l ∷ ls) c (l ∷ ls)
 no_rate env seen l ls c h o = record {
   tree = some_name ∷ [];
   front = Sym Comma ∷ [];

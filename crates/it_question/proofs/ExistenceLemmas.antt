@@ -6,17 +6,18 @@ use Rattle.std.proofs.lemmas.Option.{slice_get-get_or}
 use Rattle.it_syntax.specs.declared.types.Code.{Code}
 use Rattle.it_syntax.specs.declared.types.Misspelling.{Misspelling}
 use Rattle.it_syntax.specs.declared.types.Token.{Token}
-use Rattle.it_syntax.specs.Letters.{Letter, End, Bad, Marked, clean, letters, cleaned}
+use Rattle.it_syntax.specs.Letters.{Letter, End, Bad, Marked, clean, letters, clean_all}
 use Rattle.it_syntax.specs.FirstFault.{FirstFault}
 use Rattle.it_syntax.specs.Misspellings.{SpellsUntil}
-use Rattle.it_syntax.specs.Reading.{Reads}
+use Rattle.it_syntax.specs.AtomReading.{Reads}
 use Rattle.it_syntax.proofs.FirstFaults.{letters_append, letters_behind, reads_only}
 use Rattle.it_question.specs.Files.{IsFile, FileFaultAt, FileHasOne}
-use Rattle.it_question.specs.Lines.{TokenLine, AreLines, AreLinesOf, split_lines, plain, file_end, end_line, letters_of_lines, places_of_lines}
-use Rattle.it_question.specs.Questions.{Posed, Asked}
+use Rattle.it_question.specs.Lines.{TokenLine, AreLines, AreLinesOf, split_lines, plain_text, file_end, end_line, letters_of_lines, places_of_lines}
+use Rattle.it_question.specs.Questions.{BodyView, QuestionView}
 use Rattle.it_question.specs.Reading.{read_file}
 use Rattle.it_question.specs.Texts.{with_texts}
-use Rattle.it_question.specs.Trees.{most_questions, spell_questions, questions_of, spell_file}
+use Rattle.it_question.specs.WrittenQuestions.{most_questions}
+use Rattle.it_question.specs.WrittenFiles.{spell_questions, questions_of, spell_file}
 use Rattle.it_question.proofs.FileAnswers.{file_answers}
 use Rattle.it_question.proofs.FileLemmas.{read_asks, read_stops}
 use Rattle.it_question.proofs.LetterLemmas.{EndsOnce, once_more, once_alone, lines_end, places_length}
@@ -29,19 +30,19 @@ use Rattle.it_question.proofs.TokensExist.{tokens_there}
 abbrev LinesFrom : ℕ → List (List ℕ) → Type 0
 LinesFrom n split = (lines : List TokenLine) × AreLines n split lines
 
-line_there : (n : ℕ) (bytes : List ℕ) (more : List (List ℕ)) (ts : List Token) (m : Option Misspelling) → SpellsUntil 0 (plain bytes) ts m → LinesFrom (n + 1) more → LinesFrom n (bytes ∷ more)
+line_there : (n : ℕ) (bytes : List ℕ) (more : List (List ℕ)) (ts : List Token) (m : Option Misspelling) → SpellsUntil 0 (plain_text bytes) ts m → LinesFrom (n + 1) more → LinesFrom n (bytes ∷ more)
 line_there n bytes more [] None h rest = (rest.0, inl (h, rest.1))
 line_there n bytes more [] (Some m) h rest =
-    let l : TokenLine = record { number = n; text = plain bytes; tokens = []; misspelling = Some m } in
+    let l : TokenLine = record { number = n; text = plain_text bytes; tokens = []; misspelling = Some m } in
     (l ∷ rest.0, inr (l, rest.0, refl, record { number = refl; text = refl; spelled = h }, tt, rest.1))
 line_there n bytes more (t ∷ ts) m h rest =
-    let l : TokenLine = record { number = n; text = plain bytes; tokens = t ∷ ts; misspelling = m } in
+    let l : TokenLine = record { number = n; text = plain_text bytes; tokens = t ∷ ts; misspelling = m } in
     (l ∷ rest.0, inr (l, rest.0, refl, record { number = refl; text = refl; spelled = h }, tt, rest.1))
 
 -- each list of lines has its tokens
 pub lines_there : (n : ℕ) (split : List (List ℕ)) → LinesFrom n split
 lines_there n [] = (end_line n ∷ [], refl)
-lines_there n (bytes ∷ more) = let x = tokens_there (plain bytes) in line_there n bytes more x.0 x.1 x.2 (lines_there (n + 1) more)
+lines_there n (bytes ∷ more) = let x = tokens_there (plain_text bytes) in line_there n bytes more x.0 x.1 x.2 (lines_there (n + 1) more)
 
 -- ---- a fault leaves letters
 
@@ -67,14 +68,14 @@ letters_left bytes lines c cut e =
     let spelled : letters p.front ++ file_end ∷ [] ≡ end.0 ++ file_end ∷ letters f.more =
     sym (letters_append p.front (clean file_end ∷ [])) ∙ ap letters (sym (p.is (clean file_end ∷ [])) ∙ f.viable) ∙ letters_behind f.front f.more ∙ ap (λ (t : List Letter). t ++ letters f.more) front ∙ append_assoc end.0 (file_end ∷ []) (letters f.more) in
     let none : f.more ≡ [] = no_letters f.more (lines_then_end _ (letters p.front) p.kind end.0 (letters f.more) spelled) in
-    let whole : spell_file f.tree ≡ cleaned ls = f.viable ∙ ap (λ (m : Marked). cleaned f.front ++ m) none ∙ append-nil (cleaned f.front) ∙ ap cleaned (sym (append-nil f.front) ∙ sym f.parts) in
+    let whole : spell_file f.tree ≡ clean_all ls = f.viable ∙ ap (λ (m : Marked). clean_all f.front ++ m) none ∙ append-nil (clean_all f.front) ∙ ap clean_all (sym (append-nil f.front) ∙ sym f.parts) in
     let read : read_file ls ≡ Ok (questions_of f.tree, []) = reads_only read_file (λ xs k. spell_questions most_questions xs (clean file_end ∷ k)) questions_of (λ xs. file_answers xs []) f.tree ls whole in
     absurd cc
 
 -- ---- one of the two
 
 abbrev HasOne : List ℕ → Type 0
-HasOne bytes = ((qs : List Asked) × IsFile bytes qs) ⊎ ((line : ℕ) × (column : ℕ) × (c : Code) × FileFaultAt bytes line column c)
+HasOne bytes = ((qs : List QuestionView) × IsFile bytes qs) ⊎ ((line : ℕ) × (column : ℕ) × (c : Code) × FileFaultAt bytes line column c)
 
 faulty : (bytes : List ℕ) (lines : List TokenLine) (c : Code) (r : List Letter) → AreLinesOf bytes lines → read_file (letters_of_lines lines) ≡ Err (c, r) → HasOne bytes
 faulty bytes lines c [] cut e = absurd (letters_left bytes lines c cut e)
@@ -91,7 +92,7 @@ file_has_one bytes = by (read_file (letters_of_lines cut.0)) refl
     cut : LinesFrom 1 (split_lines bytes)
     cut = lines_there 1 (split_lines bytes)
 
-    by : (r : Reads (List Posed)) → read_file (letters_of_lines cut.0) ≡ r → HasOne bytes
+    by : (r : Reads (List BodyView)) → read_file (letters_of_lines cut.0) ≡ r → HasOne bytes
     by (Ok x) e = let k = read_asks bytes cut.0 x.0 x.1 cut.1 e in
         inl (with_texts cut.0 x.0, record { lines = cut.0; cut = cut.1; trees = k.0; spelled = k.1.0; are = ap (with_texts cut.0) k.1.1 })
     by (Err x) e = faulty bytes cut.0 x.0 x.1 cut.1 e

@@ -1,19 +1,23 @@
 -- Questions, and a file of them, that are spelled so are read, up to the first mark.
 use Rattle.std.proofs.Common.{◌≡◌, ℕ, zero, suc, ◌-◌, true, List, [], ◌∷◌, None, Ok, refl, arith}
 use Rattle.it_syntax.specs.declared.types.Code.TheVariants as codes
-use Rattle.it_syntax.specs.Vocabulary.{Vocabulary}
+use Rattle.it_syntax.specs.NamesViews.{NamesView}
 use Rattle.it_syntax.specs.Letters.{Word, End, Marked, clean, letters}
 use Rattle.it_syntax.specs.Lines.{to_end}
-use Rattle.it_syntax.specs.Reading.{◌>>=◌}
-use Rattle.it_syntax.specs.Trees.{WrittenList}
-use Rattle.it_syntax.specs.Comparisons.{WrittenComparison, spell_comparison, comparison_of}
-use Rattle.it_syntax.specs.ComparisonLines.{scope_of}
-use Rattle.it_syntax.specs.ComparisonReading.{read_comparison}
+use Rattle.it_syntax.specs.AtomReading.{◌>>=◌}
+use Rattle.it_syntax.specs.WrittenAtoms.{WrittenList}
+use Rattle.it_syntax.specs.WrittenRelations.{WrittenRelation, spell_relation, relation_of}
+use Rattle.it_syntax.specs.Scopes.{scope_of}
+use Rattle.it_syntax.specs.RelationReading.{read_relation}
 use Rattle.it_question.specs.Lines.{file_end}
 use Rattle.it_question.specs.Keywords.{vars_text, rates_text, prove_text, eliminate_text, region_text}
-use Rattle.it_question.specs.Questions.{Proves, Eliminates}
-use Rattle.it_question.specs.Trees.{WrittenAim, Proving, Eliminating, Containing, WrittenQuestion, Variable, Rate, no_names, most_questions, most_variables, most_rates, most_lines, spell_new_names, new_names_of, spell_names_line, spell_own, own_of, rates_env, spell_distinct, distinct_of, givens_left, rows_left, spell_aim, aim_of, names_of, spell_question, question_of, spell_questions, questions_of}
-use Rattle.it_question.specs.Reading.{behind_word, read_new_names, read_names_line, read_lines, read_distinct, read_proof, read_elimination, read_aim, read_question, read_end, read_questions, read_file}
+use Rattle.it_question.specs.Questions as views
+use Rattle.it_question.specs.WrittenQuestions.{WrittenVerb, Prove, Eliminate, Contain, WrittenQuestion, most_questions, most_variables, most_rates, most_lines}
+use Rattle.it_question.specs.NewNames.{Variable, Rate, no_names, spell_new_names, new_names_of, spell_names_line}
+use Rattle.it_question.specs.WrittenLines.{spell_own, own_of, rates_env, spell_distinct, distinct_of}
+use Rattle.it_question.specs.WrittenRegions.{givens_left, rows_left}
+use Rattle.it_question.specs.WrittenFiles.{spell_verb, verb_of, names_of, spell_question, question_of, spell_questions, questions_of}
+use Rattle.it_question.specs.Reading.{behind_word, read_new_names, read_names_line, read_lines, read_distinct, read_proof, read_elimination, read_verb, read_question, read_end, read_questions, read_file}
 use Rattle.it_syntax.proofs.SpelledIsRead.{Answers, answers_ok, answers_cons, answers_bind}
 use Rattle.it_question.proofs.NameAnswers.{marked_answers, ended_answers, ended_names_answers, names_line_answers}
 use Rattle.it_question.proofs.LineAnswers.{NoOwn, relation_ended, lines_answers, own_no_word}
@@ -22,40 +26,40 @@ use Rattle.it_question.proofs.RegionAnswers.{spell_contained, containment_answer
 
 -- ---- what a question wants
 
-proof_answers : (v : Vocabulary) (x : WrittenComparison) (k : Marked) → Answers (read_proof v (letters (spell_comparison (scope_of v true) x (clean End ∷ k)))) (spell_comparison (scope_of v true) x (clean End ∷ k)) (Proves (comparison_of (scope_of v true) x)) k
+proof_answers : (v : NamesView) (x : WrittenRelation) (k : Marked) → Answers (read_proof v (letters (spell_relation (scope_of v true) x (clean End ∷ k)))) (spell_relation (scope_of v true) x (clean End ∷ k)) (views.Prove (relation_of (scope_of v true) x)) k
 unfolding read_proof
 proof_answers v x k =
     let s = scope_of v true in
-    let m = spell_comparison s x (clean End ∷ k) in
-    let c = comparison_of s x in
-    answers_bind (to_end (read_comparison s) (letters m)) (λ x. Ok (Proves x.0, x.1)) m k k c (Proves c) (relation_ended v x k) (answers_ok (Proves c) k)
+    let m = spell_relation s x (clean End ∷ k) in
+    let c = relation_of s x in
+    answers_bind (to_end (read_relation s) (letters m)) (λ x. Ok (views.Prove x.0, x.1)) m k k c (views.Prove c) (relation_ended v x k) (answers_ok (views.Prove c) k)
 
-elimination_answers : (v : Vocabulary) (l : WrittenList) (k : Marked) → Answers (read_elimination v (letters (spell_distinct (rates_env v) l (clean End ∷ k)))) (spell_distinct (rates_env v) l (clean End ∷ k)) (Eliminates (distinct_of (rates_env v) l)) k
+elimination_answers : (v : NamesView) (l : WrittenList) (k : Marked) → Answers (read_elimination v (letters (spell_distinct (rates_env v) l (clean End ∷ k)))) (spell_distinct (rates_env v) l (clean End ∷ k)) (views.Eliminate (distinct_of (rates_env v) l)) k
 unfolding read_elimination
 elimination_answers v l k =
     let env = rates_env v in
     let m = spell_distinct env l (clean End ∷ k) in
     let rates = distinct_of env l in
-    answers_bind (to_end (read_distinct env) (letters m)) (λ x. Ok (Eliminates x.0, x.1)) m k k rates (Eliminates rates) (ended_answers (read_distinct env) m k rates (distinct_answers env l (clean End ∷ k) tt)) (answers_ok (Eliminates rates) k)
+    answers_bind (to_end (read_distinct env) (letters m)) (λ x. Ok (views.Eliminate x.0, x.1)) m k k rates (views.Eliminate rates) (ended_answers (read_distinct env) m k rates (distinct_answers env l (clean End ∷ k) tt)) (answers_ok (views.Eliminate rates) k)
 
-aim_answers : (g r : ℕ) (v : Vocabulary) (x : WrittenAim) (k : Marked) → Answers (read_aim g r v (letters (spell_aim g r v x k))) (spell_aim g r v x k) (aim_of v x) k
-unfolding read_aim
-aim_answers g r v (Proving x) k = answers_cons (Word prove_text) _ (spell_comparison (scope_of v true) x (clean End ∷ k)) (aim_of v (Proving x)) k (proof_answers v x k)
-aim_answers g r v (Eliminating l) k = answers_cons (Word eliminate_text) _ (spell_distinct (rates_env v) l (clean End ∷ k)) (aim_of v (Eliminating l)) k (elimination_answers v l k)
-aim_answers g r v (Containing x) k = answers_cons (Word region_text) _ (spell_contained g r v x k) (aim_of v (Containing x)) k (containment_answers g r v x k)
+verb_answers : (g r : ℕ) (v : NamesView) (x : WrittenVerb) (k : Marked) → Answers (read_verb g r v (letters (spell_verb g r v x k))) (spell_verb g r v x k) (verb_of v x) k
+unfolding read_verb
+verb_answers g r v (Prove x) k = answers_cons (Word prove_text) _ (spell_relation (scope_of v true) x (clean End ∷ k)) (verb_of v (Prove x)) k (proof_answers v x k)
+verb_answers g r v (Eliminate l) k = answers_cons (Word eliminate_text) _ (spell_distinct (rates_env v) l (clean End ∷ k)) (verb_of v (Eliminate l)) k (elimination_answers v l k)
+verb_answers g r v (Contain x) k = answers_cons (Word region_text) _ (spell_contained g r v x k) (verb_of v (Contain x)) k (containment_answers g r v x k)
 
 -- it begins with a word that begins no line before it
-aim_no_own : (g r : ℕ) (v : Vocabulary) (x : WrittenAim) (k : Marked) → NoOwn (spell_aim g r v x k)
+verb_no_own : (g r : ℕ) (v : NamesView) (x : WrittenVerb) (k : Marked) → NoOwn (spell_verb g r v x k)
 unfolding behind_word
-aim_no_own g r v (Proving x) k = record { no_given = refl; no_row = refl }
-aim_no_own g r v (Eliminating l) k = record { no_given = refl; no_row = refl }
-aim_no_own g r v (Containing x) k = record { no_given = refl; no_row = refl }
+verb_no_own g r v (Prove x) k = record { no_given = refl; no_row = refl }
+verb_no_own g r v (Eliminate l) k = record { no_given = refl; no_row = refl }
+verb_no_own g r v (Contain x) k = record { no_given = refl; no_row = refl }
 
-aim_no_rates : (g r : ℕ) (v : Vocabulary) (x : WrittenAim) (k : Marked) → behind_word rates_text (letters (spell_aim g r v x k)) ≡ None
+verb_no_rates : (g r : ℕ) (v : NamesView) (x : WrittenVerb) (k : Marked) → behind_word rates_text (letters (spell_verb g r v x k)) ≡ None
 unfolding behind_word
-aim_no_rates g r v (Proving x) k = refl
-aim_no_rates g r v (Eliminating l) k = refl
-aim_no_rates g r v (Containing x) k = refl
+verb_no_rates g r v (Prove x) k = refl
+verb_no_rates g r v (Eliminate l) k = refl
+verb_no_rates g r v (Contain x) k = refl
 
 -- ---- questions
 
@@ -68,19 +72,19 @@ question_answers x k =
     let own = own_of names x.own in
     let givens = givens_left most_lines own in
     let rows = rows_left most_lines own in
-    let verb = spell_aim givens rows names x.aim k in
+    let verb = spell_verb givens rows names x.verb k in
     let lines = spell_own most_lines most_lines names x.own verb in
     let rates = spell_names_line Rate most_rates rates_text variables x.rates lines in
     let all = spell_new_names Variable most_variables no_names x.variables (clean End ∷ rates) in
-    let aim = aim_of names x.aim in
+    let aim = verb_of names x.verb in
     let y = question_of x in
-    answers_bind (to_end (read_new_names Variable most_variables no_names) (letters all)) (λ variables. read_names_line Rate most_rates rates_text variables.0 variables.1 >>= λ names. read_lines most_lines most_lines names.0 names.1 >>= λ own. read_aim (givens_left most_lines own.0) (rows_left most_lines own.0) names.0 own.1 >>= λ aim. Ok (record { names = names.0; lines = own.0; aim = aim.0 }, aim.1)) all rates k variables y
+    answers_bind (to_end (read_new_names Variable most_variables no_names) (letters all)) (λ variables. read_names_line Rate most_rates rates_text variables.0 variables.1 >>= λ names. read_lines most_lines most_lines names.0 names.1 >>= λ own. read_verb (givens_left most_lines own.0) (rows_left most_lines own.0) names.0 own.1 >>= λ aim. Ok (record { names = names.0; lines = own.0; verb = aim.0 }, aim.1)) all rates k variables y
     (ended_names_answers Variable most_variables no_names x.variables rates)
-    (answers_bind (read_names_line Rate most_rates rates_text variables (letters rates)) (λ names. read_lines most_lines most_lines names.0 names.1 >>= λ own. read_aim (givens_left most_lines own.0) (rows_left most_lines own.0) names.0 own.1 >>= λ aim. Ok (record { names = names.0; lines = own.0; aim = aim.0 }, aim.1)) rates lines k names y
-    (names_line_answers Rate most_rates rates_text variables x.rates lines refl (own_no_word rates_text most_lines most_lines names x.own verb refl refl (aim_no_rates givens rows names x.aim k)))
-    (answers_bind (read_lines most_lines most_lines names (letters lines)) (λ own. read_aim (givens_left most_lines own.0) (rows_left most_lines own.0) names own.1 >>= λ aim. Ok (record { names = names; lines = own.0; aim = aim.0 }, aim.1)) lines verb k own y
-    (lines_answers most_lines most_lines names x.own verb (aim_no_own givens rows names x.aim k))
-    (answers_bind (read_aim givens rows names (letters verb)) (λ aim. Ok (record { names = names; lines = own; aim = aim.0 }, aim.1)) verb k k aim y (aim_answers givens rows names x.aim k) (answers_ok y k))))
+    (answers_bind (read_names_line Rate most_rates rates_text variables (letters rates)) (λ names. read_lines most_lines most_lines names.0 names.1 >>= λ own. read_verb (givens_left most_lines own.0) (rows_left most_lines own.0) names.0 own.1 >>= λ aim. Ok (record { names = names.0; lines = own.0; verb = aim.0 }, aim.1)) rates lines k names y
+    (names_line_answers Rate most_rates rates_text variables x.rates lines refl (own_no_word rates_text most_lines most_lines names x.own verb refl refl (verb_no_rates givens rows names x.verb k)))
+    (answers_bind (read_lines most_lines most_lines names (letters lines)) (λ own. read_verb (givens_left most_lines own.0) (rows_left most_lines own.0) names own.1 >>= λ aim. Ok (record { names = names; lines = own.0; verb = aim.0 }, aim.1)) lines verb k own y
+    (lines_answers most_lines most_lines names x.own verb (verb_no_own givens rows names x.verb k))
+    (answers_bind (read_verb givens rows names (letters verb)) (λ aim. Ok (record { names = names; lines = own; verb = aim.0 }, aim.1)) verb k k aim y (verb_answers givens rows names x.verb k) (answers_ok y k))))
 
 -- questions up to the file's end, of which n are allowed
 pub questions_answers : (n : ℕ) (xs : List WrittenQuestion) (k : Marked) → Answers (read_questions n (letters (spell_questions n xs (clean file_end ∷ k)))) (spell_questions n xs (clean file_end ∷ k)) (questions_of xs) k

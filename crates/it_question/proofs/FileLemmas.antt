@@ -5,19 +5,20 @@ use Rattle.std.proofs.lemmas.List.{append-nil}
 use Rattle.it_syntax.specs.declared.types.Code.{Code}
 use Rattle.it_syntax.specs.declared.types.Misspelling.{Misspelling}
 use Rattle.it_syntax.specs.declared.types.Token.{Token}
-use Rattle.it_syntax.specs.Letters.{Letter, Marked, clean, letters, cleaned}
+use Rattle.it_syntax.specs.Letters.{Letter, Marked, clean, letters, clean_all}
 use Rattle.it_syntax.specs.FirstFault.{FirstFault}
 use Rattle.it_syntax.specs.Misspellings.{SpellsUntil}
-use Rattle.it_syntax.specs.Reading.{Reads}
+use Rattle.it_syntax.specs.AtomReading.{Reads}
 use Rattle.it_syntax.proofs.Traces.{By, Went}
 use Rattle.it_syntax.proofs.MisspellingLemmas.{line_tokens_are_one}
 use Rattle.it_syntax.proofs.FirstFaults.{letters_append, letters_behind, first_fault, one_fault, reads_found, reads_only, clean_is_clean, letters_cleaned}
 use Rattle.it_question.specs.Files.{FileIsOne, FileFaultIsOne, FileOrFault}
-use Rattle.it_question.specs.Lines.{TokenLine, AreLines, AreLinesOf, IsLine, HasTokens, IsFilled, split_lines, plain, file_end, letters_of_lines, places_of_lines}
-use Rattle.it_question.specs.Questions.{Posed}
+use Rattle.it_question.specs.Lines.{TokenLine, AreLines, AreLinesOf, IsLine, HasTokens, IsFilled, split_lines, plain_text, file_end, letters_of_lines, places_of_lines}
+use Rattle.it_question.specs.Questions.{BodyView}
 use Rattle.it_question.specs.Reading.{read_file}
 use Rattle.it_question.specs.Texts.{with_texts}
-use Rattle.it_question.specs.Trees.{WrittenQuestion, most_questions, spell_questions, questions_of, spell_file}
+use Rattle.it_question.specs.WrittenQuestions.{WrittenQuestion, most_questions}
+use Rattle.it_question.specs.WrittenFiles.{spell_questions, questions_of, spell_file}
 use Rattle.it_question.proofs.FileAnswers.{file_answers}
 use Rattle.it_question.proofs.FileTraces.{file_traces}
 use Rattle.it_question.proofs.LetterLemmas.{lines_once}
@@ -28,9 +29,9 @@ use Rattle.it_question.proofs.LinePuts.{questions_put}
 line_made : ℕ → List ℕ → List Token → Option Misspelling → TokenLine
 line_made n text ts m = record { number = n; text = text; tokens = ts; misspelling = m }
 
-blank_or_filled : (n : ℕ) (bytes : List ℕ) (l : TokenLine) → SpellsUntil 0 (plain bytes) [] None → IsLine n bytes l → HasTokens l → ⊥
+blank_or_filled : (n : ℕ) (bytes : List ℕ) (l : TokenLine) → SpellsUntil 0 (plain_text bytes) [] None → IsLine n bytes l → HasTokens l → ⊥
 blank_or_filled n bytes l blank h filled =
-    let one = line_tokens_are_one (plain bytes) l.tokens [] l.misspelling None (subst (λ (t : List ℕ). SpellsUntil 0 t l.tokens l.misspelling) h.text h.spelled) blank in
+    let one = line_tokens_are_one (plain_text bytes) l.tokens [] l.misspelling None (subst (λ (t : List ℕ). SpellsUntil 0 t l.tokens l.misspelling) h.text h.spelled) blank in
     subst (λ (m : Option Misspelling). IsFilled [] m) one.1 (subst (λ (ts : List Token). IsFilled ts l.misspelling) one.0 filled)
 
 line_is_one : (n : ℕ) (bytes : List ℕ) (l k : TokenLine) → IsLine n bytes l → IsLine n bytes k → l ≡ k
@@ -56,10 +57,10 @@ abbrev spell_to_end : List WrittenQuestion → Marked → Marked
 spell_to_end xs k = spell_questions most_questions xs (clean file_end ∷ k)
 
 -- nothing is left of the letters of a file that is read
-pub read_whole : (bytes : List ℕ) (lines : List TokenLine) (ys : List Posed) (r : List Letter) → AreLinesOf bytes lines → read_file (letters_of_lines lines) ≡ Ok (ys, r) → r ≡ []
+pub read_whole : (bytes : List ℕ) (lines : List TokenLine) (ys : List BodyView) (r : List Letter) → AreLinesOf bytes lines → read_file (letters_of_lines lines) ≡ Ok (ys, r) → r ≡ []
 read_whole bytes lines ys r cut e =
     let ls = letters_of_lines lines in
-    let w : Went read_file spell_to_end questions_of ls ys r = subst (λ (t : Reads (List Posed)). By read_file spell_to_end questions_of ls t) e (file_traces ls) in
+    let w : Went read_file spell_to_end questions_of ls ys r = subst (λ (t : Reads (List BodyView)). By read_file spell_to_end questions_of ls t) e (file_traces ls) in
     let p = questions_put most_questions w.tree in
     let front : w.front ≡ letters p.front ++ file_end ∷ [] =
     sym (append-nil w.front) ∙ sym (letters_behind w.front []) ∙ ap letters (sym (w.spells []) ∙ p.is (clean file_end ∷ [])) ∙ letters_append p.front (clean file_end ∷ []) in
@@ -68,7 +69,7 @@ read_whole bytes lines ys r cut e =
 -- ---- what reading tells
 
 -- what is read is what the file asks
-pub read_asks : (bytes : List ℕ) (lines : List TokenLine) (ys : List Posed) (r : List Letter) → AreLinesOf bytes lines → read_file (letters_of_lines lines) ≡ Ok (ys, r) → (trees : List WrittenQuestion) × ((spell_file trees ≡ cleaned (letters_of_lines lines)) × (questions_of trees ≡ ys))
+pub read_asks : (bytes : List ℕ) (lines : List TokenLine) (ys : List BodyView) (r : List Letter) → AreLinesOf bytes lines → read_file (letters_of_lines lines) ≡ Ok (ys, r) → (trees : List WrittenQuestion) × ((spell_file trees ≡ clean_all (letters_of_lines lines)) × (questions_of trees ≡ ys))
 read_asks bytes lines ys r cut e =
     let whole : read_file (letters_of_lines lines) ≡ Ok (ys, []) = e ∙ ap (λ (s : List Letter). Ok (ys, s)) (read_whole bytes lines ys r cut e) in
     reads_found read_file spell_to_end questions_of file_traces (letters_of_lines lines) ys whole
@@ -79,17 +80,17 @@ read_stops lines c r e = first_fault read_file spell_to_end questions_of file_tr
 
 -- ---- one reading, or one fault
 
-asks_one : (ls : List Letter) (xs ys : List WrittenQuestion) → spell_file xs ≡ cleaned ls → spell_file ys ≡ cleaned ls → questions_of xs ≡ questions_of ys
+asks_one : (ls : List Letter) (xs ys : List WrittenQuestion) → spell_file xs ≡ clean_all ls → spell_file ys ≡ clean_all ls → questions_of xs ≡ questions_of ys
 asks_one ls xs ys h g =
     let x : read_file ls ≡ Ok (questions_of xs, []) = reads_only read_file spell_to_end questions_of (λ xs. file_answers xs []) xs ls h in
     let y : read_file ls ≡ Ok (questions_of ys, []) = reads_only read_file spell_to_end questions_of (λ xs. file_answers xs []) ys ls g in
     let pair : (questions_of xs, []) ≡ (questions_of ys, []) = cc in
-    ap (λ (p : List Posed × List Letter). p.0) pair
+    ap (λ (p : List BodyView × List Letter). p.0) pair
 
 pub file_is_one : FileIsOne
 file_is_one bytes qs rs f g =
     let lines : f.lines ≡ g.lines = lines_are_one 1 (split_lines bytes) f.lines g.lines f.cut g.cut in
-    let spelled : spell_file f.trees ≡ cleaned (letters_of_lines g.lines) = f.spelled ∙ ap (λ (ls : List TokenLine). cleaned (letters_of_lines ls)) lines in
+    let spelled : spell_file f.trees ≡ clean_all (letters_of_lines g.lines) = f.spelled ∙ ap (λ (ls : List TokenLine). clean_all (letters_of_lines ls)) lines in
     let same = asks_one (letters_of_lines g.lines) f.trees g.trees spelled g.spelled in
     sym f.are ∙ ap (λ (ls : List TokenLine). with_texts ls (questions_of f.trees)) lines ∙ ap (with_texts g.lines) same ∙ g.are
 
@@ -110,6 +111,6 @@ pub file_or_fault : FileOrFault
 file_or_fault bytes qs line column c f g =
     let lines : f.lines ≡ g.lines = lines_are_one 1 (split_lines bytes) f.lines g.lines f.cut g.cut in
     let ls = letters_of_lines g.lines in
-    let spelled : spell_file f.trees ≡ cleaned ls = f.spelled ∙ ap (λ (ls : List TokenLine). cleaned (letters_of_lines ls)) lines in
+    let spelled : spell_file f.trees ≡ clean_all ls = f.spelled ∙ ap (λ (ls : List TokenLine). clean_all (letters_of_lines ls)) lines in
     let k = g.first.each f.trees g.left refl (ap letters spelled ∙ letters_cleaned ls ∙ g.first.parts) in
     clean_is_clean ls g.first.front c (k.0, k.1, sym spelled ∙ k.2)

@@ -1,7 +1,8 @@
 -- The lines of a file, one after the other.
 use Rattle.std.proofs.Common.{◌≡◌, ℕ, suc, ◌+◌, ◌≤◌, ◌==◌, Bool, true, false, cond, List, [], ◌∷◌, ◌++◌, length, refl, sym, ap, ◌∙◌, subst, inl, inr, append_assoc, arith}
 use Rattle.std.proofs.lemmas.List.{length-map}
-use Rattle.it_question.specs.Lines.{TokenLine, AreLines, Added, without_return, before_comment, untabbed, plain}
+use Rattle.it_question.specs.Lines.{TokenLine, AreLines, without_return, before_comment, without_tab, plain_text}
+use Rattle.it_question.specs.ReaderSteps.{Added}
 
 return_shorter : (line : List ℕ) → length (without_return line) ≤ length line
 return_shorter [] = omega arith
@@ -21,8 +22,8 @@ comment_shorter (b ∷ line) = by (b == 35) (comment_shorter line)
     by false h = omega (arith, h)
 
 -- what is read of a line is no longer
-pub plain_shorter : (line : List ℕ) → length (plain line) ≤ length line
-plain_shorter line = omega (arith, length-map (before_comment (without_return line)) untabbed, comment_shorter (without_return line), return_shorter line)
+pub plain_shorter : (line : List ℕ) → length (plain_text line) ≤ length line
+plain_shorter line = omega (arith, length-map (before_comment (without_return line)) without_tab, comment_shorter (without_return line), return_shorter line)
 
 -- lines so far, and each reading of the lines behind them
 abbrev pub GoOn : ℕ → List (List ℕ) → List (List ℕ) → List TokenLine → Type 0

@@ -11,14 +11,14 @@ use Rattle.it_question.specs.declared.types.FileFault.{FileFault}
 use Rattle.it_question.specs.declared.types.FileFault.TheVariants.{Memory, Fault}
 use Rattle.it_question.specs.declared.types.Question.{Question}
 use Rattle.it_question.specs.declared.bodies.Body.{Body}
-use Rattle.it_question.specs.Bodies.{body}
+use Rattle.it_question.specs.Bodies.{body_view}
 use Rattle.it_question.specs.Files.{place_of, IsFile, IsFirstFileFault}
 use Rattle.it_question.specs.Stops.{IsLeft, IfFault, IsStopAt}
 use Rattle.it_question.specs.Lines.{TokenLine, AreLinesOf, letters_of_lines}
 use Rattle.it_question.specs.Limits.{IsQuestion}
-use Rattle.it_question.specs.Questions.{Posed, Asked, posed, asked}
+use Rattle.it_question.specs.Questions.{BodyView, QuestionView, question_body, question_view}
 use Rattle.it_question.specs.Reading.{read_file}
-use Rattle.it_question.specs.Trees.{spell_file}
+use Rattle.it_question.specs.WrittenFiles.{spell_file}
 use Rattle.it_question.specs.Texts.{question_lines, with_texts}
 use Rattle.it_question.proofs.FileLemmas.{read_asks, read_stops}
 use Rattle.it_question.proofs.LimitLemmas.{file_limited}
@@ -26,32 +26,32 @@ use Rattle.it_question.proofs.LetterLemmas.{letters_bound, places_length}
 use Rattle.it_question.proofs.ExistenceLemmas.{letters_left}
 
 -- a file whose letters were read
-pub file_read : (bytes : List ℕ) (lines : List TokenLine) (ys : List Posed) (r : List Letter) (qs : List Asked) → AreLinesOf bytes lines → read_file (letters_of_lines lines) ≡ Ok (ys, r) → qs ≡ with_texts lines ys → IsFile bytes qs
+pub file_read : (bytes : List ℕ) (lines : List TokenLine) (ys : List BodyView) (r : List Letter) (qs : List QuestionView) → AreLinesOf bytes lines → read_file (letters_of_lines lines) ≡ Ok (ys, r) → qs ≡ with_texts lines ys → IsFile bytes qs
 file_read bytes lines ys r qs cut e are =
     let k = read_asks bytes lines ys r cut e in
     record { lines = lines; cut = cut; trees = k.0; spelled = k.1.0; are = ap (with_texts lines) k.1.1 ∙ sym are }
 
 -- the questions with their texts are those that were read
-posed_again : (lines : List TokenLine) (ys : List Posed) → map (λ (q : Asked). q.posed) (with_texts lines ys) ≡ ys
-posed_again lines [] = refl
-posed_again lines (y ∷ ys) = ap (λ (qs : List Posed). y ∷ qs) (posed_again (drop (question_lines y) lines) ys)
+body_again : (lines : List TokenLine) (ys : List BodyView) → map (λ (q : QuestionView). q.body) (with_texts lines ys) ≡ ys
+body_again lines [] = refl
+body_again lines (y ∷ ys) = ap (λ (qs : List BodyView). y ∷ qs) (body_again (drop (question_lines y) lines) ys)
 
 -- what holds of each of some values holds of what they are made from
 from_map : {X Y : Type 0} (P : Y → Type 0) (f : X → Y) (xs : List X) → All P (map f xs) → All (λ x. P (f x)) xs
 from_map P f [] h = λ k d lt. absurd (omega (arith, lt))
 from_map P f (x ∷ xs) h = All-cons (λ y. P (f y)) x xs (All-head P (f x) (map f xs) h) (from_map P f xs (All-tail P (f x) (map f xs) h))
 
-pub bodies_limited : (bodies : List Body) (lines : List TokenLine) (r : List Letter) → read_file (letters_of_lines lines) ≡ Ok (map body bodies, r) → All (λ b. IsQuestion (body b)) bodies
-bodies_limited bodies lines r e = from_map IsQuestion body bodies (file_limited (letters_of_lines lines) r (map body bodies) e)
+pub bodies_limited : (bodies : List Body) (lines : List TokenLine) (r : List Letter) → read_file (letters_of_lines lines) ≡ Ok (map body_view bodies, r) → All (λ b. IsQuestion (body_view b)) bodies
+bodies_limited bodies lines r e = from_map IsQuestion body_view bodies (file_limited (letters_of_lines lines) r (map body_view bodies) e)
 
-pub questions_limited : (qs : List Question) (lines : List TokenLine) (ys : List Posed) (r : List Letter) → read_file (letters_of_lines lines) ≡ Ok (ys, r) → map asked qs ≡ with_texts lines ys → All (λ q. IsQuestion (posed q)) qs
+pub questions_limited : (qs : List Question) (lines : List TokenLine) (ys : List BodyView) (r : List Letter) → read_file (letters_of_lines lines) ≡ Ok (ys, r) → map question_view qs ≡ with_texts lines ys → All (λ q. IsQuestion (question_body q)) qs
 questions_limited qs lines ys r e are =
-    let same : map posed qs ≡ ys = map_twice qs ∙ ap (map (λ (q : Asked). q.posed)) are ∙ posed_again lines ys in
-    from_map IsQuestion posed qs (subst (All IsQuestion) (sym same) (file_limited (letters_of_lines lines) r ys e))
+    let same : map question_body qs ≡ ys = map_twice qs ∙ ap (map (λ (q : QuestionView). q.body)) are ∙ body_again lines ys in
+    from_map IsQuestion question_body qs (subst (All IsQuestion) (sym same) (file_limited (letters_of_lines lines) r ys e))
   where
-    map_twice : (qs : List Question) → map posed qs ≡ map (λ (q : Asked). q.posed) (map asked qs)
+    map_twice : (qs : List Question) → map question_body qs ≡ map (λ (q : QuestionView). q.body) (map question_view qs)
     map_twice [] = refl
-    map_twice (q ∷ qs) = ap (λ (xs : List Posed). posed q ∷ xs) (map_twice qs)
+    map_twice (q ∷ qs) = ap (λ (xs : List BodyView). question_body q ∷ xs) (map_twice qs)
 
 -- ---- a fault
 

@@ -3,23 +3,28 @@ use Rattle.std.proofs.Common.{◌≡◌, ℕ, zero, suc, ◌-◌, Bool, true, fa
 use Rattle.std.specs.Prelude.{bytes_eq}
 use Rattle.std.proofs.lemmas.Slice.Eq.{bytes_eq-Decides}
 use Rattle.it_syntax.specs.declared.types.Code.TheVariants as codes
-use Rattle.it_syntax.specs.Vocabulary.{Vocabulary}
+use Rattle.it_syntax.specs.NamesViews.{NamesView}
 use Rattle.it_syntax.specs.Letters.{Letter, Word, End, Bad, Marked, clean}
 use Rattle.it_syntax.specs.FirstFault.{head}
 use Rattle.it_syntax.specs.Lines.{to_end}
-use Rattle.it_syntax.specs.Reading.{Reads, ◌>>=◌}
-use Rattle.it_syntax.specs.Trees.{WrittenList}
-use Rattle.it_syntax.specs.Comparisons.{WrittenComparison, spell_comparison, comparison_of}
-use Rattle.it_syntax.specs.ComparisonLines.{scope_of}
-use Rattle.it_syntax.specs.ComparisonReading.{read_comparison}
+use Rattle.it_syntax.specs.AtomReading.{Reads, ◌>>=◌}
+use Rattle.it_syntax.specs.WrittenAtoms.{WrittenList}
+use Rattle.it_syntax.specs.WrittenRelations.{WrittenRelation, spell_relation, relation_of}
+use Rattle.it_syntax.specs.Scopes.{scope_of}
+use Rattle.it_syntax.specs.RelationReading.{read_relation}
 use Rattle.it_syntax.proofs.Traces.{By, Traces, traces_bind, traces_map, letter_then, switch, renamed}
 use Rattle.it_syntax.proofs.AtomTraces.{stuck_here, stuck_none}
-use Rattle.it_syntax.proofs.ComparisonTraces.{comparison_traces}
+use Rattle.it_syntax.proofs.RelationTraces.{relation_traces}
 use Rattle.it_question.specs.Lines.{file_end}
 use Rattle.it_question.specs.Keywords.{vars_text, rates_text, region_text, prove_text, eliminate_text}
-use Rattle.it_question.specs.Questions.{Lines, Aim, Proves, Eliminates, Posed}
-use Rattle.it_question.specs.Trees.{WrittenLine, WrittenAim, Proving, Eliminating, Containing, WrittenQuestion, Variable, Rate, no_names, most_questions, most_variables, most_rates, most_lines, spell_new_names, new_names_of, spell_names_line, names_line_of, spell_own, own_of, spell_distinct, distinct_of, rates_env, givens_left, rows_left, containment_of, spell_aim, aim_of, spell_question, question_of, spell_questions, questions_of}
-use Rattle.it_question.specs.Reading.{behind_word, read_new_names, read_names_line, read_lines, read_distinct, read_containment, read_proof, read_elimination, read_aim, read_question, read_end, question_then, if_asked, read_questions, read_file}
+use Rattle.it_question.specs.Questions.{OwnLinesView, VerbView, BodyView}
+use Rattle.it_question.specs.Questions as views
+use Rattle.it_question.specs.WrittenQuestions.{WrittenLine, WrittenVerb, Prove, Eliminate, Contain, WrittenQuestion, most_questions, most_variables, most_rates, most_lines}
+use Rattle.it_question.specs.NewNames.{Variable, Rate, no_names, spell_new_names, new_names_of, spell_names_line, names_line_of}
+use Rattle.it_question.specs.WrittenLines.{spell_own, own_of, spell_distinct, distinct_of, rates_env}
+use Rattle.it_question.specs.WrittenRegions.{givens_left, rows_left, containment_of}
+use Rattle.it_question.specs.WrittenFiles.{spell_verb, verb_of, spell_question, question_of, spell_questions, questions_of}
+use Rattle.it_question.specs.Reading.{behind_word, read_new_names, read_names_line, read_lines, read_distinct, read_containment, read_proof, read_elimination, read_verb, read_question, read_end, question_then, if_question, read_questions, read_file}
 use Rattle.it_question.proofs.NameTraces.{ended_traces, marked_here, at_word, behind_traced, new_names_traces, names_line_traces}
 use Rattle.it_question.proofs.LineTraces.{some_relation, lines_traces}
 use Rattle.it_question.proofs.DistinctTraces.{distinct_traces}
@@ -28,98 +33,98 @@ use Rattle.it_question.proofs.RegionTraces.{containment_traces}
 
 -- ---- aims
 
-abbrev pub spell_proof : Vocabulary → WrittenComparison → Marked → Marked
-spell_proof v x k = spell_comparison (scope_of v true) x (clean End ∷ k)
+abbrev pub spell_proof : NamesView → WrittenRelation → Marked → Marked
+spell_proof v x k = spell_relation (scope_of v true) x (clean End ∷ k)
 
 -- behind `prove`
-pub proof_traces : (v : Vocabulary) → Traces (read_proof v) (spell_proof v) (λ x. Proves (comparison_of (scope_of v true) x))
+pub proof_traces : (v : NamesView) → Traces (read_proof v) (spell_proof v) (λ x. views.Prove (relation_of (scope_of v true) x))
 unfolding read_proof
-proof_traces v = traces_map (to_end (read_comparison (scope_of v true))) Proves (spell_proof v) (comparison_of (scope_of v true)) (ended_traces (read_comparison (scope_of v true)) (spell_comparison (scope_of v true)) (comparison_of (scope_of v true)) (comparison_traces (scope_of v true)))
+proof_traces v = traces_map (to_end (read_relation (scope_of v true))) views.Prove (spell_proof v) (relation_of (scope_of v true)) (ended_traces (read_relation (scope_of v true)) (spell_relation (scope_of v true)) (relation_of (scope_of v true)) (relation_traces (scope_of v true)))
 
-abbrev pub spell_elimination : Vocabulary → WrittenList → Marked → Marked
+abbrev pub spell_elimination : NamesView → WrittenList → Marked → Marked
 spell_elimination v l k = spell_distinct (rates_env v) l (clean End ∷ k)
 
 -- behind `eliminate`
-pub elimination_traces : (v : Vocabulary) → Traces (read_elimination v) (spell_elimination v) (λ l. Eliminates (distinct_of (rates_env v) l))
+pub elimination_traces : (v : NamesView) → Traces (read_elimination v) (spell_elimination v) (λ l. views.Eliminate (distinct_of (rates_env v) l))
 unfolding read_elimination
-elimination_traces v = traces_map (to_end (read_distinct (rates_env v))) Eliminates (spell_elimination v) (distinct_of (rates_env v)) (ended_traces (read_distinct (rates_env v)) (spell_distinct (rates_env v)) (distinct_of (rates_env v)) (distinct_traces (rates_env v)))
+elimination_traces v = traces_map (to_end (read_distinct (rates_env v))) views.Eliminate (spell_elimination v) (distinct_of (rates_env v)) (ended_traces (read_distinct (rates_env v)) (spell_distinct (rates_env v)) (distinct_of (rates_env v)) (distinct_traces (rates_env v)))
 
-abbrev chosen : ℕ → ℕ → Vocabulary → List ℕ → List Letter → Bool → Bool → Bool → Reads Aim
+abbrev chosen : ℕ → ℕ → NamesView → List ℕ → List Letter → Bool → Bool → Bool → Reads VerbView
 chosen g r v w ls h i j = cond h (read_proof v ls) (cond i (read_elimination v ls) (cond j (read_containment g r v ls) (Err (codes.Word, Word w ∷ ls))))
 
-aim_is : (g r : ℕ) (v : Vocabulary) (w : List ℕ) (h i j : Bool) → bytes_eq w prove_text ≡ h → bytes_eq w eliminate_text ≡ i → bytes_eq w region_text ≡ j → (ls : List Letter) → read_aim g r v (Word w ∷ ls) ≡ chosen g r v w ls h i j
-unfolding read_aim
-aim_is g r v w h i j eh ei ej ls = ap (λ (b : Bool). chosen g r v w ls b (bytes_eq w eliminate_text) (bytes_eq w region_text)) eh ∙ ap (λ (b : Bool). chosen g r v w ls h b (bytes_eq w region_text)) ei ∙ ap (λ (b : Bool). chosen g r v w ls h i b) ej
+verb_is : (g r : ℕ) (v : NamesView) (w : List ℕ) (h i j : Bool) → bytes_eq w prove_text ≡ h → bytes_eq w eliminate_text ≡ i → bytes_eq w region_text ≡ j → (ls : List Letter) → read_verb g r v (Word w ∷ ls) ≡ chosen g r v w ls h i j
+unfolding read_verb
+verb_is g r v w h i j eh ei ej ls = ap (λ (b : Bool). chosen g r v w ls b (bytes_eq w eliminate_text) (bytes_eq w region_text)) eh ∙ ap (λ (b : Bool). chosen g r v w ls h b (bytes_eq w region_text)) ei ∙ ap (λ (b : Bool). chosen g r v w ls h i b) ej
 
-some_aim : WrittenAim
-some_aim = Proving some_relation
+some_verb : WrittenVerb
+some_verb = Prove some_relation
 
-aim_by : (g r : ℕ) (v : Vocabulary) (w : List ℕ) (ls : List Letter) (h i j : Bool) → bytes_eq w prove_text ≡ h → bytes_eq w eliminate_text ≡ i → bytes_eq w region_text ≡ j → By (read_aim g r v) (spell_aim g r v) (aim_of v) (Word w ∷ ls) (chosen g r v w ls h i j)
-aim_by g r v w ls true i j eh ei ej = letter_then (read_aim g r v) (read_proof v) (Word w) (spell_proof v) (spell_aim g r v) (λ x. Proves (comparison_of (scope_of v true) x)) (aim_of v) Proving ls (aim_is g r v w true i j eh ei ej)
+verb_by : (g r : ℕ) (v : NamesView) (w : List ℕ) (ls : List Letter) (h i j : Bool) → bytes_eq w prove_text ≡ h → bytes_eq w eliminate_text ≡ i → bytes_eq w region_text ≡ j → By (read_verb g r v) (spell_verb g r v) (verb_of v) (Word w ∷ ls) (chosen g r v w ls h i j)
+verb_by g r v w ls true i j eh ei ej = letter_then (read_verb g r v) (read_proof v) (Word w) (spell_proof v) (spell_verb g r v) (λ x. views.Prove (relation_of (scope_of v true) x)) (verb_of v) Prove ls (verb_is g r v w true i j eh ei ej)
     (λ z k. ap (λ (t : List ℕ). clean (Word t) ∷ spell_proof v z k) (sym ((bytes_eq-Decides w prove_text).0 eh))) (λ z. refl) (read_proof v ls) (proof_traces v ls)
-aim_by g r v w ls false true j eh ei ej = letter_then (read_aim g r v) (read_elimination v) (Word w) (spell_elimination v) (spell_aim g r v) (λ l. Eliminates (distinct_of (rates_env v) l)) (aim_of v) Eliminating ls (aim_is g r v w false true j eh ei ej)
+verb_by g r v w ls false true j eh ei ej = letter_then (read_verb g r v) (read_elimination v) (Word w) (spell_elimination v) (spell_verb g r v) (λ l. views.Eliminate (distinct_of (rates_env v) l)) (verb_of v) Eliminate ls (verb_is g r v w false true j eh ei ej)
     (λ z k. ap (λ (t : List ℕ). clean (Word t) ∷ spell_elimination v z k) (sym ((bytes_eq-Decides w eliminate_text).0 ei))) (λ z. refl) (read_elimination v ls) (elimination_traces v ls)
-aim_by g r v w ls false false true eh ei ej = letter_then (read_aim g r v) (read_containment g r v) (Word w) (spell_contained g r v) (spell_aim g r v) (containment_of v) (aim_of v) Containing ls (aim_is g r v w false false true eh ei ej)
+verb_by g r v w ls false false true eh ei ej = letter_then (read_verb g r v) (read_containment g r v) (Word w) (spell_contained g r v) (spell_verb g r v) (containment_of v) (verb_of v) Contain ls (verb_is g r v w false false true eh ei ej)
     (λ z k. ap (λ (t : List ℕ). clean (Word t) ∷ spell_contained g r v z k) (sym ((bytes_eq-Decides w region_text).0 ej))) (λ z. refl) (read_containment g r v ls) (containment_traces g r v ls)
-aim_by g r v w ls false false false eh ei ej = stuck_here (read_aim g r v) (spell_aim g r v) some_aim (Word w) ls codes.Word (aim_is g r v w false false false eh ei ej) refl
+verb_by g r v w ls false false false eh ei ej = stuck_here (read_verb g r v) (spell_verb g r v) some_verb (Word w) ls codes.Word (verb_is g r v w false false false eh ei ej) refl
 
 -- what a question wants, where g and r lines may still stand in its regions
-pub aim_traces : (g r : ℕ) (v : Vocabulary) → Traces (read_aim g r v) (spell_aim g r v) (aim_of v)
-unfolding read_aim
-aim_traces g r v (Word w ∷ ls) = aim_by g r v w ls (bytes_eq w prove_text) (bytes_eq w eliminate_text) (bytes_eq w region_text) refl refl refl
-aim_traces g r v [] = stuck_none (read_aim g r v) (spell_aim g r v) some_aim refl
-aim_traces g r v (l ∷ ls) = stuck_here (read_aim g r v) (spell_aim g r v) some_aim l ls _ (λ s. refl) refl
+pub verb_traces : (g r : ℕ) (v : NamesView) → Traces (read_verb g r v) (spell_verb g r v) (verb_of v)
+unfolding read_verb
+verb_traces g r v (Word w ∷ ls) = verb_by g r v w ls (bytes_eq w prove_text) (bytes_eq w eliminate_text) (bytes_eq w region_text) refl refl refl
+verb_traces g r v [] = stuck_none (read_verb g r v) (spell_verb g r v) some_verb refl
+verb_traces g r v (l ∷ ls) = stuck_here (read_verb g r v) (spell_verb g r v) some_verb l ls _ (λ s. refl) refl
 
 -- ---- questions
 
-abbrev posed_by : Vocabulary → Lines → Aim → Posed
-posed_by v own aim = record { names = v; lines = own; aim = aim }
+abbrev body_by : NamesView → OwnLinesView → VerbView → BodyView
+body_by v own aim = record { names = v; lines = own; verb = aim }
 
-abbrev aim_then : Vocabulary → Lines → List Letter → Reads Posed
-aim_then v own ls = read_aim (givens_left most_lines own) (rows_left most_lines own) v ls >>= λ aim. Ok (posed_by v own aim.0, aim.1)
+abbrev verb_then : NamesView → OwnLinesView → List Letter → Reads BodyView
+verb_then v own ls = read_verb (givens_left most_lines own) (rows_left most_lines own) v ls >>= λ aim. Ok (body_by v own aim.0, aim.1)
 
 -- behind the names: lines, and what is wanted
 abbrev Body : Type 0
-Body = List WrittenLine × WrittenAim
+Body = List WrittenLine × WrittenVerb
 
-abbrev read_body : Vocabulary → List Letter → Reads Posed
-read_body v ls = read_lines most_lines most_lines v ls >>= λ own. aim_then v own.0 own.1
+abbrev read_body : NamesView → List Letter → Reads BodyView
+read_body v ls = read_lines most_lines most_lines v ls >>= λ own. verb_then v own.0 own.1
 
-abbrev spell_left : Vocabulary → Lines → WrittenAim → Marked → Marked
-spell_left v own x k = spell_aim (givens_left most_lines own) (rows_left most_lines own) v x k
+abbrev spell_left : NamesView → OwnLinesView → WrittenVerb → Marked → Marked
+spell_left v own x k = spell_verb (givens_left most_lines own) (rows_left most_lines own) v x k
 
-abbrev spell_body : Vocabulary → Body → Marked → Marked
+abbrev spell_body : NamesView → Body → Marked → Marked
 spell_body v x k = spell_own most_lines most_lines v x.0 (spell_left v (own_of v x.0) x.1 k)
 
-abbrev body_of : Vocabulary → Body → Posed
-body_of v x = posed_by v (own_of v x.0) (aim_of v x.1)
+abbrev body_of : NamesView → Body → BodyView
+body_of v x = body_by v (own_of v x.0) (verb_of v x.1)
 
-body_traces : (v : Vocabulary) → Traces (read_body v) (spell_body v) (body_of v)
-body_traces v = traces_bind (read_lines most_lines most_lines v) (aim_then v) (read_body v) (spell_own most_lines most_lines v) (spell_left v) (spell_body v) (own_of v) (λ own x. posed_by v own (aim_of v x)) (body_of v) (λ own x. (own, x))
-    (record { is = λ ls. refl; spells = λ y z k. refl; value = λ y z. refl; some = some_aim; first = lines_traces most_lines most_lines v; second = λ own. traces_map (read_aim (givens_left most_lines own) (rows_left most_lines own) v) (posed_by v own) (spell_left v own) (aim_of v) (aim_traces (givens_left most_lines own) (rows_left most_lines own) v) })
+body_traces : (v : NamesView) → Traces (read_body v) (spell_body v) (body_of v)
+body_traces v = traces_bind (read_lines most_lines most_lines v) (verb_then v) (read_body v) (spell_own most_lines most_lines v) (spell_left v) (spell_body v) (own_of v) (λ own x. body_by v own (verb_of v x)) (body_of v) (λ own x. (own, x))
+    (record { is = λ ls. refl; spells = λ y z k. refl; value = λ y z. refl; some = some_verb; first = lines_traces most_lines most_lines v; second = λ own. traces_map (read_verb (givens_left most_lines own) (rows_left most_lines own) v) (body_by v own) (spell_left v own) (verb_of v) (verb_traces (givens_left most_lines own) (rows_left most_lines own) v) })
 
 some_body : Body
-some_body = ([], some_aim)
+some_body = ([], some_verb)
 
 -- behind the line of variables
 abbrev Rest : Type 0
 Rest = Option WrittenList × Body
 
-abbrev read_rest : Vocabulary → List Letter → Reads Posed
+abbrev read_rest : NamesView → List Letter → Reads BodyView
 read_rest v ls = read_names_line Rate most_rates rates_text v ls >>= λ names. read_body names.0 names.1
 
-abbrev spell_rest : Vocabulary → Rest → Marked → Marked
+abbrev spell_rest : NamesView → Rest → Marked → Marked
 spell_rest v x k = spell_names_line Rate most_rates rates_text v x.0 (spell_body (names_line_of Rate v x.0) x.1 k)
 
-abbrev rest_of : Vocabulary → Rest → Posed
+abbrev rest_of : NamesView → Rest → BodyView
 rest_of v x = body_of (names_line_of Rate v x.0) x.1
 
-rest_traces : (v : Vocabulary) → Traces (read_rest v) (spell_rest v) (rest_of v)
+rest_traces : (v : NamesView) → Traces (read_rest v) (spell_rest v) (rest_of v)
 rest_traces v = traces_bind (read_names_line Rate most_rates rates_text v) read_body (read_rest v) (spell_names_line Rate most_rates rates_text v) spell_body (spell_rest v) (names_line_of Rate v) body_of (rest_of v) (λ x y. (x, y))
     (record { is = λ ls. refl; spells = λ y z k. refl; value = λ y z. refl; some = some_body; first = names_line_traces Rate most_rates rates_text v; second = body_traces })
 
 abbrev question_made : WrittenList → Rest → WrittenQuestion
-question_made l x = record { variables = l; rates = x.0; own = x.1.0; aim = x.1.1 }
+question_made l x = record { variables = l; rates = x.0; own = x.1.0; verb = x.1.1 }
 
 -- a question behind its word `vars`
 pub question_traces : Traces read_question spell_question question_of
@@ -128,7 +133,7 @@ question_traces = traces_bind (to_end (read_new_names Variable most_variables no
     (record { is = λ ls. refl; spells = λ y z k. refl; value = λ y z. refl; some = (None, some_body); first = ended_traces (read_new_names Variable most_variables no_names) (spell_new_names Variable most_variables no_names) (new_names_of Variable no_names) (new_names_traces Variable most_variables no_names); second = rest_traces })
 
 some_question : WrittenQuestion
-some_question = record { variables = record { first = 88 ∷ []; more = [] }; rates = None; own = []; aim = some_aim }
+some_question = record { variables = record { first = 88 ∷ []; more = [] }; rates = None; own = []; verb = some_verb }
 
 -- ---- files
 
@@ -144,8 +149,8 @@ file_end_traces [] = stuck_none read_end (λ (u : Unit {0}) k. clean file_end �
 file_end_traces (l ∷ ls) = stuck_here read_end (λ (u : Unit {0}) k. clean file_end ∷ k) tt l ls _ (λ s. refl) refl
 
 -- no further question stands there
-none_asked : (n : ℕ) (ls : List Letter) → ((s : List Letter) → head s ≡ head ls → read_questions n s ≡ read_end s) → By (read_questions n) (spell_to_end n) questions_of ls (read_questions n ls)
-none_asked n ls h = subst (λ (t : Reads (List Posed)). By (read_questions n) (spell_to_end n) questions_of ls t) (sym (h ls refl))
+no_question_left : (n : ℕ) (ls : List Letter) → ((s : List Letter) → head s ≡ head ls → read_questions n s ≡ read_end s) → By (read_questions n) (spell_to_end n) questions_of ls (read_questions n ls)
+no_question_left n ls h = subst (λ (t : Reads (List BodyView)). By (read_questions n) (spell_to_end n) questions_of ls t) (sym (h ls refl))
     (switch read_end (read_questions n) (spell_to_end n) questions_of ls h (read_end ls)
     (renamed read_end (λ (u : Unit {0}) k. clean file_end ∷ k) (spell_to_end n) (λ u. []) questions_of (λ u. []) ls (λ z k. refl) (λ z. refl) (read_end ls) (file_end_traces ls)))
 
@@ -156,7 +161,7 @@ Questions = WrittenQuestion × List WrittenQuestion
 abbrev spell_question_then : ℕ → Questions → Marked → Marked
 spell_question_then n x k = spell_question x.0 (spell_to_end n x.1 k)
 
-abbrev question_then_of : Questions → List Posed
+abbrev question_then_of : Questions → List BodyView
 question_then_of x = question_of x.0 ∷ questions_of x.1
 
 question_then_traces : (n : ℕ) → Traces (read_questions n) (spell_to_end n) questions_of → Traces (question_then (read_questions n)) (spell_question_then n) question_then_of
@@ -176,10 +181,10 @@ pub questions_traces : (n : ℕ) → Traces (read_questions n) (λ xs k. spell_q
 unfolding read_questions behind_word
 questions_traces zero ls = at_word vars_text (read_questions zero) (spell_to_end zero) questions_of ls
     (λ behind. marked_here (read_questions zero) (spell_to_end zero) (some_question ∷ []) (Word vars_text) behind codes.Many (λ k. spell_question some_question (clean file_end ∷ k)) (λ k. refl) (λ s. refl))
-    (λ h. none_asked zero ls (λ s e. ap (λ (o : Option (List Letter)). if_asked (λ behind. Err (codes.Many, s)) o s) (h s e)))
+    (λ h. no_question_left zero ls (λ s e. ap (λ (o : Option (List Letter)). if_question (λ behind. Err (codes.Many, s)) o s) (h s e)))
 questions_traces (suc n) ls = at_word vars_text (read_questions (suc n)) (spell_to_end (suc n)) questions_of ls
     (λ behind. behind_traced vars_text (read_questions (suc n)) (question_then (read_questions n)) (spell_question_then n) (spell_to_end (suc n)) question_then_of questions_of questions_made behind (λ s. refl) (questions_spelled n) (λ z. refl) (question_then_traces n (questions_traces n)))
-    (λ h. none_asked (suc n) ls (λ s e. ap (λ (o : Option (List Letter)). if_asked (question_then (read_questions n)) o s) (h s e)))
+    (λ h. no_question_left (suc n) ls (λ s e. ap (λ (o : Option (List Letter)). if_question (question_then (read_questions n)) o s) (h s e)))
 
 -- a whole file
 pub file_traces : Traces read_file (λ xs k. spell_questions most_questions xs (clean file_end ∷ k)) questions_of

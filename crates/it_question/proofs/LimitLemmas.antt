@@ -4,19 +4,23 @@ use Rattle.std.specs.Prelude.{All, bytes_eq}
 use Rattle.std.proofs.Math.Nat.{min-le_left, min-le_right}
 use Rattle.std.proofs.lemmas.List.Elements.{All-nil, All-cons}
 use Rattle.it_syntax.specs.declared.types.Code.TheVariants as codes
-use Rattle.it_syntax.specs.Vocabulary.{Vocabulary}
+use Rattle.it_syntax.specs.NamesViews.{NamesView}
 use Rattle.it_syntax.specs.Letters.{Letter, Word, Bad}
 use Rattle.it_syntax.specs.Lines.{to_end}
-use Rattle.it_syntax.specs.Meaning.{Stated}
-use Rattle.it_syntax.specs.Reading.{Reads, ◌>>=◌, stuck, line_end}
-use Rattle.it_syntax.specs.Relations.{env_of}
-use Rattle.it_syntax.specs.ComparisonLines.{scope_of}
-use Rattle.it_syntax.specs.ComparisonReading.{read_comparison}
+use Rattle.it_syntax.specs.Meaning.{RelationView}
+use Rattle.it_syntax.specs.AtomReading.{Reads, ◌>>=◌, no_rule, line_end}
+use Rattle.it_syntax.specs.Scopes.{env_of}
+use Rattle.it_syntax.specs.Scopes.{scope_of}
+use Rattle.it_syntax.specs.RelationReading.{read_relation}
 use Rattle.it_question.specs.Keywords.{vars_text, rates_text, region_text, aux_text, prove_text, eliminate_text, contain_text}
-use Rattle.it_question.specs.Limits.{AreRatesOf, AreLinesOver, IsRegionOf, IsAimOver, IsQuestion}
-use Rattle.it_question.specs.Questions.{Lines, Bounded, Aim, Proves, Eliminates, Contains, Posed}
-use Rattle.it_question.specs.Trees.{Variable, Rate, no_names, most_questions, most_variables, most_rates, most_lines, auxiliaries_left, auxiliary_env, givens_left, rows_left, rates_env, unnamed}
-use Rattle.it_question.specs.Reading.{behind_word, read_word, read_word_line, read_new_names, read_names_line, read_lines, read_distinct, read_tries, read_region, read_containment, read_proof, read_elimination, read_aim, read_question, read_end, question_then, if_asked, read_questions, read_file}
+use Rattle.it_question.specs.Limits.{AreRatesOf, AreLinesOver, IsRegionOf, IsVerbOver, IsQuestion}
+use Rattle.it_question.specs.Questions.{OwnLinesView, RegionView, VerbView, Prove, Eliminate, Contain, BodyView}
+use Rattle.it_question.specs.NewNames.{Variable, Rate, no_names}
+use Rattle.it_question.specs.WrittenQuestions.{most_questions, most_variables, most_rates, most_lines}
+use Rattle.it_question.specs.WrittenRegions.{auxiliaries_left, auxiliary_env, givens_left, rows_left}
+use Rattle.it_question.specs.WrittenLines.{rates_env}
+use Rattle.it_question.specs.WrittenTries.{unnamed_sets}
+use Rattle.it_question.specs.Reading.{behind_word, read_word, read_word_line, read_new_names, read_names_line, read_lines, read_distinct, read_tries, read_region, read_containment, read_proof, read_elimination, read_verb, read_question, read_end, question_then, if_question, read_questions, read_file}
 use Rattle.it_syntax.proofs.LimitLemmas.{Sure, sure_bind, Any, any, knows_names}
 use Rattle.it_question.proofs.NameLimits.{ended_sure, IsGrown, Grows, new_names_sure, names_line_sure}
 use Rattle.it_question.proofs.LineLimits.{OverRelation, relation_sure, AreOwn, Own, lines_sure}
@@ -25,32 +29,32 @@ use Rattle.it_question.proofs.TryLimits.{AreTries, tries_sure}
 
 -- ---- regions
 
-lines_over : (g r : ℕ) (v : Vocabulary) (own : Lines) → g ≤ 64 → r ≤ 64 → AreOwn g r v own → AreLinesOver v own
+lines_over : (g r : ℕ) (v : NamesView) (own : OwnLinesView) → g ≤ 64 → r ≤ 64 → AreOwn g r v own → AreLinesOver v own
 lines_over g r v own few_g few_r h = record { few_givens = omega (arith, few_g, h.few_givens); few_rows = omega (arith, few_r, h.few_rows); givens = h.givens; rows = h.rows }
 
-abbrev bounds : Vocabulary → Vocabulary → Lines → Bounded
+abbrev bounds : NamesView → NamesView → OwnLinesView → RegionView
 bounds v names own = record { names = names; auxiliaries = length names.variables - length v.variables; lines = own }
 
-region_of_own : (v : Vocabulary) (names : Vocabulary) (own : Lines) → length v.variables ≤ 8 → IsGrown Variable 0 (auxiliaries_left v) v names → AreLinesOver names own → IsRegionOf v (bounds v names own)
+region_of_own : (v : NamesView) (names : NamesView) (own : OwnLinesView) → length v.variables ≤ 8 → IsGrown Variable 0 (auxiliaries_left v) v names → AreLinesOver names own → IsRegionOf v (bounds v names own)
 region_of_own v names own few h lines =
-    let variables : names.variables ≡ v.variables ++ h.own = ap (λ (w : Vocabulary). w.variables) h.is in
+    let variables : names.variables ≡ v.variables ++ h.own = ap (λ (w : NamesView). w.variables) h.is in
     let total : length names.variables ≡ length v.variables + length h.own = ap (λ (ws : List (List ℕ)). length ws) variables ∙ length-append v.variables h.own in
     let left = min-le_left 4 (8 - length v.variables) in
     let right = min-le_right 4 (8 - length v.variables) in
     record {
       own = h.own;
       variables = variables;
-      rates = ap (λ (w : Vocabulary). w.rates) h.is;
+      rates = ap (λ (w : NamesView). w.rates) h.is;
       counted = omega (arith, total);
       few = omega (arith, h.few, left);
       few_variables = omega (arith, h.few, right, total, few);
       lines = lines;
     }
 
-abbrev Region : Vocabulary → Bounded × List Letter → Type 0
+abbrev Region : NamesView → RegionView × List Letter → Type 0
 Region v x = IsRegionOf v x.0
 
-region_sure : (g r : ℕ) (v : Vocabulary) → g ≤ 64 → r ≤ 64 → length v.variables ≤ 8 → (ls : List Letter) → Sure (Region v) (read_region g r v ls)
+region_sure : (g r : ℕ) (v : NamesView) → g ≤ 64 → r ≤ 64 → length v.variables ≤ 8 → (ls : List Letter) → Sure (Region v) (read_region g r v ls)
 unfolding read_region
 region_sure g r v few_g few_r few ls =
     sure_bind Any (Region v) (line_end ls) (λ e. read_names_line Variable (auxiliaries_left v) aux_text v e.1 >>= λ names. read_lines g r names.0 names.1 >>= λ own. Ok (bounds v names.0 own.0, own.1)) (any (line_end ls))
@@ -60,81 +64,81 @@ region_sure g r v few_g few_r few ls =
 
 -- ---- what a question wants
 
-abbrev Over : Vocabulary → Aim × List Letter → Type 0
-Over v x = IsAimOver v x.0
+abbrev Over : NamesView → VerbView × List Letter → Type 0
+Over v x = IsVerbOver v x.0
 
-containment_sure : (g r : ℕ) (v : Vocabulary) → g ≤ 64 → r ≤ 64 → length v.variables ≤ 8 → (ls : List Letter) → Sure (Over v) (read_containment g r v ls)
+containment_sure : (g r : ℕ) (v : NamesView) → g ≤ 64 → r ≤ 64 → length v.variables ≤ 8 → (ls : List Letter) → Sure (Over v) (read_containment g r v ls)
 unfolding read_containment
 containment_sure g r v few_g few_r few ls =
-    sure_bind (Region v) (Over v) (read_region g r v ls) (λ first. read_word region_text first.1 >>= λ x. read_region (givens_left g first.0.lines) (rows_left r first.0.lines) v x.1 >>= λ second. read_tries most_lines (auxiliary_env v second.0.names) (env_of first.0.names) (unnamed second.0.auxiliaries) second.1 >>= λ tries. read_word_line contain_text tries.1 >>= λ e. Ok (Contains first.0 second.0 tries.0, e.1)) (region_sure g r v few_g few_r few ls)
+    sure_bind (Region v) (Over v) (read_region g r v ls) (λ first. read_word region_text first.1 >>= λ x. read_region (givens_left g first.0.lines) (rows_left r first.0.lines) v x.1 >>= λ second. read_tries most_lines (auxiliary_env v second.0.names) (env_of first.0.names) (unnamed_sets second.0.auxiliaries) second.1 >>= λ tries. read_word_line contain_text tries.1 >>= λ e. Ok (Contain first.0 second.0 tries.0, e.1)) (region_sure g r v few_g few_r few ls)
     (λ first hf.
     let givens = givens_left g first.0.lines in
     let rows = rows_left r first.0.lines in
     let env = env_of first.0.names in
     let n = length first.0.names.variables in
-    sure_bind Any (Over v) (read_word region_text first.1) (λ x. read_region givens rows v x.1 >>= λ second. read_tries most_lines (auxiliary_env v second.0.names) env (unnamed second.0.auxiliaries) second.1 >>= λ tries. read_word_line contain_text tries.1 >>= λ e. Ok (Contains first.0 second.0 tries.0, e.1)) (any (read_word region_text first.1))
-    (λ x u. sure_bind (Region v) (Over v) (read_region givens rows v x.1) (λ second. read_tries most_lines (auxiliary_env v second.0.names) env (unnamed second.0.auxiliaries) second.1 >>= λ tries. read_word_line contain_text tries.1 >>= λ e. Ok (Contains first.0 second.0 tries.0, e.1)) (region_sure givens rows v (omega (arith, few_g)) (omega (arith, few_r)) few x.1)
-    (λ second hs. sure_bind (AreTries n most_lines) (Over v) (read_tries most_lines (auxiliary_env v second.0.names) env (unnamed second.0.auxiliaries) second.1) (λ tries. read_word_line contain_text tries.1 >>= λ e. Ok (Contains first.0 second.0 tries.0, e.1)) (tries_sure most_lines (auxiliary_env v second.0.names) env n (knows_names first.0.names) second.0.auxiliaries second.1)
-    (λ tries ht. sure_bind Any (Over v) (read_word_line contain_text tries.1) (λ e. Ok (Contains first.0 second.0 tries.0, e.1)) (any (read_word_line contain_text tries.1)) (λ e w. (hf, hs, ht.0, ht.1))))))
+    sure_bind Any (Over v) (read_word region_text first.1) (λ x. read_region givens rows v x.1 >>= λ second. read_tries most_lines (auxiliary_env v second.0.names) env (unnamed_sets second.0.auxiliaries) second.1 >>= λ tries. read_word_line contain_text tries.1 >>= λ e. Ok (Contain first.0 second.0 tries.0, e.1)) (any (read_word region_text first.1))
+    (λ x u. sure_bind (Region v) (Over v) (read_region givens rows v x.1) (λ second. read_tries most_lines (auxiliary_env v second.0.names) env (unnamed_sets second.0.auxiliaries) second.1 >>= λ tries. read_word_line contain_text tries.1 >>= λ e. Ok (Contain first.0 second.0 tries.0, e.1)) (region_sure givens rows v (omega (arith, few_g)) (omega (arith, few_r)) few x.1)
+    (λ second hs. sure_bind (AreTries n most_lines) (Over v) (read_tries most_lines (auxiliary_env v second.0.names) env (unnamed_sets second.0.auxiliaries) second.1) (λ tries. read_word_line contain_text tries.1 >>= λ e. Ok (Contain first.0 second.0 tries.0, e.1)) (tries_sure most_lines (auxiliary_env v second.0.names) env n (knows_names first.0.names) second.0.auxiliaries second.1)
+    (λ tries ht. sure_bind Any (Over v) (read_word_line contain_text tries.1) (λ e. Ok (Contain first.0 second.0 tries.0, e.1)) (any (read_word_line contain_text tries.1)) (λ e w. (hf, hs, ht.0, ht.1))))))
 
-proof_sure : (v : Vocabulary) (ls : List Letter) → Sure (Over v) (read_proof v ls)
+proof_sure : (v : NamesView) (ls : List Letter) → Sure (Over v) (read_proof v ls)
 unfolding read_proof
-proof_sure v ls = sure_bind (λ (x : Stated × List Letter). OverRelation v x.0) (Over v) (to_end (read_comparison (scope_of v true)) ls) (λ x. Ok (Proves x.0, x.1)) (relation_sure v ls) (λ x hx. hx)
+proof_sure v ls = sure_bind (λ (x : RelationView × List Letter). OverRelation v x.0) (Over v) (to_end (read_relation (scope_of v true)) ls) (λ x. Ok (Prove x.0, x.1)) (relation_sure v ls) (λ x hx. hx)
 
-elimination_sure : (v : Vocabulary) (ls : List Letter) → Sure (Over v) (read_elimination v ls)
+elimination_sure : (v : NamesView) (ls : List Letter) → Sure (Over v) (read_elimination v ls)
 unfolding read_elimination
 elimination_sure v ls =
     let m = length v.rates in
     let f = read_distinct (rates_env v) in
-    sure_bind (Rates m) (Over v) (to_end f ls) (λ x. Ok (Eliminates x.0, x.1)) (ended_sure (AreRatesOf m) f (distinct_sure (rates_env v) m (knows_rates v)) ls) (λ x hx. hx)
+    sure_bind (Rates m) (Over v) (to_end f ls) (λ x. Ok (Eliminate x.0, x.1)) (ended_sure (AreRatesOf m) f (distinct_sure (rates_env v) m (knows_rates v)) ls) (λ x hx. hx)
 
-aim_sure : (g r : ℕ) (v : Vocabulary) → g ≤ 64 → r ≤ 64 → length v.variables ≤ 8 → (ls : List Letter) → Sure (Over v) (read_aim g r v ls)
-unfolding read_aim
-aim_sure g r v few_g few_r few (Word w ∷ ls) = chosen (bytes_eq w prove_text) (bytes_eq w eliminate_text) (bytes_eq w region_text)
+verb_sure : (g r : ℕ) (v : NamesView) → g ≤ 64 → r ≤ 64 → length v.variables ≤ 8 → (ls : List Letter) → Sure (Over v) (read_verb g r v ls)
+unfolding read_verb
+verb_sure g r v few_g few_r few (Word w ∷ ls) = chosen (bytes_eq w prove_text) (bytes_eq w eliminate_text) (bytes_eq w region_text)
   where
-    chosen : (a b c : Bool) → Sure (Over v) (cond a (read_proof v ls) (cond b (read_elimination v ls) (cond c (read_containment g r v ls) (stuck (Word w ∷ ls)))))
+    chosen : (a b c : Bool) → Sure (Over v) (cond a (read_proof v ls) (cond b (read_elimination v ls) (cond c (read_containment g r v ls) (no_rule (Word w ∷ ls)))))
     chosen true b c = proof_sure v ls
     chosen false true c = elimination_sure v ls
     chosen false false true = containment_sure g r v few_g few_r few ls
     chosen false false false = tt
-aim_sure g r v few_g few_r few [] = tt
-aim_sure g r v few_g few_r few (Bad c ∷ ls) = tt
-aim_sure g r v few_g few_r few (l ∷ ls) = tt
+verb_sure g r v few_g few_r few [] = tt
+verb_sure g r v few_g few_r few (Bad c ∷ ls) = tt
+verb_sure g r v few_g few_r few (l ∷ ls) = tt
 
 -- ---- questions
 
-abbrev Asks : Posed × List Letter → Type 0
+abbrev Asks : BodyView × List Letter → Type 0
 Asks x = IsQuestion x.0
 
 -- rates leave the variables as they are
-declared : (variables names : Vocabulary) (hv : IsGrown Variable 1 8 no_names variables) → IsGrown Rate 0 16 variables names → names.variables ≡ hv.own
-declared variables names hv hn = ap (λ (w : Vocabulary). w.variables) hn.is ∙ ap (λ (w : Vocabulary). w.variables) hv.is
+declared : (variables names : NamesView) (hv : IsGrown Variable 1 8 no_names variables) → IsGrown Rate 0 16 variables names → names.variables ≡ hv.own
+declared variables names hv hn = ap (λ (w : NamesView). w.variables) hn.is ∙ ap (λ (w : NamesView). w.variables) hv.is
 
-few_variables : (variables names : Vocabulary) → IsGrown Variable 1 8 no_names variables → IsGrown Rate 0 16 variables names → length names.variables ≤ 8
+few_variables : (variables names : NamesView) → IsGrown Variable 1 8 no_names variables → IsGrown Rate 0 16 variables names → length names.variables ≤ 8
 few_variables variables names hv hn = subst (λ (ws : List (List ℕ)). length ws ≤ 8) (sym (declared variables names hv hn)) hv.few
 
-question_over : (variables names : Vocabulary) (own : Lines) (aim : Aim) → IsGrown Variable 1 8 no_names variables → IsGrown Rate 0 16 variables names → AreLinesOver names own → IsAimOver names aim → IsQuestion (record { names = names; lines = own; aim = aim })
+question_over : (variables names : NamesView) (own : OwnLinesView) (aim : VerbView) → IsGrown Variable 1 8 no_names variables → IsGrown Rate 0 16 variables names → AreLinesOver names own → IsVerbOver names aim → IsQuestion (record { names = names; lines = own; verb = aim })
 question_over variables names own aim hv hn lines over =
-    let rated : names.rates ≡ hn.own = ap (λ (w : Vocabulary). w.rates) hn.is ∙ ap (λ (w : Vocabulary). w.rates ++ hn.own) hv.is in
+    let rated : names.rates ≡ hn.own = ap (λ (w : NamesView). w.rates) hn.is ∙ ap (λ (w : NamesView). w.rates ++ hn.own) hv.is in
     record {
       some = subst (λ (ws : List (List ℕ)). 1 ≤ length ws) (sym (declared variables names hv hn)) hv.some;
       few = few_variables variables names hv hn;
       few_rates = subst (λ (ws : List (List ℕ)). length ws ≤ 16) (sym rated) hn.few;
       lines = lines;
-      aim = over;
+      verb = over;
     }
 
 question_sure : (ls : List Letter) → Sure Asks (read_question ls)
 unfolding read_question
 question_sure ls =
     let f = read_new_names Variable most_variables no_names in
-    sure_bind (Grows Variable 1 8 no_names) Asks (to_end f ls) (λ variables. read_names_line Rate most_rates rates_text variables.0 variables.1 >>= λ names. read_lines most_lines most_lines names.0 names.1 >>= λ own. read_aim (givens_left most_lines own.0) (rows_left most_lines own.0) names.0 own.1 >>= λ aim. Ok (record { names = names.0; lines = own.0; aim = aim.0 }, aim.1)) (ended_sure (IsGrown Variable 1 8 no_names) f (new_names_sure Variable most_variables no_names) ls)
-    (λ variables hv. sure_bind (Grows Rate 0 16 variables.0) Asks (read_names_line Rate most_rates rates_text variables.0 variables.1) (λ names. read_lines most_lines most_lines names.0 names.1 >>= λ own. read_aim (givens_left most_lines own.0) (rows_left most_lines own.0) names.0 own.1 >>= λ aim. Ok (record { names = names.0; lines = own.0; aim = aim.0 }, aim.1)) (names_line_sure Rate most_rates rates_text variables.0 variables.1)
-    (λ names hn. sure_bind (Own 64 64 names.0) Asks (read_lines most_lines most_lines names.0 names.1) (λ own. read_aim (givens_left most_lines own.0) (rows_left most_lines own.0) names.0 own.1 >>= λ aim. Ok (record { names = names.0; lines = own.0; aim = aim.0 }, aim.1)) (lines_sure most_lines most_lines names.0 names.1)
-    (λ own ho. sure_bind (Over names.0) Asks (read_aim (givens_left most_lines own.0) (rows_left most_lines own.0) names.0 own.1) (λ aim. Ok (record { names = names.0; lines = own.0; aim = aim.0 }, aim.1)) (aim_sure (givens_left most_lines own.0) (rows_left most_lines own.0) names.0 (omega arith) (omega arith) (few_variables variables.0 names.0 hv hn) own.1)
+    sure_bind (Grows Variable 1 8 no_names) Asks (to_end f ls) (λ variables. read_names_line Rate most_rates rates_text variables.0 variables.1 >>= λ names. read_lines most_lines most_lines names.0 names.1 >>= λ own. read_verb (givens_left most_lines own.0) (rows_left most_lines own.0) names.0 own.1 >>= λ aim. Ok (record { names = names.0; lines = own.0; verb = aim.0 }, aim.1)) (ended_sure (IsGrown Variable 1 8 no_names) f (new_names_sure Variable most_variables no_names) ls)
+    (λ variables hv. sure_bind (Grows Rate 0 16 variables.0) Asks (read_names_line Rate most_rates rates_text variables.0 variables.1) (λ names. read_lines most_lines most_lines names.0 names.1 >>= λ own. read_verb (givens_left most_lines own.0) (rows_left most_lines own.0) names.0 own.1 >>= λ aim. Ok (record { names = names.0; lines = own.0; verb = aim.0 }, aim.1)) (names_line_sure Rate most_rates rates_text variables.0 variables.1)
+    (λ names hn. sure_bind (Own 64 64 names.0) Asks (read_lines most_lines most_lines names.0 names.1) (λ own. read_verb (givens_left most_lines own.0) (rows_left most_lines own.0) names.0 own.1 >>= λ aim. Ok (record { names = names.0; lines = own.0; verb = aim.0 }, aim.1)) (lines_sure most_lines most_lines names.0 names.1)
+    (λ own ho. sure_bind (Over names.0) Asks (read_verb (givens_left most_lines own.0) (rows_left most_lines own.0) names.0 own.1) (λ aim. Ok (record { names = names.0; lines = own.0; verb = aim.0 }, aim.1)) (verb_sure (givens_left most_lines own.0) (rows_left most_lines own.0) names.0 (omega arith) (omega arith) (few_variables variables.0 names.0 hv hn) own.1)
     (λ aim ha. question_over variables.0 names.0 own.0 aim.0 hv hn (lines_over 64 64 names.0 own.0 (omega arith) (omega arith) ho) ha))))
 
-abbrev pub AreQuestions : List Posed × List Letter → Type 0
+abbrev pub AreQuestions : List BodyView × List Letter → Type 0
 AreQuestions x = All IsQuestion x.0
 
 end_sure : (ls : List Letter) → Sure AreQuestions (read_end ls)
@@ -144,11 +148,11 @@ end_sure [] = tt
 end_sure (Bad c ∷ ls) = tt
 end_sure (l ∷ ls) = tt
 
-asked_sure : (f : List Letter → Reads (List Posed)) → ((ls : List Letter) → Sure AreQuestions (f ls)) → (o : Option (List Letter)) (ls : List Letter) → Sure AreQuestions (if_asked f o ls)
-asked_sure f h (Some behind) ls = h behind
-asked_sure f h None ls = end_sure ls
+question_list_sure : (f : List Letter → Reads (List BodyView)) → ((ls : List Letter) → Sure AreQuestions (f ls)) → (o : Option (List Letter)) (ls : List Letter) → Sure AreQuestions (if_question f o ls)
+question_list_sure f h (Some behind) ls = h behind
+question_list_sure f h None ls = end_sure ls
 
-question_then_sure : (f : List Letter → Reads (List Posed)) → ((ls : List Letter) → Sure AreQuestions (f ls)) → (ls : List Letter) → Sure AreQuestions (question_then f ls)
+question_then_sure : (f : List Letter → Reads (List BodyView)) → ((ls : List Letter) → Sure AreQuestions (f ls)) → (ls : List Letter) → Sure AreQuestions (question_then f ls)
 question_then_sure f h ls =
     sure_bind Asks AreQuestions (read_question ls) (λ q. f q.1 >>= λ qs. Ok (q.0 ∷ qs.0, qs.1)) (question_sure ls)
     (λ q hq. sure_bind AreQuestions AreQuestions (f q.1) (λ qs. Ok (q.0 ∷ qs.0, qs.1)) (h q.1) (λ qs hs. All-cons IsQuestion q.0 qs.0 hq hs))
@@ -156,10 +160,10 @@ question_then_sure f h ls =
 -- of questions that are read, if they are
 pub questions_sure : (n : ℕ) (ls : List Letter) → Sure AreQuestions (read_questions n ls)
 unfolding read_questions
-questions_sure zero ls = asked_sure (λ behind. Err (codes.Many, ls)) (λ behind. tt) (behind_word vars_text ls) ls
-questions_sure (suc n) ls = asked_sure (question_then (read_questions n)) (question_then_sure (read_questions n) (questions_sure n)) (behind_word vars_text ls) ls
+questions_sure zero ls = question_list_sure (λ behind. Err (codes.Many, ls)) (λ behind. tt) (behind_word vars_text ls) ls
+questions_sure (suc n) ls = question_list_sure (question_then (read_questions n)) (question_then_sure (read_questions n) (questions_sure n)) (behind_word vars_text ls) ls
 
 -- a file that is read
-pub file_limited : (ls r : List Letter) (qs : List Posed) → read_file ls ≡ Ok (qs, r) → All IsQuestion qs
+pub file_limited : (ls r : List Letter) (qs : List BodyView) → read_file ls ≡ Ok (qs, r) → All IsQuestion qs
 unfolding read_file
 file_limited ls r qs e = subst (Sure AreQuestions) e (questions_sure most_questions ls)

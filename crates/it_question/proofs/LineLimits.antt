@@ -3,28 +3,28 @@ use Rattle.std.proofs.Common.{◌≡◌, ℕ, zero, suc, ◌+◌, ◌-◌, ◌�
 use Rattle.std.specs.Prelude.{All}
 use Rattle.std.proofs.lemmas.List.Elements.{All-nil, All-cons}
 use Rattle.it_syntax.specs.declared.types.Code.TheVariants as codes
-use Rattle.it_syntax.specs.Vocabulary.{Vocabulary}
+use Rattle.it_syntax.specs.NamesViews.{NamesView}
 use Rattle.it_syntax.specs.Letters.{Letter}
 use Rattle.it_syntax.specs.Lines.{to_end}
-use Rattle.it_syntax.specs.Reading.{Reads, ◌>>=◌}
-use Rattle.it_syntax.specs.Meaning.{Stated}
-use Rattle.it_syntax.specs.Givens.{Condition, IsRelationOf, IsConditionOf}
-use Rattle.it_syntax.specs.ComparisonLines.{scope_of}
-use Rattle.it_syntax.specs.ComparisonReading.{read_comparison}
-use Rattle.it_syntax.specs.ConditionReading.{read_condition}
+use Rattle.it_syntax.specs.AtomReading.{Reads, ◌>>=◌}
+use Rattle.it_syntax.specs.Meaning.{RelationView}
+use Rattle.it_syntax.specs.Givens.{GivenView, IsRelationOf, IsGivenOf}
+use Rattle.it_syntax.specs.Scopes.{scope_of}
+use Rattle.it_syntax.specs.RelationReading.{read_relation}
+use Rattle.it_syntax.specs.GivenReading.{read_given}
 use Rattle.it_question.specs.Keywords.{given_text, row_text}
-use Rattle.it_question.specs.Questions.{Lines}
-use Rattle.it_question.specs.Trees.{no_lines}
-use Rattle.it_question.specs.Reading.{behind_word, limited, given_then, row_then, by_keyword, read_own, read_lines}
+use Rattle.it_question.specs.Questions.{OwnLinesView}
+use Rattle.it_question.specs.WrittenLines.{no_lines}
+use Rattle.it_question.specs.Reading.{behind_word, within_limit, given_then, row_then, by_keyword, read_own, read_lines}
 use Rattle.it_syntax.proofs.LimitLemmas.{Sure, sure_bind}
-use Rattle.it_syntax.proofs.ComparisonLimits.{comparison_limited}
-use Rattle.it_syntax.proofs.ConditionLimits.{condition_limited}
+use Rattle.it_syntax.proofs.RelationLimits.{relation_limited}
+use Rattle.it_syntax.proofs.GivenLimits.{given_limited}
 
-abbrev pub OverRelation : Vocabulary → Stated → Type 0
+abbrev pub OverRelation : NamesView → RelationView → Type 0
 OverRelation v y = IsRelationOf (length v.variables) (length v.rates) y
 
-abbrev pub OverCondition : Vocabulary → Condition → Type 0
-OverCondition v y = IsConditionOf (length v.variables) (length v.rates) y
+abbrev pub OverCondition : NamesView → GivenView → Type 0
+OverCondition v y = IsGivenOf (length v.variables) (length v.rates) y
 
 -- what is so of each that is read
 pub sure_if : {A : Type 0} (P : A → Type 0) (r : Reads A) → ((x : A) (rest : List Letter) → r ≡ Ok (x, rest) → P x) → Sure (λ (x : A × List Letter). P x.0) r
@@ -32,57 +32,57 @@ sure_if P (Ok x) h = h x.0 x.1 refl
 sure_if P (Err e) h = tt
 
 -- a relation up to its line's end
-pub relation_sure : (v : Vocabulary) (ls : List Letter) → Sure (λ (x : Stated × List Letter). OverRelation v x.0) (to_end (read_comparison (scope_of v true)) ls)
-relation_sure v ls = sure_if (OverRelation v) (to_end (read_comparison (scope_of v true)) ls) (λ y r e. comparison_limited v true ls r y e)
+pub relation_sure : (v : NamesView) (ls : List Letter) → Sure (λ (x : RelationView × List Letter). OverRelation v x.0) (to_end (read_relation (scope_of v true)) ls)
+relation_sure v ls = sure_if (OverRelation v) (to_end (read_relation (scope_of v true)) ls) (λ y r e. relation_limited v true ls r y e)
 
-condition_sure : (v : Vocabulary) (ls : List Letter) → Sure (λ (x : Condition × List Letter). OverCondition v x.0) (to_end (read_condition (scope_of v false)) ls)
-condition_sure v ls = sure_if (OverCondition v) (to_end (read_condition (scope_of v false)) ls) (λ y r e. condition_limited v ls r y e)
+given_line_sure : (v : NamesView) (ls : List Letter) → Sure (λ (x : GivenView × List Letter). OverCondition v x.0) (to_end (read_given (scope_of v false)) ls)
+given_line_sure v ls = sure_if (OverCondition v) (to_end (read_given (scope_of v false)) ls) (λ y r e. given_limited v ls r y e)
 
 -- at most so many constraints, over these names
-pub record AreOwn (g r : ℕ) (v : Vocabulary) (own : Lines) : Type 0 where
+pub record AreOwn (g r : ℕ) (v : NamesView) (own : OwnLinesView) : Type 0 where
   pub few_givens : length own.givens ≤ g
   pub few_rows : length own.rows ≤ r
   pub givens : All (OverCondition v) own.givens
   pub rows : All (OverRelation v) own.rows
 
-abbrev pub Own : ℕ → ℕ → Vocabulary → Lines × List Letter → Type 0
+abbrev pub Own : ℕ → ℕ → NamesView → OwnLinesView × List Letter → Type 0
 Own g r v x = AreOwn g r v x.0
 
-no_own : (g r : ℕ) (v : Vocabulary) → AreOwn g r v no_lines
+no_own : (g r : ℕ) (v : NamesView) → AreOwn g r v no_lines
 no_own g r v = record { few_givens = omega arith; few_rows = omega arith; givens = All-nil (OverCondition v); rows = All-nil (OverRelation v) }
 
-given_sure : (g r : ℕ) (v : Vocabulary) (f : List Letter → Reads Lines) → ((ls : List Letter) → Sure (Own (suc g - 1) r v) (f ls)) → (ls : List Letter) → Sure (Own (suc g) r v) (given_then f v ls)
+given_sure : (g r : ℕ) (v : NamesView) (f : List Letter → Reads OwnLinesView) → ((ls : List Letter) → Sure (Own (suc g - 1) r v) (f ls)) → (ls : List Letter) → Sure (Own (suc g) r v) (given_then f v ls)
 given_sure g r v f h ls =
-    sure_bind (λ (x : Condition × List Letter). OverCondition v x.0) (Own (suc g) r v) (to_end (read_condition (scope_of v false)) ls) (λ x. f x.1 >>= λ own. Ok (record { givens = x.0 ∷ own.0.givens; rows = own.0.rows }, own.1)) (condition_sure v ls)
+    sure_bind (λ (x : GivenView × List Letter). OverCondition v x.0) (Own (suc g) r v) (to_end (read_given (scope_of v false)) ls) (λ x. f x.1 >>= λ own. Ok (record { givens = x.0 ∷ own.0.givens; rows = own.0.rows }, own.1)) (given_line_sure v ls)
     (λ x hx. sure_bind (Own (suc g - 1) r v) (Own (suc g) r v) (f x.1) (λ own. Ok (record { givens = x.0 ∷ own.0.givens; rows = own.0.rows }, own.1)) (h x.1)
     (λ own ho. record { few_givens = omega (arith, ho.few_givens); few_rows = ho.few_rows; givens = All-cons (OverCondition v) x.0 own.0.givens hx ho.givens; rows = ho.rows }))
 
-row_sure : (g r : ℕ) (v : Vocabulary) (f : List Letter → Reads Lines) → ((ls : List Letter) → Sure (Own g (suc r - 1) v) (f ls)) → (ls : List Letter) → Sure (Own g (suc r) v) (row_then f v ls)
+row_sure : (g r : ℕ) (v : NamesView) (f : List Letter → Reads OwnLinesView) → ((ls : List Letter) → Sure (Own g (suc r - 1) v) (f ls)) → (ls : List Letter) → Sure (Own g (suc r) v) (row_then f v ls)
 row_sure g r v f h ls =
-    sure_bind (λ (x : Stated × List Letter). OverRelation v x.0) (Own g (suc r) v) (to_end (read_comparison (scope_of v true)) ls) (λ x. f x.1 >>= λ own. Ok (record { givens = own.0.givens; rows = x.0 ∷ own.0.rows }, own.1)) (relation_sure v ls)
+    sure_bind (λ (x : RelationView × List Letter). OverRelation v x.0) (Own g (suc r) v) (to_end (read_relation (scope_of v true)) ls) (λ x. f x.1 >>= λ own. Ok (record { givens = own.0.givens; rows = x.0 ∷ own.0.rows }, own.1)) (relation_sure v ls)
     (λ x hx. sure_bind (Own g (suc r - 1) v) (Own g (suc r) v) (f x.1) (λ own. Ok (record { givens = own.0.givens; rows = x.0 ∷ own.0.rows }, own.1)) (h x.1)
     (λ own ho. record { few_givens = ho.few_givens; few_rows = omega (arith, ho.few_rows); givens = ho.givens; rows = All-cons (OverRelation v) x.0 own.0.rows hx ho.rows }))
 
-keyword_sure : (g r : ℕ) (v : Vocabulary) (f h : List Letter → Reads Lines) (o p : Option (List Letter)) (ls : List Letter) → ((behind : List Letter) → Sure (Own g r v) (f behind)) → ((behind : List Letter) → Sure (Own g r v) (h behind)) → Sure (Own g r v) (by_keyword f h o p ls)
+keyword_sure : (g r : ℕ) (v : NamesView) (f h : List Letter → Reads OwnLinesView) (o p : Option (List Letter)) (ls : List Letter) → ((behind : List Letter) → Sure (Own g r v) (f behind)) → ((behind : List Letter) → Sure (Own g r v) (h behind)) → Sure (Own g r v) (by_keyword f h o p ls)
 keyword_sure g r v f h (Some behind) p ls of_f of_h = of_f behind
 keyword_sure g r v f h None (Some behind) ls of_f of_h = of_h behind
 keyword_sure g r v f h None None ls of_f of_h = no_own g r v
 
-own_sure : (n g r : ℕ) (v : Vocabulary) (ls : List Letter) → Sure (Own g r v) (read_own n g r v ls)
+own_sure : (n g r : ℕ) (v : NamesView) (ls : List Letter) → Sure (Own g r v) (read_own n g r v ls)
 unfolding read_own
 own_sure zero g r v ls = keyword_sure g r v (λ behind. Err (codes.Many, ls)) (λ behind. Err (codes.Many, ls)) (behind_word given_text ls) (behind_word row_text ls) ls (λ behind. tt) (λ behind. tt)
 own_sure (suc n) g r v ls =
-    keyword_sure g r v (λ behind. limited g (given_then (read_own n (g - 1) r v) v) behind ls) (λ behind. limited r (row_then (read_own n g (r - 1) v) v) behind ls) (behind_word given_text ls) (behind_word row_text ls) ls
+    keyword_sure g r v (λ behind. within_limit g (given_then (read_own n (g - 1) r v) v) behind ls) (λ behind. within_limit r (row_then (read_own n g (r - 1) v) v) behind ls) (behind_word given_text ls) (behind_word row_text ls) ls
     (λ behind. givens g (own_sure n (g - 1) r v) behind) (λ behind. rows r (own_sure n g (r - 1) v) behind)
   where
-    givens : (a : ℕ) → ((ls : List Letter) → Sure (Own (a - 1) r v) (read_own n (a - 1) r v ls)) → (behind : List Letter) → Sure (Own a r v) (limited a (given_then (read_own n (a - 1) r v) v) behind ls)
+    givens : (a : ℕ) → ((ls : List Letter) → Sure (Own (a - 1) r v) (read_own n (a - 1) r v ls)) → (behind : List Letter) → Sure (Own a r v) (within_limit a (given_then (read_own n (a - 1) r v) v) behind ls)
     givens zero h behind = tt
     givens (suc a) h behind = given_sure a r v (read_own n (suc a - 1) r v) h behind
 
-    rows : (b : ℕ) → ((ls : List Letter) → Sure (Own g (b - 1) v) (read_own n g (b - 1) v ls)) → (behind : List Letter) → Sure (Own g b v) (limited b (row_then (read_own n g (b - 1) v) v) behind ls)
+    rows : (b : ℕ) → ((ls : List Letter) → Sure (Own g (b - 1) v) (read_own n g (b - 1) v ls)) → (behind : List Letter) → Sure (Own g b v) (within_limit b (row_then (read_own n g (b - 1) v) v) behind ls)
     rows zero h behind = tt
     rows (suc b) h behind = row_sure g b v (read_own n g (suc b - 1) v) h behind
 
-pub lines_sure : (g r : ℕ) (v : Vocabulary) (ls : List Letter) → Sure (Own g r v) (read_lines g r v ls)
+pub lines_sure : (g r : ℕ) (v : NamesView) (ls : List Letter) → Sure (Own g r v) (read_lines g r v ls)
 unfolding read_lines
 lines_sure g r v ls = own_sure (g + r) g r v ls

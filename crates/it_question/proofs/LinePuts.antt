@@ -4,43 +4,48 @@ use Rattle.std.proofs.lemmas.Bool.Decides.{eqb_tells}
 use Rattle.it_syntax.specs.declared.types.Code.{Code}
 use Rattle.it_syntax.specs.declared.types.Symbol.TheVariants as symbols
 use Rattle.it_syntax.specs.Letters.{Word, Number, Sym, clean}
-use Rattle.it_syntax.specs.Trees.{Environment, WrittenList, is_measure, index_or}
-use Rattle.it_syntax.specs.Vocabulary.{Vocabulary}
-use Rattle.it_syntax.specs.ComparisonLines.{scope_of}
-use Rattle.it_syntax.specs.Relations.{env_of}
+use Rattle.it_syntax.specs.WrittenAtoms.{Environment, WrittenList, is_measure, index_or}
+use Rattle.it_syntax.specs.NamesViews.{NamesView}
+use Rattle.it_syntax.specs.Scopes.{scope_of}
+use Rattle.it_syntax.specs.Scopes.{env_of}
 use Rattle.it_question.specs.Keywords.{vars_text, rates_text, given_text, row_text, region_text, aux_text, try_text, prove_text, eliminate_text, contain_text}
-use Rattle.it_question.specs.Texts.{one_if_some, own_lines, one_unless_zero, region_lines, aim_lines, question_lines}
-use Rattle.it_question.specs.Trees.{WrittenLine, GivenLine, RowLine, WrittenRegion, WrittenSet, Empty, Listed, WrittenPart, WrittenTry, WrittenAim, Proving, Eliminating, Containing, WrittenQuestion, Sort, Variable, Rate, Sets, most_variables, most_rates, most_lines, with_name, no_names, is_taken, new_mark, spell_new, spell_new_more, spell_new_names, with_names, new_names_of, spell_names_line, names_line_of, limit_mark, spell_own, own_of, once_mark, spell_once, spell_once_more, spell_distinct, rates_env, unnamed, is_whole, part_mark, spell_set, spell_part, with_part, spell_parts, with_parts, whole_mark, try_mark, spell_tries, tries_of, auxiliaries_left, spell_region, region_of, auxiliary_env, givens_left, rows_left, spell_aim, aim_of, names_of, spell_question, question_of, spell_questions}
+use Rattle.it_question.specs.Texts.{one_if_some, own_lines, one_unless_zero, region_lines, verb_lines, question_lines}
+use Rattle.it_question.specs.WrittenQuestions.{WrittenLine, GivenLine, RowLine, WrittenRegion, WrittenSet, Empty, Listed, WrittenPart, WrittenTry, WrittenVerb, Prove, Eliminate, Contain, WrittenQuestion, most_variables, most_rates, most_lines}
+use Rattle.it_question.specs.NewNames.{Sort, Variable, Rate, with_name, no_names, is_taken, new_mark, spell_new, spell_new_more, spell_new_names, with_names, new_names_of, spell_names_line, names_line_of}
+use Rattle.it_question.specs.WrittenTries.{Sets, unnamed_sets, is_whole, part_mark, spell_set, spell_part, with_part, spell_parts, with_parts, whole_mark, try_mark, spell_tries, tries_of}
+use Rattle.it_question.specs.WrittenLines.{limit_mark, spell_own, own_of, once_mark, spell_once, spell_once_more, spell_distinct, rates_env}
+use Rattle.it_question.specs.WrittenRegions.{auxiliaries_left, spell_region, region_of, auxiliary_env, givens_left, rows_left}
+use Rattle.it_question.specs.WrittenFiles.{spell_verb, verb_of, names_of, spell_question, question_of, spell_questions}
 use Rattle.it_question.proofs.Puts.{AreTokens, HasLines, Puts, no_tokens, tokens_then, one_token, token_then, no_lines, line_of_tokens, lines_then, lines_as, line_then}
-use Rattle.it_question.proofs.TokenPuts.{list_puts, comparison_puts, condition_puts}
+use Rattle.it_question.proofs.TokenPuts.{list_puts, relation_puts, given_puts}
 
 -- ---- names
 
-new_puts : (sort : Sort) (n : ℕ) (v : Vocabulary) (w : List ℕ) → Puts AreTokens (spell_new sort n v w)
+new_puts : (sort : Sort) (n : ℕ) (v : NamesView) (w : List ℕ) → Puts AreTokens (spell_new sort n v w)
 new_puts sort n v w = one_token (Word w, new_mark (is_measure w) (is_taken v w) n) tt
 
-new_more_puts : (sort : Sort) (n : ℕ) (v : Vocabulary) (ws : List (List ℕ)) → Puts AreTokens (spell_new_more sort n v ws)
+new_more_puts : (sort : Sort) (n : ℕ) (v : NamesView) (ws : List (List ℕ)) → Puts AreTokens (spell_new_more sort n v ws)
 new_more_puts sort n v [] = no_tokens
 new_more_puts sort n v (w ∷ ws) = token_then (clean (Sym symbols.Comma)) tt (tokens_then (new_puts sort n v w) (new_more_puts sort (n - 1) (with_name sort v w) ws))
 
-new_names_puts : (sort : Sort) (n : ℕ) (v : Vocabulary) (l : WrittenList) → Puts AreTokens (spell_new_names sort n v l)
+new_names_puts : (sort : Sort) (n : ℕ) (v : NamesView) (l : WrittenList) → Puts AreTokens (spell_new_names sort n v l)
 new_names_puts sort n v l = tokens_then (new_puts sort n v l.first) (new_more_puts sort (n - 1) (with_name sort v l.first) l.more)
 
 one_if : Option WrittenList → ℕ
 one_if None = 0
 one_if (Some l) = 1
 
-names_line_puts : (sort : Sort) (n : ℕ) (keyword : List ℕ) (v : Vocabulary) (o : Option WrittenList) → Puts (HasLines (one_if o)) (spell_names_line sort n keyword v o)
+names_line_puts : (sort : Sort) (n : ℕ) (keyword : List ℕ) (v : NamesView) (o : Option WrittenList) → Puts (HasLines (one_if o)) (spell_names_line sort n keyword v o)
 unfolding one_if
 names_line_puts sort n keyword v None = no_lines
 names_line_puts sort n keyword v (Some l) = line_of_tokens None (token_then (clean (Word keyword)) tt (new_names_puts sort n v l))
 
 -- ---- `given` and `row` lines
 
-own_puts : (g r : ℕ) (v : Vocabulary) (ls : List WrittenLine) → Puts (HasLines (own_lines (own_of v ls))) (spell_own g r v ls)
+own_puts : (g r : ℕ) (v : NamesView) (ls : List WrittenLine) → Puts (HasLines (own_lines (own_of v ls))) (spell_own g r v ls)
 own_puts g r v [] = no_lines
-own_puts g r v (GivenLine x ∷ ls) = line_then (own_lines (own_of v ls)) (own_lines (own_of v (GivenLine x ∷ ls))) (line_of_tokens None (token_then (Word given_text, limit_mark g) tt (condition_puts (scope_of v false) x))) (own_puts (g - 1) r v ls) (omega arith)
-own_puts g r v (RowLine x ∷ ls) = line_then (own_lines (own_of v ls)) (own_lines (own_of v (RowLine x ∷ ls))) (line_of_tokens None (token_then (Word row_text, limit_mark r) tt (comparison_puts (scope_of v true) x))) (own_puts g (r - 1) v ls) (omega arith)
+own_puts g r v (GivenLine x ∷ ls) = line_then (own_lines (own_of v ls)) (own_lines (own_of v (GivenLine x ∷ ls))) (line_of_tokens None (token_then (Word given_text, limit_mark g) tt (given_puts (scope_of v false) x))) (own_puts (g - 1) r v ls) (omega arith)
+own_puts g r v (RowLine x ∷ ls) = line_then (own_lines (own_of v ls)) (own_lines (own_of v (RowLine x ∷ ls))) (line_of_tokens None (token_then (Word row_text, limit_mark r) tt (relation_puts (scope_of v true) x))) (own_puts g (r - 1) v ls) (omega arith)
 
 -- ---- the rates of an `eliminate` line
 
@@ -77,7 +82,7 @@ tries_puts n aux env sets (x ∷ xs) =
 
 -- ---- regions
 
-variables_grow : (v : Vocabulary) (ws : List (List ℕ)) → length (with_names Variable v ws).variables ≡ length v.variables + length ws
+variables_grow : (v : NamesView) (ws : List (List ℕ)) → length (with_names Variable v ws).variables ≡ length v.variables + length ws
 variables_grow v [] = omega arith
 variables_grow v (w ∷ ws) = omega (arith, variables_grow (with_name Variable v w) ws, length-append v.variables (w ∷ []))
 
@@ -90,14 +95,14 @@ one_unless_suc n =
     ap (λ (b : Bool). cond b 0 1) e
 
 -- an `aux` line stands there where the region has auxiliaries
-aux_lines : (v : Vocabulary) (o : Option WrittenList) → one_if o ≡ one_unless_zero (length (names_line_of Variable v o).variables - length v.variables)
+aux_lines : (v : NamesView) (o : Option WrittenList) → one_if o ≡ one_unless_zero (length (names_line_of Variable v o).variables - length v.variables)
 unfolding one_if
 aux_lines v None = let e : length v.variables - length v.variables ≡ 0 = omega arith in sym (ap one_unless_zero e)
 aux_lines v (Some l) =
     let e : length (new_names_of Variable v l).variables - length v.variables ≡ suc (length l.more) = omega (arith, variables_grow (with_name Variable v l.first) l.more, length-append v.variables (l.first ∷ [])) in
     sym (ap one_unless_zero e ∙ one_unless_suc (length l.more))
 
-region_puts : (g r : ℕ) (v : Vocabulary) (x : WrittenRegion) → Puts (HasLines (region_lines (region_of v x))) (spell_region g r v x)
+region_puts : (g r : ℕ) (v : NamesView) (x : WrittenRegion) → Puts (HasLines (region_lines (region_of v x))) (spell_region g r v x)
 region_puts g r v x =
     let names = names_line_of Variable v x.auxiliaries in
     let own = own_lines (own_of names x.own) in
@@ -106,23 +111,23 @@ region_puts g r v x =
 
 -- ---- questions
 
-aim_puts : (g r : ℕ) (v : Vocabulary) (x : WrittenAim) → Puts (HasLines (aim_lines (aim_of v x))) (spell_aim g r v x)
-aim_puts g r v (Proving x) = line_of_tokens None (token_then (clean (Word prove_text)) tt (comparison_puts (scope_of v true) x))
-aim_puts g r v (Eliminating l) = line_of_tokens None (token_then (clean (Word eliminate_text)) tt (distinct_puts (rates_env v) l))
-aim_puts g r v (Containing x) =
+verb_puts : (g r : ℕ) (v : NamesView) (x : WrittenVerb) → Puts (HasLines (verb_lines (verb_of v x))) (spell_verb g r v x)
+verb_puts g r v (Prove x) = line_of_tokens None (token_then (clean (Word prove_text)) tt (relation_puts (scope_of v true) x))
+verb_puts g r v (Eliminate l) = line_of_tokens None (token_then (clean (Word eliminate_text)) tt (distinct_puts (rates_env v) l))
+verb_puts g r v (Contain x) =
     let first = region_of v x.first in
     let second = region_of v x.second in
     let aux = auxiliary_env v second.names in
     let env = env_of first.names in
-    let sets = unnamed second.auxiliaries in
+    let sets = unnamed_sets second.auxiliaries in
     let tries = length (tries_of aux env sets x.tries) in
-    lines_as (region_lines first + (region_lines second + (tries + 1))) (aim_lines (aim_of v (Containing x)))
+    lines_as (region_lines first + (region_lines second + (tries + 1))) (verb_lines (verb_of v (Contain x)))
     (lines_then (region_lines first) (region_lines second + (tries + 1)) (region_puts g r v x.first)
     (lines_then (region_lines second) (tries + 1) (region_puts (givens_left g first.lines) (rows_left r first.lines) v x.second)
     (lines_then tries 1 (tries_puts most_lines aux env sets x.tries) (line_of_tokens None (one_token (clean (Word contain_text)) tt)))))
     (omega arith)
 
-kept_rates : (v : Vocabulary) (ws : List (List ℕ)) → (with_names Variable v ws).rates ≡ v.rates
+kept_rates : (v : NamesView) (ws : List (List ℕ)) → (with_names Variable v ws).rates ≡ v.rates
 kept_rates v [] = refl
 kept_rates v (w ∷ ws) = kept_rates (with_name Variable v w) ws
 
@@ -130,7 +135,7 @@ some_behind : {X : Type 0} (xs : List X) (x : X) → one_if_some (xs ++ x ∷ []
 some_behind [] x = refl
 some_behind (y ∷ xs) x = refl
 
-some_rates : (v : Vocabulary) (ws : List (List ℕ)) → one_if_some v.rates ≡ 1 → one_if_some (with_names Rate v ws).rates ≡ 1
+some_rates : (v : NamesView) (ws : List (List ℕ)) → one_if_some v.rates ≡ 1 → one_if_some (with_names Rate v ws).rates ≡ 1
 some_rates v [] e = e
 some_rates v (w ∷ ws) e = some_rates (with_name Rate v w) ws (some_behind v.rates w)
 
@@ -149,11 +154,11 @@ question_puts mark x =
     let variables = new_names_of Variable no_names x.variables in
     let names = names_of x in
     let own = own_of names x.own in
-    let verb = aim_lines (aim_of names x.aim) in
+    let verb = verb_lines (verb_of names x.verb) in
     line_then (one_if x.rates + (own_lines own + verb)) (question_lines (question_of x)) (line_of_tokens None (token_then (Word vars_text, mark) tt (new_names_puts Variable most_variables no_names x.variables)))
     (lines_then (one_if x.rates) (own_lines own + verb) (names_line_puts Rate most_rates rates_text variables x.rates)
     (lines_then (own_lines own) verb (own_puts most_lines most_lines names x.own)
-    (aim_puts (givens_left most_lines own) (rows_left most_lines own) names x.aim)))
+    (verb_puts (givens_left most_lines own) (rows_left most_lines own) names x.verb)))
     (omega (arith, rates_lines x))
 
 abbrev pub all_lines : List WrittenQuestion → ℕ

@@ -2,94 +2,95 @@
 use Rattle.std.proofs.Common.{◌≡◌, ◌≤◌, ℕ, zero, suc, ◌+◌, ◌-◌, true, false, List, [], ◌∷◌, Option, None, Ok, Err, refl, sym, ap, ◌∙◌, subst, arith}
 use Rattle.it_syntax.specs.declared.types.Code.TheVariants as codes
 use Rattle.it_syntax.specs.declared.types.Sign.TheVariants as signs
-use Rattle.it_syntax.specs.Vocabulary.{Vocabulary}
-use Rattle.it_syntax.specs.Meaning.{Stated}
+use Rattle.it_syntax.specs.NamesViews.{NamesView}
+use Rattle.it_syntax.specs.Meaning.{RelationView}
 use Rattle.it_syntax.specs.Letters.{Letter, Word, End, Marked, clean}
 use Rattle.it_syntax.specs.Lines.{to_end}
-use Rattle.it_syntax.specs.Reading.{Reads, ◌>>=◌}
-use Rattle.it_syntax.specs.Comparisons.{WrittenSum, WrittenComparison, Zero, spell_comparison, comparison_of}
-use Rattle.it_syntax.specs.ComparisonLines.{scope_of}
-use Rattle.it_syntax.specs.ComparisonReading.{read_comparison}
-use Rattle.it_syntax.specs.Conditions.{WrittenCondition, Compared, spell_condition, condition_of}
-use Rattle.it_syntax.specs.ConditionReading.{read_condition}
-use Rattle.it_syntax.specs.Givens.{Condition}
+use Rattle.it_syntax.specs.AtomReading.{Reads, ◌>>=◌}
+use Rattle.it_syntax.specs.WrittenRelations.{WrittenSum, WrittenRelation, Zero, spell_relation, relation_of}
+use Rattle.it_syntax.specs.Scopes.{scope_of}
+use Rattle.it_syntax.specs.RelationReading.{read_relation}
+use Rattle.it_syntax.specs.WrittenGivens.{WrittenGiven, Relation, spell_given, given_of}
+use Rattle.it_syntax.specs.GivenReading.{read_given}
+use Rattle.it_syntax.specs.Givens.{GivenView}
 use Rattle.it_syntax.proofs.Traces.{By, Traces, traces_bind, traces_map}
-use Rattle.it_syntax.proofs.ComparisonTraces.{comparison_traces}
-use Rattle.it_syntax.proofs.ConditionTraces.{condition_traces}
+use Rattle.it_syntax.proofs.RelationTraces.{relation_traces}
+use Rattle.it_syntax.proofs.GivenTraces.{given_line_traces}
 use Rattle.it_question.specs.Keywords.{given_text, row_text}
-use Rattle.it_question.specs.Questions.{Lines}
-use Rattle.it_question.specs.Trees.{WrittenLine, GivenLine, RowLine, spell_own, no_lines, own_of}
-use Rattle.it_question.specs.Reading.{behind_word, limited, given_then, row_then, by_keyword, read_own, read_lines}
+use Rattle.it_question.specs.Questions.{OwnLinesView}
+use Rattle.it_question.specs.WrittenQuestions.{WrittenLine, GivenLine, RowLine}
+use Rattle.it_question.specs.WrittenLines.{spell_own, no_lines, own_of}
+use Rattle.it_question.specs.Reading.{behind_word, within_limit, given_then, row_then, by_keyword, read_own, read_lines}
 use Rattle.it_question.proofs.NameTraces.{ended_traces, marked_here, nothing_read, word_behind, at_word, behind_traced}
 
 abbrev zero_sum : WrittenSum
 zero_sum = record { sign = None; first = Zero; more = [] }
 
 -- a relation that goes on where one is missing
-abbrev pub some_relation : WrittenComparison
+abbrev pub some_relation : WrittenRelation
 some_relation = record { left = zero_sum; sign = signs.Equal; right = zero_sum }
 
-some_condition : WrittenCondition
-some_condition = Compared (record { relation = some_relation; plain = refl })
+some_given : WrittenGiven
+some_given = Relation (record { relation = some_relation; plain = refl })
 
 -- ---- a line, and the lines behind it
 
 abbrev GivenMore : Type 0
-GivenMore = WrittenCondition × List WrittenLine
+GivenMore = WrittenGiven × List WrittenLine
 
-abbrev spell_given_more : ℕ → ℕ → Vocabulary → GivenMore → Marked → Marked
-spell_given_more g r v x k = spell_condition (scope_of v false) x.0 (clean End ∷ spell_own (g - 1) r v x.1 k)
+abbrev spell_given_more : ℕ → ℕ → NamesView → GivenMore → Marked → Marked
+spell_given_more g r v x k = spell_given (scope_of v false) x.0 (clean End ∷ spell_own (g - 1) r v x.1 k)
 
-abbrev with_given : Condition → Lines → Lines
+abbrev with_given : GivenView → OwnLinesView → OwnLinesView
 with_given x own = record { givens = x ∷ own.givens; rows = own.rows }
 
-abbrev given_more_of : Vocabulary → GivenMore → Lines
-given_more_of v x = with_given (condition_of (scope_of v false) x.0) (own_of v x.1)
+abbrev given_more_of : NamesView → GivenMore → OwnLinesView
+given_more_of v x = with_given (given_of (scope_of v false) x.0) (own_of v x.1)
 
 abbrev given_made : GivenMore → List WrittenLine
 given_made x = GivenLine x.0 ∷ x.1
 
-given_then_traces : (f : List Letter → Reads Lines) (g r : ℕ) (v : Vocabulary) → Traces f (spell_own (g - 1) r v) (own_of v) → Traces (given_then f v) (spell_given_more g r v) (given_more_of v)
-given_then_traces f g r v h = traces_bind (to_end (read_condition (scope_of v false))) (λ x ls. f ls >>= λ own. Ok (with_given x own.0, own.1)) (given_then f v) (λ x k. spell_condition (scope_of v false) x (clean End ∷ k)) (λ x. spell_own (g - 1) r v) (spell_given_more g r v) (condition_of (scope_of v false)) (λ x own. with_given x (own_of v own)) (given_more_of v) (λ x own. (x, own))
-    (record { is = λ ls. refl; spells = λ y z k. refl; value = λ y z. refl; some = []; first = ended_traces (read_condition (scope_of v false)) (spell_condition (scope_of v false)) (condition_of (scope_of v false)) (condition_traces (scope_of v false)); second = λ x. traces_map f (with_given x) (spell_own (g - 1) r v) (own_of v) h })
+given_then_traces : (f : List Letter → Reads OwnLinesView) (g r : ℕ) (v : NamesView) → Traces f (spell_own (g - 1) r v) (own_of v) → Traces (given_then f v) (spell_given_more g r v) (given_more_of v)
+given_then_traces f g r v h = traces_bind (to_end (read_given (scope_of v false))) (λ x ls. f ls >>= λ own. Ok (with_given x own.0, own.1)) (given_then f v) (λ x k. spell_given (scope_of v false) x (clean End ∷ k)) (λ x. spell_own (g - 1) r v) (spell_given_more g r v) (given_of (scope_of v false)) (λ x own. with_given x (own_of v own)) (given_more_of v) (λ x own. (x, own))
+    (record { is = λ ls. refl; spells = λ y z k. refl; value = λ y z. refl; some = []; first = ended_traces (read_given (scope_of v false)) (spell_given (scope_of v false)) (given_of (scope_of v false)) (given_line_traces (scope_of v false)); second = λ x. traces_map f (with_given x) (spell_own (g - 1) r v) (own_of v) h })
 
 abbrev RowMore : Type 0
-RowMore = WrittenComparison × List WrittenLine
+RowMore = WrittenRelation × List WrittenLine
 
-abbrev spell_row_more : ℕ → ℕ → Vocabulary → RowMore → Marked → Marked
-spell_row_more g r v x k = spell_comparison (scope_of v true) x.0 (clean End ∷ spell_own g (r - 1) v x.1 k)
+abbrev spell_row_more : ℕ → ℕ → NamesView → RowMore → Marked → Marked
+spell_row_more g r v x k = spell_relation (scope_of v true) x.0 (clean End ∷ spell_own g (r - 1) v x.1 k)
 
-abbrev with_row : Stated → Lines → Lines
+abbrev with_row : RelationView → OwnLinesView → OwnLinesView
 with_row x own = record { givens = own.givens; rows = x ∷ own.rows }
 
-abbrev row_more_of : Vocabulary → RowMore → Lines
-row_more_of v x = with_row (comparison_of (scope_of v true) x.0) (own_of v x.1)
+abbrev row_more_of : NamesView → RowMore → OwnLinesView
+row_more_of v x = with_row (relation_of (scope_of v true) x.0) (own_of v x.1)
 
 abbrev row_made : RowMore → List WrittenLine
 row_made x = RowLine x.0 ∷ x.1
 
-row_then_traces : (f : List Letter → Reads Lines) (g r : ℕ) (v : Vocabulary) → Traces f (spell_own g (r - 1) v) (own_of v) → Traces (row_then f v) (spell_row_more g r v) (row_more_of v)
-row_then_traces f g r v h = traces_bind (to_end (read_comparison (scope_of v true))) (λ x ls. f ls >>= λ own. Ok (with_row x own.0, own.1)) (row_then f v) (λ x k. spell_comparison (scope_of v true) x (clean End ∷ k)) (λ x. spell_own g (r - 1) v) (spell_row_more g r v) (comparison_of (scope_of v true)) (λ x own. with_row x (own_of v own)) (row_more_of v) (λ x own. (x, own))
-    (record { is = λ ls. refl; spells = λ y z k. refl; value = λ y z. refl; some = []; first = ended_traces (read_comparison (scope_of v true)) (spell_comparison (scope_of v true)) (comparison_of (scope_of v true)) (comparison_traces (scope_of v true)); second = λ x. traces_map f (with_row x) (spell_own g (r - 1) v) (own_of v) h })
+row_then_traces : (f : List Letter → Reads OwnLinesView) (g r : ℕ) (v : NamesView) → Traces f (spell_own g (r - 1) v) (own_of v) → Traces (row_then f v) (spell_row_more g r v) (row_more_of v)
+row_then_traces f g r v h = traces_bind (to_end (read_relation (scope_of v true))) (λ x ls. f ls >>= λ own. Ok (with_row x own.0, own.1)) (row_then f v) (λ x k. spell_relation (scope_of v true) x (clean End ∷ k)) (λ x. spell_own g (r - 1) v) (spell_row_more g r v) (relation_of (scope_of v true)) (λ x own. with_row x (own_of v own)) (row_more_of v) (λ x own. (x, own))
+    (record { is = λ ls. refl; spells = λ y z k. refl; value = λ y z. refl; some = []; first = ended_traces (read_relation (scope_of v true)) (spell_relation (scope_of v true)) (relation_of (scope_of v true)) (relation_traces (scope_of v true)); second = λ x. traces_map f (with_row x) (spell_own g (r - 1) v) (own_of v) h })
 
 -- ---- a reader by the keyword that stands there
 
 -- reads by f behind `given`, by h behind `row`, and else nothing
-abbrev by_words : (f h : List Letter → List Letter → Reads Lines) → List Letter → Reads Lines
+abbrev by_words : (f h : List Letter → List Letter → Reads OwnLinesView) → List Letter → Reads OwnLinesView
 by_words f h ls = by_keyword (λ behind. f behind ls) (λ behind. h behind ls) (behind_word given_text ls) (behind_word row_text ls) ls
 
-given_stands : (f h : List Letter → List Letter → Reads Lines) (s : List Letter) → by_words f h (Word given_text ∷ s) ≡ f s (Word given_text ∷ s)
+given_stands : (f h : List Letter → List Letter → Reads OwnLinesView) (s : List Letter) → by_words f h (Word given_text ∷ s) ≡ f s (Word given_text ∷ s)
 given_stands f h s = ap (λ (o : Option (List Letter)). by_keyword (λ behind. f behind (Word given_text ∷ s)) (λ behind. h behind (Word given_text ∷ s)) o (behind_word row_text (Word given_text ∷ s)) (Word given_text ∷ s)) (word_behind given_text s)
 
-row_stands : (f h : List Letter → List Letter → Reads Lines) (s : List Letter) → by_words f h (Word row_text ∷ s) ≡ h s (Word row_text ∷ s)
+row_stands : (f h : List Letter → List Letter → Reads OwnLinesView) (s : List Letter) → by_words f h (Word row_text ∷ s) ≡ h s (Word row_text ∷ s)
 unfolding behind_word
 row_stands f h s = refl
 
-none_stands : (f h : List Letter → List Letter → Reads Lines) (s : List Letter) → behind_word given_text s ≡ None → behind_word row_text s ≡ None → by_words f h s ≡ Ok (no_lines, s)
+none_stands : (f h : List Letter → List Letter → Reads OwnLinesView) (s : List Letter) → behind_word given_text s ≡ None → behind_word row_text s ≡ None → by_words f h s ≡ Ok (no_lines, s)
 none_stands f h s a b = ap (λ (o : Option (List Letter)). by_keyword (λ behind. f behind s) (λ behind. h behind s) o (behind_word row_text s) s) a ∙ ap (λ (o : Option (List Letter)). by_keyword (λ behind. f behind s) (λ behind. h behind s) None o s) b
 
 -- what such a reader tells, by what it tells at each keyword
-at_keywords : (f h : List Letter → List Letter → Reads Lines) (g r : ℕ) (v : Vocabulary) (ls : List Letter)
+at_keywords : (f h : List Letter → List Letter → Reads OwnLinesView) (g r : ℕ) (v : NamesView) (ls : List Letter)
     → ((behind : List Letter) → By (by_words f h) (spell_own g r v) (own_of v) (Word given_text ∷ behind) (by_words f h (Word given_text ∷ behind)))
     → ((behind : List Letter) → By (by_words f h) (spell_own g r v) (own_of v) (Word row_text ∷ behind) (by_words f h (Word row_text ∷ behind)))
     → By (by_words f h) (spell_own g r v) (own_of v) ls (by_words f h ls)
@@ -99,43 +100,43 @@ at_keywords f h g r v ls given row = at_word given_text (by_words f h) (spell_ow
 
 -- ---- lines one after the other
 
-abbrev givens_by : ℕ → ℕ → ℕ → Vocabulary → List Letter → List Letter → Reads Lines
-givens_by n g r v behind ls = limited g (given_then (read_own n (g - 1) r v) v) behind ls
+abbrev givens_by : ℕ → ℕ → ℕ → NamesView → List Letter → List Letter → Reads OwnLinesView
+givens_by n g r v behind ls = within_limit g (given_then (read_own n (g - 1) r v) v) behind ls
 
-abbrev rows_by : ℕ → ℕ → ℕ → Vocabulary → List Letter → List Letter → Reads Lines
-rows_by n g r v behind ls = limited r (row_then (read_own n g (r - 1) v) v) behind ls
+abbrev rows_by : ℕ → ℕ → ℕ → NamesView → List Letter → List Letter → Reads OwnLinesView
+rows_by n g r v behind ls = within_limit r (row_then (read_own n g (r - 1) v) v) behind ls
 
-too_many : List Letter → List Letter → Reads Lines
+too_many : List Letter → List Letter → Reads OwnLinesView
 too_many behind ls = Err (codes.Many, ls)
 
 -- past the limit `given` is marked
-given_over : (f h : List Letter → List Letter → Reads Lines) (r : ℕ) (v : Vocabulary) (behind : List Letter) → ((b s : List Letter) → f b s ≡ Err (codes.Many, s)) → By (by_words f h) (spell_own zero r v) (own_of v) (Word given_text ∷ behind) (by_words f h (Word given_text ∷ behind))
+given_over : (f h : List Letter → List Letter → Reads OwnLinesView) (r : ℕ) (v : NamesView) (behind : List Letter) → ((b s : List Letter) → f b s ≡ Err (codes.Many, s)) → By (by_words f h) (spell_own zero r v) (own_of v) (Word given_text ∷ behind) (by_words f h (Word given_text ∷ behind))
 given_over f h r v behind e =
     let stays : (s : List Letter) → by_words f h (Word given_text ∷ s) ≡ Err (codes.Many, Word given_text ∷ s) = λ s. given_stands f h s ∙ e s (Word given_text ∷ s) in
-    subst (λ (t : Reads Lines). By (by_words f h) (spell_own zero r v) (own_of v) (Word given_text ∷ behind) t) (sym (stays behind))
-    (marked_here (by_words f h) (spell_own zero r v) (GivenLine some_condition ∷ []) (Word given_text) behind codes.Many (λ k. spell_condition (scope_of v false) some_condition (clean End ∷ k)) (λ k. refl) stays)
+    subst (λ (t : Reads OwnLinesView). By (by_words f h) (spell_own zero r v) (own_of v) (Word given_text ∷ behind) t) (sym (stays behind))
+    (marked_here (by_words f h) (spell_own zero r v) (GivenLine some_given ∷ []) (Word given_text) behind codes.Many (λ k. spell_given (scope_of v false) some_given (clean End ∷ k)) (λ k. refl) stays)
 
 -- and `row`
-row_over : (f h : List Letter → List Letter → Reads Lines) (g : ℕ) (v : Vocabulary) (behind : List Letter) → ((b s : List Letter) → h b s ≡ Err (codes.Many, s)) → By (by_words f h) (spell_own g zero v) (own_of v) (Word row_text ∷ behind) (by_words f h (Word row_text ∷ behind))
+row_over : (f h : List Letter → List Letter → Reads OwnLinesView) (g : ℕ) (v : NamesView) (behind : List Letter) → ((b s : List Letter) → h b s ≡ Err (codes.Many, s)) → By (by_words f h) (spell_own g zero v) (own_of v) (Word row_text ∷ behind) (by_words f h (Word row_text ∷ behind))
 row_over f h g v behind e =
     let stays : (s : List Letter) → by_words f h (Word row_text ∷ s) ≡ Err (codes.Many, Word row_text ∷ s) = λ s. row_stands f h s ∙ e s (Word row_text ∷ s) in
-    subst (λ (t : Reads Lines). By (by_words f h) (spell_own g zero v) (own_of v) (Word row_text ∷ behind) t) (sym (stays behind))
-    (marked_here (by_words f h) (spell_own g zero v) (RowLine some_relation ∷ []) (Word row_text) behind codes.Many (λ k. spell_comparison (scope_of v true) some_relation (clean End ∷ k)) (λ k. refl) stays)
+    subst (λ (t : Reads OwnLinesView). By (by_words f h) (spell_own g zero v) (own_of v) (Word row_text ∷ behind) t) (sym (stays behind))
+    (marked_here (by_words f h) (spell_own g zero v) (RowLine some_relation ∷ []) (Word row_text) behind codes.Many (λ k. spell_relation (scope_of v true) some_relation (clean End ∷ k)) (λ k. refl) stays)
 
-given_by : (n g r : ℕ) (v : Vocabulary) (behind : List Letter) → (1 ≤ g → Traces (read_own n (g - 1) r v) (spell_own (g - 1) r v) (own_of v))
+given_by : (n g r : ℕ) (v : NamesView) (behind : List Letter) → (1 ≤ g → Traces (read_own n (g - 1) r v) (spell_own (g - 1) r v) (own_of v))
     → By (by_words (givens_by n g r v) (rows_by n g r v)) (spell_own g r v) (own_of v) (Word given_text ∷ behind) (by_words (givens_by n g r v) (rows_by n g r v) (Word given_text ∷ behind))
 given_by n zero r v behind h = given_over (givens_by n zero r v) (rows_by n zero r v) r v behind (λ b s. refl)
 given_by n (suc g) r v behind h = behind_traced given_text (by_words (givens_by n (suc g) r v) (rows_by n (suc g) r v)) (given_then (read_own n (suc g - 1) r v) v) (spell_given_more (suc g) r v) (spell_own (suc g) r v) (given_more_of v) (own_of v) given_made behind
     (given_stands (givens_by n (suc g) r v) (rows_by n (suc g) r v)) (λ z k. refl) (λ z. refl) (given_then_traces (read_own n (suc g - 1) r v) (suc g) r v (h (omega arith)))
 
-row_by : (n g r : ℕ) (v : Vocabulary) (behind : List Letter) → (1 ≤ r → Traces (read_own n g (r - 1) v) (spell_own g (r - 1) v) (own_of v))
+row_by : (n g r : ℕ) (v : NamesView) (behind : List Letter) → (1 ≤ r → Traces (read_own n g (r - 1) v) (spell_own g (r - 1) v) (own_of v))
     → By (by_words (givens_by n g r v) (rows_by n g r v)) (spell_own g r v) (own_of v) (Word row_text ∷ behind) (by_words (givens_by n g r v) (rows_by n g r v) (Word row_text ∷ behind))
 row_by n g zero v behind h = row_over (givens_by n g zero v) (rows_by n g zero v) g v behind (λ b s. refl)
 row_by n g (suc r) v behind h = behind_traced row_text (by_words (givens_by n g (suc r) v) (rows_by n g (suc r) v)) (row_then (read_own n g (suc r - 1) v) v) (spell_row_more g (suc r) v) (spell_own g (suc r) v) (row_more_of v) (own_of v) row_made behind
     (row_stands (givens_by n g (suc r) v) (rows_by n g (suc r) v)) (λ z k. refl) (λ z. refl) (row_then_traces (read_own n g (suc r - 1) v) g (suc r) v (h (omega arith)))
 
 -- `given` and `row` lines, of which g and r are allowed
-pub own_traces : (n g r : ℕ) (v : Vocabulary) → g + r ≤ n → Traces (read_own n g r v) (spell_own g r v) (own_of v)
+pub own_traces : (n g r : ℕ) (v : NamesView) → g + r ≤ n → Traces (read_own n g r v) (spell_own g r v) (own_of v)
 unfolding read_own too_many
 own_traces zero zero zero v h ls = at_keywords too_many too_many zero zero v ls (λ behind. given_over too_many too_many zero v behind (λ b s. refl)) (λ behind. row_over too_many too_many zero v behind (λ b s. refl))
 own_traces zero zero (suc r) v h ls = absurd (omega (arith, h))
@@ -145,6 +146,6 @@ own_traces (suc n) g r v h ls = at_keywords (givens_by n g r v) (rows_by n g r v
     (λ behind. row_by n g r v behind (λ (p : 1 ≤ r). own_traces n g (r - 1) v (omega (arith, h, p))))
 
 -- and with no more lines than are allowed
-pub lines_traces : (g r : ℕ) (v : Vocabulary) → Traces (read_lines g r v) (spell_own g r v) (own_of v)
+pub lines_traces : (g r : ℕ) (v : NamesView) → Traces (read_lines g r v) (spell_own g r v) (own_of v)
 unfolding read_lines
 lines_traces g r v = own_traces (g + r) g r v (omega arith)

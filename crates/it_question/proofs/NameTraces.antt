@@ -5,17 +5,17 @@ use Rattle.std.proofs.lemmas.Slice.Eq.{bytes_eq-Decides}
 use Rattle.it_syntax.specs.declared.types.Symbol.TheVariants.{Comma}
 use Rattle.it_syntax.specs.declared.types.Code.{Code}
 use Rattle.it_syntax.specs.declared.types.Code.TheVariants as codes
-use Rattle.it_syntax.specs.Vocabulary.{Vocabulary}
+use Rattle.it_syntax.specs.NamesViews.{NamesView}
 use Rattle.it_syntax.specs.Letters.{Letter, Word, Sym, End, Marked, clean}
 use Rattle.it_syntax.specs.FirstFault.{head}
 use Rattle.it_syntax.specs.Lines.{to_end}
-use Rattle.it_syntax.specs.Reading.{Reads, ◌>>=◌, line_end}
-use Rattle.it_syntax.specs.Trees.{Environment, WrittenList, is_measure, index_or}
+use Rattle.it_syntax.specs.AtomReading.{Reads, ◌>>=◌, line_end}
+use Rattle.it_syntax.specs.WrittenAtoms.{Environment, WrittenList, is_measure, index_or}
 use Rattle.it_syntax.proofs.Traces.{Stuck, By, Traces, traces_bind, traces_map, letter_then}
 use Rattle.it_syntax.proofs.AtomTraces.{begun, empty, stuck_here, stuck_none}
 use Rattle.it_syntax.proofs.LineEnd.{spell_end, nothing, end_traces}
-use Rattle.it_question.specs.Trees.{Sort, with_name, is_taken, new_mark, spell_new, spell_new_more, spell_new_names, with_names, new_names_of, spell_names_line, names_line_of}
-use Rattle.it_question.specs.Reading.{read_word, behind_word, newly, read_new, read_new_more, read_new_names, if_behind, read_names_line}
+use Rattle.it_question.specs.NewNames.{Sort, with_name, is_taken, new_mark, spell_new, spell_new_more, spell_new_names, with_names, new_names_of, spell_names_line, names_line_of}
+use Rattle.it_question.specs.Reading.{read_word, behind_word, new_name_or_fault, read_new, read_new_more, read_new_names, if_behind, read_names_line}
 
 -- a reader up to the line's end
 pub ended_traces : {A X : Type 0} (f : List Letter → Reads A) (spell : X → Marked → Marked) (value : X → A) → Traces f spell value → Traces (to_end f) (λ x k. spell x (clean End ∷ k)) value
@@ -116,14 +116,14 @@ behind_traced {A} text f g spell_z spell_x value_z value_x make behind is spells
 
 -- ---- new names
 
-new_is : (sort : Sort) (n : ℕ) (v : Vocabulary) (w : List ℕ) (h t : Bool) → is_measure w ≡ h → is_taken v w ≡ t → (ls : List Letter) → read_new sort n v (Word w ∷ ls) ≡ newly sort n v w h t ls
+new_is : (sort : Sort) (n : ℕ) (v : NamesView) (w : List ℕ) (h t : Bool) → is_measure w ≡ h → is_taken v w ≡ t → (ls : List Letter) → read_new sort n v (Word w ∷ ls) ≡ new_name_or_fault sort n v w h t ls
 unfolding read_new
-new_is sort n v w h t eh et ls = ap (λ (b : Bool). newly sort n v w b (is_taken v w) ls) eh ∙ ap (λ (b : Bool). newly sort n v w h b ls) et
+new_is sort n v w h t eh et ls = ap (λ (b : Bool). new_name_or_fault sort n v w b (is_taken v w) ls) eh ∙ ap (λ (b : Bool). new_name_or_fault sort n v w h b ls) et
 
-mark_is : (n : ℕ) (v : Vocabulary) (w : List ℕ) (h t : Bool) → is_measure w ≡ h → is_taken v w ≡ t → (k : Marked) → (Word w, new_mark (is_measure w) (is_taken v w) n) ∷ k ≡ (Word w, new_mark h t n) ∷ k
+mark_is : (n : ℕ) (v : NamesView) (w : List ℕ) (h t : Bool) → is_measure w ≡ h → is_taken v w ≡ t → (k : Marked) → (Word w, new_mark (is_measure w) (is_taken v w) n) ∷ k ≡ (Word w, new_mark h t n) ∷ k
 mark_is n v w h t eh et k = ap (λ (b : Bool). (Word w, new_mark b (is_taken v w) n) ∷ k) eh ∙ ap (λ (b : Bool). (Word w, new_mark h b n) ∷ k) et
 
-new_by : (sort : Sort) (n : ℕ) (v : Vocabulary) (w : List ℕ) (ls : List Letter) (h t : Bool) → is_measure w ≡ h → is_taken v w ≡ t → By (read_new sort n v) (spell_new sort n v) (with_name sort v) (Word w ∷ ls) (newly sort n v w h t ls)
+new_by : (sort : Sort) (n : ℕ) (v : NamesView) (w : List ℕ) (ls : List Letter) (h t : Bool) → is_measure w ≡ h → is_taken v w ≡ t → By (read_new sort n v) (spell_new sort n v) (with_name sort v) (Word w ∷ ls) (new_name_or_fault sort n v w h t ls)
 new_by sort n v w ls true t eh et = marked_here (read_new sort n v) (spell_new sort n v) w (Word w) ls codes.Word (λ k. k) (mark_is n v w true t eh et) (new_is sort n v w true t eh et)
 new_by sort n v w ls false true eh et = marked_here (read_new sort n v) (spell_new sort n v) w (Word w) ls codes.Twice (λ k. k) (mark_is n v w false true eh et) (new_is sort n v w false true eh et)
 new_by sort zero v w ls false false eh et = marked_here (read_new sort zero v) (spell_new sort zero v) w (Word w) ls codes.Many (λ k. k) (mark_is zero v w false false eh et) (new_is sort zero v w false false eh et)
@@ -137,7 +137,7 @@ new_by sort (suc n) v w ls false false eh et = record {
 }
 
 -- a new name
-pub new_traces : (sort : Sort) (n : ℕ) (v : Vocabulary) → Traces (read_new sort n v) (spell_new sort n v) (with_name sort v)
+pub new_traces : (sort : Sort) (n : ℕ) (v : NamesView) → Traces (read_new sort n v) (spell_new sort n v) (with_name sort v)
 unfolding read_new
 new_traces sort n v (Word w ∷ ls) = new_by sort n v w ls (is_measure w) (is_taken v w) refl refl
 new_traces sort n v [] = stuck_none (read_new sort n v) (spell_new sort n v) some_name refl
@@ -150,29 +150,29 @@ abbrev Names : Type 0
 Names = List ℕ × List (List ℕ)
 
 -- n names are allowed behind the first
-abbrev new_then : Sort → ℕ → ℕ → Vocabulary → List Letter → Reads Vocabulary
+abbrev new_then : Sort → ℕ → ℕ → NamesView → List Letter → Reads NamesView
 new_then sort m n v ls = read_new sort m v ls >>= λ x. read_new_more sort n x.0 x.1
 
-abbrev spell_then : Sort → ℕ → ℕ → Vocabulary → Names → Marked → Marked
+abbrev spell_then : Sort → ℕ → ℕ → NamesView → Names → Marked → Marked
 spell_then sort m n v x k = spell_new sort m v x.0 (spell_new_more sort n (with_name sort v x.0) x.1 k)
 
-abbrev then_of : Sort → Vocabulary → Names → Vocabulary
+abbrev then_of : Sort → NamesView → Names → NamesView
 then_of sort v x = with_names sort (with_name sort v x.0) x.1
 
-then_traces : (sort : Sort) (m n : ℕ) (v : Vocabulary) → ((u : Vocabulary) → Traces (read_new_more sort n u) (spell_new_more sort n u) (with_names sort u)) → Traces (new_then sort m n v) (spell_then sort m n v) (then_of sort v)
+then_traces : (sort : Sort) (m n : ℕ) (v : NamesView) → ((u : NamesView) → Traces (read_new_more sort n u) (spell_new_more sort n u) (with_names sort u)) → Traces (new_then sort m n v) (spell_then sort m n v) (then_of sort v)
 then_traces sort m n v h = traces_bind (read_new sort m v) (read_new_more sort n) (new_then sort m n v) (spell_new sort m v) (spell_new_more sort n) (spell_then sort m n v) (with_name sort v) (with_names sort) (then_of sort v) (λ w ws. (w, ws))
     (record { is = λ ls. refl; spells = λ y z k. refl; value = λ y z. refl; some = []; first = new_traces sort m v; second = h })
 
 abbrev more_made : Names → List (List ℕ)
 more_made x = x.0 ∷ x.1
 
-more_spelled : (sort : Sort) (n : ℕ) (v : Vocabulary) (x : Names) (k : Marked) → spell_new_more sort (suc n) v (more_made x) k ≡ clean (Sym Comma) ∷ spell_then sort (suc n) n v x k
+more_spelled : (sort : Sort) (n : ℕ) (v : NamesView) (x : Names) (k : Marked) → spell_new_more sort (suc n) v (more_made x) k ≡ clean (Sym Comma) ∷ spell_then sort (suc n) n v x k
 more_spelled sort n v x k =
     let e : suc n - 1 ≡ n = omega arith in
     ap (λ (m : ℕ). clean (Sym Comma) ∷ spell_then sort (suc n) m v x k) e
 
 -- further new names
-pub new_more_traces : (sort : Sort) (n : ℕ) (v : Vocabulary) → Traces (read_new_more sort n v) (spell_new_more sort n v) (with_names sort v)
+pub new_more_traces : (sort : Sort) (n : ℕ) (v : NamesView) → Traces (read_new_more sort n v) (spell_new_more sort n v) (with_names sort v)
 unfolding read_new_more
 new_more_traces sort zero v (Sym Comma ∷ ls) = letter_then (read_new_more sort zero v) (read_new sort zero v) (Sym Comma) (spell_new sort zero v) (spell_new_more sort zero v) (with_name sort v) (with_names sort v) (λ w. w ∷ []) ls (λ s. refl) (λ z k. refl) (λ z. refl) (read_new sort zero v ls) (new_traces sort zero v ls)
 new_more_traces sort (suc n) v (Sym Comma ∷ ls) = letter_then (read_new_more sort (suc n) v) (new_then sort (suc n) n v) (Sym Comma) (spell_then sort (suc n) n v) (spell_new_more sort (suc n) v) (then_of sort v) (with_names sort v) more_made ls (λ s. refl) (more_spelled sort n v) (λ z. refl) (new_then sort (suc n) n v ls) (then_traces sort (suc n) n v (new_more_traces sort n) ls)
@@ -185,7 +185,7 @@ names_made : List ℕ → List (List ℕ) → WrittenList
 names_made w ws = record { first = w; more = ws }
 
 -- new names, one or more
-pub new_names_traces : (sort : Sort) (n : ℕ) (v : Vocabulary) → Traces (read_new_names sort n v) (spell_new_names sort n v) (new_names_of sort v)
+pub new_names_traces : (sort : Sort) (n : ℕ) (v : NamesView) → Traces (read_new_names sort n v) (spell_new_names sort n v) (new_names_of sort v)
 unfolding read_new_names names_made
 new_names_traces sort n v = traces_bind (read_new sort n v) (read_new_more sort (n - 1)) (read_new_names sort n v) (spell_new sort n v) (spell_new_more sort (n - 1)) (spell_new_names sort n v) (with_name sort v) (with_names sort) (new_names_of sort v) names_made
     (record { is = λ ls. refl; spells = λ y z k. refl; value = λ y z. refl; some = []; first = new_traces sort n v; second = new_more_traces sort (n - 1) })
@@ -193,7 +193,7 @@ new_names_traces sort n v = traces_bind (read_new sort n v) (read_new_more sort 
 -- ---- a line of new names, or none
 
 -- an optional line of new names behind its keyword
-pub names_line_traces : (sort : Sort) (n : ℕ) (keyword : List ℕ) (v : Vocabulary) → Traces (read_names_line sort n keyword v) (spell_names_line sort n keyword v) (names_line_of sort v)
+pub names_line_traces : (sort : Sort) (n : ℕ) (keyword : List ℕ) (v : NamesView) → Traces (read_names_line sort n keyword v) (spell_names_line sort n keyword v) (names_line_of sort v)
 unfolding read_names_line
 names_line_traces sort n keyword v ls = at_word keyword (read_names_line sort n keyword v) (spell_names_line sort n keyword v) (names_line_of sort v) ls
     (λ behind. behind_traced keyword (read_names_line sort n keyword v) (to_end (read_new_names sort n v)) (λ l k. spell_new_names sort n v l (clean End ∷ k)) (spell_names_line sort n keyword v) (new_names_of sort v) (names_line_of sort v) Some behind

@@ -10,12 +10,11 @@ use Rattle.it_syntax.specs.Spans.{letters_until}
 use Rattle.it_syntax.specs.FirstFault.{head}
 use Rattle.it_syntax.specs.Gives.{StopsAs}
 use Rattle.it_syntax.specs.Lines.{to_end}
-use Rattle.it_syntax.specs.Reading.{Fault, Reads, ◌>>=◌, line_end, read_list, read_name}
-use Rattle.it_syntax.specs.Trees.{Environment}
-use Rattle.it_syntax.specs.Comparisons.{Scope}
-use Rattle.it_syntax.specs.ComparisonReading.{read_comparison, read_sum, read_counted, read_term, read_quantity}
-use Rattle.it_syntax.specs.ConditionReading.{read_condition, read_plain}
-use Rattle.it_syntax.specs.Reading.{read_sign}
+use Rattle.it_syntax.specs.AtomReading.{Fault, Reads, ◌>>=◌, line_end, read_list, read_name, read_sign}
+use Rattle.it_syntax.specs.WrittenAtoms.{Environment}
+use Rattle.it_syntax.specs.WrittenRelations.{Scope}
+use Rattle.it_syntax.specs.RelationReading.{read_relation, read_sum, read_counted, read_term, read_quantity}
+use Rattle.it_syntax.specs.GivenReading.{read_given, read_plain}
 use Rattle.it_syntax.proofs.Traces.{Went, Stuck, By, Traces}
 use Rattle.it_syntax.proofs.LineEnd.{end_traces}
 
@@ -123,13 +122,13 @@ whole_stops f spell value h (stops.Fault c) ls r more e some = whole_err f spell
 
 -- ---- where nothing is left
 
-pub no_comparison : (s : Scope) → to_end (read_comparison s) [] ≡ Err (codes.Word, [])
-unfolding to_end read_comparison read_sum read_counted read_sign read_term read_quantity
-no_comparison s = refl
+pub no_relation : (s : Scope) → to_end (read_relation s) [] ≡ Err (codes.Word, [])
+unfolding to_end read_relation read_sum read_counted read_sign read_term read_quantity
+no_relation s = refl
 
-pub no_condition : (s : Scope) → to_end (read_condition s) [] ≡ Err (codes.Word, [])
-unfolding to_end read_condition read_plain read_comparison read_sum read_counted read_sign read_term read_quantity
-no_condition s = refl
+pub no_given_line : (s : Scope) → to_end (read_given s) [] ≡ Err (codes.Word, [])
+unfolding to_end read_given read_plain read_relation read_sum read_counted read_sign read_term read_quantity
+no_given_line s = refl
 
 pub no_list : (env : Environment) → read_list env [] ≡ Err (codes.Word, [])
 unfolding read_list read_name

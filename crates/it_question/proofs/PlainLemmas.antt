@@ -1,9 +1,10 @@
 -- Where a line ends, and what is read of it.
 use Rattle.std.proofs.Common.{◌≡◌, ℕ, zero, suc, ◌-◌, ◌<◌, ◌≤◌, ◌==◌, Bool, true, false, not, cond, List, [], ◌∷◌, ◌++◌, length, take, drop, take_all, refl, sym, ap, ◌∙◌, arith}
 use Rattle.it_syntax.specs.Spelling.{AreAll, Stops}
-use Rattle.it_syntax.specs.Fronts.{Run}
+use Rattle.it_syntax.specs.Fronts.{IsLongestRun}
 use Rattle.it_syntax.proofs.RunLemmas.{all_more, stops_at, stops_end}
-use Rattle.it_question.specs.Lines.{is_other, in_front, split_lines, without_return, before_comment}
+use Rattle.it_question.specs.Lines.{in_front, split_lines, without_return, before_comment}
+use Rattle.it_question.specs.ReaderSteps.{is_other}
 
 pub ruleset run_lemmas = (all_more, stops_at, stops_end)
 
@@ -14,7 +15,7 @@ is_same true true e = absurd cc
 is_same false false e = absurd cc
 
 -- what stands before the first comment
-pub before_comment_is : (line : List ℕ) (n : ℕ) → Run (is_other 35) line n → before_comment line ≡ take n line
+pub before_comment_is : (line : List ℕ) (n : ℕ) → IsLongestRun (is_other 35) line n → before_comment line ≡ take n line
 unfolding is_other
 before_comment_is line n r = by line n r.all r.stops
   where
@@ -55,12 +56,12 @@ not_returned (c ∷ []) b e = ap (λ (t : List ℕ). c ∷ t) (not_returned [] b
 not_returned (c ∷ d ∷ front) b e = ap (λ (t : List ℕ). c ∷ t) (not_returned (d ∷ front) b e)
 
 -- the first of these lines, as a slice is cut
-pub cut_at_feed : (bytes front rest : List ℕ) (n : ℕ) → Run (is_other 10) bytes n → front ≡ take n bytes → rest ≡ drop n bytes → 1 ≤ length rest → split_lines bytes ≡ front ∷ split_lines (take (length rest - 1) (drop 1 rest))
+pub cut_at_feed : (bytes front rest : List ℕ) (n : ℕ) → IsLongestRun (is_other 10) bytes n → front ≡ take n bytes → rest ≡ drop n bytes → 1 ≤ length rest → split_lines bytes ≡ front ∷ split_lines (take (length rest - 1) (drop 1 rest))
 cut_at_feed bytes front [] n r f e some = absurd (omega arith)
 cut_at_feed bytes front (b ∷ rest) n r f e some =
     let all : take (suc (length rest) - 1) rest ≡ rest = take_all (suc (length rest) - 1) rest (omega arith) in
     split_at_feed bytes n b rest r.all r.stops (sym e) ∙ ap (λ (t : List ℕ). t ∷ split_lines rest) (sym f) ∙ ap (λ (t : List ℕ). front ∷ split_lines t) (sym all)
 
-pub cut_at_end : (bytes front rest : List ℕ) (n : ℕ) → Run (is_other 10) bytes n → front ≡ take n bytes → rest ≡ drop n bytes → length rest < 1 → 1 ≤ length bytes → split_lines bytes ≡ front ∷ split_lines rest
+pub cut_at_end : (bytes front rest : List ℕ) (n : ℕ) → IsLongestRun (is_other 10) bytes n → front ≡ take n bytes → rest ≡ drop n bytes → length rest < 1 → 1 ≤ length bytes → split_lines bytes ≡ front ∷ split_lines rest
 cut_at_end bytes front [] n r f e none some = split_at_end bytes n r.all (sym e) some ∙ ap (λ (t : List ℕ). t ∷ []) (sym f)
 cut_at_end bytes front (b ∷ rest) n r f e none some = absurd (omega arith)

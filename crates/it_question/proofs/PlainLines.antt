@@ -8,7 +8,7 @@ use Rattle.it_syntax.specs.declared.types.TokenKind.TheVariants as kinds
 use Rattle.it_syntax.specs.Misspellings.{SpellsUntil}
 use Rattle.it_syntax.specs.Spelling.{is_digit, is_word_byte, is_space, symbol_text, AreAll, IsText}
 use Rattle.it_syntax.proofs.TokenLemmas.{other_byte}
-use Rattle.it_question.specs.Lines.{in_front, split_lines, without_return, before_comment, untabbed, plain}
+use Rattle.it_question.specs.Lines.{in_front, split_lines, without_return, before_comment, without_tab, plain_text}
 
 -- none of the bytes that are read otherwise
 abbrev pub is_plain : ℕ → Bool
@@ -81,13 +81,13 @@ no_comment : (line : List ℕ) → AreAll is_plain line → before_comment line 
 no_comment [] h = refl
 no_comment (b ∷ line) h = ap (λ (t : Bool). cond t [] (b ∷ before_comment line)) (is_so b h.0).no_comment ∙ ap (λ (t : List ℕ). b ∷ t) (no_comment line h.1)
 
-no_tab : (line : List ℕ) → AreAll is_plain line → map untabbed line ≡ line
+no_tab : (line : List ℕ) → AreAll is_plain line → map without_tab line ≡ line
 no_tab [] h = refl
-no_tab (b ∷ line) h = ap (λ (t : Bool). cond t 32 b ∷ map untabbed line) (is_so b h.0).no_tab ∙ ap (λ (t : List ℕ). b ∷ t) (no_tab line h.1)
+no_tab (b ∷ line) h = ap (λ (t : Bool). cond t 32 b ∷ map without_tab line) (is_so b h.0).no_tab ∙ ap (λ (t : List ℕ). b ∷ t) (no_tab line h.1)
 
 -- it is read as it is
-pub plain_same : (line : List ℕ) → AreAll is_plain line → plain line ≡ line
-plain_same line h = ap (λ (t : List ℕ). map untabbed (before_comment t)) (no_return line h) ∙ ap (map untabbed) (no_comment line h) ∙ no_tab line h
+pub plain_same : (line : List ℕ) → AreAll is_plain line → plain_text line ≡ line
+plain_same line h = ap (λ (t : List ℕ). map without_tab (before_comment t)) (no_return line h) ∙ ap (map without_tab) (no_comment line h) ∙ no_tab line h
 
 -- with a line feed behind it, it is the first line
 pub plain_first : (line rest : List ℕ) → AreAll is_plain line → split_lines (line ++ 10 ∷ rest) ≡ line ∷ split_lines rest

@@ -2,7 +2,7 @@
 use Rattle.std.proofs.Common.{◌≡◌, ℕ, zero, suc, ◌+◌, List, [], ◌∷◌, ◌++◌, Option, Some, None, refl, sym, ap, ◌∙◌, subst, append_assoc, arith}
 use Rattle.it_syntax.specs.declared.types.Code.{Code}
 use Rattle.it_syntax.specs.Letters.{Letter, End, Bad, Marked, letters}
-use Rattle.it_syntax.specs.Trees.{over}
+use Rattle.it_syntax.specs.WrittenAtoms.{mark_surplus}
 use Rattle.it_syntax.proofs.FirstFaults.{letters_append}
 
 abbrev pub AreTokens : List Letter → Type 0
@@ -68,21 +68,21 @@ one_token x h = record { front = x ∷ []; is = λ k. refl; kind = h }
 pub token_then : {t : Marked → Marked} (x : Letter × Option Code) → AreTokens (x.0 ∷ []) → Puts AreTokens t → Puts AreTokens (λ k. x ∷ t k)
 token_then x h q = puts_then AreTokens AreTokens AreTokens join_tokens (one_token x h) q
 
-over_front : (front k : Marked) → (front ≡ [] → ⊥) → over (front ++ k) ≡ over front ++ k
+over_front : (front k : Marked) → (front ≡ [] → ⊥) → mark_surplus (front ++ k) ≡ mark_surplus front ++ k
 over_front [] k some = absurd (some refl)
 over_front ((l, None) ∷ front) k some = refl
 over_front ((l, Some c) ∷ front) k some = refl
 
-over_letters : (m : Marked) → letters (over m) ≡ letters m
+over_letters : (m : Marked) → letters (mark_surplus m) ≡ letters m
 over_letters [] = refl
 over_letters ((l, None) ∷ m) = refl
 over_letters ((l, Some c) ∷ m) = refl
 
 -- the first of the letters is marked
-pub tokens_over : {s : Marked → Marked} → Puts AreTokens s → (s [] ≡ [] → ⊥) → Puts AreTokens (λ k. over (s k))
+pub tokens_over : {s : Marked → Marked} → Puts AreTokens s → (s [] ≡ [] → ⊥) → Puts AreTokens (λ k. mark_surplus (s k))
 tokens_over p some = record {
-  front = over p.front;
-  is = λ k. ap over (p.is k) ∙ over_front p.front k (λ e. some (p.is [] ∙ ap (λ (m : Marked). m ++ []) e));
+  front = mark_surplus p.front;
+  is = λ k. ap mark_surplus (p.is k) ∙ over_front p.front k (λ e. some (p.is [] ∙ ap (λ (m : Marked). m ++ []) e));
   kind = subst AreTokens (sym (over_letters p.front)) p.kind;
 }
 

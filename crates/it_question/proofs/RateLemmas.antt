@@ -5,13 +5,14 @@ use Rattle.it_syntax.specs.declared.rest.Stop.{Stop}
 use Rattle.it_syntax.specs.declared.rest.Stop.TheVariants as stops
 use Rattle.it_syntax.specs.declared.types.Symbol.TheVariants.{Comma}
 use Rattle.it_syntax.specs.Letters.{Letter, Word, Number, Sym, End, Bad}
-use Rattle.it_syntax.specs.ConditionReading.{with_sets}
+use Rattle.it_syntax.specs.GivenReading.{with_sets}
 use Rattle.it_syntax.specs.Gives.{StopsAs}
-use Rattle.it_syntax.specs.Reading.{Reads, ◌>>=◌, after_comma}
-use Rattle.it_syntax.specs.Trees.{Environment, is_measure}
+use Rattle.it_syntax.specs.AtomReading.{Reads, ◌>>=◌}
+use Rattle.it_syntax.specs.ReaderSteps.{after_comma}
+use Rattle.it_syntax.specs.WrittenAtoms.{Environment, is_measure}
 use Rattle.it_syntax.proofs.ListLemmas.{comma_is}
-use Rattle.it_question.specs.Reading.{if_unseen, once, read_once, read_once_more}
-use Rattle.it_question.specs.Trees.{is_among}
+use Rattle.it_question.specs.Reading.{if_unseen, rate_once, read_once, read_once_more}
+use Rattle.it_question.specs.WrittenLines.{is_among}
 
 abbrev then_more : Environment → List ℕ → Reads ℕ → Reads (List ℕ)
 then_more env seen r = r >>= λ i. read_once_more env (seen ++ i.0 ∷ []) i.1 >>= λ more. Ok (i.0 ∷ more.0, more.1)
@@ -25,7 +26,7 @@ comma_more env seen (Word w ∷ ls) = one (is_measure w) (env w)
     unseen i true = refl
     unseen i false = refl
 
-    one : (h : Bool) (o : Option ℕ) → (once h seen o w ls >>= λ i. read_once_more env (seen ++ i.0 ∷ []) ls >>= λ more. Ok (i.0 ∷ more.0, more.1)) ≡ then_more env seen (once h seen o w ls)
+    one : (h : Bool) (o : Option ℕ) → (rate_once h seen o w ls >>= λ i. read_once_more env (seen ++ i.0 ∷ []) ls >>= λ more. Ok (i.0 ∷ more.0, more.1)) ≡ then_more env seen (rate_once h seen o w ls)
     one true o = refl
     one false None = refl
     one false (Some i) = unseen i (is_among seen i)

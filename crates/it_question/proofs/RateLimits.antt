@@ -6,17 +6,17 @@ use Rattle.std.proofs.lemmas.List.Elements.{All-nil, All-cons}
 use Rattle.std.proofs.lemmas.List.Folds.{list_any-append}
 use Rattle.std.proofs.lemmas.List.Quantifiers.{position-Some}
 use Rattle.it_syntax.specs.declared.types.Symbol.TheVariants.{Comma}
-use Rattle.it_syntax.specs.Vocabulary.{Vocabulary}
+use Rattle.it_syntax.specs.NamesViews.{NamesView}
 use Rattle.it_syntax.specs.Letters.{Letter, Word, Sym, Bad}
-use Rattle.it_syntax.specs.Reading.{◌>>=◌}
-use Rattle.it_syntax.specs.Trees.{Environment, is_measure}
+use Rattle.it_syntax.specs.AtomReading.{◌>>=◌}
+use Rattle.it_syntax.specs.WrittenAtoms.{Environment, is_measure}
 use Rattle.it_question.specs.Limits.{AreRatesOf}
-use Rattle.it_question.specs.Trees.{is_among, rates_env}
-use Rattle.it_question.specs.Reading.{if_unseen, once, read_once, read_once_more, read_distinct}
+use Rattle.it_question.specs.WrittenLines.{is_among, rates_env}
+use Rattle.it_question.specs.Reading.{if_unseen, rate_once, read_once, read_once_more, read_distinct}
 use Rattle.it_syntax.proofs.LimitLemmas.{Sure, sure_bind, stuck_sure, Knows}
 
 -- the names are those of the rates of a vocabulary
-pub knows_rates : (v : Vocabulary) → Knows (rates_env v) (length v.rates)
+pub knows_rates : (v : NamesView) → Knows (rates_env v) (length v.rates)
 unfolding rates_env
 knows_rates v w i e = (position-Some (bytes_eq w) v.rates i [] e).0
 
@@ -24,7 +24,7 @@ knows_rates v w i e = (position-Some (bytes_eq w) v.rates i [] e).0
 abbrev IsUnseen : ℕ → List ℕ → ℕ × List Letter → Type 0
 IsUnseen m seen x = (x.0 < m) × (is_among seen x.0 ≡ false)
 
-once_sure : (m : ℕ) (measure : Bool) (seen : List ℕ) (o : Option ℕ) (w : List ℕ) (ls : List Letter) → ((i : ℕ) → o ≡ Some i → i < m) → Sure (IsUnseen m seen) (once measure seen o w ls)
+once_sure : (m : ℕ) (measure : Bool) (seen : List ℕ) (o : Option ℕ) (w : List ℕ) (ls : List Letter) → ((i : ℕ) → o ≡ Some i → i < m) → Sure (IsUnseen m seen) (rate_once measure seen o w ls)
 once_sure m true seen o w ls k = tt
 once_sure m false seen None w ls k = tt
 once_sure m false seen (Some i) w ls k = unseen (is_among seen i) refl
@@ -75,7 +75,7 @@ unseen_cons m seen i is within new h =
 once_more_sure : (env : Environment) (m : ℕ) → Knows env m → (seen : List ℕ) (ls : List Letter) → Sure (Unseen m seen) (read_once_more env seen ls)
 unfolding read_once_more
 once_more_sure env m k seen (Sym Comma ∷ Word w ∷ ls) =
-    sure_bind (IsUnseen m seen) (Unseen m seen) (once (is_measure w) seen (env w) w ls) (λ i. read_once_more env (seen ++ i.0 ∷ []) ls >>= λ more. Ok (i.0 ∷ more.0, more.1)) (once_sure m (is_measure w) seen (env w) w ls (k w))
+    sure_bind (IsUnseen m seen) (Unseen m seen) (rate_once (is_measure w) seen (env w) w ls) (λ i. read_once_more env (seen ++ i.0 ∷ []) ls >>= λ more. Ok (i.0 ∷ more.0, more.1)) (once_sure m (is_measure w) seen (env w) w ls (k w))
     (λ i hi. sure_bind (Unseen m (seen ++ i.0 ∷ [])) (Unseen m seen) (read_once_more env (seen ++ i.0 ∷ []) ls) (λ more. Ok (i.0 ∷ more.0, more.1)) (once_more_sure env m k (seen ++ i.0 ∷ []) ls) (λ more hm. unseen_cons m seen i.0 more.0 hi.0 hi.1 hm))
 once_more_sure env m k seen (Sym Comma ∷ ls) = stuck_sure (Unseen m seen) ls
 once_more_sure env m k seen [] = none_unseen m seen

@@ -1,13 +1,17 @@
 -- Regions, and a containment of two, that are spelled so are read, up to the first mark.
 use Rattle.std.proofs.Common.{◌≡◌, ℕ, ◌-◌, List, [], ◌∷◌, length, Option, None, Ok, refl}
-use Rattle.it_syntax.specs.Vocabulary.{Vocabulary}
+use Rattle.it_syntax.specs.NamesViews.{NamesView}
 use Rattle.it_syntax.specs.Letters.{Word, End, Marked, clean, letters}
-use Rattle.it_syntax.specs.Reading.{◌>>=◌, line_end}
-use Rattle.it_syntax.specs.Relations.{env_of}
-use Rattle.it_syntax.specs.Trees.{Environment}
+use Rattle.it_syntax.specs.AtomReading.{◌>>=◌, line_end}
+use Rattle.it_syntax.specs.Scopes.{env_of}
+use Rattle.it_syntax.specs.WrittenAtoms.{Environment}
 use Rattle.it_question.specs.Keywords.{region_text, aux_text, contain_text}
-use Rattle.it_question.specs.Questions.{Bounded, Contains}
-use Rattle.it_question.specs.Trees.{WrittenRegion, WrittenTry, WrittenContainment, Variable, auxiliaries_left, spell_names_line, names_line_of, spell_own, own_of, spell_region, region_of, auxiliary_env, givens_left, rows_left, most_lines, unnamed, spell_tries, tries_of, containment_of}
+use Rattle.it_question.specs.Questions.{RegionView, Contain}
+use Rattle.it_question.specs.WrittenQuestions.{WrittenRegion, WrittenTry, WrittenContainment, most_lines}
+use Rattle.it_question.specs.NewNames.{Variable, spell_names_line, names_line_of}
+use Rattle.it_question.specs.WrittenRegions.{auxiliaries_left, spell_region, region_of, auxiliary_env, givens_left, rows_left, containment_of}
+use Rattle.it_question.specs.WrittenLines.{spell_own, own_of}
+use Rattle.it_question.specs.WrittenTries.{unnamed_sets, spell_tries, tries_of}
 use Rattle.it_question.specs.Reading.{behind_word, read_word, read_word_line, read_names_line, read_lines, read_tries, read_region, read_containment}
 use Rattle.it_syntax.proofs.SpelledIsRead.{Answers, answers_ok, answers_cons, answers_bind}
 use Rattle.it_question.proofs.NameAnswers.{names_line_answers}
@@ -20,10 +24,10 @@ pub record EndsRegion (k : Marked) : Type 0 where
   pub no_aux : behind_word aux_text (letters k) ≡ None
 
 -- a region behind its word
-abbrev pub spell_bounds : ℕ → ℕ → Vocabulary → WrittenRegion → Marked → Marked
+abbrev pub spell_bounds : ℕ → ℕ → NamesView → WrittenRegion → Marked → Marked
 spell_bounds g r v x k = clean End ∷ spell_names_line Variable (auxiliaries_left v) aux_text v x.auxiliaries (spell_own g r (names_line_of Variable v x.auxiliaries) x.own k)
 
-pub region_answers : (g r : ℕ) (v : Vocabulary) (x : WrittenRegion) (k : Marked) → EndsRegion k → Answers (read_region g r v (letters (spell_bounds g r v x k))) (spell_bounds g r v x k) (region_of v x) k
+pub region_answers : (g r : ℕ) (v : NamesView) (x : WrittenRegion) (k : Marked) → EndsRegion k → Answers (read_region g r v (letters (spell_bounds g r v x k))) (spell_bounds g r v x k) (region_of v x) k
 unfolding read_region line_end
 region_answers g r v x k ends =
     let names = names_line_of Variable v x.auxiliaries in
@@ -37,10 +41,10 @@ region_answers g r v x k ends =
     (answers_bind (read_lines g r names (letters n)) (λ own. Ok (record { names = names; auxiliaries = length names.variables - length v.variables; lines = own.0 }, own.1)) n k k own y (lines_answers g r names x.own k ends.no_own) (answers_ok y k)))
 
 -- the second region, the tries and the verb
-abbrev spell_rest : ℕ → ℕ → Vocabulary → Bounded → WrittenContainment → Marked → Marked
+abbrev spell_rest : ℕ → ℕ → NamesView → RegionView → WrittenContainment → Marked → Marked
 spell_rest g r v first x k =
     let second = region_of v x.second in
-    spell_region g r v x.second (spell_tries most_lines (auxiliary_env v second.names) (env_of first.names) (unnamed second.auxiliaries) x.tries (clean (Word contain_text) ∷ clean End ∷ k))
+    spell_region g r v x.second (spell_tries most_lines (auxiliary_env v second.names) (env_of first.names) (unnamed_sets second.auxiliaries) x.tries (clean (Word contain_text) ∷ clean End ∷ k))
 
 tries_end : (n : ℕ) (aux env : Environment) (sets : List (Option ℕ)) (xs : List WrittenTry) (k : Marked) → EndsRegion (spell_tries n aux env sets xs (clean (Word contain_text) ∷ clean End ∷ k))
 unfolding behind_word
@@ -52,19 +56,19 @@ unfolding read_word_line read_word line_end
 contain_answers k = answers_cons (Word contain_text) _ (clean End ∷ k) tt k (answers_cons End _ k tt k (answers_ok tt k))
 
 -- a containment behind its first word
-abbrev pub spell_contained : ℕ → ℕ → Vocabulary → WrittenContainment → Marked → Marked
+abbrev pub spell_contained : ℕ → ℕ → NamesView → WrittenContainment → Marked → Marked
 spell_contained g r v x k =
     let first = region_of v x.first in
     spell_bounds g r v x.first (spell_rest (givens_left g first.lines) (rows_left r first.lines) v first x k)
 
-pub containment_answers : (g r : ℕ) (v : Vocabulary) (x : WrittenContainment) (k : Marked) → Answers (read_containment g r v (letters (spell_contained g r v x k))) (spell_contained g r v x k) (containment_of v x) k
+pub containment_answers : (g r : ℕ) (v : NamesView) (x : WrittenContainment) (k : Marked) → Answers (read_containment g r v (letters (spell_contained g r v x k))) (spell_contained g r v x k) (containment_of v x) k
 unfolding read_containment read_word behind_word
 containment_answers g r v x k =
     let first = region_of v x.first in
     let second = region_of v x.second in
     let aux = auxiliary_env v second.names in
     let env = env_of first.names in
-    let sets = unnamed second.auxiliaries in
+    let sets = unnamed_sets second.auxiliaries in
     let givens = givens_left g first.lines in
     let rows = rows_left r first.lines in
     let verb : Marked = clean (Word contain_text) ∷ clean End ∷ k in
@@ -74,11 +78,11 @@ containment_answers g r v x k =
     let tries = tries_of aux env sets x.tries in
     let y = containment_of v x in
     let all = spell_bounds g r v x.first rest in
-    answers_bind (read_region g r v (letters all)) (λ first. read_word region_text first.1 >>= λ x. read_region (givens_left g first.0.lines) (rows_left r first.0.lines) v x.1 >>= λ second. read_tries most_lines (auxiliary_env v second.0.names) (env_of first.0.names) (unnamed second.0.auxiliaries) second.1 >>= λ tries. read_word_line contain_text tries.1 >>= λ e. Ok (Contains first.0 second.0 tries.0, e.1)) all rest k first y
+    answers_bind (read_region g r v (letters all)) (λ first. read_word region_text first.1 >>= λ x. read_region (givens_left g first.0.lines) (rows_left r first.0.lines) v x.1 >>= λ second. read_tries most_lines (auxiliary_env v second.0.names) (env_of first.0.names) (unnamed_sets second.0.auxiliaries) second.1 >>= λ tries. read_word_line contain_text tries.1 >>= λ e. Ok (Contain first.0 second.0 tries.0, e.1)) all rest k first y
     (region_answers g r v x.first rest (record { no_own = record { no_given = refl; no_row = refl }; no_aux = refl }))
     (answers_cons (Word region_text) _ bounds y k
-    (answers_bind (read_region givens rows v (letters bounds)) (λ second. read_tries most_lines (auxiliary_env v second.0.names) env (unnamed second.0.auxiliaries) second.1 >>= λ tries. read_word_line contain_text tries.1 >>= λ e. Ok (Contains first second.0 tries.0, e.1)) bounds lines k second y
+    (answers_bind (read_region givens rows v (letters bounds)) (λ second. read_tries most_lines (auxiliary_env v second.0.names) env (unnamed_sets second.0.auxiliaries) second.1 >>= λ tries. read_word_line contain_text tries.1 >>= λ e. Ok (Contain first second.0 tries.0, e.1)) bounds lines k second y
     (region_answers givens rows v x.second lines (tries_end most_lines aux env sets x.tries k))
-    (answers_bind (read_tries most_lines aux env sets (letters lines)) (λ tries. read_word_line contain_text tries.1 >>= λ e. Ok (Contains first second tries.0, e.1)) lines verb k tries y
+    (answers_bind (read_tries most_lines aux env sets (letters lines)) (λ tries. read_word_line contain_text tries.1 >>= λ e. Ok (Contain first second tries.0, e.1)) lines verb k tries y
     (tries_answers most_lines aux env second.auxiliaries x.tries verb refl)
-    (answers_bind (read_word_line contain_text (letters verb)) (λ e. Ok (Contains first second tries, e.1)) verb k k tt y (contain_answers k) (answers_ok y k)))))
+    (answers_bind (read_word_line contain_text (letters verb)) (λ e. Ok (Contain first second tries, e.1)) verb k k tt y (contain_answers k) (answers_ok y k)))))

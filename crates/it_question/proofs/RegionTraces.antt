@@ -1,15 +1,19 @@
 -- Regions and containment questions are traced.
 use Rattle.std.proofs.Common.{ℕ, ◌-◌, List, [], ◌∷◌, length, Option, None, Ok, refl}
-use Rattle.it_syntax.specs.Vocabulary.{Vocabulary}
+use Rattle.it_syntax.specs.NamesViews.{NamesView}
 use Rattle.it_syntax.specs.Letters.{Letter, Word, End, Marked, clean}
-use Rattle.it_syntax.specs.Reading.{Reads, ◌>>=◌, line_end}
-use Rattle.it_syntax.specs.Relations.{env_of}
-use Rattle.it_syntax.specs.Trees.{WrittenList}
+use Rattle.it_syntax.specs.AtomReading.{Reads, ◌>>=◌, line_end}
+use Rattle.it_syntax.specs.Scopes.{env_of}
+use Rattle.it_syntax.specs.WrittenAtoms.{WrittenList}
 use Rattle.it_syntax.proofs.Traces.{Traces, traces_bind, traces_map}
 use Rattle.it_syntax.proofs.LineEnd.{spell_end, nothing, end_traces}
 use Rattle.it_question.specs.Keywords.{region_text, aux_text, contain_text}
-use Rattle.it_question.specs.Questions.{Lines, Bounded, Aim, Contains}
-use Rattle.it_question.specs.Trees.{WrittenLine, WrittenRegion, WrittenTry, WrittenContainment, Variable, most_lines, spell_names_line, names_line_of, spell_own, own_of, unnamed, spell_tries, tries_of, auxiliaries_left, region_of, auxiliary_env, givens_left, rows_left, containment_of}
+use Rattle.it_question.specs.Questions.{OwnLinesView, RegionView, VerbView, Contain}
+use Rattle.it_question.specs.WrittenQuestions.{WrittenLine, WrittenRegion, WrittenTry, WrittenContainment, most_lines}
+use Rattle.it_question.specs.NewNames.{Variable, spell_names_line, names_line_of}
+use Rattle.it_question.specs.WrittenLines.{spell_own, own_of}
+use Rattle.it_question.specs.WrittenTries.{unnamed_sets, spell_tries, tries_of}
+use Rattle.it_question.specs.WrittenRegions.{auxiliaries_left, region_of, auxiliary_env, givens_left, rows_left, containment_of}
 use Rattle.it_question.specs.Reading.{read_word, read_names_line, read_lines, read_tries, read_region, read_word_line, read_containment}
 use Rattle.it_question.proofs.NameTraces.{spell_word, word_traces, names_line_traces}
 use Rattle.it_question.proofs.LineTraces.{lines_traces}
@@ -22,22 +26,22 @@ use Rattle.it_question.proofs.TryTraces.{tries_traces}
 abbrev Parts : Type 0
 Parts = Option WrittenList × List WrittenLine
 
-abbrev bounded_by : Vocabulary → Vocabulary → Lines → Bounded
+abbrev bounded_by : NamesView → NamesView → OwnLinesView → RegionView
 bounded_by v names own = record { names = names; auxiliaries = length names.variables - length v.variables; lines = own }
 
-abbrev own_then : ℕ → ℕ → Vocabulary → Vocabulary → List Letter → Reads Bounded
+abbrev own_then : ℕ → ℕ → NamesView → NamesView → List Letter → Reads RegionView
 own_then g r v names ls = read_lines g r names ls >>= λ own. Ok (bounded_by v names own.0, own.1)
 
-abbrev read_parts : ℕ → ℕ → Vocabulary → List Letter → Reads Bounded
+abbrev read_parts : ℕ → ℕ → NamesView → List Letter → Reads RegionView
 read_parts g r v ls = read_names_line Variable (auxiliaries_left v) aux_text v ls >>= λ names. own_then g r v names.0 names.1
 
-abbrev spell_parts : ℕ → ℕ → Vocabulary → Parts → Marked → Marked
+abbrev spell_parts : ℕ → ℕ → NamesView → Parts → Marked → Marked
 spell_parts g r v x k = spell_names_line Variable (auxiliaries_left v) aux_text v x.0 (spell_own g r (names_line_of Variable v x.0) x.1 k)
 
-abbrev parts_of : Vocabulary → Parts → Bounded
+abbrev parts_of : NamesView → Parts → RegionView
 parts_of v x = bounded_by v (names_line_of Variable v x.0) (own_of (names_line_of Variable v x.0) x.1)
 
-parts_traces : (g r : ℕ) (v : Vocabulary) → Traces (read_parts g r v) (spell_parts g r v) (parts_of v)
+parts_traces : (g r : ℕ) (v : NamesView) → Traces (read_parts g r v) (spell_parts g r v) (parts_of v)
 parts_traces g r v = traces_bind (read_names_line Variable (auxiliaries_left v) aux_text v) (own_then g r v) (read_parts g r v) (spell_names_line Variable (auxiliaries_left v) aux_text v) (spell_own g r) (spell_parts g r v) (names_line_of Variable v) (λ names own. bounded_by v names (own_of names own)) (parts_of v) (λ x own. (x, own))
     (record { is = λ ls. refl; spells = λ y z k. refl; value = λ y z. refl; some = []; first = names_line_traces Variable (auxiliaries_left v) aux_text v; second = λ names. traces_map (read_lines g r names) (bounded_by v names) (spell_own g r names) (own_of names) (lines_traces g r names) })
 
@@ -45,7 +49,7 @@ parts_traces g r v = traces_bind (read_names_line Variable (auxiliaries_left v) 
 abbrev region_made : Unit {0} → Parts → WrittenRegion
 region_made u x = record { auxiliaries = x.0; own = x.1 }
 
-pub region_traces : (g r : ℕ) (v : Vocabulary) → Traces (read_region g r v) (spell_bounds g r v) (region_of v)
+pub region_traces : (g r : ℕ) (v : NamesView) → Traces (read_region g r v) (spell_bounds g r v) (region_of v)
 unfolding read_region spell_end nothing
 region_traces g r v = traces_bind line_end (λ u. read_parts g r v) (read_region g r v) spell_end (λ u. spell_parts g r v) (spell_bounds g r v) nothing (λ u. parts_of v) (region_of v) region_made
     (record { is = λ ls. refl; spells = λ y z k. refl; value = λ y z. refl; some = (None, []); first = end_traces; second = λ u. parts_traces g r v })
@@ -62,41 +66,41 @@ word_line_traces text = traces_bind (read_word text) (λ u. line_end) (read_word
 
 -- ---- containment questions
 
-abbrev contain_then : Bounded → Bounded → List (List ℕ) → List Letter → Reads Aim
-contain_then first second tries ls = read_word_line contain_text ls >>= λ e. Ok (Contains first second tries, e.1)
+abbrev contain_then : RegionView → RegionView → List (List ℕ) → List Letter → Reads VerbView
+contain_then first second tries ls = read_word_line contain_text ls >>= λ e. Ok (Contain first second tries, e.1)
 
 -- what follows two regions
-abbrev behind_second : Vocabulary → Bounded → Bounded → List Letter → Reads Aim
-behind_second v first second ls = read_tries most_lines (auxiliary_env v second.names) (env_of first.names) (unnamed second.auxiliaries) ls >>= λ tries. contain_then first second tries.0 tries.1
+abbrev behind_second : NamesView → RegionView → RegionView → List Letter → Reads VerbView
+behind_second v first second ls = read_tries most_lines (auxiliary_env v second.names) (env_of first.names) (unnamed_sets second.auxiliaries) ls >>= λ tries. contain_then first second tries.0 tries.1
 
-abbrev spell_behind_second : Vocabulary → Bounded → Bounded → List WrittenTry → Marked → Marked
-spell_behind_second v first second xs k = spell_tries most_lines (auxiliary_env v second.names) (env_of first.names) (unnamed second.auxiliaries) xs (clean (Word contain_text) ∷ clean End ∷ k)
+abbrev spell_behind_second : NamesView → RegionView → RegionView → List WrittenTry → Marked → Marked
+spell_behind_second v first second xs k = spell_tries most_lines (auxiliary_env v second.names) (env_of first.names) (unnamed_sets second.auxiliaries) xs (clean (Word contain_text) ∷ clean End ∷ k)
 
-abbrev behind_second_of : Vocabulary → Bounded → Bounded → List WrittenTry → Aim
-behind_second_of v first second xs = Contains first second (tries_of (auxiliary_env v second.names) (env_of first.names) (unnamed second.auxiliaries) xs)
+abbrev behind_second_of : NamesView → RegionView → RegionView → List WrittenTry → VerbView
+behind_second_of v first second xs = Contain first second (tries_of (auxiliary_env v second.names) (env_of first.names) (unnamed_sets second.auxiliaries) xs)
 
-behind_second_traces : (v : Vocabulary) (first second : Bounded) → Traces (behind_second v first second) (spell_behind_second v first second) (behind_second_of v first second)
+behind_second_traces : (v : NamesView) (first second : RegionView) → Traces (behind_second v first second) (spell_behind_second v first second) (behind_second_of v first second)
 behind_second_traces v first second =
     let aux = auxiliary_env v second.names in
     let env = env_of first.names in
-    let sets = unnamed second.auxiliaries in
-    traces_bind (read_tries most_lines aux env sets) (contain_then first second) (behind_second v first second) (spell_tries most_lines aux env sets) (λ tries. spell_word_line contain_text) (spell_behind_second v first second) (tries_of aux env sets) (λ tries u. Contains first second tries) (behind_second_of v first second) (λ xs u. xs)
-    (record { is = λ ls. refl; spells = λ y z k. refl; value = λ y z. refl; some = tt; first = tries_traces most_lines aux env sets; second = λ tries. traces_map (read_word_line contain_text) (λ u. Contains first second tries) (spell_word_line contain_text) (λ u. tt) (word_line_traces contain_text) })
+    let sets = unnamed_sets second.auxiliaries in
+    traces_bind (read_tries most_lines aux env sets) (contain_then first second) (behind_second v first second) (spell_tries most_lines aux env sets) (λ tries. spell_word_line contain_text) (spell_behind_second v first second) (tries_of aux env sets) (λ tries u. Contain first second tries) (behind_second_of v first second) (λ xs u. xs)
+    (record { is = λ ls. refl; spells = λ y z k. refl; value = λ y z. refl; some = tt; first = tries_traces most_lines aux env sets; second = λ tries. traces_map (read_word_line contain_text) (λ u. Contain first second tries) (spell_word_line contain_text) (λ u. tt) (word_line_traces contain_text) })
 
 -- the second region, and what follows it
 abbrev Second : Type 0
 Second = WrittenRegion × List WrittenTry
 
-abbrev from_second : ℕ → ℕ → Vocabulary → Bounded → List Letter → Reads Aim
+abbrev from_second : ℕ → ℕ → NamesView → RegionView → List Letter → Reads VerbView
 from_second g r v first ls = read_region g r v ls >>= λ second. behind_second v first second.0 second.1
 
-abbrev spell_second : ℕ → ℕ → Vocabulary → Bounded → Second → Marked → Marked
+abbrev spell_second : ℕ → ℕ → NamesView → RegionView → Second → Marked → Marked
 spell_second g r v first x k = spell_bounds g r v x.0 (spell_behind_second v first (region_of v x.0) x.1 k)
 
-abbrev second_of : Vocabulary → Bounded → Second → Aim
+abbrev second_of : NamesView → RegionView → Second → VerbView
 second_of v first x = behind_second_of v first (region_of v x.0) x.1
 
-from_second_traces : (g r : ℕ) (v : Vocabulary) (first : Bounded) → Traces (from_second g r v first) (spell_second g r v first) (second_of v first)
+from_second_traces : (g r : ℕ) (v : NamesView) (first : RegionView) → Traces (from_second g r v first) (spell_second g r v first) (second_of v first)
 from_second_traces g r v first = traces_bind (read_region g r v) (behind_second v first) (from_second g r v first) (spell_bounds g r v) (spell_behind_second v first) (spell_second g r v first) (region_of v) (behind_second_of v first) (second_of v first) (λ x xs. (x, xs))
     (record { is = λ ls. refl; spells = λ y z k. refl; value = λ y z. refl; some = []; first = region_traces g r v; second = behind_second_traces v first })
 
@@ -104,13 +108,13 @@ some_second : Second
 some_second = (record { auxiliaries = None; own = [] }, [])
 
 -- the limits that the first region leaves
-abbrev behind_first : ℕ → ℕ → Vocabulary → Bounded → List Letter → Reads Aim
+abbrev behind_first : ℕ → ℕ → NamesView → RegionView → List Letter → Reads VerbView
 behind_first g r v first ls = read_word region_text ls >>= λ x. from_second (givens_left g first.lines) (rows_left r first.lines) v first x.1
 
-abbrev spell_behind_first : ℕ → ℕ → Vocabulary → Bounded → Second → Marked → Marked
+abbrev spell_behind_first : ℕ → ℕ → NamesView → RegionView → Second → Marked → Marked
 spell_behind_first g r v first x k = clean (Word region_text) ∷ spell_second (givens_left g first.lines) (rows_left r first.lines) v first x k
 
-behind_first_traces : (g r : ℕ) (v : Vocabulary) (first : Bounded) → Traces (behind_first g r v first) (spell_behind_first g r v first) (second_of v first)
+behind_first_traces : (g r : ℕ) (v : NamesView) (first : RegionView) → Traces (behind_first g r v first) (spell_behind_first g r v first) (second_of v first)
 behind_first_traces g r v first =
     let h = givens_left g first.lines in
     let s = rows_left r first.lines in
@@ -121,7 +125,7 @@ behind_first_traces g r v first =
 abbrev containment_made : WrittenRegion → Second → WrittenContainment
 containment_made x y = record { first = x; second = y.0; tries = y.1 }
 
-pub containment_traces : (g r : ℕ) (v : Vocabulary) → Traces (read_containment g r v) (spell_contained g r v) (containment_of v)
+pub containment_traces : (g r : ℕ) (v : NamesView) → Traces (read_containment g r v) (spell_contained g r v) (containment_of v)
 unfolding read_containment
 containment_traces g r v = traces_bind (read_region g r v) (behind_first g r v) (read_containment g r v) (spell_bounds g r v) (spell_behind_first g r v) (spell_contained g r v) (region_of v) (second_of v) (containment_of v) containment_made
     (record { is = λ ls. refl; spells = λ y z k. refl; value = λ y z. refl; some = some_second; first = region_traces g r v; second = behind_first_traces g r v })

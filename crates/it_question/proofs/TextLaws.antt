@@ -1,14 +1,16 @@
 -- The text of a question reads as that question alone.
 use Rattle.std.proofs.Common.{◌≡◌, ℕ, ◌-◌, List, [], ◌∷◌, ◌++◌, take, drop, Option, None, sym, ap, ◌∙◌, subst}
 use Rattle.it_syntax.specs.declared.types.Code.{Code}
-use Rattle.it_syntax.specs.Letters.{Letter, Word, Marked, clean, letters, cleaned}
+use Rattle.it_syntax.specs.Letters.{Letter, Word, Marked, clean, letters, clean_all}
 use Rattle.it_syntax.proofs.Traces.{cleaned_append}
 use Rattle.it_question.specs.Files.{IsFile, TextReadsBack}
 use Rattle.it_question.specs.Keywords.{vars_text}
 use Rattle.it_question.specs.Lines.{TokenLine, split_lines, file_end, letters_of_lines}
-use Rattle.it_question.specs.Questions.{Asked}
+use Rattle.it_question.specs.Questions.{QuestionView}
 use Rattle.it_question.specs.Texts.{text_of_lines, question_lines, with_texts}
-use Rattle.it_question.specs.Trees.{WrittenQuestion, most_questions, limit_mark, spell_question, question_of, spell_questions, questions_of, spell_file}
+use Rattle.it_question.specs.WrittenQuestions.{WrittenQuestion, most_questions}
+use Rattle.it_question.specs.WrittenLines.{limit_mark}
+use Rattle.it_question.specs.WrittenFiles.{spell_question, question_of, spell_questions, questions_of, spell_file}
 use Rattle.it_question.proofs.LinePuts.{question_puts}
 use Rattle.it_question.proofs.CleanLetters.{clean_parts, no_mark}
 use Rattle.it_question.proofs.LineParts.{AreSound, lines_sound, parted}
@@ -18,10 +20,10 @@ abbrev end_mark : Marked
 end_mark = clean file_end ∷ []
 
 -- the first of the questions of these lines, with its text
-first_of : WrittenQuestion → List TokenLine → Asked
-first_of x lines = record { posed = question_of x; text = text_of_lines (take (question_lines (question_of x)) lines) }
+first_of : WrittenQuestion → List TokenLine → QuestionView
+first_of x lines = record { body = question_of x; text = text_of_lines (take (question_lines (question_of x)) lines) }
 
-first_alone : (mark : Option Code) (x : WrittenQuestion) (k : Marked) (lines : List TokenLine) → (Word vars_text, mark) ∷ spell_question x k ≡ cleaned (letters_of_lines lines) → AreSound lines → IsFile (first_of x lines).text (first_of x lines ∷ [])
+first_alone : (mark : Option Code) (x : WrittenQuestion) (k : Marked) (lines : List TokenLine) → (Word vars_text, mark) ∷ spell_question x k ≡ clean_all (letters_of_lines lines) → AreSound lines → IsFile (first_of x lines).text (first_of x lines ∷ [])
 unfolding first_of
 first_alone mark x k lines e s =
     let n = question_lines (question_of x) in
@@ -36,17 +38,17 @@ first_alone mark x k lines e s =
       lines = t.again;
       cut = t.cut;
       trees = x ∷ [];
-      spelled = spelled ∙ ap (λ (m : Marked). m ++ end_mark) c.front ∙ sym (cleaned_append (letters p.front) (file_end ∷ [])) ∙ ap cleaned (sym letters_are);
-      are = ap (λ (text : List ℕ). record { posed = question_of x; text = text } ∷ []) (ap (λ (i : ℕ). text_of_lines (take i t.again)) (sym d.long) ∙ t.text);
+      spelled = spelled ∙ ap (λ (m : Marked). m ++ end_mark) c.front ∙ sym (cleaned_append (letters p.front) (file_end ∷ [])) ∙ ap clean_all (sym letters_are);
+      are = ap (λ (text : List ℕ). record { body = question_of x; text = text } ∷ []) (ap (λ (i : ℕ). text_of_lines (take i t.again)) (sym d.long) ∙ t.text);
     }
 
-alone : (n : ℕ) (xs : List WrittenQuestion) (lines : List TokenLine) (front rs : List Asked) (q : Asked) → spell_questions n xs end_mark ≡ cleaned (letters_of_lines lines) → AreSound lines → with_texts lines (questions_of xs) ≡ front ++ q ∷ rs → IsFile q.text (q ∷ [])
+alone : (n : ℕ) (xs : List WrittenQuestion) (lines : List TokenLine) (front rs : List QuestionView) (q : QuestionView) → spell_questions n xs end_mark ≡ clean_all (letters_of_lines lines) → AreSound lines → with_texts lines (questions_of xs) ≡ front ++ q ∷ rs → IsFile q.text (q ∷ [])
 unfolding first_of
 alone n [] lines [] rs q e s h = absurd cc
 alone n [] lines (f ∷ front) rs q e s h = absurd cc
 alone n (x ∷ xs) lines [] rs q e s h =
     let first : first_of x lines ≡ q = cc in
-    subst (λ (y : Asked). IsFile y.text (y ∷ [])) first (first_alone (limit_mark n) x (spell_questions (n - 1) xs end_mark) lines e s)
+    subst (λ (y : QuestionView). IsFile y.text (y ∷ [])) first (first_alone (limit_mark n) x (spell_questions (n - 1) xs end_mark) lines e s)
 alone n (x ∷ xs) lines (f ∷ front) rs q e s h =
     let i = question_lines (question_of x) in
     let k = spell_questions (n - 1) xs end_mark in
@@ -54,7 +56,7 @@ alone n (x ∷ xs) lines (f ∷ front) rs q e s h =
     let c = clean_parts p.front k (letters_of_lines lines) (sym (p.is k) ∙ e) in
     let d = parted i lines (letters p.front) (letters k) p.kind c.all s in
     let tails : with_texts (drop i lines) (questions_of xs) ≡ front ++ q ∷ rs = cc in
-    alone (n - 1) xs (drop i lines) front rs q (c.behind ∙ ap cleaned (sym d.behind)) d.sound tails
+    alone (n - 1) xs (drop i lines) front rs q (c.behind ∙ ap clean_all (sym d.behind)) d.sound tails
 
 pub text_reads_back : TextReadsBack
 text_reads_back bytes qs rs q front f e = alone most_questions f.trees f.lines front rs q f.spelled (lines_sound 1 (split_lines bytes) f.lines f.cut) (f.are ∙ e)

@@ -6,9 +6,9 @@ use Rattle.it_syntax.specs.declared.types.Sign.{Sign}
 use Rattle.it_syntax.specs.declared.types.Sign.TheVariants.{AtLeast, AtMost, Equal}
 use Rattle.it_syntax.specs.declared.types.Symbol.TheVariants as symbols
 use Rattle.it_syntax.specs.Letters.{Word, Number, Sym, Marked, clean}
-use Rattle.it_syntax.specs.Trees.{Environment, WrittenList, WrittenAtom, Joint, JointGiven, Shared, SharedGiven, TermSign, Positive, Negative, entropy_text, mutual_text, name_mark, unknown, sign_letter, spell_name, spell_more, spell_list, spell_atom, spell_sign}
-use Rattle.it_syntax.specs.Comparisons.{Scope, WrittenQuantity, Measure, RateOf, WrittenTerm, Zero, Once, Times, WrittenSum, WrittenComparison, most_terms, number_of_terms, spell_quantity, spell_term, spell_terms, spell_counted, spell_sum, compare_letter, spell_comparison}
-use Rattle.it_syntax.specs.Conditions.{WrittenChain, WrittenIndependence, WrittenFunction, WrittenCondition, Compared, Chained, Separate, Determined, markov_text, indep_text, func_text, of_text, divider_letter, spell_members, spell_chain, spell_bar, spell_independence, spell_function, spell_condition}
+use Rattle.it_syntax.specs.WrittenAtoms.{Environment, WrittenList, WrittenAtom, Entropy, EntropyGiven, Mutual, MutualGiven, TermSign, Positive, Negative, entropy_text, mutual_text, name_mark, unknown, sign_letter, spell_name, spell_more, spell_list, spell_atom, spell_sign}
+use Rattle.it_syntax.specs.WrittenRelations.{Scope, WrittenQuantity, Measure, RateOf, WrittenTerm, Zero, Once, Times, WrittenSum, WrittenRelation, most_terms, number_of_terms, spell_quantity, spell_term, spell_terms, spell_counted, spell_sum, compare_letter, spell_relation}
+use Rattle.it_syntax.specs.WrittenGivens.{WrittenChain, WrittenIndependence, WrittenFunction, WrittenGiven, Relation, Markov, Independent, Function, markov_text, indep_text, func_text, of_text, divider_letter, spell_members, spell_chain, spell_bar, spell_independence, spell_function, spell_given}
 use Rattle.it_question.proofs.Puts.{AreTokens, Puts, no_tokens, tokens_then, one_token, token_then, tokens_over}
 
 -- ---- lists
@@ -32,10 +32,10 @@ opening : {s : Marked → Marked} (w : List ℕ) → Puts AreTokens s → Puts A
 opening w p = token_then (clean (Word w)) tt (token_then (clean (Sym symbols.LeftParen)) tt p)
 
 atom_puts : (env : Environment) (x : WrittenAtom) → Puts AreTokens (spell_atom env x)
-atom_puts env (Joint a) = opening entropy_text (tokens_then (list_puts env a) closing)
-atom_puts env (JointGiven a c) = opening entropy_text (tokens_then (list_puts env a) (token_then (clean (Sym symbols.Bar)) tt (tokens_then (list_puts env c) closing)))
-atom_puts env (Shared a b) = opening mutual_text (tokens_then (list_puts env a) (token_then (clean (Sym symbols.Semicolon)) tt (tokens_then (list_puts env b) closing)))
-atom_puts env (SharedGiven a b c) = opening mutual_text (tokens_then (list_puts env a) (token_then (clean (Sym symbols.Semicolon)) tt (tokens_then (list_puts env b) (token_then (clean (Sym symbols.Bar)) tt (tokens_then (list_puts env c) closing)))))
+atom_puts env (Entropy a) = opening entropy_text (tokens_then (list_puts env a) closing)
+atom_puts env (EntropyGiven a c) = opening entropy_text (tokens_then (list_puts env a) (token_then (clean (Sym symbols.Bar)) tt (tokens_then (list_puts env c) closing)))
+atom_puts env (Mutual a b) = opening mutual_text (tokens_then (list_puts env a) (token_then (clean (Sym symbols.Semicolon)) tt (tokens_then (list_puts env b) closing)))
+atom_puts env (MutualGiven a b c) = opening mutual_text (tokens_then (list_puts env a) (token_then (clean (Sym symbols.Semicolon)) tt (tokens_then (list_puts env b) (token_then (clean (Sym symbols.Bar)) tt (tokens_then (list_puts env c) closing)))))
 
 quantity_puts : (s : Scope) (q : WrittenQuantity) → Puts AreTokens (spell_quantity s q)
 quantity_puts s (Measure a) = atom_puts s.variables a
@@ -47,10 +47,10 @@ term_puts s (Once q) = quantity_puts s q
 term_puts s (Times n q) = token_then (clean (Number n)) tt (quantity_puts s q)
 
 quantity_some : (s : Scope) (q : WrittenQuantity) (k : Marked) → spell_quantity s q k ≡ [] → ⊥
-quantity_some s (Measure (Joint a)) k e = absurd cc
-quantity_some s (Measure (JointGiven a c)) k e = absurd cc
-quantity_some s (Measure (Shared a b)) k e = absurd cc
-quantity_some s (Measure (SharedGiven a b c)) k e = absurd cc
+quantity_some s (Measure (Entropy a)) k e = absurd cc
+quantity_some s (Measure (EntropyGiven a c)) k e = absurd cc
+quantity_some s (Measure (Mutual a b)) k e = absurd cc
+quantity_some s (Measure (MutualGiven a b c)) k e = absurd cc
 quantity_some s (RateOf r) k e = absurd cc
 
 term_some : (s : Scope) (t : WrittenTerm) (k : Marked) → spell_term s t k ≡ [] → ⊥
@@ -83,8 +83,8 @@ compare_token AtLeast = tt
 compare_token AtMost = tt
 compare_token Equal = tt
 
-pub comparison_puts : (s : Scope) (x : WrittenComparison) → Puts AreTokens (spell_comparison s x)
-comparison_puts s x = tokens_then (sum_puts most_terms s x.left) (token_then (clean (compare_letter x.sign)) (compare_token x.sign) (sum_puts (most_terms - number_of_terms x.left) s x.right))
+pub relation_puts : (s : Scope) (x : WrittenRelation) → Puts AreTokens (spell_relation s x)
+relation_puts s x = tokens_then (sum_puts most_terms s x.left) (token_then (clean (compare_letter x.sign)) (compare_token x.sign) (sum_puts (most_terms - number_of_terms x.left) s x.right))
 
 -- ---- constraints
 
@@ -110,8 +110,8 @@ independence_puts env x = tokens_then (list_puts env x.first) (token_then (clean
 function_puts : (env : Environment) (x : WrittenFunction) → Puts AreTokens (spell_function env x)
 function_puts env x = tokens_then (list_puts env x.value) (token_then (clean (Word of_text)) tt (list_puts env x.argument))
 
-pub condition_puts : (s : Scope) (x : WrittenCondition) → Puts AreTokens (spell_condition s x)
-condition_puts s (Compared x) = comparison_puts s x.relation
-condition_puts s (Chained x) = token_then (clean (Word markov_text)) tt (chain_puts s.variables x)
-condition_puts s (Separate x) = token_then (clean (Word indep_text)) tt (independence_puts s.variables x)
-condition_puts s (Determined x) = token_then (clean (Word func_text)) tt (function_puts s.variables x)
+pub given_puts : (s : Scope) (x : WrittenGiven) → Puts AreTokens (spell_given s x)
+given_puts s (Relation x) = relation_puts s x.relation
+given_puts s (Markov x) = token_then (clean (Word markov_text)) tt (chain_puts s.variables x)
+given_puts s (Independent x) = token_then (clean (Word indep_text)) tt (independence_puts s.variables x)
+given_puts s (Function x) = token_then (clean (Word func_text)) tt (function_puts s.variables x)

@@ -9,28 +9,29 @@ use Rattle.it_syntax.specs.declared.types.Symbol.{Symbol}
 use Rattle.it_syntax.specs.declared.types.Token.{Token}
 use Rattle.it_syntax.specs.declared.types.TokenKind.{TokenKind}
 use Rattle.it_syntax.specs.declared.types.TokenKind.TheVariants as kinds
-use Rattle.it_syntax.specs.Fronts.{Run, Shape, symbol_of}
+use Rattle.it_syntax.specs.Fronts.{IsLongestRun, symbol_of}
+use Rattle.it_syntax.specs.ReaderSteps.{IsTokenFront}
 use Rattle.it_syntax.specs.Misspellings.{IsWrong, SpellsUntil}
 use Rattle.it_syntax.specs.Spelling.{is_letter, is_digit, is_word_byte, is_space, value_from, symbol_text, Stops}
 use Rattle.it_syntax.proofs.TokenLemmas.{run_all, cut_made, shape_some}
 
 -- how many bytes of a kind stand in front
-pub run_there : (f : ℕ → Bool) (bytes : List ℕ) → (n : ℕ) × Run f bytes n
+pub run_there : (f : ℕ → Bool) (bytes : List ℕ) → (n : ℕ) × IsLongestRun f bytes n
 run_there f [] = (0, record { within = omega arith; all = tt; stops = tt })
 run_there f (b ∷ bytes) = by (f b) refl (run_there f bytes)
   where
-    by : (t : Bool) → f b ≡ t → (n : ℕ) × Run f bytes n → (n : ℕ) × Run f (b ∷ bytes) n
+    by : (t : Bool) → f b ≡ t → (n : ℕ) × IsLongestRun f bytes n → (n : ℕ) × IsLongestRun f (b ∷ bytes) n
     by true e r = (suc r.0, record { within = omega (arith, r.1.within); all = (e, r.1.all); stops = r.1.stops })
     by false e r = (0, record { within = omega arith; all = tt; stops = e })
 
 -- a token stands in front, or something wrong
 abbrev Front : List ℕ → Type 0
-Front body = ((k : TokenKind) × (n : ℕ) × Shape k n body) ⊎ ((c : Code) × IsWrong c body)
+Front body = ((k : TokenKind) × (n : ℕ) × IsTokenFront k n body) ⊎ ((c : Code) × IsWrong c body)
 
 word_front : (b : ℕ) (bytes : List ℕ) → is_letter b ≡ true → Front (b ∷ bytes)
 word_front b bytes e = by (run_there is_word_byte (b ∷ bytes))
   where
-    by : (n : ℕ) × Run is_word_byte (b ∷ bytes) n → Front (b ∷ bytes)
+    by : (n : ℕ) × IsLongestRun is_word_byte (b ∷ bytes) n → Front (b ∷ bytes)
     by r = elim (cases_lt 16 r.0) [
       | inl h ↦ inr (codes.Many, (e, (r.0, (r.1, h))))
       | inr h ↦ inl (kinds.Word, r.0, (e, r.1, h))
@@ -39,7 +40,7 @@ word_front b bytes e = by (run_there is_word_byte (b ∷ bytes))
 number_front : (b : ℕ) (bytes : List ℕ) → is_digit b ≡ true → Front (b ∷ bytes)
 number_front b bytes e = by (run_there is_digit (b ∷ bytes))
   where
-    by : (n : ℕ) × Run is_digit (b ∷ bytes) n → Front (b ∷ bytes)
+    by : (n : ℕ) × IsLongestRun is_digit (b ∷ bytes) n → Front (b ∷ bytes)
     by r = let v = value_from 0 (take r.0 (b ∷ bytes)) in elim (cases_lt v (2 ^ 64)) [
       | inl h ↦ inl (kinds.Number v, r.0, (e, r.1, refl, h))
       | inr h ↦ inr (codes.Number, (e, (r.0, (r.1, h))))
@@ -61,10 +62,10 @@ front_there b bytes s = by (is_letter b) (is_digit b) refl refl
 abbrev pub AreThere : ℕ → List ℕ → Type 0
 AreThere at bytes = (ts : List Token) × (m : Option Misspelling) × SpellsUntil at bytes ts m
 
-blank_there : (at : ℕ) (bytes : List ℕ) (g : ℕ) → Run is_space bytes g → drop g bytes ≡ [] → AreThere at bytes
+blank_there : (at : ℕ) (bytes : List ℕ) (g : ℕ) → IsLongestRun is_space bytes g → drop g bytes ≡ [] → AreThere at bytes
 blank_there at bytes g run e = ([], None, run_all is_space bytes g run.all (omega (arith, ap length e, length-drop g bytes)))
 
-wrong_there : (at : ℕ) (bytes : List ℕ) (g : ℕ) (c : Code) → Run is_space bytes g → IsWrong c (drop g bytes) → AreThere at bytes
+wrong_there : (at : ℕ) (bytes : List ℕ) (g : ℕ) (c : Code) → IsLongestRun is_space bytes g → IsWrong c (drop g bytes) → AreThere at bytes
 wrong_there at bytes g c run wrong = (
   [],
   Some (record { column = at + g + 1; code = c }),
@@ -78,7 +79,7 @@ wrong_there at bytes g c run wrong = (
   },
 )
 
-token_there : (at : ℕ) (bytes : List ℕ) (g : ℕ) (k : TokenKind) (n : ℕ) → Run is_space bytes g → Shape k n (drop g bytes) → AreThere (at + g + n) (drop n (drop g bytes)) → AreThere at bytes
+token_there : (at : ℕ) (bytes : List ℕ) (g : ℕ) (k : TokenKind) (n : ℕ) → IsLongestRun is_space bytes g → IsTokenFront k n (drop g bytes) → AreThere (at + g + n) (drop n (drop g bytes)) → AreThere at bytes
 token_there at bytes g k n run shape more =
     let t : Token = record { kind = k; start = at + g; end = at + g + n } in
     (t ∷ more.0, more.1, (drop n (drop g bytes), cut_made at g n bytes t run shape refl refl, more.2))
@@ -86,16 +87,16 @@ token_there at bytes g k n run shape more =
 step : (at : ℕ) (bytes : List ℕ) → ((at : ℕ) (rest : List ℕ) → length rest < length bytes → AreThere at rest) → AreThere at bytes
 step at bytes more = by (run_there is_space bytes)
   where
-    behind : (g : ℕ) → Run is_space bytes g → (body : List ℕ) → drop g bytes ≡ body → Stops is_space body → AreThere at bytes
+    behind : (g : ℕ) → IsLongestRun is_space bytes g → (body : List ℕ) → drop g bytes ≡ body → Stops is_space body → AreThere at bytes
     behind g run [] e s = blank_there at bytes g run e
     behind g run (b ∷ body) e s = elim (front_there b body s) [
       | inl f ↦
-          let shape : Shape f.0 f.1 (drop g bytes) = subst (λ (t : List ℕ). Shape f.0 f.1 t) (sym e) f.2 in
+          let shape : IsTokenFront f.0 f.1 (drop g bytes) = subst (λ (t : List ℕ). IsTokenFront f.0 f.1 t) (sym e) f.2 in
           token_there at bytes g f.0 f.1 run shape (more (at + g + f.1) (drop f.1 (drop g bytes)) (omega (arith, length-drop g bytes, length-drop f.1 (drop g bytes), ap length e, shape_some f.0 f.1 (drop g bytes) shape)))
       | inr f ↦ wrong_there at bytes g f.0 run (subst (λ (t : List ℕ). IsWrong f.0 t) (sym e) f.1)
     ]
 
-    by : (g : ℕ) × Run is_space bytes g → AreThere at bytes
+    by : (g : ℕ) × IsLongestRun is_space bytes g → AreThere at bytes
     by r = behind r.0 r.1 (drop r.0 bytes) refl r.1.stops
 
 there : (fuel : ℕ) (at : ℕ) (bytes : List ℕ) → length bytes ≤ fuel → AreThere at bytes

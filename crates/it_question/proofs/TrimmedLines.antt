@@ -9,10 +9,10 @@ use Rattle.it_syntax.specs.declared.types.TokenKind.TheVariants as kinds
 use Rattle.it_syntax.specs.Letters.{Letter, Word, Number, Sym, End}
 use Rattle.it_syntax.specs.Misspellings.{SpellsUntil}
 use Rattle.it_syntax.specs.Spans.{letter_of, letters_until}
-use Rattle.it_syntax.specs.Spelling.{is_digit, is_word_byte, is_space, is_greater, symbol_text, AreAll, Stops, IsText, Ends, Cut}
+use Rattle.it_syntax.specs.Spelling.{is_digit, is_word_byte, is_space, is_greater, symbol_text, AreAll, Stops, IsText, EndsToken, Cut}
 use Rattle.it_syntax.proofs.TokenLemmas.{not_space}
 use Rattle.it_question.specs.Lines.{TokenLine, IsFilled, IsLine, HasTokens, line_letters}
-use Rattle.it_question.specs.Texts.{without_leading, without_trailing, trimmed}
+use Rattle.it_question.specs.Texts.{without_leading, without_trailing, trimmed_line}
 use Rattle.it_question.proofs.Blanks.{AreSolid, leading_behind, trailing_stops, trailing_blank, solid_kept, some_kept}
 use Rattle.it_question.proofs.PlainLines.{spelled_plain, plain_same}
 
@@ -66,7 +66,7 @@ text_bytes (kinds.Number n) [] h = absurd h.0
 text_bytes (kinds.Number n) (b ∷ text) h = (b, text, refl)
 text_bytes (kinds.Symbol s) text h = subst HasBytes (sym h) (symbol_bytes s)
 
-ends_trimmed : (k : TokenKind) (rest : List ℕ) → Ends k rest → Ends k (without_trailing rest)
+ends_trimmed : (k : TokenKind) (rest : List ℕ) → EndsToken k rest → EndsToken k (without_trailing rest)
 ends_trimmed kinds.Word rest h = trailing_stops is_word_byte rest h
 ends_trimmed (kinds.Number n) rest h = trailing_stops is_digit rest h
 ends_trimmed (kinds.Symbol Minus) rest h = trailing_stops is_greater rest h
@@ -163,13 +163,13 @@ pub record IsWhole (l : TokenLine) : Type 0 where
 -- OLD
 pub record Again (n : ℕ) (l : TokenLine) : Type 0 where
   pub line : TokenLine
-  pub is : IsLine n (trimmed l.text) line
-  pub spelled : SpellsUntil 0 (trimmed l.text) line.tokens None
+  pub is : IsLine n (trimmed_line l.text) line
+  pub spelled : SpellsUntil 0 (trimmed_line l.text) line.tokens None
   pub filled : HasTokens line
-  pub text : line.text ≡ trimmed l.text
+  pub text : line.text ≡ trimmed_line l.text
   pub letters : line_letters line ≡ letters_until l.text l.tokens End
 
-from_first : (text : List ℕ) (ts : List Token) → SpellsUntil 0 text ts None → IsFilled ts None → Moved 0 (trimmed text) text ts
+from_first : (text : List ℕ) (ts : List Token) → SpellsUntil 0 text ts None → IsFilled ts None → Moved 0 (trimmed_line text) text ts
 from_first text [] h f = absurd f
 from_first text (t ∷ ts) h f =
     let c = h.1 in
@@ -184,10 +184,10 @@ pub again : (n : ℕ) (l : TokenLine) → IsWhole l → Again n l
 again n l h =
     let m = from_first l.text l.tokens h.spelled h.filled in
     record {
-      line = record { number = n; text = trimmed l.text; tokens = m.tokens; misspelling = None };
-      is = record { number = refl; text = sym (plain_same (trimmed l.text) (spelled_plain 0 (trimmed l.text) m.tokens m.spelled)); spelled = m.spelled };
+      line = record { number = n; text = trimmed_line l.text; tokens = m.tokens; misspelling = None };
+      is = record { number = refl; text = sym (plain_same (trimmed_line l.text) (spelled_plain 0 (trimmed_line l.text) m.tokens m.spelled)); spelled = m.spelled };
       spelled = m.spelled;
       filled = m.filled h.filled;
       text = refl;
-      letters = m.same (trimmed l.text) [] refl refl;
+      letters = m.same (trimmed_line l.text) [] refl refl;
     }

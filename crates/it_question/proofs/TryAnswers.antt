@@ -3,11 +3,12 @@ use Rattle.std.proofs.Common.{◌≡◌, ℕ, zero, suc, ◌-◌, ◌≤◌, Boo
 use Rattle.it_syntax.specs.declared.types.Symbol.TheVariants.{Semicolon, Assign}
 use Rattle.it_syntax.specs.declared.types.Code.TheVariants as codes
 use Rattle.it_syntax.specs.Letters.{Letter, Word, Number, Sym, End, Marked, clean, letters}
-use Rattle.it_syntax.specs.Reading.{Reads, ◌>>=◌, line_end}
-use Rattle.it_syntax.specs.Trees.{Environment, is_measure, index_or}
+use Rattle.it_syntax.specs.AtomReading.{Reads, ◌>>=◌, line_end}
+use Rattle.it_syntax.specs.WrittenAtoms.{Environment, is_measure, index_or}
 use Rattle.it_question.specs.Keywords.{try_text}
-use Rattle.it_question.specs.Trees.{WrittenSet, Empty, Listed, WrittenPart, WrittenTry, Sets, unnamed, is_named, with_set, is_whole, sets_of, part_mark, spell_set, set_of, spell_part, with_part, spell_parts, with_parts, whole_mark, spell_try, try_of, try_mark, spell_tries, tries_of}
-use Rattle.it_question.specs.Reading.{behind_word, read_assign, read_set, if_unnamed, auxiliary, read_auxiliary, read_part, read_parts, read_whole, read_try, allowed, try_then, if_tried, read_tries}
+use Rattle.it_question.specs.WrittenQuestions.{WrittenSet, Empty, Listed, WrittenPart, WrittenTry}
+use Rattle.it_question.specs.WrittenTries.{Sets, unnamed_sets, is_named, with_set, is_whole, sets_of, part_mark, spell_set, set_of, spell_part, with_part, spell_parts, with_parts, whole_mark, spell_try, try_of, try_mark, spell_tries, tries_of}
+use Rattle.it_question.specs.Reading.{behind_word, read_assign, read_set, if_unnamed, auxiliary, read_auxiliary, read_part, read_parts, read_whole, read_try, if_allowed, try_then, if_tried, read_tries}
 use Rattle.it_syntax.proofs.SpelledIsRead.{Answers, answers_ok, answers_cons, answers_bind, NoComma, list_answers}
 use Rattle.it_question.proofs.NameAnswers.{marked_answers}
 
@@ -33,7 +34,7 @@ none_left (None ∷ sets) i h = absurd (omega (arith, h))
 none_left (Some s ∷ sets) zero h = refl
 none_left (Some s ∷ sets) (suc i) h = none_left sets i h
 
-few_unnamed : (n : ℕ) → count (unnamed n) ≤ 4
+few_unnamed : (n : ℕ) → count (unnamed_sets n) ≤ 4
 few_unnamed zero = omega arith
 few_unnamed (suc zero) = omega arith
 few_unnamed (suc (suc zero)) = omega arith
@@ -152,11 +153,11 @@ try_answers aux env sets x k few =
     (answers_bind (read_whole (is_whole last) (letters n)) (λ e. Ok (y, e.1)) n k k tt y (whole_answers (is_whole last) k) (answers_ok y k)))
 
 -- a line that may not stand there, or is one too many
-allowed_stops : {A : Type 0} (b : Bool) (w : List ℕ) (f : List Letter → Reads A) (m : Marked) (y : A) (k : Marked) → Answers (allowed b 0 f (letters m) (Word w ∷ letters m)) ((Word w, try_mark b 0) ∷ m) y k
+allowed_stops : {A : Type 0} (b : Bool) (w : List ℕ) (f : List Letter → Reads A) (m : Marked) (y : A) (k : Marked) → Answers (if_allowed b 0 f (letters m) (Word w ∷ letters m)) ((Word w, try_mark b 0) ∷ m) y k
 allowed_stops true w f m y k = marked_answers codes.Word (Word w) m _ _
 allowed_stops false w f m y k = marked_answers codes.Many (Word w) m _ _
 
-allowed_then : {A : Type 0} (b : Bool) (n : ℕ) (w : List ℕ) (f : List Letter → Reads A) (m : Marked) (y : A) (k : Marked) → Answers (f (letters m)) m y k → Answers (allowed b (suc n) f (letters m) (Word w ∷ letters m)) ((Word w, try_mark b (suc n)) ∷ m) y k
+allowed_then : {A : Type 0} (b : Bool) (n : ℕ) (w : List ℕ) (f : List Letter → Reads A) (m : Marked) (y : A) (k : Marked) → Answers (f (letters m)) m y k → Answers (if_allowed b (suc n) f (letters m) (Word w ∷ letters m)) ((Word w, try_mark b (suc n)) ∷ m) y k
 allowed_then true n w f m y k h = marked_answers codes.Word (Word w) m _ _
 allowed_then false n w f m y k h = answers_cons (Word w) _ m y k h
 
@@ -172,8 +173,8 @@ no_tries f k none = subst (λ (o : Option (List Letter)). Answers (if_tried f o 
 
 counted_tries : (n : ℕ) (aux env : Environment) (sets : Sets) (xs : List WrittenTry) (k : Marked) → count sets ≤ 4 → behind_word try_text (letters k) ≡ None → Answers (read_tries n aux env sets (letters (spell_tries n aux env sets xs k))) (spell_tries n aux env sets xs k) (tries_of aux env sets xs) k
 unfolding read_tries behind_word
-counted_tries zero aux env sets [] k few none = no_tries (λ behind. allowed (is_whole sets) 0 (try_then (λ more. Ok ([], more)) aux env sets) behind (letters k)) k none
-counted_tries (suc n) aux env sets [] k few none = no_tries (λ behind. allowed (is_whole sets) (suc n) (try_then (read_tries n aux env sets) aux env sets) behind (letters k)) k none
+counted_tries zero aux env sets [] k few none = no_tries (λ behind. if_allowed (is_whole sets) 0 (try_then (λ more. Ok ([], more)) aux env sets) behind (letters k)) k none
+counted_tries (suc n) aux env sets [] k few none = no_tries (λ behind. if_allowed (is_whole sets) (suc n) (try_then (read_tries n aux env sets) aux env sets) behind (letters k)) k none
 counted_tries zero aux env sets (x ∷ xs) k few none = allowed_stops (is_whole sets) try_text (try_then (λ more. Ok ([], more)) aux env sets) (spell_try aux env sets x (spell_tries (0 - 1) aux env sets xs k)) (tries_of aux env sets (x ∷ xs)) k
 counted_tries (suc n) aux env sets (x ∷ xs) k few none =
     let e : (suc n - 1) ≡ n = omega arith in
@@ -183,5 +184,5 @@ counted_tries (suc n) aux env sets (x ∷ xs) k few none =
     (try_then_answers (read_tries n aux env sets) aux env sets x m (tries_of aux env sets xs) k few (counted_tries n aux env sets xs k few none)))
 
 -- `try` lines for the auxiliaries of a region, of which n are allowed
-pub tries_answers : (n : ℕ) (aux env : Environment) (auxiliaries : ℕ) (xs : List WrittenTry) (k : Marked) → behind_word try_text (letters k) ≡ None → Answers (read_tries n aux env (unnamed auxiliaries) (letters (spell_tries n aux env (unnamed auxiliaries) xs k))) (spell_tries n aux env (unnamed auxiliaries) xs k) (tries_of aux env (unnamed auxiliaries) xs) k
-tries_answers n aux env auxiliaries xs k none = counted_tries n aux env (unnamed auxiliaries) xs k (few_unnamed auxiliaries) none
+pub tries_answers : (n : ℕ) (aux env : Environment) (auxiliaries : ℕ) (xs : List WrittenTry) (k : Marked) → behind_word try_text (letters k) ≡ None → Answers (read_tries n aux env (unnamed_sets auxiliaries) (letters (spell_tries n aux env (unnamed_sets auxiliaries) xs k))) (spell_tries n aux env (unnamed_sets auxiliaries) xs k) (tries_of aux env (unnamed_sets auxiliaries) xs) k
+tries_answers n aux env auxiliaries xs k none = counted_tries n aux env (unnamed_sets auxiliaries) xs k (few_unnamed auxiliaries) none

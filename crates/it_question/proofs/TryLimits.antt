@@ -5,12 +5,12 @@ use Rattle.std.proofs.lemmas.List.{length-map}
 use Rattle.std.proofs.lemmas.List.Elements.{All-nil, All-cons, All-head, All-tail, All-map}
 use Rattle.it_syntax.specs.Letters.{Letter, Number, Sym}
 use Rattle.it_syntax.specs.declared.types.Symbol.TheVariants.{Semicolon}
-use Rattle.it_syntax.specs.Reading.{Reads, ◌>>=◌}
-use Rattle.it_syntax.specs.Trees.{Environment}
+use Rattle.it_syntax.specs.AtomReading.{Reads, ◌>>=◌}
+use Rattle.it_syntax.specs.WrittenAtoms.{Environment}
 use Rattle.it_question.specs.Keywords.{try_text}
 use Rattle.it_question.specs.Limits.{IsTryOf}
-use Rattle.it_question.specs.Trees.{Sets, unnamed, with_set, is_whole, set_or, sets_of}
-use Rattle.it_question.specs.Reading.{behind_word, limited, read_assign, read_set, read_auxiliary, read_part, read_parts, read_whole, read_try, allowed, try_then, if_tried, read_tries}
+use Rattle.it_question.specs.WrittenTries.{Sets, unnamed_sets, with_set, is_whole, set_or, sets_of}
+use Rattle.it_question.specs.Reading.{behind_word, within_limit, read_assign, read_set, read_auxiliary, read_part, read_parts, read_whole, read_try, if_allowed, try_then, if_tried, read_tries}
 use Rattle.it_syntax.proofs.LimitLemmas.{Sure, sure_bind, Any, any, Knows, IsBelow, some_sets, list_sure}
 
 abbrev IsWithin : ℕ → Option ℕ → Type 0
@@ -21,7 +21,7 @@ record AreWithin (n : ℕ) (sets : Sets) : Type 0 where
   pub four : length sets ≡ 4
   pub within : All (IsWithin n) sets
 
-unnamed_within : (n k : ℕ) → AreWithin n (unnamed k)
+unnamed_within : (n k : ℕ) → AreWithin n (unnamed_sets k)
 unnamed_within n k = four k
   where
     none : IsWithin n None
@@ -33,7 +33,7 @@ unnamed_within n k = four k
     of_four : (a b c d : Option ℕ) → IsWithin n a → IsWithin n b → IsWithin n c → IsWithin n d → AreWithin n (a ∷ b ∷ c ∷ d ∷ [])
     of_four a b c d ha hb hc hd = record { four = refl; within = All-cons (IsWithin n) a (b ∷ c ∷ d ∷ []) ha (All-cons (IsWithin n) b (c ∷ d ∷ []) hb (All-cons (IsWithin n) c (d ∷ []) hc (All-cons (IsWithin n) d [] hd (All-nil (IsWithin n))))) }
 
-    four : (k : ℕ) → AreWithin n (unnamed k)
+    four : (k : ℕ) → AreWithin n (unnamed_sets k)
     four zero = of_four (Some 0) (Some 0) (Some 0) (Some 0) empty empty empty empty
     four (suc zero) = of_four None (Some 0) (Some 0) (Some 0) none empty empty empty
     four (suc (suc zero)) = of_four None None (Some 0) (Some 0) none none empty empty
@@ -102,7 +102,7 @@ tried_sure : (n most : ℕ) (f : List Letter → Reads (List (List ℕ))) → ((
 tried_sure n most f h (Some behind) ls = h behind
 tried_sure n most f h None ls = (omega arith, All-nil (IsTryOf n))
 
-allowed_sure : {A : Type 0} (P : A × List Letter → Type 0) (b : Bool) (n : ℕ) (f : List Letter → Reads A) (behind ls : List Letter) → Sure P (limited n f behind ls) → Sure P (allowed b n f behind ls)
+allowed_sure : {A : Type 0} (P : A × List Letter → Type 0) (b : Bool) (n : ℕ) (f : List Letter → Reads A) (behind ls : List Letter) → Sure P (within_limit n f behind ls) → Sure P (if_allowed b n f behind ls)
 allowed_sure P true n f behind ls h = tt
 allowed_sure P false n f behind ls h = h
 
@@ -110,12 +110,12 @@ counted_tries : (most : ℕ) (aux env : Environment) (n : ℕ) → Knows env n �
 unfolding read_tries
 counted_tries zero aux env n k sets h ls =
     let f = try_then (λ more. Ok ([], more)) aux env sets in
-    tried_sure n zero (λ behind. allowed (is_whole sets) 0 f behind ls) (λ behind. allowed_sure (AreTries n zero) (is_whole sets) 0 f behind ls tt) (behind_word try_text ls) ls
+    tried_sure n zero (λ behind. if_allowed (is_whole sets) 0 f behind ls) (λ behind. allowed_sure (AreTries n zero) (is_whole sets) 0 f behind ls tt) (behind_word try_text ls) ls
 counted_tries (suc most) aux env n k sets h ls =
     let f = try_then (read_tries most aux env sets) aux env sets in
-    tried_sure n (suc most) (λ behind. allowed (is_whole sets) (suc most) f behind ls)
+    tried_sure n (suc most) (λ behind. if_allowed (is_whole sets) (suc most) f behind ls)
     (λ behind. allowed_sure (AreTries n (suc most)) (is_whole sets) (suc most) f behind ls (try_then_sure aux env n most k sets h (read_tries most aux env sets) (counted_tries most aux env n k sets h) behind)) (behind_word try_text ls) ls
 
 -- sets of n variables for the auxiliaries of a region
-pub tries_sure : (most : ℕ) (aux env : Environment) (n : ℕ) → Knows env n → (auxiliaries : ℕ) (ls : List Letter) → Sure (AreTries n most) (read_tries most aux env (unnamed auxiliaries) ls)
-tries_sure most aux env n k auxiliaries ls = counted_tries most aux env n k (unnamed auxiliaries) (unnamed_within n auxiliaries) ls
+pub tries_sure : (most : ℕ) (aux env : Environment) (n : ℕ) → Knows env n → (auxiliaries : ℕ) (ls : List Letter) → Sure (AreTries n most) (read_tries most aux env (unnamed_sets auxiliaries) ls)
+tries_sure most aux env n k auxiliaries ls = counted_tries most aux env n k (unnamed_sets auxiliaries) (unnamed_within n auxiliaries) ls

@@ -6,11 +6,11 @@ use Rattle.it_syntax.specs.declared.types.Code.TheVariants as codes
 use Rattle.it_syntax.specs.declared.types.Symbol.TheVariants as symbols
 use Rattle.it_syntax.specs.Letters.{Letter, Sym}
 use Rattle.it_syntax.specs.Gives.{StopsAs}
-use Rattle.it_syntax.specs.Reading.{Reads, ◌>>=◌}
-use Rattle.it_syntax.specs.Trees.{Environment}
+use Rattle.it_syntax.specs.AtomReading.{Reads, ◌>>=◌}
+use Rattle.it_syntax.specs.WrittenAtoms.{Environment}
 use Rattle.it_question.specs.Keywords.{try_text}
-use Rattle.it_question.specs.Trees.{Sets, is_whole, unnamed}
-use Rattle.it_question.specs.Reading.{after_semicolon, behind_word, allowed, try_then, if_tried, read_part, read_parts, read_try, read_tries}
+use Rattle.it_question.specs.WrittenTries.{Sets, is_whole, unnamed_sets}
+use Rattle.it_question.specs.Reading.{after_semicolon, behind_word, if_allowed, try_then, if_tried, read_part, read_parts, read_try, read_tries}
 
 is_semicolon : (ls b : List Letter) → after_semicolon ls ≡ Some b → ls ≡ Sym symbols.Semicolon ∷ b
 is_semicolon (Sym symbols.Semicolon ∷ ls) b e = let same : ls ≡ b = cc in ap (λ (t : List Letter). Sym symbols.Semicolon ∷ t) same
@@ -65,11 +65,11 @@ Tries = List (List ℕ)
 abbrev pub with_tries : Tries → Reads Tries → Reads Tries
 with_tries front r = r >>= λ x. Ok (front ++ x.0, x.1)
 
-pub whole_is_none : (n : ℕ) → n ≡ 0 → is_whole (unnamed n) ≡ true
+pub whole_is_none : (n : ℕ) → n ≡ 0 → is_whole (unnamed_sets n) ≡ true
 whole_is_none zero e = refl
 whole_is_none (suc n) e = absurd (omega (arith, e))
 
-pub some_is_left : (n : ℕ) → (n ≡ 0 → ⊥) → is_whole (unnamed n) ≡ false
+pub some_is_left : (n : ℕ) → (n ≡ 0 → ⊥) → is_whole (unnamed_sets n) ≡ false
 some_is_left zero h = absurd (h refl)
 some_is_left (suc zero) h = refl
 some_is_left (suc (suc zero)) h = refl
@@ -80,23 +80,23 @@ abbrev after_try : ℕ → Environment → Environment → Sets → List Letter 
 after_try zero aux env sets ls = Ok ([], ls)
 after_try (suc n) aux env sets ls = read_tries n aux env sets ls
 
-tries_at : (n : ℕ) (aux env : Environment) (sets : Sets) (ls b : List Letter) → behind_word try_text ls ≡ Some b → read_tries n aux env sets ls ≡ allowed (is_whole sets) n (try_then (after_try n aux env sets) aux env sets) b ls
+tries_at : (n : ℕ) (aux env : Environment) (sets : Sets) (ls b : List Letter) → behind_word try_text ls ≡ Some b → read_tries n aux env sets ls ≡ if_allowed (is_whole sets) n (try_then (after_try n aux env sets) aux env sets) b ls
 unfolding read_tries
-tries_at zero aux env sets ls b e = ap (λ (o : Option (List Letter)). if_tried (λ behind. allowed (is_whole sets) 0 (try_then (λ more. Ok ([], more)) aux env sets) behind ls) o ls) e
-tries_at (suc n) aux env sets ls b e = ap (λ (o : Option (List Letter)). if_tried (λ behind. allowed (is_whole sets) (suc n) (try_then (read_tries n aux env sets) aux env sets) behind ls) o ls) e
+tries_at zero aux env sets ls b e = ap (λ (o : Option (List Letter)). if_tried (λ behind. if_allowed (is_whole sets) 0 (try_then (λ more. Ok ([], more)) aux env sets) behind ls) o ls) e
+tries_at (suc n) aux env sets ls b e = ap (λ (o : Option (List Letter)). if_tried (λ behind. if_allowed (is_whole sets) (suc n) (try_then (read_tries n aux env sets) aux env sets) behind ls) o ls) e
 
 pub tries_unmeant : (n : ℕ) (aux env : Environment) (sets : Sets) (front : Tries) (ls b : List Letter) (whole : Reads Tries) → with_tries front (read_tries n aux env sets ls) ≡ whole → behind_word try_text ls ≡ Some b → is_whole sets ≡ true → whole ≡ Err (codes.Word, ls)
-tries_unmeant n aux env sets front ls b whole h e w = sym h ∙ ap (with_tries front) (tries_at n aux env sets ls b e ∙ ap (λ (t : Bool). allowed t n (try_then (after_try n aux env sets) aux env sets) b ls) w)
+tries_unmeant n aux env sets front ls b whole h e w = sym h ∙ ap (with_tries front) (tries_at n aux env sets ls b e ∙ ap (λ (t : Bool). if_allowed t n (try_then (after_try n aux env sets) aux env sets) b ls) w)
 
 pub tries_many : (n : ℕ) (aux env : Environment) (sets : Sets) (front : Tries) (ls b : List Letter) (whole : Reads Tries) → with_tries front (read_tries n aux env sets ls) ≡ whole → behind_word try_text ls ≡ Some b → is_whole sets ≡ false → n ≡ 0 → whole ≡ Err (codes.Many, ls)
-tries_many zero aux env sets front ls b whole h e w none = sym h ∙ ap (with_tries front) (tries_at zero aux env sets ls b e ∙ ap (λ (t : Bool). allowed t zero (try_then (after_try zero aux env sets) aux env sets) b ls) w)
+tries_many zero aux env sets front ls b whole h e w none = sym h ∙ ap (with_tries front) (tries_at zero aux env sets ls b e ∙ ap (λ (t : Bool). if_allowed t zero (try_then (after_try zero aux env sets) aux env sets) b ls) w)
 tries_many (suc n) aux env sets front ls b whole h e w none = absurd (omega (arith, none))
 
 some_more : (n : ℕ) (aux env : Environment) (sets : Sets) (ls b : List Letter) → behind_word try_text ls ≡ Some b → is_whole sets ≡ false → (n ≡ 0 → ⊥) → read_tries n aux env sets ls ≡ try_then (read_tries (n - 1) aux env sets) aux env sets b
 some_more zero aux env sets ls b e w some = absurd (some refl)
 some_more (suc n) aux env sets ls b e w some =
     let less : suc n - 1 ≡ n = omega arith in
-    tries_at (suc n) aux env sets ls b e ∙ ap (λ (t : Bool). allowed t (suc n) (try_then (read_tries n aux env sets) aux env sets) b ls) w ∙ sym (ap (λ (m : ℕ). try_then (read_tries m aux env sets) aux env sets b) less)
+    tries_at (suc n) aux env sets ls b e ∙ ap (λ (t : Bool). if_allowed t (suc n) (try_then (read_tries n aux env sets) aux env sets) b ls) w ∙ sym (ap (λ (m : ℕ). try_then (read_tries m aux env sets) aux env sets b) less)
 
 then_stops : (f : List Letter → Reads Tries) (front : Tries) (stop : Stop) (rest : List Letter) (r : Reads (List ℕ)) → StopsAs stop rest r → StopsAs stop rest (with_tries front (r >>= λ x. f x.1 >>= λ more. Ok (x.0 ∷ more.0, more.1)))
 then_stops f front stops.Memory rest r e = tt
@@ -121,8 +121,8 @@ tries_more n aux env sets front ls b whole x h e w some f =
 
 tries_none : (n : ℕ) (aux env : Environment) (sets : Sets) (ls : List Letter) → behind_word try_text ls ≡ None → read_tries n aux env sets ls ≡ Ok ([], ls)
 unfolding read_tries
-tries_none zero aux env sets ls e = ap (λ (o : Option (List Letter)). if_tried (λ behind. allowed (is_whole sets) 0 (try_then (λ more. Ok ([], more)) aux env sets) behind ls) o ls) e
-tries_none (suc n) aux env sets ls e = ap (λ (o : Option (List Letter)). if_tried (λ behind. allowed (is_whole sets) (suc n) (try_then (read_tries n aux env sets) aux env sets) behind ls) o ls) e
+tries_none zero aux env sets ls e = ap (λ (o : Option (List Letter)). if_tried (λ behind. if_allowed (is_whole sets) 0 (try_then (λ more. Ok ([], more)) aux env sets) behind ls) o ls) e
+tries_none (suc n) aux env sets ls e = ap (λ (o : Option (List Letter)). if_tried (λ behind. if_allowed (is_whole sets) (suc n) (try_then (read_tries n aux env sets) aux env sets) behind ls) o ls) e
 
 pub tries_end : (n : ℕ) (aux env : Environment) (sets : Sets) (front : Tries) (ls : List Letter) (whole : Reads Tries) → with_tries front (read_tries n aux env sets ls) ≡ whole → behind_word try_text ls ≡ None → whole ≡ Ok (front, ls)
 tries_end n aux env sets front ls whole h e = sym h ∙ ap (with_tries front) (tries_none n aux env sets ls e) ∙ ap (λ (t : Tries). ok_tries t ls) (append-nil front)

@@ -4,15 +4,16 @@ use Rattle.it_syntax.specs.declared.types.Symbol.TheVariants.{Semicolon, Assign}
 use Rattle.it_syntax.specs.declared.types.Code.{Code}
 use Rattle.it_syntax.specs.declared.types.Code.TheVariants as codes
 use Rattle.it_syntax.specs.Letters.{Letter, Word, Number, Sym, End, Marked, clean}
-use Rattle.it_syntax.specs.FirstFault.{head, own}
-use Rattle.it_syntax.specs.Reading.{Reads, ◌>>=◌, read_list, line_end}
-use Rattle.it_syntax.specs.Trees.{Environment, is_measure, index_or, spell_list, list_set}
+use Rattle.it_syntax.specs.FirstFault.{head, own_code}
+use Rattle.it_syntax.specs.AtomReading.{Reads, ◌>>=◌, read_list, line_end}
+use Rattle.it_syntax.specs.WrittenAtoms.{Environment, is_measure, index_or, spell_list, list_set}
 use Rattle.it_syntax.proofs.Traces.{By, Traces, traces_bind, traces_map, letter_then, switch, renamed}
 use Rattle.it_syntax.proofs.AtomTraces.{begun, empty, stuck_here, stuck_none, list_traces}
 use Rattle.it_syntax.proofs.LetterReaders.{TakesLetter, behind_traces}
 use Rattle.it_question.specs.Keywords.{try_text}
-use Rattle.it_question.specs.Trees.{WrittenSet, Empty, Listed, WrittenPart, WrittenTry, Sets, is_named, with_set, is_whole, sets_of, part_mark, spell_set, set_of, spell_part, with_part, spell_parts, with_parts, whole_mark, spell_try, try_of, try_mark, spell_tries, tries_of}
-use Rattle.it_question.specs.Reading.{behind_word, read_assign, read_set, if_unnamed, auxiliary, read_auxiliary, read_part, read_parts, read_whole, read_try, allowed, try_then, if_tried, read_tries}
+use Rattle.it_question.specs.WrittenQuestions.{WrittenSet, Empty, Listed, WrittenPart, WrittenTry}
+use Rattle.it_question.specs.WrittenTries.{Sets, is_named, with_set, is_whole, sets_of, part_mark, spell_set, set_of, spell_part, with_part, spell_parts, with_parts, whole_mark, spell_try, try_of, try_mark, spell_tries, tries_of}
+use Rattle.it_question.specs.Reading.{behind_word, read_assign, read_set, if_unnamed, auxiliary, read_auxiliary, read_part, read_parts, read_whole, read_try, if_allowed, try_then, if_tried, read_tries}
 use Rattle.it_question.proofs.NameTraces.{some_name, number_of, IsJudged, marked_here, nothing_read, IsAbsent, at_word, behind_traced}
 
 -- ---- the name of an auxiliary
@@ -63,10 +64,10 @@ pub assign_takes : TakesLetter read_assign (Sym Assign)
 unfolding read_assign
 assign_takes = record { takes = λ s. refl; refuses = refuses }
   where
-    refuses : (ls : List Letter) → (head ls ≡ Some (Sym Assign)) ⊎ ((c : Code) × (own ls ≡ c) × ((s : List Letter) → head s ≡ head ls → read_assign s ≡ Err (c, s)))
+    refuses : (ls : List Letter) → (head ls ≡ Some (Sym Assign)) ⊎ ((c : Code) × (own_code ls ≡ c) × ((s : List Letter) → head s ≡ head ls → read_assign s ≡ Err (c, s)))
     refuses (Sym Assign ∷ ls) = inl refl
     refuses [] = inr (codes.Word, refl, empty (λ s. read_assign s ≡ Err (codes.Word, s)) refl)
-    refuses (l ∷ ls) = inr (own (l ∷ ls), refl, begun (λ s. read_assign s ≡ Err (own (l ∷ ls), s)) l (λ s. refl))
+    refuses (l ∷ ls) = inr (own_code (l ∷ ls), refl, begun (λ s. read_assign s ≡ Err (own_code (l ∷ ls), s)) l (λ s. refl))
 
 -- no number stands there
 listed : (env : Environment) (ls : List Letter) → ((s : List Letter) → head s ≡ head ls → read_set env s ≡ read_list env s) → By (read_set env) (spell_set env) (set_of env) ls (read_list env ls)
@@ -204,7 +205,7 @@ tries_spelled n aux env sets eb x k =
 
 -- what stands behind `try`, where f reads it if it may stand there
 abbrev behind_word_of : Bool → ℕ → (List Letter → Reads (List (List ℕ))) → List Letter → Reads (List (List ℕ))
-behind_word_of b n f s = allowed b n f s (Word try_text ∷ s)
+behind_word_of b n f s = if_allowed b n f s (Word try_text ∷ s)
 
 -- `try` is marked
 try_marked : (n : ℕ) (aux env : Environment) (sets : Sets) (c : Code) (behind : List Letter) → try_mark (is_whole sets) n ≡ Some c → ((s : List Letter) → read_tries n aux env sets (Word try_text ∷ s) ≡ Err (c, Word try_text ∷ s))
@@ -226,9 +227,9 @@ try_over aux env sets f behind false eb is = try_marked zero aux env sets codes.
 no_try : (n : ℕ) (aux env : Environment) (sets : Sets) (ls : List Letter) → IsAbsent try_text ls → By (read_tries n aux env sets) (spell_tries n aux env sets) (tries_of aux env sets) ls (read_tries n aux env sets ls)
 unfolding read_tries
 no_try zero aux env sets ls h = nothing_read (read_tries zero aux env sets) (spell_tries zero aux env sets) (tries_of aux env sets) [] ls (λ k. refl)
-    (λ s e. ap (λ (o : Option (List Letter)). if_tried (λ behind. allowed (is_whole sets) 0 (try_then (λ more. Ok ([], more)) aux env sets) behind s) o s) (h s e))
+    (λ s e. ap (λ (o : Option (List Letter)). if_tried (λ behind. if_allowed (is_whole sets) 0 (try_then (λ more. Ok ([], more)) aux env sets) behind s) o s) (h s e))
 no_try (suc n) aux env sets ls h = nothing_read (read_tries (suc n) aux env sets) (spell_tries (suc n) aux env sets) (tries_of aux env sets) [] ls (λ k. refl)
-    (λ s e. ap (λ (o : Option (List Letter)). if_tried (λ behind. allowed (is_whole sets) (suc n) (try_then (read_tries n aux env sets) aux env sets) behind s) o s) (h s e))
+    (λ s e. ap (λ (o : Option (List Letter)). if_tried (λ behind. if_allowed (is_whole sets) (suc n) (try_then (read_tries n aux env sets) aux env sets) behind s) o s) (h s e))
 
 -- `try` lines, of which n are allowed
 pub tries_traces : (n : ℕ) (aux env : Environment) (sets : Sets) → Traces (read_tries n aux env sets) (spell_tries n aux env sets) (tries_of aux env sets)

@@ -1,4 +1,4 @@
--- The letters that are left of a file.
+-- The letters that are left of a file. No public clause cites it.
 use Rattle.std.specs.Prelude.{List, [], ◌∷◌, ◌++◌, map, Option, Some, None}
 use Rattle.it_syntax.specs.declared.rest.Rest.{Rest}
 use Rattle.it_syntax.specs.declared.rest.Piece.{Piece}

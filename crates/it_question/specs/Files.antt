@@ -1,21 +1,22 @@
 -- What a file asks, and the first fault of one that has no reading.
 use Rattle.std.specs.Prelude.{◌≡◌, ℕ, ◌-◌, List, [], ◌∷◌, ◌++◌, length, Option, Some, slice_get, ◌⊎◌}
 use Rattle.it_syntax.specs.declared.types.Code.{Code}
-use Rattle.it_syntax.specs.Letters.{Letter, cleaned}
+use Rattle.it_syntax.specs.Letters.{Letter, clean_all}
 use Rattle.it_syntax.specs.FirstFault.{FirstFault}
 use Rattle.it_question.specs.declared.types.FileFault.{FileFault}
 use Rattle.it_question.specs.declared.types.FileFault.TheVariants.{Memory, Fault}
 use Rattle.it_question.specs.Lines.{TokenLine, AreLinesOf, letters_of_lines, places_of_lines}
-use Rattle.it_question.specs.Questions.{Asked}
-use Rattle.it_question.specs.Trees.{WrittenQuestion, spell_file, questions_of}
+use Rattle.it_question.specs.Questions.{QuestionView}
+use Rattle.it_question.specs.WrittenQuestions.{WrittenQuestion}
+use Rattle.it_question.specs.WrittenFiles.{spell_file, questions_of}
 use Rattle.it_question.specs.Texts.{with_texts}
 
 -- the bytes ask these questions: their letters are those of questions as they are written, and nothing is said against one
-pub record IsFile (bytes : List ℕ) (qs : List Asked) : Type 0 where
+pub record IsFile (bytes : List ℕ) (qs : List QuestionView) : Type 0 where
   pub lines : List TokenLine
   pub cut : AreLinesOf bytes lines
   pub trees : List WrittenQuestion
-  pub spelled : spell_file trees ≡ cleaned (letters_of_lines lines)
+  pub spelled : spell_file trees ≡ clean_all (letters_of_lines lines)
   pub are : with_texts lines (questions_of trees) ≡ qs
 
 -- where the first of the letters that are left of these lines stands
@@ -37,18 +38,18 @@ IsFirstFileFault bytes (Fault line column code) = FileFaultAt bytes line column 
 
 -- A file has at most one reading, or has at most one first fault, and not both.
 abbrev pub FileIsOne : Type 0
-FileIsOne = (bytes : List ℕ) (qs rs : List Asked) → IsFile bytes qs → IsFile bytes rs → qs ≡ rs
+FileIsOne = (bytes : List ℕ) (qs rs : List QuestionView) → IsFile bytes qs → IsFile bytes rs → qs ≡ rs
 
 abbrev pub FileFaultIsOne : Type 0
 FileFaultIsOne = (bytes : List ℕ) (line column row place : ℕ) (c d : Code) → FileFaultAt bytes line column c → FileFaultAt bytes row place d → (line ≡ row) × (column ≡ place) × (c ≡ d)
 
 abbrev pub FileOrFault : Type 0
-FileOrFault = (bytes : List ℕ) (qs : List Asked) (line column : ℕ) (c : Code) → IsFile bytes qs → FileFaultAt bytes line column c → ⊥
+FileOrFault = (bytes : List ℕ) (qs : List QuestionView) (line column : ℕ) (c : Code) → IsFile bytes qs → FileFaultAt bytes line column c → ⊥
 
 -- A file has a reading or a first fault.
 abbrev pub FileHasOne : Type 0
-FileHasOne = (bytes : List ℕ) → ((qs : List Asked) × IsFile bytes qs) ⊎ ((line : ℕ) × (column : ℕ) × (c : Code) × FileFaultAt bytes line column c)
+FileHasOne = (bytes : List ℕ) → ((qs : List QuestionView) × IsFile bytes qs) ⊎ ((line : ℕ) × (column : ℕ) × (c : Code) × FileFaultAt bytes line column c)
 
 -- The text of a question reads as that question alone.
 abbrev pub TextReadsBack : Type 0
-TextReadsBack = (bytes : List ℕ) (qs rs : List Asked) (q : Asked) (front : List Asked) → IsFile bytes qs → qs ≡ front ++ q ∷ rs → IsFile q.text (q ∷ [])
+TextReadsBack = (bytes : List ℕ) (qs rs : List QuestionView) (q : QuestionView) (front : List QuestionView) → IsFile bytes qs → qs ≡ front ++ q ∷ rs → IsFile q.text (q ∷ [])

@@ -3,10 +3,16 @@ pub mod Cursors
 pub mod Bodies
 pub mod Questions
 pub mod Keywords
-pub mod Trees
+pub mod WrittenQuestions
+pub mod NewNames
+pub mod WrittenLines
+pub mod WrittenTries
+pub mod WrittenRegions
+pub mod WrittenFiles
 pub mod Sorts
 pub mod Reading
 pub mod Texts
 pub mod Files
 pub mod Limits
 pub mod Stops
+pub mod ReaderSteps

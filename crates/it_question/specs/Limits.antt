@@ -1,19 +1,19 @@
 -- What the questions of a file keep: sets of their variables, rates that there are, and the limits.
 use Rattle.std.specs.Prelude.{◌≡◌, ℕ, ◌<◌, ◌≤◌, ◌^◌, List, ◌++◌, length, All, eqb}
 use Rattle.std.specs.List.{IsDistinct}
-use Rattle.it_syntax.specs.Vocabulary.{Vocabulary}
-use Rattle.it_syntax.specs.Givens.{IsRelationOf, IsConditionOf}
-use Rattle.it_question.specs.Questions.{Lines, Bounded, Aim, Proves, Eliminates, Contains, Posed}
+use Rattle.it_syntax.specs.NamesViews.{NamesView}
+use Rattle.it_syntax.specs.Givens.{IsRelationOf, IsGivenOf}
+use Rattle.it_question.specs.Questions.{OwnLinesView, RegionView, VerbView, Prove, Eliminate, Contain, BodyView}
 
 -- lines over these names
-pub record AreLinesOver (v : Vocabulary) (own : Lines) : Type 0 where
+pub record AreLinesOver (v : NamesView) (own : OwnLinesView) : Type 0 where
   pub few_givens : length own.givens ≤ 64
   pub few_rows : length own.rows ≤ 64
-  pub givens : All (IsConditionOf (length v.variables) (length v.rates)) own.givens
+  pub givens : All (IsGivenOf (length v.variables) (length v.rates)) own.givens
   pub rows : All (IsRelationOf (length v.variables) (length v.rates)) own.rows
 
 -- a region of a question with these names: their variables, and behind them at most 4 auxiliaries, 8 in all
-pub record IsRegionOf (v : Vocabulary) (r : Bounded) : Type 0 where
+pub record IsRegionOf (v : NamesView) (r : RegionView) : Type 0 where
   pub own : List (List ℕ)
   pub variables : r.names.variables ≡ v.variables ++ own
   pub rates : r.names.rates ≡ v.rates
@@ -31,24 +31,15 @@ pub record AreRatesOf (m : ℕ) (rates : List ℕ) : Type 0 where
   pub within : All (λ r. r < m) rates
   pub distinct : IsDistinct eqb rates
 
-abbrev pub IsAimOver : Vocabulary → Aim → Type 0
-IsAimOver v (Proves r) = IsRelationOf (length v.variables) (length v.rates) r
-IsAimOver v (Eliminates rates) = AreRatesOf (length v.rates) rates
-IsAimOver v (Contains first second tries) = IsRegionOf v first × IsRegionOf v second × (length tries ≤ 64) × All (IsTryOf (length first.names.variables)) tries
+abbrev pub IsVerbOver : NamesView → VerbView → Type 0
+IsVerbOver v (Prove r) = IsRelationOf (length v.variables) (length v.rates) r
+IsVerbOver v (Eliminate rates) = AreRatesOf (length v.rates) rates
+IsVerbOver v (Contain first second tries) = IsRegionOf v first × IsRegionOf v second × (length tries ≤ 64) × All (IsTryOf (length first.names.variables)) tries
 
 -- 1 to 8 variables and at most 16 rates, and lines over them
-pub record IsQuestion (q : Posed) : Type 0 where
+pub record IsQuestion (q : BodyView) : Type 0 where
   pub some : 1 ≤ length q.names.variables
   pub few : length q.names.variables ≤ 8
   pub few_rates : length q.names.rates ≤ 16
   pub lines : AreLinesOver q.names q.lines
-  pub aim : IsAimOver q.names q.aim
-
--- what the number of lines of a question takes
-abbrev pub FewLines : Lines → Type 0
-FewLines own = (length own.givens ≤ 64) × (length own.rows ≤ 64)
-
-abbrev pub FewLinesOf : Aim → Type 0
-FewLinesOf (Proves r) = Unit {0}
-FewLinesOf (Eliminates rates) = Unit {0}
-FewLinesOf (Contains first second tries) = FewLines first.lines × FewLines second.lines × (length tries ≤ 64)
+  pub verb : IsVerbOver q.names q.verb

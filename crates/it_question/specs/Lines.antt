@@ -2,14 +2,14 @@
 -- line feed; a last piece without one is a line if it has a byte. A carriage return directly before the line feed or the file's
 -- end counts for nothing, `#` begins a comment up to the line's end, and a tab is read as a space. A line without tokens is
 -- passed over.
-use Rattle.std.specs.Prelude.{◌≡◌, ℕ, ◌+◌, ◌==◌, Bool, not, List, [], ◌∷◌, ◌++◌, map, Option, Some, None, if◌then◌else◌, ◌⊎◌}
+use Rattle.std.specs.Prelude.{◌≡◌, ℕ, ◌+◌, ◌==◌, List, [], ◌∷◌, ◌++◌, map, Option, Some, None, if◌then◌else◌, ◌⊎◌}
 use Rattle.it_syntax.specs.declared.types.Token.{Token}
 use Rattle.it_syntax.specs.declared.types.Misspelling.{Misspelling}
-use Rattle.it_syntax.specs.declared.types.Code.TheVariants as codes
 use Rattle.it_syntax.specs.Letters.{Letter, Bad}
 use Rattle.it_syntax.specs.Spans.{letters_until, last_letter}
 use Rattle.it_syntax.specs.Misspellings.{SpellsUntil}
 use Rattle.it_syntax.specs.Lines.{column_behind}
+use Rattle.it_syntax.specs.declared.types.Code.TheVariants as codes
 
 -- a byte in front of the first of these lines
 abbrev pub in_front : ℕ → List (List ℕ) → List (List ℕ)
@@ -30,17 +30,13 @@ abbrev pub before_comment : List ℕ → List ℕ
 before_comment [] = []
 before_comment (b ∷ bytes) = if b == 35 then [] else b ∷ before_comment bytes
 
--- any byte but one
-unfoldable pub is_other : ℕ → ℕ → Bool
-is_other stop b = not (b == stop)
-
 -- a tab is a space
-abbrev pub untabbed : ℕ → ℕ
-untabbed b = if b == 9 then 32 else b
+abbrev pub without_tab : ℕ → ℕ
+without_tab b = if b == 9 then 32 else b
 
 -- what is read of a line; its bytes keep their places
-abbrev pub plain : List ℕ → List ℕ
-plain line = map untabbed (before_comment (without_return line))
+abbrev pub plain_text : List ℕ → List ℕ
+plain_text line = map without_tab (before_comment (without_return line))
 
 -- a line by its number, counted from 1, with its tokens up to the first misspelling, if it has one
 pub record TokenLine : Type 0 where
@@ -63,7 +59,7 @@ IsFilled ts m = Unit {0}
 -- this line, of this number, is that one
 pub record IsLine (n : ℕ) (bytes : List ℕ) (l : TokenLine) : Type 0 where
   pub number : l.number ≡ n
-  pub text : l.text ≡ plain bytes
+  pub text : l.text ≡ plain_text bytes
   pub spelled : SpellsUntil 0 l.text l.tokens l.misspelling
 
 -- something stands in it: a token or a misspelling
@@ -74,17 +70,11 @@ HasTokens l = IsFilled l.tokens l.misspelling
 abbrev pub AreLines : ℕ → List (List ℕ) → List TokenLine → Type 0
 AreLines n [] lines = lines ≡ end_line n ∷ []
 AreLines n (bytes ∷ more) lines =
-    (SpellsUntil 0 (plain bytes) [] None × AreLines (n + 1) more lines)
+    (SpellsUntil 0 (plain_text bytes) [] None × AreLines (n + 1) more lines)
     ⊎ ((l : TokenLine) × (rest : List TokenLine) × (lines ≡ l ∷ rest) × IsLine n bytes l × HasTokens l × AreLines (n + 1) more rest)
 
 abbrev pub AreLinesOf : List ℕ → List TokenLine → Type 0
 AreLinesOf bytes lines = AreLines 1 (split_lines bytes) lines
-
--- a line was put behind others, if it has tokens
-abbrev pub Added : ℕ → List ℕ → List TokenLine → List TokenLine → Type 0
-Added n bytes old new =
-    (SpellsUntil 0 (plain bytes) [] None × (new ≡ old))
-    ⊎ ((l : TokenLine) × (new ≡ old ++ l ∷ []) × IsLine n bytes l × HasTokens l)
 
 -- the letters of a line, and of lines one after the other
 abbrev pub line_letters : TokenLine → List Letter

@@ -1,51 +1,51 @@
 -- What a question file asks, as contracts compare it: each vector by the list of its items.
 use Rattle.std.specs.Prelude.{ℕ, List, map}
-use Rattle.it_syntax.specs.Vocabulary.{Vocabulary}
-use Rattle.it_syntax.specs.Meaning.{Stated, stated}
-use Rattle.it_syntax.specs.Givens.{Condition, condition}
+use Rattle.it_syntax.specs.NamesViews.{NamesView}
+use Rattle.it_syntax.specs.Meaning.{RelationView, relation_view}
+use Rattle.it_syntax.specs.Givens.{GivenView, given_view}
 use Rattle.it_question.specs.declared.types.Question.{Question}
 use Rattle.it_question.specs.declared.types.Region.{Region}
 use Rattle.it_question.specs.declared.types.Verb.{Verb}
 use Rattle.it_question.specs.declared.types.Verb.TheVariants as verbs
 
 -- the constraints of `given` lines, and of `row` lines, in order
-pub record Lines : Type 0 where
-  pub givens : List Condition
-  pub rows : List Stated
+pub record OwnLinesView : Type 0 where
+  pub givens : List GivenView
+  pub rows : List RelationView
 
 -- a region by the names of its variables and of the rates, how many of the variables are its own, and its own lines
-pub record Bounded : Type 0 where
-  pub names : Vocabulary
+pub record RegionView : Type 0 where
+  pub names : NamesView
   pub auxiliaries : ℕ
-  pub lines : Lines
+  pub lines : OwnLinesView
 
 -- Each of `tries` gives a set for each auxiliary of the second region.
-pub data Aim : Type 0 where
-  Proves : (relation : Stated) → Aim
-  Eliminates : (rates : List ℕ) → Aim
-  Contains : (first second : Bounded) (tries : List (List ℕ)) → Aim
+pub data VerbView : Type 0 where
+  Prove : (relation : RelationView) → VerbView
+  Eliminate : (rates : List ℕ) → VerbView
+  Contain : (first second : RegionView) (tries : List (List ℕ)) → VerbView
 
 -- a question without its text
-pub record Posed : Type 0 where
-  pub names : Vocabulary
-  pub lines : Lines
-  pub aim : Aim
+pub record BodyView : Type 0 where
+  pub names : NamesView
+  pub lines : OwnLinesView
+  pub verb : VerbView
 
 -- and with it
-pub record Asked : Type 0 where
-  pub posed : Posed
+pub record QuestionView : Type 0 where
+  pub body : BodyView
   pub text : List ℕ
 
-abbrev pub bounded : Region → Bounded
-bounded r = record { names = r.names; auxiliaries = r.auxiliaries; lines = record { givens = map condition r.givens.items; rows = map stated r.rows.items } }
+abbrev pub region_view : Region → RegionView
+region_view r = record { names = r.names; auxiliaries = r.auxiliaries; lines = record { givens = map given_view r.givens.items; rows = map relation_view r.rows.items } }
 
-abbrev pub aim : Verb → Aim
-aim (verbs.Prove r) = Proves (stated r)
-aim (verbs.Eliminate rates) = Eliminates rates.items
-aim (verbs.Contain first second tries) = Contains (bounded first) (bounded second) tries.items
+abbrev pub verb_view : Verb → VerbView
+verb_view (verbs.Prove r) = Prove (relation_view r)
+verb_view (verbs.Eliminate rates) = Eliminate rates.items
+verb_view (verbs.Contain first second tries) = Contain (region_view first) (region_view second) tries.items
 
-abbrev pub posed : Question → Posed
-posed q = record { names = q.names; lines = record { givens = map condition q.givens.items; rows = map stated q.rows.items }; aim = aim q.verb }
+abbrev pub question_body : Question → BodyView
+question_body q = record { names = q.names; lines = record { givens = map given_view q.givens.items; rows = map relation_view q.rows.items }; verb = verb_view q.verb }
 
-abbrev pub asked : Question → Asked
-asked q = record { posed = posed q; text = q.text.items }
+abbrev pub question_view : Question → QuestionView
+question_view q = record { body = question_body q; text = q.text.items }

@@ -1,25 +1,29 @@
 -- Reading the letters of a file from left to right, each part by one function: its value and the letters left, or the fault. The
--- laws tie it to how files are spelled.
+-- laws tie it to how files are spelled. No public clause cites it.
 use Rattle.std.specs.Prelude.{ℕ, zero, suc, ◌+◌, ◌-◌, Result, Bool, true, false, List, [], ◌∷◌, ◌++◌, length, Option, Some, None, Ok, Err, if◌then◌else◌, bytes_eq}
 use Rattle.it_syntax.specs.declared.types.Symbol.TheVariants.{Comma, Semicolon, Assign}
 use Rattle.it_syntax.specs.declared.types.Code.TheVariants as codes
-use Rattle.it_syntax.specs.Vocabulary.{Vocabulary}
+use Rattle.it_syntax.specs.NamesViews.{NamesView}
 use Rattle.it_syntax.specs.Letters.{Letter, Word, Number, Sym, End, Bad}
 use Rattle.it_syntax.specs.Lines.{to_end}
-use Rattle.it_syntax.specs.Reading.{Fault, Reads, ◌>>=◌, stuck, stuck_at, read_list, line_end}
-use Rattle.it_syntax.specs.Trees.{Environment, is_measure}
-use Rattle.it_syntax.specs.Relations.{env_of}
-use Rattle.it_syntax.specs.ComparisonLines.{scope_of}
-use Rattle.it_syntax.specs.ComparisonReading.{read_comparison}
-use Rattle.it_syntax.specs.ConditionReading.{read_condition}
+use Rattle.it_syntax.specs.AtomReading.{Fault, Reads, ◌>>=◌, no_rule, no_rule_at, read_list, line_end}
+use Rattle.it_syntax.specs.WrittenAtoms.{Environment, is_measure}
+use Rattle.it_syntax.specs.Scopes.{env_of}
+use Rattle.it_syntax.specs.Scopes.{scope_of}
+use Rattle.it_syntax.specs.RelationReading.{read_relation}
+use Rattle.it_syntax.specs.GivenReading.{read_given}
 use Rattle.it_question.specs.Keywords.{vars_text, rates_text, given_text, row_text, region_text, aux_text, try_text, prove_text, eliminate_text, contain_text}
-use Rattle.it_question.specs.Questions.{Lines, Bounded, Aim, Proves, Eliminates, Contains, Posed}
-use Rattle.it_question.specs.Trees.{Sort, Variable, Rate, Sets, with_name, no_names, is_taken, no_lines, is_among, rates_env, unnamed, is_named, with_set, is_whole, sets_of, auxiliaries_left, auxiliary_env, givens_left, rows_left, most_questions, most_variables, most_rates, most_lines}
+use Rattle.it_question.specs.Questions.{OwnLinesView, RegionView, VerbView, Prove, Eliminate, Contain, BodyView}
+use Rattle.it_question.specs.NewNames.{Sort, Variable, Rate, with_name, no_names, is_taken}
+use Rattle.it_question.specs.WrittenTries.{Sets, unnamed_sets, is_named, with_set, is_whole, sets_of}
+use Rattle.it_question.specs.WrittenLines.{no_lines, is_among, rates_env}
+use Rattle.it_question.specs.WrittenRegions.{auxiliaries_left, auxiliary_env, givens_left, rows_left}
+use Rattle.it_question.specs.WrittenQuestions.{most_questions, most_variables, most_rates, most_lines}
 
 -- a word that must stand there
 unfoldable pub read_word : List ℕ → List Letter → Reads (Unit {0})
-read_word text (Word w ∷ ls) = if bytes_eq w text then Ok (tt, ls) else stuck (Word w ∷ ls)
-read_word text ls = stuck ls
+read_word text (Word w ∷ ls) = if bytes_eq w text then Ok (tt, ls) else no_rule (Word w ∷ ls)
+read_word text ls = no_rule ls
 
 -- whether this word stands there, and what is behind it
 unfoldable pub behind_word : List ℕ → List Letter → Option (List Letter)
@@ -28,72 +32,72 @@ behind_word text ls = None
 
 -- ---- new names
 
-abbrev pub newly : Sort → ℕ → Vocabulary → List ℕ → Bool → Bool → List Letter → Reads Vocabulary
-newly sort n v w true taken ls = Err (codes.Word, Word w ∷ ls)
-newly sort n v w false true ls = Err (codes.Twice, Word w ∷ ls)
-newly sort zero v w false false ls = Err (codes.Many, Word w ∷ ls)
-newly sort (suc n) v w false false ls = Ok (with_name sort v w, ls)
+abbrev pub new_name_or_fault : Sort → ℕ → NamesView → List ℕ → Bool → Bool → List Letter → Reads NamesView
+new_name_or_fault sort n v w true taken ls = Err (codes.Word, Word w ∷ ls)
+new_name_or_fault sort n v w false true ls = Err (codes.Twice, Word w ∷ ls)
+new_name_or_fault sort zero v w false false ls = Err (codes.Many, Word w ∷ ls)
+new_name_or_fault sort (suc n) v w false false ls = Ok (with_name sort v w, ls)
 
-unfoldable pub read_new : Sort → ℕ → Vocabulary → List Letter → Reads Vocabulary
-read_new sort n v (Word w ∷ ls) = newly sort n v w (is_measure w) (is_taken v w) ls
-read_new sort n v ls = stuck ls
+unfoldable pub read_new : Sort → ℕ → NamesView → List Letter → Reads NamesView
+read_new sort n v (Word w ∷ ls) = new_name_or_fault sort n v w (is_measure w) (is_taken v w) ls
+read_new sort n v ls = no_rule ls
 
 -- further names, each behind a comma, of which n are allowed
-unfoldable pub read_new_more : Sort → ℕ → Vocabulary → List Letter → Reads Vocabulary
+unfoldable pub read_new_more : Sort → ℕ → NamesView → List Letter → Reads NamesView
 read_new_more sort zero v (Sym Comma ∷ ls) = read_new sort zero v ls
 read_new_more sort (suc n) v (Sym Comma ∷ ls) = do
   x ← read_new sort (suc n) v ls
   read_new_more sort n x.0 x.1
 read_new_more sort n v ls = Ok (v, ls)
 
-unfoldable pub read_new_names : Sort → ℕ → Vocabulary → List Letter → Reads Vocabulary
+unfoldable pub read_new_names : Sort → ℕ → NamesView → List Letter → Reads NamesView
 read_new_names sort n v ls = do
   x ← read_new sort n v ls
   read_new_more sort (n - 1) x.0 x.1
 
 -- a line of new names behind its keyword, or none
-abbrev pub if_behind : Sort → ℕ → Vocabulary → Option (List Letter) → List Letter → Reads Vocabulary
+abbrev pub if_behind : Sort → ℕ → NamesView → Option (List Letter) → List Letter → Reads NamesView
 if_behind sort n v (Some behind) ls = to_end (read_new_names sort n v) behind
 if_behind sort n v None ls = Ok (v, ls)
 
-unfoldable pub read_names_line : Sort → ℕ → List ℕ → Vocabulary → List Letter → Reads Vocabulary
+unfoldable pub read_names_line : Sort → ℕ → List ℕ → NamesView → List Letter → Reads NamesView
 read_names_line sort n keyword v ls = if_behind sort n v (behind_word keyword ls) ls
 
 -- ---- `given` and `row` lines, of which g and r are allowed
 
 -- what stands behind a keyword, if more such lines are allowed
-abbrev pub limited : {A : Type 0} → ℕ → (List Letter → Reads A) → List Letter → List Letter → Reads A
-limited zero f behind ls = Err (codes.Many, ls)
-limited (suc n) f behind ls = f behind
+abbrev pub within_limit : {A : Type 0} → ℕ → (List Letter → Reads A) → List Letter → List Letter → Reads A
+within_limit zero f behind ls = Err (codes.Many, ls)
+within_limit (suc n) f behind ls = f behind
 
-abbrev pub given_then : (List Letter → Reads Lines) → Vocabulary → List Letter → Reads Lines
+abbrev pub given_then : (List Letter → Reads OwnLinesView) → NamesView → List Letter → Reads OwnLinesView
 given_then f v ls = do
-  x ← to_end (read_condition (scope_of v false)) ls
+  x ← to_end (read_given (scope_of v false)) ls
   own ← f x.1
   Ok (record { givens = x.0 ∷ own.0.givens; rows = own.0.rows }, own.1)
 
-abbrev pub row_then : (List Letter → Reads Lines) → Vocabulary → List Letter → Reads Lines
+abbrev pub row_then : (List Letter → Reads OwnLinesView) → NamesView → List Letter → Reads OwnLinesView
 row_then f v ls = do
-  x ← to_end (read_comparison (scope_of v true)) ls
+  x ← to_end (read_relation (scope_of v true)) ls
   own ← f x.1
   Ok (record { givens = own.0.givens; rows = x.0 ∷ own.0.rows }, own.1)
 
 -- what is read where `given` stands, where `row` stands, or nothing
-abbrev pub by_keyword : (List Letter → Reads Lines) → (List Letter → Reads Lines) → Option (List Letter) → Option (List Letter) → List Letter → Reads Lines
+abbrev pub by_keyword : (List Letter → Reads OwnLinesView) → (List Letter → Reads OwnLinesView) → Option (List Letter) → Option (List Letter) → List Letter → Reads OwnLinesView
 by_keyword f h (Some behind) o ls = f behind
 by_keyword f h None (Some behind) ls = h behind
 by_keyword f h None None ls = Ok (no_lines, ls)
 
 -- n is g + r
-unfoldable pub read_own : ℕ → ℕ → ℕ → Vocabulary → List Letter → Reads Lines
+unfoldable pub read_own : ℕ → ℕ → ℕ → NamesView → List Letter → Reads OwnLinesView
 read_own zero g r v ls = by_keyword (λ behind. Err (codes.Many, ls)) (λ behind. Err (codes.Many, ls)) (behind_word given_text ls) (behind_word row_text ls) ls
-read_own (suc n) g r v ls = by_keyword (λ behind. limited g (given_then (read_own n (g - 1) r v) v) behind ls) (λ behind. limited r (row_then (read_own n g (r - 1) v) v) behind ls) (behind_word given_text ls) (behind_word row_text ls) ls
+read_own (suc n) g r v ls = by_keyword (λ behind. within_limit g (given_then (read_own n (g - 1) r v) v) behind ls) (λ behind. within_limit r (row_then (read_own n g (r - 1) v) v) behind ls) (behind_word given_text ls) (behind_word row_text ls) ls
 
 -- lines read before, and those still read
-abbrev pub with_lines : Lines → Reads Lines → Reads Lines
+abbrev pub with_lines : OwnLinesView → Reads OwnLinesView → Reads OwnLinesView
 with_lines front rest = rest >>= λ x. Ok (record { givens = front.givens ++ x.0.givens; rows = front.rows ++ x.0.rows }, x.1)
 
-unfoldable pub read_lines : ℕ → ℕ → Vocabulary → List Letter → Reads Lines
+unfoldable pub read_lines : ℕ → ℕ → NamesView → List Letter → Reads OwnLinesView
 read_lines g r v ls = read_own (g + r) g r v ls
 
 -- ---- the rates of an `eliminate` line
@@ -103,22 +107,22 @@ abbrev pub if_unseen : ℕ → List ℕ → Bool → List Letter → List Letter
 if_unseen i w true behind ls = Err (codes.Twice, ls)
 if_unseen i w false behind ls = Ok (i, behind)
 
-abbrev pub once : Bool → List ℕ → Option ℕ → List ℕ → List Letter → Reads ℕ
-once true seen o w ls = Err (codes.Word, Word w ∷ ls)
-once false seen None w ls = Err (codes.Name, Word w ∷ ls)
-once false seen (Some i) w ls = if_unseen i w (is_among seen i) ls (Word w ∷ ls)
+abbrev pub rate_once : Bool → List ℕ → Option ℕ → List ℕ → List Letter → Reads ℕ
+rate_once true seen o w ls = Err (codes.Word, Word w ∷ ls)
+rate_once false seen None w ls = Err (codes.Name, Word w ∷ ls)
+rate_once false seen (Some i) w ls = if_unseen i w (is_among seen i) ls (Word w ∷ ls)
 
 unfoldable pub read_once : Environment → List ℕ → List Letter → Reads ℕ
-read_once env seen (Word w ∷ ls) = once (is_measure w) seen (env w) w ls
-read_once env seen ls = stuck ls
+read_once env seen (Word w ∷ ls) = rate_once (is_measure w) seen (env w) w ls
+read_once env seen ls = no_rule ls
 
 -- further rates, each behind a comma
 unfoldable pub read_once_more : Environment → List ℕ → List Letter → Reads (List ℕ)
 read_once_more env seen (Sym Comma ∷ Word w ∷ ls) = do
-  i ← once (is_measure w) seen (env w) w ls
+  i ← rate_once (is_measure w) seen (env w) w ls
   more ← read_once_more env (seen ++ i.0 ∷ []) ls
   Ok (i.0 ∷ more.0, more.1)
-read_once_more env seen (Sym Comma ∷ ls) = stuck ls
+read_once_more env seen (Sym Comma ∷ ls) = no_rule ls
 read_once_more env seen ls = Ok ([], ls)
 
 unfoldable pub read_distinct : Environment → List Letter → Reads (List ℕ)
@@ -131,12 +135,12 @@ read_distinct env ls = do
 
 unfoldable pub read_assign : List Letter → Result (List Letter) Fault
 read_assign (Sym Assign ∷ ls) = Ok ls
-read_assign ls = stuck_at ls
+read_assign ls = no_rule_at ls
 
 -- `0`, or names
 unfoldable pub read_set : Environment → List Letter → Reads ℕ
 read_set env (Number zero ∷ ls) = Ok (0, ls)
-read_set env (Number (suc n) ∷ ls) = stuck (Number (suc n) ∷ ls)
+read_set env (Number (suc n) ∷ ls) = no_rule (Number (suc n) ∷ ls)
 read_set env ls = read_list env ls
 
 abbrev pub if_unnamed : ℕ → Bool → List Letter → List Letter → Reads ℕ
@@ -150,7 +154,7 @@ auxiliary false sets (Some i) w ls = if_unnamed i (is_named sets i) ls (Word w �
 
 unfoldable pub read_auxiliary : Environment → Sets → List Letter → Reads ℕ
 read_auxiliary aux sets (Word w ∷ ls) = auxiliary (is_measure w) sets (aux w) w ls
-read_auxiliary aux sets ls = stuck ls
+read_auxiliary aux sets ls = no_rule ls
 
 -- `name := set`
 unfoldable pub read_part : Environment → Environment → Sets → List Letter → Reads Sets
@@ -176,7 +180,7 @@ read_parts n aux env sets ls = Ok (sets, ls)
 unfoldable pub read_whole : Bool → List Letter → Reads (Unit {0})
 read_whole true ls = line_end ls
 read_whole false (End ∷ ls) = Err (codes.Word, End ∷ ls)
-read_whole false ls = stuck ls
+read_whole false ls = no_rule ls
 
 unfoldable pub read_try : Environment → Environment → Sets → List Letter → Reads (List ℕ)
 read_try aux env sets ls = do
@@ -186,9 +190,9 @@ read_try aux env sets ls = do
   Ok (sets_of y.0, e.1)
 
 -- what stands behind `try`, if such a line may stand there and more are allowed
-abbrev pub allowed : {A : Type 0} → Bool → ℕ → (List Letter → Reads A) → List Letter → List Letter → Reads A
-allowed true n f behind ls = Err (codes.Word, ls)
-allowed false n f behind ls = limited n f behind ls
+abbrev pub if_allowed : {A : Type 0} → Bool → ℕ → (List Letter → Reads A) → List Letter → List Letter → Reads A
+if_allowed true n f behind ls = Err (codes.Word, ls)
+if_allowed false n f behind ls = within_limit n f behind ls
 
 abbrev pub try_then : (List Letter → Reads (List (List ℕ))) → Environment → Environment → Sets → List Letter → Reads (List (List ℕ))
 try_then f aux env sets ls = do
@@ -201,13 +205,13 @@ if_tried f (Some behind) ls = f behind
 if_tried f None ls = Ok ([], ls)
 
 unfoldable pub read_tries : ℕ → Environment → Environment → Sets → List Letter → Reads (List (List ℕ))
-read_tries zero aux env sets ls = if_tried (λ behind. allowed (is_whole sets) 0 (try_then (λ more. Ok ([], more)) aux env sets) behind ls) (behind_word try_text ls) ls
-read_tries (suc n) aux env sets ls = if_tried (λ behind. allowed (is_whole sets) (suc n) (try_then (read_tries n aux env sets) aux env sets) behind ls) (behind_word try_text ls) ls
+read_tries zero aux env sets ls = if_tried (λ behind. if_allowed (is_whole sets) 0 (try_then (λ more. Ok ([], more)) aux env sets) behind ls) (behind_word try_text ls) ls
+read_tries (suc n) aux env sets ls = if_tried (λ behind. if_allowed (is_whole sets) (suc n) (try_then (read_tries n aux env sets) aux env sets) behind ls) (behind_word try_text ls) ls
 
 -- ---- regions
 
 -- behind `region`
-unfoldable pub read_region : ℕ → ℕ → Vocabulary → List Letter → Reads Bounded
+unfoldable pub read_region : ℕ → ℕ → NamesView → List Letter → Reads RegionView
 read_region g r v ls = do
   e ← line_end ls
   names ← read_names_line Variable (auxiliaries_left v) aux_text v e.1
@@ -221,59 +225,59 @@ read_word_line text ls = do
   line_end x.1
 
 -- behind the first `region`
-unfoldable pub read_containment : ℕ → ℕ → Vocabulary → List Letter → Reads Aim
+unfoldable pub read_containment : ℕ → ℕ → NamesView → List Letter → Reads VerbView
 read_containment g r v ls = do
   first ← read_region g r v ls
   x ← read_word region_text first.1
   second ← read_region (givens_left g first.0.lines) (rows_left r first.0.lines) v x.1
-  tries ← read_tries most_lines (auxiliary_env v second.0.names) (env_of first.0.names) (unnamed second.0.auxiliaries) second.1
+  tries ← read_tries most_lines (auxiliary_env v second.0.names) (env_of first.0.names) (unnamed_sets second.0.auxiliaries) second.1
   e ← read_word_line contain_text tries.1
-  Ok (Contains first.0 second.0 tries.0, e.1)
+  Ok (Contain first.0 second.0 tries.0, e.1)
 
 -- ---- questions and files
 
-unfoldable pub read_proof : Vocabulary → List Letter → Reads Aim
+unfoldable pub read_proof : NamesView → List Letter → Reads VerbView
 read_proof v ls = do
-  x ← to_end (read_comparison (scope_of v true)) ls
-  Ok (Proves x.0, x.1)
+  x ← to_end (read_relation (scope_of v true)) ls
+  Ok (Prove x.0, x.1)
 
-unfoldable pub read_elimination : Vocabulary → List Letter → Reads Aim
+unfoldable pub read_elimination : NamesView → List Letter → Reads VerbView
 read_elimination v ls = do
   x ← to_end (read_distinct (rates_env v)) ls
-  Ok (Eliminates x.0, x.1)
+  Ok (Eliminate x.0, x.1)
 
-unfoldable pub read_aim : ℕ → ℕ → Vocabulary → List Letter → Reads Aim
-read_aim g r v (Word w ∷ ls) = if bytes_eq w prove_text then read_proof v ls else (if bytes_eq w eliminate_text then read_elimination v ls else (if bytes_eq w region_text then read_containment g r v ls else stuck (Word w ∷ ls)))
-read_aim g r v ls = stuck ls
+unfoldable pub read_verb : ℕ → ℕ → NamesView → List Letter → Reads VerbView
+read_verb g r v (Word w ∷ ls) = if bytes_eq w prove_text then read_proof v ls else (if bytes_eq w eliminate_text then read_elimination v ls else (if bytes_eq w region_text then read_containment g r v ls else no_rule (Word w ∷ ls)))
+read_verb g r v ls = no_rule ls
 
 -- behind `vars`
-unfoldable pub read_question : List Letter → Reads Posed
+unfoldable pub read_question : List Letter → Reads BodyView
 read_question ls = do
   variables ← to_end (read_new_names Variable most_variables no_names) ls
   names ← read_names_line Rate most_rates rates_text variables.0 variables.1
   own ← read_lines most_lines most_lines names.0 names.1
-  aim ← read_aim (givens_left most_lines own.0) (rows_left most_lines own.0) names.0 own.1
-  Ok (record { names = names.0; lines = own.0; aim = aim.0 }, aim.1)
+  aim ← read_verb (givens_left most_lines own.0) (rows_left most_lines own.0) names.0 own.1
+  Ok (record { names = names.0; lines = own.0; verb = aim.0 }, aim.1)
 
 -- the file's end
-unfoldable pub read_end : List Letter → Reads (List Posed)
+unfoldable pub read_end : List Letter → Reads (List BodyView)
 read_end (Bad codes.Unfinished ∷ ls) = Ok ([], ls)
-read_end ls = stuck ls
+read_end ls = no_rule ls
 
-abbrev pub question_then : (List Letter → Reads (List Posed)) → List Letter → Reads (List Posed)
+abbrev pub question_then : (List Letter → Reads (List BodyView)) → List Letter → Reads (List BodyView)
 question_then f ls = do
   q ← read_question ls
   qs ← f q.1
   Ok (q.0 ∷ qs.0, qs.1)
 
-abbrev pub if_asked : (List Letter → Reads (List Posed)) → Option (List Letter) → List Letter → Reads (List Posed)
-if_asked f (Some behind) ls = f behind
-if_asked f None ls = read_end ls
+abbrev pub if_question : (List Letter → Reads (List BodyView)) → Option (List Letter) → List Letter → Reads (List BodyView)
+if_question f (Some behind) ls = f behind
+if_question f None ls = read_end ls
 
 -- questions up to the file's end, of which n are allowed
-unfoldable pub read_questions : ℕ → List Letter → Reads (List Posed)
-read_questions zero ls = if_asked (λ behind. Err (codes.Many, ls)) (behind_word vars_text ls) ls
-read_questions (suc n) ls = if_asked (question_then (read_questions n)) (behind_word vars_text ls) ls
+unfoldable pub read_questions : ℕ → List Letter → Reads (List BodyView)
+read_questions zero ls = if_question (λ behind. Err (codes.Many, ls)) (behind_word vars_text ls) ls
+read_questions (suc n) ls = if_question (question_then (read_questions n)) (behind_word vars_text ls) ls
 
-unfoldable pub read_file : List Letter → Reads (List Posed)
+unfoldable pub read_file : List Letter → Reads (List BodyView)
 read_file ls = read_questions most_questions ls

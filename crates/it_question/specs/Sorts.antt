@@ -1,20 +1,20 @@
--- What the code calls the sorts of names, and the room for them.
+-- What the code calls the sorts of names, and the room for them. No public clause cites it.
 use Rattle.std.specs.Prelude.{◌≡◌, ℕ, ◌+◌, ◌≤◌, length}
-use Rattle.it_syntax.specs.Vocabulary.{Vocabulary}
+use Rattle.it_syntax.specs.NamesViews.{NamesView}
 use Rattle.it_question.specs.declared.sorts.NameSort.{NameSort}
 use Rattle.it_question.specs.declared.sorts.NameSort.TheVariants as sorts
-use Rattle.it_question.specs.Trees.{Sort, Variable, Rate}
+use Rattle.it_question.specs.NewNames.{Sort, Variable, Rate}
 
 abbrev pub sort_of : NameSort → Sort
 sort_of sorts.Variable = Variable
 sort_of sorts.Rate = Rate
 
 -- n more names of the sort can be declared
-abbrev pub HasRoom : NameSort → ℕ → Vocabulary → Type 0
+abbrev pub HasRoom : NameSort → ℕ → NamesView → Type 0
 HasRoom sorts.Variable n v = length v.variables + n ≤ 10
 HasRoom sorts.Rate n v = length v.rates + n ≤ 16
 
 -- variables leave the rates as they were
-abbrev pub KeepsRates : NameSort → Vocabulary → Vocabulary → Type 0
+abbrev pub KeepsRates : NameSort → NamesView → NamesView → Type 0
 KeepsRates sorts.Variable old new = new.rates ≡ old.rates
 KeepsRates sorts.Rate old new = Unit {0}

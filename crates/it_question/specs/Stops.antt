@@ -1,4 +1,4 @@
--- What the code tells where reading stopped.
+-- What the code tells where reading stopped. No public clause cites it.
 use Rattle.std.specs.Prelude.{◌≡◌, ℕ, ◌-◌, ◌<◌, ◌≤◌, List, length, Option, Some}
 use Rattle.it_syntax.specs.declared.types.Code.{Code}
 use Rattle.it_syntax.specs.declared.rest.Stop.{Stop}

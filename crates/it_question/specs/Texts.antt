@@ -1,7 +1,7 @@
 -- The text of a question: its lines from `vars` to the verb, each without blanks at both ends and with a line feed behind it.
 use Rattle.std.specs.Prelude.{ℕ, ◌+◌, ◌==◌, List, [], ◌∷◌, ◌++◌, length, take, drop, if◌then◌else◌}
 use Rattle.it_question.specs.Lines.{TokenLine}
-use Rattle.it_question.specs.Questions.{Lines, Bounded, Aim, Proves, Eliminates, Contains, Posed, Asked}
+use Rattle.it_question.specs.Questions.{OwnLinesView, RegionView, VerbView, Prove, Eliminate, Contain, BodyView, QuestionView}
 
 abbrev pub without_leading : List ℕ → List ℕ
 without_leading [] = []
@@ -15,12 +15,12 @@ abbrev pub without_trailing : List ℕ → List ℕ
 without_trailing [] = []
 without_trailing (b ∷ bytes) = unless_blank b (without_trailing bytes)
 
-abbrev pub trimmed : List ℕ → List ℕ
-trimmed line = without_trailing (without_leading line)
+abbrev pub trimmed_line : List ℕ → List ℕ
+trimmed_line line = without_trailing (without_leading line)
 
 abbrev pub text_of_lines : List TokenLine → List ℕ
 text_of_lines [] = []
-text_of_lines (l ∷ ls) = trimmed l.text ++ 10 ∷ text_of_lines ls
+text_of_lines (l ∷ ls) = trimmed_line l.text ++ 10 ∷ text_of_lines ls
 
 -- ---- how many lines a question has
 
@@ -29,26 +29,26 @@ abbrev pub one_if_some : {X : Type 0} → List X → ℕ
 one_if_some [] = 0
 one_if_some (x ∷ xs) = 1
 
-abbrev pub own_lines : Lines → ℕ
+abbrev pub own_lines : OwnLinesView → ℕ
 own_lines own = length own.givens + length own.rows
 
 abbrev pub one_unless_zero : ℕ → ℕ
 one_unless_zero n = if n == 0 then 0 else 1
 
 -- with its `region` line
-abbrev pub region_lines : Bounded → ℕ
+abbrev pub region_lines : RegionView → ℕ
 region_lines r = 1 + one_unless_zero r.auxiliaries + own_lines r.lines
 
 -- with the verb's line
-abbrev pub aim_lines : Aim → ℕ
-aim_lines (Proves r) = 1
-aim_lines (Eliminates rates) = 1
-aim_lines (Contains first second tries) = region_lines first + region_lines second + length tries + 1
+abbrev pub verb_lines : VerbView → ℕ
+verb_lines (Prove r) = 1
+verb_lines (Eliminate rates) = 1
+verb_lines (Contain first second tries) = region_lines first + region_lines second + length tries + 1
 
-abbrev pub question_lines : Posed → ℕ
-question_lines q = 1 + one_if_some q.names.rates + own_lines q.lines + aim_lines q.aim
+abbrev pub question_lines : BodyView → ℕ
+question_lines q = 1 + one_if_some q.names.rates + own_lines q.lines + verb_lines q.verb
 
 -- the questions of these lines, one after the other, with their texts
-abbrev pub with_texts : List TokenLine → List Posed → List Asked
+abbrev pub with_texts : List TokenLine → List BodyView → List QuestionView
 with_texts lines [] = []
-with_texts lines (q ∷ qs) = record { posed = q; text = text_of_lines (take (question_lines q) lines) } ∷ with_texts (drop (question_lines q) lines) qs
+with_texts lines (q ∷ qs) = record { body = q; text = text_of_lines (take (question_lines q) lines) } ∷ with_texts (drop (question_lines q) lines) qs

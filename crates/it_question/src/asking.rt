@@ -2,10 +2,10 @@
 ghost use Rattle.std.specs.Prelude.{◌≡◌, ◌++◌, [], ◌∷◌, map, OnOk, IfErr};
 ghost use Rattle.it_syntax.specs.declared.rest.Stop.TheVariants.{Memory};
 ghost use Rattle.it_syntax.specs.Gives.{GivesBy};
-ghost use Rattle.it_question.specs.Bodies.{body};
+ghost use Rattle.it_question.specs.Bodies.{body_view};
 ghost use Rattle.it_question.specs.Cursors.{left};
-ghost use Rattle.it_question.specs.Questions.{aim};
-ghost use Rattle.it_question.specs.Reading.{read_proof, read_elimination, read_aim, read_question, read_end, read_file};
+ghost use Rattle.it_question.specs.Questions.{verb_view};
+ghost use Rattle.it_question.specs.Reading.{read_proof, read_elimination, read_verb, read_question, read_end, read_file};
 
 use crate::bodies::Body;
 use crate::cursor::Cursor;
@@ -32,7 +32,7 @@ const MOST_LINES: usize = 64;
 /// What is to be proved, behind its `prove`.
 #[tactic(auto, unfolding(crate::specs::Reading::read_proof))]
 fn proof(alloc: Global, cursor: &mut Cursor<'_>, names: &Names) -> Result<Verb, Stop>
-    ensures { GivesBy aim result (left cursor.new) (read_proof names.now (left cursor.old)) }
+    ensures { GivesBy verb_view result (left cursor.new) (read_proof names.now (left cursor.old)) }
 {
     let relation = relation(alloc, cursor, names)?;
     Ok(Verb::Prove(relation))
@@ -41,14 +41,14 @@ fn proof(alloc: Global, cursor: &mut Cursor<'_>, names: &Names) -> Result<Verb, 
 /// The rates to be eliminated, behind `eliminate`.
 #[tactic(auto, unfolding(crate::specs::Reading::read_elimination))]
 fn elimination(alloc: Global, cursor: &mut Cursor<'_>, names: &Names) -> Result<Verb, Stop>
-    ensures { GivesBy aim result (left cursor.new) (read_elimination names.now (left cursor.old)) }
+    ensures { GivesBy verb_view result (left cursor.new) (read_elimination names.now (left cursor.old)) }
 {
     let rates = rates(alloc, cursor, names)?;
     Ok(Verb::Eliminate(rates))
 }
 
 /// What is asked, if so many more lines of each kind may stand in regions.
-#[tactic(auto, unfolding(crate::specs::Reading::read_aim))]
+#[tactic(auto, unfolding(crate::specs::Reading::read_verb))]
 fn verb(
     alloc: Global,
     cursor: &mut Cursor<'_>,
@@ -56,7 +56,7 @@ fn verb(
     givens: usize,
     rows: usize,
 ) -> Result<Verb, Stop>
-    ensures { GivesBy aim result (left cursor.new) (read_aim givens rows names.now (left cursor.old)) }
+    ensures { GivesBy verb_view result (left cursor.new) (read_verb givens rows names.now (left cursor.old)) }
 {
     match cursor.front() {
         Some((Piece::Word(word), behind)) => {
@@ -81,7 +81,7 @@ fn verb(
 /// A question, behind its `vars`.
 #[tactic(auto, unfolding(crate::specs::Reading::read_question))]
 fn question(alloc: Global, cursor: &mut Cursor<'_>) -> Result<Body, Stop>
-    ensures { GivesBy body result (left cursor.new) (read_question (left cursor.old)) }
+    ensures { GivesBy body_view result (left cursor.new) (read_question (left cursor.old)) }
 {
     let mut names = Names::new(alloc);
     names_to_end(cursor, &mut names, NameSort::Variable, MOST_VARIABLES)?;
@@ -114,7 +114,7 @@ fn file_end(cursor: &mut Cursor<'_>) -> Result<(), Stop>
 }
 
 fn add(bodies: &mut Vec<Body>, next: Body) -> Result<(), Stop>
-    ensures added { OnOk result (map body bodies.new.items ≡ map body bodies.old.items ++ body next ∷ []) }
+    ensures added { OnOk result (map body_view bodies.new.items ≡ map body_view bodies.old.items ++ body_view next ∷ []) }
     ensures memory { IfErr result (λ e. e ≡ Memory) }
 {
     match bodies.push(next) {
@@ -126,7 +126,7 @@ fn add(bodies: &mut Vec<Body>, next: Body) -> Result<(), Stop>
 /// The questions up to the end of the file.
 #[tactic(auto, unfolding(crate::specs::Reading::read_file))]
 pub fn bodies(alloc: Global, cursor: &mut Cursor<'_>) -> Result<Vec<Body>, Stop>
-    ensures { GivesBy (λ x. map body x.items) result (left cursor.new) (read_file (left cursor.old)) }
+    ensures { GivesBy (λ x. map body_view x.items) result (left cursor.new) (read_file (left cursor.old)) }
 {
     let mut found = Vec::new(alloc);
     let mut allowed = MOST_QUESTIONS;

@@ -5,7 +5,7 @@ ghost use Rattle.it_question.specs.Files.{place_of, IsFile, IsFirstFileFault};
 ghost use Rattle.it_question.specs.Stops.{IsLeft, IfFault, IsFaultAt, IsStopAt};
 ghost use Rattle.it_question.specs.Limits.{IsQuestion};
 ghost use Rattle.it_question.specs.Lines.{letters_of_lines};
-ghost use Rattle.it_question.specs.Questions.{asked, posed};
+ghost use Rattle.it_question.specs.Questions.{question_view, question_body};
 
 use crate::asking::bodies;
 use crate::cursor::{Cursor, Line};
@@ -29,7 +29,7 @@ fn fault(lines: &[Line], cursor: Cursor<'_>, code: Code) -> FileFault
 }
 
 /// Why reading stopped at what is left of these lines.
-fn stopped(lines: &[Line], cursor: Cursor<'_>, stop: Stop) -> FileFault
+fn stop_fault(lines: &[Line], cursor: Cursor<'_>, stop: Stop) -> FileFault
     requires few { length (letters_of_lines (map token_line lines.now)) ≤ 2 ^ 32 }
     requires there { IfFault stop (IsLeft (map token_line lines.now) (left cursor)) }
     ensures { IsStopAt (place_of (map token_line lines.now) (left cursor.entry)) stop result }
@@ -51,8 +51,8 @@ fn stopped(lines: &[Line], cursor: Cursor<'_>, stop: Stop) -> FileFault
 /// token, and the file's end the line after the last one and column 1.
 pub fn questions(alloc: Global, bytes: &[u8]) -> Result<Vec<Question>, FileFault>
     requires { length bytes.now ≤ 1048577 }
-    ensures read { IfOk result (λ qs. IsFile bytes.now (map asked qs.items)) }
-    ensures limits { IfOk result (λ qs. All (λ q. IsQuestion (posed q)) qs.items) }
+    ensures read { IfOk result (λ qs. IsFile bytes.now (map question_view qs.items)) }
+    ensures limits { IfOk result (λ qs. All (λ q. IsQuestion (question_body q)) qs.items) }
     ensures fault { IfErr result (IsFirstFileFault bytes.now) }
 {
     let lines = file_lines(alloc, bytes)?;
@@ -62,6 +62,6 @@ pub fn questions(alloc: Global, bytes: &[u8]) -> Result<Vec<Question>, FileFault
             let questions = with_texts(alloc, lines.as_slice(), bodies)?;
             Ok(questions)
         }
-        Err(stop) => Err(stopped(lines.as_slice(), cursor, stop)),
+        Err(stop) => Err(stop_fault(lines.as_slice(), cursor, stop)),
     }
 }

@@ -2,10 +2,11 @@
 ghost use Rattle.std.specs.Bool.{OnTrue, OnFalse};
 ghost use Rattle.std.specs.Prelude.{◌≡◌, ◌≤◌, ◌++◌, [], ◌∷◌, length, map, None, IfOk, OnOk};
 ghost use Rattle.it_question.specs.Cursors.{token_line};
-ghost use Rattle.it_question.specs.Lines.{AreLinesOf, IsLine, HasTokens, Added, end_line};
+ghost use Rattle.it_question.specs.Lines.{AreLinesOf, IsLine, HasTokens, end_line};
+ghost use Rattle.it_question.specs.ReaderSteps.{Added};
 
 use crate::cursor::Line;
-use crate::plain::{first_line, plain};
+use crate::plain::{first_line, plain_text};
 use it_syntax::line_tokens;
 use it_syntax::types::{Code, LineTokens, Misspelling};
 use std::alloc::{AllocError, Global};
@@ -14,7 +15,7 @@ fn line_of(alloc: Global, number: u32, bytes: &[u8]) -> Result<Line, AllocError>
     requires { length bytes.now ≤ 1048577 }
     ensures { IfOk result (λ l. IsLine number bytes.now (token_line l)) }
 {
-    let text = plain(alloc, bytes)?;
+    let text = plain_text(alloc, bytes)?;
     let tokens = line_tokens(alloc, text.as_slice())?;
     Ok(Line {
         number,

@@ -6,7 +6,7 @@ ghost use Rattle.it_syntax.specs.Lines.{to_end};
 ghost use Rattle.it_question.specs.Cursors.{left};
 ghost use Rattle.it_question.specs.Reading.{read_new, read_new_more, read_new_names, read_names_line};
 ghost use Rattle.it_question.specs.Sorts.{sort_of, HasRoom, KeepsRates};
-ghost use Rattle.it_question.specs.Trees.{with_name, is_taken};
+ghost use Rattle.it_question.specs.NewNames.{with_name, is_taken};
 
 use crate::cursor::Cursor;
 use crate::sorts::NameSort;
@@ -16,7 +16,7 @@ use it_syntax::types::Code;
 use it_syntax::{Names, is_measure};
 
 /// Whether a variable or a rate has this name.
-#[tactic(auto, unfolding(crate::specs::Trees::is_taken))]
+#[tactic(auto, unfolding(crate::specs::NewNames::is_taken))]
 fn is_taken(names: &Names, word: &[u8]) -> bool
     ensures { result ≡ is_taken names.now word.now }
 {

@@ -1,13 +1,13 @@
 //! The reader of `given` and `row` lines.
 ghost use Rattle.std.specs.Prelude.{◌≡◌, ◌+◌, OnOk, IfErr};
 ghost use Rattle.it_syntax.specs.declared.rest.Stop.TheVariants.{Memory};
-ghost use Rattle.it_syntax.specs.Givens.{condition};
+ghost use Rattle.it_syntax.specs.Givens.{given_view};
 ghost use Rattle.it_syntax.specs.Gives.{GivesBy};
-ghost use Rattle.it_syntax.specs.Meaning.{stated};
-ghost use Rattle.it_question.specs.Bodies.{lines_of, with_given, with_row};
+ghost use Rattle.it_syntax.specs.Meaning.{relation_view};
+ghost use Rattle.it_question.specs.Bodies.{own_lines_view, with_given, with_row};
 ghost use Rattle.it_question.specs.Cursors.{left};
 ghost use Rattle.it_question.specs.Reading.{read_lines};
-ghost use Rattle.it_question.specs.Trees.{givens_left, rows_left};
+ghost use Rattle.it_question.specs.WrittenRegions.{givens_left, rows_left};
 
 use crate::bodies::OwnLines;
 use crate::cursor::Cursor;
@@ -21,21 +21,21 @@ use std::alloc::Global;
 impl OwnLines {
     /// How many more `given` lines may follow these.
     pub fn givens_left(&self, most: usize) -> usize
-        ensures { result ≡ givens_left most (lines_of self.now) }
+        ensures { result ≡ givens_left most (own_lines_view self.now) }
     {
         most.saturating_sub(self.givens.len())
     }
 
     /// How many more `row` lines may follow these.
     pub fn rows_left(&self, most: usize) -> usize
-        ensures { result ≡ rows_left most (lines_of self.now) }
+        ensures { result ≡ rows_left most (own_lines_view self.now) }
     {
         most.saturating_sub(self.rows.len())
     }
 }
 
 fn add_given(own: &mut OwnLines, given: Given) -> Result<(), Stop>
-    ensures added { OnOk result (lines_of own.new ≡ with_given (lines_of own.old) (condition given)) }
+    ensures added { OnOk result (own_lines_view own.new ≡ with_given (own_lines_view own.old) (given_view given)) }
     ensures memory { IfErr result (λ e. e ≡ Memory) }
 {
     match own.givens.push(given) {
@@ -45,7 +45,7 @@ fn add_given(own: &mut OwnLines, given: Given) -> Result<(), Stop>
 }
 
 fn add_row(own: &mut OwnLines, row: Relation) -> Result<(), Stop>
-    ensures added { OnOk result (lines_of own.new ≡ with_row (lines_of own.old) (stated row)) }
+    ensures added { OnOk result (own_lines_view own.new ≡ with_row (own_lines_view own.old) (relation_view row)) }
     ensures memory { IfErr result (λ e. e ≡ Memory) }
 {
     match own.rows.push(row) {
@@ -63,7 +63,7 @@ pub fn own_lines(
     most_givens: usize,
     most_rows: usize,
 ) -> Result<OwnLines, Stop>
-    ensures { GivesBy lines_of result (left cursor.new) (read_lines most_givens most_rows names.now (left cursor.old)) }
+    ensures { GivesBy own_lines_view result (left cursor.new) (read_lines most_givens most_rows names.now (left cursor.old)) }
 {
     let mut own = OwnLines {
         givens: Vec::new(alloc),

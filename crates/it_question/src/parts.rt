@@ -1,14 +1,14 @@
 //! Readers of what a line has behind its first word.
 ghost use Rattle.std.specs.Prelude.{false, true};
-ghost use Rattle.it_syntax.specs.ComparisonLines.{scope_of};
-ghost use Rattle.it_syntax.specs.ComparisonReading.{read_comparison};
-ghost use Rattle.it_syntax.specs.ConditionReading.{read_condition};
-ghost use Rattle.it_syntax.specs.Givens.{condition};
+ghost use Rattle.it_syntax.specs.Scopes.{scope_of};
+ghost use Rattle.it_syntax.specs.RelationReading.{read_relation};
+ghost use Rattle.it_syntax.specs.GivenReading.{read_given};
+ghost use Rattle.it_syntax.specs.Givens.{given_view};
 ghost use Rattle.it_syntax.specs.Gives.{Gives, GivesBy};
 ghost use Rattle.it_syntax.specs.Lines.{to_end};
-ghost use Rattle.it_syntax.specs.Meaning.{stated};
-ghost use Rattle.it_syntax.specs.Reading.{read_list};
-ghost use Rattle.it_syntax.specs.Relations.{env_of};
+ghost use Rattle.it_syntax.specs.Meaning.{relation_view};
+ghost use Rattle.it_syntax.specs.AtomReading.{read_list};
+ghost use Rattle.it_syntax.specs.Scopes.{env_of};
 ghost use Rattle.it_question.specs.Cursors.{left};
 
 use crate::cursor::Cursor;
@@ -21,7 +21,7 @@ use std::alloc::Global;
 
 /// A relation, with the line's end.
 pub fn relation(alloc: Global, cursor: &mut Cursor<'_>, names: &Names) -> Result<Relation, Stop>
-    ensures { GivesBy stated result (left cursor.new) (to_end (read_comparison (scope_of names.now true)) (left cursor.old)) }
+    ensures { GivesBy relation_view result (left cursor.new) (to_end (read_relation (scope_of names.now true)) (left cursor.old)) }
 {
     match cursor.rest {
         Some(mut rest) => match relation_to_end(alloc, &mut rest, names, true) {
@@ -40,7 +40,7 @@ pub fn relation(alloc: Global, cursor: &mut Cursor<'_>, names: &Names) -> Result
 
 /// A constraint, with the line's end.
 pub fn given(alloc: Global, cursor: &mut Cursor<'_>, names: &Names) -> Result<Given, Stop>
-    ensures { GivesBy condition result (left cursor.new) (to_end (read_condition (scope_of names.now false)) (left cursor.old)) }
+    ensures { GivesBy given_view result (left cursor.new) (to_end (read_given (scope_of names.now false)) (left cursor.old)) }
 {
     match cursor.rest {
         Some(mut rest) => match given_to_end(alloc, &mut rest, names) {

@@ -1,6 +1,6 @@
 //! The pieces of a file, one after the other.
 ghost use Rattle.std.specs.Prelude.{◌≡◌, [], map, IfSome, IfNone};
-ghost use Rattle.it_syntax.specs.Gives.{HasLength};
+ghost use Rattle.it_syntax.specs.ReaderSteps.{HasLength};
 ghost use Rattle.it_question.specs.Cursors.{token_line, left, with_letter};
 ghost use Rattle.it_question.specs.Lines.{letters_of_lines};
 

@@ -1,11 +1,12 @@
 //! The bytes of lines: where a line ends, and what is read of it.
 ghost use Rattle.std.specs.Prelude.{◌≡◌, ◌≤◌, ◌∷◌, ◌+◌, ◌<◌, length, IfOk};
-ghost use Rattle.it_syntax.specs.Fronts.{Run};
-ghost use Rattle.it_question.specs.Lines.{is_other, split_lines, without_return, before_comment, untabbed, plain};
+ghost use Rattle.it_syntax.specs.Fronts.{IsLongestRun};
+ghost use Rattle.it_question.specs.Lines.{split_lines, without_return, before_comment, without_tab, plain_text};
+ghost use Rattle.it_question.specs.ReaderSteps.{is_other};
 
 use std::alloc::{AllocError, Global};
 
-#[tactic(auto, unfolding(crate::specs::Lines::is_other))]
+#[tactic(auto, unfolding(crate::specs::ReaderSteps::is_other))]
 fn is_other(stop: u8, b: u8) -> bool
     ensures { result ≡ is_other stop b }
 {
@@ -15,7 +16,7 @@ fn is_other(stop: u8, b: u8) -> bool
 /// The number of bytes in front of the first that is `stop`.
 #[tactic(auto, using(crate::proofs::PlainLemmas::run_lemmas))]
 fn before(bytes: &[u8], stop: u8) -> usize
-    ensures { Run (is_other stop) bytes.now result }
+    ensures { IsLongestRun (is_other stop) bytes.now result }
 {
     for (i, b) in bytes.iter().enumerate() {
         if !is_other(stop, *b) {
@@ -55,18 +56,18 @@ fn before_comment(line: &[u8]) -> &[u8]
     line.split_at(before(line, b'#')).0
 }
 
-fn untabbed(b: u8) -> u8
-    ensures { result ≡ untabbed b }
+fn without_tab(b: u8) -> u8
+    ensures { result ≡ without_tab b }
 {
     if b == b'\t' { b' ' } else { b }
 }
 
 /// What is read of a line: what stands before a comment, without a carriage return at the line's end, and with tabs as spaces.
-pub fn plain(alloc: Global, line: &[u8]) -> Result<Vec<u8>, AllocError>
-    ensures { IfOk result (λ v. v.items ≡ plain line.now) }
+pub fn plain_text(alloc: Global, line: &[u8]) -> Result<Vec<u8>, AllocError>
+    ensures { IfOk result (λ v. v.items ≡ plain_text line.now) }
 {
     before_comment(without_return(line))
         .iter()
-        .map(|b| untabbed(*b))
+        .map(|b| without_tab(*b))
         .collect(alloc)
 }

@@ -1,12 +1,12 @@
 //! Readers of the rates of an `eliminate` line.
 ghost use Rattle.std.specs.Prelude.{◌≡◌, ◌<◌, ◌++◌, [], ◌∷◌, length, OnOk, IfErr};
 ghost use Rattle.it_syntax.specs.declared.rest.Stop.TheVariants.{Memory};
-ghost use Rattle.it_syntax.specs.ConditionReading.{with_sets};
+ghost use Rattle.it_syntax.specs.GivenReading.{with_sets};
 ghost use Rattle.it_syntax.specs.Gives.{Gives, GivesBy};
 ghost use Rattle.it_syntax.specs.Lines.{to_end};
 ghost use Rattle.it_question.specs.Cursors.{left};
 ghost use Rattle.it_question.specs.Reading.{read_once, read_once_more, read_distinct};
-ghost use Rattle.it_question.specs.Trees.{rates_env};
+ghost use Rattle.it_question.specs.WrittenLines.{rates_env};
 
 use crate::cursor::Cursor;
 use crate::words::{comma, line_end};
@@ -15,7 +15,7 @@ use it_syntax::types::Code;
 use it_syntax::{Names, is_measure};
 use std::alloc::Global;
 
-#[tactic(auto, unfolding(crate::specs::Trees::rates_env))]
+#[tactic(auto, unfolding(crate::specs::WrittenLines::rates_env))]
 fn rate(names: &Names, name: &[u8]) -> Option<u8>
     ensures { result ≡ rates_env names.now name.now }
 {
@@ -74,7 +74,7 @@ fn more_rates(first: Vec<u8>, cursor: &mut Cursor<'_>, names: &Names) -> Result<
 }
 
 #[tactic(auto, unfolding(crate::specs::Reading::read_distinct))]
-fn distinct(alloc: Global, cursor: &mut Cursor<'_>, names: &Names) -> Result<Vec<u8>, Stop>
+fn distinct_rates(alloc: Global, cursor: &mut Cursor<'_>, names: &Names) -> Result<Vec<u8>, Stop>
     ensures { GivesBy (λ x. x.items) result (left cursor.new) (read_distinct (rates_env names.now) (left cursor.old)) }
 {
     let first = new_rate(cursor, names, &[])?;
@@ -88,7 +88,7 @@ fn distinct(alloc: Global, cursor: &mut Cursor<'_>, names: &Names) -> Result<Vec
 pub fn rates(alloc: Global, cursor: &mut Cursor<'_>, names: &Names) -> Result<Vec<u8>, Stop>
     ensures { GivesBy (λ x. x.items) result (left cursor.new) (to_end (read_distinct (rates_env names.now)) (left cursor.old)) }
 {
-    let rates = distinct(alloc, cursor, names)?;
+    let rates = distinct_rates(alloc, cursor, names)?;
     line_end(cursor)?;
     Ok(rates)
 }

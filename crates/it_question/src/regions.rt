@@ -5,10 +5,11 @@ ghost use Rattle.it_syntax.specs.Gives.{Gives, GivesBy};
 ghost use Rattle.it_question.specs.declared.sorts.NameSort.TheVariants as sorts;
 ghost use Rattle.it_question.specs.Keywords.{aux_text};
 ghost use Rattle.it_question.specs.Cursors.{left};
-ghost use Rattle.it_question.specs.Questions.{aim, bounded};
+ghost use Rattle.it_question.specs.Questions.{verb_view, region_view};
 ghost use Rattle.it_question.specs.Reading.{read_names_line, read_region, read_word_line, read_containment};
 ghost use Rattle.it_question.specs.Sorts.{HasRoom};
-ghost use Rattle.it_question.specs.Trees.{Variable, auxiliaries_left, givens_left, rows_left};
+ghost use Rattle.it_question.specs.NewNames.{Variable};
+ghost use Rattle.it_question.specs.WrittenRegions.{auxiliaries_left, givens_left, rows_left};
 
 use crate::cursor::Cursor;
 use crate::names::names_line;
@@ -33,14 +34,14 @@ const MOST_TRIES: usize = 64;
 impl Region {
     /// How many more `given` lines may follow those of this region.
     fn givens_left(&self, most: usize) -> usize
-        ensures { result ≡ givens_left most (bounded self.now).lines }
+        ensures { result ≡ givens_left most (region_view self.now).lines }
     {
         most.saturating_sub(self.givens.len())
     }
 
     /// How many more `row` lines may follow those of this region.
     fn rows_left(&self, most: usize) -> usize
-        ensures { result ≡ rows_left most (bounded self.now).lines }
+        ensures { result ≡ rows_left most (region_view self.now).lines }
     {
         most.saturating_sub(self.rows.len())
     }
@@ -65,7 +66,7 @@ fn auxiliaries(inside: &Names, names: &Names) -> u8
         .saturating_sub(names.space().variables)
 }
 
-fn copied(names: &Names) -> Result<Names, Stop>
+fn copy_of(names: &Names) -> Result<Names, Stop>
     ensures copy { IfOk result (λ n. n ≡ names.now) }
     ensures memory { IfErr result (λ e. e ≡ Memory) }
 {
@@ -79,7 +80,7 @@ fn copied(names: &Names) -> Result<Names, Stop>
 fn region_names(cursor: &mut Cursor<'_>, names: &Names) -> Result<Names, Stop>
     ensures { GivesBy (λ x. x) result (left cursor.new) (read_names_line Variable (auxiliaries_left names.now) aux_text names.now (left cursor.old)) }
 {
-    let mut inside = copied(names)?;
+    let mut inside = copy_of(names)?;
     names_line(
         cursor,
         &mut inside,
@@ -99,7 +100,7 @@ fn region(
     givens: usize,
     rows: usize,
 ) -> Result<Region, Stop>
-    ensures { GivesBy bounded result (left cursor.new) (read_region givens rows names.now (left cursor.old)) }
+    ensures { GivesBy region_view result (left cursor.new) (read_region givens rows names.now (left cursor.old)) }
 {
     line_end(cursor)?;
     let inside = region_names(cursor, names)?;
@@ -131,7 +132,7 @@ pub fn containment(
     givens: usize,
     rows: usize,
 ) -> Result<Verb, Stop>
-    ensures { GivesBy aim result (left cursor.new) (read_containment givens rows names.now (left cursor.old)) }
+    ensures { GivesBy verb_view result (left cursor.new) (read_containment givens rows names.now (left cursor.old)) }
 {
     let first = region(alloc, cursor, names, givens, rows)?;
     word(cursor, REGION)?;

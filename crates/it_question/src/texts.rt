@@ -1,10 +1,11 @@
 //! The text of a question.
 ghost use Rattle.std.specs.Prelude.{◌≡◌, ◌≤◌, ◌++◌, length, take, drop, map, All, IfOk, OnOk};
-ghost use Rattle.it_question.specs.Bodies.{body, body as body_of};
+ghost use Rattle.it_question.specs.Bodies.{body_view};
 ghost use Rattle.it_question.specs.Cursors.{token_line};
-ghost use Rattle.it_question.specs.Limits.{FewLines, FewLinesOf, IsQuestion};
-ghost use Rattle.it_question.specs.Questions.{aim, asked, bounded};
-ghost use Rattle.it_question.specs.Texts.{without_leading, without_trailing, trimmed, text_of_lines, region_lines, aim_lines, question_lines, with_texts};
+ghost use Rattle.it_question.specs.Limits.{IsQuestion};
+ghost use Rattle.it_question.specs.ReaderSteps.{FewLines, FewLinesOf};
+ghost use Rattle.it_question.specs.Questions.{verb_view, question_view, region_view};
+ghost use Rattle.it_question.specs.Texts.{without_leading, without_trailing, trimmed_line, text_of_lines, region_lines, verb_lines, question_lines, with_texts};
 
 use crate::bodies::Body;
 use crate::cursor::Line;
@@ -38,8 +39,8 @@ fn without_trailing(line: &[u8]) -> &[u8]
 }
 
 /// Without blanks at both ends.
-fn trimmed(line: &[u8]) -> &[u8]
-    ensures { result.now ≡ trimmed line.now }
+fn trim(line: &[u8]) -> &[u8]
+    ensures { result.now ≡ trimmed_line line.now }
 {
     without_trailing(without_leading(line))
 }
@@ -50,7 +51,7 @@ pub fn text_of(alloc: Global, lines: &[Line]) -> Result<Vec<u8>, AllocError>
 {
     let mut text = Vec::new(alloc);
     for line in lines {
-        text.extend_from_slice(trimmed(line.text.as_slice()))?;
+        text.extend_from_slice(trim(line.text.as_slice()))?;
         match text.push(b'\n') {
             Ok(()) => {}
             Err(_) => return Err(AllocError),
@@ -62,8 +63,8 @@ pub fn text_of(alloc: Global, lines: &[Line]) -> Result<Vec<u8>, AllocError>
 /// How many lines a region has, its `region` line among them.
 #[tactic(auto, using(crate::proofs::LineCountLemmas::few_givens, crate::proofs::LineCountLemmas::few_rows, crate::proofs::LineCountLemmas::region_lines_are))]
 fn region_lines(region: &Region) -> usize
-    requires { FewLines (bounded region.now).lines }
-    ensures lines { result ≡ region_lines (bounded region.now) }
+    requires { FewLines (region_view region.now).lines }
+    ensures lines { result ≡ region_lines (region_view region.now) }
     ensures few { result ≤ 130 }
 {
     let auxiliaries = if region.auxiliaries == 0 { 0 } else { 1 };
@@ -72,8 +73,8 @@ fn region_lines(region: &Region) -> usize
 
 /// How many lines stand from the verb or the first region on.
 fn verb_lines(verb: &Verb) -> usize
-    requires { FewLinesOf (aim verb.now) }
-    ensures lines { result ≡ aim_lines (aim verb.now) }
+    requires { FewLinesOf (verb_view verb.now) }
+    ensures lines { result ≡ verb_lines (verb_view verb.now) }
     ensures few { result ≤ 325 }
 {
     match verb {
@@ -89,8 +90,8 @@ fn verb_lines(verb: &Verb) -> usize
 
 /// How many lines a question has.
 fn question_lines(question: &Body) -> usize
-    requires { IsQuestion (body question.now) }
-    ensures { result ≡ question_lines (body question.now) }
+    requires { IsQuestion (body_view question.now) }
+    ensures { result ≡ question_lines (body_view question.now) }
 {
     let rates = if question.names.space().rates == 0 {
         0
@@ -109,7 +110,7 @@ fn cut(lines: &[Line], n: usize) -> (&[Line], &[Line])
 }
 
 fn with_text(alloc: Global, lines: &[Line], body: Body) -> Result<Question, AllocError>
-    ensures { IfOk result (λ q. asked q ≡ record { posed = body_of body; text = text_of_lines (map token_line lines.now) }) }
+    ensures { IfOk result (λ q. question_view q ≡ record { body = body_view body; text = text_of_lines (map token_line lines.now) }) }
 {
     let text = text_of(alloc, lines)?;
     Ok(Question {
@@ -127,8 +128,8 @@ pub fn with_texts(
     lines: &[Line],
     bodies: Vec<Body>,
 ) -> Result<Vec<Question>, AllocError>
-    requires { All (λ b. IsQuestion (body b)) bodies.items }
-    ensures { IfOk result (λ qs. map asked qs.items ≡ with_texts (map token_line lines.now) (map body bodies.items)) }
+    requires { All (λ b. IsQuestion (body_view b)) bodies.items }
+    ensures { IfOk result (λ qs. map question_view qs.items ≡ with_texts (map token_line lines.now) (map body_view bodies.items)) }
 {
     let mut rest = lines;
     let mut left = bodies.into_iter();

@@ -2,12 +2,14 @@
 ghost use Rattle.std.specs.Bool.{OnTrue, OnFalse};
 ghost use Rattle.std.specs.Prelude.{◌≡◌, ◌<◌, ◌++◌, [], ◌∷◌, Some, None, IfOk, IfSome, OnOk, IfErr, length};
 ghost use Rattle.it_syntax.specs.declared.rest.Stop.TheVariants.{Memory};
-ghost use Rattle.it_syntax.specs.Gives.{Gives, GivesBy, Passes};
-ghost use Rattle.it_syntax.specs.Reading.{read_list};
-ghost use Rattle.it_syntax.specs.Relations.{env_of};
+ghost use Rattle.it_syntax.specs.Gives.{Gives, GivesBy};
+ghost use Rattle.it_syntax.specs.ReaderSteps.{Passes};
+ghost use Rattle.it_syntax.specs.AtomReading.{read_list};
+ghost use Rattle.it_syntax.specs.Scopes.{env_of};
 ghost use Rattle.it_question.specs.Cursors.{left};
 ghost use Rattle.it_question.specs.Reading.{after_semicolon, read_auxiliary, read_assign, read_set, read_part, read_parts, read_whole, read_try, read_tries};
-ghost use Rattle.it_question.specs.Trees.{auxiliary_env, is_named, with_set, is_whole, set_or, sets_of, unnamed};
+ghost use Rattle.it_question.specs.WrittenRegions.{auxiliary_env};
+ghost use Rattle.it_question.specs.WrittenTries.{is_named, with_set, is_whole, set_or, sets_of, unnamed_sets};
 
 use crate::cursor::Cursor;
 use crate::parts::names_set;
@@ -31,7 +33,7 @@ pub struct Regions<'a> {
 }
 
 /// Which auxiliary of the second region has this name.
-#[tactic(auto, unfolding(crate::specs::Trees::auxiliary_env))]
+#[tactic(auto, unfolding(crate::specs::WrittenRegions::auxiliary_env))]
 fn auxiliary_of(regions: Regions<'_>, name: &[u8]) -> Option<u8>
     ensures { result ≡ auxiliary_env regions.entry.question.now regions.entry.second.now name.now }
 {
@@ -211,21 +213,26 @@ fn sets_of(sets: &Sets) -> [VarSet; 4]
     ]
 }
 
-fn filled() -> Option<VarSet>
+fn filled_place() -> Option<VarSet>
     ensures { result ≡ Some 0 }
 {
     Some(VarSet::empty())
 }
 
 /// No set yet for each of so many auxiliaries.
-fn unnamed(auxiliaries: u8) -> Sets
-    ensures { result ≡ unnamed auxiliaries }
+fn unnamed_sets(auxiliaries: u8) -> Sets
+    ensures { result ≡ unnamed_sets auxiliaries }
 {
     match auxiliaries {
-        0 => [filled(), filled(), filled(), filled()],
-        1 => [None, filled(), filled(), filled()],
-        2 => [None, None, filled(), filled()],
-        3 => [None, None, None, filled()],
+        0 => [
+            filled_place(),
+            filled_place(),
+            filled_place(),
+            filled_place(),
+        ],
+        1 => [None, filled_place(), filled_place(), filled_place()],
+        2 => [None, None, filled_place(), filled_place()],
+        3 => [None, None, None, filled_place()],
         _ => [None, None, None, None],
     }
 }
@@ -237,9 +244,9 @@ fn substitution(
     regions: Regions<'_>,
     auxiliaries: u8,
 ) -> Result<[VarSet; 4], Stop>
-    ensures { Gives result (left cursor.new) (read_try (auxiliary_env regions.entry.question.now regions.entry.second.now) (env_of regions.entry.first.now) (unnamed auxiliaries) (left cursor.old)) }
+    ensures { Gives result (left cursor.new) (read_try (auxiliary_env regions.entry.question.now regions.entry.second.now) (env_of regions.entry.first.now) (unnamed_sets auxiliaries) (left cursor.old)) }
 {
-    let mut sets = unnamed(auxiliaries);
+    let mut sets = unnamed_sets(auxiliaries);
     part(cursor, regions, &mut sets)?;
     parts(cursor, regions, &mut sets)?;
     whole(cursor, &sets)?;
@@ -264,7 +271,7 @@ pub fn tries(
     auxiliaries: u8,
     most: usize,
 ) -> Result<Vec<[VarSet; 4]>, Stop>
-    ensures { GivesBy (λ x. x.items) result (left cursor.new) (read_tries most (auxiliary_env regions.entry.question.now regions.entry.second.now) (env_of regions.entry.first.now) (unnamed auxiliaries) (left cursor.old)) }
+    ensures { GivesBy (λ x. x.items) result (left cursor.new) (read_tries most (auxiliary_env regions.entry.question.now regions.entry.second.now) (env_of regions.entry.first.now) (unnamed_sets auxiliaries) (left cursor.old)) }
 {
     let mut found = Vec::new(alloc);
     let mut allowed = most;

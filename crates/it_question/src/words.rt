@@ -2,7 +2,8 @@
 ghost use Rattle.std.specs.Bool.{OnTrue, OnFalse};
 ghost use Rattle.std.specs.Prelude.{◌≡◌, Some, None, IfSome, IfNone};
 ghost use Rattle.it_syntax.specs.Gives.{Gives};
-ghost use Rattle.it_syntax.specs.Reading.{after_comma, line_end};
+ghost use Rattle.it_syntax.specs.AtomReading.{line_end};
+ghost use Rattle.it_syntax.specs.ReaderSteps.{after_comma};
 ghost use Rattle.it_question.specs.Cursors.{left};
 ghost use Rattle.it_question.specs.Reading.{behind_word, read_word};
 

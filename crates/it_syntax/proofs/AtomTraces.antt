@@ -7,9 +7,9 @@ use Rattle.it_syntax.specs.declared.types.Code.TheVariants as codes
 use Rattle.it_syntax.specs.declared.types.Atom.{Atom}
 use Rattle.it_syntax.specs.declared.types.Atom.TheVariants.{Entropy}
 use Rattle.it_syntax.specs.Letters.{Letter, Word, Sym, Marked, clean}
-use Rattle.it_syntax.specs.Trees.{Environment, WrittenList, is_measure, unknown, index_or, more_set, list_set, name_mark, spell_name, spell_more, spell_list}
-use Rattle.it_syntax.specs.FirstFault.{head, own}
-use Rattle.it_syntax.specs.Reading.{Reads, ◌>>=◌, named, read_name, read_more, read_list, closed, opened, bar_or_close, read_given, read_joint}
+use Rattle.it_syntax.specs.WrittenAtoms.{Environment, WrittenList, is_measure, unknown, index_or, more_set, list_set, name_mark, spell_name, spell_more, spell_list}
+use Rattle.it_syntax.specs.FirstFault.{head, own_code}
+use Rattle.it_syntax.specs.AtomReading.{Reads, ◌>>=◌, variable_or_fault, read_name, read_more, read_list, close_paren, open_paren, bar_or_close, read_given_set, read_joint}
 use Rattle.it_syntax.proofs.Traces.{Went, Stuck, By, Traces, traces_bind, traces_map, letter_then}
 
 -- what holds of the letters that begin as r does
@@ -23,7 +23,7 @@ empty P h [] e = h
 empty P h (m ∷ s) e = absurd cc
 
 -- no rule goes on at the first letter
-pub stuck_here : {A X : Type 0} (f : List Letter → Reads A) (spell : X → Marked → Marked) (x : X) (l : Letter) (ls : List Letter) (c : Code) → ((s : List Letter) → f (l ∷ s) ≡ Err (c, l ∷ s)) → own (l ∷ ls) ≡ c → Stuck f spell (l ∷ ls) c (l ∷ ls)
+pub stuck_here : {A X : Type 0} (f : List Letter → Reads A) (spell : X → Marked → Marked) (x : X) (l : Letter) (ls : List Letter) (c : Code) → ((s : List Letter) → f (l ∷ s) ≡ Err (c, l ∷ s)) → own_code (l ∷ ls) ≡ c → Stuck f spell (l ∷ ls) c (l ∷ ls)
 stuck_here f spell x l ls c h o = record {
   tree = x;
   front = [];
@@ -50,15 +50,15 @@ name_of env w = index_or (env w)
 
 -- ---- names
 
-named_by : (env : Environment) (w : List ℕ) (ls : List Letter) (h : Bool) (o : Option ℕ) → is_measure w ≡ h → env w ≡ o → By (read_name env) (spell_name env) (name_of env) (Word w ∷ ls) (named w h o ls)
+named_by : (env : Environment) (w : List ℕ) (ls : List Letter) (h : Bool) (o : Option ℕ) → is_measure w ≡ h → env w ≡ o → By (read_name env) (spell_name env) (name_of env) (Word w ∷ ls) (variable_or_fault w h o ls)
 unfolding read_name name_of
-named_by env w ls true o eh eo = stuck_here (read_name env) (spell_name env) w (Word w) ls codes.Word (λ s. ap (λ (b : Bool). named w b (env w) s) eh) refl
+named_by env w ls true o eh eo = stuck_here (read_name env) (spell_name env) w (Word w) ls codes.Word (λ s. ap (λ (b : Bool). variable_or_fault w b (env w) s) eh) refl
 named_by env w ls false None eh eo = record {
   tree = w;
   front = [];
   parts = refl;
   spells = λ k. ((Word w, name_mark env w) ∷ k, (refl, inr (Word w, k, (ap (λ (m : Option Code). (Word w, m) ∷ k) (ap (λ (b : Bool). cond b (Some codes.Word) (unknown (env w))) eh ∙ ap unknown eo), refl))));
-  stays = begun (λ s. read_name env s ≡ Err (codes.Name, s)) (Word w) (λ s. ap (λ (b : Bool). named w b (env w) s) eh ∙ ap (λ (p : Option ℕ). named w false p s) eo);
+  stays = begun (λ s. read_name env s ≡ Err (codes.Name, s)) (Word w) (λ s. ap (λ (b : Bool). variable_or_fault w b (env w) s) eh ∙ ap (λ (p : Option ℕ). variable_or_fault w false p s) eo);
 }
 named_by env w ls false (Some i) eh eo = record {
   tree = w;
@@ -66,7 +66,7 @@ named_by env w ls false (Some i) eh eo = record {
   value = ap index_or eo;
   parts = refl;
   spells = λ k. ap (λ (m : Option Code). (Word w, m) ∷ k) (ap (λ (b : Bool). cond b (Some codes.Word) (unknown (env w))) eh ∙ ap unknown eo);
-  stays = λ s e. ap (λ (b : Bool). named w b (env w) s) eh ∙ ap (λ (p : Option ℕ). named w false p s) eo;
+  stays = λ s e. ap (λ (b : Bool). variable_or_fault w b (env w) s) eh ∙ ap (λ (p : Option ℕ). variable_or_fault w false p s) eo;
 }
 
 name_traces : (env : Environment) → Traces (read_name env) (spell_name env) (name_of env)
@@ -75,11 +75,11 @@ name_traces env (Word w ∷ ls) = named_by env w ls (is_measure w) (env w) refl 
 name_traces env [] = stuck_none (read_name env) (spell_name env) some_name refl
 name_traces env (l ∷ ls) = stuck_here (read_name env) (spell_name env) some_name l ls _ (λ s. refl) refl
 
-closed_traces : (x : ℕ) → Traces (closed x) (λ (u : Unit {0}) k. clean (Sym RightParen) ∷ k) (λ u. x)
-unfolding closed
+closed_traces : (x : ℕ) → Traces (close_paren x) (λ (u : Unit {0}) k. clean (Sym RightParen) ∷ k) (λ u. x)
+unfolding close_paren
 closed_traces x (Sym RightParen ∷ ls) = record { tree = tt; front = Sym RightParen ∷ []; value = refl; parts = refl; spells = λ k. refl; stays = λ s e. refl }
-closed_traces x [] = stuck_none (closed x) (λ (u : Unit {0}) k. clean (Sym RightParen) ∷ k) tt refl
-closed_traces x (l ∷ ls) = stuck_here (closed x) (λ (u : Unit {0}) k. clean (Sym RightParen) ∷ k) tt l ls _ (λ s. refl) refl
+closed_traces x [] = stuck_none (close_paren x) (λ (u : Unit {0}) k. clean (Sym RightParen) ∷ k) tt refl
+closed_traces x (l ∷ ls) = stuck_here (close_paren x) (λ (u : Unit {0}) k. clean (Sym RightParen) ∷ k) tt l ls _ (λ s. refl) refl
 
 -- ---- further names
 
@@ -87,15 +87,15 @@ abbrev further : ℕ → Reads ℕ → Reads ℕ
 further i t = t >>= λ m. Ok (bit_or (2 ^ i) m.0, m.1)
 
 -- what reading further names does behind a comma and a name
-more_at : (env : Environment) (w : List ℕ) (s : List Letter) (h : Bool) (o : Option ℕ) → is_measure w ≡ h → env w ≡ o → read_more env (Sym Comma ∷ Word w ∷ s) ≡ (named w h o s >>= λ n. further n.0 (read_more env s))
+more_at : (env : Environment) (w : List ℕ) (s : List Letter) (h : Bool) (o : Option ℕ) → is_measure w ≡ h → env w ≡ o → read_more env (Sym Comma ∷ Word w ∷ s) ≡ (variable_or_fault w h o s >>= λ n. further n.0 (read_more env s))
 unfolding read_more
-more_at env w s h o eh eo = ap (λ (b : Bool). named w b (env w) s >>= λ n. further n.0 (read_more env s)) eh ∙ ap (λ (p : Option ℕ). named w h p s >>= λ n. further n.0 (read_more env s)) eo
+more_at env w s h o eh eo = ap (λ (b : Bool). variable_or_fault w b (env w) s >>= λ n. further n.0 (read_more env s)) eh ∙ ap (λ (p : Option ℕ). variable_or_fault w h p s >>= λ n. further n.0 (read_more env s)) eo
 
 mark_is : (env : Environment) (w : List ℕ) (h : Bool) (o : Option ℕ) → is_measure w ≡ h → env w ≡ o → name_mark env w ≡ cond h (Some codes.Word) (unknown o)
 mark_is env w h o eh eo = ap (λ (b : Bool). cond b (Some codes.Word) (unknown (env w))) eh ∙ ap (λ (p : Option ℕ). cond h (Some codes.Word) (unknown p)) eo
 
 more_by : (env : Environment) (w : List ℕ) (ls : List Letter) (h : Bool) (o : Option ℕ) → is_measure w ≡ h → env w ≡ o → (t : Reads ℕ) → By (read_more env) (spell_more env) (more_set env) ls t
-    → By (read_more env) (spell_more env) (more_set env) (Sym Comma ∷ Word w ∷ ls) (named w h o ls >>= λ n. further n.0 t)
+    → By (read_more env) (spell_more env) (more_set env) (Sym Comma ∷ Word w ∷ ls) (variable_or_fault w h o ls >>= λ n. further n.0 t)
 more_by env w ls true o eh eo t b = record {
   tree = w ∷ [];
   front = Sym Comma ∷ [];
@@ -127,7 +127,7 @@ more_by env w ls false (Some i) eh eo (Err x) b = record {
 }
 
 -- behind a comma stands no name
-no_name : (env : Environment) (l : Letter) (ls : List Letter) (c : Code) → ((s : List Letter) → read_more env (Sym Comma ∷ l ∷ s) ≡ Err (c, l ∷ s)) → own (l ∷ ls) ≡ c → Stuck (read_more env) (spell_more env) (Sym Comma ∷ l ∷ ls) c (l ∷ ls)
+no_name : (env : Environment) (l : Letter) (ls : List Letter) (c : Code) → ((s : List Letter) → read_more env (Sym Comma ∷ l ∷ s) ≡ Err (c, l ∷ s)) → own_code (l ∷ ls) ≡ c → Stuck (read_more env) (spell_more env) (Sym Comma ∷ l ∷ ls) c (l ∷ ls)
 no_name env l ls c h o = record {
   tree = some_name ∷ [];
   front = Sym Comma ∷ [];
@@ -170,10 +170,10 @@ abbrev pub spell_inner : Environment → WrittenList → Marked → Marked
 spell_inner env c k = spell_list env c (clean (Sym RightParen) ∷ k)
 
 abbrev inner : Environment → List Letter → Reads ℕ
-inner env ls = read_list env ls >>= λ c. closed c.0 c.1
+inner env ls = read_list env ls >>= λ c. close_paren c.0 c.1
 
 inner_traces : (env : Environment) → Traces (inner env) (spell_inner env) (list_set env)
-inner_traces env = traces_bind (read_list env) closed (inner env) (spell_list env) (λ x (u : Unit {0}) k. clean (Sym RightParen) ∷ k) (spell_inner env) (list_set env) (λ x u. x) (list_set env) (λ c u. c)
+inner_traces env = traces_bind (read_list env) close_paren (inner env) (spell_list env) (λ x (u : Unit {0}) k. clean (Sym RightParen) ∷ k) (spell_inner env) (list_set env) (λ x u. x) (list_set env) (λ c u. c)
     (record { is = λ ls. refl; spells = λ y z k. refl; value = λ y z. refl; some = tt; first = list_traces env; second = closed_traces })
 
 abbrev pub spell_given : Environment → Option WrittenList → Marked → Marked
@@ -185,12 +185,12 @@ given_set env None = 0
 given_set env (Some c) = list_set env c
 
 -- what is given, if anything
-pub given_traces : (env : Environment) → Traces (read_given env) (spell_given env) (given_set env)
-unfolding read_given bar_or_close
+pub given_traces : (env : Environment) → Traces (read_given_set env) (spell_given env) (given_set env)
+unfolding read_given_set bar_or_close
 given_traces env (Sym RightParen ∷ ls) = record { tree = None; front = Sym RightParen ∷ []; value = refl; parts = refl; spells = λ k. refl; stays = λ s e. refl }
-given_traces env (Sym Bar ∷ ls) = letter_then (read_given env) (inner env) (Sym Bar) (spell_inner env) (spell_given env) (list_set env) (given_set env) Some ls (λ s. refl) (λ z k. refl) (λ z. refl) (inner env ls) (inner_traces env ls)
-given_traces env [] = stuck_none (read_given env) (spell_given env) None refl
-given_traces env (l ∷ ls) = stuck_here (read_given env) (spell_given env) None l ls _ (λ s. refl) refl
+given_traces env (Sym Bar ∷ ls) = letter_then (read_given_set env) (inner env) (Sym Bar) (spell_inner env) (spell_given env) (list_set env) (given_set env) Some ls (λ s. refl) (λ z k. refl) (λ z. refl) (inner env ls) (inner_traces env ls)
+given_traces env [] = stuck_none (read_given_set env) (spell_given env) None refl
+given_traces env (l ∷ ls) = stuck_here (read_given_set env) (spell_given env) None l ls _ (λ s. refl) refl
 
 -- ---- H
 
@@ -205,19 +205,19 @@ abbrev pub joint_of : Environment → Pair → Atom
 joint_of env p = Entropy (list_set env p.0) (given_set env p.1)
 
 abbrev joint_inner : Environment → List Letter → Reads Atom
-joint_inner env ls = read_list env ls >>= λ a. read_given env a.1 >>= λ c. Ok (Entropy a.0 c.0, c.1)
+joint_inner env ls = read_list env ls >>= λ a. read_given_set env a.1 >>= λ c. Ok (Entropy a.0 c.0, c.1)
 
 -- a list that goes on where one is missing
 pub some_list : WrittenList
 some_list = record { first = 88 ∷ []; more = [] }
 
 joint_inner_traces : (env : Environment) → Traces (joint_inner env) (spell_pair env) (joint_of env)
-joint_inner_traces env = traces_bind (read_list env) (λ a ls. read_given env ls >>= λ c. Ok (Entropy a c.0, c.1)) (joint_inner env) (spell_list env) (λ a. spell_given env) (spell_pair env) (list_set env) (λ a c. Entropy a (given_set env c)) (joint_of env) (λ a c. (a, c))
-    (record { is = λ ls. refl; spells = λ y z k. refl; value = λ y z. refl; some = None; first = list_traces env; second = λ a. traces_map (read_given env) (Entropy a) (spell_given env) (given_set env) (given_traces env) })
+joint_inner_traces env = traces_bind (read_list env) (λ a ls. read_given_set env ls >>= λ c. Ok (Entropy a c.0, c.1)) (joint_inner env) (spell_list env) (λ a. spell_given env) (spell_pair env) (list_set env) (λ a c. Entropy a (given_set env c)) (joint_of env) (λ a c. (a, c))
+    (record { is = λ ls. refl; spells = λ y z k. refl; value = λ y z. refl; some = None; first = list_traces env; second = λ a. traces_map (read_given_set env) (Entropy a) (spell_given env) (given_set env) (given_traces env) })
 
 -- an entropy behind its `H`
 pub joint_traces : (env : Environment) → Traces (read_joint env) (λ p k. clean (Sym LeftParen) ∷ spell_pair env p k) (joint_of env)
-unfolding read_joint opened some_list
+unfolding read_joint open_paren some_list
 joint_traces env (Sym LeftParen ∷ ls) = letter_then (read_joint env) (joint_inner env) (Sym LeftParen) (spell_pair env) (λ p k. clean (Sym LeftParen) ∷ spell_pair env p k) (joint_of env) (joint_of env) (λ p. p) ls (λ s. refl) (λ z k. refl) (λ z. refl) (joint_inner env ls) (joint_inner_traces env ls)
 joint_traces env [] = stuck_none (read_joint env) (λ p k. clean (Sym LeftParen) ∷ spell_pair env p k) (some_list, None) refl
 joint_traces env (l ∷ ls) = stuck_here (read_joint env) (λ p k. clean (Sym LeftParen) ∷ spell_pair env p k) (some_list, None) l ls _ (λ s. refl) refl

@@ -1,16 +1,16 @@
 -- A letter that must stand there, and then another reader: what a reading tells. And trees that meet a condition.
 use Rattle.std.proofs.Common.{◌≡◌, List, [], ◌∷◌, ◌++◌, Some, Result, Ok, Err, refl, sym, ap, ◌∙◌, subst, inl, inr, ◌⊎◌}
 use Rattle.it_syntax.specs.declared.types.Code.{Code}
-use Rattle.it_syntax.specs.Letters.{Letter, Marked, clean, letters, cleaned}
-use Rattle.it_syntax.specs.FirstFault.{head, own}
-use Rattle.it_syntax.specs.Reading.{Fault, Reads, ◌>>=◌}
+use Rattle.it_syntax.specs.Letters.{Letter, Marked, clean, letters, clean_all}
+use Rattle.it_syntax.specs.FirstFault.{head, own_code}
+use Rattle.it_syntax.specs.AtomReading.{Fault, Reads, ◌>>=◌}
 use Rattle.it_syntax.proofs.Traces.{Why, Stuck, By, Traces, letter_then}
 use Rattle.it_syntax.proofs.FirstFaults.{letters_behind, letters_cleaned}
 
 -- m takes the letter l, and is stuck at each other
 pub record TakesLetter (m : List Letter → Result (List Letter) Fault) (l : Letter) : Type 0 where
   pub takes : (s : List Letter) → m (l ∷ s) ≡ Ok s
-  pub refuses : (ls : List Letter) → (head ls ≡ Some l) ⊎ ((c : Code) × (own ls ≡ c) × ((s : List Letter) → head s ≡ head ls → m s ≡ Err (c, s)))
+  pub refuses : (ls : List Letter) → (head ls ≡ Some l) ⊎ ((c : Code) × (own_code ls ≡ c) × ((s : List Letter) → head s ≡ head ls → m s ≡ Err (c, s)))
 
 abbrev behind : {A : Type 0} → (List Letter → Result (List Letter) Fault) → (List Letter → Reads A) → List Letter → Reads A
 behind m g ls = m ls >>= g
@@ -23,7 +23,7 @@ taken {A} m l g spell value h traces (x ∷ ls) e =
     (subst (λ (t : Reads A). By (behind m g) (λ z k. clean l ∷ spell z k) value (l ∷ ls) t) (sym (ap (λ (q : Result (List Letter) Fault). q >>= g) (h.takes ls)))
     (letter_then (behind m g) g l spell (λ z k. clean l ∷ spell z k) value value (λ z. z) ls (λ s. ap (λ (q : Result (List Letter) Fault). q >>= g) (h.takes s)) (λ z k. refl) (λ z. refl) (g ls) (traces ls)))
 
-refused : {A X : Type 0} (m : List Letter → Result (List Letter) Fault) (l : Letter) (g : List Letter → Reads A) (spell : X → Marked → Marked) (value : X → A) (some : X) (ls : List Letter) (c : Code) → own ls ≡ c → ((s : List Letter) → head s ≡ head ls → m s ≡ Err (c, s)) → By (behind m g) (λ z k. clean l ∷ spell z k) value ls (behind m g ls)
+refused : {A X : Type 0} (m : List Letter → Result (List Letter) Fault) (l : Letter) (g : List Letter → Reads A) (spell : X → Marked → Marked) (value : X → A) (some : X) (ls : List Letter) (c : Code) → own_code ls ≡ c → ((s : List Letter) → head s ≡ head ls → m s ≡ Err (c, s)) → By (behind m g) (λ z k. clean l ∷ spell z k) value ls (behind m g ls)
 refused {A} m l g spell value some ls c o h = subst (λ (t : Reads A). By (behind m g) (λ z k. clean l ∷ spell z k) value ls t) (sym (ap (λ (q : Result (List Letter) Fault). q >>= g) (h ls refl)))
     (record {
       tree = some;
@@ -49,8 +49,8 @@ pub record Restricts {A X Z : Type 0} (spell : X → Marked → Marked) (value :
   pub some : Z
 
 stuck_at_front : {A X Z : Type 0} (f : List Letter → Reads A) (spell : X → Marked → Marked) (value : X → A) (spell_z : Z → Marked → Marked) (value_z : Z → A) (P : X → Type 0) (make : (x : X) → P x → Z) → Restricts spell value spell_z value_z P make
-    → (ls r : List Letter) (c : Code) → ((x : X) (k : Marked) → head (letters (spell x k)) ≡ head ls → P x) → (tree : X) (front : List Letter) → ls ≡ front ++ r → ((k : Marked) → (q : Marked) × ((spell tree k ≡ cleaned front ++ q) × Why q c r)) → ((s : List Letter) → head s ≡ head r → f (front ++ s) ≡ Err (c, s))
-    → (q : Marked) → spell tree [] ≡ cleaned front ++ q → Why q c r → Stuck f spell_z ls c r
+    → (ls r : List Letter) (c : Code) → ((x : X) (k : Marked) → head (letters (spell x k)) ≡ head ls → P x) → (tree : X) (front : List Letter) → ls ≡ front ++ r → ((k : Marked) → (q : Marked) × ((spell tree k ≡ clean_all front ++ q) × Why q c r)) → ((s : List Letter) → head s ≡ head r → f (front ++ s) ≡ Err (c, s))
+    → (q : Marked) → spell tree [] ≡ clean_all front ++ q → Why q c r → Stuck f spell_z ls c r
 stuck_at_front f spell value spell_z value_z P make h ls r c told tree [] parts spells stays q e (inl o) = record { tree = h.some; front = []; parts = parts; spells = λ k. (spell_z h.some k, (refl, inl o)); stays = stays }
 stuck_at_front f spell value spell_z value_z P make h ls r c told tree [] parts spells stays q e (inr w) =
     let p = told tree [] (ap head (ap letters e) ∙ ap head (ap letters w.2.0) ∙ sym w.2.1 ∙ sym (ap head parts)) in
@@ -63,7 +63,7 @@ stuck_at_front f spell value spell_z value_z P make h ls r c told tree (l ∷ fr
 pub restricted : {A X Z : Type 0} (f : List Letter → Reads A) (spell : X → Marked → Marked) (value : X → A) (spell_z : Z → Marked → Marked) (value_z : Z → A) (P : X → Type 0) (make : (x : X) → P x → Z) → Restricts spell value spell_z value_z P make
     → (ls : List Letter) → ((x : X) (k : Marked) → head (letters (spell x k)) ≡ head ls → P x) → (t : Reads A) → By f spell value ls t → By f spell_z value_z ls t
 restricted f spell value spell_z value_z P make h ls told (Ok x) w =
-    let p = told w.tree (cleaned x.1) (ap head (ap letters (w.spells (cleaned x.1)) ∙ letters_behind w.front (cleaned x.1) ∙ ap (λ (t : List Letter). w.front ++ t) (letters_cleaned x.1) ∙ sym w.parts)) in
+    let p = told w.tree (clean_all x.1) (ap head (ap letters (w.spells (clean_all x.1)) ∙ letters_behind w.front (clean_all x.1) ∙ ap (λ (t : List Letter). w.front ++ t) (letters_cleaned x.1) ∙ sym w.parts)) in
     record { tree = make w.tree p; front = w.front; value = h.values w.tree p ∙ w.value; parts = w.parts; spells = λ k. h.spells w.tree p k ∙ w.spells k; stays = w.stays }
 restricted f spell value spell_z value_z P make h ls told (Err x) w =
     let q = w.spells [] in

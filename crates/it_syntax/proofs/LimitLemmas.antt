@@ -10,10 +10,10 @@ use Rattle.it_syntax.specs.declared.types.Atom.TheVariants.{Entropy, Mutual}
 use Rattle.it_syntax.specs.declared.types.Term.{Term}
 use Rattle.it_syntax.specs.Letters.{Letter, Word, Sym, Bad}
 use Rattle.it_syntax.specs.Meaning.{IsAtomOf}
-use Rattle.it_syntax.specs.Vocabulary.{Vocabulary}
-use Rattle.it_syntax.specs.Trees.{Environment, entropy_text, mutual_text, is_measure}
-use Rattle.it_syntax.specs.Reading.{Fault, ◌>>=◌, stuck, named, read_name, read_more, read_list, closed, opened, divided, bar_or_close, read_given, read_joint, read_mutual, read_atom}
-use Rattle.it_syntax.specs.Relations.{env_of}
+use Rattle.it_syntax.specs.NamesViews.{NamesView}
+use Rattle.it_syntax.specs.WrittenAtoms.{Environment, entropy_text, mutual_text, is_measure}
+use Rattle.it_syntax.specs.AtomReading.{Fault, ◌>>=◌, no_rule, variable_or_fault, read_name, read_more, read_list, close_paren, open_paren, semicolon, bar_or_close, read_given_set, read_joint, read_mutual, read_atom}
+use Rattle.it_syntax.specs.Scopes.{env_of}
 
 -- of what was read, if it was
 abbrev pub Sure : {A : Type 0} → (A → Type 0) → Result A Fault → Type 0
@@ -35,7 +35,7 @@ any (Ok x) = tt
 any (Err e) = tt
 
 -- nothing is read
-pub stuck_sure : {A : Type 0} (P : A × List Letter → Type 0) (ls : List Letter) → Sure P (stuck ls)
+pub stuck_sure : {A : Type 0} (P : A × List Letter → Type 0) (ls : List Letter) → Sure P (no_rule ls)
 stuck_sure P [] = tt
 stuck_sure P (Bad c ∷ ls) = tt
 stuck_sure P (l ∷ ls) = tt
@@ -47,7 +47,7 @@ Knows env n = (w : List ℕ) (i : ℕ) → env w ≡ Some i → i < n
 abbrev pub IsBelow : ℕ → ℕ × List Letter → Type 0
 IsBelow n x = x.0 < n
 
-named_sure : (n : ℕ) (w : List ℕ) (h : Bool) (o : Option ℕ) (ls : List Letter) → ((i : ℕ) → o ≡ Some i → i < n) → Sure (IsBelow n) (named w h o ls)
+named_sure : (n : ℕ) (w : List ℕ) (h : Bool) (o : Option ℕ) (ls : List Letter) → ((i : ℕ) → o ≡ Some i → i < n) → Sure (IsBelow n) (variable_or_fault w h o ls)
 named_sure n w true o ls k = tt
 named_sure n w false (Some i) ls k = k i refl
 named_sure n w false None ls k = tt
@@ -68,7 +68,7 @@ some_sets n = omega (arith, ones_lt n)
 more_sure : (env : Environment) (n : ℕ) → Knows env n → (ls : List Letter) → Sure (IsBelow (2 ^ n)) (read_more env ls)
 unfolding read_more
 more_sure env n k (Sym Comma ∷ Word w ∷ ls) =
-    sure_bind (IsBelow n) (IsBelow (2 ^ n)) (named w (is_measure w) (env w) ls) (λ f. read_more env ls >>= λ m. Ok (bit_or (2 ^ f.0) m.0, m.1)) (named_sure n w (is_measure w) (env w) ls (k w))
+    sure_bind (IsBelow n) (IsBelow (2 ^ n)) (variable_or_fault w (is_measure w) (env w) ls) (λ f. read_more env ls >>= λ m. Ok (bit_or (2 ^ f.0) m.0, m.1)) (named_sure n w (is_measure w) (env w) ls (k w))
     (λ f hf. sure_bind (IsBelow (2 ^ n)) (IsBelow (2 ^ n)) (read_more env ls) (λ m. Ok (bit_or (2 ^ f.0) m.0, m.1)) (more_sure env n k ls) (λ m hm. or_lt n (2 ^ f.0) m.0 (single_below f.0 n hf) hm))
 more_sure env n k (Sym Comma ∷ ls) = stuck_sure (IsBelow (2 ^ n)) ls
 more_sure env n k [] = some_sets n
@@ -81,19 +81,19 @@ list_sure env n k ls =
     sure_bind (IsBelow n) (IsBelow (2 ^ n)) (read_name env ls) (λ f. read_more env f.1 >>= λ m. Ok (bit_or (2 ^ f.0) m.0, m.1)) (name_sure env n k ls)
     (λ f hf. sure_bind (IsBelow (2 ^ n)) (IsBelow (2 ^ n)) (read_more env f.1) (λ m. Ok (bit_or (2 ^ f.0) m.0, m.1)) (more_sure env n k f.1) (λ m hm. or_lt n (2 ^ f.0) m.0 (single_below f.0 n hf) hm))
 
-closed_sure : {A : Type 0} (P : A → Type 0) (x : A) → P x → (ls : List Letter) → Sure (λ (y : A × List Letter). P y.0) (closed x ls)
-unfolding closed
+closed_sure : {A : Type 0} (P : A → Type 0) (x : A) → P x → (ls : List Letter) → Sure (λ (y : A × List Letter). P y.0) (close_paren x ls)
+unfolding close_paren
 closed_sure P x h (Sym RightParen ∷ ls) = h
 closed_sure P x h [] = tt
 closed_sure P x h (Bad c ∷ ls) = tt
 closed_sure P x h (l ∷ ls) = tt
 
-given_sure : (env : Environment) (n : ℕ) → Knows env n → (ls : List Letter) → Sure (IsBelow (2 ^ n)) (read_given env ls)
-unfolding read_given
-given_sure env n k ls = sure_bind Any (IsBelow (2 ^ n)) (bar_or_close ls) (λ bar. cond bar.0 (read_list env bar.1 >>= λ c. closed c.0 c.1) (Ok (0, bar.1))) (any (bar_or_close ls)) (λ bar u. chosen bar.0 bar.1)
+given_sure : (env : Environment) (n : ℕ) → Knows env n → (ls : List Letter) → Sure (IsBelow (2 ^ n)) (read_given_set env ls)
+unfolding read_given_set
+given_sure env n k ls = sure_bind Any (IsBelow (2 ^ n)) (bar_or_close ls) (λ bar. cond bar.0 (read_list env bar.1 >>= λ c. close_paren c.0 c.1) (Ok (0, bar.1))) (any (bar_or_close ls)) (λ bar u. chosen bar.0 bar.1)
   where
-    chosen : (b : Bool) (rest : List Letter) → Sure (IsBelow (2 ^ n)) (cond b (read_list env rest >>= λ c. closed c.0 c.1) (Ok (0, rest)))
-    chosen true rest = sure_bind (IsBelow (2 ^ n)) (IsBelow (2 ^ n)) (read_list env rest) (λ c. closed c.0 c.1) (list_sure env n k rest) (λ c hc. closed_sure (λ (s : ℕ). s < 2 ^ n) c.0 hc c.1)
+    chosen : (b : Bool) (rest : List Letter) → Sure (IsBelow (2 ^ n)) (cond b (read_list env rest >>= λ c. close_paren c.0 c.1) (Ok (0, rest)))
+    chosen true rest = sure_bind (IsBelow (2 ^ n)) (IsBelow (2 ^ n)) (read_list env rest) (λ c. close_paren c.0 c.1) (list_sure env n k rest) (λ c hc. closed_sure (λ (s : ℕ). s < 2 ^ n) c.0 hc c.1)
     chosen false rest = some_sets n
 
 abbrev pub HasSets : ℕ → ℕ → Atom × List Letter → Type 0
@@ -102,25 +102,25 @@ HasSets n m x = IsAtomOf n m x.0
 joint_sure : (env : Environment) (n m : ℕ) → Knows env n → (ls : List Letter) → Sure (HasSets n m) (read_joint env ls)
 unfolding read_joint
 joint_sure env n m k ls =
-    sure_bind Any (HasSets n m) (opened ls) (λ inner. read_list env inner >>= λ a. read_given env a.1 >>= λ c. Ok (Entropy a.0 c.0, c.1)) (any (opened ls))
-    (λ inner u. sure_bind (IsBelow (2 ^ n)) (HasSets n m) (read_list env inner) (λ a. read_given env a.1 >>= λ c. Ok (Entropy a.0 c.0, c.1)) (list_sure env n k inner)
-    (λ a ha. sure_bind (IsBelow (2 ^ n)) (HasSets n m) (read_given env a.1) (λ c. Ok (Entropy a.0 c.0, c.1)) (given_sure env n k a.1) (λ c hc. (ha, hc))))
+    sure_bind Any (HasSets n m) (open_paren ls) (λ inner. read_list env inner >>= λ a. read_given_set env a.1 >>= λ c. Ok (Entropy a.0 c.0, c.1)) (any (open_paren ls))
+    (λ inner u. sure_bind (IsBelow (2 ^ n)) (HasSets n m) (read_list env inner) (λ a. read_given_set env a.1 >>= λ c. Ok (Entropy a.0 c.0, c.1)) (list_sure env n k inner)
+    (λ a ha. sure_bind (IsBelow (2 ^ n)) (HasSets n m) (read_given_set env a.1) (λ c. Ok (Entropy a.0 c.0, c.1)) (given_sure env n k a.1) (λ c hc. (ha, hc))))
 
 mutual_sure : (env : Environment) (n m : ℕ) → Knows env n → (ls : List Letter) → Sure (HasSets n m) (read_mutual env ls)
 unfolding read_mutual
 mutual_sure env n m k ls =
-    sure_bind Any (HasSets n m) (opened ls) (λ inner. read_list env inner >>= λ a. divided a.1 >>= λ middle. read_list env middle >>= λ b. read_given env b.1 >>= λ c. Ok (Mutual a.0 b.0 c.0, c.1)) (any (opened ls))
-    (λ inner u. sure_bind (IsBelow (2 ^ n)) (HasSets n m) (read_list env inner) (λ a. divided a.1 >>= λ middle. read_list env middle >>= λ b. read_given env b.1 >>= λ c. Ok (Mutual a.0 b.0 c.0, c.1)) (list_sure env n k inner)
-    (λ a ha. sure_bind Any (HasSets n m) (divided a.1) (λ middle. read_list env middle >>= λ b. read_given env b.1 >>= λ c. Ok (Mutual a.0 b.0 c.0, c.1)) (any (divided a.1))
-    (λ middle v. sure_bind (IsBelow (2 ^ n)) (HasSets n m) (read_list env middle) (λ b. read_given env b.1 >>= λ c. Ok (Mutual a.0 b.0 c.0, c.1)) (list_sure env n k middle)
-    (λ b hb. sure_bind (IsBelow (2 ^ n)) (HasSets n m) (read_given env b.1) (λ c. Ok (Mutual a.0 b.0 c.0, c.1)) (given_sure env n k b.1) (λ c hc. (ha, hb, hc))))))
+    sure_bind Any (HasSets n m) (open_paren ls) (λ inner. read_list env inner >>= λ a. semicolon a.1 >>= λ middle. read_list env middle >>= λ b. read_given_set env b.1 >>= λ c. Ok (Mutual a.0 b.0 c.0, c.1)) (any (open_paren ls))
+    (λ inner u. sure_bind (IsBelow (2 ^ n)) (HasSets n m) (read_list env inner) (λ a. semicolon a.1 >>= λ middle. read_list env middle >>= λ b. read_given_set env b.1 >>= λ c. Ok (Mutual a.0 b.0 c.0, c.1)) (list_sure env n k inner)
+    (λ a ha. sure_bind Any (HasSets n m) (semicolon a.1) (λ middle. read_list env middle >>= λ b. read_given_set env b.1 >>= λ c. Ok (Mutual a.0 b.0 c.0, c.1)) (any (semicolon a.1))
+    (λ middle v. sure_bind (IsBelow (2 ^ n)) (HasSets n m) (read_list env middle) (λ b. read_given_set env b.1 >>= λ c. Ok (Mutual a.0 b.0 c.0, c.1)) (list_sure env n k middle)
+    (λ b hb. sure_bind (IsBelow (2 ^ n)) (HasSets n m) (read_given_set env b.1) (λ c. Ok (Mutual a.0 b.0 c.0, c.1)) (given_sure env n k b.1) (λ c hc. (ha, hb, hc))))))
 
 -- the sets of an atom are of the variables that there are
 pub atom_sure : (env : Environment) (n m : ℕ) → Knows env n → (ls : List Letter) → Sure (HasSets n m) (read_atom env ls)
 unfolding read_atom
 atom_sure env n m k (Word w ∷ ls) = chosen (bytes_eq w entropy_text) (bytes_eq w mutual_text)
   where
-    chosen : (h i : Bool) → Sure (HasSets n m) (cond h (read_joint env ls) (cond i (read_mutual env ls) (stuck (Word w ∷ ls))))
+    chosen : (h i : Bool) → Sure (HasSets n m) (cond h (read_joint env ls) (cond i (read_mutual env ls) (no_rule (Word w ∷ ls))))
     chosen true i = joint_sure env n m k ls
     chosen false true = mutual_sure env n m k ls
     chosen false false = tt
@@ -136,6 +136,6 @@ abbrev pub AreFew : ℕ → ℕ → ℕ → List Term × List Letter → Type 0
 AreFew n m most x = (length x.0 ≤ most) × All (λ t. IsAtomOf n m t.atom) x.0
 
 -- the names of a vocabulary are its variables
-pub knows_names : (v : Vocabulary) → Knows (env_of v) (length v.variables)
+pub knows_names : (v : NamesView) → Knows (env_of v) (length v.variables)
 unfolding env_of
 knows_names v w i e = (position-Some (bytes_eq w) v.variables i [] e).0

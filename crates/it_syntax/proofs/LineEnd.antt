@@ -1,7 +1,7 @@
 -- The end of a line is traced.
 use Rattle.std.proofs.Common.{[], ◌∷◌, refl}
 use Rattle.it_syntax.specs.Letters.{End, Marked, clean}
-use Rattle.it_syntax.specs.Reading.{line_end}
+use Rattle.it_syntax.specs.AtomReading.{line_end}
 use Rattle.it_syntax.proofs.Traces.{Traces}
 use Rattle.it_syntax.proofs.AtomTraces.{stuck_here, stuck_none}
 

@@ -7,7 +7,7 @@ use Rattle.it_syntax.specs.Letters.{Letter, End, Marked, clean, letters}
 use Rattle.it_syntax.specs.Spans.{letter_of, letters_until, last_letter}
 use Rattle.it_syntax.specs.FirstFault.{FirstFault}
 use Rattle.it_syntax.specs.Lines.{spell_ended, SaysAs, to_end, letters_from, column_of, column_behind, FaultAt}
-use Rattle.it_syntax.specs.Reading.{Reads, ◌>>=◌, line_end}
+use Rattle.it_syntax.specs.AtomReading.{Reads, ◌>>=◌, line_end}
 use Rattle.it_syntax.proofs.Traces.{Traces, traces_bind, traces_map}
 use Rattle.it_syntax.proofs.SpelledIsRead.{Answers, answers_ok, answers_cons, answers_bind}
 use Rattle.it_syntax.proofs.LineEnd.{spell_end, nothing, end_traces}

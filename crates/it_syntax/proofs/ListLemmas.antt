@@ -8,8 +8,9 @@ use Rattle.it_syntax.specs.Letters.{Letter, Word, Number, Sym, End, Bad}
 use Rattle.it_syntax.specs.declared.rest.Stop.{Stop}
 use Rattle.it_syntax.specs.declared.rest.Stop.TheVariants as stops
 use Rattle.it_syntax.specs.Gives.{StopsAs}
-use Rattle.it_syntax.specs.Reading.{Reads, Fault, ◌>>=◌, named, after_comma, read_name, read_more}
-use Rattle.it_syntax.specs.Trees.{Environment, is_measure}
+use Rattle.it_syntax.specs.AtomReading.{Reads, Fault, ◌>>=◌, variable_or_fault, read_name, read_more}
+use Rattle.it_syntax.specs.ReaderSteps.{after_comma}
+use Rattle.it_syntax.specs.WrittenAtoms.{Environment, is_measure}
 
 -- what was read before, and what is still read
 abbrev pub with_set : ℕ → Reads ℕ → Reads ℕ
@@ -35,7 +36,7 @@ unfolding read_more read_name
 comma_more env [] = refl
 comma_more env (Word w ∷ ls) = one w (is_measure w) (env w) ls
   where
-    one : (w : List ℕ) (h : Bool) (o : Option ℕ) (ls : List Letter) → (named w h o ls >>= λ n. read_more env ls >>= λ m. Ok (bit_or (2 ^ n.0) m.0, m.1)) ≡ (named w h o ls >>= then_more env)
+    one : (w : List ℕ) (h : Bool) (o : Option ℕ) (ls : List Letter) → (variable_or_fault w h o ls >>= λ n. read_more env ls >>= λ m. Ok (bit_or (2 ^ n.0) m.0, m.1)) ≡ (variable_or_fault w h o ls >>= then_more env)
     one w true o ls = refl
     one w false None ls = refl
     one w false (Some i) ls = refl

@@ -6,9 +6,9 @@ use Rattle.it_syntax.specs.declared.rest.Stop.{Stop}
 use Rattle.it_syntax.specs.declared.rest.Stop.TheVariants as stops
 use Rattle.it_syntax.specs.Letters.{Letter}
 use Rattle.it_syntax.specs.Gives.{StopsAs}
-use Rattle.it_syntax.specs.Reading.{Reads, ◌>>=◌, read_list}
-use Rattle.it_syntax.specs.ConditionReading.{behind_divider, read_spare, if_divided, member_then, read_members, with_sets}
-use Rattle.it_syntax.specs.Trees.{Environment}
+use Rattle.it_syntax.specs.AtomReading.{Reads, ◌>>=◌, read_list}
+use Rattle.it_syntax.specs.GivenReading.{behind_divider, read_spare, if_divided, member_then, read_members, with_sets}
+use Rattle.it_syntax.specs.WrittenAtoms.{Environment}
 
 divider_some : (n : ℕ) (d : Divider) (env : Environment) (ls t : List Letter) → behind_divider d ls ≡ Some t → read_members (suc n) d env ls ≡ member_then (read_members n d env) env t
 unfolding read_members

@@ -7,7 +7,8 @@ use Rattle.it_syntax.specs.declared.types.Misspelling.{Misspelling}
 use Rattle.it_syntax.specs.declared.types.Token.{Token}
 use Rattle.it_syntax.specs.declared.types.TokenKind.{TokenKind}
 use Rattle.it_syntax.specs.declared.types.TokenKind.TheVariants as kinds
-use Rattle.it_syntax.specs.Fronts.{Run, Shape}
+use Rattle.it_syntax.specs.Fronts.{IsLongestRun}
+use Rattle.it_syntax.specs.ReaderSteps.{IsTokenFront}
 use Rattle.it_syntax.specs.Misspellings.{BeginsNothing, IsWrong, Misspelled, SpellsUntil, LineTokensAreOne}
 use Rattle.it_syntax.specs.Spans.{InLine}
 use Rattle.it_syntax.specs.Spelling.{is_letter, is_digit, is_space, AreAll, StartsWith, Stops, Cut}
@@ -34,14 +35,14 @@ wrong_some codes.Many h = h.0
 wrong_some codes.Number h = h.0
 wrong_some c h = h
 
-nothing_front : (k : TokenKind) (n : ℕ) (body : List ℕ) → BeginsNothing body → Shape k n body → ⊥
+nothing_front : (k : TokenKind) (n : ℕ) (body : List ℕ) → BeginsNothing body → IsTokenFront k n body → ⊥
 nothing_front k n [] h s = elim h [ ]
 nothing_front kinds.Word n (b ∷ body) h s = let x = h.0 in let y = s.0 in absurd cc
 nothing_front (kinds.Number v) n (b ∷ body) h s = let x = h.1 in let y = s.0 in absurd cc
 nothing_front (kinds.Symbol r) n (b ∷ body) h s = let x = h.3 in let y = s.0 in absurd cc
 
 -- what is wrong is no token
-wrong_front : (c : Code) (k : TokenKind) (n : ℕ) (body : List ℕ) → IsWrong c body → Shape k n body → ⊥
+wrong_front : (c : Code) (k : TokenKind) (n : ℕ) (body : List ℕ) → IsWrong c body → IsTokenFront k n body → ⊥
 wrong_front codes.Byte k n body h s = nothing_front k n body h s
 wrong_front codes.Many k n body h s = word_long h.1.0 body h.0 h.1.1.0 h.1.1.1 k n s
 wrong_front codes.Number k n body h s = number_large h.1.0 body h.0 h.1.1.0 h.1.1.1 k n s
@@ -71,8 +72,8 @@ wrong_one codes.Many d body h k = absurd k
 wrong_one codes.Number d body h k = absurd k
 wrong_one c d body h k = absurd h
 
-wrong_run : (at : ℕ) (bytes : List ℕ) (m : Misspelling) (h : Misspelled at bytes m) → Run is_space bytes (length h.gap)
-wrong_run at bytes m h = subst (λ (b : List ℕ). Run is_space b (length h.gap)) (sym h.whole) (run_of_text is_space h.gap h.body h.blank (wrong_stops m.code h.body h.wrong))
+wrong_run : (at : ℕ) (bytes : List ℕ) (m : Misspelling) (h : Misspelled at bytes m) → IsLongestRun is_space bytes (length h.gap)
+wrong_run at bytes m h = subst (λ (b : List ℕ). IsLongestRun is_space b (length h.gap)) (sym h.whole) (run_of_text is_space h.gap h.body h.blank (wrong_stops m.code h.body h.wrong))
 
 wrong_body : (at : ℕ) (bytes : List ℕ) (m : Misspelling) (h : Misspelled at bytes m) → drop (length h.gap) bytes ≡ h.body
 wrong_body at bytes m h = ap (λ (b : List ℕ). drop (length h.gap) b) h.whole ∙ drop_at h.gap h.body (length h.gap) refl
@@ -87,7 +88,7 @@ blank_or_wrong at bytes m h k = none h.body (omega (arith, run_once is_space byt
 token_or_wrong : (at : ℕ) (bytes : List ℕ) (m : Misspelling) (t : Token) (rest : List ℕ) → Misspelled at bytes m → Cut at bytes t rest → ⊥
 token_or_wrong at bytes m t rest h c =
     let f = found_of at (length h.gap) bytes t rest (wrong_run at bytes m h) c in
-    wrong_front m.code t.kind (t.end - t.start) h.body h.wrong (subst (λ (b : List ℕ). Shape t.kind (t.end - t.start) b) (wrong_body at bytes m h) f.shape)
+    wrong_front m.code t.kind (t.end - t.start) h.body h.wrong (subst (λ (b : List ℕ). IsTokenFront t.kind (t.end - t.start) b) (wrong_body at bytes m h) f.shape)
 
 made : ℕ → Code → Misspelling
 made column code = record { column = column; code = code }
@@ -127,17 +128,17 @@ abbrev pub GoesOn : List ℕ → List Token → ℕ → List ℕ → Type 0
 GoesOn line so_far at rest = (ts : List Token) (m : Option Misspelling) → SpellsUntil at rest ts m → SpellsUntil 0 line (so_far ++ ts) m
 
 -- one more token
-pub goes_on_more : (line : List ℕ) (so_far : List Token) (at g n : ℕ) (rest : List ℕ) (t : Token) → Run is_space rest g → Shape t.kind n (drop g rest) → t.start ≡ at + g → t.end ≡ t.start + n
+pub goes_on_more : (line : List ℕ) (so_far : List Token) (at g n : ℕ) (rest : List ℕ) (t : Token) → IsLongestRun is_space rest g → IsTokenFront t.kind n (drop g rest) → t.start ≡ at + g → t.end ≡ t.start + n
     → GoesOn line so_far at rest → GoesOn line (so_far ++ t ∷ []) t.end (drop n (drop g rest))
 goes_on_more line so_far at g n rest t run shape start end w ts m h =
     subst (λ (us : List Token). SpellsUntil 0 line us m) (sym (append_assoc so_far (t ∷ []) ts)) (w (t ∷ ts) m (drop n (drop g rest), cut_made at g n rest t run shape start end, h))
 
 -- nothing but spaces is left
-pub ends_blank : (line : List ℕ) (so_far : List Token) (at g : ℕ) (rest : List ℕ) → Run is_space rest g → length (drop g rest) ≡ 0 → GoesOn line so_far at rest → SpellsUntil 0 line so_far None
+pub ends_blank : (line : List ℕ) (so_far : List Token) (at g : ℕ) (rest : List ℕ) → IsLongestRun is_space rest g → length (drop g rest) ≡ 0 → GoesOn line so_far at rest → SpellsUntil 0 line so_far None
 ends_blank line so_far at g rest run e w = subst (λ (ts : List Token). SpellsUntil 0 line ts None) (append-nil so_far) (w [] None (run_all is_space rest g run.all (omega (arith, length-drop g rest, e))))
 
 -- a misspelling is left
-pub ends_wrong : (line : List ℕ) (so_far : List Token) (at g : ℕ) (rest : List ℕ) (m : Misspelling) → Run is_space rest g → IsWrong m.code (drop g rest) → m.column ≡ at + g + 1 → GoesOn line so_far at rest → SpellsUntil 0 line so_far (Some m)
+pub ends_wrong : (line : List ℕ) (so_far : List Token) (at g : ℕ) (rest : List ℕ) (m : Misspelling) → IsLongestRun is_space rest g → IsWrong m.code (drop g rest) → m.column ≡ at + g + 1 → GoesOn line so_far at rest → SpellsUntil 0 line so_far (Some m)
 ends_wrong line so_far at g rest m run wrong column w =
     subst (λ (ts : List Token). SpellsUntil 0 line ts (Some m)) (append-nil so_far) (w [] (Some m) (record {
       gap = take g rest;

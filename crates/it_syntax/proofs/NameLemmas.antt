@@ -2,14 +2,13 @@
 use Rattle.std.proofs.Common.{◌≡◌, ℕ, suc, ◌<◌, ◌≤◌, Bool, true, false, cond, List, Option, [], ◌∷◌, ◌++◌, length, get_or, Some, None, refl, sym, ap, ◌∙◌, subst, arith, append_assoc, nat_lt, ◌+◌, length-append, Vec, Global, map, not}
 use Rattle.std.specs.Prelude.{All, bytes_eq, vec_len}
 use Rattle.std.specs.List.{position, position_or_len, list_any, IsDistinct, AllByRecursion, AllZip}
-use Rattle.std.proofs.lemmas.List.{length-map}
+use Rattle.std.proofs.lemmas.List.{length-map, append-nil}
 use Rattle.indexmap.specs.IndexSet.{insert_key}
-use Rattle.std.proofs.lemmas.List.{append-nil}
 use Rattle.std.proofs.lemmas.List.Elements.{All-nil, All-cons, All-head, All-tail}
 use Rattle.std.proofs.lemmas.Slice.Eq.{bytes_eq-Decides}
 use Rattle.std.proofs.lemmas.List.Sums.{fails_before_first}
 use Rattle.std.proofs.lemmas.Bool.Decides.{nat_tests}
-use Rattle.it_syntax.specs.Vocabulary.{index_of, Vocabulary, IsVocabulary, IsNew}
+use Rattle.it_syntax.specs.NamesViews.{index_of, NamesView, AreNames, IsNew}
 
 abbrev place : ℕ → ℕ → Option ℕ
 place n m = cond (nat_lt n m) (Some n) None
@@ -31,11 +30,11 @@ pub nowhere_all : (name : List ℕ) (xs : List (List ℕ)) → index_of xs name 
 nowhere_all name xs none = all_fail (bytes_eq name) xs (nowhere_fails (bytes_eq name) xs [] none)
 
 turned : (xs ys : List ℕ) → bytes_eq xs ys ≡ false → bytes_eq ys xs ≡ false
-turned xs ys e = at (bytes_eq ys xs) refl
+turned xs ys e = by_test (bytes_eq ys xs) refl
   where
-    at : (b : Bool) → bytes_eq ys xs ≡ b → b ≡ false
-    at false h = refl
-    at true h =
+    by_test : (b : Bool) → bytes_eq ys xs ≡ b → b ≡ false
+    by_test false h = refl
+    by_test true h =
         let same : ys ≡ xs = (bytes_eq-Decides ys xs).0 h in
         let is : bytes_eq xs ys ≡ true = subst (λ (zs : List ℕ). bytes_eq zs ys ≡ true) same (subst (λ (zs : List ℕ). bytes_eq ys zs ≡ true) (sym same) h) in
         absurd cc
@@ -62,7 +61,7 @@ abbrev IsShort : List ℕ → Type 0
 IsShort name = (1 ≤ length name) × (length name ≤ 16)
 
 -- ---- one more variable, one more rate, and none
-pub with_variable : (v : Vocabulary) (name : List ℕ) → IsVocabulary v → IsNew v name → 1 ≤ length name → length name ≤ 16 → length v.variables < 10 → IsVocabulary (record { variables = v.variables ++ name ∷ []; rates = v.rates })
+pub with_variable : (v : NamesView) (name : List ℕ) → AreNames v → IsNew v name → 1 ≤ length name → length name ≤ 16 → length v.variables < 10 → AreNames (record { variables = v.variables ++ name ∷ []; rates = v.rates })
 with_variable v name h new some short few =
     let same : v.variables ++ name ∷ v.rates ≡ (v.variables ++ name ∷ []) ++ v.rates = sym (append_assoc v.variables (name ∷ []) v.rates) in
     record {
@@ -72,7 +71,7 @@ with_variable v name h new some short few =
       distinct = subst (λ (names : List (List ℕ)). IsDistinct bytes_eq names) same (distinct_insert v.variables v.rates name h.distinct (nowhere_all name v.variables new.0) (nowhere_all name v.rates new.1));
     }
 
-pub with_rate : (v : Vocabulary) (name : List ℕ) → IsVocabulary v → IsNew v name → 1 ≤ length name → length name ≤ 16 → length v.rates < 16 → IsVocabulary (record { variables = v.variables; rates = v.rates ++ name ∷ [] })
+pub with_rate : (v : NamesView) (name : List ℕ) → AreNames v → IsNew v name → 1 ≤ length name → length name ≤ 16 → length v.rates < 16 → AreNames (record { variables = v.variables; rates = v.rates ++ name ∷ [] })
 with_rate v name h new some short few =
     let same : (v.variables ++ v.rates) ++ name ∷ [] ≡ v.variables ++ (v.rates ++ name ∷ []) = append_assoc v.variables v.rates (name ∷ []) in
     let all : List (List ℕ) = v.variables ++ v.rates in
@@ -84,7 +83,7 @@ with_rate v name h new some short few =
       distinct = subst (λ (names : List (List ℕ)). IsDistinct bytes_eq names) same (distinct_insert all [] name (subst (λ (names : List (List ℕ)). IsDistinct bytes_eq names) (sym whole) h.distinct) (all_join (bytes_eq name) v.variables v.rates (nowhere_all name v.variables new.0) (nowhere_all name v.rates new.1)) tt);
     }
 
-pub no_names : IsVocabulary (record { variables = []; rates = [] })
+pub no_names : AreNames (record { variables = []; rates = [] })
 unfolding IsDistinct
 no_names = record { few_variables = omega arith; few_rates = omega arith; short = All-nil IsShort; distinct = tt }
 

@@ -5,10 +5,10 @@ use Rattle.std.proofs.lemmas.Slice.Eq.{bytes_eq-Decides}
 use Rattle.it_syntax.specs.declared.types.Symbol.TheVariants.{LeftParen, Semicolon}
 use Rattle.it_syntax.specs.declared.types.Code.TheVariants as codes
 use Rattle.it_syntax.specs.declared.types.Atom.{Atom}
-use Rattle.it_syntax.specs.declared.types.Atom.TheVariants.{Mutual}
+use Rattle.it_syntax.specs.declared.types.Atom.TheVariants as atoms
 use Rattle.it_syntax.specs.Letters.{Letter, Word, Sym, Marked, clean}
-use Rattle.it_syntax.specs.Trees.{Environment, WrittenList, WrittenAtom, Joint, JointGiven, Shared, SharedGiven, entropy_text, mutual_text, list_set, atom_of, spell_list, spell_atom}
-use Rattle.it_syntax.specs.Reading.{Reads, ◌>>=◌, stuck, read_list, divided, opened, read_given, read_joint, read_mutual, read_atom}
+use Rattle.it_syntax.specs.WrittenAtoms.{Environment, WrittenList, WrittenAtom, Entropy, EntropyGiven, Mutual, MutualGiven, entropy_text, mutual_text, list_set, atom_of, spell_list, spell_atom}
+use Rattle.it_syntax.specs.AtomReading.{Reads, ◌>>=◌, no_rule, read_list, semicolon, open_paren, read_given_set, read_joint, read_mutual, read_atom}
 use Rattle.it_syntax.proofs.Traces.{By, Traces, traces_bind, traces_map, letter_then}
 use Rattle.it_syntax.proofs.AtomTraces.{stuck_here, stuck_none, Pair, spell_pair, joint_of, joint_traces, some_list, list_traces, given_traces, spell_given, given_set}
 
@@ -21,20 +21,20 @@ abbrev spell_behind : Environment → Pair → Marked → Marked
 spell_behind env p k = clean (Sym Semicolon) ∷ spell_pair env p k
 
 abbrev behind_of : Environment → ℕ → Pair → Atom
-behind_of env a p = Mutual a (list_set env p.0) (given_set env p.1)
+behind_of env a p = atoms.Mutual a (list_set env p.0) (given_set env p.1)
 
 abbrev pair_inner : Environment → ℕ → List Letter → Reads Atom
-pair_inner env a ls = read_list env ls >>= λ b. read_given env b.1 >>= λ c. Ok (Mutual a b.0 c.0, c.1)
+pair_inner env a ls = read_list env ls >>= λ b. read_given_set env b.1 >>= λ c. Ok (atoms.Mutual a b.0 c.0, c.1)
 
 pair_inner_traces : (env : Environment) (a : ℕ) → Traces (pair_inner env a) (spell_pair env) (behind_of env a)
-pair_inner_traces env a = traces_bind (read_list env) (λ b ls. read_given env ls >>= λ c. Ok (Mutual a b c.0, c.1)) (pair_inner env a) (spell_list env) (λ b. spell_given env) (spell_pair env) (list_set env) (λ b c. Mutual a b (given_set env c)) (behind_of env a) (λ b c. (b, c))
-    (record { is = λ ls. refl; spells = λ y z k. refl; value = λ y z. refl; some = None; first = list_traces env; second = λ b. traces_map (read_given env) (Mutual a b) (spell_given env) (given_set env) (given_traces env) })
+pair_inner_traces env a = traces_bind (read_list env) (λ b ls. read_given_set env ls >>= λ c. Ok (atoms.Mutual a b c.0, c.1)) (pair_inner env a) (spell_list env) (λ b. spell_given env) (spell_pair env) (list_set env) (λ b c. atoms.Mutual a b (given_set env c)) (behind_of env a) (λ b c. (b, c))
+    (record { is = λ ls. refl; spells = λ y z k. refl; value = λ y z. refl; some = None; first = list_traces env; second = λ b. traces_map (read_given_set env) (atoms.Mutual a b) (spell_given env) (given_set env) (given_traces env) })
 
 abbrev behind_first : Environment → ℕ → List Letter → Reads Atom
-behind_first env a ls = divided ls >>= pair_inner env a
+behind_first env a ls = semicolon ls >>= pair_inner env a
 
 behind_traces : (env : Environment) (a : ℕ) → Traces (behind_first env a) (spell_behind env) (behind_of env a)
-unfolding divided
+unfolding semicolon
 behind_traces env a (Sym Semicolon ∷ ls) = letter_then (behind_first env a) (pair_inner env a) (Sym Semicolon) (spell_pair env) (spell_behind env) (behind_of env a) (behind_of env a) (λ p. p) ls (λ s. refl) (λ z k. refl) (λ z. refl) (pair_inner env a ls) (pair_inner_traces env a ls)
 behind_traces env a [] = stuck_none (behind_first env a) (spell_behind env) (some_list, None) refl
 behind_traces env a (l ∷ ls) = stuck_here (behind_first env a) (spell_behind env) (some_list, None) l ls _ (λ s. refl) refl
@@ -56,7 +56,7 @@ abbrev spell_opened : Environment → Triple → Marked → Marked
 spell_opened env t k = clean (Sym LeftParen) ∷ spell_triple env t k
 
 mutual_traces : (env : Environment) → Traces (read_mutual env) (spell_opened env) (triple_of env)
-unfolding read_mutual opened
+unfolding read_mutual open_paren
 mutual_traces env (Sym LeftParen ∷ ls) = letter_then (read_mutual env) (triple_inner env) (Sym LeftParen) (spell_triple env) (spell_opened env) (triple_of env) (triple_of env) (λ p. p) ls (λ s. refl) (λ z k. refl) (λ z. refl) (triple_inner env ls) (triple_traces env ls)
 mutual_traces env [] = stuck_none (read_mutual env) (spell_opened env) (some_list, (some_list, None)) refl
 mutual_traces env (l ∷ ls) = stuck_here (read_mutual env) (spell_opened env) (some_list, (some_list, None)) l ls _ (λ s. refl) refl
@@ -64,12 +64,12 @@ mutual_traces env (l ∷ ls) = stuck_here (read_mutual env) (spell_opened env) (
 -- ---- atoms
 
 abbrev joint_written : Pair → WrittenAtom
-joint_written (a, None) = Joint a
-joint_written (a, Some c) = JointGiven a c
+joint_written (a, None) = Entropy a
+joint_written (a, Some c) = EntropyGiven a c
 
 abbrev shared_written : Triple → WrittenAtom
-shared_written (a, (b, None)) = Shared a b
-shared_written (a, (b, Some c)) = SharedGiven a b c
+shared_written (a, (b, None)) = Mutual a b
+shared_written (a, (b, Some c)) = MutualGiven a b c
 
 joint_spelled : (env : Environment) (w : List ℕ) → entropy_text ≡ w → (z : Pair) (k : Marked) → spell_atom env (joint_written z) k ≡ clean (Word w) ∷ clean (Sym LeftParen) ∷ spell_pair env z k
 joint_spelled env w e (a, None) k = ap (λ (t : List ℕ). clean (Word t) ∷ clean (Sym LeftParen) ∷ spell_pair env (a, None) k) e
@@ -88,10 +88,10 @@ shared_value env (a, (b, None)) = refl
 shared_value env (a, (b, Some c)) = refl
 
 some_atom : WrittenAtom
-some_atom = Joint (record { first = 88 ∷ []; more = [] })
+some_atom = Entropy (record { first = 88 ∷ []; more = [] })
 
 abbrev chosen_atom : Environment → List ℕ → List Letter → Bool → Bool → Reads Atom
-chosen_atom env w ls h i = cond h (read_joint env ls) (cond i (read_mutual env ls) (stuck (Word w ∷ ls)))
+chosen_atom env w ls h i = cond h (read_joint env ls) (cond i (read_mutual env ls) (no_rule (Word w ∷ ls)))
 
 word_is : (env : Environment) (w : List ℕ) (s : List Letter) (h i : Bool) → bytes_eq w entropy_text ≡ h → bytes_eq w mutual_text ≡ i → read_atom env (Word w ∷ s) ≡ chosen_atom env w s h i
 unfolding read_atom

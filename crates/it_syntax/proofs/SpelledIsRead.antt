@@ -3,23 +3,23 @@ use Rattle.std.proofs.Common.{◌≡◌, ℕ, Bool, true, false, cond, ◌^◌, 
 use Rattle.std.specs.Prelude.{bit_or}
 use Rattle.it_syntax.specs.declared.types.Symbol.TheVariants.{LeftParen, RightParen, Comma, Semicolon, Bar, Plus, Minus}
 use Rattle.it_syntax.specs.declared.types.Code.TheVariants as codes
-use Rattle.it_syntax.specs.declared.types.Atom.TheVariants.{Entropy, Mutual}
-use Rattle.it_syntax.specs.Letters.{Letter, Word, Sym, Marked, clean, letters, cleaned}
-use Rattle.it_syntax.specs.Trees.{Environment, WrittenList, WrittenAtom, Joint, JointGiven, Shared, SharedGiven, TermSign, entropy_text, mutual_text, is_measure, unknown, index_or, more_set, list_set, atom_of, sign_letter, spell_name, spell_more, spell_list, spell_atom, spell_sign}
+use Rattle.it_syntax.specs.declared.types.Atom.TheVariants as atoms
+use Rattle.it_syntax.specs.Letters.{Letter, Word, Sym, Marked, clean, letters, clean_all}
+use Rattle.it_syntax.specs.WrittenAtoms.{Environment, WrittenList, WrittenAtom, Entropy, EntropyGiven, Mutual, MutualGiven, TermSign, entropy_text, mutual_text, is_measure, unknown, index_or, more_set, list_set, atom_of, sign_letter, spell_name, spell_more, spell_list, spell_atom, spell_sign}
 use Rattle.it_syntax.proofs.Traces.{cleaned_append}
-use Rattle.it_syntax.specs.Reading.{Fault, Reads, ◌>>=◌, named, read_name, read_more, read_list, closed, opened, divided, bar_or_close, read_given, read_joint, read_mutual, read_atom}
+use Rattle.it_syntax.specs.AtomReading.{Fault, Reads, ◌>>=◌, variable_or_fault, read_name, read_more, read_list, close_paren, open_paren, semicolon, bar_or_close, read_given_set, read_joint, read_mutual, read_atom}
 
 -- m is k behind letters that nothing is said against
 pub record Clears (m k : Marked) : Type 0 where
   pub front : List Letter
-  pub is : m ≡ cleaned front ++ k
+  pub is : m ≡ clean_all front ++ k
 
 -- m has its first mark at a place whose fault is f
 pub record Marks (m : Marked) (f : Fault) : Type 0 where
   pub front : List Letter
   pub letter : Letter
   pub rest : Marked
-  pub is : m ≡ cleaned front ++ ((letter, Some f.0) ∷ rest)
+  pub is : m ≡ clean_all front ++ ((letter, Some f.0) ∷ rest)
   pub left : f.1 ≡ letter ∷ letters rest
 
 -- a reading of m, which spells x and then k: x, or the fault at the first mark before k
@@ -35,8 +35,8 @@ passes_cons l m k p = record { front = l ∷ p.front; is = ap (λ (q : Marked). 
 marks_cons : (l : Letter) (m : Marked) (f : Fault) → Marks m f → Marks (clean l ∷ m) f
 marks_cons l m f p = record { front = l ∷ p.front; letter = p.letter; rest = p.rest; is = ap (λ (q : Marked). clean l ∷ q) p.is; left = p.left }
 
-joined : (p q : List Letter) (m n k : Marked) → m ≡ cleaned p ++ n → n ≡ cleaned q ++ k → m ≡ cleaned (p ++ q) ++ k
-joined p q m n k g h = g ∙ ap (λ (t : Marked). cleaned p ++ t) h ∙ rw (cleaned_append p q, append_assoc) refl
+joined : (p q : List Letter) (m n k : Marked) → m ≡ clean_all p ++ n → n ≡ clean_all q ++ k → m ≡ clean_all (p ++ q) ++ k
+joined p q m n k g h = g ∙ ap (λ (t : Marked). clean_all p ++ t) h ∙ rw (cleaned_append p q, append_assoc) refl
 
 passes_then : (m n k : Marked) → Clears m n → Clears n k → Clears m k
 passes_then m n k p q = record { front = p.front ++ q.front; is = joined p.front q.front m n k p.is q.is }
@@ -73,7 +73,7 @@ NoSign ((Sym Plus, m) ∷ k) = ⊥
 NoSign ((Sym Minus, m) ∷ k) = ⊥
 NoSign k = Unit {0}
 
-named_answers : (w : List ℕ) (h : Bool) (o : Option ℕ) (k : Marked) → Answers (named w h o (letters k)) ((Word w, cond h (Some codes.Word) (unknown o)) ∷ k) (index_or o) k
+named_answers : (w : List ℕ) (h : Bool) (o : Option ℕ) (k : Marked) → Answers (variable_or_fault w h o (letters k)) ((Word w, cond h (Some codes.Word) (unknown o)) ∷ k) (index_or o) k
 named_answers w true o k = inr ((codes.Word, Word w ∷ letters k), (refl, record { front = []; letter = Word w; rest = k; is = refl; left = refl }))
 named_answers w false (Some i) k = inl (refl, record { front = Word w ∷ []; is = refl })
 named_answers w false None k = inr ((codes.Name, Word w ∷ letters k), (refl, record { front = []; letter = Word w; rest = k; is = refl; left = refl }))
@@ -95,7 +95,7 @@ more_answers env (w ∷ ws) k s =
     let n = spell_more env ws k in
     let x = more_set env (w ∷ ws) in
     answers_cons (Sym Comma) _ (spell_name env w n) x k
-    (answers_bind (named w (is_measure w) (env w) (letters n)) (λ f. read_more env (letters n) >>= λ m. Ok (bit_or (2 ^ f.0) m.0, m.1)) (spell_name env w n) n k (index_or (env w)) x
+    (answers_bind (variable_or_fault w (is_measure w) (env w) (letters n)) (λ f. read_more env (letters n) >>= λ m. Ok (bit_or (2 ^ f.0) m.0, m.1)) (spell_name env w n) n k (index_or (env w)) x
     (named_answers w (is_measure w) (env w) n)
     (answers_bind (read_more env (letters n)) (λ m. Ok (bit_or (2 ^ index_or (env w)) m.0, m.1)) n k k (more_set env ws) x (more_answers env ws k s) (answers_ok x k)))
 
@@ -109,43 +109,43 @@ list_answers env x k s =
     (name_answers env x.first n)
     (answers_bind (read_more env (letters n)) (λ m. Ok (bit_or (2 ^ index_or (env x.first)) m.0, m.1)) n k k (more_set env x.more) y (more_answers env x.more k s) (answers_ok y k))
 
-closing : {A : Type 0} (x : A) (k : Marked) → Answers (closed x (letters (clean (Sym RightParen) ∷ k))) (clean (Sym RightParen) ∷ k) x k
-unfolding closed
+closing : {A : Type 0} (x : A) (k : Marked) → Answers (close_paren x (letters (clean (Sym RightParen) ∷ k))) (clean (Sym RightParen) ∷ k) x k
+unfolding close_paren
 closing x k = answers_cons (Sym RightParen) (Ok (x, letters k)) k x k (answers_ok x k)
 
 -- a list of names, and what is read behind it
 pub list_then : {A : Type 0} (env : Environment) (a : WrittenList) (f : ℕ → List Letter → Reads A) (n k : Marked) (y : A) → NoComma n → Answers (f (list_set env a) (letters n)) n y k → Answers (read_list env (letters (spell_list env a n)) >>= λ x. f x.0 x.1) (spell_list env a n) y k
 list_then env a f n k y s h = answers_bind (read_list env (letters (spell_list env a n))) (λ x. f x.0 x.1) (spell_list env a n) n k (list_set env a) y (list_answers env a n s) h
 
-given_none : (env : Environment) (k : Marked) → Answers (read_given env (letters (clean (Sym RightParen) ∷ k))) (clean (Sym RightParen) ∷ k) 0 k
-unfolding read_given bar_or_close
+given_none : (env : Environment) (k : Marked) → Answers (read_given_set env (letters (clean (Sym RightParen) ∷ k))) (clean (Sym RightParen) ∷ k) 0 k
+unfolding read_given_set bar_or_close
 given_none env k = answers_cons (Sym RightParen) (Ok (0, letters k)) k 0 k (answers_ok 0 k)
 
-given_some : (env : Environment) (c : WrittenList) (k : Marked) → Answers (read_given env (letters (clean (Sym Bar) ∷ spell_list env c (clean (Sym RightParen) ∷ k)))) (clean (Sym Bar) ∷ spell_list env c (clean (Sym RightParen) ∷ k)) (list_set env c) k
-unfolding read_given bar_or_close
+given_some : (env : Environment) (c : WrittenList) (k : Marked) → Answers (read_given_set env (letters (clean (Sym Bar) ∷ spell_list env c (clean (Sym RightParen) ∷ k)))) (clean (Sym Bar) ∷ spell_list env c (clean (Sym RightParen) ∷ k)) (list_set env c) k
+unfolding read_given_set bar_or_close
 given_some env c k =
     let o : Marked = clean (Sym RightParen) ∷ k in
     answers_cons (Sym Bar) _ (spell_list env c o) (list_set env c) k
-    (list_then env c closed o k (list_set env c) tt (closing (list_set env c) k))
+    (list_then env c close_paren o k (list_set env c) tt (closing (list_set env c) k))
 
 -- what is behind the first list of H, and behind the second of I
-joint_then : (env : Environment) (a : WrittenList) (s : ℕ) (n k : Marked) → NoComma n → Answers (read_given env (letters n)) n s k → Answers (read_joint env (Sym LeftParen ∷ letters (spell_list env a n))) (spell_list env a n) (Entropy (list_set env a) s) k
-unfolding read_joint opened
+joint_then : (env : Environment) (a : WrittenList) (s : ℕ) (n k : Marked) → NoComma n → Answers (read_given_set env (letters n)) n s k → Answers (read_joint env (Sym LeftParen ∷ letters (spell_list env a n))) (spell_list env a n) (atoms.Entropy (list_set env a) s) k
+unfolding read_joint open_paren
 joint_then env a s n k free g =
-    let y = Entropy (list_set env a) s in
-    list_then env a (λ z r. read_given env r >>= λ c. Ok (Entropy z c.0, c.1)) n k y free
-    (answers_bind (read_given env (letters n)) (λ c. Ok (Entropy (list_set env a) c.0, c.1)) n k k s y g (answers_ok y k))
+    let y = atoms.Entropy (list_set env a) s in
+    list_then env a (λ z r. read_given_set env r >>= λ c. Ok (atoms.Entropy z c.0, c.1)) n k y free
+    (answers_bind (read_given_set env (letters n)) (λ c. Ok (atoms.Entropy (list_set env a) c.0, c.1)) n k k s y g (answers_ok y k))
 
-mutual_then : (env : Environment) (a b : WrittenList) (s : ℕ) (n k : Marked) → NoComma n → Answers (read_given env (letters n)) n s k → Answers (read_mutual env (Sym LeftParen ∷ letters (spell_list env a (clean (Sym Semicolon) ∷ spell_list env b n)))) (spell_list env a (clean (Sym Semicolon) ∷ spell_list env b n)) (Mutual (list_set env a) (list_set env b) s) k
-unfolding read_mutual opened divided
+mutual_then : (env : Environment) (a b : WrittenList) (s : ℕ) (n k : Marked) → NoComma n → Answers (read_given_set env (letters n)) n s k → Answers (read_mutual env (Sym LeftParen ∷ letters (spell_list env a (clean (Sym Semicolon) ∷ spell_list env b n)))) (spell_list env a (clean (Sym Semicolon) ∷ spell_list env b n)) (atoms.Mutual (list_set env a) (list_set env b) s) k
+unfolding read_mutual open_paren semicolon
 mutual_then env a b s n k free g =
     let x = list_set env a in
-    let y = Mutual x (list_set env b) s in
+    let y = atoms.Mutual x (list_set env b) s in
     let m = spell_list env b n in
-    list_then env a (λ z r. divided r >>= λ d. read_list env d >>= λ e. read_given env e.1 >>= λ c. Ok (Mutual z e.0 c.0, c.1)) (clean (Sym Semicolon) ∷ m) k y tt
+    list_then env a (λ z r. semicolon r >>= λ d. read_list env d >>= λ e. read_given_set env e.1 >>= λ c. Ok (atoms.Mutual z e.0 c.0, c.1)) (clean (Sym Semicolon) ∷ m) k y tt
     (answers_cons (Sym Semicolon) _ m y k
-    (list_then env b (λ z r. read_given env r >>= λ c. Ok (Mutual x z c.0, c.1)) n k y free
-    (answers_bind (read_given env (letters n)) (λ c. Ok (Mutual x (list_set env b) c.0, c.1)) n k k s y g (answers_ok y k))))
+    (list_then env b (λ z r. read_given_set env r >>= λ c. Ok (atoms.Mutual x z c.0, c.1)) n k y free
+    (answers_bind (read_given_set env (letters n)) (λ c. Ok (atoms.Mutual x (list_set env b) c.0, c.1)) n k k s y g (answers_ok y k))))
 
 -- behind `H (` and `I (`
 behind : {A : Type 0} (w l : Letter) (r : Reads A) (m : Marked) (x : A) (k : Marked) → Answers r m x k → Answers r (clean w ∷ clean l ∷ m) x k
@@ -154,10 +154,10 @@ behind w l r m x k a = answers_cons w r (clean l ∷ m) x k (answers_cons l r m 
 -- an entropy or a mutual information
 pub atom_answers : (env : Environment) (x : WrittenAtom) (k : Marked) → Answers (read_atom env (letters (spell_atom env x k))) (spell_atom env x k) (atom_of env x) k
 unfolding read_atom
-atom_answers env (Joint a) k = behind (Word entropy_text) (Sym LeftParen) _ _ _ k (joint_then env a 0 (clean (Sym RightParen) ∷ k) k tt (given_none env k))
-atom_answers env (JointGiven a c) k = behind (Word entropy_text) (Sym LeftParen) _ _ _ k (joint_then env a (list_set env c) (clean (Sym Bar) ∷ spell_list env c (clean (Sym RightParen) ∷ k)) k tt (given_some env c k))
-atom_answers env (Shared a b) k = behind (Word mutual_text) (Sym LeftParen) _ _ _ k (mutual_then env a b 0 (clean (Sym RightParen) ∷ k) k tt (given_none env k))
-atom_answers env (SharedGiven a b c) k = behind (Word mutual_text) (Sym LeftParen) _ _ _ k (mutual_then env a b (list_set env c) (clean (Sym Bar) ∷ spell_list env c (clean (Sym RightParen) ∷ k)) k tt (given_some env c k))
+atom_answers env (Entropy a) k = behind (Word entropy_text) (Sym LeftParen) _ _ _ k (joint_then env a 0 (clean (Sym RightParen) ∷ k) k tt (given_none env k))
+atom_answers env (EntropyGiven a c) k = behind (Word entropy_text) (Sym LeftParen) _ _ _ k (joint_then env a (list_set env c) (clean (Sym Bar) ∷ spell_list env c (clean (Sym RightParen) ∷ k)) k tt (given_some env c k))
+atom_answers env (Mutual a b) k = behind (Word mutual_text) (Sym LeftParen) _ _ _ k (mutual_then env a b 0 (clean (Sym RightParen) ∷ k) k tt (given_none env k))
+atom_answers env (MutualGiven a b c) k = behind (Word mutual_text) (Sym LeftParen) _ _ _ k (mutual_then env a b (list_set env c) (clean (Sym Bar) ∷ spell_list env c (clean (Sym RightParen) ∷ k)) k tt (given_some env c k))
 
 -- behind an optional sign
 pub sign_answers : {A : Type 0} (o : Option TermSign) (r : Reads A) (m : Marked) (x : A) (k : Marked) → Answers r m x k → Answers r (spell_sign o m) x k

@@ -8,23 +8,24 @@ use Rattle.it_syntax.specs.declared.types.Symbol.TheVariants.{LeftParen, RightPa
 use Rattle.it_syntax.specs.declared.types.TokenKind.{TokenKind}
 use Rattle.it_syntax.specs.declared.types.TokenKind.TheVariants as kinds
 use Rattle.it_syntax.specs.declared.types.Token.{Token}
-use Rattle.it_syntax.specs.Spelling.{is_letter, is_digit, is_word_byte, is_space, is_greater, AreAll, StartsWith, Stops, IsText, Ends, Cut, symbol_text, value_from}
-use Rattle.it_syntax.specs.Fronts.{Run, Shape, symbol_of, starts_with, find_symbol}
+use Rattle.it_syntax.specs.Spelling.{is_letter, is_digit, is_word_byte, is_space, is_greater, AreAll, StartsWith, Stops, IsText, EndsToken, Cut, symbol_text, value_from}
+use Rattle.it_syntax.specs.Fronts.{IsLongestRun, symbol_of, starts_with, find_symbol}
+use Rattle.it_syntax.specs.ReaderSteps.{IsTokenFront}
 
 -- ---- runs
 
-pub run_of_text : (f : ℕ → Bool) (text rest : List ℕ) → AreAll f text → Stops f rest → Run f (text ++ rest) (length text)
+pub run_of_text : (f : ℕ → Bool) (text rest : List ℕ) → AreAll f text → Stops f rest → IsLongestRun f (text ++ rest) (length text)
 run_of_text f [] rest h s = record { within = omega arith; all = tt; stops = s }
 run_of_text f (b ∷ text) rest h s = let r = run_of_text f text rest h.1 s in record { within = omega (arith, r.within); all = (h.0, r.all); stops = r.stops }
 
-pub run_once : (f : ℕ → Bool) (bs : List ℕ) (n m : ℕ) → Run f bs n → Run f bs m → n ≡ m
+pub run_once : (f : ℕ → Bool) (bs : List ℕ) (n m : ℕ) → IsLongestRun f bs n → IsLongestRun f bs m → n ≡ m
 run_once f [] n m r s = omega (arith, r.within, s.within)
 run_once f (b ∷ bs) zero zero r s = refl
 run_once f (b ∷ bs) zero (suc m) r s = let x = r.stops in let y = s.all.0 in absurd cc
 run_once f (b ∷ bs) (suc n) zero r s = let x = s.stops in let y = r.all.0 in absurd cc
 run_once f (b ∷ bs) (suc n) (suc m) r s = ap suc (run_once f bs n m (record { within = omega (arith, r.within); all = r.all.1; stops = r.stops }) (record { within = omega (arith, s.within); all = s.all.1; stops = s.stops }))
 
-pub blank_run : (f : ℕ → Bool) (xs : List ℕ) → AreAll f xs → Run f xs (length xs)
+pub blank_run : (f : ℕ → Bool) (xs : List ℕ) → AreAll f xs → IsLongestRun f xs (length xs)
 blank_run f [] h = record { within = omega arith; all = tt; stops = tt }
 blank_run f (x ∷ xs) h = let r = blank_run f xs h.1 in record { within = omega (arith, r.within); all = (h.0, r.all); stops = r.stops }
 
@@ -101,7 +102,7 @@ find_is (x ∷ ss) bytes s e =
       | inr p ↦ find_is ss bytes s p.1
     ]
 
-symbol_spelled : (s : Symbol) (rest : List ℕ) → Ends (kinds.Symbol s) rest → symbol_of (symbol_text s ++ rest) ≡ Some s
+symbol_spelled : (s : Symbol) (rest : List ℕ) → EndsToken (kinds.Symbol s) rest → symbol_of (symbol_text s ++ rest) ≡ Some s
 unfolding symbol_of
 symbol_spelled Minus [] h = refl
 symbol_spelled Minus (c ∷ rest) h = rw h refl
@@ -120,17 +121,17 @@ symbol_spelled Assign rest h = refl
 minus_ends : (rest : List ℕ) → symbol_of (45 ∷ rest) ≡ Some Minus → Stops is_greater rest
 unfolding symbol_of
 minus_ends [] e = tt
-minus_ends (c ∷ rest) e = at (62 == c) rest e
+minus_ends (c ∷ rest) e = by_test (62 == c) rest e
   where
-    at : (b : Bool) (rest : List ℕ) → cond (b && true) (Some Arrow) (Some Minus) ≡ Some Minus → b ≡ false
-    at true rest e = absurd cc
-    at false rest e = refl
+    by_test : (b : Bool) (rest : List ℕ) → cond (b && true) (Some Arrow) (Some Minus) ≡ Some Minus → b ≡ false
+    by_test true rest e = absurd cc
+    by_test false rest e = refl
 
 symbol_is : (s : Symbol) (body : List ℕ) → symbol_of body ≡ Some s → body ≡ symbol_text s ++ drop (length (symbol_text s)) body
 unfolding symbol_of
 symbol_is s body e = starts_is (symbol_text s) body (find_is (Arrow ∷ AtLeast ∷ AtMost ∷ Assign ∷ LeftParen ∷ RightParen ∷ Comma ∷ Semicolon ∷ Bar ∷ Plus ∷ Minus ∷ Equal ∷ []) body s e)
 
-symbol_ends : (s : Symbol) (rest : List ℕ) → symbol_of (symbol_text s ++ rest) ≡ Some s → Ends (kinds.Symbol s) rest
+symbol_ends : (s : Symbol) (rest : List ℕ) → symbol_of (symbol_text s ++ rest) ≡ Some s → EndsToken (kinds.Symbol s) rest
 symbol_ends Minus rest e = minus_ends rest e
 symbol_ends LeftParen rest e = tt
 symbol_ends RightParen rest e = tt
@@ -151,12 +152,12 @@ starts_front f [] rest h = elim h [ ]
 starts_front f (b ∷ text) rest h = h
 
 -- a token and what ends it have a shape
-pub shape_of : (k : TokenKind) (text rest : List ℕ) → IsText k text → Ends k rest → Shape k (length text) (text ++ rest)
+pub shape_of : (k : TokenKind) (text rest : List ℕ) → IsText k text → EndsToken k rest → IsTokenFront k (length text) (text ++ rest)
 shape_of kinds.Word text rest t e = (starts_front is_letter text rest t.0, run_of_text is_word_byte text rest t.1 e, t.2)
 shape_of (kinds.Number v) text rest t e = (starts_front is_digit text rest t.0, run_of_text is_digit text rest t.1 e, rw (take_at text rest (length text) refl) t.2, t.3)
 shape_of (kinds.Symbol s) text rest t e = (subst (λ (u : List ℕ). symbol_of (u ++ rest) ≡ Some s) (sym t) (symbol_spelled s rest e), ap length t)
 
-starts_take : (f g : ℕ → Bool) (body : List ℕ) (n : ℕ) → StartsWith f body → Run g body n → ((b : ℕ) → f b ≡ true → g b ≡ true) → StartsWith f (take n body)
+starts_take : (f g : ℕ → Bool) (body : List ℕ) (n : ℕ) → StartsWith f body → IsLongestRun g body n → ((b : ℕ) → f b ≡ true → g b ≡ true) → StartsWith f (take n body)
 starts_take f g [] n h r i = elim h [ ]
 starts_take f g (b ∷ body) zero h r i = let x = i b h in let y = r.stops in absurd cc
 starts_take f g (b ∷ body) (suc n) h r i = h
@@ -166,14 +167,14 @@ unfolding is_word_byte
 letter_wordly b h = rw h refl
 
 -- and back
-pub shape_text : (k : TokenKind) (n : ℕ) (body : List ℕ) → Shape k n body → IsText k (take n body) × (Ends k (drop n body) × (n ≤ length body))
+pub shape_text : (k : TokenKind) (n : ℕ) (body : List ℕ) → IsTokenFront k n body → IsText k (take n body) × (EndsToken k (drop n body) × (n ≤ length body))
 shape_text kinds.Word n body h = ((starts_take is_letter is_word_byte body n h.0 h.1 letter_wordly, h.1.all, omega (arith, length-take n body, h.2)), (h.1.stops, h.1.within))
 shape_text (kinds.Number v) n body h = ((starts_take is_digit is_digit body n h.0 h.1 (λ b e. e), h.1.all, h.2, h.3), (h.1.stops, h.1.within))
 shape_text (kinds.Symbol s) n body h =
     let is : body ≡ symbol_text s ++ drop (length (symbol_text s)) body = symbol_is s body h.0 in
     let there : symbol_of (symbol_text s ++ drop (length (symbol_text s)) body) ≡ Some s = ap symbol_of (sym is) ∙ h.0 in
     let taken : take (length (symbol_text s)) body ≡ symbol_text s = ap (take (length (symbol_text s))) is ∙ take_at (symbol_text s) _ (length (symbol_text s)) refl in
-    (ap (λ (m : ℕ). take m body) h.1 ∙ taken, (subst (λ (m : ℕ). Ends (kinds.Symbol s) (drop m body)) (sym h.1) (symbol_ends s _ there), omega (arith, h.1, ap length is, length-append (symbol_text s) (drop (length (symbol_text s)) body))))
+    (ap (λ (m : ℕ). take m body) h.1 ∙ taken, (subst (λ (m : ℕ). EndsToken (kinds.Symbol s) (drop m body)) (sym h.1) (symbol_ends s _ there), omega (arith, h.1, ap length is, length-append (symbol_text s) (drop (length (symbol_text s)) body))))
 
 -- the kind and the length are those of one token
 first_letter : (f : ℕ → Bool) (s : Symbol) (body : List ℕ) → symbol_of body ≡ Some s → StartsWith f body → StartsWith f (symbol_text s ++ drop (length (symbol_text s)) body)
@@ -183,7 +184,7 @@ pub both_starts : (body : List ℕ) → StartsWith is_letter body → StartsWith
 both_starts [] h k = elim h [ ]
 both_starts (b ∷ body) h k = no_both b h k
 
-pub one_shape : (k l : TokenKind) (n m : ℕ) (body : List ℕ) → Shape k n body → Shape l m body → (k ≡ l) × (n ≡ m)
+pub one_shape : (k l : TokenKind) (n m : ℕ) (body : List ℕ) → IsTokenFront k n body → IsTokenFront l m body → (k ≡ l) × (n ≡ m)
 one_shape kinds.Word kinds.Word n m body g h = (refl, run_once is_word_byte body n m g.1 h.1)
 one_shape kinds.Word (kinds.Number v) n m body g h = absurd (both_starts body g.0 h.0)
 one_shape kinds.Word (kinds.Symbol s) n m body g h = absurd (no_letter s _ (first_letter is_letter s body h.0 g.0))
@@ -228,28 +229,28 @@ text_stops (kinds.Symbol s) text rest t = subst (λ (u : List ℕ). Stops is_spa
 
 -- what a cut tells of the bytes behind the spaces
 pub record Found (at g : ℕ) (body : List ℕ) (t : Token) (rest : List ℕ) : Type 0 where
-  pub shape : Shape t.kind (t.end - t.start) body
+  pub shape : IsTokenFront t.kind (t.end - t.start) body
   pub start : t.start ≡ at + g
   pub end : t.end ≡ t.start + (t.end - t.start)
   pub rest_is : rest ≡ drop (t.end - t.start) body
 
 -- a cut is found behind the spaces
-pub found_of : (at g : ℕ) (bytes : List ℕ) (t : Token) (rest : List ℕ) → Run is_space bytes g → Cut at bytes t rest → Found at g (drop g bytes) t rest
+pub found_of : (at g : ℕ) (bytes : List ℕ) (t : Token) (rest : List ℕ) → IsLongestRun is_space bytes g → Cut at bytes t rest → Found at g (drop g bytes) t rest
 found_of at g bytes t rest r c =
-    let gap_run : Run is_space bytes (length c.gap) = subst (λ (b : List ℕ). Run is_space b (length c.gap)) (sym c.whole) (run_of_text is_space c.gap (c.text ++ rest) c.blank (text_stops t.kind c.text rest c.spelled)) in
+    let gap_run : IsLongestRun is_space bytes (length c.gap) = subst (λ (b : List ℕ). IsLongestRun is_space b (length c.gap)) (sym c.whole) (run_of_text is_space c.gap (c.text ++ rest) c.blank (text_stops t.kind c.text rest c.spelled)) in
     let gap_is : length c.gap ≡ g = run_once is_space bytes (length c.gap) g gap_run r in
     let body_is : drop g bytes ≡ c.text ++ rest = ap (λ (b : List ℕ). drop g b) c.whole ∙ drop_at c.gap (c.text ++ rest) g gap_is in
     let n_is : t.end - t.start ≡ length c.text = omega (arith, c.end) in
-    let s : Shape t.kind (length c.text) (c.text ++ rest) = shape_of t.kind c.text rest c.spelled c.ends in
+    let s : IsTokenFront t.kind (length c.text) (c.text ++ rest) = shape_of t.kind c.text rest c.spelled c.ends in
     record {
-      shape = subst (λ (b : List ℕ). Shape t.kind (t.end - t.start) b) (sym body_is) (subst (λ (n : ℕ). Shape t.kind n (c.text ++ rest)) (sym n_is) s);
+      shape = subst (λ (b : List ℕ). IsTokenFront t.kind (t.end - t.start) b) (sym body_is) (subst (λ (n : ℕ). IsTokenFront t.kind n (c.text ++ rest)) (sym n_is) s);
       start = c.start ∙ ap (λ (n : ℕ). at + n) gap_is;
       end = omega (arith, c.end);
       rest_is = sym (ap (λ (b : List ℕ). drop (t.end - t.start) b) body_is ∙ drop_at c.text rest (t.end - t.start) (sym n_is));
     }
 
 -- a shape behind the spaces is a cut
-pub cut_made : (at g n : ℕ) (bytes : List ℕ) (t : Token) → Run is_space bytes g → Shape t.kind n (drop g bytes) → t.start ≡ at + g → t.end ≡ t.start + n → Cut at bytes t (drop n (drop g bytes))
+pub cut_made : (at g n : ℕ) (bytes : List ℕ) (t : Token) → IsLongestRun is_space bytes g → IsTokenFront t.kind n (drop g bytes) → t.start ≡ at + g → t.end ≡ t.start + n → Cut at bytes t (drop n (drop g bytes))
 cut_made at g n bytes t r s start end =
     let x = shape_text t.kind n (drop g bytes) s in
     record {
@@ -271,7 +272,7 @@ unfolding made
 same_token t u p q r = ap (λ (k : TokenKind). made k t.start t.end) p ∙ ap (λ (n : ℕ). made u.kind n t.end) q ∙ ap (λ (n : ℕ). made u.kind u.start n) r
 
 -- a cut is one
-pub one_cut : (at : ℕ) (bytes : List ℕ) (g : ℕ) (t u : Token) (r s : List ℕ) → Run is_space bytes g → Cut at bytes t r → Cut at bytes u s → (t ≡ u) × (r ≡ s)
+pub one_cut : (at : ℕ) (bytes : List ℕ) (g : ℕ) (t u : Token) (r s : List ℕ) → IsLongestRun is_space bytes g → Cut at bytes t r → Cut at bytes u s → (t ≡ u) × (r ≡ s)
 one_cut at bytes g t u r s run c d =
     let f = found_of at g bytes t r run c in
     let h = found_of at g bytes u s run d in
@@ -281,7 +282,7 @@ one_cut at bytes g t u r s run c d =
     (same_token t u one.0 start_is end_is, f.rest_is ∙ ap (λ (n : ℕ). drop n (drop g bytes)) one.1 ∙ sym h.rest_is)
 
 -- a token has bytes
-pub shape_some : (k : TokenKind) (n : ℕ) (body : List ℕ) → Shape k n body → 0 < n
+pub shape_some : (k : TokenKind) (n : ℕ) (body : List ℕ) → IsTokenFront k n body → 0 < n
 shape_some k n body h = some k n (take n body) (shape_text k n body h).0 (omega (arith, length-take n body, (shape_text k n body h).1.1))
   where
     some : (k : TokenKind) (n : ℕ) (text : List ℕ) → IsText k text → length text ≡ n → 0 < n
@@ -308,20 +309,20 @@ shape_some k n body h = some k n (take n body) (shape_text k n body h).0 (omega 
 -- ---- no token in front
 
 -- spaces alone have no token in front
-pub blank_none : (at g : ℕ) (rest : List ℕ) (t : Token) (r : List ℕ) → Run is_space rest g → Cut at rest t r → AreAll is_space rest → ⊥
+pub blank_none : (at g : ℕ) (rest : List ℕ) (t : Token) (r : List ℕ) → IsLongestRun is_space rest g → Cut at rest t r → AreAll is_space rest → ⊥
 blank_none at g rest t r run c h =
     let f = found_of at g rest t r run c in
     let e = run_once is_space rest g (length rest) run (blank_run is_space rest h) in
     omega (arith, length-drop g rest, e, shape_some t.kind (t.end - t.start) (drop g rest) f.shape, (shape_text t.kind (t.end - t.start) (drop g rest) f.shape).1.1)
 
 -- a word past the limit in front, and yet no token
-pub word_long : (n : ℕ) (body : List ℕ) → StartsWith is_letter body → Run is_word_byte body n → 16 < n → (k : TokenKind) (m : ℕ) → Shape k m body → ⊥
+pub word_long : (n : ℕ) (body : List ℕ) → StartsWith is_letter body → IsLongestRun is_word_byte body n → 16 < n → (k : TokenKind) (m : ℕ) → IsTokenFront k m body → ⊥
 word_long n body h r lt kinds.Word m s = omega (arith, run_once is_word_byte body n m r s.1, s.2)
 word_long n body h r lt (kinds.Number v) m s = both_starts body h s.0
 word_long n body h r lt (kinds.Symbol x) m s = no_letter x _ (first_letter is_letter x body s.0 h)
 
 -- a number past the limit in front, and yet no token
-pub number_large : (n : ℕ) (body : List ℕ) → StartsWith is_digit body → Run is_digit body n → 2 ^ 64 ≤ value_from 0 (take n body) → (k : TokenKind) (m : ℕ) → Shape k m body → ⊥
+pub number_large : (n : ℕ) (body : List ℕ) → StartsWith is_digit body → IsLongestRun is_digit body n → 2 ^ 64 ≤ value_from 0 (take n body) → (k : TokenKind) (m : ℕ) → IsTokenFront k m body → ⊥
 number_large n body h r le kinds.Word m s = both_starts body s.0 h
 number_large n body h r le (kinds.Number v) m s = omega (arith, ap (λ (i : ℕ). value_from 0 (take i body)) (run_once is_digit body n m r s.1), s.2, s.3)
 number_large n body h r le (kinds.Symbol x) m s = no_digit x _ (first_letter is_digit x body s.0 h)
@@ -332,5 +333,5 @@ empty_len n e = (Decides-eqb n 0).0 (sym e)
 
 -- ---- the spaces in front
 
-pub gap_run : (at : ℕ) (bytes : List ℕ) (t : Token) (rest : List ℕ) (c : Cut at bytes t rest) → Run is_space bytes (length c.gap)
-gap_run at bytes t rest c = subst (λ (b : List ℕ). Run is_space b (length c.gap)) (sym c.whole) (run_of_text is_space c.gap (c.text ++ rest) c.blank (text_stops t.kind c.text rest c.spelled))
+pub gap_run : (at : ℕ) (bytes : List ℕ) (t : Token) (rest : List ℕ) (c : Cut at bytes t rest) → IsLongestRun is_space bytes (length c.gap)
+gap_run at bytes t rest c = subst (λ (b : List ℕ). IsLongestRun is_space b (length c.gap)) (sym c.whole) (run_of_text is_space c.gap (c.text ++ rest) c.blank (text_stops t.kind c.text rest c.spelled))

@@ -1,13 +1,13 @@
 -- What a reading tells of the letters that it looked at: a tree that begins so, and that no letter further on was looked at.
 use Rattle.std.proofs.Common.{◌≡◌, List, [], ◌∷◌, ◌++◌, Some, Ok, Err, refl, sym, ap, ◌∙◌, subst, ◌⊎◌, append_assoc}
 use Rattle.it_syntax.specs.declared.types.Code.{Code}
-use Rattle.it_syntax.specs.Letters.{Letter, Marked, clean, cleaned}
-use Rattle.it_syntax.specs.FirstFault.{head, own}
-use Rattle.it_syntax.specs.Reading.{Reads, ◌>>=◌}
+use Rattle.it_syntax.specs.Letters.{Letter, Marked, clean, clean_all}
+use Rattle.it_syntax.specs.FirstFault.{head, own_code}
+use Rattle.it_syntax.specs.AtomReading.{Reads, ◌>>=◌}
 
 -- why the fault is c where r is left, and q would be spelled there: no rule goes on, or the rules mark the letter
 abbrev pub Why : Marked → Code → List Letter → Type 0
-Why q c r = (own r ≡ c) ⊎ ((l : Letter) × (more : Marked) × ((q ≡ (l, Some c) ∷ more) × (head r ≡ Some l)))
+Why q c r = (own_code r ≡ c) ⊎ ((l : Letter) × (more : Marked) × ((q ≡ (l, Some c) ∷ more) × (head r ≡ Some l)))
 
 -- It read y up to r: a tree of that value is spelled by the letters before r, and they are read so whatever follows r's first
 -- letter.
@@ -16,7 +16,7 @@ pub record Went {A X : Type 0} (f : List Letter → Reads A) (spell : X → Mark
   pub front : List Letter
   pub value : res tree ≡ y
   pub parts : ls ≡ front ++ r
-  pub spells : (k : Marked) → spell tree k ≡ cleaned front ++ k
+  pub spells : (k : Marked) → spell tree k ≡ clean_all front ++ k
   pub stays : (s : List Letter) → head s ≡ head r → f (front ++ s) ≡ Ok (y, s)
 
 -- It stopped with code c at r: a tree is spelled so up to r, and the same letters stop it whatever follows r's first letter.
@@ -24,7 +24,7 @@ pub record Stuck {A X : Type 0} (f : List Letter → Reads A) (spell : X → Mar
   pub tree : X
   pub front : List Letter
   pub parts : ls ≡ front ++ r
-  pub spells : (k : Marked) → (q : Marked) × ((spell tree k ≡ cleaned front ++ q) × Why q c r)
+  pub spells : (k : Marked) → (q : Marked) × ((spell tree k ≡ clean_all front ++ q) × Why q c r)
   pub stays : (s : List Letter) → head s ≡ head r → f (front ++ s) ≡ Err (c, s)
 
 -- what a result tells
@@ -36,11 +36,11 @@ By f spell res ls (Err e) = Stuck f spell ls e.0 e.1
 abbrev pub Traces : {A X : Type 0} → (List Letter → Reads A) → (X → Marked → Marked) → (X → A) → Type 0
 Traces f spell res = (ls : List Letter) → By f spell res ls (f ls)
 
-pub cleaned_append : (p q : List Letter) → cleaned (p ++ q) ≡ cleaned p ++ cleaned q
+pub cleaned_append : (p q : List Letter) → clean_all (p ++ q) ≡ clean_all p ++ clean_all q
 cleaned_append [] q = refl
 cleaned_append (l ∷ p) q = ap (λ (m : Marked). clean l ∷ m) (cleaned_append p q)
 
-regroup : (p q : List Letter) (k : Marked) → cleaned p ++ (cleaned q ++ k) ≡ cleaned (p ++ q) ++ k
+regroup : (p q : List Letter) (k : Marked) → clean_all p ++ (clean_all q ++ k) ≡ clean_all (p ++ q) ++ k
 regroup p q k = rw (cleaned_append p q, append_assoc) refl
 
 head_same : (p s r : List Letter) → head s ≡ head r → head (p ++ s) ≡ head (p ++ r)
@@ -68,14 +68,14 @@ second_then {A} {B} f g h spell_y spell_z spell_x res_y res_z res_x make c ls a 
   front = w.front ++ v.front;
   value = c.value w.tree v.tree ∙ ap (λ (t : A). res_z t v.tree) w.value ∙ v.value;
   parts = w.parts ∙ ap (λ (t : List Letter). w.front ++ t) v.parts ∙ sym (append_assoc w.front v.front x.1);
-  spells = λ k. c.spells w.tree v.tree k ∙ w.spells (spell_z (res_y w.tree) v.tree k) ∙ ap (λ (t : A). cleaned w.front ++ spell_z t v.tree k) w.value ∙ ap (λ (t : Marked). cleaned w.front ++ t) (v.spells k) ∙ regroup w.front v.front k;
+  spells = λ k. c.spells w.tree v.tree k ∙ w.spells (spell_z (res_y w.tree) v.tree k) ∙ ap (λ (t : A). clean_all w.front ++ spell_z t v.tree k) w.value ∙ ap (λ (t : Marked). clean_all w.front ++ t) (v.spells k) ∙ regroup w.front v.front k;
   stays = λ s e. ap h (append_assoc w.front v.front s) ∙ c.is (w.front ++ (v.front ++ s)) ∙ bound f g w.front a (v.front ++ s) (Ok (x.0, s)) (w.stays (v.front ++ s) (head_same v.front s x.1 e ∙ ap head (sym v.parts))) (v.stays s e);
 }
 second_then {A} {B} f g h spell_y spell_z spell_x res_y res_z res_x make c ls a r w (Err x) v = record {
   tree = make w.tree v.tree;
   front = w.front ++ v.front;
   parts = w.parts ∙ ap (λ (t : List Letter). w.front ++ t) v.parts ∙ sym (append_assoc w.front v.front x.1);
-  spells = λ k. let q = v.spells k in (q.0, (c.spells w.tree v.tree k ∙ w.spells (spell_z (res_y w.tree) v.tree k) ∙ ap (λ (t : A). cleaned w.front ++ spell_z t v.tree k) w.value ∙ ap (λ (t : Marked). cleaned w.front ++ t) q.1.0 ∙ regroup w.front v.front q.0, q.1.1));
+  spells = λ k. let q = v.spells k in (q.0, (c.spells w.tree v.tree k ∙ w.spells (spell_z (res_y w.tree) v.tree k) ∙ ap (λ (t : A). clean_all w.front ++ spell_z t v.tree k) w.value ∙ ap (λ (t : Marked). clean_all w.front ++ t) q.1.0 ∙ regroup w.front v.front q.0, q.1.1));
   stays = λ s e. ap h (append_assoc w.front v.front s) ∙ c.is (w.front ++ (v.front ++ s)) ∙ bound f g w.front a (v.front ++ s) (Err (x.0, s)) (w.stays (v.front ++ s) (head_same v.front s x.1 e ∙ ap head (sym v.parts))) (v.stays s e);
 }
 

@@ -2,20 +2,20 @@
 use Rattle.std.specs.Prelude.{◌≡◌, ◌⊎◌, List, [], ◌∷◌, ◌++◌, Option, Some, None}
 use Rattle.it_syntax.specs.declared.types.Code.{Code}
 use Rattle.it_syntax.specs.declared.types.Code.TheVariants as codes
-use Rattle.it_syntax.specs.Letters.{Letter, Bad, Marked, letters, cleaned}
+use Rattle.it_syntax.specs.Letters.{Letter, Bad, Marked, letters, clean_all}
 
 abbrev pub head : List Letter → Option Letter
 head [] = None
 head (l ∷ ls) = Some l
 
 -- the code where no rule goes on: that of a letter that is no token, and else `word`
-abbrev pub own : List Letter → Code
-own (Bad c ∷ ls) = c
-own ls = codes.Word
+abbrev pub own_code : List Letter → Code
+own_code (Bad c ∷ ls) = c
+own_code ls = codes.Word
 
 -- the tree's spelling begins with these letters, nothing is said against them, and the next is marked by c
 abbrev pub MarkedAt : Marked → List Letter → Code → Type 0
-MarkedAt m front c = (l : Letter) × (more : Marked) × (m ≡ cleaned front ++ ((l, Some c) ∷ more))
+MarkedAt m front c = (l : Letter) × (more : Marked) × (m ≡ clean_all front ++ ((l, Some c) ∷ more))
 
 -- Fault c comes where r is left.
 pub record FirstFault {X : Type 0} (spell : X → Marked) (ls : List Letter) (c : Code) (r : List Letter) : Type 0 where
@@ -24,8 +24,8 @@ pub record FirstFault {X : Type 0} (spell : X → Marked) (ls : List Letter) (c 
   -- what stands before can go on to a line
   pub tree : X
   pub more : Marked
-  pub viable : spell tree ≡ cleaned front ++ more
+  pub viable : spell tree ≡ clean_all front ++ more
   -- with the letter that stands there no line goes on that the rules don't mark there
   pub each : (x : X) (q : List Letter) → head q ≡ head r → letters (spell x) ≡ front ++ q → MarkedAt (spell x) front c
   -- the code is that mark, or where no line goes on the letter's own
-  pub code : (own r ≡ c) ⊎ ((x : X) × (q : List Letter) × ((head q ≡ head r) × (letters (spell x) ≡ front ++ q)))
+  pub code : (own_code r ≡ c) ⊎ ((x : X) × (q : List Letter) × ((head q ≡ head r) × (letters (spell x) ≡ front ++ q)))

@@ -1,13 +1,11 @@
 -- What stands at the front of some bytes.
-use Rattle.std.specs.Prelude.{◌≡◌, ℕ, ◌^◌, ◌<◌, ◌≤◌, Bool, true, false, ◌&&◌, ◌==◌, List, [], ◌∷◌, length, take, drop, Option, Some, None, if◌then◌else◌}
+use Rattle.std.specs.Prelude.{ℕ, ◌≤◌, Bool, true, false, ◌&&◌, ◌==◌, List, [], ◌∷◌, length, take, drop, Option, Some, None, if◌then◌else◌}
 use Rattle.it_syntax.specs.declared.types.Symbol.{Symbol}
 use Rattle.it_syntax.specs.declared.types.Symbol.TheVariants.{LeftParen, RightParen, Comma, Semicolon, Bar, Plus, Minus, Arrow, AtLeast, AtMost, Equal, Assign}
-use Rattle.it_syntax.specs.declared.types.TokenKind.{TokenKind}
-use Rattle.it_syntax.specs.declared.types.TokenKind.TheVariants as kinds
-use Rattle.it_syntax.specs.Spelling.{is_letter, is_digit, is_word_byte, value_from, symbol_text, AreAll, StartsWith, Stops}
+use Rattle.it_syntax.specs.Spelling.{symbol_text, AreAll, Stops}
 
 -- the n bytes in front are all of a kind, and the next isn't
-pub record Run (f : ℕ → Bool) (bytes : List ℕ) (n : ℕ) : Type 0 where
+pub record IsLongestRun (f : ℕ → Bool) (bytes : List ℕ) (n : ℕ) : Type 0 where
   pub within : n ≤ length bytes
   pub all : AreAll f (take n bytes)
   pub stops : Stops f (drop n bytes)
@@ -24,9 +22,3 @@ find_symbol (s ∷ ss) bytes = if starts_with (symbol_text s) bytes then Some s 
 -- the longest symbol in front
 unfoldable pub symbol_of : List ℕ → Option Symbol
 symbol_of bytes = find_symbol (Arrow ∷ AtLeast ∷ AtMost ∷ Assign ∷ LeftParen ∷ RightParen ∷ Comma ∷ Semicolon ∷ Bar ∷ Plus ∷ Minus ∷ Equal ∷ []) bytes
-
--- a token of this kind, of n bytes, stands in front, as long as it can be
-abbrev pub Shape : TokenKind → ℕ → List ℕ → Type 0
-Shape kinds.Word n body = StartsWith is_letter body × Run is_word_byte body n × (n ≤ 16)
-Shape (kinds.Number v) n body = StartsWith is_digit body × Run is_digit body n × (value_from 0 (take n body) ≡ v) × (v < 2 ^ 64)
-Shape (kinds.Symbol s) n body = (symbol_of body ≡ Some s) × (n ≡ length (symbol_text s))

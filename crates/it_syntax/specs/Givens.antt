@@ -6,20 +6,20 @@ use Rattle.it_syntax.specs.declared.types.Atom.{Atom}
 use Rattle.it_syntax.specs.declared.types.Atom.TheVariants.{Entropy, Mutual}
 use Rattle.it_syntax.specs.declared.types.Given.{Given}
 use Rattle.it_syntax.specs.declared.types.Given.TheVariants as givens
-use Rattle.it_syntax.specs.Meaning.{Stated, stated, atom_at, Holds, IsAtomOf}
+use Rattle.it_syntax.specs.Meaning.{RelationView, relation_view, atom_at, Holds, IsAtomOf}
 
 -- a given as contracts compare it: each vector by the list of its items
-pub data Condition : Type 0 where
-  Related : (relation : Stated) → Condition
-  Chain : (sets : List ℕ) → Condition
-  Independence : (members : List ℕ) (given : ℕ) → Condition
-  Function : (value argument : ℕ) → Condition
+pub data GivenView : Type 0 where
+  Relation : (relation : RelationView) → GivenView
+  Markov : (sets : List ℕ) → GivenView
+  Independent : (members : List ℕ) (given : ℕ) → GivenView
+  Function : (value argument : ℕ) → GivenView
 
-abbrev pub condition : Given → Condition
-condition (givens.Relation r) = Related (stated r)
-condition (givens.Markov sets) = Chain sets.items
-condition (givens.Independent members given) = Independence members.items given
-condition (givens.Function value argument) = Function value argument
+abbrev pub given_view : Given → GivenView
+given_view (givens.Relation r) = Relation (relation_view r)
+given_view (givens.Markov sets) = Markov sets.items
+given_view (givens.Independent members given) = Independent members.items given
+given_view (givens.Function value argument) = Function value argument
 
 abbrev pub union_of : List ℕ → ℕ
 union_of sets = fold bit_or 0 sets
@@ -42,14 +42,14 @@ sum_given n p (member ∷ members) given = atom_at n p (Entropy member given) +�
 
 -- The condition is true of the map: each link of a chain is 0, the joint entropy of independent sets is the sum of theirs,
 -- a function has no entropy given its argument.
-abbrev pub IsTrueAt : ℕ → (ℕ → ℤ) → Condition → Type 0
-IsTrueAt n p (Related r) = Holds n p r
-IsTrueAt n p (Chain sets) = All (λ link. atom_at n p link ≡ pos 0) (links sets)
-IsTrueAt n p (Independence members given) = atom_at n p (Entropy (union_of members) given) ≡ sum_given n p members given
+abbrev pub IsTrueAt : ℕ → (ℕ → ℤ) → GivenView → Type 0
+IsTrueAt n p (Relation r) = Holds n p r
+IsTrueAt n p (Markov sets) = All (λ link. atom_at n p link ≡ pos 0) (links sets)
+IsTrueAt n p (Independent members given) = atom_at n p (Entropy (union_of members) given) ≡ sum_given n p members given
 IsTrueAt n p (Function value argument) = atom_at n p (Entropy value argument) ≡ pos 0
 
 -- sets of n variables, rates among m, and at most 256 terms
-pub record IsRelationOf (n m : ℕ) (r : Stated) : Type 0 where
+pub record IsRelationOf (n m : ℕ) (r : RelationView) : Type 0 where
   pub few : length r.left + length r.right ≤ 256
   pub left : All (λ t. IsAtomOf n m t.atom) r.left
   pub right : All (λ t. IsAtomOf n m t.atom) r.right
@@ -61,8 +61,8 @@ pub record AreSetsOf (n least most : ℕ) (sets : List ℕ) : Type 0 where
   pub within : All (λ s. s < 2 ^ n) sets
 
 -- the conditions on n variables and m rates that are within the limits: 3 to 16 sets in a chain, 2 to 16 in an independence
-abbrev pub IsConditionOf : ℕ → ℕ → Condition → Type 0
-IsConditionOf n m (Related r) = IsRelationOf n m r
-IsConditionOf n m (Chain sets) = AreSetsOf n 3 16 sets
-IsConditionOf n m (Independence members given) = AreSetsOf n 2 16 members × (given < 2 ^ n)
-IsConditionOf n m (Function value argument) = (value < 2 ^ n) × (argument < 2 ^ n)
+abbrev pub IsGivenOf : ℕ → ℕ → GivenView → Type 0
+IsGivenOf n m (Relation r) = IsRelationOf n m r
+IsGivenOf n m (Markov sets) = AreSetsOf n 3 16 sets
+IsGivenOf n m (Independent members given) = AreSetsOf n 2 16 members × (given < 2 ^ n)
+IsGivenOf n m (Function value argument) = (value < 2 ^ n) × (argument < 2 ^ n)

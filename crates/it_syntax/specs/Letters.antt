@@ -22,5 +22,5 @@ clean l = (l, None)
 abbrev pub letters : Marked → List Letter
 letters m = map (λ (x : Letter × Option Code). x.0) m
 
-abbrev pub cleaned : List Letter → Marked
-cleaned ls = map clean ls
+abbrev pub clean_all : List Letter → Marked
+clean_all ls = map clean ls

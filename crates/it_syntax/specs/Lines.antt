@@ -6,10 +6,10 @@ use Rattle.it_syntax.specs.declared.types.Misspelling.{Misspelling}
 use Rattle.it_syntax.specs.declared.types.LineTokens.{LineTokens}
 use Rattle.it_syntax.specs.declared.types.SyntaxFault.{SyntaxFault}
 use Rattle.it_syntax.specs.declared.types.SyntaxFault.TheVariants.{Memory, Fault}
-use Rattle.it_syntax.specs.Letters.{Letter, End, Marked, clean, cleaned}
+use Rattle.it_syntax.specs.Letters.{Letter, End, Marked, clean, clean_all}
 use Rattle.it_syntax.specs.Spans.{letters_until, last_letter}
 use Rattle.it_syntax.specs.FirstFault.{FirstFault}
-use Rattle.it_syntax.specs.Reading.{Reads, ◌>>=◌, line_end}
+use Rattle.it_syntax.specs.AtomReading.{Reads, ◌>>=◌, line_end}
 
 -- the tree, and then the line's end
 abbrev pub spell_ended : {X : Type 0} → (X → Marked → Marked) → X → Marked
@@ -17,7 +17,7 @@ spell_ended spell x = spell x (clean End ∷ [])
 
 -- these letters are a line that says y, and nothing is said against one
 abbrev pub SaysAs : {X Y : Type 0} → (X → Marked → Marked) → (X → Y) → List Letter → Y → Type 0
-SaysAs spell value ls y = (x : _) × ((spell_ended spell x ≡ cleaned ls) × (value x ≡ y))
+SaysAs spell value ls y = (x : _) × ((spell_ended spell x ≡ clean_all ls) × (value x ≡ y))
 
 -- a reader up to the line's end
 unfoldable pub to_end : {A : Type 0} → (List Letter → Reads A) → List Letter → Reads A

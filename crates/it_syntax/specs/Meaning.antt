@@ -10,13 +10,13 @@ use Rattle.it_syntax.specs.declared.types.Sign.TheVariants.{AtLeast, AtMost, Equ
 use Rattle.it_syntax.specs.declared.types.Relation.{Relation}
 
 -- a relation as contracts compare it: each side by the list of its terms
-pub record Stated : Type 0 where
+pub record RelationView : Type 0 where
   pub left : List Term
   pub sign : Sign
   pub right : List Term
 
-abbrev pub stated : Relation → Stated
-stated r = record { left = r.left.terms.items; sign = r.sign; right = r.right.terms.items }
+abbrev pub relation_view : Relation → RelationView
+relation_view r = record { left = r.left.terms.items; sign = r.sign; right = r.right.terms.items }
 
 -- H(A|B) = h(A, B) - h(B) and I(A;B|C) = h(A, C) + h(B, C) - h(A, B, C) - h(C)
 abbrev pub atom_at : ℕ → (ℕ → ℤ) → Atom → ℤ
@@ -35,7 +35,7 @@ side_at n p [] = pos 0
 side_at n p (t ∷ ts) = term_at n p t +ℤ side_at n p ts
 
 -- the left side less the right one
-abbrev pub difference_at : ℕ → (ℕ → ℤ) → Stated → ℤ
+abbrev pub difference_at : ℕ → (ℕ → ℤ) → RelationView → ℤ
 difference_at n p r = side_at n p r.left -ℤ side_at n p r.right
 
 abbrev pub Compares : Sign → ℤ → ℤ → Type 0
@@ -44,7 +44,7 @@ Compares AtMost x y = x ≤ℤ y
 Compares Equal x y = x ≡ y
 
 -- the relation is true of the map
-abbrev pub Holds : ℕ → (ℕ → ℤ) → Stated → Type 0
+abbrev pub Holds : ℕ → (ℕ → ℤ) → RelationView → Type 0
 Holds n p r = Compares r.sign (side_at n p r.left) (side_at n p r.right)
 
 -- its sets are sets of n variables, and its rates are among m

@@ -7,7 +7,7 @@ use Rattle.it_syntax.specs.declared.types.Misspelling.{Misspelling}
 use Rattle.it_syntax.specs.declared.types.Token.{Token}
 use Rattle.it_syntax.specs.declared.types.SyntaxFault.{SyntaxFault}
 use Rattle.it_syntax.specs.declared.types.SyntaxFault.TheVariants.{Memory, Fault}
-use Rattle.it_syntax.specs.Fronts.{Run, symbol_of}
+use Rattle.it_syntax.specs.Fronts.{IsLongestRun, symbol_of}
 use Rattle.it_syntax.specs.Spelling.{is_letter, is_digit, is_word_byte, is_space, value_from, AreAll, StartsWith, Cut}
 
 -- the first byte begins no token and is no space
@@ -18,8 +18,8 @@ BeginsNothing (b ∷ bs) = (is_letter b ≡ false) × (is_digit b ≡ false) × 
 -- what stands in front is wrong by this code
 abbrev pub IsWrong : Code → List ℕ → Type 0
 IsWrong codes.Byte body = BeginsNothing body
-IsWrong codes.Many body = StartsWith is_letter body × ((n : ℕ) × (Run is_word_byte body n × (16 < n)))
-IsWrong codes.Number body = StartsWith is_digit body × ((n : ℕ) × (Run is_digit body n × (2 ^ 64 ≤ value_from 0 (take n body))))
+IsWrong codes.Many body = StartsWith is_letter body × ((n : ℕ) × (IsLongestRun is_word_byte body n × (16 < n)))
+IsWrong codes.Number body = StartsWith is_digit body × ((n : ℕ) × (IsLongestRun is_digit body n × (2 ^ 64 ≤ value_from 0 (take n body))))
 IsWrong c body = ⊥
 
 -- Behind spaces, a misspelling stands in the bytes from column `at` on.

@@ -3,12 +3,9 @@ use Rattle.std.proofs.Props.{props}
 use Rattle.std.specs.Prelude.{ℕ, ◌-◌, ◌≤◌, List, [], ◌∷◌, length, take, drop, Option, Some, None}
 use Rattle.it_syntax.specs.declared.types.Token.{Token}
 use Rattle.it_syntax.specs.declared.types.TokenKind.{TokenKind}
-use Rattle.it_syntax.specs.declared.types.TokenKind.TheVariants as kinds
 use Rattle.it_syntax.specs.declared.types.Misspelling.{Misspelling}
 use Rattle.it_syntax.specs.Letters.{Letter, Word, Number, Sym, End, Bad}
-
-abbrev pub text_of : List ℕ → Token → List ℕ
-text_of line t = take (t.end - t.start) (drop t.start line)
+use Rattle.it_syntax.specs.declared.types.TokenKind.TheVariants as kinds
 
 abbrev pub letter_of : List ℕ → ℕ → ℕ → TokenKind → Letter
 letter_of line start end kinds.Word = Word (take (end - start) (drop start line))

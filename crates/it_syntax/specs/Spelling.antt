@@ -65,11 +65,11 @@ IsText (kinds.Number n) text = StartsWith is_digit text × AreAll is_digit text 
 IsText (kinds.Symbol s) text = text ≡ symbol_text s
 
 -- What follows doesn't go on the token: it is as long as it can be.
-abbrev pub Ends : TokenKind → List ℕ → Type 0
-Ends kinds.Word rest = Stops is_word_byte rest
-Ends (kinds.Number n) rest = Stops is_digit rest
-Ends (kinds.Symbol Minus) rest = Stops is_greater rest
-Ends (kinds.Symbol s) rest = Unit {0}
+abbrev pub EndsToken : TokenKind → List ℕ → Type 0
+EndsToken kinds.Word rest = Stops is_word_byte rest
+EndsToken (kinds.Number n) rest = Stops is_digit rest
+EndsToken (kinds.Symbol Minus) rest = Stops is_greater rest
+EndsToken (kinds.Symbol s) rest = Unit {0}
 
 -- Behind spaces, token t is cut off the bytes from column `at` on, and `rest` is behind it.
 pub record Cut (at : ℕ) (bytes : List ℕ) (t : Token) (rest : List ℕ) : Type 0 where
@@ -78,6 +78,6 @@ pub record Cut (at : ℕ) (bytes : List ℕ) (t : Token) (rest : List ℕ) : Typ
   pub whole : bytes ≡ gap ++ (text ++ rest)
   pub blank : AreAll is_space gap
   pub spelled : IsText t.kind text
-  pub ends : Ends t.kind rest
+  pub ends : EndsToken t.kind rest
   pub start : t.start ≡ at + length gap
   pub end : t.end ≡ t.start + length text

@@ -1,7 +1,8 @@
 //! Readers of entropies and mutual informations.
-ghost use Rattle.it_syntax.specs.Gives.{Gives, Passes, left};
-ghost use Rattle.it_syntax.specs.Reading.{closed, opened, divided, bar_or_close, read_given, read_joint, read_mutual, read_atom};
-ghost use Rattle.it_syntax.specs.Relations.{env_of};
+ghost use Rattle.it_syntax.specs.Gives.{Gives, left};
+ghost use Rattle.it_syntax.specs.ReaderSteps.{Passes};
+ghost use Rattle.it_syntax.specs.AtomReading.{close_paren, open_paren, semicolon, bar_or_close, read_given_set, read_joint, read_mutual, read_atom};
+ghost use Rattle.it_syntax.specs.Scopes.{env_of};
 
 use crate::lists::{ENTROPY, MUTUAL, list};
 use crate::names::Names;
@@ -10,9 +11,9 @@ use crate::types::{Atom, Code, Symbol};
 use it_space::VarSet;
 
 /// The set, behind which `)` must stand.
-#[tactic(auto, unfolding(crate::specs::Reading::closed))]
-fn closed(set: VarSet, rest: &mut Rest<'_>) -> Result<VarSet, Stop>
-    ensures { Gives result (left rest.new) (closed set (left rest.old)) }
+#[tactic(auto, unfolding(crate::specs::AtomReading::close_paren))]
+fn close_paren(set: VarSet, rest: &mut Rest<'_>) -> Result<VarSet, Stop>
+    ensures { Gives result (left rest.new) (close_paren set (left rest.old)) }
 {
     match rest.front() {
         (Piece::Symbol(Symbol::RightParen), behind) => {
@@ -24,9 +25,9 @@ fn closed(set: VarSet, rest: &mut Rest<'_>) -> Result<VarSet, Stop>
     }
 }
 
-#[tactic(auto, unfolding(crate::specs::Reading::opened))]
-fn opened(rest: &mut Rest<'_>) -> Result<(), Stop>
-    ensures { Passes result (left rest.new) (opened (left rest.old)) }
+#[tactic(auto, unfolding(crate::specs::AtomReading::open_paren))]
+fn open_paren(rest: &mut Rest<'_>) -> Result<(), Stop>
+    ensures { Passes result (left rest.new) (open_paren (left rest.old)) }
 {
     match rest.front() {
         (Piece::Symbol(Symbol::LeftParen), behind) => {
@@ -38,9 +39,9 @@ fn opened(rest: &mut Rest<'_>) -> Result<(), Stop>
     }
 }
 
-#[tactic(auto, unfolding(crate::specs::Reading::divided))]
-pub fn divided(rest: &mut Rest<'_>) -> Result<(), Stop>
-    ensures { Passes result (left rest.new) (divided (left rest.old)) }
+#[tactic(auto, unfolding(crate::specs::AtomReading::semicolon))]
+pub fn semicolon(rest: &mut Rest<'_>) -> Result<(), Stop>
+    ensures { Passes result (left rest.new) (semicolon (left rest.old)) }
 {
     match rest.front() {
         (Piece::Symbol(Symbol::Semicolon), behind) => {
@@ -53,7 +54,7 @@ pub fn divided(rest: &mut Rest<'_>) -> Result<(), Stop>
 }
 
 /// Whether `|` stands there, and not `)`.
-#[tactic(auto, unfolding(crate::specs::Reading::bar_or_close))]
+#[tactic(auto, unfolding(crate::specs::AtomReading::bar_or_close))]
 fn bar_or_close(rest: &mut Rest<'_>) -> Result<bool, Stop>
     ensures { Gives result (left rest.new) (bar_or_close (left rest.old)) }
 {
@@ -72,43 +73,43 @@ fn bar_or_close(rest: &mut Rest<'_>) -> Result<bool, Stop>
 }
 
 /// What is given, up to `)`.
-#[tactic(auto, unfolding(crate::specs::Reading::read_given))]
+#[tactic(auto, unfolding(crate::specs::AtomReading::read_given_set))]
 fn given(rest: &mut Rest<'_>, names: &Names) -> Result<VarSet, Stop>
-    ensures { Gives result (left rest.new) (read_given (env_of names.now) (left rest.old)) }
+    ensures { Gives result (left rest.new) (read_given_set (env_of names.now) (left rest.old)) }
 {
     if bar_or_close(rest)? {
         let set = list(rest, names)?;
-        closed(set, rest)
+        close_paren(set, rest)
     } else {
         Ok(VarSet::empty())
     }
 }
 
 /// An entropy, behind its `H`.
-#[tactic(auto, unfolding(crate::specs::Reading::read_joint))]
+#[tactic(auto, unfolding(crate::specs::AtomReading::read_joint))]
 fn joint(rest: &mut Rest<'_>, names: &Names) -> Result<Atom, Stop>
     ensures { Gives result (left rest.new) (read_joint (env_of names.now) (left rest.old)) }
 {
-    opened(rest)?;
+    open_paren(rest)?;
     let of = list(rest, names)?;
     let given = given(rest, names)?;
     Ok(Atom::Entropy { of, given })
 }
 
 /// A mutual information, behind its `I`.
-#[tactic(auto, unfolding(crate::specs::Reading::read_mutual))]
+#[tactic(auto, unfolding(crate::specs::AtomReading::read_mutual))]
 fn mutual(rest: &mut Rest<'_>, names: &Names) -> Result<Atom, Stop>
     ensures { Gives result (left rest.new) (read_mutual (env_of names.now) (left rest.old)) }
 {
-    opened(rest)?;
+    open_paren(rest)?;
     let left = list(rest, names)?;
-    divided(rest)?;
+    semicolon(rest)?;
     let right = list(rest, names)?;
     let given = given(rest, names)?;
     Ok(Atom::Mutual { left, right, given })
 }
 
-#[tactic(auto, unfolding(crate::specs::Reading::read_atom))]
+#[tactic(auto, unfolding(crate::specs::AtomReading::read_atom))]
 pub fn atom(rest: &mut Rest<'_>, names: &Names) -> Result<Atom, Stop>
     ensures { Gives result (left rest.new) (read_atom (env_of names.now) (left rest.old)) }
 {

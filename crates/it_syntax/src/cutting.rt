@@ -1,6 +1,6 @@
 //! The tokens of a line.
 ghost use Rattle.std.specs.Prelude.{◌≡◌, ◌≤◌, ◌<◌, ◌^◌, ℕ, length, drop, None, IfOk, IfErr, SomeIff};
-ghost use Rattle.it_syntax.specs.Fronts.{Shape};
+ghost use Rattle.it_syntax.specs.ReaderSteps.{IsTokenFront};
 ghost use Rattle.it_syntax.specs.Misspellings.{IsWrong, SpellsUntil, IsMisspelled};
 ghost use Rattle.it_syntax.specs.Spans.{InLine};
 ghost use Rattle.it_syntax.specs.Spelling.{is_letter, is_digit, is_space, value_from, symbol_text, AreAll, StartsWith, Stops};
@@ -43,7 +43,7 @@ fn value(text: &[u8]) -> Option<u64>
 
 fn word(body: &[u8]) -> Result<(TokenKind, usize), Code>
     requires { StartsWith is_letter body.now }
-    ensures shape { IfOk result (λ x. Shape x.0 x.1 body.now) }
+    ensures shape { IfOk result (λ x. IsTokenFront x.0 x.1 body.now) }
     ensures wrong { IfErr result (λ c. IsWrong c body.now) }
 {
     let n = word_bytes(body);
@@ -56,7 +56,7 @@ fn word(body: &[u8]) -> Result<(TokenKind, usize), Code>
 
 fn number(body: &[u8]) -> Result<(TokenKind, usize), Code>
     requires { StartsWith is_digit body.now }
-    ensures shape { IfOk result (λ x. Shape x.0 x.1 body.now) }
+    ensures shape { IfOk result (λ x. IsTokenFront x.0 x.1 body.now) }
     ensures wrong { IfErr result (λ c. IsWrong c body.now) }
 {
     let n = digits(body);
@@ -70,7 +70,7 @@ fn number(body: &[u8]) -> Result<(TokenKind, usize), Code>
 fn front(body: &[u8]) -> Result<(TokenKind, usize), Code>
     requires some { 1 ≤ length body.now }
     requires stops { Stops is_space body.now }
-    ensures shape { IfOk result (λ x. Shape x.0 x.1 body.now) }
+    ensures shape { IfOk result (λ x. IsTokenFront x.0 x.1 body.now) }
     ensures wrong { IfErr result (λ c. IsWrong c body.now) }
 {
     match body {

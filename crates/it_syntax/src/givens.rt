@@ -1,21 +1,22 @@
 //! The reader of the constraint of a `given` line.
 ghost use Rattle.std.specs.Prelude.{◌≡◌, ◌≤◌, false, [], ◌∷◌, length, IfOk, IfErr};
 ghost use Rattle.it_syntax.specs.declared.rest.Stop.TheVariants.{Memory};
-ghost use Rattle.it_syntax.specs.ComparisonLines.{scope_of};
-ghost use Rattle.it_syntax.specs.Conditions.{spell_condition};
-ghost use Rattle.it_syntax.specs.ConditionLines.{IsGiven};
-ghost use Rattle.it_syntax.specs.ConditionReading.{pointed, read_of, read_bar, read_chain, read_independence, read_function, read_plain, read_condition};
-ghost use Rattle.it_syntax.specs.Gives.{Gives, GivesBy, GivesAll, Passes, left};
-ghost use Rattle.it_syntax.specs.Givens.{condition, IsConditionOf};
+ghost use Rattle.it_syntax.specs.Scopes.{scope_of};
+ghost use Rattle.it_syntax.specs.WrittenGivens.{spell_given};
+ghost use Rattle.it_syntax.specs.GivenLines.{IsGiven};
+ghost use Rattle.it_syntax.specs.GivenReading.{arrow, read_of, read_bar, read_chain, read_independence, read_function, read_plain, read_given};
+ghost use Rattle.it_syntax.specs.Gives.{Gives, GivesBy, GivesAll, left};
+ghost use Rattle.it_syntax.specs.ReaderSteps.{Passes};
+ghost use Rattle.it_syntax.specs.Givens.{given_view, IsGivenOf};
 ghost use Rattle.it_syntax.specs.Lines.{IsFirstFault, to_end};
-ghost use Rattle.it_syntax.specs.Relations.{env_of};
+ghost use Rattle.it_syntax.specs.Scopes.{env_of};
 ghost use Rattle.it_syntax.specs.Spans.{InLine};
 
-use crate::atoms::divided;
-use crate::comparisons::{line_end, relation_part};
+use crate::atoms::semicolon;
 use crate::lists::list;
 use crate::members::{add, members};
 use crate::names::Names;
+use crate::relations::{line_end, relation_part};
 use crate::rest::{Divider, Piece, Rest, Stop};
 use crate::types::{Code, Given, LineTokens, Symbol, SyntaxFault};
 use it_space::VarSet;
@@ -35,9 +36,9 @@ const FURTHER_LINKS: usize = 13;
 /// The most members of an independence, behind its first two: 16 in all.
 const FURTHER_MEMBERS: usize = 14;
 
-#[tactic(auto, unfolding(crate::specs::ConditionReading::pointed))]
-fn pointed(rest: &mut Rest<'_>) -> Result<(), Stop>
-    ensures { Passes result (left rest.new) (pointed (left rest.old)) }
+#[tactic(auto, unfolding(crate::specs::GivenReading::arrow))]
+fn arrow(rest: &mut Rest<'_>) -> Result<(), Stop>
+    ensures { Passes result (left rest.new) (arrow (left rest.old)) }
 {
     match rest.front() {
         (Piece::Symbol(Symbol::Arrow), behind) => {
@@ -49,7 +50,7 @@ fn pointed(rest: &mut Rest<'_>) -> Result<(), Stop>
     }
 }
 
-#[tactic(auto, unfolding(crate::specs::ConditionReading::read_of))]
+#[tactic(auto, unfolding(crate::specs::GivenReading::read_of))]
 fn word_of(rest: &mut Rest<'_>) -> Result<(), Stop>
     ensures { Passes result (left rest.new) (read_of (left rest.old)) }
 {
@@ -68,7 +69,7 @@ fn word_of(rest: &mut Rest<'_>) -> Result<(), Stop>
 }
 
 /// The set behind `|`; the empty set where none stands there.
-#[tactic(auto, unfolding(crate::specs::ConditionReading::read_bar))]
+#[tactic(auto, unfolding(crate::specs::GivenReading::read_bar))]
 fn bar(rest: &mut Rest<'_>, names: &Names) -> Result<VarSet, Stop>
     ensures { Gives result (left rest.new) (read_bar (env_of names.now) (left rest.old)) }
 {
@@ -104,14 +105,14 @@ fn two(alloc: Global, first: VarSet, second: VarSet) -> Result<Vec<VarSet>, Stop
 }
 
 /// A chain, behind its `markov`.
-#[tactic(auto, unfolding(crate::specs::ConditionReading::read_chain))]
+#[tactic(auto, unfolding(crate::specs::GivenReading::read_chain))]
 fn chain(alloc: Global, rest: &mut Rest<'_>, names: &Names) -> Result<Given, Stop>
-    ensures { GivesBy condition result (left rest.new) (read_chain (env_of names.now) (left rest.old)) }
+    ensures { GivesBy given_view result (left rest.new) (read_chain (env_of names.now) (left rest.old)) }
 {
     let first = list(rest, names)?;
-    pointed(rest)?;
+    arrow(rest)?;
     let second = list(rest, names)?;
-    pointed(rest)?;
+    arrow(rest)?;
     let third = list(rest, names)?;
     match three(alloc, first, second, third) {
         Ok(sets) => {
@@ -123,12 +124,12 @@ fn chain(alloc: Global, rest: &mut Rest<'_>, names: &Names) -> Result<Given, Sto
 }
 
 /// An independence, behind its `indep`.
-#[tactic(auto, unfolding(crate::specs::ConditionReading::read_independence))]
+#[tactic(auto, unfolding(crate::specs::GivenReading::read_independence))]
 fn independence(alloc: Global, rest: &mut Rest<'_>, names: &Names) -> Result<Given, Stop>
-    ensures { GivesBy condition result (left rest.new) (read_independence (env_of names.now) (left rest.old)) }
+    ensures { GivesBy given_view result (left rest.new) (read_independence (env_of names.now) (left rest.old)) }
 {
     let first = list(rest, names)?;
-    divided(rest)?;
+    semicolon(rest)?;
     let second = list(rest, names)?;
     match two(alloc, first, second) {
         Ok(sets) => {
@@ -141,9 +142,9 @@ fn independence(alloc: Global, rest: &mut Rest<'_>, names: &Names) -> Result<Giv
 }
 
 /// A function, behind its `func`.
-#[tactic(auto, unfolding(crate::specs::ConditionReading::read_function))]
+#[tactic(auto, unfolding(crate::specs::GivenReading::read_function))]
 fn function(rest: &mut Rest<'_>, names: &Names) -> Result<Given, Stop>
-    ensures { GivesBy condition result (left rest.new) (read_function (env_of names.now) (left rest.old)) }
+    ensures { GivesBy given_view result (left rest.new) (read_function (env_of names.now) (left rest.old)) }
 {
     let value = list(rest, names)?;
     word_of(rest)?;
@@ -152,17 +153,17 @@ fn function(rest: &mut Rest<'_>, names: &Names) -> Result<Given, Stop>
 }
 
 /// A relation without rates.
-#[tactic(auto, unfolding(crate::specs::ConditionReading::read_plain))]
-fn plain(alloc: Global, rest: &mut Rest<'_>, names: &Names) -> Result<Given, Stop>
-    ensures { GivesBy condition result (left rest.new) (read_plain (scope_of names.now false) (left rest.old)) }
+#[tactic(auto, unfolding(crate::specs::GivenReading::read_plain))]
+fn plain_relation(alloc: Global, rest: &mut Rest<'_>, names: &Names) -> Result<Given, Stop>
+    ensures { GivesBy given_view result (left rest.new) (read_plain (scope_of names.now false) (left rest.old)) }
 {
     let relation = relation_part(alloc, rest, names, false)?;
     Ok(Given::Relation(relation))
 }
 
-#[tactic(auto, unfolding(crate::specs::ConditionReading::read_condition, crate::specs::ComparisonLines::scope_of))]
+#[tactic(auto, unfolding(crate::specs::GivenReading::read_given, crate::specs::Scopes::scope_of))]
 pub fn given_part(alloc: Global, rest: &mut Rest<'_>, names: &Names) -> Result<Given, Stop>
-    ensures { GivesBy condition result (left rest.new) (read_condition (scope_of names.now false) (left rest.old)) }
+    ensures { GivesBy given_view result (left rest.new) (read_given (scope_of names.now false) (left rest.old)) }
 {
     match rest.front() {
         (Piece::Word(word), behind) => {
@@ -176,17 +177,17 @@ pub fn given_part(alloc: Global, rest: &mut Rest<'_>, names: &Names) -> Result<G
                 *rest = behind;
                 function(rest, names)
             } else {
-                plain(alloc, rest, names)
+                plain_relation(alloc, rest, names)
             }
         }
-        _ => plain(alloc, rest, names),
+        _ => plain_relation(alloc, rest, names),
     }
 }
 
 /// A constraint, up to the line's end.
 #[tactic(auto, unfolding(crate::specs::Lines::to_end))]
 pub fn given_to_end(alloc: Global, rest: &mut Rest<'_>, names: &Names) -> Result<Given, Stop>
-    ensures { GivesAll condition result (left rest.new) (to_end (read_condition (scope_of names.now false)) (left rest.old)) }
+    ensures { GivesAll given_view result (left rest.new) (to_end (read_given (scope_of names.now false)) (left rest.old)) }
 {
     let given = given_part(alloc, rest, names)?;
     line_end(rest)?;
@@ -210,9 +211,9 @@ pub fn given(
     requires short { length line.now ≤ 1048577 }
     requires inside { InLine line.now tokens.now.tokens.items }
     requires within { from ≤ length tokens.now.tokens.items }
-    ensures read { IfOk result (λ g. IsGiven names.now line.now tokens.now from (condition g)) }
-    ensures limits { IfOk result (λ g. IsConditionOf (length names.now.variables) (length names.now.rates) (condition g)) }
-    ensures fault { IfErr result (IsFirstFault (spell_condition (scope_of names.now false)) line.now tokens.now from) }
+    ensures read { IfOk result (λ g. IsGiven names.now line.now tokens.now from (given_view g)) }
+    ensures limits { IfOk result (λ g. IsGivenOf (length names.now.variables) (length names.now.rates) (given_view g)) }
+    ensures fault { IfErr result (IsFirstFault (spell_given (scope_of names.now false)) line.now tokens.now from) }
 {
     let all = Rest {
         line,

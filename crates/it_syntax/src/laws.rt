@@ -1,13 +1,13 @@
 //! Laws of the definitions that the contracts cite.
 ghost use Rattle.it_syntax.specs.Misspellings.{LineTokensAreOne};
-ghost use Rattle.it_syntax.specs.ComparisonLines.{ComparisonIsOne, ComparisonFaultIsOne, ComparisonOrFault};
-ghost use Rattle.it_syntax.specs.ConditionLines.{GivenIsOne, GivenFaultIsOne, GivenOrFault};
+ghost use Rattle.it_syntax.specs.RelationLines.{RelationIsOne, RelationFaultIsOne, RelationOrFault};
+ghost use Rattle.it_syntax.specs.GivenLines.{GivenIsOne, GivenFaultIsOne, GivenOrFault};
 
 /// A line from a token on is at most one relation of two sums, or has at most one first fault, and not both.
 pub fn relation_is_one()
-    ensures one { ComparisonIsOne }
-    ensures fault { ComparisonFaultIsOne }
-    ensures either { ComparisonOrFault }
+    ensures one { RelationIsOne }
+    ensures fault { RelationFaultIsOne }
+    ensures either { RelationOrFault }
 {}
 
 /// A line from a token on is at most one constraint of a `given` line, or has at most one first fault, and not both.

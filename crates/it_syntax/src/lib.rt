@@ -2,7 +2,6 @@
 #![tactic(auto)]
 
 mod atoms;
-mod comparisons;
 mod cutting;
 mod givens;
 mod laws;
@@ -13,6 +12,7 @@ pub mod parts;
 mod pieces;
 mod places;
 mod quantities;
+mod relations;
 pub mod rest;
 mod runs;
 mod signs;
@@ -21,9 +21,9 @@ mod sums;
 mod tests;
 pub mod types;
 
-pub use comparisons::relation;
 pub use cutting::{line_tokens, tokens};
 pub use givens::given;
 pub use laws::{given_is_one, line_tokens_are_one, relation_is_one};
 pub use lists::is_measure;
 pub use names::Names;
+pub use relations::relation;

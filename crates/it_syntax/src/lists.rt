@@ -2,9 +2,10 @@
 ghost use Rattle.std.specs.Bool.{OnTrue, OnFalse};
 ghost use Rattle.std.specs.Prelude.{◌≡◌, ◌<◌, IfSome, OnOk, IfOk, Some, None, length};
 ghost use Rattle.it_syntax.specs.Gives.{Gives, left};
-ghost use Rattle.it_syntax.specs.Reading.{after_comma, read_name, read_more, read_list};
-ghost use Rattle.it_syntax.specs.Trees.{is_measure};
-ghost use Rattle.it_syntax.specs.Relations.{env_of};
+ghost use Rattle.it_syntax.specs.AtomReading.{read_name, read_more, read_list};
+ghost use Rattle.it_syntax.specs.ReaderSteps.{after_comma};
+ghost use Rattle.it_syntax.specs.WrittenAtoms.{is_measure};
+ghost use Rattle.it_syntax.specs.Scopes.{env_of};
 
 use crate::names::Names;
 use crate::rest::{Piece, Rest, Stop};
@@ -24,7 +25,7 @@ pub fn is_measure(text: &[u8]) -> bool
     text == ENTROPY || text == MUTUAL
 }
 
-#[tactic(auto, unfolding(crate::specs::Relations::env_of))]
+#[tactic(auto, unfolding(crate::specs::Scopes::env_of))]
 pub fn variable(names: &Names, name: &[u8]) -> Option<u8>
     ensures found { result ≡ env_of names.now name.now }
     ensures small { IfSome result (λ i. i < 16) }
@@ -32,7 +33,7 @@ pub fn variable(names: &Names, name: &[u8]) -> Option<u8>
     names.variable(name)
 }
 
-#[tactic(auto, unfolding(crate::specs::Reading::read_name))]
+#[tactic(auto, unfolding(crate::specs::AtomReading::read_name))]
 fn name(rest: &mut Rest<'_>, names: &Names) -> Result<u8, Stop>
     ensures gives { Gives result (left rest.new) (read_name (env_of names.now) (left rest.old)) }
     ensures shorter { OnOk result (length (left rest.new) < length (left rest.old)) }
@@ -72,7 +73,7 @@ fn comma(rest: &mut Rest<'_>) -> bool
 }
 
 /// The set of further names, each behind a comma.
-#[tactic(auto, unfolding(crate::specs::Reading::read_more))]
+#[tactic(auto, unfolding(crate::specs::AtomReading::read_more))]
 fn more(rest: &mut Rest<'_>, names: &Names) -> Result<VarSet, Stop>
     ensures { Gives result (left rest.new) (read_more (env_of names.now) (left rest.old)) }
 {
@@ -85,7 +86,7 @@ fn more(rest: &mut Rest<'_>, names: &Names) -> Result<VarSet, Stop>
 }
 
 /// The set of a list of names.
-#[tactic(auto, unfolding(crate::specs::Reading::read_list))]
+#[tactic(auto, unfolding(crate::specs::AtomReading::read_list))]
 pub fn list(rest: &mut Rest<'_>, names: &Names) -> Result<VarSet, Stop>
     ensures { Gives result (left rest.new) (read_list (env_of names.now) (left rest.old)) }
 {

@@ -2,9 +2,9 @@
 ghost use Rattle.std.specs.Bool.{OnTrue, OnFalse};
 ghost use Rattle.std.specs.Prelude.{◌≡◌, ◌++◌, [], ◌∷◌, Some, None, OnOk, IfErr};
 ghost use Rattle.it_syntax.specs.declared.rest.Stop.TheVariants.{Memory};
-ghost use Rattle.it_syntax.specs.ConditionReading.{behind_divider, read_spare, read_members, with_sets};
+ghost use Rattle.it_syntax.specs.GivenReading.{behind_divider, read_spare, read_members, with_sets};
 ghost use Rattle.it_syntax.specs.Gives.{GivesBy, StopsAs, left};
-ghost use Rattle.it_syntax.specs.Relations.{env_of};
+ghost use Rattle.it_syntax.specs.Scopes.{env_of};
 
 use crate::lists::{is_measure, list, variable};
 use crate::names::Names;
@@ -37,8 +37,8 @@ fn is_divided(rest: &mut Rest<'_>, divider: Divider) -> bool
 }
 
 /// The fault of a member too many.
-#[tactic(auto, unfolding(crate::specs::ConditionReading::read_spare))]
-fn spare(rest: &Rest<'_>, names: &Names) -> Stop
+#[tactic(auto, unfolding(crate::specs::GivenReading::read_spare))]
+fn spare_fault(rest: &Rest<'_>, names: &Names) -> Stop
     ensures { StopsAs result (left rest.now) (read_spare (env_of names.now) (left rest.now)) }
 {
     match rest.front() {
@@ -81,7 +81,7 @@ pub fn members(
     let mut allowed = most;
     while is_divided(rest, divider) {
         if allowed == 0 {
-            return Err(spare(rest, names));
+            return Err(spare_fault(rest, names));
         }
         match list(rest, names) {
             Ok(next) => add(&mut found, next)?,

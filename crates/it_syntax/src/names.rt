@@ -1,6 +1,6 @@
 //! The names of variables and rates.
 ghost use Rattle.std.specs.Prelude.{◌≡◌, ℕ, ◌<◌, ◌≤◌, ◌++◌, [], ◌∷◌, length, Some, slice_get, OnOk, OnErr, IfOk, IfSome, map};
-ghost use Rattle.it_syntax.specs.Vocabulary.{index_of, IsNew, IsVocabulary};
+ghost use Rattle.it_syntax.specs.NamesViews.{index_of, IsNew, AreNames};
 
 use indexmap::IndexSet;
 use it_space::Space;
@@ -17,13 +17,13 @@ pub struct Names {
 
 impl Model for Names {
     ghost use Rattle.std.specs.Prelude.{map};
-    ghost use Rattle.it_syntax.specs.Vocabulary.{Vocabulary, IsVocabulary};
+    ghost use Rattle.it_syntax.specs.NamesViews.{NamesView, AreNames};
 
-    ghost Value = { Vocabulary };
+    ghost Value = { NamesView };
 
     ghost view = { λ n. record { variables = map (λ v. v.items) n.variables.keys; rates = map (λ v. v.items) n.rates.keys } };
 
-    ghost invariant = { λ n. IsVocabulary (record { variables = map (λ v. v.items) n.variables.keys; rates = map (λ v. v.items) n.rates.keys }) };
+    ghost invariant = { λ n. AreNames (record { variables = map (λ v. v.items) n.variables.keys; rates = map (λ v. v.items) n.rates.keys }) };
 }
 
 impl Names {
@@ -83,7 +83,7 @@ impl Names {
     pub fn variable(&self, name: &[u8]) -> Option<u8>
         ensures index { result ≡ index_of self.now.variables name.now }
         ensures within { IfSome result (λ i. i < length self.now.variables) }
-        ensures vocabulary { IsVocabulary self.now }
+        ensures vocabulary { AreNames self.now }
     {
         index_in(&self.variables, name)
     }
@@ -92,7 +92,7 @@ impl Names {
     pub fn rate(&self, name: &[u8]) -> Option<u8>
         ensures index { result ≡ index_of self.now.rates name.now }
         ensures within { IfSome result (λ i. i < length self.now.rates) }
-        ensures vocabulary { IsVocabulary self.now }
+        ensures vocabulary { AreNames self.now }
     {
         index_in(&self.rates, name)
     }
@@ -114,7 +114,7 @@ impl Names {
     /// How many variables and rates there are.
     pub fn space(&self) -> Space
         ensures counts { result ≡ record { variables = length self.now.variables; rates = length self.now.rates } }
-        ensures vocabulary { IsVocabulary self.now }
+        ensures vocabulary { AreNames self.now }
     {
         Space {
             variables: self.variables.len() as u8,

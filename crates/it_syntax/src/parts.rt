@@ -1,6 +1,6 @@
 //! Readers of parts of a line, which take from the front what they read. At a fault what is left begins with the piece that
 //! the fault is at.
 
-pub use crate::comparisons::relation_to_end;
 pub use crate::givens::given_to_end;
 pub use crate::lists::list;
+pub use crate::relations::relation_to_end;

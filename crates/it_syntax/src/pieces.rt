@@ -1,7 +1,8 @@
 //! The pieces of a line, one after the other.
 ghost use Rattle.std.specs.Prelude.{◌≡◌, ◌≤◌, length};
-ghost use Rattle.it_syntax.specs.Gives.{HasLength, with_front, left};
-ghost use Rattle.it_syntax.specs.Spans.{text_of};
+ghost use Rattle.it_syntax.specs.Gives.{left};
+ghost use Rattle.it_syntax.specs.ReaderSteps.{HasLength, with_front};
+ghost use Rattle.it_syntax.specs.ReaderSteps.{token_text};
 
 use crate::rest::{Piece, Rest};
 use crate::types::{Token, TokenKind};
@@ -9,7 +10,7 @@ use crate::types::{Token, TokenKind};
 fn text<'a>(line: &'a [u8], token: &Token) -> &'a [u8]
     requires order { token.now.start ≤ token.now.end }
     requires inside { token.now.end ≤ length line.now }
-    ensures { result.now ≡ text_of line.now token.now }
+    ensures { result.now ≡ token_text line.now token.now }
 {
     &line[token.start as usize..token.end as usize]
 }

@@ -1,8 +1,8 @@
 //! Readers of entropies, mutual informations and rates, and of terms that count them.
 ghost use Rattle.std.specs.Prelude.{◌≡◌};
-ghost use Rattle.it_syntax.specs.Reading.{read_atom};
-ghost use Rattle.it_syntax.specs.ComparisonLines.{scope_of};
-ghost use Rattle.it_syntax.specs.ComparisonReading.{read_quantity, after_number, read_term, read_over};
+ghost use Rattle.it_syntax.specs.AtomReading.{read_atom};
+ghost use Rattle.it_syntax.specs.Scopes.{scope_of};
+ghost use Rattle.it_syntax.specs.RelationReading.{read_quantity, after_number, read_term, read_over};
 ghost use Rattle.it_syntax.specs.Gives.{Gives, StopsAs, left};
 
 use crate::atoms::atom;
@@ -12,7 +12,7 @@ use crate::rest::{Piece, Rest, Stop};
 use crate::types::{Atom, Code, Term};
 
 /// The rate of this name, if rates may stand there.
-#[tactic(auto, unfolding(crate::specs::ComparisonLines::scope_of))]
+#[tactic(auto, unfolding(crate::specs::Scopes::scope_of))]
 fn rate(names: &Names, rates: bool, name: &[u8]) -> Option<u8>
     ensures { result ≡ (scope_of names.now rates).rates name.now }
 {
@@ -20,7 +20,7 @@ fn rate(names: &Names, rates: bool, name: &[u8]) -> Option<u8>
 }
 
 /// An entropy or a mutual information.
-#[tactic(auto, unfolding(crate::specs::ComparisonLines::scope_of))]
+#[tactic(auto, unfolding(crate::specs::Scopes::scope_of))]
 fn measure(rest: &mut Rest<'_>, names: &Names, rates: bool) -> Result<Atom, Stop>
     ensures { Gives result (left rest.new) (read_atom (scope_of names.now rates).variables (left rest.old)) }
 {
@@ -29,7 +29,7 @@ fn measure(rest: &mut Rest<'_>, names: &Names, rates: bool) -> Result<Atom, Stop
 }
 
 /// An entropy, a mutual information or a rate.
-#[tactic(auto, unfolding(crate::specs::ComparisonReading::read_quantity))]
+#[tactic(auto, unfolding(crate::specs::RelationReading::read_quantity))]
 fn quantity(rest: &mut Rest<'_>, names: &Names, rates: bool) -> Result<Atom, Stop>
     ensures { Gives result (left rest.new) (read_quantity (scope_of names.now rates) (left rest.old)) }
 {
@@ -51,7 +51,7 @@ fn quantity(rest: &mut Rest<'_>, names: &Names, rates: bool) -> Result<Atom, Sto
     }
 }
 
-#[tactic(auto, unfolding(crate::specs::ComparisonReading::after_number))]
+#[tactic(auto, unfolding(crate::specs::RelationReading::after_number))]
 fn after_number(
     negative: bool,
     number: u64,
@@ -86,7 +86,7 @@ fn after_number(
 }
 
 /// A term, behind its sign.
-#[tactic(auto, unfolding(crate::specs::ComparisonReading::read_term))]
+#[tactic(auto, unfolding(crate::specs::RelationReading::read_term))]
 pub fn term(negative: bool, rest: &mut Rest<'_>, names: &Names, rates: bool) -> Result<Term, Stop>
     ensures { Gives result (left rest.new) (read_term (scope_of names.now rates) negative (left rest.old)) }
 {
@@ -107,7 +107,7 @@ pub fn term(negative: bool, rest: &mut Rest<'_>, names: &Names, rates: bool) -> 
 }
 
 /// The fault of a term too many.
-#[tactic(auto, unfolding(crate::specs::ComparisonReading::read_over))]
+#[tactic(auto, unfolding(crate::specs::RelationReading::read_over))]
 pub fn over(rest: &Rest<'_>, names: &Names, rates: bool) -> Stop
     ensures { StopsAs result (left rest.now) (read_over (scope_of names.now rates) (left rest.now)) }
 {

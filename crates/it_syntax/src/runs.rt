@@ -1,7 +1,7 @@
 //! What stands at the front of some bytes: spaces, digits, the bytes of a word, a symbol.
 ghost use Rattle.std.specs.Prelude.{◌≡◌};
 ghost use Rattle.it_syntax.specs.Spelling.{is_letter, is_digit, is_word_byte, is_space};
-ghost use Rattle.it_syntax.specs.Fronts.{Run, symbol_of};
+ghost use Rattle.it_syntax.specs.Fronts.{IsLongestRun, symbol_of};
 
 use crate::types::Symbol;
 
@@ -27,7 +27,7 @@ fn is_word_byte(b: u8) -> bool
 /// The number of spaces in front.
 #[tactic(auto, using(crate::proofs::RunLemmas::run_lemmas))]
 pub fn spaces(bytes: &[u8]) -> usize
-    ensures { Run is_space bytes.now result }
+    ensures { IsLongestRun is_space bytes.now result }
 {
     for (i, b) in bytes.iter().enumerate() {
         if *b != b' ' {
@@ -40,7 +40,7 @@ pub fn spaces(bytes: &[u8]) -> usize
 /// The number of word bytes in front.
 #[tactic(auto, using(crate::proofs::RunLemmas::run_lemmas))]
 pub fn word_bytes(bytes: &[u8]) -> usize
-    ensures { Run is_word_byte bytes.now result }
+    ensures { IsLongestRun is_word_byte bytes.now result }
 {
     for (i, b) in bytes.iter().enumerate() {
         if !is_word_byte(*b) {
@@ -53,7 +53,7 @@ pub fn word_bytes(bytes: &[u8]) -> usize
 /// The number of digits in front.
 #[tactic(auto, using(crate::proofs::RunLemmas::run_lemmas))]
 pub fn digits(bytes: &[u8]) -> usize
-    ensures { Run is_digit bytes.now result }
+    ensures { IsLongestRun is_digit bytes.now result }
 {
     for (i, b) in bytes.iter().enumerate() {
         if !is_digit(*b) {

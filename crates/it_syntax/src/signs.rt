@@ -2,7 +2,8 @@
 ghost use Rattle.std.specs.Prelude.{◌≡◌, ◌++◌, [], ◌∷◌, Some, None, MatchOption, OnOk, IfErr};
 ghost use Rattle.it_syntax.specs.declared.rest.Stop.TheVariants.{Memory};
 ghost use Rattle.it_syntax.specs.Gives.{left};
-ghost use Rattle.it_syntax.specs.Reading.{after_sign, read_sign};
+ghost use Rattle.it_syntax.specs.AtomReading.{read_sign};
+ghost use Rattle.it_syntax.specs.ReaderSteps.{after_sign};
 
 use crate::rest::{Piece, Rest, Stop};
 use crate::types::{Symbol, Term};
@@ -25,7 +26,7 @@ pub fn sign(rest: &mut Rest<'_>) -> Option<bool>
 }
 
 /// Takes a sign, if one stands there, and says whether it is `-`.
-#[tactic(auto, unfolding(crate::specs::Reading::read_sign))]
+#[tactic(auto, unfolding(crate::specs::AtomReading::read_sign))]
 pub fn first_sign(rest: &mut Rest<'_>) -> bool
     ensures { (result, left rest.new) ≡ read_sign (left rest.old) }
 {

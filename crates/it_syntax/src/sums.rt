@@ -1,9 +1,9 @@
 //! Readers of sums of terms.
 ghost use Rattle.std.specs.Prelude.{◌≡◌, [], ◌∷◌};
-ghost use Rattle.it_syntax.specs.ComparisonLines.{scope_of};
-ghost use Rattle.it_syntax.specs.ComparisonReading.{read_terms, read_counted, read_sum};
+ghost use Rattle.it_syntax.specs.Scopes.{scope_of};
+ghost use Rattle.it_syntax.specs.RelationReading.{read_terms, read_counted, read_sum};
 ghost use Rattle.it_syntax.specs.Gives.{GivesBy, left};
-ghost use Rattle.it_syntax.specs.Reading.{with_terms};
+ghost use Rattle.it_syntax.specs.ReaderSteps.{with_terms};
 
 use crate::names::Names;
 use crate::quantities::{over, term};
@@ -40,8 +40,8 @@ fn terms(
 }
 
 /// At least one term, at most `most`.
-#[tactic(auto, unfolding(crate::specs::ComparisonReading::read_counted))]
-fn counted(
+#[tactic(auto, unfolding(crate::specs::RelationReading::read_counted))]
+fn counted_terms(
     alloc: Global,
     most: usize,
     negative: bool,
@@ -61,7 +61,7 @@ fn counted(
 }
 
 /// A sum of at most `most` terms.
-#[tactic(auto, unfolding(crate::specs::ComparisonReading::read_sum))]
+#[tactic(auto, unfolding(crate::specs::RelationReading::read_sum))]
 pub fn sum(
     alloc: Global,
     most: usize,
@@ -72,5 +72,5 @@ pub fn sum(
     ensures { GivesBy (λ x. x.items) result (left rest.new) (read_sum most (scope_of names.now rates) (left rest.old)) }
 {
     let negative = first_sign(rest);
-    counted(alloc, most, negative, rest, names, rates)
+    counted_terms(alloc, most, negative, rest, names, rates)
 }

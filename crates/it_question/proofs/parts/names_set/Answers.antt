@@ -1,7 +1,7 @@
 use Rattle.it_syntax.specs.Gives as gives
-use Rattle.it_syntax.specs.Reading.{read_list}
-use Rattle.it_syntax.specs.Relations.{env_of}
-use Rattle.it_syntax.specs.Trees.{spell_list, list_set}
+use Rattle.it_syntax.specs.AtomReading.{read_list}
+use Rattle.it_syntax.specs.Scopes.{env_of}
+use Rattle.it_syntax.specs.WrittenAtoms.{spell_list, list_set}
 use Rattle.it_syntax.proofs.AtomTraces.{list_traces}
 use Rattle.it_question.specs.Cursors.{left}
 use Rattle.it_question.proofs.CursorLemmas.{behind, left_none}

@@ -1,6 +1,6 @@
 use Rattle.std.proofs.Common.{take}
 use Rattle.it_syntax.specs.Spelling.{AreAll}
-use Rattle.it_question.specs.Lines.{is_other}
+use Rattle.it_question.specs.ReaderSteps.{is_other}
 use Rattle.it_question.proofs.plain.before.Given as goal
 
 abbrev pub invariant-loop-i : goal.invariant-loop-i

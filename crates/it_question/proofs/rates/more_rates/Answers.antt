@@ -1,9 +1,9 @@
 use Rattle.std.proofs.Common.{◌≡◌, ℕ, List, Ok, sym, subst}
-use Rattle.it_syntax.specs.ConditionReading.{with_sets}
+use Rattle.it_syntax.specs.GivenReading.{with_sets}
 use Rattle.it_syntax.specs.Gives.{StopsAs}
 use Rattle.it_question.specs.Cursors.{left}
 use Rattle.it_question.specs.Reading.{read_once, read_once_more}
-use Rattle.it_question.specs.Trees.{rates_env}
+use Rattle.it_question.specs.WrittenLines.{rates_env}
 use Rattle.it_question.proofs.RateLemmas.{goes_on, ends, is_done}
 use Rattle.it_question.proofs.rates.more_rates.Goals as goal
 

@@ -1,12 +1,12 @@
 use Rattle.std.specs.Vec.Iter.{into_iter_items}
-use Rattle.it_question.specs.Bodies.{body}
+use Rattle.it_question.specs.Bodies.{body_view}
 use Rattle.it_question.specs.Limits.{IsQuestion}
 use Rattle.it_question.specs.declared.bodies.Body.{Body}
 use Rattle.it_question.proofs.LineCountLemmas.{next_is, others_are, texts_step}
 use Rattle.it_question.proofs.texts.with_texts.Goals as goal
 
 abbrev IsLimited : Body → Type 0
-IsLimited b = IsQuestion (body b)
+IsLimited b = IsQuestion (body_view b)
 
 pub question_lines-requires : goal.question_lines-requires
 question_lines-requires c = next_is IsLimited (into_iter_items c.loop-body.left) (into_iter_items c.next.new.self) c.in-Some.body c.loop-body.invariant.0 c.in-Some.ensures.items

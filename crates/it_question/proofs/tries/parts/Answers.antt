@@ -1,8 +1,8 @@
 use Rattle.std.proofs.Common.{List, Ok, sym, ap, ◌∙◌}
 use Rattle.it_syntax.specs.Letters.{Letter}
-use Rattle.it_syntax.specs.Reading.{Reads}
+use Rattle.it_syntax.specs.AtomReading.{Reads}
 use Rattle.it_question.specs.Cursors.{left}
-use Rattle.it_question.specs.Trees.{Sets}
+use Rattle.it_question.specs.WrittenTries.{Sets}
 use Rattle.it_question.proofs.TryLoopLemmas.{parts_stop, parts_last, parts_more, parts_end}
 use Rattle.it_question.proofs.tries.parts.Goals as goal
 

@@ -1,8 +1,9 @@
 use Rattle.std.proofs.Common.{◌≡◌}
-use Rattle.it_syntax.specs.Relations.{env_of}
+use Rattle.it_syntax.specs.Scopes.{env_of}
 use Rattle.it_question.specs.Cursors.{left}
 use Rattle.it_question.specs.Reading.{read_tries}
-use Rattle.it_question.specs.Trees.{auxiliary_env, unnamed}
+use Rattle.it_question.specs.WrittenRegions.{auxiliary_env}
+use Rattle.it_question.specs.WrittenTries.{unnamed_sets}
 use Rattle.it_question.proofs.TryLoopLemmas.{with_tries}
 use Rattle.it_question.proofs.tries.tries.Given as goal
 
@@ -10,7 +11,7 @@ abbrev pub invariant-loop-behind : goal.invariant-loop-behind
 invariant-loop-behind l =
     let aux = auxiliary_env l.regions.question.now l.regions.second.now in
     let env = env_of l.regions.first.now in
-    with_tries l.found.items (read_tries l.allowed aux env (unnamed l.auxiliaries) (left l.cursor)) ≡ read_tries l.most aux env (unnamed l.auxiliaries) (left l.fn.cursor)
+    with_tries l.found.items (read_tries l.allowed aux env (unnamed_sets l.auxiliaries) (left l.cursor)) ≡ read_tries l.most aux env (unnamed_sets l.auxiliaries) (left l.fn.cursor)
 
 abbrev pub decreases-loop-behind : goal.decreases-loop-behind
 decreases-loop-behind l = l.allowed

@@ -1,5 +1,5 @@
 use Rattle.std.proofs.Common.{rules}
-use Rattle.it_syntax.specs.Reading.{line_end}
+use Rattle.it_syntax.specs.AtomReading.{line_end}
 use Rattle.it_question.proofs.words.line_end.Goals as goal
 
 pub returns-in-Some-End-default : goal.returns-in-Some-End-default

@@ -1,14 +1,14 @@
 use Rattle.std.proofs.Common.{false}
-use Rattle.it_syntax.specs.Conditions.{spell_condition, condition_of}
-use Rattle.it_syntax.specs.ComparisonLines.{scope_of}
-use Rattle.it_syntax.specs.ConditionReading.{read_condition}
+use Rattle.it_syntax.specs.WrittenGivens.{spell_given, given_of}
+use Rattle.it_syntax.specs.Scopes.{scope_of}
+use Rattle.it_syntax.specs.GivenReading.{read_given}
 use Rattle.it_syntax.specs.Lines.{letters_from}
-use Rattle.it_syntax.specs.Givens.{condition}
+use Rattle.it_syntax.specs.Givens.{given_view}
 use Rattle.it_syntax.specs.Spans.{last_letter}
 use Rattle.it_syntax.proofs.SpanLemmas.{in_line_drop}
 use Rattle.it_syntax.proofs.LineLemmas.{read_says, refused}
-use Rattle.it_syntax.proofs.ConditionLemmas.{condition_reader}
-use Rattle.it_syntax.proofs.ConditionLimits.{condition_limited}
+use Rattle.it_syntax.proofs.GivenLemmas.{given_reader}
+use Rattle.it_syntax.proofs.GivenLimits.{given_limited}
 use Rattle.it_syntax.proofs.givens.given.Goals as goal
 
 pub invariant_of-rest : goal.invariant_of-rest
@@ -18,19 +18,19 @@ pub column-requires-clause-within : goal.column-requires-clause-within
 column-requires-clause-within c =
     let s = scope_of c.args.names.now false in
     let e = rw (c.in-Err-Fault.field-0-is, c.split_at.ensures.back, c.as_slice.ensures.value) at c.in-Err-Fault.ensures in
-    rw c.as_slice.ensures.value (refused (read_condition s) (spell_condition s) (condition_of s) (condition_reader s) c.args.line.now c.args.tokens.now c.args.from c.given_to_end.new.rest.line.now c.given_to_end.new.rest.tokens.now (last_letter c.given_to_end.new.rest.misspelling) c.in-Err-Fault.code e).0
+    rw c.as_slice.ensures.value (refused (read_given s) (spell_given s) (given_of s) (given_reader s) c.args.line.now c.args.tokens.now c.args.from c.given_to_end.new.rest.line.now c.given_to_end.new.rest.tokens.now (last_letter c.given_to_end.new.rest.misspelling) c.in-Err-Fault.code e).0
 
 pub returns-in-Ok-clause-read : goal.returns-in-Ok-clause-read
 returns-in-Ok-clause-read c =
     let s = scope_of c.args.names.now false in
     let e = rw (c.split_at.ensures.back, c.as_slice.ensures.value) at c.in-Ok.ensures in
-    read_says (read_condition s) (spell_condition s) (condition_of s) (condition_reader s) (letters_from c.args.line.now c.args.tokens.now c.args.from) (condition c.in-Ok.given) e
+    read_says (read_given s) (spell_given s) (given_of s) (given_reader s) (letters_from c.args.line.now c.args.tokens.now c.args.from) (given_view c.in-Ok.given) e
 
 pub returns-in-Ok-clause-limits : goal.returns-in-Ok-clause-limits
-returns-in-Ok-clause-limits c = condition_limited c.args.names.now _ _ (condition c.in-Ok.given) c.in-Ok.ensures
+returns-in-Ok-clause-limits c = given_limited c.args.names.now _ _ (given_view c.in-Ok.given) c.in-Ok.ensures
 
 pub returns-in-Err-Fault-clause-fault : goal.returns-in-Err-Fault-clause-fault
 returns-in-Err-Fault-clause-fault c =
     let s = scope_of c.args.names.now false in
     let e = rw (c.in-Err-Fault.field-0-is, c.split_at.ensures.back, c.as_slice.ensures.value) at c.in-Err-Fault.ensures in
-    rw (c.column.ensures, c.as_slice.ensures.value) (refused (read_condition s) (spell_condition s) (condition_of s) (condition_reader s) c.args.line.now c.args.tokens.now c.args.from c.given_to_end.new.rest.line.now c.given_to_end.new.rest.tokens.now (last_letter c.given_to_end.new.rest.misspelling) c.in-Err-Fault.code e).1
+    rw (c.column.ensures, c.as_slice.ensures.value) (refused (read_given s) (spell_given s) (given_of s) (given_reader s) c.args.line.now c.args.tokens.now c.args.from c.given_to_end.new.rest.line.now c.given_to_end.new.rest.tokens.now (last_letter c.given_to_end.new.rest.misspelling) c.in-Err-Fault.code e).1

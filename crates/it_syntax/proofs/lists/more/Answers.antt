@@ -1,8 +1,8 @@
 use Rattle.std.proofs.Common.{◌∙◌}
 use Rattle.std.proofs.lemmas.Result.{err_from_is_err_and}
 use Rattle.it_syntax.specs.Gives.{left}
-use Rattle.it_syntax.specs.Relations.{env_of}
-use Rattle.it_syntax.specs.Reading.{read_more}
+use Rattle.it_syntax.specs.Scopes.{env_of}
+use Rattle.it_syntax.specs.AtomReading.{read_more}
 use Rattle.it_syntax.proofs.ListLemmas.{with_none, step_ok, ends, is_done}
 use Rattle.it_syntax.proofs.lists.more.Goals as goal
 

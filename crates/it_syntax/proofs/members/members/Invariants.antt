@@ -1,7 +1,7 @@
 use Rattle.std.proofs.Common.{◌≡◌}
-use Rattle.it_syntax.specs.ConditionReading.{read_members, with_sets}
+use Rattle.it_syntax.specs.GivenReading.{read_members, with_sets}
 use Rattle.it_syntax.specs.Gives.{left}
-use Rattle.it_syntax.specs.Relations.{env_of}
+use Rattle.it_syntax.specs.Scopes.{env_of}
 use Rattle.it_syntax.proofs.members.members.Given as goal
 
 -- the members so far with those still read are the whole

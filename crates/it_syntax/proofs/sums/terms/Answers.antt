@@ -1,10 +1,10 @@
 use Rattle.std.proofs.Common.{◌≡◌, ◌-◌, ℕ, List, [], ◌∷◌, sym, subst, arith}
 use Rattle.it_syntax.specs.declared.types.Term.{Term}
 use Rattle.it_syntax.specs.Gives.{left}
-use Rattle.it_syntax.specs.ComparisonLines.{scope_of}
-use Rattle.it_syntax.specs.Reading.{with_terms}
-use Rattle.it_syntax.specs.ComparisonReading.{read_terms}
-use Rattle.it_syntax.proofs.ComparisonTermLemmas.{goes_on, ends, too_many, is_done}
+use Rattle.it_syntax.specs.Scopes.{scope_of}
+use Rattle.it_syntax.specs.ReaderSteps.{with_terms}
+use Rattle.it_syntax.specs.RelationReading.{read_terms}
+use Rattle.it_syntax.proofs.RelationTermLemmas.{goes_on, ends, too_many, is_done}
 use Rattle.it_syntax.proofs.sums.terms.Goals as goal
 
 pub returns-then-allowed-eq0 : goal.returns-then-allowed-eq0

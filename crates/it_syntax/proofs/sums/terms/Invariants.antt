@@ -1,8 +1,8 @@
 use Rattle.std.proofs.Common.{◌≡◌, [], ◌∷◌}
 use Rattle.it_syntax.specs.Gives.{left}
-use Rattle.it_syntax.specs.Reading.{with_terms}
-use Rattle.it_syntax.specs.ComparisonReading.{read_terms}
-use Rattle.it_syntax.specs.ComparisonLines.{scope_of}
+use Rattle.it_syntax.specs.ReaderSteps.{with_terms}
+use Rattle.it_syntax.specs.RelationReading.{read_terms}
+use Rattle.it_syntax.specs.Scopes.{scope_of}
 use Rattle.it_syntax.proofs.sums.terms.Given as goal
 
 abbrev pub invariant-loop-negative : goal.invariant-loop-negative

@@ -12,12 +12,12 @@ use Rattle.it_syntax.specs.declared.types.Term.{Term}
 use Rattle.it_syntax.specs.declared.types.Sign.{Sign}
 use Rattle.it_syntax.specs.declared.types.Sign.TheVariants.{AtLeast, AtMost, Equal}
 use Rattle.it_syntax.specs.Letters.{Letter, Word, Number, Sym, Marked, clean}
-use Rattle.it_syntax.specs.Meaning.{Stated}
-use Rattle.it_syntax.specs.FirstFault.{head, own}
-use Rattle.it_syntax.specs.Trees.{Joint, Shared, TermSign, Positive, Negative, entropy_text, mutual_text, is_measure, unknown, index_or, atom_of, spell_list, spell_atom, over}
-use Rattle.it_syntax.specs.Comparisons.{Scope, WrittenQuantity, Measure, RateOf, WrittenTerm, Zero, Once, Times, WrittenSum, WrittenComparison, spell_quantity, spell_term, spell_terms, spell_counted, spell_sum, compare_letter, most_terms, spell_comparison, quantity_of, term_of, terms_of, sum_of, comparison_of}
-use Rattle.it_syntax.specs.Reading.{Reads, ◌>>=◌, read_atom, read_sign}
-use Rattle.it_syntax.specs.ComparisonReading.{rated, read_quantity, after_number, read_term, surplus, read_over, read_terms, read_counted, read_sum, read_compare, read_comparison}
+use Rattle.it_syntax.specs.Meaning.{RelationView}
+use Rattle.it_syntax.specs.FirstFault.{head, own_code}
+use Rattle.it_syntax.specs.WrittenAtoms.{Entropy, Mutual, TermSign, Positive, Negative, entropy_text, mutual_text, is_measure, unknown, index_or, atom_of, spell_list, spell_atom, mark_surplus}
+use Rattle.it_syntax.specs.WrittenRelations.{Scope, WrittenQuantity, Measure, RateOf, WrittenTerm, Zero, Once, Times, WrittenSum, WrittenRelation, spell_quantity, spell_term, spell_terms, spell_counted, spell_sum, compare_letter, most_terms, spell_relation, quantity_of, term_of, terms_of, sum_of, relation_of}
+use Rattle.it_syntax.specs.AtomReading.{Reads, ◌>>=◌, read_atom, read_sign}
+use Rattle.it_syntax.specs.RelationReading.{rate_or_fault, read_quantity, after_number, read_term, surplus, read_over, read_terms, read_counted, read_sum, read_compare, read_relation}
 use Rattle.it_syntax.proofs.Traces.{Went, Stuck, By, Traces, traces_bind, traces_map, letter_then, switch, renamed}
 use Rattle.it_syntax.proofs.AtomTraces.{begun, empty, stuck_here, stuck_none, some_list}
 use Rattle.it_syntax.proofs.SideTraces.{atom_traces}
@@ -25,10 +25,10 @@ use Rattle.it_syntax.proofs.SideTraces.{atom_traces}
 -- ---- quantities
 
 some_quantity : WrittenQuantity
-some_quantity = Measure (Joint some_list)
+some_quantity = Measure (Entropy some_list)
 
 abbrev chosen : Scope → List ℕ → Bool → Option ℕ → List Letter → Reads Atom
-chosen s w h o ls = cond h (read_atom s.variables (Word w ∷ ls)) (rated w o ls)
+chosen s w h o ls = cond h (read_atom s.variables (Word w ∷ ls)) (rate_or_fault w o ls)
 
 word_is : (s : Scope) (w : List ℕ) (h : Bool) (o : Option ℕ) → is_measure w ≡ h → s.rates w ≡ o → (ls : List Letter) → read_quantity s (Word w ∷ ls) ≡ chosen s w h o ls
 unfolding read_quantity
@@ -83,7 +83,7 @@ number_word s b n w ls = switch (times s b n) (after_number s b n) (spell_quanti
 zero_alone : (s : Scope) (b : Bool) (ls : List Letter) → ((t : List Letter) → head t ≡ head ls → read_term s b (Number 0 ∷ t) ≡ Ok (term_of s b Zero, t)) → Went (read_term s b) (spell_term s) (term_of s b) (Number 0 ∷ ls) (term_of s b Zero) ls
 zero_alone s b ls h = record { tree = Zero; front = Number 0 ∷ []; value = refl; parts = refl; spells = λ k. refl; stays = h }
 
-no_quantity : (s : Scope) (b : Bool) (n : ℕ) (l : Letter) (ls : List Letter) (c : Code) → ((t : List Letter) → read_term s b (Number n ∷ l ∷ t) ≡ Err (c, l ∷ t)) → own (l ∷ ls) ≡ c → Stuck (read_term s b) (spell_term s) (Number n ∷ l ∷ ls) c (l ∷ ls)
+no_quantity : (s : Scope) (b : Bool) (n : ℕ) (l : Letter) (ls : List Letter) (c : Code) → ((t : List Letter) → read_term s b (Number n ∷ l ∷ t) ≡ Err (c, l ∷ t)) → own_code (l ∷ ls) ≡ c → Stuck (read_term s b) (spell_term s) (Number n ∷ l ∷ ls) c (l ∷ ls)
 no_quantity s b n l ls c h o = record {
   tree = Times n some_quantity;
   front = Number n ∷ [];
@@ -136,7 +136,7 @@ term_more_traces n s b h = traces_bind (read_term s b) (λ t ls. read_terms n s 
 -- ---- a term too many
 
 abbrev spell_over : Scope → Terms → Marked → Marked
-spell_over s t k = over (spell_term s t.0 (spell_terms zero s t.1 k))
+spell_over s t k = mark_surplus (spell_term s t.0 (spell_terms zero s t.1 k))
 
 abbrev over_word : List ℕ → Bool → Option ℕ → List Letter → Reads (List Term)
 over_word w h o ls = cond h (Err (codes.Many, Word w ∷ ls)) (surplus w o ls)
@@ -146,12 +146,12 @@ unfolding read_over
 over_is s w h i o eh ei eo ls = ap (λ (b : Bool). over_word w (b || bytes_eq w mutual_text) (s.rates w) ls) eh ∙ ap (λ (b : Bool). over_word w (h || b) (s.rates w) ls) ei ∙ ap (λ (p : Option ℕ). over_word w (h || i) p ls) eo
 
 -- the first letter of the tree t is marked by c
-over_at : (s : Scope) (b : Bool) (l : Letter) (ls : List Letter) (t : WrittenTerm) (c : Code) (rest : Marked → Marked) → ((k : Marked) → over (spell_term s t k) ≡ (l, Some c) ∷ rest k) → ((r : List Letter) → read_over s (l ∷ r) ≡ Err (c, l ∷ r)) → Stuck (read_over s) (spell_over s) (l ∷ ls) c (l ∷ ls)
+over_at : (s : Scope) (b : Bool) (l : Letter) (ls : List Letter) (t : WrittenTerm) (c : Code) (rest : Marked → Marked) → ((k : Marked) → mark_surplus (spell_term s t k) ≡ (l, Some c) ∷ rest k) → ((r : List Letter) → read_over s (l ∷ r) ≡ Err (c, l ∷ r)) → Stuck (read_over s) (spell_over s) (l ∷ ls) c (l ∷ ls)
 over_at s b l ls t c rest h e = record {
   tree = (t, []);
   front = [];
   parts = refl;
-  spells = λ k. (over (spell_term s t k), (refl, inr (l, rest k, (h k, refl))));
+  spells = λ k. (mark_surplus (spell_term s t k), (refl, inr (l, rest k, (h k, refl))));
   stays = begun (λ r. read_over s r ≡ Err (c, r)) l e;
 }
 
@@ -163,13 +163,13 @@ behind_shared s k = clean (Sym LeftParen) ∷ spell_list s.variables some_list (
 
 over_by : (s : Scope) (b : Bool) (w : List ℕ) (ls : List Letter) (h i : Bool) (o : Option ℕ) → bytes_eq w entropy_text ≡ h → bytes_eq w mutual_text ≡ i → s.rates w ≡ o → By (read_over s) (spell_over s) (term_more_of s b) (Word w ∷ ls) (over_word w (h || i) o ls)
 over_by s b w ls true i o eh ei eo =
-    over_at s b (Word w) ls (Once (Measure (Joint some_list))) codes.Many (behind_joint s) (λ k. ap (λ (t : List ℕ). (Word t, Some codes.Many) ∷ behind_joint s k) (sym ((bytes_eq-Decides w entropy_text).0 eh))) (over_is s w true i o eh ei eo)
+    over_at s b (Word w) ls (Once (Measure (Entropy some_list))) codes.Many (behind_joint s) (λ k. ap (λ (t : List ℕ). (Word t, Some codes.Many) ∷ behind_joint s k) (sym ((bytes_eq-Decides w entropy_text).0 eh))) (over_is s w true i o eh ei eo)
 over_by s b w ls false true o eh ei eo =
-    over_at s b (Word w) ls (Once (Measure (Shared some_list some_list))) codes.Many (behind_shared s) (λ k. ap (λ (t : List ℕ). (Word t, Some codes.Many) ∷ behind_shared s k) (sym ((bytes_eq-Decides w mutual_text).0 ei))) (over_is s w false true o eh ei eo)
+    over_at s b (Word w) ls (Once (Measure (Mutual some_list some_list))) codes.Many (behind_shared s) (λ k. ap (λ (t : List ℕ). (Word t, Some codes.Many) ∷ behind_shared s k) (sym ((bytes_eq-Decides w mutual_text).0 ei))) (over_is s w false true o eh ei eo)
 over_by s b w ls false false (Some i) eh ei eo =
-    over_at s b (Word w) ls (Once (RateOf (record { text = w; is_name = ap (λ (b : Bool). b || bytes_eq w mutual_text) eh ∙ ei }))) codes.Many (λ k. k) (λ k. ap (λ (p : Option ℕ). over ((Word w, unknown p) ∷ k)) eo) (over_is s w false false (Some i) eh ei eo)
+    over_at s b (Word w) ls (Once (RateOf (record { text = w; is_name = ap (λ (b : Bool). b || bytes_eq w mutual_text) eh ∙ ei }))) codes.Many (λ k. k) (λ k. ap (λ (p : Option ℕ). mark_surplus ((Word w, unknown p) ∷ k)) eo) (over_is s w false false (Some i) eh ei eo)
 over_by s b w ls false false None eh ei eo =
-    over_at s b (Word w) ls (Once (RateOf (record { text = w; is_name = ap (λ (b : Bool). b || bytes_eq w mutual_text) eh ∙ ei }))) codes.Name (λ k. k) (λ k. ap (λ (p : Option ℕ). over ((Word w, unknown p) ∷ k)) eo) (over_is s w false false None eh ei eo)
+    over_at s b (Word w) ls (Once (RateOf (record { text = w; is_name = ap (λ (b : Bool). b || bytes_eq w mutual_text) eh ∙ ei }))) codes.Name (λ k. k) (λ k. ap (λ (p : Option ℕ). mark_surplus ((Word w, unknown p) ∷ k)) eo) (over_is s w false false None eh ei eo)
 
 over_traces : (s : Scope) (b : Bool) → Traces (read_over s) (spell_over s) (term_more_of s b)
 unfolding read_over
@@ -248,20 +248,20 @@ terms_counted s (t ∷ ts) = ap suc (terms_counted s ts)
 zero_sum : WrittenSum
 zero_sum = record { sign = None; first = Zero; more = [] }
 
-abbrev compared : List Term → Sign → List Term → Stated
+abbrev compared : List Term → Sign → List Term → RelationView
 compared left sign right = record { left = left; sign = sign; right = right }
 
 -- what stands behind the left side
 abbrev Behind : Type 0
 Behind = Sign × WrittenSum
 
-abbrev behind_left : Scope → List Term → List Letter → Reads Stated
+abbrev behind_left : Scope → List Term → List Letter → Reads RelationView
 behind_left s left ls = read_compare ls >>= λ sign. read_sum (most_terms - length left) s sign.1 >>= λ right. Ok (compared left sign.0 right.0, right.1)
 
 abbrev spell_behind : Scope → List Term → Behind → Marked → Marked
 spell_behind s left p k = spell_compare p.0 (spell_sum (most_terms - length left) s p.1 k)
 
-abbrev behind_of : Scope → List Term → Behind → Stated
+abbrev behind_of : Scope → List Term → Behind → RelationView
 behind_of s left p = compared left p.0 (sum_of s p.1)
 
 behind_traces : (s : Scope) (left : List Term) → Traces (behind_left s left) (spell_behind s left) (behind_of s left)
@@ -270,13 +270,13 @@ behind_traces s left =
     traces_bind read_compare (λ sign ls. read_sum n s ls >>= λ right. Ok (compared left sign right.0, right.1)) (behind_left s left) spell_compare (λ sign. spell_sum n s) (spell_behind s left) (λ sign. sign) (λ sign e. compared left sign (sum_of s e)) (behind_of s left) (λ sign e. (sign, e))
     (record { is = λ ls. refl; spells = λ y z k. refl; value = λ y z. refl; some = zero_sum; first = compare_traces; second = λ sign. traces_map (read_sum n s) (compared left sign) (spell_sum n s) (sum_of s) (sum_traces n s) })
 
-comparison_made : WrittenSum → Behind → WrittenComparison
-comparison_made left p = record { left = left; sign = p.0; right = p.1 }
+relation_made : WrittenSum → Behind → WrittenRelation
+relation_made left p = record { left = left; sign = p.0; right = p.1 }
 
 -- a relation
-pub comparison_traces : (s : Scope) → Traces (read_comparison s) (spell_comparison s) (comparison_of s)
-unfolding read_comparison comparison_made
-comparison_traces s = traces_bind (read_sum most_terms s) (behind_left s) (read_comparison s) (spell_sum most_terms s) (spell_behind s) (spell_comparison s) (sum_of s) (behind_of s) (comparison_of s) comparison_made
+pub relation_traces : (s : Scope) → Traces (read_relation s) (spell_relation s) (relation_of s)
+unfolding read_relation relation_made
+relation_traces s = traces_bind (read_sum most_terms s) (behind_left s) (read_relation s) (spell_sum most_terms s) (spell_behind s) (spell_relation s) (sum_of s) (behind_of s) (relation_of s) relation_made
     (record {
       is = λ ls. refl;
       spells = λ y z k. ap (λ (n : ℕ). spell_sum most_terms s y (spell_compare z.0 (spell_sum (most_terms - suc n) s z.1 k))) (sym (terms_counted s y.more));

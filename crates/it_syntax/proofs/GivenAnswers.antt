@@ -7,16 +7,17 @@ use Rattle.it_syntax.specs.declared.types.Symbol.TheVariants.{Arrow, Semicolon, 
 use Rattle.it_syntax.specs.declared.types.Code.{Code}
 use Rattle.it_syntax.specs.declared.types.Code.TheVariants as codes
 use Rattle.it_syntax.specs.Letters.{Letter, Word, Sym, Marked, clean, letters}
-use Rattle.it_syntax.specs.Trees.{Environment, WrittenList, is_measure, unknown, name_mark, spell_more, spell_list, list_set, over}
-use Rattle.it_syntax.specs.Comparisons.{Scope, spell_comparison, comparison_of}
-use Rattle.it_syntax.specs.Conditions.{markov_text, indep_text, func_text, of_text, PlainRelation, WrittenChain, WrittenIndependence, WrittenFunction, WrittenCondition, Compared, Chained, Separate, Determined, divider_letter, spell_members, spell_chain, spell_bar, spell_independence, spell_function, spell_condition, sets_of, bar_set, chain_of, independence_of, function_of, condition_of}
-use Rattle.it_syntax.specs.Givens.{Condition, Related, Chain, Independence, Function}
-use Rattle.it_syntax.specs.Reading.{Reads, ◌>>=◌, divided, read_list}
-use Rattle.it_syntax.specs.ComparisonReading.{read_comparison}
-use Rattle.it_syntax.specs.ConditionReading.{pointed, read_of, behind_divider, spare, read_spare, if_divided, member_then, read_members, with_sets, read_chain, read_bar, read_independence, read_function, read_plain, read_condition}
+use Rattle.it_syntax.specs.WrittenAtoms.{Environment, WrittenList, is_measure, unknown, name_mark, spell_more, spell_list, list_set, mark_surplus}
+use Rattle.it_syntax.specs.WrittenRelations.{Scope, spell_relation, relation_of}
+use Rattle.it_syntax.specs.WrittenGivens.{markov_text, indep_text, func_text, of_text, PlainRelation, WrittenChain, WrittenIndependence, WrittenFunction, WrittenGiven, Relation, Markov, Independent, Function, divider_letter, spell_members, spell_chain, spell_bar, spell_independence, spell_function, spell_given, sets_of, bar_set, chain_of, independence_of, function_of, given_of}
+use Rattle.it_syntax.specs.Givens.{GivenView}
+use Rattle.it_syntax.specs.Givens as given_views
+use Rattle.it_syntax.specs.AtomReading.{Reads, ◌>>=◌, semicolon, read_list}
+use Rattle.it_syntax.specs.RelationReading.{read_relation}
+use Rattle.it_syntax.specs.GivenReading.{arrow, read_of, behind_divider, spare, read_spare, if_divided, member_then, read_members, with_sets, read_chain, read_bar, read_independence, read_function, read_plain, read_given}
 use Rattle.it_syntax.proofs.SpelledIsRead.{Answers, answers_ok, answers_cons, answers_bind, NoComma, NoWord, NoSign, list_answers, list_then}
-use Rattle.it_syntax.proofs.ComparisonAnswers.{comparison_answers}
-use Rattle.it_syntax.proofs.ConditionTraces.{opens_form, opens, chosen}
+use Rattle.it_syntax.proofs.RelationAnswers.{relation_answers}
+use Rattle.it_syntax.proofs.GivenTraces.{opens_form, opens, chosen}
 
 -- ---- further members
 
@@ -24,21 +25,21 @@ use Rattle.it_syntax.proofs.ConditionTraces.{opens_form, opens, chosen}
 abbrev NoDivider : Divider → Marked → Type 0
 NoDivider d k = behind_divider d (letters k) ≡ None
 
-spare_answers : (w : List ℕ) (h : Bool) (o : Option ℕ) (m k : Marked) (y : List ℕ) → Answers (spare w h o (letters m)) (over ((Word w, cond h (Some codes.Word) (unknown o)) ∷ m)) y k
+spare_answers : (w : List ℕ) (h : Bool) (o : Option ℕ) (m k : Marked) (y : List ℕ) → Answers (spare w h o (letters m)) (mark_surplus ((Word w, cond h (Some codes.Word) (unknown o)) ∷ m)) y k
 spare_answers w true o m k y = inr ((codes.Word, Word w ∷ letters m), (refl, record { front = []; letter = Word w; rest = m; is = refl; left = refl }))
 spare_answers w false (Some i) m k y = inr ((codes.Many, Word w ∷ letters m), (refl, record { front = []; letter = Word w; rest = m; is = refl; left = refl }))
 spare_answers w false None m k y = inr ((codes.Name, Word w ∷ letters m), (refl, record { front = []; letter = Word w; rest = m; is = refl; left = refl }))
 
-letters_over : (l : Letter) (c : Option Code) (m : Marked) → letters (over ((l, c) ∷ m)) ≡ l ∷ letters m
+letters_over : (l : Letter) (c : Option Code) (m : Marked) → letters (mark_surplus ((l, c) ∷ m)) ≡ l ∷ letters m
 letters_over l None m = refl
 letters_over l (Some c) m = refl
 
-list_over : (env : Environment) (x : WrittenList) (m k : Marked) (y : List ℕ) → Answers (read_spare env (letters (over (spell_list env x m)))) (over (spell_list env x m)) y k
+list_over : (env : Environment) (x : WrittenList) (m k : Marked) (y : List ℕ) → Answers (read_spare env (letters (mark_surplus (spell_list env x m)))) (mark_surplus (spell_list env x m)) y k
 unfolding read_spare
 list_over env x m k y =
     let rest = spell_more env x.more m in
     let w = x.first in
-    subst (λ (ls : List Letter). Answers (read_spare env ls) (over (spell_list env x m)) y k) (sym (letters_over (Word w) (name_mark env w) rest)) (spare_answers w (is_measure w) (env w) rest k y)
+    subst (λ (ls : List Letter). Answers (read_spare env ls) (mark_surplus (spell_list env x m)) y k) (sym (letters_over (Word w) (name_mark env w) rest)) (spare_answers w (is_measure w) (env w) rest k y)
 
 behind_is : (d : Divider) (ls : List Letter) → behind_divider d (divider_letter d ∷ ls) ≡ Some ls
 behind_is Arrows ls = refl
@@ -60,7 +61,7 @@ members_answers : (n : ℕ) (d : Divider) (env : Environment) (xs : List Written
 unfolding read_members
 members_answers n d env [] k none free = no_members n d env k none
 members_answers zero d env (x ∷ xs) k none free =
-    let m = over (spell_list env x (spell_members zero d env xs k)) in
+    let m = mark_surplus (spell_list env x (spell_members zero d env xs k)) in
     let y = sets_of env (x ∷ xs) in
     subst (λ (o : Option (List Letter)). Answers (if_divided (read_spare env) o (divider_letter d ∷ letters m)) (clean (divider_letter d) ∷ m) y k) (sym (behind_is d (letters m)))
     (answers_cons (divider_letter d) _ m y k (list_over env x (spell_members zero d env xs k) k y))
@@ -81,7 +82,7 @@ sets_answers n d env front xs k none free =
 -- ---- chains, independences, functions
 
 chain_answers : (env : Environment) (x : WrittenChain) (k : Marked) → NoDivider Arrows k → NoComma k → Answers (read_chain env (letters (spell_chain env x k))) (spell_chain env x k) (chain_of env x) k
-unfolding read_chain pointed
+unfolding read_chain arrow
 chain_answers env x k none free =
     let more = spell_members 13 Arrows env x.more k in
     let third = spell_list env x.third more in
@@ -90,12 +91,12 @@ chain_answers env x k none free =
     let b = list_set env x.second in
     let c = list_set env x.third in
     let y = chain_of env x in
-    list_then env x.first (λ a ls. pointed ls >>= λ first. read_list env first >>= λ b. pointed b.1 >>= λ second. read_list env second >>= λ c. with_sets (a ∷ b.0 ∷ c.0 ∷ []) (read_members 13 Arrows env c.1) >>= λ sets. Ok (Chain sets.0, sets.1)) (clean (Sym Arrow) ∷ second) k y tt
+    list_then env x.first (λ a ls. arrow ls >>= λ first. read_list env first >>= λ b. arrow b.1 >>= λ second. read_list env second >>= λ c. with_sets (a ∷ b.0 ∷ c.0 ∷ []) (read_members 13 Arrows env c.1) >>= λ sets. Ok (given_views.Markov sets.0, sets.1)) (clean (Sym Arrow) ∷ second) k y tt
     (answers_cons (Sym Arrow) _ second y k
-    (list_then env x.second (λ b ls. pointed ls >>= λ second. read_list env second >>= λ c. with_sets (a ∷ b ∷ c.0 ∷ []) (read_members 13 Arrows env c.1) >>= λ sets. Ok (Chain sets.0, sets.1)) (clean (Sym Arrow) ∷ third) k y tt
+    (list_then env x.second (λ b ls. arrow ls >>= λ second. read_list env second >>= λ c. with_sets (a ∷ b ∷ c.0 ∷ []) (read_members 13 Arrows env c.1) >>= λ sets. Ok (given_views.Markov sets.0, sets.1)) (clean (Sym Arrow) ∷ third) k y tt
     (answers_cons (Sym Arrow) _ third y k
-    (list_then env x.third (λ c ls. with_sets (a ∷ b ∷ c ∷ []) (read_members 13 Arrows env ls) >>= λ sets. Ok (Chain sets.0, sets.1)) more k y (no_comma 13 Arrows env x.more k free)
-    (answers_bind (with_sets (a ∷ b ∷ c ∷ []) (read_members 13 Arrows env (letters more))) (λ sets. Ok (Chain sets.0, sets.1)) more k k (a ∷ b ∷ c ∷ sets_of env x.more) y (sets_answers 13 Arrows env (a ∷ b ∷ c ∷ []) x.more k none free) (answers_ok y k))))))
+    (list_then env x.third (λ c ls. with_sets (a ∷ b ∷ c ∷ []) (read_members 13 Arrows env ls) >>= λ sets. Ok (given_views.Markov sets.0, sets.1)) more k y (no_comma 13 Arrows env x.more k free)
+    (answers_bind (with_sets (a ∷ b ∷ c ∷ []) (read_members 13 Arrows env (letters more))) (λ sets. Ok (given_views.Markov sets.0, sets.1)) more k k (a ∷ b ∷ c ∷ sets_of env x.more) y (sets_answers 13 Arrows env (a ∷ b ∷ c ∷ []) x.more k none free) (answers_ok y k))))))
 
 abbrev NoBar : Marked → Type 0
 NoBar ((Sym Bar, m) ∷ k) = ⊥
@@ -121,7 +122,7 @@ bar_no_divider env None k none = none
 bar_no_divider env (Some c) k none = refl
 
 independence_answers : (env : Environment) (x : WrittenIndependence) (k : Marked) → NoDivider Semicolons k → NoBar k → NoComma k → Answers (read_independence env (letters (spell_independence env x k))) (spell_independence env x k) (independence_of env x) k
-unfolding read_independence divided
+unfolding read_independence semicolon
 independence_answers env x k none unbarred free =
     let given = spell_bar env x.given k in
     let more = spell_members 14 Semicolons env x.more given in
@@ -130,11 +131,11 @@ independence_answers env x k none unbarred free =
     let b = list_set env x.second in
     let cs = a ∷ b ∷ sets_of env x.more in
     let y = independence_of env x in
-    list_then env x.first (λ a ls. divided ls >>= λ first. read_list env first >>= λ b. with_sets (a ∷ b.0 ∷ []) (read_members 14 Semicolons env b.1) >>= λ sets. read_bar env sets.1 >>= λ w. Ok (Independence sets.0 w.0, w.1)) (clean (Sym Semicolon) ∷ second) k y tt
+    list_then env x.first (λ a ls. semicolon ls >>= λ first. read_list env first >>= λ b. with_sets (a ∷ b.0 ∷ []) (read_members 14 Semicolons env b.1) >>= λ sets. read_bar env sets.1 >>= λ w. Ok (given_views.Independent sets.0 w.0, w.1)) (clean (Sym Semicolon) ∷ second) k y tt
     (answers_cons (Sym Semicolon) _ second y k
-    (list_then env x.second (λ b ls. with_sets (a ∷ b ∷ []) (read_members 14 Semicolons env ls) >>= λ sets. read_bar env sets.1 >>= λ w. Ok (Independence sets.0 w.0, w.1)) more k y (no_comma 14 Semicolons env x.more given (bar_no_comma env x.given k free))
-    (answers_bind (with_sets (a ∷ b ∷ []) (read_members 14 Semicolons env (letters more))) (λ sets. read_bar env sets.1 >>= λ w. Ok (Independence sets.0 w.0, w.1)) more given k cs y (sets_answers 14 Semicolons env (a ∷ b ∷ []) x.more given (bar_no_divider env x.given k none) (bar_no_comma env x.given k free))
-    (answers_bind (read_bar env (letters given)) (λ w. Ok (Independence cs w.0, w.1)) given k k (bar_set env x.given) y (bar_answers env x.given k unbarred free) (answers_ok y k)))))
+    (list_then env x.second (λ b ls. with_sets (a ∷ b ∷ []) (read_members 14 Semicolons env ls) >>= λ sets. read_bar env sets.1 >>= λ w. Ok (given_views.Independent sets.0 w.0, w.1)) more k y (no_comma 14 Semicolons env x.more given (bar_no_comma env x.given k free))
+    (answers_bind (with_sets (a ∷ b ∷ []) (read_members 14 Semicolons env (letters more))) (λ sets. read_bar env sets.1 >>= λ w. Ok (given_views.Independent sets.0 w.0, w.1)) more given k cs y (sets_answers 14 Semicolons env (a ∷ b ∷ []) x.more given (bar_no_divider env x.given k none) (bar_no_comma env x.given k free))
+    (answers_bind (read_bar env (letters given)) (λ w. Ok (given_views.Independent cs w.0, w.1)) given k k (bar_set env x.given) y (bar_answers env x.given k unbarred free) (answers_ok y k)))))
 
 function_answers : (env : Environment) (x : WrittenFunction) (k : Marked) → NoComma k → Answers (read_function env (letters (spell_function env x k))) (spell_function env x k) (function_of env x) k
 unfolding read_function read_of
@@ -142,9 +143,9 @@ function_answers env x k free =
     let argument = spell_list env x.argument k in
     let z = list_set env x.value in
     let y = function_of env x in
-    list_then env x.value (λ z ls. read_of ls >>= λ behind. read_list env behind >>= λ x. Ok (Function z x.0, x.1)) (clean (Word of_text) ∷ argument) k y tt
+    list_then env x.value (λ z ls. read_of ls >>= λ behind. read_list env behind >>= λ x. Ok (given_views.Function z x.0, x.1)) (clean (Word of_text) ∷ argument) k y tt
     (answers_cons (Word of_text) _ argument y k
-    (list_then env x.argument (λ x ls. Ok (Function z x, ls)) k k y free (answers_ok y k)))
+    (list_then env x.argument (λ x ls. Ok (given_views.Function z x, ls)) k k y free (answers_ok y k)))
 
 -- ---- conditions
 
@@ -154,8 +155,8 @@ plain_by s w ls false true j e = absurd cc
 plain_by s w ls false false true e = absurd cc
 plain_by s w ls false false false e = refl
 
-plain_is : (s : Scope) (ls : List Letter) → opens_form ls ≡ false → read_condition s ls ≡ read_plain s ls
-unfolding read_condition
+plain_is : (s : Scope) (ls : List Letter) → opens_form ls ≡ false → read_given s ls ≡ read_plain s ls
+unfolding read_given
 plain_is s (Word w ∷ ls) e = plain_by s w ls (bytes_eq w markov_text) (bytes_eq w indep_text) (bytes_eq w func_text) e
 plain_is s [] e = refl
 plain_is s (l ∷ ls) e = refl
@@ -169,16 +170,16 @@ pub record EndsCondition (k : Marked) : Type 0 where
   pub no_arrow : NoDivider Arrows k
   pub no_semicolon : NoDivider Semicolons k
 
-plain_answers : (s : Scope) (x : PlainRelation) (k : Marked) → NoSign k → NoWord k → Answers (read_plain s (letters (spell_comparison s x.relation k))) (spell_comparison s x.relation k) (Related (comparison_of s x.relation)) k
+plain_answers : (s : Scope) (x : PlainRelation) (k : Marked) → NoSign k → NoWord k → Answers (read_plain s (letters (spell_relation s x.relation k))) (spell_relation s x.relation k) (given_views.Relation (relation_of s x.relation)) k
 unfolding read_plain
 plain_answers s x k free w =
-    let y = Related (comparison_of s x.relation) in
-    answers_bind (read_comparison s (letters (spell_comparison s x.relation k))) (λ y. Ok (Related y.0, y.1)) (spell_comparison s x.relation k) k k (comparison_of s x.relation) y (comparison_answers s x.relation k free w) (answers_ok y k)
+    let y = given_views.Relation (relation_of s x.relation) in
+    answers_bind (read_relation s (letters (spell_relation s x.relation k))) (λ y. Ok (given_views.Relation y.0, y.1)) (spell_relation s x.relation k) k k (relation_of s x.relation) y (relation_answers s x.relation k free w) (answers_ok y k)
 
-pub condition_answers : (s : Scope) (x : WrittenCondition) (k : Marked) → EndsCondition k → Answers (read_condition s (letters (spell_condition s x k))) (spell_condition s x k) (condition_of s x) k
-unfolding read_condition
-condition_answers s (Compared x) k e =
-    subst (λ (r : Reads Condition). Answers r (spell_comparison s x.relation k) (Related (comparison_of s x.relation)) k) (sym (plain_is s (letters (spell_comparison s x.relation k)) (opens s x.relation k ∙ x.plain))) (plain_answers s x k e.no_sign e.no_word)
-condition_answers s (Chained x) k e = answers_cons (Word markov_text) _ (spell_chain s.variables x k) (chain_of s.variables x) k (chain_answers s.variables x k e.no_arrow e.no_comma)
-condition_answers s (Separate x) k e = answers_cons (Word indep_text) _ (spell_independence s.variables x k) (independence_of s.variables x) k (independence_answers s.variables x k e.no_semicolon e.no_bar e.no_comma)
-condition_answers s (Determined x) k e = answers_cons (Word func_text) _ (spell_function s.variables x k) (function_of s.variables x) k (function_answers s.variables x k e.no_comma)
+pub given_line_answers : (s : Scope) (x : WrittenGiven) (k : Marked) → EndsCondition k → Answers (read_given s (letters (spell_given s x k))) (spell_given s x k) (given_of s x) k
+unfolding read_given
+given_line_answers s (Relation x) k e =
+    subst (λ (r : Reads GivenView). Answers r (spell_relation s x.relation k) (given_views.Relation (relation_of s x.relation)) k) (sym (plain_is s (letters (spell_relation s x.relation k)) (opens s x.relation k ∙ x.plain))) (plain_answers s x k e.no_sign e.no_word)
+given_line_answers s (Markov x) k e = answers_cons (Word markov_text) _ (spell_chain s.variables x k) (chain_of s.variables x) k (chain_answers s.variables x k e.no_arrow e.no_comma)
+given_line_answers s (Independent x) k e = answers_cons (Word indep_text) _ (spell_independence s.variables x k) (independence_of s.variables x) k (independence_answers s.variables x k e.no_semicolon e.no_bar e.no_comma)
+given_line_answers s (Function x) k e = answers_cons (Word func_text) _ (spell_function s.variables x k) (function_of s.variables x) k (function_answers s.variables x k e.no_comma)

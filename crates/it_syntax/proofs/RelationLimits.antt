@@ -8,15 +8,15 @@ use Rattle.it_syntax.specs.declared.types.Code.TheVariants as codes
 use Rattle.it_syntax.specs.declared.types.Atom.{Atom}
 use Rattle.it_syntax.specs.declared.types.Term.{Term}
 use Rattle.it_syntax.specs.Letters.{Letter, Word, Number, Sym, Bad}
-use Rattle.it_syntax.specs.Meaning.{Stated, IsAtomOf}
+use Rattle.it_syntax.specs.Meaning.{RelationView, IsAtomOf}
 use Rattle.it_syntax.specs.Givens.{IsRelationOf}
-use Rattle.it_syntax.specs.Vocabulary.{Vocabulary, index_of}
-use Rattle.it_syntax.specs.Trees.{is_measure}
-use Rattle.it_syntax.specs.Comparisons.{Scope, most_terms}
-use Rattle.it_syntax.specs.ComparisonLines.{scope_of}
+use Rattle.it_syntax.specs.NamesViews.{NamesView, index_of}
+use Rattle.it_syntax.specs.WrittenAtoms.{is_measure}
+use Rattle.it_syntax.specs.WrittenRelations.{Scope, most_terms}
+use Rattle.it_syntax.specs.Scopes.{scope_of}
 use Rattle.it_syntax.specs.Lines.{to_end}
-use Rattle.it_syntax.specs.Reading.{Reads, ◌>>=◌, read_atom, read_sign, line_end}
-use Rattle.it_syntax.specs.ComparisonReading.{rated, read_quantity, after_number, read_term, surplus, read_over, read_terms, read_counted, read_sum, read_compare, read_comparison}
+use Rattle.it_syntax.specs.AtomReading.{Reads, ◌>>=◌, read_atom, read_sign, line_end}
+use Rattle.it_syntax.specs.RelationReading.{rate_or_fault, read_quantity, after_number, read_term, surplus, read_over, read_terms, read_counted, read_sum, read_compare, read_relation}
 use Rattle.it_syntax.proofs.LimitLemmas.{Sure, sure_bind, Any, any, Knows, HasSets, TermHasSets, AreFew, atom_sure, knows_names}
 
 -- the names of a scope are those of n variables and m rates
@@ -28,7 +28,7 @@ quantity_sure : (s : Scope) (n m : ℕ) → Covers s n m → (ls : List Letter) 
 unfolding read_quantity
 quantity_sure s n m k (Word w ∷ ls) = chosen (is_measure w) (s.rates w) (k.rates w)
   where
-    chosen : (b : Bool) (o : Option ℕ) → ((i : ℕ) → o ≡ Some i → i < m) → Sure (HasSets n m) (cond b (read_atom s.variables (Word w ∷ ls)) (rated w o ls))
+    chosen : (b : Bool) (o : Option ℕ) → ((i : ℕ) → o ≡ Some i → i < m) → Sure (HasSets n m) (cond b (read_atom s.variables (Word w ∷ ls)) (rate_or_fault w o ls))
     chosen true o h = atom_sure s.variables n m k.variables (Word w ∷ ls)
     chosen false (Some i) h = h i refl
     chosen false None h = tt
@@ -91,19 +91,19 @@ unfolding read_sum read_counted
 sum_sure s n m zero k ls = over_sure (AreFew n m zero) s (read_sign ls).1
 sum_sure s n m (suc most) k ls = more_terms_sure s n m most k (read_sign ls).0 (read_sign ls).1 (terms_sure s n m most k)
 
-abbrev pub IsWithinLimits : ℕ → ℕ → Stated × List Letter → Type 0
+abbrev pub IsWithinLimits : ℕ → ℕ → RelationView × List Letter → Type 0
 IsWithinLimits n m y = (length y.0.left + length y.0.right ≤ most_terms) × All (λ t. IsAtomOf n m t.atom) y.0.left × All (λ t. IsAtomOf n m t.atom) y.0.right
 
-pub comparison_sure : (s : Scope) (n m : ℕ) → Covers s n m → (ls : List Letter) → Sure (IsWithinLimits n m) (read_comparison s ls)
-unfolding read_comparison
-comparison_sure s n m k ls =
+pub relation_line_sure : (s : Scope) (n m : ℕ) → Covers s n m → (ls : List Letter) → Sure (IsWithinLimits n m) (read_relation s ls)
+unfolding read_relation
+relation_line_sure s n m k ls =
     sure_bind (AreFew n m most_terms) (IsWithinLimits n m) (read_sum most_terms s ls) (λ left. read_compare left.1 >>= λ sign. read_sum (most_terms - length left.0) s sign.1 >>= λ right. Ok (record { left = left.0; sign = sign.0; right = right.0 }, right.1)) (sum_sure s n m most_terms k ls)
     (λ left hl. sure_bind Any (IsWithinLimits n m) (read_compare left.1) (λ sign. read_sum (most_terms - length left.0) s sign.1 >>= λ right. Ok (record { left = left.0; sign = sign.0; right = right.0 }, right.1)) (any (read_compare left.1))
     (λ sign u. sure_bind (AreFew n m (most_terms - length left.0)) (IsWithinLimits n m) (read_sum (most_terms - length left.0) s sign.1) (λ right. Ok (record { left = left.0; sign = sign.0; right = right.0 }, right.1)) (sum_sure s n m (most_terms - length left.0) k sign.1)
     (λ right hr. (omega (arith, hl.0, hr.0), hl.1, hr.1))))
 
 -- a scope covers the names of its vocabulary
-pub scope_covers : (v : Vocabulary) (rates : Bool) → Covers (scope_of v rates) (length v.variables) (length v.rates)
+pub scope_covers : (v : NamesView) (rates : Bool) → Covers (scope_of v rates) (length v.variables) (length v.rates)
 unfolding scope_of
 scope_covers v rates = record { variables = knows_names v; rates = λ w i. known w i rates }
   where
@@ -112,22 +112,22 @@ scope_covers v rates = record { variables = knows_names v; rates = λ w i. known
     known w i false e = absurd cc
 
 -- a sum that is read has at most so many terms
-pub sum_few : (v : Vocabulary) (rates : Bool) (most : ℕ) (ls r : List Letter) (ts : List Term) → read_sum most (scope_of v rates) ls ≡ Ok (ts, r) → length ts ≤ most
+pub sum_few : (v : NamesView) (rates : Bool) (most : ℕ) (ls r : List Letter) (ts : List Term) → read_sum most (scope_of v rates) ls ≡ Ok (ts, r) → length ts ≤ most
 sum_few v rates most ls r ts e = (subst (Sure (AreFew (length v.variables) (length v.rates) most)) e (sum_sure (scope_of v rates) (length v.variables) (length v.rates) most (scope_covers v rates) ls)).0
 
-abbrev Limited : Vocabulary → Stated × List Letter → Type 0
+abbrev Limited : NamesView → RelationView × List Letter → Type 0
 Limited v y = IsRelationOf (length v.variables) (length v.rates) y.0
 
-limited : (v : Vocabulary) (rates : Bool) (ls : List Letter) → Sure (Limited v) (read_comparison (scope_of v rates) ls)
-limited v rates ls = weaker (read_comparison (scope_of v rates) ls) (comparison_sure (scope_of v rates) (length v.variables) (length v.rates) (scope_covers v rates) ls)
+limited : (v : NamesView) (rates : Bool) (ls : List Letter) → Sure (Limited v) (read_relation (scope_of v rates) ls)
+limited v rates ls = weaker (read_relation (scope_of v rates) ls) (relation_line_sure (scope_of v rates) (length v.variables) (length v.rates) (scope_covers v rates) ls)
   where
-    weaker : (r : Reads Stated) → Sure (IsWithinLimits (length v.variables) (length v.rates)) r → Sure (Limited v) r
+    weaker : (r : Reads RelationView) → Sure (IsWithinLimits (length v.variables) (length v.rates)) r → Sure (Limited v) r
     weaker (Ok y) h = record { few = h.0; left = h.1; right = h.2 }
     weaker (Err f) h = tt
 
 -- a relation that is read up to its line's end keeps the limits
-pub comparison_limited : (v : Vocabulary) (rates : Bool) (ls r : List Letter) (y : Stated) → to_end (read_comparison (scope_of v rates)) ls ≡ Ok (y, r) → IsRelationOf (length v.variables) (length v.rates) y
+pub relation_limited : (v : NamesView) (rates : Bool) (ls r : List Letter) (y : RelationView) → to_end (read_relation (scope_of v rates)) ls ≡ Ok (y, r) → IsRelationOf (length v.variables) (length v.rates) y
 unfolding to_end
-comparison_limited v rates ls r y e =
-    let f = read_comparison (scope_of v rates) in
+relation_limited v rates ls r y e =
+    let f = read_relation (scope_of v rates) in
     subst (Sure (Limited v)) e (sure_bind (Limited v) (Limited v) (f ls) (λ x. line_end x.1 >>= λ e. Ok (x.0, e.1)) (limited v rates ls) (λ x hx. sure_bind Any (Limited v) (line_end x.1) (λ e. Ok (x.0, e.1)) (any (line_end x.1)) (λ e u. hx)))

@@ -5,7 +5,7 @@ use Rattle.it_syntax.specs.declared.types.Symbol.TheVariants.{LeftParen, RightPa
 use Rattle.it_syntax.specs.declared.types.Code.{Code}
 use Rattle.it_syntax.specs.declared.types.Code.TheVariants as codes
 use Rattle.it_syntax.specs.declared.types.Atom.{Atom}
-use Rattle.it_syntax.specs.declared.types.Atom.TheVariants.{Entropy, Mutual}
+use Rattle.it_syntax.specs.declared.types.Atom.TheVariants as atoms
 use Rattle.it_syntax.specs.Letters.{Letter, Word, Sym, Marked, clean}
 
 -- which variable a name is
@@ -19,10 +19,10 @@ pub record WrittenList : Type 0 where
 
 -- `H(A)`, `H(A|C)`, `I(A;B)`, `I(A;B|C)`
 pub data WrittenAtom : Type 0 where
-  Joint : (of : WrittenList) → WrittenAtom
-  JointGiven : (of given : WrittenList) → WrittenAtom
-  Shared : (left right : WrittenList) → WrittenAtom
-  SharedGiven : (left right given : WrittenList) → WrittenAtom
+  Entropy : (of : WrittenList) → WrittenAtom
+  EntropyGiven : (of given : WrittenList) → WrittenAtom
+  Mutual : (left right : WrittenList) → WrittenAtom
+  MutualGiven : (left right given : WrittenList) → WrittenAtom
 
 -- `+` and `-`
 pub data TermSign : Type 0 where
@@ -59,10 +59,10 @@ abbrev pub spell_list : Environment → WrittenList → Marked → Marked
 spell_list env l k = spell_name env l.first (spell_more env l.more k)
 
 abbrev pub spell_atom : Environment → WrittenAtom → Marked → Marked
-spell_atom env (Joint a) k = clean (Word entropy_text) ∷ clean (Sym LeftParen) ∷ spell_list env a (clean (Sym RightParen) ∷ k)
-spell_atom env (JointGiven a c) k = clean (Word entropy_text) ∷ clean (Sym LeftParen) ∷ spell_list env a (clean (Sym Bar) ∷ spell_list env c (clean (Sym RightParen) ∷ k))
-spell_atom env (Shared a b) k = clean (Word mutual_text) ∷ clean (Sym LeftParen) ∷ spell_list env a (clean (Sym Semicolon) ∷ spell_list env b (clean (Sym RightParen) ∷ k))
-spell_atom env (SharedGiven a b c) k = clean (Word mutual_text) ∷ clean (Sym LeftParen) ∷ spell_list env a (clean (Sym Semicolon) ∷ spell_list env b (clean (Sym Bar) ∷ spell_list env c (clean (Sym RightParen) ∷ k)))
+spell_atom env (Entropy a) k = clean (Word entropy_text) ∷ clean (Sym LeftParen) ∷ spell_list env a (clean (Sym RightParen) ∷ k)
+spell_atom env (EntropyGiven a c) k = clean (Word entropy_text) ∷ clean (Sym LeftParen) ∷ spell_list env a (clean (Sym Bar) ∷ spell_list env c (clean (Sym RightParen) ∷ k))
+spell_atom env (Mutual a b) k = clean (Word mutual_text) ∷ clean (Sym LeftParen) ∷ spell_list env a (clean (Sym Semicolon) ∷ spell_list env b (clean (Sym RightParen) ∷ k))
+spell_atom env (MutualGiven a b c) k = clean (Word mutual_text) ∷ clean (Sym LeftParen) ∷ spell_list env a (clean (Sym Semicolon) ∷ spell_list env b (clean (Sym Bar) ∷ spell_list env c (clean (Sym RightParen) ∷ k)))
 
 abbrev pub sign_letter : TermSign → Letter
 sign_letter Positive = Sym Plus
@@ -73,10 +73,10 @@ spell_sign None k = k
 spell_sign (Some s) k = clean (sign_letter s) ∷ k
 
 -- the first letter is one too many, if nothing else is said against it
-abbrev pub over : Marked → Marked
-over [] = []
-over ((l, None) ∷ m) = (l, Some codes.Many) ∷ m
-over ((l, Some c) ∷ m) = (l, Some c) ∷ m
+abbrev pub mark_surplus : Marked → Marked
+mark_surplus [] = []
+mark_surplus ((l, None) ∷ m) = (l, Some codes.Many) ∷ m
+mark_surplus ((l, Some c) ∷ m) = (l, Some c) ∷ m
 
 -- ---- what a tree names; 0 stands in for a name that is unknown, which is marked
 abbrev pub index_or : Option ℕ → ℕ
@@ -91,10 +91,10 @@ abbrev pub list_set : Environment → WrittenList → ℕ
 list_set env l = bit_or (2 ^ index_or (env l.first)) (more_set env l.more)
 
 abbrev pub atom_of : Environment → WrittenAtom → Atom
-atom_of env (Joint a) = Entropy (list_set env a) 0
-atom_of env (JointGiven a c) = Entropy (list_set env a) (list_set env c)
-atom_of env (Shared a b) = Mutual (list_set env a) (list_set env b) 0
-atom_of env (SharedGiven a b c) = Mutual (list_set env a) (list_set env b) (list_set env c)
+atom_of env (Entropy a) = atoms.Entropy (list_set env a) 0
+atom_of env (EntropyGiven a c) = atoms.Entropy (list_set env a) (list_set env c)
+atom_of env (Mutual a b) = atoms.Mutual (list_set env a) (list_set env b) 0
+atom_of env (MutualGiven a b c) = atoms.Mutual (list_set env a) (list_set env b) (list_set env c)
 
 abbrev pub is_negative : TermSign → Bool
 is_negative Positive = false

@@ -5,21 +5,21 @@ use Rattle.it_syntax.specs.declared.rest.Divider.TheVariants.{Arrows, Semicolons
 use Rattle.it_syntax.specs.declared.types.Symbol.TheVariants.{Arrow, Semicolon, Bar}
 use Rattle.it_syntax.specs.declared.types.Code.TheVariants as codes
 use Rattle.it_syntax.specs.Letters.{Letter, Word, Sym}
-use Rattle.it_syntax.specs.Trees.{Environment, is_measure}
-use Rattle.it_syntax.specs.Comparisons.{Scope}
-use Rattle.it_syntax.specs.ComparisonReading.{read_comparison}
-use Rattle.it_syntax.specs.Conditions.{markov_text, indep_text, func_text, of_text}
-use Rattle.it_syntax.specs.Givens.{Condition, Related, Chain, Independence, Function}
-use Rattle.it_syntax.specs.Reading.{Fault, Reads, ◌>>=◌, stuck, stuck_at, read_list, divided}
+use Rattle.it_syntax.specs.WrittenAtoms.{Environment, is_measure}
+use Rattle.it_syntax.specs.WrittenRelations.{Scope}
+use Rattle.it_syntax.specs.RelationReading.{read_relation}
+use Rattle.it_syntax.specs.WrittenGivens.{markov_text, indep_text, func_text, of_text}
+use Rattle.it_syntax.specs.Givens.{GivenView, Relation, Markov, Independent, Function}
+use Rattle.it_syntax.specs.AtomReading.{Fault, Reads, ◌>>=◌, no_rule, no_rule_at, read_list, semicolon}
 
 -- a symbol or a word that must stand there
-unfoldable pub pointed : List Letter → Result (List Letter) Fault
-pointed (Sym Arrow ∷ ls) = Ok ls
-pointed ls = stuck_at ls
+unfoldable pub arrow : List Letter → Result (List Letter) Fault
+arrow (Sym Arrow ∷ ls) = Ok ls
+arrow ls = no_rule_at ls
 
 unfoldable pub read_of : List Letter → Result (List Letter) Fault
-read_of (Word w ∷ ls) = if bytes_eq w of_text then Ok ls else stuck_at (Word w ∷ ls)
-read_of ls = stuck_at ls
+read_of (Word w ∷ ls) = if bytes_eq w of_text then Ok ls else no_rule_at (Word w ∷ ls)
+read_of ls = no_rule_at ls
 
 -- what stands behind a divider, if one stands there
 abbrev pub behind_divider : Divider → List Letter → Option (List Letter)
@@ -35,7 +35,7 @@ spare w false None ls = Err (codes.Name, Word w ∷ ls)
 
 unfoldable pub read_spare : Environment → List Letter → Reads (List ℕ)
 read_spare env (Word w ∷ ls) = spare w (is_measure w) (env w) ls
-read_spare env ls = stuck ls
+read_spare env ls = no_rule ls
 
 -- what is read by `f` behind a divider, or nothing
 abbrev pub if_divided : (List Letter → Reads (List ℕ)) → Option (List Letter) → List Letter → Reads (List ℕ)
@@ -57,42 +57,42 @@ read_members (suc n) d env ls = if_divided (member_then (read_members n d env) e
 abbrev pub with_sets : List ℕ → Reads (List ℕ) → Reads (List ℕ)
 with_sets front r = r >>= λ x. Ok (front ++ x.0, x.1)
 
-unfoldable pub read_chain : Environment → List Letter → Reads Condition
+unfoldable pub read_chain : Environment → List Letter → Reads GivenView
 read_chain env ls = do
   a ← read_list env ls
-  first ← pointed a.1
+  first ← arrow a.1
   b ← read_list env first
-  second ← pointed b.1
+  second ← arrow b.1
   c ← read_list env second
   sets ← with_sets (a.0 ∷ b.0 ∷ c.0 ∷ []) (read_members 13 Arrows env c.1)
-  Ok (Chain sets.0, sets.1)
+  Ok (Markov sets.0, sets.1)
 
 -- the set behind `|`, or nothing
 unfoldable pub read_bar : Environment → List Letter → Reads ℕ
 read_bar env (Sym Bar ∷ ls) = read_list env ls
 read_bar env ls = Ok (0, ls)
 
-unfoldable pub read_independence : Environment → List Letter → Reads Condition
+unfoldable pub read_independence : Environment → List Letter → Reads GivenView
 read_independence env ls = do
   a ← read_list env ls
-  first ← divided a.1
+  first ← semicolon a.1
   b ← read_list env first
   sets ← with_sets (a.0 ∷ b.0 ∷ []) (read_members 14 Semicolons env b.1)
   w ← read_bar env sets.1
-  Ok (Independence sets.0 w.0, w.1)
+  Ok (Independent sets.0 w.0, w.1)
 
-unfoldable pub read_function : Environment → List Letter → Reads Condition
+unfoldable pub read_function : Environment → List Letter → Reads GivenView
 read_function env ls = do
   z ← read_list env ls
   behind ← read_of z.1
   x ← read_list env behind
   Ok (Function z.0 x.0, x.1)
 
-unfoldable pub read_plain : Scope → List Letter → Reads Condition
+unfoldable pub read_plain : Scope → List Letter → Reads GivenView
 read_plain s ls = do
-  y ← read_comparison s ls
-  Ok (Related y.0, y.1)
+  y ← read_relation s ls
+  Ok (Relation y.0, y.1)
 
-unfoldable pub read_condition : Scope → List Letter → Reads Condition
-read_condition s (Word w ∷ ls) = if bytes_eq w markov_text then read_chain s.variables ls else (if bytes_eq w indep_text then read_independence s.variables ls else (if bytes_eq w func_text then read_function s.variables ls else read_plain s (Word w ∷ ls)))
-read_condition s ls = read_plain s ls
+unfoldable pub read_given : Scope → List Letter → Reads GivenView
+read_given s (Word w ∷ ls) = if bytes_eq w markov_text then read_chain s.variables ls else (if bytes_eq w indep_text then read_independence s.variables ls else (if bytes_eq w func_text then read_function s.variables ls else read_plain s (Word w ∷ ls)))
+read_given s ls = read_plain s ls

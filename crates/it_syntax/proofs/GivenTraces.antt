@@ -9,51 +9,52 @@ use Rattle.it_syntax.specs.declared.types.Code.{Code}
 use Rattle.it_syntax.specs.declared.types.Code.TheVariants as codes
 use Rattle.it_syntax.specs.declared.types.Sign.TheVariants as signs
 use Rattle.it_syntax.specs.Letters.{Letter, Word, Sym, Marked, clean, letters}
-use Rattle.it_syntax.specs.FirstFault.{head, own}
-use Rattle.it_syntax.specs.Trees.{Environment, WrittenList, Joint, JointGiven, Shared, SharedGiven, TermSign, Positive, Negative, is_measure, unknown, name_mark, spell_list, list_set, over}
-use Rattle.it_syntax.specs.Comparisons.{Scope, Measure, RateOf, WrittenTerm, Zero, Once, Times, WrittenComparison, spell_sum, spell_comparison, comparison_of}
-use Rattle.it_syntax.specs.Conditions.{markov_text, indep_text, func_text, of_text, is_form, is_form_first, WrittenChain, WrittenIndependence, WrittenFunction, WrittenCondition, Compared, Chained, Separate, Determined, spell_members, spell_chain, spell_bar, spell_independence, spell_function, spell_condition, sets_of, bar_set, chain_of, independence_of, function_of, condition_of}
-use Rattle.it_syntax.specs.Givens.{Condition, Related, Chain, Independence, Function}
-use Rattle.it_syntax.specs.Reading.{Reads, ◌>>=◌, divided, read_list}
-use Rattle.it_syntax.specs.ComparisonReading.{read_comparison}
-use Rattle.it_syntax.specs.ConditionReading.{pointed, read_of, spare, read_spare, member_then, read_members, with_sets, read_chain, read_bar, read_independence, read_function, read_plain, read_condition}
+use Rattle.it_syntax.specs.FirstFault.{head, own_code}
+use Rattle.it_syntax.specs.WrittenAtoms.{Environment, WrittenList, Entropy, EntropyGiven, Mutual, MutualGiven, TermSign, Positive, Negative, is_measure, unknown, name_mark, spell_list, list_set, mark_surplus}
+use Rattle.it_syntax.specs.WrittenRelations.{Scope, Measure, RateOf, WrittenTerm, Zero, Once, Times, WrittenRelation, spell_sum, spell_relation, relation_of}
+use Rattle.it_syntax.specs.WrittenGivens.{markov_text, indep_text, func_text, of_text, is_form, is_form_first, WrittenChain, WrittenIndependence, WrittenFunction, WrittenGiven, Relation, Markov, Independent, Function, spell_members, spell_chain, spell_bar, spell_independence, spell_function, spell_given, sets_of, bar_set, chain_of, independence_of, function_of, given_of}
+use Rattle.it_syntax.specs.Givens.{GivenView}
+use Rattle.it_syntax.specs.Givens as given_views
+use Rattle.it_syntax.specs.AtomReading.{Reads, ◌>>=◌, semicolon, read_list}
+use Rattle.it_syntax.specs.RelationReading.{read_relation}
+use Rattle.it_syntax.specs.GivenReading.{arrow, read_of, spare, read_spare, member_then, read_members, with_sets, read_chain, read_bar, read_independence, read_function, read_plain, read_given}
 use Rattle.it_syntax.proofs.Traces.{Went, Stuck, By, Traces, traces_bind, traces_map, letter_then, switch}
 use Rattle.it_syntax.proofs.AtomTraces.{begun, empty, stuck_here, stuck_none, some_list, list_traces}
-use Rattle.it_syntax.proofs.ComparisonTraces.{comparison_traces}
+use Rattle.it_syntax.proofs.RelationTraces.{relation_traces}
 use Rattle.it_syntax.proofs.LetterReaders.{TakesLetter, behind_traces, Restricts, restricted}
 
 -- ---- letters that must stand there
 
-pointed_takes : TakesLetter pointed (Sym Arrow)
-unfolding pointed
+pointed_takes : TakesLetter arrow (Sym Arrow)
+unfolding arrow
 pointed_takes = record { takes = λ s. refl; refuses = refuses }
   where
-    refuses : (ls : List Letter) → (head ls ≡ Some (Sym Arrow)) ⊎ ((c : Code) × (own ls ≡ c) × ((s : List Letter) → head s ≡ head ls → pointed s ≡ Err (c, s)))
+    refuses : (ls : List Letter) → (head ls ≡ Some (Sym Arrow)) ⊎ ((c : Code) × (own_code ls ≡ c) × ((s : List Letter) → head s ≡ head ls → arrow s ≡ Err (c, s)))
     refuses (Sym Arrow ∷ ls) = inl refl
-    refuses [] = inr (codes.Word, refl, empty (λ s. pointed s ≡ Err (codes.Word, s)) refl)
-    refuses (l ∷ ls) = inr (own (l ∷ ls), refl, begun (λ s. pointed s ≡ Err (own (l ∷ ls), s)) l (λ s. refl))
+    refuses [] = inr (codes.Word, refl, empty (λ s. arrow s ≡ Err (codes.Word, s)) refl)
+    refuses (l ∷ ls) = inr (own_code (l ∷ ls), refl, begun (λ s. arrow s ≡ Err (own_code (l ∷ ls), s)) l (λ s. refl))
 
-divided_takes : TakesLetter divided (Sym Semicolon)
-unfolding divided
+divided_takes : TakesLetter semicolon (Sym Semicolon)
+unfolding semicolon
 divided_takes = record { takes = λ s. refl; refuses = refuses }
   where
-    refuses : (ls : List Letter) → (head ls ≡ Some (Sym Semicolon)) ⊎ ((c : Code) × (own ls ≡ c) × ((s : List Letter) → head s ≡ head ls → divided s ≡ Err (c, s)))
+    refuses : (ls : List Letter) → (head ls ≡ Some (Sym Semicolon)) ⊎ ((c : Code) × (own_code ls ≡ c) × ((s : List Letter) → head s ≡ head ls → semicolon s ≡ Err (c, s)))
     refuses (Sym Semicolon ∷ ls) = inl refl
-    refuses [] = inr (codes.Word, refl, empty (λ s. divided s ≡ Err (codes.Word, s)) refl)
-    refuses (l ∷ ls) = inr (own (l ∷ ls), refl, begun (λ s. divided s ≡ Err (own (l ∷ ls), s)) l (λ s. refl))
+    refuses [] = inr (codes.Word, refl, empty (λ s. semicolon s ≡ Err (codes.Word, s)) refl)
+    refuses (l ∷ ls) = inr (own_code (l ∷ ls), refl, begun (λ s. semicolon s ≡ Err (own_code (l ∷ ls), s)) l (λ s. refl))
 
 of_takes : TakesLetter read_of (Word of_text)
 unfolding read_of
 of_takes = record { takes = λ s. refl; refuses = refuses }
   where
-    by : (w : List ℕ) (ls : List Letter) (b : Bool) → bytes_eq w of_text ≡ b → (head (Word w ∷ ls) ≡ Some (Word of_text)) ⊎ ((c : Code) × (own (Word w ∷ ls) ≡ c) × ((s : List Letter) → head s ≡ head (Word w ∷ ls) → read_of s ≡ Err (c, s)))
+    by : (w : List ℕ) (ls : List Letter) (b : Bool) → bytes_eq w of_text ≡ b → (head (Word w ∷ ls) ≡ Some (Word of_text)) ⊎ ((c : Code) × (own_code (Word w ∷ ls) ≡ c) × ((s : List Letter) → head s ≡ head (Word w ∷ ls) → read_of s ≡ Err (c, s)))
     by w ls true e = inl (ap (λ (t : List ℕ). Some (Word t)) ((bytes_eq-Decides w of_text).0 e))
     by w ls false e = inr (codes.Word, refl, begun (λ s. read_of s ≡ Err (codes.Word, s)) (Word w) (λ s. ap (λ (b : Bool). cond b (Ok s) (Err (codes.Word, Word w ∷ s))) e))
 
-    refuses : (ls : List Letter) → (head ls ≡ Some (Word of_text)) ⊎ ((c : Code) × (own ls ≡ c) × ((s : List Letter) → head s ≡ head ls → read_of s ≡ Err (c, s)))
+    refuses : (ls : List Letter) → (head ls ≡ Some (Word of_text)) ⊎ ((c : Code) × (own_code ls ≡ c) × ((s : List Letter) → head s ≡ head ls → read_of s ≡ Err (c, s)))
     refuses (Word w ∷ ls) = by w ls (bytes_eq w of_text) refl
     refuses [] = inr (codes.Word, refl, empty (λ s. read_of s ≡ Err (codes.Word, s)) refl)
-    refuses (l ∷ ls) = inr (own (l ∷ ls), refl, begun (λ s. read_of s ≡ Err (own (l ∷ ls), s)) l (λ s. refl))
+    refuses (l ∷ ls) = inr (own_code (l ∷ ls), refl, begun (λ s. read_of s ≡ Err (own_code (l ∷ ls), s)) l (λ s. refl))
 
 -- ---- further members
 
@@ -62,7 +63,7 @@ abbrev Members : Type 0
 Members = WrittenList × List WrittenList
 
 abbrev spell_spare : Divider → Environment → Members → Marked → Marked
-spell_spare d env m k = over (spell_list env m.0 (spell_members zero d env m.1 k))
+spell_spare d env m k = mark_surplus (spell_list env m.0 (spell_members zero d env m.1 k))
 
 abbrev members_of : Environment → Members → List ℕ
 members_of env m = list_set env m.0 ∷ sets_of env m.1
@@ -71,13 +72,13 @@ one_name : List ℕ → WrittenList
 one_name w = record { first = w; more = [] }
 
 -- the first letter of a list of one name is marked by c
-spare_at : (d : Divider) (env : Environment) (w : List ℕ) (ls : List Letter) (c : Code) → ((k : Marked) → over ((Word w, name_mark env w) ∷ k) ≡ (Word w, Some c) ∷ k) → ((r : List Letter) → read_spare env (Word w ∷ r) ≡ Err (c, Word w ∷ r)) → Stuck (read_spare env) (spell_spare d env) (Word w ∷ ls) c (Word w ∷ ls)
+spare_at : (d : Divider) (env : Environment) (w : List ℕ) (ls : List Letter) (c : Code) → ((k : Marked) → mark_surplus ((Word w, name_mark env w) ∷ k) ≡ (Word w, Some c) ∷ k) → ((r : List Letter) → read_spare env (Word w ∷ r) ≡ Err (c, Word w ∷ r)) → Stuck (read_spare env) (spell_spare d env) (Word w ∷ ls) c (Word w ∷ ls)
 unfolding one_name
 spare_at d env w ls c h e = record {
   tree = (one_name w, []);
   front = [];
   parts = refl;
-  spells = λ k. (over (spell_list env (one_name w) k), (refl, inr (Word w, k, (h k, refl))));
+  spells = λ k. (mark_surplus (spell_list env (one_name w) k), (refl, inr (Word w, k, (h k, refl))));
   stays = begun (λ r. read_spare env r ≡ Err (c, r)) (Word w) e;
 }
 
@@ -89,9 +90,9 @@ mark_is : (env : Environment) (w : List ℕ) (h : Bool) (o : Option ℕ) → is_
 mark_is env w h o eh eo = ap (λ (b : Bool). cond b (Some codes.Word) (unknown (env w))) eh ∙ ap (λ (p : Option ℕ). cond h (Some codes.Word) (unknown p)) eo
 
 spare_by : (d : Divider) (env : Environment) (w : List ℕ) (ls : List Letter) (h : Bool) (o : Option ℕ) → is_measure w ≡ h → env w ≡ o → By (read_spare env) (spell_spare d env) (members_of env) (Word w ∷ ls) (spare w h o ls)
-spare_by d env w ls true o eh eo = spare_at d env w ls codes.Word (λ k. ap (λ (m : Option Code). over ((Word w, m) ∷ k)) (mark_is env w true o eh eo)) (spare_is env w true o eh eo)
-spare_by d env w ls false (Some i) eh eo = spare_at d env w ls codes.Many (λ k. ap (λ (m : Option Code). over ((Word w, m) ∷ k)) (mark_is env w false (Some i) eh eo)) (spare_is env w false (Some i) eh eo)
-spare_by d env w ls false None eh eo = spare_at d env w ls codes.Name (λ k. ap (λ (m : Option Code). over ((Word w, m) ∷ k)) (mark_is env w false None eh eo)) (spare_is env w false None eh eo)
+spare_by d env w ls true o eh eo = spare_at d env w ls codes.Word (λ k. ap (λ (m : Option Code). mark_surplus ((Word w, m) ∷ k)) (mark_is env w true o eh eo)) (spare_is env w true o eh eo)
+spare_by d env w ls false (Some i) eh eo = spare_at d env w ls codes.Many (λ k. ap (λ (m : Option Code). mark_surplus ((Word w, m) ∷ k)) (mark_is env w false (Some i) eh eo)) (spare_is env w false (Some i) eh eo)
+spare_by d env w ls false None eh eo = spare_at d env w ls codes.Name (λ k. ap (λ (m : Option Code). mark_surplus ((Word w, m) ∷ k)) (mark_is env w false None eh eo)) (spare_is env w false None eh eo)
 
 spare_traces : (d : Divider) (env : Environment) → Traces (read_spare env) (spell_spare d env) (members_of env)
 unfolding read_spare
@@ -130,15 +131,15 @@ members_traces (suc n) Semicolons env (l ∷ ls) = no_member (suc n) Semicolons 
 
 -- ---- chains
 
-abbrev from_third : Environment → ℕ → ℕ → List Letter → Reads Condition
-from_third env a b ls = read_list env ls >>= λ c. with_sets (a ∷ b ∷ c.0 ∷ []) (read_members 13 Arrows env c.1) >>= λ sets. Ok (Chain sets.0, sets.1)
+abbrev from_third : Environment → ℕ → ℕ → List Letter → Reads GivenView
+from_third env a b ls = read_list env ls >>= λ c. with_sets (a ∷ b ∷ c.0 ∷ []) (read_members 13 Arrows env c.1) >>= λ sets. Ok (given_views.Markov sets.0, sets.1)
 
-abbrev third_of : Environment → ℕ → ℕ → Members → Condition
-third_of env a b m = Chain (a ∷ b ∷ members_of env m)
+abbrev third_of : Environment → ℕ → ℕ → Members → GivenView
+third_of env a b m = given_views.Markov (a ∷ b ∷ members_of env m)
 
 third_traces : (env : Environment) (a b : ℕ) → Traces (from_third env a b) (spell_member 13 Arrows env) (third_of env a b)
-third_traces env a b = traces_bind (read_list env) (λ c ls. with_sets (a ∷ b ∷ c ∷ []) (read_members 13 Arrows env ls) >>= λ sets. Ok (Chain sets.0, sets.1)) (from_third env a b) (spell_list env) (λ c. spell_members 13 Arrows env) (spell_member 13 Arrows env) (list_set env) (λ c more. Chain (a ∷ b ∷ c ∷ sets_of env more)) (third_of env a b) (λ c more. (c, more))
-    (record { is = λ ls. refl; spells = λ y z k. refl; value = λ y z. refl; some = []; first = list_traces env; second = λ c. traces_map (λ ls. with_sets (a ∷ b ∷ c ∷ []) (read_members 13 Arrows env ls)) Chain (spell_members 13 Arrows env) (λ more. a ∷ b ∷ c ∷ sets_of env more) (traces_map (read_members 13 Arrows env) (λ more. a ∷ b ∷ c ∷ more) (spell_members 13 Arrows env) (sets_of env) (members_traces 13 Arrows env)) })
+third_traces env a b = traces_bind (read_list env) (λ c ls. with_sets (a ∷ b ∷ c ∷ []) (read_members 13 Arrows env ls) >>= λ sets. Ok (given_views.Markov sets.0, sets.1)) (from_third env a b) (spell_list env) (λ c. spell_members 13 Arrows env) (spell_member 13 Arrows env) (list_set env) (λ c more. given_views.Markov (a ∷ b ∷ c ∷ sets_of env more)) (third_of env a b) (λ c more. (c, more))
+    (record { is = λ ls. refl; spells = λ y z k. refl; value = λ y z. refl; some = []; first = list_traces env; second = λ c. traces_map (λ ls. with_sets (a ∷ b ∷ c ∷ []) (read_members 13 Arrows env ls)) given_views.Markov (spell_members 13 Arrows env) (λ more. a ∷ b ∷ c ∷ sets_of env more) (traces_map (read_members 13 Arrows env) (λ more. a ∷ b ∷ c ∷ more) (spell_members 13 Arrows env) (sets_of env) (members_traces 13 Arrows env)) })
 
 abbrev Seconds : Type 0
 Seconds = WrittenList × Members
@@ -149,18 +150,18 @@ spell_third env m k = clean (Sym Arrow) ∷ spell_member 13 Arrows env m k
 abbrev spell_second : Environment → Seconds → Marked → Marked
 spell_second env m k = spell_list env m.0 (spell_third env m.1 k)
 
-abbrev from_second : Environment → ℕ → List Letter → Reads Condition
-from_second env a ls = read_list env ls >>= λ b. pointed b.1 >>= from_third env a b.0
+abbrev from_second : Environment → ℕ → List Letter → Reads GivenView
+from_second env a ls = read_list env ls >>= λ b. arrow b.1 >>= from_third env a b.0
 
-abbrev second_of : Environment → ℕ → Seconds → Condition
+abbrev second_of : Environment → ℕ → Seconds → GivenView
 second_of env a m = third_of env a (list_set env m.0) m.1
 
 some_members : Members
 some_members = (some_list, [])
 
 second_traces : (env : Environment) (a : ℕ) → Traces (from_second env a) (spell_second env) (second_of env a)
-second_traces env a = traces_bind (read_list env) (λ b ls. pointed ls >>= from_third env a b) (from_second env a) (spell_list env) (λ b. spell_third env) (spell_second env) (list_set env) (third_of env a) (second_of env a) (λ b m. (b, m))
-    (record { is = λ ls. refl; spells = λ y z k. refl; value = λ y z. refl; some = some_members; first = list_traces env; second = λ b. behind_traces pointed (Sym Arrow) (from_third env a b) (spell_member 13 Arrows env) (third_of env a b) some_members pointed_takes (third_traces env a b) })
+second_traces env a = traces_bind (read_list env) (λ b ls. arrow ls >>= from_third env a b) (from_second env a) (spell_list env) (λ b. spell_third env) (spell_second env) (list_set env) (third_of env a) (second_of env a) (λ b m. (b, m))
+    (record { is = λ ls. refl; spells = λ y z k. refl; value = λ y z. refl; some = some_members; first = list_traces env; second = λ b. behind_traces arrow (Sym Arrow) (from_third env a b) (spell_member 13 Arrows env) (third_of env a b) some_members pointed_takes (third_traces env a b) })
 
 abbrev spell_seconds : Environment → Seconds → Marked → Marked
 spell_seconds env m k = clean (Sym Arrow) ∷ spell_second env m k
@@ -170,8 +171,8 @@ chain_made a m = record { first = a; second = m.0; third = m.1.0; more = m.1.1 }
 
 chain_traces : (env : Environment) → Traces (read_chain env) (spell_chain env) (chain_of env)
 unfolding read_chain chain_made
-chain_traces env = traces_bind (read_list env) (λ a ls. pointed ls >>= from_second env a) (read_chain env) (spell_list env) (λ a. spell_seconds env) (spell_chain env) (list_set env) (second_of env) (chain_of env) chain_made
-    (record { is = λ ls. refl; spells = λ y z k. refl; value = λ y z. refl; some = (some_list, some_members); first = list_traces env; second = λ a. behind_traces pointed (Sym Arrow) (from_second env a) (spell_second env) (second_of env a) (some_list, some_members) pointed_takes (second_traces env a) })
+chain_traces env = traces_bind (read_list env) (λ a ls. arrow ls >>= from_second env a) (read_chain env) (spell_list env) (λ a. spell_seconds env) (spell_chain env) (list_set env) (second_of env) (chain_of env) chain_made
+    (record { is = λ ls. refl; spells = λ y z k. refl; value = λ y z. refl; some = (some_list, some_members); first = list_traces env; second = λ a. behind_traces arrow (Sym Arrow) (from_second env a) (spell_second env) (second_of env a) (some_list, some_members) pointed_takes (second_traces env a) })
 
 -- ---- independences
 
@@ -188,15 +189,15 @@ Others = List WrittenList × Option WrittenList
 abbrev spell_others : Environment → Others → Marked → Marked
 spell_others env o k = spell_members 14 Semicolons env o.0 (spell_bar env o.1 k)
 
-abbrev from_others : Environment → ℕ → ℕ → List Letter → Reads Condition
-from_others env a b ls = with_sets (a ∷ b ∷ []) (read_members 14 Semicolons env ls) >>= λ sets. read_bar env sets.1 >>= λ w. Ok (Independence sets.0 w.0, w.1)
+abbrev from_others : Environment → ℕ → ℕ → List Letter → Reads GivenView
+from_others env a b ls = with_sets (a ∷ b ∷ []) (read_members 14 Semicolons env ls) >>= λ sets. read_bar env sets.1 >>= λ w. Ok (given_views.Independent sets.0 w.0, w.1)
 
-abbrev others_of : Environment → ℕ → ℕ → Others → Condition
-others_of env a b o = Independence (a ∷ b ∷ sets_of env o.0) (bar_set env o.1)
+abbrev others_of : Environment → ℕ → ℕ → Others → GivenView
+others_of env a b o = given_views.Independent (a ∷ b ∷ sets_of env o.0) (bar_set env o.1)
 
 others_traces : (env : Environment) (a b : ℕ) → Traces (from_others env a b) (spell_others env) (others_of env a b)
-others_traces env a b = traces_bind (λ ls. with_sets (a ∷ b ∷ []) (read_members 14 Semicolons env ls)) (λ sets ls. read_bar env ls >>= λ w. Ok (Independence sets w.0, w.1)) (from_others env a b) (spell_members 14 Semicolons env) (λ sets. spell_bar env) (spell_others env) (λ more. a ∷ b ∷ sets_of env more) (λ sets w. Independence sets (bar_set env w)) (others_of env a b) (λ more w. (more, w))
-    (record { is = λ ls. refl; spells = λ y z k. refl; value = λ y z. refl; some = None; first = traces_map (read_members 14 Semicolons env) (λ more. a ∷ b ∷ more) (spell_members 14 Semicolons env) (sets_of env) (members_traces 14 Semicolons env); second = λ sets. traces_map (read_bar env) (Independence sets) (spell_bar env) (bar_set env) (bar_traces env) })
+others_traces env a b = traces_bind (λ ls. with_sets (a ∷ b ∷ []) (read_members 14 Semicolons env ls)) (λ sets ls. read_bar env ls >>= λ w. Ok (given_views.Independent sets w.0, w.1)) (from_others env a b) (spell_members 14 Semicolons env) (λ sets. spell_bar env) (spell_others env) (λ more. a ∷ b ∷ sets_of env more) (λ sets w. given_views.Independent sets (bar_set env w)) (others_of env a b) (λ more w. (more, w))
+    (record { is = λ ls. refl; spells = λ y z k. refl; value = λ y z. refl; some = None; first = traces_map (read_members 14 Semicolons env) (λ more. a ∷ b ∷ more) (spell_members 14 Semicolons env) (sets_of env) (members_traces 14 Semicolons env); second = λ sets. traces_map (read_bar env) (given_views.Independent sets) (spell_bar env) (bar_set env) (bar_traces env) })
 
 abbrev Partners : Type 0
 Partners = WrittenList × Others
@@ -204,10 +205,10 @@ Partners = WrittenList × Others
 abbrev spell_partners : Environment → Partners → Marked → Marked
 spell_partners env p k = spell_list env p.0 (spell_others env p.1 k)
 
-abbrev from_partner : Environment → ℕ → List Letter → Reads Condition
+abbrev from_partner : Environment → ℕ → List Letter → Reads GivenView
 from_partner env a ls = read_list env ls >>= λ b. from_others env a b.0 b.1
 
-abbrev partners_of : Environment → ℕ → Partners → Condition
+abbrev partners_of : Environment → ℕ → Partners → GivenView
 partners_of env a p = others_of env a (list_set env p.0) p.1
 
 partner_traces : (env : Environment) (a : ℕ) → Traces (from_partner env a) (spell_partners env) (partners_of env a)
@@ -225,13 +226,13 @@ some_partners = (some_list, ([], None))
 
 independence_traces : (env : Environment) → Traces (read_independence env) (spell_independence env) (independence_of env)
 unfolding read_independence independence_made
-independence_traces env = traces_bind (read_list env) (λ a ls. divided ls >>= from_partner env a) (read_independence env) (spell_list env) (λ a. spell_behind_first env) (spell_independence env) (list_set env) (partners_of env) (independence_of env) independence_made
-    (record { is = λ ls. refl; spells = λ y z k. refl; value = λ y z. refl; some = some_partners; first = list_traces env; second = λ a. behind_traces divided (Sym Semicolon) (from_partner env a) (spell_partners env) (partners_of env a) some_partners divided_takes (partner_traces env a) })
+independence_traces env = traces_bind (read_list env) (λ a ls. semicolon ls >>= from_partner env a) (read_independence env) (spell_list env) (λ a. spell_behind_first env) (spell_independence env) (list_set env) (partners_of env) (independence_of env) independence_made
+    (record { is = λ ls. refl; spells = λ y z k. refl; value = λ y z. refl; some = some_partners; first = list_traces env; second = λ a. behind_traces semicolon (Sym Semicolon) (from_partner env a) (spell_partners env) (partners_of env a) some_partners divided_takes (partner_traces env a) })
 
 -- ---- functions
 
-abbrev from_argument : Environment → ℕ → List Letter → Reads Condition
-from_argument env z ls = read_list env ls >>= λ x. Ok (Function z x.0, x.1)
+abbrev from_argument : Environment → ℕ → List Letter → Reads GivenView
+from_argument env z ls = read_list env ls >>= λ x. Ok (given_views.Function z x.0, x.1)
 
 abbrev spell_argument : Environment → WrittenList → Marked → Marked
 spell_argument env x k = clean (Word of_text) ∷ spell_list env x k
@@ -241,8 +242,8 @@ function_made z x = record { value = z; argument = x }
 
 function_traces : (env : Environment) → Traces (read_function env) (spell_function env) (function_of env)
 unfolding read_function function_made
-function_traces env = traces_bind (read_list env) (λ z ls. read_of ls >>= from_argument env z) (read_function env) (spell_list env) (λ z. spell_argument env) (spell_function env) (list_set env) (λ z x. Function z (list_set env x)) (function_of env) function_made
-    (record { is = λ ls. refl; spells = λ y z k. refl; value = λ y z. refl; some = some_list; first = list_traces env; second = λ z. behind_traces read_of (Word of_text) (from_argument env z) (spell_list env) (λ x. Function z (list_set env x)) some_list of_takes (traces_map (read_list env) (Function z) (spell_list env) (list_set env) (list_traces env)) })
+function_traces env = traces_bind (read_list env) (λ z ls. read_of ls >>= from_argument env z) (read_function env) (spell_list env) (λ z. spell_argument env) (spell_function env) (list_set env) (λ z x. given_views.Function z (list_set env x)) (function_of env) function_made
+    (record { is = λ ls. refl; spells = λ y z k. refl; value = λ y z. refl; some = some_list; first = list_traces env; second = λ z. behind_traces read_of (Word of_text) (from_argument env z) (spell_list env) (λ x. given_views.Function z (list_set env x)) some_list of_takes (traces_map (read_list env) (given_views.Function z) (spell_list env) (list_set env) (list_traces env)) })
 
 -- ---- relations that don't begin as another form
 
@@ -252,7 +253,7 @@ opens_form (Word w ∷ ls) = is_form w
 opens_form ls = false
 
 -- a relation begins as a form where its first letter does
-pub opens : (s : Scope) (x : WrittenComparison) (k : Marked) → opens_form (letters (spell_comparison s x k)) ≡ is_form_first x.left.sign x.left.first
+pub opens : (s : Scope) (x : WrittenRelation) (k : Marked) → opens_form (letters (spell_relation s x k)) ≡ is_form_first x.left.sign x.left.first
 opens s x k = by x.left.sign x.left.first x.left.more _
   where
     by : (o : Option TermSign) (t : WrittenTerm) (more : List (TermSign × WrittenTerm)) (k : Marked) → opens_form (letters (spell_sum 256 s (record { sign = o; first = t; more = more }) k)) ≡ is_form_first o t
@@ -261,10 +262,10 @@ opens s x k = by x.left.sign x.left.first x.left.more _
     by None Zero more k = refl
     by None (Times n q) more k = refl
     by None (Once (RateOf r)) more k = refl
-    by None (Once (Measure (Joint a))) more k = refl
-    by None (Once (Measure (JointGiven a c))) more k = refl
-    by None (Once (Measure (Shared a b))) more k = refl
-    by None (Once (Measure (SharedGiven a b c))) more k = refl
+    by None (Once (Measure (Entropy a))) more k = refl
+    by None (Once (Measure (EntropyGiven a c))) more k = refl
+    by None (Once (Measure (Mutual a b))) more k = refl
+    by None (Once (Measure (MutualGiven a b c))) more k = refl
 
 same_opening : (ls ms : List Letter) → head ls ≡ head ms → opens_form ls ≡ opens_form ms
 same_opening [] [] e = refl
@@ -276,45 +277,45 @@ same_opening (l ∷ ls) (m ∷ ms) e = let same : l ≡ m = cc in first l ∙ ap
     first (Word w) = refl
     first l = refl
 
-abbrev IsPlain : WrittenComparison → Type 0
+abbrev IsPlain : WrittenRelation → Type 0
 IsPlain x = is_form_first x.left.sign x.left.first ≡ false
 
-plain_made : (x : WrittenComparison) → IsPlain x → WrittenCondition
-plain_made x p = Compared (record { relation = x; plain = p })
+plain_made : (x : WrittenRelation) → IsPlain x → WrittenGiven
+plain_made x p = Relation (record { relation = x; plain = p })
 
-zero_is_zero : WrittenCondition
-zero_is_zero = Compared (record { relation = record { left = record { sign = None; first = Zero; more = [] }; sign = signs.Equal; right = record { sign = None; first = Zero; more = [] } }; plain = refl })
+zero_is_zero : WrittenGiven
+zero_is_zero = Relation (record { relation = record { left = record { sign = None; first = Zero; more = [] }; sign = signs.Equal; right = record { sign = None; first = Zero; more = [] } }; plain = refl })
 
-plain_restricts : (s : Scope) → Restricts (spell_comparison s) (λ x. Related (comparison_of s x)) (spell_condition s) (condition_of s) IsPlain plain_made
+plain_restricts : (s : Scope) → Restricts (spell_relation s) (λ x. given_views.Relation (relation_of s x)) (spell_given s) (given_of s) IsPlain plain_made
 unfolding plain_made
 plain_restricts s = record { spells = λ x p k. refl; values = λ x p. refl; some = zero_is_zero }
 
-plain_traces : (s : Scope) (ls : List Letter) → opens_form ls ≡ false → By (read_plain s) (spell_condition s) (condition_of s) ls (read_plain s ls)
+plain_traces : (s : Scope) (ls : List Letter) → opens_form ls ≡ false → By (read_plain s) (spell_given s) (given_of s) ls (read_plain s ls)
 unfolding read_plain
-plain_traces s ls e = restricted (read_plain s) (spell_comparison s) (λ x. Related (comparison_of s x)) (spell_condition s) (condition_of s) IsPlain plain_made (plain_restricts s) ls (λ x k h. sym (opens s x k) ∙ same_opening (letters (spell_comparison s x k)) ls h ∙ e) (read_plain s ls)
-    (traces_map (read_comparison s) Related (spell_comparison s) (comparison_of s) (comparison_traces s) ls)
+plain_traces s ls e = restricted (read_plain s) (spell_relation s) (λ x. given_views.Relation (relation_of s x)) (spell_given s) (given_of s) IsPlain plain_made (plain_restricts s) ls (λ x k h. sym (opens s x k) ∙ same_opening (letters (spell_relation s x k)) ls h ∙ e) (read_plain s ls)
+    (traces_map (read_relation s) given_views.Relation (spell_relation s) (relation_of s) (relation_traces s) ls)
 
 -- ---- conditions
 
-abbrev pub chosen : Scope → List ℕ → List Letter → Bool → Bool → Bool → Reads Condition
+abbrev pub chosen : Scope → List ℕ → List Letter → Bool → Bool → Bool → Reads GivenView
 chosen s w ls h i j = cond h (read_chain s.variables ls) (cond i (read_independence s.variables ls) (cond j (read_function s.variables ls) (read_plain s (Word w ∷ ls))))
 
-word_is : (s : Scope) (w : List ℕ) (h i j : Bool) → bytes_eq w markov_text ≡ h → bytes_eq w indep_text ≡ i → bytes_eq w func_text ≡ j → (ls : List Letter) → read_condition s (Word w ∷ ls) ≡ chosen s w ls h i j
-unfolding read_condition
+word_is : (s : Scope) (w : List ℕ) (h i j : Bool) → bytes_eq w markov_text ≡ h → bytes_eq w indep_text ≡ i → bytes_eq w func_text ≡ j → (ls : List Letter) → read_given s (Word w ∷ ls) ≡ chosen s w ls h i j
+unfolding read_given
 word_is s w h i j eh ei ej ls = ap (λ (b : Bool). chosen s w ls b (bytes_eq w indep_text) (bytes_eq w func_text)) eh ∙ ap (λ (b : Bool). chosen s w ls h b (bytes_eq w func_text)) ei ∙ ap (λ (b : Bool). chosen s w ls h i b) ej
 
-condition_by : (s : Scope) (w : List ℕ) (ls : List Letter) (h i j : Bool) → bytes_eq w markov_text ≡ h → bytes_eq w indep_text ≡ i → bytes_eq w func_text ≡ j → By (read_condition s) (spell_condition s) (condition_of s) (Word w ∷ ls) (chosen s w ls h i j)
-condition_by s w ls true i j eh ei ej = letter_then (read_condition s) (read_chain s.variables) (Word w) (spell_chain s.variables) (spell_condition s) (chain_of s.variables) (condition_of s) Chained ls (word_is s w true i j eh ei ej)
+given_line_by : (s : Scope) (w : List ℕ) (ls : List Letter) (h i j : Bool) → bytes_eq w markov_text ≡ h → bytes_eq w indep_text ≡ i → bytes_eq w func_text ≡ j → By (read_given s) (spell_given s) (given_of s) (Word w ∷ ls) (chosen s w ls h i j)
+given_line_by s w ls true i j eh ei ej = letter_then (read_given s) (read_chain s.variables) (Word w) (spell_chain s.variables) (spell_given s) (chain_of s.variables) (given_of s) Markov ls (word_is s w true i j eh ei ej)
     (λ z k. ap (λ (t : List ℕ). clean (Word t) ∷ spell_chain s.variables z k) (sym ((bytes_eq-Decides w markov_text).0 eh))) (λ z. refl) (read_chain s.variables ls) (chain_traces s.variables ls)
-condition_by s w ls false true j eh ei ej = letter_then (read_condition s) (read_independence s.variables) (Word w) (spell_independence s.variables) (spell_condition s) (independence_of s.variables) (condition_of s) Separate ls (word_is s w false true j eh ei ej)
+given_line_by s w ls false true j eh ei ej = letter_then (read_given s) (read_independence s.variables) (Word w) (spell_independence s.variables) (spell_given s) (independence_of s.variables) (given_of s) Independent ls (word_is s w false true j eh ei ej)
     (λ z k. ap (λ (t : List ℕ). clean (Word t) ∷ spell_independence s.variables z k) (sym ((bytes_eq-Decides w indep_text).0 ei))) (λ z. refl) (read_independence s.variables ls) (independence_traces s.variables ls)
-condition_by s w ls false false true eh ei ej = letter_then (read_condition s) (read_function s.variables) (Word w) (spell_function s.variables) (spell_condition s) (function_of s.variables) (condition_of s) Determined ls (word_is s w false false true eh ei ej)
+given_line_by s w ls false false true eh ei ej = letter_then (read_given s) (read_function s.variables) (Word w) (spell_function s.variables) (spell_given s) (function_of s.variables) (given_of s) Function ls (word_is s w false false true eh ei ej)
     (λ z k. ap (λ (t : List ℕ). clean (Word t) ∷ spell_function s.variables z k) (sym ((bytes_eq-Decides w func_text).0 ej))) (λ z. refl) (read_function s.variables ls) (function_traces s.variables ls)
-condition_by s w ls false false false eh ei ej = switch (read_plain s) (read_condition s) (spell_condition s) (condition_of s) (Word w ∷ ls) (begun (λ t. read_condition s t ≡ read_plain s t) (Word w) (word_is s w false false false eh ei ej)) (read_plain s (Word w ∷ ls))
+given_line_by s w ls false false false eh ei ej = switch (read_plain s) (read_given s) (spell_given s) (given_of s) (Word w ∷ ls) (begun (λ t. read_given s t ≡ read_plain s t) (Word w) (word_is s w false false false eh ei ej)) (read_plain s (Word w ∷ ls))
     (plain_traces s (Word w ∷ ls) (ap (λ (b : Bool). b || (bytes_eq w indep_text || bytes_eq w func_text)) eh ∙ ap (λ (b : Bool). b || bytes_eq w func_text) ei ∙ ej))
 
-pub condition_traces : (s : Scope) → Traces (read_condition s) (spell_condition s) (condition_of s)
-unfolding read_condition
-condition_traces s (Word w ∷ ls) = condition_by s w ls (bytes_eq w markov_text) (bytes_eq w indep_text) (bytes_eq w func_text) refl refl refl
-condition_traces s [] = switch (read_plain s) (read_condition s) (spell_condition s) (condition_of s) [] (empty (λ t. read_condition s t ≡ read_plain s t) refl) (read_plain s []) (plain_traces s [] refl)
-condition_traces s (l ∷ ls) = switch (read_plain s) (read_condition s) (spell_condition s) (condition_of s) (l ∷ ls) (begun (λ t. read_condition s t ≡ read_plain s t) l (λ t. refl)) (read_plain s (l ∷ ls)) (plain_traces s (l ∷ ls) refl)
+pub given_line_traces : (s : Scope) → Traces (read_given s) (spell_given s) (given_of s)
+unfolding read_given
+given_line_traces s (Word w ∷ ls) = given_line_by s w ls (bytes_eq w markov_text) (bytes_eq w indep_text) (bytes_eq w func_text) refl refl refl
+given_line_traces s [] = switch (read_plain s) (read_given s) (spell_given s) (given_of s) [] (empty (λ t. read_given s t ≡ read_plain s t) refl) (read_plain s []) (plain_traces s [] refl)
+given_line_traces s (l ∷ ls) = switch (read_plain s) (read_given s) (spell_given s) (given_of s) (l ∷ ls) (begun (λ t. read_given s t ≡ read_plain s t) l (λ t. refl)) (read_plain s (l ∷ ls)) (plain_traces s (l ∷ ls) refl)

@@ -9,25 +9,25 @@ use Rattle.it_syntax.specs.declared.types.Term.{Term}
 use Rattle.it_syntax.specs.declared.types.Sign.{Sign}
 use Rattle.it_syntax.specs.declared.types.Sign.TheVariants.{AtLeast, AtMost, Equal}
 use Rattle.it_syntax.specs.Letters.{Letter, Word, Number, Sym, Marked, clean, letters}
-use Rattle.it_syntax.specs.Trees.{Joint, JointGiven, Shared, SharedGiven, TermSign, Positive, Negative, entropy_text, mutual_text, unknown, index_or, spell_sign, over, is_minus}
-use Rattle.it_syntax.specs.Comparisons.{Scope, WrittenQuantity, Measure, RateOf, WrittenTerm, Zero, Once, Times, WrittenSum, WrittenComparison, spell_quantity, spell_term, spell_terms, spell_counted, spell_sum, compare_letter, most_terms, number_of_terms, spell_comparison, quantity_of, term_of, terms_of, sum_of, comparison_of}
-use Rattle.it_syntax.specs.Reading.{Reads, ◌>>=◌, read_atom, read_sign}
-use Rattle.it_syntax.specs.ComparisonReading.{rated, read_quantity, after_number, read_term, surplus, read_over, read_terms, read_counted, read_sum, read_compare, read_comparison}
+use Rattle.it_syntax.specs.WrittenAtoms.{Entropy, EntropyGiven, Mutual, MutualGiven, TermSign, Positive, Negative, entropy_text, mutual_text, unknown, index_or, spell_sign, mark_surplus, is_minus}
+use Rattle.it_syntax.specs.WrittenRelations.{Scope, WrittenQuantity, Measure, RateOf, WrittenTerm, Zero, Once, Times, WrittenSum, WrittenRelation, spell_quantity, spell_term, spell_terms, spell_counted, spell_sum, compare_letter, most_terms, number_of_terms, spell_relation, quantity_of, term_of, terms_of, sum_of, relation_of}
+use Rattle.it_syntax.specs.AtomReading.{Reads, ◌>>=◌, read_atom, read_sign}
+use Rattle.it_syntax.specs.RelationReading.{rate_or_fault, read_quantity, after_number, read_term, surplus, read_over, read_terms, read_counted, read_sum, read_compare, read_relation}
 use Rattle.it_syntax.proofs.SpelledIsRead.{Answers, answers_ok, answers_cons, answers_bind, NoWord, NoSign, atom_answers, sign_answers}
-use Rattle.it_syntax.proofs.ComparisonTraces.{terms_counted}
+use Rattle.it_syntax.proofs.RelationTraces.{terms_counted}
 
-rated_answers : (w : List ℕ) (o : Option ℕ) (k : Marked) → Answers (rated w o (letters k)) ((Word w, unknown o) ∷ k) (Rate (index_or o)) k
+rated_answers : (w : List ℕ) (o : Option ℕ) (k : Marked) → Answers (rate_or_fault w o (letters k)) ((Word w, unknown o) ∷ k) (Rate (index_or o)) k
 rated_answers w (Some i) k = inl (refl, record { front = Word w ∷ []; is = refl })
 rated_answers w None k = inr ((codes.Name, Word w ∷ letters k), (refl, record { front = []; letter = Word w; rest = k; is = refl; left = refl }))
 
 quantity_answers : (s : Scope) (q : WrittenQuantity) (k : Marked) → Answers (read_quantity s (letters (spell_quantity s q k))) (spell_quantity s q k) (quantity_of s q) k
 unfolding read_quantity
-quantity_answers s (Measure (Joint a)) k = atom_answers s.variables (Joint a) k
-quantity_answers s (Measure (JointGiven a c)) k = atom_answers s.variables (JointGiven a c) k
-quantity_answers s (Measure (Shared a b)) k = atom_answers s.variables (Shared a b) k
-quantity_answers s (Measure (SharedGiven a b c)) k = atom_answers s.variables (SharedGiven a b c) k
+quantity_answers s (Measure (Entropy a)) k = atom_answers s.variables (Entropy a) k
+quantity_answers s (Measure (EntropyGiven a c)) k = atom_answers s.variables (EntropyGiven a c) k
+quantity_answers s (Measure (Mutual a b)) k = atom_answers s.variables (Mutual a b) k
+quantity_answers s (Measure (MutualGiven a b c)) k = atom_answers s.variables (MutualGiven a b c) k
 quantity_answers s (RateOf r) k =
-    subst (λ (b : Bool). Answers (cond b (read_atom s.variables (Word r.text ∷ letters k)) (rated r.text (s.rates r.text) (letters k))) (spell_quantity s (RateOf r) k) (quantity_of s (RateOf r)) k) (sym r.is_name) (rated_answers r.text (s.rates r.text) k)
+    subst (λ (b : Bool). Answers (cond b (read_atom s.variables (Word r.text ∷ letters k)) (rate_or_fault r.text (s.rates r.text) (letters k))) (spell_quantity s (RateOf r) k) (quantity_of s (RateOf r)) k) (sym r.is_name) (rated_answers r.text (s.rates r.text) k)
 
 zero_answers : (s : Scope) (b : Bool) (k : Marked) → NoWord k → Answers (after_number s b 0 (letters k)) k (term_of s b Zero) k
 unfolding after_number
@@ -40,18 +40,18 @@ times b n y = Ok (record { negative = b; number = n; atom = y.0 }, y.1)
 
 number_first : (s : Scope) (b : Bool) (n : ℕ) (q : WrittenQuantity) (k : Marked) → after_number s b n (letters (spell_quantity s q k)) ≡ (read_quantity s (letters (spell_quantity s q k)) >>= times b n)
 unfolding after_number
-number_first s b n (Measure (Joint a)) k = refl
-number_first s b n (Measure (JointGiven a c)) k = refl
-number_first s b n (Measure (Shared a d)) k = refl
-number_first s b n (Measure (SharedGiven a d c)) k = refl
+number_first s b n (Measure (Entropy a)) k = refl
+number_first s b n (Measure (EntropyGiven a c)) k = refl
+number_first s b n (Measure (Mutual a d)) k = refl
+number_first s b n (Measure (MutualGiven a d c)) k = refl
 number_first s b n (RateOf r) k = refl
 
 once_first : (s : Scope) (b : Bool) (q : WrittenQuantity) (k : Marked) → read_term s b (letters (spell_quantity s q k)) ≡ (read_quantity s (letters (spell_quantity s q k)) >>= times b 1)
 unfolding read_term
-once_first s b (Measure (Joint a)) k = refl
-once_first s b (Measure (JointGiven a c)) k = refl
-once_first s b (Measure (Shared a d)) k = refl
-once_first s b (Measure (SharedGiven a d c)) k = refl
+once_first s b (Measure (Entropy a)) k = refl
+once_first s b (Measure (EntropyGiven a c)) k = refl
+once_first s b (Measure (Mutual a d)) k = refl
+once_first s b (Measure (MutualGiven a d c)) k = refl
 once_first s b (RateOf r) k = refl
 
 term_answers : (s : Scope) (b : Bool) (x : WrittenTerm) (k : Marked) → NoWord k → Answers (read_term s b (letters (spell_term s x k))) (spell_term s x k) (term_of s b x) k
@@ -103,25 +103,25 @@ term_then s b t ts n k free h =
 over_marked : (l : Letter) (c : Code) (m k : Marked) (y : List Term) → Answers (Err (c, l ∷ letters m)) ((l, Some c) ∷ m) y k
 over_marked l c m k y = inr ((c, l ∷ letters m), (refl, record { front = []; letter = l; rest = m; is = refl; left = refl }))
 
-surplus_answers : (w : List ℕ) (o : Option ℕ) (m k : Marked) (y : List Term) → Answers (surplus w o (letters m)) (over ((Word w, unknown o) ∷ m)) y k
+surplus_answers : (w : List ℕ) (o : Option ℕ) (m k : Marked) (y : List Term) → Answers (surplus w o (letters m)) (mark_surplus ((Word w, unknown o) ∷ m)) y k
 surplus_answers w (Some i) m k y = over_marked (Word w) codes.Many m k y
 surplus_answers w None m k y = over_marked (Word w) codes.Name m k y
 
-letters_over : (l : Letter) (c : Option Code) (m : Marked) → letters (over ((l, c) ∷ m)) ≡ l ∷ letters m
+letters_over : (l : Letter) (c : Option Code) (m : Marked) → letters (mark_surplus ((l, c) ∷ m)) ≡ l ∷ letters m
 letters_over l None m = refl
 letters_over l (Some c) m = refl
 
-over_answers : (s : Scope) (t : WrittenTerm) (m k : Marked) (y : List Term) → Answers (read_over s (letters (over (spell_term s t m)))) (over (spell_term s t m)) y k
+over_answers : (s : Scope) (t : WrittenTerm) (m k : Marked) (y : List Term) → Answers (read_over s (letters (mark_surplus (spell_term s t m)))) (mark_surplus (spell_term s t m)) y k
 unfolding read_over
 over_answers s Zero m k y = over_marked (Number 0) codes.Many m k y
 over_answers s (Times n q) m k y = over_marked (Number n) codes.Many (spell_quantity s q m) k y
-over_answers s (Once (Measure (Joint a))) m k y = over_marked (Word entropy_text) codes.Many _ k y
-over_answers s (Once (Measure (JointGiven a c))) m k y = over_marked (Word entropy_text) codes.Many _ k y
-over_answers s (Once (Measure (Shared a b))) m k y = over_marked (Word mutual_text) codes.Many _ k y
-over_answers s (Once (Measure (SharedGiven a b c))) m k y = over_marked (Word mutual_text) codes.Many _ k y
+over_answers s (Once (Measure (Entropy a))) m k y = over_marked (Word entropy_text) codes.Many _ k y
+over_answers s (Once (Measure (EntropyGiven a c))) m k y = over_marked (Word entropy_text) codes.Many _ k y
+over_answers s (Once (Measure (Mutual a b))) m k y = over_marked (Word mutual_text) codes.Many _ k y
+over_answers s (Once (Measure (MutualGiven a b c))) m k y = over_marked (Word mutual_text) codes.Many _ k y
 over_answers s (Once (RateOf r)) m k y =
     let o = s.rates r.text in
-    let x = over ((Word r.text, unknown o) ∷ m) in
+    let x = mark_surplus ((Word r.text, unknown o) ∷ m) in
     subst (λ (ls : List Letter). Answers (read_over s ls) x y k) (sym (letters_over (Word r.text) (unknown o) m))
     (subst (λ (b : Bool). Answers (cond b (Err (codes.Many, Word r.text ∷ letters m)) (surplus r.text o (letters m))) x y k) (sym r.is_name) (surplus_answers r.text o m k y))
 
@@ -129,9 +129,9 @@ terms_answers : (n : ℕ) (s : Scope) (ts : List (TermSign × WrittenTerm)) (k :
 unfolding read_terms
 terms_answers n s [] k free w = no_terms n s k free
 terms_answers zero s ((Positive, t) ∷ ts) k free w =
-    answers_cons (Sym Plus) _ (over (spell_term s t (spell_terms zero s ts k))) (term_of s false t ∷ terms_of s ts) k (over_answers s t (spell_terms zero s ts k) k (term_of s false t ∷ terms_of s ts))
+    answers_cons (Sym Plus) _ (mark_surplus (spell_term s t (spell_terms zero s ts k))) (term_of s false t ∷ terms_of s ts) k (over_answers s t (spell_terms zero s ts k) k (term_of s false t ∷ terms_of s ts))
 terms_answers zero s ((Negative, t) ∷ ts) k free w =
-    answers_cons (Sym Minus) _ (over (spell_term s t (spell_terms zero s ts k))) (term_of s true t ∷ terms_of s ts) k (over_answers s t (spell_terms zero s ts k) k (term_of s true t ∷ terms_of s ts))
+    answers_cons (Sym Minus) _ (mark_surplus (spell_term s t (spell_terms zero s ts k))) (term_of s true t ∷ terms_of s ts) k (over_answers s t (spell_terms zero s ts k) k (term_of s true t ∷ terms_of s ts))
 terms_answers (suc n) s ((Positive, t) ∷ ts) k free w =
     answers_cons (Sym Plus) _ (spell_term s t (spell_terms n s ts k)) (term_of s false t ∷ terms_of s ts) k (term_then s false t ts n k w (terms_answers n s ts k free w))
 terms_answers (suc n) s ((Negative, t) ∷ ts) k free w =
@@ -149,17 +149,17 @@ unsigned : (n : ℕ) (s : Scope) (t : WrittenTerm) (ts : List (TermSign × Writt
 unfolding read_sign
 unsigned zero s Zero ts k = refl
 unsigned zero s (Times n q) ts k = refl
-unsigned zero s (Once (Measure (Joint a))) ts k = refl
-unsigned zero s (Once (Measure (JointGiven a c))) ts k = refl
-unsigned zero s (Once (Measure (Shared a b))) ts k = refl
-unsigned zero s (Once (Measure (SharedGiven a b c))) ts k = refl
+unsigned zero s (Once (Measure (Entropy a))) ts k = refl
+unsigned zero s (Once (Measure (EntropyGiven a c))) ts k = refl
+unsigned zero s (Once (Measure (Mutual a b))) ts k = refl
+unsigned zero s (Once (Measure (MutualGiven a b c))) ts k = refl
 unsigned zero s (Once (RateOf r)) ts k = subst (λ (ls : List Letter). read_sign ls ≡ (false, ls)) (sym (letters_over (Word r.text) (unknown (s.rates r.text)) (spell_terms zero s ts k))) refl
 unsigned (suc n) s Zero ts k = refl
 unsigned (suc n) s (Times m q) ts k = refl
-unsigned (suc n) s (Once (Measure (Joint a))) ts k = refl
-unsigned (suc n) s (Once (Measure (JointGiven a c))) ts k = refl
-unsigned (suc n) s (Once (Measure (Shared a b))) ts k = refl
-unsigned (suc n) s (Once (Measure (SharedGiven a b c))) ts k = refl
+unsigned (suc n) s (Once (Measure (Entropy a))) ts k = refl
+unsigned (suc n) s (Once (Measure (EntropyGiven a c))) ts k = refl
+unsigned (suc n) s (Once (Measure (Mutual a b))) ts k = refl
+unsigned (suc n) s (Once (Measure (MutualGiven a b c))) ts k = refl
 unsigned (suc n) s (Once (RateOf r)) ts k = refl
 
 signed : (o : Option TermSign) (n : ℕ) (s : Scope) (t : WrittenTerm) (ts : List (TermSign × WrittenTerm)) (k : Marked) → read_sign (letters (spell_sign o (spell_counted n s t ts k))) ≡ (is_minus o, letters (spell_counted n s t ts k))
@@ -194,14 +194,14 @@ compare_no_word AtMost k = tt
 compare_no_word Equal k = tt
 
 -- a relation
-pub comparison_answers : (s : Scope) (x : WrittenComparison) (k : Marked) → NoSign k → NoWord k → Answers (read_comparison s (letters (spell_comparison s x k))) (spell_comparison s x k) (comparison_of s x) k
-unfolding read_comparison
-comparison_answers s x k free w =
+pub relation_answers : (s : Scope) (x : WrittenRelation) (k : Marked) → NoSign k → NoWord k → Answers (read_relation s (letters (spell_relation s x k))) (spell_relation s x k) (relation_of s x) k
+unfolding read_relation
+relation_answers s x k free w =
     let n = most_terms - number_of_terms x.left in
     let r = spell_sum n s x.right k in
     let m : Marked = clean (compare_letter x.sign) ∷ r in
     let left = sum_of s x.left in
-    let y = comparison_of s x in
+    let y = relation_of s x in
     answers_bind (read_sum most_terms s (letters (spell_sum most_terms s x.left m))) (λ left. read_compare left.1 >>= λ sign. read_sum (most_terms - length left.0) s sign.1 >>= λ right. Ok (record { left = left.0; sign = sign.0; right = right.0 }, right.1)) (spell_sum most_terms s x.left m) m k left y
     (sum_answers most_terms s x.left m (compare_no_sign x.sign r) (compare_no_word x.sign r))
     (answers_bind (read_compare (letters m)) (λ sign. read_sum (most_terms - length left) s sign.1 >>= λ right. Ok (record { left = left; sign = sign.0; right = right.0 }, right.1)) m r k x.sign y (compare_answers x.sign r)

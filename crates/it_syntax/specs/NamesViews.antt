@@ -2,12 +2,12 @@
 use Rattle.std.specs.Prelude.{◌≡◌, ℕ, ◌≤◌, List, ◌++◌, length, Option, None, All, bytes_eq}
 use Rattle.std.specs.List.{position, IsDistinct}
 
-pub record Vocabulary : Type 0 where
+pub record NamesView : Type 0 where
   pub variables : List (List ℕ)
   pub rates : List (List ℕ)
 
 -- at most ten variables and sixteen rates, whose names differ and have 1 to 16 bytes
-pub record IsVocabulary (v : Vocabulary) : Type 0 where
+pub record AreNames (v : NamesView) : Type 0 where
   pub few_variables : length v.variables ≤ 10
   pub few_rates : length v.rates ≤ 16
   pub short : All (λ name. (1 ≤ length name) × (length name ≤ 16)) (v.variables ++ v.rates)
@@ -18,5 +18,5 @@ abbrev pub index_of : List (List ℕ) → List ℕ → Option ℕ
 index_of names name = position (bytes_eq name) names
 
 -- neither a variable nor a rate
-abbrev pub IsNew : Vocabulary → List ℕ → Type 0
+abbrev pub IsNew : NamesView → List ℕ → Type 0
 IsNew v name = (index_of v.variables name ≡ None) × (index_of v.rates name ≡ None)

@@ -6,18 +6,18 @@ use Rattle.it_syntax.specs.declared.rest.Divider.{Divider}
 use Rattle.it_syntax.specs.declared.rest.Divider.TheVariants.{Arrows, Semicolons}
 use Rattle.it_syntax.specs.declared.types.Symbol.TheVariants.{Bar}
 use Rattle.it_syntax.specs.Letters.{Letter, Word, Sym, Bad}
-use Rattle.it_syntax.specs.Vocabulary.{Vocabulary}
-use Rattle.it_syntax.specs.Trees.{Environment, is_measure}
-use Rattle.it_syntax.specs.Comparisons.{Scope}
-use Rattle.it_syntax.specs.ComparisonLines.{scope_of}
-use Rattle.it_syntax.specs.ComparisonReading.{read_comparison}
-use Rattle.it_syntax.specs.Conditions.{markov_text, indep_text, func_text}
-use Rattle.it_syntax.specs.ConditionReading.{pointed, read_of, behind_divider, spare, read_spare, if_divided, member_then, read_members, with_sets, read_chain, read_bar, read_independence, read_function, read_plain, read_condition}
-use Rattle.it_syntax.specs.Givens.{Condition, Related, Chain, Independence, Function, AreSetsOf, IsConditionOf}
+use Rattle.it_syntax.specs.NamesViews.{NamesView}
+use Rattle.it_syntax.specs.WrittenAtoms.{Environment, is_measure}
+use Rattle.it_syntax.specs.WrittenRelations.{Scope}
+use Rattle.it_syntax.specs.Scopes.{scope_of}
+use Rattle.it_syntax.specs.RelationReading.{read_relation}
+use Rattle.it_syntax.specs.WrittenGivens.{markov_text, indep_text, func_text}
+use Rattle.it_syntax.specs.GivenReading.{arrow, read_of, behind_divider, spare, read_spare, if_divided, member_then, read_members, with_sets, read_chain, read_bar, read_independence, read_function, read_plain, read_given}
+use Rattle.it_syntax.specs.Givens.{GivenView, Relation, Markov, Independent, Function, AreSetsOf, IsGivenOf}
 use Rattle.it_syntax.specs.Lines.{to_end}
-use Rattle.it_syntax.specs.Reading.{Reads, ◌>>=◌, read_list, divided, line_end}
+use Rattle.it_syntax.specs.AtomReading.{Reads, ◌>>=◌, read_list, semicolon, line_end}
 use Rattle.it_syntax.proofs.LimitLemmas.{Sure, sure_bind, Any, any, Knows, IsBelow, some_sets, list_sure}
-use Rattle.it_syntax.proofs.ComparisonLimits.{Covers, scope_covers, IsWithinLimits, comparison_sure}
+use Rattle.it_syntax.proofs.RelationLimits.{Covers, scope_covers, IsWithinLimits, relation_line_sure}
 
 -- at most so many sets of n variables
 abbrev AreFew : ℕ → ℕ → List ℕ × List Letter → Type 0
@@ -48,8 +48,8 @@ unfolding read_members
 members_sure env n zero k d ls = divided_sure n zero (read_spare env) (spare_sure (AreFew n zero) env) (behind_divider d ls) ls
 members_sure env n (suc most) k d ls = divided_sure n (suc most) (member_then (read_members most d env) env) (member_sure env n most k (read_members most d env) (members_sure env n most k d)) (behind_divider d ls) ls
 
-abbrev IsMet : ℕ → ℕ → Condition × List Letter → Type 0
-IsMet n m y = IsConditionOf n m y.0
+abbrev IsMet : ℕ → ℕ → GivenView × List Letter → Type 0
+IsMet n m y = IsGivenOf n m y.0
 
 abbrev AreBetween : ℕ → ℕ → List ℕ × List Letter → Type 0
 AreBetween n least x = AreSetsOf n least 16 x.0
@@ -69,12 +69,12 @@ list_first Q env n k f ls h = sure_bind (IsBelow (2 ^ n)) Q (read_list env ls) f
 chain_sure : (env : Environment) (n m : ℕ) → Knows env n → (ls : List Letter) → Sure (IsMet n m) (read_chain env ls)
 unfolding read_chain
 chain_sure env n m k ls =
-    list_first (IsMet n m) env n k (λ a. pointed a.1 >>= λ first. read_list env first >>= λ b. pointed b.1 >>= λ second. read_list env second >>= λ c. with_sets (a.0 ∷ b.0 ∷ c.0 ∷ []) (read_members 13 Arrows env c.1) >>= λ sets. Ok (Chain sets.0, sets.1)) ls
-    (λ a ha. sure_bind Any (IsMet n m) (pointed a.1) (λ first. read_list env first >>= λ b. pointed b.1 >>= λ second. read_list env second >>= λ c. with_sets (a.0 ∷ b.0 ∷ c.0 ∷ []) (read_members 13 Arrows env c.1) >>= λ sets. Ok (Chain sets.0, sets.1)) (any (pointed a.1))
-    (λ first u. list_first (IsMet n m) env n k (λ b. pointed b.1 >>= λ second. read_list env second >>= λ c. with_sets (a.0 ∷ b.0 ∷ c.0 ∷ []) (read_members 13 Arrows env c.1) >>= λ sets. Ok (Chain sets.0, sets.1)) first
-    (λ b hb. sure_bind Any (IsMet n m) (pointed b.1) (λ second. read_list env second >>= λ c. with_sets (a.0 ∷ b.0 ∷ c.0 ∷ []) (read_members 13 Arrows env c.1) >>= λ sets. Ok (Chain sets.0, sets.1)) (any (pointed b.1))
-    (λ second v. list_first (IsMet n m) env n k (λ c. with_sets (a.0 ∷ b.0 ∷ c.0 ∷ []) (read_members 13 Arrows env c.1) >>= λ sets. Ok (Chain sets.0, sets.1)) second
-    (λ c hc. sure_bind (AreBetween n 3) (IsMet n m) (with_sets (a.0 ∷ b.0 ∷ c.0 ∷ []) (read_members 13 Arrows env c.1)) (λ sets. Ok (Chain sets.0, sets.1)) (three_sure env n k a.0 b.0 c.0 ha hb hc c.1) (λ sets hs. hs))))))
+    list_first (IsMet n m) env n k (λ a. arrow a.1 >>= λ first. read_list env first >>= λ b. arrow b.1 >>= λ second. read_list env second >>= λ c. with_sets (a.0 ∷ b.0 ∷ c.0 ∷ []) (read_members 13 Arrows env c.1) >>= λ sets. Ok (Markov sets.0, sets.1)) ls
+    (λ a ha. sure_bind Any (IsMet n m) (arrow a.1) (λ first. read_list env first >>= λ b. arrow b.1 >>= λ second. read_list env second >>= λ c. with_sets (a.0 ∷ b.0 ∷ c.0 ∷ []) (read_members 13 Arrows env c.1) >>= λ sets. Ok (Markov sets.0, sets.1)) (any (arrow a.1))
+    (λ first u. list_first (IsMet n m) env n k (λ b. arrow b.1 >>= λ second. read_list env second >>= λ c. with_sets (a.0 ∷ b.0 ∷ c.0 ∷ []) (read_members 13 Arrows env c.1) >>= λ sets. Ok (Markov sets.0, sets.1)) first
+    (λ b hb. sure_bind Any (IsMet n m) (arrow b.1) (λ second. read_list env second >>= λ c. with_sets (a.0 ∷ b.0 ∷ c.0 ∷ []) (read_members 13 Arrows env c.1) >>= λ sets. Ok (Markov sets.0, sets.1)) (any (arrow b.1))
+    (λ second v. list_first (IsMet n m) env n k (λ c. with_sets (a.0 ∷ b.0 ∷ c.0 ∷ []) (read_members 13 Arrows env c.1) >>= λ sets. Ok (Markov sets.0, sets.1)) second
+    (λ c hc. sure_bind (AreBetween n 3) (IsMet n m) (with_sets (a.0 ∷ b.0 ∷ c.0 ∷ []) (read_members 13 Arrows env c.1)) (λ sets. Ok (Markov sets.0, sets.1)) (three_sure env n k a.0 b.0 c.0 ha hb hc c.1) (λ sets hs. hs))))))
 
 bar_sure : (env : Environment) (n : ℕ) → Knows env n → (ls : List Letter) → Sure (IsBelow (2 ^ n)) (read_bar env ls)
 unfolding read_bar
@@ -85,11 +85,11 @@ bar_sure env n k (l ∷ ls) = some_sets n
 independence_sure : (env : Environment) (n m : ℕ) → Knows env n → (ls : List Letter) → Sure (IsMet n m) (read_independence env ls)
 unfolding read_independence
 independence_sure env n m k ls =
-    list_first (IsMet n m) env n k (λ a. divided a.1 >>= λ first. read_list env first >>= λ b. with_sets (a.0 ∷ b.0 ∷ []) (read_members 14 Semicolons env b.1) >>= λ sets. read_bar env sets.1 >>= λ w. Ok (Independence sets.0 w.0, w.1)) ls
-    (λ a ha. sure_bind Any (IsMet n m) (divided a.1) (λ first. read_list env first >>= λ b. with_sets (a.0 ∷ b.0 ∷ []) (read_members 14 Semicolons env b.1) >>= λ sets. read_bar env sets.1 >>= λ w. Ok (Independence sets.0 w.0, w.1)) (any (divided a.1))
-    (λ first u. list_first (IsMet n m) env n k (λ b. with_sets (a.0 ∷ b.0 ∷ []) (read_members 14 Semicolons env b.1) >>= λ sets. read_bar env sets.1 >>= λ w. Ok (Independence sets.0 w.0, w.1)) first
-    (λ b hb. sure_bind (AreBetween n 2) (IsMet n m) (with_sets (a.0 ∷ b.0 ∷ []) (read_members 14 Semicolons env b.1)) (λ sets. read_bar env sets.1 >>= λ w. Ok (Independence sets.0 w.0, w.1)) (two_sure env n k a.0 b.0 ha hb b.1)
-    (λ sets hs. sure_bind (IsBelow (2 ^ n)) (IsMet n m) (read_bar env sets.1) (λ w. Ok (Independence sets.0 w.0, w.1)) (bar_sure env n k sets.1) (λ w hw. (hs, hw))))))
+    list_first (IsMet n m) env n k (λ a. semicolon a.1 >>= λ first. read_list env first >>= λ b. with_sets (a.0 ∷ b.0 ∷ []) (read_members 14 Semicolons env b.1) >>= λ sets. read_bar env sets.1 >>= λ w. Ok (Independent sets.0 w.0, w.1)) ls
+    (λ a ha. sure_bind Any (IsMet n m) (semicolon a.1) (λ first. read_list env first >>= λ b. with_sets (a.0 ∷ b.0 ∷ []) (read_members 14 Semicolons env b.1) >>= λ sets. read_bar env sets.1 >>= λ w. Ok (Independent sets.0 w.0, w.1)) (any (semicolon a.1))
+    (λ first u. list_first (IsMet n m) env n k (λ b. with_sets (a.0 ∷ b.0 ∷ []) (read_members 14 Semicolons env b.1) >>= λ sets. read_bar env sets.1 >>= λ w. Ok (Independent sets.0 w.0, w.1)) first
+    (λ b hb. sure_bind (AreBetween n 2) (IsMet n m) (with_sets (a.0 ∷ b.0 ∷ []) (read_members 14 Semicolons env b.1)) (λ sets. read_bar env sets.1 >>= λ w. Ok (Independent sets.0 w.0, w.1)) (two_sure env n k a.0 b.0 ha hb b.1)
+    (λ sets hs. sure_bind (IsBelow (2 ^ n)) (IsMet n m) (read_bar env sets.1) (λ w. Ok (Independent sets.0 w.0, w.1)) (bar_sure env n k sets.1) (λ w hw. (hs, hw))))))
 
 function_sure : (env : Environment) (n m : ℕ) → Knows env n → (ls : List Letter) → Sure (IsMet n m) (read_function env ls)
 unfolding read_function
@@ -100,25 +100,25 @@ function_sure env n m k ls =
 
 plain_sure : (s : Scope) (n m : ℕ) → Covers s n m → (ls : List Letter) → Sure (IsMet n m) (read_plain s ls)
 unfolding read_plain
-plain_sure s n m k ls = sure_bind (IsWithinLimits n m) (IsMet n m) (read_comparison s ls) (λ y. Ok (Related y.0, y.1)) (comparison_sure s n m k ls) (λ y hy. record { few = hy.0; left = hy.1; right = hy.2 })
+plain_sure s n m k ls = sure_bind (IsWithinLimits n m) (IsMet n m) (read_relation s ls) (λ y. Ok (Relation y.0, y.1)) (relation_line_sure s n m k ls) (λ y hy. record { few = hy.0; left = hy.1; right = hy.2 })
 
-condition_sure : (s : Scope) (n m : ℕ) → Covers s n m → (ls : List Letter) → Sure (IsMet n m) (read_condition s ls)
-unfolding read_condition
-condition_sure s n m k (Word w ∷ ls) = chosen (bytes_eq w markov_text) (bytes_eq w indep_text) (bytes_eq w func_text)
+given_line_sure : (s : Scope) (n m : ℕ) → Covers s n m → (ls : List Letter) → Sure (IsMet n m) (read_given s ls)
+unfolding read_given
+given_line_sure s n m k (Word w ∷ ls) = chosen (bytes_eq w markov_text) (bytes_eq w indep_text) (bytes_eq w func_text)
   where
     chosen : (h i j : Bool) → Sure (IsMet n m) (cond h (read_chain s.variables ls) (cond i (read_independence s.variables ls) (cond j (read_function s.variables ls) (read_plain s (Word w ∷ ls)))))
     chosen true i j = chain_sure s.variables n m k.variables ls
     chosen false true j = independence_sure s.variables n m k.variables ls
     chosen false false true = function_sure s.variables n m k.variables ls
     chosen false false false = plain_sure s n m k (Word w ∷ ls)
-condition_sure s n m k [] = plain_sure s n m k []
-condition_sure s n m k (l ∷ ls) = plain_sure s n m k (l ∷ ls)
+given_line_sure s n m k [] = plain_sure s n m k []
+given_line_sure s n m k (l ∷ ls) = plain_sure s n m k (l ∷ ls)
 
 -- a constraint that is read up to its line's end keeps the limits
-pub condition_limited : (v : Vocabulary) (ls r : List Letter) (y : Condition) → to_end (read_condition (scope_of v false)) ls ≡ Ok (y, r) → IsConditionOf (length v.variables) (length v.rates) y
+pub given_limited : (v : NamesView) (ls r : List Letter) (y : GivenView) → to_end (read_given (scope_of v false)) ls ≡ Ok (y, r) → IsGivenOf (length v.variables) (length v.rates) y
 unfolding to_end
-condition_limited v ls r y e =
+given_limited v ls r y e =
     let n = length v.variables in
     let m = length v.rates in
-    let f = read_condition (scope_of v false) in
-    subst (Sure (IsMet n m)) e (sure_bind (IsMet n m) (IsMet n m) (f ls) (λ x. line_end x.1 >>= λ e. Ok (x.0, e.1)) (condition_sure (scope_of v false) n m (scope_covers v false) ls) (λ x hx. sure_bind Any (IsMet n m) (line_end x.1) (λ e. Ok (x.0, e.1)) (any (line_end x.1)) (λ e u. hx)))
+    let f = read_given (scope_of v false) in
+    subst (Sure (IsMet n m)) e (sure_bind (IsMet n m) (IsMet n m) (f ls) (λ x. line_end x.1 >>= λ e. Ok (x.0, e.1)) (given_line_sure (scope_of v false) n m (scope_covers v false) ls) (λ x hx. sure_bind Any (IsMet n m) (line_end x.1) (λ e. Ok (x.0, e.1)) (any (line_end x.1)) (λ e u. hx)))

@@ -7,9 +7,10 @@ use Rattle.it_syntax.specs.declared.rest.Stop.{Stop}
 use Rattle.it_syntax.specs.declared.rest.Stop.TheVariants as stops
 use Rattle.it_syntax.specs.Letters.{Letter, Sym}
 use Rattle.it_syntax.specs.Gives.{StopsAs}
-use Rattle.it_syntax.specs.Reading.{Reads, ◌>>=◌, after_sign, with_terms}
-use Rattle.it_syntax.specs.ComparisonReading.{read_term, read_terms, read_over}
-use Rattle.it_syntax.specs.Comparisons.{Scope}
+use Rattle.it_syntax.specs.AtomReading.{Reads, ◌>>=◌}
+use Rattle.it_syntax.specs.ReaderSteps.{after_sign, with_terms}
+use Rattle.it_syntax.specs.RelationReading.{read_term, read_terms, read_over}
+use Rattle.it_syntax.specs.WrittenRelations.{Scope}
 
 abbrev one_more : ℕ → Scope → Bool → List Letter → Reads (List Term)
 one_more n scope b ls = read_term scope b ls >>= λ t. read_terms n scope t.1 >>= λ ts. Ok (t.0 ∷ ts.0, ts.1)

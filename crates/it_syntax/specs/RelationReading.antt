@@ -9,19 +9,19 @@ use Rattle.it_syntax.specs.declared.types.Term.{Term}
 use Rattle.it_syntax.specs.declared.types.Sign.{Sign}
 use Rattle.it_syntax.specs.declared.types.Sign.TheVariants.{AtLeast, AtMost, Equal}
 use Rattle.it_syntax.specs.Letters.{Letter, Word, Number, Sym}
-use Rattle.it_syntax.specs.Meaning.{Stated}
-use Rattle.it_syntax.specs.Trees.{is_measure}
-use Rattle.it_syntax.specs.Comparisons.{Scope, most_terms}
-use Rattle.it_syntax.specs.Reading.{Reads, ◌>>=◌, stuck, read_atom, read_sign}
+use Rattle.it_syntax.specs.Meaning.{RelationView}
+use Rattle.it_syntax.specs.WrittenAtoms.{is_measure}
+use Rattle.it_syntax.specs.WrittenRelations.{Scope, most_terms}
+use Rattle.it_syntax.specs.AtomReading.{Reads, ◌>>=◌, no_rule, read_atom, read_sign}
 
 -- a word that may be an unknown rate
-abbrev pub rated : List ℕ → Option ℕ → List Letter → Reads Atom
-rated w (Some i) ls = Ok (Rate i, ls)
-rated w None ls = Err (codes.Name, Word w ∷ ls)
+abbrev pub rate_or_fault : List ℕ → Option ℕ → List Letter → Reads Atom
+rate_or_fault w (Some i) ls = Ok (Rate i, ls)
+rate_or_fault w None ls = Err (codes.Name, Word w ∷ ls)
 
 unfoldable pub read_quantity : Scope → List Letter → Reads Atom
-read_quantity s (Word w ∷ ls) = if is_measure w then read_atom s.variables (Word w ∷ ls) else rated w (s.rates w) ls
-read_quantity s ls = stuck ls
+read_quantity s (Word w ∷ ls) = if is_measure w then read_atom s.variables (Word w ∷ ls) else rate_or_fault w (s.rates w) ls
+read_quantity s ls = no_rule ls
 
 -- what is counted by a number, under a sign
 unfoldable pub after_number : Scope → Bool → ℕ → List Letter → Reads Term
@@ -29,7 +29,7 @@ after_number s minus n (Word w ∷ ls) = do
   q ← read_quantity s (Word w ∷ ls)
   Ok (record { negative = minus; number = n; atom = q.0 }, q.1)
 after_number s minus zero ls = Ok (record { negative = minus; number = 0; atom = Nothing }, ls)
-after_number s minus (suc n) ls = stuck ls
+after_number s minus (suc n) ls = no_rule ls
 
 unfoldable pub read_term : Scope → Bool → List Letter → Reads Term
 read_term s minus (Number n ∷ ls) = after_number s minus n ls
@@ -46,7 +46,7 @@ surplus w None ls = Err (codes.Name, Word w ∷ ls)
 unfoldable pub read_over : Scope → List Letter → Reads (List Term)
 read_over s (Number n ∷ ls) = Err (codes.Many, Number n ∷ ls)
 read_over s (Word w ∷ ls) = if is_measure w then Err (codes.Many, Word w ∷ ls) else surplus w (s.rates w) ls
-read_over s ls = stuck ls
+read_over s ls = no_rule ls
 
 -- further terms, of which n are allowed
 unfoldable pub read_terms : ℕ → Scope → List Letter → Reads (List Term)
@@ -77,10 +77,10 @@ unfoldable pub read_compare : List Letter → Reads Sign
 read_compare (Sym symbols.AtLeast ∷ ls) = Ok (AtLeast, ls)
 read_compare (Sym symbols.AtMost ∷ ls) = Ok (AtMost, ls)
 read_compare (Sym symbols.Equal ∷ ls) = Ok (Equal, ls)
-read_compare ls = stuck ls
+read_compare ls = no_rule ls
 
-unfoldable pub read_comparison : Scope → List Letter → Reads Stated
-read_comparison s ls = do
+unfoldable pub read_relation : Scope → List Letter → Reads RelationView
+read_relation s ls = do
   left ← read_sum most_terms s ls
   sign ← read_compare left.1
   right ← read_sum (most_terms - length left.0) s sign.1

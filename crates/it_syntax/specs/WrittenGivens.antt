@@ -6,9 +6,10 @@ use Rattle.it_syntax.specs.declared.rest.Divider.{Divider}
 use Rattle.it_syntax.specs.declared.rest.Divider.TheVariants.{Arrows, Semicolons}
 use Rattle.it_syntax.specs.declared.types.Symbol.TheVariants.{Arrow, Semicolon, Bar}
 use Rattle.it_syntax.specs.Letters.{Letter, Word, Sym, Marked, clean}
-use Rattle.it_syntax.specs.Trees.{Environment, WrittenList, TermSign, spell_list, list_set, over}
-use Rattle.it_syntax.specs.Comparisons.{Scope, WrittenTerm, Once, RateOf, WrittenComparison, spell_comparison, comparison_of}
-use Rattle.it_syntax.specs.Givens.{Condition, Related, Chain, Independence, Function}
+use Rattle.it_syntax.specs.WrittenAtoms.{Environment, WrittenList, TermSign, spell_list, list_set, mark_surplus}
+use Rattle.it_syntax.specs.WrittenRelations.{Scope, WrittenTerm, Once, RateOf, WrittenRelation, spell_relation, relation_of}
+use Rattle.it_syntax.specs.Givens.{GivenView}
+use Rattle.it_syntax.specs.Givens as given_views
 
 abbrev pub markov_text : List ℕ
 markov_text = 109 ∷ 97 ∷ 114 ∷ 107 ∷ 111 ∷ 118 ∷ []
@@ -33,7 +34,7 @@ is_form_first o t = false
 
 -- a relation that doesn't begin so
 pub record PlainRelation : Type 0 where
-  pub relation : WrittenComparison
+  pub relation : WrittenRelation
   pub plain : is_form_first relation.left.sign relation.left.first ≡ false
 
 pub record WrittenChain : Type 0 where
@@ -52,11 +53,11 @@ pub record WrittenFunction : Type 0 where
   pub value : WrittenList
   pub argument : WrittenList
 
-pub data WrittenCondition : Type 0 where
-  Compared : (relation : PlainRelation) → WrittenCondition
-  Chained : (chain : WrittenChain) → WrittenCondition
-  Separate : (independence : WrittenIndependence) → WrittenCondition
-  Determined : (function : WrittenFunction) → WrittenCondition
+pub data WrittenGiven : Type 0 where
+  Relation : (relation : PlainRelation) → WrittenGiven
+  Markov : (chain : WrittenChain) → WrittenGiven
+  Independent : (independence : WrittenIndependence) → WrittenGiven
+  Function : (function : WrittenFunction) → WrittenGiven
 
 -- what stands between the members of a chain, and of an independence
 abbrev pub divider_letter : Divider → Letter
@@ -66,7 +67,7 @@ divider_letter Semicolons = Sym Semicolon
 -- further members, of which n are allowed: 16 members in all
 abbrev pub spell_members : ℕ → Divider → Environment → List WrittenList → Marked → Marked
 spell_members n d env [] k = k
-spell_members zero d env (l ∷ ls) k = clean (divider_letter d) ∷ over (spell_list env l (spell_members zero d env ls k))
+spell_members zero d env (l ∷ ls) k = clean (divider_letter d) ∷ mark_surplus (spell_list env l (spell_members zero d env ls k))
 spell_members (suc n) d env (l ∷ ls) k = clean (divider_letter d) ∷ spell_list env l (spell_members n d env ls k)
 
 -- three members stand before the further ones
@@ -84,11 +85,11 @@ spell_independence env x k = spell_list env x.first (clean (Sym Semicolon) ∷ s
 abbrev pub spell_function : Environment → WrittenFunction → Marked → Marked
 spell_function env x k = spell_list env x.value (clean (Word of_text) ∷ spell_list env x.argument k)
 
-abbrev pub spell_condition : Scope → WrittenCondition → Marked → Marked
-spell_condition s (Compared x) k = spell_comparison s x.relation k
-spell_condition s (Chained x) k = clean (Word markov_text) ∷ spell_chain s.variables x k
-spell_condition s (Separate x) k = clean (Word indep_text) ∷ spell_independence s.variables x k
-spell_condition s (Determined x) k = clean (Word func_text) ∷ spell_function s.variables x k
+abbrev pub spell_given : Scope → WrittenGiven → Marked → Marked
+spell_given s (Relation x) k = spell_relation s x.relation k
+spell_given s (Markov x) k = clean (Word markov_text) ∷ spell_chain s.variables x k
+spell_given s (Independent x) k = clean (Word indep_text) ∷ spell_independence s.variables x k
+spell_given s (Function x) k = clean (Word func_text) ∷ spell_function s.variables x k
 
 -- ---- what a tree says
 abbrev pub sets_of : Environment → List WrittenList → List ℕ
@@ -100,17 +101,17 @@ abbrev pub bar_set : Environment → Option WrittenList → ℕ
 bar_set env None = 0
 bar_set env (Some c) = list_set env c
 
-abbrev pub chain_of : Environment → WrittenChain → Condition
-chain_of env x = Chain (list_set env x.first ∷ list_set env x.second ∷ list_set env x.third ∷ sets_of env x.more)
+abbrev pub chain_of : Environment → WrittenChain → GivenView
+chain_of env x = given_views.Markov (list_set env x.first ∷ list_set env x.second ∷ list_set env x.third ∷ sets_of env x.more)
 
-abbrev pub independence_of : Environment → WrittenIndependence → Condition
-independence_of env x = Independence (list_set env x.first ∷ list_set env x.second ∷ sets_of env x.more) (bar_set env x.given)
+abbrev pub independence_of : Environment → WrittenIndependence → GivenView
+independence_of env x = given_views.Independent (list_set env x.first ∷ list_set env x.second ∷ sets_of env x.more) (bar_set env x.given)
 
-abbrev pub function_of : Environment → WrittenFunction → Condition
-function_of env x = Function (list_set env x.value) (list_set env x.argument)
+abbrev pub function_of : Environment → WrittenFunction → GivenView
+function_of env x = given_views.Function (list_set env x.value) (list_set env x.argument)
 
-abbrev pub condition_of : Scope → WrittenCondition → Condition
-condition_of s (Compared x) = Related (comparison_of s x.relation)
-condition_of s (Chained x) = chain_of s.variables x
-condition_of s (Separate x) = independence_of s.variables x
-condition_of s (Determined x) = function_of s.variables x
+abbrev pub given_of : Scope → WrittenGiven → GivenView
+given_of s (Relation x) = given_views.Relation (relation_of s x.relation)
+given_of s (Markov x) = chain_of s.variables x
+given_of s (Independent x) = independence_of s.variables x
+given_of s (Function x) = function_of s.variables x

@@ -8,9 +8,9 @@ use Rattle.it_syntax.specs.declared.types.Atom.TheVariants.{Nothing, Rate}
 use Rattle.it_syntax.specs.declared.types.Term.{Term}
 use Rattle.it_syntax.specs.declared.types.Sign.{Sign}
 use Rattle.it_syntax.specs.declared.types.Sign.TheVariants.{AtLeast, AtMost, Equal}
-use Rattle.it_syntax.specs.Meaning.{Stated}
+use Rattle.it_syntax.specs.Meaning.{RelationView}
 use Rattle.it_syntax.specs.Letters.{Letter, Word, Number, Sym, Marked, clean}
-use Rattle.it_syntax.specs.Trees.{Environment, WrittenAtom, TermSign, is_measure, unknown, spell_atom, sign_letter, spell_sign, over, index_or, atom_of, is_negative, is_minus}
+use Rattle.it_syntax.specs.WrittenAtoms.{Environment, WrittenAtom, TermSign, is_measure, unknown, spell_atom, sign_letter, spell_sign, mark_surplus, index_or, atom_of, is_negative, is_minus}
 
 -- which variable a name is, and which rate, where rates may stand
 pub record Scope : Type 0 where
@@ -38,7 +38,7 @@ pub record WrittenSum : Type 0 where
   pub first : WrittenTerm
   pub more : List (TermSign × WrittenTerm)
 
-pub record WrittenComparison : Type 0 where
+pub record WrittenRelation : Type 0 where
   pub left : WrittenSum
   pub sign : Sign
   pub right : WrittenSum
@@ -56,12 +56,12 @@ spell_term s (Times n q) k = clean (Number n) ∷ spell_quantity s q k
 -- further terms, of which n are allowed
 abbrev pub spell_terms : ℕ → Scope → List (TermSign × WrittenTerm) → Marked → Marked
 spell_terms n s [] k = k
-spell_terms zero s (t ∷ ts) k = clean (sign_letter t.0) ∷ over (spell_term s t.1 (spell_terms zero s ts k))
+spell_terms zero s (t ∷ ts) k = clean (sign_letter t.0) ∷ mark_surplus (spell_term s t.1 (spell_terms zero s ts k))
 spell_terms (suc n) s (t ∷ ts) k = clean (sign_letter t.0) ∷ spell_term s t.1 (spell_terms n s ts k)
 
 -- a first term and further ones, n in all
 abbrev pub spell_counted : ℕ → Scope → WrittenTerm → List (TermSign × WrittenTerm) → Marked → Marked
-spell_counted zero s t ts k = over (spell_term s t (spell_terms zero s ts k))
+spell_counted zero s t ts k = mark_surplus (spell_term s t (spell_terms zero s ts k))
 spell_counted (suc n) s t ts k = spell_term s t (spell_terms n s ts k)
 
 abbrev pub spell_sum : ℕ → Scope → WrittenSum → Marked → Marked
@@ -79,8 +79,8 @@ most_terms = 256
 abbrev pub number_of_terms : WrittenSum → ℕ
 number_of_terms e = suc (length e.more)
 
-abbrev pub spell_comparison : Scope → WrittenComparison → Marked → Marked
-spell_comparison s x k = spell_sum most_terms s x.left (clean (compare_letter x.sign) ∷ spell_sum (most_terms - number_of_terms x.left) s x.right k)
+abbrev pub spell_relation : Scope → WrittenRelation → Marked → Marked
+spell_relation s x k = spell_sum most_terms s x.left (clean (compare_letter x.sign) ∷ spell_sum (most_terms - number_of_terms x.left) s x.right k)
 
 -- ---- what a tree says; 0 stands in for a name that is unknown, which is marked
 abbrev pub quantity_of : Scope → WrittenQuantity → Atom
@@ -100,5 +100,5 @@ terms_of s (t ∷ ts) = term_of s (is_negative t.0) t.1 ∷ terms_of s ts
 abbrev pub sum_of : Scope → WrittenSum → List Term
 sum_of s e = term_of s (is_minus e.sign) e.first ∷ terms_of s e.more
 
-abbrev pub comparison_of : Scope → WrittenComparison → Stated
-comparison_of s x = record { left = sum_of s x.left; sign = x.sign; right = sum_of s x.right }
+abbrev pub relation_of : Scope → WrittenRelation → RelationView
+relation_of s x = record { left = sum_of s x.left; sign = x.sign; right = sum_of s x.right }

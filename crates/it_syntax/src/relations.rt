@@ -1,13 +1,14 @@
 //! The reader of a relation between two sums.
 ghost use Rattle.std.specs.Prelude.{◌≡◌, ◌≤◌, length, IfOk, IfErr};
-ghost use Rattle.it_syntax.specs.Comparisons.{spell_comparison};
-ghost use Rattle.it_syntax.specs.ComparisonLines.{scope_of, IsComparison};
-ghost use Rattle.it_syntax.specs.ComparisonReading.{read_compare, read_comparison};
+ghost use Rattle.it_syntax.specs.WrittenRelations.{spell_relation};
+ghost use Rattle.it_syntax.specs.RelationLines.{IsRelation};
+ghost use Rattle.it_syntax.specs.Scopes.{scope_of};
+ghost use Rattle.it_syntax.specs.RelationReading.{read_compare, read_relation};
 ghost use Rattle.it_syntax.specs.Givens.{IsRelationOf};
 ghost use Rattle.it_syntax.specs.Gives.{Gives, GivesBy, GivesAll, left};
 ghost use Rattle.it_syntax.specs.Lines.{IsFirstFault, to_end};
-ghost use Rattle.it_syntax.specs.Meaning.{stated};
-ghost use Rattle.it_syntax.specs.Reading.{line_end};
+ghost use Rattle.it_syntax.specs.Meaning.{relation_view};
+ghost use Rattle.it_syntax.specs.AtomReading.{line_end};
 ghost use Rattle.it_syntax.specs.Spans.{InLine};
 
 use crate::names::Names;
@@ -19,7 +20,7 @@ use std::alloc::Global;
 /// The most terms of a relation, both sides together.
 const MOST_TERMS: usize = 256;
 
-#[tactic(auto, unfolding(crate::specs::ComparisonReading::read_compare))]
+#[tactic(auto, unfolding(crate::specs::RelationReading::read_compare))]
 fn compare(rest: &mut Rest<'_>) -> Result<Sign, Stop>
     ensures { Gives result (left rest.new) (read_compare (left rest.old)) }
 {
@@ -42,14 +43,14 @@ fn compare(rest: &mut Rest<'_>) -> Result<Sign, Stop>
 }
 
 /// A relation.
-#[tactic(auto, unfolding(crate::specs::ComparisonReading::read_comparison))]
+#[tactic(auto, unfolding(crate::specs::RelationReading::read_relation))]
 pub fn relation_part(
     alloc: Global,
     rest: &mut Rest<'_>,
     names: &Names,
     rates: bool,
 ) -> Result<Relation, Stop>
-    ensures { GivesBy stated result (left rest.new) (read_comparison (scope_of names.now rates) (left rest.old)) }
+    ensures { GivesBy relation_view result (left rest.new) (read_relation (scope_of names.now rates) (left rest.old)) }
 {
     let left = sum(alloc, MOST_TERMS, rest, names, rates)?;
     let sign = compare(rest)?;
@@ -62,7 +63,7 @@ pub fn relation_part(
 }
 
 /// Whether the line ends there.
-#[tactic(auto, unfolding(crate::specs::Reading::line_end))]
+#[tactic(auto, unfolding(crate::specs::AtomReading::line_end))]
 pub fn line_end(rest: &Rest<'_>) -> Result<(), Stop>
     ensures { GivesAll (λ x. x) result (left rest.now) (line_end (left rest.now)) }
 {
@@ -81,7 +82,7 @@ pub fn relation_to_end(
     names: &Names,
     rates: bool,
 ) -> Result<Relation, Stop>
-    ensures { GivesAll stated result (left rest.new) (to_end (read_comparison (scope_of names.now rates)) (left rest.old)) }
+    ensures { GivesAll relation_view result (left rest.new) (to_end (read_relation (scope_of names.now rates)) (left rest.old)) }
 {
     let relation = relation_part(alloc, rest, names, rates)?;
     line_end(rest)?;
@@ -108,9 +109,9 @@ pub fn relation(
     requires short { length line.now ≤ 1048577 }
     requires inside { InLine line.now tokens.now.tokens.items }
     requires within { from ≤ length tokens.now.tokens.items }
-    ensures read { IfOk result (λ r. IsComparison names.now rates line.now tokens.now from (stated r)) }
-    ensures limits { IfOk result (λ r. IsRelationOf (length names.now.variables) (length names.now.rates) (stated r)) }
-    ensures fault { IfErr result (IsFirstFault (spell_comparison (scope_of names.now rates)) line.now tokens.now from) }
+    ensures read { IfOk result (λ r. IsRelation names.now rates line.now tokens.now from (relation_view r)) }
+    ensures limits { IfOk result (λ r. IsRelationOf (length names.now.variables) (length names.now.rates) (relation_view r)) }
+    ensures fault { IfErr result (IsFirstFault (spell_relation (scope_of names.now rates)) line.now tokens.now from) }
 {
     let all = Rest {
         line,

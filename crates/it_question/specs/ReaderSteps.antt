@@ -1,0 +1,24 @@
+-- What the readers' own functions say of their steps. No public clause cites it.
+use Rattle.std.specs.Prelude.{◌≡◌, ℕ, ◌≤◌, List, ◌++◌, length, ◌==◌, Bool, not, [], ◌∷◌, None, ◌⊎◌}
+use Rattle.it_question.specs.Questions.{OwnLinesView, VerbView, Prove, Eliminate, Contain}
+use Rattle.it_syntax.specs.Misspellings.{SpellsUntil}
+use Rattle.it_question.specs.Lines.{plain_text, TokenLine, IsLine, HasTokens}
+
+-- what the number of lines of a question takes
+abbrev pub FewLines : OwnLinesView → Type 0
+FewLines own = (length own.givens ≤ 64) × (length own.rows ≤ 64)
+
+abbrev pub FewLinesOf : VerbView → Type 0
+FewLinesOf (Prove r) = Unit {0}
+FewLinesOf (Eliminate rates) = Unit {0}
+FewLinesOf (Contain first second tries) = FewLines first.lines × FewLines second.lines × (length tries ≤ 64)
+
+-- any byte but one
+unfoldable pub is_other : ℕ → ℕ → Bool
+is_other stop b = not (b == stop)
+
+-- a line was put behind others, if it has tokens
+abbrev pub Added : ℕ → List ℕ → List TokenLine → List TokenLine → Type 0
+Added n bytes old new =
+    (SpellsUntil 0 (plain_text bytes) [] None × (new ≡ old))
+    ⊎ ((l : TokenLine) × (new ≡ old ++ l ∷ []) × IsLine n bytes l × HasTokens l)

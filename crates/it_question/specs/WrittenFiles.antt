@@ -1,0 +1,53 @@
+-- How the verb's lines, questions and whole files are spelled, and what they ask.
+use Rattle.std.specs.Prelude.{ℕ, ◌-◌, true, List, [], ◌∷◌, map}
+use Rattle.it_syntax.specs.NamesViews.{NamesView}
+use Rattle.it_syntax.specs.Letters.{Word, End, Marked, clean}
+use Rattle.it_syntax.specs.WrittenRelations.{spell_relation, relation_of}
+use Rattle.it_syntax.specs.Scopes.{scope_of}
+use Rattle.it_question.specs.Lines.{file_end}
+use Rattle.it_question.specs.Keywords.{vars_text, rates_text, prove_text, eliminate_text}
+use Rattle.it_question.specs.Questions.{VerbView, BodyView}
+use Rattle.it_question.specs.WrittenQuestions.{most_questions, most_variables, most_rates, most_lines, WrittenVerb, Eliminate, Contain, Prove, WrittenQuestion}
+use Rattle.it_question.specs.NewNames.{Rate, Variable, no_names, spell_new_names, new_names_of, spell_names_line, names_line_of}
+use Rattle.it_question.specs.WrittenLines.{limit_mark, spell_own, own_of, spell_distinct, distinct_of, rates_env}
+use Rattle.it_question.specs.WrittenRegions.{givens_left, rows_left, spell_containment, containment_of}
+use Rattle.it_question.specs.Questions as views
+
+abbrev pub spell_verb : ℕ → ℕ → NamesView → WrittenVerb → Marked → Marked
+spell_verb g r v (Prove x) k = clean (Word prove_text) ∷ spell_relation (scope_of v true) x (clean End ∷ k)
+spell_verb g r v (Eliminate l) k = clean (Word eliminate_text) ∷ spell_distinct (rates_env v) l (clean End ∷ k)
+spell_verb g r v (Contain x) k = spell_containment g r v x k
+
+abbrev pub verb_of : NamesView → WrittenVerb → VerbView
+verb_of v (Prove x) = views.Prove (relation_of (scope_of v true) x)
+verb_of v (Eliminate l) = views.Eliminate (distinct_of (rates_env v) l)
+verb_of v (Contain x) = containment_of v x
+
+abbrev pub names_of : WrittenQuestion → NamesView
+names_of x = names_line_of Rate (new_names_of Variable no_names x.variables) x.rates
+
+-- behind `vars`
+abbrev pub spell_question : WrittenQuestion → Marked → Marked
+spell_question x k =
+    let variables = new_names_of Variable no_names x.variables in
+    let names = names_of x in
+    let own = own_of names x.own in
+    spell_new_names Variable most_variables no_names x.variables
+    (clean End ∷ spell_names_line Rate most_rates rates_text variables x.rates
+    (spell_own most_lines most_lines names x.own
+    (spell_verb (givens_left most_lines own) (rows_left most_lines own) names x.verb k)))
+
+abbrev pub question_of : WrittenQuestion → BodyView
+question_of x = let names = names_of x in record { names = names; lines = own_of names x.own; verb = verb_of names x.verb }
+
+-- questions, of which n are allowed
+abbrev pub spell_questions : ℕ → List WrittenQuestion → Marked → Marked
+spell_questions n [] k = k
+spell_questions n (x ∷ xs) k = (Word vars_text, limit_mark n) ∷ spell_question x (spell_questions (n - 1) xs k)
+
+abbrev pub questions_of : List WrittenQuestion → List BodyView
+questions_of xs = map question_of xs
+
+-- a whole file, up to its end
+abbrev pub spell_file : List WrittenQuestion → Marked
+spell_file xs = spell_questions most_questions xs (clean file_end ∷ [])

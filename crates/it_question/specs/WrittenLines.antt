@@ -1,0 +1,61 @@
+-- How `given`, `row` and `eliminate` lines are spelled, and what they say. Where g and r stand so many `given` and `row` lines are
+-- allowed. Each rate of an `eliminate` line is named once: `Name` stands against a name that is no rate, `Twice` against one that was `seen`.
+use Rattle.std.specs.Prelude.{ℕ, zero, suc, ◌-◌, ◌==◌, Bool, true, false, List, [], ◌∷◌, ◌++◌, map, Option, Some, None, if◌then◌else◌}
+use Rattle.std.specs.List.{list_any}
+use Rattle.it_syntax.specs.declared.types.Symbol.TheVariants.{Comma}
+use Rattle.it_syntax.specs.declared.types.Code.{Code}
+use Rattle.it_syntax.specs.NamesViews.{NamesView, index_of}
+use Rattle.it_syntax.specs.Letters.{Word, Sym, End, Marked, clean}
+use Rattle.it_syntax.specs.WrittenAtoms.{Environment, WrittenList, is_measure, index_or}
+use Rattle.it_syntax.specs.WrittenRelations.{spell_relation, relation_of}
+use Rattle.it_syntax.specs.Scopes.{scope_of}
+use Rattle.it_syntax.specs.WrittenGivens.{spell_given, given_of}
+use Rattle.it_question.specs.Keywords.{given_text, row_text}
+use Rattle.it_question.specs.Questions.{OwnLinesView}
+use Rattle.it_question.specs.WrittenQuestions.{RowLine, GivenLine, WrittenLine}
+use Rattle.it_syntax.specs.declared.types.Code.TheVariants as codes
+
+abbrev pub limit_mark : ℕ → Option Code
+limit_mark zero = Some codes.Many
+limit_mark (suc n) = None
+
+abbrev pub spell_own : ℕ → ℕ → NamesView → List WrittenLine → Marked → Marked
+spell_own g r v [] k = k
+spell_own g r v (GivenLine x ∷ ls) k = (Word given_text, limit_mark g) ∷ spell_given (scope_of v false) x (clean End ∷ spell_own (g - 1) r v ls k)
+spell_own g r v (RowLine x ∷ ls) k = (Word row_text, limit_mark r) ∷ spell_relation (scope_of v true) x (clean End ∷ spell_own g (r - 1) v ls k)
+
+abbrev pub no_lines : OwnLinesView
+no_lines = record { givens = []; rows = [] }
+
+abbrev pub own_of : NamesView → List WrittenLine → OwnLinesView
+own_of v [] = no_lines
+own_of v (GivenLine x ∷ ls) = let own = own_of v ls in record { givens = given_of (scope_of v false) x ∷ own.givens; rows = own.rows }
+own_of v (RowLine x ∷ ls) = let own = own_of v ls in record { givens = own.givens; rows = relation_of (scope_of v true) x ∷ own.rows }
+
+abbrev pub is_among : List ℕ → ℕ → Bool
+is_among seen i = list_any (λ j. j == i) seen
+
+-- against the name of a rate: it may be no name, be unknown or have been named
+abbrev pub once_mark : Bool → List ℕ → Option ℕ → Option Code
+once_mark true seen o = Some codes.Word
+once_mark false seen None = Some codes.Name
+once_mark false seen (Some i) = if is_among seen i then Some codes.Twice else None
+
+abbrev pub spell_once : Environment → List ℕ → List ℕ → Marked → Marked
+spell_once env seen w k = (Word w, once_mark (is_measure w) seen (env w)) ∷ k
+
+abbrev pub spell_once_more : Environment → List ℕ → List (List ℕ) → Marked → Marked
+spell_once_more env seen [] k = k
+spell_once_more env seen (w ∷ ws) k = clean (Sym Comma) ∷ spell_once env seen w (spell_once_more env (seen ++ index_or (env w) ∷ []) ws k)
+
+abbrev pub spell_distinct : Environment → WrittenList → Marked → Marked
+spell_distinct env l k = spell_once env [] l.first (spell_once_more env (index_or (env l.first) ∷ []) l.more k)
+
+abbrev pub indexes_of : Environment → List (List ℕ) → List ℕ
+indexes_of env ws = map (λ w. index_or (env w)) ws
+
+abbrev pub distinct_of : Environment → WrittenList → List ℕ
+distinct_of env l = index_or (env l.first) ∷ indexes_of env l.more
+
+unfoldable pub rates_env : NamesView → Environment
+rates_env v = index_of v.rates

@@ -1,0 +1,53 @@
+-- How the regions of a containment are spelled, and what they say.
+use Rattle.std.specs.Prelude.{ℕ, ◌-◌, min, nat_lt, ◌∷◌, length, Option, Some, None, if◌then◌else◌}
+use Rattle.it_syntax.specs.NamesViews.{NamesView, index_of}
+use Rattle.it_syntax.specs.Letters.{Word, End, Marked, clean}
+use Rattle.it_syntax.specs.WrittenAtoms.{Environment}
+use Rattle.it_syntax.specs.Scopes.{env_of}
+use Rattle.it_question.specs.Keywords.{region_text, aux_text, contain_text}
+use Rattle.it_question.specs.Questions.{OwnLinesView, RegionView, VerbView}
+use Rattle.it_question.specs.WrittenQuestions.{most_variables, most_auxiliaries, most_lines, WrittenRegion, WrittenContainment}
+use Rattle.it_question.specs.NewNames.{Variable, spell_names_line, names_line_of}
+use Rattle.it_question.specs.WrittenLines.{spell_own, own_of}
+use Rattle.it_question.specs.WrittenTries.{unnamed_sets, spell_tries, tries_of}
+use Rattle.it_question.specs.Questions as views
+
+-- how many auxiliaries a region may have beside the question's variables
+abbrev pub auxiliaries_left : NamesView → ℕ
+auxiliaries_left v = min most_auxiliaries (most_variables - length v.variables)
+
+abbrev pub spell_region : ℕ → ℕ → NamesView → WrittenRegion → Marked → Marked
+spell_region g r v x k = clean (Word region_text) ∷ clean End ∷ spell_names_line Variable (auxiliaries_left v) aux_text v x.auxiliaries (spell_own g r (names_line_of Variable v x.auxiliaries) x.own k)
+
+abbrev pub region_of : NamesView → WrittenRegion → RegionView
+region_of v x = let names = names_line_of Variable v x.auxiliaries in record { names = names; auxiliaries = length names.variables - length v.variables; lines = own_of names x.own }
+
+-- a number behind the first n, counted from there
+abbrev pub behind_first : ℕ → Option ℕ → Option ℕ
+behind_first n None = None
+behind_first n (Some i) = if nat_lt i n then None else Some (i - n)
+
+-- which of the auxiliaries of a region a name is: they stand behind the question's variables
+unfoldable pub auxiliary_env : NamesView → NamesView → Environment
+auxiliary_env v names w = behind_first (length v.variables) (index_of names.variables w)
+
+abbrev pub givens_left : ℕ → OwnLinesView → ℕ
+givens_left g own = g - length own.givens
+
+abbrev pub rows_left : ℕ → OwnLinesView → ℕ
+rows_left r own = r - length own.rows
+
+abbrev pub spell_containment : ℕ → ℕ → NamesView → WrittenContainment → Marked → Marked
+spell_containment g r v x k =
+    let first = region_of v x.first in
+    let second = region_of v x.second in
+    spell_region g r v x.first
+    (spell_region (givens_left g first.lines) (rows_left r first.lines) v x.second
+    (spell_tries most_lines (auxiliary_env v second.names) (env_of first.names) (unnamed_sets second.auxiliaries) x.tries
+    (clean (Word contain_text) ∷ clean End ∷ k)))
+
+abbrev pub containment_of : NamesView → WrittenContainment → VerbView
+containment_of v x =
+    let first = region_of v x.first in
+    let second = region_of v x.second in
+    views.Contain first second (tries_of (auxiliary_env v second.names) (env_of first.names) (unnamed_sets second.auxiliaries) x.tries)

@@ -1,0 +1,23 @@
+-- The constraint that a `given` line is from some token on, over names.
+use Rattle.std.specs.Prelude.{◌≡◌, ℕ, false, List}
+use Rattle.it_syntax.specs.declared.types.Code.{Code}
+use Rattle.it_syntax.specs.declared.types.LineTokens.{LineTokens}
+use Rattle.it_syntax.specs.NamesViews.{NamesView}
+use Rattle.it_syntax.specs.Scopes.{scope_of}
+use Rattle.it_syntax.specs.WrittenGivens.{spell_given, given_of}
+use Rattle.it_syntax.specs.Givens.{GivenView}
+use Rattle.it_syntax.specs.Lines.{SaysAs, letters_from, FaultAt}
+
+-- from its token number `from` on the line is this constraint, without rates
+abbrev pub IsGiven : NamesView → List ℕ → LineTokens → ℕ → GivenView → Type 0
+IsGiven v line ts from y = SaysAs (spell_given (scope_of v false)) (given_of (scope_of v false)) (letters_from line ts from) y
+
+-- A line from a token on is at most one constraint, or has at most one first fault, and not both.
+abbrev pub GivenIsOne : Type 0
+GivenIsOne = (v : NamesView) (line : List ℕ) (ts : LineTokens) (from : ℕ) (y z : GivenView) → IsGiven v line ts from y → IsGiven v line ts from z → y ≡ z
+
+abbrev pub GivenFaultIsOne : Type 0
+GivenFaultIsOne = (v : NamesView) (line : List ℕ) (ts : LineTokens) (from a b : ℕ) (c d : Code) → FaultAt (spell_given (scope_of v false)) line ts from a c → FaultAt (spell_given (scope_of v false)) line ts from b d → (a ≡ b) × (c ≡ d)
+
+abbrev pub GivenOrFault : Type 0
+GivenOrFault = (v : NamesView) (line : List ℕ) (ts : LineTokens) (from a : ℕ) (c : Code) (y : GivenView) → IsGiven v line ts from y → FaultAt (spell_given (scope_of v false)) line ts from a c → ⊥

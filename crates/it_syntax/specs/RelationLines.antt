@@ -1,0 +1,23 @@
+-- A line that is a relation from some token on, over names.
+use Rattle.std.specs.Prelude.{◌≡◌, ℕ, Bool, List}
+use Rattle.it_syntax.specs.declared.types.Code.{Code}
+use Rattle.it_syntax.specs.declared.types.LineTokens.{LineTokens}
+use Rattle.it_syntax.specs.NamesViews.{NamesView}
+use Rattle.it_syntax.specs.Meaning.{RelationView}
+use Rattle.it_syntax.specs.WrittenRelations.{spell_relation, relation_of}
+use Rattle.it_syntax.specs.Lines.{SaysAs, letters_from, FaultAt}
+use Rattle.it_syntax.specs.Scopes.{scope_of}
+
+-- from its token number `from` on the line is this relation
+abbrev pub IsRelation : NamesView → Bool → List ℕ → LineTokens → ℕ → RelationView → Type 0
+IsRelation v rates line ts from y = SaysAs (spell_relation (scope_of v rates)) (relation_of (scope_of v rates)) (letters_from line ts from) y
+
+-- A line from a token on is at most one relation, or has at most one first fault, and not both.
+abbrev pub RelationIsOne : Type 0
+RelationIsOne = (v : NamesView) (rates : Bool) (line : List ℕ) (ts : LineTokens) (from : ℕ) (y z : RelationView) → IsRelation v rates line ts from y → IsRelation v rates line ts from z → y ≡ z
+
+abbrev pub RelationFaultIsOne : Type 0
+RelationFaultIsOne = (v : NamesView) (rates : Bool) (line : List ℕ) (ts : LineTokens) (from a b : ℕ) (c d : Code) → FaultAt (spell_relation (scope_of v rates)) line ts from a c → FaultAt (spell_relation (scope_of v rates)) line ts from b d → (a ≡ b) × (c ≡ d)
+
+abbrev pub RelationOrFault : Type 0
+RelationOrFault = (v : NamesView) (rates : Bool) (line : List ℕ) (ts : LineTokens) (from a : ℕ) (c : Code) (y : RelationView) → IsRelation v rates line ts from y → FaultAt (spell_relation (scope_of v rates)) line ts from a c → ⊥
