@@ -1,12 +1,12 @@
 -- Weak duality: a certificate makes its target at least 0.
-use Rattle.std.proofs.Common.{◌≡◌, ℕ, zero, suc, ◌+◌, ◌-◌, ◌^◌, ◌<◌, ◌≤◌, ℤ, pos, negsuc, ◌+ℤ◌, ◌*ℤ◌, ◌≤ℤ◌, refl, sym, ap, ap₂, subst, ◌∙◌, arith, List, [], ◌∷◌, Bool, true, false, All}
+use Rattle.std.proofs.Common.{◌≡◌, ℕ, zero, suc, ◌+◌, ◌-◌, ◌^◌, ◌<◌, ◌≤◌, ℤ, pos, negsuc, ◌+ℤ◌, ◌*ℤ◌, ◌≤ℤ◌, refl, sym, ap, ap₂, subst, ◌∙◌, arith, List, [], ◌∷◌, length, Bool, true, false, All}
 use Rattle.std.proofs.lemmas.Int.{ints}
 use Rattle.std.proofs.lemmas.List.Elements.{All-head, All-tail}
 use Rattle.std.proofs.lemmas.Nat.{pow_pos}
-use Rattle.it_space.specs.Answers.{Weights}
+use Rattle.it_space.specs.Answers.{CertificateView}
 use Rattle.it_polymatroid.specs.Polymatroid.{IsPolymatroid}
-use Rattle.it_polymatroid.specs.Elementals.{Conditional, worth, elementals}
-use Rattle.it_polymatroid.specs.Certificates.{Form, dot, IsLinear, one_at, weighted, Generators, elemental_generators, IsAllowed, IsCertificate, CertificatesProve}
+use Rattle.it_polymatroid.specs.Elementals.{Conditional, worth, elementals, elemental_at}
+use Rattle.it_polymatroid.specs.Certificates.{Form, dot, IsLinear, one_at, combination, Generators, IsAllowed, IsCertificate, CertificatesProve}
 use Rattle.it_polymatroid.proofs.Every.{Every, all_of}
 use Rattle.it_polymatroid.proofs.Forms.{dot_from_one, dot-scale, dot-add, linear_at, linear-add, linear-sub, linear-scale, linear_zero}
 use Rattle.it_polymatroid.proofs.Generate.{to_list, elementals_generate}
@@ -14,12 +14,12 @@ use Rattle.it_polymatroid.proofs.Instances.{with_lt, still_lacks}
 
 -- a sum of weights that may stand, at values that meet the generators, is at least 0
 weighted_least : (g : Generators) (v : ℕ → ℤ) → ((i : ℕ) → i < g.count → pos 0 ≤ℤ v i) → ((i : ℕ) → i < g.count → g.is_equation i ≡ true → v i ≡ pos 0)
-    → (ws : List (ℕ × ℤ)) → All (IsAllowed g) ws → pos 0 ≤ℤ weighted ws v
+    → (ws : List (ℕ × ℤ)) → All (IsAllowed g) ws → pos 0 ≤ℤ combination ws v
 weighted_least g v least zeros [] a = omega (arith, ints)
 weighted_least g v least zeros (w ∷ ws) a =
     let here : IsAllowed g w = All-head (IsAllowed g) w ws a in
-    let rest : pos 0 ≤ℤ weighted ws v = weighted_least g v least zeros ws (All-tail (IsAllowed g) w ws a) in
-    both (w.1 *ℤ v w.0) (weighted ws v) (term w.1 (v w.0) (g.is_equation w.0) here.1 (least w.0 here.0) (zeros w.0 here.0)) rest
+    let rest : pos 0 ≤ℤ combination ws v = weighted_least g v least zeros ws (All-tail (IsAllowed g) w ws a) in
+    both (w.1 *ℤ v w.0) (combination ws v) (term w.1 (v w.0) (g.is_equation w.0) here.1 (least w.0 here.0) (zeros w.0 here.0)) rest
   where
     both : (x y : ℤ) → pos 0 ≤ℤ x → pos 0 ≤ℤ y → pos 0 ≤ℤ (x +ℤ y)
     both x y h k = omega (arith, ints)
@@ -40,19 +40,19 @@ unscaled (negsuc k) x h g = absurd (omega (arith, ints))
 
 -- the weights that stand name generators, so their sum is linear
 weighted_is : (size : ℕ) (g : Generators) → ((i : ℕ) → i < g.count → IsLinear size (g.worth_of i)) → (ws : List (ℕ × ℤ)) → All (IsAllowed g) ws
-    → (p : ℕ → ℤ) → p 0 ≡ pos 0 → weighted ws (λ i. g.worth_of i p) ≡ dot size (λ c. weighted ws (λ i. g.worth_of i (one_at c))) p
+    → (p : ℕ → ℤ) → p 0 ≡ pos 0 → combination ws (λ i. g.worth_of i p) ≡ dot size (λ c. combination ws (λ i. g.worth_of i (one_at c))) p
 weighted_is size g l [] a p e = (linear_zero size).sum p e
 weighted_is size g l (w ∷ ws) a p e =
     ap₂ (λ x y. x +ℤ y) ((linear-scale size w.1 (g.worth_of w.0) (l w.0 (All-head (IsAllowed g) w ws a).0)).sum p e) (weighted_is size g l ws (All-tail (IsAllowed g) w ws a) p e)
-    ∙ sym (dot-add size (λ c. w.1 *ℤ g.worth_of w.0 (one_at c)) (λ c. weighted ws (λ i. g.worth_of i (one_at c))) p)
+    ∙ sym (dot-add size (λ c. w.1 *ℤ g.worth_of w.0 (one_at c)) (λ c. combination ws (λ i. g.worth_of i (one_at c))) p)
 
 -- sums that agree at each coordinate agree at every map
-pub adds_up_everywhere : (size : ℕ) (g : Generators) (target : Form) (w : Weights) → ((i : ℕ) → i < g.count → IsLinear size (g.worth_of i)) → IsLinear size target
-    → IsCertificate size g target w → (p : ℕ → ℤ) → p 0 ≡ pos 0 → w.scale *ℤ target p ≡ weighted w.parts (λ i. g.worth_of i p)
+pub adds_up_everywhere : (size : ℕ) (g : Generators) (target : Form) (w : CertificateView) → ((i : ℕ) → i < g.count → IsLinear size (g.worth_of i)) → IsLinear size target
+    → IsCertificate size g target w → (p : ℕ → ℤ) → p 0 ≡ pos 0 → w.scale *ℤ target p ≡ combination w.parts (λ i. g.worth_of i p)
 adds_up_everywhere size g target w l m c p e =
     ap (λ x. w.scale *ℤ x) (m.sum p e)
     ∙ sym (dot-scale size w.scale (λ k. target (one_at k)) p)
-    ∙ dot_from_one size (λ k. w.scale *ℤ target (one_at k)) (λ k. weighted w.parts (λ i. g.worth_of i (one_at k))) p e c.adds_up
+    ∙ dot_from_one size (λ k. w.scale *ℤ target (one_at k)) (λ k. combination w.parts (λ i. g.worth_of i (one_at k))) p e c.adds_up
     ∙ sym (weighted_is size g l w.parts c.allowed p e)
 
 -- each elemental inequality is linear
@@ -66,18 +66,11 @@ worth_linear size n h = to_list (λ x. IsLinear size (λ h. worth n h x)) n (rec
       (linear_at size (k + 2 ^ i + 2 ^ j) (omega (arith, with_lt n (k + 2 ^ i) j m (with_lt n k i (omega arith) a b) (still_lacks k i j l b c)))) (linear_at size k (omega arith)));
 })
 
--- and so is each generator of the elemental list
-pub elemental_linear : (size n i : ℕ) → 2 ^ n ≤ size → i < (elemental_generators n).count → IsLinear size ((elemental_generators n).worth_of i)
+-- and so is that of each number
+pub elemental_linear : (size n i : ℕ) → 2 ^ n ≤ size → i < length (elementals n) → IsLinear size (λ h. worth n h (elemental_at n i))
 elemental_linear size n i h l = all_of (λ x. IsLinear size (λ h. worth n h x)) (elementals n) (worth_linear size n h) i (Conditional 0) l
 
 pub certificates_prove : CertificatesProve
 certificates_prove size g target w l m c p e least zeros =
     unscaled w.scale (target p) c.scale_from_one
     (subst (λ (x : ℤ). pos 0 ≤ℤ x) (sym (adds_up_everywhere size g target w l m c p e)) (weighted_least g (λ i. g.worth_of i p) least zeros w.parts c.allowed))
-
--- over the elemental inequalities alone: a certified target is at least 0 at every polymatroid
-pub elementals_prove : (size n : ℕ) (target : Form) (w : Weights) → 2 ^ n ≤ size → IsLinear size target → IsCertificate size (elemental_generators n) target w
-    → (h : ℕ → ℤ) → IsPolymatroid n h → pos 0 ≤ℤ target h
-elementals_prove size n target w some m c h p =
-    certificates_prove size (elemental_generators n) target w (λ i l. elemental_linear size n i some l) m c h p.empty
-    (λ i l. (elementals_generate n h p.empty).1 p i (Conditional 0) l) (λ i l e. cc)

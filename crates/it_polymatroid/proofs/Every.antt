@@ -51,19 +51,19 @@ every_flat_mapped P f (x ∷ xs) e = (every_front P (f x) (flat_map f xs) e, eve
 
 pub every-filter : {X : Type 0} (P : X → Type 0) (test : X → Bool) (xs : List X) → Every (λ x. test x ≡ true → P x) xs → Every P (filter test xs)
 every-filter P test [] e = tt
-every-filter P test (x ∷ xs) e = at (test x) e.0 (every-filter P test xs e.1)
+every-filter P test (x ∷ xs) e = by_test (test x) e.0 (every-filter P test xs e.1)
   where
-    at : (b : Bool) → (b ≡ true → P x) → Every P (filter test xs) → Every P (cond b (x ∷ filter test xs) (filter test xs))
-    at true f r = (f refl, r)
-    at false f r = r
+    by_test : (b : Bool) → (b ≡ true → P x) → Every P (filter test xs) → Every P (cond b (x ∷ filter test xs) (filter test xs))
+    by_test true f r = (f refl, r)
+    by_test false f r = r
 
 pub every_filtered : {X : Type 0} (P : X → Type 0) (test : X → Bool) (xs : List X) → Every P (filter test xs) → Every (λ x. test x ≡ true → P x) xs
 every_filtered P test [] e = tt
-every_filtered P test (x ∷ xs) e = at (test x) refl e (λ r. every_filtered P test xs r)
+every_filtered P test (x ∷ xs) e = by_test (test x) refl e (λ r. every_filtered P test xs r)
   where
-    at : (b : Bool) → test x ≡ b → Every P (cond b (x ∷ filter test xs) (filter test xs)) → (Every P (filter test xs) → Every (λ x. test x ≡ true → P x) xs) → (test x ≡ true → P x) × Every (λ x. test x ≡ true → P x) xs
-    at true f r back = (λ g. r.0, back r.1)
-    at false f r back = (λ g. absurd (apart (sym f ∙ g)), back r)
+    by_test : (b : Bool) → test x ≡ b → Every P (cond b (x ∷ filter test xs) (filter test xs)) → (Every P (filter test xs) → Every (λ x. test x ≡ true → P x) xs) → (test x ≡ true → P x) × Every (λ x. test x ≡ true → P x) xs
+    by_test true f r back = (λ g. r.0, back r.1)
+    by_test false f r back = (λ g. absurd (apart (sym f ∙ g)), back r)
       where
         apart : false ≡ true → ⊥
         apart e = cc
@@ -74,11 +74,11 @@ every-span P from (suc count) f = (f from (omega arith) (omega arith), every-spa
 
 pub every_spanned : (P : ℕ → Type 0) (from count : ℕ) → Every P (span from count) → (i : ℕ) → from ≤ i → i < from + count → P i
 every_spanned P from zero e i h k = absurd (omega arith)
-every_spanned P from (suc count) e i h k = at (same_or_more from i h) (λ l. every_spanned P (from + 1) count e.1 i l (omega arith))
+every_spanned P from (suc count) e i h k = by_cases (same_or_more from i h) (λ l. every_spanned P (from + 1) count e.1 i l (omega arith))
   where
     same_or_more : (a b : ℕ) → a ≤ b → (a ≡ b) ⊎ (a + 1 ≤ b)
     same_or_more a b h = grind arith
 
-    at : (from ≡ i) ⊎ (from + 1 ≤ i) → (from + 1 ≤ i → P i) → P i
-    at (inl s) f = subst P s e.0
-    at (inr l) f = f l
+    by_cases : (from ≡ i) ⊎ (from + 1 ≤ i) → (from + 1 ≤ i → P i) → P i
+    by_cases (inl s) f = subst P s e.0
+    by_cases (inr l) f = f l

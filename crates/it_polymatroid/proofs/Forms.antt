@@ -1,9 +1,9 @@
 -- Linear forms: sums over coordinates, and the forms that generators and targets are made of.
 use Rattle.std.proofs.Common.{◌≡◌, ℕ, zero, suc, ◌<◌, ◌≤◌, ◌⊎◌, inl, inr, ℤ, pos, neg_ℤ, ◌+ℤ◌, ◌-ℤ◌, ◌*ℤ◌, refl, sym, ap, ap₂, ◌∙◌, arith, List, [], ◌∷◌, cond, eq-eqb, ne_eqb}
-use native.Mathlib.Nat.{eq-or-lt_of_le, le_of_suc-le-suc}
 use Rattle.std.proofs.lemmas.Int.{ints}
 use Rattle.it_number.proofs.Integers.{zring}
-use Rattle.it_polymatroid.specs.Certificates.{Form, dot, IsLinear, one_at, weighted}
+use Rattle.it_polymatroid.specs.Certificates.{Form, dot, IsLinear, one_at, combination}
+use native.Mathlib.Nat.{eq-or-lt_of_le, le_of_suc-le-suc}
 
 pub dot-zero : (n : ℕ) (p : ℕ → ℤ) → dot n (λ c. pos 0) p ≡ pos 0
 dot-zero zero p = refl
@@ -36,13 +36,13 @@ dot_past : (n x : ℕ) (p : ℕ → ℤ) → n ≤ x → dot n (λ c. one_at c x
 dot_past zero x p h = refl
 dot_past (suc n) x p h = ap₂ (λ b y. cond b (pos 1) (pos 0) *ℤ p n +ℤ y) (ne_eqb x n (omega arith)) (dot_past n x p (omega arith)) ∙ omega (arith, ints)
 
-dot-one : (n x : ℕ) (p : ℕ → ℤ) → x < n → dot n (λ c. one_at c x) p ≡ p x
+pub dot-one : (n x : ℕ) (p : ℕ → ℤ) → x < n → dot n (λ c. one_at c x) p ≡ p x
 dot-one zero x p h = absurd (omega arith)
-dot-one (suc n) x p h = at (eq-or-lt_of_le (le_of_suc-le-suc h)) (λ l. dot-one n x p l)
+dot-one (suc n) x p h = by_cases (eq-or-lt_of_le (le_of_suc-le-suc h)) (λ l. dot-one n x p l)
   where
-    at : (x ≡ n) ⊎ (x < n) → (x < n → dot n (λ c. one_at c x) p ≡ p x) → dot (suc n) (λ c. one_at c x) p ≡ p x
-    at (inl e) ih = ap₂ (λ b y. cond b (pos 1) (pos 0) *ℤ p n +ℤ y) (eq-eqb x n e) (dot_past n x p (omega arith)) ∙ omega (arith, ints, ap p (sym e))
-    at (inr l) ih = ap₂ (λ b y. cond b (pos 1) (pos 0) *ℤ p n +ℤ y) (ne_eqb x n (omega arith)) (ih l) ∙ omega (arith, ints)
+    by_cases : (x ≡ n) ⊎ (x < n) → (x < n → dot n (λ c. one_at c x) p ≡ p x) → dot (suc n) (λ c. one_at c x) p ≡ p x
+    by_cases (inl e) ih = ap₂ (λ b y. cond b (pos 1) (pos 0) *ℤ p n +ℤ y) (eq-eqb x n e) (dot_past n x p (omega arith)) ∙ omega (arith, ints, ap p (sym e))
+    by_cases (inr l) ih = ap₂ (λ b y. cond b (pos 1) (pos 0) *ℤ p n +ℤ y) (ne_eqb x n (omega arith)) (ih l) ∙ omega (arith, ints)
 
 -- the value at a coordinate is linear
 pub linear_at : (size c : ℕ) → c < size → IsLinear size (λ p. p c)
@@ -68,6 +68,6 @@ linear-sub size f g l m = linear_same size (λ p. f p +ℤ neg_ℤ (pos 1) *ℤ 
     turned : (x y : ℤ) → x +ℤ neg_ℤ (pos 1) *ℤ y ≡ x -ℤ y
     turned x y = omega (arith, ints)
 
-pub linear_weighted : (size : ℕ) (ws : List (ℕ × ℤ)) (f : ℕ → Form) → ((i : ℕ) → IsLinear size (f i)) → IsLinear size (λ p. weighted ws (λ i. f i p))
+pub linear_weighted : (size : ℕ) (ws : List (ℕ × ℤ)) (f : ℕ → Form) → ((i : ℕ) → IsLinear size (f i)) → IsLinear size (λ p. combination ws (λ i. f i p))
 linear_weighted size [] f l = linear_zero size
-linear_weighted size (w ∷ ws) f l = linear-add size (λ p. w.1 *ℤ f w.0 p) (λ p. weighted ws (λ i. f i p)) (linear-scale size w.1 (f w.0) (l w.0)) (linear_weighted size ws f l)
+linear_weighted size (w ∷ ws) f l = linear-add size (λ p. w.1 *ℤ f w.0 p) (λ p. combination ws (λ i. f i p)) (linear-scale size w.1 (f w.0) (l w.0)) (linear_weighted size ws f l)

@@ -35,12 +35,12 @@ Bends (suc n) f = Falls n (gain f) × (Bends n (even f) × Bends n (odd f))
 
 -- a number is twice its half, or one more
 halves : (s : ℕ) → (s ≡ (s / 2) * 2) ⊎ (s ≡ (s / 2) * 2 + 1)
-halves s = at (s % 2) refl
+halves s = by_cases (s % 2) refl
   where
-    at : (r : ℕ) → s % 2 ≡ r → (s ≡ (s / 2) * 2) ⊎ (s ≡ (s / 2) * 2 + 1)
-    at zero e = inl (omega arith)
-    at (suc zero) e = inr (omega arith)
-    at (suc (suc r)) e = absurd (omega arith)
+    by_cases : (r : ℕ) → s % 2 ≡ r → (s ≡ (s / 2) * 2) ⊎ (s ≡ (s / 2) * 2 + 1)
+    by_cases zero e = inl (omega arith)
+    by_cases (suc zero) e = inr (omega arith)
+    by_cases (suc (suc r)) e = absurd (omega arith)
 
 -- a set is inside a union with it
 and_or_right : (a b : ℕ) → bit_and b (bit_or a b) ≡ b
@@ -79,11 +79,11 @@ or_oo a b = or_block 1 a b 1 1 (lit< tt) (lit< tt)
 
 -- to show a fact of every number, show it of every double and every double and one
 by_halves : (P : ℕ → Type 0) → ((a : ℕ) → P (a * 2)) → ((a : ℕ) → P (a * 2 + 1)) → (s : ℕ) → P s
-by_halves P e o s = at (halves s)
+by_halves P e o s = by_cases (halves s)
   where
-    at : (s ≡ (s / 2) * 2) ⊎ (s ≡ (s / 2) * 2 + 1) → P s
-    at (inl q) = subst P (sym q) (e (s / 2))
-    at (inr q) = subst P (sym q) (o (s / 2))
+    by_cases : (s ≡ (s / 2) * 2) ⊎ (s ≡ (s / 2) * 2 + 1) → P s
+    by_cases (inl q) = subst P (sym q) (e (s / 2))
+    by_cases (inr q) = subst P (sym q) (o (s / 2))
 
 -- f falls along every inclusion
 falls_inside : (n : ℕ) (f : ℕ → ℤ) → Falls n f → (s t : ℕ) → t < 2 ^ n → bit_and s t ≡ s → f t ≤ℤ f s

@@ -53,15 +53,15 @@ union-empty first (x ∷ xs) = ap₂ bit_or (part-empty first x) (union-empty (f
 
 -- a union stands for the union
 part-or : (first x s t : ℕ) → part first x (bit_or s t) ≡ bit_or (part first x s) (part first x t)
-part-or first x s t = ap (λ d. cond (nat_eq d 1) x 0) (bit_at_or s t first) ∙ at (bit_at s first) (bit_at t first) (bit_at-lt s first) (bit_at-lt t first)
+part-or first x s t = ap (λ d. cond (nat_eq d 1) x 0) (bit_at_or s t first) ∙ for_each (bit_at s first) (bit_at t first) (bit_at-lt s first) (bit_at-lt t first)
   where
-    at : (a b : ℕ) → a < 2 → b < 2 → cond (nat_eq (max a b) 1) x 0 ≡ bit_or (cond (nat_eq a 1) x 0) (cond (nat_eq b 1) x 0)
-    at zero zero h k = sym (or_zero_l 0)
-    at zero (suc zero) h k = sym (or_zero_l x)
-    at (suc zero) zero h k = sym (or_zero_r x)
-    at (suc zero) (suc zero) h k = sym (or_self x)
-    at (suc (suc a)) b h k = absurd (omega arith)
-    at a (suc (suc b)) h k = absurd (omega arith)
+    for_each : (a b : ℕ) → a < 2 → b < 2 → cond (nat_eq (max a b) 1) x 0 ≡ bit_or (cond (nat_eq a 1) x 0) (cond (nat_eq b 1) x 0)
+    for_each zero zero h k = sym (or_zero_l 0)
+    for_each zero (suc zero) h k = sym (or_zero_l x)
+    for_each (suc zero) zero h k = sym (or_zero_r x)
+    for_each (suc zero) (suc zero) h k = sym (or_self x)
+    for_each (suc (suc a)) b h k = absurd (omega arith)
+    for_each a (suc (suc b)) h k = absurd (omega arith)
 
 pub union-or : (first : ℕ) (sets : List ℕ) (s t : ℕ) → union_from first sets (bit_or s t) ≡ bit_or (union_from first sets s) (union_from first sets t)
 union-or first [] s t = sym (or_zero_l 0)
@@ -71,11 +71,11 @@ union-or first (x ∷ xs) s t = ap₂ bit_or (part-or first x s t) (union-or (fi
 -- images are sets of the other variables
 pub union_below : (n first : ℕ) (sets : List ℕ) (s : ℕ) → All (λ x. x < 2 ^ n) sets → union_from first sets s < 2 ^ n
 union_below n first [] s a = pow_pos n
-union_below n first (x ∷ xs) s a = or_lt n (part first x s) (union_from (first + 1) xs s) (at (has_member s first)) (union_below n (first + 1) xs s (All-tail (λ x. x < 2 ^ n) x xs a))
+union_below n first (x ∷ xs) s a = or_lt n (part first x s) (union_from (first + 1) xs s) (by_test (has_member s first)) (union_below n (first + 1) xs s (All-tail (λ x. x < 2 ^ n) x xs a))
   where
-    at : (b : Bool) → cond b x 0 < 2 ^ n
-    at true = All-head (λ x. x < 2 ^ n) x xs a
-    at false = pow_pos n
+    by_test : (b : Bool) → cond b x 0 < 2 ^ n
+    by_test true = All-head (λ x. x < 2 ^ n) x xs a
+    by_test false = pow_pos n
 
 -- members of an image
 inside_or : (s t : ℕ) → IsInside s t → bit_or s t ≡ t
@@ -123,11 +123,11 @@ pulled_polymatroid n m h g sets a is p = record {
 -- values pushed in order of the sets
 pub values-push : (values : List ℤ) (f : ℕ → ℤ) (n : ℕ) (v : ℤ) → length values ≡ n → ((s : ℕ) → s < n → get_or values s (pos 0) ≡ f s) → v ≡ f n
     → (s : ℕ) → s < n + 1 → get_or (values ++ v ∷ []) s (pos 0) ≡ f s
-values-push values f n v e h is s l = at (cases_lt s n)
+values-push values f n v e h is s l = by_cases (cases_lt s n)
   where
-    at : (s < n) ⊎ (n ≤ s) → get_or (values ++ v ∷ []) s (pos 0) ≡ f s
-    at (inl k) = get_or_append_left values (v ∷ []) (pos 0) s (omega arith) ∙ h s k
-    at (inr k) = let same : s ≡ n = omega arith in let here : s ≡ length values + 0 = omega arith in
+    by_cases : (s < n) ⊎ (n ≤ s) → get_or (values ++ v ∷ []) s (pos 0) ≡ f s
+    by_cases (inl k) = get_or_append_left values (v ∷ []) (pos 0) s (omega arith) ∙ h s k
+    by_cases (inr k) = let same : s ≡ n = omega arith in let here : s ≡ length values + 0 = omega arith in
         ap (λ m. get_or (values ++ v ∷ []) m (pos 0)) here ∙ get_or-append-add values (v ∷ []) 0 (pos 0) ∙ is ∙ ap f (sym same)
 
 -- the values pulled back are a table

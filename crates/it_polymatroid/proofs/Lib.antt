@@ -4,5 +4,6 @@ pub mod Instances
 pub mod Generate
 pub mod TableLemmas
 pub mod Forms
+pub mod Coefficients
 pub mod Certified
 pub mod Images

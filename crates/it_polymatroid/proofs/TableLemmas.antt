@@ -6,7 +6,8 @@ use Rattle.it_number.specs.Limit.{IsWithin}
 use Rattle.std.proofs.lemmas.Nat.{or_lt, and_le_r}
 use Rattle.it_space.specs.Sets.{IsInside}
 use Rattle.it_polymatroid.specs.Polymatroid.{IsPolymatroid}
-use Rattle.it_polymatroid.specs.Tables.{SetFunction, IsTable, value_at, PairsHoldAt}
+use Rattle.it_polymatroid.specs.Tables.{SetFunction, IsTable, value_at}
+use Rattle.it_polymatroid.specs.TablePairs.{PairsHoldAt}
 
 pub union_below : (n s t : ℕ) → s < 2 ^ n → t < 2 ^ n → bit_or s t < 2 ^ n
 union_below n s t h k = or_lt n s t h k
@@ -30,8 +31,8 @@ to_pairs n h p s k t l = record { rises = p.rises s t l; submodular = p.submodul
 
 -- all values of a table are within the limit
 pub table_within : (f : SetFunction) → IsTable f → (s : ℕ) → IsWithin (value_at f s)
-table_within f t s = at (cases_lt s (length f.values))
+table_within f t s = by_cases (cases_lt s (length f.values))
   where
-    at : (s < length f.values) ⊎ (length f.values ≤ s) → IsWithin (value_at f s)
-    at (inl h) = t.within s (pos 0) h
-    at (inr h) = rw (get_or_past f.values s (pos 0) h) (lit< tt)
+    by_cases : (s < length f.values) ⊎ (length f.values ≤ s) → IsWithin (value_at f s)
+    by_cases (inl h) = t.within s (pos 0) h
+    by_cases (inr h) = rw (get_or_past f.values s (pos 0) h) (lit< tt)

@@ -1,8 +1,6 @@
--- Certificates and counterpoints: what makes a yes and a no right, with nothing of a solver in it.
-use Rattle.std.specs.Prelude.{◌≡◌, ℕ, zero, suc, ◌<◌, ℤ, pos, neg_ℤ, ◌+ℤ◌, ◌*ℤ◌, ◌≤ℤ◌, List, [], ◌∷◌, length, Bool, true, false, cond, nat_eq, All}
-use Rattle.it_space.specs.Answers.{Weights}
-use Rattle.it_polymatroid.specs.Polymatroid.{IsPolymatroid}
-use Rattle.it_polymatroid.specs.Elementals.{elementals, elemental_at, worth}
+-- Certificates: what makes a yes right, with nothing of a solver in it.
+use Rattle.std.specs.Prelude.{◌≡◌, ℕ, zero, suc, ◌<◌, ℤ, pos, ◌+ℤ◌, ◌*ℤ◌, ◌≤ℤ◌, List, [], ◌∷◌, Bool, true, false, cond, nat_eq, All}
+use Rattle.it_space.specs.Answers.{CertificateView}
 
 -- A linear form is a function of the points, which are maps from coordinates to numbers; it is 0 at the empty set's place, coordinate 0.
 abbrev pub Form : Type 0
@@ -14,18 +12,10 @@ pub record Generators : Type 0 where
   pub worth_of : ℕ → Form
   pub is_equation : ℕ → Bool
 
--- the elemental inequalities alone, by their place in the list
-abbrev pub elemental_generators : ℕ → Generators
-elemental_generators n = record {
-  count = length (elementals n);
-  worth_of = λ i h. worth n h (elemental_at n i);
-  is_equation = λ _. false;
-}
-
 -- the sum over a list of numbered weights
-abbrev pub weighted : List (ℕ × ℤ) → (ℕ → ℤ) → ℤ
-weighted [] f = pos 0
-weighted (w ∷ ws) f = w.1 *ℤ f w.0 +ℤ weighted ws f
+abbrev pub combination : List (ℕ × ℤ) → (ℕ → ℤ) → ℤ
+combination [] f = pos 0
+combination (w ∷ ws) f = w.1 *ℤ f w.0 +ℤ combination ws f
 
 -- a weight that may stand in a certificate: of a generator that is there, and not negative unless that is an equation
 abbrev pub IsAllowed : Generators → ℕ × ℤ → Type 0
@@ -36,15 +26,10 @@ abbrev pub one_at : ℕ → ℕ → ℤ
 one_at c s = cond (nat_eq s c) (pos 1) (pos 0)
 
 -- A certificate (Farkas 1902): weights by which the generators add up to a positive multiple of the target, at each coordinate below `size`.
-pub record IsCertificate (size : ℕ) (g : Generators) (target : Form) (w : Weights) : Type 0 where
+pub record IsCertificate (size : ℕ) (g : Generators) (target : Form) (w : CertificateView) : Type 0 where
   pub scale_from_one : pos 1 ≤ℤ w.scale
   pub allowed : All (IsAllowed g) w.parts
-  pub adds_up : (c : ℕ) → 0 < c → c < size → w.scale *ℤ target (one_at c) ≡ weighted w.parts (λ i. g.worth_of i (one_at c))
-
--- a polymatroid on n variables at which the target is -1 or less
-pub record IsCounterpoint (n : ℕ) (target : Form) (h : ℕ → ℤ) : Type 0 where
-  pub polymatroid : IsPolymatroid n h
-  pub violated : target h ≤ℤ neg_ℤ (pos 1)
+  pub adds_up : (c : ℕ) → 0 < c → c < size → w.scale *ℤ target (one_at c) ≡ combination w.parts (λ i. g.worth_of i (one_at c))
 
 -- the sum over the coordinates below `size` of value times coefficient
 abbrev pub dot : ℕ → (ℕ → ℤ) → (ℕ → ℤ) → ℤ
@@ -57,6 +42,6 @@ pub record IsLinear (size : ℕ) (f : Form) : Type 0 where
 
 -- Weak duality: a target with a certificate over linear generators is at least 0 wherever the generators are met.
 abbrev pub CertificatesProve : Type 0
-CertificatesProve = (size : ℕ) (g : Generators) (target : Form) (w : Weights) → ((i : ℕ) → i < g.count → IsLinear size (g.worth_of i)) → IsLinear size target
+CertificatesProve = (size : ℕ) (g : Generators) (target : Form) (w : CertificateView) → ((i : ℕ) → i < g.count → IsLinear size (g.worth_of i)) → IsLinear size target
     → IsCertificate size g target w → (p : ℕ → ℤ) → p 0 ≡ pos 0
     → ((i : ℕ) → i < g.count → pos 0 ≤ℤ g.worth_of i p) → ((i : ℕ) → i < g.count → g.is_equation i ≡ true → g.worth_of i p ≡ pos 0) → pos 0 ≤ℤ target p

@@ -3,3 +3,4 @@ pub mod Elementals
 pub mod Certificates
 pub mod Tables
 pub mod Substitutions
+pub mod TablePairs

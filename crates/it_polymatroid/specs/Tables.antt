@@ -1,7 +1,6 @@
 -- Set functions by the list of their values, in order of the sets' numbers.
-use Rattle.std.specs.Prelude.{◌≡◌, ℕ, ◌^◌, ◌≤◌, ◌<◌, ℤ, pos, ◌+ℤ◌, ◌≤ℤ◌, bit_and, bit_or, List, length, slice_index_or, All}
+use Rattle.std.specs.Prelude.{◌≡◌, ℕ, ◌^◌, ◌≤◌, ℤ, pos, List, length, slice_index_or, All}
 use Rattle.it_number.specs.Limit.{IsWithin}
-use Rattle.it_space.specs.Sets.{IsInside}
 
 -- a function on the sets of some variables
 pub record SetFunction : Type 0 where
@@ -18,12 +17,3 @@ pub record IsTable (f : SetFunction) : Type 0 where
   pub complete : length f.values ≡ 2 ^ f.variables
   pub empty : value_at f 0 ≡ pos 0
   pub within : All IsWithin f.values
-
--- the axioms of polymatroids at two sets
-pub record PairHolds (h : ℕ → ℤ) (s t : ℕ) : Type 0 where
-  pub rises : IsInside s t → h s ≤ℤ h t
-  pub submodular : (h (bit_or s t) +ℤ h (bit_and s t)) ≤ℤ (h s +ℤ h t)
-
--- and at one set with each other
-abbrev pub PairsHoldAt : ℕ → (ℕ → ℤ) → ℕ → Type 0
-PairsHoldAt n h s = (t : ℕ) → t < 2 ^ n → PairHolds h s t

@@ -1,4 +1,4 @@
-//! Polymatroids, the elemental inequalities, certificates and counterpoints.
+//! Polymatroids, the elemental inequalities, certificates and counterexamples.
 #![tactic(auto)]
 
 mod laws;

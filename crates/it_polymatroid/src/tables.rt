@@ -1,7 +1,8 @@
 ghost use Rattle.std.specs.Prelude.{◌≡◌, ◌<◌, ◌≤◌, ◌^◌, ◌↔◌, ℕ, IsTrue};
 ghost use Rattle.std.specs.Bool.{OnTrue, OnFalse};
 ghost use Rattle.it_polymatroid.specs.Polymatroid.{IsPolymatroid};
-ghost use Rattle.it_polymatroid.specs.Tables.{IsTable, value_at, PairHolds, PairsHoldAt};
+ghost use Rattle.it_polymatroid.specs.Tables.{IsTable, value_at};
+ghost use Rattle.it_polymatroid.specs.TablePairs.{PairHolds, PairsHoldAt};
 
 use crate::sums::is_at_most;
 use it_space::VarSet;

@@ -2,6 +2,7 @@
 #![tactic(auto)]
 
 mod answers;
+mod cancelling;
 mod faults;
 mod normal_rows;
 mod points;
@@ -9,9 +10,11 @@ mod problems;
 mod rows;
 mod sets;
 mod spaces;
+mod sums;
 mod values;
 
-pub use answers::{Answer, Certificate};
+pub use answers::{Answer, Cause, Certificate};
+pub use cancelling::cancel;
 pub use faults::RowFault;
 pub use normal_rows::normal;
 pub use points::Point;
@@ -19,7 +22,8 @@ pub use problems::{Constraint, Kind, Origin, Problem, System};
 pub use rows::Row;
 pub use sets::VarSet;
 pub use spaces::Space;
-pub use values::value;
+pub use sums::Sums;
+pub use values::{value, with_product};
 
 #[cfg(test)]
 mod tests;

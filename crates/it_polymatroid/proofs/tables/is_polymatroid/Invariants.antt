@@ -1,5 +1,6 @@
 use Rattle.std.proofs.Common.{ℕ, ◌≡◌, ◌<◌, ◌^◌}
-use Rattle.it_polymatroid.specs.Tables.{value_at, PairsHoldAt}
+use Rattle.it_polymatroid.specs.Tables.{value_at}
+use Rattle.it_polymatroid.specs.TablePairs.{PairsHoldAt}
 use Rattle.it_polymatroid.proofs.tables.is_polymatroid.Given as goal
 
 abbrev pub invariant-loop-number : goal.invariant-loop-number

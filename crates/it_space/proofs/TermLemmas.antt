@@ -1,0 +1,152 @@
+-- Sums of rows and cancelled rows: the value at every point, and the coefficient at every coordinate.
+use Rattle.std.proofs.Common.{◌≡◌, ◌≢◌, ◌⊎◌, inl, inr, ap₂, ℕ, zero, suc, ◌+◌, ◌<◌, ◌≤◌, ℤ, pos, negsuc, ◌+ℤ◌, ◌*ℤ◌, refl, sym, ap, subst, ◌∙◌, arith, [], ◌∷◌, ◌++◌, Bool, true, false, cond, nat_eq, nat_lt, if◌then◌else◌}
+use Rattle.std.proofs.lemmas.Int.{ints}
+use Rattle.std.proofs.lemmas.Bool.Decides.{nat_tests}
+use Rattle.it_number.proofs.Integers.{zring}
+use Rattle.it_space.specs.Rows.{Terms, coefficient, value, Ascends}
+use Rattle.it_space.proofs.CanonicalRows.{here_is, other_is}
+use Rattle.std.proofs.lemmas.Bool.{cases_order}
+use Rattle.it_space.specs.Cancelling.{term_at, times_up, times_down, with_term, row_sum, row_multiple, cancelled_row}
+use Rattle.it_space.specs.Mixing.{mix}
+
+pub same_number : (a b : ℕ) → nat_eq a b ≡ true → a ≡ b
+same_number a b h = grind (arith, nat_tests)
+
+pub value-term_at : (c : ℕ) (x : ℤ) (ts : Terms) (p : ℕ → ℤ) → value (term_at c x ++ ts) p ≡ x *ℤ p c +ℤ value ts p
+value-term_at c (pos zero) ts p = omega (arith, ints)
+value-term_at c (pos (suc n)) ts p = refl
+value-term_at c (negsuc n) ts p = refl
+
+pub value-with_term : (c : ℕ) (x : ℤ) (ts : Terms) (p : ℕ → ℤ) → value (with_term c x ts) p ≡ x *ℤ p c +ℤ value ts p
+value-with_term c (pos zero) [] p = omega (arith, ints)
+value-with_term c (pos (suc n)) [] p = refl
+value-with_term c (negsuc n) [] p = refl
+value-with_term c x (t ∷ ts) p = by (nat_lt c t.0) (nat_eq c t.0) (same_number c t.0) (value-with_term c x ts p)
+  where
+    before : value (term_at c x ++ t ∷ ts) p ≡ x *ℤ p c +ℤ value (t ∷ ts) p
+    before = value-term_at c x (t ∷ ts) p
+
+    here : c ≡ t.0 → value (term_at c (x +ℤ t.1) ++ ts) p ≡ x *ℤ p c +ℤ value (t ∷ ts) p
+    here e = let q : t.1 *ℤ p c ≡ t.1 *ℤ p t.0 = ap (λ n. t.1 *ℤ p n) e in value-term_at c (x +ℤ t.1) ts p ∙ omega (arith, zring, q)
+
+    by : (a b : Bool) → (b ≡ true → c ≡ t.0) → value (with_term c x ts) p ≡ x *ℤ p c +ℤ value ts p
+        → value (if a then term_at c x ++ t ∷ ts else if b then term_at c (x +ℤ t.1) ++ ts else t ∷ with_term c x ts) p ≡ x *ℤ p c +ℤ value (t ∷ ts) p
+    by true b f ih = before
+    by false true f ih = here (f refl)
+    by false false f ih = omega (arith, ints, ih)
+
+pub value-row_sum : (xs ys : Terms) (p : ℕ → ℤ) → value (row_sum xs ys) p ≡ value xs p +ℤ value ys p
+value-row_sum [] ys p = omega (arith, ints)
+value-row_sum (x ∷ xs) ys p = value-with_term x.0 x.1 (row_sum xs ys) p ∙ omega (arith, ints, value-row_sum xs ys p)
+
+pub value-row_multiple : (a : ℕ) (ts : Terms) (p : ℕ → ℤ) → value (row_multiple a ts) p ≡ pos a *ℤ value ts p
+value-row_multiple a [] p = omega (arith, ints)
+value-row_multiple a (t ∷ ts) p = omega (arith, zring, value-row_multiple a ts p)
+
+pub value-cancelled_row : (at : ℕ) (up down : Terms) (p : ℕ → ℤ) → value (cancelled_row at up down) p ≡ pos (times_up at up down) *ℤ value up p +ℤ pos (times_down at up down) *ℤ value down p
+unfolding cancelled_row
+value-cancelled_row at up down p = value-row_sum (row_multiple (times_up at up down) up) (row_multiple (times_down at up down) down) p
+    ∙ omega (arith, ints, value-row_multiple (times_up at up down) up p, value-row_multiple (times_down at up down) down p)
+
+-- the map that is 1 at a coordinate and 0 elsewhere
+abbrev pub unit_at : ℕ → ℕ → ℤ
+unit_at c s = cond (nat_eq s c) (pos 1) (pos 0)
+
+-- a coefficient is the value at the map that is 1 at the coordinate and 0 elsewhere
+pub coefficient_is : (ts : Terms) (c : ℕ) → coefficient ts c ≡ value ts (unit_at c)
+coefficient_is [] c = refl
+coefficient_is (t ∷ ts) c = by_test (nat_eq t.0 c) (coefficient_is ts c)
+  where
+    by_test : (b : Bool) → coefficient ts c ≡ value ts (unit_at c) → cond b t.1 (pos 0) +ℤ coefficient ts c ≡ t.1 *ℤ cond b (pos 1) (pos 0) +ℤ value ts (unit_at c)
+    by_test true ih = omega (arith, ints, ih)
+    by_test false ih = omega (arith, ints, ih)
+
+pub coefficient-cancelled_row : (at : ℕ) (up down : Terms) (c : ℕ) → coefficient (cancelled_row at up down) c ≡ mix (times_up at up down) up (times_down at up down) down c
+coefficient-cancelled_row at up down c = coefficient_is (cancelled_row at up down) c ∙ value-cancelled_row at up down (unit_at c)
+    ∙ omega (arith, ints, ap (λ z. pos (times_up at up down) *ℤ z) (coefficient_is up c), ap (λ z. pos (times_down at up down) *ℤ z) (coefficient_is down c))
+
+-- ---- ascending terms without a limit
+
+abbrev pub Rises : ℕ → Terms → Type 0
+Rises from [] = Unit {0}
+Rises from (t ∷ ts) = (from ≤ t.0) × (t.1 ≢ pos 0) × Rises (t.0 + 1) ts
+
+pub ascends_rise : (from : ℕ) (ts : Terms) → Ascends from ts → Rises from ts
+ascends_rise from [] a = tt
+ascends_rise from (t ∷ ts) a = (a.0, a.1, ascends_rise (t.0 + 1) ts a.3)
+
+rises_lower : (lo from : ℕ) (ts : Terms) → lo ≤ from → Rises from ts → Rises lo ts
+rises_lower lo from [] h a = tt
+rises_lower lo from (t ∷ ts) h a = (omega (arith, a.0), a.1, a.2)
+
+rises-term_at : (lo c : ℕ) (x : ℤ) (ts : Terms) → lo ≤ c → Rises (c + 1) ts → Rises lo (term_at c x ++ ts)
+rises-term_at lo c (pos zero) ts h a = rises_lower lo (c + 1) ts (omega arith) a
+rises-term_at lo c (pos (suc n)) ts h a = (h, (λ e. omega (arith, ints, e)), a)
+rises-term_at lo c (negsuc n) ts h a = (h, (λ e. omega (arith, ints, e)), a)
+
+rises-with_term : (lo c : ℕ) (x : ℤ) (ts : Terms) → lo ≤ c → Rises lo ts → Rises lo (with_term c x ts)
+rises-with_term lo c (pos zero) [] h a = tt
+rises-with_term lo c (pos (suc n)) [] h a = (h, (λ e. omega (arith, ints, e)), tt)
+rises-with_term lo c (negsuc n) [] h a = (h, (λ e. omega (arith, ints, e)), tt)
+rises-with_term lo c x (t ∷ ts) h a = by (nat_lt c t.0) (nat_eq c t.0) refl refl (λ k. rises-with_term (t.0 + 1) c x ts k a.2)
+  where
+    is_below : (m n : ℕ) → nat_lt m n ≡ true → m < n
+    is_below m n e = grind (arith, nat_tests)
+
+    is_above : (m n : ℕ) → nat_lt m n ≡ false → nat_eq m n ≡ false → n < m
+    is_above m n e f = grind (arith, nat_tests)
+
+    by : (p q : Bool) → nat_lt c t.0 ≡ p → nat_eq c t.0 ≡ q → (t.0 + 1 ≤ c → Rises (t.0 + 1) (with_term c x ts))
+        → Rises lo (if p then term_at c x ++ t ∷ ts else if q then term_at c (x +ℤ t.1) ++ ts else t ∷ with_term c x ts)
+    by true q e f ih = rises-term_at lo c x (t ∷ ts) h (omega (arith, is_below c t.0 e), a.1, a.2)
+    by false true e f ih = rises-term_at lo c (x +ℤ t.1) ts h (subst (λ (n : ℕ). Rises (n + 1) ts) (sym (same_number c t.0 f)) a.2)
+    by false false e f ih = (a.0, a.1, ih (omega (arith, is_above c t.0 e f)))
+
+rises-row_sum : (lo : ℕ) (xs ys : Terms) → Rises lo xs → Rises lo ys → Rises lo (row_sum xs ys)
+rises-row_sum lo [] ys a b = b
+rises-row_sum lo (x ∷ xs) ys a b = rises-with_term lo x.0 x.1 (row_sum xs ys) a.0 (rises-row_sum lo xs ys (rises_lower lo (x.0 + 1) xs (omega (arith, a.0)) a.2) b)
+
+rises-row_multiple : (lo k : ℕ) (ts : Terms) → 0 < k → Rises lo ts → Rises lo (row_multiple k ts)
+rises-row_multiple lo k [] h a = tt
+rises-row_multiple lo k (t ∷ ts) h a = (a.0, (λ e. a.1 (none k t.1 h e)), rises-row_multiple (t.0 + 1) k ts h a.2)
+  where
+    none : (k : ℕ) (z : ℤ) → 0 < k → pos k *ℤ z ≡ pos 0 → z ≡ pos 0
+    none zero z h e = absurd (omega arith)
+    none (suc k) (pos zero) h e = refl
+    none (suc k) (pos (suc n)) h e = absurd (omega (arith, ints))
+    none (suc k) (negsuc n) h e = absurd (omega (arith, ints))
+
+pub rises-cancelled_row : (at : ℕ) (up down : Terms) → 0 < times_up at up down → 0 < times_down at up down → Ascends 0 up → Ascends 0 down → Rises 0 (cancelled_row at up down)
+unfolding cancelled_row
+rises-cancelled_row at up down h k a b = rises-row_sum 0 (row_multiple (times_up at up down) up) (row_multiple (times_down at up down) down)
+    (rises-row_multiple 0 (times_up at up down) up h (ascends_rise 0 up a)) (rises-row_multiple 0 (times_down at up down) down k (ascends_rise 0 down b))
+
+none_under : (from : ℕ) (ts : Terms) (c : ℕ) → Rises from ts → c < from → coefficient ts c ≡ pos 0
+none_under from [] c a h = refl
+none_under from (t ∷ ts) c a h = other_is t ts c (λ e. omega (arith, a.0)) ∙ none_under (t.0 + 1) ts c a.2 (omega (arith, a.0))
+
+first_is : (from : ℕ) (t : ℕ × ℤ) (ts : Terms) → Rises from (t ∷ ts) → coefficient (t ∷ ts) t.0 ≡ t.1
+first_is from t ts a = here_is t ts t.0 refl ∙ ap (λ z. t.1 +ℤ z) (none_under (t.0 + 1) ts t.0 a.2 (omega arith)) ∙ omega (arith, ints)
+
+-- two rising rows with one coefficient at each coordinate are one
+pub told_rising : (from : ℕ) (xs ys : Terms) → Rises from xs → Rises from ys → ((c : ℕ) → coefficient xs c ≡ coefficient ys c) → xs ≡ ys
+told_rising from [] [] a b h = refl
+told_rising from [] (y ∷ ys) a b h = absurd (b.1 (sym (first_is from y ys b) ∙ sym (h y.0)))
+told_rising from (x ∷ xs) [] a b h = absurd (a.1 (sym (first_is from x xs a) ∙ h x.0))
+told_rising from (x ∷ xs) (y ∷ ys) a b h = by_order (cases_order x.0 y.0) (λ e. told_rising (x.0 + 1) xs ys a.2 (subst (λ (n : ℕ). Rises (n + 1) ys) (sym e) b.2) (rests e))
+  where
+    later : (c : ℕ) → (t : ℕ × ℤ) (ts : Terms) → Rises from (t ∷ ts) → c < t.0 → coefficient (t ∷ ts) c ≡ pos 0
+    later c t ts k l = none_under t.0 (t ∷ ts) c (omega arith, k.1, k.2) l
+
+    rests : x.0 ≡ y.0 → (c : ℕ) → coefficient xs c ≡ coefficient ys c
+    rests e c = by_cases (cases_order c x.0)
+      where
+        by_cases : (c ≡ x.0) ⊎ ((c < x.0) ⊎ (x.0 < c)) → coefficient xs c ≡ coefficient ys c
+        by_cases (inr (inl l)) = none_under (x.0 + 1) xs c a.2 (omega arith) ∙ sym (none_under (y.0 + 1) ys c b.2 (omega arith))
+        by_cases (inl q) = none_under (x.0 + 1) xs c a.2 (omega arith) ∙ sym (none_under (y.0 + 1) ys c b.2 (omega arith))
+        by_cases (inr (inr g)) = sym (other_is x xs c (λ q. omega arith)) ∙ h c ∙ other_is y ys c (λ q. omega arith)
+
+    by_order : (x.0 ≡ y.0) ⊎ ((x.0 < y.0) ⊎ (y.0 < x.0)) → (x.0 ≡ y.0 → xs ≡ ys) → x ∷ xs ≡ y ∷ ys
+    by_order (inr (inl l)) ih = absurd (a.1 (sym (first_is from x xs a) ∙ h x.0 ∙ later x.0 y ys b l))
+    by_order (inl e) ih = ap₂ (λ t ts. t ∷ ts) (ap₂ (λ (n : ℕ) (z : ℤ). let p : ℕ × ℤ = (n, z) in p) e (sym (first_is from x xs a) ∙ h x.0 ∙ ap (coefficient (y ∷ ys)) e ∙ first_is from y ys b)) (ih e)
+    by_order (inr (inr g)) ih = absurd (b.1 (sym (first_is from y ys b) ∙ sym (h y.0) ∙ later y.0 x xs a g))

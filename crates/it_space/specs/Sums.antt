@@ -1,0 +1,29 @@
+-- Whole numbers by place, while amounts are added to them.
+use Rattle.std.specs.Prelude.{◌≡◌, ℕ, zero, ◌+◌, ℤ, pos, ◌+ℤ◌, List, [], ◌∷◌, ◌++◌, length, cond, nat_eq, slice_index_or, All}
+use Rattle.it_number.specs.Limit.{IsWithin}
+use Rattle.it_space.specs.Rows.{Terms}
+
+-- the number at a place, 0 past the last one
+abbrev pub number_at : List ℤ → ℕ → ℤ
+number_at xs i = slice_index_or xs i (pos 0)
+
+-- numbers by place, with one amount added at its place
+abbrev pub plus_at : (ℕ → ℤ) → ℕ × ℤ → ℕ → ℤ
+plus_at f t c = f c +ℤ cond (nat_eq t.0 c) t.1 (pos 0)
+
+-- an amount was added at a place, where the sum is within the limit
+pub record IsAdded (old new : List ℤ) (place : ℕ) (amount : ℤ) : Type 0 where
+  pub fits : IsWithin (number_at old place +ℤ amount)
+  pub same : number_at new ≡ plus_at (number_at old) (place, amount)
+  pub complete : length new ≡ length old
+  pub within : All IsWithin old → All IsWithin new
+
+-- the numbers other than 0, each after its place
+abbrev pub term_if : ℕ → ℤ → Terms
+term_if i (pos zero) = []
+term_if i x = (i, x) ∷ []
+
+-- those of a list whose first number stands at a place
+abbrev pub terms_from : ℕ → List ℤ → Terms
+terms_from first [] = []
+terms_from first (x ∷ xs) = term_if first x ++ terms_from (first + 1) xs

@@ -1,0 +1,178 @@
+ghost use Rattle.std.specs.Prelude.{◌≡◌, ◌≢◌, pos, ◌*ℤ◌, ◌<◌, ◌^◌, ◌<ℤ◌, ◌++◌, OkIff, OnOk, IfOk, IfErr, IfSome, IfNone, [], unsigned_abs};
+ghost use Rattle.it_number.specs.Limit.{IsWithin};
+ghost use Rattle.it_space.specs.Rows.{Ascends, IsCanonical, coefficient};
+ghost use Rattle.it_space.specs.Cancelling.{common_at, term_at, MixFits, CancelFits, cancelled_row};
+ghost use Rattle.it_space.specs.Mixing.{mix, MixesFit, AreLater, IsFirst, IsPut, IsMix};
+ghost use Rattle.it_space.specs.declared.faults.RowFault.TheVariants.{Wide as IsTooWide};
+
+use crate::faults::RowFault;
+use crate::rows::Row;
+use it_fraction::{Wide, gcd, signed_product, sum};
+use std::alloc::Global;
+
+/// The row without a coordinate that two rows give: one that is positive there and one that is negative there, each so many
+/// times that their sum has no term there. It is wide where at another coordinate a product or the sum is.
+pub fn cancel(alloc: Global, up: &Row, down: &Row, at: u32) -> Result<Row, RowFault>
+    requires up { pos 0 <ℤ coefficient up.now at }
+    requires down { coefficient down.now at <ℤ pos 0 }
+    ensures row { IfOk result (λ row. row ≡ cancelled_row at up.now down.now) }
+    ensures canonical { IfOk result IsCanonical }
+    ensures fits { OnOk result (CancelFits at up.now down.now) }
+    ensures wide { IfErr result (λ fault. fault ≡ IsTooWide → ¬ (CancelFits at up.now down.now)) }
+{
+    let common = common_divisor(up, down, at);
+    let times_up = size(down, at) / common;
+    let times_down = size(up, at) / common;
+    let terms = mix(alloc, up.terms(), times_up, down.terms(), times_down, at)?;
+    Ok(Row::new(terms))
+}
+
+/// The greatest common divisor of the coefficients of two rows at a coordinate.
+fn common_divisor(up: &Row, down: &Row, at: u32) -> u128
+    requires { pos 0 <ℤ coefficient up.now at }
+    ensures value { result ≡ common_at at up.now down.now }
+    ensures some { 0 < result }
+{
+    gcd(up.coefficient(at), down.coefficient(at)).unsigned_abs()
+}
+
+/// The absolute value of the coefficient at a coordinate.
+fn size(row: &Row, at: u32) -> u128
+    ensures value { result ≡ unsigned_abs (coefficient row.now at) }
+    ensures within { result < 2 ^ 127 }
+{
+    row.coefficient(at).unsigned_abs()
+}
+
+/// One row so many times and another one so many times, added, without the term at a coordinate.
+fn mix(
+    alloc: Global,
+    up: &[(u32, i128)],
+    a: u128,
+    down: &[(u32, i128)],
+    b: u128,
+    at: u32,
+) -> Result<Vec<(u32, i128)>, RowFault>
+    requires up { IsCanonical up.now }
+    requires down { IsCanonical down.now }
+    requires a { a < 2 ^ 127 }
+    requires b { b < 2 ^ 127 }
+    ensures is { IfOk result (λ v. IsMix at a up.now b down.now v.items) }
+    ensures wide { IfErr result (λ fault. fault ≡ IsTooWide → ¬ (MixesFit at a up.now b down.now)) }
+{
+    let mut terms = Vec::new(alloc);
+    let mut left = up;
+    let mut right = down;
+    while let Some(coordinate) = first_coordinate(left, right) {
+        put_term(&mut terms, coordinate, left, a, right, b, at)?;
+        left = rest_after(left, coordinate);
+        right = rest_after(right, coordinate);
+    }
+    Ok(terms)
+}
+
+/// The first coordinate of two rows, None where both have no term.
+fn first_coordinate(left: &[(u32, i128)], right: &[(u32, i128)]) -> Option<u32>
+    requires left { IsCanonical left.now }
+    requires right { IsCanonical right.now }
+    ensures some { IfSome result (IsFirst left.now right.now) }
+    ensures none { IfNone result ((left.now ≡ []) × (right.now ≡ [])) }
+{
+    match (left, right) {
+        ([], []) => None,
+        ([x, ..], []) => Some(x.0),
+        ([], [y, ..]) => Some(y.0),
+        ([x, ..], [y, ..]) => Some(if x.0 <= y.0 { x.0 } else { y.0 }),
+    }
+}
+
+/// The coefficient at a coordinate that none is before.
+fn front_coefficient(terms: &[(u32, i128)], coordinate: u32) -> i128
+    requires { Ascends coordinate terms.now }
+    ensures { result ≡ coefficient terms.now coordinate }
+{
+    match terms {
+        [term, ..] => { if term.0 == coordinate { term.1 } else { 0 } }
+        [] => 0,
+    }
+}
+
+/// The terms behind a coordinate that none is before.
+fn rest_after(terms: &[(u32, i128)], coordinate: u32) -> &[(u32, i128)]
+    requires { Ascends coordinate terms.now }
+    ensures { AreLater coordinate terms.now result.now }
+{
+    match terms {
+        [term, rest @ ..] => { if term.0 == coordinate { rest } else { terms } }
+        [] => terms,
+    }
+}
+
+/// Puts the term of the sum at a coordinate behind the others, unless it is the coordinate that is left out.
+fn put_term(
+    terms: &mut Vec<(u32, i128)>,
+    coordinate: u32,
+    left: &[(u32, i128)],
+    a: u128,
+    right: &[(u32, i128)],
+    b: u128,
+    at: u32,
+) -> Result<(), RowFault>
+    requires left { Ascends coordinate left.now }
+    requires right { Ascends coordinate right.now }
+    requires a { a < 2 ^ 127 }
+    requires b { b < 2 ^ 127 }
+    ensures is { OnOk result (IsPut at coordinate a left.now b right.now terms.old.items terms.new.items) }
+    ensures wide { IfErr result (λ fault. fault ≡ IsTooWide → (coordinate ≢ at) × ¬ (MixFits (pos a) (coefficient left.now coordinate) (pos b) (coefficient right.now coordinate))) }
+{
+    if coordinate == at {
+        return Ok(());
+    }
+    let total = mixed_coefficient(left, a, right, b, coordinate)?;
+    put_nonzero(terms, coordinate, total)
+}
+
+fn put_nonzero(
+    terms: &mut Vec<(u32, i128)>,
+    coordinate: u32,
+    coefficient: i128,
+) -> Result<(), RowFault>
+    ensures is { OnOk result (terms.new.items ≡ terms.old.items ++ term_at coordinate coefficient) }
+    ensures fault { IfErr result (λ fault. fault ≢ IsTooWide) }
+{
+    if coefficient == 0 {
+        return Ok(());
+    }
+    match terms.push((coordinate, coefficient)) {
+        Ok(()) => Ok(()),
+        Err(_) => Err(RowFault::Memory),
+    }
+}
+
+/// The coefficient of the sum at a coordinate.
+fn mixed_coefficient(
+    left: &[(u32, i128)],
+    a: u128,
+    right: &[(u32, i128)],
+    b: u128,
+    coordinate: u32,
+) -> Result<i128, Wide>
+    requires left { Ascends coordinate left.now }
+    requires right { Ascends coordinate right.now }
+    requires a { a < 2 ^ 127 }
+    requires b { b < 2 ^ 127 }
+    ensures { OkIff result (MixFits (pos a) (coefficient left.now coordinate) (pos b) (coefficient right.now coordinate)) (mix a left.now b right.now coordinate) }
+{
+    sum(
+        coefficient_times(left, coordinate, a)?,
+        coefficient_times(right, coordinate, b)?,
+    )
+}
+
+fn coefficient_times(terms: &[(u32, i128)], coordinate: u32, times: u128) -> Result<i128, Wide>
+    requires terms { Ascends coordinate terms.now }
+    requires times { times < 2 ^ 127 }
+    ensures { OkIff result (IsWithin (pos times *ℤ coefficient terms.now coordinate)) (pos times *ℤ coefficient terms.now coordinate) }
+{
+    signed_product(times as i128, front_coefficient(terms, coordinate))
+}
