@@ -3,9 +3,12 @@ pub mod Lacking
 pub mod Blocks
 pub mod PairLemmas
 pub mod PlaceLemmas
+pub mod IndexLemmas
 pub mod RowLemmas
 pub mod FitLemmas
 pub mod BrokenLemmas
 pub mod Members
 pub mod Sums
 pub mod ExpansionLemmas
+pub mod GeneratorLemmas
+pub mod ValueLemmas

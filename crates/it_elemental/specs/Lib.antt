@@ -1,5 +1,7 @@
 pub mod Views
 pub mod Places
+pub mod Indexes
 pub mod Rows
 pub mod Broken
 pub mod Expansions
+pub mod Generators

@@ -1,0 +1,47 @@
+-- The generators of a problem: the elemental inequalities, then the constraints, numbered from 0. What a row says is to be at least 0, or to be 0.
+use Rattle.std.specs.Prelude.{ℕ, List, [], ◌++◌, length, map, slice_index_or, Bool, true, false}
+use Rattle.it_space.specs.declared.problems.Kind.{Kind}
+use Rattle.it_space.specs.declared.problems.Kind.TheVariants.{Inequality, Equation}
+use Rattle.it_space.specs.declared.problems.Constraint.{Constraint}
+use Rattle.it_space.specs.Problems.{ProblemView}
+use Rattle.it_space.specs.Rows.{Terms, value}
+use Rattle.it_polymatroid.specs.Certificates.{Generators}
+use Rattle.it_polymatroid.specs.Elementals.{Elemental, elementals}
+use Rattle.it_elemental.specs.Rows.{elemental_row}
+
+pub record Generator : Type 0 where
+  pub kind : Kind
+  pub row : Terms
+
+abbrev pub of_elemental : ℕ → Elemental → Generator
+of_elemental n e = record { kind = Inequality; row = elemental_row n e }
+
+abbrev pub of_constraint : Constraint → Generator
+of_constraint c = record { kind = c.kind; row = c.row }
+
+-- the elemental inequalities of n variables, then the constraints
+unfoldable pub generator_list : ℕ → List Constraint → List Generator
+generator_list n cs = map (of_elemental n) (elementals n) ++ map of_constraint cs
+
+abbrev pub generators : ProblemView → List Generator
+generators q = generator_list q.space.variables q.constraints
+
+-- the generator of a number
+abbrev pub generator_at : List Generator → ℕ → Generator
+generator_at gs i = slice_index_or gs i (record { kind = Inequality; row = [] })
+
+abbrev pub is_equation : Kind → Bool
+is_equation Inequality = false
+is_equation Equation = true
+
+-- as what certificates are built from
+abbrev pub forms_of : List Generator → Generators
+forms_of gs = record {
+  count = length gs;
+  worth_of = λ i p. value (generator_at gs i).row p;
+  is_equation = λ i. is_equation (generator_at gs i).kind;
+}
+
+-- the generators of a problem as what its certificates are built from
+abbrev pub generators_of : ProblemView → Generators
+generators_of q = forms_of (generators q)

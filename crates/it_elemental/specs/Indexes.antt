@@ -1,0 +1,24 @@
+-- The number of an elemental inequality in the list, as a formula.
+use Rattle.std.specs.Prelude.{◌≡◌, ℕ, zero, suc, ◌+◌, ◌-◌, ◌*◌, ◌/◌, ◌^◌, ◌<◌, length}
+use Rattle.it_polymatroid.specs.Elementals.{Elemental, Conditional, Mutual, elementals, elemental_at}
+use Rattle.it_elemental.specs.Places.{gather}
+use Rattle.it_elemental.specs.Views.{IsElemental}
+
+-- how many pairs have a first variable before i
+abbrev pub pairs_before : ℕ → ℕ → ℕ
+pairs_before n zero = 0
+pairs_before n (suc i) = pairs_before n i + (n - (i + 1))
+
+-- the number of H(Xi | all others), or of I(Xi;Xj | K), which is that of the pair times the number of sets, and then that of K with the digits of i and j taken out
+unfoldable pub index_of : ℕ → Elemental → ℕ
+index_of n (Conditional i) = i
+index_of n (Mutual i j k) = n + (pairs_before n i + (j - i - 1)) * (2 ^ n / 4) + gather i (gather j k)
+
+-- it is the one place at which the list has the inequality
+abbrev pub IndexesTold : Type 0
+IndexesTold = (n : ℕ) → ((e : Elemental) → IsElemental n e → (index_of n e < length (elementals n)) × (elemental_at n (index_of n e) ≡ e))
+    × ((i : ℕ) → i < length (elementals n) → index_of n (elemental_at n i) ≡ i)
+
+-- so none stands there twice
+abbrev pub ListedOnce : Type 0
+ListedOnce = (n i j : ℕ) → i < length (elementals n) → j < length (elementals n) → elemental_at n i ≡ elemental_at n j → i ≡ j

@@ -1,0 +1,78 @@
+//! The values of elemental inequalities at a point.
+ghost use Rattle.std.specs.Prelude.{◌≡◌, ◌<◌, ◌≤◌, ◌^◌, ◌+◌, ◌+ℤ◌, ◌-ℤ◌, length, All, OkIff};
+ghost use Rattle.it_number.specs.Limit.{IsWithin};
+ghost use Rattle.it_space.specs.Rows.{ValueFits, map_of, value};
+ghost use Rattle.it_polymatroid.specs.Elementals.{Conditional, Mutual, elementals, elemental_at};
+ghost use Rattle.it_elemental.specs.Broken.{AlternatingFits};
+ghost use Rattle.it_elemental.specs.Rows.{elemental_row};
+ghost use Rattle.it_elemental.specs.Views.{IsElemental};
+
+use crate::inequalities::{Elemental, parts};
+use crate::sets::{all, all_but, with};
+use it_fraction::{Wide, difference, sum};
+use it_space::{Point, VarSet};
+
+/// What an inequality says to be at least 0, at a point whose first values are those of the nonempty sets: summed in order
+/// of the sets, and wide exactly where a partial sum is.
+pub fn value_at(n: u8, index: u32, point: &Point) -> Result<i128, Wide>
+    requires some { 1 ≤ n }
+    requires few { n ≤ 10 }
+    requires listed { index < length (elementals n) }
+    requires complete { 2 ^ n ≤ length point.now + 1 }
+    ensures { OkIff result (ValueFits (elemental_row n (elemental_at n index)) (map_of point.now)) (value (elemental_row n (elemental_at n index)) (map_of point.now)) }
+{
+    match parts(n, index) {
+        Elemental::Conditional { of } => conditional(point, n, of),
+        Elemental::Mutual { left, right, given } => mutual(point, n, left, right, given),
+    }
+}
+
+/// The value at a set, 0 at the empty set.
+fn at_set(point: &Point, set: VarSet) -> i128
+    requires { set ≤ length point.now }
+    ensures value { result ≡ map_of point.now set }
+    ensures within { All IsWithin point.now }
+{
+    let values = point.values();
+    if set == VarSet::empty() {
+        0
+    } else {
+        values[set.number() as usize - 1]
+    }
+}
+
+/// - a + b + c - d, from left to right.
+pub fn alternating(a: i128, b: i128, c: i128, d: i128) -> Result<i128, Wide>
+    ensures { OkIff result (AlternatingFits a b c d) (((b -ℤ a) +ℤ c) -ℤ d) }
+{
+    let three = sum(difference(b, a)?, c)?;
+    difference(three, d)
+}
+
+/// The entropy of a variable given all others.
+fn conditional(point: &Point, n: u8, of: u8) -> Result<i128, Wide>
+    requires few { n ≤ 10 }
+    requires shape { of < n }
+    requires complete { 2 ^ n ≤ length point.now + 1 }
+    ensures { OkIff result (ValueFits (elemental_row n (Conditional of)) (map_of point.now)) (value (elemental_row n (Conditional of)) (map_of point.now)) }
+{
+    difference(at_set(point, all(n)), at_set(point, all_but(n, of)))
+}
+
+/// The mutual information of two variables given a set.
+fn mutual(point: &Point, n: u8, left: u8, right: u8, given: VarSet) -> Result<i128, Wide>
+    requires few { n ≤ 10 }
+    requires shape { IsElemental n (Mutual left right given) }
+    requires complete { 2 ^ n ≤ length point.now + 1 }
+    ensures { OkIff result (ValueFits (elemental_row n (Mutual left right given)) (map_of point.now)) (value (elemental_row n (Mutual left right given)) (map_of point.now)) }
+{
+    let with_left = with(given, left);
+    let with_right = with(given, right);
+    let both = with(with_left, right);
+    alternating(
+        at_set(point, given),
+        at_set(point, with_left),
+        at_set(point, with_right),
+        at_set(point, both),
+    )
+}
