@@ -1,0 +1,69 @@
+-- What valid certificates and counterexamples say of the problem.
+use Rattle.std.proofs.Common.{◌≡◌, ℕ, ◌+◌, ◌≤◌, ℤ, pos, ◌*ℤ◌, ◌≤ℤ◌, List, [], ◌∷◌, length, true, All, refl, arith}
+use Rattle.std.proofs.lemmas.Int.{ints}
+use Rattle.std.proofs.lemmas.List.Elements.{All-head, All-tail}
+use Rattle.it_space.specs.declared.problems.Kind.{Kind}
+use Rattle.it_space.specs.declared.problems.Kind.TheVariants.{Inequality, Equation}
+use Rattle.it_space.specs.Problems.{Meets}
+use Rattle.it_space.specs.Rows.{Terms, IsUpTo, ValueFits, map_of, value}
+use Rattle.it_space.specs.Spaces.{size_of}
+use Rattle.it_polymatroid.specs.Certificates.{IsLinear}
+use Rattle.it_polymatroid.specs.Elementals.{elementals}
+use Rattle.it_polymatroid.proofs.Certified.{certificates_prove}
+use Rattle.it_polymatroid.proofs.Every.{Every, every_of, all_of, every-same}
+use Rattle.it_polymatroid.proofs.Forms.{linear_zero, linear_at, linear-add, linear-scale}
+use Rattle.it_elemental.proofs.GeneratorLemmas.{rows_of_space}
+use Rattle.it_elemental.specs.Generators.{Generator, generators, generator_at, forms_of, is_equation}
+use Rattle.it_check.specs.Meaning.{ValidYes, ValidNo, YesIsTrue}
+use Rattle.it_check.proofs.YesMeaning.{valid_yes, yes_valid}
+use Rattle.it_check.proofs.NoMeaning.{IsRight, valid_no, no_valid, met_listed, listed_met}
+
+pub valid_yes_is : ValidYes
+valid_yes_is q target w k u = (
+  λ e. valid_yes (generators q) (size_of q.space) target w e,
+  λ h. yes_valid (generators q) (size_of q.space) target w h.0 h.1,
+)
+
+pub valid_no_is : ValidNo
+valid_no_is q target values k u e = (
+  λ v.
+      let told = valid_no (length (elementals q.space.variables)) (generators q) target (map_of values) v in
+      let both = listed_met q.space.variables q.constraints (map_of values) refl (every-same (IsRight (map_of values)) (λ g. Meets g.kind (value g.row (map_of values))) (generators q) (λ g h. h.1) told.0) in (
+        record { complete = e; polymatroid = both.0; met = both.1; violated = told.1.1 },
+        record { each = all_of (λ g. ValueFits g.row (map_of values)) (generators q) (every-same (IsRight (map_of values)) (λ g. ValueFits g.row (map_of values)) (generators q) (λ g h. h.0) told.0); own = told.1.0 },
+      ),
+  λ h. no_valid (length (elementals q.space.variables)) (generators q) target (map_of values)
+      (zipped (generators q) (every_of (λ g. ValueFits g.row (map_of values)) (generators q) h.1.each) (met_listed q.space.variables q.constraints (map_of values) refl h.0.polymatroid h.0.met)) h.1.own h.0.violated,
+)
+  where
+    zipped : (gs : List Generator) → Every (λ g. ValueFits g.row (map_of values)) gs → Every (λ g. Meets g.kind (value g.row (map_of values))) gs → Every (IsRight (map_of values)) gs
+    zipped [] a b = tt
+    zipped (g ∷ gs) a b = ((a.0, b.0), zipped gs a.1 b.1)
+
+-- ---- a certified target is at least 0
+
+pub row_linear : (size : ℕ) (row : Terms) → IsUpTo size row → IsLinear (size + 1) (value row)
+row_linear size [] u = linear_zero (size + 1)
+row_linear size (t ∷ ts) u =
+    let here : (1 ≤ t.0) × (t.0 ≤ size) = All-head (λ (t : ℕ × ℤ). (1 ≤ t.0) × (t.0 ≤ size)) t ts u in
+    linear-add (size + 1) (λ p. t.1 *ℤ p t.0) (value ts) (linear-scale (size + 1) t.1 (λ p. p t.0) (linear_at (size + 1) t.0 (omega arith)))
+    (row_linear size ts (All-tail (λ (t : ℕ × ℤ). (1 ≤ t.0) × (t.0 ≤ size)) t ts u))
+
+at_least : (k : Kind) (x : ℤ) → Meets k x → pos 0 ≤ℤ x
+at_least Inequality x h = h
+at_least Equation x h = omega (arith, ints, h)
+
+is_zero : (k : Kind) (x : ℤ) → Meets k x → is_equation k ≡ true → x ≡ pos 0
+is_zero Inequality x h e = absurd (cc)
+is_zero Equation x h e = h
+
+pub yes_is_true : YesIsTrue
+yes_is_true q target w k u c p h m =
+    let size = size_of q.space in
+    let gs = generators q in
+    let none : Generator = record { kind = Inequality; row = [] } in
+    let rows : All (λ g. IsUpTo size g.row) gs = all_of (λ g. IsUpTo size g.row) gs (rows_of_space q.space.variables size q.constraints (omega arith) k.rows) in
+    let met : All (λ g. Meets g.kind (value g.row p)) gs = all_of (λ g. Meets g.kind (value g.row p)) gs (met_listed q.space.variables q.constraints p h.empty h m) in
+    certificates_prove (size + 1) (forms_of gs) (value target) w (λ i l. row_linear size (generator_at gs i).row (rows i none l)) (row_linear size target u) c p h.empty
+    (λ i l. at_least (generator_at gs i).kind (value (generator_at gs i).row p) (met i none l))
+    (λ i l e. is_zero (generator_at gs i).kind (value (generator_at gs i).row p) (met i none l) e)

@@ -1,0 +1,16 @@
+//! The checker of certificates and counterexamples.
+#![tactic(auto)]
+
+mod laws;
+mod no;
+mod values;
+mod verdicts;
+mod yes;
+
+pub use laws::{valid_no, valid_yes, yes_is_true};
+pub use no::check_no;
+pub use verdicts::Verdict;
+pub use yes::check_yes;
+
+#[cfg(test)]
+mod tests;

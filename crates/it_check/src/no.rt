@@ -1,0 +1,100 @@
+//! The verdict on a counterexample.
+ghost use Rattle.std.specs.Prelude.{◌≡◌, ◌<◌, length, pos};
+ghost use Rattle.it_space.specs.Problems.{IsProblem, problem_view};
+ghost use Rattle.it_space.specs.Rows.{IsUpTo, map_of};
+ghost use Rattle.it_space.specs.Spaces.{size_of};
+ghost use Rattle.it_polymatroid.specs.Elementals.{elementals};
+ghost use Rattle.it_elemental.specs.Generators.{generators, generator_at};
+ghost use Rattle.it_check.specs.Sums.{sum_within};
+ghost use Rattle.it_check.specs.Verdicts.{violates, violation, of_generator, of_generators, of_target, no_verdict};
+
+use crate::values::generator_value;
+use crate::verdicts::Verdict;
+use it_elemental::{count, generator_count, kind_at};
+use it_space::{Kind, Point, Problem, Row, value};
+
+fn violates(kind: Kind, value: i128) -> bool
+    ensures { result ≡ violates kind value }
+{
+    match kind {
+        Kind::Inequality => value < 0,
+        Kind::Equation => value != 0,
+    }
+}
+
+fn violation(problem: &Problem, index: u32, value: i128) -> Verdict
+    requires { IsProblem (problem_view problem.now) }
+    ensures { result ≡ violation (length (elementals problem.now.space.variables)) index value }
+{
+    if index < count(problem.space.variables) {
+        Verdict::BrokenElemental { index, value }
+    } else {
+        Verdict::UnmetConstraint { index, value }
+    }
+}
+
+/// A generator that isn't met, or whose value is wide.
+fn of_generator(problem: &Problem, index: u32, point: &Point) -> Option<Verdict>
+    requires problem { IsProblem (problem_view problem.now) }
+    requires listed { index < length (generators (problem_view problem.now)) }
+    requires complete { length point.now ≡ size_of problem.now.space }
+    ensures { result ≡ of_generator (length (elementals problem.now.space.variables)) index (generator_at (generators (problem_view problem.now)) index) (map_of point.now) }
+{
+    let Ok(value) = generator_value(problem, index, point) else {
+        return Some(Verdict::Width { place: index });
+    };
+    if violates(kind_at(problem, index), value) {
+        Some(violation(problem, index, value))
+    } else {
+        None
+    }
+}
+
+/// The first such generator.
+fn of_generators(problem: &Problem, point: &Point) -> Option<Verdict>
+    requires problem { IsProblem (problem_view problem.now) }
+    requires complete { length point.now ≡ size_of problem.now.space }
+    ensures { result ≡ of_generators (length (elementals problem.now.space.variables)) 0 (generators (problem_view problem.now)) (map_of point.now) }
+{
+    for index in 0..generator_count(problem) {
+        if let Some(verdict) = of_generator(problem, index, point) {
+            return Some(verdict);
+        }
+    }
+    None
+}
+
+/// A target that isn't violated, or whose value is wide.
+fn of_target(problem: &Problem, target: &Row, point: &Point) -> Option<Verdict>
+    requires problem { IsProblem (problem_view problem.now) }
+    requires target { IsUpTo (size_of problem.now.space) target.now }
+    requires complete { length point.now ≡ size_of problem.now.space }
+    ensures { result ≡ of_target (length (generators (problem_view problem.now))) (sum_within (pos 0) target.now (map_of point.now)) }
+{
+    let Ok(value) = value(target, point) else {
+        let place = generator_count(problem);
+        return Some(Verdict::Width { place });
+    };
+    if value < 0 {
+        None
+    } else {
+        Some(Verdict::NotViolated { value })
+    }
+}
+
+/// Whether the point meets the problem and violates the target: the first thing that is wrong with it, in order of the
+/// generators and then the target.
+pub fn check_no(problem: &Problem, target: &Row, point: &Point) -> Verdict
+    requires problem { IsProblem (problem_view problem.now) }
+    requires target { IsUpTo (size_of problem.now.space) target.now }
+    requires complete { length point.now ≡ size_of problem.now.space }
+    ensures { result ≡ no_verdict (length (elementals problem.now.space.variables)) (generators (problem_view problem.now)) target.now (map_of point.now) }
+{
+    if let Some(verdict) = of_generators(problem, point) {
+        return verdict;
+    }
+    match of_target(problem, target, point) {
+        Some(verdict) => verdict,
+        None => Verdict::Valid,
+    }
+}

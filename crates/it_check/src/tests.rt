@@ -1,0 +1,67 @@
+use crate::{Verdict, check_no, check_yes};
+use it_space::{Certificate, Point, Problem, Row, Space};
+use std::test::Fail;
+
+const SPACE: Space = Space {
+    variables: 2,
+    rates: 0,
+};
+
+#[test]
+fn a_certificate_has_the_first_verdict(rt: HostRuntime) -> Result<(), Fail> {
+    let alloc = rt.alloc();
+    let problem = Problem {
+        space: SPACE,
+        constraints: Vec::new(alloc),
+    };
+    // I(X;Y), which is generator 2
+    let target = Row::new(vec![in alloc; (1, 1), (2, 1), (3, -1)]?);
+    for (scale, weight, verdict) in [
+        (1, 1, Verdict::Valid),
+        (0, -1, Verdict::BadScale { scale: 0 }),
+        (1, -1, Verdict::NegativeWeight { index: 2 }),
+        (
+            1,
+            2,
+            Verdict::Mismatch {
+                coordinate: 1,
+                left: 1,
+                right: 2,
+            },
+        ),
+    ] {
+        let weights = vec![in alloc; (2, weight)]?;
+        let certificate = Certificate { scale, weights };
+        assert!(rt; check_yes(&problem, &target, &certificate) == verdict);
+    }
+    let weights = vec![in alloc; (3, -1)]?;
+    let unknown = Certificate { scale: 1, weights };
+    let verdict = check_yes(&problem, &target, &unknown);
+    assert!(rt; verdict == Verdict::UnknownGenerator { index: 3 });
+    Ok(())
+}
+
+#[test]
+fn a_point_has_the_first_verdict(rt: HostRuntime) -> Result<(), Fail> {
+    let alloc = rt.alloc();
+    let problem = Problem {
+        space: SPACE,
+        constraints: Vec::new(alloc),
+    };
+    // h(X) - h(X,Y)
+    let target = Row::new(vec![in alloc; (1, 1), (3, -1)]?);
+    let point = Point::new(SPACE, vec![in alloc; 0, 1, 1]?);
+    assert!(rt; check_no(&problem, &target, &point) == Verdict::Valid);
+    // I(X;Y) is -1
+    let point = Point::new(SPACE, vec![in alloc; 0, 1, 2]?);
+    let broken = Verdict::BrokenElemental {
+        index: 2,
+        value: -1,
+    };
+    assert!(rt; check_no(&problem, &target, &point) == broken);
+    // I(X;Y)
+    let target = Row::new(vec![in alloc; (1, 1), (2, 1), (3, -1)]?);
+    let point = Point::new(SPACE, vec![in alloc; 1, 1, 1]?);
+    assert!(rt; check_no(&problem, &target, &point) == Verdict::NotViolated { value: 1 });
+    Ok(())
+}

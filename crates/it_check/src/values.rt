@@ -1,0 +1,28 @@
+//! The values of generators at a point.
+ghost use Rattle.std.specs.Prelude.{◌≡◌, ◌<◌, length, OkIff};
+ghost use Rattle.it_space.specs.Problems.{IsProblem, problem_view};
+ghost use Rattle.it_space.specs.Rows.{ValueFits, map_of, value};
+ghost use Rattle.it_space.specs.Spaces.{size_of};
+ghost use Rattle.it_elemental.specs.Generators.{generators, generator_at};
+
+use it_elemental::{count, value_at as elemental_value};
+use it_fraction::Wide;
+use it_space::{Point, Problem, value};
+
+/// The value of a generator at a point.
+pub fn generator_value(problem: &Problem, index: u32, point: &Point) -> Result<i128, Wide>
+    requires problem { IsProblem (problem_view problem.now) }
+    requires listed { index < length (generators (problem_view problem.now)) }
+    requires complete { length point.now ≡ size_of problem.now.space }
+    ensures { OkIff result (ValueFits (generator_at (generators (problem_view problem.now)) index).row (map_of point.now)) (value (generator_at (generators (problem_view problem.now)) index).row (map_of point.now)) }
+{
+    let n = problem.space.variables;
+    let elementals = count(n);
+    if index >= elementals {
+        return value(
+            &problem.constraints[(index - elementals) as usize].row,
+            point,
+        );
+    }
+    elemental_value(n, index, point)
+}

@@ -1,0 +1,137 @@
+//! The verdict on a certificate.
+ghost use Rattle.std.specs.Prelude.{◌≡◌, ◌<◌, ◌≤◌, ℕ, ℤ, length, All, OkIff, None, ◌*ℤ◌};
+ghost use Rattle.it_number.specs.Limit.{IsWithin};
+ghost use Rattle.it_space.specs.Answers.{certificate_view};
+ghost use Rattle.it_space.specs.Problems.{IsProblem, problem_view};
+ghost use Rattle.it_space.specs.Rows.{IsUpTo, ValueFits, coefficient, value};
+ghost use Rattle.it_space.specs.Spaces.{size_of};
+ghost use Rattle.it_elemental.specs.Generators.{generators};
+ghost use Rattle.it_check.specs.Verdicts.{column, of_scale, of_weight, of_weights, of_coordinate, of_coordinates, yes_verdict};
+
+use crate::verdicts::Verdict;
+use it_elemental::{coefficient_at, generator_count, is_equation};
+use it_fraction::{Wide, signed_product};
+use it_space::{Certificate, Problem, Row, with_product};
+
+fn of_scale(certificate: &Certificate) -> Option<Verdict>
+    ensures { result ≡ of_scale certificate.now.scale }
+{
+    let scale = certificate.scale;
+    if scale < 1 {
+        Some(Verdict::BadScale { scale })
+    } else {
+        None
+    }
+}
+
+/// A weight of a generator that isn't there, or a negative one of an inequality.
+fn of_weight(problem: &Problem, weight: &(u32, i128)) -> Option<Verdict>
+    requires { IsProblem (problem_view problem.now) }
+    ensures { result ≡ of_weight (generators (problem_view problem.now)) weight.now }
+{
+    let index = weight.0;
+    if index >= generator_count(problem) {
+        return Some(Verdict::UnknownGenerator { index });
+    }
+    if weight.1 < 0 && !is_equation(problem, index) {
+        return Some(Verdict::NegativeWeight { index });
+    }
+    None
+}
+
+/// The first such weight.
+fn of_weights(problem: &Problem, weights: &[(u32, i128)]) -> Option<Verdict>
+    requires { IsProblem (problem_view problem.now) }
+    ensures { result ≡ of_weights (generators (problem_view problem.now)) weights.now }
+{
+    for weight in weights {
+        if let Some(verdict) = of_weight(problem, weight) {
+            return Some(verdict);
+        }
+    }
+    None
+}
+
+/// The scale times the target's coefficient at a coordinate.
+fn left_number(target: &Row, certificate: &Certificate, coordinate: u32) -> Result<i128, Wide>
+    ensures { OkIff result (IsWithin (certificate.now.scale *ℤ coefficient target.now coordinate)) (certificate.now.scale *ℤ coefficient target.now coordinate) }
+{
+    signed_product(certificate.scale, target.coefficient(coordinate))
+}
+
+/// The sum of weights times coefficients at a coordinate.
+fn right_number(problem: &Problem, weights: &[(u32, i128)], coordinate: u32) -> Result<i128, Wide>
+    requires problem { IsProblem (problem_view problem.now) }
+    requires listed { All (λ w. w.0 < length (generators (problem_view problem.now))) weights.now }
+    requires from_one { 1 ≤ coordinate }
+    requires of_space { coordinate ≤ size_of problem.now.space }
+    ensures { OkIff result (ValueFits weights.now (column (generators (problem_view problem.now)) coordinate)) (value weights.now (column (generators (problem_view problem.now)) coordinate)) }
+{
+    let mut sum: i128 = 0;
+    for (index, weight) in weights {
+        sum = with_product(sum, *weight, coefficient_at(problem, *index, coordinate))?;
+    }
+    Ok(sum)
+}
+
+/// Sides that differ at a coordinate, or one of them wide.
+fn of_coordinate(
+    problem: &Problem,
+    target: &Row,
+    certificate: &Certificate,
+    coordinate: u32,
+) -> Option<Verdict>
+    requires problem { IsProblem (problem_view problem.now) }
+    requires listed { All (λ w. w.0 < length (generators (problem_view problem.now))) certificate.now.weights.items }
+    requires from_one { 1 ≤ coordinate }
+    requires of_space { coordinate ≤ size_of problem.now.space }
+    ensures { result ≡ of_coordinate (generators (problem_view problem.now)) target.now (certificate_view certificate.now) coordinate }
+{
+    let Ok(left) = left_number(target, certificate, coordinate) else {
+        return Some(Verdict::Width { place: coordinate });
+    };
+    let Ok(right) = right_number(problem, certificate.weights.as_slice(), coordinate) else {
+        return Some(Verdict::Width { place: coordinate });
+    };
+    if left == right {
+        return None;
+    }
+    Some(Verdict::Mismatch {
+        coordinate,
+        left,
+        right,
+    })
+}
+
+/// The first coordinate with such sides.
+fn of_coordinates(problem: &Problem, target: &Row, certificate: &Certificate) -> Option<Verdict>
+    requires problem { IsProblem (problem_view problem.now) }
+    requires listed { All (λ w. w.0 < length (generators (problem_view problem.now))) certificate.now.weights.items }
+    ensures { result ≡ of_coordinates (generators (problem_view problem.now)) target.now (certificate_view certificate.now) 1 (size_of problem.now.space) }
+{
+    for coordinate in 1..problem.space.size() + 1 {
+        if let Some(verdict) = of_coordinate(problem, target, certificate, coordinate) {
+            return Some(verdict);
+        }
+    }
+    None
+}
+
+/// Whether the weights add up to the target at its scale: the first thing that is wrong with them, in order of the scale,
+/// the weights as listed and the coordinates.
+pub fn check_yes(problem: &Problem, target: &Row, certificate: &Certificate) -> Verdict
+    requires problem { IsProblem (problem_view problem.now) }
+    requires target { IsUpTo (size_of problem.now.space) target.now }
+    ensures { result ≡ yes_verdict (generators (problem_view problem.now)) (size_of problem.now.space) target.now (certificate_view certificate.now) }
+{
+    if let Some(verdict) = of_scale(certificate) {
+        return verdict;
+    }
+    if let Some(verdict) = of_weights(problem, certificate.weights.as_slice()) {
+        return verdict;
+    }
+    match of_coordinates(problem, target, certificate) {
+        Some(verdict) => verdict,
+        None => Verdict::Valid,
+    }
+}

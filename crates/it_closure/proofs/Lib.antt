@@ -1,0 +1,12 @@
+pub mod Insides
+pub mod Meets
+pub mod Ways
+pub mod Values
+pub mod Places
+pub mod ClosingLoop
+pub mod Placing
+pub mod SumRows
+pub mod ReadLemmas
+pub mod ReadLists
+pub mod Listing
+pub mod Serving

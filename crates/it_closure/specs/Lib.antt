@@ -1,0 +1,7 @@
+pub mod Closures
+pub mod DependencesViews
+pub mod Collapse
+pub mod Placings
+pub mod Reading
+pub mod ReadLaws
+pub mod Coordinates

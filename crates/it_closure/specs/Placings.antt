@@ -1,0 +1,21 @@
+-- No public clause cites these: how coefficients are summed at their places, one after the other.
+use Rattle.std.specs.Prelude.{◌≡◌, ℕ, ◌<◌, ℤ, pos, ◌+ℤ◌, List, length, cond, nat_eq, All}
+use Rattle.it_number.specs.Limit.{IsWithin}
+use Rattle.it_space.specs.Rows.{Terms, coefficient}
+use Rattle.it_space.specs.Sums.{number_at}
+use Rattle.it_closure.specs.declared.dependences.Dependence.{Dependence}
+use Rattle.it_closure.specs.Collapse.{placed_terms, CollapseFits}
+
+-- an amount put at a place, unless that is 0
+pub record IsPut (old new : List ℤ) (place : ℕ) (amount : ℤ) : Type 0 where
+  pub fits : 0 < place → IsWithin (number_at old place +ℤ amount)
+  pub same : (c : ℕ) → 0 < c → number_at new c ≡ number_at old c +ℤ cond (nat_eq place c) amount (pos 0)
+  pub complete : length new ≡ length old
+  pub within : All IsWithin old → All IsWithin new
+
+-- the sums of a row's coefficients by their places, from place 1 on
+pub record ArePlaced (n : ℕ) (ds : List Dependence) (terms : Terms) (size : ℕ) (values : List ℤ) : Type 0 where
+  pub complete : length values ≡ size
+  pub within : All IsWithin values
+  pub sums : (c : ℕ) → 0 < c → number_at values c ≡ coefficient (placed_terms n ds terms) c
+  pub fits : CollapseFits n ds terms

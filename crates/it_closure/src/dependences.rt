@@ -1,0 +1,114 @@
+//! The functional dependences among given equations, and the closure of a set under them.
+ghost use Rattle.std.specs.Prelude.{IfOk, ◌≡◌, ◌<◌, ◌^◌, All, length, [], ◌↔◌, IsTrue};
+ghost use Rattle.it_closure.specs.Closures.{closure, first_open, is_open};
+ghost use Rattle.it_space.specs.Problems.{IsProblem, problem_view};
+ghost use Rattle.it_closure.specs.DependencesViews.{AreOfSpace};
+ghost use Rattle.it_closure.specs.Reading.{dependences_of};
+
+use crate::reading::read_all;
+use it_elemental::count;
+use it_space::{Problem, Space, VarSet};
+use std::alloc::{AllocError, Global};
+use std::marker::Model;
+
+/// What a given equation says: that the variables of one set determine those of a greater one.
+#[derive(Clone, Copy, Debug, PartialEq, Eq)]
+pub struct Dependence {
+    pub from: VarSet,
+    pub to: VarSet,
+    /// The number of the equation among the generators of the problem.
+    pub generator: u32,
+    /// Whether the equation's row is h(from) - h(to), and not h(to) - h(from).
+    pub negated: bool,
+}
+
+/// All dependences of a problem, in the order of the generators.
+#[derive(Debug, Drop)]
+pub struct Dependences {
+    space: Space,
+    list: Vec<Dependence>,
+}
+
+impl Model for Dependences {
+    ghost use Rattle.it_closure.specs.DependencesViews.{DependencesView, AreOfSpace};
+
+    ghost Value = { DependencesView };
+
+    ghost view = { λ d. record { space = d.space; list = d.list.items } };
+
+    ghost invariant = { λ d. AreOfSpace (record { space = d.space; list = d.list.items }) };
+}
+
+impl Dependences {
+    /// The dependences among a problem's given equations.
+    pub fn read(alloc: Global, problem: &Problem) -> Result<Dependences, AllocError>
+        requires { IsProblem (problem_view problem.now) }
+        ensures space { IfOk result (λ d. d.space ≡ problem.now.space) }
+        ensures list { IfOk result (λ d. d.list ≡ dependences_of (problem_view problem.now)) }
+    {
+        let n = problem.space.variables;
+        let list = read_all(alloc, n, count(n), problem.constraints.as_slice())?;
+        Ok(Dependences {
+            space: problem.space,
+            list,
+        })
+    }
+
+    pub fn space(&self) -> Space
+        ensures value { result ≡ self.now.space }
+        ensures shape { AreOfSpace self.now }
+    {
+        self.space
+    }
+
+    /// The dependences, in the order of the generators.
+    pub fn list(&self) -> &[Dependence]
+        ensures { result.now ≡ self.now.list }
+    {
+        self.list.as_slice()
+    }
+
+    /// The least set that holds this one, and all that it determines with it.
+    pub fn close(&self, set: VarSet) -> VarSet
+        ensures all { result ≡ closure 16 self.now.list set }
+        ensures own { set < 2 ^ self.now.space.variables → result ≡ closure self.now.space.variables self.now.list set }
+    {
+        closed_under(self.list.as_slice(), set)
+    }
+}
+
+fn closed_under(list: &[Dependence], set: VarSet) -> VarSet
+    requires below { All (λ d. d.to < 2 ^ 16) list.now }
+    ensures { result ≡ closure 16 list.now set }
+{
+    let mut all = set;
+    loop {
+        match first_open(list, all) {
+            Some(open) => all = all.union(open.to),
+            None => return all,
+        }
+    }
+}
+
+/// The first dependence that the set doesn't keep.
+pub fn first_open(list: &[Dependence], set: VarSet) -> Option<Dependence>
+    ensures { result ≡ first_open list.now set }
+{
+    for dependence in list {
+        if is_open(*dependence, set) {
+            return Some(*dependence);
+        }
+    }
+    None
+}
+
+/// Whether the set doesn't keep a dependence.
+fn is_open(dependence: Dependence, set: VarSet) -> bool
+    ensures { result ≡ is_open dependence set }
+{
+    if dependence.from.inside(set) {
+        !dependence.to.inside(set)
+    } else {
+        false
+    }
+}

@@ -1,0 +1,17 @@
+//! Functional dependences among the given equations, closed sets, and rows over closed sets.
+#![tactic(auto)]
+
+mod coordinates;
+mod dependences;
+mod laws;
+mod reading;
+mod row_places;
+
+pub use dependences::{Dependence, Dependences, first_open};
+pub use laws::{
+    closure_is_least, closures_keep, collapse_keeps, coordinates_serve, reads_exactly,
+    spread_out_holds,
+};
+
+#[cfg(test)]
+mod tests;

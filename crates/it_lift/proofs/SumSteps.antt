@@ -1,0 +1,115 @@
+-- Weights added one after the other.
+use Rattle.std.proofs.Common.{◌≡◌, ℕ, ◌+◌, ◌<◌, ◌≤◌, ℤ, ◌+ℤ◌, List, [], ◌∷◌, ◌++◌, map, length, take, drop, get_or, Bool, true, false, cond, refl, sym, ap, ap₂, subst, ◌∙◌, arith, All, bit_and, not, neg_ℤ, Result, Ok, Err, OnOk, OnErr}
+use Rattle.std.proofs.lemmas.Int.{ints}
+use Rattle.std.proofs.lemmas.List.{drop_more, take_more, take-append-drop, map-append}
+use Rattle.it_number.specs.Limit.{IsWithin}
+use Rattle.it_space.specs.Rows.{coefficient}
+use Rattle.it_polymatroid.specs.Elementals.{Elemental, elementals, elemental_at}
+use Rattle.it_polymatroid.proofs.Every.{Every, every_of}
+use Rattle.it_elemental.specs.Expansions.{members, mutual_expansion, conditional_expansion}
+use Rattle.it_closure.specs.declared.dependences.Dependence.{Dependence}
+use Rattle.it_lift.specs.Lifts.{each_weight, set_difference, signed_value, turn_moves}
+use Rattle.it_elemental.proofs.IndexLemmas.{index_back}
+use Rattle.it_lift.specs.Fits.{WayFits}
+use Rattle.it_space.specs.Sums.{number_at, plus_at, IsAdded}
+use Rattle.it_lift.specs.Sums.{weights_after, for_each, AreAdded}
+
+pub after-total : (f : ℕ → ℤ) (ms : List (ℕ × ℤ)) (i : ℕ) → weights_after f ms i ≡ f i +ℤ coefficient ms i
+after-total f [] i = omega (arith, ints)
+after-total f (m ∷ ms) i = after-total (plus_at f m) ms i ∙ omega (arith, ints)
+
+pub after-append : (f : ℕ → ℤ) (xs ys : List (ℕ × ℤ)) → weights_after f (xs ++ ys) ≡ weights_after (weights_after f xs) ys
+after-append f [] ys = refl
+after-append f (x ∷ xs) ys = after-append (plus_at f x) xs ys
+
+pub fits-append : (f : ℕ → ℤ) (xs ys : List (ℕ × ℤ)) → WayFits f xs → WayFits (weights_after f xs) ys → WayFits f (xs ++ ys)
+fits-append f [] ys h k = k
+fits-append f (x ∷ xs) ys h k = (h.0, fits-append (plus_at f x) xs ys h.1 k)
+
+pub fits_front : (f : ℕ → ℤ) (xs ys : List (ℕ × ℤ)) → WayFits f (xs ++ ys) → WayFits f xs
+fits_front f [] ys h = tt
+fits_front f (x ∷ xs) ys h = (h.0, fits_front (plus_at f x) xs ys h.1)
+
+pub fits_back : (f : ℕ → ℤ) (xs ys : List (ℕ × ℤ)) → WayFits f (xs ++ ys) → WayFits (weights_after f xs) ys
+fits_back f [] ys h = h
+fits_back f (x ∷ xs) ys h = fits_back (plus_at f x) xs ys h.1
+
+pub added-none : (old : List ℤ) → AreAdded old old []
+added-none old = record { fits = tt; same = refl; complete = refl }
+
+pub added-append : (a b c : List ℤ) (xs ys : List (ℕ × ℤ)) → AreAdded a b xs → AreAdded b c ys → AreAdded a c (xs ++ ys)
+added-append a b c xs ys h k = record {
+  fits = fits-append (number_at a) xs ys h.fits (subst (λ (f : ℕ → ℤ). WayFits f ys) h.same k.fits);
+  same = k.same ∙ ap (λ (f : ℕ → ℤ). weights_after f ys) h.same ∙ sym (after-append (number_at a) xs ys);
+  complete = k.complete ∙ h.complete;
+}
+
+-- what doesn't fit afterwards doesn't fit
+pub stops-after : (a b : List ℤ) (xs ys : List (ℕ × ℤ)) → AreAdded a b xs → ¬ (WayFits (number_at b) ys) → ¬ (WayFits (number_at a) (xs ++ ys))
+stops-after a b xs ys h n w = n (subst (λ (f : ℕ → ℤ). WayFits f ys) (sym h.same) (fits_back (number_at a) xs ys w))
+
+pub stops-before : (f : ℕ → ℤ) (xs ys : List (ℕ × ℤ)) → ¬ (WayFits f xs) → ¬ (WayFits f (xs ++ ys))
+stops-before f xs ys n w = n (fits_front f xs ys w)
+
+-- one amount
+pub added_one : {X E : Type 0} (r : Result X E) (old new : List ℤ) (i : ℕ) (x y : ℤ) → y ≡ x → OnOk r (IsAdded old new i y) → OnOk r (AreAdded old new ((i, x) ∷ []))
+added_one (Ok v) old new i x y e a = rw (← e) (record { fits = (a.fits, tt); same = a.same; complete = a.complete })
+added_one (Err v) old new i x y e a = tt
+
+pub one_stops : {X E : Type 0} (r : Result X E) (old : List ℤ) (i : ℕ) (x y : ℤ) → y ≡ x → OnErr r (¬ IsWithin (number_at old i +ℤ y)) → OnErr r (¬ WayFits (number_at old) ((i, x) ∷ []))
+one_stops (Ok v) old i x y e a = tt
+one_stops (Err v) old i x y e a = λ w. a (rw e w.0)
+
+split_each : (x : ℤ) (is : List ℕ) (k i : ℕ) → k < length is → i ≡ get_or is k i → for_each x is ≡ for_each x (take k is) ++ (i, x) ∷ for_each x (drop (k + 1) is)
+split_each x is k i h e = ap (for_each x) (sym (take-append-drop k is) ∙ ap (λ r. take k is ++ r) (drop_more is k i h ∙ ap (λ y. y ∷ drop (k + 1) is) (sym e)))
+    ∙ map-append (λ i. (i, x)) (take k is) (i ∷ drop (k + 1) is)
+
+pub each-more : (x : ℤ) (is : List ℕ) (k i : ℕ) (a b c : List ℤ) → k < length is → i ≡ get_or is k i → AreAdded a b (for_each x (take k is)) → AreAdded b c ((i, x) ∷ []) → AreAdded a c (for_each x (take (k + 1) is))
+each-more x is k i a b c h e u v = subst (AreAdded a c) (sym (ap (for_each x) (take_more is k i h ∙ ap (λ y. take k is ++ y ∷ []) (sym e)) ∙ map-append (λ i. (i, x)) (take k is) (i ∷ [])))
+    (added-append a b c (for_each x (take k is)) ((i, x) ∷ []) u v)
+
+pub each-stops : (x : ℤ) (is : List ℕ) (k i : ℕ) (a b : List ℤ) → k < length is → i ≡ get_or is k i → AreAdded a b (for_each x (take k is)) → ¬ (WayFits (number_at b) ((i, x) ∷ [])) → ¬ (WayFits (number_at a) (for_each x is))
+each-stops x is k i a b h e u n = subst (λ (ms : List (ℕ × ℤ)). ¬ (WayFits (number_at a) ms)) (sym (split_each x is k i h e))
+    (stops-after a b (for_each x (take k is)) ((i, x) ∷ for_each x (drop (k + 1) is)) u (λ w. n (w.0, tt)))
+
+-- the numbers of some inequalities
+pub expanded : (n : ℕ) (x : ℤ) (is : List ℕ) (es : List Elemental) → All (λ i. i < length (elementals n)) is → map (elemental_at n) is ≡ es → for_each x is ≡ each_weight n x es
+expanded n x is es a e = over is (every_of (λ i. i < length (elementals n)) is a) ∙ ap (each_weight n x) e
+  where
+    over : (is : List ℕ) → Every (λ i. i < length (elementals n)) is → for_each x is ≡ each_weight n x (map (elemental_at n) is)
+    over [] v = refl
+    over (i ∷ is) v = ap₂ (λ (k : ℕ) (ms : List (ℕ × ℤ)). let p : ℕ × ℤ = (k, x) in p ∷ ms) (sym (index_back n i v.0)) (over is v.1)
+
+pub listed_here : (len n : ℕ) (is : List ℕ) → length (elementals n) ≤ len → All (λ i. i < length (elementals n)) is → All (λ i. i < len) is
+listed_here len n is h a = λ i d l. omega (arith, a i d l)
+
+-- the members of one set that aren't in another, as the code finds them
+pub less_found : (s t r : ℕ) → r + bit_and t s ≡ s → r ≡ set_difference s t
+less_found s t r e = omega arith
+
+-- the three parts of a turn
+pub turn_parts : (n : ℕ) (x : ℤ) (a : ℕ) (d : Dependence) (u v w z : ℕ) → u ≡ set_difference d.to a → v ≡ set_difference a d.to → w ≡ bit_and a d.to → z ≡ set_difference w d.from
+    → (each_weight n x (mutual_expansion (members n u) (members n v) w) ++ each_weight n x (conditional_expansion n (members n z) d.from)) ++ (d.generator, signed_value (not d.negated) x) ∷ [] ≡ turn_moves n x (a, d)
+turn_parts n x a d u v w z eu ev ew ez = rw (ez, ew, eu, ev) (ap (λ y. (each_weight n x (mutual_expansion (members n (set_difference d.to a)) (members n (set_difference a d.to)) (bit_and a d.to))
+    ++ each_weight n x (conditional_expansion n (members n (set_difference (bit_and a d.to) d.from)) d.from)) ++ (d.generator, y) ∷ []) (turned d.negated))
+  where
+    turned : (b : Bool) → signed_value (not b) x ≡ cond b x (neg_ℤ x)
+    turned true = refl
+    turned false = refl
+
+-- where a first, a second or a third part doesn't fit
+pub first_stops : (a : List ℤ) (xs ys zs ms : List (ℕ × ℤ)) → (xs ++ ys) ++ zs ≡ ms → ¬ (WayFits (number_at a) xs) → ¬ (WayFits (number_at a) ms)
+first_stops a xs ys zs ms e n = subst (λ (m : List (ℕ × ℤ)). ¬ (WayFits (number_at a) m)) e (stops-before (number_at a) (xs ++ ys) zs (stops-before (number_at a) xs ys n))
+
+pub second_stops : (a b : List ℤ) (xs ys zs ms : List (ℕ × ℤ)) → (xs ++ ys) ++ zs ≡ ms → AreAdded a b xs → ¬ (WayFits (number_at b) ys) → ¬ (WayFits (number_at a) ms)
+second_stops a b xs ys zs ms e h n = subst (λ (m : List (ℕ × ℤ)). ¬ (WayFits (number_at a) m)) e (stops-before (number_at a) (xs ++ ys) zs (stops-after a b xs ys h n))
+
+pub third_stops : (a b c : List ℤ) (xs ys zs ms : List (ℕ × ℤ)) → (xs ++ ys) ++ zs ≡ ms → AreAdded a b xs → AreAdded b c ys → ¬ (WayFits (number_at c) zs) → ¬ (WayFits (number_at a) ms)
+third_stops a b c xs ys zs ms e h k n = subst (λ (m : List (ℕ × ℤ)). ¬ (WayFits (number_at a) m)) e (stops-after a c (xs ++ ys) zs (added-append a b c xs ys h k) n)
+
+pub all_added : (a b c d : List ℤ) (xs ys zs ms : List (ℕ × ℤ)) → (xs ++ ys) ++ zs ≡ ms → AreAdded a b xs → AreAdded b c ys → AreAdded c d zs → AreAdded a d ms
+all_added a b c d xs ys zs ms e h k l = subst (AreAdded a d) e (added-append a c d (xs ++ ys) zs (added-append a b c xs ys h k) l)
+
+-- a fault that says so
+pub where_fault : {F P Q : Type 0} → (F → P) → (P → Q) → F → Q
+where_fault f g x = g (f x)

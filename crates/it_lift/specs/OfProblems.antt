@@ -1,0 +1,9 @@
+-- The dependences that are read from a problem are those that a lift is given.
+use Rattle.std.specs.Prelude.{◌≡◌}
+use Rattle.it_space.specs.Problems.{ProblemView, IsProblem}
+use Rattle.it_closure.specs.DependencesViews.{DependencesView}
+use Rattle.it_closure.specs.Reading.{dependences_of}
+use Rattle.it_lift.specs.Lifted.{AreOf}
+
+abbrev pub ReadAreOf : Type 0
+ReadAreOf = (q : ProblemView) (d : DependencesView) → IsProblem q → d.space ≡ q.space → d.list ≡ dependences_of q → AreOf q d

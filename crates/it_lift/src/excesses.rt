@@ -1,0 +1,104 @@
+//! What is left over at a set, where weights that add up over closed sets are taken over all sets.
+ghost use Rattle.std.specs.Prelude.{◌≡◌, ◌<◌, ◌+◌, ◌^◌, ℤ, pos, ◌+ℤ◌, ◌-ℤ◌, ◌*ℤ◌, cond, length, All, OkIff, OnOk, OnErr, IfOk};
+ghost use Rattle.it_number.specs.Limit.{IsWithin};
+ghost use Rattle.it_space.specs.Answers.{certificate_view};
+ghost use Rattle.it_space.specs.Problems.{IsProblem, problem_view};
+ghost use Rattle.it_space.specs.Rows.{value};
+ghost use Rattle.it_polymatroid.specs.Certificates.{one_at, combination};
+ghost use Rattle.it_lift.specs.Fits.{EmptyFits, ExcessFits, FallFits};
+ghost use Rattle.it_elemental.specs.Generators.{generators_of};
+ghost use Rattle.it_lift.specs.Lifts.{excess, with_empty};
+
+use it_closure::Dependences;
+use it_elemental::coefficient_at;
+use it_fraction::{Wide, difference, signed_product, sum};
+use it_space::{Certificate, Problem, Row, VarSet};
+
+/// The scale times the target's coefficient at a nonempty set, less the weights times the generators' coefficients.
+pub fn excess(
+    problem: &Problem,
+    target: &Row,
+    collapsed: &Certificate,
+    set: VarSet,
+) -> Result<i128, Wide>
+    requires problem { IsProblem (problem_view problem.now) }
+    requires listed { All (λ p. p.0 < (generators_of (problem_view problem.now)).count) collapsed.now.weights.items }
+    requires some { 0 < set }
+    ensures { OkIff result (ExcessFits (certificate_view collapsed.now) (value target.now) (generators_of (problem_view problem.now)) set) (excess (certificate_view collapsed.now) (value target.now) (generators_of (problem_view problem.now)) set) }
+{
+    let whole = signed_product(collapsed.scale, target.coefficient(set.number() as u32))?;
+    left_of(problem, collapsed.weights.as_slice(), set, whole)
+}
+
+/// What is left of a number where the weights times the generators' coefficients are taken off.
+fn left_of(
+    problem: &Problem,
+    weights: &[(u32, i128)],
+    set: VarSet,
+    whole: i128,
+) -> Result<i128, Wide>
+    requires problem { IsProblem (problem_view problem.now) }
+    requires listed { All (λ p. p.0 < (generators_of (problem_view problem.now)).count) weights.now }
+    requires some { 0 < set }
+    ensures { OkIff result (FallFits whole weights.now (λ i. (generators_of (problem_view problem.now)).worth_of i (one_at set))) (whole -ℤ combination weights.now (λ i. (generators_of (problem_view problem.now)).worth_of i (one_at set))) }
+{
+    let mut left = whole;
+    for (index, weight) in weights {
+        left = less_product(left, *weight, coefficient_at_set(problem, *index, set))?;
+    }
+    Ok(left)
+}
+
+/// The coefficient of a generator at a nonempty set.
+fn coefficient_at_set(problem: &Problem, index: u32, set: VarSet) -> i128
+    requires problem { IsProblem (problem_view problem.now) }
+    requires listed { index < (generators_of (problem_view problem.now)).count }
+    requires some { 0 < set }
+    ensures { result ≡ (generators_of (problem_view problem.now)).worth_of index (one_at set) }
+{
+    coefficient_at(problem, index, set.number() as u32)
+}
+
+/// The sum with the product of two numbers taken off.
+fn less_product(sum: i128, a: i128, b: i128) -> Result<i128, Wide>
+    ensures { OkIff result (IsWithin (a *ℤ b) × IsWithin (sum -ℤ a *ℤ b)) (sum -ℤ a *ℤ b) }
+{
+    difference(sum, signed_product(a, b)?)
+}
+
+/// The excess of the empty set: the sum of those of the nonempty sets that have its closure, with its sign turned.
+pub fn empty_excess(
+    problem: &Problem,
+    dependences: &Dependences,
+    target: &Row,
+    collapsed: &Certificate,
+) -> Result<i128, Wide>
+    requires problem { IsProblem (problem_view problem.now) }
+    requires space { dependences.now.space ≡ problem.now.space }
+    requires listed { All (λ p. p.0 < (generators_of (problem_view problem.now)).count) collapsed.now.weights.items }
+    ensures fits { OnOk result (EmptyFits dependences.now.space.variables dependences.now.list (value target.now) (generators_of (problem_view problem.now)) (certificate_view collapsed.now)) }
+    ensures value { IfOk result (λ v. v ≡ with_empty dependences.now.space.variables dependences.now.list (excess (certificate_view collapsed.now) (value target.now) (generators_of (problem_view problem.now))) 0) }
+    ensures within { IfOk result IsWithin }
+    ensures wide { OnErr result (¬ (EmptyFits dependences.now.space.variables dependences.now.list (value target.now) (generators_of (problem_view problem.now)) (certificate_view collapsed.now))) }
+{
+    let null = dependences.close(VarSet::empty());
+    let mut total: i128 = 0;
+    for number in 1..1u16 << problem.space.variables {
+        let set = VarSet::from_number(number);
+        let left = excess(problem, target, collapsed, set)?;
+        total = plus_if(total, dependences.close(set) == null, left)?;
+    }
+    Ok(-total)
+}
+
+/// The total, with a number added where it is wanted.
+fn plus_if(total: i128, wanted: bool, number: i128) -> Result<i128, Wide>
+    requires within { IsWithin total }
+    ensures { OkIff result (IsWithin (total +ℤ cond wanted number (pos 0))) (total +ℤ cond wanted number (pos 0)) }
+{
+    if wanted {
+        sum(total, number)
+    } else {
+        Ok(total)
+    }
+}

@@ -1,0 +1,134 @@
+//! The lift of a certificate.
+ghost use Rattle.std.specs.Prelude.{[], ◌≢◌, ◌≡◌, ◌<◌, ◌≤◌, ◌+◌, ◌-◌, ◌^◌, ℤ, pos, length, flat_map, All, OnOk, IfOk, IfErr};
+ghost use Rattle.it_number.specs.Limit.{IsWithin};
+ghost use Rattle.it_space.specs.Answers.{certificate_view};
+ghost use Rattle.it_space.specs.Problems.{IsProblem, problem_view};
+ghost use Rattle.it_space.specs.Rows.{IsUpTo, value};
+ghost use Rattle.it_space.specs.Spaces.{size_of};
+ghost use Rattle.it_polymatroid.specs.Elementals.{elementals, span};
+ghost use Rattle.it_lift.specs.Fits.{EmptyFits, WayFits};
+ghost use Rattle.it_elemental.specs.Generators.{generators_of};
+ghost use Rattle.it_lift.specs.Lifted.{AddUpOverClosed, AreOf, FitsLift, IsLiftOf};
+ghost use Rattle.it_lift.specs.Lifts.{excess, moves, moves_of, with_empty};
+ghost use Rattle.it_space.specs.Sums.{number_at};
+ghost use Rattle.it_lift.specs.Sums.{AreAdded};
+
+use crate::excesses::{empty_excess, excess};
+use crate::moves::add_moves;
+use crate::sums::WeightSums;
+use it_closure::Dependences;
+use it_elemental::count;
+use it_space::{Certificate, Problem, Row, RowFault, VarSet};
+use std::alloc::{AllocError, Global};
+
+/// The certificate over all sets that a certificate over closed sets stands for: what is left over at a set is moved to
+/// its closure, by the inequalities and equations that hold for the two. Without dependences it is the same certificate.
+pub fn lift(
+    alloc: Global,
+    problem: &Problem,
+    dependences: &Dependences,
+    target: &Row,
+    collapsed: &Certificate,
+) -> Result<Certificate, RowFault>
+    requires problem { IsProblem (problem_view problem.now) }
+    requires dependences { AreOf (problem_view problem.now) dependences.now }
+    requires target { IsUpTo (size_of problem.now.space) target.now }
+    requires sums { AddUpOverClosed (problem_view problem.now) dependences.now target.now (certificate_view collapsed.now) }
+    ensures unchanged { IfOk result (λ c. dependences.now.list ≡ [] → certificate_view c ≡ certificate_view collapsed.now) }
+    ensures fits { OnOk result (dependences.now.list ≢ [] → FitsLift (problem_view problem.now) dependences.now target.now (certificate_view collapsed.now)) }
+    ensures nonzero { IfOk result (λ c. dependences.now.list ≢ [] → All (λ p. p.1 ≢ pos 0) (certificate_view c).parts) }
+    ensures lifted { IfOk result (λ c. IsLiftOf (problem_view problem.now) dependences.now target.now (certificate_view collapsed.now) (certificate_view c)) }
+    ensures wide { IfErr result (λ fault. fault ≡ RowFault.Wide → (dependences.now.list ≢ []) × (¬ (FitsLift (problem_view problem.now) dependences.now target.now (certificate_view collapsed.now)))) }
+{
+    if dependences.list().is_empty() {
+        return Ok(copy_of(alloc, collapsed)?);
+    }
+    lift_all(alloc, problem, dependences, target, collapsed)
+}
+
+fn copy_of(alloc: Global, certificate: &Certificate) -> Result<Certificate, AllocError>
+    ensures { IfOk result (λ c. certificate_view c ≡ certificate_view certificate.now) }
+{
+    let mut weights = Vec::new(alloc);
+    weights.extend_from_slice(certificate.weights.as_slice())?;
+    Ok(Certificate {
+        scale: certificate.scale,
+        weights,
+    })
+}
+
+/// The same with every number formed.
+fn lift_all(
+    alloc: Global,
+    problem: &Problem,
+    dependences: &Dependences,
+    target: &Row,
+    collapsed: &Certificate,
+) -> Result<Certificate, RowFault>
+    requires problem { IsProblem (problem_view problem.now) }
+    requires dependences { AreOf (problem_view problem.now) dependences.now }
+    requires target { IsUpTo (size_of problem.now.space) target.now }
+    requires sums { AddUpOverClosed (problem_view problem.now) dependences.now target.now (certificate_view collapsed.now) }
+    ensures fits { OnOk result (FitsLift (problem_view problem.now) dependences.now target.now (certificate_view collapsed.now)) }
+    ensures nonzero { IfOk result (λ c. All (λ p. p.1 ≢ pos 0) (certificate_view c).parts) }
+    ensures lifted { IfOk result (λ c. IsLiftOf (problem_view problem.now) dependences.now target.now (certificate_view collapsed.now) (certificate_view c)) }
+    ensures wide { IfErr result (λ fault. fault ≡ RowFault.Wide → ¬ (FitsLift (problem_view problem.now) dependences.now target.now (certificate_view collapsed.now))) }
+{
+    let count = count(problem.space.variables) as usize + problem.constraints.len();
+    let mut sums = WeightSums::start(alloc, count, collapsed.weights.as_slice())?;
+    add_all(alloc, &mut sums, problem, dependences, target, collapsed)?;
+    Ok(Certificate {
+        scale: collapsed.scale,
+        weights: sums.weights(alloc)?,
+    })
+}
+
+/// Adds to the weights of what evens out the excesses at all sets.
+fn add_all(
+    alloc: Global,
+    sums: &mut WeightSums,
+    problem: &Problem,
+    dependences: &Dependences,
+    target: &Row,
+    collapsed: &Certificate,
+) -> Result<(), RowFault>
+    requires problem { IsProblem (problem_view problem.now) }
+    requires space { dependences.now.space ≡ problem.now.space }
+    requires listed { All (λ p. p.0 < (generators_of (problem_view problem.now)).count) collapsed.now.weights.items }
+    requires places { All (λ d. d.generator < length sums.old) dependences.now.list }
+    requires complete { length (elementals dependences.now.space.variables) ≤ length sums.old }
+    ensures before { OnOk result (EmptyFits dependences.now.space.variables dependences.now.list (value target.now) (generators_of (problem_view problem.now)) (certificate_view collapsed.now)) }
+    ensures added { OnOk result (AreAdded sums.old sums.new (moves dependences.now.space.variables dependences.now.list (excess (certificate_view collapsed.now) (value target.now) (generators_of (problem_view problem.now))))) }
+    ensures wide { IfErr result (λ fault. fault ≡ RowFault.Wide → ¬ (EmptyFits dependences.now.space.variables dependences.now.list (value target.now) (generators_of (problem_view problem.now)) (certificate_view collapsed.now) × WayFits (number_at sums.old) (moves dependences.now.space.variables dependences.now.list (excess (certificate_view collapsed.now) (value target.now) (generators_of (problem_view problem.now)))))) }
+{
+    let empty = empty_excess(problem, dependences, target, collapsed)?;
+    add_moves(alloc, sums, dependences, VarSet::empty(), empty)?;
+    add_others(alloc, sums, problem, dependences, target, collapsed)?;
+    Ok(())
+}
+
+/// The same for the nonempty sets.
+fn add_others(
+    alloc: Global,
+    sums: &mut WeightSums,
+    problem: &Problem,
+    dependences: &Dependences,
+    target: &Row,
+    collapsed: &Certificate,
+) -> Result<(), RowFault>
+    requires problem { IsProblem (problem_view problem.now) }
+    requires space { dependences.now.space ≡ problem.now.space }
+    requires listed { All (λ p. p.0 < (generators_of (problem_view problem.now)).count) collapsed.now.weights.items }
+    requires places { All (λ d. d.generator < length sums.old) dependences.now.list }
+    requires complete { length (elementals dependences.now.space.variables) ≤ length sums.old }
+    requires before { EmptyFits dependences.now.space.variables dependences.now.list (value target.now) (generators_of (problem_view problem.now)) (certificate_view collapsed.now) }
+    ensures added { OnOk result (AreAdded sums.old sums.new (flat_map (moves_of dependences.now.space.variables dependences.now.list (excess (certificate_view collapsed.now) (value target.now) (generators_of (problem_view problem.now)))) (span 1 (2 ^ dependences.now.space.variables - 1)))) }
+    ensures wide { IfErr result (λ fault. fault ≡ RowFault.Wide → ¬ WayFits (number_at sums.old) (flat_map (moves_of dependences.now.space.variables dependences.now.list (excess (certificate_view collapsed.now) (value target.now) (generators_of (problem_view problem.now)))) (span 1 (2 ^ dependences.now.space.variables - 1)))) }
+{
+    for number in 1..1u16 << problem.space.variables {
+        let set = VarSet::from_number(number);
+        let left = excess(problem, target, collapsed, set)?;
+        add_moves(alloc, sums, dependences, set, left)?;
+    }
+    Ok(())
+}

@@ -1,0 +1,171 @@
+//! Amounts added to the weights of the inequalities and equations that lead from a set to its closure.
+ghost use Rattle.std.specs.Prelude.{◌≡◌, ◌<◌, ◌≤◌, ◌^◌, ℤ, pos, bit_and, length, flat_map, All, OnOk, IfErr};
+ghost use Rattle.it_number.specs.Limit.{IsWithin};
+ghost use Rattle.it_space.specs.Sets.{IsInside};
+ghost use Rattle.it_polymatroid.specs.Elementals.{elementals};
+ghost use Rattle.it_elemental.specs.Expansions.{members, mutual_expansion, conditional_expansion};
+ghost use Rattle.it_closure.specs.Closures.{closure, way};
+ghost use Rattle.it_closure.specs.Collapse.{AreDependences};
+ghost use Rattle.it_lift.specs.Fits.{WayFits};
+ghost use Rattle.it_lift.specs.Lifts.{each_weight, set_difference, turn_moves, moves_at};
+ghost use Rattle.it_space.specs.Sums.{number_at};
+ghost use Rattle.it_lift.specs.Sums.{AreAdded};
+
+use crate::sums::WeightSums;
+use it_closure::{Dependence, Dependences, first_open};
+use it_elemental::{expand_conditional, expand_mutual};
+use it_space::{RowFault, VarSet};
+use std::alloc::Global;
+
+/// Adds to the weights of the inequalities that sum to I(a; b | c).
+fn add_mutual(
+    alloc: Global,
+    sums: &mut WeightSums,
+    n: u8,
+    a: VarSet,
+    b: VarSet,
+    c: VarSet,
+    amount: u128,
+) -> Result<(), RowFault>
+    requires some { 1 ≤ n }
+    requires few { n ≤ 10 }
+    requires a_below { a < 2 ^ n }
+    requires b_below { b < 2 ^ n }
+    requires c_below { c < 2 ^ n }
+    requires a_apart_from_b { bit_and a b ≡ 0 }
+    requires a_apart_from_c { bit_and a c ≡ 0 }
+    requires b_apart_from_c { bit_and b c ≡ 0 }
+    requires complete { length (elementals n) ≤ length sums.old }
+    requires within { amount < 2 ^ 127 }
+    ensures added { OnOk result (AreAdded sums.old sums.new (each_weight n (pos amount) (mutual_expansion (members n a) (members n b) c))) }
+    ensures wide { IfErr result (λ fault. fault ≡ RowFault.Wide → ¬ WayFits (number_at sums.old) (each_weight n (pos amount) (mutual_expansion (members n a) (members n b) c))) }
+{
+    let indexes = expand_mutual(alloc, n, a, b, c)?;
+    sums.add_each(indexes.as_slice(), amount)?;
+    Ok(())
+}
+
+/// Adds to the weights of the inequalities that sum to H(a | k).
+fn add_conditional(
+    alloc: Global,
+    sums: &mut WeightSums,
+    n: u8,
+    a: VarSet,
+    k: VarSet,
+    amount: u128,
+) -> Result<(), RowFault>
+    requires some { 1 ≤ n }
+    requires few { n ≤ 10 }
+    requires a_below { a < 2 ^ n }
+    requires k_below { k < 2 ^ n }
+    requires disjoint { bit_and a k ≡ 0 }
+    requires complete { length (elementals n) ≤ length sums.old }
+    requires within { amount < 2 ^ 127 }
+    ensures added { OnOk result (AreAdded sums.old sums.new (each_weight n (pos amount) (conditional_expansion n (members n a) k))) }
+    ensures wide { IfErr result (λ fault. fault ≡ RowFault.Wide → ¬ WayFits (number_at sums.old) (each_weight n (pos amount) (conditional_expansion n (members n a) k))) }
+{
+    let indexes = expand_conditional(alloc, n, a, k)?;
+    sums.add_each(indexes.as_slice(), amount)?;
+    Ok(())
+}
+
+/// Adds to the weights of what leads from a set to its union with what a dependence determines.
+fn add_turn(
+    alloc: Global,
+    sums: &mut WeightSums,
+    n: u8,
+    set: VarSet,
+    by: Dependence,
+    amount: u128,
+) -> Result<(), RowFault>
+    requires some { 1 ≤ n }
+    requires few { n ≤ 10 }
+    requires below { set < 2 ^ n }
+    requires to_below { by.to < 2 ^ n }
+    requires known { IsInside by.from set }
+    requires inside { IsInside by.from by.to }
+    requires place { by.generator < length sums.old }
+    requires complete { length (elementals n) ≤ length sums.old }
+    requires within { amount < 2 ^ 127 }
+    ensures added { OnOk result (AreAdded sums.old sums.new (turn_moves n (pos amount) (set, by))) }
+    ensures wide { IfErr result (λ fault. fault ≡ RowFault.Wide → ¬ WayFits (number_at sums.old) (turn_moves n (pos amount) (set, by))) }
+{
+    let shared = set.meet(by.to);
+    add_mutual(
+        alloc,
+        sums,
+        n,
+        by.to.minus(set),
+        set.minus(by.to),
+        shared,
+        amount,
+    )?;
+    add_conditional(alloc, sums, n, shared.minus(by.from), by.from, amount)?;
+    sums.add(by.generator, amount, !by.negated)?;
+    Ok(())
+}
+
+/// Adds to the weights of what leads from a set to its closure, one dependence after the other.
+fn add_way(
+    alloc: Global,
+    sums: &mut WeightSums,
+    n: u8,
+    list: &[Dependence],
+    set: VarSet,
+    amount: u128,
+) -> Result<(), RowFault>
+    requires some { 1 ≤ n }
+    requires few { n ≤ 10 }
+    requires below { set < 2 ^ n }
+    requires dependences { AreDependences n list.now }
+    requires places { All (λ d. d.generator < length sums.old) list.now }
+    requires complete { length (elementals n) ≤ length sums.old }
+    requires within { amount < 2 ^ 127 }
+    ensures added { OnOk result (AreAdded sums.old sums.new (flat_map (turn_moves n (pos amount)) (way n list.now set))) }
+    ensures wide { IfErr result (λ fault. fault ≡ RowFault.Wide → ¬ WayFits (number_at sums.old) (flat_map (turn_moves n (pos amount)) (way n list.now set))) }
+{
+    let mut all = set;
+    loop {
+        match first_open(list, all) {
+            Some(open) => {
+                let next = all.union(open.to);
+                add_turn(alloc, sums, n, all, open, amount)?;
+                all = next;
+            }
+            None => return Ok(()),
+        }
+    }
+}
+
+/// Adds to the weights of what evens out the excess at a set, by its way to its closure.
+pub fn add_moves(
+    alloc: Global,
+    sums: &mut WeightSums,
+    dependences: &Dependences,
+    set: VarSet,
+    excess: i128,
+) -> Result<(), RowFault>
+    requires below { set < 2 ^ dependences.now.space.variables }
+    requires places { All (λ d. d.generator < length sums.old) dependences.now.list }
+    requires complete { length (elementals dependences.now.space.variables) ≤ length sums.old }
+    requires within { IsWithin excess }
+    ensures added { OnOk result (AreAdded sums.old sums.new (moves_at dependences.now.space.variables dependences.now.list set excess)) }
+    ensures wide { IfErr result (λ fault. fault ≡ RowFault.Wide → ¬ WayFits (number_at sums.old) (moves_at dependences.now.space.variables dependences.now.list set excess)) }
+{
+    let n = dependences.space().variables;
+    let amount = excess.unsigned_abs();
+    if excess > 0 {
+        add_way(alloc, sums, n, dependences.list(), set, amount)
+    } else if excess < 0 {
+        add_conditional(
+            alloc,
+            sums,
+            n,
+            dependences.close(set).minus(set),
+            set,
+            amount,
+        )
+    } else {
+        Ok(())
+    }
+}
