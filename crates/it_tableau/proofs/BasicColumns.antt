@@ -1,25 +1,26 @@
 -- Basic columns of a table that keeps the invariants, and sums of rows through a pivot.
 use Rattle.std.proofs.Common.{◌≡◌, ℕ, zero, suc, ◌<◌, Bool, true, false, cond, eqb, [], ◌∷◌, refl, sym, ap, ap₂, ◌∙◌, ◌⊎◌, inl, inr}
 use Rattle.std.proofs.lemmas.Bool.{eq-eqb, ne_eqb, cases_eq}
-use Rattle.it_number.proofs.Ring.{Ring, ring, v, plus, times, minus, nil, one}
-use Rattle.it_rational.proofs.Ordered.{Order}
+use Rattle.it_number.proofs.Ring.{ring, v, plus, times, minus, nil, one}
+use Rattle.it_number.specs.Rings.{Ring}
+use Rattle.it_rational.specs.OrderedFields.{Order}
 use Rattle.it_tableau.specs.Sums.{sum_to}
-use Rattle.it_tableau.specs.Tables.{Table, Problem, less, pivot}
-use Rattle.it_tableau.specs.Invariants.{cost_of, Holds}
+use Rattle.it_tableau.specs.Tables.{Table, FeasibilityProblem, difference, pivot}
+use Rattle.it_tableau.specs.Invariants.{cost_of, HasInvariants}
 use Rattle.it_tableau.proofs.Sums.{sum_same, sum_changed, sum_unit}
 
 module _ {A : Type 0} (R : Ring A) (O : Order R) (m n : ℕ) where
   -- no two rows have one basic column
-  pub distinct : (p : Problem A) (t : Table A) → Holds R O m n p t → (i k : ℕ) → i < m → k < m → t.basis i ≡ t.basis k → i ≡ k
-  distinct p t h i k hi hk e = at (cases_eq i k)
+  pub distinct : (p : FeasibilityProblem A) (t : Table A) → HasInvariants R O m n p t → (i k : ℕ) → i < m → k < m → t.basis i ≡ t.basis k → i ≡ k
+  distinct p t h i k hi hk e = by_cases (cases_eq i k)
     where
-      at : (i ≡ k) ⊎ (i ≡ k → ⊥) → i ≡ k
-      at (inl d) = d
-      at (inr d) = absurd (O.apart
+      by_cases : (i ≡ k) ⊎ (i ≡ k → ⊥) → i ≡ k
+      by_cases (inl d) = d
+      by_cases (inr d) = absurd (O.apart
           (ap (λ b. cond b R.unit R.null) (sym (eq-eqb i i refl)) ∙ sym (h.units i i hi hi) ∙ ap (t.entry i) e ∙ h.units i k hi hk ∙ ap (λ b. cond b R.unit R.null) (ne_eqb i k d)))
 
   -- a basic column's cost
-  pub basic_cost : (p : Problem A) (t : Table A) → Holds R O m n p t → (k : ℕ) → k < m → t.entry m (t.basis k) ≡ cost_of R O m n (t.basis k)
+  pub basic_cost : (p : FeasibilityProblem A) (t : Table A) → HasInvariants R O m n p t → (k : ℕ) → k < m → t.entry m (t.basis k) ≡ cost_of R O m n (t.basis k)
   basic_cost p t h k hk = h.costs (t.basis k)
       ∙ sum_same R m (λ i. R.mul (cost_of R O m n (t.basis i)) (t.entry i (t.basis k))) (λ i. R.mul (cost_of R O m n (t.basis i)) (cond (eqb i k) R.unit R.null)) (λ i l. ap (R.mul (cost_of R O m n (t.basis i))) (h.units i k l hk))
       ∙ sum_unit R m (λ i. cost_of R O m n (t.basis i)) k hk
@@ -30,7 +31,7 @@ module _ {A : Type 0} (R : Ring A) (O : Order R) (m n : ℕ) where
       → (j : ℕ) → S j ≡ sum_to R m (λ i. R.mul (cond (eqb i r) (S c) (f i)) ((pivot R O t r c).entry i j))
   pivot_sum t r c f S h inverse s j =
       let u : A = O.inv (t.entry r c) in
-      let X : ℕ → A = λ i. R.mul (f i) (less R (t.entry i j) (R.mul (t.entry r j) (R.mul (t.entry i c) u))) in
+      let X : ℕ → A = λ i. R.mul (f i) (difference R (t.entry i j) (R.mul (t.entry r j) (R.mul (t.entry i c) u))) in
       let x : A = R.mul (S c) (R.mul (t.entry r j) u) in
       let whole : sum_to R m X ≡ R.add (S j) (R.neg (R.mul (S c) (R.mul (t.entry r j) u))) =
       split m ∙ ap₂ (λ a b. R.add a (R.neg (R.mul b (R.mul (t.entry r j) u)))) (sym (s j)) (sym (s c)) in

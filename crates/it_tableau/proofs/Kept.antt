@@ -1,21 +1,23 @@
 -- A pivot that keeps the right sides at least 0 keeps all that every table keeps.
 use Rattle.std.proofs.Common.{◌≡◌, ◌≢◌, ℕ, zero, suc, ◌+◌, ◌<◌, ◌≤◌, Bool, true, false, cond, eqb, [], ◌∷◌, refl, sym, ap, ap₂, subst, ◌∙◌, ◌⊎◌, inl, inr, arith}
 use Rattle.std.proofs.lemmas.Bool.{eq-eqb, ne_eqb, eqb-true, cases_eq, lt-ltb, cases_Bool}
-use Rattle.it_number.proofs.Ring.{Ring, ring, mul-null, v, plus, times, minus, nil, one}
-use Rattle.it_rational.proofs.Ordered.{Order, Least, Above, inv-least, inv-above, above-least}
+use Rattle.it_number.proofs.Ring.{ring, mul-null, v, plus, times, minus, nil, one}
+use Rattle.it_number.specs.Rings.{Ring}
+use Rattle.it_rational.proofs.Ordered.{inv-least, inv-above, above-least}
+use Rattle.it_rational.specs.OrderedFields.{Order, IsAtLeastZero, IsAboveZero}
 use Rattle.it_tableau.specs.Sums.{sum_to}
-use Rattle.it_tableau.specs.Tables.{Table, Problem, less, start_row, pivot}
-use Rattle.it_tableau.specs.Invariants.{cost_of, Holds, MayEnter}
+use Rattle.it_tableau.specs.Tables.{Table, FeasibilityProblem, difference, start_row, pivot}
+use Rattle.it_tableau.specs.Invariants.{cost_of, CombinesStart, HasInvariants, MayEnter}
 use Rattle.it_tableau.proofs.Sums.{sum_same, sum_times, sum_changed}
 use Rattle.it_tableau.proofs.BasicColumns.{pivot_sum}
 
 module _ {A : Type 0} (R : Ring A) (O : Order R) (m n : ℕ) where
   -- the pivot row and the others
   pub pivot_row : (t : Table A) (r c j : ℕ) → (pivot R O t r c).entry r j ≡ R.mul (t.entry r j) (O.inv (t.entry r c))
-  pivot_row t r c j = ap (λ b. cond b (R.mul (t.entry r j) (O.inv (t.entry r c))) (less R (t.entry r j) (R.mul (t.entry r j) (R.mul (t.entry r c) (O.inv (t.entry r c)))))) (eq-eqb r r refl)
+  pivot_row t r c j = ap (λ b. cond b (R.mul (t.entry r j) (O.inv (t.entry r c))) (difference R (t.entry r j) (R.mul (t.entry r j) (R.mul (t.entry r c) (O.inv (t.entry r c)))))) (eq-eqb r r refl)
 
-  pub other_row : (t : Table A) (r c i j : ℕ) → i ≢ r → (pivot R O t r c).entry i j ≡ less R (t.entry i j) (R.mul (t.entry r j) (R.mul (t.entry i c) (O.inv (t.entry r c))))
-  other_row t r c i j h = ap (λ b. cond b (R.mul (t.entry r j) (O.inv (t.entry r c))) (less R (t.entry i j) (R.mul (t.entry r j) (R.mul (t.entry i c) (O.inv (t.entry r c)))))) (ne_eqb i r h)
+  pub other_row : (t : Table A) (r c i j : ℕ) → i ≢ r → (pivot R O t r c).entry i j ≡ difference R (t.entry i j) (R.mul (t.entry r j) (R.mul (t.entry i c) (O.inv (t.entry r c))))
+  other_row t r c i j h = ap (λ b. cond b (R.mul (t.entry r j) (O.inv (t.entry r c))) (difference R (t.entry i j) (R.mul (t.entry r j) (R.mul (t.entry i c) (O.inv (t.entry r c)))))) (ne_eqb i r h)
 
   pub new_basis : (t : Table A) (r c : ℕ) → (pivot R O t r c).basis r ≡ c
   new_basis t r c = ap (λ b. cond b c (t.basis r)) (eq-eqb r r refl)
@@ -23,9 +25,10 @@ module _ {A : Type 0} (R : Ring A) (O : Order R) (m n : ℕ) where
   pub old_basis : (t : Table A) (r c i : ℕ) → i ≢ r → (pivot R O t r c).basis i ≡ t.basis i
   old_basis t r c i h = ap (λ b. cond b c (t.basis i)) (ne_eqb i r h)
 
-  kept_combines : (p : Problem A) (t : Table A) (r c : ℕ) → r < m → Holds R O m n p t → (i j : ℕ) → i ≤ m
+  -- any pivot keeps each row a sum of start rows
+  pub kept_combines : (p : FeasibilityProblem A) (t : Table A) (r c : ℕ) → r < m → CombinesStart R O m n p t → (i j : ℕ) → i ≤ m
       → (pivot R O t r c).entry i j ≡ sum_to R m (λ k. R.mul ((pivot R O t r c).entry i (n + k)) (start_row R O m n p k j))
-  kept_combines p t r c hr h i j hi = at (eqb i r)
+  kept_combines p t r c hr h i j hi = by_test (eqb i r)
     where
       u : A
       u = O.inv (t.entry r c)
@@ -46,24 +49,24 @@ module _ {A : Type 0} (R : Ring A) (O : Order R) (m n : ℕ) where
           (plus (times (plus (v 0) (minus (times (v 1) (v 3)))) (v 2)) (plus (v 4) (minus (times (v 5) (v 3)))))
           (plus (plus (times (v 0) (v 2)) (v 4)) (minus (times (plus (times (v 1) (v 2)) (v 5)) (v 3)))) refl
 
-      at : (b : Bool) → cond b (R.mul (t.entry r j) (O.inv (t.entry r c))) (R.add (t.entry i j) (R.neg (R.mul (t.entry r j) (R.mul (t.entry i c) (O.inv (t.entry r c))))))
+      by_test : (b : Bool) → cond b (R.mul (t.entry r j) (O.inv (t.entry r c))) (R.add (t.entry i j) (R.neg (R.mul (t.entry r j) (R.mul (t.entry i c) (O.inv (t.entry r c))))))
           ≡ sum_to R m (λ k. R.mul (cond b (R.mul (t.entry r (n + k)) (O.inv (t.entry r c))) (R.add (t.entry i (n + k)) (R.neg (R.mul (t.entry r (n + k)) (R.mul (t.entry i c) (O.inv (t.entry r c))))))) (start_row R O m n p k j))
-      at true = ap (λ x. R.mul x u) (h.combines r j (omega arith)) ∙ sym (scaled m)
-      at false = ap₂ (λ x y. R.add x (R.neg (R.mul y (R.mul (t.entry i c) u)))) (h.combines i j hi) (h.combines r j (omega arith)) ∙ sym (lessened m (R.mul (t.entry i c) u))
+      by_test true = ap (λ x. R.mul x u) (h r j (omega arith)) ∙ sym (scaled m)
+      by_test false = ap₂ (λ x y. R.add x (R.neg (R.mul y (R.mul (t.entry i c) u)))) (h i j hi) (h r j (omega arith)) ∙ sym (lessened m (R.mul (t.entry i c) u))
 
-  kept_spans : (p : Problem A) (t : Table A) (r c : ℕ) → r < m → R.mul (t.entry r c) (O.inv (t.entry r c)) ≡ R.unit → Holds R O m n p t → (k j : ℕ) → k < m
+  kept_spans : (p : FeasibilityProblem A) (t : Table A) (r c : ℕ) → r < m → R.mul (t.entry r c) (O.inv (t.entry r c)) ≡ R.unit → HasInvariants R O m n p t → (k j : ℕ) → k < m
       → start_row R O m n p k j ≡ sum_to R m (λ i. R.mul (start_row R O m n p k ((pivot R O t r c).basis i)) ((pivot R O t r c).entry i j))
   kept_spans p t r c hr inverse h k j hk =
       pivot_sum R O m n t r c (λ i. start_row R O m n p k (t.basis i)) (λ j. start_row R O m n p k j) hr inverse (λ j. h.spans k j hk) j
       ∙ sum_same R m (λ i. R.mul (cond (eqb i r) (start_row R O m n p k c) (start_row R O m n p k (t.basis i))) ((pivot R O t r c).entry i j))
       (λ i. R.mul (start_row R O m n p k ((pivot R O t r c).basis i)) ((pivot R O t r c).entry i j))
-      (λ i l. ap (λ x. R.mul x ((pivot R O t r c).entry i j)) (at (eqb i r) i))
+      (λ i l. ap (λ x. R.mul x ((pivot R O t r c).entry i j)) (by_test (eqb i r) i))
     where
-      at : (b : Bool) (i : ℕ) → cond b (start_row R O m n p k c) (start_row R O m n p k (t.basis i)) ≡ start_row R O m n p k (cond b c (t.basis i))
-      at true i = refl
-      at false i = refl
+      by_test : (b : Bool) (i : ℕ) → cond b (start_row R O m n p k c) (start_row R O m n p k (t.basis i)) ≡ start_row R O m n p k (cond b c (t.basis i))
+      by_test true i = refl
+      by_test false i = refl
 
-  kept_costs : (p : Problem A) (t : Table A) (r c : ℕ) → r < m → c < n → R.mul (t.entry r c) (O.inv (t.entry r c)) ≡ R.unit → Holds R O m n p t → (j : ℕ)
+  kept_costs : (p : FeasibilityProblem A) (t : Table A) (r c : ℕ) → r < m → c < n → R.mul (t.entry r c) (O.inv (t.entry r c)) ≡ R.unit → HasInvariants R O m n p t → (j : ℕ)
       → (pivot R O t r c).entry m j ≡ sum_to R m (λ i. R.mul (cost_of R O m n ((pivot R O t r c).basis i)) ((pivot R O t r c).entry i j))
   kept_costs p t r c hr hc inverse h j =
       other_row t r c m j (λ e. omega arith)
@@ -98,34 +101,34 @@ module _ {A : Type 0} (R : Ring A) (O : Order R) (m n : ℕ) where
           ∙ sum_changed R m g r R.null hr
 
   -- right sides: a row with an entry of at most 0, and one whose ratio is no less
-  kept_low : (b r t u : A) → Least R O b → Least R O r → Least R O u → Least R O (R.neg t) → Least R O (R.add b (R.neg (R.mul r (R.mul t u))))
-  kept_low b r t u hb hr hu ht = subst (Least R O) (ring R (b ∷ r ∷ t ∷ u ∷ []) (plus (v 0) (times (v 1) (times (minus (v 2)) (v 3)))) (plus (v 0) (minus (times (v 1) (times (v 2) (v 3))))) refl)
+  kept_low : (b r t u : A) → IsAtLeastZero R O b → IsAtLeastZero R O r → IsAtLeastZero R O u → IsAtLeastZero R O (R.neg t) → IsAtLeastZero R O (R.add b (R.neg (R.mul r (R.mul t u))))
+  kept_low b r t u hb hr hu ht = subst (IsAtLeastZero R O) (ring R (b ∷ r ∷ t ∷ u ∷ []) (plus (v 0) (times (v 1) (times (minus (v 2)) (v 3)))) (plus (v 0) (minus (times (v 1) (times (v 2) (v 3))))) refl)
       (O.add-least b (R.mul r (R.mul (R.neg t) u)) hb (O.mul-least r (R.mul (R.neg t) u) hr (O.mul-least (R.neg t) u ht hu)))
 
-  kept_high : (b r t u w : A) → Least R O t → R.mul t w ≡ R.unit → Least R O (R.add (R.mul b w) (R.neg (R.mul r u))) → Least R O (R.add b (R.neg (R.mul r (R.mul t u))))
-  kept_high b r t u w ht e h = subst (Least R O)
+  kept_high : (b r t u w : A) → IsAtLeastZero R O t → R.mul t w ≡ R.unit → IsAtLeastZero R O (R.add (R.mul b w) (R.neg (R.mul r u))) → IsAtLeastZero R O (R.add b (R.neg (R.mul r (R.mul t u))))
+  kept_high b r t u w ht e h = subst (IsAtLeastZero R O)
       (ring R (b ∷ r ∷ t ∷ u ∷ w ∷ []) (times (v 2) (plus (times (v 0) (v 4)) (minus (times (v 1) (v 3))))) (plus (times (v 0) (times (v 2) (v 4))) (minus (times (v 1) (times (v 2) (v 3))))) refl
       ∙ ap (λ x. R.add (R.mul b x) (R.neg (R.mul r (R.mul t u)))) e
       ∙ ring R (b ∷ r ∷ t ∷ u ∷ []) (plus (times (v 0) one) (minus (times (v 1) (times (v 2) (v 3))))) (plus (v 0) (minus (times (v 1) (times (v 2) (v 3))))) refl)
       (O.mul-least t (R.add (R.mul b w) (R.neg (R.mul r u))) ht h)
 
-  kept_rights : (p : Problem A) (t : Table A) (r c : ℕ) → Holds R O m n p t → MayEnter R O m n t r c → (i : ℕ) → i < m → Least R O ((pivot R O t r c).entry i (n + m))
-  kept_rights p t r c h l i hi = at (cases_eq i r) (cases_Bool (O.is_least (R.neg (t.entry i c))))
+  kept_rights : (p : FeasibilityProblem A) (t : Table A) (r c : ℕ) → HasInvariants R O m n p t → MayEnter R O m n t r c → (i : ℕ) → i < m → IsAtLeastZero R O ((pivot R O t r c).entry i (n + m))
+  kept_rights p t r c h l i hi = by_cases (cases_eq i r) (cases_Bool (O.is_least (R.neg (t.entry i c))))
     where
-      small : Least R O (O.inv (t.entry r c))
+      small : IsAtLeastZero R O (O.inv (t.entry r c))
       small = inv-least R O (t.entry r c) l.above
 
-      at : (i ≡ r) ⊎ (i ≡ r → ⊥) → (Least R O (R.neg (t.entry i c))) ⊎ (Above R O (t.entry i c)) → Least R O ((pivot R O t r c).entry i (n + m))
-      at (inl e) q = subst (λ (k : ℕ). Least R O ((pivot R O t r c).entry k (n + m))) (sym e)
-          (subst (Least R O) (sym (pivot_row t r c (n + m))) (O.mul-least (t.entry r (n + m)) (O.inv (t.entry r c)) (h.rights r l.row) small))
-      at (inr e) (inl q) = subst (Least R O) (sym (other_row t r c i (n + m) e))
+      by_cases : (i ≡ r) ⊎ (i ≡ r → ⊥) → (IsAtLeastZero R O (R.neg (t.entry i c))) ⊎ (IsAboveZero R O (t.entry i c)) → IsAtLeastZero R O ((pivot R O t r c).entry i (n + m))
+      by_cases (inl e) q = subst (λ (k : ℕ). IsAtLeastZero R O ((pivot R O t r c).entry k (n + m))) (sym e)
+          (subst (IsAtLeastZero R O) (sym (pivot_row t r c (n + m))) (O.mul-least (t.entry r (n + m)) (O.inv (t.entry r c)) (h.rights r l.row) small))
+      by_cases (inr e) (inl q) = subst (IsAtLeastZero R O) (sym (other_row t r c i (n + m) e))
           (kept_low (t.entry i (n + m)) (t.entry r (n + m)) (t.entry i c) (O.inv (t.entry r c)) (h.rights i hi) (h.rights r l.row) small q)
-      at (inr e) (inr q) = subst (Least R O) (sym (other_row t r c i (n + m) e))
+      by_cases (inr e) (inr q) = subst (IsAtLeastZero R O) (sym (other_row t r c i (n + m) e))
           (kept_high (t.entry i (n + m)) (t.entry r (n + m)) (t.entry i c) (O.inv (t.entry r c)) (O.inv (t.entry i c)) (above-least R O (t.entry i c) q) (inv-above R O (t.entry i c) q) (l.least i hi q))
 
-  kept_units : (p : Problem A) (t : Table A) (r c : ℕ) → r < m → R.mul (t.entry r c) (O.inv (t.entry r c)) ≡ R.unit → Holds R O m n p t → (i k : ℕ) → i < m → k < m
+  kept_units : (p : FeasibilityProblem A) (t : Table A) (r c : ℕ) → r < m → R.mul (t.entry r c) (O.inv (t.entry r c)) ≡ R.unit → HasInvariants R O m n p t → (i k : ℕ) → i < m → k < m
       → (pivot R O t r c).entry i ((pivot R O t r c).basis k) ≡ cond (eqb i k) R.unit R.null
-  kept_units p t r c hr inverse h i k hi hk = at (cases_eq k r) (cases_eq i r)
+  kept_units p t r c hr inverse h i k hi hk = by_cases (cases_eq k r) (cases_eq i r)
     where
       to : Table A
       to = pivot R O t r c
@@ -133,35 +136,35 @@ module _ {A : Type 0} (R : Ring A) (O : Order R) (m n : ℕ) where
       is_null : (k ≡ r → ⊥) → t.entry r (t.basis k) ≡ R.null
       is_null d = h.units r k hr hk ∙ ap (λ b. cond b R.unit R.null) (ne_eqb r k (λ e. d (sym e)))
 
-      at : (k ≡ r) ⊎ (k ≡ r → ⊥) → (i ≡ r) ⊎ (i ≡ r → ⊥) → to.entry i (to.basis k) ≡ cond (eqb i k) R.unit R.null
-      at (inl d) (inl e) = ap₂ (λ x y. to.entry x (to.basis y)) e d ∙ ap (to.entry r) (new_basis t r c) ∙ pivot_row t r c c ∙ inverse
+      by_cases : (k ≡ r) ⊎ (k ≡ r → ⊥) → (i ≡ r) ⊎ (i ≡ r → ⊥) → to.entry i (to.basis k) ≡ cond (eqb i k) R.unit R.null
+      by_cases (inl d) (inl e) = ap₂ (λ x y. to.entry x (to.basis y)) e d ∙ ap (to.entry r) (new_basis t r c) ∙ pivot_row t r c c ∙ inverse
           ∙ ap (λ b. cond b R.unit R.null) (sym (eq-eqb i k (e ∙ sym d)))
-      at (inl d) (inr e) = ap (λ y. to.entry i (to.basis y)) d ∙ ap (to.entry i) (new_basis t r c) ∙ other_row t r c i c e
+      by_cases (inl d) (inr e) = ap (λ y. to.entry i (to.basis y)) d ∙ ap (to.entry i) (new_basis t r c) ∙ other_row t r c i c e
           ∙ ring R (t.entry i c ∷ t.entry r c ∷ O.inv (t.entry r c) ∷ []) (plus (v 0) (minus (times (v 1) (times (v 0) (v 2))))) (plus (v 0) (minus (times (v 0) (times (v 1) (v 2))))) refl
           ∙ ap (λ x. R.add (t.entry i c) (R.neg (R.mul (t.entry i c) x))) inverse
           ∙ ring R (t.entry i c ∷ []) (plus (v 0) (minus (times (v 0) one))) nil refl
           ∙ ap (λ b. cond b R.unit R.null) (sym (ne_eqb i k (λ q. e (q ∙ d))))
-      at (inr d) (inl e) = ap (to.entry i) (old_basis t r c k d) ∙ ap (λ x. to.entry x (t.basis k)) e ∙ pivot_row t r c (t.basis k)
+      by_cases (inr d) (inl e) = ap (to.entry i) (old_basis t r c k d) ∙ ap (λ x. to.entry x (t.basis k)) e ∙ pivot_row t r c (t.basis k)
           ∙ ap (λ x. R.mul x (O.inv (t.entry r c))) (is_null d)
           ∙ ring R (O.inv (t.entry r c) ∷ []) (times nil (v 0)) nil refl
           ∙ ap (λ b. cond b R.unit R.null) (sym (ne_eqb i k (λ q. d (sym q ∙ e))))
-      at (inr d) (inr e) = ap (to.entry i) (old_basis t r c k d) ∙ other_row t r c i (t.basis k) e
+      by_cases (inr d) (inr e) = ap (to.entry i) (old_basis t r c k d) ∙ other_row t r c i (t.basis k) e
           ∙ ap₂ (λ x y. R.add x (R.neg (R.mul y (R.mul (t.entry i c) (O.inv (t.entry r c)))))) (h.units i k hi hk) (is_null d)
           ∙ ring R (cond (eqb i k) R.unit R.null ∷ R.mul (t.entry i c) (O.inv (t.entry r c)) ∷ []) (plus (v 0) (minus (times nil (v 1)))) (v 0) refl
 
-  pub kept : (p : Problem A) (t : Table A) (r c : ℕ) → Holds R O m n p t → MayEnter R O m n t r c → Holds R O m n p (pivot R O t r c)
+  pub kept : (p : FeasibilityProblem A) (t : Table A) (r c : ℕ) → HasInvariants R O m n p t → MayEnter R O m n t r c → HasInvariants R O m n p (pivot R O t r c)
   kept p t r c h l = record {
-    combines = kept_combines p t r c l.row h;
+    combines = kept_combines p t r c l.row h.combines;
     spans = kept_spans p t r c l.row inverse h;
     rights = kept_rights p t r c h l;
     costs = kept_costs p t r c l.row l.column inverse h;
     units = kept_units p t r c l.row inverse h;
-    own = λ k hk. at k (cases_eq k r) hk;
+    own = λ k hk. by_cases k (cases_eq k r) hk;
   }
     where
       inverse : R.mul (t.entry r c) (O.inv (t.entry r c)) ≡ R.unit
       inverse = inv-above R O (t.entry r c) l.above
 
-      at : (k : ℕ) → (k ≡ r) ⊎ (k ≡ r → ⊥) → k < m → ((pivot R O t r c).basis k < n) ⊎ ((pivot R O t r c).basis k ≡ n + k)
-      at k (inl q) hk = inl (subst (λ (b : ℕ). b < n) (sym (ap (pivot R O t r c).basis q ∙ new_basis t r c)) l.column)
-      at k (inr q) hk = subst (λ (b : ℕ). (b < n) ⊎ (b ≡ n + k)) (sym (old_basis t r c k q)) (h.own k hk)
+      by_cases : (k : ℕ) → (k ≡ r) ⊎ (k ≡ r → ⊥) → k < m → ((pivot R O t r c).basis k < n) ⊎ ((pivot R O t r c).basis k ≡ n + k)
+      by_cases k (inl q) hk = inl (subst (λ (b : ℕ). b < n) (sym (ap (pivot R O t r c).basis q ∙ new_basis t r c)) l.column)
+      by_cases k (inr q) hk = subst (λ (b : ℕ). (b < n) ⊎ (b ≡ n + k)) (sym (old_basis t r c k q)) (h.own k hk)

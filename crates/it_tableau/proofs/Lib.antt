@@ -10,3 +10,10 @@ pub mod StartRows
 pub mod WholeNumbers
 pub mod StartView
 pub mod Positive
+pub mod Zeros
+pub mod Climbing
+pub mod Building
+pub mod MergeSteps
+pub mod DivisionSteps
+pub mod DenseRows
+pub mod Searching

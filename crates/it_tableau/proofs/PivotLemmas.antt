@@ -1,20 +1,19 @@
 -- A pivot under way on a list of rows: row r is taken out, and the rows below i are reduced.
-use Rattle.std.proofs.Common.{◌≡◌, ◌≢◌, ℕ, ◌+◌, ◌<◌, ◌≤◌, List, [], length, get_or, slice_set, map, sym, subst, ◌∙◌, ◌⊎◌, inl, inr, arith}
+use Rattle.std.proofs.Common.{◌≡◌, ◌≢◌, ℕ, ◌+◌, ◌<◌, ◌≤◌, List, [], length, get_or, slice_set, sym, subst, ◌∙◌, ◌⊎◌, inl, inr, arith}
 use Rattle.std.proofs.lemmas.Bool.{cases_eq}
-use Rattle.std.proofs.lemmas.List.{get_or-set_same, get_or-set_other, length-set, length-map, map-set}
+use Rattle.std.proofs.lemmas.List.{get_or-set_same, get_or-set_other, get_or_default, length-set}
 use Rattle.it_rational.specs.Rational.{Rational, times, inverse}
-use Rattle.it_tableau.specs.Rows.{at, row_at, RowStepFits, IsReduced, IsDivided, RowsPivotFits, ArePivoted}
-use Rattle.it_tableau.proofs.RowsLemmas.{row_read}
+use Rattle.it_tableau.specs.Rows.{entry_at, row_at, RowStepFits, IsReduced, IsDivided, RowsPivotFits, ArePivoted}
 
 pub record UnderWay (old now : List (List Rational)) (own : List Rational) (r c i : ℕ) (p : Rational) : Type 0 where
   pub same : length now ≡ length old
   pub own_is : own ≡ row_at old r
-  pub p_is : p ≡ at (row_at old r) c
-  pub done : (k : ℕ) → k < i → k ≢ r → IsReduced (row_at old k) own (times (at (row_at old k) c) (inverse p)) (row_at now k)
+  pub p_is : p ≡ entry_at (row_at old r) c
+  pub done : (k : ℕ) → k < i → k ≢ r → IsReduced (row_at old k) own (times (entry_at (row_at old k) c) (inverse p)) (row_at now k)
   pub fits : (k : ℕ) → k < i → k ≢ r → RowStepFits (row_at old k) own c p
   pub rest : (k : ℕ) → i ≤ k → k ≢ r → row_at now k ≡ row_at old k
 
-pub begun : (old : List (List Rational)) (own y : List Rational) (r c : ℕ) (p : Rational) → own ≡ row_at old r → p ≡ at (row_at old r) c → UnderWay old (slice_set old r y) own r c 0 p
+pub begun : (old : List (List Rational)) (own y : List Rational) (r c : ℕ) (p : Rational) → own ≡ row_at old r → p ≡ entry_at (row_at old r) c → UnderWay old (slice_set old r y) own r c 0 p
 begun old own y r c p e f = record {
   same = length-set old r y;
   own_is = e;
@@ -35,7 +34,7 @@ skipped old now own r c i p e u = record {
 }
 
 pub stepped : (old now : List (List Rational)) (own y : List Rational) (r c i : ℕ) (p : Rational) → i < length now → RowStepFits (row_at old i) own c p
-    → IsReduced (row_at old i) own (times (at (row_at old i) c) (inverse p)) y → UnderWay old now own r c i p → UnderWay old (slice_set now i y) own r c (i + 1) p
+    → IsReduced (row_at old i) own (times (entry_at (row_at old i) c) (inverse p)) y → UnderWay old now own r c i p → UnderWay old (slice_set now i y) own r c (i + 1) p
 stepped old now own y r c i p h fit red u = record {
   same = length-set now i y ∙ u.same;
   own_is = u.own_is;
@@ -45,10 +44,10 @@ stepped old now own y r c i p h fit red u = record {
   rest = λ k l d. get_or-set_other now i k y [] (λ e. omega arith) ∙ u.rest k (omega arith) d;
 }
   where
-    split : (k : ℕ) → k < i + 1 → k ≢ r → (k ≡ i) ⊎ (k ≡ i → ⊥) → IsReduced (row_at old k) own (times (at (row_at old k) c) (inverse p)) (row_at (slice_set now i y) k)
-    split k l d (inl e) = subst (λ (x : ℕ). IsReduced (row_at old x) own (times (at (row_at old x) c) (inverse p)) (row_at (slice_set now i y) x)) (sym e)
-        (subst (IsReduced (row_at old i) own (times (at (row_at old i) c) (inverse p))) (sym (get_or-set_same now i y [] h)) red)
-    split k l d (inr n) = subst (IsReduced (row_at old k) own (times (at (row_at old k) c) (inverse p))) (sym (get_or-set_other now i k y [] n)) (u.done k (omega arith) d)
+    split : (k : ℕ) → k < i + 1 → k ≢ r → (k ≡ i) ⊎ (k ≡ i → ⊥) → IsReduced (row_at old k) own (times (entry_at (row_at old k) c) (inverse p)) (row_at (slice_set now i y) k)
+    split k l d (inl e) = subst (λ (x : ℕ). IsReduced (row_at old x) own (times (entry_at (row_at old x) c) (inverse p)) (row_at (slice_set now i y) x)) (sym e)
+        (subst (IsReduced (row_at old i) own (times (entry_at (row_at old i) c) (inverse p))) (sym (get_or-set_same now i y [] h)) red)
+    split k l d (inr n) = subst (IsReduced (row_at old k) own (times (entry_at (row_at old k) c) (inverse p))) (sym (get_or-set_other now i k y [] n)) (u.done k (omega arith) d)
 
     split_fits : (k : ℕ) → k < i + 1 → k ≢ r → (k ≡ i) ⊎ (k ≡ i → ⊥) → RowStepFits (row_at old k) own c p
     split_fits k l d (inl e) = subst (λ (x : ℕ). RowStepFits (row_at old x) own c p) (sym e) fit
@@ -60,21 +59,13 @@ refused old now own r c i p h d u n f = n (subst (λ (x : List Rational). RowSte
 pub pivoted : (old now : List (List Rational)) (own y : List Rational) (r c i : ℕ) (p : Rational) → r < length old → length old ≤ i → UnderWay old now own r c i p → IsDivided own p y → ArePivoted old r c (slice_set now r y)
 pivoted old now own y r c i p hr h u g = record {
   same_length = length-set now r y ∙ u.same;
-  others = λ k l d. subst (λ (q : Rational). IsReduced (row_at old k) (row_at old r) (times (at (row_at old k) c) (inverse q)) (row_at (slice_set now r y) k)) u.p_is
-      (subst (λ (x : List Rational). IsReduced (row_at old k) x (times (at (row_at old k) c) (inverse p)) (row_at (slice_set now r y) k)) u.own_is
-      (subst (IsReduced (row_at old k) own (times (at (row_at old k) c) (inverse p))) (sym (get_or-set_other now r k y [] d)) (u.done k (omega arith) d)));
-  own = subst (IsDivided (row_at old r) (at (row_at old r) c)) (sym (get_or-set_same now r y [] (omega (arith, u.same))))
+  others = λ k l d. subst (λ (q : Rational). IsReduced (row_at old k) (row_at old r) (times (entry_at (row_at old k) c) (inverse q)) (row_at (slice_set now r y) k)) u.p_is
+      (subst (λ (x : List Rational). IsReduced (row_at old k) x (times (entry_at (row_at old k) c) (inverse p)) (row_at (slice_set now r y) k)) u.own_is
+      (subst (IsReduced (row_at old k) own (times (entry_at (row_at old k) c) (inverse p))) (sym (get_or-set_other now r k y [] d)) (u.done k (omega arith) d)));
+  own = subst (IsDivided (row_at old r) (entry_at (row_at old r) c)) (sym (get_or-set_same now r y [] (omega (arith, u.same))))
       (subst (λ (q : Rational). IsDivided (row_at old r) q y) u.p_is (subst (λ (x : List Rational). IsDivided x p y) u.own_is g));
 }
 
 -- the row that is lent is that of the start
-pub lent : {V : Type 0} (f : V → List Rational) (old now : List V) (own : List Rational) (r c i : ℕ) (p : Rational) (d : V) (x : List Rational)
-    → x ≡ f (get_or now i d) → i < length now → i ≢ r → UnderWay (map f old) (map f now) own r c i p → x ≡ row_at (map f old) i
-lent f old now own r c i p d x e h n u = e ∙ sym (row_read f now i d h) ∙ u.rest i (omega arith) n
-
-pub set_under : {V : Type 0} (f : V → List Rational) (old : List (List Rational)) (now : List V) (own : List Rational) (r c i k : ℕ) (p : Rational) (y : V)
-    → UnderWay old (slice_set (map f now) k (f y)) own r c i p → UnderWay old (map f (slice_set now k y)) own r c i p
-set_under f old now own r c i k p y u = subst (λ (l : List (List Rational)). UnderWay old l own r c i p) (sym (map-set f now k y)) u
-
-pub length_rows : {V : Type 0} (f : V → List Rational) (xs : List V) → length (map f xs) ≡ length xs
-length_rows f xs = length-map xs f
+pub lent : (old now : List (List Rational)) (own : List Rational) (r c i : ℕ) (p : Rational) (d x : List Rational) → x ≡ get_or now i d → i < length now → i ≢ r → UnderWay old now own r c i p → x ≡ row_at old i
+lent old now own r c i p d x e h n u = e ∙ get_or_default now i d [] h ∙ u.rest i (omega arith) n

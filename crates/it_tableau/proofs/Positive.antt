@@ -4,7 +4,7 @@ use Rattle.it_rational.specs.Rational.{Rational}
 use Rattle.it_rational.proofs.Field.{null_from, order_ℚ}
 use Rattle.it_rational.proofs.Ordered.{above-apart}
 use Rattle.it_rational.proofs.RationalLaws.{ring_ℚ}
-use Rattle.it_tableau.specs.Shown.{IsPositive}
+use Rattle.it_tableau.specs.TableauViews.{IsPositive}
 
 pub positive_some : (q : Rational) → IsPositive q → q.num ≢ pos 0
 positive_some q h e = above-apart ring_ℚ order_ℚ q h (null_from q e)

@@ -12,10 +12,10 @@ use Rattle.it_space.specs.Rows.{Terms}
 use Rattle.it_fraction.specs.Fits.{SumFits}
 use Rattle.it_tableau.specs.Sums.{sum_to}
 use Rattle.it_tableau.specs.Fits.{StartFits}
-use Rattle.it_tableau.specs.Problems.{problem_of, start_of}
-use Rattle.it_tableau.specs.Rows.{at, row_at, column_sum, ColumnsFit, Shows}
-use Rattle.it_tableau.specs.Shown.{AreStartRows, table_of}
-use Rattle.it_tableau.specs.Tables.{Problem, Table, sign, start_row}
+use Rattle.it_tableau.specs.Problems.{feasibility_problem, start_of}
+use Rattle.it_tableau.specs.Rows.{entry_at, row_at, column_sum, ColumnsFit, ListsValues}
+use Rattle.it_tableau.specs.TableauViews.{AreStartRows, table_of}
+use Rattle.it_tableau.specs.Tables.{FeasibilityProblem, Table, sign, start_row}
 use Rattle.it_tableau.proofs.Sums.{sum_same, sum_null}
 use Rattle.it_tableau.proofs.ViewLemmas.{past, past_row, same_functions}
 use Rattle.it_tableau.proofs.WholeNumbers.{sums_narrow, sums_fit}
@@ -29,33 +29,33 @@ module _ (cs : List ℕ) (columns : List Terms) (target : Terms) where
 
   -- entry j of row k of the start
   abbrev entry : ℕ → ℕ → Rational
-  entry k j = start_row ring_ℚ order_ℚ (length cs) (length columns) (problem_of cs columns target) k j
+  entry k j = start_row ring_ℚ order_ℚ (length cs) (length columns) (feasibility_problem cs columns target) k j
 
   -- past the right side a row of the start has nothing
   entry_past : (k j : ℕ) → k < length cs → length columns + length cs + 1 ≤ j → entry k j ≡ Q.whole (pos 0)
   entry_past k j h l =
-      let p : Problem Rational = problem_of cs columns target in
+      let p : FeasibilityProblem Rational = feasibility_problem cs columns target in
       ap (λ b. cond b (Q.times (sign ring_ℚ order_ℚ p k) (p.column j k)) (cond (eqb j (n + m)) (Q.times (sign ring_ℚ order_ℚ p k) (p.target k)) (cond (eqb j (n + k)) (Q.whole (pos 1)) (Q.whole (pos 0))))) (le-ltb j n (omega arith))
       ∙ ap₂ (λ b d. cond b (Q.times (sign ring_ℚ order_ℚ p k) (p.target k)) (cond d (Q.whole (pos 1)) (Q.whole (pos 0)))) (ne_eqb j (n + m) (λ e. omega arith)) (ne_eqb j (n + k) (λ e. omega arith))
 
   module _ (rows : List (List Rational)) (a : AreStartRows cs columns target (length cs) rows) where
     sum_is : (k j : ℕ) → k ≤ length cs → j < length columns + length cs + 1 → column_sum rows j k ≡ sum_to ring_ℚ k (λ i. entry i j)
-    sum_is k j h l = sum_same ring_ℚ k (λ i. at (row_at rows i) j) (λ i. entry i j) (λ i q. (a.entries_are i (omega arith)).entries j l)
+    sum_is k j h l = sum_same ring_ℚ k (λ i. entry_at (row_at rows i) j) (λ i. entry i j) (λ i q. (a.entries_are i (omega arith)).entries j l)
 
     -- the additions of the cost row fit exactly where its partial sums do
-    pub start_fits : ColumnsFit rows (length columns + length cs + 1) → StartFits (length cs) (length columns) (problem_of cs columns target)
+    pub start_fits : ColumnsFit rows (length columns + length cs + 1) → StartFits (length cs) (length columns) (feasibility_problem cs columns target)
     start_fits fits k j h l = sums_narrow (length cs) (λ i. entry i j) (λ i q. a.wholes i j q l)
         (λ i q. subst (λ (x : Rational). SumFits x (sum_to ring_ℚ i (λ i. entry i j))) ((a.entries_are i q).entries j l)
-        (subst (SumFits (at (row_at rows i) j)) (sum_is i j (omega arith) l) (fits j l i (omega (arith, a.rows_are))))) k h
+        (subst (SumFits (entry_at (row_at rows i) j)) (sum_is i j (omega arith) l) (fits j l i (omega (arith, a.rows_are))))) k h
 
-    pub columns_fit : StartFits (length cs) (length columns) (problem_of cs columns target) → ColumnsFit rows (length columns + length cs + 1)
+    pub columns_fit : StartFits (length cs) (length columns) (feasibility_problem cs columns target) → ColumnsFit rows (length columns + length cs + 1)
     columns_fit fits j l i q =
         let h : i < length cs = omega (arith, a.rows_are) in
         subst (λ (x : Rational). SumFits x (column_sum rows j i)) (sym ((a.entries_are i h).entries j l))
         (subst (SumFits (entry i j)) (sym (sum_is i j (omega arith) l)) (sums_fit (length cs) (λ i. entry i j) (λ i q. a.wholes i j q l) (λ k h. fits k j h l) i h))
 
-    module _ (cost : List Rational) (s : Shows (λ j. Q.minus (column_sum rows j (length rows))) (length columns + length cs + 1) cost) where
-      cost_is : (j : ℕ) → j < length columns + length cs + 1 → at cost j ≡ Q.minus (sum_to ring_ℚ (length cs) (λ i. entry i j))
+    module _ (cost : List Rational) (s : ListsValues (λ j. Q.minus (column_sum rows j (length rows))) (length columns + length cs + 1) cost) where
+      cost_is : (j : ℕ) → j < length columns + length cs + 1 → entry_at cost j ≡ Q.minus (sum_to ring_ℚ (length cs) (λ i. entry i j))
       cost_is j l = s.entries j l ∙ ap (λ k. Q.minus (column_sum rows j k)) a.rows_are ∙ ap Q.minus (sum_is m j (omega arith) l)
 
       cost_past : (j : ℕ) → length columns + length cs + 1 ≤ j → Q.minus (sum_to ring_ℚ (length cs) (λ i. entry i j)) ≡ Q.whole (pos 0)
@@ -77,17 +77,17 @@ module _ (cs : List ℕ) (columns : List Terms) (target : Terms) where
       opened i j = refl
 
       entries : (i j : ℕ) → (i < length cs) ⊎ (length cs ≤ i) → (i ≡ length cs) ⊎ (i ≡ length cs → ⊥) → (j < length columns + length cs + 1) ⊎ (length columns + length cs + 1 ≤ j)
-          → at (row_at (rows ++ cost ∷ []) i) j ≡ (start_of cs columns target).entry i j
-      entries i j (inl h) e w = ap (λ r. at r j) (upper i h) ∙ split w
+          → entry_at (row_at (rows ++ cost ∷ []) i) j ≡ (start_of cs columns target).entry i j
+      entries i j (inl h) e w = ap (λ r. entry_at r j) (upper i h) ∙ split w
           ∙ ap (λ b. cond b (entry i j) (cond (eqb i m) (Q.minus (sum_to ring_ℚ m (λ k. entry k j))) (Q.whole (pos 0)))) (sym (lt-ltb i m h))
         where
-          split : (j < length columns + length cs + 1) ⊎ (length columns + length cs + 1 ≤ j) → at (row_at rows i) j ≡ entry i j
+          split : (j < length columns + length cs + 1) ⊎ (length columns + length cs + 1 ≤ j) → entry_at (row_at rows i) j ≡ entry i j
           split (inl l) = (a.entries_are i h).entries j l
           split (inr l) = past (row_at rows i) j (omega (arith, (a.entries_are i h).length_is)) ∙ sym (entry_past i j h l)
-      entries i j (inr h) (inl e) w = ap (λ r. at r j) (last i e) ∙ split w
+      entries i j (inr h) (inl e) w = ap (λ r. entry_at r j) (last i e) ∙ split w
           ∙ ap₂ (λ b d. cond b (entry i j) (cond d (Q.minus (sum_to ring_ℚ m (λ k. entry k j))) (Q.whole (pos 0)))) (sym (le-ltb i m h)) (sym (eq-eqb i m e))
         where
-          split : (j < length columns + length cs + 1) ⊎ (length columns + length cs + 1 ≤ j) → at cost j ≡ Q.minus (sum_to ring_ℚ (length cs) (λ k. entry k j))
+          split : (j < length columns + length cs + 1) ⊎ (length columns + length cs + 1 ≤ j) → entry_at cost j ≡ Q.minus (sum_to ring_ℚ (length cs) (λ k. entry k j))
           split (inl l) = cost_is j l
           split (inr l) = past cost j (omega (arith, s.length_is)) ∙ sym (cost_past j l)
       entries i j (inr h) (inr d) w = past_row (rows ++ cost ∷ []) i j (omega (arith, all_length))

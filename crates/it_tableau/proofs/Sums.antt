@@ -1,17 +1,19 @@
 -- Finite sums: equal terms, sums of sums, one term changed, and over an ordered ring their signs.
 use Rattle.std.proofs.Common.{◌≡◌, ℕ, zero, suc, ◌<◌, Bool, true, false, cond, eqb, [], ◌∷◌, refl, sym, ap, ap₂, ◌∙◌, ◌⊎◌, inl, inr, arith}
 use Rattle.std.proofs.lemmas.Bool.{eq-eqb, ne_eqb, eqb-true, cases_eq}
-use native.Mathlib.Nat.{eq-or-lt_of_le, le_of_suc-le-suc}
-use Rattle.it_number.proofs.Ring.{Ring, ring, mul-null, v, plus, times, minus, nil}
-use Rattle.it_rational.proofs.Ordered.{Order, Least, Below, null-least, not_both}
+use Rattle.it_number.proofs.Ring.{ring, mul-null, v, plus, times, minus, nil}
+use Rattle.it_number.specs.Rings.{Ring}
+use Rattle.it_rational.proofs.Ordered.{null-least, not_both}
+use Rattle.it_rational.specs.OrderedFields.{Order, IsAtLeastZero, IsBelowZero}
 use Rattle.it_tableau.specs.Sums.{sum_to}
+use native.Mathlib.Nat.{eq-or-lt_of_le, le_of_suc-le-suc}
 
 pub eqb_comm : (a b : ℕ) → eqb a b ≡ eqb b a
-eqb_comm a b = at (cases_eq a b)
+eqb_comm a b = by_cases (cases_eq a b)
   where
-    at : (a ≡ b) ⊎ (a ≡ b → ⊥) → eqb a b ≡ eqb b a
-    at (inl e) = eq-eqb a b e ∙ sym (eq-eqb b a (sym e))
-    at (inr n) = ne_eqb a b n ∙ sym (ne_eqb b a (λ e. n (sym e)))
+    by_cases : (a ≡ b) ⊎ (a ≡ b → ⊥) → eqb a b ≡ eqb b a
+    by_cases (inl e) = eq-eqb a b e ∙ sym (eq-eqb b a (sym e))
+    by_cases (inr n) = ne_eqb a b n ∙ sym (ne_eqb b a (λ e. n (sym e)))
 
 module _ {A : Type 0} (R : Ring A) where
   pub sum_same : (n : ℕ) (f g : ℕ → A) → ((k : ℕ) → k < n → f k ≡ g k) → sum_to R n f ≡ sum_to R n g
@@ -42,48 +44,48 @@ module _ {A : Type 0} (R : Ring A) where
   -- a sum with one term changed
   pub sum_changed : (n : ℕ) (f : ℕ → A) (r : ℕ) (x : A) → r < n → sum_to R n (λ i. cond (eqb i r) x (f i)) ≡ R.add (sum_to R n f) (R.add x (R.neg (f r)))
   sum_changed zero f r x h = absurd (omega arith)
-  sum_changed (suc n) f r x h = at (eq-or-lt_of_le (le_of_suc-le-suc h)) (λ l. sum_changed n f r x l)
+  sum_changed (suc n) f r x h = by_cases (eq-or-lt_of_le (le_of_suc-le-suc h)) (λ l. sum_changed n f r x l)
     where
-      at : (r ≡ n) ⊎ (r < n) → (r < n → sum_to R n (λ i. cond (eqb i r) x (f i)) ≡ R.add (sum_to R n f) (R.add x (R.neg (f r))))
+      by_cases : (r ≡ n) ⊎ (r < n) → (r < n → sum_to R n (λ i. cond (eqb i r) x (f i)) ≡ R.add (sum_to R n f) (R.add x (R.neg (f r))))
           → sum_to R (suc n) (λ i. cond (eqb i r) x (f i)) ≡ R.add (sum_to R (suc n) f) (R.add x (R.neg (f r)))
-      at (inl e) ih =
+      by_cases (inl e) ih =
           ap₂ (λ b y. R.add (cond b x (f n)) y) (eq-eqb n r (sym e))
           (sum_same n (λ i. cond (eqb i r) x (f i)) f (λ k l. ap (λ b. cond b x (f k)) (ne_eqb k r (omega arith))))
           ∙ ring R (x ∷ f n ∷ sum_to R n f ∷ []) (plus (v 0) (v 2)) (plus (plus (v 1) (v 2)) (plus (v 0) (minus (v 1)))) refl
           ∙ ap (λ m. R.add (R.add (f n) (sum_to R n f)) (R.add x (R.neg (f m)))) (sym e)
-      at (inr l) ih =
+      by_cases (inr l) ih =
           ap₂ (λ b y. R.add (cond b x (f n)) y) (ne_eqb n r (omega arith)) (ih l)
           ∙ ring R (x ∷ f n ∷ sum_to R n f ∷ f r ∷ []) (plus (v 1) (plus (v 2) (plus (v 0) (minus (v 3))))) (plus (plus (v 1) (v 2)) (plus (v 0) (minus (v 3)))) refl
 
   -- a sum of one term alone
   pub sum_one : (n : ℕ) (f : ℕ → A) (k : ℕ) → k < n → sum_to R n (λ i. cond (eqb i k) (f i) R.null) ≡ f k
   sum_one n f k h =
-      sum_same n (λ i. cond (eqb i k) (f i) R.null) (λ i. cond (eqb i k) (f k) R.null) (λ i l. at i (eqb i k) (eqb-true i k))
+      sum_same n (λ i. cond (eqb i k) (f i) R.null) (λ i. cond (eqb i k) (f k) R.null) (λ i l. for_each i (eqb i k) (eqb-true i k))
       ∙ sum_changed n (λ i. R.null) k (f k) h
       ∙ ap (λ z. R.add z (R.add (f k) (R.neg R.null))) (sum_null n)
       ∙ ring R (f k ∷ []) (plus nil (plus (v 0) (minus nil))) (v 0) refl
     where
-      at : (i : ℕ) (b : Bool) → (b ≡ true → i ≡ k) → cond b (f i) R.null ≡ cond b (f k) R.null
-      at i true e = ap f (e refl)
-      at i false e = refl
+      for_each : (i : ℕ) (b : Bool) → (b ≡ true → i ≡ k) → cond b (f i) R.null ≡ cond b (f k) R.null
+      for_each i true e = ap f (e refl)
+      for_each i false e = refl
 
   pub sum_unit : (m : ℕ) (f : ℕ → A) (k : ℕ) → k < m → sum_to R m (λ i. R.mul (f i) (cond (eqb i k) R.unit R.null)) ≡ f k
-  sum_unit m f k h = sum_same m (λ i. R.mul (f i) (cond (eqb i k) R.unit R.null)) (λ i. cond (eqb i k) (f i) R.null) (λ i l. at i (eqb i k)) ∙ sum_one m f k h
+  sum_unit m f k h = sum_same m (λ i. R.mul (f i) (cond (eqb i k) R.unit R.null)) (λ i. cond (eqb i k) (f i) R.null) (λ i l. for_each i (eqb i k)) ∙ sum_one m f k h
     where
-      at : (i : ℕ) (b : Bool) → R.mul (f i) (cond b R.unit R.null) ≡ cond b (f i) R.null
-      at i true = R.mul_comm (f i) R.unit ∙ R.unit-mul (f i)
-      at i false = mul-null R (f i)
+      for_each : (i : ℕ) (b : Bool) → R.mul (f i) (cond b R.unit R.null) ≡ cond b (f i) R.null
+      for_each i true = R.mul_comm (f i) R.unit ∙ R.unit-mul (f i)
+      for_each i false = mul-null R (f i)
 
 module _ {A : Type 0} (R : Ring A) (O : Order R) where
   -- a sum of terms of at least 0 is at least 0
-  pub sum_least : (n : ℕ) (f : ℕ → A) → ((k : ℕ) → k < n → Least R O (f k)) → Least R O (sum_to R n f)
+  pub sum_least : (n : ℕ) (f : ℕ → A) → ((k : ℕ) → k < n → IsAtLeastZero R O (f k)) → IsAtLeastZero R O (sum_to R n f)
   sum_least zero f h = null-least R O
   sum_least (suc n) f h = O.add-least (f n) (sum_to R n f) (h n (omega arith)) (sum_least n f (λ k l. h k (omega arith)))
 
   -- where terms of at least 0 sum to 0, each is 0
-  pub all_null : (n : ℕ) (f : ℕ → A) → ((k : ℕ) → k < n → Least R O (f k)) → sum_to R n f ≡ R.null → (k : ℕ) → k < n → f k ≡ R.null
+  pub all_null : (n : ℕ) (f : ℕ → A) → ((k : ℕ) → k < n → IsAtLeastZero R O (f k)) → sum_to R n f ≡ R.null → (k : ℕ) → k < n → f k ≡ R.null
   all_null zero f h e k l = absurd (omega arith)
-  all_null (suc n) f h e k l = at (eq-or-lt_of_le (le_of_suc-le-suc l)) (all_null n f (λ k l. h k (omega arith)) (sum_is_null (f n) (sum_to R n f) last_null e) k)
+  all_null (suc n) f h e k l = by_cases (eq-or-lt_of_le (le_of_suc-le-suc l)) (all_null n f (λ k l. h k (omega arith)) (sum_is_null (f n) (sum_to R n f) last_null e) k)
     where
       opposite : (a b : A) → R.add a b ≡ R.null → b ≡ R.neg a
       opposite a b e = ring R (a ∷ b ∷ []) (v 1) (plus (plus (v 0) (v 1)) (minus (v 0))) refl ∙ ap (λ z. R.add z (R.neg a)) e ∙ R.null-add (R.neg a)
@@ -94,16 +96,16 @@ module _ {A : Type 0} (R : Ring A) (O : Order R) where
       sum_is_null : (a b : A) → a ≡ R.null → R.add a b ≡ R.null → b ≡ R.null
       sum_is_null a b h e = sym (R.null-add b) ∙ ap (λ z. R.add z b) (sym h) ∙ e
 
-      at : (k ≡ n) ⊎ (k < n) → (k < n → f k ≡ R.null) → f k ≡ R.null
-      at (inl e) g = ap f e ∙ last_null
-      at (inr l) g = g l
+      by_cases : (k ≡ n) ⊎ (k < n) → (k < n → f k ≡ R.null) → f k ≡ R.null
+      by_cases (inl e) g = ap f e ∙ last_null
+      by_cases (inr l) g = g l
 
   -- a sum below 0 has a term below 0
-  pub some_below : (n : ℕ) (f : ℕ → A) → Below R O (sum_to R n f) → (k : ℕ) × (k < n) × Below R O (f k)
+  pub some_below : (n : ℕ) (f : ℕ → A) → IsBelowZero R O (sum_to R n f) → (k : ℕ) × (k < n) × IsBelowZero R O (f k)
   some_below zero f h = absurd (not_both R O R.null h (null-least R O))
-  some_below (suc n) f h = at (O.is_least (f n)) (O.is_least (sum_to R n f)) refl refl (λ b. some_below n f b)
+  some_below (suc n) f h = by_test (O.is_least (f n)) (O.is_least (sum_to R n f)) refl refl (λ b. some_below n f b)
     where
-      at : (a b : Bool) → O.is_least (f n) ≡ a → O.is_least (sum_to R n f) ≡ b → (Below R O (sum_to R n f) → (k : ℕ) × (k < n) × Below R O (f k)) → (k : ℕ) × (k < suc n) × Below R O (f k)
-      at false b e d g = (n, omega arith, e)
-      at true false e d g = let p = g d in (p.0, omega (arith, p.1), p.2)
-      at true true e d g = absurd (not_both R O (sum_to R (suc n) f) h (O.add-least (f n) (sum_to R n f) e d))
+      by_test : (a b : Bool) → O.is_least (f n) ≡ a → O.is_least (sum_to R n f) ≡ b → (IsBelowZero R O (sum_to R n f) → (k : ℕ) × (k < n) × IsBelowZero R O (f k)) → (k : ℕ) × (k < suc n) × IsBelowZero R O (f k)
+      by_test false b e d g = (n, omega arith, e)
+      by_test true false e d g = let p = g d in (p.0, omega (arith, p.1), p.2)
+      by_test true true e d g = absurd (not_both R O (sum_to R (suc n) f) h (O.add-least (f n) (sum_to R n f) e d))

@@ -8,9 +8,9 @@ use Rattle.it_rational.specs.Rational as Q
 use Rattle.it_rational.proofs.RationalLaws.{ring_ℚ}
 use Rattle.it_rational.proofs.Field.{order_ℚ}
 use Rattle.it_tableau.specs.Tables.{Table, pivot}
-use Rattle.it_tableau.specs.Rows.{at, row_at, zero_rational, RowsPivotFits, ArePivoted}
+use Rattle.it_tableau.specs.Rows.{entry_at, row_at, zero_rational, RowsPivotFits, ArePivoted}
 use Rattle.it_tableau.specs.Fits.{PivotFits}
-use Rattle.it_tableau.specs.Shown.{table_of, HasShape, IsSound}
+use Rattle.it_tableau.specs.TableauViews.{table_of, HasShape, IsSound}
 
 pub same_functions : {X : Type 0} {f g : ℕ → X} → ((k : ℕ) → f k ≡ g k) → f ≡ g
 same_functions h = λ i x. h x i
@@ -20,11 +20,11 @@ unfolding zero_rational
 zero_is = refl
 
 -- past the end a list reads 0
-pub past : (row : List Rational) (j : ℕ) → length row ≤ j → at row j ≡ Q.whole (pos 0)
+pub past : (row : List Rational) (j : ℕ) → length row ≤ j → entry_at row j ≡ Q.whole (pos 0)
 past row j h = get_or_past row j zero_rational h ∙ zero_is
 
-pub past_row : (rows : List (List Rational)) (i j : ℕ) → length rows ≤ i → at (row_at rows i) j ≡ Q.whole (pos 0)
-past_row rows i j h = ap (λ r. at r j) (get_or_past rows i [] h) ∙ past [] j (omega arith)
+pub past_row : (rows : List (List Rational)) (i j : ℕ) → length rows ≤ i → entry_at (row_at rows i) j ≡ Q.whole (pos 0)
+past_row rows i j h = ap (λ r. entry_at r j) (get_or_past rows i [] h) ∙ past [] j (omega arith)
 
 pub new_shape : (m n : ℕ) (old new : List (List Rational)) (basis : List ℕ) (r c : ℕ) → r < m → HasShape m n old basis → ArePivoted old r c new → HasShape m n new (slice_set basis r c)
 new_shape m n old new basis r c hr s p = record {
@@ -44,19 +44,19 @@ shows m n old new basis r c hr hc s p = ap₂ (λ (e : ℕ → ℕ → Rational)
     (same_functions (λ i. column i (cases_eq i r)))
   where
     t : ℕ → ℕ → Rational
-    t i j = at (row_at old i) j
+    t i j = entry_at (row_at old i) j
 
     new_length : (i : ℕ) → i < m + 1 → length (row_at new i) ≡ n + m + 1
     new_length = (new_shape m n old new basis r c hr s p).entries_are
 
-    own : (i j : ℕ) → i ≡ r → (pivot ring_ℚ order_ℚ (table_of old basis) r c).entry i j ≡ Q.times (at (row_at old r) j) (Q.inverse (at (row_at old r) c))
-    own i j e = ap (λ b. cond b (Q.times (at (row_at old r) j) (Q.inverse (at (row_at old r) c)))
-        (Q.plus (at (row_at old i) j) (Q.minus (Q.times (at (row_at old r) j) (Q.times (at (row_at old i) c) (Q.inverse (at (row_at old r) c))))))) (eq-eqb i r e)
+    own : (i j : ℕ) → i ≡ r → (pivot ring_ℚ order_ℚ (table_of old basis) r c).entry i j ≡ Q.times (entry_at (row_at old r) j) (Q.inverse (entry_at (row_at old r) c))
+    own i j e = ap (λ b. cond b (Q.times (entry_at (row_at old r) j) (Q.inverse (entry_at (row_at old r) c)))
+        (Q.plus (entry_at (row_at old i) j) (Q.minus (Q.times (entry_at (row_at old r) j) (Q.times (entry_at (row_at old i) c) (Q.inverse (entry_at (row_at old r) c))))))) (eq-eqb i r e)
 
     other : (i j : ℕ) → (i ≡ r → ⊥) → (pivot ring_ℚ order_ℚ (table_of old basis) r c).entry i j
-        ≡ Q.plus (at (row_at old i) j) (Q.minus (Q.times (at (row_at old r) j) (Q.times (at (row_at old i) c) (Q.inverse (at (row_at old r) c)))))
-    other i j d = ap (λ b. cond b (Q.times (at (row_at old r) j) (Q.inverse (at (row_at old r) c)))
-        (Q.plus (at (row_at old i) j) (Q.minus (Q.times (at (row_at old r) j) (Q.times (at (row_at old i) c) (Q.inverse (at (row_at old r) c))))))) (ne_eqb i r d)
+        ≡ Q.plus (entry_at (row_at old i) j) (Q.minus (Q.times (entry_at (row_at old r) j) (Q.times (entry_at (row_at old i) c) (Q.inverse (entry_at (row_at old r) c)))))
+    other i j d = ap (λ b. cond b (Q.times (entry_at (row_at old r) j) (Q.inverse (entry_at (row_at old r) c)))
+        (Q.plus (entry_at (row_at old i) j) (Q.minus (Q.times (entry_at (row_at old r) j) (Q.times (entry_at (row_at old i) c) (Q.inverse (entry_at (row_at old r) c))))))) (ne_eqb i r d)
 
     zero_times : (x y : Rational) → x ≡ Q.whole (pos 0) → Q.times x y ≡ Q.whole (pos 0)
     zero_times x y e = ap (λ z. Q.times z y) e ∙ ring ring_ℚ (y ∷ []) (times nil (v 0)) nil refl
@@ -67,17 +67,17 @@ shows m n old new basis r c hr hc s p = ap₂ (λ (e : ℕ → ℕ → Rational)
     zero_quotient : (a x y u : Rational) → a ≡ Q.whole (pos 0) → y ≡ Q.whole (pos 0) → Q.plus a (Q.minus (Q.times x (Q.times y u))) ≡ Q.whole (pos 0)
     zero_quotient a x y u e f = ap₂ (λ b z. Q.plus b (Q.minus (Q.times x (Q.times z u)))) e f ∙ ring ring_ℚ (x ∷ u ∷ []) (plus nil (minus (times (v 0) (times nil (v 1))))) nil refl
 
-    entry : (i j : ℕ) → (i < m + 1) ⊎ (m + 1 ≤ i) → (j < n + m + 1) ⊎ (n + m + 1 ≤ j) → (i ≡ r) ⊎ (i ≡ r → ⊥) → at (row_at new i) j ≡ (pivot ring_ℚ order_ℚ (table_of old basis) r c).entry i j
-    entry i j (inl l) (inl k) (inl e) = ap (λ x. at (row_at new x) j) e ∙ p.own.entries j (omega (arith, s.entries_are r (omega arith))) ∙ sym (own i j e)
+    entry : (i j : ℕ) → (i < m + 1) ⊎ (m + 1 ≤ i) → (j < n + m + 1) ⊎ (n + m + 1 ≤ j) → (i ≡ r) ⊎ (i ≡ r → ⊥) → entry_at (row_at new i) j ≡ (pivot ring_ℚ order_ℚ (table_of old basis) r c).entry i j
+    entry i j (inl l) (inl k) (inl e) = ap (λ x. entry_at (row_at new x) j) e ∙ p.own.entries j (omega (arith, s.entries_are r (omega arith))) ∙ sym (own i j e)
     entry i j (inl l) (inl k) (inr d) = (p.others i (omega (arith, s.rows_are)) d).entries j (omega (arith, s.entries_are i l)) ∙ sym (other i j d)
     entry i j (inl l) (inr k) (inl e) = past (row_at new i) j (omega (arith, new_length i l))
-        ∙ sym (own i j e ∙ zero_times (at (row_at old r) j) (Q.inverse (at (row_at old r) c)) (past (row_at old r) j (omega (arith, s.entries_are r (omega arith)))))
+        ∙ sym (own i j e ∙ zero_times (entry_at (row_at old r) j) (Q.inverse (entry_at (row_at old r) c)) (past (row_at old r) j (omega (arith, s.entries_are r (omega arith)))))
     entry i j (inl l) (inr k) (inr d) = past (row_at new i) j (omega (arith, new_length i l))
-        ∙ sym (other i j d ∙ zero_less (at (row_at old i) j) (at (row_at old r) j) (Q.times (at (row_at old i) c) (Q.inverse (at (row_at old r) c)))
+        ∙ sym (other i j d ∙ zero_less (entry_at (row_at old i) j) (entry_at (row_at old r) j) (Q.times (entry_at (row_at old i) c) (Q.inverse (entry_at (row_at old r) c)))
         (past (row_at old i) j (omega (arith, s.entries_are i l))) (past (row_at old r) j (omega (arith, s.entries_are r (omega arith)))))
     entry i j (inr l) k (inl e) = absurd (omega arith)
     entry i j (inr l) k (inr d) = past_row new i j (omega (arith, p.same_length, s.rows_are))
-        ∙ sym (other i j d ∙ zero_quotient (at (row_at old i) j) (at (row_at old r) j) (at (row_at old i) c) (Q.inverse (at (row_at old r) c))
+        ∙ sym (other i j d ∙ zero_quotient (entry_at (row_at old i) j) (entry_at (row_at old r) j) (entry_at (row_at old i) c) (Q.inverse (entry_at (row_at old r) c))
         (past_row old i j (omega (arith, s.rows_are))) (past_row old i c (omega (arith, s.rows_are))))
 
     column : (i : ℕ) → (i ≡ r) ⊎ (i ≡ r → ⊥) → get_or (slice_set basis r c) i 0 ≡ cond (eqb i r) c (get_or basis i 0)

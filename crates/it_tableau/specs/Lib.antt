@@ -4,5 +4,7 @@ pub mod Invariants
 pub mod Problems
 pub mod Fits
 pub mod Rows
-pub mod Shown
+pub mod SparseRows
+pub mod Merging
+pub mod TableauViews
 pub mod Laws

@@ -4,13 +4,13 @@ use Rattle.it_rational.specs.Rational.{Rational, whole}
 use Rattle.it_rational.proofs.RationalLaws.{ring_ℚ}
 use Rattle.it_rational.proofs.Field.{order_ℚ}
 use Rattle.it_space.specs.Rows.{Terms, coefficient}
-use Rattle.it_tableau.specs.Tables.{Problem, Table, start}
+use Rattle.it_tableau.specs.Tables.{FeasibilityProblem, Table, start}
 
-abbrev pub problem_of : List ℕ → List Terms → Terms → Problem Rational
-problem_of coordinates columns target = record {
+abbrev pub feasibility_problem : List ℕ → List Terms → Terms → FeasibilityProblem Rational
+feasibility_problem coordinates columns target = record {
   column = λ j k. whole (coefficient (slice_index_or columns j []) (slice_index_or coordinates k 0));
   target = λ k. whole (coefficient target (slice_index_or coordinates k 0));
 }
 
 abbrev pub start_of : List ℕ → List Terms → Terms → Table Rational
-start_of coordinates columns target = start ring_ℚ order_ℚ (length coordinates) (length columns) (problem_of coordinates columns target)
+start_of coordinates columns target = start ring_ℚ order_ℚ (length coordinates) (length columns) (feasibility_problem coordinates columns target)

@@ -10,8 +10,8 @@ unfoldable pub zero_rational : Rational
 zero_rational = whole (pos 0)
 
 -- the number at a place, 0 past the end
-abbrev pub at : List Rational → ℕ → Rational
-at row k = slice_index_or row k zero_rational
+abbrev pub entry_at : List Rational → ℕ → Rational
+entry_at row k = slice_index_or row k zero_rational
 
 abbrev pub row_at : List (List Rational) → ℕ → List Rational
 row_at rows i = slice_index_or rows i []
@@ -22,41 +22,41 @@ pub record IsWholeNumber (q : Rational) : Type 0 where
   pub narrow : IsNarrow q
 
 -- the first n places of a list show f
-pub record Shows (f : ℕ → Rational) (n : ℕ) (row : List Rational) : Type 0 where
+pub record ListsValues (f : ℕ → Rational) (n : ℕ) (row : List Rational) : Type 0 where
   pub length_is : length row ≡ n
-  pub entries : (j : ℕ) → j < n → at row j ≡ f j
+  pub entries : (j : ℕ) → j < n → entry_at row j ≡ f j
 
 -- the sum of the first k numbers of column j
 abbrev pub column_sum : List (List Rational) → ℕ → ℕ → Rational
-column_sum rows j k = sum_to ring_ℚ k (λ i. at (row_at rows i) j)
+column_sum rows j k = sum_to ring_ℚ k (λ i. entry_at (row_at rows i) j)
 
 -- each addition of the sum of column j fits
 abbrev pub ColumnFits : List (List Rational) → ℕ → Type 0
-ColumnFits rows j = (k : ℕ) → k < length rows → SumFits (at (row_at rows k) j) (column_sum rows j k)
+ColumnFits rows j = (k : ℕ) → k < length rows → SumFits (entry_at (row_at rows k) j) (column_sum rows j k)
 
 -- those of all columns
 abbrev pub ColumnsFit : List (List Rational) → ℕ → Type 0
 ColumnsFit rows width = (j : ℕ) → j < width → ColumnFits rows j
 
 abbrev pub RowFits : List Rational → List Rational → Rational → Type 0
-RowFits row by q = (k : ℕ) → k < length row → EntryFits (at row k) (at by k) q
+RowFits row by q = (k : ℕ) → k < length row → EntryFits (entry_at row k) (entry_at by k) q
 
 -- each entry less the product
 pub record IsReduced (old by : List Rational) (q : Rational) (new : List Rational) : Type 0 where
   pub same_length : length new ≡ length old
-  pub entries : (k : ℕ) → k < length old → at new k ≡ plus (at old k) (minus (times (at by k) q))
+  pub entries : (k : ℕ) → k < length old → entry_at new k ≡ plus (entry_at old k) (minus (times (entry_at by k) q))
 
 abbrev pub DividedFits : List Rational → Rational → Type 0
-DividedFits row p = (k : ℕ) → k < length row → QuotientFits (at row k) p
+DividedFits row p = (k : ℕ) → k < length row → QuotientFits (entry_at row k) p
 
 pub record IsDivided (old : List Rational) (p : Rational) (new : List Rational) : Type 0 where
   pub same_length : length new ≡ length old
-  pub entries : (k : ℕ) → k < length old → at new k ≡ times (at old k) (inverse p)
+  pub entries : (k : ℕ) → k < length old → entry_at new k ≡ times (entry_at old k) (inverse p)
 
 -- the quotient of a row and what follows from it fit
 pub record RowStepFits (row by : List Rational) (c : ℕ) (p : Rational) : Type 0 where
-  pub quotient : QuotientFits (at row c) p
-  pub row_fits : RowFits row by (times (at row c) (inverse p))
+  pub quotient : QuotientFits (entry_at row c) p
+  pub row_fits : RowFits row by (times (entry_at row c) (inverse p))
 
 -- rows of one length
 abbrev pub AreEven : List (List Rational) → ℕ → Type 0
@@ -64,11 +64,11 @@ AreEven rows n = (i : ℕ) → i < length rows → length (row_at rows i) ≡ n
 
 -- the numbers of a pivot at row r and column c fit
 pub record RowsPivotFits (rows : List (List Rational)) (r c : ℕ) : Type 0 where
-  pub others : (i : ℕ) → i < length rows → i ≢ r → RowStepFits (row_at rows i) (row_at rows r) c (at (row_at rows r) c)
-  pub own : DividedFits (row_at rows r) (at (row_at rows r) c)
+  pub others : (i : ℕ) → i < length rows → i ≢ r → RowStepFits (row_at rows i) (row_at rows r) c (entry_at (row_at rows r) c)
+  pub own : DividedFits (row_at rows r) (entry_at (row_at rows r) c)
 
 pub record ArePivoted (old : List (List Rational)) (r c : ℕ) (new : List (List Rational)) : Type 0 where
   pub same_length : length new ≡ length old
   pub others : (i : ℕ) → i < length old → i ≢ r
-      → IsReduced (row_at old i) (row_at old r) (times (at (row_at old i) c) (inverse (at (row_at old r) c))) (row_at new i)
-  pub own : IsDivided (row_at old r) (at (row_at old r) c) (row_at new r)
+      → IsReduced (row_at old i) (row_at old r) (times (entry_at (row_at old i) c) (inverse (entry_at (row_at old r) c))) (row_at new i)
+  pub own : IsDivided (row_at old r) (entry_at (row_at old r) c) (row_at new r)

@@ -1,6 +1,6 @@
 -- Finite sums over a ring, in the order of their terms.
 use Rattle.std.specs.Prelude.{ℕ, zero, suc}
-use Rattle.it_number.proofs.Ring.{Ring}
+use Rattle.it_number.specs.Rings.{Ring}
 
 module _ {A : Type 0} (R : Ring A) where
   -- f 0 + .. + f (n - 1)

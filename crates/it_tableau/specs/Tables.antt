@@ -1,13 +1,13 @@
 -- Tables of the simplex method over an ordered field: the start of its first phase, with an artificial column for each row, and
 -- the pivot (Dantzig 1963, "Linear Programming and Extensions", chapter 5).
 use Rattle.std.specs.Prelude.{ℕ, ◌+◌, cond, eqb, ltb}
-use Rattle.it_number.proofs.Ring.{Ring}
-use Rattle.it_rational.proofs.Ordered.{Order}
+use Rattle.it_number.specs.Rings.{Ring}
+use Rattle.it_rational.specs.OrderedFields.{Order}
 use Rattle.it_tableau.specs.Sums.{sum_to}
 
 -- The question: whether the target is a sum of the columns with weights of at least 0.
 -- A column's coefficient at each row, and the target's.
-pub record Problem (A : Type 0) : Type 0 where
+pub record FeasibilityProblem (A : Type 0) : Type 0 where
   pub column : ℕ → ℕ → A
   pub target : ℕ → A
 
@@ -18,12 +18,12 @@ pub record Table (A : Type 0) : Type 0 where
   pub basis : ℕ → ℕ
 
 module _ {A : Type 0} (R : Ring A) where
-  abbrev pub less : A → A → A
-  less a b = R.add a (R.neg b)
+  abbrev pub difference : A → A → A
+  difference a b = R.add a (R.neg b)
 
 module _ {A : Type 0} (R : Ring A) (O : Order R) where
   -- the sign by which a row is multiplied, so that its right side is at least 0
-  abbrev pub sign : Problem A → ℕ → A
+  abbrev pub sign : FeasibilityProblem A → ℕ → A
   sign p k = cond (O.is_least (p.target k)) R.unit (R.neg R.unit)
 
   -- the table after column c has become basic in row r: row r is divided by its entry at c, and every other row has as much of
@@ -31,18 +31,18 @@ module _ {A : Type 0} (R : Ring A) (O : Order R) where
   abbrev pub pivot : Table A → ℕ → ℕ → Table A
   pivot t r c = record {
     entry = λ i j. cond (eqb i r) (R.mul (t.entry r j) (O.inv (t.entry r c)))
-        (less R (t.entry i j) (R.mul (t.entry r j) (R.mul (t.entry i c) (O.inv (t.entry r c)))));
+        (difference R (t.entry i j) (R.mul (t.entry r j) (R.mul (t.entry i c) (O.inv (t.entry r c)))));
     basis = λ i. cond (eqb i r) c (t.basis i);
   }
 
   module _ (m n : ℕ) where
     -- row k of the start: the columns, the artificial columns as an identity matrix, the right side
-    abbrev pub start_row : Problem A → ℕ → ℕ → A
+    abbrev pub start_row : FeasibilityProblem A → ℕ → ℕ → A
     start_row p k j = cond (ltb j n) (R.mul (sign p k) (p.column j k))
         (cond (eqb j (n + m)) (R.mul (sign p k) (p.target k)) (cond (eqb j (n + k)) R.unit R.null))
 
     -- the start: the artificial columns are basic, and the cost row is the negated sum of the rows
-    abbrev pub start : Problem A → Table A
+    abbrev pub start : FeasibilityProblem A → Table A
     start p = record {
       entry = λ i j. cond (ltb i m) (start_row p i j) (cond (eqb i m) (R.neg (sum_to R m (λ k. start_row p k j))) R.null);
       basis = λ i. cond (ltb i m) (n + i) 0;

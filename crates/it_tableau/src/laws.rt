@@ -1,5 +1,5 @@
 //! Laws of tables.
-ghost use Rattle.it_tableau.specs.Laws.{PivotsKeep, StartHolds};
+ghost use Rattle.it_tableau.specs.Laws.{PivotsCombine, PivotsKeep, StartHolds};
 
 /// Each row of the start is the sum of its entries at the artificial columns times the start's rows, and what else every
 /// table of a run keeps.
@@ -10,4 +10,9 @@ pub fn start_holds()
 /// A pivot on a smallest ratio, in a column that isn't artificial, keeps all of it.
 pub fn pivots_keep()
     ensures { PivotsKeep }
+{}
+
+/// A pivot in any row and column keeps each row the sum of its entries at the artificial columns times the start's rows.
+pub fn pivots_combine()
+    ensures { PivotsCombine }
 {}

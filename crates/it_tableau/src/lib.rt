@@ -2,11 +2,13 @@
 #![tactic(auto)]
 
 mod laws;
+mod merging;
 mod rows;
+mod sparse_rows;
 mod start;
 mod tableau;
 #[cfg(test)]
 mod tests;
 
-pub use laws::{pivots_keep, start_holds};
+pub use laws::{pivots_combine, pivots_keep, start_holds};
 pub use tableau::Tableau;

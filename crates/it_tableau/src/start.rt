@@ -6,12 +6,14 @@ ghost use Rattle.it_rational.proofs.Field.{order_ℚ};
 ghost use Rattle.it_rational.proofs.RationalLaws.{ring_ℚ};
 ghost use Rattle.it_space.specs.Rows.{coefficient};
 ghost use Rattle.it_tableau.specs.Fits.{StartFits};
-ghost use Rattle.it_tableau.specs.Problems.{problem_of};
-ghost use Rattle.it_tableau.specs.Rows.{at, column_sum, row_at, AreEven, ColumnFits, ColumnsFit, IsWholeNumber, Shows};
-ghost use Rattle.it_tableau.specs.Shown.{AreAllRows, AreStartRows};
+ghost use Rattle.it_tableau.specs.Problems.{feasibility_problem};
+ghost use Rattle.it_tableau.specs.Rows.{entry_at, column_sum, row_at, AreEven, ColumnFits, ColumnsFit, IsWholeNumber, ListsValues};
+ghost use Rattle.it_tableau.specs.TableauViews.{AreAllRows, AreStartRows};
 ghost use Rattle.it_tableau.specs.Tables.{start_row as entry_of_start};
 
+use crate::merging::append;
 use crate::rows::read;
+use crate::sparse_rows::SparseRow;
 use it_fraction::{Fraction, Wide};
 use it_space::{Row, RowFault};
 use std::alloc::{AllocError, Global};
@@ -35,7 +37,7 @@ pub fn keeps_sign(target: &Row, coordinate: u32) -> bool
 }
 
 // the coefficient with the sign of its row
-fn signed(row: &Row, coordinate: u32, kept: bool) -> Fraction
+fn signed_coefficient(row: &Row, coordinate: u32, kept: bool) -> Fraction
     ensures value { result ≡ times (cond kept (whole (pos 1)) (minus (whole (pos 1)))) (whole (coefficient row.now coordinate)) }
     ensures whole_number { IsWholeNumber result }
 {
@@ -47,14 +49,14 @@ fn signed(row: &Row, coordinate: u32, kept: bool) -> Fraction
 #[tactic(auto, using(crate::proofs::WholeNumbers::zero_number, crate::proofs::WholeNumbers::one_number))]
 fn start_entry(coordinates: &[u32], columns: &[Row], target: &Row, k: usize, j: usize) -> Fraction
     requires row { k < length coordinates.now }
-    ensures value { result ≡ entry_of_start ring_ℚ order_ℚ (length coordinates.now) (length columns.now) (problem_of coordinates.now columns.now target.now) k j }
+    ensures value { result ≡ entry_of_start ring_ℚ order_ℚ (length coordinates.now) (length columns.now) (feasibility_problem coordinates.now columns.now target.now) k j }
     ensures whole_number { IsWholeNumber result }
 {
     let kept = keeps_sign(target, coordinates[k]);
     if j < columns.len() {
-        signed(&columns[j], coordinates[k], kept)
+        signed_coefficient(&columns[j], coordinates[k], kept)
     } else if j == columns.len() + coordinates.len() {
-        signed(target, coordinates[k], kept)
+        signed_coefficient(target, coordinates[k], kept)
     } else if j == columns.len() + k {
         Fraction::whole(1)
     } else {
@@ -68,17 +70,22 @@ fn start_row(
     columns: &[Row],
     target: &Row,
     k: usize,
-) -> Result<Vec<Fraction>, AllocError>
+) -> Result<SparseRow, AllocError>
     requires row { k < length coordinates.now }
-    ensures shows { IfOk result (λ row. Shows (entry_of_start ring_ℚ order_ℚ (length coordinates.now) (length columns.now) (problem_of coordinates.now columns.now target.now) k) (length columns.now + length coordinates.now + 1) row.items) }
-    ensures whole_numbers { OnOk result ((j : ℕ) → j < length columns.now + length coordinates.now + 1 → IsWholeNumber (entry_of_start ring_ℚ order_ℚ (length coordinates.now) (length columns.now) (problem_of coordinates.now columns.now target.now) k j)) }
+    ensures shows { IfOk result (λ row. ListsValues (entry_of_start ring_ℚ order_ℚ (length coordinates.now) (length columns.now) (feasibility_problem coordinates.now columns.now target.now) k) (length columns.now + length coordinates.now + 1) row) }
+    ensures whole_numbers { OnOk result ((j : ℕ) → j < length columns.now + length coordinates.now + 1 → IsWholeNumber (entry_of_start ring_ℚ order_ℚ (length coordinates.now) (length columns.now) (feasibility_problem coordinates.now columns.now target.now) k j)) }
 {
-    let length = columns.len() + coordinates.len() + 1;
-    let mut row = Vec::with_capacity(alloc, length)?;
-    for j in 0..length {
-        row.push(start_entry(coordinates, columns, target, k, j))?;
+    let width = columns.len() + coordinates.len();
+    let mut terms = Vec::new(alloc);
+    for j in 0..width {
+        append(
+            &mut terms,
+            j,
+            start_entry(coordinates, columns, target, k, j),
+        )?;
     }
-    Ok(row)
+    let right = start_entry(coordinates, columns, target, k, width);
+    Ok(SparseRow::new(width, terms, right))
 }
 
 pub fn start_rows(
@@ -86,8 +93,8 @@ pub fn start_rows(
     coordinates: &[u32],
     columns: &[Row],
     target: &Row,
-) -> Result<Vec<Vec<Fraction>>, AllocError>
-    ensures { IfOk result (λ rows. AreStartRows coordinates.now columns.now target.now (length coordinates.now) (map (λ v. v.items) rows.items)) }
+) -> Result<Vec<SparseRow>, AllocError>
+    ensures { IfOk result (λ rows. AreStartRows coordinates.now columns.now target.now (length coordinates.now) rows.items) }
 {
     let mut rows = Vec::new(alloc);
     for k in 0..coordinates.len() {
@@ -97,11 +104,11 @@ pub fn start_rows(
 }
 
 // the sum of column j with its sign turned, in the order of the rows
-fn negated_sum(rows: &[Vec<Fraction>], j: usize) -> Result<Fraction, Wide>
-    requires { (i : ℕ) → i < length rows.now → j < length (row_at (map (λ v. v.items) rows.now) i) }
-    ensures ok { OnOk result (ColumnFits (map (λ v. v.items) rows.now) j) }
-    ensures value { IfOk result (λ v. v ≡ minus (column_sum (map (λ v. v.items) rows.now) j (length rows.now))) }
-    ensures err { OnErr result (¬ (ColumnFits (map (λ v. v.items) rows.now) j)) }
+fn negated_sum(rows: &[SparseRow], j: usize) -> Result<Fraction, Wide>
+    requires { (i : ℕ) → i < length rows.now → j < length (row_at rows.now i) }
+    ensures ok { OnOk result (ColumnFits rows.now j) }
+    ensures value { IfOk result (λ v. v ≡ minus (column_sum rows.now j (length rows.now))) }
+    ensures err { OnErr result (¬ (ColumnFits rows.now j)) }
 {
     let mut sum = Fraction::whole(0);
     for i in 0..rows.len() {
@@ -110,28 +117,18 @@ fn negated_sum(rows: &[Vec<Fraction>], j: usize) -> Result<Fraction, Wide>
     Ok(sum.neg())
 }
 
-pub fn cost_row(
-    alloc: Global,
-    rows: &[Vec<Fraction>],
-    width: usize,
-) -> Result<Vec<Fraction>, RowFault>
-    requires { AreEven (map (λ v. v.items) rows.now) width }
-    ensures ok { OnOk result (ColumnsFit (map (λ v. v.items) rows.now) width) }
-    ensures value { IfOk result (λ row. Shows (λ j. minus (column_sum (map (λ v. v.items) rows.now) j (length rows.now))) width row.items) }
-    ensures wide { IfErr result (λ fault. fault ≡ RowFault.Wide → ¬ (ColumnsFit (map (λ v. v.items) rows.now) width)) }
+pub fn cost_row(alloc: Global, rows: &[SparseRow], width: usize) -> Result<SparseRow, RowFault>
+    requires { AreEven rows.now (width + 1) }
+    ensures ok { OnOk result (ColumnsFit rows.now (width + 1)) }
+    ensures value { IfOk result (λ row. ListsValues (λ j. minus (column_sum rows.now j (length rows.now))) (width + 1) row) }
+    ensures wide { IfErr result (λ fault. fault ≡ RowFault.Wide → ¬ (ColumnsFit rows.now (width + 1))) }
 {
-    let mut row = Vec::with_capacity(alloc, width)?;
+    let mut terms = Vec::new(alloc);
     for j in 0..width {
-        append(&mut row, negated_sum(rows, j)?)?;
+        append(&mut terms, j, negated_sum(rows, j)?)?;
     }
-    Ok(row)
-}
-
-fn append(row: &mut Vec<Fraction>, entry: Fraction) -> Result<(), AllocError>
-    ensures { OnOk result (row.new.items ≡ row.old.items ++ entry ∷ []) }
-{
-    row.push(entry)?;
-    Ok(())
+    let right = negated_sum(rows, width)?;
+    Ok(SparseRow::new(width, terms, right))
 }
 
 // the artificial columns, each the basic column of its row
@@ -165,23 +162,19 @@ pub fn start_table(
     coordinates: &[u32],
     columns: &[Row],
     target: &Row,
-) -> Result<Vec<Vec<Fraction>>, RowFault>
-    ensures ok { OnOk result (StartFits (length coordinates.now) (length columns.now) (problem_of coordinates.now columns.now target.now)) }
-    ensures value { IfOk result (λ rows. AreAllRows coordinates.now columns.now target.now (map (λ v. v.items) rows.items)) }
-    ensures wide { IfErr result (λ fault. fault ≡ RowFault.Wide → ¬ (StartFits (length coordinates.now) (length columns.now) (problem_of coordinates.now columns.now target.now))) }
+) -> Result<Vec<SparseRow>, RowFault>
+    ensures ok { OnOk result (StartFits (length coordinates.now) (length columns.now) (feasibility_problem coordinates.now columns.now target.now)) }
+    ensures value { IfOk result (λ rows. AreAllRows coordinates.now columns.now target.now rows.items) }
+    ensures wide { IfErr result (λ fault. fault ≡ RowFault.Wide → ¬ (StartFits (length coordinates.now) (length columns.now) (feasibility_problem coordinates.now columns.now target.now))) }
 {
     let mut rows = start_rows(alloc, coordinates, columns, target)?;
-    let cost = cost_row(
-        alloc,
-        rows.as_slice(),
-        columns.len() + coordinates.len() + 1,
-    )?;
+    let cost = cost_row(alloc, rows.as_slice(), columns.len() + coordinates.len())?;
     append_row(&mut rows, cost)?;
     Ok(rows)
 }
 
-fn append_row(rows: &mut Vec<Vec<Fraction>>, row: Vec<Fraction>) -> Result<(), AllocError>
-    ensures { OnOk result (map (λ v. v.items) rows.new.items ≡ map (λ v. v.items) rows.old.items ++ row.items ∷ []) }
+fn append_row(rows: &mut Vec<SparseRow>, row: SparseRow) -> Result<(), AllocError>
+    ensures { OnOk result (rows.new.items ≡ rows.old.items ++ row ∷ []) }
 {
     rows.push(row)?;
     Ok(())

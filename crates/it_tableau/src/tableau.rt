@@ -4,11 +4,13 @@ ghost use Rattle.it_rational.proofs.Field.{order_ℚ};
 ghost use Rattle.it_rational.proofs.RationalLaws.{ring_ℚ};
 ghost use Rattle.it_fraction.specs.Fits.{IsNarrow};
 ghost use Rattle.it_tableau.specs.Fits.{PivotFits, StartFits};
-ghost use Rattle.it_tableau.specs.Problems.{problem_of};
-ghost use Rattle.it_tableau.specs.Shown.{height, sign_at, table, width, IsPositive, IsStart, KeepsFrame};
+ghost use Rattle.it_tableau.specs.Problems.{feasibility_problem};
+ghost use Rattle.it_tableau.specs.SparseRows.{ListsEntries};
+ghost use Rattle.it_tableau.specs.TableauViews.{height, sign_at, table, width, IsPositive, IsStart, KeepsFrame};
 ghost use Rattle.it_tableau.specs.Tables.{pivot, ratio};
 
 use crate::rows::{pivot_rows, read};
+use crate::sparse_rows::SparseRow;
 use crate::start::{artificials, negations, start_table};
 use it_fraction::{Fraction, Wide};
 use it_space::{Row, RowFault};
@@ -21,21 +23,21 @@ pub struct Tableau {
     alloc: Global,
     generators: usize,
     width: usize,
-    rows: Vec<Vec<Fraction>>,
+    rows: Vec<SparseRow>,
     basis: Vec<usize>,
     negated: Vec<bool>,
     spent: bool,
 }
 
 impl Model for Tableau {
-    ghost use Rattle.std.specs.Prelude.{◌≡◌, false, map};
-    ghost use Rattle.it_tableau.specs.Shown.{Shown, IsSound};
+    ghost use Rattle.std.specs.Prelude.{◌≡◌, false};
+    ghost use Rattle.it_tableau.specs.TableauViews.{TableauView, IsSound};
 
-    ghost Value = { Shown };
+    ghost Value = { TableauView };
 
-    ghost view = { λ t. record { generators = t.generators; rows = map (λ v. v.items) t.rows.items; basis = t.basis.items; negated = t.negated.items; spent = t.spent } };
+    ghost view = { λ t. record { generators = t.generators; rows = t.rows.items; basis = t.basis.items; negated = t.negated.items; spent = t.spent } };
 
-    ghost invariant = { λ t. t.spent ≡ false → IsSound t.generators t.width (map (λ v. v.items) t.rows.items) t.basis.items t.negated.items };
+    ghost invariant = { λ t. t.spent ≡ false → IsSound t.generators t.width t.rows.items t.basis.items t.negated.items };
 }
 
 impl Tableau {
@@ -48,9 +50,9 @@ impl Tableau {
         columns: &[Row],
         target: &Row,
     ) -> Result<Tableau, RowFault>
-        ensures ok { OnOk result (StartFits (length coordinates.now) (length columns.now) (problem_of coordinates.now columns.now target.now)) }
+        ensures ok { OnOk result (StartFits (length coordinates.now) (length columns.now) (feasibility_problem coordinates.now columns.now target.now)) }
         ensures value { IfOk result (λ t. IsStart coordinates.now columns.now target.now t) }
-        ensures wide { IfErr result (λ fault. fault ≡ RowFault.Wide → ¬ (StartFits (length coordinates.now) (length columns.now) (problem_of coordinates.now columns.now target.now))) }
+        ensures wide { IfErr result (λ fault. fault ≡ RowFault.Wide → ¬ (StartFits (length coordinates.now) (length columns.now) (feasibility_problem coordinates.now columns.now target.now))) }
     {
         let rows = start_table(alloc, coordinates, columns, target)?;
         let basis = artificials(alloc, columns.len(), coordinates.len())?;
@@ -117,6 +119,15 @@ impl Tableau {
         read(self.rows.as_slice(), row, column)
     }
 
+    /// The entries of a row other than 0, each after its column, by ascending column, without the right side.
+    pub fn terms(&self, row: usize) -> &[(usize, Fraction)]
+        requires usable { self.now.spent ≡ false }
+        requires row { row < height self.now }
+        ensures { ListsEntries ((table self.now).entry row) (width self.now) result.now }
+    {
+        self.rows[row].terms()
+    }
+
     /// The right side of a row.
     pub fn rhs(&self, row: usize) -> Fraction
         requires usable { self.now.spent ≡ false }
@@ -173,9 +184,9 @@ impl Tableau {
                 self.basis[row] = column;
                 Ok(())
             }
-            Err(_) => {
+            Err(fault) => {
                 self.spent = true;
-                Err(RowFault::Wide)
+                Err(fault)
             }
         }
     }

@@ -1,5 +1,5 @@
 ghost use Rattle.std.specs.Prelude.{◌≡◌, ◌<◌, false, length, IfOk};
-ghost use Rattle.it_tableau.specs.Shown.{height};
+ghost use Rattle.it_tableau.specs.TableauViews.{height};
 
 use crate::Tableau;
 use it_fraction::Fraction;
@@ -22,6 +22,18 @@ fn row_of(alloc: Global, tableau: &Tableau, row: usize) -> Result<Vec<i128>, All
         numbers.push(tableau.entry(row, column).num())?;
     }
     numbers.push(tableau.rhs(row).num())?;
+    Ok(numbers)
+}
+
+// the terms of a row, numerators alone
+fn terms_of(alloc: Global, tableau: &Tableau, row: usize) -> Result<Vec<(usize, i128)>, AllocError>
+    requires usable { tableau.now.spent ≡ false }
+    requires row { row < height tableau.now }
+{
+    let mut numbers = Vec::new(alloc);
+    for (column, value) in tableau.terms(row) {
+        numbers.push((*column, value.num()))?;
+    }
     Ok(numbers)
 }
 
@@ -96,6 +108,10 @@ fn a_start_has_the_rows_with_their_signs(rt: HostRuntime) -> Result<(), Fail> {
     assert_eq!(rt;
         row_of(alloc, &tableau, 0)?.as_slice(),
         [0, -1, 1, 1, 0, 0, 1].as_slice()
+    );
+    assert_eq!(rt;
+        terms_of(alloc, &tableau, 0)?.as_slice(),
+        [(1, -1), (2, 1), (3, 1)].as_slice()
     );
     assert_eq!(rt;
         row_of(alloc, &tableau, 1)?.as_slice(),

@@ -1,28 +1,24 @@
-use Rattle.std.proofs.Common.{◌≡◌, suc, ◌+◌, List, map, ap, sym, ◌∙◌, subst, arith, Vec, Global}
-use Rattle.it_fraction.specs.declared.fraction.Fraction.{Fraction}
+use Rattle.std.proofs.Common.{◌≡◌, suc, ◌+◌, List, ap, sym, ◌∙◌, subst, arith}
 use Rattle.it_fraction.specs.Fits.{SumFits}
 use Rattle.it_rational.specs.Rational.{Rational, plus}
-use Rattle.it_tableau.specs.Rows.{at, column_sum, row_at, ColumnFits}
+use Rattle.it_tableau.specs.Rows.{entry_at, column_sum, row_at, ColumnFits}
 use Rattle.it_tableau.proofs.RowsLemmas.{fits_more, on_err}
 use Rattle.it_tableau.proofs.start.negated_sum.Goals as goal
 
-abbrev items : Vec Fraction Global → List Rational
-items v = v.items
-
 pub returns-in_err-sum-clause-err : goal.returns-in_err-sum-clause-err
 returns-in_err-sum-clause-err c =
-    let rows : List (List Rational) = map items c.args.rows.now in
+    let rows : List (List Rational) = c.args.rows.now in
     on_err c.from_residual.result (¬ (ColumnFits rows c.args.j))
     (λ fit. c.in_err-sum.ensures (subst (λ (x : Rational). SumFits x c.loop-i.sum) (sym c.read.ensures)
-    (subst (SumFits (at (row_at rows c.loop-i.i) c.args.j)) (sym c.loop-i.invariant.sum_is) (fit c.loop-i.i (omega (arith, c.loop-i-test.true, Rattle.std.proofs.lemmas.List.length-map c.args.rows.now items))))))
+    (subst (SumFits (entry_at (row_at rows c.loop-i.i) c.args.j)) (sym c.loop-i.invariant.sum_is) (fit c.loop-i.i (omega (arith, c.loop-i-test.true))))))
 
 pub loop-i-preserved : goal.loop-i-preserved
 loop-i-preserved c =
-    let rows : List (List Rational) = map items c.args.rows.now in
+    let rows : List (List Rational) = c.args.rows.now in
     let one : suc c.loop-i.i ≡ c.loop-i.i + 1 = omega arith in record {
-      sum_is = c.in_ok-sum.ensures.1 ∙ ap (λ x. plus x c.loop-i.sum) c.read.ensures ∙ ap (plus (at (row_at rows c.loop-i.i) c.args.j)) c.loop-i.invariant.sum_is
+      sum_is = c.in_ok-sum.ensures.1 ∙ ap (λ x. plus x c.loop-i.sum) c.read.ensures ∙ ap (plus (entry_at (row_at rows c.loop-i.i) c.args.j)) c.loop-i.invariant.sum_is
           ∙ ap (column_sum rows c.args.j) one;
-      fits = fits_more c.loop-i.i (λ k. SumFits (at (row_at rows k) c.args.j) (column_sum rows c.args.j k)) c.loop-i.invariant.fits
+      fits = fits_more c.loop-i.i (λ k. SumFits (entry_at (row_at rows k) c.args.j) (column_sum rows c.args.j k)) c.loop-i.invariant.fits
           (subst (λ (x : Rational). SumFits x (column_sum rows c.args.j c.loop-i.i)) c.read.ensures
           (subst (SumFits c.read.result) c.loop-i.invariant.sum_is c.in_ok-sum.ensures.0));
     }

@@ -1,76 +1,72 @@
-use Rattle.std.proofs.Common.{◌≡◌, ◌<◌, ◌+◌, pos, false, List, map, length, sym, subst, ap, ◌∙◌, arith, Vec, Global}
-use Rattle.std.proofs.lemmas.List.{length-map, with_items_is}
+use Rattle.std.proofs.Common.{◌≡◌, ◌<◌, ◌+◌, pos, false, List, length, sym, subst, ap, ◌∙◌, arith}
+use Rattle.std.proofs.lemmas.List.{with_items_is}
 use Rattle.std.specs.Vec.{with_items}
-use Rattle.it_fraction.specs.declared.fraction.Fraction.{Fraction}
 use Rattle.it_rational.proofs.Field.{order_ℚ}
 use Rattle.it_rational.proofs.RationalLaws.{ring_ℚ}
 use Rattle.it_rational.specs.Rational.{Rational}
 use Rattle.it_tableau.specs.Fits.{PivotFits}
-use Rattle.it_tableau.specs.Rows.{at, row_at, ArePivoted, RowsPivotFits}
-use Rattle.it_tableau.specs.Shown.{Shown, IsSound, table, height}
+use Rattle.it_tableau.specs.Rows.{entry_at, row_at, ArePivoted, RowsPivotFits}
+use Rattle.it_tableau.specs.TableauViews.{TableauView, IsSound, table, height}
 use Rattle.it_tableau.specs.Tables.{pivot}
 use Rattle.it_tableau.proofs.Positive.{positive_some}
 use Rattle.it_tableau.proofs.ViewLemmas.{pivot_sound, shows, numbers_to}
 use Rattle.it_tableau.proofs.tableau.Tableau.pivot.Goals as goal
 use Rattle.it_tableau.proofs.tableau.Tableau.pivot.Goals.{After-as_mut_slice, After-pivot_rows, In-Ok}
 
-abbrev items : Vec Fraction Global → List Rational
-items v = v.items
-
 -- the rows that are lent
 abbrev Old : After-as_mut_slice → List (List Rational)
-Old c = map items c.self.inside.rows.items
+Old c = c.self.inside.rows.items
 
-lent : (c : After-as_mut_slice) → map items c.as_mut_slice.result.now ≡ map items c.self.inside.rows.items
-lent c = ap (map items) c.as_mut_slice.ensures.value
+lent : (c : After-as_mut_slice) → c.as_mut_slice.result.now ≡ c.self.inside.rows.items
+lent c = c.as_mut_slice.ensures.value
 
-seen_rows : (c : After-as_mut_slice) → map items c.self.inside.rows.items ≡ c.args.self.now.rows
-seen_rows c = ap (λ (s : Shown). s.rows) c.self.view_is
+seen_rows : (c : After-as_mut_slice) → c.self.inside.rows.items ≡ c.args.self.now.rows
+seen_rows c = ap (λ (s : TableauView). s.rows) c.self.view_is
 
 usable : (c : After-as_mut_slice) → c.self.inside.spent ≡ false
-usable c = ap (λ (s : Shown). s.spent) c.self.view_is ∙ c.requires.usable
+usable c = ap (λ (s : TableauView). s.spent) c.self.view_is ∙ c.requires.usable
 
-sound : (c : After-as_mut_slice) → IsSound c.self.inside.generators c.self.inside.width (map items c.self.inside.rows.items) c.self.inside.basis.items c.self.inside.negated.items
+sound : (c : After-as_mut_slice) → IsSound c.self.inside.generators c.self.inside.width c.self.inside.rows.items c.self.inside.basis.items c.self.inside.negated.items
 sound c = c.self.invariant (usable c)
 
 row_within : (c : After-as_mut_slice) → c.args.row < length c.self.inside.basis.items
-row_within c = let e = ap (λ (s : Shown). length s.basis) c.self.view_is in omega (arith, e, c.requires.row)
+row_within c = let e = ap (λ (s : TableauView). length s.basis) c.self.view_is in omega (arith, e, c.requires.row)
 
 pub pivot_rows-requires-clause-some : goal.pivot_rows-requires-clause-some
 pivot_rows-requires-clause-some c =
-    subst (λ (rows : List (List Rational)). (at (row_at rows c.args.row) c.args.column).num ≡ pos 0 → ⊥) (sym (lent c ∙ seen_rows c))
-    (positive_some (at (row_at c.args.self.now.rows c.args.row) c.args.column) c.requires.positive)
+    subst (λ (rows : List (List Rational)). (entry_at (row_at rows c.args.row) c.args.column).num ≡ pos 0 → ⊥) (sym (lent c ∙ seen_rows c))
+    (positive_some (entry_at (row_at c.args.self.now.rows c.args.row) c.args.column) c.requires.positive)
 
 -- the rows that are written back are those that the pivot made
-written : (c : After-pivot_rows) → ArePivoted (map items c.as_mut_slice.result.now) c.args.row c.args.column (map items c.pivot_rows.new.rows)
+written : (c : After-pivot_rows) → ArePivoted c.as_mut_slice.result.now c.args.row c.args.column c.pivot_rows.new.rows
     → (with_items c.self.inside.rows c.pivot_rows.new.rows).items ≡ c.pivot_rows.new.rows
 written c p = with_items_is c.self.inside.rows c.pivot_rows.new.rows
-    (sym (length-map c.pivot_rows.new.rows items) ∙ p.same_length ∙ length-map c.as_mut_slice.result.now items ∙ ap length c.as_mut_slice.ensures.value ∙ sym c.self.inside.rows.ok.0)
+    (p.same_length ∙ ap length c.as_mut_slice.ensures.value ∙ sym c.self.inside.rows.ok.0)
 
 -- on the rows of the fields
-pivoted : (c : After-pivot_rows) → ArePivoted (map items c.as_mut_slice.result.now) c.args.row c.args.column (map items c.pivot_rows.new.rows)
-    → ArePivoted (map items c.self.inside.rows.items) c.args.row c.args.column (map items (with_items c.self.inside.rows c.pivot_rows.new.rows).items)
+pivoted : (c : After-pivot_rows) → ArePivoted c.as_mut_slice.result.now c.args.row c.args.column c.pivot_rows.new.rows
+    → ArePivoted c.self.inside.rows.items c.args.row c.args.column (with_items c.self.inside.rows c.pivot_rows.new.rows).items
 pivoted c p =
-    subst (λ (old : List (List Rational)). ArePivoted old c.args.row c.args.column (map items (with_items c.self.inside.rows c.pivot_rows.new.rows).items)) (ap (map items) c.as_mut_slice.ensures.value)
-    (subst (ArePivoted (map items c.as_mut_slice.result.now) c.args.row c.args.column) (ap (map items) (sym (written c p))) p)
+    subst (λ (old : List (List Rational)). ArePivoted old c.args.row c.args.column (with_items c.self.inside.rows c.pivot_rows.new.rows).items) c.as_mut_slice.ensures.value
+    (subst (ArePivoted c.as_mut_slice.result.now c.args.row c.args.column) (sym (written c p)) p)
 
 pub invariant_of-self : goal.invariant_of-self
 invariant_of-self c spent = let d = (goal.at.invariant_of-self c).After-as_mut_slice in
     let e = (goal.at.invariant_of-self c).After-pivot_rows in
-    pivot_sound c.self.inside.generators c.self.inside.width (map items c.self.inside.rows.items) (map items (with_items c.self.inside.rows c.pivot_rows.new.rows).items) c.self.inside.basis.items c.self.inside.negated.items
+    pivot_sound c.self.inside.generators c.self.inside.width c.self.inside.rows.items (with_items c.self.inside.rows c.pivot_rows.new.rows).items c.self.inside.basis.items c.self.inside.negated.items
     c.args.row c.args.column (row_within d) (sound d) (pivoted e c.in-Ok.ensures.value)
 
 pub returns-in-Ok-clause-value : goal.returns-in-Ok-clause-value
 returns-in-Ok-clause-value c = let d = (goal.at.returns-in-Ok-clause-value c).After-as_mut_slice in
     let e = (goal.at.returns-in-Ok-clause-value c).After-pivot_rows in
     let m = length c.self.inside.basis.items in
-    let columns : c.args.column < c.self.inside.generators + m = (let w = ap (λ (s : Shown). s.generators + length s.basis) c.self.view_is in omega (arith, w, c.requires.column)) in
-    shows m c.self.inside.generators (map items c.self.inside.rows.items) (map items (with_items c.self.inside.rows c.pivot_rows.new.rows).items) c.self.inside.basis.items
+    let columns : c.args.column < c.self.inside.generators + m = (let w = ap (λ (s : TableauView). s.generators + length s.basis) c.self.view_is in omega (arith, w, c.requires.column)) in
+    shows m c.self.inside.generators c.self.inside.rows.items (with_items c.self.inside.rows c.pivot_rows.new.rows).items c.self.inside.basis.items
     c.args.row c.args.column (row_within d) columns (sound d).shape (pivoted e c.in-Ok.ensures.value)
-    ∙ ap (λ (s : Shown). pivot ring_ℚ order_ℚ (table s) c.args.row c.args.column) c.self.view_is
+    ∙ ap (λ (s : TableauView). pivot ring_ℚ order_ℚ (table s) c.args.row c.args.column) c.self.view_is
 
 pub returns-in-Ok-clause-ok : goal.returns-in-Ok-clause-ok
 returns-in-Ok-clause-ok c = let d = (goal.at.returns-in-Ok-clause-ok c).After-as_mut_slice in
-    subst (λ (s : Shown). PivotFits (height s) s.generators (table s) c.args.row c.args.column) c.self.view_is
-    (numbers_to (length c.self.inside.basis.items) c.self.inside.generators (map items c.self.inside.rows.items) c.self.inside.basis.items c.args.row c.args.column (row_within d) (sound d).shape
+    subst (λ (s : TableauView). PivotFits (height s) s.generators (table s) c.args.row c.args.column) c.self.view_is
+    (numbers_to (length c.self.inside.basis.items) c.self.inside.generators c.self.inside.rows.items c.self.inside.basis.items c.args.row c.args.column (row_within d) (sound d).shape
     (subst (λ (old : List (List Rational)). RowsPivotFits old c.args.row c.args.column) (lent d) c.in-Ok.ensures.ok))

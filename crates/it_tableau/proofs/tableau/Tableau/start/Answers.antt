@@ -1,13 +1,9 @@
-use Rattle.std.proofs.Common.{◌≡◌, List, refl, sym, subst, Vec, Global}
-use Rattle.it_fraction.specs.declared.fraction.Fraction.{Fraction}
+use Rattle.std.proofs.Common.{◌≡◌, List, refl, sym, subst}
 use Rattle.it_rational.specs.Rational.{Rational}
 use Rattle.it_tableau.specs.Problems.{start_of}
-use Rattle.it_tableau.specs.Shown.{table_of}
+use Rattle.it_tableau.specs.TableauViews.{table_of}
 use Rattle.it_tableau.proofs.StartView.{start_shown}
 use Rattle.it_tableau.proofs.tableau.Tableau.start.Goals as goal
-
-abbrev items : Vec Fraction Global → List Rational
-items v = v.items
 
 pub returns-clause-value : goal.returns-clause-value
 returns-clause-value c = let a = c.in_ok-rows.ensures.value in record {

@@ -5,10 +5,10 @@ use Rattle.it_space.specs.Rows.{Terms, coefficient}
 use Rattle.it_rational.proofs.RationalLaws.{ring_ℚ}
 use Rattle.it_rational.proofs.Field.{order_ℚ}
 use Rattle.it_tableau.specs.Tables.{Table, start_row}
-use Rattle.it_tableau.specs.Rows.{at, column_sum, row_at, IsWholeNumber, Shows}
-use Rattle.it_tableau.specs.Problems.{problem_of, start_of}
+use Rattle.it_tableau.specs.Rows.{entry_at, column_sum, row_at, IsWholeNumber, ListsValues}
+use Rattle.it_tableau.specs.Problems.{feasibility_problem, start_of}
 
-pub record Shown : Type 0 where
+pub record TableauView : Type 0 where
   -- how many columns there are but the artificial ones
   pub generators : ℕ
   -- the rows with their right sides, and last the cost row
@@ -20,20 +20,20 @@ pub record Shown : Type 0 where
   pub spent : Bool
 
 -- the number of rows but the cost row
-abbrev pub height : Shown → ℕ
+abbrev pub height : TableauView → ℕ
 height t = length t.basis
 
 -- the number of columns but the right side
-abbrev pub width : Shown → ℕ
+abbrev pub width : TableauView → ℕ
 width t = t.generators + height t
 
 abbrev pub table_of : List (List Rational) → List ℕ → Table Rational
-table_of rows basis = record { entry = λ i j. at (row_at rows i) j; basis = λ i. slice_index_or basis i 0 }
+table_of rows basis = record { entry = λ i j. entry_at (row_at rows i) j; basis = λ i. slice_index_or basis i 0 }
 
-abbrev pub table : Shown → Table Rational
+abbrev pub table : TableauView → Table Rational
 table t = table_of t.rows t.basis
 
-abbrev pub sign_at : Shown → ℕ → ℤ
+abbrev pub sign_at : TableauView → ℕ → ℤ
 sign_at t i = cond (slice_index_or t.negated i false) (negsuc 0) (pos 1)
 
 -- q is above 0
@@ -56,9 +56,9 @@ pub record IsSound (n width : ℕ) (rows : List (List Rational)) (basis : List �
 pub record AreStartRows (coordinates : List ℕ) (columns : List Terms) (target : Terms) (k : ℕ) (rows : List (List Rational)) : Type 0 where
   pub rows_are : length rows ≡ k
   pub entries_are : (i : ℕ) → i < k
-      → Shows (start_row ring_ℚ order_ℚ (length coordinates) (length columns) (problem_of coordinates columns target) i) (length columns + length coordinates + 1) (row_at rows i)
+      → ListsValues (start_row ring_ℚ order_ℚ (length coordinates) (length columns) (feasibility_problem coordinates columns target) i) (length columns + length coordinates + 1) (row_at rows i)
   pub wholes : (i j : ℕ) → i < k → j < length columns + length coordinates + 1
-      → IsWholeNumber (start_row ring_ℚ order_ℚ (length coordinates) (length columns) (problem_of coordinates columns target) i j)
+      → IsWholeNumber (start_row ring_ℚ order_ℚ (length coordinates) (length columns) (feasibility_problem coordinates columns target) i j)
 
 -- the rows of the start, and below them their cost row
 pub record AreAllRows (coordinates : List ℕ) (columns : List Terms) (target : Terms) (all : List (List Rational)) : Type 0 where
@@ -66,10 +66,10 @@ pub record AreAllRows (coordinates : List ℕ) (columns : List Terms) (target : 
   pub cost : List Rational
   pub all_are : all ≡ rows ++ cost ∷ []
   pub rows_are : AreStartRows coordinates columns target (length coordinates) rows
-  pub cost_is : Shows (λ j. minus (column_sum rows j (length rows))) (length columns + length coordinates + 1) cost
+  pub cost_is : ListsValues (λ j. minus (column_sum rows j (length rows))) (length columns + length coordinates + 1) cost
 
 -- the start of the run on the rows' coefficients at the coordinates
-pub record IsStart (coordinates : List ℕ) (columns : List Terms) (target : Terms) (t : Shown) : Type 0 where
+pub record IsStart (coordinates : List ℕ) (columns : List Terms) (target : Terms) (t : TableauView) : Type 0 where
   pub usable : t.spent ≡ false
   pub generators_are : t.generators ≡ length columns
   pub height_is : height t ≡ length coordinates
@@ -77,7 +77,7 @@ pub record IsStart (coordinates : List ℕ) (columns : List Terms) (target : Ter
   pub signs_are : (k : ℕ) → k < length coordinates → slice_index_or t.negated k false ≡ not (is_at_least_zero (whole (coefficient target (slice_index_or coordinates k 0))))
 
 -- what a pivot leaves as it is
-pub record KeepsFrame (old new : Shown) : Type 0 where
+pub record KeepsFrame (old new : TableauView) : Type 0 where
   pub generators : new.generators ≡ old.generators
   pub height : length new.basis ≡ length old.basis
   pub negated : new.negated ≡ old.negated

@@ -6,7 +6,7 @@ use Rattle.it_rational.proofs.RationalLaws.{ring_ℚ}
 use Rattle.it_space.specs.Rows.{coefficient}
 use Rattle.it_tableau.specs.Rows.{IsWholeNumber}
 use Rattle.it_tableau.proofs.WholeNumbers.{minus_number}
-use Rattle.it_tableau.proofs.start.signed.Goals as goal
+use Rattle.it_tableau.proofs.start.signed_coefficient.Goals as goal
 
 pub returns-then-kept-clause-value : goal.returns-then-kept-clause-value
 returns-then-kept-clause-value c = let q : Rational = whole (coefficient c.args.row.now c.args.coordinate) in

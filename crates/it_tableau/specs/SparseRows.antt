@@ -1,0 +1,32 @@
+-- Rows without their zeros: each number other than 0 after its column, by ascending column.
+use Rattle.std.specs.Prelude.{◌≡◌, ◌≢◌, ◌<◌, ◌≤◌, ◌++◌, ℕ, zero, suc, cond, eqb, pos, List, [], ◌∷◌}
+use Rattle.it_rational.specs.Rational.{Rational, whole}
+use Rattle.it_fraction.specs.Fits.{IsNarrow}
+
+-- a column and its number, for each term
+abbrev pub RowTerms : Type 0
+RowTerms = List (ℕ × Rational)
+
+-- the number in a column, 0 where no term has it
+abbrev pub number_at : RowTerms → ℕ → Rational
+number_at [] j = whole (pos 0)
+number_at (t ∷ ts) j = cond (eqb t.0 j) t.1 (number_at ts j)
+
+-- the columns ascend from a number on and stay below another, and no number is 0 or past the limit
+abbrev pub Climbs : ℕ → ℕ → RowTerms → Type 0
+Climbs from to [] = from ≤ to
+Climbs from to (t ∷ ts) = (from ≤ t.0) × (t.1 ≢ whole (pos 0)) × IsNarrow t.1 × Climbs (suc t.0) to ts
+
+-- the terms are those of the first n numbers of f that aren't 0
+pub record ListsEntries (f : ℕ → Rational) (n : ℕ) (terms : RowTerms) : Type 0 where
+  pub ascend : Climbs 0 n terms
+  pub entries : (j : ℕ) → j < n → number_at terms j ≡ f j
+
+-- so many numbers from column j on
+abbrev pub dense : RowTerms → ℕ → ℕ → List Rational
+dense terms j zero = []
+dense terms j (suc left) = number_at terms j ∷ dense terms (suc j) left
+
+-- all numbers of a row of so many columns, and the right side behind them
+unfoldable pub dense_row : ℕ → RowTerms → Rational → List Rational
+dense_row width terms right = dense terms 0 width ++ right ∷ []

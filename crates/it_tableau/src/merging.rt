@@ -1,0 +1,143 @@
+//! The merge of the terms of two rows.
+ghost use Rattle.std.specs.Prelude.{◌≡◌, ◌≢◌, ◌<◌, ◌⊎◌, length, pos, IfErr, IfOk, OnErr, OnOk, OkIff};
+ghost use Rattle.std.specs.Bool.{OnFalse, OnTrue};
+ghost use Rattle.it_rational.specs.Rational.{minus, plus, times, whole};
+ghost use Rattle.it_fraction.specs.Fits.{IsNarrow};
+ghost use Rattle.it_tableau.specs.Fits.{EntryFits};
+ghost use Rattle.it_tableau.specs.Merging.{column_at, term_at, AreMerged, IsAppended, IsSide, MergeFits};
+ghost use Rattle.it_tableau.specs.SparseRows.{Climbs};
+
+use it_fraction::{Fraction, Wide};
+use it_space::RowFault;
+use std::alloc::AllocError;
+
+/// Which of two rows has the next term.
+#[derive(Debug, Drop, Clone, Copy)]
+pub enum Side {
+    Old,
+    By,
+    Both,
+}
+
+pub fn column(terms: &[(usize, Fraction)], i: usize) -> usize
+    requires { i < length terms.now }
+    ensures { result ≡ column_at terms.now i }
+{
+    terms[i].0
+}
+
+/// The number itself: the clauses of its parts say that they are within the limit.
+pub fn narrow(value: Fraction) -> Fraction
+    ensures value { result ≡ value }
+    ensures narrow { IsNarrow result }
+{
+    let _num = value.num();
+    let _den = value.den();
+    value
+}
+
+pub fn term(terms: &[(usize, Fraction)], i: usize) -> Fraction
+    requires { i < length terms.now }
+    ensures value { result ≡ term_at terms.now i }
+    ensures narrow { IsNarrow result }
+{
+    narrow(terms[i].1)
+}
+
+fn next_side(old: &[(usize, Fraction)], by: &[(usize, Fraction)], i: usize, j: usize) -> Side
+    requires { (i < length old.now) ⊎ (j < length by.now) }
+    ensures { IsSide old.now by.now i j result }
+{
+    if i >= old.len() {
+        return Side::By;
+    }
+    if j >= by.len() {
+        return Side::Old;
+    }
+    let left = column(old, i);
+    let right = column(by, j);
+    if left < right {
+        Side::Old
+    } else if right < left {
+        Side::By
+    } else {
+        Side::Both
+    }
+}
+
+/// What a product leaves of 0.
+fn less(by: Fraction, q: Fraction) -> Result<Fraction, Wide>
+    ensures { OkIff result (IsNarrow (times by q)) (minus (times by q)) }
+{
+    Ok(by.mul(q)?.neg())
+}
+
+/// What a product leaves of an entry.
+pub fn reduced_entry(entry: Fraction, by: Fraction, q: Fraction) -> Result<Fraction, Wide>
+    ensures ok { OnOk result (EntryFits entry by q) }
+    ensures value { IfOk result (λ v. v ≡ plus entry (minus (times by q))) }
+    ensures err { OnErr result (¬ (EntryFits entry by q)) }
+{
+    entry.sub(by.mul(q)?)
+}
+
+#[tactic(auto, using(crate::proofs::Zeros::null_from_top, crate::proofs::Zeros::top_from_null))]
+pub fn is_null(value: Fraction) -> bool
+    ensures yes { OnTrue result (value ≡ whole (pos 0)) }
+    ensures no { OnFalse result (value ≢ whole (pos 0)) }
+{
+    if value.is_zero() { true } else { false }
+}
+
+/// Puts a term behind the others, unless its number is 0.
+pub fn append(
+    terms: &mut Vec<(usize, Fraction)>,
+    column: usize,
+    value: Fraction,
+) -> Result<(), AllocError>
+    ensures { OnOk result (IsAppended terms.old.items column value terms.new.items) }
+{
+    if !is_null(value) {
+        terms.push((column, narrow(value)))?;
+    }
+    Ok(())
+}
+
+/// Fills the buffer with what the terms of one row times a number leave of those of the other. Where only one of the rows
+/// has a term the operation with the 0 is left out.
+pub fn merge(
+    buffer: &mut Vec<(usize, Fraction)>,
+    old: &[(usize, Fraction)],
+    by: &[(usize, Fraction)],
+    q: Fraction,
+    width: usize,
+) -> Result<(), RowFault>
+    requires old { Climbs 0 width old.now }
+    requires by { Climbs 0 width by.now }
+    ensures ok { OnOk result (MergeFits old.now by.now q) }
+    ensures value { OnOk result (AreMerged old.now by.now q width buffer.new.items) }
+    ensures wide { IfErr result (λ fault. fault ≡ RowFault.Wide → ¬ (MergeFits old.now by.now q)) }
+{
+    buffer.clear();
+    let mut i = 0;
+    let mut j = 0;
+    while i < old.len() || j < by.len() {
+        match next_side(old, by, i, j) {
+            Side::Old => {
+                append(buffer, column(old, i), term(old, i))?;
+                i += 1;
+            }
+            Side::By => {
+                append(buffer, column(by, j), less(term(by, j), q)?)?;
+                j += 1;
+            }
+            Side::Both => {
+                let difference = reduced_entry(term(old, i), term(by, j), q)?;
+                append(buffer, column(old, i), difference)?;
+                i += 1;
+                j += 1;
+            }
+        }
+    }
+    Ok(())
+}

@@ -1,0 +1,154 @@
+//! Rows of the table without their zeros.
+ghost use Rattle.std.specs.Prelude.{◌≡◌, ◌≢◌, ◌+◌, ◌-◌, ◌<◌, length, pos, slice_index_or, IfErr, IfOk, OnErr, OnOk};
+ghost use Rattle.it_rational.specs.Rational.{inverse, times};
+ghost use Rattle.it_tableau.specs.Merging.{AreDivided, TermsDivide};
+ghost use Rattle.it_tableau.specs.Rows.{entry_at, zero_rational, DividedFits, IsDivided, IsReduced, RowStepFits};
+ghost use Rattle.it_tableau.specs.SparseRows.{dense_row, number_at, Climbs, ListsEntries};
+
+use crate::merging::{append, column, is_null, merge, narrow, reduced_entry, term};
+use it_fraction::Fraction;
+use it_space::RowFault;
+use std::alloc::Global;
+use std::marker::Model;
+
+/// A row of the table: each entry other than 0 after its column, by ascending column, and the right side. Contracts see the
+/// list of all entries with the right side behind them.
+#[derive(Drop)]
+pub struct SparseRow {
+    width: usize,
+    terms: Vec<(usize, Fraction)>,
+    right: Fraction,
+}
+
+impl Model for SparseRow {
+    ghost use Rattle.std.specs.Prelude.{List};
+    ghost use Rattle.it_rational.specs.Rational.{Rational};
+    ghost use Rattle.it_tableau.specs.SparseRows.{dense_row, Climbs};
+
+    ghost Value = { List Rational };
+
+    ghost view = { λ r. dense_row r.width r.terms.items r.right };
+
+    ghost invariant = { λ r. Climbs 0 r.width r.terms.items };
+}
+
+impl SparseRow {
+    /// The row of so many columns with these terms.
+    pub fn new(width: usize, terms: Vec<(usize, Fraction)>, right: Fraction) -> SparseRow
+        requires { Climbs 0 width terms.items }
+        ensures { result ≡ dense_row width terms.items right }
+    {
+        SparseRow {
+            width,
+            terms,
+            right,
+        }
+    }
+
+    /// A row without columns, whose right side is 0.
+    pub fn empty(alloc: Global) -> SparseRow {
+        SparseRow::new(0, Vec::new(alloc), Fraction::whole(0))
+    }
+
+    /// The entries other than 0, without the right side.
+    pub fn terms(&self) -> &[(usize, Fraction)]
+        ensures { ListsEntries (entry_at self.now) (length self.now - 1) result.now }
+    {
+        self.terms.as_slice()
+    }
+
+    /// The entry in a column, or behind the columns the right side.
+    pub fn entry(&self, column: usize) -> Fraction
+        requires { column < length self.now }
+        ensures { result ≡ entry_at self.now column }
+    {
+        if column == self.width {
+            return self.right;
+        }
+        number_in(self.terms.as_slice(), column, self.width)
+    }
+
+    /// Takes off as much of another row as makes the entry in a column 0, where the other row has the pivot there. The buffer
+    /// is for the new terms, and gets the old ones.
+    pub fn reduce(
+        &mut self,
+        by: &SparseRow,
+        column: usize,
+        pivot: Fraction,
+        buffer: &mut Vec<(usize, Fraction)>,
+    ) -> Result<(), RowFault>
+        requires even { length self.old ≡ length by.now }
+        requires column { column < length self.old }
+        requires some { pivot.num ≢ pos 0 }
+        ensures ok { OnOk result (RowStepFits self.old by.now column pivot) }
+        ensures value { OnOk result (IsReduced self.old by.now (times (slice_index_or self.old column zero_rational) (inverse pivot)) self.new) }
+        ensures wide { IfErr result (λ fault. fault ≡ RowFault.Wide → ¬ (RowStepFits self.old by.now column pivot)) }
+    {
+        let entry = self.entry(column);
+        if is_null(entry) {
+            let _right = narrow(self.right);
+            return Ok(());
+        }
+        let q = entry.div(pivot)?;
+        let right = reduced_entry(self.right, by.right, q)?;
+        merge(
+            buffer,
+            self.terms.as_slice(),
+            by.terms.as_slice(),
+            q,
+            self.width,
+        )?;
+        self.right = right;
+        std::mem::swap(&mut self.terms, buffer);
+        Ok(())
+    }
+
+    /// Divides the row by a number.
+    pub fn divide(
+        &mut self,
+        pivot: Fraction,
+        buffer: &mut Vec<(usize, Fraction)>,
+    ) -> Result<(), RowFault>
+        requires { pivot.num ≢ pos 0 }
+        ensures ok { OnOk result (DividedFits self.old pivot) }
+        ensures value { OnOk result (IsDivided self.old pivot self.new) }
+        ensures wide { IfErr result (λ fault. fault ≡ RowFault.Wide → ¬ (DividedFits self.old pivot)) }
+    {
+        let right = self.right.div(pivot)?;
+        divide_terms(buffer, self.terms.as_slice(), pivot, self.width)?;
+        self.right = right;
+        std::mem::swap(&mut self.terms, buffer);
+        Ok(())
+    }
+}
+
+/// The number in a column by binary search, 0 where no term has it.
+fn number_in(terms: &[(usize, Fraction)], at: usize, width: usize) -> Fraction
+    requires { Climbs 0 width terms.now }
+    ensures { result ≡ number_at terms.now at }
+{
+    match terms.binary_search_by_key(&at, |term| term.0) {
+        Ok(i) => terms[i].1,
+        Err(_) => Fraction::whole(0),
+    }
+}
+
+/// Fills the buffer with the terms, divided by a number.
+fn divide_terms(
+    buffer: &mut Vec<(usize, Fraction)>,
+    terms: &[(usize, Fraction)],
+    pivot: Fraction,
+    width: usize,
+) -> Result<(), RowFault>
+    requires terms { Climbs 0 width terms.now }
+    requires some { pivot.num ≢ pos 0 }
+    ensures ok { OnOk result (TermsDivide terms.now pivot) }
+    ensures value { OnOk result (AreDivided terms.now pivot width buffer.new.items) }
+    ensures wide { IfErr result (λ fault. fault ≡ RowFault.Wide → ¬ (TermsDivide terms.now pivot)) }
+{
+    buffer.clear();
+    for i in 0..terms.len() {
+        append(buffer, column(terms, i), term(terms, i).div(pivot)?)?;
+    }
+    Ok(())
+}
