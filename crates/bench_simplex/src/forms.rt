@@ -11,9 +11,36 @@ fn parts(alloc: Global, variables: u8) -> Result<Row, AllocError> {
             alloc,
             &[(1, 1), (2, 1), (4, 1), (8, 1), (16, 1), (31, -1)],
         )?),
-        _ => Row::new(Vec::from_slice(
+        6 => Row::new(Vec::from_slice(
             alloc,
             &[(1, 1), (2, 1), (4, 1), (8, 1), (16, 1), (32, 1), (63, -1)],
+        )?),
+        7 => Row::new(Vec::from_slice(
+            alloc,
+            &[
+                (1, 1),
+                (2, 1),
+                (4, 1),
+                (8, 1),
+                (16, 1),
+                (32, 1),
+                (64, 1),
+                (127, -1),
+            ],
+        )?),
+        _ => Row::new(Vec::from_slice(
+            alloc,
+            &[
+                (1, 1),
+                (2, 1),
+                (4, 1),
+                (8, 1),
+                (16, 1),
+                (32, 1),
+                (64, 1),
+                (128, 1),
+                (255, -1),
+            ],
         )?),
     })
 }
@@ -26,6 +53,33 @@ fn whole(alloc: Global, variables: u8) -> Result<Row, AllocError> {
         5 => Row::new(Vec::from_slice(
             alloc,
             &[(1, -1), (2, -1), (4, -1), (8, -1), (16, -1), (31, 1)],
+        )?),
+        7 => Row::new(Vec::from_slice(
+            alloc,
+            &[
+                (1, -1),
+                (2, -1),
+                (4, -1),
+                (8, -1),
+                (16, -1),
+                (32, -1),
+                (64, -1),
+                (127, 1),
+            ],
+        )?),
+        8 => Row::new(Vec::from_slice(
+            alloc,
+            &[
+                (1, -1),
+                (2, -1),
+                (4, -1),
+                (8, -1),
+                (16, -1),
+                (32, -1),
+                (64, -1),
+                (128, -1),
+                (255, 1),
+            ],
         )?),
         _ => Row::new(Vec::from_slice(
             alloc,
@@ -62,10 +116,68 @@ fn ingleton(alloc: Global) -> Result<Row, AllocError> {
     Ok(Row::new(terms))
 }
 
+// the sum of I(X;Y) of neighbours in a row of variables is at most the sum of their entropies less their joint entropy
+fn chain(alloc: Global, variables: u8) -> Result<Row, AllocError> {
+    Ok(match variables {
+        7 => Row::new(Vec::from_slice(
+            alloc,
+            &[
+                (2, -1),
+                (3, 1),
+                (4, -1),
+                (6, 1),
+                (8, -1),
+                (12, 1),
+                (16, -1),
+                (24, 1),
+                (32, -1),
+                (48, 1),
+                (96, 1),
+                (127, -1),
+            ],
+        )?),
+        8 => Row::new(Vec::from_slice(
+            alloc,
+            &[
+                (2, -1),
+                (3, 1),
+                (4, -1),
+                (6, 1),
+                (8, -1),
+                (12, 1),
+                (16, -1),
+                (24, 1),
+                (32, -1),
+                (48, 1),
+                (64, -1),
+                (96, 1),
+                (192, 1),
+                (255, -1),
+            ],
+        )?),
+        _ => Row::new(Vec::from_slice(
+            alloc,
+            &[
+                (2, -1),
+                (3, 1),
+                (4, -1),
+                (6, 1),
+                (8, -1),
+                (12, 1),
+                (16, -1),
+                (24, 1),
+                (48, 1),
+                (63, -1),
+            ],
+        )?),
+    })
+}
+
 pub fn form(alloc: Global, question: &str, variables: u8) -> Result<Row, AllocError> {
     match question {
         "whole" => whole(alloc, variables),
         "ingleton" if variables >= 4 => ingleton(alloc),
+        "chain" if variables >= 6 => chain(alloc, variables),
         _ => parts(alloc, variables),
     }
 }

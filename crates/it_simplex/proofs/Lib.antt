@@ -1,11 +1,2 @@
-pub mod BlandRule
-pub mod Ends
-pub mod RunLemmas
-pub mod Reading
-pub mod Example
-pub mod SearchLemmas
-pub mod RunSteps
-pub mod FillingLemmas
 pub mod AnswerLemmas
 pub mod TestRows
-pub mod RowValues

@@ -1,13 +1,11 @@
-//! Bland's run of the simplex method in exact fractions.
+//! Whether a target is a sum of columns with weights of at least 0, by Bland's run of the simplex method.
 #![tactic(auto)]
 
 mod answering;
 mod budget;
-mod choice;
-mod readings;
-mod run;
 #[cfg(test)]
 mod tests;
 
-pub use answering::{Solved, ends_once, solve};
+pub use answering::{ends_once, solve};
 pub use budget::Budget;
+pub use it_run::Solved;

@@ -3,8 +3,10 @@ ghost use Rattle.std.specs.Bool.{OnTrue};
 ghost use Rattle.it_number.specs.Limit.{IsWithin};
 
 use crate::{Budget, Solved, solve};
+use it_engine::whole_run;
 use it_fraction::Fraction;
 use it_space::Row;
+use it_tableau::Tableau;
 use std::alloc::{AllocError, Global};
 use std::test::Fail;
 
@@ -38,6 +40,12 @@ struct System {
     budget: u32,
     steps: u32,
     end: End,
+}
+
+/// The run on whole numbers stops after so many steps, since a number would be too large, and exact fractions take over.
+struct Takeover {
+    lost: u32,
+    system: System,
 }
 
 /// The weights have their columns, a fraction is its numerator and its denominator.
@@ -103,22 +111,39 @@ fn agrees(solved: &Solved, end: &End) -> bool {
     }
 }
 
-fn answer(alloc: Global, system: &System, budget: u32) -> Result<Solved, AllocError> {
+fn columns_of(alloc: Global, system: &System) -> Result<Vec<Row>, AllocError> {
     let mut columns = Vec::new(alloc);
     for column in system.columns {
         columns.push(row_of(alloc, column)?)?;
     }
+    Ok(columns)
+}
+
+const COORDINATES: [u32; 6] = [1, 2, 3, 4, 5, 6];
+
+fn answer(alloc: Global, system: &System, budget: u32) -> Result<Solved, AllocError> {
+    let columns = columns_of(alloc, system)?;
     let target = row_of(alloc, system.target)?;
-    let coordinates: [u32; 6] = [1, 2, 3, 4, 5, 6];
     let count = system.target.len().min(6);
     let budget = Budget::at_most(budget);
     solve(
         alloc,
-        &coordinates[..count],
+        &COORDINATES[..count],
         columns.as_slice(),
         &target,
         budget,
     )
+}
+
+// the answer on whole numbers alone, where there is one
+fn whole_answer(alloc: Global, system: &System, budget: u32) -> Result<Option<Solved>, AllocError> {
+    let columns = columns_of(alloc, system)?;
+    let target = row_of(alloc, system.target)?;
+    let count = system.target.len().min(6);
+    match Tableau::start(alloc, &COORDINATES[..count], columns.as_slice(), &target) {
+        Ok(start) => whole_run(alloc, &start, budget),
+        Err(_) => Ok(None),
+    }
 }
 
 // Each answer, and that no fewer steps lead to it.
@@ -143,6 +168,71 @@ fn runs_end_as_in_exact_arithmetic_outside(rt: HostRuntime) -> Result<(), Fail> 
                 };
                 assert!(rt; agrees(&last, &end), "system {i}: {last:?}");
             }
+        }
+    }
+    Ok(())
+}
+
+// No clause says that the run on whole numbers answers anything: it may always leave the answer to exact fractions.
+#[test]
+fn whole_numbers_answer_most_systems(rt: HostRuntime) -> Result<(), Fail> {
+    let alloc = rt.alloc();
+    let mut answered: u32 = 0;
+    for (i, system) in SYSTEMS.iter().enumerate() {
+        if let Some(solved) = whole_answer(alloc, system, system.budget)? {
+            assert!(rt; agrees(&solved, &system.end), "system {i}: {solved:?}");
+            answered = answered.saturating_add(1);
+        }
+    }
+    assert_eq!(rt; answered, WHOLE);
+    Ok(())
+}
+
+#[test]
+fn exact_fractions_take_over(rt: HostRuntime) -> Result<(), Fail> {
+    let alloc = rt.alloc();
+    for takeover in &TAKEOVERS {
+        let system = &takeover.system;
+        let kept = whole_answer(alloc, system, takeover.lost)?;
+        assert!(rt;
+            matches!(&kept, Some(Solved::Pivots(steps)) if *steps == takeover.lost),
+            "{kept:?}"
+        );
+        let lost = whole_answer(alloc, system, system.budget)?;
+        assert!(rt; lost.is_none(), "{lost:?}");
+        let solved = answer(alloc, system, system.budget)?;
+        assert!(rt; agrees(&solved, &system.end), "{solved:?}");
+    }
+    Ok(())
+}
+
+// A step for each of 255 columns, each of one coordinate.
+#[test]
+fn many_steps_are_made(rt: HostRuntime) -> Result<(), Fail> {
+    let alloc = rt.alloc();
+    let mut coordinates = Vec::new(alloc);
+    let mut columns = Vec::new(alloc);
+    let target = row_of(alloc, &[1; 255])?;
+    for coordinate in 1..256u32 {
+        coordinates.push(coordinate)?;
+        columns.push(Row::new(Vec::from_slice(alloc, &[(coordinate, 1)])?))?;
+    }
+    for steps in [254, 255] {
+        let budget = Budget::at_most(steps);
+        match solve(
+            alloc,
+            coordinates.as_slice(),
+            columns.as_slice(),
+            &target,
+            budget,
+        )? {
+            Solved::Weights(weights) => {
+                assert_eq!(rt; (steps, weights.len()), (255, 255));
+                for (column, weight) in weights.as_slice() {
+                    assert!(rt; weight.num() == weight.den(), "{column} {weight:?}");
+                }
+            }
+            solved => assert!(rt; agrees(&solved, &End::Pivots(254)), "{solved:?}"),
         }
     }
     Ok(())
@@ -913,5 +1003,81 @@ const SYSTEMS: [System; 50] = [
         budget: 1000,
         steps: 1,
         end: End::Width(2),
+    },
+];
+
+const WHOLE: u32 = 41;
+
+const TAKEOVERS: [Takeover; 4] = [
+    Takeover {
+        lost: 3,
+        system: System {
+            columns: &[
+                &[444, -9847, 494],
+                &[12824, -2432, -11003],
+                &[-4511, -1164, 14578],
+                &[-8851, -7276, -5133],
+                &[-6778, 14692, -4634],
+            ],
+            target: &[-8030, -34, -3325],
+            budget: 1000,
+            steps: 4,
+            end: End::Weights(&[
+                (2, 4662550601, 51661524229),
+                (3, 160601762306, 258307621145),
+                (4, 161569835001, 516615242290),
+            ]),
+        },
+    },
+    Takeover {
+        lost: 1,
+        system: System {
+            columns: &[
+                &[-5666, -14919, -9449],
+                &[-4378, -12968, -15970],
+                &[8838, 16255, -11805],
+                &[-14097, 14892, 15781],
+                &[-2003, -3220, -13208],
+            ],
+            target: &[9848, -9567, -8779],
+            budget: 1000,
+            steps: 3,
+            end: End::Point(&[(-1, 1), (75198696, 164856145), (-19876646, 164856145)]),
+        },
+    },
+    Takeover {
+        lost: 1,
+        system: System {
+            columns: &[
+                &[-3018167, -1887701, -3276601, -1887192],
+                &[3458318, -2106707, 2444378, 1392578],
+                &[3217760, -2161203, -1734795, 896818],
+                &[-1373746, 1892881, 3971028, 3645824],
+                &[-3161308, -2644754, -2936988, -2137606],
+                &[1526798, 800367, -4090753, 2030700],
+                &[2347066, 1915402, -1006679, 195905],
+            ],
+            target: &[-2571976, -1827232, -2826805, -1617472],
+            budget: 1000,
+            steps: 3,
+            end: End::Width(4),
+        },
+    },
+    Takeover {
+        lost: 1,
+        system: System {
+            columns: &[
+                &[28777, -29070, -1793, 53617],
+                &[43572, 64332, 7170, 23777],
+                &[-14041, 57983, 52644, 3827],
+                &[35872, 31784, -50912, -64617],
+                &[49955, -3600, -16090, -33695],
+                &[-1283, 8719, -4246, 14902],
+            ],
+            target: &[27797, 56089, -55213, -49465],
+            budget: 3,
+            steps: 3,
+            end: End::Pivots(3),
+        },
     },
 ];

@@ -1,0 +1,40 @@
+-- Common divisors of the numbers of a row.
+use Rattle.std.proofs.Common.{◌≡◌, ◌⊎◌, inl, inr, ◌≤◌, ℕ, ◌+◌, ◌<◌, ℤ, pos, ◌*ℤ◌, unsigned_abs, List, sym, ap, subst, ◌∙◌, arith}
+use Rattle.std.proofs.lemmas.Nat.Gcd.{dvd_trans}
+use Rattle.std.proofs.lemmas.Bool.{cases_eq}
+use Rattle.it_number.specs.Gcd.{gcd}
+use Rattle.it_number.specs.Division.{int_quotient}
+use Rattle.it_number.proofs.Quotients.{abs-over}
+use Rattle.it_number.proofs.SignedDivisors.{over_back}
+use Rattle.it_number.proofs.Divisors.{gcd_is}
+use Rattle.it_engine.specs.Whole.{number_at}
+use Prim.Native.Nat.{◌∣◌}
+use native.Mathlib.Nat.{pos_of_dvd_of_pos, div-le_self}
+
+pub gcd_some : (a b : ℕ) → 0 < a → 0 < gcd a b
+gcd_some a b h = pos_of_dvd_of_pos (gcd_is a b).0 h
+
+-- shared divides the first k numbers and the denominator
+pub record DividesUpTo (shared bottom : ℕ) (numbers : List ℤ) (k : ℕ) : Type 0 where
+  pub some : 0 < shared
+  pub bottom_is : shared ∣ bottom
+  pub numbers_are : (j : ℕ) → j < k → shared ∣ unsigned_abs (number_at numbers j)
+
+pub divides_more : (numbers : List ℤ) (bottom shared next : ℕ) (z : ℤ) (k : ℕ) → next ≡ gcd (unsigned_abs z) shared → z ≡ number_at numbers k
+    → DividesUpTo shared bottom numbers k → DividesUpTo next bottom numbers (k + 1)
+divides_more numbers bottom shared next z k e f d = subst (λ (n : ℕ). DividesUpTo n bottom numbers (k + 1)) (sym e) record {
+  some = pos_of_dvd_of_pos (gcd_is (unsigned_abs z) shared).1 d.some;
+  bottom_is = dvd_trans (gcd (unsigned_abs z) shared) (gcd_is (unsigned_abs z) shared).1 d.bottom_is;
+  numbers_are = λ j l. each j l (cases_eq j k);
+}
+  where
+    each : (j : ℕ) → j < k + 1 → (j ≡ k) ⊎ (j ≡ k → ⊥) → gcd (unsigned_abs z) shared ∣ unsigned_abs (number_at numbers j)
+    each j l (inl q) = subst (λ (y : ℤ). gcd (unsigned_abs z) shared ∣ unsigned_abs y) (f ∙ ap (number_at numbers) (sym q)) (gcd_is (unsigned_abs z) shared).0
+    each j l (inr n) = dvd_trans (gcd (unsigned_abs z) shared) (gcd_is (unsigned_abs z) shared).1 (d.numbers_are j (omega arith))
+
+pub whole_over : (z y : ℤ) (k : ℕ) → k ∣ unsigned_abs z → y ≡ int_quotient z k → y *ℤ pos k ≡ z
+whole_over z y k h e = ap (λ x. x *ℤ pos k) e ∙ over_back z k h
+
+-- a divided number is no larger
+pub over_size : (z : ℤ) (k : ℕ) → unsigned_abs (int_quotient z k) ≤ unsigned_abs z
+over_size z k = subst (λ n. n ≤ unsigned_abs z) (sym (abs-over z k)) (div-le_self (unsigned_abs z) k)

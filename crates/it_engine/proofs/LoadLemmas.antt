@@ -1,0 +1,125 @@
+-- The parts of the engine as they are read off the start.
+use Rattle.std.proofs.Common.{◌≡◌, ◌⊎◌, inl, inr, ℕ, zero, suc, ◌+◌, ◌<◌, ◌≤◌, ◌++◌, ℤ, pos, ◌*ℤ◌, unsigned_abs, Option, Some, None, List, [], ◌∷◌, All, drop, ◌^◌, length, length-append, slice_index_or, refl, sym, ap, ap₂, subst, ◌∙◌, arith}
+use Rattle.std.specs.Option.{IfSome, SomeIff}
+use Rattle.std.proofs.lemmas.List.Elements.{All-append}
+use Rattle.it_number.proofs.Ring.{ring, v, plus, times, nil}
+use Rattle.it_rational.specs.Rational.{Rational, whole}
+use Rattle.it_rational.specs.Rational as Q
+use Rattle.it_rational.proofs.Field.{null_from}
+use Rattle.it_rational.proofs.Names.{same_value, whole_names}
+use Rattle.it_rational.proofs.RationalLaws.{ring_ℚ}
+use Rattle.it_space.specs.Rows.{Terms}
+use Rattle.it_tableau.specs.Sums.{sum_to}
+use Rattle.it_run.specs.RowValues.{value_at}
+use Rattle.it_tableau.specs.TableauViews.{TableauView, height, table}
+use Rattle.std.proofs.lemmas.Bool.{cases_eq}
+use Rattle.std.proofs.lemmas.List.{get_or_append_left, drop_all}
+use Rattle.std.proofs.Math.Seq.{get_or-append_seam, drop-cons}
+use Rattle.it_engine.specs.Whole.{weight_of_terms, WholeRowView}
+use Rattle.it_engine.specs.Loading.{AreReadRows, IsReadRow, AreRead, IsRead, IsShortWhole}
+
+pub short_whole : (limit : ℕ) (q : Rational) (o : Option ℤ) → pos q.den ≡ pos 1 → SomeIff o (unsigned_abs q.num ≤ limit) q.num → IfSome o (λ z. IsShortWhole limit q z)
+short_whole limit q None d h = tt
+short_whole limit q (Some z) d h = record {
+  value_is = same_value q (whole z) z z 1 1 (omega arith) (omega arith) (named q.num q.den (ap unsigned_abs d) h.1) (whole_names z) refl;
+  small = subst (λ (y : ℤ). unsigned_abs y ≤ limit) (sym h.1) h.0;
+}
+  where
+    named : (n : ℤ) (d : ℕ) → d ≡ 1 → z ≡ n → n *ℤ pos 1 ≡ z *ℤ pos d
+    named n d f g = ap₂ (λ (x : ℤ) (k : ℕ). x *ℤ pos k) (sym g) (sym f)
+
+one_more : (k : ℕ) → suc k ≡ k + 1
+one_more k = omega arith
+
+All-one : (k : ℕ) (z : ℤ) → All (λ (t : ℕ × ℤ). t.0 < suc k) ((k, z) ∷ [])
+All-one k z zero d l = omega arith
+All-one k z (suc i) d l = absurd (omega arith)
+
+pub read_none : (f : ℕ → Rational) → IsRead 0 f []
+read_none f = record { value_is = λ g. refl; within = λ k d l. absurd (omega arith) }
+
+-- a row whose entry is 0 adds no term
+pub read_null : (k : ℕ) (f : ℕ → Rational) (terms : Terms) → (f k).num ≡ pos 0 → IsRead k f terms → IsRead (k + 1) f terms
+read_null k f terms e r = subst (λ (n : ℕ). IsRead n f terms) (one_more k) record {
+  value_is = λ g. ap (λ x. Q.plus (Q.times (g k) x) (sum_to ring_ℚ k (λ k. Q.times (g k) (f k)))) (null_from (f k) e)
+      ∙ ring ring_ℚ (g k ∷ sum_to ring_ℚ k (λ k. Q.times (g k) (f k)) ∷ []) (plus (times (v 0) nil) (v 1)) (v 1) refl ∙ r.value_is g;
+  within = λ i d l. let w = r.within i d l in omega (arith, w);
+}
+
+value_more : (terms : Terms) (k : ℕ) (z : ℤ) (g : ℕ → Rational) → value_at (terms ++ (k, z) ∷ []) g ≡ Q.plus (Q.times (g k) (whole z)) (value_at terms g)
+value_more [] k z g = ring ring_ℚ (whole z ∷ g k ∷ []) (plus (times (v 0) (v 1)) nil) (plus (times (v 1) (v 0)) nil) refl
+value_more (t ∷ ts) k z g = ap (Q.plus (Q.times (whole t.1) (g t.0))) (value_more ts k z g)
+    ∙ ring ring_ℚ (Q.times (whole t.1) (g t.0) ∷ Q.times (g k) (whole z) ∷ value_at ts g ∷ []) (plus (v 0) (plus (v 1) (v 2))) (plus (v 1) (plus (v 0) (v 2))) refl
+
+pub read_more : (k : ℕ) (f : ℕ → Rational) (terms : Terms) (z : ℤ) → f k ≡ whole z → IsRead k f terms → IsRead (k + 1) f (terms ++ (k, z) ∷ [])
+read_more k f terms z e r = subst (λ (n : ℕ). IsRead n f (terms ++ (k, z) ∷ [])) (one_more k) record {
+  value_is = λ g. ap₂ (λ x y. Q.plus (Q.times (g k) x) y) e (r.value_is g) ∙ sym (value_more terms k z g);
+  within = All-append (λ (t : ℕ × ℤ). t.0 < suc k) terms ((k, z) ∷ []) (λ i d l. let w = r.within i d l in omega (arith, w)) (All-one k z);
+}
+
+-- a list with one item more
+pub item_more : {X : Type 0} (P : ℕ → X → Type 0) (k : ℕ) (xs : List X) (x d : X) → length xs ≡ k → ((i : ℕ) → i < k → P i (slice_index_or xs i d)) → P k x
+    → (i : ℕ) → i < k + 1 → P i (slice_index_or (xs ++ x ∷ []) i d)
+item_more P k xs x d e h p i l = split (cases_eq i k)
+  where
+    split : (i ≡ k) ⊎ (i ≡ k → ⊥) → P i (slice_index_or (xs ++ x ∷ []) i d)
+    split (inl q) = subst (λ (n : ℕ). P n (slice_index_or (xs ++ x ∷ []) n d)) (sym q)
+        (subst (P k) (sym (ap (λ n. slice_index_or (xs ++ x ∷ []) n d) (sym e) ∙ get_or-append_seam xs x [] d)) p)
+    split (inr n) = subst (P i) (sym (get_or_append_left xs (x ∷ []) d i (omega (arith, e)))) (h i (omega arith))
+
+pub columns_more : (t : TableauView) (j : ℕ) (columns : List Terms) (terms : Terms) → AreRead t j columns → IsRead (height t) (λ k. (table t).entry k j) terms → AreRead t (j + 1) (columns ++ terms ∷ [])
+columns_more t j columns terms a r = (
+  length-append columns (terms ∷ []) ∙ (let e = a.0 in omega (arith, e)),
+  item_more (λ i ts. IsRead (height t) (λ k. (table t).entry k i) ts) j columns terms [] a.0 a.1 r,
+)
+
+-- the weight so far and the rest give the weight
+pub record IsWeighed (terms : Terms) (i : ℕ) (sum : ℕ) : Type 0 where
+  pub value_is : sum + weight_of_terms (drop i terms) ≡ weight_of_terms terms
+
+pub weighed_more : (terms : Terms) (i sum : ℕ) (z : ℤ) → i < length terms → z ≡ (slice_index_or terms i (0, pos 0)).1 → sum + weight_of_terms (drop i terms) ≡ weight_of_terms terms
+    → sum + unsigned_abs z + weight_of_terms (drop (i + 1) terms) ≡ weight_of_terms terms
+weighed_more terms i sum z h e w =
+    let split : drop i terms ≡ slice_index_or terms i (0, pos 0) ∷ drop (suc i) terms = drop-cons terms i (0, pos 0) h in
+    let here : i + 1 ≡ suc i = omega arith in
+    ap₂ (λ y k. sum + unsigned_abs y + weight_of_terms (drop k terms)) e here ∙ assoc sum (unsigned_abs (slice_index_or terms i (0, pos 0)).1) (weight_of_terms (drop (suc i) terms))
+    ∙ ap (λ (ts : Terms). sum + weight_of_terms ts) (sym split) ∙ w
+  where
+    assoc : (a b c : ℕ) → a + b + c ≡ a + (b + c)
+    assoc a b c = omega arith
+
+pub weighed_all : (terms : Terms) (i sum : ℕ) → length terms ≤ i → sum + weight_of_terms (drop i terms) ≡ weight_of_terms terms → sum ≡ weight_of_terms terms
+weighed_all terms i sum h w = none sum ∙ ap (λ (ts : Terms). sum + weight_of_terms ts) (sym (drop_all i terms h)) ∙ w
+  where
+    none : (k : ℕ) → k ≡ k + 0
+    none k = omega arith
+
+-- no column of the first j weighs more
+pub record IsNormUpTo (columns : List Terms) (norm j : ℕ) : Type 0 where
+  pub some : 1 ≤ norm
+  pub short : norm < 2 ^ 63
+  pub bounds : (i : ℕ) → i < j → weight_of_terms (slice_index_or columns i []) ≤ norm
+
+pub norm_more : (columns : List Terms) (norm new j w : ℕ) (terms : Terms) → terms ≡ slice_index_or columns j [] → w ≡ weight_of_terms terms → norm ≤ new → w ≤ new → new < 2 ^ 63 → IsNormUpTo columns norm j → IsNormUpTo columns new (j + 1)
+norm_more columns norm new j w terms et ew h k l n = record {
+  some = (let s = n.some in omega (arith, s, h));
+  short = l;
+  bounds = λ i m. split i m (cases_eq i j);
+}
+  where
+    split : (i : ℕ) → i < j + 1 → (i ≡ j) ⊎ (i ≡ j → ⊥) → weight_of_terms (slice_index_or columns i []) ≤ new
+    split i m (inl q) = subst (λ (x : ℕ). weight_of_terms (slice_index_or columns x []) ≤ new) (sym q) (subst (λ (ts : Terms). weight_of_terms ts ≤ new) et (subst (λ (x : ℕ). x ≤ new) ew k))
+    split i m (inr d) = let b = n.bounds i (omega (arith, m, d)) in omega (arith, b, h)
+
+pub line_more : (t : TableauView) (limit i k : ℕ) (numbers : List ℤ) (q : Rational) (z : ℤ) → q ≡ (table t).entry i (t.generators + k) → IsShortWhole limit q z → IsReadRow t limit i k numbers → IsReadRow t limit i (k + 1) (numbers ++ z ∷ [])
+line_more t limit i k numbers q z e w r = record {
+  length_is = length-append numbers (z ∷ []) ∙ (let l = r.length_is in omega (arith, l));
+  each = item_more (λ k y. IsShortWhole limit ((table t).entry i (t.generators + k)) y) k numbers z (pos 0) r.length_is r.each (subst (λ (x : Rational). IsShortWhole limit x z) e w);
+}
+
+pub lines_more : (t : TableauView) (limit i : ℕ) (rows : List WholeRowView) (row : WholeRowView) → AreReadRows t limit i rows
+    → IsReadRow t limit i (height t + 1) row.numbers × (row.bottom ≡ 1) → AreReadRows t limit (i + 1) (rows ++ row ∷ [])
+lines_more t limit i rows row a r = (
+  length-append rows (row ∷ []) ∙ (let e = a.0 in omega (arith, e)),
+  item_more (λ i row. IsReadRow t limit i (height t + 1) row.numbers × (row.bottom ≡ 1)) i rows row record { numbers = []; bottom = 1 } a.0 a.1 r,
+)

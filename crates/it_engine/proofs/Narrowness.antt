@@ -1,0 +1,139 @@
+-- A rational number that is n / d has parts no larger than n and d; and what a sum of two over one denominator forms.
+use Rattle.std.proofs.Common.{◌≡◌, ℕ, zero, suc, ◌*◌, ◌/◌, ◌<◌, ◌≤◌, ℤ, pos, ◌+ℤ◌, ◌*ℤ◌, neg_ℤ, unsigned_abs, sym, ap, subst, ◌∙◌, arith}
+use Rattle.std.proofs.lemmas.Int.{unsigned_abs-mul}
+use Rattle.std.proofs.lemmas.Nat.{mul-le}
+use Rattle.std.proofs.lemmas.Nat.Gcd.{IsGcd-swap}
+use Rattle.std.specs.Int.{IsGcd}
+use Rattle.it_number.specs.Gcd.{gcd, lcm}
+use Rattle.it_number.specs.Limit.{IsWithin}
+use Rattle.it_number.specs.Laws.{IsLcm}
+use Rattle.it_number.proofs.Divisors.{euclid, gcd_is, lcm_is, lcm-over}
+use Rattle.it_number.proofs.Integers.{zring}
+use Rattle.it_rational.specs.Rational.{Rational}
+use Rattle.it_rational.specs.Rational as Q
+use Rattle.it_rational.proofs.Names.{cancel}
+use Rattle.it_rational.specs.Rational.{Names}
+use Rattle.it_engine.proofs.Names.{minus_names}
+use Rattle.it_fraction.specs.Fits.{IsNarrow, PartsFit, DifferenceFits, common_numerator, shared_rest}
+use Prim.Native.Nat.{◌∣◌}
+use native.Mathlib.Nat.{dvd-mul_left, le_of_dvd, div-mul_cancel, mul-div_cancel', le_of_mul-le-mul_right, eq_of_mul-eq-mul_left, div-le_self}
+
+pub parts_below : (q : Rational) (n : ℤ) (d : ℕ) → 0 < d → Names q n d → (unsigned_abs q.num ≤ unsigned_abs n) × (q.den ∣ d)
+parts_below q n d h e =
+    let x : unsigned_abs q.num * d ≡ unsigned_abs n * q.den = sym (unsigned_abs-mul q.num (pos d)) ∙ ap unsigned_abs e ∙ unsigned_abs-mul n (pos q.den) in
+    let div : q.den ∣ d = euclid q.den (unsigned_abs q.num) d (IsGcd-swap (unsigned_abs q.num) q.den 1 q.lowest) (subst (λ k. q.den ∣ k) (sym x) (dvd-mul_left q.den (unsigned_abs n))) in
+    let y : unsigned_abs q.num * d ≤ unsigned_abs n * d = subst (λ k. k ≤ unsigned_abs n * d) (sym x) (mul-le (unsigned_abs n) q.den (unsigned_abs n) d (same (unsigned_abs n)) (le_of_dvd h div)) in
+    (le_of_mul-le-mul_right y h, div)
+  where
+    same : (k : ℕ) → k ≤ k
+    same k = omega arith
+
+pub narrow_by : (q : Rational) (n : ℤ) (d : ℕ) → 0 < d → Names q n d → IsWithin n → IsWithin (pos d) → IsNarrow q
+narrow_by q n d h e wn wd = let p = parts_below q n d h e in (omega (arith, p.0, wn), omega (arith, le_of_dvd h p.1, wd))
+
+-- a number is within the limit where a multiple of it is
+pub within_part : (x y : ℤ) (k : ℕ) → 0 < k → x *ℤ pos k ≡ y → IsWithin y → IsWithin x
+within_part x y k h e w =
+    let a : unsigned_abs x * k ≡ unsigned_abs y = sym (unsigned_abs-mul x (pos k)) ∙ ap unsigned_abs e in
+    omega (arith, a, w, grown (unsigned_abs x) k h)
+  where
+    grown : (a k : ℕ) → 0 < k → a ≤ a * k
+    grown a zero h = absurd (omega arith)
+    grown a (suc k) h = omega arith
+
+-- the sum of a / b and c / d, where l is a multiple of both denominators and within the limit, and what stands over it is too
+pub parts_fit : (a c : ℤ) (b d u w l : ℕ) → 0 < b → 0 < d → 0 < l → b * u ≡ l → d * w ≡ l
+    → IsWithin (pos l) → IsWithin (a *ℤ pos u) → IsWithin (c *ℤ pos w) → IsWithin (a *ℤ pos u +ℤ c *ℤ pos w) → PartsFit a b c d
+parts_fit a c b d u w l hb hd hl eu ew wl wa wc wt = record {
+  left = within_part (a *ℤ pos (d / g)) (a *ℤ pos u) z hz (assoc a (d / g) z ∙ ap (λ k. a *ℤ pos k) u_is) wa;
+  right = within_part (c *ℤ pos (b / g)) (c *ℤ pos w) z hz (assoc c (b / g) z ∙ ap (λ k. c *ℤ pos k) w_is) wc;
+  total = within_part (common_numerator a b c d) (a *ℤ pos u +ℤ c *ℤ pos w) z hz
+      (both a c (d / g) (b / g) z ∙ ap (λ k. a *ℤ pos k +ℤ c *ℤ pos (b / g * z)) u_is ∙ ap (λ k. a *ℤ pos u +ℤ c *ℤ pos k) w_is) wt;
+  bottom = bounded (b / g * (d / shared_rest a b c d)) (mul-le (b / g) (d / shared_rest a b c d) (b / g) d (same (b / g)) (div-le_self d (shared_rest a b c d)));
+}
+  where
+    g : ℕ
+    g = gcd b d
+
+    is : IsGcd b d (gcd b d)
+    is = gcd_is b d
+
+    common : IsLcm b d (lcm b d)
+    common = lcm_is b d
+
+    z : ℕ
+    z = l / lcm b d
+
+    divides : lcm b d ∣ l
+    divides = common.2 l (subst (λ k. b ∣ k) (mul_comm b u ∙ eu) (dvd-mul_left b u)) (subst (λ k. d ∣ k) (mul_comm d w ∙ ew) (dvd-mul_left d w))
+      where
+        mul_comm : (x y : ℕ) → y * x ≡ x * y
+        mul_comm x y = omega arith
+
+    whole : lcm b d * z ≡ l
+    whole = mul-div_cancel' (lcm b d) divides
+
+    hz : 0 < z
+    hz = some z whole
+      where
+        some : (z : ℕ) → lcm b d * z ≡ l → 0 < z
+        some zero e = omega (arith, e, hl)
+        some (suc z) e = omega arith
+
+    same : (k : ℕ) → k ≤ k
+    same k = omega arith
+
+    assoc : (x : ℤ) (m k : ℕ) → (x *ℤ pos m) *ℤ pos k ≡ x *ℤ pos (m * k)
+    assoc x m k = omega (arith, zring)
+
+    both : (x y : ℤ) (m n k : ℕ) → (x *ℤ pos m +ℤ y *ℤ pos n) *ℤ pos k ≡ x *ℤ pos (m * k) +ℤ y *ℤ pos (n * k)
+    both x y m n k = omega (arith, zring)
+
+    -- b (d / g) is the least common multiple
+    over_left : b * (d / g) ≡ lcm b d
+    over_left = lcm-over b d
+
+    over_right : d * (b / g) ≡ lcm b d
+    over_right = cross b d (b / g) (d / g) g (div-mul_cancel g is.0) (div-mul_cancel g is.1) ∙ over_left
+      where
+        cross : (b d x y g : ℕ) → x * g ≡ b → y * g ≡ d → d * x ≡ b * y
+        cross b d x y g e f = rw (← e, ← f) (omega arith)
+
+    u_is : d / g * z ≡ u
+    u_is = eq_of_mul-eq-mul_left b hb (d / g * z) u (turn b (d / g) z ∙ ap (λ k. k * z) over_left ∙ whole ∙ sym eu)
+      where
+        turn : (x y k : ℕ) → x * (y * k) ≡ x * y * k
+        turn x y k = omega arith
+
+    w_is : b / g * z ≡ w
+    w_is = eq_of_mul-eq-mul_left d hd (b / g * z) w (turn d (b / g) z ∙ ap (λ k. k * z) over_right ∙ whole ∙ sym ew)
+      where
+        turn : (x y k : ℕ) → x * (y * k) ≡ x * y * k
+        turn x y k = omega arith
+
+    bounded : (k : ℕ) → k ≤ b / g * d → IsWithin (pos k)
+    bounded k h = omega (arith, h, swap (b / g) d ∙ over_right, le_of_dvd hl divides, wl)
+      where
+        swap : (x y : ℕ) → x * y ≡ y * x
+        swap x y = omega arith
+
+-- a number that is n / l over its own denominator
+own_over : (q : Rational) (n : ℤ) (u l : ℕ) → Names q n l → q.den * u ≡ l → q.num *ℤ pos u ≡ n
+own_over q n u l e f = cancel (q.num *ℤ pos u) n q.den q.positive (turn q.num u q.den ∙ ap (λ k. q.num *ℤ pos k) f ∙ e)
+  where
+    turn : (x : ℤ) (u d : ℕ) → (x *ℤ pos u) *ℤ pos d ≡ x *ℤ pos (d * u)
+    turn x u d = omega (arith, zring)
+
+-- the difference of n / l and k / l
+pub difference_fits : (x y : Rational) (n k : ℤ) (l : ℕ) → 0 < l → Names x n l → Names y k l
+    → IsWithin (pos l) → IsWithin n → IsWithin (neg_ℤ k) → IsWithin (n +ℤ neg_ℤ k) → DifferenceFits x y
+difference_fits x y n k l h ex ey wl wn wk wt =
+    let m : Names (Q.minus y) (neg_ℤ k) l = minus_names y k l ey in
+    let px = parts_below x n l h ex in
+    let py = parts_below (Q.minus y) (neg_ℤ k) l h m in
+    let fx : x.den * (l / x.den) ≡ l = mul-div_cancel' x.den px.1 in
+    let fy : (Q.minus y).den * (l / (Q.minus y).den) ≡ l = mul-div_cancel' (Q.minus y).den py.1 in
+    let ox = own_over x n (l / x.den) l ex fx in
+    let oy = own_over (Q.minus y) (neg_ℤ k) (l / (Q.minus y).den) l m fy in
+    parts_fit x.num (Q.minus y).num x.den (Q.minus y).den (l / x.den) (l / (Q.minus y).den) l x.positive (Q.minus y).positive h fx fy wl
+    (subst IsWithin (sym ox) wn) (subst IsWithin (sym oy) wk) (rw (ox, oy) wt)

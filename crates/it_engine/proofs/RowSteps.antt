@@ -1,0 +1,188 @@
+-- What a step makes of a row.
+use Rattle.std.proofs.Common.{◌≡◌, ℕ, zero, suc, ◌*◌, ◌<◌, ◌≤◌, ◌^◌, ℤ, pos, negsuc, ◌/◌, ◌≤ℤ◌, ◌+ℤ◌, ◌*ℤ◌, neg_ℤ, unsigned_abs, List, [], ◌∷◌, refl, sym, ap, ap₂, subst, ◌∙◌, arith, mul-pos}
+use Rattle.std.proofs.lemmas.Int.{ints, unsigned_abs-mul}
+use Rattle.it_number.proofs.Integers.{zring}
+use Rattle.it_number.proofs.Ring.{ring, v, plus, times, minus, nil, one}
+use Rattle.it_number.proofs.IntegerRing.{ring_ℤ}
+use Rattle.std.specs.Int.{IsGcd}
+use Rattle.it_number.specs.Gcd.{gcd}
+use Rattle.it_number.specs.Division.{int_quotient}
+use Rattle.it_number.proofs.Divisors.{gcd_is}
+use Rattle.it_number.proofs.SignedDivisors.{over_back}
+use Rattle.it_rational.specs.Rational.{Rational}
+use Rattle.it_rational.specs.Rational as Q
+use Rattle.it_rational.specs.Rational.{Names}
+use Rattle.it_rational.proofs.Names.{same_value, whole_names}
+use Rattle.it_rational.proofs.RationalLaws.{ring_ℚ}
+use Rattle.it_tableau.specs.Tables.{difference}
+use Rattle.it_engine.specs.Updates.{IsCombined, IsDivided, IsLess, IsShortened}
+use Rattle.it_engine.specs.Whole.{number_at, WholeRowView, IsRow}
+use Rattle.it_engine.proofs.Generators.{sum_named}
+use Rattle.it_engine.proofs.Names.{null_named, minus_names, inverse_names, scaled_name, reduced_name, quotient_in_row, product_in_row}
+use native.Mathlib.Nat.{div-mul_cancel, pos_of_dvd_of_pos}
+
+-- x and p are the entries of the row and of the leaving row at the column that enters, and h divides both
+pub row_stepped : (width limit : ℕ) (f g : ℕ → Rational) (row by new : List ℤ) (d e : ℕ) (x w : Rational) (z b : ℤ) (p a h : ℕ)
+    → IsRow width limit f row d → IsRow width limit g by e → Names x z d → Names w (pos p) e → 0 < h → 0 < a → a * h ≡ p → b *ℤ pos h ≡ z
+    → IsCombined width limit row by (pos a) b new → d * a < 2 ^ 63
+    → IsRow width limit (λ k. difference ring_ℚ (f k) (Q.times (g k) (Q.times x (Q.inverse w)))) new (d * a)
+row_stepped width limit f g row by new d e x w z b p a h rf rg ex ew hh ha ea eb c low = record {
+  length_is = c.length_is;
+  some = mul-pos rf.some ha;
+  low = low;
+  named = λ k l. subst (λ (y : ℤ). Names (difference ring_ℚ (f k) (Q.times (g k) (Q.times x (Q.inverse w)))) y (d * a)) (sym (c.entries k l)) (each k l);
+  small = c.small;
+}
+  where
+    hp : 0 < p
+    hp = subst (λ k. 0 < k) ea (mul-pos ha hh)
+
+    each : (k : ℕ) → k < width → Names (difference ring_ℚ (f k) (Q.times (g k) (Q.times x (Q.inverse w)))) (number_at row k *ℤ pos a +ℤ neg_ℤ (number_at by k *ℤ b)) (d * a)
+    each k l =
+        let left : Names (f k) (number_at row k *ℤ pos p) (d * p) = scaled_name (f k) (number_at row k) d p (rf.named k l) in
+        let right : Names (Q.times (g k) (Q.times x (Q.inverse w))) (number_at by k *ℤ z) (d * p) = product_in_row (g k) x w (number_at by k) z p e d rg.some rf.some hp (rg.named k l) ex ew in
+        let both = sum_named (f k) (Q.minus (Q.times (g k) (Q.times x (Q.inverse w)))) (number_at row k *ℤ pos p) (neg_ℤ (number_at by k *ℤ z)) (d * p) (mul-pos rf.some hp) left
+        (minus_names (Q.times (g k) (Q.times x (Q.inverse w))) (number_at by k *ℤ z) (d * p) right) in
+        reduced_name (difference ring_ℚ (f k) (Q.times (g k) (Q.times x (Q.inverse w)))) (number_at row k *ℤ pos a +ℤ neg_ℤ (number_at by k *ℤ b)) (d * a) h hh
+        (subst (λ (y : ℤ). Names (difference ring_ℚ (f k) (Q.times (g k) (Q.times x (Q.inverse w)))) y (d * a * h)) (gather (number_at row k) (number_at by k) a b h p z ea eb)
+        (subst (λ (q : ℕ). Names (difference ring_ℚ (f k) (Q.times (g k) (Q.times x (Q.inverse w)))) (number_at row k *ℤ pos p +ℤ neg_ℤ (number_at by k *ℤ z)) q) (int_quotient d a h p ea) both))
+      where
+        int_quotient : (d a h p : ℕ) → a * h ≡ p → d * p ≡ d * a * h
+        int_quotient d a h p e = rw (← e) (omega arith)
+
+        gather : (r y : ℤ) (a : ℕ) (b : ℤ) (h p : ℕ) (z : ℤ) → a * h ≡ p → b *ℤ pos h ≡ z → r *ℤ pos p +ℤ neg_ℤ (y *ℤ z) ≡ (r *ℤ pos a +ℤ neg_ℤ (y *ℤ b)) *ℤ pos h
+        gather r y a b h p z e f = ap₂ (λ (u : ℤ) (s : ℤ). r *ℤ u +ℤ neg_ℤ (y *ℤ s)) (ap pos (sym e) ∙ product a h) (sym f)
+            ∙ ring ring_ℤ (r ∷ y ∷ pos a ∷ b ∷ pos h ∷ []) (plus (times (v 0) (times (v 2) (v 4))) (minus (times (v 1) (times (v 3) (v 4)))))
+            (times (plus (times (v 0) (v 2)) (minus (times (v 1) (v 3)))) (v 4)) refl
+          where
+            product : (a h : ℕ) → pos (a * h) ≡ pos a *ℤ pos h
+            product a h = omega (arith, zring)
+
+-- a row whose entry at the column is 0 stays
+pub row_stays : (width limit : ℕ) (f g : ℕ → Rational) (row : List ℤ) (d : ℕ) (x w : Rational) → x ≡ Q.whole (pos 0) → IsRow width limit f row d
+    → IsRow width limit (λ k. difference ring_ℚ (f k) (Q.times (g k) (Q.times x (Q.inverse w)))) row d
+row_stays width limit f g row d x w e r = record {
+  length_is = r.length_is;
+  some = r.some;
+  low = r.low;
+  named = λ k l. subst (λ (q : Rational). Names q (number_at row k) d) (stays (f k) (g k)) (r.named k l);
+  small = r.small;
+}
+  where
+    stays : (a b : Rational) → a ≡ difference ring_ℚ a (Q.times b (Q.times x (Q.inverse w)))
+    stays a b = ring ring_ℚ (a ∷ b ∷ Q.inverse w ∷ []) (v 0) (plus (v 0) (minus (times (v 1) (times nil (v 2))))) refl
+        ∙ ap (λ y. difference ring_ℚ a (Q.times b (Q.times y (Q.inverse w)))) (sym e)
+
+-- the leaving row keeps its numbers: their new denominator is its entry
+pub row_divided : (width limit : ℕ) (g : ℕ → Rational) (by : List ℤ) (e : ℕ) (w : Rational) (p : ℕ) → IsRow width limit g by e → Names w (pos p) e → 0 < p → p < 2 ^ 63
+    → IsRow width limit (λ k. Q.times (g k) (Q.inverse w)) by p
+row_divided width limit g by e w p r ew hp low = record {
+  length_is = r.length_is;
+  some = hp;
+  low = low;
+  named = λ k l. quotient_in_row (g k) w (number_at by k) p e r.some hp (r.named k l) ew;
+  small = r.small;
+}
+
+-- the same row over a smaller denominator
+pub row_shortened : (width limit : ℕ) (f : ℕ → Rational) (old new : WholeRowView) → IsShortened old new → IsRow width limit f old.numbers old.bottom → IsRow width limit f new.numbers new.bottom
+row_shortened width limit f old new s r = let h = s.shared in record {
+  length_is = s.length_is ∙ r.length_is;
+  some = some new.bottom s.bottom_is;
+  low = difference new.bottom h old.bottom s.some s.bottom_is r.low;
+  named = λ k l. reduced_name (f k) (number_at new.numbers k) new.bottom h s.some
+      (subst (λ (d : ℕ). Names (f k) (number_at new.numbers k *ℤ pos h) d) (sym s.bottom_is)
+      (subst (λ (z : ℤ). Names (f k) z old.bottom) (sym (s.entries k (omega (arith, l, r.length_is)))) (r.named k l)));
+  small = λ k l. fewer (unsigned_abs (number_at new.numbers k)) h (unsigned_abs (number_at old.numbers k)) limit s.some
+      (sym (unsigned_abs-mul (number_at new.numbers k) (pos h)) ∙ ap unsigned_abs (s.entries k (omega (arith, l, r.length_is)))) (r.small k l);
+}
+  where
+    some : (k : ℕ) → k * s.shared ≡ old.bottom → 0 < k
+    some zero e = absurd (omega (arith, e, r.some))
+    some (suc k) e = omega arith
+
+    grown : (a h : ℕ) → 0 < h → a ≤ a * h
+    grown a zero l = absurd (omega arith)
+    grown a (suc h) l = omega arith
+
+    difference : (a h b : ℕ) → 0 < h → a * h ≡ b → b < 2 ^ 63 → a < 2 ^ 63
+    difference a h b l e k = omega (arith, e, k, grown a h l)
+
+    fewer : (a h b c : ℕ) → 0 < h → a * h ≡ b → b ≤ c → a ≤ c
+    fewer a h b c l e k = omega (arith, e, k, grown a h l)
+
+-- the row less as much of the leaving row as makes its entry 0, from the factors left after their common divisor
+pub less_row : (width limit : ℕ) (old own new : WholeRowView) (z p a b : ℤ) → pos 1 ≤ℤ p
+    → a ≡ int_quotient p (gcd (unsigned_abs p) (unsigned_abs z)) → b ≡ int_quotient z (gcd (unsigned_abs p) (unsigned_abs z))
+    → IsCombined width limit old.numbers own.numbers a b new.numbers → new.bottom ≡ old.bottom * unsigned_abs a → old.bottom * unsigned_abs a < 2 ^ 63
+    → IsLess width limit old own z p new
+less_row width limit old own new z (negsuc p) a b hp ea eb c d l = absurd (omega (arith, ints))
+less_row width limit old own new z (pos p) a b hp ea eb c d l = λ f g x w rf rg ex ew.
+    subst (λ (k : ℕ). IsRow width limit (λ k. difference ring_ℚ (f k) (Q.times (g k) (Q.times x (Q.inverse w)))) new.numbers k) (sym (d ∙ ap (λ a. old.bottom * unsigned_abs a) ea))
+    (row_stepped width limit f g old.numbers own.numbers new.numbers old.bottom own.bottom x w z b p (p / gcd p (unsigned_abs z)) (gcd p (unsigned_abs z)) rf rg ex ew some_gcd
+    (some (p / gcd p (unsigned_abs z)) whole) whole (ap (λ b. b *ℤ pos (gcd p (unsigned_abs z))) eb ∙ over_back z (gcd p (unsigned_abs z)) is.1)
+    (subst (λ (a : ℤ). IsCombined width limit old.numbers own.numbers a b new.numbers) ea c) (subst (λ (a : ℤ). old.bottom * unsigned_abs a < 2 ^ 63) ea l))
+  where
+    hp' : 0 < p
+    hp' = omega (arith, ints, hp)
+
+    is : IsGcd p (unsigned_abs z) (gcd p (unsigned_abs z))
+    is = gcd_is p (unsigned_abs z)
+
+    some_gcd : 0 < gcd p (unsigned_abs z)
+    some_gcd = pos_of_dvd_of_pos is.0 hp'
+
+    whole : p / gcd p (unsigned_abs z) * gcd p (unsigned_abs z) ≡ p
+    whole = div-mul_cancel (gcd p (unsigned_abs z)) is.0
+
+    some : (k : ℕ) → k * gcd p (unsigned_abs z) ≡ p → 0 < k
+    some zero e = absurd (omega (arith, e, hp'))
+    some (suc k) e = omega arith
+
+-- and where the entry is 0 already
+pub kept_row : (width limit : ℕ) (old own : WholeRowView) (p : ℤ) → IsLess width limit old own (pos 0) p old
+kept_row width limit old own p = λ f g x w rf rg ex ew. row_stays width limit f g old.numbers old.bottom x w (null_named x old.bottom rf.some ex) rf
+
+pub divided_row : (width limit : ℕ) (old new : WholeRowView) (p : ℤ) → pos 1 ≤ℤ p → unsigned_abs p < 2 ^ 63 → new.numbers ≡ old.numbers → new.bottom ≡ unsigned_abs p → IsDivided width limit old p new
+divided_row width limit old new (negsuc p) h k e d = absurd (omega (arith, ints))
+divided_row width limit old new (pos p) h k e d = λ g w r ew.
+    subst (λ (ns : List ℤ). IsRow width limit (λ k. Q.times (g k) (Q.inverse w)) ns new.bottom) (sym e)
+    (subst (λ (b : ℕ). IsRow width limit (λ k. Q.times (g k) (Q.inverse w)) old.numbers b) (sym d)
+    (row_divided width limit g old.numbers old.bottom w p r ew (omega (arith, ints, h)) k))
+
+-- as much of the leaving row as makes an entry 0 may be taken from that row when it is divided by its entry, where it has 1
+pub less_divided : (width limit : ℕ) (old own mid new : WholeRowView) (z p : ℤ) → IsDivided width limit own p mid → IsLess width limit old mid z (pos mid.bottom) new → IsLess width limit old own z p new
+less_divided width limit old own mid new z p d l = λ f g x w rf rg ex ew.
+    same_row (λ k. difference ring_ℚ (f k) (Q.times (Q.times (g k) (Q.inverse w)) (Q.times x (Q.inverse (Q.whole (pos 1)))))) (λ k. difference ring_ℚ (f k) (Q.times (g k) (Q.times x (Q.inverse w))))
+    (λ k. same (f k) (g k) x (Q.inverse w))
+    (l f (λ k. Q.times (g k) (Q.inverse w)) x (Q.whole (pos 1)) rf (d g w rg ew) ex (one_named (Q.whole (pos 1)).num (Q.whole (pos 1)).den mid.bottom (whole_names (pos 1))))
+  where
+    same_row : (f g : ℕ → Rational) → ((k : ℕ) → f k ≡ g k) → IsRow width limit f new.numbers new.bottom → IsRow width limit g new.numbers new.bottom
+    same_row f g e r = record {
+      length_is = r.length_is;
+      some = r.some;
+      low = r.low;
+      named = λ k h. subst (λ (q : Rational). Names q (number_at new.numbers k) new.bottom) (e k) (r.named k h);
+      small = r.small;
+    }
+
+    one_named : (x : ℤ) (b d : ℕ) → x *ℤ pos 1 ≡ pos 1 *ℤ pos b → x *ℤ pos d ≡ pos d *ℤ pos b
+    one_named x b d e = ap (λ z. z *ℤ pos d) is ∙ omega (arith, zring)
+      where
+        is : x ≡ pos b
+        is = omega (arith, ints, e)
+
+    inverse_one : Q.inverse (Q.whole (pos 1)) ≡ Q.whole (pos 1)
+    inverse_one = same_value (Q.inverse (Q.whole (pos 1))) (Q.whole (pos 1)) (pos 1) (pos 1) 1 1 (omega arith) (omega arith)
+        (inverse_names (Q.whole (pos 1)) 1 1 (omega arith) (omega arith) (whole_names (pos 1))) (whole_names (pos 1)) refl
+
+    same : (a b x i : Rational) → difference ring_ℚ a (Q.times (Q.times b i) (Q.times x (Q.inverse (Q.whole (pos 1))))) ≡ difference ring_ℚ a (Q.times b (Q.times x i))
+    same a b x i = ap (λ y. difference ring_ℚ a (Q.times (Q.times b i) (Q.times x y))) inverse_one
+        ∙ ring ring_ℚ (a ∷ b ∷ x ∷ i ∷ []) (plus (v 0) (minus (times (times (v 1) (v 3)) (times (v 2) one)))) (plus (v 0) (minus (times (v 1) (times (v 2) (v 3))))) refl
+
+-- a row is itself over the same denominator
+pub same_shortened : (row : WholeRowView) → IsShortened row row
+same_shortened row = record { shared = 1; some = omega arith; length_is = refl; entries = λ k l. once (number_at row.numbers k); bottom_is = omega arith }
+  where
+    once : (z : ℤ) → z *ℤ pos 1 ≡ z
+    once z = omega (arith, ints)

@@ -1,0 +1,51 @@
+use Rattle.std.proofs.Common.{◌∙◌, ℕ, List, [], length, ap, sym, subst, arith}
+use Rattle.it_space.specs.Rows.{Terms}
+use Rattle.it_engine.specs.Ends.{AreWeightsOf, IsPointOf}
+use Rattle.it_engine.specs.Engine.{IsFinished, IsSafe}
+use Rattle.it_engine.specs.Whole.{WholeRowView}
+use Rattle.it_engine.specs.declared.engine.EngineEnd.{EngineEnd}
+use Rattle.it_engine.proofs.Answers.{by_budget, by_point, by_weights}
+use Rattle.it_engine.proofs.whole.answer.Goals as goal
+
+-- what is safe with columns is so without
+without_columns : (columns : List Terms) (limit : ℕ) (rows : List WholeRowView) (basis : List ℕ) → IsSafe columns limit rows basis → IsSafe [] limit rows basis
+without_columns columns limit rows basis s = record { rows_are = s.rows_are; usable = s.usable; fitting = λ j l. absurd (omega arith); limit_is = s.limit_is }
+
+pub weights-requires : goal.weights-requires
+weights-requires c = (
+  c.args.limit,
+  subst (λ (rows : List WholeRowView). IsSafe c.args.columns.now c.args.limit rows c.basis.result.now) (sym c.rows.ensures)
+      (subst (IsSafe c.args.columns.now c.args.limit c.run.new.self.rows) (sym c.basis.ensures) c.in-Some-Weights.ensures.engine),
+)
+
+pub point-requires-clause-height : goal.point-requires-clause-height
+point-requires-clause-height c = ap length c.basis-in-Some-Point.ensures ∙ c.in-Some-Point.ensures.height ∙ c.requires.height
+
+pub point-requires-clause-engine : goal.point-requires-clause-engine
+point-requires-clause-engine c = (
+  c.args.limit,
+  subst (λ (rows : List WholeRowView). IsSafe [] c.args.limit rows c.basis-in-Some-Point.result.now) (sym c.rows-in-Some-Point.ensures)
+      (subst (IsSafe [] c.args.limit c.run.new.self.rows) (sym c.basis-in-Some-Point.ensures)
+      (without_columns c.args.columns.now c.args.limit c.run.new.self.rows c.run.new.self.basis c.in-Some-Point.ensures.engine)),
+)
+
+pub returns-in-Some-Weights : goal.returns-in-Some-Weights
+returns-in-Some-Weights c =
+    let ws = c.in_ok-weights-in-Some-Weights.field-0.items in
+    by_weights c.args.start.now c.args.columns.now c.args.limit c.args.engine.rows c.args.engine.basis c.args.steps c.run.new.self.rows c.run.new.self.basis ws
+    (subst (λ (f : EngineEnd). IsFinished c.args.columns.now c.args.limit c.args.engine.rows c.args.engine.basis c.args.steps c.run.new.self.rows c.run.new.self.basis f) c.in-Some-Weights.field-0-is c.in-Some-Weights.ensures)
+    (subst (λ (rows : List WholeRowView). AreWeightsOf c.args.columns.now rows c.run.new.self.basis ws) c.rows.ensures
+    (subst (λ (basis : List ℕ). AreWeightsOf c.args.columns.now c.rows.result.now basis ws) c.basis.ensures c.in_ok-weights-in-Some-Weights.ensures))
+
+pub returns-in-Some-Point : goal.returns-in-Some-Point
+returns-in-Some-Point c =
+    let q = c.in_ok-point-in-Some-Point.field-0.items in
+    by_point c.args.start.now c.args.columns.now c.args.limit c.args.engine.rows c.args.engine.basis c.args.steps c.run.new.self.rows c.run.new.self.basis q
+    (subst (λ (f : EngineEnd). IsFinished c.args.columns.now c.args.limit c.args.engine.rows c.args.engine.basis c.args.steps c.run.new.self.rows c.run.new.self.basis f) c.in-Some-Point.field-0-is c.in-Some-Point.ensures)
+    (subst (λ (rows : List WholeRowView). IsPointOf c.args.start.now rows c.run.new.self.basis q) c.rows-in-Some-Point.ensures
+    (subst (λ (basis : List ℕ). IsPointOf c.args.start.now c.rows-in-Some-Point.result.now basis q) c.basis-in-Some-Point.ensures c.in_ok-point-in-Some-Point.ensures))
+
+pub returns-in-Some-Pivots : goal.returns-in-Some-Pivots
+returns-in-Some-Pivots c =
+    by_budget c.args.start.now c.args.columns.now c.args.limit c.args.engine.rows c.args.engine.basis c.args.steps c.run.new.self.rows c.run.new.self.basis
+    (subst (λ (f : EngineEnd). IsFinished c.args.columns.now c.args.limit c.args.engine.rows c.args.engine.basis c.args.steps c.run.new.self.rows c.run.new.self.basis f) c.in-Some-Pivots.field-0-is c.in-Some-Pivots.ensures)

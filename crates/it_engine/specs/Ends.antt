@@ -1,0 +1,35 @@
+-- What is read off the engine at the end of a run. No public clause cites this.
+use Rattle.std.specs.Prelude.{◌≡◌, ℕ, ◌<◌, List, length, slice_index_or}
+use Rattle.it_rational.specs.Rational.{Rational, quotient}
+use Rattle.it_rational.proofs.RationalLaws.{ring_ℚ}
+use Rattle.it_rational.proofs.Field.{order_ℚ}
+use Rattle.it_space.specs.Rows.{Terms}
+use Rattle.it_tableau.specs.TableauViews.{TableauView}
+use Rattle.it_tableau.specs.Tables.{Table, FeasibilityProblem}
+use Rattle.it_run.specs.Readings.{weights, point}
+use Rattle.it_run.specs.Answers.{solved_end, HasSigns}
+use Rattle.it_run.specs.Solving.{RunsTo}
+use Rattle.it_run.specs.declared.answering.Solved.{Solved}
+use Rattle.it_engine.specs.Choosing.{right_of}
+use Rattle.it_engine.specs.Engine.{StandsFor}
+use Rattle.it_engine.specs.Whole.{row_at, WholeRowView}
+
+-- the right side of a row whose basic column is j
+pub record IsWeightOf (rows : List WholeRowView) (basis : List ℕ) (j : ℕ) (w : Rational) : Type 0 where
+  pub row : ℕ
+  pub within : row < length basis
+  pub basic : slice_index_or basis row 0 ≡ j
+  pub value_is : w ≡ quotient (right_of (length basis) rows row) (row_at rows row).bottom
+
+-- the weights of whichever table the engine shows
+abbrev pub AreWeightsOf : List Terms → List WholeRowView → List ℕ → List (ℕ × Rational) → Type 0
+AreWeightsOf columns rows basis ws = (p : FeasibilityProblem Rational) (t : Table Rational) (limit : ℕ) → StandsFor p t columns limit rows basis → ws ≡ weights ring_ℚ order_ℚ (length basis) (length columns) t
+
+-- and its point, with the signs of the start
+abbrev pub IsPointOf : TableauView → List WholeRowView → List ℕ → List Rational → Type 0
+IsPointOf first rows basis q = (p : FeasibilityProblem Rational) (t : Table Rational) (columns : List Terms) (limit : ℕ) → HasSigns first p → StandsFor p t columns limit rows basis → q ≡ point ring_ℚ order_ℚ (length basis) (length columns) p t
+
+-- the answer to the question whose start the engine shows
+abbrev pub AnswersQuestion : TableauView → List Terms → ℕ → List WholeRowView → List ℕ → ℕ → Solved → Type 0
+AnswersQuestion first columns limit rows basis steps solved = (p : FeasibilityProblem Rational) (t : Table Rational) → HasSigns first p → StandsFor p t columns limit rows basis
+    → RunsTo (length basis) (length columns) p steps 0 t (solved_end solved)

@@ -1,0 +1,69 @@
+-- The engine: what it keeps of a table, and a step on it. No public clause cites this.
+-- The engine stands for a table of the run: it keeps no table, and its contracts range over all tables that it may stand for.
+use Rattle.std.specs.Prelude.{◌≡◌, ℕ, ◌+◌, ◌*◌, ◌<◌, ◌≤◌, ◌^◌, Bool, true, false, List, [], length, slice_index_or}
+use Rattle.it_rational.specs.Rational.{Rational}
+use Rattle.it_rational.proofs.RationalLaws.{ring_ℚ}
+use Rattle.it_rational.proofs.Field.{order_ℚ}
+use Rattle.it_space.specs.Rows.{Terms}
+use Rattle.it_tableau.specs.Invariants.{HasInvariants}
+use Rattle.it_tableau.specs.Tables.{Table, FeasibilityProblem}
+use Rattle.it_run.specs.Choice.{next, IsStuck}
+use Rattle.it_run.specs.Solving.{StepFits}
+use Rattle.it_run.specs.Runs.{RunEndView}
+use Rattle.it_run.specs.Runs.RunEndView.{Weights, Point, Pivots}
+use Rattle.it_run.specs.Steps.{Reaches}
+use Rattle.it_engine.specs.declared.engine.EngineEnd.{EngineEnd}
+use Rattle.it_engine.specs.declared.engine.EngineEnd.TheVariants as engine_ends
+use Rattle.it_engine.specs.Updates.{AreUsable, IsFitting}
+use Rattle.it_engine.specs.Whole.{WholeRowView, AreColumns, ShowsTable}
+
+-- what contracts see of the engine
+pub record EngineView : Type 0 where
+  pub rows : List WholeRowView
+  pub basis : List ℕ
+
+-- the parts agree, and all numbers that are formed are short
+pub record IsSafe (columns : List Terms) (limit : ℕ) (rows : List WholeRowView) (basis : List ℕ) : Type 0 where
+  pub rows_are : length rows ≡ length basis + 1
+  pub usable : AreUsable (length rows) limit rows
+  pub fitting : (j : ℕ) → j < length columns → IsFitting (length rows) limit (slice_index_or columns j [])
+  pub limit_is : limit < 2 ^ 63
+
+-- the engine shows a table of the problem that has the invariants, and no column weighs more than a norm that keeps all prices short
+pub record StandsFor (p : FeasibilityProblem Rational) (t : Table Rational) (columns : List Terms) (limit : ℕ) (rows : List WholeRowView) (basis : List ℕ) : Type 0 where
+  pub norm : ℕ
+  pub some : 1 ≤ norm
+  pub fit : norm * limit < 2 ^ 63
+  pub holds : HasInvariants ring_ℚ order_ℚ (length basis) (length columns) p t
+  pub shows : ShowsTable (length basis) (length columns) limit t rows basis
+  pub columns_are : AreColumns (length basis) (length columns) norm p columns
+
+-- the step of the run that is made on the table, whichever it shows
+pub record IsMade (p : FeasibilityProblem Rational) (t : Table Rational) (columns : List Terms) (limit : ℕ) (basis : List ℕ) (new : List WholeRowView) (new_basis : List ℕ) : Type 0 where
+  pub moves : ¬ (IsStuck ring_ℚ order_ℚ (length basis) (length columns) t)
+  pub fits : StepFits (length basis) (length columns) t
+  pub stands : StandsFor p (next ring_ℚ order_ℚ (length basis) (length columns) t) columns limit new new_basis
+
+pub record IsStep (columns : List Terms) (limit : ℕ) (old : List WholeRowView) (basis : List ℕ) (new : List WholeRowView) (new_basis : List ℕ) : Type 0 where
+  pub engine : IsSafe columns limit new new_basis
+  pub height : length new_basis ≡ length basis
+  pub made : (p : FeasibilityProblem Rational) (t : Table Rational) → StandsFor p t columns limit old basis → IsMade p t columns limit basis new new_basis
+
+-- no step is left to make, or one is made
+abbrev pub MovesOn : List Terms → ℕ → List WholeRowView → List ℕ → List WholeRowView → List ℕ → Bool → Type 0
+MovesOn columns limit old basis new new_basis false = (new ≡ old) × (new_basis ≡ basis)
+    × ((p : FeasibilityProblem Rational) (t : Table Rational) → StandsFor p t columns limit old basis → IsStuck ring_ℚ order_ℚ (length basis) (length columns) t)
+MovesOn columns limit old basis new new_basis true = IsStep columns limit old basis new new_basis
+
+-- the end of the run that it tells
+abbrev pub engine_end_view : ℕ → EngineEnd → Table Rational → RunEndView (Table Rational) (Table Rational)
+engine_end_view budget engine_ends.Weights t = Weights t
+engine_end_view budget engine_ends.Point t = Point t
+engine_end_view budget engine_ends.Pivots t = Pivots budget
+
+-- whichever table the engine showed, the run from it ends so, and at an end by weights or by a point the engine shows its last table
+pub record IsFinished (columns : List Terms) (limit : ℕ) (old : List WholeRowView) (basis : List ℕ) (budget : ℕ) (new : List WholeRowView) (new_basis : List ℕ) (finish : EngineEnd) : Type 0 where
+  pub engine : IsSafe columns limit new new_basis
+  pub height : length new_basis ≡ length basis
+  pub runs : (p : FeasibilityProblem Rational) (t : Table Rational) → StandsFor p t columns limit old basis
+      → (s : Table Rational) × StandsFor p s columns limit new new_basis × Reaches (length basis) (length columns) budget 0 t (engine_end_view budget finish s)

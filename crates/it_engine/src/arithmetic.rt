@@ -1,0 +1,147 @@
+//! Operations on single whole numbers.
+ghost use Rattle.std.specs.Prelude.{◌≡◌, ◌+◌, ◌*◌, ◌<◌, ◌≤◌, ◌^◌, ◌+ℤ◌, ◌*ℤ◌, neg_ℤ, pos, unsigned_abs, SomeIff};
+ghost use Rattle.it_number.specs.Division.{int_quotient};
+ghost use Rattle.it_number.specs.Gcd.{gcd};
+ghost use Rattle.it_rational.specs.Rational.{sign_least};
+ghost use Rattle.it_engine.specs.Choosing.{comes_first as comes_first_of, in_order as in_order_of, is_above as is_above_of};
+
+/// Whether z is above 0.
+pub fn is_above(z: i64) -> bool
+    ensures { result ≡ is_above_of z }
+{
+    z > 0
+}
+
+/// Whether z is at least 0.
+pub fn is_least(z: i64) -> bool
+    ensures { result ≡ sign_least z }
+{
+    z >= 0
+}
+
+/// The product, where that is below 2^63.
+#[inline]
+pub fn scaled(a: u64, b: u64) -> Option<u64>
+    ensures { SomeIff result (a * b < 2 ^ 63) (a * b) }
+{
+    let product = a.checked_mul(b)?;
+    if product < 1 << 63 {
+        Some(product)
+    } else {
+        None
+    }
+}
+
+/// The sum plus the product.
+#[inline]
+pub fn increased(sum: i64, factor: i64, x: i64) -> i64
+    requires { unsigned_abs sum + unsigned_abs (factor *ℤ x) < 2 ^ 63 }
+    ensures { result ≡ sum +ℤ factor *ℤ x }
+{
+    sum + factor * x
+}
+
+/// The product.
+#[inline]
+pub fn product(x: i64, y: i64) -> i128
+    ensures { result ≡ x *ℤ y }
+{
+    i128::from(x) * i128::from(y)
+}
+
+#[inline]
+fn difference(x: i128, y: i128) -> i128
+    requires x { unsigned_abs x < 2 ^ 126 }
+    requires y { unsigned_abs y < 2 ^ 126 }
+    ensures { result ≡ x +ℤ neg_ℤ y }
+{
+    x - y
+}
+
+/// The number itself, where it is at most the limit in absolute value.
+#[inline]
+pub fn narrowed(z: i128, limit: u64) -> Option<i64>
+    requires { limit < 2 ^ 63 }
+    ensures { SomeIff result (unsigned_abs z ≤ limit) z }
+{
+    if z.unsigned_abs() <= u128::from(limit) {
+        Some(z as i64)
+    } else {
+        None
+    }
+}
+
+/// The difference x a - y b, where that is at most the limit in absolute value.
+#[inline]
+#[tactic(auto, using(crate::proofs::NoWide::half_product))]
+pub fn combined(x: i64, a: i64, y: i64, b: i64, limit: u64) -> Option<i64>
+    requires x { unsigned_abs x < 2 ^ 63 }
+    requires a { unsigned_abs a < 2 ^ 63 }
+    requires y { unsigned_abs y < 2 ^ 63 }
+    requires b { unsigned_abs b < 2 ^ 63 }
+    requires limit { limit < 2 ^ 63 }
+    ensures { SomeIff result (unsigned_abs (x *ℤ a +ℤ neg_ℤ (y *ℤ b)) ≤ limit) (x *ℤ a +ℤ neg_ℤ (y *ℤ b)) }
+{
+    narrowed(difference(product(x, a), product(y, b)), limit)
+}
+
+// whether left comes before right, and of equal ones d before f
+#[tactic(auto, using(crate::proofs::Signs::order_less, crate::proofs::Signs::order_same, crate::proofs::Signs::order_more))]
+fn in_order(left: i128, right: i128, d: usize, f: usize) -> bool
+    ensures { result ≡ in_order_of left right d f }
+{
+    if left < right {
+        true
+    } else if left == right {
+        d < f
+    } else {
+        false
+    }
+}
+
+/// Whether b / x with the basic column d comes before e / y with f.
+pub fn comes_first(b: i64, x: i64, d: usize, e: i64, y: i64, f: usize) -> bool
+    ensures { result ≡ comes_first_of b x d e y f }
+{
+    in_order(product(b, y), product(e, x), d, f)
+}
+
+/// The greatest common divisor.
+pub fn common(a: u64, b: u64) -> u64
+    ensures value { result ≡ gcd a b }
+    ensures some { 0 < a → 0 < result }
+{
+    if a == 1 {
+        return 1;
+    }
+    let mut larger = a;
+    let mut smaller = b;
+    while smaller != 0 {
+        let rest = larger % smaller;
+        larger = smaller;
+        smaller = rest;
+    }
+    larger
+}
+
+/// The quotient z / k, toward 0.
+pub fn divided(z: i64, k: u64) -> i64
+    requires z { unsigned_abs z < 2 ^ 63 }
+    requires some { 0 < k }
+    ensures { result ≡ int_quotient z k }
+{
+    if k == 1 {
+        return z;
+    }
+    let size = (z.unsigned_abs() / k) as i64;
+    if z < 0 { -size } else { size }
+}
+
+/// The sum, where that is below 2^63.
+#[inline]
+pub fn added(a: u64, b: u64) -> Option<u64>
+    ensures { SomeIff result (a + b < 2 ^ 63) (a + b) }
+{
+    let sum = a.checked_add(b)?;
+    if sum < 1 << 63 { Some(sum) } else { None }
+}

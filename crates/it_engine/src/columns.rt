@@ -1,0 +1,90 @@
+//! The columns of the start.
+ghost use Rattle.std.specs.Prelude.{◌≡◌, ◌+◌, ◌<◌, ◌^◌, length, pos, slice_index_or};
+ghost use Rattle.std.specs.Option.{IfSome};
+ghost use Rattle.it_space.specs.Rows.{value};
+ghost use Rattle.it_engine.specs.Updates.{IsPriced, Suits};
+ghost use Rattle.it_engine.specs.Whole.{number_at, weight_of_terms as weight_of};
+
+use crate::arithmetic::{added, increased};
+use crate::rows::WholeRow;
+use std::marker::Model;
+
+/// The entries of a column of the start other than 0, each after its row, by ascending row.
+#[derive(Drop)]
+pub struct Column {
+    terms: Vec<(usize, i64)>,
+}
+
+impl Model for Column {
+    ghost use Rattle.it_space.specs.Rows.{Terms};
+
+    ghost Value = { Terms };
+
+    ghost view = { λ c. c.terms.items };
+}
+
+impl Column {
+    pub fn of(terms: Vec<(usize, i64)>) -> Column
+        ensures { result ≡ terms.items }
+    {
+        Column { terms }
+    }
+
+    fn size(&self) -> usize
+        ensures { result ≡ length self.now }
+    {
+        self.terms.len()
+    }
+
+    #[inline]
+    fn place(&self, i: usize) -> usize
+        requires { i < length self.now }
+        ensures { result ≡ (slice_index_or self.now i (0, pos 0)).0 }
+    {
+        self.terms[i].0
+    }
+
+    #[inline]
+    fn factor(&self, i: usize) -> i64
+        requires { i < length self.now }
+        ensures { result ≡ (slice_index_or self.now i (0, pos 0)).1 }
+    {
+        self.terms[i].1
+    }
+
+    /// The sum of the absolute values of the entries, where it is below 2^63.
+    pub fn weight(&self) -> Option<u64>
+        ensures { IfSome result (λ w. (w ≡ weight_of self.now) × (w < 2 ^ 63)) }
+    {
+        let mut sum: u64 = 0;
+        for i in 0..self.size() {
+            sum = added(sum, self.factor(i).unsigned_abs())?;
+        }
+        Some(sum)
+    }
+
+    // the sum with one more term
+    #[inline]
+    fn add_term(&self, row: &WholeRow, i: usize, sum: i64) -> i64
+        requires suits { Suits self.now row.now.numbers }
+        requires place { i < length self.now }
+        requires priced { IsPriced self.now row.now.numbers i sum }
+        ensures { IsPriced self.now row.now.numbers (i + 1) result }
+    {
+        increased(sum, self.factor(i), row.number(self.place(i)))
+    }
+
+    /// The entry of a row at this column, over the row's denominator.
+    #[inline]
+    #[tactic(auto, using(crate::proofs::Pricing::priced_none, crate::proofs::Pricing::priced_all))]
+    pub fn price(&self, row: &WholeRow) -> i64
+        requires suits { Suits self.now row.now.numbers }
+        ensures { result ≡ value self.now (number_at row.now.numbers) }
+    {
+        let mut sum: i64 = 0;
+        for i in 0..self.size() {
+            sum = self.add_term(row, i, sum);
+        }
+        sum
+    }
+}

@@ -1,0 +1,165 @@
+//! The engine and its run.
+ghost use Rattle.std.specs.Prelude.{◌≡◌, ◌+◌, ◌<◌, ℕ, length, pos};
+ghost use Rattle.std.specs.Bool.{OnFalse, OnTrue};
+ghost use Rattle.std.specs.Option.{IfNone, IfSome};
+ghost use Rattle.it_engine.specs.Choosing.{first_below, right_of};
+ghost use Rattle.it_engine.specs.Engine.{IsFinished, IsSafe, MovesOn};
+ghost use Rattle.it_engine.specs.Whole.{row_at};
+
+use crate::choice::{entering, leaving};
+use crate::columns::Column;
+use crate::pivots::pivot;
+use crate::rows::WholeRow;
+use std::alloc::Global;
+use std::marker::Model;
+
+/// How a run ended.
+#[derive(Debug, Drop, Clone, Copy)]
+pub enum EngineEnd {
+    /// The cost row's right side is 0.
+    Weights,
+    /// No column has a cost below 0.
+    Point,
+    /// All steps of the budget were made.
+    Pivots,
+}
+
+/// What is kept of a table: its rows and last its cost row, each with its entries at the artificial columns and last its right
+/// side; and the basic column of each row but the cost row.
+#[derive(Drop)]
+pub struct Engine {
+    alloc: Global,
+    rows: Vec<WholeRow>,
+    basis: Vec<usize>,
+    // room for a pivot's notes on the leaving row
+    next: Vec<usize>,
+}
+
+impl Model for Engine {
+    ghost use Rattle.std.specs.Prelude.{◌≡◌, ◌+◌, length};
+    ghost use Rattle.it_engine.specs.Engine.{EngineView};
+
+    ghost Value = { EngineView };
+
+    ghost view = { λ e. record { rows = e.rows.items; basis = e.basis.items } };
+
+    ghost invariant = { λ e. length e.next.items ≡ length e.basis.items + 2 };
+}
+
+impl Engine {
+    /// An engine, with room for two numbers more than there are basic columns.
+    pub fn new(alloc: Global, rows: Vec<WholeRow>, basis: Vec<usize>, next: Vec<usize>) -> Engine
+        requires { length next.items ≡ length basis.items + 2 }
+        ensures rows { result.rows ≡ rows.items }
+        ensures basis { result.basis ≡ basis.items }
+    {
+        Engine {
+            alloc,
+            rows,
+            basis,
+            next,
+        }
+    }
+
+    pub fn rows(&self) -> &[WholeRow]
+        ensures { result.now ≡ self.now.rows }
+    {
+        self.rows.as_slice()
+    }
+
+    /// The basic column of each row.
+    pub fn basis(&self) -> &[usize]
+        ensures { result.now ≡ self.now.basis }
+    {
+        self.basis.as_slice()
+    }
+
+    fn cost_row(&self) -> &WholeRow
+        requires { length self.now.basis < length self.now.rows }
+        ensures { result.now ≡ row_at self.now.rows (length self.now.basis) }
+    {
+        last_row(self.rows.as_slice(), self.basis.len())
+    }
+
+    // whether the cost row's right side is 0
+    fn is_done(&self) -> bool
+        requires row { length self.now.basis < length self.now.rows }
+        requires place { length self.now.basis < length (row_at self.now.rows (length self.now.basis)).numbers }
+        ensures yes { OnTrue result (right_of (length self.now.basis) self.now.rows (length self.now.basis) ≡ pos 0) }
+        ensures no { OnFalse result (¬ (right_of (length self.now.basis) self.now.rows (length self.now.basis) ≡ pos 0)) }
+    {
+        is_null(self.cost_row().number(self.basis.len()))
+    }
+
+    // the column that enters
+    fn next_column(&self, columns: &[Column]) -> Option<usize>
+        requires { (limit : ℕ) × IsSafe columns.now limit self.now.rows self.now.basis }
+        ensures within { IfSome result (λ c. c < length columns.now) }
+        ensures some { IfSome result (λ c. first_below columns.now (row_at self.now.rows (length self.now.basis)).numbers ≡ c) }
+        ensures none { IfNone result (first_below columns.now (row_at self.now.rows (length self.now.basis)).numbers ≡ length columns.now) }
+    {
+        entering(columns, self.cost_row())
+    }
+
+    // makes one step, if there is one to make; None where a number would be too large, and then nothing is known of the engine
+    fn step(&mut self, columns: &[Column], limit: u64) -> Option<bool>
+        requires { IsSafe columns.now limit self.old.rows self.old.basis }
+        ensures { IfSome result (λ moved. MovesOn columns.now limit self.old.rows self.old.basis self.new.rows self.new.basis moved) }
+    {
+        let Some(column) = self.next_column(columns) else {
+            return Some(false);
+        };
+        let row = leaving(&columns[column], self.rows(), self.basis())?;
+        if pivot(
+            self.alloc,
+            self.rows.as_mut_slice(),
+            &mut self.next,
+            &columns[column],
+            row,
+            limit,
+        ) {
+            self.basis[row] = column;
+            Some(true)
+        } else {
+            None
+        }
+    }
+
+    /// Makes the run with a budget of steps, where the columns are those of the start and the limit bounds the numbers of rows.
+    /// None where a number would be larger: then nothing is known of the engine.
+    pub fn run(&mut self, columns: &[Column], limit: u64, budget: u32) -> Option<EngineEnd>
+        requires { IsSafe columns.now limit self.old.rows self.old.basis }
+        ensures { IfSome result (λ finish. IsFinished columns.now limit self.old.rows self.old.basis budget self.new.rows self.new.basis finish) }
+    {
+        for k in 0..budget {
+            if self.is_done() {
+                return Some(EngineEnd::Weights);
+            }
+            if !self.step(columns, limit)? {
+                return Some(EngineEnd::Point);
+            }
+        }
+        if self.is_done() {
+            return Some(EngineEnd::Weights);
+        }
+        match self.next_column(columns) {
+            Some(_) => Some(EngineEnd::Pivots),
+            None => Some(EngineEnd::Point),
+        }
+    }
+}
+
+#[tactic(auto, using(crate::proofs::Items::read))]
+fn last_row(rows: &[WholeRow], last: usize) -> &WholeRow
+    requires { last < length rows.now }
+    ensures { result.now ≡ row_at rows.now last }
+{
+    &rows[last]
+}
+
+fn is_null(z: i64) -> bool
+    ensures yes { OnTrue result (z ≡ pos 0) }
+    ensures no { OnFalse result (¬ (z ≡ pos 0)) }
+{
+    if z == 0 { true } else { false }
+}

@@ -1,0 +1,20 @@
+//! The run of the simplex method on whole numbers.
+//!
+//! Of a table of fractions the engine keeps the artificial columns and the right side alone, as whole numbers over one
+//! denominator for each row. The entry of any other column in a row is the sum of the column's terms at these numbers. While all
+//! numbers stay below 2^63 in absolute value no step of the exact table is wide, so the engine makes the same run without a test
+//! for it, and gives up where a number would be 2^63 or more.
+#![tactic(auto)]
+
+mod arithmetic;
+mod choice;
+mod columns;
+mod engine;
+mod loading;
+mod numbers;
+mod pivots;
+mod reading;
+mod rows;
+mod whole;
+
+pub use whole::whole_run;

@@ -1,0 +1,266 @@
+//! What a step makes of the numbers of a row.
+ghost use Rattle.std.specs.Prelude.{◌≡◌, ℕ, ◌+◌, ◌*◌, ◌<◌, ◌≤◌, ◌^◌, ◌+ℤ◌, ◌*ℤ◌, neg_ℤ, pos, length, unsigned_abs, SomeIff};
+ghost use Prim.Native.Nat.{◌∣◌};
+ghost use Rattle.std.specs.Bool.{OnTrue};
+ghost use Rattle.std.specs.Option.{IfSome};
+ghost use Rattle.it_engine.specs.Updates.{AreShort, ArePlaces, Divides, IsBound, IsCombined, IsNext};
+ghost use Rattle.it_engine.specs.Whole.{number_at, AreAtMost};
+
+use crate::arithmetic::{combined, common, divided};
+
+#[inline]
+fn read(row: &[i64], k: usize) -> i64
+    requires { k < length row.now }
+    ensures { result ≡ number_at row.now k }
+{
+    row[k]
+}
+
+// the next number at place k
+#[inline]
+fn next_number(row: &[i64], by: &[i64], k: usize, a: i64, b: i64, limit: u64) -> Option<i64>
+    requires k_row { k < length row.now }
+    requires k_by { k < length by.now }
+    requires row { AreShort row.now }
+    requires by { AreShort by.now }
+    requires a { unsigned_abs a < 2 ^ 63 }
+    requires b { unsigned_abs b < 2 ^ 63 }
+    requires limit { limit < 2 ^ 63 }
+    ensures { SomeIff result (unsigned_abs (number_at row.now k *ℤ a +ℤ neg_ℤ (number_at by.now k *ℤ b)) ≤ limit) (number_at row.now k *ℤ a +ℤ neg_ℤ (number_at by.now k *ℤ b)) }
+{
+    combined(read(row, k), a, read(by, k), b, limit)
+}
+
+// as combine, with a test at each number; false where one would be too large, and then nothing is known of them
+fn combine_tested(row: &mut Vec<i64>, by: &[i64], a: i64, b: i64, limit: u64) -> bool
+    requires even { length row.old.items ≡ length by.now }
+    requires row { AreShort row.old.items }
+    requires by { AreShort by.now }
+    requires a { unsigned_abs a < 2 ^ 63 }
+    requires b { unsigned_abs b < 2 ^ 63 }
+    requires limit { limit < 2 ^ 63 }
+    ensures { OnTrue result (IsCombined (length by.now) limit row.old.items by.now a b row.new.items) }
+{
+    for k in 0..row.len() {
+        let Some(number) = next_number(row.as_slice(), by, k, a, b, limit) else {
+            return false;
+        };
+        row[k] = number;
+    }
+    true
+}
+
+/// The greatest absolute value.
+pub fn greatest(row: &[i64]) -> u64
+    ensures { AreAtMost row.now result }
+{
+    let mut most: u64 = 0;
+    for k in 0..row.len() {
+        let size = read(row, k).unsigned_abs();
+        if most < size {
+            most = size;
+        }
+    }
+    most
+}
+
+// x a + y b, where that is at most the limit
+fn sum_within(x: u64, a: u64, y: u64, b: u64, limit: u64) -> Option<u64>
+    ensures { IfSome result (λ s. (s ≡ x * a + y * b) × (s ≤ limit)) }
+{
+    let sum = x.checked_mul(a)?.checked_add(y.checked_mul(b)?)?;
+    if sum <= limit { Some(sum) } else { None }
+}
+
+// a bound on each number times a less another, which is at most y, times b; None where it is above the limit
+fn bound(row: &[i64], most: u64, a: u64, y: u64, b: u64, limit: u64) -> Option<u64>
+    requires most { AreAtMost row.now most }
+    ensures { IfSome result (λ s. IsBound row.now a y b limit s) }
+{
+    match sum_within(most, a, y, b, limit) {
+        Some(sum) => Some(sum),
+        None => sum_within(greatest(row), a, y, b, limit),
+    }
+}
+
+#[inline]
+fn multiplied(x: i64, a: i64) -> i64
+    requires { unsigned_abs (x *ℤ a) < 2 ^ 63 }
+    ensures { result ≡ x *ℤ a }
+{
+    x * a
+}
+
+#[inline]
+fn subtracted(x: i64, y: i64) -> i64
+    requires { unsigned_abs x + unsigned_abs y < 2 ^ 63 }
+    ensures { result ≡ x +ℤ neg_ℤ y }
+{
+    x - y
+}
+
+#[inline]
+fn plain(x: i64, a: i64, y: i64, b: i64) -> i64
+    requires { unsigned_abs (x *ℤ a) + unsigned_abs (y *ℤ b) < 2 ^ 63 }
+    ensures { result ≡ x *ℤ a +ℤ neg_ℤ (y *ℤ b) }
+{
+    subtracted(multiplied(x, a), multiplied(y, b))
+}
+
+#[inline]
+fn plain_number(row: &[i64], by: &[i64], k: usize, a: i64, b: i64) -> i64
+    requires k_row { k < length row.now }
+    requires k_by { k < length by.now }
+    requires bound { unsigned_abs (number_at row.now k *ℤ a) + unsigned_abs (number_at by.now k *ℤ b) < 2 ^ 63 }
+    ensures { result ≡ number_at row.now k *ℤ a +ℤ neg_ℤ (number_at by.now k *ℤ b) }
+{
+    plain(read(row, k), a, read(by, k), b)
+}
+
+#[inline]
+fn less_product(row: &[i64], by: &[i64], k: usize, b: i64) -> i64
+    requires k_row { k < length row.now }
+    requires k_by { k < length by.now }
+    requires bound { unsigned_abs (number_at row.now k) + unsigned_abs (number_at by.now k *ℤ b) < 2 ^ 63 }
+    ensures { result ≡ number_at row.now k +ℤ neg_ℤ (number_at by.now k *ℤ b) }
+{
+    subtracted(read(row, k), multiplied(read(by, k), b))
+}
+
+// the place itself where the row isn't 0 there, else the one found after it
+#[tactic(auto, using(crate::proofs::Places::next_here, crate::proofs::Places::next_null))]
+fn next_place(row: &[i64], k: usize, after: usize) -> usize
+    requires k { k < length row.now }
+    requires after { IsNext row.now (k + 1) after }
+    ensures { IsNext row.now k result }
+{
+    if read(row, k) == 0 { after } else { k }
+}
+
+/// Notes for each place of the row the next one where the row isn't 0.
+pub fn note_places(row: &[i64], next: &mut Vec<usize>)
+    requires { length next.old.items ≡ length row.now + 1 }
+    ensures { ArePlaces row.now next.new.items }
+{
+    let mut k = row.len();
+    next[k] = k;
+    while k > 0 {
+        k -= 1;
+        next[k] = next_place(row, k, next[k + 1]);
+    }
+}
+
+fn multiply_and_subtract(row: &mut Vec<i64>, by: &[i64], a: i64, b: i64)
+    requires even { length row.old.items ≡ length by.now }
+    requires bound { (k : ℕ) → k < length by.now → unsigned_abs (number_at row.old.items k *ℤ a) + unsigned_abs (number_at by.now k *ℤ b) < 2 ^ 63 }
+    ensures length { length row.new.items ≡ length row.old.items }
+    ensures entries { (k : ℕ) → k < length by.now → number_at row.new.items k ≡ number_at row.old.items k *ℤ a +ℤ neg_ℤ (number_at by.now k *ℤ b) }
+{
+    for k in 0..row.len() {
+        row[k] = plain_number(row.as_slice(), by, k, a, b);
+    }
+}
+
+// as combine with the factor 1, where no number needs a test: only the places where the other row isn't 0 change
+fn subtract_times(row: &mut Vec<i64>, by: &[i64], next: &[usize], b: i64)
+    requires even { length row.old.items ≡ length by.now }
+    requires bound { (k : ℕ) → k < length by.now → unsigned_abs (number_at row.old.items k) + unsigned_abs (number_at by.now k *ℤ b) < 2 ^ 63 }
+    requires places { ArePlaces by.now next.now }
+    ensures length { length row.new.items ≡ length row.old.items }
+    ensures entries { (k : ℕ) → k < length by.now → number_at row.new.items k ≡ number_at row.old.items k +ℤ neg_ℤ (number_at by.now k *ℤ b) }
+{
+    let mut k = next[0];
+    while k < row.len() {
+        row[k] = less_product(row.as_slice(), by, k, b);
+        k = next[k + 1];
+    }
+}
+
+// as combine, where no number needs a test
+fn combine_plain(row: &mut Vec<i64>, by: &[i64], next: &[usize], a: i64, b: i64)
+    requires even { length row.old.items ≡ length by.now }
+    requires bound { (k : ℕ) → k < length by.now → unsigned_abs (number_at row.old.items k *ℤ a) + unsigned_abs (number_at by.now k *ℤ b) < 2 ^ 63 }
+    requires places { ArePlaces by.now next.now }
+    ensures length { length row.new.items ≡ length row.old.items }
+    ensures entries { (k : ℕ) → k < length by.now → number_at row.new.items k ≡ number_at row.old.items k *ℤ a +ℤ neg_ℤ (number_at by.now k *ℤ b) }
+{
+    if a == 1 {
+        subtract_times(row, by, next, b);
+    } else {
+        multiply_and_subtract(row, by, a, b);
+    }
+}
+
+/// The numbers times a, less those of another row times b, with a bound on them, where most and most_by are bounds on the numbers
+/// of the two, and next has the next places where the other row isn't 0. None where one would be larger than the limit: then nothing is known of them.
+pub fn combine(
+    row: &mut Vec<i64>,
+    by: &[i64],
+    next: &[usize],
+    a: i64,
+    b: i64,
+    most: u64,
+    most_by: u64,
+    limit: u64,
+) -> Option<u64>
+    requires even { length row.old.items ≡ length by.now }
+    requires row { AreShort row.old.items }
+    requires by { AreShort by.now }
+    requires places { ArePlaces by.now next.now }
+    requires most { AreAtMost row.old.items most }
+    requires most_by { AreAtMost by.now most_by }
+    requires a { unsigned_abs a < 2 ^ 63 }
+    requires b { unsigned_abs b < 2 ^ 63 }
+    requires limit { limit < 2 ^ 63 }
+    ensures combined { IfSome result (λ m. IsCombined (length by.now) limit row.old.items by.now a b row.new.items) }
+    ensures most { IfSome result (λ m. AreAtMost row.new.items m) }
+{
+    match bound(
+        row.as_slice(),
+        most,
+        a.unsigned_abs(),
+        most_by,
+        b.unsigned_abs(),
+        limit,
+    ) {
+        Some(sum) => {
+            combine_plain(row, by, next, a, b);
+            Some(sum)
+        }
+        None => {
+            if combine_tested(row, by, a, b, limit) {
+                Some(limit)
+            } else {
+                None
+            }
+        }
+    }
+}
+
+/// The greatest common divisor of the numbers and the denominator
+pub fn divisor(row: &[i64], bottom: u64) -> u64
+    requires { 0 < bottom }
+    ensures numbers { Divides result row.now }
+    ensures bottom { result ∣ bottom }
+{
+    let mut shared = bottom;
+    for k in 0..row.len() {
+        if shared == 1 {
+            return 1;
+        }
+        shared = common(read(row, k).unsigned_abs(), shared);
+    }
+    shared
+}
+
+/// Divides the numbers by a common divisor.
+pub fn divide(row: &mut Vec<i64>, shared: u64)
+    requires row { AreShort row.old.items }
+    requires divides { Divides shared row.old.items }
+    ensures length { length row.new.items ≡ length row.old.items }
+    ensures entries { (k : ℕ) → k < length row.old.items → number_at row.new.items k *ℤ pos shared ≡ number_at row.old.items k }
+{
+    for k in 0..row.len() {
+        row[k] = divided(read(row.as_slice(), k), shared);
+    }
+}

@@ -1,0 +1,122 @@
+//! What is read off the engine at the end of a run.
+ghost use Rattle.std.specs.Prelude.{◌≡◌, ◌≢◌, ◌+◌, ◌<◌, ◌++◌, ◌∷◌, [], ℕ, false, pos, cond, length, slice_index_or, IfOk, OnOk};
+ghost use Rattle.std.specs.Bool.{OnFalse, OnTrue};
+ghost use Rattle.std.specs.Option.{IfNone, IfSome};
+ghost use Rattle.it_rational.specs.Rational.{minus, quotient, times, whole};
+ghost use Rattle.it_tableau.specs.TableauViews.{height};
+ghost use Rattle.it_engine.specs.Choosing.{right_of};
+ghost use Rattle.it_engine.specs.Engine.{IsSafe};
+ghost use Rattle.it_engine.specs.Ends.{AreWeightsOf, IsPointOf, IsWeightOf};
+ghost use Rattle.it_engine.specs.Whole.{number_at, row_at};
+
+use crate::columns::Column;
+use crate::rows::WholeRow;
+use it_fraction::Fraction;
+use it_tableau::Tableau;
+use std::alloc::{AllocError, Global};
+
+fn fraction(row: &WholeRow, k: usize) -> Fraction
+    requires place { k < length row.now.numbers }
+    requires some { 0 < row.now.bottom }
+    ensures { result ≡ quotient (number_at row.now.numbers k) row.now.bottom }
+{
+    Fraction::lowest(i128::from(row.number(k)), i128::from(row.bottom()))
+}
+
+fn fraction_at(rows: &[WholeRow], i: usize, k: usize) -> Fraction
+    requires row { i < length rows.now }
+    requires place { k < length (row_at rows.now i).numbers }
+    requires some { 0 < (row_at rows.now i).bottom }
+    ensures { result ≡ quotient (right_of k rows.now i) (row_at rows.now i).bottom }
+{
+    fraction(&rows[i], k)
+}
+
+// the right side of the row whose basic column is j
+fn weight_of(rows: &[WholeRow], basis: &[usize], j: usize) -> Option<Fraction>
+    requires { (limit : ℕ) × IsSafe [] limit rows.now basis.now }
+    ensures some { IfSome result (λ w. IsWeightOf rows.now basis.now j w) }
+    ensures none { IfNone result ((i : ℕ) → i < length basis.now → slice_index_or basis.now i 0 ≢ j) }
+{
+    for i in 0..basis.len() {
+        if basis[i] == j {
+            return Some(fraction_at(rows, i, basis.len()));
+        }
+    }
+    None
+}
+
+fn append(
+    weights: &mut Vec<(usize, Fraction)>,
+    j: usize,
+    weight: Fraction,
+) -> Result<(), AllocError>
+    ensures { OnOk result (weights.new.items ≡ weights.old.items ++ (j, weight) ∷ []) }
+{
+    weights.push((j, weight))?;
+    Ok(())
+}
+
+#[tactic(auto, using(crate::proofs::Readings::null_from_top, crate::proofs::Readings::top_from_null))]
+fn is_null(value: Fraction) -> bool
+    ensures yes { OnTrue result (value ≡ whole (pos 0)) }
+    ensures no { OnFalse result (¬ (value ≡ whole (pos 0))) }
+{
+    if value.is_zero() { true } else { false }
+}
+
+/// The weights other than 0, by column.
+pub fn weights(
+    alloc: Global,
+    columns: &[Column],
+    rows: &[WholeRow],
+    basis: &[usize],
+) -> Result<Vec<(usize, Fraction)>, AllocError>
+    requires { (limit : ℕ) × IsSafe columns.now limit rows.now basis.now }
+    ensures { IfOk result (λ out. AreWeightsOf columns.now rows.now basis.now out.items) }
+{
+    let mut out = Vec::new(alloc);
+    for j in 0..columns.len() {
+        if let Some(weight) = weight_of(rows, basis, j) {
+            if !is_null(weight) {
+                append(&mut out, j, weight)?;
+            }
+        }
+    }
+    Ok(out)
+}
+
+#[tactic(auto, using(crate::proofs::Readings::sign_below, crate::proofs::Readings::sign_above))]
+fn is_negated(tableau: &Tableau, k: usize) -> bool
+    requires usable { tableau.now.spent ≡ false }
+    requires row { k < height tableau.now }
+    ensures { result ≡ slice_index_or tableau.now.negated k false }
+{
+    if tableau.sign(k) < 0 { true } else { false }
+}
+
+fn signed_value(value: Fraction, negated: bool) -> Fraction
+    ensures { result ≡ times (cond negated (minus (whole (pos 1))) (whole (pos 1))) value }
+{
+    if negated { value.neg() } else { value }
+}
+
+/// The point, by rows, with the signs of the start.
+pub fn point(
+    alloc: Global,
+    first: &Tableau,
+    rows: &[WholeRow],
+    basis: &[usize],
+) -> Result<Vec<Fraction>, AllocError>
+    requires usable { first.now.spent ≡ false }
+    requires height { length basis.now ≡ height first.now }
+    requires engine { (limit : ℕ) × IsSafe [] limit rows.now basis.now }
+    ensures { IfOk result (λ out. IsPointOf first.now rows.now basis.now out.items) }
+{
+    let mut out = Vec::with_capacity(alloc, basis.len())?;
+    for k in 0..basis.len() {
+        let cost = fraction_at(rows, basis.len(), k);
+        out.push(signed_value(cost, is_negated(first, k)))?;
+    }
+    Ok(out)
+}

@@ -1,0 +1,203 @@
+//! Rows of whole numbers over one denominator.
+ghost use Rattle.std.specs.Prelude.{◌≡◌, ◌+◌, ◌<◌, ◌^◌, ◌≤ℤ◌, unsigned_abs, length, pos};
+ghost use Rattle.std.specs.Bool.{OnTrue};
+ghost use Rattle.it_engine.specs.Whole.{number_at};
+ghost use Rattle.it_engine.specs.Updates.{ArePlaces, AreShort, IsFitting, IsLess, IsQuotient, IsShortened, IsUpdated, IsUsable};
+
+use crate::arithmetic::{common, divided, scaled};
+use crate::columns::Column;
+use crate::numbers::{combine, divide, divisor, greatest, note_places};
+use std::alloc::Global;
+use std::marker::Model;
+
+/// Whole numbers over one denominator, not in lowest terms.
+#[derive(Drop)]
+pub struct WholeRow {
+    numbers: Vec<i64>,
+    bottom: u64,
+    // no number is greater in absolute value; kept, so that a step mostly needs no pass over the numbers for it
+    most: u64,
+}
+
+impl Model for WholeRow {
+    ghost use Rattle.it_engine.specs.Whole.{AreAtMost, WholeRowView};
+
+    ghost Value = { WholeRowView };
+
+    ghost view = { λ r. record { numbers = r.numbers.items; bottom = r.bottom } };
+
+    ghost invariant = { λ r. AreAtMost r.numbers.items r.most };
+}
+
+impl WholeRow {
+    /// A row of whole numbers.
+    pub fn of(numbers: Vec<i64>) -> WholeRow
+        ensures numbers { result.numbers ≡ numbers.items }
+        ensures bottom { result.bottom ≡ 1 }
+    {
+        let most = greatest(numbers.as_slice());
+        WholeRow {
+            numbers,
+            bottom: 1,
+            most,
+        }
+    }
+
+    /// A row without numbers. It takes no memory.
+    pub fn empty(alloc: Global) -> WholeRow {
+        WholeRow {
+            numbers: Vec::new(alloc),
+            bottom: 1,
+            most: 0,
+        }
+    }
+
+    #[inline]
+    pub fn number(&self, k: usize) -> i64
+        requires { k < length self.now.numbers }
+        ensures { result ≡ number_at self.now.numbers k }
+    {
+        self.numbers[k]
+    }
+
+    /// The denominator.
+    pub fn bottom(&self) -> u64
+        ensures { result ≡ self.now.bottom }
+    {
+        self.bottom
+    }
+
+    /// What stands for 1 in the row: its denominator.
+    pub fn unit(&self) -> i64
+        requires { self.now.bottom < 2 ^ 63 }
+        ensures { result ≡ pos self.now.bottom }
+    {
+        self.bottom as i64
+    }
+
+    /// Notes for each place the next one where the row isn't 0.
+    pub fn note_places(&self, next: &mut Vec<usize>)
+        requires { length next.old.items ≡ length self.now.numbers + 1 }
+        ensures { ArePlaces self.now.numbers next.new.items }
+    {
+        note_places(self.numbers.as_slice(), next);
+    }
+
+    // the same row, with an exact bound on its numbers
+    fn tightened(self) -> WholeRow
+        ensures { result ≡ self }
+    {
+        let most = greatest(self.numbers.as_slice());
+        WholeRow {
+            numbers: self.numbers,
+            bottom: self.bottom,
+            most,
+        }
+    }
+
+    // the same row over the least denominator
+    fn shorten(&mut self)
+        requires some { 0 < self.old.bottom }
+        requires short { AreShort self.old.numbers }
+        ensures { IsShortened self.old self.new }
+    {
+        let shared = divisor(self.numbers.as_slice(), self.bottom);
+        if shared == 1 {
+            return;
+        }
+        divide(&mut self.numbers, shared);
+        self.bottom /= shared;
+        self.most = greatest(self.numbers.as_slice());
+    }
+
+    // takes off as much of the leaving row as makes the entry at the column 0; false where a number would be too large, and then
+    // nothing is known of the row
+    fn reduce(&mut self, own: &WholeRow, next: &[usize], entry: i64, pivot: i64, limit: u64) -> bool
+        requires row { IsUsable (length own.now.numbers) limit self.old }
+        requires own { IsUsable (length own.now.numbers) limit own.now }
+        requires places { ArePlaces own.now.numbers next.now }
+        requires entry { unsigned_abs entry < 2 ^ 63 }
+        requires pivot { pos 1 ≤ℤ pivot }
+        requires limit { limit < 2 ^ 63 }
+        ensures less { OnTrue result (IsLess (length own.now.numbers) limit self.old own.now entry pivot self.new) }
+        ensures usable { OnTrue result (IsUsable (length own.now.numbers) limit self.new) }
+    {
+        let shared = common(pivot.unsigned_abs(), entry.unsigned_abs());
+        let a = divided(pivot, shared);
+        let b = divided(entry, shared);
+        let Some(bottom) = scaled(self.bottom, a.unsigned_abs()) else {
+            return false;
+        };
+        match combine(
+            &mut self.numbers,
+            own.numbers.as_slice(),
+            next,
+            a,
+            b,
+            self.most,
+            own.most,
+            limit,
+        ) {
+            Some(most) => {
+                self.bottom = bottom;
+                self.most = most;
+                true
+            }
+            None => {
+                self.most = greatest(self.numbers.as_slice());
+                false
+            }
+        }
+    }
+
+    /// The row after a step in which another row leaves, whose entry at the column is the pivot; false where a number would be
+    /// larger than the limit, and then nothing is known of the row. Next has the next places where the leaving row isn't 0.
+    pub fn update(
+        &mut self,
+        own: &WholeRow,
+        next: &[usize],
+        column: &Column,
+        pivot: i64,
+        limit: u64,
+    ) -> bool
+        requires row { IsUsable (length own.now.numbers) limit self.old }
+        requires own { IsUsable (length own.now.numbers) limit own.now }
+        requires places { ArePlaces own.now.numbers next.now }
+        requires column { IsFitting (length own.now.numbers) limit column.now }
+        requires pivot { pos 1 ≤ℤ pivot }
+        requires limit { limit < 2 ^ 63 }
+        ensures { OnTrue result (IsUpdated (length own.now.numbers) limit self.old own.now column.now pivot self.new) }
+    {
+        let entry = column.price(self);
+        if entry == 0 {
+            return true;
+        }
+        if !self.reduce(own, next, entry, pivot, limit) {
+            return false;
+        }
+        if is_large(self.bottom) {
+            self.shorten();
+        }
+        true
+    }
+
+    /// The leaving row after a step: it is divided by its entry at the column, over the least denominator.
+    pub fn divided_by(self, pivot: i64) -> WholeRow
+        requires pivot { pos 1 ≤ℤ pivot }
+        requires short { AreShort self.numbers }
+        ensures { IsQuotient self pivot result }
+    {
+        let mut row = WholeRow {
+            numbers: self.numbers,
+            bottom: pivot.unsigned_abs(),
+            most: self.most,
+        };
+        row.shorten();
+        row.tightened()
+    }
+}
+
+// A gcd of a whole row is dear, so that a row gets its least denominator only where the one it has is large.
+fn is_large(bottom: u64) -> bool {
+    bottom > 1 << 16
+}

@@ -1,0 +1,43 @@
+-- From a run on a tableau to its answer.
+use Rattle.std.proofs.Common.{◌≡◌, ℕ, pos, Bool, false, cond, List, slice_index_or, Result, Ok, Err, sym, ap, ap₂, subst, ◌∙◌, arith}
+use Rattle.std.specs.Result.{IfOk}
+use Rattle.it_rational.specs.Rational.{Rational, whole, minus}
+use Rattle.it_rational.proofs.RationalLaws.{ring_ℚ}
+use Rattle.it_rational.proofs.Field.{order_ℚ}
+use Rattle.it_tableau.specs.Invariants.{HasInvariants}
+use Rattle.it_tableau.specs.TableauViews.{TableauView, height, table, KeepsFrame}
+use Rattle.it_tableau.specs.Tables.{Table, FeasibilityProblem}
+use Rattle.it_tableau.proofs.StartLemmas.{started}
+use Rattle.it_run.specs.Answers.{HasProblem, HasSigns}
+use Rattle.it_run.specs.Choice.{next, IsDone, IsStuck}
+use Rattle.it_run.specs.Readings.{weights, point}
+use Rattle.it_run.specs.Runs.{RunEndView}
+use Rattle.it_run.specs.Runs.RunEndView.{Weights, Point}
+use Rattle.it_run.specs.Solving.{RunsTo, StepFits}
+use Rattle.it_run.specs.Steps.{HoldsSome, Reaches}
+use Rattle.it_run.proofs.RunLemmas.{read, read_end}
+
+-- the run with what is read off its last table
+pub read_run : (m n : ℕ) (p : FeasibilityProblem Rational) (steps : ℕ) (t : Table Rational) (e : RunEndView (Table Rational) (Table Rational)) → Reaches m n steps 0 t e
+    → RunsTo m n p steps 0 t (read (IsDone ring_ℚ order_ℚ m n) (IsStuck ring_ℚ order_ℚ m n) (StepFits m n) (next ring_ℚ order_ℚ m n) (weights ring_ℚ order_ℚ m n) (point ring_ℚ order_ℚ m n p) e)
+read_run m n p steps t e r = read_end (IsDone ring_ℚ order_ℚ m n) (IsStuck ring_ℚ order_ℚ m n) (StepFits m n) (next ring_ℚ order_ℚ m n) (weights ring_ℚ order_ℚ m n) (point ring_ℚ order_ℚ m n p) steps 0 t e r
+
+module _ (old new : TableauView) (p : FeasibilityProblem Rational) (steps : ℕ) where
+  pub by_weights : (ws : List (ℕ × Rational)) → KeepsFrame old new → Reaches (height old) old.generators steps 0 (table old) (Weights (table new))
+      → ws ≡ weights ring_ℚ order_ℚ (height new) new.generators (table new) → RunsTo (height old) old.generators p steps 0 (table old) (Weights ws)
+  by_weights ws f r e = subst (λ (ws : List (ℕ × Rational)). RunsTo (height old) old.generators p steps 0 (table old) (Weights ws))
+      (sym (e ∙ ap₂ (λ m n. weights ring_ℚ order_ℚ m n (table new)) f.height f.generators)) (read_run (height old) old.generators p steps (table old) (Weights (table new)) r)
+
+  pub by_point : (q : List Rational) → KeepsFrame old new → HasSigns old p → Reaches (height old) old.generators steps 0 (table old) (Point (table new))
+      → (HasSigns new p → q ≡ point ring_ℚ order_ℚ (height new) new.generators p (table new)) → RunsTo (height old) old.generators p steps 0 (table old) (Point q)
+  by_point q f s r e = subst (λ (q : List Rational). RunsTo (height old) old.generators p steps 0 (table old) (Point q))
+      (sym (e (λ k l. ap (λ (b : List Bool). cond (slice_index_or b k false) (minus (whole (pos 1))) (whole (pos 1))) f.negated ∙ s k (omega (arith, f.height, l)))
+      ∙ ap₂ (λ m n. point ring_ℚ order_ℚ m n p (table new)) f.height f.generators)) (read_run (height old) old.generators p steps (table old) (Point (table new)) r)
+
+-- a start has the invariants
+pub holds_start : (t : TableauView) → HasProblem t → HoldsSome t
+holds_start t s = (s.0, subst (λ (x : Table Rational). HasInvariants ring_ℚ order_ℚ (height t) t.generators s.0 x) (sym s.1.table_is) (started ring_ℚ order_ℚ (height t) t.generators s.0))
+
+pub if_ok : {X E : Type 0} (r : Result X E) (P Q : X → Type 0) → IfOk r P → ((x : X) → P x → Q x) → IfOk r Q
+if_ok (Ok x) P Q h f = f x h
+if_ok (Err e) P Q h f = tt

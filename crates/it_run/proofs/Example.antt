@@ -1,0 +1,51 @@
+-- A worked run: on the coordinates h(X), h(Y), h(X,Y) with the columns H(X|Y), H(Y|X), I(X;Y) and the target h(X) - h(X,Y),
+-- columns 2 and 0 enter by rows 1 and 0, and the run ends by the point (0, 1, 1).
+use Rattle.std.proofs.Common.{◌≡◌, ℕ, pos, negsuc, List, [], ◌∷◌, refl, map}
+use Rattle.it_number.specs.Gcd.{gcd, gcd_within}
+use Rattle.it_rational.specs.Rational.{Rational, quotient}
+use Rattle.it_rational.proofs.RationalLaws.{ring_ℚ}
+use Rattle.it_rational.proofs.Field.{order_ℚ}
+use Rattle.it_space.specs.Rows.{Terms}
+use Rattle.it_tableau.specs.Tables.{Table}
+use Rattle.it_tableau.specs.Problems.{feasibility_problem, start_of}
+use Rattle.it_run.specs.Choice.{entering, leaving, next}
+use Rattle.it_run.specs.Readings.{point}
+
+abbrev coordinates : List ℕ
+coordinates = 1 ∷ 2 ∷ 3 ∷ []
+
+-- the column that enters and the row that leaves
+abbrev choice : Table Rational → ℕ × ℕ
+choice t = (entering ring_ℚ order_ℚ 3 3 t, leaving ring_ℚ order_ℚ 3 3 t (entering ring_ℚ order_ℚ 3 3 t))
+
+abbrev after : Table Rational → Table Rational
+after = next ring_ℚ order_ℚ 3 3
+
+abbrev elementals : List Terms
+elementals = ((2, negsuc 0) ∷ (3, pos 1) ∷ []) ∷ ((1, negsuc 0) ∷ (3, pos 1) ∷ []) ∷ ((1, pos 1) ∷ (2, pos 1) ∷ (3, negsuc 0) ∷ []) ∷ []
+
+abbrev target : Terms
+target = (1, pos 1) ∷ (3, negsuc 0) ∷ []
+
+abbrev first : Table Rational
+first = start_of coordinates elementals target
+
+first_choice : choice first ≡ (2, 1)
+unfolding quotient gcd gcd_within
+first_choice = refl
+
+second_choice : choice (after first) ≡ (0, 0)
+unfolding quotient gcd gcd_within
+second_choice = refl
+
+last_column : entering ring_ℚ order_ℚ 3 3 (after (after first)) ≡ 3
+unfolding quotient gcd gcd_within
+last_column = refl
+
+last_right : ((after (after first)).entry 3 6).num ≡ negsuc 0
+unfolding quotient gcd gcd_within
+last_right = refl
+
+last_point : map (λ q. q.num) (point ring_ℚ order_ℚ 3 3 (feasibility_problem coordinates elementals target) (after (after first))) ≡ pos 0 ∷ pos 1 ∷ pos 1 ∷ []
+unfolding quotient gcd gcd_within
+last_point = refl

@@ -1,0 +1,10 @@
+pub mod BlandRule
+pub mod Ends
+pub mod RunLemmas
+pub mod Reading
+pub mod Example
+pub mod SearchLemmas
+pub mod RunSteps
+pub mod FillingLemmas
+pub mod AnswerLemmas
+pub mod RowValues

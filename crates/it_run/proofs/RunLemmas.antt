@@ -1,0 +1,126 @@
+-- A run has one end, and what its steps keep holds there.
+use Rattle.std.proofs.Common.{ap, List, ◌≡◌, ◌⊎◌, inl, inr, ℕ, zero, suc, ◌+◌, ◌<◌, ◌≤◌, refl, sym, ◌∙◌, subst, arith}
+use Rattle.it_number.specs.Rings.{Ring}
+use Rattle.it_rational.specs.OrderedFields.{Order}
+use Rattle.it_tableau.specs.Tables.{Table, FeasibilityProblem, start}
+use Rattle.it_tableau.specs.Invariants.{HasInvariants}
+use Rattle.it_tableau.proofs.Kept.{kept}
+use Rattle.it_tableau.proofs.StartLemmas.{started}
+use Rattle.it_run.specs.Choice.{next, entering, leaving, IsDone, IsStuck}
+use Rattle.it_run.specs.Readings.{weights, point, SumsUp, Separates}
+use Rattle.it_run.specs.Runs.{RunEndView, EndsAs}
+use Rattle.it_run.specs.Runs.RunEndView.{Weights, Point, Pivots, Width}
+use Rattle.it_run.proofs.BlandRule.{entering_is, some_column, leaving_is, may_enter}
+use Rattle.it_run.proofs.Ends.{weights_right, point_right}
+
+module _ {S W P : Type 0} (IsDone IsStuck Fits : S → Type 0) (next : S → S) (weights : S → W) (point : S → P) where
+  abbrev Run : ℕ → ℕ → S → RunEndView W P → Type 0
+  Run = EndsAs IsDone IsStuck Fits next weights point
+
+  -- a run has one end
+  pub one_end : (left k : ℕ) (s : S) (d e : RunEndView W P) → Run left k s d → Run left k s e → d ≡ e
+  one_end zero k s d e (inl p) (inl q) = p.1 ∙ sym q.1
+  one_end zero k s d e (inl p) (inr (inl q)) = absurd (q.0 p.0)
+  one_end zero k s d e (inl p) (inr (inr q)) = absurd (q.0 p.0)
+  one_end zero k s d e (inr (inl p)) (inl q) = absurd (p.0 q.0)
+  one_end zero k s d e (inr (inl p)) (inr (inl q)) = p.2 ∙ sym q.2
+  one_end zero k s d e (inr (inl p)) (inr (inr q)) = absurd (q.1 p.1)
+  one_end zero k s d e (inr (inr p)) (inl q) = absurd (p.0 q.0)
+  one_end zero k s d e (inr (inr p)) (inr (inl q)) = absurd (p.1 q.1)
+  one_end zero k s d e (inr (inr p)) (inr (inr q)) = p.2 ∙ sym q.2
+  one_end (suc left) k s d e (inl p) (inl q) = p.1 ∙ sym q.1
+  one_end (suc left) k s d e (inl p) (inr (inl q)) = absurd (q.0 p.0)
+  one_end (suc left) k s d e (inl p) (inr (inr q)) = absurd (q.0 p.0)
+  one_end (suc left) k s d e (inr (inl p)) (inl q) = absurd (p.0 q.0)
+  one_end (suc left) k s d e (inr (inl p)) (inr (inl q)) = p.2 ∙ sym q.2
+  one_end (suc left) k s d e (inr (inl p)) (inr (inr q)) = absurd (q.1 p.1)
+  one_end (suc left) k s d e (inr (inr p)) (inl q) = absurd (p.0 q.0)
+  one_end (suc left) k s d e (inr (inr p)) (inr (inl q)) = absurd (p.1 q.1)
+  one_end (suc left) k s d e (inr (inr p)) (inr (inr q)) = last p.2 q.2 (λ a b. one_end left (suc k) (next s) d e a b)
+    where
+      last : ((¬ (Fits s) × (d ≡ Width (suc k))) ⊎ (Fits s × Run left (suc k) (next s) d))
+          → ((¬ (Fits s) × (e ≡ Width (suc k))) ⊎ (Fits s × Run left (suc k) (next s) e))
+          → (Run left (suc k) (next s) d → Run left (suc k) (next s) e → d ≡ e) → d ≡ e
+      last (inl a) (inl b) ih = a.1 ∙ sym b.1
+      last (inl a) (inr b) ih = absurd (a.0 b.0)
+      last (inr a) (inl b) ih = absurd (b.0 a.0)
+      last (inr a) (inr b) ih = ih a.1 b.1
+
+  -- where a run's end comes from, if each step keeps I
+  module _ (I : S → Type 0) where
+    abbrev pub Comes : ℕ → ℕ → RunEndView W P → Type 0
+    Comes left k (Weights w) = (s : S) × I s × IsDone s × (w ≡ weights s)
+    Comes left k (Point q) = (s : S) × I s × ¬ (IsDone s) × IsStuck s × (q ≡ point s)
+    Comes left k (Pivots j) = j ≡ k + left
+    Comes left k (Width j) = (k < j) × (j ≤ k + left)
+
+    came : (left k : ℕ) (s : S) (d e : RunEndView W P) → e ≡ d → Comes left k d → Comes left k e
+    came left k s d e q c = subst (Comes left k) (sym q) c
+
+    further : (left k : ℕ) (e : RunEndView W P) → Comes left (suc k) e → Comes (suc left) k e
+    further left k (Weights w) c = c
+    further left k (Point q) c = c
+    further left k (Pivots j) c = omega arith
+    further left k (Width j) c = (omega (arith, c.0), omega (arith, c.1))
+
+    pub comes : ((s : S) → I s → ¬ (IsDone s) → ¬ (IsStuck s) → I (next s)) → (left k : ℕ) (s : S) (e : RunEndView W P) → I s → Run left k s e → Comes left k e
+    comes keeps zero k s e i (inl p) = came zero k s (Weights (weights s)) e p.1 (s, i, p.0, refl)
+    comes keeps zero k s e i (inr (inl p)) = came zero k s (Point (point s)) e p.2 (s, i, p.0, p.1, refl)
+    comes keeps zero k s e i (inr (inr p)) = came zero k s (Pivots k) e p.2 (omega arith)
+    comes keeps (suc left) k s e i (inl p) = came (suc left) k s (Weights (weights s)) e p.1 (s, i, p.0, refl)
+    comes keeps (suc left) k s e i (inr (inl p)) = came (suc left) k s (Point (point s)) e p.2 (s, i, p.0, p.1, refl)
+    comes keeps (suc left) k s e i (inr (inr p)) = last p.2 (λ r. comes keeps left (suc k) (next s) e (keeps s i p.0 p.1) r)
+      where
+        last : ((¬ (Fits s) × (e ≡ Width (suc k))) ⊎ (Fits s × Run left (suc k) (next s) e)) → (Run left (suc k) (next s) e → Comes left (suc k) e) → Comes (suc left) k e
+        last (inl a) ih = came (suc left) k s (Width (suc k)) e a.1 (omega arith, omega arith)
+        last (inr a) ih = further left k e (ih a.1)
+
+module _ {A : Type 0} (R : Ring A) (O : Order R) (m n : ℕ) where
+  -- a step of the run keeps what every table keeps
+  pub next_holds : (p : FeasibilityProblem A) (t : Table A) → HasInvariants R O m n p t → ¬ (IsStuck R O m n t) → HasInvariants R O m n p (next R O m n t)
+  next_holds p t h s =
+      let e = entering_is R O m n t (some_column R O m n t s) in
+      let l = leaving_is R O m n p t (entering R O m n t) h e.below in
+      kept R O m n p t (leaving R O m n t (entering R O m n t)) (entering R O m n t) h (may_enter R O m n t (entering R O m n t) (leaving R O m n t (entering R O m n t)) e l)
+
+-- what is read off the last table of a run
+module _ {S W P : Type 0} (IsDone IsStuck Fits : S → Type 0) (next : S → S) (weights : S → W) (point : S → P) where
+  abbrev pub read : RunEndView S S → RunEndView W P
+  read (Weights s) = Weights (weights s)
+  read (Point s) = Point (point s)
+  read (Pivots k) = Pivots k
+  read (Width k) = Width k
+
+  pub read_end : (left k : ℕ) (s : S) (e : RunEndView S S) → EndsAs IsDone IsStuck Fits next (λ s. s) (λ s. s) left k s e → EndsAs IsDone IsStuck Fits next weights point left k s (read e)
+  read_end zero k s e (inl p) = inl (p.0, ap read p.1)
+  read_end zero k s e (inr (inl p)) = inr (inl (p.0, p.1, ap read p.2))
+  read_end zero k s e (inr (inr p)) = inr (inr (p.0, p.1, ap read p.2))
+  read_end (suc left) k s e (inl p) = inl (p.0, ap read p.1)
+  read_end (suc left) k s e (inr (inl p)) = inr (inl (p.0, p.1, ap read p.2))
+  read_end (suc left) k s e (inr (inr p)) = inr (inr (p.0, p.1, last p.2 (λ r. read_end left (suc k) (next s) e r)))
+    where
+      last : ((¬ (Fits s) × (e ≡ Width (suc k))) ⊎ (Fits s × EndsAs IsDone IsStuck Fits next (λ s. s) (λ s. s) left (suc k) (next s) e))
+          → (EndsAs IsDone IsStuck Fits next (λ s. s) (λ s. s) left (suc k) (next s) e → EndsAs IsDone IsStuck Fits next weights point left (suc k) (next s) (read e))
+          → ((¬ (Fits s) × (read e ≡ Width (suc k))) ⊎ (Fits s × EndsAs IsDone IsStuck Fits next weights point left (suc k) (next s) (read e)))
+      last (inl a) ih = inl (a.0, ap read a.1)
+      last (inr a) ih = inr (a.0, ih a.1)
+
+module _ {A : Type 0} (R : Ring A) (O : Order R) (m n : ℕ) where
+  abbrev pub EndIsRight : FeasibilityProblem A → RunEndView (List (ℕ × A)) (List A) → Type 0
+  EndIsRight p (Weights ws) = SumsUp R O m n p ws
+  EndIsRight p (Point q) = Separates R O m n p q
+  EndIsRight p (Pivots j) = Unit {0}
+  EndIsRight p (Width j) = Unit {0}
+
+  -- the end of a run from the start is right
+  pub run_right : (Fits : Table A → Type 0) (p : FeasibilityProblem A) (budget : ℕ) (e : RunEndView (List (ℕ × A)) (List A))
+      → EndsAs (IsDone R O m n) (IsStuck R O m n) Fits (next R O m n) (weights R O m n) (point R O m n p) budget zero (start R O m n p) e → EndIsRight p e
+  run_right Fits p budget e r = for_each e
+      (comes (IsDone R O m n) (IsStuck R O m n) Fits (next R O m n) (weights R O m n) (point R O m n p) (HasInvariants R O m n p)
+      (λ t h d s. next_holds R O m n p t h s) budget zero (start R O m n p) e (started R O m n p) r)
+    where
+      for_each : (e : RunEndView (List (ℕ × A)) (List A)) → Comes (IsDone R O m n) (IsStuck R O m n) Fits (next R O m n) (weights R O m n) (point R O m n p) (HasInvariants R O m n p) budget zero e → EndIsRight p e
+      for_each (Weights w) c = subst (SumsUp R O m n p) (sym c.3) (weights_right R O m n p c.0 c.1 c.2)
+      for_each (Point w) c = subst (Separates R O m n p) (sym c.4) (point_right R O m n p c.0 c.1 c.2 c.3)
+      for_each (Pivots j) c = tt
+      for_each (Width j) c = tt

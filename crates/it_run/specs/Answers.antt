@@ -1,0 +1,40 @@
+-- What the answer of a run from a start says.
+use Rattle.std.specs.Prelude.{◌≡◌, ℕ, ◌<◌, false, cond, pos, List, slice_index_or}
+use Rattle.it_rational.specs.Rational.{Rational, whole, minus}
+use Rattle.it_rational.proofs.RationalLaws.{ring_ℚ}
+use Rattle.it_rational.proofs.Field.{order_ℚ}
+use Rattle.it_tableau.specs.TableauViews.{TableauView, height, table}
+use Rattle.it_tableau.specs.Tables.{FeasibilityProblem, sign, start}
+use Rattle.it_run.specs.Runs.{RunEndView}
+use Rattle.it_run.specs.Runs.RunEndView.{Weights, Point, Pivots, Width}
+use Rattle.it_run.specs.Solving.{RunsTo}
+use Rattle.it_run.specs.declared.answering.Solved.{Solved}
+use Rattle.it_run.specs.declared.answering.Solved.TheVariants as solved
+
+-- the end of the run that it tells
+abbrev pub solved_end : Solved → RunEndView (List (ℕ × Rational)) (List Rational)
+solved_end (solved.Weights ws) = Weights ws.items
+solved_end (solved.Point q) = Point q.items
+solved_end (solved.Pivots k) = Pivots k
+solved_end (solved.Width k) = Width k
+
+-- the sign of a row as a number
+abbrev pub sign_number : TableauView → ℕ → Rational
+sign_number t k = cond (slice_index_or t.negated k false) (minus (whole (pos 1))) (whole (pos 1))
+
+-- a problem whose rows were negated as the tableau's
+abbrev pub HasSigns : TableauView → FeasibilityProblem Rational → Type 0
+HasSigns t p = (k : ℕ) → k < height t → sign_number t k ≡ sign ring_ℚ order_ℚ p k
+
+-- the tableau is the start of the problem
+pub record IsStartOf (p : FeasibilityProblem Rational) (t : TableauView) : Type 0 where
+  pub table_is : table t ≡ start ring_ℚ order_ℚ (height t) t.generators p
+  pub signs : HasSigns t p
+
+-- it is the start of some problem
+abbrev pub HasProblem : TableauView → Type 0
+HasProblem t = (p : FeasibilityProblem Rational) × IsStartOf p t
+
+-- the answer tells the end of the run from the tableau, whichever problem it is the start of
+abbrev pub RunsFrom : TableauView → ℕ → Solved → Type 0
+RunsFrom t steps solved = (p : FeasibilityProblem Rational) → IsStartOf p t → RunsTo (height t) t.generators p steps 0 (table t) (solved_end solved)

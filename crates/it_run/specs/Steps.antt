@@ -1,0 +1,83 @@
+-- A step of the run on a tableau, and the run to its last table. No public clause cites this.
+use Rattle.std.specs.Prelude.{◌≡◌, ℕ, ◌<◌, Bool, true, false, cond, ltb, ◌&&◌, Option, Some, None}
+use Rattle.it_rational.specs.Rational.{Rational, plus, minus, is_at_least_zero}
+use Rattle.it_rational.proofs.RationalLaws.{ring_ℚ}
+use Rattle.it_rational.proofs.Field.{order_ℚ}
+use Rattle.it_tableau.specs.Tables.{Table, FeasibilityProblem, ratio}
+use Rattle.it_tableau.specs.Invariants.{HasInvariants}
+use Rattle.it_tableau.specs.TableauViews.{TableauView, height, table, IsPositive, KeepsFrame}
+use Rattle.it_run.specs.Choice.{entering, is_candidate, leaving, leaving_of, next, IsDone, IsStuck}
+use Rattle.it_run.specs.Runs.{RunEndView, EndsAs}
+use Rattle.it_run.specs.Runs.RunEndView.{Weights, Point, Pivots, Width}
+use Rattle.it_run.specs.Solving.{StepFits}
+use Rattle.it_run.specs.declared.run.RunEnd.{RunEnd}
+use Rattle.it_run.specs.declared.run.RunEnd.TheVariants as run_ends
+
+-- whether a row comes before the best so far, by its ratio and its basic column
+abbrev pub is_before : Rational → ℕ → Rational → ℕ → Bool
+is_before q b best d = cond (is_at_least_zero (plus q (minus best))) (is_at_least_zero (plus best (minus q)) && ltb b d) true
+
+-- the best row so far with its ratio, after row i with the ratio q
+abbrev pub best_after : Option (ℕ × Rational) → ℕ → Rational → (ℕ → ℕ) → Option (ℕ × Rational)
+best_after None i q basis = Some (i, q)
+best_after (Some b) i q basis = cond (is_before q (basis i) b.1 (basis b.0)) (Some (i, q)) (Some b)
+
+-- it is the best of the rows below i
+abbrev pub IsBestOf : ℕ → ℕ → Table Rational → ℕ → ℕ → Option (ℕ × Rational) → Type 0
+IsBestOf m n t c i None = leaving_of ring_ℚ order_ℚ m n t c i ≡ m
+IsBestOf m n t c i (Some b) = (leaving_of ring_ℚ order_ℚ m n t c i ≡ b.0) × (b.0 < i) × (b.1 ≡ ratio ring_ℚ order_ℚ m n t c b.0) × (is_candidate ring_ℚ order_ℚ t c b.0 ≡ true)
+
+-- the row that leaves, or none
+abbrev pub IsLeaving : ℕ → ℕ → Table Rational → ℕ → Option ℕ → Type 0
+IsLeaving m n t c None = leaving ring_ℚ order_ℚ m n t c ≡ m
+IsLeaving m n t c (Some r) = (leaving ring_ℚ order_ℚ m n t c ≡ r) × (r < m) × IsPositive (t.entry r c)
+
+-- where some column enters, some row leaves
+abbrev pub IsReady : ℕ → ℕ → Table Rational → Type 0
+IsReady m n t = ¬ (IsStuck ring_ℚ order_ℚ m n t) → leaving ring_ℚ order_ℚ m n t (entering ring_ℚ order_ℚ m n t) < m
+
+-- a step was made
+pub record IsStep (old new : TableauView) : Type 0 where
+  pub moves : ¬ (IsStuck ring_ℚ order_ℚ (height old) old.generators (table old))
+  pub fits : StepFits (height old) old.generators (table old)
+  pub usable : new.spent ≡ false
+  pub frame : KeepsFrame old new
+  pub table_is : table new ≡ next ring_ℚ order_ℚ (height old) old.generators (table old)
+
+-- no step was made since none is left to make, or one was
+abbrev pub IsStepOrStuck : TableauView → TableauView → Bool → Type 0
+IsStepOrStuck old new false = IsStuck ring_ℚ order_ℚ (height old) old.generators (table old) × (new ≡ old)
+IsStepOrStuck old new true = IsStep old new
+
+abbrev pub IsWide : ℕ → ℕ → Table Rational → Type 0
+IsWide m n t = ¬ (IsStuck ring_ℚ order_ℚ m n t) × ¬ (StepFits m n t)
+
+-- the run whose end has its last table
+abbrev pub Reaches : ℕ → ℕ → ℕ → ℕ → Table Rational → RunEndView (Table Rational) (Table Rational) → Type 0
+Reaches m n = EndsAs (IsDone ring_ℚ order_ℚ m n) (IsStuck ring_ℚ order_ℚ m n) (StepFits m n) (next ring_ℚ order_ℚ m n) (λ t. t) (λ t. t)
+
+abbrev pub ReachesFrom : TableauView → ℕ → ℕ → RunEndView (Table Rational) (Table Rational) → Type 0
+ReachesFrom t left k = Reaches (height t) t.generators left k (table t)
+
+abbrev pub run_end_view : RunEnd → Table Rational → RunEndView (Table Rational) (Table Rational)
+run_end_view run_ends.Weights t = Weights t
+run_end_view run_ends.Point t = Point t
+run_end_view (run_ends.Pivots k) t = Pivots k
+run_end_view (run_ends.Width k) t = Width k
+
+-- the table has the invariants, for some problem
+abbrev pub HoldsSome : TableauView → Type 0
+HoldsSome t = (p : FeasibilityProblem Rational) × HasInvariants ring_ℚ order_ℚ (height t) t.generators p (table t)
+
+-- it can be read, and has the frame of an earlier one
+pub record IsKept (old new : TableauView) : Type 0 where
+  pub usable : new.spent ≡ false
+  pub frame : KeepsFrame old new
+  pub holds : HoldsSome new
+
+-- what an end leaves: after a wide step nothing is known of the tableau
+abbrev pub LeavesTableau : RunEnd → TableauView → TableauView → Type 0
+LeavesTableau run_ends.Weights old new = IsKept old new
+LeavesTableau run_ends.Point old new = IsKept old new
+LeavesTableau (run_ends.Pivots k) old new = IsKept old new
+LeavesTableau (run_ends.Width k) old new = Unit {0}

@@ -1,0 +1,84 @@
+//! The column that enters and the row that leaves.
+ghost use Rattle.std.specs.Prelude.{◌≡◌, ◌<◌, false, IfOk, OnErr, OnOk};
+ghost use Rattle.std.specs.Option.{IfNone, IfSome};
+ghost use Rattle.it_rational.proofs.Field.{order_ℚ};
+ghost use Rattle.it_rational.proofs.RationalLaws.{ring_ℚ};
+ghost use Rattle.it_tableau.specs.TableauViews.{height, table};
+ghost use Rattle.it_run.specs.Choice.{entering as entering_of};
+ghost use Rattle.it_run.specs.Solving.{RatiosFit};
+ghost use Rattle.it_run.specs.Steps.{best_after, is_before, IsLeaving};
+
+use it_fraction::{Fraction, Wide};
+use it_tableau::Tableau;
+use std::cmp::Ordering;
+
+/// The least-numbered column with a cost below 0 that isn't artificial.
+#[tactic(auto, using(crate::proofs::SearchLemmas::first_is, crate::proofs::SearchLemmas::first_none))]
+pub fn entering(tableau: &Tableau) -> Option<usize>
+    requires { tableau.now.spent ≡ false }
+    ensures within { IfSome result (λ c. c < tableau.now.generators) }
+    ensures some { IfSome result (λ c. entering_of ring_ℚ order_ℚ (height tableau.now) tableau.now.generators (table tableau.now) ≡ c) }
+    ensures none { IfNone result (entering_of ring_ℚ order_ℚ (height tableau.now) tableau.now.generators (table tableau.now) ≡ tableau.now.generators) }
+{
+    for j in 0..tableau.generators() {
+        if tableau.cost(j).is_negative() {
+            return Some(j);
+        }
+    }
+    None
+}
+
+#[tactic(auto, using(crate::proofs::SearchLemmas::before_less, crate::proofs::SearchLemmas::before_greater, crate::proofs::SearchLemmas::before_equal))]
+fn precedes(ratio: Fraction, column: usize, best: Fraction, best_column: usize) -> bool
+    ensures { result ≡ is_before ratio column best best_column }
+{
+    match ratio.compare(best) {
+        Ordering::Less => true,
+        Ordering::Equal => column < best_column,
+        Ordering::Greater => false,
+    }
+}
+
+fn better(
+    best: Option<(usize, Fraction)>,
+    row: usize,
+    ratio: Fraction,
+    tableau: &Tableau,
+) -> Option<(usize, Fraction)>
+    requires usable { tableau.now.spent ≡ false }
+    requires row { row < height tableau.now }
+    requires best { IfSome best (λ b. b.0 < height tableau.now) }
+    ensures { result ≡ best_after best row ratio (table tableau.now).basis }
+{
+    match best {
+        None => Some((row, ratio)),
+        Some((best_row, least)) => {
+            if precedes(ratio, tableau.basic(row), least, tableau.basic(best_row)) {
+                Some((row, ratio))
+            } else {
+                Some((best_row, least))
+            }
+        }
+    }
+}
+
+/// The row with the least ratio of those with an entry above 0, of several the one with the least basic column.
+pub fn leaving(tableau: &Tableau, column: usize) -> Result<Option<usize>, Wide>
+    requires usable { tableau.now.spent ≡ false }
+    requires column { column < tableau.now.generators }
+    ensures ok { OnOk result (RatiosFit (height tableau.now) tableau.now.generators (table tableau.now) column) }
+    ensures value { IfOk result (λ row. IsLeaving (height tableau.now) tableau.now.generators (table tableau.now) column row) }
+    ensures err { OnErr result (¬ (RatiosFit (height tableau.now) tableau.now.generators (table tableau.now) column)) }
+{
+    let mut best: Option<(usize, Fraction)> = None;
+    for i in 0..tableau.rows() {
+        if tableau.entry(i, column).is_positive() {
+            let ratio = tableau.ratio(i, column)?;
+            best = better(best, i, ratio, tableau);
+        }
+    }
+    match best {
+        Some((row, _)) => Ok(Some(row)),
+        None => Ok(None),
+    }
+}

@@ -1,0 +1,103 @@
+//! What is read off the last table of a run.
+ghost use Rattle.std.specs.Prelude.{◌≡◌, ◌<◌, ◌+◌, ◌++◌, ◌∷◌, [], false, pos, IfOk, OnOk, slice_index_or};
+ghost use Rattle.std.specs.Bool.{OnFalse, OnTrue};
+ghost use Rattle.std.specs.Option.{IfNone, IfSome};
+ghost use Rattle.it_rational.proofs.Field.{order_ℚ};
+ghost use Rattle.it_rational.proofs.RationalLaws.{ring_ℚ};
+ghost use Rattle.it_rational.specs.Rational.{Rational, times, whole};
+ghost use Rattle.it_tableau.specs.TableauViews.{height, table};
+ghost use Rattle.it_tableau.specs.Tables.{FeasibilityProblem};
+ghost use Rattle.it_run.specs.Readings.{point as point_of, weight, weights as weights_of};
+ghost use Rattle.it_run.specs.Answers.{sign_number, HasSigns};
+ghost use Rattle.it_run.specs.Steps.{HoldsSome};
+
+use it_fraction::Fraction;
+use it_tableau::Tableau;
+use std::alloc::{AllocError, Global};
+
+// the right side of the row whose basic column is j
+fn weight_of(tableau: &Tableau, j: usize) -> Option<Fraction>
+    requires usable { tableau.now.spent ≡ false }
+    requires holds { HoldsSome tableau.now }
+    ensures some { IfSome result (λ w. w ≡ weight ring_ℚ order_ℚ (height tableau.now) tableau.now.generators (table tableau.now) j) }
+    ensures none { IfNone result (weight ring_ℚ order_ℚ (height tableau.now) tableau.now.generators (table tableau.now) j ≡ whole (pos 0)) }
+{
+    for i in 0..tableau.rows() {
+        if tableau.basic(i) == j {
+            return Some(tableau.rhs(i));
+        }
+    }
+    None
+}
+
+#[tactic(auto, using(crate::proofs::RunSteps::null_from_top, crate::proofs::RunSteps::top_from_null))]
+fn is_null(value: Fraction) -> bool
+    ensures yes { OnTrue result (value ≡ whole (pos 0)) }
+    ensures no { OnFalse result (¬ (value ≡ whole (pos 0))) }
+{
+    if value.is_zero() { true } else { false }
+}
+
+fn append(
+    weights: &mut Vec<(usize, Fraction)>,
+    j: usize,
+    weight: Fraction,
+) -> Result<(), AllocError>
+    ensures { OnOk result (weights.new.items ≡ weights.old.items ++ (j, weight) ∷ []) }
+{
+    weights.push((j, weight))?;
+    Ok(())
+}
+
+/// The weights other than 0, by column.
+pub fn weights(alloc: Global, tableau: &Tableau) -> Result<Vec<(usize, Fraction)>, AllocError>
+    requires usable { tableau.now.spent ≡ false }
+    requires holds { HoldsSome tableau.now }
+    ensures { IfOk result (λ out. out.items ≡ weights_of ring_ℚ order_ℚ (height tableau.now) tableau.now.generators (table tableau.now)) }
+{
+    let mut out = Vec::new(alloc);
+    for j in 0..tableau.generators() {
+        if let Some(weight) = weight_of(tableau, j) {
+            if !is_null(weight) {
+                append(&mut out, j, weight)?;
+            }
+        }
+    }
+    Ok(out)
+}
+
+#[tactic(auto, using(crate::proofs::FillingLemmas::sign_below, crate::proofs::FillingLemmas::sign_above))]
+fn is_negated(tableau: &Tableau, k: usize) -> bool
+    requires usable { tableau.now.spent ≡ false }
+    requires row { k < height tableau.now }
+    ensures { result ≡ slice_index_or tableau.now.negated k false }
+{
+    if tableau.sign(k) < 0 { true } else { false }
+}
+
+// the cost of row k's artificial column with the row's sign
+fn value_at(tableau: &Tableau, k: usize) -> Fraction
+    requires usable { tableau.now.spent ≡ false }
+    requires row { k < height tableau.now }
+    ensures { result ≡ times (sign_number tableau.now k) ((table tableau.now).entry (height tableau.now) (tableau.now.generators + k)) }
+{
+    let artificials = tableau.columns() - tableau.rows();
+    let cost = tableau.cost(artificials + k);
+    if is_negated(tableau, k) {
+        cost.neg()
+    } else {
+        cost
+    }
+}
+
+/// The point, by rows.
+pub fn point(alloc: Global, tableau: &Tableau) -> Result<Vec<Fraction>, AllocError>
+    requires usable { tableau.now.spent ≡ false }
+    ensures { IfOk result (λ out. (p : FeasibilityProblem Rational) → HasSigns tableau.now p → out.items ≡ point_of ring_ℚ order_ℚ (height tableau.now) tableau.now.generators p (table tableau.now)) }
+{
+    let mut out = Vec::with_capacity(alloc, tableau.rows())?;
+    for k in 0..tableau.rows() {
+        out.push(value_at(tableau, k))?;
+    }
+    Ok(out)
+}

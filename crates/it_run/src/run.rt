@@ -1,0 +1,82 @@
+//! The run.
+ghost use Rattle.std.specs.Prelude.{◌≡◌, ◌<◌, false, IfErr, IfOk};
+ghost use Rattle.std.specs.Bool.{OnFalse, OnTrue};
+ghost use Rattle.it_rational.proofs.Field.{order_ℚ};
+ghost use Rattle.it_rational.proofs.RationalLaws.{ring_ℚ};
+ghost use Rattle.it_tableau.specs.TableauViews.{height, table};
+ghost use Rattle.it_run.specs.Choice.{IsDone};
+ghost use Rattle.it_run.specs.Steps.{run_end_view, HoldsSome, IsReady, IsWide, LeavesTableau, Reaches, IsStepOrStuck};
+
+use crate::choice::{entering, leaving};
+use it_space::RowFault;
+use it_tableau::Tableau;
+use std::alloc::AllocError;
+
+/// How a run ended.
+#[derive(Debug, Drop, Clone, Copy)]
+pub enum RunEnd {
+    Weights,
+    Point,
+    Pivots(u32),
+    Width(u32),
+}
+
+/// Makes one step, if there is one to make.
+fn step(tableau: &mut Tableau) -> Result<bool, RowFault>
+    requires usable { tableau.old.spent ≡ false }
+    requires ready { IsReady (height tableau.old) tableau.old.generators (table tableau.old) }
+    ensures value { IfOk result (λ moved. IsStepOrStuck tableau.old tableau.new moved) }
+    ensures wide { IfErr result (λ fault. fault ≡ RowFault.Wide → IsWide (height tableau.old) tableau.old.generators (table tableau.old)) }
+{
+    let Some(column) = entering(tableau) else {
+        return Ok(false);
+    };
+    match leaving(tableau, column) {
+        Ok(Some(row)) => {
+            tableau.pivot(row, column)?;
+            Ok(true)
+        }
+        Ok(None) => Ok(false),
+        Err(_) => Err(RowFault::Wide),
+    }
+}
+
+#[tactic(auto, using(crate::proofs::RunSteps::null_from_top, crate::proofs::RunSteps::top_from_null))]
+fn is_done(tableau: &Tableau) -> bool
+    requires { tableau.now.spent ≡ false }
+    ensures yes { OnTrue result (IsDone ring_ℚ order_ℚ (height tableau.now) tableau.now.generators (table tableau.now)) }
+    ensures no { OnFalse result (¬ (IsDone ring_ℚ order_ℚ (height tableau.now) tableau.now.generators (table tableau.now))) }
+{
+    if tableau.cost_rhs().is_zero() {
+        true
+    } else {
+        false
+    }
+}
+
+/// Makes the run with a budget of steps.
+pub fn run(tableau: &mut Tableau, budget: u32) -> Result<RunEnd, AllocError>
+    requires usable { tableau.old.spent ≡ false }
+    requires holds { HoldsSome tableau.old }
+    ensures end { IfOk result (λ ending. Reaches (height tableau.old) tableau.old.generators budget 0 (table tableau.old) (run_end_view ending (table tableau.new))) }
+    ensures kept { IfOk result (λ ending. LeavesTableau ending tableau.old tableau.new) }
+{
+    for k in 0..budget {
+        if is_done(tableau) {
+            return Ok(RunEnd::Weights);
+        }
+        match step(tableau) {
+            Ok(true) => {}
+            Ok(false) => return Ok(RunEnd::Point),
+            Err(RowFault::Wide) => return Ok(RunEnd::Width(k + 1)),
+            Err(RowFault::Memory) => return Err(AllocError),
+        }
+    }
+    if is_done(tableau) {
+        return Ok(RunEnd::Weights);
+    }
+    match entering(tableau) {
+        Some(_) => Ok(RunEnd::Pivots(budget)),
+        None => Ok(RunEnd::Point),
+    }
+}

@@ -1,7 +1,0 @@
-use Rattle.std.proofs.Common.{◌≡◌, ℕ, ◌<◌, true}
-use Rattle.it_rational.specs.Rational.{is_at_least_zero}
-use Rattle.it_tableau.specs.Shown.{height, table}
-use Rattle.it_simplex.proofs.choice.entering.Given as goal
-
-abbrev pub invariant-loop-j : goal.invariant-loop-j
-invariant-loop-j l = (k : ℕ) → k < l.j → is_at_least_zero ((table l.tableau).entry (height l.tableau) k) ≡ true

@@ -1,6 +1,0 @@
-use Rattle.std.proofs.Common.{◌≢◌, ℕ, ◌<◌}
-use Rattle.it_tableau.specs.Shown.{table}
-use Rattle.it_simplex.proofs.readings.weight_of.Given as goal
-
-abbrev pub invariant-loop-i : goal.invariant-loop-i
-invariant-loop-i l = (k : ℕ) → k < l.i → (table l.tableau).basis k ≢ l.j

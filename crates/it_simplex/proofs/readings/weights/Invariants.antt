@@ -1,6 +1,0 @@
-use Rattle.it_tableau.specs.Shown.{height, table}
-use Rattle.it_simplex.proofs.FillingLemmas.{SoFar}
-use Rattle.it_simplex.proofs.readings.weights.Given as goal
-
-abbrev pub invariant-loop-j : goal.invariant-loop-j
-invariant-loop-j l = SoFar (height l.tableau) l.tableau.generators (table l.tableau) l.out.items l.j
