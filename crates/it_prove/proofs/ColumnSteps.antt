@@ -1,0 +1,157 @@
+-- Columns and the weights of generators, step by step as the code forms them.
+use Rattle.std.proofs.Common.{◌≡◌, ◌⊎◌, inl, inr, ℕ, zero, suc, ◌+◌, ◌*◌, ◌<◌, ◌≤◌, ◌^◌, ℤ, pos, neg_ℤ, List, [], ◌∷◌, ◌++◌, length, drop, take, refl, sym, ap, ap₂, subst, All, ◌∙◌, arith, append_assoc, append-nil}
+use Rattle.std.specs.List.{flat_map}
+use Rattle.std.proofs.lemmas.Int.{ints}
+use Rattle.std.proofs.lemmas.Bool.{cases_lt}
+use Rattle.std.proofs.lemmas.List.{drop_more, drop_all, take_all, map-append, get_or_default}
+use Rattle.it_number.specs.Limit.{IsWithin}
+use Rattle.it_space.specs.declared.problems.Kind.{Kind}
+use Rattle.it_space.specs.declared.problems.Kind.TheVariants.{Inequality, Equation}
+use Rattle.it_space.specs.Problems.{ProblemView, IsProblem}
+use Rattle.it_space.specs.Rows.{Terms, Ascends, IsUpTo, coefficient}
+use Rattle.it_closure.specs.declared.dependences.Dependence.{Dependence}
+use Rattle.it_closure.specs.Collapse.{CollapseFits, IsCollapseOf}
+use Rattle.it_elemental.specs.Generators.{Generator, generators, generator_at}
+use Rattle.it_elemental.proofs.GeneratorLemmas.{length-listed, few_elementals}
+use Rattle.it_space.specs.declared.spaces.Space.{Space}
+use Rattle.it_space.specs.Spaces.{size_of}
+use Rattle.std.proofs.lemmas.Nat.{pow_pos}
+use Rattle.it_closure.specs.DependencesViews.{DependencesView}
+use Rattle.it_closure.specs.Reading.{dependences_of}
+use Rattle.it_lift.proofs.GeneratorLemmas.{row_of_space}
+use Rattle.it_prove.proofs.ClosedRows.{collapse_same}
+use Rattle.it_prove.specs.Closed.{collapsed_row, collapsed_generator, collapsed_all, closed_target}
+use Rattle.it_prove.proofs.GroupLemmas.{coefficient-turned}
+use Rattle.it_prove.specs.Columns.{negated_terms, columns_by, columns_of, columns, column_count, weight_by, if_some, weights_from}
+use Rattle.it_prove.specs.Steps.{SameRows}
+
+-- ---- rows turned
+
+pub turned_canonical : (from : ℕ) (ts : Terms) → Ascends from ts → Ascends from (negated_terms ts)
+turned_canonical from [] a = tt
+turned_canonical from (t ∷ ts) a = (a.0, λ e. a.1 (back t.1 e), small t.1 a.2, turned_canonical (t.0 + 1) ts a.3)
+  where
+    back : (x : ℤ) → neg_ℤ x ≡ pos 0 → x ≡ pos 0
+    back x e = omega (arith, ints, e)
+
+    small : (x : ℤ) → IsWithin x → IsWithin (neg_ℤ x)
+    small x h = omega (arith, ints, h)
+
+-- ---- columns
+
+generator_split : (gs : List Generator) (i : ℕ) → i < length gs → drop i gs ≡ generator_at gs i ∷ drop (i + 1) gs
+generator_split gs i h = drop_more gs i _ h
+
+same-append : (rs ss us vs : List Terms) → SameRows rs ss → SameRows us vs → SameRows (rs ++ us) (ss ++ vs)
+same-append [] [] us vs s t = t
+same-append [] (x ∷ xs) us vs s t = absurd s
+same-append (r ∷ rs) [] us vs s t = absurd s
+same-append (r ∷ rs) (x ∷ xs) us vs s t = (s.0, same-append rs xs us vs s.1 t)
+
+-- the columns of a row with the same coefficients
+same_columns : (k : Kind) (r t : Terms) → ((c : ℕ) → coefficient r c ≡ coefficient t c) → SameRows (columns_by k r) (columns_by k t)
+same_columns Inequality r t e = (e, tt)
+same_columns Equation r t e = (e, ((λ c. coefficient-turned c r ∙ ap neg_ℤ (e c) ∙ sym (coefficient-turned c t)), tt))
+
+pub pushed : (old new : List Terms) (k l : Kind) (r t : Terms) → new ≡ old ++ columns_by k r → k ≡ l → ((c : ℕ) → coefficient r c ≡ coefficient t c)
+    → (xs : List Terms) → SameRows old xs → SameRows new (xs ++ columns_by l t)
+pushed old new k l r t is kind e xs s =
+    subst (λ (ys : List Terms). SameRows ys (xs ++ columns_by l t)) (sym is)
+    (subst (λ (m : Kind). SameRows (old ++ columns_by k r) (xs ++ columns_by m t)) kind (same-append old xs (columns_by k r) (columns_by k t) s (same_columns k r t e)))
+
+-- the columns of so many generators over closed sets
+take_more : (gs : List Generator) (i : ℕ) → i < length gs → take (suc i) gs ≡ take i gs ++ generator_at gs i ∷ []
+take_more [] i h = absurd (omega arith)
+take_more (g ∷ gs) zero h = refl
+take_more (g ∷ gs) (suc i) h = ap (λ xs. g ∷ xs) (take_more gs i (omega arith))
+
+columns-append : (gs hs : List Generator) → columns (gs ++ hs) ≡ columns gs ++ columns hs
+unfolding columns
+columns-append [] hs = refl
+columns-append (g ∷ gs) hs = ap (λ xs. columns_of g ++ xs) (columns-append gs hs) ∙ sym (append_assoc (columns_of g) (flat_map columns_of gs) (flat_map columns_of hs))
+
+columns-one : (g : Generator) → columns (g ∷ []) ≡ columns_of g
+unfolding columns
+columns-one g = append-nil (columns_of g)
+
+pub record AreColumns (n : ℕ) (ds : List Dependence) (gs : List Generator) (i : ℕ) (rows : List Terms) : Type 0 where
+  pub same : SameRows rows (columns (collapsed_all n ds (take i gs)))
+  pub fits : (j : ℕ) → j < i → CollapseFits n ds (generator_at gs j).row
+
+module _ (n : ℕ) (ds : List Dependence) (gs : List Generator) where
+  pub columns_start : AreColumns n ds gs 0 []
+  unfolding columns
+  columns_start = record { same = tt; fits = λ j h. absurd (omega arith) }
+
+  pub columns_more : (i : ℕ) (old new : List Terms) → i < length gs
+      → ((xs : List Terms) → SameRows old xs → SameRows new (xs ++ columns_of (collapsed_generator n ds (generator_at gs i))))
+      → CollapseFits n ds (generator_at gs i).row → AreColumns n ds gs i old → AreColumns n ds gs (i + 1) new
+  columns_more i old new h add fit a = record {
+    same = subst (SameRows new) (sym all) (add (columns (collapsed_all n ds (take i gs))) a.same);
+    fits = λ j l. by_cases j l (cases_lt j i);
+  }
+    where
+      one : i + 1 ≡ suc i
+      one = omega arith
+
+      all : columns (collapsed_all n ds (take (i + 1) gs)) ≡ columns (collapsed_all n ds (take i gs)) ++ columns_of (collapsed_generator n ds (generator_at gs i))
+      all = ap (λ k. columns (collapsed_all n ds (take k gs))) one ∙ ap (λ hs. columns (collapsed_all n ds hs)) (take_more gs i h)
+          ∙ ap columns (map-append (collapsed_generator n ds) (take i gs) (generator_at gs i ∷ []))
+          ∙ columns-append (collapsed_all n ds (take i gs)) (collapsed_generator n ds (generator_at gs i) ∷ [])
+          ∙ ap (λ xs. columns (collapsed_all n ds (take i gs)) ++ xs) (columns-one (collapsed_generator n ds (generator_at gs i)))
+
+      by_cases : (j : ℕ) → j < i + 1 → (j < i) ⊎ (i ≤ j) → CollapseFits n ds (generator_at gs j).row
+      by_cases j l (inl k) = a.fits j k
+      by_cases j l (inr k) = let e : i ≡ j = omega arith in subst (λ (m : ℕ). CollapseFits n ds (generator_at gs m).row) e fit
+
+  pub columns_done : (i : ℕ) (old : List Terms) → length gs ≤ i → AreColumns n ds gs i old → SameRows old (columns (collapsed_all n ds gs)) × All (λ g. CollapseFits n ds g.row) gs
+  columns_done i old h a = (
+    subst (λ hs. SameRows old (columns (collapsed_all n ds hs))) (take_all i gs h) a.same,
+    λ j d l. subst (λ (g : Generator). CollapseFits n ds g.row) (get_or_default gs j (record { kind = Inequality; row = [] }) d l) (a.fits j (omega arith)),
+  )
+
+-- there are few
+pub few_columns : (gs : List Generator) → length (columns gs) ≤ 2 * length gs
+unfolding columns
+few_columns [] = omega arith
+few_columns (g ∷ gs) = by_kind g.kind (few_columns gs)
+  where
+    by_kind : (k : Kind) → length (flat_map columns_of gs) ≤ 2 * length gs → length (columns_by k g.row ++ flat_map columns_of gs) ≤ 2 * suc (length gs)
+    by_kind Inequality h = omega arith
+    by_kind Equation h = omega arith
+
+pub few_generators : (q : ProblemView) → IsProblem q → length (generators q) ≤ 2 ^ 21
+few_generators q k = omega (arith, length-listed q.space.variables q.constraints, few_elementals q.space.variables k.space.few, k.few)
+
+-- ---- weights
+
+pub weights_more : (gs : List Generator) (f : ℕ → ℤ) (i j next : ℕ) (k : Kind) (w : ℤ) (old new : List (ℕ × ℤ)) → i < length gs → k ≡ (generator_at gs i).kind → w ≡ weight_by k f j → next ≡ j + column_count k → new ≡ old ++ if_some i w
+    → old ++ weights_from i j (drop i gs) f ≡ weights_from 0 0 gs f → new ++ weights_from (i + 1) next (drop (i + 1) gs) f ≡ weights_from 0 0 gs f
+unfolding weights_from
+weights_more gs f i j next k w old new h same weight step e inv =
+    ap₂ (λ xs n. xs ++ weights_from (i + 1) n (drop (i + 1) gs) f) (e ∙ ap (λ x. old ++ if_some i x) (weight ∙ ap (λ k. weight_by k f j) same)) (step ∙ ap (λ k. j + column_count k) same)
+    ∙ append_assoc old (if_some i (weight_by (generator_at gs i).kind f j)) (weights_from (i + 1) (j + column_count (generator_at gs i).kind) (drop (i + 1) gs) f)
+    ∙ ap (λ xs. old ++ weights_from i j xs f) (sym (generator_split gs i h)) ∙ inv
+
+pub weights_done : (gs : List Generator) (f : ℕ → ℤ) (i j : ℕ) (old : List (ℕ × ℤ)) → length gs ≤ i → old ++ weights_from i j (drop i gs) f ≡ weights_from 0 0 gs f → old ≡ weights_from 0 0 gs f
+unfolding weights_from
+weights_done gs f i j old h inv = sym (append-nil old) ∙ ap (λ xs. old ++ weights_from i j xs f) (sym (drop_all i gs h)) ∙ inv
+
+pub small_step : (k : Kind) → column_count k ≤ 2
+small_step Inequality = omega arith
+small_step Equation = omega arith
+
+-- ---- rows as the code has them
+
+pub row_up_to : (q : ProblemView) (s : Space) (i : ℕ) (row : Terms) → IsProblem q → s ≡ q.space → row ≡ (generator_at (generators q) i).row → IsUpTo (size_of s) row
+row_up_to q s i row k e r = subst (λ (t : Space). IsUpTo (size_of t) row) (sym e) (subst (IsUpTo (size_of q.space)) (sym r) (row_of_space q i k (omega (arith, pow_pos q.space.variables))))
+
+pub collapse_so : (q : ProblemView) (d : DependencesView) (r new target : Terms) → d.space ≡ q.space → r ≡ target → IsCollapseOf d.space.variables d.list r new → IsUpTo (size_of d.space) new
+    → (c : ℕ) → coefficient new c ≡ coefficient (collapsed_row q.space.variables d.list target) c
+collapse_so q d r new target s e k u c =
+    collapse_same d.space.variables d.list (size_of d.space) r new k u c ∙ ap (λ t. coefficient (collapsed_row d.space.variables d.list t) c) e
+    ∙ ap (λ (t : Space). coefficient (collapsed_row t.variables d.list target) c) s
+
+pub target_so : (q : ProblemView) (d : DependencesView) (new target : Terms) → d.space ≡ q.space → d.list ≡ dependences_of q → IsCollapseOf d.space.variables d.list target new → IsUpTo (size_of d.space) new
+    → (c : ℕ) → coefficient new c ≡ coefficient (closed_target q target) c
+target_so q d new target s l k u c = collapse_so q d target new target s refl k u c ∙ ap (λ ds. coefficient (collapsed_row q.space.variables ds target) c) l

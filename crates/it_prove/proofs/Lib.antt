@@ -1,0 +1,12 @@
+pub mod Scales
+pub mod Wholes
+pub mod GroupLemmas
+pub mod ClosedRows
+pub mod WeightLemmas
+pub mod LiftLemmas
+pub mod PointLemmas
+pub mod ScaleSteps
+pub mod ColumnSteps
+pub mod ProofLemmas
+pub mod SmallRows
+pub mod SmallLemmas

@@ -1,0 +1,261 @@
+-- Weights over closed sets that sum to the collapsed target are what a lift is given, and what it gives certifies the target.
+use Rattle.std.proofs.Common.{◌≡◌, ◌≢◌, ◌⊎◌, inl, inr, ℕ, zero, suc, ◌+◌, ◌-◌, ◌^◌, ◌<◌, ◌≤◌, ℤ, pos, negsuc, ◌+ℤ◌, ◌-ℤ◌, ◌*ℤ◌, ◌≤ℤ◌, List, [], ◌∷◌, ◌++◌, map, length, get_or, Bool, true, false, cond, nat_eq, refl, sym, ap, ap₂, subst, ◌∙◌, arith, All}
+use Rattle.std.proofs.lemmas.Int.{ints}
+use Rattle.std.proofs.lemmas.Bool.{eqb-true}
+use Rattle.it_number.specs.Limit.{IsWithin}
+use Rattle.it_rational.specs.Rational.{Rational}
+use Rattle.it_rational.proofs.RationalLaws.{ring_ℚ}
+use Rattle.it_rational.proofs.Field.{order_ℚ}
+use Rattle.it_space.specs.declared.problems.Kind.{Kind}
+use Rattle.it_space.specs.declared.problems.Kind.TheVariants.{Inequality, Equation}
+use Rattle.it_space.specs.Problems.{ProblemView, IsProblem}
+use Rattle.it_space.specs.Answers.{CertificateView}
+use Rattle.it_space.specs.Rows.{Terms, Ascends, coefficient, value, IsUpTo}
+use Rattle.it_space.specs.Spaces.{size_of}
+use Rattle.it_space.proofs.CanonicalRows.{head_is, other_is, told}
+use Rattle.it_polymatroid.specs.Certificates.{IsAllowed, combination, one_at}
+use Rattle.it_polymatroid.proofs.Every.{Every, every_of, all_of, every-same}
+use Rattle.it_polymatroid.proofs.Forms.{one_at-zero}
+use Rattle.it_elemental.specs.Generators.{Generator, generators, generator_at, generators_of}
+use Rattle.it_elemental.proofs.GeneratorLemmas.{rows_of_space, every_or}
+use Rattle.it_closure.specs.declared.dependences.Dependence.{Dependence}
+use Rattle.it_closure.specs.Collapse.{AreDependences, spread_out}
+use Rattle.it_closure.specs.DependencesViews.{DependencesView}
+use Rattle.it_closure.specs.Reading.{dependences_of}
+use Rattle.it_closure.proofs.ClosingLoop.{of_space}
+use Rattle.it_lift.specs.Lifted.{InOrder, AreOf, AddUpOverClosed, IsLiftOf, FitsLift}
+use Rattle.it_lift.specs.Lifts.{lifted_weights}
+use Rattle.it_lift.proofs.ReadOf.{read_are_of}
+use Rattle.it_tableau.specs.Problems.{feasibility_problem}
+use Rattle.it_run.specs.Readings.{AreWeights, SumsUp}
+use Rattle.std.specs.List.{flat_map}
+use Rattle.it_check.specs.Meaning.{CertifiesRow}
+use Rattle.it_check.specs.Verdicts.{column}
+use Rattle.it_prove.specs.Closed.{collapsed_row, collapsed_all, closed_places, closed_generators, closed_target}
+use Rattle.it_prove.specs.Columns.{columns, columns_by, columns_of, column_count, weight_by, if_some, weights_from}
+use Rattle.it_prove.specs.Scaling.{NumbersFit, numbers_of, scale_of, scaled_weights}
+use Rattle.it_prove.specs.ProofViews.{IsLifted, LiftedFit, closed_weights}
+use Rattle.it_prove.proofs.ClosedRows.{In, find, collapsed_at, collapsed_generator_at, collapsed_none}
+use Rattle.it_prove.proofs.GroupLemmas.{weights_allowed}
+use Rattle.it_prove.proofs.WeightLemmas.{adds_up, scale_least, scaled_positive, scaled_canonical}
+
+-- ---- the weights go by the kinds alone
+
+pub weights_same : (n : ℕ) (ds : List Dependence) (gs : List Generator) (i j : ℕ) (f : ℕ → ℤ) → weights_from i j (collapsed_all n ds gs) f ≡ weights_from i j gs f
+unfolding weights_from
+weights_same n ds [] i j f = refl
+weights_same n ds (g ∷ gs) i j f = ap (λ xs. if_some i (weight_by g.kind f j) ++ xs) (weights_same n ds gs (i + 1) (j + column_count g.kind) f)
+
+columns_length : (n : ℕ) (ds : List Dependence) (gs : List Generator) → length (columns (collapsed_all n ds gs)) ≡ length (columns gs)
+unfolding columns
+columns_length n ds [] = refl
+columns_length n ds (g ∷ gs) = by_kind g.kind (columns_length n ds gs)
+  where
+    by_kind : (k : Kind) → length (flat_map columns_of (collapsed_all n ds gs)) ≡ length (flat_map columns_of gs)
+        → length (columns_by k (collapsed_row n ds g.row) ++ flat_map columns_of (collapsed_all n ds gs)) ≡ length (columns_by k g.row ++ flat_map columns_of gs)
+    by_kind Inequality e = ap suc e
+    by_kind Equation e = ap (λ m. suc (suc m)) e
+
+pub ordered_so : (n : ℕ) (ds : List Dependence) (gs : List Generator) (ws : List (ℕ × Rational)) → AreWeights ring_ℚ order_ℚ (length (columns (collapsed_all n ds gs))) 0 ws → AreWeights ring_ℚ order_ℚ (length (columns gs)) 0 ws
+ordered_so n ds gs ws a = subst (λ (m : ℕ). AreWeights ring_ℚ order_ℚ m 0 ws) (columns_length n ds gs) a
+
+-- ---- they ascend, none is 0, and all are within the limit
+
+pub coefficient_within : (from : ℕ) (ts : Terms) → Ascends from ts → (c : ℕ) → IsWithin (coefficient ts c)
+coefficient_within from [] a c = omega arith
+coefficient_within from (t ∷ ts) a c = by_test (nat_eq t.0 c) refl (coefficient_within (t.0 + 1) ts a.3 c)
+  where
+    apart : false ≡ true → ⊥
+    apart e = cc
+
+    by_test : (b : Bool) → nat_eq t.0 c ≡ b → IsWithin (coefficient ts c) → IsWithin (coefficient (t ∷ ts) c)
+    by_test true e w = subst (λ (k : ℕ). IsWithin (coefficient (t ∷ ts) k)) (eqb-true t.0 c e) (subst IsWithin (sym (head_is from t ts a)) a.2)
+    by_test false e w = subst IsWithin (sym (other_is t ts c (λ q. apart (sym e ∙ Rattle.std.proofs.Common.eq-eqb t.0 c q)))) w
+
+weight_within : (k : Kind) (f : ℕ → ℤ) (j : ℕ) → ((n : ℕ) → pos 0 ≤ℤ f n) → ((n : ℕ) → IsWithin (f n)) → IsWithin (weight_by k f j)
+weight_within Inequality f j p w = w j
+weight_within Equation f j p w = between (f j) (f (j + 1)) (p j) (p (j + 1)) (w j) (w (j + 1))
+  where
+    between : (x y : ℤ) → pos 0 ≤ℤ x → pos 0 ≤ℤ y → IsWithin x → IsWithin y → IsWithin (x -ℤ y)
+    between x y h k u v = omega (arith, ints, h, k, u, v)
+
+pub lower : (a b : ℕ) (ts : Terms) → a ≤ b → Ascends b ts → Ascends a ts
+lower a b [] h r = tt
+lower a b (t ∷ ts) h r = (omega (arith, r.0), r.1, r.2, r.3)
+
+pub if_some_ascends : (from i : ℕ) (x : ℤ) (rest : Terms) → from ≤ i → IsWithin x → Ascends (i + 1) rest → Ascends from (if_some i x ++ rest)
+if_some_ascends from i (pos zero) rest h w a = lower from (i + 1) rest (omega arith) a
+if_some_ascends from i (pos (suc n)) rest h w a = (h, (λ e. omega (arith, ints, e)), w, a)
+if_some_ascends from i (negsuc n) rest h w a = (h, (λ e. omega (arith, ints, e)), w, a)
+
+weights_ascend : (gs : List Generator) (i j : ℕ) (f : ℕ → ℤ) → ((n : ℕ) → pos 0 ≤ℤ f n) → ((n : ℕ) → IsWithin (f n)) → Ascends i (weights_from i j gs f)
+unfolding weights_from
+weights_ascend [] i j f p w = tt
+weights_ascend (g ∷ gs) i j f p w = if_some_ascends i i (weight_by g.kind f j) (weights_from (i + 1) (j + column_count g.kind) gs f) (omega arith) (weight_within g.kind f j p w) (weights_ascend gs (i + 1) (j + column_count g.kind) f p w)
+
+in_order : (from : ℕ) (ts : Terms) → Ascends from ts → InOrder from ts
+in_order from [] a = tt
+in_order from (t ∷ ts) a = (a.0, in_order (t.0 + 1) ts a.3)
+
+each_within : (from : ℕ) (ts : Terms) → Ascends from ts → Every (λ (t : ℕ × ℤ). IsWithin t.1) ts
+each_within from [] a = tt
+each_within from (t ∷ ts) a = (a.2, each_within (t.0 + 1) ts a.3)
+
+-- ---- sums of weights
+
+weighted_value : (gs : List Generator) (ws : List (ℕ × ℤ)) (p : ℕ → ℤ) (f : ℕ → ℤ) → ((i : ℕ) → value (generator_at gs i).row p ≡ f i) → combination ws (λ i. value (generator_at gs i).row p) ≡ value ws f
+weighted_value gs [] p f e = refl
+weighted_value gs (w ∷ ws) p f e = ap₂ (λ x y. w.1 *ℤ x +ℤ y) (e w.0) (weighted_value gs ws p f e)
+
+value_null : (ws : Terms) (f : ℕ → ℤ) → ((i : ℕ) → f i ≡ pos 0) → value ws f ≡ pos 0
+value_null [] f e = refl
+value_null (w ∷ ws) f e = ap₂ (λ x y. w.1 *ℤ x +ℤ y) (e w.0) (value_null ws f e) ∙ none w.1
+  where
+    none : (x : ℤ) → x *ℤ pos 0 +ℤ pos 0 ≡ pos 0
+    none x = omega (arith, ints)
+
+pub below_size : (size m : ℕ) (row : Terms) → size < m → IsUpTo size row → Every (λ (t : ℕ × ℤ). t.0 < m) row
+below_size size m row h u = every-same (λ (t : ℕ × ℤ). (1 ≤ t.0) × (t.0 ≤ size)) (λ (t : ℕ × ℤ). t.0 < m) row (λ t b. omega (arith, b.1)) (every_of (λ (t : ℕ × ℤ). (1 ≤ t.0) × (t.0 ≤ size)) row u)
+
+-- ---- what a lift is given
+
+-- the dependences of a problem
+abbrev pub read_of : ProblemView → DependencesView
+read_of q = record { space = q.space; list = dependences_of q }
+
+pub are_of : (q : ProblemView) → IsProblem q → AreOf q (read_of q)
+are_of q k = read_are_of q (read_of q) k refl refl
+
+pub dependences_sound : (q : ProblemView) → IsProblem q → AreDependences q.space.variables (dependences_of q)
+dependences_sound q k = of_space (read_of q) (are_of q k).shape
+
+pub read_is : (q : ProblemView) (d : DependencesView) → d.space ≡ q.space → d.list ≡ dependences_of q → read_of q ≡ d
+read_is q d s l = ap₂ (λ x y. record { space = x; list = y }) (sym s) (sym l)
+
+module _ (q : ProblemView) (target : Terms) (k : IsProblem q) (u : IsUpTo (size_of q.space) target) (ws : List (ℕ × Rational))
+    (a : SumsUp ring_ℚ order_ℚ (length (closed_places q)) (length (columns (closed_generators q))) (feasibility_problem (closed_places q) (columns (closed_generators q)) (closed_target q target)) ws) where
+  n : ℕ
+  n = q.space.variables
+
+  sizes : size_of q.space < 2 ^ q.space.variables + q.space.rates
+  sizes = omega (arith, Rattle.std.proofs.lemmas.Nat.pow_pos q.space.variables)
+
+  row_up_to : (i : ℕ) → Every (λ (t : ℕ × ℤ). t.0 < 2 ^ q.space.variables + q.space.rates) (generator_at (generators q) i).row
+  row_up_to i = below_size (size_of q.space) (2 ^ q.space.variables + q.space.rates) (generator_at (generators q) i).row sizes
+      (every_or (λ (g : Generator). IsUpTo (size_of q.space) g.row) (generators q) i (record { kind = Inequality; row = [] })
+      (rows_of_space q.space.variables (size_of q.space) q.constraints (omega arith) k.rows) (λ j d h. absurd (omega arith)))
+
+  -- at each coordinate, a place of the run or not
+  closed_sum : (c : ℕ) → In (closed_places q) c ⊎ Every (λ x. x ≢ c) (closed_places q)
+      → pos (scale_of (numbers_of ws)) *ℤ coefficient (closed_target q target) c ≡ value (weights_from 0 0 (closed_generators q) (coefficient (scaled_weights ws))) (column (closed_generators q) c)
+  closed_sum c (inl i) = adds_up (closed_generators q) (closed_places q) (closed_target q target) ws a c i
+  closed_sum c (inr e) =
+      ap (λ x. pos (scale_of (numbers_of ws)) *ℤ x) (collapsed_none q.space.variables q.space.rates (dependences_of q) (dependences_sound q k) target c (below_size (size_of q.space) (2 ^ q.space.variables + q.space.rates) target sizes u) e)
+      ∙ none (pos (scale_of (numbers_of ws)))
+      ∙ sym (value_null (weights_from 0 0 (closed_generators q) (coefficient (scaled_weights ws))) (column (closed_generators q) c)
+      (λ i. ap (λ (g : Generator). coefficient g.row c) (collapsed_generator_at q.space.variables (dependences_of q) (generators q) i)
+      ∙ collapsed_none q.space.variables q.space.rates (dependences_of q) (dependences_sound q k) (generator_at (generators q) i).row c (row_up_to i) e))
+    where
+      none : (x : ℤ) → x *ℤ pos 0 ≡ pos 0
+      none x = omega (arith, ints)
+
+  spread_sum : (c : ℕ) → 0 < c → c < size_of q.space + 1
+      → pos (scale_of (numbers_of ws)) *ℤ value target (spread_out q.space.variables (dependences_of q) (one_at c))
+      ≡ combination (weights_from 0 0 (generators q) (coefficient (scaled_weights ws))) (λ i. value (generator_at (generators q) i).row (spread_out q.space.variables (dependences_of q) (one_at c)))
+  spread_sum c h l =
+      ap (λ x. pos (scale_of (numbers_of ws)) *ℤ x) (collapsed_at q.space.variables (dependences_of q) target c h)
+      ∙ closed_sum c (find (closed_places q) c)
+      ∙ ap (λ ts. value ts (column (closed_generators q) c)) (weights_same q.space.variables (dependences_of q) (generators q) 0 0 (coefficient (scaled_weights ws)))
+      ∙ sym (weighted_value (generators q) (weights_from 0 0 (generators q) (coefficient (scaled_weights ws))) (spread_out q.space.variables (dependences_of q) (one_at c)) (column (closed_generators q) c)
+      (λ i. collapsed_at q.space.variables (dependences_of q) (generator_at (generators q) i).row c h ∙ sym (ap (λ (g : Generator). coefficient g.row c) (collapsed_generator_at q.space.variables (dependences_of q) (generators q) i))))
+
+  module _ (fit : NumbersFit (numbers_of ws)) where
+    pub parts_canonical : Ascends 0 (closed_weights q ws).parts
+    parts_canonical = weights_ascend (generators q) 0 0 (coefficient (scaled_weights ws)) (scaled_positive (closed_generators q) (closed_places q) (closed_target q target) ws a)
+        (coefficient_within 0 (scaled_weights ws) (scaled_canonical (closed_generators q) (closed_places q) (closed_target q target) ws a fit.numbers))
+
+    given : AddUpOverClosed q (read_of q) target (closed_weights q ws)
+    given = record {
+      order = in_order 0 (closed_weights q ws).parts parts_canonical;
+      allowed = all_of (IsAllowed (generators_of q)) (closed_weights q ws).parts
+          (weights_allowed (generators q) (generators q) 0 0 (coefficient (scaled_weights ws)) (scaled_positive (closed_generators q) (closed_places q) (closed_target q target) ws a) (omega arith) (λ i l. ap (generator_at (generators q)) (plain i)));
+      within = all_of (λ (t : ℕ × ℤ). IsWithin t.1) (closed_weights q ws).parts (each_within 0 (closed_weights q ws).parts parts_canonical);
+      sums = spread_sum;
+    }
+      where
+        plain : (i : ℕ) → 0 + i ≡ i
+        plain i = omega arith
+
+    -- as the code has it
+    pub lift_given : (d : DependencesView) (w : CertificateView) → read_of q ≡ d → w ≡ closed_weights q ws → AddUpOverClosed q d target w
+    lift_given d w e s = subst (λ (x : DependencesView). AddUpOverClosed q x target w) e (subst (AddUpOverClosed q (read_of q) target) (sym s) given)
+
+    -- what it gives certifies the target
+    pub lift_certifies : (d : DependencesView) (w new : CertificateView) → w ≡ closed_weights q ws → IsLiftOf q d target w new → CertifiesRow q target new
+    lift_certifies d w new s i = record {
+      scale_from_one = subst (λ (x : ℤ). pos 1 ≤ℤ x) (sym (i.scale ∙ ap (λ (x : CertificateView). x.scale) s)) (scale_least (closed_generators q) (closed_places q) (closed_target q target) ws a);
+      allowed = i.allowed;
+      adds_up = λ c h l. i.adds_up (one_at c) (one_at-zero c h);
+    }
+
+-- ---- what it gives is the lift
+
+none_before : (from : ℕ) (ts : Terms) (c : ℕ) → InOrder from ts → c < from → coefficient ts c ≡ pos 0
+none_before from [] c a h = refl
+none_before from (t ∷ ts) c a h = other_is t ts c (λ e. omega (arith, a.0, e)) ∙ none_before (t.0 + 1) ts c a.1 (omega (arith, a.0))
+
+ascends_of : (from : ℕ) (ts : Terms) → InOrder from ts → Every (λ (t : ℕ × ℤ). t.1 ≢ pos 0) ts → ((c : ℕ) → IsWithin (coefficient ts c)) → Ascends from ts
+ascends_of from [] a e w = tt
+ascends_of from (t ∷ ts) a e w = (
+  a.0,
+  e.0,
+  subst IsWithin own (w t.0),
+  ascends_of (t.0 + 1) ts a.1 e.1 (λ c. rest c (nat_eq t.0 c) refl),
+)
+  where
+    apart : false ≡ true → ⊥
+    apart e = cc
+
+    past : coefficient ts t.0 ≡ pos 0
+    past = none_before (t.0 + 1) ts t.0 a.1 (omega arith)
+
+    plain : (x : ℤ) → x +ℤ pos 0 ≡ x
+    plain x = omega (arith, ints)
+
+    own : coefficient (t ∷ ts) t.0 ≡ t.1
+    own = ap₂ (λ b y. cond b t.1 (pos 0) +ℤ y) (Rattle.std.proofs.Common.eq-eqb t.0 t.0 refl) past ∙ plain t.1
+
+    rest : (c : ℕ) (b : Bool) → nat_eq t.0 c ≡ b → IsWithin (coefficient ts c)
+    rest c true q = subst (λ (m : ℕ). IsWithin (coefficient ts m)) (eqb-true t.0 c q) (subst IsWithin (sym past) (omega arith))
+    rest c false q = subst IsWithin (other_is t ts c (λ r. apart (sym q ∙ Rattle.std.proofs.Common.eq-eqb t.0 c r))) (w c)
+
+module _ (q : ProblemView) (target : Terms) (k : IsProblem q) (u : IsUpTo (size_of q.space) target) (ws : List (ℕ × Rational))
+    (a : SumsUp ring_ℚ order_ℚ (length (closed_places q)) (length (columns (closed_generators q))) (feasibility_problem (closed_places q) (columns (closed_generators q)) (closed_target q target)) ws)
+    (fit : NumbersFit (numbers_of ws)) where
+  is_lifted : (w new : CertificateView) → w ≡ closed_weights q ws → IsLiftOf q (read_of q) target w new → (dependences_of q ≡ [] → new ≡ w) → (dependences_of q ≢ [] → All (λ (p : ℕ × ℤ). p.1 ≢ pos 0) new.parts)
+      → (dependences_of q ≢ [] → FitsLift q (read_of q) target w) → IsLifted q target ws new
+  is_lifted w new s i same some fits = record {
+    scale = i.scale ∙ ap (λ (x : CertificateView). x.scale) s;
+    parts = for_each (dependences_of q) refl;
+    weights = λ j. i.weights j ∙ ap (λ (x : CertificateView). coefficient (lifted_weights q.space.variables (dependences_of q) (value target) (generators_of q) x) j) s;
+  }
+    where
+      apart : (d : Dependence) (ds : List Dependence) → (d ∷ ds) ≡ [] → ⊥
+      apart d ds e = cc
+
+      for_each : (ds : List Dependence) → dependences_of q ≡ ds → Ascends 0 new.parts
+      for_each [] e = subst (Ascends 0) (sym (ap (λ (x : CertificateView). x.parts) (same e ∙ s))) (parts_canonical q target k u ws a fit)
+      for_each (d ∷ ds) e =
+          let more : dependences_of q ≢ [] = λ f. apart d ds (sym e ∙ f) in
+          ascends_of 0 new.parts i.order (every_of (λ (p : ℕ × ℤ). p.1 ≢ pos 0) new.parts (some more)) (λ c. subst IsWithin (sym (i.weights c)) ((fits more).weights c))
+
+  pub lift_is : (d : DependencesView) (w new : CertificateView) → read_of q ≡ d → w ≡ closed_weights q ws → IsLiftOf q d target w new → (d.list ≡ [] → new ≡ w) → (d.list ≢ [] → All (λ (p : ℕ × ℤ). p.1 ≢ pos 0) new.parts)
+      → (d.list ≢ [] → FitsLift q d target w) → IsLifted q target ws new
+  lift_is d w new e s = subst (λ (x : DependencesView). IsLiftOf q x target w new → (x.list ≡ [] → new ≡ w) → (x.list ≢ [] → All (λ (p : ℕ × ℤ). p.1 ≢ pos 0) new.parts) → (x.list ≢ [] → FitsLift q x target w) → IsLifted q target ws new) e (is_lifted w new s)
+
+-- a lift is one alone
+pub one_lift : (q : ProblemView) (target : Terms) (ws : List (ℕ × Rational)) (v w : CertificateView) → IsLifted q target ws v → IsLifted q target ws w → v ≡ w
+one_lift q target ws v w a b = ap₂ (λ x y. record { scale = x; parts = y }) (a.scale ∙ sym b.scale) (told 0 v.parts w.parts a.parts b.parts (λ i. a.weights i ∙ sym (b.weights i)))
+
+pub are_of_so : (q : ProblemView) (d : DependencesView) → IsProblem q → read_of q ≡ d → AreOf q d
+are_of_so q d k e = subst (AreOf q) e (are_of q k)

@@ -1,0 +1,276 @@
+-- A point that separates the target from the columns, made whole, refutes the target.
+use Rattle.std.proofs.Common.{◌≡◌, ℕ, zero, suc, ◌+◌, ◌-◌, ◌^◌, ◌<◌, ◌≤◌, ℤ, pos, negsuc, neg_ℤ, ◌+ℤ◌, ◌*ℤ◌, ◌≤ℤ◌, List, [], ◌∷◌, ◌++◌, map, length, drop, get_or, append_assoc, append-nil, All, Bool, true, false, cond, nat_eq, eq-eqb, ne_eqb, refl, sym, ap, ap₂, subst, ◌∙◌, arith}
+use Rattle.std.specs.List.{zip}
+use Rattle.std.proofs.lemmas.Bool.{eqb-true}
+use Rattle.std.proofs.lemmas.Nat.{pow_pos}
+use Rattle.it_number.specs.Limit.{IsWithin}
+use Rattle.it_number.proofs.Ring.{ring, v, nil}
+use Rattle.it_number.proofs.Ring as S
+use Rattle.std.proofs.lemmas.Int.{ints}
+use Rattle.std.proofs.lemmas.List.{drop_more, drop_all, get_or-map, get_or_default, length-map}
+use Rattle.it_number.proofs.Integers.{zring}
+use Rattle.it_rational.specs.Rational.{Rational, whole, times, is_at_least_zero}
+use Rattle.it_rational.proofs.RationalLaws.{ring_ℚ}
+use Rattle.it_rational.proofs.Field.{order_ℚ}
+use Rattle.it_space.specs.declared.problems.Kind.{Kind}
+use Rattle.it_space.specs.declared.problems.Kind.TheVariants.{Inequality, Equation}
+use Rattle.it_space.specs.declared.spaces.Space.{Space}
+use Rattle.it_space.specs.Problems.{ProblemView, IsProblem, Meets}
+use Rattle.it_space.specs.Rows.{Terms, Ascends, IsUpTo, coefficient, map_of, value}
+use Rattle.it_space.specs.Spaces.{size_of}
+use Rattle.it_polymatroid.proofs.Every.{Every, every_of, all_of, every-flat_map, every_flat_mapped, every-same, every-map, every_mapped}
+use Rattle.it_polymatroid.specs.Elementals.{span}
+use Rattle.it_elemental.proofs.Spans.{get_or-span, length-span}
+use Rattle.it_tableau.specs.Problems.{feasibility_problem}
+use Rattle.it_run.specs.Readings.{Separates}
+use Rattle.it_run.specs.RowValues.{value_at}
+use Rattle.it_run.proofs.RowValues.{separates}
+use Rattle.it_elemental.specs.Generators.{Generator, generators}
+use Rattle.it_check.specs.Meaning.{RefutesRow}
+use Rattle.it_check.proofs.NoMeaning.{listed_met}
+use Rattle.it_elemental.proofs.GeneratorLemmas.{rows_of_space}
+use Rattle.it_closure.specs.declared.dependences.Dependence.{Dependence}
+use Rattle.it_closure.specs.Collapse.{place, spread_out}
+use Rattle.it_closure.specs.Coordinates.{RiseTo}
+use Rattle.it_closure.specs.Reading.{dependences_of}
+use Rattle.it_prove.specs.Columns.{negated_terms, columns_by, columns_of, columns, if_some}
+use Rattle.it_prove.specs.Closed.{collapsed_row, collapsed_generator, closed_places, closed_generators, closed_target, spread_values, spread_point}
+use Rattle.it_prove.specs.Steps.{pairs}
+use Rattle.it_prove.specs.Scaling.{scale_of, scaled_number, scaled_point}
+use Rattle.it_prove.proofs.Scales.{scale_pos, divides}
+use Rattle.it_prove.proofs.ClosedRows.{In, rise_low, rise_apart, coords_rise, collapsed_over, collapsed_value}
+use Rattle.it_prove.proofs.LiftLemmas.{if_some_ascends, coefficient_within, lower, dependences_sound, below_size}
+use Rattle.it_prove.proofs.Wholes.{whole_scaled, least_scaled, below_scaled}
+use Prim.Native.Nat.{◌∣◌}
+
+-- ---- rows of the columns
+
+turned_keeps : (P : ℕ → Type 0) (row : Terms) → Every (λ t. P t.0) row → Every (λ t. P t.0) (negated_terms row)
+turned_keeps P [] u = tt
+turned_keeps P (t ∷ ts) u = (u.0, turned_keeps P ts u.1)
+
+by_kind : (P : ℕ → Type 0) (k : Kind) (row : Terms) → Every (λ t. P t.0) row → Every (λ (r : Terms). Every (λ t. P t.0) r) (columns_by k row)
+by_kind P Inequality row u = (u, tt)
+by_kind P Equation row u = (u, (turned_keeps P row u, tt))
+
+pub columns_keep : (P : ℕ → Type 0) (gs : List Generator) → Every (λ g. Every (λ t. P t.0) g.row) gs → Every (λ (r : Terms). Every (λ t. P t.0) r) (columns gs)
+unfolding columns
+columns_keep P gs u = every-flat_map (λ (r : Terms). Every (λ t. P t.0) r) columns_of gs (every-same (λ g. Every (λ t. P t.0) g.row) (λ g. Every (λ (r : Terms). Every (λ t. P t.0) r) (columns_of g)) gs (λ g h. by_kind P g.kind g.row h) u)
+
+pub value-turned : (row : Terms) (p : ℕ → ℤ) → value (negated_terms row) p ≡ neg_ℤ (value row p)
+value-turned [] p = refl
+value-turned (t ∷ ts) p = both t.1 (p t.0) (value (negated_terms ts) p) (value ts p) (value-turned ts p)
+  where
+    both : (x y z s : ℤ) → z ≡ neg_ℤ s → neg_ℤ x *ℤ y +ℤ z ≡ neg_ℤ (x *ℤ y +ℤ s)
+    both x y z s e = omega (arith, zring, e)
+
+-- where each column is at least 0 the generators are met
+met_by_kind : (k : Kind) (row : Terms) (p : ℕ → ℤ) → Every (λ r. pos 0 ≤ℤ value r p) (columns_by k row) → Meets k (value row p)
+met_by_kind Inequality row p e = e.0
+met_by_kind Equation row p e = squeezed (value row p) (value (negated_terms row) p) e.0 e.1.0 (value-turned row p)
+  where
+    squeezed : (x y : ℤ) → pos 0 ≤ℤ x → pos 0 ≤ℤ y → y ≡ neg_ℤ x → x ≡ pos 0
+    squeezed x y h k e = omega (arith, ints, e)
+
+pub columns_met : (gs : List Generator) (p : ℕ → ℤ) → Every (λ r. pos 0 ≤ℤ value r p) (columns gs) → Every (λ g. Meets g.kind (value g.row p)) gs
+unfolding columns
+columns_met gs p e = every-same (λ g. Every (λ r. pos 0 ≤ℤ value r p) (columns_of g)) (λ g. Meets g.kind (value g.row p)) gs (λ g h. met_by_kind g.kind g.row p h) (every_flat_mapped (λ r. pos 0 ≤ℤ value r p) columns_of gs e)
+
+-- ---- a point's values by coordinate
+
+coefficient_some : (x : ℕ) (y : ℤ) (rest : Terms) (c : ℕ) → coefficient (if_some x y ++ rest) c ≡ cond (nat_eq x c) y (pos 0) +ℤ coefficient rest c
+coefficient_some x (pos zero) rest c = by_test (nat_eq x c)
+  where
+    plain : (z : ℤ) → z ≡ pos 0 +ℤ z
+    plain z = omega (arith, ints)
+
+    by_test : (b : Bool) → coefficient rest c ≡ cond b (pos 0) (pos 0) +ℤ coefficient rest c
+    by_test true = plain (coefficient rest c)
+    by_test false = plain (coefficient rest c)
+coefficient_some x (pos (suc n)) rest c = refl
+coefficient_some x (negsuc n) rest c = refl
+
+pub pairs_below : (from to : ℕ) (cs : List ℕ) (vs : List ℤ) (c : ℕ) → RiseTo from to cs → c < from → coefficient (pairs cs vs) c ≡ pos 0
+pairs_below from to [] vs c r h = refl
+pairs_below from to (x ∷ xs) [] c r h = refl
+pairs_below from to (x ∷ xs) (y ∷ vs) c r h =
+    coefficient_some x y (pairs xs vs) c
+    ∙ ap₂ (λ b z. cond b y (pos 0) +ℤ z) (ne_eqb x c (λ e. omega (arith, r.0, e))) (pairs_below (x + 1) to xs vs c r.1 (omega (arith, r.0)))
+
+pub pairs_ascend : (from to : ℕ) (cs : List ℕ) (vs : List ℤ) → RiseTo from to cs → Every IsWithin vs → Ascends from (pairs cs vs)
+pairs_ascend from to [] vs r w = tt
+pairs_ascend from to (x ∷ xs) [] r w = tt
+pairs_ascend from to (x ∷ xs) (y ∷ vs) r w = if_some_ascends from x y (pairs xs vs) r.0 w.0 (pairs_ascend (x + 1) to xs vs r.1 w.1)
+
+pub every_all : {X : Type 0} (P : X → Type 0) (xs : List X) → ((x : X) → P x) → Every P xs
+every_all P [] f = tt
+every_all P (x ∷ xs) f = (f x, every_all P xs f)
+
+-- as the code puts them one behind the other
+pub spread_more : (F : ℕ → ℤ) (size c : ℕ) (old new : List ℤ) → c ≤ size → new ≡ old ++ F c ∷ [] → old ++ map F (span c (size + 1 - c)) ≡ map F (span 1 size)
+    → new ++ map F (span (c + 1) (size + 1 - (c + 1))) ≡ map F (span 1 size)
+spread_more F size c old new h is inv =
+    let one : size + 1 - c ≡ suc (size + 1 - (c + 1)) = omega arith in
+    ap (λ xs. xs ++ map F (span (c + 1) (size + 1 - (c + 1)))) is ∙ append_assoc old (F c ∷ []) (map F (span (c + 1) (size + 1 - (c + 1)))) ∙ ap (λ n. old ++ map F (span c n)) (sym one) ∙ inv
+
+-- the spread values are of the point
+pub spread_length : (n : ℕ) (ds : List Dependence) (size : ℕ) (row : Terms) → length (spread_values n ds size row) ≡ size
+spread_length n ds size row = length-map (span 1 size) (λ c. coefficient row (place n ds c)) ∙ length-span 1 size
+
+pub spread_within : (n : ℕ) (ds : List Dependence) (size : ℕ) (row : Terms) → Ascends 0 row → All IsWithin (spread_values n ds size row)
+spread_within n ds size row a = all_of IsWithin (spread_values n ds size row) (every-map IsWithin (λ c. coefficient row (place n ds c)) (span 1 size) (every_all (λ c. IsWithin (coefficient row (place n ds c))) (span 1 size) (λ c. coefficient_within 0 row a (place n ds c))))
+
+-- zeros left in or out, the values at the places are the same
+pairs_same : (cs : List ℕ) (vs : List ℤ) (c : ℕ) → coefficient (pairs cs vs) c ≡ coefficient (zip cs vs) c
+pairs_same [] vs c = refl
+pairs_same (x ∷ xs) [] c = refl
+pairs_same (x ∷ xs) (y ∷ vs) c = coefficient_some x y (pairs xs vs) c ∙ ap (λ z. cond (nat_eq x c) y (pos 0) +ℤ z) (pairs_same xs vs c)
+
+spread_same : (n : ℕ) (ds : List Dependence) (size : ℕ) (cs : List ℕ) (vs : List ℤ) → spread_values n ds size (pairs cs vs) ≡ spread_values n ds size (zip cs vs)
+spread_same n ds size cs vs = ap (λ (f : ℕ → ℤ). map (spread_out n ds f) (span 1 size)) (λ i c. pairs_same cs vs c i)
+
+-- as the code has them
+pub point_spread : (q : ProblemView) (s : Space) (ds : List Dependence) (cs : List ℕ) (qs : List Rational) (row : Terms) (values : List ℤ)
+    → s ≡ q.space → ds ≡ dependences_of q → cs ≡ closed_places q → row ≡ pairs cs (scaled_point qs) → values ≡ spread_values s.variables ds (size_of s) row → values ≡ spread_point q qs
+point_spread q s ds cs qs row values space list places is e =
+    e ∙ ap₂ (λ (t : Space) (es : List Dependence). spread_values t.variables es (size_of t) row) space list
+    ∙ ap (spread_values q.space.variables (dependences_of q) (size_of q.space)) (is ∙ ap (λ (xs : List ℕ). pairs xs (scaled_point qs)) places)
+    ∙ spread_same q.space.variables (dependences_of q) (size_of q.space) (closed_places q) (scaled_point qs)
+
+abbrev found : List ℕ → List Rational → ℕ → Rational
+found [] qs c = whole (pos 0)
+found (x ∷ xs) [] c = whole (pos 0)
+found (x ∷ xs) (q ∷ qs) c = cond (nat_eq x c) q (found xs qs c)
+
+nothing : (l : ℕ) → whole (pos 0) ≡ times (whole (pos l)) (whole (pos 0))
+nothing l = sym (ring ring_ℚ (whole (pos l) ∷ []) (S.times (v 0) nil) nil refl)
+
+whole_found : (l from to : ℕ) (cs : List ℕ) (qs : List Rational) → RiseTo from to cs → Every (λ q. q.den ∣ l) qs → (c : ℕ)
+    → whole (coefficient (pairs cs (map (scaled_number l) qs)) c) ≡ times (whole (pos l)) (found cs qs c)
+whole_found l from to [] qs r d c = nothing l
+whole_found l from to (x ∷ xs) [] r d c = nothing l
+whole_found l from to (x ∷ xs) (q ∷ qs) r d c = ap whole (coefficient_some x (scaled_number l q) (pairs xs (map (scaled_number l) qs)) c) ∙ by_test (nat_eq x c) refl (whole_found l (x + 1) to xs qs r.1 d.1 c)
+  where
+    right : (y : ℤ) → y +ℤ pos 0 ≡ y
+    right y = omega (arith, ints)
+
+    left : (y : ℤ) → pos 0 +ℤ y ≡ y
+    left y = omega (arith, ints)
+
+    by_test : (b : Bool) → nat_eq x c ≡ b → whole (coefficient (pairs xs (map (scaled_number l) qs)) c) ≡ times (whole (pos l)) (found xs qs c)
+        → whole (cond b (scaled_number l q) (pos 0) +ℤ coefficient (pairs xs (map (scaled_number l) qs)) c) ≡ times (whole (pos l)) (cond b q (found xs qs c))
+    by_test true e ih =
+        let past : coefficient (pairs xs (map (scaled_number l) qs)) c ≡ pos 0 = pairs_below (x + 1) to xs (map (scaled_number l) qs) c r.1 (omega (arith, eqb-true x c e)) in
+        ap (λ y. whole (scaled_number l q +ℤ y)) past ∙ ap whole (right (scaled_number l q)) ∙ whole_scaled l q d.0
+    by_test false e ih = ap whole (left (coefficient (pairs xs (map (scaled_number l) qs)) c)) ∙ ih
+
+found_at : (from to : ℕ) (cs : List ℕ) (qs : List Rational) → RiseTo from to cs → length qs ≡ length cs → (k : ℕ) → k < length cs → found cs qs (get_or cs k 0) ≡ get_or qs k (whole (pos 0))
+found_at from to [] qs r e k h = absurd (omega arith)
+found_at from to (x ∷ xs) [] r e k h = absurd (omega (arith, e))
+found_at from to (x ∷ xs) (q ∷ qs) r e zero h = ap (λ b. cond b q (found xs qs x)) (eq-eqb x x refl)
+found_at from to (x ∷ xs) (q ∷ qs) r e (suc k) h =
+    ap (λ b. cond b q (found xs qs (get_or xs k 0))) (ne_eqb x (get_or xs k 0) (λ f. omega (arith, rise_low (x + 1) to xs r.1 k (omega arith), f)))
+    ∙ found_at (x + 1) to xs qs r.1 (omega (arith, e)) k (omega arith)
+
+every_both : {X : Type 0} (P Q R : X → Type 0) (xs : List X) → ((x : X) → P x → Q x → R x) → Every P xs → Every Q xs → Every R xs
+every_both P Q R [] f a b = tt
+every_both P Q R (x ∷ xs) f a b = (f x a.0 b.0, every_both P Q R xs f a.1 b.1)
+
+every_at : {X : Type 0} (P : X → Type 0) (xs : List X) (i : ℕ) (d : X) → Every P xs → i < length xs → P (get_or xs i d)
+every_at P xs i d e h = all_of P xs e i d h
+
+-- the values at all coordinates are those at their places
+value_spread : (n : ℕ) (ds : List Dependence) (size : ℕ) (at : Terms) (row : Terms) → IsUpTo size row → value row (map_of (spread_values n ds size at)) ≡ value row (spread_out n ds (coefficient at))
+value_spread n ds size at row u = each row (every_of (λ (t : ℕ × ℤ). (1 ≤ t.0) × (t.0 ≤ size)) row u)
+  where
+    here : (c : ℕ) → 1 ≤ c → c ≤ size → map_of (spread_values n ds size at) c ≡ coefficient at (place n ds c)
+    here zero h l = absurd (omega arith)
+    here (suc c) h l =
+        get_or-map (λ c. coefficient at (place n ds c)) (span 1 size) c 0 (pos 0) (omega (arith, length-span 1 size))
+        ∙ ap (λ c. coefficient at (place n ds c)) (get_or-span 1 size c 0 (omega arith) ∙ next c)
+      where
+        next : (c : ℕ) → 1 + c ≡ suc c
+        next c = omega arith
+
+    each : (ts : Terms) → Every (λ (t : ℕ × ℤ). (1 ≤ t.0) × (t.0 ≤ size)) ts → value ts (map_of (spread_values n ds size at)) ≡ value ts (spread_out n ds (coefficient at))
+    each [] b = refl
+    each (t ∷ ts) b = ap₂ (λ x y. t.1 *ℤ x +ℤ y) (here t.0 b.0.0 b.0.1) (each ts b.1)
+
+module _ (q : ProblemView) (target : Terms) (qs : List Rational) (k : IsProblem q) (u : IsUpTo (size_of q.space) target)
+    (s : Separates ring_ℚ order_ℚ (length (closed_places q)) (length (columns (closed_generators q))) (feasibility_problem (closed_places q) (columns (closed_generators q)) (closed_target q target)) qs) where
+  n : ℕ
+  n = q.space.variables
+
+  abbrev ds : List Dependence
+  ds = dependences_of q
+
+  abbrev values : Terms
+  values = pairs (closed_places q) (scaled_point qs)
+
+  sizes : size_of q.space < 2 ^ q.space.variables + q.space.rates
+  sizes = omega (arith, pow_pos q.space.variables)
+
+  rise : RiseTo 1 (2 ^ q.space.variables + q.space.rates) (closed_places q)
+  rise = coords_rise q.space.variables q.space.rates (dependences_of q) (dependences_sound q k)
+
+  whole_at : (c : ℕ) → whole (coefficient values c) ≡ times (whole (pos (scale_of qs))) (found (closed_places q) qs c)
+  whole_at = whole_found (scale_of qs) 1 (2 ^ q.space.variables + q.space.rates) (closed_places q) qs rise (divides 1 qs)
+
+  rows : Every (λ g. IsUpTo (size_of q.space) g.row) (generators q)
+  rows = rows_of_space q.space.variables (size_of q.space) q.constraints (omega arith) k.rows
+
+  over : (row : Terms) → IsUpTo (size_of q.space) row → Every (λ (t : ℕ × ℤ). In (closed_places q) t.0) (collapsed_row q.space.variables (dependences_of q) row)
+  over row b = collapsed_over q.space.variables q.space.rates (dependences_of q) (dependences_sound q k) row (below_size (size_of q.space) (2 ^ q.space.variables + q.space.rates) row sizes b)
+
+  columns_over : Every (λ (r : Terms). Every (λ (t : ℕ × ℤ). In (closed_places q) t.0) r) (columns (closed_generators q))
+  columns_over = columns_keep (In (closed_places q)) (closed_generators q)
+      (every-map (λ g. Every (λ (t : ℕ × ℤ). In (closed_places q) t.0) g.row) (collapsed_generator q.space.variables (dependences_of q)) (generators q)
+      (every-same (λ g. IsUpTo (size_of q.space) g.row) (λ g. Every (λ (t : ℕ × ℤ). In (closed_places q) t.0) (collapsed_row q.space.variables (dependences_of q) g.row)) (generators q) (λ g b. over g.row b) rows))
+
+  apart : ((j : ℕ) → j < length (columns (closed_generators q)) → is_at_least_zero (value_at (get_or (columns (closed_generators q)) j []) (found (closed_places q) qs)) ≡ true)
+      × (is_at_least_zero (value_at (closed_target q target) (found (closed_places q) qs)) ≡ false)
+  apart = separates (closed_places q) (rise_apart 1 (2 ^ q.space.variables + q.space.rates) (closed_places q) rise) (columns (closed_generators q)) (closed_target q target) qs (found (closed_places q) qs)
+      (λ j l. all_of (λ (t : ℕ × ℤ). In (closed_places q) t.0) (get_or (columns (closed_generators q)) j [])
+      (every_at (λ (r : Terms). Every (λ (t : ℕ × ℤ). In (closed_places q) t.0) r) (columns (closed_generators q)) j [] columns_over l))
+      (all_of (λ (t : ℕ × ℤ). In (closed_places q) t.0) (closed_target q target) (over target u))
+      (λ j l. found_at 1 (2 ^ q.space.variables + q.space.rates) (closed_places q) qs rise s.complete j l) s
+
+  scaled_row : (row : Terms) → Every (λ (t : ℕ × ℤ). whole (coefficient values t.0) ≡ times (whole (pos (scale_of qs))) (found (closed_places q) qs t.0)) row
+  scaled_row row = every_all (λ (t : ℕ × ℤ). whole (coefficient values t.0) ≡ times (whole (pos (scale_of qs))) (found (closed_places q) qs t.0)) row (λ t. whole_at t.0)
+
+  none : coefficient values 0 ≡ pos 0
+  none = pairs_below 1 (2 ^ q.space.variables + q.space.rates) (closed_places q) (scaled_point qs) 0 rise (omega arith)
+
+  closed_met : Every (λ g. Meets g.kind (value g.row (coefficient values))) (closed_generators q)
+  closed_met = columns_met (closed_generators q) (coefficient values) (every_of (λ r. pos 0 ≤ℤ value r (coefficient values)) (columns (closed_generators q))
+      (λ j d l. subst (λ r. pos 0 ≤ℤ value r (coefficient values)) (get_or_default (columns (closed_generators q)) j [] d l)
+      (least_scaled (scale_of qs) (coefficient values) (found (closed_places q) qs) (scale_pos 1 qs (omega arith)) (get_or (columns (closed_generators q)) j [])
+      (scaled_row (get_or (columns (closed_generators q)) j [])) (apart.0 j l))))
+
+  value_same : (row : Terms) → IsUpTo (size_of q.space) row → value (collapsed_row q.space.variables (dependences_of q) row) (coefficient values) ≡ value row (map_of (spread_point q qs))
+  value_same row b = collapsed_value q.space.variables (dependences_of q) row (coefficient values) none ∙ sym (value_spread q.space.variables (dependences_of q) (size_of q.space) values row b)
+      ∙ ap (λ (vs : List ℤ). value row (map_of vs)) (spread_same q.space.variables (dependences_of q) (size_of q.space) (closed_places q) (scaled_point qs))
+
+  met : Every (λ g. Meets g.kind (value g.row (map_of (spread_point q qs)))) (generators q)
+  met = every_both (λ g. IsUpTo (size_of q.space) g.row) (λ g. Meets g.kind (value (collapsed_row q.space.variables (dependences_of q) g.row) (coefficient values))) (λ g. Meets g.kind (value g.row (map_of (spread_point q qs)))) (generators q)
+      (λ g b m. subst (Meets g.kind) (value_same g.row b) m) rows
+      (every_mapped (λ g. Meets g.kind (value g.row (coefficient values))) (collapsed_generator q.space.variables (dependences_of q)) (generators q) closed_met)
+
+  pub point_right : RefutesRow q target (spread_point q qs)
+  point_right =
+      let both = listed_met q.space.variables q.constraints (map_of (spread_point q qs)) refl met in
+      record {
+        complete = spread_length q.space.variables (dependences_of q) (size_of q.space) (zip (closed_places q) (scaled_point qs));
+        polymatroid = both.0;
+        met = both.1;
+        violated = subst (λ (z : ℤ). z ≤ℤ neg_ℤ (pos 1)) (value_same target u)
+            (below_scaled (scale_of qs) (coefficient values) (found (closed_places q) qs) (scale_pos 1 qs (omega arith)) (closed_target q target) (scaled_row (closed_target q target)) apart.1);
+      }
+
+-- the coordinates as the code has them
+pub places_rise : (q : ProblemView) (cs : List ℕ) → IsProblem q → cs ≡ closed_places q → (to : ℕ) × RiseTo 1 to cs
+places_rise q cs k e = (2 ^ q.space.variables + q.space.rates, subst (RiseTo 1 (2 ^ q.space.variables + q.space.rates)) (sym e) (coords_rise q.space.variables q.space.rates (dependences_of q) (dependences_sound q k)))
+
+-- and the row of the scaled values
+pub pairs_canonical : (cs : List ℕ) (vs : List ℤ) (ts : Terms) → ts ≡ pairs cs vs → (to : ℕ) × RiseTo 1 to cs → All IsWithin vs → Ascends 0 ts
+pairs_canonical cs vs ts e r w = subst (Ascends 0) (sym e) (lower 0 1 (pairs cs vs) (omega arith) (pairs_ascend 1 r.0 cs vs r.1 (every_of IsWithin vs w)))

@@ -1,0 +1,237 @@
+-- From the ends of the run and the checker's verdict to the outcome.
+use Rattle.std.proofs.Common.{◌≡◌, ◌⊎◌, inl, inr, ℕ, zero, suc, ℤ, List, [], ◌∷◌, map, length, get_or, All, Option, Some, None, refl, sym, ap, subst, subst₂, ◌∙◌}
+use Rattle.std.specs.Option.{IfSome}
+use Rattle.it_number.specs.Limit.{IsWithin}
+use Rattle.it_rational.specs.Rational.{Rational, whole}
+use Rattle.it_rational.proofs.RationalLaws.{ring_ℚ}
+use Rattle.it_rational.proofs.Field.{order_ℚ}
+use Rattle.it_space.specs.declared.answers.Cause.{Cause}
+use Rattle.it_space.specs.declared.answers.Cause.TheVariants.{Scale}
+use Rattle.it_space.specs.declared.answers.Cause.TheVariants as causes
+use Rattle.it_space.specs.Problems.{ProblemView, IsProblem}
+use Rattle.it_space.specs.Answers.{CertificateView}
+use Rattle.it_space.specs.Rows.{Terms, IsCanonical, IsUpTo, coefficient, map_of}
+use Rattle.it_space.specs.Spaces.{size_of}
+use Rattle.it_polymatroid.specs.Elementals.{elementals}
+use Rattle.it_polymatroid.proofs.Every.{Every, all_of, every-map}
+use Rattle.it_tableau.specs.Problems.{feasibility_problem}
+use Rattle.it_run.specs.Readings.{SumsUp, Separates}
+use Rattle.it_run.specs.Runs.{RunEndView}
+use Rattle.it_run.specs.Runs.RunEndView.{Weights, Point, Pivots, Width}
+use Rattle.it_run.specs.Solving.{RunsTo}
+use Rattle.it_simplex.specs.Answers.{Solves, IsRightSolved as IsRightAnswer}
+use Rattle.it_run.specs.Answers.{solved_end}
+use Rattle.it_run.specs.declared.answering.Solved.{Solved}
+use Rattle.it_run.specs.declared.answering.Solved.TheVariants.{Weights as OfWeights, Point as OfPoint, Pivots as OfPivots, Width as OfWidth}
+use Rattle.it_closure.specs.Coordinates.{closed_coordinates}
+use Rattle.it_closure.specs.DependencesViews.{DependencesView}
+use Rattle.it_closure.specs.Reading.{dependences_of}
+use Rattle.it_tableau.specs.Tables as Table
+use Rattle.it_tableau.specs.Tables.{start}
+use Rattle.it_tableau.specs.Fits.{StartFits}
+use Rattle.it_simplex.proofs.AnswerLemmas.{ends_once as run_ends_once}
+use Rattle.it_elemental.specs.Generators.{generators}
+use Rattle.it_check.specs.Meaning.{CertifiesRow, CertificateFits, RefutesRow, PointFits}
+use Rattle.it_check.specs.Verdicts.{yes_verdict, no_verdict}
+use Rattle.it_check.specs.declared.verdicts.Verdict.TheVariants.{Valid}
+use Rattle.it_check.proofs.Truth.{valid_yes_is, valid_no_is}
+use Rattle.it_prove.specs.Columns.{columns}
+use Rattle.it_prove.specs.Steps.{SameRows}
+use Rattle.it_prove.specs.Closed.{closed_places, closed_generators, closed_target, CollapsesFit, spread_point}
+use Rattle.it_prove.specs.Scaling.{EachFits, NumbersFit, scaled_number}
+use Rattle.it_prove.specs.ProofViews.{ProofView, Yes, No, Undecided, IsLifted, LiftedFit, Follows, Runs, EndsWith, IsRightProof, OneProofView, ProvenAscends}
+use Rattle.it_prove.proofs.PointLemmas.{point_right}
+use Rattle.it_prove.proofs.LiftLemmas.{one_lift}
+
+module _ (q : ProblemView) (target : Terms) (k : IsProblem q) (u : IsUpTo (size_of q.space) target) where
+  -- ---- weights
+
+  module _ (ws : List (ℕ × Rational)) (w : CertificateView) (lift : IsLifted q target ws w) (certifies : CertifiesRow q target w) where
+    pub proven_follows : LiftedFit q target ws → Valid ≡ yes_verdict (generators q) (size_of q.space) target w → Follows q target (Weights ws) (Yes w)
+    proven_follows fit e = inl (w, lift, record { lifted = fit; check = ((valid_yes_is q target w k u).0 (sym e)).1 }, refl)
+
+    pub proven_right : Valid ≡ yes_verdict (generators q) (size_of q.space) target w → IsRightProof q target (Yes w)
+    proven_right e = (valid_yes_is q target w k u).0 (sym e)
+
+    pub wide_certificate : (yes_verdict (generators q) (size_of q.space) target w ≡ Valid → ⊥) → Follows q target (Weights ws) (Undecided Scale)
+    wide_certificate n = inr (
+      (λ v l f. n ((valid_yes_is q target w k u).1 (certifies, subst (CertificateFits q target) (one_lift q target ws v w l lift) f.check))),
+      refl,
+    )
+
+  -- ---- points
+
+  module _ (qs : List Rational) (values : List ℤ) (same : values ≡ spread_point q qs) (fit : NumbersFit qs)
+      (s : Separates ring_ℚ order_ℚ (length (closed_places q)) (length (columns (closed_generators q))) (feasibility_problem (closed_places q) (columns (closed_generators q)) (closed_target q target)) qs) where
+    refutes : RefutesRow q target values
+    refutes = subst (RefutesRow q target) (sym same) (point_right q target qs k u s)
+
+    pub refuted_right : Valid ≡ no_verdict (length (elementals q.space.variables)) (generators q) target (map_of values) → IsRightProof q target (No values)
+    refuted_right e = (valid_no_is q target values k u refutes.complete).0 (sym e)
+
+    pub refuted_follows : Valid ≡ no_verdict (length (elementals q.space.variables)) (generators q) target (map_of values) → Follows q target (Point qs) (No values)
+    refuted_follows e = inl (record { numbers = fit; check = subst (PointFits q target) same ((valid_no_is q target values k u refutes.complete).0 (sym e)).1 }, ap No same)
+
+    pub wide_point : (no_verdict (length (elementals q.space.variables)) (generators q) target (map_of values) ≡ Valid → ⊥) → Follows q target (Point qs) (Undecided Scale)
+    wide_point n = inr ((λ f. n ((valid_no_is q target values k u refutes.complete).1 (refutes, subst (PointFits q target) (sym same) f.check))), refl)
+
+    pub point_size : length values ≡ size_of q.space
+    point_size = refutes.complete
+
+-- scaled numbers that fit are within the limit
+pub scaled_within : (l : ℕ) (qs : List Rational) (values : List ℤ) → values ≡ map (scaled_number l) qs → EachFits l qs → All IsWithin values
+scaled_within l qs values e f = subst (All IsWithin) (sym e) (all_of IsWithin (map (scaled_number l) qs) (every-map IsWithin (scaled_number l) qs (each qs f)))
+  where
+    each : (qs : List Rational) → EachFits l qs → Every (λ q. IsWithin (scaled_number l q)) qs
+    each [] f = tt
+    each (q ∷ qs) f = (f.0, each qs f.1)
+
+-- ---- the run
+
+-- rows with the same coefficients make the same table
+same_length : (rs ss : List Terms) → SameRows rs ss → length rs ≡ length ss
+same_length [] [] s = refl
+same_length [] (x ∷ xs) s = absurd s
+same_length (r ∷ rs) [] s = absurd s
+same_length (r ∷ rs) (x ∷ xs) s = ap suc (same_length rs xs s.1)
+
+same_at : (rs ss : List Terms) → SameRows rs ss → (j c : ℕ) → coefficient (get_or rs j []) c ≡ coefficient (get_or ss j []) c
+same_at [] [] s j c = refl
+same_at [] (x ∷ xs) s j c = absurd s
+same_at (r ∷ rs) [] s j c = absurd s
+same_at (r ∷ rs) (x ∷ xs) s zero c = s.0 c
+same_at (r ∷ rs) (x ∷ xs) s (suc j) c = same_at rs xs s.1 j c
+
+module _ (coords : List ℕ) (rs ss : List Terms) (s : SameRows rs ss) (r t : Terms) (e : (c : ℕ) → coefficient r c ≡ coefficient t c) where
+  same_problem : feasibility_problem coords rs r ≡ feasibility_problem coords ss t
+  same_problem i = record {
+    column = λ j k. whole (same_at rs ss s j (get_or coords k 0) i);
+    target = λ k. whole (e (get_or coords k 0) i);
+  }
+
+  abbrev run_by : ℕ → RunEndView (List (ℕ × Rational)) (List Rational) → ℕ → Table.FeasibilityProblem Rational → Type 0
+  run_by steps end n p = (¬ (StartFits (length coords) n p) × (end ≡ Width zero)) ⊎ (StartFits (length coords) n p × RunsTo (length coords) n p steps zero (start ring_ℚ order_ℚ (length coords) n p) end)
+
+  pub same_run : (steps : ℕ) (end : RunEndView (List (ℕ × Rational)) (List Rational)) → Solves coords rs r steps end → Solves coords ss t steps end
+  same_run steps end h = subst₂ (run_by steps end) (same_length rs ss s) same_problem h
+
+  pub same_sums : (ws : List (ℕ × Rational)) → SumsUp ring_ℚ order_ℚ (length coords) (length rs) (feasibility_problem coords rs r) ws → SumsUp ring_ℚ order_ℚ (length coords) (length ss) (feasibility_problem coords ss t) ws
+  same_sums ws h = subst₂ (λ (n : ℕ) (p : Table.FeasibilityProblem Rational). SumsUp ring_ℚ order_ℚ (length coords) n p ws) (same_length rs ss s) same_problem h
+
+  pub same_separates : (qs : List Rational) → Separates ring_ℚ order_ℚ (length coords) (length rs) (feasibility_problem coords rs r) qs → Separates ring_ℚ order_ℚ (length coords) (length ss) (feasibility_problem coords ss t) qs
+  same_separates qs h = subst₂ (λ (n : ℕ) (p : Table.FeasibilityProblem Rational). Separates ring_ℚ order_ℚ (length coords) n p qs) (same_length rs ss s) same_problem h
+
+-- the run of the code's rows is that of the problem
+module _ (q : ProblemView) (target : Terms) (coords : List ℕ) (at : coords ≡ closed_places q) (rs : List Terms) (s : SameRows rs (columns (closed_generators q)))
+    (r : Terms) (e : (c : ℕ) → coefficient r c ≡ coefficient (closed_target q target) c) where
+  pub ends_so : CollapsesFit q target → (steps : ℕ) (end : RunEndView (List (ℕ × Rational)) (List Rational)) (o : ProofView) → Solves coords rs r steps end → Follows q target end o → EndsWith q target steps o
+  ends_so fit steps end o h f = record {
+    end = end;
+    run = inr (fit, same_run (closed_places q) rs (columns (closed_generators q)) s r (closed_target q target) e steps end (subst (λ (cs : List ℕ). Solves cs rs r steps end) at h));
+    follows = f;
+  }
+
+  pub sums_so : (ws : List (ℕ × Rational)) → SumsUp ring_ℚ order_ℚ (length coords) (length rs) (feasibility_problem coords rs r) ws
+      → SumsUp ring_ℚ order_ℚ (length (closed_places q)) (length (columns (closed_generators q))) (feasibility_problem (closed_places q) (columns (closed_generators q)) (closed_target q target)) ws
+  sums_so ws h = same_sums (closed_places q) rs (columns (closed_generators q)) s r (closed_target q target) e ws (subst (λ (cs : List ℕ). SumsUp ring_ℚ order_ℚ (length cs) (length rs) (feasibility_problem cs rs r) ws) at h)
+
+  pub separates_so : (qs : List Rational) → Separates ring_ℚ order_ℚ (length coords) (length rs) (feasibility_problem coords rs r) qs
+      → Separates ring_ℚ order_ℚ (length (closed_places q)) (length (columns (closed_generators q))) (feasibility_problem (closed_places q) (columns (closed_generators q)) (closed_target q target)) qs
+  separates_so qs h = same_separates (closed_places q) rs (columns (closed_generators q)) s r (closed_target q target) e qs (subst (λ (cs : List ℕ). Separates ring_ℚ order_ℚ (length cs) (length rs) (feasibility_problem cs rs r) qs) at h)
+
+pub wide_start : (q : ProblemView) (target : Terms) (budget : Option ℕ) → ¬ (CollapsesFit q target) → IfSome budget (λ steps. EndsWith q target steps (Undecided (causes.Width 0)))
+wide_start q target None n = tt
+wide_start q target (Some steps) n = record { end = Width 0; run = inl (n, refl); follows = refl }
+
+pub if_some : (b : Option ℕ) (P Q : ℕ → Type 0) → IfSome b P → ((k : ℕ) → P k → Q k) → IfSome b Q
+if_some (Some k) P Q h f = f k h
+if_some None P Q h f = tt
+
+-- what the answer of the run shows, by its end
+abbrev IsRightEnd : List ℕ → List Terms → Terms → RunEndView (List (ℕ × Rational)) (List Rational) → Type 0
+IsRightEnd coords rs r (Weights ws) = SumsUp ring_ℚ order_ℚ (length coords) (length rs) (feasibility_problem coords rs r) ws
+IsRightEnd coords rs r (Point qs) = Separates ring_ℚ order_ℚ (length coords) (length rs) (feasibility_problem coords rs r) qs
+IsRightEnd coords rs r (Pivots k) = Unit {0}
+IsRightEnd coords rs r (Width k) = Unit {0}
+
+right_end : (coords : List ℕ) (rs : List Terms) (r : Terms) (x : Solved) → IsRightAnswer coords rs r x → IsRightEnd coords rs r (solved_end x)
+right_end coords rs r (OfWeights ws) h = h
+right_end coords rs r (OfPoint qs) h = h
+right_end coords rs r (OfPivots k) h = tt
+right_end coords rs r (OfWidth k) h = tt
+
+-- the same with what the code has
+module _ (q : ProblemView) (target : Terms) (d : DependencesView) (list : d.list ≡ dependences_of q) (coords items : List ℕ) (slice : coords ≡ items) (at : items ≡ closed_coordinates q.space.variables q.space.rates d.list)
+    (rs rows : List Terms) (same : rs ≡ rows) (s : SameRows rows (columns (closed_generators q))) (r : Terms) (e : (c : ℕ) → coefficient r c ≡ coefficient (closed_target q target) c) (x : Solved) where
+  places_are : coords ≡ closed_places q
+  places_are = slice ∙ at ∙ ap (closed_coordinates q.space.variables q.space.rates) list
+
+  rows_are : SameRows rs (columns (closed_generators q))
+  rows_are = subst (λ (xs : List Terms). SameRows xs (columns (closed_generators q))) (sym same) s
+
+  pub answered : CollapsesFit q target → (budget : Option ℕ) → IfSome budget (λ steps. Solves coords rs r steps (solved_end x)) → (end : RunEndView (List (ℕ × Rational)) (List Rational)) (o : ProofView) → solved_end x ≡ end → Follows q target end o
+      → IfSome budget (λ steps. EndsWith q target steps o)
+  answered fit budget h end o is f = if_some budget (λ steps. Solves coords rs r steps (solved_end x)) (λ steps. EndsWith q target steps o) h
+      (λ steps k. ends_so q target coords places_are rs rows_are r e fit steps end o (subst (Solves coords rs r steps) is k) f)
+
+  pub summed : IsRightAnswer coords rs r x → (part : List (ℕ × Rational)) → solved_end x ≡ Weights part
+      → SumsUp ring_ℚ order_ℚ (length (closed_places q)) (length (columns (closed_generators q))) (feasibility_problem (closed_places q) (columns (closed_generators q)) (closed_target q target)) part
+  summed h part is = sums_so q target coords places_are rs rows_are r e part (subst (IsRightEnd coords rs r) is (right_end coords rs r x h))
+
+  pub separated : IsRightAnswer coords rs r x → (part : List Rational) → solved_end x ≡ Point part
+      → Separates ring_ℚ order_ℚ (length (closed_places q)) (length (columns (closed_generators q))) (feasibility_problem (closed_places q) (columns (closed_generators q)) (closed_target q target)) part
+  separated h part is = separates_so q target coords places_are rs rows_are r e part (subst (IsRightEnd coords rs r) is (right_end coords rs r x h))
+
+-- ---- one outcome
+
+one_follows : (q : ProblemView) (target : Terms) (e : RunEndView (List (ℕ × Rational)) (List Rational)) (o p : ProofView) → Follows q target e o → Follows q target e p → o ≡ p
+one_follows q target (Weights ws) o p (inl a) (inl b) = a.3 ∙ ap Yes (one_lift q target ws a.0 b.0 a.1 b.1) ∙ sym b.3
+one_follows q target (Weights ws) o p (inl a) (inr b) = absurd (b.0 a.0 a.1 a.2)
+one_follows q target (Weights ws) o p (inr a) (inl b) = absurd (a.0 b.0 b.1 b.2)
+one_follows q target (Weights ws) o p (inr a) (inr b) = a.1 ∙ sym b.1
+one_follows q target (Point qs) o p (inl a) (inl b) = a.1 ∙ sym b.1
+one_follows q target (Point qs) o p (inl a) (inr b) = absurd (b.0 a.0)
+one_follows q target (Point qs) o p (inr a) (inl b) = absurd (a.0 b.0)
+one_follows q target (Point qs) o p (inr a) (inr b) = a.1 ∙ sym b.1
+one_follows q target (Pivots k) o p a b = a ∙ sym b
+one_follows q target (Width k) o p a b = a ∙ sym b
+
+one_run : (q : ProblemView) (target : Terms) (steps : ℕ) (d e : RunEndView (List (ℕ × Rational)) (List Rational)) → Runs q target steps d → Runs q target steps e → d ≡ e
+one_run q target steps d e (inl a) (inl b) = a.1 ∙ sym b.1
+one_run q target steps d e (inl a) (inr b) = absurd (a.0 b.0)
+one_run q target steps d e (inr a) (inl b) = absurd (b.0 a.0)
+one_run q target steps d e (inr a) (inr b) = run_ends_once (closed_places q) (columns (closed_generators q)) (closed_target q target) steps d e a.1 b.1
+
+pub one_outcome : OneProofView
+one_outcome q target steps o p a b =
+    one_follows q target b.end o p (subst (λ e. Follows q target e o) (one_run q target steps a.end b.end a.run b.run) a.follows) b.follows
+
+-- weights of a proof ascend, and none is 0
+pub proven_ascends : ProvenAscends
+proven_ascends q target steps w e = for_each e.end e.follows
+  where
+    for_each : (end : RunEndView (List (ℕ × Rational)) (List Rational)) → Follows q target end (Yes w) → IsCanonical w.parts
+    for_each (Weights ws) (inl a) = subst (λ (x : CertificateView). IsCanonical x.parts) (sym (inside a.0 a.3)) a.1.parts
+      where
+        inside : (v : CertificateView) → Yes w ≡ Yes v → w ≡ v
+        inside v e = cc
+    for_each (Weights ws) (inr a) = absurd (unlike a.1)
+      where
+        unlike : {c : Cause} → Yes w ≡ Undecided c → ⊥
+        unlike e = cc
+    for_each (Point qs) (inl a) = absurd (unlike a.1)
+      where
+        unlike : {values : List ℤ} → Yes w ≡ No values → ⊥
+        unlike e = cc
+    for_each (Point qs) (inr a) = absurd (unlike a.1)
+      where
+        unlike : {c : Cause} → Yes w ≡ Undecided c → ⊥
+        unlike e = cc
+    for_each (Pivots k) a = absurd (unlike a)
+      where
+        unlike : {c : Cause} → Yes w ≡ Undecided c → ⊥
+        unlike e = cc
+    for_each (Width k) a = absurd (unlike a)
+      where
+        unlike : {c : Cause} → Yes w ≡ Undecided c → ⊥
+        unlike e = cc

@@ -1,0 +1,179 @@
+-- Where no coefficient is large the start fits, so a run doesn't end before step 0.
+use Rattle.std.proofs.Common.{◌≡◌, inl, inr, ℕ, zero, suc, ◌+◌, ◌*◌, ◌^◌, ◌<◌, ◌≤◌, ℤ, pos, neg_ℤ, ◌+ℤ◌, unsigned_abs, List, [], ◌∷◌, length, get_or, Bool, true, false, cond, eqb, ltb, refl, sym, ap, ap₂, subst, ◌∙◌, arith}
+use Rattle.std.proofs.lemmas.Int.{ints}
+use Rattle.std.proofs.Math.Pow.{pow_mono}
+use Rattle.it_number.specs.Limit.{IsWithin}
+use Rattle.it_number.proofs.Ring.{ring}
+use Rattle.it_number.proofs.Ring as S
+use Rattle.it_rational.specs.Rational.{Rational, whole, plus, times, minus}
+use Rattle.it_rational.proofs.RationalLaws.{ring_ℚ}
+use Rattle.it_rational.proofs.Field.{order_ℚ}
+use Rattle.it_fraction.specs.Fits.{IsNarrow}
+use Rattle.it_space.specs.declared.answers.Cause.TheVariants as causes
+use Rattle.it_space.specs.declared.answers.Cause.TheVariants.{Scale}
+use Rattle.it_space.specs.Bounds.{IsSmall}
+use Rattle.it_space.specs.Rows.{Terms, coefficient}
+use Rattle.it_polymatroid.proofs.Every.{Every, all_of, every-same, every-map}
+use Rattle.it_elemental.specs.Generators.{generators}
+use Rattle.it_elemental.proofs.GeneratorLemmas.{every_or}
+use Rattle.it_closure.specs.Collapse.{CollapseFits}
+use Rattle.it_closure.specs.Coordinates.{RiseTo}
+use Rattle.it_closure.specs.Reading.{dependences_of}
+use Rattle.it_tableau.specs.Fits.{StartFits}
+use Rattle.it_tableau.specs.Problems.{feasibility_problem, start_of}
+use Rattle.it_tableau.specs.Tables as Tables
+use Rattle.it_run.specs.Choice.{IsDone, IsStuck, next}
+use Rattle.it_run.specs.Readings.{weights, point}
+use Rattle.it_run.specs.Solving.{StepFits, RunsTo}
+use Rattle.it_tableau.specs.Sums.{sum_to}
+use Rattle.it_tableau.specs.Tables.{Table, start_row, sign}
+use Rattle.it_run.specs.Runs.{RunEndView, EndsAs}
+use Rattle.it_run.specs.Runs.RunEndView.{Weights, Point, Pivots, Width}
+use Rattle.it_run.proofs.RowValues.{whole_plus}
+use Rattle.it_prove.specs.Closed.{collapsed_row, collapsed_generator, closed_places, closed_generators, closed_target, CollapsesFit}
+use Rattle.it_prove.specs.Columns.{columns}
+use Rattle.it_prove.specs.ProofViews.{Undecided, Follows, Runs, AreSmall, NeverAtStart}
+use Rattle.it_prove.proofs.ClosedRows.{coords_rise}
+use Rattle.it_prove.proofs.LiftLemmas.{dependences_sound}
+use Rattle.it_prove.proofs.SmallRows.{abs_add, abs_neg, SmallRow, small_row, columns_small, collapse_fits, generators_small}
+use Rattle.it_prove.proofs.Wholes.{whole_parts, whole_minus}
+
+-- ---- whole numbers up to a bound
+
+abbrev IsBelow : ℕ → Rational → Type 0
+IsBelow b x = (z : ℤ) × (x ≡ whole z) × (unsigned_abs z ≤ b)
+
+below_null : (b : ℕ) → IsBelow b (whole (pos 0))
+below_null b = (pos 0, refl, omega arith)
+
+below_one : (b : ℕ) → 1 ≤ b → IsBelow b (whole (pos 1))
+below_one b h = (pos 1, refl, h)
+
+below_add : (a b : ℕ) (x y : Rational) → IsBelow a x → IsBelow b y → IsBelow (a + b) (plus x y)
+below_add a b x y h k = (h.0 +ℤ k.0, ap₂ plus h.1 k.1 ∙ sym (whole_plus h.0 k.0), abs_add h.0 k.0 a b h.2 k.2)
+
+below_sign : (b : ℕ) (s : Bool) (x : Rational) → IsBelow b x → IsBelow b (times (cond s (whole (pos 1)) (minus (whole (pos 1)))) x)
+below_sign b true x h = (h.0, ring_ℚ.unit-mul x ∙ h.1, h.2)
+below_sign b false x h = (
+  neg_ℤ h.0,
+  ring ring_ℚ (whole (pos 1) ∷ x ∷ []) (S.times (S.minus (S.v 0)) (S.v 1)) (S.minus (S.times (S.v 0) (S.v 1))) refl ∙ ap minus (ring_ℚ.unit-mul x ∙ h.1) ∙ sym (whole_minus h.0),
+  abs_neg h.0 b h.2,
+)
+
+narrow : (b : ℕ) (x : Rational) → b < 2 ^ 127 → IsBelow b x → IsNarrow x
+narrow b x l h = subst IsNarrow (sym h.1) (
+  subst IsWithin (sym (whole_parts h.0).0) (omega (arith, h.2)),
+  subst (λ (d : ℕ). IsWithin (pos d)) (sym (whole_parts h.0).1) (omega (arith, ints)),
+)
+
+pile : ℕ → ℕ
+pile zero = 0
+pile (suc k) = 2 ^ 85 + pile k
+
+pile_is : (k : ℕ) → pile k ≡ k * 2 ^ 85
+unfolding pile
+pile_is zero = refl
+pile_is (suc k) = omega (arith, pile_is k)
+
+sum_below : (k : ℕ) (f : ℕ → Rational) → ((i : ℕ) → IsBelow (2 ^ 85) (f i)) → IsBelow (pile k) (sum_to ring_ℚ k f)
+unfolding pile
+sum_below zero f h = below_null 0
+sum_below (suc k) f h = below_add (2 ^ 85) (pile k) (f k) (sum_to ring_ℚ k f) (h k) (sum_below k f h)
+
+-- ---- the start
+
+rise_length : (from to : ℕ) (xs : List ℕ) → RiseTo from to xs → from + length xs ≤ to
+rise_length from to [] r = omega (arith, r)
+rise_length from to (x ∷ xs) r = omega (arith, r.0, rise_length (x + 1) to xs r.1)
+
+module _ (coords : List ℕ) (cols : List Terms) (t : Terms) (few : length coords ≤ 2 ^ 11) (cs : Every SmallRow cols) (ts : SmallRow t) where
+  entry_below : (k j : ℕ) → IsBelow (2 ^ 85) (start_row ring_ℚ order_ℚ (length coords) (length cols) (feasibility_problem coords cols t) k j)
+  entry_below k j = by_test (ltb j (length cols)) (eqb j (length cols + length coords)) (eqb j (length cols + k))
+    where
+      column : IsBelow (2 ^ 85) (whole (coefficient (get_or cols j []) (get_or coords k 0)))
+      column = (coefficient (get_or cols j []) (get_or coords k 0), refl, every_or SmallRow cols j [] cs (λ c. omega arith) (get_or coords k 0))
+
+      right : IsBelow (2 ^ 85) (whole (coefficient t (get_or coords k 0)))
+      right = (coefficient t (get_or coords k 0), refl, ts (get_or coords k 0))
+
+      by_test : (a b c : Bool) → IsBelow (2 ^ 85) (cond a (times (sign ring_ℚ order_ℚ (feasibility_problem coords cols t) k) (whole (coefficient (get_or cols j []) (get_or coords k 0))))
+          (cond b (times (sign ring_ℚ order_ℚ (feasibility_problem coords cols t) k) (whole (coefficient t (get_or coords k 0)))) (cond c (whole (pos 1)) (whole (pos 0)))))
+      by_test true b c = below_sign (2 ^ 85) (order_ℚ.is_least (whole (coefficient t (get_or coords k 0)))) (whole (coefficient (get_or cols j []) (get_or coords k 0))) column
+      by_test false true c = below_sign (2 ^ 85) (order_ℚ.is_least (whole (coefficient t (get_or coords k 0)))) (whole (coefficient t (get_or coords k 0))) right
+      by_test false false true = below_one (2 ^ 85) (omega arith)
+      by_test false false false = below_null (2 ^ 85)
+
+  start_fits : StartFits (length coords) (length cols) (feasibility_problem coords cols t)
+  start_fits k j h l = narrow (pile k) (sum_to ring_ℚ k (λ i. start_row ring_ℚ order_ℚ (length coords) (length cols) (feasibility_problem coords cols t) i j)) (omega (arith, pile_is k, h, few))
+      (sum_below k (λ i. start_row ring_ℚ order_ℚ (length coords) (length cols) (feasibility_problem coords cols t) i j) (λ i. entry_below i j))
+
+-- ---- the run
+
+never_zero : {S W P : Type 0} (IsDone IsStuck Fits : S → Type 0) (next : S → S) (weights : S → W) (point : S → P) (left k : ℕ) (s : S) → EndsAs IsDone IsStuck Fits next weights point left k s (Width zero) → ⊥
+never_zero D T F next ws pt zero k s (inl a) = absurd (cc)
+never_zero D T F next ws pt zero k s (inr (inl a)) = absurd (cc)
+never_zero D T F next ws pt zero k s (inr (inr a)) = absurd (cc)
+never_zero D T F next ws pt (suc left) k s (inl a) = absurd (cc)
+never_zero D T F next ws pt (suc left) k s (inr (inl a)) = absurd (cc)
+never_zero D T F next ws pt (suc left) k s (inr (inr (d, t, inl a))) = absurd (cc)
+never_zero D T F next ws pt (suc left) k s (inr (inr (d, t, inr a))) = never_zero D T F next ws pt left (suc k) (next s) a.1
+
+never_run : (m n : ℕ) (p : Tables.FeasibilityProblem Rational) (steps : ℕ) (t : Table Rational) (e : RunEndView (List (ℕ × Rational)) (List Rational)) → e ≡ Width zero → RunsTo m n p steps zero t e → ⊥
+never_run m n p steps t e z r =
+    never_zero (IsDone ring_ℚ order_ℚ m n) (IsStuck ring_ℚ order_ℚ m n) (StepFits m n) (next ring_ℚ order_ℚ m n) (weights ring_ℚ order_ℚ m n) (point ring_ℚ order_ℚ m n p) steps zero t (subst (RunsTo m n p steps zero t) z r)
+
+pub never_at_start : NeverAtStart
+never_at_start q target steps k s e = by_cases e.run (zero_end e.end e.follows)
+  where
+    all_small : Every (λ g. IsSmall g.row) (generators q)
+    all_small = generators_small q.space.variables q.constraints s.constraints
+
+    zero_end : (x : RunEndView (List (ℕ × Rational)) (List Rational)) → Follows q target x (Undecided (causes.Width 0)) → x ≡ Width 0
+    zero_end (Weights ws) (inl a) = absurd (unlike a.3)
+      where
+        unlike : {w : Rattle.it_space.specs.Answers.CertificateView} → Undecided (causes.Width 0) ≡ Rattle.it_prove.specs.ProofViews.Yes w → ⊥
+        unlike e = cc
+    zero_end (Weights ws) (inr a) = absurd (unlike a.1)
+      where
+        unlike : Undecided (causes.Width 0) ≡ Undecided Scale → ⊥
+        unlike e = cc
+    zero_end (Point qs) (inl a) = absurd (unlike a.1)
+      where
+        unlike : {v : List ℤ} → Undecided (causes.Width 0) ≡ Rattle.it_prove.specs.ProofViews.No v → ⊥
+        unlike e = cc
+    zero_end (Point qs) (inr a) = absurd (unlike a.1)
+      where
+        unlike : Undecided (causes.Width 0) ≡ Undecided Scale → ⊥
+        unlike e = cc
+    zero_end (Pivots j) a = absurd (unlike a)
+      where
+        unlike : Undecided (causes.Width 0) ≡ Undecided (causes.Pivots j) → ⊥
+        unlike e = cc
+    zero_end (Width j) a = ap Width (sym (inside a))
+      where
+        inside : Undecided (causes.Width 0) ≡ Undecided (causes.Width j) → 0 ≡ j
+        inside e = cc
+
+    fits : CollapsesFit q target
+    fits = record {
+      each = all_of (λ g. CollapseFits q.space.variables (dependences_of q) g.row) (generators q)
+          (every-same (λ g. IsSmall g.row) (λ g. CollapseFits q.space.variables (dependences_of q) g.row) (generators q) (λ g b. collapse_fits q.space.variables (dependences_of q) g.row b) all_small);
+      own = collapse_fits q.space.variables (dependences_of q) target s.own;
+    }
+
+    few : length (closed_places q) ≤ 2 ^ 11
+    few =
+        let power : 2 ^ q.space.variables ≤ 2 ^ 10 = pow_mono {i = q.space.variables} {j = 10} k.space.few in
+        omega (arith, power, k.space.few_rates, rise_length 1 (2 ^ q.space.variables + q.space.rates) (closed_places q) (coords_rise q.space.variables q.space.rates (dependences_of q) (dependences_sound q k)))
+
+    start : StartFits (length (closed_places q)) (length (columns (closed_generators q))) (feasibility_problem (closed_places q) (columns (closed_generators q)) (closed_target q target))
+    start = start_fits (closed_places q) (columns (closed_generators q)) (closed_target q target) few
+        (columns_small (closed_generators q) (every-map (λ g. SmallRow g.row) (collapsed_generator q.space.variables (dependences_of q)) (generators q)
+        (every-same (λ g. IsSmall g.row) (λ g. SmallRow (collapsed_row q.space.variables (dependences_of q) g.row)) (generators q) (λ g b. small_row q.space.variables (dependences_of q) g.row b) all_small)))
+        (small_row q.space.variables (dependences_of q) target s.own)
+
+    by_cases : Runs q target steps e.end → e.end ≡ Width 0 → ⊥
+    by_cases (inl a) z = a.0 fits
+    by_cases (inr (f, inl a)) z = a.0 start
+    by_cases (inr (f, inr a)) z = never_run (length (closed_places q)) (length (columns (closed_generators q))) (feasibility_problem (closed_places q) (columns (closed_generators q)) (closed_target q target)) steps
+        (start_of (closed_places q) (columns (closed_generators q)) (closed_target q target)) e.end z a.1

@@ -1,0 +1,102 @@
+-- Weights that sum to the target, made whole, are a certificate.
+use Rattle.std.proofs.Common.{◌≡◌, ◌≢◌, ℕ, suc, ◌+◌, ◌<◌, ◌≤◌, ℤ, pos, ◌+ℤ◌, ◌*ℤ◌, ◌≤ℤ◌, ◌<ℤ◌, List, [], ◌∷◌, length, get_or, Bool, true, false, cond, eqb, All, sym, ap, subst, ◌∙◌, arith}
+use Rattle.std.proofs.lemmas.Int.{ints}
+use Rattle.it_rational.specs.Rational.{Rational}
+use Rattle.it_rational.proofs.RationalLaws.{ring_ℚ}
+use Rattle.it_rational.proofs.Field.{order_ℚ}
+use Rattle.it_space.specs.Rows.{Terms, coefficient, value, Ascends}
+use Rattle.it_polymatroid.proofs.Every.{Every, all_of}
+use Rattle.it_tableau.specs.Problems.{feasibility_problem}
+use Rattle.it_run.specs.Readings.{AreWeights, SumsUp}
+use Rattle.it_run.proofs.RowValues.{sums_up}
+use Rattle.it_elemental.specs.Generators.{Generator, generator_at}
+use Rattle.it_check.specs.Verdicts.{column}
+use Rattle.it_prove.specs.Columns.{columns, weights_from}
+use Rattle.it_prove.specs.Scaling.{EachFits, scale_of, scaled_number, scaled_by, scaled_weights, numbers_of}
+use Rattle.it_prove.proofs.Scales.{scale_pos, divides}
+use Rattle.it_prove.proofs.Wholes.{scaled_sum, scaled_above}
+use Rattle.it_prove.proofs.GroupLemmas.{value_total, regrouped}
+use Prim.Native.Nat.{◌∣◌}
+
+-- each scaled weight is of a column and above 0
+known : (l n from : ℕ) (ws : List (ℕ × Rational)) → AreWeights ring_ℚ order_ℚ n from ws → Every (λ (t : ℕ × ℤ). t.0 < n) (scaled_by l ws)
+known l n from [] a = tt
+known l n from (w ∷ ws) a = (a.1, known l n (suc w.0) ws a.3)
+
+positive : (l n from : ℕ) (ws : List (ℕ × Rational)) → 0 < l → Every (λ q. q.den ∣ l) (numbers_of ws) → AreWeights ring_ℚ order_ℚ n from ws → (j : ℕ) → pos 0 ≤ℤ coefficient (scaled_by l ws) j
+positive l n from [] h d a j = omega (arith, ints)
+positive l n from (w ∷ ws) h d a j = by_test (eqb w.0 j) (scaled_above l w.1 h d.0 a.2) (positive l n (suc w.0) ws h d.1 a.3 j)
+  where
+    by_test : (b : Bool) → pos 0 <ℤ scaled_number l w.1 → pos 0 ≤ℤ coefficient (scaled_by l ws) j → pos 0 ≤ℤ (cond b (scaled_number l w.1) (pos 0) +ℤ coefficient (scaled_by l ws) j)
+    by_test true g k = omega (arith, ints)
+    by_test false g k = omega (arith, ints)
+
+-- as a row over the columns they are canonical
+pub canonical : (l n from : ℕ) (ws : List (ℕ × Rational)) → 0 < l → Every (λ q. q.den ∣ l) (numbers_of ws) → EachFits l (numbers_of ws) → AreWeights ring_ℚ order_ℚ n from ws → Ascends from (scaled_by l ws)
+canonical l n from [] h d f a = tt
+canonical l n from (w ∷ ws) h d f a = (a.0, apart (scaled_number l w.1) (scaled_above l w.1 h d.0 a.2), f.0, lower (canonical l n (suc w.0) ws h d.1 f.1 a.3))
+  where
+    apart : (x : ℤ) → pos 0 <ℤ x → x ≢ pos 0
+    apart x h e = omega (arith, ints, e)
+
+    lower : Ascends (suc w.0) (scaled_by l ws) → Ascends (w.0 + 1) (scaled_by l ws)
+    lower h = subst (λ m. Ascends m (scaled_by l ws)) (one w.0) h
+      where
+        one : (m : ℕ) → suc m ≡ m + 1
+        one m = omega arith
+
+-- as the code has them, with the scale that it found
+pub columns_below : (m n from : ℕ) (ws : List (ℕ × Rational)) → n ≤ m → AreWeights ring_ℚ order_ℚ n from ws → All (λ (w : ℕ × Rational). w.0 < m) ws
+columns_below m n from ws h a = all_of (λ (w : ℕ × Rational). w.0 < m) ws (each from ws a)
+  where
+    below : (x : ℕ) → x < n → x < m
+    below x l = omega arith
+
+    each : (from : ℕ) (ws : List (ℕ × Rational)) → AreWeights ring_ℚ order_ℚ n from ws → Every (λ (w : ℕ × Rational). w.0 < m) ws
+    each from [] a = tt
+    each from (w ∷ ws) a = (below w.0 a.1, each (suc w.0) ws a.3)
+
+module _ (n l : ℕ) (ws : List (ℕ × Rational)) (e : l ≡ scale_of (numbers_of ws)) (a : AreWeights ring_ℚ order_ℚ n 0 ws) where
+  found_divides : Every (λ q. q.den ∣ l) (numbers_of ws)
+  found_divides = subst (λ l. Every (λ q. q.den ∣ l) (numbers_of ws)) (sym e) (divides 1 (numbers_of ws))
+
+  found_some : 0 < l
+  found_some = subst (λ l. 0 < l) (sym e) (scale_pos 1 (numbers_of ws) (omega arith))
+
+  pub terms_canonical : (ts : Terms) → ts ≡ scaled_by l ws → EachFits l (numbers_of ws) → Ascends 0 ts
+  terms_canonical ts s f = subst (Ascends 0) (sym s) (canonical l n 0 ws found_some found_divides f a)
+
+  pub terms_positive : (ts : Terms) → ts ≡ scaled_by l ws → (j : ℕ) → pos 0 ≤ℤ coefficient ts j
+  terms_positive ts s j = subst (λ ts. pos 0 ≤ℤ coefficient ts j) (sym s) (positive l n 0 ws found_some found_divides a j)
+
+module _ (gs : List Generator) (coords : List ℕ) (target : Terms) (ws : List (ℕ × Rational))
+    (a : SumsUp ring_ℚ order_ℚ (length coords) (length (columns gs)) (feasibility_problem coords (columns gs) target) ws) where
+  scaled_divide : Every (λ q. q.den ∣ scale_of (numbers_of ws)) (numbers_of ws)
+  scaled_divide = divides 1 (numbers_of ws)
+
+  some : 0 < scale_of (numbers_of ws)
+  some = scale_pos 1 (numbers_of ws) (omega arith)
+
+  plain : (k : ℕ) → 0 + k ≡ k
+  plain k = omega arith
+
+  -- at each coordinate of the list
+  pub adds_up : (c : ℕ) → ((k : ℕ) × (k < length coords) × (get_or coords k 0 ≡ c))
+      → pos (scale_of (numbers_of ws)) *ℤ coefficient target c ≡ value (weights_from 0 0 gs (coefficient (scaled_weights ws))) (column gs c)
+  adds_up c i =
+      sym (scaled_sum (scale_of (numbers_of ws)) ws (λ j. coefficient (get_or (columns gs) j []) c) (coefficient target c) scaled_divide
+      (sums_up coords (columns gs) target ws a c i))
+      ∙ value_total c (columns gs) (scaled_weights ws) (known (scale_of (numbers_of ws)) (length (columns gs)) 0 ws a.ordered)
+      ∙ regrouped c gs gs 0 0 (coefficient (scaled_weights ws)) (λ k l. ap (generator_at gs) (plain k))
+
+  pub scale_least : pos 1 ≤ℤ pos (scale_of (numbers_of ws))
+  scale_least = least (scale_of (numbers_of ws)) some
+    where
+      least : (l : ℕ) → 0 < l → pos 1 ≤ℤ pos l
+      least l h = omega (arith, ints)
+
+  pub scaled_positive : (j : ℕ) → pos 0 ≤ℤ coefficient (scaled_weights ws) j
+  scaled_positive = positive (scale_of (numbers_of ws)) (length (columns gs)) 0 ws some scaled_divide a.ordered
+
+  pub scaled_canonical : EachFits (scale_of (numbers_of ws)) (numbers_of ws) → Ascends 0 (scaled_weights ws)
+  scaled_canonical f = canonical (scale_of (numbers_of ws)) (length (columns gs)) 0 ws some scaled_divide f a.ordered

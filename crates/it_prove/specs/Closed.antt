@@ -1,0 +1,48 @@
+-- The run over the sets that are closed under a problem's functional dependences: its coordinates, its columns and its target,
+-- and the point that comes back from it.
+use Rattle.std.specs.Prelude.{ℕ, ℤ, List, map, filter, nat_lt, All}
+use Rattle.std.specs.List.{zip}
+use Rattle.it_rational.specs.Rational.{Rational}
+use Rattle.it_space.specs.Problems.{ProblemView}
+use Rattle.it_space.specs.Rows.{Terms, coefficient}
+use Rattle.it_space.specs.Spaces.{size_of}
+use Rattle.it_polymatroid.specs.Elementals.{span}
+use Rattle.it_elemental.specs.Generators.{Generator, generators}
+use Rattle.it_closure.specs.declared.dependences.Dependence.{Dependence}
+use Rattle.it_closure.specs.Collapse.{placed_terms, spread_out, CollapseFits}
+use Rattle.it_closure.specs.Coordinates.{closed_coordinates}
+use Rattle.it_closure.specs.Reading.{dependences_of}
+use Rattle.it_prove.specs.Scaling.{scaled_point}
+
+-- a row over closed sets: each set replaced by its closure, and the sets with the closure of the empty set left out, which have entropy 0
+abbrev pub collapsed_row : ℕ → List Dependence → Terms → Terms
+collapsed_row n ds row = filter (λ t. nat_lt 0 t.0) (placed_terms n ds row)
+
+abbrev pub collapsed_generator : ℕ → List Dependence → Generator → Generator
+collapsed_generator n ds g = record { kind = g.kind; row = collapsed_row n ds g.row }
+
+abbrev pub collapsed_all : ℕ → List Dependence → List Generator → List Generator
+collapsed_all n ds gs = map (collapsed_generator n ds) gs
+
+-- the coordinates of the run, its columns and its target
+abbrev pub closed_places : ProblemView → List ℕ
+closed_places q = closed_coordinates q.space.variables q.space.rates (dependences_of q)
+
+abbrev pub closed_generators : ProblemView → List Generator
+closed_generators q = collapsed_all q.space.variables (dependences_of q) (generators q)
+
+abbrev pub closed_target : ProblemView → Terms → Terms
+closed_target q target = collapsed_row q.space.variables (dependences_of q) target
+
+-- the partial sums of the collapse of each generator and of the target are within the limit
+pub record CollapsesFit (q : ProblemView) (target : Terms) : Type 0 where
+  pub each : All (λ g. CollapseFits q.space.variables (dependences_of q) g.row) (generators q)
+  pub own : CollapseFits q.space.variables (dependences_of q) target
+
+-- the values at the coordinates from 1 on by those at the places: a set has its closure's, and where that is the closure of the
+-- empty set it has 0
+abbrev pub spread_values : ℕ → List Dependence → ℕ → Terms → List ℤ
+spread_values n ds size places = map (spread_out n ds (coefficient places)) (span 1 size)
+
+abbrev pub spread_point : ProblemView → List Rational → List ℤ
+spread_point q qs = spread_values q.space.variables (dependences_of q) (size_of q.space) (zip (closed_places q) (scaled_point qs))

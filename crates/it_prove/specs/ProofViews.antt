@@ -1,0 +1,106 @@
+-- How a question about one target ends: by weights of the run over closed sets, which are lifted to a certificate, by a point of
+-- it, which is spread out, or by neither.
+use Rattle.std.specs.Prelude.{◌≡◌, ◌≢◌, ◌⊎◌, ℕ, ℤ, List, [], All}
+use Rattle.it_rational.specs.Rational.{Rational}
+use Rattle.it_space.specs.declared.answers.Cause.{Cause}
+use Rattle.it_space.specs.declared.answers.Cause.TheVariants as causes
+use Rattle.it_space.specs.declared.answers.Cause.TheVariants.{Scale}
+use Rattle.it_space.specs.Problems.{ProblemView, IsProblem}
+use Rattle.it_space.specs.Answers.{CertificateView, certificate_view}
+use Rattle.it_space.specs.Bounds.{IsSmall}
+use Rattle.it_space.specs.Rows.{Terms, IsCanonical, coefficient, value}
+use Rattle.it_run.specs.Runs.{RunEndView}
+use Rattle.it_run.specs.Runs.RunEndView.{Weights, Point, Pivots, Width}
+use Rattle.it_simplex.specs.Answers.{Solves}
+use Rattle.it_elemental.specs.Generators.{generators, generators_of}
+use Rattle.it_closure.specs.Reading.{dependences_of}
+use Rattle.it_lift.specs.Fits.{LiftFits}
+use Rattle.it_lift.specs.Lifts.{lifted_weights}
+use Rattle.it_check.specs.Meaning.{CertifiesRow, CertificateFits, RefutesRow, PointFits}
+use Rattle.it_prove.specs.Columns.{columns}
+use Rattle.it_prove.specs.Closed.{closed_places, closed_generators, closed_target, CollapsesFit, spread_point}
+use Rattle.it_prove.specs.Scaling.{NumbersFit, numbers_of, certificate_of}
+use Rattle.it_prove.specs.declared.types.Proof.{Proof}
+use Rattle.it_prove.specs.declared.types.Proof.TheVariants as proofs
+
+-- a certificate, a point that refutes the target, or neither with its cause
+pub data ProofView : Type 0 where
+  Yes : (w : CertificateView) → ProofView
+  No : (values : List ℤ) → ProofView
+  Undecided : (cause : Cause) → ProofView
+
+abbrev pub proof_view : Proof → ProofView
+proof_view (proofs.Yes c) = Yes (certificate_view c)
+proof_view (proofs.No p) = No p
+proof_view (proofs.Undecided cause) = Undecided cause
+
+-- the certificate over closed sets, by the weights of the columns
+abbrev pub closed_weights : ProblemView → List (ℕ × Rational) → CertificateView
+closed_weights q ws = certificate_of (generators q) ws
+
+-- the lift of the certificate: the scale stays, and each generator has its weight with all that the lift adds; they ascend, and
+-- none is 0
+pub record IsLifted (q : ProblemView) (target : Terms) (ws : List (ℕ × Rational)) (w : CertificateView) : Type 0 where
+  pub scale : w.scale ≡ (closed_weights q ws).scale
+  pub parts : IsCanonical w.parts
+  pub weights : (i : ℕ) → coefficient w.parts i ≡ coefficient (lifted_weights q.space.variables (dependences_of q) (value target) (generators_of q) (closed_weights q ws)) i
+
+-- the numbers of the scaled weights are within the limit, and so are those of the lift, which has none where no dependence is
+pub record LiftedFit (q : ProblemView) (target : Terms) (ws : List (ℕ × Rational)) : Type 0 where
+  pub numbers : NumbersFit (numbers_of ws)
+  pub lift : dependences_of q ≢ [] → LiftFits q.space.variables (dependences_of q) (value target) (generators_of q) (closed_weights q ws)
+
+-- and those of the check of the lifted certificate
+pub record WeightsFit (q : ProblemView) (target : Terms) (ws : List (ℕ × Rational)) (w : CertificateView) : Type 0 where
+  pub lifted : LiftedFit q target ws
+  pub check : CertificateFits q target w
+
+-- the same for the scaled point
+pub record ValuesFit (q : ProblemView) (target : Terms) (qs : List Rational) : Type 0 where
+  pub numbers : NumbersFit qs
+  pub check : PointFits q target (spread_point q qs)
+
+-- The outcome that an end of the run has. Weights whose lift fits are a proof; other weights, and a point that doesn't fit, leave
+-- the question open for the scale.
+abbrev pub Follows : ProblemView → Terms → RunEndView (List (ℕ × Rational)) (List Rational) → ProofView → Type 0
+Follows q target (Weights ws) o =
+    ((w : CertificateView) × IsLifted q target ws w × WeightsFit q target ws w × (o ≡ Yes w))
+    ⊎ (((w : CertificateView) → IsLifted q target ws w → ¬ WeightsFit q target ws w) × (o ≡ Undecided Scale))
+Follows q target (Point qs) o = (ValuesFit q target qs × (o ≡ No (spread_point q qs))) ⊎ (¬ ValuesFit q target qs × (o ≡ Undecided Scale))
+Follows q target (Pivots k) o = o ≡ Undecided (causes.Pivots k)
+Follows q target (Width k) o = o ≡ Undecided (causes.Width k)
+
+-- the run over closed sets with a budget of steps ends so; where the collapse doesn't fit it ends before step 0, its start
+abbrev pub Runs : ProblemView → Terms → ℕ → RunEndView (List (ℕ × Rational)) (List Rational) → Type 0
+Runs q target steps e =
+    (¬ (CollapsesFit q target) × (e ≡ Width 0))
+    ⊎ (CollapsesFit q target × Solves (closed_places q) (columns (closed_generators q)) (closed_target q target) steps e)
+
+-- the outcome is that of the run
+pub record EndsWith (q : ProblemView) (target : Terms) (steps : ℕ) (o : ProofView) : Type 0 where
+  pub end : RunEndView (List (ℕ × Rational)) (List Rational)
+  pub run : Runs q target steps end
+  pub follows : Follows q target end o
+
+-- a certificate certifies the target, and a point refutes it
+abbrev pub IsRightProof : ProblemView → Terms → ProofView → Type 0
+IsRightProof q target (Yes w) = CertifiesRow q target w × CertificateFits q target w
+IsRightProof q target (No values) = RefutesRow q target values × PointFits q target values
+IsRightProof q target (Undecided cause) = Unit {0}
+
+-- a question has one outcome
+abbrev pub OneProofView : Type 0
+OneProofView = (q : ProblemView) (target : Terms) (steps : ℕ) (o p : ProofView) → EndsWith q target steps o → EndsWith q target steps p → o ≡ p
+
+-- the weights of a proof ascend by generator, and none is 0
+abbrev pub ProvenAscends : Type 0
+ProvenAscends = (q : ProblemView) (target : Terms) (steps : ℕ) (w : CertificateView) → EndsWith q target steps (Yes w) → IsCanonical w.parts
+
+-- the rows of the constraints and of the target are small
+pub record AreSmall (q : ProblemView) (target : Terms) : Type 0 where
+  pub constraints : All (λ c. IsSmall c.row) q.constraints
+  pub own : IsSmall target
+
+-- Where the rows are small the run doesn't end before step 0.
+abbrev pub NeverAtStart : Type 0
+NeverAtStart = (q : ProblemView) (target : Terms) (steps : ℕ) → IsProblem q → AreSmall q target → EndsWith q target steps (Undecided (causes.Width 0)) → ⊥

@@ -1,0 +1,92 @@
+//! A certificate from the weights of columns.
+ghost use Rattle.std.specs.Prelude.{◌≡◌, ◌<◌, ◌^◌, ◌++◌, ℕ, ℤ, pos, ◌≤ℤ◌, length, IfErr, IfOk, OnOk};
+ghost use Rattle.it_rational.proofs.Field.{order_ℚ};
+ghost use Rattle.it_rational.proofs.RationalLaws.{ring_ℚ};
+ghost use Rattle.it_space.specs.Answers.{certificate_view};
+ghost use Rattle.it_space.specs.Problems.{IsProblem, problem_view};
+ghost use Rattle.it_space.specs.Rows.{coefficient};
+ghost use Rattle.it_run.specs.Readings.{AreWeights};
+ghost use Rattle.it_elemental.specs.Generators.{generators};
+ghost use Rattle.it_prove.specs.Columns.{columns, if_some, weight_by, weights_from, column_count};
+ghost use Rattle.it_prove.specs.Scaling.{NumbersFit, certificate_of, numbers_of};
+
+use crate::scaling::{common_scale, numbers, terms};
+use it_elemental::{generator_count, kind_at};
+use it_fraction::Fraction;
+use it_space::{Certificate, Kind, Problem, Row, RowFault};
+use std::alloc::{AllocError, Global};
+
+/// How many columns a generator has.
+fn width(kind: Kind) -> u32
+    ensures { result ≡ column_count kind }
+{
+    match kind {
+        Kind::Inequality => 1,
+        Kind::Equation => 2,
+    }
+}
+
+/// The weight of a generator whose first column is given. The second one of an equation counts against the first.
+fn weight_of(row: &Row, kind: Kind, column: u32) -> i128
+    requires positive { (c : ℕ) → pos 0 ≤ℤ coefficient row.now c }
+    requires few { column < 2 ^ 31 }
+    ensures { result ≡ weight_by kind (coefficient row.now) column }
+{
+    match kind {
+        Kind::Inequality => row.coefficient(column),
+        Kind::Equation => row.coefficient(column) - row.coefficient(column + 1),
+    }
+}
+
+/// Puts a weight behind the others, unless it is 0.
+pub fn push_some(weights: &mut Vec<(u32, i128)>, index: u32, weight: i128) -> Result<(), AllocError>
+    ensures { OnOk result (weights.new.items ≡ weights.old.items ++ if_some index weight) }
+{
+    if weight != 0 {
+        weights.push((index, weight))?;
+    }
+    Ok(())
+}
+
+/// The weights of generators, each after its number, by a row that has the weight of each column.
+fn generator_weights(
+    alloc: Global,
+    problem: &Problem,
+    row: &Row,
+) -> Result<Vec<(u32, i128)>, AllocError>
+    requires problem { IsProblem (problem_view problem.now) }
+    requires positive { (c : ℕ) → pos 0 ≤ℤ coefficient row.now c }
+    ensures { IfOk result (λ v. v.items ≡ weights_from 0 0 (generators (problem_view problem.now)) (coefficient row.now)) }
+{
+    let mut weights = Vec::new(alloc);
+    let mut column = 0;
+    for index in 0..generator_count(problem) {
+        let kind = kind_at(problem, index);
+        push_some(&mut weights, index, weight_of(row, kind, column))?;
+        column += width(kind);
+    }
+    Ok(weights)
+}
+
+/// The certificate over the generators by the weights of their columns, which ascend by column: each weight times the
+/// least common multiple of the denominators. `Wide` where that multiple or a weight times it passes the limit.
+pub fn certificate(
+    alloc: Global,
+    problem: &Problem,
+    weights: &[(usize, Fraction)],
+) -> Result<Certificate, RowFault>
+    requires problem { IsProblem (problem_view problem.now) }
+    requires ordered { AreWeights ring_ℚ order_ℚ (length (columns (generators (problem_view problem.now)))) 0 weights.now }
+    ensures value { IfOk result (λ c. certificate_view c ≡ certificate_of (generators (problem_view problem.now)) weights.now) }
+    ensures fits { OnOk result (NumbersFit (numbers_of weights.now)) }
+    ensures wide { IfErr result (λ f. f ≡ RowFault.Wide → ¬ (NumbersFit (numbers_of weights.now))) }
+{
+    let numbers = numbers(alloc, weights)?;
+    let scale = common_scale(numbers.as_slice())?;
+    let row = Row::new(terms(alloc, weights, scale)?);
+    let parts = generator_weights(alloc, problem, &row)?;
+    Ok(Certificate {
+        scale: scale as i128,
+        weights: parts,
+    })
+}

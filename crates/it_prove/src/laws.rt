@@ -1,0 +1,18 @@
+//! What the outcomes say, each theorem as the contract of a function.
+ghost use Rattle.it_prove.specs.ProofViews.{NeverAtStart, OneProofView, ProvenAscends};
+
+/// A question has one outcome.
+pub fn one_outcome()
+    ensures { OneProofView }
+{}
+
+/// The weights of a proof ascend by generator, and none is 0.
+#[tactic(auto, using(crate::proofs::ProofLemmas::proven_ascends))]
+pub fn proven_ascends()
+    ensures { ProvenAscends }
+{}
+
+/// Where no coefficient is large a run doesn't end before step 0.
+pub fn never_at_start()
+    ensures { NeverAtStart }
+{}

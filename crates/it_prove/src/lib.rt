@@ -1,0 +1,20 @@
+//! Whether a target is at least 0 wherever a polymatroid and rates meet the constraints of a problem: by a certificate over
+//! the elemental inequalities and the constraints, or by a point that refutes it (Yeung 1997). The run of the simplex
+//! method works on the sets that are closed under the problem's functional dependences; its weights are lifted back to
+//! all sets, and its point is spread out over them.
+#![tactic(auto)]
+
+mod certificates;
+mod columns;
+mod laws;
+mod points;
+mod proving;
+mod scaling;
+#[cfg(test)]
+mod tests;
+mod types;
+
+pub use columns::opposite_row;
+pub use laws::{never_at_start, one_outcome, proven_ascends};
+pub use proving::prove;
+pub use types::Proof;

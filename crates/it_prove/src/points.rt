@@ -1,0 +1,112 @@
+//! Points over all coordinates from points over closed sets.
+ghost use Rattle.std.specs.Prelude.{◌≡◌, ◌<◌, ◌++◌, ◌∷◌, [], ℕ, pos, length, slice_index_or, IfErr, IfOk, OnOk};
+ghost use Rattle.it_space.specs.Problems.{IsProblem, problem_view};
+ghost use Rattle.it_space.specs.Rows.{IsCanonical, coefficient};
+ghost use Rattle.it_space.specs.Spaces.{size_of};
+ghost use Rattle.it_closure.specs.Collapse.{place};
+ghost use Rattle.it_closure.specs.Coordinates.{RiseTo};
+ghost use Rattle.it_closure.specs.Reading.{dependences_of};
+ghost use Rattle.it_prove.specs.Closed.{closed_places, spread_point, spread_values};
+ghost use Rattle.it_prove.specs.Steps.{pairs};
+ghost use Rattle.it_prove.specs.Columns.{if_some};
+ghost use Rattle.it_prove.specs.Scaling.{NumbersFit, scaled_point};
+
+use crate::certificates::push_some;
+use crate::scaling::{common_scale, values};
+use it_closure::Dependences;
+use it_fraction::Fraction;
+use it_space::{Point, Problem, Row, RowFault};
+use std::alloc::{AllocError, Global};
+
+/// Puts a coordinate with its value behind the others, unless the value is 0.
+fn put_pair(
+    terms: &mut Vec<(u32, i128)>,
+    coordinates: &[u32],
+    values: &[i128],
+    k: usize,
+) -> Result<(), AllocError>
+    requires coordinate { k < length coordinates.now }
+    requires value { k < length values.now }
+    ensures { OnOk result (terms.new.items ≡ terms.old.items ++ if_some (slice_index_or coordinates.now k 0) (slice_index_or values.now k (pos 0))) }
+{
+    push_some(terms, coordinates[k], values[k])
+}
+
+/// The values other than 0, each after its coordinate.
+fn pairs(
+    alloc: Global,
+    coordinates: &[u32],
+    values: &[i128],
+) -> Result<Vec<(u32, i128)>, AllocError>
+    requires { length values.now ≡ length coordinates.now }
+    ensures { IfOk result (λ v. v.items ≡ pairs coordinates.now values.now) }
+{
+    let mut terms = Vec::new(alloc);
+    for k in 0..coordinates.len() {
+        put_pair(&mut terms, coordinates, values, k)?;
+    }
+    Ok(terms)
+}
+
+/// Puts the value of a coordinate, which a row over the places has at its place, behind the others.
+fn put_value(
+    values: &mut Vec<i128>,
+    dependences: &Dependences,
+    row: &Row,
+    coordinate: u32,
+) -> Result<(), AllocError>
+    ensures { OnOk result (values.new.items ≡ values.old.items ++ coefficient row.now (place dependences.now.space.variables dependences.now.list coordinate) ∷ []) }
+{
+    values.push(row.coefficient(dependences.place(coordinate)))?;
+    Ok(())
+}
+
+/// The values at all coordinates from 1 on by a row that has the value at each place.
+fn spread(alloc: Global, dependences: &Dependences, row: &Row) -> Result<Vec<i128>, AllocError>
+    ensures { IfOk result (λ v. v.items ≡ spread_values dependences.now.space.variables dependences.now.list (size_of dependences.now.space) row.now) }
+{
+    let size = dependences.space().size();
+    let mut values = Vec::with_capacity(alloc, size as usize)?;
+    for coordinate in 1..size + 1 {
+        put_value(&mut values, dependences, row, coordinate)?;
+    }
+    Ok(values)
+}
+
+/// The point over closed sets times its scale, as a row. `Wide` where the scale or a value passes the limit.
+fn whole_row(alloc: Global, coordinates: &[u32], point: &[Fraction]) -> Result<Row, RowFault>
+    requires rise { (to : ℕ) × RiseTo 1 to coordinates.now }
+    requires complete { length point.now ≡ length coordinates.now }
+    ensures value { IfOk result (λ r. r ≡ pairs coordinates.now (scaled_point point.now)) }
+    ensures canonical { IfOk result IsCanonical }
+    ensures fits { OnOk result (NumbersFit point.now) }
+    ensures wide { IfErr result (λ f. f ≡ RowFault.Wide → ¬ (NumbersFit point.now)) }
+{
+    let scale = common_scale(point)?;
+    let values = values(alloc, point, scale)?;
+    let terms = pairs(alloc, coordinates, values.as_slice())?;
+    Ok(Row::new(terms))
+}
+
+/// The point over all coordinates by the run's point, which has one value for each coordinate of the run: the values are
+/// made whole and spread out. `Wide` where the scale or a value passes the limit.
+pub fn whole_point(
+    alloc: Global,
+    problem: &Problem,
+    dependences: &Dependences,
+    coordinates: &[u32],
+    point: &[Fraction],
+) -> Result<Point, RowFault>
+    requires problem { IsProblem (problem_view problem.now) }
+    requires space { dependences.now.space ≡ problem.now.space }
+    requires list { dependences.now.list ≡ dependences_of (problem_view problem.now) }
+    requires coordinates { coordinates.now ≡ closed_places (problem_view problem.now) }
+    requires complete { length point.now ≡ length coordinates.now }
+    ensures value { IfOk result (λ p. p ≡ spread_point (problem_view problem.now) point.now) }
+    ensures fits { OnOk result (NumbersFit point.now) }
+    ensures wide { IfErr result (λ f. f ≡ RowFault.Wide → ¬ (NumbersFit point.now)) }
+{
+    let row = whole_row(alloc, coordinates, point)?;
+    let values = spread(alloc, dependences, &row)?;
+    Ok(Point::new(problem.space, values))
+}

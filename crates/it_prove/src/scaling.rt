@@ -1,0 +1,125 @@
+//! Fractions made whole by the least common multiple of their denominators.
+ghost use Rattle.std.specs.Prelude.{◌≡◌, ◌<◌, ◌^◌, ◌++◌, ◌∷◌, [], ℤ, pos, ◌*ℤ◌, map, All, IfErr, IfOk, OkIff, OnErr, OnOk};
+ghost use Rattle.it_number.specs.Gcd.{lcm};
+ghost use Rattle.it_number.specs.Limit.{IsWithin};
+ghost use Rattle.it_prove.specs.Scaling.{EachFits, numbers_of, scale_of, scaled_number, scaled_by};
+
+use it_fraction::{Fraction, Wide, lcm};
+use it_space::RowFault;
+use std::alloc::{AllocError, Global};
+
+/// The least common multiple of the scale and a number's denominator.
+fn with_denominator(scale: u128, number: &Fraction) -> Result<u128, Wide>
+    requires some { 0 < scale }
+    requires within { scale < 2 ^ 127 }
+    ensures { OkIff result (IsWithin (pos (lcm scale number.now.den))) (lcm scale number.now.den) }
+{
+    let multiple = lcm(scale as i128, number.den())?;
+    Ok(multiple as u128)
+}
+
+/// The least common multiple of the denominators. `Wide` where it passes the limit.
+pub fn common_scale(numbers: &[Fraction]) -> Result<u128, Wide>
+    ensures value { OkIff result (IsWithin (pos (scale_of numbers.now))) (scale_of numbers.now) }
+    ensures some { IfOk result (λ l. 0 < l) }
+    ensures within { IfOk result (λ l. l < 2 ^ 127) }
+{
+    let mut scale: u128 = 1;
+    for number in numbers {
+        scale = with_denominator(scale, number)?;
+    }
+    Ok(scale)
+}
+
+/// The product, or `Wide` where it passes the limit.
+fn product(a: i128, b: i128) -> Result<i128, Wide>
+    ensures { OkIff result (IsWithin (a *ℤ b)) (a *ℤ b) }
+{
+    match a.checked_mul(b) {
+        Some(product) if product != i128::MIN => Ok(product),
+        _ => Err(Wide),
+    }
+}
+
+/// The scale times a number whose denominator divides it.
+#[tactic(auto, unfolding(crate::specs::Scaling::scaled_number))]
+fn scaled_number(number: &Fraction, scale: u128) -> Result<i128, Wide>
+    requires { scale < 2 ^ 127 }
+    ensures { OkIff result (IsWithin (scaled_number scale number.now)) (scaled_number scale number.now) }
+{
+    let times = scale / number.den() as u128;
+    product(number.num(), times as i128)
+}
+
+/// Puts the scale times a number behind the others.
+fn put_value(values: &mut Vec<i128>, number: &Fraction, scale: u128) -> Result<(), RowFault>
+    requires { scale < 2 ^ 127 }
+    ensures value { OnOk result (values.new.items ≡ values.old.items ++ scaled_number scale number.now ∷ []) }
+    ensures fits { OnOk result (IsWithin (scaled_number scale number.now)) }
+    ensures wide { IfErr result (λ f. f ≡ RowFault.Wide → ¬ (IsWithin (scaled_number scale number.now))) }
+{
+    let value = scaled_number(number, scale)?;
+    match values.push(value) {
+        Ok(()) => Ok(()),
+        Err(_) => Err(RowFault::Memory),
+    }
+}
+
+/// The scale times each number, in order. `Wide` where one of these passes the limit.
+pub fn values(alloc: Global, numbers: &[Fraction], scale: u128) -> Result<Vec<i128>, RowFault>
+    requires { scale < 2 ^ 127 }
+    ensures value { IfOk result (λ v. v.items ≡ map (scaled_number scale) numbers.now) }
+    ensures fits { OnOk result (EachFits scale numbers.now) }
+    ensures wide { IfErr result (λ f. f ≡ RowFault.Wide → ¬ (EachFits scale numbers.now)) }
+{
+    let mut values = Vec::with_capacity(alloc, numbers.len())?;
+    for number in numbers {
+        put_value(&mut values, number, scale)?;
+    }
+    Ok(values)
+}
+
+/// Puts the scale times a weight behind the others, after its column.
+fn put_term(
+    terms: &mut Vec<(u32, i128)>,
+    weight: &(usize, Fraction),
+    scale: u128,
+) -> Result<(), RowFault>
+    requires column { weight.now.0 < 2 ^ 32 }
+    requires scale { scale < 2 ^ 127 }
+    ensures value { OnOk result (terms.new.items ≡ terms.old.items ++ (weight.now.0, scaled_number scale weight.now.1) ∷ []) }
+    ensures fits { OnOk result (IsWithin (scaled_number scale weight.now.1)) }
+    ensures wide { IfErr result (λ f. f ≡ RowFault.Wide → ¬ (IsWithin (scaled_number scale weight.now.1))) }
+{
+    let value = scaled_number(&weight.1, scale)?;
+    match terms.push((weight.0 as u32, value)) {
+        Ok(()) => Ok(()),
+        Err(_) => Err(RowFault::Memory),
+    }
+}
+
+/// The scale times each weight, after its column. `Wide` where one of these passes the limit.
+pub fn terms(
+    alloc: Global,
+    weights: &[(usize, Fraction)],
+    scale: u128,
+) -> Result<Vec<(u32, i128)>, RowFault>
+    requires columns { All (λ w. w.0 < 2 ^ 32) weights.now }
+    requires scale { scale < 2 ^ 127 }
+    ensures value { IfOk result (λ v. v.items ≡ scaled_by scale weights.now) }
+    ensures fits { OnOk result (EachFits scale (numbers_of weights.now)) }
+    ensures wide { IfErr result (λ f. f ≡ RowFault.Wide → ¬ (EachFits scale (numbers_of weights.now))) }
+{
+    let mut terms = Vec::with_capacity(alloc, weights.len())?;
+    for weight in weights {
+        put_term(&mut terms, weight, scale)?;
+    }
+    Ok(terms)
+}
+
+/// The weights without their columns.
+pub fn numbers(alloc: Global, weights: &[(usize, Fraction)]) -> Result<Vec<Fraction>, AllocError>
+    ensures { IfOk result (λ v. v.items ≡ numbers_of weights.now) }
+{
+    weights.iter().map(|weight| weight.1).collect(alloc)
+}
