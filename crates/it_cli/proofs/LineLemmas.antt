@@ -1,41 +1,119 @@
--- Steps of texts.
-use Rattle.std.proofs.Common.{◌≡◌, ℕ, ◌<◌, ◌≤◌, ◌*◌, ◌%◌, ◌^◌, ◌-◌, List, ◌∷◌, ◌++◌, ◌+◌, Some, Bool, true, false, sym, ap, ◌∙◌, arith, append_assoc, append-nil, codes, ◌||◌, drop}
-use Rattle.std.specs.List.{slice_get}
-use Rattle.std.proofs.lemmas.List.{drop_more}
-use Rattle.std.proofs.lemmas.Option.{slice_get_within, get_or_from_slice_get}
-use Rattle.it_space.specs.Sets.{has_member}
+-- Right answers can be written: their generators are there, their points and causes are of the question's names.
+use Rattle.std.proofs.Common.{◌≡◌, inl, inr, ℕ, ◌+◌, ◌<◌, ℤ, List, [], ◌∷◌, map, length, All, Bool, true, false, refl, sym, ap, ap₂, subst, ◌∙◌, arith, length-append}
+use Rattle.std.proofs.lemmas.List.{length-map}
+use Rattle.std.proofs.lemmas.List.Elements.{All-nil, All-cons}
+use Rattle.std.proofs.lemmas.Nat.{pow_pos}
 use Rattle.std.proofs.Math.Pow.{pow_mono}
-use Rattle.std.proofs.lemmas.Nat.{pow_below}
-use Rattle.it_cli.specs.Lines.{joined, one_if, members_from, or_zero}
+use Rattle.it_space.specs.declared.answers.Certificate.{Certificate}
+use Rattle.it_space.specs.declared.answers.Cause.{Cause}
+use Rattle.it_space.specs.declared.answers.Cause.TheVariants as causes
+use Rattle.it_space.specs.declared.answers.Cause.TheVariants.{Scale}
+use Rattle.it_space.specs.declared.problems.Constraint.{Constraint}
+use Rattle.it_space.specs.Problems.{ProblemView}
+use Rattle.it_space.specs.declared.spaces.Space.{Space}
+use Rattle.it_space.specs.declared.answers.Answer.{Answer}
+use Rattle.it_space.specs.declared.answers.Answer.TheVariants as answers
+use Rattle.it_space.specs.Answers.{AnswerView, CertificateView, answer_view, certificate_view}
+use Rattle.it_space.specs.Rows.{Terms}
+use Rattle.it_space.specs.Spaces.{size_of}
+use Rattle.it_polymatroid.specs.Certificates.{Form, IsAllowed}
+use Rattle.it_polymatroid.specs.Elementals.{elementals}
+use Rattle.it_polymatroid.proofs.Every.{every_of, all_of, every-same}
+use Rattle.it_syntax.specs.Meaning.{RelationView}
+use Rattle.it_syntax.specs.NamesViews.{NamesView}
+use Rattle.it_question.specs.Limits.{IsQuestion}
+use Rattle.it_question.specs.Questions.{BodyView, QuestionView, Prove}
+use Rattle.it_canon.specs.Demands.{LineDemand, States, AreStated}
+use Rattle.it_canon.specs.QuestionDemands.{question_demands, problem_names, problem_names_by, space_of}
+use Rattle.it_canon.proofs.ZipLemmas.{zip-length}
+use Rattle.it_run.specs.Runs.RunEndView.{Weights, Point, Pivots, Width}
+use Rattle.it_run.specs.Runs.{RunEndView}
+use Rattle.it_rational.specs.Rational.{Rational}
+use Rattle.it_prove.specs.ProofViews.{Yes, No, Undecided, Follows}
+use Rattle.it_answer.specs.Forms.{all_demands, generators_by}
+use Rattle.it_canon.specs.Targets.{targets}
+use Rattle.it_answer.specs.RightAnswers.{CertifyAll, ViolatesFirst, CauseIsDue, IsRightFor, IsRightAnswer, IsRightAnswerBy, variables_of}
+use Rattle.it_print.specs.Lines.{IsCauseOf, IsPrintable, answer_line, places_of}
+use Rattle.it_cli.specs.Right.{default_steps, IsAnswerText}
 
--- a list's first element, and what is written after it
-pub joined_step : (separator : List ℕ) (some wanted : Bool) (text : List ℕ) (rest : List (List ℕ)) (out : List ℕ)
-    → (out ++ joined separator some (one_if wanted text)) ++ joined separator (some || wanted) rest ≡ out ++ joined separator some (one_if wanted text ++ rest)
-joined_step separator false false text rest out = ap (λ t. t ++ joined separator false rest) (append-nil out)
-joined_step separator true false text rest out = ap (λ t. t ++ joined separator true rest) (append-nil out)
-joined_step separator false true text rest out = simp (append_assoc, append-nil)
-joined_step separator true true text rest out = simp (append_assoc, append-nil)
+length-demands : (n : ℕ) (ds : List LineDemand) → length (all_demands n ds) ≡ length (elementals n) + length ds
+unfolding all_demands
+length-demands n ds = simp (length-append, length-map)
 
--- what a sum still has to write
-pub sum_step : (some wanted : Bool) (text : List ℕ) (rest : List (List ℕ)) (out : List ℕ)
-    → (out ++ joined (codes " + ") some (one_if wanted text)) ++ joined (codes " + ") (some || wanted) (or_zero (some || wanted) rest)
-    ≡ out ++ joined (codes " + ") some (or_zero some (one_if wanted text ++ rest))
-sum_step false false text rest out = ap (λ t. t ++ joined (codes " + ") false (or_zero false rest)) (append-nil out)
-sum_step true false text rest out = ap (λ t. t ++ joined (codes " + ") true rest) (append-nil out)
-sum_step false true text rest out = simp (append_assoc, append-nil)
-sum_step true true text rest out = simp (append_assoc, append-nil)
+pub places_same : (s : Space) (ds : List LineDemand) (cs : List Constraint) → AreStated s ds cs → places_of cs ≡ map (λ d. d.place) ds
+places_same s [] [] h = refl
+places_same s [] (c ∷ cs) h = absurd h
+places_same s (d ∷ ds) [] h = absurd h
+places_same s (d ∷ ds) (c ∷ cs) h = ap₂ (λ x xs. x ∷ xs) h.0.origin (places_same s ds cs h.1)
 
--- the set of the other variables doesn't go below 0
-pub others_fit : (i n : ℕ) → i < n → n ≤ 10 → 1 * 2 ^ i % 65536 ≤ 1 * 2 ^ n % 65536 - 1
-others_fit i n h k = omega (arith, pow_below i n h, pow_mono {i = n} {j = 10} k)
+certificates : (q : BodyView) (n m : ℕ) (fs : List Form) (cs : List Certificate) → n ≡ variables_of q → m ≡ length (question_demands q) → CertifyAll q fs (map certificate_view cs)
+    → All (λ (c : Certificate). All (λ (w : ℕ × ℤ). w.0 < length (elementals n) + m) c.weights.items) cs
+certificates q n m [] [] e f c = All-nil (λ (c : Certificate). All (λ (w : ℕ × ℤ). w.0 < length (elementals n) + m) c.weights.items)
+certificates q n m [] (k ∷ ks) e f c = absurd c
+certificates q n m (g ∷ fs) [] e f c = absurd c
+certificates q n m (g ∷ fs) (k ∷ ks) e f c = All-cons (λ (c : Certificate). All (λ (w : ℕ × ℤ). w.0 < length (elementals n) + m) c.weights.items) k ks
+    (all_of (λ (w : ℕ × ℤ). w.0 < length (elementals n) + m) k.weights.items (every-same (IsAllowed (generators_by (all_demands (variables_of q) (question_demands q)))) (λ (w : ℕ × ℤ). w.0 < length (elementals n) + m) k.weights.items
+    (λ w a. omega (arith, a.0, length-demands (variables_of q) (question_demands q), ap (λ i. length (elementals i)) e, f)) (every_of (IsAllowed (generators_by (all_demands (variables_of q) (question_demands q)))) k.weights.items c.0.allowed)))
+    (certificates q n m fs ks e f c.1)
 
--- one more name of a set
-pub set_step : (names : List (List ℕ)) (i set : ℕ) (name : List ℕ) (some : Bool) (out : List ℕ) → slice_get names i ≡ Some name
-    → (out ++ joined (codes ",") some (one_if (has_member set i) name)) ++ joined (codes ",") (some || has_member set i) (members_from (i + 1) (drop (i + 1) names) set)
-    ≡ out ++ joined (codes ",") some (members_from i (drop i names) set)
-set_step names i set name some out e =
-    joined_step (codes ",") some (has_member set i) name (members_from (i + 1) (drop (i + 1) names) set) out
-    ∙ ap (λ ns. out ++ joined (codes ",") some (members_from i ns set)) (sym (split names i e))
+point_size : (q : BodyView) (fs : List Form) (is_back : Bool) (values : List ℤ) → ViolatesFirst q fs is_back values → length values ≡ size_of (space_of (problem_names q))
+point_size q [] is_back values c = absurd c
+point_size q (f ∷ fs) false values c = c.complete
+point_size q (f ∷ []) true values c = absurd c
+point_size q (f ∷ g ∷ fs) true values c = c.1.complete
+
+of_end : (p : ProblemView) (t : Terms) (m : ℕ) (cause : Cause) (e : RunEndView (List (ℕ × Rational)) (List Rational)) → Follows p t e (Undecided cause) → IsCauseOf m cause
+of_end p t m cause (Weights ws) (inl a) = absurd (unlike a.3)
   where
-    split : (names : List (List ℕ)) (i : ℕ) → slice_get names i ≡ Some name → drop i names ≡ name ∷ drop (i + 1) names
-    split names i e = drop_more names i name (slice_get_within names i name e) ∙ ap (λ n. n ∷ drop (i + 1) names) (get_or_from_slice_get names i name name e)
+    unlike : {w : CertificateView} → Undecided cause ≡ Yes w → ⊥
+    unlike e = cc
+of_end p t m cause (Weights ws) (inr a) = subst (IsCauseOf m) (sym (inside a.1)) tt
+  where
+    inside : Undecided cause ≡ Undecided Scale → cause ≡ Scale
+    inside e = cc
+of_end p t m cause (Point qs) (inl a) = absurd (unlike a.1)
+  where
+    unlike : {values : List ℤ} → Undecided cause ≡ No values → ⊥
+    unlike e = cc
+of_end p t m cause (Point qs) (inr a) = subst (IsCauseOf m) (sym (inside a.1)) tt
+  where
+    inside : Undecided cause ≡ Undecided Scale → cause ≡ Scale
+    inside e = cc
+of_end p t m cause (Pivots k) a = subst (IsCauseOf m) (sym (inside a)) tt
+  where
+    inside : Undecided cause ≡ Undecided (causes.Pivots k) → cause ≡ causes.Pivots k
+    inside e = cc
+of_end p t m cause (Width k) a = subst (IsCauseOf m) (sym (inside a)) tt
+  where
+    inside : Undecided cause ≡ Undecided (causes.Width k) → cause ≡ causes.Width k
+    inside e = cc
+
+cause_is : (p : ProblemView) (steps m : ℕ) (ts : List Terms) (cause : Cause) → CauseIsDue p steps ts cause → IsCauseOf m cause
+cause_is p steps m [] cause c = absurd c
+cause_is p steps m (t ∷ ts) cause (inl e) = of_end p t m cause e.end e.follows
+cause_is p steps m (t ∷ ts) cause (inr e) = cause_is p steps m ts cause e.1
+
+names_are : (q : BodyView) (r : RelationView) → q.verb ≡ Prove r → problem_names q ≡ q.names
+names_are q r e = ap (problem_names_by q.names) e
+
+pub printable : (q : BodyView) (r : RelationView) (m : ℕ) (answer : Answer) → q.verb ≡ Prove r → IsQuestion q → m ≡ length (question_demands q) → IsRightAnswer default_steps q (answer_view answer)
+    → IsPrintable q.names m answer
+printable q r m answer aim k few right = by_answer answer (subst (λ a. IsRightAnswerBy default_steps q a (answer_view answer)) aim right)
+  where
+    n_is : length q.names.variables ≡ variables_of q
+    n_is = ap (λ (v : NamesView). length v.variables) (sym (names_are q r aim))
+
+    by_answer : (answer : Answer) → IsRightFor default_steps q r (answer_view answer) → IsPrintable q.names m answer
+    by_answer (answers.Yes proofs) a = certificates q (length q.names.variables) m (targets (variables_of q) r) proofs.items n_is few a.shows
+    by_answer (answers.No is_back point) a =
+        let size : length point ≡ size_of (space_of q.names) = point_size q (targets (variables_of q) r) is_back point a.shows ∙ ap (λ v. size_of (space_of v)) (names_are q r aim) in
+        (omega (arith, pow_pos (length q.names.variables)), omega (arith, pow_mono {i = length q.names.variables} {j = 8} k.few, k.few_rates))
+    by_answer (answers.Undecided cause) a = cause_is a.poses.problem default_steps (length q.names.rates) a.poses.rows cause a.due
+
+-- the text of a right answer
+pub answer_text : (q : QuestionView) (k : ℕ) (s : Space) (cs : List Constraint) (answer : AnswerView) (bytes : List ℕ) → AreStated s (question_demands q.body) cs → IsRightAnswer default_steps q.body answer
+    → bytes ≡ answer_line k q.body.names (places_of cs) answer → IsAnswerText k tt q bytes
+answer_text q k s cs answer bytes st right is = record { answer = answer; right = right; is = is ∙ ap (λ xs. answer_line k q.body.names xs answer) (places_same s (question_demands q.body) cs st) }
+
+pub few_constraints : (q : BodyView) (s : Space) (cs : List Constraint) → AreStated s (question_demands q) cs → length cs ≡ length (question_demands q)
+few_constraints q s cs h = zip-length (λ (d : LineDemand) (c : Constraint). States s d.place d.demand c) (question_demands q) cs h

@@ -2,14 +2,17 @@
 ghost use Rattle.std.specs.Prelude.{◌≡◌, ◌++◌, IfOk};
 ghost use Rattle.it_cli.specs.Refusals.{code_word, fault_line};
 
-use crate::printing::write_number;
+use it_print::write_number;
 use it_syntax::types::Code;
 use std::alloc::{AllocError, Global};
 
+/// The line of an input of too many bytes.
 pub const LONG: &[u8] = b"refused long\n";
 
+/// The line of a file with a question that isn't answered yet.
 pub const LATER: &[u8] = b"refused 1:1 later\n";
 
+/// The word of a code in the line of a fault.
 #[tactic(auto, unfolding(crate::specs::Refusals::code_word))]
 fn word(code: Code) -> &'static [u8]
     ensures { result.now ≡ code_word code }

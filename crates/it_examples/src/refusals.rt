@@ -4,7 +4,7 @@ use it_cli::Status;
 use std::test::Fail;
 
 /// Bytes, lines, ends of lines and the file's end.
-const FILES: [(&[u8], &[u8]); 63] = [
+const FILES: [(&[u8], &[u8]); 65] = [
     (b"vars X\n", b"refused 2:1 unfinished\n"),
     (b"vars X", b"refused 2:1 unfinished\n"),
     (b"vars X, Y\n", b"refused 2:1 unfinished\n"),
@@ -67,6 +67,11 @@ const FILES: [(&[u8], &[u8]); 63] = [
     (b"vars X\nprove H(X) >\n= 0\n", b"refused 2:12 byte\n"),
     (b"vars X\nprove H(X) >=\n0\n", b"refused 2:14 word\n"),
     (b"vars X\nprove 0 >= 0\n0\n", b"refused 3:1 word\n"),
+    (
+        b"vars X, Y\nprove H(X) >= 0\nrates R\n",
+        b"refused 3:1 word\n",
+    ),
+    (b"vars X\nprove H(Y) >= 0\n", b"refused 2:9 name\n"),
     (
         b"vars X, Y\nprove H(X) >= 0\nprove H(Y) >= 0\n",
         b"refused 3:1 word\n",

@@ -222,36 +222,218 @@ const ANSWERED: [(&[u8], &[u8]); 56] = [
     ),
 ];
 
-/// Whole files that are read, of which not every question is answered yet.
-const LATER: [&[u8]; 40] = [
+/// Questions of other numbers of variables, with constraints and with rates, and the lines that answer them, as
+/// examples/independent gives them.
+const CONSTRAINED: [(&[u8], &[u8]); 51] = [
     // another number of variables
-    b"vars X\nprove H(X) >= 0\n",
-    b"vars X, Y, Z\nprove H(X) >= 0\n",
-    b"vars A, B, C, D, E, F, G, J\nprove H(A,B,C,D,E,F,G,J) <= 0",
-    b"vars X, Y\nprove 0 >= 0\nvars X\nprove 0 >= 0\n",
-    b"vars X\nprove 0 >= 0\nvars X, Y\nprove 0 >= 0\n",
-    b"vars X, Y\nprove 0 >= 0\nvars X, Y\nprove 0 = 0\nvars X, Y, Z\nprove 0 <= 0\n",
+    (b"vars X\nprove H(X) >= 0\n", b"1 yes 1 : 1 H(X)\n"),
+    (
+        b"vars X, Y, Z\nprove H(X) >= 0\n",
+        b"1 yes 1 : 1 H(X|Y,Z) + 1 I(X;Y|Z) + 1 I(X;Z)\n",
+    ),
+    (
+        b"vars X, Y\nprove 0 >= 0\nvars X\nprove 0 >= 0\n",
+        b"1 yes 1 : 0\n2 yes 1 : 0\n",
+    ),
+    (
+        b"vars X\nprove 0 >= 0\nvars X, Y\nprove 0 >= 0\n",
+        b"1 yes 1 : 0\n2 yes 1 : 0\n",
+    ),
+    (
+        b"vars X, Y\nprove 0 >= 0\nvars X, Y\nprove 0 = 0\nvars X, Y, Z\nprove 0 <= 0\n",
+        b"1 yes 1 : 0\n2 yes 1 : 0 and 1 : 0\n3 yes 1 : 0\n",
+    ),
     // rates
-    b"vars X, Y\nrates R\nprove 0 >= 0\n",
-    b"vars X, Y\nrates R, S\nprove 2 R - 0 S >= - S + H(X|Y)\n",
-    b"vars X, Y\nrates A, B, C, D, E, F, G, J, K, L, M, N, O, P, Q, R\nprove R >= 0\n",
-    b"vars X, Y\nrates markov\ngiven markov X -> Y -> X,Y\nprove markov >= 0\n",
-    b"vars vars\nrates rates, row\nrow row >= rates\neliminate rates\n",
-    b"vars X, Y\nrates Hx, I_, h, i\nrow Hx = I_ + h - i\nprove 0 >= 0\n",
+    (b"vars X, Y\nrates R\nprove 0 >= 0\n", b"1 yes 1 : 0\n"),
+    (
+        b"vars X, Y\nrates R, S\nprove 2 R - 0 S >= - S + H(X|Y)\n",
+        b"1 no h(X)=1 h(Y)=0 h(X,Y)=1 R=-1 S=-1\n",
+    ),
+    (
+        b"vars X, Y\nrates A, B, C, D, E, F, G, J, K, L, M, N, O, P, Q, R\nprove R >= 0\n",
+        b"1 no h(X)=0 h(Y)=0 h(X,Y)=0 A=-1 B=-1 C=-1 D=-1 E=-1 F=-1 G=-1 J=-1 K=-1 L=-1 M=-1 N=-1 O=-1 P=-1 Q=-1 R=-1\n",
+    ),
+    (
+        b"vars X, Y\nrates markov\ngiven markov X -> Y -> X,Y\nprove markov >= 0\n",
+        b"1 no h(X)=0 h(Y)=0 h(X,Y)=0 markov=-1\n",
+    ),
+    (
+        b"vars X, Y\nrates Hx, I_, h, i\nrow Hx = I_ + h - i\nprove 0 >= 0\n",
+        b"1 yes 1 : 0\n",
+    ),
     // constraints
-    b"vars X, Y\ngiven H(X) >= 0\nprove 0 >= 0\n",
-    b"vars X, Y\ngiven - 0 = 0\nprove 0 >= 0\n",
-    b"vars X, Y\ngiven markov X -> Y -> X\nprove 0 >= 0\n",
-    b"vars X, Y\ngiven markov X,Y -> Y,Y -> X -> Y -> X,X\nprove 0 >= 0\n",
-    b"vars X, Y\ngiven indep X; Y\nprove 0 >= 0\n",
-    b"vars X, Y\ngiven indep X,Y;Y,X;X|Y,Y\nprove 0 >= 0\n",
-    b"vars X, Y\ngiven func X of Y\nprove 0 >= 0\n",
-    b"vars of, X\ngiven func of of X\nprove 0 >= 0\n",
-    b"vars of, X\ngiven func of,of of of,of\nprove 0 >= 0\n",
-    b"vars markov, indep, func\ngiven func markov of func\nprove 0 >= 0\n",
-    b"vars X, Y\nrow H(X) = 0 H(X)\nprove 0 >= 0\n",
-    b"vars X, Y\nrow 0 >= 0\ngiven 0 <= 0\nrow 0 = 0\nprove 0 >= 0\n",
-    b"vars X, Y\nprove 0 >= 0\nvars X, Y\ngiven 0 >= 0\nprove 0 >= 0\n",
+    (
+        b"vars X, Y\ngiven H(X) >= 0\nprove 0 >= 0\n",
+        b"1 yes 1 : 0\n",
+    ),
+    (
+        b"vars X, Y\ngiven - 0 = 0\nprove 0 >= 0\n",
+        b"1 yes 1 : 0\n",
+    ),
+    (
+        b"vars X, Y\ngiven markov X -> Y -> X\nprove 0 >= 0\n",
+        b"1 yes 1 : 0\n",
+    ),
+    (
+        b"vars X, Y\ngiven markov X,Y -> Y,Y -> X -> Y -> X,X\nprove 0 >= 0\n",
+        b"1 yes 1 : 0\n",
+    ),
+    (
+        b"vars X, Y\ngiven indep X; Y\nprove 0 >= 0\n",
+        b"1 yes 1 : 0\n",
+    ),
+    (
+        b"vars X, Y\ngiven indep X,Y;Y,X;X|Y,Y\nprove 0 >= 0\n",
+        b"1 yes 1 : 0\n",
+    ),
+    (
+        b"vars X, Y\ngiven func X of Y\nprove 0 >= 0\n",
+        b"1 yes 1 : 0\n",
+    ),
+    (
+        b"vars of, X\ngiven func of of X\nprove 0 >= 0\n",
+        b"1 yes 1 : 0\n",
+    ),
+    (
+        b"vars of, X\ngiven func of,of of of,of\nprove 0 >= 0\n",
+        b"1 yes 1 : 0\n",
+    ),
+    (
+        b"vars markov, indep, func\ngiven func markov of func\nprove 0 >= 0\n",
+        b"1 yes 1 : 0\n",
+    ),
+    (
+        b"vars X, Y\nrow H(X) = 0 H(X)\nprove 0 >= 0\n",
+        b"1 yes 1 : 0\n",
+    ),
+    (
+        b"vars X, Y\nrow 0 >= 0\ngiven 0 <= 0\nrow 0 = 0\nprove 0 >= 0\n",
+        b"1 yes 1 : 0\n",
+    ),
+    (
+        b"vars X, Y\nprove 0 >= 0\nvars X, Y\ngiven 0 >= 0\nprove 0 >= 0\n",
+        b"1 yes 1 : 0\n2 yes 1 : 0\n",
+    ),
+    // tabs, comments, carriage returns and blank lines
+    (
+        b"vars X, Y\nprove 0 >= 0\nvars X\n\n# none\n\nprove 0 >= 0",
+        b"1 yes 1 : 0\n2 yes 1 : 0\n",
+    ),
+    // a weighted sum, and what isn't one
+    (b"vars X\nprove I(X;X) = H(X)\n", b"1 yes 1 : 0 and 1 : 0\n"),
+    (
+        b"vars X, Y, Z\nprove H(X,Y) + H(Y,Z) + H(X,Z) >= 2 H(X,Y,Z)\n",
+        b"1 yes 1 : 1 I(X;Y|Z) + 1 I(X;Z|Y) + 1 I(Y;Z)\n",
+    ),
+    (
+        b"vars A, B, C, D\nprove 2 I(C;D) <= I(A;B) + I(A;C,D) + 3 I(C;D|A) + I(C;D|B)\n",
+        b"1 no h(A)=2 h(B)=2 h(A,B)=4 h(C)=2 h(A,C)=3 h(B,C)=3 h(A,B,C)=4 h(D)=2 h(A,D)=3 h(B,D)=3 h(A,B,D)=4 h(C,D)=3 h(A,C,D)=4 h(B,C,D)=4 h(A,B,C,D)=4\n",
+    ),
+    (
+        b"vars X, Y, Z\nprove I(X;Y) <= I(X;Y|Z)\n",
+        b"1 no h(X)=1 h(Y)=1 h(X,Y)=1 h(Z)=1 h(X,Z)=1 h(Y,Z)=1 h(X,Y,Z)=1\n",
+    ),
+    // relations, chains and independences that are known
+    (
+        b"vars X, Y, Z\ngiven markov X -> Y -> Z\nprove I(X;Z) <= I(X;Y)\n",
+        b"1 yes 1 : 1 I(X;Y|Z) + -1 given 1\n",
+    ),
+    (
+        b"vars X, Y, Z\ngiven markov X -> Y -> Z\nprove I(X;Y) <= I(X;Z)\n",
+        b"1 no h(X)=1 h(Y)=1 h(X,Y)=1 h(Z)=0 h(X,Z)=1 h(Y,Z)=1 h(X,Y,Z)=1\n",
+    ),
+    (
+        b"vars W, X, Y, Z\ngiven markov W -> X -> Y -> Z\nprove I(W,X;Z|Y) <= 0\n",
+        b"1 yes 1 : -1 given 1.2\n",
+    ),
+    (
+        b"vars X, Y\ngiven indep X ; Y\nprove H(X) + H(Y) <= H(X,Y)\n",
+        b"1 yes 1 : -1 given 1\n",
+    ),
+    (
+        b"vars X, Y, Z\ngiven 3 H(X) <= 2 H(Y)\ngiven 5 H(Y) <= 7 H(Z)\nprove 15 H(X) <= 14 H(Z)\n",
+        b"1 yes 1 : 5 given 1 + 2 given 2\n",
+    ),
+    (
+        b"vars X, Y\ngiven H(X) = H(Y)\nprove H(X|Y) = H(Y|X)\n",
+        b"1 yes 1 : 1 given 1 and 1 : -1 given 1\n",
+    ),
+    // functions: their order, other ways to say them, and what says the same but is none
+    (
+        b"vars X, Y, Z\ngiven func Y of X\ngiven func Z of Y\nprove H(Z|X) = 0\n",
+        b"1 yes 1 : 1 H(Y|X,Z) + 1 H(Z|X,Y) + 2 I(Y;Z|X) + -1 given 1 and 1 : 1 H(Y|X,Z) + 1 I(X;Z|Y) + -1 given 1 + -1 given 2\n",
+    ),
+    (
+        b"vars X, Y, Z\ngiven func Y of X\ngiven func Z of Y\ngiven func Z of X\nprove H(X,Y,Z) <= H(X)\n",
+        b"1 yes 1 : 1 I(X;Z|Y) + -1 given 1 + -1 given 2\n",
+    ),
+    (
+        b"vars X, Y, Z\ngiven func Y of X\ngiven func Z of X\ngiven func Z of Y\nprove H(X,Y,Z) <= H(X)\n",
+        b"1 yes 1 : 1 I(Y;Z|X) + -1 given 1 + -1 given 2\n",
+    ),
+    (
+        b"vars X, Y, Z\ngiven func Z of X, Y\ngiven func X of Y, Z\ngiven func Y of X, Z\nprove H(X) + H(Y) >= H(Z)\n",
+        b"1 yes 1 : 1 H(X|Y,Z) + 1 H(Y|X,Z) + 1 I(X;Y) + 1 I(X;Y|Z) + -1 given 1\n",
+    ),
+    (
+        b"vars X\ngiven H(X) = 0\nprove H(X) >= 0\n",
+        b"1 yes 1 : 1 H(X)\n",
+    ),
+    (
+        b"vars X, Y\ngiven H(X) = H(X,Y)\nprove H(X) >= H(Y)\n",
+        b"1 yes 1 : 1 H(X|Y) + 1 given 1\n",
+    ),
+    (
+        b"vars X, Y\ngiven H(X|Y) = 0\nprove H(X) >= H(Y)\n",
+        b"1 no h(X)=0 h(Y)=1 h(X,Y)=1\n",
+    ),
+    (
+        b"vars X, Y\ngiven indep X ; X\nprove I(X;Y) <= 0\n",
+        b"1 yes 1 : 1 H(X|Y) + -1 given 1\n",
+    ),
+    (
+        b"vars X, Y, Z\ngiven markov X -> Y -> X,Z\nprove H(X|Y) = 0\n",
+        b"1 yes 1 : 1 H(X|Y,Z) + 1 I(X;Z|Y) and 1 : -1 given 1\n",
+    ),
+    (
+        b"vars X, Y\ngiven 2 H(X,Y) = 2 H(X)\nprove H(X) >= H(Y)\n",
+        b"1 yes 2 : 2 H(X|Y) + -1 given 1\n",
+    ),
+    (
+        b"vars X, Y\nrow H(X,Y) = H(X)\nprove H(X) >= H(Y)\n",
+        b"1 yes 1 : 1 H(X|Y) + -1 row 1\n",
+    ),
+    // rates: scales, numbers that pass the limit, contradictions
+    (
+        b"vars X\nrates A\nrow 2 A >= H(X)\nprove A >= 0\n",
+        b"1 yes 2 : 1 H(X) + 1 row 1\n",
+    ),
+    (
+        b"vars X\nrates R\nrow R <= H(X)\nprove R >= 0\n",
+        b"1 no h(X)=0 R=-1\n",
+    ),
+    (
+        b"vars X\nrates A, B\nrow 18446744073709551615 A + B >= 0\nrow A + 18446744073709551615 B >= 0\nprove A + B >= 0\n",
+        b"1 undecided width 2\n",
+    ),
+    (
+        b"vars X\nrates A, B\nrow 18446744073709551615 A >= 0\nrow 18446744073709551614 B >= 0\nprove A + B >= 0\n",
+        b"1 undecided scale\n",
+    ),
+    (
+        b"vars X, Y, Z\nrates R\nrow R <= I(X;Z)\ngiven markov X -> Y -> Z\nrow R >= 0\nprove R <= I(X;Y)\n",
+        b"1 yes 1 : 1 I(X;Y|Z) + -1 given 1 + 1 row 1\n",
+    ),
+    (
+        b"vars X\nrates R\nrow R >= H(X)\nrow - R >= H(X)\nprove H(X) <= 0\n",
+        b"1 yes 2 : 1 row 1 + 1 row 2\n",
+    ),
+];
+
+/// Whole files that are read, of which not every question is answered yet.
+const LATER: [&[u8]; 15] = [
+    // rates
+    b"vars vars\nrates rates, row\nrow row >= rates\neliminate rates\n",
     // elimination
     b"vars X, Y\nrates R\neliminate R\n",
     b"vars X, Y\nrates R, S\nrow R >= S\neliminate S, R",
@@ -269,7 +451,6 @@ const LATER: [&[u8]; 40] = [
     // tabs, comments, carriage returns and blank lines
     b"#\r\n\tvars\tX#,Y\r\n\r\n  region # R\r\n\t\tregion\r\n\r\ncontain#",
     b"vars X\r\nrates R\r\ngiven 0>=0\r\nrow R>=0\r\neliminate R\r",
-    b"vars X, Y\nprove 0 >= 0\nvars X\n\n# none\n\nprove 0 >= 0",
 ];
 
 /// A source of these bytes that gives `step` at a call and fails at the calls `failing`.
@@ -331,6 +512,12 @@ pub(crate) fn each_gets(
 fn questions_get_their_lines(rt: HostRuntime) -> Result<(), Fail> {
     let alloc = rt.alloc();
     each_gets(&rt, alloc, "answers", &ANSWERED, Status::Done)
+}
+
+#[test]
+fn constraints_count(rt: HostRuntime) -> Result<(), Fail> {
+    let alloc = rt.alloc();
+    each_gets(&rt, alloc, "constraints", &CONSTRAINED, Status::Done)
 }
 
 #[test]

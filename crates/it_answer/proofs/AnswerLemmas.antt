@@ -1,0 +1,129 @@
+-- From outcomes of targets to the answer.
+use Rattle.std.proofs.Common.{◌≡◌, inl, inr, ℕ, ◌+◌, ◌≤◌, ℤ, pos, neg_ℤ, ◌≤ℤ◌, List, [], ◌∷◌, length, Bool, true, false, Option, Some, None, refl, sym, ap, subst, ◌∙◌}
+use Rattle.std.specs.Option.{IfSome}
+use Rattle.std.proofs.lemmas.List.Elements.{All-nil, All-cons, All-head, All-tail}
+use Rattle.it_space.specs.declared.spaces.Space.{Space}
+use Rattle.it_space.specs.Problems.{ProblemView, IsProblem}
+use Rattle.it_space.specs.Answers.{AnswerView, CertificateView}
+use Rattle.it_space.specs.Answers as answer_views
+use Rattle.it_space.specs.Rows.{Terms, IsUpTo, value, map_of}
+use Rattle.it_space.specs.Spaces.{size_of}
+use Rattle.it_polymatroid.specs.Certificates.{Form, IsCertificate}
+use Rattle.it_polymatroid.specs.Polymatroid.{IsPolymatroid}
+use Rattle.it_syntax.specs.Meaning.{RelationView}
+use Rattle.it_question.specs.Questions.{BodyView, Prove}
+use Rattle.it_canon.specs.Canonical.{IsRowOf}
+use Rattle.it_canon.specs.Demands.{AreStated}
+use Rattle.it_canon.specs.Targets.{negation, targets}
+use Rattle.it_canon.specs.QuestionDemands.{space_of, problem_names, problem_lines, question_demands as demanded, AreTrueAt, AreRowsOf}
+use Rattle.it_canon.proofs.ProblemLemmas.{question_met}
+use Rattle.it_elemental.specs.Generators.{generators}
+use Rattle.it_check.specs.Meaning.{CertifiesRow, RefutesRow}
+use Rattle.it_prove.specs.Columns.{negated_terms}
+use Rattle.it_prove.specs.ProofViews.{ProofView, Yes, No, Undecided, EndsWith, IsRightProof, proof_view}
+use Rattle.it_prove.specs.declared.types.Proof.{Proof}
+use Rattle.it_prove.specs.declared.types.Proof.TheVariants as proofs
+use Rattle.it_prove.proofs.PointLemmas.{value-turned}
+use Rattle.it_prove.proofs.ColumnSteps.{turned_canonical}
+use Rattle.it_prove.proofs.SmallRows.{turned_small}
+use Rattle.it_answer.specs.Forms.{all_demands, generators_by}
+use Rattle.it_answer.specs.RightAnswers.{CertifiesForm, IsCounterexample, CertifyAll, ViolatesFirst, ShowsTargets, IsRightAnswer, IsRightAnswerBy}
+use Rattle.it_answer.specs.RowAnswers.{CertifyRows, RefutesFirst, ShowsRows, AnswersRows, AnswersForms, answer_after_one, answer_after_two}
+use Rattle.it_answer.proofs.FormLemmas.{spoken, by_forms}
+
+-- ---- one target, or two
+
+module _ (p : ProblemView) (f : Form) (t : Terms) (row : IsRowOf p.space f t) (steps : ℕ) where
+  after_one : (o : ProofView) → IsRightProof p t o → EndsWith p t steps o → AnswersRows p steps (t ∷ []) (answer_after_one o)
+  after_one (Yes w) r e = record { shows = (r.0, tt); due = (e, tt) }
+  after_one (No values) r e = record { shows = r.0; due = e }
+  after_one (Undecided cause) r e = record { shows = tt; due = inl e }
+
+  pub answers_one : (o : ProofView) (answer : AnswerView) → answer ≡ answer_after_one o → IsRightProof p t o → EndsWith p t steps o → AnswersForms p (f ∷ []) answer steps
+  answers_one o answer is r e = record { rows = t ∷ []; are = (row, tt); answered = subst (AnswersRows p steps (t ∷ [])) (sym is) (after_one o r e) }
+
+  module _ (g : Form) (u : Terms) (other : IsRowOf p.space g u) where
+    not_proven : (proof : Proof) → ((c : _) → proof ≡ proofs.Yes c → ⊥) → IsRightProof p t (proof_view proof) → EndsWith p t steps (proof_view proof)
+        → AnswersRows p steps (t ∷ u ∷ []) (answer_after_one (proof_view proof))
+    not_proven (proofs.Yes c) n r e = absurd (n c refl)
+    not_proven (proofs.No point) n r e = record { shows = r.0; due = e }
+    not_proven (proofs.Undecided cause) n r e = record { shows = tt; due = inl e }
+
+    pub answers_first : (proof : Proof) (answer : AnswerView) → answer ≡ answer_after_one (proof_view proof) → ((c : _) → proof ≡ proofs.Yes c → ⊥) → IsRightProof p t (proof_view proof)
+        → EndsWith p t steps (proof_view proof) → AnswersForms p (f ∷ g ∷ []) answer steps
+    answers_first proof answer is n r e = record { rows = t ∷ u ∷ []; are = (row, (other, tt)); answered = subst (AnswersRows p steps (t ∷ u ∷ [])) (sym is) (not_proven proof n r e) }
+
+    after_two : (w : CertificateView) (o : ProofView) → IsRightProof p t (Yes w) → EndsWith p t steps (Yes w) → IsRightProof p u o → EndsWith p u steps o → AnswersRows p steps (t ∷ u ∷ []) (answer_after_two w o)
+    after_two w (Yes v) r e s d = record { shows = (r.0, (s.0, tt)); due = (e, (d, tt)) }
+    after_two w (No values) r e s d = record { shows = ((w, r.0), s.0); due = ((w, e), d) }
+    after_two w (Undecided cause) r e s d = record { shows = tt; due = inr ((w, e), inl d) }
+
+    pub answers_two : (w : CertificateView) (o : ProofView) (answer : AnswerView) → answer ≡ answer_after_two w o → IsRightProof p t (Yes w) → EndsWith p t steps (Yes w) → IsRightProof p u o
+        → EndsWith p u steps o → AnswersForms p (f ∷ g ∷ []) answer steps
+    answers_two w o answer is r e s d = record { rows = t ∷ u ∷ []; are = (row, (other, tt)); answered = subst (AnswersRows p steps (t ∷ u ∷ [])) (sym is) (after_two w o r e s d) }
+
+-- ---- the row of a form's negation
+
+turned_up_to : (size : ℕ) (ts : Terms) → IsUpTo size ts → IsUpTo size (negated_terms ts)
+turned_up_to size [] u = All-nil (λ (t : ℕ × ℤ). (1 ≤ t.0) × (t.0 ≤ size))
+turned_up_to size (t ∷ ts) u = All-cons (λ (t : ℕ × ℤ). (1 ≤ t.0) × (t.0 ≤ size)) (t.0, neg_ℤ t.1) (negated_terms ts) (All-head (λ (t : ℕ × ℤ). (1 ≤ t.0) × (t.0 ≤ size)) t ts u) (turned_up_to size ts (All-tail (λ (t : ℕ × ℤ). (1 ≤ t.0) × (t.0 ≤ size)) t ts u))
+
+pub row_negation : (s : Space) (f : Form) (t u : Terms) → u ≡ negated_terms t → IsRowOf s f t → IsRowOf s (negation f) u
+row_negation s f t u e h = subst (IsRowOf s (negation f)) (sym e) (record {
+  same = λ p z. value-turned t p ∙ ap neg_ℤ (h.same p z);
+  coordinates = turned_up_to (size_of s) t h.coordinates;
+  canonical = turned_canonical 0 t h.canonical;
+  small = turned_small t h.small;
+})
+
+-- ---- from rows to the meaning of the text
+
+module _ (q : BodyView) (p : ProblemView) (e : p.space ≡ space_of (problem_names q)) (st : AreStated p.space (demanded q) p.constraints) (k : IsProblem p) where
+  moved : (P : Space → Type 0) → P p.space → P (space_of (problem_names q))
+  moved P x = subst P e x
+
+  show_certificate : (f : Form) (t : Terms) (w : CertificateView) → IsRowOf p.space f t → CertifiesRow p t w → CertifiesForm q f w
+  show_certificate f t w r c = moved (λ s. IsCertificate (size_of s + 1) (generators_by (all_demands s.variables (demanded q))) f w)
+      (by_forms (all_demands p.space.variables (demanded q)) (generators p) (spoken p.space (demanded q) p.constraints st) (size_of p.space + 1) (value t) f r.same w c)
+
+  show_point : (f : Form) (t : Terms) (values : List ℤ) → IsRowOf p.space f t → RefutesRow p t values → IsCounterexample q f values
+  show_point f t values r c = record {
+    complete = moved (λ s. length values ≡ size_of s) c.complete;
+    polymatroid = moved (λ s. IsPolymatroid s.variables (map_of values)) c.polymatroid;
+    lines_hold = moved (λ s. AreTrueAt s.variables (map_of values) (problem_lines q)) ((question_met q p.space p.constraints e st (map_of values) refl).0 c.met);
+    violated = subst (λ (x : ℤ). x ≤ℤ neg_ℤ (pos 1)) (r.same (map_of values) refl) c.violated;
+  }
+
+  show_all : (fs : List Form) (ts : List Terms) (ws : List CertificateView) → AreRowsOf p.space fs ts → CertifyRows p ts ws → CertifyAll q fs ws
+  show_all [] [] [] z c = tt
+  show_all [] [] (w ∷ ws) z c = absurd c
+  show_all [] (t ∷ ts) ws z c = absurd z
+  show_all (f ∷ fs) [] ws z c = absurd z
+  show_all (f ∷ fs) (t ∷ ts) [] z c = absurd c
+  show_all (f ∷ fs) (t ∷ ts) (w ∷ ws) z c = (show_certificate f t w z.0 c.0, show_all fs ts ws z.1 c.1)
+
+  show_first : (fs : List Form) (ts : List Terms) (is_back : Bool) (values : List ℤ) → AreRowsOf p.space fs ts → RefutesFirst p ts is_back values → ViolatesFirst q fs is_back values
+  show_first [] [] is_back values z c = absurd c
+  show_first [] (t ∷ ts) is_back values z c = absurd z
+  show_first (f ∷ fs) [] is_back values z c = absurd z
+  show_first (f ∷ fs) (t ∷ ts) false values z c = show_point f t values z.0 c
+  show_first (f ∷ []) (t ∷ []) true values z c = absurd c
+  show_first (f ∷ []) (t ∷ u ∷ ts) true values z c = absurd z.1
+  show_first (f ∷ g ∷ fs) (t ∷ []) true values z c = absurd z.1
+  show_first (f ∷ g ∷ fs) (t ∷ u ∷ ts) true values z c = ((c.0.0, show_certificate f t c.0.0 z.0 c.0.1), show_point g u values z.1.0 c.1)
+
+  show : (fs : List Form) (ts : List Terms) (answer : AnswerView) → AreRowsOf p.space fs ts → ShowsRows p ts answer → ShowsTargets q fs answer
+  show fs ts (answer_views.Yes ws) z c = show_all fs ts ws z c
+  show fs ts (answer_views.No is_back values) z c = show_first fs ts is_back values z c
+  show fs ts (answer_views.Undecided cause) z c = tt
+
+  pub right : (r : RelationView) (answer : AnswerView) (steps : ℕ) → q.verb ≡ Prove r → AnswersForms p (targets p.space.variables r) answer steps → IsRightAnswer steps q answer
+  right r answer steps is a = subst (λ m. IsRightAnswerBy steps q m answer) (sym is) (record {
+    shows = moved (λ s. ShowsTargets q (targets s.variables r) answer) (show (targets p.space.variables r) a.rows answer a.are a.answered.shows);
+    poses = record { problem = p; rows = a.rows; space = e; limits = k; constraints = st; targets_are = subst (λ n. AreRowsOf p.space (targets n r) a.rows) (ap (λ (s : Space). s.variables) e) a.are };
+    due = a.answered.due;
+  })
+
+pub both_some : (b : Option ℕ) (P Q R : ℕ → Type 0) → IfSome b P → IfSome b Q → ((k : ℕ) → P k → Q k → R k) → IfSome b R
+both_some (Some k) P Q R h g f = f k h g
+both_some None P Q R h g f = tt

@@ -1,0 +1,5 @@
+pub mod FormLemmas
+pub mod AnswerLemmas
+pub mod TruthLemmas
+pub mod UniqueLemmas
+pub mod StartLemmas

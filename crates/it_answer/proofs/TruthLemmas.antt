@@ -1,0 +1,72 @@
+-- What right answers say of the relation that is asked for.
+use Rattle.std.proofs.Common.{ℕ, ◌+◌, ℤ, pos, neg_ℤ, ◌≤ℤ◌, List, [], ◌∷◌, Bool, true, false, All, refl, sym, subst, arith}
+use Rattle.std.proofs.lemmas.Int.{ints}
+use Rattle.std.proofs.lemmas.List.Elements.{All-nil, All-cons, All-head, All-tail}
+use Rattle.it_space.specs.declared.spaces.Space.{Space}
+use Rattle.it_space.specs.Answers.{CertificateView}
+use Rattle.it_space.specs.Answers.AnswerView.{Yes, No}
+use Rattle.it_space.specs.Problems.{AreMet}
+use Rattle.it_space.specs.Rows.{Terms, value, map_of}
+use Rattle.it_space.specs.Spaces.{size_of}
+use Rattle.it_polymatroid.specs.Certificates.{Form, IsCertificate}
+use Rattle.it_polymatroid.specs.Polymatroid.{IsPolymatroid}
+use Rattle.it_syntax.specs.Meaning.{RelationView, side_at}
+use Rattle.it_question.specs.Questions.{BodyView}
+use Rattle.it_canon.specs.Canonical.{IsRowOf, form_of}
+use Rattle.it_canon.specs.Targets.{targets}
+use Rattle.it_canon.specs.QuestionDemands.{space_of, problem_names, problem_lines, question_demands as demanded, AreTrueAt, AreRowsOf}
+use Rattle.it_canon.proofs.MetLemmas.{targets_met}
+use Rattle.it_canon.proofs.ProblemLemmas.{question_met}
+use Rattle.it_elemental.specs.Generators.{generators}
+use Rattle.it_check.specs.Meaning.{CertifiesRow}
+use Rattle.it_check.proofs.Truth.{yes_is_true}
+use Rattle.it_answer.specs.Forms.{all_demands, generators_by}
+use Rattle.it_answer.specs.RightAnswers.{variables_of, CertifiesForm, CertifyAll, ViolatesFirst, Poses, IsRightFor, IsRightAnswerBy, AYesIsTrue, ANoIsTrue}
+use Rattle.it_answer.proofs.FormLemmas.{spoken, by_rows}
+
+module _ (q : BodyView) (r : RelationView) (b : Poses q r) (m : ℕ → ℤ) (h : IsPolymatroid (variables_of q) m) (lines_true : AreTrueAt (variables_of q) m (problem_lines q)) where
+  back_to : (P : Space → Type 0) → P (space_of (problem_names q)) → P b.problem.space
+  back_to P x = subst P (sym b.space) x
+
+  -- a certified target is at least 0
+  valid : (f : Form) (t : Terms) (w : CertificateView) → IsRowOf b.problem.space f t → CertifiesForm q f w → pos 0 ≤ℤ f m
+  valid f t w row c =
+      let p = b.problem in
+      let by : CertifiesRow p t w = by_rows (all_demands p.space.variables (demanded q)) (generators p) (spoken p.space (demanded q) p.constraints b.constraints) (size_of p.space + 1) (value t) f row.same w
+      (back_to (λ s. IsCertificate (size_of s + 1) (generators_by (all_demands s.variables (demanded q))) f w) c) in
+      let met : AreMet m p.constraints = (question_met q p.space p.constraints b.space b.constraints m h.empty).1 (back_to (λ s. AreTrueAt s.variables m (problem_lines q)) lines_true) in
+      subst (λ (x : ℤ). pos 0 ≤ℤ x) (row.same m h.empty) (yes_is_true p t w b.limits row.coordinates by m (back_to (λ s. IsPolymatroid s.variables m) h) met)
+
+  all_valid : (fs : List Form) (ts : List Terms) (ws : List CertificateView) → AreRowsOf b.problem.space fs ts → CertifyAll q fs ws → All (λ f. pos 0 ≤ℤ f m) fs
+  all_valid [] [] [] z c = All-nil (λ (f : Form). pos 0 ≤ℤ f m)
+  all_valid [] [] (w ∷ ws) z c = absurd c
+  all_valid [] (t ∷ ts) ws z c = absurd z
+  all_valid (f ∷ fs) [] ws z c = absurd z
+  all_valid (f ∷ fs) (t ∷ ts) [] z c = absurd c
+  all_valid (f ∷ fs) (t ∷ ts) (w ∷ ws) z c = All-cons (λ (f : Form). pos 0 ≤ℤ f m) f fs (valid f t w z.0 c.0) (all_valid fs ts ws z.1 c.1)
+
+pub a_yes_is_true : AYesIsTrue
+a_yes_is_true steps q r ws is right m h l =
+    let a : IsRightFor steps q r (Yes ws) = subst (λ aim. IsRightAnswerBy steps q aim (Yes ws)) is right in
+    (targets_met r.sign (side_at (variables_of q) m r.left) (side_at (variables_of q) m r.right) (form_of (variables_of q) r) m refl).0
+    (all_valid q r a.poses m h l (targets (variables_of q) r) a.poses.rows ws a.poses.targets_are a.shows)
+
+below : (x : ℤ) → x ≤ℤ neg_ℤ (pos 1) → pos 0 ≤ℤ x → ⊥
+below x h k = omega (arith, ints)
+
+-- the values are a polymatroid and rates at which the lines are true and some target is below 0
+violates : (q : BodyView) (fs : List Form) (is_back : Bool) (values : List ℤ) → ViolatesFirst q fs is_back values
+    → IsPolymatroid (variables_of q) (map_of values) × AreTrueAt (variables_of q) (map_of values) (problem_lines q) × (All (λ (f : Form). pos 0 ≤ℤ f (map_of values)) fs → ⊥)
+violates q [] is_back values c = absurd c
+violates q (f ∷ fs) false values c =
+    (c.polymatroid, c.lines_hold, λ all. below (f (map_of values)) c.violated (All-head (λ (f : Form). pos 0 ≤ℤ f (map_of values)) f fs all))
+violates q (f ∷ []) true values c = absurd c
+violates q (f ∷ g ∷ fs) true values c =
+    (c.1.polymatroid, c.1.lines_hold, λ all. below (g (map_of values)) c.1.violated (All-head (λ (f : Form). pos 0 ≤ℤ f (map_of values)) g fs (All-tail (λ (f : Form). pos 0 ≤ℤ f (map_of values)) f (g ∷ fs) all)))
+
+pub a_no_is_true : ANoIsTrue
+a_no_is_true steps q r is_back values is right =
+    let a : IsRightFor steps q r (No is_back values) = subst (λ aim. IsRightAnswerBy steps q aim (No is_back values)) is right in
+    let v = violates q (targets (variables_of q) r) is_back values a.shows in
+    let p = map_of values in
+    (v.0, v.1, λ holds. v.2 ((targets_met r.sign (side_at (variables_of q) p r.left) (side_at (variables_of q) p r.right) (form_of (variables_of q) r) p refl).1 holds))

@@ -1,0 +1,26 @@
+-- The generators of a question by the meaning of its text: the elemental inequalities, then what its lines demand.
+use Rattle.std.specs.Prelude.{ℕ, pos, List, ◌++◌, length, map, slice_index_or}
+use Rattle.it_space.specs.declared.problems.Kind.TheVariants.{Inequality}
+use Rattle.it_polymatroid.specs.Certificates.{Generators}
+use Rattle.it_polymatroid.specs.Elementals.{Elemental, elementals, worth}
+use Rattle.it_canon.specs.Demands.{Demand, LineDemand}
+use Rattle.it_elemental.specs.Generators.{is_equation}
+
+abbrev pub demand_of_elemental : ℕ → Elemental → Demand
+demand_of_elemental n e = record { kind = Inequality; form = λ p. worth n p e }
+
+abbrev pub demand_of_line : LineDemand → Demand
+demand_of_line d = d.demand
+
+unfoldable pub all_demands : ℕ → List LineDemand → List Demand
+all_demands n ds = map (demand_of_elemental n) (elementals n) ++ map demand_of_line ds
+
+abbrev pub demand_at : List Demand → ℕ → Demand
+demand_at ds i = slice_index_or ds i (record { kind = Inequality; form = λ p. pos 0 })
+
+abbrev pub generators_by : List Demand → Generators
+generators_by ds = record {
+  count = length ds;
+  worth_of = λ i p. (demand_at ds i).form p;
+  is_equation = λ i. is_equation (demand_at ds i).kind;
+}

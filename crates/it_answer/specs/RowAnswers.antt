@@ -1,0 +1,53 @@
+-- Answers about rows, by which the calls in this crate are proved. No public clause cites this module.
+use Rattle.std.specs.Prelude.{ℕ, ℤ, List, [], ◌∷◌, Bool, true, false}
+use Rattle.it_space.specs.Problems.{ProblemView}
+use Rattle.it_space.specs.Answers.{AnswerView, CertificateView}
+use Rattle.it_space.specs.Answers.AnswerView.{Yes, No, Undecided}
+use Rattle.it_space.specs.Rows.{Terms}
+use Rattle.it_polymatroid.specs.Certificates.{Form}
+use Rattle.it_canon.specs.QuestionDemands.{AreRowsOf}
+use Rattle.it_check.specs.Meaning.{CertifiesRow, RefutesRow}
+use Rattle.it_prove.specs.ProofViews.{ProofView}
+use Rattle.it_prove.specs.ProofViews as proof_views
+use Rattle.it_answer.specs.RightAnswers.{IsDue}
+
+-- one certificate of each row, in order
+abbrev pub CertifyRows : ProblemView → List Terms → List CertificateView → Type 0
+CertifyRows p [] [] = Unit {0}
+CertifyRows p [] (w ∷ ws) = ⊥
+CertifyRows p (t ∷ ts) [] = ⊥
+CertifyRows p (t ∷ ts) (w ∷ ws) = CertifiesRow p t w × CertifyRows p ts ws
+
+-- The values refute the first row; or, `is_back`, the second one, where the first has a certificate.
+abbrev pub RefutesFirst : ProblemView → List Terms → Bool → List ℤ → Type 0
+RefutesFirst p [] is_back values = ⊥
+RefutesFirst p (t ∷ ts) false values = RefutesRow p t values
+RefutesFirst p (t ∷ []) true values = ⊥
+RefutesFirst p (t ∷ u ∷ ts) true values = ((w : CertificateView) × CertifiesRow p t w) × RefutesRow p u values
+
+abbrev pub ShowsRows : ProblemView → List Terms → AnswerView → Type 0
+ShowsRows p ts (Yes ws) = CertifyRows p ts ws
+ShowsRows p ts (No is_back values) = RefutesFirst p ts is_back values
+ShowsRows p ts (Undecided cause) = Unit {0}
+
+-- the answer shows what it says of the rows, and the run says that it is due
+pub record AnswersRows (p : ProblemView) (steps : ℕ) (ts : List Terms) (answer : AnswerView) : Type 0 where
+  pub shows : ShowsRows p ts answer
+  pub due : IsDue p steps ts answer
+
+-- the same for targets with these forms
+pub record AnswersForms (p : ProblemView) (fs : List Form) (answer : AnswerView) (steps : ℕ) : Type 0 where
+  pub rows : List Terms
+  pub are : AreRowsOf p.space fs rows
+  pub answered : AnswersRows p steps rows answer
+
+-- the answer after the first target, and after the second of two whose first is proven
+abbrev pub answer_after_one : ProofView → AnswerView
+answer_after_one (proof_views.Yes w) = Yes (w ∷ [])
+answer_after_one (proof_views.No values) = No false values
+answer_after_one (proof_views.Undecided cause) = Undecided cause
+
+abbrev pub answer_after_two : CertificateView → ProofView → AnswerView
+answer_after_two w (proof_views.Yes v) = Yes (w ∷ v ∷ [])
+answer_after_two w (proof_views.No values) = No true values
+answer_after_two w (proof_views.Undecided cause) = Undecided cause

@@ -1,0 +1,128 @@
+//! The answer to a question.
+ghost use Rattle.std.specs.Prelude.{◌≡◌, [], ◌∷◌, IfOk};
+ghost use Rattle.std.specs.Option.{IfSome};
+ghost use Rattle.it_space.specs.Answers.{answer_view, certificate_view};
+ghost use Rattle.it_space.specs.Problems.{IsProblem, problem_view};
+ghost use Rattle.it_syntax.specs.Meaning.{relation_view};
+ghost use Rattle.it_syntax.specs.Givens.{IsRelationOf};
+ghost use Rattle.it_question.specs.Limits.{IsQuestion};
+ghost use Rattle.it_question.specs.Questions.{Prove, question_body};
+ghost use Rattle.it_canon.specs.Canonical.{form_of};
+ghost use Rattle.it_canon.specs.Demands.{AreStated};
+ghost use Rattle.it_canon.specs.QuestionDemands.{question_demands};
+ghost use Rattle.it_canon.specs.Targets.{negation, targets};
+ghost use Rattle.it_prove.specs.ProofViews.{proof_view};
+ghost use Rattle.it_answer.specs.RightAnswers.{IsRightAnswer};
+ghost use Rattle.it_answer.specs.RowAnswers.{AnswersForms, answer_after_one, answer_after_two};
+
+use crate::types::AnsweredProblem;
+use it_canon::{canon, problem};
+use it_prove::{Proof, opposite_row, prove};
+use it_question::types::Question;
+use it_simplex::Budget;
+use it_space::{Answer, Certificate, Problem};
+use it_syntax::types::{Relation, Sign};
+use std::alloc::{AllocError, Global};
+
+/// A right answer to a question whose verb is `prove` about the relation, by runs of at most the budget's steps. The two
+/// targets of an equality are the left side less the right one, then the right side less the left one; the second is asked
+/// only where the first has a certificate.
+pub fn answer(
+    alloc: Global,
+    question: &Question,
+    relation: &Relation,
+    budget: Budget,
+) -> Result<AnsweredProblem, AllocError>
+    requires question { IsQuestion (question_body question.now) }
+    requires proves { (question_body question.now).verb ≡ Prove (relation_view relation.now) }
+    ensures problem { IfOk result (λ a. AreStated a.problem.space (question_demands (question_body question.now)) a.problem.constraints.items) }
+    ensures right { IfOk result (λ a. IfSome budget (λ steps. IsRightAnswer steps (question_body question.now) (answer_view a.answer))) }
+{
+    let problem = problem(alloc, question)?;
+    let answer = about(alloc, &problem, relation, budget)?;
+    Ok(AnsweredProblem { problem, answer })
+}
+
+/// The answer about a relation under a problem.
+fn about(
+    alloc: Global,
+    problem: &Problem,
+    relation: &Relation,
+    budget: Budget,
+) -> Result<Answer, AllocError>
+    requires problem { IsProblem (problem_view problem.now) }
+    requires relation { IsRelationOf problem.now.space.variables problem.now.space.rates (relation_view relation.now) }
+    ensures { IfOk result (λ a. IfSome budget (AnswersForms (problem_view problem.now) (targets problem.now.space.variables (relation_view relation.now)) (answer_view a))) }
+{
+    match relation.sign {
+        Sign::AtLeast => inequality(alloc, problem, relation, budget),
+        Sign::AtMost => inequality(alloc, problem, relation, budget),
+        Sign::Equal => equation(alloc, problem, relation, budget),
+    }
+}
+
+/// The answer about an inequality, which has one target.
+fn inequality(
+    alloc: Global,
+    problem: &Problem,
+    relation: &Relation,
+    budget: Budget,
+) -> Result<Answer, AllocError>
+    requires problem { IsProblem (problem_view problem.now) }
+    requires relation { IsRelationOf problem.now.space.variables problem.now.space.rates (relation_view relation.now) }
+    ensures { IfOk result (λ a. IfSome budget (AnswersForms (problem_view problem.now) (form_of problem.now.space.variables (relation_view relation.now) ∷ []) (answer_view a))) }
+{
+    let row = canon(alloc, relation, problem.space)?;
+    let proof = prove(alloc, problem, &row, budget)?;
+    after_one(alloc, proof)
+}
+
+/// The answer about an equation, which has two targets.
+fn equation(
+    alloc: Global,
+    problem: &Problem,
+    relation: &Relation,
+    budget: Budget,
+) -> Result<Answer, AllocError>
+    requires problem { IsProblem (problem_view problem.now) }
+    requires relation { IsRelationOf problem.now.space.variables problem.now.space.rates (relation_view relation.now) }
+    ensures { IfOk result (λ a. IfSome budget (AnswersForms (problem_view problem.now) (form_of problem.now.space.variables (relation_view relation.now) ∷ negation (form_of problem.now.space.variables (relation_view relation.now)) ∷ []) (answer_view a))) }
+{
+    let row = canon(alloc, relation, problem.space)?;
+    match prove(alloc, problem, &row, budget)? {
+        Proof::Yes(certificate) => {
+            let other = opposite_row(alloc, &row)?;
+            let proof = prove(alloc, problem, &other, budget)?;
+            after_two(alloc, certificate, proof)
+        }
+        proof => after_one(alloc, proof),
+    }
+}
+
+/// The answer after the first target, where no other is to be asked.
+fn after_one(alloc: Global, proof: Proof) -> Result<Answer, AllocError>
+    ensures { IfOk result (λ a. answer_view a ≡ answer_after_one (proof_view proof)) }
+{
+    match proof {
+        Proof::Yes(certificate) => {
+            let proofs = vec![in alloc; certificate]?;
+            Ok(Answer::Yes(proofs))
+        }
+        Proof::No(point) => Ok(Answer::No { back: false, point }),
+        Proof::Undecided(cause) => Ok(Answer::Undecided(cause)),
+    }
+}
+
+/// The answer after the second target, where the first has a certificate.
+fn after_two(alloc: Global, first: Certificate, proof: Proof) -> Result<Answer, AllocError>
+    ensures { IfOk result (λ a. answer_view a ≡ answer_after_two (certificate_view first) (proof_view proof)) }
+{
+    match proof {
+        Proof::Yes(second) => {
+            let proofs = vec![in alloc; first, second]?;
+            Ok(Answer::Yes(proofs))
+        }
+        Proof::No(point) => Ok(Answer::No { back: true, point }),
+        Proof::Undecided(cause) => Ok(Answer::Undecided(cause)),
+    }
+}

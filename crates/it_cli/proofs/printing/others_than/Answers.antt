@@ -1,5 +1,0 @@
-use Rattle.it_cli.proofs.LineLemmas.{others_fit}
-use Rattle.it_cli.proofs.printing.others_than.Goals as goal
-
-pub overflow_sub-variables-2 : goal.overflow_sub-variables-2
-overflow_sub-variables-2 c = others_fit c.args.i c.args.variables c.requires.there c.requires.few

@@ -1,0 +1,41 @@
+-- Steps of texts.
+use Rattle.std.proofs.Common.{◌≡◌, ℕ, ◌<◌, ◌≤◌, ◌*◌, ◌%◌, ◌^◌, ◌-◌, List, ◌∷◌, ◌++◌, ◌+◌, Some, Bool, true, false, sym, ap, ◌∙◌, arith, append_assoc, append-nil, codes, ◌||◌, drop}
+use Rattle.std.specs.List.{slice_get}
+use Rattle.std.proofs.lemmas.List.{drop_more}
+use Rattle.std.proofs.lemmas.Option.{slice_get_within, get_or_from_slice_get}
+use Rattle.it_space.specs.Sets.{has_member}
+use Rattle.std.proofs.Math.Pow.{pow_mono}
+use Rattle.std.proofs.lemmas.Nat.{pow_below}
+use Rattle.it_print.specs.Lines.{joined_texts, one_if, members_from, or_zero}
+
+-- a list's first element, and what is written after it
+pub joined_step : (separator : List ℕ) (some wanted : Bool) (text : List ℕ) (rest : List (List ℕ)) (out : List ℕ)
+    → (out ++ joined_texts separator some (one_if wanted text)) ++ joined_texts separator (some || wanted) rest ≡ out ++ joined_texts separator some (one_if wanted text ++ rest)
+joined_step separator false false text rest out = ap (λ t. t ++ joined_texts separator false rest) (append-nil out)
+joined_step separator true false text rest out = ap (λ t. t ++ joined_texts separator true rest) (append-nil out)
+joined_step separator false true text rest out = simp (append_assoc, append-nil)
+joined_step separator true true text rest out = simp (append_assoc, append-nil)
+
+-- what a sum still has to write
+pub sum_step : (some wanted : Bool) (text : List ℕ) (rest : List (List ℕ)) (out : List ℕ)
+    → (out ++ joined_texts (codes " + ") some (one_if wanted text)) ++ joined_texts (codes " + ") (some || wanted) (or_zero (some || wanted) rest)
+    ≡ out ++ joined_texts (codes " + ") some (or_zero some (one_if wanted text ++ rest))
+sum_step false false text rest out = ap (λ t. t ++ joined_texts (codes " + ") false (or_zero false rest)) (append-nil out)
+sum_step true false text rest out = ap (λ t. t ++ joined_texts (codes " + ") true rest) (append-nil out)
+sum_step false true text rest out = simp (append_assoc, append-nil)
+sum_step true true text rest out = simp (append_assoc, append-nil)
+
+-- the set of the other variables doesn't go below 0
+pub others_fit : (i n : ℕ) → i < n → n ≤ 10 → 1 * 2 ^ i % 65536 ≤ 1 * 2 ^ n % 65536 - 1
+others_fit i n h k = omega (arith, pow_below i n h, pow_mono {i = n} {j = 10} k)
+
+-- one more name of a set
+pub set_step : (names : List (List ℕ)) (i set : ℕ) (name : List ℕ) (some : Bool) (out : List ℕ) → slice_get names i ≡ Some name
+    → (out ++ joined_texts (codes ",") some (one_if (has_member set i) name)) ++ joined_texts (codes ",") (some || has_member set i) (members_from (i + 1) (drop (i + 1) names) set)
+    ≡ out ++ joined_texts (codes ",") some (members_from i (drop i names) set)
+set_step names i set name some out e =
+    joined_step (codes ",") some (has_member set i) name (members_from (i + 1) (drop (i + 1) names) set) out
+    ∙ ap (λ ns. out ++ joined_texts (codes ",") some (members_from i ns set)) (sym (split names i e))
+  where
+    split : (names : List (List ℕ)) (i : ℕ) → slice_get names i ≡ Some name → drop i names ≡ name ∷ drop (i + 1) names
+    split names i e = drop_more names i name (slice_get_within names i name e) ∙ ap (λ n. n ∷ drop (i + 1) names) (get_or_from_slice_get names i name name e)

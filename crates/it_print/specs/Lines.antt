@@ -1,0 +1,141 @@
+-- The lines of an answer, as bytes.
+use Rattle.std.specs.Prelude.{ℕ, ◌+◌, ◌-◌, ◌^◌, ◌<◌, ℤ, unsigned_abs, map, not, All, List, [], ◌∷◌, ◌++◌, length, Bool, true, false, if◌then◌else◌, ◌==◌, codes, decimal, nat_lt, slice_index_or}
+use Rattle.std.specs.Fmt.{signed_decimal}
+use Rattle.it_space.specs.Sets.{has_member}
+use Rattle.it_space.specs.Answers.{AnswerView, CertificateView}
+use Rattle.it_space.specs.Answers.AnswerView.{Yes, No, Undecided}
+use Rattle.it_space.specs.declared.answers.Answer.{Answer}
+use Rattle.it_space.specs.declared.answers.Answer.TheVariants as answers
+use Rattle.it_space.specs.declared.answers.Cause.{Cause}
+use Rattle.it_space.specs.declared.answers.Cause.TheVariants.{Pivots, Width, Scale, Rows, WideRate}
+use Rattle.it_space.specs.declared.problems.Constraint.{Constraint}
+use Rattle.it_space.specs.declared.problems.Origin.{Origin}
+use Rattle.it_space.specs.declared.problems.Origin.TheVariants.{Given, Rate}
+use Rattle.it_polymatroid.specs.Elementals.{Elemental, Conditional, Mutual, elementals, elemental_at}
+use Rattle.it_syntax.specs.NamesViews.{NamesView}
+
+-- a separator, where something stands before
+abbrev pub between_if : Bool → List ℕ → List ℕ
+between_if some separator = if some then separator else []
+
+-- texts with a separator between them; `some`: one stands before them
+abbrev pub joined_texts : List ℕ → Bool → List (List ℕ) → List ℕ
+joined_texts separator some [] = []
+joined_texts separator some (text ∷ texts) = between_if some separator ++ text ++ joined_texts separator true texts
+
+abbrev pub one_if : {X : Type 0} → Bool → X → List X
+one_if true x = x ∷ []
+one_if false x = []
+
+-- the names of a set's members from variable i on
+abbrev pub members_from : ℕ → List (List ℕ) → ℕ → List (List ℕ)
+members_from i [] set = []
+members_from i (name ∷ names) set = one_if (has_member set i) name ++ members_from (i + 1) names set
+
+-- the names of a set's members in order of declaration, with `,` between them
+unfoldable pub set_text : List (List ℕ) → ℕ → List ℕ
+set_text names set = joined_texts (codes ",") false (members_from 0 names set)
+
+abbrev pub given_set_text : List (List ℕ) → ℕ → List ℕ
+given_set_text names set = if set == 0 then [] else codes "|" ++ set_text names set
+
+-- an elemental inequality as `H(X|Y,Z)` or `I(X;Y|Z)`
+unfoldable pub elemental_text : List (List ℕ) → Elemental → List ℕ
+elemental_text names (Conditional i) =
+    codes "H(" ++ set_text names (2 ^ i) ++ given_set_text names (2 ^ length names - 1 - 2 ^ i) ++ codes ")"
+elemental_text names (Mutual i j k) =
+    codes "I(" ++ set_text names (2 ^ i) ++ codes ";" ++ set_text names (2 ^ j) ++ given_set_text names k ++ codes ")"
+
+-- where a constraint comes from: `given J`, `given J.I` where the line gives several, or `row J`
+abbrev pub part_number : ℕ → ℕ → List ℕ
+part_number part parts = if nat_lt 1 parts then codes "." ++ decimal part else []
+
+unfoldable pub place_text : Origin → List ℕ
+place_text (Given line part parts) = codes "given " ++ decimal line ++ part_number part parts
+place_text (Rate line) = codes "row " ++ decimal line
+
+abbrev pub places_of : List Constraint → List Origin
+places_of cs = map (λ c. c.origin) cs
+
+abbrev pub place_at : List Origin → ℕ → Origin
+place_at places i = slice_index_or places i (Rate 0)
+
+-- the generator of this number, of names and the places of the constraints
+unfoldable pub generator_text : List (List ℕ) → List Origin → ℕ → List ℕ
+generator_text names places g =
+    if nat_lt g (length (elementals (length names))) then elemental_text names (elemental_at (length names) g)
+    else place_text (place_at places (g - length (elementals (length names))))
+
+unfoldable pub part_text : List (List ℕ) → List Origin → ℕ × ℤ → List ℕ
+part_text names places part = signed_decimal part.1 ++ codes " " ++ generator_text names places part.0
+
+abbrev pub is_some_weight : ℕ × ℤ → Bool
+is_some_weight part = not (unsigned_abs part.1 == 0)
+
+-- the parts whose weight isn't 0
+abbrev pub part_texts : List (List ℕ) → List Origin → List (ℕ × ℤ) → List (List ℕ)
+part_texts names places [] = []
+part_texts names places (part ∷ parts) = one_if (is_some_weight part) (part_text names places part) ++ part_texts names places parts
+
+-- `0` where there is none
+abbrev pub or_zero : Bool → List (List ℕ) → List (List ℕ)
+or_zero true texts = texts
+or_zero false [] = codes "0" ∷ []
+or_zero false (text ∷ texts) = text ∷ texts
+
+unfoldable pub sum_text : List (List ℕ) → List Origin → List (ℕ × ℤ) → List ℕ
+sum_text names places parts = joined_texts (codes " + ") false (or_zero false (part_texts names places parts))
+
+unfoldable pub weights_text : List (List ℕ) → List Origin → CertificateView → List ℕ
+weights_text names places w = signed_decimal w.scale ++ codes " : " ++ sum_text names places w.parts
+
+-- a coordinate as `h(X,Y)`, or as a rate's name
+unfoldable pub coordinate_text : NamesView → ℕ → List ℕ
+coordinate_text v c =
+    if nat_lt c (2 ^ length v.variables) then codes "h(" ++ set_text v.variables c ++ codes ")" else slice_index_or v.rates (c - 2 ^ length v.variables) []
+
+abbrev pub value_text : NamesView → ℕ → ℤ → List ℕ
+value_text v c x = codes " " ++ coordinate_text v c ++ codes "=" ++ signed_decimal x
+
+-- the values of a point from coordinate c on
+unfoldable pub values_from : NamesView → ℕ → List ℤ → List ℕ
+values_from v c [] = []
+values_from v c (x ∷ xs) = value_text v c x ++ values_from v (c + 1) xs
+
+-- why a question stays undecided
+unfoldable pub cause_text : NamesView → Cause → List ℕ
+cause_text v (Pivots steps) = codes "pivots " ++ decimal steps
+cause_text v (Width step) = codes "width " ++ decimal step
+cause_text v Scale = codes "scale"
+cause_text v (Rows r) = codes "rows " ++ slice_index_or v.rates r []
+cause_text v (WideRate r) = codes "width " ++ slice_index_or v.rates r []
+
+-- the lines after the question's number
+unfoldable pub yes_line : ℕ → List (List ℕ) → List Origin → List CertificateView → List ℕ
+yes_line k names places ws = decimal k ++ codes " yes " ++ joined_texts (codes " and ") false (map (weights_text names places) ws) ++ codes "\n"
+
+unfoldable pub no_line : ℕ → NamesView → List ℤ → List ℕ
+no_line k v values = decimal k ++ codes " no" ++ values_from v 1 values ++ codes "\n"
+
+unfoldable pub undecided_line : ℕ → NamesView → Cause → List ℕ
+undecided_line k v cause = decimal k ++ codes " undecided " ++ cause_text v cause ++ codes "\n"
+
+-- a cause of a question with so many rates
+abbrev pub IsCauseOf : ℕ → Cause → Type 0
+IsCauseOf m (Pivots steps) = Unit {0}
+IsCauseOf m (Width step) = Unit {0}
+IsCauseOf m Scale = Unit {0}
+IsCauseOf m (Rows r) = r < m
+IsCauseOf m (WideRate r) = r < m
+
+-- the line of an answer to question k, with the names of its variables and rates and the places of its constraints
+abbrev pub answer_line : ℕ → NamesView → List Origin → AnswerView → List ℕ
+answer_line k v places (Yes ws) = yes_line k v.variables places ws
+answer_line k v places (No is_back values) = no_line k v values
+answer_line k v places (Undecided cause) = undecided_line k v cause
+
+-- with m constraints: the generators of each certificate are there, the point's values and the cause's rate are of the names
+abbrev pub IsPrintable : NamesView → ℕ → Answer → Type 0
+IsPrintable v m (answers.Yes proofs) = All (λ c. All (λ w. w.0 < length (elementals (length v.variables)) + m) c.weights.items) proofs.items
+IsPrintable v m (answers.No back point) = (length point < 2 ^ length v.variables + length v.rates) × (length point < 2 ^ 16)
+IsPrintable v m (answers.Undecided cause) = IsCauseOf (length v.rates) cause

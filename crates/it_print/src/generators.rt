@@ -1,0 +1,126 @@
+//! Generators: elemental inequalities, and constraints by the lines that they come from.
+ghost use Rattle.std.specs.Prelude.{◌≡◌, ◌≤◌, ◌<◌, ◌+◌, ◌^◌, ◌-◌, ◌++◌, length, OnOk};
+ghost use Rattle.it_polymatroid.specs.Elementals.{Conditional, Mutual, elementals, elemental_at};
+ghost use Rattle.it_print.specs.Lines.{elemental_text, generator_text, part_number, place_text, places_of};
+
+use crate::pieces::write_number;
+use crate::sets::{write_given, write_set};
+use it_elemental::{Elemental, count, parts};
+use it_space::{Constraint, Origin, VarSet};
+use it_syntax::Names;
+use std::alloc::AllocError;
+
+/// The generator of this number: the elemental inequalities, then the constraints.
+#[tactic(auto, unfolding(crate::specs::Lines::generator_text))]
+pub fn write_generator(
+    out: &mut Vec<u8>,
+    names: &Names,
+    constraints: &[Constraint],
+    generator: u32,
+) -> Result<(), AllocError>
+    requires some { 1 ≤ length names.now.variables }
+    requires there { generator < length (elementals (length names.now.variables)) + length constraints.now }
+    ensures { OnOk result (out.new.items ≡ out.old.items ++ generator_text names.now.variables (places_of constraints.now) generator) }
+{
+    let elementals = count(names.space().variables);
+    if generator < elementals {
+        write_elemental(out, names, generator)
+    } else {
+        write_place(out, constraints[(generator - elementals) as usize].origin)
+    }
+}
+
+/// An elemental inequality.
+fn write_elemental(out: &mut Vec<u8>, names: &Names, index: u32) -> Result<(), AllocError>
+    requires some { 1 ≤ length names.now.variables }
+    requires listed { index < length (elementals (length names.now.variables)) }
+    ensures { OnOk result (out.new.items ≡ out.old.items ++ elemental_text names.now.variables (elemental_at (length names.now.variables) index)) }
+{
+    match parts(names.space().variables, index) {
+        Elemental::Conditional { of } => write_conditional(out, names, of),
+        Elemental::Mutual { left, right, given } => write_mutual(out, names, left, right, given),
+    }
+}
+
+/// `H(Xi|all others)`.
+#[tactic(auto, unfolding(crate::specs::Lines::elemental_text))]
+fn write_conditional(out: &mut Vec<u8>, names: &Names, i: u8) -> Result<(), AllocError>
+    requires { i < length names.now.variables }
+    ensures { OnOk result (out.new.items ≡ out.old.items ++ elemental_text names.now.variables (Conditional i)) }
+{
+    let others = others_than(i, names.space().variables);
+    out.extend_from_slice(b"H(")?;
+    write_set(out, names, VarSet::single(i))?;
+    write_given(out, names, others)?;
+    out.extend_from_slice(b")")
+}
+
+/// The set of the other variables.
+fn others_than(i: u8, variables: u8) -> VarSet
+    requires there { i < variables }
+    requires few { variables ≤ 10 }
+    ensures { result ≡ 2 ^ variables - 1 - 2 ^ i }
+{
+    VarSet::from_number((1u16 << variables) - 1 - (1u16 << i))
+}
+
+/// `I(Xi;Xj|given)`.
+#[tactic(auto, unfolding(crate::specs::Lines::elemental_text))]
+fn write_mutual(
+    out: &mut Vec<u8>,
+    names: &Names,
+    i: u8,
+    j: u8,
+    given: VarSet,
+) -> Result<(), AllocError>
+    requires left { i < length names.now.variables }
+    requires right { j < length names.now.variables }
+    ensures { OnOk result (out.new.items ≡ out.old.items ++ elemental_text names.now.variables (Mutual i j given)) }
+{
+    let left = single(names, i);
+    let right = single(names, j);
+    out.extend_from_slice(b"I(")?;
+    write_set(out, names, left)?;
+    out.extend_from_slice(b";")?;
+    write_set(out, names, right)?;
+    write_given(out, names, given)?;
+    out.extend_from_slice(b")")
+}
+
+/// The set of one of the variables.
+fn single(names: &Names, i: u8) -> VarSet
+    requires { i < length names.now.variables }
+    ensures { result ≡ 2 ^ i }
+{
+    let _space = names.space();
+    VarSet::single(i)
+}
+
+/// The line that a constraint comes from.
+#[tactic(auto, unfolding(crate::specs::Lines::place_text))]
+fn write_place(out: &mut Vec<u8>, place: Origin) -> Result<(), AllocError>
+    ensures { OnOk result (out.new.items ≡ out.old.items ++ place_text place) }
+{
+    match place {
+        Origin::Given { line, part, parts } => {
+            out.extend_from_slice(b"given ")?;
+            write_number(out, line as usize)?;
+            write_part(out, part, parts)
+        }
+        Origin::Rate { line } => {
+            out.extend_from_slice(b"row ")?;
+            write_number(out, line as usize)
+        }
+    }
+}
+
+/// `.I` where a line gives several constraints.
+fn write_part(out: &mut Vec<u8>, part: u16, parts: u16) -> Result<(), AllocError>
+    ensures { OnOk result (out.new.items ≡ out.old.items ++ part_number part parts) }
+{
+    if parts > 1 {
+        out.extend_from_slice(b".")?;
+        write_number(out, part as usize)?;
+    }
+    Ok(())
+}

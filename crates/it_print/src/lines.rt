@@ -1,0 +1,114 @@
+//! The lines of answers.
+ghost use Rattle.std.specs.Prelude.{◌≡◌, ◌≤◌, ◌<◌, ◌+◌, ◌^◌, ◌++◌, length, map, OnOk, IfOk, All};
+ghost use Rattle.it_space.specs.Answers.{answer_view, certificate_view};
+ghost use Rattle.it_polymatroid.specs.Elementals.{elementals};
+ghost use Rattle.it_print.specs.Lines.{IsCauseOf, IsPrintable, answer_line, cause_text, no_line, places_of, undecided_line, yes_line};
+
+use crate::pieces::write_number;
+use crate::sums::write_proofs;
+use crate::values::{write_rate, write_values};
+use it_space::{Answer, Cause, Certificate, Constraint, Point};
+use it_syntax::Names;
+use std::alloc::{AllocError, Global};
+
+/// The line of an answer to question k, counted from 1, with the names of its variables and rates and the constraints of its
+/// problem, which are the generators after the elemental inequalities.
+pub fn answer_line(
+    alloc: Global,
+    k: usize,
+    names: &Names,
+    constraints: &[Constraint],
+    answer: &Answer,
+) -> Result<Vec<u8>, AllocError>
+    requires some { 1 ≤ length names.now.variables }
+    requires printable { IsPrintable names.now (length constraints.now) answer.now }
+    ensures { IfOk result (λ t. t.items ≡ answer_line k names.now (places_of constraints.now) (answer_view answer.now)) }
+{
+    match answer {
+        Answer::Yes(proofs) => yes_line(alloc, k, names, constraints, proofs.as_slice()),
+        Answer::No { point, .. } => no_line(alloc, k, names, point),
+        Answer::Undecided(cause) => undecided_line(alloc, k, names, *cause),
+    }
+}
+
+/// The line of a yes.
+#[tactic(auto, unfolding(crate::specs::Lines::yes_line))]
+fn yes_line(
+    alloc: Global,
+    k: usize,
+    names: &Names,
+    constraints: &[Constraint],
+    proofs: &[Certificate],
+) -> Result<Vec<u8>, AllocError>
+    requires some { 1 ≤ length names.now.variables }
+    requires there { All (λ c. All (λ w. w.0 < length (elementals (length names.now.variables)) + length constraints.now) c.weights.items) proofs.now }
+    ensures { IfOk result (λ t. t.items ≡ yes_line k names.now.variables (places_of constraints.now) (map certificate_view proofs.now)) }
+{
+    let mut out = Vec::new(alloc);
+    write_number(&mut out, k)?;
+    out.extend_from_slice(b" yes ")?;
+    write_proofs(alloc, &mut out, names, constraints, proofs)?;
+    out.extend_from_slice(b"\n")?;
+    Ok(out)
+}
+
+/// The line of a no.
+#[tactic(auto, unfolding(crate::specs::Lines::no_line))]
+fn no_line(alloc: Global, k: usize, names: &Names, point: &Point) -> Result<Vec<u8>, AllocError>
+    requires there { length point.now < 2 ^ length names.now.variables + length names.now.rates }
+    requires few { length point.now < 2 ^ 16 }
+    ensures { IfOk result (λ t. t.items ≡ no_line k names.now point.now) }
+{
+    let mut out = Vec::new(alloc);
+    write_number(&mut out, k)?;
+    out.extend_from_slice(b" no")?;
+    write_values(&mut out, names, point.values())?;
+    out.extend_from_slice(b"\n")?;
+    Ok(out)
+}
+
+/// The line of a question that stays undecided.
+#[tactic(auto, unfolding(crate::specs::Lines::undecided_line))]
+fn undecided_line(
+    alloc: Global,
+    k: usize,
+    names: &Names,
+    cause: Cause,
+) -> Result<Vec<u8>, AllocError>
+    requires { IsCauseOf (length names.now.rates) cause }
+    ensures { IfOk result (λ t. t.items ≡ undecided_line k names.now cause) }
+{
+    let mut out = Vec::new(alloc);
+    write_number(&mut out, k)?;
+    out.extend_from_slice(b" undecided ")?;
+    write_cause(&mut out, names, cause)?;
+    out.extend_from_slice(b"\n")?;
+    Ok(out)
+}
+
+/// Why a question stays undecided.
+#[tactic(auto, unfolding(crate::specs::Lines::cause_text))]
+fn write_cause(out: &mut Vec<u8>, names: &Names, cause: Cause) -> Result<(), AllocError>
+    requires { IsCauseOf (length names.now.rates) cause }
+    ensures { OnOk result (out.new.items ≡ out.old.items ++ cause_text names.now cause) }
+{
+    match cause {
+        Cause::Pivots(steps) => {
+            out.extend_from_slice(b"pivots ")?;
+            write_number(out, steps as usize)
+        }
+        Cause::Width(step) => {
+            out.extend_from_slice(b"width ")?;
+            write_number(out, step as usize)
+        }
+        Cause::Scale => out.extend_from_slice(b"scale"),
+        Cause::Rows(rate) => {
+            out.extend_from_slice(b"rows ")?;
+            write_rate(out, names, rate)
+        }
+        Cause::WideRate(rate) => {
+            out.extend_from_slice(b"width ")?;
+            write_rate(out, names, rate)
+        }
+    }
+}

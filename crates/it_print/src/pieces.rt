@@ -1,0 +1,52 @@
+//! Numbers, and texts with a separator between them.
+ghost use Rattle.std.specs.Prelude.{◌≡◌, ◌++◌, ◌||◌, OnOk, IfOk, decimal};
+ghost use Rattle.std.specs.Fmt.{signed_decimal};
+ghost use Rattle.it_print.specs.Lines.{between_if, joined_texts, one_if};
+
+use itoa::Buffer;
+use std::alloc::AllocError;
+
+/// The decimal digits of a number, behind what stands.
+pub fn write_number(out: &mut Vec<u8>, number: usize) -> Result<(), AllocError>
+    ensures { OnOk result (out.new.items ≡ out.old.items ++ decimal number) }
+{
+    let mut buffer = Buffer::new();
+    out.extend_from_slice(buffer.format(number).as_bytes())
+}
+
+/// The same after `-` for a number below 0.
+pub fn write_signed(out: &mut Vec<u8>, number: i128) -> Result<(), AllocError>
+    ensures { OnOk result (out.new.items ≡ out.old.items ++ signed_decimal number) }
+{
+    let mut buffer = Buffer::new();
+    out.extend_from_slice(buffer.format(number).as_bytes())
+}
+
+/// A separator, where something stands before.
+fn write_between(out: &mut Vec<u8>, some: bool, separator: &[u8]) -> Result<(), AllocError>
+    ensures { OnOk result (out.new.items ≡ out.old.items ++ between_if some separator.now) }
+{
+    if some {
+        out.extend_from_slice(separator)?;
+    }
+    Ok(())
+}
+
+/// The text, where it is wanted, after the separator where something stands before. Answers whether something stands now.
+pub fn write_if(
+    out: &mut Vec<u8>,
+    some: bool,
+    separator: &[u8],
+    wanted: bool,
+    text: &[u8],
+) -> Result<bool, AllocError>
+    ensures written { OnOk result (out.new.items ≡ out.old.items ++ joined_texts separator.now some (one_if wanted text.now)) }
+    ensures now { IfOk result (λ b. b ≡ (some || wanted)) }
+{
+    if !wanted {
+        return Ok(some);
+    }
+    write_between(out, some, separator)?;
+    out.extend_from_slice(text)?;
+    Ok(true)
+}

@@ -1,0 +1,31 @@
+//! Sets of variables.
+ghost use Rattle.std.specs.Prelude.{◌≡◌, ◌++◌, OnOk};
+ghost use Rattle.it_print.specs.Lines.{given_set_text, set_text};
+
+use crate::pieces::write_if;
+use it_space::VarSet;
+use it_syntax::Names;
+use std::alloc::AllocError;
+
+/// The names of a set's members with `,` between them.
+#[tactic(auto, unfolding(crate::specs::Lines::set_text))]
+pub fn write_set(out: &mut Vec<u8>, names: &Names, set: VarSet) -> Result<(), AllocError>
+    ensures { OnOk result (out.new.items ≡ out.old.items ++ set_text names.now.variables set) }
+{
+    let mut some = false;
+    for i in 0..names.space().variables {
+        some = write_if(out, some, b",", set.has(i), names.variable_name(i))?;
+    }
+    Ok(())
+}
+
+/// `|` and the names of a set that isn't empty.
+pub fn write_given(out: &mut Vec<u8>, names: &Names, set: VarSet) -> Result<(), AllocError>
+    ensures { OnOk result (out.new.items ≡ out.old.items ++ given_set_text names.now.variables set) }
+{
+    if set.number() != 0 {
+        out.extend_from_slice(b"|")?;
+        write_set(out, names, set)?;
+    }
+    Ok(())
+}

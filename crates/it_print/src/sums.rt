@@ -1,0 +1,105 @@
+//! Certificates: each weight before its generator, over the scale.
+ghost use Rattle.std.specs.Prelude.{◌≡◌, ◌≤◌, ◌<◌, ◌+◌, ◌++◌, length, map, OnOk, IfOk, All, codes, false};
+ghost use Rattle.it_space.specs.Answers.{certificate_view};
+ghost use Rattle.it_polymatroid.specs.Elementals.{elementals};
+ghost use Rattle.it_print.specs.Lines.{is_some_weight, joined_texts, part_text, places_of, sum_text, weights_text};
+
+use crate::generators::write_generator;
+use crate::pieces::{write_if, write_signed};
+use it_space::{Certificate, Constraint};
+use it_syntax::Names;
+use std::alloc::{AllocError, Global};
+
+/// The certificates with ` and ` between them.
+pub fn write_proofs(
+    alloc: Global,
+    out: &mut Vec<u8>,
+    names: &Names,
+    constraints: &[Constraint],
+    proofs: &[Certificate],
+) -> Result<(), AllocError>
+    requires some { 1 ≤ length names.now.variables }
+    requires there { All (λ c. All (λ w. w.0 < length (elementals (length names.now.variables)) + length constraints.now) c.weights.items) proofs.now }
+    ensures { OnOk result (out.new.items ≡ out.old.items ++ joined_texts (codes " and ") false (map (weights_text names.now.variables (places_of constraints.now)) (map certificate_view proofs.now))) }
+{
+    let mut some = false;
+    for certificate in proofs {
+        let mut text = Vec::new(alloc);
+        write_weights(alloc, &mut text, names, constraints, certificate)?;
+        some = write_if(out, some, b" and ", true, text.as_slice())?;
+    }
+    Ok(())
+}
+
+/// The scale and the sum of a certificate.
+#[tactic(auto, unfolding(crate::specs::Lines::weights_text))]
+fn write_weights(
+    alloc: Global,
+    out: &mut Vec<u8>,
+    names: &Names,
+    constraints: &[Constraint],
+    certificate: &Certificate,
+) -> Result<(), AllocError>
+    requires some { 1 ≤ length names.now.variables }
+    requires there { All (λ w. w.0 < length (elementals (length names.now.variables)) + length constraints.now) certificate.now.weights.items }
+    ensures { OnOk result (out.new.items ≡ out.old.items ++ weights_text names.now.variables (places_of constraints.now) (certificate_view certificate.now)) }
+{
+    write_signed(out, certificate.scale)?;
+    out.extend_from_slice(b" : ")?;
+    write_sum(
+        alloc,
+        out,
+        names,
+        constraints,
+        certificate.weights.as_slice(),
+    )
+}
+
+/// The parts whose weight isn't 0 with ` + ` between them, or `0`.
+#[tactic(auto, using(crate::proofs::LineLemmas::sum_step), unfolding(crate::specs::Lines::sum_text))]
+fn write_sum(
+    alloc: Global,
+    out: &mut Vec<u8>,
+    names: &Names,
+    constraints: &[Constraint],
+    weights: &[(u32, i128)],
+) -> Result<(), AllocError>
+    requires some { 1 ≤ length names.now.variables }
+    requires there { All (λ w. w.0 < length (elementals (length names.now.variables)) + length constraints.now) weights.now }
+    ensures { OnOk result (out.new.items ≡ out.old.items ++ sum_text names.now.variables (places_of constraints.now) weights.now) }
+{
+    let mut some = false;
+    for weight in weights {
+        let text = part(alloc, names, constraints, weight)?;
+        some = write_if(out, some, b" + ", is_some(weight), text.as_slice())?;
+    }
+    if !some {
+        out.extend_from_slice(b"0")?;
+    }
+    Ok(())
+}
+
+/// A weight and its generator.
+#[tactic(auto, unfolding(crate::specs::Lines::part_text))]
+fn part(
+    alloc: Global,
+    names: &Names,
+    constraints: &[Constraint],
+    weight: &(u32, i128),
+) -> Result<Vec<u8>, AllocError>
+    requires some { 1 ≤ length names.now.variables }
+    requires there { weight.now.0 < length (elementals (length names.now.variables)) + length constraints.now }
+    ensures { IfOk result (λ t. t.items ≡ part_text names.now.variables (places_of constraints.now) weight.now) }
+{
+    let mut out = Vec::new(alloc);
+    write_signed(&mut out, weight.1)?;
+    out.extend_from_slice(b" ")?;
+    write_generator(&mut out, names, constraints, weight.0)?;
+    Ok(out)
+}
+
+fn is_some(weight: &(u32, i128)) -> bool
+    ensures { result ≡ is_some_weight weight.now }
+{
+    weight.1.unsigned_abs() != 0
+}
