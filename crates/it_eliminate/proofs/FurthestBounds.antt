@@ -1,0 +1,129 @@
+-- one rate is eliminated: a row is the pair of its coefficient at the rate and its value at the rest
+use Rattle.std.proofs.Common.{⊎_elim, ◌≡◌, ◌⊎◌, inl, inr, zero, suc, ℤ, pos, negsuc, neg_ℤ, ◌+ℤ◌, ◌-ℤ◌, ◌*ℤ◌, ◌≤ℤ◌, ◌<ℤ◌, List, [], ◌∷◌, refl, sym, ap, subst, arith}
+use Rattle.std.proofs.lemmas.Int.{ints, by_lt_z}
+use Rattle.it_number.proofs.Integers.{zring}
+use Rattle.it_number.proofs.Ring.{ring, v, plus, times, minus}
+use Rattle.it_number.proofs.IntegerRing.{ring_ℤ}
+use Rattle.it_eliminate.specs.Elimination.{Member}
+
+pub product_least : (a b : ℤ) → pos 0 ≤ℤ a → pos 0 ≤ℤ b → pos 0 ≤ℤ (a *ℤ b)
+product_least a b h k = grind (arith, ints)
+
+-- a product of a number above 0 and one that is at least 0
+pub uncancel : (k x : ℤ) → pos 0 <ℤ k → pos 0 ≤ℤ (k *ℤ x) → pos 0 ≤ℤ x
+uncancel (pos k) (pos x) h g = omega (arith, ints)
+uncancel (pos zero) (negsuc x) h g = absurd (omega (arith, ints))
+uncancel (pos (suc k)) (negsuc x) h g = absurd (omega (arith, ints))
+uncancel (negsuc k) x h g = absurd (omega (arith, ints))
+
+-- the row b bounds the rate from below at least as far as the row t
+abbrev pub Bounds : ℤ × ℤ → ℤ × ℤ → Type 0
+Bounds b t = pos 0 ≤ℤ (t.1 *ℤ b.0 -ℤ b.1 *ℤ t.0)
+
+bounds_trans : (a b c : ℤ × ℤ) → pos 0 <ℤ a.0 → pos 0 <ℤ b.0 → pos 0 <ℤ c.0 → Bounds a b → Bounds b c → Bounds a c
+bounds_trans a b c ha hb hc p q = uncancel b.0 (c.1 *ℤ a.0 -ℤ a.1 *ℤ c.0) hb
+    (subst (λ (x : ℤ). pos 0 ≤ℤ x) (law a.0 a.1 b.0 b.1 c.0 c.1)
+    (sum_least (a.0 *ℤ (c.1 *ℤ b.0 -ℤ b.1 *ℤ c.0)) (c.0 *ℤ (b.1 *ℤ a.0 -ℤ a.1 *ℤ b.0)) (product_least a.0 (c.1 *ℤ b.0 -ℤ b.1 *ℤ c.0) (omega (arith, ints)) q) (product_least c.0 (b.1 *ℤ a.0 -ℤ a.1 *ℤ b.0) (omega (arith, ints)) p)))
+  where
+    sum_least : (x y : ℤ) → pos 0 ≤ℤ x → pos 0 ≤ℤ y → pos 0 ≤ℤ (x +ℤ y)
+    sum_least x y h k = omega (arith, ints)
+
+    law : (a u b w c y : ℤ) → a *ℤ (y *ℤ b -ℤ w *ℤ c) +ℤ c *ℤ (w *ℤ a -ℤ u *ℤ b) ≡ b *ℤ (y *ℤ a -ℤ u *ℤ c)
+    law a u b w c y = ring ring_ℤ (a ∷ u ∷ b ∷ w ∷ c ∷ y ∷ [])
+        (plus (times (v 0) (plus (times (v 5) (v 2)) (minus (times (v 3) (v 4))))) (times (v 4) (plus (times (v 3) (v 0)) (minus (times (v 1) (v 2))))))
+        (times (v 2) (plus (times (v 5) (v 0)) (minus (times (v 1) (v 4))))) refl
+
+bounds_refl : (a : ℤ × ℤ) → Bounds a a
+bounds_refl a = omega (arith, ints)
+
+-- no row has a positive coefficient, or one of them bounds furthest
+abbrev FurthestBound : List (ℤ × ℤ) → Type 0
+FurthestBound rows = ((t : ℤ × ℤ) → Member t rows → t.0 ≤ℤ pos 0)
+    ⊎ ((b : ℤ × ℤ) × Member b rows × (pos 0 <ℤ b.0) × ((t : ℤ × ℤ) → Member t rows → pos 0 <ℤ t.0 → Bounds b t))
+
+furthest_bound : (rows : List (ℤ × ℤ)) → FurthestBound rows
+furthest_bound [] = inl (λ t m. absurd m)
+furthest_bound (r ∷ rs) = by_lt_z (pos 0) r.0 (λ up. above up (furthest_bound rs)) (λ low. below low (furthest_bound rs))
+  where
+    below : r.0 ≤ℤ pos 0 → FurthestBound rs → FurthestBound (r ∷ rs)
+    below low (inl none) = inl (λ t m. ⊎_elim (λ e. subst (λ (x : ℤ × ℤ). x.0 ≤ℤ pos 0) (sym e) low) (none t) m)
+    below low (inr (b, m, up, far)) = inr (b, inr m, up, λ t n ut. ⊎_elim (λ e. absurd (clash t e ut)) (λ k. far t k ut) n)
+      where
+        clash : (t : ℤ × ℤ) → t ≡ r → pos 0 <ℤ t.0 → ⊥
+        clash t e ut = let z : t.0 ≡ r.0 = ap (λ x. x.0) e in omega (arith, ints)
+
+    above : pos 0 <ℤ r.0 → FurthestBound rs → FurthestBound (r ∷ rs)
+    above up (inl none) = inr (r, inl refl, up, λ t n ut. ⊎_elim (λ e. subst (λ (x : ℤ × ℤ). Bounds r x) (sym e) (bounds_refl r)) (λ k. absurd (not_both t.0 (none t k) ut)) n)
+      where
+        not_both : (x : ℤ) → x ≤ℤ pos 0 → pos 0 <ℤ x → ⊥
+        not_both x h k = omega (arith, ints)
+    above up (inr (b, m, ub, far)) = by_lt_z (r.1 *ℤ b.0 -ℤ b.1 *ℤ r.0) (pos 0)
+        (λ closer. inr (r, inl refl, up, λ t n ut. ⊎_elim (λ e. subst (λ (x : ℤ × ℤ). Bounds r x) (sym e) (bounds_refl r)) (λ k. bounds_trans r b t up ub ut (negated closer) (far t k ut)) n))
+        (λ holds. inr (b, inr m, ub, λ t n ut. ⊎_elim (λ e. subst (λ (x : ℤ × ℤ). Bounds b x) (sym e) holds) (λ k. far t k ut) n))
+      where
+        negated : (r.1 *ℤ b.0 -ℤ b.1 *ℤ r.0) <ℤ pos 0 → Bounds r b
+        negated h = omega (arith, zring)
+
+-- the same from above: turn the sign of each coefficient
+abbrev negated : ℤ × ℤ → ℤ × ℤ
+negated t = (neg_ℤ t.0, t.1)
+
+abbrev negated_list : List (ℤ × ℤ) → List (ℤ × ℤ)
+negated_list [] = []
+negated_list (t ∷ ts) = negated t ∷ negated_list ts
+
+member_negated : (t : ℤ × ℤ) (rows : List (ℤ × ℤ)) → Member t rows → Member (negated t) (negated_list rows)
+member_negated t [] m = absurd m
+member_negated t (r ∷ rs) (inl e) = inl (ap negated e)
+member_negated t (r ∷ rs) (inr m) = inr (member_negated t rs m)
+
+negated_member : (t : ℤ × ℤ) (rows : List (ℤ × ℤ)) → Member t (negated_list rows) → (s : ℤ × ℤ) × Member s rows × (t ≡ negated s)
+negated_member t [] m = absurd m
+negated_member t (r ∷ rs) (inl e) = (r, inl refl, e)
+negated_member t (r ∷ rs) (inr m) = let s = negated_member t rs m in (s.0, inr s.1, s.2)
+
+-- where the cancelled rows hold, some multiple of the point extends: k is one of the coefficients
+pub extends : (rows : List (ℤ × ℤ))
+    → ((t : ℤ × ℤ) → Member t rows → t.0 ≡ pos 0 → pos 0 ≤ℤ t.1)
+    → ((s t : ℤ × ℤ) → Member s rows → Member t rows → pos 0 <ℤ s.0 → t.0 <ℤ pos 0 → pos 0 ≤ℤ (neg_ℤ t.0 *ℤ s.1 +ℤ s.0 *ℤ t.1))
+    → (k : ℤ) × (x : ℤ) × (pos 1 ≤ℤ k) × ((t : ℤ × ℤ) → Member t rows → pos 0 ≤ℤ (t.0 *ℤ x +ℤ k *ℤ t.1))
+extends rows flat pairs = by_up (furthest_bound rows)
+  where
+    -- each row at k and x, by the sign of its coefficient
+    by_sign : (t : ℤ × ℤ) (k x : ℤ) → pos 1 ≤ℤ k → Member t rows → (pos 0 <ℤ t.0 → pos 0 ≤ℤ (t.0 *ℤ x +ℤ k *ℤ t.1)) → (t.0 <ℤ pos 0 → pos 0 ≤ℤ (t.0 *ℤ x +ℤ k *ℤ t.1)) → pos 0 ≤ℤ (t.0 *ℤ x +ℤ k *ℤ t.1)
+    by_sign t k x hk m up down = by_lt_z (pos 0) t.0 up (λ low. by_lt_z t.0 (pos 0) down (λ high.
+        let z : t.0 ≡ pos 0 = omega (arith, ints) in
+        let p : pos 0 ≤ℤ (k *ℤ t.1) = product_least k t.1 (omega (arith, ints)) (flat t m z) in
+        let q : t.0 *ℤ x ≡ pos 0 *ℤ x = ap (λ y. y *ℤ x) z in omega (arith, ints, p, q)))
+
+    by_up : FurthestBound rows → (k : ℤ) × (x : ℤ) × (pos 1 ≤ℤ k) × ((t : ℤ × ℤ) → Member t rows → pos 0 ≤ℤ (t.0 *ℤ x +ℤ k *ℤ t.1))
+    by_up (inr (b, m, ub, far)) = (
+      b.0,
+      neg_ℤ b.1,
+      omega (arith, ints),
+      λ t n. by_sign t b.0 (neg_ℤ b.1) (omega (arith, ints)) n
+          (λ ut. let f : pos 0 ≤ℤ (t.1 *ℤ b.0 -ℤ b.1 *ℤ t.0) = far t n ut in omega (arith, zring, f))
+          (λ dt. let f : pos 0 ≤ℤ (neg_ℤ t.0 *ℤ b.1 +ℤ b.0 *ℤ t.1) = pairs b t m n ub dt in omega (arith, zring, f)),
+    )
+    by_up (inl none) = by_down (furthest_bound (negated_list rows))
+      where
+        clash : (x : ℤ) → x ≤ℤ pos 0 → pos 0 <ℤ x → ⊥
+        clash x h k = omega (arith, ints)
+
+        by_down : FurthestBound (negated_list rows) → (k : ℤ) × (x : ℤ) × (pos 1 ≤ℤ k) × ((t : ℤ × ℤ) → Member t rows → pos 0 ≤ℤ (t.0 *ℤ x +ℤ k *ℤ t.1))
+        by_down (inl flat_all) = (
+          pos 1,
+          pos 0,
+          omega (arith, ints),
+          λ t n. by_sign t (pos 1) (pos 0) (omega (arith, ints)) n
+              (λ ut. absurd (clash t.0 (none t n) ut))
+              (λ dt. let f : neg_ℤ t.0 ≤ℤ pos 0 = flat_all (negated t) (member_negated t rows n) in absurd (clash (neg_ℤ t.0) f (omega (arith, ints)))),
+        )
+        by_down (inr (b, m, ub, far)) = (
+          b.0,
+          b.1,
+          omega (arith, ints),
+          λ t n. by_sign t b.0 b.1 (omega (arith, ints)) n
+              (λ ut. absurd (clash t.0 (none t n) ut))
+              (λ dt. let f : pos 0 ≤ℤ (t.1 *ℤ b.0 -ℤ b.1 *ℤ neg_ℤ t.0) = far (negated t) (member_negated t rows n) (omega (arith, ints)) in omega (arith, zring, f)),
+        )

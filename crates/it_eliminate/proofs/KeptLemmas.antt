@@ -1,0 +1,136 @@
+-- Rows kept up to a number of them, row after row.
+use Rattle.std.proofs.Common.{◌≡◌, ◌⊎◌, inl, inr, ◌↔◌, ℕ, zero, suc, ◌+◌, ◌<◌, ◌≤◌, pos, refl, sym, ap, ap₂, subst, ◌∙◌, arith, List, [], ◌∷◌, ◌++◌, map, length, drop, get_or, Bool, true, false, cond, if◌then◌else◌}
+use Rattle.std.specs.List.{list_any, flat_map}
+use Rattle.std.specs.Prelude.{filter}
+use Rattle.std.proofs.lemmas.List.{drop_more, drop_all, length-append}
+use Rattle.it_space.specs.Rows.{Terms, IsCanonical, coefficient}
+use Rattle.it_space.specs.Divisors.{lowest_terms}
+use Rattle.it_space.specs.Cancelling.{cancelled_row}
+use Rattle.it_eliminate.proofs.MemberLemmas.{each_member, member_each}
+use Rattle.it_eliminate.proofs.StepLemmas.{is_flat_at}
+use Rattle.it_eliminate.specs.Elimination.{is_same, with_row, with_rows, is_up, is_down, is_flat, pairs_of, results, next_list, PairsFit}
+use Rattle.it_eliminate.specs.Gathering.{flat_of, pair_of, up_pairs, DownFits, UpFits, IsKept, Gathers}
+use Rattle.it_eliminate.specs.Projections.{Each}
+
+-- ---- one row
+
+longer : (rows : List Terms) (row : Terms) → length rows ≤ length (with_row rows row)
+longer rows [] = omega arith
+longer rows (t ∷ ts) = by_test (list_any (is_same (t ∷ ts)) rows)
+  where
+    by_test : (b : Bool) → length rows ≤ length (if b then rows else rows ++ (t ∷ ts) ∷ [])
+    by_test true = omega arith
+    by_test false = omega (arith, length-append rows ((t ∷ ts) ∷ []))
+
+pub gathers_row : (most : ℕ) (row : Terms) (old new : List Terms) → length old ≤ most → new ≡ with_row old (lowest_terms row) → (Each IsCanonical old → Each IsCanonical new) → Gathers most (row ∷ []) old new
+gathers_row most row old new h e c = record { keeps = λ exact k. record { is = by_cases exact k.is; canonical = c k.canonical } }
+  where
+    by_cases : (exact : List Terms) → (old ≡ exact) ⊎ ((most < length old) × (most < length exact)) → (new ≡ with_row exact (lowest_terms row)) ⊎ ((most < length new) × (most < length (with_row exact (lowest_terms row))))
+    by_cases exact (inl f) = inl (e ∙ ap (λ rs. with_row rs (lowest_terms row)) f)
+    by_cases exact (inr f) = absurd (omega (arith, f.0))
+
+pub gathers_over : (most : ℕ) (row : Terms) (old : List Terms) → most < length old → Gathers most (row ∷ []) old old
+gathers_over most row old h = record { keeps = λ exact k. record { is = inr (h, by_cases exact k.is); canonical = k.canonical } }
+  where
+    by_cases : (exact : List Terms) → (old ≡ exact) ⊎ ((most < length old) × (most < length exact)) → most < length (with_row exact (lowest_terms row))
+    by_cases exact (inl f) = omega (arith, longer exact (lowest_terms row), ap length f)
+    by_cases exact (inr f) = omega (arith, longer exact (lowest_terms row), f.1)
+
+-- ---- many rows
+
+with_rows-append : (seen xs ys : List Terms) → with_rows seen (xs ++ ys) ≡ with_rows (with_rows seen xs) ys
+with_rows-append seen [] ys = refl
+with_rows-append seen (x ∷ xs) ys = with_rows-append (with_row seen (lowest_terms x)) xs ys
+
+pub gathers_none : (most : ℕ) (old : List Terms) → Gathers most [] old old
+gathers_none most old = record { keeps = λ exact k. k }
+
+pub gathers_both : (most : ℕ) (xs ys : List Terms) (old mid new : List Terms) → Gathers most xs old mid → Gathers most ys mid new → Gathers most (xs ++ ys) old new
+gathers_both most xs ys old mid new f g = record {
+  keeps = λ exact k. subst (λ (rs : List Terms). IsKept most rs new) (sym (with_rows-append exact xs ys)) (g.keeps (with_rows exact xs) (f.keeps exact k));
+}
+
+-- what is still to come leads from what is there to an end
+abbrev pub Leads : ℕ → (Terms → List Terms) → List Terms → ℕ → List Terms → List Terms → Type 0
+Leads most g rows i first now = (s : List Terms) → Gathers most (flat_map g (drop i rows)) now s → Gathers most (flat_map g rows) first s
+
+pub leads_more : (most : ℕ) (g : Terms → List Terms) (rows : List Terms) (i : ℕ) (row : Terms) (first now new : List Terms) → i < length rows → row ≡ get_or rows i row
+    → Gathers most (g row) now new → Leads most g rows i first now → Leads most g rows (i + 1) first new
+leads_more most g rows i row first now new h e f l s k = l s (subst (λ (rs : List Terms). Gathers most (flat_map g rs) now s) (sym (drop_more rows i row h ∙ ap (λ r. r ∷ drop (i + 1) rows) (sym e)))
+    (gathers_both most (g row) (flat_map g (drop (i + 1) rows)) now new s f k))
+
+pub leads_done : (most : ℕ) (g : Terms → List Terms) (rows : List Terms) (i : ℕ) (first now : List Terms) → length rows ≤ i → Leads most g rows i first now → Gathers most (flat_map g rows) first now
+leads_done most g rows i first now h l = l now (subst (λ (rs : List Terms). Gathers most (flat_map g rs) now now) (sym (drop_all i rows h)) (gathers_none most now))
+
+-- what holds of each still to come holds of all
+abbrev pub Rests : (Terms → Type 0) → List Terms → ℕ → Type 0
+Rests P rows i = Each P (drop i rows) ↔ Each P rows
+
+module _ (P : Terms → Type 0) (rows : List Terms) (i : ℕ) (row : Terms) (h : i < length rows) (e : row ≡ get_or rows i row) where
+  here : drop i rows ≡ row ∷ drop (i + 1) rows
+  here = drop_more rows i row h ∙ ap (λ r. r ∷ drop (i + 1) rows) (sym e)
+
+  pub rests_more : P row → Rests P rows i → Rests P rows (i + 1)
+  rests_more p r = (λ a. r.0 (subst (λ (rs : List Terms). Each P rs) (sym here) (p, a)), λ a. (subst (λ (rs : List Terms). Each P rs) here (r.1 a)).1)
+
+  pub rests_stop : Rests P rows i → ¬ (P row) → ¬ (Each P rows)
+  rests_stop r n a = n (subst (λ (rs : List Terms). Each P rs) here (r.1 a)).0
+
+pub rests_done : (P : Terms → Type 0) (rows : List Terms) (i : ℕ) → length rows ≤ i → Rests P rows i → Each P rows
+rests_done P rows i h r = r.0 (subst (λ (rs : List Terms). Each P rs) (sym (drop_all i rows h)) tt)
+
+-- ---- the list of results, row by row
+
+filter_is : (test : Terms → Bool) (rows : List Terms) → filter test rows ≡ flat_map (λ (r : Terms). if test r then r ∷ [] else []) rows
+filter_is test [] = refl
+filter_is test (r ∷ rows) = by_test (test r) (filter_is test rows)
+  where
+    by_test : (b : Bool) → filter test rows ≡ flat_map (λ (r : Terms). if test r then r ∷ [] else []) rows
+        → cond b (r ∷ filter test rows) (filter test rows) ≡ (if b then r ∷ [] else []) ++ flat_map (λ (r : Terms). if test r then r ∷ [] else []) rows
+    by_test true ih = ap (λ rs. r ∷ rs) ih
+    by_test false ih = ih
+
+map_filter_is : (f : Terms → Terms) (test : Terms → Bool) (rows : List Terms) → map f (filter test rows) ≡ flat_map (λ (r : Terms). if test r then f r ∷ [] else []) rows
+map_filter_is f test [] = refl
+map_filter_is f test (r ∷ rows) = by_test (test r) (map_filter_is f test rows)
+  where
+    by_test : (b : Bool) → map f (filter test rows) ≡ flat_map (λ (r : Terms). if test r then f r ∷ [] else []) rows
+        → map f (cond b (r ∷ filter test rows) (filter test rows)) ≡ (if b then f r ∷ [] else []) ++ flat_map (λ (r : Terms). if test r then f r ∷ [] else []) rows
+    by_test true ih = ap (λ rs. f r ∷ rs) ih
+    by_test false ih = ih
+
+flat_filter_is : (f g : Terms → List Terms) (test : Terms → Bool) (rows : List Terms) → ((r : Terms) → f r ≡ g r) → flat_map f (filter test rows) ≡ flat_map (λ (r : Terms). if test r then g r else []) rows
+flat_filter_is f g test [] h = refl
+flat_filter_is f g test (r ∷ rows) h = by_test (test r) (flat_filter_is f g test rows h)
+  where
+    by_test : (b : Bool) → flat_map f (filter test rows) ≡ flat_map (λ (r : Terms). if test r then g r else []) rows
+        → flat_map f (cond b (r ∷ filter test rows) (filter test rows)) ≡ (if b then g r else []) ++ flat_map (λ (r : Terms). if test r then g r else []) rows
+    by_test true ih = ap₂ (λ xs ys. xs ++ ys) (h r) ih
+    by_test false ih = ih
+
+pub results_is : (at : ℕ) (rows : List Terms) → results at rows ≡ flat_map (flat_of at) rows ++ flat_map (up_pairs at rows) rows
+unfolding results
+results_is at rows = ap₂ (λ xs ys. xs ++ ys) (filter_is (is_flat at) rows)
+    (flat_filter_is (λ up. pairs_of at up rows) (λ up. flat_map (pair_of at up) rows) (is_up at) rows (λ up. map_filter_is (cancelled_row at up) (is_down at) rows))
+
+-- the whole list, from nothing
+pub next_kept : (most at : ℕ) (rows none mid new : List Terms) → none ≡ [] → Gathers most (flat_map (flat_of at) rows) none mid → Gathers most (flat_map (up_pairs at rows) rows) mid new → IsKept most (next_list at rows) new
+next_kept most at rows none mid new e f g = subst (λ (rs : List Terms). IsKept most (with_rows [] rs) new) (sym (results_is at rows))
+    ((gathers_both most (flat_map (flat_of at) rows) (flat_map (up_pairs at rows) rows) none mid new f g).keeps [] (record { is = inl e; canonical = subst (λ (rs : List Terms). Each IsCanonical rs) (sym e) tt }))
+
+pub gathers_flat : (most at : ℕ) (row same : Terms) (old new : List Terms) → coefficient row at ≡ pos 0 → same ≡ row → Gathers most (same ∷ []) old new → Gathers most (flat_of at row) old new
+gathers_flat most at row same old new e f g = subst (λ (b : Bool). Gathers most (if b then row ∷ [] else []) old new) (sym (is_flat_at at row e)) (subst (λ (r : Terms). Gathers most (r ∷ []) old new) f g)
+
+pub canonical_listed : (rows : List Terms) (i : ℕ) (row : Terms) → Each IsCanonical (drop i rows) → i < length rows → row ≡ get_or rows i row → IsCanonical row × Each IsCanonical (drop (i + 1) rows)
+canonical_listed rows i row a h e = subst (λ (rs : List Terms). Each IsCanonical rs) (drop_more rows i row h ∙ ap (λ r. r ∷ drop (i + 1) rows) (sym e)) a
+
+-- ---- the pairs
+
+pub pairs_fit : (at : ℕ) (rows : List Terms) → Each (UpFits at rows) rows → PairsFit at rows
+pairs_fit at rows f up down m n h k = each_member (DownFits at up) rows down (each_member (UpFits at rows) rows up f m h) n k
+
+pub fit_pairs : (at : ℕ) (rows : List Terms) → PairsFit at rows → Each (UpFits at rows) rows
+fit_pairs at rows f = member_each (UpFits at rows) rows (λ up m h. member_each (DownFits at up) rows (λ down n k. f up down m n h k))
+
+pub wide_pair : {W : Type 0} (at : ℕ) (rows : List Terms) → (W → ¬ (Each (UpFits at rows) rows)) → W → ¬ (PairsFit at rows)
+wide_pair at rows f w p = f w (fit_pairs at rows p)

@@ -1,0 +1,59 @@
+-- Elimination ends in one way, and a region that it ends with is the projection.
+use Rattle.std.proofs.Common.{◌≡◌, inl, inr, ◌↔◌, ℕ, ◌+◌, ◌^◌, sym, ap, subst, ◌∙◌, arith, List, [], ◌∷◌, map, All}
+use Rattle.it_space.specs.declared.problems.System.{System}
+use Rattle.it_space.specs.declared.spaces.Space.{Space}
+use Rattle.it_space.specs.Problems.{IsSystem}
+use Rattle.it_space.specs.Rows.{Terms, IsUpTo}
+use Rattle.it_space.specs.Spaces.{IsSpace, size_of}
+use Rattle.it_eliminate.specs.Elimination.{Member, EliminatedView, Region, Rows, Wide, next_list, Ends, in_order}
+use Rattle.it_eliminate.specs.Projections.{In, Extends, Lacks, IsProjection}
+use Rattle.it_eliminate.specs.Laws.{OneEnd}
+use Rattle.it_eliminate.proofs.MemberLemmas.{member-map}
+use Rattle.it_eliminate.proofs.SpaceLemmas.{projection_up_to}
+use Rattle.it_eliminate.proofs.RateLemmas.{after_rates, projection_exact, projection_lacks}
+
+pub one_end : OneEnd
+one_end base most rows [] o u e f = e ∙ sym f
+one_end base most rows (r ∷ rs) o u (inl e) (inl f) = e.1 ∙ sym f.1
+one_end base most rows (r ∷ rs) o u (inl e) (inr (inl f)) = absurd (e.0 f.0)
+one_end base most rows (r ∷ rs) o u (inl e) (inr (inr f)) = absurd (e.0 f.0)
+one_end base most rows (r ∷ rs) o u (inr (inl e)) (inl f) = absurd (f.0 e.0)
+one_end base most rows (r ∷ rs) o u (inr (inl e)) (inr (inl f)) = e.2 ∙ sym f.2
+one_end base most rows (r ∷ rs) o u (inr (inl e)) (inr (inr f)) = absurd (omega (arith, e.1, f.1))
+one_end base most rows (r ∷ rs) o u (inr (inr e)) (inl f) = absurd (f.0 e.0)
+one_end base most rows (r ∷ rs) o u (inr (inr e)) (inr (inl f)) = absurd (omega (arith, e.1, f.1))
+one_end base most rows (r ∷ rs) o u (inr (inr e)) (inr (inr f)) = one_end base most (next_list (base + r) rows) rs o u e.2 f.2
+
+abbrev rows_or : EliminatedView → List Terms → List Terms
+rows_or (Region rows) other = rows
+rows_or (Rows r) other = other
+rows_or (Wide r) other = other
+
+abbrev IsRegion : EliminatedView → Type 0
+IsRegion (Region rows) = Unit {0}
+IsRegion (Rows r) = ⊥
+IsRegion (Wide r) = ⊥
+
+-- a region has the list after all rates
+region_is : (base most : ℕ) (rows : List Terms) (rates : List ℕ) (kept : List Terms) → Ends base most rows rates (Region kept) → kept ≡ after_rates (map (λ r. base + r) rates) rows
+region_is base most rows [] kept e = ap (λ o. rows_or o rows) e
+region_is base most rows (r ∷ rs) kept (inl e) = absurd (subst IsRegion e.1 tt)
+region_is base most rows (r ∷ rs) kept (inr (inl e)) = absurd (subst IsRegion e.2 tt)
+region_is base most rows (r ∷ rs) kept (inr (inr e)) = region_is base most (next_list (base + r) rows) rs kept e.2
+
+pub is_projection : (most : ℕ) (system region : System) (rates : List ℕ) → IsSystem system → region.space ≡ system.space
+    → Ends (2 ^ system.space.variables) most (in_order system.rows.items) rates (Region region.rows.items) → IsProjection system rates region
+is_projection most system region rates h same e =
+    let ats : List ℕ = map (λ r. 2 ^ system.space.variables + r) rates in
+    let is : region.rows.items ≡ after_rates ats (in_order system.rows.items) = region_is (2 ^ system.space.variables) most (in_order system.rows.items) rates region.rows.items e in
+    let fits : All (IsUpTo (size_of system.space)) region.rows.items
+    = subst (λ (rs : List Terms). All (IsUpTo (size_of system.space)) rs) (sym is) (projection_up_to (size_of system.space) ats system.rows.items h.rows) in record {
+      space = same;
+      system = record {
+        space = subst (λ (s : Space). IsSpace s) (sym same) h.space;
+        rows = subst (λ (s : Space). All (IsUpTo (size_of s)) region.rows.items) (sym same) fits;
+      };
+      free = λ r m. subst (λ (rs : List Terms). Lacks (2 ^ system.space.variables + r) rs) (sym is)
+          (projection_lacks (2 ^ system.space.variables + r) ats system.rows.items (member-map (λ r. 2 ^ system.space.variables + r) r rates m));
+      exact = λ p. subst (λ (rs : List Terms). In rs p ↔ Extends ats system.rows.items p) (sym is) (projection_exact ats system.rows.items p);
+    }

@@ -1,0 +1,11 @@
+pub mod Examples
+pub mod MemberLemmas
+pub mod FurthestBounds
+pub mod OrderLemmas
+pub mod StepLemmas
+pub mod RateLemmas
+pub mod KeyLemmas
+pub mod KeptLemmas
+pub mod EndLemmas
+pub mod SpaceLemmas
+pub mod LawLemmas

@@ -1,0 +1,99 @@
+-- Members of lists, and what holds of each item.
+use Rattle.std.proofs.Common.{◌≡◌, ◌⊎◌, inl, inr, ⊎_elim, ℕ, zero, suc, refl, sym, ap, subst, ◌∙◌, arith, List, [], ◌∷◌, ◌++◌, Bool, true, false, cond, All}
+use Rattle.std.specs.List.{flat_map}
+use Rattle.std.specs.Prelude.{filter, map}
+use Rattle.std.proofs.lemmas.List.Elements.{All-head, All-tail}
+use Rattle.it_eliminate.specs.Elimination.{Member}
+use Rattle.it_eliminate.specs.Projections.{Each}
+
+pub not_true : false ≡ true → ⊥
+not_true e = grind arith
+
+-- ---- what holds of each item
+
+pub each-append : {X : Type 0} (P : X → Type 0) (xs ys : List X) → Each P xs → Each P ys → Each P (xs ++ ys)
+each-append P [] ys a b = b
+each-append P (x ∷ xs) ys a b = (a.0, each-append P xs ys a.1 b)
+
+pub each_front : {X : Type 0} (P : X → Type 0) (xs ys : List X) → Each P (xs ++ ys) → Each P xs
+each_front P [] ys a = tt
+each_front P (x ∷ xs) ys a = (a.0, each_front P xs ys a.1)
+
+pub each_back : {X : Type 0} (P : X → Type 0) (xs ys : List X) → Each P (xs ++ ys) → Each P ys
+each_back P [] ys a = a
+each_back P (x ∷ xs) ys a = each_back P xs ys a.1
+
+pub each_member : {X : Type 0} (P : X → Type 0) (xs : List X) (x : X) → Each P xs → Member x xs → P x
+each_member P [] x a m = absurd m
+each_member P (y ∷ xs) x a (inl e) = subst P (sym e) a.0
+each_member P (y ∷ xs) x a (inr m) = each_member P xs x a.1 m
+
+pub member_each : {X : Type 0} (P : X → Type 0) (xs : List X) → ((x : X) → Member x xs → P x) → Each P xs
+member_each P [] f = tt
+member_each P (x ∷ xs) f = (f x (inl refl), member_each P xs (λ y m. f y (inr m)))
+
+pub each_of_all : {X : Type 0} (P : X → Type 0) (xs : List X) → All P xs → Each P xs
+each_of_all P [] a = tt
+each_of_all P (x ∷ xs) a = (All-head P x xs a, each_of_all P xs (All-tail P x xs a))
+
+pub all_of_each : {X : Type 0} (P : X → Type 0) (xs : List X) → Each P xs → All P xs
+all_of_each P [] a i d h = absurd (omega arith)
+all_of_each P (x ∷ xs) a zero d h = a.0
+all_of_each P (x ∷ xs) a (suc i) d h = all_of_each P xs a.1 i d (omega arith)
+
+-- ---- members
+
+pub member-front : {X : Type 0} (x : X) (xs ys : List X) → Member x xs → Member x (xs ++ ys)
+member-front x [] ys m = absurd m
+member-front x (z ∷ xs) ys (inl e) = inl e
+member-front x (z ∷ xs) ys (inr m) = inr (member-front x xs ys m)
+
+pub member-back : {X : Type 0} (x : X) (xs ys : List X) → Member x ys → Member x (xs ++ ys)
+member-back x [] ys m = m
+member-back x (z ∷ xs) ys m = inr (member-back x xs ys m)
+
+pub member_either : {X : Type 0} (x : X) (xs ys : List X) → Member x (xs ++ ys) → Member x xs ⊎ Member x ys
+member_either x [] ys m = inr m
+member_either x (z ∷ xs) ys (inl e) = inl (inl e)
+member_either x (z ∷ xs) ys (inr m) = ⊎_elim (λ k. inl (inr k)) (λ k. inr k) (member_either x xs ys m)
+
+pub member-map : {X Y : Type 0} (f : X → Y) (x : X) (xs : List X) → Member x xs → Member (f x) (map f xs)
+member-map f x [] m = absurd m
+member-map f x (z ∷ xs) (inl e) = inl (ap f e)
+member-map f x (z ∷ xs) (inr m) = inr (member-map f x xs m)
+
+pub member_mapped : {X Y : Type 0} (f : X → Y) (y : Y) (xs : List X) → Member y (map f xs) → (x : X) × Member x xs × (y ≡ f x)
+member_mapped f y [] m = absurd m
+member_mapped f y (z ∷ xs) (inl e) = (z, inl refl, e)
+member_mapped f y (z ∷ xs) (inr m) = let s = member_mapped f y xs m in (s.0, inr s.1, s.2)
+
+pub member-filter : {X : Type 0} (test : X → Bool) (x : X) (xs : List X) → Member x xs → test x ≡ true → Member x (filter test xs)
+member-filter test x [] m t = absurd m
+member-filter test x (z ∷ xs) (inl e) t = by_test (test z) (ap test (sym e) ∙ t)
+  where
+    by_test : (b : Bool) → b ≡ true → Member x (cond b (z ∷ filter test xs) (filter test xs))
+    by_test true r = inl e
+    by_test false r = absurd (not_true r)
+member-filter test x (z ∷ xs) (inr m) t = by_test (test z) (member-filter test x xs m t)
+  where
+    by_test : (b : Bool) → Member x (filter test xs) → Member x (cond b (z ∷ filter test xs) (filter test xs))
+    by_test true k = inr k
+    by_test false k = k
+
+pub member_filtered : {X : Type 0} (test : X → Bool) (x : X) (xs : List X) → Member x (filter test xs) → Member x xs × (test x ≡ true)
+member_filtered test x [] m = absurd m
+member_filtered test x (z ∷ xs) m = by_test (test z) refl m (member_filtered test x xs)
+  where
+    by_test : (b : Bool) → test z ≡ b → Member x (cond b (z ∷ filter test xs) (filter test xs)) → (Member x (filter test xs) → Member x xs × (test x ≡ true)) → Member x (z ∷ xs) × (test x ≡ true)
+    by_test true t (inl e) ih = (inl e, ap test e ∙ t)
+    by_test true t (inr k) ih = let r = ih k in (inr r.0, r.1)
+    by_test false t k ih = let r = ih k in (inr r.0, r.1)
+
+pub member-flat_map : {X Y : Type 0} (f : X → List Y) (x : X) (y : Y) (xs : List X) → Member x xs → Member y (f x) → Member y (flat_map f xs)
+member-flat_map f x y [] m k = absurd m
+member-flat_map {X = X} f x y (z ∷ xs) (inl e) k = member-front y (f z) (flat_map f xs) (subst (λ (w : X). Member y (f w)) e k)
+member-flat_map f x y (z ∷ xs) (inr m) k = member-back y (f z) (flat_map f xs) (member-flat_map f x y xs m k)
+
+pub member_flat_mapped : {X Y : Type 0} (f : X → List Y) (y : Y) (xs : List X) → Member y (flat_map f xs) → (x : X) × Member x xs × Member y (f x)
+member_flat_mapped f y [] m = absurd m
+member_flat_mapped f y (z ∷ xs) m = ⊎_elim (λ k. (z, inl refl, k)) (λ k. let s = member_flat_mapped f y xs k in (s.0, inr s.1, s.2)) (member_either y (f z) (flat_map f xs) m)

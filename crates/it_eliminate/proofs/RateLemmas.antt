@@ -1,0 +1,160 @@
+-- All listed rates: no row has one of them, and a point is kept exactly where it extends to them.
+use Rattle.std.proofs.Common.{◌≡◌, ◌≢◌, ◌⊎◌, inl, inr, ⊎_elim, ◌↔◌, ℕ, zero, suc, ◌*◌, ◌≤◌, ℤ, pos, ◌+ℤ◌, ◌*ℤ◌, ◌≤ℤ◌, refl, sym, ap, subst, ◌∙◌, arith, List, [], ◌∷◌, Bool, true, false, cond, nat_eq}
+use Rattle.std.proofs.lemmas.Int.{ints}
+use Rattle.std.proofs.lemmas.Bool.Decides.{nat_tests}
+use Rattle.it_number.proofs.Integers.{mul_assoc, zring}
+use Rattle.it_eliminate.proofs.FurthestBounds.{uncancel}
+use Rattle.it_space.specs.Rows.{Terms, coefficient, value}
+use Rattle.it_space.specs.Cancelling.{times_up, times_down}
+use Rattle.it_space.proofs.TermLemmas.{coefficient-cancelled_row, same_number}
+use Rattle.it_eliminate.proofs.OrderLemmas.{in-in_order, lacks-with_rows}
+use Rattle.it_eliminate.proofs.MemberLemmas.{each_member, member_each}
+use Rattle.it_eliminate.proofs.StepLemmas.{results_all, next_lacks, step_exact}
+use Rattle.it_eliminate.specs.Elimination.{results, next_list, in_order, Member}
+use Rattle.it_eliminate.specs.Projections.{In, Extends, Lacks}
+
+-- the list after the rates at some coordinates, one after the other
+abbrev pub after_rates : List ℕ → List Terms → List Terms
+after_rates [] rows = rows
+after_rates (at ∷ ats) rows = after_rates ats (next_list at rows)
+
+-- ---- eliminated coordinates stay away
+
+mix_none : (a b : ℕ) (x y : ℤ) → x ≡ pos 0 → y ≡ pos 0 → pos a *ℤ x +ℤ pos b *ℤ y ≡ pos 0
+mix_none a b x y e f = ap (λ z. pos a *ℤ z +ℤ pos b *ℤ y) e ∙ ap (λ z. pos a *ℤ pos 0 +ℤ pos b *ℤ z) f ∙ omega (arith, ints)
+
+pub next_keeps_lacking : (c at : ℕ) (rows : List Terms) → Lacks c rows → Lacks c (next_list at rows)
+next_keeps_lacking c at rows a = lacks-with_rows c [] (results at rows) tt (member_each (λ (row : Terms). coefficient row c ≡ pos 0) (results at rows) (results_all (λ row. coefficient row c ≡ pos 0) at rows
+    (λ row m e. each_member (λ (r : Terms). coefficient r c ≡ pos 0) rows row a m)
+    (λ up down m n h k. coefficient-cancelled_row at up down c
+    ∙ mix_none (times_up at up down) (times_down at up down) (coefficient up c) (coefficient down c) (each_member (λ (r : Terms). coefficient r c ≡ pos 0) rows up a m) (each_member (λ (r : Terms). coefficient r c ≡ pos 0) rows down a n))))
+
+pub after_keeps_lacking : (c : ℕ) (ats : List ℕ) (rows : List Terms) → Lacks c rows → Lacks c (after_rates ats rows)
+after_keeps_lacking c [] rows a = a
+after_keeps_lacking c (at ∷ ats) rows a = after_keeps_lacking c ats (next_list at rows) (next_keeps_lacking c at rows a)
+
+pub after_lacks : (c : ℕ) (ats : List ℕ) (rows : List Terms) → Member c ats → Lacks c (after_rates ats rows)
+after_lacks c [] rows m = absurd m
+after_lacks c (at ∷ ats) rows (inl e) = subst (λ (n : ℕ). Lacks n (after_rates ats (next_list at rows))) (sym e) (after_keeps_lacking at ats (next_list at rows) (next_lacks at rows))
+after_lacks c (at ∷ ats) rows (inr m) = after_lacks c ats (next_list at rows) m
+
+-- ---- points
+
+-- to no coordinate: a multiple of the point itself
+none_extended : (rows : List Terms) (p : ℕ → ℤ) → In rows p → Extends [] rows p
+none_extended rows p a = record { factor = 1; some = omega arith; point = p; kept = λ c n. omega (arith, ints); meets = a }
+
+same_values : (ts : Terms) (p q : ℕ → ℤ) (k : ℕ) → ((c : ℕ) → q c ≡ pos k *ℤ p c) → value ts q ≡ pos k *ℤ value ts p
+same_values [] p q k f = omega (arith, ints)
+same_values (t ∷ ts) p q k f = step t.1 (p t.0) (q t.0) (value ts p) (value ts q) (f t.0) (same_values ts p q k f)
+  where
+    step : (a x y v w : ℤ) → y ≡ pos k *ℤ x → w ≡ pos k *ℤ v → a *ℤ y +ℤ w ≡ pos k *ℤ (a *ℤ x +ℤ v)
+    step a x y v w e f = ap (λ z. a *ℤ z +ℤ w) e ∙ ap (λ z. a *ℤ (pos k *ℤ x) +ℤ z) f ∙ omega (arith, zring)
+
+extended_none : (rows : List Terms) (p : ℕ → ℤ) → Extends [] rows p → In rows p
+extended_none rows p x = each rows x.meets
+  where
+    each : (rows : List Terms) → In rows x.point → In rows p
+    each [] a = tt
+    each (row ∷ rows) a = (
+      uncancel (pos x.factor) (value row p) (omega (arith, ints, x.some))
+          (subst (λ (z : ℤ). pos 0 ≤ℤ z) (same_values row p x.point x.factor (λ c. x.kept c (λ m. m))) a.0),
+      each rows a.1,
+    )
+
+-- two extensions, one after the other
+join_extensions : (at : ℕ) (ats : List ℕ) (rows : List Terms) (p : ℕ → ℤ) (y : Extends ats [] p) → Extends (at ∷ []) rows y.point → Extends (at ∷ ats) rows p
+join_extensions at ats rows p y x = record {
+  factor = x.factor * y.factor;
+  some = more x.factor y.factor x.some y.some;
+  point = x.point;
+  kept = λ c n. x.kept c (λ m. n (⊎_elim (λ e. inl e) (λ k. absurd k) m)) ∙ ap (λ z. pos x.factor *ℤ z) (y.kept c (λ m. n (inr m))) ∙ both x.factor y.factor (p c);
+  meets = x.meets;
+}
+  where
+    more : (a b : ℕ) → 1 ≤ a → 1 ≤ b → 1 ≤ a * b
+    more (suc a) (suc b) h k = omega arith
+    more zero b h k = absurd (omega arith)
+    more (suc a) zero h k = absurd (omega arith)
+
+    both : (a b : ℕ) (z : ℤ) → pos a *ℤ (pos b *ℤ z) ≡ pos (a * b) *ℤ z
+    both a b z = sym (mul_assoc (pos a) (pos b) z)
+
+-- an extension to all, taken apart: first to the later ones, with the multiple at the first one
+record Parts (at : ℕ) (ats : List ℕ) (rows : List Terms) (p : ℕ → ℤ) : Type 0 where
+  factor : ℕ
+  some : 1 ≤ factor
+  point : ℕ → ℤ
+  kept : (c : ℕ) → ¬ (Member c ats) → point c ≡ pos factor *ℤ p c
+  first : Extends (at ∷ []) rows point
+
+member_number : (c : ℕ) (ats : List ℕ) → Member c ats ⊎ ¬ (Member c ats)
+member_number c [] = inr (λ m. m)
+member_number c (a ∷ ats) = by (nat_eq c a) refl (member_number c ats)
+  where
+    other : (a b : ℕ) → nat_eq a b ≡ false → a ≢ b
+    other a b h e = grind (arith, nat_tests)
+
+    by : (b : Bool) → nat_eq c a ≡ b → Member c ats ⊎ ¬ (Member c ats) → Member c (a ∷ ats) ⊎ ¬ (Member c (a ∷ ats))
+    by true e m = inl (inl (same_number c a e))
+    by false e (inl m) = inl (inr m)
+    by false e (inr n) = inr (λ m. ⊎_elim (λ k. other c a e k) n m)
+
+split_extension : (at : ℕ) (ats : List ℕ) (rows : List Terms) (p : ℕ → ℤ) → Extends (at ∷ ats) rows p → Parts at ats rows p
+split_extension at ats rows p x = by (member_number at ats)
+  where
+    -- the rate is eliminated later once more: the point itself serves
+    by : Member at ats ⊎ ¬ (Member at ats) → Parts at ats rows p
+    by (inl m) = record {
+      factor = x.factor;
+      some = x.some;
+      point = x.point;
+      kept = λ c n. x.kept c (λ k. ⊎_elim (λ e. n (subst (λ (d : ℕ). Member d ats) (sym e) m)) n k);
+      first = record { factor = 1; some = omega arith; point = x.point; kept = λ c n. omega (arith, ints); meets = x.meets };
+    }
+    by (inr away) = record {
+      factor = x.factor;
+      some = x.some;
+      point = q;
+      kept = λ c n. kept c n (nat_eq c at) refl;
+      first = record { factor = 1; some = omega arith; point = x.point; kept = λ c n. off c (λ e. n (inl e)) ∙ omega (arith, ints); meets = x.meets };
+    }
+      where
+        q : ℕ → ℤ
+        q c = cond (nat_eq c at) (pos x.factor *ℤ p c) (x.point c)
+
+        kept : (c : ℕ) → ¬ (Member c ats) → (b : Bool) → nat_eq c at ≡ b → cond b (pos x.factor *ℤ p c) (x.point c) ≡ pos x.factor *ℤ p c
+        kept c n true e = refl
+        kept c n false e = x.kept c (λ m. ⊎_elim (λ k. other c at e k) n m)
+          where
+            other : (a b : ℕ) → nat_eq a b ≡ false → a ≢ b
+            other a b h e = grind (arith, nat_tests)
+
+        differ : (c d : ℕ) → c ≢ d → nat_eq c d ≡ false
+        differ c d n = grind (arith, nat_tests)
+
+        off : (c : ℕ) → c ≢ at → x.point c ≡ q c
+        off c n = sym (ap (λ b. cond b (pos x.factor *ℤ p c) (x.point c)) (differ c at n))
+
+pub rates_exact : (ats : List ℕ) (rows : List Terms) (p : ℕ → ℤ) → In (after_rates ats rows) p ↔ Extends ats rows p
+rates_exact [] rows p = (none_extended rows p, extended_none rows p)
+rates_exact (at ∷ ats) rows p =
+    let later = rates_exact ats (next_list at rows) p in (
+      λ a. let y = later.0 a in join_extensions at ats rows p (record { factor = y.factor; some = y.some; point = y.point; kept = y.kept; meets = tt }) ((step_exact at rows y.point).0 y.meets),
+      λ x. let s = split_extension at ats rows p x in
+          later.1 (record { factor = s.factor; some = s.some; point = s.point; kept = s.kept; meets = (step_exact at rows s.point).1 s.first }),
+    )
+
+extends_same : (ats : List ℕ) (xs ys : List Terms) (p : ℕ → ℤ) → ((q : ℕ → ℤ) → In xs q → In ys q) → Extends ats xs p → Extends ats ys p
+extends_same ats xs ys p f x = record { factor = x.factor; some = x.some; point = x.point; kept = x.kept; meets = f x.point x.meets }
+
+-- the region holds exactly the points that extend
+pub projection_exact : (ats : List ℕ) (rows : List Terms) (p : ℕ → ℤ) → In (after_rates ats (in_order rows)) p ↔ Extends ats rows p
+projection_exact ats rows p =
+    let r = rates_exact ats (in_order rows) p in (
+      λ a. extends_same ats (in_order rows) rows p (λ q. (in-in_order rows q).0) (r.0 a),
+      λ x. r.1 (extends_same ats rows (in_order rows) p (λ q. (in-in_order rows q).1) x),
+    )
+
+pub projection_lacks : (c : ℕ) (ats : List ℕ) (rows : List Terms) → Member c ats → Lacks c (after_rates ats (in_order rows))
+projection_lacks c ats rows m = after_lacks c ats (in_order rows) m

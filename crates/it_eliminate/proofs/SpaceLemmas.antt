@@ -1,0 +1,84 @@
+-- The coordinates of the rows stay those of the space.
+use Rattle.std.proofs.Common.{inl, inr, ℕ, zero, suc, ◌≤◌, ℤ, pos, negsuc, ◌+ℤ◌, sym, refl, subst, List, [], ◌∷◌, ◌++◌, Bool, true, false, nat_eq, nat_lt, All, if◌then◌else◌}
+use Rattle.std.specs.List.{list_any}
+use Rattle.it_space.specs.Rows.{Terms, IsUpTo}
+use Rattle.it_space.specs.Divisors.{content, divided_terms, lowest_terms}
+use Rattle.it_space.specs.Cancelling.{term_at, times_up, times_down, with_term, row_sum, row_multiple, cancelled_row}
+use Rattle.it_eliminate.proofs.MemberLemmas.{each_member, member_each, each_of_all, all_of_each}
+use Rattle.it_eliminate.proofs.OrderLemmas.{each-with_row}
+use Rattle.it_eliminate.proofs.StepLemmas.{results_all}
+use Rattle.it_eliminate.proofs.RateLemmas.{after_rates}
+use Rattle.it_eliminate.specs.Projections.{Each}
+use Rattle.it_eliminate.specs.Elimination.{with_row, with_rows, results, next_list, in_order, Member}
+
+module _ (size : ℕ) where
+  abbrev Has : ℕ × ℤ → Type 0
+  Has t = (1 ≤ t.0) × (t.0 ≤ size)
+
+  abbrev UpTo : Terms → Type 0
+  UpTo ts = Each Has ts
+
+  up_to-term_at : (c : ℕ) (x : ℤ) (ts : Terms) → (1 ≤ c) × (c ≤ size) → UpTo ts → UpTo (term_at c x ++ ts)
+  up_to-term_at c (pos zero) ts h a = a
+  up_to-term_at c (pos (suc n)) ts h a = (h, a)
+  up_to-term_at c (negsuc n) ts h a = (h, a)
+
+  up_to-with_term : (c : ℕ) (x : ℤ) (ts : Terms) → (1 ≤ c) × (c ≤ size) → UpTo ts → UpTo (with_term c x ts)
+  up_to-with_term c (pos zero) [] h a = tt
+  up_to-with_term c (pos (suc n)) [] h a = (h, tt)
+  up_to-with_term c (negsuc n) [] h a = (h, tt)
+  up_to-with_term c x (t ∷ ts) h a = by (nat_lt c t.0) (nat_eq c t.0) (up_to-with_term c x ts h a.1)
+    where
+      by : (p q : Bool) → UpTo (with_term c x ts) → UpTo (if p then term_at c x ++ t ∷ ts else if q then term_at c (x +ℤ t.1) ++ ts else t ∷ with_term c x ts)
+      by true q ih = up_to-term_at c x (t ∷ ts) h a
+      by false true ih = up_to-term_at c (x +ℤ t.1) ts h a.1
+      by false false ih = (a.0, ih)
+
+  up_to-row_sum : (xs ys : Terms) → UpTo xs → UpTo ys → UpTo (row_sum xs ys)
+  up_to-row_sum [] ys a b = b
+  up_to-row_sum (x ∷ xs) ys a b = up_to-with_term x.0 x.1 (row_sum xs ys) a.0 (up_to-row_sum xs ys a.1 b)
+
+  up_to-row_multiple : (k : ℕ) (ts : Terms) → UpTo ts → UpTo (row_multiple k ts)
+  up_to-row_multiple k [] a = tt
+  up_to-row_multiple k (t ∷ ts) a = (a.0, up_to-row_multiple k ts a.1)
+
+  up_to-cancelled_row : (at : ℕ) (up down : Terms) → UpTo up → UpTo down → UpTo (cancelled_row at up down)
+  unfolding cancelled_row
+  up_to-cancelled_row at up down a b = up_to-row_sum (row_multiple (times_up at up down) up) (row_multiple (times_down at up down) down) (up_to-row_multiple (times_up at up down) up a) (up_to-row_multiple (times_down at up down) down b)
+
+  up_to-lowest_terms : (ts : Terms) → UpTo ts → UpTo (lowest_terms ts)
+  unfolding lowest_terms
+  up_to-lowest_terms ts a = by (content 0 ts) ts a
+    where
+      by : (k : ℕ) (ts : Terms) → UpTo ts → UpTo (divided_terms k ts)
+      by k [] a = tt
+      by k (t ∷ ts) a = (a.0, by k ts a.1)
+
+  up_to-with_rows : (before rows : List Terms) → Each UpTo before → Each UpTo rows → Each UpTo (with_rows before rows)
+  up_to-with_rows before [] a b = a
+  up_to-with_rows before (row ∷ rows) a b = up_to-with_rows (with_row before (lowest_terms row)) rows (each-with_row UpTo before (lowest_terms row) (up_to-lowest_terms row b.0) a) b.1
+
+  up_to-next : (at : ℕ) (rows : List Terms) → Each UpTo rows → Each UpTo (next_list at rows)
+  up_to-next at rows a = up_to-with_rows [] (results at rows) tt (member_each UpTo (results at rows) (results_all UpTo at rows (λ row m e. each_member UpTo rows row a m)
+      (λ up down m n h k. up_to-cancelled_row at up down (each_member UpTo rows up a m) (each_member UpTo rows down a n))))
+
+  up_to-after : (ats : List ℕ) (rows : List Terms) → Each UpTo rows → Each UpTo (after_rates ats rows)
+  up_to-after [] rows a = a
+  up_to-after (at ∷ ats) rows a = up_to-after ats (next_list at rows) (up_to-next at rows a)
+
+  to_each : (rows : List Terms) → All (IsUpTo size) rows → Each UpTo rows
+  to_each rows a = deep rows (each_of_all (IsUpTo size) rows a)
+    where
+      deep : (rows : List Terms) → Each (IsUpTo size) rows → Each UpTo rows
+      deep [] a = tt
+      deep (r ∷ rows) a = (each_of_all Has r a.0, deep rows a.1)
+
+  to_all : (rows : List Terms) → Each UpTo rows → All (IsUpTo size) rows
+  to_all rows a = all_of_each (IsUpTo size) rows (deep rows a)
+    where
+      deep : (rows : List Terms) → Each UpTo rows → Each (IsUpTo size) rows
+      deep [] a = tt
+      deep (r ∷ rows) a = (all_of_each Has r a.0, deep rows a.1)
+
+  pub projection_up_to : (ats : List ℕ) (rows : List Terms) → All (IsUpTo size) rows → All (IsUpTo size) (after_rates ats (in_order rows))
+  projection_up_to ats rows a = to_all (after_rates ats (in_order rows)) (up_to-after ats (in_order rows) (up_to-with_rows [] rows tt (to_each rows a)))

@@ -1,0 +1,75 @@
+-- Plain elimination (Fourier 1826, Motzkin 1936): the list of rows after each rate, over numbers without bounds, and what keeps
+-- it from its end.
+use Rattle.std.specs.Prelude.{◌≡◌, ◌⊎◌, ℕ, ◌+◌, ◌<◌, ◌≤◌, ℤ, pos, ◌<ℤ◌, List, [], ◌∷◌, ◌++◌, length, map, filter, Bool, ◌&&◌, nat_eq, if◌then◌else◌}
+use Rattle.std.specs.List.{flat_map, list_any}
+use Rattle.std.specs.Cmp.Lexicographic.{pointwise}
+use Rattle.std.specs.Ordering.{int_eq}
+use Rattle.std.specs.Int.Signed.{lt_z}
+use Rattle.it_space.specs.Rows.{Terms, coefficient}
+use Rattle.it_space.specs.Divisors.{lowest_terms}
+use Rattle.it_space.specs.Cancelling.{cancelled_row, CancelFits}
+
+abbrev pub Member : {X : Type 0} → X → List X → Type 0
+Member x [] = ⊥
+Member x (y ∷ ys) = (x ≡ y) ⊎ Member x ys
+
+-- whether two rows are one
+abbrev pub is_same : Terms → Terms → Bool
+is_same xs ys = pointwise (λ (s t : ℕ × ℤ). nat_eq s.0 t.0 && int_eq s.1 t.1) xs ys
+
+-- a row behind the others, unless it is zero or one of them
+abbrev pub with_row : List Terms → Terms → List Terms
+with_row rows [] = rows
+with_row rows (t ∷ ts) = if list_any (is_same (t ∷ ts)) rows then rows else rows ++ (t ∷ ts) ∷ []
+
+-- each of some rows in turn, divided by the common divisor of its coefficients
+abbrev pub with_rows : List Terms → List Terms → List Terms
+with_rows before [] = before
+with_rows before (row ∷ rows) = with_rows (with_row before (lowest_terms row)) rows
+
+-- rows in order: in lowest terms, without zero rows and doubles
+abbrev pub in_order : List Terms → List Terms
+in_order rows = with_rows [] rows
+
+abbrev pub is_up : ℕ → Terms → Bool
+is_up at row = lt_z (pos 0) (coefficient row at)
+
+abbrev pub is_down : ℕ → Terms → Bool
+is_down at row = lt_z (coefficient row at) (pos 0)
+
+abbrev pub is_flat : ℕ → Terms → Bool
+is_flat at row = int_eq (coefficient row at) (pos 0)
+
+-- a row that is positive at the coordinate, cancelled with each row that is negative there
+abbrev pub pairs_of : ℕ → Terms → List Terms → List Terms
+pairs_of at up rows = map (cancelled_row at up) (filter (is_down at) rows)
+
+-- each positive row, cancelled with each negative one
+abbrev pub pairs : ℕ → List Terms → List Terms
+pairs at rows = flat_map (λ up. pairs_of at up rows) (filter (is_up at) rows)
+
+-- the rows without the coordinate, then the pairs
+unfoldable pub results : ℕ → List Terms → List Terms
+results at rows = filter (is_flat at) rows ++ pairs at rows
+
+-- the list after the rate at a coordinate
+abbrev pub next_list : ℕ → List Terms → List Terms
+next_list at rows = in_order (results at rows)
+
+-- no pair is wide
+abbrev pub PairsFit : ℕ → List Terms → Type 0
+PairsFit at rows = (up down : Terms) → Member up rows → Member down rows → pos 0 <ℤ coefficient up at → coefficient down at <ℤ pos 0 → CancelFits at up down
+
+-- the list after all rates; or a rate after which there are too many rows, or at which a pair is wide
+pub data EliminatedView : Type 0 where
+  Region : (rows : List Terms) → EliminatedView
+  Rows : (rate : ℕ) → EliminatedView
+  Wide : (rate : ℕ) → EliminatedView
+
+-- what elimination of rates from rows in order ends with: the first rate with a wide pair or, failing that, with more than `most`
+-- rows after it, or the list after all; rate r is at coordinate `base` + r
+abbrev pub Ends : ℕ → ℕ → List Terms → List ℕ → EliminatedView → Type 0
+Ends base most rows [] end = end ≡ Region rows
+Ends base most rows (r ∷ rs) end = ((¬ (PairsFit (base + r) rows)) × (end ≡ Wide r))
+    ⊎ ((PairsFit (base + r) rows × (most < length (next_list (base + r) rows)) × (end ≡ Rows r))
+    ⊎ (PairsFit (base + r) rows × (length (next_list (base + r) rows) ≤ most) × Ends base most (next_list (base + r) rows) rs end))

@@ -1,0 +1,49 @@
+-- No public clause cites this module: the list after one rate gathered row by row, and what one rate ends with.
+use Rattle.std.specs.Prelude.{◌≡◌, ◌⊎◌, ℕ, ℤ, pos, ◌<◌, ◌≤◌, ◌<ℤ◌, List, [], ◌∷◌, length, map, if◌then◌else◌}
+use Rattle.std.specs.Global.{Vec}
+use Rattle.std.specs.List.{flat_map}
+use Rattle.it_space.specs.Rows.{Terms, IsCanonical, coefficient}
+use Rattle.it_space.specs.Cancelling.{cancelled_row, CancelFits}
+use Rattle.it_eliminate.specs.declared.types.RateEnd.{RateEnd}
+use Rattle.it_eliminate.specs.declared.types.RateEnd.TheVariants as ends
+use Rattle.it_eliminate.specs.Elimination.{with_rows, is_up, is_down, is_flat, next_list, PairsFit}
+use Rattle.it_eliminate.specs.Projections.{Each}
+
+-- the rows of an index set of terms
+abbrev pub rows_of : List (Vec (ℕ × ℤ)) → List Terms
+rows_of vs = map (λ v. v.items) vs
+
+-- a row that lacks the coordinate
+abbrev pub flat_of : ℕ → Terms → List Terms
+flat_of at row = if is_flat at row then row ∷ [] else []
+
+-- what cancels of two rows
+abbrev pub pair_of : ℕ → Terms → Terms → List Terms
+pair_of at up down = if is_down at down then cancelled_row at up down ∷ [] else []
+
+-- what cancels of one row and all
+abbrev pub up_pairs : ℕ → List Terms → Terms → List Terms
+up_pairs at rows up = if is_up at up then flat_map (pair_of at up) rows else []
+
+-- a row cancels with a positive one, if it is negative
+abbrev pub DownFits : ℕ → Terms → Terms → Type 0
+DownFits at up down = coefficient down at <ℤ pos 0 → CancelFits at up down
+
+-- a row, if it is positive, cancels with each negative one
+abbrev pub UpFits : ℕ → List Terms → Terms → Type 0
+UpFits at rows up = pos 0 <ℤ coefficient up at → Each (DownFits at up) rows
+
+-- the rows are the exact list, or both are more than `most`
+pub record IsKept (most : ℕ) (exact kept : List Terms) : Type 0 where
+  pub is : (kept ≡ exact) ⊎ ((most < length kept) × (most < length exact))
+  pub canonical : Each IsCanonical kept
+
+-- rows were put in order behind what is kept
+pub record Gathers (most : ℕ) (more old new : List Terms) : Type 0 where
+  pub keeps : (exact : List Terms) → IsKept most exact old → IsKept most (with_rows exact more) new
+
+-- the list after the rate at a coordinate, or what keeps from it
+abbrev pub IsRateEnd : ℕ → ℕ → List Terms → RateEnd → Type 0
+IsRateEnd at most rows (ends.Rows next) = PairsFit at rows × (length (next_list at rows) ≤ most) × (next.items ≡ next_list at rows)
+IsRateEnd at most rows ends.TooMany = PairsFit at rows × (most < length (next_list at rows))
+IsRateEnd at most rows ends.TooWide = ¬ (PairsFit at rows)

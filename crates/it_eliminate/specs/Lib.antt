@@ -1,0 +1,5 @@
+pub mod Elimination
+pub mod Projections
+pub mod Views
+pub mod Gathering
+pub mod Laws

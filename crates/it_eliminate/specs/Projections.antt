@@ -1,0 +1,42 @@
+-- Points of a system, and its projection. A point is a map from coordinates to numbers: the values of the sets and of the rates.
+use Rattle.std.specs.Prelude.{◌≡◌, ◌↔◌, ℕ, ◌+◌, ◌≤◌, ◌^◌, ℤ, pos, ◌*ℤ◌, ◌≤ℤ◌, List, [], ◌∷◌, map}
+use Rattle.it_space.specs.declared.problems.System.{System}
+use Rattle.it_space.specs.Problems.{IsSystem}
+use Rattle.it_space.specs.Rows.{Terms, value, coefficient}
+use Rattle.it_eliminate.specs.declared.types.Eliminated.{Eliminated}
+use Rattle.it_eliminate.specs.declared.types.Eliminated.TheVariants as eliminated
+use Rattle.it_eliminate.specs.Elimination.{Member}
+
+-- what holds of each item of a list
+abbrev pub Each : {X : Type 0} → (X → Type 0) → List X → Type 0
+Each P [] = Unit {0}
+Each P (x ∷ xs) = P x × Each P xs
+
+-- every row is at least 0 at the point
+abbrev pub In : List Terms → (ℕ → ℤ) → Type 0
+In rows p = Each (λ row. pos 0 ≤ℤ value row p) rows
+
+-- no row has the coordinate
+abbrev pub Lacks : ℕ → List Terms → Type 0
+Lacks at rows = Each (λ row. coefficient row at ≡ pos 0) rows
+
+-- some whole multiple of the point, with other values at the eliminated coordinates, is one at which every row is at least 0
+pub record Extends (gone : List ℕ) (rows : List Terms) (p : ℕ → ℤ) : Type 0 where
+  pub factor : ℕ
+  pub some : 1 ≤ factor
+  pub point : ℕ → ℤ
+  pub kept : (c : ℕ) → ¬ (Member c gone) → point c ≡ pos factor *ℤ p c
+  pub meets : In rows point
+
+-- a system of the same space, without the rates, that holds exactly the points that extend to them
+pub record IsProjection (old : System) (rates : List ℕ) (new : System) : Type 0 where
+  pub space : new.space ≡ old.space
+  pub system : IsSystem new
+  pub free : (r : ℕ) → Member r rates → Lacks (2 ^ old.space.variables + r) new.rows.items
+  pub exact : (p : ℕ → ℤ) → In new.rows.items p ↔ Extends (map (λ r. 2 ^ old.space.variables + r) rates) old.rows.items p
+
+-- where elimination ends with a region, that is the projection
+abbrev pub RegionIsProjection : System → List ℕ → Eliminated → Type 0
+RegionIsProjection system rates (eliminated.Region region) = IsProjection system rates region
+RegionIsProjection system rates (eliminated.Rows rate) = Unit {0}
+RegionIsProjection system rates (eliminated.Wide rate) = Unit {0}

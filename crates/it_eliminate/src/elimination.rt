@@ -1,0 +1,82 @@
+//! Rates eliminated one after the other.
+ghost use Rattle.std.specs.Prelude.{◌≡◌, ◌+◌, ◌^◌, ◌<◌, All, IfOk, [], ◌∷◌};
+ghost use Rattle.it_space.specs.Problems.{IsSystem};
+ghost use Rattle.it_space.specs.Spaces.{IsSpace};
+ghost use Rattle.it_eliminate.specs.Elimination.{in_order, Ends};
+ghost use Rattle.it_eliminate.specs.Views.{eliminated_view};
+ghost use Rattle.it_eliminate.specs.Projections.{RegionIsProjection};
+ghost use Rattle.it_eliminate.specs.Gathering.{IsRateEnd};
+
+use crate::ordered::{in_order, row_list};
+use crate::pairs::next_list;
+use crate::types::{Eliminated, RateEnd};
+use it_space::{Row, RowFault, Space, System};
+use std::alloc::{AllocError, Global};
+
+/// Eliminates rates, counted from 0, in the order of their list: their projection, or the first rate at which two rows can't be
+/// cancelled, or after which there are more than `rows` rows. At one rate the pairs are judged first.
+pub fn eliminate(
+    alloc: Global,
+    system: &System,
+    rates: &[u8],
+    rows: usize,
+) -> Result<Eliminated, AllocError>
+    requires system { IsSystem system.now }
+    requires rates { All (λ r. r < system.now.space.rates) rates.now }
+    ensures ends { IfOk result (λ e. Ends (2 ^ system.now.space.variables) rows (in_order system.now.rows.items) rates.now (eliminated_view e)) }
+    ensures region { IfOk result (RegionIsProjection system.now rates.now) }
+{
+    let ordered = in_order(alloc, system.rows.as_slice())?;
+    let mut current = row_list(alloc, &ordered)?;
+    for rate in rates {
+        match after_rate(
+            alloc,
+            current.as_slice(),
+            coordinate(system.space, *rate),
+            rows,
+        )? {
+            RateEnd::Rows(next) => current = next,
+            RateEnd::TooMany => return Ok(Eliminated::Rows { rate: *rate }),
+            RateEnd::TooWide => return Ok(Eliminated::Wide { rate: *rate }),
+        }
+    }
+    Ok(Eliminated::Region(System {
+        space: system.space,
+        rows: current,
+    }))
+}
+
+/// Eliminates one rate.
+pub fn step(alloc: Global, system: &System, rate: u8, rows: usize) -> Result<Eliminated, AllocError>
+    requires system { IsSystem system.now }
+    requires rate { rate < system.now.space.rates }
+    ensures ends { IfOk result (λ e. Ends (2 ^ system.now.space.variables) rows (in_order system.now.rows.items) (rate ∷ []) (eliminated_view e)) }
+    ensures region { IfOk result (RegionIsProjection system.now (rate ∷ [])) }
+{
+    eliminate(alloc, system, [rate].as_slice(), rows)
+}
+
+/// The coordinate of a rate.
+fn coordinate(space: Space, rate: u8) -> u32
+    requires { IsSpace space }
+    ensures { result ≡ 2 ^ space.variables + rate }
+{
+    (1u32 << space.variables) + rate as u32
+}
+
+/// The rows in order after the rate at a coordinate, if they are at most `most`.
+fn after_rate(alloc: Global, rows: &[Row], at: u32, most: usize) -> Result<RateEnd, AllocError>
+    ensures { IfOk result (IsRateEnd at most rows.now) }
+{
+    match next_list(alloc, rows, at, most) {
+        Ok(list) => {
+            if list.len() > most {
+                Ok(RateEnd::TooMany)
+            } else {
+                Ok(RateEnd::Rows(row_list(alloc, &list)?))
+            }
+        }
+        Err(RowFault::Wide) => Ok(RateEnd::TooWide),
+        Err(RowFault::Memory) => Err(AllocError),
+    }
+}

@@ -1,0 +1,85 @@
+//! Rows in order: each in lowest terms, without zero rows and doubles. Once more of them are there than are allowed, no further
+//! one is kept.
+ghost use Rattle.std.specs.Prelude.{◌≡◌, [], ◌∷◌, length, map, All, OnOk, OnErr, IfOk};
+ghost use Rattle.it_space.specs.Divisors.{lowest_terms};
+ghost use Rattle.it_space.specs.Rows.{IsCanonical};
+ghost use Rattle.it_eliminate.specs.Elimination.{with_row, in_order};
+ghost use Rattle.it_eliminate.specs.Projections.{Each};
+ghost use Rattle.it_eliminate.specs.Gathering.{rows_of, Gathers};
+
+use indexmap::IndexSet;
+use it_space::{Row, normal};
+use std::alloc::{AllocError, Global};
+
+/// Puts a row behind the others, unless it is zero or one of them.
+fn put(rows: &mut IndexSet<Vec<(u32, i128)>>, terms: Vec<(u32, i128)>) -> Result<(), AllocError>
+    ensures { OnOk result (rows_of rows.new.keys ≡ with_row (rows_of rows.old.keys) terms.items) }
+{
+    if !terms.is_empty() {
+        rows.insert(terms)?;
+    }
+    Ok(())
+}
+
+/// Puts a row in lowest terms behind the others.
+fn put_lowest(rows: &mut IndexSet<Vec<(u32, i128)>>, row: Row) -> Result<(), AllocError>
+    ensures rows { OnOk result (rows_of rows.new.keys ≡ with_row (rows_of rows.old.keys) (lowest_terms row)) }
+    ensures canonical { OnOk result (Each IsCanonical (rows_of rows.old.keys) → Each IsCanonical (rows_of rows.new.keys)) }
+{
+    put(rows, normal(row).into_terms())?;
+    Ok(())
+}
+
+/// The same, as long as there are at most `most` rows.
+pub fn gather(
+    rows: &mut IndexSet<Vec<(u32, i128)>>,
+    row: Row,
+    most: usize,
+) -> Result<(), AllocError>
+    ensures { OnOk result (Gathers most (row ∷ []) (rows_of rows.old.keys) (rows_of rows.new.keys)) }
+{
+    if rows.len() <= most {
+        put_lowest(rows, row)?;
+    }
+    Ok(())
+}
+
+/// The same row once more.
+pub fn copy(alloc: Global, row: &Row) -> Result<Row, AllocError>
+    ensures { IfOk result (λ r. r ≡ row.now) }
+{
+    let terms = row.terms().iter().copied().collect(alloc)?;
+    Ok(Row::new(terms))
+}
+
+/// The rows as a list.
+pub fn row_list(alloc: Global, rows: &IndexSet<Vec<(u32, i128)>>) -> Result<Vec<Row>, AllocError>
+    requires { Each IsCanonical (rows_of rows.now.keys) }
+    ensures { IfOk result (λ v. v.items ≡ rows_of rows.now.keys) }
+{
+    rows_from(alloc, rows.as_slice())
+}
+
+fn rows_from(alloc: Global, lists: &[Vec<(u32, i128)>]) -> Result<Vec<Row>, AllocError>
+    requires { Each IsCanonical (rows_of lists.now) }
+    ensures { IfOk result (λ v. v.items ≡ rows_of lists.now) }
+{
+    let mut rows = Vec::new(alloc);
+    for terms in lists {
+        let terms = terms.iter().copied().collect(alloc)?;
+        rows.push(Row::new(terms))?;
+    }
+    Ok(rows)
+}
+
+/// All rows in order.
+pub fn in_order(alloc: Global, rows: &[Row]) -> Result<IndexSet<Vec<(u32, i128)>>, AllocError>
+    ensures rows { IfOk result (λ s. rows_of s.keys ≡ in_order rows.now) }
+    ensures canonical { IfOk result (λ s. Each IsCanonical (rows_of s.keys)) }
+{
+    let mut ordered = IndexSet::new(alloc);
+    for row in rows {
+        put_lowest(&mut ordered, copy(alloc, row)?)?;
+    }
+    Ok(ordered)
+}

@@ -1,0 +1,138 @@
+//! The list of rows after one rate.
+ghost use Rattle.std.specs.Prelude.{◌≡◌, pos, ◌<ℤ◌, [], ◌∷◌, OnOk, IfOk, IfErr};
+ghost use Rattle.it_space.specs.Rows.{coefficient};
+ghost use Rattle.it_space.specs.Cancelling.{CancelFits};
+ghost use Rattle.it_space.specs.declared.faults.RowFault.TheVariants.{Wide as IsTooWide};
+ghost use Rattle.it_eliminate.specs.Elimination.{next_list, PairsFit};
+ghost use Rattle.it_eliminate.specs.Projections.{Each};
+ghost use Rattle.std.specs.List.{flat_map};
+ghost use Rattle.it_eliminate.specs.Gathering.{rows_of, pair_of, up_pairs, flat_of, DownFits, UpFits, Gathers, IsKept};
+
+use crate::ordered::{copy, gather};
+use indexmap::IndexSet;
+use it_space::{Row, RowFault, cancel};
+use std::alloc::{AllocError, Global};
+
+/// Puts a row into the list if it lacks the coordinate.
+fn gather_flat(
+    alloc: Global,
+    list: &mut IndexSet<Vec<(u32, i128)>>,
+    row: &Row,
+    at: u32,
+    most: usize,
+) -> Result<(), AllocError>
+    ensures { OnOk result (Gathers most (flat_of at row.now) (rows_of list.old.keys) (rows_of list.new.keys)) }
+{
+    if row.coefficient(at) == 0 {
+        gather(list, copy(alloc, row)?, most)?;
+    }
+    Ok(())
+}
+
+fn gather_flats(
+    alloc: Global,
+    list: &mut IndexSet<Vec<(u32, i128)>>,
+    rows: &[Row],
+    at: u32,
+    most: usize,
+) -> Result<(), AllocError>
+    ensures { OnOk result (Gathers most (flat_map (flat_of at) rows.now) (rows_of list.old.keys) (rows_of list.new.keys)) }
+{
+    for row in rows {
+        gather_flat(alloc, list, row, at, most)?;
+    }
+    Ok(())
+}
+
+/// Puts what cancels of a row that is positive at the coordinate and another one into the list, if that is negative there.
+fn gather_pair(
+    alloc: Global,
+    list: &mut IndexSet<Vec<(u32, i128)>>,
+    up: &Row,
+    down: &Row,
+    at: u32,
+    most: usize,
+) -> Result<(), RowFault>
+    requires { pos 0 <ℤ coefficient up.now at }
+    ensures list { OnOk result (Gathers most (pair_of at up.now down.now) (rows_of list.old.keys) (rows_of list.new.keys)) }
+    ensures fits { OnOk result (DownFits at up.now down.now) }
+    ensures wide { IfErr result (λ fault. fault ≡ IsTooWide → ¬ (DownFits at up.now down.now)) }
+{
+    if down.coefficient(at) < 0 {
+        let row = cancel(alloc, up, down, at)?;
+        gather(list, row, most)?;
+    }
+    Ok(())
+}
+
+fn gather_pairs(
+    alloc: Global,
+    list: &mut IndexSet<Vec<(u32, i128)>>,
+    up: &Row,
+    rows: &[Row],
+    at: u32,
+    most: usize,
+) -> Result<(), RowFault>
+    requires { pos 0 <ℤ coefficient up.now at }
+    ensures list { OnOk result (Gathers most (flat_map (pair_of at up.now) rows.now) (rows_of list.old.keys) (rows_of list.new.keys)) }
+    ensures fits { OnOk result (Each (DownFits at up.now) rows.now) }
+    ensures wide { IfErr result (λ fault. fault ≡ IsTooWide → ¬ (Each (DownFits at up.now) rows.now)) }
+{
+    for down in rows {
+        gather_pair(alloc, list, up, down, at, most)?;
+    }
+    Ok(())
+}
+
+/// The same of a row that need not be positive.
+fn gather_up(
+    alloc: Global,
+    list: &mut IndexSet<Vec<(u32, i128)>>,
+    up: &Row,
+    rows: &[Row],
+    at: u32,
+    most: usize,
+) -> Result<(), RowFault>
+    ensures list { OnOk result (Gathers most (up_pairs at rows.now up.now) (rows_of list.old.keys) (rows_of list.new.keys)) }
+    ensures fits { OnOk result (UpFits at rows.now up.now) }
+    ensures wide { IfErr result (λ fault. fault ≡ IsTooWide → ¬ (UpFits at rows.now up.now)) }
+{
+    if up.coefficient(at) > 0 {
+        gather_pairs(alloc, list, up, rows, at, most)?;
+    }
+    Ok(())
+}
+
+fn gather_ups(
+    alloc: Global,
+    list: &mut IndexSet<Vec<(u32, i128)>>,
+    rows: &[Row],
+    at: u32,
+    most: usize,
+) -> Result<(), RowFault>
+    ensures list { OnOk result (Gathers most (flat_map (up_pairs at rows.now) rows.now) (rows_of list.old.keys) (rows_of list.new.keys)) }
+    ensures fits { OnOk result (Each (UpFits at rows.now) rows.now) }
+    ensures wide { IfErr result (λ fault. fault ≡ IsTooWide → ¬ (Each (UpFits at rows.now) rows.now)) }
+{
+    for up in rows {
+        gather_up(alloc, list, up, rows, at, most)?;
+    }
+    Ok(())
+}
+
+/// The list of rows after the rate at a coordinate, as far as it has at most `most` rows.
+pub fn next_list(
+    alloc: Global,
+    rows: &[Row],
+    at: u32,
+    most: usize,
+) -> Result<IndexSet<Vec<(u32, i128)>>, RowFault>
+    ensures list { IfOk result (λ s. IsKept most (next_list at rows.now) (rows_of s.keys)) }
+    ensures fits { OnOk result (PairsFit at rows.now) }
+    ensures wide { IfErr result (λ fault. fault ≡ IsTooWide → ¬ (PairsFit at rows.now)) }
+{
+    let mut list = IndexSet::new(alloc);
+    gather_flats(alloc, &mut list, rows, at, most)?;
+    gather_ups(alloc, &mut list, rows, at, most)?;
+    Ok(list)
+}
