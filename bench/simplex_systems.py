@@ -4,8 +4,9 @@
 Each system is a list of columns and a target over the coordinates 1 to m, and a budget of steps. The run is made as a textbook
 has it (first phase of the simplex method, Bland's rule), over dense rows of `fractions.Fraction`, and stops before a step of which
 a number passes 2^127 - 1: the ratios of the entering column, then for each other row its quotient, its products and differences,
-and the quotients of the row that leaves. `python3 bench/simplex_systems.py` prints the table as Rust, as it stands in
-crates/it_simplex/src/tests.rt.
+and the quotients of the row that leaves. `python3 bench/simplex_systems.py` prints the tables as Rust, as they stand in
+crates/it_simplex/src/tests.rt: the systems, how many of them are answered on whole numbers alone, and the systems in which that
+run stops half-way, with the steps that it makes.
 """
 import random
 from fractions import Fraction
@@ -134,6 +135,79 @@ def systems():
         yield matrix, target, 1000
 
 
+class Lost(Exception):
+    pass
+
+
+def reduced(row, bottom):
+    shared = gcd(bottom, *row)
+    return [x // shared for x in row], bottom // shared
+
+
+def whole_steps(columns, target, budget):
+    """The steps that the run on whole numbers makes before a number is too large; None where it comes to its end."""
+    m, n = len(target), len(columns)
+    signs = [1 if t >= 0 else -1 for t in target]
+    terms = [[(k, signs[k] * c[k]) for k in range(m) if c[k] != 0] for c in columns]
+    norm = max([1] + [sum(abs(x) for _, x in column) for column in terms])
+    if norm >= 2**63:
+        return 0
+    limit = (2**63 - 1) // norm
+    rows = [[1 if i == k else 0 for i in range(m)] + [signs[k] * target[k]] for k in range(m)]
+    rows.append([-sum(row[j] for row in rows) for j in range(m + 1)])
+    bottoms = [1] * (m + 1)
+    basis = [n + k for k in range(m)]
+    if any(abs(x) > limit for row in rows for x in row):
+        return 0
+
+    def price(j, row):
+        return sum(x * row[k] for k, x in terms[j])
+
+    for k in range(budget):
+        if rows[m][m] == 0:
+            return None
+        entering = next((j for j in range(n) if price(j, rows[m]) < 0), None)
+        if entering is None:
+            return None
+        entries = [price(entering, row) for row in rows]
+        leaving = min((i for i in range(m) if entries[i] > 0), key=lambda i: (Fraction(rows[i][m], entries[i]), basis[i]))
+        own, pivot = reduced(rows[leaving], entries[leaving])
+        for i in range(m + 1):
+            if i != leaving and entries[i] != 0:
+                shared = gcd(pivot, entries[i])
+                a, b = pivot // shared, entries[i] // shared
+                rows[i] = [x * a - y * b for x, y in zip(rows[i], own)]
+                bottoms[i] *= a
+                if bottoms[i] >= 2**63 or any(abs(x) > limit for x in rows[i]):
+                    return k
+                if bottoms[i] > 2**16:
+                    rows[i], bottoms[i] = reduced(rows[i], bottoms[i])
+        rows[leaving], bottoms[leaving] = own, pivot
+        basis[leaving] = entering
+    return None
+
+
+def takeovers():
+    """Systems whose run on whole numbers stops half-way: one for each end, the last steps of Width and Pivots after the first."""
+    draw = random.Random(1977)
+    wanted = ["Weights", "Point", "Width", "Pivots"]
+    while wanted:
+        rows, columns, bits = draw.choice([(3, 5, 14), (3, 5, 24), (4, 6, 16), (4, 7, 22)])
+        matrix = [[draw.randint(-(2**bits), 2**bits) for _ in range(rows)] for _ in range(columns)]
+        target = [draw.randint(-(2**bits), 2**bits) for _ in range(rows)]
+        budget = 1000
+        lost = whole_steps(matrix, target, budget)
+        kind, value, steps = solve(matrix, target, budget)
+        if lost is None or lost == 0:
+            continue
+        if wanted[0] == "Pivots" and steps > lost + 1:
+            budget = steps - 1
+            kind = "Pivots"
+        if kind == wanted[0] and steps > lost:
+            yield matrix, target, budget, lost
+            wanted.pop(0)
+
+
 def rust(outcome):
     kind, value, _ = outcome
     if kind == "Weights":
@@ -143,10 +217,22 @@ def rust(outcome):
     return f"{kind}({value})"
 
 
+def printed(columns, target, budget):
+    outcome = solve(columns, target, budget)
+    checked(columns, target, outcome)
+    body = ", ".join("&" + str(column) for column in columns)
+    return f"System {{ columns: &[{body}], target: &{target}, budget: {budget}, steps: {outcome[2]}, end: End::{rust(outcome)} }}"
+
+
 if __name__ == "__main__":
-    for columns, target, budget in systems():
-        outcome = solve(columns, target, budget)
-        checked(columns, target, outcome)
-        body = ", ".join("&" + str(column) for column in columns)
-        steps = outcome[2]
-        print(f"    System {{ columns: &[{body}], target: &{target}, budget: {budget}, steps: {steps}, end: {rust(outcome)} }},")
+    table = list(systems())
+    print(f"const SYSTEMS: [System; {len(table)}] = [")
+    for columns, target, budget in table:
+        print(f"    {printed(columns, target, budget)},")
+    print("];")
+    whole = [system for system in table if whole_steps(*system) is None and solve(*system)[:2] != ("Width", 0)]
+    print(f"const WHOLE: u32 = {len(whole)};")
+    print("const TAKEOVERS: [Takeover; 4] = [")
+    for columns, target, budget, lost in takeovers():
+        print(f"    Takeover {{ lost: {lost}, system: {printed(columns, target, budget)} }},")
+    print("];")

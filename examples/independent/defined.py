@@ -1,0 +1,342 @@
+"""The run of `prove` as it is defined, in numbers that refuse what passes 2**127 - 1, and the line that it gives.
+
+The simplex method with Bland's rule on the columns over closed sets; the weights are then lifted to all sets.
+"""
+
+from math import gcd
+
+TOP = 2**127 - 1
+
+
+class Wide(Exception):
+    """A number passes 2**127 - 1."""
+
+
+def fit(number):
+    if abs(number) > TOP:
+        raise Wide
+    return number
+
+
+def lowest(num, den):
+    g = gcd(num, den)
+    return (num // g, den // g) if den > 0 else (-num // g, -den // g)
+
+
+def multiply(a, b):
+    if a[1] == b[1] == 1:
+        return fit(a[0] * b[0]), 1
+    num, den = lowest(a[0] * b[0], a[1] * b[1])
+    return fit(num), fit(den)
+
+
+def divide(a, b):
+    return multiply(a, (b[1], b[0]) if b[0] > 0 else (-b[1], -b[0]))
+
+
+def subtract(a, b):
+    """Knuth, The Art of Computer Programming, volume 2, 4.5.1: each number on the way counts."""
+    if a[1] == b[1] == 1:
+        return fit(a[0] - b[0]), 1
+    g = gcd(a[1], b[1])
+    t = fit(fit(a[0] * (b[1] // g)) - fit(b[0] * (a[1] // g)))
+    g2 = gcd(t, g)
+    return t // g2, fit((a[1] // g) * (b[1] // g2))
+
+
+# Closures
+
+class Dependence:
+    """Of a given equation h(to) - h(at) = 0, or its negation, with `at` strictly inside `to`."""
+
+    def __init__(self, at, to, generator, turned):
+        self.at, self.to, self.generator, self.turned = at, to, generator, turned
+
+
+def dependences(question, first):
+    """Those of a question, in order of generators; the number of the first constraint is `first`."""
+    found = []
+    for number, constraint in enumerate(question.constraints, first):
+        row = constraint.row
+        if not (constraint.given and constraint.equation) or sorted(row.values()) not in ([-1, 1], [1], [-1]):
+            continue
+        plus = next((at for at, c in row.items() if c == 1), 0)
+        minus = next((at for at, c in row.items() if c == -1), 0)
+        if plus | minus == plus:
+            found.append(Dependence(minus, plus, number, False))
+        elif plus | minus == minus:
+            found.append(Dependence(plus, minus, number, True))
+    return found
+
+
+def close(found, a):
+    while True:
+        before = a
+        for d in found:
+            if d.at | a == a:
+                a |= d.to
+        if a == before:
+            return a
+
+
+# The run
+
+class Run:
+    def __init__(self, question, target, budget):
+        self.question, self.target, self.budget = question, target, budget
+        self.n = len(question.names)
+        self.generators = question.generators()
+        self.dependences = dependences(question, len(self.generators) - len(question.constraints))
+        self.closures = [close(self.dependences, a) for a in range(2**self.n)]
+        self.steps = 0
+
+    def place(self, at):
+        if at >= 2**self.n:
+            return at
+        return 0 if self.closures[at] == self.closures[0] else self.closures[at]
+
+    def collapse(self, row):
+        new = {}
+        for at in sorted(row):
+            if self.place(at):
+                new[self.place(at)] = fit(new.get(self.place(at), 0) + row[at])
+        return {at: c for at, c in new.items() if c}
+
+    def table(self):
+        rates = range(2**self.n, self.question.size() + 1)
+        self.places = [a for a in range(1, 2**self.n) if self.closures[a] == a and a != self.closures[0]] + list(rates)
+        columns, self.column_of = [], []
+        for number, generator in enumerate(self.generators):
+            row = self.collapse(generator.row)
+            columns.append(row)
+            self.column_of.append((number, 1))
+            if generator.equation:
+                columns.append({at: -c for at, c in row.items()})
+                self.column_of.append((number, -1))
+        self.columns = len(columns)
+        target = self.collapse(self.target)
+        self.rows, self.right, self.sign = [], [], []
+        by_place = {at: {} for at in self.places}
+        for j, column in enumerate(columns):
+            for at, c in column.items():
+                by_place[at][j] = (c, 1)
+        for i, at in enumerate(self.places):
+            sign = -1 if target.get(at, 0) < 0 else 1
+            row = {j: (sign * v[0], 1) for j, v in by_place[at].items()}
+            row[self.columns + i] = (1, 1)
+            self.rows.append(row)
+            self.right.append((sign * target.get(at, 0), 1))
+            self.sign.append(sign)
+        self.basic = [self.columns + i for i in range(len(self.places))]
+        self.cost, total = {}, 0
+        for row, right in zip(self.rows, self.right):
+            for j, v in row.items():
+                self.cost[j] = (fit(self.cost.get(j, (0, 1))[0] - v[0]), 1)
+            total = fit(total - right[0])
+        self.cost = {j: v for j, v in self.cost.items() if v[0]}
+        self.cost_right = (total, 1)
+
+    def step(self, c):
+        best = None
+        for i, row in enumerate(self.rows):
+            if row.get(c, (0, 1))[0] > 0:
+                ratio = divide(self.right[i], row[c])
+                if best is None or ratio[0] * best[0][1] < best[0][0] * ratio[1] or ratio == best[0] and self.basic[i] < best[1]:
+                    best = ratio, self.basic[i], i
+        r = best[2]
+        leaving, right, p = self.rows[r], self.right[r], self.rows[r][c]
+
+        def reduced(row, value):
+            q = divide(row[c], p)
+            for j, v in leaving.items():
+                new = subtract(row.get(j, (0, 1)), multiply(v, q))
+                if new[0]:
+                    row[j] = new
+                else:
+                    row.pop(j, None)
+            return subtract(value, multiply(right, q)) if right[0] else value
+
+        for i, row in enumerate(self.rows):
+            if i != r and c in row:
+                self.right[i] = reduced(row, self.right[i])
+        self.cost_right = reduced(self.cost, self.cost_right)
+        self.rows[r] = {j: divide(v, p) for j, v in leaving.items()}
+        self.right[r] = divide(right, p)
+        self.basic[r] = c
+
+    def end(self):
+        """("weights", by column), ("point", by place), ("pivots", steps) or ("width", step)."""
+        try:
+            self.table()
+        except Wide:
+            return "width", 0
+        while True:
+            if self.cost_right[0] == 0:
+                return "weights", {j: self.right[i] for i, j in enumerate(self.basic) if j < self.columns and self.right[i][0]}
+            c = min((j for j, v in self.cost.items() if j < self.columns and v[0] < 0), default=None)
+            if c is None:
+                costs = [self.cost.get(self.columns + i, (0, 1)) for i in range(len(self.places))]
+                return "point", [(sign * v[0], v[1]) for sign, v in zip(self.sign, costs)]
+            if self.steps == self.budget:
+                return "pivots", self.steps
+            try:
+                self.step(c)
+            except Wide:
+                return "width", self.steps + 1
+            self.steps += 1
+
+    def answer(self):
+        """("yes", scale, weights), ("no", values by coordinate), ("undecided", cause)."""
+        end, found = self.end()
+        if end in ("pivots", "width"):
+            return "undecided", f"{end} {found}"
+        try:
+            if end == "weights":
+                scale, weights = self.certificate(found)
+                weights = self.lift(scale, weights)
+                self.check_sums(scale, weights)
+                return "yes", scale, weights
+            values = self.point(found)
+            self.check_values(values)
+            return "no", values
+        except Wide:
+            return "undecided", "scale"
+
+    # What stands at the end
+
+    def scale(self, numbers):
+        scale = 1
+        for _, den in numbers:
+            scale = fit(scale * (den // gcd(scale, den)))
+        return scale
+
+    def certificate(self, found):
+        scale = self.scale([found[j] for j in sorted(found)])
+        weights = {}
+        for j in sorted(found):
+            number, sign = self.column_of[j]
+            weight = fit(found[j][0] * (scale // found[j][1]))
+            weights[number] = weights.get(number, 0) + sign * weight
+        return scale, weights
+
+    def point(self, found):
+        scale = self.scale(found)
+        at_place = {at: fit(v[0] * (scale // v[1])) for at, v in zip(self.places, found)}
+        return {at: at_place.get(self.place(at), 0) for at in range(1, self.question.size() + 1)}
+
+    def check_sums(self, scale, weights):
+        for at in range(1, self.question.size() + 1):
+            fit(scale * self.target.get(at, 0))
+            total = 0
+            for number in sorted(weights):
+                if weights[number]:
+                    total = fit(total + fit(weights[number] * self.generators[number].row.get(at, 0)))
+
+    def check_values(self, values):
+        for row in [g.row for g in self.generators] + [self.target]:
+            total = 0
+            for at in sorted(row):
+                total = fit(total + fit(row[at] * values[at]))
+
+    # The lift
+
+    def index(self, name):
+        return next(i for i, g in enumerate(self.generators) if g.name == name)
+
+    def expand_conditional(self, a, k):
+        """Inequalities that sum to H(a|k)."""
+        listed, whole = [], 2**self.n - 1
+        for x in members(a):
+            listed.append(self.question.entropy_text(x, whole - x))
+            given = k
+            for y in members(whole - (whole & (k | x))):
+                listed.append(self.mutual(x, y, given))
+                given |= y
+            k |= x
+        return [self.index(name) for name in listed]
+
+    def expand_mutual(self, a, b, c):
+        """Inequalities that sum to I(a;b|c)."""
+        listed, before = [], c
+        for x in members(a):
+            given = before
+            for y in members(b):
+                listed.append(self.mutual(x, y, given))
+                given |= y
+            before |= x
+        return [self.index(name) for name in listed]
+
+    def mutual(self, x, y, given):
+        return self.question.mutual_text(min(x, y), max(x, y), given)
+
+    def excess(self, scale, weights):
+        e = {}
+        for s in range(1, 2**self.n):
+            e[s] = fit(scale * self.target.get(s, 0))
+            for number in sorted(weights):
+                e[s] = fit(e[s] - fit(weights[number] * self.generators[number].row.get(s, 0)))
+        e[0] = 0
+        for s in range(1, 2**self.n):
+            if self.closures[s] == self.closures[0]:
+                e[0] = fit(e[0] - e[s])
+        return e
+
+    def lift(self, scale, weights):
+        if not self.dependences:
+            return weights
+        e = self.excess(scale, weights)
+        lifted = dict(weights)
+
+        def add(numbers, amount):
+            for number in numbers:
+                lifted[number] = lifted.get(number, 0) + amount
+
+        for s in range(2**self.n):
+            if self.closures[s] == s:
+                continue
+            if e[s] < 0:
+                add(self.expand_conditional(self.closures[s] & ~s, s), -e[s])
+            elif e[s] > 0:
+                a = s
+                while self.closures[a] != a:
+                    d = next(d for d in self.dependences if d.at | a == a and d.to | a != a)
+                    add(self.expand_mutual(d.to & ~a, a & ~d.to, a & d.to), e[s])
+                    add(self.expand_conditional(a & d.to & ~d.at, d.at), e[s])
+                    add([d.generator], e[s] if d.turned else -e[s])
+                    a |= d.to
+        for weight in lifted.values():
+            fit(weight)
+        return lifted
+
+
+def members(a):
+    return [2**i for i in range(a.bit_length()) if a >> i & 1]
+
+
+# Lines
+
+def sum_text(question, scale, weights):
+    names = [g.name for g in question.generators()]
+    parts = [f"{weights[i]} {names[i]}" for i in sorted(weights) if weights[i]]
+    return f"{scale} : {' + '.join(parts) or '0'}"
+
+
+def values_text(question, values):
+    n = len(question.names)
+    sets = [f"h({question.set_text(s)})={values[s]}" for s in range(1, 2**n)]
+    return " ".join(sets + [f"{name}={values[2**n + r]}" for r, name in enumerate(question.rates)])
+
+
+def line(number, question, budget=20000):
+    """The line of a question's answer, and the steps of its runs."""
+    proofs, steps = [], 0
+    for target in question.targets:
+        run = Run(question, target, budget)
+        answer = run.answer()
+        steps += run.steps
+        if answer[0] == "no":
+            return f"{number} no {values_text(question, answer[1])}", steps
+        if answer[0] == "undecided":
+            return f"{number} undecided {answer[1]}", steps
+        proofs.append(sum_text(question, answer[1], answer[2]))
+    return f"{number} yes {' and '.join(proofs)}", steps
