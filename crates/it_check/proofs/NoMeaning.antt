@@ -12,7 +12,8 @@ use Rattle.it_space.specs.Problems.{Meets, AreMet, IsMet}
 use Rattle.it_space.specs.Rows.{Terms, ValueFits, value}
 use Rattle.it_polymatroid.specs.Polymatroid.{IsPolymatroid}
 use Rattle.it_polymatroid.specs.Elementals.{elementals, worth}
-use Rattle.it_polymatroid.proofs.Every.{Every, every_of, all_of, every-append, every_front, every_back, every-map, every_mapped, every-same}
+use Rattle.std.specs.List.{AllByRecursion as Every}
+use Rattle.it_space.proofs.EveryLemmas.{every_of, all_of, every-append, every_front, every_back, every-map, every_mapped, every-same}
 use Rattle.it_polymatroid.proofs.Generate.{elementals_generate}
 use Rattle.it_elemental.specs.Rows.{elemental_row}
 use Rattle.it_elemental.proofs.RowLemmas.{value-row}
@@ -22,21 +23,7 @@ use Rattle.it_check.specs.Verdicts.{or_else, valid_unless, violates, violation, 
 use Rattle.it_check.specs.declared.verdicts.Verdict.{Verdict}
 use Rattle.it_check.specs.declared.verdicts.Verdict.TheVariants.{Valid, BrokenElemental, UnmetConstraint, NotViolated}
 use Rattle.it_check.proofs.SumLemmas.{sum_told, sum_fits}
-use Rattle.it_check.proofs.YesMeaning.{first_part, last_part}
-
-clean_or : (a b : Option Verdict) → (a ≡ Some Valid → ⊥) → (b ≡ Some Valid → ⊥) → or_else a b ≡ Some Valid → ⊥
-clean_or (Some v) b f g e = f e
-clean_or None b f g e = g e
-
-none_both : (a b : Option Verdict) → or_else a b ≡ None → (a ≡ None) × (b ≡ None)
-none_both (Some v) b e = absurd (cc)
-none_both None b e = (refl, e)
-
-least : (x : ℤ) → lt_z x (pos 0) ≡ false → pos 0 ≤ℤ x
-least x e = grind (arith, ints)
-
-not_below : (x : ℤ) → pos 0 ≤ℤ x → lt_z x (pos 0) ≡ false
-not_below x e = grind (arith, ints)
+use Rattle.it_check.proofs.FindingLemmas.{first_part, last_part, clean_or, none_both, least, not_below}
 
 plain : (x : ℤ) → pos 0 +ℤ x ≡ x
 plain x = omega (arith, ints)

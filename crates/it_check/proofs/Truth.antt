@@ -1,17 +1,16 @@
 -- What valid certificates and counterexamples say of the problem.
-use Rattle.std.proofs.Common.{◌≡◌, ℕ, ◌+◌, ◌≤◌, ℤ, pos, ◌*ℤ◌, ◌≤ℤ◌, List, [], ◌∷◌, length, true, All, refl, arith}
+use Rattle.std.proofs.Common.{◌≡◌, ◌+◌, ◌≤◌, ℤ, pos, ◌≤ℤ◌, List, [], ◌∷◌, length, true, All, refl, arith}
 use Rattle.std.proofs.lemmas.Int.{ints}
-use Rattle.std.proofs.lemmas.List.Elements.{All-head, All-tail}
 use Rattle.it_space.specs.declared.problems.Kind.{Kind}
 use Rattle.it_space.specs.declared.problems.Kind.TheVariants.{Inequality, Equation}
 use Rattle.it_space.specs.Problems.{Meets}
-use Rattle.it_space.specs.Rows.{Terms, IsUpTo, ValueFits, map_of, value}
+use Rattle.it_space.specs.Rows.{IsUpTo, ValueFits, map_of, value}
 use Rattle.it_space.specs.Spaces.{size_of}
-use Rattle.it_polymatroid.specs.Certificates.{IsLinear}
 use Rattle.it_polymatroid.specs.Elementals.{elementals}
 use Rattle.it_polymatroid.proofs.Certified.{certificates_prove}
-use Rattle.it_polymatroid.proofs.Every.{Every, every_of, all_of, every-same}
-use Rattle.it_polymatroid.proofs.Forms.{linear_zero, linear_at, linear-add, linear-scale}
+use Rattle.std.specs.List.{AllByRecursion as Every}
+use Rattle.it_space.proofs.EveryLemmas.{every_of, all_of, every-same}
+use Rattle.it_polymatroid.proofs.Forms.{value_linear}
 use Rattle.it_elemental.proofs.GeneratorLemmas.{rows_of_space}
 use Rattle.it_elemental.specs.Generators.{Generator, generators, generator_at, forms_of, is_equation}
 use Rattle.it_check.specs.Meaning.{ValidYes, ValidNo, YesIsTrue}
@@ -42,13 +41,6 @@ valid_no_is q target values k u e = (
 
 -- ---- a certified target is at least 0
 
-pub row_linear : (size : ℕ) (row : Terms) → IsUpTo size row → IsLinear (size + 1) (value row)
-row_linear size [] u = linear_zero (size + 1)
-row_linear size (t ∷ ts) u =
-    let here : (1 ≤ t.0) × (t.0 ≤ size) = All-head (λ (t : ℕ × ℤ). (1 ≤ t.0) × (t.0 ≤ size)) t ts u in
-    linear-add (size + 1) (λ p. t.1 *ℤ p t.0) (value ts) (linear-scale (size + 1) t.1 (λ p. p t.0) (linear_at (size + 1) t.0 (omega arith)))
-    (row_linear size ts (All-tail (λ (t : ℕ × ℤ). (1 ≤ t.0) × (t.0 ≤ size)) t ts u))
-
 at_least : (k : Kind) (x : ℤ) → Meets k x → pos 0 ≤ℤ x
 at_least Inequality x h = h
 at_least Equation x h = omega (arith, ints, h)
@@ -64,6 +56,6 @@ yes_is_true q target w k u c p h m =
     let none : Generator = record { kind = Inequality; row = [] } in
     let rows : All (λ g. IsUpTo size g.row) gs = all_of (λ g. IsUpTo size g.row) gs (rows_of_space q.space.variables size q.constraints (omega arith) k.rows) in
     let met : All (λ g. Meets g.kind (value g.row p)) gs = all_of (λ g. Meets g.kind (value g.row p)) gs (met_listed q.space.variables q.constraints p h.empty h m) in
-    certificates_prove (size + 1) (forms_of gs) (value target) w (λ i l. row_linear size (generator_at gs i).row (rows i none l)) (row_linear size target u) c p h.empty
+    certificates_prove (size + 1) (forms_of gs) (value target) w (λ i l. value_linear size (generator_at gs i).row (rows i none l)) (value_linear size target u) c p h.empty
     (λ i l. at_least (generator_at gs i).kind (value (generator_at gs i).row p) (met i none l))
     (λ i l e. is_zero (generator_at gs i).kind (value (generator_at gs i).row p) (met i none l) e)

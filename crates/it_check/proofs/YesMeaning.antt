@@ -7,34 +7,18 @@ use Rattle.std.proofs.lemmas.Int.{ints}
 use Rattle.std.proofs.lemmas.Bool.Decides.{Decides-ltb, Decides-int_eq}
 use Rattle.it_number.specs.Limit.{IsWithin}
 use Rattle.it_space.specs.Answers.{CertificateView}
-use Rattle.it_space.specs.Rows.{Terms, ValueFits, coefficient, value}
-use Rattle.it_polymatroid.specs.Certificates.{IsAllowed, IsCertificate, combination, one_at}
-use Rattle.it_polymatroid.proofs.Every.{Every, every_of, all_of}
-use Rattle.it_elemental.proofs.RowLemmas.{value-one_at}
+use Rattle.it_space.specs.Rows.{Terms, ValueFits, coefficient, value, one_at}
+use Rattle.it_polymatroid.specs.Certificates.{IsAllowed, IsCertificate, combination}
+use Rattle.std.specs.List.{AllByRecursion as Every}
+use Rattle.it_space.proofs.EveryLemmas.{every_of, all_of}
+use Rattle.it_space.proofs.TermLemmas.{value-one_at}
 use Rattle.it_elemental.specs.Generators.{Generator, generator_at, forms_of, is_equation}
 use Rattle.it_check.specs.Sums.{product_within, sum_within}
 use Rattle.it_check.specs.Verdicts.{column, or_else, valid_unless, of_scale, of_weight, of_weights, of_numbers, of_coordinate, of_coordinates, yes_verdict}
 use Rattle.it_check.specs.declared.verdicts.Verdict.{Verdict}
 use Rattle.it_check.specs.declared.verdicts.Verdict.TheVariants.{Valid, BadScale, UnknownGenerator, NegativeWeight, Mismatch}
 use Rattle.it_check.proofs.SumLemmas.{product_told, product_fits, sum_told, sum_fits}
-
--- ---- findings in order
-
-pub first_part : (o rest : Option Verdict) → (o ≡ Some Valid → ⊥) → valid_unless (or_else o rest) ≡ Valid → (o ≡ None) × (valid_unless rest ≡ Valid)
-first_part (Some v) rest n e = absurd (n (ap Some e))
-first_part None rest n e = (refl, e)
-
-pub last_part : (o : Option Verdict) → (o ≡ Some Valid → ⊥) → valid_unless o ≡ Valid → o ≡ None
-last_part (Some v) n e = absurd (n (ap Some e))
-last_part None n e = refl
-
-clean_or : (a b : Option Verdict) → (a ≡ Some Valid → ⊥) → (b ≡ Some Valid → ⊥) → or_else a b ≡ Some Valid → ⊥
-clean_or (Some v) b f g e = f e
-clean_or None b f g e = g e
-
-none_both : (a b : Option Verdict) → or_else a b ≡ None → (a ≡ None) × (b ≡ None)
-none_both (Some v) b e = absurd (cc)
-none_both None b e = (refl, e)
+use Rattle.it_check.proofs.FindingLemmas.{first_part, last_part, clean_or, none_both, least, not_below}
 
 -- ---- the scale
 
@@ -62,12 +46,6 @@ none_scale : (s : ℤ) → pos 1 ≤ℤ s → of_scale s ≡ None
 none_scale s h = ap (λ b. cond b (Some (BadScale s)) None) (from_one s h)
 
 -- ---- weights
-
-least : (x : ℤ) → lt_z x (pos 0) ≡ false → pos 0 ≤ℤ x
-least x e = grind (arith, ints)
-
-not_below : (x : ℤ) → pos 0 ≤ℤ x → lt_z x (pos 0) ≡ false
-not_below x e = grind (arith, ints)
 
 module _ (gs : List Generator) where
   abbrev tested : ℕ × ℤ → Bool → Bool → Bool → Option Verdict

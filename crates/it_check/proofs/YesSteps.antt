@@ -10,7 +10,8 @@ use Rattle.it_fraction.specs.declared.fraction.Wide.{Wide}
 use Rattle.it_number.specs.Limit.{IsWithin}
 use Rattle.it_space.specs.Answers.{CertificateView}
 use Rattle.it_space.specs.Rows.{Terms, ValueFits, coefficient, value}
-use Rattle.it_polymatroid.proofs.Every.{Every, all_of}
+use Rattle.std.specs.List.{AllByRecursion as Every}
+use Rattle.it_space.proofs.EveryLemmas.{all_of}
 use Rattle.it_elemental.specs.Generators.{Generator, generator_at, is_equation}
 use Rattle.it_check.specs.Sums.{sum_within}
 use Rattle.it_check.specs.Verdicts.{column, or_else, valid_unless, of_scale, of_weight, of_weights, of_numbers, of_coordinate, of_coordinates, yes_verdict}

@@ -13,6 +13,7 @@ use crate::verdicts::Verdict;
 use it_elemental::{count, generator_count, kind_at};
 use it_space::{Kind, Point, Problem, Row, value};
 
+/// Whether a value is not as the kind says.
 fn violates(kind: Kind, value: i128) -> bool
     ensures { result ≡ violates kind value }
 {
@@ -22,6 +23,7 @@ fn violates(kind: Kind, value: i128) -> bool
     }
 }
 
+/// The finding of a generator that the point violates, by its number.
 fn violation(problem: &Problem, index: u32, value: i128) -> Verdict
     requires { IsProblem (problem_view problem.now) }
     ensures { result ≡ violation (length (elementals problem.now.space.variables)) index value }

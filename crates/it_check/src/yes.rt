@@ -13,6 +13,7 @@ use it_elemental::{coefficient_at, generator_count, is_equation};
 use it_fraction::{Wide, signed_product};
 use it_space::{Certificate, Problem, Row, with_product};
 
+/// What is wrong with the scale, None if nothing.
 fn of_scale(certificate: &Certificate) -> Option<Verdict>
     ensures { result ≡ of_scale certificate.now.scale }
 {

@@ -8,9 +8,10 @@ use Rattle.it_closure.specs.Closures.{is_open, closure, IsClosureOf, first_open}
 use Rattle.std.proofs.Math.Pow.{pow_mono}
 use Rattle.it_closure.specs.DependencesViews.{DependencesView, AreOfSpace}
 use Rattle.it_closure.specs.Collapse.{AreDependences}
-use Rattle.it_closure.proofs.Insides.{inside-refl, inside-trans, inside-antisym, or_inside, inside_left, inside_meet, meet_left, inside_all, grows}
+use Rattle.it_closure.proofs.Insides.{inside-refl, inside-trans, inside-antisym, or_inside, inside_left, inside_all, grows}
 use Rattle.it_closure.proofs.Meets.{closure_is, closure_told}
 use Rattle.it_closure.proofs.Ways.{IsOpenOf, open_where, closed_where}
+use Rattle.it_polymatroid.proofs.Images.{inside_meet, meet_left}
 
 -- one dependence further
 pub next_is : (ds : List Dependence) (i : ℕ) (d : Dependence) (a : ℕ) (b : Bool) → i < length ds → d ≡ get_or ds i d → is_open d a ≡ b

@@ -1,5 +1,5 @@
 -- Sets inside each other, digit by digit.
-use Rattle.std.proofs.Common.{◌≡◌, ◌⊎◌, inl, inr, ℕ, ◌-◌, ◌^◌, ◌<◌, ◌≤◌, bit_and, bit_or, ap, subst, ◌∙◌, arith}
+use Rattle.std.proofs.Common.{◌≡◌, ◌⊎◌, inl, inr, ℕ, ◌-◌, ◌^◌, ◌<◌, ◌≤◌, bit_and, bit_or, ap, subst, ◌∙◌, arith, Bool, true, false, ◌&&◌, refl}
 use Rattle.std.proofs.lemmas.Bool.{cases_lt}
 use Rattle.std.proofs.lemmas.Nat.{and_le_r, le_or_l, and_mask}
 use Rattle.std.proofs.lemmas.Nat.Bits.{bit_at_and, bit_at_or, same_from_bits}
@@ -31,15 +31,6 @@ inside_right s t = inside_by t (bit_or s t) (λ i. omega (arith, bit_at_or s t i
 pub or_inside : (s t u : ℕ) → IsInside s u → IsInside t u → IsInside (bit_or s t) u
 or_inside s t u h k = inside_by (bit_or s t) u (λ i. omega (arith, bit_at_or s t i, at_most_at s u h i, at_most_at t u k i))
 
-pub meet_left : (s t : ℕ) → IsInside (bit_and s t) s
-meet_left s t = inside_by (bit_and s t) s (λ i. omega (arith, bit_at_and s t i))
-
-pub meet_right : (s t : ℕ) → IsInside (bit_and s t) t
-meet_right s t = inside_by (bit_and s t) t (λ i. omega (arith, bit_at_and s t i))
-
-pub inside_meet : (u s t : ℕ) → IsInside u s → IsInside u t → IsInside u (bit_and s t)
-inside_meet u s t h k = inside_by u (bit_and s t) (λ i. omega (arith, bit_at_and s t i, at_most_at u s h i, at_most_at u t k i))
-
 -- a set of the n variables is inside the set of all of them
 pub inside_all : (n s : ℕ) → s < 2 ^ n → IsInside s (2 ^ n - 1)
 inside_all n s h = and_mask s n ∙ mod-eq_of_lt h
@@ -55,3 +46,9 @@ grows a t n = by_cases (cases_lt a (bit_or a t))
     by_cases : (a < bit_or a t) ⊎ (bit_or a t ≤ a) → a < bit_or a t
     by_cases (inl h) = h
     by_cases (inr h) = let e : bit_or a t ≡ a = omega (arith, le_or_l a t) in absurd (n (subst (IsInside t) e (inside_right a t)))
+
+-- two tests that are both true
+pub both_true : (x y : Bool) → (x && y) ≡ true → (x ≡ true) × (y ≡ true)
+both_true true true e = (refl, refl)
+both_true true false e = absurd (cc)
+both_true false y e = absurd (cc)

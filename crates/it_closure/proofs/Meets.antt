@@ -1,14 +1,15 @@
 -- The closure as a meet is the least closed set that holds the set.
 use Rattle.std.proofs.Common.{◌≡◌, ℕ, zero, suc, ◌+◌, ◌-◌, ◌^◌, ◌<◌, ◌≤◌, ◌⊎◌, inl, inr, List, [], ◌∷◌, Bool, true, false, ◌&&◌, not, cond, bit_and, refl, sym, ap, ap₂, subst, ◌∙◌, arith, All, eq-eqb}
-use Rattle.std.specs.List.{filter}
+use Rattle.std.specs.List.{filter, AllByRecursion as Every}
 use Rattle.std.proofs.lemmas.Bool.{eqb-true}
 use Rattle.std.proofs.lemmas.Nat.{pow_pos}
 use Rattle.it_space.specs.Sets.{IsInside}
 use Rattle.it_polymatroid.specs.Elementals.{span}
-use Rattle.it_polymatroid.proofs.Every.{Every, every_of, all_of, every-filter, every-same}
+use Rattle.it_space.proofs.EveryLemmas.{every_of, all_of, every-filter, every-same, every_all}
 use Rattle.it_closure.specs.declared.dependences.Dependence.{Dependence}
 use Rattle.it_closure.specs.Closures.{IsClosed, is_inside, is_open, is_closed, meet_all, closure, IsClosureOf}
-use Rattle.it_closure.proofs.Insides.{inside-refl, inside-trans, inside-antisym, inside_meet, meet_left, meet_right, inside_all, inside_le}
+use Rattle.it_closure.proofs.Insides.{inside-refl, inside-trans, inside-antisym, inside_all, inside_le, both_true}
+use Rattle.it_polymatroid.proofs.Images.{inside_meet, meet_left, meet_right}
 
 -- a set keeps a dependence
 abbrev pub Keeps : ℕ → Dependence → Type 0
@@ -111,26 +112,11 @@ meet_in w p from (suc count) a h k e = by_test (p from) refl (same_or_more from 
     by_test false f (inl s) ih = absurd (apart (sym f ∙ ap p s ∙ e))
     by_test false f (inr l) ih = subst (λ (b : Bool). IsInside (meet_all w (cond b (from ∷ filter p (span (from + 1) count)) (filter p (span (from + 1) count)))) a) (sym f) (ih l)
 
-both : (x y : Bool) → (x && y) ≡ true → (x ≡ true) × (y ≡ true)
-both true true e = (refl, refl)
-both true false e = absurd (apart e)
-  where
-    apart : false ≡ true → ⊥
-    apart e = cc
-both false y e = absurd (apart e)
-  where
-    apart : false ≡ true → ⊥
-    apart e = cc
-
-every_any : {X : Type 0} (P : X → Type 0) (xs : List X) → ((x : X) → P x) → Every P xs
-every_any P [] f = tt
-every_any P (x ∷ xs) f = (f x, every_any P xs f)
-
 -- what holds of each closed set that holds s
 of_closed : (n : ℕ) (ds : List Dependence) (s : ℕ) (P : ℕ → Type 0) → ((a : ℕ) → IsInside s a → Every (Keeps a) ds → P a) → Every P (filter (λ a. is_inside s a && is_closed ds a) (span 0 (2 ^ n)))
 of_closed n ds s P f = every-filter P (λ a. is_inside s a && is_closed ds a) (span 0 (2 ^ n))
-    (every_any (λ a. (is_inside s a && is_closed ds a) ≡ true → P a) (span 0 (2 ^ n)) (λ a e.
-    let b = both (is_inside s a) (is_closed ds a) e in f a (tested s a b.0) (closed_by ds a b.1)))
+    (every_all (λ a. (is_inside s a && is_closed ds a) ≡ true → P a) (span 0 (2 ^ n)) (λ a e.
+    let b = both_true (is_inside s a) (is_closed ds a) e in f a (tested s a b.0) (closed_by ds a b.1)))
 
 -- one of the dependences that a set keeps
 each_kept : (ds : List Dependence) (w : ℕ) (bs : List ℕ) → Every (λ d. Keeps w d) ds → Every (λ a. Every (Keeps a) ds) bs → Every (Keeps (meet_all w bs)) ds

@@ -1,6 +1,5 @@
 -- A constraint is read as a dependence exactly where it is one.
 use Rattle.std.proofs.Common.{◌≡◌, ◌≢◌, ℕ, zero, suc, ◌^◌, ◌<◌, ◌≤◌, ℤ, pos, negsuc, [], ◌∷◌, ◌++◌, Option, Some, None, Bool, true, false, ◌&&◌, not, cond, nat_eq, nat_lt, refl, sym, ap, ap₂, subst, ◌∙◌, arith, eq-eqb, ne_eqb}
-use Rattle.std.proofs.lemmas.Bool.{eqb-true}
 use Rattle.std.proofs.lemmas.List.Elements.{All-head, All-tail}
 use Rattle.it_space.specs.declared.spaces.Space.{Space}
 use Rattle.it_space.specs.declared.problems.Kind.{Kind}
@@ -12,10 +11,10 @@ use Rattle.it_closure.specs.declared.reading.SetPair.{SetPair}
 use Rattle.it_closure.specs.Closures.{is_inside}
 use Rattle.it_closure.specs.DependencesViews.{IsDependenceOf}
 use Rattle.it_elemental.specs.Generators.{is_equation}
-use Rattle.it_elemental.specs.Rows.{term_at}
+use Rattle.it_elemental.specs.Rows.{set_term}
 use Rattle.it_closure.specs.Reading.{dependence_row, is_given, SaysDependence, is_one, is_minus_one, ends_of, are_ends, with_number, read_one}
 use Rattle.it_closure.specs.ReadLaws.{ReadsExactly}
-use Rattle.it_closure.proofs.Insides.{inside_le}
+use Rattle.it_closure.proofs.Insides.{inside_le, both_true}
 use Rattle.it_closure.proofs.Meets.{tested, test-true}
 
 apart : false ≡ true → ⊥
@@ -35,12 +34,7 @@ minus_one_is (pos a) e = absurd (apart e)
 minus_one_is (negsuc zero) e = refl
 minus_one_is (negsuc (suc a)) e = absurd (apart e)
 
-both : (x y : Bool) → (x && y) ≡ true → (x ≡ true) × (y ≡ true)
-both true true e = (refl, refl)
-both true false e = absurd (apart e)
-both false y e = absurd (apart e)
-
-term_is : (k : ℕ) (a : ℤ) → 1 ≤ k → (k, a) ∷ [] ≡ term_at k a
+term_is : (k : ℕ) (a : ℤ) → 1 ≤ k → (k, a) ∷ [] ≡ set_term k a
 term_is zero a h = absurd (omega arith)
 term_is (suc k) a h = refl
 
@@ -77,19 +71,19 @@ row_found (t ∷ v ∷ []) size e u q = first (is_minus_one t.1 && is_one v.1) r
     same : (f : SetPair) → Some f ≡ Some e → f ≡ e
     same f e = cc
 
-    rows : (a b : ℤ) → t.1 ≡ a → v.1 ≡ b → t ∷ v ∷ [] ≡ term_at t.0 a ++ term_at v.0 b
+    rows : (a b : ℤ) → t.1 ≡ a → v.1 ≡ b → t ∷ v ∷ [] ≡ set_term t.0 a ++ set_term v.0 b
     rows a b g h = ap₂ (λ x y. (t.0, x) ∷ (v.0, y) ∷ []) g h ∙ ap₂ (λ xs ys. xs ++ ys) (term_is t.0 a some) (term_is v.0 b some_v)
 
     second : (c : Bool) → (is_one t.1 && is_minus_one v.1) ≡ c → (is_minus_one t.1 && is_one v.1) ≡ false → t ∷ v ∷ [] ≡ dependence_row e.negated e.from e.to
     second true g h = subst (λ (f : SetPair). t ∷ v ∷ [] ≡ dependence_row f.negated f.from f.to)
         (same (record { from = t.0; to = v.0; negated = true }) (sym (ap₂ (λ x y. cond x (Some (record { from = t.0; to = v.0; negated = false })) (cond y (Some (record { from = t.0; to = v.0; negated = true })) None)) h g) ∙ q))
-        (rows (pos 1) (negsuc 0) (one_is t.1 (both (is_one t.1) (is_minus_one v.1) g).0) (minus_one_is v.1 (both (is_one t.1) (is_minus_one v.1) g).1))
+        (rows (pos 1) (negsuc 0) (one_is t.1 (both_true (is_one t.1) (is_minus_one v.1) g).0) (minus_one_is v.1 (both_true (is_one t.1) (is_minus_one v.1) g).1))
     second false g h = absurd (none_some e (sym (ap₂ (λ x y. cond x (Some (record { from = t.0; to = v.0; negated = false })) (cond y (Some (record { from = t.0; to = v.0; negated = true })) None)) h g) ∙ q))
 
     first : (b : Bool) → (is_minus_one t.1 && is_one v.1) ≡ b → t ∷ v ∷ [] ≡ dependence_row e.negated e.from e.to
     first true g = subst (λ (f : SetPair). t ∷ v ∷ [] ≡ dependence_row f.negated f.from f.to)
         (same (record { from = t.0; to = v.0; negated = false }) (sym (ap (λ x. cond x (Some (record { from = t.0; to = v.0; negated = false })) (cond (is_one t.1 && is_minus_one v.1) (Some (record { from = t.0; to = v.0; negated = true })) None)) g) ∙ q))
-        (rows (negsuc 0) (pos 1) (minus_one_is t.1 (both (is_minus_one t.1) (is_one v.1) g).0) (one_is v.1 (both (is_minus_one t.1) (is_one v.1) g).1))
+        (rows (negsuc 0) (pos 1) (minus_one_is t.1 (both_true (is_minus_one t.1) (is_one v.1) g).0) (one_is v.1 (both_true (is_minus_one t.1) (is_one v.1) g).1))
     first false g = second (is_one t.1 && is_minus_one v.1) refl g
 row_found (t ∷ v ∷ w ∷ ts) size e u q = absurd (none_some e q)
 
@@ -104,8 +98,8 @@ ends_back false (suc f) (suc t) h = refl
 -- the test of the sets
 ends_good : (s : Space) (e : SetPair) (g : ℕ) → are_ends s.variables e ≡ true → IsDependenceOf s (record { from = e.from; to = e.to; generator = g; negated = e.negated })
 ends_good s e g t =
-    let p = both (nat_lt e.to (2 ^ s.variables)) (is_inside e.from e.to && not (nat_eq e.from e.to)) t in
-    let q = both (is_inside e.from e.to) (not (nat_eq e.from e.to)) p.1 in
+    let p = both_true (nat_lt e.to (2 ^ s.variables)) (is_inside e.from e.to && not (nat_eq e.from e.to)) t in
+    let q = both_true (is_inside e.from e.to) (not (nat_eq e.from e.to)) p.1 in
     record {
       inside = tested e.from e.to q.0;
       more = λ same. apart (ap not (sym (eq-eqb e.from e.to same)) ∙ q.1);
@@ -139,8 +133,8 @@ found s size g c d u q = by_test (is_given c.origin && is_equation c.kind) refl
         inner true v = subst (λ (x : Dependence). SaysDependence s c x × (x.generator ≡ g))
             (same (record { from = e.from; to = e.to; generator = g; negated = e.negated }) d (sym (ap (λ b. cond b (Some (record { from = e.from; to = e.to; generator = g; negated = e.negated })) None) v) ∙ r)) (
               record {
-                given = (both (is_given c.origin) (is_equation c.kind) t).0;
-                equation = equation_is c.kind (both (is_given c.origin) (is_equation c.kind) t).1;
+                given = (both_true (is_given c.origin) (is_equation c.kind) t).0;
+                equation = equation_is c.kind (both_true (is_given c.origin) (is_equation c.kind) t).1;
                 row = row_found c.row size e u f;
                 sets = ends_good s e g v;
               },

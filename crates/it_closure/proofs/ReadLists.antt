@@ -6,7 +6,8 @@ use Rattle.it_space.specs.declared.problems.Constraint.{Constraint}
 use Rattle.it_space.specs.Problems.{ProblemView, IsProblem}
 use Rattle.it_space.specs.Rows.{IsUpTo}
 use Rattle.it_space.specs.Spaces.{size_of}
-use Rattle.it_polymatroid.proofs.Every.{Every, all_of, every-append}
+use Rattle.std.specs.List.{AllByRecursion as Every}
+use Rattle.it_space.proofs.EveryLemmas.{all_of, every-append}
 use Rattle.it_closure.specs.declared.dependences.Dependence.{Dependence}
 use Rattle.it_closure.specs.DependencesViews.{IsDependenceOf, AreOfSpace}
 use Rattle.it_closure.specs.Reading.{SaysDependence, read_one, one_if, read_from}

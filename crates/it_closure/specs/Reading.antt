@@ -9,7 +9,7 @@ use Rattle.it_space.specs.Problems.{ProblemView}
 use Rattle.it_space.specs.Rows.{Terms}
 use Rattle.it_polymatroid.specs.Elementals.{elementals}
 use Rattle.it_elemental.specs.Generators.{is_equation}
-use Rattle.it_elemental.specs.Rows.{term_at}
+use Rattle.it_elemental.specs.Rows.{set_term}
 use Rattle.it_closure.specs.declared.dependences.Dependence.{Dependence}
 use Rattle.it_closure.specs.declared.reading.SetPair.{SetPair}
 use Rattle.it_closure.specs.Closures.{is_inside}
@@ -17,7 +17,7 @@ use Rattle.it_closure.specs.DependencesViews.{IsDependenceOf}
 
 -- the row of a dependence
 abbrev pub dependence_row : Bool → ℕ → ℕ → Terms
-dependence_row negated from to = term_at from (if negated then pos 1 else negsuc 0) ++ term_at to (if negated then negsuc 0 else pos 1)
+dependence_row negated from to = set_term from (if negated then pos 1 else negsuc 0) ++ set_term to (if negated then negsuc 0 else pos 1)
 
 abbrev pub is_given : Origin → Bool
 is_given (Given line part parts) = true

@@ -10,7 +10,7 @@ use std::alloc::{AllocError, Global};
 
 impl Dependences {
     /// The coordinates over closed sets: the closed sets by number, without the closure of the empty set, then the rates.
-    pub fn closed(&self, alloc: Global, space: Space) -> Result<Vec<u32>, AllocError>
+    pub fn closed_coordinates(&self, alloc: Global, space: Space) -> Result<Vec<u32>, AllocError>
         requires { space ≡ self.now.space }
         ensures { IfOk result (λ v. v.items ≡ closed_coordinates space.variables space.rates self.now.list) }
     {
@@ -20,6 +20,7 @@ impl Dependences {
     }
 }
 
+/// The nonempty sets that have a coordinate of their own, in order.
 fn closed_sets(alloc: Global, dependences: &Dependences) -> Result<Vec<u32>, AllocError>
     ensures { IfOk result (λ v. v.items ≡ filter (has_row dependences.now.space.variables dependences.now.list) (span 1 (2 ^ dependences.now.space.variables - 1))) }
 {
@@ -47,6 +48,7 @@ fn has_row(dependences: &Dependences, set: VarSet) -> bool
     }
 }
 
+/// Puts an item behind the others, if it is wanted.
 fn push_if(list: &mut Vec<u32>, wanted: bool, item: u32) -> Result<(), AllocError>
     ensures { OnOk result (list.new.items ≡ list.old.items ++ cond wanted (item ∷ []) []) }
 {
@@ -56,6 +58,7 @@ fn push_if(list: &mut Vec<u32>, wanted: bool, item: u32) -> Result<(), AllocErro
     Ok(())
 }
 
+/// Puts the coordinates of the rates behind the others, in order.
 fn push_rates(list: &mut Vec<u32>, space: Space) -> Result<(), AllocError>
     requires { IsSpace space }
     ensures { OnOk result (list.new.items ≡ list.old.items ++ span (2 ^ space.variables) space.rates) }

@@ -54,6 +54,7 @@ impl Dependences {
         })
     }
 
+    /// The space of the problem that they were read from.
     pub fn space(&self) -> Space
         ensures value { result ≡ self.now.space }
         ensures shape { AreOfSpace self.now }
@@ -77,6 +78,7 @@ impl Dependences {
     }
 }
 
+/// The least set that holds this one and what its subsets determine.
 fn closed_under(list: &[Dependence], set: VarSet) -> VarSet
     requires below { All (λ d. d.to < 2 ^ 16) list.now }
     ensures { result ≡ closure 16 list.now set }

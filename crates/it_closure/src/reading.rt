@@ -50,6 +50,7 @@ fn read_one(n: u8, generator: u32, constraint: &Constraint) -> Option<Dependence
     None
 }
 
+/// Whether a constraint comes from a `given` line.
 fn is_given(origin: Origin) -> bool
     ensures { result ≡ is_given origin }
 {
@@ -59,6 +60,7 @@ fn is_given(origin: Origin) -> bool
     }
 }
 
+/// Whether a constraint is an equation.
 fn is_equation(kind: Kind) -> bool
     ensures { result ≡ is_equation kind }
 {
@@ -68,6 +70,7 @@ fn is_equation(kind: Kind) -> bool
     }
 }
 
+/// The dependence of two sets, with its generator's number, if they are sets of the variables and the first lies in the second.
 fn with_number(n: u8, generator: u32, ends: Option<SetPair>) -> Option<Dependence>
     requires few { n ≤ 10 }
     ensures { result ≡ with_number n generator ends }
@@ -105,6 +108,7 @@ fn are_ends(n: u8, ends: SetPair) -> bool
     }
 }
 
+/// The two sets that a row of one or two terms tells of, None for any other row.
 fn ends_of(terms: &[(u32, i128)]) -> Option<SetPair>
     ensures { result ≡ ends_of terms.now }
 {
@@ -147,12 +151,14 @@ fn ends_of(terms: &[(u32, i128)]) -> Option<SetPair>
     }
 }
 
+/// Whether the coefficient is 1.
 fn is_one(term: &(u32, i128)) -> bool
     ensures { result ≡ is_one term.now.1 }
 {
     if term.1 == 1 { true } else { false }
 }
 
+/// Whether the coefficient is -1.
 fn is_minus_one(term: &(u32, i128)) -> bool
     ensures { result ≡ is_minus_one term.now.1 }
 {

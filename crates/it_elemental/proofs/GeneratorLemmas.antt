@@ -10,7 +10,8 @@ use Rattle.it_space.proofs.CanonicalRows.{other_is}
 use Rattle.it_polymatroid.specs.Elementals.{Conditional, elementals, elemental_at}
 use Rattle.it_elemental.specs.Places.{pairs}
 use Rattle.it_elemental.proofs.PairLemmas.{length-pairs}
-use Rattle.it_polymatroid.proofs.Every.{Every, every_of, every-append, every-map}
+use Rattle.std.specs.List.{AllByRecursion as Every}
+use Rattle.it_space.proofs.EveryLemmas.{every_of, every-append, every-map}
 use Rattle.it_elemental.specs.Rows.{elemental_row}
 use Rattle.it_elemental.proofs.PlaceLemmas.{length-elementals, is_elemental}
 use Rattle.it_elemental.proofs.RowLemmas.{within-row}

@@ -3,12 +3,12 @@ use Rattle.std.proofs.Common.{◌≡◌, ℕ, zero, suc, ◌+◌, ◌-◌, ◌*�
 use Rattle.std.proofs.lemmas.Bool.{cases_lt}
 use Rattle.std.proofs.lemmas.Nat.{pow_pos, div-mul-add, mod-mul-add}
 use Rattle.it_polymatroid.specs.Elementals.{Elemental, Conditional, Mutual, elementals, elemental_at}
-use Rattle.it_polymatroid.proofs.Every.{all_of}
-use Rattle.it_elemental.specs.Places.{pairs, spread, gather}
+use Rattle.it_space.proofs.EveryLemmas.{all_of}
+use Rattle.it_elemental.specs.Places.{pairs, spread}
 use Rattle.it_elemental.specs.Views.{IsElemental}
 use Rattle.it_elemental.proofs.PairLemmas.{pairs_ascend, IsWalk, walk-start, walk-more, walk-end, IsCounted, counted-start, counted-more, counted-end}
 use Rattle.it_elemental.proofs.PlaceLemmas.{length-elementals, elemental_at-conditional, elemental_at-mutual, found_place, placed}
-use Rattle.it_elemental.specs.Indexes.{pairs_before, index_of, IndexesTold, ListedOnce}
+use Rattle.it_elemental.specs.Indexes.{pairs_before, index_of, IndexesTold, ListedOnce, gather}
 
 counted : (n i : ℕ) → i ≤ n → IsCounted n i (pairs_before n i)
 counted n zero h = counted-start n

@@ -1,13 +1,16 @@
 -- The number of an elemental inequality in the list, as a formula.
-use Rattle.std.specs.Prelude.{◌≡◌, ℕ, zero, suc, ◌+◌, ◌-◌, ◌*◌, ◌/◌, ◌^◌, ◌<◌, length}
+use Rattle.std.specs.Prelude.{◌≡◌, ℕ, zero, suc, ◌+◌, ◌-◌, ◌*◌, ◌/◌, ◌%◌, ◌^◌, ◌<◌, length}
 use Rattle.it_polymatroid.specs.Elementals.{Elemental, Conditional, Mutual, elementals, elemental_at}
-use Rattle.it_elemental.specs.Places.{gather}
 use Rattle.it_elemental.specs.Views.{IsElemental}
 
 -- how many pairs have a first variable before i
 abbrev pub pairs_before : ℕ → ℕ → ℕ
 pairs_before n zero = 0
 pairs_before n (suc i) = pairs_before n i + (n - (i + 1))
+
+-- the binary digits of k with the one at place j taken out
+abbrev pub gather : ℕ → ℕ → ℕ
+gather j k = (k / 2 ^ suc j) * 2 ^ j + k % 2 ^ j
 
 -- the number of H(Xi | all others), or of I(Xi;Xj | K), which is that of the pair times the number of sets, and then that of K with the digits of i and j taken out
 unfoldable pub index_of : ℕ → Elemental → ℕ

@@ -60,6 +60,7 @@ pub fn coefficient_at(problem: &Problem, index: u32, coordinate: u32) -> i128
     elemental_coefficient(n, index, coordinate)
 }
 
+/// The coefficient of an elemental inequality at any coordinate: 0 at rates.
 fn elemental_coefficient(n: u8, index: u32, coordinate: u32) -> i128
     requires some { 1 ≤ n }
     requires few { n ≤ 10 }

@@ -42,7 +42,7 @@ fn at_set(point: &Point, set: VarSet) -> i128
 }
 
 /// - a + b + c - d, from left to right.
-pub fn alternating(a: i128, b: i128, c: i128, d: i128) -> Result<i128, Wide>
+pub fn alternating_sum(a: i128, b: i128, c: i128, d: i128) -> Result<i128, Wide>
     ensures { OkIff result (AlternatingFits a b c d) (((b -ℤ a) +ℤ c) -ℤ d) }
 {
     let three = sum(difference(b, a)?, c)?;
@@ -69,7 +69,7 @@ fn mutual(point: &Point, n: u8, left: u8, right: u8, given: VarSet) -> Result<i1
     let with_left = with(given, left);
     let with_right = with(given, right);
     let both = with(with_left, right);
-    alternating(
+    alternating_sum(
         at_set(point, given),
         at_set(point, with_left),
         at_set(point, with_right),

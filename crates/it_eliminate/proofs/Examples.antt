@@ -1,4 +1,4 @@
--- The worked rows by computing.
+-- Examples by computing.
 use Rattle.std.proofs.Common.{◌≡◌, refl, ℤ, pos, negsuc, List, [], ◌∷◌}
 use Rattle.it_space.specs.Rows.{Terms}
 use Rattle.it_space.specs.Divisors.{lowest_terms}

@@ -77,11 +77,6 @@ member_negated t [] m = absurd m
 member_negated t (r ∷ rs) (inl e) = inl (ap negated e)
 member_negated t (r ∷ rs) (inr m) = inr (member_negated t rs m)
 
-negated_member : (t : ℤ × ℤ) (rows : List (ℤ × ℤ)) → Member t (negated_list rows) → (s : ℤ × ℤ) × Member s rows × (t ≡ negated s)
-negated_member t [] m = absurd m
-negated_member t (r ∷ rs) (inl e) = (r, inl refl, e)
-negated_member t (r ∷ rs) (inr m) = let s = negated_member t rs m in (s.0, inr s.1, s.2)
-
 -- where the cancelled rows hold, some multiple of the point extends: k is one of the coefficients
 pub extends : (rows : List (ℤ × ℤ))
     → ((t : ℤ × ℤ) → Member t rows → t.0 ≡ pos 0 → pos 0 ≤ℤ t.1)

@@ -1,16 +1,15 @@
 -- Rows kept up to a number of them, row after row.
-use Rattle.std.proofs.Common.{◌≡◌, ◌⊎◌, inl, inr, ◌↔◌, ℕ, zero, suc, ◌+◌, ◌<◌, ◌≤◌, pos, refl, sym, ap, ap₂, subst, ◌∙◌, arith, List, [], ◌∷◌, ◌++◌, map, length, drop, get_or, Bool, true, false, cond, if◌then◌else◌}
-use Rattle.std.specs.List.{list_any, flat_map}
+use Rattle.std.proofs.Common.{◌≡◌, inl, ◌↔◌, ℕ, ◌+◌, ◌<◌, ◌≤◌, pos, refl, sym, ap, ap₂, subst, ◌∙◌, arith, List, [], ◌∷◌, ◌++◌, map, length, drop, get_or, Bool, true, false, cond, if◌then◌else◌}
+use Rattle.std.specs.List.{list_any, flat_map, AllByRecursion as Every}
 use Rattle.std.specs.Prelude.{filter}
-use Rattle.std.proofs.lemmas.List.{drop_more, drop_all, length-append}
+use Rattle.std.proofs.lemmas.List.{drop_more, length-append}
 use Rattle.it_space.specs.Rows.{Terms, IsCanonical, coefficient}
 use Rattle.it_space.specs.Divisors.{lowest_terms}
 use Rattle.it_space.specs.Cancelling.{cancelled_row}
-use Rattle.it_eliminate.proofs.MemberLemmas.{each_member, member_each}
+use Rattle.it_eliminate.proofs.MemberLemmas.{every_member, member_every}
 use Rattle.it_eliminate.proofs.StepLemmas.{is_flat_at}
 use Rattle.it_eliminate.specs.Elimination.{is_same, with_row, with_rows, is_up, is_down, is_flat, pairs_of, results, next_list, PairsFit}
 use Rattle.it_eliminate.specs.Gathering.{flat_of, pair_of, up_pairs, DownFits, UpFits, IsKept, Gathers}
-use Rattle.it_eliminate.specs.Projections.{Each}
 
 -- ---- one row
 
@@ -22,28 +21,11 @@ longer rows (t ∷ ts) = by_test (list_any (is_same (t ∷ ts)) rows)
     by_test true = omega arith
     by_test false = omega (arith, length-append rows ((t ∷ ts) ∷ []))
 
-pub gathers_row : (most : ℕ) (row : Terms) (old new : List Terms) → length old ≤ most → new ≡ with_row old (lowest_terms row) → (Each IsCanonical old → Each IsCanonical new) → Gathers most (row ∷ []) old new
-gathers_row most row old new h e c = record { keeps = λ exact k. record { is = by_cases exact k.is; canonical = c k.canonical } }
-  where
-    by_cases : (exact : List Terms) → (old ≡ exact) ⊎ ((most < length old) × (most < length exact)) → (new ≡ with_row exact (lowest_terms row)) ⊎ ((most < length new) × (most < length (with_row exact (lowest_terms row))))
-    by_cases exact (inl f) = inl (e ∙ ap (λ rs. with_row rs (lowest_terms row)) f)
-    by_cases exact (inr f) = absurd (omega (arith, f.0))
-
-pub gathers_over : (most : ℕ) (row : Terms) (old : List Terms) → most < length old → Gathers most (row ∷ []) old old
-gathers_over most row old h = record { keeps = λ exact k. record { is = inr (h, by_cases exact k.is); canonical = k.canonical } }
-  where
-    by_cases : (exact : List Terms) → (old ≡ exact) ⊎ ((most < length old) × (most < length exact)) → most < length (with_row exact (lowest_terms row))
-    by_cases exact (inl f) = omega (arith, longer exact (lowest_terms row), ap length f)
-    by_cases exact (inr f) = omega (arith, longer exact (lowest_terms row), f.1)
-
 -- ---- many rows
 
 with_rows-append : (seen xs ys : List Terms) → with_rows seen (xs ++ ys) ≡ with_rows (with_rows seen xs) ys
 with_rows-append seen [] ys = refl
 with_rows-append seen (x ∷ xs) ys = with_rows-append (with_row seen (lowest_terms x)) xs ys
-
-pub gathers_none : (most : ℕ) (old : List Terms) → Gathers most [] old old
-gathers_none most old = record { keeps = λ exact k. k }
 
 pub gathers_both : (most : ℕ) (xs ys : List Terms) (old mid new : List Terms) → Gathers most xs old mid → Gathers most ys mid new → Gathers most (xs ++ ys) old new
 gathers_both most xs ys old mid new f g = record {
@@ -59,25 +41,16 @@ pub leads_more : (most : ℕ) (g : Terms → List Terms) (rows : List Terms) (i 
 leads_more most g rows i row first now new h e f l s k = l s (subst (λ (rs : List Terms). Gathers most (flat_map g rs) now s) (sym (drop_more rows i row h ∙ ap (λ r. r ∷ drop (i + 1) rows) (sym e)))
     (gathers_both most (g row) (flat_map g (drop (i + 1) rows)) now new s f k))
 
-pub leads_done : (most : ℕ) (g : Terms → List Terms) (rows : List Terms) (i : ℕ) (first now : List Terms) → length rows ≤ i → Leads most g rows i first now → Gathers most (flat_map g rows) first now
-leads_done most g rows i first now h l = l now (subst (λ (rs : List Terms). Gathers most (flat_map g rs) now now) (sym (drop_all i rows h)) (gathers_none most now))
-
 -- what holds of each still to come holds of all
 abbrev pub Rests : (Terms → Type 0) → List Terms → ℕ → Type 0
-Rests P rows i = Each P (drop i rows) ↔ Each P rows
+Rests P rows i = Every P (drop i rows) ↔ Every P rows
 
 module _ (P : Terms → Type 0) (rows : List Terms) (i : ℕ) (row : Terms) (h : i < length rows) (e : row ≡ get_or rows i row) where
   here : drop i rows ≡ row ∷ drop (i + 1) rows
   here = drop_more rows i row h ∙ ap (λ r. r ∷ drop (i + 1) rows) (sym e)
 
   pub rests_more : P row → Rests P rows i → Rests P rows (i + 1)
-  rests_more p r = (λ a. r.0 (subst (λ (rs : List Terms). Each P rs) (sym here) (p, a)), λ a. (subst (λ (rs : List Terms). Each P rs) here (r.1 a)).1)
-
-  pub rests_stop : Rests P rows i → ¬ (P row) → ¬ (Each P rows)
-  rests_stop r n a = n (subst (λ (rs : List Terms). Each P rs) here (r.1 a)).0
-
-pub rests_done : (P : Terms → Type 0) (rows : List Terms) (i : ℕ) → length rows ≤ i → Rests P rows i → Each P rows
-rests_done P rows i h r = r.0 (subst (λ (rs : List Terms). Each P rs) (sym (drop_all i rows h)) tt)
+  rests_more p r = (λ a. r.0 (subst (λ (rs : List Terms). Every P rs) (sym here) (p, a)), λ a. (subst (λ (rs : List Terms). Every P rs) here (r.1 a)).1)
 
 -- ---- the list of results, row by row
 
@@ -116,21 +89,18 @@ results_is at rows = ap₂ (λ xs ys. xs ++ ys) (filter_is (is_flat at) rows)
 -- the whole list, from nothing
 pub next_kept : (most at : ℕ) (rows none mid new : List Terms) → none ≡ [] → Gathers most (flat_map (flat_of at) rows) none mid → Gathers most (flat_map (up_pairs at rows) rows) mid new → IsKept most (next_list at rows) new
 next_kept most at rows none mid new e f g = subst (λ (rs : List Terms). IsKept most (with_rows [] rs) new) (sym (results_is at rows))
-    ((gathers_both most (flat_map (flat_of at) rows) (flat_map (up_pairs at rows) rows) none mid new f g).keeps [] (record { is = inl e; canonical = subst (λ (rs : List Terms). Each IsCanonical rs) (sym e) tt }))
+    ((gathers_both most (flat_map (flat_of at) rows) (flat_map (up_pairs at rows) rows) none mid new f g).keeps [] (record { is = inl e; canonical = subst (λ (rs : List Terms). Every IsCanonical rs) (sym e) tt }))
 
 pub gathers_flat : (most at : ℕ) (row same : Terms) (old new : List Terms) → coefficient row at ≡ pos 0 → same ≡ row → Gathers most (same ∷ []) old new → Gathers most (flat_of at row) old new
 gathers_flat most at row same old new e f g = subst (λ (b : Bool). Gathers most (if b then row ∷ [] else []) old new) (sym (is_flat_at at row e)) (subst (λ (r : Terms). Gathers most (r ∷ []) old new) f g)
 
-pub canonical_listed : (rows : List Terms) (i : ℕ) (row : Terms) → Each IsCanonical (drop i rows) → i < length rows → row ≡ get_or rows i row → IsCanonical row × Each IsCanonical (drop (i + 1) rows)
-canonical_listed rows i row a h e = subst (λ (rs : List Terms). Each IsCanonical rs) (drop_more rows i row h ∙ ap (λ r. r ∷ drop (i + 1) rows) (sym e)) a
-
 -- ---- the pairs
 
-pub pairs_fit : (at : ℕ) (rows : List Terms) → Each (UpFits at rows) rows → PairsFit at rows
-pairs_fit at rows f up down m n h k = each_member (DownFits at up) rows down (each_member (UpFits at rows) rows up f m h) n k
+pub pairs_fit : (at : ℕ) (rows : List Terms) → Every (UpFits at rows) rows → PairsFit at rows
+pairs_fit at rows f up down m n h k = every_member (DownFits at up) rows down (every_member (UpFits at rows) rows up f m h) n k
 
-pub fit_pairs : (at : ℕ) (rows : List Terms) → PairsFit at rows → Each (UpFits at rows) rows
-fit_pairs at rows f = member_each (UpFits at rows) rows (λ up m h. member_each (DownFits at up) rows (λ down n k. f up down m n h k))
+pub fit_pairs : (at : ℕ) (rows : List Terms) → PairsFit at rows → Every (UpFits at rows) rows
+fit_pairs at rows f = member_every (UpFits at rows) rows (λ up m h. member_every (DownFits at up) rows (λ down n k. f up down m n h k))
 
-pub wide_pair : {W : Type 0} (at : ℕ) (rows : List Terms) → (W → ¬ (Each (UpFits at rows) rows)) → W → ¬ (PairsFit at rows)
+pub wide_pair : {W : Type 0} (at : ℕ) (rows : List Terms) → (W → ¬ (Every (UpFits at rows) rows)) → W → ¬ (PairsFit at rows)
 wide_pair at rows f w p = f w (fit_pairs at rows p)

@@ -1,13 +1,12 @@
 -- The keys of an index set of rows: what inserting a row makes of them.
-use Rattle.std.proofs.Common.{◌≡◌, ◌≢◌, ℕ, ◌+◌, ◌<◌, ℤ, refl, sym, ap, ap₂, subst, ◌∙◌, List, [], ◌∷◌, ◌++◌, length, drop, get_or, Bool, true, false, ◌&&◌, ◌||◌, nat_eq, Vec, Global, if◌then◌else◌}
+use Rattle.std.proofs.Common.{◌≡◌, ◌≢◌, ℕ, ◌+◌, ℤ, refl, sym, ap, ap₂, ◌∙◌, List, [], ◌∷◌, ◌++◌, Bool, true, false, ◌&&◌, ◌||◌, nat_eq, Vec, Global, if◌then◌else◌}
 use Rattle.std.specs.List.{list_any}
 use Rattle.std.specs.Ordering.{int_eq}
 use Rattle.std.specs.Cmp.Lexicographic.{pointwise}
-use Rattle.std.proofs.lemmas.List.{map-append, drop_more}
-use Rattle.it_space.specs.Rows.{Terms, IsCanonical}
+use Rattle.std.proofs.lemmas.List.{map-append}
+use Rattle.it_space.specs.Rows.{Terms}
 use Rattle.it_eliminate.specs.Elimination.{is_same, with_row}
 use Rattle.it_eliminate.specs.Gathering.{rows_of}
-use Rattle.it_eliminate.specs.Projections.{Each}
 
 abbrev pub ComparesTerms : (ℕ × ℤ → ℕ × ℤ → Bool) → Type 0
 ComparesTerms eq = (s t : ℕ × ℤ) → eq s t ≡ (nat_eq s.0 t.0 && int_eq s.1 t.1)
@@ -34,18 +33,3 @@ inserted eq h old new v n e = ap rows_of e ∙ ap (λ b. rows_of (if b then old 
     by : (row : Terms) → row ≢ [] → row ≡ v.items → rows_of (if list_any (is_same v.items) (rows_of old) then old else old ++ v ∷ []) ≡ with_row (rows_of old) row
     by [] n e = absurd (n refl)
     by (t ∷ ts) n e = by_test (list_any (is_same v.items) (rows_of old)) ∙ ap (λ r. if list_any (is_same r) (rows_of old) then rows_of old else rows_of old ++ r ∷ []) (sym e)
-
--- the keys as a list of rows, one after another
-pub rows_more : (vs : List (Vec (ℕ × ℤ) Global)) (i : ℕ) (v : Vec (ℕ × ℤ) Global) → i < length vs → v ≡ get_or vs i v → rows_of (drop i vs) ≡ v.items ∷ rows_of (drop (i + 1) vs)
-rows_more vs i v h e = ap rows_of (drop_more vs i v h ∙ ap (λ w. w ∷ drop (i + 1) vs) (sym e))
-
-pub row_list_more : (vs : List (Vec (ℕ × ℤ) Global)) (i : ℕ) (v : Vec (ℕ × ℤ) Global) (rows : List Terms) (row : Terms) → i < length vs → v ≡ get_or vs i v → row ≡ v.items
-    → rows ++ rows_of (drop i vs) ≡ rows_of vs → (rows ++ row ∷ []) ++ rows_of (drop (i + 1) vs) ≡ rows_of vs
-row_list_more vs i v rows row h e f g = one rows row (rows_of (drop (i + 1) vs)) ∙ ap (λ r. rows ++ r ∷ rows_of (drop (i + 1) vs)) f ∙ ap (λ rs. rows ++ rs) (sym (rows_more vs i v h e)) ∙ g
-  where
-    one : (xs : List Terms) (y : Terms) (zs : List Terms) → (xs ++ y ∷ []) ++ zs ≡ xs ++ y ∷ zs
-    one [] y zs = refl
-    one (x ∷ xs) y zs = ap (λ us. x ∷ us) (one xs y zs)
-
-pub canonical_key : (vs : List (Vec (ℕ × ℤ) Global)) (i : ℕ) (v : Vec (ℕ × ℤ) Global) → i < length vs → v ≡ get_or vs i v → Each IsCanonical (rows_of (drop i vs)) → IsCanonical v.items × Each IsCanonical (rows_of (drop (i + 1) vs))
-canonical_key vs i v h e a = subst (λ (rs : List Terms). Each IsCanonical rs) (rows_more vs i v h e) a

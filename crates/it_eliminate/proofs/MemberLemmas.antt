@@ -1,45 +1,22 @@
 -- Members of lists, and what holds of each item.
-use Rattle.std.proofs.Common.{◌≡◌, ◌⊎◌, inl, inr, ⊎_elim, ℕ, zero, suc, refl, sym, ap, subst, ◌∙◌, arith, List, [], ◌∷◌, ◌++◌, Bool, true, false, cond, All}
-use Rattle.std.specs.List.{flat_map}
+use Rattle.std.proofs.Common.{◌≡◌, ◌⊎◌, inl, inr, ⊎_elim, refl, sym, ap, subst, ◌∙◌, arith, List, [], ◌∷◌, ◌++◌, Bool, true, false, cond}
+use Rattle.std.specs.List.{flat_map, AllByRecursion as Every}
 use Rattle.std.specs.Prelude.{filter, map}
-use Rattle.std.proofs.lemmas.List.Elements.{All-head, All-tail}
 use Rattle.it_eliminate.specs.Elimination.{Member}
-use Rattle.it_eliminate.specs.Projections.{Each}
 
 pub not_true : false ≡ true → ⊥
 not_true e = grind arith
 
 -- ---- what holds of each item
 
-pub each-append : {X : Type 0} (P : X → Type 0) (xs ys : List X) → Each P xs → Each P ys → Each P (xs ++ ys)
-each-append P [] ys a b = b
-each-append P (x ∷ xs) ys a b = (a.0, each-append P xs ys a.1 b)
+pub every_member : {X : Type 0} (P : X → Type 0) (xs : List X) (x : X) → Every P xs → Member x xs → P x
+every_member P [] x a m = absurd m
+every_member P (y ∷ xs) x a (inl e) = subst P (sym e) a.0
+every_member P (y ∷ xs) x a (inr m) = every_member P xs x a.1 m
 
-pub each_front : {X : Type 0} (P : X → Type 0) (xs ys : List X) → Each P (xs ++ ys) → Each P xs
-each_front P [] ys a = tt
-each_front P (x ∷ xs) ys a = (a.0, each_front P xs ys a.1)
-
-pub each_back : {X : Type 0} (P : X → Type 0) (xs ys : List X) → Each P (xs ++ ys) → Each P ys
-each_back P [] ys a = a
-each_back P (x ∷ xs) ys a = each_back P xs ys a.1
-
-pub each_member : {X : Type 0} (P : X → Type 0) (xs : List X) (x : X) → Each P xs → Member x xs → P x
-each_member P [] x a m = absurd m
-each_member P (y ∷ xs) x a (inl e) = subst P (sym e) a.0
-each_member P (y ∷ xs) x a (inr m) = each_member P xs x a.1 m
-
-pub member_each : {X : Type 0} (P : X → Type 0) (xs : List X) → ((x : X) → Member x xs → P x) → Each P xs
-member_each P [] f = tt
-member_each P (x ∷ xs) f = (f x (inl refl), member_each P xs (λ y m. f y (inr m)))
-
-pub each_of_all : {X : Type 0} (P : X → Type 0) (xs : List X) → All P xs → Each P xs
-each_of_all P [] a = tt
-each_of_all P (x ∷ xs) a = (All-head P x xs a, each_of_all P xs (All-tail P x xs a))
-
-pub all_of_each : {X : Type 0} (P : X → Type 0) (xs : List X) → Each P xs → All P xs
-all_of_each P [] a i d h = absurd (omega arith)
-all_of_each P (x ∷ xs) a zero d h = a.0
-all_of_each P (x ∷ xs) a (suc i) d h = all_of_each P xs a.1 i d (omega arith)
+pub member_every : {X : Type 0} (P : X → Type 0) (xs : List X) → ((x : X) → Member x xs → P x) → Every P xs
+member_every P [] f = tt
+member_every P (x ∷ xs) f = (f x (inl refl), member_every P xs (λ y m. f y (inr m)))
 
 -- ---- members
 

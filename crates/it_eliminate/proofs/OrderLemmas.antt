@@ -1,17 +1,17 @@
 -- A list put in order says the same of every point.
-use Rattle.std.proofs.Common.{◌≡◌, ◌⊎◌, inl, inr, ⊎_elim, ◌↔◌, ℕ, zero, suc, ℤ, pos, negsuc, ◌*ℤ◌, ◌≤ℤ◌, unsigned_abs, refl, sym, ap, ap₂, subst, ◌∙◌, arith, List, [], ◌∷◌, ◌++◌, Bool, true, false, cond, ◌&&◌, ◌||◌, nat_eq, if◌then◌else◌}
-use Rattle.std.specs.List.{flat_map, list_any}
-use Rattle.std.specs.Prelude.{filter, map}
+use Rattle.std.proofs.Common.{◌≡◌, ◌⊎◌, inl, inr, ◌↔◌, ℕ, zero, suc, ℤ, pos, negsuc, ◌*ℤ◌, ◌≤ℤ◌, unsigned_abs, refl, sym, ap, ap₂, ◌∙◌, arith, List, [], ◌∷◌, ◌++◌, Bool, true, false, ◌&&◌, ◌||◌, nat_eq, if◌then◌else◌}
+use Rattle.std.specs.List.{list_any, AllByRecursion as Every}
 use Rattle.std.specs.Ordering.{int_eq}
 use Rattle.std.proofs.lemmas.Int.{ints}
 use Rattle.it_number.specs.Division.{int_quotient}
-use Rattle.it_space.specs.Rows.{Terms, coefficient, value, HaveOneSign}
+use Rattle.it_space.specs.Rows.{Terms, coefficient, value, HaveOneSign, one_at}
 use Rattle.it_space.specs.Divisors.{content, divided_terms, lowest_terms}
 use Rattle.it_space.proofs.Contents.{DividesAll, content_divides, divided_value, one_sign}
-use Rattle.it_space.proofs.TermLemmas.{unit_at, coefficient_is, same_number}
+use Rattle.it_space.proofs.TermLemmas.{value-one_at, same_number}
 use Rattle.it_eliminate.specs.Elimination.{is_same, with_row, with_rows, in_order, Member}
-use Rattle.it_eliminate.specs.Projections.{Each, In, Lacks}
-use Rattle.it_eliminate.proofs.MemberLemmas.{not_true, each-append, each_front, each_back, each_member}
+use Rattle.it_eliminate.specs.Projections.{In, Lacks}
+use Rattle.it_eliminate.proofs.MemberLemmas.{not_true, every_member}
+use Rattle.it_space.proofs.EveryLemmas.{every-append, every_front, every_back}
 
 -- ---- lowest terms
 
@@ -45,13 +45,13 @@ lowest_signs ts p = for_each (content 0 ts) (content_divides 0 ts).1
 
 -- ---- rows without doubles
 
-pub each-with_row : (P : Terms → Type 0) (rows : List Terms) (row : Terms) → P row → Each P rows → Each P (with_row rows row)
-each-with_row P rows [] h a = a
-each-with_row P rows (t ∷ ts) h a = by_test (list_any (is_same (t ∷ ts)) rows)
+pub every-with_row : (P : Terms → Type 0) (rows : List Terms) (row : Terms) → P row → Every P rows → Every P (with_row rows row)
+every-with_row P rows [] h a = a
+every-with_row P rows (t ∷ ts) h a = by_test (list_any (is_same (t ∷ ts)) rows)
   where
-    by_test : (b : Bool) → Each P (if b then rows else rows ++ (t ∷ ts) ∷ [])
+    by_test : (b : Bool) → Every P (if b then rows else rows ++ (t ∷ ts) ∷ [])
     by_test true = a
-    by_test false = each-append P rows ((t ∷ ts) ∷ []) a (h, tt)
+    by_test false = every-append P rows ((t ∷ ts) ∷ []) a (h, tt)
 
 pub same_rows : (xs ys : Terms) → is_same xs ys ≡ true → xs ≡ ys
 same_rows [] [] e = refl
@@ -82,10 +82,10 @@ in-with_row rows [] p = (λ a. (a, omega (arith, ints)), λ a. a.0)
 in-with_row rows (t ∷ ts) p = by_test (list_any (is_same (t ∷ ts)) rows) (found_member (t ∷ ts) rows)
   where
     by_test : (b : Bool) → (b ≡ true → Member (t ∷ ts) rows) → In (if b then rows else rows ++ (t ∷ ts) ∷ []) p ↔ (In rows p × (pos 0 ≤ℤ value (t ∷ ts) p))
-    by_test true f = (λ a. (a, each_member (λ (row : Terms). pos 0 ≤ℤ value row p) rows (t ∷ ts) a (f refl)), λ a. a.0)
+    by_test true f = (λ a. (a, every_member (λ (row : Terms). pos 0 ≤ℤ value row p) rows (t ∷ ts) a (f refl)), λ a. a.0)
     by_test false f = (
-      λ a. (each_front (λ (row : Terms). pos 0 ≤ℤ value row p) rows ((t ∷ ts) ∷ []) a, (each_back (λ (row : Terms). pos 0 ≤ℤ value row p) rows ((t ∷ ts) ∷ []) a).0),
-      λ a. each-append (λ (row : Terms). pos 0 ≤ℤ value row p) rows ((t ∷ ts) ∷ []) a.0 (a.1, tt),
+      λ a. (every_front (λ (row : Terms). pos 0 ≤ℤ value row p) rows ((t ∷ ts) ∷ []) a, (every_back (λ (row : Terms). pos 0 ≤ℤ value row p) rows ((t ∷ ts) ∷ []) a).0),
+      λ a. every-append (λ (row : Terms). pos 0 ≤ℤ value row p) rows ((t ∷ ts) ∷ []) a.0 (a.1, tt),
     )
 
 pub in-with_rows : (before rows : List Terms) (p : ℕ → ℤ) → In (with_rows before rows) p ↔ (In before p × In rows p)
@@ -105,9 +105,9 @@ in-in_order rows p = let both = in-with_rows [] rows p in (λ a. (both.0 a).1, �
 
 pub lacks_lowest : (at : ℕ) (row : Terms) → coefficient row at ≡ pos 0 → coefficient (lowest_terms row) at ≡ pos 0
 lacks_lowest at row e =
-    let signs = lowest_signs row (unit_at at) in
-    let is : value row (unit_at at) ≡ pos 0 = sym (coefficient_is row at) ∙ e in
-    coefficient_is (lowest_terms row) at ∙ both (value (lowest_terms row) (unit_at at)) (signs.positive.0 (omega (arith, ints, is))) (signs.negative.0 (omega (arith, ints, is)))
+    let signs = lowest_signs row (one_at at) in
+    let is : value row (one_at at) ≡ pos 0 = value-one_at row at ∙ e in
+    sym (value-one_at (lowest_terms row) at) ∙ both (value (lowest_terms row) (one_at at)) (signs.positive.0 (omega (arith, ints, is))) (signs.negative.0 (omega (arith, ints, is)))
   where
     both : (z : ℤ) → pos 0 ≤ℤ z → z ≤ℤ pos 0 → z ≡ pos 0
     both z a b = omega (arith, ints)
@@ -115,4 +115,4 @@ lacks_lowest at row e =
 pub lacks-with_rows : (at : ℕ) (before rows : List Terms) → Lacks at before → Lacks at rows → Lacks at (with_rows before rows)
 lacks-with_rows at before [] a b = a
 lacks-with_rows at before (row ∷ rows) a b = lacks-with_rows at (with_row before (lowest_terms row)) rows
-    (each-with_row (λ r. coefficient r at ≡ pos 0) before (lowest_terms row) (lacks_lowest at row b.0) a) b.1
+    (every-with_row (λ r. coefficient r at ≡ pos 0) before (lowest_terms row) (lacks_lowest at row b.0) a) b.1

@@ -8,7 +8,7 @@ use Rattle.it_space.specs.Rows.{Terms, coefficient, value}
 use Rattle.it_space.specs.Cancelling.{times_up, times_down}
 use Rattle.it_space.proofs.TermLemmas.{coefficient-cancelled_row, same_number}
 use Rattle.it_eliminate.proofs.OrderLemmas.{in-in_order, lacks-with_rows}
-use Rattle.it_eliminate.proofs.MemberLemmas.{each_member, member_each}
+use Rattle.it_eliminate.proofs.MemberLemmas.{every_member, member_every}
 use Rattle.it_eliminate.proofs.StepLemmas.{results_all, next_lacks, step_exact}
 use Rattle.it_eliminate.specs.Elimination.{results, next_list, in_order, Member}
 use Rattle.it_eliminate.specs.Projections.{In, Extends, Lacks}
@@ -24,10 +24,10 @@ mix_none : (a b : ℕ) (x y : ℤ) → x ≡ pos 0 → y ≡ pos 0 → pos a *�
 mix_none a b x y e f = ap (λ z. pos a *ℤ z +ℤ pos b *ℤ y) e ∙ ap (λ z. pos a *ℤ pos 0 +ℤ pos b *ℤ z) f ∙ omega (arith, ints)
 
 pub next_keeps_lacking : (c at : ℕ) (rows : List Terms) → Lacks c rows → Lacks c (next_list at rows)
-next_keeps_lacking c at rows a = lacks-with_rows c [] (results at rows) tt (member_each (λ (row : Terms). coefficient row c ≡ pos 0) (results at rows) (results_all (λ row. coefficient row c ≡ pos 0) at rows
-    (λ row m e. each_member (λ (r : Terms). coefficient r c ≡ pos 0) rows row a m)
+next_keeps_lacking c at rows a = lacks-with_rows c [] (results at rows) tt (member_every (λ (row : Terms). coefficient row c ≡ pos 0) (results at rows) (results_all (λ row. coefficient row c ≡ pos 0) at rows
+    (λ row m e. every_member (λ (r : Terms). coefficient r c ≡ pos 0) rows row a m)
     (λ up down m n h k. coefficient-cancelled_row at up down c
-    ∙ mix_none (times_up at up down) (times_down at up down) (coefficient up c) (coefficient down c) (each_member (λ (r : Terms). coefficient r c ≡ pos 0) rows up a m) (each_member (λ (r : Terms). coefficient r c ≡ pos 0) rows down a n))))
+    ∙ mix_none (times_up at up down) (times_down at up down) (coefficient up c) (coefficient down c) (every_member (λ (r : Terms). coefficient r c ≡ pos 0) rows up a m) (every_member (λ (r : Terms). coefficient r c ≡ pos 0) rows down a n))))
 
 pub after_keeps_lacking : (c : ℕ) (ats : List ℕ) (rows : List Terms) → Lacks c rows → Lacks c (after_rates ats rows)
 after_keeps_lacking c [] rows a = a

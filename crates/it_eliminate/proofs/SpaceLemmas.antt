@@ -1,22 +1,22 @@
 -- The coordinates of the rows stay those of the space.
-use Rattle.std.proofs.Common.{inl, inr, ℕ, zero, suc, ◌≤◌, ℤ, pos, negsuc, ◌+ℤ◌, sym, refl, subst, List, [], ◌∷◌, ◌++◌, Bool, true, false, nat_eq, nat_lt, All, if◌then◌else◌}
-use Rattle.std.specs.List.{list_any}
-use Rattle.it_space.specs.Rows.{Terms, IsUpTo}
+use Rattle.std.proofs.Common.{ℕ, zero, suc, ◌≤◌, ℤ, pos, negsuc, ◌+ℤ◌, List, [], ◌∷◌, ◌++◌, Bool, true, false, nat_eq, nat_lt, All, if◌then◌else◌}
+use Rattle.std.specs.List.{AllByRecursion as Every}
+use Rattle.it_space.specs.Rows.{Terms, IsUpTo, term_at}
 use Rattle.it_space.specs.Divisors.{content, divided_terms, lowest_terms}
-use Rattle.it_space.specs.Cancelling.{term_at, times_up, times_down, with_term, row_sum, row_multiple, cancelled_row}
-use Rattle.it_eliminate.proofs.MemberLemmas.{each_member, member_each, each_of_all, all_of_each}
-use Rattle.it_eliminate.proofs.OrderLemmas.{each-with_row}
+use Rattle.it_space.specs.Cancelling.{times_up, times_down, with_term, row_sum, row_multiple, cancelled_row}
+use Rattle.it_eliminate.proofs.MemberLemmas.{every_member, member_every}
+use Rattle.it_space.proofs.EveryLemmas.{every_of, all_of}
+use Rattle.it_eliminate.proofs.OrderLemmas.{every-with_row}
 use Rattle.it_eliminate.proofs.StepLemmas.{results_all}
 use Rattle.it_eliminate.proofs.RateLemmas.{after_rates}
-use Rattle.it_eliminate.specs.Projections.{Each}
-use Rattle.it_eliminate.specs.Elimination.{with_row, with_rows, results, next_list, in_order, Member}
+use Rattle.it_eliminate.specs.Elimination.{with_row, with_rows, results, next_list, in_order}
 
 module _ (size : ℕ) where
   abbrev Has : ℕ × ℤ → Type 0
   Has t = (1 ≤ t.0) × (t.0 ≤ size)
 
   abbrev UpTo : Terms → Type 0
-  UpTo ts = Each Has ts
+  UpTo ts = Every Has ts
 
   up_to-term_at : (c : ℕ) (x : ℤ) (ts : Terms) → (1 ≤ c) × (c ≤ size) → UpTo ts → UpTo (term_at c x ++ ts)
   up_to-term_at c (pos zero) ts h a = a
@@ -54,31 +54,31 @@ module _ (size : ℕ) where
       by k [] a = tt
       by k (t ∷ ts) a = (a.0, by k ts a.1)
 
-  up_to-with_rows : (before rows : List Terms) → Each UpTo before → Each UpTo rows → Each UpTo (with_rows before rows)
+  up_to-with_rows : (before rows : List Terms) → Every UpTo before → Every UpTo rows → Every UpTo (with_rows before rows)
   up_to-with_rows before [] a b = a
-  up_to-with_rows before (row ∷ rows) a b = up_to-with_rows (with_row before (lowest_terms row)) rows (each-with_row UpTo before (lowest_terms row) (up_to-lowest_terms row b.0) a) b.1
+  up_to-with_rows before (row ∷ rows) a b = up_to-with_rows (with_row before (lowest_terms row)) rows (every-with_row UpTo before (lowest_terms row) (up_to-lowest_terms row b.0) a) b.1
 
-  up_to-next : (at : ℕ) (rows : List Terms) → Each UpTo rows → Each UpTo (next_list at rows)
-  up_to-next at rows a = up_to-with_rows [] (results at rows) tt (member_each UpTo (results at rows) (results_all UpTo at rows (λ row m e. each_member UpTo rows row a m)
-      (λ up down m n h k. up_to-cancelled_row at up down (each_member UpTo rows up a m) (each_member UpTo rows down a n))))
+  up_to-next : (at : ℕ) (rows : List Terms) → Every UpTo rows → Every UpTo (next_list at rows)
+  up_to-next at rows a = up_to-with_rows [] (results at rows) tt (member_every UpTo (results at rows) (results_all UpTo at rows (λ row m e. every_member UpTo rows row a m)
+      (λ up down m n h k. up_to-cancelled_row at up down (every_member UpTo rows up a m) (every_member UpTo rows down a n))))
 
-  up_to-after : (ats : List ℕ) (rows : List Terms) → Each UpTo rows → Each UpTo (after_rates ats rows)
+  up_to-after : (ats : List ℕ) (rows : List Terms) → Every UpTo rows → Every UpTo (after_rates ats rows)
   up_to-after [] rows a = a
   up_to-after (at ∷ ats) rows a = up_to-after ats (next_list at rows) (up_to-next at rows a)
 
-  to_each : (rows : List Terms) → All (IsUpTo size) rows → Each UpTo rows
-  to_each rows a = deep rows (each_of_all (IsUpTo size) rows a)
+  to_each : (rows : List Terms) → All (IsUpTo size) rows → Every UpTo rows
+  to_each rows a = deep rows (every_of (IsUpTo size) rows a)
     where
-      deep : (rows : List Terms) → Each (IsUpTo size) rows → Each UpTo rows
+      deep : (rows : List Terms) → Every (IsUpTo size) rows → Every UpTo rows
       deep [] a = tt
-      deep (r ∷ rows) a = (each_of_all Has r a.0, deep rows a.1)
+      deep (r ∷ rows) a = (every_of Has r a.0, deep rows a.1)
 
-  to_all : (rows : List Terms) → Each UpTo rows → All (IsUpTo size) rows
-  to_all rows a = all_of_each (IsUpTo size) rows (deep rows a)
+  to_all : (rows : List Terms) → Every UpTo rows → All (IsUpTo size) rows
+  to_all rows a = all_of (IsUpTo size) rows (deep rows a)
     where
-      deep : (rows : List Terms) → Each UpTo rows → Each (IsUpTo size) rows
+      deep : (rows : List Terms) → Every UpTo rows → Every (IsUpTo size) rows
       deep [] a = tt
-      deep (r ∷ rows) a = (all_of_each Has r a.0, deep rows a.1)
+      deep (r ∷ rows) a = (all_of Has r a.0, deep rows a.1)
 
   pub projection_up_to : (ats : List ℕ) (rows : List Terms) → All (IsUpTo size) rows → All (IsUpTo size) (after_rates ats (in_order rows))
   projection_up_to ats rows a = to_all (after_rates ats (in_order rows)) (up_to-after ats (in_order rows) (up_to-with_rows [] rows tt (to_each rows a)))

@@ -1,13 +1,12 @@
 -- No public clause cites this module: the list after one rate gathered row by row, and what one rate ends with.
 use Rattle.std.specs.Prelude.{◌≡◌, ◌⊎◌, ℕ, ℤ, pos, ◌<◌, ◌≤◌, ◌<ℤ◌, List, [], ◌∷◌, length, map, if◌then◌else◌}
 use Rattle.std.specs.Global.{Vec}
-use Rattle.std.specs.List.{flat_map}
+use Rattle.std.specs.List.{flat_map, AllByRecursion as Every}
 use Rattle.it_space.specs.Rows.{Terms, IsCanonical, coefficient}
 use Rattle.it_space.specs.Cancelling.{cancelled_row, CancelFits}
 use Rattle.it_eliminate.specs.declared.types.RateEnd.{RateEnd}
 use Rattle.it_eliminate.specs.declared.types.RateEnd.TheVariants as ends
 use Rattle.it_eliminate.specs.Elimination.{with_rows, is_up, is_down, is_flat, next_list, PairsFit}
-use Rattle.it_eliminate.specs.Projections.{Each}
 
 -- the rows of an index set of terms
 abbrev pub rows_of : List (Vec (ℕ × ℤ)) → List Terms
@@ -31,12 +30,12 @@ DownFits at up down = coefficient down at <ℤ pos 0 → CancelFits at up down
 
 -- a row, if it is positive, cancels with each negative one
 abbrev pub UpFits : ℕ → List Terms → Terms → Type 0
-UpFits at rows up = pos 0 <ℤ coefficient up at → Each (DownFits at up) rows
+UpFits at rows up = pos 0 <ℤ coefficient up at → Every (DownFits at up) rows
 
 -- the rows are the exact list, or both are more than `most`
 pub record IsKept (most : ℕ) (exact kept : List Terms) : Type 0 where
   pub is : (kept ≡ exact) ⊎ ((most < length kept) × (most < length exact))
-  pub canonical : Each IsCanonical kept
+  pub canonical : Every IsCanonical kept
 
 -- rows were put in order behind what is kept
 pub record Gathers (most : ℕ) (more old new : List Terms) : Type 0 where

@@ -1,5 +1,6 @@
 -- Points of a system, and its projection. A point is a map from coordinates to numbers: the values of the sets and of the rates.
-use Rattle.std.specs.Prelude.{◌≡◌, ◌↔◌, ℕ, ◌+◌, ◌≤◌, ◌^◌, ℤ, pos, ◌*ℤ◌, ◌≤ℤ◌, List, [], ◌∷◌, map}
+use Rattle.std.specs.Prelude.{◌≡◌, ◌↔◌, ℕ, ◌+◌, ◌≤◌, ◌^◌, ℤ, pos, ◌*ℤ◌, ◌≤ℤ◌, List, map}
+use Rattle.std.specs.List.{AllByRecursion as Every}
 use Rattle.it_space.specs.declared.problems.System.{System}
 use Rattle.it_space.specs.Problems.{IsSystem}
 use Rattle.it_space.specs.Rows.{Terms, value, coefficient}
@@ -7,18 +8,13 @@ use Rattle.it_eliminate.specs.declared.types.Eliminated.{Eliminated}
 use Rattle.it_eliminate.specs.declared.types.Eliminated.TheVariants as eliminated
 use Rattle.it_eliminate.specs.Elimination.{Member}
 
--- what holds of each item of a list
-abbrev pub Each : {X : Type 0} → (X → Type 0) → List X → Type 0
-Each P [] = Unit {0}
-Each P (x ∷ xs) = P x × Each P xs
-
 -- every row is at least 0 at the point
 abbrev pub In : List Terms → (ℕ → ℤ) → Type 0
-In rows p = Each (λ row. pos 0 ≤ℤ value row p) rows
+In rows p = Every (λ row. pos 0 ≤ℤ value row p) rows
 
 -- no row has the coordinate
 abbrev pub Lacks : ℕ → List Terms → Type 0
-Lacks at rows = Each (λ row. coefficient row at ≡ pos 0) rows
+Lacks at rows = Every (λ row. coefficient row at ≡ pos 0) rows
 
 -- some whole multiple of the point, with other values at the eliminated coordinates, is one at which every row is at least 0
 pub record Extends (gone : List ℕ) (rows : List Terms) (p : ℕ → ℤ) : Type 0 where

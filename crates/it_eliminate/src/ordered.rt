@@ -4,7 +4,7 @@ ghost use Rattle.std.specs.Prelude.{◌≡◌, [], ◌∷◌, length, map, All, 
 ghost use Rattle.it_space.specs.Divisors.{lowest_terms};
 ghost use Rattle.it_space.specs.Rows.{IsCanonical};
 ghost use Rattle.it_eliminate.specs.Elimination.{with_row, in_order};
-ghost use Rattle.it_eliminate.specs.Projections.{Each};
+ghost use Rattle.std.specs.List.{AllByRecursion as Every};
 ghost use Rattle.it_eliminate.specs.Gathering.{rows_of, Gathers};
 
 use indexmap::IndexSet;
@@ -24,7 +24,7 @@ fn put(rows: &mut IndexSet<Vec<(u32, i128)>>, terms: Vec<(u32, i128)>) -> Result
 /// Puts a row in lowest terms behind the others.
 fn put_lowest(rows: &mut IndexSet<Vec<(u32, i128)>>, row: Row) -> Result<(), AllocError>
     ensures rows { OnOk result (rows_of rows.new.keys ≡ with_row (rows_of rows.old.keys) (lowest_terms row)) }
-    ensures canonical { OnOk result (Each IsCanonical (rows_of rows.old.keys) → Each IsCanonical (rows_of rows.new.keys)) }
+    ensures canonical { OnOk result (Every IsCanonical (rows_of rows.old.keys) → Every IsCanonical (rows_of rows.new.keys)) }
 {
     put(rows, normal(row).into_terms())?;
     Ok(())
@@ -54,14 +54,15 @@ pub fn copy(alloc: Global, row: &Row) -> Result<Row, AllocError>
 
 /// The rows as a list.
 pub fn row_list(alloc: Global, rows: &IndexSet<Vec<(u32, i128)>>) -> Result<Vec<Row>, AllocError>
-    requires { Each IsCanonical (rows_of rows.now.keys) }
+    requires { Every IsCanonical (rows_of rows.now.keys) }
     ensures { IfOk result (λ v. v.items ≡ rows_of rows.now.keys) }
 {
     rows_from(alloc, rows.as_slice())
 }
 
+/// The rows of lists of terms, in order.
 fn rows_from(alloc: Global, lists: &[Vec<(u32, i128)>]) -> Result<Vec<Row>, AllocError>
-    requires { Each IsCanonical (rows_of lists.now) }
+    requires { Every IsCanonical (rows_of lists.now) }
     ensures { IfOk result (λ v. v.items ≡ rows_of lists.now) }
 {
     let mut rows = Vec::new(alloc);
@@ -75,7 +76,7 @@ fn rows_from(alloc: Global, lists: &[Vec<(u32, i128)>]) -> Result<Vec<Row>, Allo
 /// All rows in order.
 pub fn in_order(alloc: Global, rows: &[Row]) -> Result<IndexSet<Vec<(u32, i128)>>, AllocError>
     ensures rows { IfOk result (λ s. rows_of s.keys ≡ in_order rows.now) }
-    ensures canonical { IfOk result (λ s. Each IsCanonical (rows_of s.keys)) }
+    ensures canonical { IfOk result (λ s. Every IsCanonical (rows_of s.keys)) }
 {
     let mut ordered = IndexSet::new(alloc);
     for row in rows {

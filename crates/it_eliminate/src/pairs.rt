@@ -4,8 +4,7 @@ ghost use Rattle.it_space.specs.Rows.{coefficient};
 ghost use Rattle.it_space.specs.Cancelling.{CancelFits};
 ghost use Rattle.it_space.specs.declared.faults.RowFault.TheVariants.{Wide as IsTooWide};
 ghost use Rattle.it_eliminate.specs.Elimination.{next_list, PairsFit};
-ghost use Rattle.it_eliminate.specs.Projections.{Each};
-ghost use Rattle.std.specs.List.{flat_map};
+ghost use Rattle.std.specs.List.{AllByRecursion as Every, flat_map};
 ghost use Rattle.it_eliminate.specs.Gathering.{rows_of, pair_of, up_pairs, flat_of, DownFits, UpFits, Gathers, IsKept};
 
 use crate::ordered::{copy, gather};
@@ -29,6 +28,7 @@ fn gather_flat(
     Ok(())
 }
 
+/// Gathers the rows without the coordinate, in order.
 fn gather_flats(
     alloc: Global,
     list: &mut IndexSet<Vec<(u32, i128)>>,
@@ -65,6 +65,7 @@ fn gather_pair(
     Ok(())
 }
 
+/// Gathers what one positive row gives with each negative one, in order.
 fn gather_pairs(
     alloc: Global,
     list: &mut IndexSet<Vec<(u32, i128)>>,
@@ -75,8 +76,8 @@ fn gather_pairs(
 ) -> Result<(), RowFault>
     requires { pos 0 <ℤ coefficient up.now at }
     ensures list { OnOk result (Gathers most (flat_map (pair_of at up.now) rows.now) (rows_of list.old.keys) (rows_of list.new.keys)) }
-    ensures fits { OnOk result (Each (DownFits at up.now) rows.now) }
-    ensures wide { IfErr result (λ fault. fault ≡ IsTooWide → ¬ (Each (DownFits at up.now) rows.now)) }
+    ensures fits { OnOk result (Every (DownFits at up.now) rows.now) }
+    ensures wide { IfErr result (λ fault. fault ≡ IsTooWide → ¬ (Every (DownFits at up.now) rows.now)) }
 {
     for down in rows {
         gather_pair(alloc, list, up, down, at, most)?;
@@ -103,6 +104,7 @@ fn gather_up(
     Ok(())
 }
 
+/// Gathers what each positive row gives with each negative one, in order.
 fn gather_ups(
     alloc: Global,
     list: &mut IndexSet<Vec<(u32, i128)>>,
@@ -111,8 +113,8 @@ fn gather_ups(
     most: usize,
 ) -> Result<(), RowFault>
     ensures list { OnOk result (Gathers most (flat_map (up_pairs at rows.now) rows.now) (rows_of list.old.keys) (rows_of list.new.keys)) }
-    ensures fits { OnOk result (Each (UpFits at rows.now) rows.now) }
-    ensures wide { IfErr result (λ fault. fault ≡ IsTooWide → ¬ (Each (UpFits at rows.now) rows.now)) }
+    ensures fits { OnOk result (Every (UpFits at rows.now) rows.now) }
+    ensures wide { IfErr result (λ fault. fault ≡ IsTooWide → ¬ (Every (UpFits at rows.now) rows.now)) }
 {
     for up in rows {
         gather_up(alloc, list, up, rows, at, most)?;

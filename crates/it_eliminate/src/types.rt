@@ -1,3 +1,4 @@
+//! What elimination ends with.
 use it_space::{Row, System};
 
 /// What elimination ends with.

@@ -47,7 +47,7 @@ impl Model for Fraction {
     ghost invariant = { λ f. (IsWithin f.top) × (IsWithin (pos f.bottom)) };
 }
 
-// the fraction of parts in lowest terms
+/// The fraction of a top and a bottom that have no common divisor.
 pub fn in_lowest_terms(top: i128, bottom: u128) -> Fraction
     requires top_within { IsWithin top }
     requires bottom_within { IsWithin (pos bottom) }
@@ -58,7 +58,7 @@ pub fn in_lowest_terms(top: i128, bottom: u128) -> Fraction
     Fraction { top, bottom }
 }
 
-// num / den
+/// The fraction num / den.
 fn reduce(num: i128, den: u128) -> Fraction
     requires num_within { IsWithin num }
     requires den_within { IsWithin (pos den) }
@@ -69,7 +69,7 @@ fn reduce(num: i128, den: u128) -> Fraction
     in_lowest_terms(signed_quotient(num, shared), quotient(den, shared))
 }
 
-// whether both are 1, by one comparison
+/// Whether both bottoms are 1; where it says no they may be all the same.
 #[inline]
 #[tactic(auto, using(crate::proofs::DivisorLemmas::both_one))]
 fn are_one(b: u128, d: u128) -> bool
@@ -81,6 +81,7 @@ fn are_one(b: u128, d: u128) -> bool
 }
 
 impl Fraction {
+    /// The whole number as a fraction.
     pub fn whole(value: i128) -> Fraction
         requires { IsWithin value }
         ensures { result ≡ whole value }
@@ -120,6 +121,7 @@ impl Fraction {
         self.bottom as i128
     }
 
+    /// Whether it is 0.
     pub fn is_zero(self) -> bool
         ensures { IsTrue result ↔ (self.num ≡ pos 0) }
     {
@@ -150,6 +152,7 @@ impl Fraction {
         self.top.signum() as i8
     }
 
+    /// The number with its sign turned.
     pub fn neg(self) -> Fraction
         ensures { result ≡ minus self }
     {
@@ -204,11 +207,12 @@ impl Fraction {
         requires { other.num ≢ pos 0 }
         ensures { OkIff result (IsNarrow (times self (inverse other))) (times self (inverse other)) }
     {
-        self.mul(other.turned())
+        self.mul(other.inverse())
     }
 
     // 1 over this number
-    fn turned(self) -> Fraction
+    /// 1 divided by the number.
+    fn inverse(self) -> Fraction
         requires { self.num ≢ pos 0 }
         ensures { result ≡ inverse self }
     {
@@ -237,6 +241,7 @@ impl Fraction {
     }
 
     // how the absolute values compare
+    /// How the absolute values compare.
     fn compare_size(self, other: Fraction) -> Ordering
         ensures { result ≡ nat_cmp (unsigned_abs self.num * other.den) (unsigned_abs other.num * self.den) }
     {

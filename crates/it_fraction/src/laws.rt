@@ -6,22 +6,27 @@ ghost use Rattle.it_fraction.specs.Fits.{DifferenceFits, IsNarrow, SumFits};
 
 use crate::fraction::Fraction;
 
+/// Sums of three numbers are the same in both groupings.
 pub fn sums_associate(x: Fraction, y: Fraction, z: Fraction)
     ensures { plus (plus x y) z ≡ plus x (plus y z) }
 {}
 
+/// Sums are the same in both orders.
 pub fn sums_commute(x: Fraction, y: Fraction)
     ensures { plus x y ≡ plus y x }
 {}
 
+/// Products of three numbers are the same in both groupings.
 pub fn products_associate(x: Fraction, y: Fraction, z: Fraction)
     ensures { times (times x y) z ≡ times x (times y z) }
 {}
 
+/// Products are the same in both orders.
 pub fn products_commute(x: Fraction, y: Fraction)
     ensures { times x y ≡ times y x }
 {}
 
+/// A product with a sum is the sum of the products.
 pub fn products_distribute(x: Fraction, y: Fraction, z: Fraction)
     ensures { times x (plus y z) ≡ plus (times x y) (times x z) }
 {}

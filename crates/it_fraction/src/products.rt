@@ -8,7 +8,7 @@ ghost use Rattle.it_fraction.specs.Fits.{IsNarrow};
 use crate::fraction::{Fraction, Wide, in_lowest_terms};
 use crate::steps::{common, product, quotient, signed_product, signed_quotient};
 
-// the product of a / b and c / d
+/// The product of a / b and c / d, each in lowest terms.
 pub fn parts_product(a: i128, b: u128, c: i128, d: u128) -> Result<Fraction, Wide>
     requires b_some { 0 < b }
     requires d_some { 0 < d }
@@ -27,7 +27,7 @@ pub fn parts_product(a: i128, b: u128, c: i128, d: u128) -> Result<Fraction, Wid
     Ok(in_lowest_terms(top, bottom))
 }
 
-// the product of two whole numbers
+/// The product of two whole numbers.
 pub fn whole_product(a: i128, c: i128) -> Result<Fraction, Wide>
     ensures { OkIff result (IsWithin (a *ℤ c)) (whole (a *ℤ c)) }
 {

@@ -9,7 +9,7 @@ use crate::fraction::Wide;
 
 const LARGEST: u128 = i128::MAX as u128;
 
-// the greatest common divisor
+/// The greatest common divisor.
 #[tactic(auto, using(crate::proofs::DivisorLemmas::gcd_above, crate::proofs::DivisorLemmas::gcd_of_one))]
 pub fn common(a: u128, b: u128) -> u128
     ensures value { result ≡ gcd a b }
@@ -24,6 +24,7 @@ pub fn common(a: u128, b: u128) -> u128
     }
 }
 
+/// The same in 64 bits.
 fn short_common(a: u64, b: u64) -> u64
     ensures { result ≡ gcd a b }
 {
@@ -37,6 +38,7 @@ fn short_common(a: u64, b: u64) -> u64
     larger
 }
 
+/// The same, in 64 bits as soon as a rest fits.
 fn long_common(a: u128, b: u128) -> u128
     ensures { result ≡ gcd a b }
 {
@@ -53,7 +55,7 @@ fn long_common(a: u128, b: u128) -> u128
     u128::from(short_common(smaller as u64, (larger % smaller) as u64))
 }
 
-// a / k
+/// a / k, rounded down.
 pub fn quotient(a: u128, k: u128) -> u128
     requires { 0 < k }
     ensures { result ≡ a / k }
@@ -67,7 +69,7 @@ pub fn quotient(a: u128, k: u128) -> u128
     }
 }
 
-// a / k, toward 0
+/// a / k, rounded towards 0.
 pub fn signed_quotient(a: i128, k: u128) -> i128
     requires within { IsWithin a }
     requires some { 0 < k }
@@ -77,6 +79,7 @@ pub fn signed_quotient(a: i128, k: u128) -> i128
     if a < 0 { -size } else { size }
 }
 
+/// The sum, wide past the limit.
 pub fn sum(a: i128, b: i128) -> Result<i128, Wide>
     ensures { OkIff result (IsWithin (a +ℤ b)) (a +ℤ b) }
 {
@@ -89,6 +92,7 @@ pub fn sum(a: i128, b: i128) -> Result<i128, Wide>
     }
 }
 
+/// The sum of two short numbers, which is never wide.
 fn short_sum(a: i64, b: i64) -> i128
     ensures value { result ≡ a +ℤ b }
     ensures within { IsWithin result }
@@ -96,6 +100,7 @@ fn short_sum(a: i64, b: i64) -> i128
     i128::from(a) + i128::from(b)
 }
 
+/// The difference, wide past the limit.
 pub fn difference(a: i128, b: i128) -> Result<i128, Wide>
     ensures { OkIff result (IsWithin (a -ℤ b)) (a -ℤ b) }
 {
@@ -105,6 +110,7 @@ pub fn difference(a: i128, b: i128) -> Result<i128, Wide>
     }
 }
 
+/// The product, wide past the limit.
 pub fn product(a: u128, b: u128) -> Result<u128, Wide>
     ensures { OkIff result (IsWithin (pos (a * b))) (a * b) }
 {
@@ -114,6 +120,7 @@ pub fn product(a: u128, b: u128) -> Result<u128, Wide>
     }
 }
 
+/// The product of two signed numbers, wide past the limit.
 pub fn signed_product(a: i128, b: i128) -> Result<i128, Wide>
     ensures { OkIff result (IsWithin (a *ℤ b)) (a *ℤ b) }
 {
@@ -126,6 +133,7 @@ pub fn signed_product(a: i128, b: i128) -> Result<i128, Wide>
     }
 }
 
+/// The product of two short numbers, which is never wide.
 fn short_product(a: i64, b: i64) -> i128
     ensures value { result ≡ a *ℤ b }
     ensures within { IsWithin result }
@@ -133,6 +141,7 @@ fn short_product(a: i64, b: i64) -> i128
     i128::from(a) * i128::from(b)
 }
 
+/// a times k, wide past the limit.
 pub fn multiple(a: i128, k: u128) -> Result<i128, Wide>
     requires { IsWithin (pos k) }
     ensures { OkIff result (IsWithin (a *ℤ pos k)) (a *ℤ pos k) }

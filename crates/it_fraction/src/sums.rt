@@ -8,7 +8,7 @@ ghost use Rattle.it_fraction.specs.Fits.{PartsFit};
 use crate::fraction::{Fraction, Wide, in_lowest_terms};
 use crate::steps::{common, multiple, product, quotient, signed_quotient, sum};
 
-// the sum of a / b and c / d
+/// The sum of a / b and c / d, each in lowest terms.
 pub fn parts_sum(a: i128, b: u128, c: i128, d: u128) -> Result<Fraction, Wide>
     requires b_some { 0 < b }
     requires d_some { 0 < d }
@@ -29,7 +29,7 @@ pub fn parts_sum(a: i128, b: u128, c: i128, d: u128) -> Result<Fraction, Wide>
     Ok(in_lowest_terms(signed_quotient(total, rest), bottom))
 }
 
-// the sum of two whole numbers
+/// The sum of two whole numbers.
 pub fn whole_sum(a: i128, c: i128) -> Result<Fraction, Wide>
     ensures { OkIff result (IsWithin (a +ℤ c)) (whole (a +ℤ c)) }
 {

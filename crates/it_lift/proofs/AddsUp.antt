@@ -8,9 +8,10 @@ use Rattle.std.proofs.lemmas.List.Elements.{filter-append, All-head, All-tail}
 use Rattle.std.proofs.lemmas.List.Concat.{flat_map-append}
 use Rattle.it_number.proofs.Integers.{zring}
 use Rattle.it_space.specs.Answers.{CertificateView}
-use Rattle.it_polymatroid.specs.Certificates.{Form, Generators, dot, IsLinear, one_at, combination}
+use Rattle.it_polymatroid.specs.Certificates.{Form, Generators, dot, IsLinear, combination}
+use Rattle.it_space.specs.Rows.{one_at}
 use Rattle.it_polymatroid.specs.Elementals.{span}
-use Rattle.it_polymatroid.proofs.Forms.{dot-add, dot-scale, dot-same, dot_from_one, linear-scale, linear-add, linear_zero, linear_at, linear_same}
+use Rattle.it_polymatroid.proofs.Forms.{dot_from_one, linear-scale, linear-add, linear_zero, linear_at, linear_same}
 use Rattle.it_elemental.proofs.Spans.{span-append}
 use Rattle.it_closure.specs.declared.dependences.Dependence.{Dependence}
 use Rattle.it_closure.specs.Closures.{closure}

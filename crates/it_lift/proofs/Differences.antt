@@ -9,8 +9,8 @@ use Rattle.it_closure.proofs.Insides.{at_most_at}
 use Rattle.it_lift.specs.Lifts.{set_difference}
 
 -- the other variables have nothing in common with a set
-apart : (n s : ℕ) → s < 2 ^ n → bit_and (2 ^ n - 1 - s) s ≡ 0
-apart n s h = omega (arith, and-not n s s h h, and_self s)
+pub rest_apart : (n s : ℕ) → s < 2 ^ n → bit_and (2 ^ n - 1 - s) s ≡ 0
+rest_apart n s h = omega (arith, and-not n s s h h, and_self s)
 
 less_is : (n s t : ℕ) → s < 2 ^ n → t < 2 ^ n → set_difference s t ≡ bit_and (2 ^ n - 1 - t) s
 less_is n s t hs ht = omega (arith, and-not n t s ht hs)
@@ -18,7 +18,7 @@ less_is n s t hs ht = omega (arith, and-not n t s ht hs)
 pub bit-less : (n s t i : ℕ) → s < 2 ^ n → t < 2 ^ n → bit_at (set_difference s t) i ≡ bit_at s i - bit_at t i
 bit-less n s t i hs ht =
     let rest : ℕ = bit_and (2 ^ n - 1 - t) s in
-    let none : min (bit_at (2 ^ n - 1 - t) i) (bit_at t i) ≡ 0 = sym (bit_at_and (2 ^ n - 1 - t) t i) ∙ ap (λ m. bit_at m i) (apart n t ht) ∙ bit_at-zero i in
+    let none : min (bit_at (2 ^ n - 1 - t) i) (bit_at t i) ≡ 0 = sym (bit_at_and (2 ^ n - 1 - t) t i) ∙ ap (λ m. bit_at m i) (rest_apart n t ht) ∙ bit_at-zero i in
     let low : bit_at rest i ≡ min (bit_at (2 ^ n - 1 - t) i) (bit_at s i) = bit_at_and (2 ^ n - 1 - t) s i in
     let split : max (bit_at rest i) (min (bit_at t i) (bit_at s i)) ≡ bit_at s i =
     ap (λ m. max (bit_at rest i) m) (sym (bit_at_and t s i)) ∙ sym (bit_at_or rest (bit_and t s) i) ∙ ap (λ m. bit_at m i) whole in
@@ -29,7 +29,7 @@ bit-less n s t i hs ht =
 
     disjoint : bit_and (bit_and (2 ^ n - 1 - t) s) (bit_and t s) ≡ 0
     disjoint = same_from_bits (bit_and (bit_and (2 ^ n - 1 - t) s) (bit_and t s)) 0 (λ i.
-        let none : min (bit_at (2 ^ n - 1 - t) i) (bit_at t i) ≡ 0 = sym (bit_at_and (2 ^ n - 1 - t) t i) ∙ ap (λ m. bit_at m i) (apart n t ht) ∙ bit_at-zero i in
+        let none : min (bit_at (2 ^ n - 1 - t) i) (bit_at t i) ≡ 0 = sym (bit_at_and (2 ^ n - 1 - t) t i) ∙ ap (λ m. bit_at m i) (rest_apart n t ht) ∙ bit_at-zero i in
         omega (arith, bit_at_and (bit_and (2 ^ n - 1 - t) s) (bit_and t s) i, bit_at_and (2 ^ n - 1 - t) s i, bit_at_and t s i, bit_at-zero i, none))
 
     whole : bit_or (bit_and (2 ^ n - 1 - t) s) (bit_and t s) ≡ s

@@ -1,6 +1,6 @@
 -- Weights that move in one direction stay between their start and their end.
 use Rattle.std.proofs.Common.{◌≡◌, ℕ, zero, suc, ◌+◌, ◌^◌, ◌<◌, ◌≤◌, ℤ, pos, negsuc, neg_ℤ, ◌+ℤ◌, ◌≤ℤ◌, List, [], ◌∷◌, ◌++◌, length, Option, Some, None, Bool, true, false, cond, nat_eq, bit_or, bit_and, refl, sym, ap, subst, ◌∙◌, arith, eq-eqb, ne_eqb}
-use Rattle.std.specs.List.{flat_map}
+use Rattle.std.specs.List.{flat_map, AllByRecursion as Every}
 use Rattle.std.proofs.lemmas.Int.{ints}
 use Rattle.std.proofs.lemmas.Bool.{eqb-true}
 use Rattle.std.proofs.lemmas.Nat.{or_lt, and_le_r}
@@ -8,15 +8,15 @@ use Rattle.it_number.specs.Limit.{IsWithin}
 use Rattle.it_space.specs.Rows.{coefficient}
 use Rattle.it_space.specs.Sets.{IsInside}
 use Rattle.it_space.specs.Sums.{plus_at}
-use Rattle.it_space.proofs.SumLemmas.{coefficient-append}
 use Rattle.it_polymatroid.specs.Elementals.{Elemental, elementals, span}
-use Rattle.it_polymatroid.proofs.Every.{Every, every_of, every-append, every-map, every-same, every-flat_map, every-span}
+use Rattle.it_space.proofs.EveryLemmas.{every_of, every-append, every-map, every-same, every-flat_map}
+use Rattle.it_polymatroid.proofs.EverySpan.{every-span}
 use Rattle.it_elemental.specs.Views.{IsElemental}
 use Rattle.it_elemental.specs.Expansions.{members, mutual_expansion, conditional_expansion}
 use Rattle.it_closure.specs.declared.dependences.Dependence.{Dependence}
 use Rattle.it_closure.specs.Closures.{closure, way, first_open, IsClosureOf}
 use Rattle.it_closure.specs.Collapse.{AreDependences}
-use Rattle.it_closure.proofs.Insides.{inside_meet, inside_le, grows}
+use Rattle.it_closure.proofs.Insides.{inside_le, grows}
 use Rattle.it_closure.proofs.Meets.{closure_is}
 use Rattle.it_closure.proofs.Ways.{IsOpenOf, open_where, way-end, way-more, some_open}
 use Rattle.it_elemental.specs.Indexes.{index_of}
@@ -25,6 +25,8 @@ use Rattle.it_lift.specs.Fits.{WayFits, Ascend, AreNumbered, WayFitsAsEnd}
 use Rattle.it_elemental.proofs.IndexLemmas.{at_index}
 use Rattle.it_lift.proofs.Validity.{mutual_valid, conditional_valid}
 use Rattle.it_lift.proofs.Differences.{less_apart, less_less, less_meet, less_meet_right}
+use Rattle.it_space.proofs.TermLemmas.{coefficient-append}
+use Rattle.it_polymatroid.proofs.Images.{inside_meet}
 
 -- up or down
 abbrev pub Goes : Bool → ℤ → Type 0

@@ -6,7 +6,8 @@ use Rattle.std.proofs.lemmas.Bool.{cases_order}
 use Rattle.std.proofs.Math.Pow.{pow_mono}
 use Rattle.it_number.specs.Limit.{IsWithin}
 use Rattle.it_space.specs.Answers.{CertificateView}
-use Rattle.it_polymatroid.specs.Certificates.{Form, Generators, one_at, combination}
+use Rattle.it_polymatroid.specs.Certificates.{Form, Generators, combination}
+use Rattle.it_space.specs.Rows.{one_at}
 use Rattle.it_polymatroid.specs.Elementals.{span}
 use Rattle.it_closure.specs.declared.dependences.Dependence.{Dependence}
 use Rattle.it_closure.specs.Closures.{closure}

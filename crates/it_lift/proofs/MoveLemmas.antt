@@ -1,26 +1,27 @@
 -- What is added to the weights sums, at every map, to what is left over.
 use Rattle.std.proofs.Common.{◌≡◌, ℕ, zero, suc, ◌+◌, ◌^◌, ◌<◌, ◌≤◌, ℤ, pos, negsuc, neg_ℤ, ◌+ℤ◌, ◌-ℤ◌, ◌*ℤ◌, List, [], ◌∷◌, ◌++◌, map, length, Option, Some, None, Bool, true, false, cond, bit_and, bit_or, refl, sym, ap, ap₂, ◌∙◌, arith, All}
-use Rattle.std.specs.List.{flat_map}
+use Rattle.std.specs.List.{flat_map, AllByRecursion as Every}
 use Rattle.std.proofs.lemmas.Int.{ints}
 use Rattle.std.proofs.lemmas.Nat.{or_lt, and_le_r}
 use Rattle.it_number.proofs.Integers.{zring}
 use Rattle.it_space.specs.Sets.{IsInside}
 use Rattle.it_polymatroid.specs.Certificates.{combination}
 use Rattle.it_polymatroid.specs.Elementals.{Elemental, elementals, elemental_at, worth}
-use Rattle.it_polymatroid.proofs.Every.{Every, every_of}
+use Rattle.it_space.proofs.EveryLemmas.{every_of}
 use Rattle.it_elemental.specs.Views.{IsElemental}
 use Rattle.it_elemental.specs.Expansions.{members, mutual_expansion, conditional_expansion, worth_together}
 use Rattle.it_elemental.proofs.Sums.{mutual_total, conditional_total}
 use Rattle.it_closure.specs.declared.dependences.Dependence.{Dependence}
 use Rattle.it_closure.specs.Closures.{closure, way, first_open, IsClosureOf}
 use Rattle.it_closure.specs.Collapse.{AreDependences}
-use Rattle.it_closure.proofs.Insides.{inside-trans, inside-refl, inside-antisym, inside_left, inside_meet, or_inside, inside_le, grows}
+use Rattle.it_closure.proofs.Insides.{inside-trans, inside-refl, inside-antisym, inside_left, or_inside, inside_le, grows}
 use Rattle.it_closure.proofs.Meets.{closure_is}
 use Rattle.it_closure.proofs.Ways.{IsOpenOf, open_where, closed_where, way-end, way-more, some_open}
 use Rattle.it_elemental.specs.Indexes.{index_of}
 use Rattle.it_lift.specs.Lifts.{set_difference, each_weight, turn_moves, moves_at, signed_value}
 use Rattle.it_lift.proofs.Validity.{mutual_valid, conditional_valid, back_listed, listed}
 use Rattle.it_lift.proofs.Differences.{less_below, less_apart, less_less, less_meet, less_meet_right, less_joined, less_joined_right, less_all, less_inner}
+use Rattle.it_polymatroid.proofs.Images.{inside_meet}
 
 pub weighted-append : (xs ys : List (ℕ × ℤ)) (f : ℕ → ℤ) → combination (xs ++ ys) f ≡ combination xs f +ℤ combination ys f
 weighted-append [] ys f = omega (arith, ints)

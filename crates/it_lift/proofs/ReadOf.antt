@@ -6,8 +6,9 @@ use Rattle.it_space.specs.Problems.{ProblemView}
 use Rattle.it_space.specs.Rows.{value, IsUpTo}
 use Rattle.it_space.specs.Spaces.{size_of}
 use Rattle.it_polymatroid.specs.Elementals.{elementals}
-use Rattle.it_polymatroid.proofs.Every.{Every, all_of, every-same}
-use Rattle.it_elemental.specs.Rows.{term_at}
+use Rattle.std.specs.List.{AllByRecursion as Every}
+use Rattle.it_space.proofs.EveryLemmas.{all_of, every-same}
+use Rattle.it_elemental.specs.Rows.{set_term}
 use Rattle.it_closure.specs.declared.dependences.Dependence.{Dependence}
 use Rattle.it_closure.specs.Reading.{dependence_row, one_if, read_one, read_from, dependences_of}
 use Rattle.it_closure.proofs.ReadLemmas.{reads_exactly}
@@ -36,7 +37,7 @@ ascend_read s size g (c ∷ cs) u = by_option (read_one s.variables g c) refl (a
         (omega arith, lower (d.generator + 1) (g + 1) (read_from s.variables (g + 1) cs) (omega arith) a)
 
 -- the value of the row
-value-two : (f t : ℕ) (a b : ℤ) (h : ℕ → ℤ) → h 0 ≡ pos 0 → value (term_at f a ++ term_at t b) h ≡ a *ℤ h f +ℤ b *ℤ h t
+value-two : (f t : ℕ) (a b : ℤ) (h : ℕ → ℤ) → h 0 ≡ pos 0 → value (set_term f a ++ set_term t b) h ≡ a *ℤ h f +ℤ b *ℤ h t
 value-two zero zero a b h z = rw z (omega (arith, ints))
 value-two zero (suc t) a b h z = rw z (omega (arith, ints))
 value-two (suc f) zero a b h z = rw z (omega (arith, ints))

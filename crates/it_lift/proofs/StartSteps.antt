@@ -1,15 +1,16 @@
 -- Lists of weights by number, and the list of all weights.
 use Rattle.std.proofs.Common.{◌≡◌, ℕ, zero, suc, ◌+◌, ◌<◌, ◌≤◌, ℤ, pos, negsuc, ◌+ℤ◌, List, [], ◌∷◌, ◌++◌, length, take, get_or, set, Bool, true, false, cond, nat_eq, refl, sym, ap, subst, ◌∙◌, arith, eq-eqb, ne_eqb, All, lit<}
 use Rattle.it_number.specs.Limit.{IsWithin}
-use Rattle.it_polymatroid.proofs.Every.{Every, every_of}
+use Rattle.std.specs.List.{AllByRecursion as Every}
+use Rattle.it_space.proofs.EveryLemmas.{every_of}
 use Rattle.std.proofs.lemmas.Int.{ints}
 use Rattle.std.proofs.lemmas.Bool.{eqb-true}
 use Rattle.std.proofs.lemmas.List.{take_more, get_or-set_other}
 use Rattle.std.proofs.lemmas.Grind.{get_or-set_at}
-use Rattle.it_space.specs.Rows.{coefficient}
-use Rattle.it_space.specs.Sums.{number_at, term_if, terms_from}
+use Rattle.it_space.specs.Rows.{coefficient, term_at}
+use Rattle.it_space.specs.Sums.{number_at, terms_from}
 use Rattle.it_lift.specs.Lifted.{InOrder}
-use Rattle.it_space.proofs.SumLemmas.{coefficient-append}
+use Rattle.it_space.proofs.TermLemmas.{coefficient-append}
 
 order_at : (from : ℕ) (ws : List (ℕ × ℤ)) (k : ℕ) (d : ℕ × ℤ) → InOrder from ws → k < length ws → from ≤ (get_or ws k d).0
 order_at from [] k d o h = absurd (omega arith)
@@ -55,18 +56,18 @@ start-more ws k d xs o h l same i = by_test (nat_eq w.0 i) refl ∙ sym more
         ∙ ap (λ b. coefficient (take k ws) i +ℤ (cond b w.1 (pos 0) +ℤ pos 0)) (sym e)
 
 -- the numbers other than 0 are in order
-if_order : (i : ℕ) (x : ℤ) (ws : List (ℕ × ℤ)) → InOrder (i + 1) ws → InOrder i (term_if i x ++ ws)
-if_order i (pos zero) ws o = lower ws o
+in_order-term_at : (i : ℕ) (x : ℤ) (ws : List (ℕ × ℤ)) → InOrder (i + 1) ws → InOrder i (term_at i x ++ ws)
+in_order-term_at i (pos zero) ws o = lower ws o
   where
     lower : (ws : List (ℕ × ℤ)) → InOrder (i + 1) ws → InOrder i ws
     lower [] o = tt
     lower (w ∷ ws) o = (omega (arith, o.0), o.1)
-if_order i (pos (suc x)) ws o = (omega arith, o)
-if_order i (negsuc x) ws o = (omega arith, o)
+in_order-term_at i (pos (suc x)) ws o = (omega arith, o)
+in_order-term_at i (negsuc x) ws o = (omega arith, o)
 
 pub weights_order : (first : ℕ) (xs : List ℤ) → InOrder first (terms_from first xs)
 weights_order first [] = tt
-weights_order first (x ∷ xs) = if_order first x (terms_from (first + 1) xs) (weights_order (first + 1) xs)
+weights_order first (x ∷ xs) = in_order-term_at first x (terms_from (first + 1) xs) (weights_order (first + 1) xs)
 
 -- the weights of a list in order are its numbers or 0
 pub parts_within : (ws : List (ℕ × ℤ)) → InOrder 0 ws → All (λ p. IsWithin p.1) ws → (i : ℕ) → IsWithin (coefficient ws i)

@@ -5,7 +5,8 @@ use Rattle.std.proofs.lemmas.List.{drop_more, take_more, take-append-drop, map-a
 use Rattle.it_number.specs.Limit.{IsWithin}
 use Rattle.it_space.specs.Rows.{coefficient}
 use Rattle.it_polymatroid.specs.Elementals.{Elemental, elementals, elemental_at}
-use Rattle.it_polymatroid.proofs.Every.{Every, every_of}
+use Rattle.std.specs.List.{AllByRecursion as Every}
+use Rattle.it_space.proofs.EveryLemmas.{every_of}
 use Rattle.it_elemental.specs.Expansions.{members, mutual_expansion, conditional_expansion}
 use Rattle.it_closure.specs.declared.dependences.Dependence.{Dependence}
 use Rattle.it_lift.specs.Lifts.{each_weight, set_difference, signed_value, turn_moves}
@@ -33,9 +34,6 @@ fits_front f (x ∷ xs) ys h = (h.0, fits_front (plus_at f x) xs ys h.1)
 pub fits_back : (f : ℕ → ℤ) (xs ys : List (ℕ × ℤ)) → WayFits f (xs ++ ys) → WayFits (weights_after f xs) ys
 fits_back f [] ys h = h
 fits_back f (x ∷ xs) ys h = fits_back (plus_at f x) xs ys h.1
-
-pub added-none : (old : List ℤ) → AreAdded old old []
-added-none old = record { fits = tt; same = refl; complete = refl }
 
 pub added-append : (a b c : List ℤ) (xs ys : List (ℕ × ℤ)) → AreAdded a b xs → AreAdded b c ys → AreAdded a c (xs ++ ys)
 added-append a b c xs ys h k = record {
@@ -109,7 +107,3 @@ third_stops a b c xs ys zs ms e h k n = subst (λ (m : List (ℕ × ℤ)). ¬ (W
 
 pub all_added : (a b c d : List ℤ) (xs ys zs ms : List (ℕ × ℤ)) → (xs ++ ys) ++ zs ≡ ms → AreAdded a b xs → AreAdded b c ys → AreAdded c d zs → AreAdded a d ms
 all_added a b c d xs ys zs ms e h k l = subst (AreAdded a d) e (added-append a c d (xs ++ ys) zs (added-append a b c xs ys h k) l)
-
--- a fault that says so
-pub where_fault : {F P Q : Type 0} → (F → P) → (P → Q) → F → Q
-where_fault f g x = g (f x)

@@ -21,7 +21,8 @@ use Rattle.it_lift.specs.Lifts.{excess, set_difference, each_weight, turn_moves,
 use Rattle.it_lift.specs.Lifted.{AreOf, AddUpOverClosed, IsLiftOf}
 use Rattle.it_lift.proofs.AddsUp.{lift_adds_up}
 use Rattle.it_lift.proofs.MoveLemmas.{own_closure}
-use Rattle.it_lift.proofs.Whole.{sets_here, have, value_linear, form_linear}
+use Rattle.it_lift.proofs.Whole.{sets_here, have, form_linear}
+use Rattle.it_polymatroid.proofs.Forms.{value_linear}
 
 at-none : (n s : ℕ) (x : ℤ) → s < 2 ^ n → moves_at n [] s x ≡ []
 at-none n s (pos zero) l = refl

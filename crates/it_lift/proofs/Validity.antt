@@ -1,13 +1,11 @@
 -- Expansions have elemental inequalities of the list alone.
-use Rattle.std.proofs.Common.{◌≡◌, ◌≢◌, ◌⊎◌, inl, inr, ℕ, zero, suc, ◌+◌, ◌-◌, ◌^◌, ◌<◌, ◌≤◌, List, [], ◌∷◌, ◌++◌, map, Bool, true, false, cond, nat_lt, bit_and, refl, sym, ap, subst, ◌∙◌, arith, length}
-use Rattle.std.specs.List.{filter}
+use Rattle.std.proofs.Common.{◌≡◌, ◌≢◌, ◌⊎◌, inl, inr, ℕ, zero, suc, ◌+◌, ◌-◌, ◌^◌, ◌<◌, List, [], ◌∷◌, map, Bool, true, false, cond, nat_lt, bit_and, refl, sym, ap, subst, ◌∙◌, arith, length}
+use Rattle.std.specs.List.{filter, AllByRecursion as Every}
 use Rattle.std.specs.Int.{bit_at}
 use Rattle.std.proofs.lemmas.Bool.{cases_order}
-use Rattle.std.proofs.lemmas.Nat.{and-not}
-use Rattle.std.specs.Int.Bits.{and_self}
 use Rattle.it_space.specs.Sets.{has_member}
 use Rattle.it_polymatroid.specs.Elementals.{Elemental, Mutual, elementals, elemental_at, span}
-use Rattle.it_polymatroid.proofs.Every.{Every, every-append, every-map, every-same}
+use Rattle.it_space.proofs.EveryLemmas.{every-append, every-map, every-same}
 use Rattle.it_polymatroid.proofs.Instances.{with_lt}
 use Rattle.it_elemental.specs.Views.{IsElemental}
 use Rattle.it_elemental.specs.Expansions.{members, mutual_between, expand_row, mutual_expansion, conditional_expansion}
@@ -15,6 +13,7 @@ use Rattle.it_elemental.proofs.Members.{not_both, member_bit, with_other, with_s
 use Rattle.it_elemental.proofs.ExpansionLemmas.{IsFilling, filling-start, filling-with, filling-without}
 use Rattle.it_elemental.specs.Indexes.{index_of}
 use Rattle.it_elemental.proofs.IndexLemmas.{at_index}
+use Rattle.it_lift.proofs.Differences.{rest_apart}
 
 -- two variables and a set without them, in either order
 between : (n x y c : ℕ) → x < n → y < n → c < 2 ^ n → bit_at c x ≡ 0 → bit_at c y ≡ 0 → x ≢ y → IsElemental n (mutual_between x y c)
@@ -73,9 +72,6 @@ mutual_valid_from n a b (suc count) i c e f bc ab = by_test (has_member a i) ref
 pub mutual_valid : (n a b c : ℕ) → c < 2 ^ n → bit_and a c ≡ 0 → bit_and b c ≡ 0 → bit_and a b ≡ 0 → Every (IsElemental n) (mutual_expansion (members n a) (members n b) c)
 mutual_valid n a b c l ac bc ab = mutual_valid_from n a b n 0 c (omega arith) (filling-start n a c l ac) bc ab
 
-outside_apart : (n s : ℕ) → s < 2 ^ n → bit_and (2 ^ n - 1 - s) s ≡ 0
-outside_apart n s h = omega (arith, and-not n s s h h, and_self s)
-
 conditional_valid_from : (n a count i c : ℕ) → i + count ≡ n → IsFilling n a i c → Every (IsElemental n) (conditional_expansion n (filter (has_member a) (span i count)) c)
 conditional_valid_from n a zero i c e f = tt
 conditional_valid_from n a (suc count) i c e f = by_test (has_member a i) refl (λ d g. conditional_valid_from n a count (i + 1) d (omega arith) g)
@@ -90,7 +86,7 @@ conditional_valid_from n a (suc count) i c e f = by_test (has_member a i) refl (
         let lacks : bit_at c i ≡ 0 = f.without_later i (omega arith) one in
         let below : c + 2 ^ i < 2 ^ n = with_lt n c i (omega arith) f.below lacks in
         let o : ℕ = 2 ^ n - 1 - (c + 2 ^ i) in
-        let apart : bit_and o (c + 2 ^ i) ≡ 0 = outside_apart n (c + 2 ^ i) below in
+        let apart : bit_and o (c + 2 ^ i) ≡ 0 = rest_apart n (c + 2 ^ i) below in
         subst (λ (t : Bool). Every (IsElemental n) (conditional_expansion n (cond t (i ∷ rest) rest) c)) (sym m) (
           omega arith,
           every-append (IsElemental n) (expand_row i (members n o) c) (conditional_expansion n rest (c + 2 ^ i))

@@ -4,7 +4,7 @@ use Rattle.std.specs.List.{flat_map}
 use Rattle.std.proofs.lemmas.List.{append_assoc}
 use Rattle.std.proofs.lemmas.Nat.{or_lt}
 use Rattle.it_space.specs.Sets.{IsInside}
-use Rattle.it_polymatroid.proofs.Every.{every_of}
+use Rattle.it_space.proofs.EveryLemmas.{every_of}
 use Rattle.it_closure.specs.declared.dependences.Dependence.{Dependence}
 use Rattle.it_closure.specs.Closures.{first_open, way}
 use Rattle.it_closure.specs.Collapse.{AreDependences}

@@ -1,24 +1,24 @@
 -- The lift as a whole.
-use Rattle.std.proofs.Common.{◌≤ℤ◌, ◌≢◌, negsuc, ◌≡◌, ◌↔◌, ℕ, zero, suc, ◌+◌, ◌^◌, ◌<◌, ◌≤◌, ℤ, pos, ◌+ℤ◌, ◌*ℤ◌, List, [], ◌∷◌, ◌++◌, length, Bool, true, false, cond, nat_eq, refl, sym, ap, subst, ◌∙◌, arith, All, ne_eqb}
-use Rattle.it_space.specs.Sums.{term_if, number_at, terms_from}
+use Rattle.std.proofs.Common.{◌≤ℤ◌, ◌≢◌, negsuc, ◌≡◌, ◌↔◌, ℕ, zero, suc, ◌+◌, ◌^◌, ◌<◌, ◌≤◌, ℤ, pos, ◌+ℤ◌, List, [], ◌∷◌, ◌++◌, length, Bool, true, false, cond, nat_eq, refl, sym, ap, subst, ◌∙◌, arith, All, ne_eqb}
+use Rattle.it_space.specs.Rows.{term_at, Terms, coefficient, value, IsUpTo}
+use Rattle.it_space.specs.Sums.{number_at, terms_from}
 use Rattle.it_polymatroid.specs.Certificates.{IsAllowed, IsLinear}
 use Rattle.std.proofs.lemmas.Int.{ints}
 use Rattle.std.proofs.lemmas.Bool.{eqb-true}
 use Rattle.std.proofs.lemmas.Nat.{pow_pos}
-use Rattle.std.proofs.lemmas.List.Elements.{All-head, All-tail}
 use Rattle.it_space.specs.Problems.{ProblemView, IsProblem}
 use Rattle.it_space.specs.Answers.{CertificateView}
-use Rattle.it_space.specs.Rows.{Terms, coefficient, value, IsUpTo}
 use Rattle.it_space.specs.Spaces.{size_of}
 use Rattle.it_polymatroid.specs.Elementals.{elementals, elemental_at, worth}
-use Rattle.it_polymatroid.proofs.Forms.{linear-scale, linear-add, linear_zero, linear_at}
-use Rattle.it_polymatroid.proofs.Every.{Every, every_of, all_of, every-same}
+use Rattle.it_polymatroid.proofs.Forms.{value_linear}
+use Rattle.std.specs.List.{AllByRecursion as Every}
+use Rattle.it_space.proofs.EveryLemmas.{every_of, all_of, every-same}
 use Rattle.it_closure.specs.declared.dependences.Dependence.{Dependence}
 use Rattle.it_closure.specs.DependencesViews.{DependencesView, AreOfSpace}
 use Rattle.it_closure.proofs.ClosingLoop.{of_space}
 use Rattle.it_lift.specs.Fits.{WayFits, EmptyFits}
 use Rattle.it_elemental.specs.Generators.{generators, generator_at, generators_of}
-use Rattle.it_space.proofs.SumLemmas.{coefficient-append, terms_from_zero}
+use Rattle.it_space.proofs.SumLemmas.{terms_from_zero}
 use Rattle.it_polymatroid.proofs.Coefficients.{weighted_same}
 use Rattle.it_lift.specs.Lifts.{excess, moves, lifted_weights, HaveDependences}
 use Rattle.it_lift.specs.Lifted.{AreOf, AddUpOverClosed, IsLiftOf, FitsLift}
@@ -28,14 +28,7 @@ use Rattle.it_lift.proofs.Directions.{Goes, goes_up, goes-total, moves_go, way_f
 use Rattle.it_lift.proofs.GeneratorLemmas.{form_own, row_of_space}
 use Rattle.it_lift.proofs.StartSteps.{weights_order, parts_within}
 use Rattle.it_lift.proofs.SumSteps.{after-total}
-
--- one place alone
--- rows are linear
-pub value_linear : (size : ℕ) (row : Terms) → IsUpTo size row → IsLinear (size + 1) (value row)
-value_linear size [] a = linear_zero (size + 1)
-value_linear size (t ∷ ts) a =
-    linear-add (size + 1) (λ p. t.1 *ℤ p t.0) (value ts) (linear-scale (size + 1) t.1 (λ p. p t.0) (linear_at (size + 1) t.0 (omega (arith, (All-head (λ t. (1 ≤ t.0) × (t.0 ≤ size)) t ts a).1))))
-    (value_linear size ts (All-tail (λ t. (1 ≤ t.0) × (t.0 ≤ size)) t ts a))
+use Rattle.it_space.proofs.TermLemmas.{coefficient-append}
 
 sets_of : (q : ProblemView) → IsProblem q → 2 ^ q.space.variables ≤ size_of q.space + 1
 sets_of q p = omega (arith, pow_pos q.space.variables)
@@ -74,7 +67,7 @@ weights_parts first (x ∷ xs) P f =
     let z : first + 0 ≡ first = omega arith in
     here x (subst (λ (m : ℕ). P m x) z (f 0 (omega arith))) (weights_parts (first + 1) xs P (λ k l. let e : first + suc k ≡ first + 1 + k = omega arith in subst (λ (m : ℕ). P m (number_at xs k)) e (f (suc k) (omega arith))))
   where
-    here : (y : ℤ) → P first y → Every (λ w. P w.0 w.1) (terms_from (first + 1) xs) → Every (λ w. P w.0 w.1) (term_if first y ++ terms_from (first + 1) xs)
+    here : (y : ℤ) → P first y → Every (λ w. P w.0 w.1) (terms_from (first + 1) xs) → Every (λ w. P w.0 w.1) (term_at first y ++ terms_from (first + 1) xs)
     here (pos zero) p e = e
     here (pos (suc y)) p e = (p, e)
     here (negsuc y) p e = (p, e)
@@ -136,7 +129,7 @@ lift_fits q d target old start s a c is =
 pub weights_some : (first : ℕ) (xs : List ℤ) → All (λ (w : ℕ × ℤ). w.1 ≢ pos 0) (terms_from first xs)
 weights_some first xs = all_of (λ (w : ℕ × ℤ). w.1 ≢ pos 0) (terms_from first xs) (each first xs)
   where
-    here : (first : ℕ) (y : ℤ) (rest : List (ℕ × ℤ)) → Every (λ (w : ℕ × ℤ). w.1 ≢ pos 0) rest → Every (λ (w : ℕ × ℤ). w.1 ≢ pos 0) (term_if first y ++ rest)
+    here : (first : ℕ) (y : ℤ) (rest : List (ℕ × ℤ)) → Every (λ (w : ℕ × ℤ). w.1 ≢ pos 0) rest → Every (λ (w : ℕ × ℤ). w.1 ≢ pos 0) (term_at first y ++ rest)
     here first (pos zero) rest e = e
     here first (pos (suc y)) rest e = (λ z. omega (arith, ints, z), e)
     here first (negsuc y) rest e = (λ z. omega (arith, ints, z), e)

@@ -2,9 +2,9 @@
 use Rattle.std.specs.Prelude.{ℕ, ◌+◌, ◌^◌, ◌<◌, ◌≤◌, ℤ, pos, ◌+ℤ◌, ◌-ℤ◌, ◌*ℤ◌, List, [], ◌∷◌, length, ◌↔◌}
 use Rattle.it_number.specs.Limit.{IsWithin}
 use Rattle.it_space.specs.Answers.{CertificateView}
-use Rattle.it_space.specs.Rows.{coefficient}
+use Rattle.it_space.specs.Rows.{coefficient, one_at}
 use Rattle.it_space.specs.Sums.{plus_at}
-use Rattle.it_polymatroid.specs.Certificates.{Form, Generators, one_at}
+use Rattle.it_polymatroid.specs.Certificates.{Form, Generators}
 use Rattle.it_polymatroid.specs.Elementals.{elementals}
 use Rattle.it_closure.specs.declared.dependences.Dependence.{Dependence}
 use Rattle.it_lift.specs.Lifts.{excess, null_sets, moves, lifted_weights}

@@ -1,7 +1,8 @@
 -- From weights that add up over closed sets to weights that add up over all sets.
 use Rattle.std.specs.Prelude.{◌≡◌, ℕ, zero, suc, ◌-◌, ◌^◌, ◌<◌, ◌≤◌, ℤ, pos, negsuc, neg_ℤ, ◌+ℤ◌, ◌-ℤ◌, ◌*ℤ◌, List, [], ◌∷◌, ◌++◌, length, map, filter, flat_map, Bool, nat_eq, bit_and, if◌then◌else◌, All}
 use Rattle.it_space.specs.Answers.{CertificateView}
-use Rattle.it_polymatroid.specs.Certificates.{Form, Generators, IsLinear, one_at, combination}
+use Rattle.it_polymatroid.specs.Certificates.{Form, Generators, IsLinear, combination}
+use Rattle.it_space.specs.Rows.{one_at}
 use Rattle.it_polymatroid.specs.Elementals.{Elemental, elementals, elemental_at, worth, span}
 use Rattle.it_elemental.specs.Expansions.{members, mutual_expansion, conditional_expansion}
 use Rattle.it_closure.specs.declared.dependences.Dependence.{Dependence}

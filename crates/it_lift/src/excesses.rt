@@ -3,8 +3,8 @@ ghost use Rattle.std.specs.Prelude.{◌≡◌, ◌<◌, ◌+◌, ◌^◌, ℤ, p
 ghost use Rattle.it_number.specs.Limit.{IsWithin};
 ghost use Rattle.it_space.specs.Answers.{certificate_view};
 ghost use Rattle.it_space.specs.Problems.{IsProblem, problem_view};
-ghost use Rattle.it_space.specs.Rows.{value};
-ghost use Rattle.it_polymatroid.specs.Certificates.{one_at, combination};
+ghost use Rattle.it_space.specs.Rows.{value, one_at};
+ghost use Rattle.it_polymatroid.specs.Certificates.{combination};
 ghost use Rattle.it_lift.specs.Fits.{EmptyFits, ExcessFits, FallFits};
 ghost use Rattle.it_elemental.specs.Generators.{generators_of};
 ghost use Rattle.it_lift.specs.Lifts.{excess, with_empty};

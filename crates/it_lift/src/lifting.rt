@@ -46,6 +46,7 @@ pub fn lift(
     lift_all(alloc, problem, dependences, target, collapsed)
 }
 
+/// The certificate once more.
 fn copy_of(alloc: Global, certificate: &Certificate) -> Result<Certificate, AllocError>
     ensures { IfOk result (λ c. certificate_view c ≡ certificate_view certificate.now) }
 {

@@ -57,7 +57,7 @@ impl WeightSums {
         ensures added { OnOk result (AreAdded self.old self.new ((index, signed_value taken (pos amount)) ∷ [])) }
         ensures wide { OnErr result (¬ WayFits (number_at self.old) ((index, signed_value taken (pos amount)) ∷ [])) }
     {
-        self.sums.add(index as usize, signed(amount, taken))
+        self.sums.add(index as usize, signed_amount(amount, taken))
     }
 
     /// Adds the same to each of some weights.
@@ -75,7 +75,7 @@ impl WeightSums {
 }
 
 /// The amount, or its negation where it is taken off.
-fn signed(amount: u128, taken: bool) -> i128
+fn signed_amount(amount: u128, taken: bool) -> i128
     requires { amount < 2 ^ 127 }
     ensures { result ≡ signed_value taken (pos amount) }
 {
@@ -83,6 +83,7 @@ fn signed(amount: u128, taken: bool) -> i128
     if taken { -amount } else { amount }
 }
 
+/// The weights by their generators' numbers, 0 where none is.
 fn sums_of(alloc: Global, count: usize, weights: &[(u32, i128)]) -> Result<Sums, AllocError>
     requires order { InOrder 0 weights.now }
     requires places { All (λ w. w.0 < count) weights.now }

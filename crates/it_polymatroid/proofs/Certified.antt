@@ -1,16 +1,11 @@
 -- Weak duality: a certificate makes its target at least 0.
-use Rattle.std.proofs.Common.{◌≡◌, ℕ, zero, suc, ◌+◌, ◌-◌, ◌^◌, ◌<◌, ◌≤◌, ℤ, pos, negsuc, ◌+ℤ◌, ◌*ℤ◌, ◌≤ℤ◌, refl, sym, ap, ap₂, subst, ◌∙◌, arith, List, [], ◌∷◌, length, Bool, true, false, All}
+use Rattle.std.proofs.Common.{◌≡◌, ℕ, zero, suc, ◌+◌, ◌-◌, ◌<◌, ◌≤◌, ℤ, pos, negsuc, ◌+ℤ◌, ◌*ℤ◌, ◌≤ℤ◌, refl, sym, ap, ap₂, subst, ◌∙◌, arith, List, [], ◌∷◌, Bool, true, false, All}
 use Rattle.std.proofs.lemmas.Int.{ints}
 use Rattle.std.proofs.lemmas.List.Elements.{All-head, All-tail}
-use Rattle.std.proofs.lemmas.Nat.{pow_pos}
 use Rattle.it_space.specs.Answers.{CertificateView}
-use Rattle.it_polymatroid.specs.Polymatroid.{IsPolymatroid}
-use Rattle.it_polymatroid.specs.Elementals.{Conditional, worth, elementals, elemental_at}
-use Rattle.it_polymatroid.specs.Certificates.{Form, dot, IsLinear, one_at, combination, Generators, IsAllowed, IsCertificate, CertificatesProve}
-use Rattle.it_polymatroid.proofs.Every.{Every, all_of}
-use Rattle.it_polymatroid.proofs.Forms.{dot_from_one, dot-scale, dot-add, linear_at, linear-add, linear-sub, linear-scale, linear_zero}
-use Rattle.it_polymatroid.proofs.Generate.{to_list, elementals_generate}
-use Rattle.it_polymatroid.proofs.Instances.{with_lt, still_lacks}
+use Rattle.it_polymatroid.specs.Certificates.{Form, dot, IsLinear, combination, Generators, IsAllowed, IsCertificate, CertificatesProve}
+use Rattle.it_space.specs.Rows.{one_at}
+use Rattle.it_polymatroid.proofs.Forms.{dot_from_one, dot-scale, dot-add, linear-scale, linear_zero}
 
 -- a sum of weights that may stand, at values that meet the generators, is at least 0
 weighted_least : (g : Generators) (v : ℕ → ℤ) → ((i : ℕ) → i < g.count → pos 0 ≤ℤ v i) → ((i : ℕ) → i < g.count → g.is_equation i ≡ true → v i ≡ pos 0)
@@ -54,21 +49,6 @@ adds_up_everywhere size g target w l m c p e =
     ∙ sym (dot-scale size w.scale (λ k. target (one_at k)) p)
     ∙ dot_from_one size (λ k. w.scale *ℤ target (one_at k)) (λ k. combination w.parts (λ i. g.worth_of i (one_at k))) p e c.adds_up
     ∙ sym (weighted_is size g l w.parts c.allowed p e)
-
--- each elemental inequality is linear
-worth_linear : (size n : ℕ) → 2 ^ n ≤ size → Every (λ x. IsLinear size (λ h. worth n h x)) (elementals n)
-worth_linear size n h = to_list (λ x. IsLinear size (λ h. worth n h x)) n (record {
-  conditional = λ i l. linear-sub size (λ h. h (2 ^ n - 1)) (λ h. h (2 ^ n - 1 - 2 ^ i)) (linear_at size (2 ^ n - 1) (omega (arith, pow_pos n))) (linear_at size (2 ^ n - 1 - 2 ^ i) (omega (arith, pow_pos n)));
-  mutual_of = λ i j k l m a b c.
-      linear-sub size (λ h. h (k + 2 ^ i) +ℤ h (k + 2 ^ j)) (λ h. h (k + 2 ^ i + 2 ^ j) +ℤ h k)
-      (linear-add size (λ h. h (k + 2 ^ i)) (λ h. h (k + 2 ^ j)) (linear_at size (k + 2 ^ i) (omega (arith, with_lt n k i (omega arith) a b))) (linear_at size (k + 2 ^ j) (omega (arith, with_lt n k j m a c))))
-      (linear-add size (λ h. h (k + 2 ^ i + 2 ^ j)) (λ h. h k)
-      (linear_at size (k + 2 ^ i + 2 ^ j) (omega (arith, with_lt n (k + 2 ^ i) j m (with_lt n k i (omega arith) a b) (still_lacks k i j l b c)))) (linear_at size k (omega arith)));
-})
-
--- and so is that of each number
-pub elemental_linear : (size n i : ℕ) → 2 ^ n ≤ size → i < length (elementals n) → IsLinear size (λ h. worth n h (elemental_at n i))
-elemental_linear size n i h l = all_of (λ x. IsLinear size (λ h. worth n h x)) (elementals n) (worth_linear size n h) i (Conditional 0) l
 
 pub certificates_prove : CertificatesProve
 certificates_prove size g target w l m c p e least zeros =

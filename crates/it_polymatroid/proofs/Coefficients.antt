@@ -1,8 +1,8 @@
 -- Rows and weights that have the same coefficients have the same value.
 use Rattle.std.proofs.Common.{◌≡◌, ℕ, ◌+◌, ◌<◌, ◌≤◌, ℤ, pos, ◌+ℤ◌, ◌*ℤ◌, List, [], ◌∷◌, Bool, true, false, cond, nat_eq, refl, sym, ap, ap₂, ◌∙◌, arith}
 use Rattle.std.proofs.lemmas.Int.{ints}
-use Rattle.it_space.specs.Rows.{Terms, coefficient, value}
-use Rattle.it_polymatroid.specs.Certificates.{dot, one_at, combination}
+use Rattle.it_space.specs.Rows.{Terms, coefficient, value, one_at}
+use Rattle.it_polymatroid.specs.Certificates.{dot, combination}
 use Rattle.it_polymatroid.proofs.Forms.{dot-add, dot-one, dot-scale, dot-zero, dot-same, dot_from_one}
 
 alone : (n : ℕ) (w : ℕ × ℤ) (f : ℕ → ℤ) → w.0 < n → dot n (λ c. cond (nat_eq w.0 c) w.1 (pos 0)) f ≡ w.1 *ℤ f w.0

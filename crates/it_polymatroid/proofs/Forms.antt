@@ -1,9 +1,11 @@
 -- Linear forms: sums over coordinates, and the forms that generators and targets are made of.
-use Rattle.std.proofs.Common.{◌≡◌, ℕ, zero, suc, ◌<◌, ◌≤◌, ◌⊎◌, inl, inr, ℤ, pos, neg_ℤ, ◌+ℤ◌, ◌-ℤ◌, ◌*ℤ◌, refl, sym, ap, ap₂, ◌∙◌, arith, List, [], ◌∷◌, cond, eq-eqb, ne_eqb}
+use Rattle.std.proofs.Common.{◌≡◌, ℕ, zero, suc, ◌+◌, ◌<◌, ◌≤◌, ◌⊎◌, inl, inr, ℤ, pos, neg_ℤ, ◌+ℤ◌, ◌-ℤ◌, ◌*ℤ◌, refl, sym, ap, ap₂, ◌∙◌, arith, [], ◌∷◌, cond, eq-eqb, ne_eqb}
 use Rattle.std.proofs.lemmas.Int.{ints}
 use Rattle.it_number.proofs.Integers.{zring}
-use Rattle.it_polymatroid.specs.Certificates.{Form, dot, IsLinear, one_at, combination}
+use Rattle.it_polymatroid.specs.Certificates.{Form, dot, IsLinear}
+use Rattle.it_space.specs.Rows.{one_at, Terms, IsUpTo, value}
 use native.Mathlib.Nat.{eq-or-lt_of_le, le_of_suc-le-suc}
+use Rattle.std.proofs.lemmas.List.Elements.{All-head, All-tail}
 
 pub dot-zero : (n : ℕ) (p : ℕ → ℤ) → dot n (λ c. pos 0) p ≡ pos 0
 dot-zero zero p = refl
@@ -68,6 +70,10 @@ linear-sub size f g l m = linear_same size (λ p. f p +ℤ neg_ℤ (pos 1) *ℤ 
     turned : (x y : ℤ) → x +ℤ neg_ℤ (pos 1) *ℤ y ≡ x -ℤ y
     turned x y = omega (arith, ints)
 
-pub linear_weighted : (size : ℕ) (ws : List (ℕ × ℤ)) (f : ℕ → Form) → ((i : ℕ) → IsLinear size (f i)) → IsLinear size (λ p. combination ws (λ i. f i p))
-linear_weighted size [] f l = linear_zero size
-linear_weighted size (w ∷ ws) f l = linear-add size (λ p. w.1 *ℤ f w.0 p) (λ p. combination ws (λ i. f i p)) (linear-scale size w.1 (f w.0) (l w.0)) (linear_weighted size ws f l)
+-- and so is the value of a row
+pub value_linear : (size : ℕ) (row : Terms) → IsUpTo size row → IsLinear (size + 1) (value row)
+value_linear size [] u = linear_zero (size + 1)
+value_linear size (t ∷ ts) u =
+    let here : (1 ≤ t.0) × (t.0 ≤ size) = All-head (λ (t : ℕ × ℤ). (1 ≤ t.0) × (t.0 ≤ size)) t ts u in
+    linear-add (size + 1) (λ p. t.1 *ℤ p t.0) (value ts) (linear-scale (size + 1) t.1 (λ p. p t.0) (linear_at (size + 1) t.0 (omega arith)))
+    (value_linear size ts (All-tail (λ (t : ℕ × ℤ). (1 ≤ t.0) × (t.0 ≤ size)) t ts u))

@@ -1,12 +1,13 @@
 -- The elemental inequalities, as a list, generate the axioms over all pairs of sets.
 use Rattle.std.proofs.Common.{◌≡◌, ℕ, ◌+◌, ◌-◌, ◌^◌, ◌<◌, ℤ, pos, ◌+ℤ◌, ◌-ℤ◌, ◌≤ℤ◌, map, true, ◌&&◌, arith}
-use Rattle.std.specs.List.{filter, flat_map}
+use Rattle.std.specs.List.{filter, flat_map, AllByRecursion as Every}
 use Rattle.std.proofs.lemmas.Int.{ints}
 use Rattle.std.proofs.lemmas.Bool.Decides.{nat_tests}
 use Rattle.std.proofs.lemmas.Nat.Bits.{bit_at-lt}
 use Rattle.std.specs.Int.{bit_at}
 use Rattle.it_polymatroid.specs.Elementals.{Elemental, Conditional, Mutual, worth, span, lacks, mutuals_of, elementals, ElementalsGenerate}
-use Rattle.it_polymatroid.proofs.Every.{Every, every_of, all_of, every-append, every_front, every_back, every-map, every_mapped, every-flat_map, every_flat_mapped, every-filter, every_filtered, every-span, every_spanned}
+use Rattle.it_space.proofs.EveryLemmas.{every_of, all_of, every-append, every_front, every_back, every-map, every_mapped, every-flat_map, every_flat_mapped, every-filter, every_filtered}
+use Rattle.it_polymatroid.proofs.EverySpan.{every-span, every_spanned}
 use Rattle.it_polymatroid.proofs.Halves.{ElementalsHold, polymatroid_of}
 use Rattle.it_polymatroid.proofs.Instances.{elementals_of}
 

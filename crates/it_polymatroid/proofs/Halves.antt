@@ -49,9 +49,6 @@ and_or_right a b = and_comm b (bit_or a b) ∙ and_or_self b a
 and_or_left : (a b : ℕ) → bit_and a (bit_or a b) ≡ a
 and_or_left a b = ap (bit_and a) (or_comm a b) ∙ and_or_right b a
 
-below_half : (n s a : ℕ) → s < 2 ^ suc n → a * 2 ≤ s → a < 2 ^ n
-below_half n s a h k = omega (arith, two-pow-succ n)
-
 -- & and | on numbers by their halves
 and_ee : (a b : ℕ) → bit_and (a * 2) (b * 2) ≡ bit_and a b * 2
 and_ee a b = ap₂ bit_and (sym (add-zero (a * 2))) (sym (add-zero (b * 2))) ∙ and_block 1 a b 0 0 (lit< tt) (lit< tt) ∙ add-zero (bit_and a b * 2)

@@ -87,13 +87,13 @@ or_inside s t h = same_from_bits _ _ (λ i. let p = bit_at_or s t i in let q = b
 image_inside : (sets : List ℕ) (s t : ℕ) → IsInside s t → IsInside (image sets s) (image sets t)
 image_inside sets s t h = or_inside (image sets s) (image sets t) (sym (union-or 0 sets s t) ∙ ap (image sets) (inside_or s t h))
 
-meet_left : (s t : ℕ) → IsInside (bit_and s t) s
+pub meet_left : (s t : ℕ) → IsInside (bit_and s t) s
 meet_left s t = same_from_bits _ _ (λ i. let p = bit_at_and (bit_and s t) s i in let q = bit_at_and s t i in omega arith)
 
-meet_right : (s t : ℕ) → IsInside (bit_and s t) t
+pub meet_right : (s t : ℕ) → IsInside (bit_and s t) t
 meet_right s t = same_from_bits _ _ (λ i. let p = bit_at_and (bit_and s t) t i in let q = bit_at_and s t i in omega arith)
 
-inside_meet : (u s t : ℕ) → IsInside u s → IsInside u t → IsInside u (bit_and s t)
+pub inside_meet : (u s t : ℕ) → IsInside u s → IsInside u t → IsInside u (bit_and s t)
 inside_meet u s t h k = same_from_bits _ _ (λ i.
     let p = bit_at_and u (bit_and s t) i in let q = bit_at_and s t i in let r = bit_at_and u s i in let v = bit_at_and u t i in
     let e = ap (λ n. bit_at n i) h in let f = ap (λ n. bit_at n i) k in omega arith)

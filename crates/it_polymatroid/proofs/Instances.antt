@@ -11,9 +11,6 @@ use Rattle.it_polymatroid.proofs.Halves.{ElementalsHold}
 pub with_pow : (k i : ℕ) → bit_at k i ≡ 0 → bit_or k (2 ^ i) ≡ k + 2 ^ i
 with_pow k i z = or_disjoint k (2 ^ i) (and_pow k i ∙ ap (λ n. n * 2 ^ i) z ∙ omega arith)
 
-pow_lt : (i n : ℕ) → i < n → 2 ^ i < 2 ^ n
-pow_lt i n h = pow_below i n h
-
 pub with_lt : (n k i : ℕ) → i < n → k < 2 ^ n → bit_at k i ≡ 0 → k + 2 ^ i < 2 ^ n
 with_lt n k i hi hk z = rw (← with_pow k i z) (or_lt n k (2 ^ i) hk (pow_below i n hi))
 

@@ -1,4 +1,4 @@
-pub mod Every
+pub mod EverySpan
 pub mod Halves
 pub mod Instances
 pub mod Generate

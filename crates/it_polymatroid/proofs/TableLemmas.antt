@@ -26,9 +26,6 @@ by_pairs n h z f = record {
     inside_below : (s t : ℕ) → t < 2 ^ n → IsInside s t → s < 2 ^ n
     inside_below s t l i = omega (arith, i, and_le_r s t)
 
-pub to_pairs : (n : ℕ) (h : ℕ → ℤ) → IsPolymatroid n h → (s : ℕ) → s < 2 ^ n → PairsHoldAt n h s
-to_pairs n h p s k t l = record { rises = p.rises s t l; submodular = p.submodular s t k l }
-
 -- all values of a table are within the limit
 pub table_within : (f : SetFunction) → IsTable f → (s : ℕ) → IsWithin (value_at f s)
 table_within f t s = by_cases (cases_lt s (length f.values))

@@ -1,5 +1,6 @@
 -- Certificates: what makes a yes right, with nothing of a solver in it.
-use Rattle.std.specs.Prelude.{◌≡◌, ℕ, zero, suc, ◌<◌, ℤ, pos, ◌+ℤ◌, ◌*ℤ◌, ◌≤ℤ◌, List, [], ◌∷◌, Bool, true, false, cond, nat_eq, All}
+use Rattle.std.specs.Prelude.{◌≡◌, ℕ, zero, suc, ◌<◌, ℤ, pos, ◌+ℤ◌, ◌*ℤ◌, ◌≤ℤ◌, List, [], ◌∷◌, Bool, true, false, All}
+use Rattle.it_space.specs.Rows.{one_at}
 use Rattle.it_space.specs.Answers.{CertificateView}
 
 -- A linear form is a function of the points, which are maps from coordinates to numbers; it is 0 at the empty set's place, coordinate 0.
@@ -20,10 +21,6 @@ combination (w ∷ ws) f = w.1 *ℤ f w.0 +ℤ combination ws f
 -- a weight that may stand in a certificate: of a generator that is there, and not negative unless that is an equation
 abbrev pub IsAllowed : Generators → ℕ × ℤ → Type 0
 IsAllowed g w = (w.0 < g.count) × (g.is_equation w.0 ≡ false → pos 0 ≤ℤ w.1)
-
--- the map that is 1 at a coordinate and 0 elsewhere, at which a linear form has its coefficient there
-abbrev pub one_at : ℕ → ℕ → ℤ
-one_at c s = cond (nat_eq s c) (pos 1) (pos 0)
 
 -- A certificate (Farkas 1902): weights by which the generators add up to a positive multiple of the target, at each coordinate below `size`.
 pub record IsCertificate (size : ℕ) (g : Generators) (target : Form) (w : CertificateView) : Type 0 where

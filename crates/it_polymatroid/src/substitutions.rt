@@ -1,3 +1,4 @@
+//! Substitutions of sets for variables, and tables pulled back.
 ghost use Rattle.std.specs.Prelude.{◌≡◌, ◌<◌, ◌≤◌, ◌^◌, ℕ, pos, length, slice_index_or, All, IfOk, OnOk};
 ghost use Rattle.it_number.specs.Limit.{IsWithin};
 ghost use Rattle.it_polymatroid.specs.Polymatroid.{IsPolymatroid};
@@ -24,6 +25,7 @@ impl Model for Substitution {
 }
 
 impl Substitution {
+    /// The substitution of these sets for the variables 0, 1, 2, .. in order.
     pub fn new(sets: Vec<VarSet>) -> Substitution
         ensures { result ≡ sets.items }
     {
@@ -46,6 +48,7 @@ impl Substitution {
     }
 }
 
+/// The union of the sets that the members of a set stand for.
 fn union_of(sets: &[VarSet], of: VarSet) -> VarSet
     requires { length sets.now ≤ 16 }
     ensures { result ≡ image sets.now of }
@@ -74,6 +77,7 @@ pub fn pull_back(alloc: Global, table: &Table, by: &Substitution) -> Result<Tabl
     Ok(Table::new(variables, values))
 }
 
+/// The values of the table at what each set stands for, by ascending set.
 fn pulled_values(alloc: Global, table: &Table, by: &Substitution) -> Result<Vec<i128>, AllocError>
     requires few { length by.now ≤ 10 }
     requires within { All (λ s. s < 2 ^ table.now.variables) by.now }

@@ -1,3 +1,4 @@
+//! Comparison of sums that pass the limit.
 ghost use Rattle.std.specs.Prelude.{◌≡◌, ◌^◌, pos, neg_ℤ, ◌+ℤ◌, ◌*ℤ◌, ◌≤ℤ◌, ◌<ℤ◌};
 ghost use Rattle.std.specs.Int.{w128, int_wrapping_add};
 ghost use Rattle.std.specs.Bool.{OnTrue, OnFalse};

@@ -1,3 +1,4 @@
+//! Tables of the values of all sets, and whether one is a polymatroid.
 ghost use Rattle.std.specs.Prelude.{◌≡◌, ◌<◌, ◌≤◌, ◌^◌, ◌↔◌, ℕ, IsTrue};
 ghost use Rattle.std.specs.Bool.{OnTrue, OnFalse};
 ghost use Rattle.it_polymatroid.specs.Polymatroid.{IsPolymatroid};
@@ -34,6 +35,7 @@ impl Table {
         Table { variables, values }
     }
 
+    /// How many variables there are.
     pub fn variables(&self) -> u8
         ensures value { result ≡ self.now.variables }
         ensures table { IsTable self.now }

@@ -1,15 +1,14 @@
 -- Rows over closed sets.
 use Rattle.std.proofs.Common.{◌≡◌, ◌≢◌, ◌⊎◌, inl, inr, ℕ, zero, suc, ◌+◌, ◌^◌, ◌<◌, ◌≤◌, ℤ, pos, ◌+ℤ◌, ◌*ℤ◌, List, [], ◌∷◌, length, get_or, Bool, true, false, not, cond, nat_eq, nat_lt, eq-eqb, ne_eqb, refl, sym, ap, ◌∙◌, arith}
-use Rattle.std.specs.List.{filter}
+use Rattle.std.specs.List.{filter, AllByRecursion as Every}
 use Rattle.std.proofs.lemmas.Int.{ints}
 use Rattle.std.proofs.lemmas.Bool.{eqb-true}
-use Rattle.it_space.specs.Rows.{Terms, coefficient, value, IsUpTo}
+use Rattle.it_space.specs.Rows.{Terms, coefficient, value, IsUpTo, one_at}
 use Rattle.it_space.proofs.CanonicalRows.{other_is}
-use Rattle.it_polymatroid.specs.Certificates.{one_at}
-use Rattle.it_polymatroid.proofs.Every.{Every, every_of, all_of, every-same, every-filter}
+use Rattle.it_space.proofs.EveryLemmas.{every_of, all_of, every-same, every-filter}
 use Rattle.it_polymatroid.proofs.Forms.{one_at-zero}
 use Rattle.it_elemental.specs.Generators.{Generator, generator_at}
-use Rattle.it_elemental.proofs.RowLemmas.{value-one_at}
+use Rattle.it_space.proofs.TermLemmas.{value-one_at}
 use Rattle.it_closure.specs.declared.dependences.Dependence.{Dependence}
 use Rattle.it_closure.specs.Collapse.{place, placed_terms, spread_out, AreDependences, IsCollapseOf}
 use Rattle.it_closure.specs.Coordinates.{closed_coordinates, RiseTo}

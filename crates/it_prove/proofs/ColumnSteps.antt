@@ -1,14 +1,12 @@
 -- Columns and the weights of generators, step by step as the code forms them.
-use Rattle.std.proofs.Common.{◌≡◌, ◌⊎◌, inl, inr, ℕ, zero, suc, ◌+◌, ◌*◌, ◌<◌, ◌≤◌, ◌^◌, ℤ, pos, neg_ℤ, List, [], ◌∷◌, ◌++◌, length, drop, take, refl, sym, ap, ap₂, subst, All, ◌∙◌, arith, append_assoc, append-nil}
+use Rattle.std.proofs.Common.{◌≡◌, ◌⊎◌, inl, inr, ℕ, zero, suc, ◌+◌, ◌*◌, ◌<◌, ◌≤◌, ◌^◌, ℤ, neg_ℤ, List, [], ◌∷◌, ◌++◌, length, drop, take, refl, sym, ap, ap₂, subst, All, ◌∙◌, arith, append_assoc, append-nil}
 use Rattle.std.specs.List.{flat_map}
-use Rattle.std.proofs.lemmas.Int.{ints}
 use Rattle.std.proofs.lemmas.Bool.{cases_lt}
 use Rattle.std.proofs.lemmas.List.{drop_more, drop_all, take_all, map-append, get_or_default}
-use Rattle.it_number.specs.Limit.{IsWithin}
 use Rattle.it_space.specs.declared.problems.Kind.{Kind}
 use Rattle.it_space.specs.declared.problems.Kind.TheVariants.{Inequality, Equation}
 use Rattle.it_space.specs.Problems.{ProblemView, IsProblem}
-use Rattle.it_space.specs.Rows.{Terms, Ascends, IsUpTo, coefficient}
+use Rattle.it_space.specs.Rows.{Terms, IsUpTo, coefficient, term_at}
 use Rattle.it_closure.specs.declared.dependences.Dependence.{Dependence}
 use Rattle.it_closure.specs.Collapse.{CollapseFits, IsCollapseOf}
 use Rattle.it_elemental.specs.Generators.{Generator, generators, generator_at}
@@ -21,21 +19,9 @@ use Rattle.it_closure.specs.Reading.{dependences_of}
 use Rattle.it_lift.proofs.GeneratorLemmas.{row_of_space}
 use Rattle.it_prove.proofs.ClosedRows.{collapse_same}
 use Rattle.it_prove.specs.Closed.{collapsed_row, collapsed_generator, collapsed_all, closed_target}
-use Rattle.it_prove.proofs.GroupLemmas.{coefficient-turned}
-use Rattle.it_prove.specs.Columns.{negated_terms, columns_by, columns_of, columns, column_count, weight_by, if_some, weights_from}
+use Rattle.it_space.proofs.TermLemmas.{coefficient-negated_terms}
+use Rattle.it_prove.specs.Columns.{columns_by, columns_of, columns, column_count, weight_by, weights_from}
 use Rattle.it_prove.specs.Steps.{SameRows}
-
--- ---- rows turned
-
-pub turned_canonical : (from : ℕ) (ts : Terms) → Ascends from ts → Ascends from (negated_terms ts)
-turned_canonical from [] a = tt
-turned_canonical from (t ∷ ts) a = (a.0, λ e. a.1 (back t.1 e), small t.1 a.2, turned_canonical (t.0 + 1) ts a.3)
-  where
-    back : (x : ℤ) → neg_ℤ x ≡ pos 0 → x ≡ pos 0
-    back x e = omega (arith, ints, e)
-
-    small : (x : ℤ) → IsWithin x → IsWithin (neg_ℤ x)
-    small x h = omega (arith, ints, h)
 
 -- ---- columns
 
@@ -51,7 +37,7 @@ same-append (r ∷ rs) (x ∷ xs) us vs s t = (s.0, same-append rs xs us vs s.1 
 -- the columns of a row with the same coefficients
 same_columns : (k : Kind) (r t : Terms) → ((c : ℕ) → coefficient r c ≡ coefficient t c) → SameRows (columns_by k r) (columns_by k t)
 same_columns Inequality r t e = (e, tt)
-same_columns Equation r t e = (e, ((λ c. coefficient-turned c r ∙ ap neg_ℤ (e c) ∙ sym (coefficient-turned c t)), tt))
+same_columns Equation r t e = (e, ((λ c. coefficient-negated_terms c r ∙ ap neg_ℤ (e c) ∙ sym (coefficient-negated_terms c t)), tt))
 
 pub pushed : (old new : List Terms) (k l : Kind) (r t : Terms) → new ≡ old ++ columns_by k r → k ≡ l → ((c : ℕ) → coefficient r c ≡ coefficient t c)
     → (xs : List Terms) → SameRows old xs → SameRows new (xs ++ columns_by l t)
@@ -125,12 +111,12 @@ few_generators q k = omega (arith, length-listed q.space.variables q.constraints
 
 -- ---- weights
 
-pub weights_more : (gs : List Generator) (f : ℕ → ℤ) (i j next : ℕ) (k : Kind) (w : ℤ) (old new : List (ℕ × ℤ)) → i < length gs → k ≡ (generator_at gs i).kind → w ≡ weight_by k f j → next ≡ j + column_count k → new ≡ old ++ if_some i w
+pub weights_more : (gs : List Generator) (f : ℕ → ℤ) (i j next : ℕ) (k : Kind) (w : ℤ) (old new : List (ℕ × ℤ)) → i < length gs → k ≡ (generator_at gs i).kind → w ≡ weight_by k f j → next ≡ j + column_count k → new ≡ old ++ term_at i w
     → old ++ weights_from i j (drop i gs) f ≡ weights_from 0 0 gs f → new ++ weights_from (i + 1) next (drop (i + 1) gs) f ≡ weights_from 0 0 gs f
 unfolding weights_from
 weights_more gs f i j next k w old new h same weight step e inv =
-    ap₂ (λ xs n. xs ++ weights_from (i + 1) n (drop (i + 1) gs) f) (e ∙ ap (λ x. old ++ if_some i x) (weight ∙ ap (λ k. weight_by k f j) same)) (step ∙ ap (λ k. j + column_count k) same)
-    ∙ append_assoc old (if_some i (weight_by (generator_at gs i).kind f j)) (weights_from (i + 1) (j + column_count (generator_at gs i).kind) (drop (i + 1) gs) f)
+    ap₂ (λ xs n. xs ++ weights_from (i + 1) n (drop (i + 1) gs) f) (e ∙ ap (λ x. old ++ term_at i x) (weight ∙ ap (λ k. weight_by k f j) same)) (step ∙ ap (λ k. j + column_count k) same)
+    ∙ append_assoc old (term_at i (weight_by (generator_at gs i).kind f j)) (weights_from (i + 1) (j + column_count (generator_at gs i).kind) (drop (i + 1) gs) f)
     ∙ ap (λ xs. old ++ weights_from i j xs f) (sym (generator_split gs i h)) ∙ inv
 
 pub weights_done : (gs : List Generator) (f : ℕ → ℤ) (i j : ℕ) (old : List (ℕ × ℤ)) → length gs ≤ i → old ++ weights_from i j (drop i gs) f ≡ weights_from 0 0 gs f → old ≡ weights_from 0 0 gs f

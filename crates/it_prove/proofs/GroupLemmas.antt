@@ -1,15 +1,17 @@
 -- Sums over columns are sums over generators.
-use Rattle.std.proofs.Common.{◌≡◌, ℕ, zero, suc, ◌+◌, ◌<◌, ◌≤◌, ℤ, pos, negsuc, neg_ℤ, ◌+ℤ◌, ◌-ℤ◌, ◌*ℤ◌, ◌≤ℤ◌, List, [], ◌∷◌, ◌++◌, length, get_or, Bool, true, false, cond, eqb, eq-eqb, ne_eqb, refl, sym, ap, ap₂, ◌∙◌, arith}
+use Rattle.std.proofs.Common.{◌≡◌, ℕ, zero, suc, ◌+◌, ◌<◌, ◌≤◌, ℤ, pos, negsuc, neg_ℤ, ◌+ℤ◌, ◌-ℤ◌, ◌*ℤ◌, ◌≤ℤ◌, List, [], ◌∷◌, ◌++◌, length, get_or, false, cond, eqb, eq-eqb, ne_eqb, refl, sym, ap, ap₂, ◌∙◌, arith}
 use Rattle.std.proofs.lemmas.Int.{ints}
 use Rattle.it_number.proofs.Integers.{zring}
 use Rattle.it_space.specs.declared.problems.Kind.{Kind}
 use Rattle.it_space.specs.declared.problems.Kind.TheVariants.{Inequality, Equation}
-use Rattle.it_space.specs.Rows.{Terms, coefficient, value}
+use Rattle.it_space.specs.Rows.{Terms, coefficient, value, term_at}
+use Rattle.it_space.proofs.TermLemmas.{coefficient-negated_terms, value-term_at}
 use Rattle.it_polymatroid.specs.Certificates.{IsAllowed}
-use Rattle.it_polymatroid.proofs.Every.{Every, every-append}
+use Rattle.std.specs.List.{AllByRecursion as Every}
+use Rattle.it_space.proofs.EveryLemmas.{every-append}
 use Rattle.it_elemental.specs.Generators.{Generator, generator_at, forms_of, is_equation}
 use Rattle.it_check.specs.Verdicts.{column}
-use Rattle.it_prove.specs.Columns.{negated_terms, columns_by, columns, column_count, weight_by, if_some, weights_from}
+use Rattle.it_prove.specs.Columns.{columns_by, columns, column_count, weight_by, weights_from}
 
 -- ---- the sum over columns from number j on of f of the number times the coefficient at a coordinate
 
@@ -50,23 +52,12 @@ module _ (c : ℕ) where
       ap₂ (λ x y. x +ℤ y) (sym (total-one t.0 0 t.0 t.1 cols e.0 (omega arith))) (value_total cols ts e.1)
       ∙ sym (total-add 0 cols (λ k. cond (eqb t.0 k) t.1 (pos 0)) (coefficient ts))
 
-  pub coefficient-turned : (r : Terms) → coefficient (negated_terms r) c ≡ neg_ℤ (coefficient r c)
-  coefficient-turned [] = refl
-  coefficient-turned (t ∷ ts) = by_test (eqb t.0 c) ∙ both (cond (eqb t.0 c) t.1 (pos 0)) (coefficient (negated_terms ts) c) (coefficient ts c) (coefficient-turned ts)
-    where
-      by_test : (b : Bool) → cond b (neg_ℤ t.1) (pos 0) +ℤ coefficient (negated_terms ts) c ≡ neg_ℤ (cond b t.1 (pos 0)) +ℤ coefficient (negated_terms ts) c
-      by_test true = refl
-      by_test false = refl
-
-      both : (x y z : ℤ) → y ≡ neg_ℤ z → neg_ℤ x +ℤ y ≡ neg_ℤ (x +ℤ z)
-      both x y z e = omega (arith, ints, e)
-
   -- the columns of one generator
   one_generator : (k : Kind) (r : Terms) (j : ℕ) (cols : List Terms) (f : ℕ → ℤ)
       → total j (columns_by k r ++ cols) f ≡ weight_by k f j *ℤ coefficient r c +ℤ total (j + column_count k) cols f
   one_generator Inequality r j cols f = refl
   one_generator Equation r j cols f =
-      ap₂ (λ x y. f j *ℤ coefficient r c +ℤ (f (j + 1) *ℤ x +ℤ y)) (coefficient-turned r) (ap (λ m. total m cols f) two)
+      ap₂ (λ x y. f j *ℤ coefficient r c +ℤ (f (j + 1) *ℤ x +ℤ y)) (coefficient-negated_terms c r) (ap (λ m. total m cols f) two)
       ∙ both (f j) (f (j + 1)) (coefficient r c) (total (j + 2) cols f)
     where
       two : j + 1 + 1 ≡ j + 2
@@ -74,11 +65,6 @@ module _ (c : ℕ) where
 
       both : (x y z s : ℤ) → x *ℤ z +ℤ (y *ℤ neg_ℤ z +ℤ s) ≡ (x -ℤ y) *ℤ z +ℤ s
       both x y z s = omega (arith, zring)
-
-  value-if_some : (i : ℕ) (x : ℤ) (rest : Terms) (g : ℕ → ℤ) → value (if_some i x ++ rest) g ≡ x *ℤ g i +ℤ value rest g
-  value-if_some i (pos zero) rest g = omega (arith, ints)
-  value-if_some i (pos (suc n)) rest g = refl
-  value-if_some i (negsuc n) rest g = refl
 
   -- the sum over the columns is that over the generators with their weights
   pub regrouped : (all gs : List Generator) (i j : ℕ) (f : ℕ → ℤ) → ((k : ℕ) → k < length gs → generator_at all (i + k) ≡ generator_at gs k)
@@ -89,7 +75,7 @@ module _ (c : ℕ) where
       let here : generator_at all i ≡ g = ap (generator_at all) (same i) ∙ h zero (omega arith) in
       one_generator g.kind g.row j (columns gs) f
       ∙ ap₂ (λ x y. weight_by g.kind f j *ℤ x +ℤ y) (sym (ap (λ (g : Generator). coefficient g.row c) here)) (regrouped all gs (i + 1) (j + column_count g.kind) f (λ k l. ap (generator_at all) (next i k) ∙ h (suc k) (omega arith)))
-      ∙ sym (value-if_some i (weight_by g.kind f j) (weights_from (i + 1) (j + column_count g.kind) gs f) (column all c))
+      ∙ sym (value-term_at i (weight_by g.kind f j) (weights_from (i + 1) (j + column_count g.kind) gs f) (column all c))
     where
       same : (i : ℕ) → i ≡ i + zero
       same i = omega arith
@@ -99,10 +85,10 @@ module _ (c : ℕ) where
 
 -- ---- the weights that stand in the certificate may stand there
 
-every-if_some : (P : ℕ × ℤ → Type 0) (i : ℕ) (x : ℤ) → P (i, x) → Every P (if_some i x)
-every-if_some P i (pos zero) h = tt
-every-if_some P i (pos (suc n)) h = (h, tt)
-every-if_some P i (negsuc n) h = (h, tt)
+every-term_at : (P : ℕ × ℤ → Type 0) (i : ℕ) (x : ℤ) → P (i, x) → Every P (term_at i x)
+every-term_at P i (pos zero) h = tt
+every-term_at P i (pos (suc n)) h = (h, tt)
+every-term_at P i (negsuc n) h = (h, tt)
 
 least_weight : (k : Kind) (f : ℕ → ℤ) (j : ℕ) → ((n : ℕ) → pos 0 ≤ℤ f n) → is_equation k ≡ false → pos 0 ≤ℤ weight_by k f j
 least_weight Inequality f j h e = h j
@@ -114,8 +100,8 @@ unfolding weights_from
 weights_allowed all [] i j f p b h = tt
 weights_allowed all (g ∷ gs) i j f p b h =
     let here : generator_at all i ≡ g = ap (generator_at all) (same i) ∙ h zero (omega arith) in
-    every-append (IsAllowed (forms_of all)) (if_some i (weight_by g.kind f j)) (weights_from (i + 1) (j + column_count g.kind) gs f)
-    (every-if_some (IsAllowed (forms_of all)) i (weight_by g.kind f j) (omega arith, λ e. least_weight g.kind f j p (sym (ap (λ (g : Generator). is_equation g.kind) here) ∙ e)))
+    every-append (IsAllowed (forms_of all)) (term_at i (weight_by g.kind f j)) (weights_from (i + 1) (j + column_count g.kind) gs f)
+    (every-term_at (IsAllowed (forms_of all)) i (weight_by g.kind f j) (omega arith, λ e. least_weight g.kind f j p (sym (ap (λ (g : Generator). is_equation g.kind) here) ∙ e)))
     (weights_allowed all gs (i + 1) (j + column_count g.kind) f p (omega arith) (λ k l. ap (generator_at all) (next i k) ∙ h (suc k) (omega arith)))
   where
     same : (i : ℕ) → i ≡ i + zero

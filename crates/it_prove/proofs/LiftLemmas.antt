@@ -1,5 +1,5 @@
 -- Weights over closed sets that sum to the collapsed target are what a lift is given, and what it gives certifies the target.
-use Rattle.std.proofs.Common.{◌≡◌, ◌≢◌, ◌⊎◌, inl, inr, ℕ, zero, suc, ◌+◌, ◌-◌, ◌^◌, ◌<◌, ◌≤◌, ℤ, pos, negsuc, ◌+ℤ◌, ◌-ℤ◌, ◌*ℤ◌, ◌≤ℤ◌, List, [], ◌∷◌, ◌++◌, map, length, get_or, Bool, true, false, cond, nat_eq, refl, sym, ap, ap₂, subst, ◌∙◌, arith, All}
+use Rattle.std.proofs.Common.{◌≡◌, ◌≢◌, ◌⊎◌, inl, inr, ℕ, suc, ◌+◌, ◌-◌, ◌^◌, ◌<◌, ◌≤◌, ℤ, pos, ◌+ℤ◌, ◌-ℤ◌, ◌*ℤ◌, ◌≤ℤ◌, List, [], ◌∷◌, ◌++◌, length, Bool, true, false, cond, nat_eq, refl, sym, ap, ap₂, subst, ◌∙◌, arith, All}
 use Rattle.std.proofs.lemmas.Int.{ints}
 use Rattle.std.proofs.lemmas.Bool.{eqb-true}
 use Rattle.it_number.specs.Limit.{IsWithin}
@@ -10,11 +10,12 @@ use Rattle.it_space.specs.declared.problems.Kind.{Kind}
 use Rattle.it_space.specs.declared.problems.Kind.TheVariants.{Inequality, Equation}
 use Rattle.it_space.specs.Problems.{ProblemView, IsProblem}
 use Rattle.it_space.specs.Answers.{CertificateView}
-use Rattle.it_space.specs.Rows.{Terms, Ascends, coefficient, value, IsUpTo}
+use Rattle.it_space.specs.Rows.{Terms, Ascends, coefficient, value, IsUpTo, one_at, term_at}
 use Rattle.it_space.specs.Spaces.{size_of}
 use Rattle.it_space.proofs.CanonicalRows.{head_is, other_is, told}
-use Rattle.it_polymatroid.specs.Certificates.{IsAllowed, combination, one_at}
-use Rattle.it_polymatroid.proofs.Every.{Every, every_of, all_of, every-same}
+use Rattle.it_polymatroid.specs.Certificates.{IsAllowed, combination}
+use Rattle.std.specs.List.{AllByRecursion as Every, flat_map}
+use Rattle.it_space.proofs.EveryLemmas.{every_of, all_of, every-same}
 use Rattle.it_polymatroid.proofs.Forms.{one_at-zero}
 use Rattle.it_elemental.specs.Generators.{Generator, generators, generator_at, generators_of}
 use Rattle.it_elemental.proofs.GeneratorLemmas.{rows_of_space, every_or}
@@ -28,23 +29,23 @@ use Rattle.it_lift.specs.Lifts.{lifted_weights}
 use Rattle.it_lift.proofs.ReadOf.{read_are_of}
 use Rattle.it_tableau.specs.Problems.{feasibility_problem}
 use Rattle.it_run.specs.Readings.{AreWeights, SumsUp}
-use Rattle.std.specs.List.{flat_map}
 use Rattle.it_check.specs.Meaning.{CertifiesRow}
 use Rattle.it_check.specs.Verdicts.{column}
 use Rattle.it_prove.specs.Closed.{collapsed_row, collapsed_all, closed_places, closed_generators, closed_target}
-use Rattle.it_prove.specs.Columns.{columns, columns_by, columns_of, column_count, weight_by, if_some, weights_from}
+use Rattle.it_prove.specs.Columns.{columns, columns_by, columns_of, column_count, weight_by, weights_from}
 use Rattle.it_prove.specs.Scaling.{NumbersFit, numbers_of, scale_of, scaled_weights}
-use Rattle.it_prove.specs.ProofViews.{IsLifted, LiftedFit, closed_weights}
+use Rattle.it_prove.specs.ProofViews.{IsLifted, closed_weights}
 use Rattle.it_prove.proofs.ClosedRows.{In, find, collapsed_at, collapsed_generator_at, collapsed_none}
 use Rattle.it_prove.proofs.GroupLemmas.{weights_allowed}
 use Rattle.it_prove.proofs.WeightLemmas.{adds_up, scale_least, scaled_positive, scaled_canonical}
+use Rattle.it_space.proofs.TermLemmas.{ascends-term_at}
 
 -- ---- the weights go by the kinds alone
 
 pub weights_same : (n : ℕ) (ds : List Dependence) (gs : List Generator) (i j : ℕ) (f : ℕ → ℤ) → weights_from i j (collapsed_all n ds gs) f ≡ weights_from i j gs f
 unfolding weights_from
 weights_same n ds [] i j f = refl
-weights_same n ds (g ∷ gs) i j f = ap (λ xs. if_some i (weight_by g.kind f j) ++ xs) (weights_same n ds gs (i + 1) (j + column_count g.kind) f)
+weights_same n ds (g ∷ gs) i j f = ap (λ xs. term_at i (weight_by g.kind f j) ++ xs) (weights_same n ds gs (i + 1) (j + column_count g.kind) f)
 
 columns_length : (n : ℕ) (ds : List Dependence) (gs : List Generator) → length (columns (collapsed_all n ds gs)) ≡ length (columns gs)
 unfolding columns
@@ -79,19 +80,10 @@ weight_within Equation f j p w = between (f j) (f (j + 1)) (p j) (p (j + 1)) (w 
     between : (x y : ℤ) → pos 0 ≤ℤ x → pos 0 ≤ℤ y → IsWithin x → IsWithin y → IsWithin (x -ℤ y)
     between x y h k u v = omega (arith, ints, h, k, u, v)
 
-pub lower : (a b : ℕ) (ts : Terms) → a ≤ b → Ascends b ts → Ascends a ts
-lower a b [] h r = tt
-lower a b (t ∷ ts) h r = (omega (arith, r.0), r.1, r.2, r.3)
-
-pub if_some_ascends : (from i : ℕ) (x : ℤ) (rest : Terms) → from ≤ i → IsWithin x → Ascends (i + 1) rest → Ascends from (if_some i x ++ rest)
-if_some_ascends from i (pos zero) rest h w a = lower from (i + 1) rest (omega arith) a
-if_some_ascends from i (pos (suc n)) rest h w a = (h, (λ e. omega (arith, ints, e)), w, a)
-if_some_ascends from i (negsuc n) rest h w a = (h, (λ e. omega (arith, ints, e)), w, a)
-
 weights_ascend : (gs : List Generator) (i j : ℕ) (f : ℕ → ℤ) → ((n : ℕ) → pos 0 ≤ℤ f n) → ((n : ℕ) → IsWithin (f n)) → Ascends i (weights_from i j gs f)
 unfolding weights_from
 weights_ascend [] i j f p w = tt
-weights_ascend (g ∷ gs) i j f p w = if_some_ascends i i (weight_by g.kind f j) (weights_from (i + 1) (j + column_count g.kind) gs f) (omega arith) (weight_within g.kind f j p w) (weights_ascend gs (i + 1) (j + column_count g.kind) f p w)
+weights_ascend (g ∷ gs) i j f p w = ascends-term_at i i (weight_by g.kind f j) (weights_from (i + 1) (j + column_count g.kind) gs f) (omega arith) (weight_within g.kind f j p w) (weights_ascend gs (i + 1) (j + column_count g.kind) f p w)
 
 in_order : (from : ℕ) (ts : Terms) → Ascends from ts → InOrder from ts
 in_order from [] a = tt

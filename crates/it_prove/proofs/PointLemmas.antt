@@ -1,14 +1,13 @@
 -- A point that separates the target from the columns, made whole, refutes the target.
-use Rattle.std.proofs.Common.{◌≡◌, ℕ, zero, suc, ◌+◌, ◌-◌, ◌^◌, ◌<◌, ◌≤◌, ℤ, pos, negsuc, neg_ℤ, ◌+ℤ◌, ◌*ℤ◌, ◌≤ℤ◌, List, [], ◌∷◌, ◌++◌, map, length, drop, get_or, append_assoc, append-nil, All, Bool, true, false, cond, nat_eq, eq-eqb, ne_eqb, refl, sym, ap, ap₂, subst, ◌∙◌, arith}
-use Rattle.std.specs.List.{zip}
+use Rattle.std.proofs.Common.{◌≡◌, ℕ, zero, suc, ◌+◌, ◌-◌, ◌^◌, ◌<◌, ◌≤◌, ℤ, pos, neg_ℤ, ◌+ℤ◌, ◌*ℤ◌, ◌≤ℤ◌, List, [], ◌∷◌, ◌++◌, map, length, get_or, append_assoc, All, Bool, true, false, cond, nat_eq, eq-eqb, ne_eqb, refl, sym, ap, ap₂, subst, ◌∙◌, arith}
+use Rattle.std.specs.List.{zip, AllByRecursion as Every}
 use Rattle.std.proofs.lemmas.Bool.{eqb-true}
 use Rattle.std.proofs.lemmas.Nat.{pow_pos}
 use Rattle.it_number.specs.Limit.{IsWithin}
 use Rattle.it_number.proofs.Ring.{ring, v, nil}
 use Rattle.it_number.proofs.Ring as S
 use Rattle.std.proofs.lemmas.Int.{ints}
-use Rattle.std.proofs.lemmas.List.{drop_more, drop_all, get_or-map, get_or_default, length-map}
-use Rattle.it_number.proofs.Integers.{zring}
+use Rattle.std.proofs.lemmas.List.{get_or-map, get_or_default, length-map}
 use Rattle.it_rational.specs.Rational.{Rational, whole, times, is_at_least_zero}
 use Rattle.it_rational.proofs.RationalLaws.{ring_ℚ}
 use Rattle.it_rational.proofs.Field.{order_ℚ}
@@ -16,9 +15,9 @@ use Rattle.it_space.specs.declared.problems.Kind.{Kind}
 use Rattle.it_space.specs.declared.problems.Kind.TheVariants.{Inequality, Equation}
 use Rattle.it_space.specs.declared.spaces.Space.{Space}
 use Rattle.it_space.specs.Problems.{ProblemView, IsProblem, Meets}
-use Rattle.it_space.specs.Rows.{Terms, Ascends, IsUpTo, coefficient, map_of, value}
+use Rattle.it_space.specs.Rows.{Terms, Ascends, IsUpTo, coefficient, map_of, value, negated_terms, term_at}
 use Rattle.it_space.specs.Spaces.{size_of}
-use Rattle.it_polymatroid.proofs.Every.{Every, every_of, all_of, every-flat_map, every_flat_mapped, every-same, every-map, every_mapped}
+use Rattle.it_space.proofs.EveryLemmas.{every_of, all_of, every-flat_map, every_flat_mapped, every-same, every-map, every_mapped, every_all}
 use Rattle.it_polymatroid.specs.Elementals.{span}
 use Rattle.it_elemental.proofs.Spans.{get_or-span, length-span}
 use Rattle.it_tableau.specs.Problems.{feasibility_problem}
@@ -33,41 +32,35 @@ use Rattle.it_closure.specs.declared.dependences.Dependence.{Dependence}
 use Rattle.it_closure.specs.Collapse.{place, spread_out}
 use Rattle.it_closure.specs.Coordinates.{RiseTo}
 use Rattle.it_closure.specs.Reading.{dependences_of}
-use Rattle.it_prove.specs.Columns.{negated_terms, columns_by, columns_of, columns, if_some}
+use Rattle.it_prove.specs.Columns.{columns_by, columns_of, columns}
 use Rattle.it_prove.specs.Closed.{collapsed_row, collapsed_generator, closed_places, closed_generators, closed_target, spread_values, spread_point}
 use Rattle.it_prove.specs.Steps.{pairs}
 use Rattle.it_prove.specs.Scaling.{scale_of, scaled_number, scaled_point}
 use Rattle.it_prove.proofs.Scales.{scale_pos, divides}
 use Rattle.it_prove.proofs.ClosedRows.{In, rise_low, rise_apart, coords_rise, collapsed_over, collapsed_value}
-use Rattle.it_prove.proofs.LiftLemmas.{if_some_ascends, coefficient_within, lower, dependences_sound, below_size}
+use Rattle.it_prove.proofs.LiftLemmas.{coefficient_within, dependences_sound, below_size}
 use Rattle.it_prove.proofs.Wholes.{whole_scaled, least_scaled, below_scaled}
 use Prim.Native.Nat.{◌∣◌}
+use Rattle.it_space.proofs.TermLemmas.{ascends-term_at, ascends_lower, value-negated_terms, coefficient-append, coefficient-term_at}
 
 -- ---- rows of the columns
 
-turned_keeps : (P : ℕ → Type 0) (row : Terms) → Every (λ t. P t.0) row → Every (λ t. P t.0) (negated_terms row)
-turned_keeps P [] u = tt
-turned_keeps P (t ∷ ts) u = (u.0, turned_keeps P ts u.1)
+negated_keeps : (P : ℕ → Type 0) (row : Terms) → Every (λ t. P t.0) row → Every (λ t. P t.0) (negated_terms row)
+negated_keeps P [] u = tt
+negated_keeps P (t ∷ ts) u = (u.0, negated_keeps P ts u.1)
 
 by_kind : (P : ℕ → Type 0) (k : Kind) (row : Terms) → Every (λ t. P t.0) row → Every (λ (r : Terms). Every (λ t. P t.0) r) (columns_by k row)
 by_kind P Inequality row u = (u, tt)
-by_kind P Equation row u = (u, (turned_keeps P row u, tt))
+by_kind P Equation row u = (u, (negated_keeps P row u, tt))
 
 pub columns_keep : (P : ℕ → Type 0) (gs : List Generator) → Every (λ g. Every (λ t. P t.0) g.row) gs → Every (λ (r : Terms). Every (λ t. P t.0) r) (columns gs)
 unfolding columns
 columns_keep P gs u = every-flat_map (λ (r : Terms). Every (λ t. P t.0) r) columns_of gs (every-same (λ g. Every (λ t. P t.0) g.row) (λ g. Every (λ (r : Terms). Every (λ t. P t.0) r) (columns_of g)) gs (λ g h. by_kind P g.kind g.row h) u)
 
-pub value-turned : (row : Terms) (p : ℕ → ℤ) → value (negated_terms row) p ≡ neg_ℤ (value row p)
-value-turned [] p = refl
-value-turned (t ∷ ts) p = both t.1 (p t.0) (value (negated_terms ts) p) (value ts p) (value-turned ts p)
-  where
-    both : (x y z s : ℤ) → z ≡ neg_ℤ s → neg_ℤ x *ℤ y +ℤ z ≡ neg_ℤ (x *ℤ y +ℤ s)
-    both x y z s e = omega (arith, zring, e)
-
 -- where each column is at least 0 the generators are met
 met_by_kind : (k : Kind) (row : Terms) (p : ℕ → ℤ) → Every (λ r. pos 0 ≤ℤ value r p) (columns_by k row) → Meets k (value row p)
 met_by_kind Inequality row p e = e.0
-met_by_kind Equation row p e = squeezed (value row p) (value (negated_terms row) p) e.0 e.1.0 (value-turned row p)
+met_by_kind Equation row p e = squeezed (value row p) (value (negated_terms row) p) e.0 e.1.0 (value-negated_terms row p)
   where
     squeezed : (x y : ℤ) → pos 0 ≤ℤ x → pos 0 ≤ℤ y → y ≡ neg_ℤ x → x ≡ pos 0
     squeezed x y h k e = omega (arith, ints, e)
@@ -78,17 +71,8 @@ columns_met gs p e = every-same (λ g. Every (λ r. pos 0 ≤ℤ value r p) (col
 
 -- ---- a point's values by coordinate
 
-coefficient_some : (x : ℕ) (y : ℤ) (rest : Terms) (c : ℕ) → coefficient (if_some x y ++ rest) c ≡ cond (nat_eq x c) y (pos 0) +ℤ coefficient rest c
-coefficient_some x (pos zero) rest c = by_test (nat_eq x c)
-  where
-    plain : (z : ℤ) → z ≡ pos 0 +ℤ z
-    plain z = omega (arith, ints)
-
-    by_test : (b : Bool) → coefficient rest c ≡ cond b (pos 0) (pos 0) +ℤ coefficient rest c
-    by_test true = plain (coefficient rest c)
-    by_test false = plain (coefficient rest c)
-coefficient_some x (pos (suc n)) rest c = refl
-coefficient_some x (negsuc n) rest c = refl
+coefficient_some : (x : ℕ) (y : ℤ) (rest : Terms) (c : ℕ) → coefficient (term_at x y ++ rest) c ≡ cond (nat_eq x c) y (pos 0) +ℤ coefficient rest c
+coefficient_some x y rest c = coefficient-append (term_at x y) rest c ∙ ap (λ z. z +ℤ coefficient rest c) (coefficient-term_at x y c)
 
 pub pairs_below : (from to : ℕ) (cs : List ℕ) (vs : List ℤ) (c : ℕ) → RiseTo from to cs → c < from → coefficient (pairs cs vs) c ≡ pos 0
 pairs_below from to [] vs c r h = refl
@@ -100,11 +84,7 @@ pairs_below from to (x ∷ xs) (y ∷ vs) c r h =
 pub pairs_ascend : (from to : ℕ) (cs : List ℕ) (vs : List ℤ) → RiseTo from to cs → Every IsWithin vs → Ascends from (pairs cs vs)
 pairs_ascend from to [] vs r w = tt
 pairs_ascend from to (x ∷ xs) [] r w = tt
-pairs_ascend from to (x ∷ xs) (y ∷ vs) r w = if_some_ascends from x y (pairs xs vs) r.0 w.0 (pairs_ascend (x + 1) to xs vs r.1 w.1)
-
-pub every_all : {X : Type 0} (P : X → Type 0) (xs : List X) → ((x : X) → P x) → Every P xs
-every_all P [] f = tt
-every_all P (x ∷ xs) f = (f x, every_all P xs f)
+pairs_ascend from to (x ∷ xs) (y ∷ vs) r w = ascends-term_at from x y (pairs xs vs) r.0 w.0 (pairs_ascend (x + 1) to xs vs r.1 w.1)
 
 -- as the code puts them one behind the other
 pub spread_more : (F : ℕ → ℤ) (size c : ℕ) (old new : List ℤ) → c ≤ size → new ≡ old ++ F c ∷ [] → old ++ map F (span c (size + 1 - c)) ≡ map F (span 1 size)
@@ -273,4 +253,4 @@ places_rise q cs k e = (2 ^ q.space.variables + q.space.rates, subst (RiseTo 1 (
 
 -- and the row of the scaled values
 pub pairs_canonical : (cs : List ℕ) (vs : List ℤ) (ts : Terms) → ts ≡ pairs cs vs → (to : ℕ) × RiseTo 1 to cs → All IsWithin vs → Ascends 0 ts
-pairs_canonical cs vs ts e r w = subst (Ascends 0) (sym e) (lower 0 1 (pairs cs vs) (omega arith) (pairs_ascend 1 r.0 cs vs r.1 (every_of IsWithin vs w)))
+pairs_canonical cs vs ts e r w = subst (Ascends 0) (sym e) (ascends_lower 0 1 (pairs cs vs) (omega arith) (pairs_ascend 1 r.0 cs vs r.1 (every_of IsWithin vs w)))

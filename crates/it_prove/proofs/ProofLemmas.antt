@@ -13,7 +13,8 @@ use Rattle.it_space.specs.Answers.{CertificateView}
 use Rattle.it_space.specs.Rows.{Terms, IsCanonical, IsUpTo, coefficient, map_of}
 use Rattle.it_space.specs.Spaces.{size_of}
 use Rattle.it_polymatroid.specs.Elementals.{elementals}
-use Rattle.it_polymatroid.proofs.Every.{Every, all_of, every-map}
+use Rattle.std.specs.List.{AllByRecursion as Every}
+use Rattle.it_space.proofs.EveryLemmas.{all_of, every-map}
 use Rattle.it_tableau.specs.Problems.{feasibility_problem}
 use Rattle.it_run.specs.Readings.{SumsUp, Separates}
 use Rattle.it_run.specs.Runs.{RunEndView}

@@ -6,7 +6,7 @@ use Rattle.std.proofs.lemmas.Nat.Gcd.{dvd_refl, dvd_trans, le_of_dvd}
 use Rattle.it_number.specs.Gcd.{lcm}
 use Rattle.it_number.proofs.Divisors.{lcm_is}
 use Rattle.it_rational.specs.Rational.{Rational}
-use Rattle.it_polymatroid.proofs.Every.{Every}
+use Rattle.std.specs.List.{AllByRecursion as Every}
 use Rattle.it_prove.specs.Scaling.{scale_from}
 
 pub lcm_pos : (a b : ℕ) → 0 < a → 0 < b → 0 < lcm a b

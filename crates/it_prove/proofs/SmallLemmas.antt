@@ -13,7 +13,8 @@ use Rattle.it_space.specs.declared.answers.Cause.TheVariants as causes
 use Rattle.it_space.specs.declared.answers.Cause.TheVariants.{Scale}
 use Rattle.it_space.specs.Bounds.{IsSmall}
 use Rattle.it_space.specs.Rows.{Terms, coefficient}
-use Rattle.it_polymatroid.proofs.Every.{Every, all_of, every-same, every-map}
+use Rattle.std.specs.List.{AllByRecursion as Every}
+use Rattle.it_space.proofs.EveryLemmas.{all_of, every-same, every-map}
 use Rattle.it_elemental.specs.Generators.{generators}
 use Rattle.it_elemental.proofs.GeneratorLemmas.{every_or}
 use Rattle.it_closure.specs.Collapse.{CollapseFits}
@@ -32,7 +33,7 @@ use Rattle.it_run.specs.Runs.RunEndView.{Weights, Point, Pivots, Width}
 use Rattle.it_run.proofs.RowValues.{whole_plus}
 use Rattle.it_prove.specs.Closed.{collapsed_row, collapsed_generator, closed_places, closed_generators, closed_target, CollapsesFit}
 use Rattle.it_prove.specs.Columns.{columns}
-use Rattle.it_prove.specs.ProofViews.{Undecided, Follows, Runs, AreSmall, NeverAtStart}
+use Rattle.it_prove.specs.ProofViews.{Undecided, Follows, Runs, NeverAtStart}
 use Rattle.it_prove.proofs.ClosedRows.{coords_rise}
 use Rattle.it_prove.proofs.LiftLemmas.{dependences_sound}
 use Rattle.it_prove.proofs.SmallRows.{abs_add, abs_neg, SmallRow, small_row, columns_small, collapse_fits, generators_small}

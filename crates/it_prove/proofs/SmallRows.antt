@@ -1,23 +1,23 @@
 -- Small rows: those of the generators are, and over closed sets small rows stay so.
 use Rattle.std.proofs.Common.{ℕ, zero, suc, ◌+◌, ◌-◌, ◌*◌, ◌^◌, ◌≤◌, ℤ, pos, negsuc, neg_ℤ, ◌+ℤ◌, unsigned_abs, List, [], ◌∷◌, ◌++◌, map, length, get_or, Bool, true, false, cond, nat_lt, nat_eq, All, sym, subst, arith, length-append}
-use Rattle.std.specs.List.{filter}
+use Rattle.std.specs.List.{filter, AllByRecursion as Every}
 use Rattle.std.proofs.lemmas.Int.{ints}
 use Rattle.std.proofs.lemmas.List.{length-map}
 use Rattle.it_space.specs.declared.problems.Constraint.{Constraint}
 use Rattle.it_space.specs.declared.problems.Kind.{Kind}
 use Rattle.it_space.specs.declared.problems.Kind.TheVariants.{Inequality, Equation}
 use Rattle.it_space.specs.Bounds.{IsSmall}
-use Rattle.it_space.specs.Rows.{Terms, coefficient}
+use Rattle.it_space.specs.Rows.{Terms, coefficient, negated_terms}
 use Rattle.it_polymatroid.specs.Elementals.{Elemental, Conditional, Mutual, elementals}
-use Rattle.it_polymatroid.proofs.Every.{Every, every_of, all_of, every-same, every-append, every-map, every-flat_map}
+use Rattle.it_space.proofs.EveryLemmas.{every_of, all_of, every-same, every-append, every-map, every-flat_map}
 use Rattle.it_elemental.specs.Generators.{Generator, of_elemental, of_constraint, generator_list}
-use Rattle.it_elemental.specs.Rows.{elemental_row, term_at}
+use Rattle.it_elemental.specs.Rows.{elemental_row, set_term}
 use Rattle.it_closure.specs.declared.dependences.Dependence.{Dependence}
 use Rattle.it_closure.specs.Collapse.{PartsFit, CollapseFits, place, placed_terms}
 use Rattle.it_space.specs.Sums.{plus_at}
 use Rattle.it_prove.specs.Closed.{collapsed_row}
-use Rattle.it_prove.specs.Columns.{negated_terms, columns_by, columns_of, columns}
-use Rattle.it_prove.proofs.GroupLemmas.{coefficient-turned}
+use Rattle.it_prove.specs.Columns.{columns_by, columns_of, columns}
+use Rattle.it_space.proofs.TermLemmas.{coefficient-negated_terms}
 
 pub abs_add : (x y : ℤ) (a b : ℕ) → unsigned_abs x ≤ a → unsigned_abs y ≤ b → unsigned_abs (x +ℤ y) ≤ a + b
 abs_add x y a b h k = omega (arith, ints, h, k)
@@ -31,11 +31,11 @@ Small t = unsigned_abs t.1 ≤ 2 ^ 74
 
 -- ---- the rows of the generators
 
-term_each : (s : ℕ) (a : ℤ) → unsigned_abs a ≤ 1 → Every Small (term_at s a)
+term_each : (s : ℕ) (a : ℤ) → unsigned_abs a ≤ 1 → Every Small (set_term s a)
 term_each zero a h = tt
 term_each (suc s) a h = (omega (arith, h), tt)
 
-term_few : (s : ℕ) (a : ℤ) → length (term_at s a) ≤ 1
+term_few : (s : ℕ) (a : ℤ) → length (set_term s a) ≤ 1
 term_few zero a = omega arith
 term_few (suc s) a = omega arith
 
@@ -47,21 +47,21 @@ small_of m row h a = record { few = omega (arith, a.0); each = all_of Small row 
 
 elemental_small : (n : ℕ) (e : Elemental) → IsSmall (elemental_row n e)
 elemental_small n (Conditional i) =
-    let all_but : Terms = term_at (2 ^ n - 1 - 2 ^ i) (negsuc 0) in
-    let all : Terms = term_at (2 ^ n - 1) (pos 1) in
+    let all_but : Terms = set_term (2 ^ n - 1 - 2 ^ i) (negsuc 0) in
+    let all : Terms = set_term (2 ^ n - 1) (pos 1) in
     small_of 2 (all_but ++ all) (omega arith) (both_small 1 1 all_but all (one (2 ^ n - 1 - 2 ^ i) (negsuc 0) (omega arith)) (one (2 ^ n - 1) (pos 1) (omega arith)))
   where
-    one : (s : ℕ) (a : ℤ) → unsigned_abs a ≤ 1 → (length (term_at s a) ≤ 1) × Every Small (term_at s a)
+    one : (s : ℕ) (a : ℤ) → unsigned_abs a ≤ 1 → (length (set_term s a) ≤ 1) × Every Small (set_term s a)
     one s a h = (term_few s a, term_each s a h)
 elemental_small n (Mutual i j k) =
-    let a : Terms = term_at k (negsuc 0) in
-    let b : Terms = term_at (k + 2 ^ i) (pos 1) in
-    let c : Terms = term_at (k + 2 ^ j) (pos 1) in
-    let d : Terms = term_at (k + 2 ^ i + 2 ^ j) (negsuc 0) in
+    let a : Terms = set_term k (negsuc 0) in
+    let b : Terms = set_term (k + 2 ^ i) (pos 1) in
+    let c : Terms = set_term (k + 2 ^ j) (pos 1) in
+    let d : Terms = set_term (k + 2 ^ i + 2 ^ j) (negsuc 0) in
     small_of 4 (a ++ b ++ c ++ d) (omega arith) (both_small 3 1 (a ++ b ++ c) d (both_small 2 1 (a ++ b) c (both_small 1 1 a b (one k (negsuc 0) (omega arith)) (one (k + 2 ^ i) (pos 1) (omega arith)))
     (one (k + 2 ^ j) (pos 1) (omega arith))) (one (k + 2 ^ i + 2 ^ j) (negsuc 0) (omega arith)))
   where
-    one : (s : ℕ) (a : ℤ) → unsigned_abs a ≤ 1 → (length (term_at s a) ≤ 1) × Every Small (term_at s a)
+    one : (s : ℕ) (a : ℤ) → unsigned_abs a ≤ 1 → (length (set_term s a) ≤ 1) × Every Small (set_term s a)
     one s a h = (term_few s a, term_each s a h)
 
 pub generators_small : (n : ℕ) (cs : List Constraint) → All (λ c. IsSmall c.row) cs → Every (λ g. IsSmall g.row) (generator_list n cs)
@@ -112,15 +112,15 @@ small_row n ds row s c = omega (arith, s.few, coefficient_small n ds row c (ever
 
 by_kind : (k : Kind) (r : Terms) → SmallRow r → Every SmallRow (columns_by k r)
 by_kind Inequality r s = (s, tt)
-by_kind Equation r s = (s, ((λ c. subst (λ (z : ℤ). unsigned_abs z ≤ 2 ^ 85) (sym (coefficient-turned c r)) (abs_neg (coefficient r c) (2 ^ 85) (s c))), tt))
+by_kind Equation r s = (s, ((λ c. subst (λ (z : ℤ). unsigned_abs z ≤ 2 ^ 85) (sym (coefficient-negated_terms c r)) (abs_neg (coefficient r c) (2 ^ 85) (s c))), tt))
 
 pub columns_small : (gs : List Generator) → Every (λ g. SmallRow g.row) gs → Every SmallRow (columns gs)
 unfolding columns
 columns_small gs e = every-flat_map SmallRow columns_of gs (every-same (λ g. SmallRow g.row) (λ g. Every SmallRow (columns_of g)) gs (λ g s. by_kind g.kind g.row s) e)
 
 -- a row turned stays small
-pub turned_small : (row : Terms) → IsSmall row → IsSmall (negated_terms row)
-turned_small row s = record {
+pub small-negated_terms : (row : Terms) → IsSmall row → IsSmall (negated_terms row)
+small-negated_terms row s = record {
   few = omega (arith, length-map {B = ℕ × ℤ} row (λ t. (t.0, neg_ℤ t.1)), s.few);
   each = all_of Small (negated_terms row) (every-map Small (λ (t : ℕ × ℤ). (t.0, neg_ℤ t.1)) row (every-same Small (λ (t : ℕ × ℤ). unsigned_abs (neg_ℤ t.1) ≤ 2 ^ 74) row (λ t h. abs_neg t.1 (2 ^ 74) h) (every_of Small row s.each)));
 }

@@ -5,7 +5,8 @@ use Rattle.it_rational.specs.Rational.{Rational}
 use Rattle.it_rational.proofs.RationalLaws.{ring_ℚ}
 use Rattle.it_rational.proofs.Field.{order_ℚ}
 use Rattle.it_space.specs.Rows.{Terms, coefficient, value, Ascends}
-use Rattle.it_polymatroid.proofs.Every.{Every, all_of}
+use Rattle.std.specs.List.{AllByRecursion as Every}
+use Rattle.it_space.proofs.EveryLemmas.{all_of}
 use Rattle.it_tableau.specs.Problems.{feasibility_problem}
 use Rattle.it_run.specs.Readings.{AreWeights, SumsUp}
 use Rattle.it_run.proofs.RowValues.{sums_up}

@@ -16,7 +16,7 @@ use Rattle.it_space.specs.Rows.{Terms, value}
 use Rattle.it_run.specs.Readings.{ring_combination}
 use Rattle.it_run.specs.RowValues.{value_at}
 use Rattle.it_run.proofs.RowValues.{whole_plus}
-use Rattle.it_polymatroid.proofs.Every.{Every}
+use Rattle.std.specs.List.{AllByRecursion as Every}
 use Rattle.it_prove.specs.Scaling.{scaled_number, scaled_by}
 use Prim.Native.Nat.{◌∣◌}
 use native.Mathlib.Nat.{div-mul_cancel, one-dvd}

@@ -1,15 +1,11 @@
 -- The columns of the run: an inequality is one, its row, and an equation two, its row and the row turned. And the weights of
 -- generators by those of their columns.
-use Rattle.std.specs.Prelude.{ℕ, zero, ◌+◌, ℤ, pos, neg_ℤ, ◌-ℤ◌, List, [], ◌∷◌, ◌++◌, map}
+use Rattle.std.specs.Prelude.{ℕ, ◌+◌, ℤ, ◌-ℤ◌, List, [], ◌∷◌, ◌++◌}
 use Rattle.std.specs.List.{flat_map}
 use Rattle.it_space.specs.declared.problems.Kind.{Kind}
 use Rattle.it_space.specs.declared.problems.Kind.TheVariants.{Inequality, Equation}
-use Rattle.it_space.specs.Rows.{Terms}
+use Rattle.it_space.specs.Rows.{Terms, negated_terms, term_at}
 use Rattle.it_elemental.specs.Generators.{Generator}
-
--- the row with all signs turned
-abbrev pub negated_terms : Terms → Terms
-negated_terms row = map (λ t. (t.0, neg_ℤ t.1)) row
 
 -- the columns of one generator
 abbrev pub columns_by : Kind → Terms → List Terms
@@ -33,12 +29,7 @@ abbrev pub weight_by : Kind → (ℕ → ℤ) → ℕ → ℤ
 weight_by Inequality f j = f j
 weight_by Equation f j = f j -ℤ f (j + 1)
 
--- a weight, where it isn't 0
-abbrev pub if_some : ℕ → ℤ → List (ℕ × ℤ)
-if_some i (pos zero) = []
-if_some i x = (i, x) ∷ []
-
 -- the weights of generators from number i on, the first of which has column j
 unfoldable pub weights_from : ℕ → ℕ → List Generator → (ℕ → ℤ) → List (ℕ × ℤ)
 weights_from i j [] f = []
-weights_from i j (g ∷ gs) f = if_some i (weight_by g.kind f j) ++ weights_from (i + 1) (j + column_count g.kind) gs f
+weights_from i j (g ∷ gs) f = term_at i (weight_by g.kind f j) ++ weights_from (i + 1) (j + column_count g.kind) gs f

@@ -1,7 +1,6 @@
 -- What the contracts inside the crate speak of; no public clause cites it.
 use Rattle.std.specs.Prelude.{◌≡◌, ℕ, ℤ, List, [], ◌∷◌, ◌++◌}
-use Rattle.it_space.specs.Rows.{Terms, coefficient}
-use Rattle.it_prove.specs.Columns.{if_some}
+use Rattle.it_space.specs.Rows.{Terms, coefficient, term_at}
 
 -- rows with the same coefficients, one by one
 abbrev pub SameRows : List Terms → List Terms → Type 0
@@ -14,4 +13,4 @@ SameRows (r ∷ rs) (s ∷ ss) = ((c : ℕ) → coefficient r c ≡ coefficient 
 abbrev pub pairs : List ℕ → List ℤ → Terms
 pairs [] vs = []
 pairs (c ∷ cs) [] = []
-pairs (c ∷ cs) (v ∷ vs) = if_some c v ++ pairs cs vs
+pairs (c ∷ cs) (v ∷ vs) = term_at c v ++ pairs cs vs

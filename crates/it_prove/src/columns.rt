@@ -2,11 +2,11 @@
 ghost use Rattle.std.specs.Prelude.{◌≡◌, ◌<◌, ◌++◌, ℕ, List, neg_ℤ, length, All, IfErr, IfOk, OnOk};
 ghost use Rattle.it_number.specs.Limit.{IsWithin};
 ghost use Rattle.it_space.specs.Problems.{IsProblem, problem_view};
-ghost use Rattle.it_space.specs.Rows.{Terms, IsCanonical, coefficient};
+ghost use Rattle.it_space.specs.Rows.{Terms, IsCanonical, coefficient, negated_terms};
 ghost use Rattle.it_closure.specs.Collapse.{CollapseFits};
 ghost use Rattle.it_elemental.specs.Generators.{generators, generator_at};
 ghost use Rattle.it_prove.specs.Closed.{collapsed_row, collapsed_all, collapsed_generator};
-ghost use Rattle.it_prove.specs.Columns.{columns, columns_by, columns_of, negated_terms};
+ghost use Rattle.it_prove.specs.Columns.{columns, columns_by, columns_of};
 ghost use Rattle.it_prove.specs.Steps.{SameRows};
 
 use it_closure::Dependences;

@@ -1,14 +1,13 @@
 //! Points over all coordinates from points over closed sets.
 ghost use Rattle.std.specs.Prelude.{◌≡◌, ◌<◌, ◌++◌, ◌∷◌, [], ℕ, pos, length, slice_index_or, IfErr, IfOk, OnOk};
 ghost use Rattle.it_space.specs.Problems.{IsProblem, problem_view};
-ghost use Rattle.it_space.specs.Rows.{IsCanonical, coefficient};
+ghost use Rattle.it_space.specs.Rows.{IsCanonical, coefficient, term_at};
 ghost use Rattle.it_space.specs.Spaces.{size_of};
 ghost use Rattle.it_closure.specs.Collapse.{place};
 ghost use Rattle.it_closure.specs.Coordinates.{RiseTo};
 ghost use Rattle.it_closure.specs.Reading.{dependences_of};
 ghost use Rattle.it_prove.specs.Closed.{closed_places, spread_point, spread_values};
 ghost use Rattle.it_prove.specs.Steps.{pairs};
-ghost use Rattle.it_prove.specs.Columns.{if_some};
 ghost use Rattle.it_prove.specs.Scaling.{NumbersFit, scaled_point};
 
 use crate::certificates::push_some;
@@ -27,7 +26,7 @@ fn put_pair(
 ) -> Result<(), AllocError>
     requires coordinate { k < length coordinates.now }
     requires value { k < length values.now }
-    ensures { OnOk result (terms.new.items ≡ terms.old.items ++ if_some (slice_index_or coordinates.now k 0) (slice_index_or values.now k (pos 0))) }
+    ensures { OnOk result (terms.new.items ≡ terms.old.items ++ term_at (slice_index_or coordinates.now k 0) (slice_index_or values.now k (pos 0))) }
 {
     push_some(terms, coordinates[k], values[k])
 }

@@ -154,7 +154,7 @@ fn on_closed(
     ensures outcome { IfOk result (λ proof. IfSome budget (λ steps. EndsWith (problem_view problem.now) target.now steps (proof_view proof))) }
     ensures right { IfOk result (λ proof. IsRightProof (problem_view problem.now) target.now (proof_view proof)) }
 {
-    let coordinates = dependences.closed(alloc, problem.space)?;
+    let coordinates = dependences.closed_coordinates(alloc, problem.space)?;
     match solve(
         alloc,
         coordinates.as_slice(),

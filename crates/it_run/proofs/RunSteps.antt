@@ -1,10 +1,9 @@
 -- One step of the run and its ends, for a loop that makes the run.
-use Rattle.std.proofs.Common.{◌≡◌, inl, inr, ℕ, zero, suc, ◌+◌, ◌-◌, ◌<◌, pos, refl, sym, ap, subst, ◌∙◌, arith, Some}
+use Rattle.std.proofs.Common.{◌≡◌, inl, inr, ℕ, zero, suc, ◌+◌, ◌-◌, ◌<◌, refl, sym, ap, subst, ◌∙◌, arith, Some}
 use Rattle.std.proofs.lemmas.Bool.{true≢false}
-use Rattle.it_rational.specs.Rational.{Rational, whole, is_at_least_zero}
+use Rattle.it_rational.specs.Rational.{Rational, is_at_least_zero}
 use Rattle.it_rational.proofs.RationalLaws.{ring_ℚ}
-use Rattle.it_rational.proofs.Field.{order_ℚ, null_from}
-use Rattle.it_fraction.proofs.ZeroLemmas.{zero_parts}
+use Rattle.it_rational.proofs.Field.{order_ℚ}
 use Rattle.it_tableau.specs.Tables.{Table, FeasibilityProblem, pivot}
 use Rattle.it_tableau.specs.Fits.{PivotFits}
 use Rattle.it_tableau.specs.Invariants.{HasInvariants}
@@ -16,12 +15,6 @@ use Rattle.it_run.specs.Solving.{RatiosFit, StepFits}
 use Rattle.it_run.specs.Steps.{IsLeaving, IsReady, IsStep, IsWide, Reaches, ReachesFrom, HoldsSome}
 use Rattle.it_run.proofs.BlandRule.{first_before, first_at, entering_is, some_column, leaving_is}
 use Rattle.it_run.proofs.RunLemmas.{next_holds}
-
-pub null_from_top : (q : Rational) → q.num ≡ pos 0 → q ≡ whole (pos 0)
-null_from_top q e = null_from q e
-
-pub top_from_null : (q : Rational) → q ≡ whole (pos 0) → q.num ≡ pos 0
-top_from_null q e = ap (λ (x : Rational). x.num) e ∙ zero_parts.0
 
 module _ (m n : ℕ) where
   abbrev pub Done : Table Rational → Type 0

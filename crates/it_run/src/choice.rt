@@ -28,6 +28,7 @@ pub fn entering(tableau: &Tableau) -> Option<usize>
     None
 }
 
+/// Whether a row comes before the best so far: its ratio is less, or as great with a smaller basic column.
 #[tactic(auto, using(crate::proofs::SearchLemmas::before_less, crate::proofs::SearchLemmas::before_greater, crate::proofs::SearchLemmas::before_equal))]
 fn precedes(ratio: Fraction, column: usize, best: Fraction, best_column: usize) -> bool
     ensures { result ≡ is_before ratio column best best_column }
@@ -39,7 +40,8 @@ fn precedes(ratio: Fraction, column: usize, best: Fraction, best_column: usize) 
     }
 }
 
-fn better(
+/// The best row with its ratio, of the best so far and one more.
+fn best_after(
     best: Option<(usize, Fraction)>,
     row: usize,
     ratio: Fraction,
@@ -74,7 +76,7 @@ pub fn leaving(tableau: &Tableau, column: usize) -> Result<Option<usize>, Wide>
     for i in 0..tableau.rows() {
         if tableau.entry(i, column).is_positive() {
             let ratio = tableau.ratio(i, column)?;
-            best = better(best, i, ratio, tableau);
+            best = best_after(best, i, ratio, tableau);
         }
     }
     match best {

@@ -15,7 +15,7 @@ use it_fraction::Fraction;
 use it_tableau::Tableau;
 use std::alloc::{AllocError, Global};
 
-// the right side of the row whose basic column is j
+/// The right side of the row in which column j is basic, None where it is basic in none.
 fn weight_of(tableau: &Tableau, j: usize) -> Option<Fraction>
     requires usable { tableau.now.spent ≡ false }
     requires holds { HoldsSome tableau.now }
@@ -30,7 +30,8 @@ fn weight_of(tableau: &Tableau, j: usize) -> Option<Fraction>
     None
 }
 
-#[tactic(auto, using(crate::proofs::RunSteps::null_from_top, crate::proofs::RunSteps::top_from_null))]
+/// Whether a number is 0.
+#[tactic(auto, using(it_tableau::proofs::Zeros::null_from_top, it_tableau::proofs::Zeros::top_from_null))]
 fn is_null(value: Fraction) -> bool
     ensures yes { OnTrue result (value ≡ whole (pos 0)) }
     ensures no { OnFalse result (¬ (value ≡ whole (pos 0))) }
@@ -38,6 +39,7 @@ fn is_null(value: Fraction) -> bool
     if value.is_zero() { true } else { false }
 }
 
+/// Puts a column's weight behind the others.
 fn append(
     weights: &mut Vec<(usize, Fraction)>,
     j: usize,
@@ -66,6 +68,7 @@ pub fn weights(alloc: Global, tableau: &Tableau) -> Result<Vec<(usize, Fraction)
     Ok(out)
 }
 
+/// Whether row k was negated at the start.
 #[tactic(auto, using(crate::proofs::FillingLemmas::sign_below, crate::proofs::FillingLemmas::sign_above))]
 fn is_negated(tableau: &Tableau, k: usize) -> bool
     requires usable { tableau.now.spent ≡ false }
@@ -75,7 +78,7 @@ fn is_negated(tableau: &Tableau, k: usize) -> bool
     if tableau.sign(k) < 0 { true } else { false }
 }
 
-// the cost of row k's artificial column with the row's sign
+/// The value at coordinate k: the cost of its artificial column, with the row's sign.
 fn value_at(tableau: &Tableau, k: usize) -> Fraction
     requires usable { tableau.now.spent ≡ false }
     requires row { k < height tableau.now }

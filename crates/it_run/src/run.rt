@@ -41,7 +41,8 @@ fn step(tableau: &mut Tableau) -> Result<bool, RowFault>
     }
 }
 
-#[tactic(auto, using(crate::proofs::RunSteps::null_from_top, crate::proofs::RunSteps::top_from_null))]
+/// Whether the target is reached: the cost row's right side is 0.
+#[tactic(auto, using(it_tableau::proofs::Zeros::null_from_top, it_tableau::proofs::Zeros::top_from_null))]
 fn is_done(tableau: &Tableau) -> bool
     requires { tableau.now.spent ≡ false }
     ensures yes { OnTrue result (IsDone ring_ℚ order_ℚ (height tableau.now) tableau.now.generators (table tableau.now)) }

@@ -11,7 +11,7 @@ use it_space::{Row, RowFault};
 use it_tableau::Tableau;
 use std::alloc::{AllocError, Global};
 
-// the run from a start: on whole numbers where all of it can be made on them, else from the start in exact fractions
+/// The run by whole numbers, and where these give up by fractions from the start.
 fn run_answer(alloc: Global, start: Tableau, steps: u32) -> Result<Solved, AllocError>
     requires usable { start.spent ≡ false }
     requires start { HasProblem start }

@@ -21,6 +21,7 @@ impl Model for Budget {
 }
 
 impl Budget {
+    /// So many steps and no more.
     pub fn at_most(steps: u32) -> Budget
         ensures { result ≡ Some steps }
     {

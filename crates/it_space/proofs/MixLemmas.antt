@@ -10,10 +10,10 @@ use Rattle.it_number.proofs.Integers.{zring}
 use Rattle.it_number.proofs.Ring.{ring, v, plus, times as prod}
 use Rattle.it_number.proofs.IntegerRing.{ring_ℤ}
 use native.Mathlib.Nat.{div-mul_cancel}
-use Rattle.it_space.specs.Rows.{Terms, coefficient, Ascends}
-use Rattle.it_space.specs.Cancelling.{common_at, times_up, times_down, CancelFits, cancelled_row, term_at, MixFits}
+use Rattle.it_space.specs.Rows.{Terms, coefficient, Ascends, term_at}
+use Rattle.it_space.specs.Cancelling.{common_at, times_up, times_down, CancelFits, cancelled_row, MixFits}
 use Rattle.it_space.specs.Mixing.{mix, present, MixesFit, AreLater, IsFirst, IsPut, IsMix}
-use Rattle.it_space.proofs.TermLemmas.{coefficient-cancelled_row, rises-cancelled_row, ascends_rise, told_rising}
+use Rattle.it_space.proofs.TermLemmas.{coefficient-cancelled_row, rises-cancelled_row, ascends_rise, told_rising, coefficient-append, coefficient-term_at, ascends_lower}
 use Rattle.it_space.proofs.CanonicalRows.{none_below, head_is}
 
 -- ascending terms from lo on, all below hi
@@ -42,25 +42,6 @@ spans-term_at lo ts hi c (pos zero) h w s = subst (λ (us : Terms). Spans lo us 
 spans-term_at lo ts hi c (pos (suc n)) h w s = spans_more lo ts hi c (pos (suc n)) h (λ e. omega (arith, ints, e)) w s
 spans-term_at lo ts hi c (negsuc n) h w s = spans_more lo ts hi c (negsuc n) h (λ e. omega (arith, ints, e)) w s
 
-coefficient-append : (xs ys : Terms) (d : ℕ) → coefficient (xs ++ ys) d ≡ coefficient xs d +ℤ coefficient ys d
-coefficient-append [] ys d = omega (arith, ints)
-coefficient-append (x ∷ xs) ys d = omega (arith, ints, coefficient-append xs ys d)
-
-coefficient-term_at : (c : ℕ) (x : ℤ) (d : ℕ) → coefficient (term_at c x) d ≡ cond (nat_eq c d) x (pos 0)
-coefficient-term_at c (pos zero) d = by_test (nat_eq c d)
-  where
-    by_test : (b : Bool) → pos 0 ≡ cond b (pos 0) (pos 0)
-    by_test true = refl
-    by_test false = refl
-coefficient-term_at c (pos (suc n)) d = by_test (nat_eq c d)
-  where
-    by_test : (b : Bool) → cond b (pos (suc n)) (pos 0) +ℤ pos 0 ≡ cond b (pos (suc n)) (pos 0)
-    by_test b = omega (arith, ints)
-coefficient-term_at c (negsuc n) d = by_test (nat_eq c d)
-  where
-    by_test : (b : Bool) → cond b (negsuc n) (pos 0) +ℤ pos 0 ≡ cond b (negsuc n) (pos 0)
-    by_test b = omega (arith, ints)
-
 -- ---- the state of the loop
 
 pub record UnderWay (at a : ℕ) (up : Terms) (b : ℕ) (down left right terms : Terms) : Type 0 where
@@ -72,26 +53,11 @@ pub record UnderWay (at a : ℕ) (up : Terms) (b : ℕ) (down left right terms :
   pub gone : coefficient terms at ≡ pos 0
   pub fits : MixesFit at a left b right ↔ MixesFit at a up b down
 
-lower : (from : ℕ) (ts : Terms) → Ascends from ts → Ascends 0 ts
-lower from [] a = tt
-lower from (t ∷ ts) a = (omega arith, a.1, a.2, a.3)
-
 pub left_canonical : {at a : ℕ} {up : Terms} {b : ℕ} {down left right terms : Terms} → UnderWay at a up b down left right terms → Ascends 0 left
-left_canonical {left = left} u = lower u.from left u.left_from
+left_canonical {left = left} u = ascends_lower 0 u.from left (omega arith) u.left_from
 
 pub right_canonical : {at a : ℕ} {up : Terms} {b : ℕ} {down left right terms : Terms} → UnderWay at a up b down left right terms → Ascends 0 right
-right_canonical {right = right} u = lower u.from right u.right_from
-
-pub mix_begun : (at a : ℕ) (up : Terms) (b : ℕ) (down : Terms) → Ascends 0 up → Ascends 0 down → UnderWay at a up b down up down []
-mix_begun at a up b down h k = record {
-  from = 0;
-  left_from = h;
-  right_from = k;
-  spans = omega arith;
-  same = λ d n. omega (arith, ints);
-  gone = refl;
-  fits = (λ f. f, λ f. f);
-}
+right_canonical {right = right} u = ascends_lower 0 u.from right (omega arith) u.right_from
 
 abbrev one_if : Bool → ℕ
 one_if b = cond b 1 0
@@ -209,10 +175,6 @@ module _ (at a b c : ℕ) (up down left right left' right' : Terms) (l : AreLate
               let s : c ≡ d = same_number c d q in
               sum_none (coefficient terms d +ℤ mix a left b right c) (mix a left' b right' d) (ap (λ j. mix a left' b right' j) (sym s) ∙ here) ∙ ap (λ j. coefficient terms d +ℤ mix a left b right j) s ∙ u.same d n
           one d n false q = ap₂ (λ x y. x +ℤ y) (sum_none (coefficient terms d) (pos 0) refl) (mixes d (λ s. other_number c d q (sym s))) ∙ u.same d n
-
--- a coordinate that doesn't fit
-pub mix_stops : (at a b c : ℕ) (up down left right terms : Terms) → UnderWay at a up b down left right terms → c ≢ at → ¬ (MixFits (pos a) (coefficient left c) (pos b) (coefficient right c)) → ¬ (MixesFit at a up b down)
-mix_stops at a b c up down left right terms u n f g = f (u.fits.1 g c n)
 
 pub mix_done : (at a b : ℕ) (up down left right terms : Terms) → UnderWay at a up b down left right terms → left ≡ [] → right ≡ [] → IsMix at a up b down terms
 mix_done at a b up down left right terms u e f = record {

@@ -6,8 +6,9 @@ use Rattle.std.proofs.lemmas.Grind.{get_or-set_at}
 use Rattle.std.proofs.lemmas.List.{get_or-set_other}
 use Rattle.std.proofs.lemmas.List.Elements.{All-cons, All-head, All-tail, All-set}
 use Rattle.it_number.specs.Limit.{IsWithin}
-use Rattle.it_space.specs.Rows.{Terms, coefficient, Ascends, IsUpTo}
-use Rattle.it_space.specs.Sums.{number_at, plus_at, IsAdded, term_if, terms_from}
+use Rattle.it_space.specs.Rows.{Terms, coefficient, Ascends, IsUpTo, term_at}
+use Rattle.it_space.specs.Sums.{number_at, plus_at, IsAdded, terms_from}
+use Rattle.it_space.proofs.TermLemmas.{coefficient-append, coefficient-term_at, ascends-term_at}
 
 -- two maps with the same numbers
 pub same_functions : (f g : ℕ → ℤ) → ((x : ℕ) → f x ≡ g x) → f ≡ g
@@ -37,41 +38,21 @@ added-set xs i x y h e w = record {
     by_test k true f = let s : k ≡ i = sym (eqb-true i k f) in get_or-set_at xs i k y (pos 0) s h ∙ e ∙ ap (λ m. number_at xs m +ℤ x) (sym s)
     by_test k false f = get_or-set_other xs i k y (pos 0) (λ q. apart (sym (eq-eqb i k (sym q)) ∙ f)) ∙ none (number_at xs k)
 
-pub coefficient-append : (xs ys : Terms) (i : ℕ) → coefficient (xs ++ ys) i ≡ coefficient xs i +ℤ coefficient ys i
-coefficient-append [] ys i = omega (arith, ints)
-coefficient-append (x ∷ xs) ys i = omega (arith, ints, coefficient-append xs ys i)
-
--- the terms have the numbers as coefficients
-if_coefficient : (i c : ℕ) (x : ℤ) → coefficient (term_if i x) c ≡ cond (nat_eq i c) x (pos 0)
-if_coefficient i c (pos zero) = by_test (nat_eq i c)
-  where
-    by_test : (b : Bool) → pos 0 ≡ cond b (pos 0) (pos 0)
-    by_test true = refl
-    by_test false = refl
-if_coefficient i c (pos (suc x)) = plain (cond (nat_eq i c) (pos (suc x)) (pos 0))
-  where
-    plain : (a : ℤ) → a +ℤ pos 0 ≡ a
-    plain a = omega (arith, ints)
-if_coefficient i c (negsuc x) = plain (cond (nat_eq i c) (negsuc x) (pos 0))
-  where
-    plain : (a : ℤ) → a +ℤ pos 0 ≡ a
-    plain a = omega (arith, ints)
-
 below_none : (first : ℕ) (xs : List ℤ) (c : ℕ) → c < first → coefficient (terms_from first xs) c ≡ pos 0
 below_none first [] c h = refl
-below_none first (x ∷ xs) c h = coefficient-append (term_if first x) (terms_from (first + 1) xs) c
-    ∙ ap₂ (λ a b. a +ℤ b) (if_coefficient first c x ∙ ap (λ b. cond b x (pos 0)) (ne_eqb first c (λ e. omega arith))) (below_none (first + 1) xs c (omega arith))
+below_none first (x ∷ xs) c h = coefficient-append (term_at first x) (terms_from (first + 1) xs) c
+    ∙ ap₂ (λ a b. a +ℤ b) (coefficient-term_at first x c ∙ ap (λ b. cond b x (pos 0)) (ne_eqb first c (λ e. omega arith))) (below_none (first + 1) xs c (omega arith))
 
 pub terms_at : (first : ℕ) (xs : List ℤ) (i : ℕ) → coefficient (terms_from first xs) (first + i) ≡ number_at xs i
 terms_at first [] i = refl
 terms_at first (x ∷ xs) zero =
     let e : first + 0 ≡ first = omega arith in
-    ap (coefficient (terms_from first (x ∷ xs))) e ∙ coefficient-append (term_if first x) (terms_from (first + 1) xs) first
-    ∙ ap₂ (λ a b. a +ℤ b) (if_coefficient first first x ∙ ap (λ b. cond b x (pos 0)) (eq-eqb first first refl)) (below_none (first + 1) xs first (omega arith)) ∙ omega (arith, ints)
+    ap (coefficient (terms_from first (x ∷ xs))) e ∙ coefficient-append (term_at first x) (terms_from (first + 1) xs) first
+    ∙ ap₂ (λ a b. a +ℤ b) (coefficient-term_at first x first ∙ ap (λ b. cond b x (pos 0)) (eq-eqb first first refl)) (below_none (first + 1) xs first (omega arith)) ∙ omega (arith, ints)
 terms_at first (x ∷ xs) (suc i) =
     let e : first + suc i ≡ first + 1 + i = omega arith in
-    ap (coefficient (terms_from first (x ∷ xs))) e ∙ coefficient-append (term_if first x) (terms_from (first + 1) xs) (first + 1 + i)
-    ∙ ap₂ (λ a b. a +ℤ b) (if_coefficient first (first + 1 + i) x ∙ ap (λ b. cond b x (pos 0)) (ne_eqb first (first + 1 + i) (λ e. omega arith))) (terms_at (first + 1) xs i) ∙ omega (arith, ints)
+    ap (coefficient (terms_from first (x ∷ xs))) e ∙ coefficient-append (term_at first x) (terms_from (first + 1) xs) (first + 1 + i)
+    ∙ ap₂ (λ a b. a +ℤ b) (coefficient-term_at first x (first + 1 + i) ∙ ap (λ b. cond b x (pos 0)) (ne_eqb first (first + 1 + i) (λ e. omega arith))) (terms_at (first + 1) xs i) ∙ omega (arith, ints)
 
 -- from place 0, and from place 1
 pub terms_from_zero : (xs : List ℤ) (c : ℕ) → coefficient (terms_from 0 xs) c ≡ number_at xs c
@@ -85,32 +66,16 @@ terms_from_one xs (suc c) h = let e : suc c ≡ 1 + c = omega arith in ap (coeff
     later [] = refl
     later (x ∷ xs) = refl
 
--- the terms ascend
-if_ascends : (i : ℕ) (x : ℤ) (ts : Terms) → IsWithin x → Ascends (i + 1) ts → Ascends i (term_if i x ++ ts)
-if_ascends i (pos zero) ts w a = lower ts a
-  where
-    lower : (ts : Terms) → Ascends (i + 1) ts → Ascends i ts
-    lower [] a = tt
-    lower (t ∷ ts) a = (omega (arith, a.0), a.1, a.2, a.3)
-if_ascends i (pos (suc x)) ts w a = (omega arith, (λ e. some e), w, a)
-  where
-    some : pos (suc x) ≡ pos 0 → ⊥
-    some e = omega (arith, ints, e)
-if_ascends i (negsuc x) ts w a = (omega arith, (λ e. some e), w, a)
-  where
-    some : negsuc x ≡ pos 0 → ⊥
-    some e = omega (arith, ints, e)
-
 pub terms_ascend : (first : ℕ) (xs : List ℤ) → All IsWithin xs → Ascends first (terms_from first xs)
 terms_ascend first [] v = tt
-terms_ascend first (x ∷ xs) v = if_ascends first x (terms_from (first + 1) xs) (All-head IsWithin x xs v) (terms_ascend (first + 1) xs (All-tail IsWithin x xs v))
+terms_ascend first (x ∷ xs) v = ascends-term_at first first x (terms_from (first + 1) xs) (omega arith) (All-head IsWithin x xs v) (terms_ascend (first + 1) xs (All-tail IsWithin x xs v))
 
 -- and their places are those of the list
 pub terms_up_to : (size first : ℕ) (xs : List ℤ) → 1 ≤ first → first + length xs ≤ size + 1 → IsUpTo size (terms_from first xs)
 terms_up_to size first [] h k = λ i d l. absurd (omega arith)
 terms_up_to size first (x ∷ xs) h k = here x (terms_up_to size (first + 1) xs (omega arith) (omega arith))
   where
-    here : (y : ℤ) → IsUpTo size (terms_from (first + 1) xs) → IsUpTo size (term_if first y ++ terms_from (first + 1) xs)
+    here : (y : ℤ) → IsUpTo size (terms_from (first + 1) xs) → IsUpTo size (term_at first y ++ terms_from (first + 1) xs)
     here (pos zero) a = a
     here (pos (suc y)) a = All-cons (λ t. (1 ≤ t.0) × (t.0 ≤ size)) (first, pos (suc y)) (terms_from (first + 1) xs) (h, omega arith) a
     here (negsuc y) a = All-cons (λ t. (1 ≤ t.0) × (t.0 ≤ size)) (first, negsuc y) (terms_from (first + 1) xs) (h, omega arith) a

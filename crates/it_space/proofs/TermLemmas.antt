@@ -1,16 +1,51 @@
 -- Sums of rows and cancelled rows: the value at every point, and the coefficient at every coordinate.
-use Rattle.std.proofs.Common.{◌≡◌, ◌≢◌, ◌⊎◌, inl, inr, ap₂, ℕ, zero, suc, ◌+◌, ◌<◌, ◌≤◌, ℤ, pos, negsuc, ◌+ℤ◌, ◌*ℤ◌, refl, sym, ap, subst, ◌∙◌, arith, [], ◌∷◌, ◌++◌, Bool, true, false, cond, nat_eq, nat_lt, if◌then◌else◌}
+use Rattle.std.proofs.Common.{◌≡◌, ◌≢◌, ◌⊎◌, inl, inr, ap₂, ℕ, zero, suc, ◌+◌, ◌<◌, ◌≤◌, ℤ, pos, negsuc, neg_ℤ, ◌+ℤ◌, ◌*ℤ◌, refl, sym, ap, subst, ◌∙◌, arith, [], ◌∷◌, ◌++◌, Bool, true, false, cond, nat_eq, nat_lt, if◌then◌else◌}
 use Rattle.std.proofs.lemmas.Int.{ints}
 use Rattle.std.proofs.lemmas.Bool.Decides.{nat_tests}
 use Rattle.it_number.proofs.Integers.{zring}
-use Rattle.it_space.specs.Rows.{Terms, coefficient, value, Ascends}
+use Rattle.it_number.specs.Limit.{IsWithin}
+use Rattle.it_space.specs.Rows.{Terms, coefficient, value, Ascends, term_at, negated_terms, one_at}
 use Rattle.it_space.proofs.CanonicalRows.{here_is, other_is}
 use Rattle.std.proofs.lemmas.Bool.{cases_order}
-use Rattle.it_space.specs.Cancelling.{term_at, times_up, times_down, with_term, row_sum, row_multiple, cancelled_row}
+use Rattle.it_space.specs.Cancelling.{times_up, times_down, with_term, row_sum, row_multiple, cancelled_row}
 use Rattle.it_space.specs.Mixing.{mix}
 
 pub same_number : (a b : ℕ) → nat_eq a b ≡ true → a ≡ b
 same_number a b h = grind (arith, nat_tests)
+
+-- ---- terms, and rows put together
+
+pub ascends_lower : (from to : ℕ) (ts : Terms) → from ≤ to → Ascends to ts → Ascends from ts
+ascends_lower from to [] h a = tt
+ascends_lower from to (t ∷ ts) h a = (omega (arith, a.0), a.1, a.2, a.3)
+
+pub value-append : (xs ys : Terms) (p : ℕ → ℤ) → value (xs ++ ys) p ≡ value xs p +ℤ value ys p
+value-append [] ys p = omega (arith, ints)
+value-append (x ∷ xs) ys p = omega (arith, ints, value-append xs ys p)
+
+pub coefficient-append : (xs ys : Terms) (c : ℕ) → coefficient (xs ++ ys) c ≡ coefficient xs c +ℤ coefficient ys c
+coefficient-append [] ys c = omega (arith, ints)
+coefficient-append (x ∷ xs) ys c = omega (arith, ints, coefficient-append xs ys c)
+
+pub coefficient-term_at : (c : ℕ) (x : ℤ) (d : ℕ) → coefficient (term_at c x) d ≡ cond (nat_eq c d) x (pos 0)
+coefficient-term_at c (pos zero) d = by_test (nat_eq c d)
+  where
+    by_test : (b : Bool) → pos 0 ≡ cond b (pos 0) (pos 0)
+    by_test true = refl
+    by_test false = refl
+coefficient-term_at c (pos (suc n)) d = plain (cond (nat_eq c d) (pos (suc n)) (pos 0))
+  where
+    plain : (a : ℤ) → a +ℤ pos 0 ≡ a
+    plain a = omega (arith, ints)
+coefficient-term_at c (negsuc n) d = plain (cond (nat_eq c d) (negsuc n) (pos 0))
+  where
+    plain : (a : ℤ) → a +ℤ pos 0 ≡ a
+    plain a = omega (arith, ints)
+
+pub ascends-term_at : (from c : ℕ) (x : ℤ) (ts : Terms) → from ≤ c → IsWithin x → Ascends (c + 1) ts → Ascends from (term_at c x ++ ts)
+ascends-term_at from c (pos zero) ts h w a = ascends_lower from (c + 1) ts (omega arith) a
+ascends-term_at from c (pos (suc n)) ts h w a = (h, (λ e. omega (arith, ints, e)), w, a)
+ascends-term_at from c (negsuc n) ts h w a = (h, (λ e. omega (arith, ints, e)), w, a)
 
 pub value-term_at : (c : ℕ) (x : ℤ) (ts : Terms) (p : ℕ → ℤ) → value (term_at c x ++ ts) p ≡ x *ℤ p c +ℤ value ts p
 value-term_at c (pos zero) ts p = omega (arith, ints)
@@ -48,22 +83,42 @@ unfolding cancelled_row
 value-cancelled_row at up down p = value-row_sum (row_multiple (times_up at up down) up) (row_multiple (times_down at up down) down) p
     ∙ omega (arith, ints, value-row_multiple (times_up at up down) up p, value-row_multiple (times_down at up down) down p)
 
--- the map that is 1 at a coordinate and 0 elsewhere
-abbrev pub unit_at : ℕ → ℕ → ℤ
-unit_at c s = cond (nat_eq s c) (pos 1) (pos 0)
-
--- a coefficient is the value at the map that is 1 at the coordinate and 0 elsewhere
-pub coefficient_is : (ts : Terms) (c : ℕ) → coefficient ts c ≡ value ts (unit_at c)
-coefficient_is [] c = refl
-coefficient_is (t ∷ ts) c = by_test (nat_eq t.0 c) (coefficient_is ts c)
+-- the coefficient at a coordinate is the value at the map that is 1 there
+pub value-one_at : (terms : Terms) (c : ℕ) → value terms (one_at c) ≡ coefficient terms c
+value-one_at [] c = refl
+value-one_at (t ∷ ts) c = ap₂ (λ x y. x +ℤ y) (by_test (nat_eq t.0 c)) (value-one_at ts c)
   where
-    by_test : (b : Bool) → coefficient ts c ≡ value ts (unit_at c) → cond b t.1 (pos 0) +ℤ coefficient ts c ≡ t.1 *ℤ cond b (pos 1) (pos 0) +ℤ value ts (unit_at c)
-    by_test true ih = omega (arith, ints, ih)
-    by_test false ih = omega (arith, ints, ih)
+    by_test : (b : Bool) → t.1 *ℤ cond b (pos 1) (pos 0) ≡ cond b t.1 (pos 0)
+    by_test true = omega (arith, ints)
+    by_test false = omega (arith, ints)
+
+-- ---- rows with all signs turned
+
+pub value-negated_terms : (row : Terms) (p : ℕ → ℤ) → value (negated_terms row) p ≡ neg_ℤ (value row p)
+value-negated_terms [] p = refl
+value-negated_terms (t ∷ ts) p = both t.1 (p t.0) (value (negated_terms ts) p) (value ts p) (value-negated_terms ts p)
+  where
+    both : (x y z s : ℤ) → z ≡ neg_ℤ s → neg_ℤ x *ℤ y +ℤ z ≡ neg_ℤ (x *ℤ y +ℤ s)
+    both x y z s e = omega (arith, zring, e)
+
+pub coefficient-negated_terms : (c : ℕ) (row : Terms) → coefficient (negated_terms row) c ≡ neg_ℤ (coefficient row c)
+coefficient-negated_terms c row = sym (value-one_at (negated_terms row) c) ∙ value-negated_terms row (one_at c) ∙ ap neg_ℤ (value-one_at row c)
+
+pub ascends-negated_terms : (from : ℕ) (row : Terms) → Ascends from row → Ascends from (negated_terms row)
+ascends-negated_terms from [] a = tt
+ascends-negated_terms from (t ∷ ts) a = (a.0, λ e. a.1 (back t.1 e), small t.1 a.2, ascends-negated_terms (t.0 + 1) ts a.3)
+  where
+    back : (x : ℤ) → neg_ℤ x ≡ pos 0 → x ≡ pos 0
+    back x e = omega (arith, ints, e)
+
+    small : (x : ℤ) → IsWithin x → IsWithin (neg_ℤ x)
+    small x h = omega (arith, ints, h)
+
+-- ---- cancelled rows
 
 pub coefficient-cancelled_row : (at : ℕ) (up down : Terms) (c : ℕ) → coefficient (cancelled_row at up down) c ≡ mix (times_up at up down) up (times_down at up down) down c
-coefficient-cancelled_row at up down c = coefficient_is (cancelled_row at up down) c ∙ value-cancelled_row at up down (unit_at c)
-    ∙ omega (arith, ints, ap (λ z. pos (times_up at up down) *ℤ z) (coefficient_is up c), ap (λ z. pos (times_down at up down) *ℤ z) (coefficient_is down c))
+coefficient-cancelled_row at up down c = sym (value-one_at (cancelled_row at up down) c) ∙ value-cancelled_row at up down (one_at c)
+    ∙ omega (arith, ints, ap (λ z. pos (times_up at up down) *ℤ z) (value-one_at up c), ap (λ z. pos (times_down at up down) *ℤ z) (value-one_at down c))
 
 -- ---- ascending terms without a limit
 

@@ -1,5 +1,5 @@
 -- The bound that rows from a question file keep.
-use Rattle.std.specs.Prelude.{ℕ, ◌^◌, ◌≤◌, unsigned_abs, length, All}
+use Rattle.std.specs.Prelude.{◌^◌, ◌≤◌, unsigned_abs, length, All}
 use Rattle.it_space.specs.Rows.{Terms}
 
 -- a row of at most 2 ^ 11 terms, whose coefficients are at most 2 ^ 74 in absolute value

@@ -1,14 +1,9 @@
 -- A coordinate cancelled: a row that is positive there and a row that is negative there, each so many times, added. The numbers
 -- have no bounds.
-use Rattle.std.specs.Prelude.{◌≡◌, ◌≢◌, ℕ, zero, ◌/◌, ℤ, pos, ◌+ℤ◌, ◌*ℤ◌, unsigned_abs, [], ◌∷◌, ◌++◌, map, nat_eq, nat_lt, if◌then◌else◌}
+use Rattle.std.specs.Prelude.{◌≢◌, ℕ, ◌/◌, ℤ, pos, ◌+ℤ◌, ◌*ℤ◌, unsigned_abs, [], ◌∷◌, ◌++◌, map, nat_eq, nat_lt, if◌then◌else◌}
 use Rattle.it_number.specs.Gcd.{gcd}
 use Rattle.it_number.specs.Limit.{IsWithin}
-use Rattle.it_space.specs.Rows.{Terms, coefficient}
-
--- the term x at coordinate c, no term where x is 0
-abbrev pub term_at : ℕ → ℤ → Terms
-term_at c (pos zero) = []
-term_at c x = (c, x) ∷ []
+use Rattle.it_space.specs.Rows.{Terms, coefficient, term_at}
 
 -- a row with x more at coordinate c
 abbrev pub with_term : ℕ → ℤ → Terms → Terms

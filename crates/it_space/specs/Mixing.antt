@@ -1,7 +1,7 @@
 -- No public clause cites this module: two ascending rows, each so many times, added coordinate by coordinate.
 use Rattle.std.specs.Prelude.{◌≡◌, ◌≢◌, ℕ, ◌+◌, ◌≤◌, ℤ, pos, ◌+ℤ◌, ◌*ℤ◌, [], ◌∷◌, ◌++◌, length, cond, nat_eq}
-use Rattle.it_space.specs.Rows.{Terms, coefficient, Ascends}
-use Rattle.it_space.specs.Cancelling.{MixFits, term_at}
+use Rattle.it_space.specs.Rows.{Terms, coefficient, Ascends, term_at}
+use Rattle.it_space.specs.Cancelling.{MixFits}
 
 -- the coefficient of the sum at a coordinate
 abbrev pub mix : ℕ → Terms → ℕ → Terms → ℕ → ℤ

@@ -1,4 +1,7 @@
+//! Answers to questions, and what they are made of.
 use crate::points::Point;
+use crate::rows::Row;
+use crate::sets::VarSet;
 
 /// Weights of generators over one positive scale, each weight after its generator's number.
 #[derive(Debug, Drop)]
@@ -13,9 +16,31 @@ pub enum Answer {
     /// A proof of each target of the question.
     Yes(Vec<Certificate>),
     /// A point that violates a target: the first one, or the second of an equality where `back` is set.
-    No { back: bool, point: Point },
+    No {
+        back: bool,
+        point: Point,
+    },
     /// Neither, and why.
     Undecided(Cause),
+    /// The rows of a region, each with what is known of it.
+    Region(Vec<(Mark, Row)>),
+    /// A set of the first region's variables for each auxiliary variable of the second region, and a proof of each obligation.
+    Contained {
+        parts: Vec<VarSet>,
+        proofs: Vec<Certificate>,
+    },
+    /// So many candidates were tried, and none was proved.
+    Open {
+        tried: u32,
+    },
+}
+
+/// What is known of a region's row: nothing; that the other rows don't give it; or that this stayed undecided.
+#[derive(Clone, Copy, Debug, PartialEq, Eq)]
+pub enum Mark {
+    Plain,
+    Needed,
+    Unsettled,
 }
 
 /// Why a question stays undecided.

@@ -1,7 +1,8 @@
+//! A coordinate cancelled between two rows.
 ghost use Rattle.std.specs.Prelude.{◌≡◌, ◌≢◌, pos, ◌*ℤ◌, ◌<◌, ◌^◌, ◌<ℤ◌, ◌++◌, OkIff, OnOk, IfOk, IfErr, IfSome, IfNone, [], unsigned_abs};
 ghost use Rattle.it_number.specs.Limit.{IsWithin};
-ghost use Rattle.it_space.specs.Rows.{Ascends, IsCanonical, coefficient};
-ghost use Rattle.it_space.specs.Cancelling.{common_at, term_at, MixFits, CancelFits, cancelled_row};
+ghost use Rattle.it_space.specs.Rows.{Ascends, IsCanonical, coefficient, term_at};
+ghost use Rattle.it_space.specs.Cancelling.{common_at, MixFits, CancelFits, cancelled_row};
 ghost use Rattle.it_space.specs.Mixing.{mix, MixesFit, AreLater, IsFirst, IsPut, IsMix};
 ghost use Rattle.it_space.specs.declared.faults.RowFault.TheVariants.{Wide as IsTooWide};
 
@@ -132,6 +133,7 @@ fn put_term(
     put_nonzero(terms, coordinate, total)
 }
 
+/// Puts a term behind the others, unless its coefficient is 0.
 fn put_nonzero(
     terms: &mut Vec<(u32, i128)>,
     coordinate: u32,
@@ -169,6 +171,7 @@ fn mixed_coefficient(
     )
 }
 
+/// So many times the coefficient at a coordinate that none is before.
 fn coefficient_times(terms: &[(u32, i128)], coordinate: u32, times: u128) -> Result<i128, Wide>
     requires terms { Ascends coordinate terms.now }
     requires times { times < 2 ^ 127 }

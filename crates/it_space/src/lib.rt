@@ -13,7 +13,7 @@ mod spaces;
 mod sums;
 mod values;
 
-pub use answers::{Answer, Cause, Certificate};
+pub use answers::{Answer, Cause, Certificate, Mark};
 pub use cancelling::cancel;
 pub use faults::RowFault;
 pub use normal_rows::normal;

@@ -56,6 +56,7 @@ impl Sums {
     }
 }
 
+/// Adds an amount to the number at a place, which must be there.
 fn add_at(values: &mut [i128], place: usize, amount: i128) -> Result<(), Wide>
     requires { place < length values.old }
     ensures added { OnOk result (IsAdded values.old values.new place amount) }
@@ -65,6 +66,7 @@ fn add_at(values: &mut [i128], place: usize, amount: i128) -> Result<(), Wide>
     Ok(())
 }
 
+/// The numbers other than 0 from a place on, each after its place.
 fn nonzero_terms(
     alloc: Global,
     values: &[i128],

@@ -1,6 +1,6 @@
 use Rattle.std.proofs.Common.{ap, ◌∙◌, sym, arith, ◌<◌, ◌-◌, ◌^◌, to_z-of_z, FitsSigned, rules}
 use Rattle.std.proofs.Math.Pow.{pow_mono}
-use Rattle.it_polymatroid.specs.Certificates.{one_at}
+use Rattle.it_space.specs.Rows.{one_at}
 use Rattle.it_polymatroid.specs.Elementals.{elemental_at, worth}
 use Rattle.it_elemental.proofs.PlaceLemmas.{is_elemental}
 use Rattle.it_elemental.proofs.RowLemmas.{coefficient-row, within-row}

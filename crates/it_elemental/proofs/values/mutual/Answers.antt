@@ -33,8 +33,8 @@ returns c =
     let second : FitsSigned w128 c.at_set-2.result = search rules in
     let third : FitsSigned w128 c.at_set-3.result = search rules in
     let fourth : FitsSigned w128 c.at_set-4.result = search rules in
-    let value = simp to_z-of_z at c.alternating.ensures in
+    let value = simp to_z-of_z at c.alternating_sum.ensures in
     let h = map_of c.args.point.now in
-    mutual_value c.args.point.now c.args.n c.args.left c.args.right c.args.given c.alternating.result c.at_set.result c.at_set-2.result c.at_set-3.result c.at_set-4.result c.at_set.ensures.within
+    mutual_value c.args.point.now c.args.n c.args.left c.args.right c.args.given c.alternating_sum.result c.at_set.result c.at_set-2.result c.at_set-3.result c.at_set-4.result c.at_set.ensures.within
     c.at_set.ensures.value (c.at_set-2.ensures.value ∙ ap h c.with-with_left.ensures) (c.at_set-3.ensures.value ∙ ap h c.with-with_right.ensures)
     (c.at_set-4.ensures.value ∙ ap h (c.with-both.ensures ∙ ap (λ s. s + 2 ^ c.args.right) c.with-with_left.ensures)) value

@@ -2,7 +2,7 @@ use Rattle.std.proofs.Common.{rules, FitsSigned, to_z-of_z, sym, ap, ◌∙◌}
 use Rattle.it_space.specs.Problems.{problem_view}
 use Rattle.it_space.specs.Rows.{coefficient}
 use Rattle.it_elemental.specs.Generators.{generators, generator_at}
-use Rattle.it_elemental.proofs.RowLemmas.{value-one_at}
+use Rattle.it_space.proofs.TermLemmas.{value-one_at}
 use Rattle.it_lift.proofs.excesses.coefficient_at_set.Goals as goal
 use mir.Syntax.{w128}
 

@@ -1,5 +1,5 @@
 use Rattle.it_space.specs.Problems.{problem_view}
-use Rattle.std.proofs.Common.{rules, ◌≡◌, ◌*◌, ◌%◌, ◌^◌, ◌<◌, ◌≤◌, ℕ, List, nat_eq, FitsSigned, to_z, to_z-of_z, sym, ap, ap₂, subst, ◌∙◌, arith}
+use Rattle.std.proofs.Common.{rules, ◌≡◌, ◌^◌, ◌<◌, ℕ, List, nat_eq, FitsSigned, to_z, to_z-of_z, sym, ap, ap₂, subst, ◌∙◌}
 use Rattle.std.proofs.lemmas.Nat.{pow_pos}
 use Rattle.it_space.specs.Answers.{CertificateView, certificate_view}
 use Rattle.it_space.specs.Rows.{value}
@@ -9,12 +9,9 @@ use Rattle.it_closure.specs.Closures.{closure}
 use Rattle.it_elemental.specs.Generators.{generators_of}
 use Rattle.it_lift.specs.Fits.{ExcessFits}
 use Rattle.it_lift.specs.Lifts.{excess}
-use Rattle.it_lift.proofs.EmptySteps.{shifted, evening-more, evening-stops}
+use Rattle.it_lift.proofs.EmptySteps.{evening-more, evening-stops, number_below}
 use Rattle.it_lift.proofs.excesses.empty_excess.Goals as goal
 use mir.Syntax.{w128}
-
-number_below : (m v n : ℕ) → m < 1 * 2 ^ v % 65536 → v ≤ 10 → n ≡ v → m < 2 ^ n
-number_below m v n h f e = rw e (omega (arith, shifted v f))
 
 -- whether a set has the closure of the empty set
 same_test : (n : ℕ) (ds : List Dependence) (m s x y z : ℕ) → s ≡ m → (s < 2 ^ n → x ≡ closure n ds s) → m < 2 ^ n → z ≡ 0 → (z < 2 ^ n → y ≡ closure n ds z) → nat_eq (closure n ds m) (closure n ds 0) ≡ nat_eq x y

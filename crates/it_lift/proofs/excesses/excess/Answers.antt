@@ -1,9 +1,8 @@
 use Rattle.it_space.specs.Problems.{problem_view}
 use Rattle.std.proofs.Common.{rules, ◌≡◌, ◌*ℤ◌, ℤ, FitsSigned, to_z-of_z, sym, ap, subst, ◌∙◌}
 use Rattle.it_number.specs.Limit.{IsWithin}
-use Rattle.it_space.specs.Rows.{coefficient, value}
-use Rattle.it_polymatroid.specs.Certificates.{one_at}
-use Rattle.it_elemental.proofs.RowLemmas.{value-one_at}
+use Rattle.it_space.specs.Rows.{coefficient, value, one_at}
+use Rattle.it_space.proofs.TermLemmas.{value-one_at}
 use Rattle.it_elemental.specs.Generators.{generators_of}
 use Rattle.it_lift.proofs.FallSteps.{excess_is}
 use Rattle.it_lift.proofs.excesses.excess.Goals as goal

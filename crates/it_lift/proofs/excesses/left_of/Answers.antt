@@ -1,7 +1,7 @@
 use Rattle.it_space.specs.Problems.{problem_view}
 use Rattle.std.proofs.Common.{rules, ◌<◌, ℕ, ℤ, pos, List, FitsSigned, to_z, get_or, length, to_z-of_z, arith}
 use Rattle.std.proofs.lemmas.List.{get_or_default}
-use Rattle.it_polymatroid.specs.Certificates.{one_at}
+use Rattle.it_space.specs.Rows.{one_at}
 use Rattle.it_elemental.specs.Generators.{generators_of}
 use Rattle.it_lift.proofs.FallSteps.{falling-more, falling-stops}
 use Rattle.it_lift.proofs.excesses.left_of.Goals as goal

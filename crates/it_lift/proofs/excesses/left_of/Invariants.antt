@@ -1,5 +1,5 @@
 use Rattle.it_space.specs.Problems.{problem_view}
-use Rattle.it_polymatroid.specs.Certificates.{one_at}
+use Rattle.it_space.specs.Rows.{one_at}
 use Rattle.it_elemental.specs.Generators.{generators_of}
 use Rattle.it_lift.proofs.FallSteps.{IsFalling}
 use Rattle.it_lift.proofs.excesses.left_of.Given as goal

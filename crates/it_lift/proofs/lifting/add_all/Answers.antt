@@ -9,9 +9,9 @@ use Rattle.it_lift.specs.Lifts.{excess, moves_of}
 use Rattle.it_space.specs.Sums.{number_at}
 use Rattle.it_lift.specs.Sums.{AreAdded}
 use Rattle.it_lift.proofs.AllSteps.{all-added, first-stops, later-stops, first_found}
-use Rattle.it_lift.proofs.SumSteps.{where_fault}
 use Rattle.it_lift.proofs.lifting.add_all.Goals as goal
 use mir.Syntax.{w128}
+use Rattle.it_space.proofs.MixLemmas.{where_fault}
 
 pub returns-in_err-add_moves-clause-wide : goal.returns-in_err-add_moves-clause-wide
 returns-in_err-add_moves-clause-wide c =

@@ -10,9 +10,9 @@ use Rattle.it_space.specs.Sums.{number_at}
 use Rattle.it_lift.specs.Sums.{AreAdded}
 use Rattle.it_lift.proofs.AllSteps.{others-more, others-stop, moves_found}
 use Rattle.it_lift.proofs.EmptySteps.{excess_within, number_below}
-use Rattle.it_lift.proofs.SumSteps.{where_fault}
 use Rattle.it_lift.proofs.lifting.add_others.Goals as goal
 use mir.Syntax.{w128}
+use Rattle.it_space.proofs.MixLemmas.{where_fault}
 
 pub add_moves-requires-clause-within : goal.add_moves-requires-clause-within
 add_moves-requires-clause-within c =

@@ -5,10 +5,10 @@ use Rattle.it_space.specs.Rows.{coefficient}
 use Rattle.it_polymatroid.specs.Elementals.{elementals}
 use Rattle.it_elemental.specs.Generators.{generators_of}
 use Rattle.it_lift.proofs.GeneratorLemmas.{total_is, few_elementals}
-use Rattle.it_lift.proofs.SumSteps.{where_fault}
 use Rattle.it_lift.proofs.Whole.{is_lift, lift_fits, weights_some}
 use Rattle.it_lift.proofs.lifting.lift_all.Goals as goal
 use mir.Syntax.{w128}
+use Rattle.it_space.proofs.MixLemmas.{where_fault}
 
 count_is : (q : ProblemView) (a b : ℕ) → a ≡ length (elementals q.space.variables) → b ≡ length q.constraints → a + b ≡ (generators_of q).count
 count_is q a b e f = omega (arith, total_is q)

@@ -4,9 +4,10 @@ use Rattle.it_space.specs.Sets.{IsInside}
 use Rattle.it_elemental.specs.Expansions.{members, mutual_expansion, conditional_expansion}
 use Rattle.it_closure.proofs.Insides.{inside_le}
 use Rattle.it_lift.specs.Lifts.{each_weight, set_difference, turn_moves, signed_value}
-use Rattle.it_lift.proofs.SumSteps.{first_stops, second_stops, third_stops, all_added, where_fault, turn_parts, less_found}
+use Rattle.it_lift.proofs.SumSteps.{first_stops, second_stops, third_stops, all_added, turn_parts, less_found}
 use Rattle.it_lift.proofs.Differences.{less_apart, less_less, less_meet, less_meet_right}
 use Rattle.it_lift.proofs.moves.add_turn.Goals as goal
+use Rattle.it_space.proofs.MixLemmas.{where_fault}
 
 from_below : (n f t : ℕ) → t < 2 ^ n → IsInside f t → f < 2 ^ n
 from_below n f t h i = omega (arith, inside_le f t i)

@@ -1,5 +1,5 @@
 use Rattle.std.proofs.Common.{◌≡◌, ◌++◌, drop}
-use Rattle.it_prove.specs.Columns.{negated_terms}
+use Rattle.it_space.specs.Rows.{negated_terms}
 use Rattle.it_prove.proofs.columns.opposite_terms.Given as goal
 
 abbrev pub invariant-loop-term : goal.invariant-loop-term

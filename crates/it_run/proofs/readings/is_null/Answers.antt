@@ -1,4 +1,4 @@
-use Rattle.it_run.proofs.RunSteps.{null_from_top}
+use Rattle.it_tableau.proofs.Zeros.{null_from_top}
 use Rattle.it_run.proofs.readings.is_null.Goals as goal
 
 pub returns-then-is_zero-clause-yes : goal.returns-then-is_zero-clause-yes

@@ -1,5 +1,5 @@
 use Rattle.std.proofs.Common.{◌∙◌, sym}
-use Rattle.it_run.proofs.RunSteps.{null_from_top}
+use Rattle.it_tableau.proofs.Zeros.{null_from_top}
 use Rattle.it_run.proofs.run.is_done.Goals as goal
 
 pub returns-then-is_zero-clause-yes : goal.returns-then-is_zero-clause-yes

@@ -1,12 +1,7 @@
--- A fact of every item of a list, by the list's structure, through the ways in which lists are made.
-use Rattle.std.proofs.Common.{◌≡◌, ℕ, zero, suc, ◌+◌, ◌<◌, ◌≤◌, ◌⊎◌, inl, inr, List, [], ◌∷◌, ◌++◌, map, Bool, true, false, cond, refl, sym, subst, ◌∙◌, arith, All}
-use Rattle.std.specs.List.{filter, flat_map}
+-- What holds of each item of a list, through the ways in which lists are made.
+use Rattle.std.proofs.Common.{◌≡◌, zero, suc, List, [], ◌∷◌, ◌++◌, map, Bool, true, false, cond, refl, sym, ◌∙◌, arith, All}
+use Rattle.std.specs.List.{filter, flat_map, AllByRecursion as Every}
 use Rattle.std.proofs.lemmas.List.Elements.{All-head, All-tail}
-use Rattle.it_polymatroid.specs.Elementals.{span}
-
-abbrev pub Every : {X : Type 0} → (X → Type 0) → List X → Type 0
-Every P [] = Unit {0}
-Every P (x ∷ xs) = P x × Every P xs
 
 pub every_of : {X : Type 0} (P : X → Type 0) (xs : List X) → All P xs → Every P xs
 every_of P [] a = tt
@@ -20,6 +15,10 @@ all_of P (x ∷ xs) e (suc i) d h = all_of P xs e.1 i d (omega arith)
 pub every-same : {X : Type 0} (P Q : X → Type 0) (xs : List X) → ((x : X) → P x → Q x) → Every P xs → Every Q xs
 every-same P Q [] f e = tt
 every-same P Q (x ∷ xs) f e = (f x e.0, every-same P Q xs f e.1)
+
+pub every_all : {X : Type 0} (P : X → Type 0) (xs : List X) → ((x : X) → P x) → Every P xs
+every_all P [] f = tt
+every_all P (x ∷ xs) f = (f x, every_all P xs f)
 
 pub every-append : {X : Type 0} (P : X → Type 0) (xs ys : List X) → Every P xs → Every P ys → Every P (xs ++ ys)
 every-append P [] ys e f = f
@@ -67,18 +66,3 @@ every_filtered P test (x ∷ xs) e = by_test (test x) refl e (λ r. every_filter
       where
         apart : false ≡ true → ⊥
         apart e = cc
-
-pub every-span : (P : ℕ → Type 0) (from count : ℕ) → ((i : ℕ) → from ≤ i → i < from + count → P i) → Every P (span from count)
-every-span P from zero f = tt
-every-span P from (suc count) f = (f from (omega arith) (omega arith), every-span P (from + 1) count (λ i h k. f i (omega arith) (omega arith)))
-
-pub every_spanned : (P : ℕ → Type 0) (from count : ℕ) → Every P (span from count) → (i : ℕ) → from ≤ i → i < from + count → P i
-every_spanned P from zero e i h k = absurd (omega arith)
-every_spanned P from (suc count) e i h k = by_cases (same_or_more from i h) (λ l. every_spanned P (from + 1) count e.1 i l (omega arith))
-  where
-    same_or_more : (a b : ℕ) → a ≤ b → (a ≡ b) ⊎ (a + 1 ≤ b)
-    same_or_more a b h = grind arith
-
-    by_cases : (from ≡ i) ⊎ (from + 1 ≤ i) → (from + 1 ≤ i → P i) → P i
-    by_cases (inl s) f = subst P s e.0
-    by_cases (inr l) f = f l

@@ -2,7 +2,7 @@ use Rattle.std.proofs.Common.{◌-ℤ◌, pos, unsigned_abs, FitsSigned, to_z-of
 use Rattle.std.proofs.lemmas.Int.{ints, to_z_pos}
 use Rattle.std.specs.Int.{w128}
 use Rattle.std.proofs.lemmas.Nat.Gcd.{IsGcd-swap}
-use Rattle.it_fraction.proofs.fraction.Fraction.turned.Goals as goal
+use Rattle.it_fraction.proofs.fraction.Fraction.inverse.Goals as goal
 use Rattle.it_fraction.proofs.Signs.{unsigned_abs-negated}
 
 pub in_lowest_terms-requires-clause-lowest : goal.in_lowest_terms-requires-clause-lowest
