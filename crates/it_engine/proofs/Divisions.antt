@@ -1,15 +1,14 @@
 -- Common divisors of the numbers of a row.
-use Rattle.std.proofs.Common.{◌≡◌, ◌⊎◌, inl, inr, ◌≤◌, ℕ, ◌+◌, ◌<◌, ℤ, pos, ◌*ℤ◌, unsigned_abs, List, sym, ap, subst, ◌∙◌, arith}
+use Rattle.std.proofs.Common.{◌≡◌, ◌⊎◌, inl, inr, ℕ, ◌+◌, ◌<◌, ℤ, pos, ◌*ℤ◌, unsigned_abs, List, sym, ap, subst, ◌∙◌, arith}
 use Rattle.std.proofs.lemmas.Nat.Gcd.{dvd_trans}
 use Rattle.std.proofs.lemmas.Bool.{cases_eq}
 use Rattle.it_number.specs.Gcd.{gcd}
 use Rattle.it_number.specs.Division.{int_quotient}
-use Rattle.it_number.proofs.Quotients.{abs-over}
 use Rattle.it_number.proofs.SignedDivisors.{over_back}
 use Rattle.it_number.proofs.Divisors.{gcd_is}
 use Rattle.it_engine.specs.Whole.{number_at}
 use Prim.Native.Nat.{◌∣◌}
-use native.Mathlib.Nat.{pos_of_dvd_of_pos, div-le_self}
+use native.Mathlib.Nat.{pos_of_dvd_of_pos}
 
 pub gcd_some : (a b : ℕ) → 0 < a → 0 < gcd a b
 gcd_some a b h = pos_of_dvd_of_pos (gcd_is a b).0 h
@@ -34,7 +33,3 @@ divides_more numbers bottom shared next z k e f d = subst (λ (n : ℕ). Divides
 
 pub whole_over : (z y : ℤ) (k : ℕ) → k ∣ unsigned_abs z → y ≡ int_quotient z k → y *ℤ pos k ≡ z
 whole_over z y k h e = ap (λ x. x *ℤ pos k) e ∙ over_back z k h
-
--- a divided number is no larger
-pub over_size : (z : ℤ) (k : ℕ) → unsigned_abs (int_quotient z k) ≤ unsigned_abs z
-over_size z k = subst (λ n. n ≤ unsigned_abs z) (sym (abs-over z k)) (div-le_self (unsigned_abs z) k)

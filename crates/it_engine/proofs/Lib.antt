@@ -14,6 +14,7 @@ pub mod Pivoting
 pub mod Steps
 pub mod Runs
 pub mod LoadLemmas
+pub mod ColumnSteps
 pub mod Starts
 pub mod Readings
 pub mod Answers

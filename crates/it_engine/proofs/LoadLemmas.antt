@@ -1,5 +1,5 @@
 -- The parts of the engine as they are read off the start.
-use Rattle.std.proofs.Common.{◌≡◌, ◌⊎◌, inl, inr, ℕ, zero, suc, ◌+◌, ◌<◌, ◌≤◌, ◌++◌, ℤ, pos, ◌*ℤ◌, unsigned_abs, Option, Some, None, List, [], ◌∷◌, All, drop, ◌^◌, length, length-append, slice_index_or, refl, sym, ap, ap₂, subst, ◌∙◌, arith}
+use Rattle.std.proofs.Common.{◌≡◌, ◌⊎◌, inl, inr, ℕ, zero, suc, ◌+◌, ◌<◌, ◌≤◌, ◌++◌, ℤ, pos, ◌*ℤ◌, unsigned_abs, Option, Some, None, List, [], ◌∷◌, All, ◌^◌, length, length-append, slice_index_or, refl, sym, ap, ap₂, subst, ◌∙◌, arith}
 use Rattle.std.specs.Option.{IfSome, SomeIff}
 use Rattle.std.proofs.lemmas.List.Elements.{All-append}
 use Rattle.it_number.proofs.Ring.{ring, v, plus, times, nil}
@@ -13,10 +13,10 @@ use Rattle.it_tableau.specs.Sums.{sum_to}
 use Rattle.it_run.specs.RowValues.{value_at}
 use Rattle.it_tableau.specs.TableauViews.{TableauView, height, table}
 use Rattle.std.proofs.lemmas.Bool.{cases_eq}
-use Rattle.std.proofs.lemmas.List.{get_or_append_left, drop_all}
-use Rattle.std.proofs.Math.Seq.{get_or-append_seam, drop-cons}
+use Rattle.std.proofs.lemmas.List.{get_or_append_left}
+use Rattle.std.proofs.Math.Seq.{get_or-append_seam}
 use Rattle.it_engine.specs.Whole.{weight_of_terms, WholeRowView}
-use Rattle.it_engine.specs.Loading.{AreReadRows, IsReadRow, AreRead, IsRead, IsShortWhole}
+use Rattle.it_engine.specs.Loading.{AreReadRows, IsReadRow, IsRead, IsShortWhole}
 
 pub short_whole : (limit : ℕ) (q : Rational) (o : Option ℤ) → pos q.den ≡ pos 1 → SomeIff o (unsigned_abs q.num ≤ limit) q.num → IfSome o (λ z. IsShortWhole limit q z)
 short_whole limit q None d h = tt
@@ -34,9 +34,6 @@ one_more k = omega arith
 All-one : (k : ℕ) (z : ℤ) → All (λ (t : ℕ × ℤ). t.0 < suc k) ((k, z) ∷ [])
 All-one k z zero d l = omega arith
 All-one k z (suc i) d l = absurd (omega arith)
-
-pub read_none : (f : ℕ → Rational) → IsRead 0 f []
-read_none f = record { value_is = λ g. refl; within = λ k d l. absurd (omega arith) }
 
 -- a row whose entry is 0 adds no term
 pub read_null : (k : ℕ) (f : ℕ → Rational) (terms : Terms) → (f k).num ≡ pos 0 → IsRead k f terms → IsRead (k + 1) f terms
@@ -67,49 +64,11 @@ item_more P k xs x d e h p i l = split (cases_eq i k)
         (subst (P k) (sym (ap (λ n. slice_index_or (xs ++ x ∷ []) n d) (sym e) ∙ get_or-append_seam xs x [] d)) p)
     split (inr n) = subst (P i) (sym (get_or_append_left xs (x ∷ []) d i (omega (arith, e)))) (h i (omega arith))
 
-pub columns_more : (t : TableauView) (j : ℕ) (columns : List Terms) (terms : Terms) → AreRead t j columns → IsRead (height t) (λ k. (table t).entry k j) terms → AreRead t (j + 1) (columns ++ terms ∷ [])
-columns_more t j columns terms a r = (
-  length-append columns (terms ∷ []) ∙ (let e = a.0 in omega (arith, e)),
-  item_more (λ i ts. IsRead (height t) (λ k. (table t).entry k i) ts) j columns terms [] a.0 a.1 r,
-)
-
--- the weight so far and the rest give the weight
-pub record IsWeighed (terms : Terms) (i : ℕ) (sum : ℕ) : Type 0 where
-  pub value_is : sum + weight_of_terms (drop i terms) ≡ weight_of_terms terms
-
-pub weighed_more : (terms : Terms) (i sum : ℕ) (z : ℤ) → i < length terms → z ≡ (slice_index_or terms i (0, pos 0)).1 → sum + weight_of_terms (drop i terms) ≡ weight_of_terms terms
-    → sum + unsigned_abs z + weight_of_terms (drop (i + 1) terms) ≡ weight_of_terms terms
-weighed_more terms i sum z h e w =
-    let split : drop i terms ≡ slice_index_or terms i (0, pos 0) ∷ drop (suc i) terms = drop-cons terms i (0, pos 0) h in
-    let here : i + 1 ≡ suc i = omega arith in
-    ap₂ (λ y k. sum + unsigned_abs y + weight_of_terms (drop k terms)) e here ∙ assoc sum (unsigned_abs (slice_index_or terms i (0, pos 0)).1) (weight_of_terms (drop (suc i) terms))
-    ∙ ap (λ (ts : Terms). sum + weight_of_terms ts) (sym split) ∙ w
-  where
-    assoc : (a b c : ℕ) → a + b + c ≡ a + (b + c)
-    assoc a b c = omega arith
-
-pub weighed_all : (terms : Terms) (i sum : ℕ) → length terms ≤ i → sum + weight_of_terms (drop i terms) ≡ weight_of_terms terms → sum ≡ weight_of_terms terms
-weighed_all terms i sum h w = none sum ∙ ap (λ (ts : Terms). sum + weight_of_terms ts) (sym (drop_all i terms h)) ∙ w
-  where
-    none : (k : ℕ) → k ≡ k + 0
-    none k = omega arith
-
 -- no column of the first j weighs more
 pub record IsNormUpTo (columns : List Terms) (norm j : ℕ) : Type 0 where
   pub some : 1 ≤ norm
   pub short : norm < 2 ^ 63
   pub bounds : (i : ℕ) → i < j → weight_of_terms (slice_index_or columns i []) ≤ norm
-
-pub norm_more : (columns : List Terms) (norm new j w : ℕ) (terms : Terms) → terms ≡ slice_index_or columns j [] → w ≡ weight_of_terms terms → norm ≤ new → w ≤ new → new < 2 ^ 63 → IsNormUpTo columns norm j → IsNormUpTo columns new (j + 1)
-norm_more columns norm new j w terms et ew h k l n = record {
-  some = (let s = n.some in omega (arith, s, h));
-  short = l;
-  bounds = λ i m. split i m (cases_eq i j);
-}
-  where
-    split : (i : ℕ) → i < j + 1 → (i ≡ j) ⊎ (i ≡ j → ⊥) → weight_of_terms (slice_index_or columns i []) ≤ new
-    split i m (inl q) = subst (λ (x : ℕ). weight_of_terms (slice_index_or columns x []) ≤ new) (sym q) (subst (λ (ts : Terms). weight_of_terms ts ≤ new) et (subst (λ (x : ℕ). x ≤ new) ew k))
-    split i m (inr d) = let b = n.bounds i (omega (arith, m, d)) in omega (arith, b, h)
 
 pub line_more : (t : TableauView) (limit i k : ℕ) (numbers : List ℤ) (q : Rational) (z : ℤ) → q ≡ (table t).entry i (t.generators + k) → IsShortWhole limit q z → IsReadRow t limit i k numbers → IsReadRow t limit i (k + 1) (numbers ++ z ∷ [])
 line_more t limit i k numbers q z e w r = record {

@@ -15,7 +15,7 @@ use Rattle.it_tableau.specs.Tables.{Table, FeasibilityProblem}
 use Rattle.it_run.specs.Readings.{weight, weights, weights_from, point_at, point_from, point}
 use Rattle.it_run.specs.Answers.{HasSigns, sign_number}
 use Rattle.it_run.proofs.FillingLemmas.{SoFar, so_far_null, so_far_more}
-use Rattle.it_run.proofs.RunSteps as S
+use Rattle.it_tableau.proofs.Zeros as S
 use Rattle.it_run.proofs.Reading.{weight_found, weight_none}
 use Rattle.it_engine.specs.Choosing.{right_of}
 use Rattle.it_engine.specs.Engine.{StandsFor}

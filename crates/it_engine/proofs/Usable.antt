@@ -6,13 +6,10 @@ use Rattle.it_number.specs.Division.{int_quotient}
 use Rattle.it_number.proofs.Divisors.{gcd_is}
 use Rattle.it_space.specs.Rows.{Terms, value}
 use Rattle.it_engine.specs.Whole.{number_at, WholeRowView}
-use Rattle.it_engine.specs.Updates.{AreShort, IsDivided, IsFitting, IsLess, IsQuotient, IsShortened, IsUpdated, IsUsable, Suits}
+use Rattle.it_engine.specs.Updates.{IsDivided, IsFitting, IsLess, IsQuotient, IsShortened, IsUpdated, IsUsable, Suits}
 use Rattle.it_engine.proofs.Generators.{value_bounded}
 use Rattle.it_engine.proofs.RowSteps.{kept_row, row_shortened}
 use native.Mathlib.Nat.{div-mul_cancel}
-
-pub usable_short : (width limit : ℕ) (row : WholeRowView) → limit < 2 ^ 63 → IsUsable width limit row → AreShort row.numbers
-usable_short width limit row h u k l = let s = u.small k (omega (arith, l, u.length_is)) in omega (arith, s, h)
 
 pub fitting_suits : (width limit : ℕ) (terms : Terms) (row : WholeRowView) → IsFitting width limit terms → IsUsable width limit row → Suits terms row.numbers
 fitting_suits width limit terms row f u = record {
@@ -50,13 +47,6 @@ quotient_usable width limit old p new u h q = shortened_usable width limit recor
   where
     above : (z : ℤ) → pos 1 ≤ℤ z → 0 < unsigned_abs z
     above z h = omega (arith, ints, h)
-
-pub quotient_low : (old : WholeRowView) (p : ℤ) (new : WholeRowView) → unsigned_abs p < 2 ^ 63 → IsQuotient old p new → new.bottom < 2 ^ 63
-quotient_low old p new h q = low new.bottom q.shared q.some q.bottom_is
-  where
-    low : (a s : ℕ) → 0 < s → a * s ≡ unsigned_abs p → a < 2 ^ 63
-    low a zero l e = absurd (omega arith)
-    low a (suc s) l e = omega (arith, e, h)
 
 pub shortened_less : (width limit : ℕ) (old own mid new : WholeRowView) (z p : ℤ) → IsLess width limit old own z p mid → IsShortened mid new → IsLess width limit old own z p new
 shortened_less width limit old own mid new z p l s = λ f g x w rf rg ex ew. row_shortened width limit _ mid new s (l f g x w rf rg ex ew)

@@ -41,10 +41,6 @@ abbrev pub IsDivided : ℕ → ℕ → WholeRowView → ℤ → WholeRowView →
 IsDivided width limit old p new = (g : ℕ → Rational) (w : Rational) → IsRow width limit g old.numbers old.bottom → Names w p old.bottom
     → IsRow width limit (λ k. times (g k) (inverse w)) new.numbers new.bottom
 
--- the same numbers in other terms
-abbrev pub IsSameRow : ℕ → ℕ → WholeRowView → WholeRowView → Type 0
-IsSameRow width limit old new = (f : ℕ → Rational) → IsRow width limit f old.numbers old.bottom → IsRow width limit f new.numbers new.bottom
-
 -- the numbers of a row times a, less those of another times b
 pub record IsCombined (width limit : ℕ) (row by : List ℤ) (a b : ℤ) (new : List ℤ) : Type 0 where
   pub length_is : length new ≡ width

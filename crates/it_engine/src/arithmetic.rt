@@ -85,7 +85,7 @@ pub fn combined(x: i64, a: i64, y: i64, b: i64, limit: u64) -> Option<i64>
     narrowed(difference(product(x, a), product(y, b)), limit)
 }
 
-// whether left comes before right, and of equal ones d before f
+/// Whether left comes before right, and of equal ones d before f.
 #[tactic(auto, using(crate::proofs::Signs::order_less, crate::proofs::Signs::order_same, crate::proofs::Signs::order_more))]
 fn in_order(left: i128, right: i128, d: usize, f: usize) -> bool
     ensures { result ≡ in_order_of left right d f }

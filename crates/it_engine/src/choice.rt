@@ -25,7 +25,7 @@ pub fn entering(columns: &[Column], cost: &WholeRow) -> Option<usize>
     None
 }
 
-// the entry of row i at the column
+/// The entry of row i at the column.
 fn entry(column: &Column, rows: &[WholeRow], i: usize) -> i64
     requires row { i < length rows.now }
     requires suits { SuitsAll column.now rows.now }
@@ -43,7 +43,7 @@ pub fn right(rows: &[WholeRow], i: usize, place: usize) -> i64
     rows[i].number(place)
 }
 
-// the better of the best row so far and row i
+/// The better of the best row so far and row i.
 fn better(
     best: Option<usize>,
     i: usize,

@@ -1,5 +1,5 @@
 //! The columns of the start.
-ghost use Rattle.std.specs.Prelude.{◌≡◌, ◌+◌, ◌<◌, ◌^◌, length, pos, slice_index_or};
+ghost use Rattle.std.specs.Prelude.{◌≡◌, ◌+◌, ◌<◌, ◌^◌, ◌++◌, ◌∷◌, [], length, pos, slice_index_or, OnOk};
 ghost use Rattle.std.specs.Option.{IfSome};
 ghost use Rattle.it_space.specs.Rows.{value};
 ghost use Rattle.it_engine.specs.Updates.{IsPriced, Suits};
@@ -7,6 +7,7 @@ ghost use Rattle.it_engine.specs.Whole.{number_at, weight_of_terms as weight_of}
 
 use crate::arithmetic::{added, increased};
 use crate::rows::WholeRow;
+use std::alloc::{AllocError, Global};
 use std::marker::Model;
 
 /// The entries of a column of the start other than 0, each after its row, by ascending row.
@@ -24,10 +25,21 @@ impl Model for Column {
 }
 
 impl Column {
-    pub fn of(terms: Vec<(usize, i64)>) -> Column
-        ensures { result ≡ terms.items }
+    /// A column whose entries are all 0.
+    pub fn empty(alloc: Global) -> Column
+        ensures { result ≡ [] }
     {
-        Column { terms }
+        Column {
+            terms: Vec::new(alloc),
+        }
+    }
+
+    /// Puts the entry of a row behind those of the rows before.
+    pub fn push_entry(&mut self, row: usize, number: i64) -> Result<(), AllocError>
+        ensures { OnOk result (self.new ≡ self.old ++ (row, number) ∷ []) }
+    {
+        self.terms.push((row, number))?;
+        Ok(())
     }
 
     fn size(&self) -> usize
@@ -63,7 +75,7 @@ impl Column {
         Some(sum)
     }
 
-    // the sum with one more term
+    /// The sum with one more term.
     #[inline]
     fn add_term(&self, row: &WholeRow, i: usize, sum: i64) -> i64
         requires suits { Suits self.now row.now.numbers }

@@ -81,7 +81,7 @@ impl Engine {
         last_row(self.rows.as_slice(), self.basis.len())
     }
 
-    // whether the cost row's right side is 0
+    /// Whether the cost row's right side is 0.
     fn is_done(&self) -> bool
         requires row { length self.now.basis < length self.now.rows }
         requires place { length self.now.basis < length (row_at self.now.rows (length self.now.basis)).numbers }
@@ -91,7 +91,7 @@ impl Engine {
         is_null(self.cost_row().number(self.basis.len()))
     }
 
-    // the column that enters
+    /// The column that enters.
     fn next_column(&self, columns: &[Column]) -> Option<usize>
         requires { (limit : ℕ) × IsSafe columns.now limit self.now.rows self.now.basis }
         ensures within { IfSome result (λ c. c < length columns.now) }
@@ -101,7 +101,7 @@ impl Engine {
         entering(columns, self.cost_row())
     }
 
-    // makes one step, if there is one to make; None where a number would be too large, and then nothing is known of the engine
+    /// Makes one step, if there is one to make; None where a number would be too large, and then nothing is known of the engine.
     fn step(&mut self, columns: &[Column], limit: u64) -> Option<bool>
         requires { IsSafe columns.now limit self.old.rows self.old.basis }
         ensures { IfSome result (λ moved. MovesOn columns.now limit self.old.rows self.old.basis self.new.rows self.new.basis moved) }

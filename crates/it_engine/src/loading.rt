@@ -1,8 +1,11 @@
 //! The engine of the start of a run.
 ghost use Rattle.std.specs.Prelude.{◌≡◌, ◌+◌, ◌<◌, ◌^◌, ◌++◌, ◌∷◌, ℕ, [], false, length, slice_index_or, IfOk, OnOk};
+ghost use Rattle.std.specs.Bool.{OnTrue};
 ghost use Rattle.std.specs.Option.{IfSome};
+ghost use Rattle.it_tableau.specs.Merging.{column_at, term_at};
+ghost use Rattle.it_tableau.specs.SparseRows.{Climbs};
 ghost use Rattle.it_tableau.specs.TableauViews.{height, table};
-ghost use Rattle.it_engine.specs.Loading.{AreRead, AreReadRows, IsNorm, IsRead, IsReadBasis, IsReadRow, IsShortWhole};
+ghost use Rattle.it_engine.specs.Loading.{AreNoTerms, AreRead, AreReadRows, IsNorm, IsPushed, IsReadBasis, IsReadRow, IsRowRead, IsShortWhole};
 
 use crate::arithmetic::narrowed;
 use crate::columns::Column;
@@ -13,7 +16,7 @@ use std::alloc::{AllocError, Global};
 
 const LARGEST: u64 = i64::MAX as u64;
 
-// a whole number within a bound
+/// The number where it is whole and within a bound.
 fn whole_number(value: Fraction, limit: u64) -> Option<i64>
     requires { limit < 2 ^ 63 }
     ensures { IfSome result (λ z. IsShortWhole limit value z) }
@@ -25,42 +28,77 @@ fn whole_number(value: Fraction, limit: u64) -> Option<i64>
     }
 }
 
-fn append(terms: &mut Vec<(usize, i64)>, k: usize, number: i64) -> Result<(), AllocError>
-    ensures { OnOk result (terms.new.items ≡ terms.old.items ++ (k, number) ∷ []) }
+fn column_of(terms: &[(usize, Fraction)], i: usize) -> usize
+    requires { i < length terms.now }
+    ensures { result ≡ column_at terms.now i }
 {
-    terms.push((k, number))?;
+    terms[i].0
+}
+
+fn value_of(terms: &[(usize, Fraction)], i: usize) -> Fraction
+    requires { i < length terms.now }
+    ensures { result ≡ term_at terms.now i }
+{
+    terms[i].1
+}
+
+fn push_entry(
+    columns: &mut Vec<Column>,
+    column: usize,
+    row: usize,
+    number: i64,
+) -> Result<(), AllocError>
+    requires { column < length columns.old.items }
+    ensures { OnOk result (IsPushed columns.old.items column row number columns.new.items) }
+{
+    columns[column].push_entry(row, number)?;
     Ok(())
 }
 
-fn column(alloc: Global, tableau: &Tableau, j: usize) -> Result<Option<Column>, AllocError>
-    requires usable { tableau.now.spent ≡ false }
-    requires column { j < tableau.now.generators }
-    ensures { IfOk result (λ o. IfSome o (λ terms. IsRead (height tableau.now) (λ k. (table tableau.now).entry k j) terms)) }
+/// Puts the terms of a row behind those of their columns, up to the first artificial column. False where a number isn't whole or
+/// is too large.
+fn read_terms(
+    columns: &mut Vec<Column>,
+    terms: &[(usize, Fraction)],
+    row: usize,
+) -> Result<bool, AllocError>
+    requires { (width : ℕ) × Climbs 0 width terms.now }
+    ensures { IfOk result (λ whole. OnTrue whole (IsRowRead row terms.now columns.old.items columns.new.items)) }
 {
-    let mut terms = Vec::new(alloc);
-    for k in 0..tableau.rows() {
-        let entry = tableau.entry(k, j);
-        if !entry.is_zero() {
-            let Some(number) = whole_number(entry, LARGEST) else {
-                return Ok(None);
-            };
-            append(&mut terms, k, number)?;
+    for i in 0..terms.len() {
+        let column = column_of(terms, i);
+        if column >= columns.len() {
+            return Ok(true);
         }
+        let Some(number) = whole_number(value_of(terms, i), LARGEST) else {
+            return Ok(false);
+        };
+        push_entry(columns, column, row, number)?;
     }
-    Ok(Some(Column::of(terms)))
+    Ok(true)
 }
 
-/// The columns.
+fn empty_columns(alloc: Global, count: usize) -> Result<Vec<Column>, AllocError>
+    ensures { IfOk result (λ columns. AreNoTerms count columns.items) }
+{
+    let mut columns = Vec::with_capacity(alloc, count)?;
+    for _ in 0..count {
+        columns.push(Column::empty(alloc))?;
+    }
+    Ok(columns)
+}
+
+/// The columns that aren't artificial, row by row. None where a number isn't whole or is too large.
 pub fn columns(alloc: Global, tableau: &Tableau) -> Result<Option<Vec<Column>>, AllocError>
     requires usable { tableau.now.spent ≡ false }
     ensures { IfOk result (λ o. IfSome o (λ columns. AreRead tableau.now tableau.now.generators columns.items)) }
 {
-    let mut columns = Vec::with_capacity(alloc, tableau.generators())?;
-    for j in 0..tableau.generators() {
-        let Some(column) = column(alloc, tableau, j)? else {
+    let mut columns = empty_columns(alloc, tableau.generators())?;
+    for k in 0..tableau.rows() {
+        let whole = read_terms(&mut columns, tableau.terms(k), k)?;
+        if !whole {
             return Ok(None);
-        };
-        columns.push(column)?;
+        }
     }
     Ok(Some(columns))
 }
@@ -79,8 +117,8 @@ pub fn norm(columns: &[Column]) -> Option<u64>
     Some(norm)
 }
 
-// the entry of row i at the artificial column k, or the right side; the cost row is the last row
-fn entry(tableau: &Tableau, i: usize, k: usize) -> Fraction
+/// The entry of row i at the artificial column k, or behind these the right side. The cost row is the last row.
+fn kept_entry(tableau: &Tableau, i: usize, k: usize) -> Fraction
     requires usable { tableau.now.spent ≡ false }
     requires row { i < height tableau.now + 1 }
     requires place { k < height tableau.now + 1 }
@@ -103,14 +141,15 @@ fn entry(tableau: &Tableau, i: usize, k: usize) -> Fraction
     }
 }
 
-fn push(numbers: &mut Vec<i64>, number: i64) -> Result<(), AllocError>
+fn push_number(numbers: &mut Vec<i64>, number: i64) -> Result<(), AllocError>
     ensures { OnOk result (numbers.new.items ≡ numbers.old.items ++ number ∷ []) }
 {
     numbers.push(number)?;
     Ok(())
 }
 
-fn row(
+/// A row's numbers at the artificial columns, and behind them its right side. None where one isn't whole or is above the limit.
+fn read_row(
     alloc: Global,
     tableau: &Tableau,
     i: usize,
@@ -124,10 +163,10 @@ fn row(
 {
     let mut numbers = Vec::with_capacity(alloc, tableau.rows() + 1)?;
     for k in 0..tableau.rows() + 1 {
-        let Some(number) = whole_number(entry(tableau, i, k), limit) else {
+        let Some(number) = whole_number(kept_entry(tableau, i, k), limit) else {
             return Ok(None);
         };
-        push(&mut numbers, number)?;
+        push_number(&mut numbers, number)?;
     }
     Ok(Some(WholeRow::of(numbers)))
 }
@@ -145,7 +184,7 @@ pub fn rows(
 {
     let mut rows = Vec::with_capacity(alloc, tableau.rows() + 1)?;
     for i in 0..tableau.rows() + 1 {
-        let Some(row) = row(alloc, tableau, i, limit)? else {
+        let Some(row) = read_row(alloc, tableau, i, limit)? else {
             return Ok(None);
         };
         rows.push(row)?;

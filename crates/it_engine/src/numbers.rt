@@ -16,7 +16,7 @@ fn read(row: &[i64], k: usize) -> i64
     row[k]
 }
 
-// the next number at place k
+/// The next number at place k.
 #[inline]
 fn next_number(row: &[i64], by: &[i64], k: usize, a: i64, b: i64, limit: u64) -> Option<i64>
     requires k_row { k < length row.now }
@@ -31,7 +31,7 @@ fn next_number(row: &[i64], by: &[i64], k: usize, a: i64, b: i64, limit: u64) ->
     combined(read(row, k), a, read(by, k), b, limit)
 }
 
-// as combine, with a test at each number; false where one would be too large, and then nothing is known of them
+/// As combine, with a test at each number; false where one would be too large, and then nothing is known of them.
 fn combine_tested(row: &mut Vec<i64>, by: &[i64], a: i64, b: i64, limit: u64) -> bool
     requires even { length row.old.items ≡ length by.now }
     requires row { AreShort row.old.items }
@@ -64,7 +64,7 @@ pub fn greatest(row: &[i64]) -> u64
     most
 }
 
-// x a + y b, where that is at most the limit
+/// The sum x a + y b, where that is at most the limit.
 fn sum_within(x: u64, a: u64, y: u64, b: u64, limit: u64) -> Option<u64>
     ensures { IfSome result (λ s. (s ≡ x * a + y * b) × (s ≤ limit)) }
 {
@@ -72,7 +72,7 @@ fn sum_within(x: u64, a: u64, y: u64, b: u64, limit: u64) -> Option<u64>
     if sum <= limit { Some(sum) } else { None }
 }
 
-// a bound on each number times a less another, which is at most y, times b; None where it is above the limit
+/// A bound on each number times a less another, which is at most y, times b; None where it is above the limit.
 fn bound(row: &[i64], most: u64, a: u64, y: u64, b: u64, limit: u64) -> Option<u64>
     requires most { AreAtMost row.now most }
     ensures { IfSome result (λ s. IsBound row.now a y b limit s) }
@@ -127,7 +127,7 @@ fn less_product(row: &[i64], by: &[i64], k: usize, b: i64) -> i64
     subtracted(read(row, k), multiplied(read(by, k), b))
 }
 
-// the place itself where the row isn't 0 there, else the one found after it
+/// The place itself where the row isn't 0 there, else the one found after it.
 #[tactic(auto, using(crate::proofs::Places::next_here, crate::proofs::Places::next_null))]
 fn next_place(row: &[i64], k: usize, after: usize) -> usize
     requires k { k < length row.now }
@@ -161,7 +161,7 @@ fn multiply_and_subtract(row: &mut Vec<i64>, by: &[i64], a: i64, b: i64)
     }
 }
 
-// as combine with the factor 1, where no number needs a test: only the places where the other row isn't 0 change
+/// As combine with the factor 1, where no number needs a test: only the places where the other row isn't 0 change.
 fn subtract_times(row: &mut Vec<i64>, by: &[i64], next: &[usize], b: i64)
     requires even { length row.old.items ≡ length by.now }
     requires bound { (k : ℕ) → k < length by.now → unsigned_abs (number_at row.old.items k) + unsigned_abs (number_at by.now k *ℤ b) < 2 ^ 63 }
@@ -176,7 +176,7 @@ fn subtract_times(row: &mut Vec<i64>, by: &[i64], next: &[usize], b: i64)
     }
 }
 
-// as combine, where no number needs a test
+/// As combine, where no number needs a test.
 fn combine_plain(row: &mut Vec<i64>, by: &[i64], next: &[usize], a: i64, b: i64)
     requires even { length row.old.items ≡ length by.now }
     requires bound { (k : ℕ) → k < length by.now → unsigned_abs (number_at row.old.items k *ℤ a) + unsigned_abs (number_at by.now k *ℤ b) < 2 ^ 63 }

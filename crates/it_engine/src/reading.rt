@@ -32,7 +32,7 @@ fn fraction_at(rows: &[WholeRow], i: usize, k: usize) -> Fraction
     fraction(&rows[i], k)
 }
 
-// the right side of the row whose basic column is j
+/// The right side of the row whose basic column is j.
 fn weight_of(rows: &[WholeRow], basis: &[usize], j: usize) -> Option<Fraction>
     requires { (limit : ℕ) × IsSafe [] limit rows.now basis.now }
     ensures some { IfSome result (λ w. IsWeightOf rows.now basis.now j w) }
@@ -46,7 +46,7 @@ fn weight_of(rows: &[WholeRow], basis: &[usize], j: usize) -> Option<Fraction>
     None
 }
 
-fn append(
+fn push_weight(
     weights: &mut Vec<(usize, Fraction)>,
     j: usize,
     weight: Fraction,
@@ -79,7 +79,7 @@ pub fn weights(
     for j in 0..columns.len() {
         if let Some(weight) = weight_of(rows, basis, j) {
             if !is_null(weight) {
-                append(&mut out, j, weight)?;
+                push_weight(&mut out, j, weight)?;
             }
         }
     }

@@ -83,7 +83,7 @@ impl WholeRow {
         note_places(self.numbers.as_slice(), next);
     }
 
-    // the same row, with an exact bound on its numbers
+    /// The same row, with an exact bound on its numbers.
     fn tightened(self) -> WholeRow
         ensures { result ≡ self }
     {
@@ -95,7 +95,7 @@ impl WholeRow {
         }
     }
 
-    // the same row over the least denominator
+    /// The same row over the least denominator.
     fn shorten(&mut self)
         requires some { 0 < self.old.bottom }
         requires short { AreShort self.old.numbers }
@@ -110,8 +110,8 @@ impl WholeRow {
         self.most = greatest(self.numbers.as_slice());
     }
 
-    // takes off as much of the leaving row as makes the entry at the column 0; false where a number would be too large, and then
-    // nothing is known of the row
+    /// Takes off as much of the leaving row as makes the entry at the column 0; false where a number would be too large, and then
+    /// nothing is known of the row.
     fn reduce(&mut self, own: &WholeRow, next: &[usize], entry: i64, pivot: i64, limit: u64) -> bool
         requires row { IsUsable (length own.now.numbers) limit self.old }
         requires own { IsUsable (length own.now.numbers) limit own.now }

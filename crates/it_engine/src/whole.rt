@@ -19,7 +19,7 @@ const LARGEST: u64 = i64::MAX as u64;
 // All rows are full, so that a table with more of them than this would take more memory than the sparse table of fractions.
 const MOST_ROWS: usize = 1 << 12;
 
-// the run, and what is read off its end
+/// The run, and what is read off its end.
 fn answer(
     alloc: Global,
     start: &Tableau,

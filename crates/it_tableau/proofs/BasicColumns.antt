@@ -6,8 +6,8 @@ use Rattle.it_number.specs.Rings.{Ring}
 use Rattle.it_rational.specs.OrderedFields.{Order}
 use Rattle.it_tableau.specs.Sums.{sum_to}
 use Rattle.it_tableau.specs.Tables.{Table, FeasibilityProblem, difference, pivot}
-use Rattle.it_tableau.specs.Invariants.{cost_of, HasInvariants}
-use Rattle.it_tableau.proofs.Sums.{sum_same, sum_changed, sum_unit}
+use Rattle.it_tableau.specs.Invariants.{HasInvariants}
+use Rattle.it_tableau.proofs.Sums.{sum_same, sum_changed}
 
 module _ {A : Type 0} (R : Ring A) (O : Order R) (m n : ℕ) where
   -- no two rows have one basic column
@@ -18,12 +18,6 @@ module _ {A : Type 0} (R : Ring A) (O : Order R) (m n : ℕ) where
       by_cases (inl d) = d
       by_cases (inr d) = absurd (O.apart
           (ap (λ b. cond b R.unit R.null) (sym (eq-eqb i i refl)) ∙ sym (h.units i i hi hi) ∙ ap (t.entry i) e ∙ h.units i k hi hk ∙ ap (λ b. cond b R.unit R.null) (ne_eqb i k d)))
-
-  -- a basic column's cost
-  pub basic_cost : (p : FeasibilityProblem A) (t : Table A) → HasInvariants R O m n p t → (k : ℕ) → k < m → t.entry m (t.basis k) ≡ cost_of R O m n (t.basis k)
-  basic_cost p t h k hk = h.costs (t.basis k)
-      ∙ sum_same R m (λ i. R.mul (cost_of R O m n (t.basis i)) (t.entry i (t.basis k))) (λ i. R.mul (cost_of R O m n (t.basis i)) (cond (eqb i k) R.unit R.null)) (λ i l. ap (R.mul (cost_of R O m n (t.basis i))) (h.units i k l hk))
-      ∙ sum_unit R m (λ i. cost_of R O m n (t.basis i)) k hk
 
   -- a sum of the rows through a pivot
   pub pivot_sum : (t : Table A) (r c : ℕ) (f S : ℕ → A) → r < m → R.mul (t.entry r c) (O.inv (t.entry r c)) ≡ R.unit

@@ -8,8 +8,9 @@ use Rattle.it_fraction.specs.Fits.{IsNarrow}
 use Rattle.it_fraction.proofs.ZeroLemmas.{zero_narrow}
 use Rattle.it_tableau.specs.Fits.{EntryFits, QuotientFits}
 use Rattle.it_tableau.specs.Merging.{AreDivided, AreMerged, MergeFits, TermsDivide}
-use Rattle.it_tableau.specs.Rows.{entry_at, zero_rational, DividedFits, IsDivided, IsReduced, ListsValues, RowFits, RowStepFits}
-use Rattle.it_tableau.specs.SparseRows.{RowTerms, dense, dense_row, number_at, Climbs, ListsEntries}
+use Rattle.it_tableau.specs.Entries.{entry_at, zero_rational}
+use Rattle.it_tableau.specs.Rows.{DividedFits, IsDivided, IsReduced, ListsValues, RowFits, RowStepFits, dense, dense_row}
+use Rattle.it_tableau.specs.SparseRows.{RowTerms, number_at, Climbs, ListsEntries}
 use Rattle.it_tableau.proofs.Building.{IsBuilt}
 use Rattle.it_tableau.proofs.Climbing.{climbs_narrow, climbs_none}
 use Rattle.it_tableau.proofs.Zeros.{by_none, none_divided, without}

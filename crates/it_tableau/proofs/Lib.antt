@@ -8,6 +8,8 @@ pub mod PivotLemmas
 pub mod ViewLemmas
 pub mod StartRows
 pub mod WholeNumbers
+pub mod SumSteps
+pub mod GatherSteps
 pub mod StartView
 pub mod Positive
 pub mod Zeros

@@ -3,7 +3,8 @@ use Rattle.std.proofs.Common.{◌≡◌, ◌≢◌, ℕ, ◌+◌, ◌<◌, ◌�
 use Rattle.std.proofs.lemmas.Bool.{cases_eq}
 use Rattle.std.proofs.lemmas.List.{get_or-set_same, get_or-set_other, get_or_default, length-set}
 use Rattle.it_rational.specs.Rational.{Rational, times, inverse}
-use Rattle.it_tableau.specs.Rows.{entry_at, row_at, RowStepFits, IsReduced, IsDivided, RowsPivotFits, ArePivoted}
+use Rattle.it_tableau.specs.Entries.{entry_at, row_at}
+use Rattle.it_tableau.specs.Rows.{RowStepFits, IsReduced, IsDivided, RowsPivotFits, ArePivoted}
 
 pub record UnderWay (old now : List (List Rational)) (own : List Rational) (r c i : ℕ) (p : Rational) : Type 0 where
   pub same : length now ≡ length old

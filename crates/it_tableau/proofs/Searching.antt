@@ -1,11 +1,11 @@
 -- The search for a column among terms.
 use Rattle.std.proofs.Common.{◌≡◌, ◌≢◌, ◌⊎◌, inl, inr, ℕ, zero, suc, ◌<◌, ◌≤◌, pos, refl, ap, ◌∙◌, arith, [], ◌∷◌, cond, length, get_or, Less, Greater}
 use Rattle.std.proofs.lemmas.Bool.{cases_lt, eq-eqb, ne_eqb}
-use Rattle.std.proofs.lemmas.Bool.Decides.{nat_tests}
 use Rattle.std.specs.List.Sorted.{IsNonDecreasingBy, IsPartitionPoint}
 use Rattle.std.specs.Ordering.{ordering_index, nat_cmp}
 use Rattle.it_rational.specs.Rational.{Rational, whole}
 use Rattle.it_tableau.specs.SparseRows.{RowTerms, number_at, Climbs}
+use Rattle.it_space.proofs.CanonicalRows.{rank_rises, ordered_apart}
 
 -- what comes later has a greater column, or is the same term
 climbs_far : (from to : ℕ) (ts : RowTerms) (i j : ℕ) (d : ℕ × Rational) → Climbs from to ts → i ≤ j → j < length ts → (from ≤ (get_or ts i d).0) × ((get_or ts i d).0 ≤ (get_or ts j d).0)
@@ -28,21 +28,14 @@ absent : (ts : RowTerms) (c : ℕ) → ((i : ℕ) (d : ℕ × Rational) → i < 
 absent [] c h = refl
 absent (t ∷ ts) c h = ap (λ b. cond b t.1 (number_at ts c)) (ne_eqb t.0 c (h 0 t (omega arith))) ∙ absent ts c (λ i d l. h (suc i) d (omega arith))
 
-rank_rises : (x y c : ℕ) → x ≤ y → ordering_index (nat_cmp x c) ≤ ordering_index (nat_cmp y c)
-rank_rises x y c h = grind (arith, nat_tests)
-
 -- the order of the terms by their columns, as a binary search asks for it
 pub ranks_rise : (to : ℕ) (ts : RowTerms) (c : ℕ) → Climbs 0 to ts → IsNonDecreasingBy (λ (t : ℕ × Rational). ordering_index (nat_cmp t.0 c)) ts
 ranks_rise to ts c a = λ i j d h l. rank_rises (get_or ts i d).0 (get_or ts j d).0 c (climbs_far 0 to ts i j d a h l).1
-
-apart : (x c : ℕ) → (nat_cmp x c ≡ Less) ⊎ (nat_cmp x c ≡ Greater) → x ≢ c
-apart x c (inl e) = grind (arith, nat_tests)
-apart x c (inr e) = grind (arith, nat_tests)
 
 -- where each term lies before or behind a column, its number is 0
 pub passed_over : (ts : RowTerms) (c i : ℕ) → IsPartitionPoint (λ (t : ℕ × Rational). nat_cmp t.0 c ≡ Less) (λ (t : ℕ × Rational). nat_cmp t.0 c ≡ Greater) ts i → number_at ts c ≡ whole (pos 0)
 passed_over ts c i p = absent ts c (λ k d l. by_cases k d l (cases_lt k i))
   where
     by_cases : (k : ℕ) (d : ℕ × Rational) → k < length ts → (k < i) ⊎ (i ≤ k) → (get_or ts k d).0 ≢ c
-    by_cases k d l (inl h) = apart (get_or ts k d).0 c (inl (p.0 k d (omega arith) h))
-    by_cases k d l (inr h) = apart (get_or ts k d).0 c (inr (p.1 k d h l))
+    by_cases k d l (inl h) = ordered_apart (get_or ts k d).0 c (inl (p.0 k d (omega arith) h))
+    by_cases k d l (inr h) = ordered_apart (get_or ts k d).0 c (inr (p.1 k d h l))

@@ -8,8 +8,9 @@ use Rattle.it_rational.proofs.RationalLaws.{ring_ℚ}
 use Rattle.it_rational.proofs.Field.{order_ℚ}
 use Rattle.it_space.specs.Rows.{Terms}
 use Rattle.it_tableau.specs.Problems.{feasibility_problem}
-use Rattle.it_tableau.specs.Rows.{row_at, IsWholeNumber, ListsValues}
-use Rattle.it_tableau.specs.TableauViews.{AreStartRows}
+use Rattle.it_tableau.specs.Entries.{row_at}
+use Rattle.it_tableau.specs.Rows.{IsWholeNumber, ListsValues}
+use Rattle.it_tableau.specs.StartRows.{AreStartRows}
 use Rattle.it_tableau.specs.Tables.{start_row}
 
 -- one row more

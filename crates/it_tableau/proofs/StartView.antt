@@ -13,8 +13,10 @@ use Rattle.it_fraction.specs.Fits.{SumFits}
 use Rattle.it_tableau.specs.Sums.{sum_to}
 use Rattle.it_tableau.specs.Fits.{StartFits}
 use Rattle.it_tableau.specs.Problems.{feasibility_problem, start_of}
-use Rattle.it_tableau.specs.Rows.{entry_at, row_at, column_sum, ColumnsFit, ListsValues}
-use Rattle.it_tableau.specs.TableauViews.{AreStartRows, table_of}
+use Rattle.it_tableau.specs.Entries.{entry_at, row_at}
+use Rattle.it_tableau.specs.Rows.{column_sum, ColumnsFit, ListsValues}
+use Rattle.it_tableau.specs.StartRows.{AreStartRows}
+use Rattle.it_tableau.specs.TableauViews.{table_of}
 use Rattle.it_tableau.specs.Tables.{FeasibilityProblem, Table, sign, start_row}
 use Rattle.it_tableau.proofs.Sums.{sum_same, sum_null}
 use Rattle.it_tableau.proofs.ViewLemmas.{past, past_row, same_functions}

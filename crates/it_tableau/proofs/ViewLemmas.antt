@@ -8,7 +8,8 @@ use Rattle.it_rational.specs.Rational as Q
 use Rattle.it_rational.proofs.RationalLaws.{ring_ℚ}
 use Rattle.it_rational.proofs.Field.{order_ℚ}
 use Rattle.it_tableau.specs.Tables.{Table, pivot}
-use Rattle.it_tableau.specs.Rows.{entry_at, row_at, zero_rational, RowsPivotFits, ArePivoted}
+use Rattle.it_tableau.specs.Entries.{entry_at, row_at, zero_rational}
+use Rattle.it_tableau.specs.Rows.{RowsPivotFits, ArePivoted}
 use Rattle.it_tableau.specs.Fits.{PivotFits}
 use Rattle.it_tableau.specs.TableauViews.{table_of, HasShape, IsSound}
 

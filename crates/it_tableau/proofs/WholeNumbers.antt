@@ -1,13 +1,13 @@
 -- Sums of whole numbers: an addition fits exactly where its result does.
-use Rattle.std.proofs.Common.{◌≡◌, ℕ, zero, suc, ◌<◌, ◌≤◌, ℤ, pos, ◌+ℤ◌, neg_ℤ, unsigned_abs, sym, ap, subst, ◌∙◌, arith, lit<}
+use Rattle.std.proofs.Common.{◌≡◌, Bool, true, false, cond, ℕ, zero, suc, ◌<◌, ◌≤◌, ℤ, pos, ◌+ℤ◌, ◌*ℤ◌, neg_ℤ, unsigned_abs, sym, ap, subst, ◌∙◌, arith, lit<}
 use Rattle.std.proofs.lemmas.Int.{ints}
 use Rattle.it_number.specs.Limit.{IsWithin}
 use Rattle.it_number.proofs.Quotients.{one_pos}
-use Rattle.it_rational.specs.Rational.{Rational, whole, minus}
+use Rattle.it_rational.specs.Rational.{Rational, whole, minus, times}
 use Rattle.it_rational.proofs.Names.{own_parts}
 use Rattle.it_rational.proofs.RationalLaws.{ring_ℚ}
 use Rattle.it_fraction.specs.Fits.{IsNarrow, SumFits}
-use Rattle.it_fraction.proofs.ZeroLemmas.{zero_narrow, zero_parts, minus-narrow, whole-narrow, whole-sum, whole-sum-fits}
+use Rattle.it_fraction.proofs.ZeroLemmas.{zero_narrow, zero_parts, minus-narrow, whole-narrow, whole-product, whole-sum, whole-sum-fits}
 use Rattle.it_tableau.specs.Rows.{IsWholeNumber}
 use Rattle.it_tableau.specs.Sums.{sum_to}
 use native.Mathlib.Nat.{one-dvd}
@@ -52,3 +52,14 @@ module _ (m : ℕ) (f : ℕ → Rational) (wholes : (k : ℕ) → k < m → IsWh
       let d = sum_den k (omega arith) in
       (whole-sum-fits (f k) (sum_to ring_ℚ k f) w.whole_is d w.narrow (narrow k (omega arith))).0
       ((whole-narrow ((f k).num +ℤ (sum_to ring_ℚ k f).num)).1 (subst IsNarrow (sym (whole-sum (f k) (sum_to ring_ℚ k f) w.whole_is d)) (narrow (suc k) (omega arith))))
+
+-- a whole number with a sign is whole
+pub signed_den : (kept : Bool) (z : ℤ) → (times (cond kept (whole (pos 1)) (minus (whole (pos 1)))) (whole z)).den ≡ 1
+signed_den kept z = product_den (cond kept (whole (pos 1)) (minus (whole (pos 1)))) (whole z) (sign_den kept) (whole_parts z).1
+  where
+    product_den : (x y : Rational) → x.den ≡ 1 → y.den ≡ 1 → (times x y).den ≡ 1
+    product_den x y d e = ap (λ (q : Rational). q.den) (sym (whole-product x y d e)) ∙ (whole_parts (x.num *ℤ y.num)).1
+
+    sign_den : (b : Bool) → (cond b (whole (pos 1)) (minus (whole (pos 1)))).den ≡ 1
+    sign_den true = one_number.whole_is
+    sign_den false = (minus_number (whole (pos 1)) one_number).whole_is

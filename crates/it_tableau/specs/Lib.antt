@@ -1,10 +1,14 @@
+pub mod Summing
+pub mod Gathering
 pub mod Sums
 pub mod Tables
 pub mod Invariants
 pub mod Problems
 pub mod Fits
-pub mod Rows
+pub mod Entries
 pub mod SparseRows
+pub mod Rows
 pub mod Merging
 pub mod TableauViews
+pub mod StartRows
 pub mod Laws

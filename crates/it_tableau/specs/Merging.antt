@@ -1,4 +1,4 @@
--- What the merge and the division make of terms. No public clause cites this.
+-- No public clause cites this module: what the merge and the division make of terms.
 use Rattle.std.specs.Prelude.{◌≡◌, ◌≢◌, ◌⊎◌, ◌++◌, length, slice_index_or, ℕ, ◌<◌, pos, [], ◌∷◌}
 use Rattle.it_rational.specs.Rational.{Rational, whole, plus, minus, times, inverse}
 use Rattle.it_fraction.specs.Fits.{IsNarrow}

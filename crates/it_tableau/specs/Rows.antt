@@ -1,20 +1,21 @@
--- Rows of rational numbers as lists, and what a pivot does to them.
-use Rattle.std.specs.Prelude.{◌≡◌, ◌≢◌, ℕ, ◌<◌, List, [], length, slice_index_or, pos}
-use Rattle.it_rational.specs.Rational.{Rational, whole, plus, minus, times, inverse}
+-- No public clause cites this module: rows of rational numbers as lists, and what a pivot does to them.
+use Rattle.std.specs.Prelude.{◌≡◌, ◌≢◌, ℕ, zero, suc, ◌<◌, List, [], ◌∷◌, ◌++◌, length}
+use Rattle.it_rational.specs.Rational.{Rational, plus, minus, times, inverse}
 use Rattle.it_rational.proofs.RationalLaws.{ring_ℚ}
 use Rattle.it_fraction.specs.Fits.{IsNarrow, SumFits}
 use Rattle.it_tableau.specs.Sums.{sum_to}
+use Rattle.it_tableau.specs.Entries.{entry_at, row_at}
+use Rattle.it_tableau.specs.SparseRows.{RowTerms, number_at}
 use Rattle.it_tableau.specs.Fits.{QuotientFits, EntryFits}
 
-unfoldable pub zero_rational : Rational
-zero_rational = whole (pos 0)
+-- so many numbers from column j on
+abbrev pub dense : RowTerms → ℕ → ℕ → List Rational
+dense terms j zero = []
+dense terms j (suc left) = number_at terms j ∷ dense terms (suc j) left
 
--- the number at a place, 0 past the end
-abbrev pub entry_at : List Rational → ℕ → Rational
-entry_at row k = slice_index_or row k zero_rational
-
-abbrev pub row_at : List (List Rational) → ℕ → List Rational
-row_at rows i = slice_index_or rows i []
+-- all numbers of a row of so many columns, and the right side behind them
+unfoldable pub dense_row : ℕ → RowTerms → Rational → List Rational
+dense_row width terms right = dense terms 0 width ++ right ∷ []
 
 -- a whole number within the limit
 pub record IsWholeNumber (q : Rational) : Type 0 where

@@ -1,5 +1,5 @@
 -- Rows without their zeros: each number other than 0 after its column, by ascending column.
-use Rattle.std.specs.Prelude.{◌≡◌, ◌≢◌, ◌<◌, ◌≤◌, ◌++◌, ℕ, zero, suc, cond, eqb, pos, List, [], ◌∷◌}
+use Rattle.std.specs.Prelude.{◌≡◌, ◌≢◌, ◌<◌, ◌≤◌, ℕ, suc, cond, eqb, pos, List, [], ◌∷◌}
 use Rattle.it_rational.specs.Rational.{Rational, whole}
 use Rattle.it_fraction.specs.Fits.{IsNarrow}
 
@@ -21,12 +21,3 @@ Climbs from to (t ∷ ts) = (from ≤ t.0) × (t.1 ≢ whole (pos 0)) × IsNarro
 pub record ListsEntries (f : ℕ → Rational) (n : ℕ) (terms : RowTerms) : Type 0 where
   pub ascend : Climbs 0 n terms
   pub entries : (j : ℕ) → j < n → number_at terms j ≡ f j
-
--- so many numbers from column j on
-abbrev pub dense : RowTerms → ℕ → ℕ → List Rational
-dense terms j zero = []
-dense terms j (suc left) = number_at terms j ∷ dense terms (suc j) left
-
--- all numbers of a row of so many columns, and the right side behind them
-unfoldable pub dense_row : ℕ → RowTerms → Rational → List Rational
-dense_row width terms right = dense terms 0 width ++ right ∷ []

@@ -1,12 +1,10 @@
 -- What contracts see of a tableau.
-use Rattle.std.specs.Prelude.{◌≡◌, ℕ, ◌+◌, ◌<◌, ℤ, pos, negsuc, Bool, false, not, cond, List, [], ◌∷◌, ◌++◌, length, slice_index_or}
+use Rattle.std.specs.Prelude.{◌≡◌, ℕ, ◌+◌, ◌<◌, ℤ, pos, negsuc, Bool, false, not, cond, List, length, slice_index_or}
 use Rattle.it_rational.specs.Rational.{Rational, minus, whole, is_at_least_zero}
 use Rattle.it_space.specs.Rows.{Terms, coefficient}
-use Rattle.it_rational.proofs.RationalLaws.{ring_ℚ}
-use Rattle.it_rational.proofs.Field.{order_ℚ}
-use Rattle.it_tableau.specs.Tables.{Table, start_row}
-use Rattle.it_tableau.specs.Rows.{entry_at, column_sum, row_at, IsWholeNumber, ListsValues}
-use Rattle.it_tableau.specs.Problems.{feasibility_problem, start_of}
+use Rattle.it_tableau.specs.Tables.{Table}
+use Rattle.it_tableau.specs.Entries.{entry_at, row_at}
+use Rattle.it_tableau.specs.Problems.{start_of}
 
 pub record TableauView : Type 0 where
   -- how many columns there are but the artificial ones
@@ -51,22 +49,6 @@ pub record IsSound (n width : ℕ) (rows : List (List Rational)) (basis : List �
   pub width_is : width ≡ n + length basis
   pub shape : HasShape (length basis) n rows basis
   pub signs_are : length negated ≡ length basis
-
--- the first k rows of the start
-pub record AreStartRows (coordinates : List ℕ) (columns : List Terms) (target : Terms) (k : ℕ) (rows : List (List Rational)) : Type 0 where
-  pub rows_are : length rows ≡ k
-  pub entries_are : (i : ℕ) → i < k
-      → ListsValues (start_row ring_ℚ order_ℚ (length coordinates) (length columns) (feasibility_problem coordinates columns target) i) (length columns + length coordinates + 1) (row_at rows i)
-  pub wholes : (i j : ℕ) → i < k → j < length columns + length coordinates + 1
-      → IsWholeNumber (start_row ring_ℚ order_ℚ (length coordinates) (length columns) (feasibility_problem coordinates columns target) i j)
-
--- the rows of the start, and below them their cost row
-pub record AreAllRows (coordinates : List ℕ) (columns : List Terms) (target : Terms) (all : List (List Rational)) : Type 0 where
-  pub rows : List (List Rational)
-  pub cost : List Rational
-  pub all_are : all ≡ rows ++ cost ∷ []
-  pub rows_are : AreStartRows coordinates columns target (length coordinates) rows
-  pub cost_is : ListsValues (λ j. minus (column_sum rows j (length rows))) (length columns + length coordinates + 1) cost
 
 -- the start of the run on the rows' coefficients at the coordinates
 pub record IsStart (coordinates : List ℕ) (columns : List Terms) (target : Terms) (t : TableauView) : Type 0 where

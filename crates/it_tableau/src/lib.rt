@@ -1,6 +1,8 @@
 //! The exact table of the simplex method: its start on sparse rows with an artificial column for each row, and the pivot.
 #![tactic(auto)]
 
+mod costs;
+mod gathering;
 mod laws;
 mod merging;
 mod rows;

@@ -19,6 +19,7 @@ pub enum Side {
     Both,
 }
 
+/// The column of term i.
 pub fn column(terms: &[(usize, Fraction)], i: usize) -> usize
     requires { i < length terms.now }
     ensures { result ≡ column_at terms.now i }
@@ -27,7 +28,7 @@ pub fn column(terms: &[(usize, Fraction)], i: usize) -> usize
 }
 
 /// The number itself: the clauses of its parts say that they are within the limit.
-pub fn narrow(value: Fraction) -> Fraction
+pub fn narrow_number(value: Fraction) -> Fraction
     ensures value { result ≡ value }
     ensures narrow { IsNarrow result }
 {
@@ -36,14 +37,16 @@ pub fn narrow(value: Fraction) -> Fraction
     value
 }
 
+/// The number of term i.
 pub fn term(terms: &[(usize, Fraction)], i: usize) -> Fraction
     requires { i < length terms.now }
     ensures value { result ≡ term_at terms.now i }
     ensures narrow { IsNarrow result }
 {
-    narrow(terms[i].1)
+    narrow_number(terms[i].1)
 }
 
+/// Which row has the next column: the old one from term i on, the other from term j on, or both.
 fn next_side(old: &[(usize, Fraction)], by: &[(usize, Fraction)], i: usize, j: usize) -> Side
     requires { (i < length old.now) ⊎ (j < length by.now) }
     ensures { IsSide old.now by.now i j result }
@@ -66,7 +69,7 @@ fn next_side(old: &[(usize, Fraction)], by: &[(usize, Fraction)], i: usize, j: u
 }
 
 /// What a product leaves of 0.
-fn less(by: Fraction, q: Fraction) -> Result<Fraction, Wide>
+fn negated_product(by: Fraction, q: Fraction) -> Result<Fraction, Wide>
     ensures { OkIff result (IsNarrow (times by q)) (minus (times by q)) }
 {
     Ok(by.mul(q)?.neg())
@@ -81,6 +84,7 @@ pub fn reduced_entry(entry: Fraction, by: Fraction, q: Fraction) -> Result<Fract
     entry.sub(by.mul(q)?)
 }
 
+/// Whether a number is 0.
 #[tactic(auto, using(crate::proofs::Zeros::null_from_top, crate::proofs::Zeros::top_from_null))]
 pub fn is_null(value: Fraction) -> bool
     ensures yes { OnTrue result (value ≡ whole (pos 0)) }
@@ -98,7 +102,7 @@ pub fn append(
     ensures { OnOk result (IsAppended terms.old.items column value terms.new.items) }
 {
     if !is_null(value) {
-        terms.push((column, narrow(value)))?;
+        terms.push((column, narrow_number(value)))?;
     }
     Ok(())
 }
@@ -128,7 +132,7 @@ pub fn merge(
                 i += 1;
             }
             Side::By => {
-                append(buffer, column(by, j), less(term(by, j), q)?)?;
+                append(buffer, column(by, j), negated_product(term(by, j), q)?)?;
                 j += 1;
             }
             Side::Both => {

@@ -1,12 +1,14 @@
 //! The pivot on rows.
 ghost use Rattle.std.specs.Prelude.{◌≡◌, ◌≢◌, ◌<◌, length, pos, IfErr, OnOk};
-ghost use Rattle.it_tableau.specs.Rows.{entry_at, row_at, AreEven, ArePivoted, RowsPivotFits};
+ghost use Rattle.it_tableau.specs.Entries.{entry_at, row_at};
+ghost use Rattle.it_tableau.specs.Rows.{AreEven, ArePivoted, RowsPivotFits};
 
 use crate::sparse_rows::SparseRow;
 use it_fraction::Fraction;
 use it_space::RowFault;
 use std::alloc::Global;
 
+/// The entry of row i at column j.
 pub fn read(rows: &[SparseRow], i: usize, j: usize) -> Fraction
     requires row { i < length rows.now }
     requires column { j < length (row_at rows.now i) }
@@ -26,7 +28,7 @@ pub fn pivot_rows(alloc: Global, rows: &mut [SparseRow], r: usize, c: usize) -> 
     ensures wide { IfErr result (λ fault. fault ≡ RowFault.Wide → ¬ (RowsPivotFits rows.old r c)) }
 {
     let pivot = read(rows, r, c);
-    let mut own = std::mem::replace(&mut rows[r], SparseRow::empty(alloc));
+    let mut own = std::mem::replace(&mut rows[r], SparseRow::placeholder(alloc));
     let mut buffer = Vec::new(alloc);
     for i in 0..rows.len() {
         if i != r {

@@ -1,11 +1,12 @@
 //! Rows of the table without their zeros.
-ghost use Rattle.std.specs.Prelude.{◌≡◌, ◌≢◌, ◌+◌, ◌-◌, ◌<◌, length, pos, slice_index_or, IfErr, IfOk, OnErr, OnOk};
-ghost use Rattle.it_rational.specs.Rational.{inverse, times};
+ghost use Rattle.std.specs.Prelude.{◌≡◌, ◌≢◌, ◌+◌, ◌-◌, ◌<◌, [], length, pos, slice_index_or, IfErr, IfOk, OnErr, OnOk};
+ghost use Rattle.it_rational.specs.Rational.{inverse, times, whole};
 ghost use Rattle.it_tableau.specs.Merging.{AreDivided, TermsDivide};
-ghost use Rattle.it_tableau.specs.Rows.{entry_at, zero_rational, DividedFits, IsDivided, IsReduced, RowStepFits};
-ghost use Rattle.it_tableau.specs.SparseRows.{dense_row, number_at, Climbs, ListsEntries};
+ghost use Rattle.it_tableau.specs.Entries.{entry_at, zero_rational};
+ghost use Rattle.it_tableau.specs.Rows.{DividedFits, IsDivided, IsReduced, RowStepFits, dense_row};
+ghost use Rattle.it_tableau.specs.SparseRows.{number_at, Climbs, ListsEntries};
 
-use crate::merging::{append, column, is_null, merge, narrow, reduced_entry, term};
+use crate::merging::{append, column, is_null, merge, narrow_number, reduced_entry, term};
 use it_fraction::Fraction;
 use it_space::RowFault;
 use std::alloc::Global;
@@ -23,7 +24,8 @@ pub struct SparseRow {
 impl Model for SparseRow {
     ghost use Rattle.std.specs.Prelude.{List};
     ghost use Rattle.it_rational.specs.Rational.{Rational};
-    ghost use Rattle.it_tableau.specs.SparseRows.{dense_row, Climbs};
+    ghost use Rattle.it_tableau.specs.Rows.{dense_row};
+    ghost use Rattle.it_tableau.specs.SparseRows.{Climbs};
 
     ghost Value = { List Rational };
 
@@ -45,8 +47,10 @@ impl SparseRow {
         }
     }
 
-    /// A row without columns, whose right side is 0.
-    pub fn empty(alloc: Global) -> SparseRow {
+    /// A row without columns, whose right side is 0: it stands in where another row is taken out.
+    pub fn placeholder(alloc: Global) -> SparseRow
+        ensures { result ≡ dense_row 0 [] (whole (pos 0)) }
+    {
         SparseRow::new(0, Vec::new(alloc), Fraction::whole(0))
     }
 
@@ -86,7 +90,7 @@ impl SparseRow {
     {
         let entry = self.entry(column);
         if is_null(entry) {
-            let _right = narrow(self.right);
+            let _right = narrow_number(self.right);
             return Ok(());
         }
         let q = entry.div(pivot)?;

@@ -7,17 +7,20 @@ ghost use Rattle.it_rational.proofs.RationalLaws.{ring_ℚ};
 ghost use Rattle.it_space.specs.Rows.{coefficient};
 ghost use Rattle.it_tableau.specs.Fits.{StartFits};
 ghost use Rattle.it_tableau.specs.Problems.{feasibility_problem};
-ghost use Rattle.it_tableau.specs.Rows.{entry_at, column_sum, row_at, AreEven, ColumnFits, ColumnsFit, IsWholeNumber, ListsValues};
-ghost use Rattle.it_tableau.specs.TableauViews.{AreAllRows, AreStartRows};
+ghost use Rattle.it_tableau.specs.Entries.{entry_at, row_at};
+ghost use Rattle.it_tableau.specs.Rows.{column_sum, AreEven, ColumnFits, ColumnsFit, IsWholeNumber, ListsValues};
+ghost use Rattle.it_tableau.specs.StartRows.{AreAllRows, AreStartRows};
 ghost use Rattle.it_tableau.specs.Tables.{start_row as entry_of_start};
 
+use crate::costs::cost_row;
+use crate::gathering::{ascends, gathered_rows};
 use crate::merging::append;
-use crate::rows::read;
 use crate::sparse_rows::SparseRow;
 use it_fraction::{Fraction, Wide};
 use it_space::{Row, RowFault};
 use std::alloc::{AllocError, Global};
 
+/// The coefficient of a row at a coordinate, as a fraction.
 fn number(row: &Row, coordinate: u32) -> Fraction
     ensures value { result ≡ whole (coefficient row.now coordinate) }
     ensures whole_number { IsWholeNumber result }
@@ -25,7 +28,7 @@ fn number(row: &Row, coordinate: u32) -> Fraction
     Fraction::whole(row.coefficient(coordinate))
 }
 
-// whether the target's coefficient is at least 0, so that the row keeps its sign
+/// Whether the start's row of a coordinate keeps its sign: the target's coefficient isn't below 0.
 pub fn keeps_sign(target: &Row, coordinate: u32) -> bool
     ensures { result ≡ is_at_least_zero (whole (coefficient target.now coordinate)) }
 {
@@ -36,7 +39,7 @@ pub fn keeps_sign(target: &Row, coordinate: u32) -> bool
     }
 }
 
-// the coefficient with the sign of its row
+/// The coefficient of a row at a coordinate, negated unless the sign is kept.
 fn signed_coefficient(row: &Row, coordinate: u32, kept: bool) -> Fraction
     ensures value { result ≡ times (cond kept (whole (pos 1)) (minus (whole (pos 1)))) (whole (coefficient row.now coordinate)) }
     ensures whole_number { IsWholeNumber result }
@@ -45,9 +48,15 @@ fn signed_coefficient(row: &Row, coordinate: u32, kept: bool) -> Fraction
     if kept { value } else { value.neg() }
 }
 
-// the entry in row k and column j
+/// The start's entry of row k at column j: the columns, the artificial ones, then the right side.
 #[tactic(auto, using(crate::proofs::WholeNumbers::zero_number, crate::proofs::WholeNumbers::one_number))]
-fn start_entry(coordinates: &[u32], columns: &[Row], target: &Row, k: usize, j: usize) -> Fraction
+pub fn start_entry(
+    coordinates: &[u32],
+    columns: &[Row],
+    target: &Row,
+    k: usize,
+    j: usize,
+) -> Fraction
     requires row { k < length coordinates.now }
     ensures value { result ≡ entry_of_start ring_ℚ order_ℚ (length coordinates.now) (length columns.now) (feasibility_problem coordinates.now columns.now target.now) k j }
     ensures whole_number { IsWholeNumber result }
@@ -64,6 +73,7 @@ fn start_entry(coordinates: &[u32], columns: &[Row], target: &Row, k: usize, j: 
     }
 }
 
+/// Row k of the start.
 fn start_row(
     alloc: Global,
     coordinates: &[u32],
@@ -88,7 +98,8 @@ fn start_row(
     Ok(SparseRow::new(width, terms, right))
 }
 
-pub fn start_rows(
+/// The rows of the start entry by entry, whatever the coordinates are.
+fn rows_by_entries(
     alloc: Global,
     coordinates: &[u32],
     columns: &[Row],
@@ -103,35 +114,23 @@ pub fn start_rows(
     Ok(rows)
 }
 
-// the sum of column j with its sign turned, in the order of the rows
-fn negated_sum(rows: &[SparseRow], j: usize) -> Result<Fraction, Wide>
-    requires { (i : ℕ) → i < length rows.now → j < length (row_at rows.now i) }
-    ensures ok { OnOk result (ColumnFits rows.now j) }
-    ensures value { IfOk result (λ v. v ≡ minus (column_sum rows.now j (length rows.now))) }
-    ensures err { OnErr result (¬ (ColumnFits rows.now j)) }
+/// The rows of the start. Coordinates that ascend are found among the columns' terms; else each entry is looked up.
+fn start_rows(
+    alloc: Global,
+    coordinates: &[u32],
+    columns: &[Row],
+    target: &Row,
+) -> Result<Vec<SparseRow>, AllocError>
+    ensures { IfOk result (λ rows. AreStartRows coordinates.now columns.now target.now (length coordinates.now) rows.items) }
 {
-    let mut sum = Fraction::whole(0);
-    for i in 0..rows.len() {
-        sum = read(rows, i, j).add(sum)?;
+    if ascends(coordinates) {
+        gathered_rows(alloc, coordinates, columns, target)
+    } else {
+        rows_by_entries(alloc, coordinates, columns, target)
     }
-    Ok(sum.neg())
 }
 
-pub fn cost_row(alloc: Global, rows: &[SparseRow], width: usize) -> Result<SparseRow, RowFault>
-    requires { AreEven rows.now (width + 1) }
-    ensures ok { OnOk result (ColumnsFit rows.now (width + 1)) }
-    ensures value { IfOk result (λ row. ListsValues (λ j. minus (column_sum rows.now j (length rows.now))) (width + 1) row) }
-    ensures wide { IfErr result (λ fault. fault ≡ RowFault.Wide → ¬ (ColumnsFit rows.now (width + 1))) }
-{
-    let mut terms = Vec::new(alloc);
-    for j in 0..width {
-        append(&mut terms, j, negated_sum(rows, j)?)?;
-    }
-    let right = negated_sum(rows, width)?;
-    Ok(SparseRow::new(width, terms, right))
-}
-
-// the artificial columns, each the basic column of its row
+/// So many artificial columns, by their numbers from the first on: the basis of the start.
 pub fn artificials(alloc: Global, first: usize, count: usize) -> Result<Vec<usize>, AllocError>
     requires { first + count < 2 ^ 64 }
     ensures count { IfOk result (λ basis. length basis.items ≡ count) }
@@ -144,7 +143,7 @@ pub fn artificials(alloc: Global, first: usize, count: usize) -> Result<Vec<usiz
     Ok(basis)
 }
 
-// whether each row is negated
+/// Whether each row of the start is negated.
 pub fn negations(alloc: Global, coordinates: &[u32], target: &Row) -> Result<Vec<bool>, AllocError>
     ensures count { IfOk result (λ negated. length negated.items ≡ length coordinates.now) }
     ensures value { IfOk result (λ negated. (k : ℕ) → k < length coordinates.now → slice_index_or negated.items k false ≡ not (is_at_least_zero (whole (coefficient target.now (slice_index_or coordinates.now k 0))))) }
@@ -156,7 +155,7 @@ pub fn negations(alloc: Global, coordinates: &[u32], target: &Row) -> Result<Vec
     Ok(negated)
 }
 
-// the rows of the start and the cost row
+/// The rows of the start with the cost row behind them.
 pub fn start_table(
     alloc: Global,
     coordinates: &[u32],
@@ -173,6 +172,7 @@ pub fn start_table(
     Ok(rows)
 }
 
+/// Puts a row behind the others.
 fn append_row(rows: &mut Vec<SparseRow>, row: SparseRow) -> Result<(), AllocError>
     ensures { OnOk result (rows.new.items ≡ rows.old.items ++ row ∷ []) }
 {

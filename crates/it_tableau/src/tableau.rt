@@ -110,6 +110,7 @@ impl Tableau {
         if self.negated[row] { -1 } else { 1 }
     }
 
+    /// The entry of a row at a column.
     pub fn entry(&self, row: usize, column: usize) -> Fraction
         requires usable { self.now.spent ≡ false }
         requires row { row < height self.now }

@@ -1,14 +1,15 @@
-use Rattle.std.proofs.Common.{◌+◌, List, Option, sym, subst}
-use Rattle.std.specs.Option.{IfSome}
-use Rattle.it_space.specs.Rows.{Terms}
-use Rattle.it_tableau.specs.TableauViews.{height, table}
-use Rattle.it_engine.specs.Loading.{AreRead, IsRead}
-use Rattle.it_engine.proofs.LoadLemmas.{columns_more}
+use Rattle.std.proofs.Common.{◌≡◌, Bool, subst, arith}
+use Rattle.std.specs.Bool.{OnTrue}
+use Rattle.it_tableau.specs.TableauViews.{height}
+use Rattle.it_engine.specs.Loading.{IsRowRead}
+use Rattle.it_engine.proofs.ColumnSteps.{all_read, row_read}
 use Rattle.it_engine.proofs.loading.columns.Goals as goal
 
-pub loop-j-preserved : goal.loop-j-preserved
-loop-j-preserved c =
-    let t = c.args.tableau.now in
-    let one : IsRead (height t) (λ k. (table t).entry k c.loop-j.j) c.in-Some.column =
-    subst (λ (o : Option Terms). IfSome o (λ terms. IsRead (height t) (λ k. (table t).entry k c.loop-j.j) terms)) c.in-Some.is c.in_ok-column.ensures in
-    subst (λ (cs : List Terms). AreRead t (c.loop-j.j + 1) cs) (sym c.in_ok-push.ensures.items) (columns_more t c.loop-j.j c.loop-j.columns.items c.in-Some.column c.loop-j.invariant one)
+pub loop-k-preserved : goal.loop-k-preserved
+loop-k-preserved c = row_read c.args.tableau.now c.loop-k.k c.terms.result.now c.terms.ensures c.loop-k.columns.items c.read_terms.new.columns.items
+    (subst (λ (b : Bool). OnTrue b (IsRowRead c.loop-k.k c.terms.result.now c.loop-k.columns.items c.read_terms.new.columns.items)) c.if-not-whole.false c.in_ok-whole.ensures) c.loop-k.invariant
+
+pub returns : goal.returns
+returns c =
+    let all : c.loop-k.k ≡ height c.args.tableau.now = omega (arith, c.loop-k-test.false, c.loop-k.auto.k-end, c.rows-k-end.ensures) in
+    all_read c.args.tableau.now c.loop-k.k c.loop-k.columns.items all c.loop-k.invariant

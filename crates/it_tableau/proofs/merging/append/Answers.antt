@@ -6,8 +6,8 @@ use Rattle.it_tableau.proofs.merging.append.Goals as goal
 pub returns-in_ok-push : goal.returns-in_ok-push
 returns-in_ok-push c = inr (
   c.if-not-is_null.ensures.no,
-  subst IsNarrow c.narrow.ensures.value c.narrow.ensures.narrow,
-  c.in_ok-push.ensures.items ∙ ap (λ (v : Rational). c.args.terms.now.items ++ (c.args.column, v) ∷ []) c.narrow.ensures.value,
+  subst IsNarrow c.narrow_number.ensures.value c.narrow_number.ensures.narrow,
+  c.in_ok-push.ensures.items ∙ ap (λ (v : Rational). c.args.terms.now.items ++ (c.args.column, v) ∷ []) c.narrow_number.ensures.value,
 )
 
 pub returns-else-not-is_null : goal.returns-else-not-is_null

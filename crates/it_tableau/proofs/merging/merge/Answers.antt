@@ -24,21 +24,21 @@ loop-i-preserved-in-Old c =
       c.loop-i.invariant.2,
     )
 
-pub returns-in_err-less-in-By-clause-wide : goal.returns-in_err-less-in-By-clause-wide
-returns-in_err-less-in-By-clause-wide c =
+pub returns-in_err-negated_product-in-By-clause-wide : goal.returns-in_err-negated_product-in-By-clause-wide
+returns-in_err-negated_product-in-By-clause-wide c =
     let o = c.args.old.now in let b = c.args.by.now in let i = c.loop-i.i in let j = c.loop-i.j in
     let s : IsSide o b i j By = subst (IsSide o b i j) c.in-By.is c.next_side.ensures in
-    any_err c.from_residual-in_err-less-in-By.result Wide (¬ (MergeFits o b c.args.q))
-    (refused_by c.args.width o b c.args.q i j c.loop-i.buffer.items c.loop-i.invariant.0 s.0 (subst (λ (y : Rational). ¬ (IsNarrow (Q.times y c.args.q))) c.term-in-By.ensures.value c.in_err-less-in-By.ensures))
+    any_err c.from_residual-in_err-negated_product-in-By.result Wide (¬ (MergeFits o b c.args.q))
+    (refused_by c.args.width o b c.args.q i j c.loop-i.buffer.items c.loop-i.invariant.0 s.0 (subst (λ (y : Rational). ¬ (IsNarrow (Q.times y c.args.q))) c.term-in-By.ensures.value c.in_err-negated_product-in-By.ensures))
 
 pub loop-i-preserved-in-By : goal.loop-i-preserved-in-By
 loop-i-preserved-in-By c =
     let o = c.args.old.now in let b = c.args.by.now in let i = c.loop-i.i in let j = c.loop-i.j in
     let s : IsSide o b i j By = subst (IsSide o b i j) c.in-By.is c.next_side.ensures in
-    let v = c.in_ok-less-in-By.field-0 in (
+    let v = c.in_ok-negated_product-in-By.field-0 in (
       take_by c.args.width o b c.args.q i j c.loop-i.buffer.items c.loop-i.invariant.0 c.append-in-By.new.terms.items v s.0 s.1
-          (subst (λ (y : Rational). IsNarrow (Q.times y c.args.q)) c.term-in-By.ensures.value c.in_ok-less-in-By.ensures.0)
-          (c.in_ok-less-in-By.ensures.1 ∙ ap (λ (y : Rational). Q.minus (Q.times y c.args.q)) c.term-in-By.ensures.value)
+          (subst (λ (y : Rational). IsNarrow (Q.times y c.args.q)) c.term-in-By.ensures.value c.in_ok-negated_product-in-By.ensures.0)
+          (c.in_ok-negated_product-in-By.ensures.1 ∙ ap (λ (y : Rational). Q.minus (Q.times y c.args.q)) c.term-in-By.ensures.value)
           (subst (λ (n : ℕ). IsAppended c.loop-i.buffer.items n v c.append-in-By.new.terms.items) c.column-in-By.ensures c.in_ok-append-in-By.ensures),
       c.loop-i.invariant.1,
       (let l = s.0 in omega (arith, l)),

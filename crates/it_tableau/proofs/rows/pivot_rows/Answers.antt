@@ -2,7 +2,8 @@ use Rattle.std.proofs.Common.{◌<◌, ◌+◌, length, List, slice_index_or, re
 use Rattle.std.proofs.lemmas.List.{length-set}
 use Rattle.it_rational.specs.Rational.{Rational, times, inverse}
 use Rattle.it_space.specs.declared.faults.RowFault.TheVariants.{Wide}
-use Rattle.it_tableau.specs.Rows.{entry_at, row_at, DividedFits, IsReduced, RowStepFits, RowsPivotFits}
+use Rattle.it_tableau.specs.Entries.{entry_at, row_at}
+use Rattle.it_tableau.specs.Rows.{DividedFits, IsReduced, RowStepFits, RowsPivotFits}
 use Rattle.it_tableau.proofs.RowsLemmas.{handed_on}
 use Rattle.it_tableau.proofs.PivotLemmas.{UnderWay, lent, pivoted, refused, skipped, stepped}
 use Rattle.it_tableau.proofs.rows.pivot_rows.Goals as goal

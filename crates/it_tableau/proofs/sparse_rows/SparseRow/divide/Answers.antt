@@ -2,8 +2,8 @@ use Rattle.std.proofs.Common.{List, sym, ap, subst}
 use Rattle.it_rational.specs.Rational.{Rational}
 use Rattle.it_space.specs.declared.faults.RowFault.TheVariants.{Wide}
 use Rattle.it_tableau.specs.Merging.{AreDivided, TermsDivide}
-use Rattle.it_tableau.specs.Rows.{DividedFits, IsDivided}
-use Rattle.it_tableau.specs.SparseRows.{RowTerms, dense_row}
+use Rattle.it_tableau.specs.Rows.{DividedFits, IsDivided, dense_row}
+use Rattle.it_tableau.specs.SparseRows.{RowTerms}
 use Rattle.it_tableau.proofs.DenseRows.{right_divides, row_divided, row_divides, terms_divide}
 use Rattle.it_tableau.proofs.RowsLemmas.{handed_on}
 use Rattle.it_tableau.proofs.Zeros.{any_err}

@@ -1,6 +1,6 @@
 use Rattle.std.proofs.Common.{◌<◌, List, length, sym, ap, ◌∙◌, arith}
 use Rattle.it_rational.specs.Rational.{Rational}
-use Rattle.it_tableau.specs.Rows.{entry_at}
+use Rattle.it_tableau.specs.Entries.{entry_at}
 use Rattle.it_tableau.specs.SparseRows.{RowTerms, number_at}
 use Rattle.it_tableau.proofs.DenseRows.{row_end, row_entry, row_length}
 use Rattle.it_tableau.proofs.sparse_rows.SparseRow.entry.Goals as goal

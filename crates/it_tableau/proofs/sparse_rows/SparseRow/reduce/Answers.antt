@@ -4,20 +4,21 @@ use Rattle.it_rational.specs.Rational.{Rational, whole, times, inverse}
 use Rattle.it_space.specs.declared.faults.RowFault.TheVariants.{Wide}
 use Rattle.it_tableau.specs.Fits.{QuotientFits}
 use Rattle.it_tableau.specs.Merging.{AreMerged, MergeFits}
-use Rattle.it_tableau.specs.Rows.{entry_at, IsReduced, RowStepFits}
-use Rattle.it_tableau.specs.SparseRows.{RowTerms, dense_row, Climbs}
+use Rattle.it_tableau.specs.Entries.{entry_at}
+use Rattle.it_tableau.specs.Rows.{IsReduced, RowStepFits, dense_row}
+use Rattle.it_tableau.specs.SparseRows.{RowTerms, Climbs}
 use Rattle.it_tableau.proofs.DenseRows.{same_width, step_fits, step_reduced, step_right, step_terms, untouched, untouched_fits}
 use Rattle.it_tableau.proofs.RowsLemmas.{handed_on}
 use Rattle.it_tableau.proofs.Zeros.{any_err}
 use Rattle.it_tableau.proofs.sparse_rows.SparseRow.reduce.Goals as goal
-use Rattle.it_tableau.proofs.sparse_rows.SparseRow.reduce.Goals.{After-narrow-right, After-reduced_entry}
+use Rattle.it_tableau.proofs.sparse_rows.SparseRow.reduce.Goals.{After-narrow_number-right, After-reduced_entry}
 
 -- the row's own list, in which the entry is 0
-no_entry : (c : After-narrow-right) → entry_at (dense_row c.self.inside.width c.self.inside.terms.items c.self.inside.right) c.args.column ≡ whole (pos 0)
+no_entry : (c : After-narrow_number-right) → entry_at (dense_row c.self.inside.width c.self.inside.terms.items c.self.inside.right) c.args.column ≡ whole (pos 0)
 no_entry c = ap (λ (row : List Rational). entry_at row c.args.column) c.self.view_is ∙ sym c.entry-entry.ensures ∙ c.if-is_null.ensures.yes
 
-right_narrow : (c : After-narrow-right) → IsNarrow c.self.inside.right
-right_narrow c = subst IsNarrow c.narrow-right.ensures.value c.narrow-right.ensures.narrow
+right_narrow : (c : After-narrow_number-right) → IsNarrow c.self.inside.right
+right_narrow c = subst IsNarrow c.narrow_number-right.ensures.value c.narrow_number-right.ensures.narrow
 
 pub returns-then-is_null-clause-ok : goal.returns-then-is_null-clause-ok
 returns-then-is_null-clause-ok c =

@@ -1,7 +1,8 @@
 use Rattle.std.proofs.Common.{◌-◌, List, length, sym, subst}
 use Rattle.it_rational.specs.Rational.{Rational}
-use Rattle.it_tableau.specs.Rows.{entry_at}
-use Rattle.it_tableau.specs.SparseRows.{dense_row, ListsEntries}
+use Rattle.it_tableau.specs.Entries.{entry_at}
+use Rattle.it_tableau.specs.Rows.{dense_row}
+use Rattle.it_tableau.specs.SparseRows.{ListsEntries}
 use Rattle.it_tableau.proofs.DenseRows.{row_lists}
 use Rattle.it_tableau.proofs.sparse_rows.SparseRow.terms.Goals as goal
 

@@ -5,13 +5,14 @@ use Rattle.it_rational.proofs.Field.{order_ℚ}
 use Rattle.it_rational.proofs.RationalLaws.{ring_ℚ}
 use Rattle.it_rational.specs.Rational.{Rational}
 use Rattle.it_tableau.specs.Fits.{PivotFits}
-use Rattle.it_tableau.specs.Rows.{entry_at, row_at, ArePivoted, RowsPivotFits}
+use Rattle.it_tableau.specs.Entries.{entry_at, row_at}
+use Rattle.it_tableau.specs.Rows.{ArePivoted, RowsPivotFits}
 use Rattle.it_tableau.specs.TableauViews.{TableauView, IsSound, table, height}
 use Rattle.it_tableau.specs.Tables.{pivot}
 use Rattle.it_tableau.proofs.Positive.{positive_some}
 use Rattle.it_tableau.proofs.ViewLemmas.{pivot_sound, shows, numbers_to}
 use Rattle.it_tableau.proofs.tableau.Tableau.pivot.Goals as goal
-use Rattle.it_tableau.proofs.tableau.Tableau.pivot.Goals.{After-as_mut_slice, After-pivot_rows, In-Ok}
+use Rattle.it_tableau.proofs.tableau.Tableau.pivot.Goals.{After-as_mut_slice, After-pivot_rows}
 
 -- the rows that are lent
 abbrev Old : After-as_mut_slice → List (List Rational)

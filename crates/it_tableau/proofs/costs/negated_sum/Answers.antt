@@ -1,9 +1,10 @@
 use Rattle.std.proofs.Common.{◌≡◌, suc, ◌+◌, List, ap, sym, ◌∙◌, subst, arith}
 use Rattle.it_fraction.specs.Fits.{SumFits}
 use Rattle.it_rational.specs.Rational.{Rational, plus}
-use Rattle.it_tableau.specs.Rows.{entry_at, column_sum, row_at, ColumnFits}
+use Rattle.it_tableau.specs.Entries.{entry_at, row_at}
+use Rattle.it_tableau.specs.Rows.{column_sum, ColumnFits}
 use Rattle.it_tableau.proofs.RowsLemmas.{fits_more, on_err}
-use Rattle.it_tableau.proofs.start.negated_sum.Goals as goal
+use Rattle.it_tableau.proofs.costs.negated_sum.Goals as goal
 
 pub returns-in_err-sum-clause-err : goal.returns-in_err-sum-clause-err
 returns-in_err-sum-clause-err c =

@@ -1,7 +1,8 @@
 use Rattle.std.proofs.Common.{◌≡◌, ◌<◌, ℕ}
 use Rattle.it_fraction.specs.Fits.{SumFits}
-use Rattle.it_tableau.specs.Rows.{entry_at, column_sum, row_at}
-use Rattle.it_tableau.proofs.start.negated_sum.Given as goal
+use Rattle.it_tableau.specs.Entries.{entry_at, row_at}
+use Rattle.it_tableau.specs.Rows.{column_sum}
+use Rattle.it_tableau.proofs.costs.negated_sum.Given as goal
 
 abbrev pub invariant-loop-i : goal.invariant-loop-i
 invariant-loop-i l = record {

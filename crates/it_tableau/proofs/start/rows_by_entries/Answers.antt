@@ -1,7 +1,7 @@
 use Rattle.std.proofs.Common.{◌+◌, sym, subst}
-use Rattle.it_tableau.specs.TableauViews.{AreStartRows}
+use Rattle.it_tableau.specs.StartRows.{AreStartRows}
 use Rattle.it_tableau.proofs.StartRows.{start_rows_more}
-use Rattle.it_tableau.proofs.start.start_rows.Goals as goal
+use Rattle.it_tableau.proofs.start.rows_by_entries.Goals as goal
 
 pub loop-k-preserved : goal.loop-k-preserved
 loop-k-preserved c =

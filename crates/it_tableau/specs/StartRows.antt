@@ -1,0 +1,26 @@
+-- No public clause cites this module: the rows of the start while they are built.
+use Rattle.std.specs.Prelude.{◌≡◌, ℕ, ◌+◌, ◌<◌, List, [], ◌∷◌, ◌++◌, length}
+use Rattle.it_rational.specs.Rational.{Rational, minus}
+use Rattle.it_space.specs.Rows.{Terms}
+use Rattle.it_rational.proofs.RationalLaws.{ring_ℚ}
+use Rattle.it_rational.proofs.Field.{order_ℚ}
+use Rattle.it_tableau.specs.Tables.{start_row}
+use Rattle.it_tableau.specs.Entries.{row_at}
+use Rattle.it_tableau.specs.Rows.{column_sum, IsWholeNumber, ListsValues}
+use Rattle.it_tableau.specs.Problems.{feasibility_problem}
+
+-- the first k rows of the start
+pub record AreStartRows (coordinates : List ℕ) (columns : List Terms) (target : Terms) (k : ℕ) (rows : List (List Rational)) : Type 0 where
+  pub rows_are : length rows ≡ k
+  pub entries_are : (i : ℕ) → i < k
+      → ListsValues (start_row ring_ℚ order_ℚ (length coordinates) (length columns) (feasibility_problem coordinates columns target) i) (length columns + length coordinates + 1) (row_at rows i)
+  pub wholes : (i j : ℕ) → i < k → j < length columns + length coordinates + 1
+      → IsWholeNumber (start_row ring_ℚ order_ℚ (length coordinates) (length columns) (feasibility_problem coordinates columns target) i j)
+
+-- the rows of the start, and below them their cost row
+pub record AreAllRows (coordinates : List ℕ) (columns : List Terms) (target : Terms) (all : List (List Rational)) : Type 0 where
+  pub rows : List (List Rational)
+  pub cost : List Rational
+  pub all_are : all ≡ rows ++ cost ∷ []
+  pub rows_are : AreStartRows coordinates columns target (length coordinates) rows
+  pub cost_is : ListsValues (λ j. minus (column_sum rows j (length rows))) (length columns + length coordinates + 1) cost
