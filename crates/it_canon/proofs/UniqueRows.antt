@@ -1,42 +1,36 @@
 -- Rows and constraints are told by what they state.
-use Rattle.std.proofs.Common.{◌≡◌, ℕ, zero, suc, ◌≤◌, ℤ, pos, ◌+ℤ◌, ◌*ℤ◌, [], ◌∷◌, List, Bool, true, false, cond, eqb, refl, sym, ap, ap₂, ◌∙◌, arith}
-use Rattle.std.specs.List.{AllZip}
-use Rattle.std.proofs.lemmas.Int.{ints}
+use Rattle.std.proofs.Common.{◌≡◌, ℕ, zero, suc, ◌≤◌, ℤ, pos, [], ◌∷◌, List, refl, sym, ap, ap₂, ◌∙◌, arith}
+use Rattle.std.specs.List.{AllZip, AllByRecursion as Every}
 use Rattle.it_space.specs.declared.problems.Kind.{Kind}
 use Rattle.it_space.specs.declared.problems.Origin.{Origin}
 use Rattle.it_space.specs.declared.problems.Constraint.{Constraint}
-use Rattle.it_space.specs.Rows.{Terms, coefficient, value}
+use Rattle.it_space.specs.Rows.{Terms, IsCanonical, IsUpTo, coefficient, one_at, value}
 use Rattle.it_space.specs.Spaces.{size_of}
 use Rattle.it_space.proofs.CanonicalRows.{told, other_is}
-use Rattle.it_polymatroid.specs.Certificates.{one_at}
-use Rattle.it_polymatroid.proofs.Every.{Every, every_of}
+use Rattle.it_space.proofs.TermLemmas.{value-one_at}
+use Rattle.it_space.proofs.EveryLemmas.{every_of}
 use Rattle.it_polymatroid.proofs.Forms.{one_at-zero}
 use Rattle.it_canon.specs.Canonical.{IsRowOf}
 use Rattle.it_canon.specs.Demands.{LineDemand, States}
 use Rattle.it_canon.specs.Theorems.{OneRow, OneRowList, OneConstraintList}
 
--- a row is told by its values at the maps that are 1 at a coordinate
-value-one_at : (ts : Terms) (c : ℕ) → value ts (one_at c) ≡ coefficient ts c
-value-one_at [] c = refl
-value-one_at (t ∷ ts) c = ap₂ (λ x y. x +ℤ y) (by_test (eqb t.0 c)) (value-one_at ts c)
-  where
-    by_test : (b : Bool) → t.1 *ℤ cond b (pos 1) (pos 0) ≡ cond b t.1 (pos 0)
-    by_test true = omega (arith, ints)
-    by_test false = omega (arith, ints)
-
 none_at_zero : (size : ℕ) (ts : Terms) → Every (λ (t : ℕ × ℤ). (1 ≤ t.0) × (t.0 ≤ size)) ts → coefficient ts 0 ≡ pos 0
 none_at_zero size [] u = refl
 none_at_zero size (t ∷ ts) u = other_is t ts 0 (λ e. omega (arith, u.0.0, e)) ∙ none_at_zero size ts u.1
 
-pub one_row : OneRow
-one_row s form r t a b = told 0 r t a.canonical b.canonical same
+-- two canonical rows over the coordinates with one value at every map that is 0 at the empty set
+pub told_by_values : (size : ℕ) (r t : Terms) → IsUpTo size r → IsUpTo size t → IsCanonical r → IsCanonical t → ((p : ℕ → ℤ) → p 0 ≡ pos 0 → value r p ≡ value t p) → r ≡ t
+told_by_values size r t up up_also canonical also_canonical values = told 0 r t canonical also_canonical same
   where
-    zero_at : (x : Terms) → IsRowOf s form x → coefficient x 0 ≡ pos 0
-    zero_at x i = none_at_zero (size_of s) x (every_of (λ (t : ℕ × ℤ). (1 ≤ t.0) × (t.0 ≤ size_of s)) x i.coordinates)
+    zero_at : (x : Terms) → IsUpTo size x → coefficient x 0 ≡ pos 0
+    zero_at x i = none_at_zero size x (every_of (λ (t : ℕ × ℤ). (1 ≤ t.0) × (t.0 ≤ size)) x i)
 
     same : (c : ℕ) → coefficient r c ≡ coefficient t c
-    same zero = zero_at r a ∙ sym (zero_at t b)
-    same (suc c) = sym (value-one_at r (suc c)) ∙ a.same (one_at (suc c)) (one_at-zero (suc c) (omega arith)) ∙ sym (b.same (one_at (suc c)) (one_at-zero (suc c) (omega arith))) ∙ value-one_at t (suc c)
+    same zero = zero_at r up ∙ sym (zero_at t up_also)
+    same (suc c) = sym (value-one_at r (suc c)) ∙ values (one_at (suc c)) (one_at-zero (suc c) (omega arith)) ∙ value-one_at t (suc c)
+
+pub one_row : OneRow
+one_row s form r t a b = told_by_values (size_of s) r t a.coordinates b.coordinates a.canonical b.canonical (λ p z. a.same p z ∙ sym (b.same p z))
 
 -- lists of which each item is told
 pub zip-told : {A B : Type 0} (R : A → B → Type 0) → ((x : A) (y z : B) → R x y → R x z → y ≡ z) → (xs : List A) (ys zs : List B) → AllZip R xs ys → AllZip R xs zs → ys ≡ zs

@@ -1,8 +1,9 @@
 -- The constraints of a question in generator order, and the rows of its system.
-use Rattle.std.specs.Prelude.{ℕ, ◌+◌, ℤ, pos, ◌≤ℤ◌, List, [], ◌∷◌, ◌++◌, length, All}
+use Rattle.std.specs.Prelude.{◌≡◌, ℕ, ◌+◌, ℤ, pos, ◌≤ℤ◌, List, [], ◌∷◌, ◌++◌, length, All}
 use Rattle.std.specs.List.{AllZip, flat_map}
 use Rattle.it_space.specs.declared.spaces.Space.{Space}
 use Rattle.it_space.specs.declared.problems.Origin.TheVariants.{Rate}
+use Rattle.it_space.specs.Problems.{ProblemView, IsProblem}
 use Rattle.it_space.specs.Rows.{Terms, value}
 use Rattle.it_polymatroid.specs.Certificates.{Form}
 use Rattle.it_syntax.specs.NamesViews.{NamesView}
@@ -11,7 +12,7 @@ use Rattle.it_syntax.specs.Givens.{GivenView, IsTrueAt}
 use Rattle.it_question.specs.Questions.{OwnLinesView, VerbView, Prove, Eliminate, Contain, BodyView}
 use Rattle.it_canon.specs.Canonical.{IsRowOf}
 use Rattle.it_canon.specs.Targets.{targets}
-use Rattle.it_canon.specs.Demands.{LineDemand, demands, demand_of, parts_of}
+use Rattle.it_canon.specs.Demands.{LineDemand, AreStated, demands, demand_of, parts_of}
 
 abbrev pub space_of : NamesView → Space
 space_of v = record { variables = length v.variables; rates = length v.rates }
@@ -68,3 +69,12 @@ AreRowsOf s forms rows = AllZip (IsRowOf s) forms rows
 -- the rows are at least 0 at the map
 abbrev pub AreAtLeastZero : (ℕ → ℤ) → List Terms → Type 0
 AreAtLeastZero p rows = All (λ row. pos 0 ≤ℤ value row p) rows
+
+-- the problem and the targets' rows that a question about a relation poses
+pub record Poses (q : BodyView) (r : RelationView) : Type 0 where
+  pub problem : ProblemView
+  pub rows : List Terms
+  pub space : problem.space ≡ space_of (problem_names q)
+  pub limits : IsProblem problem
+  pub constraints : AreStated problem.space (question_demands q) problem.constraints
+  pub targets_are : AreRowsOf problem.space (targets (length (problem_names q).variables) r) rows

@@ -39,7 +39,7 @@ impl Coefficients {
     }
 
     /// Adds a coordinate so many times.
-    fn add(&mut self, coordinate: usize, times: i128)
+    pub fn add(&mut self, coordinate: usize, times: i128)
         requires within { coordinate < length self.old }
         requires room { largest self.old + unsigned_abs times < 2 ^ 127 }
         ensures { IsFormAdded self.old self.new (unsigned_abs times) (λ p. times *ℤ p coordinate) }

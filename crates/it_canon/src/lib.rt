@@ -10,8 +10,9 @@ mod systems;
 #[cfg(test)]
 mod tests;
 
+pub use coefficients::Coefficients;
 pub use givens::canon_given;
 pub use laws::rows_are_unique;
-pub use problems::problem;
+pub use problems::{problem, region_lines};
 pub use relations::canon;
-pub use systems::system;
+pub use systems::{system, target_rows};

@@ -40,6 +40,7 @@ pub mod LineParts
 pub mod TextLines
 pub mod CleanLetters
 pub mod TextLaws
+pub mod AsciiLemmas
 pub mod LineCountLemmas
 pub mod FileReadings
 pub mod QuestionLemmas

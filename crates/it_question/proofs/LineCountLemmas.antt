@@ -18,14 +18,14 @@ use Rattle.it_question.specs.Texts.{region_lines, one_unless_zero, question_line
 abbrev question_with : BodyView → List ℕ → QuestionView
 question_with p text = record { body = p; text = text }
 
-pub few_givens : (r : Region) → FewLines (region_view r).lines → length r.givens.items ≤ 64
-few_givens r h = omega (arith, h.0, length-map r.givens.items given_view)
+pub few_givens : (r : Region) → FewLines (region_view r).lines → length r.lines.givens.items ≤ 64
+few_givens r h = omega (arith, h.0, length-map r.lines.givens.items given_view)
 
-pub few_rows : (r : Region) → FewLines (region_view r).lines → length r.rows.items ≤ 64
-few_rows r h = omega (arith, h.1, length-map r.rows.items relation_view)
+pub few_rows : (r : Region) → FewLines (region_view r).lines → length r.lines.rows.items ≤ 64
+few_rows r h = omega (arith, h.1, length-map r.lines.rows.items relation_view)
 
-pub region_lines_are : (r : Region) → region_lines (region_view r) ≡ 1 + one_unless_zero r.auxiliaries + (length r.givens.items + length r.rows.items)
-region_lines_are r = omega (arith, length-map r.givens.items given_view, length-map r.rows.items relation_view)
+pub region_lines_are : (r : Region) → region_lines (region_view r) ≡ 1 + one_unless_zero r.auxiliaries + (length r.lines.givens.items + length r.lines.rows.items)
+region_lines_are r = omega (arith, length-map r.lines.givens.items given_view, length-map r.lines.rows.items relation_view)
 
 -- ---- questions with their texts, one after the other
 

@@ -12,7 +12,8 @@ use Rattle.it_syntax.specs.declared.types.TokenKind.TheVariants as kinds
 use Rattle.it_syntax.specs.Fronts.{IsLongestRun, symbol_of}
 use Rattle.it_syntax.specs.ReaderSteps.{IsTokenFront}
 use Rattle.it_syntax.specs.Misspellings.{IsWrong, SpellsUntil}
-use Rattle.it_syntax.specs.Spelling.{is_letter, is_digit, is_word_byte, is_space, value_from, symbol_text, Stops}
+use Rattle.std.specs.Char.{is_ascii_alphabetic, is_ascii_digit}
+use Rattle.it_syntax.specs.Spelling.{is_word_byte, is_space, value_from, symbol_text, Stops}
 use Rattle.it_syntax.proofs.TokenLemmas.{run_all, cut_made, shape_some}
 
 -- how many bytes of a kind stand in front
@@ -28,7 +29,7 @@ run_there f (b ∷ bytes) = by (f b) refl (run_there f bytes)
 abbrev Front : List ℕ → Type 0
 Front body = ((k : TokenKind) × (n : ℕ) × IsTokenFront k n body) ⊎ ((c : Code) × IsWrong c body)
 
-word_front : (b : ℕ) (bytes : List ℕ) → is_letter b ≡ true → Front (b ∷ bytes)
+word_front : (b : ℕ) (bytes : List ℕ) → is_ascii_alphabetic b ≡ true → Front (b ∷ bytes)
 word_front b bytes e = by (run_there is_word_byte (b ∷ bytes))
   where
     by : (n : ℕ) × IsLongestRun is_word_byte (b ∷ bytes) n → Front (b ∷ bytes)
@@ -37,23 +38,23 @@ word_front b bytes e = by (run_there is_word_byte (b ∷ bytes))
       | inr h ↦ inl (kinds.Word, r.0, (e, r.1, h))
     ]
 
-number_front : (b : ℕ) (bytes : List ℕ) → is_digit b ≡ true → Front (b ∷ bytes)
-number_front b bytes e = by (run_there is_digit (b ∷ bytes))
+number_front : (b : ℕ) (bytes : List ℕ) → is_ascii_digit b ≡ true → Front (b ∷ bytes)
+number_front b bytes e = by (run_there is_ascii_digit (b ∷ bytes))
   where
-    by : (n : ℕ) × IsLongestRun is_digit (b ∷ bytes) n → Front (b ∷ bytes)
+    by : (n : ℕ) × IsLongestRun is_ascii_digit (b ∷ bytes) n → Front (b ∷ bytes)
     by r = let v = value_from 0 (take r.0 (b ∷ bytes)) in elim (cases_lt v (2 ^ 64)) [
       | inl h ↦ inl (kinds.Number v, r.0, (e, r.1, refl, h))
       | inr h ↦ inr (codes.Number, (e, (r.0, (r.1, h))))
     ]
 
-other_front : (b : ℕ) (bytes : List ℕ) → is_letter b ≡ false → is_digit b ≡ false → is_space b ≡ false → (o : Option Symbol) → symbol_of (b ∷ bytes) ≡ o → Front (b ∷ bytes)
+other_front : (b : ℕ) (bytes : List ℕ) → is_ascii_alphabetic b ≡ false → is_ascii_digit b ≡ false → is_space b ≡ false → (o : Option Symbol) → symbol_of (b ∷ bytes) ≡ o → Front (b ∷ bytes)
 other_front b bytes l d s (Some x) e = inl (kinds.Symbol x, length (symbol_text x), (e, refl))
 other_front b bytes l d s None e = inr (codes.Byte, (l, d, s, e))
 
 front_there : (b : ℕ) (bytes : List ℕ) → is_space b ≡ false → Front (b ∷ bytes)
-front_there b bytes s = by (is_letter b) (is_digit b) refl refl
+front_there b bytes s = by (is_ascii_alphabetic b) (is_ascii_digit b) refl refl
   where
-    by : (l d : Bool) → is_letter b ≡ l → is_digit b ≡ d → Front (b ∷ bytes)
+    by : (l d : Bool) → is_ascii_alphabetic b ≡ l → is_ascii_digit b ≡ d → Front (b ∷ bytes)
     by true d e h = word_front b bytes e
     by false true e h = number_front b bytes h
     by false false e h = other_front b bytes e h s (symbol_of (b ∷ bytes)) refl

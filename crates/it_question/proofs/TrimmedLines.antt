@@ -9,7 +9,8 @@ use Rattle.it_syntax.specs.declared.types.TokenKind.TheVariants as kinds
 use Rattle.it_syntax.specs.Letters.{Letter, Word, Number, Sym, End}
 use Rattle.it_syntax.specs.Misspellings.{SpellsUntil}
 use Rattle.it_syntax.specs.Spans.{letter_of, letters_until}
-use Rattle.it_syntax.specs.Spelling.{is_digit, is_word_byte, is_space, is_greater, symbol_text, AreAll, Stops, IsText, EndsToken, Cut}
+use Rattle.std.specs.Char.{is_ascii_digit}
+use Rattle.it_syntax.specs.Spelling.{is_word_byte, is_space, is_greater, symbol_text, AreAll, Stops, IsText, EndsToken, Cut}
 use Rattle.it_syntax.proofs.TokenLemmas.{not_space}
 use Rattle.it_question.specs.Lines.{TokenLine, IsFilled, IsLine, HasTokens, line_letters}
 use Rattle.it_question.specs.Texts.{without_leading, without_trailing, trimmed_line}
@@ -39,7 +40,7 @@ symbol_solid Assign = (refl, (refl, tt))
 text_solid : (k : TokenKind) (text : List ℕ) → IsText k text → AreSolid text
 unfolding is_word_byte
 text_solid kinds.Word text h = all_solid is_word_byte refl text h.1
-text_solid (kinds.Number n) text h = all_solid is_digit refl text h.1
+text_solid (kinds.Number n) text h = all_solid is_ascii_digit refl text h.1
 text_solid (kinds.Symbol s) text h = subst AreSolid (sym h) (symbol_solid s)
 
 abbrev HasBytes : List ℕ → Type 0
@@ -68,7 +69,7 @@ text_bytes (kinds.Symbol s) text h = subst HasBytes (sym h) (symbol_bytes s)
 
 ends_trimmed : (k : TokenKind) (rest : List ℕ) → EndsToken k rest → EndsToken k (without_trailing rest)
 ends_trimmed kinds.Word rest h = trailing_stops is_word_byte rest h
-ends_trimmed (kinds.Number n) rest h = trailing_stops is_digit rest h
+ends_trimmed (kinds.Number n) rest h = trailing_stops is_ascii_digit rest h
 ends_trimmed (kinds.Symbol Minus) rest h = trailing_stops is_greater rest h
 ends_trimmed (kinds.Symbol LeftParen) rest h = tt
 ends_trimmed (kinds.Symbol RightParen) rest h = tt

@@ -1,16 +1,12 @@
 -- What is read of a question, as the readers' contracts compare it. No public clause cites it.
-use Rattle.std.specs.Prelude.{[], ◌∷◌, ◌++◌, map}
-use Rattle.it_syntax.specs.Meaning.{RelationView, relation_view}
-use Rattle.it_syntax.specs.Givens.{GivenView, given_view}
-use Rattle.it_question.specs.declared.bodies.OwnLines.{OwnLines}
+use Rattle.std.specs.Prelude.{[], ◌∷◌, ◌++◌}
+use Rattle.it_syntax.specs.Meaning.{RelationView}
+use Rattle.it_syntax.specs.Givens.{GivenView}
 use Rattle.it_question.specs.declared.bodies.Body.{Body}
-use Rattle.it_question.specs.Questions.{OwnLinesView, BodyView, verb_view}
-
-abbrev pub own_lines_view : OwnLines → OwnLinesView
-own_lines_view own = record { givens = map given_view own.givens.items; rows = map relation_view own.rows.items }
+use Rattle.it_question.specs.Questions.{OwnLinesView, BodyView, own_lines_view, verb_view}
 
 abbrev pub body_view : Body → BodyView
-body_view b = record { names = b.names; lines = record { givens = map given_view b.givens.items; rows = map relation_view b.rows.items }; verb = verb_view b.verb }
+body_view b = record { names = b.names; lines = own_lines_view b.lines; verb = verb_view b.verb }
 
 -- one more line
 abbrev pub with_given : OwnLinesView → GivenView → OwnLinesView

@@ -13,6 +13,7 @@ pub mod Sorts
 pub mod Reading
 pub mod Texts
 pub mod Files
+pub mod AsciiTexts
 pub mod Limits
 pub mod Stops
 pub mod ReaderSteps

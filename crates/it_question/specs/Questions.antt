@@ -3,6 +3,7 @@ use Rattle.std.specs.Prelude.{ℕ, List, map}
 use Rattle.it_syntax.specs.NamesViews.{NamesView}
 use Rattle.it_syntax.specs.Meaning.{RelationView, relation_view}
 use Rattle.it_syntax.specs.Givens.{GivenView, given_view}
+use Rattle.it_question.specs.declared.types.OwnLines.{OwnLines}
 use Rattle.it_question.specs.declared.types.Question.{Question}
 use Rattle.it_question.specs.declared.types.Region.{Region}
 use Rattle.it_question.specs.declared.types.Verb.{Verb}
@@ -36,8 +37,11 @@ pub record QuestionView : Type 0 where
   pub body : BodyView
   pub text : List ℕ
 
+abbrev pub own_lines_view : OwnLines → OwnLinesView
+own_lines_view own = record { givens = map given_view own.givens.items; rows = map relation_view own.rows.items }
+
 abbrev pub region_view : Region → RegionView
-region_view r = record { names = r.names; auxiliaries = r.auxiliaries; lines = record { givens = map given_view r.givens.items; rows = map relation_view r.rows.items } }
+region_view r = record { names = r.names; auxiliaries = r.auxiliaries; lines = own_lines_view r.lines }
 
 abbrev pub verb_view : Verb → VerbView
 verb_view (verbs.Prove r) = Prove (relation_view r)
@@ -45,7 +49,7 @@ verb_view (verbs.Eliminate rates) = Eliminate rates.items
 verb_view (verbs.Contain first second tries) = Contain (region_view first) (region_view second) tries.items
 
 abbrev pub question_body : Question → BodyView
-question_body q = record { names = q.names; lines = record { givens = map given_view q.givens.items; rows = map relation_view q.rows.items }; verb = verb_view q.verb }
+question_body q = record { names = q.names; lines = own_lines_view q.lines; verb = verb_view q.verb }
 
 abbrev pub question_view : Question → QuestionView
 question_view q = record { body = question_body q; text = q.text.items }

@@ -6,7 +6,7 @@ use Rattle.it_syntax.specs.declared.types.Code.TheVariants as codes
 use Rattle.it_syntax.specs.NamesViews.{NamesView}
 use Rattle.it_syntax.specs.Letters.{Letter, Word, Number, Sym, End, Bad}
 use Rattle.it_syntax.specs.Lines.{to_end}
-use Rattle.it_syntax.specs.AtomReading.{Fault, Reads, ◌>>=◌, no_rule, no_rule_at, read_list, line_end}
+use Rattle.it_syntax.specs.AtomReading.{Fault, Reads, ◌>>=◌, no_rule, read_list, line_end}
 use Rattle.it_syntax.specs.WrittenAtoms.{Environment, is_measure}
 use Rattle.it_syntax.specs.Scopes.{env_of}
 use Rattle.it_syntax.specs.Scopes.{scope_of}
@@ -135,7 +135,7 @@ read_distinct env ls = do
 
 unfoldable pub read_assign : List Letter → Result (List Letter) Fault
 read_assign (Sym Assign ∷ ls) = Ok ls
-read_assign ls = no_rule_at ls
+read_assign ls = no_rule ls
 
 -- `0`, or names
 unfoldable pub read_set : Environment → List Letter → Reads ℕ

@@ -73,8 +73,7 @@ fn verb(
                 Err(Stop::Fault(Code::Word))
             }
         }
-        Some((Piece::Bad(code), _)) => Err(Stop::Fault(code)),
-        _ => Err(Stop::Fault(Code::Word)),
+        _ => Err(cursor.fault()),
     }
 }
 
@@ -86,16 +85,11 @@ fn question(alloc: Global, cursor: &mut Cursor<'_>) -> Result<Body, Stop>
     let mut names = Names::new(alloc);
     names_to_end(cursor, &mut names, NameSort::Variable, MOST_VARIABLES)?;
     names_line(cursor, &mut names, NameSort::Rate, MOST_RATES, RATES)?;
-    let own = own_lines(alloc, cursor, &names, MOST_LINES, MOST_LINES)?;
-    let givens = own.givens_left(MOST_LINES);
-    let rows = own.rows_left(MOST_LINES);
+    let lines = own_lines(alloc, cursor, &names, MOST_LINES, MOST_LINES)?;
+    let givens = lines.givens_left(MOST_LINES);
+    let rows = lines.rows_left(MOST_LINES);
     let verb = verb(alloc, cursor, &names, givens, rows)?;
-    Ok(Body {
-        names,
-        givens: own.givens,
-        rows: own.rows,
-        verb,
-    })
+    Ok(Body { names, lines, verb })
 }
 
 /// The end of the file.
@@ -108,11 +102,11 @@ fn file_end(cursor: &mut Cursor<'_>) -> Result<(), Stop>
             *cursor = behind;
             Ok(())
         }
-        Some((Piece::Bad(code), _)) => Err(Stop::Fault(code)),
-        _ => Err(Stop::Fault(Code::Word)),
+        _ => Err(cursor.fault()),
     }
 }
 
+/// Puts a question behind the others.
 fn add(bodies: &mut Vec<Body>, next: Body) -> Result<(), Stop>
     ensures added { OnOk result (map body_view bodies.new.items ≡ map body_view bodies.old.items ++ body_view next ∷ []) }
     ensures memory { IfErr result (λ e. e ≡ Memory) }

@@ -1,5 +1,6 @@
 //! Laws of the definitions that the contracts cite.
 ghost use Rattle.it_question.specs.Files.{FileIsOne, FileFaultIsOne, FileOrFault, FileHasOne, TextReadsBack};
+ghost use Rattle.it_question.specs.AsciiTexts.{TextsAreAscii};
 
 /// A file has at most one reading, or has at most one first fault, and not both.
 pub fn file_is_one()
@@ -17,4 +18,9 @@ pub fn file_has_one()
 #[tactic(auto, using(crate::proofs::TextLaws::text_reads_back))]
 pub fn text_reads_back()
     ensures { TextReadsBack }
+{}
+
+/// The text of a question and the names that it declares are ASCII, also where the file's comments are not.
+pub fn texts_are_ascii()
+    ensures { TextsAreAscii }
 {}

@@ -22,4 +22,5 @@ pub mod types;
 mod words;
 
 pub use files::questions;
-pub use laws::{file_has_one, file_is_one, text_reads_back};
+pub use laws::{file_has_one, file_is_one, text_reads_back, texts_are_ascii};
+pub use plain::first_line;

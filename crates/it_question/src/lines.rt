@@ -11,6 +11,7 @@ use it_syntax::line_tokens;
 use it_syntax::types::{Code, LineTokens, Misspelling};
 use std::alloc::{AllocError, Global};
 
+/// The line of a number with its tokens.
 fn line_of(alloc: Global, number: u32, bytes: &[u8]) -> Result<Line, AllocError>
     requires { length bytes.now ≤ 1048577 }
     ensures { IfOk result (λ l. IsLine number bytes.now (token_line l)) }
@@ -24,6 +25,7 @@ fn line_of(alloc: Global, number: u32, bytes: &[u8]) -> Result<Line, AllocError>
     })
 }
 
+/// Whether there is a token or a misspelling.
 fn has_tokens(line: &Line) -> bool
     ensures filled { OnTrue result (HasTokens (token_line line.now)) }
     ensures no_tokens { OnFalse result (line.now.tokens.tokens.items ≡ []) }

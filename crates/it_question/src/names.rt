@@ -71,8 +71,7 @@ fn new_name(
             *cursor = behind;
             Ok(())
         }
-        Some((Piece::Bad(code), _)) => Err(Stop::Fault(code)),
-        _ => Err(Stop::Fault(Code::Word)),
+        _ => Err(cursor.fault()),
     }
 }
 
@@ -98,6 +97,7 @@ fn more_names(
     Ok(())
 }
 
+/// New names up to one that isn't, at most so many.
 #[tactic(auto, unfolding(crate::specs::Reading::read_new_names))]
 fn new_names(
     cursor: &mut Cursor<'_>,

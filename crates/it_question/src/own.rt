@@ -4,14 +4,15 @@ ghost use Rattle.it_syntax.specs.declared.rest.Stop.TheVariants.{Memory};
 ghost use Rattle.it_syntax.specs.Givens.{given_view};
 ghost use Rattle.it_syntax.specs.Gives.{GivesBy};
 ghost use Rattle.it_syntax.specs.Meaning.{relation_view};
-ghost use Rattle.it_question.specs.Bodies.{own_lines_view, with_given, with_row};
+ghost use Rattle.it_question.specs.Bodies.{with_given, with_row};
 ghost use Rattle.it_question.specs.Cursors.{left};
+ghost use Rattle.it_question.specs.Questions.{own_lines_view};
 ghost use Rattle.it_question.specs.Reading.{read_lines};
 ghost use Rattle.it_question.specs.WrittenRegions.{givens_left, rows_left};
 
-use crate::bodies::OwnLines;
 use crate::cursor::Cursor;
 use crate::parts::{given, relation};
+use crate::types::OwnLines;
 use crate::words::{GIVEN, ROW, behind_word};
 use it_syntax::Names;
 use it_syntax::rest::Stop;
@@ -34,6 +35,7 @@ impl OwnLines {
     }
 }
 
+/// Puts the constraint of a `given` line behind the others.
 fn add_given(own: &mut OwnLines, given: Given) -> Result<(), Stop>
     ensures added { OnOk result (own_lines_view own.new ≡ with_given (own_lines_view own.old) (given_view given)) }
     ensures memory { IfErr result (λ e. e ≡ Memory) }
@@ -44,6 +46,7 @@ fn add_given(own: &mut OwnLines, given: Given) -> Result<(), Stop>
     }
 }
 
+/// Puts the relation of a `row` line behind the others.
 fn add_row(own: &mut OwnLines, row: Relation) -> Result<(), Stop>
     ensures added { OnOk result (own_lines_view own.new ≡ with_row (own_lines_view own.old) (relation_view row)) }
     ensures memory { IfErr result (λ e. e ≡ Memory) }

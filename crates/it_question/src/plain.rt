@@ -6,6 +6,7 @@ ghost use Rattle.it_question.specs.ReaderSteps.{is_other};
 
 use std::alloc::{AllocError, Global};
 
+/// Whether it is another byte than `stop`.
 #[tactic(auto, unfolding(crate::specs::ReaderSteps::is_other))]
 fn is_other(stop: u8, b: u8) -> bool
     ensures { result ≡ is_other stop b }
@@ -40,6 +41,7 @@ pub fn first_line(bytes: &[u8]) -> (&[u8], &[u8])
     }
 }
 
+/// The line without a carriage return at its end.
 #[tactic(auto, using(crate::proofs::PlainLemmas::returned, crate::proofs::PlainLemmas::not_returned))]
 fn without_return(line: &[u8]) -> &[u8]
     ensures { result.now ≡ without_return line.now }
@@ -50,12 +52,14 @@ fn without_return(line: &[u8]) -> &[u8]
     }
 }
 
+/// What stands before the first `#`.
 fn before_comment(line: &[u8]) -> &[u8]
     ensures { result.now ≡ before_comment line.now }
 {
     line.split_at(before(line, b'#')).0
 }
 
+/// The byte, a space for a tab.
 fn without_tab(b: u8) -> u8
     ensures { result ≡ without_tab b }
 {

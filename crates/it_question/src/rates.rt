@@ -15,6 +15,7 @@ use it_syntax::types::Code;
 use it_syntax::{Names, is_measure};
 use std::alloc::Global;
 
+/// The name of a rate that wasn't named before, by the rate's number.
 #[tactic(auto, unfolding(crate::specs::WrittenLines::rates_env))]
 fn rate(names: &Names, name: &[u8]) -> Option<u8>
     ensures { result ≡ rates_env names.now name.now }
@@ -44,11 +45,11 @@ fn new_rate(cursor: &mut Cursor<'_>, names: &Names, seen: &[u8]) -> Result<u8, S
                 None => Err(Stop::Fault(Code::Name)),
             }
         }
-        Some((Piece::Bad(code), _)) => Err(Stop::Fault(code)),
-        _ => Err(Stop::Fault(Code::Word)),
+        _ => Err(cursor.fault()),
     }
 }
 
+/// Puts a rate's number behind the others.
 fn add(rates: &mut Vec<u8>, rate: u8) -> Result<(), Stop>
     ensures added { OnOk result (rates.new.items ≡ rates.old.items ++ rate ∷ []) }
     ensures memory { IfErr result (λ e. e ≡ Memory) }
@@ -73,6 +74,7 @@ fn more_rates(first: Vec<u8>, cursor: &mut Cursor<'_>, names: &Names) -> Result<
     Ok(found)
 }
 
+/// One rate or more, none twice.
 #[tactic(auto, unfolding(crate::specs::Reading::read_distinct))]
 fn distinct_rates(alloc: Global, cursor: &mut Cursor<'_>, names: &Names) -> Result<Vec<u8>, Stop>
     ensures { GivesBy (λ x. x.items) result (left cursor.new) (read_distinct (rates_env names.now) (left cursor.old)) }

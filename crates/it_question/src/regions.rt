@@ -9,7 +9,7 @@ ghost use Rattle.it_question.specs.Questions.{verb_view, region_view};
 ghost use Rattle.it_question.specs.Reading.{read_names_line, read_region, read_word_line, read_containment};
 ghost use Rattle.it_question.specs.Sorts.{HasRoom};
 ghost use Rattle.it_question.specs.NewNames.{Variable};
-ghost use Rattle.it_question.specs.WrittenRegions.{auxiliaries_left, givens_left, rows_left};
+ghost use Rattle.it_question.specs.WrittenRegions.{auxiliaries_left};
 
 use crate::cursor::Cursor;
 use crate::names::names_line;
@@ -31,22 +31,6 @@ const MOST_AUXILIARIES: usize = 4;
 /// The most `try` lines of a question.
 const MOST_TRIES: usize = 64;
 
-impl Region {
-    /// How many more `given` lines may follow those of this region.
-    fn givens_left(&self, most: usize) -> usize
-        ensures { result ≡ givens_left most (region_view self.now).lines }
-    {
-        most.saturating_sub(self.givens.len())
-    }
-
-    /// How many more `row` lines may follow those of this region.
-    fn rows_left(&self, most: usize) -> usize
-        ensures { result ≡ rows_left most (region_view self.now).lines }
-    {
-        most.saturating_sub(self.rows.len())
-    }
-}
-
 /// How many variables a region may add to these.
 fn auxiliaries_left(names: &Names) -> usize
     ensures left { result ≡ auxiliaries_left names.now }
@@ -66,6 +50,7 @@ fn auxiliaries(inside: &Names, names: &Names) -> u8
         .saturating_sub(names.space().variables)
 }
 
+/// The names once more.
 fn copy_of(names: &Names) -> Result<Names, Stop>
     ensures copy { IfOk result (λ n. n ≡ names.now) }
     ensures memory { IfErr result (λ e. e ≡ Memory) }
@@ -104,13 +89,12 @@ fn region(
 {
     line_end(cursor)?;
     let inside = region_names(cursor, names)?;
-    let own = own_lines(alloc, cursor, &inside, givens, rows)?;
+    let lines = own_lines(alloc, cursor, &inside, givens, rows)?;
     let auxiliaries = auxiliaries(&inside, names);
     Ok(Region {
         names: inside,
         auxiliaries,
-        givens: own.givens,
-        rows: own.rows,
+        lines,
     })
 }
 
@@ -136,8 +120,8 @@ pub fn containment(
 {
     let first = region(alloc, cursor, names, givens, rows)?;
     word(cursor, REGION)?;
-    let givens = first.givens_left(givens);
-    let rows = first.rows_left(rows);
+    let givens = first.lines.givens_left(givens);
+    let rows = first.lines.rows_left(rows);
     let second = region(alloc, cursor, names, givens, rows)?;
     let regions = Regions {
         question: names,

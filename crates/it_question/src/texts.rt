@@ -12,6 +12,7 @@ use crate::cursor::Line;
 use crate::types::{Question, Region, Verb};
 use std::alloc::{AllocError, Global};
 
+/// What is left without the spaces in front.
 fn without_leading(line: &[u8]) -> &[u8]
     ensures { result.now ≡ without_leading line.now }
 {
@@ -25,6 +26,7 @@ fn without_leading(line: &[u8]) -> &[u8]
     rest
 }
 
+/// What is left without the spaces at the end.
 fn without_trailing(line: &[u8]) -> &[u8]
     ensures { result.now ≡ without_trailing line.now }
 {
@@ -68,7 +70,7 @@ fn region_lines(region: &Region) -> usize
     ensures few { result ≤ 130 }
 {
     let auxiliaries = if region.auxiliaries == 0 { 0 } else { 1 };
-    1 + auxiliaries + (region.givens.len() + region.rows.len())
+    1 + auxiliaries + (region.lines.givens.len() + region.lines.rows.len())
 }
 
 /// How many lines stand from the verb or the first region on.
@@ -98,7 +100,9 @@ fn question_lines(question: &Body) -> usize
     } else {
         1
     };
-    1 + rates + (question.givens.len() + question.rows.len()) + verb_lines(&question.verb)
+    1 + rates
+        + (question.lines.givens.len() + question.lines.rows.len())
+        + verb_lines(&question.verb)
 }
 
 /// The first lines, and those behind them.
@@ -109,6 +113,7 @@ fn cut(lines: &[Line], n: usize) -> (&[Line], &[Line])
     lines.split_at(n.min(lines.len()))
 }
 
+/// The question with the text of these lines.
 fn with_text(alloc: Global, lines: &[Line], body: Body) -> Result<Question, AllocError>
     ensures { IfOk result (λ q. question_view q ≡ record { body = body_view body; text = text_of_lines (map token_line lines.now) }) }
 {
@@ -116,8 +121,7 @@ fn with_text(alloc: Global, lines: &[Line], body: Body) -> Result<Question, Allo
     Ok(Question {
         names: body.names,
         text,
-        givens: body.givens,
-        rows: body.rows,
+        lines: body.lines,
         verb: body.verb,
     })
 }

@@ -44,6 +44,7 @@ fn auxiliary_of(regions: Regions<'_>, name: &[u8]) -> Option<u8>
     }
 }
 
+/// Whether auxiliary i has a set.
 #[tactic(auto, using(crate::proofs::SetLemmas::set_lemmas))]
 fn is_named(sets: &Sets, i: u8) -> bool
     ensures { result ≡ is_named sets.now i }
@@ -55,6 +56,7 @@ fn is_named(sets: &Sets, i: u8) -> bool
     }
 }
 
+/// Whether each auxiliary has a set.
 #[tactic(auto, using(crate::proofs::SetLemmas::set_lemmas))]
 fn is_whole(sets: &Sets) -> bool
     ensures { result ≡ is_whole sets.now }
@@ -67,6 +69,7 @@ fn is_whole(sets: &Sets) -> bool
     true
 }
 
+/// Gives auxiliary i its set.
 #[tactic(auto, using(crate::proofs::SetLemmas::set_lemmas))]
 fn put(sets: &mut Sets, i: u8, set: VarSet)
     ensures { sets.new ≡ with_set sets.old i set }
@@ -97,11 +100,11 @@ fn auxiliary(cursor: &mut Cursor<'_>, regions: Regions<'_>, sets: &Sets) -> Resu
                 None => Err(Stop::Fault(Code::Name)),
             }
         }
-        Some((Piece::Bad(code), _)) => Err(Stop::Fault(code)),
-        _ => Err(Stop::Fault(Code::Word)),
+        _ => Err(cursor.fault()),
     }
 }
 
+/// A `:=` that must stand there.
 #[tactic(auto, unfolding(crate::specs::Reading::read_assign))]
 fn assign(cursor: &mut Cursor<'_>) -> Result<(), Stop>
     ensures { Passes result (left cursor.new) (read_assign (left cursor.old)) }
@@ -111,8 +114,7 @@ fn assign(cursor: &mut Cursor<'_>) -> Result<(), Stop>
             *cursor = behind;
             Ok(())
         }
-        Some((Piece::Bad(code), _)) => Err(Stop::Fault(code)),
-        _ => Err(Stop::Fault(Code::Word)),
+        _ => Err(cursor.fault()),
     }
 }
 
@@ -187,12 +189,10 @@ fn whole(cursor: &mut Cursor<'_>, sets: &Sets) -> Result<(), Stop>
     if is_whole(sets) {
         return line_end(cursor);
     }
-    match cursor.front() {
-        Some((Piece::Bad(code), _)) => Err(Stop::Fault(code)),
-        _ => Err(Stop::Fault(Code::Word)),
-    }
+    Err(cursor.fault())
 }
 
+/// The set of an auxiliary, empty where it has none.
 fn set_of(set: &Option<VarSet>) -> VarSet
     ensures { result ≡ set_or set.now }
 {
@@ -202,6 +202,7 @@ fn set_of(set: &Option<VarSet>) -> VarSet
     }
 }
 
+/// The sets of the auxiliaries in order.
 fn sets_of(sets: &Sets) -> [VarSet; 4]
     ensures { result ≡ sets_of sets.now }
 {
@@ -213,6 +214,7 @@ fn sets_of(sets: &Sets) -> [VarSet; 4]
     ]
 }
 
+/// The empty set in the place of an auxiliary that isn't there.
 fn filled_place() -> Option<VarSet>
     ensures { result ≡ Some 0 }
 {
@@ -253,6 +255,7 @@ fn substitution(
     Ok(sets_of(&sets))
 }
 
+/// Puts the sets of a `try` line behind the others.
 fn add(tries: &mut Vec<[VarSet; 4]>, sets: [VarSet; 4]) -> Result<(), Stop>
     ensures added { OnOk result (tries.new.items ≡ tries.old.items ++ sets ∷ []) }
     ensures memory { IfErr result (λ e. e ≡ Memory) }

@@ -6,14 +6,20 @@ use it_syntax::types::{Code, Given, Relation};
 use std::alloc::AllocError;
 use thiserror::Error;
 
+/// The constraints of `given` lines and of `row` lines, in order.
+#[derive(Debug, Drop)]
+pub struct OwnLines {
+    pub givens: Vec<Given>,
+    pub rows: Vec<Relation>,
+}
+
 /// A region of a containment question: the question's names followed by the region's auxiliary variables, how many these
 /// are, and the region's own lines.
 #[derive(Debug, Drop)]
 pub struct Region {
     pub names: Names,
     pub auxiliaries: u8,
-    pub givens: Vec<Given>,
-    pub rows: Vec<Relation>,
+    pub lines: OwnLines,
 }
 
 /// What a question wants: that a relation is proved; that rates are eliminated, by number and in the order in which they
@@ -32,14 +38,12 @@ pub enum Verb {
 }
 
 /// A question. `text` holds its lines from `vars` to the verb, each from its first token to its last with tabs as spaces,
-/// and a line feed behind it; lines without tokens are left out. `givens` and `rows` are the constraints of the
-/// lines before the verb or the first region, in order.
+/// and a line feed behind it; lines without tokens are left out. `lines` are those before the verb or the first region.
 #[derive(Debug, Drop)]
 pub struct Question {
     pub names: Names,
     pub text: Vec<u8>,
-    pub givens: Vec<Given>,
-    pub rows: Vec<Relation>,
+    pub lines: OwnLines,
     pub verb: Verb,
 }
 

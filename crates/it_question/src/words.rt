@@ -11,24 +11,34 @@ use crate::cursor::Cursor;
 use it_syntax::rest::{Piece, Stop};
 use it_syntax::types::{Code, Symbol};
 
+/// Begins a question, before its variables.
 pub const VARS: &[u8] = b"vars";
 
+/// Before the names of rates.
 pub const RATES: &[u8] = b"rates";
 
+/// Before a constraint.
 pub const GIVEN: &[u8] = b"given";
 
+/// Before a relation on rates too.
 pub const ROW: &[u8] = b"row";
 
+/// A line of its own, before a region.
 pub const REGION: &[u8] = b"region";
 
+/// Before the names of a region's own variables.
 pub const AUXILIARIES: &[u8] = b"aux";
 
+/// Before sets for the auxiliaries of the second region.
 pub const TRY: &[u8] = b"try";
 
+/// Before the relation to prove.
 pub const PROVE: &[u8] = b"prove";
 
+/// Before the rates to eliminate.
 pub const ELIMINATE: &[u8] = b"eliminate";
 
+/// A line of its own, behind the second region.
 pub const CONTAIN: &[u8] = b"contain";
 
 /// What is behind this word, if it stands there.
@@ -57,12 +67,12 @@ pub fn word(cursor: &mut Cursor<'_>, text: &[u8]) -> Result<(), Stop>
                 Err(Stop::Fault(Code::Word))
             }
         }
-        Some((Piece::Bad(code), _)) => Err(Stop::Fault(code)),
-        _ => Err(Stop::Fault(Code::Word)),
+        _ => Err(cursor.fault()),
     }
 }
 
 /// The end of a line.
+#[tactic(auto, unfolding(it_syntax::specs::AtomReading::line_end))]
 pub fn line_end(cursor: &mut Cursor<'_>) -> Result<(), Stop>
     ensures { Gives result (left cursor.new) (line_end (left cursor.old)) }
 {
@@ -71,8 +81,7 @@ pub fn line_end(cursor: &mut Cursor<'_>) -> Result<(), Stop>
             *cursor = behind;
             Ok(())
         }
-        Some((Piece::Bad(code), _)) => Err(Stop::Fault(code)),
-        _ => Err(Stop::Fault(Code::Word)),
+        _ => Err(cursor.fault()),
     }
 }
 

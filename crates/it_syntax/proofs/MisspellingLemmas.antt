@@ -11,7 +11,8 @@ use Rattle.it_syntax.specs.Fronts.{IsLongestRun}
 use Rattle.it_syntax.specs.ReaderSteps.{IsTokenFront}
 use Rattle.it_syntax.specs.Misspellings.{BeginsNothing, IsWrong, Misspelled, SpellsUntil, LineTokensAreOne}
 use Rattle.it_syntax.specs.Spans.{InLine}
-use Rattle.it_syntax.specs.Spelling.{is_letter, is_digit, is_space, AreAll, StartsWith, Stops, Cut}
+use Rattle.std.specs.Char.{is_ascii_alphabetic, is_ascii_digit}
+use Rattle.it_syntax.specs.Spelling.{is_space, AreAll, StartsWith, Stops, Cut}
 use Rattle.it_syntax.proofs.SpanLemmas.{text_length}
 use Rattle.it_syntax.proofs.TokenLemmas.{run_of_text, run_once, blank_run, run_all, not_space, both_starts, found_of, one_cut, cut_made, gap_run, blank_none, word_long, number_large}
 
@@ -25,8 +26,8 @@ nothing_stops (b ∷ body) h = h.2
 
 wrong_stops : (c : Code) (body : List ℕ) → IsWrong c body → Stops is_space body
 wrong_stops codes.Byte body h = nothing_stops body h
-wrong_stops codes.Many body h = starts_stop is_letter refl body h.0
-wrong_stops codes.Number body h = starts_stop is_digit refl body h.0
+wrong_stops codes.Many body h = starts_stop is_ascii_alphabetic refl body h.0
+wrong_stops codes.Number body h = starts_stop is_ascii_digit refl body h.0
 wrong_stops c body h = absurd h
 
 wrong_some : (c : Code) → IsWrong c [] → ⊥
@@ -48,11 +49,11 @@ wrong_front codes.Many k n body h s = word_long h.1.0 body h.0 h.1.1.0 h.1.1.1 k
 wrong_front codes.Number k n body h s = number_large h.1.0 body h.0 h.1.1.0 h.1.1.1 k n s
 wrong_front c k n body h s = absurd h
 
-no_letter : (body : List ℕ) → BeginsNothing body → StartsWith is_letter body → ⊥
+no_letter : (body : List ℕ) → BeginsNothing body → StartsWith is_ascii_alphabetic body → ⊥
 no_letter [] h s = elim h [ ]
 no_letter (b ∷ body) h s = let x = h.0 in absurd cc
 
-no_digit : (body : List ℕ) → BeginsNothing body → StartsWith is_digit body → ⊥
+no_digit : (body : List ℕ) → BeginsNothing body → StartsWith is_ascii_digit body → ⊥
 no_digit [] h s = elim h [ ]
 no_digit (b ∷ body) h s = let x = h.1 in absurd cc
 

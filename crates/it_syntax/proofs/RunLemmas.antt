@@ -1,6 +1,7 @@
 -- Runs of bytes of one kind, and the number that digits are.
 use Rattle.std.proofs.Common.{◌≡◌, ℕ, zero, suc, ◌+◌, ◌-◌, ◌*◌, ◌<◌, ◌≤◌, Bool, true, false, List, [], ◌∷◌, length, get_or, take, drop, refl, arith}
-use Rattle.it_syntax.specs.Spelling.{AreAll, Stops, is_digit, value_from}
+use Rattle.std.specs.Char.{is_ascii_digit}
+use Rattle.it_syntax.specs.Spelling.{AreAll, Stops, value_from}
 use Rattle.std.proofs.lemmas.Bool.Decides.{nat_tests}
 
 -- one more byte of the kind
@@ -29,14 +30,14 @@ value_step n (d ∷ ds) zero lt = refl
 value_step n (d ∷ ds) (suc i) lt = value_step n ds i (omega arith)
 
 -- the next digit is one, and so are those behind it
-pub digit_step : (ds : List ℕ) (i : ℕ) → i < length ds → AreAll is_digit (drop i ds) → (48 ≤ get_or ds i 0) × ((get_or ds i 0 ≤ 57) × AreAll is_digit (drop (suc i) ds))
+pub digit_step : (ds : List ℕ) (i : ℕ) → i < length ds → AreAll is_ascii_digit (drop i ds) → (48 ≤ get_or ds i 0) × ((get_or ds i 0 ≤ 57) × AreAll is_ascii_digit (drop (suc i) ds))
 digit_step [] i lt h = absurd (omega arith)
 digit_step (d ∷ ds) zero lt h = let e = h.0 in (digit_low d e, (digit_high d e, h.1))
   where
-    digit_low : (d : ℕ) → is_digit d ≡ true → 48 ≤ d
+    digit_low : (d : ℕ) → is_ascii_digit d ≡ true → 48 ≤ d
     digit_low d e = grind (arith, nat_tests)
 
-    digit_high : (d : ℕ) → is_digit d ≡ true → d ≤ 57
+    digit_high : (d : ℕ) → is_ascii_digit d ≡ true → d ≤ 57
     digit_high d e = grind (arith, nat_tests)
 digit_step (d ∷ ds) (suc i) lt h = digit_step ds i (omega arith) h
 

@@ -4,10 +4,11 @@ use Rattle.std.proofs.Math.ListN.{get_or}
 use Rattle.it_syntax.specs.declared.types.Token.{Token}
 use Rattle.it_syntax.specs.declared.types.TokenKind.{TokenKind}
 use Rattle.it_syntax.specs.declared.types.TokenKind.TheVariants as kinds
-use Rattle.it_syntax.specs.Spelling.{IsText, StartsWith, is_letter}
+use Rattle.std.specs.Char.{is_ascii_alphabetic}
+use Rattle.it_syntax.specs.Spelling.{IsText, StartsWith}
 use Rattle.it_syntax.specs.Spans.{IsLength, InLine}
 
-some_first : (text : List ℕ) → StartsWith is_letter text → 1 ≤ length text
+some_first : (text : List ℕ) → StartsWith is_ascii_alphabetic text → 1 ≤ length text
 some_first [] h = absurd h
 some_first (b ∷ bs) h = omega arith
 

@@ -8,7 +8,8 @@ use Rattle.it_syntax.specs.declared.types.Symbol.TheVariants.{LeftParen, RightPa
 use Rattle.it_syntax.specs.declared.types.TokenKind.{TokenKind}
 use Rattle.it_syntax.specs.declared.types.TokenKind.TheVariants as kinds
 use Rattle.it_syntax.specs.declared.types.Token.{Token}
-use Rattle.it_syntax.specs.Spelling.{is_letter, is_digit, is_word_byte, is_space, is_greater, AreAll, StartsWith, Stops, IsText, EndsToken, Cut, symbol_text, value_from}
+use Rattle.std.specs.Char.{is_ascii_alphabetic, is_ascii_digit}
+use Rattle.it_syntax.specs.Spelling.{is_word_byte, is_space, is_greater, AreAll, StartsWith, Stops, IsText, EndsToken, Cut, symbol_text, value_from}
 use Rattle.it_syntax.specs.Fronts.{IsLongestRun, symbol_of, starts_with, find_symbol}
 use Rattle.it_syntax.specs.ReaderSteps.{IsTokenFront}
 
@@ -44,7 +45,7 @@ other_byte f c no_c b h =
       | inr e ↦ e.0
     ]
 
-no_letter : (s : Symbol) (rest : List ℕ) → StartsWith is_letter (symbol_text s ++ rest) → ⊥
+no_letter : (s : Symbol) (rest : List ℕ) → StartsWith is_ascii_alphabetic (symbol_text s ++ rest) → ⊥
 no_letter LeftParen rest h = absurd cc
 no_letter RightParen rest h = absurd cc
 no_letter Comma rest h = absurd cc
@@ -58,7 +59,7 @@ no_letter AtMost rest h = absurd cc
 no_letter Equal rest h = absurd cc
 no_letter Assign rest h = absurd cc
 
-no_digit : (s : Symbol) (rest : List ℕ) → StartsWith is_digit (symbol_text s ++ rest) → ⊥
+no_digit : (s : Symbol) (rest : List ℕ) → StartsWith is_ascii_digit (symbol_text s ++ rest) → ⊥
 no_digit LeftParen rest h = absurd cc
 no_digit RightParen rest h = absurd cc
 no_digit Comma rest h = absurd cc
@@ -72,7 +73,7 @@ no_digit AtMost rest h = absurd cc
 no_digit Equal rest h = absurd cc
 no_digit Assign rest h = absurd cc
 
-no_both : (b : ℕ) → is_letter b ≡ true → is_digit b ≡ true → ⊥
+no_both : (b : ℕ) → is_ascii_alphabetic b ≡ true → is_ascii_digit b ≡ true → ⊥
 no_both b h k = grind (arith, nat_tests)
 
 -- ---- symbols
@@ -153,8 +154,8 @@ starts_front f (b ∷ text) rest h = h
 
 -- a token and what ends it have a shape
 pub shape_of : (k : TokenKind) (text rest : List ℕ) → IsText k text → EndsToken k rest → IsTokenFront k (length text) (text ++ rest)
-shape_of kinds.Word text rest t e = (starts_front is_letter text rest t.0, run_of_text is_word_byte text rest t.1 e, t.2)
-shape_of (kinds.Number v) text rest t e = (starts_front is_digit text rest t.0, run_of_text is_digit text rest t.1 e, rw (take_at text rest (length text) refl) t.2, t.3)
+shape_of kinds.Word text rest t e = (starts_front is_ascii_alphabetic text rest t.0, run_of_text is_word_byte text rest t.1 e, t.2)
+shape_of (kinds.Number v) text rest t e = (starts_front is_ascii_digit text rest t.0, run_of_text is_ascii_digit text rest t.1 e, rw (take_at text rest (length text) refl) t.2, t.3)
 shape_of (kinds.Symbol s) text rest t e = (subst (λ (u : List ℕ). symbol_of (u ++ rest) ≡ Some s) (sym t) (symbol_spelled s rest e), ap length t)
 
 starts_take : (f g : ℕ → Bool) (body : List ℕ) (n : ℕ) → StartsWith f body → IsLongestRun g body n → ((b : ℕ) → f b ≡ true → g b ≡ true) → StartsWith f (take n body)
@@ -162,14 +163,14 @@ starts_take f g [] n h r i = elim h [ ]
 starts_take f g (b ∷ body) zero h r i = let x = i b h in let y = r.stops in absurd cc
 starts_take f g (b ∷ body) (suc n) h r i = h
 
-letter_wordly : (b : ℕ) → is_letter b ≡ true → is_word_byte b ≡ true
+letter_wordly : (b : ℕ) → is_ascii_alphabetic b ≡ true → is_word_byte b ≡ true
 unfolding is_word_byte
 letter_wordly b h = rw h refl
 
 -- and back
 pub shape_text : (k : TokenKind) (n : ℕ) (body : List ℕ) → IsTokenFront k n body → IsText k (take n body) × (EndsToken k (drop n body) × (n ≤ length body))
-shape_text kinds.Word n body h = ((starts_take is_letter is_word_byte body n h.0 h.1 letter_wordly, h.1.all, omega (arith, length-take n body, h.2)), (h.1.stops, h.1.within))
-shape_text (kinds.Number v) n body h = ((starts_take is_digit is_digit body n h.0 h.1 (λ b e. e), h.1.all, h.2, h.3), (h.1.stops, h.1.within))
+shape_text kinds.Word n body h = ((starts_take is_ascii_alphabetic is_word_byte body n h.0 h.1 letter_wordly, h.1.all, omega (arith, length-take n body, h.2)), (h.1.stops, h.1.within))
+shape_text (kinds.Number v) n body h = ((starts_take is_ascii_digit is_ascii_digit body n h.0 h.1 (λ b e. e), h.1.all, h.2, h.3), (h.1.stops, h.1.within))
 shape_text (kinds.Symbol s) n body h =
     let is : body ≡ symbol_text s ++ drop (length (symbol_text s)) body = symbol_is s body h.0 in
     let there : symbol_of (symbol_text s ++ drop (length (symbol_text s)) body) ≡ Some s = ap symbol_of (sym is) ∙ h.0 in
@@ -180,22 +181,22 @@ shape_text (kinds.Symbol s) n body h =
 first_letter : (f : ℕ → Bool) (s : Symbol) (body : List ℕ) → symbol_of body ≡ Some s → StartsWith f body → StartsWith f (symbol_text s ++ drop (length (symbol_text s)) body)
 first_letter f s body e h = subst (StartsWith f) (symbol_is s body e) h
 
-pub both_starts : (body : List ℕ) → StartsWith is_letter body → StartsWith is_digit body → ⊥
+pub both_starts : (body : List ℕ) → StartsWith is_ascii_alphabetic body → StartsWith is_ascii_digit body → ⊥
 both_starts [] h k = elim h [ ]
 both_starts (b ∷ body) h k = no_both b h k
 
 pub one_shape : (k l : TokenKind) (n m : ℕ) (body : List ℕ) → IsTokenFront k n body → IsTokenFront l m body → (k ≡ l) × (n ≡ m)
 one_shape kinds.Word kinds.Word n m body g h = (refl, run_once is_word_byte body n m g.1 h.1)
 one_shape kinds.Word (kinds.Number v) n m body g h = absurd (both_starts body g.0 h.0)
-one_shape kinds.Word (kinds.Symbol s) n m body g h = absurd (no_letter s _ (first_letter is_letter s body h.0 g.0))
+one_shape kinds.Word (kinds.Symbol s) n m body g h = absurd (no_letter s _ (first_letter is_ascii_alphabetic s body h.0 g.0))
 one_shape (kinds.Number v) kinds.Word n m body g h = absurd (both_starts body h.0 g.0)
 one_shape (kinds.Number v) (kinds.Number w) n m body g h =
-    let same : n ≡ m = run_once is_digit body n m g.1 h.1 in
+    let same : n ≡ m = run_once is_ascii_digit body n m g.1 h.1 in
     let value : v ≡ w = sym g.2 ∙ ap (λ (i : ℕ). value_from 0 (take i body)) same ∙ h.2 in
     (ap kinds.Number value, same)
-one_shape (kinds.Number v) (kinds.Symbol s) n m body g h = absurd (no_digit s _ (first_letter is_digit s body h.0 g.0))
-one_shape (kinds.Symbol s) kinds.Word n m body g h = absurd (no_letter s _ (first_letter is_letter s body g.0 h.0))
-one_shape (kinds.Symbol s) (kinds.Number v) n m body g h = absurd (no_digit s _ (first_letter is_digit s body g.0 h.0))
+one_shape (kinds.Number v) (kinds.Symbol s) n m body g h = absurd (no_digit s _ (first_letter is_ascii_digit s body h.0 g.0))
+one_shape (kinds.Symbol s) kinds.Word n m body g h = absurd (no_letter s _ (first_letter is_ascii_alphabetic s body g.0 h.0))
+one_shape (kinds.Symbol s) (kinds.Number v) n m body g h = absurd (no_digit s _ (first_letter is_ascii_digit s body g.0 h.0))
 one_shape (kinds.Symbol s) (kinds.Symbol r) n m body g h =
     let x = g.0 in let y = h.0 in
     let same : s ≡ r = cc in
@@ -208,9 +209,9 @@ not_space f n b h = other_byte f 32 n b h
 
 text_stops : (k : TokenKind) (text rest : List ℕ) → IsText k text → Stops is_space (text ++ rest)
 text_stops kinds.Word [] rest t = elim (t.0) [ ]
-text_stops kinds.Word (b ∷ text) rest t = not_space is_letter refl b t.0
+text_stops kinds.Word (b ∷ text) rest t = not_space is_ascii_alphabetic refl b t.0
 text_stops (kinds.Number v) [] rest t = elim (t.0) [ ]
-text_stops (kinds.Number v) (b ∷ text) rest t = not_space is_digit refl b t.0
+text_stops (kinds.Number v) (b ∷ text) rest t = not_space is_ascii_digit refl b t.0
 text_stops (kinds.Symbol s) text rest t = subst (λ (u : List ℕ). Stops is_space (u ++ rest)) (sym t) (symbol_stops s rest)
   where
     symbol_stops : (s : Symbol) (rest : List ℕ) → Stops is_space (symbol_text s ++ rest)
@@ -316,16 +317,16 @@ blank_none at g rest t r run c h =
     omega (arith, length-drop g rest, e, shape_some t.kind (t.end - t.start) (drop g rest) f.shape, (shape_text t.kind (t.end - t.start) (drop g rest) f.shape).1.1)
 
 -- a word past the limit in front, and yet no token
-pub word_long : (n : ℕ) (body : List ℕ) → StartsWith is_letter body → IsLongestRun is_word_byte body n → 16 < n → (k : TokenKind) (m : ℕ) → IsTokenFront k m body → ⊥
+pub word_long : (n : ℕ) (body : List ℕ) → StartsWith is_ascii_alphabetic body → IsLongestRun is_word_byte body n → 16 < n → (k : TokenKind) (m : ℕ) → IsTokenFront k m body → ⊥
 word_long n body h r lt kinds.Word m s = omega (arith, run_once is_word_byte body n m r s.1, s.2)
 word_long n body h r lt (kinds.Number v) m s = both_starts body h s.0
-word_long n body h r lt (kinds.Symbol x) m s = no_letter x _ (first_letter is_letter x body s.0 h)
+word_long n body h r lt (kinds.Symbol x) m s = no_letter x _ (first_letter is_ascii_alphabetic x body s.0 h)
 
 -- a number past the limit in front, and yet no token
-pub number_large : (n : ℕ) (body : List ℕ) → StartsWith is_digit body → IsLongestRun is_digit body n → 2 ^ 64 ≤ value_from 0 (take n body) → (k : TokenKind) (m : ℕ) → IsTokenFront k m body → ⊥
+pub number_large : (n : ℕ) (body : List ℕ) → StartsWith is_ascii_digit body → IsLongestRun is_ascii_digit body n → 2 ^ 64 ≤ value_from 0 (take n body) → (k : TokenKind) (m : ℕ) → IsTokenFront k m body → ⊥
 number_large n body h r le kinds.Word m s = both_starts body s.0 h
-number_large n body h r le (kinds.Number v) m s = omega (arith, ap (λ (i : ℕ). value_from 0 (take i body)) (run_once is_digit body n m r s.1), s.2, s.3)
-number_large n body h r le (kinds.Symbol x) m s = no_digit x _ (first_letter is_digit x body s.0 h)
+number_large n body h r le (kinds.Number v) m s = omega (arith, ap (λ (i : ℕ). value_from 0 (take i body)) (run_once is_ascii_digit body n m r s.1), s.2, s.3)
+number_large n body h r le (kinds.Symbol x) m s = no_digit x _ (first_letter is_ascii_digit x body s.0 h)
 
 -- the test for emptiness
 pub empty_len : (n : ℕ) → true ≡ (n == 0) → n ≡ 0

@@ -22,14 +22,13 @@ abbrev pub ◌>>=◌ : {A B : Type 0} → Result A Fault → (A → Result B Fau
 (Ok x) >>= f = f x
 (Err e) >>= f = Err e
 
--- what stands there where no rule goes on: its own code, if it is no token
-abbrev pub no_rule : {A : Type 0} → List Letter → Reads A
-no_rule (Bad c ∷ ls) = Err (c, Bad c ∷ ls)
-no_rule ls = Err (codes.Word, ls)
+-- the code of what stands there, where no rule goes on: its own, if it is no token
+abbrev pub code_at : List Letter → Code
+code_at (Bad c ∷ ls) = c
+code_at ls = codes.Word
 
-abbrev pub no_rule_at : List Letter → Result (List Letter) Fault
-no_rule_at (Bad c ∷ ls) = Err (c, Bad c ∷ ls)
-no_rule_at ls = Err (codes.Word, ls)
+abbrev pub no_rule : {A : Type 0} → List Letter → Result A Fault
+no_rule ls = Err (code_at ls, ls)
 
 -- the variable of a word that may be no name (true), and may be unknown
 abbrev pub variable_or_fault : List ℕ → Bool → Option ℕ → List Letter → Reads ℕ
@@ -64,11 +63,11 @@ close_paren x ls = no_rule ls
 -- a symbol that must stand there
 unfoldable pub open_paren : List Letter → Result (List Letter) Fault
 open_paren (Sym LeftParen ∷ ls) = Ok ls
-open_paren ls = no_rule_at ls
+open_paren ls = no_rule ls
 
 unfoldable pub semicolon : List Letter → Result (List Letter) Fault
 semicolon (Sym Semicolon ∷ ls) = Ok ls
-semicolon ls = no_rule_at ls
+semicolon ls = no_rule ls
 
 -- whether `|` follows, or the end by `)`
 unfoldable pub bar_or_close : List Letter → Reads Bool

@@ -10,16 +10,16 @@ use Rattle.it_syntax.specs.WrittenRelations.{Scope}
 use Rattle.it_syntax.specs.RelationReading.{read_relation}
 use Rattle.it_syntax.specs.WrittenGivens.{markov_text, indep_text, func_text, of_text}
 use Rattle.it_syntax.specs.Givens.{GivenView, Relation, Markov, Independent, Function}
-use Rattle.it_syntax.specs.AtomReading.{Fault, Reads, ◌>>=◌, no_rule, no_rule_at, read_list, semicolon}
+use Rattle.it_syntax.specs.AtomReading.{Fault, Reads, ◌>>=◌, no_rule, read_list, semicolon}
 
 -- a symbol or a word that must stand there
 unfoldable pub arrow : List Letter → Result (List Letter) Fault
 arrow (Sym Arrow ∷ ls) = Ok ls
-arrow ls = no_rule_at ls
+arrow ls = no_rule ls
 
 unfoldable pub read_of : List Letter → Result (List Letter) Fault
-read_of (Word w ∷ ls) = if bytes_eq w of_text then Ok ls else no_rule_at (Word w ∷ ls)
-read_of ls = no_rule_at ls
+read_of (Word w ∷ ls) = if bytes_eq w of_text then Ok ls else no_rule (Word w ∷ ls)
+read_of ls = no_rule ls
 
 -- what stands behind a divider, if one stands there
 abbrev pub behind_divider : Divider → List Letter → Option (List Letter)

@@ -8,18 +8,19 @@ use Rattle.it_syntax.specs.declared.types.Token.{Token}
 use Rattle.it_syntax.specs.declared.types.SyntaxFault.{SyntaxFault}
 use Rattle.it_syntax.specs.declared.types.SyntaxFault.TheVariants.{Memory, Fault}
 use Rattle.it_syntax.specs.Fronts.{IsLongestRun, symbol_of}
-use Rattle.it_syntax.specs.Spelling.{is_letter, is_digit, is_word_byte, is_space, value_from, AreAll, StartsWith, Cut}
+use Rattle.std.specs.Char.{is_ascii_alphabetic, is_ascii_digit}
+use Rattle.it_syntax.specs.Spelling.{is_word_byte, is_space, value_from, AreAll, StartsWith, Cut}
 
 -- the first byte begins no token and is no space
 abbrev pub BeginsNothing : List ℕ → Type 0
 BeginsNothing [] = ⊥
-BeginsNothing (b ∷ bs) = (is_letter b ≡ false) × (is_digit b ≡ false) × (is_space b ≡ false) × (symbol_of (b ∷ bs) ≡ None)
+BeginsNothing (b ∷ bs) = (is_ascii_alphabetic b ≡ false) × (is_ascii_digit b ≡ false) × (is_space b ≡ false) × (symbol_of (b ∷ bs) ≡ None)
 
 -- what stands in front is wrong by this code
 abbrev pub IsWrong : Code → List ℕ → Type 0
 IsWrong codes.Byte body = BeginsNothing body
-IsWrong codes.Many body = StartsWith is_letter body × ((n : ℕ) × (IsLongestRun is_word_byte body n × (16 < n)))
-IsWrong codes.Number body = StartsWith is_digit body × ((n : ℕ) × (IsLongestRun is_digit body n × (2 ^ 64 ≤ value_from 0 (take n body))))
+IsWrong codes.Many body = StartsWith is_ascii_alphabetic body × ((n : ℕ) × (IsLongestRun is_word_byte body n × (16 < n)))
+IsWrong codes.Number body = StartsWith is_ascii_digit body × ((n : ℕ) × (IsLongestRun is_ascii_digit body n × (2 ^ 64 ≤ value_from 0 (take n body))))
 IsWrong c body = ⊥
 
 -- Behind spaces, a misspelling stands in the bytes from column `at` on.

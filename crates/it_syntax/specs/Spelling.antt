@@ -1,5 +1,7 @@
 -- The tokens of a line: words, numbers and symbols with spaces between them, each token as long as it can be.
-use Rattle.std.specs.Prelude.{◌≡◌, ℕ, ◌+◌, ◌-◌, ◌*◌, ◌^◌, ◌<◌, ◌≤◌, Bool, true, false, ◌&&◌, ◌||◌, nat_le, ◌==◌, List, [], ◌∷◌, ◌++◌, length}
+use Rattle.std.specs.Prelude.{◌≡◌, ℕ, ◌+◌, ◌-◌, ◌*◌, ◌^◌, ◌<◌, ◌≤◌, Bool, true, false, ◌||◌, ◌==◌, List, [], ◌∷◌, ◌++◌, length, codes}
+use Rattle.std.specs.List.{AllByRecursion}
+use Rattle.std.specs.Char.{is_ascii_alphabetic, is_ascii_digit}
 use Rattle.it_syntax.specs.declared.types.Symbol.{Symbol}
 use Rattle.it_syntax.specs.declared.types.Symbol.TheVariants.{LeftParen, RightParen, Comma, Semicolon, Bar, Plus, Minus, Arrow, AtLeast, AtMost, Equal, Assign}
 use Rattle.it_syntax.specs.declared.types.TokenKind.{TokenKind}
@@ -8,15 +10,9 @@ use Rattle.it_syntax.specs.declared.types.Token.{Token}
 
 -- ---- bytes, by their ASCII codes
 
-abbrev pub is_letter : ℕ → Bool
-is_letter b = (nat_le 65 b && nat_le b 90) || (nat_le 97 b && nat_le b 122)
-
-abbrev pub is_digit : ℕ → Bool
-is_digit b = nat_le 48 b && nat_le b 57
-
 -- a letter, a digit or `_`
 unfoldable pub is_word_byte : ℕ → Bool
-is_word_byte b = is_letter b || (is_digit b || b == 95)
+is_word_byte b = is_ascii_alphabetic b || (is_ascii_digit b || b == 95)
 
 abbrev pub is_space : ℕ → Bool
 is_space b = b == 32
@@ -25,8 +21,7 @@ abbrev pub is_greater : ℕ → Bool
 is_greater b = 62 == b
 
 abbrev pub AreAll : (ℕ → Bool) → List ℕ → Type 0
-AreAll f [] = Unit {0}
-AreAll f (b ∷ bs) = (f b ≡ true) × AreAll f bs
+AreAll f bytes = AllByRecursion (λ b. f b ≡ true) bytes
 
 abbrev pub StartsWith : (ℕ → Bool) → List ℕ → Type 0
 StartsWith f [] = ⊥
@@ -45,29 +40,29 @@ value_from n [] = n
 value_from n (d ∷ ds) = value_from (10 * n + (d - 48)) ds
 
 abbrev pub symbol_text : Symbol → List ℕ
-symbol_text LeftParen = 40 ∷ []
-symbol_text RightParen = 41 ∷ []
-symbol_text Comma = 44 ∷ []
-symbol_text Semicolon = 59 ∷ []
-symbol_text Bar = 124 ∷ []
-symbol_text Plus = 43 ∷ []
-symbol_text Minus = 45 ∷ []
-symbol_text Arrow = 45 ∷ 62 ∷ []
-symbol_text AtLeast = 62 ∷ 61 ∷ []
-symbol_text AtMost = 60 ∷ 61 ∷ []
-symbol_text Equal = 61 ∷ []
-symbol_text Assign = 58 ∷ 61 ∷ []
+symbol_text LeftParen = codes "("
+symbol_text RightParen = codes ")"
+symbol_text Comma = codes ","
+symbol_text Semicolon = codes ";"
+symbol_text Bar = codes "|"
+symbol_text Plus = codes "+"
+symbol_text Minus = codes "-"
+symbol_text Arrow = codes "->"
+symbol_text AtLeast = codes ">="
+symbol_text AtMost = codes "<="
+symbol_text Equal = codes "="
+symbol_text Assign = codes ":="
 
 -- The text of a token of this kind: a word has a letter first and at most 16 bytes, a number is below 2 ^ 64.
 abbrev pub IsText : TokenKind → List ℕ → Type 0
-IsText kinds.Word text = StartsWith is_letter text × AreAll is_word_byte text × (length text ≤ 16)
-IsText (kinds.Number n) text = StartsWith is_digit text × AreAll is_digit text × (value_from 0 text ≡ n) × (n < 2 ^ 64)
+IsText kinds.Word text = StartsWith is_ascii_alphabetic text × AreAll is_word_byte text × (length text ≤ 16)
+IsText (kinds.Number n) text = StartsWith is_ascii_digit text × AreAll is_ascii_digit text × (value_from 0 text ≡ n) × (n < 2 ^ 64)
 IsText (kinds.Symbol s) text = text ≡ symbol_text s
 
 -- What follows doesn't go on the token: it is as long as it can be.
 abbrev pub EndsToken : TokenKind → List ℕ → Type 0
 EndsToken kinds.Word rest = Stops is_word_byte rest
-EndsToken (kinds.Number n) rest = Stops is_digit rest
+EndsToken (kinds.Number n) rest = Stops is_ascii_digit rest
 EndsToken (kinds.Symbol Minus) rest = Stops is_greater rest
 EndsToken (kinds.Symbol s) rest = Unit {0}
 

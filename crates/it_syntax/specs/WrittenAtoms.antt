@@ -1,6 +1,6 @@
 -- Entropies and mutual informations as they are written, and how each is spelled: by letters, each with what the rules have
 -- against it where it stands. `Word` stands against H or I in the place of a name, `Name` against a name that is no variable.
-use Rattle.std.specs.Prelude.{ℕ, ◌^◌, bit_or, Bool, true, false, List, [], ◌∷◌, Option, Some, None, ◌||◌, if◌then◌else◌, bytes_eq}
+use Rattle.std.specs.Prelude.{ℕ, ◌^◌, bit_or, Bool, true, false, List, [], ◌∷◌, Option, Some, None, ◌||◌, if◌then◌else◌, bytes_eq, codes}
 use Rattle.it_syntax.specs.declared.types.Symbol.TheVariants.{LeftParen, RightParen, Comma, Semicolon, Bar, Plus, Minus}
 use Rattle.it_syntax.specs.declared.types.Code.{Code}
 use Rattle.it_syntax.specs.declared.types.Code.TheVariants as codes
@@ -31,10 +31,10 @@ pub data TermSign : Type 0 where
 
 -- `H` and `I`, which are no names
 abbrev pub entropy_text : List ℕ
-entropy_text = 72 ∷ []
+entropy_text = codes "H"
 
 abbrev pub mutual_text : List ℕ
-mutual_text = 73 ∷ []
+mutual_text = codes "I"
 
 -- whether it stands for one of Shannon's information measures
 abbrev pub is_measure : List ℕ → Bool

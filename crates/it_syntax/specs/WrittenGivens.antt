@@ -1,7 +1,7 @@
 -- The constraints of `given` lines as they are written, and how each is spelled. A relation holds no rates; `markov A -> B -> C`
 -- is a chain of 3 to 16 lists, `indep A ; B | W` an independence of 2 to 16, `func A of B` a function. What begins with `markov`,
 -- `indep` or `func` is never a relation.
-use Rattle.std.specs.Prelude.{◌≡◌, ℕ, zero, suc, Bool, false, List, [], ◌∷◌, Option, Some, None, ◌||◌, bytes_eq}
+use Rattle.std.specs.Prelude.{◌≡◌, ℕ, zero, suc, Bool, false, List, [], ◌∷◌, Option, Some, None, ◌||◌, bytes_eq, codes}
 use Rattle.it_syntax.specs.declared.rest.Divider.{Divider}
 use Rattle.it_syntax.specs.declared.rest.Divider.TheVariants.{Arrows, Semicolons}
 use Rattle.it_syntax.specs.declared.types.Symbol.TheVariants.{Arrow, Semicolon, Bar}
@@ -12,16 +12,16 @@ use Rattle.it_syntax.specs.Givens.{GivenView}
 use Rattle.it_syntax.specs.Givens as given_views
 
 abbrev pub markov_text : List ℕ
-markov_text = 109 ∷ 97 ∷ 114 ∷ 107 ∷ 111 ∷ 118 ∷ []
+markov_text = codes "markov"
 
 abbrev pub indep_text : List ℕ
-indep_text = 105 ∷ 110 ∷ 100 ∷ 101 ∷ 112 ∷ []
+indep_text = codes "indep"
 
 abbrev pub func_text : List ℕ
-func_text = 102 ∷ 117 ∷ 110 ∷ 99 ∷ []
+func_text = codes "func"
 
 abbrev pub of_text : List ℕ
-of_text = 111 ∷ 102 ∷ []
+of_text = codes "of"
 
 -- `markov`, `indep` or `func`
 abbrev pub is_form : List ℕ → Bool

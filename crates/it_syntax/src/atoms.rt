@@ -20,11 +20,11 @@ fn close_paren(set: VarSet, rest: &mut Rest<'_>) -> Result<VarSet, Stop>
             *rest = behind;
             Ok(set)
         }
-        (Piece::Bad(code), _) => Err(Stop::Fault(code)),
-        _ => Err(Stop::Fault(Code::Word)),
+        _ => Err(rest.fault()),
     }
 }
 
+/// A `(` that must stand there.
 #[tactic(auto, unfolding(crate::specs::AtomReading::open_paren))]
 fn open_paren(rest: &mut Rest<'_>) -> Result<(), Stop>
     ensures { Passes result (left rest.new) (open_paren (left rest.old)) }
@@ -34,11 +34,11 @@ fn open_paren(rest: &mut Rest<'_>) -> Result<(), Stop>
             *rest = behind;
             Ok(())
         }
-        (Piece::Bad(code), _) => Err(Stop::Fault(code)),
-        _ => Err(Stop::Fault(Code::Word)),
+        _ => Err(rest.fault()),
     }
 }
 
+/// A `;` that must stand there.
 #[tactic(auto, unfolding(crate::specs::AtomReading::semicolon))]
 pub fn semicolon(rest: &mut Rest<'_>) -> Result<(), Stop>
     ensures { Passes result (left rest.new) (semicolon (left rest.old)) }
@@ -48,8 +48,7 @@ pub fn semicolon(rest: &mut Rest<'_>) -> Result<(), Stop>
             *rest = behind;
             Ok(())
         }
-        (Piece::Bad(code), _) => Err(Stop::Fault(code)),
-        _ => Err(Stop::Fault(Code::Word)),
+        _ => Err(rest.fault()),
     }
 }
 
@@ -67,8 +66,7 @@ fn bar_or_close(rest: &mut Rest<'_>) -> Result<bool, Stop>
             *rest = behind;
             Ok(false)
         }
-        (Piece::Bad(code), _) => Err(Stop::Fault(code)),
-        _ => Err(Stop::Fault(Code::Word)),
+        _ => Err(rest.fault()),
     }
 }
 
@@ -109,6 +107,7 @@ fn mutual(rest: &mut Rest<'_>, names: &Names) -> Result<Atom, Stop>
     Ok(Atom::Mutual { left, right, given })
 }
 
+/// An entropy or a mutual information.
 #[tactic(auto, unfolding(crate::specs::AtomReading::read_atom))]
 pub fn atom(rest: &mut Rest<'_>, names: &Names) -> Result<Atom, Stop>
     ensures { Gives result (left rest.new) (read_atom (env_of names.now) (left rest.old)) }
@@ -125,7 +124,6 @@ pub fn atom(rest: &mut Rest<'_>, names: &Names) -> Result<Atom, Stop>
                 Err(Stop::Fault(Code::Word))
             }
         }
-        (Piece::Bad(code), _) => Err(Stop::Fault(code)),
-        _ => Err(Stop::Fault(Code::Word)),
+        _ => Err(rest.fault()),
     }
 }

@@ -3,15 +3,17 @@ ghost use Rattle.std.specs.Prelude.{◌≡◌, ◌≤◌, ◌<◌, ◌^◌, ℕ,
 ghost use Rattle.it_syntax.specs.ReaderSteps.{IsTokenFront};
 ghost use Rattle.it_syntax.specs.Misspellings.{IsWrong, SpellsUntil, IsMisspelled};
 ghost use Rattle.it_syntax.specs.Spans.{InLine};
-ghost use Rattle.it_syntax.specs.Spelling.{is_letter, is_digit, is_space, value_from, symbol_text, AreAll, StartsWith, Stops};
+ghost use Rattle.std.specs.Char.{is_ascii_alphabetic, is_ascii_digit};
+ghost use Rattle.it_syntax.specs.Spelling.{is_space, value_from, symbol_text, AreAll, StartsWith, Stops};
 
-use crate::runs::{digits, is_digit, is_letter, spaces, symbol, word_bytes};
+use crate::runs::{digits, spaces, symbol, word_bytes};
 use crate::types::{Code, LineTokens, Misspelling, Symbol, SyntaxFault, Token, TokenKind};
 use std::alloc::{AllocError, Global};
 
 /// The most bytes that a word has.
 const LONGEST_WORD: usize = 16;
 
+/// The bytes behind the first n.
 fn behind(bytes: &[u8], n: usize) -> &[u8]
     requires { n ≤ length bytes.now }
     ensures { result.now ≡ drop n bytes.now }
@@ -19,6 +21,7 @@ fn behind(bytes: &[u8], n: usize) -> &[u8]
     bytes.split_at(n).1
 }
 
+/// How many bytes a symbol has.
 fn symbol_len(symbol: Symbol) -> usize
     ensures { result ≡ length (symbol_text symbol) }
 {
@@ -31,7 +34,7 @@ fn symbol_len(symbol: Symbol) -> usize
 /// The number that the digits are.
 #[tactic(auto, using(crate::proofs::RunLemmas::value_lemmas))]
 fn value(text: &[u8]) -> Option<u64>
-    requires { AreAll is_digit text.now }
+    requires { AreAll is_ascii_digit text.now }
     ensures { SomeIff result (value_from 0 text.now < 2 ^ 64) (value_from 0 text.now) }
 {
     let mut n: u64 = 0;
@@ -41,8 +44,9 @@ fn value(text: &[u8]) -> Option<u64>
     Some(n)
 }
 
+/// The word in front and its length, or `Many` for more than 16 bytes.
 fn word(body: &[u8]) -> Result<(TokenKind, usize), Code>
-    requires { StartsWith is_letter body.now }
+    requires { StartsWith is_ascii_alphabetic body.now }
     ensures shape { IfOk result (λ x. IsTokenFront x.0 x.1 body.now) }
     ensures wrong { IfErr result (λ c. IsWrong c body.now) }
 {
@@ -54,8 +58,9 @@ fn word(body: &[u8]) -> Result<(TokenKind, usize), Code>
     }
 }
 
+/// The number in front and its length, or `Number` for one above 2^64 - 1.
 fn number(body: &[u8]) -> Result<(TokenKind, usize), Code>
-    requires { StartsWith is_digit body.now }
+    requires { StartsWith is_ascii_digit body.now }
     ensures shape { IfOk result (λ x. IsTokenFront x.0 x.1 body.now) }
     ensures wrong { IfErr result (λ c. IsWrong c body.now) }
 {
@@ -74,8 +79,8 @@ fn front(body: &[u8]) -> Result<(TokenKind, usize), Code>
     ensures wrong { IfErr result (λ c. IsWrong c body.now) }
 {
     match body {
-        [first, ..] if is_letter(*first) => word(body),
-        [first, ..] if is_digit(*first) => number(body),
+        [first, ..] if first.is_ascii_alphabetic() => word(body),
+        [first, ..] if first.is_ascii_digit() => number(body),
         _ => match symbol(body) {
             Some(s) => Ok((TokenKind::Symbol(s), symbol_len(s))),
             None => Err(Code::Byte),

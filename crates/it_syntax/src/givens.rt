@@ -36,6 +36,7 @@ const FURTHER_LINKS: usize = 13;
 /// The most members of an independence, behind its first two: 16 in all.
 const FURTHER_MEMBERS: usize = 14;
 
+/// A `->` that must stand there.
 #[tactic(auto, unfolding(crate::specs::GivenReading::arrow))]
 fn arrow(rest: &mut Rest<'_>) -> Result<(), Stop>
     ensures { Passes result (left rest.new) (arrow (left rest.old)) }
@@ -45,11 +46,11 @@ fn arrow(rest: &mut Rest<'_>) -> Result<(), Stop>
             *rest = behind;
             Ok(())
         }
-        (Piece::Bad(code), _) => Err(Stop::Fault(code)),
-        _ => Err(Stop::Fault(Code::Word)),
+        _ => Err(rest.fault()),
     }
 }
 
+/// An `of` that must stand there.
 #[tactic(auto, unfolding(crate::specs::GivenReading::read_of))]
 fn word_of(rest: &mut Rest<'_>) -> Result<(), Stop>
     ensures { Passes result (left rest.new) (read_of (left rest.old)) }
@@ -63,8 +64,7 @@ fn word_of(rest: &mut Rest<'_>) -> Result<(), Stop>
                 Err(Stop::Fault(Code::Word))
             }
         }
-        (Piece::Bad(code), _) => Err(Stop::Fault(code)),
-        _ => Err(Stop::Fault(Code::Word)),
+        _ => Err(rest.fault()),
     }
 }
 
@@ -94,6 +94,7 @@ fn three(alloc: Global, first: VarSet, second: VarSet, third: VarSet) -> Result<
     Ok(sets)
 }
 
+/// A list of two sets.
 fn two(alloc: Global, first: VarSet, second: VarSet) -> Result<Vec<VarSet>, Stop>
     ensures sets { IfOk result (λ sets. sets.items ≡ first ∷ second ∷ []) }
     ensures memory { IfErr result (λ e. e ≡ Memory) }
@@ -161,6 +162,7 @@ fn plain_relation(alloc: Global, rest: &mut Rest<'_>, names: &Names) -> Result<G
     Ok(Given::Relation(relation))
 }
 
+/// A constraint, without the line's end.
 #[tactic(auto, unfolding(crate::specs::GivenReading::read_given, crate::specs::Scopes::scope_of))]
 pub fn given_part(alloc: Global, rest: &mut Rest<'_>, names: &Names) -> Result<Given, Stop>
     ensures { GivesBy given_view result (left rest.new) (read_given (scope_of names.now false) (left rest.old)) }
@@ -197,7 +199,7 @@ pub fn given_to_end(alloc: Global, rest: &mut Rest<'_>, names: &Names) -> Result
 /// The constraint that a `given` line is from its token number `from` on. `tokens` are what the call `line_tokens` gave for
 /// this line.
 ///
-/// A constraint is a relation without rates, as the call `comparison` reads it; `markov A -> B -> C` with further members,
+/// A constraint is a relation without rates, as the call `relation` reads it; `markov A -> B -> C` with further members,
 /// 3 to 16 in all; `indep A ; B` with further members, 2 to 16 in all, and then perhaps `| W`; or `func Z of X`. What
 /// begins with the word `markov`, `indep` or `func` is never a relation. The fault is the first; `Many` also comes at the
 /// first name of the member past the limit.

@@ -25,6 +25,7 @@ pub fn is_measure(text: &[u8]) -> bool
     text == ENTROPY || text == MUTUAL
 }
 
+/// The number of a variable, None for a name that isn't one.
 #[tactic(auto, unfolding(crate::specs::Scopes::env_of))]
 pub fn variable(names: &Names, name: &[u8]) -> Option<u8>
     ensures found { result ≡ env_of names.now name.now }
@@ -33,6 +34,7 @@ pub fn variable(names: &Names, name: &[u8]) -> Option<u8>
     names.variable(name)
 }
 
+/// The name of a variable, which must stand there, by the variable's number.
 #[tactic(auto, unfolding(crate::specs::AtomReading::read_name))]
 fn name(rest: &mut Rest<'_>, names: &Names) -> Result<u8, Stop>
     ensures gives { Gives result (left rest.new) (read_name (env_of names.now) (left rest.old)) }
@@ -52,8 +54,7 @@ fn name(rest: &mut Rest<'_>, names: &Names) -> Result<u8, Stop>
                 None => Err(Stop::Fault(Code::Name)),
             }
         }
-        (Piece::Bad(code), _) => Err(Stop::Fault(code)),
-        _ => Err(Stop::Fault(Code::Word)),
+        _ => Err(rest.fault()),
     }
 }
 

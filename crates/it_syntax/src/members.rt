@@ -51,8 +51,7 @@ fn spare_fault(rest: &Rest<'_>, names: &Names) -> Stop
                 None => Stop::Fault(Code::Name),
             }
         }
-        (Piece::Bad(code), _) => Stop::Fault(code),
-        _ => Stop::Fault(Code::Word),
+        _ => rest.fault(),
     }
 }
 

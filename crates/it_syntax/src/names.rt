@@ -97,6 +97,7 @@ impl Names {
         index_in(&self.rates, name)
     }
 
+    /// The name of variable i.
     pub fn variable_name(&self, i: u8) -> &[u8]
         requires { i < length self.now.variables }
         ensures { slice_get self.now.variables i ≡ Some result.now }
@@ -104,6 +105,7 @@ impl Names {
         self.variables.as_slice()[i as usize].as_slice()
     }
 
+    /// The name of rate r.
     pub fn rate_name(&self, i: u8) -> &[u8]
         requires { i < length self.now.rates }
         ensures { slice_get self.now.rates i ≡ Some result.now }
@@ -123,6 +125,7 @@ impl Names {
     }
 }
 
+/// The place of a name in a list of names.
 fn index_in(names: &IndexSet<Vec<u8>>, name: &[u8]) -> Option<u8>
     requires { length names.now.keys ≤ 16 }
     ensures index { result ≡ index_of (map (λ v. v.items) names.now.keys) name.now }

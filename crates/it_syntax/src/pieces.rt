@@ -1,12 +1,15 @@
 //! The pieces of a line, one after the other.
 ghost use Rattle.std.specs.Prelude.{◌≡◌, ◌≤◌, length};
+ghost use Rattle.it_syntax.specs.declared.rest.Stop.TheVariants.{Fault};
+ghost use Rattle.it_syntax.specs.AtomReading.{code_at};
 ghost use Rattle.it_syntax.specs.Gives.{left};
 ghost use Rattle.it_syntax.specs.ReaderSteps.{HasLength, with_front};
 ghost use Rattle.it_syntax.specs.ReaderSteps.{token_text};
 
-use crate::rest::{Piece, Rest};
-use crate::types::{Token, TokenKind};
+use crate::rest::{Piece, Rest, Stop};
+use crate::types::{Code, Token, TokenKind};
 
+/// The bytes of a token of this line.
 fn text<'a>(line: &'a [u8], token: &Token) -> &'a [u8]
     requires order { token.now.start ≤ token.now.end }
     requires inside { token.now.end ≤ length line.now }
@@ -41,6 +44,16 @@ impl<'a> Rest<'a> {
                 Some(misspelling) => (Piece::Bad(misspelling.code), self),
                 None => (Piece::End, self),
             },
+        }
+    }
+
+    /// The fault at the first piece where no rule goes on: its own, if it is a misspelling.
+    pub fn fault(self) -> Stop
+        ensures { result ≡ Fault (code_at (left self.entry)) }
+    {
+        match self.front() {
+            (Piece::Bad(code), _) => Stop::Fault(code),
+            _ => Stop::Fault(Code::Word),
         }
     }
 }

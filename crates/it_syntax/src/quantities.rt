@@ -46,11 +46,11 @@ fn quantity(rest: &mut Rest<'_>, names: &Names, rates: bool) -> Result<Atom, Sto
                 None => Err(Stop::Fault(Code::Name)),
             }
         }
-        (Piece::Bad(code), _) => Err(Stop::Fault(code)),
-        _ => Err(Stop::Fault(Code::Word)),
+        _ => Err(rest.fault()),
     }
 }
 
+/// The term behind its number; `0` may stand alone.
 #[tactic(auto, unfolding(crate::specs::RelationReading::after_number))]
 fn after_number(
     negative: bool,
@@ -70,7 +70,6 @@ fn after_number(
                 atom,
             })
         }
-        (Piece::Bad(code), _) if number != 0 => Err(Stop::Fault(code)),
         _ => {
             if number == 0 {
                 Ok(Term {
@@ -79,7 +78,7 @@ fn after_number(
                     atom: Atom::Nothing,
                 })
             } else {
-                Err(Stop::Fault(Code::Word))
+                Err(rest.fault())
             }
         }
     }
@@ -122,7 +121,6 @@ pub fn over(rest: &Rest<'_>, names: &Names, rates: bool) -> Stop
                 None => Stop::Fault(Code::Name),
             }
         }
-        (Piece::Bad(code), _) => Stop::Fault(code),
-        _ => Stop::Fault(Code::Word),
+        _ => rest.fault(),
     }
 }

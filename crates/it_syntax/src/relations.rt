@@ -14,12 +14,13 @@ ghost use Rattle.it_syntax.specs.Spans.{InLine};
 use crate::names::Names;
 use crate::rest::{Piece, Rest, Stop};
 use crate::sums::sum;
-use crate::types::{Code, Expr, LineTokens, Relation, Sign, Symbol, SyntaxFault};
+use crate::types::{Expr, LineTokens, Relation, Sign, Symbol, SyntaxFault};
 use std::alloc::Global;
 
 /// The most terms of a relation, both sides together.
 const MOST_TERMS: usize = 256;
 
+/// A `>=`, `<=` or `=`, which must stand there.
 #[tactic(auto, unfolding(crate::specs::RelationReading::read_compare))]
 fn compare(rest: &mut Rest<'_>) -> Result<Sign, Stop>
     ensures { Gives result (left rest.new) (read_compare (left rest.old)) }
@@ -37,8 +38,7 @@ fn compare(rest: &mut Rest<'_>) -> Result<Sign, Stop>
             *rest = behind;
             Ok(Sign::Equal)
         }
-        (Piece::Bad(code), _) => Err(Stop::Fault(code)),
-        _ => Err(Stop::Fault(Code::Word)),
+        _ => Err(rest.fault()),
     }
 }
 
@@ -69,8 +69,7 @@ pub fn line_end(rest: &Rest<'_>) -> Result<(), Stop>
 {
     match rest.front() {
         (Piece::End, _) => Ok(()),
-        (Piece::Bad(code), _) => Err(Stop::Fault(code)),
-        _ => Err(Stop::Fault(Code::Word)),
+        _ => Err(rest.fault()),
     }
 }
 

@@ -1,27 +1,17 @@
 //! What stands at the front of some bytes: spaces, digits, the bytes of a word, a symbol.
 ghost use Rattle.std.specs.Prelude.{◌≡◌};
-ghost use Rattle.it_syntax.specs.Spelling.{is_letter, is_digit, is_word_byte, is_space};
+ghost use Rattle.std.specs.Char.{is_ascii_alphabetic, is_ascii_digit};
+ghost use Rattle.it_syntax.specs.Spelling.{is_word_byte, is_space};
 ghost use Rattle.it_syntax.specs.Fronts.{IsLongestRun, symbol_of};
 
 use crate::types::Symbol;
 
-pub fn is_letter(b: u8) -> bool
-    ensures { result ≡ is_letter b }
-{
-    (b'A' <= b && b <= b'Z') || (b'a' <= b && b <= b'z')
-}
-
-pub fn is_digit(b: u8) -> bool
-    ensures { result ≡ is_digit b }
-{
-    b'0' <= b && b <= b'9'
-}
-
+/// Whether it is a letter, a digit or `_`.
 #[tactic(auto, unfolding(crate::specs::Spelling::is_word_byte))]
 fn is_word_byte(b: u8) -> bool
     ensures { result ≡ is_word_byte b }
 {
-    is_letter(b) || (is_digit(b) || b == b'_')
+    b.is_ascii_alphabetic() || (b.is_ascii_digit() || b == b'_')
 }
 
 /// The number of spaces in front.
@@ -53,10 +43,10 @@ pub fn word_bytes(bytes: &[u8]) -> usize
 /// The number of digits in front.
 #[tactic(auto, using(crate::proofs::RunLemmas::run_lemmas))]
 pub fn digits(bytes: &[u8]) -> usize
-    ensures { IsLongestRun is_digit bytes.now result }
+    ensures { IsLongestRun is_ascii_digit bytes.now result }
 {
     for (i, b) in bytes.iter().enumerate() {
-        if !is_digit(*b) {
+        if !b.is_ascii_digit() {
             return i;
         }
     }

@@ -20,6 +20,7 @@ pub enum Symbol {
     Assign,
 }
 
+/// What a token is: a word of at most 16 bytes, a number with its value, or a symbol.
 #[derive(Clone, Copy, Debug, PartialEq, Eq)]
 pub enum TokenKind {
     Word,
@@ -133,6 +134,7 @@ pub struct Expr {
     pub terms: Vec<Term>,
 }
 
+/// Two sums and the sign between them.
 #[derive(Debug, Drop)]
 pub struct Relation {
     pub left: Expr,

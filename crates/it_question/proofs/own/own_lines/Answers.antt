@@ -1,9 +1,8 @@
 use Rattle.std.proofs.Common.{◌≡◌, ◌+◌, ◌-◌, sym, subst, arith}
 use Rattle.it_syntax.specs.Givens.{given_view}
 use Rattle.it_syntax.specs.Meaning.{relation_view}
-use Rattle.it_question.specs.Bodies.{own_lines_view}
 use Rattle.it_question.specs.Cursors.{left}
-use Rattle.it_question.specs.Questions.{OwnLinesView}
+use Rattle.it_question.specs.Questions.{OwnLinesView, own_lines_view}
 use Rattle.it_question.specs.Reading.{with_lines, read_own, read_lines}
 use Rattle.it_question.proofs.OwnLineLemmas.{given_goes_on, row_goes_on, given_ends, row_ends, given_too_many, row_too_many, is_done}
 use Rattle.it_question.proofs.own.own_lines.Goals as goal

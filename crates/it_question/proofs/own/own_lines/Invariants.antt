@@ -1,8 +1,8 @@
 use Rattle.std.proofs.Common.{◌≡◌, ◌+◌}
-use Rattle.it_question.specs.Bodies.{own_lines_view}
 use Rattle.it_question.specs.Cursors.{left}
 use Rattle.it_question.specs.Reading.{with_lines, read_own, read_lines}
 use Rattle.it_question.proofs.own.own_lines.Given as goal
+use Rattle.it_question.specs.Questions.{own_lines_view}
 
 -- the lines so far with those still read are the whole
 abbrev pub invariant-loop-behind : goal.invariant-loop-behind

@@ -1,0 +1,41 @@
+-- The problem and the rows that a question poses: there is one of each, and the rows are of the problem's space.
+use Rattle.std.proofs.Common.{◌≡◌, ℕ, suc, List, [], ◌∷◌, length, All, refl, sym, ap, ap₂, subst, ◌∙◌}
+use Rattle.std.proofs.lemmas.List.Elements.{All-nil, All-cons}
+use Rattle.it_space.specs.declared.problems.Constraint.{Constraint}
+use Rattle.it_space.specs.declared.spaces.Space.{Space}
+use Rattle.it_space.specs.Rows.{Terms, IsUpTo}
+use Rattle.it_space.specs.Spaces.{size_of}
+use Rattle.it_polymatroid.specs.Certificates.{Form}
+use Rattle.it_syntax.specs.Meaning.{RelationView}
+use Rattle.it_question.specs.Questions.{BodyView}
+use Rattle.it_canon.specs.Demands.{AreStated}
+use Rattle.it_canon.specs.Targets.{targets}
+use Rattle.it_canon.specs.QuestionDemands.{problem_names, question_demands, AreRowsOf, Poses}
+use Rattle.it_canon.proofs.UniqueRows.{one_constraint_list, one_row_list}
+
+pub one_problem : (q : BodyView) (r : RelationView) (a b : Poses q r) → a.problem ≡ b.problem
+one_problem q r a b = ap₂ (λ (s : Space) (cs : List Constraint). record { space = s; constraints = cs }) same (one_constraint_list b.problem.space (question_demands q) a.problem.constraints b.problem.constraints
+    (subst (λ (s : Space). AreStated s (question_demands q) a.problem.constraints) same a.constraints) b.constraints)
+  where
+    same : a.problem.space ≡ b.problem.space
+    same = a.space ∙ sym b.space
+
+abbrev targets_of : BodyView → RelationView → List Form
+targets_of q r = targets (length (problem_names q).variables) r
+
+pub same_rows : (q : BodyView) (r : RelationView) (a b : Poses q r) → a.rows ≡ b.rows
+same_rows q r a b = one_row_list b.problem.space (targets_of q r) a.rows b.rows (subst (λ (s : Space). AreRowsOf s (targets_of q r) a.rows) (a.space ∙ sym b.space) a.targets_are) b.targets_are
+
+-- the coordinates of rows are of their space
+pub rows_up_to : (s : Space) (fs : List Form) (ts : List Terms) → AreRowsOf s fs ts → All (IsUpTo (size_of s)) ts
+rows_up_to s [] [] h = All-nil (IsUpTo (size_of s))
+rows_up_to s [] (t ∷ ts) h = absurd h
+rows_up_to s (f ∷ fs) [] h = absurd h
+rows_up_to s (f ∷ fs) (t ∷ ts) h = All-cons (IsUpTo (size_of s)) t ts h.0.coordinates (rows_up_to s fs ts h.1)
+
+-- there is one for each form
+pub as_many_rows : (s : Space) (fs : List Form) (ts : List Terms) → AreRowsOf s fs ts → length ts ≡ length fs
+as_many_rows s [] [] h = refl
+as_many_rows s [] (t ∷ ts) h = absurd h
+as_many_rows s (f ∷ fs) [] h = absurd h
+as_many_rows s (f ∷ fs) (t ∷ ts) h = ap suc (as_many_rows s fs ts h.1)

@@ -1,0 +1,21 @@
+use Rattle.std.proofs.Common.{List, map, subst}
+use Rattle.it_syntax.specs.declared.types.Given.{Given}
+use Rattle.it_syntax.specs.declared.types.Relation.{Relation}
+use Rattle.it_syntax.specs.Givens.{given_view}
+use Rattle.it_syntax.specs.Meaning.{relation_view}
+use Rattle.it_canon.specs.Demands.{AreStated}
+use Rattle.it_canon.specs.QuestionDemands.{given_demands, row_demands}
+use Rattle.it_canon.proofs.ProblemLemmas.{stated-append}
+use Rattle.it_canon.proofs.problems.region_lines.Goals as goal
+
+pub returns : goal.returns
+returns c =
+    let n = c.args.space.variables in
+    let first_given = c.args.first_given in
+    let first_row = c.args.first_row in
+    let givens = c.args.region.now.lines.givens.items in
+    let rows = c.args.region.now.lines.rows.items in
+    stated-append c.args.space (given_demands n first_given (map given_view givens)) (row_demands n first_row (map relation_view rows)) c.in_ok-constraints.constraints.items c.in_ok-rows.rows.items c.append.new.self.items
+    (subst (λ (gs : List Given). AreStated c.args.space (given_demands n first_given (map given_view gs)) c.in_ok-constraints.constraints.items) c.as_slice.ensures.value c.in_ok-constraints.ensures)
+    (subst (λ (rs : List Relation). AreStated c.args.space (row_demands n first_row (map relation_view rs)) c.in_ok-rows.rows.items) c.as_slice-2.ensures.value c.in_ok-rows.ensures)
+    c.in_ok-append.ensures.items
