@@ -1,0 +1,95 @@
+-- The command lines of the tables, computed.
+use Rattle.std.proofs.Common.{refl}
+use Rattle.clap.proofs.OnLiterals.{clap_on_literals}
+use Rattle.it_settings.specs.App.{option_rule, mode_rule, bare_app, with_option, itip_app}
+use Rattle.it_settings.specs.Settings.{settings_of, settings_by, answer_of, check_of, number_of, format_of}
+use Rattle.it_settings.specs.Rows.{ModesAreRead, FormsAreRead, NumbersAreRead, OtherModesAreRead}
+
+pub modes_are_read : ModesAreRead
+unfolding clap_on_literals settings_of settings_by answer_of check_of number_of format_of itip_app with_option bare_app mode_rule option_rule
+modes_are_read = record {
+  answer = refl;
+  check = refl;
+  bench = refl;
+  no_words = refl;
+  unknown = refl;
+  capital = refl;
+  cut_short = refl;
+  empty = refl;
+  twice = refl;
+  two_modes = refl;
+  help = refl;
+  help_of_mode = refl;
+  help_word = refl;
+  short_help = refl;
+  version = refl;
+  behind_hyphens = refl;
+  hyphens_behind = refl;
+  options_behind_hyphens = refl;
+  only_option = refl;
+}
+
+pub forms_are_read : FormsAreRead
+unfolding clap_on_literals settings_of settings_by answer_of check_of number_of format_of itip_app with_option bare_app mode_rule option_rule
+forms_are_read = record {
+  spaced = refl;
+  joined = refl;
+  text = refl;
+  proof = refl;
+  capitals = refl;
+  before_mode = refl;
+  all_options = refl;
+  twice = refl;
+  twice_joined = refl;
+  cut_short = refl;
+  one_hyphen = refl;
+  short = refl;
+  unknown = refl;
+  no_value = refl;
+  option_as_value = refl;
+  empty_joined = refl;
+  empty_spaced = refl;
+  empty_format = refl;
+}
+
+pub numbers_are_read : NumbersAreRead
+unfolding clap_on_literals settings_of settings_by answer_of check_of number_of format_of itip_app with_option bare_app mode_rule option_rule
+numbers_are_read = record {
+  pivots_none = refl;
+  pivots_least = refl;
+  pivots_most = refl;
+  pivots_more = refl;
+  rows_none = refl;
+  rows_least = refl;
+  rows_most = refl;
+  rows_more = refl;
+  tries_none = refl;
+  tries_least = refl;
+  tries_most = refl;
+  tries_more = refl;
+  zeros_before = refl;
+  ten_digits = refl;
+  eleven_digits = refl;
+  past_32_bits = refl;
+  hyphen = refl;
+  joined_hyphen = refl;
+  plus = refl;
+  blank = refl;
+  letter = refl;
+  point = refl;
+}
+
+pub other_modes_are_read : OtherModesAreRead
+unfolding clap_on_literals settings_of settings_by answer_of check_of number_of format_of itip_app with_option bare_app mode_rule option_rule
+other_modes_are_read = record {
+  check_format = refl;
+  check_pivots = refl;
+  check_rows = refl;
+  check_tries = refl;
+  check_seed = refl;
+  check_count = refl;
+  answer_seed = refl;
+  answer_count = refl;
+  bench_seed = refl;
+  bench_hyphen = refl;
+}

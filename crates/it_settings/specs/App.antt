@@ -1,0 +1,26 @@
+-- The command as clap reads it (clap: the command line parser of Rust).
+use Rattle.std.specs.Prelude.{true, Some, codes}
+use Rattle.clap.specs.Words.{App, Rule, Text, new_app, new_rule, with_rule}
+use Rattle.clap.specs.declared.builder.action.ArgAction.TheVariants.{Set}
+
+-- an option `--name value` or `--name=value`
+unfoldable pub option_rule : Text → Rule
+option_rule name = record (new_rule name) { long = Some name; action = Some Set }
+
+-- the one word that must be there
+unfoldable pub mode_rule : Rule
+mode_rule = record (new_rule (codes "mode")) { action = Some Set; required = true }
+
+-- neither a program's name before the words nor a flag for help or a version
+unfoldable pub bare_app : App
+bare_app = let a = new_app (codes "itip") in record a { top = record a.top { no_binary_name = true; disable_help_flag = true; disable_version_flag = true } }
+
+-- one more option
+unfoldable pub with_option : App → Text → App
+with_option a name = with_rule a (option_rule name)
+
+-- the mode, and the options of all modes
+unfoldable pub itip_app : App
+itip_app =
+    with_option (with_option (with_option (with_option (with_option (with_option (with_rule bare_app mode_rule)
+    (codes "format")) (codes "pivots")) (codes "rows")) (codes "tries")) (codes "seed")) (codes "count")

@@ -1,0 +1,4 @@
+pub mod App
+pub mod Settings
+pub mod ValuesViews
+pub mod Rows

@@ -1,0 +1,93 @@
+-- Command lines and what they are read as.
+use Rattle.std.specs.Prelude.{ℕ, ◌≡◌, List, [], ◌∷◌, Some, None, codes}
+use Rattle.it_settings.specs.declared.types.Format.TheVariants as formats
+use Rattle.it_settings.specs.declared.types.Settings.{Settings}
+use Rattle.it_settings.specs.declared.types.Settings.TheVariants as settings
+use Rattle.it_settings.specs.Settings.{settings_of}
+
+abbrev pub AreReadAs : List (List ℕ) → Settings → Type 0
+AreReadAs words s = settings_of words ≡ Some s
+
+abbrev pub HaveNoReading : List (List ℕ) → Type 0
+HaveNoReading words = settings_of words ≡ None
+
+-- the word for the mode, alone and among others
+pub record ModesAreRead : Type 0 where
+  pub answer : AreReadAs (codes "answer" ∷ []) (settings.Answer formats.Text 20000 512 256)
+  pub check : AreReadAs (codes "check" ∷ []) settings.Check
+  pub bench : HaveNoReading (codes "bench" ∷ [])
+  pub no_words : HaveNoReading []
+  pub unknown : HaveNoReading (codes "prove" ∷ [])
+  pub capital : HaveNoReading (codes "Answer" ∷ [])
+  pub cut_short : HaveNoReading (codes "answe" ∷ [])
+  pub empty : HaveNoReading (codes "" ∷ [])
+  pub twice : HaveNoReading (codes "check" ∷ codes "check" ∷ [])
+  pub two_modes : HaveNoReading (codes "answer" ∷ codes "check" ∷ [])
+  pub help : HaveNoReading (codes "--help" ∷ [])
+  pub help_of_mode : HaveNoReading (codes "answer" ∷ codes "--help" ∷ [])
+  pub help_word : HaveNoReading (codes "help" ∷ [])
+  pub short_help : HaveNoReading (codes "-h" ∷ [])
+  pub version : HaveNoReading (codes "--version" ∷ [])
+  pub behind_hyphens : AreReadAs (codes "--" ∷ codes "check" ∷ []) settings.Check
+  pub hyphens_behind : AreReadAs (codes "check" ∷ codes "--" ∷ []) settings.Check
+  pub options_behind_hyphens : HaveNoReading (codes "answer" ∷ codes "--" ∷ codes "--pivots" ∷ codes "5" ∷ [])
+  pub only_option : HaveNoReading (codes "--pivots" ∷ codes "5" ∷ [])
+
+-- how an option is written
+pub record FormsAreRead : Type 0 where
+  pub spaced : AreReadAs (codes "answer" ∷ codes "--format" ∷ codes "json" ∷ []) (settings.Answer formats.Json 20000 512 256)
+  pub joined : AreReadAs (codes "answer" ∷ codes "--format=json" ∷ []) (settings.Answer formats.Json 20000 512 256)
+  pub text : AreReadAs (codes "answer" ∷ codes "--format" ∷ codes "text" ∷ []) (settings.Answer formats.Text 20000 512 256)
+  pub proof : HaveNoReading (codes "answer" ∷ codes "--format" ∷ codes "proof" ∷ [])
+  pub capitals : HaveNoReading (codes "answer" ∷ codes "--format" ∷ codes "JSON" ∷ [])
+  pub before_mode : AreReadAs (codes "--tries" ∷ codes "1" ∷ codes "answer" ∷ []) (settings.Answer formats.Text 20000 512 1)
+  pub all_options : AreReadAs (codes "answer" ∷ codes "--tries=7" ∷ codes "--rows" ∷ codes "6" ∷ codes "--format" ∷ codes "json" ∷ codes "--pivots" ∷ codes "5" ∷ []) (settings.Answer formats.Json 5 6 7)
+  pub twice : HaveNoReading (codes "answer" ∷ codes "--rows" ∷ codes "5" ∷ codes "--rows" ∷ codes "5" ∷ [])
+  pub twice_joined : HaveNoReading (codes "answer" ∷ codes "--format" ∷ codes "json" ∷ codes "--format=json" ∷ [])
+  pub cut_short : HaveNoReading (codes "answer" ∷ codes "--piv" ∷ codes "5" ∷ [])
+  pub one_hyphen : HaveNoReading (codes "answer" ∷ codes "-pivots" ∷ codes "5" ∷ [])
+  pub short : HaveNoReading (codes "answer" ∷ codes "-p" ∷ codes "5" ∷ [])
+  pub unknown : HaveNoReading (codes "answer" ∷ codes "--verbose" ∷ [])
+  pub no_value : HaveNoReading (codes "answer" ∷ codes "--pivots" ∷ [])
+  pub option_as_value : HaveNoReading (codes "answer" ∷ codes "--pivots" ∷ codes "--rows" ∷ codes "5" ∷ [])
+  pub empty_joined : HaveNoReading (codes "answer" ∷ codes "--rows=" ∷ [])
+  pub empty_spaced : HaveNoReading (codes "answer" ∷ codes "--rows" ∷ codes "" ∷ [])
+  pub empty_format : HaveNoReading (codes "answer" ∷ codes "--format=" ∷ [])
+
+-- which numbers an option takes
+pub record NumbersAreRead : Type 0 where
+  pub pivots_none : HaveNoReading (codes "answer" ∷ codes "--pivots" ∷ codes "0" ∷ [])
+  pub pivots_least : AreReadAs (codes "answer" ∷ codes "--pivots" ∷ codes "1" ∷ []) (settings.Answer formats.Text 1 512 256)
+  pub pivots_most : AreReadAs (codes "answer" ∷ codes "--pivots" ∷ codes "1000000" ∷ []) (settings.Answer formats.Text 1000000 512 256)
+  pub pivots_more : HaveNoReading (codes "answer" ∷ codes "--pivots" ∷ codes "1000001" ∷ [])
+  pub rows_none : HaveNoReading (codes "answer" ∷ codes "--rows" ∷ codes "0" ∷ [])
+  pub rows_least : AreReadAs (codes "answer" ∷ codes "--rows" ∷ codes "1" ∷ []) (settings.Answer formats.Text 20000 1 256)
+  pub rows_most : AreReadAs (codes "answer" ∷ codes "--rows" ∷ codes "4096" ∷ []) (settings.Answer formats.Text 20000 4096 256)
+  pub rows_more : HaveNoReading (codes "answer" ∷ codes "--rows" ∷ codes "4097" ∷ [])
+  pub tries_none : HaveNoReading (codes "answer" ∷ codes "--tries" ∷ codes "0" ∷ [])
+  pub tries_least : AreReadAs (codes "answer" ∷ codes "--tries" ∷ codes "1" ∷ []) (settings.Answer formats.Text 20000 512 1)
+  pub tries_most : AreReadAs (codes "answer" ∷ codes "--tries" ∷ codes "4096" ∷ []) (settings.Answer formats.Text 20000 512 4096)
+  pub tries_more : HaveNoReading (codes "answer" ∷ codes "--tries" ∷ codes "4097" ∷ [])
+  pub zeros_before : AreReadAs (codes "answer" ∷ codes "--pivots" ∷ codes "007" ∷ []) (settings.Answer formats.Text 7 512 256)
+  pub ten_digits : AreReadAs (codes "answer" ∷ codes "--pivots=0000000005" ∷ []) (settings.Answer formats.Text 5 512 256)
+  pub eleven_digits : HaveNoReading (codes "answer" ∷ codes "--pivots=00000000005" ∷ [])
+  pub past_32_bits : HaveNoReading (codes "answer" ∷ codes "--pivots" ∷ codes "4294967297" ∷ [])
+  pub hyphen : HaveNoReading (codes "answer" ∷ codes "--pivots" ∷ codes "-1" ∷ [])
+  pub joined_hyphen : HaveNoReading (codes "answer" ∷ codes "--pivots=-1" ∷ [])
+  pub plus : HaveNoReading (codes "answer" ∷ codes "--pivots" ∷ codes "+5" ∷ [])
+  pub blank : HaveNoReading (codes "answer" ∷ codes "--pivots" ∷ codes " 5" ∷ [])
+  pub letter : HaveNoReading (codes "answer" ∷ codes "--pivots" ∷ codes "5x" ∷ [])
+  pub point : HaveNoReading (codes "answer" ∷ codes "--pivots" ∷ codes "5.0" ∷ [])
+
+-- options of another mode
+pub record OtherModesAreRead : Type 0 where
+  pub check_format : HaveNoReading (codes "check" ∷ codes "--format" ∷ codes "text" ∷ [])
+  pub check_pivots : HaveNoReading (codes "check" ∷ codes "--pivots" ∷ codes "20000" ∷ [])
+  pub check_rows : HaveNoReading (codes "check" ∷ codes "--rows" ∷ codes "5" ∷ [])
+  pub check_tries : HaveNoReading (codes "check" ∷ codes "--tries" ∷ codes "5" ∷ [])
+  pub check_seed : HaveNoReading (codes "check" ∷ codes "--seed" ∷ codes "1" ∷ [])
+  pub check_count : HaveNoReading (codes "check" ∷ codes "--count" ∷ codes "1" ∷ [])
+  pub answer_seed : HaveNoReading (codes "answer" ∷ codes "--seed" ∷ codes "1" ∷ [])
+  pub answer_count : HaveNoReading (codes "answer" ∷ codes "--count" ∷ codes "1" ∷ [])
+  pub bench_seed : HaveNoReading (codes "bench" ∷ codes "--seed" ∷ codes "1" ∷ codes "--count" ∷ codes "1" ∷ [])
+  pub bench_hyphen : HaveNoReading (codes "bench" ∷ codes "--seed" ∷ codes "-1" ∷ [])

@@ -1,0 +1,121 @@
+-- The settings that words give: what the command takes from them, each value then judged.
+use Rattle.std.specs.Prelude.{ℕ, ◌+◌, ◌*◌, ◌-◌, ◌≡◌, ◌&&◌, List, [], ◌∷◌, length, Bool, Option, Some, None, is_some, not, Result, Ok, Err, if◌then◌else◌, codes, option_and_then, nat_le}
+use Rattle.std.specs.Str.{bytes_eq}
+use Rattle.clap.specs.Words.{Text, Kinds, fault_of, matches_of, first_of}
+use Rattle.clap.specs.declared.error.kind.ErrorKind.{ErrorKind}
+use Rattle.clap.specs.declared.error.kind.ErrorKind.TheVariants as kinds
+use Rattle.it_settings.specs.App.{itip_app}
+use Rattle.it_settings.specs.declared.types.Format.{Format}
+use Rattle.it_settings.specs.declared.types.Format.TheVariants as formats
+use Rattle.it_settings.specs.declared.types.Settings.{Settings}
+use Rattle.it_settings.specs.declared.types.Settings.TheVariants as settings
+use Rattle.it_settings.specs.declared.types.WordsFault.{WordsFault}
+use Rattle.it_settings.specs.declared.types.WordsFault.TheVariants.{Usage, Memory}
+
+-- ---- the value of an option
+
+abbrev pub is_digit : ℕ → Bool
+is_digit b = nat_le 48 b && nat_le b 57
+
+-- the value of decimal digits behind a number; none where a byte is no digit
+abbrev pub value_from : ℕ → List ℕ → Option ℕ
+value_from n [] = Some n
+value_from n (d ∷ ds) = if is_digit d then value_from (10 * n + (d - 48)) ds else None
+
+-- a number in its range
+abbrev pub within : ℕ → ℕ → ℕ → Option ℕ
+within least most n = if nat_le least n && nat_le n most then Some n else None
+
+-- one to ten decimal digits with a value from `least` to `most`
+unfoldable pub number_of : ℕ → ℕ → Text → Option ℕ
+number_of least most text =
+    if nat_le 1 (length text) && nat_le (length text) 10 then option_and_then (within least most) (value_from 0 text) else None
+
+-- the default where nothing was given
+abbrev pub number_or : ℕ → ℕ → ℕ → Option Text → Option ℕ
+number_or least most default None = Some default
+number_or least most default (Some text) = number_of least most text
+
+-- a format by its name
+unfoldable pub format_of : Text → Option Format
+format_of text =
+    if bytes_eq text (codes "text") then Some formats.Text else
+    if bytes_eq text (codes "json") then Some formats.Json else None
+
+-- text where nothing was given
+abbrev pub format_or : Option Text → Option Format
+format_or None = Some formats.Text
+format_or (Some text) = format_of text
+
+-- ---- the modes
+
+-- the texts that were given for the mode and for each option
+pub record ValuesView : Type 0 where
+  pub mode : Option Text
+  pub format : Option Text
+  pub pivots : Option Text
+  pub rows : Option Text
+  pub tries : Option Text
+  pub seed : Option Text
+  pub count : Option Text
+
+abbrev pub nothing : Option Text → Bool
+nothing o = not (is_some o)
+
+-- the settings of mode `answer`, where each value has a reading
+abbrev pub answer_by : Option Format → Option ℕ → Option ℕ → Option ℕ → Option Settings
+answer_by format pivots rows tries =
+    option_and_then (λ f. option_and_then (λ p. option_and_then (λ r. option_and_then (λ t. Some (settings.Answer f p r t)) tries) rows) pivots) format
+
+-- no option of another mode, and each value in its range
+unfoldable pub answer_of : ValuesView → Option Settings
+answer_of v = if nothing v.seed && nothing v.count
+    then answer_by (format_or v.format) (number_or 1 1000000 20000 v.pivots) (number_or 1 4096 512 v.rows) (number_or 1 4096 256 v.tries)
+    else None
+
+-- no option at all
+unfoldable pub check_of : ValuesView → Option Settings
+check_of v = if nothing v.format && (nothing v.pivots && (nothing v.rows && (nothing v.tries && (nothing v.seed && nothing v.count)))) then Some settings.Check else None
+
+-- by the mode's word; the modes not named have no reading
+abbrev pub settings_in : ValuesView → Text → Option Settings
+settings_in v mode =
+    if bytes_eq mode (codes "answer") then answer_of v else
+    if bytes_eq mode (codes "check") then check_of v else None
+
+unfoldable pub settings_by : ValuesView → Option Settings
+settings_by v = option_and_then (settings_in v) v.mode
+
+-- ---- the words
+
+-- the values by the names of their arguments
+abbrev pub values_by : (Text → Option Text) → ValuesView
+values_by f = record {
+  mode = f (codes "mode");
+  format = f (codes "format");
+  pivots = f (codes "pivots");
+  rows = f (codes "rows");
+  tries = f (codes "tries");
+  seed = f (codes "seed");
+  count = f (codes "count");
+}
+
+-- nothing is read where the command finds a fault in the words
+abbrev pub unless_fault : Kinds → Option Settings → Option Settings
+unless_fault [] s = s
+unless_fault (k ∷ ks) s = None
+
+-- the settings of the words, if they have a reading
+unfoldable pub settings_of : List Text → Option Settings
+settings_of words = unless_fault (fault_of itip_app words) (settings_by (values_by (λ id. first_of id (matches_of itip_app words))))
+
+-- an answer tells the reading: its settings, or `Usage` exactly where there is none
+abbrev pub Reads : Option Settings → Result Settings WordsFault → Type 0
+Reads reading (Ok s) = reading ≡ Some s
+Reads reading (Err Usage) = reading ≡ None
+Reads reading (Err Memory) = Unit {0}
+
+-- every error of clap but want of memory says that there is no reading
+abbrev pub IsFaultOf : ErrorKind → WordsFault → Type 0
+IsFaultOf kind Usage = kind ≡ kinds.OutOfMemory → ⊥
+IsFaultOf kind Memory = Unit {0}

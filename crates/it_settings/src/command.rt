@@ -1,0 +1,82 @@
+//! The command, as clap reads it.
+ghost use Rattle.std.specs.Prelude.{◌≡◌, [], map, IfOk, IfErr, true, false};
+ghost use Rattle.clap.specs.Words.{app_of, rule_of, with_rule, fault_of, found_of, rows_of, matches_of, kind_of};
+ghost use Rattle.it_settings.specs.App.{option_rule, mode_rule, bare_app, with_option, itip_app};
+
+use clap::error::ErrorKind;
+use clap::{Arg, ArgAction, ArgMatches, Command, Error};
+use std::alloc::{AllocError, Global};
+
+/// An option that takes one value.
+#[tactic(auto, unfolding(crate::specs::App::option_rule))]
+fn option<'a>(alloc: Global, name: &'a str) -> Arg<'a>
+    ensures rule { rule_of result ≡ option_rule name.entry.now }
+    ensures local { result.global ≡ false }
+{
+    Arg::new(alloc, name).long(name).action(ArgAction::Set)
+}
+
+/// The word for the mode, which must be there.
+#[tactic(auto, unfolding(crate::specs::App::mode_rule))]
+fn mode<'a>(alloc: Global) -> Arg<'a>
+    ensures rule { rule_of result ≡ mode_rule }
+    ensures local { result.global ≡ false }
+{
+    Arg::new(alloc, "mode")
+        .action(ArgAction::Set)
+        .required(true)
+}
+
+/// The command without arguments, whose words begin with no program's name.
+#[tactic(auto, unfolding(crate::specs::App::bare_app))]
+fn bare<'a>(alloc: Global) -> Command<'a>
+    ensures { app_of result ≡ bare_app }
+{
+    Command::new(alloc, "itip")
+        .no_binary_name(true)
+        .disable_help_flag(true)
+        .disable_version_flag(true)
+}
+
+/// The command with one more option.
+#[tactic(auto, unfolding(crate::specs::App::with_option))]
+fn with_option<'a>(
+    command: Command<'a>,
+    alloc: Global,
+    name: &'a str,
+) -> Result<Command<'a>, AllocError>
+    ensures { IfOk result (λ r. app_of r ≡ with_option (app_of command.entry) name.entry.now) }
+{
+    command.arg(option(alloc, name))
+}
+
+/// The command with the word for the mode.
+fn with_mode<'a>(command: Command<'a>, alloc: Global) -> Result<Command<'a>, AllocError>
+    ensures { IfOk result (λ r. app_of r ≡ with_rule (app_of command.entry) mode_rule) }
+{
+    command.arg(mode(alloc))
+}
+
+/// The whole command. It knows the options of every mode; which of them a mode allows is judged later.
+#[tactic(auto, unfolding(crate::specs::App::itip_app))]
+fn itip<'a>(alloc: Global) -> Result<Command<'a>, AllocError>
+    ensures { IfOk result (λ r. app_of r ≡ itip_app) }
+{
+    let command = with_mode(bare(alloc), alloc)?;
+    let command = with_option(command, alloc, "format")?;
+    let command = with_option(command, alloc, "pivots")?;
+    let command = with_option(command, alloc, "rows")?;
+    let command = with_option(command, alloc, "tries")?;
+    let command = with_option(command, alloc, "seed")?;
+    with_option(command, alloc, "count")
+}
+
+/// The matches of the words, or clap's error: one of memory, or words that the command doesn't read.
+pub fn parsed<'a>(alloc: Global, words: &'a [&'a str]) -> Result<ArgMatches<'a>, Error>
+    ensures fits { IfOk result (λ m. fault_of itip_app (map (λ w. w.now) words.entry.now) ≡ []) }
+    ensures rows { IfOk result (λ m. rows_of (found_of m) ≡ matches_of itip_app (map (λ w. w.now) words.entry.now)) }
+    ensures none { IfErr result (λ e. fault_of itip_app (map (λ w. w.now) words.entry.now) ≡ [] → kind_of e ≡ ErrorKind.OutOfMemory) }
+{
+    let command = itip(alloc)?;
+    command.try_get_matches_from(words)
+}

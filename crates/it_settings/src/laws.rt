@@ -1,0 +1,26 @@
+//! What command lines are read as, each table as the contract of a function.
+ghost use Rattle.it_settings.specs.Rows.{ModesAreRead, FormsAreRead, NumbersAreRead, OtherModesAreRead};
+
+/// The word for the mode, alone and among others.
+#[tactic(auto, using(crate::proofs::RowLemmas::modes_are_read))]
+pub fn modes_are_read()
+    ensures { ModesAreRead }
+{}
+
+/// How an option is written.
+#[tactic(auto, using(crate::proofs::RowLemmas::forms_are_read))]
+pub fn forms_are_read()
+    ensures { FormsAreRead }
+{}
+
+/// Which numbers an option takes.
+#[tactic(auto, using(crate::proofs::RowLemmas::numbers_are_read))]
+pub fn numbers_are_read()
+    ensures { NumbersAreRead }
+{}
+
+/// Options of another mode have no reading.
+#[tactic(auto, using(crate::proofs::RowLemmas::other_modes_are_read))]
+pub fn other_modes_are_read()
+    ensures { OtherModesAreRead }
+{}

@@ -1,0 +1,116 @@
+//! The reading of the words: what the command takes, each value then judged.
+ghost use Rattle.std.specs.Prelude.{◌≡◌, Option, map, option_map};
+ghost use Rattle.clap.specs.Words.{first_value, found_of, kind_of};
+ghost use Rattle.it_settings.specs.ValuesViews.{values_view};
+ghost use Rattle.it_settings.specs.Settings.{answer_of, check_of, settings_by, values_by, settings_of, Reads, IsFaultOf};
+
+use crate::command::parsed;
+use crate::numbers::{format_or, number_or};
+use crate::types::{Settings, WordsFault};
+use clap::error::ErrorKind;
+use clap::{ArgMatches, Error};
+use std::alloc::Global;
+
+/// The text of the mode and of each option that stands among the words.
+#[derive(Clone, Copy)]
+struct Values<'a> {
+    mode: Option<&'a str>,
+    format: Option<&'a str>,
+    pivots: Option<&'a str>,
+    rows: Option<&'a str>,
+    tries: Option<&'a str>,
+    seed: Option<&'a str>,
+    count: Option<&'a str>,
+}
+
+/// The values that clap matched.
+fn matched_values<'a>(matches: &ArgMatches<'a>) -> Values<'a>
+    ensures { values_view result ≡ values_by (first_value (found_of matches.now)) }
+{
+    Values {
+        mode: matches.get_str("mode"),
+        format: matches.get_str("format"),
+        pivots: matches.get_str("pivots"),
+        rows: matches.get_str("rows"),
+        tries: matches.get_str("tries"),
+        seed: matches.get_str("seed"),
+        count: matches.get_str("count"),
+    }
+}
+
+/// The settings of mode `answer`.
+#[tactic(auto, unfolding(crate::specs::Settings::answer_of))]
+fn answer(values: Values) -> Option<Settings>
+    ensures { result ≡ answer_of (values_view values.entry) }
+{
+    if values.seed.is_some() || values.count.is_some() {
+        return None;
+    }
+    let format = format_or(values.format)?;
+    let pivots = number_or(values.pivots, 1, 1000000, 20000)?;
+    let rows = number_or(values.rows, 1, 4096, 512)?;
+    let tries = number_or(values.tries, 1, 4096, 256)?;
+    Some(Settings::Answer {
+        format,
+        pivots,
+        rows,
+        tries,
+    })
+}
+
+/// The settings of mode `check`, which has no options.
+#[tactic(auto, unfolding(crate::specs::Settings::check_of))]
+fn check(values: Values) -> Option<Settings>
+    ensures { result ≡ check_of (values_view values.entry) }
+{
+    let none = values.format.is_none()
+        && values.pivots.is_none()
+        && values.rows.is_none()
+        && values.tries.is_none()
+        && values.seed.is_none()
+        && values.count.is_none();
+    if none { Some(Settings::Check) } else { None }
+}
+
+/// The settings by the mode's word.
+#[tactic(auto, unfolding(crate::specs::Settings::settings_by))]
+fn settings_by_mode(values: Values) -> Option<Settings>
+    ensures { result ≡ settings_by (values_view values.entry) }
+{
+    match values.mode {
+        Some("answer") => answer(values),
+        Some("check") => check(values),
+        _ => None,
+    }
+}
+
+/// The settings of what was matched.
+fn matched_settings(matches: &ArgMatches) -> Option<Settings>
+    ensures { result ≡ settings_by (values_by (first_value (found_of matches.now))) }
+{
+    settings_by_mode(matched_values(matches))
+}
+
+/// What an error of clap says of the words.
+fn fault(error: Error) -> WordsFault
+    ensures { IsFaultOf (kind_of error) result }
+{
+    if error.kind() == ErrorKind::OutOfMemory {
+        WordsFault::Memory
+    } else {
+        WordsFault::Usage
+    }
+}
+
+/// The settings that the words after the program's name give, or that they have no reading.
+pub fn settings(alloc: Global, words: &[&str]) -> Result<Settings, WordsFault>
+    ensures { Reads (settings_of (map (λ w. w.now) words.now)) result }
+{
+    match parsed(alloc, words) {
+        Ok(matches) => match matched_settings(&matches) {
+            Some(settings) => Ok(settings),
+            None => Err(WordsFault::Usage),
+        },
+        Err(error) => Err(fault(error)),
+    }
+}
