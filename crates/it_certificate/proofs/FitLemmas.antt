@@ -1,0 +1,280 @@
+-- What is read of an answer fits its question.
+use Rattle.std.proofs.Common.{◌≡◌, ℕ, ◌+◌, ◌<◌, ◌≤◌, ◌^◌, ◌==◌, ◌&&◌, ℤ, pos, negsuc, not, unsigned_abs, List, [], ◌∷◌, length, refl, ap, sym, subst, ◌∙◌, Option, Some, None, Result, Ok, Err, option_and_then, option_map, Bool, true, false, cond, nat_le, nat_lt, rules, arith, codes}
+use Rattle.std.specs.Prelude.{All, slice_index_or, bytes_eq, get_or}
+use Rattle.std.specs.List.{position_or_len}
+use Rattle.std.proofs.lemmas.List.Sums.{passes_at_first}
+use Rattle.std.proofs.lemmas.Slice.Eq.{bytes_eq-Decides}
+use Rattle.std.proofs.lemmas.List.Elements.{All-nil, All-cons, All-head, All-tail}
+use Rattle.serde_json.specs.Data.{Data}
+use Rattle.serde_json.specs.Find.{get, as_array, as_number, as_u64, as_str}
+use Rattle.it_number.specs.Limit.{IsWithin}
+use Rattle.it_space.specs.Rows.{Terms, IsUpTo}
+use Rattle.it_space.specs.Spaces.{size_of}
+use Rattle.it_space.specs.Answers.{CertificateView, AnswerView}
+use Rattle.it_space.specs.Answers.AnswerView.{Yes, No, Undecided, Region, Contained, Open}
+use Rattle.it_space.specs.declared.answers.Mark.{Mark}
+use Rattle.it_space.specs.declared.answers.Cause.{Cause}
+use Rattle.it_space.specs.declared.answers.Cause.TheVariants.{Pivots, Width, Scale, Rows, WideRate}
+use Rattle.it_syntax.specs.NamesViews.{NamesView, index_of}
+use Rattle.it_syntax.specs.declared.types.Sign.{Sign}
+use Rattle.it_question.specs.Questions.{QuestionView, RegionView, VerbView, Prove, Eliminate, Contain}
+use Rattle.it_canon.specs.QuestionDemands.{space_of}
+use Rattle.it_certificate.specs.declared.keys.Key.{Key}
+use Rattle.it_certificate.specs.declared.keys.Key.TheVariants as keys
+use Rattle.it_certificate.specs.declared.kinds.AnswerKind.{AnswerKind}
+use Rattle.it_certificate.specs.declared.kinds.AnswerKind.TheVariants as kinds
+use Rattle.it_certificate.specs.declared.kinds.CauseKind.{CauseKind}
+use Rattle.it_certificate.specs.declared.kinds.CauseKind.TheVariants as causes
+use Rattle.it_certificate.specs.Numerals.{count_of, count_of_whole, step_of, whole_of}
+use Rattle.it_certificate.specs.Values.{rate_text}
+use Rattle.it_certificate.specs.Kinds.{mark_of, back_of}
+use Rattle.it_certificate.specs.Parts.{text_of, items_of_array, whole_at, count_at, both, two_of, pair_at, all_of, list_at, of_length, certificate_by, certificate_at, proofs_at, point_at, back_at, cause_kind_at, cause_of, cause_at, step_or_rate, is_row_between, is_term_between, row_of, mark_at, terms_at, row_at, rows_at, set_of, set_at, parts_at, tried_at}
+use Rattle.it_certificate.specs.AnswerReading.{or_key, and_then, is_equality, target_count, yes_at, no_at, undecided_at, region_at, contained_at, open_at}
+use Rattle.it_certificate.specs.Obligations.{obligation_count}
+use Rattle.it_certificate.specs.Reports.{prove_answer, eliminate_answer, contain_answer, verb_answer, question_answer}
+use Rattle.it_certificate.specs.Fits.{IsPair, IsNumbered, IsRowIn, IsFoundIn, IsCauseFor, FitsProve, FitsEliminate, FitsContainment, FitsContain, FitsVerb, FitsQuestion}
+use Rattle.it_certificate.proofs.WithinLemmas.{and_then_some, map_some, cond_some, both_some, all_of_holds, whole_at_within, all_within, point_length}
+use Rattle.it_certificate.proofs.RowLemmas.{both_true, canonical}
+
+key_ok : {A : Type 0} (k : Key) (o : Option A) (a : A) → or_key k o ≡ Ok a → o ≡ Some a
+key_ok k None a is = absurd (cc)
+key_ok k (Some b) a is = let e : b ≡ a = cc in ap Some e
+
+then_ok : {A B : Type 0} (r : Result A Key) (f : A → Result B Key) (b : B) → and_then r f ≡ Ok b → (a : A) × ((r ≡ Ok a) × (f a ≡ Ok b))
+then_ok (Err k) f b is = absurd (cc)
+then_ok (Ok a) f b is = (a, (refl, is))
+
+abbrev ok_of : {A : Type 0} → A → Result A Key
+ok_of a = Ok a
+
+ok_same : {A : Type 0} (a b : A) → ok_of a ≡ ok_of b → a ≡ b
+ok_same a b is = cc
+
+-- ---- numbers and terms
+
+count_below : (n m : ℕ) → count_of n ≡ Some m → m < 2 ^ 32
+count_below n m is =
+    let h = cond_some (nat_lt n (2 ^ 32)) (Some n) m is in
+    let e : n ≡ m = let s = h.1 in cc in
+    let lt : n < 2 ^ 32 = let t = h.0 in search (rules, t) in
+    subst (λ k. k < 2 ^ 32) e lt
+
+count_at_below : (d : Data) (n : ℕ) → count_at d ≡ Some n → n < 2 ^ 32
+unfolding count_at
+count_at_below d n is = let h = and_then_some (option_and_then as_u64 (as_number d)) count_of n is in count_below h.0 n h.1.1
+
+pair_numbers : (d : Data) (t : ℕ × ℤ) → pair_at d ≡ Some t → IsPair t
+unfolding pair_at
+pair_numbers d t is =
+    let h = and_then_some (option_and_then two_of (as_array d)) (λ p. both (count_at p.0) (whole_at p.1)) t is in
+    let k = both_some (count_at h.0.0) (whole_at h.0.1) t h.1.1 in
+    (count_at_below h.0.0 t.0 k.0, whole_at_within h.0.1 t.1 k.1)
+
+list_numbers : {A : Type 0} (P : A → Type 0) (f : Data → Option A) → ((d : Data) (a : A) → f d ≡ Some a → P a) → (o : Option Data) (xs : List A) → list_at f o ≡ Some xs → All P xs
+list_numbers P f each o xs is = let h = and_then_some (items_of_array o) (all_of f) xs is in all_of_holds P f each h.0 xs h.1.1
+
+counted : {A : Type 0} (P : A → Type 0) (f : Data → Option A) → ((d : Data) (a : A) → f d ≡ Some a → P a) → (n : ℕ) (o : Option Data) (xs : List A)
+    → option_and_then (of_length n) (list_at f o) ≡ Some xs → (length xs ≡ n) × All P xs
+counted P f each n o xs is =
+    let h = and_then_some (list_at f o) (of_length n) xs is in
+    let m = cond_some (length h.0 == n) (Some h.0) xs h.1.1 in
+    let e : h.0 ≡ xs = let s = m.1 in cc in
+    let l : length h.0 ≡ n = let t = m.0 in search (rules, t) in
+    (sym (ap length e) ∙ l, subst (λ zs. All P zs) e (list_numbers P f each o h.0 h.1.0))
+
+certificate_numbers : (d : Data) (c : CertificateView) → certificate_at d ≡ Some c → IsNumbered c
+unfolding certificate_at
+certificate_numbers d c is =
+    let h = and_then_some (option_and_then whole_at (get (codes "scale") d)) (λ s. option_map (λ ws. record { scale = s; parts = ws }) (list_at pair_at (get (codes "weights") d))) c is in
+    let k = map_some (list_at pair_at (get (codes "weights") d)) (λ ws. record { scale = h.0; parts = ws }) c h.1.1 in
+    let s = and_then_some (get (codes "scale") d) whole_at h.0 h.1.0 in
+    subst IsNumbered k.1.1 (record { scale = whole_at_within s.0 h.0 s.1.1; parts = list_numbers IsPair pair_at pair_numbers (get (codes "weights") d) k.0 k.1.0 })
+
+proofs_fit : (n : ℕ) (d : Data) (ps : List CertificateView) → proofs_at n d ≡ Some ps → (length ps ≡ n) × All IsNumbered ps
+unfolding proofs_at
+proofs_fit n d ps is = counted IsNumbered certificate_at certificate_numbers n (get (codes "proofs") d) ps is
+
+-- ---- yes, no
+
+yes_fits : (v : NamesView) (sign : Sign) (d : Data) (a : AnswerView) → yes_at sign d ≡ Ok a → FitsProve v sign a
+unfolding yes_at
+yes_fits v sign d a is =
+    let h = then_ok (or_key keys.Proofs (proofs_at (target_count sign) d)) (λ ps. Ok (Yes ps)) a is in
+    subst (FitsProve v sign) (ok_same (Yes h.0) a h.1.1) (proofs_fit (target_count sign) d h.0 (key_ok keys.Proofs (proofs_at (target_count sign) d) h.0 h.1.0))
+
+back_only : (equality back : Bool) (text : List ℕ) → back_of equality text ≡ Some back → back ≡ true → equality ≡ true
+back_only true back text is at = refl
+back_only false back text is at = absurd (by (bytes_eq text (codes "forward")) (bytes_eq text (codes "back")) (is ∙ ap Some at))
+  where
+    by : (s t : Bool) → cond s (Some false) (cond t None None) ≡ Some true → ⊥
+    by true t e = cc
+    by false true e = cc
+    by false false e = cc
+
+back_fits : (equality back : Bool) (d : Data) → back_at equality d ≡ Some back → back ≡ true → equality ≡ true
+unfolding back_at
+back_fits equality back d is at = let h = and_then_some (text_of (get (codes "side") d)) (back_of equality) back is in back_only equality back h.0 h.1.1 at
+
+no_fits : (v : NamesView) (sign : Sign) (d : Data) (a : AnswerView) → no_at (size_of (space_of v)) sign d ≡ Ok a → FitsProve v sign a
+unfolding no_at
+no_fits v sign d a is =
+    let size = size_of (space_of v) in
+    let h = then_ok (or_key keys.Point (point_at (size_of (space_of v)) d)) (λ values. and_then (or_key keys.Side (back_at (is_equality sign) d)) (λ back. Ok (No back values))) a is in
+    let k = then_ok (or_key keys.Side (back_at (is_equality sign) d)) (λ back. Ok (No back h.0)) a h.1.1 in
+    let p = key_ok keys.Point (point_at (size_of (space_of v)) d) h.0 h.1.0 in
+    let b = key_ok keys.Side (back_at (is_equality sign) d) k.0 k.1.0 in
+    subst (FitsProve v sign) (ok_same (No k.0 h.0) a k.1.1) (point_length (size_of (space_of v)) d h.0 p, all_within (size_of (space_of v)) d h.0 p, back_fits (is_equality sign) k.0 d b)
+
+-- ---- undecided
+
+whole_below : (z : ℤ) (n : ℕ) → count_of_whole z ≡ Some n → n < 2 ^ 32
+whole_below (pos m) n is = count_below m n is
+whole_below (negsuc m) n is = absurd (cc)
+
+step_below : (text : List ℕ) (n : ℕ) → step_of text ≡ Some n → n < 2 ^ 32
+unfolding step_of
+step_below text n is = let h = and_then_some (whole_of text) count_of_whole n is in whole_below h.0 n h.1.1
+
+-- a name that is found is the name at its place
+found_in : (v : NamesView) (text : List ℕ) (r : ℕ) → index_of v.rates text ≡ Some r → rate_text v r ≡ text
+found_in v text r is =
+    let h = cond_some (nat_lt (position_or_len (bytes_eq text) v.rates) (length v.rates)) (Some (position_or_len (bytes_eq text) v.rates)) r is in
+    let e : position_or_len (bytes_eq text) v.rates ≡ r = let s = h.1 in cc in
+    let lt : position_or_len (bytes_eq text) v.rates < length v.rates = let t = h.0 in search (rules, t) in
+    subst (λ i. rate_text v i ≡ text) e (sym ((bytes_eq-Decides text (get_or v.rates (position_or_len (bytes_eq text) v.rates) [])).0 (passes_at_first (bytes_eq text) v.rates [] lt)))
+
+found_rate : (v : NamesView) (text : List ℕ) (r : ℕ) → index_of v.rates text ≡ Some r → IsFoundIn v r
+found_rate v text r is = ap (index_of v.rates) (found_in v text r is) ∙ is
+
+width_fits : (v : NamesView) (text : List ℕ) (c : Cause) (o : Option ℕ) → step_of text ≡ o → step_or_rate o (index_of v.rates text) ≡ Some c → IsCauseFor v c
+width_fits v text c (Some n) at is = subst (IsCauseFor v) (let e : Width n ≡ c = cc in e) (step_below text n at)
+width_fits v text c None at is =
+    let h = map_some (index_of v.rates text) WideRate c is in
+    subst (IsCauseFor v) h.1.1 (found_rate v text h.0 h.1.0, ap step_of (found_in v text h.0 h.1.0) ∙ at)
+
+place_fits : (v : NamesView) (kind : CauseKind) (text : List ℕ) (c : Cause) → cause_of v.rates kind text ≡ Some c → IsCauseFor v c
+place_fits v causes.Pivots text c is = let h = map_some (step_of text) Pivots c is in subst (IsCauseFor v) h.1.1 (step_below text h.0 h.1.0)
+place_fits v causes.Width text c is = width_fits v text c (step_of text) refl is
+place_fits v causes.Scale text c is = let h = cond_some (bytes_eq text (codes "0")) (Some Scale) c is in subst (IsCauseFor v) (let s = h.1 in let e : Scale ≡ c = cc in e) tt
+place_fits v causes.Rows text c is = let h = map_some (index_of v.rates text) Rows c is in subst (IsCauseFor v) h.1.1 (found_rate v text h.0 h.1.0)
+
+cause_fits : (v : NamesView) (kind : CauseKind) (d : Data) (c : Cause) → cause_at v.rates kind d ≡ Some c → IsCauseFor v c
+unfolding cause_at
+cause_fits v kind d c is = let h = and_then_some (text_of (get (codes "at") d)) (cause_of v.rates kind) c is in place_fits v kind h.0 c h.1.1
+
+undecided_fits : (v : NamesView) (d : Data) (a : AnswerView) → undecided_at v.rates d ≡ Ok a → (c : Cause) × ((Undecided c ≡ a) × IsCauseFor v c)
+unfolding undecided_at
+undecided_fits v d a is =
+    let h = then_ok (or_key keys.Cause (cause_kind_at d)) (λ kind. and_then (or_key keys.At (cause_at v.rates kind d)) (λ cause. Ok (Undecided cause))) a is in
+    let k = then_ok (or_key keys.At (cause_at v.rates h.0 d)) (λ cause. Ok (Undecided cause)) a h.1.1 in
+    (k.0, (ok_same (Undecided k.0) a k.1.1, cause_fits v h.0 d k.0 (key_ok keys.At (cause_at v.rates h.0 d) k.0 k.1.0)))
+
+-- ---- regions
+
+up_to : (from size : ℕ) (ts : Terms) → 1 ≤ from → is_row_between from size ts ≡ true → IsUpTo size ts
+up_to from size [] low is = All-nil (λ t. (1 ≤ t.0) × (t.0 ≤ size))
+up_to from size (t ∷ ts) low is =
+    let h = both_true (is_term_between from size t) (is_row_between (t.0 + 1) size ts) is in
+    let k = both_true (nat_le from t.0) (nat_le t.0 size && not (unsigned_abs t.1 == 0)) h.0 in
+    let m = both_true (nat_le t.0 size) (not (unsigned_abs t.1 == 0)) k.1 in
+    let there : from ≤ t.0 = let e = k.0 in search (rules, e) in
+    let last : t.0 ≤ size = let e = m.0 in search (rules, e) in
+    All-cons (λ t. (1 ≤ t.0) × (t.0 ≤ size)) t ts (omega (arith, there, low), last) (up_to (t.0 + 1) size ts (omega arith) h.1)
+
+all_second : (ts : Terms) → All IsPair ts → All (λ t. IsWithin t.1) ts
+all_second [] all = All-nil (λ t. IsWithin t.1)
+all_second (t ∷ ts) all = All-cons (λ t. IsWithin t.1) t ts (All-head IsPair t ts all).1 (all_second ts (All-tail IsPair t ts all))
+
+terms_numbers : (d : Data) (ts : Terms) → terms_at d ≡ Some ts → All IsPair ts
+unfolding terms_at
+terms_numbers d ts is = list_numbers IsPair pair_at pair_numbers (get (codes "row") d) ts is
+
+row_fits : (size : ℕ) (d : Data) (r : Mark × Terms) → row_at size d ≡ Some r → IsRowIn size r
+unfolding row_at
+row_fits size d r is =
+    let h = both_some (mark_at d) (option_and_then (row_of size) (terms_at d)) r is in
+    let k = and_then_some (terms_at d) (row_of size) r.1 h.1 in
+    let m = cond_some (is_row_between 1 size k.0) (Some k.0) r.1 k.1.1 in
+    let e : k.0 ≡ r.1 = let s = m.1 in cc in
+    let terms : All IsPair r.1 = subst (λ ts. All IsPair ts) e (terms_numbers d k.0 k.1.0) in
+    let row : is_row_between 1 size r.1 ≡ true = subst (λ ts. is_row_between 1 size ts ≡ true) e m.0 in
+    record { terms = terms; canonical = canonical size r.1 row (all_second r.1 terms); coordinates = up_to 1 size r.1 (omega arith) row }
+
+region_fits : (v : NamesView) (d : Data) (a : AnswerView) → region_at (size_of (space_of v)) d ≡ Ok a → FitsEliminate v a
+unfolding region_at rows_at
+region_fits v d a is =
+    let h = then_ok (or_key keys.Rows (list_at (row_at (size_of (space_of v))) (get (codes "rows") d))) (λ rows. Ok (Region rows)) a is in
+    subst (FitsEliminate v) (ok_same (Region h.0) a h.1.1)
+    (list_numbers (IsRowIn (size_of (space_of v))) (row_at (size_of (space_of v))) (row_fits (size_of (space_of v))) (get (codes "rows") d) h.0 (key_ok keys.Rows (list_at (row_at (size_of (space_of v))) (get (codes "rows") d)) h.0 h.1.0))
+
+-- ---- containments
+
+abbrev IsSetIn : ℕ → ℕ → Type 0
+IsSetIn n s = (s < 2 ^ 32) × (s < 2 ^ n)
+
+set_fits : (n : ℕ) (d : Data) (s : ℕ) → set_at n d ≡ Some s → IsSetIn n s
+unfolding set_at
+set_fits n d s is =
+    let h = and_then_some (count_at d) (set_of n) s is in
+    let m = cond_some (nat_lt h.0 (2 ^ n)) (Some h.0) s h.1.1 in
+    let e : h.0 ≡ s = let t = m.1 in cc in
+    let lt : h.0 < 2 ^ n = let t = m.0 in search (rules, t) in
+    subst (IsSetIn n) e (count_at_below d h.0 h.1.0, lt)
+
+parts_fit : (count n : ℕ) (d : Data) (ss : List ℕ) → parts_at count n d ≡ Some ss → (length ss ≡ count) × All (IsSetIn n) ss
+unfolding parts_at
+parts_fit count n d ss is = counted (IsSetIn n) (set_at n) (set_fits n) count (get (codes "parts") d) ss is
+
+contained_fits : (first second : RegionView) (d : Data) (a : AnswerView) → contained_at second.auxiliaries (length first.names.variables) (obligation_count second) d ≡ Ok a → FitsContain first second a
+unfolding contained_at
+contained_fits first second d a is =
+    let h = then_ok (or_key keys.Parts (parts_at second.auxiliaries (length first.names.variables) d)) (λ parts. and_then (or_key keys.Proofs (proofs_at (obligation_count second) d)) (λ proofs. Ok (Contained parts proofs))) a is in
+    let k = then_ok (or_key keys.Proofs (proofs_at (obligation_count second) d)) (λ proofs. Ok (Contained h.0 proofs)) a h.1.1 in
+    let p = parts_fit second.auxiliaries (length first.names.variables) d h.0 (key_ok keys.Parts (parts_at second.auxiliaries (length first.names.variables) d) h.0 h.1.0) in
+    let w = proofs_fit (obligation_count second) d k.0 (key_ok keys.Proofs (proofs_at (obligation_count second) d) k.0 k.1.0) in
+    subst (FitsContain first second) (ok_same (Contained h.0 k.0) a k.1.1) (record { each = p.0; sets = p.1; obligations = w.0; numbers = w.1 })
+
+open_fits : (first second : RegionView) (d : Data) (a : AnswerView) → open_at d ≡ Ok a → FitsContain first second a
+unfolding open_at tried_at
+open_fits first second d a is =
+    let h = then_ok (or_key keys.Tried (option_and_then count_at (get (codes "tried") d))) (λ tried. Ok (Open tried)) a is in
+    let k = and_then_some (get (codes "tried") d) count_at h.0 (key_ok keys.Tried (option_and_then count_at (get (codes "tried") d)) h.0 h.1.0) in
+    subst (FitsContain first second) (ok_same (Open h.0) a h.1.1) (count_at_below k.0 h.0 k.1.1)
+
+-- ---- by the verb
+
+prove_fits : (v : NamesView) (sign : Sign) (kind : AnswerKind) (d : Data) (a : AnswerView) → prove_answer v sign kind d ≡ Ok a → FitsProve v sign a
+unfolding prove_answer
+prove_fits v sign kinds.Yes d a is = yes_fits v sign d a is
+prove_fits v sign kinds.No d a is = no_fits v sign d a is
+prove_fits v sign kinds.Undecided d a is = let h = undecided_fits v d a is in subst (FitsProve v sign) h.1.0 h.1.1
+prove_fits v sign kinds.Region d a is = absurd (cc)
+prove_fits v sign kinds.Contained d a is = absurd (cc)
+prove_fits v sign kinds.Open d a is = absurd (cc)
+
+eliminate_fits : (v : NamesView) (kind : AnswerKind) (d : Data) (a : AnswerView) → eliminate_answer v kind d ≡ Ok a → FitsEliminate v a
+unfolding eliminate_answer
+eliminate_fits v kinds.Yes d a is = absurd (cc)
+eliminate_fits v kinds.No d a is = absurd (cc)
+eliminate_fits v kinds.Undecided d a is = let h = undecided_fits v d a is in subst (FitsEliminate v) h.1.0 h.1.1
+eliminate_fits v kinds.Region d a is = region_fits v d a is
+eliminate_fits v kinds.Contained d a is = absurd (cc)
+eliminate_fits v kinds.Open d a is = absurd (cc)
+
+contain_fits : (first second : RegionView) (kind : AnswerKind) (d : Data) (a : AnswerView) → contain_answer first second kind d ≡ Ok a → FitsContain first second a
+unfolding contain_answer
+contain_fits first second kinds.Yes d a is = absurd (cc)
+contain_fits first second kinds.No d a is = absurd (cc)
+contain_fits first second kinds.Undecided d a is = absurd (cc)
+contain_fits first second kinds.Region d a is = absurd (cc)
+contain_fits first second kinds.Contained d a is = contained_fits first second d a is
+contain_fits first second kinds.Open d a is = open_fits first second d a is
+
+pub answer_fits : (q : QuestionView) (kind : AnswerKind) (d : Data) (a : AnswerView) → question_answer q kind d ≡ Ok a → FitsQuestion q.body a
+unfolding question_answer FitsQuestion
+answer_fits q kind d a is = by q.body.verb is
+  where
+    by : (verb : VerbView) → verb_answer q.body.names verb kind d ≡ Ok a → FitsVerb q.body.names verb a
+    by (Prove r) e = prove_fits q.body.names r.sign kind d a e
+    by (Eliminate rates) e = eliminate_fits q.body.names kind d a e
+    by (Contain first second tries) e = contain_fits first second kind d a e

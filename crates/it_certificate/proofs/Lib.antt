@@ -1,0 +1,13 @@
+mod DigitLemmas
+mod PairLemmas
+mod WithinLemmas
+mod RowLemmas
+mod BackLemmas
+mod ValueLemmas
+mod ObligationLemmas
+mod QuestionLemmas
+mod ReportLemmas
+pub mod OneLemmas
+pub mod FitLemmas
+mod RoundLemmas
+mod RowsComputed

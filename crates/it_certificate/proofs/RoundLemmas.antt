@@ -1,0 +1,277 @@
+-- What is written of an answer reads back.
+use Rattle.std.proofs.Common.{◌≡◌, ℕ, ◌+◌, ◌<◌, ◌≤◌, ◌^◌, ◌==◌, ◌&&◌, ℤ, pos, zero, suc, negsuc, not, unsigned_abs, List, [], ◌∷◌, length, map, filter, refl, ap, sym, subst, ◌∙◌, Option, Some, None, Result, Ok, Err, option_and_then, option_map, Bool, true, false, cond, nat_le, nat_lt, rules, arith, codes, eq-eqb, decimal}
+use Rattle.std.specs.Prelude.{All, bytes_eq}
+use Rattle.std.proofs.lemmas.List.{length-map}
+use Rattle.std.proofs.lemmas.List.Elements.{All-head, All-tail, All-filter}
+use Rattle.serde_json.specs.Data.{Data, number, unsigned, string}
+use Rattle.serde_json.specs.Find.{get}
+use Rattle.serde_json.specs.View.{items_of}
+use Rattle.it_number.specs.Limit.{IsWithin}
+use Rattle.it_space.specs.Rows.{Terms, Ascends, IsCanonical, IsUpTo}
+use Rattle.it_space.specs.Spaces.{size_of}
+use Rattle.it_space.specs.Answers.{CertificateView, AnswerView}
+use Rattle.it_space.specs.Answers.AnswerView.{Yes, No, Undecided, Region, Contained, Open}
+use Rattle.it_space.specs.declared.answers.Mark.{Mark}
+use Rattle.it_space.specs.declared.answers.Mark.TheVariants.{Plain, Needed, Unsettled}
+use Rattle.it_space.specs.declared.answers.Cause.{Cause}
+use Rattle.it_space.specs.declared.answers.Cause.TheVariants.{Pivots, Width, Scale, Rows, WideRate}
+use Rattle.it_syntax.specs.NamesViews.{NamesView, index_of}
+use Rattle.it_syntax.specs.declared.types.Sign.{Sign}
+use Rattle.it_question.specs.Questions.{QuestionView, RegionView, VerbView, Prove, Eliminate, Contain}
+use Rattle.it_canon.specs.QuestionDemands.{space_of}
+use Rattle.it_certificate.specs.declared.keys.Key.TheVariants as keys
+use Rattle.it_certificate.specs.declared.kinds.AnswerKind.{AnswerKind}
+use Rattle.it_certificate.specs.declared.kinds.AnswerKind.TheVariants as kinds
+use Rattle.it_certificate.specs.declared.kinds.CauseKind.{CauseKind}
+use Rattle.it_certificate.specs.declared.kinds.CauseKind.TheVariants as causes
+use Rattle.it_certificate.specs.Numerals.{step_of}
+use Rattle.it_certificate.specs.Values.{whole_value, count_value, list_value, pair_value, is_some_weight, proof_value, row_value, mark_text, rate_text, place_text, answer_value}
+use Rattle.it_certificate.specs.Parts.{text_of, whole_at, count_at, both, pair_at, all_of, list_at, of_length, certificate_by, certificate_at, answer_kind_at, proofs_at, point_at, back_at, cause_kind_at, cause_of, cause_at, step_or_rate, is_term_between, is_row_between, row_of, mark_at, terms_at, row_at, rows_at, set_of, set_at, parts_at, tried_at}
+use Rattle.it_certificate.specs.AnswerReading.{or_key, and_then, is_equality, target_count, yes_at, no_at, undecided_at, region_at, contained_at, open_at}
+use Rattle.it_certificate.specs.Obligations.{obligation_count}
+use Rattle.it_certificate.specs.Reports.{prove_answer, eliminate_answer, contain_answer, verb_answer, question_answer, report_of}
+use Rattle.it_certificate.specs.Fits.{IsPair, IsNumbered, IsRowIn, IsFoundIn, IsCauseFor, FitsProve, FitsEliminate, FitsContainment, FitsContain, FitsVerb, FitsQuestion}
+use Rattle.it_certificate.specs.Laws.{without_zeros, written_answer, ReadsBack}
+use Rattle.it_certificate.proofs.BackLemmas.{whole_back, count_back, step_back}
+use Rattle.it_certificate.proofs.QuestionLemmas.{found_text}
+
+-- ---- numbers, terms and certificates
+
+number_back : (z : ℤ) → IsWithin z → whole_at (whole_value z) ≡ Some z
+unfolding whole_at
+number_back z lt = whole_back z lt
+
+count_read : (n : ℕ) → n < 2 ^ 32 → count_at (count_value n) ≡ Some n
+unfolding count_at
+count_read n lt = count_back n lt
+
+pair_back : (t : ℕ × ℤ) → IsPair t → pair_at (pair_value t) ≡ Some t
+unfolding pair_at pair_value
+pair_back t p = ap (λ c. both c (whole_at (whole_value t.1))) (count_read t.0 p.0) ∙ ap (λ z. both (Some t.0) z) (number_back t.1 p.1)
+
+all_back : {A B : Type 0} (P : A → Type 0) (f : Data → Option B) (v : A → Data) (g : A → B) → ((a : A) → P a → f (v a) ≡ Some (g a)) → (xs : List A) → All P xs
+    → all_of f (items_of (map v xs)) ≡ Some (map g xs)
+all_back P f v g each [] all = refl
+all_back P f v g each (x ∷ xs) all =
+    ap (λ o. option_and_then (λ a. option_map (λ rest. a ∷ rest) (all_of f (items_of (map v xs)))) o) (each x (All-head P x xs all))
+    ∙ ap (λ o. option_map (λ rest. g x ∷ rest) o) (all_back P f v g each xs (All-tail P x xs all))
+
+map_same : {A : Type 0} (xs : List A) → map (λ x. x) xs ≡ xs
+map_same [] = refl
+map_same (x ∷ xs) = ap (λ zs. x ∷ zs) (map_same xs)
+
+same_back : {A : Type 0} (P : A → Type 0) (f : Data → Option A) (v : A → Data) → ((a : A) → P a → f (v a) ≡ Some a) → (xs : List A) → All P xs
+    → all_of f (items_of (map v xs)) ≡ Some xs
+same_back P f v each xs all = all_back P f v (λ x. x) each xs all ∙ ap Some (map_same xs)
+
+certificate_back : (c : CertificateView) → IsNumbered c → certificate_at (proof_value c) ≡ Some (without_zeros c)
+unfolding certificate_at proof_value
+certificate_back c p =
+    ap (λ s. certificate_by s (all_of pair_at (items_of (map pair_value (filter is_some_weight c.parts))))) (number_back c.scale p.scale)
+    ∙ ap (λ ws. certificate_by (Some c.scale) ws) (same_back IsPair pair_at pair_value pair_back (filter is_some_weight c.parts) (All-filter is_some_weight IsPair c.parts p.parts))
+
+exactly : {A : Type 0} (n : ℕ) (xs : List A) → length xs ≡ n → of_length n xs ≡ Some xs
+exactly n xs is = ap (λ b. cond b (Some xs) None) (eq-eqb (length xs) n is)
+
+certificates_back : (n : ℕ) (ws : List CertificateView) → length ws ≡ n → All IsNumbered ws
+    → option_and_then (of_length n) (all_of certificate_at (items_of (map proof_value ws))) ≡ Some (map without_zeros ws)
+certificates_back n ws is all =
+    ap (option_and_then (of_length n)) (all_back IsNumbered certificate_at proof_value without_zeros certificate_back ws all)
+    ∙ exactly n (map without_zeros ws) (length-map ws without_zeros ∙ is)
+
+-- ---- yes and no
+
+yes_back : (text : List ℕ) (v : NamesView) (sign : Sign) (ws : List CertificateView) → FitsProve v sign (Yes ws) → yes_at sign (answer_value text v (Yes ws)) ≡ Ok (Yes (map without_zeros ws))
+unfolding yes_at proofs_at answer_value
+yes_back text v sign ws fits = ap (λ o. and_then (or_key keys.Proofs o) (λ ps. Ok (Yes ps))) (certificates_back (target_count sign) ws fits.0 fits.1)
+
+point_back : (text : List ℕ) (v : NamesView) (n : ℕ) (back : Bool) (vs : List ℤ) → length vs ≡ n → All IsWithin vs → point_at n (answer_value text v (No back vs)) ≡ Some vs
+unfolding point_at answer_value
+point_back text v n back vs is all = ap (option_and_then (of_length n)) (same_back IsWithin whole_at whole_value number_back vs all) ∙ exactly n vs is
+
+side_back : (text : List ℕ) (v : NamesView) (equality back : Bool) (vs : List ℤ) → (back ≡ true → equality ≡ true) → back_at equality (answer_value text v (No back vs)) ≡ Some back
+unfolding back_at answer_value
+side_back text v equality true vs is = ap (λ b. cond b (Some true) None) (is refl)
+side_back text v equality false vs is = refl
+
+no_back : (text : List ℕ) (v : NamesView) (sign : Sign) (back : Bool) (vs : List ℤ) → FitsProve v sign (No back vs) → no_at (size_of (space_of v)) sign (answer_value text v (No back vs)) ≡ Ok (No back vs)
+unfolding no_at
+no_back text v sign back vs fits =
+    ap (λ o. and_then (or_key keys.Point o) (λ values. and_then (or_key keys.Side (back_at (is_equality sign) (answer_value text v (No back vs)))) (λ b. Ok (No b values))))
+    (point_back text v (size_of (space_of v)) back vs fits.0 fits.1)
+    ∙ ap (λ o. and_then (or_key keys.Side o) (λ b. Ok (No b vs))) (side_back text v (is_equality sign) back vs fits.2)
+
+-- ---- undecided
+
+abbrev kind_of_cause : Cause → CauseKind
+kind_of_cause (Pivots steps) = causes.Pivots
+kind_of_cause (Width step) = causes.Width
+kind_of_cause Scale = causes.Scale
+kind_of_cause (Rows r) = causes.Rows
+kind_of_cause (WideRate r) = causes.Width
+
+kind_back : (text : List ℕ) (v : NamesView) (c : Cause) → cause_kind_at (answer_value text v (Undecided c)) ≡ Some (kind_of_cause c)
+unfolding cause_kind_at answer_value
+kind_back text v (Pivots steps) = refl
+kind_back text v (Width step) = refl
+kind_back text v Scale = refl
+kind_back text v (Rows r) = refl
+kind_back text v (WideRate r) = refl
+
+place_back : (v : NamesView) (c : Cause) → IsCauseFor v c → cause_of v.rates (kind_of_cause c) (place_text v c) ≡ Some c
+place_back v (Pivots steps) fits = ap (option_map Pivots) (step_back steps fits)
+place_back v (Width step) fits = ap (λ o. step_or_rate o (index_of v.rates (decimal step))) (step_back step fits)
+place_back v Scale fits = refl
+place_back v (Rows r) fits = ap (option_map Rows) fits
+place_back v (WideRate r) fits = ap (λ o. step_or_rate o (index_of v.rates (rate_text v r))) fits.1 ∙ ap (option_map WideRate) fits.0
+
+cause_back : (text : List ℕ) (v : NamesView) (c : Cause) → IsCauseFor v c → cause_at v.rates (kind_of_cause c) (answer_value text v (Undecided c)) ≡ Some c
+unfolding cause_at answer_value
+cause_back text v c fits = place_back v c fits
+
+undecided_back : (text : List ℕ) (v : NamesView) (c : Cause) → IsCauseFor v c → undecided_at v.rates (answer_value text v (Undecided c)) ≡ Ok (Undecided c)
+unfolding undecided_at
+undecided_back text v c fits =
+    ap (λ o. and_then (or_key keys.Cause o) (λ kind. and_then (or_key keys.At (cause_at v.rates kind (answer_value text v (Undecided c)))) (λ cause. Ok (Undecided cause)))) (kind_back text v c)
+    ∙ ap (λ o. and_then (or_key keys.At o) (λ cause. Ok (Undecided cause))) (cause_back text v c fits)
+
+-- ---- regions
+
+true_both : (a b : Bool) → a ≡ true → b ≡ true → (a && b) ≡ true
+true_both a b p q = ap (λ c. c && b) p ∙ q
+
+nonzero : (z : ℤ) → (z ≡ pos 0 → ⊥) → not (unsigned_abs z == 0) ≡ true
+nonzero (pos zero) other = absurd (other refl)
+nonzero (pos (suc n)) other = search (rules)
+nonzero (negsuc n) other = search (rules)
+
+row_test : (from low size : ℕ) (ts : Terms) → (from ≤ low) → Ascends low ts → IsUpTo size ts → is_row_between from size ts ≡ true
+row_test from low size [] le asc up = refl
+row_test from low size (t ∷ ts) le asc up =
+    let h = All-head (λ t. (1 ≤ t.0) × (t.0 ≤ size)) t ts up in
+    let there : nat_le from t.0 ≡ true = let e : from ≤ t.0 = omega (arith, le, asc.0) in search (rules, e) in
+    let last : nat_le t.0 size ≡ true = let e = h.1 in search (rules, e) in
+    true_both (is_term_between from size t) (is_row_between (t.0 + 1) size ts)
+    (true_both (nat_le from t.0) (nat_le t.0 size && not (unsigned_abs t.1 == 0)) there (true_both (nat_le t.0 size) (not (unsigned_abs t.1 == 0)) last (nonzero t.1 asc.1)))
+    (row_test (t.0 + 1) (t.0 + 1) size ts (omega arith) asc.3 (All-tail (λ t. (1 ≤ t.0) × (t.0 ≤ size)) t ts up))
+
+from_one : (size : ℕ) (ts : Terms) → Ascends 0 ts → IsUpTo size ts → Ascends 1 ts
+from_one size [] asc up = tt
+from_one size (t ∷ ts) asc up = ((All-head (λ t. (1 ≤ t.0) × (t.0 ≤ size)) t ts up).0, asc.1, asc.2, asc.3)
+
+row_kept : (size : ℕ) (ts : Terms) → IsCanonical ts → IsUpTo size ts → row_of size ts ≡ Some ts
+row_kept size ts canonical up = ap (λ b. cond b (Some ts) None) (row_test 1 1 size ts (omega arith) (from_one size ts canonical up) up)
+
+mark_back : (m : Mark) (ts : Terms) → mark_at (row_value (m, ts)) ≡ Some m
+unfolding mark_at row_value
+mark_back Plain ts = refl
+mark_back Needed ts = refl
+mark_back Unsettled ts = refl
+
+terms_back : (r : Mark × Terms) → All IsPair r.1 → terms_at (row_value r) ≡ Some r.1
+unfolding terms_at row_value
+terms_back r all = same_back IsPair pair_at pair_value pair_back r.1 all
+
+row_back : (size : ℕ) (r : Mark × Terms) → IsRowIn size r → row_at size (row_value r) ≡ Some r
+unfolding row_at
+row_back size r fits =
+    ap (λ o. both o (option_and_then (row_of size) (terms_at (row_value r)))) (mark_back r.0 r.1)
+    ∙ ap (λ o. both (Some r.0) (option_and_then (row_of size) o)) (terms_back r fits.terms)
+    ∙ ap (λ o. both (Some r.0) o) (row_kept size r.1 fits.canonical fits.coordinates)
+
+region_back : (text : List ℕ) (v : NamesView) (rows : List (Mark × Terms)) (size : ℕ) → All (IsRowIn size) rows → region_at size (answer_value text v (Region rows)) ≡ Ok (Region rows)
+unfolding region_at rows_at answer_value
+region_back text v rows size all = ap (λ o. and_then (or_key keys.Rows o) (λ rs. Ok (Region rs))) (same_back (IsRowIn size) (row_at size) row_value (row_back size) rows all)
+
+-- ---- containments
+
+set_back : (n s : ℕ) → (s < 2 ^ 32) × (s < 2 ^ n) → set_at n (count_value s) ≡ Some s
+unfolding set_at
+set_back n s h = ap (option_and_then (set_of n)) (count_read s h.0) ∙ (let lt = h.1 in let e : nat_lt s (2 ^ n) ≡ true = search (rules, lt) in ap (λ b. cond b (Some s) None) e)
+
+contained_back : (text : List ℕ) (v : NamesView) (first second : RegionView) (parts : List ℕ) (ws : List CertificateView) → FitsContainment first second parts ws
+    → contained_at second.auxiliaries (length first.names.variables) (obligation_count second) (answer_value text v (Contained parts ws)) ≡ Ok (Contained parts (map without_zeros ws))
+unfolding contained_at parts_at proofs_at answer_value
+contained_back text v first second parts ws fits =
+    let n = length first.names.variables in
+    ap (λ o. and_then (or_key keys.Parts o) (λ ss. and_then (or_key keys.Proofs (option_and_then (of_length (obligation_count second)) (all_of certificate_at (items_of (map proof_value ws))))) (λ ps. Ok (Contained ss ps))))
+    (ap (option_and_then (of_length second.auxiliaries)) (same_back (λ s. (s < 2 ^ 32) × (s < 2 ^ length first.names.variables)) (set_at (length first.names.variables)) count_value (set_back (length first.names.variables)) parts fits.sets)
+    ∙ exactly second.auxiliaries parts fits.each)
+    ∙ ap (λ o. and_then (or_key keys.Proofs o) (λ ps. Ok (Contained parts ps))) (certificates_back (obligation_count second) ws fits.obligations fits.numbers)
+
+open_back : (text : List ℕ) (v : NamesView) (tried : ℕ) → tried < 2 ^ 32 → open_at (answer_value text v (Open tried)) ≡ Ok (Open tried)
+unfolding open_at tried_at answer_value
+open_back text v tried lt = ap (λ o. and_then (or_key keys.Tried o) (λ t. Ok (Open t))) (count_read tried lt)
+
+-- ---- reports
+
+abbrev kind_of_answer : AnswerView → AnswerKind
+kind_of_answer (Yes proofs) = kinds.Yes
+kind_of_answer (No back values) = kinds.No
+kind_of_answer (Undecided cause) = kinds.Undecided
+kind_of_answer (Region rows) = kinds.Region
+kind_of_answer (Contained parts proofs) = kinds.Contained
+kind_of_answer (Open tried) = kinds.Open
+
+answer_kind_back : (text : List ℕ) (v : NamesView) (a : AnswerView) → answer_kind_at (answer_value text v a) ≡ Some (kind_of_answer a)
+unfolding answer_kind_at answer_value
+answer_kind_back text v (Yes proofs) = refl
+answer_kind_back text v (No back values) = refl
+answer_kind_back text v (Undecided cause) = refl
+answer_kind_back text v (Region rows) = refl
+answer_kind_back text v (Contained parts proofs) = refl
+answer_kind_back text v (Open tried) = refl
+
+text_back : (text : List ℕ) (v : NamesView) (a : AnswerView) → text_of (get (codes "question") (answer_value text v a)) ≡ Some text
+unfolding answer_value
+text_back text v (Yes proofs) = refl
+text_back text v (No back values) = refl
+text_back text v (Undecided cause) = refl
+text_back text v (Region rows) = refl
+text_back text v (Contained parts proofs) = refl
+text_back text v (Open tried) = refl
+
+prove_back : (text : List ℕ) (v : NamesView) (sign : Sign) (a : AnswerView) → FitsProve v sign a → prove_answer v sign (kind_of_answer a) (answer_value text v a) ≡ Ok (written_answer a)
+unfolding prove_answer
+prove_back text v sign (Yes proofs) fits = yes_back text v sign proofs fits
+prove_back text v sign (No back values) fits = no_back text v sign back values fits
+prove_back text v sign (Undecided cause) fits = undecided_back text v cause fits
+prove_back text v sign (Region rows) fits = absurd fits
+prove_back text v sign (Contained parts proofs) fits = absurd fits
+prove_back text v sign (Open tried) fits = absurd fits
+
+eliminate_back : (text : List ℕ) (v : NamesView) (a : AnswerView) → FitsEliminate v a → eliminate_answer v (kind_of_answer a) (answer_value text v a) ≡ Ok (written_answer a)
+unfolding eliminate_answer
+eliminate_back text v (Yes proofs) fits = absurd fits
+eliminate_back text v (No back values) fits = absurd fits
+eliminate_back text v (Undecided cause) fits = undecided_back text v cause fits
+eliminate_back text v (Region rows) fits = region_back text v rows (size_of (space_of v)) fits
+eliminate_back text v (Contained parts proofs) fits = absurd fits
+eliminate_back text v (Open tried) fits = absurd fits
+
+contain_back : (text : List ℕ) (v : NamesView) (first second : RegionView) (a : AnswerView) → FitsContain first second a → contain_answer first second (kind_of_answer a) (answer_value text v a) ≡ Ok (written_answer a)
+unfolding contain_answer
+contain_back text v first second (Yes proofs) fits = absurd fits
+contain_back text v first second (No back values) fits = absurd fits
+contain_back text v first second (Undecided cause) fits = absurd fits
+contain_back text v first second (Region rows) fits = absurd fits
+contain_back text v first second (Contained parts proofs) fits = contained_back text v first second parts proofs fits
+contain_back text v first second (Open tried) fits = open_back text v tried fits
+
+verb_back : (text : List ℕ) (v : NamesView) (verb : VerbView) (a : AnswerView) → FitsVerb v verb a → verb_answer v verb (kind_of_answer a) (answer_value text v a) ≡ Ok (written_answer a)
+verb_back text v (Prove r) a fits = prove_back text v r.sign a fits
+verb_back text v (Eliminate rates) a fits = eliminate_back text v a fits
+verb_back text v (Contain first second tries) a fits = contain_back text v first second a fits
+
+answer_back : (q : QuestionView) (a : AnswerView) → FitsQuestion q.body a → question_answer q (kind_of_answer a) (answer_value q.text q.body.names a) ≡ Ok (written_answer a)
+unfolding question_answer FitsQuestion
+answer_back q a fits = verb_back q.text q.body.names q.body.verb a fits
+
+pub reads_back : ReadsBack
+unfolding report_of
+reads_back q a short file fits = record {
+  own = Some q;
+  question = found_text (answer_value q.text q.body.names a) q.text q (text_back q.text q.body.names a) (short, file);
+  is = ap (λ k. and_then (or_key keys.Answer k) (λ kind. and_then (question_answer q kind (answer_value q.text q.body.names a)) (λ b. Ok (q, b)))) (answer_kind_back q.text q.body.names a)
+      ∙ ap (λ r. and_then r (λ b. Ok (q, b))) (answer_back q a fits);
+}

@@ -1,0 +1,7 @@
+use Rattle.std.proofs.Common.{rules}
+use Rattle.it_question.specs.Questions.{region_view}
+use Rattle.it_certificate.proofs.ObligationLemmas.{count_is}
+use Rattle.it_certificate.proofs.obligations.obligation_count.Goals as goal
+
+pub returns : goal.returns
+returns c = count_is (region_view c.args.region.now) c.givens_forms.result c.rows_forms.result c.givens_forms.ensures.count (search rules)

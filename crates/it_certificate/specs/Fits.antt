@@ -1,0 +1,86 @@
+-- Answers of the shape that a question wants. What is read has it, and what has it reads back.
+use Rattle.std.specs.Prelude.{◌≡◌, ℕ, ◌<◌, ◌^◌, ℤ, List, length, Bool, true, All, Some, None}
+use Rattle.it_number.specs.Limit.{IsWithin}
+use Rattle.it_space.specs.Rows.{Terms, IsCanonical, IsUpTo}
+use Rattle.it_space.specs.Spaces.{size_of}
+use Rattle.it_space.specs.Answers.{CertificateView, AnswerView}
+use Rattle.it_space.specs.Answers.AnswerView.{Yes, No, Undecided, Region, Contained, Open}
+use Rattle.it_space.specs.declared.answers.Mark.{Mark}
+use Rattle.it_space.specs.declared.answers.Cause.{Cause}
+use Rattle.it_space.specs.declared.answers.Cause.TheVariants.{Pivots, Width, Scale, Rows, WideRate}
+use Rattle.it_syntax.specs.NamesViews.{NamesView, index_of}
+use Rattle.it_syntax.specs.declared.types.Sign.{Sign}
+use Rattle.it_question.specs.Questions.{BodyView, RegionView, VerbView, Prove, Eliminate, Contain}
+use Rattle.it_canon.specs.QuestionDemands.{space_of}
+use Rattle.it_certificate.specs.Numerals.{step_of}
+use Rattle.it_certificate.specs.Values.{rate_text}
+use Rattle.it_certificate.specs.AnswerReading.{is_equality, target_count}
+use Rattle.it_certificate.specs.Obligations.{obligation_count}
+
+-- a number of 32 bits with one within the limit
+abbrev pub IsPair : ℕ × ℤ → Type 0
+IsPair t = (t.0 < 2 ^ 32) × IsWithin t.1
+
+-- the numbers of a certificate
+pub record IsNumbered (c : CertificateView) : Type 0 where
+  pub scale : IsWithin c.scale
+  pub parts : All IsPair c.parts
+
+-- a row of a space with so many coordinates
+pub record IsRowIn (size : ℕ) (r : Mark × Terms) : Type 0 where
+  pub terms : All IsPair r.1
+  pub canonical : IsCanonical r.1
+  pub coordinates : IsUpTo size r.1
+
+-- the rate is found by its name
+abbrev pub IsFoundIn : NamesView → ℕ → Type 0
+IsFoundIn v r = index_of v.rates (rate_text v r) ≡ Some r
+
+-- A rate at which a number is too wide is told apart from a step by its name.
+abbrev pub IsCauseFor : NamesView → Cause → Type 0
+IsCauseFor v (Pivots steps) = steps < 2 ^ 32
+IsCauseFor v (Width step) = step < 2 ^ 32
+IsCauseFor v Scale = Unit {0}
+IsCauseFor v (Rows r) = IsFoundIn v r
+IsCauseFor v (WideRate r) = IsFoundIn v r × (step_of (rate_text v r) ≡ None)
+
+-- a certificate a target; a value a coordinate, and the second target where there are two; a cause
+abbrev pub FitsProve : NamesView → Sign → AnswerView → Type 0
+FitsProve v sign (Yes proofs) = (length proofs ≡ target_count sign) × All IsNumbered proofs
+FitsProve v sign (No back values) = (length values ≡ size_of (space_of v)) × All IsWithin values × (back ≡ true → is_equality sign ≡ true)
+FitsProve v sign (Undecided cause) = IsCauseFor v cause
+FitsProve v sign (Region rows) = ⊥
+FitsProve v sign (Contained parts proofs) = ⊥
+FitsProve v sign (Open tried) = ⊥
+
+-- a cause, or rows
+abbrev pub FitsEliminate : NamesView → AnswerView → Type 0
+FitsEliminate v (Yes proofs) = ⊥
+FitsEliminate v (No back values) = ⊥
+FitsEliminate v (Undecided cause) = IsCauseFor v cause
+FitsEliminate v (Region rows) = All (IsRowIn (size_of (space_of v))) rows
+FitsEliminate v (Contained parts proofs) = ⊥
+FitsEliminate v (Open tried) = ⊥
+
+-- a set of the first region's variables for each auxiliary of the second, and a certificate for each of its obligations
+pub record FitsContainment (first second : RegionView) (parts : List ℕ) (proofs : List CertificateView) : Type 0 where
+  pub each : length parts ≡ second.auxiliaries
+  pub sets : All (λ s. (s < 2 ^ 32) × (s < 2 ^ length first.names.variables)) parts
+  pub obligations : length proofs ≡ obligation_count second
+  pub numbers : All IsNumbered proofs
+
+abbrev pub FitsContain : RegionView → RegionView → AnswerView → Type 0
+FitsContain first second (Yes proofs) = ⊥
+FitsContain first second (No back values) = ⊥
+FitsContain first second (Undecided cause) = ⊥
+FitsContain first second (Region rows) = ⊥
+FitsContain first second (Contained parts proofs) = FitsContainment first second parts proofs
+FitsContain first second (Open tried) = tried < 2 ^ 32
+
+abbrev pub FitsVerb : NamesView → VerbView → AnswerView → Type 0
+FitsVerb v (Prove r) answer = FitsProve v r.sign answer
+FitsVerb v (Eliminate rates) answer = FitsEliminate v answer
+FitsVerb v (Contain first second tries) answer = FitsContain first second answer
+
+unfoldable pub FitsQuestion : BodyView → AnswerView → Type 0
+FitsQuestion q answer = FitsVerb q.names q.verb answer

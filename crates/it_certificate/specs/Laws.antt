@@ -1,0 +1,31 @@
+-- What is written reads back, and a line has one reading.
+use Rattle.std.specs.Prelude.{◌≡◌, ℕ, ◌≤◌, List, [], ◌∷◌, map, filter, length, Result, Ok}
+use Rattle.it_space.specs.Answers.{CertificateView, AnswerView}
+use Rattle.it_space.specs.Answers.AnswerView.{Yes, No, Undecided, Region, Contained, Open}
+use Rattle.it_question.specs.Questions.{QuestionView}
+use Rattle.it_question.specs.Files.{IsFile}
+use Rattle.it_certificate.specs.declared.keys.Key.{Key}
+use Rattle.it_certificate.specs.Values.{is_some_weight, answer_value}
+use Rattle.it_certificate.specs.Reports.{ReadsAs, Reads}
+use Rattle.it_certificate.specs.Fits.{FitsQuestion}
+
+abbrev pub without_zeros : CertificateView → CertificateView
+without_zeros c = record { scale = c.scale; parts = filter is_some_weight c.parts }
+
+-- an answer without its weights of 0
+abbrev pub written_answer : AnswerView → AnswerView
+written_answer (Yes proofs) = Yes (map without_zeros proofs)
+written_answer (No back values) = No back values
+written_answer (Undecided cause) = Undecided cause
+written_answer (Region rows) = Region rows
+written_answer (Contained parts proofs) = Contained parts (map without_zeros proofs)
+written_answer (Open tried) = Open tried
+
+-- The value of an answer that fits a question reads as that question with that answer.
+abbrev pub ReadsBack : Type 0
+ReadsBack = (q : QuestionView) (answer : AnswerView) → length q.text ≤ 1048577 → IsFile q.text (q ∷ []) → FitsQuestion q.body answer
+    → ReadsAs (answer_value q.text q.body.names answer) (Ok (q, written_answer answer))
+
+-- A line has at most one reading.
+abbrev pub OneReading : Type 0
+OneReading = (line : List ℕ) (r s : Result (QuestionView × AnswerView) Key) → Reads line r → Reads line s → r ≡ s

@@ -1,0 +1,12 @@
+pub mod Numerals
+pub mod Kinds
+pub mod Values
+pub mod Parts
+pub mod AnswerReading
+pub mod Obligations
+pub mod Reports
+pub mod Fits
+pub mod Laws
+pub mod Rows
+pub mod Steps
+pub mod ReportSteps

@@ -1,0 +1,131 @@
+-- The members of a report's object, each as far as its shape goes.
+use Rattle.std.specs.Prelude.{ℕ, ◌+◌, ◌^◌, ◌==◌, ◌&&◌, not, unsigned_abs, ℤ, List, [], ◌∷◌, ◌++◌, length, Bool, true, if◌then◌else◌, codes, Option, Some, None, option_map, option_and_then, nat_le, nat_lt, bytes_eq}
+use Rattle.serde_json.specs.Data.{Data, Items, no_items, item}
+use Rattle.serde_json.specs.Find.{get, as_str, as_array, as_number, as_u64}
+use Rattle.it_space.specs.Rows.{Terms}
+use Rattle.it_space.specs.Answers.{CertificateView}
+use Rattle.it_space.specs.declared.answers.Cause.{Cause}
+use Rattle.it_space.specs.declared.answers.Cause.TheVariants.{Pivots, Width, Scale, Rows, WideRate}
+use Rattle.it_space.specs.declared.answers.Mark.{Mark}
+use Rattle.it_syntax.specs.NamesViews.{index_of}
+use Rattle.it_certificate.specs.declared.kinds.AnswerKind.{AnswerKind}
+use Rattle.it_certificate.specs.declared.kinds.CauseKind.{CauseKind}
+use Rattle.it_certificate.specs.declared.kinds.CauseKind.TheVariants as causes
+use Rattle.it_certificate.specs.Numerals.{whole_of, count_of, step_of}
+use Rattle.it_certificate.specs.Kinds.{answer_kind_of, cause_kind_of, mark_of, back_of}
+
+abbrev pub text_of : Option Data → Option (List ℕ)
+text_of d = option_and_then as_str d
+
+abbrev pub items_of_array : Option Data → Option Items
+items_of_array d = option_and_then as_array d
+
+-- a whole number as decimal text
+unfoldable pub whole_at : Data → Option ℤ
+whole_at d = option_and_then whole_of (as_str d)
+
+-- a whole number from 0 to 4294967295, written with digits alone
+unfoldable pub count_at : Data → Option ℕ
+count_at d = option_and_then count_of (option_and_then as_u64 (as_number d))
+
+abbrev pub both : {A B : Type 0} → Option A → Option B → Option (A × B)
+both a b = option_and_then (λ x. option_map (λ y. (x, y)) b) a
+
+abbrev pub two_of : Items → Option (Data × Data)
+two_of no_items = None
+two_of (item a no_items) = None
+two_of (item a (item b no_items)) = Some (a, b)
+two_of (item a (item b (item c ds))) = None
+
+-- a term or a weight: a pair of a number and a decimal text
+unfoldable pub pair_at : Data → Option (ℕ × ℤ)
+pair_at d = option_and_then (λ p. both (count_at p.0) (whole_at p.1)) (option_and_then two_of (as_array d))
+
+-- each item by f, where each has one
+abbrev pub all_of : {A : Type 0} → (Data → Option A) → Items → Option (List A)
+all_of f no_items = Some []
+all_of f (item d ds) = option_and_then (λ a. option_map (λ rest. a ∷ rest) (all_of f ds)) (f d)
+
+abbrev pub list_at : {A : Type 0} → (Data → Option A) → Option Data → Option (List A)
+list_at f d = option_and_then (all_of f) (items_of_array d)
+
+abbrev pub of_length : {A : Type 0} → ℕ → List A → Option (List A)
+of_length n xs = if length xs == n then Some xs else None
+
+abbrev pub certificate_by : Option ℤ → Option (List (ℕ × ℤ)) → Option CertificateView
+certificate_by scale parts = option_and_then (λ s. option_map (λ ws. record { scale = s; parts = ws }) parts) scale
+
+unfoldable pub certificate_at : Data → Option CertificateView
+certificate_at d = certificate_by (option_and_then whole_at (get (codes "scale") d)) (list_at pair_at (get (codes "weights") d))
+
+unfoldable pub answer_kind_at : Data → Option AnswerKind
+answer_kind_at d = option_and_then answer_kind_of (text_of (get (codes "answer") d))
+
+-- so many certificates
+unfoldable pub proofs_at : ℕ → Data → Option (List CertificateView)
+proofs_at n d = option_and_then (of_length n) (list_at certificate_at (get (codes "proofs") d))
+
+-- so many values
+unfoldable pub point_at : ℕ → Data → Option (List ℤ)
+point_at n d = option_and_then (of_length n) (list_at whole_at (get (codes "point") d))
+
+unfoldable pub back_at : Bool → Data → Option Bool
+back_at equality d = option_and_then (back_of equality) (text_of (get (codes "side") d))
+
+unfoldable pub cause_kind_at : Data → Option CauseKind
+cause_kind_at d = option_and_then cause_kind_of (text_of (get (codes "cause") d))
+
+-- a step, or else a rate
+abbrev pub step_or_rate : Option ℕ → Option ℕ → Option Cause
+step_or_rate (Some step) rate = Some (Width step)
+step_or_rate None rate = option_map WideRate rate
+
+-- a cause of this kind with its budget, its step or its rate, one of these names
+abbrev pub cause_of : List (List ℕ) → CauseKind → List ℕ → Option Cause
+cause_of rates causes.Pivots place = option_map Pivots (step_of place)
+cause_of rates causes.Width place = step_or_rate (step_of place) (index_of rates place)
+cause_of rates causes.Scale place = if bytes_eq place (codes "0") then Some Scale else None
+cause_of rates causes.Rows place = option_map Rows (index_of rates place)
+
+unfoldable pub cause_at : List (List ℕ) → CauseKind → Data → Option Cause
+cause_at rates kind d = option_and_then (cause_of rates kind) (text_of (get (codes "at") d))
+
+-- a coordinate from one number to another, and its coefficient isn't 0
+abbrev pub is_term_between : ℕ → ℕ → ℕ × ℤ → Bool
+is_term_between from size t = nat_le from t.0 && (nat_le t.0 size && not (unsigned_abs t.1 == 0))
+
+-- such terms, whose coordinates ascend
+abbrev pub is_row_between : ℕ → ℕ → Terms → Bool
+is_row_between from size [] = true
+is_row_between from size (t ∷ ts) = is_term_between from size t && is_row_between (t.0 + 1) size ts
+
+-- a row of a space with so many coordinates
+abbrev pub row_of : ℕ → Terms → Option Terms
+row_of size ts = if is_row_between 1 size ts then Some ts else None
+
+unfoldable pub mark_at : Data → Option Mark
+mark_at d = option_and_then mark_of (text_of (get (codes "mark") d))
+
+unfoldable pub terms_at : Data → Option Terms
+terms_at d = list_at pair_at (get (codes "row") d)
+
+-- a row with its mark
+unfoldable pub row_at : ℕ → Data → Option (Mark × Terms)
+row_at size d = both (mark_at d) (option_and_then (row_of size) (terms_at d))
+
+unfoldable pub rows_at : ℕ → Data → Option (List (Mark × Terms))
+rows_at size d = list_at (row_at size) (get (codes "rows") d)
+
+-- a set of n variables by its number
+abbrev pub set_of : ℕ → ℕ → Option ℕ
+set_of n s = if nat_lt s (2 ^ n) then Some s else None
+
+unfoldable pub set_at : ℕ → Data → Option ℕ
+set_at n d = option_and_then (set_of n) (count_at d)
+
+-- so many sets of n variables
+unfoldable pub parts_at : ℕ → ℕ → Data → Option (List ℕ)
+parts_at count n d = option_and_then (of_length count) (list_at (set_at n) (get (codes "parts") d))
+
+unfoldable pub tried_at : Data → Option ℕ
+tried_at d = option_and_then count_at (get (codes "tried") d)

@@ -1,0 +1,52 @@
+-- No public clause cites this module: what the readers of a report and of its question give, against the definitions.
+use Rattle.std.specs.Prelude.{◌≡◌, ℕ, ◌*◌, ◌-◌, ◌≤◌, List, [], ◌∷◌, length, Option, Some, None, Result, Ok, Err}
+use Rattle.serde_json.specs.Data.{Data}
+use Rattle.it_space.specs.Answers.{answer_view}
+use Rattle.it_syntax.specs.Meaning.{RelationView}
+use Rattle.it_syntax.specs.Givens.{GivenView, Relation, Markov, Independent, Function}
+use Rattle.it_question.specs.Questions.{QuestionView, question_view}
+use Rattle.it_question.specs.Files.{IsFile}
+use Rattle.it_question.specs.declared.types.Question.{Question}
+use Rattle.it_canon.specs.Demands.{kind_of}
+use Rattle.it_certificate.specs.declared.keys.Refusal.{Refusal}
+use Rattle.it_certificate.specs.declared.keys.Refusal.TheVariants.{Memory, Shape}
+use Rattle.it_certificate.specs.declared.keys.ReportFault.{ReportFault}
+use Rattle.it_certificate.specs.declared.keys.ReportFault.TheVariants as faults
+use Rattle.it_certificate.specs.declared.types.Reported.{Reported}
+use Rattle.it_certificate.specs.Obligations.{forms_of}
+use Rattle.it_certificate.specs.Reports.{IsQuestionOf, ReadsAs}
+
+-- how many forms a given says to be at least 0: two an equation
+abbrev pub given_forms : GivenView → ℕ
+given_forms (Relation r) = forms_of (kind_of r.sign)
+given_forms (Markov sets) = 2 * (length sets - 2)
+given_forms (Independent members given) = 2
+given_forms (Function value argument) = 2
+
+-- and a relation
+abbrev pub relation_forms : RelationView → ℕ
+relation_forms r = forms_of (kind_of r.sign)
+
+-- the only one of a list, if it has one item
+abbrev pub IsOnly : List Question → Option Question → Type 0
+IsOnly qs (Some q) = qs ≡ q ∷ []
+IsOnly qs None = length qs ≡ 1 → ⊥
+
+-- what the reader of a text as exactly one question gave
+abbrev pub GivesOnly : List ℕ → Result Question Refusal → Type 0
+GivesOnly text (Ok q) = (length text ≤ 1048577) × IsFile text (question_view q ∷ [])
+GivesOnly text (Err Shape) = (q : QuestionView) → length text ≤ 1048577 → IsFile text (q ∷ []) → ⊥
+GivesOnly text (Err Memory) = Unit {0}
+
+-- what the reader of the key `question` gave
+abbrev pub GivesQuestion : Data → Result Question Refusal → Type 0
+GivesQuestion d (Ok q) = IsQuestionOf d (question_view q)
+GivesQuestion d (Err Shape) = (q : QuestionView) → IsQuestionOf d q → ⊥
+GivesQuestion d (Err Memory) = Unit {0}
+
+-- what the reader of a value gave
+abbrev pub ReadsValue : Data → Result Reported ReportFault → Type 0
+ReadsValue d (Ok r) = ReadsAs d (Ok (question_view r.question, answer_view r.answer))
+ReadsValue d (Err (faults.Shape key)) = ReadsAs d (Err key)
+ReadsValue d (Err faults.NotJson) = ⊥
+ReadsValue d (Err faults.Memory) = Unit {0}

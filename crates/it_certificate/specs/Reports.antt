@@ -1,0 +1,97 @@
+-- The reading of a report line: its question and its answer, or the first key that is missing or of another shape.
+use Rattle.std.specs.Prelude.{◌≡◌, ℕ, ◌≤◌, List, [], ◌∷◌, length, codes, Option, Some, None, Result, Ok, Err, IsUtf8}
+use Rattle.serde_json.specs.Data.{Data}
+use Rattle.serde_json.specs.Find.{get}
+use Rattle.serde_json.specs.Read.{read}
+use Rattle.it_space.specs.Answers.{AnswerView, answer_view}
+use Rattle.it_space.specs.Spaces.{size_of}
+use Rattle.it_syntax.specs.NamesViews.{NamesView}
+use Rattle.it_syntax.specs.declared.types.Sign.{Sign}
+use Rattle.it_question.specs.Questions.{QuestionView, RegionView, VerbView, Prove, Eliminate, Contain, question_view}
+use Rattle.it_question.specs.Files.{IsFile}
+use Rattle.it_canon.specs.QuestionDemands.{space_of}
+use Rattle.it_certificate.specs.declared.keys.Key.{Key}
+use Rattle.it_certificate.specs.declared.keys.Key.TheVariants as keys
+use Rattle.it_certificate.specs.declared.keys.ReportFault.{ReportFault}
+use Rattle.it_certificate.specs.declared.keys.ReportFault.TheVariants as faults
+use Rattle.it_certificate.specs.declared.kinds.AnswerKind.{AnswerKind}
+use Rattle.it_certificate.specs.declared.kinds.AnswerKind.TheVariants.{Yes, No, Undecided, Region, Contained, Open}
+use Rattle.it_certificate.specs.declared.types.Reported.{Reported}
+use Rattle.it_certificate.specs.Parts.{text_of, answer_kind_at}
+use Rattle.it_certificate.specs.AnswerReading.{or_key, and_then, yes_at, no_at, undecided_at, region_at, contained_at, open_at}
+use Rattle.it_certificate.specs.Obligations.{obligation_count}
+
+-- ---- the answers that each verb gives
+
+unfoldable pub prove_answer : NamesView → Sign → AnswerKind → Data → Result AnswerView Key
+prove_answer v sign Yes d = yes_at sign d
+prove_answer v sign No d = no_at (size_of (space_of v)) sign d
+prove_answer v sign Undecided d = undecided_at v.rates d
+prove_answer v sign Region d = Err keys.Answer
+prove_answer v sign Contained d = Err keys.Answer
+prove_answer v sign Open d = Err keys.Answer
+
+unfoldable pub eliminate_answer : NamesView → AnswerKind → Data → Result AnswerView Key
+eliminate_answer v Yes d = Err keys.Answer
+eliminate_answer v No d = Err keys.Answer
+eliminate_answer v Undecided d = undecided_at v.rates d
+eliminate_answer v Region d = region_at (size_of (space_of v)) d
+eliminate_answer v Contained d = Err keys.Answer
+eliminate_answer v Open d = Err keys.Answer
+
+-- The sets are over the variables of the first region, one for each auxiliary of the second.
+unfoldable pub contain_answer : RegionView → RegionView → AnswerKind → Data → Result AnswerView Key
+contain_answer first second Yes d = Err keys.Answer
+contain_answer first second No d = Err keys.Answer
+contain_answer first second Undecided d = Err keys.Answer
+contain_answer first second Region d = Err keys.Answer
+contain_answer first second Contained d = contained_at second.auxiliaries (length first.names.variables) (obligation_count second) d
+contain_answer first second Open d = open_at d
+
+abbrev pub verb_answer : NamesView → VerbView → AnswerKind → Data → Result AnswerView Key
+verb_answer v (Prove r) kind d = prove_answer v r.sign kind d
+verb_answer v (Eliminate rates) kind d = eliminate_answer v kind d
+verb_answer v (Contain first second tries) kind d = contain_answer first second kind d
+
+unfoldable pub question_answer : QuestionView → AnswerKind → Data → Result AnswerView Key
+question_answer q kind d = verb_answer q.body.names q.body.verb kind d
+
+-- ---- the question
+
+-- The member `question` is a text of at most 1048577 bytes, and it reads as this one question.
+unfoldable pub IsQuestionOf : Data → QuestionView → Type 0
+IsQuestionOf d q = (text : List ℕ) × ((text_of (get (codes "question") d) ≡ Some text) × ((length text ≤ 1048577) × IsFile text (q ∷ [])))
+
+-- the question of a report, or that it has none
+abbrev pub IsQuestionAt : Data → Option QuestionView → Type 0
+IsQuestionAt d (Some q) = IsQuestionOf d q
+IsQuestionAt d None = (q : QuestionView) → IsQuestionOf d q → ⊥
+
+-- ---- the report
+
+-- with its question, if it has one: `answer`, `question`, `answer` again by the verb, and what the answer needs
+unfoldable pub report_of : Option QuestionView → Data → Result (QuestionView × AnswerView) Key
+report_of own d =
+    and_then (or_key keys.Answer (answer_kind_at d)) (λ kind.
+    and_then (or_key keys.Question own) (λ q.
+    and_then (question_answer q kind d) (λ answer. Ok (q, answer))))
+
+-- the reading of a JSON value
+pub record ReadsAs (value : Data) (r : Result (QuestionView × AnswerView) Key) : Type 0 where
+  pub own : Option QuestionView
+  pub question : IsQuestionAt value own
+  pub is : report_of own value ≡ r
+
+-- the line is JSON, and this is its reading
+pub record Reads (line : List ℕ) (r : Result (QuestionView × AnswerView) Key) : Type 0 where
+  pub value : Data
+  pub utf8 : IsUtf8 line
+  pub is_json : read line ≡ Some value
+  pub reads : ReadsAs value r
+
+-- what is answered of a line: its question and answer, its first key at fault, that it has no JSON reading, or want of memory
+abbrev pub Reports : List ℕ → Result Reported ReportFault → Type 0
+Reports line (Ok r) = Reads line (Ok (question_view r.question, answer_view r.answer))
+Reports line (Err (faults.Shape key)) = Reads line (Err key)
+Reports line (Err faults.NotJson) = IsUtf8 line → read line ≡ None
+Reports line (Err faults.Memory) = Unit {0}

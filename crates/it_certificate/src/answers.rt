@@ -1,0 +1,125 @@
+//! The answer of a report, by its kind.
+ghost use Rattle.std.specs.Prelude.{◌≡◌, ◌≤◌, All};
+ghost use Rattle.serde_json.specs.View.{view};
+ghost use Rattle.it_space.specs.Answers.{answer_view};
+ghost use Rattle.it_space.specs.Spaces.{IsSpace, size_of};
+ghost use Rattle.it_certificate.specs.AnswerReading.{contained_at, is_equality, no_at, open_at, region_at, undecided_at, yes_at};
+ghost use Rattle.it_certificate.specs.Steps.{GivesKeyed, fault_by};
+
+use crate::keys::{Key, Refusal, ReportFault};
+use crate::members::{back_at, cause_at, cause_kind_at, point_at, proofs_at, tried_at};
+use crate::rows::rows_at;
+use crate::sets::parts_at;
+use it_space::{Answer, Point, Space};
+use it_syntax::Names;
+use it_syntax::types::Sign;
+use serde_json::Value;
+use std::alloc::Global;
+
+/// Why a line isn't read whose part at this key isn't.
+pub fn fault(refusal: Refusal, key: Key) -> ReportFault
+    ensures { result ≡ fault_by refusal key }
+{
+    match refusal {
+        Refusal::Memory => ReportFault::Memory,
+        Refusal::Shape => ReportFault::Shape { key },
+    }
+}
+
+fn is_equality(sign: Sign) -> bool
+    ensures { result ≡ is_equality sign }
+{
+    match sign {
+        Sign::AtLeast | Sign::AtMost => false,
+        Sign::Equal => true,
+    }
+}
+
+/// A yes: as many certificates as a relation of this sign has targets.
+#[tactic(auto, unfolding(crate::specs::AnswerReading::yes_at))]
+pub fn yes_at(alloc: Global, value: &Value, sign: Sign) -> Result<Answer, ReportFault>
+    ensures { GivesKeyed answer_view result (yes_at sign (view value.now)) }
+{
+    let targets = if is_equality(sign) { 2 } else { 1 };
+    match proofs_at(alloc, value, targets) {
+        Ok(proofs) => Ok(Answer::Yes(proofs)),
+        Err(refusal) => Err(fault(refusal, Key::Proofs)),
+    }
+}
+
+/// A no: one value a coordinate, and a side of the relation.
+#[tactic(auto, using(crate::proofs::WithinLemmas::all_within, crate::proofs::WithinLemmas::point_length), unfolding(crate::specs::AnswerReading::no_at))]
+pub fn no_at(alloc: Global, value: &Value, space: Space, sign: Sign) -> Result<Answer, ReportFault>
+    requires { IsSpace space }
+    ensures { GivesKeyed answer_view result (no_at (size_of space) sign (view value.now)) }
+{
+    let values = match point_at(alloc, value, space.size() as usize) {
+        Ok(values) => values,
+        Err(refusal) => return Err(fault(refusal, Key::Point)),
+    };
+    match back_at(value, is_equality(sign)) {
+        Some(back) => Ok(Answer::No {
+            back,
+            point: Point::new(space, values),
+        }),
+        None => Err(ReportFault::Shape { key: Key::Side }),
+    }
+}
+
+/// An undecided, whose rate is one of these names.
+#[tactic(auto, unfolding(crate::specs::AnswerReading::undecided_at))]
+pub fn undecided_at(value: &Value, names: &Names) -> Result<Answer, ReportFault>
+    ensures { GivesKeyed answer_view result (undecided_at names.now.rates (view value.now)) }
+{
+    let Some(kind) = cause_kind_at(value) else {
+        return Err(ReportFault::Shape { key: Key::Cause });
+    };
+    match cause_at(value, names, kind) {
+        Some(cause) => Ok(Answer::Undecided(cause)),
+        None => Err(ReportFault::Shape { key: Key::At }),
+    }
+}
+
+/// A region over a space with so many coordinates.
+#[tactic(auto, unfolding(crate::specs::AnswerReading::region_at))]
+pub fn region_at(alloc: Global, value: &Value, size: u32) -> Result<Answer, ReportFault>
+    ensures { GivesKeyed answer_view result (region_at size (view value.now)) }
+{
+    match rows_at(alloc, value, size) {
+        Ok(rows) => Ok(Answer::Region(rows)),
+        Err(refusal) => Err(fault(refusal, Key::Rows)),
+    }
+}
+
+/// A containment: a set of so many variables for each auxiliary, and one certificate an obligation.
+#[tactic(auto, unfolding(crate::specs::AnswerReading::contained_at))]
+pub fn contained_at(
+    alloc: Global,
+    value: &Value,
+    auxiliaries: u8,
+    variables: u8,
+    obligations: usize,
+) -> Result<Answer, ReportFault>
+    requires { variables ≤ 10 }
+    ensures { GivesKeyed answer_view result (contained_at auxiliaries variables obligations (view value.now)) }
+{
+    let parts = match parts_at(alloc, value, auxiliaries, variables) {
+        Ok(parts) => parts,
+        Err(refusal) => return Err(fault(refusal, Key::Parts)),
+    };
+    match proofs_at(alloc, value, obligations) {
+        Ok(proofs) => Ok(Answer::Contained { parts, proofs }),
+        Err(refusal) => Err(fault(refusal, Key::Proofs)),
+    }
+}
+
+/// A search without an end.
+#[tactic(auto, unfolding(crate::specs::AnswerReading::open_at))]
+pub fn open_at(value: &Value) -> Result<Answer, ReportFault>
+    ensures { GivesKeyed answer_view result (open_at (view value.now)) }
+{
+    match tried_at(value) {
+        Some(tried) => Ok(Answer::Open { tried }),
+        None => Err(ReportFault::Shape { key: Key::Tried }),
+    }
+}

@@ -1,0 +1,59 @@
+//! The keys of reports, and why a line has no reading.
+use std::alloc::{AllocError, AllocFailed};
+use thiserror::Error;
+
+/// The keys of a report in the order in which they are judged, but that `parts` comes before `proofs` and `answer` once more
+/// after `question`.
+#[derive(Clone, Copy, Debug, PartialEq, Eq)]
+pub enum Key {
+    Answer,
+    Question,
+    Proofs,
+    Point,
+    Side,
+    Cause,
+    At,
+    Rows,
+    Parts,
+    Tried,
+}
+
+/// Why a line isn't read: memory ran out, it has no JSON reading, or the first key that is missing or of another shape.
+#[derive(Clone, Copy, Debug, PartialEq, Eq, Error)]
+pub enum ReportFault {
+    #[error("there is too little memory to read the report")]
+    Memory,
+    #[error("the line is no JSON")]
+    NotJson,
+    #[error("a key of the report is missing or of another shape")]
+    Shape { key: Key },
+}
+
+/// Why a part of a report isn't read: memory ran out, or it is missing or of another shape.
+#[derive(Clone, Copy, Debug, PartialEq, Eq)]
+pub enum Refusal {
+    Memory,
+    Shape,
+}
+
+impl From<AllocError> for Refusal {
+    ghost use Rattle.std.specs.Prelude.{◌≡◌};
+    ghost use Rattle.it_certificate.specs.declared.keys.Refusal.TheVariants.{Memory};
+
+    ghost from_gives = { λ _ e. e ≡ Memory };
+
+    fn from(_error: AllocError) -> Refusal {
+        Refusal::Memory
+    }
+}
+
+impl<T: Drop> From<AllocFailed<T>> for Refusal {
+    ghost use Rattle.std.specs.Prelude.{◌≡◌};
+    ghost use Rattle.it_certificate.specs.declared.keys.Refusal.TheVariants.{Memory};
+
+    ghost from_gives = { λ _ e. e ≡ Memory };
+
+    fn from(_error: AllocFailed<T>) -> Refusal {
+        Refusal::Memory
+    }
+}

@@ -1,0 +1,35 @@
+//! Laws of reports.
+ghost use Rattle.it_certificate.specs.Laws.{OneReading, ReadsBack};
+ghost use Rattle.it_certificate.specs.Rows.{CausesReadAsSaid, ContainmentsReadAsSaid, KindsReadAsSaid, LinesWrittenAsSaid, NumbersReadAsSaid, PointsReadAsSaid, ProofsReadAsSaid, RegionsReadAsSaid, TextsReadAsSaid};
+
+/// What is written of an answer that fits its question reads as that answer.
+#[tactic(auto, using(crate::proofs::RoundLemmas::reads_back))]
+pub fn answers_read_back()
+    ensures { ReadsBack }
+{}
+
+/// A line has at most one reading.
+pub fn lines_have_one_reading()
+    ensures { OneReading }
+{}
+
+/// What texts read as, numbers and JSON.
+pub fn texts_read_as_said()
+    ensures numbers { NumbersReadAsSaid }
+    ensures texts { TextsReadAsSaid }
+{}
+
+/// What reports on small questions read as, kind by kind.
+pub fn reports_read_as_said()
+    ensures kinds { KindsReadAsSaid }
+    ensures proofs { ProofsReadAsSaid }
+    ensures points { PointsReadAsSaid }
+    ensures causes { CausesReadAsSaid }
+    ensures regions { RegionsReadAsSaid }
+    ensures containments { ContainmentsReadAsSaid }
+{}
+
+/// What answers are written as.
+pub fn lines_are_written_as_said()
+    ensures { LinesWrittenAsSaid }
+{}

@@ -1,0 +1,29 @@
+//! Answers as reports: lines of JSON, written and read.
+#![tactic(auto)]
+
+mod answers;
+pub mod keys;
+pub mod kinds;
+mod laws;
+mod lists;
+mod members;
+mod numbers;
+mod obligations;
+mod questions;
+mod reports;
+mod rows;
+mod sets;
+pub mod types;
+mod values;
+mod verbs;
+mod writing;
+
+pub use it_space::{Answer, Cause, Certificate, Mark};
+pub use keys::{Key, ReportFault};
+pub use laws::{
+    answers_read_back, lines_are_written_as_said, lines_have_one_reading, reports_read_as_said,
+    texts_read_as_said,
+};
+pub use reports::answer_from_json;
+pub use types::Reported;
+pub use writing::answer_json;

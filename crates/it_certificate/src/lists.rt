@@ -1,0 +1,151 @@
+//! The lists of a report.
+ghost use Rattle.std.specs.Prelude.{◌≡◌, map, option_and_then, option_map};
+ghost use Rattle.serde_json.specs.View.{view, items_view};
+ghost use Rattle.it_space.specs.Answers.{certificate_view};
+ghost use Rattle.it_certificate.specs.Parts.{all_of, certificate_at, items_of_array, list_at, pair_at, two_of, whole_at};
+ghost use Rattle.it_certificate.specs.Steps.{Gives};
+
+use crate::keys::Refusal;
+use crate::numbers::{count_at, whole_at};
+use it_space::Certificate;
+use serde_json::Value;
+use std::alloc::Global;
+
+/// The two values of a pair.
+fn two(values: &[Value]) -> Option<(&Value, &Value)>
+    ensures { option_map (λ p. (view p.0.now, view p.1.now)) result ≡ two_of (items_view values.now) }
+{
+    match values {
+        [a, b] => Some((a, b)),
+        _ => None,
+    }
+}
+
+/// A number and a decimal text: a term or a weight.
+#[tactic(auto, unfolding(crate::specs::Parts::pair_at))]
+fn pair_at(value: &Value) -> Option<(u32, i128)>
+    ensures { result ≡ pair_at (view value.now) }
+{
+    let values = value.as_array()?;
+    let (number, weight) = two(values.as_slice())?;
+    let number = count_at(number)?;
+    let weight = whole_at(weight)?;
+    Some((number, weight))
+}
+
+/// Pairs in order.
+fn pairs(alloc: Global, values: &[Value]) -> Result<Vec<(u32, i128)>, Refusal>
+    ensures { Gives (λ v. v.items) result (all_of pair_at (items_view values.now)) }
+{
+    let mut out = Vec::new(alloc);
+    for value in values {
+        let Some(pair) = pair_at(value) else {
+            return Err(Refusal::Shape);
+        };
+        match out.push(pair) {
+            Ok(()) => {}
+            Err(_) => return Err(Refusal::Memory),
+        }
+    }
+    Ok(out)
+}
+
+/// Whole numbers in order.
+fn wholes(alloc: Global, values: &[Value]) -> Result<Vec<i128>, Refusal>
+    ensures { Gives (λ v. v.items) result (all_of whole_at (items_view values.now)) }
+{
+    let mut out = Vec::new(alloc);
+    for value in values {
+        let Some(whole) = whole_at(value) else {
+            return Err(Refusal::Shape);
+        };
+        match out.push(whole) {
+            Ok(()) => {}
+            Err(_) => return Err(Refusal::Memory),
+        }
+    }
+    Ok(out)
+}
+
+/// The items of a member that is an array.
+pub fn array_of(value: Option<&Value>) -> Option<&[Value]>
+    ensures { option_map (λ s. items_view s.now) result ≡ items_of_array (option_map (λ v. view v.now) value.entry) }
+{
+    match value {
+        Some(value) => match value.as_array() {
+            Some(values) => Some(values.as_slice()),
+            None => None,
+        },
+        None => None,
+    }
+}
+
+/// The pairs of a member.
+pub fn pairs_of_member(alloc: Global, value: Option<&Value>) -> Result<Vec<(u32, i128)>, Refusal>
+    ensures { Gives (λ v. v.items) result (list_at pair_at (option_map (λ v. view v.now) value.entry)) }
+{
+    match array_of(value) {
+        Some(values) => pairs(alloc, values),
+        None => Err(Refusal::Shape),
+    }
+}
+
+/// The whole numbers of a member.
+pub fn wholes_of_member(alloc: Global, value: Option<&Value>) -> Result<Vec<i128>, Refusal>
+    ensures { Gives (λ v. v.items) result (list_at whole_at (option_map (λ v. view v.now) value.entry)) }
+{
+    match array_of(value) {
+        Some(values) => wholes(alloc, values),
+        None => Err(Refusal::Shape),
+    }
+}
+
+/// The whole number of a member.
+fn whole_of_member(value: Option<&Value>) -> Option<i128>
+    ensures { result ≡ option_and_then whole_at (option_map (λ v. view v.now) value.entry) }
+{
+    match value {
+        Some(value) => whole_at(value),
+        None => None,
+    }
+}
+
+/// A certificate.
+#[tactic(auto, unfolding(crate::specs::Parts::certificate_at))]
+fn certificate_at(alloc: Global, value: &Value) -> Result<Certificate, Refusal>
+    ensures { Gives certificate_view result (certificate_at (view value.now)) }
+{
+    let Some(scale) = whole_of_member(value.get("scale")) else {
+        return Err(Refusal::Shape);
+    };
+    let weights = pairs_of_member(alloc, value.get("weights"))?;
+    Ok(Certificate { scale, weights })
+}
+
+/// Certificates in order.
+fn certificates(alloc: Global, values: &[Value]) -> Result<Vec<Certificate>, Refusal>
+    ensures { Gives (λ v. map certificate_view v.items) result (all_of certificate_at (items_view values.now)) }
+{
+    let mut out = Vec::new(alloc);
+    for value in values {
+        let certificate = certificate_at(alloc, value)?;
+        match out.push(certificate) {
+            Ok(()) => {}
+            Err(_) => return Err(Refusal::Memory),
+        }
+    }
+    Ok(out)
+}
+
+/// The certificates of a member.
+pub fn certificates_of_member(
+    alloc: Global,
+    value: Option<&Value>,
+) -> Result<Vec<Certificate>, Refusal>
+    ensures { Gives (λ v. map certificate_view v.items) result (list_at certificate_at (option_map (λ v. view v.now) value.entry)) }
+{
+    match array_of(value) {
+        Some(values) => certificates(alloc, values),
+        None => Err(Refusal::Shape),
+    }
+}

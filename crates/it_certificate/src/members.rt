@@ -1,0 +1,141 @@
+//! The members of a report's object.
+ghost use Rattle.std.specs.Prelude.{◌≡◌, codes, map, option_and_then, option_map};
+ghost use Rattle.serde_json.specs.View.{view};
+ghost use Rattle.serde_json.specs.Find.{get};
+ghost use Rattle.it_space.specs.Answers.{certificate_view};
+ghost use Rattle.it_certificate.specs.Parts.{answer_kind_at, back_at, cause_at, cause_kind_at, cause_of, point_at, proofs_at, step_or_rate, text_of, tried_at};
+ghost use Rattle.it_certificate.specs.Steps.{Gives};
+
+use crate::keys::Refusal;
+use crate::kinds::{AnswerKind, CauseKind, answer_kind_of, back_of, cause_kind_of};
+use crate::lists::{certificates_of_member, wholes_of_member};
+use crate::numbers::{count_at, step};
+use it_space::{Cause, Certificate};
+use it_syntax::Names;
+use serde_json::Value;
+use std::alloc::Global;
+
+/// The text of a member.
+pub fn text_of_member(value: Option<&Value>) -> Option<&str>
+    ensures { option_map (λ s. s.now) result ≡ text_of (option_map (λ v. view v.now) value.entry) }
+{
+    match value {
+        Some(value) => value.as_str(),
+        None => None,
+    }
+}
+
+/// The kind of the answer.
+#[tactic(auto, unfolding(crate::specs::Parts::answer_kind_at))]
+pub fn answer_kind_at(value: &Value) -> Option<AnswerKind>
+    ensures { result ≡ answer_kind_at (view value.now) }
+{
+    match text_of_member(value.get("answer")) {
+        Some(text) => answer_kind_of(text),
+        None => None,
+    }
+}
+
+/// So many certificates.
+#[tactic(auto, unfolding(crate::specs::Parts::proofs_at))]
+pub fn proofs_at(alloc: Global, value: &Value, count: usize) -> Result<Vec<Certificate>, Refusal>
+    ensures { Gives (λ v. map certificate_view v.items) result (proofs_at count (view value.now)) }
+{
+    let certificates = certificates_of_member(alloc, value.get("proofs"))?;
+    if certificates.len() == count {
+        Ok(certificates)
+    } else {
+        Err(Refusal::Shape)
+    }
+}
+
+/// So many values.
+#[tactic(auto, unfolding(crate::specs::Parts::point_at))]
+pub fn point_at(alloc: Global, value: &Value, count: usize) -> Result<Vec<i128>, Refusal>
+    ensures { Gives (λ v. v.items) result (point_at count (view value.now)) }
+{
+    let values = wholes_of_member(alloc, value.get("point"))?;
+    if values.len() == count {
+        Ok(values)
+    } else {
+        Err(Refusal::Shape)
+    }
+}
+
+/// Whether the point violates the second target.
+#[tactic(auto, unfolding(crate::specs::Parts::back_at))]
+pub fn back_at(value: &Value, equality: bool) -> Option<bool>
+    ensures { result ≡ back_at equality (view value.now) }
+{
+    match text_of_member(value.get("side")) {
+        Some(text) => back_of(text, equality),
+        None => None,
+    }
+}
+
+/// The kind of the cause.
+#[tactic(auto, unfolding(crate::specs::Parts::cause_kind_at))]
+pub fn cause_kind_at(value: &Value) -> Option<CauseKind>
+    ensures { result ≡ cause_kind_at (view value.now) }
+{
+    match text_of_member(value.get("cause")) {
+        Some(text) => cause_kind_of(text),
+        None => None,
+    }
+}
+
+/// A step, or else a rate.
+fn step_or_rate(step: Option<u32>, rate: Option<u8>) -> Option<Cause>
+    ensures { result ≡ step_or_rate step rate }
+{
+    match step {
+        Some(step) => Some(Cause::Width(step)),
+        None => match rate {
+            Some(rate) => Some(Cause::WideRate(rate)),
+            None => None,
+        },
+    }
+}
+
+/// A cause of this kind with its budget, step or rate.
+fn cause_of(names: &Names, kind: CauseKind, place: &str) -> Option<Cause>
+    ensures { result ≡ cause_of names.now.rates kind place.now }
+{
+    match kind {
+        CauseKind::Pivots => match step(place) {
+            Some(steps) => Some(Cause::Pivots(steps)),
+            None => None,
+        },
+        CauseKind::Width => step_or_rate(step(place), names.rate(place.as_bytes())),
+        CauseKind::Scale => match place {
+            "0" => Some(Cause::Scale),
+            _ => None,
+        },
+        CauseKind::Rows => match names.rate(place.as_bytes()) {
+            Some(rate) => Some(Cause::Rows(rate)),
+            None => None,
+        },
+    }
+}
+
+/// The cause of this kind.
+#[tactic(auto, unfolding(crate::specs::Parts::cause_at))]
+pub fn cause_at(value: &Value, names: &Names, kind: CauseKind) -> Option<Cause>
+    ensures { result ≡ cause_at names.now.rates kind (view value.now) }
+{
+    match text_of_member(value.get("at")) {
+        Some(place) => cause_of(names, kind, place),
+        None => None,
+    }
+}
+
+/// How many candidates were tried.
+#[tactic(auto, unfolding(crate::specs::Parts::tried_at))]
+pub fn tried_at(value: &Value) -> Option<u32>
+    ensures { result ≡ tried_at (view value.now) }
+{
+    match value.get("tried") {
+        Some(member) => count_at(member),
+        None => None,
+    }
+}

@@ -1,0 +1,122 @@
+//! Numbers in reports: decimal texts, and whole numbers of JSON.
+ghost use Rattle.std.specs.Prelude.{◌≡◌, ◌≤◌, ◌<◌, ◌^◌, ◌+◌, ◌*◌, ◌-◌, SomeIff, option_and_then, Some, ℕ};
+ghost use Rattle.serde_json.specs.View.{view};
+ghost use Rattle.it_certificate.specs.Numerals.{count_of, count_of_whole, magnitude_of, step_of, up_to_limit, value_from, whole_of};
+ghost use Rattle.it_certificate.specs.Parts.{count_at, whole_at};
+
+use serde_json::Value;
+
+const GREATEST: u128 = 170141183460469231731687303715884105727;
+
+/// One digit more, unless the number passes 2^127 - 1.
+fn next(n: u128, d: u8) -> Option<u128>
+    requires within { n < 2 ^ 127 }
+    requires digit { 48 ≤ d }
+    requires last { d ≤ 57 }
+    ensures { SomeIff result (10 * n + (d - 48) < 2 ^ 127) (10 * n + (d - 48)) }
+{
+    if n > 17014118346046923173168730371588410572 {
+        return None;
+    }
+    let more = 10 * n + (d - 48) as u128;
+    if more > GREATEST { None } else { Some(more) }
+}
+
+/// The value of digits.
+fn value(digits: &[u8]) -> Option<u128>
+    ensures { result ≡ option_and_then up_to_limit (value_from 0 digits.now) }
+{
+    let mut n: u128 = 0;
+    for d in digits {
+        if *d < 48 || *d > 57 {
+            return None;
+        }
+        match next(n, *d) {
+            Some(more) => n = more,
+            None => return None,
+        }
+    }
+    Some(n)
+}
+
+/// The value of 1 to 39 digits.
+#[tactic(auto, unfolding(crate::specs::Numerals::magnitude_of))]
+fn magnitude(digits: &[u8]) -> Option<u128>
+    ensures value { result ≡ magnitude_of digits.now }
+    ensures within { (m : ℕ) → result ≡ Some m → m < 2 ^ 127 }
+{
+    if digits.len() >= 1 && digits.len() <= 39 {
+        value(digits)
+    } else {
+        None
+    }
+}
+
+/// The value of a decimal text.
+#[tactic(auto, unfolding(crate::specs::Numerals::whole_of))]
+fn whole(text: &[u8]) -> Option<i128>
+    ensures { result ≡ whole_of text.now }
+{
+    match text {
+        [] => None,
+        [b'-', rest @ ..] => match magnitude(rest) {
+            Some(m) => Some(-(m as i128)),
+            None => None,
+        },
+        _ => match magnitude(text) {
+            Some(m) => Some(m as i128),
+            None => None,
+        },
+    }
+}
+
+/// A whole number as a decimal text.
+#[tactic(auto, unfolding(crate::specs::Parts::whole_at))]
+pub fn whole_at(value: &Value) -> Option<i128>
+    ensures { result ≡ whole_at (view value.now) }
+{
+    match value.as_str() {
+        Some(text) => whole(text.as_bytes()),
+        None => None,
+    }
+}
+
+/// The number, unless it passes 32 bits.
+fn count_of(n: u64) -> Option<u32>
+    ensures { result ≡ count_of n }
+{
+    if n < 4294967296 { Some(n as u32) } else { None }
+}
+
+/// A whole number from 0 to 4294967295, written with digits alone.
+#[tactic(auto, unfolding(crate::specs::Parts::count_at))]
+pub fn count_at(value: &Value) -> Option<u32>
+    ensures { result ≡ count_at (view value.now) }
+{
+    match value.as_u64() {
+        Some(n) => count_of(n),
+        None => None,
+    }
+}
+
+/// The number, if it is from 0 to 4294967295.
+fn count_of_whole(z: &i128) -> Option<u32>
+    ensures { result ≡ count_of_whole z.now }
+{
+    if *z >= 0 && *z < 4294967296 {
+        Some(*z as u32)
+    } else {
+        None
+    }
+}
+
+/// A decimal text with a value from 0 to 4294967295.
+#[tactic(auto, unfolding(crate::specs::Numerals::step_of))]
+pub fn step(text: &str) -> Option<u32>
+    ensures { result ≡ step_of text.now }
+{
+    match whole(text.as_bytes()) {
+        Some(z) => count_of_whole(&z),
+        None => None,
+    }
+}

@@ -1,0 +1,110 @@
+//! The rows of a region in a report.
+ghost use Rattle.std.specs.Prelude.{◌≡◌, All, IfOk};
+ghost use Rattle.serde_json.specs.View.{view, items_view};
+ghost use Rattle.serde_json.specs.Find.{get};
+ghost use Rattle.it_number.specs.Limit.{IsWithin};
+ghost use Rattle.it_certificate.specs.Parts.{all_of, is_row_between, is_term_between, mark_at, row_at, row_of, rows_at, terms_at};
+ghost use Rattle.it_certificate.specs.Steps.{Gives};
+
+use crate::keys::Refusal;
+use crate::kinds::mark_of;
+use crate::lists::{array_of, pairs_of_member};
+use crate::members::text_of_member;
+use it_space::{Mark, Row};
+use serde_json::Value;
+use std::alloc::Global;
+
+/// Whether the coordinate is in a range and the coefficient isn't 0.
+fn is_term_between(from: u64, size: u32, term: &(u32, i128)) -> bool
+    ensures { result ≡ is_term_between from size term.now }
+{
+    from <= term.0 as u64 && (term.0 <= size && term.1 != 0)
+}
+
+/// Whether the coordinates ascend from 1 and go up to `size`, and no coefficient is 0.
+fn is_row(terms: &[(u32, i128)], size: u32) -> bool
+    ensures { result ≡ is_row_between 1 size terms.now }
+{
+    let mut from: u64 = 1;
+    for term in terms {
+        if !is_term_between(from, size, term) {
+            return false;
+        }
+        from = term.0 as u64 + 1;
+    }
+    true
+}
+
+/// A row of a space with so many coordinates.
+fn row_of(terms: Vec<(u32, i128)>, size: u32) -> Option<Row>
+    requires { All (λ t. IsWithin t.1) terms.items }
+    ensures { result ≡ row_of size terms.items }
+{
+    if is_row(terms.as_slice(), size) {
+        Some(Row::new(terms))
+    } else {
+        None
+    }
+}
+
+/// The mark of a row.
+#[tactic(auto, unfolding(crate::specs::Parts::mark_at))]
+fn mark_at(value: &Value) -> Option<Mark>
+    ensures { result ≡ mark_at (view value.now) }
+{
+    match text_of_member(value.get("mark")) {
+        Some(text) => mark_of(text),
+        None => None,
+    }
+}
+
+/// The terms of a row, each coefficient within the limit.
+#[tactic(auto, using(crate::proofs::WithinLemmas::terms_within), unfolding(crate::specs::Parts::terms_at))]
+fn terms_at(alloc: Global, value: &Value) -> Result<Vec<(u32, i128)>, Refusal>
+    ensures terms { Gives (λ v. v.items) result (terms_at (view value.now)) }
+    ensures within { IfOk result (λ v. All (λ t. IsWithin t.1) v.items) }
+{
+    let terms = pairs_of_member(alloc, value.get("row"))?;
+    Ok(terms)
+}
+
+/// A row with its mark.
+#[tactic(auto, unfolding(crate::specs::Parts::row_at))]
+fn row_at(alloc: Global, value: &Value, size: u32) -> Result<(Mark, Row), Refusal>
+    ensures { Gives (λ r. r) result (row_at size (view value.now)) }
+{
+    let Some(mark) = mark_at(value) else {
+        return Err(Refusal::Shape);
+    };
+    let terms = terms_at(alloc, value)?;
+    match row_of(terms, size) {
+        Some(row) => Ok((mark, row)),
+        None => Err(Refusal::Shape),
+    }
+}
+
+/// Rows in order.
+fn rows(alloc: Global, values: &[Value], size: u32) -> Result<Vec<(Mark, Row)>, Refusal>
+    ensures { Gives (λ v. v.items) result (all_of (row_at size) (items_view values.now)) }
+{
+    let mut out = Vec::new(alloc);
+    for value in values {
+        let row = row_at(alloc, value, size)?;
+        match out.push(row) {
+            Ok(()) => {}
+            Err(_) => return Err(Refusal::Memory),
+        }
+    }
+    Ok(out)
+}
+
+/// The rows of a region over a space with so many coordinates.
+#[tactic(auto, unfolding(crate::specs::Parts::rows_at))]
+pub fn rows_at(alloc: Global, value: &Value, size: u32) -> Result<Vec<(Mark, Row)>, Refusal>
+    ensures { Gives (λ v. v.items) result (rows_at size (view value.now)) }
+{
+    match array_of(value.get("rows")) {
+        Some(values) => rows(alloc, values, size),
+        None => Err(Refusal::Shape),
+    }
+}

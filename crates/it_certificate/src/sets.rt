@@ -1,0 +1,76 @@
+//! The sets of a containment in a report.
+ghost use Rattle.std.specs.Prelude.{◌≡◌, ◌≤◌};
+ghost use Rattle.serde_json.specs.View.{view, items_view};
+ghost use Rattle.it_certificate.specs.Parts.{all_of, parts_at, set_at, set_of};
+ghost use Rattle.it_certificate.specs.Steps.{Gives};
+
+use crate::keys::Refusal;
+use crate::lists::array_of;
+use crate::numbers::count_at;
+use it_space::VarSet;
+use serde_json::Value;
+use std::alloc::Global;
+
+/// The set of this number, if it is one of so many variables.
+fn set_of(variables: u8, number: u32) -> Option<VarSet>
+    requires { variables ≤ 10 }
+    ensures { result ≡ set_of variables number }
+{
+    if number < 1u32 << variables {
+        Some(VarSet::from_number(number as u16))
+    } else {
+        None
+    }
+}
+
+/// A set of so many variables.
+#[tactic(auto, unfolding(crate::specs::Parts::set_at))]
+fn set_at(variables: u8, value: &Value) -> Option<VarSet>
+    requires { variables ≤ 10 }
+    ensures { result ≡ set_at variables (view value.now) }
+{
+    match count_at(value) {
+        Some(number) => set_of(variables, number),
+        None => None,
+    }
+}
+
+/// Sets in order.
+fn sets(alloc: Global, variables: u8, values: &[Value]) -> Result<Vec<VarSet>, Refusal>
+    requires { variables ≤ 10 }
+    ensures { Gives (λ v. v.items) result (all_of (set_at variables) (items_view values.now)) }
+{
+    let mut out = Vec::new(alloc);
+    for value in values {
+        let Some(set) = set_at(variables, value) else {
+            return Err(Refusal::Shape);
+        };
+        match out.push(set) {
+            Ok(()) => {}
+            Err(_) => return Err(Refusal::Memory),
+        }
+    }
+    Ok(out)
+}
+
+/// So many sets of so many variables.
+#[tactic(auto, unfolding(crate::specs::Parts::parts_at))]
+pub fn parts_at(
+    alloc: Global,
+    value: &Value,
+    count: u8,
+    variables: u8,
+) -> Result<Vec<VarSet>, Refusal>
+    requires { variables ≤ 10 }
+    ensures { Gives (λ v. v.items) result (parts_at count variables (view value.now)) }
+{
+    let Some(values) = array_of(value.get("parts")) else {
+        return Err(Refusal::Shape);
+    };
+    let sets = sets(alloc, variables, values)?;
+    if sets.len() == count as usize {
+        Ok(sets)
+    } else {
+        Err(Refusal::Shape)
+    }
+}
