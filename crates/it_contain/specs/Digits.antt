@@ -1,0 +1,20 @@
+-- Tuples by their number. No public clause cites this module: it serves the proofs of `Singles` and `Subsets`.
+use Rattle.std.specs.Prelude.{ℕ, suc, zero, ◌≤◌, ◌<◌, ◌/◌, ◌%◌, List, [], ◌∷◌, ◌++◌, map, length, get_or}
+use Rattle.it_contain.specs.declared.types.Shape.{Shape}
+
+-- the last digits of a number to base m, so many, the last one at the end
+abbrev pub digits : ℕ → ℕ → ℕ → List ℕ
+digits m zero number = []
+digits m (suc parts) number = digits m parts (number / m) ++ number % m ∷ []
+
+-- the tuple of a number: the members that its digits count
+abbrev pub tuple_at : List ℕ → ℕ → ℕ → List ℕ
+tuple_at xs parts number = map (λ d. get_or xs d 0) (digits (length xs) parts number)
+
+-- a shape that a proposer keeps: also that of no variable, before it is begun
+abbrev pub IsWithin : Shape → Type 0
+IsWithin s = (s.variables ≤ 10) × (s.parts ≤ 4)
+
+-- four digits below m
+abbrev pub AreBelow : ℕ → List ℕ → Type 0
+AreBelow m r = (get_or r 0 0 < m) × (get_or r 1 0 < m) × (get_or r 2 0 < m) × (get_or r 3 0 < m)

@@ -1,0 +1,92 @@
+-- What a search over boxes ends with.
+use Rattle.std.specs.Prelude.{◌≡◌, ℕ, ◌<◌, List, [], ◌∷◌, ◌++◌, map, take, length, min, Option, Some, Vec, All}
+use Rattle.std.specs.Global.{Global}
+use Rattle.std.specs.Option.{unwrap_or}
+use Rattle.std.specs.List.{AllZip, flat_map}
+use Rattle.it_space.specs.declared.answers.Certificate.{Certificate}
+use Rattle.it_space.specs.Answers.{CertificateView, certificate_view}
+use Rattle.it_space.specs.Problems.{ProblemView, problem_view}
+use Rattle.it_space.specs.Rows.{Terms}
+use Rattle.it_prove.specs.ProofViews.{Yes, EndsWith, IsRightProof}
+use Rattle.it_contain.specs.declared.types.Candidate.{Candidate}
+use Rattle.it_contain.specs.declared.types.Contained.{Contained}
+use Rattle.it_contain.specs.declared.types.Contained.TheVariants.{Found, Open}
+use Rattle.it_contain.specs.declared.types.Pair.{Pair}
+use Rattle.it_contain.specs.declared.types.Shape.{Shape}
+use Rattle.it_contain.specs.Obligations.{ArePulledRows}
+use Rattle.it_contain.specs.Pairs.{Fits, pair_obligations}
+use Rattle.it_contain.specs.Proposals.{Plan, plan_after}
+
+-- what is looked for: a candidate that shows that the pair's first region lies in the second, by runs of so many steps
+pub record Goal : Type 0 where
+  pub pair : Pair
+  pub steps : ℕ
+
+abbrev pub goal_of : Pair → Option ℕ → Goal
+goal_of p budget = record { pair = p; steps = unwrap_or budget 0 }
+
+-- the runs are bounded
+abbrev pub IsBounded : Option ℕ → Type 0
+IsBounded budget = budget ≡ Some (unwrap_or budget 0)
+
+-- the certificate with which the run about a target ends, which is right
+pub record IsProofOf (q : ProblemView) (steps : ℕ) (target : Terms) (w : CertificateView) : Type 0 where
+  pub due : EndsWith q target steps (Yes w)
+  pub right : IsRightProof q target (Yes w)
+
+-- one for each target, in order
+abbrev pub AreProofsOf : ProblemView → ℕ → List Terms → List CertificateView → Type 0
+AreProofsOf q steps targets ws = AllZip (IsProofOf q steps) targets ws
+
+-- the candidate fits, and each of its obligations has its proof
+pub record IsProofBy (goal : Goal) (c : Candidate) (ws : List CertificateView) : Type 0 where
+  pub fits : Fits goal.pair c
+  pub rows : List Terms
+  pub are : ArePulledRows goal.pair.first.space (pair_obligations goal.pair c) rows
+  pub proofs : AreProofsOf (problem_view goal.pair.first) goal.steps rows ws
+
+abbrev pub Proofs : Type 0
+Proofs = Vec Certificate Global
+
+abbrev pub proof_views : Proofs → List CertificateView
+proof_views proofs = map certificate_view proofs.items
+
+unfoldable pub IsProof : Goal → Candidate → Proofs → Type 0
+IsProof goal c proofs = IsProofBy goal c (proof_views proofs)
+
+unfoldable pub IsProved : Goal → Candidate → Type 0
+IsProved goal c = (ws : List CertificateView) × IsProofBy goal c ws
+
+-- it doesn't fit, or the run about one of its obligations doesn't end with a proof
+abbrev pub IsUnproved : Goal → Candidate → Type 0
+IsUnproved goal c = IsProved goal c → ⊥
+
+-- c is the first proved candidate among the first `tries` of the plan
+pub record IsFirst (goal : Goal) (tries : ℕ) (plan : List Candidate) (c : Candidate) : Type 0 where
+  pub before : List Candidate
+  pub after : List Candidate
+  pub parts : plan ≡ before ++ c ∷ after
+  pub within : length before < tries
+  pub unproved : All (IsUnproved goal) before
+  pub proved : IsProved goal c
+
+-- none of the first `tries` of the plan is proved
+pub record IsOpen (goal : Goal) (tries : ℕ) (plan : List Candidate) (tried : ℕ) : Type 0 where
+  pub unproved : All (IsUnproved goal) (take tries plan)
+  pub tried_is : tried ≡ min tries (length plan)
+
+-- the list that each box sets at a beginning, in order
+abbrev pub lists_of : Shape → List Plan → List (List Candidate)
+lists_of shape plans = map (λ p. p shape []) plans
+
+abbrev pub joined_lists : List (List Candidate) → List Candidate
+joined_lists lists = flat_map (λ xs. xs) lists
+
+-- the candidates of a search: those of a list, and then those of the boxes
+unfoldable pub plan_of : List Candidate → List Plan → Shape → List Candidate
+plan_of first plans shape = first ++ joined_lists (lists_of shape plans)
+
+-- The end of a search over boxes with these plans: what it found, and the plans that they have then.
+abbrev pub Ends : Goal → ℕ → List Candidate → List Plan → Contained → List Plan → Type 0
+Ends goal tries plan plans (Found c proofs) plans_after = IsFirst goal tries plan c × IsProof goal c proofs × (plans_after ≡ map (plan_after c) plans)
+Ends goal tries plan plans (Open tried) plans_after = IsOpen goal tries plan tried × (plans_after ≡ plans)

@@ -1,0 +1,43 @@
+-- Parts of a search. No public clause cites this module: it serves the proofs of the search.
+use Rattle.std.specs.Prelude.{◌≡◌, ℕ, List, ◌++◌, map, length, Option, Some, None, All}
+use Rattle.it_space.specs.declared.answers.Certificate.{Certificate}
+use Rattle.it_space.specs.Answers.{CertificateView, certificate_view}
+use Rattle.it_space.specs.Problems.{ProblemView}
+use Rattle.it_space.specs.Rows.{Terms}
+use Rattle.it_contain.specs.declared.types.Candidate.{Candidate}
+use Rattle.it_contain.specs.declared.types.Contained.{Contained}
+use Rattle.it_contain.specs.declared.types.Contained.TheVariants.{Found, Open}
+use Rattle.it_contain.specs.Proposals.{Plan, plan_after}
+use Rattle.it_contain.specs.Search.{Goal, IsProofOf, AreProofsOf, Proofs, proof_views, IsProof, IsUnproved}
+
+-- whether a target is proved
+abbrev pub ProvesOne : ProblemView → ℕ → Terms → Option Certificate → Type 0
+ProvesOne q steps t None = (w : CertificateView) → IsProofOf q steps t w → ⊥
+ProvesOne q steps t (Some c) = IsProofOf q steps t (certificate_view c)
+
+-- whether all are
+abbrev pub ProvesAll : ProblemView → ℕ → List Terms → Option Proofs → Type 0
+ProvesAll q steps ts None = (ws : List CertificateView) → AreProofsOf q steps ts ws → ⊥
+ProvesAll q steps ts (Some proofs) = AreProofsOf q steps ts (proof_views proofs)
+
+-- whether a candidate is
+abbrev pub Judges : Goal → Candidate → Option Proofs → Type 0
+Judges goal c None = IsUnproved goal c
+Judges goal c (Some proofs) = IsProof goal c proofs
+
+-- one candidate was tried, and the boxes were told
+abbrev pub Tries : Goal → Candidate → Option Proofs → List (List Candidate) → List Plan → List (List Candidate) → List Plan → Type 0
+Tries goal c None lists plans lists_after plans_after = IsUnproved goal c × (lists_after ≡ lists) × (plans_after ≡ plans)
+Tries goal c (Some proofs) lists plans lists_after plans_after = IsProof goal c proofs × (plans_after ≡ map (plan_after c) plans)
+
+-- a search has passed the first `tried` of the list in vain, and `rest` is left
+pub record IsPast (goal : Goal) (whole rest : List Candidate) (tried : ℕ) : Type 0 where
+  pub passed : List Candidate
+  pub parts : whole ≡ passed ++ rest
+  pub unproved : All (IsUnproved goal) passed
+  pub count : length passed ≡ tried
+
+-- where nothing was found, what was to come later is still to come
+abbrev pub KeepsLater : Contained → List (List Candidate) → List (List Candidate) → Type 0
+KeepsLater (Found c proofs) later later_after = Unit {0}
+KeepsLater (Open tried) later later_after = later_after ≡ later

@@ -1,0 +1,35 @@
+-- The lists of candidates that `Singles` and `Subsets` propose.
+use Rattle.std.specs.Prelude.{ℕ, suc, zero, ◌^◌, ◌≤◌, List, [], ◌∷◌, ◌++◌, map, take}
+use Rattle.std.specs.List.{flat_map}
+use Rattle.it_polymatroid.specs.Elementals.{span}
+use Rattle.it_contain.specs.declared.types.Shape.{Shape}
+use Rattle.it_contain.specs.declared.types.Candidate.{Candidate}
+
+-- 1 to 10 variables, and at most 4 parts
+pub record IsShape (s : Shape) : Type 0 where
+  pub some : 1 ≤ s.variables
+  pub few : s.variables ≤ 10
+  pub parts : s.parts ≤ 4
+
+-- all lists of so many members out of xs in lexicographic order, the last member changing fastest
+unfoldable pub tuples : List ℕ → ℕ → List (List ℕ)
+tuples xs zero = [] ∷ []
+tuples xs (suc parts) = flat_map (λ x. map (λ t. x ∷ t) (tuples xs parts)) xs
+
+-- the sets of at most one of n variables: the empty set, and each variable alone
+unfoldable pub small_sets : ℕ → List ℕ
+small_sets n = 0 ∷ map (λ i. 2 ^ i) (span 0 n)
+
+-- all sets of n variables
+unfoldable pub all_sets : ℕ → List ℕ
+all_sets n = span 0 (2 ^ n)
+
+-- the candidate of a tuple: the places behind it hold the empty set
+unfoldable pub candidate_of : ℕ → List ℕ → Candidate
+candidate_of parts tuple = record { count = parts; parts = take 4 (tuple ++ (0 ∷ 0 ∷ 0 ∷ 0 ∷ [])) }
+
+unfoldable pub single_candidates : Shape → List Candidate
+single_candidates s = map (candidate_of s.parts) (tuples (small_sets s.variables) s.parts)
+
+unfoldable pub subset_candidates : Shape → List Candidate
+subset_candidates s = map (candidate_of s.parts) (tuples (all_sets s.variables) s.parts)
