@@ -6,7 +6,7 @@ use Rattle.it_space.specs.declared.spaces.Space.{Space}
 use Rattle.it_space.specs.Problems.{ProblemView, IsProblem}
 use Rattle.it_space.specs.Answers.{AnswerView, CertificateView}
 use Rattle.it_space.specs.Answers as answer_views
-use Rattle.it_space.specs.Rows.{Terms, IsUpTo, value, map_of}
+use Rattle.it_space.specs.Rows.{Terms, IsUpTo, value, map_of, negated_terms}
 use Rattle.it_space.specs.Spaces.{size_of}
 use Rattle.it_polymatroid.specs.Certificates.{Form, IsCertificate}
 use Rattle.it_polymatroid.specs.Polymatroid.{IsPolymatroid}
@@ -19,13 +19,12 @@ use Rattle.it_canon.specs.QuestionDemands.{space_of, problem_names, problem_line
 use Rattle.it_canon.proofs.ProblemLemmas.{question_met}
 use Rattle.it_elemental.specs.Generators.{generators}
 use Rattle.it_check.specs.Meaning.{CertifiesRow, RefutesRow}
-use Rattle.it_prove.specs.Columns.{negated_terms}
 use Rattle.it_prove.specs.ProofViews.{ProofView, Yes, No, Undecided, EndsWith, IsRightProof, proof_view}
 use Rattle.it_prove.specs.declared.types.Proof.{Proof}
 use Rattle.it_prove.specs.declared.types.Proof.TheVariants as proofs
-use Rattle.it_prove.proofs.PointLemmas.{value-turned}
-use Rattle.it_prove.proofs.ColumnSteps.{turned_canonical}
-use Rattle.it_prove.proofs.SmallRows.{turned_small}
+use Rattle.it_space.proofs.TermLemmas.{value-negated_terms, ascends-negated_terms}
+use Rattle.it_prove.proofs.SmallRows.{small-negated_terms}
+use Rattle.it_answer.specs.declared.types.Budgets.{Budgets}
 use Rattle.it_answer.specs.Forms.{all_demands, generators_by}
 use Rattle.it_answer.specs.RightAnswers.{CertifiesForm, IsCounterexample, CertifyAll, ViolatesFirst, ShowsTargets, IsRightAnswer, IsRightAnswerBy}
 use Rattle.it_answer.specs.RowAnswers.{CertifyRows, RefutesFirst, ShowsRows, AnswersRows, AnswersForms, answer_after_one, answer_after_two}
@@ -70,10 +69,10 @@ turned_up_to size (t ∷ ts) u = All-cons (λ (t : ℕ × ℤ). (1 ≤ t.0) × (
 
 pub row_negation : (s : Space) (f : Form) (t u : Terms) → u ≡ negated_terms t → IsRowOf s f t → IsRowOf s (negation f) u
 row_negation s f t u e h = subst (IsRowOf s (negation f)) (sym e) (record {
-  same = λ p z. value-turned t p ∙ ap neg_ℤ (h.same p z);
+  same = λ p z. value-negated_terms t p ∙ ap neg_ℤ (h.same p z);
   coordinates = turned_up_to (size_of s) t h.coordinates;
-  canonical = turned_canonical 0 t h.canonical;
-  small = turned_small t h.small;
+  canonical = ascends-negated_terms 0 t h.canonical;
+  small = small-negated_terms t h.small;
 })
 
 -- ---- from rows to the meaning of the text
@@ -116,9 +115,12 @@ module _ (q : BodyView) (p : ProblemView) (e : p.space ≡ space_of (problem_nam
   show fs ts (answer_views.Yes ws) z c = show_all fs ts ws z c
   show fs ts (answer_views.No is_back values) z c = show_first fs ts is_back values z c
   show fs ts (answer_views.Undecided cause) z c = tt
+  show fs ts (answer_views.Region rows) z c = absurd c
+  show fs ts (answer_views.Contained parts proofs) z c = absurd c
+  show fs ts (answer_views.Open tried) z c = absurd c
 
-  pub right : (r : RelationView) (answer : AnswerView) (steps : ℕ) → q.verb ≡ Prove r → AnswersForms p (targets p.space.variables r) answer steps → IsRightAnswer steps q answer
-  right r answer steps is a = subst (λ m. IsRightAnswerBy steps q m answer) (sym is) (record {
+  pub right : (budgets : Budgets) (r : RelationView) (answer : AnswerView) → q.verb ≡ Prove r → AnswersForms p (targets p.space.variables r) answer budgets.pivots → IsRightAnswer budgets q answer
+  right budgets r answer is a = subst (λ m. IsRightAnswerBy budgets q m answer) (sym is) (record {
     shows = moved (λ s. ShowsTargets q (targets s.variables r) answer) (show (targets p.space.variables r) a.rows answer a.are a.answered.shows);
     poses = record { problem = p; rows = a.rows; space = e; limits = k; constraints = st; targets_are = subst (λ n. AreRowsOf p.space (targets n r) a.rows) (ap (λ (s : Space). s.variables) e) a.are };
     due = a.answered.due;

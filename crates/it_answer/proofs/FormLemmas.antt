@@ -1,14 +1,14 @@
 -- What is shown by rows is shown by the forms that they are rows of.
 use Rattle.std.proofs.Common.{◌≡◌, ℕ, zero, suc, ◌<◌, ℤ, pos, ◌+ℤ◌, ◌*ℤ◌, List, [], ◌∷◌, map, length, get_or, refl, sym, ap, ap₂, ◌∙◌, arith}
-use Rattle.std.specs.List.{AllZip}
+use Rattle.std.specs.List.{AllZip, AllByRecursion as Every}
 use Rattle.it_space.specs.declared.spaces.Space.{Space}
 use Rattle.it_space.specs.declared.problems.Constraint.{Constraint}
 use Rattle.it_space.specs.declared.problems.Kind.TheVariants.{Inequality}
 use Rattle.it_space.specs.Answers.{CertificateView}
-use Rattle.it_space.specs.Rows.{value}
-use Rattle.it_polymatroid.specs.Certificates.{Form, IsAllowed, IsCertificate, combination, one_at}
+use Rattle.it_space.specs.Rows.{value, one_at}
+use Rattle.it_polymatroid.specs.Certificates.{Form, IsAllowed, IsCertificate, combination}
 use Rattle.it_polymatroid.specs.Elementals.{elementals}
-use Rattle.it_polymatroid.proofs.Every.{Every, every_of, all_of, every-same}
+use Rattle.it_space.proofs.EveryLemmas.{every_of, all_of, every-same}
 use Rattle.it_polymatroid.proofs.Forms.{one_at-zero}
 use Rattle.it_elemental.proofs.RowLemmas.{value-row}
 use Rattle.it_canon.specs.Demands.{Demand, LineDemand, States, AreStated}

@@ -11,10 +11,12 @@ use Rattle.it_syntax.specs.Meaning.{RelationView}
 use Rattle.it_question.specs.Questions.{BodyView, VerbView, Prove, Eliminate, Contain}
 use Rattle.it_canon.specs.Demands.{LineDemand, States}
 use Rattle.it_canon.specs.Targets.{targets}
-use Rattle.it_canon.specs.QuestionDemands.{question_demands, AreRowsOf}
+use Rattle.it_canon.specs.QuestionDemands.{question_demands, AreRowsOf, Poses}
 use Rattle.it_canon.proofs.ZipLemmas.{zip-right}
 use Rattle.it_prove.proofs.SmallLemmas.{never_at_start}
-use Rattle.it_answer.specs.RightAnswers.{variables_of, Poses, CauseIsDue, IsRightAnswerBy, NoStepIsZero}
+use Rattle.it_answer.specs.declared.types.Budgets.{Budgets}
+use Rattle.it_answer.proofs.RegionLemmas.{not_width}
+use Rattle.it_answer.specs.RightAnswers.{variables_of, CauseIsDue, IsRightAnswerBy, NoStepIsZero}
 
 small_constraints : (q : BodyView) (r : RelationView) (b : Poses q r) → All (λ (c : Constraint). IsSmall c.row) b.problem.constraints
 small_constraints q r b = zip-right (λ (d : LineDemand) (c : Constraint). States b.problem.space d.place d.demand c) (λ (c : Constraint). IsSmall c.row) (λ d c s. s.row.small) (question_demands q) b.problem.constraints b.constraints
@@ -26,10 +28,10 @@ not_before_start p steps (f ∷ fs) [] k small a c = absurd a
 not_before_start p steps (f ∷ fs) (t ∷ ts) k small a (inl e) = never_at_start p t steps k (record { constraints = small; own = a.0.small }) e
 not_before_start p steps (f ∷ fs) (t ∷ ts) k small a (inr c) = not_before_start p steps fs ts k small a.1 c.1
 
-by_verb : (steps : ℕ) (q : BodyView) (aim : VerbView) → IsRightAnswerBy steps q aim (answer_views.Undecided (Width 0)) → ⊥
-by_verb steps q (Prove r) a = not_before_start a.poses.problem steps (targets (variables_of q) r) a.poses.rows a.poses.limits (small_constraints q r a.poses) a.poses.targets_are a.due
-by_verb steps q (Eliminate rates) a = a
-by_verb steps q (Contain first second tries) a = a
+by_verb : (budgets : Budgets) (q : BodyView) (aim : VerbView) → IsRightAnswerBy budgets q aim (answer_views.Undecided (Width 0)) → ⊥
+by_verb budgets q (Prove r) a = not_before_start a.poses.problem budgets.pivots (targets (variables_of q) r) a.poses.rows a.poses.limits (small_constraints q r a.poses) a.poses.targets_are a.due
+by_verb budgets q (Eliminate rates) a = not_width 0 a.due.end a.due.is
+by_verb budgets q (Contain first second tries) a = a
 
 pub no_step_is_zero : NoStepIsZero
-no_step_is_zero steps q a = by_verb steps q q.verb a
+no_step_is_zero budgets q a = by_verb budgets q q.verb a

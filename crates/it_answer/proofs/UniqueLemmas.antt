@@ -10,25 +10,12 @@ use Rattle.it_space.specs.Answers as answer_views
 use Rattle.it_space.specs.Rows.{Terms, IsCanonical}
 use Rattle.it_syntax.specs.Meaning.{RelationView}
 use Rattle.it_question.specs.Questions.{BodyView, VerbView, Prove, Eliminate, Contain}
-use Rattle.it_canon.specs.Demands.{AreStated}
-use Rattle.it_canon.specs.Targets.{targets}
-use Rattle.it_canon.specs.QuestionDemands.{question_demands, AreRowsOf}
-use Rattle.it_canon.proofs.UniqueRows.{one_constraint_list, one_row_list}
+use Rattle.it_canon.proofs.PosesLemmas.{one_problem, same_rows}
 use Rattle.it_prove.specs.ProofViews.{Yes, No, Undecided}
 use Rattle.it_prove.proofs.ProofLemmas.{one_outcome, proven_ascends}
-use Rattle.it_answer.specs.RightAnswers.{variables_of, Poses, ProofsAreDue, PointIsDue, CauseIsDue, IsDue, IsRightFor, IsRightAnswerBy, OneRightAnswer, AYesAscends}
-
--- ---- the question's problem and rows
-
-pub one_problem : (q : BodyView) (r : RelationView) (a b : Poses q r) → a.problem ≡ b.problem
-one_problem q r a b = ap₂ (λ (s : Space) (cs : List Constraint). record { space = s; constraints = cs }) same (one_constraint_list b.problem.space (question_demands q) a.problem.constraints b.problem.constraints
-    (subst (λ (s : Space). AreStated s (question_demands q) a.problem.constraints) same a.constraints) b.constraints)
-  where
-    same : a.problem.space ≡ b.problem.space
-    same = a.space ∙ sym b.space
-
-pub same_rows : (q : BodyView) (r : RelationView) (a b : Poses q r) → a.rows ≡ b.rows
-same_rows q r a b = one_row_list b.problem.space (targets (variables_of q) r) a.rows b.rows (subst (λ (s : Space). AreRowsOf s (targets (variables_of q) r) a.rows) (a.space ∙ sym b.space) a.targets_are) b.targets_are
+use Rattle.it_answer.specs.declared.types.Budgets.{Budgets}
+use Rattle.it_answer.proofs.RegionLemmas.{one_elimination}
+use Rattle.it_answer.specs.RightAnswers.{variables_of, ProofsAreDue, PointIsDue, CauseIsDue, IsDue, IsRightFor, IsRightAnswerBy, OneRightAnswer, AYesAscends}
 
 -- ---- the answer that is due
 
@@ -97,28 +84,49 @@ module _ (p : ProblemView) (steps : ℕ) where
   one_cause (t ∷ ts) c d (inr a) (inl b) = absurd (proven_not_open a.0.0 d (one_outcome p t steps (Yes a.0.0) (Undecided d) a.0.1 b))
   one_cause (t ∷ ts) c d (inr a) (inr b) = one_cause ts c d a.1 b.1
 
+  yes_is : (ts : List Terms) (ws : List CertificateView) (b : AnswerView) → ProofsAreDue p steps ts ws → IsDue p steps ts b → answer_views.Yes ws ≡ b
+  yes_is ts ws (answer_views.Yes vs) x y = ap answer_views.Yes (one_yes ts ws vs x y)
+  yes_is ts ws (answer_views.No is_back values) x y = absurd (yes_not_no ts ws is_back values x y)
+  yes_is ts ws (answer_views.Undecided cause) x y = absurd (yes_not_undecided ts ws cause x y)
+  yes_is ts ws (answer_views.Region rows) x y = absurd y
+  yes_is ts ws (answer_views.Contained parts proofs) x y = absurd y
+  yes_is ts ws (answer_views.Open tried) x y = absurd y
+
+  no_is : (ts : List Terms) (is_back : Bool) (values : List ℤ) (b : AnswerView) → PointIsDue p steps ts is_back values → IsDue p steps ts b → answer_views.No is_back values ≡ b
+  no_is ts is_back values (answer_views.Yes ws) x y = absurd (yes_not_no ts ws is_back values y x)
+  no_is ts is_back values (answer_views.No is_other others) x y = one_no ts is_back is_other values others x y
+  no_is ts is_back values (answer_views.Undecided cause) x y = absurd (no_not_undecided ts is_back values cause x y)
+  no_is ts is_back values (answer_views.Region rows) x y = absurd y
+  no_is ts is_back values (answer_views.Contained parts proofs) x y = absurd y
+  no_is ts is_back values (answer_views.Open tried) x y = absurd y
+
+  undecided_is : (ts : List Terms) (cause : Cause) (b : AnswerView) → CauseIsDue p steps ts cause → IsDue p steps ts b → answer_views.Undecided cause ≡ b
+  undecided_is ts cause (answer_views.Yes ws) x y = absurd (yes_not_undecided ts ws cause y x)
+  undecided_is ts cause (answer_views.No is_back values) x y = absurd (no_not_undecided ts is_back values cause y x)
+  undecided_is ts cause (answer_views.Undecided other) x y = ap answer_views.Undecided (one_cause ts cause other x y)
+  undecided_is ts cause (answer_views.Region rows) x y = absurd y
+  undecided_is ts cause (answer_views.Contained parts proofs) x y = absurd y
+  undecided_is ts cause (answer_views.Open tried) x y = absurd y
+
   one_due : (ts : List Terms) (a b : AnswerView) → IsDue p steps ts a → IsDue p steps ts b → a ≡ b
-  one_due ts (answer_views.Yes ws) (answer_views.Yes vs) a b = ap answer_views.Yes (one_yes ts ws vs a b)
-  one_due ts (answer_views.Yes ws) (answer_views.No is_back values) a b = absurd (yes_not_no ts ws is_back values a b)
-  one_due ts (answer_views.Yes ws) (answer_views.Undecided cause) a b = absurd (yes_not_undecided ts ws cause a b)
-  one_due ts (answer_views.No is_back values) (answer_views.Yes ws) a b = absurd (yes_not_no ts ws is_back values b a)
-  one_due ts (answer_views.No is_back values) (answer_views.No is_other others) a b = one_no ts is_back is_other values others a b
-  one_due ts (answer_views.No is_back values) (answer_views.Undecided cause) a b = absurd (no_not_undecided ts is_back values cause a b)
-  one_due ts (answer_views.Undecided cause) (answer_views.Yes ws) a b = absurd (yes_not_undecided ts ws cause b a)
-  one_due ts (answer_views.Undecided cause) (answer_views.No is_back values) a b = absurd (no_not_undecided ts is_back values cause b a)
-  one_due ts (answer_views.Undecided cause) (answer_views.Undecided other) a b = ap answer_views.Undecided (one_cause ts cause other a b)
+  one_due ts (answer_views.Yes ws) b x y = yes_is ts ws b x y
+  one_due ts (answer_views.No is_back values) b x y = no_is ts is_back values b x y
+  one_due ts (answer_views.Undecided cause) b x y = undecided_is ts cause b x y
+  one_due ts (answer_views.Region rows) b x y = absurd x
+  one_due ts (answer_views.Contained parts proofs) b x y = absurd x
+  one_due ts (answer_views.Open tried) b x y = absurd x
 
 one_for : (steps : ℕ) (q : BodyView) (r : RelationView) (a b : AnswerView) → IsRightFor steps q r a → IsRightFor steps q r b → a ≡ b
 one_for steps q r a b x y = one_due y.poses.problem steps y.poses.rows a b
     (subst (λ (p : ProblemView). IsDue p steps y.poses.rows a) (one_problem q r x.poses y.poses) (subst (λ (ts : List Terms). IsDue x.poses.problem steps ts a) (same_rows q r x.poses y.poses) x.due)) y.due
 
-one_by : (steps : ℕ) (q : BodyView) (aim : VerbView) (a b : AnswerView) → IsRightAnswerBy steps q aim a → IsRightAnswerBy steps q aim b → a ≡ b
-one_by steps q (Prove r) a b x y = one_for steps q r a b x y
-one_by steps q (Eliminate rates) a b x y = absurd x
-one_by steps q (Contain first second tries) a b x y = absurd x
+one_by : (budgets : Budgets) (q : BodyView) (aim : VerbView) (a b : AnswerView) → IsRightAnswerBy budgets q aim a → IsRightAnswerBy budgets q aim b → a ≡ b
+one_by budgets q (Prove r) a b x y = one_for budgets.pivots q r a b x y
+one_by budgets q (Eliminate rates) a b x y = one_elimination budgets.rows q rates a b x y
+one_by budgets q (Contain first second tries) a b x y = absurd x
 
 pub one_right_answer : OneRightAnswer
-one_right_answer steps q a b x y = one_by steps q q.verb a b x y
+one_right_answer budgets q a b x y = one_by budgets q q.verb a b x y
 
 -- ---- the certificates of a yes
 
@@ -128,10 +136,10 @@ each_ascends p steps [] (w ∷ ws) a = absurd a
 each_ascends p steps (t ∷ ts) [] a = absurd a
 each_ascends p steps (t ∷ ts) (w ∷ ws) a = All-cons (λ (w : CertificateView). IsCanonical w.parts) w ws (proven_ascends p t steps w a.0) (each_ascends p steps ts ws a.1)
 
-ascends_by : (steps : ℕ) (q : BodyView) (aim : VerbView) (ws : List CertificateView) → IsRightAnswerBy steps q aim (answer_views.Yes ws) → All (λ (w : CertificateView). IsCanonical w.parts) ws
-ascends_by steps q (Prove r) ws x = each_ascends x.poses.problem steps x.poses.rows ws x.due
-ascends_by steps q (Eliminate rates) ws x = absurd x
-ascends_by steps q (Contain first second tries) ws x = absurd x
+ascends_by : (budgets : Budgets) (q : BodyView) (aim : VerbView) (ws : List CertificateView) → IsRightAnswerBy budgets q aim (answer_views.Yes ws) → All (λ (w : CertificateView). IsCanonical w.parts) ws
+ascends_by budgets q (Prove r) ws x = each_ascends x.poses.problem budgets.pivots x.poses.rows ws x.due
+ascends_by budgets q (Eliminate rates) ws x = absurd x.shows
+ascends_by budgets q (Contain first second tries) ws x = absurd x
 
 pub a_yes_ascends : AYesAscends
-a_yes_ascends steps q ws x = ascends_by steps q q.verb ws x
+a_yes_ascends budgets q ws x = ascends_by budgets q q.verb ws x

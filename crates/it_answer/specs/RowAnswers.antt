@@ -1,15 +1,23 @@
 -- Answers about rows, by which the calls in this crate are proved. No public clause cites this module.
-use Rattle.std.specs.Prelude.{ℕ, ℤ, List, [], ◌∷◌, Bool, true, false}
-use Rattle.it_space.specs.Problems.{ProblemView}
+use Rattle.std.specs.Prelude.{◌≡◌, ℕ, ℤ, List, [], ◌∷◌, Bool, true, false}
+use Rattle.it_space.specs.Problems.{ProblemView, IsProblem}
 use Rattle.it_space.specs.Answers.{AnswerView, CertificateView}
-use Rattle.it_space.specs.Answers.AnswerView.{Yes, No, Undecided}
+use Rattle.it_space.specs.Answers.AnswerView.{Yes, No, Undecided, Region, Contained, Open}
 use Rattle.it_space.specs.Rows.{Terms}
 use Rattle.it_polymatroid.specs.Certificates.{Form}
-use Rattle.it_canon.specs.QuestionDemands.{AreRowsOf}
+use Rattle.it_question.specs.Questions.{BodyView}
+use Rattle.it_canon.specs.Demands.{AreStated}
+use Rattle.it_canon.specs.QuestionDemands.{AreRowsOf, space_of, problem_names, question_demands}
 use Rattle.it_check.specs.Meaning.{CertifiesRow, RefutesRow}
 use Rattle.it_prove.specs.ProofViews.{ProofView}
 use Rattle.it_prove.specs.ProofViews as proof_views
 use Rattle.it_answer.specs.RightAnswers.{IsDue}
+
+-- the problem that a question poses
+pub record IsProblemOf (q : BodyView) (p : ProblemView) : Type 0 where
+  pub space : p.space ≡ space_of (problem_names q)
+  pub limits : IsProblem p
+  pub constraints : AreStated p.space (question_demands q) p.constraints
 
 -- one certificate of each row, in order
 abbrev pub CertifyRows : ProblemView → List Terms → List CertificateView → Type 0
@@ -29,6 +37,9 @@ abbrev pub ShowsRows : ProblemView → List Terms → AnswerView → Type 0
 ShowsRows p ts (Yes ws) = CertifyRows p ts ws
 ShowsRows p ts (No is_back values) = RefutesFirst p ts is_back values
 ShowsRows p ts (Undecided cause) = Unit {0}
+ShowsRows p ts (Region rows) = ⊥
+ShowsRows p ts (Contained parts proofs) = ⊥
+ShowsRows p ts (Open tried) = ⊥
 
 -- the answer shows what it says of the rows, and the run says that it is due
 pub record AnswersRows (p : ProblemView) (steps : ℕ) (ts : List Terms) (answer : AnswerView) : Type 0 where

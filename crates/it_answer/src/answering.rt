@@ -1,4 +1,4 @@
-//! The answer to a question.
+//! The answers to questions.
 ghost use Rattle.std.specs.Prelude.{◌≡◌, [], ◌∷◌, IfOk};
 ghost use Rattle.std.specs.Option.{IfSome};
 ghost use Rattle.it_space.specs.Answers.{answer_view, certificate_view};
@@ -6,44 +6,66 @@ ghost use Rattle.it_space.specs.Problems.{IsProblem, problem_view};
 ghost use Rattle.it_syntax.specs.Meaning.{relation_view};
 ghost use Rattle.it_syntax.specs.Givens.{IsRelationOf};
 ghost use Rattle.it_question.specs.Limits.{IsQuestion};
-ghost use Rattle.it_question.specs.Questions.{Prove, question_body};
+ghost use Rattle.it_question.specs.Questions.{question_body};
 ghost use Rattle.it_canon.specs.Canonical.{form_of};
 ghost use Rattle.it_canon.specs.Demands.{AreStated};
-ghost use Rattle.it_canon.specs.QuestionDemands.{question_demands};
+ghost use Rattle.it_canon.specs.QuestionDemands.{problem_names, question_demands, space_of};
 ghost use Rattle.it_canon.specs.Targets.{negation, targets};
 ghost use Rattle.it_prove.specs.ProofViews.{proof_view};
+ghost use Rattle.it_answer.specs.AnswerableQuestions.{IsAnswerable};
 ghost use Rattle.it_answer.specs.RightAnswers.{IsRightAnswer};
-ghost use Rattle.it_answer.specs.RowAnswers.{AnswersForms, answer_after_one, answer_after_two};
+ghost use Rattle.it_answer.specs.RowAnswers.{AnswersForms, IsProblemOf, answer_after_one, answer_after_two};
 
-use crate::types::AnsweredProblem;
+use crate::regions::region;
+use crate::types::{AnsweredProblem, Budgets};
 use it_canon::{canon, problem};
 use it_prove::{Proof, opposite_row, prove};
-use it_question::types::Question;
+use it_question::types::{Question, Verb};
 use it_simplex::Budget;
 use it_space::{Answer, Certificate, Problem};
 use it_syntax::types::{Relation, Sign};
 use std::alloc::{AllocError, Global};
 
-/// A right answer to a question whose verb is `prove` about the relation, by runs of at most the budget's steps. The two
-/// targets of an equality are the left side less the right one, then the right side less the left one; the second is asked
-/// only where the first has a certificate.
+/// A right answer to a question that is answered so far, within the budgets.
 pub fn answer(
     alloc: Global,
     question: &Question,
-    relation: &Relation,
-    budget: Budget,
+    budgets: Budgets,
 ) -> Result<AnsweredProblem, AllocError>
-    requires question { IsQuestion (question_body question.now) }
-    requires proves { (question_body question.now).verb ≡ Prove (relation_view relation.now) }
+    requires limits { IsQuestion (question_body question.now) }
+    requires answerable { IsAnswerable (question_body question.now) }
+    ensures space { IfOk result (λ a. a.problem.space ≡ space_of (problem_names (question_body question.now))) }
     ensures problem { IfOk result (λ a. AreStated a.problem.space (question_demands (question_body question.now)) a.problem.constraints.items) }
-    ensures right { IfOk result (λ a. IfSome budget (λ steps. IsRightAnswer steps (question_body question.now) (answer_view a.answer))) }
+    ensures right { IfOk result (λ a. IsRightAnswer budgets (question_body question.now) (answer_view a.answer)) }
 {
     let problem = problem(alloc, question)?;
-    let answer = about(alloc, &problem, relation, budget)?;
+    let answer = answer_under(alloc, question, &problem, budgets)?;
     Ok(AnsweredProblem { problem, answer })
 }
 
-/// The answer about a relation under a problem.
+/// The answer to a question by its verb, with the question's problem.
+fn answer_under(
+    alloc: Global,
+    question: &Question,
+    problem: &Problem,
+    budgets: Budgets,
+) -> Result<Answer, AllocError>
+    requires limits { IsQuestion (question_body question.now) }
+    requires answerable { IsAnswerable (question_body question.now) }
+    requires problem { IsProblemOf (question_body question.now) (problem_view problem.now) }
+    ensures { IfOk result (λ a. IsRightAnswer budgets (question_body question.now) (answer_view a)) }
+{
+    match &question.verb {
+        Verb::Prove(relation) => about(alloc, problem, relation, Budget::at_most(budgets.pivots)),
+        Verb::Eliminate(rates) => {
+            region(alloc, question, rates.as_slice(), budgets.rows as usize)
+        }
+        Verb::Contain { .. } => unreachable!(),
+    }
+}
+
+/// The answer about a relation under a problem, by runs of at most the budget's steps. The two targets of an equality are the left
+/// side less the right one, then the right side less the left one; the second is asked only where the first has a certificate.
 fn about(
     alloc: Global,
     problem: &Problem,

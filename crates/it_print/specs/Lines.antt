@@ -1,13 +1,16 @@
 -- The lines of an answer, as bytes.
-use Rattle.std.specs.Prelude.{ℕ, ◌+◌, ◌-◌, ◌^◌, ◌<◌, ℤ, unsigned_abs, map, not, All, List, [], ◌∷◌, ◌++◌, length, Bool, true, false, if◌then◌else◌, ◌==◌, codes, decimal, nat_lt, slice_index_or}
+use Rattle.std.specs.Prelude.{ℕ, ◌+◌, ◌-◌, ◌^◌, ◌<◌, ℤ, pos, negsuc, unsigned_abs, map, not, All, List, [], ◌∷◌, ◌++◌, length, Bool, true, false, if◌then◌else◌, ◌==◌, codes, decimal, nat_lt, slice_index_or}
 use Rattle.std.specs.Fmt.{signed_decimal}
 use Rattle.it_space.specs.Sets.{has_member}
 use Rattle.it_space.specs.Answers.{AnswerView, CertificateView}
-use Rattle.it_space.specs.Answers.AnswerView.{Yes, No, Undecided}
+use Rattle.it_space.specs.Answers.AnswerView.{Yes, No, Undecided, Region, Contained, Open}
 use Rattle.it_space.specs.declared.answers.Answer.{Answer}
 use Rattle.it_space.specs.declared.answers.Answer.TheVariants as answers
 use Rattle.it_space.specs.declared.answers.Cause.{Cause}
 use Rattle.it_space.specs.declared.answers.Cause.TheVariants.{Pivots, Width, Scale, Rows, WideRate}
+use Rattle.it_space.specs.declared.answers.Mark.{Mark}
+use Rattle.it_space.specs.declared.answers.Mark.TheVariants.{Plain, Needed, Unsettled}
+use Rattle.it_space.specs.Rows.{Terms}
 use Rattle.it_space.specs.declared.problems.Constraint.{Constraint}
 use Rattle.it_space.specs.declared.problems.Origin.{Origin}
 use Rattle.it_space.specs.declared.problems.Origin.TheVariants.{Given, Rate}
@@ -110,6 +113,44 @@ cause_text v Scale = codes "scale"
 cause_text v (Rows r) = codes "rows " ++ slice_index_or v.rates r []
 cause_text v (WideRate r) = codes "width " ++ slice_index_or v.rates r []
 
+-- ROW: the sign of a term, with blanks round it behind another term; its coefficient with a blank where that isn't 1
+abbrev pub is_negative : ℤ → Bool
+is_negative (pos n) = false
+is_negative (negsuc n) = true
+
+abbrev pub sign_text : Bool → Bool → List ℕ
+sign_text true true = codes "-"
+sign_text true false = []
+sign_text false true = codes " - "
+sign_text false false = codes " + "
+
+abbrev pub factor_text : ℕ → List ℕ
+factor_text n = if n == 1 then [] else decimal n ++ codes " "
+
+unfoldable pub term_text : NamesView → Bool → ℕ × ℤ → List ℕ
+term_text v is_first t = sign_text is_first (is_negative t.1) ++ factor_text (unsigned_abs t.1) ++ coordinate_text v t.0
+
+abbrev pub terms_text : NamesView → Bool → Terms → List ℕ
+terms_text v is_first [] = []
+terms_text v is_first (t ∷ ts) = term_text v is_first t ++ terms_text v false ts
+
+-- a row that is to be at least 0: its terms by coordinate, or `0`
+unfoldable pub row_text : NamesView → Terms → List ℕ
+row_text v [] = codes "0 >= 0"
+row_text v (t ∷ ts) = terms_text v true (t ∷ ts) ++ codes " >= 0"
+
+abbrev pub mark_text : Mark → List ℕ
+mark_text Plain = codes "plain"
+mark_text Needed = codes "needed"
+mark_text Unsettled = codes "unsettled"
+
+unfoldable pub row_line : ℕ → NamesView → Mark × Terms → List ℕ
+row_line k v row = decimal k ++ codes " row " ++ mark_text row.0 ++ codes " " ++ row_text v row.1 ++ codes "\n"
+
+abbrev pub row_lines : ℕ → NamesView → List (Mark × Terms) → List ℕ
+row_lines k v [] = []
+row_lines k v (row ∷ rows) = row_line k v row ++ row_lines k v rows
+
 -- the lines after the question's number
 unfoldable pub yes_line : ℕ → List (List ℕ) → List Origin → List CertificateView → List ℕ
 yes_line k names places ws = decimal k ++ codes " yes " ++ joined_texts (codes " and ") false (map (weights_text names places) ws) ++ codes "\n"
@@ -120,6 +161,13 @@ no_line k v values = decimal k ++ codes " no" ++ values_from v 1 values ++ codes
 unfoldable pub undecided_line : ℕ → NamesView → Cause → List ℕ
 undecided_line k v cause = decimal k ++ codes " undecided " ++ cause_text v cause ++ codes "\n"
 
+-- the number of a region's rows, and a line for each
+unfoldable pub region_lines : ℕ → NamesView → List (Mark × Terms) → List ℕ
+region_lines k v rows = decimal k ++ codes " region " ++ decimal (length rows) ++ codes "\n" ++ row_lines k v rows
+
+unfoldable pub open_line : ℕ → ℕ → List ℕ
+open_line k tried = decimal k ++ codes " open " ++ decimal tried ++ codes "\n"
+
 -- a cause of a question with so many rates
 abbrev pub IsCauseOf : ℕ → Cause → Type 0
 IsCauseOf m (Pivots steps) = Unit {0}
@@ -128,14 +176,25 @@ IsCauseOf m Scale = Unit {0}
 IsCauseOf m (Rows r) = r < m
 IsCauseOf m (WideRate r) = r < m
 
--- the line of an answer to question k, with the names of its variables and rates and the places of its constraints
+-- the coordinates of a row are sets of the variables and rates
+abbrev pub IsRowOver : NamesView → Terms → Type 0
+IsRowOver v terms = All (λ t. t.0 < 2 ^ length v.variables + length v.rates) terms
+
+-- the lines of an answer to question k, with the names of its variables and rates and the places of its constraints
 abbrev pub answer_line : ℕ → NamesView → List Origin → AnswerView → List ℕ
 answer_line k v places (Yes ws) = yes_line k v.variables places ws
 answer_line k v places (No is_back values) = no_line k v values
 answer_line k v places (Undecided cause) = undecided_line k v cause
+answer_line k v places (Region rows) = region_lines k v rows
+answer_line k v places (Contained parts proofs) = []
+answer_line k v places (Open tried) = open_line k tried
 
--- with m constraints: the generators of each certificate are there, the point's values and the cause's rate are of the names
+-- with m constraints: the generators of each certificate are there, the point's values, the cause's rate and the rows are of the
+-- names; containment has no lines yet
 abbrev pub IsPrintable : NamesView → ℕ → Answer → Type 0
 IsPrintable v m (answers.Yes proofs) = All (λ c. All (λ w. w.0 < length (elementals (length v.variables)) + m) c.weights.items) proofs.items
 IsPrintable v m (answers.No back point) = (length point < 2 ^ length v.variables + length v.rates) × (length point < 2 ^ 16)
 IsPrintable v m (answers.Undecided cause) = IsCauseOf (length v.rates) cause
+IsPrintable v m (answers.Region rows) = All (λ row. IsRowOver v row.1) rows.items
+IsPrintable v m (answers.Contained parts proofs) = ⊥
+IsPrintable v m (answers.Open tried) = Unit {0}

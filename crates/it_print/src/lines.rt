@@ -2,17 +2,19 @@
 ghost use Rattle.std.specs.Prelude.{◌≡◌, ◌≤◌, ◌<◌, ◌+◌, ◌^◌, ◌++◌, length, map, OnOk, IfOk, All};
 ghost use Rattle.it_space.specs.Answers.{answer_view, certificate_view};
 ghost use Rattle.it_polymatroid.specs.Elementals.{elementals};
-ghost use Rattle.it_print.specs.Lines.{IsCauseOf, IsPrintable, answer_line, cause_text, no_line, places_of, undecided_line, yes_line};
+ghost use Rattle.it_print.specs.Lines.{IsCauseOf, IsPrintable, IsRowOver, answer_line, cause_text, no_line, open_line, places_of, region_lines, undecided_line, yes_line};
 
 use crate::pieces::write_number;
+use crate::rows::write_row_lines;
 use crate::sums::write_proofs;
 use crate::values::{write_rate, write_values};
-use it_space::{Answer, Cause, Certificate, Constraint, Point};
+use it_space::{Answer, Cause, Certificate, Constraint, Mark, Point, Row};
 use it_syntax::Names;
 use std::alloc::{AllocError, Global};
 
-/// The line of an answer to question k, counted from 1, with the names of its variables and rates and the constraints of its
-/// problem, which are the generators after the elemental inequalities.
+/// The lines of an answer to question k, counted from 1, with the names of its variables and rates and the constraints of its
+/// problem, which are the generators after the elemental inequalities. A region has one line more than it has rows, every other
+/// answer has one line.
 pub fn answer_line(
     alloc: Global,
     k: usize,
@@ -28,6 +30,9 @@ pub fn answer_line(
         Answer::Yes(proofs) => yes_line(alloc, k, names, constraints, proofs.as_slice()),
         Answer::No { point, .. } => no_line(alloc, k, names, point),
         Answer::Undecided(cause) => undecided_line(alloc, k, names, *cause),
+        Answer::Region(rows) => region_lines(alloc, k, names, rows.as_slice()),
+        Answer::Contained { .. } => unreachable!(),
+        Answer::Open { tried } => open_line(alloc, k, *tried),
     }
 }
 
@@ -82,6 +87,39 @@ fn undecided_line(
     write_number(&mut out, k)?;
     out.extend_from_slice(b" undecided ")?;
     write_cause(&mut out, names, cause)?;
+    out.extend_from_slice(b"\n")?;
+    Ok(out)
+}
+
+/// The line with the number of a region's rows, and the line of each.
+#[tactic(auto, unfolding(crate::specs::Lines::region_lines))]
+fn region_lines(
+    alloc: Global,
+    k: usize,
+    names: &Names,
+    rows: &[(Mark, Row)],
+) -> Result<Vec<u8>, AllocError>
+    requires { All (λ row. IsRowOver names.now row.1) rows.now }
+    ensures { IfOk result (λ t. t.items ≡ region_lines k names.now rows.now) }
+{
+    let mut out = Vec::new(alloc);
+    write_number(&mut out, k)?;
+    out.extend_from_slice(b" region ")?;
+    write_number(&mut out, rows.len())?;
+    out.extend_from_slice(b"\n")?;
+    write_row_lines(&mut out, k, names, rows)?;
+    Ok(out)
+}
+
+/// The line of a containment that no candidate shows.
+#[tactic(auto, unfolding(crate::specs::Lines::open_line))]
+fn open_line(alloc: Global, k: usize, tried: u32) -> Result<Vec<u8>, AllocError>
+    ensures { IfOk result (λ t. t.items ≡ open_line k tried) }
+{
+    let mut out = Vec::new(alloc);
+    write_number(&mut out, k)?;
+    out.extend_from_slice(b" open ")?;
+    write_number(&mut out, tried as usize)?;
     out.extend_from_slice(b"\n")?;
     Ok(out)
 }

@@ -8,7 +8,7 @@ use Rattle.it_canon.specs.Targets.{negation}
 use Rattle.it_run.proofs.AnswerLemmas.{if_ok}
 use Rattle.it_prove.proofs.ProofLemmas.{if_some}
 use Rattle.it_prove.specs.ProofViews.{EndsWith, IsRightProof, proof_view}
-use Rattle.it_prove.specs.Columns.{negated_terms}
+use Rattle.it_space.specs.Rows.{negated_terms}
 use Rattle.it_answer.specs.RowAnswers.{AnswersForms, answer_after_one, answer_after_two}
 use Rattle.it_answer.proofs.AnswerLemmas.{answers_first, answers_two, row_negation, both_some}
 use Rattle.it_answer.proofs.answering.equation.Goals as goal

@@ -1,0 +1,131 @@
+//! Rows that are to be at least 0, and the lines of those of a region.
+ghost use Rattle.std.specs.Prelude.{◌≡◌, ◌<◌, ◌+◌, ◌^◌, ◌++◌, length, OnOk, All, decimal, true, false};
+ghost use Rattle.it_print.specs.Lines.{IsRowOver, factor_text, is_negative, mark_text, row_line, row_lines, row_text, sign_text, term_text, terms_text};
+
+use crate::pieces::write_number;
+use crate::values::write_coordinate;
+use it_space::{Mark, Row};
+use it_syntax::Names;
+use itoa::Buffer;
+use std::alloc::AllocError;
+
+/// The line of each row of the region that answers question k, in order.
+pub fn write_row_lines(
+    out: &mut Vec<u8>,
+    k: usize,
+    names: &Names,
+    rows: &[(Mark, Row)],
+) -> Result<(), AllocError>
+    requires { All (λ row. IsRowOver names.now row.1) rows.now }
+    ensures { OnOk result (out.new.items ≡ out.old.items ++ row_lines k names.now rows.now) }
+{
+    for row in rows {
+        write_row_line(out, k, names, row)?;
+    }
+    Ok(())
+}
+
+/// The line of a row.
+#[tactic(auto, unfolding(crate::specs::Lines::row_line))]
+fn write_row_line(
+    out: &mut Vec<u8>,
+    k: usize,
+    names: &Names,
+    row: &(Mark, Row),
+) -> Result<(), AllocError>
+    requires { IsRowOver names.now row.now.1 }
+    ensures { OnOk result (out.new.items ≡ out.old.items ++ row_line k names.now row.now) }
+{
+    write_number(out, k)?;
+    out.extend_from_slice(b" row ")?;
+    out.extend_from_slice(word(row.0))?;
+    out.extend_from_slice(b" ")?;
+    write_row(out, names, row.1.terms())?;
+    out.extend_from_slice(b"\n")
+}
+
+/// The word of a mark.
+fn word(mark: Mark) -> &'static [u8]
+    ensures { result.now ≡ mark_text mark }
+{
+    match mark {
+        Mark::Plain => b"plain",
+        Mark::Needed => b"needed",
+        Mark::Unsettled => b"unsettled",
+    }
+}
+
+/// A row that is to be at least 0, by its terms in order.
+#[tactic(auto, unfolding(crate::specs::Lines::row_text))]
+fn write_row(out: &mut Vec<u8>, names: &Names, terms: &[(u32, i128)]) -> Result<(), AllocError>
+    requires { IsRowOver names.now terms.now }
+    ensures { OnOk result (out.new.items ≡ out.old.items ++ row_text names.now terms.now) }
+{
+    match terms {
+        [] => out.extend_from_slice(b"0 >= 0"),
+        [first, rest @ ..] => {
+            write_term(out, names, true, first)?;
+            write_terms(out, names, rest)?;
+            out.extend_from_slice(b" >= 0")
+        }
+    }
+}
+
+/// Terms behind another one.
+fn write_terms(out: &mut Vec<u8>, names: &Names, terms: &[(u32, i128)]) -> Result<(), AllocError>
+    requires { IsRowOver names.now terms.now }
+    ensures { OnOk result (out.new.items ≡ out.old.items ++ terms_text names.now false terms.now) }
+{
+    for term in terms {
+        write_term(out, names, false, term)?;
+    }
+    Ok(())
+}
+
+/// A term: its sign, its coefficient and its coordinate.
+#[tactic(auto, unfolding(crate::specs::Lines::term_text))]
+fn write_term(
+    out: &mut Vec<u8>,
+    names: &Names,
+    is_first: bool,
+    term: &(u32, i128),
+) -> Result<(), AllocError>
+    requires { term.now.0 < 2 ^ length names.now.variables + length names.now.rates }
+    ensures { OnOk result (out.new.items ≡ out.old.items ++ term_text names.now is_first term.now) }
+{
+    write_sign(out, is_first, is_negative(term.1))?;
+    write_factor(out, term.1.unsigned_abs())?;
+    write_coordinate(out, names, term.0)?;
+    Ok(())
+}
+
+/// Whether a number is below 0.
+fn is_negative(number: i128) -> bool
+    ensures { result ≡ is_negative number }
+{
+    number < 0
+}
+
+/// The sign of a term: directly before the first one, between blanks before a later one.
+fn write_sign(out: &mut Vec<u8>, is_first: bool, is_negative: bool) -> Result<(), AllocError>
+    ensures { OnOk result (out.new.items ≡ out.old.items ++ sign_text is_first is_negative) }
+{
+    match (is_first, is_negative) {
+        (true, true) => out.extend_from_slice(b"-"),
+        (true, false) => Ok(()),
+        (false, true) => out.extend_from_slice(b" - "),
+        (false, false) => out.extend_from_slice(b" + "),
+    }
+}
+
+/// A coefficient without its sign, unless it is 1.
+fn write_factor(out: &mut Vec<u8>, factor: u128) -> Result<(), AllocError>
+    ensures { OnOk result (out.new.items ≡ out.old.items ++ factor_text factor) }
+{
+    if factor != 1 {
+        let mut buffer = Buffer::new();
+        out.extend_from_slice(buffer.format(factor).as_bytes())?;
+        out.extend_from_slice(b" ")?;
+    }
+    Ok(())
+}
