@@ -1,0 +1,4 @@
+pub mod VerdictLemmas
+pub mod JudgingLemmas
+pub mod OneLemmas
+pub mod TruthLemmas

@@ -1,0 +1,124 @@
+-- The coordinate of a verdict is one of the space, and the verdict on certificates one after the other.
+use Rattle.std.proofs.Common.{◌≡◌, ℕ, zero, suc, ◌+◌, ◌<◌, ◌≤◌, ℤ, pos, nat_lt, int_lt, not, ◌&&◌, List, [], ◌∷◌, Bool, true, false, Option, Some, None, if◌then◌else◌, drop, map, length, get_or, sym, ap, ◌∙◌, refl, arith}
+use Rattle.std.specs.Ordering.{int_eq}
+use Rattle.std.proofs.lemmas.List.{drop_more, at_drop_all}
+use Rattle.it_space.specs.declared.problems.Kind.{Kind}
+use Rattle.it_space.specs.declared.answers.Certificate.{Certificate}
+use Rattle.it_space.specs.Answers.{CertificateView, certificate_view}
+use Rattle.it_space.specs.Problems.{ProblemView}
+use Rattle.it_space.specs.Rows.{Terms}
+use Rattle.it_space.specs.Spaces.{size_of}
+use Rattle.it_elemental.specs.Generators.{Generator, generator_at, is_equation}
+use Rattle.it_check.specs.Sums.{sum_within}
+use Rattle.it_check.specs.Verdicts.{or_else, valid_unless, of_scale, of_weight, of_weights, left_number, right_number, of_numbers, of_coordinate, of_coordinates, yes_verdict, violates, violation, of_value, of_generator, of_generators, of_target, no_verdict}
+use Rattle.it_check.specs.declared.verdicts.Verdict.{Verdict}
+use Rattle.it_check.specs.declared.verdicts.Verdict.TheVariants.{Valid, BadScale, UnknownGenerator, NegativeWeight, Mismatch, BrokenElemental, UnmetConstraint, NotViolated}
+use Rattle.it_report.specs.RowVerdicts.{IsVerdictOver, proof_verdict, proofs_verdict, is_valid}
+
+abbrev IsFindingOver : ℕ → Option Verdict → Type 0
+IsFindingOver b None = Unit {0}
+IsFindingOver b (Some v) = IsVerdictOver b v
+
+either_over : (b : ℕ) (x y : Option Verdict) → IsFindingOver b x → IsFindingOver b y → IsFindingOver b (or_else x y)
+either_over b None y h k = k
+either_over b (Some v) y h k = h
+
+chosen_over : (b : ℕ) (c : Bool) (x y : Option Verdict) → IsFindingOver b x → IsFindingOver b y → IsFindingOver b (if c then x else y)
+chosen_over b true x y h k = h
+chosen_over b false x y h k = k
+
+told_over : (b : ℕ) (x : Option Verdict) → IsFindingOver b x → IsVerdictOver b (valid_unless x)
+told_over b None h = tt
+told_over b (Some v) h = h
+
+weight_over : (b : ℕ) (gs : List Generator) (w : ℕ × ℤ) → IsFindingOver b (of_weight gs w)
+weight_over b gs w =
+    let negative = if int_lt w.1 (pos 0) && not (is_equation (generator_at gs w.0).kind) then Some (NegativeWeight w.0) else None in
+    chosen_over b (nat_lt w.0 (length gs)) negative (Some (UnknownGenerator w.0))
+    (chosen_over b (int_lt w.1 (pos 0) && not (is_equation (generator_at gs w.0).kind)) (Some (NegativeWeight w.0)) None tt tt) tt
+
+weights_over : (b : ℕ) (gs : List Generator) (ws : List (ℕ × ℤ)) → IsFindingOver b (of_weights gs ws)
+unfolding of_weights
+weights_over b gs [] = tt
+weights_over b gs (w ∷ ws) = either_over b (of_weight gs w) (of_weights gs ws) (weight_over b gs w) (weights_over b gs ws)
+
+numbers_over : (b c : ℕ) (left right : Option ℤ) → c < b → IsFindingOver b (of_numbers c left right)
+numbers_over b c None right h = tt
+numbers_over b c (Some l) None h = tt
+numbers_over b c (Some l) (Some r) h = chosen_over b (int_eq l r) None (Some (Mismatch c l r)) tt h
+
+coordinates_over : (b : ℕ) (gs : List Generator) (t : Terms) (w : CertificateView) (c left : ℕ) → c + left ≤ b → IsFindingOver b (of_coordinates gs t w c left)
+unfolding of_coordinates
+coordinates_over b gs t w c zero h = tt
+coordinates_over b gs t w c (suc left) h =
+    either_over b (of_coordinate gs t w c) (of_coordinates gs t w (c + 1) left) (numbers_over b c (left_number t w.scale c) (right_number gs w.parts c) (omega arith))
+    (coordinates_over b gs t w (c + 1) left (omega arith))
+
+pub yes_over : (gs : List Generator) (size : ℕ) (t : Terms) (w : CertificateView) → IsVerdictOver (size + 1) (yes_verdict gs size t w)
+unfolding yes_verdict
+yes_over gs size t w =
+    told_over (size + 1) _ (either_over (size + 1) (of_scale w.scale) _ (chosen_over (size + 1) (int_lt w.scale (pos 1)) (Some (BadScale w.scale)) None tt tt)
+    (either_over (size + 1) (of_weights gs w.parts) (of_coordinates gs t w 1 size) (weights_over (size + 1) gs w.parts) (coordinates_over (size + 1) gs t w 1 size (omega arith))))
+
+two_over : (b : ℕ) (c : Bool) (v u : Verdict) → IsVerdictOver b v → IsVerdictOver b u → IsVerdictOver b (if c then v else u)
+two_over b true v u h k = h
+two_over b false v u h k = k
+
+violation_over : (b count i : ℕ) (x : ℤ) (c : Bool) → IsFindingOver b (if c then Some (violation count i x) else None)
+violation_over b count i x true = two_over b (nat_lt i count) (BrokenElemental i x) (UnmetConstraint i x) tt tt
+violation_over b count i x false = tt
+
+value_over : (b count i : ℕ) (kind : Kind) (o : Option ℤ) → IsFindingOver b (of_value count i kind o)
+value_over b count i kind None = tt
+value_over b count i kind (Some x) = violation_over b count i x (violates kind x)
+
+generators_over : (b count i : ℕ) (gs : List Generator) (p : ℕ → ℤ) → IsFindingOver b (of_generators count i gs p)
+unfolding of_generators
+generators_over b count i [] p = tt
+generators_over b count i (g ∷ gs) p = either_over b (of_generator count i g p) (of_generators count (i + 1) gs p) (value_over b count i g.kind _) (generators_over b count (i + 1) gs p)
+
+target_over : (b place : ℕ) (o : Option ℤ) → IsFindingOver b (of_target place o)
+target_over b place None = tt
+target_over b place (Some x) = chosen_over b (int_lt x (pos 0)) None (Some (NotViolated x)) tt tt
+
+pub no_over : (b count : ℕ) (gs : List Generator) (t : Terms) (p : ℕ → ℤ) → IsVerdictOver b (no_verdict count gs t p)
+unfolding no_verdict
+no_over b count gs t p = told_over b _ (either_over b (of_generators count 0 gs p) (of_target (length gs) (sum_within (pos 0) t p)) (generators_over b count 0 gs p) (target_over b (length gs) (sum_within (pos 0) t p)))
+
+-- the rows and the certificates that are left
+abbrev left_verdict : ProblemView → List Terms → List Certificate → ℕ → Verdict
+left_verdict p ts cs i = proofs_verdict p (drop i ts) (map certificate_view (drop i cs))
+
+module _ (p : ProblemView) (ts : List Terms) (cs : List Certificate) (i : ℕ) (t : Terms) (c : Certificate) (row : t ≡ get_or ts i t) (proof : c ≡ get_or cs i c) where
+  abbrev by_valid : Bool → Verdict
+  by_valid b = if b then left_verdict p ts cs (i + 1) else proof_verdict p t (certificate_view c)
+
+  step : i < length ts → i < length cs → left_verdict p ts cs i ≡ by_valid (is_valid (proof_verdict p t (certificate_view c)))
+  unfolding proofs_verdict
+  step h k =
+      ap (λ x. proofs_verdict p x (map certificate_view (drop i cs))) (drop_more ts i t h ∙ ap (λ z. z ∷ drop (i + 1) ts) (sym row))
+      ∙ ap (λ y. proofs_verdict p (t ∷ drop (i + 1) ts) (map certificate_view y)) (drop_more cs i c k ∙ ap (λ z. z ∷ drop (i + 1) cs) (sym proof))
+
+  pub proofs_found : i < length ts → i < length cs → is_valid (proof_verdict p t (certificate_view c)) ≡ false → left_verdict p ts cs i ≡ proofs_verdict p ts (map certificate_view cs)
+      → proof_verdict p t (certificate_view c) ≡ proofs_verdict p ts (map certificate_view cs)
+  proofs_found h k e inv = sym (ap by_valid e) ∙ sym (step h k) ∙ inv
+
+  pub proofs_more : i < length ts → i < length cs → is_valid (proof_verdict p t (certificate_view c)) ≡ true → left_verdict p ts cs i ≡ proofs_verdict p ts (map certificate_view cs)
+      → left_verdict p ts cs (i + 1) ≡ proofs_verdict p ts (map certificate_view cs)
+  proofs_more h k e inv = sym (ap by_valid e) ∙ sym (step h k) ∙ inv
+
+no_more : (p : ProblemView) (ts : List Terms) → proofs_verdict p ts [] ≡ Valid
+unfolding proofs_verdict
+no_more p [] = refl
+no_more p (t ∷ ts) = refl
+
+none_left : (p : ProblemView) (ws : List CertificateView) → proofs_verdict p [] ws ≡ Valid
+unfolding proofs_verdict
+none_left p ws = refl
+
+module _ (p : ProblemView) (ts : List Terms) (cs : List Certificate) (i : ℕ) (inv : left_verdict p ts cs i ≡ proofs_verdict p ts (map certificate_view cs)) where
+  pub proofs_short : length cs ≤ i → Valid ≡ proofs_verdict p ts (map certificate_view cs)
+  proofs_short h = sym (no_more p (drop i ts)) ∙ sym (at_drop_all (λ (y : List Certificate). proofs_verdict p (drop i ts) (map certificate_view y)) cs i h) ∙ inv
+
+  pub proofs_done : length ts ≤ i → Valid ≡ proofs_verdict p ts (map certificate_view cs)
+  proofs_done h = sym (none_left p (map certificate_view (drop i cs))) ∙ sym (at_drop_all (λ (x : List Terms). proofs_verdict p x (map certificate_view (drop i cs))) ts i h) ∙ inv

@@ -1,0 +1,21 @@
+use Rattle.std.proofs.Common.{◌≡◌, map, sym, ap, subst, Some}
+use Rattle.it_space.specs.Answers.{certificate_view}
+use Rattle.it_space.specs.Answers.AnswerView.{Yes}
+use Rattle.it_space.specs.Problems.{problem_view}
+use Rattle.it_syntax.specs.Meaning.{relation_view}
+use Rattle.it_question.specs.Questions.{question_body}
+use Rattle.it_report.specs.Judging.{answer_verdict}
+use Rattle.it_report.proofs.JudgingLemmas.{judged, has_verdict}
+use Rattle.it_report.proofs.judging.yes_line.Goals as goal
+
+pub returns : goal.returns
+returns c =
+    let q = question_body c.args.question.now in
+    let p = problem_view c.in_ok-problem.problem in
+    let a = Yes (map certificate_view c.args.proofs.now) in
+    let v = c.proofs_verdict-verdict.result in
+    let e : answer_verdict p c.in_ok-rows.rows.items a ≡ Some v
+    = subst (λ ts. answer_verdict p ts a ≡ Some v) c.as_slice.ensures.value (ap Some (sym c.proofs_verdict-verdict.ensures.verdict)) in
+    judged (λ j. j.text.items) (λ j. j.invalid) c.args.k q a q.names v c.verdict_line.result
+    (has_verdict q (relation_view c.args.relation.now) p c.in_ok-rows.rows.items c.requires.about c.in_ok-problem.ensures.space c.in_ok-rows.ensures a v c.in_ok-problem.ensures.limits c.in_ok-problem.ensures.constraints e)
+    c.verdict_line.ensures

@@ -1,0 +1,5 @@
+pub mod RowVerdicts
+pub mod LineVerdicts
+pub mod Judging
+pub mod Steps
+pub mod Meaning

@@ -1,0 +1,73 @@
+-- The verdict on a line of a report, and its own line.
+use Rattle.std.specs.Prelude.{◌≡◌, ℕ, ℤ, List, ◌++◌, Bool, true, false, not, codes, decimal}
+use Rattle.std.specs.Fmt.{signed_decimal}
+use Rattle.it_syntax.specs.NamesViews.{NamesView}
+use Rattle.it_certificate.specs.declared.keys.Key.{Key}
+use Rattle.it_certificate.specs.declared.keys.Key.TheVariants as keys
+use Rattle.it_check.specs.declared.verdicts.Verdict.{Verdict}
+use Rattle.it_check.specs.declared.verdicts.Verdict.TheVariants.{Valid, BadScale, UnknownGenerator, NegativeWeight, Width, Mismatch, BrokenElemental, UnmetConstraint, NotViolated}
+use Rattle.it_print.specs.Lines.{coordinate_text}
+use Rattle.it_report.specs.RowVerdicts.{is_valid}
+
+-- The line has no reading as JSON; a key of it is missing or of another shape; its answer isn't judged; or it is, with this verdict,
+-- and these are the names of its question.
+pub data LineVerdict : Type 0 where
+  NotJson : LineVerdict
+  Shape : (key : Key) → LineVerdict
+  Skipped : LineVerdict
+  Judged : (names : NamesView) (verdict : Verdict) → LineVerdict
+
+-- all but the valid and the skipped ones
+abbrev pub is_invalid : LineVerdict → Bool
+is_invalid NotJson = true
+is_invalid (Shape key) = true
+is_invalid Skipped = false
+is_invalid (Judged names verdict) = not (is_valid verdict)
+
+abbrev pub key_text : Key → List ℕ
+key_text keys.Answer = codes "answer"
+key_text keys.Question = codes "question"
+key_text keys.Proofs = codes "proofs"
+key_text keys.Point = codes "point"
+key_text keys.Side = codes "side"
+key_text keys.Cause = codes "cause"
+key_text keys.At = codes "at"
+key_text keys.Rows = codes "rows"
+key_text keys.Parts = codes "parts"
+key_text keys.Tried = codes "tried"
+
+-- a generator with its value
+unfoldable pub generator_value_text : ℕ → ℤ → List ℕ
+generator_value_text i x = decimal i ++ codes " " ++ signed_decimal x
+
+-- a coordinate by its name, with the numbers of the two sides
+unfoldable pub mismatch_text : NamesView → ℕ → ℤ → ℤ → List ℕ
+mismatch_text names c left right = coordinate_text names c ++ codes " " ++ signed_decimal left ++ codes " " ++ signed_decimal right
+
+unfoldable pub verdict_text : NamesView → Verdict → List ℕ
+verdict_text names Valid = codes "valid"
+verdict_text names (BadScale scale) = codes "invalid scale " ++ signed_decimal scale
+verdict_text names (UnknownGenerator i) = codes "invalid generator " ++ decimal i
+verdict_text names (NegativeWeight i) = codes "invalid negative " ++ decimal i
+verdict_text names (Width place) = codes "invalid width " ++ decimal place
+verdict_text names (Mismatch c left right) = codes "invalid mismatch " ++ mismatch_text names c left right
+verdict_text names (BrokenElemental i x) = codes "invalid elemental " ++ generator_value_text i x
+verdict_text names (UnmetConstraint i x) = codes "invalid constraint " ++ generator_value_text i x
+verdict_text names (NotViolated x) = codes "invalid target " ++ signed_decimal x
+
+abbrev pub words_of : LineVerdict → List ℕ
+words_of NotJson = codes "invalid json"
+words_of (Shape key) = codes "invalid shape " ++ key_text key
+words_of Skipped = codes "skipped"
+words_of (Judged names verdict) = verdict_text names verdict
+
+-- a line of words about line k, which are counted from 1
+unfoldable pub numbered_line : ℕ → List ℕ → List ℕ
+numbered_line k words = decimal k ++ codes " " ++ words ++ codes "\n"
+
+abbrev pub verdict_line : ℕ → LineVerdict → List ℕ
+verdict_line k v = numbered_line k (words_of v)
+
+-- the line of this verdict on line k, and whether it says `invalid`
+abbrev pub IsLineOf : ℕ → LineVerdict → List ℕ → Bool → Type 0
+IsLineOf k v text invalid = (text ≡ verdict_line k v) × (invalid ≡ is_invalid v)

@@ -1,0 +1,38 @@
+-- The verdict on an answer, against the rows of its question's targets.
+use Rattle.std.specs.Prelude.{ℕ, ◌<◌, ℤ, List, [], ◌∷◌, length, Bool, true, false, if◌then◌else◌, get_or}
+use Rattle.it_space.specs.Answers.{CertificateView}
+use Rattle.it_space.specs.Problems.{ProblemView}
+use Rattle.it_space.specs.Rows.{Terms, map_of}
+use Rattle.it_space.specs.Spaces.{size_of}
+use Rattle.it_polymatroid.specs.Elementals.{elementals}
+use Rattle.it_elemental.specs.Generators.{generators}
+use Rattle.it_check.specs.Verdicts.{yes_verdict, no_verdict}
+use Rattle.it_check.specs.declared.verdicts.Verdict.{Verdict}
+use Rattle.it_check.specs.declared.verdicts.Verdict.TheVariants.{Valid, Mismatch}
+
+abbrev pub is_valid : Verdict → Bool
+is_valid Valid = true
+is_valid _ = false
+
+-- the verdict on a certificate of a target's row
+abbrev pub proof_verdict : ProblemView → Terms → CertificateView → Verdict
+proof_verdict p t w = yes_verdict (generators p) (size_of p.space) t w
+
+-- the verdict on the first certificate whose verdict isn't `Valid`, one certificate for each target in order
+unfoldable pub proofs_verdict : ProblemView → List Terms → List CertificateView → Verdict
+proofs_verdict p [] ws = Valid
+proofs_verdict p (t ∷ ts) [] = Valid
+proofs_verdict p (t ∷ ts) (w ∷ ws) = if is_valid (proof_verdict p t w) then proofs_verdict p ts ws else proof_verdict p t w
+
+-- the target that a no is about: the second of an equality where it says `back`, otherwise the first
+abbrev pub place_named : Bool → ℕ
+place_named back = if back then 1 else 0
+
+-- the verdict on a point against that target
+unfoldable pub point_verdict : ProblemView → List Terms → Bool → List ℤ → Verdict
+point_verdict p ts back values = no_verdict (length (elementals p.space.variables)) (generators p) (get_or ts (place_named back) []) (map_of values)
+
+-- the coordinate of a verdict, where it has one, is below a bound
+abbrev pub IsVerdictOver : ℕ → Verdict → Type 0
+IsVerdictOver bound (Mismatch c left right) = c < bound
+IsVerdictOver bound _ = Unit {0}

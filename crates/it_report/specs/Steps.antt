@@ -1,0 +1,20 @@
+-- No public clause cites this module: the lines of faults and of answers, of which the line about a report's line is one.
+use Rattle.std.specs.Prelude.{ℕ, List, Bool}
+use Rattle.it_space.specs.Answers.{AnswerView}
+use Rattle.it_question.specs.Questions.{BodyView}
+use Rattle.it_certificate.specs.declared.keys.ReportFault.{ReportFault}
+use Rattle.it_certificate.specs.declared.keys.ReportFault.TheVariants as faults
+use Rattle.it_report.specs.LineVerdicts.{LineVerdict, NotJson, Shape, IsLineOf}
+use Rattle.it_report.specs.Judging.{IsAnswerVerdict}
+
+-- the line about a line that has no reading
+abbrev pub IsFaultLine : ℕ → ReportFault → List ℕ → Bool → Type 0
+IsFaultLine k faults.Memory text invalid = ⊥
+IsFaultLine k faults.NotJson text invalid = IsLineOf k NotJson text invalid
+IsFaultLine k (faults.Shape key) text invalid = IsLineOf k (Shape key) text invalid
+
+-- the line about an answer to a question
+pub record IsJudgedAnswer (k : ℕ) (q : BodyView) (answer : AnswerView) (text : List ℕ) (invalid : Bool) : Type 0 where
+  pub verdict : LineVerdict
+  pub is : IsAnswerVerdict q answer verdict
+  pub told : IsLineOf k verdict text invalid

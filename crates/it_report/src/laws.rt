@@ -1,0 +1,13 @@
+//! What the verdicts mean, each theorem as the contract of a function.
+ghost use Rattle.it_report.specs.Meaning.{OneVerdict, ValidIsTrue};
+
+/// A line has one verdict.
+#[tactic(auto, using(crate::proofs::OneLemmas::one_verdict))]
+pub fn verdict_is_one()
+    ensures { OneVerdict }
+{}
+
+/// The claim of a valid line is true: a yes holds everywhere, the point of a no violates the target on its side.
+pub fn valid_is_true()
+    ensures { ValidIsTrue }
+{}

@@ -1,0 +1,12 @@
+//! The verdict on each line of a report.
+#![tactic(auto)]
+
+mod judging;
+mod laws;
+mod lines;
+mod rows;
+mod words;
+
+pub use judging::judge;
+pub use laws::{valid_is_true, verdict_is_one};
+pub use lines::JudgedLine;

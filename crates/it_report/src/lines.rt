@@ -1,0 +1,87 @@
+//! The lines of verdicts.
+ghost use Rattle.std.specs.Prelude.{◌≡◌, ◌<◌, ◌+◌, ◌^◌, length, codes, not, true, false, IfOk};
+ghost use Rattle.it_report.specs.LineVerdicts.{key_text, numbered_line, IsLineOf, NotJson, Shape, Skipped, Judged};
+ghost use Rattle.it_report.specs.RowVerdicts.{IsVerdictOver};
+
+use crate::rows::is_valid;
+use crate::words::{key_name, write_verdict};
+use it_certificate::Key;
+use it_check::Verdict;
+use it_print::write_number;
+use it_syntax::Names;
+use std::alloc::{AllocError, Global};
+
+/// The line that is written about a line of a report, with its line feed, and whether it says `invalid`.
+#[derive(Debug, Drop)]
+pub struct JudgedLine {
+    pub text: Vec<u8>,
+    pub invalid: bool,
+}
+
+/// The number of the line and words about it.
+#[tactic(auto, unfolding(crate::specs::LineVerdicts::numbered_line))]
+fn numbered_line(alloc: Global, k: usize, words: &[u8]) -> Result<Vec<u8>, AllocError>
+    ensures { IfOk result (λ t. t.items ≡ numbered_line k words.now) }
+{
+    let mut out = Vec::new(alloc);
+    write_number(&mut out, k)?;
+    out.extend_from_slice(b" ")?;
+    out.extend_from_slice(words)?;
+    out.extend_from_slice(b"\n")?;
+    Ok(out)
+}
+
+/// A line that has no reading as JSON.
+pub fn not_json_line(alloc: Global, k: usize) -> Result<JudgedLine, AllocError>
+    ensures { IfOk result (λ j. IsLineOf k NotJson j.text.items j.invalid) }
+{
+    let text = numbered_line(alloc, k, b"invalid json")?;
+    Ok(JudgedLine {
+        text,
+        invalid: true,
+    })
+}
+
+/// A line with a key that is missing or of another shape.
+pub fn shape_line(alloc: Global, k: usize, key: Key) -> Result<JudgedLine, AllocError>
+    ensures { IfOk result (λ j. IsLineOf k (Shape key) j.text.items j.invalid) }
+{
+    let mut words = Vec::new(alloc);
+    words.extend_from_slice(b"invalid shape ")?;
+    words.extend_from_slice(key_name(key).as_bytes())?;
+    let text = numbered_line(alloc, k, words.as_slice())?;
+    Ok(JudgedLine {
+        text,
+        invalid: true,
+    })
+}
+
+/// A line whose answer isn't judged.
+pub fn skipped_line(alloc: Global, k: usize) -> Result<JudgedLine, AllocError>
+    ensures { IfOk result (λ j. IsLineOf k Skipped j.text.items j.invalid) }
+{
+    let text = numbered_line(alloc, k, b"skipped")?;
+    Ok(JudgedLine {
+        text,
+        invalid: false,
+    })
+}
+
+/// A line with this verdict on its answer.
+pub fn verdict_line(
+    alloc: Global,
+    k: usize,
+    names: &Names,
+    verdict: &Verdict,
+) -> Result<JudgedLine, AllocError>
+    requires { IsVerdictOver (2 ^ length names.now.variables + length names.now.rates) verdict.now }
+    ensures { IfOk result (λ j. IsLineOf k (Judged names.now verdict.now) j.text.items j.invalid) }
+{
+    let mut words = Vec::new(alloc);
+    write_verdict(&mut words, names, verdict)?;
+    let text = numbered_line(alloc, k, words.as_slice())?;
+    Ok(JudgedLine {
+        text,
+        invalid: !is_valid(verdict),
+    })
+}

@@ -1,0 +1,67 @@
+//! The verdict on an answer, against the rows of its question's targets.
+ghost use Rattle.std.specs.Prelude.{◌≡◌, ◌<◌, ◌+◌, ℕ, length, map, All, if◌then◌else◌};
+ghost use Rattle.it_space.specs.Answers.{certificate_view};
+ghost use Rattle.it_space.specs.Problems.{IsProblem, problem_view};
+ghost use Rattle.it_space.specs.Rows.{IsUpTo};
+ghost use Rattle.it_space.specs.Spaces.{size_of};
+ghost use Rattle.it_report.specs.RowVerdicts.{proofs_verdict, point_verdict, proof_verdict, place_named, is_valid, IsVerdictOver};
+
+use it_check::{Verdict, check_no, check_yes};
+use it_space::{Certificate, Point, Problem, Row};
+
+/// The verdict on a certificate.
+#[tactic(auto, using(crate::proofs::VerdictLemmas::yes_over))]
+fn proof_verdict(problem: &Problem, row: &Row, certificate: &Certificate) -> Verdict
+    requires problem { IsProblem (problem_view problem.now) }
+    requires row { IsUpTo (size_of problem.now.space) row.now }
+    ensures verdict { result ≡ proof_verdict (problem_view problem.now) row.now (certificate_view certificate.now) }
+    ensures over { IsVerdictOver (size_of problem.now.space + 1) result }
+{
+    check_yes(problem, row, certificate)
+}
+
+/// Whether nothing is wrong.
+pub fn is_valid(verdict: &Verdict) -> bool
+    ensures { result ≡ is_valid verdict.now }
+{
+    matches!(verdict, Verdict::Valid)
+}
+
+/// The first verdict that isn't `Valid`, of one certificate for each row in order.
+pub fn proofs_verdict(problem: &Problem, rows: &[Row], proofs: &[Certificate]) -> Verdict
+    requires problem { IsProblem (problem_view problem.now) }
+    requires rows { All (IsUpTo (size_of problem.now.space)) rows.now }
+    ensures verdict { result ≡ proofs_verdict (problem_view problem.now) rows.now (map certificate_view proofs.now) }
+    ensures over { IsVerdictOver (size_of problem.now.space + 1) result }
+{
+    for i in 0..rows.len() {
+        if i >= proofs.len() {
+            return Verdict::Valid;
+        }
+        let verdict = proof_verdict(problem, &rows[i], &proofs[i]);
+        if !is_valid(&verdict) {
+            return verdict;
+        }
+    }
+    Verdict::Valid
+}
+
+/// Which row a no is about.
+fn place_named(back: bool) -> usize
+    ensures { result ≡ place_named back }
+{
+    if back { 1 } else { 0 }
+}
+
+/// The verdict on a point, which is to violate the second row where `back` is set, otherwise the first.
+#[tactic(auto, using(crate::proofs::VerdictLemmas::no_over), unfolding(crate::specs::RowVerdicts::point_verdict))]
+pub fn point_verdict(problem: &Problem, rows: &[Row], back: bool, point: &Point) -> Verdict
+    requires problem { IsProblem (problem_view problem.now) }
+    requires rows { All (IsUpTo (size_of problem.now.space)) rows.now }
+    requires named { place_named back < length rows.now }
+    requires complete { length point.now ≡ size_of problem.now.space }
+    ensures verdict { result ≡ point_verdict (problem_view problem.now) rows.now back point.now }
+    ensures over { IsVerdictOver (size_of problem.now.space + 1) result }
+{
+    check_no(problem, &rows[place_named(back)], point)
+}

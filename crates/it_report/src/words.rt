@@ -1,0 +1,105 @@
+//! What the checker's verdicts are called.
+ghost use Rattle.std.specs.Prelude.{◌≡◌, ◌<◌, ◌+◌, ◌^◌, ◌++◌, length, OnOk, decimal};
+ghost use Rattle.std.specs.Fmt.{signed_decimal};
+ghost use Rattle.it_report.specs.LineVerdicts.{generator_value_text, key_text, mismatch_text, verdict_text};
+ghost use Rattle.it_report.specs.RowVerdicts.{IsVerdictOver};
+
+use it_certificate::Key;
+use it_check::Verdict;
+use it_print::{write_coordinate, write_number, write_signed};
+use it_syntax::Names;
+use std::alloc::AllocError;
+
+/// A key as it stands in reports.
+pub fn key_name(key: Key) -> &'static str
+    ensures { result.now ≡ key_text key }
+{
+    match key {
+        Key::Answer => "answer",
+        Key::Question => "question",
+        Key::Proofs => "proofs",
+        Key::Point => "point",
+        Key::Side => "side",
+        Key::Cause => "cause",
+        Key::At => "at",
+        Key::Rows => "rows",
+        Key::Parts => "parts",
+        Key::Tried => "tried",
+    }
+}
+
+/// Words and a generator's number, or that of a place.
+fn write_place(out: &mut Vec<u8>, words: &[u8], place: u32) -> Result<(), AllocError>
+    ensures { OnOk result (out.new.items ≡ out.old.items ++ (words.now ++ decimal place)) }
+{
+    out.extend_from_slice(words)?;
+    write_number(out, place as usize)
+}
+
+/// Words and a number.
+fn write_value(out: &mut Vec<u8>, words: &[u8], value: &i128) -> Result<(), AllocError>
+    ensures { OnOk result (out.new.items ≡ out.old.items ++ (words.now ++ signed_decimal value.now)) }
+{
+    out.extend_from_slice(words)?;
+    write_signed(out, *value)
+}
+
+/// Words, a generator's number and its value.
+#[tactic(auto, unfolding(crate::specs::LineVerdicts::generator_value_text))]
+fn write_generator_value(
+    out: &mut Vec<u8>,
+    words: &[u8],
+    index: u32,
+    value: &i128,
+) -> Result<(), AllocError>
+    ensures { OnOk result (out.new.items ≡ out.old.items ++ (words.now ++ generator_value_text index value.now)) }
+{
+    write_place(out, words, index)?;
+    write_value(out, b" ", value)
+}
+
+/// Words, a coordinate with the numbers of the two sides, where they differ.
+#[tactic(auto, unfolding(crate::specs::LineVerdicts::mismatch_text))]
+fn write_mismatch(
+    out: &mut Vec<u8>,
+    names: &Names,
+    words: &[u8],
+    coordinate: u32,
+    left: &i128,
+    right: &i128,
+) -> Result<(), AllocError>
+    requires { coordinate < 2 ^ length names.now.variables + length names.now.rates }
+    ensures { OnOk result (out.new.items ≡ out.old.items ++ (words.now ++ mismatch_text names.now coordinate left.now right.now)) }
+{
+    out.extend_from_slice(words)?;
+    write_coordinate(out, names, coordinate)?;
+    write_value(out, b" ", left)?;
+    write_value(out, b" ", right)
+}
+
+/// The words of a verdict. A coordinate has the name of its set or rate.
+#[tactic(auto, unfolding(crate::specs::LineVerdicts::verdict_text))]
+pub fn write_verdict(out: &mut Vec<u8>, names: &Names, verdict: &Verdict) -> Result<(), AllocError>
+    requires { IsVerdictOver (2 ^ length names.now.variables + length names.now.rates) verdict.now }
+    ensures { OnOk result (out.new.items ≡ out.old.items ++ verdict_text names.now verdict.now) }
+{
+    match verdict {
+        Verdict::Valid => out.extend_from_slice(b"valid"),
+        Verdict::BadScale { scale } => write_value(out, b"invalid scale ", scale),
+        Verdict::UnknownGenerator { index } => write_place(out, b"invalid generator ", *index),
+        Verdict::NegativeWeight { index } => write_place(out, b"invalid negative ", *index),
+        Verdict::Width { place } => write_place(out, b"invalid width ", *place),
+        Verdict::Mismatch {
+            coordinate,
+            left,
+            right,
+        } => write_mismatch(out, names, b"invalid mismatch ", *coordinate, left, right),
+        Verdict::BrokenElemental { index, value } => {
+            write_generator_value(out, b"invalid elemental ", *index, value)
+        }
+        Verdict::UnmetConstraint { index, value } => {
+            write_generator_value(out, b"invalid constraint ", *index, value)
+        }
+        Verdict::NotViolated { value } => write_value(out, b"invalid target ", value),
+    }
+}
