@@ -3,3 +3,12 @@ pub mod VerdictLemmas
 pub mod RightLemmas
 pub mod EndLemmas
 pub mod OutputLemmas
+pub mod CheckLemmas
+pub mod JsonLemmas
+pub mod DataLemmas
+pub mod RegionFits
+pub mod NameFits
+pub mod FeedLemmas
+pub mod AcceptLemmas
+pub mod ShortTexts
+pub mod AcceptedOutput

@@ -1,14 +1,9 @@
--- The questions that are answered, and the files of such questions.
-use Rattle.std.specs.Prelude.{◌≡◌, ℕ, List, All}
-use Rattle.it_syntax.specs.Meaning.{RelationView}
-use Rattle.it_question.specs.Questions.{BodyView, QuestionView, Prove}
+-- The files of questions that are answered.
+use Rattle.std.specs.Prelude.{ℕ, List, All}
+use Rattle.it_question.specs.Questions.{QuestionView}
 use Rattle.it_question.specs.Limits.{IsQuestion}
 use Rattle.it_question.specs.Files.{IsFile}
-
--- whether a relation holds wherever the question's lines are true
-pub record IsAnswerable (q : BodyView) : Type 0 where
-  pub relation : RelationView
-  pub proves : q.verb ≡ Prove relation
+use Rattle.it_answer.specs.AnswerableQuestions.{IsAnswerable}
 
 abbrev pub AreAnswerable : List QuestionView → Type 0
 AreAnswerable qs = All (λ q. IsAnswerable q.body) qs

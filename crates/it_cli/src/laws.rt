@@ -1,11 +1,15 @@
 //! Theorems on how a run ends and on what it writes, each as the contract of a function.
-ghost use Rattle.it_answer.specs.RightAnswers.{ANoIsTrue, AYesAscends, AYesIsTrue, NoStepIsZero, OneRightAnswer};
-ghost use Rattle.it_cli.specs.Ends.{FaultIsDue, Headline, IsComplete, LaterIsDue, LongIsDue, UsageIsDue};
+ghost use Rattle.it_answer.specs.RightAnswers.{ANoIsTrue, ARegionIsTrue, AYesAscends, AYesIsTrue, NoStepIsZero, OneRightAnswer};
+ghost use Rattle.it_cli.specs.Accepted.{OutputIsAccepted, ReportsAreAccepted};
+ghost use Rattle.it_cli.specs.Ends.{FaultIsDue, Headline, IsComplete, LaterIsDue, LongIsDue, UsageIsDue, VerdictsAreWritten};
 ghost use Rattle.it_cli.specs.Right.{OneOutput, OneVerdict};
 
-/// What a run that is done has written: right answers to all that the source gave.
+use it_certificate::answers_read_back;
+
+/// What a run that is done has written: right answers to all that the source gave, or the verdicts on it.
 pub fn headline()
-    ensures { Headline }
+    ensures answers { Headline }
+    ensures verdicts { VerdictsAreWritten }
 {}
 
 /// With a reading, an input that is given and read, whose questions are answered so far, and no fault counted, all is
@@ -23,10 +27,12 @@ pub fn are_due()
 {}
 
 /// Where a yes is right the relation holds at every polymatroid and rates that make the lines true; where a no is right its
-/// values are ones at which it doesn't. So no question has both.
+/// values are ones at which it doesn't. So no question has both. Where a region is right its rows hold exactly at the points that
+/// extend to the eliminated rates.
 pub fn verdicts_are_true()
     ensures yes { AYesIsTrue }
     ensures no { ANoIsTrue }
+    ensures region { ARegionIsTrue }
     ensures one { OneVerdict }
 {}
 
@@ -42,3 +48,17 @@ pub fn output_is_determined()
 pub fn no_step_is_zero()
     ensures { NoStepIsZero }
 {}
+
+/// The line of a right answer in the format `json`, where it is checked, is valid or skipped.
+pub fn reports_are_accepted()
+    ensures { ReportsAreAccepted }
+{
+    answers_read_back();
+}
+
+/// Where the output of mode `answer` in the format `json` is checked as a report, the status is `Done`.
+pub fn output_is_accepted()
+    ensures { OutputIsAccepted }
+{
+    answers_read_back();
+}

@@ -4,7 +4,7 @@
 ghost use Rattle.std.specs.Prelude.{◌≤◌};
 
 use it_question::questions;
-use it_question::types::{Question, Region, Verb};
+use it_question::types::{OwnLines, Question, Region, Verb};
 use it_space::VarSet;
 use it_syntax::Names;
 use it_syntax::types::{Atom, Given, Relation, Sign, Term};
@@ -266,12 +266,16 @@ fn with_names(out: &mut String, names: &Names) -> Result<(), Fail> {
     Ok(())
 }
 
+fn with_lines(alloc: Global, out: &mut String, lines: &OwnLines) -> Result<(), Fail> {
+    with_givens(alloc, out, lines.givens.as_slice())?;
+    with_rows(alloc, out, lines.rows.as_slice())
+}
+
 fn with_region(alloc: Global, out: &mut String, region: &Region) -> Result<(), Fail> {
     out.push_str(" (")?;
     with_names(out, &region.names)?;
     out.push_str(format!(in alloc; " {}", region.auxiliaries)?.as_str())?;
-    with_givens(alloc, out, region.givens.as_slice())?;
-    with_rows(alloc, out, region.rows.as_slice())?;
+    with_lines(alloc, out, &region.lines)?;
     out.push_str(")")?;
     Ok(())
 }
@@ -318,8 +322,7 @@ fn written(alloc: Global, questions: &[Question]) -> Result<String, Fail> {
     let mut out = String::new(alloc);
     for question in questions {
         with_names(&mut out, &question.names)?;
-        with_givens(alloc, &mut out, question.givens.as_slice())?;
-        with_rows(alloc, &mut out, question.rows.as_slice())?;
+        with_lines(alloc, &mut out, &question.lines)?;
         with_verb(alloc, &mut out, &question.verb)?;
         out.push_str(".")?;
     }

@@ -1,7 +1,11 @@
 ghost use Rattle.std.specs.Prelude.{◌<◌};
 
+use it_answer::{Budgets, answer};
 use it_cli::{Status, itip};
 use it_outside::{MemorySink, MemorySource};
+use it_question::questions;
+use it_question::types::Verb;
+use it_space::{Answer, Cause};
 use std::alloc::{AllocError, Global};
 use std::process::Abort;
 use std::str;
@@ -430,15 +434,75 @@ const CONSTRAINED: [(&[u8], &[u8]); 51] = [
     ),
 ];
 
+/// Superposition coding: the common and the private rate are eliminated.
+const SUPERPOSITION: &[u8] =
+    b"vars U, X, Y\nrates R, Rc, Rp\nrow Rc >= 0\nrow Rp >= 0\nrow Rc <= I(U;Y)\nrow Rp <= I(X;Y|U)\nrow R = Rc + Rp\neliminate Rc, Rp\n";
+
+/// Questions that eliminate rates, and the lines that answer them, worked out by hand.
+const ELIMINATED: [(&[u8], &[u8]); 14] = [
+    (
+        SUPERPOSITION,
+        b"1 region 4\n1 row plain h(U) + h(Y) - h(U,Y) >= 0\n1 row plain -h(U) + h(U,X) + h(U,Y) - h(U,X,Y) >= 0\n1 row plain R >= 0\n1 row plain h(U,X) + h(Y) - h(U,X,Y) - R >= 0\n",
+    ),
+    (
+        b"vars X\nrates A, R\nrow A >= R\nrow A <= H(X)\neliminate A\n",
+        b"1 region 1\n1 row plain h(X) - R >= 0\n",
+    ),
+    // an equation bounds its rate on both sides
+    (
+        b"vars X\nrates A, R\nrow 2 A = R\neliminate A\n",
+        b"1 region 0\n",
+    ),
+    (
+        b"vars X\nrates A, B\nrow 18446744073709551615 A >= 18446744073709551614 B\nrow 18446744073709551615 B >= 18446744073709551614 A\neliminate A\n",
+        b"1 undecided width A\n",
+    ),
+    // no rows, rates that no row has, and rows that say nothing
+    (b"vars X, Y\nrates R\neliminate R\n", b"1 region 0\n"),
+    (
+        b"vars X\nrates R, S\nrow 6 S <= 4 H(X)\nrow S - S >= 0\nrow 3 S <= 2 H(X)\neliminate R",
+        b"1 region 1\n1 row plain 2 h(X) - 3 S >= 0\n",
+    ),
+    (
+        b"vars X, Y\nrates R, S\nrow R >= S\neliminate S, R",
+        b"1 region 0\n",
+    ),
+    // first terms below 0, and coefficients of 1 and of more
+    (
+        b"vars X, Y\nrates R\nrow 3 H(X,Y) >= 2 H(X) + H(Y)\nrow 0 >= 2 R\nrow H(X) <= - 5 H(Y)\neliminate R\n",
+        b"1 region 2\n1 row plain -2 h(X) - h(Y) + 3 h(X,Y) >= 0\n1 row plain -h(X) - 5 h(Y) >= 0\n",
+    ),
+    // the order in which rates are listed
+    (
+        b"vars X, Y\nrates A, B, C\nrow A >= B\nrow C >= B\nrow H(X) >= A\nrow H(Y) >= C\neliminate C, A\n",
+        b"1 region 2\n1 row plain h(Y) - B >= 0\n1 row plain h(X) - B >= 0\n",
+    ),
+    (
+        b"vars X, Y\nrates A, B, C\nrow A >= B\nrow C >= B\nrow H(X) >= A\nrow H(Y) >= C\neliminate A, C\n",
+        b"1 region 2\n1 row plain h(X) - B >= 0\n1 row plain h(Y) - B >= 0\n",
+    ),
+    // a row from what another rate left, and rates with the names of keywords
+    (
+        b"vars X\nrates A, B, R\nrow A >= R\nrow B >= A\nrow H(X) >= B\nrow R >= B\neliminate A, B\n",
+        b"1 region 1\n1 row plain h(X) - R >= 0\n",
+    ),
+    (
+        b"vars vars\nrates rates, row\nrow row >= rates\nrow row <= H(vars)\neliminate row\n",
+        b"1 region 1\n1 row plain h(vars) - rates >= 0\n",
+    ),
+    // beside other questions
+    (
+        b"vars X\nprove H(X) >= 0\nvars X\nrates R\ngiven H(X) = 0\nrow R >= 0\neliminate R\nvars X\nprove 0 >= 0\n",
+        b"1 yes 1 : 1 H(X)\n2 region 0\n3 yes 1 : 0\n",
+    ),
+    (
+        b"vars X\r\nrates R\r\ngiven 0>=0\r\nrow R>=0\r\neliminate R\r",
+        b"1 region 0\n",
+    ),
+];
+
 /// Whole files that are read, of which not every question is answered yet.
-const LATER: [&[u8]; 15] = [
-    // rates
-    b"vars vars\nrates rates, row\nrow row >= rates\neliminate rates\n",
-    // elimination
-    b"vars X, Y\nrates R\neliminate R\n",
-    b"vars X, Y\nrates R, S\nrow R >= S\neliminate S, R",
-    b"vars U, X, Y\nrates R, Rc, Rp\nrow Rc >= 0\nrow Rp >= 0\nrow Rc <= I(U;Y)\nrow Rp <= I(X;Y|U)\nrow R = Rc + Rp\neliminate Rc, Rp\n",
-    // containment
+const LATER: [&[u8]; 11] = [
     b"vars X, Y\nregion\nregion\ncontain\n",
     b"vars X, Y\nrates R\nregion\nrow R <= I(X;Y)\nregion\naux U\ngiven markov U -> X -> Y\nrow R <= I(U;Y)\ncontain\n",
     b"vars X, Y\nregion\naux U\nregion\naux U\ntry U := U\ncontain\n",
@@ -448,9 +512,9 @@ const LATER: [&[u8]; 15] = [
     b"vars A, B, C, D\nregion\naux E, F, G, J\nregion\ncontain\n",
     b"vars X\nregion\naux aux, try, region\nregion\naux contain\ntry contain := try\ncontain\n",
     b"vars X, Y\nprove 0 >= 0\nvars X\nregion\nregion\ncontain\n",
+    b"vars X\nrates R\neliminate R\nvars X\nregion\nregion\ncontain\n",
     // tabs, comments, carriage returns and blank lines
     b"#\r\n\tvars\tX#,Y\r\n\r\n  region # R\r\n\t\tregion\r\n\r\ncontain#",
-    b"vars X\r\nrates R\r\ngiven 0>=0\r\nrow R>=0\r\neliminate R\r",
 ];
 
 /// A source of these bytes that gives `step` at a call and fails at the calls `failing`.
@@ -485,9 +549,23 @@ pub(crate) fn gets(
     want: &[u8],
     wanted: Status,
 ) -> Result<(), Fail> {
+    words_get(rt, alloc, &["answer"], topic, case, input, want, wanted)
+}
+
+/// The call with these words writes just these lines, and ends with the status.
+fn words_get(
+    rt: &impl Abort,
+    alloc: Global,
+    words: &[&str],
+    topic: &str,
+    case: usize,
+    input: &[u8],
+    want: &[u8],
+    wanted: Status,
+) -> Result<(), Fail> {
     let mut source = source(alloc, input, WHOLE, &[])?;
     let mut sink = sink(alloc, WHOLE, &[])?;
-    let status = itip(alloc, &["answer"], &mut source, &mut sink);
+    let status = itip(alloc, words, &mut source, &mut sink);
     let written = str::from_utf8(sink.bytes())?;
     assert_eq!(rt; written, str::from_utf8(want)?, "{topic}, case {case}");
     assert_eq!(rt; status, wanted, "{topic}, case {case}");
@@ -521,11 +599,97 @@ fn constraints_count(rt: HostRuntime) -> Result<(), Fail> {
 }
 
 #[test]
+fn rates_are_eliminated(rt: HostRuntime) -> Result<(), Fail> {
+    let alloc = rt.alloc();
+    each_gets(&rt, alloc, "elimination", &ELIMINATED, Status::Done)
+}
+
+/// Why an elimination stays undecided with at most so many rows, if it does.
+fn cause(rt: &impl Abort, alloc: Global, input: &[u8], rows: u32) -> Result<Option<Cause>, Fail> {
+    assert!(rt; input.len() <= ROOM);
+    let budgets = Budgets {
+        pivots: 1,
+        rows,
+        tries: 1,
+    };
+    for question in &questions(alloc, input)? {
+        if let Verb::Eliminate(_) = &question.verb {
+            let answered = answer(alloc, question, budgets)?;
+            if let Answer::Undecided(cause) = answered.answer {
+                return Ok(Some(cause));
+            }
+        }
+    }
+    Ok(None)
+}
+
+#[test]
+fn rows_have_a_budget(rt: HostRuntime) -> Result<(), Fail> {
+    let alloc = rt.alloc();
+    // Without the rate Rc, number 1, five rows are left.
+    assert_eq!(rt; cause(&rt, alloc, SUPERPOSITION, 2)?, Some(Cause::Rows(1)));
+    assert_eq!(rt; cause(&rt, alloc, SUPERPOSITION, 4)?, Some(Cause::Rows(1)));
+    assert_eq!(rt; cause(&rt, alloc, SUPERPOSITION, 5)?, None);
+    Ok(())
+}
+
+#[test]
 fn what_is_read_may_wait_for_its_answer(rt: HostRuntime) -> Result<(), Fail> {
     let alloc = rt.alloc();
     for (case, input) in LATER.iter().enumerate() {
         let want = b"refused 1:1 later\n".as_slice();
         gets(&rt, alloc, "later", case, input, want, Status::Refused)?;
+    }
+    Ok(())
+}
+
+/// Words with a reading, an input, and what the call writes and how it ends.
+const MODES: [(&[&str], &[u8], &[u8], Status); 7] = [
+    (
+        &["answer", "--pivots", "1"],
+        b"vars X\nrates A, B\nrow 18446744073709551615 A + B >= 0\nrow A + 18446744073709551615 B >= 0\nprove A + B >= 0\n",
+        b"1 undecided pivots 1\n",
+        Status::Done,
+    ),
+    (
+        &["answer", "--format=json"],
+        MUTUAL,
+        b"{\"answer\":\"yes\",\"proofs\":[{\"scale\":\"1\",\"weights\":[[2,\"1\"]]}],\"question\":\"vars X, Y\\nprove I(X;Y) >= 0\\n\"}\n",
+        Status::Done,
+    ),
+    (
+        &["check"],
+        b"{\"answer\":\"yes\",\"proofs\":[{\"scale\":\"1\",\"weights\":[[2,\"1\"]]}],\"question\":\"vars X, Y\\nprove I(X;Y) >= 0\\n\"}\n",
+        b"1 valid\n",
+        Status::Done,
+    ),
+    (
+        &["check"],
+        b"{\"answer\":\"yes\",\"proofs\":[{\"scale\":\"1\",\"weights\":[[2,\"2\"]]}],\"question\":\"vars X, Y\\nprove I(X;Y) >= 0\\n\"}\n",
+        b"1 invalid mismatch h(X) 1 2\n",
+        Status::Invalid,
+    ),
+    (
+        &["check"],
+        b"{\"answer\":\"yes\"}\nx\n",
+        b"1 invalid shape question\n2 invalid json\n",
+        Status::Invalid,
+    ),
+    // the last line is valid, and an earlier one isn't
+    (
+        &["check"],
+        b"\n{\"answer\":\"yes\",\"proofs\":[{\"scale\":\"1\",\"weights\":[[2,\"1\"]]}],\"question\":\"vars X, Y\\nprove I(X;Y) >= 0\\n\"}",
+        b"1 invalid json\n2 valid\n",
+        Status::Invalid,
+    ),
+    (&["check"], b"", b"", Status::Done),
+];
+
+#[test]
+fn each_mode_has_its_lines(rt: HostRuntime) -> Result<(), Fail> {
+    let alloc = rt.alloc();
+    for (i, (words, input, want, wanted)) in MODES.iter().enumerate() {
+        words_get(&rt, alloc, words, "modes", i, input, want, *wanted)?;
     }
     Ok(())
 }
@@ -571,7 +735,7 @@ fn a_failed_read_writes_nothing(rt: HostRuntime) -> Result<(), Fail> {
 fn a_failed_write_leaves_a_front(rt: HostRuntime) -> Result<(), Fail> {
     let alloc = rt.alloc();
     let answer: &[&str] = &["answer"];
-    let cases: [(&[&str], &[u8], usize, &[u64], &[u8], Status); 7] = [
+    let cases: [(&[&str], &[u8], usize, &[u64], &[u8], Status); 8] = [
         (answer, MUTUAL, WHOLE, &[1], b"", Status::WriteFault),
         (answer, MUTUAL, 1, &[5], b"1 ye", Status::WriteFault),
         (
@@ -598,7 +762,15 @@ fn a_failed_write_leaves_a_front(rt: HostRuntime) -> Result<(), Fail> {
             b"refused ",
             Status::WriteFault,
         ),
-        (&["check"], MUTUAL, 3, &[2], b"usa", Status::WriteFault),
+        (&["prove"], MUTUAL, 3, &[2], b"usa", Status::WriteFault),
+        (
+            &["check"],
+            b"x\n\n",
+            WHOLE,
+            &[2],
+            b"1 invalid json\n",
+            Status::WriteFault,
+        ),
         (&[], MUTUAL, WHOLE, &[1], b"", Status::WriteFault),
     ];
     for (i, (words, input, step, failing, want, wanted)) in cases.iter().enumerate() {

@@ -2,9 +2,9 @@ use Rattle.std.proofs.Common.{arith, Bool, subst}
 use Rattle.std.specs.Bool.{OnFalse}
 use Rattle.std.proofs.lemmas.List.Elements.{All-map}
 use Rattle.it_question.specs.Questions.{question_view, question_body}
-use Rattle.it_cli.specs.Questions.{IsAnswerable}
+use Rattle.it_answer.specs.AnswerableQuestions.{IsAnswerable}
 use Rattle.it_cli.proofs.RightLemmas.{all_bodies}
-use Rattle.it_cli.proofs.top.are_answerable.Goals as goal
+use Rattle.it_cli.proofs.answering.are_answerable.Goals as goal
 
 pub returns-then-not-is_answerable-clause-no : goal.returns-then-not-is_answerable-clause-no
 returns-then-not-is_answerable-clause-no c all =

@@ -1,0 +1,248 @@
+-- The verdict on the line of a right answer: `Valid` for a yes and a no, `Skipped` for the others.
+use Rattle.std.proofs.Common.{◌≡◌, ℕ, zero, suc, ◌+◌, ◌<◌, ◌≤◌, ◌^◌, ℤ, pos, neg_ℤ, ◌≤ℤ◌, List, [], ◌∷◌, length, decimal, slice_index_or, Bool, true, false, Some, Ok, All, IsUtf8, IsAscii, if◌then◌else◌, refl, sym, ap, subst, ◌∙◌, arith, inl, inr, lit≤}
+use Rattle.std.specs.List.{AllByRecursion as Every}
+use Rattle.std.proofs.lemmas.Fmt.{IsAscii-decimal_wide}
+use Rattle.std.proofs.lemmas.List.Elements.{All-head, All-tail}
+use Rattle.std.proofs.lemmas.Str.{IsUtf8-from_ascii}
+use Rattle.std.proofs.lemmas.Str.Ascii.{IsAscii-nil, IsAscii-cons}
+use Rattle.serde_json.specs.Data.{depth}
+use Rattle.it_rational.specs.Rational.{Rational}
+use Rattle.it_space.specs.declared.spaces.Space.{Space}
+use Rattle.it_space.specs.declared.answers.Cause.{Cause}
+use Rattle.it_space.specs.declared.answers.Cause.TheVariants as causes
+use Rattle.it_space.specs.declared.answers.Mark.{Mark}
+use Rattle.it_space.specs.Answers.{AnswerView, CertificateView}
+use Rattle.it_space.specs.Answers.AnswerView.{Yes, No, Undecided, Region, Contained, Open}
+use Rattle.it_space.specs.Problems.{ProblemView}
+use Rattle.it_space.specs.Rows.{Terms, map_of, value}
+use Rattle.it_space.specs.Spaces.{size_of}
+use Rattle.it_polymatroid.specs.Certificates.{Form, IsCertificate}
+use Rattle.it_polymatroid.specs.Polymatroid.{IsPolymatroid}
+use Rattle.it_elemental.specs.Generators.{generators}
+use Rattle.it_check.specs.Meaning.{CertifiesRow, CertificateFits, RefutesRow, PointFits}
+use Rattle.it_check.specs.declared.verdicts.Verdict.TheVariants.{Valid}
+use Rattle.it_check.proofs.Truth.{valid_yes_is, valid_no_is}
+use Rattle.it_run.specs.Runs.{RunEndView}
+use Rattle.it_run.specs.Runs.RunEndView.{Weights, Point, Pivots, Width}
+use Rattle.it_prove.specs.Closed.{spread_point}
+use Rattle.it_prove.specs.ProofViews as proof_views
+use Rattle.it_prove.specs.ProofViews.{Follows, EndsWith}
+use Rattle.it_syntax.specs.Meaning.{RelationView}
+use Rattle.it_syntax.specs.NamesViews.{NamesView}
+use Rattle.it_question.specs.AsciiTexts.{IsAsciiQuestion}
+use Rattle.it_question.specs.Questions.{BodyView, QuestionView, VerbView, Prove, Eliminate, Contain}
+use Rattle.it_question.specs.Files.{IsFile}
+use Rattle.it_question.specs.Limits.{IsQuestion, IsVerbOver}
+use Rattle.it_question.proofs.AsciiLemmas.{texts_are_ascii}
+use Rattle.it_canon.specs.Canonical.{IsRowOf}
+use Rattle.it_canon.specs.Targets.{targets}
+use Rattle.it_canon.specs.QuestionDemands.{space_of, problem_names, problem_lines, question_demands, AreTrueAt, AreRowsOf, Poses}
+use Rattle.it_canon.proofs.ProblemLemmas.{question_met}
+use Rattle.it_answer.specs.declared.types.Budgets.{Budgets}
+use Rattle.it_answer.specs.Forms.{all_demands, generators_by}
+use Rattle.it_answer.specs.RightAnswers.{variables_of, CertifiesForm, IsCounterexample, CertifyAll, ViolatesFirst, ProofsAreDue, PointIsDue, IsRightFor, IsRightAnswer, IsRightAnswerBy}
+use Rattle.it_answer.specs.RightRegions.{IsRightElimination}
+use Rattle.it_eliminate.proofs.MemberLemmas.{every_member}
+use Rattle.it_space.proofs.EveryLemmas.{every_of}
+use Rattle.it_answer.proofs.FormLemmas.{spoken, by_rows}
+use Rattle.it_answer.proofs.UniqueLemmas.{a_yes_ascends}
+use Rattle.it_certificate.specs.Fits.{FitsQuestion, FitsVerb, IsCauseFor}
+use Rattle.it_certificate.specs.Laws.{ReadsBack, written_answer}
+use Rattle.it_certificate.specs.Reports.{Reads}
+use Rattle.it_certificate.specs.Values.{answer_value, answer_text, place_text}
+use Rattle.it_report.specs.RowVerdicts.{is_valid, proof_verdict, proofs_verdict, point_verdict}
+use Rattle.it_report.specs.LineVerdicts.{LineVerdict, Skipped, Judged, is_invalid}
+use Rattle.it_report.specs.Judging.{answer_verdict, is_passed_over, IsVerdict}
+use Rattle.it_report.proofs.OneLemmas.{one_verdict}
+use Rattle.it_cli.proofs.DataLemmas.{IsPlain, yes_plain, no_plain, undecided_plain, region_plain, yes_low, no_low, undecided_low, region_low, answer_text_utf8, answer_text_back}
+use Rattle.it_cli.proofs.RegionFits.{right_region_fits}
+use Rattle.it_cli.proofs.FeedLemmas.{IsNoFeed, answer_text_clear}
+use Rattle.it_cli.proofs.JsonLemmas.{right_prove_fits, eliminated_cause_fits, written_whole, yes_same, no_same}
+use Rattle.it_cli.proofs.NameFits.{rates_found}
+use Rattle.it_cli.specs.Accepted.{ReportsAreAccepted}
+
+-- ---- certificates and points of the run are valid
+
+certificate_fits : (p : ProblemView) (t : Terms) (w : CertificateView) (e : RunEndView (List (ℕ × Rational)) (List Rational)) → Follows p t e (proof_views.Yes w) → CertificateFits p t w
+certificate_fits p t w (Weights ws) (inl h) = subst (CertificateFits p t) (yes_same h.0 w (sym h.3)) h.2.check
+certificate_fits p t w (Weights ws) (inr h) = let e = h.1 in absurd (cc)
+certificate_fits p t w (Point qs) (inl h) = let e = h.1 in absurd (cc)
+certificate_fits p t w (Point qs) (inr h) = let e = h.1 in absurd (cc)
+certificate_fits p t w (Pivots k) e = absurd (cc)
+certificate_fits p t w (Width k) e = absurd (cc)
+
+point_fits : (p : ProblemView) (t : Terms) (values : List ℤ) (e : RunEndView (List (ℕ × Rational)) (List Rational)) → Follows p t e (proof_views.No values) → PointFits p t values
+point_fits p t values (Weights ws) (inl h) = let e = h.3 in absurd (cc)
+point_fits p t values (Weights ws) (inr h) = let e = h.1 in absurd (cc)
+point_fits p t values (Point qs) (inl h) = subst (PointFits p t) (no_same (spread_point p qs) values (sym h.1)) h.0.check
+point_fits p t values (Point qs) (inr h) = let e = h.1 in absurd (cc)
+point_fits p t values (Pivots k) e = absurd (cc)
+point_fits p t values (Width k) e = absurd (cc)
+
+module _ (q : BodyView) (r : RelationView) (b : Poses q r) (steps : ℕ) where
+  to_problem : (P : Space → Type 0) → P (space_of (problem_names q)) → P b.problem.space
+  to_problem P x = subst P (sym b.space) x
+
+  certifies : (f : Form) (t : Terms) (w : CertificateView) → IsRowOf b.problem.space f t → CertifiesForm q f w → CertifiesRow b.problem t w
+  certifies f t w row c =
+      let p = b.problem in
+      by_rows (all_demands p.space.variables (question_demands q)) (generators p) (spoken p.space (question_demands q) p.constraints b.constraints) (size_of p.space + 1) (value t) f row.same w
+      (to_problem (λ s. IsCertificate (size_of s + 1) (generators_by (all_demands s.variables (question_demands q))) f w) c)
+
+  refutes : (f : Form) (t : Terms) (values : List ℤ) → IsRowOf b.problem.space f t → IsCounterexample q f values → RefutesRow b.problem t values
+  refutes f t values row c = record {
+    complete = to_problem (λ s. length values ≡ size_of s) c.complete;
+    polymatroid = to_problem (λ s. IsPolymatroid s.variables (map_of values)) c.polymatroid;
+    met = (question_met q b.problem.space b.problem.constraints b.space b.constraints (map_of values) refl).1 (to_problem (λ s. AreTrueAt s.variables (map_of values) (problem_lines q)) c.lines_hold);
+    violated = subst (λ (x : ℤ). x ≤ℤ neg_ℤ (pos 1)) (sym (row.same (map_of values) refl)) c.violated;
+  }
+
+  proof_valid : (f : Form) (t : Terms) (w : CertificateView) → IsRowOf b.problem.space f t → CertifiesForm q f w → EndsWith b.problem t steps (proof_views.Yes w) → proof_verdict b.problem t w ≡ Valid
+  proof_valid f t w row c d = (valid_yes_is b.problem t w b.limits row.coordinates).1 (certifies f t w row c, certificate_fits b.problem t w d.end d.follows)
+
+  proofs_valid : (fs : List Form) (ts : List Terms) (ws : List CertificateView) → AreRowsOf b.problem.space fs ts → CertifyAll q fs ws → ProofsAreDue b.problem steps ts ws → proofs_verdict b.problem ts ws ≡ Valid
+  unfolding proofs_verdict
+  proofs_valid [] [] ws z c d = refl
+  proofs_valid [] (t ∷ ts) ws z c d = absurd z
+  proofs_valid (f ∷ fs) [] ws z c d = absurd z
+  proofs_valid (f ∷ fs) (t ∷ ts) [] z c d = absurd c
+  proofs_valid (f ∷ fs) (t ∷ ts) (w ∷ ws) z c d =
+      ap (λ v. if is_valid v then proofs_verdict b.problem ts ws else v) (proof_valid f t w z.0 c.0 d.0) ∙ proofs_valid fs ts ws z.1 c.1 d.1
+
+  point_valid : (fs : List Form) (ts : List Terms) (back : Bool) (values : List ℤ) → AreRowsOf b.problem.space fs ts → ViolatesFirst q fs back values → PointIsDue b.problem steps ts back values
+      → point_verdict b.problem ts back values ≡ Valid
+  unfolding point_verdict
+  point_valid [] ts back values z c d = absurd c
+  point_valid (f ∷ fs) [] back values z c d = absurd z
+  point_valid (f ∷ fs) (t ∷ ts) false values z c d =
+      let refuted = refutes f t values z.0 c in
+      (valid_no_is b.problem t values b.limits z.0.coordinates refuted.complete).1 (refuted, point_fits b.problem t values d.end d.follows)
+  point_valid (f ∷ []) (t ∷ ts) true values z c d = absurd c
+  point_valid (f ∷ g ∷ fs) (t ∷ []) true values z c d = absurd d
+  point_valid (f ∷ g ∷ fs) (t ∷ u ∷ ts) true values z c d =
+      let refuted = refutes g u values z.1.0 c.1 in
+      (valid_no_is b.problem u values b.limits z.1.0.coordinates refuted.complete).1 (refuted, point_fits b.problem u values d.1.end d.1.follows)
+
+-- ---- lines
+
+question_fits : (q : BodyView) (a : AnswerView) (verb : VerbView) → q.verb ≡ verb → FitsVerb q.names verb a → FitsQuestion q a
+unfolding FitsQuestion
+question_fits q a verb e h = subst (λ x. FitsVerb q.names x a) (sym e) h
+
+-- no verdict on the line is invalid, and it is one line
+pub record IsAccepted (line : List ℕ) : Type 0 where
+  pub clear : Every IsNoFeed line
+  pub verdicts : (v : LineVerdict) → IsVerdict line v → is_invalid v ≡ false
+
+accepted : (line : List ℕ) (w : LineVerdict) → Every IsNoFeed line → IsVerdict line w → is_invalid w ≡ false → IsAccepted line
+accepted line w clear is ok = record { clear = clear; verdicts = λ v h. ap is_invalid (one_verdict line v w h is) ∙ ok }
+
+rate_ascii : (rates : List (List ℕ)) (r : ℕ) → All IsAscii rates → IsAscii (slice_index_or rates r [])
+rate_ascii [] zero all = IsAscii-nil
+rate_ascii [] (suc r) all = IsAscii-nil
+rate_ascii (x ∷ rates) zero all = All-head IsAscii x rates all
+rate_ascii (x ∷ rates) (suc r) all = rate_ascii rates r (All-tail IsAscii x rates all)
+
+step_ascii : (n : ℕ) → n < 2 ^ 32 → IsAscii (decimal n)
+step_ascii n h = let e : 2 ^ 32 ≤ 10 ^ 64 = lit≤ tt in IsAscii-decimal_wide n (omega (arith, h, e))
+
+place_ascii : (v : NamesView) (c : Cause) → All IsAscii v.rates → IsCauseFor v c → IsAscii (place_text v c)
+place_ascii v (causes.Pivots k) all h = step_ascii k h
+place_ascii v (causes.Width k) all h = step_ascii k h
+place_ascii v causes.Scale all h = IsAscii-cons 48 [] (omega arith) IsAscii-nil
+place_ascii v (causes.Rows r) all h = rate_ascii v.rates r all
+place_ascii v (causes.WideRate r) all h = rate_ascii v.rates r all
+
+module _ (back : ReadsBack) (q : QuestionView) (short : length q.text ≤ 1048577) (file : IsFile q.text (q ∷ [])) where
+  abbrev line_of : AnswerView → List ℕ
+  line_of a = answer_text q.text q.body.names a
+
+  ascii : IsAsciiQuestion q
+  ascii = All-head IsAsciiQuestion q [] (texts_are_ascii q.text (q ∷ []) file)
+
+  text_is : IsUtf8 q.text
+  text_is = IsUtf8-from_ascii q.text ascii.text
+
+  line_reads : (a : AnswerView) → FitsQuestion q.body a → IsPlain (answer_value q.text q.body.names a) → depth (answer_value q.text q.body.names a) ≤ 127 → Reads (line_of a) (Ok (q, written_answer a))
+  line_reads a fits plain low = record {
+    value = answer_value q.text q.body.names a;
+    utf8 = answer_text_utf8 q.text q.body.names a plain;
+    is_json = answer_text_back q.text q.body.names a plain low;
+    reads = back q a short file fits;
+  }
+
+  clear_of : (a : AnswerView) → IsPlain (answer_value q.text q.body.names a) → Every IsNoFeed (line_of a)
+  clear_of a plain = answer_text_clear q.text q.body.names a plain
+
+  judged : (r : RelationView) (a : AnswerView) (line : List ℕ) → Every IsNoFeed line → q.body.verb ≡ Prove r → (b : Poses q.body r) → answer_verdict b.problem b.rows a ≡ Some Valid → Reads line (Ok (q, a)) → IsAccepted line
+  judged r a line clear about b e reads = accepted line (Judged q.body.names Valid) clear (record {
+    question = q;
+    answer = a;
+    reads = reads;
+    verdict = record { relation = r; about = about; poses = b; own_names = refl; verdict = e };
+  }) refl
+
+  skipped : (a : AnswerView) (line : List ℕ) → Every IsNoFeed line → is_passed_over a ≡ true → Reads line (Ok (q, a)) → IsAccepted line
+  skipped a line clear e reads = accepted line Skipped clear (record { question = q; answer = a; reads = reads; verdict = e }) refl
+
+  undecided_accepted : (c : Cause) → FitsQuestion q.body (Undecided c) → IsCauseFor q.body.names c → IsAccepted (line_of (Undecided c))
+  undecided_accepted c fits cause =
+      let plain = undecided_plain q.text q.body.names text_is c (IsUtf8-from_ascii (place_text q.body.names c) (place_ascii q.body.names c ascii.rates cause)) in
+      skipped (Undecided c) (line_of (Undecided c)) (clear_of (Undecided c) plain) refl (line_reads (Undecided c) fits plain (undecided_low q.text q.body.names c))
+
+  region_accepted : (most : ℕ) (rates : List ℕ) (rows : List (Mark × Terms)) → IsQuestion q.body → q.body.verb ≡ Eliminate rates → IsRightElimination most q.body rates (Region rows) → IsAccepted (line_of (Region rows))
+  region_accepted most rates rows k about right =
+      let fits = right_region_fits most q.body rates rows k right in
+      let plain = region_plain q.text q.body.names text_is rows (λ i d l. (fits i d l).terms) in
+      skipped (Region rows) (line_of (Region rows)) (clear_of (Region rows) plain) refl
+      (line_reads (Region rows) (question_fits q.body (Region rows) (Eliminate rates) about fits) plain (region_low q.text q.body.names rows))
+
+  module _ (budgets : Budgets) (few : budgets.pivots < 2 ^ 32) where
+    yes_accepted : (r : RelationView) (ws : List CertificateView) → q.body.verb ≡ Prove r → IsRightFor budgets.pivots q.body r (Yes ws) → IsRightAnswer budgets q.body (Yes ws) → IsAccepted (line_of (Yes ws))
+    yes_accepted r ws about right answer =
+        let fits = right_prove_fits budgets.pivots q.body r (Yes ws) few about right in
+        let e = proofs_valid q.body r right.poses budgets.pivots (targets (variables_of q.body) r) right.poses.rows ws right.poses.targets_are right.shows right.due in
+        let plain = yes_plain q.text q.body.names text_is ws fits.1 in
+        let reads = line_reads (Yes ws) (question_fits q.body (Yes ws) (Prove r) about fits) plain (yes_low q.text q.body.names ws) in
+        judged r (Yes ws) (line_of (Yes ws)) (clear_of (Yes ws) plain) about right.poses (ap Some e) (subst (λ us. Reads (line_of (Yes ws)) (Ok (q, Yes us))) (written_whole ws (a_yes_ascends budgets q.body ws answer)) reads)
+
+    no_accepted : (r : RelationView) (is_back : Bool) (values : List ℤ) → q.body.verb ≡ Prove r → IsRightFor budgets.pivots q.body r (No is_back values) → IsAccepted (line_of (No is_back values))
+    no_accepted r is_back values about right =
+        let fits = right_prove_fits budgets.pivots q.body r (No is_back values) few about right in
+        let e = point_valid q.body r right.poses budgets.pivots (targets (variables_of q.body) r) right.poses.rows is_back values right.poses.targets_are right.shows right.due in
+        let plain = no_plain q.text q.body.names text_is is_back values fits.1 in
+        judged r (No is_back values) (line_of (No is_back values)) (clear_of (No is_back values) plain) about right.poses (ap Some e)
+        (line_reads (No is_back values) (question_fits q.body (No is_back values) (Prove r) about fits) plain (no_low q.text q.body.names is_back values))
+
+    prove_accepted : (r : RelationView) (a : AnswerView) → q.body.verb ≡ Prove r → IsRightFor budgets.pivots q.body r a → IsRightAnswer budgets q.body a → IsAccepted (line_of a)
+    prove_accepted r (Yes ws) about right answer = yes_accepted r ws about right answer
+    prove_accepted r (No is_back values) about right answer = no_accepted r is_back values about right
+    prove_accepted r (Undecided c) about right answer =
+        let fits = right_prove_fits budgets.pivots q.body r (Undecided c) few about right in
+        undecided_accepted c (question_fits q.body (Undecided c) (Prove r) about fits) fits
+    prove_accepted r (Region rows) about right answer = absurd right.shows
+    prove_accepted r (Contained parts proofs) about right answer = absurd right.shows
+    prove_accepted r (Open tried) about right answer = absurd right.shows
+
+    eliminate_accepted : (rates : List ℕ) (a : AnswerView) → q.body.verb ≡ Eliminate rates → IsQuestion q.body → IsRightElimination budgets.rows q.body rates a → IsAccepted (line_of a)
+    eliminate_accepted rates (Yes ws) about k right = absurd right.shows
+    eliminate_accepted rates (No is_back values) about k right = absurd right.shows
+    eliminate_accepted rates (Undecided c) about k right =
+        let within = (subst (IsVerbOver q.body.names) about k.verb).within in
+        let fits = eliminated_cause_fits budgets.rows q.body rates c (λ r m. rates_found q r file (every_member (λ i. i < length q.body.names.rates) rates r (every_of (λ i. i < length q.body.names.rates) rates within) m)) right in
+        undecided_accepted c (question_fits q.body (Undecided c) (Eliminate rates) about fits) fits
+    eliminate_accepted rates (Region rows) about k right = region_accepted budgets.rows rates rows k about right
+    eliminate_accepted rates (Contained parts proofs) about k right = absurd right.shows
+    eliminate_accepted rates (Open tried) about k right = absurd right.shows
+
+    verb_accepted : (verb : VerbView) (a : AnswerView) → q.body.verb ≡ verb → IsQuestion q.body → IsRightAnswer budgets q.body a → IsRightAnswerBy budgets q.body verb a → IsAccepted (line_of a)
+    verb_accepted (Prove r) a about k answer right = prove_accepted r a about right answer
+    verb_accepted (Eliminate rates) a about k answer right = eliminate_accepted rates a about k right
+    verb_accepted (Contain first second tries) a about k answer right = absurd right
+
+pub right_accepted : ReadsBack → (budgets : Budgets) (q : QuestionView) (a : AnswerView) → budgets.pivots < 2 ^ 32 → length q.text ≤ 1048577 → IsFile q.text (q ∷ []) → IsQuestion q.body → IsRightAnswer budgets q.body a
+    → IsAccepted (answer_text q.text q.body.names a)
+right_accepted back budgets q a few short file k right = verb_accepted back q short file budgets few q.body.verb a refl k right right
+
+pub reports_are_accepted : ReadsBack → ReportsAreAccepted
+reports_are_accepted back budgets q a few short file k right = (right_accepted back budgets q a few short file k right).verdicts

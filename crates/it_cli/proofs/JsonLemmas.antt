@@ -1,0 +1,277 @@
+-- A right answer fits its question, so that what is written of it reads back as it.
+use Rattle.std.proofs.Common.{◌≡◌, ◌⊎◌, inl, inr, ℕ, zero, suc, ◌+◌, ◌<◌, ◌≤◌, ◌^◌, ℤ, pos, List, [], ◌∷◌, map, filter, length, All, Bool, true, false, None, refl, sym, ap, subst, ◌∙◌, arith, lit≤, cond, negsuc, not, unsigned_abs, ◌==◌, rules}
+use Rattle.std.proofs.lemmas.List.{length-append, length-map}
+use Rattle.std.proofs.lemmas.List.Elements.{All-nil, All-cons, All-head, All-tail}
+use Rattle.it_number.specs.Limit.{IsWithin}
+use Rattle.it_rational.specs.Rational.{Rational}
+use Rattle.it_space.specs.declared.answers.Cause.{Cause}
+use Rattle.it_space.specs.declared.answers.Cause.TheVariants as causes
+use Rattle.it_space.specs.declared.spaces.Space.{Space}
+use Rattle.it_space.specs.Answers.{AnswerView, CertificateView}
+use Rattle.it_space.specs.Answers.AnswerView.{Yes, No, Undecided, Region, Contained, Open}
+use Rattle.it_space.specs.Problems.{ProblemView, IsProblem}
+use Rattle.it_space.specs.Rows.{Terms, Ascends, IsCanonical}
+use Rattle.it_space.specs.Spaces.{size_of}
+use Rattle.it_polymatroid.specs.Certificates.{Form, Generators, IsAllowed}
+use Rattle.it_polymatroid.specs.Elementals.{elementals}
+use Rattle.it_elemental.proofs.GeneratorLemmas.{few_elementals}
+use Rattle.it_closure.specs.Reading.{dependences_of}
+use Rattle.it_run.specs.Runs.{RunEndView, EndsAs}
+use Rattle.it_run.specs.Runs.RunEndView.{Weights, Point, Pivots, Width}
+use Rattle.it_simplex.specs.Answers.{Solves}
+use Rattle.it_prove.specs.Closed.{closed_places, spread_point, spread_values}
+use Rattle.it_prove.specs.Scaling.{NumbersFit, scale_of, scaled_point}
+use Rattle.it_prove.specs.Steps.{pairs}
+use Rattle.it_prove.specs.ProofViews as proof_views
+use Rattle.it_prove.specs.ProofViews.{ProofView, EndsWith, Follows, Runs}
+use Rattle.it_prove.proofs.ProofLemmas.{scaled_within}
+use Rattle.it_prove.proofs.PointLemmas.{places_rise, pairs_canonical, point_spread, spread_within}
+use Rattle.it_syntax.specs.declared.types.Sign.{Sign}
+use Rattle.it_syntax.specs.declared.types.Sign.TheVariants.{AtLeast, AtMost, Equal}
+use Rattle.it_syntax.specs.Meaning.{RelationView}
+use Rattle.it_syntax.specs.NamesViews.{NamesView}
+use Rattle.it_question.specs.Questions.{BodyView, Prove}
+use Rattle.it_canon.specs.Canonical.{form_of}
+use Rattle.it_canon.specs.Demands.{States}
+use Rattle.it_canon.specs.Targets.{targets, targets_by}
+use Rattle.it_canon.specs.QuestionDemands.{space_of, problem_names, problem_names_by, question_demands, Poses}
+use Rattle.it_canon.proofs.ZipLemmas.{zip-length}
+use Rattle.it_eliminate.specs.Elimination.{Member, EliminatedView, Ends, in_order, next_list}
+use Rattle.it_eliminate.specs.Elimination as elimination
+use Rattle.it_answer.specs.Forms.{all_demands, generators_by, demand_of_elemental, demand_of_line}
+use Rattle.it_answer.specs.RightAnswers.{variables_of, CertifyAll, ViolatesFirst, ProofsAreDue, PointIsDue, CauseIsDue, IsRightFor}
+use Rattle.it_answer.specs.RightRegions.{answer_of_end, IsRightElimination}
+use Rattle.it_certificate.specs.AnswerReading.{is_equality, target_count}
+use Rattle.it_certificate.specs.Fits.{IsPair, IsNumbered, IsFoundIn, IsCauseFor, FitsProve}
+use Rattle.it_certificate.specs.Numerals.{step_of}
+use Rattle.it_certificate.specs.Laws.{without_zeros}
+use Rattle.it_certificate.specs.Values.{is_some_weight, rate_text}
+
+-- ---- the ends of one target
+
+pub yes_same : (v w : CertificateView) → proof_views.Yes v ≡ proof_views.Yes w → v ≡ w
+yes_same v w e = cc
+
+pub no_same : (u v : List ℤ) → proof_views.No u ≡ proof_views.No v → u ≡ v
+no_same u v e = cc
+
+cause_same : (c d : Cause) → proof_views.Undecided c ≡ proof_views.Undecided d → c ≡ d
+cause_same c d e = cc
+
+module _ (q : ProblemView) (target : Terms) where
+  -- a proof's scale is within the limit, and its weights ascend
+  abbrev IsScaled : CertificateView → Type 0
+  IsScaled w = IsWithin w.scale × IsCanonical w.parts
+
+  scaled_by_end : (w : CertificateView) (e : RunEndView (List (ℕ × Rational)) (List Rational)) → Follows q target e (proof_views.Yes w) → IsScaled w
+  scaled_by_end w (Weights ws) (inl h) =
+      subst IsScaled (yes_same h.0 w (sym h.3)) (subst IsWithin (sym h.1.scale) h.2.lifted.numbers.scale, h.1.parts)
+  scaled_by_end w (Weights ws) (inr h) = let e = h.1 in absurd (cc)
+  scaled_by_end w (Point qs) (inl h) = let e = h.1 in absurd (cc)
+  scaled_by_end w (Point qs) (inr h) = let e = h.1 in absurd (cc)
+  scaled_by_end w (Pivots k) e = absurd (cc)
+  scaled_by_end w (Width k) e = absurd (cc)
+
+  -- the values of a point are within the limit
+  spread_fits : (qs : List Rational) → IsProblem q → NumbersFit qs → All IsWithin (spread_point q qs)
+  spread_fits qs limits fit =
+      let cs = closed_places q in
+      let row = pairs (closed_places q) (scaled_point qs) in
+      let canonical : IsCanonical row = pairs_canonical cs (scaled_point qs) row refl (places_rise q cs limits refl) (scaled_within (scale_of qs) qs (scaled_point qs) refl fit.numbers) in
+      let values = spread_values q.space.variables (dependences_of q) (size_of q.space) row in
+      subst (All IsWithin) (point_spread q q.space (dependences_of q) cs qs row values refl refl refl refl refl) (spread_within q.space.variables (dependences_of q) (size_of q.space) row canonical)
+
+  values_by_end : IsProblem q → (values : List ℤ) (e : RunEndView (List (ℕ × Rational)) (List Rational)) → Follows q target e (proof_views.No values) → All IsWithin values
+  values_by_end limits values (Weights ws) (inl h) = let e = h.3 in absurd (cc)
+  values_by_end limits values (Weights ws) (inr h) = let e = h.1 in absurd (cc)
+  values_by_end limits values (Point qs) (inl h) = subst (All IsWithin) (no_same (spread_point q qs) values (sym h.1)) (spread_fits qs limits h.0.numbers)
+  values_by_end limits values (Point qs) (inr h) = let e = h.1 in absurd (cc)
+  values_by_end limits values (Pivots k) e = absurd (cc)
+  values_by_end limits values (Width k) e = absurd (cc)
+
+-- ---- steps within the budget
+
+abbrev IsInBudget : {W P : Type 0} → ℕ → RunEndView W P → Type 0
+IsInBudget most (Weights ws) = Unit {0}
+IsInBudget most (Point qs) = Unit {0}
+IsInBudget most (Pivots j) = j ≤ most
+IsInBudget most (Width j) = j ≤ most
+
+module _ {S W P : Type 0} (IsDone IsStuck Fits : S → Type 0) (next : S → S) (weights : S → W) (point : S → P) where
+  by_step : (left k : ℕ) (s : S) (e : RunEndView W P) → (EndsAs IsDone IsStuck Fits next weights point left (suc k) (next s) e → IsInBudget (suc k + left) e)
+      → (¬ (Fits s) × (e ≡ Width (suc k))) ⊎ (Fits s × EndsAs IsDone IsStuck Fits next weights point left (suc k) (next s) e) → IsInBudget (k + suc left) e
+  by_step left k s e more (inl g) = subst (IsInBudget (k + suc left)) (sym g.1) (let l : suc k ≤ k + suc left = omega arith in l)
+  by_step left k s e more (inr g) = let same : suc k + left ≡ k + suc left = omega arith in subst (λ n. IsInBudget n e) same (more g.1)
+
+  in_budget : (left k : ℕ) (s : S) (e : RunEndView W P) → EndsAs IsDone IsStuck Fits next weights point left k s e → IsInBudget (k + left) e
+  in_budget zero k s e (inl h) = subst (IsInBudget (k + 0)) (sym h.1) tt
+  in_budget zero k s e (inr (inl h)) = subst (IsInBudget (k + 0)) (sym h.2) tt
+  in_budget zero k s e (inr (inr h)) = subst (IsInBudget (k + 0)) (sym h.2) (let l : k ≤ k + 0 = omega arith in l)
+  in_budget (suc left) k s e (inl h) = subst (IsInBudget (k + suc left)) (sym h.1) tt
+  in_budget (suc left) k s e (inr (inl h)) = subst (IsInBudget (k + suc left)) (sym h.2) tt
+  in_budget (suc left) k s e (inr (inr h)) = by_step left k s e (in_budget left (suc k) (next s) e) h.2
+
+solves_in_budget : (coordinates : List ℕ) (columns : List Terms) (target : Terms) (steps : ℕ) (e : RunEndView (List (ℕ × Rational)) (List Rational)) → Solves coordinates columns target steps e → IsInBudget steps e
+solves_in_budget coordinates columns target steps e (inl h) = subst (IsInBudget steps) (sym h.1) (let l : 0 ≤ steps = omega arith in l)
+solves_in_budget coordinates columns target steps e (inr h) = let same : 0 + steps ≡ steps = omega arith in subst (λ n. IsInBudget n e) same (in_budget _ _ _ _ _ _ steps 0 _ e h.1)
+
+runs_in_budget : (q : ProblemView) (target : Terms) (steps : ℕ) (e : RunEndView (List (ℕ × Rational)) (List Rational)) → Runs q target steps e → IsInBudget steps e
+runs_in_budget q target steps e (inl h) = subst (IsInBudget steps) (sym h.1) (let l : 0 ≤ steps = omega arith in l)
+runs_in_budget q target steps e (inr h) = solves_in_budget _ _ _ steps e h.1
+
+cause_by_end : (v : NamesView) (q : ProblemView) (target : Terms) (steps : ℕ) (c : Cause) → steps < 2 ^ 32 → (e : RunEndView (List (ℕ × Rational)) (List Rational)) → IsInBudget steps e
+    → Follows q target e (proof_views.Undecided c) → IsCauseFor v c
+cause_by_end v q target steps c few (Weights ws) b (inl h) = let e = h.3 in absurd (cc)
+cause_by_end v q target steps c few (Weights ws) b (inr h) = subst (IsCauseFor v) (cause_same causes.Scale c (sym h.1)) tt
+cause_by_end v q target steps c few (Point qs) b (inl h) = let e = h.1 in absurd (cc)
+cause_by_end v q target steps c few (Point qs) b (inr h) = subst (IsCauseFor v) (cause_same causes.Scale c (sym h.1)) tt
+cause_by_end v q target steps c few (Pivots k) b e = subst (IsCauseFor v) (cause_same (causes.Pivots k) c (sym e)) (let l : k < 2 ^ 32 = omega (arith, b, few) in l)
+cause_by_end v q target steps c few (Width k) b e = subst (IsCauseFor v) (cause_same (causes.Width k) c (sym e)) (let l : k < 2 ^ 32 = omega (arith, b, few) in l)
+
+-- ---- certificates
+
+pairs_below : (g : Generators) → g.count ≤ 2 ^ 32 → (from : ℕ) (ts : Terms) → Ascends from ts → All (IsAllowed g) ts → All IsPair ts
+pairs_below g few from [] a all = All-nil IsPair
+pairs_below g few from (t ∷ ts) a all =
+    let h = All-head (IsAllowed g) t ts all in
+    let l : t.0 < 2 ^ 32 = let below = h.0 in omega (arith, below, few) in
+    All-cons IsPair t ts (l, a.2) (pairs_below g few (t.0 + 1) ts a.3 (All-tail (IsAllowed g) t ts all))
+
+module _ (q : BodyView) (r : RelationView) (b : Poses q r) where
+  demands_counted : length (question_demands q) ≤ 2 ^ 20
+  demands_counted =
+      let same = zip-length (λ d c. States b.problem.space d.place d.demand c) (question_demands q) b.problem.constraints b.constraints in
+      omega (arith, same, b.limits.few)
+
+  few_variables : variables_of q ≤ 10
+  few_variables = subst (λ (s : Space). s.variables ≤ 10) b.space b.limits.space.few
+
+  few_generators : (generators_by (all_demands (variables_of q) (question_demands q))).count ≤ 2 ^ 32
+  unfolding all_demands
+  few_generators =
+      let n = variables_of q in
+      let es = map (demand_of_elemental (variables_of q)) (elementals (variables_of q)) in
+      let ds = map demand_of_line (question_demands q) in
+      let sum = length-append es ds in
+      let first = length-map (elementals (variables_of q)) (demand_of_elemental (variables_of q)) in
+      let second = length-map (question_demands q) demand_of_line in
+      let e : 20000 + 2 ^ 20 ≤ 2 ^ 32 = lit≤ tt in
+      omega (arith, sum, first, second, few_elementals (variables_of q) few_variables, demands_counted, e)
+
+  all_numbered : (steps : ℕ) (fs : List Form) (ts : List Terms) (ws : List CertificateView) → CertifyAll q fs ws → ProofsAreDue b.problem steps ts ws → All IsNumbered ws
+  all_numbered steps fs ts [] c d = All-nil IsNumbered
+  all_numbered steps [] ts (w ∷ ws) c d = absurd c
+  all_numbered steps (f ∷ fs) [] (w ∷ ws) c d = absurd d
+  all_numbered steps (f ∷ fs) (t ∷ ts) (w ∷ ws) c d =
+      let s = scaled_by_end b.problem t w d.0.end d.0.follows in
+      let g = generators_by (all_demands (variables_of q) (question_demands q)) in
+      All-cons IsNumbered w ws (record { scale = s.0; parts = pairs_below (generators_by (all_demands (variables_of q) (question_demands q))) few_generators 0 w.parts s.1 c.0.allowed })
+      (all_numbered steps fs ts ws c.1 d.1)
+
+  all_counted : (fs : List Form) (ws : List CertificateView) → CertifyAll q fs ws → length ws ≡ length fs
+  all_counted [] [] c = refl
+  all_counted [] (w ∷ ws) c = absurd c
+  all_counted (f ∷ fs) [] c = absurd c
+  all_counted (f ∷ fs) (w ∷ ws) c = ap suc (all_counted fs ws c.1)
+
+  targets_counted : (s : Sign) (f : Form) → length (targets_by s f) ≡ target_count s
+  targets_counted AtLeast f = refl
+  targets_counted AtMost f = refl
+  targets_counted Equal f = refl
+
+  -- ---- points
+
+  values_due : (steps : ℕ) (ts : List Terms) (back : Bool) (values : List ℤ) → PointIsDue b.problem steps ts back values → All IsWithin values
+  values_due steps [] back values d = absurd d
+  values_due steps (t ∷ ts) false values d = values_by_end b.problem t b.limits values d.end d.follows
+  values_due steps (t ∷ []) true values d = absurd d
+  values_due steps (t ∷ u ∷ ts) true values d = values_by_end b.problem u b.limits values d.1.end d.1.follows
+
+  complete : (fs : List Form) (back : Bool) (values : List ℤ) → ViolatesFirst q fs back values → length values ≡ size_of (space_of (problem_names q))
+  complete [] back values c = absurd c
+  complete (f ∷ fs) false values c = c.complete
+  complete (f ∷ []) true values c = absurd c
+  complete (f ∷ g ∷ fs) true values c = c.1.complete
+
+  second_only : (s : Sign) (f : Form) (back : Bool) (values : List ℤ) → ViolatesFirst q (targets_by s f) back values → back ≡ true → is_equality s ≡ true
+  second_only AtLeast f true values c e = absurd c
+  second_only AtMost f true values c e = absurd c
+  second_only Equal f back values c e = refl
+  second_only AtLeast f false values c e = absurd (cc)
+  second_only AtMost f false values c e = absurd (cc)
+
+  -- ---- causes
+
+  cause_due : (steps : ℕ) → steps < 2 ^ 32 → (ts : List Terms) (c : Cause) → CauseIsDue b.problem steps ts c → IsCauseFor q.names c
+  cause_due steps few [] c d = absurd d
+  cause_due steps few (t ∷ ts) c (inl e) = cause_by_end q.names b.problem t steps c few e.end (runs_in_budget b.problem t steps e.end e.run) e.follows
+  cause_due steps few (t ∷ ts) c (inr d) = cause_due steps few ts c d.1
+
+-- a right answer to `prove` fits its question
+pub right_prove_fits : (steps : ℕ) (q : BodyView) (r : RelationView) (a : AnswerView) → steps < 2 ^ 32 → q.verb ≡ Prove r → IsRightFor steps q r a → FitsProve q.names r.sign a
+right_prove_fits steps q r (Yes ws) few verb right = (
+  all_counted q r right.poses (targets (variables_of q) r) ws right.shows ∙ targets_counted q r right.poses r.sign (form_of (variables_of q) r),
+  all_numbered q r right.poses steps (targets (variables_of q) r) right.poses.rows ws right.shows right.due,
+)
+right_prove_fits steps q r (No back values) few verb right =
+    let own : space_of (problem_names q) ≡ space_of q.names = ap (λ (v : _). space_of (problem_names_by q.names v)) verb in (
+      complete q r right.poses (targets (variables_of q) r) back values right.shows ∙ ap size_of own,
+      values_due q r right.poses steps right.poses.rows back values right.due,
+      second_only q r right.poses r.sign (form_of (variables_of q) r) back values right.shows,
+    )
+right_prove_fits steps q r (Undecided cause) few verb right = cause_due q r right.poses steps few right.poses.rows cause right.due
+right_prove_fits steps q r (Region rows) few verb right = absurd right.shows
+right_prove_fits steps q r (Contained parts proofs) few verb right = absurd right.shows
+right_prove_fits steps q r (Open tried) few verb right = absurd right.shows
+
+-- ---- eliminations that end with a cause
+
+row_same : (r s : ℕ) → elimination.Rows r ≡ elimination.Rows s → r ≡ s
+row_same r s e = cc
+
+wide_same : (r s : ℕ) → elimination.Wide r ≡ elimination.Wide s → r ≡ s
+wide_same r s e = cc
+
+-- the rate of an end is one of those that are eliminated
+rows_listed : (base most : ℕ) (rows : List Terms) (rates : List ℕ) (r : ℕ) → Ends base most rows rates (elimination.Rows r) → Member r rates
+rows_listed base most rows [] r e = absurd (cc)
+rows_listed base most rows (s ∷ rates) r (inl h) = let e = h.1 in absurd (cc)
+rows_listed base most rows (s ∷ rates) r (inr (inl h)) = inl (row_same r s h.2)
+rows_listed base most rows (s ∷ rates) r (inr (inr h)) = inr (rows_listed base most (next_list (base + s) rows) rates r h.2)
+
+wide_listed : (base most : ℕ) (rows : List Terms) (rates : List ℕ) (r : ℕ) → Ends base most rows rates (elimination.Wide r) → Member r rates
+wide_listed base most rows [] r e = absurd (cc)
+wide_listed base most rows (s ∷ rates) r (inl h) = inl (wide_same r s h.1)
+wide_listed base most rows (s ∷ rates) r (inr (inl h)) = let e = h.2 in absurd (cc)
+wide_listed base most rows (s ∷ rates) r (inr (inr h)) = inr (wide_listed base most (next_list (base + s) rows) rates r h.2)
+
+undecided_same : (c d : Cause) → Undecided c ≡ Undecided d → c ≡ d
+undecided_same c d e = cc
+
+-- A cause of an elimination fits, where each listed rate is found by its name, and the name is no number.
+pub eliminated_cause_fits : (most : ℕ) (q : BodyView) (rates : List ℕ) (cause : Cause) → ((r : ℕ) → Member r rates → IsFoundIn q.names r × (step_of (rate_text q.names r) ≡ None))
+    → IsRightElimination most q rates (Undecided cause) → IsCauseFor q.names cause
+eliminated_cause_fits most q rates cause named right = by right.due.end right.due.ends right.due.is
+  where
+    by : (end : EliminatedView) → Ends (2 ^ length q.names.variables) most (in_order right.due.rows) rates end → Undecided cause ≡ answer_of_end end → IsCauseFor q.names cause
+    by (elimination.Region rows) e is = absurd (cc)
+    by (elimination.Rows r) e is = subst (IsCauseFor q.names) (sym (undecided_same cause (causes.Rows r) is)) (named r (rows_listed (2 ^ length q.names.variables) most (in_order right.due.rows) rates r e)).0
+    by (elimination.Wide r) e is = subst (IsCauseFor q.names) (sym (undecided_same cause (causes.WideRate r) is)) (named r (wide_listed (2 ^ length q.names.variables) most (in_order right.due.rows) rates r e))
+
+-- ---- weights other than 0
+
+nothing_left_out : (from : ℕ) (ts : Terms) → Ascends from ts → filter is_some_weight ts ≡ ts
+nothing_left_out from [] a = refl
+nothing_left_out from (t ∷ ts) a = ap (λ b. cond b (t ∷ filter is_some_weight ts) (filter is_some_weight ts)) (nonzero t.1 a.1) ∙ ap (λ zs. t ∷ zs) (nothing_left_out (t.0 + 1) ts a.3)
+  where
+    nonzero : (z : ℤ) → (z ≡ pos 0 → ⊥) → not (unsigned_abs z == 0) ≡ true
+    nonzero (pos zero) other = absurd (other refl)
+    nonzero (pos (suc n)) other = search (rules)
+    nonzero (negsuc n) other = search (rules)
+
+-- A certificate whose weights ascend is written whole.
+pub written_whole : (ws : List CertificateView) → All (λ w. IsCanonical w.parts) ws → map without_zeros ws ≡ ws
+written_whole [] all = refl
+written_whole (w ∷ ws) all =
+    ap (λ ps. record { scale = w.scale; parts = ps } ∷ map without_zeros ws) (nothing_left_out 0 w.parts (All-head (λ (w : CertificateView). IsCanonical w.parts) w ws all))
+    ∙ ap (λ vs. w ∷ vs) (written_whole ws (All-tail (λ (w : CertificateView). IsCanonical w.parts) w ws all))

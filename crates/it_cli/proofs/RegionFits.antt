@@ -1,0 +1,143 @@
+-- The rows of a right region are canonical, so that the region fits its question.
+use Rattle.std.proofs.Common.{◌≡◌, ◌≢◌, ◌⊎◌, inl, inr, ℕ, zero, suc, ◌+◌, ◌<◌, ◌≤◌, ◌^◌, ℤ, pos, neg_ℤ, ◌+ℤ◌, ◌*ℤ◌, ◌<ℤ◌, List, [], ◌∷◌, length, All, refl, sym, ap, subst, ◌∙◌, arith}
+use Rattle.std.proofs.lemmas.Int.{ints}
+use Rattle.std.proofs.lemmas.Bool.{cases_eq}
+use Rattle.std.proofs.lemmas.List.Elements.{All-nil, All-cons, All-head, All-tail}
+use Rattle.std.proofs.Math.Pow.{pow_mono}
+use Rattle.std.specs.List.{AllByRecursion as Every}
+use Rattle.it_number.specs.Limit.{IsWithin}
+use Rattle.it_space.specs.declared.answers.Mark.{Mark}
+use Rattle.it_space.specs.declared.spaces.Space.{Space}
+use Rattle.it_space.specs.Answers.AnswerView.{Region}
+use Rattle.it_space.specs.Cancelling.{times_up, times_down, cancelled_row, CancelFits}
+use Rattle.it_space.specs.Divisors.{lowest_terms}
+use Rattle.it_space.specs.Rows.{Terms, Ascends, IsCanonical, IsUpTo, coefficient}
+use Rattle.it_space.specs.Spaces.{size_of}
+use Rattle.it_space.proofs.CanonicalRows.{here_is, other_is}
+use Rattle.it_space.proofs.Contents.{content_pos, divided_all}
+use Rattle.it_space.proofs.MixLemmas.{factors, cancelled_gone}
+use Rattle.it_space.proofs.TermLemmas.{Rises, rises-cancelled_row, coefficient-cancelled_row}
+use Rattle.it_polymatroid.specs.Certificates.{Form}
+use Rattle.it_question.specs.Questions.{BodyView}
+use Rattle.it_question.specs.Limits.{IsQuestion}
+use Rattle.it_canon.specs.QuestionDemands.{space_of, AreRowsOf}
+use Rattle.it_eliminate.specs.Elimination.{Member, EliminatedView, Ends, PairsFit, with_row, with_rows, in_order, results, next_list}
+use Rattle.it_eliminate.specs.Elimination as elimination
+use Rattle.it_eliminate.proofs.MemberLemmas.{every_member, member_every}
+use Rattle.it_eliminate.proofs.OrderLemmas.{every-with_row}
+use Rattle.it_eliminate.proofs.StepLemmas.{results_all}
+use Rattle.it_answer.specs.RightRegions.{region_rows, plain_rows, answer_of_end, IsRightElimination}
+use Rattle.it_certificate.specs.Fits.{IsPair, IsRowIn}
+
+-- ---- cancelled rows
+
+none_under : (from : ℕ) (ts : Terms) (c : ℕ) → Rises from ts → c < from → coefficient ts c ≡ pos 0
+none_under from [] c a h = refl
+none_under from (t ∷ ts) c a h = other_is t ts c (λ e. omega (arith, a.0)) ∙ none_under (t.0 + 1) ts c a.2 (omega (arith, a.0))
+
+first_is : (from : ℕ) (t : ℕ × ℤ) (ts : Terms) → Rises from (t ∷ ts) → coefficient (t ∷ ts) t.0 ≡ t.1
+first_is from t ts a = here_is t ts t.0 refl ∙ ap (λ z. t.1 +ℤ z) (none_under (t.0 + 1) ts t.0 a.2 (omega arith)) ∙ omega (arith, ints)
+
+none_within : (z : ℤ) → z ≡ pos 0 → IsWithin z
+none_within z e = omega (arith, ints, e)
+
+-- terms that rise, whose coefficients are within the limit
+ascends_within : (from : ℕ) (ts : Terms) → Rises from ts → ((c : ℕ) → IsWithin (coefficient ts c)) → Ascends from ts
+ascends_within from [] a h = tt
+ascends_within from (t ∷ ts) a h = (a.0, a.1, subst IsWithin (first_is from t ts a) (h t.0), ascends_within (t.0 + 1) ts a.2 rest)
+  where
+    by : (c : ℕ) → (c ≡ t.0) ⊎ (c ≢ t.0) → IsWithin (coefficient ts c)
+    by c (inl e) = none_within (coefficient ts c) (none_under (t.0 + 1) ts c a.2 (omega (arith, e)))
+    by c (inr n) = subst IsWithin (other_is t ts c (λ e. n (sym e))) (h c)
+
+    rest : (c : ℕ) → IsWithin (coefficient ts c)
+    rest c = by c (cases_eq c t.0)
+
+some : (g n : ℕ) (z : ℤ) → pos g *ℤ pos n ≡ z → pos 0 <ℤ z → 0 < n
+some g zero z e h = absurd (none e h)
+  where
+    none : pos g *ℤ pos 0 ≡ z → pos 0 <ℤ z → ⊥
+    none e h = omega (arith, ints)
+some g (suc n) z e h = omega arith
+
+cancelled_canonical : (at : ℕ) (up down : Terms) → pos 0 <ℤ coefficient up at → coefficient down at <ℤ pos 0 → IsCanonical up → IsCanonical down → CancelFits at up down → IsCanonical (cancelled_row at up down)
+cancelled_canonical at up down h k a b fits =
+    let f = factors at up down h k in
+    ascends_within 0 (cancelled_row at up down)
+    (rises-cancelled_row at up down (some f.common (times_up at up down) (neg_ℤ (coefficient down at)) f.up_is (omega (arith, ints))) (some f.common (times_down at up down) (coefficient up at) f.down_is h) a b)
+    (λ c. by c (cases_eq c at))
+  where
+    by : (c : ℕ) → (c ≡ at) ⊎ (c ≢ at) → IsWithin (coefficient (cancelled_row at up down) c)
+    by c (inl e) = none_within (coefficient (cancelled_row at up down) c) (ap (coefficient (cancelled_row at up down)) e ∙ coefficient-cancelled_row at up down at ∙ cancelled_gone at up down h k)
+    by c (inr n) = subst IsWithin (sym (coefficient-cancelled_row at up down c)) (fits c n).sum
+
+-- ---- rows in order
+
+lowest_canonical : (ts : Terms) → IsCanonical ts → IsCanonical (lowest_terms ts)
+unfolding lowest_terms
+lowest_canonical [] h = tt
+lowest_canonical (t ∷ ts) h = divided_all (t ∷ ts) h (content_pos 0 0 t ts h)
+
+with_rows_canonical : (before rows : List Terms) → Every IsCanonical before → Every IsCanonical rows → Every IsCanonical (with_rows before rows)
+with_rows_canonical before [] h k = h
+with_rows_canonical before (row ∷ rows) h k = with_rows_canonical (with_row before (lowest_terms row)) rows (every-with_row IsCanonical before (lowest_terms row) (lowest_canonical row k.0) h) k.1
+
+next_canonical : (at : ℕ) (rows : List Terms) → Every IsCanonical rows → PairsFit at rows → Every IsCanonical (next_list at rows)
+next_canonical at rows h fit = with_rows_canonical [] (results at rows) tt (member_every IsCanonical (results at rows) (results_all IsCanonical at rows
+    (λ row m e. every_member IsCanonical rows row h m)
+    (λ up down m n p k. cancelled_canonical at up down p k (every_member IsCanonical rows up h m) (every_member IsCanonical rows down h n) (fit up down m n p k))))
+
+region_same : (xs ys : List Terms) → elimination.Region xs ≡ elimination.Region ys → xs ≡ ys
+region_same xs ys e = cc
+
+end_canonical : (base most : ℕ) (rows : List Terms) (rates : List ℕ) (out : List Terms) → Every IsCanonical rows → Ends base most rows rates (elimination.Region out) → Every IsCanonical out
+end_canonical base most rows [] out h e = subst (λ (rs : List Terms). Every IsCanonical rs) (sym (region_same out rows e)) h
+end_canonical base most rows (r ∷ rates) out h (inl e) = let f = e.1 in absurd (cc)
+end_canonical base most rows (r ∷ rates) out h (inr (inl e)) = let f = e.2 in absurd (cc)
+end_canonical base most rows (r ∷ rates) out h (inr (inr e)) = end_canonical base most (next_list (base + r) rows) rates out (next_canonical (base + r) rows h e.0) e.2
+
+stated_canonical : (s : Space) (fs : List Form) (rows : List Terms) → AreRowsOf s fs rows → Every IsCanonical rows
+stated_canonical s [] [] z = tt
+stated_canonical s [] (t ∷ ts) z = absurd z
+stated_canonical s (f ∷ fs) [] z = absurd z
+stated_canonical s (f ∷ fs) (t ∷ ts) z = (z.0.canonical, stated_canonical s fs ts z.1)
+
+-- ---- the region
+
+plain_canonical : (rows : List Terms) → Every IsCanonical rows → Every IsCanonical (region_rows (plain_rows rows))
+plain_canonical [] h = tt
+plain_canonical (r ∷ rows) h = (h.0, plain_canonical rows h.1)
+
+answer_same : (rows others : List (Mark × Terms)) → Region rows ≡ Region others → rows ≡ others
+answer_same rows others e = cc
+
+rows_canonical : (most : ℕ) (q : BodyView) (rates : List ℕ) (rows : List (Mark × Terms)) → IsRightElimination most q rates (Region rows) → Every IsCanonical (region_rows rows)
+rows_canonical most q rates rows right = by right.due.end right.due.ends right.due.is
+  where
+    first : Every IsCanonical (in_order right.due.rows)
+    first = with_rows_canonical [] right.due.rows tt (stated_canonical _ _ right.due.rows right.due.are_rows)
+
+    by : (end : EliminatedView) → Ends (2 ^ length q.names.variables) most (in_order right.due.rows) rates end → Region rows ≡ answer_of_end end → Every IsCanonical (region_rows rows)
+    by (elimination.Region out) e is =
+        subst (λ (rs : List (Mark × Terms)). Every IsCanonical (region_rows rs)) (sym (answer_same rows (plain_rows out) is))
+        (plain_canonical out (end_canonical (2 ^ length q.names.variables) most (in_order right.due.rows) rates out first e))
+    by (elimination.Rows r) e is = absurd (cc)
+    by (elimination.Wide r) e is = absurd (cc)
+
+pairs_of_row : (size from : ℕ) (ts : Terms) → size < 2 ^ 32 → Ascends from ts → IsUpTo size ts → All IsPair ts
+pairs_of_row size from [] few a up = All-nil IsPair
+pairs_of_row size from (t ∷ ts) few a up =
+    let h = All-head (λ (u : ℕ × ℤ). (1 ≤ u.0) × (u.0 ≤ size)) t ts up in
+    All-cons IsPair t ts (omega (arith, h.1, few), a.2) (pairs_of_row size (t.0 + 1) ts few a.3 (All-tail (λ (u : ℕ × ℤ). (1 ≤ u.0) × (u.0 ≤ size)) t ts up))
+
+rows_fit : (size : ℕ) (rows : List (Mark × Terms)) → size < 2 ^ 32 → All (IsUpTo size) (region_rows rows) → Every IsCanonical (region_rows rows) → All (IsRowIn size) rows
+rows_fit size [] few up canonical = All-nil (IsRowIn size)
+rows_fit size (r ∷ rows) few up canonical =
+    let h = All-head (IsUpTo size) r.1 (region_rows rows) up in
+    All-cons (IsRowIn size) r rows (record { terms = pairs_of_row size 0 r.1 few canonical.0 h; canonical = canonical.0; coordinates = h }) (rows_fit size rows few (All-tail (IsUpTo size) r.1 (region_rows rows) up) canonical.1)
+
+few_coordinates : (q : BodyView) → IsQuestion q → size_of (space_of q.names) < 2 ^ 32
+few_coordinates q k = omega (arith, pow_mono {i = length q.names.variables} {j = 8} k.few, k.few_rates)
+
+pub right_region_fits : (most : ℕ) (q : BodyView) (rates : List ℕ) (rows : List (Mark × Terms)) → IsQuestion q → IsRightElimination most q rates (Region rows) → All (IsRowIn (size_of (space_of q.names))) rows
+right_region_fits most q rates rows k right = rows_fit (size_of (space_of q.names)) rows (few_coordinates q k) right.shows.coordinates (rows_canonical most q rates rows right)

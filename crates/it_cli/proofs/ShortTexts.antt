@@ -1,0 +1,147 @@
+-- The text of each question of a file has at most one byte more than the file.
+use Rattle.std.proofs.Common.{◌≡◌, inl, inr, ℕ, zero, suc, ◌+◌, ◌-◌, ◌≤◌, ◌==◌, Bool, true, false, if◌then◌else◌, List, [], ◌∷◌, take, drop, length, All, Option, Some, None, refl, sym, ap, subst, ◌∙◌, arith, length-append}
+use Rattle.std.proofs.lemmas.List.{length-map}
+use Rattle.std.proofs.lemmas.List.Elements.{All-nil, All-cons}
+use Rattle.it_syntax.specs.declared.types.Misspelling.{Misspelling}
+use Rattle.it_syntax.specs.Letters.{clean, letters, clean_all}
+use Rattle.it_question.specs.Files.{IsFile}
+use Rattle.it_question.specs.Lines.{TokenLine, AreLines, split_lines, in_front, without_return, before_comment, without_tab, plain_text, file_end, letters_of_lines}
+use Rattle.it_question.specs.Questions.{QuestionView}
+use Rattle.it_question.specs.Texts.{without_leading, unless_blank, without_trailing, trimmed_line, text_of_lines, question_lines, with_texts}
+use Rattle.it_question.specs.WrittenLines.{limit_mark}
+use Rattle.it_question.specs.WrittenQuestions.{WrittenQuestion, most_questions}
+use Rattle.it_question.specs.WrittenFiles.{question_of, spell_questions, questions_of}
+use Rattle.it_question.proofs.CleanLetters.{clean_parts}
+use Rattle.it_question.proofs.LineParts.{AreWhole, AreSound, lines_sound, parted}
+use Rattle.it_question.proofs.LinePuts.{question_puts}
+
+-- ---- lines get no longer
+
+leading_short : (line : List ℕ) → length (without_leading line) ≤ length line
+leading_short [] = omega arith
+leading_short (b ∷ line) = by (b == 32) (leading_short line)
+  where
+    by : (t : Bool) → length (without_leading line) ≤ length line → length (if t then without_leading line else b ∷ line) ≤ suc (length line)
+    by true h = omega (arith, h)
+    by false h = omega arith
+
+unless_short : (b : ℕ) (line : List ℕ) → length (unless_blank b line) ≤ suc (length line)
+unless_short b [] = by (b == 32)
+  where
+    by : (t : Bool) → length (if t then [] else b ∷ []) ≤ 1
+    by true = omega arith
+    by false = omega arith
+unless_short b (c ∷ line) = omega arith
+
+trailing_short : (line : List ℕ) → length (without_trailing line) ≤ length line
+trailing_short [] = omega arith
+trailing_short (b ∷ line) = let a = unless_short b (without_trailing line) in let h = trailing_short line in omega (arith, a, h)
+
+return_short : (line : List ℕ) → length (without_return line) ≤ length line
+return_short [] = omega arith
+return_short (b ∷ []) = by (b == 13)
+  where
+    by : (t : Bool) → length (if t then [] else b ∷ []) ≤ 1
+    by true = omega arith
+    by false = omega arith
+return_short (b ∷ c ∷ line) = let h = return_short (c ∷ line) in omega (arith, h)
+
+comment_short : (line : List ℕ) → length (before_comment line) ≤ length line
+comment_short [] = omega arith
+comment_short (b ∷ line) = by (b == 35) (comment_short line)
+  where
+    by : (t : Bool) → length (before_comment line) ≤ length line → length (if t then [] else b ∷ before_comment line) ≤ suc (length line)
+    by true h = omega arith
+    by false h = omega (arith, h)
+
+trimmed_short : (line : List ℕ) → length (trimmed_line (plain_text line)) ≤ length line
+trimmed_short line =
+    let a = trailing_short (without_leading (plain_text line)) in
+    let b = leading_short (plain_text line) in
+    let c = length-map (before_comment (without_return line)) without_tab in
+    let d = comment_short (without_return line) in
+    let e = return_short line in
+    omega (arith, a, b, c, d, e)
+
+-- ---- what lines take
+
+-- the bytes of lines, each with an end
+abbrev with_ends : List (List ℕ) → ℕ
+with_ends [] = 0
+with_ends (line ∷ lines) = length line + 1 + with_ends lines
+
+front_short : (b k : ℕ) (lines : List (List ℕ)) → with_ends lines ≤ k + 1 → with_ends (in_front b lines) ≤ suc k + 1
+front_short b k [] h = omega arith
+front_short b k (line ∷ lines) h = omega (arith, h)
+
+split_short : (bytes : List ℕ) → with_ends (split_lines bytes) ≤ length bytes + 1
+split_short [] = omega arith
+split_short (b ∷ bytes) = by (b == 10) (split_short bytes)
+  where
+    by : (t : Bool) → with_ends (split_lines bytes) ≤ length bytes + 1 → with_ends (if t then [] ∷ split_lines bytes else in_front b (split_lines bytes)) ≤ suc (length bytes) + 1
+    by true h = omega (arith, h)
+    by false h = front_short b (length bytes) (split_lines bytes) h
+
+-- what a line gives to a text, where it has no misspelling
+abbrev given_by : Option Misspelling → ℕ → ℕ
+given_by None n = n
+given_by (Some m) n = 0
+
+abbrev given_all : List TokenLine → ℕ
+given_all [] = 0
+given_all (l ∷ lines) = given_by l.misspelling (length (trimmed_line l.text) + 1) + given_all lines
+
+given_little : (m : Option Misspelling) (n : ℕ) → given_by m n ≤ n
+given_little None n = omega arith
+given_little (Some m) n = omega arith
+
+lines_short : (n : ℕ) (split : List (List ℕ)) (lines : List TokenLine) → AreLines n split lines → given_all lines ≤ with_ends split
+lines_short n [] lines h = subst (λ (ls : List TokenLine). given_all ls ≤ 0) (sym h) (omega arith)
+lines_short n (bytes ∷ more) lines (inl h) = let k = lines_short (n + 1) more lines h.1 in omega (arith, k)
+lines_short n (bytes ∷ more) lines (inr h) =
+    let l = h.0 in
+    let a = given_little l.misspelling (length (trimmed_line l.text) + 1) in
+    let b = ap (λ (t : List ℕ). length (trimmed_line t)) h.3.text in
+    let c = trimmed_short bytes in
+    let k = lines_short (n + 1) more h.1 h.5 in
+    subst (λ (ls : List TokenLine). given_all ls ≤ length bytes + 1 + with_ends more) (sym h.2) (omega (arith, a, b, c, k))
+
+whole_text : (lines : List TokenLine) → AreWhole lines → length (text_of_lines lines) ≡ given_all lines
+whole_text [] w = refl
+whole_text (l ∷ lines) w =
+    let a = ap (λ (m : Option Misspelling). given_by m (length (trimmed_line l.text) + 1)) w.0.misspelling in
+    let b = length-append (trimmed_line l.text) (10 ∷ text_of_lines lines) in
+    let k = whole_text lines w.1 in
+    omega (arith, a, b, k)
+
+taken_given : (i : ℕ) (lines : List TokenLine) → given_all (take i lines) + given_all (drop i lines) ≡ given_all lines
+taken_given zero lines = omega arith
+taken_given (suc i) [] = refl
+taken_given (suc i) (l ∷ lines) = let k = taken_given i lines in omega (arith, k)
+
+-- ---- files
+
+abbrev IsShortBy : ℕ → QuestionView → Type 0
+IsShortBy most q = length q.text ≤ most
+
+all_short : (most n : ℕ) (xs : List WrittenQuestion) (lines : List TokenLine) → spell_questions n xs (clean file_end ∷ []) ≡ clean_all (letters_of_lines lines) → AreSound lines → given_all lines ≤ most
+    → All (IsShortBy most) (with_texts lines (questions_of xs))
+all_short most n [] lines e s h = All-nil (IsShortBy most)
+all_short most n (x ∷ xs) lines e s h =
+    let i = question_lines (question_of x) in
+    let k = spell_questions (n - 1) xs (clean file_end ∷ []) in
+    let p = question_puts (limit_mark n) x in
+    let c = clean_parts p.front k (letters_of_lines lines) (sym (p.is k) ∙ e) in
+    let d = parted i lines (letters p.front) (letters k) p.kind c.all s in
+    let q : QuestionView = record { body = question_of x; text = text_of_lines (take i lines) } in
+    let sum = taken_given i lines in
+    let text = whole_text (take i lines) d.whole in
+    let short : IsShortBy most q = omega (arith, sum, text, h) in
+    All-cons (IsShortBy most) q (with_texts (drop i lines) (questions_of xs)) short
+    (all_short most (n - 1) xs (drop i lines) (c.behind ∙ ap clean_all (sym d.behind)) d.sound (omega (arith, sum, h)))
+
+pub texts_are_short : (bytes : List ℕ) (qs : List QuestionView) → IsFile bytes qs → All (λ q. length q.text ≤ length bytes + 1) qs
+texts_are_short bytes qs f =
+    let a = lines_short 1 (split_lines bytes) f.lines f.cut in
+    let b = split_short bytes in
+    subst (All (IsShortBy (length bytes + 1))) f.are (all_short (length bytes + 1) most_questions f.trees f.lines f.spelled (lines_sound 1 (split_lines bytes) f.lines f.cut) (omega (arith, a, b)))

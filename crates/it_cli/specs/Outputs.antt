@@ -1,0 +1,61 @@
+-- What a whole input is answered with, by the mode that the words ask for.
+use Rattle.std.specs.Prelude.{◌≡◌, ℕ, List, Bool, true, false, ◌||◌}
+use Rattle.it_outside.specs.Groups.{Groups, GroupsInPart}
+use Rattle.it_settings.specs.declared.types.Format.{Format}
+use Rattle.it_settings.specs.declared.types.Settings.{Settings}
+use Rattle.it_settings.specs.declared.types.Settings.TheVariants.{Answer, Check}
+use Rattle.it_question.specs.Lines.{split_lines}
+use Rattle.it_question.specs.Questions.{QuestionView}
+use Rattle.it_report.specs.Judging.{IsVerdict}
+use Rattle.it_report.specs.LineVerdicts.{LineVerdict, is_invalid, verdict_line}
+use Rattle.it_cli.specs.Questions.{IsAnswerableFile}
+use Rattle.it_cli.specs.Right.{AnsweredInPart, Answers, budgets_of}
+use Rattle.it_cli.specs.declared.status.Status.{Status}
+use Rattle.it_cli.specs.declared.status.Status.TheVariants.{Done, Invalid}
+
+-- the most bytes of an input: of a question file, and of a report
+abbrev pub most_bytes : Settings → ℕ
+most_bytes (Answer format pivots rows tries) = 1048576
+most_bytes Check = 67108864
+
+-- the input is a question file
+abbrev pub IsAnswerMode : Settings → Type 0
+IsAnswerMode (Answer format pivots rows tries) = Unit {0}
+IsAnswerMode Check = ⊥
+
+-- ---- the verdicts on a report
+
+-- a verdict rests on its line alone
+abbrev pub IsVerdictAfter : Bool → List ℕ → LineVerdict → Type 0
+IsVerdictAfter before line v = IsVerdict line v
+
+-- whether a line is invalid up to here
+abbrev pub after_verdict : Bool → List ℕ → LineVerdict → Bool
+after_verdict before line v = before || is_invalid v
+
+abbrev pub verdict_text_of : ℕ → List ℕ → LineVerdict → List ℕ
+verdict_text_of k line v = verdict_line k v
+
+-- the output for a report: the verdict's line for each of its lines, and whether one is invalid
+abbrev pub Verdicts : List ℕ → Bool → List ℕ → Type 0
+Verdicts bytes some_invalid out = Groups IsVerdictAfter after_verdict verdict_text_of 1 false (split_lines bytes) some_invalid out
+
+-- the verdicts on the first lines, and then a front of the next one's line
+abbrev pub VerdictsInPart : List ℕ → List ℕ → Type 0
+VerdictsInPart bytes out = GroupsInPart IsVerdictAfter after_verdict verdict_text_of 1 false (split_lines bytes) out
+
+abbrev pub verdict_status : Bool → Status
+verdict_status true = Invalid
+verdict_status false = Done
+
+-- ---- the output of each mode
+
+-- the output for the bytes of an input, with the status after it
+abbrev pub IsOutput : Settings → List ℕ → List ℕ → Status → Type 0
+IsOutput (Answer format pivots rows tries) bytes out status = Answers (budgets_of pivots rows tries) format bytes out × (status ≡ Done)
+IsOutput Check bytes out status = (some_invalid : Bool) × Verdicts bytes some_invalid out × (status ≡ verdict_status some_invalid)
+
+-- the first groups of such an output, and then a front of the next one
+abbrev pub IsOutputInPart : Settings → List ℕ → List ℕ → Type 0
+IsOutputInPart (Answer format pivots rows tries) bytes out = (qs : List QuestionView) × IsAnswerableFile bytes qs × AnsweredInPart (budgets_of pivots rows tries) format qs out
+IsOutputInPart Check bytes out = VerdictsInPart bytes out

@@ -1,0 +1,44 @@
+//! Mode `check`: a report and its verdicts.
+ghost use Rattle.std.specs.Prelude.{◌≡◌};
+ghost use Rattle.it_settings.specs.declared.types.Settings.TheVariants.{Check};
+ghost use Rattle.it_cli.specs.InnerEnds.{EndOfBytes};
+ghost use Rattle.it_cli.specs.Outputs.{verdict_status};
+
+use crate::status::Status;
+use it_outside::{Sink, write_all};
+use it_question::first_line;
+use it_report::judge;
+use std::alloc::Global;
+
+/// What is done for the bytes of a report: each verdict is written as soon as it is there.
+pub fn check_report<K: Sink>(alloc: Global, bytes: &[u8], sink: &mut K) -> Status
+    ensures { EndOfBytes (K.taken sink.old) (K.taken sink.new) (K.faults sink.old) (K.faults sink.new) Check bytes.now result }
+{
+    let mut rest = bytes;
+    let mut count: usize = 0;
+    let mut some_invalid = false;
+    while !rest.is_empty() {
+        let (line, behind) = first_line(rest);
+        let Ok(judged) = judge(alloc, count + 1, line) else {
+            return Status::Memory;
+        };
+        let Ok(()) = write_all(sink, judged.text.as_slice()) else {
+            return Status::WriteFault;
+        };
+        some_invalid |= judged.invalid;
+        count += 1;
+        rest = behind;
+    }
+    status_after(some_invalid)
+}
+
+/// The status after all verdicts are written.
+fn status_after(some_invalid: bool) -> Status
+    ensures { result ≡ verdict_status some_invalid }
+{
+    if some_invalid {
+        Status::Invalid
+    } else {
+        Status::Done
+    }
+}
