@@ -1,4 +1,4 @@
-"""Random questions on two to four variables: relations, constraints of every kind, functions in many guises, rates."""
+"""Random questions on two to four variables: relations, constraints of every kind, functions in many guises, rates. Damaged reports."""
 
 from random import Random
 
@@ -54,3 +54,46 @@ class Generator:
         lines += ["given " + self.given() for _ in range(self.random.choice([0, 1, 1, 2, 3]))]
         lines += ["row " + self.relation(rates) for _ in range(self.random.choice([0, 1, 2] if rates else [0, 0, 0, 1]))]
         return "\n".join(lines + ["prove " + self.relation(rates)]) + "\n"
+
+    def system(self):
+        """Rows over rates and a few entropies, with some of the rates to be eliminated, in any order."""
+        self.names = ["X", "Y", "Z"][: self.random.choice([2, 2, 3])]
+        rates = ["A", "B", "C", "D", "E"][: self.random.choice([3, 4, 4, 5])]
+        lines = ["vars " + ", ".join(self.names), "rates " + ", ".join(rates)]
+        lines += ["given " + self.given() for _ in range(self.random.choice([0, 0, 1]))]
+        lines += ["row " + self.rate_row(rates) for _ in range(self.random.choice([4, 5, 6, 7, 8]))]
+        gone = self.random.sample(rates, self.random.randint(1, min(3, len(rates))))
+        return "\n".join(lines + ["eliminate " + ", ".join(gone)]) + "\n"
+
+    def rate_row(self, rates):
+        terms = [self.random.choice(["", "", "2 ", "3 ", "4 "]) + rate for rate in self.random.sample(rates, self.random.choice([1, 2, 2]))]
+        signs = [self.random.choice([" + ", " - "]) for _ in terms[1:]]
+        left = terms[0] + "".join(sign + term for sign, term in zip(signs, terms[1:]))
+        right = self.random.choice(["0", self.atom([]), self.atom([]), f"2 {self.atom([])}"])
+        return f"{left} {self.random.choice(['>=', '<=', '>=', '<=', '='])} {right}"
+
+
+class Damage:
+    """Lines of a report with a few letters left out, put in, exchanged or doubled, mostly numbers and names."""
+
+    LETTERS = list('"{}[],:0123456789-+.eE\\\t ') + ["null", "true", "\\n", "\\u0058", "XYZ", "given ", "R", "-1", "18446744073709551616"]
+
+    def __init__(self, seed, lines):
+        self.random, self.lines = Random(seed), lines
+
+    def edit(self, line):
+        at = self.random.randrange(len(line))
+        end = at + self.random.choice([0, 1, 1, 1, 2, 5])
+        numbers = [i for i, letter in enumerate(line) if letter.isdigit()]
+        if self.random.random() < 0.3 and numbers:
+            at = self.random.choice(numbers)
+            return line[:at] + str(self.random.randint(0, 12)) + line[at + 1 :]
+        if self.random.random() < 0.2:
+            return line[:at] + line[at:end] + line[at:]
+        return line[:at] + self.random.choice(["", "", self.random.choice(self.LETTERS)]) + line[end:]
+
+    def line(self):
+        line = self.random.choice(self.lines)
+        for _ in range(self.random.choice([0, 1, 1, 1, 2, 3])):
+            line = self.edit(line)
+        return line.replace("\n", " ") + "\n"

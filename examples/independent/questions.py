@@ -1,16 +1,22 @@
-"""Reads question files with `prove` lines: what a question says, as rows over joint entropies and rates.
+"""Reads question files: what a question says, as rows over joint entropies and rates.
 
 A set of variables is a whole number whose binary digit i stands for variable i. A row is a dict from a coordinate to a whole
-number: a nonempty set's number, or 2**n + r for rate r. Files are taken to be free of faults.
+number: a nonempty set's number, or 2**n + r for rate r. `Fault` says that a text is no question file; where, it doesn't say.
 """
 
 import re
 
-TOKEN = re.compile(r"\s*(?:([A-Za-z][A-Za-z0-9_]*)|([0-9]+)|(->|>=|<=|:=|[(),;|+=-]))")
+TOKEN = re.compile(r" *(?:([A-Za-z][A-Za-z0-9_]*)|([0-9]+)|(->|>=|<=|:=|[(),;|+=-]))")
+SIGNS = (">=", "<=", "=")
 
 
-class Unanswered(Exception):
-    """A question with another verb than `prove`."""
+class Fault(Exception):
+    """What keeps a text from being a question file."""
+
+
+def rule(kept, what):
+    if not kept:
+        raise Fault(what)
 
 
 class Generator:
@@ -19,11 +25,16 @@ class Generator:
     def __init__(self, name, row, equation=False, given=False):
         self.name, self.row, self.equation, self.given = name, row, equation, given
 
+    def least(self):
+        """The rows that are at least 0: for an equation the row and the negated row."""
+        return [self.row, negated(self.row)] if self.equation else [self.row]
 
-class Question:
-    def __init__(self, names):
-        self.names, self.rates, self.constraints, self.targets = names, [], [], []
-        self.line = 0
+
+class Scope:
+    """Variables, rates and the constraints that speak of them."""
+
+    def __init__(self, names, rates=()):
+        self.names, self.rates, self.constraints = list(names), list(rates), []
 
     def size(self):
         """The number of coordinates, the last one's number."""
@@ -31,6 +42,10 @@ class Question:
 
     def set_text(self, number):
         return ",".join(name for i, name in enumerate(self.names) if number >> i & 1)
+
+    def coordinate_text(self, at):
+        n = len(self.names)
+        return f"h({self.set_text(at)})" if at < 2**n else self.rates[at - 2**n]
 
     def elementals(self):
         """H(X|all others), then I(X;Y|K) for X before Y and K by number."""
@@ -58,6 +73,27 @@ class Question:
         return list(self.elementals()) + self.constraints
 
 
+class Question(Scope):
+    """A question by its verb. `prove`: `targets`, rows in `constraints`. `eliminate`: `rows`, and `eliminated` coordinates, the
+    `given` lines alone in `constraints`. `contain`: the two `regions`, each a `Region`."""
+
+    def __init__(self, names):
+        super().__init__(names)
+        self.verb, self.targets, self.rows, self.eliminated, self.regions = None, [], [], [], []
+        self.line, self.text = 0, ""
+
+    def system(self):
+        return [row for constraint in self.rows for row in constraint.least()]
+
+
+class Region(Scope):
+    """A region with its auxiliaries, the last of its names, and its own lines alone."""
+
+    def __init__(self, question):
+        super().__init__(question.names, question.rates)
+        self.auxiliaries = 0
+
+
 def row_of(terms):
     """The row of a list of (coefficient, coordinate); the empty set has the value 0."""
     row = {}
@@ -74,16 +110,20 @@ def negated(row):
 class Line:
     """The tokens of a line, read from the left."""
 
-    def __init__(self, text, question=None):
-        self.tokens, self.at, self.question = [], 0, question
+    def __init__(self, text, scope=None):
+        self.tokens, self.at, self.scope = [], 0, scope
         end = 0
-        while text[end:].strip():
+        while text[end:].strip(" "):
             match = TOKEN.match(text, end)
-            assert match, f"a byte that begins no token: {text[end:]!r}"
-            self.tokens.append(match.group(match.lastindex))
+            rule(match, "a byte that begins no token")
+            token = match.group(match.lastindex)
+            rule(match.lastindex != 1 or len(token) <= 16, "a long word")
+            rule(match.lastindex != 2 or int(token) < 2**64, "a number above 2**64 - 1")
+            self.tokens.append(token)
             end = match.end()
 
     def next(self):
+        rule(self.at < len(self.tokens), "the line's end")
         self.at += 1
         return self.tokens[self.at - 1]
 
@@ -96,59 +136,88 @@ class Line:
             return True
         return False
 
-    def names(self):
-        names = [self.next()]
-        while self.take(","):
-            names.append(self.next())
-        return names
+    def want(self, token):
+        rule(self.take(token), f"no {token}")
+
+    def end(self):
+        rule(self.peek() is None, "more on the line")
+
+    def name(self):
+        name = self.next()
+        rule(name[0].isalpha() and name not in ("H", "I"), "no name")
+        return name
+
+    def new_names(self, taken):
+        """Names that aren't taken, and differ."""
+        names = list(taken)
+        while True:
+            name = self.name()
+            rule(name not in names, "a name twice")
+            names.append(name)
+            if not self.take(","):
+                self.end()
+                return names[len(taken):]
+
+    def known(self, names):
+        name = self.name()
+        rule(name in names, "an unknown name")
+        return names.index(name)
 
     def set(self):
-        number = 0
-        for name in self.names():
-            number |= 2 ** self.question.names.index(name)
+        number = 2 ** self.known(self.scope.names)
+        while self.take(","):
+            number |= 2 ** self.known(self.scope.names)
         return number
 
-    def sets(self, between):
+    def sets(self, between, least):
         sets = [self.set()]
         while self.take(between):
             sets.append(self.set())
+        rule(least <= len(sets) <= 16, "too few or many members")
         return sets
 
-    def atom(self):
+    def atom(self, rates):
+        if self.peek() not in ("H", "I"):
+            return [(1, 2 ** len(self.scope.names) + self.known(self.scope.rates if rates else []))]
         word = self.next()
-        if word not in ("H", "I"):
-            return [(1, 2 ** len(self.question.names) + self.question.rates.index(word))]
-        assert self.next() == "("
+        self.want("(")
         left = self.set()
-        right = self.set() if word == "I" and self.take(";") else None
+        right = None
+        if word == "I":
+            self.want(";")
+            right = self.set()
         given = self.set() if self.take("|") else 0
-        assert self.next() == ")"
+        self.want(")")
         if right is None:
             return [(1, left | given), (-1, given)]
         return [(1, left | given), (1, right | given), (-1, left | right | given), (-1, given)]
 
-    def side(self):
-        terms, sign = [], 1
+    def side(self, rates):
+        """The terms over joint entropies and rates, and how many are written."""
+        terms, sign, count = [], 1, 0
         if self.peek() in ("+", "-"):
             sign = 1 if self.next() == "+" else -1
         while True:
-            number = 1
-            if self.peek().isdigit():
+            number, count = 1, count + 1
+            rule(self.peek() is not None, "no term")
+            if self.peek()[0].isdigit():
                 number = int(self.next())
-                if number == 0 and self.peek() in (None, "+", "-", ">=", "<=", "="):
+                if number == 0 and self.peek() in (None, "+", "-", *SIGNS):
                     number = None
             if number is not None:
-                terms += [(sign * number * c, at) for c, at in self.atom()]
+                terms += [(sign * number * c, at) for c, at in self.atom(rates)]
             if self.peek() not in ("+", "-"):
-                return terms
+                return terms, count
             sign = 1 if self.next() == "+" else -1
 
-    def relation(self):
+    def relation(self, rates):
         """The row that is at least 0, or 0, and whether it is an equation."""
-        left = self.side()
+        left, count = self.side(rates)
         sign = self.next()
-        right = self.side()
-        assert self.peek() is None, f"left over: {self.tokens[self.at:]}"
+        rule(sign in SIGNS, "no sign")
+        right, more = self.side(rates)
+        self.end()
+        rule(count + more <= 256, "too many terms")
         if sign == "<=":
             left, right = right, left
         return row_of(left + [(-c, at) for c, at in right]), sign == "="
@@ -157,7 +226,8 @@ class Line:
         """The constraints of a `given` line, the line's number among them being `number`."""
         name = f"given {number}"
         if self.take("markov"):
-            chain = self.sets("->")
+            chain = self.sets("->", 3)
+            self.end()
             rows, before = [], 0
             for i in range(1, len(chain) - 1):
                 before |= chain[i - 1]
@@ -167,8 +237,9 @@ class Line:
                 return [Generator(name, rows[0], True, True)]
             return [Generator(f"{name}.{i + 1}", row, True, True) for i, row in enumerate(rows)]
         if self.take("indep"):
-            members = self.sets(";")
+            members = self.sets(";", 2)
             given = self.set() if self.take("|") else 0
+            self.end()
             union, terms = given, []
             for member in members:
                 terms += [(1, member | given), (-1, given)]
@@ -176,44 +247,147 @@ class Line:
             return [Generator(name, row_of(terms + [(-1, union), (1, given)]), True, True)]
         if self.take("func"):
             value = self.set()
-            assert self.next() == "of"
+            self.want("of")
             argument = self.set()
+            self.end()
             return [Generator(name, row_of([(1, value | argument), (-1, argument)]), True, True)]
-        row, equation = self.relation()
+        row, equation = self.relation(False)
         return [Generator(name, row, equation, True)]
+
+    def tried(self, first, second):
+        """A `try` line: each auxiliary of the second region once, with a set of the first one's variables."""
+        auxiliaries = second.names[len(second.names) - second.auxiliaries:]
+        left = list(auxiliaries)
+        self.scope = first
+        while True:
+            left.remove(self.tried_name(auxiliaries, left))
+            self.want(":=")
+            if self.peek() is not None and self.peek()[0].isdigit():
+                rule(int(self.next()) == 0, "a number as a set")
+            else:
+                self.set()
+            if not self.take(";"):
+                break
+        self.end()
+        rule(not left, "an auxiliary is left out")
+
+    def tried_name(self, auxiliaries, left):
+        name = self.name()
+        rule(name in auxiliaries, "an unknown name")
+        rule(name in left, "an auxiliary twice")
+        return name
+
+
+class File:
+    """The questions read so far, and the one under way."""
+
+    def __init__(self):
+        self.questions, self.question, self.before = [], None, None
+        self.counts = {}
+
+    def scope(self):
+        return self.question.regions[-1] if self.question and self.question.regions else self.question
+
+    def count(self, word, most=64):
+        self.counts[word] = self.counts.get(word, 0) + 1
+        rule(self.counts[word] <= most, f"too many {word} lines")
+        return self.counts[word]
+
+    def read(self, text, number):
+        line = Line(text, self.scope())
+        if line.peek() is None:
+            return
+        word = line.next()
+        rule((word == "vars") == (self.question is None), "a line in a wrong place")
+        rule(word in ("vars", "rates", "given", "row", "region", "aux", "try", "prove", "eliminate", "contain"), "no line")
+        if word == "vars":
+            self.question, self.counts = Question(line.new_names([])), {}
+            rule(len(self.question.names) <= 8, "too many variables")
+            self.question.line = number
+        else:
+            getattr(self, word)(line)
+        self.before = word
+        of = self.question or self.questions[-1]
+        of.text += text.strip(" ") + "\n"
+
+    def rates(self, line):
+        rule(self.before == "vars", "rates late")
+        self.question.rates = line.new_names(self.question.names)
+        rule(len(self.question.rates) <= 16, "too many rates")
+
+    def given(self, line):
+        rule(self.before != "try", "given after try")
+        constraints = line.given(self.count("given"))
+        self.scope().constraints += constraints
+
+    def row(self, line):
+        rule(self.before != "try", "row after try")
+        name = f"row {self.count('row')}"
+        row, equation = line.relation(True)
+        self.scope().constraints.append(Generator(name, row, equation))
+
+    def region(self, line):
+        line.end()
+        rule(len(self.question.regions) < 2 and self.before != "try", "a region in a wrong place")
+        self.question.regions.append(Region(self.question))
+
+    def aux(self, line):
+        rule(self.before == "region", "aux late")
+        scope = self.scope()
+        names = line.new_names(scope.names + scope.rates)
+        scope.names += names
+        scope.auxiliaries = len(names)
+        rule(len(names) <= 4 and len(scope.names) <= 8, "too many auxiliaries")
+
+    def try_(self, line):
+        rule(len(self.question.regions) == 2 and self.scope().auxiliaries, "try in a wrong place")
+        self.count("try")
+        line.tried(*self.question.regions)
+
+    def prove(self, line):
+        rule(not self.question.regions, "prove after a region")
+        row, equation = line.relation(True)
+        self.question.targets = Generator("", row, equation).least()
+        self.done("prove")
+
+    def eliminate(self, line):
+        question = self.question
+        rule(not question.regions, "eliminate after a region")
+        while True:
+            rate = 2 ** len(question.names) + line.known(question.rates)
+            rule(rate not in question.eliminated, "a rate twice")
+            question.eliminated.append(rate)
+            if not line.take(","):
+                break
+        line.end()
+        question.rows = [g for g in question.constraints if not g.given]
+        question.constraints = [g for g in question.constraints if g.given]
+        self.done("eliminate")
+
+    def contain(self, line):
+        line.end()
+        rule(len(self.question.regions) == 2, "contain without two regions")
+        for region in self.question.regions:
+            region.constraints.sort(key=lambda g: not g.given)
+        self.done("contain")
+
+    def done(self, verb):
+        # Generators are numbered with all `given` lines first.
+        self.question.constraints.sort(key=lambda g: not g.given)
+        self.question.verb = verb
+        self.questions.append(self.question)
+        rule(len(self.questions) <= 1000, "too many questions")
+        self.question = None
+
+
+setattr(File, "try", File.try_)
 
 
 def read(text):
-    """The questions of a file; `Unanswered` where a verb isn't `prove`."""
-    questions, question, givens, rows = [], None, 0, 0
-    for number, line in enumerate(text.split("\n"), 1):
-        line = Line(line.rstrip("\r").split("#")[0].replace("\t", " "), question)
-        if line.peek() is None:
-            continue
-        word = line.next()
-        if word == "vars":
-            assert question is None, f"line {number}: a question isn't at its end"
-            question, givens, rows = Question(line.names()), 0, 0
-            question.line = number
-        elif word == "rates":
-            question.rates = line.names()
-        elif word == "given":
-            givens += 1
-            question.constraints += line.given(givens)
-        elif word == "row":
-            rows += 1
-            row, equation = line.relation()
-            question.constraints.append(Generator(f"row {rows}", row, equation))
-        elif word == "prove":
-            row, equation = line.relation()
-            question.targets = [row, negated(row)] if equation else [row]
-            # Generators are numbered with all `given` lines first.
-            question.constraints.sort(key=lambda g: not g.given)
-            questions.append(question)
-            question = None
-        elif word in ("eliminate", "region"):
-            raise Unanswered(word)
-        else:
-            raise AssertionError(f"line {number}: {word}")
-    assert question is None, "the file ends inside a question"
-    return questions
+    """The questions of a file, each character of `text` a byte; `Fault` where it is none."""
+    lines = text.split("\n")
+    file = File()
+    for number, line in enumerate(lines, 1):
+        file.read(line.removesuffix("\r").split("#")[0].replace("\t", " "), number)
+    rule(file.question is None, "the file ends inside a question")
+    return file.questions

@@ -1,0 +1,292 @@
+"""Reports: the line that an answer gets in JSON, and the verdict on any line, from the format's definition and `verify`'s meaning.
+
+A line is judged key by key; a certificate by its scale, its weights in order and its sums coordinate by coordinate; a point by the
+generators in order and then the target. Numbers are told as they are written, so `1.0` and `1e0` are no whole numbers.
+"""
+
+import json
+import re
+
+from questions import Fault, read
+
+TOP = 2**127 - 1
+ANSWERS = {"prove": ("yes", "no", "undecided"), "eliminate": ("region", "undecided"), "contain": ("contained", "open")}
+
+
+class Written(str):
+    """A number of a line, as it is written."""
+
+
+class Shape(Exception):
+    """The key that is missing or of another shape."""
+
+
+class NoReading(Exception):
+    """The line isn't JSON."""
+
+
+# Writing
+
+def answer_json(question, end, found):
+    """The line of an answer: ("yes", [(scale, weights by generator)]), ("no", (side, values)), ("region", rows), (cause, at)."""
+    value = {"question": question.text}
+    if end == "yes":
+        value |= {"answer": end, "proofs": [proof_value(*proof) for proof in found]}
+    elif end == "no":
+        side, values = found
+        value |= {"answer": end, "point": [str(values[at]) for at in range(1, question.size() + 1)], "side": side}
+    elif end == "region":
+        rows = [{"mark": "plain", "row": [[at, str(row[at])] for at in sorted(row)]} for row in found]
+        value |= {"answer": end, "rows": rows}
+    else:
+        at = question.coordinate_text(found) if isinstance(found, int) else found
+        value |= {"answer": "undecided", "cause": end, "at": at}
+    return json.dumps(value, separators=(",", ":"), sort_keys=True, ensure_ascii=False)
+
+
+def proof_value(scale, weights):
+    return {"scale": str(scale), "weights": [[i, str(weights[i])] for i in sorted(weights) if weights[i]]}
+
+
+# Reading JSON
+
+def number(text):
+    """A number; one that no 64-bit float comes near has no reading."""
+    if float(text) in (float("inf"), float("-inf")):
+        raise NoReading
+    return Written(text)
+
+
+def refuse(text):
+    raise NoReading
+
+
+def depth(text):
+    """How deep arrays and objects of a JSON text are nested."""
+    deepest = level = 0
+    for part in re.sub(r'"(?:[^"\\]|\\.)*"', "", text):
+        level += (part in "[{") - (part in "]}")
+        deepest = max(deepest, level)
+    return deepest
+
+
+def pairs(members):
+    """An object, of doubled keys the last."""
+    for key, value in members:
+        plain(key)
+        plain(value)
+    return dict(members)
+
+
+def plain(value):
+    """Half of a surrogate pair is no character."""
+    if isinstance(value, list):
+        for member in value:
+            plain(member)
+    elif isinstance(value, str) and re.search("[\ud800-\udfff]", value):
+        raise NoReading
+
+
+def reading(line):
+    """The JSON value of a line of bytes."""
+    try:
+        text = line.decode("utf-8")
+        value = json.loads(text, parse_float=number, parse_int=number, parse_constant=refuse, object_pairs_hook=pairs)
+    except (ValueError, RecursionError):
+        raise NoReading from None
+    plain(value)
+    if depth(text) > 127:
+        raise NoReading
+    return value
+
+
+# Reading a report's line
+
+def rule(kept, key):
+    if not kept:
+        raise Shape(key)
+
+
+def text_at(value, key):
+    found = value.get(key)
+    rule(isinstance(found, str) and not isinstance(found, Written), key)
+    return found
+
+
+def count(value, key, most=2**32 - 1):
+    """A whole number, written by digits alone."""
+    rule(isinstance(value, Written) and value.isdigit() and int(value) <= most, key)
+    return int(value)
+
+
+def decimal(value, key):
+    """A whole number as decimal text."""
+    rule(isinstance(value, str) and not isinstance(value, Written) and re.fullmatch("-?[0-9]{1,39}", value), key)
+    rule(abs(int(value)) <= TOP, key)
+    return int(value)
+
+
+def items(value, key, length=None):
+    rule(isinstance(value, list) and length in (None, len(value)), key)
+    return value
+
+
+def members(value, key):
+    rule(isinstance(value, dict), key)
+    return value
+
+
+def question_of(value):
+    text = text_at(value, "question").encode("utf-8")
+    rule(len(text) <= 1048577, "question")
+    try:
+        questions = read(text.decode("latin-1"))
+    except Fault:
+        raise Shape("question") from None
+    rule(len(questions) == 1, "question")
+    return questions[0]
+
+
+def proofs_of(value, length):
+    proofs = []
+    for proof in items(value.get("proofs"), "proofs", length):
+        members(proof, "proofs")
+        scale, weights = decimal(proof.get("scale"), "proofs"), []
+        for pair in items(proof.get("weights"), "proofs"):
+            index, weight = items(pair, "proofs", 2)
+            weights.append((count(index, "proofs"), decimal(weight, "proofs")))
+        proofs.append((scale, weights))
+    return proofs
+
+
+def rows_of(value, question):
+    for row in items(value.get("rows"), "rows"):
+        rule(members(row, "rows").get("mark") in ("plain", "needed", "unsettled"), "rows")
+        last = 0
+        for pair in items(row.get("row"), "rows"):
+            at, coefficient = items(pair, "rows", 2)
+            at, coefficient = count(at, "rows"), decimal(coefficient, "rows")
+            rule(last < at <= question.size() and coefficient, "rows")
+            last = at
+
+
+def at_of(value, question, cause):
+    at = text_at(value, "at")
+    if cause == "scale":
+        rule(at == "0", "at")
+    elif cause == "rows" or cause == "width" and at in question.rates:
+        rule(at in question.rates, "at")
+    else:
+        rule(0 <= decimal(at, "at") < 2**32, "at")
+
+
+def contained_of(value, question):
+    first, second = question.regions
+    for part in items(value.get("parts"), "parts", second.auxiliaries):
+        count(part, "parts", 2 ** len(first.names) - 1)
+    proofs_of(value, sum(len(constraint.least()) for constraint in second.constraints))
+
+
+def verdict(line):
+    """The words of a verdict, without the line's number."""
+    value = reading(line)
+    answer = text_at(members(value, "answer"), "answer")
+    rule(any(answer in answers for answers in ANSWERS.values()), "answer")
+    question = question_of(value)
+    rule(answer in ANSWERS[question.verb], "answer")
+    if answer == "yes":
+        for target, proof in zip(question.targets, proofs_of(value, len(question.targets))):
+            found = sum_verdict(question, target, *proof)
+            if found:
+                return f"invalid {found}"
+        return "valid"
+    if answer == "no":
+        point = [decimal(v, "point") for v in items(value.get("point"), "point", question.size())]
+        side = text_at(value, "side")
+        rule(side == "forward" or side == "back" and len(question.targets) == 2, "side")
+        target = question.targets[side == "back"]
+        found = point_verdict(question, target, dict(enumerate(point, 1)))
+        return f"invalid {found}" if found else "valid"
+    if answer == "undecided":
+        cause = text_at(value, "cause")
+        rule(cause in ("pivots", "width", "scale", "rows"), "cause")
+        at_of(value, question, cause)
+    elif answer == "region":
+        rows_of(value, question)
+    elif answer == "contained":
+        contained_of(value, question)
+    else:
+        count(value.get("tried"), "tried")
+    return "skipped"
+
+
+# Certificates and points
+
+class Wide(Exception):
+    """A number passes 2**127 - 1."""
+
+
+def fit(value):
+    if abs(value) > TOP:
+        raise Wide
+    return value
+
+
+def total(products):
+    partial = 0
+    for a, b in products:
+        partial = fit(partial + fit(a * b))
+    return partial
+
+
+def sum_verdict(question, target, scale, weights):
+    """The first thing that is wrong with a certificate, or None."""
+    generators = question.generators()
+    if scale < 1:
+        return f"scale {scale}"
+    for index, weight in weights:
+        if index >= len(generators):
+            return f"generator {index}"
+        if weight < 0 and not generators[index].equation:
+            return f"negative {index}"
+    for at in range(1, question.size() + 1):
+        try:
+            left = fit(scale * target.get(at, 0))
+            right = total((weight, generators[index].row.get(at, 0)) for index, weight in weights)
+        except Wide:
+            return f"width {at}"
+        if left != right:
+            return f"mismatch {question.coordinate_text(at)} {left} {right}"
+    return None
+
+
+def point_verdict(question, target, values):
+    """The first thing that is wrong with a counterexample, or None."""
+    generators = question.generators()
+    elementals = len(generators) - len(question.constraints)
+
+    def value(row):
+        return total((row[at], values[at]) for at in sorted(row))
+
+    for index, generator in enumerate(generators):
+        try:
+            found = value(generator.row)
+        except Wide:
+            return f"width {index}"
+        if found < 0 or generator.equation and found:
+            return f"{'elemental' if index < elementals else 'constraint'} {index} {found}"
+    try:
+        found = value(target)
+    except Wide:
+        return f"width {len(generators)}"
+    return f"target {found}" if found > -1 else None
+
+
+def judge(number, line):
+    """The verdict line of a report's line, bytes without the line feed."""
+    try:
+        return f"{number} {verdict(line)}"
+    except NoReading:
+        return f"{number} invalid json"
+    except Shape as shape:
+        return f"{number} invalid shape {shape}"
