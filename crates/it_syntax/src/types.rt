@@ -48,7 +48,6 @@ pub enum Code {
     Number,
     Many,
     Unfinished,
-    Later,
 }
 
 /// Where a line has no token: a byte that begins none (`Byte`), a number that is too large (`Number`) or a word that is
