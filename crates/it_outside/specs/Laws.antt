@@ -1,5 +1,6 @@
--- What the words for traffic say of a source that tells its bytes.
-use Rattle.std.specs.Prelude.{ℕ, ◌≡◌, ◌<◌, List, length, Option, Some}
+-- What the words for traffic say of a source that tells its bytes, and those for faults of a count that stays.
+use Rattle.std.specs.Prelude.{ℕ, ◌≡◌, ◌^◌, ◌-◌, ◌<◌, List, length, Option, Some}
+use Rattle.it_outside.specs.Causes.{Rose}
 use Rattle.it_outside.specs.Traffic.{Gave, GaveMore}
 
 -- what it gave up to its end is all that it had
@@ -9,3 +10,7 @@ EndComesLast = (bytes given : List ℕ) (left : Option (List ℕ)) → Gave (Som
 -- it had more than a limit where it gave more
 abbrev pub MoreWasThere : Type 0
 MoreWasThere = (bytes : List ℕ) (left : Option (List ℕ)) (limit : ℕ) → GaveMore (Some bytes) left limit → limit < length bytes
+
+-- a count that stayed didn't rise, but for the last value of its type
+abbrev pub StayedIsNoRise : Type 0
+StayedIsNoRise = (count : ℕ) → count < 2 ^ 64 - 1 → Rose count count → ⊥

@@ -1,5 +1,5 @@
-//! Laws of sources that tell their bytes.
-ghost use Rattle.it_outside.specs.Laws.{EndComesLast, MoreWasThere};
+//! Laws of sources that tell their bytes, and of counts of faults that stay.
+ghost use Rattle.it_outside.specs.Laws.{EndComesLast, MoreWasThere, StayedIsNoRise};
 
 /// The law that a source that tells its bytes gave all of them, where it gave them up to its end.
 /// So `read_all` never answers `Ok` where there were more bytes than its limit.
@@ -13,4 +13,11 @@ pub fn end_comes_last()
 #[tactic(auto, using(crate::proofs::LawLemmas::more_was_there))]
 pub fn more_was_there()
     ensures { MoreWasThere }
+{}
+
+/// The law that a count of faults that stayed didn't rise. So `read_all` over a `SureSource` never answers
+/// `InFault::ReadFault`, and `write_all` over a `SureSink` never `OutFault::WriteFault`: their counts stay 0.
+#[tactic(auto, using(crate::proofs::LawLemmas::stayed_is_no_rise))]
+pub fn stayed_is_no_rise()
+    ensures { StayedIsNoRise }
 {}

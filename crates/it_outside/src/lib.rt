@@ -6,6 +6,7 @@ pub mod laws;
 mod memory;
 mod standard;
 mod streams;
+mod sure;
 #[cfg(test)]
 mod tests;
 mod whole;
@@ -14,4 +15,5 @@ pub use ends::{Failed, Sink, Source};
 pub use memory::{MemorySink, MemorySource};
 pub use standard::{StdSink, StdSource};
 pub use streams::{Reader, Writer};
+pub use sure::{SureSink, SureSource};
 pub use whole::{InFault, OutFault, read_all, write_all};

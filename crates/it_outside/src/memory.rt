@@ -57,7 +57,7 @@ impl MemorySource {
 }
 
 /// Copies the first `count` bytes of one slice over those of another.
-fn copy_front(from: &[u8], to: &mut [u8], count: usize)
+pub fn copy_front(from: &[u8], to: &mut [u8], count: usize)
     requires source { count ≤ length from.now }
     requires target { count ≤ length to.old }
     ensures { to.new ≡ take count from.now ++ drop count to.old }

@@ -1,7 +1,10 @@
 //! Each public call once, with calls that fail at the read, the write and the flush.
 ghost use Rattle.std.specs.Prelude.{◌≡◌, IfOk};
 
-use crate::{InFault, MemorySink, MemorySource, OutFault, StdSink, StdSource, read_all, write_all};
+use crate::{
+    InFault, MemorySink, MemorySource, OutFault, StdSink, StdSource, SureSink, SureSource,
+    read_all, write_all,
+};
 use std::io;
 use std::io::{ErrorKind, Read, Write};
 use std::test::Fail;
@@ -170,4 +173,23 @@ fn a_sink_fails_where_nothing_was_taken(rt: HostRuntime) {
     let mut sink = StdSink::new(&mut two[..]);
     assert_eq!(rt; write_all(&mut sink, b"abc"), Err(OutFault::WriteFault));
     assert_eq!(rt; two.as_slice(), b"ab".as_slice());
+}
+
+#[test]
+fn a_sure_sink_keeps_what_a_sure_source_gives(rt: HostRuntime) -> Result<(), Fail> {
+    let alloc = rt.alloc();
+    // the limit, what is kept, whether there was more
+    let cases: [(usize, &[u8], bool); 3] = [
+        (4, b"abc", false),
+        (3, b"abc", false),
+        (2, b"ab", true),
+    ];
+    for (i, (limit, kept, more)) in cases.iter().enumerate() {
+        let mut source = SureSource::new(Vec::from_slice(alloc, b"abc")?);
+        let all = read_all(alloc, &mut source, 3)?;
+        let mut sink = SureSink::new(Vec::with_capacity(alloc, *limit)?, *limit);
+        assert_eq!(rt; write_all(&mut sink, all.as_slice()), Ok(()), "case {i}");
+        assert_eq!(rt; (sink.bytes(), sink.has_more()), (*kept, *more), "case {i}");
+    }
+    Ok(())
 }

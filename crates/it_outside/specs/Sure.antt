@@ -1,0 +1,27 @@
+-- Sources and sinks that never fail, as contracts see them, and what a call leaves of them. A source is seen by the bytes that
+-- are left.
+use Rattle.std.specs.Prelude.{ℕ, Bool, false, ◌||◌, List, [], ◌++◌, length, take, nat_lt, Option, Some, None, if◌then◌else◌}
+
+-- a sink
+pub record SureSinkState : Type 0 where
+  -- how many bytes it keeps at most
+  pub limit : ℕ
+  -- the first ones of those that it took
+  pub kept : List ℕ
+  -- whether it took more
+  pub more : Bool
+
+-- the sink before its first call
+abbrev pub new_sure_sink : ℕ → SureSinkState
+new_sure_sink limit = record { limit = limit; kept = []; more = false }
+
+-- the bytes that it took, where it kept all of them
+abbrev pub told : SureSinkState → Option (List ℕ)
+told s = if s.more then None else Some s.kept
+
+-- the sink after a write of this piece
+abbrev pub after_sure_write : SureSinkState → List ℕ → SureSinkState
+after_sure_write s piece = record s {
+  kept = take s.limit (s.kept ++ piece);
+  more = nat_lt s.limit (length (s.kept ++ piece)) || s.more;
+}
