@@ -7,7 +7,8 @@ use Rattle.clap.specs.declared.error.kind.ErrorKind.{ErrorKind}
 use Rattle.clap.specs.declared.error.kind.ErrorKind.TheVariants as kinds
 use Rattle.clap.proofs.WalkLemmas.{first_value-rows}
 use Rattle.it_settings.specs.App.{itip_app}
-use Rattle.it_settings.specs.Settings.{settings_of, settings_by, values_by, unless_fault, Reads, IsFaultOf}
+use Rattle.it_settings.specs.ErrorKinds.{IsFaultOf}
+use Rattle.it_settings.specs.Settings.{settings_of, settings_by, values_by, unless_fault, Reads}
 use Rattle.it_settings.specs.declared.types.Settings.{Settings}
 use Rattle.it_settings.specs.declared.types.WordsFault.{WordsFault}
 use Rattle.it_settings.specs.declared.types.WordsFault.TheVariants.{Usage, Memory}

@@ -2,11 +2,11 @@
 use Rattle.std.proofs.Common.{refl}
 use Rattle.clap.proofs.OnLiterals.{clap_on_literals}
 use Rattle.it_settings.specs.App.{option_rule, mode_rule, bare_app, with_option, itip_app}
-use Rattle.it_settings.specs.Settings.{settings_of, settings_by, answer_of, check_of, number_of, format_of}
-use Rattle.it_settings.specs.Rows.{ModesAreRead, FormsAreRead, NumbersAreRead, OtherModesAreRead}
+use Rattle.it_settings.specs.Settings.{settings_of, settings_by, answer_of, check_of, bench_of, number_of, pivots_of, format_of}
+use Rattle.it_settings.specs.Rows.{ModesAreRead, FormsAreRead, NumbersAreRead, BenchIsRead, OtherModesAreRead}
 
 pub modes_are_read : ModesAreRead
-unfolding clap_on_literals settings_of settings_by answer_of check_of number_of format_of itip_app with_option bare_app mode_rule option_rule
+unfolding clap_on_literals settings_of settings_by answer_of check_of bench_of number_of pivots_of format_of itip_app with_option bare_app mode_rule option_rule
 modes_are_read = record {
   answer = refl;
   check = refl;
@@ -30,7 +30,7 @@ modes_are_read = record {
 }
 
 pub forms_are_read : FormsAreRead
-unfolding clap_on_literals settings_of settings_by answer_of check_of number_of format_of itip_app with_option bare_app mode_rule option_rule
+unfolding clap_on_literals settings_of settings_by answer_of check_of bench_of number_of pivots_of format_of itip_app with_option bare_app mode_rule option_rule
 forms_are_read = record {
   spaced = refl;
   joined = refl;
@@ -53,17 +53,23 @@ forms_are_read = record {
 }
 
 pub numbers_are_read : NumbersAreRead
-unfolding clap_on_literals settings_of settings_by answer_of check_of number_of format_of itip_app with_option bare_app mode_rule option_rule
+unfolding clap_on_literals settings_of settings_by answer_of check_of bench_of number_of pivots_of format_of itip_app with_option bare_app mode_rule option_rule
 numbers_are_read = record {
-  pivots_none = refl;
+  pivots_zero = refl;
   pivots_least = refl;
   pivots_most = refl;
   pivots_more = refl;
-  rows_none = refl;
+  pivots_without = refl;
+  pivots_joined = refl;
+  pivots_capital = refl;
+  pivots_longer = refl;
+  rows_without = refl;
+  tries_without = refl;
+  rows_zero = refl;
   rows_least = refl;
   rows_most = refl;
   rows_more = refl;
-  tries_none = refl;
+  tries_zero = refl;
   tries_least = refl;
   tries_most = refl;
   tries_more = refl;
@@ -79,8 +85,25 @@ numbers_are_read = record {
   point = refl;
 }
 
+pub bench_is_read : BenchIsRead
+unfolding clap_on_literals settings_of settings_by answer_of check_of bench_of number_of pivots_of format_of itip_app with_option bare_app mode_rule option_rule
+bench_is_read = record {
+  all_options = refl;
+  seed_least = refl;
+  seed_most = refl;
+  seed_more = refl;
+  count_zero = refl;
+  count_least = refl;
+  count_most = refl;
+  count_more = refl;
+  pivots_without = refl;
+  seed_without = refl;
+  count_without = refl;
+  hyphen = refl;
+}
+
 pub other_modes_are_read : OtherModesAreRead
-unfolding clap_on_literals settings_of settings_by answer_of check_of number_of format_of itip_app with_option bare_app mode_rule option_rule
+unfolding clap_on_literals settings_of settings_by answer_of check_of bench_of number_of pivots_of format_of itip_app with_option bare_app mode_rule option_rule
 other_modes_are_read = record {
   check_format = refl;
   check_pivots = refl;
@@ -90,6 +113,6 @@ other_modes_are_read = record {
   check_count = refl;
   answer_seed = refl;
   answer_count = refl;
-  bench_seed = refl;
-  bench_hyphen = refl;
+  check_pivots_without = refl;
+  bench_format = refl;
 }

@@ -1,4 +1,5 @@
 pub mod App
+pub mod ErrorKinds
 pub mod Settings
 pub mod ValuesViews
 pub mod Rows

@@ -13,9 +13,9 @@ HaveNoReading words = settings_of words ≡ None
 
 -- the word for the mode, alone and among others
 pub record ModesAreRead : Type 0 where
-  pub answer : AreReadAs (codes "answer" ∷ []) (settings.Answer formats.Text 20000 512 256)
+  pub answer : AreReadAs (codes "answer" ∷ []) (settings.Answer formats.Text (Some 20000) 512 256)
   pub check : AreReadAs (codes "check" ∷ []) settings.Check
-  pub bench : HaveNoReading (codes "bench" ∷ [])
+  pub bench : AreReadAs (codes "bench" ∷ []) (settings.Bench 1 100 (Some 20000) 512 256)
   pub no_words : HaveNoReading []
   pub unknown : HaveNoReading (codes "prove" ∷ [])
   pub capital : HaveNoReading (codes "Answer" ∷ [])
@@ -35,13 +35,13 @@ pub record ModesAreRead : Type 0 where
 
 -- how an option is written
 pub record FormsAreRead : Type 0 where
-  pub spaced : AreReadAs (codes "answer" ∷ codes "--format" ∷ codes "json" ∷ []) (settings.Answer formats.Json 20000 512 256)
-  pub joined : AreReadAs (codes "answer" ∷ codes "--format=json" ∷ []) (settings.Answer formats.Json 20000 512 256)
-  pub text : AreReadAs (codes "answer" ∷ codes "--format" ∷ codes "text" ∷ []) (settings.Answer formats.Text 20000 512 256)
-  pub proof : HaveNoReading (codes "answer" ∷ codes "--format" ∷ codes "proof" ∷ [])
+  pub spaced : AreReadAs (codes "answer" ∷ codes "--format" ∷ codes "json" ∷ []) (settings.Answer formats.Json (Some 20000) 512 256)
+  pub joined : AreReadAs (codes "answer" ∷ codes "--format=json" ∷ []) (settings.Answer formats.Json (Some 20000) 512 256)
+  pub text : AreReadAs (codes "answer" ∷ codes "--format" ∷ codes "text" ∷ []) (settings.Answer formats.Text (Some 20000) 512 256)
+  pub proof : AreReadAs (codes "answer" ∷ codes "--format" ∷ codes "proof" ∷ []) (settings.Answer formats.Proof (Some 20000) 512 256)
   pub capitals : HaveNoReading (codes "answer" ∷ codes "--format" ∷ codes "JSON" ∷ [])
-  pub before_mode : AreReadAs (codes "--tries" ∷ codes "1" ∷ codes "answer" ∷ []) (settings.Answer formats.Text 20000 512 1)
-  pub all_options : AreReadAs (codes "answer" ∷ codes "--tries=7" ∷ codes "--rows" ∷ codes "6" ∷ codes "--format" ∷ codes "json" ∷ codes "--pivots" ∷ codes "5" ∷ []) (settings.Answer formats.Json 5 6 7)
+  pub before_mode : AreReadAs (codes "--tries" ∷ codes "1" ∷ codes "answer" ∷ []) (settings.Answer formats.Text (Some 20000) 512 1)
+  pub all_options : AreReadAs (codes "answer" ∷ codes "--tries=7" ∷ codes "--rows" ∷ codes "6" ∷ codes "--format" ∷ codes "json" ∷ codes "--pivots" ∷ codes "5" ∷ []) (settings.Answer formats.Json (Some 5) 6 7)
   pub twice : HaveNoReading (codes "answer" ∷ codes "--rows" ∷ codes "5" ∷ codes "--rows" ∷ codes "5" ∷ [])
   pub twice_joined : HaveNoReading (codes "answer" ∷ codes "--format" ∷ codes "json" ∷ codes "--format=json" ∷ [])
   pub cut_short : HaveNoReading (codes "answer" ∷ codes "--piv" ∷ codes "5" ∷ [])
@@ -56,20 +56,26 @@ pub record FormsAreRead : Type 0 where
 
 -- which numbers an option takes
 pub record NumbersAreRead : Type 0 where
-  pub pivots_none : HaveNoReading (codes "answer" ∷ codes "--pivots" ∷ codes "0" ∷ [])
-  pub pivots_least : AreReadAs (codes "answer" ∷ codes "--pivots" ∷ codes "1" ∷ []) (settings.Answer formats.Text 1 512 256)
-  pub pivots_most : AreReadAs (codes "answer" ∷ codes "--pivots" ∷ codes "1000000" ∷ []) (settings.Answer formats.Text 1000000 512 256)
+  pub pivots_zero : HaveNoReading (codes "answer" ∷ codes "--pivots" ∷ codes "0" ∷ [])
+  pub pivots_least : AreReadAs (codes "answer" ∷ codes "--pivots" ∷ codes "1" ∷ []) (settings.Answer formats.Text (Some 1) 512 256)
+  pub pivots_most : AreReadAs (codes "answer" ∷ codes "--pivots" ∷ codes "1000000" ∷ []) (settings.Answer formats.Text (Some 1000000) 512 256)
   pub pivots_more : HaveNoReading (codes "answer" ∷ codes "--pivots" ∷ codes "1000001" ∷ [])
-  pub rows_none : HaveNoReading (codes "answer" ∷ codes "--rows" ∷ codes "0" ∷ [])
-  pub rows_least : AreReadAs (codes "answer" ∷ codes "--rows" ∷ codes "1" ∷ []) (settings.Answer formats.Text 20000 1 256)
-  pub rows_most : AreReadAs (codes "answer" ∷ codes "--rows" ∷ codes "4096" ∷ []) (settings.Answer formats.Text 20000 4096 256)
+  pub pivots_without : AreReadAs (codes "answer" ∷ codes "--pivots" ∷ codes "none" ∷ []) (settings.Answer formats.Text None 512 256)
+  pub pivots_joined : AreReadAs (codes "answer" ∷ codes "--pivots=none" ∷ []) (settings.Answer formats.Text None 512 256)
+  pub pivots_capital : HaveNoReading (codes "answer" ∷ codes "--pivots" ∷ codes "None" ∷ [])
+  pub pivots_longer : HaveNoReading (codes "answer" ∷ codes "--pivots" ∷ codes "none0" ∷ [])
+  pub rows_without : HaveNoReading (codes "answer" ∷ codes "--rows" ∷ codes "none" ∷ [])
+  pub tries_without : HaveNoReading (codes "answer" ∷ codes "--tries" ∷ codes "none" ∷ [])
+  pub rows_zero : HaveNoReading (codes "answer" ∷ codes "--rows" ∷ codes "0" ∷ [])
+  pub rows_least : AreReadAs (codes "answer" ∷ codes "--rows" ∷ codes "1" ∷ []) (settings.Answer formats.Text (Some 20000) 1 256)
+  pub rows_most : AreReadAs (codes "answer" ∷ codes "--rows" ∷ codes "4096" ∷ []) (settings.Answer formats.Text (Some 20000) 4096 256)
   pub rows_more : HaveNoReading (codes "answer" ∷ codes "--rows" ∷ codes "4097" ∷ [])
-  pub tries_none : HaveNoReading (codes "answer" ∷ codes "--tries" ∷ codes "0" ∷ [])
-  pub tries_least : AreReadAs (codes "answer" ∷ codes "--tries" ∷ codes "1" ∷ []) (settings.Answer formats.Text 20000 512 1)
-  pub tries_most : AreReadAs (codes "answer" ∷ codes "--tries" ∷ codes "4096" ∷ []) (settings.Answer formats.Text 20000 512 4096)
+  pub tries_zero : HaveNoReading (codes "answer" ∷ codes "--tries" ∷ codes "0" ∷ [])
+  pub tries_least : AreReadAs (codes "answer" ∷ codes "--tries" ∷ codes "1" ∷ []) (settings.Answer formats.Text (Some 20000) 512 1)
+  pub tries_most : AreReadAs (codes "answer" ∷ codes "--tries" ∷ codes "4096" ∷ []) (settings.Answer formats.Text (Some 20000) 512 4096)
   pub tries_more : HaveNoReading (codes "answer" ∷ codes "--tries" ∷ codes "4097" ∷ [])
-  pub zeros_before : AreReadAs (codes "answer" ∷ codes "--pivots" ∷ codes "007" ∷ []) (settings.Answer formats.Text 7 512 256)
-  pub ten_digits : AreReadAs (codes "answer" ∷ codes "--pivots=0000000005" ∷ []) (settings.Answer formats.Text 5 512 256)
+  pub zeros_before : AreReadAs (codes "answer" ∷ codes "--pivots" ∷ codes "007" ∷ []) (settings.Answer formats.Text (Some 7) 512 256)
+  pub ten_digits : AreReadAs (codes "answer" ∷ codes "--pivots=0000000005" ∷ []) (settings.Answer formats.Text (Some 5) 512 256)
   pub eleven_digits : HaveNoReading (codes "answer" ∷ codes "--pivots=00000000005" ∷ [])
   pub past_32_bits : HaveNoReading (codes "answer" ∷ codes "--pivots" ∷ codes "4294967297" ∷ [])
   pub hyphen : HaveNoReading (codes "answer" ∷ codes "--pivots" ∷ codes "-1" ∷ [])
@@ -78,6 +84,21 @@ pub record NumbersAreRead : Type 0 where
   pub blank : HaveNoReading (codes "answer" ∷ codes "--pivots" ∷ codes " 5" ∷ [])
   pub letter : HaveNoReading (codes "answer" ∷ codes "--pivots" ∷ codes "5x" ∷ [])
   pub point : HaveNoReading (codes "answer" ∷ codes "--pivots" ∷ codes "5.0" ∷ [])
+
+-- the options of mode `bench`
+pub record BenchIsRead : Type 0 where
+  pub all_options : AreReadAs (codes "bench" ∷ codes "--seed=2" ∷ codes "--count" ∷ codes "3" ∷ codes "--pivots=4" ∷ codes "--rows=5" ∷ codes "--tries=6" ∷ []) (settings.Bench 2 3 (Some 4) 5 6)
+  pub seed_least : AreReadAs (codes "bench" ∷ codes "--seed" ∷ codes "0" ∷ []) (settings.Bench 0 100 (Some 20000) 512 256)
+  pub seed_most : AreReadAs (codes "bench" ∷ codes "--seed" ∷ codes "2147483647" ∷ []) (settings.Bench 2147483647 100 (Some 20000) 512 256)
+  pub seed_more : HaveNoReading (codes "bench" ∷ codes "--seed" ∷ codes "2147483648" ∷ [])
+  pub count_zero : HaveNoReading (codes "bench" ∷ codes "--count" ∷ codes "0" ∷ [])
+  pub count_least : AreReadAs (codes "bench" ∷ codes "--count" ∷ codes "1" ∷ []) (settings.Bench 1 1 (Some 20000) 512 256)
+  pub count_most : AreReadAs (codes "bench" ∷ codes "--count" ∷ codes "1000" ∷ []) (settings.Bench 1 1000 (Some 20000) 512 256)
+  pub count_more : HaveNoReading (codes "bench" ∷ codes "--count" ∷ codes "1001" ∷ [])
+  pub pivots_without : AreReadAs (codes "bench" ∷ codes "--pivots" ∷ codes "none" ∷ []) (settings.Bench 1 100 None 512 256)
+  pub seed_without : HaveNoReading (codes "bench" ∷ codes "--seed" ∷ codes "none" ∷ [])
+  pub count_without : HaveNoReading (codes "bench" ∷ codes "--count" ∷ codes "none" ∷ [])
+  pub hyphen : HaveNoReading (codes "bench" ∷ codes "--seed" ∷ codes "-1" ∷ [])
 
 -- options of another mode
 pub record OtherModesAreRead : Type 0 where
@@ -89,5 +110,5 @@ pub record OtherModesAreRead : Type 0 where
   pub check_count : HaveNoReading (codes "check" ∷ codes "--count" ∷ codes "1" ∷ [])
   pub answer_seed : HaveNoReading (codes "answer" ∷ codes "--seed" ∷ codes "1" ∷ [])
   pub answer_count : HaveNoReading (codes "answer" ∷ codes "--count" ∷ codes "1" ∷ [])
-  pub bench_seed : HaveNoReading (codes "bench" ∷ codes "--seed" ∷ codes "1" ∷ codes "--count" ∷ codes "1" ∷ [])
-  pub bench_hyphen : HaveNoReading (codes "bench" ∷ codes "--seed" ∷ codes "-1" ∷ [])
+  pub check_pivots_without : HaveNoReading (codes "check" ∷ codes "--pivots" ∷ codes "none" ∷ [])
+  pub bench_format : HaveNoReading (codes "bench" ∷ codes "--format" ∷ codes "text" ∷ [])

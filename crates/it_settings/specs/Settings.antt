@@ -1,9 +1,7 @@
 -- The settings that words give: what the command takes from them, each value then judged.
-use Rattle.std.specs.Prelude.{ℕ, ◌+◌, ◌*◌, ◌-◌, ◌≡◌, ◌&&◌, List, [], ◌∷◌, length, Bool, Option, Some, None, is_some, not, Result, Ok, Err, if◌then◌else◌, codes, option_and_then, nat_le}
+use Rattle.std.specs.Prelude.{ℕ, ◌+◌, ◌*◌, ◌-◌, ◌^◌, ◌≡◌, ◌≤◌, ◌<◌, ◌&&◌, List, [], ◌∷◌, length, Bool, Option, Some, None, is_some, not, Result, Ok, Err, if◌then◌else◌, codes, option_and_then, option_map, nat_le}
 use Rattle.std.specs.Str.{bytes_eq}
 use Rattle.clap.specs.Words.{Text, Kinds, fault_of, matches_of, first_of}
-use Rattle.clap.specs.declared.error.kind.ErrorKind.{ErrorKind}
-use Rattle.clap.specs.declared.error.kind.ErrorKind.TheVariants as kinds
 use Rattle.it_settings.specs.App.{itip_app}
 use Rattle.it_settings.specs.declared.types.Format.{Format}
 use Rattle.it_settings.specs.declared.types.Format.TheVariants as formats
@@ -36,11 +34,29 @@ abbrev pub number_or : ℕ → ℕ → ℕ → Option Text → Option ℕ
 number_or least most default None = Some default
 number_or least most default (Some text) = number_of least most text
 
+-- 512 rows where nothing was given
+abbrev pub rows_or : Option Text → Option ℕ
+rows_or text = number_or 1 4096 512 text
+
+-- 256 candidates where nothing was given
+abbrev pub tries_or : Option Text → Option ℕ
+tries_or text = number_or 1 4096 256 text
+
+-- a budget of steps: a number from 1 to 1,000,000, or no budget by the word `none`
+unfoldable pub pivots_of : Text → Option (Option ℕ)
+pivots_of text = if bytes_eq text (codes "none") then Some None else option_map Some (number_of 1 1000000 text)
+
+-- 20,000 steps where nothing was given
+abbrev pub pivots_or : Option Text → Option (Option ℕ)
+pivots_or None = Some (Some 20000)
+pivots_or (Some text) = pivots_of text
+
 -- a format by its name
 unfoldable pub format_of : Text → Option Format
 format_of text =
     if bytes_eq text (codes "text") then Some formats.Text else
-    if bytes_eq text (codes "json") then Some formats.Json else None
+    if bytes_eq text (codes "json") then Some formats.Json else
+    if bytes_eq text (codes "proof") then Some formats.Proof else None
 
 -- text where nothing was given
 abbrev pub format_or : Option Text → Option Format
@@ -63,25 +79,37 @@ abbrev pub nothing : Option Text → Bool
 nothing o = not (is_some o)
 
 -- the settings of mode `answer`, where each value has a reading
-abbrev pub answer_by : Option Format → Option ℕ → Option ℕ → Option ℕ → Option Settings
+abbrev pub answer_by : Option Format → Option (Option ℕ) → Option ℕ → Option ℕ → Option Settings
 answer_by format pivots rows tries =
     option_and_then (λ f. option_and_then (λ p. option_and_then (λ r. option_and_then (λ t. Some (settings.Answer f p r t)) tries) rows) pivots) format
 
 -- no option of another mode, and each value in its range
 unfoldable pub answer_of : ValuesView → Option Settings
 answer_of v = if nothing v.seed && nothing v.count
-    then answer_by (format_or v.format) (number_or 1 1000000 20000 v.pivots) (number_or 1 4096 512 v.rows) (number_or 1 4096 256 v.tries)
+    then answer_by (format_or v.format) (pivots_or v.pivots) (rows_or v.rows) (tries_or v.tries)
     else None
 
 -- no option at all
 unfoldable pub check_of : ValuesView → Option Settings
 check_of v = if nothing v.format && (nothing v.pivots && (nothing v.rows && (nothing v.tries && (nothing v.seed && nothing v.count)))) then Some settings.Check else None
 
+-- the settings of mode `bench`, where each value has a reading
+abbrev pub bench_by : Option ℕ → Option ℕ → Option (Option ℕ) → Option ℕ → Option ℕ → Option Settings
+bench_by seed count pivots rows tries =
+    option_and_then (λ s. option_and_then (λ c. option_and_then (λ p. option_and_then (λ r. option_and_then (λ t. Some (settings.Bench s c p r t)) tries) rows) pivots) count) seed
+
+-- no format, and each value in its range
+unfoldable pub bench_of : ValuesView → Option Settings
+bench_of v = if nothing v.format
+    then bench_by (number_or 0 2147483647 1 v.seed) (number_or 1 1000 100 v.count) (pivots_or v.pivots) (rows_or v.rows) (tries_or v.tries)
+    else None
+
 -- by the mode's word; the modes not named have no reading
 abbrev pub settings_in : ValuesView → Text → Option Settings
 settings_in v mode =
     if bytes_eq mode (codes "answer") then answer_of v else
-    if bytes_eq mode (codes "check") then check_of v else None
+    if bytes_eq mode (codes "check") then check_of v else
+    if bytes_eq mode (codes "bench") then bench_of v else None
 
 unfoldable pub settings_by : ValuesView → Option Settings
 settings_by v = option_and_then (settings_in v) v.mode
@@ -115,7 +143,7 @@ Reads reading (Ok s) = reading ≡ Some s
 Reads reading (Err Usage) = reading ≡ None
 Reads reading (Err Memory) = Unit {0}
 
--- every error of clap but want of memory says that there is no reading
-abbrev pub IsFaultOf : ErrorKind → WordsFault → Type 0
-IsFaultOf kind Usage = kind ≡ kinds.OutOfMemory → ⊥
-IsFaultOf kind Memory = Unit {0}
+-- a generated file has a seed below 2^31 and 1 to 1000 questions
+abbrev pub AreInRange : Settings → Type 0
+AreInRange (settings.Bench seed count pivots rows tries) = (seed < 2 ^ 31) × ((1 ≤ count) × (count ≤ 1000))
+AreInRange s = Unit {0}

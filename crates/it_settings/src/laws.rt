@@ -1,5 +1,5 @@
 //! What command lines are read as, each table as the contract of a function.
-ghost use Rattle.it_settings.specs.Rows.{ModesAreRead, FormsAreRead, NumbersAreRead, OtherModesAreRead};
+ghost use Rattle.it_settings.specs.Rows.{ModesAreRead, FormsAreRead, NumbersAreRead, BenchIsRead, OtherModesAreRead};
 
 /// The word for the mode, alone and among others.
 #[tactic(auto, using(crate::proofs::RowLemmas::modes_are_read))]
@@ -17,6 +17,12 @@ pub fn forms_are_read()
 #[tactic(auto, using(crate::proofs::RowLemmas::numbers_are_read))]
 pub fn numbers_are_read()
     ensures { NumbersAreRead }
+{}
+
+/// The options of mode `bench`.
+#[tactic(auto, using(crate::proofs::RowLemmas::bench_is_read))]
+pub fn bench_is_read()
+    ensures { BenchIsRead }
 {}
 
 /// Options of another mode have no reading.

@@ -1,6 +1,6 @@
 //! The values of options.
-ghost use Rattle.std.specs.Prelude.{◌≡◌, ◌≤◌, ◌<◌, ◌+◌, ◌*◌, ◌-◌, ◌^◌, option_map, length};
-ghost use Rattle.it_settings.specs.Settings.{value_from, number_of, number_or, format_of, format_or, within};
+ghost use Rattle.std.specs.Prelude.{◌≡◌, ◌≤◌, ◌<◌, ◌+◌, ◌*◌, ◌-◌, ◌^◌, option_map, IfSome, length};
+ghost use Rattle.it_settings.specs.Settings.{value_from, number_of, number_or, rows_or, tries_or, pivots_of, pivots_or, format_of, format_or, within};
 
 use crate::types::Format;
 
@@ -21,7 +21,8 @@ fn value(bytes: &[u8]) -> Option<u64>
 
 /// A number that is in its range.
 fn bounded(least: u32, most: u32, n: u64) -> Option<u32>
-    ensures { result ≡ within least most n }
+    ensures reads { result ≡ within least most n }
+    ensures range { IfSome result (λ m. (least ≤ m) × (m ≤ most)) }
 {
     if least as u64 <= n && n <= most as u64 {
         Some(n as u32)
@@ -33,7 +34,8 @@ fn bounded(least: u32, most: u32, n: u64) -> Option<u32>
 /// A number as text, in its range.
 #[tactic(auto, unfolding(crate::specs::Settings::number_of))]
 fn number(text: &str, least: u32, most: u32) -> Option<u32>
-    ensures { result ≡ number_of least most text.now }
+    ensures reads { result ≡ number_of least most text.now }
+    ensures range { IfSome result (λ n. (least ≤ n) × (n ≤ most)) }
 {
     let bytes = text.as_bytes();
     if bytes.len() >= 1 && bytes.len() <= 10 {
@@ -45,11 +47,48 @@ fn number(text: &str, least: u32, most: u32) -> Option<u32>
 
 /// The number that was given, or the default where none was.
 pub fn number_or(text: Option<&str>, least: u32, most: u32, default: u32) -> Option<u32>
-    ensures { result ≡ number_or least most default (option_map (λ s. s.now) text.entry) }
+    requires default { (least ≤ default) × (default ≤ most) }
+    ensures reads { result ≡ number_or least most default (option_map (λ s. s.now) text.entry) }
+    ensures range { IfSome result (λ n. (least ≤ n) × (n ≤ most)) }
 {
     match text {
         Some(text) => number(text, least, most),
         None => Some(default),
+    }
+}
+
+/// The most rows that were given, or the default where none was.
+pub fn rows_or(text: Option<&str>) -> Option<u32>
+    ensures { result ≡ rows_or (option_map (λ s. s.now) text.entry) }
+{
+    number_or(text, 1, 4096, 512)
+}
+
+/// The most candidates that were given, or the default where none was.
+pub fn tries_or(text: Option<&str>) -> Option<u32>
+    ensures { result ≡ tries_or (option_map (λ s. s.now) text.entry) }
+{
+    number_or(text, 1, 4096, 256)
+}
+
+/// A budget of steps as text: a number in its range, or the word `none` for no budget.
+#[tactic(auto, unfolding(crate::specs::Settings::pivots_of))]
+fn pivots(text: &str) -> Option<Option<u32>>
+    ensures { result ≡ pivots_of text.now }
+{
+    match text {
+        "none" => Some(None),
+        _ => Some(Some(number(text, 1, 1000000)?)),
+    }
+}
+
+/// The budget of steps that was given, or the default where none was.
+pub fn pivots_or(text: Option<&str>) -> Option<Option<u32>>
+    ensures { result ≡ pivots_or (option_map (λ s. s.now) text.entry) }
+{
+    match text {
+        Some(text) => pivots(text),
+        None => Some(Some(20000)),
     }
 }
 
@@ -61,6 +100,7 @@ fn format(text: &str) -> Option<Format>
     match text {
         "text" => Some(Format::Text),
         "json" => Some(Format::Json),
+        "proof" => Some(Format::Proof),
         _ => None,
     }
 }

@@ -1,11 +1,12 @@
 //! The reading of the words: what the command takes, each value then judged.
-ghost use Rattle.std.specs.Prelude.{◌≡◌, Option, map, option_map};
+ghost use Rattle.std.specs.Prelude.{◌≡◌, Option, map, option_map, IfOk, IfSome};
 ghost use Rattle.clap.specs.Words.{first_value, found_of, kind_of};
 ghost use Rattle.it_settings.specs.ValuesViews.{values_view};
-ghost use Rattle.it_settings.specs.Settings.{answer_of, check_of, settings_by, values_by, settings_of, Reads, IsFaultOf};
+ghost use Rattle.it_settings.specs.ErrorKinds.{IsFaultOf};
+ghost use Rattle.it_settings.specs.Settings.{answer_of, check_of, bench_of, settings_by, values_by, settings_of, Reads, AreInRange};
 
 use crate::command::parsed;
-use crate::numbers::{format_or, number_or};
+use crate::numbers::{format_or, number_or, pivots_or, rows_or, tries_or};
 use crate::types::{Settings, WordsFault};
 use clap::error::ErrorKind;
 use clap::{ArgMatches, Error};
@@ -41,15 +42,16 @@ fn matched_values<'a>(matches: &ArgMatches<'a>) -> Values<'a>
 /// The settings of mode `answer`.
 #[tactic(auto, unfolding(crate::specs::Settings::answer_of))]
 fn answer(values: Values) -> Option<Settings>
-    ensures { result ≡ answer_of (values_view values.entry) }
+    ensures reads { result ≡ answer_of (values_view values.entry) }
+    ensures ranges { IfSome result AreInRange }
 {
     if values.seed.is_some() || values.count.is_some() {
         return None;
     }
     let format = format_or(values.format)?;
-    let pivots = number_or(values.pivots, 1, 1000000, 20000)?;
-    let rows = number_or(values.rows, 1, 4096, 512)?;
-    let tries = number_or(values.tries, 1, 4096, 256)?;
+    let pivots = pivots_or(values.pivots)?;
+    let rows = rows_or(values.rows)?;
+    let tries = tries_or(values.tries)?;
     Some(Settings::Answer {
         format,
         pivots,
@@ -61,7 +63,8 @@ fn answer(values: Values) -> Option<Settings>
 /// The settings of mode `check`, which has no options.
 #[tactic(auto, unfolding(crate::specs::Settings::check_of))]
 fn check(values: Values) -> Option<Settings>
-    ensures { result ≡ check_of (values_view values.entry) }
+    ensures reads { result ≡ check_of (values_view values.entry) }
+    ensures ranges { IfSome result AreInRange }
 {
     let none = values.format.is_none()
         && values.pivots.is_none()
@@ -72,21 +75,47 @@ fn check(values: Values) -> Option<Settings>
     if none { Some(Settings::Check) } else { None }
 }
 
+/// The settings of mode `bench`.
+#[tactic(auto, unfolding(crate::specs::Settings::bench_of))]
+fn bench(values: Values) -> Option<Settings>
+    ensures reads { result ≡ bench_of (values_view values.entry) }
+    ensures ranges { IfSome result AreInRange }
+{
+    if values.format.is_some() {
+        return None;
+    }
+    let seed = number_or(values.seed, 0, 2147483647, 1)?;
+    let count = number_or(values.count, 1, 1000, 100)?;
+    let pivots = pivots_or(values.pivots)?;
+    let rows = rows_or(values.rows)?;
+    let tries = tries_or(values.tries)?;
+    Some(Settings::Bench {
+        seed,
+        count,
+        pivots,
+        rows,
+        tries,
+    })
+}
+
 /// The settings by the mode's word.
 #[tactic(auto, unfolding(crate::specs::Settings::settings_by))]
 fn settings_by_mode(values: Values) -> Option<Settings>
-    ensures { result ≡ settings_by (values_view values.entry) }
+    ensures reads { result ≡ settings_by (values_view values.entry) }
+    ensures ranges { IfSome result AreInRange }
 {
     match values.mode {
         Some("answer") => answer(values),
         Some("check") => check(values),
+        Some("bench") => bench(values),
         _ => None,
     }
 }
 
 /// The settings of what was matched.
 fn matched_settings(matches: &ArgMatches) -> Option<Settings>
-    ensures { result ≡ settings_by (values_by (first_value (found_of matches.now))) }
+    ensures reads { result ≡ settings_by (values_by (first_value (found_of matches.now))) }
+    ensures ranges { IfSome result AreInRange }
 {
     settings_by_mode(matched_values(matches))
 }
@@ -104,7 +133,8 @@ fn fault(error: Error) -> WordsFault
 
 /// The settings that the words after the program's name give, or that they have no reading.
 pub fn settings(alloc: Global, words: &[&str]) -> Result<Settings, WordsFault>
-    ensures { Reads (settings_of (map (λ w. w.now) words.now)) result }
+    ensures reads { Reads (settings_of (map (λ w. w.now) words.now)) result }
+    ensures ranges { IfOk result AreInRange }
 {
     match parsed(alloc, words) {
         Ok(matches) => match matched_settings(&matches) {

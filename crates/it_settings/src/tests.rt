@@ -7,7 +7,7 @@ fn words_are_read(rt: HostRuntime) -> Result<(), Fail> {
     let alloc = rt.alloc();
     let answer = Settings::Answer {
         format: Format::Json,
-        pivots: 7,
+        pivots: Some(7),
         rows: 512,
         tries: 256,
     };
@@ -15,5 +15,14 @@ fn words_are_read(rt: HostRuntime) -> Result<(), Fail> {
     assert!(rt; settings(alloc, &words) == Ok(answer));
     assert!(rt; settings(alloc, &["check"]) == Ok(Settings::Check));
     assert!(rt; settings(alloc, &["check", "--rows", "5"]) == Err(WordsFault::Usage));
+    let bench = Settings::Bench {
+        seed: 5,
+        count: 2,
+        pivots: None,
+        rows: 512,
+        tries: 256,
+    };
+    let words = ["bench", "--seed=5", "--count", "2", "--pivots", "none"];
+    assert!(rt; settings(alloc, &words) == Ok(bench));
     Ok(())
 }

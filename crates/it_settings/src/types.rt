@@ -5,6 +5,7 @@
 pub enum Format {
     Text,
     Json,
+    Proof,
 }
 
 /// The mode with its options, each as given or its default.
@@ -13,8 +14,8 @@ pub enum Settings {
     /// Answer a question file.
     Answer {
         format: Format,
-        /// Steps of a run, 1 to 1,000,000.
-        pivots: u32,
+        /// Steps of a run, 1 to 1,000,000, or as many as it takes.
+        pivots: Option<u32>,
         /// Rows of an elimination, 1 to 4,096.
         rows: u32,
         /// Candidates of a containment, 1 to 4,096.
@@ -22,6 +23,17 @@ pub enum Settings {
     },
     /// Judge a report.
     Check,
+    /// Count the answers to a generated file.
+    Bench {
+        /// The number that the file is generated from, 0 to 2,147,483,647.
+        seed: u32,
+        /// Its questions, 1 to 1,000.
+        count: u32,
+        /// As in mode `answer`.
+        pivots: Option<u32>,
+        rows: u32,
+        tries: u32,
+    },
 }
 
 /// The words have no reading, or memory is wanted.

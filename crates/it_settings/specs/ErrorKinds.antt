@@ -1,0 +1,11 @@
+-- What an error of clap says of the words. No public clause cites this module: it serves the proofs of `settings`.
+use Rattle.std.specs.Prelude.{◌≡◌}
+use Rattle.clap.specs.declared.error.kind.ErrorKind.{ErrorKind}
+use Rattle.clap.specs.declared.error.kind.ErrorKind.TheVariants as kinds
+use Rattle.it_settings.specs.declared.types.WordsFault.{WordsFault}
+use Rattle.it_settings.specs.declared.types.WordsFault.TheVariants.{Usage, Memory}
+
+-- every error but want of memory says that there is no reading
+abbrev pub IsFaultOf : ErrorKind → WordsFault → Type 0
+IsFaultOf kind Usage = kind ≡ kinds.OutOfMemory → ⊥
+IsFaultOf kind Memory = Unit {0}
