@@ -40,6 +40,10 @@ problem_names_by v (Contain first second tries) = first.names
 abbrev pub problem_names : BodyView → NamesView
 problem_names q = problem_names_by q.names q.verb
 
+-- how many variables the problem has
+abbrev pub variables_of : BodyView → ℕ
+variables_of q = length (problem_names q).variables
+
 -- the lines of a question's problem: its own, its givens alone, or its own with those of its first region behind them
 abbrev pub problem_lines_by : OwnLinesView → VerbView → OwnLinesView
 problem_lines_by own (Prove r) = own
@@ -51,7 +55,7 @@ problem_lines q = problem_lines_by q.lines q.verb
 
 -- the demands of a question in generator order
 abbrev pub question_demands : BodyView → List LineDemand
-question_demands q = line_demands (length (problem_names q).variables) (problem_lines q)
+question_demands q = line_demands (variables_of q) (problem_lines q)
 
 -- each given is true of the map, and each row holds at it
 pub record AreTrueAt (n : ℕ) (p : ℕ → ℤ) (own : OwnLinesView) : Type 0 where
@@ -77,4 +81,4 @@ pub record Poses (q : BodyView) (r : RelationView) : Type 0 where
   pub space : problem.space ≡ space_of (problem_names q)
   pub limits : IsProblem problem
   pub constraints : AreStated problem.space (question_demands q) problem.constraints
-  pub targets_are : AreRowsOf problem.space (targets (length (problem_names q).variables) r) rows
+  pub targets_are : AreRowsOf problem.space (targets (variables_of q) r) rows
