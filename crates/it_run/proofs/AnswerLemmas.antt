@@ -1,5 +1,5 @@
 -- From a run on a tableau to its answer.
-use Rattle.std.proofs.Common.{◌≡◌, ℕ, pos, Bool, false, cond, List, slice_index_or, Result, Ok, Err, sym, ap, ap₂, subst, ◌∙◌, arith}
+use Rattle.std.proofs.Common.{◌≡◌, ℕ, pos, Bool, false, cond, List, slice_index_or, Option, Result, Ok, Err, sym, ap, ap₂, subst, ◌∙◌, arith}
 use Rattle.std.specs.Result.{IfOk}
 use Rattle.it_rational.specs.Rational.{Rational, whole, minus}
 use Rattle.it_rational.proofs.RationalLaws.{ring_ℚ}
@@ -14,25 +14,26 @@ use Rattle.it_run.specs.Readings.{weights, point}
 use Rattle.it_run.specs.Runs.{RunEndView}
 use Rattle.it_run.specs.Runs.RunEndView.{Weights, Point}
 use Rattle.it_run.specs.Solving.{RunsTo, StepFits}
-use Rattle.it_run.specs.Steps.{HoldsSome, Reaches}
-use Rattle.it_run.proofs.RunLemmas.{read, read_end}
+use Rattle.it_run.specs.Steps.{HoldsSome, ReachesBy}
+use Rattle.it_run.proofs.BudgetLemmas.{read_by}
+use Rattle.it_run.proofs.RunLemmas.{read}
 
 -- the run with what is read off its last table
-pub read_run : (m n : ℕ) (p : FeasibilityProblem Rational) (steps : ℕ) (t : Table Rational) (e : RunEndView (Table Rational) (Table Rational)) → Reaches m n steps 0 t e
-    → RunsTo m n p steps 0 t (read (IsDone ring_ℚ order_ℚ m n) (IsStuck ring_ℚ order_ℚ m n) (StepFits m n) (next ring_ℚ order_ℚ m n) (weights ring_ℚ order_ℚ m n) (point ring_ℚ order_ℚ m n p) e)
-read_run m n p steps t e r = read_end (IsDone ring_ℚ order_ℚ m n) (IsStuck ring_ℚ order_ℚ m n) (StepFits m n) (next ring_ℚ order_ℚ m n) (weights ring_ℚ order_ℚ m n) (point ring_ℚ order_ℚ m n p) steps 0 t e r
+pub read_run : (m n : ℕ) (p : FeasibilityProblem Rational) (budget : Option ℕ) (t : Table Rational) (e : RunEndView (Table Rational) (Table Rational)) → ReachesBy m n budget t e
+    → RunsTo m n p budget t (read (IsDone ring_ℚ order_ℚ m n) (IsStuck ring_ℚ order_ℚ m n) (StepFits m n) (next ring_ℚ order_ℚ m n) (weights ring_ℚ order_ℚ m n) (point ring_ℚ order_ℚ m n p) e)
+read_run m n p budget t e r = read_by (IsDone ring_ℚ order_ℚ m n) (IsStuck ring_ℚ order_ℚ m n) (StepFits m n) (next ring_ℚ order_ℚ m n) (weights ring_ℚ order_ℚ m n) (point ring_ℚ order_ℚ m n p) budget t e r
 
-module _ (old new : TableauView) (p : FeasibilityProblem Rational) (steps : ℕ) where
-  pub by_weights : (ws : List (ℕ × Rational)) → KeepsFrame old new → Reaches (height old) old.generators steps 0 (table old) (Weights (table new))
-      → ws ≡ weights ring_ℚ order_ℚ (height new) new.generators (table new) → RunsTo (height old) old.generators p steps 0 (table old) (Weights ws)
-  by_weights ws f r e = subst (λ (ws : List (ℕ × Rational)). RunsTo (height old) old.generators p steps 0 (table old) (Weights ws))
-      (sym (e ∙ ap₂ (λ m n. weights ring_ℚ order_ℚ m n (table new)) f.height f.generators)) (read_run (height old) old.generators p steps (table old) (Weights (table new)) r)
+module _ (old new : TableauView) (p : FeasibilityProblem Rational) (budget : Option ℕ) where
+  pub by_weights : (ws : List (ℕ × Rational)) → KeepsFrame old new → ReachesBy (height old) old.generators budget (table old) (Weights (table new))
+      → ws ≡ weights ring_ℚ order_ℚ (height new) new.generators (table new) → RunsTo (height old) old.generators p budget (table old) (Weights ws)
+  by_weights ws f r e = subst (λ (ws : List (ℕ × Rational)). RunsTo (height old) old.generators p budget (table old) (Weights ws))
+      (sym (e ∙ ap₂ (λ m n. weights ring_ℚ order_ℚ m n (table new)) f.height f.generators)) (read_run (height old) old.generators p budget (table old) (Weights (table new)) r)
 
-  pub by_point : (q : List Rational) → KeepsFrame old new → HasSigns old p → Reaches (height old) old.generators steps 0 (table old) (Point (table new))
-      → (HasSigns new p → q ≡ point ring_ℚ order_ℚ (height new) new.generators p (table new)) → RunsTo (height old) old.generators p steps 0 (table old) (Point q)
-  by_point q f s r e = subst (λ (q : List Rational). RunsTo (height old) old.generators p steps 0 (table old) (Point q))
+  pub by_point : (q : List Rational) → KeepsFrame old new → HasSigns old p → ReachesBy (height old) old.generators budget (table old) (Point (table new))
+      → (HasSigns new p → q ≡ point ring_ℚ order_ℚ (height new) new.generators p (table new)) → RunsTo (height old) old.generators p budget (table old) (Point q)
+  by_point q f s r e = subst (λ (q : List Rational). RunsTo (height old) old.generators p budget (table old) (Point q))
       (sym (e (λ k l. ap (λ (b : List Bool). cond (slice_index_or b k false) (minus (whole (pos 1))) (whole (pos 1))) f.negated ∙ s k (omega (arith, f.height, l)))
-      ∙ ap₂ (λ m n. point ring_ℚ order_ℚ m n p (table new)) f.height f.generators)) (read_run (height old) old.generators p steps (table old) (Point (table new)) r)
+      ∙ ap₂ (λ m n. point ring_ℚ order_ℚ m n p (table new)) f.height f.generators)) (read_run (height old) old.generators p budget (table old) (Point (table new)) r)
 
 -- a start has the invariants
 pub holds_start : (t : TableauView) → HasProblem t → HoldsSome t

@@ -8,3 +8,12 @@ pub mod RunSteps
 pub mod FillingLemmas
 pub mod AnswerLemmas
 pub mod RowValues
+pub mod RowsByBasis
+pub mod Cycle
+pub mod Pigeon
+pub mod StepsLeft
+pub mod BasisSets
+pub mod UnboundRuns
+pub mod BudgetLemmas
+pub mod Agreeing
+pub mod FirstLemmas

@@ -1,5 +1,5 @@
 -- What the answer of a run from a start says.
-use Rattle.std.specs.Prelude.{◌≡◌, ℕ, ◌<◌, false, cond, pos, List, slice_index_or}
+use Rattle.std.specs.Prelude.{◌≡◌, ℕ, ◌<◌, false, cond, pos, List, slice_index_or, Option}
 use Rattle.it_rational.specs.Rational.{Rational, whole, minus}
 use Rattle.it_rational.proofs.RationalLaws.{ring_ℚ}
 use Rattle.it_rational.proofs.Field.{order_ℚ}
@@ -35,6 +35,6 @@ pub record IsStartOf (p : FeasibilityProblem Rational) (t : TableauView) : Type 
 abbrev pub HasProblem : TableauView → Type 0
 HasProblem t = (p : FeasibilityProblem Rational) × IsStartOf p t
 
--- the answer tells the end of the run from the tableau, whichever problem it is the start of
-abbrev pub RunsFrom : TableauView → ℕ → Solved → Type 0
-RunsFrom t steps solved = (p : FeasibilityProblem Rational) → IsStartOf p t → RunsTo (height t) t.generators p steps 0 (table t) (solved_end solved)
+-- the answer tells the end of the run from the tableau with a budget or without one, whichever problem it is the start of
+abbrev pub RunsFrom : TableauView → Option ℕ → Solved → Type 0
+RunsFrom t budget solved = (p : FeasibilityProblem Rational) → IsStartOf p t → RunsTo (height t) t.generators p budget (table t) (solved_end solved)

@@ -5,3 +5,5 @@ pub mod Solving
 pub mod Steps
 pub mod Answers
 pub mod RowValues
+pub mod Meetings
+pub mod FirstEnds

@@ -1,5 +1,5 @@
 -- How a run of steps ends.
-use Rattle.std.specs.Prelude.{◌≡◌, ◌⊎◌, ℕ, zero, suc}
+use Rattle.std.specs.Prelude.{◌≡◌, ◌⊎◌, ℕ, zero, suc, min, Option, Some, None}
 
 -- by weights, by a point, at its budget after so many steps, or before the step of that number, whose numbers don't fit
 pub data RunEndView (W P : Type 0) : Type 0 where
@@ -8,6 +8,11 @@ pub data RunEndView (W P : Type 0) : Type 0 where
   Pivots : ℕ → RunEndView W P
   Width : ℕ → RunEndView W P
 
+-- the state after k steps from s
+abbrev pub after : {S : Type 0} → (S → S) → S → ℕ → S
+after next s zero = s
+after next s (suc k) = next (after next s k)
+
 module _ {S W P : Type 0} (IsDone IsStuck Fits : S → Type 0) (next : S → S) (weights : S → W) (point : S → P) where
   -- From the state s after k steps, with so many steps left, the run ends so. At each state the first of these that holds is
   -- the end: it is done; it is stuck; no step is left; the next step doesn't fit.
@@ -15,3 +20,34 @@ module _ {S W P : Type 0} (IsDone IsStuck Fits : S → Type 0) (next : S → S) 
   EndsAs zero k s e = (IsDone s × (e ≡ Weights (weights s))) ⊎ ((¬ (IsDone s) × IsStuck s × (e ≡ Point (point s))) ⊎ (¬ (IsDone s) × ¬ (IsStuck s) × (e ≡ Pivots k)))
   EndsAs (suc left) k s e = (IsDone s × (e ≡ Weights (weights s))) ⊎ ((¬ (IsDone s) × IsStuck s × (e ≡ Point (point s))) ⊎
       (¬ (IsDone s) × ¬ (IsStuck s) × ((¬ (Fits s) × (e ≡ Width (suc k))) ⊎ (Fits s × EndsAs left (suc k) (next s) e))))
+
+-- the number of a step as it is told: numbers past the greatest of 32 bits are told as that one
+abbrev pub told_number : ℕ → ℕ
+told_number k = min k 4294967295
+
+abbrev pub told : {W P : Type 0} → RunEndView W P → RunEndView W P
+told (Weights w) = Weights w
+told (Point q) = Point q
+told (Pivots k) = Pivots k
+told (Width k) = Width (told_number k)
+
+-- the run didn't end for want of steps
+abbrev pub IsWithinBudget : {W P : Type 0} → RunEndView W P → Type 0
+IsWithinBudget (Weights w) = Unit {0}
+IsWithinBudget (Point q) = Unit {0}
+IsWithinBudget (Pivots k) = ⊥
+IsWithinBudget (Width k) = Unit {0}
+
+module _ {S W P : Type 0} (IsDone IsStuck Fits : S → Type 0) (next : S → S) (weights : S → W) (point : S → P) where
+  -- without a budget a run from s ends as with any budget that it doesn't use up
+  pub record EndsUnbound (s : S) (e : RunEndView W P) : Type 0 where
+    pub budget : ℕ
+    pub end : RunEndView W P
+    pub runs : EndsAs IsDone IsStuck Fits next weights point budget zero s end
+    pub within : IsWithinBudget end
+    pub is_told : e ≡ told end
+
+  -- how a run from s ends with so many steps at most, or without a budget
+  abbrev pub EndsBy : Option ℕ → S → RunEndView W P → Type 0
+  EndsBy (Some budget) s e = EndsAs IsDone IsStuck Fits next weights point budget zero s e
+  EndsBy None s e = EndsUnbound s e

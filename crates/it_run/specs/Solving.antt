@@ -1,5 +1,5 @@
 -- The run over rational numbers, with the numbers that a step forms.
-use Rattle.std.specs.Prelude.{◌≡◌, ℕ, ◌<◌, true, List}
+use Rattle.std.specs.Prelude.{◌≡◌, ℕ, ◌<◌, true, List, Option}
 use Rattle.it_rational.specs.Rational.{Rational}
 use Rattle.it_rational.proofs.RationalLaws.{ring_ℚ}
 use Rattle.it_rational.proofs.Field.{order_ℚ}
@@ -8,7 +8,7 @@ use Rattle.it_tableau.specs.Tables.{Table, FeasibilityProblem, ratio}
 use Rattle.it_tableau.specs.Fits.{PivotFits}
 use Rattle.it_run.specs.Choice.{entering, leaving, is_candidate, next, IsDone, IsStuck}
 use Rattle.it_run.specs.Readings.{weights, point}
-use Rattle.it_run.specs.Runs.{RunEndView, EndsAs}
+use Rattle.it_run.specs.Runs.{RunEndView, EndsBy}
 
 -- the ratios of all rows with an entry above 0 at column c fit
 abbrev pub RatiosFit : ℕ → ℕ → Table Rational → ℕ → Type 0
@@ -19,7 +19,7 @@ pub record StepFits (m n : ℕ) (t : Table Rational) : Type 0 where
   pub ratios : RatiosFit m n t (entering ring_ℚ order_ℚ m n t)
   pub pivot : PivotFits m n t (leaving ring_ℚ order_ℚ m n t (entering ring_ℚ order_ℚ m n t)) (entering ring_ℚ order_ℚ m n t)
 
--- from table t after k steps, with so many steps left, the run ends so, with the weights or the point of its last table
-abbrev pub RunsTo : (m n : ℕ) → FeasibilityProblem Rational → ℕ → ℕ → Table Rational → RunEndView (List (ℕ × Rational)) (List Rational) → Type 0
-RunsTo m n p = EndsAs (IsDone ring_ℚ order_ℚ m n) (IsStuck ring_ℚ order_ℚ m n) (StepFits m n) (next ring_ℚ order_ℚ m n)
+-- from table t the run with a budget of steps or without one ends so, with the weights or the point of its last table
+abbrev pub RunsTo : (m n : ℕ) → FeasibilityProblem Rational → Option ℕ → Table Rational → RunEndView (List (ℕ × Rational)) (List Rational) → Type 0
+RunsTo m n p = EndsBy (IsDone ring_ℚ order_ℚ m n) (IsStuck ring_ℚ order_ℚ m n) (StepFits m n) (next ring_ℚ order_ℚ m n)
     (weights ring_ℚ order_ℚ m n) (point ring_ℚ order_ℚ m n p)

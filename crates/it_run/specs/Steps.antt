@@ -7,7 +7,7 @@ use Rattle.it_tableau.specs.Tables.{Table, FeasibilityProblem, ratio}
 use Rattle.it_tableau.specs.Invariants.{HasInvariants}
 use Rattle.it_tableau.specs.TableauViews.{TableauView, height, table, IsPositive, KeepsFrame}
 use Rattle.it_run.specs.Choice.{entering, is_candidate, leaving, leaving_of, next, IsDone, IsStuck}
-use Rattle.it_run.specs.Runs.{RunEndView, EndsAs}
+use Rattle.it_run.specs.Runs.{RunEndView, EndsAs, EndsBy}
 use Rattle.it_run.specs.Runs.RunEndView.{Weights, Point, Pivots, Width}
 use Rattle.it_run.specs.Solving.{StepFits}
 use Rattle.it_run.specs.declared.run.RunEnd.{RunEnd}
@@ -58,6 +58,10 @@ Reaches m n = EndsAs (IsDone ring_ℚ order_ℚ m n) (IsStuck ring_ℚ order_ℚ
 
 abbrev pub ReachesFrom : TableauView → ℕ → ℕ → RunEndView (Table Rational) (Table Rational) → Type 0
 ReachesFrom t left k = Reaches (height t) t.generators left k (table t)
+
+-- the same with a budget or without one
+abbrev pub ReachesBy : ℕ → ℕ → Option ℕ → Table Rational → RunEndView (Table Rational) (Table Rational) → Type 0
+ReachesBy m n = EndsBy (IsDone ring_ℚ order_ℚ m n) (IsStuck ring_ℚ order_ℚ m n) (StepFits m n) (next ring_ℚ order_ℚ m n) (λ t. t) (λ t. t)
 
 abbrev pub run_end_view : RunEnd → Table Rational → RunEndView (Table Rational) (Table Rational)
 run_end_view run_ends.Weights t = Weights t

@@ -17,18 +17,19 @@ pub enum Solved {
     Point(Vec<Fraction>),
     /// The budget's steps were made, and the run isn't at its end.
     Pivots(u32),
-    /// A number of this step is more than 2^127 - 1 in absolute value. Steps are counted from 1, the start is 0.
+    /// A number of this step is more than 2^127 - 1 in absolute value. Steps are counted from 1, the start is 0, and a step past
+    /// number 2^32 - 1 is told under that number.
     Width(u32),
 }
 
-/// The run from a start, with a budget of so many steps, and what is read off its last table.
-pub fn exact_run(alloc: Global, start: Tableau, steps: u32) -> Result<Solved, AllocError>
+/// The run from a start, with a budget of steps or without one, and what is read off its last table.
+pub fn exact_run(alloc: Global, start: Tableau, budget: Option<u32>) -> Result<Solved, AllocError>
     requires usable { start.spent ≡ false }
     requires start { HasProblem start }
-    ensures { IfOk result (λ solved. RunsFrom start steps solved) }
+    ensures { IfOk result (λ solved. RunsFrom start budget solved) }
 {
     let mut tableau = start;
-    match run(&mut tableau, steps)? {
+    match run(&mut tableau, budget)? {
         RunEnd::Weights => Ok(Solved::Weights(weights(alloc, &tableau)?)),
         RunEnd::Point => Ok(Solved::Point(point(alloc, &tableau)?)),
         RunEnd::Pivots(steps) => Ok(Solved::Pivots(steps)),

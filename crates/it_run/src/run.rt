@@ -1,11 +1,12 @@
 //! The run.
-ghost use Rattle.std.specs.Prelude.{◌≡◌, ◌<◌, false, IfErr, IfOk};
+ghost use Rattle.std.specs.Prelude.{◌≡◌, ◌+◌, ◌<◌, false, IfErr, IfOk, None};
 ghost use Rattle.std.specs.Bool.{OnFalse, OnTrue};
 ghost use Rattle.it_rational.proofs.Field.{order_ℚ};
 ghost use Rattle.it_rational.proofs.RationalLaws.{ring_ℚ};
 ghost use Rattle.it_tableau.specs.TableauViews.{height, table};
 ghost use Rattle.it_run.specs.Choice.{IsDone};
-ghost use Rattle.it_run.specs.Steps.{run_end_view, HoldsSome, IsReady, IsWide, LeavesTableau, Reaches, IsStepOrStuck};
+ghost use Rattle.it_run.specs.Runs.{told_number};
+ghost use Rattle.it_run.specs.Steps.{run_end_view, HoldsSome, IsReady, IsWide, LeavesTableau, Reaches, ReachesBy, IsStepOrStuck};
 
 use crate::choice::{entering, leaving};
 use it_space::RowFault;
@@ -56,7 +57,7 @@ fn is_done(tableau: &Tableau) -> bool
 }
 
 /// Makes the run with a budget of steps.
-pub fn run(tableau: &mut Tableau, budget: u32) -> Result<RunEnd, AllocError>
+fn run_within(tableau: &mut Tableau, budget: u32) -> Result<RunEnd, AllocError>
     requires usable { tableau.old.spent ≡ false }
     requires holds { HoldsSome tableau.old }
     ensures end { IfOk result (λ ending. Reaches (height tableau.old) tableau.old.generators budget 0 (table tableau.old) (run_end_view ending (table tableau.new))) }
@@ -79,5 +80,51 @@ pub fn run(tableau: &mut Tableau, budget: u32) -> Result<RunEnd, AllocError>
     match entering(tableau) {
         Some(_) => Ok(RunEnd::Pivots(budget)),
         None => Ok(RunEnd::Point),
+    }
+}
+
+/// The number of the step after, or the greatest of 32 bits again.
+fn next_number(number: u32) -> u32
+    ensures { result ≡ told_number (number + 1) }
+{
+    if number < u32::MAX {
+        number + 1
+    } else {
+        u32::MAX
+    }
+}
+
+/// Makes the run without a budget. It ends since no set of basic columns comes back (Bland 1977).
+fn run_on(tableau: &mut Tableau) -> Result<RunEnd, AllocError>
+    requires usable { tableau.old.spent ≡ false }
+    requires holds { HoldsSome tableau.old }
+    ensures end { IfOk result (λ ending. ReachesBy (height tableau.old) tableau.old.generators None (table tableau.old) (run_end_view ending (table tableau.new))) }
+    ensures kept { IfOk result (λ ending. LeavesTableau ending tableau.old tableau.new) }
+{
+    let mut number: u32 = 1;
+    'steps: loop {
+        if is_done(tableau) {
+            return Ok(RunEnd::Weights);
+        }
+        match step(tableau) {
+            Ok(true) => {}
+            Ok(false) => return Ok(RunEnd::Point),
+            Err(RowFault::Wide) => return Ok(RunEnd::Width(number)),
+            Err(RowFault::Memory) => return Err(AllocError),
+        }
+        number = next_number(number);
+    }
+}
+
+/// Makes the run with a budget of steps, or without one.
+pub fn run(tableau: &mut Tableau, budget: Option<u32>) -> Result<RunEnd, AllocError>
+    requires usable { tableau.old.spent ≡ false }
+    requires holds { HoldsSome tableau.old }
+    ensures end { IfOk result (λ ending. ReachesBy (height tableau.old) tableau.old.generators budget (table tableau.old) (run_end_view ending (table tableau.new))) }
+    ensures kept { IfOk result (λ ending. LeavesTableau ending tableau.old tableau.new) }
+{
+    match budget {
+        Some(steps) => run_within(tableau, steps),
+        None => run_on(tableau),
     }
 }

@@ -3,7 +3,7 @@ use Rattle.it_rational.specs.Rational.{Rational}
 use Rattle.it_tableau.specs.Tables.{Table}
 use Rattle.it_run.specs.Runs.{RunEndView}
 use Rattle.it_run.specs.Steps.{IsKept, ReachesFrom}
-use Rattle.it_run.proofs.run.run.Given as goal
+use Rattle.it_run.proofs.run.run_within.Given as goal
 
 -- what the rest of the run does from here it does from the start
 abbrev pub invariant-loop-k : goal.invariant-loop-k

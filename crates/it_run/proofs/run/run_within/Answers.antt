@@ -3,7 +3,7 @@ use Rattle.it_tableau.specs.TableauViews.{height, table}
 use Rattle.it_run.specs.Runs.RunEndView.{Weights, Point, Pivots, Width}
 use Rattle.it_run.specs.Steps.{IsStep, ReachesFrom, IsStepOrStuck}
 use Rattle.it_run.proofs.RunSteps.{Found, stuck, moves, ready, run_done, run_stuck, run_wide, run_budget, holds_next, step_on}
-use Rattle.it_run.proofs.run.run.Goals as goal
+use Rattle.it_run.proofs.run.run_within.Goals as goal
 
 pub returns-then-is_done-clause-end : goal.returns-then-is_done-clause-end
 returns-then-is_done-clause-end c = let t = c.loop-k.tableau in

@@ -1,0 +1,367 @@
+-- Bland's rule meets no list of basic columns twice.
+use Rattle.std.proofs.Common.{◌≡◌, ◌≢◌, ℕ, zero, suc, ◌+◌, ◌-◌, ◌<◌, ◌≤◌, cond, [], ◌∷◌, refl, sym, ap, ap₂, subst, ◌∙◌, ◌⊎◌, inl, inr, arith}
+use Rattle.std.proofs.lemmas.Bool.{cases_eq, cases_lt, lt-ltb, cases_Bool}
+use Rattle.it_number.proofs.Ring.{ring, mul-null, v, plus, times, minus, nil, one}
+use Rattle.it_number.specs.Rings.{Ring}
+use Rattle.it_rational.proofs.Ordered.{null-least, not_both, below-neg, neg-above, above-least, above-apart, below-apart, add-above, mul-above, inv-above, inv-least, above-from}
+use Rattle.it_rational.specs.OrderedFields.{Order, IsAtLeastZero, IsBelowZero, IsAboveZero}
+use Rattle.it_tableau.specs.Sums.{sum_to}
+use Rattle.it_tableau.specs.Tables.{Table, FeasibilityProblem, difference, ratio}
+use Rattle.it_tableau.specs.Invariants.{cost_of, HasInvariants}
+use Rattle.it_run.specs.Choice.{entering, leaving, IsStuck}
+use Rattle.it_run.specs.Meetings.{table_after}
+use Rattle.it_tableau.proofs.Sums.{sum_same, sum_add, sum_times_left, some_below}
+use Rattle.it_tableau.proofs.BasicColumns.{distinct}
+use Rattle.it_tableau.proofs.Kept.{pivot_row, other_row, new_basis, old_basis}
+use Rattle.it_run.proofs.BlandRule.{Enters, Leaves, entering_is, some_column, leaving_is, tied}
+use Rattle.it_run.proofs.RunLemmas.{next_holds}
+use Rattle.it_run.proofs.RowsByBasis.{basic_cost, row_by_basis, same_right}
+
+module _ {A : Type 0} (R : Ring A) (O : Order R) (m n : ℕ) where
+  module _ (p : FeasibilityProblem A) (t : Table A) (h : HasInvariants R O m n p t) (N : ℕ) (moving : (k : ℕ) → k < N → ¬ (IsStuck R O m n (table_after R O m n t k))) where
+    abbrev col : ℕ → ℕ
+    col k = entering R O m n (table_after R O m n t k)
+
+    abbrev row : ℕ → ℕ
+    row k = leaving R O m n (table_after R O m n t k) (col k)
+
+    abbrev base : ℕ → ℕ → ℕ
+    base k i = (table_after R O m n t k).basis i
+
+    abbrev right : ℕ → ℕ → A
+    right k i = (table_after R O m n t k).entry i (n + m)
+
+    holds : (k : ℕ) → k ≤ N → HasInvariants R O m n p (table_after R O m n t k)
+    holds zero l = h
+    holds (suc k) l = next_holds R O m n p (table_after R O m n t k) (holds k (omega arith)) (moving k (omega arith))
+
+    enters : (k : ℕ) → k < N → Enters R O m n (table_after R O m n t k) (col k)
+    enters k l = entering_is R O m n (table_after R O m n t k) (some_column R O m n (table_after R O m n t k) (moving k l))
+
+    leaves : (k : ℕ) → k < N → Leaves R O m n (table_after R O m n t k) (col k) (row k)
+    leaves k l = leaving_is R O m n p (table_after R O m n t k) (col k) (holds k (omega arith)) (enters k l).below
+
+    moved : (k : ℕ) → base (suc k) (row k) ≡ col k
+    moved k = new_basis R O m n (table_after R O m n t k) (row k) (col k)
+
+    unmoved : (k i : ℕ) → i ≢ row k → base (suc k) i ≡ base k i
+    unmoved k i d = old_basis R O m n (table_after R O m n t k) (row k) (col k) i d
+
+    -- the entering column isn't basic
+    fresh : (k i : ℕ) → k < N → i < m → base k i ≢ col k
+    fresh k i l hi e = by_cases (holds k (omega arith)).own (cases_lt (base k i) n)
+      where
+        by_cases : ((i : ℕ) → i < m → (base k i < n) ⊎ (base k i ≡ n + i)) → (base k i < n) ⊎ (n ≤ base k i) → ⊥
+        by_cases _ (inl q) = below-apart R O ((table_after R O m n t k).entry m (col k)) (enters k l).below
+            (ap ((table_after R O m n t k).entry m) (sym e) ∙ basic_cost R O m n p (table_after R O m n t k) (holds k (omega arith)) i hi ∙ ap (λ b. cond b R.null (R.neg R.unit)) (lt-ltb (base k i) n q))
+        by_cases _ (inr q) = let c : col k < n = (enters k l).column in absurd (omega arith)
+
+    -- ---- the right sides
+    gain : ℕ → A
+    gain k = R.mul (R.neg ((table_after R O m n t k).entry m (col k))) (O.inv ((table_after R O m n t k).entry (row k) (col k)))
+
+    gained : (k : ℕ) → k < N → right (suc k) m ≡ R.add (right k m) (R.mul (right k (row k)) (gain k))
+    unfolding gain
+    gained k l = other_row R O m n (table_after R O m n t k) (row k) (col k) m (n + m) (λ e. let r : row k < m = (leaves k l).row in omega arith)
+        ∙ ring R (right k m ∷ right k (row k) ∷ (table_after R O m n t k).entry m (col k) ∷ O.inv ((table_after R O m n t k).entry (row k) (col k)) ∷ [])
+        (plus (v 0) (minus (times (v 1) (times (v 2) (v 3))))) (plus (v 0) (times (v 1) (times (minus (v 2)) (v 3)))) refl
+
+    inv-positive : (a : A) → IsAboveZero R O a → IsAboveZero R O (O.inv a)
+    inv-positive a k = above-from R O (O.inv a) (inv-least R O a k)
+        (λ e. O.apart (sym (inv-above R O a k) ∙ ap (R.mul a) e ∙ mul-null R a))
+
+    gain-above : (k : ℕ) → k < N → IsAboveZero R O (gain k)
+    unfolding gain
+    gain-above k l = mul-above R O (R.neg ((table_after R O m n t k).entry m (col k))) (O.inv ((table_after R O m n t k).entry (row k) (col k)))
+        (neg-above R O ((table_after R O m n t k).entry m (col k)) (enters k l).below) (inv-positive ((table_after R O m n t k).entry (row k) (col k)) (leaves k l).above)
+
+    gain-least : (k : ℕ) → k < N → IsAtLeastZero R O (R.mul (right k (row k)) (gain k))
+    gain-least k l = O.mul-least (right k (row k)) (gain k) ((holds k (omega arith)).rights (row k) (leaves k l).row) (above-least R O (gain k) (gain-above k l))
+
+    -- the cost row's right side never falls
+    rises : (k d : ℕ) → k + d ≤ N → IsAtLeastZero R O (difference R (right (k + d) m) (right k m))
+    rises k zero l = subst (λ (x : ℕ). IsAtLeastZero R O (difference R (right x m) (right k m))) here (subst (IsAtLeastZero R O) (sym (R.add-neg (right k m))) (null-least R O))
+      where
+        here : k ≡ k + zero
+        here = omega arith
+    rises k (suc d) l = subst (λ (x : ℕ). IsAtLeastZero R O (difference R (right x m) (right k m))) here
+        (subst (IsAtLeastZero R O) (ring R (right (k + d) m ∷ right k m ∷ R.mul (right (k + d) (row (k + d))) (gain (k + d)) ∷ []) (plus (plus (v 0) (minus (v 1))) (v 2)) (plus (plus (v 0) (v 2)) (minus (v 1))) refl
+        ∙ ap (λ x. difference R x (right k m)) (sym (gained (k + d) (omega arith))))
+        (O.add-least (difference R (right (k + d) m) (right k m)) (R.mul (right (k + d) (row (k + d))) (gain (k + d))) (rises k d (omega arith)) (gain-least (k + d) (omega arith))))
+      where
+        here : suc (k + d) ≡ k + suc d
+        here = omega arith
+
+    rises_to : (j k : ℕ) → j ≤ k → k ≤ N → IsAtLeastZero R O (difference R (right k m) (right j m))
+    rises_to j k q l = subst (λ (x : ℕ). IsAtLeastZero R O (difference R (right x m) (right j m))) here (rises j (k - j) (omega arith))
+      where
+        here : j + (k - j) ≡ k
+        here = omega arith
+
+    module _ (a b : ℕ) (first : a < b) (last : b ≤ N) (again : (i : ℕ) → i < m → base a i ≡ base b i) where
+      same_cost : (k : ℕ) → a ≤ k → k ≤ b → right k m ≡ right a m
+      same_cost k f g = tied R O m n (right k m) (right a m) (rises_to a k f (omega arith))
+          (subst (λ (x : A). IsAtLeastZero R O (difference R x (right k m))) (sym (same_right R O m n p (table_after R O m n t a) (table_after R O m n t b) (holds a (omega arith)) (holds b last) again)) (rises_to k b g last))
+
+      -- the leaving row's right side is 0
+      right_null : (k : ℕ) → a ≤ k → k < b → right k (row k) ≡ R.null
+      right_null k f g = by_cases (cases_Bool (O.is_least (R.neg (right k (row k)))))
+        where
+          none : R.mul (right k (row k)) (gain k) ≡ R.null
+          none = ring R (right k m ∷ R.mul (right k (row k)) (gain k) ∷ []) (v 1) (plus (plus (v 0) (v 1)) (minus (v 0))) refl
+              ∙ ap (λ x. R.add x (R.neg (right k m))) (sym (gained k (omega arith)) ∙ same_cost (suc k) (omega arith) (omega arith) ∙ sym (same_cost k f (omega arith)))
+              ∙ R.add-neg (right k m)
+
+          by_cases : (IsAtLeastZero R O (R.neg (right k (row k)))) ⊎ (IsAboveZero R O (right k (row k))) → right k (row k) ≡ R.null
+          by_cases (inl q) = O.strict (right k (row k)) ((holds k (omega arith)).rights (row k) (leaves k (omega arith)).row) q
+          by_cases (inr q) = absurd (above-apart R O (R.mul (right k (row k)) (gain k)) (mul-above R O (right k (row k)) (gain k) q (gain-above k (omega arith))) none)
+
+      -- no right side changes
+      right_step : (k i : ℕ) → a ≤ k → k < b → right (suc k) i ≡ right k i
+      right_step k i f g = by_cases (cases_eq i (row k))
+        where
+          by_cases : (i ≡ row k) ⊎ (i ≡ row k → ⊥) → right (suc k) i ≡ right k i
+          by_cases (inl e) = subst (λ (x : ℕ). right (suc k) x ≡ right k x) (sym e)
+              (pivot_row R O m n (table_after R O m n t k) (row k) (col k) (n + m) ∙ ap (λ x. R.mul x (O.inv ((table_after R O m n t k).entry (row k) (col k)))) (right_null k f g)
+              ∙ R.mul_comm R.null (O.inv ((table_after R O m n t k).entry (row k) (col k))) ∙ mul-null R (O.inv ((table_after R O m n t k).entry (row k) (col k))) ∙ sym (right_null k f g))
+          by_cases (inr d) = other_row R O m n (table_after R O m n t k) (row k) (col k) i (n + m) d
+              ∙ ap (λ x. difference R (right k i) (R.mul x (R.mul ((table_after R O m n t k).entry i (col k)) (O.inv ((table_after R O m n t k).entry (row k) (col k)))))) (right_null k f g)
+              ∙ ring R (right k i ∷ R.mul ((table_after R O m n t k).entry i (col k)) (O.inv ((table_after R O m n t k).entry (row k) (col k))) ∷ []) (plus (v 0) (minus (times nil (v 1)))) (v 0) refl
+
+      right_same : (d i : ℕ) → a + d ≤ b → right (a + d) i ≡ right a i
+      right_same zero i l = ap (λ x. right x i) here
+        where
+          here : a + zero ≡ a
+          here = omega arith
+      right_same (suc d) i l = ap (λ x. right x i) here ∙ right_step (a + d) i (omega arith) (omega arith) ∙ right_same d i (omega arith)
+        where
+          here : a + suc d ≡ suc (a + d)
+          here = omega arith
+
+      right_at : (j k i : ℕ) → a ≤ j → j ≤ b → a ≤ k → k ≤ b → right j i ≡ right k i
+      right_at j k i f g x y = ap (λ z. right z i) (sym here) ∙ right_same (j - a) i (omega arith) ∙ sym (right_same (k - a) i (omega arith)) ∙ ap (λ z. right z i) there
+        where
+          here : a + (j - a) ≡ j
+          here = omega arith
+
+          there : a + (k - a) ≡ k
+          there = omega arith
+
+      -- ---- the basic column of one row through the steps
+      -- row i leaves in one of the steps, for the first time, or it keeps its column
+      abbrev Moves : ℕ → ℕ → ℕ → Type 0
+      Moves i from to = (k : ℕ) × (from ≤ k) × (k < to) × (row k ≡ i) × (base k i ≡ base from i)
+
+      abbrev Keeps : ℕ → ℕ → ℕ → Type 0
+      Keeps i from to = (k : ℕ) → from ≤ k → k ≤ to → base k i ≡ base from i
+
+      first_move : (i from d : ℕ) → (Moves i from (from + d)) ⊎ (Keeps i from (from + d))
+      first_move i from zero = inr (λ k f g. let e : k ≡ from = omega arith in ap (λ x. base x i) e)
+      first_move i from (suc d) = by_cases (first_move i from d)
+        where
+          by_cases : (Moves i from (from + d)) ⊎ (Keeps i from (from + d)) → (Moves i from (from + suc d)) ⊎ (Keeps i from (from + suc d))
+          by_cases (inl s) = inl (s.0, s.1, omega (arith, s.2), s.3, s.4)
+          by_cases (inr s) = split (cases_eq (row (from + d)) i)
+            where
+              split : (row (from + d) ≡ i) ⊎ (row (from + d) ≡ i → ⊥) → (Moves i from (from + suc d)) ⊎ (Keeps i from (from + suc d))
+              split (inl e) = inl (from + d, omega arith, omega arith, e, s (from + d) (omega arith) (omega arith))
+              split (inr q) = inr (λ k f g. end k f g (cases_eq k (from + suc d)))
+                where
+                  end : (k : ℕ) → from ≤ k → k ≤ from + suc d → (k ≡ from + suc d) ⊎ (k ≡ from + suc d → ⊥) → base k i ≡ base from i
+                  end k f g (inr z) = s k f (omega arith)
+                  end k f g (inl z) = let y : k ≡ suc (from + d) = omega arith in
+                      ap (λ x. base x i) y ∙ unmoved (from + d) i (λ e. q (sym e)) ∙ s (from + d) (omega arith) (omega arith)
+
+      moves_between : (i from to : ℕ) → from ≤ to → (Moves i from to) ⊎ (Keeps i from to)
+      moves_between i from to l = subst (λ (x : ℕ). (Moves i from x) ⊎ (Keeps i from x)) here (first_move i from (to - from))
+        where
+          here : from + (to - from) ≡ to
+          here = omega arith
+
+      -- a column of a row that moves leaves in the cycle
+      abbrev Goes : ℕ → Type 0
+      Goes x = (k : ℕ) × (a ≤ k) × (k < b) × (base k (row k) ≡ x)
+
+      goes_or_stays : (i k : ℕ) → i < m → a ≤ k → k ≤ b → ((Goes (base k i)) × (right k i ≡ R.null)) ⊎ ((j : ℕ) → a ≤ j → j ≤ b → base j i ≡ base k i)
+      goes_or_stays i k hi f g = by_cases (moves_between i k b g) (moves_between i a k f)
+        where
+          gone : (j : ℕ) → a ≤ j → j < b → row j ≡ i → base j i ≡ base k i → (Goes (base k i)) × (right k i ≡ R.null)
+          gone j x y e q = ((j, x, y, ap (base j) e ∙ q), right_at k j i f g x (omega arith) ∙ ap (right j) (sym e) ∙ right_null j x y)
+
+          by_cases : (Moves i k b) ⊎ (Keeps i k b) → (Moves i a k) ⊎ (Keeps i a k) → ((Goes (base k i)) × (right k i ≡ R.null)) ⊎ ((j : ℕ) → a ≤ j → j ≤ b → base j i ≡ base k i)
+          by_cases (inl s) _ = inl (gone s.0 (omega (arith, s.1)) s.2 s.3 s.4)
+          by_cases (inr s) (inl u) = inl (gone u.0 u.1 (omega (arith, u.2)) u.3 (u.4 ∙ again i hi ∙ s b g (omega arith)))
+          by_cases (inr s) (inr u) = inr (λ j x y. split j x y (cases_lt j k))
+            where
+              split : (j : ℕ) → a ≤ j → j ≤ b → (j < k) ⊎ (k ≤ j) → base j i ≡ base k i
+              split j x y (inl z) = u j x (omega arith) ∙ sym (u k f (omega arith))
+              split j x y (inr z) = s j z y
+
+      -- the greatest column that leaves
+      greatest : (d : ℕ) → a + suc d ≤ b → (k : ℕ) × (a ≤ k) × (k < a + suc d) × ((j : ℕ) → a ≤ j → j < a + suc d → base j (row j) ≤ base k (row k))
+      greatest zero l = (a, omega arith, omega arith, λ j f g. let e : j ≡ a = omega arith in subst (λ (x : ℕ). base x (row x) ≤ base a (row a)) (sym e) (omega arith))
+      greatest (suc d) l = by_cases (greatest d (omega arith))
+        where
+          to : ℕ
+          to = a + suc d
+
+          by_cases : ((k : ℕ) × (a ≤ k) × (k < a + suc d) × ((j : ℕ) → a ≤ j → j < a + suc d → base j (row j) ≤ base k (row k)))
+              → (k : ℕ) × (a ≤ k) × (k < a + suc (suc d)) × ((j : ℕ) → a ≤ j → j < a + suc (suc d) → base j (row j) ≤ base k (row k))
+          by_cases s = split (cases_lt (base s.0 (row s.0)) (base (a + suc d) (row (a + suc d))))
+            where
+              split : (base s.0 (row s.0) < base (a + suc d) (row (a + suc d))) ⊎ (base (a + suc d) (row (a + suc d)) ≤ base s.0 (row s.0))
+                  → (k : ℕ) × (a ≤ k) × (k < a + suc (suc d)) × ((j : ℕ) → a ≤ j → j < a + suc (suc d) → base j (row j) ≤ base k (row k))
+              split (inl q) = (a + suc d, omega arith, omega arith, λ j f g. end j f g (cases_eq j (a + suc d)))
+                where
+                  end : (j : ℕ) → a ≤ j → j < a + suc (suc d) → (j ≡ a + suc d) ⊎ (j ≡ a + suc d → ⊥) → base j (row j) ≤ base (a + suc d) (row (a + suc d))
+                  end j f g (inl e) = subst (λ (x : ℕ). base x (row x) ≤ base (a + suc d) (row (a + suc d))) (sym e) (omega arith)
+                  end j f g (inr e) = let z : base j (row j) ≤ base s.0 (row s.0) = s.3 j f (omega arith) in omega arith
+              split (inr q) = (s.0, s.1, omega (arith, s.2), λ j f g. end j f g (cases_eq j (a + suc d)))
+                where
+                  end : (j : ℕ) → a ≤ j → j < a + suc (suc d) → (j ≡ a + suc d) ⊎ (j ≡ a + suc d → ⊥) → base j (row j) ≤ base s.0 (row s.0)
+                  end j f g (inl e) = subst (λ (x : ℕ). base x (row x) ≤ base s.0 (row s.0)) (sym e) q
+                  end j f g (inr e) = s.3 j f (omega arith)
+
+      -- a row that comes to a column has it enter
+      arrives : (i x from d : ℕ) → base from i ≢ x → base (from + d) i ≡ x → (k : ℕ) × (from ≤ k) × (k < from + d) × (col k ≡ x)
+      arrives i x from zero n e = absurd (n (ap (λ y. base y i) here ∙ e))
+        where
+          here : from ≡ from + zero
+          here = omega arith
+      arrives i x from (suc d) n e = by_cases (cases_eq (base (from + d) i) x) (cases_eq i (row (from + d))) (λ q. arrives i x from d n q)
+        where
+          here : suc (from + d) ≡ from + suc d
+          here = omega arith
+
+          by_cases : (base (from + d) i ≡ x) ⊎ (base (from + d) i ≡ x → ⊥) → (i ≡ row (from + d)) ⊎ (i ≡ row (from + d) → ⊥) → (base (from + d) i ≡ x → (k : ℕ) × (from ≤ k) × (k < from + d) × (col k ≡ x)) → (k : ℕ) × (from ≤ k) × (k < from + suc d) × (col k ≡ x)
+          by_cases (inl q) _ ih = let s = ih q in (s.0, s.1, omega (arith, s.2), s.3)
+          by_cases (inr q) (inl y) ih = (from + d, omega arith, omega arith, sym (moved (from + d)) ∙ ap (base (suc (from + d))) (sym y) ∙ ap (λ z. base z i) here ∙ e)
+          by_cases (inr q) (inr y) ih = absurd (q (sym (unmoved (from + d) i y) ∙ ap (λ z. base z i) here ∙ e))
+
+      arrives_to : (i x from to : ℕ) → from ≤ to → base from i ≢ x → base to i ≡ x → (k : ℕ) × (from ≤ k) × (k < to) × (col k ≡ x)
+      arrives_to i x from to l n e =
+          let s = arrives i x from (to - from) n (ap (λ y. base y i) here ∙ e) in (s.0, s.1, omega (arith, s.2), s.3)
+        where
+          here : from + (to - from) ≡ to
+          here = omega arith
+
+      -- ---- the contradiction: P is the step at which the greatest column leaves
+      module _ (P : ℕ) (fP : a ≤ P) (gP : P < b) (most : (j : ℕ) → a ≤ j → j < b → base j (row j) ≤ base P (row P)) where
+        abbrev top : ℕ
+        top = base P (row P)
+
+        abbrev rP : row P < m
+        rP = (leaves P (omega arith)).row
+
+        goes_least : (x : ℕ) → Goes x → x ≤ top
+        goes_least x g = subst (λ (y : ℕ). y ≤ top) g.3 (most g.0 g.1 g.2)
+
+        -- the column that enters at P is less
+        entering_less : col P < top
+        entering_less = by_cases (goes_or_stays (row P) (suc P) rP (omega arith) (omega arith))
+          where
+            other : top ≢ col P
+            other = fresh P (row P) (omega arith) rP
+
+            by_cases : ((Goes (base (suc P) (row P))) × (right (suc P) (row P) ≡ R.null)) ⊎ ((j : ℕ) → a ≤ j → j ≤ b → base j (row P) ≡ base (suc P) (row P)) → col P < top
+            by_cases (inl g) = let l : base (suc P) (row P) ≤ top = goes_least (base (suc P) (row P)) g.0 in let e : base (suc P) (row P) ≡ col P = moved P in between l e
+              where
+                between : base (suc P) (row P) ≤ top → base (suc P) (row P) ≡ col P → col P < top
+                between l e = omega (arith, subst (λ (y : ℕ). y ≤ top) e l, other)
+            by_cases (inr u) = absurd (other (u P fP (omega arith) ∙ moved P))
+
+        -- the greatest column enters too
+        top_enters : (k : ℕ) × (a ≤ k) × (k < b) × (col k ≡ top)
+        top_enters = by_cases (cases_eq (base a (row P)) top)
+          where
+            by_cases : (base a (row P) ≡ top) ⊎ (base a (row P) ≡ top → ⊥) → (k : ℕ) × (a ≤ k) × (k < b) × (col k ≡ top)
+            by_cases (inl e) = let s = arrives_to (row P) top (suc P) b (omega arith) (λ q. fresh P (row P) (omega arith) rP (sym q ∙ moved P)) (sym (again (row P) rP) ∙ e) in
+                (s.0, omega (arith, s.1), s.2, s.3)
+            by_cases (inr d) = let s = arrives_to (row P) top a P fP d refl in (s.0, s.1, omega (arith, s.2), s.3)
+
+        module _ (Q : ℕ) (fQ : a ≤ Q) (gQ : Q < b) (eQ : col Q ≡ top) where
+          abbrev cost : ℕ → ℕ → A
+          cost k j = (table_after R O m n t k).entry m j
+
+          abbrev at_entering : ℕ → A
+          at_entering i = (table_after R O m n t P).entry i (col P)
+
+          top_column : top < n
+          top_column = subst (λ (x : ℕ). x < n) eQ (enters Q (omega arith)).column
+
+          top_below : IsBelowZero R O (cost Q top)
+          top_below = subst (λ (x : ℕ). IsBelowZero R O (cost Q x)) eQ (enters Q (omega arith)).below
+
+          lesser : (x : ℕ) → x < top → IsAtLeastZero R O (cost Q x)
+          lesser x l = (enters Q (omega arith)).first x (subst (λ (y : ℕ). x < y) (sym eQ) l)
+
+          abbrev term : ℕ → A
+          term i = R.mul (difference R (cost Q (base P i)) (cost_of R O m n (base P i))) (at_entering i)
+
+          sum_neg : (f : ℕ → A) → sum_to R m (λ i. R.neg (f i)) ≡ R.neg (sum_to R m f)
+          sum_neg f = sum_same R m (λ i. R.neg (f i)) (λ i. R.mul (R.neg R.unit) (f i)) (λ i _. ring R (f i ∷ []) (minus (v 0)) (times (minus one) (v 0)) refl)
+              ∙ sum_times_left R m f (R.neg R.unit) ∙ ring R (sum_to R m f ∷ []) (times (minus one) (v 0)) (minus (v 0)) refl
+
+          sum_is : sum_to R m term ≡ R.add (cost Q (col P)) (R.neg (cost P (col P)))
+          sum_is =
+              sum_same R m term (λ i. R.add (R.mul (cost Q (base P i)) (at_entering i)) (R.neg (R.mul (cost_of R O m n (base P i)) (at_entering i))))
+              (λ i _. ring R (cost Q (base P i) ∷ cost_of R O m n (base P i) ∷ at_entering i ∷ []) (times (plus (v 0) (minus (v 1))) (v 2)) (plus (times (v 0) (v 2)) (minus (times (v 1) (v 2)))) refl)
+              ∙ sum_add R m (λ i. R.mul (cost Q (base P i)) (at_entering i)) (λ i. R.neg (R.mul (cost_of R O m n (base P i)) (at_entering i)))
+              ∙ ap₂ R.add (sym (row_by_basis R O m n p (table_after R O m n t P) (table_after R O m n t Q) (holds P (omega arith)) (holds Q (omega arith)) m (col P) (omega arith)))
+              (sum_neg (λ i. R.mul (cost_of R O m n (base P i)) (at_entering i)) ∙ ap R.neg (sym ((holds P (omega arith)).costs (col P))))
+
+          sum_above : IsAboveZero R O (sum_to R m term)
+          sum_above = subst (IsAboveZero R O) (sym sum_is) (add-above R O (cost Q (col P)) (R.neg (cost P (col P))) (lesser (col P) entering_less)
+              (neg-above R O (cost P (col P)) (enters P (omega arith)).below))
+
+          no_term : (i : ℕ) → i < m → IsAboveZero R O (term i) → ⊥
+          no_term i hi g = by_cases (goes_or_stays i P hi fP (omega arith))
+            where
+              none : (x y e : A) → x ≡ y → R.mul (difference R x y) e ≡ R.null
+              none x y e q = ap (λ z. R.mul (difference R z y) e) q ∙ ring R (y ∷ e ∷ []) (times (plus (v 0) (minus (v 0))) (v 1)) nil refl
+
+              -- the term where the cost at P is 0
+              plain : base P i ≤ top → term i ≡ R.mul (cost Q (base P i)) (at_entering i)
+              plain l = ap (λ d. R.mul (difference R (cost Q (base P i)) (cond d R.null (R.neg R.unit))) (at_entering i)) (lt-ltb (base P i) n (let c : top < n = top_column in omega arith))
+                  ∙ ring R (cost Q (base P i) ∷ at_entering i ∷ []) (times (plus (v 0) (minus nil)) (v 1)) (times (v 0) (v 1)) refl
+
+              product_neg : (x e : A) → IsAtLeastZero R O (R.neg x) → IsAtLeastZero R O e → IsAboveZero R O (R.mul x e) → ⊥
+              product_neg x e hx he k = not_both R O (R.neg (R.mul x e)) k (subst (IsAtLeastZero R O) (ring R (x ∷ e ∷ []) (times (minus (v 0)) (v 1)) (minus (times (v 0) (v 1))) refl) (O.mul-least (R.neg x) e hx he))
+
+              product_neg_right : (x e : A) → IsAtLeastZero R O x → IsAtLeastZero R O (R.neg e) → IsAboveZero R O (R.mul x e) → ⊥
+              product_neg_right x e hx he k = not_both R O (R.neg (R.mul x e)) k (subst (IsAtLeastZero R O) (ring R (x ∷ e ∷ []) (times (v 0) (minus (v 1))) (minus (times (v 0) (v 1))) refl) (O.mul-least x (R.neg e) hx he))
+
+              null_ratio : (k : ℕ) → right P k ≡ R.null → ratio R O m n (table_after R O m n t P) (col P) k ≡ R.null
+              null_ratio k e = ap (λ x. R.mul x (O.inv (at_entering k))) e ∙ R.mul_comm R.null (O.inv (at_entering k)) ∙ mul-null R (O.inv (at_entering k))
+
+              less_top : base P i < top → right P i ≡ R.null → IsAboveZero R O (R.mul (cost Q (base P i)) (at_entering i)) → (IsAtLeastZero R O (R.neg (at_entering i))) ⊎ (IsAboveZero R O (at_entering i)) → ⊥
+              less_top l z k (inl q) = product_neg_right (cost Q (base P i)) (at_entering i) (lesser (base P i) l) q k
+              less_top l z k (inr q) =
+                  let w : top ≤ base P i = (leaves P (omega arith)).first i hi q (null_ratio i z ∙ sym (null_ratio (row P) (right_null P fP gP))) in absurd (omega arith)
+
+              by_cases : ((Goes (base P i)) × (right P i ≡ R.null)) ⊎ ((j : ℕ) → a ≤ j → j ≤ b → base j i ≡ base P i) → ⊥
+              by_cases (inr u) = above-apart R O (term i) g (none (cost Q (base P i)) (cost_of R O m n (base P i)) (at_entering i)
+                  (ap (cost Q) (sym (u Q fQ (omega arith))) ∙ basic_cost R O m n p (table_after R O m n t Q) (holds Q (omega arith)) i hi ∙ ap (cost_of R O m n) (u Q fQ (omega arith))))
+              by_cases (inl s) = split (cases_eq (base P i) top) (goes_least (base P i) s.0)
+                where
+                  split : (base P i ≡ top) ⊎ (base P i ≡ top → ⊥) → base P i ≤ top → ⊥
+                  split (inl e) l =
+                      let same : i ≡ row P = distinct R O m n p (table_after R O m n t P) (holds P (omega arith)) i (row P) hi rP e in
+                      product_neg (cost Q top) (at_entering (row P)) (below-neg R O (cost Q top) top_below) (above-least R O (at_entering (row P)) (leaves P (omega arith)).above)
+                      (subst (λ (k : ℕ). IsAboveZero R O (R.mul (cost Q (base P k)) (at_entering k))) same (subst (IsAboveZero R O) (plain l) g))
+                  split (inr d) l = less_top (omega arith) s.1 (subst (IsAboveZero R O) (plain l) g) (cases_Bool (O.is_least (R.neg (at_entering i))))
+
+          contradiction : ⊥
+          contradiction =
+              let s = some_below R O m (λ i. R.neg (term i)) (sym (ap O.is_least (sym (sum_neg term))) ∙ sum_above) in no_term s.0 s.1 s.2
+
+      pub never_again : ⊥
+      never_again = by_cases (greatest (b - a - 1) (omega arith))
+        where
+          here : a + suc (b - a - 1) ≡ b
+          here = omega arith
+
+          by_cases : (k : ℕ) × (a ≤ k) × (k < a + suc (b - a - 1)) × ((j : ℕ) → a ≤ j → j < a + suc (b - a - 1) → base j (row j) ≤ base k (row k)) → ⊥
+          by_cases s = let gP : s.0 < b = omega (arith, s.2) in
+              let most : (j : ℕ) → a ≤ j → j < b → base j (row j) ≤ base s.0 (row s.0) = λ j f g. s.3 j f (omega arith) in
+              let q = top_enters s.0 s.1 gP most in contradiction s.0 s.1 gP most q.0 q.1 q.2 q.3

@@ -1,0 +1,122 @@
+-- The end of a run by recursion on its budget is its end at the first number of steps.
+use Rattle.std.proofs.Common.{◌≡◌, ◌≢◌, ◌⊎◌, inl, inr, ℕ, zero, suc, ◌+◌, ◌-◌, ◌<◌, ◌≤◌, Option, Some, None, refl, sym, ap, subst, ◌∙◌, arith}
+use Rattle.std.proofs.lemmas.Bool.{cases_eq, cases_lt}
+use Rattle.it_run.specs.Runs.{RunEndView, EndsAs, EndsBy, EndsUnbound, IsWithinBudget, after, told, told_number}
+use Rattle.it_run.specs.Runs.RunEndView.{Weights, Point, Width}
+use Rattle.it_run.specs.FirstEnds.{EndsAt, EndsFirst, GoesOn, IsBudget}
+
+abbrev number_in : Option ℕ → ℕ
+number_in None = 0
+number_in (Some k) = k
+
+same_number : (b k : ℕ) → Some b ≡ Some k → b ≡ k
+same_number b k e = ap number_in e
+
+none_some : (k : ℕ) → None ≡ Some k → ⊥
+none_some k e = subst IsSome (sym e) tt
+  where
+    IsSome : Option ℕ → Type 0
+    IsSome None = ⊥
+    IsSome (Some k) = Unit {0}
+
+module _ {S W P : Type 0} (IsDone IsStuck Fits : S → Type 0) (next : S → S) (weights : S → W) (point : S → P) where
+  abbrev Run : ℕ → ℕ → S → RunEndView W P → Type 0
+  Run = EndsAs IsDone IsStuck Fits next weights point
+
+  abbrev First : Option ℕ → S → RunEndView W P → Type 0
+  First = EndsFirst IsDone IsStuck Fits next weights point
+
+  abbrev On : Option ℕ → ℕ → S → Type 0
+  On = GoesOn IsDone IsStuck Fits next weights point
+
+  abbrev At : Option ℕ → ℕ → S → RunEndView W P → Type 0
+  At = EndsAt IsDone IsStuck Fits next weights point
+
+  abbrev state : S → ℕ → S
+  state = after next
+
+  one_longer : (o : Option ℕ) (s : S) (k : ℕ) → ((j : ℕ) → j < k → On o j (state s j)) → On o k (state s k) → (j : ℕ) → j < suc k → On o j (state s j)
+  one_longer o s k h x j l = by_cases (cases_eq j k)
+    where
+      by_cases : (j ≡ k) ⊎ (j ≡ k → ⊥) → On o j (state s j)
+      by_cases (inl e) = subst (λ (i : ℕ). On o i (state s i)) (sym e) x
+      by_cases (inr d) = h j (omega arith)
+
+  -- with a budget
+  first_bound : (b left k : ℕ) (s : S) (e : RunEndView W P) → b ≤ 4294967295 → k + left ≡ b → ((j : ℕ) → j < k → On (Some b) j (state s j)) → Run left k (state s k) e → First (Some b) s e
+  first_bound b zero k s e u q h (inl r) = record { steps = k; before = h; here = inl r }
+  first_bound b zero k s e u q h (inr (inl r)) = record { steps = k; before = h; here = inr (inl r) }
+  first_bound b zero k s e u q h (inr (inr r)) = let x : b ≡ k = omega arith in record { steps = k; before = h; here = inr (inr (inl (r.0, r.1, ap (λ (y : ℕ). Some y) x, r.2))) }
+  first_bound b (suc left) k s e u q h (inl r) = record { steps = k; before = h; here = inl r }
+  first_bound b (suc left) k s e u q h (inr (inl r)) = record { steps = k; before = h; here = inr (inl r) }
+  first_bound b (suc left) k s e u q h (inr (inr r)) = by_cases r.2 (λ f. first_bound b left (suc k) s e u (omega arith) (one_longer (Some b) s k h (r.0, r.1, apart, f)))
+    where
+      apart : Some b ≢ Some k
+      apart x = let y : b ≡ k = same_number b k x in omega arith
+
+      by_cases : ((¬ (Fits (state s k)) × (e ≡ Width (suc k))) ⊎ (Fits (state s k) × Run left (suc k) (next (state s k)) e))
+          → (Fits (state s k) → Run left (suc k) (state s (suc k)) e → First (Some b) s e) → First (Some b) s e
+      by_cases (inl f) ih = let y : suc k ≡ told_number (suc k) = omega arith in record {
+        steps = k;
+        before = h;
+        here = inr (inr (inr (r.0, r.1, apart, f.0, subst (λ (x : ℕ). e ≡ Width x) y f.1)));
+      }
+      by_cases (inr f) ih = ih f.0 f.1
+
+  -- without one
+  first_free : (left k : ℕ) (s : S) (d e : RunEndView W P) → IsWithinBudget d → e ≡ told d → ((j : ℕ) → j < k → On None j (state s j)) → Run left k (state s k) d → First None s e
+  first_free zero k s d e w t h (inl r) = record { steps = k; before = h; here = inl (r.0, t ∙ ap told r.1) }
+  first_free zero k s d e w t h (inr (inl r)) = record { steps = k; before = h; here = inr (inl (r.0, r.1, t ∙ ap told r.2)) }
+  first_free zero k s d e w t h (inr (inr r)) = absurd (subst IsWithinBudget r.2 w)
+  first_free (suc left) k s d e w t h (inl r) = record { steps = k; before = h; here = inl (r.0, t ∙ ap told r.1) }
+  first_free (suc left) k s d e w t h (inr (inl r)) = record { steps = k; before = h; here = inr (inl (r.0, r.1, t ∙ ap told r.2)) }
+  first_free (suc left) k s d e w t h (inr (inr r)) = by_cases r.2 (λ f. first_free left (suc k) s d e w t (one_longer None s k h (r.0, r.1, none_some k, f)))
+    where
+      by_cases : ((¬ (Fits (state s k)) × (d ≡ Width (suc k))) ⊎ (Fits (state s k) × Run left (suc k) (next (state s k)) d))
+          → (Fits (state s k) → Run left (suc k) (state s (suc k)) d → First None s e) → First None s e
+      by_cases (inl f) ih = record { steps = k; before = h; here = inr (inr (inr (r.0, r.1, none_some k, f.0, t ∙ ap told f.1))) }
+      by_cases (inr f) ih = ih f.0 f.1
+
+  -- back from step k to the first
+  back : (o : Option ℕ) (x k : ℕ) (s : S) (e : RunEndView W P) → ((j : ℕ) → j < k → On o j (state s j)) → Run x k (state s k) e → Run (k + x) 0 s e
+  back o x zero s e h r = subst (λ (y : ℕ). Run y 0 s e) here r
+    where
+      here : x ≡ 0 + x
+      here = omega arith
+  back o x (suc k) s e h r = subst (λ (y : ℕ). Run y 0 s e) here
+      (back o (suc x) k s e (λ j l. h j (omega arith)) (let g = h k (omega arith) in inr (inr (g.0, g.1, inr (g.3, r)))))
+    where
+      here : k + suc x ≡ suc k + x
+      here = omega arith
+
+  free_first : (s : S) (e : RunEndView W P) → First None s e → EndsUnbound IsDone IsStuck Fits next weights point s e
+  free_first s e f = by_cases f.here
+    where
+      by_cases : At None f.steps (state s f.steps) e → EndsUnbound IsDone IsStuck Fits next weights point s e
+      by_cases (inl r) = record { budget = f.steps + 0; end = Weights (weights (state s f.steps)); runs = back None 0 f.steps s (Weights (weights (state s f.steps))) f.before (inl (r.0, refl)); within = tt; is_told = r.1 }
+      by_cases (inr (inl r)) = record { budget = f.steps + 0; end = Point (point (state s f.steps)); runs = back None 0 f.steps s (Point (point (state s f.steps))) f.before (inr (inl (r.0, r.1, refl))); within = tt; is_told = r.2 }
+      by_cases (inr (inr (inl r))) = absurd (none_some f.steps r.2)
+      by_cases (inr (inr (inr r))) = record { budget = f.steps + 1; end = Width (suc f.steps); runs = back None 1 f.steps s (Width (suc f.steps)) f.before (inr (inr (r.0, r.1, inl (r.3, refl)))); within = tt; is_told = r.4 }
+
+  bound_first : (b : ℕ) (s : S) (e : RunEndView W P) → b ≤ 4294967295 → First (Some b) s e → Run b 0 s e
+  bound_first b s e u f = by_cases (cases_lt b f.steps) (b - f.steps) refl f.here
+    where
+      all : (x : ℕ) → f.steps ≤ b → b - f.steps ≡ x → Run x f.steps (state s f.steps) e → Run b 0 s e
+      all x l q r = let y : f.steps + x ≡ b = omega arith in subst (λ (z : ℕ). Run z 0 s e) y (back (Some b) x f.steps s e f.before r)
+
+      by_cases : (b < f.steps) ⊎ (f.steps ≤ b) → (x : ℕ) → b - f.steps ≡ x → At (Some b) f.steps (state s f.steps) e → Run b 0 s e
+      by_cases (inl l) x q r = absurd ((f.before b l).2 refl)
+      by_cases (inr l) zero q (inl r) = all zero l q (inl r)
+      by_cases (inr l) (suc x) q (inl r) = all (suc x) l q (inl r)
+      by_cases (inr l) zero q (inr (inl r)) = all zero l q (inr (inl r))
+      by_cases (inr l) (suc x) q (inr (inl r)) = all (suc x) l q (inr (inl r))
+      by_cases (inr l) zero q (inr (inr (inl r))) = all zero l q (inr (inr (r.0, r.1, r.3)))
+      by_cases (inr l) (suc x) q (inr (inr (inl r))) = let y : b ≡ f.steps = same_number b f.steps r.2 in absurd (omega arith)
+      by_cases (inr l) zero q (inr (inr (inr r))) = absurd (r.2 (ap (λ (y : ℕ). Some y) (let y : b ≡ f.steps = omega arith in y)))
+      by_cases (inr l) (suc x) q (inr (inr (inr r))) = let y : told_number (suc f.steps) ≡ suc f.steps = omega arith in
+          all (suc x) l q (inr (inr (r.0, r.1, inl (r.3, subst (λ (z : ℕ). e ≡ Width z) y r.4))))
+
+  pub ends_are_first : (budget : Option ℕ) (s : S) (e : RunEndView W P) → IsBudget budget
+      → (EndsBy IsDone IsStuck Fits next weights point budget s e → First budget s e) × (First budget s e → EndsBy IsDone IsStuck Fits next weights point budget s e)
+  ends_are_first (Some b) s e u = (λ r. first_bound b b 0 s e u (omega arith) (λ j l. absurd (omega arith)) r, λ f. bound_first b s e u f)
+  ends_are_first None s e u = (λ r. first_free r.budget 0 s r.end e r.within r.is_told (λ j l. absurd (omega arith)) r.runs, λ f. free_first s e f)

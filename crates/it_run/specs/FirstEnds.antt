@@ -1,0 +1,42 @@
+-- How a run ends, by the first number of steps at which one of its ends holds.
+use Rattle.std.specs.Prelude.{◌≡◌, ◌≢◌, ◌⊎◌, ℕ, suc, ◌<◌, ◌≤◌, Option, Some, None, List}
+use Rattle.it_rational.specs.Rational.{Rational}
+use Rattle.it_rational.proofs.RationalLaws.{ring_ℚ}
+use Rattle.it_rational.proofs.Field.{order_ℚ}
+use Rattle.it_tableau.specs.Tables.{Table, FeasibilityProblem}
+use Rattle.it_run.specs.Choice.{next, IsDone, IsStuck}
+use Rattle.it_run.specs.Readings.{weights, point}
+use Rattle.it_run.specs.Runs.{RunEndView, after, told_number}
+use Rattle.it_run.specs.Solving.{RunsTo, StepFits}
+use Rattle.it_run.specs.Runs.RunEndView.{Weights, Point, Pivots, Width}
+
+module _ {S W P : Type 0} (IsDone IsStuck Fits : S → Type 0) (next : S → S) (weights : S → W) (point : S → P) where
+  -- at the state s after k steps the run ends so: it is done; it is stuck; the budget is a number, and this one; the next step doesn't fit
+  abbrev pub EndsAt : Option ℕ → ℕ → S → RunEndView W P → Type 0
+  EndsAt budget k s e = (IsDone s × (e ≡ Weights (weights s))) ⊎ ((¬ (IsDone s) × IsStuck s × (e ≡ Point (point s)))
+      ⊎ ((¬ (IsDone s) × ¬ (IsStuck s) × (budget ≡ Some k) × (e ≡ Pivots k))
+      ⊎ (¬ (IsDone s) × ¬ (IsStuck s) × (budget ≢ Some k) × ¬ (Fits s) × (e ≡ Width (told_number (suc k))))))
+
+  -- none of these holds
+  abbrev pub GoesOn : Option ℕ → ℕ → S → Type 0
+  GoesOn budget k s = ¬ (IsDone s) × ¬ (IsStuck s) × (budget ≢ Some k) × Fits s
+
+  pub record EndsFirst (budget : Option ℕ) (s : S) (e : RunEndView W P) : Type 0 where
+    pub steps : ℕ
+    pub before : (k : ℕ) → k < steps → GoesOn budget k (after next s k)
+    pub here : EndsAt budget steps (after next s steps) e
+
+-- a budget of 32 bits, or none
+abbrev pub IsBudget : Option ℕ → Type 0
+IsBudget (Some budget) = budget ≤ 4294967295
+IsBudget None = Unit {0}
+
+-- how the run from table t ends
+abbrev pub RunsFirst : (m n : ℕ) → FeasibilityProblem Rational → Option ℕ → Table Rational → RunEndView (List (ℕ × Rational)) (List Rational) → Type 0
+RunsFirst m n p = EndsFirst (IsDone ring_ℚ order_ℚ m n) (IsStuck ring_ℚ order_ℚ m n) (StepFits m n) (next ring_ℚ order_ℚ m n)
+    (weights ring_ℚ order_ℚ m n) (point ring_ℚ order_ℚ m n p)
+
+-- both ways to say it say the same
+abbrev pub EndsAreFirst : Type 0
+EndsAreFirst = (m n : ℕ) (p : FeasibilityProblem Rational) (budget : Option ℕ) (t : Table Rational) (e : RunEndView (List (ℕ × Rational)) (List Rational)) → IsBudget budget
+    → (RunsTo m n p budget t e → RunsFirst m n p budget t e) × (RunsFirst m n p budget t e → RunsTo m n p budget t e)
