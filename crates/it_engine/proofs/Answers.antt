@@ -27,29 +27,29 @@ if_some_more (Some x) P Q h f = f x h
 pub of_some : {X : Type 0} (o : Option X) (x : X) (P : X → Type 0) → o ≡ Some x → IfSome o P → P x
 of_some o x P e h = subst (λ (o : Option _). IfSome o P) e h
 
-module _ (first : TableauView) (columns : List Terms) (limit : ℕ) (old : List WholeRowView) (basis : List ℕ) (steps : ℕ) (new : List WholeRowView) (new_basis : List ℕ) where
-  pub by_weights : (ws : List (ℕ × Rational)) → IsFinished columns limit old basis steps new new_basis engine_ends.Weights → AreWeightsOf columns new new_basis ws
-      → (p : FeasibilityProblem Rational) (t : Table Rational) → HasSigns first p → StandsFor p t columns limit old basis → RunsTo (length basis) (length columns) p steps 0 t (Weights ws)
+module _ (first : TableauView) (columns : List Terms) (limit : ℕ) (old : List WholeRowView) (basis : List ℕ) (budget : Option ℕ) (new : List WholeRowView) (new_basis : List ℕ) where
+  pub by_weights : (ws : List (ℕ × Rational)) → IsFinished columns limit old basis budget new new_basis engine_ends.Weights → AreWeightsOf columns new new_basis ws
+      → (p : FeasibilityProblem Rational) (t : Table Rational) → HasSigns first p → StandsFor p t columns limit old basis → RunsTo (length basis) (length columns) p budget t (Weights ws)
   by_weights ws f w p t sg s = let r = f.runs p t s in
-      subst (λ (ws : List (ℕ × Rational)). RunsTo (length basis) (length columns) p steps 0 t (Weights ws))
-      (sym (w p r.0 limit r.1 ∙ ap (λ m. weights ring_ℚ order_ℚ m (length columns) r.0) f.height)) (read_run (length basis) (length columns) p steps t (Weights r.0) r.2)
+      subst (λ (ws : List (ℕ × Rational)). RunsTo (length basis) (length columns) p budget t (Weights ws))
+      (sym (w p r.0 limit r.1 ∙ ap (λ m. weights ring_ℚ order_ℚ m (length columns) r.0) f.height)) (read_run (length basis) (length columns) p budget t (Weights r.0) r.2)
 
-  pub by_point : (q : List Rational) → IsFinished columns limit old basis steps new new_basis engine_ends.Point → IsPointOf first new new_basis q
-      → (p : FeasibilityProblem Rational) (t : Table Rational) → HasSigns first p → StandsFor p t columns limit old basis → RunsTo (length basis) (length columns) p steps 0 t (Point q)
+  pub by_point : (q : List Rational) → IsFinished columns limit old basis budget new new_basis engine_ends.Point → IsPointOf first new new_basis q
+      → (p : FeasibilityProblem Rational) (t : Table Rational) → HasSigns first p → StandsFor p t columns limit old basis → RunsTo (length basis) (length columns) p budget t (Point q)
   by_point q f w p t sg s = let r = f.runs p t s in
-      subst (λ (q : List Rational). RunsTo (length basis) (length columns) p steps 0 t (Point q))
-      (sym (w p r.0 columns limit sg r.1 ∙ ap (λ m. point ring_ℚ order_ℚ m (length columns) p r.0) f.height)) (read_run (length basis) (length columns) p steps t (Point r.0) r.2)
+      subst (λ (q : List Rational). RunsTo (length basis) (length columns) p budget t (Point q))
+      (sym (w p r.0 columns limit sg r.1 ∙ ap (λ m. point ring_ℚ order_ℚ m (length columns) p r.0) f.height)) (read_run (length basis) (length columns) p budget t (Point r.0) r.2)
 
-  pub by_budget : IsFinished columns limit old basis steps new new_basis engine_ends.Pivots
-      → (p : FeasibilityProblem Rational) (t : Table Rational) → HasSigns first p → StandsFor p t columns limit old basis → RunsTo (length basis) (length columns) p steps 0 t (Pivots steps)
-  by_budget f p t sg s = let r = f.runs p t s in read_run (length basis) (length columns) p steps t (Pivots steps) r.2
+  pub by_budget : (k : ℕ) → IsFinished columns limit old basis budget new new_basis (engine_ends.Pivots k)
+      → (p : FeasibilityProblem Rational) (t : Table Rational) → HasSigns first p → StandsFor p t columns limit old basis → RunsTo (length basis) (length columns) p budget t (Pivots k)
+  by_budget k f p t sg s = let r = f.runs p t s in read_run (length basis) (length columns) p budget t (Pivots k) r.2
 
 -- from the start
 pub from_start : (t : TableauView) (columns : List Terms) (norm limit : ℕ) (rows : List WholeRowView) (basis : List ℕ)
     → AreRead t t.generators columns → IsNorm columns norm → norm * limit < 2 ^ 63 → AreReadRows t limit (height t + 1) rows → IsReadBasis t (height t) basis
-    → (steps : ℕ) (solved : Solved) → AnswersQuestion t columns limit rows basis steps solved
-    → RunsFrom t steps solved
-from_start t columns norm limit rows basis cs n fit ls bs steps solved a p s =
-    subst (λ (m : ℕ). RunsTo m t.generators p steps 0 (table t) (solved_end solved)) bs.0
-    (subst (λ (n : ℕ). RunsTo (length basis) n p steps 0 (table t) (solved_end solved)) cs.0
+    → (budget : Option ℕ) (solved : Solved) → AnswersQuestion t columns limit rows basis budget solved
+    → RunsFrom t budget solved
+from_start t columns norm limit rows basis cs n fit ls bs budget solved a p s =
+    subst (λ (m : ℕ). RunsTo m t.generators p budget (table t) (solved_end solved)) bs.0
+    (subst (λ (n : ℕ). RunsTo (length basis) n p budget (table t) (solved_end solved)) cs.0
     (a p (table t) s.signs (stands_start t columns norm limit rows basis cs n fit ls bs p s.table_is)))

@@ -19,3 +19,5 @@ pub mod Starts
 pub mod Readings
 pub mod Answers
 pub mod Bounds
+pub mod StepsLeft
+pub mod UnboundRuns

@@ -1,5 +1,5 @@
 -- A run of the engine under way.
-use Rattle.std.proofs.Common.{◌≡◌, ℕ, ◌+◌, ◌-◌, ◌<◌, ℤ, pos, ◌*ℤ◌, List, length, refl, sym, ap, subst, ◌∙◌, arith}
+use Rattle.std.proofs.Common.{◌≡◌, ℕ, ◌+◌, ◌-◌, ◌<◌, ℤ, pos, ◌*ℤ◌, List, length, Some, refl, sym, ap, subst, ◌∙◌, arith}
 use Rattle.std.proofs.lemmas.Int.{ints}
 use Rattle.it_rational.specs.Rational.{Rational}
 use Rattle.it_rational.proofs.Names.{cancel}
@@ -57,7 +57,7 @@ module _ (columns : List Terms) (limit : ℕ) (old : List WholeRowView) (basis :
   moved : (P : ℕ → Type 0) → P (length now_basis) → P (length basis)
   moved P x = subst P w.height x
 
-  pub way_done : right_of (length now_basis) now (length now_basis) ≡ pos 0 → IsFinished columns limit old basis budget now now_basis Weights
+  pub way_done : right_of (length now_basis) now (length now_basis) ≡ pos 0 → IsFinished columns limit old basis (Some budget) now now_basis Weights
   way_done e = record {
     engine = w.engine;
     height = w.height;
@@ -71,7 +71,7 @@ module _ (columns : List Terms) (limit : ℕ) (old : List WholeRowView) (basis :
 
   pub way_stuck : ¬ (right_of (length now_basis) now (length now_basis) ≡ pos 0)
       → ((p : FeasibilityProblem Rational) (t : Table Rational) → StandsFor p t columns limit now now_basis → IsStuck ring_ℚ order_ℚ (length now_basis) (length columns) t)
-      → IsFinished columns limit old basis budget now now_basis Point
+      → IsFinished columns limit old basis (Some budget) now now_basis Point
   way_stuck n u = record {
     engine = w.engine;
     height = w.height;
@@ -86,7 +86,7 @@ module _ (columns : List Terms) (limit : ℕ) (old : List WholeRowView) (basis :
 
   pub way_budget : ¬ (right_of (length now_basis) now (length now_basis) ≡ pos 0) → k ≡ budget
       → ((p : FeasibilityProblem Rational) (t : Table Rational) → StandsFor p t columns limit now now_basis → ¬ (IsStuck ring_ℚ order_ℚ (length now_basis) (length columns) t))
-      → IsFinished columns limit old basis budget now now_basis Pivots
+      → IsFinished columns limit old basis (Some budget) now now_basis (Pivots budget)
   way_budget n e u = record {
     engine = w.engine;
     height = w.height;

@@ -1,5 +1,5 @@
 -- What is read off the engine at the end of a run. No public clause cites this.
-use Rattle.std.specs.Prelude.{◌≡◌, ℕ, ◌<◌, List, length, slice_index_or}
+use Rattle.std.specs.Prelude.{◌≡◌, ℕ, ◌<◌, List, length, slice_index_or, Option}
 use Rattle.it_rational.specs.Rational.{Rational, quotient}
 use Rattle.it_rational.proofs.RationalLaws.{ring_ℚ}
 use Rattle.it_rational.proofs.Field.{order_ℚ}
@@ -30,6 +30,6 @@ abbrev pub IsPointOf : TableauView → List WholeRowView → List ℕ → List R
 IsPointOf first rows basis q = (p : FeasibilityProblem Rational) (t : Table Rational) (columns : List Terms) (limit : ℕ) → HasSigns first p → StandsFor p t columns limit rows basis → q ≡ point ring_ℚ order_ℚ (length basis) (length columns) p t
 
 -- the answer to the question whose start the engine shows
-abbrev pub AnswersQuestion : TableauView → List Terms → ℕ → List WholeRowView → List ℕ → ℕ → Solved → Type 0
-AnswersQuestion first columns limit rows basis steps solved = (p : FeasibilityProblem Rational) (t : Table Rational) → HasSigns first p → StandsFor p t columns limit rows basis
-    → RunsTo (length basis) (length columns) p steps 0 t (solved_end solved)
+abbrev pub AnswersQuestion : TableauView → List Terms → ℕ → List WholeRowView → List ℕ → Option ℕ → Solved → Type 0
+AnswersQuestion first columns limit rows basis budget solved = (p : FeasibilityProblem Rational) (t : Table Rational) → HasSigns first p → StandsFor p t columns limit rows basis
+    → RunsTo (length basis) (length columns) p budget t (solved_end solved)

@@ -1,6 +1,6 @@
 -- The engine: what it keeps of a table, and a step on it. No public clause cites this.
 -- The engine stands for a table of the run: it keeps no table, and its contracts range over all tables that it may stand for.
-use Rattle.std.specs.Prelude.{◌≡◌, ℕ, ◌+◌, ◌*◌, ◌<◌, ◌≤◌, ◌^◌, Bool, true, false, List, [], length, slice_index_or}
+use Rattle.std.specs.Prelude.{◌≡◌, ℕ, ◌+◌, ◌*◌, ◌<◌, ◌≤◌, ◌^◌, Bool, true, false, List, [], length, slice_index_or, Option}
 use Rattle.it_rational.specs.Rational.{Rational}
 use Rattle.it_rational.proofs.RationalLaws.{ring_ℚ}
 use Rattle.it_rational.proofs.Field.{order_ℚ}
@@ -11,7 +11,7 @@ use Rattle.it_run.specs.Choice.{next, IsStuck}
 use Rattle.it_run.specs.Solving.{StepFits}
 use Rattle.it_run.specs.Runs.{RunEndView}
 use Rattle.it_run.specs.Runs.RunEndView.{Weights, Point, Pivots}
-use Rattle.it_run.specs.Steps.{Reaches}
+use Rattle.it_run.specs.Steps.{ReachesBy}
 use Rattle.it_engine.specs.declared.engine.EngineEnd.{EngineEnd}
 use Rattle.it_engine.specs.declared.engine.EngineEnd.TheVariants as engine_ends
 use Rattle.it_engine.specs.Updates.{AreUsable, IsFitting}
@@ -49,6 +49,10 @@ pub record IsStep (columns : List Terms) (limit : ℕ) (old : List WholeRowView)
   pub height : length new_basis ≡ length basis
   pub made : (p : FeasibilityProblem Rational) (t : Table Rational) → StandsFor p t columns limit old basis → IsMade p t columns limit basis new new_basis
 
+-- the engine shows some table of some problem
+abbrev pub StandsForSome : List Terms → ℕ → List WholeRowView → List ℕ → Type 0
+StandsForSome columns limit rows basis = (p : FeasibilityProblem Rational) × (t : Table Rational) × StandsFor p t columns limit rows basis
+
 -- no step is left to make, or one is made
 abbrev pub MovesOn : List Terms → ℕ → List WholeRowView → List ℕ → List WholeRowView → List ℕ → Bool → Type 0
 MovesOn columns limit old basis new new_basis false = (new ≡ old) × (new_basis ≡ basis)
@@ -56,14 +60,14 @@ MovesOn columns limit old basis new new_basis false = (new ≡ old) × (new_basi
 MovesOn columns limit old basis new new_basis true = IsStep columns limit old basis new new_basis
 
 -- the end of the run that it tells
-abbrev pub engine_end_view : ℕ → EngineEnd → Table Rational → RunEndView (Table Rational) (Table Rational)
-engine_end_view budget engine_ends.Weights t = Weights t
-engine_end_view budget engine_ends.Point t = Point t
-engine_end_view budget engine_ends.Pivots t = Pivots budget
+abbrev pub engine_end_view : EngineEnd → Table Rational → RunEndView (Table Rational) (Table Rational)
+engine_end_view engine_ends.Weights t = Weights t
+engine_end_view engine_ends.Point t = Point t
+engine_end_view (engine_ends.Pivots k) t = Pivots k
 
 -- whichever table the engine showed, the run from it ends so, and at an end by weights or by a point the engine shows its last table
-pub record IsFinished (columns : List Terms) (limit : ℕ) (old : List WholeRowView) (basis : List ℕ) (budget : ℕ) (new : List WholeRowView) (new_basis : List ℕ) (finish : EngineEnd) : Type 0 where
+pub record IsFinished (columns : List Terms) (limit : ℕ) (old : List WholeRowView) (basis : List ℕ) (budget : Option ℕ) (new : List WholeRowView) (new_basis : List ℕ) (finish : EngineEnd) : Type 0 where
   pub engine : IsSafe columns limit new new_basis
   pub height : length new_basis ≡ length basis
   pub runs : (p : FeasibilityProblem Rational) (t : Table Rational) → StandsFor p t columns limit old basis
-      → (s : Table Rational) × StandsFor p s columns limit new new_basis × Reaches (length basis) (length columns) budget 0 t (engine_end_view budget finish s)
+      → (s : Table Rational) × StandsFor p s columns limit new new_basis × ReachesBy (length basis) (length columns) budget t (engine_end_view finish s)

@@ -1,9 +1,9 @@
 //! The engine and its run.
-ghost use Rattle.std.specs.Prelude.{◌≡◌, ◌+◌, ◌<◌, ℕ, length, pos};
+ghost use Rattle.std.specs.Prelude.{◌≡◌, ◌+◌, ◌<◌, ℕ, length, pos, None, Some};
 ghost use Rattle.std.specs.Bool.{OnFalse, OnTrue};
 ghost use Rattle.std.specs.Option.{IfNone, IfSome};
 ghost use Rattle.it_engine.specs.Choosing.{first_below, right_of};
-ghost use Rattle.it_engine.specs.Engine.{IsFinished, IsSafe, MovesOn};
+ghost use Rattle.it_engine.specs.Engine.{IsFinished, IsSafe, MovesOn, StandsForSome};
 ghost use Rattle.it_engine.specs.Whole.{row_at};
 
 use crate::choice::{entering, leaving};
@@ -20,8 +20,8 @@ pub enum EngineEnd {
     Weights,
     /// No column has a cost below 0.
     Point,
-    /// All steps of the budget were made.
-    Pivots,
+    /// All steps of the budget were made, so many.
+    Pivots(u32),
 }
 
 /// What is kept of a table: its rows and last its cost row, each with its entries at the artificial columns and last its right
@@ -125,11 +125,10 @@ impl Engine {
         }
     }
 
-    /// Makes the run with a budget of steps, where the columns are those of the start and the limit bounds the numbers of rows.
-    /// None where a number would be larger: then nothing is known of the engine.
-    pub fn run(&mut self, columns: &[Column], limit: u64, budget: u32) -> Option<EngineEnd>
+    /// Makes the run with a budget of steps.
+    fn run_within(&mut self, columns: &[Column], limit: u64, budget: u32) -> Option<EngineEnd>
         requires { IsSafe columns.now limit self.old.rows self.old.basis }
-        ensures { IfSome result (λ finish. IsFinished columns.now limit self.old.rows self.old.basis budget self.new.rows self.new.basis finish) }
+        ensures { IfSome result (λ finish. IsFinished columns.now limit self.old.rows self.old.basis (Some budget) self.new.rows self.new.basis finish) }
     {
         for k in 0..budget {
             if self.is_done() {
@@ -143,8 +142,37 @@ impl Engine {
             return Some(EngineEnd::Weights);
         }
         match self.next_column(columns) {
-            Some(_) => Some(EngineEnd::Pivots),
+            Some(_) => Some(EngineEnd::Pivots(budget)),
             None => Some(EngineEnd::Point),
+        }
+    }
+
+    /// Makes the run without a budget. It ends since no set of basic columns comes back (Bland 1977).
+    fn run_on(&mut self, columns: &[Column], limit: u64) -> Option<EngineEnd>
+        requires engine { IsSafe columns.now limit self.old.rows self.old.basis }
+        requires stands { StandsForSome columns.now limit self.old.rows self.old.basis }
+        ensures { IfSome result (λ finish. IsFinished columns.now limit self.old.rows self.old.basis None self.new.rows self.new.basis finish) }
+    {
+        'steps: loop {
+            if self.is_done() {
+                return Some(EngineEnd::Weights);
+            }
+            if !self.step(columns, limit)? {
+                return Some(EngineEnd::Point);
+            }
+        }
+    }
+
+    /// Makes the run with a budget of steps or without one, where the columns are those of the start and the limit bounds the
+    /// numbers of rows. None where a number would be larger: then nothing is known of the engine.
+    pub fn run(&mut self, columns: &[Column], limit: u64, budget: Option<u32>) -> Option<EngineEnd>
+        requires engine { IsSafe columns.now limit self.old.rows self.old.basis }
+        requires stands { StandsForSome columns.now limit self.old.rows self.old.basis }
+        ensures { IfSome result (λ finish. IsFinished columns.now limit self.old.rows self.old.basis budget self.new.rows self.new.basis finish) }
+    {
+        match budget {
+            Some(steps) => self.run_within(columns, limit, steps),
+            None => self.run_on(columns, limit),
         }
     }
 }

@@ -1,9 +1,9 @@
 //! The run from a start.
 ghost use Rattle.std.specs.Prelude.{◌≡◌, ◌<◌, ◌^◌, false, length, IfOk};
 ghost use Rattle.std.specs.Option.{IfSome};
-ghost use Rattle.it_run.specs.Answers.{RunsFrom};
+ghost use Rattle.it_run.specs.Answers.{HasProblem, RunsFrom};
 ghost use Rattle.it_tableau.specs.TableauViews.{height};
-ghost use Rattle.it_engine.specs.Engine.{IsSafe};
+ghost use Rattle.it_engine.specs.Engine.{IsSafe, StandsForSome};
 ghost use Rattle.it_engine.specs.Ends.{AnswersQuestion};
 
 use crate::columns::Column;
@@ -26,15 +26,16 @@ fn answer(
     columns: &[Column],
     limit: u64,
     engine: Engine,
-    steps: u32,
+    budget: Option<u32>,
 ) -> Result<Option<Solved>, AllocError>
     requires usable { start.now.spent ≡ false }
     requires height { length engine.basis ≡ height start.now }
     requires engine { IsSafe columns.now limit engine.rows engine.basis }
-    ensures { IfOk result (λ o. IfSome o (λ solved. AnswersQuestion start.now columns.now limit engine.rows engine.basis steps solved)) }
+    requires stands { StandsForSome columns.now limit engine.rows engine.basis }
+    ensures { IfOk result (λ o. IfSome o (λ solved. AnswersQuestion start.now columns.now limit engine.rows engine.basis budget solved)) }
 {
     let mut engine = engine;
-    match engine.run(columns, limit, steps) {
+    match engine.run(columns, limit, budget) {
         Some(EngineEnd::Weights) => Ok(Some(Solved::Weights(weights(
             alloc,
             columns,
@@ -47,16 +48,21 @@ fn answer(
             engine.rows(),
             engine.basis(),
         )?))),
-        Some(EngineEnd::Pivots) => Ok(Some(Solved::Pivots(steps))),
+        Some(EngineEnd::Pivots(steps)) => Ok(Some(Solved::Pivots(steps))),
         None => Ok(None),
     }
 }
 
-/// The run from a start, with a budget of so many steps, and what is read off its last table. None where it can't be made on whole
-/// numbers below 2^63: where the start has others, or a step would form one, or the table has too many rows.
-pub fn whole_run(alloc: Global, start: &Tableau, steps: u32) -> Result<Option<Solved>, AllocError>
+/// The run from a start, with a budget of steps or without one, and what is read off its last table. None where it can't be made
+/// on whole numbers below 2^63: where the start has others, or a step would form one, or the table has too many rows.
+pub fn whole_run(
+    alloc: Global,
+    start: &Tableau,
+    budget: Option<u32>,
+) -> Result<Option<Solved>, AllocError>
     requires usable { start.now.spent ≡ false }
-    ensures { IfOk result (λ o. IfSome o (λ solved. RunsFrom start.now steps solved)) }
+    requires start { HasProblem start.now }
+    ensures { IfOk result (λ o. IfSome o (λ solved. RunsFrom start.now budget solved)) }
 {
     if start.rows() >= MOST_ROWS {
         return Ok(None);
@@ -74,5 +80,5 @@ pub fn whole_run(alloc: Global, start: &Tableau, steps: u32) -> Result<Option<So
     let basis = basis(alloc, start)?;
     let next = Vec::from_elem(alloc, 0, basis.len() + 2)?;
     let engine = Engine::new(alloc, rows, basis, next);
-    answer(alloc, start, columns.as_slice(), limit, engine, steps)
+    answer(alloc, start, columns.as_slice(), limit, engine, budget)
 }

@@ -4,12 +4,12 @@ use Rattle.it_run.specs.Answers.{RunsFrom}
 use Rattle.it_run.specs.declared.answering.Solved.{Solved}
 use Rattle.it_run.proofs.AnswerLemmas.{if_ok}
 use Rattle.it_space.specs.Rows.{Terms}
-use Rattle.it_tableau.specs.TableauViews.{height}
+use Rattle.it_tableau.specs.TableauViews.{height, table}
 use Rattle.it_engine.specs.Ends.{AnswersQuestion}
 use Rattle.it_engine.specs.Loading.{AreRead, AreReadRows, IsNorm, IsReadBasis}
 use Rattle.it_engine.specs.Whole.{WholeRowView}
 use Rattle.it_engine.proofs.Answers.{from_start, if_some_more, of_some}
-use Rattle.it_engine.proofs.Starts.{engine_start, limit_fits}
+use Rattle.it_engine.proofs.Starts.{engine_start, limit_fits, stands_start}
 use Rattle.it_engine.proofs.whole.whole_run.Goals as goal
 use Rattle.it_engine.proofs.whole.whole_run.Goals.{After-as_slice-2}
 
@@ -31,6 +31,14 @@ pub answer-requires-clause-engine : goal.answer-requires-clause-engine
 answer-requires-clause-engine c = engine_start c.args.start.now c.as_slice-2.result.now c.in-Some-norm.norm (9223372036854775807 / c.in-Some-norm.norm) c.new-engine.result.rows c.new-engine.result.basis
     (columns_read c) (is_norm c) (limit_fits c.in-Some-norm.norm) (rows_read c) (basis_read c)
 
+pub answer-requires-clause-stands : goal.answer-requires-clause-stands
+answer-requires-clause-stands c = let s = c.requires.start in (
+  s.0,
+  table c.args.start.now,
+  stands_start c.args.start.now c.as_slice-2.result.now c.in-Some-norm.norm (9223372036854775807 / c.in-Some-norm.norm) c.new-engine.result.rows c.new-engine.result.basis
+      (columns_read c) (is_norm c) (limit_fits c.in-Some-norm.norm) (rows_read c) (basis_read c) s.0 s.1.table_is,
+)
+
 pub returns : goal.returns
 returns c =
     let d = (goal.at.returns c).After-as_slice-2 in
@@ -39,7 +47,7 @@ returns c =
     let ls = c.new-engine.result.rows in
     let bs = c.new-engine.result.basis in
     let l = 9223372036854775807 / c.in-Some-norm.norm in
-    let Q : Solved → Type 0 = RunsFrom t c.args.steps in
-    let P : Solved → Type 0 = λ solved. AnswersQuestion t cs l ls bs c.args.steps solved in
+    let Q : Solved → Type 0 = RunsFrom t c.args.budget in
+    let P : Solved → Type 0 = λ solved. AnswersQuestion t cs l ls bs c.args.budget solved in
     if_ok c.answer.result (λ o. IfSome o P) (λ o. IfSome o Q) c.answer.ensures
-    (λ o h. if_some_more o P Q h (λ solved a. from_start t cs c.in-Some-norm.norm l ls bs (columns_read d) (is_norm d) (limit_fits c.in-Some-norm.norm) (rows_read d) (basis_read d) c.args.steps solved a))
+    (λ o h. if_some_more o P Q h (λ solved a. from_start t cs c.in-Some-norm.norm l ls bs (columns_read d) (is_norm d) (limit_fits c.in-Some-norm.norm) (rows_read d) (basis_read d) c.args.budget solved a))

@@ -1,10 +1,10 @@
-use Rattle.std.proofs.Common.{sym, subst, List, ℕ, arith, false}
+use Rattle.std.proofs.Common.{sym, subst, List, ℕ, arith, false, Some}
 use Rattle.it_engine.specs.Engine.{IsFinished, IsStep, MovesOn}
 use Rattle.it_engine.specs.Whole.{WholeRowView}
 use Rattle.it_engine.specs.declared.engine.EngineEnd.TheVariants.{Point}
 use Rattle.it_engine.proofs.Steps.{stuck_here}
 use Rattle.it_engine.proofs.Runs.{begin_way, not_stuck_here, way_budget, way_done, way_step, way_stuck}
-use Rattle.it_engine.proofs.engine.Engine.run.Goals as goal
+use Rattle.it_engine.proofs.engine.Engine.run_within.Goals as goal
 
 pub loop-k-init : goal.loop-k-init
 loop-k-init c = begin_way c.args.columns.now c.args.limit c.args.self.now.rows c.args.self.now.basis c.args.budget c.requires
@@ -16,8 +16,8 @@ pub returns-then-not-branch : goal.returns-then-not-branch
 returns-then-not-branch c =
     let g : MovesOn c.args.columns.now c.args.limit c.loop-k.self.rows c.loop-k.self.basis c.step.new.self.rows c.step.new.self.basis false =
     subst (MovesOn c.args.columns.now c.args.limit c.loop-k.self.rows c.loop-k.self.basis c.step.new.self.rows c.step.new.self.basis) c.if-not-branch.true c.in_ok-step.ensures in
-    subst (λ (l : List WholeRowView). IsFinished c.args.columns.now c.args.limit c.args.self.now.rows c.args.self.now.basis c.args.budget l c.step.new.self.basis Point) (sym g.0)
-    (subst (λ (b : List ℕ). IsFinished c.args.columns.now c.args.limit c.args.self.now.rows c.args.self.now.basis c.args.budget c.loop-k.self.rows b Point) (sym g.1)
+    subst (λ (l : List WholeRowView). IsFinished c.args.columns.now c.args.limit c.args.self.now.rows c.args.self.now.basis (Some c.args.budget) l c.step.new.self.basis Point) (sym g.0)
+    (subst (λ (b : List ℕ). IsFinished c.args.columns.now c.args.limit c.args.self.now.rows c.args.self.now.basis (Some c.args.budget) c.loop-k.self.rows b Point) (sym g.1)
     (way_stuck c.args.columns.now c.args.limit c.args.self.now.rows c.args.self.now.basis c.args.budget c.loop-k.self.rows c.loop-k.self.basis c.loop-k.k c.loop-k.invariant c.if-is_done.ensures.no g.2))
 
 pub loop-k-preserved : goal.loop-k-preserved
