@@ -1,6 +1,6 @@
 -- From a run on a tableau to the answer of a question.
-use Rattle.std.proofs.Common.{◌≡◌, inl, inr, ℕ, zero, pos, Bool, true, false, not, cond, List, length, slice_index_or, Option, Some, refl, sym, ap, ap₂, subst, ◌∙◌, arith}
-use Rattle.std.specs.Option.{IfSome}
+use Rattle.std.proofs.Common.{◌≡◌, inl, inr, ℕ, zero, pos, Bool, true, false, not, cond, List, length, slice_index_or, Option, Some, None, refl, sym, ap, ap₂, subst, ◌∙◌, arith}
+use Rattle.std.specs.Option.{IfNone}
 use Rattle.it_rational.specs.Rational.{Rational, whole, minus, is_at_least_zero}
 use Rattle.it_rational.proofs.RationalLaws.{ring_ℚ}
 use Rattle.it_rational.proofs.Field.{order_ℚ}
@@ -12,11 +12,12 @@ use Rattle.it_tableau.specs.Tables.{Table, start}
 use Rattle.it_run.specs.Answers.{solved_end, HasSigns, IsStartOf, RunsFrom}
 use Rattle.it_run.specs.Choice.{next, IsDone, IsStuck}
 use Rattle.it_run.specs.Readings.{weights, point}
-use Rattle.it_run.specs.Runs.{RunEndView}
+use Rattle.it_run.specs.Runs.{RunEndView, IsWithinBudget}
 use Rattle.it_run.specs.Solving.{RunsTo, StepFits}
 use Rattle.it_run.specs.declared.answering.Solved.{Solved}
 use Rattle.it_run.specs.declared.answering.Solved.TheVariants.{Weights, Point, Pivots, Width}
-use Rattle.it_run.proofs.RunLemmas.{one_end, run_right, EndIsRight}
+use Rattle.it_run.proofs.BudgetLemmas.{one_end_by, right_by, within_budget}
+use Rattle.it_run.proofs.RunLemmas.{EndIsRight}
 use Rattle.it_simplex.specs.Answers.{IsRightSolved, Solves}
 
 module _ (cs : List ℕ) (columns : List Terms) (target : Terms) (t : TableauView) (s : IsStart cs columns target t) where
@@ -40,14 +41,14 @@ module _ (cs : List ℕ) (columns : List Terms) (target : Terms) (t : TableauVie
   }
 
   -- the run from the tableau is that from the start
-  run_from_start : (steps : ℕ) (a : Solved) → RunsFrom t steps a → RunsTo (length cs) (length columns) (feasibility_problem cs columns target) steps 0 (start_of cs columns target) (solved_end a)
-  run_from_start steps a r = moved (λ m n t. RunsTo m n (feasibility_problem cs columns target) steps 0 t (solved_end a)) (r (feasibility_problem cs columns target) starts)
+  run_from_start : (budget : Option ℕ) (a : Solved) → RunsFrom t budget a → RunsTo (length cs) (length columns) (feasibility_problem cs columns target) budget (start_of cs columns target) (solved_end a)
+  run_from_start budget a r = moved (λ m n t. RunsTo m n (feasibility_problem cs columns target) budget t (solved_end a)) (r (feasibility_problem cs columns target) starts)
 
-  pub solves : (steps : ℕ) (a : Solved) → StartFits (length cs) (length columns) (feasibility_problem cs columns target) → RunsFrom t steps a → Solves cs columns target steps (solved_end a)
-  solves steps a f r = inr (f, run_from_start steps a r)
+  pub solves : (budget : Option ℕ) (a : Solved) → StartFits (length cs) (length columns) (feasibility_problem cs columns target) → RunsFrom t budget a → Solves cs columns target budget (solved_end a)
+  solves budget a f r = inr (f, run_from_start budget a r)
 
-  pub right : (steps : ℕ) (a : Solved) → RunsFrom t steps a → IsRightSolved cs columns target a
-  right steps a r = from_end a (run_right ring_ℚ order_ℚ (length cs) (length columns) (StepFits (length cs) (length columns)) (feasibility_problem cs columns target) steps (solved_end a) (run_from_start steps a r))
+  pub right : (budget : Option ℕ) (a : Solved) → RunsFrom t budget a → IsRightSolved cs columns target a
+  right budget a r = from_end a (right_by ring_ℚ order_ℚ (length cs) (length columns) (StepFits (length cs) (length columns)) (feasibility_problem cs columns target) budget (solved_end a) (run_from_start budget a r))
     where
       from_end : (a : Solved) → EndIsRight ring_ℚ order_ℚ (length cs) (length columns) (feasibility_problem cs columns target) (solved_end a) → IsRightSolved cs columns target a
       from_end (Weights ws) x = x
@@ -55,16 +56,25 @@ module _ (cs : List ℕ) (columns : List Terms) (target : Terms) (t : TableauVie
       from_end (Pivots k) x = tt
       from_end (Width k) x = tt
 
-pub if_some : (o : Option ℕ) (k : ℕ) (P : ℕ → Type 0) → o ≡ Some k → P k → IfSome o P
-if_some o k P e p = subst (λ (o : Option ℕ). IfSome o P) (sym e) p
+pub if_none : (o : Option ℕ) (P : Type 0) → (o ≡ None → P) → IfNone o P
+if_none None P f = f refl
+if_none (Some k) P f = tt
+
+-- without a budget the answer isn't that the budget is used up
+pub unbound : (cs : List ℕ) (columns : List Terms) (target : Terms) (e : RunEndView (List (ℕ × Rational)) (List Rational)) → Solves cs columns target None e → IsWithinBudget e
+unbound cs columns target e (inl a) = subst IsWithinBudget (sym a.1) tt
+unbound cs columns target e (inr a) =
+    let m = length cs in let n = length columns in
+    within_budget (IsDone ring_ℚ order_ℚ m n) (IsStuck ring_ℚ order_ℚ m n) (StepFits m n) (next ring_ℚ order_ℚ m n) (weights ring_ℚ order_ℚ m n) (point ring_ℚ order_ℚ m n (feasibility_problem cs columns target))
+    (start_of cs columns target) e a.1
 
 -- the run has one end, and so has the answer
-pub ends_once : (cs : List ℕ) (columns : List Terms) (target : Terms) (budget : ℕ) (d e : RunEndView (List (ℕ × Rational)) (List Rational))
+pub ends_once : (cs : List ℕ) (columns : List Terms) (target : Terms) (budget : Option ℕ) (d e : RunEndView (List (ℕ × Rational)) (List Rational))
     → Solves cs columns target budget d → Solves cs columns target budget e → d ≡ e
 ends_once cs columns target budget d e (inl a) (inl b) = a.1 ∙ sym b.1
 ends_once cs columns target budget d e (inl a) (inr b) = absurd (a.0 b.0)
 ends_once cs columns target budget d e (inr a) (inl b) = absurd (b.0 a.0)
 ends_once cs columns target budget d e (inr a) (inr b) =
     let m = length cs in let n = length columns in
-    one_end (IsDone ring_ℚ order_ℚ m n) (IsStuck ring_ℚ order_ℚ m n) (StepFits m n) (next ring_ℚ order_ℚ m n) (weights ring_ℚ order_ℚ m n) (point ring_ℚ order_ℚ m n (feasibility_problem cs columns target))
-    budget zero (start_of cs columns target) d e a.1 b.1
+    one_end_by (IsDone ring_ℚ order_ℚ m n) (IsStuck ring_ℚ order_ℚ m n) (StepFits m n) (next ring_ℚ order_ℚ m n) (weights ring_ℚ order_ℚ m n) (point ring_ℚ order_ℚ m n (feasibility_problem cs columns target))
+    budget (start_of cs columns target) d e a.1 b.1

@@ -1,5 +1,5 @@
 -- What an answer to a question of sparse rows says.
-use Rattle.std.specs.Prelude.{◌≡◌, ◌⊎◌, ℕ, zero, List, length}
+use Rattle.std.specs.Prelude.{◌≡◌, ◌⊎◌, ℕ, zero, List, length, Option}
 use Rattle.it_rational.specs.Rational.{Rational}
 use Rattle.it_rational.proofs.RationalLaws.{ring_ℚ}
 use Rattle.it_rational.proofs.Field.{order_ℚ}
@@ -14,13 +14,13 @@ use Rattle.it_run.specs.declared.answering.Solved.{Solved}
 use Rattle.it_run.specs.declared.answering.Solved.TheVariants.{Weights, Point, Pivots}
 use Rattle.it_run.specs.declared.answering.Solved.TheVariants as solved
 
--- the run from the start of a question with a budget of steps ends so; a start that doesn't fit is before step 0
-abbrev pub Solves : List ℕ → List Terms → Terms → ℕ → RunEndView (List (ℕ × Rational)) (List Rational) → Type 0
+-- the run from the start of a question with a budget of steps or without one ends so; a start that doesn't fit is before step 0
+abbrev pub Solves : List ℕ → List Terms → Terms → Option ℕ → RunEndView (List (ℕ × Rational)) (List Rational) → Type 0
 Solves coordinates columns target budget e =
     let m = length coordinates in
     let n = length columns in
     let p = feasibility_problem coordinates columns target in
-    (¬ (StartFits m n p) × (e ≡ Width zero)) ⊎ (StartFits m n p × RunsTo m n p budget zero (start_of coordinates columns target) e)
+    (¬ (StartFits m n p) × (e ≡ Width zero)) ⊎ (StartFits m n p × RunsTo m n p budget (start_of coordinates columns target) e)
 
 -- weights sum to the target, and a point separates it from the columns
 abbrev pub IsRightSolved : List ℕ → List Terms → Terms → Solved → Type 0
@@ -31,5 +31,5 @@ IsRightSolved coordinates columns target (solved.Width k) = Unit {0}
 
 -- a run has one end: what `Solves` says of an answer it says of no other
 abbrev pub EndsOnce : Type 0
-EndsOnce = (coordinates : List ℕ) (columns : List Terms) (target : Terms) (budget : ℕ) (d e : RunEndView (List (ℕ × Rational)) (List Rational))
+EndsOnce = (coordinates : List ℕ) (columns : List Terms) (target : Terms) (budget : Option ℕ) (d e : RunEndView (List (ℕ × Rational)) (List Rational))
     → Solves coordinates columns target budget d → Solves coordinates columns target budget e → d ≡ e

@@ -1,8 +1,9 @@
 //! The answer to a question.
 ghost use Rattle.std.specs.Prelude.{◌≡◌, false, IfOk};
-ghost use Rattle.std.specs.Option.{IfSome};
+ghost use Rattle.std.specs.Option.{IfNone};
 ghost use Rattle.it_run.specs.Answers.{solved_end, HasProblem, RunsFrom};
-ghost use Rattle.it_simplex.specs.Answers.{EndsOnce, IsRightSolved, Solves};
+ghost use Rattle.it_run.specs.Runs.{IsWithinBudget};
+ghost use Rattle.it_simplex.specs.Answers.{IsRightSolved, Solves};
 
 use crate::budget::Budget;
 use it_engine::whole_run;
@@ -12,20 +13,20 @@ use it_tableau::Tableau;
 use std::alloc::{AllocError, Global};
 
 /// The run by whole numbers, and where these give up by fractions from the start.
-fn run_answer(alloc: Global, start: Tableau, steps: u32) -> Result<Solved, AllocError>
+fn run_answer(alloc: Global, start: Tableau, budget: Option<u32>) -> Result<Solved, AllocError>
     requires usable { start.spent ≡ false }
     requires start { HasProblem start }
-    ensures { IfOk result (λ solved. RunsFrom start steps solved) }
+    ensures { IfOk result (λ solved. RunsFrom start budget solved) }
 {
-    match whole_run(alloc, &start, steps)? {
+    match whole_run(alloc, &start, budget)? {
         Some(solved) => Ok(solved),
-        None => exact_run(alloc, start, steps),
+        None => exact_run(alloc, start, budget),
     }
 }
 
 /// Whether the target is a sum of the columns with weights of at least 0, by the first phase of the simplex method with Bland's
 /// rule (Bland 1977), in exact fractions. The coordinates ascend and hold all that the columns and the target use: a row's
-/// coefficient elsewhere doesn't count.
+/// coefficient elsewhere doesn't count. Without a budget the run goes on to its end, and is never `Pivots`.
 pub fn solve(
     alloc: Global,
     coordinates: &[u32],
@@ -33,7 +34,8 @@ pub fn solve(
     target: &Row,
     budget: Budget,
 ) -> Result<Solved, AllocError>
-    ensures end { IfOk result (λ solved. IfSome budget (λ steps. Solves coordinates.now columns.now target.now steps (solved_end solved))) }
+    ensures end { IfOk result (λ solved. Solves coordinates.now columns.now target.now budget (solved_end solved)) }
+    ensures unbound { IfNone budget (IfOk result (λ solved. IsWithinBudget (solved_end solved))) }
     ensures right { IfOk result (λ solved. IsRightSolved coordinates.now columns.now target.now solved) }
 {
     match Tableau::start(alloc, coordinates, columns, target) {
@@ -42,8 +44,3 @@ pub fn solve(
         Err(RowFault::Memory) => Err(AllocError),
     }
 }
-
-/// A run has one end, so the answer is determined.
-pub fn ends_once()
-    ensures { EndsOnce }
-{}

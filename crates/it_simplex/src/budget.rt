@@ -1,23 +1,22 @@
 //! Budgets of steps.
-ghost use Rattle.std.specs.Prelude.{◌≡◌, Some};
+ghost use Rattle.std.specs.Prelude.{◌≡◌, None, Some};
 
 use std::marker::Model;
 
-/// How many steps a run may make.
+/// How many steps a run may make, or as many as it takes.
 #[derive(Debug, Clone, Copy)]
 pub struct Budget {
-    steps: u32,
+    steps: Option<u32>,
 }
 
 impl Model for Budget {
-    ghost use Rattle.std.specs.Prelude.{ℕ, Option, Some};
-    ghost use Rattle.std.specs.Option.{unwrap_or};
+    ghost use Rattle.std.specs.Prelude.{ℕ, Option};
 
     ghost Value = { Option ℕ };
 
-    ghost view = { λ b. Some b.steps };
+    ghost view = { λ b. b.steps };
 
-    ghost inverse = { λ o. record { steps = unwrap_or o 0 } };
+    ghost inverse = { λ o. record { steps = o } };
 }
 
 impl Budget {
@@ -25,11 +24,18 @@ impl Budget {
     pub fn at_most(steps: u32) -> Budget
         ensures { result ≡ Some steps }
     {
-        Budget { steps }
+        Budget { steps: Some(steps) }
     }
 
-    pub(crate) fn steps(self) -> u32
-        ensures { self ≡ Some result }
+    /// As many steps as the run takes.
+    pub fn none() -> Budget
+        ensures { result ≡ None }
+    {
+        Budget { steps: None }
+    }
+
+    pub(crate) fn steps(self) -> Option<u32>
+        ensures { self ≡ result }
     {
         self.steps
     }

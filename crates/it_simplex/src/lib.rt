@@ -3,9 +3,11 @@
 
 mod answering;
 mod budget;
+mod laws;
 #[cfg(test)]
 mod tests;
 
-pub use answering::{ends_once, solve};
+pub use answering::solve;
 pub use budget::Budget;
 pub use it_run::Solved;
+pub use laws::{ends_at_the_first, ends_once, meets_no_basis_twice, runs_end};

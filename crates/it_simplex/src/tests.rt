@@ -111,6 +111,14 @@ fn agrees(solved: &Solved, end: &End) -> bool {
     }
 }
 
+// without a budget a run ends as with one that isn't used up, and never for want of steps
+fn ends_freely(solved: &Solved, end: &End) -> bool {
+    match end {
+        End::Pivots(_) => !matches!(solved, Solved::Pivots(_)),
+        end => agrees(solved, end),
+    }
+}
+
 fn columns_of(alloc: Global, system: &System) -> Result<Vec<Row>, AllocError> {
     let mut columns = Vec::new(alloc);
     for column in system.columns {
@@ -121,11 +129,10 @@ fn columns_of(alloc: Global, system: &System) -> Result<Vec<Row>, AllocError> {
 
 const COORDINATES: [u32; 6] = [1, 2, 3, 4, 5, 6];
 
-fn answer(alloc: Global, system: &System, budget: u32) -> Result<Solved, AllocError> {
+fn answer(alloc: Global, system: &System, budget: Budget) -> Result<Solved, AllocError> {
     let columns = columns_of(alloc, system)?;
     let target = row_of(alloc, system.target)?;
     let count = system.target.len().min(6);
-    let budget = Budget::at_most(budget);
     solve(
         alloc,
         &COORDINATES[..count],
@@ -136,14 +143,34 @@ fn answer(alloc: Global, system: &System, budget: u32) -> Result<Solved, AllocEr
 }
 
 // the answer on whole numbers alone, where there is one
-fn whole_answer(alloc: Global, system: &System, budget: u32) -> Result<Option<Solved>, AllocError> {
-    let columns = columns_of(alloc, system)?;
-    let target = row_of(alloc, system.target)?;
-    let count = system.target.len().min(6);
-    match Tableau::start(alloc, &COORDINATES[..count], columns.as_slice(), &target) {
+fn whole_end(
+    alloc: Global,
+    coordinates: &[u32],
+    columns: &[Row],
+    target: &Row,
+    budget: Option<u32>,
+) -> Result<Option<Solved>, AllocError> {
+    match Tableau::start(alloc, coordinates, columns, target) {
         Ok(start) => whole_run(alloc, &start, budget),
         Err(_) => Ok(None),
     }
+}
+
+fn whole_answer(
+    alloc: Global,
+    system: &System,
+    budget: Option<u32>,
+) -> Result<Option<Solved>, AllocError> {
+    let columns = columns_of(alloc, system)?;
+    let target = row_of(alloc, system.target)?;
+    let count = system.target.len().min(6);
+    whole_end(
+        alloc,
+        &COORDINATES[..count],
+        columns.as_slice(),
+        &target,
+        budget,
+    )
 }
 
 // Each answer, and that no fewer steps lead to it.
@@ -151,17 +178,17 @@ fn whole_answer(alloc: Global, system: &System, budget: u32) -> Result<Option<So
 fn runs_end_as_in_exact_arithmetic_outside(rt: HostRuntime) -> Result<(), Fail> {
     let alloc = rt.alloc();
     for (i, system) in SYSTEMS.iter().enumerate() {
-        let solved = answer(alloc, system, system.budget)?;
+        let solved = answer(alloc, system, Budget::at_most(system.budget))?;
         assert!(rt; agrees(&solved, &system.end), "system {i}: {solved:?}");
         let steps = system.steps;
         if 0 < steps {
-            let earlier = answer(alloc, system, steps - 1)?;
+            let earlier = answer(alloc, system, Budget::at_most(steps - 1))?;
             assert!(rt;
                 agrees(&earlier, &End::Pivots(steps - 1)),
                 "system {i}: {earlier:?}"
             );
             if steps < system.budget {
-                let last = answer(alloc, system, steps)?;
+                let last = answer(alloc, system, Budget::at_most(steps))?;
                 let end = match system.end {
                     End::Width(_) => End::Pivots(steps),
                     end => end,
@@ -173,13 +200,24 @@ fn runs_end_as_in_exact_arithmetic_outside(rt: HostRuntime) -> Result<(), Fail> 
     Ok(())
 }
 
+// Each system, without a budget.
+#[test]
+fn runs_without_a_budget_end(rt: HostRuntime) -> Result<(), Fail> {
+    let alloc = rt.alloc();
+    for (i, system) in SYSTEMS.iter().enumerate() {
+        let solved = answer(alloc, system, Budget::none())?;
+        assert!(rt; ends_freely(&solved, &system.end), "system {i}: {solved:?}");
+    }
+    Ok(())
+}
+
 // No clause says that the run on whole numbers answers anything: it may always leave the answer to exact fractions.
 #[test]
 fn whole_numbers_answer_most_systems(rt: HostRuntime) -> Result<(), Fail> {
     let alloc = rt.alloc();
     let mut answered: u32 = 0;
     for (i, system) in SYSTEMS.iter().enumerate() {
-        if let Some(solved) = whole_answer(alloc, system, system.budget)? {
+        if let Some(solved) = whole_answer(alloc, system, Some(system.budget))? {
             assert!(rt; agrees(&solved, &system.end), "system {i}: {solved:?}");
             answered = answered.saturating_add(1);
         }
@@ -193,15 +231,17 @@ fn exact_fractions_take_over(rt: HostRuntime) -> Result<(), Fail> {
     let alloc = rt.alloc();
     for takeover in &TAKEOVERS {
         let system = &takeover.system;
-        let kept = whole_answer(alloc, system, takeover.lost)?;
+        let kept = whole_answer(alloc, system, Some(takeover.lost))?;
         assert!(rt;
             matches!(&kept, Some(Solved::Pivots(steps)) if *steps == takeover.lost),
             "{kept:?}"
         );
-        let lost = whole_answer(alloc, system, system.budget)?;
+        let lost = whole_answer(alloc, system, Some(system.budget))?;
         assert!(rt; lost.is_none(), "{lost:?}");
-        let solved = answer(alloc, system, system.budget)?;
+        let solved = answer(alloc, system, Budget::at_most(system.budget))?;
         assert!(rt; agrees(&solved, &system.end), "{solved:?}");
+        let free = answer(alloc, system, Budget::none())?;
+        assert!(rt; ends_freely(&free, &system.end), "{free:?}");
     }
     Ok(())
 }

@@ -1,0 +1,14 @@
+use Rattle.std.proofs.Common.{ℕ, ◌≤◌, arith}
+use Rattle.it_rational.proofs.Field.{order_ℚ}
+use Rattle.it_rational.proofs.RationalLaws.{ring_ℚ}
+use Rattle.it_tableau.specs.Tables.{start}
+use Rattle.it_tableau.proofs.StartLemmas.{started}
+use Rattle.it_run.proofs.BasisSets.{never_set_again}
+use Rattle.it_simplex.proofs.laws.meets_no_basis_twice.Goals as goal
+
+here : (b : ℕ) → b ≤ b
+here b = omega arith
+
+pub returns : goal.returns
+returns c = λ m n p a b l go w v.
+    never_set_again ring_ℚ order_ℚ m n p (start ring_ℚ order_ℚ m n p) (started ring_ℚ order_ℚ m n p) b go a b l (here b) w v
