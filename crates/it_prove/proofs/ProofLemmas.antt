@@ -1,6 +1,7 @@
 -- From the ends of the run and the checker's verdict to the outcome.
-use Rattle.std.proofs.Common.{◌≡◌, ◌⊎◌, inl, inr, ℕ, zero, suc, ℤ, List, [], ◌∷◌, map, length, get_or, All, Option, Some, None, refl, sym, ap, subst, subst₂, ◌∙◌}
-use Rattle.std.specs.Option.{IfSome}
+use Rattle.std.proofs.Common.{◌≡◌, ◌≢◌, ◌⊎◌, inl, inr, ℕ, zero, suc, ℤ, List, [], ◌∷◌, map, length, get_or, All, Option, Some, None, Result, Ok, Err, refl, sym, ap, subst, subst₂, ◌∙◌}
+use Rattle.std.specs.Option.{IfNone}
+use Rattle.std.specs.Result.{IfOk}
 use Rattle.it_number.specs.Limit.{IsWithin}
 use Rattle.it_rational.specs.Rational.{Rational, whole}
 use Rattle.it_rational.proofs.RationalLaws.{ring_ℚ}
@@ -17,7 +18,7 @@ use Rattle.std.specs.List.{AllByRecursion as Every}
 use Rattle.it_space.proofs.EveryLemmas.{all_of, every-map}
 use Rattle.it_tableau.specs.Problems.{feasibility_problem}
 use Rattle.it_run.specs.Readings.{SumsUp, Separates}
-use Rattle.it_run.specs.Runs.{RunEndView}
+use Rattle.it_run.specs.Runs.{RunEndView, IsWithinBudget}
 use Rattle.it_run.specs.Runs.RunEndView.{Weights, Point, Pivots, Width}
 use Rattle.it_run.specs.Solving.{RunsTo}
 use Rattle.it_simplex.specs.Answers.{Solves, IsRightSolved as IsRightAnswer}
@@ -30,7 +31,7 @@ use Rattle.it_closure.specs.Reading.{dependences_of}
 use Rattle.it_tableau.specs.Tables as Table
 use Rattle.it_tableau.specs.Tables.{start}
 use Rattle.it_tableau.specs.Fits.{StartFits}
-use Rattle.it_simplex.proofs.AnswerLemmas.{ends_once as run_ends_once}
+use Rattle.it_simplex.proofs.AnswerLemmas.{unbound, ends_once as run_ends_once}
 use Rattle.it_elemental.specs.Generators.{generators}
 use Rattle.it_check.specs.Meaning.{CertifiesRow, CertificateFits, RefutesRow, PointFits}
 use Rattle.it_check.specs.Verdicts.{yes_verdict, no_verdict}
@@ -40,7 +41,8 @@ use Rattle.it_prove.specs.Columns.{columns}
 use Rattle.it_prove.specs.Steps.{SameRows}
 use Rattle.it_prove.specs.Closed.{closed_places, closed_generators, closed_target, CollapsesFit, spread_point}
 use Rattle.it_prove.specs.Scaling.{EachFits, NumbersFit, scaled_number}
-use Rattle.it_prove.specs.ProofViews.{ProofView, Yes, No, Undecided, IsLifted, LiftedFit, Follows, Runs, EndsWith, IsRightProof, OneProofView, ProvenAscends}
+use Rattle.it_prove.specs.ProofViews.{ProofView, Yes, No, Undecided, IsLifted, LiftedFit, Follows, Runs, EndsWith, IsRightProof, NeverOutOfSteps, OneProofView, ProvenAscends, proof_view}
+use Rattle.it_prove.specs.declared.types.Proof.{Proof}
 use Rattle.it_prove.proofs.PointLemmas.{point_right}
 use Rattle.it_prove.proofs.LiftLemmas.{one_lift}
 
@@ -110,11 +112,11 @@ module _ (coords : List ℕ) (rs ss : List Terms) (s : SameRows rs ss) (r t : Te
     target = λ k. whole (e (get_or coords k 0) i);
   }
 
-  abbrev run_by : ℕ → RunEndView (List (ℕ × Rational)) (List Rational) → ℕ → Table.FeasibilityProblem Rational → Type 0
-  run_by steps end n p = (¬ (StartFits (length coords) n p) × (end ≡ Width zero)) ⊎ (StartFits (length coords) n p × RunsTo (length coords) n p steps zero (start ring_ℚ order_ℚ (length coords) n p) end)
+  abbrev run_by : Option ℕ → RunEndView (List (ℕ × Rational)) (List Rational) → ℕ → Table.FeasibilityProblem Rational → Type 0
+  run_by budget end n p = (¬ (StartFits (length coords) n p) × (end ≡ Width zero)) ⊎ (StartFits (length coords) n p × RunsTo (length coords) n p budget (start ring_ℚ order_ℚ (length coords) n p) end)
 
-  pub same_run : (steps : ℕ) (end : RunEndView (List (ℕ × Rational)) (List Rational)) → Solves coords rs r steps end → Solves coords ss t steps end
-  same_run steps end h = subst₂ (run_by steps end) (same_length rs ss s) same_problem h
+  pub same_run : (budget : Option ℕ) (end : RunEndView (List (ℕ × Rational)) (List Rational)) → Solves coords rs r budget end → Solves coords ss t budget end
+  same_run budget end h = subst₂ (run_by budget end) (same_length rs ss s) same_problem h
 
   pub same_sums : (ws : List (ℕ × Rational)) → SumsUp ring_ℚ order_ℚ (length coords) (length rs) (feasibility_problem coords rs r) ws → SumsUp ring_ℚ order_ℚ (length coords) (length ss) (feasibility_problem coords ss t) ws
   same_sums ws h = subst₂ (λ (n : ℕ) (p : Table.FeasibilityProblem Rational). SumsUp ring_ℚ order_ℚ (length coords) n p ws) (same_length rs ss s) same_problem h
@@ -125,10 +127,10 @@ module _ (coords : List ℕ) (rs ss : List Terms) (s : SameRows rs ss) (r t : Te
 -- the run of the code's rows is that of the problem
 module _ (q : ProblemView) (target : Terms) (coords : List ℕ) (at : coords ≡ closed_places q) (rs : List Terms) (s : SameRows rs (columns (closed_generators q)))
     (r : Terms) (e : (c : ℕ) → coefficient r c ≡ coefficient (closed_target q target) c) where
-  pub ends_so : CollapsesFit q target → (steps : ℕ) (end : RunEndView (List (ℕ × Rational)) (List Rational)) (o : ProofView) → Solves coords rs r steps end → Follows q target end o → EndsWith q target steps o
-  ends_so fit steps end o h f = record {
+  pub ends_so : CollapsesFit q target → (budget : Option ℕ) (end : RunEndView (List (ℕ × Rational)) (List Rational)) (o : ProofView) → Solves coords rs r budget end → Follows q target end o → EndsWith q target budget o
+  ends_so fit budget end o h f = record {
     end = end;
-    run = inr (fit, same_run (closed_places q) rs (columns (closed_generators q)) s r (closed_target q target) e steps end (subst (λ (cs : List ℕ). Solves cs rs r steps end) at h));
+    run = inr (fit, same_run (closed_places q) rs (columns (closed_generators q)) s r (closed_target q target) e budget end (subst (λ (cs : List ℕ). Solves cs rs r budget end) at h));
     follows = f;
   }
 
@@ -140,13 +142,8 @@ module _ (q : ProblemView) (target : Terms) (coords : List ℕ) (at : coords ≡
       → Separates ring_ℚ order_ℚ (length (closed_places q)) (length (columns (closed_generators q))) (feasibility_problem (closed_places q) (columns (closed_generators q)) (closed_target q target)) qs
   separates_so qs h = same_separates (closed_places q) rs (columns (closed_generators q)) s r (closed_target q target) e qs (subst (λ (cs : List ℕ). Separates ring_ℚ order_ℚ (length cs) (length rs) (feasibility_problem cs rs r) qs) at h)
 
-pub wide_start : (q : ProblemView) (target : Terms) (budget : Option ℕ) → ¬ (CollapsesFit q target) → IfSome budget (λ steps. EndsWith q target steps (Undecided (causes.Width 0)))
-wide_start q target None n = tt
-wide_start q target (Some steps) n = record { end = Width 0; run = inl (n, refl); follows = refl }
-
-pub if_some : (b : Option ℕ) (P Q : ℕ → Type 0) → IfSome b P → ((k : ℕ) → P k → Q k) → IfSome b Q
-if_some (Some k) P Q h f = f k h
-if_some None P Q h f = tt
+pub wide_start : (q : ProblemView) (target : Terms) (budget : Option ℕ) → ¬ (CollapsesFit q target) → EndsWith q target budget (Undecided (causes.Width 0))
+wide_start q target budget n = record { end = Width 0; run = inl (n, refl); follows = refl }
 
 -- what the answer of the run shows, by its end
 abbrev IsRightEnd : List ℕ → List Terms → Terms → RunEndView (List (ℕ × Rational)) (List Rational) → Type 0
@@ -170,10 +167,9 @@ module _ (q : ProblemView) (target : Terms) (d : DependencesView) (list : d.list
   rows_are : SameRows rs (columns (closed_generators q))
   rows_are = subst (λ (xs : List Terms). SameRows xs (columns (closed_generators q))) (sym same) s
 
-  pub answered : CollapsesFit q target → (budget : Option ℕ) → IfSome budget (λ steps. Solves coords rs r steps (solved_end x)) → (end : RunEndView (List (ℕ × Rational)) (List Rational)) (o : ProofView) → solved_end x ≡ end → Follows q target end o
-      → IfSome budget (λ steps. EndsWith q target steps o)
-  answered fit budget h end o is f = if_some budget (λ steps. Solves coords rs r steps (solved_end x)) (λ steps. EndsWith q target steps o) h
-      (λ steps k. ends_so q target coords places_are rs rows_are r e fit steps end o (subst (Solves coords rs r steps) is k) f)
+  pub answered : CollapsesFit q target → (budget : Option ℕ) → Solves coords rs r budget (solved_end x) → (end : RunEndView (List (ℕ × Rational)) (List Rational)) (o : ProofView) → solved_end x ≡ end → Follows q target end o
+      → EndsWith q target budget o
+  answered fit budget h end o is f = ends_so q target coords places_are rs rows_are r e fit budget end o (subst (Solves coords rs r budget) is h) f
 
   pub summed : IsRightAnswer coords rs r x → (part : List (ℕ × Rational)) → solved_end x ≡ Weights part
       → SumsUp ring_ℚ order_ℚ (length (closed_places q)) (length (columns (closed_generators q))) (feasibility_problem (closed_places q) (columns (closed_generators q)) (closed_target q target)) part
@@ -197,19 +193,19 @@ one_follows q target (Point qs) o p (inr a) (inr b) = a.1 ∙ sym b.1
 one_follows q target (Pivots k) o p a b = a ∙ sym b
 one_follows q target (Width k) o p a b = a ∙ sym b
 
-one_run : (q : ProblemView) (target : Terms) (steps : ℕ) (d e : RunEndView (List (ℕ × Rational)) (List Rational)) → Runs q target steps d → Runs q target steps e → d ≡ e
-one_run q target steps d e (inl a) (inl b) = a.1 ∙ sym b.1
-one_run q target steps d e (inl a) (inr b) = absurd (a.0 b.0)
-one_run q target steps d e (inr a) (inl b) = absurd (b.0 a.0)
-one_run q target steps d e (inr a) (inr b) = run_ends_once (closed_places q) (columns (closed_generators q)) (closed_target q target) steps d e a.1 b.1
+one_run : (q : ProblemView) (target : Terms) (budget : Option ℕ) (d e : RunEndView (List (ℕ × Rational)) (List Rational)) → Runs q target budget d → Runs q target budget e → d ≡ e
+one_run q target budget d e (inl a) (inl b) = a.1 ∙ sym b.1
+one_run q target budget d e (inl a) (inr b) = absurd (a.0 b.0)
+one_run q target budget d e (inr a) (inl b) = absurd (b.0 a.0)
+one_run q target budget d e (inr a) (inr b) = run_ends_once (closed_places q) (columns (closed_generators q)) (closed_target q target) budget d e a.1 b.1
 
 pub one_outcome : OneProofView
-one_outcome q target steps o p a b =
-    one_follows q target b.end o p (subst (λ e. Follows q target e o) (one_run q target steps a.end b.end a.run b.run) a.follows) b.follows
+one_outcome q target budget o p a b =
+    one_follows q target b.end o p (subst (λ e. Follows q target e o) (one_run q target budget a.end b.end a.run b.run) a.follows) b.follows
 
 -- weights of a proof ascend, and none is 0
 pub proven_ascends : ProvenAscends
-proven_ascends q target steps w e = for_each e.end e.follows
+proven_ascends q target budget w e = for_each e.end e.follows
   where
     for_each : (end : RunEndView (List (ℕ × Rational)) (List Rational)) → Follows q target end (Yes w) → IsCanonical w.parts
     for_each (Weights ws) (inl a) = subst (λ (x : CertificateView). IsCanonical x.parts) (sym (inside a.0 a.3)) a.1.parts
@@ -236,3 +232,41 @@ proven_ascends q target steps w e = for_each e.end e.follows
       where
         unlike : {c : Cause} → Yes w ≡ Undecided c → ⊥
         unlike e = cc
+
+-- ---- without a budget
+
+within : (q : ProblemView) (target : Terms) (e : RunEndView (List (ℕ × Rational)) (List Rational)) → Runs q target None e → IsWithinBudget e
+within q target e (inl a) = subst IsWithinBudget (sym a.1) tt
+within q target e (inr a) = unbound (closed_places q) (columns (closed_generators q)) (closed_target q target) e a.1
+
+pub never_out_of_steps : NeverOutOfSteps
+never_out_of_steps q target k e = for_each e.end e.follows (within q target e.end e.run)
+  where
+    for_each : (end : RunEndView (List (ℕ × Rational)) (List Rational)) → Follows q target end (Undecided (causes.Pivots k)) → IsWithinBudget end → ⊥
+    for_each (Weights ws) (inl a) i = unlike a.3
+      where
+        unlike : {w : CertificateView} → Undecided (causes.Pivots k) ≡ Yes w → ⊥
+        unlike e = cc
+    for_each (Weights ws) (inr a) i = unlike a.1
+      where
+        unlike : Undecided (causes.Pivots k) ≡ Undecided Scale → ⊥
+        unlike e = cc
+    for_each (Point qs) (inl a) i = unlike a.1
+      where
+        unlike : {values : List ℤ} → Undecided (causes.Pivots k) ≡ No values → ⊥
+        unlike e = cc
+    for_each (Point qs) (inr a) i = unlike a.1
+      where
+        unlike : Undecided (causes.Pivots k) ≡ Undecided Scale → ⊥
+        unlike e = cc
+    for_each (Pivots j) a i = i
+    for_each (Width j) a i = unlike a
+      where
+        unlike : Undecided (causes.Pivots k) ≡ Undecided (causes.Width j) → ⊥
+        unlike e = cc
+
+pub never_pivots : {E : Type 0} (q : ProblemView) (target : Terms) (budget : Option ℕ) (r : Result Proof E) → IfOk r (λ proof. EndsWith q target budget (proof_view proof))
+    → IfNone budget (IfOk r (λ proof. (k : ℕ) → proof_view proof ≢ Undecided (causes.Pivots k)))
+never_pivots q target (Some steps) r h = tt
+never_pivots q target None (Err e) h = tt
+never_pivots q target None (Ok proof) h = λ k is. never_out_of_steps q target k (subst (EndsWith q target None) is h)

@@ -1,5 +1,5 @@
 -- Where no coefficient is large the start fits, so a run doesn't end before step 0.
-use Rattle.std.proofs.Common.{◌≡◌, inl, inr, ℕ, zero, suc, ◌+◌, ◌*◌, ◌^◌, ◌<◌, ◌≤◌, ℤ, pos, neg_ℤ, ◌+ℤ◌, unsigned_abs, List, [], ◌∷◌, length, get_or, Bool, true, false, cond, eqb, ltb, refl, sym, ap, ap₂, subst, ◌∙◌, arith}
+use Rattle.std.proofs.Common.{◌≡◌, inl, inr, ℕ, zero, suc, ◌+◌, ◌*◌, ◌^◌, ◌<◌, ◌≤◌, ℤ, pos, neg_ℤ, ◌+ℤ◌, unsigned_abs, List, [], ◌∷◌, length, get_or, Bool, true, false, cond, eqb, ltb, refl, sym, ap, ap₂, subst, ◌∙◌, arith, min, Option, Some, None}
 use Rattle.std.proofs.lemmas.Int.{ints}
 use Rattle.std.proofs.Math.Pow.{pow_mono}
 use Rattle.it_number.specs.Limit.{IsWithin}
@@ -28,7 +28,7 @@ use Rattle.it_run.specs.Readings.{weights, point}
 use Rattle.it_run.specs.Solving.{StepFits, RunsTo}
 use Rattle.it_tableau.specs.Sums.{sum_to}
 use Rattle.it_tableau.specs.Tables.{Table, start_row, sign}
-use Rattle.it_run.specs.Runs.{RunEndView, EndsAs}
+use Rattle.it_run.specs.Runs.{RunEndView, EndsAs, told}
 use Rattle.it_run.specs.Runs.RunEndView.{Weights, Point, Pivots, Width}
 use Rattle.it_run.proofs.RowValues.{whole_plus}
 use Rattle.it_prove.specs.Closed.{collapsed_row, collapsed_generator, closed_places, closed_generators, closed_target, CollapsesFit}
@@ -119,12 +119,28 @@ never_zero D T F next ws pt (suc left) k s (inr (inl a)) = absurd (cc)
 never_zero D T F next ws pt (suc left) k s (inr (inr (d, t, inl a))) = absurd (cc)
 never_zero D T F next ws pt (suc left) k s (inr (inr (d, t, inr a))) = never_zero D T F next ws pt left (suc k) (next s) a.1
 
-never_run : (m n : ℕ) (p : Tables.FeasibilityProblem Rational) (steps : ℕ) (t : Table Rational) (e : RunEndView (List (ℕ × Rational)) (List Rational)) → e ≡ Width zero → RunsTo m n p steps zero t e → ⊥
-never_run m n p steps t e z r =
-    never_zero (IsDone ring_ℚ order_ℚ m n) (IsStuck ring_ℚ order_ℚ m n) (StepFits m n) (next ring_ℚ order_ℚ m n) (weights ring_ℚ order_ℚ m n) (point ring_ℚ order_ℚ m n p) steps zero t (subst (RunsTo m n p steps zero t) z r)
+-- an end that is told as step 0 is that of step 0
+told_zero : (e : RunEndView (List (ℕ × Rational)) (List Rational)) → Width zero ≡ told e → e ≡ Width zero
+told_zero (Weights w) q = absurd (cc)
+told_zero (Point w) q = absurd (cc)
+told_zero (Pivots k) q = absurd (cc)
+told_zero (Width k) q = by_number k (inside (min k 4294967295) q)
+  where
+    inside : (j : ℕ) → (let x : RunEndView (List (ℕ × Rational)) (List Rational) = Width zero in x) ≡ Width j → zero ≡ j
+    inside j q = cc
+
+    by_number : (k : ℕ) → zero ≡ min k 4294967295 → (let x : RunEndView (List (ℕ × Rational)) (List Rational) = Width k in x) ≡ Width zero
+    by_number k q = let s : k ≡ zero = omega arith in ap (λ x. let r : RunEndView (List (ℕ × Rational)) (List Rational) = Width x in r) s
+
+never_run : (m n : ℕ) (p : Tables.FeasibilityProblem Rational) (budget : Option ℕ) (t : Table Rational) (e : RunEndView (List (ℕ × Rational)) (List Rational)) → e ≡ Width zero → RunsTo m n p budget t e → ⊥
+never_run m n p (Some steps) t e z r =
+    never_zero (IsDone ring_ℚ order_ℚ m n) (IsStuck ring_ℚ order_ℚ m n) (StepFits m n) (next ring_ℚ order_ℚ m n) (weights ring_ℚ order_ℚ m n) (point ring_ℚ order_ℚ m n p) steps zero t (subst (RunsTo m n p (Some steps) t) z r)
+never_run m n p None t e z r =
+    never_zero (IsDone ring_ℚ order_ℚ m n) (IsStuck ring_ℚ order_ℚ m n) (StepFits m n) (next ring_ℚ order_ℚ m n) (weights ring_ℚ order_ℚ m n) (point ring_ℚ order_ℚ m n p) r.budget zero t
+    (subst (RunsTo m n p (Some r.budget) t) (told_zero r.end (sym z ∙ r.is_told)) r.runs)
 
 pub never_at_start : NeverAtStart
-never_at_start q target steps k s e = by_cases e.run (zero_end e.end e.follows)
+never_at_start q target budget k s e = by_cases e.run (zero_end e.end e.follows)
   where
     all_small : Every (λ g. IsSmall g.row) (generators q)
     all_small = generators_small q.space.variables q.constraints s.constraints
@@ -173,8 +189,8 @@ never_at_start q target steps k s e = by_cases e.run (zero_end e.end e.follows)
         (every-same (λ g. IsSmall g.row) (λ g. SmallRow (collapsed_row q.space.variables (dependences_of q) g.row)) (generators q) (λ g b. small_row q.space.variables (dependences_of q) g.row b) all_small)))
         (small_row q.space.variables (dependences_of q) target s.own)
 
-    by_cases : Runs q target steps e.end → e.end ≡ Width 0 → ⊥
+    by_cases : Runs q target budget e.end → e.end ≡ Width 0 → ⊥
     by_cases (inl a) z = a.0 fits
     by_cases (inr (f, inl a)) z = a.0 start
-    by_cases (inr (f, inr a)) z = never_run (length (closed_places q)) (length (columns (closed_generators q))) (feasibility_problem (closed_places q) (columns (closed_generators q)) (closed_target q target)) steps
+    by_cases (inr (f, inr a)) z = never_run (length (closed_places q)) (length (columns (closed_generators q))) (feasibility_problem (closed_places q) (columns (closed_generators q)) (closed_target q target)) budget
         (start_of (closed_places q) (columns (closed_generators q)) (closed_target q target)) e.end z a.1

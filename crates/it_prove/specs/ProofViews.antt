@@ -1,6 +1,6 @@
 -- How a question about one target ends: by weights of the run over closed sets, which are lifted to a certificate, by a point of
 -- it, which is spread out, or by neither.
-use Rattle.std.specs.Prelude.{◌≡◌, ◌≢◌, ◌⊎◌, ℕ, ℤ, List, [], All}
+use Rattle.std.specs.Prelude.{◌≡◌, ◌≢◌, ◌⊎◌, ℕ, ℤ, List, [], All, Option, None}
 use Rattle.it_rational.specs.Rational.{Rational}
 use Rattle.it_space.specs.declared.answers.Cause.{Cause}
 use Rattle.it_space.specs.declared.answers.Cause.TheVariants as causes
@@ -70,16 +70,16 @@ Follows q target (Point qs) o = (ValuesFit q target qs × (o ≡ No (spread_poin
 Follows q target (Pivots k) o = o ≡ Undecided (causes.Pivots k)
 Follows q target (Width k) o = o ≡ Undecided (causes.Width k)
 
--- the run over closed sets with a budget of steps ends so; where the collapse doesn't fit it ends before step 0, its start
-abbrev pub Runs : ProblemView → Terms → ℕ → RunEndView (List (ℕ × Rational)) (List Rational) → Type 0
-Runs q target steps e =
+-- the run over closed sets with a budget of steps or without one ends so; where the collapse doesn't fit it ends before step 0, its start
+abbrev pub Runs : ProblemView → Terms → Option ℕ → RunEndView (List (ℕ × Rational)) (List Rational) → Type 0
+Runs q target budget e =
     (¬ (CollapsesFit q target) × (e ≡ Width 0))
-    ⊎ (CollapsesFit q target × Solves (closed_places q) (columns (closed_generators q)) (closed_target q target) steps e)
+    ⊎ (CollapsesFit q target × Solves (closed_places q) (columns (closed_generators q)) (closed_target q target) budget e)
 
 -- the outcome is that of the run
-pub record EndsWith (q : ProblemView) (target : Terms) (steps : ℕ) (o : ProofView) : Type 0 where
+pub record EndsWith (q : ProblemView) (target : Terms) (budget : Option ℕ) (o : ProofView) : Type 0 where
   pub end : RunEndView (List (ℕ × Rational)) (List Rational)
-  pub run : Runs q target steps end
+  pub run : Runs q target budget end
   pub follows : Follows q target end o
 
 -- a certificate certifies the target, and a point refutes it
@@ -90,11 +90,11 @@ IsRightProof q target (Undecided cause) = Unit {0}
 
 -- a question has one outcome
 abbrev pub OneProofView : Type 0
-OneProofView = (q : ProblemView) (target : Terms) (steps : ℕ) (o p : ProofView) → EndsWith q target steps o → EndsWith q target steps p → o ≡ p
+OneProofView = (q : ProblemView) (target : Terms) (budget : Option ℕ) (o p : ProofView) → EndsWith q target budget o → EndsWith q target budget p → o ≡ p
 
 -- the weights of a proof ascend by generator, and none is 0
 abbrev pub ProvenAscends : Type 0
-ProvenAscends = (q : ProblemView) (target : Terms) (steps : ℕ) (w : CertificateView) → EndsWith q target steps (Yes w) → IsCanonical w.parts
+ProvenAscends = (q : ProblemView) (target : Terms) (budget : Option ℕ) (w : CertificateView) → EndsWith q target budget (Yes w) → IsCanonical w.parts
 
 -- the rows of the constraints and of the target are small
 pub record AreSmall (q : ProblemView) (target : Terms) : Type 0 where
@@ -103,4 +103,8 @@ pub record AreSmall (q : ProblemView) (target : Terms) : Type 0 where
 
 -- Where the rows are small the run doesn't end before step 0.
 abbrev pub NeverAtStart : Type 0
-NeverAtStart = (q : ProblemView) (target : Terms) (steps : ℕ) → IsProblem q → AreSmall q target → EndsWith q target steps (Undecided (causes.Width 0)) → ⊥
+NeverAtStart = (q : ProblemView) (target : Terms) (budget : Option ℕ) → IsProblem q → AreSmall q target → EndsWith q target budget (Undecided (causes.Width 0)) → ⊥
+
+-- without a budget no question is left open for want of steps
+abbrev pub NeverOutOfSteps : Type 0
+NeverOutOfSteps = (q : ProblemView) (target : Terms) (k : ℕ) → EndsWith q target None (Undecided (causes.Pivots k)) → ⊥

@@ -1,5 +1,5 @@
 //! What the outcomes say, each theorem as the contract of a function.
-ghost use Rattle.it_prove.specs.ProofViews.{NeverAtStart, OneProofView, ProvenAscends};
+ghost use Rattle.it_prove.specs.ProofViews.{NeverAtStart, NeverOutOfSteps, OneProofView, ProvenAscends};
 
 /// A question has one outcome.
 pub fn one_outcome()
@@ -15,4 +15,9 @@ pub fn proven_ascends()
 /// Where no coefficient is large a run doesn't end before step 0.
 pub fn never_at_start()
     ensures { NeverAtStart }
+{}
+
+/// Without a budget no question is left open for want of steps.
+pub fn never_out_of_steps()
+    ensures { NeverOutOfSteps }
 {}

@@ -15,6 +15,6 @@ mod tests;
 mod types;
 
 pub use columns::opposite_row;
-pub use laws::{never_at_start, one_outcome, proven_ascends};
+pub use laws::{never_at_start, never_out_of_steps, one_outcome, proven_ascends};
 pub use proving::prove;
 pub use types::Proof;

@@ -1,9 +1,10 @@
 //! The answer about one target: collapse, run, lift or spread out, check.
-ghost use Rattle.std.specs.Prelude.{◌≡◌, ℕ, length, IfErr, IfOk, OnOk};
-ghost use Rattle.std.specs.Option.{IfSome};
+ghost use Rattle.std.specs.Prelude.{◌≡◌, ◌≢◌, ℕ, length, IfErr, IfOk, OnOk};
+ghost use Rattle.std.specs.Option.{IfNone};
 ghost use Rattle.it_rational.proofs.Field.{order_ℚ};
 ghost use Rattle.it_rational.proofs.RationalLaws.{ring_ℚ};
 ghost use Rattle.it_space.specs.Answers.{certificate_view};
+ghost use Rattle.it_space.specs.declared.answers.Cause.TheVariants as causes;
 ghost use Rattle.it_space.specs.Problems.{IsProblem, problem_view};
 ghost use Rattle.it_space.specs.Rows.{IsUpTo, coefficient};
 ghost use Rattle.it_space.specs.Spaces.{size_of};
@@ -15,7 +16,7 @@ ghost use Rattle.it_check.specs.Meaning.{CertifiesRow};
 ghost use Rattle.it_prove.specs.Closed.{closed_generators, closed_places, closed_target, CollapsesFit};
 ghost use Rattle.it_prove.specs.Columns.{columns};
 ghost use Rattle.it_prove.specs.Steps.{SameRows};
-ghost use Rattle.it_prove.specs.ProofViews.{EndsWith, Follows, IsLifted, IsRightProof, LiftedFit, proof_view};
+ghost use Rattle.it_prove.specs.ProofViews.{EndsWith, Follows, IsLifted, IsRightProof, LiftedFit, Undecided, proof_view};
 
 use crate::certificates::certificate;
 use crate::columns::columns;
@@ -151,7 +152,7 @@ fn on_closed(
     requires columns { SameRows rows.now.columns.items (columns (closed_generators (problem_view problem.now))) }
     requires collapsed { (k : ℕ) → coefficient rows.now.target k ≡ coefficient (closed_target (problem_view problem.now) target.now) k }
     requires fits { CollapsesFit (problem_view problem.now) target.now }
-    ensures outcome { IfOk result (λ proof. IfSome budget (λ steps. EndsWith (problem_view problem.now) target.now steps (proof_view proof))) }
+    ensures ends { IfOk result (λ proof. EndsWith (problem_view problem.now) target.now budget (proof_view proof)) }
     ensures right { IfOk result (λ proof. IsRightProof (problem_view problem.now) target.now (proof_view proof)) }
 {
     let coordinates = dependences.closed_coordinates(alloc, problem.space)?;
@@ -180,8 +181,8 @@ fn on_closed(
 
 /// Whether the target, a row over the coordinates of the problem's space, is at least 0 wherever a polymatroid and rates
 /// meet the problem. The answer is that of the defined run over closed sets with Bland's rule (Bland 1977): a certificate
-/// or a point that the check finds valid, `Pivots` with the budget where its steps don't suffice, `Width` with the step
-/// that has a number past the limit, 0 for the start, and `Scale` where the scaled answer has one.
+/// or a point that the check finds valid, `Pivots` with the budget where its steps don't suffice, which is never without
+/// one, `Width` with the step that has a number past the limit, 0 for the start, and `Scale` where the scaled answer has one.
 pub fn prove(
     alloc: Global,
     problem: &Problem,
@@ -190,7 +191,8 @@ pub fn prove(
 ) -> Result<Proof, AllocError>
     requires problem { IsProblem (problem_view problem.now) }
     requires target { IsUpTo (size_of problem.now.space) target.now }
-    ensures outcome { IfOk result (λ proof. IfSome budget (λ steps. EndsWith (problem_view problem.now) target.now steps (proof_view proof))) }
+    ensures ends { IfOk result (λ proof. EndsWith (problem_view problem.now) target.now budget (proof_view proof)) }
+    ensures unbound { IfNone budget (IfOk result (λ proof. (k : ℕ) → proof_view proof ≢ Undecided (causes.Pivots k))) }
     ensures right { IfOk result (λ proof. IsRightProof (problem_view problem.now) target.now (proof_view proof)) }
 {
     let dependences = Dependences::read(alloc, problem)?;

@@ -71,10 +71,12 @@ fn a_certificate_names_all_sets(rt: HostRuntime) -> Result<(), Fail> {
         constraints: vec![in alloc; equation(second_of_first, 1), equation(third_of_second, 2)]?,
     };
     let target = Row::new(vec![in alloc; (1, 1), (5, -1)]?);
-    let proof = prove(alloc, &problem, &target, Budget::at_most(20000))?;
     // H(Y|X,Z) + I(X;Z|Y), less both constraints
     let weights = [(1, 1), (6, 1), (9, -1), (10, -1)];
-    assert!(rt; is_certificate(&proof, 1, weights.as_slice()));
+    for budget in [Budget::at_most(20000), Budget::none()] {
+        let proof = prove(alloc, &problem, &target, budget)?;
+        assert!(rt; is_certificate(&proof, 1, weights.as_slice()));
+    }
     Ok(())
 }
 
@@ -91,13 +93,15 @@ fn a_point_has_the_value_of_each_set(rt: HostRuntime) -> Result<(), Fail> {
         constraints: vec![in alloc; equation(first_of_second, 1)]?,
     };
     let target = Row::new(vec![in alloc; (1, 1), (2, -1)]?);
-    let proof = prove(alloc, &problem, &target, Budget::at_most(20000))?;
-    assert!(rt; is_point(&proof, [0, 1, 1].as_slice()));
+    for budget in [Budget::at_most(20000), Budget::none()] {
+        let proof = prove(alloc, &problem, &target, budget)?;
+        assert!(rt; is_point(&proof, [0, 1, 1].as_slice()));
+    }
     Ok(())
 }
 
 /// Whether A + B >= 0 for two rates, coordinates 2 and 3, under two rows that are to be at least 0.
-fn prove_sum(alloc: Global, first: Row, second: Row, steps: u32) -> Result<Proof, AllocError>
+fn prove_sum(alloc: Global, first: Row, second: Row, budget: Budget) -> Result<Proof, AllocError>
     requires first { IsUpTo 3 first }
     requires second { IsUpTo 3 second }
 {
@@ -109,7 +113,7 @@ fn prove_sum(alloc: Global, first: Row, second: Row, steps: u32) -> Result<Proof
         constraints: vec![in alloc; inequality(first, 1), inequality(second, 2)]?,
     };
     let target = Row::new(vec![in alloc; (2, 1), (3, 1)]?);
-    prove(alloc, &problem, &target, Budget::at_most(steps))
+    prove(alloc, &problem, &target, budget)
 }
 
 /// M A + B >= 0 and A + M B >= 0 with M = 2^64 - 1 take more than one step.
@@ -118,8 +122,19 @@ fn the_budget_ends_a_run(rt: HostRuntime) -> Result<(), Fail> {
     let alloc = rt.alloc();
     let first = Row::new(vec![in alloc; (2, 18446744073709551615), (3, 1)]?);
     let second = Row::new(vec![in alloc; (2, 1), (3, 18446744073709551615)]?);
-    let proof = prove_sum(alloc, first, second, 1)?;
+    let proof = prove_sum(alloc, first, second, Budget::at_most(1))?;
     assert!(rt; is_undecided(&proof, Cause::Pivots(1)));
+    Ok(())
+}
+
+/// Without a budget the second step is made, and a number of it is wide.
+#[test]
+fn without_a_budget_a_wide_step_ends_a_run(rt: HostRuntime) -> Result<(), Fail> {
+    let alloc = rt.alloc();
+    let first = Row::new(vec![in alloc; (2, 18446744073709551615), (3, 1)]?);
+    let second = Row::new(vec![in alloc; (2, 1), (3, 18446744073709551615)]?);
+    let proof = prove_sum(alloc, first, second, Budget::none())?;
+    assert!(rt; is_undecided(&proof, Cause::Width(2)));
     Ok(())
 }
 
@@ -129,7 +144,7 @@ fn a_wide_scale_leaves_it_undecided(rt: HostRuntime) -> Result<(), Fail> {
     let alloc = rt.alloc();
     let first = Row::new(vec![in alloc; (2, 18446744073709551615)]?);
     let second = Row::new(vec![in alloc; (3, 18446744073709551614)]?);
-    let proof = prove_sum(alloc, first, second, 20000)?;
+    let proof = prove_sum(alloc, first, second, Budget::at_most(20000))?;
     assert!(rt; is_undecided(&proof, Cause::Scale));
     Ok(())
 }

@@ -1,6 +1,5 @@
 use Rattle.it_space.specs.Problems.{problem_view}
 use Rattle.std.proofs.Common.{sym, ap, ◌∙◌, refl}
-use Rattle.std.specs.Option.{IfSome}
 use Rattle.it_space.specs.declared.answers.Cause.TheVariants as causes
 use Rattle.it_run.specs.Answers.{solved_end}
 use Rattle.it_run.specs.Runs.RunEndView.{Weights, Point, Pivots, Width}
@@ -14,9 +13,9 @@ by_weights-requires-clause-sum c = summed (problem_view c.args.problem.now) c.ar
     c.as_slice-2.result.now c.args.rows.now.columns.items c.as_slice-2.ensures.value c.requires.columns c.args.rows.now.target c.requires.collapsed c.in_ok-weights.field-0
     c.in_ok-weights.ensures.right c.as_slice-in-Weights.result.now (ap solved_end c.in-Weights.is ∙ ap Weights (sym c.as_slice-in-Weights.ensures.value))
 
-pub returns-in-Weights-clause-outcome : goal.returns-in-Weights-clause-outcome
-returns-in-Weights-clause-outcome c = if_ok c.by_weights.result (λ proof. Follows (problem_view c.args.problem.now) c.args.target.now (Weights c.as_slice-in-Weights.result.now) (proof_view proof))
-    (λ proof. IfSome c.args.budget (λ steps. EndsWith (problem_view c.args.problem.now) c.args.target.now steps (proof_view proof))) c.by_weights.ensures.follows
+pub returns-in-Weights-clause-ends : goal.returns-in-Weights-clause-ends
+returns-in-Weights-clause-ends c = if_ok c.by_weights.result (λ proof. Follows (problem_view c.args.problem.now) c.args.target.now (Weights c.as_slice-in-Weights.result.now) (proof_view proof))
+    (λ proof. EndsWith (problem_view c.args.problem.now) c.args.target.now c.args.budget (proof_view proof)) c.by_weights.ensures.follows
     (λ proof f. answered (problem_view c.args.problem.now) c.args.target.now c.args.dependences.now c.requires.list c.as_slice.result.now c.in_ok-coordinates.coordinates.items c.as_slice.ensures.value c.in_ok-coordinates.ensures
     c.as_slice-2.result.now c.args.rows.now.columns.items c.as_slice-2.ensures.value c.requires.columns c.args.rows.now.target c.requires.collapsed c.in_ok-weights.field-0
     c.requires.fits c.args.budget c.in_ok-weights.ensures.end (Weights c.as_slice-in-Weights.result.now) (proof_view proof) (ap solved_end c.in-Weights.is ∙ ap Weights (sym c.as_slice-in-Weights.ensures.value)) f)
@@ -26,19 +25,19 @@ by_point-requires-clause-apart c = separated (problem_view c.args.problem.now) c
     c.as_slice-2.result.now c.args.rows.now.columns.items c.as_slice-2.ensures.value c.requires.columns c.args.rows.now.target c.requires.collapsed c.in_ok-weights.field-0
     c.in_ok-weights.ensures.right c.as_slice-in-Point-2.result.now (ap solved_end c.in-Point.is ∙ ap Point (sym c.as_slice-in-Point-2.ensures.value))
 
-pub returns-in-Point-clause-outcome : goal.returns-in-Point-clause-outcome
-returns-in-Point-clause-outcome c = if_ok c.by_point.result (λ proof. Follows (problem_view c.args.problem.now) c.args.target.now (Point c.as_slice-in-Point-2.result.now) (proof_view proof))
-    (λ proof. IfSome c.args.budget (λ steps. EndsWith (problem_view c.args.problem.now) c.args.target.now steps (proof_view proof))) c.by_point.ensures.follows
+pub returns-in-Point-clause-ends : goal.returns-in-Point-clause-ends
+returns-in-Point-clause-ends c = if_ok c.by_point.result (λ proof. Follows (problem_view c.args.problem.now) c.args.target.now (Point c.as_slice-in-Point-2.result.now) (proof_view proof))
+    (λ proof. EndsWith (problem_view c.args.problem.now) c.args.target.now c.args.budget (proof_view proof)) c.by_point.ensures.follows
     (λ proof f. answered (problem_view c.args.problem.now) c.args.target.now c.args.dependences.now c.requires.list c.as_slice.result.now c.in_ok-coordinates.coordinates.items c.as_slice.ensures.value c.in_ok-coordinates.ensures
     c.as_slice-2.result.now c.args.rows.now.columns.items c.as_slice-2.ensures.value c.requires.columns c.args.rows.now.target c.requires.collapsed c.in_ok-weights.field-0
     c.requires.fits c.args.budget c.in_ok-weights.ensures.end (Point c.as_slice-in-Point-2.result.now) (proof_view proof) (ap solved_end c.in-Point.is ∙ ap Point (sym c.as_slice-in-Point-2.ensures.value)) f)
 
-pub returns-in-Pivots-clause-outcome : goal.returns-in-Pivots-clause-outcome
-returns-in-Pivots-clause-outcome c = answered (problem_view c.args.problem.now) c.args.target.now c.args.dependences.now c.requires.list c.as_slice.result.now c.in_ok-coordinates.coordinates.items c.as_slice.ensures.value c.in_ok-coordinates.ensures
+pub returns-in-Pivots-clause-ends : goal.returns-in-Pivots-clause-ends
+returns-in-Pivots-clause-ends c = answered (problem_view c.args.problem.now) c.args.target.now c.args.dependences.now c.requires.list c.as_slice.result.now c.in_ok-coordinates.coordinates.items c.as_slice.ensures.value c.in_ok-coordinates.ensures
     c.as_slice-2.result.now c.args.rows.now.columns.items c.as_slice-2.ensures.value c.requires.columns c.args.rows.now.target c.requires.collapsed c.in_ok-weights.field-0
     c.requires.fits c.args.budget c.in_ok-weights.ensures.end (Pivots c.in-Pivots.steps) (Undecided (causes.Pivots c.in-Pivots.steps)) (ap solved_end c.in-Pivots.is) refl
 
-pub returns-clause-outcome : goal.returns-clause-outcome
-returns-clause-outcome c = answered (problem_view c.args.problem.now) c.args.target.now c.args.dependences.now c.requires.list c.as_slice.result.now c.in_ok-coordinates.coordinates.items c.as_slice.ensures.value c.in_ok-coordinates.ensures
+pub returns-clause-ends : goal.returns-clause-ends
+returns-clause-ends c = answered (problem_view c.args.problem.now) c.args.target.now c.args.dependences.now c.requires.list c.as_slice.result.now c.in_ok-coordinates.coordinates.items c.as_slice.ensures.value c.in_ok-coordinates.ensures
     c.as_slice-2.result.now c.args.rows.now.columns.items c.as_slice-2.ensures.value c.requires.columns c.args.rows.now.target c.requires.collapsed c.in_ok-weights.field-0
     c.requires.fits c.args.budget c.in_ok-weights.ensures.end (Width c.in-Width.step) (Undecided (causes.Width c.in-Width.step)) (ap solved_end c.in-Width.is) refl

@@ -1,6 +1,9 @@
 use Rattle.it_space.specs.Problems.{problem_view}
-use Rattle.it_prove.proofs.ProofLemmas.{wide_start}
+use Rattle.it_prove.proofs.ProofLemmas.{never_pivots, wide_start}
 use Rattle.it_prove.proofs.proving.prove.Goals as goal
 
-pub returns-in-Err-Wide-clause-outcome : goal.returns-in-Err-Wide-clause-outcome
-returns-in-Err-Wide-clause-outcome c = wide_start (problem_view c.args.problem.now) c.args.target.now c.args.budget (c.in-Err-Wide.ensures.wide c.in-Err-Wide.field-0-is)
+pub returns-in-Ok-clause-unbound : goal.returns-in-Ok-clause-unbound
+returns-in-Ok-clause-unbound c = never_pivots (problem_view c.args.problem.now) c.args.target.now c.args.budget c.on_closed.result c.on_closed.ensures.ends
+
+pub returns-in-Err-Wide-clause-ends : goal.returns-in-Err-Wide-clause-ends
+returns-in-Err-Wide-clause-ends c = wide_start (problem_view c.args.problem.now) c.args.target.now c.args.budget (c.in-Err-Wide.ensures.wide c.in-Err-Wide.field-0-is)
