@@ -4,7 +4,7 @@ use Rattle.std.proofs.Math.ListN.{set}
 use Rattle.std.proofs.Math.Seq.{map-set_same}
 use Rattle.std.proofs.lemmas.List.{map-set, take_more_set, take_more, length-map, get_or-map, get_or-drop, drop-drop, drop_more, drop-set-lt, take_all, get_or-set_same}
 use Rattle.std.specs.Prelude.{Option}
-use Rattle.it_contain.specs.declared.types.Candidate.{Candidate}
+use Rattle.it_region.specs.declared.types.Candidate.{Candidate}
 use Rattle.it_contain.specs.Proposals.{Takes}
 
 -- a box is replaced by one with the same plan

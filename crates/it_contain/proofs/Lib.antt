@@ -1,14 +1,12 @@
 pub mod PowerLemmas
 pub mod TupleLemmas
 pub mod CandidateLemmas
-pub mod PlaceLemmas
-pub mod AgreeLemmas
-pub mod RegionLemmas
-pub mod RowLemmas
-pub mod PairLemmas
 pub mod BoxLemmas
 pub mod SearchLemmas
 pub mod OpenLemmas
 pub mod TryLemmas
 pub mod ContainLemmas
 pub mod ProofLemmas
+pub mod PlanLemmas
+pub mod OneEndLemmas
+pub mod MemoryLemmas

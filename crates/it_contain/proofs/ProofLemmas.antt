@@ -1,6 +1,5 @@
 -- Proofs of obligations: of one target, of all, and of a candidate.
 use Rattle.std.proofs.Common.{◌≡◌, ℕ, zero, suc, ◌+◌, ◌<◌, ◌≤◌, ℤ, List, [], ◌∷◌, ◌++◌, length, map, drop, get_or, refl, sym, ap, subst, ◌∙◌, arith, Option, Some, None, Result, Ok, Err, IfOk, append-nil, append_assoc}
-use Rattle.std.specs.Option.{IfSome, unwrap_or}
 use Rattle.std.proofs.lemmas.List.{drop_more, drop_all}
 use Rattle.it_space.specs.declared.spaces.Space.{Space}
 use Rattle.it_space.specs.declared.answers.Cause.{Cause}
@@ -15,10 +14,10 @@ use Rattle.it_prove.specs.declared.types.Proof.{Proof}
 use Rattle.it_prove.specs.declared.types.Proof.TheVariants as proofs
 use Rattle.it_prove.specs.ProofViews.{ProofView, Yes, No, Undecided, proof_view, EndsWith, IsRightProof}
 use Rattle.it_prove.proofs.ProofLemmas.{one_outcome}
-use Rattle.it_contain.specs.declared.types.Candidate.{Candidate}
-use Rattle.it_contain.specs.Obligations.{IsPulledRow, ArePulledRows}
-use Rattle.it_contain.specs.Pairs.{Fits, pair_obligations}
-use Rattle.it_contain.specs.Search.{Goal, IsProofOf, AreProofsOf, IsProof, IsProved, IsBounded, Proofs, proof_views}
+use Rattle.it_region.specs.declared.types.Candidate.{Candidate}
+use Rattle.it_region.specs.Obligations.{IsPulledRow, ArePulledRows}
+use Rattle.it_region.specs.Pairs.{Fits, pair_obligations}
+use Rattle.it_contain.specs.Search.{Goal, IsProofOf, AreProofsOf, IsProof, IsProved, Proofs, proof_views}
 use Rattle.it_contain.specs.SearchSteps.{ProvesOne, ProvesAll, Judges}
 
 -- ---- a form has one row
@@ -31,30 +30,24 @@ rows_told s fs ts us a b = zip-told (IsPulledRow s) (row_told s) fs ts us a b
 
 -- ---- one target
 
-of_some : (b : Option ℕ) (k : ℕ) (P : ℕ → Type 0) → b ≡ Some k → IfSome b P → P k
-of_some b k P e h = subst (λ (o : Option ℕ). IfSome o P) e h
+not_due : (q : ProblemView) (t : Terms) (budget : Option ℕ) (o : ProofView) → EndsWith q t budget o → ((v : CertificateView) → o ≡ Yes v → ⊥) → ProvesOne q budget t None
+not_due q t budget o e n w p = n w (one_outcome q t budget o (Yes w) e p.due)
 
-not_due : (q : ProblemView) (t : Terms) (steps : ℕ) (o : ProofView) → EndsWith q t steps o → ((v : CertificateView) → o ≡ Yes v → ⊥) → ProvesOne q steps t None
-not_due q t steps o e n w p = n w (one_outcome q t steps o (Yes w) e p.due)
-
-module _ (q : ProblemView) (t : Terms) (budget : Option ℕ) (p : Proof) (few : IsBounded budget) (ends : IfSome budget (λ steps. EndsWith q t steps (proof_view p))) where
-  end : EndsWith q t (unwrap_or budget 0) (proof_view p)
-  end = of_some budget (unwrap_or budget 0) (λ steps. EndsWith q t steps (proof_view p)) few ends
-
-  pub yes_proves : (c : Certificate) → IsRightProof q t (proof_view p) → p ≡ proofs.Yes c → ProvesOne q (unwrap_or budget 0) t (Some c)
+module _ (q : ProblemView) (t : Terms) (budget : Option ℕ) (p : Proof) (end : EndsWith q t budget (proof_view p)) where
+  pub yes_proves : (c : Certificate) → IsRightProof q t (proof_view p) → p ≡ proofs.Yes c → ProvesOne q budget t (Some c)
   yes_proves c right is = record {
-    due = subst (λ (x : Proof). EndsWith q t (unwrap_or budget 0) (proof_view x)) is end;
+    due = subst (λ (x : Proof). EndsWith q t budget (proof_view x)) is end;
     right = subst (λ (x : Proof). IsRightProof q t (proof_view x)) is right;
   }
 
-  pub no_proves : (values : List ℤ) → p ≡ proofs.No values → ProvesOne q (unwrap_or budget 0) t None
-  no_proves values is = not_due q t (unwrap_or budget 0) (proof_view p) end (λ v e. apart v (sym (ap proof_view is) ∙ e))
+  pub no_proves : (values : List ℤ) → p ≡ proofs.No values → ProvesOne q budget t None
+  no_proves values is = not_due q t budget (proof_view p) end (λ v e. apart v (sym (ap proof_view is) ∙ e))
     where
       apart : (v : CertificateView) → No values ≡ Yes v → ⊥
       apart v e = absurd (cc)
 
-  pub undecided_proves : (cause : Cause) → p ≡ proofs.Undecided cause → ProvesOne q (unwrap_or budget 0) t None
-  undecided_proves cause is = not_due q t (unwrap_or budget 0) (proof_view p) end (λ v e. apart v (sym (ap proof_view is) ∙ e))
+  pub undecided_proves : (cause : Cause) → p ≡ proofs.Undecided cause → ProvesOne q budget t None
+  undecided_proves cause is = not_due q t budget (proof_view p) end (λ v e. apart v (sym (ap proof_view is) ∙ e))
     where
       apart : (v : CertificateView) → Undecided cause ≡ Yes v → ⊥
       apart v e = absurd (cc)
@@ -62,35 +55,35 @@ module _ (q : ProblemView) (t : Terms) (budget : Option ℕ) (p : Proof) (few : 
 -- ---- all targets
 
 -- the first i targets are proved
-pub record AreUnderWay (q : ProblemView) (steps : ℕ) (ts : List Terms) (found : List CertificateView) (i : ℕ) : Type 0 where
-  pub all : (more : List CertificateView) → AreProofsOf q steps (drop i ts) more → AreProofsOf q steps ts (found ++ more)
+pub record AreUnderWay (q : ProblemView) (budget : Option ℕ) (ts : List Terms) (found : List CertificateView) (i : ℕ) : Type 0 where
+  pub all : (more : List CertificateView) → AreProofsOf q budget (drop i ts) more → AreProofsOf q budget ts (found ++ more)
 
-pub proofs_more : (q : ProblemView) (steps : ℕ) (ts : List Terms) (old new : Proofs) (i : ℕ) (t : Terms) (c : Certificate) → i < length ts → t ≡ get_or ts i t → IsProofOf q steps t (certificate_view c)
-    → new.items ≡ old.items ++ c ∷ [] → AreUnderWay q steps ts (proof_views old) i → AreUnderWay q steps ts (proof_views new) (i + 1)
-proofs_more q steps ts old new i t c l is p e u = record {
+pub proofs_more : (q : ProblemView) (budget : Option ℕ) (ts : List Terms) (old new : Proofs) (i : ℕ) (t : Terms) (c : Certificate) → i < length ts → t ≡ get_or ts i t → IsProofOf q budget t (certificate_view c)
+    → new.items ≡ old.items ++ c ∷ [] → AreUnderWay q budget ts (proof_views old) i → AreUnderWay q budget ts (proof_views new) (i + 1)
+proofs_more q budget ts old new i t c l is p e u = record {
   all = λ more a.
       let here : drop i ts ≡ t ∷ drop (i + 1) ts = drop_more ts i t l ∙ ap (λ (x : Terms). x ∷ drop (i + 1) ts) (sym is) in
       let pushed : proof_views new ≡ proof_views old ++ certificate_view c ∷ [] = ap (λ (cs : List Certificate). map certificate_view cs) e ∙ mapped old.items in
-      subst (λ (ws : List CertificateView). AreProofsOf q steps ts ws) (sym (ap (λ (ws : List CertificateView). ws ++ more) pushed ∙ append_assoc (proof_views old) (certificate_view c ∷ []) more))
-      (u.all (certificate_view c ∷ more) (subst (λ (xs : List Terms). AreProofsOf q steps xs (certificate_view c ∷ more)) (sym here) (p, a)));
+      subst (λ (ws : List CertificateView). AreProofsOf q budget ts ws) (sym (ap (λ (ws : List CertificateView). ws ++ more) pushed ∙ append_assoc (proof_views old) (certificate_view c ∷ []) more))
+      (u.all (certificate_view c ∷ more) (subst (λ (xs : List Terms). AreProofsOf q budget xs (certificate_view c ∷ more)) (sym here) (p, a)));
 }
   where
     mapped : (cs : List Certificate) → map certificate_view (cs ++ c ∷ []) ≡ map certificate_view cs ++ certificate_view c ∷ []
     mapped [] = refl
     mapped (x ∷ xs) = ap (λ (ws : List CertificateView). certificate_view x ∷ ws) (mapped xs)
 
-pub proofs_end : (q : ProblemView) (steps : ℕ) (ts : List Terms) (found : List CertificateView) (i : ℕ) → length ts ≤ i → AreUnderWay q steps ts found i → AreProofsOf q steps ts found
-proofs_end q steps ts found i l u = subst (λ (ws : List CertificateView). AreProofsOf q steps ts ws) (append-nil found) (u.all [] (subst (λ (xs : List Terms). AreProofsOf q steps xs []) (sym (drop_all i ts l)) tt))
+pub proofs_end : (q : ProblemView) (budget : Option ℕ) (ts : List Terms) (found : List CertificateView) (i : ℕ) → length ts ≤ i → AreUnderWay q budget ts found i → AreProofsOf q budget ts found
+proofs_end q budget ts found i l u = subst (λ (ws : List CertificateView). AreProofsOf q budget ts ws) (append-nil found) (u.all [] (subst (λ (xs : List Terms). AreProofsOf q budget xs []) (sym (drop_all i ts l)) tt))
 
 -- where all are proved, each is
-each_proof : (q : ProblemView) (steps : ℕ) (ts : List Terms) (ws : List CertificateView) (i : ℕ) (t : Terms) → i < length ts → t ≡ get_or ts i t → AreProofsOf q steps ts ws → (w : CertificateView) × IsProofOf q steps t w
-each_proof q steps [] ws i t l is a = absurd (omega arith)
-each_proof q steps (x ∷ xs) [] i t l is a = absurd a
-each_proof q steps (x ∷ xs) (w ∷ ws) zero t l is a = (w, subst (λ (y : Terms). IsProofOf q steps y w) (sym is) a.0)
-each_proof q steps (x ∷ xs) (w ∷ ws) (suc i) t l is a = each_proof q steps xs ws i t (omega arith) is a.1
+each_proof : (q : ProblemView) (budget : Option ℕ) (ts : List Terms) (ws : List CertificateView) (i : ℕ) (t : Terms) → i < length ts → t ≡ get_or ts i t → AreProofsOf q budget ts ws → (w : CertificateView) × IsProofOf q budget t w
+each_proof q budget [] ws i t l is a = absurd (omega arith)
+each_proof q budget (x ∷ xs) [] i t l is a = absurd a
+each_proof q budget (x ∷ xs) (w ∷ ws) zero t l is a = (w, subst (λ (y : Terms). IsProofOf q budget y w) (sym is) a.0)
+each_proof q budget (x ∷ xs) (w ∷ ws) (suc i) t l is a = each_proof q budget xs ws i t (omega arith) is a.1
 
-pub none_at : (q : ProblemView) (steps : ℕ) (ts : List Terms) (i : ℕ) (t : Terms) → i < length ts → t ≡ get_or ts i t → ProvesOne q steps t None → ProvesAll q steps ts None
-none_at q steps ts i t l is n ws a = let p = each_proof q steps ts ws i t l is a in n p.0 p.1
+pub none_at : (q : ProblemView) (budget : Option ℕ) (ts : List Terms) (i : ℕ) (t : Terms) → i < length ts → t ≡ get_or ts i t → ProvesOne q budget t None → ProvesAll q budget ts None
+none_at q budget ts i t l is n ws a = let p = each_proof q budget ts ws i t l is a in n p.0 p.1
 
 -- ---- a candidate
 
@@ -98,13 +91,8 @@ pub not_fitting : (goal : Goal) (c : Candidate) → (Fits goal.pair c → ⊥) �
 unfolding IsProved
 not_fitting goal c n p = n p.1.fits
 
-pub judges : (goal : Goal) (c : Candidate) (rows : List Terms) (o : Option Proofs) → Fits goal.pair c → ArePulledRows goal.pair.first.space (pair_obligations goal.pair c) rows → ProvesAll (problem_view goal.pair.first) goal.steps rows o → Judges goal c o
+pub judges : (goal : Goal) (c : Candidate) (rows : List Terms) (o : Option Proofs) → Fits goal.pair c → ArePulledRows goal.pair.first.space (pair_obligations goal.pair c) rows → ProvesAll (problem_view goal.pair.first) goal.budget rows o → Judges goal c o
 unfolding IsProved IsProof
 judges goal c rows (Some w) f a p = record { fits = f; rows = rows; are = a; proofs = p }
 judges goal c rows None f a n = λ x.
-    n x.0 (subst (λ (ts : List Terms). AreProofsOf (problem_view goal.pair.first) goal.steps ts x.0) (rows_told goal.pair.first.space (pair_obligations goal.pair c) x.1.rows rows x.1.are a) x.1.proofs)
-
-pub judged_so : {E : Type 0} (goal : Goal) (c : Candidate) (rows : List Terms) (r : Result (Option Proofs) E) → Fits goal.pair c → ArePulledRows goal.pair.first.space (pair_obligations goal.pair c) rows
-    → IfOk r (λ o. ProvesAll (problem_view goal.pair.first) goal.steps rows o) → IfOk r (λ o. Judges goal c o)
-judged_so goal c rows (Err e) f a p = tt
-judged_so goal c rows (Ok o) f a p = judges goal c rows o f a p
+    n x.0 (subst (λ (ts : List Terms). AreProofsOf (problem_view goal.pair.first) goal.budget ts x.0) (rows_told goal.pair.first.space (pair_obligations goal.pair c) x.1.rows rows x.1.are a) x.1.proofs)

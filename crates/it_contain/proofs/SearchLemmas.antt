@@ -4,7 +4,7 @@ use Rattle.std.specs.List.{All}
 use Rattle.std.proofs.Math.Seq.{take-append_seam}
 use Rattle.std.proofs.lemmas.List.{take_all}
 use Rattle.std.proofs.lemmas.List.Elements.{All-nil, All-append, All-push, All-same}
-use Rattle.it_contain.specs.declared.types.Candidate.{Candidate}
+use Rattle.it_region.specs.declared.types.Candidate.{Candidate}
 use Rattle.it_contain.specs.Search.{Goal, Proofs, proof_views, IsProof, IsProved, IsUnproved, IsFirst, IsOpen}
 use Rattle.it_contain.specs.SearchSteps.{IsPast}
 

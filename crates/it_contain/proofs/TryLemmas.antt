@@ -1,6 +1,6 @@
 -- One candidate more is tried.
 use Rattle.std.proofs.Common.{◌≡◌, ℕ, ◌+◌, ◌<◌, List, [], ◌∷◌, get_or, map, ap, sym, subst, ◌∙◌, Option, Some, None}
-use Rattle.it_contain.specs.declared.types.Candidate.{Candidate}
+use Rattle.it_region.specs.declared.types.Candidate.{Candidate}
 use Rattle.it_contain.specs.Proposals.{Plan, plan_after}
 use Rattle.it_contain.specs.Search.{Goal, Proofs, IsProof, IsUnproved, IsFirst}
 use Rattle.it_contain.specs.SearchSteps.{IsPast, Tries}

@@ -1,10 +1,6 @@
 pub mod Shapes
+pub mod Recents
 pub mod Digits
 pub mod Proposals
-pub mod Pulling
-pub mod Regions
-pub mod Obligations
-pub mod Pairs
-pub mod Theorems
 pub mod Search
 pub mod SearchSteps

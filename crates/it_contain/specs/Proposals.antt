@@ -1,7 +1,7 @@
 -- What a proposer does with its two meanings.
-use Rattle.std.specs.Prelude.{◌≡◌, List, [], ◌∷◌, Bool, true, false, Option, Some, None}
+use Rattle.std.specs.Prelude.{◌≡◌, List, [], ◌∷◌, ◌++◌, Bool, true, false, Option, Some, None}
 use Rattle.it_contain.specs.declared.types.Shape.{Shape}
-use Rattle.it_contain.specs.declared.types.Candidate.{Candidate}
+use Rattle.it_region.specs.declared.types.Candidate.{Candidate}
 
 -- the list that a beginning would set, for a shape and the candidates that are proved from now on
 abbrev pub Plan : Type 0
@@ -10,6 +10,10 @@ Plan = Shape → List Candidate → List Candidate
 -- the plan once a candidate has been proved
 abbrev pub plan_after : Candidate → Plan → Plan
 plan_after c plan shape proved = plan shape (c ∷ proved)
+
+-- the plan once these candidates have been proved, in this order
+abbrev pub plan_after_all : List Candidate → Plan → Plan
+plan_after_all proved plan shape more = plan shape (proved ++ more)
 
 -- the first of the list is taken; there is none exactly where the list is empty
 abbrev pub Takes : List Candidate → Option Candidate → List Candidate → Type 0

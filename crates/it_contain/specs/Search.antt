@@ -1,49 +1,45 @@
 -- What a search over boxes ends with.
-use Rattle.std.specs.Prelude.{◌≡◌, ℕ, ◌<◌, List, [], ◌∷◌, ◌++◌, map, take, length, min, Option, Some, Vec, All}
+use Rattle.std.specs.Prelude.{◌≡◌, ℕ, ◌<◌, List, [], ◌∷◌, ◌++◌, map, take, length, min, Option, Vec, All}
 use Rattle.std.specs.Global.{Global}
-use Rattle.std.specs.Option.{unwrap_or}
 use Rattle.std.specs.List.{AllZip, flat_map}
 use Rattle.it_space.specs.declared.answers.Certificate.{Certificate}
 use Rattle.it_space.specs.Answers.{CertificateView, certificate_view}
 use Rattle.it_space.specs.Problems.{ProblemView, problem_view}
 use Rattle.it_space.specs.Rows.{Terms}
 use Rattle.it_prove.specs.ProofViews.{Yes, EndsWith, IsRightProof}
-use Rattle.it_contain.specs.declared.types.Candidate.{Candidate}
+use Rattle.it_region.specs.declared.types.Candidate.{Candidate}
 use Rattle.it_contain.specs.declared.types.Contained.{Contained}
 use Rattle.it_contain.specs.declared.types.Contained.TheVariants.{Found, Open}
-use Rattle.it_contain.specs.declared.types.Pair.{Pair}
+use Rattle.it_region.specs.declared.types.Pair.{Pair}
 use Rattle.it_contain.specs.declared.types.Shape.{Shape}
-use Rattle.it_contain.specs.Obligations.{ArePulledRows}
-use Rattle.it_contain.specs.Pairs.{Fits, pair_obligations}
+use Rattle.it_region.specs.Obligations.{ArePulledRows}
+use Rattle.it_region.specs.Pairs.{Fits, pair_obligations}
 use Rattle.it_contain.specs.Proposals.{Plan, plan_after}
 
--- what is looked for: a candidate that shows that the pair's first region lies in the second, by runs of so many steps
+-- what is looked for: a candidate that shows that the pair's first region lies in the second, by runs with a budget of steps or
+-- without one
 pub record Goal : Type 0 where
   pub pair : Pair
-  pub steps : ℕ
+  pub budget : Option ℕ
 
 abbrev pub goal_of : Pair → Option ℕ → Goal
-goal_of p budget = record { pair = p; steps = unwrap_or budget 0 }
-
--- the runs are bounded
-abbrev pub IsBounded : Option ℕ → Type 0
-IsBounded budget = budget ≡ Some (unwrap_or budget 0)
+goal_of p budget = record { pair = p; budget = budget }
 
 -- the certificate with which the run about a target ends, which is right
-pub record IsProofOf (q : ProblemView) (steps : ℕ) (target : Terms) (w : CertificateView) : Type 0 where
-  pub due : EndsWith q target steps (Yes w)
+pub record IsProofOf (q : ProblemView) (budget : Option ℕ) (target : Terms) (w : CertificateView) : Type 0 where
+  pub due : EndsWith q target budget (Yes w)
   pub right : IsRightProof q target (Yes w)
 
 -- one for each target, in order
-abbrev pub AreProofsOf : ProblemView → ℕ → List Terms → List CertificateView → Type 0
-AreProofsOf q steps targets ws = AllZip (IsProofOf q steps) targets ws
+abbrev pub AreProofsOf : ProblemView → Option ℕ → List Terms → List CertificateView → Type 0
+AreProofsOf q budget targets ws = AllZip (IsProofOf q budget) targets ws
 
 -- the candidate fits, and each of its obligations has its proof
 pub record IsProofBy (goal : Goal) (c : Candidate) (ws : List CertificateView) : Type 0 where
   pub fits : Fits goal.pair c
   pub rows : List Terms
   pub are : ArePulledRows goal.pair.first.space (pair_obligations goal.pair c) rows
-  pub proofs : AreProofsOf (problem_view goal.pair.first) goal.steps rows ws
+  pub proofs : AreProofsOf (problem_view goal.pair.first) goal.budget rows ws
 
 abbrev pub Proofs : Type 0
 Proofs = Vec Certificate Global

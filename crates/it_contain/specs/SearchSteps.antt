@@ -4,21 +4,26 @@ use Rattle.it_space.specs.declared.answers.Certificate.{Certificate}
 use Rattle.it_space.specs.Answers.{CertificateView, certificate_view}
 use Rattle.it_space.specs.Problems.{ProblemView}
 use Rattle.it_space.specs.Rows.{Terms}
-use Rattle.it_contain.specs.declared.types.Candidate.{Candidate}
+use Rattle.it_region.specs.declared.types.Candidate.{Candidate}
+use Rattle.it_contain.specs.declared.memory.Memory.{Memory}
 use Rattle.it_contain.specs.declared.types.Contained.{Contained}
 use Rattle.it_contain.specs.declared.types.Contained.TheVariants.{Found, Open}
 use Rattle.it_contain.specs.Proposals.{Plan, plan_after}
 use Rattle.it_contain.specs.Search.{Goal, IsProofOf, AreProofsOf, Proofs, proof_views, IsProof, IsUnproved}
 
 -- whether a target is proved
-abbrev pub ProvesOne : ProblemView → ℕ → Terms → Option Certificate → Type 0
-ProvesOne q steps t None = (w : CertificateView) → IsProofOf q steps t w → ⊥
-ProvesOne q steps t (Some c) = IsProofOf q steps t (certificate_view c)
+abbrev pub ProvesOne : ProblemView → Option ℕ → Terms → Option Certificate → Type 0
+ProvesOne q budget t None = (w : CertificateView) → IsProofOf q budget t w → ⊥
+ProvesOne q budget t (Some c) = IsProofOf q budget t (certificate_view c)
+
+-- what is kept of each row is whether it is proved
+unfoldable pub Remembers : ProblemView → Option ℕ → Memory → Type 0
+Remembers q budget m = All (λ e. ProvesOne q budget e.0.items e.1) m.outcomes.entries
 
 -- whether all are
-abbrev pub ProvesAll : ProblemView → ℕ → List Terms → Option Proofs → Type 0
-ProvesAll q steps ts None = (ws : List CertificateView) → AreProofsOf q steps ts ws → ⊥
-ProvesAll q steps ts (Some proofs) = AreProofsOf q steps ts (proof_views proofs)
+abbrev pub ProvesAll : ProblemView → Option ℕ → List Terms → Option Proofs → Type 0
+ProvesAll q budget ts None = (ws : List CertificateView) → AreProofsOf q budget ts ws → ⊥
+ProvesAll q budget ts (Some proofs) = AreProofsOf q budget ts (proof_views proofs)
 
 -- whether a candidate is
 abbrev pub Judges : Goal → Candidate → Option Proofs → Type 0

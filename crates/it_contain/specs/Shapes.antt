@@ -2,14 +2,19 @@
 use Rattle.std.specs.Prelude.{ℕ, suc, zero, ◌^◌, ◌≤◌, List, [], ◌∷◌, ◌++◌, map, take}
 use Rattle.std.specs.List.{flat_map}
 use Rattle.it_polymatroid.specs.Elementals.{span}
+use Rattle.it_region.specs.declared.types.Pair.{Pair}
+use Rattle.it_region.specs.declared.types.Candidate.{Candidate}
 use Rattle.it_contain.specs.declared.types.Shape.{Shape}
-use Rattle.it_contain.specs.declared.types.Candidate.{Candidate}
 
 -- 1 to 10 variables, and at most 4 parts
 pub record IsShape (s : Shape) : Type 0 where
   pub some : 1 ≤ s.variables
   pub few : s.variables ≤ 10
   pub parts : s.parts ≤ 4
+
+-- how many variables may be used, for how many auxiliaries
+abbrev pub shape_of : Pair → Shape
+shape_of p = record { variables = p.first.space.variables; parts = p.parts }
 
 -- all lists of so many members out of xs in lexicographic order, the last member changing fastest
 unfoldable pub tuples : List ℕ → ℕ → List (List ℕ)

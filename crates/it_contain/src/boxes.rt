@@ -5,7 +5,8 @@ ghost use Rattle.it_contain.specs.Proposals.{Takes, plan_after};
 ghost use Rattle.it_contain.specs.Search.{lists_of};
 
 use crate::proposer::Proposer;
-use crate::types::{Candidate, Shape};
+use crate::types::Shape;
+use it_region::Candidate;
 
 /// Begins a box.
 fn begin_one(one: &mut Box<dyn Proposer>, shape: Shape)

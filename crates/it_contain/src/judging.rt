@@ -1,23 +1,21 @@
 //! Whether a candidate is proved.
-ghost use Rattle.std.specs.Prelude.{◌≡◌, All, IfOk};
-ghost use Rattle.std.specs.Option.{unwrap_or};
+ghost use Rattle.std.specs.Prelude.{◌≡◌, All, IfOk, OnOk};
 ghost use Rattle.it_space.specs.Problems.{IsProblem, problem_view};
 ghost use Rattle.it_space.specs.Rows.{IsUpTo};
 ghost use Rattle.it_space.specs.Spaces.{size_of};
-ghost use Rattle.it_contain.specs.Pairs.{IsPair};
-ghost use Rattle.it_contain.specs.Search.{goal_of, IsBounded};
-ghost use Rattle.it_contain.specs.SearchSteps.{ProvesOne, ProvesAll, Judges};
+ghost use Rattle.it_region.specs.Pairs.{IsPair};
+ghost use Rattle.it_contain.specs.Search.{goal_of};
+ghost use Rattle.it_contain.specs.SearchSteps.{ProvesOne, ProvesAll, Judges, Remembers};
 
-use crate::fitting::fits;
-use crate::pulled_rows::obligations;
-use crate::types::{Candidate, Pair};
+use crate::memory::{Memory, outcome_copied};
 use it_prove::{Proof, prove};
+use it_region::{Candidate, Pair, fits, obligations};
 use it_simplex::Budget;
 use it_space::{Certificate, Problem, Row};
 use std::alloc::{AllocError, Global};
 
-/// The certificate of a target, if the run ends with one.
-fn proof_of(
+/// The certificate that the run about a target ends with, if it does.
+fn solved(
     alloc: Global,
     problem: &Problem,
     target: &Row,
@@ -25,8 +23,7 @@ fn proof_of(
 ) -> Result<Option<Certificate>, AllocError>
     requires problem { IsProblem (problem_view problem.now) }
     requires target { IsUpTo (size_of problem.now.space) target.now }
-    requires budget { IsBounded budget }
-    ensures { IfOk result (λ o. ProvesOne (problem_view problem.now) (unwrap_or budget 0) target.now o) }
+    ensures { IfOk result (λ o. ProvesOne (problem_view problem.now) budget target.now o) }
 {
     match prove(alloc, problem, target, budget)? {
         Proof::Yes(certificate) => Ok(Some(certificate)),
@@ -35,21 +32,46 @@ fn proof_of(
     }
 }
 
+/// The same, without the run where the target is kept.
+fn proof_of(
+    alloc: Global,
+    problem: &Problem,
+    target: &Row,
+    budget: Budget,
+    memory: &mut Memory,
+) -> Result<Option<Certificate>, AllocError>
+    requires problem { IsProblem (problem_view problem.now) }
+    requires target { IsUpTo (size_of problem.now.space) target.now }
+    requires memory { Remembers (problem_view problem.now) budget memory.old }
+    ensures proves { IfOk result (λ o. ProvesOne (problem_view problem.now) budget target.now o) }
+    ensures memory { OnOk result (Remembers (problem_view problem.now) budget memory.new) }
+{
+    if let Some(outcome) = memory.outcomes.get(target.terms()) {
+        let kept = outcome_copied(alloc, outcome)?;
+        return Ok(kept);
+    }
+    let outcome = solved(alloc, problem, target, budget)?;
+    memory.keep(alloc, target, &outcome)?;
+    Ok(outcome)
+}
+
 /// The certificates of all targets in order, if each run ends with one.
 fn proofs_of(
     alloc: Global,
     problem: &Problem,
     targets: &[Row],
     budget: Budget,
+    memory: &mut Memory,
 ) -> Result<Option<Vec<Certificate>>, AllocError>
     requires problem { IsProblem (problem_view problem.now) }
     requires targets { All (IsUpTo (size_of problem.now.space)) targets.now }
-    requires budget { IsBounded budget }
-    ensures { IfOk result (λ o. ProvesAll (problem_view problem.now) (unwrap_or budget 0) targets.now o) }
+    requires memory { Remembers (problem_view problem.now) budget memory.old }
+    ensures proves { IfOk result (λ o. ProvesAll (problem_view problem.now) budget targets.now o) }
+    ensures memory { OnOk result (Remembers (problem_view problem.now) budget memory.new) }
 {
     let mut proofs = Vec::new(alloc);
     for target in targets {
-        match proof_of(alloc, problem, target, budget)? {
+        match proof_of(alloc, problem, target, budget, memory)? {
             Some(proof) => proofs.push(proof)?,
             None => return Ok(None),
         }
@@ -63,14 +85,17 @@ pub(crate) fn proofs_of_candidate(
     pair: &Pair,
     candidate: &Candidate,
     budget: Budget,
+    memory: &mut Memory,
 ) -> Result<Option<Vec<Certificate>>, AllocError>
     requires pair { IsPair pair.now }
-    requires budget { IsBounded budget }
-    ensures { IfOk result (λ o. Judges (goal_of pair.now budget) candidate.now o) }
+    requires memory { Remembers (problem_view pair.now.first) budget memory.old }
+    ensures judges { IfOk result (λ o. Judges (goal_of pair.now budget) candidate.now o) }
+    ensures memory { OnOk result (Remembers (problem_view pair.now.first) budget memory.new) }
 {
     if !fits(pair, candidate) {
         return Ok(None);
     }
     let rows = obligations(alloc, pair, candidate)?;
-    proofs_of(alloc, &pair.first, rows.as_slice(), budget)
+    let proofs = proofs_of(alloc, &pair.first, rows.as_slice(), budget, memory)?;
+    Ok(proofs)
 }

@@ -1,14 +1,12 @@
-//! Whether one region lies in another: what the auxiliaries of the second may stand for, the obligations of such a
-//! substitution, and those who propose it.
+//! The search for a substitution that shows that one region lies in another: those who propose candidates, and the first
+//! candidate that is proved.
 #![tactic(auto)]
 
 mod boxes;
-mod fitting;
 mod judging;
-mod laws;
-mod pairs;
+mod memory;
 mod proposer;
-mod pulled_rows;
+mod recent;
 mod search;
 mod singles;
 mod subsets;
@@ -17,12 +15,10 @@ mod tests;
 mod tuples;
 pub mod types;
 
-pub use fitting::fits;
-pub use laws::obligations_contain;
-pub use pairs::pair;
+pub use it_region::{Candidate, Pair, fits, obligations, pair};
 pub use proposer::Proposer;
-pub use pulled_rows::obligations;
+pub use recent::Recent;
 pub use search::contain;
 pub use singles::Singles;
 pub use subsets::Subsets;
-pub use types::{Candidate, Contained, Shape};
+pub use types::{Contained, Shape};

@@ -3,11 +3,12 @@ ghost use Rattle.std.specs.Prelude.{◌≡◌, List, []};
 ghost use Rattle.it_contain.specs.Shapes.{IsShape};
 ghost use Rattle.it_contain.specs.Proposals.{Plan, Takes, Learns};
 
-use crate::types::{Candidate, Shape};
+use crate::types::Shape;
+use it_region::Candidate;
 
 /// A source of candidates for one question after another, which may learn from those that were proved.
 pub trait Proposer: Drop {
-    ghost use Rattle.it_contain.specs.declared.types.Candidate.{Candidate};
+    ghost use Rattle.it_region.specs.declared.types.Candidate.{Candidate};
 
     /// The candidates still to come.
     ghost pending: { Self → List Candidate };

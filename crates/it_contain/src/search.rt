@@ -1,21 +1,25 @@
 //! The search for a candidate that is proved.
-ghost use Rattle.std.specs.Prelude.{◌≡◌, ◌<◌, ◌+◌, List, [], map, drop, get_or, vec_len, IfOk};
-ghost use Rattle.it_contain.specs.Pairs.{IsPair, shape_of};
-ghost use Rattle.it_contain.specs.Shapes.{IsShape};
-ghost use Rattle.it_contain.specs.Search.{lists_of, plan_of, Ends, goal_of, IsBounded};
-ghost use Rattle.it_contain.specs.SearchSteps.{Tries, KeepsLater};
+ghost use Rattle.std.specs.Prelude.{◌≡◌, ◌<◌, ◌+◌, List, [], map, drop, get_or, vec_len, IfOk, OnOk};
+ghost use Rattle.it_space.specs.Problems.{problem_view};
+ghost use Rattle.it_region.specs.Pairs.{IsPair};
+ghost use Rattle.it_contain.specs.Shapes.{IsShape, shape_of};
+ghost use Rattle.it_contain.specs.Search.{lists_of, plan_of, Ends, goal_of};
+ghost use Rattle.it_contain.specs.SearchSteps.{Tries, KeepsLater, Remembers};
 
 use crate::boxes::{begin_all, next_at, teach_all, tell_all};
 use crate::judging::proofs_of_candidate;
+use crate::memory::Memory;
 use crate::proposer::Proposer;
-use crate::types::{Candidate, Contained, Pair, Shape};
+use crate::types::{Contained, Shape};
+use it_region::{Candidate, Pair};
 use it_simplex::Budget;
 use it_space::Certificate;
 use std::alloc::{AllocError, Global};
 
 /// Looks for a substitution that shows that the pair's first region lies in the second, by runs of at most the budget's
-/// steps. All boxes are begun, and at most `tries` candidates are tried: those of `first`, then those of each box in
-/// order. A candidate that doesn't fit counts. Each box is told of each candidate that was tried.
+/// steps, where there is a budget. All boxes are begun, and at most `tries` candidates are tried: those of `first`, then those
+/// of each box in order. A candidate that doesn't fit counts. Each box is told of each candidate that was tried. Where memory
+/// was wanted nothing is known of the boxes.
 pub fn contain(
     alloc: Global,
     pair: &Pair,
@@ -25,14 +29,15 @@ pub fn contain(
     budget: Budget,
 ) -> Result<Contained, AllocError>
     requires pair { IsPair pair.now }
-    requires budget { IsBounded budget }
     ensures { IfOk result (λ r. Ends (goal_of pair.now budget) tries (plan_of first.now (map plan boxes.old.items) (shape_of pair.now)) (map plan boxes.old.items) r (map plan boxes.new.items)) }
 {
     let shape = Shape {
         variables: pair.first.space.variables,
         parts: pair.parts,
     };
-    try_all(alloc, pair, shape, first, boxes, tries, budget)
+    let mut memory = Memory::new(alloc);
+    let end = try_all(alloc, pair, shape, first, boxes, tries, budget, &mut memory)?;
+    Ok(end)
 }
 
 /// Tries a candidate, and tells all boxes whether it is proved. The answer is its proofs, if it is.
@@ -42,12 +47,14 @@ fn try_one(
     candidate: &Candidate,
     boxes: &mut Vec<Box<dyn Proposer>>,
     budget: Budget,
+    memory: &mut Memory,
 ) -> Result<Option<Vec<Certificate>>, AllocError>
     requires pair { IsPair pair.now }
-    requires budget { IsBounded budget }
-    ensures { IfOk result (λ o. Tries (goal_of pair.now budget) candidate.now o (map pending boxes.old.items) (map plan boxes.old.items) (map pending boxes.new.items) (map plan boxes.new.items)) }
+    requires memory { Remembers (problem_view pair.now.first) budget memory.old }
+    ensures tries { IfOk result (λ o. Tries (goal_of pair.now budget) candidate.now o (map pending boxes.old.items) (map plan boxes.old.items) (map pending boxes.new.items) (map plan boxes.new.items)) }
+    ensures memory { OnOk result (Remembers (problem_view pair.now.first) budget memory.new) }
 {
-    match proofs_of_candidate(alloc, pair, candidate, budget)? {
+    match proofs_of_candidate(alloc, pair, candidate, budget, memory)? {
         Some(proof) => {
             teach_all(boxes, candidate);
             Ok(Some(proof))
@@ -67,18 +74,20 @@ fn try_list(
     boxes: &mut Vec<Box<dyn Proposer>>,
     tries: u32,
     budget: Budget,
+    memory: &mut Memory,
 ) -> Result<Contained, AllocError>
     requires pair { IsPair pair.now }
-    requires budget { IsBounded budget }
+    requires memory { Remembers (problem_view pair.now.first) budget memory.old }
     ensures ends { IfOk result (λ r. Ends (goal_of pair.now budget) tries first.now (map plan boxes.old.items) r (map plan boxes.new.items)) }
     ensures later { IfOk result (λ r. KeepsLater r (map pending boxes.old.items) (map pending boxes.new.items)) }
+    ensures memory { OnOk result (Remembers (problem_view pair.now.first) budget memory.new) }
 {
     let mut count: u32 = 0;
     for candidate in first {
         if count == tries {
             return Ok(Contained::Open { tried: count });
         }
-        match try_one(alloc, pair, candidate, boxes, budget)? {
+        match try_one(alloc, pair, candidate, boxes, budget, memory)? {
             Some(proof) => return Ok(Contained::Found(*candidate, proof)),
             None => count += 1,
         }
@@ -94,18 +103,20 @@ fn try_box(
     i: usize,
     tries: u32,
     budget: Budget,
+    memory: &mut Memory,
 ) -> Result<Contained, AllocError>
     requires pair { IsPair pair.now }
-    requires budget { IsBounded budget }
+    requires memory { Remembers (problem_view pair.now.first) budget memory.old }
     requires box_is { i < vec_len boxes.old }
     ensures ends { IfOk result (λ r. Ends (goal_of pair.now budget) tries (get_or (map pending boxes.old.items) i []) (map plan boxes.old.items) r (map plan boxes.new.items)) }
     ensures later { IfOk result (λ r. KeepsLater r (drop (i + 1) (map pending boxes.old.items)) (drop (i + 1) (map pending boxes.new.items))) }
+    ensures memory { OnOk result (Remembers (problem_view pair.now.first) budget memory.new) }
 {
     for count in 0..tries {
         let Some(candidate) = next_at(boxes, i) else {
             return Ok(Contained::Open { tried: count });
         };
-        match try_one(alloc, pair, &candidate, boxes, budget)? {
+        match try_one(alloc, pair, &candidate, boxes, budget, memory)? {
             Some(proof) => return Ok(Contained::Found(candidate, proof)),
             None => {}
         }
@@ -122,19 +133,20 @@ fn try_all(
     boxes: &mut Vec<Box<dyn Proposer>>,
     tries: u32,
     budget: Budget,
+    memory: &mut Memory,
 ) -> Result<Contained, AllocError>
     requires pair { IsPair pair.now }
-    requires budget { IsBounded budget }
+    requires memory { Remembers (problem_view pair.now.first) budget memory.old }
     requires shape { IsShape shape }
     ensures { IfOk result (λ r. Ends (goal_of pair.now budget) tries (plan_of first.now (map plan boxes.old.items) shape) (map plan boxes.old.items) r (map plan boxes.new.items)) }
 {
     begin_all(boxes, shape);
-    let mut count = match try_list(alloc, pair, first, boxes, tries, budget)? {
+    let mut count = match try_list(alloc, pair, first, boxes, tries, budget, memory)? {
         Contained::Found(candidate, proof) => return Ok(Contained::Found(candidate, proof)),
         Contained::Open { tried } => tried,
     };
     for i in 0..boxes.len() {
-        match try_box(alloc, pair, boxes, i, tries - count, budget)? {
+        match try_box(alloc, pair, boxes, i, tries - count, budget, memory)? {
             Contained::Found(candidate, proof) => return Ok(Contained::Found(candidate, proof)),
             Contained::Open { tried: more } => count += more,
         }

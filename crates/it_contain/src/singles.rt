@@ -5,7 +5,8 @@ ghost use Rattle.it_contain.specs.Digits.{tuple_at, IsWithin};
 
 use crate::proposer::Proposer;
 use crate::tuples::{last_digits, power};
-use crate::types::{Candidate, Shape};
+use crate::types::Shape;
+use it_region::Candidate;
 use it_space::VarSet;
 
 /// The set of a number among those of at most one variable.
@@ -53,7 +54,8 @@ impl Singles {
     /// With no candidate to come until it is begun.
     #[tactic(auto, using(crate::proofs::CandidateLemmas::no_singles))]
     pub fn new() -> Singles
-        ensures { drop result.number (single_candidates result.shape) ≡ [] }
+        ensures pending { ⟦<Singles as Proposer>⟧.pending result ≡ [] }
+        ensures plan { ⟦<Singles as Proposer>⟧.plan result ≡ (λ shape proved. single_candidates shape) }
     {
         Singles {
             shape: Shape {

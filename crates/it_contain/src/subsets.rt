@@ -5,7 +5,8 @@ ghost use Rattle.it_contain.specs.Digits.{tuple_at, IsWithin};
 
 use crate::proposer::Proposer;
 use crate::tuples::{last_digits, power};
-use crate::types::{Candidate, Shape};
+use crate::types::Shape;
+use it_region::Candidate;
 use it_space::VarSet;
 
 /// How many sets there are.
@@ -61,7 +62,8 @@ impl Subsets {
     /// With no candidate to come until it is begun.
     #[tactic(auto, using(crate::proofs::CandidateLemmas::no_subsets))]
     pub fn new() -> Subsets
-        ensures { drop result.number (subset_candidates result.shape) ≡ [] }
+        ensures pending { ⟦<Subsets as Proposer>⟧.pending result ≡ [] }
+        ensures plan { ⟦<Subsets as Proposer>⟧.plan result ≡ (λ shape proved. subset_candidates shape) }
     {
         Subsets {
             shape: Shape {

@@ -1,38 +1,69 @@
-ghost use Rattle.std.specs.Prelude.{◌≡◌, ◌∷◌, [], if◌then◌else◌};
-ghost use Rattle.it_contain.specs.Pairs.{IsPair};
+ghost use Rattle.std.specs.Prelude.{◌≡◌, ◌∷◌, [], IsTrue, replicate};
+ghost use Rattle.it_question.specs.Questions.{verb_view};
+ghost use Rattle.it_region.specs.Pairs.{IsPair, IsContainment};
 
-use crate::types::Pair;
-use crate::{Candidate, Contained, Proposer, Shape, Subsets, contain};
+use crate::{Candidate, Contained, Pair, Proposer, Recent, Shape, Singles, Subsets, contain, pair};
+use it_question::questions;
+use it_question::types::Verb;
 use it_simplex::Budget;
 use it_space::{Problem, Space, VarSet};
 use std::alloc::{AllocError, Global};
+use std::process::Abort;
 
-/// A proposer of one candidate, whatever it is begun with. It learns nothing.
+/// A proposer of one candidate, so many times, whatever it is begun with. It learns nothing. One that lies in `learn`, so that a
+/// failure changes what it proposes or a proof changes it otherwise than its plan says, can't be written: it has no proof.
 #[derive(Drop)]
 struct Stubborn {
     candidate: Candidate,
-    is_over: bool,
+    times: u64,
+    left: u64,
 }
 
 impl Proposer for Stubborn {
-    ghost pending = { λ s. if s.is_over then [] else s.candidate ∷ [] };
+    ghost pending = { λ s. replicate s.left s.candidate };
 
-    ghost plan = { λ s shape proved. s.candidate ∷ [] };
+    ghost plan = { λ s shape proved. replicate s.times s.candidate };
 
     fn begin(&mut self, _shape: Shape) {
-        self.is_over = false;
+        self.left = self.times;
     }
 
     fn next(&mut self) -> Option<Candidate> {
-        if self.is_over {
-            None
-        } else {
-            self.is_over = true;
-            Some(self.candidate)
+        if self.left == 0 {
+            return None;
         }
+        self.left -= 1;
+        Some(self.candidate)
     }
 
     fn learn(&mut self, _candidate: &Candidate, _proved: bool) {}
+}
+
+/// A candidate of so many sets, the first of which is this one and the others are empty.
+fn candidate(count: u8, first: VarSet) -> Candidate {
+    Candidate {
+        count,
+        parts: [first, VarSet::empty(), VarSet::empty(), VarSet::empty()],
+    }
+}
+
+/// A list of one box, which is stubborn.
+fn boxes_with(
+    rt: &impl Abort,
+    alloc: Global,
+    candidate: Candidate,
+    times: u64,
+) -> Vec<Box<dyn Proposer>> {
+    let mut boxes: Vec<Box<dyn Proposer>> = Vec::new(alloc);
+    let one = Stubborn {
+        candidate,
+        times,
+        left: 0,
+    };
+    boxes
+        .push(Box::new(alloc, one).expect(rt, "memory"))
+        .expect(rt, "memory");
+    boxes
 }
 
 /// A first region of one variable without lines, and a second one of that and an auxiliary, without lines.
@@ -80,36 +111,95 @@ fn is_found(end: &Contained, part: VarSet) -> bool {
 fn candidates_that_do_not_fit(rt: HostRuntime) {
     let alloc = rt.alloc();
     let pair = free_pair(alloc);
-    let sets = [
-        VarSet::single(9),
-        VarSet::empty(),
-        VarSet::empty(),
-        VarSet::empty(),
-    ];
-    let first = [Candidate {
-        count: 1,
-        parts: sets,
-    }];
-    let stubborn = Stubborn {
-        candidate: Candidate {
-            count: 2,
-            parts: sets,
-        },
-        is_over: true,
-    };
-    let mut boxes: Vec<Box<dyn Proposer>> = Vec::new(alloc);
-    boxes
-        .push(Box::new(alloc, stubborn).expect(&rt, "memory"))
-        .expect(&rt, "memory");
-    let end = contain(alloc, &pair, &first, &mut boxes, 256, Budget::at_most(100)).expect(
-        &rt, "memory",
-    );
+    let first = [candidate(1, VarSet::single(9))];
+    let mut boxes = boxes_with(&rt, alloc, candidate(2, VarSet::single(9)), 1);
+    let end = contain(alloc, &pair, &first, &mut boxes, 256, Budget::none()).expect(&rt, "memory");
     assert!(rt; is_open(&end, 2));
     boxes
         .push(Box::new(alloc, Subsets::new()).expect(&rt, "memory"))
         .expect(&rt, "memory");
-    let end = contain(alloc, &pair, &first, &mut boxes, 256, Budget::at_most(100)).expect(
-        &rt, "memory",
-    );
+    let end = contain(alloc, &pair, &first, &mut boxes, 256, Budget::none()).expect(&rt, "memory");
     assert!(rt; is_found(&end, VarSet::empty()));
+}
+
+/// Under the first region a rate is at most I(X;Y), and with U standing for X it lies in the second.
+const REGIONS: &[u8] = b"vars X, Y
+rates R
+region
+row R <= I(X;Y)
+region
+aux U
+given markov U -> X -> Y
+row R <= I(U;Y)
+contain
+";
+
+fn is_containment(verb: &Verb) -> bool
+    ensures { IsTrue result → IsContainment (verb_view verb.now) }
+{
+    match verb {
+        Verb::Prove(_) => false,
+        Verb::Eliminate { .. } => false,
+        Verb::Contain { .. } => true,
+    }
+}
+
+/// The pair of the two regions.
+fn pair_of_regions(rt: &impl Abort, alloc: Global) -> Pair
+    ensures { IsPair result }
+{
+    assert!(rt; REGIONS.len() <= 1_048_577);
+    let asked = questions(alloc, REGIONS).expect(rt, "reading");
+    assert_eq!(rt; asked.len(), 1);
+    let question = &asked.as_slice()[0];
+    assert!(rt; is_containment(&question.verb));
+    pair(alloc, question).expect(rt, "memory")
+}
+
+/// How the search ends with three candidates of a set that there isn't, and behind them all sets of at most one variable.
+fn end_behind_strangers(rt: &impl Abort, alloc: Global, tries: u32) -> Contained {
+    let pair = pair_of_regions(rt, alloc);
+    let mut boxes = boxes_with(rt, alloc, candidate(1, VarSet::single(2)), 3);
+    boxes
+        .push(Box::new(alloc, Singles::new()).expect(rt, "memory"))
+        .expect(rt, "memory");
+    contain(alloc, &pair, &[], &mut boxes, tries, Budget::none()).expect(rt, "memory")
+}
+
+/// Strangers count among the tries: X is the fifth candidate.
+#[test]
+fn sets_that_do_not_exist(rt: HostRuntime) {
+    let alloc = rt.alloc();
+    assert!(rt; is_open(&end_behind_strangers(&rt, alloc, 3), 3));
+    assert!(rt; is_open(&end_behind_strangers(&rt, alloc, 4), 4));
+    assert!(rt; is_found(&end_behind_strangers(&rt, alloc, 5), VarSet::single(0)));
+}
+
+/// One box that never ends, with a candidate that fits and isn't proved, takes all tries, and the next box has none.
+#[test]
+fn candidates_without_end(rt: HostRuntime) {
+    let alloc = rt.alloc();
+    let pair = pair_of_regions(&rt, alloc);
+    let mut boxes = boxes_with(&rt, alloc, candidate(1, VarSet::empty()), u64::MAX);
+    boxes
+        .push(Box::new(alloc, Singles::new()).expect(&rt, "memory"))
+        .expect(&rt, "memory");
+    let end = contain(alloc, &pair, &[], &mut boxes, 256, Budget::none()).expect(&rt, "memory");
+    assert!(rt; is_open(&end, 256));
+}
+
+/// What was proved for one question is tried first for the next.
+#[test]
+fn what_worked_last(rt: HostRuntime) {
+    let alloc = rt.alloc();
+    let pair = pair_of_regions(&rt, alloc);
+    let mut boxes: Vec<Box<dyn Proposer>> = Vec::new(alloc);
+    boxes
+        .push(Box::new(alloc, Recent::new()).expect(&rt, "memory"))
+        .expect(&rt, "memory");
+    let known = [candidate(1, VarSet::single(0))];
+    let end = contain(alloc, &pair, &known, &mut boxes, 1, Budget::none()).expect(&rt, "memory");
+    assert!(rt; is_found(&end, VarSet::single(0)));
+    let end = contain(alloc, &pair, &[], &mut boxes, 1, Budget::none()).expect(&rt, "memory");
+    assert!(rt; is_found(&end, VarSet::single(0)));
 }

@@ -1,9 +1,13 @@
+use Rattle.std.proofs.Common.{refl, sym, ap, subst, ◌∙◌}
+use Rattle.std.specs.Option.{option_copied}
 use Rattle.it_space.specs.Problems.{problem_view}
-use Rattle.it_contain.proofs.ProofLemmas.{no_proves, undecided_proves}
+use Rattle.it_space.specs.Rows.{Terms}
+use Rattle.it_contain.specs.SearchSteps.{ProvesOne}
+use Rattle.it_contain.proofs.MemoryLemmas.{same_outcome, recalls}
 use Rattle.it_contain.proofs.judging.proof_of.Goals as goal
 
-pub returns-in-No : goal.returns-in-No
-returns-in-No c = no_proves (problem_view c.args.problem.now) c.args.target.now c.args.budget c.in_ok-certificate.field-0 c.requires.budget c.in_ok-certificate.ensures.outcome c.in-No.field-0 c.in-No.is
-
-pub returns : goal.returns
-returns c = undecided_proves (problem_view c.args.problem.now) c.args.target.now c.args.budget c.in_ok-certificate.field-0 c.requires.budget c.in_ok-certificate.ensures.outcome c.in-Undecided.field-0 c.in-Undecided.is
+pub returns-in-Some-clause-proves : goal.returns-in-Some-clause-proves
+returns-in-Some-clause-proves c =
+    same_outcome (problem_view c.args.problem.now) c.args.budget c.args.target.now c.in_ok-kept.kept c.in-Some.outcome.now c.in_ok-kept.ensures
+    (subst (λ (t : Terms). ProvesOne (problem_view c.args.problem.now) c.args.budget t c.in-Some.outcome.now) c.terms.ensures.value
+    (recalls (problem_view c.args.problem.now) c.args.budget _ (λ s t. refl) c.args.memory.now c.terms.result.now c.in-Some.outcome.now (sym (ap option_copied c.in-Some.is) ∙ c.get.ensures.value) c.requires.memory))

@@ -1,0 +1,98 @@
+-- What is kept of obligations.
+use Rattle.std.proofs.Common.{◌≡◌, ℕ, ℤ, List, [], ◌∷◌, Bool, true, false, ◌&&◌, cond, if◌then◌else◌, nat_eq, Option, Some, None, Vec, Global, All, refl, sym, ap, ap₂, subst, ◌∙◌}
+use Rattle.std.specs.Option.{option_map}
+use Rattle.std.specs.Ordering.{int_eq}
+use Rattle.std.specs.Cmp.Lexicographic.{pointwise}
+use Rattle.std.proofs.lemmas.List.Elements.{All-nil, All-cons, All-head, All-tail}
+use Rattle.std.proofs.lemmas.Bool.Decides.{Decides-eqb, Decides-int_eq}
+use Rattle.std.specs.Map.{lookup}
+use Rattle.indexmap.specs.IndexMap.{insert_entry}
+use Rattle.it_space.specs.declared.answers.Certificate.{Certificate}
+use Rattle.it_space.specs.Answers.{CertificateView, certificate_view}
+use Rattle.it_space.specs.Problems.{ProblemView}
+use Rattle.it_space.specs.Rows.{Terms}
+use Rattle.it_contain.specs.declared.memory.Memory.{Memory}
+use Rattle.it_contain.specs.Search.{IsProofOf}
+use Rattle.it_contain.specs.SearchSteps.{ProvesOne, Remembers}
+
+-- an outcome says the same once it is copied
+pub same_outcome : (q : ProblemView) (budget : Option ℕ) (t : Terms) (o p : Option Certificate) → option_map certificate_view o ≡ option_map certificate_view p → ProvesOne q budget t p → ProvesOne q budget t o
+same_outcome q budget t None None e h = h
+same_outcome q budget t None (Some c) e h = absurd (cc)
+same_outcome q budget t (Some c) None e h = absurd (cc)
+same_outcome q budget t (Some c) (Some d) e h = subst (λ (w : CertificateView). IsProofOf q budget t w) (sym (inside e)) h
+  where
+    inside : Some (certificate_view c) ≡ Some (certificate_view d) → certificate_view c ≡ certificate_view d
+    inside e = cc
+
+-- ---- equal rows
+
+-- how the terms of rows are compared
+abbrev pub Compares : (ℕ × ℤ → ℕ × ℤ → Bool) → Type 0
+Compares eq = (s t : ℕ × ℤ) → eq s t ≡ (nat_eq s.0 t.0 && int_eq s.1 t.1)
+
+both : (a b : Bool) → (a && b) ≡ true → (a ≡ true) × (b ≡ true)
+both true true e = (refl, refl)
+both true false e = absurd (cc)
+both false b e = absurd (cc)
+
+same_term : (s t : ℕ × ℤ) → (nat_eq s.0 t.0 && int_eq s.1 t.1) ≡ true → s ≡ t
+same_term s t e =
+    let h = both (nat_eq s.0 t.0) (int_eq s.1 t.1) e in
+    ap₂ (λ c x. (c, x)) ((Decides-eqb s.0 t.0).0 h.0) ((Decides-int_eq s.1 t.1).0 h.1)
+
+same_terms : (eq : ℕ × ℤ → ℕ × ℤ → Bool) → Compares eq → (xs ys : Terms) → pointwise eq xs ys ≡ true → xs ≡ ys
+same_terms eq is [] [] e = refl
+same_terms eq is [] (y ∷ ys) e = absurd (cc)
+same_terms eq is (x ∷ xs) [] e = absurd (cc)
+same_terms eq is (x ∷ xs) (y ∷ ys) e =
+    let h = both (eq x y) (pointwise eq xs ys) e in
+    ap₂ (λ t ts. t ∷ ts) (same_term x y (sym (is x y) ∙ h.0)) (same_terms eq is xs ys h.1)
+
+-- ---- what is kept
+
+abbrev pub Row : Type 0
+Row = Vec (ℕ × ℤ) Global
+
+abbrev pub Entry : Type 0
+Entry = Row × Option Certificate
+
+module _ (q : ProblemView) (budget : Option ℕ) where
+  abbrev pub IsKept : Entry → Type 0
+  IsKept e = ProvesOne q budget e.0.items e.1
+
+  pub found : (test : Row → Bool) (t : Terms) → ((v : Row) → test v ≡ true → t ≡ v.items) → (es : List Entry) (o : Option Certificate) → All IsKept es → lookup test es ≡ Some o → ProvesOne q budget t o
+  found test t same [] o a e = absurd (cc)
+  found test t same (x ∷ es) o a e = by (λ rest. found test t same es o (All-tail IsKept x es a) rest) (test x.0) refl
+    where
+      by : (lookup test es ≡ Some o → ProvesOne q budget t o) → (b : Bool) → test x.0 ≡ b → ProvesOne q budget t o
+      by later true is = subst (λ (p : Option Certificate). ProvesOne q budget t p) (here (sym (ap (λ b. cond b (Some x.1) (lookup test es)) is) ∙ e)) (subst (λ (u : Terms). ProvesOne q budget u x.1) (sym (same x.0 is)) (All-head IsKept x es a))
+        where
+          here : Some x.1 ≡ Some o → x.1 ≡ o
+          here f = cc
+      by later false is = later (sym (ap (λ b. cond b (Some x.1) (lookup test es)) is) ∙ e)
+
+  pub kept : (eq : Row → Row → Bool) (v : Row) → ((w : Row) → eq v w ≡ true → v.items ≡ w.items) → (o : Option Certificate) (es : List Entry) → All IsKept es → ProvesOne q budget v.items o → All IsKept (insert_entry eq es v o)
+  kept eq v same o [] a h = All-cons IsKept (v, o) [] h (All-nil IsKept)
+  kept eq v same o (x ∷ es) a h = by (kept eq v same o es (All-tail IsKept x es a) h) (eq v x.0) refl
+    where
+      by : All IsKept (insert_entry eq es v o) → (b : Bool) → eq v x.0 ≡ b → All IsKept (if eq v x.0 then (x.0, o) ∷ es else x ∷ insert_entry eq es v o)
+      by later true is = subst (λ (b : Bool). All IsKept (if b then (x.0, o) ∷ es else x ∷ insert_entry eq es v o)) (sym is) (All-cons IsKept (x.0, o) es (subst (λ (u : Terms). ProvesOne q budget u o) (same x.0 is) h) (All-tail IsKept x es a))
+      by later false is = subst (λ (b : Bool). All IsKept (if b then (x.0, o) ∷ es else x ∷ insert_entry eq es v o)) (sym is) (All-cons IsKept x (insert_entry eq es v o) (All-head IsKept x es a) later)
+
+-- ---- of a memory
+
+pub remembers_nothing : (q : ProblemView) (budget : Option ℕ) (m : Memory) → m.outcomes.entries ≡ [] → Remembers q budget m
+unfolding Remembers
+remembers_nothing q budget m e = subst (λ (es : List Entry). All (λ x. ProvesOne q budget x.0.items x.1) es) (sym e) (All-nil _)
+
+pub remembers_one : (q : ProblemView) (budget : Option ℕ) (eq : ℕ × ℤ → ℕ × ℤ → Bool) → Compares eq → (m n : Memory) (v : Row) (o : Option Certificate)
+    → n.outcomes.entries ≡ insert_entry (λ x y. pointwise eq x.items y.items) m.outcomes.entries v o → Remembers q budget m → ProvesOne q budget v.items o → Remembers q budget n
+unfolding Remembers
+remembers_one q budget eq is m n v o e r h =
+    subst (λ (es : List Entry). All (λ x. ProvesOne q budget x.0.items x.1) es) (sym e) (kept q budget (λ x y. pointwise eq x.items y.items) v (λ w t. same_terms eq is v.items w.items t) o m.outcomes.entries r h)
+
+pub recalls : (q : ProblemView) (budget : Option ℕ) (eq : ℕ × ℤ → ℕ × ℤ → Bool) → Compares eq → (m : Memory) (t : Terms) (o : Option Certificate)
+    → Some o ≡ lookup (λ v. pointwise eq t v.items) m.outcomes.entries → Remembers q budget m → ProvesOne q budget t o
+unfolding Remembers
+recalls q budget eq is m t o e r = found q budget (λ v. pointwise eq t v.items) t (λ v h. same_terms eq is t v.items h) m.outcomes.entries o r (sym e)

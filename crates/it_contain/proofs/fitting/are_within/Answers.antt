@@ -1,7 +1,0 @@
-use Rattle.std.proofs.Common.{◌^◌, take}
-use Rattle.it_contain.proofs.PlaceLemmas.{shift_far}
-use Rattle.it_contain.proofs.PairLemmas.{all_below}
-use Rattle.it_contain.proofs.fitting.are_within.Goals as goal
-
-pub returns : goal.returns
-returns c = rw (c.are_below.ensures, shift_far c.args.variables c.requires.variables) (all_below (2 ^ c.args.variables) (take c.args.candidate.now.count c.args.candidate.now.parts))

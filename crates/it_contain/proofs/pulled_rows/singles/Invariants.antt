@@ -1,6 +1,0 @@
-use Rattle.std.proofs.Common.{◌≡◌, ◌++◌, ◌-◌}
-use Rattle.it_contain.specs.Pulling.{singles}
-use Rattle.it_contain.proofs.pulled_rows.singles.Given as goal
-
-abbrev pub invariant-loop-i : goal.invariant-loop-i
-invariant-loop-i l = l.sets.items ++ singles l.i (l.count - l.i) ≡ singles 0 l.count

@@ -1,8 +1,0 @@
-//! What obligations are good for, each theorem as the contract of a function.
-ghost use Rattle.it_contain.specs.Theorems.{ObligationsContain, PulledPointIsIn};
-
-/// Where the obligations of a substitution hold at the points of a first region, it lies in the second.
-pub fn obligations_contain()
-    ensures point { PulledPointIsIn }
-    ensures contain { ObligationsContain }
-{}

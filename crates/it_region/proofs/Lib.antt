@@ -1,0 +1,6 @@
+pub mod PlaceLemmas
+pub mod AgreeLemmas
+pub mod RegionLemmas
+pub mod RowLemmas
+pub mod PairLemmas
+pub mod TextLemmas

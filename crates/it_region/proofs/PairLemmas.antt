@@ -1,0 +1,88 @@
+-- The pair of a question's regions keeps the limits.
+use Rattle.std.proofs.Common.{◌≡◌, ℕ, ℤ, ◌+◌, ◌*◌, [], ◌∷◌, unsigned_abs, ◌<◌, ◌≤◌, ◌^◌, List, length, length-append, sym, ap, subst, ◌∙◌, arith, All, take, Result, Ok, Err, IfOk, ◌↔◌, true, nat_lt, rules}
+use Rattle.std.specs.List.{list_all}
+use Rattle.std.proofs.lemmas.List.Elements.{All-head, All-tail, All-weaker}
+use Rattle.std.proofs.lemmas.List.Sums.{AllPass-from_list_all, list_all-from_AllPass}
+use Rattle.it_space.specs.declared.spaces.Space.{Space}
+use Rattle.it_space.specs.declared.problems.Constraint.{Constraint}
+use Rattle.it_space.specs.Problems.{IsProblem, problem_view}
+use Rattle.it_space.specs.Rows.{Terms, IsUpTo}
+use Rattle.it_space.specs.Spaces.{size_of}
+use Rattle.it_question.specs.Limits.{IsQuestion, IsVerbOver, IsRegionOf}
+use Rattle.it_question.specs.Questions.{RegionView, VerbView, Prove, Eliminate, Contain, BodyView}
+use Rattle.it_space.specs.Bounds.{IsSmall}
+use Rattle.it_canon.specs.Demands.{LineDemand, States, AreStated}
+use Rattle.it_canon.specs.QuestionDemands.{space_of}
+use Rattle.it_canon.proofs.ZipLemmas.{zip-right}
+use Rattle.it_region.specs.declared.types.Pair.{Pair}
+use Rattle.it_region.specs.Obligations.{own_demands}
+use Rattle.it_region.specs.Pairs.{row_mass, IsPair, IsPairOf, PairsBy, Pairs, Fits, candidate_sets}
+use Rattle.it_region.specs.PairSteps.{AreSetsFor}
+use Rattle.it_region.specs.declared.types.Candidate.{Candidate}
+use Rattle.it_region.proofs.PlaceLemmas.{sets_within, length-sets}
+use Rattle.std.proofs.lemmas.List.{length-take-le}
+
+mass_within : (ts : Terms) → All (λ t. unsigned_abs t.1 ≤ 2 ^ 74) ts → row_mass ts ≤ length ts * 2 ^ 74
+mass_within [] a = omega arith
+mass_within (t ∷ ts) a =
+    let here = All-head (λ (t : ℕ × ℤ). unsigned_abs t.1 ≤ 2 ^ 74) t ts a in
+    let rest = mass_within ts (All-tail (λ (t : ℕ × ℤ). unsigned_abs t.1 ≤ 2 ^ 74) t ts a) in
+    omega (arith, here, rest)
+
+-- a row from a question file has room to be added up in one place
+small_mass : (ts : Terms) → IsSmall ts → row_mass ts < 2 ^ 127
+small_mass ts k = let m = mass_within ts k.each in let few = k.few in omega (arith, m, few)
+
+pub stated_small : (s : Space) (ds : List LineDemand) (cs : List Constraint) → AreStated s ds cs → All (λ c. row_mass c.row < 2 ^ 127) cs
+stated_small s ds cs a = zip-right (λ (d : LineDemand) (c : Constraint). States s d.place d.demand c) (λ c. row_mass c.row < 2 ^ 127) (λ d c t. small_mass c.row t.row.small) ds cs a
+
+pub stated_rows : (s : Space) (ds : List LineDemand) (cs : List Constraint) → AreStated s ds cs → All (λ c. IsUpTo (size_of s) c.row) cs
+stated_rows s ds cs a = zip-right (λ (d : LineDemand) (c : Constraint). States s d.place d.demand c) (λ c. IsUpTo (size_of s) c.row) (λ d c t. t.row.coordinates) ds cs a
+
+region_wider : (q : BodyView) (r : RegionView) → IsRegionOf q.names r → length r.names.variables ≡ length q.names.variables + r.auxiliaries
+region_wider q r k = omega (arith, ap length k.variables, length-append q.names.variables k.own, k.counted)
+
+pair_limits : (q : BodyView) (a b : RegionView) (p : Pair) → IsQuestion q → IsRegionOf q.names a → IsRegionOf q.names b → IsProblem (problem_view p.first) → IsPairOf q a b p → IsPair p
+pair_limits q a b p k l r problem o =
+    let front : p.first.space ≡ space_of a.names = o.first_space in
+    let n : p.first.space.variables ≡ length a.names.variables = ap (λ (s : Space). s.variables) front in
+    let m : p.space.variables ≡ length b.names.variables = ap (λ (s : Space). s.variables) o.second_space in
+    let wide = region_wider q b r in
+    record {
+      problem = problem;
+      space = record {
+        some = omega (arith, m, wide, k.some);
+        few = omega (arith, m, r.few_variables);
+        few_rates = omega (arith, ap (λ (s : Space). s.rates) o.second_space, ap length r.rates, k.few_rates);
+      };
+      rows = stated_rows p.space (own_demands q b) p.own.items o.own;
+      small = stated_small p.space (own_demands q b) p.own.items o.own;
+      few_parts = omega (arith, o.parts, r.counted, r.few);
+      variables = omega (arith, o.common, o.parts, m, wide);
+      common_first = omega (arith, o.common, n, region_wider q a l);
+      rates = ap (λ (s : Space). s.rates) o.second_space ∙ ap length r.rates ∙ sym (ap length l.rates) ∙ sym (ap (λ (s : Space). s.rates) front);
+    }
+
+limits_by : (q : BodyView) (m : VerbView) (p : Pair) → IsQuestion q → IsVerbOver q.names m → IsProblem (problem_view p.first) → PairsBy q m p → IsPair p
+limits_by q (Prove r) p k a problem o = absurd o
+limits_by q (Eliminate rates) p k a problem o = absurd o
+limits_by q (Contain a b tries) p k l problem o = pair_limits q a b p k l.0 l.1 problem o
+
+pub limits_of : {E : Type 0} (q : BodyView) (r : Result Pair E) → IsQuestion q → IfOk r (Pairs q) → IfOk r (λ p. IsProblem (problem_view p.first)) → IfOk r IsPair
+limits_of q (Err e) k a b = tt
+limits_of q (Ok p) k a b = limits_by q q.verb p k k.verb b a
+
+-- what the variables stand for
+pub sets_for : (p : Pair) (c : Candidate) (sets : List ℕ) → sets ≡ candidate_sets p c → IsPair p → Fits p c → AreSetsFor p sets
+sets_for p c sets e k f = record {
+  complete = ap length e ∙ length-sets p.common (take c.count c.parts) ∙ ap (λ n. p.common + n) (length-take-le c.count c.parts (omega (arith, f.complete, f.count, k.few_parts)) ∙ f.count) ∙ k.variables;
+  within = subst (All (λ s. s < 2 ^ p.first.space.variables)) (sym e) (sets_within p.first.space.variables p.common (take c.count c.parts) k.common_first f.within);
+}
+
+-- ---- parts
+
+pub all_below : (k : ℕ) (xs : List ℕ) → list_all (λ s. nat_lt s k) xs ≡ true ↔ All (λ s. s < k) xs
+all_below k xs = (
+  λ e. All-weaker (λ s. nat_lt s k ≡ true) (λ s. s < k) (λ s e. search (rules, e)) xs (AllPass-from_list_all (λ s. nat_lt s k) xs e),
+  λ a. list_all-from_AllPass (λ s. nat_lt s k) xs (All-weaker (λ s. s < k) (λ s. nat_lt s k ≡ true) (λ s l. search (rules, l)) xs a),
+)

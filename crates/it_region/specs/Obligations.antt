@@ -1,0 +1,62 @@
+-- What is to be shown of a substitution: the second region's own constraints at the pulled-back map.
+use Rattle.std.specs.Prelude.{◌≡◌, ℕ, ◌+◌, ◌<◌, ◌^◌, ℤ, pos, ◌≤ℤ◌, List, [], ◌∷◌, ◌++◌, length, All}
+use Rattle.std.specs.List.{AllZip}
+use Rattle.it_space.specs.declared.spaces.Space.{Space}
+use Rattle.it_space.specs.declared.problems.Kind.{Kind}
+use Rattle.it_space.specs.declared.problems.Kind.TheVariants.{Inequality, Equation}
+use Rattle.it_space.specs.declared.problems.Constraint.{Constraint}
+use Rattle.it_space.specs.Rows.{Terms, IsCanonical, IsUpTo, value}
+use Rattle.it_space.specs.Spaces.{size_of}
+use Rattle.it_polymatroid.specs.Certificates.{Form}
+use Rattle.it_question.specs.Questions.{RegionView, BodyView}
+use Rattle.it_canon.specs.Targets.{negation}
+use Rattle.it_canon.specs.Demands.{LineDemand}
+use Rattle.it_canon.specs.QuestionDemands.{given_demands, row_demands}
+use Rattle.it_region.specs.Pulling.{sets_of, place}
+
+-- the forms that are at least 0 exactly where a constraint is met: that of an equation, and then its negation
+abbrev pub halves : Kind → Form → List Form
+halves Inequality f = f ∷ []
+halves Equation f = f ∷ negation f ∷ []
+
+-- the form at the map that has at each coordinate the value at its place
+abbrev pub moved_form : (ℕ → ℕ) → Form → Form
+moved_form f form p = form (λ c. p (f c))
+
+-- the obligations that demands give, in order
+abbrev pub demand_obligations : (ℕ → ℕ) → List LineDemand → List Form
+demand_obligations f [] = []
+demand_obligations f (d ∷ ds) = halves d.demand.kind (moved_form f d.demand.form) ++ demand_obligations f ds
+
+-- and those that constraints give
+abbrev pub constraint_obligations : (ℕ → ℕ) → List Constraint → List Form
+constraint_obligations f [] = []
+constraint_obligations f (c ∷ cs) = halves c.kind (moved_form f (value c.row)) ++ constraint_obligations f cs
+
+-- what the second region's own lines demand; its lines are counted behind the question's own
+abbrev pub own_demands : BodyView → RegionView → List LineDemand
+own_demands q b = given_demands (length b.names.variables) (1 + length q.lines.givens) b.lines.givens
+    ++ row_demands (length b.names.variables) (1 + length q.lines.rows) b.lines.rows
+
+-- the obligations where each auxiliary of region b stands for a part, by the meaning of the lines
+abbrev pub obligations : BodyView → RegionView → RegionView → List ℕ → List Form
+obligations q a b parts = demand_obligations (place (length a.names.variables) (length b.names.variables) (sets_of (length q.names.variables) parts)) (own_demands q b)
+
+abbrev pub AreFormsAtLeastZero : (ℕ → ℤ) → List Form → Type 0
+AreFormsAtLeastZero p forms = All (λ f. pos 0 ≤ℤ f p) forms
+
+-- a set of the first region's variables for each auxiliary of the second one
+pub record ArePartsOf (a b : RegionView) (parts : List ℕ) : Type 0 where
+  pub count : length parts ≡ b.auxiliaries
+  pub within : All (λ s. s < 2 ^ length a.names.variables) parts
+
+-- The canonical row of an obligation over the coordinates of the first region's space. Where sets fall together its coefficients
+-- are sums, so they may be larger than those of a row from a question file.
+pub record IsPulledRow (s : Space) (form : Form) (row : Terms) : Type 0 where
+  pub same : (p : ℕ → ℤ) → p 0 ≡ pos 0 → value row p ≡ form p
+  pub coordinates : IsUpTo (size_of s) row
+  pub canonical : IsCanonical row
+
+-- one row for each form, in order
+abbrev pub ArePulledRows : Space → List Form → List Terms → Type 0
+ArePulledRows s forms rows = AllZip (IsPulledRow s) forms rows

@@ -1,0 +1,45 @@
+//! The two regions of a containment question.
+ghost use Rattle.std.specs.Prelude.{◌≡◌, IfOk};
+ghost use Rattle.it_space.specs.Problems.{IsProblem, problem_view};
+ghost use Rattle.it_question.specs.Limits.{IsQuestion};
+ghost use Rattle.it_question.specs.Questions.{question_body};
+ghost use Rattle.it_region.specs.Pairs.{IsPair, Pairs, IsContainment};
+
+use crate::types::Pair;
+use it_canon::{problem, region_lines};
+use it_question::types::{Question, Verb};
+use std::alloc::{AllocError, Global};
+
+/// The pair of a containment question.
+pub fn pair(alloc: Global, question: &Question) -> Result<Pair, AllocError>
+    requires question { IsQuestion (question_body question.now) }
+    requires contains { IsContainment (question_body question.now).verb }
+    ensures pair { IfOk result (Pairs (question_body question.now)) }
+    ensures limits { IfOk result IsPair }
+{
+    pair_of(alloc, question)
+}
+
+/// The pair, without what follows for its limits.
+fn pair_of(alloc: Global, question: &Question) -> Result<Pair, AllocError>
+    requires question { IsQuestion (question_body question.now) }
+    requires contains { IsContainment (question_body question.now).verb }
+    ensures pair { IfOk result (Pairs (question_body question.now)) }
+    ensures problem { IfOk result (λ p. IsProblem (problem_view p.first)) }
+{
+    let Verb::Contain { second, .. } = &question.verb else {
+        unreachable!()
+    };
+    let first = problem(alloc, question)?;
+    let space = second.names.space();
+    let first_given = 1 + question.lines.givens.len() as u16;
+    let first_row = 1 + question.lines.rows.len() as u16;
+    let own = region_lines(alloc, second, first_given, first_row, space)?;
+    Ok(Pair {
+        first,
+        space,
+        common: question.names.space().variables,
+        parts: second.auxiliaries,
+        own,
+    })
+}

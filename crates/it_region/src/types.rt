@@ -1,0 +1,21 @@
+//! Pairs of regions, and substitutions for them.
+use it_space::{Constraint, Problem, Space, VarSet};
+
+/// A set of the first region's variables for each of the first `count` auxiliaries, in order of declaration.
+#[derive(Clone, Copy, Debug, PartialEq, Eq)]
+pub struct Candidate {
+    pub count: u8,
+    pub parts: [VarSet; 4],
+}
+
+/// The first region's problem with the question's own lines in it; the second region's space, whose variables are the
+/// first `common` ones of the first region and behind them its `parts` auxiliaries; and the second region's own
+/// constraints, those of its `given` lines before those of its `row` lines.
+#[derive(Debug, Drop)]
+pub struct Pair {
+    pub first: Problem,
+    pub space: Space,
+    pub common: u8,
+    pub parts: u8,
+    pub own: Vec<Constraint>,
+}
