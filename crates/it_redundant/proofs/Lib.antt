@@ -1,0 +1,5 @@
+pub mod RowLemmas
+pub mod ReductionLemmas
+pub mod VisitLemmas
+pub mod MultipleLemmas
+pub mod ProjectionLemmas

@@ -1,0 +1,273 @@
+-- Reduced elimination rate after rate: where it leads, that it has one end, and what a region holds.
+use Rattle.std.proofs.Common.{◌≡◌, inl, inr, ℕ, ◌+◌, ◌<◌, ◌≤◌, ◌^◌, ℤ, pos, List, [], ◌∷◌, map, length, drop, get_or, Option, refl, sym, ap, subst, ◌∙◌, arith, All, Result, Ok, Err, IfOk}
+use Rattle.std.proofs.lemmas.List.{drop_more, drop_all}
+use Rattle.it_space.specs.declared.problems.System.{System}
+use Rattle.it_space.specs.declared.spaces.Space.{Space}
+use Rattle.it_space.specs.Answers.{CertificateView}
+use Rattle.it_space.specs.Problems.{ProblemView, IsProblem, IsSystem}
+use Rattle.it_space.specs.Rows.{Terms, IsUpTo, coefficient}
+use Rattle.it_space.specs.Spaces.{IsSpace, size_of}
+use Rattle.it_space.proofs.EveryLemmas.{every_of, all_of}
+use Rattle.it_eliminate.specs.Elimination.{Member, EliminatedView, Ends, in_order, next_list}
+use Rattle.it_eliminate.specs.Elimination as elimination
+use Rattle.it_eliminate.specs.Projections.{In, Extends, Lacks}
+use Rattle.it_eliminate.specs.declared.types.Eliminated.{Eliminated}
+use Rattle.it_eliminate.specs.declared.types.Eliminated.TheVariants as eliminated
+use Rattle.it_eliminate.specs.Views.{eliminated_view}
+use Rattle.it_eliminate.proofs.LawLemmas.{one_end}
+use Rattle.it_eliminate.proofs.MemberLemmas.{member_mapped}
+use Rattle.it_eliminate.proofs.OrderLemmas.{lacks-with_rows}
+use Rattle.it_eliminate.proofs.RateLemmas.{after_rates, next_keeps_lacking, projection_exact, rates_exact}
+use Rattle.it_eliminate.proofs.SpaceLemmas.{projection_up_to}
+use Rattle.it_eliminate.proofs.StepLemmas.{next_lacks}
+use Rattle.it_redundant.specs.declared.types.Projected.{Projected}
+use Rattle.it_redundant.specs.declared.types.Projected.TheVariants as projected
+use Rattle.it_redundant.specs.declared.types.Reduced.{Reduced}
+use Rattle.it_redundant.specs.Reduction.{NeedView, Reduces, dropped_view, kept_rows, kept_view}
+use Rattle.it_redundant.specs.ReducedElimination.{ProjectedView, Region, Rows, Wide, GoesOn, ReducedEnds, projected_view}
+use Rattle.it_redundant.specs.ProjectionSteps.{HasRowsUpTo, IsAfterRate, IsNext, Resumes}
+use Rattle.it_redundant.specs.Theorems.{MeetsGivens, HoldAlike, AreNeeded, SpeakOfSets, IsReducedRegion, RegionIsReduced, OneReducedEnd}
+use Rattle.it_redundant.proofs.MultipleLemmas.{multiple_meets}
+use Rattle.it_redundant.proofs.VisitLemmas.{rows_kept}
+use Rattle.it_redundant.proofs.ReductionLemmas.{every_kept, hold_alike, needed, one_reduction}
+
+-- ---- the step of a rate
+
+not_wide : (next : List Terms) (r : ℕ) → elimination.Region next ≡ elimination.Wide r → ⊥
+not_wide next r e = cc
+
+not_rows : (next : List Terms) (r : ℕ) → elimination.Region next ≡ elimination.Rows r → ⊥
+not_rows next r e = cc
+
+same_list : (xs ys : List Terms) → elimination.Region xs ≡ elimination.Region ys → xs ≡ ys
+same_list xs ys e = cc
+
+-- a step that ends with a list has the next list, and few rows
+pub step_list : (base most : ℕ) (rows : List Terms) (r : ℕ) (next : List Terms) → Ends base most rows (r ∷ []) (elimination.Region next) → (next ≡ next_list (base + r) rows) × (length next ≤ most)
+step_list base most rows r next (inl e) = absurd (not_wide next r e.1)
+step_list base most rows r next (inr (inl e)) = absurd (not_rows next r e.2)
+step_list base most rows r next (inr (inr e)) =
+    let is : next ≡ next_list (base + r) rows = same_list next (next_list (base + r) rows) e.2 in (is, subst (λ (xs : List Terms). length xs ≤ most) (sym is) e.1)
+
+-- the rows of the list are of the space, and so are those that stay of it
+list_up : (givens : ProblemView) (most : ℕ) (rows : List Terms) (r : ℕ) (next : List Terms) → All (IsUpTo (size_of givens.space)) rows
+    → Ends (2 ^ givens.space.variables) most (in_order rows) (r ∷ []) (elimination.Region next) → All (IsUpTo (size_of givens.space)) next
+list_up givens most rows r next up e = subst (λ (xs : List Terms). All (IsUpTo (size_of givens.space)) xs) (sym (step_list (2 ^ givens.space.variables) most (in_order rows) r next e).0)
+    (projection_up_to (size_of givens.space) ((2 ^ givens.space.variables + r) ∷ []) rows up)
+
+pub kept_up : (givens : ProblemView) (budget : Option ℕ) (most : ℕ) (rows : List Terms) (r : ℕ) (next : List Terms) (mid : List (Terms × NeedView)) (dropped : List (Terms × CertificateView)) → All (IsUpTo (size_of givens.space)) rows
+    → Ends (2 ^ givens.space.variables) most (in_order rows) (r ∷ []) (elimination.Region next) → Reduces givens budget [] next mid dropped → All (IsUpTo (size_of givens.space)) (kept_rows mid)
+kept_up givens budget most rows r next mid dropped up e red = all_of (IsUpTo (size_of givens.space)) (kept_rows mid)
+    (every_kept givens budget (IsUpTo (size_of givens.space)) [] next mid dropped red (every_of (IsUpTo (size_of givens.space)) next (list_up givens most rows r next up e)))
+
+-- ---- rate after rate
+
+module _ (givens : ProblemView) (budget : Option ℕ) (most : ℕ) where
+  resumes_more : (rows : List Terms) (last : List (Terms × NeedView)) (r : ℕ) (rs : List ℕ) (now end : ProjectedView) → IsAfterRate givens budget most rows r now → Resumes givens budget most rs now end
+      → ReducedEnds givens budget most rows last (r ∷ rs) end
+  resumes_more rows last r rs now end (elimination.Region next, e, g) h =
+      (elimination.Region next, e, (g.0, g.1, g.2, subst (λ (x : ProjectedView). Resumes givens budget most rs x end) g.3 h))
+  resumes_more rows last r rs now end (elimination.Rows rate, e, is) h = (elimination.Rows rate, e, subst (λ (x : ProjectedView). Resumes givens budget most rs x end) is h)
+  resumes_more rows last r rs now end (elimination.Wide rate, e, is) h = (elimination.Wide rate, e, subst (λ (x : ProjectedView). Resumes givens budget most rs x end) is h)
+
+  next_more : (r : ℕ) (rs : List ℕ) (old new end : ProjectedView) → IsNext givens budget most r old new → Resumes givens budget most rs new end → Resumes givens budget most (r ∷ rs) old end
+  next_more r rs (Region kept) new end n h = resumes_more (kept_rows kept) kept r rs new end n h
+  next_more r rs (Rows other) new end n h = subst (λ (x : ProjectedView). Resumes givens budget most rs x end) n h
+  next_more r rs (Wide other) new end n h = subst (λ (x : ProjectedView). Resumes givens budget most rs x end) n h
+
+  resumes_end : (now : ProjectedView) → Resumes givens budget most [] now now
+  resumes_end (Region kept) = refl
+  resumes_end (Rows rate) = refl
+  resumes_end (Wide rate) = refl
+
+  -- i rates are eliminated: whatever the others end with, all do
+  pub record Leads (size : ℕ) (rows : List Terms) (rates : List ℕ) (now : ProjectedView) (i : ℕ) : Type 0 where
+    pub more : (end : ProjectedView) → Resumes givens budget most (drop i rates) now end → ReducedEnds givens budget most rows [] rates end
+    pub up : HasRowsUpTo size now
+
+  module _ (size : ℕ) (rows : List Terms) (rates : List ℕ) where
+    pub leads_first : (now : ProjectedView) (r : ℕ) → 1 ≤ length rates → r ≡ get_or rates 0 0 → IsAfterRate givens budget most rows r now → HasRowsUpTo size now → Leads size rows rates now 1
+    leads_first now r some is after up = record {
+      more = λ end h. subst (λ (xs : List ℕ). ReducedEnds givens budget most rows [] xs end) (sym (drop_more rates 0 0 (omega arith) ∙ ap (λ (x : ℕ). x ∷ drop 1 rates) (sym is))) (resumes_more rows [] r (drop 1 rates) now end after h);
+      up = up;
+    }
+
+    pub leads_more : (old new : ProjectedView) (i r : ℕ) → i < length rates → r ≡ get_or rates i 0 → IsNext givens budget most r old new → HasRowsUpTo size new → Leads size rows rates old i → Leads size rows rates new (i + 1)
+    leads_more old new i r below is next up l = record {
+      more = λ end h. l.more end (subst (λ (xs : List ℕ). Resumes givens budget most xs old end) (sym (drop_more rates i 0 below ∙ ap (λ (x : ℕ). x ∷ drop (i + 1) rates) (sym is))) (next_more r (drop (i + 1) rates) old new end next h));
+      up = up;
+    }
+
+    pub leads_end : (now : ProjectedView) (i : ℕ) → length rates ≤ i → Leads size rows rates now i → ReducedEnds givens budget most rows [] rates now
+    leads_end now i all l = l.more now (subst (λ (xs : List ℕ). Resumes givens budget most xs now now) (sym (drop_all i rates all)) (resumes_end now))
+
+-- ---- one end
+
+pub one_reduced_end : OneReducedEnd
+one_reduced_end givens budget most rows last [] end other e f = e ∙ sym f
+one_reduced_end givens budget most rows last (r ∷ rs) end other (s, e, g) (t, f, h) =
+    let same : s ≡ t = one_end (2 ^ givens.space.variables) most (in_order rows) (r ∷ []) s t e f in
+    by_step s g (subst (λ (x : EliminatedView). GoesOn givens budget (λ kept. ReducedEnds givens budget most (kept_rows kept) kept rs other) x other) (sym same) h)
+    (λ kept. one_reduced_end givens budget most (kept_rows kept) kept rs end other)
+  where
+    by_step : (x : EliminatedView) → GoesOn givens budget (λ kept. ReducedEnds givens budget most (kept_rows kept) kept rs end) x end
+        → GoesOn givens budget (λ kept. ReducedEnds givens budget most (kept_rows kept) kept rs other) x other
+        → ((kept : List (Terms × NeedView)) → ReducedEnds givens budget most (kept_rows kept) kept rs end → ReducedEnds givens budget most (kept_rows kept) kept rs other → end ≡ other) → end ≡ other
+    by_step (elimination.Region next) g h later =
+        let same : g.0 ≡ h.0 = (one_reduction givens budget [] next g.0 h.0 g.1 h.1 g.2 h.2).0 in
+        later g.0 g.3 (subst (λ (k : List (Terms × NeedView)). ReducedEnds givens budget most (kept_rows k) k rs other) (sym same) h.3)
+    by_step (elimination.Rows rate) g h later = g ∙ sym h
+    by_step (elimination.Wide rate) g h later = g ∙ sym h
+
+-- ---- what a region holds
+
+module _ (givens : ProblemView) (budget : Option ℕ) (most : ℕ) (limits : IsProblem givens) (few : length givens.constraints ≤ 65535) (few_rows : most ≤ 65535) (sets : SpeakOfSets givens) where
+  -- a region of rows without rates; and no coordinate comes back
+  record Holds (rates : List ℕ) (rows : List Terms) (kept : List (Terms × NeedView)) : Type 0 where
+    region : IsReducedRegion givens rates rows kept
+    keeps : (c : ℕ) → Lacks c rows → Lacks c (kept_rows kept)
+
+  nothing_gone : (kept : List (Terms × NeedView)) → All (IsUpTo (size_of givens.space)) (kept_rows kept) → AreNeeded givens kept → Holds [] (kept_rows kept) kept
+  nothing_gone kept up need = record {
+    region = record { coordinates = up; free = λ r m. absurd m; exact = λ p meets. rates_exact [] (kept_rows kept) p; needed = need };
+    keeps = λ c h. h;
+  }
+
+  -- sets are no eliminated coordinates
+  no_set : (rates : List ℕ) (c : ℕ) → c < 2 ^ givens.space.variables → Member c (map (λ r. 2 ^ givens.space.variables + r) rates) → ⊥
+  no_set rates c below m = let x = member_mapped (λ r. 2 ^ givens.space.variables + r) c rates m in absurd (omega (arith, below, x.2))
+
+  point_meets : (rates : List ℕ) (rows : List Terms) (p : ℕ → ℤ) (y : Extends (map (λ r. 2 ^ givens.space.variables + r) rates) rows p) → MeetsGivens givens p → MeetsGivens givens y.point
+  point_meets rates rows p y m = multiple_meets givens y.factor p y.point sets (λ c below. y.kept c (no_set rates c below)) m
+
+  -- points of two lists that hold alike extend alike
+  extends_alike : (rates : List ℕ) (xs ys : List Terms) (p : ℕ → ℤ) → MeetsGivens givens p → ((q : ℕ → ℤ) → MeetsGivens givens q → In xs q → In ys q)
+      → Extends (map (λ r. 2 ^ givens.space.variables + r) rates) xs p → Extends (map (λ r. 2 ^ givens.space.variables + r) rates) ys p
+  extends_alike rates xs ys p m f y = record { factor = y.factor; some = y.some; point = y.point; kept = y.kept; meets = f y.point (point_meets rates xs p y m) y.meets }
+
+  module _ (rows : List Terms) (r : ℕ) (next : List Terms) (mid : List (Terms × NeedView)) (dropped : List (Terms × CertificateView)) (up : All (IsUpTo (size_of givens.space)) rows)
+      (e : Ends (2 ^ givens.space.variables) most (in_order rows) (r ∷ []) (elimination.Region next)) (red : Reduces givens budget [] next mid dropped) where
+    next_is : next ≡ next_list (2 ^ givens.space.variables + r) (in_order rows)
+    next_is = (step_list (2 ^ givens.space.variables) most (in_order rows) r next e).0
+
+    few_next : length next ≤ most
+    few_next = (step_list (2 ^ givens.space.variables) most (in_order rows) r next e).1
+
+    next_up : All (IsUpTo (size_of givens.space)) next
+    next_up = list_up givens most rows r next up e
+
+    mid_up : All (IsUpTo (size_of givens.space)) (kept_rows mid)
+    mid_up = kept_up givens budget most rows r next mid dropped up e red
+
+    mid_alike : HoldAlike givens next (kept_rows mid)
+    mid_alike = hold_alike givens budget limits few next mid dropped (omega (arith, few_next, few_rows)) next_up red
+
+    mid_lacks : (c : ℕ) → Lacks c next → Lacks c (kept_rows mid)
+    mid_lacks c h = every_kept givens budget (λ (row : Terms). coefficient row c ≡ pos 0) [] next mid dropped red h
+
+    mid_needed : AreNeeded givens mid
+    mid_needed pre post k is = needed givens budget [] next mid dropped red pre post k is
+
+    one_more : (rs : List ℕ) (kept : List (Terms × NeedView)) → Holds rs (kept_rows mid) kept → Holds (r ∷ rs) rows kept
+    one_more rs kept h = record {
+      region = record {
+        coordinates = h.region.coordinates;
+        free = λ s m. free s m;
+        exact = λ p m. (to_rows p m, from_rows p m);
+        needed = h.region.needed;
+      };
+      keeps = λ c l. h.keeps c (mid_lacks c (subst (λ (xs : List Terms). Lacks c xs) (sym next_is) (next_keeps_lacking c (2 ^ givens.space.variables + r) (in_order rows) (lacks-with_rows c [] rows tt l))));
+    }
+      where
+        free : (s : ℕ) → Member s (r ∷ rs) → Lacks (2 ^ givens.space.variables + s) (kept_rows kept)
+        free s (inl is) = h.keeps (2 ^ givens.space.variables + s) (mid_lacks (2 ^ givens.space.variables + s)
+            (subst (λ (xs : List Terms). Lacks (2 ^ givens.space.variables + s) xs) (sym next_is)
+            (subst (λ (x : ℕ). Lacks (2 ^ givens.space.variables + x) (next_list (2 ^ givens.space.variables + r) (in_order rows))) (sym is) (next_lacks (2 ^ givens.space.variables + r) (in_order rows)))))
+        free s (inr m) = h.region.free s m
+
+        to_rows : (p : ℕ → ℤ) → MeetsGivens givens p → In (kept_rows kept) p → Extends ((2 ^ givens.space.variables + r) ∷ map (λ s. 2 ^ givens.space.variables + s) rs) rows p
+        to_rows p m i =
+            let y = extends_alike rs (kept_rows mid) next p m (λ q n. (mid_alike q n).1) ((h.region.exact p m).0 i) in
+            let there : In (after_rates (map (λ s. 2 ^ givens.space.variables + s) rs) next) p = (rates_exact (map (λ s. 2 ^ givens.space.variables + s) rs) next p).1 y in
+            (projection_exact ((2 ^ givens.space.variables + r) ∷ map (λ s. 2 ^ givens.space.variables + s) rs) rows p).0
+            (subst (λ (xs : List Terms). In (after_rates (map (λ s. 2 ^ givens.space.variables + s) rs) xs) p) next_is there)
+
+        from_rows : (p : ℕ → ℤ) → MeetsGivens givens p → Extends ((2 ^ givens.space.variables + r) ∷ map (λ s. 2 ^ givens.space.variables + s) rs) rows p → In (kept_rows kept) p
+        from_rows p m x =
+            let there : In (after_rates (map (λ s. 2 ^ givens.space.variables + s) rs) next) p = subst (λ (xs : List Terms). In (after_rates (map (λ s. 2 ^ givens.space.variables + s) rs) xs) p) (sym next_is)
+            ((projection_exact ((2 ^ givens.space.variables + r) ∷ map (λ s. 2 ^ givens.space.variables + s) rs) rows p).1 x) in
+            (h.region.exact p m).1 (extends_alike rs next (kept_rows mid) p m (λ q n. (mid_alike q n).0) ((rates_exact (map (λ s. 2 ^ givens.space.variables + s) rs) next p).0 there))
+
+  same_region : (xs ys : List (Terms × NeedView)) → Region xs ≡ Region ys → xs ≡ ys
+  same_region xs ys e = cc
+
+  region_not_rows : (xs : List (Terms × NeedView)) (r : ℕ) → Region xs ≡ Rows r → ⊥
+  region_not_rows xs r e = cc
+
+  region_not_wide : (xs : List (Terms × NeedView)) (r : ℕ) → Region xs ≡ Wide r → ⊥
+  region_not_wide xs r e = cc
+
+  later : (rs : List ℕ) (mid kept : List (Terms × NeedView)) → All (IsUpTo (size_of givens.space)) (kept_rows mid) → AreNeeded givens mid → ReducedEnds givens budget most (kept_rows mid) mid rs (Region kept)
+      → Holds rs (kept_rows mid) kept
+  later [] mid kept up need is = subst (λ (k : List (Terms × NeedView)). Holds [] (kept_rows mid) k) (sym (same_region kept mid is)) (nothing_gone mid up need)
+  later (r ∷ rs) mid kept up need (elimination.Region next, e, g) =
+      one_more (kept_rows mid) r next g.0 g.1 up e g.2 rs kept (later rs g.0 kept (mid_up (kept_rows mid) r next g.0 g.1 up e g.2) (mid_needed (kept_rows mid) r next g.0 g.1 up e g.2) g.3)
+  later (r ∷ rs) mid kept up need (elimination.Rows rate, e, is) = absurd (region_not_rows kept rate is)
+  later (r ∷ rs) mid kept up need (elimination.Wide rate, e, is) = absurd (region_not_wide kept rate is)
+
+  first : (r : ℕ) (rs : List ℕ) (rows : List Terms) (kept : List (Terms × NeedView)) → All (IsUpTo (size_of givens.space)) rows → ReducedEnds givens budget most rows [] (r ∷ rs) (Region kept) → Holds (r ∷ rs) rows kept
+  first r rs rows kept up (elimination.Region next, e, g) =
+      one_more rows r next g.0 g.1 up e g.2 rs kept (later rs g.0 kept (mid_up rows r next g.0 g.1 up e g.2) (mid_needed rows r next g.0 g.1 up e g.2) g.3)
+  first r rs rows kept up (elimination.Rows rate, e, is) = absurd (region_not_rows kept rate is)
+  first r rs rows kept up (elimination.Wide rate, e, is) = absurd (region_not_wide kept rate is)
+
+  pub region_reduced : (rates : List ℕ) (rows : List Terms) (end : ProjectedView) → 1 ≤ length rates → All (IsUpTo (size_of givens.space)) rows → ReducedEnds givens budget most rows [] rates end
+      → RegionIsReduced givens rates rows end
+  region_reduced [] rows end some up e = absurd (omega arith)
+  region_reduced (r ∷ rs) rows (Region kept) some up e = (first r rs rows kept up e).region
+  region_reduced (r ∷ rs) rows (Rows rate) some up e = tt
+  region_reduced (r ∷ rs) rows (Wide rate) some up e = tt
+
+-- ---- what the code's step and reduction make
+
+module _ (givens : ProblemView) (budget : Option ℕ) (most : ℕ) (system : System) (rate : ℕ) (end : Eliminated) (space : system.space ≡ givens.space)
+    (ends : Ends (2 ^ system.space.variables) most (in_order system.rows.items) (rate ∷ []) (eliminated_view end)) where
+  over_givens : (e : EliminatedView) → eliminated_view end ≡ e → Ends (2 ^ givens.space.variables) most (in_order system.rows.items) (rate ∷ []) e
+  over_givens e is = subst (λ (s : Space). Ends (2 ^ s.variables) most (in_order system.rows.items) (rate ∷ []) e) space
+      (subst (λ (x : EliminatedView). Ends (2 ^ system.space.variables) most (in_order system.rows.items) (rate ∷ []) x) is ends)
+
+  module _ (next : System) (is : end ≡ eliminated.Region next) where
+    pub few_step : most ≤ 65535 → length next.rows.items ≤ 65535
+    few_step few = omega (arith, few, (step_list (2 ^ givens.space.variables) most (in_order system.rows.items) rate next.rows.items (over_givens (elimination.Region next.rows.items) (ap eliminated_view is))).1)
+
+    pub after_region : (reduced : Reduced) → Reduces givens budget [] next.rows.items (kept_view reduced) (dropped_view reduced) → IsAfterRate givens budget most system.rows.items rate (Region (kept_view reduced))
+    after_region reduced red = (elimination.Region next.rows.items, over_givens (elimination.Region next.rows.items) (ap eliminated_view is), (kept_view reduced, dropped_view reduced, red, refl))
+
+    pub region_up : (reduced : Reduced) → All (IsUpTo (size_of system.space)) system.rows.items → Reduces givens budget [] next.rows.items (kept_view reduced) (dropped_view reduced)
+        → All (IsUpTo (size_of givens.space)) (kept_rows (kept_view reduced))
+    region_up reduced up red = kept_up givens budget most system.rows.items rate next.rows.items (kept_view reduced) (dropped_view reduced)
+        (subst (λ (s : Space). All (IsUpTo (size_of s)) system.rows.items) space up) (over_givens (elimination.Region next.rows.items) (ap eliminated_view is)) red
+
+  pub after_rows : (r : ℕ) → end ≡ eliminated.Rows r → IsAfterRate givens budget most system.rows.items rate (Rows r)
+  after_rows r is = (elimination.Rows r, over_givens (elimination.Rows r) (ap eliminated_view is), refl)
+
+  pub after_wide : (r : ℕ) → end ≡ eliminated.Wide r → IsAfterRate givens budget most system.rows.items rate (Wide r)
+  after_wide r is = (elimination.Wide r, over_givens (elimination.Wide r) (ap eliminated_view is), refl)
+
+-- of rows that stay, a rate leaves what it leaves of them as a system
+pub next_of_region : {E : Type 0} (givens : ProblemView) (budget : Option ℕ) (most rate : ℕ) (end : Projected) (reduced : Reduced) (rows : List Terms) (result : Result Projected E) → end ≡ projected.Region reduced
+    → rows ≡ map (λ k. k.0) reduced.kept.items → IfOk result (λ e. IsAfterRate givens budget most rows rate (projected_view e)) → IfOk result (λ e. IsNext givens budget most rate (projected_view end) (projected_view e))
+next_of_region givens budget most rate end reduced rows (Err e) is same h = tt
+next_of_region givens budget most rate end reduced rows (Ok e) is same h = subst (λ (x : Projected). IsNext givens budget most rate (projected_view x) (projected_view e)) (sym is)
+    (subst (λ (xs : List Terms). IsAfterRate givens budget most xs rate (projected_view e)) (same ∙ sym (rows_kept reduced.kept.items)) h)
+
+-- the rows that stay are a system over the givens' space
+pub kept_is_system : (givens : ProblemView) (end : Projected) (reduced : Reduced) (system : System) → IsSpace givens.space → end ≡ projected.Region reduced → HasRowsUpTo (size_of givens.space) (projected_view end)
+    → system.space ≡ givens.space → system.rows.items ≡ map (λ k. k.0) reduced.kept.items → IsSystem system
+kept_is_system givens end reduced system limits is up space rows =
+    let kept : All (IsUpTo (size_of givens.space)) (kept_rows (kept_view reduced)) = subst (λ (x : Projected). HasRowsUpTo (size_of givens.space) (projected_view x)) is up in
+    record {
+      space = subst IsSpace (sym space) limits;
+      rows = subst (λ (s : Space). All (IsUpTo (size_of s)) system.rows.items) (sym space)
+          (subst (λ (xs : List Terms). All (IsUpTo (size_of givens.space)) xs) (rows_kept reduced.kept.items ∙ sym rows) kept);
+    }

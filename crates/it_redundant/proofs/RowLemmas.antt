@@ -1,0 +1,76 @@
+-- Rows as constraints behind the givens.
+use Rattle.std.proofs.Common.{◌≡◌, ℕ, suc, ◌+◌, ◌≤◌, ℤ, List, [], ◌∷◌, ◌++◌, length, refl, sym, ap, ◌∙◌, arith, append_assoc, length-append, All}
+use Rattle.std.proofs.lemmas.List.Elements.{All-nil, All-cons, All-head, All-tail, All-append}
+use Rattle.it_space.specs.declared.problems.Constraint.{Constraint}
+use Rattle.it_space.specs.declared.problems.Kind.TheVariants.{Inequality}
+use Rattle.it_space.specs.declared.problems.Origin.TheVariants.{Rate}
+use Rattle.it_space.specs.Problems.{ProblemView, IsProblem, IsMet, AreMet}
+use Rattle.it_space.specs.Rows.{Terms, IsUpTo}
+use Rattle.it_space.specs.Spaces.{size_of}
+use Rattle.it_eliminate.specs.Projections.{In}
+use Rattle.it_redundant.specs.Reduction.{row_constraints, with_rows}
+
+module _ (p : ℕ → ℤ) where
+  pub rows_are_met : (line : ℕ) (rows : List Terms) → In rows p → AreMet p (row_constraints line rows)
+  rows_are_met line [] h = All-nil (IsMet p)
+  rows_are_met line (row ∷ rows) h = All-cons (IsMet p) _ (row_constraints (line + 1) rows) h.0 (rows_are_met (line + 1) rows h.1)
+
+  pub met_rows_hold : (line : ℕ) (rows : List Terms) → AreMet p (row_constraints line rows) → In rows p
+  met_rows_hold line [] h = tt
+  met_rows_hold line (row ∷ rows) h = (All-head (IsMet p) _ (row_constraints (line + 1) rows) h, met_rows_hold (line + 1) rows (All-tail (IsMet p) _ (row_constraints (line + 1) rows) h))
+
+  pub front_is_met : (cs ds : List Constraint) → AreMet p (cs ++ ds) → AreMet p cs
+  front_is_met [] ds h = All-nil (IsMet p)
+  front_is_met (c ∷ cs) ds h = All-cons (IsMet p) c cs (All-head (IsMet p) c (cs ++ ds) h) (front_is_met cs ds (All-tail (IsMet p) c (cs ++ ds) h))
+
+  pub rest_is_met : (cs ds : List Constraint) → AreMet p (cs ++ ds) → AreMet p ds
+  rest_is_met [] ds h = h
+  rest_is_met (c ∷ cs) ds h = rest_is_met cs ds (All-tail (IsMet p) c (cs ++ ds) h)
+
+  pub rows_append : (xs ys : List Terms) → In xs p → In ys p → In (xs ++ ys) p
+  rows_append [] ys h k = k
+  rows_append (x ∷ xs) ys h k = (h.0, rows_append xs ys h.1 k)
+
+  pub rows_front : (xs ys : List Terms) → In (xs ++ ys) p → In xs p
+  rows_front [] ys h = tt
+  rows_front (x ∷ xs) ys h = (h.0, rows_front xs ys h.1)
+
+  pub rows_rest : (xs ys : List Terms) → In (xs ++ ys) p → In ys p
+  rows_rest [] ys h = h
+  rows_rest (x ∷ xs) ys h = rows_rest xs ys h.1
+
+  -- what meets the givens and the rows meets the problem, and back
+  pub problem_is_met : (givens : ProblemView) (rows : List Terms) → AreMet p givens.constraints → In rows p → AreMet p (with_rows givens rows).constraints
+  problem_is_met givens rows h k = All-append (IsMet p) givens.constraints (row_constraints 1 rows) h (rows_are_met 1 rows k)
+
+-- ---- the problem keeps the limits
+
+row_limits : (size line : ℕ) (rows : List Terms) → All (IsUpTo size) rows → All (λ (c : Constraint). IsUpTo size c.row) (row_constraints line rows)
+row_limits size line [] h = All-nil (λ (c : Constraint). IsUpTo size c.row)
+row_limits size line (row ∷ rows) h = All-cons (λ (c : Constraint). IsUpTo size c.row) _ (row_constraints (line + 1) rows) (All-head (IsUpTo size) row rows h) (row_limits size (line + 1) rows (All-tail (IsUpTo size) row rows h))
+
+pub row_count : (line : ℕ) (rows : List Terms) → length (row_constraints line rows) ≡ length rows
+row_count line [] = refl
+row_count line (row ∷ rows) = ap suc (row_count (line + 1) rows)
+
+pub problem_limits : (givens : ProblemView) (rows : List Terms) → IsProblem givens → length givens.constraints ≤ 65535 → length rows ≤ 65535 → All (IsUpTo (size_of givens.space)) rows → IsProblem (with_rows givens rows)
+problem_limits givens rows h few few_rows up = record {
+  space = h.space;
+  rows = All-append (λ (c : Constraint). IsUpTo (size_of givens.space) c.row) givens.constraints (row_constraints 1 rows) h.rows (row_limits (size_of givens.space) 1 rows up);
+  few = let total : length (givens.constraints ++ row_constraints 1 rows) ≡ length givens.constraints + length rows
+      = length-append givens.constraints (row_constraints 1 rows) ∙ ap (λ n. length givens.constraints + n) (row_count 1 rows) in
+      omega (arith, total, few, few_rows);
+}
+
+-- ---- rows in two parts
+
+pub row_parts : (line : ℕ) (xs ys : List Terms) → row_constraints line (xs ++ ys) ≡ row_constraints line xs ++ row_constraints (line + length xs) ys
+row_parts line [] ys = ap (λ n. row_constraints n ys) (let e : line ≡ line + 0 = omega arith in e)
+row_parts line (x ∷ xs) ys = ap (λ (cs : List Constraint). record { row = x; kind = Inequality; origin = Rate line } ∷ cs) (row_parts (line + 1) xs ys ∙ ap (λ n. row_constraints (line + 1) xs ++ row_constraints n ys) (let e : line + 1 + length xs ≡ line + suc (length xs) = omega arith in e))
+
+-- the givens with two parts of rows behind them
+pub with_parts : (givens : ProblemView) (cs : List Constraint) (xs ys : List Terms) (line : ℕ) → line ≡ 1 + length xs → cs ≡ (givens.constraints ++ row_constraints 1 xs) ++ row_constraints line ys
+    → record { space = givens.space; constraints = cs } ≡ with_rows givens (xs ++ ys)
+with_parts givens cs xs ys line l e = ap (λ (ds : List Constraint). record { space = givens.space; constraints = ds }) (e
+    ∙ append_assoc givens.constraints (row_constraints 1 xs) (row_constraints line ys)
+    ∙ ap (λ (ds : List Constraint). givens.constraints ++ ds) (ap (λ n. row_constraints 1 xs ++ row_constraints n ys) l ∙ sym (row_parts 1 xs ys)))

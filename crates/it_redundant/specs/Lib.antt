@@ -1,0 +1,5 @@
+pub mod Reduction
+pub mod ReducedElimination
+pub mod Theorems
+pub mod ReductionSteps
+pub mod ProjectionSteps

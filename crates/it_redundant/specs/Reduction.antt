@@ -1,0 +1,65 @@
+-- Reduction of a list of rows: each in turn goes where the givens and all other rows that still stand give it, and stays otherwise.
+use Rattle.std.specs.Prelude.{◌≡◌, ℕ, ◌+◌, ℤ, List, [], ◌∷◌, ◌++◌, map, Option}
+use Rattle.it_space.specs.declared.answers.Cause.{Cause}
+use Rattle.it_space.specs.declared.problems.Constraint.{Constraint}
+use Rattle.it_space.specs.declared.problems.Kind.TheVariants.{Inequality}
+use Rattle.it_space.specs.declared.problems.Origin.TheVariants.{Rate}
+use Rattle.it_space.specs.Answers.{CertificateView, certificate_view}
+use Rattle.it_space.specs.Problems.{ProblemView}
+use Rattle.it_space.specs.Rows.{Terms}
+use Rattle.it_prove.specs.ProofViews.{ProofView, Yes, No, Undecided, EndsWith, IsRightProof}
+use Rattle.it_redundant.specs.declared.types.Need.{Need}
+use Rattle.it_redundant.specs.declared.types.Need.TheVariants as needs
+use Rattle.it_redundant.specs.declared.types.Reduced.{Reduced}
+
+-- rows as the constraints of `row` lines, from line number `line` on
+abbrev pub row_constraints : ℕ → List Terms → List Constraint
+row_constraints line [] = []
+row_constraints line (row ∷ rows) = record { row = row; kind = Inequality; origin = Rate line } ∷ row_constraints (line + 1) rows
+
+-- the givens, and rows behind them
+abbrev pub with_rows : ProblemView → List Terms → ProblemView
+with_rows givens rows = record { space = givens.space; constraints = givens.constraints ++ row_constraints 1 rows }
+
+-- the outcome of a row under the givens and other rows: that of the run, and right
+pub record IsOutcome (givens : ProblemView) (budget : Option ℕ) (others : List Terms) (row : Terms) (o : ProofView) : Type 0 where
+  pub due : EndsWith (with_rows givens others) row budget o
+  pub right : IsRightProof (with_rows givens others) row o
+
+-- why a row stays: it is violated at a point at which the others hold, or the run about it has no end within its bounds
+pub data NeedView : Type 0 where
+  Needed : (values : List ℤ) → NeedView
+  Unsettled : (cause : Cause) → NeedView
+
+abbrev pub need_view : Need → NeedView
+need_view (needs.Needed point) = Needed point
+need_view (needs.Unsettled cause) = Unsettled cause
+
+abbrev pub kept_view : Reduced → List (Terms × NeedView)
+kept_view r = map (λ k. (k.0, need_view k.1)) r.kept.items
+
+abbrev pub dropped_view : Reduced → List (Terms × CertificateView)
+dropped_view r = map (λ d. (d.0, certificate_view d.1)) r.dropped.items
+
+-- what a row leaves behind the rows that stay: nothing where it is proved, itself with its need otherwise
+abbrev pub kept_by : Terms → ProofView → List (Terms × NeedView)
+kept_by row (Yes w) = []
+kept_by row (No values) = (row, Needed values) ∷ []
+kept_by row (Undecided cause) = (row, Unsettled cause) ∷ []
+
+-- and behind those that went
+abbrev pub dropped_by : Terms → ProofView → List (Terms × CertificateView)
+dropped_by row (Yes w) = (row, w) ∷ []
+dropped_by row (No values) = []
+dropped_by row (Undecided cause) = []
+
+abbrev pub kept_rows : List (Terms × NeedView) → List Terms
+kept_rows kept = map (λ k. k.0) kept
+
+-- Behind the rows `before`, which stay, the rows that are still to be visited end so: each has its outcome under those and the rows
+-- after it, by which it goes or stays.
+abbrev pub Reduces : ProblemView → Option ℕ → List Terms → List Terms → List (Terms × NeedView) → List (Terms × CertificateView) → Type 0
+Reduces givens budget before [] kept dropped = (kept ≡ []) × (dropped ≡ [])
+Reduces givens budget before (row ∷ rows) kept dropped =
+    (o : ProofView) × (k : List (Terms × NeedView)) × (d : List (Terms × CertificateView)) × IsOutcome givens budget (before ++ rows) row o
+    × (kept ≡ kept_by row o ++ k) × (dropped ≡ dropped_by row o ++ d) × Reduces givens budget (before ++ kept_rows (kept_by row o)) rows k d

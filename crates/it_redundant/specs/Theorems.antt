@@ -1,0 +1,62 @@
+-- What reduction is good for.
+use Rattle.std.specs.Prelude.{◌≡◌, ◌↔◌, ℕ, ◌+◌, ◌-◌, ◌^◌, ℤ, neg_ℤ, pos, ◌≤ℤ◌, List, ◌++◌, ◌∷◌, map, All, Option}
+use Rattle.it_space.specs.Answers.{CertificateView}
+use Rattle.it_space.specs.Problems.{ProblemView, AreMet}
+use Rattle.it_space.specs.Rows.{Terms, IsUpTo, map_of, value}
+use Rattle.it_space.specs.Spaces.{size_of}
+use Rattle.it_polymatroid.specs.Polymatroid.{IsPolymatroid}
+use Rattle.it_eliminate.specs.Elimination.{Member}
+use Rattle.it_eliminate.specs.Projections.{In, Extends, Lacks}
+use Rattle.it_redundant.specs.Reduction.{NeedView, Needed, Unsettled, Reduces, kept_rows}
+use Rattle.it_redundant.specs.ReducedElimination.{ProjectedView, Region, Rows, Wide, ReducedEnds}
+
+-- a polymatroid and rates that meet the givens
+abbrev pub MeetsGivens : ProblemView → (ℕ → ℤ) → Type 0
+MeetsGivens givens p = IsPolymatroid givens.space.variables p × AreMet p givens.constraints
+
+-- the rows that stay hold exactly where all do, at every polymatroid that meets the givens
+abbrev pub HoldAlike : ProblemView → List Terms → List Terms → Type 0
+HoldAlike givens rows kept = (p : ℕ → ℤ) → MeetsGivens givens p → In rows p ↔ In kept p
+
+-- the point meets the givens and the other rows, and violates this one
+pub record Separates (givens : ProblemView) (others : List Terms) (row : Terms) (values : List ℤ) : Type 0 where
+  pub meets : MeetsGivens givens (map_of values)
+  pub others_hold : In others (map_of values)
+  pub violated : value row (map_of values) ≤ℤ neg_ℤ (pos 1)
+
+abbrev pub IsNeeded : ProblemView → List Terms → Terms × NeedView → Type 0
+IsNeeded givens others (row, Needed values) = Separates givens others row values
+IsNeeded givens others (row, Unsettled cause) = Unit {0}
+
+-- the point of each needed row separates it from all others that stay
+abbrev pub AreNeeded : ProblemView → List (Terms × NeedView) → Type 0
+AreNeeded givens kept = (before after : List (Terms × NeedView)) (k : Terms × NeedView) → kept ≡ before ++ k ∷ after
+    → IsNeeded givens (kept_rows before ++ kept_rows after) k
+
+-- a list has one reduction
+abbrev pub OneReduction : Type 0
+OneReduction = (givens : ProblemView) (budget : Option ℕ) (before rows : List Terms) (kept other_kept : List (Terms × NeedView)) (dropped other_dropped : List (Terms × CertificateView))
+    → Reduces givens budget before rows kept dropped → Reduces givens budget before rows other_kept other_dropped → (kept ≡ other_kept) × (dropped ≡ other_dropped)
+
+-- the givens speak of entropies alone
+abbrev pub SpeakOfSets : ProblemView → Type 0
+SpeakOfSets givens = All (λ c. IsUpTo (2 ^ givens.space.variables - 1) c.row) givens.constraints
+
+-- rows of the space, without the eliminated rates, that hold at a polymatroid which meets the givens, and rates, exactly where this
+-- point extends to the eliminated rates; and each is needed or unsettled
+pub record IsReducedRegion (givens : ProblemView) (rates : List ℕ) (rows : List Terms) (kept : List (Terms × NeedView)) : Type 0 where
+  pub coordinates : All (IsUpTo (size_of givens.space)) (kept_rows kept)
+  pub free : (r : ℕ) → Member r rates → Lacks (2 ^ givens.space.variables + r) (kept_rows kept)
+  pub exact : (p : ℕ → ℤ) → MeetsGivens givens p → In (kept_rows kept) p ↔ Extends (map (λ r. 2 ^ givens.space.variables + r) rates) rows p
+  pub needed : AreNeeded givens kept
+
+-- where reduced elimination ends with a region, that is one
+abbrev pub RegionIsReduced : ProblemView → List ℕ → List Terms → ProjectedView → Type 0
+RegionIsReduced givens rates rows (Region kept) = IsReducedRegion givens rates rows kept
+RegionIsReduced givens rates rows (Rows rate) = Unit {0}
+RegionIsReduced givens rates rows (Wide rate) = Unit {0}
+
+-- reduced elimination has one end
+abbrev pub OneReducedEnd : Type 0
+OneReducedEnd = (givens : ProblemView) (budget : Option ℕ) (most : ℕ) (rows : List Terms) (last : List (Terms × NeedView)) (rates : List ℕ) (end other : ProjectedView)
+    → ReducedEnds givens budget most rows last rates end → ReducedEnds givens budget most rows last rates other → end ≡ other

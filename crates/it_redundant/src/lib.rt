@@ -1,0 +1,15 @@
+//! Lists of rows without those that the others give: reduction of a list, and elimination of rates that reduces the list after each.
+#![tactic(auto)]
+
+mod laws;
+mod others;
+mod projection;
+mod reduction;
+#[cfg(test)]
+mod tests;
+mod types;
+
+pub use laws::reductions_are_determined;
+pub use projection::project;
+pub use reduction::reduce;
+pub use types::{Need, Projected, Reduced};

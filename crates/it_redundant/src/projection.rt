@@ -1,0 +1,135 @@
+//! Reduced elimination.
+ghost use Rattle.std.specs.Prelude.{◌≡◌, ◌<◌, ◌≤◌, [], length, map, All, IfOk};
+ghost use Rattle.it_space.specs.Problems.{IsProblem, IsSystem, problem_view};
+ghost use Rattle.it_space.specs.Rows.{IsUpTo};
+ghost use Rattle.it_space.specs.Spaces.{size_of};
+ghost use Rattle.it_redundant.specs.ProjectionSteps.{HasRowsUpTo, IsAfterRate, IsNext};
+ghost use Rattle.it_redundant.specs.ReducedElimination.{ReducedEnds, projected_view};
+ghost use Rattle.it_redundant.specs.Theorems.{RegionIsReduced, SpeakOfSets};
+
+use crate::others::copy;
+use crate::reduction::reduce;
+use crate::types::{Projected, Reduced};
+use it_eliminate::{Eliminated, step};
+use it_simplex::Budget;
+use it_space::{Problem, Space, System};
+use std::alloc::{AllocError, Global};
+
+/// The rows that are left of a system without rates, which are eliminated in the order of their list: the list after each rate is
+/// reduced before the next. At most `rows` may be left by a rate's step, before their reduction. The givens speak of entropies
+/// alone, and there is at least one rate.
+pub fn project(
+    alloc: Global,
+    system: &System,
+    rates: &[u8],
+    givens: &Problem,
+    rows: usize,
+    budget: Budget,
+) -> Result<Projected, AllocError>
+    requires system { IsSystem system.now }
+    requires rates { All (λ r. r < system.now.space.rates) rates.now }
+    requires some { 1 ≤ length rates.now }
+    requires givens { IsProblem (problem_view givens.now) }
+    requires space { system.now.space ≡ givens.now.space }
+    requires sets { SpeakOfSets (problem_view givens.now) }
+    requires few_rows { rows ≤ 65535 }
+    requires few_givens { length givens.now.constraints.items ≤ 65535 }
+    ensures ends { IfOk result (λ e. ReducedEnds (problem_view givens.now) budget rows system.now.rows.items [] rates.now (projected_view e)) }
+    ensures region { IfOk result (λ e. RegionIsReduced (problem_view givens.now) rates.now system.now.rows.items (projected_view e)) }
+{
+    let end = reduced_elimination(alloc, system, rates, givens, rows, budget)?;
+    Ok(end)
+}
+
+/// Reduced elimination, without what follows for a region.
+fn reduced_elimination(
+    alloc: Global,
+    system: &System,
+    rates: &[u8],
+    givens: &Problem,
+    rows: usize,
+    budget: Budget,
+) -> Result<Projected, AllocError>
+    requires system { IsSystem system.now }
+    requires rates { All (λ r. r < system.now.space.rates) rates.now }
+    requires some { 1 ≤ length rates.now }
+    requires givens { IsProblem (problem_view givens.now) }
+    requires space { system.now.space ≡ givens.now.space }
+    requires few_rows { rows ≤ 65535 }
+    requires few_givens { length givens.now.constraints.items ≤ 65535 }
+    ensures { IfOk result (λ e. ReducedEnds (problem_view givens.now) budget rows system.now.rows.items [] rates.now (projected_view e)) }
+{
+    let mut end = after_rate(alloc, system, rates[0], givens, rows, budget)?;
+    for i in 1..rates.len() {
+        end = next_end(alloc, end, rates[i], givens, rows, budget)?;
+    }
+    Ok(end)
+}
+
+/// What is left after a rate, of what was left before it: a cause stays.
+fn next_end(
+    alloc: Global,
+    end: Projected,
+    rate: u8,
+    givens: &Problem,
+    rows: usize,
+    budget: Budget,
+) -> Result<Projected, AllocError>
+    requires end { HasRowsUpTo (size_of givens.now.space) (projected_view end) }
+    requires rate { rate < givens.now.space.rates }
+    requires givens { IsProblem (problem_view givens.now) }
+    requires few_rows { rows ≤ 65535 }
+    requires few_givens { length givens.now.constraints.items ≤ 65535 }
+    ensures next { IfOk result (λ e. IsNext (problem_view givens.now) budget rows rate (projected_view end) (projected_view e)) }
+    ensures rows { IfOk result (λ e. HasRowsUpTo (size_of givens.now.space) (projected_view e)) }
+{
+    match end {
+        Projected::Region(reduced) => {
+            let system = kept_system(alloc, givens.space, &reduced)?;
+            after_rate(alloc, &system, rate, givens, rows, budget)
+        }
+        Projected::Rows { rate: other } => Ok(Projected::Rows { rate: other }),
+        Projected::Wide { rate: other } => Ok(Projected::Wide { rate: other }),
+    }
+}
+
+/// The rows that stay, as a system.
+fn kept_system(alloc: Global, space: Space, reduced: &Reduced) -> Result<System, AllocError>
+    ensures space { IfOk result (λ s. s.space ≡ space) }
+    ensures rows { IfOk result (λ s. s.rows.items ≡ map (λ k. k.0) reduced.now.kept.items) }
+{
+    let mut rows = Vec::new(alloc);
+    for (row, _) in &reduced.kept {
+        rows.push(copy(alloc, row)?)?;
+    }
+    Ok(System { space, rows })
+}
+
+/// What is left of a system after a rate.
+fn after_rate(
+    alloc: Global,
+    system: &System,
+    rate: u8,
+    givens: &Problem,
+    rows: usize,
+    budget: Budget,
+) -> Result<Projected, AllocError>
+    requires system { IsSystem system.now }
+    requires rate { rate < system.now.space.rates }
+    requires givens { IsProblem (problem_view givens.now) }
+    requires space { system.now.space ≡ givens.now.space }
+    requires few_rows { rows ≤ 65535 }
+    requires few_givens { length givens.now.constraints.items ≤ 65535 }
+    ensures after { IfOk result (λ e. IsAfterRate (problem_view givens.now) budget rows system.now.rows.items rate (projected_view e)) }
+    ensures rows { IfOk result (λ e. HasRowsUpTo (size_of givens.now.space) (projected_view e)) }
+{
+    let end = step(alloc, system, rate, rows)?;
+    match end {
+        Eliminated::Region(next) => {
+            let reduced = reduce(alloc, &next, givens, budget)?;
+            Ok(Projected::Region(reduced))
+        }
+        Eliminated::Rows { rate } => Ok(Projected::Rows { rate }),
+        Eliminated::Wide { rate } => Ok(Projected::Wide { rate }),
+    }
+}

@@ -1,0 +1,126 @@
+//! Reduction of a list of rows.
+ghost use Rattle.std.specs.Prelude.{◌≡◌, [], ◌∷◌, ◌++◌, ◌+◌, ◌≤◌, length, map, OnOk, IfOk};
+ghost use Rattle.it_space.specs.Answers.{certificate_view};
+ghost use Rattle.it_space.specs.Problems.{IsProblem, IsSystem, problem_view};
+ghost use Rattle.it_space.specs.Rows.{IsUpTo};
+ghost use Rattle.it_space.specs.Spaces.{size_of};
+ghost use Rattle.it_prove.specs.ProofViews.{proof_view};
+ghost use Rattle.it_redundant.specs.Reduction.{Reduces, dropped_by, dropped_view, kept_by, kept_rows, kept_view, need_view};
+ghost use Rattle.it_redundant.specs.ReductionSteps.{AreRowsUpTo, IsVisited};
+ghost use Rattle.it_redundant.specs.Theorems.{AreNeeded, HoldAlike};
+
+use crate::others::{copy, problem_with};
+use crate::types::{Need, Reduced};
+use it_prove::{Proof, prove};
+use it_simplex::Budget;
+use it_space::{Certificate, Problem, Row, System};
+use std::alloc::{AllocError, Global};
+
+/// The rows of a system without those that the others give. They are visited in order: each is the target of a run under the
+/// givens and all other rows that still stand, in order, each of these as a `row` line, counted from 1. A proof drops it.
+pub fn reduce(
+    alloc: Global,
+    system: &System,
+    givens: &Problem,
+    budget: Budget,
+) -> Result<Reduced, AllocError>
+    requires system { IsSystem system.now }
+    requires givens { IsProblem (problem_view givens.now) }
+    requires space { system.now.space ≡ givens.now.space }
+    requires few_rows { length system.now.rows.items ≤ 65535 }
+    requires few_givens { length givens.now.constraints.items ≤ 65535 }
+    ensures reduces { IfOk result (λ r. Reduces (problem_view givens.now) budget [] system.now.rows.items (kept_view r) (dropped_view r)) }
+    ensures alike { IfOk result (λ r. HoldAlike (problem_view givens.now) system.now.rows.items (kept_rows (kept_view r))) }
+    ensures needed { IfOk result (λ r. AreNeeded (problem_view givens.now) (kept_view r)) }
+{
+    let reduced = reduced_rows(alloc, system.rows.as_slice(), givens, budget)?;
+    Ok(reduced)
+}
+
+/// The reduction, without what follows for its rows.
+fn reduced_rows(
+    alloc: Global,
+    rows: &[Row],
+    givens: &Problem,
+    budget: Budget,
+) -> Result<Reduced, AllocError>
+    requires givens { IsProblem (problem_view givens.now) }
+    requires rows { AreRowsUpTo (size_of givens.now.space) rows.now }
+    requires few_rows { length rows.now ≤ 65535 }
+    requires few_givens { length givens.now.constraints.items ≤ 65535 }
+    ensures { IfOk result (λ r. Reduces (problem_view givens.now) budget [] rows.now (kept_view r) (dropped_view r)) }
+{
+    let mut reduced = Reduced {
+        kept: Vec::new(alloc),
+        dropped: Vec::new(alloc),
+    };
+    for i in 0..rows.len() {
+        visit(
+            alloc,
+            givens,
+            &mut reduced,
+            &rows[i],
+            &rows[i + 1..],
+            budget,
+        )?;
+    }
+    Ok(reduced)
+}
+
+/// Visits a row: the rows that stay so far stand before it, the others after it.
+fn visit(
+    alloc: Global,
+    givens: &Problem,
+    reduced: &mut Reduced,
+    row: &Row,
+    after: &[Row],
+    budget: Budget,
+) -> Result<(), AllocError>
+    requires givens { IsProblem (problem_view givens.now) }
+    requires few_givens { length givens.now.constraints.items ≤ 65535 }
+    requires few { length reduced.old.kept.items + length after.now ≤ 65535 }
+    requires row { IsUpTo (size_of givens.now.space) row.now }
+    requires kept { AreRowsUpTo (size_of givens.now.space) (map (λ k. k.0) reduced.old.kept.items) }
+    requires after { AreRowsUpTo (size_of givens.now.space) after.now }
+    ensures { OnOk result (IsVisited (problem_view givens.now) budget row.now after.now reduced.old reduced.new) }
+{
+    let problem = problem_with(alloc, givens, reduced.kept.as_slice(), after)?;
+    let proof = prove(alloc, &problem, row, budget)?;
+    put(alloc, reduced, row, proof)?;
+    Ok(())
+}
+
+/// Puts a row where its outcome wants it: behind those that went, or behind those that stay.
+fn put(alloc: Global, reduced: &mut Reduced, row: &Row, proof: Proof) -> Result<(), AllocError>
+    ensures kept { OnOk result (kept_view reduced.new ≡ kept_view reduced.old ++ kept_by row.now (proof_view proof)) }
+    ensures dropped { OnOk result (dropped_view reduced.new ≡ dropped_view reduced.old ++ dropped_by row.now (proof_view proof)) }
+{
+    match proof {
+        Proof::Yes(certificate) => drop_row(alloc, reduced, row, certificate),
+        Proof::No(point) => keep(alloc, reduced, row, Need::Needed(point)),
+        Proof::Undecided(cause) => keep(alloc, reduced, row, Need::Unsettled(cause)),
+    }
+}
+
+/// Puts a row with its certificate behind those that went.
+fn drop_row(
+    alloc: Global,
+    reduced: &mut Reduced,
+    row: &Row,
+    certificate: Certificate,
+) -> Result<(), AllocError>
+    ensures kept { OnOk result (kept_view reduced.new ≡ kept_view reduced.old) }
+    ensures dropped { OnOk result (dropped_view reduced.new ≡ dropped_view reduced.old ++ (row.now, certificate_view certificate) ∷ []) }
+{
+    reduced.dropped.push((copy(alloc, row)?, certificate))?;
+    Ok(())
+}
+
+/// Puts a row with its need behind those that stay.
+fn keep(alloc: Global, reduced: &mut Reduced, row: &Row, need: Need) -> Result<(), AllocError>
+    ensures kept { OnOk result (kept_view reduced.new ≡ kept_view reduced.old ++ (row.now, need_view need) ∷ []) }
+    ensures dropped { OnOk result (dropped_view reduced.new ≡ dropped_view reduced.old) }
+{
+    reduced.kept.push((copy(alloc, row)?, need))?;
+    Ok(())
+}
