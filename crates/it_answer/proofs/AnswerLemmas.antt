@@ -1,6 +1,5 @@
 -- From outcomes of targets to the answer.
-use Rattle.std.proofs.Common.{◌≡◌, inl, inr, ℕ, ◌+◌, ◌≤◌, ℤ, pos, neg_ℤ, ◌≤ℤ◌, List, [], ◌∷◌, length, Bool, true, false, Option, Some, None, refl, sym, ap, subst, ◌∙◌}
-use Rattle.std.specs.Option.{IfSome}
+use Rattle.std.proofs.Common.{◌≡◌, inl, inr, ℕ, ◌+◌, ◌≤◌, ℤ, pos, neg_ℤ, ◌≤ℤ◌, List, [], ◌∷◌, length, Bool, true, false, Option, refl, sym, ap, subst, ◌∙◌}
 use Rattle.std.proofs.lemmas.List.Elements.{All-nil, All-cons, All-head, All-tail}
 use Rattle.it_space.specs.declared.spaces.Space.{Space}
 use Rattle.it_space.specs.Problems.{ProblemView, IsProblem}
@@ -11,7 +10,7 @@ use Rattle.it_space.specs.Spaces.{size_of}
 use Rattle.it_polymatroid.specs.Certificates.{Form, IsCertificate}
 use Rattle.it_polymatroid.specs.Polymatroid.{IsPolymatroid}
 use Rattle.it_syntax.specs.Meaning.{RelationView}
-use Rattle.it_question.specs.Questions.{BodyView, Prove}
+use Rattle.it_question.specs.Questions.{BodyView, Prove, Eliminate}
 use Rattle.it_canon.specs.Canonical.{IsRowOf}
 use Rattle.it_canon.specs.Demands.{AreStated}
 use Rattle.it_canon.specs.Targets.{negation, targets}
@@ -25,41 +24,44 @@ use Rattle.it_prove.specs.declared.types.Proof.TheVariants as proofs
 use Rattle.it_space.proofs.TermLemmas.{value-negated_terms, ascends-negated_terms}
 use Rattle.it_prove.proofs.SmallRows.{small-negated_terms}
 use Rattle.it_answer.specs.declared.types.Budgets.{Budgets}
-use Rattle.it_answer.specs.Forms.{all_demands, generators_by}
-use Rattle.it_answer.specs.RightAnswers.{CertifiesForm, IsCounterexample, CertifyAll, ViolatesFirst, ShowsTargets, IsRightAnswer, IsRightAnswerBy}
+use Rattle.it_contain.specs.Proposals.{Plan}
+use Rattle.it_contain.proofs.PlanLemmas.{after_none}
+use Rattle.it_answer.specs.Forms.{CertifiesForm, CertifyAll, all_demands, generators_by}
+use Rattle.it_answer.specs.RightAnswers.{IsCounterexample, ViolatesFirst, ShowsTargets, IsRightAnswer, IsRightAnswerBy, IsAnswered}
+use Rattle.it_answer.specs.RightRegions.{IsRightElimination}
 use Rattle.it_answer.specs.RowAnswers.{CertifyRows, RefutesFirst, ShowsRows, AnswersRows, AnswersForms, answer_after_one, answer_after_two}
 use Rattle.it_answer.proofs.FormLemmas.{spoken, by_forms}
 
 -- ---- one target, or two
 
-module _ (p : ProblemView) (f : Form) (t : Terms) (row : IsRowOf p.space f t) (steps : ℕ) where
-  after_one : (o : ProofView) → IsRightProof p t o → EndsWith p t steps o → AnswersRows p steps (t ∷ []) (answer_after_one o)
+module _ (p : ProblemView) (f : Form) (t : Terms) (row : IsRowOf p.space f t) (budget : Option ℕ) where
+  after_one : (o : ProofView) → IsRightProof p t o → EndsWith p t budget o → AnswersRows p budget (t ∷ []) (answer_after_one o)
   after_one (Yes w) r e = record { shows = (r.0, tt); due = (e, tt) }
   after_one (No values) r e = record { shows = r.0; due = e }
   after_one (Undecided cause) r e = record { shows = tt; due = inl e }
 
-  pub answers_one : (o : ProofView) (answer : AnswerView) → answer ≡ answer_after_one o → IsRightProof p t o → EndsWith p t steps o → AnswersForms p (f ∷ []) answer steps
-  answers_one o answer is r e = record { rows = t ∷ []; are = (row, tt); answered = subst (AnswersRows p steps (t ∷ [])) (sym is) (after_one o r e) }
+  pub answers_one : (o : ProofView) (answer : AnswerView) → answer ≡ answer_after_one o → IsRightProof p t o → EndsWith p t budget o → AnswersForms p (f ∷ []) answer budget
+  answers_one o answer is r e = record { rows = t ∷ []; are = (row, tt); answered = subst (AnswersRows p budget (t ∷ [])) (sym is) (after_one o r e) }
 
   module _ (g : Form) (u : Terms) (other : IsRowOf p.space g u) where
-    not_proven : (proof : Proof) → ((c : _) → proof ≡ proofs.Yes c → ⊥) → IsRightProof p t (proof_view proof) → EndsWith p t steps (proof_view proof)
-        → AnswersRows p steps (t ∷ u ∷ []) (answer_after_one (proof_view proof))
+    not_proven : (proof : Proof) → ((c : _) → proof ≡ proofs.Yes c → ⊥) → IsRightProof p t (proof_view proof) → EndsWith p t budget (proof_view proof)
+        → AnswersRows p budget (t ∷ u ∷ []) (answer_after_one (proof_view proof))
     not_proven (proofs.Yes c) n r e = absurd (n c refl)
     not_proven (proofs.No point) n r e = record { shows = r.0; due = e }
     not_proven (proofs.Undecided cause) n r e = record { shows = tt; due = inl e }
 
     pub answers_first : (proof : Proof) (answer : AnswerView) → answer ≡ answer_after_one (proof_view proof) → ((c : _) → proof ≡ proofs.Yes c → ⊥) → IsRightProof p t (proof_view proof)
-        → EndsWith p t steps (proof_view proof) → AnswersForms p (f ∷ g ∷ []) answer steps
-    answers_first proof answer is n r e = record { rows = t ∷ u ∷ []; are = (row, (other, tt)); answered = subst (AnswersRows p steps (t ∷ u ∷ [])) (sym is) (not_proven proof n r e) }
+        → EndsWith p t budget (proof_view proof) → AnswersForms p (f ∷ g ∷ []) answer budget
+    answers_first proof answer is n r e = record { rows = t ∷ u ∷ []; are = (row, (other, tt)); answered = subst (AnswersRows p budget (t ∷ u ∷ [])) (sym is) (not_proven proof n r e) }
 
-    after_two : (w : CertificateView) (o : ProofView) → IsRightProof p t (Yes w) → EndsWith p t steps (Yes w) → IsRightProof p u o → EndsWith p u steps o → AnswersRows p steps (t ∷ u ∷ []) (answer_after_two w o)
+    after_two : (w : CertificateView) (o : ProofView) → IsRightProof p t (Yes w) → EndsWith p t budget (Yes w) → IsRightProof p u o → EndsWith p u budget o → AnswersRows p budget (t ∷ u ∷ []) (answer_after_two w o)
     after_two w (Yes v) r e s d = record { shows = (r.0, (s.0, tt)); due = (e, (d, tt)) }
     after_two w (No values) r e s d = record { shows = ((w, r.0), s.0); due = ((w, e), d) }
     after_two w (Undecided cause) r e s d = record { shows = tt; due = inr ((w, e), inl d) }
 
-    pub answers_two : (w : CertificateView) (o : ProofView) (answer : AnswerView) → answer ≡ answer_after_two w o → IsRightProof p t (Yes w) → EndsWith p t steps (Yes w) → IsRightProof p u o
-        → EndsWith p u steps o → AnswersForms p (f ∷ g ∷ []) answer steps
-    answers_two w o answer is r e s d = record { rows = t ∷ u ∷ []; are = (row, (other, tt)); answered = subst (AnswersRows p steps (t ∷ u ∷ [])) (sym is) (after_two w o r e s d) }
+    pub answers_two : (w : CertificateView) (o : ProofView) (answer : AnswerView) → answer ≡ answer_after_two w o → IsRightProof p t (Yes w) → EndsWith p t budget (Yes w) → IsRightProof p u o
+        → EndsWith p u budget o → AnswersForms p (f ∷ g ∷ []) answer budget
+    answers_two w o answer is r e s d = record { rows = t ∷ u ∷ []; are = (row, (other, tt)); answered = subst (AnswersRows p budget (t ∷ u ∷ [])) (sym is) (after_two w o r e s d) }
 
 -- ---- the row of a form's negation
 
@@ -75,15 +77,24 @@ row_negation s f t u e h = subst (IsRowOf s (negation f)) (sym e) (record {
   small = small-negated_terms t h.small;
 })
 
+-- ---- where nothing was found, the boxes keep their plans
+
+pub nothing_found : (budgets : Budgets) (plans : List Plan) (q : BodyView) (answer : AnswerView) → IsRightAnswer budgets plans q (record { answer = answer; found = [] }) → IsAnswered budgets plans q answer plans
+nothing_found budgets plans q answer x = record { found = []; right = x; learned = sym (after_none plans) }
+
+pub left_of_rows : (budgets : Budgets) (plans : List Plan) (q : BodyView) (rates : List ℕ) (answer : AnswerView) → q.verb ≡ Eliminate rates → IsRightElimination budgets.rows q rates answer
+    → IsAnswered budgets plans q answer plans
+left_of_rows budgets plans q rates answer is x = nothing_found budgets plans q answer (subst (λ m. IsRightAnswerBy budgets plans q m (record { answer = answer; found = [] })) (sym is) (x, refl))
+
 -- ---- from rows to the meaning of the text
 
 module _ (q : BodyView) (p : ProblemView) (e : p.space ≡ space_of (problem_names q)) (st : AreStated p.space (demanded q) p.constraints) (k : IsProblem p) where
   moved : (P : Space → Type 0) → P p.space → P (space_of (problem_names q))
   moved P x = subst P e x
 
-  show_certificate : (f : Form) (t : Terms) (w : CertificateView) → IsRowOf p.space f t → CertifiesRow p t w → CertifiesForm q f w
-  show_certificate f t w r c = moved (λ s. IsCertificate (size_of s + 1) (generators_by (all_demands s.variables (demanded q))) f w)
-      (by_forms (all_demands p.space.variables (demanded q)) (generators p) (spoken p.space (demanded q) p.constraints st) (size_of p.space + 1) (value t) f r.same w c)
+  pub show_certificate : (f : Form) (t : Terms) (w : CertificateView) → ((x : ℕ → ℤ) → x 0 ≡ pos 0 → value t x ≡ f x) → CertifiesRow p t w → CertifiesForm q f w
+  show_certificate f t w same c = moved (λ s. IsCertificate (size_of s + 1) (generators_by (all_demands s.variables (demanded q))) f w)
+      (by_forms (all_demands p.space.variables (demanded q)) (generators p) (spoken p.space (demanded q) p.constraints st) (size_of p.space + 1) (value t) f same w c)
 
   show_point : (f : Form) (t : Terms) (values : List ℤ) → IsRowOf p.space f t → RefutesRow p t values → IsCounterexample q f values
   show_point f t values r c = record {
@@ -99,7 +110,7 @@ module _ (q : BodyView) (p : ProblemView) (e : p.space ≡ space_of (problem_nam
   show_all [] (t ∷ ts) ws z c = absurd z
   show_all (f ∷ fs) [] ws z c = absurd z
   show_all (f ∷ fs) (t ∷ ts) [] z c = absurd c
-  show_all (f ∷ fs) (t ∷ ts) (w ∷ ws) z c = (show_certificate f t w z.0 c.0, show_all fs ts ws z.1 c.1)
+  show_all (f ∷ fs) (t ∷ ts) (w ∷ ws) z c = (show_certificate f t w z.0.same c.0, show_all fs ts ws z.1 c.1)
 
   show_first : (fs : List Form) (ts : List Terms) (is_back : Bool) (values : List ℤ) → AreRowsOf p.space fs ts → RefutesFirst p ts is_back values → ViolatesFirst q fs is_back values
   show_first [] [] is_back values z c = absurd c
@@ -109,7 +120,7 @@ module _ (q : BodyView) (p : ProblemView) (e : p.space ≡ space_of (problem_nam
   show_first (f ∷ []) (t ∷ []) true values z c = absurd c
   show_first (f ∷ []) (t ∷ u ∷ ts) true values z c = absurd z.1
   show_first (f ∷ g ∷ fs) (t ∷ []) true values z c = absurd z.1
-  show_first (f ∷ g ∷ fs) (t ∷ u ∷ ts) true values z c = ((c.0.0, show_certificate f t c.0.0 z.0 c.0.1), show_point g u values z.1.0 c.1)
+  show_first (f ∷ g ∷ fs) (t ∷ u ∷ ts) true values z c = ((c.0.0, show_certificate f t c.0.0 z.0.same c.0.1), show_point g u values z.1.0 c.1)
 
   show : (fs : List Form) (ts : List Terms) (answer : AnswerView) → AreRowsOf p.space fs ts → ShowsRows p ts answer → ShowsTargets q fs answer
   show fs ts (answer_views.Yes ws) z c = show_all fs ts ws z c
@@ -119,13 +130,13 @@ module _ (q : BodyView) (p : ProblemView) (e : p.space ≡ space_of (problem_nam
   show fs ts (answer_views.Contained parts proofs) z c = absurd c
   show fs ts (answer_views.Open tried) z c = absurd c
 
-  pub right : (budgets : Budgets) (r : RelationView) (answer : AnswerView) → q.verb ≡ Prove r → AnswersForms p (targets p.space.variables r) answer budgets.pivots → IsRightAnswer budgets q answer
-  right budgets r answer is a = subst (λ m. IsRightAnswerBy budgets q m answer) (sym is) (record {
-    shows = moved (λ s. ShowsTargets q (targets s.variables r) answer) (show (targets p.space.variables r) a.rows answer a.are a.answered.shows);
-    poses = record { problem = p; rows = a.rows; space = e; limits = k; constraints = st; targets_are = subst (λ n. AreRowsOf p.space (targets n r) a.rows) (ap (λ (s : Space). s.variables) e) a.are };
-    due = a.answered.due;
-  })
-
-pub both_some : (b : Option ℕ) (P Q R : ℕ → Type 0) → IfSome b P → IfSome b Q → ((k : ℕ) → P k → Q k → R k) → IfSome b R
-both_some (Some k) P Q R h g f = f k h g
-both_some None P Q R h g f = tt
+  pub right : (budgets : Budgets) (plans : List Plan) (r : RelationView) (answer : AnswerView) → q.verb ≡ Prove r → AnswersForms p (targets p.space.variables r) answer budgets.pivots
+      → IsAnswered budgets plans q answer plans
+  right budgets plans r answer is a = nothing_found budgets plans q answer (subst (λ m. IsRightAnswerBy budgets plans q m (record { answer = answer; found = [] })) (sym is) (
+    record {
+      shows = moved (λ s. ShowsTargets q (targets s.variables r) answer) (show (targets p.space.variables r) a.rows answer a.are a.answered.shows);
+      poses = record { problem = p; rows = a.rows; space = e; limits = k; constraints = st; targets_are = subst (λ n. AreRowsOf p.space (targets n r) a.rows) (ap (λ (s : Space). s.variables) e) a.are };
+      due = a.answered.due;
+    },
+    refl,
+  ))

@@ -2,5 +2,8 @@ pub mod FormLemmas
 pub mod AnswerLemmas
 pub mod TruthLemmas
 pub mod RegionLemmas
+pub mod ContainmentLemmas
+pub mod TargetLemmas
+pub mod KindLemmas
 pub mod UniqueLemmas
 pub mod StartLemmas

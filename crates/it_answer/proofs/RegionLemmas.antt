@@ -1,21 +1,20 @@
 -- What elimination of the rows of the text ends with is the one right answer.
-use Rattle.std.proofs.Common.{◌≡◌, ◌⊎◌, inl, inr, ◌↔◌, ℕ, ◌+◌, ◌<◌, ◌≤◌, ◌^◌, ℤ, pos, ◌*ℤ◌, ◌≤ℤ◌, refl, sym, ap, subst, ◌∙◌, arith, List, [], ◌∷◌, length, map, All}
+use Rattle.std.proofs.Common.{◌≡◌, inl, inr, ◌↔◌, ℕ, ◌+◌, ◌^◌, ℤ, pos, ◌*ℤ◌, ◌≤ℤ◌, refl, sym, ap, subst, ◌∙◌, arith, List, [], ◌∷◌, length, map, All}
 use Rattle.std.proofs.lemmas.Int.{ints}
 use Rattle.std.proofs.lemmas.Nat.{pow_pos}
 use Rattle.std.proofs.lemmas.List.Elements.{All-nil, All-cons, All-head, All-tail}
 use Rattle.it_space.specs.declared.answers.Cause.TheVariants.{Width}
-use Rattle.it_space.specs.declared.answers.Mark.{Mark}
 use Rattle.it_space.specs.declared.problems.System.{System}
 use Rattle.it_space.specs.declared.spaces.Space.{Space}
 use Rattle.it_space.specs.Answers.{AnswerView}
-use Rattle.it_space.specs.Answers.AnswerView.{Yes, No, Undecided, Region, Contained, Open}
+use Rattle.it_space.specs.Answers.AnswerView.{Undecided, Region}
 use Rattle.it_space.specs.Rows.{Terms, IsUpTo, value}
 use Rattle.it_space.specs.Spaces.{size_of}
 use Rattle.it_polymatroid.specs.Polymatroid.{IsPolymatroid}
 use Rattle.it_syntax.specs.Givens.{IsTrueAt}
 use Rattle.it_syntax.specs.Meaning.{RelationView, Holds}
-use Rattle.it_question.specs.Questions.{BodyView, OwnLinesView, Eliminate}
-use Rattle.it_canon.specs.QuestionDemands.{space_of, problem_names_by, problem_lines, problem_lines_by, system_forms, AreTrueAt, AreRowsOf, AreAtLeastZero}
+use Rattle.it_question.specs.Questions.{BodyView, OwnLinesView}
+use Rattle.it_canon.specs.QuestionDemands.{variables_of, space_of, problem_names_by, problem_lines, problem_lines_by, system_forms, AreTrueAt, AreRowsOf, AreAtLeastZero}
 use Rattle.it_canon.proofs.UniqueRows.{one_row_list}
 use Rattle.it_eliminate.specs.declared.types.Eliminated.{Eliminated}
 use Rattle.it_eliminate.specs.declared.types.Eliminated.TheVariants as eliminated
@@ -24,8 +23,8 @@ use Rattle.it_eliminate.specs.Elimination as elimination
 use Rattle.it_eliminate.specs.Projections.{In, Lacks, Extends, IsProjection, RegionIsProjection}
 use Rattle.it_eliminate.specs.Views.{eliminated_view}
 use Rattle.it_eliminate.proofs.LawLemmas.{one_end}
-use Rattle.it_answer.specs.RightRegions.{region_rows, plain_rows, LinesExtend, IsRightRegion, ShowsRegion, answer_of_end, IsDueElimination, IsRightElimination}
-use Rattle.it_answer.specs.RightAnswers.{variables_of, IsRightAnswerBy, ARegionIsTrue}
+use Rattle.it_answer.specs.RightRegions.{region_rows, plain_rows, LinesExtend, IsRightRegion, ShowsRegion, answer_of_end, IsRightElimination}
+use Rattle.it_answer.specs.RightAnswers.{IsRightAnswerBy, ARegionIsTrue}
 
 -- ---- the rows of the text and its lines
 
@@ -111,8 +110,8 @@ not_width step (elimination.Rows rate) e = cc
 not_width step (elimination.Wide rate) e = cc
 
 pub a_region_is_true : ARegionIsTrue
-a_region_is_true budgets q rates rows is right p h lines =
-    let a : IsRightElimination budgets.rows q rates (Region rows) = subst (λ verb. IsRightAnswerBy budgets q verb (Region rows)) is right in
+a_region_is_true budgets plans q rates rows found is right p h lines =
+    let a : IsRightElimination budgets.rows q rates (Region rows) = (subst (λ verb. IsRightAnswerBy budgets plans q verb (record { answer = Region rows; found = found })) is right).0 in
     let n_is : variables_of q ≡ length q.names.variables = ap (λ verb. length (problem_names_by q.names verb).variables) is in
     subst (λ (n : ℕ). In (region_rows rows) p ↔ LinesExtend n rates q.lines.rows p) (sym n_is)
     (a.shows.exact p (subst (λ (n : ℕ). IsPolymatroid n p) n_is h) (subst (λ (n : ℕ). All (IsTrueAt n p) q.lines.givens) n_is (ap_givens lines)))

@@ -1,5 +1,5 @@
 -- No run about a question ends before its first step.
-use Rattle.std.proofs.Common.{inl, inr, ℕ, List, [], ◌∷◌, All}
+use Rattle.std.proofs.Common.{inl, inr, ℕ, List, [], ◌∷◌, Option, All}
 use Rattle.it_space.specs.declared.answers.Cause.TheVariants.{Width}
 use Rattle.it_space.specs.declared.problems.Constraint.{Constraint}
 use Rattle.it_space.specs.Answers as answer_views
@@ -11,27 +11,29 @@ use Rattle.it_syntax.specs.Meaning.{RelationView}
 use Rattle.it_question.specs.Questions.{BodyView, VerbView, Prove, Eliminate, Contain}
 use Rattle.it_canon.specs.Demands.{LineDemand, States}
 use Rattle.it_canon.specs.Targets.{targets}
-use Rattle.it_canon.specs.QuestionDemands.{question_demands, AreRowsOf, Poses}
+use Rattle.it_canon.specs.QuestionDemands.{question_demands, variables_of, AreRowsOf, Poses}
 use Rattle.it_canon.proofs.ZipLemmas.{zip-right}
 use Rattle.it_prove.proofs.SmallLemmas.{never_at_start}
+use Rattle.it_region.specs.declared.types.Candidate.{Candidate}
+use Rattle.it_contain.specs.Proposals.{Plan}
 use Rattle.it_answer.specs.declared.types.Budgets.{Budgets}
 use Rattle.it_answer.proofs.RegionLemmas.{not_width}
-use Rattle.it_answer.specs.RightAnswers.{variables_of, CauseIsDue, IsRightAnswerBy, NoStepIsZero}
+use Rattle.it_answer.specs.RightAnswers.{CauseIsDue, IsRightAnswerBy, NoStepIsZero}
 
 small_constraints : (q : BodyView) (r : RelationView) (b : Poses q r) → All (λ (c : Constraint). IsSmall c.row) b.problem.constraints
 small_constraints q r b = zip-right (λ (d : LineDemand) (c : Constraint). States b.problem.space d.place d.demand c) (λ (c : Constraint). IsSmall c.row) (λ d c s. s.row.small) (question_demands q) b.problem.constraints b.constraints
 
-not_before_start : (p : ProblemView) (steps : ℕ) (fs : List Form) (ts : List Terms) → IsProblem p → All (λ (c : Constraint). IsSmall c.row) p.constraints → AreRowsOf p.space fs ts → CauseIsDue p steps ts (Width 0) → ⊥
-not_before_start p steps [] [] k small a c = absurd c
-not_before_start p steps [] (t ∷ ts) k small a c = absurd a
-not_before_start p steps (f ∷ fs) [] k small a c = absurd a
-not_before_start p steps (f ∷ fs) (t ∷ ts) k small a (inl e) = never_at_start p t steps k (record { constraints = small; own = a.0.small }) e
-not_before_start p steps (f ∷ fs) (t ∷ ts) k small a (inr c) = not_before_start p steps fs ts k small a.1 c.1
+not_before_start : (p : ProblemView) (budget : Option ℕ) (fs : List Form) (ts : List Terms) → IsProblem p → All (λ (c : Constraint). IsSmall c.row) p.constraints → AreRowsOf p.space fs ts → CauseIsDue p budget ts (Width 0) → ⊥
+not_before_start p budget [] [] k small a c = absurd c
+not_before_start p budget [] (t ∷ ts) k small a c = absurd a
+not_before_start p budget (f ∷ fs) [] k small a c = absurd a
+not_before_start p budget (f ∷ fs) (t ∷ ts) k small a (inl e) = never_at_start p t budget k (record { constraints = small; own = a.0.small }) e
+not_before_start p budget (f ∷ fs) (t ∷ ts) k small a (inr c) = not_before_start p budget fs ts k small a.1 c.1
 
-by_verb : (budgets : Budgets) (q : BodyView) (aim : VerbView) → IsRightAnswerBy budgets q aim (answer_views.Undecided (Width 0)) → ⊥
-by_verb budgets q (Prove r) a = not_before_start a.poses.problem budgets.pivots (targets (variables_of q) r) a.poses.rows a.poses.limits (small_constraints q r a.poses) a.poses.targets_are a.due
-by_verb budgets q (Eliminate rates) a = not_width 0 a.due.end a.due.is
-by_verb budgets q (Contain first second tries) a = a
+by_verb : (budgets : Budgets) (plans : List Plan) (q : BodyView) (aim : VerbView) (found : List Candidate) → IsRightAnswerBy budgets plans q aim (record { answer = answer_views.Undecided (Width 0); found = found }) → ⊥
+by_verb budgets plans q (Prove r) found a = not_before_start a.0.poses.problem budgets.pivots (targets (variables_of q) r) a.0.poses.rows a.0.poses.limits (small_constraints q r a.0.poses) a.0.poses.targets_are a.0.due
+by_verb budgets plans q (Eliminate rates) found a = not_width 0 a.0.due.end a.0.due.is
+by_verb budgets plans q (Contain first second tries) found a = a.shows
 
 pub no_step_is_zero : NoStepIsZero
-no_step_is_zero budgets q a = by_verb budgets q q.verb a
+no_step_is_zero budgets plans q found a = by_verb budgets plans q q.verb found a

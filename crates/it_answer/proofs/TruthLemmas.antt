@@ -1,27 +1,30 @@
 -- What right answers say of the relation that is asked for.
-use Rattle.std.proofs.Common.{ℕ, ◌+◌, ℤ, pos, neg_ℤ, ◌≤ℤ◌, List, [], ◌∷◌, Bool, true, false, All, refl, sym, subst, arith}
+use Rattle.std.proofs.Common.{◌≡◌, ℕ, ◌+◌, ℤ, pos, neg_ℤ, ◌≤ℤ◌, List, [], ◌∷◌, Bool, true, false, All, refl, sym, subst, arith}
 use Rattle.std.proofs.lemmas.Int.{ints}
 use Rattle.std.proofs.lemmas.List.Elements.{All-nil, All-cons, All-head, All-tail}
 use Rattle.it_space.specs.declared.spaces.Space.{Space}
 use Rattle.it_space.specs.Answers.{CertificateView}
-use Rattle.it_space.specs.Answers.AnswerView.{Yes, No}
+use Rattle.it_space.specs.Answers.AnswerView.{Yes, No, Contained}
 use Rattle.it_space.specs.Problems.{AreMet}
 use Rattle.it_space.specs.Rows.{Terms, value, map_of}
 use Rattle.it_space.specs.Spaces.{size_of}
 use Rattle.it_polymatroid.specs.Certificates.{Form, IsCertificate}
 use Rattle.it_polymatroid.specs.Polymatroid.{IsPolymatroid}
 use Rattle.it_syntax.specs.Meaning.{RelationView, side_at}
-use Rattle.it_question.specs.Questions.{BodyView}
+use Rattle.it_question.specs.Questions.{BodyView, Prove}
 use Rattle.it_canon.specs.Canonical.{IsRowOf, form_of}
 use Rattle.it_canon.specs.Targets.{targets}
-use Rattle.it_canon.specs.QuestionDemands.{space_of, problem_names, problem_lines, question_demands as demanded, AreTrueAt, AreRowsOf, Poses}
+use Rattle.it_canon.specs.QuestionDemands.{space_of, problem_names, problem_lines, question_demands as demanded, variables_of, AreTrueAt, AreRowsOf, Poses}
 use Rattle.it_canon.proofs.MetLemmas.{targets_met}
 use Rattle.it_canon.proofs.ProblemLemmas.{question_met}
 use Rattle.it_elemental.specs.Generators.{generators}
 use Rattle.it_check.specs.Meaning.{CertifiesRow}
 use Rattle.it_check.proofs.Truth.{yes_is_true}
-use Rattle.it_answer.specs.Forms.{all_demands, generators_by}
-use Rattle.it_answer.specs.RightAnswers.{variables_of, CertifiesForm, CertifyAll, ViolatesFirst, IsRightFor, IsRightAnswerBy, AYesIsTrue, ANoIsTrue}
+use Rattle.it_contain.specs.Proposals.{Plan}
+use Rattle.it_answer.specs.declared.types.Budgets.{Budgets}
+use Rattle.it_answer.specs.Forms.{CertifiesForm, CertifyAll, all_demands, generators_by}
+use Rattle.it_answer.specs.Replies.{Reply}
+use Rattle.it_answer.specs.RightAnswers.{ViolatesFirst, IsRightFor, IsRightAnswer, IsRightAnswerBy, AYesIsTrue, ANoIsTrue, AContainmentIsTrue}
 use Rattle.it_answer.proofs.FormLemmas.{spoken, by_rows}
 
 module _ (q : BodyView) (r : RelationView) (b : Poses q r) (m : ℕ → ℤ) (h : IsPolymatroid (variables_of q) m) (lines_true : AreTrueAt (variables_of q) m (problem_lines q)) where
@@ -45,9 +48,12 @@ module _ (q : BodyView) (r : RelationView) (b : Poses q r) (m : ℕ → ℤ) (h 
   all_valid (f ∷ fs) (t ∷ ts) [] z c = absurd c
   all_valid (f ∷ fs) (t ∷ ts) (w ∷ ws) z c = All-cons (λ (f : Form). pos 0 ≤ℤ f m) f fs (valid f t w z.0 c.0) (all_valid fs ts ws z.1 c.1)
 
+right_to_prove : (budgets : Budgets) (plans : List Plan) (q : BodyView) (r : RelationView) (reply : Reply) → q.verb ≡ Prove r → IsRightAnswer budgets plans q reply → IsRightAnswerBy budgets plans q (Prove r) reply
+right_to_prove budgets plans q r reply is right = subst (λ aim. IsRightAnswerBy budgets plans q aim reply) is right
+
 pub a_yes_is_true : AYesIsTrue
-a_yes_is_true budgets q r ws is right m h l =
-    let a : IsRightFor budgets.pivots q r (Yes ws) = subst (λ aim. IsRightAnswerBy budgets q aim (Yes ws)) is right in
+a_yes_is_true budgets plans q r ws found is right m h l =
+    let a : IsRightFor budgets.pivots q r (Yes ws) = (right_to_prove budgets plans q r (record { answer = Yes ws; found = found }) is right).0 in
     (targets_met r.sign (side_at (variables_of q) m r.left) (side_at (variables_of q) m r.right) (form_of (variables_of q) r) m refl).0
     (all_valid q r a.poses m h l (targets (variables_of q) r) a.poses.rows ws a.poses.targets_are a.shows)
 
@@ -65,8 +71,13 @@ violates q (f ∷ g ∷ fs) true values c =
     (c.1.polymatroid, c.1.lines_hold, λ all. below (g (map_of values)) c.1.violated (All-head (λ (f : Form). pos 0 ≤ℤ f (map_of values)) g fs (All-tail (λ (f : Form). pos 0 ≤ℤ f (map_of values)) f (g ∷ fs) all)))
 
 pub a_no_is_true : ANoIsTrue
-a_no_is_true budgets q r is_back values is right =
-    let a : IsRightFor budgets.pivots q r (No is_back values) = subst (λ aim. IsRightAnswerBy budgets q aim (No is_back values)) is right in
+a_no_is_true budgets plans q r is_back values found is right =
+    let a : IsRightFor budgets.pivots q r (No is_back values) = (right_to_prove budgets plans q r (record { answer = No is_back values; found = found }) is right).0 in
     let v = violates q (targets (variables_of q) r) is_back values a.shows in
     let p = map_of values in
     (v.0, v.1, λ holds. v.2 ((targets_met r.sign (side_at (variables_of q) p r.left) (side_at (variables_of q) p r.right) (form_of (variables_of q) r) p refl).1 holds))
+
+pub a_containment_is_true : AContainmentIsTrue
+a_containment_is_true budgets plans q a b tries parts ws found is right =
+    let x = subst (λ aim. IsRightAnswerBy budgets plans q aim (record { answer = Contained parts ws; found = found })) is right in
+    (x.shows.lies, x.shows.are_parts)

@@ -1,21 +1,30 @@
 -- A question has one right answer: its problem and its targets' rows are determined, and each target has one outcome.
-use Rattle.std.proofs.Common.{◌≡◌, inl, inr, ℕ, ℤ, List, [], ◌∷◌, Bool, true, false, All, refl, sym, ap, ap₂, subst, ◌∙◌}
+use Rattle.std.proofs.Common.{◌≡◌, inl, inr, ℕ, ℤ, List, [], ◌∷◌, Bool, true, false, Option, All, take, refl, sym, ap, ap₂, subst, ◌∙◌}
 use Rattle.std.proofs.lemmas.List.Elements.{All-nil, All-cons}
 use Rattle.it_space.specs.declared.answers.Cause.{Cause}
-use Rattle.it_space.specs.declared.problems.Constraint.{Constraint}
-use Rattle.it_space.specs.declared.spaces.Space.{Space}
-use Rattle.it_space.specs.Problems.{ProblemView}
+use Rattle.it_space.specs.Problems.{ProblemView, problem_view}
 use Rattle.it_space.specs.Answers.{AnswerView, CertificateView}
 use Rattle.it_space.specs.Answers as answer_views
 use Rattle.it_space.specs.Rows.{Terms, IsCanonical}
 use Rattle.it_syntax.specs.Meaning.{RelationView}
-use Rattle.it_question.specs.Questions.{BodyView, VerbView, Prove, Eliminate, Contain}
+use Rattle.it_question.specs.Questions.{BodyView, RegionView, VerbView, Prove, Eliminate, Contain}
+use Rattle.it_canon.proofs.ZipLemmas.{zip-right}
 use Rattle.it_canon.proofs.PosesLemmas.{one_problem, same_rows}
 use Rattle.it_prove.specs.ProofViews.{Yes, No, Undecided}
 use Rattle.it_prove.proofs.ProofLemmas.{one_outcome, proven_ascends}
+use Rattle.it_region.specs.declared.types.Candidate.{Candidate}
+use Rattle.it_region.specs.declared.types.Pair.{Pair}
+use Rattle.it_region.specs.Pairs.{IsPairOf}
+use Rattle.it_contain.specs.Proposals.{Plan}
+use Rattle.it_contain.specs.Shapes.{shape_of}
+use Rattle.it_contain.specs.Search.{Goal, IsOpen, IsProofOf, IsProofBy, goal_of, plan_of}
+use Rattle.it_contain.proofs.OneEndLemmas.{one_first, first_not_open, one_open, one_proof_list, same_shape, first_of_other, open_of_other, proof_of_other}
 use Rattle.it_answer.specs.declared.types.Budgets.{Budgets}
 use Rattle.it_answer.proofs.RegionLemmas.{one_elimination}
-use Rattle.it_answer.specs.RightAnswers.{variables_of, ProofsAreDue, PointIsDue, CauseIsDue, IsDue, IsRightFor, IsRightAnswerBy, OneRightAnswer, AYesAscends}
+use Rattle.it_answer.specs.Replies.{Reply}
+use Rattle.it_answer.specs.RightRegions.{ShowsRegion}
+use Rattle.it_answer.specs.RightContainments.{tried_of, IsFound, IsDueSearch, IsRightContainment}
+use Rattle.it_answer.specs.RightAnswers.{ProofsAreDue, PointIsDue, CauseIsDue, IsDue, IsRightFor, IsRightAnswerBy, OneRightAnswer, ProofsAscend, AYesAscends}
 
 -- ---- the answer that is due
 
@@ -37,54 +46,54 @@ proven_not_open w c e = cc
 refuted_not_open : (xs : List ℤ) (c : Cause) → No xs ≡ Undecided c → ⊥
 refuted_not_open xs c e = cc
 
-module _ (p : ProblemView) (steps : ℕ) where
-  one_yes : (ts : List Terms) (ws vs : List CertificateView) → ProofsAreDue p steps ts ws → ProofsAreDue p steps ts vs → ws ≡ vs
+module _ (p : ProblemView) (budget : Option ℕ) where
+  one_yes : (ts : List Terms) (ws vs : List CertificateView) → ProofsAreDue p budget ts ws → ProofsAreDue p budget ts vs → ws ≡ vs
   one_yes [] [] [] a b = refl
   one_yes [] [] (v ∷ vs) a b = absurd b
   one_yes [] (w ∷ ws) vs a b = absurd a
   one_yes (t ∷ ts) [] vs a b = absurd a
   one_yes (t ∷ ts) (w ∷ ws) [] a b = absurd b
-  one_yes (t ∷ ts) (w ∷ ws) (v ∷ vs) a b = ap₂ (λ x xs. x ∷ xs) (proven_is w v (one_outcome p t steps (Yes w) (Yes v) a.0 b.0)) (one_yes ts ws vs a.1 b.1)
+  one_yes (t ∷ ts) (w ∷ ws) (v ∷ vs) a b = ap₂ (λ x xs. x ∷ xs) (proven_is w v (one_outcome p t budget (Yes w) (Yes v) a.0 b.0)) (one_yes ts ws vs a.1 b.1)
 
-  yes_not_no : (ts : List Terms) (ws : List CertificateView) (is_back : Bool) (values : List ℤ) → ProofsAreDue p steps ts ws → PointIsDue p steps ts is_back values → ⊥
+  yes_not_no : (ts : List Terms) (ws : List CertificateView) (is_back : Bool) (values : List ℤ) → ProofsAreDue p budget ts ws → PointIsDue p budget ts is_back values → ⊥
   yes_not_no [] ws is_back values a b = absurd b
   yes_not_no (t ∷ ts) [] is_back values a b = absurd a
-  yes_not_no (t ∷ ts) (w ∷ ws) false values a b = proven_not_refuted w values (one_outcome p t steps (Yes w) (No values) a.0 b)
+  yes_not_no (t ∷ ts) (w ∷ ws) false values a b = proven_not_refuted w values (one_outcome p t budget (Yes w) (No values) a.0 b)
   yes_not_no (t ∷ []) (w ∷ ws) true values a b = absurd b
   yes_not_no (t ∷ u ∷ ts) (w ∷ []) true values a b = absurd a.1
-  yes_not_no (t ∷ u ∷ ts) (w ∷ v ∷ ws) true values a b = proven_not_refuted v values (one_outcome p u steps (Yes v) (No values) a.1.0 b.1)
+  yes_not_no (t ∷ u ∷ ts) (w ∷ v ∷ ws) true values a b = proven_not_refuted v values (one_outcome p u budget (Yes v) (No values) a.1.0 b.1)
 
-  yes_not_undecided : (ts : List Terms) (ws : List CertificateView) (cause : Cause) → ProofsAreDue p steps ts ws → CauseIsDue p steps ts cause → ⊥
+  yes_not_undecided : (ts : List Terms) (ws : List CertificateView) (cause : Cause) → ProofsAreDue p budget ts ws → CauseIsDue p budget ts cause → ⊥
   yes_not_undecided [] ws cause a b = absurd b
   yes_not_undecided (t ∷ ts) [] cause a b = absurd a
-  yes_not_undecided (t ∷ ts) (w ∷ ws) cause a (inl e) = proven_not_open w cause (one_outcome p t steps (Yes w) (Undecided cause) a.0 e)
+  yes_not_undecided (t ∷ ts) (w ∷ ws) cause a (inl e) = proven_not_open w cause (one_outcome p t budget (Yes w) (Undecided cause) a.0 e)
   yes_not_undecided (t ∷ ts) (w ∷ ws) cause a (inr b) = yes_not_undecided ts ws cause a.1 b.1
 
-  one_no : (ts : List Terms) (is_back is_other : Bool) (xs ys : List ℤ) → PointIsDue p steps ts is_back xs → PointIsDue p steps ts is_other ys → answer_views.No is_back xs ≡ answer_views.No is_other ys
+  one_no : (ts : List Terms) (is_back is_other : Bool) (xs ys : List ℤ) → PointIsDue p budget ts is_back xs → PointIsDue p budget ts is_other ys → answer_views.No is_back xs ≡ answer_views.No is_other ys
   one_no [] is_back is_other xs ys a b = absurd a
-  one_no (t ∷ ts) false false xs ys a b = ap (answer_views.No false) (refuted_is xs ys (one_outcome p t steps (No xs) (No ys) a b))
+  one_no (t ∷ ts) false false xs ys a b = ap (answer_views.No false) (refuted_is xs ys (one_outcome p t budget (No xs) (No ys) a b))
   one_no (t ∷ []) false true xs ys a b = absurd b
   one_no (t ∷ []) true is_other xs ys a b = absurd a
-  one_no (t ∷ u ∷ ts) false true xs ys a b = absurd (proven_not_refuted b.0.0 xs (one_outcome p t steps (Yes b.0.0) (No xs) b.0.1 a))
-  one_no (t ∷ u ∷ ts) true false xs ys a b = absurd (proven_not_refuted a.0.0 ys (one_outcome p t steps (Yes a.0.0) (No ys) a.0.1 b))
-  one_no (t ∷ u ∷ ts) true true xs ys a b = ap (answer_views.No true) (refuted_is xs ys (one_outcome p u steps (No xs) (No ys) a.1 b.1))
+  one_no (t ∷ u ∷ ts) false true xs ys a b = absurd (proven_not_refuted b.0.0 xs (one_outcome p t budget (Yes b.0.0) (No xs) b.0.1 a))
+  one_no (t ∷ u ∷ ts) true false xs ys a b = absurd (proven_not_refuted a.0.0 ys (one_outcome p t budget (Yes a.0.0) (No ys) a.0.1 b))
+  one_no (t ∷ u ∷ ts) true true xs ys a b = ap (answer_views.No true) (refuted_is xs ys (one_outcome p u budget (No xs) (No ys) a.1 b.1))
 
-  no_not_undecided : (ts : List Terms) (is_back : Bool) (values : List ℤ) (cause : Cause) → PointIsDue p steps ts is_back values → CauseIsDue p steps ts cause → ⊥
+  no_not_undecided : (ts : List Terms) (is_back : Bool) (values : List ℤ) (cause : Cause) → PointIsDue p budget ts is_back values → CauseIsDue p budget ts cause → ⊥
   no_not_undecided [] is_back values cause a b = absurd b
-  no_not_undecided (t ∷ ts) false values cause a (inl e) = refuted_not_open values cause (one_outcome p t steps (No values) (Undecided cause) a e)
-  no_not_undecided (t ∷ ts) false values cause a (inr b) = proven_not_refuted b.0.0 values (one_outcome p t steps (Yes b.0.0) (No values) b.0.1 a)
+  no_not_undecided (t ∷ ts) false values cause a (inl e) = refuted_not_open values cause (one_outcome p t budget (No values) (Undecided cause) a e)
+  no_not_undecided (t ∷ ts) false values cause a (inr b) = proven_not_refuted b.0.0 values (one_outcome p t budget (Yes b.0.0) (No values) b.0.1 a)
   no_not_undecided (t ∷ []) true values cause a b = absurd a
-  no_not_undecided (t ∷ u ∷ ts) true values cause a (inl e) = proven_not_open a.0.0 cause (one_outcome p t steps (Yes a.0.0) (Undecided cause) a.0.1 e)
+  no_not_undecided (t ∷ u ∷ ts) true values cause a (inl e) = proven_not_open a.0.0 cause (one_outcome p t budget (Yes a.0.0) (Undecided cause) a.0.1 e)
   no_not_undecided (t ∷ u ∷ ts) true values cause a (inr b) = no_not_undecided (u ∷ ts) false values cause a.1 b.1
 
-  one_cause : (ts : List Terms) (c d : Cause) → CauseIsDue p steps ts c → CauseIsDue p steps ts d → c ≡ d
+  one_cause : (ts : List Terms) (c d : Cause) → CauseIsDue p budget ts c → CauseIsDue p budget ts d → c ≡ d
   one_cause [] c d a b = absurd a
-  one_cause (t ∷ ts) c d (inl a) (inl b) = open_is c d (one_outcome p t steps (Undecided c) (Undecided d) a b)
-  one_cause (t ∷ ts) c d (inl a) (inr b) = absurd (proven_not_open b.0.0 c (one_outcome p t steps (Yes b.0.0) (Undecided c) b.0.1 a))
-  one_cause (t ∷ ts) c d (inr a) (inl b) = absurd (proven_not_open a.0.0 d (one_outcome p t steps (Yes a.0.0) (Undecided d) a.0.1 b))
+  one_cause (t ∷ ts) c d (inl a) (inl b) = open_is c d (one_outcome p t budget (Undecided c) (Undecided d) a b)
+  one_cause (t ∷ ts) c d (inl a) (inr b) = absurd (proven_not_open b.0.0 c (one_outcome p t budget (Yes b.0.0) (Undecided c) b.0.1 a))
+  one_cause (t ∷ ts) c d (inr a) (inl b) = absurd (proven_not_open a.0.0 d (one_outcome p t budget (Yes a.0.0) (Undecided d) a.0.1 b))
   one_cause (t ∷ ts) c d (inr a) (inr b) = one_cause ts c d a.1 b.1
 
-  yes_is : (ts : List Terms) (ws : List CertificateView) (b : AnswerView) → ProofsAreDue p steps ts ws → IsDue p steps ts b → answer_views.Yes ws ≡ b
+  yes_is : (ts : List Terms) (ws : List CertificateView) (b : AnswerView) → ProofsAreDue p budget ts ws → IsDue p budget ts b → answer_views.Yes ws ≡ b
   yes_is ts ws (answer_views.Yes vs) x y = ap answer_views.Yes (one_yes ts ws vs x y)
   yes_is ts ws (answer_views.No is_back values) x y = absurd (yes_not_no ts ws is_back values x y)
   yes_is ts ws (answer_views.Undecided cause) x y = absurd (yes_not_undecided ts ws cause x y)
@@ -92,7 +101,7 @@ module _ (p : ProblemView) (steps : ℕ) where
   yes_is ts ws (answer_views.Contained parts proofs) x y = absurd y
   yes_is ts ws (answer_views.Open tried) x y = absurd y
 
-  no_is : (ts : List Terms) (is_back : Bool) (values : List ℤ) (b : AnswerView) → PointIsDue p steps ts is_back values → IsDue p steps ts b → answer_views.No is_back values ≡ b
+  no_is : (ts : List Terms) (is_back : Bool) (values : List ℤ) (b : AnswerView) → PointIsDue p budget ts is_back values → IsDue p budget ts b → answer_views.No is_back values ≡ b
   no_is ts is_back values (answer_views.Yes ws) x y = absurd (yes_not_no ts ws is_back values y x)
   no_is ts is_back values (answer_views.No is_other others) x y = one_no ts is_back is_other values others x y
   no_is ts is_back values (answer_views.Undecided cause) x y = absurd (no_not_undecided ts is_back values cause x y)
@@ -100,7 +109,7 @@ module _ (p : ProblemView) (steps : ℕ) where
   no_is ts is_back values (answer_views.Contained parts proofs) x y = absurd y
   no_is ts is_back values (answer_views.Open tried) x y = absurd y
 
-  undecided_is : (ts : List Terms) (cause : Cause) (b : AnswerView) → CauseIsDue p steps ts cause → IsDue p steps ts b → answer_views.Undecided cause ≡ b
+  undecided_is : (ts : List Terms) (cause : Cause) (b : AnswerView) → CauseIsDue p budget ts cause → IsDue p budget ts b → answer_views.Undecided cause ≡ b
   undecided_is ts cause (answer_views.Yes ws) x y = absurd (yes_not_undecided ts ws cause y x)
   undecided_is ts cause (answer_views.No is_back values) x y = absurd (no_not_undecided ts is_back values cause y x)
   undecided_is ts cause (answer_views.Undecided other) x y = ap answer_views.Undecided (one_cause ts cause other x y)
@@ -108,7 +117,7 @@ module _ (p : ProblemView) (steps : ℕ) where
   undecided_is ts cause (answer_views.Contained parts proofs) x y = absurd y
   undecided_is ts cause (answer_views.Open tried) x y = absurd y
 
-  one_due : (ts : List Terms) (a b : AnswerView) → IsDue p steps ts a → IsDue p steps ts b → a ≡ b
+  one_due : (ts : List Terms) (a b : AnswerView) → IsDue p budget ts a → IsDue p budget ts b → a ≡ b
   one_due ts (answer_views.Yes ws) b x y = yes_is ts ws b x y
   one_due ts (answer_views.No is_back values) b x y = no_is ts is_back values b x y
   one_due ts (answer_views.Undecided cause) b x y = undecided_is ts cause b x y
@@ -116,30 +125,115 @@ module _ (p : ProblemView) (steps : ℕ) where
   one_due ts (answer_views.Contained parts proofs) b x y = absurd x
   one_due ts (answer_views.Open tried) b x y = absurd x
 
-one_for : (steps : ℕ) (q : BodyView) (r : RelationView) (a b : AnswerView) → IsRightFor steps q r a → IsRightFor steps q r b → a ≡ b
-one_for steps q r a b x y = one_due y.poses.problem steps y.poses.rows a b
-    (subst (λ (p : ProblemView). IsDue p steps y.poses.rows a) (one_problem q r x.poses y.poses) (subst (λ (ts : List Terms). IsDue x.poses.problem steps ts a) (same_rows q r x.poses y.poses) x.due)) y.due
+one_for : (budget : Option ℕ) (q : BodyView) (r : RelationView) (a b : AnswerView) → IsRightFor budget q r a → IsRightFor budget q r b → a ≡ b
+one_for budget q r a b x y = one_due y.poses.problem budget y.poses.rows a b
+    (subst (λ (p : ProblemView). IsDue p budget y.poses.rows a) (one_problem q r x.poses y.poses) (subst (λ (ts : List Terms). IsDue x.poses.problem budget ts a) (same_rows q r x.poses y.poses) x.due)) y.due
 
-one_by : (budgets : Budgets) (q : BodyView) (aim : VerbView) (a b : AnswerView) → IsRightAnswerBy budgets q aim a → IsRightAnswerBy budgets q aim b → a ≡ b
-one_by budgets q (Prove r) a b x y = one_for budgets.pivots q r a b x y
-one_by budgets q (Eliminate rates) a b x y = one_elimination budgets.rows q rates a b x y
-one_by budgets q (Contain first second tries) a b x y = absurd x
+-- ---- what a search finds
+
+abbrev reply_of : AnswerView → List Candidate → Reply
+reply_of answer found = record { answer = answer; found = found }
+
+module _ (budget : Option ℕ) (tries : ℕ) (q : BodyView) (a b : RegionView) (p r : Pair) (o : IsPairOf q a b p) (u : IsPairOf q a b r) (plan : List Candidate) where
+  one_found : (xs ys : List Candidate) (parts others : List ℕ) (ws vs : List CertificateView) → IsFound (goal_of p budget) tries plan xs parts ws → IsFound (goal_of r budget) tries plan ys others vs
+      → reply_of (answer_views.Contained parts ws) xs ≡ reply_of (answer_views.Contained others vs) ys
+  one_found xs ys parts others ws vs x y =
+      let c : x.candidate ≡ y.candidate = one_first (goal_of r budget) tries plan x.candidate y.candidate (first_of_other q a b p r o u budget tries plan x.candidate x.first) y.first in
+      let same_proofs : ws ≡ vs = one_proof_list (goal_of r budget) y.candidate ws vs (subst (λ d. IsProofBy (goal_of r budget) d ws) c (proof_of_other q a b p r o u budget x.candidate ws x.proofs)) y.proofs in
+      let same_parts : parts ≡ others = x.parts_are ∙ ap (λ (d : Candidate). take d.count d.parts) c ∙ sym y.parts_are in
+      let same_found : xs ≡ ys = x.found_is ∙ ap (λ d. d ∷ []) c ∙ sym y.found_is in
+      ap₂ (λ zs cs. reply_of (answer_views.Contained zs ws) cs) same_parts same_found ∙ ap (λ us. reply_of (answer_views.Contained others us) ys) same_proofs
+
+  found_not_open : (xs : List Candidate) (parts : List ℕ) (ws : List CertificateView) (t : ℕ) → IsFound (goal_of p budget) tries plan xs parts ws → IsOpen (goal_of r budget) tries plan t → ⊥
+  found_not_open xs parts ws t x y = first_not_open (goal_of r budget) tries plan x.candidate t (first_of_other q a b p r o u budget tries plan x.candidate x.first) y
+
+  open_is_one : (xs ys : List Candidate) (t s : ℕ) → IsOpen (goal_of p budget) tries plan t → IsOpen (goal_of r budget) tries plan s → xs ≡ [] → ys ≡ [] → reply_of (answer_views.Open t) xs ≡ reply_of (answer_views.Open s) ys
+  open_is_one xs ys t s x y e f = ap₂ (λ n cs. reply_of (answer_views.Open n) cs) (one_open (goal_of r budget) tries plan t s (open_of_other q a b p r o u budget tries plan t x) y) (e ∙ sym f)
+
+module _ (budget : Option ℕ) (tries : ℕ) (q : BodyView) (a b : RegionView) (p r : Pair) (o : IsPairOf q a b p) (u : IsPairOf q a b r) (plan : List Candidate) (xs ys : List Candidate) where
+  found_then : (parts : List ℕ) (ws : List CertificateView) (other : AnswerView) → IsFound (goal_of p budget) tries plan xs parts ws → IsDueSearch (goal_of r budget) tries plan ys other
+      → reply_of (answer_views.Contained parts ws) xs ≡ reply_of other ys
+  found_then parts ws (answer_views.Contained others vs) x y = one_found budget tries q a b p r o u plan xs ys parts others ws vs x y
+  found_then parts ws (answer_views.Open t) x y = absurd (found_not_open budget tries q a b p r o u plan xs parts ws t x y.0)
+  found_then parts ws (answer_views.Yes vs) x y = absurd y
+  found_then parts ws (answer_views.No is_back values) x y = absurd y
+  found_then parts ws (answer_views.Undecided cause) x y = absurd y
+  found_then parts ws (answer_views.Region rows) x y = absurd y
+
+  open_then : (t : ℕ) (other : AnswerView) → IsOpen (goal_of p budget) tries plan t → xs ≡ [] → IsDueSearch (goal_of r budget) tries plan ys other → reply_of (answer_views.Open t) xs ≡ reply_of other ys
+  open_then t (answer_views.Contained others vs) x e y = absurd (found_not_open budget tries q a b r p u o plan ys others vs t y x)
+  open_then t (answer_views.Open s) x e y = open_is_one budget tries q a b p r o u plan xs ys t s x y.0 e y.1
+  open_then t (answer_views.Yes vs) x e y = absurd y
+  open_then t (answer_views.No is_back values) x e y = absurd y
+  open_then t (answer_views.Undecided cause) x e y = absurd y
+  open_then t (answer_views.Region rows) x e y = absurd y
+
+  one_search : (one other : AnswerView) → IsDueSearch (goal_of p budget) tries plan xs one → IsDueSearch (goal_of r budget) tries plan ys other → reply_of one xs ≡ reply_of other ys
+  one_search (answer_views.Contained parts ws) other x y = found_then parts ws other x y
+  one_search (answer_views.Open t) other x y = open_then t other x.0 x.1 y
+  one_search (answer_views.Yes ws) other x y = absurd x
+  one_search (answer_views.No is_back values) other x y = absurd x
+  one_search (answer_views.Undecided cause) other x y = absurd x
+  one_search (answer_views.Region rows) other x y = absurd x
+
+one_containment : (budgets : Budgets) (plans : List Plan) (q : BodyView) (a b : RegionView) (tries : List (List ℕ)) (one other : Reply)
+    → IsRightContainment budgets plans q a b tries one → IsRightContainment budgets plans q a b tries other → one ≡ other
+one_containment budgets plans q a b tries one other x y =
+    let plan = plan_of (tried_of b tries) plans (shape_of y.pair) in
+    one_search budgets.pivots budgets.tries q a b x.pair y.pair x.pairs y.pairs plan one.found other.found one.answer other.answer
+    (subst (λ s. IsDueSearch (goal_of x.pair budgets.pivots) budgets.tries (plan_of (tried_of b tries) plans s) one.found one.answer) (same_shape q a b x.pair y.pair x.pairs y.pairs) x.due) y.due
+
+-- ---- each verb
+
+without_found : (one other : AnswerView) (xs ys : List Candidate) → one ≡ other → xs ≡ [] → ys ≡ [] → reply_of one xs ≡ reply_of other ys
+without_found one other xs ys same e f = ap₂ reply_of same (e ∙ sym f)
+
+one_by : (budgets : Budgets) (plans : List Plan) (q : BodyView) (aim : VerbView) (a b : Reply) → IsRightAnswerBy budgets plans q aim a → IsRightAnswerBy budgets plans q aim b → a ≡ b
+one_by budgets plans q (Prove r) a b x y = without_found a.answer b.answer a.found b.found (one_for budgets.pivots q r a.answer b.answer x.0 y.0) x.1 y.1
+one_by budgets plans q (Eliminate rates) a b x y = without_found a.answer b.answer a.found b.found (one_elimination budgets.rows q rates a.answer b.answer x.0 y.0) x.1 y.1
+one_by budgets plans q (Contain first second tries) a b x y = one_containment budgets plans q first second tries a b x y
 
 pub one_right_answer : OneRightAnswer
-one_right_answer budgets q a b x y = one_by budgets q q.verb a b x y
+one_right_answer budgets plans q a b x y = one_by budgets plans q q.verb a b x y
 
--- ---- the certificates of a yes
+-- ---- the certificates of an answer
 
-each_ascends : (p : ProblemView) (steps : ℕ) (ts : List Terms) (ws : List CertificateView) → ProofsAreDue p steps ts ws → All (λ (w : CertificateView). IsCanonical w.parts) ws
-each_ascends p steps [] [] a = All-nil (λ (w : CertificateView). IsCanonical w.parts)
-each_ascends p steps [] (w ∷ ws) a = absurd a
-each_ascends p steps (t ∷ ts) [] a = absurd a
-each_ascends p steps (t ∷ ts) (w ∷ ws) a = All-cons (λ (w : CertificateView). IsCanonical w.parts) w ws (proven_ascends p t steps w a.0) (each_ascends p steps ts ws a.1)
+each_ascends : (p : ProblemView) (budget : Option ℕ) (ts : List Terms) (ws : List CertificateView) → ProofsAreDue p budget ts ws → All (λ (w : CertificateView). IsCanonical w.parts) ws
+each_ascends p budget [] [] a = All-nil (λ (w : CertificateView). IsCanonical w.parts)
+each_ascends p budget [] (w ∷ ws) a = absurd a
+each_ascends p budget (t ∷ ts) [] a = absurd a
+each_ascends p budget (t ∷ ts) (w ∷ ws) a = All-cons (λ (w : CertificateView). IsCanonical w.parts) w ws (proven_ascends p t budget w a.0) (each_ascends p budget ts ws a.1)
 
-ascends_by : (budgets : Budgets) (q : BodyView) (aim : VerbView) (ws : List CertificateView) → IsRightAnswerBy budgets q aim (answer_views.Yes ws) → All (λ (w : CertificateView). IsCanonical w.parts) ws
-ascends_by budgets q (Prove r) ws x = each_ascends x.poses.problem budgets.pivots x.poses.rows ws x.due
-ascends_by budgets q (Eliminate rates) ws x = absurd x.shows
-ascends_by budgets q (Contain first second tries) ws x = absurd x
+targets_ascend : (p : ProblemView) (budget : Option ℕ) (ts : List Terms) (answer : AnswerView) → IsDue p budget ts answer → ProofsAscend answer
+targets_ascend p budget ts (answer_views.Yes ws) x = each_ascends p budget ts ws x
+targets_ascend p budget ts (answer_views.No is_back values) x = tt
+targets_ascend p budget ts (answer_views.Undecided cause) x = tt
+targets_ascend p budget ts (answer_views.Region rows) x = absurd x
+targets_ascend p budget ts (answer_views.Contained parts proofs) x = absurd x
+targets_ascend p budget ts (answer_views.Open tried) x = absurd x
+
+region_ascends : (q : BodyView) (rates : List ℕ) (answer : AnswerView) → ShowsRegion q rates answer → ProofsAscend answer
+region_ascends q rates (answer_views.Yes ws) x = absurd x
+region_ascends q rates (answer_views.No is_back values) x = absurd x
+region_ascends q rates (answer_views.Undecided cause) x = tt
+region_ascends q rates (answer_views.Region rows) x = tt
+region_ascends q rates (answer_views.Contained parts proofs) x = absurd x
+region_ascends q rates (answer_views.Open tried) x = absurd x
+
+search_ascends : (goal : Goal) (tries : ℕ) (plan found : List Candidate) (answer : AnswerView) → IsDueSearch goal tries plan found answer → ProofsAscend answer
+search_ascends goal tries plan found (answer_views.Yes ws) x = absurd x
+search_ascends goal tries plan found (answer_views.No is_back values) x = absurd x
+search_ascends goal tries plan found (answer_views.Undecided cause) x = absurd x
+search_ascends goal tries plan found (answer_views.Region rows) x = absurd x
+search_ascends goal tries plan found (answer_views.Contained parts ws) x =
+    zip-right (λ (t : Terms) (w : CertificateView). IsProofOf (problem_view goal.pair.first) goal.budget t w) (λ (w : CertificateView). IsCanonical w.parts)
+    (λ t w p. proven_ascends (problem_view goal.pair.first) t goal.budget w p.due) x.proofs.rows ws x.proofs.proofs
+search_ascends goal tries plan found (answer_views.Open tried) x = tt
+
+ascends_by : (budgets : Budgets) (plans : List Plan) (q : BodyView) (aim : VerbView) (reply : Reply) → IsRightAnswerBy budgets plans q aim reply → ProofsAscend reply.answer
+ascends_by budgets plans q (Prove r) reply x = targets_ascend x.0.poses.problem budgets.pivots x.0.poses.rows reply.answer x.0.due
+ascends_by budgets plans q (Eliminate rates) reply x = region_ascends q rates reply.answer x.0.shows
+ascends_by budgets plans q (Contain a b tries) reply x = search_ascends (goal_of x.pair budgets.pivots) budgets.tries (plan_of (tried_of b tries) plans (shape_of x.pair)) reply.found reply.answer x.due
 
 pub a_yes_ascends : AYesAscends
-a_yes_ascends budgets q ws x = ascends_by budgets q q.verb ws x
+a_yes_ascends budgets plans q reply x = ascends_by budgets plans q q.verb reply x

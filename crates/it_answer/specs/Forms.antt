@@ -1,9 +1,14 @@
--- The generators of a question by the meaning of its text: the elemental inequalities, then what its lines demand.
-use Rattle.std.specs.Prelude.{ℕ, pos, List, ◌++◌, length, map, slice_index_or}
+-- The generators of a question by the meaning of its text: the elemental inequalities, then what its lines demand; and
+-- certificates over these generators.
+use Rattle.std.specs.Prelude.{ℕ, ◌+◌, pos, List, [], ◌∷◌, ◌++◌, length, map, slice_index_or}
 use Rattle.it_space.specs.declared.problems.Kind.TheVariants.{Inequality}
-use Rattle.it_polymatroid.specs.Certificates.{Generators}
+use Rattle.it_space.specs.Answers.{CertificateView}
+use Rattle.it_space.specs.Spaces.{size_of}
+use Rattle.it_polymatroid.specs.Certificates.{Form, Generators, IsCertificate}
 use Rattle.it_polymatroid.specs.Elementals.{Elemental, elementals, worth}
+use Rattle.it_question.specs.Questions.{BodyView}
 use Rattle.it_canon.specs.Demands.{Demand, LineDemand}
+use Rattle.it_canon.specs.QuestionDemands.{space_of, problem_names, question_demands, variables_of}
 use Rattle.it_elemental.specs.Generators.{is_equation}
 
 abbrev pub demand_of_elemental : ℕ → Elemental → Demand
@@ -24,3 +29,14 @@ generators_by ds = record {
   worth_of = λ i p. (demand_at ds i).form p;
   is_equation = λ i. is_equation (demand_at ds i).kind;
 }
+
+-- a Farkas certificate: the elemental inequalities and the question's lines add up to the target by these weights
+abbrev pub CertifiesForm : BodyView → Form → CertificateView → Type 0
+CertifiesForm q f w = IsCertificate (size_of (space_of (problem_names q)) + 1) (generators_by (all_demands (variables_of q) (question_demands q))) f w
+
+-- one certificate of each target, in order
+abbrev pub CertifyAll : BodyView → List Form → List CertificateView → Type 0
+CertifyAll q [] [] = Unit {0}
+CertifyAll q [] (w ∷ ws) = ⊥
+CertifyAll q (f ∷ fs) [] = ⊥
+CertifyAll q (f ∷ fs) (w ∷ ws) = CertifiesForm q f w × CertifyAll q fs ws

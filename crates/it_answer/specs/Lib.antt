@@ -1,5 +1,8 @@
 pub mod Forms
+pub mod AnswerForms
+pub mod Replies
 pub mod RightRegions
+pub mod RightContainments
 pub mod RightAnswers
-pub mod AnswerableQuestions
 pub mod RowAnswers
+pub mod SearchAnswers

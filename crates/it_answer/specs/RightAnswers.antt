@@ -1,36 +1,34 @@
 -- Right answers: what an answer to `prove` shows by the meaning of the text, and which one is due by the run; right answers of
--- either verb, and what follows from them.
-use Rattle.std.specs.Prelude.{◌≡◌, ◌↔◌, ◌⊎◌, ℕ, ◌+◌, ℤ, neg_ℤ, pos, ◌≤ℤ◌, List, [], ◌∷◌, length, Bool, true, false, All}
+-- each verb, and what follows from them.
+use Rattle.std.specs.Prelude.{◌≡◌, ◌↔◌, ◌⊎◌, ℕ, ℤ, neg_ℤ, pos, ◌≤ℤ◌, List, [], ◌∷◌, length, map, Bool, true, false, Option, All}
 use Rattle.it_space.specs.declared.answers.Cause.{Cause}
 use Rattle.it_space.specs.declared.answers.Cause.TheVariants.{Width}
 use Rattle.it_space.specs.declared.answers.Mark.{Mark}
 use Rattle.it_space.specs.Answers.{AnswerView, CertificateView}
 use Rattle.it_space.specs.Answers.AnswerView.{Yes, No, Undecided, Region, Contained, Open}
-use Rattle.it_space.specs.Problems.{ProblemView, IsProblem}
+use Rattle.it_space.specs.Problems.{ProblemView}
 use Rattle.it_space.specs.Rows.{Terms, IsCanonical, map_of}
 use Rattle.it_space.specs.Spaces.{size_of}
 use Rattle.it_polymatroid.specs.Polymatroid.{IsPolymatroid}
-use Rattle.it_polymatroid.specs.Certificates.{Form, IsCertificate}
+use Rattle.it_polymatroid.specs.Certificates.{Form}
 use Rattle.it_syntax.specs.Meaning.{RelationView, Holds}
-use Rattle.it_question.specs.Questions.{BodyView, VerbView, Prove, Eliminate, Contain}
-use Rattle.it_canon.specs.Demands.{AreStated}
+use Rattle.it_question.specs.Questions.{BodyView, RegionView, VerbView, Prove, Eliminate, Contain}
 use Rattle.it_canon.specs.Targets.{targets}
-use Rattle.it_canon.specs.QuestionDemands.{space_of, problem_names, problem_lines, question_demands, AreTrueAt, Poses}
+use Rattle.it_canon.specs.QuestionDemands.{space_of, problem_names, problem_lines, variables_of, AreTrueAt, Poses}
 use Rattle.it_eliminate.specs.Projections.{In}
+use Rattle.it_region.specs.declared.types.Candidate.{Candidate}
+use Rattle.it_region.specs.Obligations.{ArePartsOf}
+use Rattle.it_region.specs.Regions.{LiesIn}
 use Rattle.it_prove.specs.ProofViews as proof_views
 use Rattle.it_prove.specs.ProofViews.{EndsWith}
+use Rattle.it_contain.specs.Proposals.{Plan, plan_after_all}
 use Rattle.it_answer.specs.declared.types.Budgets.{Budgets}
-use Rattle.it_answer.specs.Forms.{all_demands, generators_by}
+use Rattle.it_answer.specs.Forms.{CertifiesForm, CertifyAll}
+use Rattle.it_answer.specs.Replies.{Reply}
+use Rattle.it_answer.specs.RightContainments.{IsRightContainment}
 use Rattle.it_answer.specs.RightRegions.{IsRightElimination, LinesExtend, region_rows}
 
-abbrev pub variables_of : BodyView → ℕ
-variables_of q = length (problem_names q).variables
-
 -- ---- what the answer shows, by the meaning of the text
-
--- a Farkas certificate: the elemental inequalities and the question's lines add up to the target by these weights
-abbrev pub CertifiesForm : BodyView → Form → CertificateView → Type 0
-CertifiesForm q f w = IsCertificate (size_of (space_of (problem_names q)) + 1) (generators_by (all_demands (variables_of q) (question_demands q))) f w
 
 -- a polymatroid and rates at which the question's lines are true and the target is -1 or less
 pub record IsCounterexample (q : BodyView) (f : Form) (values : List ℤ) : Type 0 where
@@ -38,13 +36,6 @@ pub record IsCounterexample (q : BodyView) (f : Form) (values : List ℤ) : Type
   pub polymatroid : IsPolymatroid (variables_of q) (map_of values)
   pub lines_hold : AreTrueAt (variables_of q) (map_of values) (problem_lines q)
   pub violated : f (map_of values) ≤ℤ neg_ℤ (pos 1)
-
--- one certificate of each target, in order
-abbrev pub CertifyAll : BodyView → List Form → List CertificateView → Type 0
-CertifyAll q [] [] = Unit {0}
-CertifyAll q [] (w ∷ ws) = ⊥
-CertifyAll q (f ∷ fs) [] = ⊥
-CertifyAll q (f ∷ fs) (w ∷ ws) = CertifiesForm q f w × CertifyAll q fs ws
 
 -- The values violate the first target; or, `is_back`, the second one, where the first has a certificate.
 abbrev pub ViolatesFirst : BodyView → List Form → Bool → List ℤ → Type 0
@@ -64,78 +55,99 @@ ShowsTargets q fs (Open tried) = ⊥
 -- ---- which answer is due, by the run on the rows of the text
 
 -- the run proves the target, by some certificate
-abbrev pub IsProven : ProblemView → ℕ → Terms → Type 0
-IsProven p steps t = (w : CertificateView) × EndsWith p t steps (proof_views.Yes w)
+abbrev pub IsProven : ProblemView → Option ℕ → Terms → Type 0
+IsProven p budget t = (w : CertificateView) × EndsWith p t budget (proof_views.Yes w)
 
 -- each target ends by a proof, and these are the run's certificates
-abbrev pub ProofsAreDue : ProblemView → ℕ → List Terms → List CertificateView → Type 0
-ProofsAreDue p steps [] [] = Unit {0}
-ProofsAreDue p steps [] (w ∷ ws) = ⊥
-ProofsAreDue p steps (t ∷ ts) [] = ⊥
-ProofsAreDue p steps (t ∷ ts) (w ∷ ws) = EndsWith p t steps (proof_views.Yes w) × ProofsAreDue p steps ts ws
+abbrev pub ProofsAreDue : ProblemView → Option ℕ → List Terms → List CertificateView → Type 0
+ProofsAreDue p budget [] [] = Unit {0}
+ProofsAreDue p budget [] (w ∷ ws) = ⊥
+ProofsAreDue p budget (t ∷ ts) [] = ⊥
+ProofsAreDue p budget (t ∷ ts) (w ∷ ws) = EndsWith p t budget (proof_views.Yes w) × ProofsAreDue p budget ts ws
 
 -- the first target that doesn't end by a proof ends by a point, and these are the run's values
-abbrev pub PointIsDue : ProblemView → ℕ → List Terms → Bool → List ℤ → Type 0
-PointIsDue p steps [] is_back values = ⊥
-PointIsDue p steps (t ∷ ts) false values = EndsWith p t steps (proof_views.No values)
-PointIsDue p steps (t ∷ []) true values = ⊥
-PointIsDue p steps (t ∷ u ∷ ts) true values = IsProven p steps t × EndsWith p u steps (proof_views.No values)
+abbrev pub PointIsDue : ProblemView → Option ℕ → List Terms → Bool → List ℤ → Type 0
+PointIsDue p budget [] is_back values = ⊥
+PointIsDue p budget (t ∷ ts) false values = EndsWith p t budget (proof_views.No values)
+PointIsDue p budget (t ∷ []) true values = ⊥
+PointIsDue p budget (t ∷ u ∷ ts) true values = IsProven p budget t × EndsWith p u budget (proof_views.No values)
 
 -- it ends with the cause
-abbrev pub CauseIsDue : ProblemView → ℕ → List Terms → Cause → Type 0
-CauseIsDue p steps [] cause = ⊥
-CauseIsDue p steps (t ∷ ts) cause = EndsWith p t steps (proof_views.Undecided cause) ⊎ (IsProven p steps t × CauseIsDue p steps ts cause)
+abbrev pub CauseIsDue : ProblemView → Option ℕ → List Terms → Cause → Type 0
+CauseIsDue p budget [] cause = ⊥
+CauseIsDue p budget (t ∷ ts) cause = EndsWith p t budget (proof_views.Undecided cause) ⊎ (IsProven p budget t × CauseIsDue p budget ts cause)
 
-abbrev pub IsDue : ProblemView → ℕ → List Terms → AnswerView → Type 0
-IsDue p steps ts (Yes ws) = ProofsAreDue p steps ts ws
-IsDue p steps ts (No is_back values) = PointIsDue p steps ts is_back values
-IsDue p steps ts (Undecided cause) = CauseIsDue p steps ts cause
-IsDue p steps ts (Region rows) = ⊥
-IsDue p steps ts (Contained parts proofs) = ⊥
-IsDue p steps ts (Open tried) = ⊥
+abbrev pub IsDue : ProblemView → Option ℕ → List Terms → AnswerView → Type 0
+IsDue p budget ts (Yes ws) = ProofsAreDue p budget ts ws
+IsDue p budget ts (No is_back values) = PointIsDue p budget ts is_back values
+IsDue p budget ts (Undecided cause) = CauseIsDue p budget ts cause
+IsDue p budget ts (Region rows) = ⊥
+IsDue p budget ts (Contained parts proofs) = ⊥
+IsDue p budget ts (Open tried) = ⊥
 
 -- a right answer: it shows what it says, and the run says that it is due
-pub record IsRightFor (steps : ℕ) (q : BodyView) (r : RelationView) (answer : AnswerView) : Type 0 where
+pub record IsRightFor (budget : Option ℕ) (q : BodyView) (r : RelationView) (answer : AnswerView) : Type 0 where
   pub shows : ShowsTargets q (targets (variables_of q) r) answer
   pub poses : Poses q r
-  pub due : IsDue poses.problem steps poses.rows answer
+  pub due : IsDue poses.problem budget poses.rows answer
 
--- ---- either verb
+-- ---- each verb
 
-abbrev pub IsRightAnswerBy : Budgets → BodyView → VerbView → AnswerView → Type 0
-IsRightAnswerBy budgets q (Prove r) answer = IsRightFor budgets.pivots q r answer
-IsRightAnswerBy budgets q (Eliminate rates) answer = IsRightElimination budgets.rows q rates answer
-IsRightAnswerBy budgets q (Contain first second tries) answer = ⊥
+abbrev pub IsRightAnswerBy : Budgets → List Plan → BodyView → VerbView → Reply → Type 0
+IsRightAnswerBy budgets plans q (Prove r) reply = IsRightFor budgets.pivots q r reply.answer × (reply.found ≡ [])
+IsRightAnswerBy budgets plans q (Eliminate rates) reply = IsRightElimination budgets.rows q rates reply.answer × (reply.found ≡ [])
+IsRightAnswerBy budgets plans q (Contain a b tries) reply = IsRightContainment budgets plans q a b tries reply
 
-abbrev pub IsRightAnswer : Budgets → BodyView → AnswerView → Type 0
-IsRightAnswer budgets q answer = IsRightAnswerBy budgets q q.verb answer
+-- a right answer to a question, by boxes with these plans
+abbrev pub IsRightAnswer : Budgets → List Plan → BodyView → Reply → Type 0
+IsRightAnswer budgets plans q reply = IsRightAnswerBy budgets plans q q.verb reply
+
+-- the answer is right, and the boxes know of what it found
+pub record IsAnswered (budgets : Budgets) (plans : List Plan) (q : BodyView) (answer : AnswerView) (plans_after : List Plan) : Type 0 where
+  pub found : List Candidate
+  pub right : IsRightAnswer budgets plans q (record { answer = answer; found = found })
+  pub learned : plans_after ≡ map (plan_after_all found) plans
 
 -- ---- what follows
 
 -- where the answer is a right yes, the relation holds wherever a polymatroid and rates make the question's lines true
 abbrev pub AYesIsTrue : Type 0
-AYesIsTrue = (budgets : Budgets) (q : BodyView) (r : RelationView) (ws : List CertificateView) → q.verb ≡ Prove r → IsRightAnswer budgets q (Yes ws)
+AYesIsTrue = (budgets : Budgets) (plans : List Plan) (q : BodyView) (r : RelationView) (ws : List CertificateView) (found : List Candidate) → q.verb ≡ Prove r
+    → IsRightAnswer budgets plans q (record { answer = Yes ws; found = found })
     → (p : ℕ → ℤ) → IsPolymatroid (variables_of q) p → AreTrueAt (variables_of q) p (problem_lines q) → Holds (variables_of q) p r
 
 -- where it is a right no, its values are such a polymatroid at which the relation doesn't hold
 abbrev pub ANoIsTrue : Type 0
-ANoIsTrue = (budgets : Budgets) (q : BodyView) (r : RelationView) (is_back : Bool) (values : List ℤ) → q.verb ≡ Prove r → IsRightAnswer budgets q (No is_back values)
+ANoIsTrue = (budgets : Budgets) (plans : List Plan) (q : BodyView) (r : RelationView) (is_back : Bool) (values : List ℤ) (found : List Candidate) → q.verb ≡ Prove r
+    → IsRightAnswer budgets plans q (record { answer = No is_back values; found = found })
     → IsPolymatroid (variables_of q) (map_of values) × AreTrueAt (variables_of q) (map_of values) (problem_lines q) × (Holds (variables_of q) (map_of values) r → ⊥)
 
 -- where it is a right region, its rows hold exactly at the points that extend to the eliminated rates, at every polymatroid that
 -- makes the givens true
 abbrev pub ARegionIsTrue : Type 0
-ARegionIsTrue = (budgets : Budgets) (q : BodyView) (rates : List ℕ) (rows : List (Mark × Terms)) → q.verb ≡ Eliminate rates → IsRightAnswer budgets q (Region rows)
+ARegionIsTrue = (budgets : Budgets) (plans : List Plan) (q : BodyView) (rates : List ℕ) (rows : List (Mark × Terms)) (found : List Candidate) → q.verb ≡ Eliminate rates
+    → IsRightAnswer budgets plans q (record { answer = Region rows; found = found })
     → (p : ℕ → ℤ) → IsPolymatroid (variables_of q) p → AreTrueAt (variables_of q) p (problem_lines q) → In (region_rows rows) p ↔ LinesExtend (variables_of q) rates q.lines.rows p
 
--- a question has one right answer
-abbrev pub OneRightAnswer : Type 0
-OneRightAnswer = (budgets : Budgets) (q : BodyView) (a b : AnswerView) → IsRightAnswer budgets q a → IsRightAnswer budgets q b → a ≡ b
+-- where it is a right containment, the first region lies in the second, and its parts are a set for each auxiliary
+abbrev pub AContainmentIsTrue : Type 0
+AContainmentIsTrue = (budgets : Budgets) (plans : List Plan) (q : BodyView) (a b : RegionView) (tries : List (List ℕ)) (parts : List ℕ) (ws : List CertificateView) (found : List Candidate)
+    → q.verb ≡ Contain a b tries → IsRightAnswer budgets plans q (record { answer = Contained parts ws; found = found }) → LiesIn q a b × ArePartsOf a b parts
 
--- the certificates of a right yes list their generators in ascending order, each once and with a weight other than 0
+-- a question has one right answer, and one candidate is found, if any
+abbrev pub OneRightAnswer : Type 0
+OneRightAnswer = (budgets : Budgets) (plans : List Plan) (q : BodyView) (a b : Reply) → IsRightAnswer budgets plans q a → IsRightAnswer budgets plans q b → a ≡ b
+
+-- the certificates of an answer list their generators in ascending order, each once and with a weight other than 0
+abbrev pub ProofsAscend : AnswerView → Type 0
+ProofsAscend (Yes ws) = All (λ w. IsCanonical w.parts) ws
+ProofsAscend (Contained parts ws) = All (λ w. IsCanonical w.parts) ws
+ProofsAscend answer = Unit {0}
+
+-- those of a right answer do
 abbrev pub AYesAscends : Type 0
-AYesAscends = (budgets : Budgets) (q : BodyView) (ws : List CertificateView) → IsRightAnswer budgets q (Yes ws) → All (λ w. IsCanonical w.parts) ws
+AYesAscends = (budgets : Budgets) (plans : List Plan) (q : BodyView) (reply : Reply) → IsRightAnswer budgets plans q reply → ProofsAscend reply.answer
 
 -- a step that is too wide counts from 1
 abbrev pub NoStepIsZero : Type 0
-NoStepIsZero = (budgets : Budgets) (q : BodyView) → IsRightAnswer budgets q (Undecided (Width 0)) → ⊥
+NoStepIsZero = (budgets : Budgets) (plans : List Plan) (q : BodyView) (found : List Candidate) → IsRightAnswer budgets plans q (record { answer = Undecided (Width 0); found = found }) → ⊥

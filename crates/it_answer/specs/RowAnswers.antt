@@ -1,5 +1,5 @@
 -- Answers about rows, by which the calls in this crate are proved. No public clause cites this module.
-use Rattle.std.specs.Prelude.{◌≡◌, ℕ, ℤ, List, [], ◌∷◌, Bool, true, false}
+use Rattle.std.specs.Prelude.{◌≡◌, ℕ, ℤ, List, [], ◌∷◌, Bool, true, false, Option}
 use Rattle.it_space.specs.Problems.{ProblemView, IsProblem}
 use Rattle.it_space.specs.Answers.{AnswerView, CertificateView}
 use Rattle.it_space.specs.Answers.AnswerView.{Yes, No, Undecided, Region, Contained, Open}
@@ -42,15 +42,15 @@ ShowsRows p ts (Contained parts proofs) = ⊥
 ShowsRows p ts (Open tried) = ⊥
 
 -- the answer shows what it says of the rows, and the run says that it is due
-pub record AnswersRows (p : ProblemView) (steps : ℕ) (ts : List Terms) (answer : AnswerView) : Type 0 where
+pub record AnswersRows (p : ProblemView) (budget : Option ℕ) (ts : List Terms) (answer : AnswerView) : Type 0 where
   pub shows : ShowsRows p ts answer
-  pub due : IsDue p steps ts answer
+  pub due : IsDue p budget ts answer
 
 -- the same for targets with these forms
-pub record AnswersForms (p : ProblemView) (fs : List Form) (answer : AnswerView) (steps : ℕ) : Type 0 where
+pub record AnswersForms (p : ProblemView) (fs : List Form) (answer : AnswerView) (budget : Option ℕ) : Type 0 where
   pub rows : List Terms
   pub are : AreRowsOf p.space fs rows
-  pub answered : AnswersRows p steps rows answer
+  pub answered : AnswersRows p budget rows answer
 
 -- the answer after the first target, and after the second of two whose first is proven
 abbrev pub answer_after_one : ProofView → AnswerView

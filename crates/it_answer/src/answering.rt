@@ -1,6 +1,5 @@
 //! The answers to questions.
-ghost use Rattle.std.specs.Prelude.{◌≡◌, [], ◌∷◌, IfOk};
-ghost use Rattle.std.specs.Option.{IfSome};
+ghost use Rattle.std.specs.Prelude.{◌≡◌, [], ◌∷◌, map, IfOk};
 ghost use Rattle.it_space.specs.Answers.{answer_view, certificate_view};
 ghost use Rattle.it_space.specs.Problems.{IsProblem, problem_view};
 ghost use Rattle.it_syntax.specs.Meaning.{relation_view};
@@ -12,13 +11,14 @@ ghost use Rattle.it_canon.specs.Demands.{AreStated};
 ghost use Rattle.it_canon.specs.QuestionDemands.{problem_names, question_demands, space_of};
 ghost use Rattle.it_canon.specs.Targets.{negation, targets};
 ghost use Rattle.it_prove.specs.ProofViews.{proof_view};
-ghost use Rattle.it_answer.specs.AnswerableQuestions.{IsAnswerable};
-ghost use Rattle.it_answer.specs.RightAnswers.{IsRightAnswer};
+ghost use Rattle.it_answer.specs.RightAnswers.{IsAnswered};
 ghost use Rattle.it_answer.specs.RowAnswers.{AnswersForms, IsProblemOf, answer_after_one, answer_after_two};
 
+use crate::containments::containment;
 use crate::regions::region;
-use crate::types::{AnsweredProblem, Budgets};
+use crate::types::{AnsweredProblem, Budgets, budget_of};
 use it_canon::{canon, problem};
+use it_contain::Proposer;
 use it_prove::{Proof, opposite_row, prove};
 use it_question::types::{Question, Verb};
 use it_simplex::Budget;
@@ -26,20 +26,21 @@ use it_space::{Answer, Certificate, Problem};
 use it_syntax::types::{Relation, Sign};
 use std::alloc::{AllocError, Global};
 
-/// A right answer to a question that is answered so far, within the budgets.
+/// A right answer to a question, within the budgets. The boxes propose what a containment tries behind its `try` lines, and are
+/// told of each candidate that was tried: of one that was proved they know at later questions.
 pub fn answer(
     alloc: Global,
     question: &Question,
     budgets: Budgets,
+    boxes: &mut Vec<Box<dyn Proposer>>,
 ) -> Result<AnsweredProblem, AllocError>
     requires limits { IsQuestion (question_body question.now) }
-    requires answerable { IsAnswerable (question_body question.now) }
     ensures space { IfOk result (λ a. a.problem.space ≡ space_of (problem_names (question_body question.now))) }
     ensures problem { IfOk result (λ a. AreStated a.problem.space (question_demands (question_body question.now)) a.problem.constraints.items) }
-    ensures right { IfOk result (λ a. IsRightAnswer budgets (question_body question.now) (answer_view a.answer)) }
+    ensures answered { IfOk result (λ a. IsAnswered budgets (map plan boxes.old.items) (question_body question.now) (answer_view a.answer) (map plan boxes.new.items)) }
 {
     let problem = problem(alloc, question)?;
-    let answer = answer_under(alloc, question, &problem, budgets)?;
+    let answer = answer_under(alloc, question, &problem, budgets, boxes)?;
     Ok(AnsweredProblem { problem, answer })
 }
 
@@ -49,22 +50,34 @@ fn answer_under(
     question: &Question,
     problem: &Problem,
     budgets: Budgets,
+    boxes: &mut Vec<Box<dyn Proposer>>,
 ) -> Result<Answer, AllocError>
     requires limits { IsQuestion (question_body question.now) }
-    requires answerable { IsAnswerable (question_body question.now) }
     requires problem { IsProblemOf (question_body question.now) (problem_view problem.now) }
-    ensures { IfOk result (λ a. IsRightAnswer budgets (question_body question.now) (answer_view a)) }
+    ensures { IfOk result (λ a. IsAnswered budgets (map plan boxes.old.items) (question_body question.now) (answer_view a) (map plan boxes.new.items)) }
 {
     match &question.verb {
-        Verb::Prove(relation) => about(alloc, problem, relation, Budget::at_most(budgets.pivots)),
+        Verb::Prove(relation) => about(alloc, problem, relation, budget_of(budgets.pivots)),
         Verb::Eliminate(rates) => {
             region(alloc, question, rates.as_slice(), budgets.rows as usize)
         }
-        Verb::Contain { .. } => unreachable!(),
+        Verb::Contain {
+            first,
+            second,
+            tries,
+        } => containment(
+            alloc,
+            question,
+            first,
+            second,
+            tries.as_slice(),
+            budgets,
+            boxes,
+        ),
     }
 }
 
-/// The answer about a relation under a problem, by runs of at most the budget's steps. The two targets of an equality are the left
+/// The answer about a relation under a problem, by runs of at most the budget's steps, if it has some. The two targets of an equality are the left
 /// side less the right one, then the right side less the left one; the second is asked only where the first has a certificate.
 fn about(
     alloc: Global,
@@ -74,7 +87,7 @@ fn about(
 ) -> Result<Answer, AllocError>
     requires problem { IsProblem (problem_view problem.now) }
     requires relation { IsRelationOf problem.now.space.variables problem.now.space.rates (relation_view relation.now) }
-    ensures { IfOk result (λ a. IfSome budget (AnswersForms (problem_view problem.now) (targets problem.now.space.variables (relation_view relation.now)) (answer_view a))) }
+    ensures { IfOk result (λ a. AnswersForms (problem_view problem.now) (targets problem.now.space.variables (relation_view relation.now)) (answer_view a) budget) }
 {
     match relation.sign {
         Sign::AtLeast => inequality(alloc, problem, relation, budget),
@@ -92,7 +105,7 @@ fn inequality(
 ) -> Result<Answer, AllocError>
     requires problem { IsProblem (problem_view problem.now) }
     requires relation { IsRelationOf problem.now.space.variables problem.now.space.rates (relation_view relation.now) }
-    ensures { IfOk result (λ a. IfSome budget (AnswersForms (problem_view problem.now) (form_of problem.now.space.variables (relation_view relation.now) ∷ []) (answer_view a))) }
+    ensures { IfOk result (λ a. AnswersForms (problem_view problem.now) (form_of problem.now.space.variables (relation_view relation.now) ∷ []) (answer_view a) budget) }
 {
     let row = canon(alloc, relation, problem.space)?;
     let proof = prove(alloc, problem, &row, budget)?;
@@ -108,7 +121,7 @@ fn equation(
 ) -> Result<Answer, AllocError>
     requires problem { IsProblem (problem_view problem.now) }
     requires relation { IsRelationOf problem.now.space.variables problem.now.space.rates (relation_view relation.now) }
-    ensures { IfOk result (λ a. IfSome budget (AnswersForms (problem_view problem.now) (form_of problem.now.space.variables (relation_view relation.now) ∷ negation (form_of problem.now.space.variables (relation_view relation.now)) ∷ []) (answer_view a))) }
+    ensures { IfOk result (λ a. AnswersForms (problem_view problem.now) (form_of problem.now.space.variables (relation_view relation.now) ∷ negation (form_of problem.now.space.variables (relation_view relation.now)) ∷ []) (answer_view a) budget) }
 {
     let row = canon(alloc, relation, problem.space)?;
     match prove(alloc, problem, &row, budget)? {

@@ -1,12 +1,16 @@
 //! Right answers to questions. To `prove`: a question's problem and targets, each target by `prove` of it_prove, and the answer
-//! that they give together. To `eliminate`: the rows of the question's system, and the region that elimination leaves.
+//! that they give together. To `eliminate`: the rows of the question's system, and the region that elimination leaves. To
+//! `contain`: the pair of the question's regions, and what the search over boxes finds.
 #![tactic(auto)]
 
 mod answering;
+mod containments;
 mod laws;
 mod regions;
+mod targets;
 mod types;
 
 pub use answering::answer;
 pub use laws::{answers_are_determined, no_step_is_zero, verdicts_are_true};
+pub use targets::target_rows;
 pub use types::{AnsweredProblem, Budgets};

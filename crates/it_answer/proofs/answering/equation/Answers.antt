@@ -1,16 +1,14 @@
 use Rattle.std.proofs.Common.{◌≡◌, ◌∷◌, [], subst, refl}
-use Rattle.std.specs.Option.{IfSome}
 use Rattle.it_space.specs.Answers.{answer_view, certificate_view}
 use Rattle.it_space.specs.Problems.{problem_view}
 use Rattle.it_syntax.specs.Meaning.{relation_view}
 use Rattle.it_canon.specs.Canonical.{form_of}
 use Rattle.it_canon.specs.Targets.{negation}
 use Rattle.it_run.proofs.AnswerLemmas.{if_ok}
-use Rattle.it_prove.proofs.ProofLemmas.{if_some}
 use Rattle.it_prove.specs.ProofViews.{EndsWith, IsRightProof, proof_view}
 use Rattle.it_space.specs.Rows.{negated_terms}
 use Rattle.it_answer.specs.RowAnswers.{AnswersForms, answer_after_one, answer_after_two}
-use Rattle.it_answer.proofs.AnswerLemmas.{answers_first, answers_two, row_negation, both_some}
+use Rattle.it_answer.proofs.AnswerLemmas.{answers_first, answers_two, row_negation}
 use Rattle.it_answer.proofs.answering.equation.Goals as goal
 
 pub prove-requires-in-Yes-clause-target : goal.prove-requires-in-Yes-clause-target
@@ -26,10 +24,9 @@ returns-in-Yes c =
     let u = c.in_ok-other-in-Yes.other in
     let w = certificate_view c.in-Yes.certificate in
     let o = proof_view c.in_ok-proof-in-Yes.proof in
-    if_ok c.after_two.result (λ a. answer_view a ≡ answer_after_two w o) (λ a. IfSome c.args.budget (AnswersForms p (f ∷ g ∷ []) (answer_view a))) c.after_two.ensures
-    (λ a is. both_some c.args.budget (λ steps. EndsWith p t steps (proof_view c.in_ok-proof.proof)) (λ steps. EndsWith p u steps o) (AnswersForms p (f ∷ g ∷ []) (answer_view a)) c.in_ok-proof.ensures.outcome c.in_ok-proof-in-Yes.ensures.outcome
-    (λ steps e d. answers_two p f t c.in_ok-row.ensures steps g u (row_negation p.space f t u c.in_ok-other-in-Yes.ensures c.in_ok-row.ensures) w o (answer_view a) is
-    (subst (λ x. IsRightProof p t (proof_view x)) c.in-Yes.is c.in_ok-proof.ensures.right) (subst (λ x. EndsWith p t steps (proof_view x)) c.in-Yes.is e) c.in_ok-proof-in-Yes.ensures.right d))
+    if_ok c.after_two.result (λ a. answer_view a ≡ answer_after_two w o) (λ a. AnswersForms p (f ∷ g ∷ []) (answer_view a) c.args.budget) c.after_two.ensures
+    (λ a is. answers_two p f t c.in_ok-row.ensures c.args.budget g u (row_negation p.space f t u c.in_ok-other-in-Yes.ensures c.in_ok-row.ensures) w o (answer_view a) is
+    (subst (λ x. IsRightProof p t (proof_view x)) c.in-Yes.is c.in_ok-proof.ensures.right) (subst (λ x. EndsWith p t c.args.budget (proof_view x)) c.in-Yes.is c.in_ok-proof.ensures.ends) c.in_ok-proof-in-Yes.ensures.right c.in_ok-proof-in-Yes.ensures.ends)
 
 pub returns : goal.returns
 returns c =
@@ -37,7 +34,7 @@ returns c =
     let f = form_of p.space.variables (relation_view c.args.relation.now) in
     let g = negation f in
     let t = c.in_ok-row.row in
-    if_ok c.after_one.result (λ a. answer_view a ≡ answer_after_one (proof_view c.in_ok-proof.proof)) (λ a. IfSome c.args.budget (AnswersForms p (f ∷ g ∷ []) (answer_view a)))
+    if_ok c.after_one.result (λ a. answer_view a ≡ answer_after_one (proof_view c.in_ok-proof.proof)) (λ a. AnswersForms p (f ∷ g ∷ []) (answer_view a) c.args.budget)
     c.after_one.ensures
-    (λ a is. if_some c.args.budget (λ steps. EndsWith p t steps (proof_view c.in_ok-proof.proof)) (AnswersForms p (f ∷ g ∷ []) (answer_view a)) c.in_ok-proof.ensures.outcome
-    (λ steps e. answers_first p f t c.in_ok-row.ensures steps g (negated_terms t) (row_negation p.space f t (negated_terms t) refl c.in_ok-row.ensures) c.in_ok-proof.proof (answer_view a) is (λ k e. c.in_default.not-Yes k e) c.in_ok-proof.ensures.right e))
+    (λ a is. answers_first p f t c.in_ok-row.ensures c.args.budget g (negated_terms t) (row_negation p.space f t (negated_terms t) refl c.in_ok-row.ensures) c.in_ok-proof.proof (answer_view a) is (λ k e. c.in_default.not-Yes k e)
+    c.in_ok-proof.ensures.right c.in_ok-proof.ensures.ends)

@@ -1,12 +1,10 @@
 use Rattle.std.proofs.Common.{◌≡◌, ◌∷◌, []}
-use Rattle.std.specs.Option.{IfSome}
 use Rattle.it_space.specs.Answers.{answer_view}
 use Rattle.it_space.specs.Problems.{problem_view}
 use Rattle.it_syntax.specs.Meaning.{relation_view}
 use Rattle.it_canon.specs.Canonical.{form_of}
 use Rattle.it_run.proofs.AnswerLemmas.{if_ok}
-use Rattle.it_prove.proofs.ProofLemmas.{if_some}
-use Rattle.it_prove.specs.ProofViews.{EndsWith, proof_view}
+use Rattle.it_prove.specs.ProofViews.{proof_view}
 use Rattle.it_answer.specs.RowAnswers.{AnswersForms, answer_after_one}
 use Rattle.it_answer.proofs.AnswerLemmas.{answers_one}
 use Rattle.it_answer.proofs.answering.inequality.Goals as goal
@@ -16,6 +14,5 @@ returns c =
     let p = problem_view c.args.problem.now in
     let f = form_of p.space.variables (relation_view c.args.relation.now) in
     let o = proof_view c.in_ok-proof.proof in
-    if_ok c.after_one.result (λ a. answer_view a ≡ answer_after_one o) (λ a. IfSome c.args.budget (AnswersForms p (f ∷ []) (answer_view a))) c.after_one.ensures
-    (λ a is. if_some c.args.budget (λ steps. EndsWith p c.in_ok-row.row steps o) (AnswersForms p (f ∷ []) (answer_view a)) c.in_ok-proof.ensures.outcome
-    (λ steps e. answers_one p f c.in_ok-row.row c.in_ok-row.ensures steps o (answer_view a) is c.in_ok-proof.ensures.right e))
+    if_ok c.after_one.result (λ a. answer_view a ≡ answer_after_one o) (λ a. AnswersForms p (f ∷ []) (answer_view a) c.args.budget) c.after_one.ensures
+    (λ a is. answers_one p f c.in_ok-row.row c.in_ok-row.ensures c.args.budget o (answer_view a) is c.in_ok-proof.ensures.right c.in_ok-proof.ensures.ends)

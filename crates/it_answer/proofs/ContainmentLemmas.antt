@@ -1,0 +1,122 @@
+-- What is proved of the rows of a pair is proved of the text; from what a search ends with to the answer.
+use Rattle.std.proofs.Common.{◌≡◌, ℕ, ℤ, pos, ◌≤ℤ◌, List, [], ◌∷◌, length, map, refl, sym, ap, subst, ◌∙◌, Option}
+use Rattle.std.proofs.lemmas.List.Elements.{All-nil, All-cons}
+use Rattle.it_space.specs.declared.spaces.Space.{Space}
+use Rattle.it_space.specs.Answers.{AnswerView, CertificateView}
+use Rattle.it_space.specs.Problems.{AreMet, problem_view}
+use Rattle.it_space.specs.Rows.{Terms, value}
+use Rattle.it_polymatroid.specs.Certificates.{Form}
+use Rattle.it_polymatroid.specs.Polymatroid.{IsPolymatroid}
+use Rattle.it_question.specs.Limits.{IsQuestion}
+use Rattle.it_question.specs.Questions.{OwnLinesView, RegionView, VerbView, BodyView, Contain}
+use Rattle.it_canon.specs.QuestionDemands.{space_of, problem_names, problem_names_by, problem_lines, problem_lines_by, AreTrueAt, AreAtLeastZero}
+use Rattle.it_canon.proofs.ProblemLemmas.{question_met}
+use Rattle.it_check.proofs.Truth.{yes_is_true}
+use Rattle.it_region.specs.declared.types.Candidate.{Candidate}
+use Rattle.it_region.specs.declared.types.Pair.{Pair}
+use Rattle.it_region.specs.Obligations.{ArePulledRows, obligations}
+use Rattle.it_region.specs.Pairs.{IsPair, IsPairOf, IsContainment, Pairs, PairsBy}
+use Rattle.it_region.specs.Regions.{IsIn}
+use Rattle.it_region.proofs.RegionLemmas.{obligations_contain}
+use Rattle.it_region.proofs.RowLemmas.{rows_same}
+use Rattle.it_region.proofs.TextLemmas.{candidate_parts, text_rows, parts_are}
+use Rattle.it_contain.specs.declared.types.Contained.{Contained}
+use Rattle.it_contain.specs.declared.types.Contained.TheVariants.{Found, Open}
+use Rattle.it_contain.specs.Proposals.{Plan, plan_after_all}
+use Rattle.it_contain.specs.Shapes.{shape_of}
+use Rattle.it_contain.specs.Search.{AreProofsOf, Ends, IsProof, IsProofBy, Proofs, goal_of, plan_of, proof_views}
+use Rattle.it_contain.proofs.PlanLemmas.{after_none}
+use Rattle.it_answer.specs.declared.types.Budgets.{Budgets}
+use Rattle.it_answer.specs.Forms.{CertifyAll}
+use Rattle.it_answer.specs.RightContainments.{ShowsContained, tried_of, IsRightContainment}
+use Rattle.it_answer.specs.RightAnswers.{IsAnswered, IsRightAnswerBy}
+use Rattle.it_answer.specs.SearchAnswers.{answer_of_search, found_of}
+use Rattle.it_answer.proofs.AnswerLemmas.{show_certificate}
+
+module _ (q : BodyView) (a b : RegionView) (tries : List (List ℕ)) (p : Pair) (k : IsQuestion q) (is : q.verb ≡ Contain a b tries) (l : IsPair p) (o : IsPairOf q a b p) where
+  first_is : p.first.space ≡ space_of (problem_names q)
+  first_is = o.first_space ∙ sym (ap (λ m. space_of (problem_names_by q.names m)) is)
+
+  n_is : p.first.space.variables ≡ length a.names.variables
+  n_is = ap (λ (s : Space). s.variables) o.first_space
+
+  -- ---- certificates by forms
+
+  all_certified : (budget : Option ℕ) (fs : List Form) (ts : List Terms) (ws : List CertificateView) → ArePulledRows p.first.space fs ts → AreProofsOf (problem_view p.first) budget ts ws → CertifyAll q fs ws
+  all_certified budget [] [] [] r c = tt
+  all_certified budget [] [] (w ∷ ws) r c = absurd c
+  all_certified budget [] (t ∷ ts) ws r c = absurd r
+  all_certified budget (f ∷ fs) [] ws r c = absurd r
+  all_certified budget (f ∷ fs) (t ∷ ts) [] r c = absurd c
+  all_certified budget (f ∷ fs) (t ∷ ts) (w ∷ ws) r c = (show_certificate q (problem_view p.first) first_is o.first l.problem f t w r.0.same c.0.right.0, all_certified budget fs ts ws r.1 c.1)
+
+  -- ---- and so the obligations hold
+
+  module _ (h : ℕ → ℤ) (inside : IsIn q.lines a h) where
+    met : AreMet h p.first.constraints.items
+    met =
+        let lines : AreTrueAt (length a.names.variables) h (problem_lines q) = subst (λ (own : OwnLinesView). AreTrueAt (length a.names.variables) h own) (sym (ap (problem_lines_by q.lines) is)) inside.lines_hold in
+        (question_met q p.first.space p.first.constraints.items first_is o.first h inside.polymatroid.empty).1 (subst (λ (n : ℕ). AreTrueAt n h (problem_lines q)) (sym n_is) lines)
+
+    rows_hold : (budget : Option ℕ) (fs : List Form) (ts : List Terms) (ws : List CertificateView) → ArePulledRows p.first.space fs ts → AreProofsOf (problem_view p.first) budget ts ws → AreAtLeastZero h ts
+    rows_hold budget [] [] ws r c = All-nil (λ (row : Terms). pos 0 ≤ℤ value row h)
+    rows_hold budget [] (t ∷ ts) ws r c = absurd r
+    rows_hold budget (f ∷ fs) [] ws r c = absurd r
+    rows_hold budget (f ∷ fs) (t ∷ ts) [] r c = absurd c
+    rows_hold budget (f ∷ fs) (t ∷ ts) (w ∷ ws) r c = All-cons (λ (row : Terms). pos 0 ≤ℤ value row h) t ts
+        (yes_is_true (problem_view p.first) t w l.problem r.0.coordinates c.0.right.0 h (subst (λ (n : ℕ). IsPolymatroid n h) (sym n_is) inside.polymatroid) met) (rows_hold budget fs ts ws r.1 c.1)
+
+  shows : (budget : Option ℕ) (c : Candidate) (ws : List CertificateView) → IsProofBy (goal_of p budget) c ws → ShowsContained q a b (candidate_parts c) ws
+  shows budget c ws g =
+      let fs : List Form = obligations q a b (candidate_parts c) in
+      let rows = text_rows q a b p o c g.rows g.are in
+      let parts = parts_are q a b p o c l g.fits in
+      record {
+        are_parts = parts;
+        certified = all_certified budget fs g.rows ws rows g.proofs;
+        lies = obligations_contain q a b tries (candidate_parts c) k is parts (λ h inside. (rows_same p.first.space fs g.rows h inside.polymatroid.empty rows).0 (rows_hold h inside budget fs g.rows ws rows g.proofs));
+      }
+
+  -- ---- the answer
+
+  proof_by : (budget : Option ℕ) (c : Candidate) (w : Proofs) → IsProof (goal_of p budget) c w → IsProofBy (goal_of p budget) c (proof_views w)
+  unfolding IsProof
+  proof_by budget c w g = g
+
+  module _ (budgets : Budgets) (plans plans_after : List Plan) where
+    right_search : (end : Contained) → Ends (goal_of p budgets.pivots) budgets.tries (plan_of (tried_of b tries) plans (shape_of p)) plans end plans_after
+        → IsRightContainment budgets plans q a b tries (record { answer = answer_of_search end; found = found_of end })
+    right_search (Found c w) e =
+        let proofs = proof_by budgets.pivots c w e.1 in
+        record {
+          shows = shows budgets.pivots c (proof_views w) proofs;
+          pair = p;
+          limits = l;
+          pairs = o;
+          due = record { candidate = c; found_is = refl; first = e.0; parts_are = refl; proofs = proofs };
+        }
+    right_search (Open t) e = record { shows = tt; pair = p; limits = l; pairs = o; due = (e.0, refl) }
+
+    learned_search : (end : Contained) (plan : List Candidate) → Ends (goal_of p budgets.pivots) budgets.tries plan plans end plans_after → plans_after ≡ map (plan_after_all (found_of end)) plans
+    learned_search (Found c w) plan e = e.2
+    learned_search (Open t) plan e = e.1 ∙ sym (after_none plans)
+
+    pub answered : (end : Contained) (budget : Option ℕ) (first : List Candidate) (answer : AnswerView) → budget ≡ budgets.pivots → first ≡ tried_of b tries → answer ≡ answer_of_search end
+        → Ends (goal_of p budget) budgets.tries (plan_of first plans (shape_of p)) plans end plans_after → IsAnswered budgets plans q answer plans_after
+    answered end budget first answer budget_is first_are answer_is e =
+        let bounded : Ends (goal_of p budgets.pivots) budgets.tries (plan_of first plans (shape_of p)) plans end plans_after =
+        subst (λ (n : Option ℕ). Ends (goal_of p n) budgets.tries (plan_of first plans (shape_of p)) plans end plans_after) budget_is e in
+        let ends : Ends (goal_of p budgets.pivots) budgets.tries (plan_of (tried_of b tries) plans (shape_of p)) plans end plans_after =
+        subst (λ (cs : List Candidate). Ends (goal_of p budgets.pivots) budgets.tries (plan_of cs plans (shape_of p)) plans end plans_after) first_are bounded in
+        record {
+          found = found_of end;
+          right = subst (λ (m : VerbView). IsRightAnswerBy budgets plans q m (record { answer = answer; found = found_of end })) (sym is)
+              (subst (λ (x : AnswerView). IsRightContainment budgets plans q a b tries (record { answer = x; found = found_of end })) (sym answer_is) (right_search end ends));
+          learned = learned_search end (plan_of (tried_of b tries) plans (shape_of p)) ends;
+        }
+
+pub pair_of_verb : (q : BodyView) (a b : RegionView) (tries : List (List ℕ)) (p : Pair) → q.verb ≡ Contain a b tries → Pairs q p → IsPairOf q a b p
+pair_of_verb q a b tries p is h = subst (λ (m : VerbView). PairsBy q m p) is h
+
+pub is_containment : (q : BodyView) (a b : RegionView) (tries : List (List ℕ)) → q.verb ≡ Contain a b tries → IsContainment q.verb
+is_containment q a b tries is = subst IsContainment (sym is) tt

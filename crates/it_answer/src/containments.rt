@@ -1,0 +1,78 @@
+//! The answer to a containment question.
+ghost use Rattle.std.specs.Prelude.{◌≡◌, map, take, IfOk};
+ghost use Rattle.it_space.specs.Answers.{answer_view};
+ghost use Rattle.it_question.specs.Limits.{IsQuestion};
+ghost use Rattle.it_question.specs.Questions.{Contain, question_body, region_view};
+ghost use Rattle.it_answer.specs.RightAnswers.{IsAnswered};
+ghost use Rattle.it_answer.specs.RightContainments.{tried_of};
+ghost use Rattle.it_answer.specs.SearchAnswers.{answer_of_search};
+
+use crate::types::{Budgets, budget_of};
+use it_contain::types::Contained;
+use it_contain::{Proposer, contain};
+use it_question::types::{Question, Region};
+use it_region::{Candidate, pair};
+use it_space::{Answer, VarSet};
+use std::alloc::{AllocError, Global};
+
+/// The candidates of `try` lines, each with as many parts as the second region has auxiliaries.
+fn tried_of(
+    alloc: Global,
+    second: &Region,
+    tries: &[[VarSet; 4]],
+) -> Result<Vec<Candidate>, AllocError>
+    ensures { IfOk result (λ v. v.items ≡ tried_of (region_view second.now) tries.now) }
+{
+    let mut candidates = Vec::new(alloc);
+    for parts in tries {
+        candidates.push(Candidate {
+            count: second.auxiliaries,
+            parts: *parts,
+        })?;
+    }
+    Ok(candidates)
+}
+
+/// The sets that the auxiliaries stand for.
+fn parts_of(alloc: Global, candidate: &Candidate) -> Result<Vec<VarSet>, AllocError>
+    ensures { IfOk result (λ v. v.items ≡ take candidate.now.count candidate.now.parts) }
+{
+    let count = candidate.count as usize;
+    candidate.parts.iter().take(count).copied().collect(alloc)
+}
+
+/// The answer that tells what a search ended with.
+fn answer_of_search(alloc: Global, end: Contained) -> Result<Answer, AllocError>
+    ensures { IfOk result (λ a. answer_view a ≡ answer_of_search end) }
+{
+    match end {
+        Contained::Found(candidate, proofs) => {
+            let parts = parts_of(alloc, &candidate)?;
+            Ok(Answer::Contained { parts, proofs })
+        }
+        Contained::Open { tried } => Ok(Answer::Open { tried }),
+    }
+}
+
+/// The answer whether the first region lies in the second: the first candidate that is proved, of the `try` lines in order and then
+/// of the boxes in theirs, or how many were tried in vain. The boxes are told of each that was tried.
+pub fn containment(
+    alloc: Global,
+    question: &Question,
+    first: &Region,
+    second: &Region,
+    tries: &[[VarSet; 4]],
+    budgets: Budgets,
+    boxes: &mut Vec<Box<dyn Proposer>>,
+) -> Result<Answer, AllocError>
+    requires question { IsQuestion (question_body question.now) }
+    requires contains { (question_body question.now).verb ≡ Contain (region_view first.now) (region_view second.now) tries.now }
+    ensures { IfOk result (λ a. IsAnswered budgets (map plan boxes.old.items) (question_body question.now) (answer_view a) (map plan boxes.new.items)) }
+{
+    let pair = pair(alloc, question)?;
+    let tried = tried_of(alloc, second, tries)?;
+    let budget = budget_of(budgets.pivots);
+    let end = contain(alloc, &pair, tried.as_slice(), boxes, budgets.tries, budget)?;
+    let answer = answer_of_search(alloc, end)?;
+    Ok(answer)
+}

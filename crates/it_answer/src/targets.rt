@@ -1,0 +1,98 @@
+//! The rows of which an answer has certificates.
+ghost use Rattle.std.specs.Prelude.{◌≡◌, map, IfOk};
+ghost use Rattle.it_space.specs.Answers.{answer_view};
+ghost use Rattle.it_space.specs.Spaces.{size_of};
+ghost use Rattle.it_syntax.specs.Meaning.{relation_view};
+ghost use Rattle.it_question.specs.Limits.{IsQuestion};
+ghost use Rattle.it_question.specs.Questions.{Contain, Prove, question_body, region_view};
+ghost use Rattle.it_canon.specs.QuestionDemands.{problem_names, space_of};
+ghost use Rattle.it_canon.specs.RowsOfForms.{terms_of};
+ghost use Rattle.it_region.specs.Obligations.{ArePartsOf, obligations};
+ghost use Rattle.it_answer.specs.AnswerForms.{IsAnswerTo, answer_forms};
+
+use it_question::types::{Question, Region, Verb};
+use it_region::{candidate, obligations, pair};
+use it_space::{Answer, Row, VarSet};
+use it_syntax::types::Relation;
+use std::alloc::{AllocError, Global};
+
+/// The rows that an answer's certificates are of, in their order: of a yes those of the targets, of a containment those of the
+/// obligations. Another answer has none.
+pub fn target_rows(
+    alloc: Global,
+    question: &Question,
+    answer: &Answer,
+) -> Result<Vec<Row>, AllocError>
+    requires limits { IsQuestion (question_body question.now) }
+    requires fits { IsAnswerTo (question_body question.now) (answer_view answer.now) }
+    ensures { IfOk result (λ v. v.items ≡ map (terms_of (size_of (space_of (problem_names (question_body question.now))))) (answer_forms (question_body question.now) (answer_view answer.now))) }
+{
+    match &question.verb {
+        Verb::Prove(relation) => yes_rows(alloc, question, relation, answer),
+        Verb::Eliminate(_) => Ok(Vec::new(alloc)),
+        Verb::Contain {
+            first,
+            second,
+            tries,
+        } => contained_rows(alloc, question, first, second, tries.as_slice(), answer),
+    }
+}
+
+/// The rows of a relation's targets, where the answer is a yes.
+fn yes_rows(
+    alloc: Global,
+    question: &Question,
+    relation: &Relation,
+    answer: &Answer,
+) -> Result<Vec<Row>, AllocError>
+    requires limits { IsQuestion (question_body question.now) }
+    requires proves { (question_body question.now).verb ≡ Prove (relation_view relation.now) }
+    ensures { IfOk result (λ v. v.items ≡ map (terms_of (size_of (space_of (problem_names (question_body question.now))))) (answer_forms (question_body question.now) (answer_view answer.now))) }
+{
+    match answer {
+        Answer::Yes(_) => it_canon::target_rows(alloc, relation, question.names.space()),
+        _ => Ok(Vec::new(alloc)),
+    }
+}
+
+/// The rows of the obligations, where the answer is a containment.
+fn contained_rows(
+    alloc: Global,
+    question: &Question,
+    first: &Region,
+    second: &Region,
+    tries: &[[VarSet; 4]],
+    answer: &Answer,
+) -> Result<Vec<Row>, AllocError>
+    requires limits { IsQuestion (question_body question.now) }
+    requires contains { (question_body question.now).verb ≡ Contain (region_view first.now) (region_view second.now) tries.now }
+    requires fits { IsAnswerTo (question_body question.now) (answer_view answer.now) }
+    ensures { IfOk result (λ v. v.items ≡ map (terms_of (size_of (space_of (problem_names (question_body question.now))))) (answer_forms (question_body question.now) (answer_view answer.now))) }
+{
+    match answer {
+        Answer::Contained { parts, .. } => {
+            obligation_rows(alloc, question, first, second, tries, parts.as_slice())
+        }
+        _ => Ok(Vec::new(alloc)),
+    }
+}
+
+/// The rows of the obligations that these parts give.
+fn obligation_rows(
+    alloc: Global,
+    question: &Question,
+    first: &Region,
+    second: &Region,
+    tries: &[[VarSet; 4]],
+    parts: &[VarSet],
+) -> Result<Vec<Row>, AllocError>
+    requires limits { IsQuestion (question_body question.now) }
+    requires contains { (question_body question.now).verb ≡ Contain (region_view first.now) (region_view second.now) tries.now }
+    requires parts { ArePartsOf (region_view first.now) (region_view second.now) parts.now }
+    ensures { IfOk result (λ v. v.items ≡ map (terms_of (size_of (space_of (problem_names (question_body question.now))))) (obligations (question_body question.now) (region_view first.now) (region_view second.now) parts.now)) }
+{
+    let pair = pair(alloc, question)?;
+    let candidate = candidate(parts);
+    let rows = obligations(alloc, &pair, &candidate)?;
+    Ok(rows)
+}
