@@ -1,5 +1,5 @@
 -- The lines of an answer, as bytes.
-use Rattle.std.specs.Prelude.{ℕ, ◌+◌, ◌-◌, ◌^◌, ◌<◌, ℤ, pos, negsuc, unsigned_abs, map, not, All, List, [], ◌∷◌, ◌++◌, length, Bool, true, false, if◌then◌else◌, ◌==◌, codes, decimal, nat_lt, slice_index_or}
+use Rattle.std.specs.Prelude.{◌≡◌, ℕ, ◌+◌, ◌-◌, ◌^◌, ◌<◌, ℤ, pos, negsuc, unsigned_abs, map, not, All, List, [], ◌∷◌, ◌++◌, length, Bool, true, false, if◌then◌else◌, ◌==◌, codes, decimal, drop, nat_lt, slice_index_or}
 use Rattle.std.specs.Fmt.{signed_decimal}
 use Rattle.it_space.specs.Sets.{has_member}
 use Rattle.it_space.specs.Answers.{AnswerView, CertificateView}
@@ -8,14 +8,19 @@ use Rattle.it_space.specs.declared.answers.Answer.{Answer}
 use Rattle.it_space.specs.declared.answers.Answer.TheVariants as answers
 use Rattle.it_space.specs.declared.answers.Cause.{Cause}
 use Rattle.it_space.specs.declared.answers.Cause.TheVariants.{Pivots, Width, Scale, Rows, WideRate}
+use Rattle.it_space.specs.declared.answers.Certificate.{Certificate}
 use Rattle.it_space.specs.declared.answers.Mark.{Mark}
 use Rattle.it_space.specs.declared.answers.Mark.TheVariants.{Plain, Needed, Unsettled}
 use Rattle.it_space.specs.Rows.{Terms}
 use Rattle.it_space.specs.declared.problems.Constraint.{Constraint}
+use Rattle.it_space.specs.declared.problems.Kind.{Kind}
+use Rattle.it_space.specs.declared.problems.Kind.TheVariants.{Inequality, Equation}
 use Rattle.it_space.specs.declared.problems.Origin.{Origin}
 use Rattle.it_space.specs.declared.problems.Origin.TheVariants.{Given, Rate}
 use Rattle.it_polymatroid.specs.Elementals.{Elemental, Conditional, Mutual, elementals, elemental_at}
 use Rattle.it_syntax.specs.NamesViews.{NamesView}
+use Rattle.it_question.specs.Questions.{BodyView, VerbView, Prove, Eliminate, Contain}
+use Rattle.it_canon.specs.QuestionDemands.{problem_names, variables_of}
 
 -- a separator, where something stands before
 abbrev pub between_if : Bool → List ℕ → List ℕ
@@ -38,6 +43,10 @@ members_from i (name ∷ names) set = one_if (has_member set i) name ++ members_
 -- the names of a set's members in order of declaration, with `,` between them
 unfoldable pub set_text : List (List ℕ) → ℕ → List ℕ
 set_text names set = joined_texts (codes ",") false (members_from 0 names set)
+
+-- or `0` where there are none
+unfoldable pub set_or_zero_text : List (List ℕ) → ℕ → List ℕ
+set_or_zero_text names set = if set == 0 then codes "0" else set_text names set
 
 abbrev pub given_set_text : List (List ℕ) → ℕ → List ℕ
 given_set_text names set = if set == 0 then [] else codes "|" ++ set_text names set
@@ -134,10 +143,18 @@ abbrev pub terms_text : NamesView → Bool → Terms → List ℕ
 terms_text v is_first [] = []
 terms_text v is_first (t ∷ ts) = term_text v is_first t ++ terms_text v false ts
 
--- a row that is to be at least 0: its terms by coordinate, or `0`
-unfoldable pub row_text : NamesView → Terms → List ℕ
-row_text v [] = codes "0 >= 0"
-row_text v (t ∷ ts) = terms_text v true (t ∷ ts) ++ codes " >= 0"
+-- the terms of a row by coordinate, or `0`
+unfoldable pub form_text : NamesView → Terms → List ℕ
+form_text v [] = codes "0"
+form_text v (t ∷ ts) = terms_text v true (t ∷ ts)
+
+abbrev pub kind_text : Kind → List ℕ
+kind_text Inequality = codes " >= 0"
+kind_text Equation = codes " = 0"
+
+-- a row that is to be at least 0, or to be 0
+unfoldable pub row_text : NamesView → Kind → Terms → List ℕ
+row_text v kind terms = form_text v terms ++ kind_text kind
 
 abbrev pub mark_text : Mark → List ℕ
 mark_text Plain = codes "plain"
@@ -145,7 +162,7 @@ mark_text Needed = codes "needed"
 mark_text Unsettled = codes "unsettled"
 
 unfoldable pub row_line : ℕ → NamesView → Mark × Terms → List ℕ
-row_line k v row = decimal k ++ codes " row " ++ mark_text row.0 ++ codes " " ++ row_text v row.1 ++ codes "\n"
+row_line k v row = decimal k ++ codes " row " ++ mark_text row.0 ++ codes " " ++ row_text v Inequality row.1 ++ codes "\n"
 
 abbrev pub row_lines : ℕ → NamesView → List (Mark × Terms) → List ℕ
 row_lines k v [] = []
@@ -165,6 +182,27 @@ undecided_line k v cause = decimal k ++ codes " undecided " ++ cause_text v caus
 unfoldable pub region_lines : ℕ → NamesView → List (Mark × Terms) → List ℕ
 region_lines k v rows = decimal k ++ codes " region " ++ decimal (length rows) ++ codes "\n" ++ row_lines k v rows
 
+-- the names of the auxiliary variables that a containment asks for
+abbrev pub auxiliary_names_by : NamesView → VerbView → List (List ℕ)
+auxiliary_names_by v (Prove r) = []
+auxiliary_names_by v (Eliminate rates) = []
+auxiliary_names_by v (Contain first second tries) = drop (length v.variables) second.names.variables
+
+abbrev pub auxiliary_names : BodyView → List (List ℕ)
+auxiliary_names q = auxiliary_names_by q.names q.verb
+
+-- the set that an auxiliary variable stands for
+unfoldable pub part_for : List (List ℕ) → List ℕ → ℕ → List ℕ
+part_for variables name set = codes " " ++ name ++ codes ":=" ++ set_or_zero_text variables set
+
+abbrev pub parts_for : List (List ℕ) → List (List ℕ) → List ℕ → List ℕ
+parts_for variables [] sets = []
+parts_for variables (name ∷ names) [] = []
+parts_for variables (name ∷ names) (set ∷ sets) = part_for variables name set ++ parts_for variables names sets
+
+unfoldable pub contained_line : ℕ → List (List ℕ) → List (List ℕ) → List ℕ → List ℕ
+contained_line k auxiliaries variables sets = decimal k ++ codes " contained" ++ parts_for variables auxiliaries sets ++ codes "\n"
+
 unfoldable pub open_line : ℕ → ℕ → List ℕ
 open_line k tried = decimal k ++ codes " open " ++ decimal tried ++ codes "\n"
 
@@ -180,21 +218,25 @@ IsCauseOf m (WideRate r) = r < m
 abbrev pub IsRowOver : NamesView → Terms → Type 0
 IsRowOver v terms = All (λ t. t.0 < 2 ^ length v.variables + length v.rates) terms
 
--- the lines of an answer to question k, with the names of its variables and rates and the places of its constraints
-abbrev pub answer_line : ℕ → NamesView → List Origin → AnswerView → List ℕ
-answer_line k v places (Yes ws) = yes_line k v.variables places ws
-answer_line k v places (No is_back values) = no_line k v values
-answer_line k v places (Undecided cause) = undecided_line k v cause
-answer_line k v places (Region rows) = region_lines k v rows
-answer_line k v places (Contained parts proofs) = []
-answer_line k v places (Open tried) = open_line k tried
+-- the lines of an answer to question k, with the places of its constraints
+abbrev pub answer_line : ℕ → BodyView → List Origin → AnswerView → List ℕ
+answer_line k q places (Yes ws) = yes_line k (problem_names q).variables places ws
+answer_line k q places (No is_back values) = no_line k (problem_names q) values
+answer_line k q places (Undecided cause) = undecided_line k (problem_names q) cause
+answer_line k q places (Region rows) = region_lines k (problem_names q) rows
+answer_line k q places (Contained parts proofs) = contained_line k (auxiliary_names q) (problem_names q).variables parts
+answer_line k q places (Open tried) = open_line k tried
+
+-- the generators of these certificates are there, of n variables and m constraints
+abbrev pub AreListed : ℕ → ℕ → List Certificate → Type 0
+AreListed n m proofs = All (λ c. All (λ w. w.0 < length (elementals n) + m) c.weights.items) proofs
 
 -- with m constraints: the generators of each certificate are there, the point's values, the cause's rate and the rows are of the
--- names; containment has no lines yet
-abbrev pub IsPrintable : NamesView → ℕ → Answer → Type 0
-IsPrintable v m (answers.Yes proofs) = All (λ c. All (λ w. w.0 < length (elementals (length v.variables)) + m) c.weights.items) proofs.items
-IsPrintable v m (answers.No back point) = (length point < 2 ^ length v.variables + length v.rates) × (length point < 2 ^ 16)
-IsPrintable v m (answers.Undecided cause) = IsCauseOf (length v.rates) cause
-IsPrintable v m (answers.Region rows) = All (λ row. IsRowOver v row.1) rows.items
-IsPrintable v m (answers.Contained parts proofs) = ⊥
-IsPrintable v m (answers.Open tried) = Unit {0}
+-- question's names, and there is a set for each auxiliary variable
+abbrev pub IsPrintable : BodyView → ℕ → Answer → Type 0
+IsPrintable q m (answers.Yes proofs) = AreListed (variables_of q) m proofs.items
+IsPrintable q m (answers.No back point) = (length point < 2 ^ variables_of q + length (problem_names q).rates) × (length point < 2 ^ 16)
+IsPrintable q m (answers.Undecided cause) = IsCauseOf (length (problem_names q).rates) cause
+IsPrintable q m (answers.Region rows) = All (λ row. IsRowOver (problem_names q) row.1) rows.items
+IsPrintable q m (answers.Contained parts proofs) = (length parts.items ≡ length (auxiliary_names q)) × AreListed (variables_of q) m proofs.items
+IsPrintable q m (answers.Open tried) = Unit {0}

@@ -30,8 +30,8 @@ pub fn write_generator(
     }
 }
 
-/// An elemental inequality.
-fn write_elemental(out: &mut Vec<u8>, names: &Names, index: u32) -> Result<(), AllocError>
+/// The elemental inequality of this number, as `H(X|Y,Z)` or `I(X;Y|Z)`.
+pub fn write_elemental(out: &mut Vec<u8>, names: &Names, index: u32) -> Result<(), AllocError>
     requires some { 1 ≤ length names.now.variables }
     requires listed { index < length (elementals (length names.now.variables)) }
     ensures { OnOk result (out.new.items ≡ out.old.items ++ elemental_text names.now.variables (elemental_at (length names.now.variables) index)) }

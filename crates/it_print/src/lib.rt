@@ -1,14 +1,23 @@
-//! The lines of answers, as bytes.
+//! The lines of answers, as bytes: those of the text format, and with them the rows that the proofs use.
 #![tactic(auto)]
 
 mod generators;
 mod lines;
+mod names;
 mod pieces;
+mod proof_lines;
 mod rows;
 mod sets;
+mod substitutions;
 mod sums;
+#[cfg(test)]
+mod tests;
 mod values;
 
+pub use generators::write_elemental;
 pub use lines::answer_line;
 pub use pieces::{write_number, write_signed};
+pub use proof_lines::proof_text;
+pub use rows::row_text;
+pub use sets::write_set;
 pub use values::write_coordinate;

@@ -1,37 +1,41 @@
 //! The lines of answers.
 ghost use Rattle.std.specs.Prelude.{◌≡◌, ◌≤◌, ◌<◌, ◌+◌, ◌^◌, ◌++◌, length, map, OnOk, IfOk, All};
 ghost use Rattle.it_space.specs.Answers.{answer_view, certificate_view};
-ghost use Rattle.it_polymatroid.specs.Elementals.{elementals};
-ghost use Rattle.it_print.specs.Lines.{IsCauseOf, IsPrintable, IsRowOver, answer_line, cause_text, no_line, open_line, places_of, region_lines, undecided_line, yes_line};
+ghost use Rattle.it_question.specs.Questions.{question_body};
+ghost use Rattle.it_canon.specs.QuestionDemands.{problem_names, variables_of};
+ghost use Rattle.it_print.specs.Lines.{AreListed, IsCauseOf, IsPrintable, IsRowOver, answer_line, auxiliary_names, cause_text, contained_line, no_line, open_line, places_of, region_lines, undecided_line, yes_line};
 
+use crate::names::problem_names;
 use crate::pieces::write_number;
 use crate::rows::write_row_lines;
+use crate::substitutions::write_substitution;
 use crate::sums::write_proofs;
 use crate::values::{write_rate, write_values};
-use it_space::{Answer, Cause, Certificate, Constraint, Mark, Point, Row};
+use it_question::types::Question;
+use it_space::{Answer, Cause, Certificate, Constraint, Mark, Point, Row, VarSet};
 use it_syntax::Names;
 use std::alloc::{AllocError, Global};
 
-/// The lines of an answer to question k, counted from 1, with the names of its variables and rates and the constraints of its
-/// problem, which are the generators after the elemental inequalities. A region has one line more than it has rows, every other
-/// answer has one line.
+/// The lines of an answer to question k, counted from 1, with the constraints of the question's problem, which are the
+/// generators after the elemental inequalities. A region has one line more than it has rows, every other answer has one line.
 pub fn answer_line(
     alloc: Global,
     k: usize,
-    names: &Names,
+    question: &Question,
     constraints: &[Constraint],
     answer: &Answer,
 ) -> Result<Vec<u8>, AllocError>
-    requires some { 1 ≤ length names.now.variables }
-    requires printable { IsPrintable names.now (length constraints.now) answer.now }
-    ensures { IfOk result (λ t. t.items ≡ answer_line k names.now (places_of constraints.now) (answer_view answer.now)) }
+    requires some { 1 ≤ variables_of (question_body question.now) }
+    requires printable { IsPrintable (question_body question.now) (length constraints.now) answer.now }
+    ensures { IfOk result (λ t. t.items ≡ answer_line k (question_body question.now) (places_of constraints.now) (answer_view answer.now)) }
 {
+    let names = problem_names(question);
     match answer {
         Answer::Yes(proofs) => yes_line(alloc, k, names, constraints, proofs.as_slice()),
         Answer::No { point, .. } => no_line(alloc, k, names, point),
         Answer::Undecided(cause) => undecided_line(alloc, k, names, *cause),
         Answer::Region(rows) => region_lines(alloc, k, names, rows.as_slice()),
-        Answer::Contained { .. } => unreachable!(),
+        Answer::Contained { parts, .. } => contained_line(alloc, k, question, parts.as_slice()),
         Answer::Open { tried } => open_line(alloc, k, *tried),
     }
 }
@@ -46,7 +50,7 @@ fn yes_line(
     proofs: &[Certificate],
 ) -> Result<Vec<u8>, AllocError>
     requires some { 1 ≤ length names.now.variables }
-    requires there { All (λ c. All (λ w. w.0 < length (elementals (length names.now.variables)) + length constraints.now) c.weights.items) proofs.now }
+    requires there { AreListed (length names.now.variables) (length constraints.now) proofs.now }
     ensures { IfOk result (λ t. t.items ≡ yes_line k names.now.variables (places_of constraints.now) (map certificate_view proofs.now)) }
 {
     let mut out = Vec::new(alloc);
@@ -108,6 +112,25 @@ fn region_lines(
     write_number(&mut out, rows.len())?;
     out.extend_from_slice(b"\n")?;
     write_row_lines(&mut out, k, names, rows)?;
+    Ok(out)
+}
+
+/// The line of a containment that a substitution shows: the set for each auxiliary variable of the second region.
+#[tactic(auto, unfolding(crate::specs::Lines::contained_line))]
+fn contained_line(
+    alloc: Global,
+    k: usize,
+    question: &Question,
+    sets: &[VarSet],
+) -> Result<Vec<u8>, AllocError>
+    requires { length sets.now ≡ length (auxiliary_names (question_body question.now)) }
+    ensures { IfOk result (λ t. t.items ≡ contained_line k (auxiliary_names (question_body question.now)) (problem_names (question_body question.now)).variables sets.now) }
+{
+    let mut out = Vec::new(alloc);
+    write_number(&mut out, k)?;
+    out.extend_from_slice(b" contained")?;
+    write_substitution(&mut out, question, sets)?;
+    out.extend_from_slice(b"\n")?;
     Ok(out)
 }
 

@@ -1,13 +1,13 @@
-//! Rows that are to be at least 0, and the lines of those of a region.
-ghost use Rattle.std.specs.Prelude.{◌≡◌, ◌<◌, ◌+◌, ◌^◌, ◌++◌, length, OnOk, All, decimal, true, false};
-ghost use Rattle.it_print.specs.Lines.{IsRowOver, factor_text, is_negative, mark_text, row_line, row_lines, row_text, sign_text, term_text, terms_text};
+//! Rows that are to be at least 0 or to be 0, and the lines of those of a region.
+ghost use Rattle.std.specs.Prelude.{◌≡◌, ◌<◌, ◌+◌, ◌^◌, ◌++◌, length, IfOk, OnOk, All, decimal, true, false};
+ghost use Rattle.it_print.specs.Lines.{IsRowOver, factor_text, form_text, is_negative, kind_text, mark_text, row_line, row_lines, row_text, sign_text, term_text, terms_text};
 
 use crate::pieces::write_number;
 use crate::values::write_coordinate;
-use it_space::{Mark, Row};
+use it_space::{Kind, Mark, Row};
 use it_syntax::Names;
 use itoa::Buffer;
-use std::alloc::AllocError;
+use std::alloc::{AllocError, Global};
 
 /// The line of each row of the region that answers question k, in order.
 pub fn write_row_lines(
@@ -40,7 +40,7 @@ fn write_row_line(
     out.extend_from_slice(b" row ")?;
     out.extend_from_slice(word(row.0))?;
     out.extend_from_slice(b" ")?;
-    write_row(out, names, row.1.terms())?;
+    write_row(out, names, Kind::Inequality, &row.1)?;
     out.extend_from_slice(b"\n")
 }
 
@@ -55,18 +55,48 @@ fn word(mark: Mark) -> &'static [u8]
     }
 }
 
-/// A row that is to be at least 0, by its terms in order.
+/// A row by its terms in order of the coordinates, with ` >= 0` or ` = 0` behind them. The row without terms has `0` in
+/// their place.
+pub fn row_text(alloc: Global, row: &Row, kind: Kind, names: &Names) -> Result<Vec<u8>, AllocError>
+    requires { IsRowOver names.now row.now }
+    ensures { IfOk result (λ t. t.items ≡ row_text names.now kind row.now) }
+{
+    let mut out = Vec::new(alloc);
+    write_row(&mut out, names, kind, row)?;
+    Ok(out)
+}
+
+/// The same behind what stands.
 #[tactic(auto, unfolding(crate::specs::Lines::row_text))]
-fn write_row(out: &mut Vec<u8>, names: &Names, terms: &[(u32, i128)]) -> Result<(), AllocError>
+pub fn write_row(out: &mut Vec<u8>, names: &Names, kind: Kind, row: &Row) -> Result<(), AllocError>
+    requires { IsRowOver names.now row.now }
+    ensures { OnOk result (out.new.items ≡ out.old.items ++ row_text names.now kind row.now) }
+{
+    write_form(out, names, row.terms())?;
+    out.extend_from_slice(demand(kind))
+}
+
+/// What the value of a row is to be.
+fn demand(kind: Kind) -> &'static [u8]
+    ensures { result.now ≡ kind_text kind }
+{
+    match kind {
+        Kind::Inequality => b" >= 0",
+        Kind::Equation => b" = 0",
+    }
+}
+
+/// The terms of a row in order, or `0`.
+#[tactic(auto, unfolding(crate::specs::Lines::form_text))]
+fn write_form(out: &mut Vec<u8>, names: &Names, terms: &[(u32, i128)]) -> Result<(), AllocError>
     requires { IsRowOver names.now terms.now }
-    ensures { OnOk result (out.new.items ≡ out.old.items ++ row_text names.now terms.now) }
+    ensures { OnOk result (out.new.items ≡ out.old.items ++ form_text names.now terms.now) }
 {
     match terms {
-        [] => out.extend_from_slice(b"0 >= 0"),
+        [] => out.extend_from_slice(b"0"),
         [first, rest @ ..] => {
             write_term(out, names, true, first)?;
-            write_terms(out, names, rest)?;
-            out.extend_from_slice(b" >= 0")
+            write_terms(out, names, rest)
         }
     }
 }

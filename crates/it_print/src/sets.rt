@@ -1,13 +1,21 @@
 //! Sets of variables.
-ghost use Rattle.std.specs.Prelude.{◌≡◌, ◌++◌, OnOk};
-ghost use Rattle.it_print.specs.Lines.{given_set_text, set_text};
+ghost use Rattle.std.specs.Prelude.{◌≡◌, ◌<◌, ◌++◌, [], length, slice_index_or, OnOk};
+ghost use Rattle.it_print.specs.Lines.{given_set_text, set_or_zero_text, set_text};
 
 use crate::pieces::write_if;
 use it_space::VarSet;
 use it_syntax::Names;
 use std::alloc::AllocError;
 
-/// The names of a set's members with `,` between them.
+/// The name of a variable.
+pub fn write_variable(out: &mut Vec<u8>, names: &Names, variable: u8) -> Result<(), AllocError>
+    requires { variable < length names.now.variables }
+    ensures { OnOk result (out.new.items ≡ out.old.items ++ slice_index_or names.now.variables variable []) }
+{
+    out.extend_from_slice(names.variable_name(variable))
+}
+
+/// The names of a set's members with `,` between them, in order of declaration.
 #[tactic(auto, unfolding(crate::specs::Lines::set_text))]
 pub fn write_set(out: &mut Vec<u8>, names: &Names, set: VarSet) -> Result<(), AllocError>
     ensures { OnOk result (out.new.items ≡ out.old.items ++ set_text names.now.variables set) }
@@ -17,6 +25,18 @@ pub fn write_set(out: &mut Vec<u8>, names: &Names, set: VarSet) -> Result<(), Al
         some = write_if(out, some, b",", set.has(i), names.variable_name(i))?;
     }
     Ok(())
+}
+
+/// The same, or `0` for the empty set.
+#[tactic(auto, unfolding(crate::specs::Lines::set_or_zero_text))]
+pub fn write_set_or_zero(out: &mut Vec<u8>, names: &Names, set: VarSet) -> Result<(), AllocError>
+    ensures { OnOk result (out.new.items ≡ out.old.items ++ set_or_zero_text names.now.variables set) }
+{
+    if set.number() == 0 {
+        out.extend_from_slice(b"0")
+    } else {
+        write_set(out, names, set)
+    }
 }
 
 /// `|` and the names of a set that isn't empty.

@@ -2,7 +2,7 @@
 ghost use Rattle.std.specs.Prelude.{◌≡◌, ◌≤◌, ◌<◌, ◌+◌, ◌++◌, length, map, OnOk, IfOk, All, codes, false};
 ghost use Rattle.it_space.specs.Answers.{certificate_view};
 ghost use Rattle.it_polymatroid.specs.Elementals.{elementals};
-ghost use Rattle.it_print.specs.Lines.{is_some_weight, joined_texts, part_text, places_of, sum_text, weights_text};
+ghost use Rattle.it_print.specs.Lines.{AreListed, is_some_weight, joined_texts, part_text, places_of, sum_text, weights_text};
 
 use crate::generators::write_generator;
 use crate::pieces::{write_if, write_signed};
@@ -19,7 +19,7 @@ pub fn write_proofs(
     proofs: &[Certificate],
 ) -> Result<(), AllocError>
     requires some { 1 ≤ length names.now.variables }
-    requires there { All (λ c. All (λ w. w.0 < length (elementals (length names.now.variables)) + length constraints.now) c.weights.items) proofs.now }
+    requires there { AreListed (length names.now.variables) (length constraints.now) proofs.now }
     ensures { OnOk result (out.new.items ≡ out.old.items ++ joined_texts (codes " and ") false (map (weights_text names.now.variables (places_of constraints.now)) (map certificate_view proofs.now))) }
 {
     let mut some = false;
@@ -80,7 +80,6 @@ fn write_sum(
 }
 
 /// A weight and its generator.
-#[tactic(auto, unfolding(crate::specs::Lines::part_text))]
 fn part(
     alloc: Global,
     names: &Names,
@@ -92,13 +91,29 @@ fn part(
     ensures { IfOk result (λ t. t.items ≡ part_text names.now.variables (places_of constraints.now) weight.now) }
 {
     let mut out = Vec::new(alloc);
-    write_signed(&mut out, weight.1)?;
-    out.extend_from_slice(b" ")?;
-    write_generator(&mut out, names, constraints, weight.0)?;
+    write_part(&mut out, names, constraints, weight)?;
     Ok(out)
 }
 
-fn is_some(weight: &(u32, i128)) -> bool
+/// The same behind what stands.
+#[tactic(auto, unfolding(crate::specs::Lines::part_text))]
+pub fn write_part(
+    out: &mut Vec<u8>,
+    names: &Names,
+    constraints: &[Constraint],
+    weight: &(u32, i128),
+) -> Result<(), AllocError>
+    requires some { 1 ≤ length names.now.variables }
+    requires there { weight.now.0 < length (elementals (length names.now.variables)) + length constraints.now }
+    ensures { OnOk result (out.new.items ≡ out.old.items ++ part_text names.now.variables (places_of constraints.now) weight.now) }
+{
+    write_signed(out, weight.1)?;
+    out.extend_from_slice(b" ")?;
+    write_generator(out, names, constraints, weight.0)
+}
+
+/// Whether a weight is other than 0.
+pub fn is_some(weight: &(u32, i128)) -> bool
     ensures { result ≡ is_some_weight weight.now }
 {
     weight.1.unsigned_abs() != 0

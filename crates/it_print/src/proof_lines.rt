@@ -1,0 +1,215 @@
+//! Answers with the rows that their proofs use.
+ghost use Rattle.std.specs.Prelude.{◌≡◌, ◌≤◌, ◌<◌, ◌+◌, ◌++◌, length, map, OnOk, IfOk, All};
+ghost use Rattle.it_space.specs.Answers.{answer_view, certificate_view};
+ghost use Rattle.it_polymatroid.specs.Elementals.{elementals, elemental_at};
+ghost use Rattle.it_elemental.specs.Generators.{of_constraint, of_elemental};
+ghost use Rattle.it_question.specs.Questions.{question_body};
+ghost use Rattle.it_canon.specs.QuestionDemands.{problem_names, variables_of};
+ghost use Rattle.it_print.specs.Lines.{AreListed, IsPrintable, IsRowOver, answer_line, places_of};
+ghost use Rattle.it_print.specs.ProofLines.{certificate_lines, generator_row_text, generator_rows, proof_lines, proof_text, proofs_in, sum_line, weight_line, weight_lines};
+
+use crate::lines::answer_line;
+use crate::names::problem_names;
+use crate::pieces::{write_number, write_signed};
+use crate::rows::write_row;
+use crate::sums::{is_some, write_part};
+use it_elemental::{count, row};
+use it_question::types::Question;
+use it_space::{Answer, Certificate, Constraint, Kind, Row};
+use it_syntax::Names;
+use std::alloc::{AllocError, Global};
+
+/// The lines of an answer to question k, as `answer_line` tells them, and behind them what its certificates add up. For
+/// each certificate, with its target by place: a line for each weight other than 0 with its generator's row, and one with
+/// the scale and the target's row.
+pub fn proof_text(
+    alloc: Global,
+    k: usize,
+    question: &Question,
+    constraints: &[Constraint],
+    targets: &[Row],
+    answer: &Answer,
+) -> Result<Vec<u8>, AllocError>
+    requires some { 1 ≤ variables_of (question_body question.now) }
+    requires printable { IsPrintable (question_body question.now) (length constraints.now) answer.now }
+    requires rows { All (λ c. IsRowOver (problem_names (question_body question.now)) c.row) constraints.now }
+    requires targets { All (IsRowOver (problem_names (question_body question.now))) targets.now }
+    ensures { IfOk result (λ t. t.items ≡ proof_text k (question_body question.now) (places_of constraints.now) (generator_rows (problem_names (question_body question.now)) constraints.now) targets.now (answer_view answer.now)) }
+{
+    let mut out = answer_line(alloc, k, question, constraints, answer)?;
+    let names = problem_names(question);
+    match answer {
+        Answer::Yes(proofs) | Answer::Contained { proofs, .. } => {
+            write_proof_lines(
+                alloc,
+                &mut out,
+                k,
+                names,
+                constraints,
+                targets,
+                proofs.as_slice(),
+            )?;
+        }
+        Answer::No { .. } | Answer::Undecided(_) | Answer::Region(_) | Answer::Open { .. } => {}
+    }
+    Ok(out)
+}
+
+/// The lines of certificates, each with its target.
+fn write_proof_lines(
+    alloc: Global,
+    out: &mut Vec<u8>,
+    k: usize,
+    names: &Names,
+    constraints: &[Constraint],
+    targets: &[Row],
+    proofs: &[Certificate],
+) -> Result<(), AllocError>
+    requires some { 1 ≤ length names.now.variables }
+    requires there { AreListed (length names.now.variables) (length constraints.now) proofs.now }
+    requires rows { All (λ c. IsRowOver names.now c.row) constraints.now }
+    requires targets { All (IsRowOver names.now) targets.now }
+    ensures { OnOk result (out.new.items ≡ out.old.items ++ proof_lines k names.now (places_of constraints.now) (generator_rows names.now constraints.now) (map certificate_view proofs.now) targets.now) }
+{
+    for i in 0..proofs.len().min(targets.len()) {
+        write_certificate(alloc, out, k, names, constraints, &proofs[i], &targets[i])?;
+    }
+    Ok(())
+}
+
+/// The lines of a certificate and its target.
+#[tactic(auto, unfolding(crate::specs::ProofLines::certificate_lines))]
+fn write_certificate(
+    alloc: Global,
+    out: &mut Vec<u8>,
+    k: usize,
+    names: &Names,
+    constraints: &[Constraint],
+    certificate: &Certificate,
+    target: &Row,
+) -> Result<(), AllocError>
+    requires some { 1 ≤ length names.now.variables }
+    requires there { All (λ w. w.0 < length (elementals (length names.now.variables)) + length constraints.now) certificate.now.weights.items }
+    requires rows { All (λ c. IsRowOver names.now c.row) constraints.now }
+    requires target { IsRowOver names.now target.now }
+    ensures { OnOk result (out.new.items ≡ out.old.items ++ certificate_lines k names.now (places_of constraints.now) (generator_rows names.now constraints.now) (certificate_view certificate.now) target.now) }
+{
+    let weights = certificate.weights.as_slice();
+    write_weight_lines(alloc, out, k, names, constraints, weights)?;
+    write_sum_line(out, k, names, certificate, target)
+}
+
+/// The lines of weights.
+fn write_weight_lines(
+    alloc: Global,
+    out: &mut Vec<u8>,
+    k: usize,
+    names: &Names,
+    constraints: &[Constraint],
+    weights: &[(u32, i128)],
+) -> Result<(), AllocError>
+    requires some { 1 ≤ length names.now.variables }
+    requires there { All (λ w. w.0 < length (elementals (length names.now.variables)) + length constraints.now) weights.now }
+    requires rows { All (λ c. IsRowOver names.now c.row) constraints.now }
+    ensures { OnOk result (out.new.items ≡ out.old.items ++ weight_lines k names.now (places_of constraints.now) (generator_rows names.now constraints.now) weights.now) }
+{
+    for weight in weights {
+        if is_some(weight) {
+            write_weight_line(alloc, out, k, names, constraints, weight)?;
+        }
+    }
+    Ok(())
+}
+
+/// The line of a weight: with its generator, and the generator's row.
+#[tactic(auto, unfolding(crate::specs::ProofLines::weight_line))]
+fn write_weight_line(
+    alloc: Global,
+    out: &mut Vec<u8>,
+    k: usize,
+    names: &Names,
+    constraints: &[Constraint],
+    weight: &(u32, i128),
+) -> Result<(), AllocError>
+    requires some { 1 ≤ length names.now.variables }
+    requires there { weight.now.0 < length (elementals (length names.now.variables)) + length constraints.now }
+    requires rows { All (λ c. IsRowOver names.now c.row) constraints.now }
+    ensures { OnOk result (out.new.items ≡ out.old.items ++ weight_line k names.now (places_of constraints.now) (generator_rows names.now constraints.now) weight.now) }
+{
+    write_number(out, k)?;
+    out.extend_from_slice(b" proof ")?;
+    write_part(out, names, constraints, weight)?;
+    out.extend_from_slice(b" : ")?;
+    write_generator_row(alloc, out, names, constraints, weight.0)?;
+    out.extend_from_slice(b"\n")
+}
+
+/// The row of the generator of this number: of an elemental inequality, or of a constraint.
+fn write_generator_row(
+    alloc: Global,
+    out: &mut Vec<u8>,
+    names: &Names,
+    constraints: &[Constraint],
+    generator: u32,
+) -> Result<(), AllocError>
+    requires some { 1 ≤ length names.now.variables }
+    requires there { generator < length (elementals (length names.now.variables)) + length constraints.now }
+    requires rows { All (λ c. IsRowOver names.now c.row) constraints.now }
+    ensures { OnOk result (out.new.items ≡ out.old.items ++ generator_row_text names.now (generator_rows names.now constraints.now generator)) }
+{
+    let elementals = count(names.space().variables);
+    if generator < elementals {
+        write_elemental_row(alloc, out, names, generator)
+    } else {
+        write_constraint_row(out, names, &constraints[(generator - elementals) as usize])
+    }
+}
+
+/// The row of an elemental inequality.
+#[tactic(auto, unfolding(crate::specs::ProofLines::generator_row_text))]
+fn write_elemental_row(
+    alloc: Global,
+    out: &mut Vec<u8>,
+    names: &Names,
+    index: u32,
+) -> Result<(), AllocError>
+    requires some { 1 ≤ length names.now.variables }
+    requires listed { index < length (elementals (length names.now.variables)) }
+    ensures { OnOk result (out.new.items ≡ out.old.items ++ generator_row_text names.now (of_elemental (length names.now.variables) (elemental_at (length names.now.variables) index))) }
+{
+    let row = row(alloc, names.space().variables, index)?;
+    write_row(out, names, Kind::Inequality, &row)
+}
+
+/// The row of a constraint.
+#[tactic(auto, unfolding(crate::specs::ProofLines::generator_row_text))]
+fn write_constraint_row(
+    out: &mut Vec<u8>,
+    names: &Names,
+    constraint: &Constraint,
+) -> Result<(), AllocError>
+    requires { IsRowOver names.now constraint.now.row }
+    ensures { OnOk result (out.new.items ≡ out.old.items ++ generator_row_text names.now (of_constraint constraint.now)) }
+{
+    write_row(out, names, constraint.kind, &constraint.row)
+}
+
+/// The line of the scale and the target.
+#[tactic(auto, unfolding(crate::specs::ProofLines::sum_line))]
+fn write_sum_line(
+    out: &mut Vec<u8>,
+    k: usize,
+    names: &Names,
+    certificate: &Certificate,
+    target: &Row,
+) -> Result<(), AllocError>
+    requires { IsRowOver names.now target.now }
+    ensures { OnOk result (out.new.items ≡ out.old.items ++ sum_line k names.now certificate.now.scale target.now) }
+{
+    write_number(out, k)?;
+    out.extend_from_slice(b" sum ")?;
+    write_signed(out, certificate.scale)?;
+    out.extend_from_slice(b" : ")?;
+    write_row(out, names, Kind::Inequality, target)?;
+    out.extend_from_slice(b"\n")
+}
