@@ -1,0 +1,5 @@
+pub mod SpelledLines
+pub mod PartTexts
+pub mod QuestionSteps
+pub mod Lengths
+pub mod FileTexts

@@ -1,0 +1,26 @@
+use crate::draws::Generator;
+use crate::questions_of;
+use std::process::Abort;
+use std::test::Fail;
+
+/// The first two questions of seed 1, worked out apart from the program.
+const TWO_QUESTIONS: &[u8] = b"vars A, B, C, D
+prove 3 I(B;C|D) + 2 I(A;D|B,C) + 4 I(C;D|A,B) >= 0 H(B,D)
+vars A, B, C, D
+prove 1 I(C;D|B) + 2 I(C;D|A,B) + 1 I(B;D) >= 2 H(A,D)
+";
+
+#[test]
+fn the_first_draws_are_those_of_the_constants(rt: HostRuntime) {
+    let mut generator = Generator { state: 1 };
+    for number in [16838, 5758, 10113, 17515, 31051, 5627, 23010, 7419] {
+        assert_eq!(rt; generator.draw(32768), number);
+    }
+}
+
+#[test]
+fn the_second_question_goes_on_where_the_first_ends(rt: HostRuntime) -> Result<(), Fail> {
+    let file = questions_of(rt.alloc(), 1, 2)?;
+    assert_eq!(rt; file.as_slice(), TWO_QUESTIONS);
+    Ok(())
+}
