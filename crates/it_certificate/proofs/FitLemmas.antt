@@ -1,12 +1,12 @@
 -- What is read of an answer fits its question.
 use Rattle.std.proofs.Common.{◌≡◌, ℕ, ◌+◌, ◌<◌, ◌≤◌, ◌^◌, ◌==◌, ◌&&◌, ℤ, pos, negsuc, not, unsigned_abs, List, [], ◌∷◌, length, refl, ap, sym, subst, ◌∙◌, Option, Some, None, Result, Ok, Err, option_and_then, option_map, Bool, true, false, cond, nat_le, nat_lt, rules, arith, codes}
-use Rattle.std.specs.Prelude.{All, slice_index_or, bytes_eq, get_or}
+use Rattle.std.specs.Prelude.{All, bytes_eq, get_or}
 use Rattle.std.specs.List.{position_or_len}
 use Rattle.std.proofs.lemmas.List.Sums.{passes_at_first}
 use Rattle.std.proofs.lemmas.Slice.Eq.{bytes_eq-Decides}
 use Rattle.std.proofs.lemmas.List.Elements.{All-nil, All-cons, All-head, All-tail}
 use Rattle.serde_json.specs.Data.{Data}
-use Rattle.serde_json.specs.Find.{get, as_array, as_number, as_u64, as_str}
+use Rattle.serde_json.specs.Find.{get, as_array, as_number, as_u64}
 use Rattle.it_number.specs.Limit.{IsWithin}
 use Rattle.it_space.specs.Rows.{Terms, IsUpTo}
 use Rattle.it_space.specs.Spaces.{size_of}
@@ -27,12 +27,12 @@ use Rattle.it_certificate.specs.declared.kinds.CauseKind.{CauseKind}
 use Rattle.it_certificate.specs.declared.kinds.CauseKind.TheVariants as causes
 use Rattle.it_certificate.specs.Numerals.{count_of, count_of_whole, step_of, whole_of}
 use Rattle.it_certificate.specs.Values.{rate_text}
-use Rattle.it_certificate.specs.Kinds.{mark_of, back_of}
-use Rattle.it_certificate.specs.Parts.{text_of, items_of_array, whole_at, count_at, both, two_of, pair_at, all_of, list_at, of_length, certificate_by, certificate_at, proofs_at, point_at, back_at, cause_kind_at, cause_of, cause_at, step_or_rate, is_row_between, is_term_between, row_of, mark_at, terms_at, row_at, rows_at, set_of, set_at, parts_at, tried_at}
+use Rattle.it_certificate.specs.Kinds.{back_of}
+use Rattle.it_certificate.specs.Parts.{text_of, items_of_array, whole_at, count_at, both, two_of, pair_at, all_of, list_at, of_length, certificate_at, proofs_at, point_at, back_at, cause_kind_at, cause_of, cause_at, step_or_rate, is_row_between, is_term_between, row_of, mark_at, terms_at, row_at, rows_at, set_of, set_at, parts_at, tried_at}
 use Rattle.it_certificate.specs.AnswerReading.{or_key, and_then, is_equality, target_count, yes_at, no_at, undecided_at, region_at, contained_at, open_at}
 use Rattle.it_certificate.specs.Obligations.{obligation_count}
 use Rattle.it_certificate.specs.Reports.{prove_answer, eliminate_answer, contain_answer, verb_answer, question_answer}
-use Rattle.it_certificate.specs.Fits.{IsPair, IsNumbered, IsRowIn, IsFoundIn, IsCauseFor, FitsProve, FitsEliminate, FitsContainment, FitsContain, FitsVerb, FitsQuestion}
+use Rattle.it_certificate.specs.Fits.{IsPair, IsNumbered, IsRowIn, IsFoundIn, IsCauseFor, FitsProve, FitsEliminate, FitsContain, FitsVerb, FitsQuestion}
 use Rattle.it_certificate.proofs.WithinLemmas.{and_then_some, map_some, cond_some, both_some, all_of_holds, whole_at_within, all_within, point_length}
 use Rattle.it_certificate.proofs.RowLemmas.{both_true, canonical}
 

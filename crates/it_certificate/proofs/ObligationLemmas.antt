@@ -1,15 +1,14 @@
 -- How many forms lines say to be at least 0, line by line.
-use Rattle.std.proofs.Common.{◌≡◌, ℕ, suc, zero, ◌+◌, ◌*◌, ◌-◌, ◌≤◌, ◌<◌, List, [], ◌∷◌, ◌++◌, length, map, drop, get_or, refl, ap, sym, ◌∙◌, arith, bit_or}
+use Rattle.std.proofs.Common.{◌≡◌, ℕ, ◌+◌, ◌*◌, ◌-◌, ◌<◌, List, [], ◌∷◌, ◌++◌, length, map, drop, get_or, refl, ap, sym, ◌∙◌, arith, bit_or}
 use Rattle.std.proofs.lemmas.List.{drop_more}
 use Rattle.it_syntax.specs.declared.types.Given.{Given}
 use Rattle.std.specs.List.{fold, sum_by}
-use Rattle.it_space.specs.declared.problems.Kind.TheVariants.{Equation}
 use Rattle.it_syntax.specs.declared.types.Atom.{Atom}
 use Rattle.it_syntax.specs.Meaning.{RelationView}
 use Rattle.it_syntax.specs.Givens.{GivenView, Relation, Markov, Independent, Function, given_view, links, links_from}
 use Rattle.it_question.specs.Questions.{RegionView}
-use Rattle.it_canon.specs.Demands.{Demand, LineDemand, demands, demand_of, equations, parts_from, parts_of, kind_of}
-use Rattle.it_canon.specs.QuestionDemands.{given_demands, row_demands, line_demands}
+use Rattle.it_canon.specs.Demands.{Demand, LineDemand, demands, equations, parts_from, parts_of}
+use Rattle.it_canon.specs.QuestionDemands.{given_demands, row_demands}
 use Rattle.it_certificate.specs.Obligations.{forms_of, obligation_count}
 use Rattle.it_certificate.specs.ReportSteps.{given_forms, relation_forms}
 

@@ -1,9 +1,9 @@
 -- What is written of an answer reads back.
-use Rattle.std.proofs.Common.{◌≡◌, ℕ, ◌+◌, ◌<◌, ◌≤◌, ◌^◌, ◌==◌, ◌&&◌, ℤ, pos, zero, suc, negsuc, not, unsigned_abs, List, [], ◌∷◌, length, map, filter, refl, ap, sym, subst, ◌∙◌, Option, Some, None, Result, Ok, Err, option_and_then, option_map, Bool, true, false, cond, nat_le, nat_lt, rules, arith, codes, eq-eqb, decimal}
-use Rattle.std.specs.Prelude.{All, bytes_eq}
+use Rattle.std.proofs.Common.{◌≡◌, ℕ, ◌+◌, ◌<◌, ◌≤◌, ◌^◌, ◌==◌, ◌&&◌, ℤ, pos, zero, suc, negsuc, not, unsigned_abs, List, [], ◌∷◌, length, map, filter, refl, ap, ◌∙◌, Option, Some, None, Ok, option_and_then, option_map, Bool, true, false, cond, nat_le, nat_lt, rules, arith, codes, eq-eqb, decimal}
+use Rattle.std.specs.Prelude.{All}
 use Rattle.std.proofs.lemmas.List.{length-map}
 use Rattle.std.proofs.lemmas.List.Elements.{All-head, All-tail, All-filter}
-use Rattle.serde_json.specs.Data.{Data, number, unsigned, string}
+use Rattle.serde_json.specs.Data.{Data}
 use Rattle.serde_json.specs.Find.{get}
 use Rattle.serde_json.specs.View.{items_of}
 use Rattle.it_number.specs.Limit.{IsWithin}
@@ -24,13 +24,12 @@ use Rattle.it_certificate.specs.declared.kinds.AnswerKind.{AnswerKind}
 use Rattle.it_certificate.specs.declared.kinds.AnswerKind.TheVariants as kinds
 use Rattle.it_certificate.specs.declared.kinds.CauseKind.{CauseKind}
 use Rattle.it_certificate.specs.declared.kinds.CauseKind.TheVariants as causes
-use Rattle.it_certificate.specs.Numerals.{step_of}
-use Rattle.it_certificate.specs.Values.{whole_value, count_value, list_value, pair_value, is_some_weight, proof_value, row_value, mark_text, rate_text, place_text, answer_value}
-use Rattle.it_certificate.specs.Parts.{text_of, whole_at, count_at, both, pair_at, all_of, list_at, of_length, certificate_by, certificate_at, answer_kind_at, proofs_at, point_at, back_at, cause_kind_at, cause_of, cause_at, step_or_rate, is_term_between, is_row_between, row_of, mark_at, terms_at, row_at, rows_at, set_of, set_at, parts_at, tried_at}
+use Rattle.it_certificate.specs.Values.{whole_value, count_value, pair_value, is_some_weight, proof_value, row_value, rate_text, place_text, answer_value}
+use Rattle.it_certificate.specs.Parts.{text_of, whole_at, count_at, both, pair_at, all_of, of_length, certificate_by, certificate_at, answer_kind_at, proofs_at, point_at, back_at, cause_kind_at, cause_of, cause_at, step_or_rate, is_term_between, is_row_between, row_of, mark_at, terms_at, row_at, rows_at, set_of, set_at, parts_at, tried_at}
 use Rattle.it_certificate.specs.AnswerReading.{or_key, and_then, is_equality, target_count, yes_at, no_at, undecided_at, region_at, contained_at, open_at}
 use Rattle.it_certificate.specs.Obligations.{obligation_count}
 use Rattle.it_certificate.specs.Reports.{prove_answer, eliminate_answer, contain_answer, verb_answer, question_answer, report_of}
-use Rattle.it_certificate.specs.Fits.{IsPair, IsNumbered, IsRowIn, IsFoundIn, IsCauseFor, FitsProve, FitsEliminate, FitsContainment, FitsContain, FitsVerb, FitsQuestion}
+use Rattle.it_certificate.specs.Fits.{IsPair, IsNumbered, IsRowIn, IsCauseFor, FitsProve, FitsEliminate, FitsContainment, FitsContain, FitsVerb, FitsQuestion}
 use Rattle.it_certificate.specs.Laws.{without_zeros, written_answer, ReadsBack}
 use Rattle.it_certificate.proofs.BackLemmas.{whole_back, count_back, step_back}
 use Rattle.it_certificate.proofs.QuestionLemmas.{found_text}

@@ -1,5 +1,5 @@
 -- Rows as they are read are canonical.
-use Rattle.std.proofs.Common.{◌≡◌, ◌≢◌, ℕ, ◌+◌, ◌<◌, ◌≤◌, ◌==◌, ◌&&◌, ℤ, pos, not, unsigned_abs, List, [], ◌∷◌, refl, ap, true, false, Bool, nat_le, arith, rules}
+use Rattle.std.proofs.Common.{◌≡◌, ◌≢◌, ℕ, ◌+◌, ◌≤◌, ◌==◌, ◌&&◌, ℤ, pos, not, unsigned_abs, [], ◌∷◌, refl, ap, true, false, Bool, nat_le, arith, rules}
 use Rattle.std.specs.Prelude.{All}
 use Rattle.std.proofs.lemmas.List.Elements.{All-head, All-tail}
 use Rattle.it_number.specs.Limit.{IsWithin}

@@ -1,5 +1,5 @@
 -- Answers of the shape that a question wants. What is read has it, and what has it reads back.
-use Rattle.std.specs.Prelude.{◌≡◌, ℕ, ◌<◌, ◌^◌, ℤ, List, length, Bool, true, All, Some, None}
+use Rattle.std.specs.Prelude.{◌≡◌, ℕ, ◌<◌, ◌^◌, ℤ, List, length, true, All, Some, None}
 use Rattle.it_number.specs.Limit.{IsWithin}
 use Rattle.it_space.specs.Rows.{Terms, IsCanonical, IsUpTo}
 use Rattle.it_space.specs.Spaces.{size_of}

@@ -1,5 +1,5 @@
 -- The members of a report's object, each as far as its shape goes.
-use Rattle.std.specs.Prelude.{ℕ, ◌+◌, ◌^◌, ◌==◌, ◌&&◌, not, unsigned_abs, ℤ, List, [], ◌∷◌, ◌++◌, length, Bool, true, if◌then◌else◌, codes, Option, Some, None, option_map, option_and_then, nat_le, nat_lt, bytes_eq}
+use Rattle.std.specs.Prelude.{ℕ, ◌+◌, ◌^◌, ◌==◌, ◌&&◌, not, unsigned_abs, ℤ, List, [], ◌∷◌, length, Bool, true, if◌then◌else◌, codes, Option, Some, None, option_map, option_and_then, nat_le, nat_lt, bytes_eq}
 use Rattle.serde_json.specs.Data.{Data, Items, no_items, item}
 use Rattle.serde_json.specs.Find.{get, as_str, as_array, as_number, as_u64}
 use Rattle.it_space.specs.Rows.{Terms}

@@ -26,6 +26,7 @@ pub fn fault(refusal: Refusal, key: Key) -> ReportFault
     }
 }
 
+/// Whether a relation of this sign is an equality, and so has two targets.
 fn is_equality(sign: Sign) -> bool
     ensures { result ≡ is_equality sign }
 {

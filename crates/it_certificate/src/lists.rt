@@ -12,7 +12,7 @@ use serde_json::Value;
 use std::alloc::Global;
 
 /// The two values of a pair.
-fn two(values: &[Value]) -> Option<(&Value, &Value)>
+fn two_values(values: &[Value]) -> Option<(&Value, &Value)>
     ensures { option_map (λ p. (view p.0.now, view p.1.now)) result ≡ two_of (items_view values.now) }
 {
     match values {
@@ -27,7 +27,7 @@ fn pair_at(value: &Value) -> Option<(u32, i128)>
     ensures { result ≡ pair_at (view value.now) }
 {
     let values = value.as_array()?;
-    let (number, weight) = two(values.as_slice())?;
+    let (number, weight) = two_values(values.as_slice())?;
     let number = count_at(number)?;
     let weight = whole_at(weight)?;
     Some((number, weight))
@@ -71,13 +71,7 @@ fn wholes(alloc: Global, values: &[Value]) -> Result<Vec<i128>, Refusal>
 pub fn array_of(value: Option<&Value>) -> Option<&[Value]>
     ensures { option_map (λ s. items_view s.now) result ≡ items_of_array (option_map (λ v. view v.now) value.entry) }
 {
-    match value {
-        Some(value) => match value.as_array() {
-            Some(values) => Some(values.as_slice()),
-            None => None,
-        },
-        None => None,
-    }
+    Some(value?.as_array()?.as_slice())
 }
 
 /// The pairs of a member.
@@ -104,10 +98,7 @@ pub fn wholes_of_member(alloc: Global, value: Option<&Value>) -> Result<Vec<i128
 fn whole_of_member(value: Option<&Value>) -> Option<i128>
     ensures { result ≡ option_and_then whole_at (option_map (λ v. view v.now) value.entry) }
 {
-    match value {
-        Some(value) => whole_at(value),
-        None => None,
-    }
+    whole_at(value?)
 }
 
 /// A certificate.

@@ -19,10 +19,7 @@ use std::alloc::Global;
 pub fn text_of_member(value: Option<&Value>) -> Option<&str>
     ensures { option_map (λ s. s.now) result ≡ text_of (option_map (λ v. view v.now) value.entry) }
 {
-    match value {
-        Some(value) => value.as_str(),
-        None => None,
-    }
+    value?.as_str()
 }
 
 /// The kind of the answer.
@@ -30,10 +27,7 @@ pub fn text_of_member(value: Option<&Value>) -> Option<&str>
 pub fn answer_kind_at(value: &Value) -> Option<AnswerKind>
     ensures { result ≡ answer_kind_at (view value.now) }
 {
-    match text_of_member(value.get("answer")) {
-        Some(text) => answer_kind_of(text),
-        None => None,
-    }
+    answer_kind_of(text_of_member(value.get("answer"))?)
 }
 
 /// So many certificates.
@@ -67,10 +61,7 @@ pub fn point_at(alloc: Global, value: &Value, count: usize) -> Result<Vec<i128>,
 pub fn back_at(value: &Value, equality: bool) -> Option<bool>
     ensures { result ≡ back_at equality (view value.now) }
 {
-    match text_of_member(value.get("side")) {
-        Some(text) => back_of(text, equality),
-        None => None,
-    }
+    back_of(text_of_member(value.get("side"))?, equality)
 }
 
 /// The kind of the cause.
@@ -78,10 +69,7 @@ pub fn back_at(value: &Value, equality: bool) -> Option<bool>
 pub fn cause_kind_at(value: &Value) -> Option<CauseKind>
     ensures { result ≡ cause_kind_at (view value.now) }
 {
-    match text_of_member(value.get("cause")) {
-        Some(text) => cause_kind_of(text),
-        None => None,
-    }
+    cause_kind_of(text_of_member(value.get("cause"))?)
 }
 
 /// A step, or else a rate.
@@ -90,10 +78,7 @@ fn step_or_rate(step: Option<u32>, rate: Option<u8>) -> Option<Cause>
 {
     match step {
         Some(step) => Some(Cause::Width(step)),
-        None => match rate {
-            Some(rate) => Some(Cause::WideRate(rate)),
-            None => None,
-        },
+        None => Some(Cause::WideRate(rate?)),
     }
 }
 
@@ -102,19 +87,13 @@ fn cause_of(names: &Names, kind: CauseKind, place: &str) -> Option<Cause>
     ensures { result ≡ cause_of names.now.rates kind place.now }
 {
     match kind {
-        CauseKind::Pivots => match step(place) {
-            Some(steps) => Some(Cause::Pivots(steps)),
-            None => None,
-        },
+        CauseKind::Pivots => Some(Cause::Pivots(step(place)?)),
         CauseKind::Width => step_or_rate(step(place), names.rate(place.as_bytes())),
         CauseKind::Scale => match place {
             "0" => Some(Cause::Scale),
             _ => None,
         },
-        CauseKind::Rows => match names.rate(place.as_bytes()) {
-            Some(rate) => Some(Cause::Rows(rate)),
-            None => None,
-        },
+        CauseKind::Rows => Some(Cause::Rows(names.rate(place.as_bytes())?)),
     }
 }
 
@@ -123,10 +102,7 @@ fn cause_of(names: &Names, kind: CauseKind, place: &str) -> Option<Cause>
 pub fn cause_at(value: &Value, names: &Names, kind: CauseKind) -> Option<Cause>
     ensures { result ≡ cause_at names.now.rates kind (view value.now) }
 {
-    match text_of_member(value.get("at")) {
-        Some(place) => cause_of(names, kind, place),
-        None => None,
-    }
+    cause_of(names, kind, text_of_member(value.get("at"))?)
 }
 
 /// How many candidates were tried.
@@ -134,8 +110,5 @@ pub fn cause_at(value: &Value, names: &Names, kind: CauseKind) -> Option<Cause>
 pub fn tried_at(value: &Value) -> Option<u32>
     ensures { result ≡ tried_at (view value.now) }
 {
-    match value.get("tried") {
-        Some(member) => count_at(member),
-        None => None,
-    }
+    count_at(value.get("tried")?)
 }

@@ -9,7 +9,7 @@ use serde_json::Value;
 const GREATEST: u128 = 170141183460469231731687303715884105727;
 
 /// One digit more, unless the number passes 2^127 - 1.
-fn next(n: u128, d: u8) -> Option<u128>
+fn with_digit(n: u128, d: u8) -> Option<u128>
     requires within { n < 2 ^ 127 }
     requires digit { 48 ≤ d }
     requires last { d ≤ 57 }
@@ -31,7 +31,7 @@ fn value(digits: &[u8]) -> Option<u128>
         if *d < 48 || *d > 57 {
             return None;
         }
-        match next(n, *d) {
+        match with_digit(n, *d) {
             Some(more) => n = more,
             None => return None,
         }
@@ -59,14 +59,8 @@ fn whole(text: &[u8]) -> Option<i128>
 {
     match text {
         [] => None,
-        [b'-', rest @ ..] => match magnitude(rest) {
-            Some(m) => Some(-(m as i128)),
-            None => None,
-        },
-        _ => match magnitude(text) {
-            Some(m) => Some(m as i128),
-            None => None,
-        },
+        [b'-', rest @ ..] => Some(-(magnitude(rest)? as i128)),
+        _ => Some(magnitude(text)? as i128),
     }
 }
 
@@ -75,10 +69,7 @@ fn whole(text: &[u8]) -> Option<i128>
 pub fn whole_at(value: &Value) -> Option<i128>
     ensures { result ≡ whole_at (view value.now) }
 {
-    match value.as_str() {
-        Some(text) => whole(text.as_bytes()),
-        None => None,
-    }
+    whole(value.as_str()?.as_bytes())
 }
 
 /// The number, unless it passes 32 bits.
@@ -93,10 +84,7 @@ fn count_of(n: u64) -> Option<u32>
 pub fn count_at(value: &Value) -> Option<u32>
     ensures { result ≡ count_at (view value.now) }
 {
-    match value.as_u64() {
-        Some(n) => count_of(n),
-        None => None,
-    }
+    count_of(value.as_u64()?)
 }
 
 /// The number, if it is from 0 to 4294967295.
@@ -115,8 +103,6 @@ fn count_of_whole(z: &i128) -> Option<u32>
 pub fn step(text: &str) -> Option<u32>
     ensures { result ≡ step_of text.now }
 {
-    match whole(text.as_bytes()) {
-        Some(z) => count_of_whole(&z),
-        None => None,
-    }
+    let number = whole(text.as_bytes())?;
+    count_of_whole(&number)
 }

@@ -15,7 +15,7 @@ use serde_json::Value;
 use std::alloc::Global;
 
 /// The only question of a list, if it has one.
-fn only(questions: Vec<Question>) -> Option<Question>
+fn single_question(questions: Vec<Question>) -> Option<Question>
     ensures one { IsOnly questions.items result }
     ensures limits { All (λ q. IsQuestion (question_body q)) questions.items → IfSome result (λ q. IsQuestion (question_body q)) }
 {
@@ -37,7 +37,7 @@ fn question_of(alloc: Global, text: &str) -> Result<Question, Refusal>
         return Err(Refusal::Shape);
     }
     match questions(alloc, bytes) {
-        Ok(all) => match only(all) {
+        Ok(all) => match single_question(all) {
             Some(question) => Ok(question),
             None => Err(Refusal::Shape),
         },
@@ -46,6 +46,7 @@ fn question_of(alloc: Global, text: &str) -> Result<Question, Refusal>
     }
 }
 
+/// The text of the question.
 fn question_text(value: &Value) -> Option<&str>
     ensures { option_map (λ s. s.now) result ≡ text_of (get (codes "question") (view value.now)) }
 {

@@ -52,10 +52,7 @@ fn row_of(terms: Vec<(u32, i128)>, size: u32) -> Option<Row>
 fn mark_at(value: &Value) -> Option<Mark>
     ensures { result ≡ mark_at (view value.now) }
 {
-    match text_of_member(value.get("mark")) {
-        Some(text) => mark_of(text),
-        None => None,
-    }
+    mark_of(text_of_member(value.get("mark"))?)
 }
 
 /// The terms of a row, each coefficient within the limit.

@@ -29,10 +29,7 @@ fn set_at(variables: u8, value: &Value) -> Option<VarSet>
     requires { variables ≤ 10 }
     ensures { result ≡ set_at variables (view value.now) }
 {
-    match count_at(value) {
-        Some(number) => set_of(variables, number),
-        None => None,
-    }
+    set_of(variables, count_at(value)?)
 }
 
 /// Sets in order.

@@ -38,6 +38,7 @@ fn pair(alloc: Global, pair: &(u32, i128)) -> Result<Value, AllocError>
     json!(in alloc; [pair.0, number])
 }
 
+/// Whether a weight is other than 0.
 fn is_some_weight(weight: &(u32, i128)) -> bool
     ensures { result ≡ is_some_weight weight.now }
 {
@@ -96,6 +97,7 @@ pub fn side_text(back: bool) -> &'static str
     if back { "back" } else { "forward" }
 }
 
+/// The word of a mark.
 fn mark_text(mark: Mark) -> &'static str
     ensures { result.now ≡ mark_text mark }
 {

@@ -1,5 +1,4 @@
 use Rattle.std.proofs.Common.{◌≡◌, ◌≤◌, ◌<◌, rules, arith, length, map, get_or, subst}
-use Rattle.it_syntax.specs.declared.types.Given.{Given}
 use Rattle.it_syntax.specs.Givens.{IsGivenOf, given_view}
 use Rattle.it_canon.proofs.ZipLemmas.{image-at}
 use Rattle.std.specs.List.{sum_by}
