@@ -1,9 +1,9 @@
 -- The line about a report's line, step by step as the code forms it.
-use Rattle.std.proofs.Common.{◌≡◌, ℕ, ℤ, lit<, ◌+◌, ◌^◌, ◌<◌, ◌≤◌, ◌-◌, List, [], ◌∷◌, length, Bool, true, false, Some, None, Result, Ok, Err, IfOk, IsUtf8, refl, sym, ap, ◌∙◌, subst, arith}
-use Rattle.std.proofs.lemmas.Nat.{pow_pos}
-use Rattle.serde_json.specs.Read.{read}
-use Rattle.it_space.specs.Answers.{AnswerView}
-use Rattle.it_space.specs.Answers.AnswerView.{Yes, No, Undecided, Region, Contained, Open}
+use Rattle.std.proofs.Common.{◌≡◌, ℕ, ℤ, lit<, ◌^◌, ◌<◌, ◌≤◌, List, length, take, Bool, true, false, Some, Result, Ok, Err, IfOk, refl, sym, ap, ◌∙◌, subst, arith}
+use Rattle.std.proofs.lemmas.List.Elements.{All-weaker}
+use Rattle.it_space.specs.declared.spaces.Space.{Space}
+use Rattle.it_space.specs.Answers.{AnswerView, CertificateView}
+use Rattle.it_space.specs.Answers.AnswerView.{Yes, No, Contained}
 use Rattle.it_space.specs.Problems.{ProblemView, IsProblem}
 use Rattle.it_space.specs.Rows.{Terms}
 use Rattle.it_space.specs.Spaces.{size_of}
@@ -16,19 +16,22 @@ use Rattle.it_question.specs.Questions.{BodyView, QuestionView, RegionView, Verb
 use Rattle.it_canon.specs.Canonical.{form_of}
 use Rattle.it_canon.specs.Demands.{AreStated}
 use Rattle.it_canon.specs.Targets.{targets, targets_by}
-use Rattle.it_canon.specs.QuestionDemands.{space_of, problem_names, problem_names_by, question_demands, AreRowsOf, Poses}
-use Rattle.it_canon.proofs.PosesLemmas.{as_many_rows}
-use Rattle.it_certificate.specs.declared.keys.Key.{Key}
+use Rattle.it_canon.specs.QuestionDemands.{space_of, problem_names, problem_names_by, question_demands, AreRowsOf}
+use Rattle.it_region.specs.declared.types.Candidate.{Candidate}
+use Rattle.it_region.specs.declared.types.Pair.{Pair}
+use Rattle.it_region.specs.Obligations.{obligations, ArePartsOf, ArePulledRows}
+use Rattle.it_region.specs.Pairs.{IsPair, IsPairOf, PairsBy, Pairs, IsContainment, Fits, pair_obligations}
+use Rattle.it_region.proofs.TextLemmas.{text_rows, parts_fit, rows_as_pulled}
 use Rattle.it_certificate.specs.AnswerReading.{is_equality}
-use Rattle.it_certificate.specs.Fits.{FitsQuestion, FitsVerb}
+use Rattle.it_certificate.specs.Fits.{FitsQuestion, FitsVerb, FitsContainment}
 use Rattle.it_certificate.specs.declared.keys.ReportFault.{ReportFault}
 use Rattle.it_certificate.specs.declared.keys.ReportFault.TheVariants as faults
 use Rattle.it_certificate.specs.Reports.{Reads, Reports}
 use Rattle.it_check.specs.declared.verdicts.Verdict.{Verdict}
-use Rattle.it_report.specs.RowVerdicts.{IsVerdictOver, place_named}
+use Rattle.it_report.specs.RowVerdicts.{place_named}
 use Rattle.it_report.specs.LineVerdicts.{LineVerdict, NotJson, Shape, Skipped, Judged, IsLineOf}
-use Rattle.it_report.specs.Judging.{answer_verdict, is_passed_over, IsJudged, IsAnswerVerdict, IsVerdict, HasAnswer, IsJudgedLine}
-use Rattle.it_report.specs.Steps.{IsFaultLine, IsJudgedAnswer}
+use Rattle.it_report.specs.Judging.{judged_forms_by, judged_forms, answer_verdict, is_passed_over, IsJudged, IsAnswerVerdict, IsVerdict, IsJudgedLine}
+use Rattle.it_report.specs.Steps.{IsAboutRelation, IsFaultLine, IsJudgedAnswer}
 
 -- ---- lines
 
@@ -57,64 +60,64 @@ module _ {L E : Type 0} (text : L → List ℕ) (invalid : L → Bool) (k : ℕ)
   judged q a names v (Ok j) h told = record { verdict = Judged names v; is = h; told = told }
   judged q a names v (Err e) h told = tt
 
--- ---- answers that are passed over
+-- ---- the question that an answer fits
 
 pub verb_fits : (q : BodyView) (a : AnswerView) (verb : VerbView) → q.verb ≡ verb → FitsQuestion q a → FitsVerb q.names verb a
 unfolding FitsQuestion
 verb_fits q a verb e h = subst (λ v. FitsVerb q.names v a) e h
 
-pub eliminate_passed : (q : BodyView) (a : AnswerView) (rates : List ℕ) → q.verb ≡ Eliminate rates → FitsQuestion q a → is_passed_over a ≡ true
-eliminate_passed q a rates e h = by a (verb_fits q a (Eliminate rates) e h)
+pub yes_about : (q : BodyView) (ws : List CertificateView) → FitsQuestion q (Yes ws) → IsAboutRelation q.verb
+yes_about q ws h = by q.verb (verb_fits q (Yes ws) q.verb refl h)
   where
-    by : (a : AnswerView) → FitsVerb q.names (Eliminate rates) a → is_passed_over a ≡ true
-    by (Yes ws) h = absurd h
-    by (No back values) h = absurd h
-    by (Undecided cause) h = refl
-    by (Region rows) h = refl
-    by (Contained parts proofs) h = refl
-    by (Open tried) h = refl
+    by : (verb : VerbView) → FitsVerb q.names verb (Yes ws) → IsAboutRelation verb
+    by (Prove r) h = tt
+    by (Eliminate rates) h = absurd h
+    by (Contain first second tries) h = absurd h
 
-pub contain_passed : (q : BodyView) (a : AnswerView) (first second : RegionView) (tries : List (List ℕ)) → q.verb ≡ Contain first second tries → FitsQuestion q a → is_passed_over a ≡ true
-contain_passed q a first second tries e h = by a (verb_fits q a (Contain first second tries) e h)
+pub no_about : (q : BodyView) (back : Bool) (values : List ℤ) → FitsQuestion q (No back values) → IsAboutRelation q.verb
+no_about q back values h = by q.verb (verb_fits q (No back values) q.verb refl h)
   where
-    by : (a : AnswerView) → FitsVerb q.names (Contain first second tries) a → is_passed_over a ≡ true
-    by (Yes ws) h = absurd h
-    by (No back values) h = absurd h
-    by (Undecided cause) h = refl
-    by (Region rows) h = refl
-    by (Contained parts proofs) h = refl
-    by (Open tried) h = refl
+    by : (verb : VerbView) → FitsVerb q.names verb (No back values) → IsAboutRelation verb
+    by (Prove r) h = tt
+    by (Eliminate rates) h = absurd h
+    by (Contain first second tries) h = absurd h
+
+pub contained_about : (q : BodyView) (parts : List ℕ) (ws : List CertificateView) → FitsQuestion q (Contained parts ws) → IsContainment q.verb
+contained_about q parts ws h = by q.verb (verb_fits q (Contained parts ws) q.verb refl h)
+  where
+    by : (verb : VerbView) → FitsVerb q.names verb (Contained parts ws) → IsContainment verb
+    by (Prove r) h = absurd h
+    by (Eliminate rates) h = absurd h
+    by (Contain first second tries) h = tt
 
 -- ---- the problem and the rows
 
-module _ (q : BodyView) (r : RelationView) (p : ProblemView) (ts : List Terms) (about : q.verb ≡ Prove r) (space : p.space ≡ space_of (problem_names q)) (are : AreRowsOf p.space (targets p.space.variables r) ts) where
-  own_space : p.space ≡ space_of q.names
-  own_space = space ∙ ap (λ v. space_of (problem_names_by q.names v)) about
-
-  pub has_verdict : (a : AnswerView) (v : Verdict) → IsProblem p → AreStated p.space (question_demands q) p.constraints → answer_verdict p ts a ≡ Some v → IsJudged q a q.names v
-  has_verdict a v limits stated e = record {
-    relation = r;
-    about = about;
-    poses = record {
-      problem = p;
-      rows = ts;
-      space = space;
-      limits = limits;
-      constraints = stated;
-      targets_are = subst (λ n. AreRowsOf p.space (targets n r) ts) (ap (λ s. s.variables) space) are;
-    };
-    own_names = refl;
+module _ (q : BodyView) (p : ProblemView) (space : p.space ≡ space_of (problem_names q)) (limits : IsProblem p) (stated : AreStated p.space (question_demands q) p.constraints) where
+  pub has_verdict : (a : AnswerView) (ts : List Terms) (names : NamesView) (v : Verdict) → ArePulledRows p.space (judged_forms q a) ts → names ≡ problem_names q → answer_verdict p ts a ≡ Some v → IsJudged q a names v
+  has_verdict a ts names v are own e = record {
+    problem = p;
+    space = space;
+    limits = limits;
+    constraints = stated;
+    rows = ts;
+    are = are;
+    own_names = own;
     verdict = e;
   }
 
-  pub over_names : (v : Verdict) → IsVerdictOver (size_of p.space + 1) v → IsVerdictOver (2 ^ length q.names.variables + length q.names.rates) v
-  over_names v h = subst (λ b. IsVerdictOver b v) (ap (λ s. size_of s + 1) own_space ∙ same) h
-    where
-      same : 2 ^ length q.names.variables - 1 + length q.names.rates + 1 ≡ 2 ^ length q.names.variables + length q.names.rates
-      same = omega (arith, pow_pos (length q.names.variables))
+-- ---- a relation
 
-  pub complete : (back : Bool) (values : List ℤ) → FitsQuestion q (No back values) → length values ≡ size_of p.space
-  complete back values h = (verb_fits q (No back values) (Prove r) about h).0 ∙ sym (ap size_of own_space)
+module _ (q : BodyView) (r : RelationView) (about : q.verb ≡ Prove r) where
+  relation_names : problem_names q ≡ q.names
+  relation_names = ap (λ v. problem_names_by q.names v) about
+
+  -- the targets' rows
+  pub target_rows_are : (a : AnswerView) (s : Space) (ts : List Terms) → s ≡ space_of (problem_names q) → AreRowsOf s (targets s.variables r) ts → ArePulledRows s (judged_forms q a) ts
+  target_rows_are a s ts e are = rows_as_pulled s (judged_forms q a) ts
+      (subst (λ fs. AreRowsOf s fs ts) (ap (λ n. targets n r) (ap (λ s. s.variables) e) ∙ sym (ap (λ v. judged_forms_by q v a) about)) are)
+
+  pub complete : (back : Bool) (values : List ℤ) (s : Space) → s ≡ space_of (problem_names q) → FitsQuestion q (No back values) → length values ≡ size_of s
+  complete back values s e h = (verb_fits q (No back values) (Prove r) about h).0 ∙ sym (ap size_of (e ∙ ap space_of relation_names))
 
   one_target : (n : ℕ) → 0 < length (targets n r)
   one_target n = by r.sign (form_of n r)
@@ -132,12 +135,46 @@ module _ (q : BodyView) (r : RelationView) (p : ProblemView) (ts : List Terms) (
       by AtMost f e = absurd (cc)
       by Equal f e = lit< tt
 
-  pub named : (back : Bool) (values : List ℤ) → FitsQuestion q (No back values) → place_named back < length ts
-  named back values h = by back (verb_fits q (No back values) (Prove r) about h).2
+  pub named : (back : Bool) (values : List ℤ) (n : ℕ) (ts : List Terms) → length ts ≡ length (targets n r) → FitsQuestion q (No back values) → place_named back < length ts
+  named back values n ts as_many h = by back (verb_fits q (No back values) (Prove r) about h).2
     where
-      as_many : length ts ≡ length (targets p.space.variables r)
-      as_many = as_many_rows p.space (targets p.space.variables r) ts are
-
       by : (back : Bool) → (back ≡ true → is_equality r.sign ≡ true) → place_named back < length ts
-      by true equal = omega (arith, as_many, two_targets p.space.variables (equal refl))
-      by false equal = omega (arith, as_many, one_target p.space.variables)
+      by true equal = omega (arith, as_many, two_targets n (equal refl))
+      by false equal = omega (arith, as_many, one_target n)
+
+-- ---- a containment
+
+pub pair_is_of : (q : BodyView) (first second : RegionView) (tries : List (List ℕ)) (p : Pair) → q.verb ≡ Contain first second tries → Pairs q p → IsPairOf q first second p
+pair_is_of q first second tries p e h = subst (λ v. PairsBy q v p) e h
+
+pub parts_as_named : (first second : RegionView) (parts : List ℕ) (ws : List CertificateView) → FitsContainment first second parts ws → ArePartsOf first second parts
+parts_as_named first second parts ws h = record {
+  count = h.each;
+  within = All-weaker (λ s. (s < 2 ^ 32) × (s < 2 ^ length first.names.variables)) (λ s. s < 2 ^ length first.names.variables) (λ s k. k.1) parts h.sets;
+}
+
+module _ (q : BodyView) (p : Pair) (parts : List ℕ) (ws : List CertificateView) (l : IsPair p) (pairs : Pairs q p) (fits : FitsQuestion q (Contained parts ws)) where
+  of_pair : (P : Type 0) → ((first second : RegionView) (tries : List (List ℕ)) → q.verb ≡ Contain first second tries → IsPairOf q first second p → ArePartsOf first second parts → P) → P
+  of_pair P f = by q.verb refl
+    where
+      by : (verb : VerbView) → q.verb ≡ verb → P
+      by (Prove r) e = absurd (verb_fits q (Contained parts ws) (Prove r) e fits)
+      by (Eliminate rates) e = absurd (verb_fits q (Contained parts ws) (Eliminate rates) e fits)
+      by (Contain first second tries) e = f first second tries e (pair_is_of q first second tries p e pairs) (parts_as_named first second parts ws (verb_fits q (Contained parts ws) (Contain first second tries) e fits))
+
+  pub few_parts : length parts ≤ 4
+  few_parts = of_pair (length parts ≤ 4) (λ first second tries e o h. omega (arith, h.count, o.parts, l.few_parts))
+
+  pub pair_space : p.first.space ≡ space_of (problem_names q)
+  pair_space = of_pair (p.first.space ≡ space_of (problem_names q)) (λ first second tries e o h. o.first_space ∙ sym (ap (λ v. space_of (problem_names_by q.names v)) e))
+
+  pub pair_stated : AreStated p.first.space (question_demands q) p.first.constraints.items
+  pair_stated = of_pair (AreStated p.first.space (question_demands q) p.first.constraints.items) (λ first second tries e o h. o.first)
+
+  pub candidate_fits : (c : Candidate) → length c.parts ≡ 4 → c.count ≡ length parts → take c.count c.parts ≡ parts → Fits p c
+  candidate_fits c four count same = of_pair (Fits p c) (λ first second tries e o h. parts_fit q first second p o c parts four count same h)
+
+  -- the obligations' rows
+  pub obligation_rows_are : (c : Candidate) (ts : List Terms) → take c.count c.parts ≡ parts → ArePulledRows p.first.space (pair_obligations p c) ts → ArePulledRows p.first.space (judged_forms q (Contained parts ws)) ts
+  obligation_rows_are c ts same are = of_pair (ArePulledRows p.first.space (judged_forms q (Contained parts ws)) ts) (λ first second tries e o h.
+      subst (λ fs. ArePulledRows p.first.space fs ts) (ap (obligations q first second) same ∙ sym (ap (λ v. judged_forms_by q v (Contained parts ws)) e)) (text_rows q first second p o c ts are))

@@ -1,4 +1,5 @@
 pub mod VerdictLemmas
 pub mod JudgingLemmas
+pub mod CountLemmas
 pub mod OneLemmas
 pub mod TruthLemmas

@@ -1,22 +1,26 @@
 -- A line has one verdict.
-use Rattle.std.proofs.Common.{◌≡◌, ℕ, List, Bool, true, false, Option, Some, None, Result, Ok, Err, IsUtf8, refl, sym, ap, ap₂, subst, ◌∙◌}
+use Rattle.std.proofs.Common.{◌≡◌, ℕ, List, true, Some, None, Result, Ok, Err, IsUtf8, refl, sym, ap, ap₂, subst, ◌∙◌}
 use Rattle.serde_json.specs.Read.{read}
 use Rattle.serde_json.specs.Data.{Data}
+use Rattle.it_space.specs.declared.spaces.Space.{Space}
+use Rattle.it_space.specs.declared.problems.Constraint.{Constraint}
 use Rattle.it_space.specs.Answers.{AnswerView}
 use Rattle.it_space.specs.Answers.AnswerView.{Yes, No, Undecided, Region, Contained, Open}
 use Rattle.it_space.specs.Problems.{ProblemView}
 use Rattle.it_space.specs.Rows.{Terms}
-use Rattle.it_syntax.specs.Meaning.{RelationView}
 use Rattle.it_syntax.specs.NamesViews.{NamesView}
-use Rattle.it_question.specs.Questions.{BodyView, QuestionView, VerbView, Prove}
-use Rattle.it_canon.specs.QuestionDemands.{Poses}
-use Rattle.it_canon.proofs.PosesLemmas.{one_problem, same_rows}
+use Rattle.it_question.specs.Questions.{BodyView, QuestionView}
+use Rattle.it_canon.specs.Demands.{AreStated}
+use Rattle.it_canon.specs.QuestionDemands.{question_demands}
+use Rattle.it_canon.proofs.UniqueRows.{one_constraint_list}
+use Rattle.it_region.specs.Obligations.{ArePulledRows}
+use Rattle.it_region.proofs.TextLemmas.{pulled_rows_told}
 use Rattle.it_certificate.specs.declared.keys.Key.{Key}
 use Rattle.it_certificate.specs.Reports.{Reads}
 use Rattle.it_certificate.proofs.OneLemmas.{one_reading}
 use Rattle.it_check.specs.declared.verdicts.Verdict.{Verdict}
 use Rattle.it_report.specs.LineVerdicts.{LineVerdict, NotJson, Shape, Skipped, Judged}
-use Rattle.it_report.specs.Judging.{answer_verdict, is_passed_over, IsJudged, HasAnswer, IsVerdict}
+use Rattle.it_report.specs.Judging.{judged_forms, answer_verdict, is_passed_over, IsJudged, HasAnswer}
 use Rattle.it_report.specs.Meaning.{OneVerdict}
 
 abbrev pub Reading : Type 0
@@ -46,9 +50,6 @@ one_pair x y e = cc
 same_some : (v w : Verdict) → Some v ≡ Some w → v ≡ w
 same_some v w e = cc
 
-pub one_relation : (r s : RelationView) → Prove r ≡ Prove s → r ≡ s
-one_relation r s e = cc
-
 none_judged : (v : Verdict) → None ≡ Some v → ⊥
 none_judged v e = cc
 
@@ -57,24 +58,33 @@ passed_or_judged p ts (Yes ws) v h e = absurd (cc)
 passed_or_judged p ts (No back values) v h e = absurd (cc)
 passed_or_judged p ts (Undecided cause) v h e = none_judged v e
 passed_or_judged p ts (Region rows) v h e = none_judged v e
-passed_or_judged p ts (Contained parts proofs) v h e = none_judged v e
+passed_or_judged p ts (Contained parts proofs) v h e = absurd (cc)
 passed_or_judged p ts (Open tried) v h e = none_judged v e
 
--- a question about a relation poses one problem
-same_posed : (q : BodyView) (a : AnswerView) (r s : RelationView) → r ≡ s → (x : Poses q r) (y : Poses q s) → answer_verdict x.problem x.rows a ≡ answer_verdict y.problem y.rows a
-same_posed q a r s e x = subst (λ t. (y : Poses q t) → answer_verdict x.problem x.rows a ≡ answer_verdict y.problem y.rows a) e
-    (λ y. ap₂ (λ p ts. answer_verdict p ts a) (one_problem q r x y) (same_rows q r x y))
+-- a question poses one problem
+one_problem : (q : BodyView) (a : AnswerView) (m n : NamesView) (v w : Verdict) (h : IsJudged q a m v) (k : IsJudged q a n w) → h.problem ≡ k.problem
+one_problem q a m n v w h k = ap₂ (λ (s : Space) (cs : List Constraint). record { space = s; constraints = cs }) same
+    (one_constraint_list k.problem.space (question_demands q) h.problem.constraints k.problem.constraints
+    (subst (λ (s : Space). AreStated s (question_demands q) h.problem.constraints) same h.constraints) k.constraints)
+  where
+    same : h.problem.space ≡ k.problem.space
+    same = h.space ∙ sym k.space
+
+-- and its answer's forms have one list of rows
+one_row_list : (q : BodyView) (a : AnswerView) (m n : NamesView) (v w : Verdict) (h : IsJudged q a m v) (k : IsJudged q a n w) → h.rows ≡ k.rows
+one_row_list q a m n v w h k =
+    pulled_rows_told k.problem.space (judged_forms q a) h.rows k.rows (subst (λ (s : Space). ArePulledRows s (judged_forms q a) h.rows) (h.space ∙ sym k.space) h.are) k.are
 
 same_judged : (q : BodyView) (a : AnswerView) (m n : NamesView) (v w : Verdict) → IsJudged q a m v → IsJudged q a n w → Judged m v ≡ Judged n w
 same_judged q a m n v w h k =
     ap₂ Judged (h.own_names ∙ sym k.own_names)
-    (same_some v w (sym h.verdict ∙ same_posed q a h.relation k.relation (one_relation h.relation k.relation (sym h.about ∙ k.about)) h.poses k.poses ∙ k.verdict))
+    (same_some v w (sym h.verdict ∙ ap₂ (λ p ts. answer_verdict p ts a) (one_problem q a m n v w h k) (one_row_list q a m n v w h k) ∙ k.verdict))
 
 judged_once : (x y : Reading) → x ≡ y → (m n : NamesView) (v w : Verdict) → IsJudged x.0.body x.1 m v → IsJudged y.0.body y.1 n w → Judged m v ≡ Judged n w
 judged_once x y e m n v w h k = same_judged x.0.body x.1 m n v w h (subst (λ z. IsJudged z.0.body z.1 n w) (sym e) k)
 
 passed_once : (x y : Reading) → x ≡ y → (n : NamesView) (w : Verdict) → is_passed_over x.1 ≡ true → IsJudged y.0.body y.1 n w → ⊥
-passed_once x y e n w h k = passed_or_judged k.poses.problem k.poses.rows y.1 w (subst (λ z. is_passed_over z.1 ≡ true) e h) k.verdict
+passed_once x y e n w h k = passed_or_judged k.problem k.rows y.1 w (subst (λ z. is_passed_over z.1 ≡ true) e h) k.verdict
 
 abbrev pair : (line : List ℕ) (v : LineVerdict) → HasAnswer line v → Reading
 pair line v h = (h.question, h.answer)

@@ -7,7 +7,6 @@ use Rattle.it_space.specs.declared.answers.Certificate.{Certificate}
 use Rattle.it_space.specs.Answers.{CertificateView, certificate_view}
 use Rattle.it_space.specs.Problems.{ProblemView}
 use Rattle.it_space.specs.Rows.{Terms}
-use Rattle.it_space.specs.Spaces.{size_of}
 use Rattle.it_elemental.specs.Generators.{Generator, generator_at, is_equation}
 use Rattle.it_check.specs.Sums.{sum_within}
 use Rattle.it_check.specs.Verdicts.{or_else, valid_unless, of_scale, of_weight, of_weights, left_number, right_number, of_numbers, of_coordinate, of_coordinates, yes_verdict, violates, violation, of_value, of_generator, of_generators, of_target, no_verdict}

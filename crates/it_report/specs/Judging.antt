@@ -1,26 +1,48 @@
--- The verdict on each line of a report: what its answer says of its question, against the problem and the rows that the question poses.
-use Rattle.std.specs.Prelude.{◌≡◌, ℕ, List, Bool, true, false, Option, Some, None, Ok, Err, IsUtf8}
+-- The verdict on each line of a report: what its answer says of its question, against the problem that the question poses and the
+-- rows of the forms that the answer speaks of.
+use Rattle.std.specs.Prelude.{◌≡◌, ℕ, List, [], Bool, true, false, Option, Some, None, Ok, Err, IsUtf8}
 use Rattle.serde_json.specs.Read.{read}
 use Rattle.it_space.specs.Answers.{AnswerView}
 use Rattle.it_space.specs.Answers.AnswerView.{Yes, No, Undecided, Region, Contained, Open}
-use Rattle.it_space.specs.Problems.{ProblemView}
+use Rattle.it_space.specs.Problems.{ProblemView, IsProblem}
 use Rattle.it_space.specs.Rows.{Terms}
-use Rattle.it_syntax.specs.Meaning.{RelationView}
+use Rattle.it_polymatroid.specs.Certificates.{Form}
 use Rattle.it_syntax.specs.NamesViews.{NamesView}
-use Rattle.it_question.specs.Questions.{BodyView, QuestionView, Prove}
-use Rattle.it_canon.specs.QuestionDemands.{Poses}
+use Rattle.it_question.specs.Questions.{BodyView, QuestionView, VerbView, Prove, Eliminate, Contain}
+use Rattle.it_canon.specs.Demands.{AreStated}
+use Rattle.it_canon.specs.QuestionDemands.{space_of, problem_names, variables_of, question_demands}
+use Rattle.it_canon.specs.Targets.{targets}
+use Rattle.it_region.specs.Obligations.{obligations, ArePulledRows}
 use Rattle.it_certificate.specs.Reports.{Reads}
 use Rattle.it_check.specs.declared.verdicts.Verdict.{Verdict}
 use Rattle.it_report.specs.RowVerdicts.{proofs_verdict, point_verdict}
 use Rattle.it_report.specs.LineVerdicts.{LineVerdict, NotJson, Shape, Skipped, Judged, IsLineOf}
 
--- the verdict on an answer, by the problem and the targets' rows; a yes and a no have one
+-- the sets that an answer names
+abbrev pub parts_of : AnswerView → List ℕ
+parts_of (Yes ws) = []
+parts_of (No back values) = []
+parts_of (Undecided cause) = []
+parts_of (Region rows) = []
+parts_of (Contained parts proofs) = parts
+parts_of (Open tried) = []
+
+-- what an answer speaks of: the targets of the relation, or the obligations of the parts that it names
+abbrev pub judged_forms_by : BodyView → VerbView → AnswerView → List Form
+judged_forms_by q (Prove r) answer = targets (variables_of q) r
+judged_forms_by q (Eliminate rates) answer = []
+judged_forms_by q (Contain first second tries) answer = obligations q first second (parts_of answer)
+
+abbrev pub judged_forms : BodyView → AnswerView → List Form
+judged_forms q answer = judged_forms_by q q.verb answer
+
+-- the verdict on an answer, by the problem and the rows of these forms; where it claims something of all polymatroids, or of one
 abbrev pub answer_verdict : ProblemView → List Terms → AnswerView → Option Verdict
 answer_verdict p ts (Yes ws) = Some (proofs_verdict p ts ws)
 answer_verdict p ts (No back values) = Some (point_verdict p ts back values)
 answer_verdict p ts (Undecided cause) = None
 answer_verdict p ts (Region rows) = None
-answer_verdict p ts (Contained parts proofs) = None
+answer_verdict p ts (Contained parts proofs) = Some (proofs_verdict p ts proofs)
 answer_verdict p ts (Open tried) = None
 
 -- an answer that isn't judged
@@ -29,16 +51,19 @@ is_passed_over (Yes ws) = false
 is_passed_over (No back values) = false
 is_passed_over (Undecided cause) = true
 is_passed_over (Region rows) = true
-is_passed_over (Contained parts proofs) = true
+is_passed_over (Contained parts proofs) = false
 is_passed_over (Open tried) = true
 
--- the answer to the question, which is about a relation, has this verdict; the names are the question's
+-- the answer to the question has this verdict; the names are those of the problem, so of a containment its first region's
 pub record IsJudged (q : BodyView) (answer : AnswerView) (names : NamesView) (v : Verdict) : Type 0 where
-  pub relation : RelationView
-  pub about : q.verb ≡ Prove relation
-  pub poses : Poses q relation
-  pub own_names : names ≡ q.names
-  pub verdict : answer_verdict poses.problem poses.rows answer ≡ Some v
+  pub problem : ProblemView
+  pub space : problem.space ≡ space_of (problem_names q)
+  pub limits : IsProblem problem
+  pub constraints : AreStated problem.space (question_demands q) problem.constraints
+  pub rows : List Terms
+  pub are : ArePulledRows problem.space (judged_forms q answer) rows
+  pub own_names : names ≡ problem_names q
+  pub verdict : answer_verdict problem rows answer ≡ Some v
 
 -- the verdict on an answer to a question
 abbrev pub IsAnswerVerdict : BodyView → AnswerView → LineVerdict → Type 0

@@ -1,15 +1,15 @@
 -- What the verdicts mean.
-use Rattle.std.specs.Prelude.{◌≡◌, ℕ, ℤ, pos, neg_ℤ, ◌≤ℤ◌, List, length, get_or, Ok}
+use Rattle.std.specs.Prelude.{◌≡◌, ℕ, ℤ, pos, neg_ℤ, ◌≤ℤ◌, List, get_or, Ok}
 use Rattle.it_space.specs.Answers.{AnswerView}
 use Rattle.it_space.specs.Answers.AnswerView.{Yes, No, Undecided, Region, Contained, Open}
 use Rattle.it_space.specs.Rows.{map_of}
-use Rattle.it_polymatroid.specs.Certificates.{Form}
 use Rattle.it_polymatroid.specs.Polymatroid.{IsPolymatroid}
 use Rattle.it_syntax.specs.Meaning.{RelationView, Holds}
 use Rattle.it_syntax.specs.NamesViews.{NamesView}
-use Rattle.it_question.specs.Questions.{BodyView, QuestionView, Prove}
-use Rattle.it_canon.specs.QuestionDemands.{problem_names, problem_lines, AreTrueAt}
+use Rattle.it_question.specs.Questions.{BodyView, QuestionView, RegionView, VerbView, Prove, Eliminate, Contain}
+use Rattle.it_canon.specs.QuestionDemands.{variables_of, problem_lines, AreTrueAt}
 use Rattle.it_canon.specs.Targets.{targets}
+use Rattle.it_region.specs.Regions.{LiesIn}
 use Rattle.it_certificate.specs.Reports.{Reads}
 use Rattle.it_check.specs.declared.verdicts.Verdict.TheVariants.{Valid}
 use Rattle.it_report.specs.RowVerdicts.{place_named}
@@ -20,26 +20,40 @@ use Rattle.it_report.specs.Judging.{IsVerdict}
 abbrev pub OneVerdict : Type 0
 OneVerdict = (line : List ℕ) (v w : LineVerdict) → IsVerdict line v → IsVerdict line w → v ≡ w
 
--- how many variables the question's problem has
-abbrev pub variables_of : BodyView → ℕ
-variables_of q = length (problem_names q).variables
-
 -- a polymatroid and rates at which the question's lines are true
 abbrev pub AreTrueTogether : BodyView → (ℕ → ℤ) → Type 0
 AreTrueTogether q p = IsPolymatroid (variables_of q) p × AreTrueAt (variables_of q) p (problem_lines q)
 
 -- What an answer claims of a relation. A yes: it holds wherever a polymatroid and rates make the question's lines true. A no: the
 -- point is such a place, and the target on its side is -1 or less there.
-abbrev pub IsClaimTrue : BodyView → RelationView → AnswerView → Type 0
-IsClaimTrue q r (Yes ws) = (p : ℕ → ℤ) → AreTrueTogether q p → Holds (variables_of q) p r
-IsClaimTrue q r (No back values) =
+abbrev pub IsRelationClaim : BodyView → RelationView → AnswerView → Type 0
+IsRelationClaim q r (Yes ws) = (p : ℕ → ℤ) → AreTrueTogether q p → Holds (variables_of q) p r
+IsRelationClaim q r (No back values) =
     AreTrueTogether q (map_of values) × (get_or (targets (variables_of q) r) (place_named back) (λ p. pos 0) (map_of values) ≤ℤ neg_ℤ (pos 1))
-IsClaimTrue q r (Undecided cause) = Unit {0}
-IsClaimTrue q r (Region rows) = Unit {0}
-IsClaimTrue q r (Contained parts proofs) = Unit {0}
-IsClaimTrue q r (Open tried) = Unit {0}
+IsRelationClaim q r (Undecided cause) = Unit {0}
+IsRelationClaim q r (Region rows) = Unit {0}
+IsRelationClaim q r (Contained parts proofs) = Unit {0}
+IsRelationClaim q r (Open tried) = Unit {0}
+
+-- And of two regions: that the first lies in the second.
+abbrev pub IsRegionClaim : BodyView → RegionView → RegionView → AnswerView → Type 0
+IsRegionClaim q first second (Yes ws) = Unit {0}
+IsRegionClaim q first second (No back values) = Unit {0}
+IsRegionClaim q first second (Undecided cause) = Unit {0}
+IsRegionClaim q first second (Region rows) = Unit {0}
+IsRegionClaim q first second (Contained parts proofs) = LiesIn q first second
+IsRegionClaim q first second (Open tried) = Unit {0}
+
+abbrev pub IsClaimTrueBy : BodyView → VerbView → AnswerView → Type 0
+IsClaimTrueBy q (Prove r) answer = IsRelationClaim q r answer
+IsClaimTrueBy q (Eliminate rates) answer = Unit {0}
+IsClaimTrueBy q (Contain first second tries) answer = IsRegionClaim q first second answer
+
+-- what an answer claims is true
+abbrev pub IsClaimTrue : BodyView → AnswerView → Type 0
+IsClaimTrue q answer = IsClaimTrueBy q q.verb answer
 
 -- The claim of a line with the verdict `Valid` is true.
 abbrev pub ValidIsTrue : Type 0
-ValidIsTrue = (line : List ℕ) (names : NamesView) (q : QuestionView) (r : RelationView) (answer : AnswerView)
-    → IsVerdict line (Judged names Valid) → Reads line (Ok (q, answer)) → q.body.verb ≡ Prove r → IsClaimTrue q.body r answer
+ValidIsTrue = (line : List ℕ) (names : NamesView) (q : QuestionView) (answer : AnswerView)
+    → IsVerdict line (Judged names Valid) → Reads line (Ok (q, answer)) → IsClaimTrue q.body answer

@@ -1,11 +1,17 @@
 -- No public clause cites this module: the lines of faults and of answers, of which the line about a report's line is one.
 use Rattle.std.specs.Prelude.{ℕ, List, Bool}
 use Rattle.it_space.specs.Answers.{AnswerView}
-use Rattle.it_question.specs.Questions.{BodyView}
+use Rattle.it_question.specs.Questions.{BodyView, VerbView, Prove, Eliminate, Contain}
 use Rattle.it_certificate.specs.declared.keys.ReportFault.{ReportFault}
 use Rattle.it_certificate.specs.declared.keys.ReportFault.TheVariants as faults
 use Rattle.it_report.specs.LineVerdicts.{LineVerdict, NotJson, Shape, IsLineOf}
 use Rattle.it_report.specs.Judging.{IsAnswerVerdict}
+
+-- the question is about a relation
+abbrev pub IsAboutRelation : VerbView → Type 0
+IsAboutRelation (Prove r) = Unit {0}
+IsAboutRelation (Eliminate rates) = ⊥
+IsAboutRelation (Contain first second tries) = ⊥
 
 -- the line about a line that has no reading
 abbrev pub IsFaultLine : ℕ → ReportFault → List ℕ → Bool → Type 0

@@ -1,0 +1,39 @@
+use Rattle.std.proofs.Common.{◌≡◌, map, rules, sym, ap, subst, Some}
+use Rattle.it_space.specs.Answers.{certificate_view}
+use Rattle.it_space.specs.Answers.AnswerView.{Contained}
+use Rattle.it_space.specs.Problems.{problem_view}
+use Rattle.it_question.specs.Questions.{question_body}
+use Rattle.it_report.specs.Judging.{answer_verdict}
+use Rattle.it_report.proofs.JudgingLemmas.{judged, has_verdict, contained_about, few_parts, pair_space, pair_stated, candidate_fits, obligation_rows_are}
+use Rattle.it_report.proofs.judging.contained_line.Goals as goal
+
+pub pair-requires-clause-contains : goal.pair-requires-clause-contains
+pair-requires-clause-contains c = contained_about (question_body c.args.question.now) c.args.parts.now (map certificate_view c.args.proofs.now) c.requires.fits
+
+pub candidate-requires : goal.candidate-requires
+candidate-requires c =
+    few_parts (question_body c.args.question.now) c.in_ok-pair.pair c.args.parts.now (map certificate_view c.args.proofs.now) c.in_ok-pair.ensures.limits c.in_ok-pair.ensures.pair c.requires.fits
+
+pub obligations-requires-clause-fits : goal.obligations-requires-clause-fits
+obligations-requires-clause-fits c =
+    candidate_fits (question_body c.args.question.now) c.in_ok-pair.pair c.args.parts.now (map certificate_view c.args.proofs.now) c.in_ok-pair.ensures.limits c.in_ok-pair.ensures.pair c.requires.fits
+    c.candidate.result (search rules) c.candidate.ensures.count c.candidate.ensures.parts
+
+pub returns : goal.returns
+returns c =
+    let q = question_body c.args.question.now in
+    let pair = c.in_ok-pair.pair in
+    let p = problem_view pair.first in
+    let ws = map certificate_view c.args.proofs.now in
+    let parts = c.args.parts.now in
+    let a = Contained parts ws in
+    let v = c.proofs_verdict-verdict.result in
+    let limits = c.in_ok-pair.ensures.limits in
+    let pairs = c.in_ok-pair.ensures.pair in
+    let fits = c.requires.fits in
+    let e : answer_verdict p c.in_ok-rows.rows.items a ≡ Some v
+    = subst (λ ts. answer_verdict p ts a ≡ Some v) c.as_slice.ensures.value (ap Some (sym c.proofs_verdict-verdict.ensures.verdict)) in
+    let are = obligation_rows_are q pair parts ws limits pairs fits c.candidate.result c.in_ok-rows.rows.items c.candidate.ensures.parts c.in_ok-rows.ensures.rows in
+    judged (λ j. j.text.items) (λ j. j.invalid) c.args.k q a c.problem_names.result.now v c.verdict_line.result
+    (has_verdict q p (pair_space q pair parts ws limits pairs fits) limits.problem (pair_stated q pair parts ws limits pairs fits) a c.in_ok-rows.rows.items c.problem_names.result.now v are c.problem_names.ensures e)
+    c.verdict_line.ensures
