@@ -1,8 +1,8 @@
--- The verdict on the line of a right answer: `Valid` for a yes and a no, `Skipped` for the others.
-use Rattle.std.proofs.Common.{◌≡◌, ℕ, zero, suc, ◌+◌, ◌<◌, ◌≤◌, ◌^◌, ℤ, pos, neg_ℤ, ◌≤ℤ◌, List, [], ◌∷◌, length, decimal, slice_index_or, Bool, true, false, Some, Ok, All, IsUtf8, IsAscii, if◌then◌else◌, refl, sym, ap, subst, ◌∙◌, arith, inl, inr, lit≤}
+-- The verdict on the line of a right answer: `Valid` for a yes, a no and a containment, `Skipped` for the others.
+use Rattle.std.proofs.Common.{◌≡◌, ℕ, zero, suc, ◌+◌, ◌<◌, ◌≤◌, ◌^◌, ℤ, pos, neg_ℤ, ◌≤ℤ◌, List, [], ◌∷◌, length, decimal, slice_index_or, Bool, true, false, Option, Some, IfSome, Ok, All, IsUtf8, IsAscii, if◌then◌else◌, refl, sym, ap, subst, ◌∙◌, arith, inl, inr, lit≤}
 use Rattle.std.specs.List.{AllByRecursion as Every}
 use Rattle.std.proofs.lemmas.Fmt.{IsAscii-decimal_wide}
-use Rattle.std.proofs.lemmas.List.Elements.{All-head, All-tail}
+use Rattle.std.proofs.lemmas.List.Elements.{All-head, All-tail, All-weaker}
 use Rattle.std.proofs.lemmas.Str.{IsUtf8-from_ascii}
 use Rattle.std.proofs.lemmas.Str.Ascii.{IsAscii-nil, IsAscii-cons}
 use Rattle.serde_json.specs.Data.{depth}
@@ -13,7 +13,7 @@ use Rattle.it_space.specs.declared.answers.Cause.TheVariants as causes
 use Rattle.it_space.specs.declared.answers.Mark.{Mark}
 use Rattle.it_space.specs.Answers.{AnswerView, CertificateView}
 use Rattle.it_space.specs.Answers.AnswerView.{Yes, No, Undecided, Region, Contained, Open}
-use Rattle.it_space.specs.Problems.{ProblemView}
+use Rattle.it_space.specs.Problems.{ProblemView, IsProblem, problem_view}
 use Rattle.it_space.specs.Rows.{Terms, map_of, value}
 use Rattle.it_space.specs.Spaces.{size_of}
 use Rattle.it_polymatroid.specs.Certificates.{Form, IsCertificate}
@@ -30,34 +30,42 @@ use Rattle.it_prove.specs.ProofViews.{Follows, EndsWith}
 use Rattle.it_syntax.specs.Meaning.{RelationView}
 use Rattle.it_syntax.specs.NamesViews.{NamesView}
 use Rattle.it_question.specs.AsciiTexts.{IsAsciiQuestion}
-use Rattle.it_question.specs.Questions.{BodyView, QuestionView, VerbView, Prove, Eliminate, Contain}
+use Rattle.it_question.specs.Questions.{BodyView, QuestionView, RegionView, VerbView, Prove, Eliminate, Contain}
 use Rattle.it_question.specs.Files.{IsFile}
 use Rattle.it_question.specs.Limits.{IsQuestion, IsVerbOver}
 use Rattle.it_question.proofs.AsciiLemmas.{texts_are_ascii}
 use Rattle.it_canon.specs.Canonical.{IsRowOf}
 use Rattle.it_canon.specs.Targets.{targets}
-use Rattle.it_canon.specs.QuestionDemands.{space_of, problem_names, problem_lines, question_demands, AreTrueAt, AreRowsOf, Poses}
+use Rattle.it_canon.specs.QuestionDemands.{space_of, problem_names, variables_of, problem_lines, question_demands, AreTrueAt, AreRowsOf, Poses}
 use Rattle.it_canon.proofs.ProblemLemmas.{question_met}
+use Rattle.it_region.specs.declared.types.Candidate.{Candidate}
+use Rattle.it_region.specs.Obligations.{obligations, ArePulledRows}
+use Rattle.it_region.proofs.TextLemmas.{text_rows, rows_as_pulled}
+use Rattle.it_contain.specs.Proposals.{Plan}
+use Rattle.it_contain.specs.Search.{AreProofsOf}
 use Rattle.it_answer.specs.declared.types.Budgets.{Budgets}
-use Rattle.it_answer.specs.Forms.{all_demands, generators_by}
-use Rattle.it_answer.specs.RightAnswers.{variables_of, CertifiesForm, IsCounterexample, CertifyAll, ViolatesFirst, ProofsAreDue, PointIsDue, IsRightFor, IsRightAnswer, IsRightAnswerBy}
+use Rattle.it_answer.specs.Forms.{all_demands, generators_by, CertifiesForm, CertifyAll}
+use Rattle.it_answer.specs.Replies.{Reply}
+use Rattle.it_answer.specs.RightAnswers.{IsCounterexample, ViolatesFirst, ProofsAreDue, PointIsDue, IsRightFor, IsRightAnswer, IsRightAnswerBy}
+use Rattle.it_answer.specs.RightContainments.{IsRightContainment}
 use Rattle.it_answer.specs.RightRegions.{IsRightElimination}
 use Rattle.it_eliminate.proofs.MemberLemmas.{every_member}
 use Rattle.it_space.proofs.EveryLemmas.{every_of}
 use Rattle.it_answer.proofs.FormLemmas.{spoken, by_rows}
-use Rattle.it_answer.proofs.UniqueLemmas.{a_yes_ascends}
 use Rattle.it_certificate.specs.Fits.{FitsQuestion, FitsVerb, IsCauseFor}
 use Rattle.it_certificate.specs.Laws.{ReadsBack, written_answer}
 use Rattle.it_certificate.specs.Reports.{Reads}
 use Rattle.it_certificate.specs.Values.{answer_value, answer_text, place_text}
 use Rattle.it_report.specs.RowVerdicts.{is_valid, proof_verdict, proofs_verdict, point_verdict}
 use Rattle.it_report.specs.LineVerdicts.{LineVerdict, Skipped, Judged, is_invalid}
-use Rattle.it_report.specs.Judging.{answer_verdict, is_passed_over, IsVerdict}
+use Rattle.it_report.specs.Judging.{judged_forms_by, judged_forms, answer_verdict, is_passed_over, IsJudged, IsVerdict}
+use Rattle.it_report.proofs.JudgingLemmas.{has_verdict}
 use Rattle.it_report.proofs.OneLemmas.{one_verdict}
-use Rattle.it_cli.proofs.DataLemmas.{IsPlain, yes_plain, no_plain, undecided_plain, region_plain, yes_low, no_low, undecided_low, region_low, answer_text_utf8, answer_text_back}
+use Rattle.it_cli.proofs.DataLemmas.{IsPlain, yes_plain, no_plain, undecided_plain, region_plain, contained_plain, open_plain, yes_low, no_low, undecided_low, region_low, contained_low, open_low, answer_text_utf8, answer_text_back}
 use Rattle.it_cli.proofs.RegionFits.{right_region_fits}
 use Rattle.it_cli.proofs.FeedLemmas.{IsNoFeed, answer_text_clear}
-use Rattle.it_cli.proofs.JsonLemmas.{right_prove_fits, eliminated_cause_fits, written_whole, yes_same, no_same}
+use Rattle.it_cli.proofs.JsonLemmas.{right_prove_fits, right_yes_ascends, eliminated_cause_fits, written_whole, yes_same, no_same}
+use Rattle.it_cli.proofs.ContainedFits.{pair_space, contained_fits, contained_ascends}
 use Rattle.it_cli.proofs.NameFits.{rates_found}
 use Rattle.it_cli.specs.Accepted.{ReportsAreAccepted}
 
@@ -79,7 +87,7 @@ point_fits p t values (Point qs) (inr h) = let e = h.1 in absurd (cc)
 point_fits p t values (Pivots k) e = absurd (cc)
 point_fits p t values (Width k) e = absurd (cc)
 
-module _ (q : BodyView) (r : RelationView) (b : Poses q r) (steps : ℕ) where
+module _ (q : BodyView) (r : RelationView) (b : Poses q r) (budget : Option ℕ) where
   to_problem : (P : Space → Type 0) → P (space_of (problem_names q)) → P b.problem.space
   to_problem P x = subst P (sym b.space) x
 
@@ -97,10 +105,10 @@ module _ (q : BodyView) (r : RelationView) (b : Poses q r) (steps : ℕ) where
     violated = subst (λ (x : ℤ). x ≤ℤ neg_ℤ (pos 1)) (sym (row.same (map_of values) refl)) c.violated;
   }
 
-  proof_valid : (f : Form) (t : Terms) (w : CertificateView) → IsRowOf b.problem.space f t → CertifiesForm q f w → EndsWith b.problem t steps (proof_views.Yes w) → proof_verdict b.problem t w ≡ Valid
+  proof_valid : (f : Form) (t : Terms) (w : CertificateView) → IsRowOf b.problem.space f t → CertifiesForm q f w → EndsWith b.problem t budget (proof_views.Yes w) → proof_verdict b.problem t w ≡ Valid
   proof_valid f t w row c d = (valid_yes_is b.problem t w b.limits row.coordinates).1 (certifies f t w row c, certificate_fits b.problem t w d.end d.follows)
 
-  proofs_valid : (fs : List Form) (ts : List Terms) (ws : List CertificateView) → AreRowsOf b.problem.space fs ts → CertifyAll q fs ws → ProofsAreDue b.problem steps ts ws → proofs_verdict b.problem ts ws ≡ Valid
+  proofs_valid : (fs : List Form) (ts : List Terms) (ws : List CertificateView) → AreRowsOf b.problem.space fs ts → CertifyAll q fs ws → ProofsAreDue b.problem budget ts ws → proofs_verdict b.problem ts ws ≡ Valid
   unfolding proofs_verdict
   proofs_valid [] [] ws z c d = refl
   proofs_valid [] (t ∷ ts) ws z c d = absurd z
@@ -109,7 +117,7 @@ module _ (q : BodyView) (r : RelationView) (b : Poses q r) (steps : ℕ) where
   proofs_valid (f ∷ fs) (t ∷ ts) (w ∷ ws) z c d =
       ap (λ v. if is_valid v then proofs_verdict b.problem ts ws else v) (proof_valid f t w z.0 c.0 d.0) ∙ proofs_valid fs ts ws z.1 c.1 d.1
 
-  point_valid : (fs : List Form) (ts : List Terms) (back : Bool) (values : List ℤ) → AreRowsOf b.problem.space fs ts → ViolatesFirst q fs back values → PointIsDue b.problem steps ts back values
+  point_valid : (fs : List Form) (ts : List Terms) (back : Bool) (values : List ℤ) → AreRowsOf b.problem.space fs ts → ViolatesFirst q fs back values → PointIsDue b.problem budget ts back values
       → point_verdict b.problem ts back values ≡ Valid
   unfolding point_verdict
   point_valid [] ts back values z c d = absurd c
@@ -122,6 +130,17 @@ module _ (q : BodyView) (r : RelationView) (b : Poses q r) (steps : ℕ) where
   point_valid (f ∷ g ∷ fs) (t ∷ u ∷ ts) true values z c d =
       let refuted = refutes g u values z.1.0 c.1 in
       (valid_no_is b.problem u values b.limits z.1.0.coordinates refuted.complete).1 (refuted, point_fits b.problem u values d.1.end d.1.follows)
+
+-- ---- the proofs of a candidate are valid
+
+proofs_by_valid : (p : ProblemView) (budget : Option ℕ) (fs : List Form) (ts : List Terms) (ws : List CertificateView) → IsProblem p → ArePulledRows p.space fs ts → AreProofsOf p budget ts ws → proofs_verdict p ts ws ≡ Valid
+unfolding proofs_verdict
+proofs_by_valid p budget [] [] ws l z d = refl
+proofs_by_valid p budget [] (t ∷ ts) ws l z d = absurd z
+proofs_by_valid p budget (f ∷ fs) [] ws l z d = absurd z
+proofs_by_valid p budget (f ∷ fs) (t ∷ ts) [] l z d = absurd d
+proofs_by_valid p budget (f ∷ fs) (t ∷ ts) (w ∷ ws) l z d =
+    ap (λ v. if is_valid v then proofs_verdict p ts ws else v) ((valid_yes_is p t w l z.0.coordinates).1 d.0.right) ∙ proofs_by_valid p budget fs ts ws l z.1 d.1
 
 -- ---- lines
 
@@ -174,13 +193,13 @@ module _ (back : ReadsBack) (q : QuestionView) (short : length q.text ≤ 104857
   clear_of : (a : AnswerView) → IsPlain (answer_value q.text q.body.names a) → Every IsNoFeed (line_of a)
   clear_of a plain = answer_text_clear q.text q.body.names a plain
 
-  judged : (r : RelationView) (a : AnswerView) (line : List ℕ) → Every IsNoFeed line → q.body.verb ≡ Prove r → (b : Poses q.body r) → answer_verdict b.problem b.rows a ≡ Some Valid → Reads line (Ok (q, a)) → IsAccepted line
-  judged r a line clear about b e reads = accepted line (Judged q.body.names Valid) clear (record {
-    question = q;
-    answer = a;
-    reads = reads;
-    verdict = record { relation = r; about = about; poses = b; own_names = refl; verdict = e };
-  }) refl
+  judged : (a : AnswerView) (line : List ℕ) → Every IsNoFeed line → IsJudged q.body a (problem_names q.body) Valid → Reads line (Ok (q, a)) → IsAccepted line
+  judged a line clear verdict reads = accepted line (Judged (problem_names q.body) Valid) clear (record { question = q; answer = a; reads = reads; verdict = verdict }) refl
+
+  -- by the problem and the targets' rows of its relation
+  by_relation : (r : RelationView) (a : AnswerView) → q.body.verb ≡ Prove r → (b : Poses q.body r) → answer_verdict b.problem b.rows a ≡ Some Valid → IsJudged q.body a (problem_names q.body) Valid
+  by_relation r a about b e = has_verdict q.body b.problem b.space b.limits b.constraints a b.rows (problem_names q.body) Valid
+      (rows_as_pulled b.problem.space (judged_forms q.body a) b.rows (subst (λ fs. AreRowsOf b.problem.space fs b.rows) (sym (ap (λ v. judged_forms_by q.body v a) about)) b.targets_are)) refl e
 
   skipped : (a : AnswerView) (line : List ℕ) → Every IsNoFeed line → is_passed_over a ≡ true → Reads line (Ok (q, a)) → IsAccepted line
   skipped a line clear e reads = accepted line Skipped clear (record { question = q; answer = a; reads = reads; verdict = e }) refl
@@ -197,32 +216,33 @@ module _ (back : ReadsBack) (q : QuestionView) (short : length q.text ≤ 104857
       skipped (Region rows) (line_of (Region rows)) (clear_of (Region rows) plain) refl
       (line_reads (Region rows) (question_fits q.body (Region rows) (Eliminate rates) about fits) plain (region_low q.text q.body.names rows))
 
-  module _ (budgets : Budgets) (few : budgets.pivots < 2 ^ 32) where
-    yes_accepted : (r : RelationView) (ws : List CertificateView) → q.body.verb ≡ Prove r → IsRightFor budgets.pivots q.body r (Yes ws) → IsRightAnswer budgets q.body (Yes ws) → IsAccepted (line_of (Yes ws))
-    yes_accepted r ws about right answer =
+  module _ (budgets : Budgets) (few : IfSome budgets.pivots (λ n. n < 2 ^ 32)) where
+    yes_accepted : (r : RelationView) (ws : List CertificateView) → q.body.verb ≡ Prove r → IsRightFor budgets.pivots q.body r (Yes ws) → IsAccepted (line_of (Yes ws))
+    yes_accepted r ws about right =
         let fits = right_prove_fits budgets.pivots q.body r (Yes ws) few about right in
         let e = proofs_valid q.body r right.poses budgets.pivots (targets (variables_of q.body) r) right.poses.rows ws right.poses.targets_are right.shows right.due in
         let plain = yes_plain q.text q.body.names text_is ws fits.1 in
         let reads = line_reads (Yes ws) (question_fits q.body (Yes ws) (Prove r) about fits) plain (yes_low q.text q.body.names ws) in
-        judged r (Yes ws) (line_of (Yes ws)) (clear_of (Yes ws) plain) about right.poses (ap Some e) (subst (λ us. Reads (line_of (Yes ws)) (Ok (q, Yes us))) (written_whole ws (a_yes_ascends budgets q.body ws answer)) reads)
+        judged (Yes ws) (line_of (Yes ws)) (clear_of (Yes ws) plain) (by_relation r (Yes ws) about right.poses (ap Some e))
+        (subst (λ us. Reads (line_of (Yes ws)) (Ok (q, Yes us))) (written_whole ws (right_yes_ascends budgets.pivots q.body r ws right)) reads)
 
     no_accepted : (r : RelationView) (is_back : Bool) (values : List ℤ) → q.body.verb ≡ Prove r → IsRightFor budgets.pivots q.body r (No is_back values) → IsAccepted (line_of (No is_back values))
     no_accepted r is_back values about right =
         let fits = right_prove_fits budgets.pivots q.body r (No is_back values) few about right in
         let e = point_valid q.body r right.poses budgets.pivots (targets (variables_of q.body) r) right.poses.rows is_back values right.poses.targets_are right.shows right.due in
         let plain = no_plain q.text q.body.names text_is is_back values fits.1 in
-        judged r (No is_back values) (line_of (No is_back values)) (clear_of (No is_back values) plain) about right.poses (ap Some e)
+        judged (No is_back values) (line_of (No is_back values)) (clear_of (No is_back values) plain) (by_relation r (No is_back values) about right.poses (ap Some e))
         (line_reads (No is_back values) (question_fits q.body (No is_back values) (Prove r) about fits) plain (no_low q.text q.body.names is_back values))
 
-    prove_accepted : (r : RelationView) (a : AnswerView) → q.body.verb ≡ Prove r → IsRightFor budgets.pivots q.body r a → IsRightAnswer budgets q.body a → IsAccepted (line_of a)
-    prove_accepted r (Yes ws) about right answer = yes_accepted r ws about right answer
-    prove_accepted r (No is_back values) about right answer = no_accepted r is_back values about right
-    prove_accepted r (Undecided c) about right answer =
+    prove_accepted : (r : RelationView) (a : AnswerView) → q.body.verb ≡ Prove r → IsRightFor budgets.pivots q.body r a → IsAccepted (line_of a)
+    prove_accepted r (Yes ws) about right = yes_accepted r ws about right
+    prove_accepted r (No is_back values) about right = no_accepted r is_back values about right
+    prove_accepted r (Undecided c) about right =
         let fits = right_prove_fits budgets.pivots q.body r (Undecided c) few about right in
         undecided_accepted c (question_fits q.body (Undecided c) (Prove r) about fits) fits
-    prove_accepted r (Region rows) about right answer = absurd right.shows
-    prove_accepted r (Contained parts proofs) about right answer = absurd right.shows
-    prove_accepted r (Open tried) about right answer = absurd right.shows
+    prove_accepted r (Region rows) about right = absurd right.shows
+    prove_accepted r (Contained parts proofs) about right = absurd right.shows
+    prove_accepted r (Open tried) about right = absurd right.shows
 
     eliminate_accepted : (rates : List ℕ) (a : AnswerView) → q.body.verb ≡ Eliminate rates → IsQuestion q.body → IsRightElimination budgets.rows q.body rates a → IsAccepted (line_of a)
     eliminate_accepted rates (Yes ws) about k right = absurd right.shows
@@ -235,14 +255,49 @@ module _ (back : ReadsBack) (q : QuestionView) (short : length q.text ≤ 104857
     eliminate_accepted rates (Contained parts proofs) about k right = absurd right.shows
     eliminate_accepted rates (Open tried) about k right = absurd right.shows
 
-    verb_accepted : (verb : VerbView) (a : AnswerView) → q.body.verb ≡ verb → IsQuestion q.body → IsRightAnswer budgets q.body a → IsRightAnswerBy budgets q.body verb a → IsAccepted (line_of a)
-    verb_accepted (Prove r) a about k answer right = prove_accepted r a about right answer
-    verb_accepted (Eliminate rates) a about k answer right = eliminate_accepted rates a about k right
-    verb_accepted (Contain first second tries) a about k answer right = absurd right
+    contained_accepted : (plans : List Plan) (first second : RegionView) (tries : List (List ℕ)) (parts : List ℕ) (ws : List CertificateView) (found : List Candidate) → q.body.verb ≡ Contain first second tries
+        → IsRightContainment budgets plans q.body first second tries (record { answer = Contained parts ws; found = found }) → IsAccepted (line_of (Contained parts ws))
+    contained_accepted plans first second tries parts ws found about right =
+        let a = Contained parts ws in
+        let p = problem_view right.pair.first in
+        let c = right.due.candidate in
+        let proofs = right.due.proofs in
+        let fits = contained_fits budgets plans q.body first second tries parts ws found about right in
+        let plain = contained_plain q.text q.body.names text_is parts ws (All-weaker (λ s. (s < 2 ^ 32) × (s < 2 ^ length first.names.variables)) (λ s. s < 2 ^ 32) (λ s h. h.0) parts fits.sets) fits.numbers in
+        let reads = line_reads a (question_fits q.body a (Contain first second tries) about fits) plain (contained_low q.text q.body.names parts ws) in
+        let rows : ArePulledRows p.space (obligations q.body first second parts) proofs.rows =
+        subst (λ ps. ArePulledRows p.space (obligations q.body first second ps) proofs.rows) (sym right.due.parts_are) (text_rows q.body first second right.pair right.pairs c proofs.rows proofs.are) in
+        let e = proofs_by_valid p budgets.pivots (obligations q.body first second parts) proofs.rows ws right.limits.problem rows proofs.proofs in
+        let verdict = has_verdict q.body p (pair_space budgets plans q.body first second tries (record { answer = a; found = found }) about right) right.limits.problem right.pairs.first a proofs.rows (problem_names q.body) Valid
+        (subst (λ fs. ArePulledRows p.space fs proofs.rows) (sym (ap (λ v. judged_forms_by q.body v a) about)) rows) refl (ap Some e) in
+        judged a (line_of a) (clear_of a plain) verdict
+        (subst (λ us. Reads (line_of a) (Ok (q, Contained parts us))) (written_whole ws (contained_ascends budgets plans q.body first second tries parts ws found right)) reads)
 
-pub right_accepted : ReadsBack → (budgets : Budgets) (q : QuestionView) (a : AnswerView) → budgets.pivots < 2 ^ 32 → length q.text ≤ 1048577 → IsFile q.text (q ∷ []) → IsQuestion q.body → IsRightAnswer budgets q.body a
-    → IsAccepted (answer_text q.text q.body.names a)
-right_accepted back budgets q a few short file k right = verb_accepted back q short file budgets few q.body.verb a refl k right right
+    open_accepted : (plans : List Plan) (first second : RegionView) (tries : List (List ℕ)) (tried : ℕ) (found : List Candidate) → budgets.tries < 2 ^ 32 → q.body.verb ≡ Contain first second tries
+        → IsRightContainment budgets plans q.body first second tries (record { answer = Open tried; found = found }) → IsAccepted (line_of (Open tried))
+    open_accepted plans first second tries tried found short about right =
+        let l : tried < 2 ^ 32 = let is = right.due.0.tried_is in omega (arith, is, short) in
+        let plain = open_plain q.text q.body.names text_is tried l in
+        skipped (Open tried) (line_of (Open tried)) (clear_of (Open tried) plain) refl
+        (line_reads (Open tried) (question_fits q.body (Open tried) (Contain first second tries) about l) plain (open_low q.text q.body.names tried))
+
+    contain_accepted : (plans : List Plan) (first second : RegionView) (tries : List (List ℕ)) (a : AnswerView) (found : List Candidate) → budgets.tries < 2 ^ 32 → q.body.verb ≡ Contain first second tries
+        → IsRightContainment budgets plans q.body first second tries (record { answer = a; found = found }) → IsAccepted (line_of a)
+    contain_accepted plans first second tries (Yes ws) found short about right = absurd right.shows
+    contain_accepted plans first second tries (No is_back values) found short about right = absurd right.shows
+    contain_accepted plans first second tries (Undecided c) found short about right = absurd right.shows
+    contain_accepted plans first second tries (Region rows) found short about right = absurd right.shows
+    contain_accepted plans first second tries (Contained parts proofs) found short about right = contained_accepted plans first second tries parts proofs found about right
+    contain_accepted plans first second tries (Open tried) found short about right = open_accepted plans first second tries tried found short about right
+
+    verb_accepted : (plans : List Plan) (verb : VerbView) (reply : Reply) → q.body.verb ≡ verb → budgets.tries < 2 ^ 32 → IsQuestion q.body → IsRightAnswerBy budgets plans q.body verb reply → IsAccepted (line_of reply.answer)
+    verb_accepted plans (Prove r) reply about short k right = prove_accepted r reply.answer about right.0
+    verb_accepted plans (Eliminate rates) reply about short k right = eliminate_accepted rates reply.answer about k right.0
+    verb_accepted plans (Contain first second tries) reply about short k right = contain_accepted plans first second tries reply.answer reply.found short about right
+
+pub right_accepted : ReadsBack → (budgets : Budgets) (plans : List Plan) (q : QuestionView) (reply : Reply) → IfSome budgets.pivots (λ n. n < 2 ^ 32) → budgets.tries < 2 ^ 32 → length q.text ≤ 1048577 → IsFile q.text (q ∷ [])
+    → IsQuestion q.body → IsRightAnswer budgets plans q.body reply → IsAccepted (answer_text q.text q.body.names reply.answer)
+right_accepted back budgets plans q reply few tries short file k right = verb_accepted back q short file budgets few plans q.body.verb reply refl tries k right
 
 pub reports_are_accepted : ReadsBack → ReportsAreAccepted
-reports_are_accepted back budgets q a few short file k right = (right_accepted back budgets q a few short file k right).verdicts
+reports_are_accepted back budgets plans q reply few tries short file k right = (right_accepted back budgets plans q reply few tries short file k right).verdicts

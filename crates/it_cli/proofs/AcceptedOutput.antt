@@ -1,5 +1,5 @@
 -- The lines of a report that mode `answer` writes are those of the answers, and no verdict on one is invalid.
-use Rattle.std.proofs.Common.{◌≡◌, ℕ, ◌+◌, ◌<◌, ◌≤◌, ◌^◌, Bool, false, ◌||◌, List, [], ◌∷◌, ◌++◌, length, All, refl, sym, ap, subst, ◌∙◌, arith, append_assoc}
+use Rattle.std.proofs.Common.{◌≡◌, ℕ, ◌+◌, ◌<◌, ◌≤◌, ◌^◌, Bool, false, ◌||◌, List, [], ◌∷◌, ◌++◌, map, length, All, IfSome, refl, sym, ap, subst, ◌∙◌, arith, append_assoc}
 use Rattle.std.proofs.lemmas.List.Elements.{All-head, All-tail}
 use Rattle.it_outside.specs.Groups.{Groups}
 use Rattle.it_settings.specs.declared.types.Format.TheVariants.{Json}
@@ -10,6 +10,7 @@ use Rattle.it_question.specs.Questions.{QuestionView}
 use Rattle.it_question.proofs.TextLaws.{text_reads_back}
 use Rattle.it_certificate.specs.Laws.{ReadsBack}
 use Rattle.it_certificate.specs.Values.{answer_text}
+use Rattle.it_contain.specs.Proposals.{Plan, plan_after_all}
 use Rattle.it_answer.specs.declared.types.Budgets.{Budgets}
 use Rattle.it_cli.specs.Accepted.{OutputIsAccepted}
 use Rattle.it_cli.specs.Outputs.{IsVerdictAfter, after_verdict, verdict_text_of, verdict_status}
@@ -18,19 +19,19 @@ use Rattle.it_cli.proofs.AcceptLemmas.{right_accepted}
 use Rattle.it_cli.proofs.FeedLemmas.{split_one}
 use Rattle.it_cli.proofs.ShortTexts.{texts_are_short}
 
-module _ (back : ReadsBack) (budgets : Budgets) (few : budgets.pivots < 2 ^ 32) (bytes : List ℕ) (short : length bytes ≤ 1048576) (whole : List QuestionView) (file : IsFile bytes whole) where
+module _ (back : ReadsBack) (budgets : Budgets) (plans : List Plan) (few : IfSome budgets.pivots (λ n. n < 2 ^ 32)) (few_tries : budgets.tries < 2 ^ 32) (bytes : List ℕ) (short : length bytes ≤ 1048576) (whole : List QuestionView) (file : IsFile bytes whole) where
   -- the verdicts on these lines, from number j on
   abbrev Judges : ℕ → Bool → List (List ℕ) → Bool → List ℕ → Type 0
   Judges j before lines some told = Groups IsVerdictAfter after_verdict verdict_text_of j before lines some told
 
   none_invalid : (k j : ℕ) (front qs : List QuestionView) (s t : Context) (some : Bool) (out told : List ℕ) → whole ≡ front ++ qs → All (λ q. IsQuestion q.body) qs → All (λ q. length q.text ≤ length bytes + 1) qs
-      → Groups (IsRightAfter budgets) after_answer (answer_text_of Json) k s qs t out → Judges j false (split_lines out) some told → some ≡ false
+      → Groups (IsRightAfter budgets plans) after_answer (answer_text_of Json) k s qs t out → Judges j false (split_lines out) some told → some ≡ false
   none_invalid k j front [] s t some out told e limits lengths g v = (subst (λ (o : List ℕ). Judges j false (split_lines o) some told) g.1 v).0
   none_invalid k j front (q ∷ qs) s t some out told e limits lengths g v =
       let long = All-head (λ (q : QuestionView). length q.text ≤ length bytes + 1) q qs lengths in
       let limit = All-head (λ (q : QuestionView). IsQuestion q.body) q qs limits in
-      let fine = right_accepted back budgets q g.0 few (omega (arith, long, short)) (text_reads_back bytes whole qs q front file e) limit g.2 in
-      let line = answer_text q.text q.body.names g.0 in
+      let fine = right_accepted back budgets (map (plan_after_all s) plans) q g.0 few few_tries (omega (arith, long, short)) (text_reads_back bytes whole qs q front file e) limit g.2 in
+      let line = answer_text q.text q.body.names g.0.answer in
       let cut : split_lines out ≡ line ∷ split_lines g.1 = ap split_lines g.4 ∙ split_one line g.1 fine.clear in
       let w = subst (λ (ls : List (List ℕ)). Judges j false ls some told) cut v in
       let ok = fine.verdicts w.0 w.2 in
@@ -39,7 +40,7 @@ module _ (back : ReadsBack) (budgets : Budgets) (few : budgets.pivots < 2 ^ 32) 
       (subst (λ (b : Bool). Judges (j + 1) (false || b) (split_lines g.1) some w.1) ok w.3)
 
 pub output_is_accepted : ReadsBack → OutputIsAccepted
-output_is_accepted back pivots rows tries bytes out told answered checked few short a c =
+output_is_accepted back plans pivots rows tries bytes out told answered checked few few_tries short a c =
     let file = a.0.asked.read in
-    let none = none_invalid back (budgets_of pivots rows tries) few bytes short a.0.questions file 1 1 [] a.0.questions tt a.0.answered.0 c.0 out told refl a.0.asked.limits (texts_are_short bytes a.0.questions file) a.0.answered.1 c.1 in
+    let none = none_invalid back (budgets_of pivots rows tries) plans few few_tries bytes short a.0.questions file 1 1 [] a.0.questions [] a.0.answered.0 c.0 out told refl a.0.asked.limits (texts_are_short bytes a.0.questions file) a.0.answered.1 c.1 in
     c.2 ∙ ap verdict_status none

@@ -5,6 +5,7 @@ use Rattle.std.proofs.lemmas.List.{nil_from_length}
 use Rattle.it_outside.specs.Traffic.{Gains, TookFront}
 use Rattle.it_outside.proofs.GroupLemmas.{UnderWay, under_way_first, under_way_more, under_way_done, under_way_stops, under_way_waits}
 use Rattle.it_settings.specs.declared.types.Settings.TheVariants.{Check}
+use Rattle.it_contain.specs.Proposals.{Plan}
 use Rattle.it_question.specs.Lines.{split_lines}
 use Rattle.it_report.specs.Judging.{IsJudgedLine}
 use Rattle.it_cli.specs.Outputs.{IsVerdictAfter, after_verdict, verdict_text_of, verdict_status}
@@ -43,23 +44,23 @@ checked_more a b c bytes rest line behind k some_invalid invalid text piece h sp
       counted = omega (arith, h.counted);
     }
 
-pub checked_stops : (a b c : Option (List ℕ)) (bytes rest line behind : List ℕ) (k : ℕ) (some_invalid invalid : Bool) (text piece : List ℕ) → IsChecked a b bytes rest k some_invalid
-    → split_lines rest ≡ line ∷ split_lines behind → IsJudgedLine (k + 1) line text invalid → piece ≡ text → TookFront b c piece → WroteInPart a c Check bytes
-checked_stops a b c bytes rest line behind k some_invalid invalid text piece h split judged same took =
+pub checked_stops : (plans : List Plan) (a b c : Option (List ℕ)) (bytes rest line behind : List ℕ) (k : ℕ) (some_invalid invalid : Bool) (text piece : List ℕ) → IsChecked a b bytes rest k some_invalid
+    → split_lines rest ≡ line ∷ split_lines behind → IsJudgedLine (k + 1) line text invalid → piece ≡ text → TookFront b c piece → WroteInPart plans a c Check bytes
+checked_stops plans a b c bytes rest line behind k some_invalid invalid text piece h split judged same took =
     let next = next_item k (split_lines bytes) (split_lines behind) line (h.rest_is ∙ split) in
     let stopped = under_way_stops IsVerdictAfter after_verdict verdict_text_of a b c false (split_lines bytes) k some_invalid line judged.verdict text h.written next.0 next.1 judged.is judged.told.0
     (subst (TookFront b c) same took) in
     record { out = stopped.out; output = stopped.groups; wrote = stopped.wrote }
 
-pub checked_waits : (a b : Option (List ℕ)) (bytes rest : List ℕ) (k : ℕ) (some_invalid : Bool) → IsChecked a b bytes rest k some_invalid → WroteInPart a b Check bytes
-checked_waits a b bytes rest k some_invalid h = record {
+pub checked_waits : (plans : List Plan) (a b : Option (List ℕ)) (bytes rest : List ℕ) (k : ℕ) (some_invalid : Bool) → IsChecked a b bytes rest k some_invalid → WroteInPart plans a b Check bytes
+checked_waits plans a b bytes rest k some_invalid h = record {
   out = h.written.out;
   output = under_way_waits IsVerdictAfter after_verdict verdict_text_of a b false (split_lines bytes) k some_invalid h.written;
   wrote = h.written.wrote;
 }
 
-pub checked_all : (a b : Option (List ℕ)) (bytes rest : List ℕ) (k : ℕ) (some_invalid : Bool) → true ≡ (length rest == 0) → IsChecked a b bytes rest k some_invalid → WroteOutput a b Check bytes (verdict_status some_invalid)
-checked_all a b bytes rest k some_invalid none h = record {
+pub checked_all : (plans : List Plan) (a b : Option (List ℕ)) (bytes rest : List ℕ) (k : ℕ) (some_invalid : Bool) → true ≡ (length rest == 0) → IsChecked a b bytes rest k some_invalid → WroteOutput plans a b Check bytes (verdict_status some_invalid)
+checked_all plans a b bytes rest k some_invalid none h = record {
   out = h.written.out;
   output = (
     some_invalid,
@@ -69,7 +70,7 @@ checked_all a b bytes rest k some_invalid none h = record {
   wrote = h.written.wrote;
 }
 
-pub verdict_ends : (a b : Option (List ℕ)) (before now : ℕ) (bytes : List ℕ) (some_invalid : Bool) (s : Status) → s ≡ verdict_status some_invalid → WroteOutput a b Check bytes (verdict_status some_invalid)
-    → EndOfBytes a b before now Check bytes s
-verdict_ends a b before now bytes true s is h = subst (EndOfBytes a b before now Check bytes) (sym is) h
-verdict_ends a b before now bytes false s is h = subst (EndOfBytes a b before now Check bytes) (sym is) h
+pub verdict_ends : (plans : List Plan) (a b : Option (List ℕ)) (before now : ℕ) (bytes : List ℕ) (some_invalid : Bool) (s : Status) → s ≡ verdict_status some_invalid → WroteOutput plans a b Check bytes (verdict_status some_invalid)
+    → EndOfBytes plans a b before now Check bytes s
+verdict_ends plans a b before now bytes true s is h = subst (EndOfBytes plans a b before now Check bytes) (sym is) h
+verdict_ends plans a b before now bytes false s is h = subst (EndOfBytes plans a b before now Check bytes) (sym is) h

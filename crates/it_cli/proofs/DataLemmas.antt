@@ -22,7 +22,7 @@ use Rattle.serde_json.proofs.Texts.{print-outline}
 use Rattle.it_number.specs.Limit.{IsWithin}
 use Rattle.it_space.specs.Rows.{Terms}
 use Rattle.it_space.specs.Answers.{AnswerView, CertificateView}
-use Rattle.it_space.specs.Answers.AnswerView.{Yes, No, Undecided, Region}
+use Rattle.it_space.specs.Answers.AnswerView.{Yes, No, Undecided, Region, Contained, Open}
 use Rattle.it_space.specs.declared.answers.Cause.{Cause}
 use Rattle.it_space.specs.declared.answers.Cause.TheVariants as causes
 use Rattle.it_space.specs.declared.answers.Mark.{Mark}
@@ -263,6 +263,32 @@ module _ (text : List ℕ) (v : NamesView) (ok : IsUtf8 text) where
   unfolding answer_value
   region_plain rows h = ((answer_utf8, (IsUtf8-are_ascii (codes "region") refl, (question_utf8, (ok, (IsUtf8-are_ascii (codes "rows") refl, (listed row_value (λ r. All IsPair r.1) row_plain rows h, tt)))))), refl)
 
+  pub contained_plain : (parts : List ℕ) (proofs : List CertificateView) → All (λ s. s < 2 ^ 32) parts → All IsNumbered proofs → IsPlain (answer_value text v (Contained parts proofs))
+  unfolding answer_value
+  contained_plain parts proofs h k = (
+    (
+      answer_utf8,
+      (
+        IsUtf8-are_ascii (codes "contained") refl,
+        (
+          IsUtf8-are_ascii (codes "parts") refl,
+          (
+            listed count_value (λ s. s < 2 ^ 32) count_plain parts h,
+            (
+              IsUtf8-are_ascii (codes "proofs") refl,
+              (listed proof_value IsNumbered proof_plain proofs k, (question_utf8, (ok, tt))),
+            ),
+          ),
+        ),
+      ),
+    ),
+    refl,
+  )
+
+  pub open_plain : (tried : ℕ) → tried < 2 ^ 32 → IsPlain (answer_value text v (Open tried))
+  unfolding answer_value
+  open_plain tried h = ((answer_utf8, (IsUtf8-are_ascii (codes "open") refl, (question_utf8, (ok, (IsUtf8-are_ascii (codes "tried") refl, (count_plain tried h, tt)))))), refl)
+
 -- the line of an answer
 pub answer_text_utf8 : (text : List ℕ) (v : NamesView) (a : AnswerView) → IsPlain (answer_value text v a) → IsUtf8 (answer_text text v a)
 unfolding answer_text
@@ -305,3 +331,11 @@ undecided_low text v c = omega arith
 pub region_low : (text : List ℕ) (v : NamesView) (rows : List (Mark × Terms)) → depth (answer_value text v (Region rows)) ≤ 127
 unfolding answer_value
 region_low text v rows = let e = items_low row_value 3 row_low rows in omega (arith, e)
+
+pub contained_low : (text : List ℕ) (v : NamesView) (parts : List ℕ) (proofs : List CertificateView) → depth (answer_value text v (Contained parts proofs)) ≤ 127
+unfolding answer_value
+contained_low text v parts proofs = let e = items_low count_value 0 (λ n. omega arith) parts in let f = items_low proof_value 3 proof_low proofs in omega (arith, e, f)
+
+pub open_low : (text : List ℕ) (v : NamesView) (tried : ℕ) → depth (answer_value text v (Open tried)) ≤ 127
+unfolding answer_value
+open_low text v tried = omega arith

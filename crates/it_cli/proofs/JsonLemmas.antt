@@ -1,7 +1,7 @@
 -- A right answer fits its question, so that what is written of it reads back as it.
-use Rattle.std.proofs.Common.{◌≡◌, ◌⊎◌, inl, inr, ℕ, zero, suc, ◌+◌, ◌<◌, ◌≤◌, ◌^◌, ℤ, pos, List, [], ◌∷◌, map, filter, length, All, Bool, true, false, None, refl, sym, ap, subst, ◌∙◌, arith, lit≤, cond, negsuc, not, unsigned_abs, ◌==◌, rules}
+use Rattle.std.proofs.Common.{◌≡◌, ◌⊎◌, inl, inr, ℕ, zero, suc, ◌+◌, ◌<◌, ◌≤◌, ◌^◌, min, ℤ, pos, List, [], ◌∷◌, map, filter, length, All, Bool, true, false, Option, Some, None, IfSome, refl, sym, ap, subst, ◌∙◌, arith, lit≤, cond, negsuc, not, unsigned_abs, ◌==◌, rules}
 use Rattle.std.proofs.lemmas.List.{length-append, length-map}
-use Rattle.std.proofs.lemmas.List.Elements.{All-nil, All-cons, All-head, All-tail}
+use Rattle.std.proofs.lemmas.List.Elements.{All-nil, All-cons, All-head, All-tail, All-weaker}
 use Rattle.it_number.specs.Limit.{IsWithin}
 use Rattle.it_rational.specs.Rational.{Rational}
 use Rattle.it_space.specs.declared.answers.Cause.{Cause}
@@ -16,7 +16,7 @@ use Rattle.it_polymatroid.specs.Certificates.{Form, Generators, IsAllowed}
 use Rattle.it_polymatroid.specs.Elementals.{elementals}
 use Rattle.it_elemental.proofs.GeneratorLemmas.{few_elementals}
 use Rattle.it_closure.specs.Reading.{dependences_of}
-use Rattle.it_run.specs.Runs.{RunEndView, EndsAs}
+use Rattle.it_run.specs.Runs.{RunEndView, EndsAs, EndsBy, IsWithinBudget, told}
 use Rattle.it_run.specs.Runs.RunEndView.{Weights, Point, Pivots, Width}
 use Rattle.it_simplex.specs.Answers.{Solves}
 use Rattle.it_prove.specs.Closed.{closed_places, spread_point, spread_values}
@@ -32,14 +32,15 @@ use Rattle.it_syntax.specs.Meaning.{RelationView}
 use Rattle.it_syntax.specs.NamesViews.{NamesView}
 use Rattle.it_question.specs.Questions.{BodyView, Prove}
 use Rattle.it_canon.specs.Canonical.{form_of}
-use Rattle.it_canon.specs.Demands.{States}
+use Rattle.it_canon.specs.Demands.{States, AreStated}
 use Rattle.it_canon.specs.Targets.{targets, targets_by}
-use Rattle.it_canon.specs.QuestionDemands.{space_of, problem_names, problem_names_by, question_demands, Poses}
+use Rattle.it_canon.specs.QuestionDemands.{space_of, problem_names, problem_names_by, variables_of, question_demands, Poses}
 use Rattle.it_canon.proofs.ZipLemmas.{zip-length}
 use Rattle.it_eliminate.specs.Elimination.{Member, EliminatedView, Ends, in_order, next_list}
 use Rattle.it_eliminate.specs.Elimination as elimination
-use Rattle.it_answer.specs.Forms.{all_demands, generators_by, demand_of_elemental, demand_of_line}
-use Rattle.it_answer.specs.RightAnswers.{variables_of, CertifyAll, ViolatesFirst, ProofsAreDue, PointIsDue, CauseIsDue, IsRightFor}
+use Rattle.it_contain.specs.Search.{AreProofsOf}
+use Rattle.it_answer.specs.Forms.{all_demands, generators_by, demand_of_elemental, demand_of_line, CertifyAll}
+use Rattle.it_answer.specs.RightAnswers.{ViolatesFirst, ProofsAreDue, PointIsDue, CauseIsDue, IsRightFor}
 use Rattle.it_answer.specs.RightRegions.{answer_of_end, IsRightElimination}
 use Rattle.it_certificate.specs.AnswerReading.{is_equality, target_count}
 use Rattle.it_certificate.specs.Fits.{IsPair, IsNumbered, IsFoundIn, IsCauseFor, FitsProve}
@@ -58,14 +59,15 @@ no_same u v e = cc
 cause_same : (c d : Cause) → proof_views.Undecided c ≡ proof_views.Undecided d → c ≡ d
 cause_same c d e = cc
 
-module _ (q : ProblemView) (target : Terms) where
-  -- a proof's scale is within the limit, and its weights ascend
-  abbrev IsScaled : CertificateView → Type 0
-  IsScaled w = IsWithin w.scale × IsCanonical w.parts
+-- a proof's scale is within the limit, and its weights ascend
+pub record IsScaled (w : CertificateView) : Type 0 where
+  pub scale : IsWithin w.scale
+  pub parts : IsCanonical w.parts
 
+module _ (q : ProblemView) (target : Terms) where
   scaled_by_end : (w : CertificateView) (e : RunEndView (List (ℕ × Rational)) (List Rational)) → Follows q target e (proof_views.Yes w) → IsScaled w
   scaled_by_end w (Weights ws) (inl h) =
-      subst IsScaled (yes_same h.0 w (sym h.3)) (subst IsWithin (sym h.1.scale) h.2.lifted.numbers.scale, h.1.parts)
+      subst IsScaled (yes_same h.0 w (sym h.3)) (record { scale = subst IsWithin (sym h.1.scale) h.2.lifted.numbers.scale; parts = h.1.parts })
   scaled_by_end w (Weights ws) (inr h) = let e = h.1 in absurd (cc)
   scaled_by_end w (Point qs) (inl h) = let e = h.1 in absurd (cc)
   scaled_by_end w (Point qs) (inr h) = let e = h.1 in absurd (cc)
@@ -89,44 +91,69 @@ module _ (q : ProblemView) (target : Terms) where
   values_by_end limits values (Pivots k) e = absurd (cc)
   values_by_end limits values (Width k) e = absurd (cc)
 
--- ---- steps within the budget
+-- ---- numbers of steps that are told
 
-abbrev IsInBudget : {W P : Type 0} → ℕ → RunEndView W P → Type 0
-IsInBudget most (Weights ws) = Unit {0}
-IsInBudget most (Point qs) = Unit {0}
-IsInBudget most (Pivots j) = j ≤ most
-IsInBudget most (Width j) = j ≤ most
+-- the number of a step is at most this
+abbrev IsUpToStep : {W P : Type 0} → ℕ → RunEndView W P → Type 0
+IsUpToStep most (Weights ws) = Unit {0}
+IsUpToStep most (Point qs) = Unit {0}
+IsUpToStep most (Pivots j) = j ≤ most
+IsUpToStep most (Width j) = j ≤ most
+
+-- the greatest number of a step that is told
+abbrev last_step : ℕ
+last_step = 4294967295
+
+up_to_more : {W P : Type 0} (few most : ℕ) (e : RunEndView W P) → few ≤ most → IsUpToStep few e → IsUpToStep most e
+up_to_more few most (Weights ws) l h = tt
+up_to_more few most (Point qs) l h = tt
+up_to_more few most (Pivots j) l h = omega (arith, l, h)
+up_to_more few most (Width j) l h = omega (arith, l, h)
+
+told_up_to : {W P : Type 0} (e : RunEndView W P) → IsWithinBudget e → IsUpToStep last_step (told e)
+told_up_to (Weights ws) h = tt
+told_up_to (Point qs) h = tt
+told_up_to (Pivots j) h = absurd h
+told_up_to (Width j) h = let l : min j 4294967295 ≤ 4294967295 = omega arith in l
 
 module _ {S W P : Type 0} (IsDone IsStuck Fits : S → Type 0) (next : S → S) (weights : S → W) (point : S → P) where
-  by_step : (left k : ℕ) (s : S) (e : RunEndView W P) → (EndsAs IsDone IsStuck Fits next weights point left (suc k) (next s) e → IsInBudget (suc k + left) e)
-      → (¬ (Fits s) × (e ≡ Width (suc k))) ⊎ (Fits s × EndsAs IsDone IsStuck Fits next weights point left (suc k) (next s) e) → IsInBudget (k + suc left) e
-  by_step left k s e more (inl g) = subst (IsInBudget (k + suc left)) (sym g.1) (let l : suc k ≤ k + suc left = omega arith in l)
-  by_step left k s e more (inr g) = let same : suc k + left ≡ k + suc left = omega arith in subst (λ n. IsInBudget n e) same (more g.1)
+  by_step : (left k : ℕ) (s : S) (e : RunEndView W P) → (EndsAs IsDone IsStuck Fits next weights point left (suc k) (next s) e → IsUpToStep (suc k + left) e)
+      → (¬ (Fits s) × (e ≡ Width (suc k))) ⊎ (Fits s × EndsAs IsDone IsStuck Fits next weights point left (suc k) (next s) e) → IsUpToStep (k + suc left) e
+  by_step left k s e more (inl g) = subst (IsUpToStep (k + suc left)) (sym g.1) (let l : suc k ≤ k + suc left = omega arith in l)
+  by_step left k s e more (inr g) = let same : suc k + left ≡ k + suc left = omega arith in subst (λ n. IsUpToStep n e) same (more g.1)
 
-  in_budget : (left k : ℕ) (s : S) (e : RunEndView W P) → EndsAs IsDone IsStuck Fits next weights point left k s e → IsInBudget (k + left) e
-  in_budget zero k s e (inl h) = subst (IsInBudget (k + 0)) (sym h.1) tt
-  in_budget zero k s e (inr (inl h)) = subst (IsInBudget (k + 0)) (sym h.2) tt
-  in_budget zero k s e (inr (inr h)) = subst (IsInBudget (k + 0)) (sym h.2) (let l : k ≤ k + 0 = omega arith in l)
-  in_budget (suc left) k s e (inl h) = subst (IsInBudget (k + suc left)) (sym h.1) tt
-  in_budget (suc left) k s e (inr (inl h)) = subst (IsInBudget (k + suc left)) (sym h.2) tt
+  in_budget : (left k : ℕ) (s : S) (e : RunEndView W P) → EndsAs IsDone IsStuck Fits next weights point left k s e → IsUpToStep (k + left) e
+  in_budget zero k s e (inl h) = subst (IsUpToStep (k + 0)) (sym h.1) tt
+  in_budget zero k s e (inr (inl h)) = subst (IsUpToStep (k + 0)) (sym h.2) tt
+  in_budget zero k s e (inr (inr h)) = subst (IsUpToStep (k + 0)) (sym h.2) (let l : k ≤ k + 0 = omega arith in l)
+  in_budget (suc left) k s e (inl h) = subst (IsUpToStep (k + suc left)) (sym h.1) tt
+  in_budget (suc left) k s e (inr (inl h)) = subst (IsUpToStep (k + suc left)) (sym h.2) tt
   in_budget (suc left) k s e (inr (inr h)) = by_step left k s e (in_budget left (suc k) (next s) e) h.2
 
-solves_in_budget : (coordinates : List ℕ) (columns : List Terms) (target : Terms) (steps : ℕ) (e : RunEndView (List (ℕ × Rational)) (List Rational)) → Solves coordinates columns target steps e → IsInBudget steps e
-solves_in_budget coordinates columns target steps e (inl h) = subst (IsInBudget steps) (sym h.1) (let l : 0 ≤ steps = omega arith in l)
-solves_in_budget coordinates columns target steps e (inr h) = let same : 0 + steps ≡ steps = omega arith in subst (λ n. IsInBudget n e) same (in_budget _ _ _ _ _ _ steps 0 _ e h.1)
+  -- with a budget of 32 bits, or without one
+  ends_told : (budget : Option ℕ) (s : S) (e : RunEndView W P) → IfSome budget (λ n. n < 2 ^ 32) → EndsBy IsDone IsStuck Fits next weights point budget s e → IsUpToStep last_step e
+  ends_told (Some most) s e few h = up_to_more (0 + most) last_step e (omega (arith, few)) (in_budget most 0 s e h)
+  ends_told None s e few h = subst (IsUpToStep last_step) (sym h.is_told) (told_up_to h.end h.within)
 
-runs_in_budget : (q : ProblemView) (target : Terms) (steps : ℕ) (e : RunEndView (List (ℕ × Rational)) (List Rational)) → Runs q target steps e → IsInBudget steps e
-runs_in_budget q target steps e (inl h) = subst (IsInBudget steps) (sym h.1) (let l : 0 ≤ steps = omega arith in l)
-runs_in_budget q target steps e (inr h) = solves_in_budget _ _ _ steps e h.1
+at_start : {W P : Type 0} (e : RunEndView W P) → e ≡ Width 0 → IsUpToStep last_step e
+at_start e is = subst (IsUpToStep last_step) (sym is) (let l : 0 ≤ last_step = omega arith in l)
 
-cause_by_end : (v : NamesView) (q : ProblemView) (target : Terms) (steps : ℕ) (c : Cause) → steps < 2 ^ 32 → (e : RunEndView (List (ℕ × Rational)) (List Rational)) → IsInBudget steps e
+solves_told : (coordinates : List ℕ) (columns : List Terms) (target : Terms) (budget : Option ℕ) (e : RunEndView (List (ℕ × Rational)) (List Rational)) → IfSome budget (λ n. n < 2 ^ 32) → Solves coordinates columns target budget e → IsUpToStep last_step e
+solves_told coordinates columns target budget e few (inl h) = at_start e h.1
+solves_told coordinates columns target budget e few (inr h) = ends_told _ _ _ _ _ _ budget _ e few h.1
+
+runs_told : (q : ProblemView) (target : Terms) (budget : Option ℕ) (e : RunEndView (List (ℕ × Rational)) (List Rational)) → IfSome budget (λ n. n < 2 ^ 32) → Runs q target budget e → IsUpToStep last_step e
+runs_told q target budget e few (inl h) = at_start e h.1
+runs_told q target budget e few (inr h) = solves_told _ _ _ budget e few h.1
+
+cause_by_end : (v : NamesView) (q : ProblemView) (target : Terms) (c : Cause) (e : RunEndView (List (ℕ × Rational)) (List Rational)) → IsUpToStep last_step e
     → Follows q target e (proof_views.Undecided c) → IsCauseFor v c
-cause_by_end v q target steps c few (Weights ws) b (inl h) = let e = h.3 in absurd (cc)
-cause_by_end v q target steps c few (Weights ws) b (inr h) = subst (IsCauseFor v) (cause_same causes.Scale c (sym h.1)) tt
-cause_by_end v q target steps c few (Point qs) b (inl h) = let e = h.1 in absurd (cc)
-cause_by_end v q target steps c few (Point qs) b (inr h) = subst (IsCauseFor v) (cause_same causes.Scale c (sym h.1)) tt
-cause_by_end v q target steps c few (Pivots k) b e = subst (IsCauseFor v) (cause_same (causes.Pivots k) c (sym e)) (let l : k < 2 ^ 32 = omega (arith, b, few) in l)
-cause_by_end v q target steps c few (Width k) b e = subst (IsCauseFor v) (cause_same (causes.Width k) c (sym e)) (let l : k < 2 ^ 32 = omega (arith, b, few) in l)
+cause_by_end v q target c (Weights ws) b (inl h) = let e = h.3 in absurd (cc)
+cause_by_end v q target c (Weights ws) b (inr h) = subst (IsCauseFor v) (cause_same causes.Scale c (sym h.1)) tt
+cause_by_end v q target c (Point qs) b (inl h) = let e = h.1 in absurd (cc)
+cause_by_end v q target c (Point qs) b (inr h) = subst (IsCauseFor v) (cause_same causes.Scale c (sym h.1)) tt
+cause_by_end v q target c (Pivots k) b e = subst (IsCauseFor v) (cause_same (causes.Pivots k) c (sym e)) (let l : k < 2 ^ 32 = omega (arith, b) in l)
+cause_by_end v q target c (Width k) b e = subst (IsCauseFor v) (cause_same (causes.Width k) c (sym e)) (let l : k < 2 ^ 32 = omega (arith, b) in l)
 
 -- ---- certificates
 
@@ -137,14 +164,28 @@ pairs_below g few from (t ∷ ts) a all =
     let l : t.0 < 2 ^ 32 = let below = h.0 in omega (arith, below, few) in
     All-cons IsPair t ts (l, a.2) (pairs_below g few (t.0 + 1) ts a.3 (All-tail (IsAllowed g) t ts all))
 
-module _ (q : BodyView) (r : RelationView) (b : Poses q r) where
+-- the run's proofs of targets
+due_scaled : (p : ProblemView) (budget : Option ℕ) (ts : List Terms) (ws : List CertificateView) → ProofsAreDue p budget ts ws → All IsScaled ws
+due_scaled p budget [] [] d = All-nil IsScaled
+due_scaled p budget [] (w ∷ ws) d = absurd d
+due_scaled p budget (t ∷ ts) [] d = absurd d
+due_scaled p budget (t ∷ ts) (w ∷ ws) d = All-cons IsScaled w ws (scaled_by_end p t w d.0.end d.0.follows) (due_scaled p budget ts ws d.1)
+
+-- and of obligations
+pub proofs_scaled : (p : ProblemView) (budget : Option ℕ) (ts : List Terms) (ws : List CertificateView) → AreProofsOf p budget ts ws → All IsScaled ws
+proofs_scaled p budget [] [] d = All-nil IsScaled
+proofs_scaled p budget [] (w ∷ ws) d = absurd d
+proofs_scaled p budget (t ∷ ts) [] d = absurd d
+proofs_scaled p budget (t ∷ ts) (w ∷ ws) d = All-cons IsScaled w ws (scaled_by_end p t w d.0.due.end d.0.due.follows) (proofs_scaled p budget ts ws d.1)
+
+module _ (q : BodyView) (p : ProblemView) (space : p.space ≡ space_of (problem_names q)) (limits : IsProblem p) (stated : AreStated p.space (question_demands q) p.constraints) where
   demands_counted : length (question_demands q) ≤ 2 ^ 20
   demands_counted =
-      let same = zip-length (λ d c. States b.problem.space d.place d.demand c) (question_demands q) b.problem.constraints b.constraints in
-      omega (arith, same, b.limits.few)
+      let same = zip-length (λ d c. States p.space d.place d.demand c) (question_demands q) p.constraints stated in
+      omega (arith, same, limits.few)
 
   few_variables : variables_of q ≤ 10
-  few_variables = subst (λ (s : Space). s.variables ≤ 10) b.space b.limits.space.few
+  few_variables = subst (λ (s : Space). s.variables ≤ 10) space limits.space.few
 
   few_generators : (generators_by (all_demands (variables_of q) (question_demands q))).count ≤ 2 ^ 32
   unfolding all_demands
@@ -158,22 +199,22 @@ module _ (q : BodyView) (r : RelationView) (b : Poses q r) where
       let e : 20000 + 2 ^ 20 ≤ 2 ^ 32 = lit≤ tt in
       omega (arith, sum, first, second, few_elementals (variables_of q) few_variables, demands_counted, e)
 
-  all_numbered : (steps : ℕ) (fs : List Form) (ts : List Terms) (ws : List CertificateView) → CertifyAll q fs ws → ProofsAreDue b.problem steps ts ws → All IsNumbered ws
-  all_numbered steps fs ts [] c d = All-nil IsNumbered
-  all_numbered steps [] ts (w ∷ ws) c d = absurd c
-  all_numbered steps (f ∷ fs) [] (w ∷ ws) c d = absurd d
-  all_numbered steps (f ∷ fs) (t ∷ ts) (w ∷ ws) c d =
-      let s = scaled_by_end b.problem t w d.0.end d.0.follows in
-      let g = generators_by (all_demands (variables_of q) (question_demands q)) in
-      All-cons IsNumbered w ws (record { scale = s.0; parts = pairs_below (generators_by (all_demands (variables_of q) (question_demands q))) few_generators 0 w.parts s.1 c.0.allowed })
-      (all_numbered steps fs ts ws c.1 d.1)
+  -- certificates by the text, of such a shape, are numbered
+  pub all_numbered : (fs : List Form) (ws : List CertificateView) → CertifyAll q fs ws → All IsScaled ws → All IsNumbered ws
+  all_numbered fs [] c d = All-nil IsNumbered
+  all_numbered [] (w ∷ ws) c d = absurd c
+  all_numbered (f ∷ fs) (w ∷ ws) c d =
+      let s = All-head IsScaled w ws d in
+      All-cons IsNumbered w ws (record { scale = s.scale; parts = pairs_below (generators_by (all_demands (variables_of q) (question_demands q))) few_generators 0 w.parts s.parts c.0.allowed })
+      (all_numbered fs ws c.1 (All-tail IsScaled w ws d))
 
-  all_counted : (fs : List Form) (ws : List CertificateView) → CertifyAll q fs ws → length ws ≡ length fs
+  pub all_counted : (fs : List Form) (ws : List CertificateView) → CertifyAll q fs ws → length ws ≡ length fs
   all_counted [] [] c = refl
   all_counted [] (w ∷ ws) c = absurd c
   all_counted (f ∷ fs) [] c = absurd c
   all_counted (f ∷ fs) (w ∷ ws) c = ap suc (all_counted fs ws c.1)
 
+module _ (q : BodyView) (r : RelationView) (b : Poses q r) where
   targets_counted : (s : Sign) (f : Form) → length (targets_by s f) ≡ target_count s
   targets_counted AtLeast f = refl
   targets_counted AtMost f = refl
@@ -181,11 +222,11 @@ module _ (q : BodyView) (r : RelationView) (b : Poses q r) where
 
   -- ---- points
 
-  values_due : (steps : ℕ) (ts : List Terms) (back : Bool) (values : List ℤ) → PointIsDue b.problem steps ts back values → All IsWithin values
-  values_due steps [] back values d = absurd d
-  values_due steps (t ∷ ts) false values d = values_by_end b.problem t b.limits values d.end d.follows
-  values_due steps (t ∷ []) true values d = absurd d
-  values_due steps (t ∷ u ∷ ts) true values d = values_by_end b.problem u b.limits values d.1.end d.1.follows
+  values_due : (budget : Option ℕ) (ts : List Terms) (back : Bool) (values : List ℤ) → PointIsDue b.problem budget ts back values → All IsWithin values
+  values_due budget [] back values d = absurd d
+  values_due budget (t ∷ ts) false values d = values_by_end b.problem t b.limits values d.end d.follows
+  values_due budget (t ∷ []) true values d = absurd d
+  values_due budget (t ∷ u ∷ ts) true values d = values_by_end b.problem u b.limits values d.1.end d.1.follows
 
   complete : (fs : List Form) (back : Bool) (values : List ℤ) → ViolatesFirst q fs back values → length values ≡ size_of (space_of (problem_names q))
   complete [] back values c = absurd c
@@ -202,27 +243,32 @@ module _ (q : BodyView) (r : RelationView) (b : Poses q r) where
 
   -- ---- causes
 
-  cause_due : (steps : ℕ) → steps < 2 ^ 32 → (ts : List Terms) (c : Cause) → CauseIsDue b.problem steps ts c → IsCauseFor q.names c
-  cause_due steps few [] c d = absurd d
-  cause_due steps few (t ∷ ts) c (inl e) = cause_by_end q.names b.problem t steps c few e.end (runs_in_budget b.problem t steps e.end e.run) e.follows
-  cause_due steps few (t ∷ ts) c (inr d) = cause_due steps few ts c d.1
+  cause_due : (budget : Option ℕ) → IfSome budget (λ n. n < 2 ^ 32) → (ts : List Terms) (c : Cause) → CauseIsDue b.problem budget ts c → IsCauseFor q.names c
+  cause_due budget few [] c d = absurd d
+  cause_due budget few (t ∷ ts) c (inl e) = cause_by_end q.names b.problem t c e.end (runs_told b.problem t budget e.end few e.run) e.follows
+  cause_due budget few (t ∷ ts) c (inr d) = cause_due budget few ts c d.1
 
 -- a right answer to `prove` fits its question
-pub right_prove_fits : (steps : ℕ) (q : BodyView) (r : RelationView) (a : AnswerView) → steps < 2 ^ 32 → q.verb ≡ Prove r → IsRightFor steps q r a → FitsProve q.names r.sign a
-right_prove_fits steps q r (Yes ws) few verb right = (
-  all_counted q r right.poses (targets (variables_of q) r) ws right.shows ∙ targets_counted q r right.poses r.sign (form_of (variables_of q) r),
-  all_numbered q r right.poses steps (targets (variables_of q) r) right.poses.rows ws right.shows right.due,
-)
-right_prove_fits steps q r (No back values) few verb right =
+pub right_prove_fits : (budget : Option ℕ) (q : BodyView) (r : RelationView) (a : AnswerView) → IfSome budget (λ n. n < 2 ^ 32) → q.verb ≡ Prove r → IsRightFor budget q r a → FitsProve q.names r.sign a
+right_prove_fits budget q r (Yes ws) few verb right =
+    let b = right.poses in (
+      all_counted q b.problem b.space b.limits b.constraints (targets (variables_of q) r) ws right.shows ∙ targets_counted q r b r.sign (form_of (variables_of q) r),
+      all_numbered q b.problem b.space b.limits b.constraints (targets (variables_of q) r) ws right.shows (due_scaled b.problem budget b.rows ws right.due),
+    )
+right_prove_fits budget q r (No back values) few verb right =
     let own : space_of (problem_names q) ≡ space_of q.names = ap (λ (v : _). space_of (problem_names_by q.names v)) verb in (
       complete q r right.poses (targets (variables_of q) r) back values right.shows ∙ ap size_of own,
-      values_due q r right.poses steps right.poses.rows back values right.due,
+      values_due q r right.poses budget right.poses.rows back values right.due,
       second_only q r right.poses r.sign (form_of (variables_of q) r) back values right.shows,
     )
-right_prove_fits steps q r (Undecided cause) few verb right = cause_due q r right.poses steps few right.poses.rows cause right.due
-right_prove_fits steps q r (Region rows) few verb right = absurd right.shows
-right_prove_fits steps q r (Contained parts proofs) few verb right = absurd right.shows
-right_prove_fits steps q r (Open tried) few verb right = absurd right.shows
+right_prove_fits budget q r (Undecided cause) few verb right = cause_due q r right.poses budget few right.poses.rows cause right.due
+right_prove_fits budget q r (Region rows) few verb right = absurd right.shows
+right_prove_fits budget q r (Contained parts proofs) few verb right = absurd right.shows
+right_prove_fits budget q r (Open tried) few verb right = absurd right.shows
+
+-- the certificates of a right yes ascend
+pub right_yes_ascends : (budget : Option ℕ) (q : BodyView) (r : RelationView) (ws : List CertificateView) → IsRightFor budget q r (Yes ws) → All (λ w. IsCanonical w.parts) ws
+right_yes_ascends budget q r ws right = All-weaker IsScaled (λ w. IsCanonical w.parts) (λ w s. s.parts) ws (due_scaled right.poses.problem budget right.poses.rows ws right.due)
 
 -- ---- eliminations that end with a cause
 

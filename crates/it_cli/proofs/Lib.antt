@@ -1,10 +1,16 @@
 pub mod LineLemmas
 pub mod VerdictLemmas
 pub mod RightLemmas
+pub mod CountLemmas
+pub mod StepLemmas
+pub mod RowLemmas
+pub mod ProofLemmas
 pub mod EndLemmas
+pub mod LawLemmas
 pub mod OutputLemmas
 pub mod CheckLemmas
 pub mod JsonLemmas
+pub mod ContainedFits
 pub mod DataLemmas
 pub mod RegionFits
 pub mod NameFits

@@ -1,6 +1,7 @@
 -- Right answers can be written: their generators are there, their points and causes are of the question's names.
-use Rattle.std.proofs.Common.{◌≡◌, inl, inr, ℕ, ◌+◌, ◌<◌, ◌^◌, ℤ, List, [], ◌∷◌, map, length, All, Bool, true, false, refl, sym, ap, ap₂, subst, ◌∙◌, arith, length-append}
+use Rattle.std.proofs.Common.{◌≡◌, inl, inr, ℕ, ◌+◌, ◌<◌, ◌≤◌, ◌^◌, ℤ, List, [], ◌∷◌, map, length, drop, All, Bool, true, false, Option, refl, sym, ap, ap₂, subst, ◌∙◌, arith, length-append}
 use Rattle.std.proofs.lemmas.List.{length-map}
+use Rattle.std.proofs.Math.Seq.{drop-append_seam}
 use Rattle.std.proofs.lemmas.List.Elements.{All-nil, All-cons, All-head, All-tail}
 use Rattle.std.proofs.lemmas.Nat.{pow_pos}
 use Rattle.std.proofs.Math.Pow.{pow_mono}
@@ -25,10 +26,10 @@ use Rattle.it_syntax.specs.Meaning.{RelationView}
 use Rattle.it_syntax.specs.NamesViews.{NamesView}
 use Rattle.it_question.specs.AsciiTexts.{IsAsciiQuestion}
 use Rattle.it_certificate.specs.Values.{IsWritable}
-use Rattle.it_question.specs.Limits.{IsQuestion, IsVerbOver}
-use Rattle.it_question.specs.Questions.{BodyView, QuestionView, VerbView, Prove, Eliminate, Contain}
+use Rattle.it_question.specs.Limits.{IsQuestion, IsRegionOf, IsVerbOver}
+use Rattle.it_question.specs.Questions.{BodyView, QuestionView, RegionView, VerbView, Prove, Eliminate, Contain}
 use Rattle.it_canon.specs.Demands.{LineDemand, States, AreStated}
-use Rattle.it_canon.specs.QuestionDemands.{question_demands, problem_names, problem_names_by, space_of}
+use Rattle.it_canon.specs.QuestionDemands.{question_demands, problem_names, problem_names_by, space_of, variables_of}
 use Rattle.it_canon.proofs.ZipLemmas.{zip-length}
 use Rattle.it_run.specs.Runs.RunEndView.{Weights, Point, Pivots, Width}
 use Rattle.it_run.specs.Runs.{RunEndView}
@@ -37,14 +38,21 @@ use Rattle.it_prove.specs.ProofViews.{Yes, No, Undecided, Follows}
 use Rattle.it_eliminate.specs.Elimination.{EliminatedView, next_list, in_order}
 use Rattle.it_eliminate.specs.Elimination as elimination
 use Rattle.it_answer.specs.declared.types.Budgets.{Budgets}
-use Rattle.it_answer.specs.AnswerableQuestions.{IsAnswerable, IsAnswerableVerb}
 use Rattle.it_answer.specs.RightRegions.{IsRightElimination, answer_of_end, region_rows}
-use Rattle.it_answer.specs.Forms.{all_demands, generators_by}
+use Rattle.it_answer.specs.Forms.{CertifyAll, all_demands, generators_by}
 use Rattle.it_canon.specs.Targets.{targets}
-use Rattle.it_answer.specs.RightAnswers.{CertifyAll, ViolatesFirst, CauseIsDue, IsRightFor, IsRightAnswer, IsRightAnswerBy, variables_of}
-use Rattle.it_print.specs.Lines.{IsCauseOf, IsPrintable, IsRowOver, answer_line, places_of}
-use Rattle.it_settings.specs.declared.types.Format.TheVariants.{Text}
-use Rattle.it_cli.specs.Right.{IsAnswerText}
+use Rattle.it_answer.specs.RightAnswers.{ViolatesFirst, CauseIsDue, IsRightFor, IsRightAnswer, IsRightAnswerBy}
+use Rattle.it_print.specs.Lines.{IsCauseOf, IsPrintable, IsRowOver, answer_line, auxiliary_names, auxiliary_names_by, places_of}
+use Rattle.it_print.specs.ProofLines.{generator_rows, proof_text}
+use Rattle.it_answer.specs.AnswerForms.{answer_forms}
+use Rattle.it_answer.specs.RightContainments.{IsRightContainment}
+use Rattle.it_region.specs.declared.types.Candidate.{Candidate}
+use Rattle.it_region.specs.Obligations.{ArePartsOf, obligations}
+use Rattle.it_contain.specs.Proposals.{Plan}
+use Rattle.it_settings.specs.declared.types.Format.TheVariants.{Text, Proof}
+use Rattle.it_cli.specs.Right.{answer_lines, terms_in}
+use Rattle.it_cli.proofs.ProofLemmas.{generators_told}
+use Rattle.it_cli.proofs.RowLemmas.{row_over}
 
 length-demands : (n : ℕ) (ds : List LineDemand) → length (all_demands n ds) ≡ length (elementals n) + length ds
 unfolding all_demands
@@ -98,37 +106,47 @@ of_end p t m cause (Width k) a = subst (IsCauseOf m) (sym (inside a)) tt
     inside : Undecided cause ≡ Undecided (causes.Width k) → cause ≡ causes.Width k
     inside e = cc
 
-cause_is : (p : ProblemView) (steps m : ℕ) (ts : List Terms) (cause : Cause) → CauseIsDue p steps ts cause → IsCauseOf m cause
-cause_is p steps m [] cause c = absurd c
-cause_is p steps m (t ∷ ts) cause (inl e) = of_end p t m cause e.end e.follows
-cause_is p steps m (t ∷ ts) cause (inr e) = cause_is p steps m ts cause e.1
+cause_is : (p : ProblemView) (budget : Option ℕ) (m : ℕ) (ts : List Terms) (cause : Cause) → CauseIsDue p budget ts cause → IsCauseOf m cause
+cause_is p budget m [] cause c = absurd c
+cause_is p budget m (t ∷ ts) cause (inl e) = of_end p t m cause e.end e.follows
+cause_is p budget m (t ∷ ts) cause (inr e) = cause_is p budget m ts cause e.1
 
 -- ---- an answer to `prove`
 
 names_are : (q : BodyView) (r : RelationView) → q.verb ≡ Prove r → problem_names q ≡ q.names
 names_are q r e = ap (problem_names_by q.names) e
 
-printable_proof : (steps : ℕ) (q : BodyView) (r : RelationView) (m : ℕ) (answer : Answer) → q.verb ≡ Prove r → IsQuestion q → m ≡ length (question_demands q) → IsRightFor steps q r (answer_view answer)
-    → IsPrintable q.names m answer
-printable_proof steps q r m answer aim k few right = by_answer answer right
+-- a question of a file has few names, also with those of its first region
+few_names : (q : BodyView) → IsQuestion q → (length (problem_names q).variables ≤ 8) × (length (problem_names q).rates ≤ 16)
+few_names q k = by q.verb k.verb
   where
-    n_is : length q.names.variables ≡ variables_of q
-    n_is = ap (λ (v : NamesView). length v.variables) (sym (names_are q r aim))
+    by : (verb : VerbView) → IsVerbOver q.names verb → (length (problem_names_by q.names verb).variables ≤ 8) × (length (problem_names_by q.names verb).rates ≤ 16)
+    by (Prove r) over = (k.few, k.few_rates)
+    by (Eliminate rates) over = (k.few, k.few_rates)
+    by (Contain a b tries) over = (over.0.few_variables, subst (λ (rs : List (List ℕ)). length rs ≤ 16) (sym over.0.rates) k.few_rates)
 
-    by_answer : (answer : Answer) → IsRightFor steps q r (answer_view answer) → IsPrintable q.names m answer
-    by_answer (answers.Yes proofs) a = certificates q (length q.names.variables) m (targets (variables_of q) r) proofs.items n_is few a.shows
-    by_answer (answers.No is_back point) a =
-        let size : length point ≡ size_of (space_of q.names) = point_size q (targets (variables_of q) r) is_back point a.shows ∙ ap (λ v. size_of (space_of v)) (names_are q r aim) in
-        (omega (arith, pow_pos (length q.names.variables)), omega (arith, pow_mono {i = length q.names.variables} {j = 8} k.few, k.few_rates))
-    by_answer (answers.Undecided cause) a = cause_is a.poses.problem steps (length q.names.rates) a.poses.rows cause a.due
-    by_answer (answers.Region rows) a = absurd a.shows
-    by_answer (answers.Contained parts proofs) a = absurd a.shows
-    by_answer (answers.Open tried) a = absurd a.shows
+-- and at least one variable
+pub some_names : (q : BodyView) → IsQuestion q → 1 ≤ variables_of q
+some_names q k = by q.verb k.verb
+  where
+    by : (verb : VerbView) → IsVerbOver q.names verb → 1 ≤ length (problem_names_by q.names verb).variables
+    by (Prove r) over = k.some
+    by (Eliminate rates) over = k.some
+    by (Contain a b tries) over = omega (arith, k.some, ap length over.0.variables, length-append q.names.variables over.0.own)
+
+printable_proof : (budget : Option ℕ) (q : BodyView) (r : RelationView) (m : ℕ) (answer : Answer) → IsQuestion q → m ≡ length (question_demands q) → IsRightFor budget q r (answer_view answer)
+    → IsPrintable q m answer
+printable_proof budget q r m (answers.Yes proofs) k few a = certificates q (variables_of q) m (targets (variables_of q) r) proofs.items refl few a.shows
+printable_proof budget q r m (answers.No is_back point) k few a =
+    let size : length point ≡ size_of (space_of (problem_names q)) = point_size q (targets (variables_of q) r) is_back point a.shows in
+    let names = few_names q k in
+    (omega (arith, size, pow_pos (variables_of q)), omega (arith, size, pow_mono {i = variables_of q} {j = 8} names.0, names.1))
+printable_proof budget q r m (answers.Undecided cause) k few a = cause_is a.poses.problem budget (length (problem_names q).rates) a.poses.rows cause a.due
+printable_proof budget q r m (answers.Region rows) k few a = absurd a.shows
+printable_proof budget q r m (answers.Contained parts proofs) k few a = absurd a.shows
+printable_proof budget q r m (answers.Open tried) k few a = absurd a.shows
 
 -- ---- an answer to `eliminate`
-
-row_over : (v : NamesView) (terms : Terms) → IsUpTo (size_of (space_of v)) terms → IsRowOver v terms
-row_over v terms up = λ i d l. let t = up i d l in omega (arith, t.1, pow_pos (length v.variables))
 
 rows_over : (v : NamesView) (rows : List (Mark × Terms)) → All (IsUpTo (size_of (space_of v))) (region_rows rows) → All (λ (row : Mark × Terms). IsRowOver v row.1) rows
 rows_over v [] a = All-nil (λ (row : Mark × Terms). IsRowOver v row.1)
@@ -146,42 +164,78 @@ cause_of_end base most m rows (r ∷ rates) end within (inl e) = subst (λ x. Is
 cause_of_end base most m rows (r ∷ rates) end within (inr (inl e)) = subst (λ x. IsCauseIn m (answer_of_end x)) (sym e.2) (All-head (λ r. r < m) r rates within)
 cause_of_end base most m rows (r ∷ rates) end within (inr (inr e)) = cause_of_end base most m (next_list (base + r) rows) rates end (All-tail (λ r. r < m) r rates within) e.2
 
-printable_region : (most : ℕ) (q : BodyView) (rates : List ℕ) (m : ℕ) (answer : Answer) → All (λ r. r < length q.names.rates) rates → IsRightElimination most q rates (answer_view answer) → IsPrintable q.names m answer
-printable_region most q rates m (answers.Yes proofs) within a = absurd a.shows
-printable_region most q rates m (answers.No is_back point) within a = absurd a.shows
-printable_region most q rates m (answers.Undecided cause) within a =
-    subst (IsCauseIn (length q.names.rates)) (sym a.due.is) (cause_of_end (2 ^ length q.names.variables) most (length q.names.rates) (in_order a.due.rows) rates a.due.end within a.due.ends)
-printable_region most q rates m (answers.Region rows) within a = rows_over q.names rows.items a.shows.coordinates
-printable_region most q rates m (answers.Contained parts proofs) within a = absurd a.shows
-printable_region most q rates m (answers.Open tried) within a = absurd a.shows
+printable_region : (most : ℕ) (q : BodyView) (rates : List ℕ) (m : ℕ) (answer : Answer) → problem_names q ≡ q.names → All (λ r. r < length q.names.rates) rates → IsRightElimination most q rates (answer_view answer) → IsPrintable q m answer
+printable_region most q rates m (answers.Yes proofs) names within a = absurd a.shows
+printable_region most q rates m (answers.No is_back point) names within a = absurd a.shows
+printable_region most q rates m (answers.Undecided cause) names within a =
+    subst (λ (v : NamesView). IsCauseOf (length v.rates) cause) (sym names) (subst (IsCauseIn (length q.names.rates)) (sym a.due.is) (cause_of_end (2 ^ length q.names.variables) most (length q.names.rates) (in_order a.due.rows) rates a.due.end within a.due.ends))
+printable_region most q rates m (answers.Region rows) names within a = subst (λ (v : NamesView). All (λ (row : Mark × Terms). IsRowOver v row.1) rows.items) (sym names) (rows_over q.names rows.items a.shows.coordinates)
+printable_region most q rates m (answers.Contained parts proofs) names within a = absurd a.shows
+printable_region most q rates m (answers.Open tried) names within a = absurd a.shows
 
--- ---- either
+-- ---- an answer to `contain`
 
-pub printable : (budgets : Budgets) (q : BodyView) (m : ℕ) (answer : Answer) → IsAnswerable q → IsQuestion q → m ≡ length (question_demands q) → IsRightAnswer budgets q (answer_view answer) → IsPrintable q.names m answer
-printable budgets q m answer answerable k few right = by q.verb refl answerable right
+-- the parts are as many as the names of auxiliary variables
+as_many : (q : BodyView) (a b : RegionView) (tries : List (List ℕ)) (parts : List ℕ) → q.verb ≡ Contain a b tries → IsRegionOf q.names b → ArePartsOf a b parts → length parts ≡ length (auxiliary_names q)
+as_many q a b tries parts is region are = are.count ∙ region.counted
+    ∙ ap length (sym (ap (auxiliary_names_by q.names) is ∙ ap (drop (length q.names.variables)) region.variables ∙ drop-append_seam q.names.variables region.own))
+
+printable_containment : (budgets : Budgets) (plans : List Plan) (q : BodyView) (a b : RegionView) (tries : List (List ℕ)) (m : ℕ) (answer : Answer) (found : List Candidate) → q.verb ≡ Contain a b tries → IsQuestion q
+    → m ≡ length (question_demands q) → IsRightContainment budgets plans q a b tries (record { answer = answer_view answer; found = found }) → IsPrintable q m answer
+printable_containment budgets plans q a b tries m (answers.Yes proofs) found is k few c = absurd c.shows
+printable_containment budgets plans q a b tries m (answers.No is_back point) found is k few c = absurd c.shows
+printable_containment budgets plans q a b tries m (answers.Undecided cause) found is k few c = absurd c.shows
+printable_containment budgets plans q a b tries m (answers.Region rows) found is k few c = absurd c.shows
+printable_containment budgets plans q a b tries m (answers.Contained parts proofs) found is k few c = (
+  as_many q a b tries parts.items is (subst (IsVerbOver q.names) is k.verb).1 c.shows.are_parts,
+  certificates q (variables_of q) m (obligations q a b parts.items) proofs.items refl few c.shows.certified,
+)
+printable_containment budgets plans q a b tries m (answers.Open tried) found is k few c = tt
+
+-- ---- each verb
+
+pub printable : (budgets : Budgets) (plans : List Plan) (q : BodyView) (m : ℕ) (answer : Answer) (found : List Candidate) → IsQuestion q → m ≡ length (question_demands q)
+    → IsRightAnswer budgets plans q (record { answer = answer_view answer; found = found }) → IsPrintable q m answer
+printable budgets plans q m answer found k few right = by q.verb refl right
   where
-    by : (verb : VerbView) → q.verb ≡ verb → IsAnswerableVerb verb → IsRightAnswerBy budgets q verb (answer_view answer) → IsPrintable q.names m answer
-    by (Prove r) is a x = printable_proof budgets.pivots q r m answer is k few x
-    by (Eliminate rates) is a x = printable_region budgets.rows q rates m answer (subst (IsVerbOver q.names) is k.verb).within x
-    by (Contain first second tries) is a x = absurd a
+    by : (verb : VerbView) → q.verb ≡ verb → IsRightAnswerBy budgets plans q verb (record { answer = answer_view answer; found = found }) → IsPrintable q m answer
+    by (Prove r) is x = printable_proof budgets.pivots q r m answer k few x.0
+    by (Eliminate rates) is x = printable_region budgets.rows q rates m answer (ap (problem_names_by q.names) is) (subst (IsVerbOver q.names) is k.verb).within x.0
+    by (Contain a b tries) is x = printable_containment budgets plans q a b tries m answer found is k few x
+
+-- ---- its texts
+
+-- the rates of the problem are the question's
+rates_are : (q : BodyView) → IsQuestion q → (problem_names q).rates ≡ q.names.rates
+rates_are q k = by q.verb k.verb
+  where
+    by : (verb : VerbView) → IsVerbOver q.names verb → (problem_names_by q.names verb).rates ≡ q.names.rates
+    by (Prove r) over = refl
+    by (Eliminate rates) over = refl
+    by (Contain a b tries) over = over.0.rates
 
 -- an answer with a line of text has one of JSON
-pub writable : (q : QuestionView) (m : ℕ) (answer : Answer) → IsAsciiQuestion q → IsPrintable q.body.names m answer → IsWritable q.body.names (answer_view answer)
-writable q m (answers.Yes proofs) ascii p = tt
-writable q m (answers.No back point) ascii p = tt
-writable q m (answers.Undecided (causes.Pivots steps)) ascii p = tt
-writable q m (answers.Undecided (causes.Width step)) ascii p = tt
-writable q m (answers.Undecided causes.Scale) ascii p = tt
-writable q m (answers.Undecided (causes.Rows r)) ascii p = (p, ascii.rates r [] p)
-writable q m (answers.Undecided (causes.WideRate r)) ascii p = (p, ascii.rates r [] p)
-writable q m (answers.Region rows) ascii p = tt
-writable q m (answers.Contained parts proofs) ascii p = tt
-writable q m (answers.Open tried) ascii p = tt
+pub writable : (q : QuestionView) (m : ℕ) (answer : Answer) → IsQuestion q.body → IsAsciiQuestion q → IsPrintable q.body m answer → IsWritable q.body.names (answer_view answer)
+writable q m (answers.Yes proofs) k ascii p = tt
+writable q m (answers.No back point) k ascii p = tt
+writable q m (answers.Undecided (causes.Pivots steps)) k ascii p = tt
+writable q m (answers.Undecided (causes.Width step)) k ascii p = tt
+writable q m (answers.Undecided causes.Scale) k ascii p = tt
+writable q m (answers.Undecided (causes.Rows r)) k ascii p = let within = subst (λ (rs : List (List ℕ)). r < length rs) (rates_are q.body k) p in (within, ascii.rates r [] within)
+writable q m (answers.Undecided (causes.WideRate r)) k ascii p = let within = subst (λ (rs : List (List ℕ)). r < length rs) (rates_are q.body k) p in (within, ascii.rates r [] within)
+writable q m (answers.Region rows) k ascii p = tt
+writable q m (answers.Contained parts proofs) k ascii p = tt
+writable q m (answers.Open tried) k ascii p = tt
 
--- the text of a right answer
-pub answer_text : (budgets : Budgets) (q : QuestionView) (k : ℕ) (s : Space) (cs : List Constraint) (answer : AnswerView) (bytes : List ℕ) → AreStated s (question_demands q.body) cs → IsRightAnswer budgets q.body answer
-    → bytes ≡ answer_line k q.body.names (places_of cs) answer → IsAnswerText budgets Text k tt q bytes
-answer_text budgets q k s cs answer bytes st right is = record { answer = answer; right = right; is = is ∙ ap (λ xs. answer_line k q.body.names xs answer) (places_same s (question_demands q.body) cs st) }
+-- the lines in each format
+pub text_is : (q : QuestionView) (k : ℕ) (s : Space) (cs : List Constraint) (answer : AnswerView) (bytes : List ℕ) → AreStated s (question_demands q.body) cs
+    → bytes ≡ answer_line k q.body (places_of cs) answer → bytes ≡ answer_lines Text k q answer
+text_is q k s cs answer bytes stated is = is ∙ ap (λ xs. answer_line k q.body xs answer) (places_same s (question_demands q.body) cs stated)
+
+pub proof_is : (q : QuestionView) (k : ℕ) (s : Space) (cs : List Constraint) (answer : AnswerView) (bytes : List ℕ) → s ≡ space_of (problem_names q.body) → AreStated s (question_demands q.body) cs
+    → bytes ≡ proof_text k q.body (places_of cs) (generator_rows (problem_names q.body) cs) (map (terms_in q.body) (answer_forms q.body answer)) answer → bytes ≡ answer_lines Proof k q answer
+proof_is q k s cs answer bytes space stated is = is ∙ ap₂ (λ xs rows. proof_text k q.body xs rows (map (terms_in q.body) (answer_forms q.body answer)) answer)
+    (places_same s (question_demands q.body) cs stated) (generators_told q.body cs (subst (λ (t : Space). AreStated t (question_demands q.body) cs) space stated))
 
 pub few_constraints : (q : BodyView) (s : Space) (cs : List Constraint) → AreStated s (question_demands q) cs → length cs ≡ length (question_demands q)
 few_constraints q s cs h = zip-length (λ (d : LineDemand) (c : Constraint). States s d.place d.demand c) (question_demands q) cs h

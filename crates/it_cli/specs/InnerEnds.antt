@@ -1,5 +1,5 @@
 -- How the calls inside a run end, by which the run's end is proved. No public clause cites this module.
-use Rattle.std.specs.Prelude.{◌≡◌, ℕ, List, [], ◌⊎◌, Option}
+use Rattle.std.specs.Prelude.{◌≡◌, ℕ, List, [], ◌⊎◌, map, Option}
 use Rattle.it_outside.specs.Causes.{Rose}
 use Rattle.it_outside.specs.Traffic.{Gains, TookFront}
 use Rattle.it_syntax.specs.declared.types.Code.{Code}
@@ -7,11 +7,13 @@ use Rattle.it_question.specs.Questions.{QuestionView}
 use Rattle.it_question.specs.Files.{FileFaultAt}
 use Rattle.it_settings.specs.declared.types.Format.{Format}
 use Rattle.it_settings.specs.declared.types.Settings.{Settings}
-use Rattle.it_cli.specs.Questions.{AreAnswerable, IsLaterFile}
+use Rattle.it_contain.specs.Proposals.{Plan, plan_after_all}
 use Rattle.it_answer.specs.declared.types.Budgets.{Budgets}
-use Rattle.it_cli.specs.Right.{AreAnswered, AnsweredInPart}
+use Rattle.it_answer.specs.Replies.{Reply}
+use Rattle.it_answer.specs.RightAnswers.{IsRightAnswer}
+use Rattle.it_cli.specs.Right.{AreAnswered, AnsweredInPart, answer_text_of}
 use Rattle.it_cli.specs.Outputs.{IsAnswerMode, IsOutput, IsOutputInPart}
-use Rattle.it_cli.specs.Refusals.{later_line, fault_line}
+use Rattle.it_cli.specs.Refusals.{fault_line}
 use Rattle.it_cli.specs.declared.status.Status.{Status}
 use Rattle.it_cli.specs.declared.status.Status.TheVariants.{Done, Invalid, Refused, WriteFault, Memory}
 
@@ -24,57 +26,53 @@ EndOfLine old new before now line status result =
 abbrev pub EndOfLineOrMemory : Option (List ℕ) → Option (List ℕ) → ℕ → ℕ → List ℕ → Status → Status → Type 0
 EndOfLineOrMemory old new before now line status result = EndOfLine old new before now line status result ⊎ ((result ≡ Memory) × Gains old new [])
 
+-- the lines of a right answer to question k, by boxes with these plans before it and after it
+pub record IsAnswerText (budgets : Budgets) (plans : List Plan) (format : Format) (k : ℕ) (q : QuestionView) (plans_after : List Plan) (bytes : List ℕ) : Type 0 where
+  pub reply : Reply
+  pub right : IsRightAnswer budgets plans q.body reply
+  pub learned : plans_after ≡ map (plan_after_all reply.found) plans
+  pub is : bytes ≡ answer_text_of format k q reply
+
 -- some of the answers stand in the sink
-pub record AnswersInPart (budgets : Budgets) (format : Format) (old new : Option (List ℕ)) (qs : List QuestionView) : Type 0 where
+pub record AnswersInPart (budgets : Budgets) (plans : List Plan) (format : Format) (old new : Option (List ℕ)) (qs : List QuestionView) : Type 0 where
   pub out : List ℕ
-  pub answered : AnsweredInPart budgets format qs out
+  pub answered : AnsweredInPart budgets plans format qs out
   pub wrote : Gains old new out
 
 -- all of them do
-pub record AllAnswers (budgets : Budgets) (format : Format) (old new : Option (List ℕ)) (qs : List QuestionView) : Type 0 where
+pub record AllAnswers (budgets : Budgets) (plans : List Plan) (format : Format) (old new : Option (List ℕ)) (qs : List QuestionView) : Type 0 where
   pub out : List ℕ
-  pub answered : AreAnswered budgets format qs out
+  pub answered : AreAnswered budgets plans format qs out
   pub wrote : Gains old new out
 
 -- what was done for these questions
-abbrev pub EndOfAnswers : Budgets → Format → Option (List ℕ) → Option (List ℕ) → ℕ → ℕ → List QuestionView → Status → Type 0
-EndOfAnswers budgets format old new before now qs Done = AllAnswers budgets format old new qs
-EndOfAnswers budgets format old new before now qs WriteFault = Rose before now × AnswersInPart budgets format old new qs
-EndOfAnswers budgets format old new before now qs Memory = AnswersInPart budgets format old new qs
-EndOfAnswers budgets format old new before now qs _ = ⊥
+abbrev pub EndOfAnswers : Budgets → List Plan → Format → Option (List ℕ) → Option (List ℕ) → ℕ → ℕ → List QuestionView → Status → Type 0
+EndOfAnswers budgets plans format old new before now qs Done = AllAnswers budgets plans format old new qs
+EndOfAnswers budgets plans format old new before now qs WriteFault = Rose before now × AnswersInPart budgets plans format old new qs
+EndOfAnswers budgets plans format old new before now qs Memory = AnswersInPart budgets plans format old new qs
+EndOfAnswers budgets plans format old new before now qs _ = ⊥
 
--- the line with which bytes are refused: that of their first fault, or the later line
+-- the line with which bytes are refused, that of their first fault
 abbrev pub IsRefusal : List ℕ → List ℕ → Type 0
-IsRefusal bytes text =
-    ((line : ℕ) × (column : ℕ) × (code : Code) × FileFaultAt bytes line column code × (text ≡ fault_line line column code))
-    ⊎ (IsLaterFile bytes × (text ≡ later_line))
+IsRefusal bytes text = (line : ℕ) × (column : ℕ) × (code : Code) × FileFaultAt bytes line column code × (text ≡ fault_line line column code)
 
 -- an output of a mode stands in the sink, whole or in part
-pub record WroteOutput (old new : Option (List ℕ)) (settings : Settings) (bytes : List ℕ) (status : Status) : Type 0 where
+pub record WroteOutput (plans : List Plan) (old new : Option (List ℕ)) (settings : Settings) (bytes : List ℕ) (status : Status) : Type 0 where
   pub out : List ℕ
-  pub output : IsOutput settings bytes out status
+  pub output : IsOutput plans settings bytes out status
   pub wrote : Gains old new out
 
-pub record WroteInPart (old new : Option (List ℕ)) (settings : Settings) (bytes : List ℕ) : Type 0 where
+pub record WroteInPart (plans : List Plan) (old new : Option (List ℕ)) (settings : Settings) (bytes : List ℕ) : Type 0 where
   pub out : List ℕ
-  pub output : IsOutputInPart settings bytes out
+  pub output : IsOutputInPart plans settings bytes out
   pub wrote : Gains old new out
-
--- what was done for these questions, which keep the limits
-abbrev pub EndOfQuestions : Budgets → Format → Option (List ℕ) → Option (List ℕ) → ℕ → ℕ → List QuestionView → Status → Type 0
-EndOfQuestions budgets format old new before now qs Refused = (AreAnswerable qs → ⊥) × Gains old new later_line
-EndOfQuestions budgets format old new before now qs WriteFault = Rose before now
-    × (((AreAnswerable qs → ⊥) × TookFront old new later_line) ⊎ (AreAnswerable qs × AnswersInPart budgets format old new qs))
-EndOfQuestions budgets format old new before now qs Done = AreAnswerable qs × AllAnswers budgets format old new qs
-EndOfQuestions budgets format old new before now qs Memory = AreAnswerable qs × AnswersInPart budgets format old new qs
-EndOfQuestions budgets format old new before now qs _ = ⊥
 
 -- what was done for these bytes
-abbrev pub EndOfBytes : Option (List ℕ) → Option (List ℕ) → ℕ → ℕ → Settings → List ℕ → Status → Type 0
-EndOfBytes old new before now settings bytes Refused = IsAnswerMode settings × (text : List ℕ) × IsRefusal bytes text × Gains old new text
-EndOfBytes old new before now settings bytes WriteFault = Rose before now
-    × ((IsAnswerMode settings × (text : List ℕ) × IsRefusal bytes text × TookFront old new text) ⊎ WroteInPart old new settings bytes)
-EndOfBytes old new before now settings bytes Done = WroteOutput old new settings bytes Done
-EndOfBytes old new before now settings bytes Invalid = WroteOutput old new settings bytes Invalid
-EndOfBytes old new before now settings bytes Memory = (Gains old new []) ⊎ WroteInPart old new settings bytes
-EndOfBytes old new before now settings bytes _ = ⊥
+abbrev pub EndOfBytes : List Plan → Option (List ℕ) → Option (List ℕ) → ℕ → ℕ → Settings → List ℕ → Status → Type 0
+EndOfBytes plans old new before now settings bytes Refused = IsAnswerMode settings × (text : List ℕ) × IsRefusal bytes text × Gains old new text
+EndOfBytes plans old new before now settings bytes WriteFault = Rose before now
+    × ((IsAnswerMode settings × (text : List ℕ) × IsRefusal bytes text × TookFront old new text) ⊎ WroteInPart plans old new settings bytes)
+EndOfBytes plans old new before now settings bytes Done = WroteOutput plans old new settings bytes Done
+EndOfBytes plans old new before now settings bytes Invalid = WroteOutput plans old new settings bytes Invalid
+EndOfBytes plans old new before now settings bytes Memory = (Gains old new []) ⊎ WroteInPart plans old new settings bytes
+EndOfBytes plans old new before now settings bytes _ = ⊥

@@ -1,8 +1,10 @@
 pub mod Questions
 pub mod Refusals
 pub mod Right
+pub mod Counts
 pub mod Outputs
 pub mod Ends
 pub mod InnerEnds
+pub mod Laws
 pub mod Numbers
 pub mod Accepted

@@ -1,27 +1,31 @@
 -- What a whole input is answered with, by the mode that the words ask for.
-use Rattle.std.specs.Prelude.{◌≡◌, ℕ, List, Bool, true, false, ◌||◌}
+use Rattle.std.specs.Prelude.{◌≡◌, ℕ, List, Bool, true, false, ◌||◌, Option, Some, None}
 use Rattle.it_outside.specs.Groups.{Groups, GroupsInPart}
-use Rattle.it_settings.specs.declared.types.Format.{Format}
+use Rattle.it_outside.specs.Traffic.{IsFront}
 use Rattle.it_settings.specs.declared.types.Settings.{Settings}
-use Rattle.it_settings.specs.declared.types.Settings.TheVariants.{Answer, Check}
+use Rattle.it_settings.specs.declared.types.Settings.TheVariants.{Answer, Check, Bench}
 use Rattle.it_question.specs.Lines.{split_lines}
 use Rattle.it_question.specs.Questions.{QuestionView}
+use Rattle.it_contain.specs.Proposals.{Plan}
 use Rattle.it_report.specs.Judging.{IsVerdict}
 use Rattle.it_report.specs.LineVerdicts.{LineVerdict, is_invalid, verdict_line}
-use Rattle.it_cli.specs.Questions.{IsAnswerableFile}
+use Rattle.it_cli.specs.Questions.{IsQuestionFile}
 use Rattle.it_cli.specs.Right.{AnsweredInPart, Answers, budgets_of}
+use Rattle.it_cli.specs.Counts.{IsBenchLine}
 use Rattle.it_cli.specs.declared.status.Status.{Status}
 use Rattle.it_cli.specs.declared.status.Status.TheVariants.{Done, Invalid}
 
--- the most bytes of an input: of a question file, and of a report
-abbrev pub most_bytes : Settings → ℕ
-most_bytes (Answer format pivots rows tries) = 1048576
-most_bytes Check = 67108864
+-- the most bytes of an input, a question file or a report; none where the mode has no input
+abbrev pub most_bytes : Settings → Option ℕ
+most_bytes (Answer format pivots rows tries) = Some 1048576
+most_bytes Check = Some 67108864
+most_bytes (Bench seed count pivots rows tries) = None
 
 -- the input is a question file
 abbrev pub IsAnswerMode : Settings → Type 0
 IsAnswerMode (Answer format pivots rows tries) = Unit {0}
 IsAnswerMode Check = ⊥
+IsAnswerMode (Bench seed count pivots rows tries) = ⊥
 
 -- ---- the verdicts on a report
 
@@ -50,12 +54,14 @@ verdict_status false = Done
 
 -- ---- the output of each mode
 
--- the output for the bytes of an input, with the status after it
-abbrev pub IsOutput : Settings → List ℕ → List ℕ → Status → Type 0
-IsOutput (Answer format pivots rows tries) bytes out status = Answers (budgets_of pivots rows tries) format bytes out × (status ≡ Done)
-IsOutput Check bytes out status = (some_invalid : Bool) × Verdicts bytes some_invalid out × (status ≡ verdict_status some_invalid)
+-- the output for the bytes of an input, with the status after it; the boxes had these plans
+abbrev pub IsOutput : List Plan → Settings → List ℕ → List ℕ → Status → Type 0
+IsOutput plans (Answer format pivots rows tries) bytes out status = Answers (budgets_of pivots rows tries) plans format bytes out × (status ≡ Done)
+IsOutput plans Check bytes out status = (some_invalid : Bool) × Verdicts bytes some_invalid out × (status ≡ verdict_status some_invalid)
+IsOutput plans (Bench seed count pivots rows tries) bytes out status = IsBenchLine (budgets_of pivots rows tries) plans seed count out × (status ≡ Done)
 
--- the first groups of such an output, and then a front of the next one
-abbrev pub IsOutputInPart : Settings → List ℕ → List ℕ → Type 0
-IsOutputInPart (Answer format pivots rows tries) bytes out = (qs : List QuestionView) × IsAnswerableFile bytes qs × AnsweredInPart (budgets_of pivots rows tries) format qs out
-IsOutputInPart Check bytes out = VerdictsInPart bytes out
+-- the first groups of such an output, and then a front of the next one; or a front of its one line
+abbrev pub IsOutputInPart : List Plan → Settings → List ℕ → List ℕ → Type 0
+IsOutputInPart plans (Answer format pivots rows tries) bytes out = (qs : List QuestionView) × IsQuestionFile bytes qs × AnsweredInPart (budgets_of pivots rows tries) plans format qs out
+IsOutputInPart plans Check bytes out = VerdictsInPart bytes out
+IsOutputInPart plans (Bench seed count pivots rows tries) bytes out = (line : List ℕ) × IsBenchLine (budgets_of pivots rows tries) plans seed count line × IsFront out line

@@ -1,71 +1,88 @@
 -- The lines of right answers to questions in order.
-use Rattle.std.specs.Prelude.{◌≡◌, ℕ, ℤ, List, ◌++◌, map, Bool, codes}
+use Rattle.std.specs.Prelude.{ℕ, List, [], ◌++◌, map, Option, codes}
 use Rattle.it_outside.specs.Groups.{Groups, GroupsInPart}
 use Rattle.it_settings.specs.declared.types.Format.{Format}
-use Rattle.it_settings.specs.declared.types.Format.TheVariants.{Text, Json}
+use Rattle.it_settings.specs.declared.types.Format.TheVariants.{Text, Json, Proof}
 use Rattle.it_space.specs.declared.problems.Origin.{Origin}
-use Rattle.it_space.specs.Answers.{AnswerView, CertificateView}
-use Rattle.it_space.specs.Answers.AnswerView.{Yes, No}
+use Rattle.it_space.specs.Answers.{AnswerView}
+use Rattle.it_space.specs.Rows.{Terms}
+use Rattle.it_space.specs.Spaces.{size_of}
+use Rattle.it_polymatroid.specs.Certificates.{Form}
+use Rattle.it_elemental.specs.Generators.{Generator}
 use Rattle.it_question.specs.Questions.{BodyView, QuestionView}
-use Rattle.it_canon.specs.QuestionDemands.{question_demands}
+use Rattle.it_canon.specs.Demands.{Demand}
+use Rattle.it_canon.specs.QuestionDemands.{problem_names, question_demands, space_of, variables_of}
+use Rattle.it_canon.specs.RowsOfForms.{terms_of}
+use Rattle.it_region.specs.declared.types.Candidate.{Candidate}
+use Rattle.it_contain.specs.Proposals.{Plan, plan_after_all}
 use Rattle.it_certificate.specs.Values.{answer_text}
 use Rattle.it_print.specs.Lines.{answer_line}
+use Rattle.it_print.specs.ProofLines.{proof_text}
 use Rattle.it_answer.specs.declared.types.Budgets.{Budgets}
-use Rattle.it_answer.specs.AnswerableQuestions.{IsAnswerable}
+use Rattle.it_answer.specs.Forms.{all_demands, demand_at}
+use Rattle.it_answer.specs.AnswerForms.{answer_forms}
+use Rattle.it_answer.specs.Replies.{Reply}
 use Rattle.it_answer.specs.RightAnswers.{IsRightAnswer}
-use Rattle.it_cli.specs.Questions.{IsAnswerableFile}
+use Rattle.it_cli.specs.Questions.{IsQuestionFile}
 
--- how much an answer may cost: the steps of a run, the rows after a rate and the candidates that are tried
-abbrev pub budgets_of : ℕ → ℕ → ℕ → Budgets
+-- how much an answer may cost: the steps of a run, if they are bounded, the rows after a rate and the candidates that are tried
+abbrev pub budgets_of : Option ℕ → ℕ → ℕ → Budgets
 budgets_of pivots rows tries = record { pivots = pivots; rows = rows; tries = tries }
+
+-- what an answer rests on beside its question: the candidates that were found for earlier ones, of which the boxes know
+abbrev pub Context : Type 0
+Context = List Candidate
+
+-- the boxes had these plans before the first question
+abbrev pub IsRightAfter : Budgets → List Plan → Context → QuestionView → Reply → Type 0
+IsRightAfter budgets plans before q reply = IsRightAnswer budgets (map (plan_after_all before) plans) q.body reply
+
+abbrev pub after_answer : Context → QuestionView → Reply → Context
+after_answer before q reply = before ++ reply.found
+
+-- ---- the lines of an answer
 
 -- where the constraints of a question come from
 abbrev pub places : BodyView → List Origin
 places q = map (λ d. d.place) (question_demands q)
 
--- What an answer rests on beside its question: nothing yet.
-abbrev pub Context : Type 0
-Context = Unit {0}
+-- a form's terms over the coordinates of the question
+abbrev pub terms_in : BodyView → Form → Terms
+terms_in q form = terms_of (size_of (space_of (problem_names q))) form
 
-abbrev pub IsRightAfter : Budgets → Context → QuestionView → AnswerView → Type 0
-IsRightAfter budgets before q a = IsRightAnswer budgets q.body a
+-- what a demand says, as a row
+abbrev pub row_of_demand : BodyView → Demand → Generator
+row_of_demand q d = record { kind = d.kind; row = terms_in q d.form }
 
-abbrev pub after_answer : Context → QuestionView → AnswerView → Context
-after_answer before q a = before
+-- the rows of a question's generators, by number
+abbrev pub rows_of : BodyView → ℕ → Generator
+rows_of q g = row_of_demand q (demand_at (all_demands (variables_of q) (question_demands q)) g)
 
 -- the line of an answer in the format `json`
 abbrev pub json_line : QuestionView → AnswerView → List ℕ
 json_line q a = answer_text q.text q.body.names a ++ codes "\n"
 
 -- the lines of an answer to question k
-abbrev pub answer_text_of : Format → ℕ → QuestionView → AnswerView → List ℕ
-answer_text_of Text k q a = answer_line k q.body.names (places q.body) a
-answer_text_of Json k q a = json_line q a
+abbrev pub answer_lines : Format → ℕ → QuestionView → AnswerView → List ℕ
+answer_lines Text k q a = answer_line k q.body (places q.body) a
+answer_lines Json k q a = json_line q a
+answer_lines Proof k q a = proof_text k q.body (places q.body) (rows_of q.body) (map (terms_in q.body) (answer_forms q.body a)) a
+
+abbrev pub answer_text_of : Format → ℕ → QuestionView → Reply → List ℕ
+answer_text_of format k q reply = answer_lines format k q reply.answer
+
+-- ---- the output of a file
 
 -- one right answer for each question in order
-abbrev pub AreAnswered : Budgets → Format → List QuestionView → List ℕ → Type 0
-AreAnswered budgets format qs out = (t : Context) × Groups (IsRightAfter budgets) after_answer (answer_text_of format) 1 tt qs t out
+abbrev pub AreAnswered : Budgets → List Plan → Format → List QuestionView → List ℕ → Type 0
+AreAnswered budgets plans format qs out = (found : Context) × Groups (IsRightAfter budgets plans) after_answer (answer_text_of format) 1 [] qs found out
 
 -- right answers to the first questions, and then a front of the lines of a right answer to the next
-abbrev pub AnsweredInPart : Budgets → Format → List QuestionView → List ℕ → Type 0
-AnsweredInPart budgets format qs out = GroupsInPart (IsRightAfter budgets) after_answer (answer_text_of format) 1 tt qs out
+abbrev pub AnsweredInPart : Budgets → List Plan → Format → List QuestionView → List ℕ → Type 0
+AnsweredInPart budgets plans format qs out = GroupsInPart (IsRightAfter budgets plans) after_answer (answer_text_of format) 1 [] qs out
 
--- the output of a file: the lines of one right answer for each of its questions
-pub record Answers (budgets : Budgets) (format : Format) (bytes out : List ℕ) : Type 0 where
+-- the lines of one right answer for each of the file's questions
+pub record Answers (budgets : Budgets) (plans : List Plan) (format : Format) (bytes out : List ℕ) : Type 0 where
   pub questions : List QuestionView
-  pub asked : IsAnswerableFile bytes questions
-  pub answered : AreAnswered budgets format questions out
-
--- the lines of a right answer to question k
-pub record IsAnswerText (budgets : Budgets) (format : Format) (k : ℕ) (before : Context) (q : QuestionView) (bytes : List ℕ) : Type 0 where
-  pub answer : AnswerView
-  pub right : IsRightAfter budgets before q answer
-  pub is : bytes ≡ answer_text_of format k q answer
-
--- no question has both a right yes and a right no
-abbrev pub OneVerdict : Type 0
-OneVerdict = (budgets : Budgets) (q : BodyView) (ws : List CertificateView) (is_back : Bool) (values : List ℤ) → IsAnswerable q → IsRightAnswer budgets q (Yes ws) → IsRightAnswer budgets q (No is_back values) → ⊥
-
--- an input has one output
-abbrev pub OneOutput : Type 0
-OneOutput = (budgets : Budgets) (format : Format) (bytes out other : List ℕ) → Answers budgets format bytes out → Answers budgets format bytes other → out ≡ other
+  pub asked : IsQuestionFile bytes questions
+  pub answered : AreAnswered budgets plans format questions out

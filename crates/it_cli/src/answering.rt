@@ -1,28 +1,30 @@
 //! Mode `answer`: a question file and its answers.
 ghost use Rattle.std.specs.Prelude.{◌≡◌, ◌≤◌, length, map, All, IfOk, IsAscii};
-ghost use Rattle.std.specs.Bool.{OnFalse, OnTrue};
 ghost use Rattle.it_settings.specs.declared.types.Settings.TheVariants as settings;
 ghost use Rattle.it_space.specs.Answers.{answer_view};
 ghost use Rattle.it_question.specs.AsciiTexts.{IsAsciiQuestion};
 ghost use Rattle.it_question.specs.Limits.{IsQuestion};
 ghost use Rattle.it_question.specs.Questions.{question_view, question_body};
-ghost use Rattle.it_answer.specs.AnswerableQuestions.{IsAnswerable};
-ghost use Rattle.it_cli.specs.Questions.{AreAnswerable};
-ghost use Rattle.it_cli.specs.Refusals.{fault_line};
+ghost use Rattle.it_canon.specs.Demands.{AreStated};
+ghost use Rattle.it_canon.specs.QuestionDemands.{problem_names, question_demands, space_of};
+ghost use Rattle.it_answer.specs.AnswerForms.{IsAnswerTo, answer_forms};
 ghost use Rattle.it_print.specs.Lines.{IsPrintable, answer_line, places_of};
+ghost use Rattle.it_print.specs.ProofLines.{generator_rows, proof_text};
 ghost use Rattle.it_certificate.specs.Values.{IsWritable};
-ghost use Rattle.it_cli.specs.Right.{IsAnswerText, json_line};
-ghost use Rattle.it_cli.specs.InnerEnds.{EndOfAnswers, EndOfBytes, EndOfLineOrMemory, EndOfQuestions};
+ghost use Rattle.it_cli.specs.InnerEnds.{EndOfAnswers, EndOfBytes, EndOfLineOrMemory, IsAnswerText};
+ghost use Rattle.it_cli.specs.Refusals.{fault_line};
+ghost use Rattle.it_cli.specs.Right.{answer_lines, json_line, terms_in};
 
-use crate::refusals::{LATER, fault_line};
+use crate::refusals::fault_line;
 use crate::status::Status;
 use crate::telling::tell;
-use it_answer::{AnsweredProblem, Budgets, answer};
+use it_answer::{AnsweredProblem, Budgets, answer, target_rows};
 use it_certificate::answer_json;
+use it_contain::Proposer;
 use it_outside::{Sink, write_all};
-use it_print::answer_line;
+use it_print::{answer_line, proof_text};
 use it_question::questions;
-use it_question::types::{FileFault, Question, Verb};
+use it_question::types::{FileFault, Question};
 use it_settings::types::Format;
 use it_space::Answer;
 use it_syntax::types::Code;
@@ -34,57 +36,16 @@ pub fn answer_file<K: Sink>(
     format: Format,
     budgets: Budgets,
     bytes: &[u8],
+    boxes: &mut Vec<Box<dyn Proposer>>,
     sink: &mut K,
 ) -> Status
     requires { length bytes.now ≤ 1048576 }
-    ensures { EndOfBytes (K.taken sink.old) (K.taken sink.new) (K.faults sink.old) (K.faults sink.new) (settings.Answer format budgets.pivots budgets.rows budgets.tries) bytes.now result }
+    ensures { EndOfBytes (map plan boxes.old.items) (K.taken sink.old) (K.taken sink.new) (K.faults sink.old) (K.faults sink.new) (settings.Answer format budgets.pivots budgets.rows budgets.tries) bytes.now result }
 {
     match questions(alloc, bytes) {
-        Ok(questions) => answer_questions(alloc, format, budgets, questions.as_slice(), sink),
+        Ok(questions) => answer_all(alloc, format, budgets, questions.as_slice(), boxes, sink),
         Err(FileFault::Fault { line, column, code }) => tell_fault(alloc, line, column, code, sink),
         Err(FileFault::Memory) => Status::Memory,
-    }
-}
-
-/// What is done for the questions of a file.
-fn answer_questions<K: Sink>(
-    alloc: Global,
-    format: Format,
-    budgets: Budgets,
-    questions: &[Question],
-    sink: &mut K,
-) -> Status
-    requires limits { All (λ q. IsQuestion (question_body q)) questions.now }
-    requires ascii { All IsAsciiQuestion (map question_view questions.now) }
-    ensures { EndOfQuestions budgets format (K.taken sink.old) (K.taken sink.new) (K.faults sink.old) (K.faults sink.new) (map question_view questions.now) result }
-{
-    if !are_answerable(questions) {
-        return tell(sink, LATER, Status::Refused);
-    }
-    answer_all(alloc, format, budgets, questions, sink)
-}
-
-/// Whether all questions are answered so far.
-fn are_answerable(questions: &[Question]) -> bool
-    ensures yes { OnTrue result (AreAnswerable (map question_view questions.now)) }
-    ensures no { OnFalse result (¬ (AreAnswerable (map question_view questions.now))) }
-{
-    for question in questions {
-        if !is_answerable(question) {
-            return false;
-        }
-    }
-    true
-}
-
-/// Whether a question is answered so far: its verb is `prove` or `eliminate`.
-fn is_answerable(question: &Question) -> bool
-    ensures yes { OnTrue result (IsAnswerable (question_body question.now)) }
-    ensures no { OnFalse result (¬ (IsAnswerable (question_body question.now))) }
-{
-    match &question.verb {
-        Verb::Prove(_) | Verb::Eliminate(_) => true,
-        Verb::Contain { .. } => false,
     }
 }
 
@@ -94,15 +55,15 @@ fn answer_all<K: Sink>(
     format: Format,
     budgets: Budgets,
     questions: &[Question],
+    boxes: &mut Vec<Box<dyn Proposer>>,
     sink: &mut K,
 ) -> Status
     requires limits { All (λ q. IsQuestion (question_body q)) questions.now }
     requires ascii { All IsAsciiQuestion (map question_view questions.now) }
-    requires answerable { AreAnswerable (map question_view questions.now) }
-    ensures { EndOfAnswers budgets format (K.taken sink.old) (K.taken sink.new) (K.faults sink.old) (K.faults sink.new) (map question_view questions.now) result }
+    ensures { EndOfAnswers budgets (map plan boxes.old.items) format (K.taken sink.old) (K.taken sink.new) (K.faults sink.old) (K.faults sink.new) (map question_view questions.now) result }
 {
     for (i, question) in questions.iter().enumerate() {
-        let Ok(text) = answer_one(alloc, format, budgets, i + 1, question) else {
+        let Ok(text) = answer_one(alloc, format, budgets, i + 1, question, boxes) else {
             return Status::Memory;
         };
         let Ok(()) = write_all(sink, text.as_slice()) else {
@@ -119,16 +80,37 @@ fn answer_one(
     budgets: Budgets,
     k: usize,
     question: &Question,
+    boxes: &mut Vec<Box<dyn Proposer>>,
 ) -> Result<Vec<u8>, AllocError>
     requires limits { IsQuestion (question_body question.now) }
     requires ascii { IsAsciiQuestion (question_view question.now) }
-    requires answerable { IsAnswerable (question_body question.now) }
-    ensures { IfOk result (λ text. IsAnswerText budgets format k tt (question_view question.now) text.items) }
+    ensures { IfOk result (λ text. IsAnswerText budgets (map plan boxes.old.items) format k (question_view question.now) (map plan boxes.new.items) text.items) }
 {
-    let answered = answer(alloc, question, budgets)?;
+    let answered = answer(alloc, question, budgets, boxes)?;
+    let text = lines(alloc, format, k, question, &answered)?;
+    Ok(text)
+}
+
+/// The lines of an answer in a format.
+fn lines(
+    alloc: Global,
+    format: Format,
+    k: usize,
+    question: &Question,
+    answered: &AnsweredProblem,
+) -> Result<Vec<u8>, AllocError>
+    requires limits { IsQuestion (question_body question.now) }
+    requires ascii { IsAsciiQuestion (question_view question.now) }
+    requires stated { AreStated answered.now.problem.space (question_demands (question_body question.now)) answered.now.problem.constraints.items }
+    requires space { answered.now.problem.space ≡ space_of (problem_names (question_body question.now)) }
+    requires fits { IsAnswerTo (question_body question.now) (answer_view answered.now.answer) }
+    requires printable { IsPrintable (question_body question.now) (length answered.now.problem.constraints.items) answered.now.answer }
+    ensures { IfOk result (λ text. text.items ≡ answer_lines format k (question_view question.now) (answer_view answered.now.answer)) }
+{
     match format {
-        Format::Text => text_lines(alloc, k, question, &answered),
+        Format::Text => text_lines(alloc, k, question, answered),
         Format::Json => json_line(alloc, question, &answered.answer),
+        Format::Proof => proof_lines(alloc, k, question, answered),
     }
 }
 
@@ -139,14 +121,14 @@ fn text_lines(
     question: &Question,
     answered: &AnsweredProblem,
 ) -> Result<Vec<u8>, AllocError>
-    requires some { 1 ≤ length question.now.names.variables }
-    requires printable { IsPrintable question.now.names (length answered.now.problem.constraints.items) answered.now.answer }
-    ensures { IfOk result (λ text. text.items ≡ answer_line k question.now.names (places_of answered.now.problem.constraints.items) (answer_view answered.now.answer)) }
+    requires limits { IsQuestion (question_body question.now) }
+    requires printable { IsPrintable (question_body question.now) (length answered.now.problem.constraints.items) answered.now.answer }
+    ensures { IfOk result (λ text. text.items ≡ answer_line k (question_body question.now) (places_of answered.now.problem.constraints.items) (answer_view answered.now.answer)) }
 {
     answer_line(
         alloc,
         k,
-        &question.names,
+        question,
         answered.problem.constraints.as_slice(),
         &answered.answer,
     )
@@ -161,6 +143,31 @@ fn json_line(alloc: Global, question: &Question, answer: &Answer) -> Result<Vec<
     let mut line = answer_json(alloc, question.text.as_slice(), &question.names, answer)?;
     line.extend_from_slice(b"\n")?;
     Ok(line)
+}
+
+/// The lines of an answer in the format `proof`, with the rows of which it has certificates.
+fn proof_lines(
+    alloc: Global,
+    k: usize,
+    question: &Question,
+    answered: &AnsweredProblem,
+) -> Result<Vec<u8>, AllocError>
+    requires limits { IsQuestion (question_body question.now) }
+    requires stated { AreStated answered.now.problem.space (question_demands (question_body question.now)) answered.now.problem.constraints.items }
+    requires space { answered.now.problem.space ≡ space_of (problem_names (question_body question.now)) }
+    requires fits { IsAnswerTo (question_body question.now) (answer_view answered.now.answer) }
+    requires printable { IsPrintable (question_body question.now) (length answered.now.problem.constraints.items) answered.now.answer }
+    ensures { IfOk result (λ text. text.items ≡ proof_text k (question_body question.now) (places_of answered.now.problem.constraints.items) (generator_rows (problem_names (question_body question.now)) answered.now.problem.constraints.items) (map (terms_in (question_body question.now)) (answer_forms (question_body question.now) (answer_view answered.now.answer))) (answer_view answered.now.answer)) }
+{
+    let targets = target_rows(alloc, question, &answered.answer)?;
+    proof_text(
+        alloc,
+        k,
+        question,
+        answered.problem.constraints.as_slice(),
+        targets.as_slice(),
+        &answered.answer,
+    )
 }
 
 /// Writes the line of the file's first fault.

@@ -1,6 +1,7 @@
 //! Mode `check`: a report and its verdicts.
-ghost use Rattle.std.specs.Prelude.{◌≡◌};
+ghost use Rattle.std.specs.Prelude.{◌≡◌, List};
 ghost use Rattle.it_settings.specs.declared.types.Settings.TheVariants.{Check};
+ghost use Rattle.it_contain.specs.Proposals.{Plan};
 ghost use Rattle.it_cli.specs.InnerEnds.{EndOfBytes};
 ghost use Rattle.it_cli.specs.Outputs.{verdict_status};
 
@@ -12,7 +13,7 @@ use std::alloc::Global;
 
 /// What is done for the bytes of a report: each verdict is written as soon as it is there.
 pub fn check_report<K: Sink>(alloc: Global, bytes: &[u8], sink: &mut K) -> Status
-    ensures { EndOfBytes (K.taken sink.old) (K.taken sink.new) (K.faults sink.old) (K.faults sink.new) Check bytes.now result }
+    ensures { (plans : List Plan) → EndOfBytes plans (K.taken sink.old) (K.taken sink.new) (K.faults sink.old) (K.faults sink.new) Check bytes.now result }
 {
     let mut rest = bytes;
     let mut count: usize = 0;

@@ -1,53 +1,93 @@
 //! Theorems on how a run ends and on what it writes, each as the contract of a function.
-ghost use Rattle.it_answer.specs.RightAnswers.{ANoIsTrue, ARegionIsTrue, AYesAscends, AYesIsTrue, NoStepIsZero, OneRightAnswer};
+ghost use Rattle.it_answer.specs.RightAnswers.{AContainmentIsTrue, ANoIsTrue, ARegionIsTrue, AYesAscends, AYesIsTrue, NoStepIsZero, OneRightAnswer};
 ghost use Rattle.it_cli.specs.Accepted.{OutputIsAccepted, ReportsAreAccepted};
-ghost use Rattle.it_cli.specs.Ends.{FaultIsDue, Headline, IsComplete, LaterIsDue, LongIsDue, UsageIsDue, VerdictsAreWritten};
-ghost use Rattle.it_cli.specs.Right.{OneOutput, OneVerdict};
+ghost use Rattle.it_cli.specs.Laws.{BenchReadsNothing, CountsAddUp, CountsAreWritten, FaultIsDue, Headline, IsComplete, LongIsDue, NeverOutOfSteps, NeverYesAndNo, OneOutput, SureEnds, UsageIsDue, VerdictsAreWritten};
 
+use it_answer::answers_are_determined;
 use it_certificate::answers_read_back;
+use it_gen::generated_is_file;
+use it_question::file_is_one;
+use it_report::verdict_is_one;
 
-/// What a run that is done has written: right answers to all that the source gave, or the verdicts on it.
+/// What a run that is done has written: right answers to all that the source gave, or the verdicts on it, or the counts of right
+/// answers to a generated file.
 pub fn headline()
     ensures answers { Headline }
     ensures verdicts { VerdictsAreWritten }
+    ensures counts { CountsAreWritten }
 {}
 
-/// With a reading, an input that is given and read, whose questions are answered so far, and no fault counted, all is
-/// answered or memory is wanted.
+/// With a reading, an input that is given whole and read, where the mode has one, and no fault counted, the whole output is
+/// written or memory is wanted.
 pub fn is_complete()
     ensures { IsComplete }
+{
+    file_is_one();
+}
+
+/// Over a source and a sink that never count a fault, as `SureSource` and `SureSink` of it_outside, neither status of a fault
+/// comes.
+pub fn no_fault_without_cause()
+    ensures { SureEnds }
 {}
 
-/// The usage line and the refusals come where they are due, but for want of memory and for faults.
+/// The usage line and the refusals come where they are due, but for want of memory and for faults. Mode `bench` refuses nothing and
+/// leaves the source as it was.
 pub fn are_due()
     ensures usage { UsageIsDue }
     ensures long { LongIsDue }
     ensures fault { FaultIsDue }
-    ensures later { LaterIsDue }
-{}
+    ensures bench { BenchReadsNothing }
+{
+    file_is_one();
+}
 
 /// Where a yes is right the relation holds at every polymatroid and rates that make the lines true; where a no is right its
 /// values are ones at which it doesn't. So no question has both. Where a region is right its rows hold exactly at the points that
-/// extend to the eliminated rates.
+/// extend to the eliminated rates. Where a containment is right the first region lies in the second.
 pub fn verdicts_are_true()
     ensures yes { AYesIsTrue }
     ensures no { ANoIsTrue }
     ensures region { ARegionIsTrue }
-    ensures one { OneVerdict }
-{}
+    ensures contained { AContainmentIsTrue }
+    ensures one { NeverYesAndNo }
+{
+    it_answer::verdicts_are_true();
+}
 
-/// A question has one right answer, whose certificates list their generators in ascending order, and so an input has one
-/// output.
+/// For given budgets and boxes a question has one right answer, whose certificates list their generators in ascending order, and so
+/// an input has one output.
 pub fn output_is_determined()
     ensures answer { OneRightAnswer }
     ensures ascends { AYesAscends }
     ensures output { OneOutput }
-{}
+{
+    answers_are_determined();
+    file_is_one();
+    verdict_is_one();
+}
+
+/// The counts of mode `bench` are of yes, no and undecided alone, and sum to the count of questions.
+pub fn counts_add_up()
+    ensures { CountsAddUp }
+{
+    generated_is_file();
+    file_is_one();
+}
+
+/// With `--pivots none` no answer is `undecided pivots`.
+pub fn never_out_of_steps()
+    ensures { NeverOutOfSteps }
+{
+    it_prove::never_out_of_steps();
+}
 
 /// `undecided width 0` is never written: a step that is too wide counts from 1.
 pub fn no_step_is_zero()
     ensures { NoStepIsZero }
-{}
+{
+    it_answer::no_step_is_zero();
+}
 
 /// The line of a right answer in the format `json`, where it is checked, is valid or skipped.
 pub fn reports_are_accepted()

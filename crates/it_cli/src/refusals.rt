@@ -9,9 +9,6 @@ use std::alloc::{AllocError, Global};
 /// The line of an input of too many bytes.
 pub const LONG: &[u8] = b"refused long\n";
 
-/// The line of a file with a question that isn't answered yet.
-pub const LATER: &[u8] = b"refused 1:1 later\n";
-
 /// The word of a code in the line of a fault.
 #[tactic(auto, unfolding(crate::specs::Refusals::code_word))]
 fn word(code: Code) -> &'static [u8]
@@ -25,7 +22,6 @@ fn word(code: Code) -> &'static [u8]
         Code::Number => b"number",
         Code::Many => b"many",
         Code::Unfinished => b"unfinished",
-        Code::Later => b"later",
     }
 }
 

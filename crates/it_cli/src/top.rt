@@ -1,16 +1,19 @@
 //! The top call.
 ghost use Rattle.std.specs.Prelude.{◌≡◌, ◌≤◌, ℕ, List, Some, length, map};
-ghost use Rattle.it_settings.specs.Settings.{settings_of};
+ghost use Rattle.std.specs.Option.{IfSome};
+ghost use Rattle.it_settings.specs.Settings.{AreInRange, settings_of};
 ghost use Rattle.it_cli.specs.Ends.{Ends, call_of};
-ghost use Rattle.it_cli.specs.InnerEnds.{EndOfBytes, EndOfLine};
+ghost use Rattle.it_cli.specs.InnerEnds.{EndOfBytes};
 ghost use Rattle.it_cli.specs.Outputs.{most_bytes};
 
 use crate::answering::answer_file;
+use crate::benching::bench;
 use crate::checking::check_report;
 use crate::refusals::LONG;
 use crate::status::Status;
 use crate::telling::tell;
 use it_answer::Budgets;
+use it_contain::Proposer;
 use it_outside::{InFault, Sink, Source, read_all};
 use it_settings::settings;
 use it_settings::types::{Settings, WordsFault};
@@ -19,18 +22,34 @@ use std::alloc::Global;
 const USAGE: &[u8] =
     b"usage: itip answer|check|bench [--format text|json|proof] [--pivots N] [--rows N] [--tries N] [--seed N] [--count N]\n";
 
-/// All that the program does: `words` are those of the command line after the program's name. The input is read whole before
-/// the first line of output. The lines of one question, or the line of one verdict, are written by one write, in order.
+/// All that the program does: `words` are those of the command line after the program's name, `proposers` the boxes that
+/// containments are looked for with. The input is read whole before the first line of output. The lines of one question, or the
+/// line of one verdict, are written by one write, in order.
 pub fn itip<S: Source, K: Sink>(
     alloc: Global,
     words: &[&str],
     source: &mut S,
     sink: &mut K,
+    proposers: Vec<Box<dyn Proposer>>,
 ) -> Status
-    ensures { Ends (call_of S.left S.faults K.taken K.faults (map (λ w. w.now) words.now) source.old source.new sink.old sink.new) result }
+    ensures { Ends (call_of S.left S.faults K.taken K.faults (map (λ w. w.now) words.now) (map plan proposers.items) source.old source.new sink.old sink.new) result }
+{
+    let mut boxes = proposers;
+    call(alloc, words, source, sink, &mut boxes)
+}
+
+/// The same, by boxes that outlive the call.
+fn call<S: Source, K: Sink>(
+    alloc: Global,
+    words: &[&str],
+    source: &mut S,
+    sink: &mut K,
+    boxes: &mut Vec<Box<dyn Proposer>>,
+) -> Status
+    ensures { Ends (call_of S.left S.faults K.taken K.faults (map (λ w. w.now) words.now) (map plan boxes.old.items) source.old source.new sink.old sink.new) result }
 {
     match settings(alloc, words) {
-        Ok(settings) => run(alloc, settings, source, sink),
+        Ok(settings) => run(alloc, settings, source, sink, boxes),
         Err(WordsFault::Usage) => tell(sink, USAGE, Status::Usage),
         Err(WordsFault::Memory) => Status::Memory,
     }
@@ -42,31 +61,60 @@ fn run<S: Source, K: Sink>(
     settings: Settings,
     source: &mut S,
     sink: &mut K,
+    boxes: &mut Vec<Box<dyn Proposer>>,
 ) -> Status
-    ensures { (words : List (List ℕ)) → settings_of words ≡ Some settings → Ends (call_of S.left S.faults K.taken K.faults words source.old source.new sink.old sink.new) result }
+    requires { AreInRange settings }
+    ensures { (words : List (List ℕ)) → settings_of words ≡ Some settings → Ends (call_of S.left S.faults K.taken K.faults words (map plan boxes.old.items) source.old source.new sink.old sink.new) result }
 {
-    match read_all(alloc, source, limit(settings)) {
-        Ok(bytes) => reply(alloc, settings, bytes.as_slice(), sink),
+    match limit(settings) {
+        Some(most) => read(alloc, settings, most, source, sink, boxes),
+        None => reply(alloc, settings, &[], sink, boxes),
+    }
+}
+
+/// What is done for words that ask for a mode with an input of at most so many bytes.
+fn read<S: Source, K: Sink>(
+    alloc: Global,
+    settings: Settings,
+    most: usize,
+    source: &mut S,
+    sink: &mut K,
+    boxes: &mut Vec<Box<dyn Proposer>>,
+) -> Status
+    requires ranges { AreInRange settings }
+    requires limit { most_bytes settings ≡ Some most }
+    ensures { (words : List (List ℕ)) → settings_of words ≡ Some settings → Ends (call_of S.left S.faults K.taken K.faults words (map plan boxes.old.items) source.old source.new sink.old sink.new) result }
+{
+    match read_all(alloc, source, most) {
+        Ok(bytes) => reply(alloc, settings, bytes.as_slice(), sink, boxes),
         Err(InFault::ReadFault) => Status::ReadFault,
         Err(InFault::TooLong) => tell(sink, LONG, Status::Refused),
         Err(InFault::Memory) => Status::Memory,
     }
 }
 
-/// The most bytes of an input.
-fn limit(settings: Settings) -> usize
+/// The most bytes of an input; none where the mode has no input.
+fn limit(settings: Settings) -> Option<usize>
     ensures { result ≡ most_bytes settings }
 {
     match settings {
-        Settings::Answer { .. } => 1048576,
-        Settings::Check => 67108864,
+        Settings::Answer { .. } => Some(1048576),
+        Settings::Check => Some(67108864),
+        Settings::Bench { .. } => None,
     }
 }
 
-/// What is done for the bytes of a whole input.
-fn reply<K: Sink>(alloc: Global, settings: Settings, bytes: &[u8], sink: &mut K) -> Status
-    requires { length bytes.now ≤ most_bytes settings }
-    ensures { EndOfBytes (K.taken sink.old) (K.taken sink.new) (K.faults sink.old) (K.faults sink.new) settings bytes.now result }
+/// What is done for the bytes of a whole input, or for none.
+fn reply<K: Sink>(
+    alloc: Global,
+    settings: Settings,
+    bytes: &[u8],
+    sink: &mut K,
+    boxes: &mut Vec<Box<dyn Proposer>>,
+) -> Status
+    requires ranges { AreInRange settings }
+    requires fits { IfSome (most_bytes settings) (λ most. length bytes.now ≤ most) }
+    ensures { EndOfBytes (map plan boxes.old.items) (K.taken sink.old) (K.taken sink.new) (K.faults sink.old) (K.faults sink.new) settings bytes.now result }
 {
     match settings {
         Settings::Answer {
@@ -80,8 +128,22 @@ fn reply<K: Sink>(alloc: Global, settings: Settings, bytes: &[u8], sink: &mut K)
                 rows,
                 tries,
             };
-            answer_file(alloc, format, budgets, bytes, sink)
+            answer_file(alloc, format, budgets, bytes, boxes, sink)
         }
         Settings::Check => check_report(alloc, bytes, sink),
+        Settings::Bench {
+            seed,
+            count,
+            pivots,
+            rows,
+            tries,
+        } => {
+            let budgets = Budgets {
+                pivots,
+                rows,
+                tries,
+            };
+            bench(alloc, seed, count, budgets, boxes, sink)
+        }
     }
 }

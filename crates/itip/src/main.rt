@@ -1,8 +1,10 @@
-//! The program: hands the words, the standard input and the standard output to the top call.
+//! The program: hands the words, the standard input, the standard output and its boxes to the top call.
 #![tactic(auto)]
 
 use it_cli::{Status, itip};
-use it_outside::{StdSink, StdSource};
+use it_contain::{Proposer, Recent, Singles, Subsets};
+use it_outside::{Sink, Source, StdSink, StdSource};
+use std::alloc::{AllocError, Global};
 use std::process::ExitCode;
 use std::{env, io};
 
@@ -30,5 +32,22 @@ fn main(rt: HostRuntime) -> ExitCode {
     };
     let mut source = StdSource::new(rt.stdin());
     let mut sink = StdSink::new(rt.stdout());
-    ExitCode::from(itip(alloc, texts.as_slice(), &mut source, &mut sink).code())
+    match call(alloc, texts.as_slice(), &mut source, &mut sink) {
+        Ok(status) => ExitCode::from(status.code()),
+        Err(_) => ExitCode::from(Status::Memory.code()),
+    }
+}
+
+/// The top call, by boxes that try first what was proved last, then single variables, then all sets.
+fn call<S: Source, K: Sink>(
+    alloc: Global,
+    words: &[&str],
+    source: &mut S,
+    sink: &mut K,
+) -> Result<Status, AllocError> {
+    let mut proposers: Vec<Box<dyn Proposer>> = Vec::new(alloc);
+    proposers.push(Box::new(alloc, Recent::new())?)?;
+    proposers.push(Box::new(alloc, Singles::new())?)?;
+    proposers.push(Box::new(alloc, Subsets::new())?)?;
+    Ok(itip(alloc, words, source, sink, proposers))
 }

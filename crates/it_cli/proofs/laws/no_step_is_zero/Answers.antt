@@ -1,5 +1,4 @@
-use Rattle.it_answer.proofs.StartLemmas as proof
 use Rattle.it_cli.proofs.laws.no_step_is_zero.Goals as goal
 
 pub returns : goal.returns
-returns c = proof.no_step_is_zero
+returns c = c.no_step_is_zero.ensures

@@ -1,0 +1,127 @@
+-- The counts of mode `bench`.
+use Rattle.std.proofs.Common.{◌≡◌, ℕ, zero, suc, ◌+◌, ◌<◌, ◌≤◌, List, [], ◌∷◌, ◌++◌, length, map, drop, get_or, All, Option, refl, sym, ap, subst, ◌∙◌, arith}
+use Rattle.std.proofs.lemmas.List.{drop_more, length-map, get_or-map}
+use Rattle.std.proofs.lemmas.List.Elements.{All-head, All-tail}
+use Rattle.it_space.specs.Answers.{AnswerView}
+use Rattle.it_space.specs.Answers.AnswerView.{Yes, No, Undecided, Region, Contained, Open}
+use Rattle.it_syntax.specs.Meaning.{RelationView}
+use Rattle.it_question.specs.declared.types.Question.{Question}
+use Rattle.it_question.specs.Questions.{BodyView, QuestionView, VerbView, Prove, Eliminate, Contain, question_view, question_body}
+use Rattle.it_syntax.specs.declared.types.Code.{Code}
+use Rattle.it_question.specs.Files.{FileFaultAt, FileIsOne, FileOrFault}
+use Rattle.it_gen.specs.GeneratedFiles.{GeneratedIsFile, IsProof, generated_file}
+use Rattle.it_contain.specs.Proposals.{Plan, plan_after_all}
+use Rattle.it_contain.proofs.PlanLemmas.{after_none, after_more}
+use Rattle.it_answer.specs.declared.types.Budgets.{Budgets}
+use Rattle.it_answer.specs.Replies.{Reply}
+use Rattle.it_answer.specs.RightAnswers.{OneRightAnswer, IsRightAnswer, IsRightAnswerBy, IsRightFor, IsAnswered}
+use Rattle.it_cli.specs.Counts.{AreCounted, no_counts, total, with_answer}
+use Rattle.it_cli.specs.Laws.{CountsAddUp}
+use Rattle.it_cli.specs.Right.{Context, IsRightAfter, after_answer}
+use Rattle.it_cli.specs.declared.counts.Counts.{Counts}
+
+-- ---- the loop that counts
+
+-- the first i questions are counted: what the rest leads to, all leads to; and the boxes know of what was found
+pub record IsCounting (budgets : Budgets) (plans : List Plan) (qs : List QuestionView) (i : ℕ) (counts : Counts) (plans_now : List Plan) : Type 0 where
+  pub found : Context
+  pub counted : (end : Counts) → AreCounted budgets plans found counts (drop i qs) end → AreCounted budgets plans [] no_counts qs end
+  pub learned : plans_now ≡ map (plan_after_all found) plans
+  pub few : total counts ≡ i
+
+pub counting_first : (budgets : Budgets) (plans : List Plan) (qs : List QuestionView) → IsCounting budgets plans qs 0 no_counts plans
+counting_first budgets plans qs = record { found = []; counted = λ end h. h; learned = sym (after_none plans); few = refl }
+
+total_more : (c : Counts) (a : AnswerView) → total (with_answer c a) ≡ total c + 1
+total_more c (Yes ws) = omega arith
+total_more c (No is_back values) = omega arith
+total_more c (Undecided cause) = omega arith
+total_more c (Region rows) = omega arith
+total_more c (Contained parts proofs) = omega arith
+total_more c (Open tried) = omega arith
+
+pub counting_more : (budgets : Budgets) (plans plans_now plans_next : List Plan) (qs : List Question) (i : ℕ) (r : Question) (counts : Counts) (answer : AnswerView)
+    → IsCounting budgets plans (map question_view qs) i counts plans_now → i < length qs → r ≡ get_or qs i r → IsAnswered budgets plans_now (question_body r) answer plans_next
+    → IsCounting budgets plans (map question_view qs) (i + 1) (with_answer counts answer) plans_next
+counting_more budgets plans plans_now plans_next qs i r counts answer c h e a = record {
+  found = c.found ++ a.found;
+  counted = λ end rest. c.counted end (subst (λ (ys : List QuestionView). AreCounted budgets plans c.found counts ys end) (sym next) (reply, right, rest));
+  learned = a.learned ∙ ap (map (plan_after_all a.found)) c.learned ∙ after_more c.found a.found plans;
+  few = total_more counts answer ∙ ap (λ n. n + 1) c.few;
+}
+  where
+    reply : Reply
+    reply = record { answer = answer; found = a.found }
+
+    right : IsRightAfter budgets plans c.found (question_view r) reply
+    right = subst (λ (ps : List Plan). IsRightAnswer budgets ps (question_body r) reply) c.learned a.right
+
+    next : drop i (map question_view qs) ≡ question_view r ∷ drop (i + 1) (map question_view qs)
+    next = drop_more (map question_view qs) i (question_view r) (simp length-map h)
+        ∙ ap (λ y. y ∷ drop (i + 1) (map question_view qs)) (get_or-map question_view qs i r (question_view r) h ∙ ap question_view (sym e))
+
+nothing_left : (i : ℕ) (qs : List QuestionView) → length qs ≤ i → drop i qs ≡ []
+nothing_left zero [] h = refl
+nothing_left zero (q ∷ qs) h = absurd (omega (arith, h))
+nothing_left (suc i) [] h = refl
+nothing_left (suc i) (q ∷ qs) h = nothing_left i qs (omega (arith, h))
+
+pub counting_done : (budgets : Budgets) (plans plans_now : List Plan) (qs : List QuestionView) (i : ℕ) (counts : Counts) → IsCounting budgets plans qs i counts plans_now → length qs ≤ i → AreCounted budgets plans [] no_counts qs counts
+counting_done budgets plans plans_now qs i counts c h = c.counted counts (subst (λ (ys : List QuestionView). AreCounted budgets plans c.found counts ys counts) (sym (nothing_left i qs h)) refl)
+
+-- ---- the counts are determined
+
+pub one_count : OneRightAnswer → (budgets : Budgets) (plans : List Plan) (before : Context) (counts : Counts) (qs : List QuestionView) (c d : Counts) → AreCounted budgets plans before counts qs c → AreCounted budgets plans before counts qs d → c ≡ d
+one_count one_answer budgets plans before counts [] c d a b = a ∙ sym b
+one_count one_answer budgets plans before counts (q ∷ qs) c d (reply, right, rest) (other, is_right, more) =
+    let same : other ≡ reply = one_answer budgets (map (plan_after_all before) plans) q.body other reply is_right right in
+    one_count one_answer budgets plans (after_answer before q reply) (with_answer counts reply.answer) qs c d rest
+    (subst (λ (x : Reply). AreCounted budgets plans (after_answer before q x) (with_answer counts x.answer) qs d) same more)
+
+-- ---- what they sum to
+
+-- the counts with one answer more are those with one more yes, no or undecided
+abbrev IsOneMore : Counts → Counts → Type 0
+IsOneMore c d = (d.yes + d.no + d.undecided ≡ c.yes + c.no + c.undecided + 1) × (d.regions ≡ c.regions) × (d.contained ≡ c.contained) × (d.left_open ≡ c.left_open)
+
+counted_answer : (budget : Option ℕ) (q : BodyView) (r : RelationView) (c : Counts) (answer : AnswerView) → IsRightFor budget q r answer → IsOneMore c (with_answer c answer)
+counted_answer budget q r c (Yes ws) a = (omega arith, refl, refl, refl)
+counted_answer budget q r c (No is_back values) a = (omega arith, refl, refl, refl)
+counted_answer budget q r c (Undecided cause) a = (omega arith, refl, refl, refl)
+counted_answer budget q r c (Region rows) a = absurd a.shows
+counted_answer budget q r c (Contained parts proofs) a = absurd a.shows
+counted_answer budget q r c (Open tried) a = absurd a.shows
+
+moved : (q : QuestionView) (verb : VerbView) → q.body.verb ≡ verb → IsProof q → IsProof (record q { body = record q.body { verb = verb } })
+moved q verb is proof = subst (λ (v : VerbView). IsProof (record q { body = record q.body { verb = v } })) is proof
+
+-- where the verb is `prove`
+counted_so : (budgets : Budgets) (plans : List Plan) (q : QuestionView) (verb : VerbView) (reply : Reply) (c : Counts) → q.body.verb ≡ verb → IsProof q → IsRightAnswerBy budgets plans q.body verb reply
+    → IsOneMore c (with_answer c reply.answer)
+counted_so budgets plans q (Prove r) reply c is proof right = counted_answer budgets.pivots q.body r c reply.answer right.0
+counted_so budgets plans q (Eliminate rates) reply c is proof right = absurd (moved q (Eliminate rates) is proof)
+counted_so budgets plans q (Contain a b tries) reply c is proof right = absurd (moved q (Contain a b tries) is proof)
+
+add_up : (budgets : Budgets) (plans : List Plan) (before : Context) (counts : Counts) (qs : List QuestionView) (end : Counts) → All IsProof qs → AreCounted budgets plans before counts qs end
+    → (end.yes + end.no + end.undecided ≡ counts.yes + counts.no + counts.undecided + length qs) × (end.regions ≡ counts.regions) × (end.contained ≡ counts.contained) × (end.left_open ≡ counts.left_open)
+add_up budgets plans before counts [] end all is =
+    subst (λ (e : Counts). (e.yes + e.no + e.undecided ≡ counts.yes + counts.no + counts.undecided + 0) × (e.regions ≡ counts.regions) × (e.contained ≡ counts.contained) × (e.left_open ≡ counts.left_open))
+    (sym is) (omega arith, refl, refl, refl)
+add_up budgets plans before counts (q ∷ qs) end all (reply, right, rest) =
+    let one = counted_so budgets (map (plan_after_all before) plans) q q.body.verb reply counts refl (All-head IsProof q qs all) right in
+    let more = add_up budgets plans (after_answer before q reply) (with_answer counts reply.answer) qs end (All-tail IsProof q qs all) rest in
+    (omega (arith, one.0, more.0), more.1 ∙ one.1, more.2 ∙ one.2, more.3 ∙ one.3)
+
+pub counts_add_up : GeneratedIsFile → FileIsOne → CountsAddUp
+counts_add_up generated one_reading budgets plans seed count questions counts few asked counted =
+    let file = generated seed count few in
+    let same : file.questions ≡ questions = one_reading (generated_file seed count) file.questions questions file.asked asked.read in
+    let all : All IsProof questions = subst (λ (qs : List QuestionView). All IsProof qs) same file.prove in
+    let sum = add_up budgets plans [] no_counts questions counts all counted in
+    (sum.0 ∙ (let n : length questions ≡ count = ap length (sym same) ∙ file.counted in omega (arith, n)), sum.1, sum.2, sum.3)
+
+-- a generated file has no fault
+pub no_fault_in_it : GeneratedIsFile → FileOrFault → (seed count : ℕ) (bytes : List ℕ) (line column : ℕ) (code : Code) → count ≤ 1000 → bytes ≡ generated_file seed count → FileFaultAt bytes line column code → ⊥
+no_fault_in_it generated apart seed count bytes line column code few is fault =
+    let file = generated seed count few in
+    apart (generated_file seed count) file.questions line column code file.asked (subst (λ (b : List ℕ). FileFaultAt b line column code) is fault)

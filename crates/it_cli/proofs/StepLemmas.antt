@@ -1,0 +1,37 @@
+-- Without a budget no run ends for want of steps.
+use Rattle.std.proofs.Common.{◌≡◌, inl, inr, ℕ, List, [], ◌∷◌, Option, None, subst}
+use Rattle.it_space.specs.declared.answers.Cause.TheVariants as causes
+use Rattle.it_space.specs.Answers.AnswerView.{Undecided}
+use Rattle.it_space.specs.Problems.{ProblemView}
+use Rattle.it_space.specs.Rows.{Terms}
+use Rattle.it_question.specs.Questions.{BodyView, VerbView, Prove, Eliminate, Contain}
+use Rattle.it_eliminate.specs.Elimination as elimination
+use Rattle.it_eliminate.specs.Elimination.{EliminatedView}
+use Rattle.it_region.specs.declared.types.Candidate.{Candidate}
+use Rattle.it_prove.specs.ProofViews as proofs
+use Rattle.it_contain.specs.Proposals.{Plan}
+use Rattle.it_answer.specs.declared.types.Budgets.{Budgets}
+use Rattle.it_answer.specs.RightAnswers.{CauseIsDue, IsRightAnswerBy}
+use Rattle.it_answer.specs.RightRegions.{answer_of_end}
+use Rattle.it_cli.specs.Laws.{NeverOutOfSteps}
+
+not_of_end : (steps : ℕ) (end : EliminatedView) → Undecided (causes.Pivots steps) ≡ answer_of_end end → ⊥
+not_of_end steps (elimination.Region rows) e = cc
+not_of_end steps (elimination.Rows rate) e = cc
+not_of_end steps (elimination.Wide rate) e = cc
+
+module _ (never : proofs.NeverOutOfSteps) where
+  no_cause : (p : ProblemView) (steps : ℕ) (ts : List Terms) → CauseIsDue p None ts (causes.Pivots steps) → ⊥
+  no_cause p steps [] due = absurd due
+  no_cause p steps (t ∷ ts) (inl ends) = never p t steps ends
+  no_cause p steps (t ∷ ts) (inr (proven, rest)) = no_cause p steps ts rest
+
+  by_verb : (budgets : Budgets) (plans : List Plan) (q : BodyView) (verb : VerbView) (steps : ℕ) (found : List Candidate) → budgets.pivots ≡ None
+      → IsRightAnswerBy budgets plans q verb (record { answer = Undecided (causes.Pivots steps); found = found }) → ⊥
+  by_verb budgets plans q (Prove r) steps found none right =
+      no_cause right.0.poses.problem steps right.0.poses.rows (subst (λ (o : Option ℕ). CauseIsDue right.0.poses.problem o right.0.poses.rows (causes.Pivots steps)) none right.0.due)
+  by_verb budgets plans q (Eliminate rates) steps found none right = not_of_end steps right.0.due.end right.0.due.is
+  by_verb budgets plans q (Contain a b tries) steps found none right = absurd right.shows
+
+  pub never_out_of_steps : NeverOutOfSteps
+  never_out_of_steps budgets plans q steps found none right = by_verb budgets plans q q.verb steps found none right

@@ -1,0 +1,15 @@
+use Rattle.it_question.specs.Questions.{question_body}
+use Rattle.it_space.specs.Answers.{answer_view}
+use Rattle.it_answer.specs.AnswerForms.{answer_forms}
+use Rattle.it_cli.proofs.LineLemmas.{some_names}
+use Rattle.it_cli.proofs.ProofLemmas.{constraints_over, targets_over}
+use Rattle.it_cli.proofs.answering.proof_lines.Goals as goal
+
+pub proof_text-requires-clause-some : goal.proof_text-requires-clause-some
+proof_text-requires-clause-some c = some_names (question_body c.args.question.now) c.requires.limits
+
+pub proof_text-requires-clause-rows : goal.proof_text-requires-clause-rows
+proof_text-requires-clause-rows c = rw c.as_slice.ensures.value (constraints_over (question_body c.args.question.now) c.args.answered.now.problem.space c.args.answered.now.problem.constraints.items c.requires.space c.requires.stated)
+
+pub proof_text-requires-clause-targets : goal.proof_text-requires-clause-targets
+proof_text-requires-clause-targets c = rw c.as_slice-2.ensures.value (targets_over (question_body c.args.question.now) (answer_forms (question_body c.args.question.now) (answer_view c.args.answered.now.answer)) c.in_ok-targets.targets.items c.in_ok-targets.ensures)

@@ -1,0 +1,14 @@
+use Rattle.std.proofs.Common.{map}
+use Rattle.std.proofs.lemmas.List.Elements.{All-map}
+use Rattle.it_question.specs.Limits.{IsQuestion}
+use Rattle.it_question.specs.Questions.{question_view}
+use Rattle.it_cli.proofs.benching.generated_line.Goals as goal
+
+pub returns : goal.returns
+returns g c = record {
+  questions = map question_view c.in_ok-questions.questions.items;
+  asked = record { read = c.in_ok-questions.ensures.read; limits = All-map (λ a. IsQuestion a.body) question_view c.in_ok-questions.questions.items c.in_ok-questions.ensures.limits };
+  counts = c.in_ok-counts.counts;
+  counted = rw (← c.as_slice.ensures.value) c.in_ok-counts.ensures;
+  is = c.in_ok-line.ensures;
+}
