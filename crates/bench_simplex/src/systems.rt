@@ -65,7 +65,7 @@ impl System {
             self.columns.as_slice(),
             &self.target,
         ) {
-            Ok(start) => exact_run(alloc, start, steps),
+            Ok(start) => exact_run(alloc, start, Some(steps)),
             Err(_) => Ok(Solved::Width(0)),
         }
     }

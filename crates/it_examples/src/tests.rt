@@ -2,7 +2,8 @@ ghost use Rattle.std.specs.Prelude.{◌<◌};
 
 use it_answer::{Budgets, answer};
 use it_cli::{Status, itip};
-use it_outside::{MemorySink, MemorySource};
+use it_contain::{Proposer, Recent, Singles, Subsets};
+use it_outside::{MemorySink, MemorySource, SureSink, SureSource};
 use it_question::questions;
 use it_question::types::Verb;
 use it_space::{Answer, Cause};
@@ -501,20 +502,68 @@ const ELIMINATED: [(&[u8], &[u8]); 14] = [
     ),
 ];
 
-/// Whole files that are read, of which not every question is answered yet.
-const LATER: [&[u8]; 11] = [
-    b"vars X, Y\nregion\nregion\ncontain\n",
-    b"vars X, Y\nrates R\nregion\nrow R <= I(X;Y)\nregion\naux U\ngiven markov U -> X -> Y\nrow R <= I(U;Y)\ncontain\n",
-    b"vars X, Y\nregion\naux U\nregion\naux U\ntry U := U\ncontain\n",
-    b"vars X, Y\nregion\nregion\naux U\ntry U := 0\ntry U := 000\ntry U := X,Y,X\ncontain\n",
-    b"vars X, Y\nregion\naux V\nregion\naux U, W\ntry W := V;U:=0\ncontain\n",
-    b"vars X, Y\nregion\naux A, B, C, D\nregion\naux A, B, C, D\ntry A := A; B := B; C := C; D := D\ncontain\n",
-    b"vars A, B, C, D\nregion\naux E, F, G, J\nregion\ncontain\n",
-    b"vars X\nregion\naux aux, try, region\nregion\naux contain\ntry contain := try\ncontain\n",
-    b"vars X, Y\nprove 0 >= 0\nvars X\nregion\nregion\ncontain\n",
-    b"vars X\nrates R\neliminate R\nvars X\nregion\nregion\ncontain\n",
+/// Questions that compare regions, and the lines that answer them.
+const COMPARED: [(&[u8], &[u8]); 15] = [
+    (
+        b"vars X, Y\nrates R\nregion\nrow R <= I(X;Y)\nregion\naux U\ngiven markov U -> X -> Y\nrow R <= I(U;Y)\ncontain\n",
+        b"1 contained U:=X\n",
+    ),
+    (
+        b"vars X, Y\nrates R\nregion\nrow R <= H(X)\nregion\naux U\ngiven markov U -> X -> Y\nrow R <= I(U;Y)\ncontain\n",
+        b"1 open 7\n",
+    ),
+    (
+        b"vars X, Y\nrates R\nregion\nrow R <= I(X;Y)\nregion\naux U\ngiven markov U -> X -> Y\nrow R <= I(U;Y)\ntry U := X\ncontain\n",
+        b"1 contained U:=X\n",
+    ),
+    // what the first question found is tried in the second
+    (
+        b"vars X, Y\nrates R\nregion\nrow R <= I(X;Y)\nregion\naux U\ngiven markov U -> X -> Y\nrow R <= I(U;Y)\ncontain\nvars X, Y\nrates R\nregion\nrow R <= H(X)\nregion\naux U\ngiven markov U -> X -> Y\nrow R <= I(U;Y)\ncontain\n",
+        b"1 contained U:=X\n2 open 8\n",
+    ),
+    (b"vars X, Y\nregion\nregion\ncontain\n", b"1 contained\n"),
+    (
+        b"vars X\nrates R\nregion\nrow R <= H(X)\nregion\nrow R <= 0\ncontain\n",
+        b"1 open 2\n",
+    ),
+    (
+        b"vars X, Y\nregion\naux U\nregion\naux U\ntry U := U\ncontain\n",
+        b"1 contained U:=U\n",
+    ),
+    (
+        b"vars X, Y\nregion\nregion\naux U\ntry U := 0\ntry U := 000\ntry U := X,Y,X\ncontain\n",
+        b"1 contained U:=0\n",
+    ),
+    (
+        b"vars X, Y\nregion\naux V\nregion\naux U, W\ntry W := V;U:=0\ncontain\n",
+        b"1 contained U:=0 W:=V\n",
+    ),
+    (
+        b"vars X, Y\nregion\naux A, B, C, D\nregion\naux A, B, C, D\ntry A := A; B := B; C := C; D := D\ncontain\n",
+        b"1 contained A:=A B:=B C:=C D:=D\n",
+    ),
+    (
+        b"vars A, B, C, D\nregion\naux E, F, G, J\nregion\ncontain\n",
+        b"1 contained\n",
+    ),
+    (
+        b"vars X\nregion\naux aux, try, region\nregion\naux contain\ntry contain := try\ncontain\n",
+        b"1 contained contain:=try\n",
+    ),
+    // beside other verbs
+    (
+        b"vars X, Y\nprove 0 >= 0\nvars X\nregion\nregion\ncontain\n",
+        b"1 yes 1 : 0\n2 contained\n",
+    ),
+    (
+        b"vars X\nrates R\neliminate R\nvars X\nregion\nregion\ncontain\n",
+        b"1 region 0\n2 contained\n",
+    ),
     // tabs, comments, carriage returns and blank lines
-    b"#\r\n\tvars\tX#,Y\r\n\r\n  region # R\r\n\t\tregion\r\n\r\ncontain#",
+    (
+        b"#\r\n\tvars\tX#,Y\r\n\r\n  region # R\r\n\t\tregion\r\n\r\ncontain#",
+        b"1 contained\n",
+    ),
 ];
 
 /// A source of these bytes that gives `step` at a call and fails at the calls `failing`.
@@ -537,6 +586,20 @@ fn sink(alloc: Global, step: usize, failing: &[u64]) -> Result<MemorySink, Alloc
     let mut sink = MemorySink::new(alloc, step, Vec::from_slice(alloc, failing)?);
     sink.reserve(ROOM)?;
     Ok(sink)
+}
+
+/// The top call, by the boxes of the program.
+fn call(
+    alloc: Global,
+    words: &[&str],
+    source: &mut MemorySource,
+    sink: &mut MemorySink,
+) -> Result<Status, AllocError> {
+    let mut proposers: Vec<Box<dyn Proposer>> = Vec::new(alloc);
+    proposers.push(Box::new(alloc, Recent::new())?)?;
+    proposers.push(Box::new(alloc, Singles::new())?)?;
+    proposers.push(Box::new(alloc, Subsets::new())?)?;
+    Ok(itip(alloc, words, source, sink, proposers))
 }
 
 /// The input, `case` of this topic, ends with this status, and this is written.
@@ -565,7 +628,7 @@ fn words_get(
 ) -> Result<(), Fail> {
     let mut source = source(alloc, input, WHOLE, &[])?;
     let mut sink = sink(alloc, WHOLE, &[])?;
-    let status = itip(alloc, words, &mut source, &mut sink);
+    let status = call(alloc, words, &mut source, &mut sink)?;
     let written = str::from_utf8(sink.bytes())?;
     assert_eq!(rt; written, str::from_utf8(want)?, "{topic}, case {case}");
     assert_eq!(rt; status, wanted, "{topic}, case {case}");
@@ -608,13 +671,14 @@ fn rates_are_eliminated(rt: HostRuntime) -> Result<(), Fail> {
 fn cause(rt: &impl Abort, alloc: Global, input: &[u8], rows: u32) -> Result<Option<Cause>, Fail> {
     assert!(rt; input.len() <= ROOM);
     let budgets = Budgets {
-        pivots: 1,
+        pivots: Some(1),
         rows,
         tries: 1,
     };
+    let mut boxes: Vec<Box<dyn Proposer>> = Vec::new(alloc);
     for question in &questions(alloc, input)? {
         if let Verb::Eliminate(_) = &question.verb {
-            let answered = answer(alloc, question, budgets)?;
+            let answered = answer(alloc, question, budgets, &mut boxes)?;
             if let Answer::Undecided(cause) = answered.answer {
                 return Ok(Some(cause));
             }
@@ -634,17 +698,13 @@ fn rows_have_a_budget(rt: HostRuntime) -> Result<(), Fail> {
 }
 
 #[test]
-fn what_is_read_may_wait_for_its_answer(rt: HostRuntime) -> Result<(), Fail> {
+fn regions_are_compared(rt: HostRuntime) -> Result<(), Fail> {
     let alloc = rt.alloc();
-    for (case, input) in LATER.iter().enumerate() {
-        let want = b"refused 1:1 later\n".as_slice();
-        gets(&rt, alloc, "later", case, input, want, Status::Refused)?;
-    }
-    Ok(())
+    each_gets(&rt, alloc, "containment", &COMPARED, Status::Done)
 }
 
 /// Words with a reading, an input, and what the call writes and how it ends.
-const MODES: [(&[&str], &[u8], &[u8], Status); 7] = [
+const MODES: [(&[&str], &[u8], &[u8], Status); 17] = [
     (
         &["answer", "--pivots", "1"],
         b"vars X\nrates A, B\nrow 18446744073709551615 A + B >= 0\nrow A + 18446744073709551615 B >= 0\nprove A + B >= 0\n",
@@ -683,6 +743,70 @@ const MODES: [(&[&str], &[u8], &[u8], Status); 7] = [
         Status::Invalid,
     ),
     (&["check"], b"", b"", Status::Done),
+    (
+        &["answer", "--format", "json"],
+        b"vars X, Y\nrates R\nregion\nrow R <= I(X;Y)\nregion\naux U\ngiven markov U -> X -> Y\nrow R <= I(U;Y)\ncontain\n",
+        b"{\"answer\":\"contained\",\"parts\":[1],\"proofs\":[{\"scale\":\"1\",\"weights\":[]},{\"scale\":\"1\",\"weights\":[]},{\"scale\":\"1\",\"weights\":[[3,\"1\"]]}],\"question\":\"vars X, Y\\nrates R\\nregion\\nrow R <= I(X;Y)\\nregion\\naux U\\ngiven markov U -> X -> Y\\nrow R <= I(U;Y)\\ncontain\\n\"}\n",
+        Status::Done,
+    ),
+    (
+        &["check"],
+        b"{\"answer\":\"contained\",\"parts\":[1],\"proofs\":[{\"scale\":\"1\",\"weights\":[]},{\"scale\":\"1\",\"weights\":[]},{\"scale\":\"1\",\"weights\":[[3,\"1\"]]}],\"question\":\"vars X, Y\\nrates R\\nregion\\nrow R <= I(X;Y)\\nregion\\naux U\\ngiven markov U -> X -> Y\\nrow R <= I(U;Y)\\ncontain\\n\"}\n",
+        b"1 valid\n",
+        Status::Done,
+    ),
+    // with the empty set in place of X
+    (
+        &["check"],
+        b"{\"answer\":\"contained\",\"parts\":[0],\"proofs\":[{\"scale\":\"1\",\"weights\":[]},{\"scale\":\"1\",\"weights\":[]},{\"scale\":\"1\",\"weights\":[[3,\"1\"]]}],\"question\":\"vars X, Y\\nrates R\\nregion\\nrow R <= I(X;Y)\\nregion\\naux U\\ngiven markov U -> X -> Y\\nrow R <= I(U;Y)\\ncontain\\n\"}\n",
+        b"1 invalid mismatch h(X) 0 1\n",
+        Status::Invalid,
+    ),
+    // one candidate, the empty set, then what is to be tried, then what was found
+    (
+        &["answer", "--tries", "1"],
+        b"vars X, Y\nrates R\nregion\nrow R <= I(X;Y)\nregion\naux U\ngiven markov U -> X -> Y\nrow R <= I(U;Y)\ncontain\n",
+        b"1 open 1\n",
+        Status::Done,
+    ),
+    (
+        &["answer", "--tries", "1"],
+        b"vars X, Y\nrates R\nregion\nrow R <= I(X;Y)\nregion\naux U\ngiven markov U -> X -> Y\nrow R <= I(U;Y)\ntry U := X\ncontain\nvars X, Y\nrates R\nregion\nrow R <= I(X;Y)\nregion\naux U\ngiven markov U -> X -> Y\nrow R <= I(U;Y)\ncontain\n",
+        b"1 contained U:=X\n2 contained U:=X\n",
+        Status::Done,
+    ),
+    // the rows of proofs
+    (
+        &["answer", "--format", "proof"],
+        b"vars X, Y, Z\ngiven markov X -> Y -> Z\nprove I(X;Z) <= I(X;Y)\n",
+        b"1 yes 1 : 1 I(X;Y|Z) + -1 given 1\n1 proof 1 I(X;Y|Z) : -h(Z) + h(X,Z) + h(Y,Z) - h(X,Y,Z) >= 0\n1 proof -1 given 1 : -h(Y) + h(X,Y) + h(Y,Z) - h(X,Y,Z) = 0\n1 sum 1 : h(Y) - h(X,Y) - h(Z) + h(X,Z) >= 0\n",
+        Status::Done,
+    ),
+    (
+        &["answer", "--format", "proof"],
+        b"vars X, Y\nrates R\nregion\nrow R <= I(X;Y)\nregion\naux U\ngiven markov U -> X -> Y\nrow R <= I(U;Y)\ncontain\n",
+        b"1 contained U:=X\n1 sum 1 : 0 >= 0\n1 sum 1 : 0 >= 0\n1 proof 1 row 1 : h(X) + h(Y) - h(X,Y) - R >= 0\n1 sum 1 : h(X) + h(Y) - h(X,Y) - R >= 0\n",
+        Status::Done,
+    ),
+    // no budget of steps
+    (
+        &["answer", "--pivots", "none"],
+        b"vars X\nrates A, B\nrow 18446744073709551615 A + B >= 0\nrow A + 18446744073709551615 B >= 0\nprove A + B >= 0\n",
+        b"1 undecided width 2\n",
+        Status::Done,
+    ),
+    (
+        &["answer", "--pivots", "none"],
+        b"vars X, Y\nprove H(X) - H(X,Y) >= 0\n",
+        b"1 no h(X)=0 h(Y)=1 h(X,Y)=1\n",
+        Status::Done,
+    ),
+    (
+        &["bench", "--seed", "1", "--count", "1"],
+        b"",
+        b"bench seed 1 count 1 yes 1 no 0 undecided 0 region 0 contained 0 open 0\n",
+        Status::Done,
+    ),
 ];
 
 #[test]
@@ -697,9 +821,11 @@ fn each_mode_has_its_lines(rt: HostRuntime) -> Result<(), Fail> {
 #[test]
 fn other_words_get_the_usage_line(rt: HostRuntime) -> Result<(), Fail> {
     let alloc = rt.alloc();
-    let cases: [&[&str]; 7] = [
+    let cases: [&[&str]; 9] = [
         &[],
         &["answer", "--pivots", "0"],
+        &["check", "--pivots", "none"],
+        &["bench", "--count", "1001"],
         &["check", "--rows", "5"],
         &["answers"],
         &["Answer"],
@@ -710,7 +836,7 @@ fn other_words_get_the_usage_line(rt: HostRuntime) -> Result<(), Fail> {
         // The source isn't read: its first read would fail.
         let mut source = source(alloc, MUTUAL, WHOLE, &[1])?;
         let mut sink = sink(alloc, WHOLE, &[])?;
-        let status = itip(alloc, words, &mut source, &mut sink);
+        let status = call(alloc, words, &mut source, &mut sink)?;
         assert_eq!(rt; status, Status::Usage, "case {i}");
         assert_eq!(rt; sink.bytes(), USAGE, "case {i}");
     }
@@ -721,12 +847,12 @@ fn other_words_get_the_usage_line(rt: HostRuntime) -> Result<(), Fail> {
 fn a_failed_read_writes_nothing(rt: HostRuntime) -> Result<(), Fail> {
     let alloc = rt.alloc();
     // The input is read in 28 calls of one byte and one that tells the end.
-    for call in 1..30 {
-        let mut source = source(alloc, MUTUAL, 1, &[call])?;
+    for failing in 1..30 {
+        let mut source = source(alloc, MUTUAL, 1, &[failing])?;
         let mut sink = sink(alloc, WHOLE, &[])?;
-        let status = itip(alloc, &["answer"], &mut source, &mut sink);
-        assert_eq!(rt; status, Status::ReadFault, "call {call}");
-        assert_eq!(rt; sink.bytes(), b"".as_slice(), "call {call}");
+        let status = call(alloc, &["answer"], &mut source, &mut sink)?;
+        assert_eq!(rt; status, Status::ReadFault, "call {failing}");
+        assert_eq!(rt; sink.bytes(), b"".as_slice(), "call {failing}");
     }
     Ok(())
 }
@@ -776,9 +902,42 @@ fn a_failed_write_leaves_a_front(rt: HostRuntime) -> Result<(), Fail> {
     for (i, (words, input, step, failing, want, wanted)) in cases.iter().enumerate() {
         let mut source = source(alloc, input, WHOLE, &[])?;
         let mut sink = sink(alloc, *step, failing)?;
-        let status = itip(alloc, words, &mut source, &mut sink);
+        let status = call(alloc, words, &mut source, &mut sink)?;
         assert_eq!(rt; status, *wanted, "case {i}");
         assert_eq!(rt; sink.bytes(), *want, "case {i}");
+    }
+    Ok(())
+}
+
+#[test]
+fn bench_leaves_its_input(rt: HostRuntime) -> Result<(), Fail> {
+    let alloc = rt.alloc();
+    // The first read would fail.
+    let mut source = source(alloc, MUTUAL, WHOLE, &[1])?;
+    let mut sink = sink(alloc, WHOLE, &[])?;
+    let words = ["bench", "--count=2", "--pivots=1"];
+    let status = call(alloc, &words, &mut source, &mut sink)?;
+    let want =
+        b"bench seed 1 count 2 yes 0 no 0 undecided 2 region 0 contained 0 open 0\n".as_slice();
+    assert_eq!(rt; status, Status::Done);
+    assert_eq!(rt; sink.bytes(), want);
+    Ok(())
+}
+
+#[test]
+fn a_sure_sink_keeps_a_front_of_the_output(rt: HostRuntime) -> Result<(), Fail> {
+    let alloc = rt.alloc();
+    // the limit, what is kept of `1 yes 1 : 1 I(X;Y)` and its line feed, whether there was more
+    let cases: [(usize, &[u8], bool); 2] = [
+        (19, b"1 yes 1 : 1 I(X;Y)\n", false),
+        (5, b"1 yes", true),
+    ];
+    for (i, (limit, kept, more)) in cases.iter().enumerate() {
+        let mut source = SureSource::new(Vec::from_slice(alloc, MUTUAL)?);
+        let mut sink = SureSink::new(Vec::with_capacity(alloc, *limit)?, *limit);
+        let status = itip(alloc, &["answer"], &mut source, &mut sink, Vec::new(alloc));
+        assert_eq!(rt; status, Status::Done, "case {i}");
+        assert_eq!(rt; (sink.bytes(), sink.has_more()), (*kept, *more), "case {i}");
     }
     Ok(())
 }
