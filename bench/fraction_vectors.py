@@ -5,30 +5,31 @@ vol. 2, 4.5.1), for a product and a quotient the two parts in lowest terms."""
 from fractions import Fraction
 from math import gcd
 
-TOP = 2**127 - 1
+# every number of the product is at most this in absolute value
+LIMIT = 2**127 - 1
 
 PAIRS = [
     ((2**126, 3), (3, 2**125)),
     ((1, 2**100), (1, 2**100)),
-    ((TOP, 1), (1, 1)),
+    ((LIMIT, 1), (1, 1)),
     ((2**64, 1), (1, 2**64)),
-    ((1, TOP), (1, TOP)),
-    ((1, TOP), (2, 1)),
-    ((TOP - 1, TOP), (TOP - 2, TOP - 1)),
+    ((1, LIMIT), (1, LIMIT)),
+    ((1, LIMIT), (2, 1)),
+    ((LIMIT - 1, LIMIT), (LIMIT - 2, LIMIT - 1)),
     ((0, 1), (0, 1)),
     ((0, 1), (-5, 7)),
-    ((TOP, 3), (0, 1)),
-    ((0, 1), (-TOP, 1)),
-    ((-TOP, 1), (1, 1)),
-    ((-TOP, 1), (-1, 1)),
-    ((TOP, 1), (-TOP, 1)),
-    ((TOP, 2), (TOP, 2)),
+    ((LIMIT, 3), (0, 1)),
+    ((0, 1), (-LIMIT, 1)),
+    ((-LIMIT, 1), (1, 1)),
+    ((-LIMIT, 1), (-1, 1)),
+    ((LIMIT, 1), (-LIMIT, 1)),
+    ((LIMIT, 2), (LIMIT, 2)),
     ((1, 6), (1, 10)),
     ((-1, 6), (1, 6)),
     ((5, -6), (-3, 4)),
     ((7, 12), (-5, 18)),
     ((6, 4), (3, 2)),
-    ((TOP, 2**126), (2**126, TOP)),
+    ((LIMIT, 2**126), (2**126, LIMIT)),
     ((2**126, 1), (2**126, 1)),
     ((2**63, 1), (2**63 - 1, 1)),
     ((-(2**63), 1), (2**63, 1)),
@@ -42,7 +43,7 @@ PAIRS = [
 
 
 def within(*numbers):
-    return all(abs(number) <= TOP for number in numbers)
+    return all(abs(number) <= LIMIT for number in numbers)
 
 
 def total(x, y):

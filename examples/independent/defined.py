@@ -1,11 +1,31 @@
-"""The run of `prove` as it is defined, in numbers that refuse what passes 2**127 - 1, and the line that it gives.
+"""The run of `prove` as it is defined, in numbers that refuse what passes 2**127 - 1, and the line that it gives. A budget of None is
+none.
 
 The simplex method with Bland's rule on the columns over closed sets; the weights are then lifted to all sets.
 """
 
+import atexit
+from functools import cache
 from math import gcd
+from pathlib import Path
+from subprocess import PIPE, run
+from tempfile import TemporaryDirectory
 
-TOP = 2**127 - 1
+# every number of the product is at most this in absolute value
+LIMIT = 2**127 - 1
+
+# a table of more rows than this is run by `steps.rs`, where there is no budget of steps
+LARGE = 100
+
+
+@cache
+def program():
+    """`steps.rs`, built by `rustc` in a folder that is removed at the end."""
+    folder = TemporaryDirectory()
+    atexit.register(folder.cleanup)
+    built = Path(folder.name) / "steps"
+    run(["rustc", "--edition", "2021", "-O", "-o", built, Path(__file__).parent / "steps.rs"], check=True)
+    return built
 
 
 class Wide(Exception):
@@ -13,7 +33,7 @@ class Wide(Exception):
 
 
 def fit(number):
-    if abs(number) > TOP:
+    if abs(number) > LIMIT:
         raise Wide
     return number
 
@@ -170,6 +190,8 @@ class Run:
             self.table()
         except Wide:
             return "width", 0
+        if self.budget is None and len(self.places) > LARGE:
+            return self.end_by_program()
         while True:
             if self.cost_right[0] == 0:
                 return "weights", {j: self.right[i] for i, j in enumerate(self.basic) if j < self.columns and self.right[i][0]}
@@ -184,6 +206,19 @@ class Run:
             except Wide:
                 return "width", self.steps + 1
             self.steps += 1
+
+    def end_by_program(self):
+        """The same by `steps.rs`, which is told the table; a run without a budget ends by weights or a point there."""
+        lines = [f"{self.columns} {len(self.rows)}"]
+        lines += [" ".join(f"{j} {v[0]}" for j, v in sorted(row.items()) if j < self.columns) for row in self.rows]
+        lines.append(" ".join(str(v[0]) for v in self.right))
+        told = run([program()], input="\n".join(lines) + "\n", text=True, check=True, stdout=PIPE).stdout.splitlines()
+        steps, end = told[0].split()
+        self.steps = int(steps)
+        numbers = [[int(word) for word in line.split()] for line in told[1:]]
+        if end == "weights":
+            return end, {j: lowest(num, den) for j, num, den in numbers}
+        return end, [lowest(sign * num, den) for sign, (num, den) in zip(self.sign, numbers)]
 
     def answer(self):
         """("yes", scale, weights), ("no", values by coordinate), ("undecided", cause)."""
@@ -327,16 +362,25 @@ def values_text(question, values):
     return " ".join(sets + [f"{name}={values[2**n + r]}" for r, name in enumerate(question.rates)])
 
 
-def line(number, question, budget=20000):
-    """The line of a question's answer, and the steps of its runs."""
+def lines(number, question, end, found):
+    """The line of the answer to a `prove` question."""
+    if end == "yes":
+        return [f"{number} yes {' and '.join(sum_text(question, *proof) for proof in found)}"]
+    if end == "no":
+        return [f"{number} no {values_text(question, found[1])}"]
+    return [f"{number} undecided {end}" + (f" {found}" if end != "scale" else "")]
+
+
+def prove(question, budget=20000):
+    """("yes", proofs), ("no", (side, values)) or (cause, at), and the steps of the runs."""
     proofs, steps = [], 0
-    for target in question.targets:
+    for side, target in zip(("forward", "back"), question.targets):
         run = Run(question, target, budget)
-        answer = run.answer()
+        end, *found = run.answer()
         steps += run.steps
-        if answer[0] == "no":
-            return f"{number} no {values_text(question, answer[1])}", steps
-        if answer[0] == "undecided":
-            return f"{number} undecided {answer[1]}", steps
-        proofs.append(sum_text(question, answer[1], answer[2]))
-    return f"{number} yes {' and '.join(proofs)}", steps
+        if end == "no":
+            return end, (side, found[0]), steps
+        if end == "undecided":
+            return *(found[0].split(" ") + ["0"])[:2], steps
+        proofs.append(found)
+    return "yes", proofs, steps

@@ -6,7 +6,8 @@ rows that equal an earlier one.
 
 from math import gcd
 
-TOP = 2**127 - 1
+# every number of the product is at most this in absolute value
+LIMIT = 2**127 - 1
 
 
 def in_order(rows):
@@ -27,7 +28,7 @@ def cancelled(up, down, rate):
     for at in sorted(set(up) | set(down)):
         if at != rate:
             first, second = q // g * up.get(at, 0), p // g * down.get(at, 0)
-            wide = wide or max(abs(first), abs(second), abs(first + second)) > TOP
+            wide = wide or max(abs(first), abs(second), abs(first + second)) > LIMIT
             if first + second:
                 row[at] = first + second
     return row, wide
@@ -61,9 +62,8 @@ def row_text(question, row):
     return f"{text or '0'} >= 0"
 
 
-def lines(number, question, most=512):
+def lines(number, question, end, found):
     """The lines of the answer to an `eliminate` question."""
-    end, found = eliminate(question, most)
     if end != "region":
         return [f"{number} undecided {end} {question.coordinate_text(found)}"]
     return [f"{number} region {len(found)}"] + [f"{number} row plain {row_text(question, row)}" for row in found]

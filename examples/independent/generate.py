@@ -1,6 +1,10 @@
-"""Random questions on two to four variables: relations, constraints of every kind, functions in many guises, rates. Damaged reports."""
+"""Random questions on two to four variables: relations, constraints of every kind, functions in many guises, rates. Systems of rows, pairs of
+regions. Damaged reports. The file of questions that mode `bench` makes from a seed.
+"""
 
 from random import Random
+
+from questions import Scope
 
 
 class Generator:
@@ -72,6 +76,33 @@ class Generator:
         right = self.random.choice(["0", self.atom([]), self.atom([]), f"2 {self.atom([])}"])
         return f"{left} {self.random.choice(['>=', '<=', '>=', '<=', '='])} {right}"
 
+    def own_lines(self, names, rates):
+        """A few lines of a region: chains, functions, and rows whose right side is an information."""
+        self.names = names
+        lines = []
+        for _ in range(self.random.choice([0, 1, 1])):
+            lines.append("given " + self.given())
+        for rate in rates:
+            atom = f"I({self.list()};{self.list()})" if self.chance(0.6) else f"H({self.list()})"
+            lines.append(f"row {rate} {self.random.choice(['<=', '<=', '>=', '='])} {atom}")
+        return self.random.sample(lines, len(lines))
+
+    def containment(self):
+        """Two regions, the second sometimes the first with other names of its auxiliaries."""
+        names, rates = ["X", "Y"], ["R", "S"][: self.random.choice([0, 1, 1, 2])]
+        lines = ["vars " + ", ".join(names)] + (["rates " + ", ".join(rates)] if rates else [])
+        self.names = names
+        lines += ["given " + self.given()] if self.chance(0.3) else []
+        first, second = (self.random.choice([0, 1, 1]), self.random.choice([0, 1, 1, 2]))
+        for count in (first, second):
+            auxiliaries = ["U", "V"][:count]
+            lines += ["region"] + (["aux " + ", ".join(auxiliaries)] if auxiliaries else [])
+            lines += self.own_lines(names + auxiliaries, rates)
+        if second and self.chance(0.3):
+            sets = [self.random.choice(["0", *names, ",".join(names)]) for _ in range(second)]
+            lines.append("try " + "; ".join(f"{name} := {found}" for name, found in zip("UV", sets)))
+        return "\n".join(lines + ["contain"]) + "\n"
+
 
 class Damage:
     """Lines of a report with a few letters left out, put in, exchanged or doubled, mostly numbers and names."""
@@ -97,3 +128,25 @@ class Damage:
         for _ in range(self.random.choice([0, 1, 1, 1, 2, 3])):
             line = self.edit(line)
         return line.replace("\n", " ") + "\n"
+
+
+class Draws:
+    """The example generator of the C standard (ISO/IEC 9899, `rand`) modulo 2**31, without its lower 16 digits."""
+
+    def __init__(self, seed):
+        self.state = seed
+
+    def draw(self, below):
+        self.state = (1103515245 * self.state + 12345) % 2**31
+        return self.state // 65536 % below
+
+
+def generated_file(seed, count):
+    """So many questions: whether the sum of three elemental inequalities with weights 1 to 4 is at least 0 to 2 times an entropy."""
+    draws, scope, text = Draws(seed), Scope("ABCD"), ""
+    names = [g.name for g in scope.elementals()]
+    for _ in range(count):
+        terms = [f"{1 + draws.draw(4)} {names[draws.draw(28)]}" for _ in range(3)]
+        least, of = draws.draw(3), 1 + draws.draw(15)
+        text += f"vars A, B, C, D\nprove {' + '.join(terms)} >= {least} H({scope.set_text(of)})\n"
+    return text

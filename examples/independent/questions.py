@@ -75,11 +75,12 @@ class Scope:
 
 class Question(Scope):
     """A question by its verb. `prove`: `targets`, rows in `constraints`. `eliminate`: `rows`, and `eliminated` coordinates, the
-    `given` lines alone in `constraints`. `contain`: the two `regions`, each a `Region`."""
+    `given` lines alone in `constraints`. `contain`: the two `regions`, each a `Region`, and `tries`, each with a set for each
+    auxiliary of the second."""
 
     def __init__(self, names):
         super().__init__(names)
-        self.verb, self.targets, self.rows, self.eliminated, self.regions = None, [], [], [], []
+        self.verb, self.targets, self.rows, self.eliminated, self.regions, self.tries = None, [], [], [], [], []
         self.line, self.text = 0, ""
 
     def system(self):
@@ -92,6 +93,9 @@ class Region(Scope):
     def __init__(self, question):
         super().__init__(question.names, question.rates)
         self.auxiliaries = 0
+
+    def auxiliary_names(self):
+        return self.names[len(self.names) - self.auxiliaries:]
 
 
 def row_of(terms):
@@ -255,21 +259,24 @@ class Line:
         return [Generator(name, row, equation, True)]
 
     def tried(self, first, second):
-        """A `try` line: each auxiliary of the second region once, with a set of the first one's variables."""
-        auxiliaries = second.names[len(second.names) - second.auxiliaries:]
-        left = list(auxiliaries)
+        """The sets of a `try` line: each auxiliary of the second region once, with a set of the first one's variables."""
+        auxiliaries = second.auxiliary_names()
+        left, sets = list(auxiliaries), {}
         self.scope = first
         while True:
-            left.remove(self.tried_name(auxiliaries, left))
+            name = self.tried_name(auxiliaries, left)
+            left.remove(name)
             self.want(":=")
             if self.peek() is not None and self.peek()[0].isdigit():
                 rule(int(self.next()) == 0, "a number as a set")
+                sets[name] = 0
             else:
-                self.set()
+                sets[name] = self.set()
             if not self.take(";"):
                 break
         self.end()
         rule(not left, "an auxiliary is left out")
+        return [sets[name] for name in auxiliaries]
 
     def tried_name(self, auxiliaries, left):
         name = self.name()
@@ -342,7 +349,7 @@ class File:
     def try_(self, line):
         rule(len(self.question.regions) == 2 and self.scope().auxiliaries, "try in a wrong place")
         self.count("try")
-        line.tried(*self.question.regions)
+        self.question.tries.append(line.tried(*self.question.regions))
 
     def prove(self, line):
         rule(not self.question.regions, "prove after a region")

@@ -7,9 +7,11 @@ generators in order and then the target. Numbers are told as they are written, s
 import json
 import re
 
+from contain import Containment
 from questions import Fault, read
 
-TOP = 2**127 - 1
+# every number of the product is at most this in absolute value
+LIMIT = 2**127 - 1
 ANSWERS = {"prove": ("yes", "no", "undecided"), "eliminate": ("region", "undecided"), "contain": ("contained", "open")}
 
 
@@ -28,7 +30,8 @@ class NoReading(Exception):
 # Writing
 
 def answer_json(question, end, found):
-    """The line of an answer: ("yes", [(scale, weights by generator)]), ("no", (side, values)), ("region", rows), (cause, at)."""
+    """The line of an answer: ("yes", [(scale, weights by generator)]), ("no", (side, values)), ("region", rows), ("contained", (parts,
+    proofs)), ("open", tried), (cause, at)."""
     value = {"question": question.text}
     if end == "yes":
         value |= {"answer": end, "proofs": [proof_value(*proof) for proof in found]}
@@ -38,6 +41,10 @@ def answer_json(question, end, found):
     elif end == "region":
         rows = [{"mark": "plain", "row": [[at, str(row[at])] for at in sorted(row)]} for row in found]
         value |= {"answer": end, "rows": rows}
+    elif end == "contained":
+        value |= {"answer": end, "parts": list(found[0]), "proofs": [proof_value(*proof) for proof in found[1]]}
+    elif end == "open":
+        value |= {"answer": end, "tried": found}
     else:
         at = question.coordinate_text(found) if isinstance(found, int) else found
         value |= {"answer": "undecided", "cause": end, "at": at}
@@ -122,7 +129,7 @@ def count(value, key, most=2**32 - 1):
 def decimal(value, key):
     """A whole number as decimal text."""
     rule(isinstance(value, str) and not isinstance(value, Written) and re.fullmatch("-?[0-9]{1,39}", value), key)
-    rule(abs(int(value)) <= TOP, key)
+    rule(abs(int(value)) <= LIMIT, key)
     return int(value)
 
 
@@ -181,10 +188,20 @@ def at_of(value, question, cause):
 
 
 def contained_of(value, question):
-    first, second = question.regions
-    for part in items(value.get("parts"), "parts", second.auxiliaries):
-        count(part, "parts", 2 ** len(first.names) - 1)
-    proofs_of(value, sum(len(constraint.least()) for constraint in second.constraints))
+    """The first region, the obligations and their proofs."""
+    containment = Containment(question)
+    parts = items(value.get("parts"), "parts", containment.second.auxiliaries)
+    targets = containment.obligations([count(part, "parts", 2**containment.n - 1) for part in parts])
+    return containment.first, targets, proofs_of(value, len(targets))
+
+
+def first_fault(scope, targets, proofs):
+    """The verdict on a list of proofs: the first one that is at fault."""
+    for target, proof in zip(targets, proofs):
+        found = sum_verdict(scope, target, *proof)
+        if found:
+            return f"invalid {found}"
+    return "valid"
 
 
 def verdict(line):
@@ -195,11 +212,9 @@ def verdict(line):
     question = question_of(value)
     rule(answer in ANSWERS[question.verb], "answer")
     if answer == "yes":
-        for target, proof in zip(question.targets, proofs_of(value, len(question.targets))):
-            found = sum_verdict(question, target, *proof)
-            if found:
-                return f"invalid {found}"
-        return "valid"
+        return first_fault(question, question.targets, proofs_of(value, len(question.targets)))
+    if answer == "contained":
+        return first_fault(*contained_of(value, question))
     if answer == "no":
         point = [decimal(v, "point") for v in items(value.get("point"), "point", question.size())]
         side = text_at(value, "side")
@@ -213,8 +228,6 @@ def verdict(line):
         at_of(value, question, cause)
     elif answer == "region":
         rows_of(value, question)
-    elif answer == "contained":
-        contained_of(value, question)
     else:
         count(value.get("tried"), "tried")
     return "skipped"
@@ -227,7 +240,7 @@ class Wide(Exception):
 
 
 def fit(value):
-    if abs(value) > TOP:
+    if abs(value) > LIMIT:
         raise Wide
     return value
 
