@@ -2,8 +2,7 @@
 use Rattle.std.proofs.Common.{◌≡◌, ℕ, ◌+◌, ◌*◌, ◌<◌, ◌^◌, List, Option, Some, None, length, sym, ap, subst, ◌∙◌}
 use Rattle.std.specs.Option.{IfSome}
 use Rattle.it_rational.specs.Rational.{Rational}
-use Rattle.it_rational.proofs.RationalLaws.{ring_ℚ}
-use Rattle.it_rational.proofs.Field.{order_ℚ}
+use Rattle.it_rational.proofs.Field.{field_ℚ}
 use Rattle.it_space.specs.Rows.{Terms}
 use Rattle.it_tableau.specs.TableauViews.{TableauView, height, table}
 use Rattle.it_tableau.specs.Tables.{Table, FeasibilityProblem}
@@ -32,13 +31,13 @@ module _ (first : TableauView) (columns : List Terms) (limit : ℕ) (old : List 
       → (p : FeasibilityProblem Rational) (t : Table Rational) → HasSigns first p → StandsFor p t columns limit old basis → RunsTo (length basis) (length columns) p budget t (Weights ws)
   by_weights ws f w p t sg s = let r = f.runs p t s in
       subst (λ (ws : List (ℕ × Rational)). RunsTo (length basis) (length columns) p budget t (Weights ws))
-      (sym (w p r.0 limit r.1 ∙ ap (λ m. weights ring_ℚ order_ℚ m (length columns) r.0) f.height)) (read_run (length basis) (length columns) p budget t (Weights r.0) r.2)
+      (sym (w p r.0 limit r.1 ∙ ap (λ m. weights field_ℚ m (length columns) r.0) f.height)) (read_run (length basis) (length columns) p budget t (Weights r.0) r.2)
 
   pub by_point : (q : List Rational) → IsFinished columns limit old basis budget new new_basis engine_ends.Point → IsPointOf first new new_basis q
       → (p : FeasibilityProblem Rational) (t : Table Rational) → HasSigns first p → StandsFor p t columns limit old basis → RunsTo (length basis) (length columns) p budget t (Point q)
   by_point q f w p t sg s = let r = f.runs p t s in
       subst (λ (q : List Rational). RunsTo (length basis) (length columns) p budget t (Point q))
-      (sym (w p r.0 columns limit sg r.1 ∙ ap (λ m. point ring_ℚ order_ℚ m (length columns) p r.0) f.height)) (read_run (length basis) (length columns) p budget t (Point r.0) r.2)
+      (sym (w p r.0 columns limit sg r.1 ∙ ap (λ m. point field_ℚ m (length columns) p r.0) f.height)) (read_run (length basis) (length columns) p budget t (Point r.0) r.2)
 
   pub by_budget : (k : ℕ) → IsFinished columns limit old basis budget new new_basis (engine_ends.Pivots k)
       → (p : FeasibilityProblem Rational) (t : Table Rational) → HasSigns first p → StandsFor p t columns limit old basis → RunsTo (length basis) (length columns) p budget t (Pivots k)

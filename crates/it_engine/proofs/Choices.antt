@@ -6,8 +6,7 @@ use Rattle.it_rational.specs.Rational.{Rational, sign_least, is_at_least_zero}
 use Rattle.it_rational.specs.Rational as Q
 use Rattle.it_rational.proofs.Names.{plus_names}
 use Rattle.it_rational.specs.Rational.{Names}
-use Rattle.it_rational.proofs.RationalLaws.{ring_ℚ}
-use Rattle.it_rational.proofs.Field.{order_ℚ}
+use Rattle.it_rational.proofs.Field.{field_ℚ}
 use Rattle.it_tableau.specs.Tables.{Table, ratio}
 use Rattle.it_run.specs.Choice.{first_false, is_candidate, precedes, leaving_of}
 use Rattle.std.specs.Option.{IfSome}
@@ -60,13 +59,13 @@ difference_sign a b n k x y hx hy e f =
 
 -- the best row so far is that of the run
 abbrev pub IsBest : ℕ → ℕ → Table Rational → ℕ → ℕ → Option ℕ → Type 0
-IsBest m n t c i None = leaving_of ring_ℚ order_ℚ m n t c i ≡ m
-IsBest m n t c i (Some k) = (leaving_of ring_ℚ order_ℚ m n t c i ≡ k) × (k < i) × (is_candidate ring_ℚ order_ℚ t c k ≡ true)
+IsBest m n t c i None = leaving_of field_ℚ m n t c i ≡ m
+IsBest m n t c i (Some k) = (leaving_of field_ℚ m n t c i ≡ k) × (k < i) × (is_candidate field_ℚ t c k ≡ true)
 
 module _ (m n : ℕ) (t : Table Rational) (c : ℕ) (entry right : ℕ → ℤ) (bottom basis : ℕ → ℕ)
     (some : (i : ℕ) → i < m → 0 < bottom i) (entries : (i : ℕ) → i < m → Names (t.entry i c) (entry i) (bottom i))
     (rights : (i : ℕ) → i < m → Names (t.entry i (n + m)) (right i) (bottom i)) (basis_is : (i : ℕ) → i < m → t.basis i ≡ basis i) where
-  pub open_is : (i : ℕ) → i < m → is_candidate ring_ℚ order_ℚ t c i ≡ is_above (entry i)
+  pub open_is : (i : ℕ) → i < m → is_candidate field_ℚ t c i ≡ is_above (entry i)
   open_is i h = ap not (sign_named (Q.minus (t.entry i c)) (neg_ℤ (entry i)) (bottom i) (some i h) (minus_names (t.entry i c) (entry i) (bottom i) (entries i h)))
 
   above_number : (z : ℤ) → is_above z ≡ true → (p : ℕ) × (0 < p) × (z ≡ pos p)
@@ -74,21 +73,21 @@ module _ (m n : ℕ) (t : Table Rational) (c : ℕ) (entry right : ℕ → ℤ) 
   above_number (pos (suc p)) e = (suc p, omega arith, refl)
   above_number (negsuc p) e = absurd (true≢false (sym e))
 
-  ratio_named : (i p : ℕ) → i < m → 0 < p → entry i ≡ pos p → Names (ratio ring_ℚ order_ℚ m n t c i) (right i) p
+  ratio_named : (i p : ℕ) → i < m → 0 < p → entry i ≡ pos p → Names (ratio field_ℚ m n t c i) (right i) p
   ratio_named i p h hp e = quotient_in_row (t.entry i (n + m)) (t.entry i c) (right i) p (bottom i) (some i h) hp (rights i h)
       (subst (λ (z : ℤ). Names (t.entry i c) z (bottom i)) e (entries i h))
 
   precedes_is : (i k : ℕ) → i < m → k < m → is_above (entry i) ≡ true → is_above (entry k) ≡ true
-      → precedes ring_ℚ order_ℚ m n t c i k ≡ comes_first (right i) (entry i) (basis i) (right k) (entry k) (basis k)
+      → precedes field_ℚ m n t c i k ≡ comes_first (right i) (entry i) (basis i) (right k) (entry k) (basis k)
   precedes_is i k hi hk oi ok =
       let p = above_number (entry i) oi in
       let q = above_number (entry k) ok in
       let ri = ratio_named i p.0 hi p.1 p.2 in
       let rk = ratio_named k q.0 hk q.1 q.2 in
       ap₂ (λ x y. cond x (y && ltb (t.basis i) (t.basis k)) true)
-      (difference_sign (ratio ring_ℚ order_ℚ m n t c i) (ratio ring_ℚ order_ℚ m n t c k) (right i) (right k) p.0 q.0 p.1 q.1 ri rk
+      (difference_sign (ratio field_ℚ m n t c i) (ratio field_ℚ m n t c k) (right i) (right k) p.0 q.0 p.1 q.1 ri rk
       ∙ ap₂ (λ x y. sign_least (right i *ℤ y +ℤ neg_ℤ (right k *ℤ x))) (sym p.2) (sym q.2))
-      (difference_sign (ratio ring_ℚ order_ℚ m n t c k) (ratio ring_ℚ order_ℚ m n t c i) (right k) (right i) q.0 p.0 q.1 p.1 rk ri
+      (difference_sign (ratio field_ℚ m n t c k) (ratio field_ℚ m n t c i) (right k) (right i) q.0 p.0 q.1 p.1 rk ri
       ∙ ap₂ (λ x y. sign_least (right k *ℤ x +ℤ neg_ℤ (right i *ℤ y))) (sym p.2) (sym q.2))
       ∙ ap₂ (λ x y. cond (sign_least (right i *ℤ entry k +ℤ neg_ℤ (right k *ℤ entry i))) (sign_least (right k *ℤ entry i +ℤ neg_ℤ (right i *ℤ entry k)) && ltb x y) true) (basis_is i hi) (basis_is k hk)
 
@@ -96,27 +95,27 @@ module _ (m n : ℕ) (t : Table Rational) (c : ℕ) (entry right : ℕ → ℤ) 
   agrees zero h = refl
   agrees (suc i) h = by_option (best_below entry right basis i) (is_above (entry i)) refl (agrees i (omega arith))
     where
-      now : (b : Bool) → is_above (entry i) ≡ b → leaving_of ring_ℚ order_ℚ m n t c (suc i) ≡ cond b (cond (eqb (leaving_of ring_ℚ order_ℚ m n t c i) m) i (cond (precedes ring_ℚ order_ℚ m n t c i (leaving_of ring_ℚ order_ℚ m n t c i)) i (leaving_of ring_ℚ order_ℚ m n t c i))) (leaving_of ring_ℚ order_ℚ m n t c i)
-      now b e = ap (λ b. cond b (cond (eqb (leaving_of ring_ℚ order_ℚ m n t c i) m) i (cond (precedes ring_ℚ order_ℚ m n t c i (leaving_of ring_ℚ order_ℚ m n t c i)) i (leaving_of ring_ℚ order_ℚ m n t c i))) (leaving_of ring_ℚ order_ℚ m n t c i))
+      now : (b : Bool) → is_above (entry i) ≡ b → leaving_of field_ℚ m n t c (suc i) ≡ cond b (cond (eqb (leaving_of field_ℚ m n t c i) m) i (cond (precedes field_ℚ m n t c i (leaving_of field_ℚ m n t c i)) i (leaving_of field_ℚ m n t c i))) (leaving_of field_ℚ m n t c i)
+      now b e = ap (λ b. cond b (cond (eqb (leaving_of field_ℚ m n t c i) m) i (cond (precedes field_ℚ m n t c i (leaving_of field_ℚ m n t c i)) i (leaving_of field_ℚ m n t c i))) (leaving_of field_ℚ m n t c i))
           (open_is i (omega arith) ∙ e)
 
       by_option : (o : Option ℕ) (b : Bool) → is_above (entry i) ≡ b → IsBest m n t c i o → IsBest m n t c (suc i) (best_after_row entry right basis i o)
       by_option None false e a = subst (λ (x : Bool). IsBest m n t c (suc i) (cond x (Some i) None)) (sym e) (now false e ∙ a)
       by_option None true e a = subst (λ (x : Bool). IsBest m n t c (suc i) (cond x (Some i) None)) (sym e)
-          (now true e ∙ ap (λ x. cond x i (cond (precedes ring_ℚ order_ℚ m n t c i (leaving_of ring_ℚ order_ℚ m n t c i)) i (leaving_of ring_ℚ order_ℚ m n t c i))) (eq-eqb (leaving_of ring_ℚ order_ℚ m n t c i) m a), omega arith, open_is i (omega arith) ∙ e)
+          (now true e ∙ ap (λ x. cond x i (cond (precedes field_ℚ m n t c i (leaving_of field_ℚ m n t c i)) i (leaving_of field_ℚ m n t c i))) (eq-eqb (leaving_of field_ℚ m n t c i) m a), omega arith, open_is i (omega arith) ∙ e)
       by_option (Some k) false e a = subst (λ (x : Bool). IsBest m n t c (suc i) (cond x (cond (comes_first (right i) (entry i) (basis i) (right k) (entry k) (basis k)) (Some i) (Some k)) (Some k))) (sym e)
           (now false e ∙ a.0, omega (arith, a.1), a.2)
       by_option (Some k) true e a = subst (λ (x : Bool). IsBest m n t c (suc i) (cond x (cond (comes_first (right i) (entry i) (basis i) (right k) (entry k) (basis k)) (Some i) (Some k)) (Some k))) (sym e)
           (pick (comes_first (right i) (entry i) (basis i) (right k) (entry k) (basis k)) refl)
         where
-          same : precedes ring_ℚ order_ℚ m n t c i k ≡ comes_first (right i) (entry i) (basis i) (right k) (entry k) (basis k)
+          same : precedes field_ℚ m n t c i k ≡ comes_first (right i) (entry i) (basis i) (right k) (entry k) (basis k)
           same = precedes_is i k (omega arith) (omega (arith, a.1)) e (sym (open_is k (omega (arith, a.1))) ∙ a.2)
 
-          stepped : leaving_of ring_ℚ order_ℚ m n t c (suc i) ≡ cond (comes_first (right i) (entry i) (basis i) (right k) (entry k) (basis k)) i k
+          stepped : leaving_of field_ℚ m n t c (suc i) ≡ cond (comes_first (right i) (entry i) (basis i) (right k) (entry k) (basis k)) i k
           stepped = now true e
-              ∙ ap (λ x. cond x i (cond (precedes ring_ℚ order_ℚ m n t c i (leaving_of ring_ℚ order_ℚ m n t c i)) i (leaving_of ring_ℚ order_ℚ m n t c i)))
-              (ne_eqb (leaving_of ring_ℚ order_ℚ m n t c i) m (λ z. omega (arith, a.0, a.1, z)))
-              ∙ ap (λ l. cond (precedes ring_ℚ order_ℚ m n t c i l) i l) a.0
+              ∙ ap (λ x. cond x i (cond (precedes field_ℚ m n t c i (leaving_of field_ℚ m n t c i)) i (leaving_of field_ℚ m n t c i)))
+              (ne_eqb (leaving_of field_ℚ m n t c i) m (λ z. omega (arith, a.0, a.1, z)))
+              ∙ ap (λ l. cond (precedes field_ℚ m n t c i l) i l) a.0
               ∙ ap (λ b. cond b i k) same
 
           pick : (d : Bool) → comes_first (right i) (entry i) (basis i) (right k) (entry k) (basis k) ≡ d → IsBest m n t c (suc i) (cond d (Some i) (Some k))

@@ -8,8 +8,7 @@ use Rattle.it_rational.specs.Rational.{Rational}
 use Rattle.it_rational.specs.Rational as Q
 use Rattle.it_rational.proofs.Names.{plus_names, times_names, whole_names, quotient_names}
 use Rattle.it_rational.specs.Rational.{Names}
-use Rattle.it_rational.proofs.RationalLaws.{ring_ℚ}
-use Rattle.it_rational.proofs.Field.{order_ℚ}
+use Rattle.it_rational.proofs.Field.{field_ℚ}
 use Rattle.it_space.specs.Rows.{Terms, value}
 use Rattle.it_tableau.specs.Invariants.{HasInvariants}
 use Rattle.it_tableau.specs.Tables.{Table, FeasibilityProblem}
@@ -63,7 +62,7 @@ value_bounded (t ∷ ts) m f limit a h =
     both x y a b l h k = omega (arith, ints, h, k)
 
 module _ (m n limit norm : ℕ) (p : FeasibilityProblem Rational) (t : Table Rational) (columns : List Terms) (rows : List WholeRowView) (basis : List ℕ)
-    (h : HasInvariants ring_ℚ order_ℚ m n p t) (s : ShowsTable m n limit t rows basis) (cs : AreColumns m n norm p columns) (fit : norm * limit < 2 ^ 63) (some : 1 ≤ norm) where
+    (h : HasInvariants field_ℚ m n p t) (s : ShowsTable m n limit t rows basis) (cs : AreColumns m n norm p columns) (fit : norm * limit < 2 ^ 63) (some : 1 ≤ norm) where
   abbrev pub terms_of : ℕ → Terms
   terms_of j = slice_index_or columns j []
 

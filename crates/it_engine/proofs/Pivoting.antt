@@ -13,15 +13,16 @@ pub record UnderWay (old now : List WholeRowView) (r i : ℕ) (Done : ℕ → Wh
   pub done : (k : ℕ) → k < i → k ≢ r → Done k (row_at now k)
   pub rest : (k : ℕ) → i ≤ k → k ≢ r → row_at now k ≡ row_at old k
 
-abbrev nothing : WholeRowView
-nothing = record { numbers = []; bottom = 1 }
+-- what row_at gives past the last row
+abbrev absent_row : WholeRowView
+absent_row = record { numbers = []; bottom = 1 }
 
 module _ (old : List WholeRowView) (r : ℕ) (Done : ℕ → WholeRowView → Type 0) where
   pub begun : (y : WholeRowView) → UnderWay old (slice_set old r y) r 0 Done
   begun y = record {
     same_length = length-set old r y;
     done = λ k l d. absurd (omega arith);
-    rest = λ k l d. get_or-set_other old r k y nothing d;
+    rest = λ k l d. get_or-set_other old r k y absent_row d;
   }
 
   pub skipped : (now : List WholeRowView) (i : ℕ) → i ≡ r → UnderWay old now r i Done → UnderWay old now r (i + 1) Done
@@ -35,15 +36,15 @@ module _ (old : List WholeRowView) (r : ℕ) (Done : ℕ → WholeRowView → Ty
   stepped now i y h p u = record {
     same_length = length-set now i y ∙ u.same_length;
     done = λ k l d. split k l d (cases_eq k i);
-    rest = λ k l d. get_or-set_other now i k y nothing (λ e. omega arith) ∙ u.rest k (omega arith) d;
+    rest = λ k l d. get_or-set_other now i k y absent_row (λ e. omega arith) ∙ u.rest k (omega arith) d;
   }
     where
       split : (k : ℕ) → k < i + 1 → k ≢ r → (k ≡ i) ⊎ (k ≡ i → ⊥) → Done k (row_at (slice_set now i y) k)
-      split k l d (inl e) = subst (λ (x : ℕ). Done x (row_at (slice_set now i y) x)) (sym e) (subst (Done i) (sym (get_or-set_same now i y nothing h)) p)
-      split k l d (inr n) = subst (Done k) (sym (get_or-set_other now i k y nothing n)) (u.done k (omega arith) d)
+      split k l d (inl e) = subst (λ (x : ℕ). Done x (row_at (slice_set now i y) x)) (sym e) (subst (Done i) (sym (get_or-set_same now i y absent_row h)) p)
+      split k l d (inr n) = subst (Done k) (sym (get_or-set_other now i k y absent_row n)) (u.done k (omega arith) d)
 
   pub others_done : (now : List WholeRowView) (i : ℕ) (y : WholeRowView) → length old ≤ i → UnderWay old now r i Done → (k : ℕ) → k < length old → k ≢ r → Done k (row_at (slice_set now r y) k)
-  others_done now i y h u k l d = subst (Done k) (sym (get_or-set_other now r k y nothing d)) (u.done k (omega arith) d)
+  others_done now i y h u k l d = subst (Done k) (sym (get_or-set_other now r k y absent_row d)) (u.done k (omega arith) d)
 
 -- all rows are done by the row that leaves as divided by its entry, and that row is row r
 pub finished : (old : List WholeRowView) (r width limit : ℕ) (terms : Terms) (p : ℤ) (now : List WholeRowView) (i : ℕ) (y : WholeRowView) → r < length old → IsUsable width limit (row_at old r) → length old ≤ i
@@ -58,7 +59,7 @@ finished old r width limit terms p now i y hr usable hi ep hp small u q = record
 }
   where
     here : y ≡ row_at (slice_set now r y) r
-    here = sym (get_or-set_same now r y nothing (omega (arith, u.same_length, hr)))
+    here = sym (get_or-set_same now r y absent_row (omega (arith, u.same_length, hr)))
 
     divided : IsDivided width limit (row_at old r) p y
     divided = shortened_divided width limit (row_at old r) record { numbers = (row_at old r).numbers; bottom = unsigned_abs p } y p

@@ -8,7 +8,7 @@ use Rattle.it_rational.specs.Rational.{Rational, quotient, whole, minus, times}
 use Rattle.it_rational.proofs.Names.{quotient_names, same_value}
 use Rattle.it_rational.specs.Rational.{Names}
 use Rattle.it_rational.proofs.RationalLaws.{ring_ℚ}
-use Rattle.it_rational.proofs.Field.{order_ℚ}
+use Rattle.it_rational.proofs.Field.{field_ℚ}
 use Rattle.it_space.specs.Rows.{Terms}
 use Rattle.it_tableau.specs.TableauViews.{TableauView, height}
 use Rattle.it_tableau.specs.Tables.{Table, FeasibilityProblem}
@@ -26,11 +26,11 @@ pub quotient_named : (q : Rational) (n : ℤ) (d : ℕ) → 0 < d → Names q n 
 quotient_named q n d h e = same_value (quotient n d) q n n d d h h (quotient_names n d h) e refl
 
 module _ (p : FeasibilityProblem Rational) (t : Table Rational) (columns : List Terms) (limit : ℕ) (rows : List WholeRowView) (basis : List ℕ) (s : StandsFor p t columns limit rows basis) where
-  weight_is : (j : ℕ) (w : Rational) → IsWeightOf rows basis j w → w ≡ weight ring_ℚ order_ℚ (length basis) (length columns) t j
+  weight_is : (j : ℕ) (w : Rational) → IsWeightOf rows basis j w → w ≡ weight field_ℚ (length basis) (length columns) t j
   weight_is j w i = i.value_is
       ∙ (let r = s.shows.row i.row (omega (arith, i.within)) in
       quotient_named (t.entry i.row (length columns + length basis)) (right_of (length basis) rows i.row) (row_at rows i.row).bottom r.some (r.named (length basis) (omega arith)))
-      ∙ sym (weight_found ring_ℚ order_ℚ (length basis) (length columns) p t s.holds i.row j i.within (s.shows.basis_is i.row i.within ∙ i.basic))
+      ∙ sym (weight_found field_ℚ (length basis) (length columns) p t s.holds i.row j i.within (s.shows.basis_is i.row i.within ∙ i.basic))
 
 -- the weights so far, for whichever table the engine shows
 abbrev pub WeightsSoFar : List Terms → List WholeRowView → List ℕ → List (ℕ × Rational) → ℕ → Type 0
@@ -47,7 +47,7 @@ weights_null columns rows basis out j w l i n h = λ p t limit s. so_far_null (l
 pub weights_none : (columns : List Terms) (rows : List WholeRowView) (basis : List ℕ) (out : List (ℕ × Rational)) (j : ℕ) → j < length columns → ((i : ℕ) → i < length basis → slice_index_or basis i 0 ≢ j)
     → WeightsSoFar columns rows basis out j → WeightsSoFar columns rows basis out (j + 1)
 weights_none columns rows basis out j l n h = λ p t limit s. so_far_null (length basis) (length columns) t out j l
-    (weight_none ring_ℚ order_ℚ (length basis) (length columns) t j (λ i k e. n i k (sym (s.shows.basis_is i k) ∙ e))) (h p t limit s)
+    (weight_none field_ℚ (length basis) (length columns) t j (λ i k e. n i k (sym (s.shows.basis_is i k) ∙ e))) (h p t limit s)
 
 -- signs
 pub sign_below : (b : Bool) → cond b (negsuc 0) (pos 1) <ℤ pos 0 → b ≡ true
@@ -61,7 +61,7 @@ sign_above false h = refl
 -- the point's values so far
 abbrev pub PointSoFar : TableauView → List WholeRowView → List ℕ → List Rational → ℕ → Type 0
 PointSoFar first rows basis out k = (p : FeasibilityProblem Rational) (t : Table Rational) (columns : List Terms) (limit : ℕ) → HasSigns first p → StandsFor p t columns limit rows basis
-    → out ++ point_from ring_ℚ order_ℚ (length basis) (length columns) p t k (length basis - k) ≡ point ring_ℚ order_ℚ (length basis) (length columns) p t
+    → out ++ point_from field_ℚ (length basis) (length columns) p t k (length basis - k) ≡ point field_ℚ (length basis) (length columns) p t
 
 pub point_more : (first : TableauView) (rows : List WholeRowView) (basis : List ℕ) (out : List Rational) (k : ℕ) (x : Rational) → k < length basis → length basis ≡ height first
     → x ≡ times (sign_number first k) (quotient (right_of k rows (length basis)) (row_at rows (length basis)).bottom)
@@ -70,11 +70,11 @@ point_more first rows basis out k x l m e h = λ p t columns limit sg s.
     let r = s.shows.row (length basis) (omega arith) in
     let here : length basis - k ≡ suc (length basis - (k + 1)) = omega (arith, l) in
     let there : suc k ≡ k + 1 = omega arith in
-    append_assoc out (x ∷ []) (point_from ring_ℚ order_ℚ (length basis) (length columns) p t (k + 1) (length basis - (k + 1)))
-    ∙ ap (λ y. out ++ y ∷ point_from ring_ℚ order_ℚ (length basis) (length columns) p t (k + 1) (length basis - (k + 1)))
+    append_assoc out (x ∷ []) (point_from field_ℚ (length basis) (length columns) p t (k + 1) (length basis - (k + 1)))
+    ∙ ap (λ y. out ++ y ∷ point_from field_ℚ (length basis) (length columns) p t (k + 1) (length basis - (k + 1)))
     (e ∙ ap₂ times (sg k (omega (arith, l, m))) (quotient_named (t.entry (length basis) (length columns + k)) (right_of k rows (length basis)) (row_at rows (length basis)).bottom r.some (r.named k (omega (arith, l)))))
-    ∙ ap (λ xs. out ++ xs) (sym (ap (point_from ring_ℚ order_ℚ (length basis) (length columns) p t k) here
-    ∙ ap (λ i. point_at ring_ℚ order_ℚ (length basis) (length columns) p t k ∷ point_from ring_ℚ order_ℚ (length basis) (length columns) p t i (length basis - (k + 1))) there))
+    ∙ ap (λ xs. out ++ xs) (sym (ap (point_from field_ℚ (length basis) (length columns) p t k) here
+    ∙ ap (λ i. point_at field_ℚ (length basis) (length columns) p t k ∷ point_from field_ℚ (length basis) (length columns) p t i (length basis - (k + 1))) there))
     ∙ h p t columns limit sg s
 
 pub null_from_top : (q : Rational) → q.num ≡ pos 0 → q ≡ whole (pos 0)
@@ -89,10 +89,10 @@ signed_is false x = ring ring_ℚ (x ∷ []) (v 0) (R.times one (v 0)) refl
 
 -- all weights, all values
 pub weights_all : (columns : List Terms) (rows : List WholeRowView) (basis : List ℕ) (out : List (ℕ × Rational)) (j : ℕ) → length columns ≤ j → WeightsSoFar columns rows basis out j
-    → (p : FeasibilityProblem Rational) (t : Table Rational) (limit : ℕ) → StandsFor p t columns limit rows basis → out ≡ weights ring_ℚ order_ℚ (length basis) (length columns) t
+    → (p : FeasibilityProblem Rational) (t : Table Rational) (limit : ℕ) → StandsFor p t columns limit rows basis → out ≡ weights field_ℚ (length basis) (length columns) t
 weights_all columns rows basis out j l h p t limit s = let none : length columns - j ≡ 0 = omega (arith, l) in
-    sym (append-nil out) ∙ ap (λ k. out ++ weights_from ring_ℚ order_ℚ (length basis) (length columns) t j k) (sym none) ∙ h p t limit s
+    sym (append-nil out) ∙ ap (λ k. out ++ weights_from field_ℚ (length basis) (length columns) t j k) (sym none) ∙ h p t limit s
 
 pub point_all : (first : TableauView) (rows : List WholeRowView) (basis : List ℕ) (out : List Rational) (k : ℕ) → length basis ≤ k → PointSoFar first rows basis out k → IsPointOf first rows basis out
 point_all first rows basis out k l h = λ p t columns limit sg s. let none : length basis - k ≡ 0 = omega (arith, l) in
-    sym (append-nil out) ∙ ap (λ i. out ++ point_from ring_ℚ order_ℚ (length basis) (length columns) p t k i) (sym none) ∙ h p t columns limit sg s
+    sym (append-nil out) ∙ ap (λ i. out ++ point_from field_ℚ (length basis) (length columns) p t k i) (sym none) ∙ h p t columns limit sg s

@@ -4,8 +4,7 @@ use Rattle.std.proofs.lemmas.Int.{ints}
 use Rattle.it_rational.specs.Rational.{Rational}
 use Rattle.it_rational.proofs.Names.{cancel}
 use Rattle.it_rational.specs.Rational.{Names}
-use Rattle.it_rational.proofs.RationalLaws.{ring_ℚ}
-use Rattle.it_rational.proofs.Field.{order_ℚ}
+use Rattle.it_rational.proofs.Field.{field_ℚ}
 use Rattle.it_fraction.proofs.ZeroLemmas.{zero_parts}
 use Rattle.it_space.specs.Rows.{Terms}
 use Rattle.it_tableau.specs.Tables.{Table, FeasibilityProblem}
@@ -38,11 +37,11 @@ module _ (p : FeasibilityProblem Rational) (t : Table Rational) (columns : List 
   cost_named : Names (t.entry (length basis) (length columns + length basis)) (right_of (length basis) rows (length basis)) (row_at rows (length basis)).bottom
   cost_named = (s.shows.row (length basis) (omega arith)).named (length basis) (omega arith)
 
-  pub done_here : right_of (length basis) rows (length basis) ≡ pos 0 → IsDone ring_ℚ order_ℚ (length basis) (length columns) t
+  pub done_here : right_of (length basis) rows (length basis) ≡ pos 0 → IsDone field_ℚ (length basis) (length columns) t
   done_here e = null_named (t.entry (length basis) (length columns + length basis)) (row_at rows (length basis)).bottom (s.shows.row (length basis) (omega arith)).some
       (subst (λ (z : ℤ). Names (t.entry (length basis) (length columns + length basis)) z (row_at rows (length basis)).bottom) e cost_named)
 
-  pub not_done_here : ¬ (right_of (length basis) rows (length basis) ≡ pos 0) → ¬ (IsDone ring_ℚ order_ℚ (length basis) (length columns) t)
+  pub not_done_here : ¬ (right_of (length basis) rows (length basis) ≡ pos 0) → ¬ (IsDone field_ℚ (length basis) (length columns) t)
   not_done_here n d = n (number_null (right_of (length basis) rows (length basis)) (t.entry (length basis) (length columns + length basis)) (row_at rows (length basis)).bottom cost_named (ap (λ (q : Rational). q.num) d ∙ zero_parts.0))
     where
       number_null : (z : ℤ) (q : Rational) (d : ℕ) → Names q z d → q.num ≡ pos 0 → z ≡ pos 0
@@ -65,12 +64,12 @@ module _ (columns : List Terms) (limit : ℕ) (old : List WholeRowView) (basis :
       r.0,
       r.1,
       r.2 _ (run_done (length basis) (length columns) (budget - k) k r.0
-          (moved (λ m. IsDone ring_ℚ order_ℚ m (length columns) r.0) (done_here p r.0 columns limit now now_basis r.1 e))),
+          (moved (λ m. IsDone field_ℚ m (length columns) r.0) (done_here p r.0 columns limit now now_basis r.1 e))),
     );
   }
 
   pub way_stuck : ¬ (right_of (length now_basis) now (length now_basis) ≡ pos 0)
-      → ((p : FeasibilityProblem Rational) (t : Table Rational) → StandsFor p t columns limit now now_basis → IsStuck ring_ℚ order_ℚ (length now_basis) (length columns) t)
+      → ((p : FeasibilityProblem Rational) (t : Table Rational) → StandsFor p t columns limit now now_basis → IsStuck field_ℚ (length now_basis) (length columns) t)
       → IsFinished columns limit old basis (Some budget) now now_basis Point
   way_stuck n u = record {
     engine = w.engine;
@@ -79,13 +78,13 @@ module _ (columns : List Terms) (limit : ℕ) (old : List WholeRowView) (basis :
       r.0,
       r.1,
       r.2 _ (run_stuck (length basis) (length columns) (budget - k) k r.0 r.0
-          (moved (λ m. ¬ (IsDone ring_ℚ order_ℚ m (length columns) r.0)) (not_done_here p r.0 columns limit now now_basis r.1 n))
-          (moved (λ m. IsStuck ring_ℚ order_ℚ m (length columns) r.0) (u p r.0 r.1)) refl),
+          (moved (λ m. ¬ (IsDone field_ℚ m (length columns) r.0)) (not_done_here p r.0 columns limit now now_basis r.1 n))
+          (moved (λ m. IsStuck field_ℚ m (length columns) r.0) (u p r.0 r.1)) refl),
     );
   }
 
   pub way_budget : ¬ (right_of (length now_basis) now (length now_basis) ≡ pos 0) → k ≡ budget
-      → ((p : FeasibilityProblem Rational) (t : Table Rational) → StandsFor p t columns limit now now_basis → ¬ (IsStuck ring_ℚ order_ℚ (length now_basis) (length columns) t))
+      → ((p : FeasibilityProblem Rational) (t : Table Rational) → StandsFor p t columns limit now now_basis → ¬ (IsStuck field_ℚ (length now_basis) (length columns) t))
       → IsFinished columns limit old basis (Some budget) now now_basis (Pivots budget)
   way_budget n e u = record {
     engine = w.engine;
@@ -95,8 +94,8 @@ module _ (columns : List Terms) (limit : ℕ) (old : List WholeRowView) (basis :
       r.1,
       r.2 _ (subst (λ (x : ℕ). Reaches (length basis) (length columns) (budget - k) k r.0 (Rattle.it_run.specs.Runs.RunEndView.Pivots x)) e
           (run_budget (length basis) (length columns) (budget - k) k r.0 (omega (arith, e))
-          (moved (λ m. ¬ (IsDone ring_ℚ order_ℚ m (length columns) r.0)) (not_done_here p r.0 columns limit now now_basis r.1 n))
-          (moved (λ m. ¬ (IsStuck ring_ℚ order_ℚ m (length columns) r.0)) (u p r.0 r.1)))),
+          (moved (λ m. ¬ (IsDone field_ℚ m (length columns) r.0)) (not_done_here p r.0 columns limit now now_basis r.1 n))
+          (moved (λ m. ¬ (IsStuck field_ℚ m (length columns) r.0)) (u p r.0 r.1)))),
     );
   }
 
@@ -108,15 +107,15 @@ module _ (columns : List Terms) (limit : ℕ) (old : List WholeRowView) (basis :
     runs = λ p t s.
         let r = w.runs p t s in
         let made = g.made p r.0 r.1 in (
-          next ring_ℚ order_ℚ (length now_basis) (length columns) r.0,
+          next field_ℚ (length now_basis) (length columns) r.0,
           made.stands,
           λ e q. r.2 e
-              (run_more (length basis) (length columns) (budget - k) k r.0 (next ring_ℚ order_ℚ (length now_basis) (length columns) r.0) e (omega (arith, h))
-              (moved (λ m. ¬ (IsDone ring_ℚ order_ℚ m (length columns) r.0)) (not_done_here p r.0 columns limit now now_basis r.1 n))
-              (moved (λ m. ¬ (IsStuck ring_ℚ order_ℚ m (length columns) r.0)) made.moves)
+              (run_more (length basis) (length columns) (budget - k) k r.0 (next field_ℚ (length now_basis) (length columns) r.0) e (omega (arith, h))
+              (moved (λ m. ¬ (IsDone field_ℚ m (length columns) r.0)) (not_done_here p r.0 columns limit now now_basis r.1 n))
+              (moved (λ m. ¬ (IsStuck field_ℚ m (length columns) r.0)) made.moves)
               (moved (λ m. Rattle.it_run.specs.Solving.StepFits m (length columns) r.0) made.fits)
-              (ap (λ m. next ring_ℚ order_ℚ m (length columns) r.0) w.height)
-              (subst (λ (x : ℕ). Reaches (length basis) (length columns) x (k + 1) (next ring_ℚ order_ℚ (length now_basis) (length columns) r.0) e) (fewer budget k) q)),
+              (ap (λ m. next field_ℚ m (length columns) r.0) w.height)
+              (subst (λ (x : ℕ). Reaches (length basis) (length columns) x (k + 1) (next field_ℚ (length now_basis) (length columns) r.0) e) (fewer budget k) q)),
         );
   }
     where
@@ -125,6 +124,6 @@ module _ (columns : List Terms) (limit : ℕ) (old : List WholeRowView) (basis :
 
 -- where a column has a cost below 0 the run isn't stuck
 pub not_stuck_here : (p : FeasibilityProblem Rational) (t : Table Rational) (columns : List Terms) (limit : ℕ) (rows : List WholeRowView) (basis : List ℕ) (c : ℕ) → StandsFor p t columns limit rows basis
-    → c < length columns → first_below columns (row_at rows (length basis)).numbers ≡ c → ¬ (IsStuck ring_ℚ order_ℚ (length basis) (length columns) t)
+    → c < length columns → first_below columns (row_at rows (length basis)).numbers ≡ c → ¬ (IsStuck field_ℚ (length basis) (length columns) t)
 not_stuck_here p t columns limit rows basis c s h e = Rattle.it_run.proofs.RunSteps.moves (length basis) (length columns) t c
     record { within = h; is = entering_same p t columns limit rows basis s ∙ e }

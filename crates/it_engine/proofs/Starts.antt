@@ -6,7 +6,7 @@ use Rattle.it_rational.specs.Rational as Q
 use Rattle.it_rational.proofs.Names.{whole_names}
 use Rattle.it_rational.specs.Rational.{Names}
 use Rattle.it_rational.proofs.RationalLaws.{ring_ℚ}
-use Rattle.it_rational.proofs.Field.{order_ℚ}
+use Rattle.it_rational.proofs.Field.{field_ℚ}
 use Rattle.it_space.specs.Rows.{Terms}
 use Rattle.it_tableau.specs.Invariants.{HasInvariants}
 use Rattle.it_tableau.specs.TableauViews.{TableauView, height, table}
@@ -38,7 +38,7 @@ module _ (t : TableauView) (columns : List Terms) (norm limit : ℕ) (rows : Lis
     limit_is = limit_short;
   }
 
-  module _ (p : FeasibilityProblem Rational) (e : table t ≡ start ring_ℚ order_ℚ (height t) t.generators p) where
+  module _ (p : FeasibilityProblem Rational) (e : table t ≡ start field_ℚ (height t) t.generators p) where
     -- with the tableau's sizes
     shows : ShowsTable (height t) t.generators limit (table t) rows basis
     shows = record {
@@ -59,8 +59,8 @@ module _ (t : TableauView) (columns : List Terms) (norm limit : ℕ) (rows : Lis
     columns_are = record {
       count = cs.0;
       column = λ j l. let c = cs.1 j l in record {
-        value_is = λ g. sym (sum_same ring_ℚ (height t) (λ k. Q.times (g k) ((table t).entry k j)) (λ k. Q.times (g k) (start_row ring_ℚ order_ℚ (height t) t.generators p k j))
-            (λ k h. ap (Q.times (g k)) (ap (λ (x : Table Rational). x.entry k j) e ∙ start_entry ring_ℚ order_ℚ (height t) t.generators p k j h))) ∙ c.value_is g;
+        value_is = λ g. sym (sum_same ring_ℚ (height t) (λ k. Q.times (g k) ((table t).entry k j)) (λ k. Q.times (g k) (start_row field_ℚ (height t) t.generators p k j))
+            (λ k h. ap (Q.times (g k)) (ap (λ (x : Table Rational). x.entry k j) e ∙ start_entry field_ℚ (height t) t.generators p k j h))) ∙ c.value_is g;
         within = c.within;
         bounded = n.bounds j (omega (arith, l, cs.0));
       };
@@ -71,7 +71,7 @@ module _ (t : TableauView) (columns : List Terms) (norm limit : ℕ) (rows : Lis
       norm = norm;
       some = n.some;
       fit = fit;
-      holds = moved (λ m n. HasInvariants ring_ℚ order_ℚ m n p (table t)) (subst (HasInvariants ring_ℚ order_ℚ (height t) t.generators p) (sym e) (started ring_ℚ order_ℚ (height t) t.generators p));
+      holds = moved (λ m n. HasInvariants field_ℚ m n p (table t)) (subst (HasInvariants field_ℚ (height t) t.generators p) (sym e) (started field_ℚ (height t) t.generators p));
       shows = moved (λ m n. ShowsTable m n limit (table t) rows basis) shows;
       columns_are = moved (λ m n. AreColumns m n norm p columns) columns_are;
     }

@@ -7,7 +7,7 @@ use Rattle.it_rational.specs.Rational.{Rational, sign_least, is_at_least_zero}
 use Rattle.it_rational.specs.Rational as Q
 use Rattle.it_rational.specs.Rational.{Names}
 use Rattle.it_rational.proofs.RationalLaws.{ring_ℚ}
-use Rattle.it_rational.proofs.Field.{order_ℚ}
+use Rattle.it_rational.proofs.Field.{field_ℚ}
 use Rattle.it_space.specs.Rows.{Terms, value}
 use Rattle.it_tableau.specs.Invariants.{HasInvariants}
 use Rattle.it_tableau.specs.Tables.{Table, FeasibilityProblem, difference, pivot}
@@ -61,16 +61,16 @@ module _ (p : FeasibilityProblem Rational) (t : Table Rational) (columns : List 
   entry_named i c l h = price_named (length basis) (length columns) limit s.norm p t columns rows basis s.holds s.shows s.columns_are s.fit s.some i c l h
 
   -- the column that enters
-  pub entering_same : entering ring_ℚ order_ℚ (length basis) (length columns) t ≡ first_below columns (row_at rows (length basis)).numbers
+  pub entering_same : entering field_ℚ (length basis) (length columns) t ≡ first_below columns (row_at rows (length basis)).numbers
   entering_same = first_same (λ j. is_at_least_zero (t.entry (length basis) j)) (λ j. sign_least (value (slice_index_or columns j []) (number_at (row_at rows (length basis)).numbers))) 0 (length columns)
       (λ j a b. cost_sign j (omega arith))
 
-  pub stuck_here : first_below columns (row_at rows (length basis)).numbers ≡ length columns → IsStuck ring_ℚ order_ℚ (length basis) (length columns) t
+  pub stuck_here : first_below columns (row_at rows (length basis)).numbers ≡ length columns → IsStuck field_ℚ (length basis) (length columns) t
   stuck_here e = stuck (length basis) (length columns) t (entering_same ∙ e)
 
   -- the row that leaves
   pub leaving_same : (c r : ℕ) → c < length columns → best_row (slice_index_or columns c []) rows basis (length basis) ≡ Some r
-      → (leaving ring_ℚ order_ℚ (length basis) (length columns) t c ≡ r) × (r < length basis) × (is_candidate ring_ℚ order_ℚ t c r ≡ true)
+      → (leaving field_ℚ (length basis) (length columns) t c ≡ r) × (r < length basis) × (is_candidate field_ℚ t c r ≡ true)
   leaving_same c r h e = subst (λ (o : Option ℕ). IsBest (length basis) (length columns) t c (length basis) o) e
       (leaves (length basis) (length columns) t c (entry_of (slice_index_or columns c []) rows) (right_of (length basis) rows) (λ i. (row_at rows i).bottom) (basic_of basis)
       (λ i l. (s.shows.row i (omega (arith, l))).some)
@@ -79,17 +79,17 @@ module _ (p : FeasibilityProblem Rational) (t : Table Rational) (columns : List 
       (λ i l. s.shows.basis_is i l))
 
   module _ (c r : ℕ) (hc : c < length columns) (ec : first_below columns (row_at rows (length basis)).numbers ≡ c) (er : best_row (slice_index_or columns c []) rows basis (length basis) ≡ Some r) where
-    enters : entering ring_ℚ order_ℚ (length basis) (length columns) t ≡ c
+    enters : entering field_ℚ (length basis) (length columns) t ≡ c
     enters = entering_same ∙ ec
 
-    lv : (leaving ring_ℚ order_ℚ (length basis) (length columns) t c ≡ r) × (r < length basis) × (is_candidate ring_ℚ order_ℚ t c r ≡ true)
+    lv : (leaving field_ℚ (length basis) (length columns) t c ≡ r) × (r < length basis) × (is_candidate field_ℚ t c r ≡ true)
     lv = leaving_same c r hc er
 
     -- what is said of the row and the column is said of the step's
-    to_step : (P : ℕ → ℕ → Type 0) → P r c → P (leaving ring_ℚ order_ℚ (length basis) (length columns) t (entering ring_ℚ order_ℚ (length basis) (length columns) t)) (entering ring_ℚ order_ℚ (length basis) (length columns) t)
-    to_step P x = subst (λ (y : ℕ). P (leaving ring_ℚ order_ℚ (length basis) (length columns) t y) y) (sym enters) (subst (λ (x : ℕ). P x c) (sym lv.0) x)
+    to_step : (P : ℕ → ℕ → Type 0) → P r c → P (leaving field_ℚ (length basis) (length columns) t (entering field_ℚ (length basis) (length columns) t)) (entering field_ℚ (length basis) (length columns) t)
+    to_step P x = subst (λ (y : ℕ). P (leaving field_ℚ (length basis) (length columns) t y) y) (sym enters) (subst (λ (x : ℕ). P x c) (sym lv.0) x)
 
-    pub moves_here : ¬ (IsStuck ring_ℚ order_ℚ (length basis) (length columns) t)
+    pub moves_here : ¬ (IsStuck field_ℚ (length basis) (length columns) t)
     moves_here = moves (length basis) (length columns) t c record { within = hc; is = enters }
 
     pub fits_here : StepFits (length basis) (length columns) t
@@ -97,14 +97,14 @@ module _ (p : FeasibilityProblem Rational) (t : Table Rational) (columns : List 
         (number (length basis) (length columns) limit s.norm p t columns rows basis s.holds s.shows s.columns_are s.fit s.some)
         (bottom (length basis) (length columns) limit s.norm p t columns rows basis s.holds s.shows s.columns_are s.fit s.some)
         (over (length basis) (length columns) limit s.norm p t columns rows basis s.holds s.shows s.columns_are s.fit s.some)
-        (to_step (λ r c. r < length basis) lv.1) (to_step (λ r c. c < length columns) hc) (to_step (λ r c. is_candidate ring_ℚ order_ℚ t c r ≡ true) lv.2)
+        (to_step (λ r c. r < length basis) lv.1) (to_step (λ r c. c < length columns) hc) (to_step (λ r c. is_candidate field_ℚ t c r ≡ true) lv.2)
 
-    pub next_is : pivot ring_ℚ order_ℚ t r c ≡ next ring_ℚ order_ℚ (length basis) (length columns) t
-    next_is = to_step (λ r' c'. pivot ring_ℚ order_ℚ t r c ≡ pivot ring_ℚ order_ℚ t r' c') refl
+    pub next_is : pivot field_ℚ t r c ≡ next field_ℚ (length basis) (length columns) t
+    next_is = to_step (λ r' c'. pivot field_ℚ t r c ≡ pivot field_ℚ t r' c') refl
 
     -- the new rows show the table after the pivot
     pub shows_pivot : (new : List WholeRowView) → ArePivoted (length rows) limit rows (slice_index_or columns c []) r new
-        → ShowsTable (length basis) (length columns) limit (pivot ring_ℚ order_ℚ t r c) new (slice_set basis r c)
+        → ShowsTable (length basis) (length columns) limit (pivot field_ℚ t r c) new (slice_set basis r c)
     shows_pivot new a = record {
       rows_are = a.same_length ∙ s.shows.rows_are;
       basis_are = length-set basis r c;
@@ -119,8 +119,8 @@ module _ (p : FeasibilityProblem Rational) (t : Table Rational) (columns : List 
         rg = s.shows.row r (omega (arith, lv.1))
 
         row_shown : (i : ℕ) → i < length basis + 1 → (i ≡ r) ⊎ (i ≡ r → ⊥)
-            → IsRow (length basis + 1) limit (λ k. (pivot ring_ℚ order_ℚ t r c).entry i (length columns + k)) (row_at new i).numbers (row_at new i).bottom
-        row_shown i l (inl e) = subst (λ (x : ℕ). IsRow (length basis + 1) limit (λ k. (pivot ring_ℚ order_ℚ t r c).entry x (length columns + k)) (row_at new x).numbers (row_at new x).bottom) (sym e)
+            → IsRow (length basis + 1) limit (λ k. (pivot field_ℚ t r c).entry i (length columns + k)) (row_at new i).numbers (row_at new i).bottom
+        row_shown i l (inl e) = subst (λ (x : ℕ). IsRow (length basis + 1) limit (λ k. (pivot field_ℚ t r c).entry x (length columns + k)) (row_at new x).numbers (row_at new x).bottom) (sym e)
             (subst (λ (b : Bool). IsRow (length basis + 1) limit
             (λ k. cond b (Q.times (t.entry r (length columns + k)) (Q.inverse (t.entry r c))) (difference ring_ℚ (t.entry r (length columns + k)) (Q.times (t.entry r (length columns + k)) (Q.times (t.entry r c) (Q.inverse (t.entry r c))))))
             (row_at new r).numbers (row_at new r).bottom) (sym (eq-eqb r r refl))
@@ -138,7 +138,7 @@ module _ (p : FeasibilityProblem Rational) (t : Table Rational) (columns : List 
             (subst (λ (w : ℕ). IsRow w limit (λ k. t.entry r (length columns + k)) (row_at rows r).numbers (row_at rows r).bottom) (sym s.shows.rows_are) rg)
             (entry_named i c (omega (arith, l)) hc) (entry_named r c (omega (arith, lv.1)) hc))))
 
-        basic : (i : ℕ) → i < length basis → (i ≡ r) ⊎ (i ≡ r → ⊥) → (pivot ring_ℚ order_ℚ t r c).basis i ≡ slice_index_or (slice_set basis r c) i 0
+        basic : (i : ℕ) → i < length basis → (i ≡ r) ⊎ (i ≡ r → ⊥) → (pivot field_ℚ t r c).basis i ≡ slice_index_or (slice_set basis r c) i 0
         basic i l (inl e) = ap (λ b. cond b c (t.basis i)) (eq-eqb i r e) ∙ sym (get_or-set_same basis r c 0 lv.1) ∙ ap (λ x. slice_index_or (slice_set basis r c) x 0) (sym e)
         basic i l (inr d) = ap (λ b. cond b c (t.basis i)) (ne_eqb i r d) ∙ s.shows.basis_is i l ∙ sym (get_or-set_other basis r i c 0 d)
 
@@ -150,8 +150,8 @@ module _ (p : FeasibilityProblem Rational) (t : Table Rational) (columns : List 
         norm = s.norm;
         some = s.some;
         fit = s.fit;
-        holds = subst (λ (m : ℕ). HasInvariants ring_ℚ order_ℚ m (length columns) p (next ring_ℚ order_ℚ (length basis) (length columns) t)) (sym same) (next_holds ring_ℚ order_ℚ (length basis) (length columns) p t s.holds moves_here);
-        shows = subst (λ (m : ℕ). ShowsTable m (length columns) limit (next ring_ℚ order_ℚ (length basis) (length columns) t) new (slice_set basis r c)) (sym same)
+        holds = subst (λ (m : ℕ). HasInvariants field_ℚ m (length columns) p (next field_ℚ (length basis) (length columns) t)) (sym same) (next_holds field_ℚ (length basis) (length columns) p t s.holds moves_here);
+        shows = subst (λ (m : ℕ). ShowsTable m (length columns) limit (next field_ℚ (length basis) (length columns) t) new (slice_set basis r c)) (sym same)
             (subst (λ (t : Table Rational). ShowsTable (length basis) (length columns) limit t new (slice_set basis r c)) next_is (shows_pivot new a));
         columns_are = subst (λ (m : ℕ). AreColumns m (length columns) s.norm p columns) (sym same) s.columns_are;
       };

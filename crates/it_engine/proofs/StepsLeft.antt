@@ -1,8 +1,7 @@
 -- How many steps are left to an engine, as a number that its state determines: those of the table that it shows.
 use Rattle.std.proofs.Common.{◌≡◌, ℕ, ◌-◌, ◌<◌, cond, ltb, List, [], length, slice_index_or, sym, subst}
 use Rattle.it_rational.specs.Rational.{Rational, quotient}
-use Rattle.it_rational.proofs.RationalLaws.{ring_ℚ}
-use Rattle.it_rational.proofs.Field.{order_ℚ}
+use Rattle.it_rational.proofs.Field.{field_ℚ}
 use Rattle.it_space.specs.Rows.{Terms, value}
 use Rattle.it_tableau.specs.Tables.{Table, FeasibilityProblem}
 use Rattle.it_run.specs.Choice.{next}
@@ -21,11 +20,11 @@ table_of columns rows basis = record {
 }
 
 unfoldable pub left_to : List Terms → List WholeRowView → List ℕ → ℕ
-left_to columns rows basis = steps_left ring_ℚ order_ℚ (length basis) (length columns) (table_of columns rows basis)
+left_to columns rows basis = steps_left field_ℚ (length basis) (length columns) (table_of columns rows basis)
 
 -- any table that it shows agrees with it
 agrees : (p : FeasibilityProblem Rational) (t : Table Rational) (columns : List Terms) (limit : ℕ) (rows : List WholeRowView) (basis : List ℕ) → StandsFor p t columns limit rows basis
-    → Agree ring_ℚ order_ℚ (length basis) (length columns) t (table_of columns rows basis)
+    → Agree field_ℚ (length basis) (length columns) t (table_of columns rows basis)
 agrees p t columns limit rows basis s = record {
   entries = λ i j hi hj.
       let o = over (length basis) (length columns) limit s.norm p t columns rows basis s.holds s.shows s.columns_are s.fit s.some in
@@ -35,17 +34,17 @@ agrees p t columns limit rows basis s = record {
 }
 
 left_is : (p : FeasibilityProblem Rational) (t : Table Rational) (columns : List Terms) (limit : ℕ) (rows : List WholeRowView) (basis : List ℕ) → StandsFor p t columns limit rows basis
-    → left_to columns rows basis ≡ steps_left ring_ℚ order_ℚ (length basis) (length columns) t
+    → left_to columns rows basis ≡ steps_left field_ℚ (length basis) (length columns) t
 unfolding left_to
-left_is p t columns limit rows basis s = sym (left_agrees ring_ℚ order_ℚ (length basis) (length columns) t (table_of columns rows basis) (agrees p t columns limit rows basis s))
+left_is p t columns limit rows basis s = sym (left_agrees field_ℚ (length basis) (length columns) t (table_of columns rows basis) (agrees p t columns limit rows basis s))
 
 -- a step lowers it
 pub left_falls : (p : FeasibilityProblem Rational) (t : Table Rational) (columns : List Terms) (limit : ℕ) (old : List WholeRowView) (basis : List ℕ) (new : List WholeRowView) (new_basis : List ℕ)
     → StandsFor p t columns limit old basis → IsStep columns limit old basis new new_basis → left_to columns new new_basis < left_to columns old basis
 left_falls p t columns limit old basis new new_basis s g =
     let m = g.made p t s in
-    let after = left_is p (next ring_ℚ order_ℚ (length basis) (length columns) t) columns limit new new_basis m.stands in
+    let after = left_is p (next field_ℚ (length basis) (length columns) t) columns limit new new_basis m.stands in
     subst (λ (x : ℕ). x < left_to columns old basis) (sym after)
-    (subst (λ (y : ℕ). steps_left ring_ℚ order_ℚ (length new_basis) (length columns) (next ring_ℚ order_ℚ (length basis) (length columns) t) < y) (sym (left_is p t columns limit old basis s))
-    (subst (λ (h : ℕ). steps_left ring_ℚ order_ℚ h (length columns) (next ring_ℚ order_ℚ (length basis) (length columns) t) < steps_left ring_ℚ order_ℚ (length basis) (length columns) t) (sym g.height)
-    (steps_fall ring_ℚ order_ℚ (length basis) (length columns) p t s.holds m.moves)))
+    (subst (λ (y : ℕ). steps_left field_ℚ (length new_basis) (length columns) (next field_ℚ (length basis) (length columns) t) < y) (sym (left_is p t columns limit old basis s))
+    (subst (λ (h : ℕ). steps_left field_ℚ h (length columns) (next field_ℚ (length basis) (length columns) t) < steps_left field_ℚ (length basis) (length columns) t) (sym g.height)
+    (steps_fall field_ℚ (length basis) (length columns) p t s.holds m.moves)))

@@ -1,12 +1,11 @@
 -- A run of the engine without a budget under way.
 use Rattle.std.proofs.Common.{◌≡◌, ℕ, suc, ◌+◌, ◌-◌, ◌<◌, pos, List, length, None, refl, subst, ap, ◌∙◌, arith}
 use Rattle.it_rational.specs.Rational.{Rational}
-use Rattle.it_rational.proofs.RationalLaws.{ring_ℚ}
-use Rattle.it_rational.proofs.Field.{order_ℚ}
+use Rattle.it_rational.proofs.Field.{field_ℚ}
 use Rattle.it_space.specs.Rows.{Terms}
 use Rattle.it_tableau.specs.Tables.{Table, FeasibilityProblem}
 use Rattle.it_run.specs.Choice.{next, IsDone, IsStuck}
-use Rattle.it_run.specs.Runs.{RunEndView, IsWithinBudget, told}
+use Rattle.it_run.specs.Runs.{RunEndView, IsWithinBudget, clip_end}
 use Rattle.it_run.specs.Runs.RunEndView.{Weights, Point}
 use Rattle.it_run.specs.Solving.{StepFits}
 use Rattle.it_run.specs.Steps.{Reaches, ReachesBy}
@@ -44,8 +43,8 @@ module _ (columns : List Terms) (limit : ℕ) (old : List WholeRowView) (basis :
   moved P x = subst P w.height x
 
   ends : (t s : Table Rational) (made left : ℕ) (e : RunEndView (Table Rational) (Table Rational)) → Serves (length basis) (length columns) t made s → Reaches (length basis) (length columns) left made s e → IsWithinBudget e
-      → ReachesBy (length basis) (length columns) None t (told e)
-  ends t s made left e f r i = let b = f left e r in record { budget = b.0; end = e; runs = b.1; within = i; is_told = refl }
+      → ReachesBy (length basis) (length columns) None t (clip_end e)
+  ends t s made left e f r i = let b = f left e r in record { budget = b.0; end = e; runs = b.1; within = i; is_clipped = refl }
 
   pub way_done : right_of (length now_basis) now (length now_basis) ≡ pos 0 → IsFinished columns limit old basis None now now_basis engine_ends.Weights
   way_done e = record {
@@ -55,12 +54,12 @@ module _ (columns : List Terms) (limit : ℕ) (old : List WholeRowView) (basis :
       r.last,
       r.stands,
       ends t r.last r.made 0 (Weights r.last) r.serves (run_done (length basis) (length columns) 0 r.made r.last
-          (moved (λ m. IsDone ring_ℚ order_ℚ m (length columns) r.last) (done_here p r.last columns limit now now_basis r.stands e))) tt,
+          (moved (λ m. IsDone field_ℚ m (length columns) r.last) (done_here p r.last columns limit now now_basis r.stands e))) tt,
     );
   }
 
   pub way_stuck : ¬ (right_of (length now_basis) now (length now_basis) ≡ pos 0)
-      → ((p : FeasibilityProblem Rational) (t : Table Rational) → StandsFor p t columns limit now now_basis → IsStuck ring_ℚ order_ℚ (length now_basis) (length columns) t)
+      → ((p : FeasibilityProblem Rational) (t : Table Rational) → StandsFor p t columns limit now now_basis → IsStuck field_ℚ (length now_basis) (length columns) t)
       → IsFinished columns limit old basis None now now_basis engine_ends.Point
   way_stuck n u = record {
     engine = w.engine;
@@ -69,8 +68,8 @@ module _ (columns : List Terms) (limit : ℕ) (old : List WholeRowView) (basis :
       r.last,
       r.stands,
       ends t r.last r.made 0 (Point r.last) r.serves (run_stuck (length basis) (length columns) 0 r.made r.last r.last
-          (moved (λ m. ¬ (IsDone ring_ℚ order_ℚ m (length columns) r.last)) (not_done_here p r.last columns limit now now_basis r.stands n))
-          (moved (λ m. IsStuck ring_ℚ order_ℚ m (length columns) r.last) (u p r.last r.stands)) refl) tt,
+          (moved (λ m. ¬ (IsDone field_ℚ m (length columns) r.last)) (not_done_here p r.last columns limit now now_basis r.stands n))
+          (moved (λ m. IsStuck field_ℚ m (length columns) r.last) (u p r.last r.stands)) refl) tt,
     );
   }
 
@@ -79,20 +78,20 @@ module _ (columns : List Terms) (limit : ℕ) (old : List WholeRowView) (basis :
   way_step new new_basis n g = record {
     engine = g.engine;
     height = g.height ∙ w.height;
-    some = (let i = w.some in (i.0, next ring_ℚ order_ℚ (length now_basis) (length columns) i.1, (g.made i.0 i.1 i.2).stands));
+    some = (let i = w.some in (i.0, next field_ℚ (length now_basis) (length columns) i.1, (g.made i.0 i.1 i.2).stands));
     runs = λ p t s.
         let r = w.runs p t s in
         let made = g.made p r.last r.stands in record {
-          last = next ring_ℚ order_ℚ (length now_basis) (length columns) r.last;
+          last = next field_ℚ (length now_basis) (length columns) r.last;
           stands = made.stands;
           made = r.made + 1;
           serves = λ left e q. r.serves (suc left) e
-              (run_more (length basis) (length columns) (suc left) r.made r.last (next ring_ℚ order_ℚ (length now_basis) (length columns) r.last) e (omega arith)
-              (moved (λ m. ¬ (IsDone ring_ℚ order_ℚ m (length columns) r.last)) (not_done_here p r.last columns limit now now_basis r.stands n))
-              (moved (λ m. ¬ (IsStuck ring_ℚ order_ℚ m (length columns) r.last)) made.moves)
+              (run_more (length basis) (length columns) (suc left) r.made r.last (next field_ℚ (length now_basis) (length columns) r.last) e (omega arith)
+              (moved (λ m. ¬ (IsDone field_ℚ m (length columns) r.last)) (not_done_here p r.last columns limit now now_basis r.stands n))
+              (moved (λ m. ¬ (IsStuck field_ℚ m (length columns) r.last)) made.moves)
               (moved (λ m. StepFits m (length columns) r.last) made.fits)
-              (ap (λ m. next ring_ℚ order_ℚ m (length columns) r.last) w.height)
-              (subst (λ (x : ℕ). Reaches (length basis) (length columns) x (r.made + 1) (next ring_ℚ order_ℚ (length now_basis) (length columns) r.last) e) (fewer left) q));
+              (ap (λ m. next field_ℚ m (length columns) r.last) w.height)
+              (subst (λ (x : ℕ). Reaches (length basis) (length columns) x (r.made + 1) (next field_ℚ (length now_basis) (length columns) r.last) e) (fewer left) q));
         };
   }
     where

@@ -1,8 +1,7 @@
 -- What is read off the engine at the end of a run. No public clause cites this.
 use Rattle.std.specs.Prelude.{◌≡◌, ℕ, ◌<◌, List, length, slice_index_or, Option}
 use Rattle.it_rational.specs.Rational.{Rational, quotient}
-use Rattle.it_rational.proofs.RationalLaws.{ring_ℚ}
-use Rattle.it_rational.proofs.Field.{order_ℚ}
+use Rattle.it_rational.proofs.Field.{field_ℚ}
 use Rattle.it_space.specs.Rows.{Terms}
 use Rattle.it_tableau.specs.TableauViews.{TableauView}
 use Rattle.it_tableau.specs.Tables.{Table, FeasibilityProblem}
@@ -23,11 +22,11 @@ pub record IsWeightOf (rows : List WholeRowView) (basis : List ℕ) (j : ℕ) (w
 
 -- the weights of whichever table the engine shows
 abbrev pub AreWeightsOf : List Terms → List WholeRowView → List ℕ → List (ℕ × Rational) → Type 0
-AreWeightsOf columns rows basis ws = (p : FeasibilityProblem Rational) (t : Table Rational) (limit : ℕ) → StandsFor p t columns limit rows basis → ws ≡ weights ring_ℚ order_ℚ (length basis) (length columns) t
+AreWeightsOf columns rows basis ws = (p : FeasibilityProblem Rational) (t : Table Rational) (limit : ℕ) → StandsFor p t columns limit rows basis → ws ≡ weights field_ℚ (length basis) (length columns) t
 
 -- and its point, with the signs of the start
 abbrev pub IsPointOf : TableauView → List WholeRowView → List ℕ → List Rational → Type 0
-IsPointOf first rows basis q = (p : FeasibilityProblem Rational) (t : Table Rational) (columns : List Terms) (limit : ℕ) → HasSigns first p → StandsFor p t columns limit rows basis → q ≡ point ring_ℚ order_ℚ (length basis) (length columns) p t
+IsPointOf first rows basis q = (p : FeasibilityProblem Rational) (t : Table Rational) (columns : List Terms) (limit : ℕ) → HasSigns first p → StandsFor p t columns limit rows basis → q ≡ point field_ℚ (length basis) (length columns) p t
 
 -- the answer to the question whose start the engine shows
 abbrev pub AnswersQuestion : TableauView → List Terms → ℕ → List WholeRowView → List ℕ → Option ℕ → Solved → Type 0

@@ -2,8 +2,7 @@
 -- The engine stands for a table of the run: it keeps no table, and its contracts range over all tables that it may stand for.
 use Rattle.std.specs.Prelude.{◌≡◌, ℕ, ◌+◌, ◌*◌, ◌<◌, ◌≤◌, ◌^◌, Bool, true, false, List, [], length, slice_index_or, Option}
 use Rattle.it_rational.specs.Rational.{Rational}
-use Rattle.it_rational.proofs.RationalLaws.{ring_ℚ}
-use Rattle.it_rational.proofs.Field.{order_ℚ}
+use Rattle.it_rational.proofs.Field.{field_ℚ}
 use Rattle.it_space.specs.Rows.{Terms}
 use Rattle.it_tableau.specs.Invariants.{HasInvariants}
 use Rattle.it_tableau.specs.Tables.{Table, FeasibilityProblem}
@@ -34,15 +33,15 @@ pub record StandsFor (p : FeasibilityProblem Rational) (t : Table Rational) (col
   pub norm : ℕ
   pub some : 1 ≤ norm
   pub fit : norm * limit < 2 ^ 63
-  pub holds : HasInvariants ring_ℚ order_ℚ (length basis) (length columns) p t
+  pub holds : HasInvariants field_ℚ (length basis) (length columns) p t
   pub shows : ShowsTable (length basis) (length columns) limit t rows basis
   pub columns_are : AreColumns (length basis) (length columns) norm p columns
 
 -- the step of the run that is made on the table, whichever it shows
 pub record IsMade (p : FeasibilityProblem Rational) (t : Table Rational) (columns : List Terms) (limit : ℕ) (basis : List ℕ) (new : List WholeRowView) (new_basis : List ℕ) : Type 0 where
-  pub moves : ¬ (IsStuck ring_ℚ order_ℚ (length basis) (length columns) t)
+  pub moves : ¬ (IsStuck field_ℚ (length basis) (length columns) t)
   pub fits : StepFits (length basis) (length columns) t
-  pub stands : StandsFor p (next ring_ℚ order_ℚ (length basis) (length columns) t) columns limit new new_basis
+  pub stands : StandsFor p (next field_ℚ (length basis) (length columns) t) columns limit new new_basis
 
 pub record IsStep (columns : List Terms) (limit : ℕ) (old : List WholeRowView) (basis : List ℕ) (new : List WholeRowView) (new_basis : List ℕ) : Type 0 where
   pub engine : IsSafe columns limit new new_basis
@@ -56,7 +55,7 @@ StandsForSome columns limit rows basis = (p : FeasibilityProblem Rational) × (t
 -- no step is left to make, or one is made
 abbrev pub MovesOn : List Terms → ℕ → List WholeRowView → List ℕ → List WholeRowView → List ℕ → Bool → Type 0
 MovesOn columns limit old basis new new_basis false = (new ≡ old) × (new_basis ≡ basis)
-    × ((p : FeasibilityProblem Rational) (t : Table Rational) → StandsFor p t columns limit old basis → IsStuck ring_ℚ order_ℚ (length basis) (length columns) t)
+    × ((p : FeasibilityProblem Rational) (t : Table Rational) → StandsFor p t columns limit old basis → IsStuck field_ℚ (length basis) (length columns) t)
 MovesOn columns limit old basis new new_basis true = IsStep columns limit old basis new new_basis
 
 -- the end of the run that it tells

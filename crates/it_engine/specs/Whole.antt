@@ -3,7 +3,7 @@ use Rattle.std.specs.Prelude.{◌≡◌, ℕ, ◌+◌, ◌<◌, ◌≤◌, ◌^�
 use Rattle.it_rational.specs.Rational.{Rational, times}
 use Rattle.it_rational.specs.Rational.{Names}
 use Rattle.it_rational.proofs.RationalLaws.{ring_ℚ}
-use Rattle.it_rational.proofs.Field.{order_ℚ}
+use Rattle.it_rational.proofs.Field.{field_ℚ}
 use Rattle.it_space.specs.Rows.{Terms}
 use Rattle.it_tableau.specs.Sums.{sum_to}
 use Rattle.it_tableau.specs.Tables.{Table, FeasibilityProblem, start_row}
@@ -58,7 +58,7 @@ pub record IsColumn (m norm : ℕ) (f : ℕ → Rational) (terms : Terms) : Type
 
 pub record AreColumns (m n norm : ℕ) (p : FeasibilityProblem Rational) (columns : List Terms) : Type 0 where
   pub count : length columns ≡ n
-  pub column : (j : ℕ) → j < n → IsColumn m norm (λ k. start_row ring_ℚ order_ℚ m n p k j) (slice_index_or columns j [])
+  pub column : (j : ℕ) → j < n → IsColumn m norm (λ k. start_row field_ℚ m n p k j) (slice_index_or columns j [])
 
 -- what is kept of a table: of each row its entries at the artificial columns and its right side
 pub record ShowsTable (m n limit : ℕ) (t : Table Rational) (rows : List WholeRowView) (basis : List ℕ) : Type 0 where

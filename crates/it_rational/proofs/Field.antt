@@ -7,7 +7,7 @@ use Rattle.it_rational.specs.Rational as Q
 use Rattle.it_rational.proofs.Names.{same_across, quotient_names}
 use Rattle.it_rational.proofs.RationalLaws.{ring_ℚ}
 use Rattle.it_rational.proofs.Order.{IsLeast, plus_least, times_least, quotient_least, times-inverse}
-use Rattle.it_rational.specs.OrderedFields.{Order}
+use Rattle.it_rational.specs.OrderedFields.{Order, OrderedField}
 
 pub from_sign : (z : ℤ) → sign_least z ≡ true → pos 0 ≤ℤ z
 from_sign (pos n) h = omega (arith, ints)
@@ -70,3 +70,6 @@ order_ℚ = record {
     by_cases : (a : Rational) → (pos 0 ≤ℤ a.num) ⊎ (pos 0 ≤ℤ neg_ℤ a.num) → (is_at_least_zero a ≡ true) ⊎ (is_at_least_zero (Q.minus a) ≡ true)
     by_cases a (inl h) = inl (to_sign a.num h)
     by_cases a (inr h) = inr (to_sign (Q.minus a).num (quotient_least (neg_ℤ a.num) a.den a.positive h))
+
+abbrev pub field_ℚ : OrderedField Rational
+field_ℚ = record { ring = ring_ℚ; order = order_ℚ }

@@ -1,5 +1,4 @@
--- Ordered fields. The rational numbers are one: their ring is `ring_ℚ` of proofs/RationalLaws and their order `order_ℚ` of
--- proofs/Field, which stand there with the proofs of their laws.
+-- Ordered fields. The rational numbers are one: `field_ℚ` of proofs/Field, which stands there with the proofs of its laws.
 use Rattle.std.specs.Prelude.{◌≡◌, ◌≢◌, ◌⊎◌, Bool, true, false}
 use Rattle.it_number.specs.Rings.{Ring}
 
@@ -16,12 +15,17 @@ pub record Order {A : Type 0} (R : Ring A) : Type 0 where
   pub apart : R.unit ≢ R.null
   pub mul-inv : (a : A) → a ≢ R.null → R.mul a (inv a) ≡ R.unit
 
-module _ {A : Type 0} (R : Ring A) (O : Order R) where
+-- a commutative ring with such an order
+pub record OrderedField (A : Type 0) : Type 0 where
+  pub ring : Ring A
+  pub order : Order ring
+
+module _ {A : Type 0} (F : OrderedField A) where
   abbrev pub IsAtLeastZero : A → Type 0
-  IsAtLeastZero a = O.is_least a ≡ true
+  IsAtLeastZero a = F.order.is_least a ≡ true
 
   abbrev pub IsBelowZero : A → Type 0
-  IsBelowZero a = O.is_least a ≡ false
+  IsBelowZero a = F.order.is_least a ≡ false
 
   abbrev pub IsAboveZero : A → Type 0
-  IsAboveZero a = O.is_least (R.neg a) ≡ false
+  IsAboveZero a = F.order.is_least (F.ring.neg a) ≡ false

@@ -2,8 +2,7 @@
 -- steps left.
 use Rattle.std.proofs.Common.{◌≡◌, ℕ, zero, suc, ◌+◌, ◌<◌, ◌≤◌, Bool, true, false, cond, eqb, ltb, ◌&&◌, refl, sym, ap, ap₂, subst, ◌∙◌, ◌⊎◌, inl, inr, arith, not}
 use Rattle.std.proofs.lemmas.Bool.{cases_eq, eq-eqb}
-use Rattle.it_number.specs.Rings.{Ring}
-use Rattle.it_rational.specs.OrderedFields.{Order}
+use Rattle.it_rational.specs.OrderedFields.{OrderedField}
 use Rattle.it_tableau.specs.Tables.{Table, difference, pivot, ratio}
 use Rattle.it_tableau.proofs.ViewLemmas.{same_functions}
 use Rattle.it_run.specs.Choice.{first_false, entering, is_candidate, precedes, leaving_of, leaving, next}
@@ -22,78 +21,78 @@ first_most f k (suc left) = by_cases (f k) (first_most f (suc k) left)
     by_cases true h = omega arith
     by_cases false h = omega arith
 
-module _ {A : Type 0} (R : Ring A) (O : Order R) (m n : ℕ) where
+module _ {A : Type 0} (F : OrderedField A) (m n : ℕ) where
   pub record Agree (t s : Table A) : Type 0 where
     pub entries : (i j : ℕ) → i ≤ m → j ≤ n + m → t.entry i j ≡ s.entry i j
     pub basics : (i : ℕ) → i < m → t.basis i ≡ s.basis i
 
-  entering_most : (t : Table A) → entering R O m n t ≤ n
-  entering_most t = let l = first_most (λ j. O.is_least (t.entry m j)) 0 n in omega (arith, l)
+  entering_most : (t : Table A) → entering F m n t ≤ n
+  entering_most t = let l = first_most (λ j. F.order.is_least (t.entry m j)) 0 n in omega (arith, l)
 
-  leaving_most : (t : Table A) (c i : ℕ) → i ≤ m → leaving_of R O m n t c i ≤ m
+  leaving_most : (t : Table A) (c i : ℕ) → i ≤ m → leaving_of F m n t c i ≤ m
   leaving_most t c zero h = omega arith
   leaving_most t c (suc i) h = by_cases (leaving_most t c i (omega arith))
     where
       best : ℕ
-      best = leaving_of R O m n t c i
+      best = leaving_of F m n t c i
 
       two : (b : Bool) {x y : ℕ} → x ≤ m → y ≤ m → cond b x y ≤ m
       two true f g = f
       two false f g = g
 
-      by_cases : leaving_of R O m n t c i ≤ m → leaving_of R O m n t c (suc i) ≤ m
-      by_cases up = two (is_candidate R O t c i) (two (eqb best m) (omega arith) (two (precedes R O m n t c i best) (omega arith) up)) up
+      by_cases : leaving_of F m n t c i ≤ m → leaving_of F m n t c (suc i) ≤ m
+      by_cases up = two (is_candidate F t c i) (two (eqb best m) (omega arith) (two (precedes F m n t c i best) (omega arith) up)) up
 
   module _ (t s : Table A) (a : Agree t s) where
-    entering_agrees : entering R O m n t ≡ entering R O m n s
-    entering_agrees = first_agrees (λ j. O.is_least (t.entry m j)) (λ j. O.is_least (s.entry m j)) 0 n n (omega arith) (λ j l. ap O.is_least (a.entries m j (omega arith) (omega arith)))
+    entering_agrees : entering F m n t ≡ entering F m n s
+    entering_agrees = first_agrees (λ j. F.order.is_least (t.entry m j)) (λ j. F.order.is_least (s.entry m j)) 0 n n (omega arith) (λ j l. ap F.order.is_least (a.entries m j (omega arith) (omega arith)))
 
     module _ (c : ℕ) (hc : c ≤ n) where
-      open_agrees : (i : ℕ) → i ≤ m → is_candidate R O t c i ≡ is_candidate R O s c i
-      open_agrees i h = ap (λ x. not (O.is_least (R.neg x))) (a.entries i c h (omega arith))
+      open_agrees : (i : ℕ) → i ≤ m → is_candidate F t c i ≡ is_candidate F s c i
+      open_agrees i h = ap (λ x. not (F.order.is_least (F.ring.neg x))) (a.entries i c h (omega arith))
 
-      ratio_agrees : (i : ℕ) → i ≤ m → ratio R O m n t c i ≡ ratio R O m n s c i
-      ratio_agrees i h = ap₂ (λ x y. R.mul x (O.inv y)) (a.entries i (n + m) h (omega arith)) (a.entries i c h (omega arith))
+      ratio_agrees : (i : ℕ) → i ≤ m → ratio F m n t c i ≡ ratio F m n s c i
+      ratio_agrees i h = ap₂ (λ x y. F.ring.mul x (F.order.inv y)) (a.entries i (n + m) h (omega arith)) (a.entries i c h (omega arith))
 
-      precedes_agrees : (i k : ℕ) → i < m → k < m → precedes R O m n t c i k ≡ precedes R O m n s c i k
+      precedes_agrees : (i k : ℕ) → i < m → k < m → precedes F m n t c i k ≡ precedes F m n s c i k
       precedes_agrees i k hi hk =
-          ap₂ (λ x y. cond (O.is_least (difference R x y)) (O.is_least (difference R y x) && ltb (t.basis i) (t.basis k)) true) (ratio_agrees i (omega arith)) (ratio_agrees k (omega arith))
-          ∙ ap₂ (λ x y. cond (O.is_least (difference R (ratio R O m n s c i) (ratio R O m n s c k))) (O.is_least (difference R (ratio R O m n s c k) (ratio R O m n s c i)) && ltb x y) true) (a.basics i hi) (a.basics k hk)
+          ap₂ (λ x y. cond (F.order.is_least (difference F.ring x y)) (F.order.is_least (difference F.ring y x) && ltb (t.basis i) (t.basis k)) true) (ratio_agrees i (omega arith)) (ratio_agrees k (omega arith))
+          ∙ ap₂ (λ x y. cond (F.order.is_least (difference F.ring (ratio F m n s c i) (ratio F m n s c k))) (F.order.is_least (difference F.ring (ratio F m n s c k) (ratio F m n s c i)) && ltb x y) true) (a.basics i hi) (a.basics k hk)
 
-      leaving_agrees : (i : ℕ) → i ≤ m → leaving_of R O m n t c i ≡ leaving_of R O m n s c i
+      leaving_agrees : (i : ℕ) → i ≤ m → leaving_of F m n t c i ≡ leaving_of F m n s c i
       leaving_agrees zero h = refl
       leaving_agrees (suc i) h =
-          by_cases (leaving_of R O m n t c i) (cases_eq (leaving_of R O m n t c i) m) (leaving_most t c i (omega arith))
-          ∙ ap (λ x. cond (is_candidate R O s c i) (cond (eqb x m) i (cond (precedes R O m n s c i x) i x)) x) (leaving_agrees i (omega arith))
+          by_cases (leaving_of F m n t c i) (cases_eq (leaving_of F m n t c i) m) (leaving_most t c i (omega arith))
+          ∙ ap (λ x. cond (is_candidate F s c i) (cond (eqb x m) i (cond (precedes F m n s c i x) i x)) x) (leaving_agrees i (omega arith))
         where
           by_cases : (x : ℕ) → (x ≡ m) ⊎ (x ≡ m → ⊥) → x ≤ m
-              → cond (is_candidate R O t c i) (cond (eqb x m) i (cond (precedes R O m n t c i x) i x)) x ≡ cond (is_candidate R O s c i) (cond (eqb x m) i (cond (precedes R O m n s c i x) i x)) x
-          by_cases x (inl e) l = ap₂ (λ b d. cond b (cond d i (cond (precedes R O m n t c i x) i x)) x) (open_agrees i (omega arith)) (eq-eqb x m e)
-              ∙ ap (λ d. cond (is_candidate R O s c i) (cond d i (cond (precedes R O m n s c i x) i x)) x) (sym (eq-eqb x m e))
+              → cond (is_candidate F t c i) (cond (eqb x m) i (cond (precedes F m n t c i x) i x)) x ≡ cond (is_candidate F s c i) (cond (eqb x m) i (cond (precedes F m n s c i x) i x)) x
+          by_cases x (inl e) l = ap₂ (λ b d. cond b (cond d i (cond (precedes F m n t c i x) i x)) x) (open_agrees i (omega arith)) (eq-eqb x m e)
+              ∙ ap (λ d. cond (is_candidate F s c i) (cond d i (cond (precedes F m n s c i x) i x)) x) (sym (eq-eqb x m e))
           by_cases x (inr d) l = ap₂ (λ b q. cond b (cond (eqb x m) i (cond q i x)) x) (open_agrees i (omega arith)) (precedes_agrees i x (omega arith) (omega arith))
 
-    pivot_agrees : (r c : ℕ) → r ≤ m → c ≤ n → Agree (pivot R O t r c) (pivot R O s r c)
+    pivot_agrees : (r c : ℕ) → r ≤ m → c ≤ n → Agree (pivot F t r c) (pivot F s r c)
     pivot_agrees r c hr hc = record {
       entries = λ i j hi hj.
-          ap₂ (λ x y. cond (eqb i r) (R.mul x (O.inv y)) (difference R (t.entry i j) (R.mul x (R.mul (t.entry i c) (O.inv y))))) (a.entries r j hr hj) (a.entries r c hr (omega arith))
-          ∙ ap₂ (λ x y. cond (eqb i r) (R.mul (s.entry r j) (O.inv (s.entry r c))) (difference R x (R.mul (s.entry r j) (R.mul y (O.inv (s.entry r c)))))) (a.entries i j hi hj) (a.entries i c hi (omega arith));
+          ap₂ (λ x y. cond (eqb i r) (F.ring.mul x (F.order.inv y)) (difference F.ring (t.entry i j) (F.ring.mul x (F.ring.mul (t.entry i c) (F.order.inv y))))) (a.entries r j hr hj) (a.entries r c hr (omega arith))
+          ∙ ap₂ (λ x y. cond (eqb i r) (F.ring.mul (s.entry r j) (F.order.inv (s.entry r c))) (difference F.ring x (F.ring.mul (s.entry r j) (F.ring.mul y (F.order.inv (s.entry r c)))))) (a.entries i j hi hj) (a.entries i c hi (omega arith));
       basics = λ i h. ap (λ x. cond (eqb i r) c x) (a.basics i h);
     }
 
-    next_agrees : Agree (next R O m n t) (next R O m n s)
+    next_agrees : Agree (next F m n t) (next F m n s)
     next_agrees =
-        let c = entering R O m n t in
-        let r = leaving R O m n t (entering R O m n t) in
-        let same : leaving R O m n t (entering R O m n t) ≡ leaving R O m n s (entering R O m n s) =
-        leaving_agrees (entering R O m n t) (entering_most t) m (omega arith) ∙ ap (leaving R O m n s) entering_agrees in
-        subst (λ (x : ℕ). Agree (next R O m n t) (pivot R O s x (entering R O m n s))) same
-        (subst (λ (y : ℕ). Agree (next R O m n t) (pivot R O s (leaving R O m n t (entering R O m n t)) y)) entering_agrees
-        (pivot_agrees (leaving R O m n t (entering R O m n t)) (entering R O m n t) (leaving_most t (entering R O m n t) m (omega arith)) (entering_most t)))
+        let c = entering F m n t in
+        let r = leaving F m n t (entering F m n t) in
+        let same : leaving F m n t (entering F m n t) ≡ leaving F m n s (entering F m n s) =
+        leaving_agrees (entering F m n t) (entering_most t) m (omega arith) ∙ ap (leaving F m n s) entering_agrees in
+        subst (λ (x : ℕ). Agree (next F m n t) (pivot F s x (entering F m n s))) same
+        (subst (λ (y : ℕ). Agree (next F m n t) (pivot F s (leaving F m n t (entering F m n t)) y)) entering_agrees
+        (pivot_agrees (leaving F m n t (entering F m n t)) (entering F m n t) (leaving_most t (entering F m n t) m (omega arith)) (entering_most t)))
 
-  after_agrees : (t s : Table A) → Agree t s → (k : ℕ) → Agree (table_after R O m n t k) (table_after R O m n s k)
+  after_agrees : (t s : Table A) → Agree t s → (k : ℕ) → Agree (table_after F m n t k) (table_after F m n s k)
   after_agrees t s a zero = a
-  after_agrees t s a (suc k) = next_agrees (table_after R O m n t k) (table_after R O m n s k) (after_agrees t s a k)
+  after_agrees t s a (suc k) = next_agrees (table_after F m n t k) (table_after F m n s k) (after_agrees t s a k)
 
-  pub left_agrees : (t s : Table A) → Agree t s → steps_left R O m n t ≡ steps_left R O m n s
-  left_agrees t s a = ap (λ (f : ℕ → Bool). first_false f 0 (suc (most R O m n)))
-      (same_functions (λ k. ap (λ c. ltb c n) (entering_agrees (table_after R O m n t k) (table_after R O m n s k) (after_agrees t s a k))))
+  pub left_agrees : (t s : Table A) → Agree t s → steps_left F m n t ≡ steps_left F m n s
+  left_agrees t s a = ap (λ (f : ℕ → Bool). first_false f 0 (suc (most F m n)))
+      (same_functions (λ k. ap (λ c. ltb c n) (entering_agrees (table_after F m n t k) (table_after F m n s k) (after_agrees t s a k))))

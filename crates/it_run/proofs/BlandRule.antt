@@ -3,9 +3,8 @@
 use Rattle.std.proofs.Common.{◌≡◌, ℕ, zero, suc, ◌+◌, ◌<◌, ◌≤◌, Bool, true, false, cond, eqb, ltb, not, ◌&&◌, [], ◌∷◌, refl, sym, ap, subst, ◌∙◌, ◌⊎◌, inl, inr, arith}
 use Rattle.std.proofs.lemmas.Bool.{eq-eqb, ne_eqb, cases_eq, cases_lt, ltb-true, ltb-false, not-true, true≢false, false≢true}
 use Rattle.it_number.proofs.Ring.{ring, mul-null, v, plus, times, minus, one}
-use Rattle.it_number.specs.Rings.{Ring}
 use Rattle.it_rational.proofs.Ordered.{null-least, not_both, below-neg, below-apart}
-use Rattle.it_rational.specs.OrderedFields.{Order, IsAtLeastZero, IsBelowZero, IsAboveZero}
+use Rattle.it_rational.specs.OrderedFields.{OrderedField, IsAtLeastZero, IsBelowZero, IsAboveZero}
 use Rattle.it_tableau.specs.Tables.{Table, FeasibilityProblem, difference, ratio}
 use Rattle.it_tableau.specs.Invariants.{cost_of, HasInvariants, MayEnter}
 use Rattle.it_run.specs.Choice.{first_false, entering, is_candidate, precedes, leaving_of, leaving, IsStuck}
@@ -32,82 +31,82 @@ first_at f k (suc left) l = by_test (f k) refl l (λ a. first_at f (suc k) left 
     by_test false e l ih = e
     by_test true e l ih = ih (omega arith)
 
-module _ {A : Type 0} (R : Ring A) (O : Order R) (m n : ℕ) where
+module _ {A : Type 0} (F : OrderedField A) (m n : ℕ) where
   -- column c enters: it is no artificial, has a cost below 0 and is the first such
   pub record Enters (t : Table A) (c : ℕ) : Type 0 where
     pub column : c < n
-    pub below : IsBelowZero R O (t.entry m c)
-    pub first : (j : ℕ) → j < c → IsAtLeastZero R O (t.entry m j)
+    pub below : IsBelowZero F (t.entry m c)
+    pub first : (j : ℕ) → j < c → IsAtLeastZero F (t.entry m j)
 
   -- row r leaves at column c: of the rows with an entry above 0 it has the least ratio, and the least basic column of those
   pub record Leaves (t : Table A) (c r : ℕ) : Type 0 where
     pub row : r < m
-    pub above : IsAboveZero R O (t.entry r c)
-    pub least : (i : ℕ) → i < m → IsAboveZero R O (t.entry i c) → IsAtLeastZero R O (difference R (ratio R O m n t c i) (ratio R O m n t c r))
-    pub first : (i : ℕ) → i < m → IsAboveZero R O (t.entry i c) → ratio R O m n t c i ≡ ratio R O m n t c r → t.basis r ≤ t.basis i
+    pub above : IsAboveZero F (t.entry r c)
+    pub least : (i : ℕ) → i < m → IsAboveZero F (t.entry i c) → IsAtLeastZero F (difference F.ring (ratio F m n t c i) (ratio F m n t c r))
+    pub first : (i : ℕ) → i < m → IsAboveZero F (t.entry i c) → ratio F m n t c i ≡ ratio F m n t c r → t.basis r ≤ t.basis i
 
   -- they may make a step
-  pub may_enter : (t : Table A) (c r : ℕ) → Enters t c → Leaves t c r → MayEnter R O m n t r c
+  pub may_enter : (t : Table A) (c r : ℕ) → Enters t c → Leaves t c r → MayEnter F m n t r c
   may_enter t c r e l = record { column = e.column; row = l.row; above = l.above; least = l.least }
 
-  pub entering_is : (t : Table A) → entering R O m n t < n → Enters t (entering R O m n t)
+  pub entering_is : (t : Table A) → entering F m n t < n → Enters t (entering F m n t)
   entering_is t h = record {
     column = h;
-    below = first_at (λ j. O.is_least (t.entry m j)) 0 n (omega arith);
-    first = λ j l. first_before (λ j. O.is_least (t.entry m j)) 0 n j (omega arith) l;
+    below = first_at (λ j. F.order.is_least (t.entry m j)) 0 n (omega arith);
+    first = λ j l. first_before (λ j. F.order.is_least (t.entry m j)) 0 n j (omega arith) l;
   }
 
-  pub some_column : (t : Table A) → ¬ (IsStuck R O m n t) → entering R O m n t < n
-  some_column t s = by_cases (cases_lt (entering R O m n t) n)
+  pub some_column : (t : Table A) → ¬ (IsStuck F m n t) → entering F m n t < n
+  some_column t s = by_cases (cases_lt (entering F m n t) n)
     where
-      by_cases : (entering R O m n t < n) ⊎ (n ≤ entering R O m n t) → entering R O m n t < n
+      by_cases : (entering F m n t < n) ⊎ (n ≤ entering F m n t) → entering F m n t < n
       by_cases (inl h) = h
-      by_cases (inr h) = absurd (s (λ j l. first_before (λ j. O.is_least (t.entry m j)) 0 n j (omega arith) (omega arith)))
+      by_cases (inr h) = absurd (s (λ j l. first_before (λ j. F.order.is_least (t.entry m j)) 0 n j (omega arith) (omega arith)))
 
   -- an entering column has a row with a positive entry
-  pub some_row : (p : FeasibilityProblem A) (t : Table A) (c : ℕ) → HasInvariants R O m n p t → IsBelowZero R O (t.entry m c) → (i : ℕ) × (i < m) × IsAboveZero R O (t.entry i c)
+  pub some_row : (p : FeasibilityProblem A) (t : Table A) (c : ℕ) → HasInvariants F m n p t → IsBelowZero F (t.entry m c) → (i : ℕ) × (i < m) × IsAboveZero F (t.entry i c)
   some_row p t c h b =
-      let s = some_below R O m (λ i. R.mul (cost_of R O m n (t.basis i)) (t.entry i c)) (subst (IsBelowZero R O) (h.costs c) b) in
+      let s = some_below F m (λ i. F.ring.mul (cost_of F m n (t.basis i)) (t.entry i c)) (subst (IsBelowZero F) (h.costs c) b) in
       (s.0, s.1, by_test (ltb (t.basis s.0) n) (t.entry s.0 c) s.2)
     where
-      by_test : (b : Bool) (x : A) → IsBelowZero R O (R.mul (cond b R.null (R.neg R.unit)) x) → IsAboveZero R O x
-      by_test true x k = absurd (below-apart R O (R.mul R.null x) k (R.mul_comm R.null x ∙ mul-null R x))
-      by_test false x k = subst (IsBelowZero R O) (ring R (x ∷ []) (times (minus one) (v 0)) (minus (v 0)) refl) k
+      by_test : (b : Bool) (x : A) → IsBelowZero F (F.ring.mul (cond b F.ring.null (F.ring.neg F.ring.unit)) x) → IsAboveZero F x
+      by_test true x k = absurd (below-apart F (F.ring.mul F.ring.null x) k (F.ring.mul_comm F.ring.null x ∙ mul-null F.ring x))
+      by_test false x k = subst (IsBelowZero F) (ring F.ring (x ∷ []) (times (minus one) (v 0)) (minus (v 0)) refl) k
 
   -- the best row below a number of rows
   pub record Best (t : Table A) (c bound best : ℕ) : Type 0 where
     pub row : best < bound
-    pub above : is_candidate R O t c best ≡ true
-    pub least : (i : ℕ) → i < bound → is_candidate R O t c i ≡ true → IsAtLeastZero R O (difference R (ratio R O m n t c i) (ratio R O m n t c best))
-    pub first : (i : ℕ) → i < bound → is_candidate R O t c i ≡ true → ratio R O m n t c i ≡ ratio R O m n t c best → t.basis best ≤ t.basis i
+    pub above : is_candidate F t c best ≡ true
+    pub least : (i : ℕ) → i < bound → is_candidate F t c i ≡ true → IsAtLeastZero F (difference F.ring (ratio F m n t c i) (ratio F m n t c best))
+    pub first : (i : ℕ) → i < bound → is_candidate F t c i ≡ true → ratio F m n t c i ≡ ratio F m n t c best → t.basis best ≤ t.basis i
 
   abbrev IsBest : Table A → ℕ → ℕ → ℕ → Type 0
-  IsBest t c bound best = ((best ≡ m) × ((i : ℕ) → i < bound → is_candidate R O t c i ≡ false)) ⊎ Best t c bound best
+  IsBest t c bound best = ((best ≡ m) × ((i : ℕ) → i < bound → is_candidate F t c i ≡ false)) ⊎ Best t c bound best
 
-  turned : (a b : A) → IsBelowZero R O (difference R a b) → IsAtLeastZero R O (difference R b a)
-  turned a b h = subst (IsAtLeastZero R O) (ring R (a ∷ b ∷ []) (minus (plus (v 0) (minus (v 1)))) (plus (v 1) (minus (v 0))) refl) (below-neg R O (difference R a b) h)
+  turned : (a b : A) → IsBelowZero F (difference F.ring a b) → IsAtLeastZero F (difference F.ring b a)
+  turned a b h = subst (IsAtLeastZero F) (ring F.ring (a ∷ b ∷ []) (minus (plus (v 0) (minus (v 1)))) (plus (v 1) (minus (v 0))) refl) (below-neg F (difference F.ring a b) h)
 
-  chained : (a b c : A) → IsAtLeastZero R O (difference R a b) → IsAtLeastZero R O (difference R b c) → IsAtLeastZero R O (difference R a c)
-  chained a b c h k = subst (IsAtLeastZero R O) (ring R (a ∷ b ∷ c ∷ []) (plus (plus (v 0) (minus (v 1))) (plus (v 1) (minus (v 2)))) (plus (v 0) (minus (v 2))) refl)
-      (O.add-least (difference R a b) (difference R b c) h k)
+  chained : (a b c : A) → IsAtLeastZero F (difference F.ring a b) → IsAtLeastZero F (difference F.ring b c) → IsAtLeastZero F (difference F.ring a c)
+  chained a b c h k = subst (IsAtLeastZero F) (ring F.ring (a ∷ b ∷ c ∷ []) (plus (plus (v 0) (minus (v 1))) (plus (v 1) (minus (v 2)))) (plus (v 0) (minus (v 2))) refl)
+      (F.order.add-least (difference F.ring a b) (difference F.ring b c) h k)
 
-  pub tied : (a b : A) → IsAtLeastZero R O (difference R a b) → IsAtLeastZero R O (difference R b a) → a ≡ b
-  tied a b h k = ring R (a ∷ b ∷ []) (v 0) (plus (plus (v 0) (minus (v 1))) (v 1)) refl
-      ∙ ap (λ x. R.add x b) (O.strict (difference R a b) h (subst (IsAtLeastZero R O) (ring R (a ∷ b ∷ []) (plus (v 1) (minus (v 0))) (minus (plus (v 0) (minus (v 1)))) refl) k))
-      ∙ R.null-add b
+  pub tied : (a b : A) → IsAtLeastZero F (difference F.ring a b) → IsAtLeastZero F (difference F.ring b a) → a ≡ b
+  tied a b h k = ring F.ring (a ∷ b ∷ []) (v 0) (plus (plus (v 0) (minus (v 1))) (v 1)) refl
+      ∙ ap (λ x. F.ring.add x b) (F.order.strict (difference F.ring a b) h (subst (IsAtLeastZero F) (ring F.ring (a ∷ b ∷ []) (plus (v 1) (minus (v 0))) (minus (plus (v 0) (minus (v 1)))) refl) k))
+      ∙ F.ring.null-add b
 
-  same-least : (a b : A) → a ≡ b → IsAtLeastZero R O (difference R a b)
-  same-least a b e = subst (λ (x : A). IsAtLeastZero R O (difference R a x)) e (subst (IsAtLeastZero R O) (sym (R.add-neg a)) (null-least R O))
+  same-least : (a b : A) → a ≡ b → IsAtLeastZero F (difference F.ring a b)
+  same-least a b e = subst (λ (x : A). IsAtLeastZero F (difference F.ring a x)) e (subst (IsAtLeastZero F) (sym (F.ring.add-neg a)) (null-least F))
 
-  leaving_best : (t : Table A) (c i : ℕ) → i ≤ m → IsBest t c i (leaving_of R O m n t c i)
+  leaving_best : (t : Table A) (c i : ℕ) → i ≤ m → IsBest t c i (leaving_of F m n t c i)
   leaving_best t c zero h = inl (refl, λ i l. absurd (omega arith))
-  leaving_best t c (suc i) h = by_test (is_candidate R O t c i) refl (leaving_best t c i (omega arith))
+  leaving_best t c (suc i) h = by_test (is_candidate F t c i) refl (leaving_best t c i (omega arith))
     where
       q : ℕ → A
-      q = ratio R O m n t c
+      q = ratio F m n t c
 
       best : ℕ
-      best = leaving_of R O m n t c i
+      best = leaving_of F m n t c i
 
       below_suc : (P : ℕ → Type 0) (k : ℕ) → k < suc i → (k < i → P k) → (k ≡ i → P k) → P k
       below_suc P k l f g = split (eq-or-lt_of_le (le_of_suc-le-suc l))
@@ -116,27 +115,27 @@ module _ {A : Type 0} (R : Ring A) (O : Order R) (m n : ℕ) where
           split (inl e) = g e
           split (inr l) = f l
 
-      closed : (k : ℕ) → k ≡ i → is_candidate R O t c i ≡ false → is_candidate R O t c k ≡ true → ⊥
-      closed k e f g = true≢false (sym g ∙ ap (is_candidate R O t c) e ∙ f)
+      closed : (k : ℕ) → k ≡ i → is_candidate F t c i ≡ false → is_candidate F t c k ≡ true → ⊥
+      closed k e f g = true≢false (sym g ∙ ap (is_candidate F t c) e ∙ f)
 
       -- row i is the first open one
-      alone : is_candidate R O t c i ≡ true → ((k : ℕ) → k < i → is_candidate R O t c k ≡ false) → Best t c (suc i) i
+      alone : is_candidate F t c i ≡ true → ((k : ℕ) → k < i → is_candidate F t c k ≡ false) → Best t c (suc i) i
       alone o f = record {
         row = omega arith;
         above = o;
-        least = λ k l g. below_suc (λ k. IsAtLeastZero R O (difference R (q k) (q i))) k l (λ a. absurd (true≢false (sym g ∙ f k a))) (λ e. same-least (q k) (q i) (ap q e));
+        least = λ k l g. below_suc (λ k. IsAtLeastZero F (difference F.ring (q k) (q i))) k l (λ a. absurd (true≢false (sym g ∙ f k a))) (λ e. same-least (q k) (q i) (ap q e));
         first = λ k l g _. below_suc (λ k. t.basis i ≤ t.basis k) k l (λ a. absurd (true≢false (sym g ∙ f k a))) (λ e. subst (λ (x : ℕ). t.basis i ≤ t.basis x) (sym e) (omega arith));
       }
 
       -- row i comes before the best so far
-      better : is_candidate R O t c i ≡ true → Best t c i best → (b d : Bool) → O.is_least (difference R (q i) (q best)) ≡ b → O.is_least (difference R (q best) (q i)) ≡ d
+      better : is_candidate F t c i ≡ true → Best t c i best → (b d : Bool) → F.order.is_least (difference F.ring (q i) (q best)) ≡ b → F.order.is_least (difference F.ring (q best) (q i)) ≡ d
           → cond b (d && ltb (t.basis i) (t.basis best)) true ≡ true → Best t c (suc i) i
       better o s false d e f g = record {
         row = omega arith;
         above = o;
-        least = λ k l w. below_suc (λ k. IsAtLeastZero R O (difference R (q k) (q i))) k l (λ a. chained (q k) (q best) (q i) (s.least k a w) (turned (q i) (q best) e)) (λ x. same-least (q k) (q i) (ap q x));
+        least = λ k l w. below_suc (λ k. IsAtLeastZero F (difference F.ring (q k) (q i))) k l (λ a. chained (q k) (q best) (q i) (s.least k a w) (turned (q i) (q best) e)) (λ x. same-least (q k) (q i) (ap q x));
         first = λ k l w x. below_suc (λ k. t.basis i ≤ t.basis k) k l
-            (λ a. absurd (not_both R O (difference R (q i) (q best)) e (subst (λ (y : A). IsAtLeastZero R O (difference R y (q best))) x (s.least k a w))))
+            (λ a. absurd (not_both F (difference F.ring (q i) (q best)) e (subst (λ (y : A). IsAtLeastZero F (difference F.ring y (q best))) x (s.least k a w))))
             (λ x. subst (λ (y : ℕ). t.basis i ≤ t.basis y) (sym x) (omega arith));
       }
       better o s true false e f g = absurd (false≢true g)
@@ -145,56 +144,56 @@ module _ {A : Type 0} (R : Ring A) (O : Order R) (m n : ℕ) where
           let l : t.basis i < t.basis best = ltb-true (t.basis i) (t.basis best) g in record {
             row = omega arith;
             above = o;
-            least = λ k l w. below_suc (λ k. IsAtLeastZero R O (difference R (q k) (q i))) k l (λ a. subst (λ (z : A). IsAtLeastZero R O (difference R (q k) z)) (sym y) (s.least k a w)) (λ x. same-least (q k) (q i) (ap q x));
+            least = λ k l w. below_suc (λ k. IsAtLeastZero F (difference F.ring (q k) (q i))) k l (λ a. subst (λ (z : A). IsAtLeastZero F (difference F.ring (q k) z)) (sym y) (s.least k a w)) (λ x. same-least (q k) (q i) (ap q x));
             first = λ k h w x. below_suc (λ k. t.basis i ≤ t.basis k) k h
                 (λ a. let z : t.basis best ≤ t.basis k = s.first k a w (x ∙ y) in omega arith)
                 (λ x. subst (λ (y : ℕ). t.basis i ≤ t.basis y) (sym x) (omega arith));
           }
 
       -- the best so far stays
-      stays : is_candidate R O t c i ≡ true → Best t c i best → (b d : Bool) → O.is_least (difference R (q i) (q best)) ≡ b → O.is_least (difference R (q best) (q i)) ≡ d
+      stays : is_candidate F t c i ≡ true → Best t c i best → (b d : Bool) → F.order.is_least (difference F.ring (q i) (q best)) ≡ b → F.order.is_least (difference F.ring (q best) (q i)) ≡ d
           → cond b (d && ltb (t.basis i) (t.basis best)) true ≡ false → Best t c (suc i) best
       stays o s false d e f g = absurd (true≢false g)
       stays o s true d e f g = record {
         row = (let r = s.row in omega arith);
         above = s.above;
-        least = λ k l w. below_suc (λ k. IsAtLeastZero R O (difference R (q k) (q best))) k l (λ a. s.least k a w) (λ x. subst (λ (y : ℕ). IsAtLeastZero R O (difference R (q y) (q best))) (sym x) e);
+        least = λ k l w. below_suc (λ k. IsAtLeastZero F (difference F.ring (q k) (q best))) k l (λ a. s.least k a w) (λ x. subst (λ (y : ℕ). IsAtLeastZero F (difference F.ring (q y) (q best))) (sym x) e);
         first = λ k l w x. below_suc (λ k. t.basis best ≤ t.basis k) k l (λ a. s.first k a w x)
             (λ y. subst (λ (z : ℕ). t.basis best ≤ t.basis z) (sym y) (tie d f g (same-least (q best) (q i) (sym x ∙ ap q y))));
       }
         where
-          tie : (d : Bool) → O.is_least (difference R (q best) (q i)) ≡ d → (d && ltb (t.basis i) (t.basis best)) ≡ false → IsAtLeastZero R O (difference R (q best) (q i)) → t.basis best ≤ t.basis i
+          tie : (d : Bool) → F.order.is_least (difference F.ring (q best) (q i)) ≡ d → (d && ltb (t.basis i) (t.basis best)) ≡ false → IsAtLeastZero F (difference F.ring (q best) (q i)) → t.basis best ≤ t.basis i
           tie true f g k = ltb-false (t.basis i) (t.basis best) g
-          tie false f g k = absurd (not_both R O (difference R (q best) (q i)) f k)
+          tie false f g k = absurd (not_both F (difference F.ring (q best) (q i)) f k)
 
-      by_test : (b : Bool) → is_candidate R O t c i ≡ b → IsBest t c i best
-          → IsBest t c (suc i) (cond b (cond (eqb best m) i (cond (precedes R O m n t c i best) i best)) best)
-      by_test false o (inl s) = inl (s.0, λ k l. below_suc (λ k. is_candidate R O t c k ≡ false) k l (s.1 k) (λ e. ap (is_candidate R O t c) e ∙ o))
+      by_test : (b : Bool) → is_candidate F t c i ≡ b → IsBest t c i best
+          → IsBest t c (suc i) (cond b (cond (eqb best m) i (cond (precedes F m n t c i best) i best)) best)
+      by_test false o (inl s) = inl (s.0, λ k l. below_suc (λ k. is_candidate F t c k ≡ false) k l (s.1 k) (λ e. ap (is_candidate F t c) e ∙ o))
       by_test false o (inr s) = inr record {
         row = (let r = s.row in omega arith);
         above = s.above;
-        least = λ k l w. below_suc (λ k. IsAtLeastZero R O (difference R (q k) (q best))) k l (λ a. s.least k a w) (λ e. absurd (closed k e o w));
+        least = λ k l w. below_suc (λ k. IsAtLeastZero F (difference F.ring (q k) (q best))) k l (λ a. s.least k a w) (λ e. absurd (closed k e o w));
         first = λ k l w x. below_suc (λ k. t.basis best ≤ t.basis k) k l (λ a. s.first k a w x) (λ e. absurd (closed k e o w));
       }
-      by_test true o (inl s) = subst (λ (b : Bool). IsBest t c (suc i) (cond b i (cond (precedes R O m n t c i best) i best))) (sym (eq-eqb best m s.0)) (inr (alone o s.1))
-      by_test true o (inr s) = subst (λ (b : Bool). IsBest t c (suc i) (cond b i (cond (precedes R O m n t c i best) i best))) (sym (ne_eqb best m (λ e. let r = s.row in omega arith)))
-          (pick (precedes R O m n t c i best) refl)
+      by_test true o (inl s) = subst (λ (b : Bool). IsBest t c (suc i) (cond b i (cond (precedes F m n t c i best) i best))) (sym (eq-eqb best m s.0)) (inr (alone o s.1))
+      by_test true o (inr s) = subst (λ (b : Bool). IsBest t c (suc i) (cond b i (cond (precedes F m n t c i best) i best))) (sym (ne_eqb best m (λ e. let r = s.row in omega arith)))
+          (pick (precedes F m n t c i best) refl)
         where
-          pick : (b : Bool) → precedes R O m n t c i best ≡ b → IsBest t c (suc i) (cond b i best)
-          pick true e = inr (better o s (O.is_least (difference R (q i) (q best))) (O.is_least (difference R (q best) (q i))) refl refl e)
-          pick false e = inr (stays o s (O.is_least (difference R (q i) (q best))) (O.is_least (difference R (q best) (q i))) refl refl e)
+          pick : (b : Bool) → precedes F m n t c i best ≡ b → IsBest t c (suc i) (cond b i best)
+          pick true e = inr (better o s (F.order.is_least (difference F.ring (q i) (q best))) (F.order.is_least (difference F.ring (q best) (q i))) refl refl e)
+          pick false e = inr (stays o s (F.order.is_least (difference F.ring (q i) (q best))) (F.order.is_least (difference F.ring (q best) (q i))) refl refl e)
 
-  open_from : (t : Table A) (c i : ℕ) → IsAboveZero R O (t.entry i c) → is_candidate R O t c i ≡ true
+  open_from : (t : Table A) (c i : ℕ) → IsAboveZero F (t.entry i c) → is_candidate F t c i ≡ true
   open_from t c i h = ap not h
 
-  pub leaving_is : (p : FeasibilityProblem A) (t : Table A) (c : ℕ) → HasInvariants R O m n p t → IsBelowZero R O (t.entry m c) → Leaves t c (leaving R O m n t c)
+  pub leaving_is : (p : FeasibilityProblem A) (t : Table A) (c : ℕ) → HasInvariants F m n p t → IsBelowZero F (t.entry m c) → Leaves t c (leaving F m n t c)
   leaving_is p t c h b = by_cases (leaving_best t c m (omega arith)) (some_row p t c h b)
     where
-      by_cases : IsBest t c m (leaving R O m n t c) → ((i : ℕ) × (i < m) × IsAboveZero R O (t.entry i c)) → Leaves t c (leaving R O m n t c)
+      by_cases : IsBest t c m (leaving F m n t c) → ((i : ℕ) × (i < m) × IsAboveZero F (t.entry i c)) → Leaves t c (leaving F m n t c)
       by_cases (inl s) w = absurd (true≢false (sym (open_from t c w.0 w.2) ∙ s.1 w.0 w.1))
       by_cases (inr s) w = record {
         row = s.row;
-        above = not-true (O.is_least (R.neg (t.entry (leaving R O m n t c) c))) s.above;
+        above = not-true (F.order.is_least (F.ring.neg (t.entry (leaving F m n t c) c))) s.above;
         least = λ i l k. s.least i l (open_from t c i k);
         first = λ i l k e. s.first i l (open_from t c i k) e;
       }

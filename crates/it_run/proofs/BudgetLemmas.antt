@@ -1,19 +1,18 @@
 -- A run with a budget or none: what is read off its end, that it has one end, and that it doesn't end for want of steps where it has no budget.
 use Rattle.std.proofs.Common.{List, ◌≡◌, ◌⊎◌, inl, inr, ℕ, zero, suc, ◌+◌, Option, Some, None, refl, sym, ap, ◌∙◌, subst, arith}
-use Rattle.it_number.specs.Rings.{Ring}
-use Rattle.it_rational.specs.OrderedFields.{Order}
+use Rattle.it_rational.specs.OrderedFields.{OrderedField}
 use Rattle.it_tableau.specs.Tables.{Table, FeasibilityProblem, start}
 use Rattle.it_run.specs.Choice.{next, IsDone, IsStuck}
 use Rattle.it_run.specs.Readings.{weights, point}
-use Rattle.it_run.specs.Runs.{RunEndView, EndsAs, EndsBy, EndsUnbound, IsWithinBudget, told}
+use Rattle.it_run.specs.Runs.{RunEndView, EndsAs, EndsBy, EndsUnbound, IsWithinBudget, clip_end}
 use Rattle.it_run.specs.Runs.RunEndView.{Weights, Point, Pivots, Width}
 use Rattle.it_run.proofs.RunLemmas.{one_end, read, read_end, run_right, EndIsRight}
 
-pub told_within : {W P : Type 0} (e : RunEndView W P) → IsWithinBudget e → IsWithinBudget (told e)
-told_within (Weights w) i = i
-told_within (Point q) i = i
-told_within (Pivots k) i = i
-told_within (Width k) i = i
+pub clip_keeps_within : {W P : Type 0} (e : RunEndView W P) → IsWithinBudget e → IsWithinBudget (clip_end e)
+clip_keeps_within (Weights w) i = i
+clip_keeps_within (Point q) i = i
+clip_keeps_within (Pivots k) i = i
+clip_keeps_within (Width k) i = i
 
 module _ {S W P : Type 0} (IsDone IsStuck Fits : S → Type 0) (next : S → S) (weights : S → W) (point : S → P) where
   abbrev Run : ℕ → ℕ → S → RunEndView W P → Type 0
@@ -46,7 +45,7 @@ module _ {S W P : Type 0} (IsDone IsStuck Fits : S → Type 0) (next : S → S) 
   -- a run with a budget or none has one end
   pub one_end_by : (budget : Option ℕ) (s : S) (d e : RunEndView W P) → EndsBy IsDone IsStuck Fits next weights point budget s d → EndsBy IsDone IsStuck Fits next weights point budget s e → d ≡ e
   one_end_by (Some budget) s d e a b = one_end IsDone IsStuck Fits next weights point budget zero s d e a b
-  one_end_by None s d e a b = a.is_told ∙ ap told same ∙ sym b.is_told
+  one_end_by None s d e a b = a.is_clipped ∙ ap clip_end same ∙ sym b.is_clipped
     where
       there : a.budget + b.budget ≡ b.budget + a.budget
       there = omega arith
@@ -56,16 +55,16 @@ module _ {S W P : Type 0} (IsDone IsStuck Fits : S → Type 0) (next : S → S) 
           (subst (λ (y : ℕ). Run y zero s b.end) there (more a.budget b.budget s b.end b.within b.runs))
 
   pub within_budget : (s : S) (e : RunEndView W P) → EndsUnbound IsDone IsStuck Fits next weights point s e → IsWithinBudget e
-  within_budget s e r = subst IsWithinBudget (sym r.is_told) (told_within r.end r.within)
+  within_budget s e r = subst IsWithinBudget (sym r.is_clipped) (clip_keeps_within r.end r.within)
 
   abbrev off : RunEndView S S → RunEndView W P
   off = read IsDone IsStuck Fits next weights point
 
-  read_told : (e : RunEndView S S) → told (off e) ≡ off (told e)
-  read_told (Weights w) = refl
-  read_told (Point q) = refl
-  read_told (Pivots k) = refl
-  read_told (Width k) = refl
+  clip_of_read : (e : RunEndView S S) → clip_end (off e) ≡ off (clip_end e)
+  clip_of_read (Weights w) = refl
+  clip_of_read (Point q) = refl
+  clip_of_read (Pivots k) = refl
+  clip_of_read (Width k) = refl
 
   read_within : (e : RunEndView S S) → IsWithinBudget e → IsWithinBudget (off e)
   read_within (Weights w) i = i
@@ -81,18 +80,18 @@ module _ {S W P : Type 0} (IsDone IsStuck Fits : S → Type 0) (next : S → S) 
     end = off r.end;
     runs = read_end IsDone IsStuck Fits next weights point r.budget zero s r.end r.runs;
     within = read_within r.end r.within;
-    is_told = ap off r.is_told ∙ sym (read_told r.end);
+    is_clipped = ap off r.is_clipped ∙ sym (clip_of_read r.end);
   }
 
-module _ {A : Type 0} (R : Ring A) (O : Order R) (m n : ℕ) where
-  told_right : (p : FeasibilityProblem A) (e : RunEndView (List (ℕ × A)) (List A)) → EndIsRight R O m n p e → EndIsRight R O m n p (told e)
-  told_right p (Weights w) i = i
-  told_right p (Point q) i = i
-  told_right p (Pivots k) i = i
-  told_right p (Width k) i = i
+module _ {A : Type 0} (F : OrderedField A) (m n : ℕ) where
+  clip_keeps_right : (p : FeasibilityProblem A) (e : RunEndView (List (ℕ × A)) (List A)) → EndIsRight F m n p e → EndIsRight F m n p (clip_end e)
+  clip_keeps_right p (Weights w) i = i
+  clip_keeps_right p (Point q) i = i
+  clip_keeps_right p (Pivots k) i = i
+  clip_keeps_right p (Width k) i = i
 
   -- the end of a run from the start is right
   pub right_by : (Fits : Table A → Type 0) (p : FeasibilityProblem A) (budget : Option ℕ) (e : RunEndView (List (ℕ × A)) (List A))
-      → EndsBy (IsDone R O m n) (IsStuck R O m n) Fits (next R O m n) (weights R O m n) (point R O m n p) budget (start R O m n p) e → EndIsRight R O m n p e
-  right_by Fits p (Some budget) e r = run_right R O m n Fits p budget e r
-  right_by Fits p None e r = subst (EndIsRight R O m n p) (sym r.is_told) (told_right p r.end (run_right R O m n Fits p r.budget r.end r.runs))
+      → EndsBy (IsDone F m n) (IsStuck F m n) Fits (next F m n) (weights F m n) (point F m n p) budget (start F m n p) e → EndIsRight F m n p e
+  right_by Fits p (Some budget) e r = run_right F m n Fits p budget e r
+  right_by Fits p None e r = subst (EndIsRight F m n p) (sym r.is_clipped) (clip_keeps_right p r.end (run_right F m n Fits p r.budget r.end r.runs))

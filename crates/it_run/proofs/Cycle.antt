@@ -2,9 +2,8 @@
 use Rattle.std.proofs.Common.{◌≡◌, ◌≢◌, ℕ, zero, suc, ◌+◌, ◌-◌, ◌<◌, ◌≤◌, cond, [], ◌∷◌, refl, sym, ap, ap₂, subst, ◌∙◌, ◌⊎◌, inl, inr, arith}
 use Rattle.std.proofs.lemmas.Bool.{cases_eq, cases_lt, lt-ltb, cases_Bool}
 use Rattle.it_number.proofs.Ring.{ring, mul-null, v, plus, times, minus, nil, one}
-use Rattle.it_number.specs.Rings.{Ring}
 use Rattle.it_rational.proofs.Ordered.{null-least, not_both, below-neg, neg-above, above-least, above-apart, below-apart, add-above, mul-above, inv-above, inv-least, above-from}
-use Rattle.it_rational.specs.OrderedFields.{Order, IsAtLeastZero, IsBelowZero, IsAboveZero}
+use Rattle.it_rational.specs.OrderedFields.{OrderedField, IsAtLeastZero, IsBelowZero, IsAboveZero}
 use Rattle.it_tableau.specs.Sums.{sum_to}
 use Rattle.it_tableau.specs.Tables.{Table, FeasibilityProblem, difference, ratio}
 use Rattle.it_tableau.specs.Invariants.{cost_of, HasInvariants}
@@ -17,104 +16,104 @@ use Rattle.it_run.proofs.BlandRule.{Enters, Leaves, entering_is, some_column, le
 use Rattle.it_run.proofs.RunLemmas.{next_holds}
 use Rattle.it_run.proofs.RowsByBasis.{basic_cost, row_by_basis, same_right}
 
-module _ {A : Type 0} (R : Ring A) (O : Order R) (m n : ℕ) where
-  module _ (p : FeasibilityProblem A) (t : Table A) (h : HasInvariants R O m n p t) (N : ℕ) (moving : (k : ℕ) → k < N → ¬ (IsStuck R O m n (table_after R O m n t k))) where
+module _ {A : Type 0} (F : OrderedField A) (m n : ℕ) where
+  module _ (p : FeasibilityProblem A) (t : Table A) (h : HasInvariants F m n p t) (N : ℕ) (moving : (k : ℕ) → k < N → ¬ (IsStuck F m n (table_after F m n t k))) where
     abbrev col : ℕ → ℕ
-    col k = entering R O m n (table_after R O m n t k)
+    col k = entering F m n (table_after F m n t k)
 
     abbrev row : ℕ → ℕ
-    row k = leaving R O m n (table_after R O m n t k) (col k)
+    row k = leaving F m n (table_after F m n t k) (col k)
 
     abbrev base : ℕ → ℕ → ℕ
-    base k i = (table_after R O m n t k).basis i
+    base k i = (table_after F m n t k).basis i
 
     abbrev right : ℕ → ℕ → A
-    right k i = (table_after R O m n t k).entry i (n + m)
+    right k i = (table_after F m n t k).entry i (n + m)
 
-    holds : (k : ℕ) → k ≤ N → HasInvariants R O m n p (table_after R O m n t k)
+    holds : (k : ℕ) → k ≤ N → HasInvariants F m n p (table_after F m n t k)
     holds zero l = h
-    holds (suc k) l = next_holds R O m n p (table_after R O m n t k) (holds k (omega arith)) (moving k (omega arith))
+    holds (suc k) l = next_holds F m n p (table_after F m n t k) (holds k (omega arith)) (moving k (omega arith))
 
-    enters : (k : ℕ) → k < N → Enters R O m n (table_after R O m n t k) (col k)
-    enters k l = entering_is R O m n (table_after R O m n t k) (some_column R O m n (table_after R O m n t k) (moving k l))
+    enters : (k : ℕ) → k < N → Enters F m n (table_after F m n t k) (col k)
+    enters k l = entering_is F m n (table_after F m n t k) (some_column F m n (table_after F m n t k) (moving k l))
 
-    leaves : (k : ℕ) → k < N → Leaves R O m n (table_after R O m n t k) (col k) (row k)
-    leaves k l = leaving_is R O m n p (table_after R O m n t k) (col k) (holds k (omega arith)) (enters k l).below
+    leaves : (k : ℕ) → k < N → Leaves F m n (table_after F m n t k) (col k) (row k)
+    leaves k l = leaving_is F m n p (table_after F m n t k) (col k) (holds k (omega arith)) (enters k l).below
 
     moved : (k : ℕ) → base (suc k) (row k) ≡ col k
-    moved k = new_basis R O m n (table_after R O m n t k) (row k) (col k)
+    moved k = new_basis F m n (table_after F m n t k) (row k) (col k)
 
     unmoved : (k i : ℕ) → i ≢ row k → base (suc k) i ≡ base k i
-    unmoved k i d = old_basis R O m n (table_after R O m n t k) (row k) (col k) i d
+    unmoved k i d = old_basis F m n (table_after F m n t k) (row k) (col k) i d
 
     -- the entering column isn't basic
     fresh : (k i : ℕ) → k < N → i < m → base k i ≢ col k
     fresh k i l hi e = by_cases (holds k (omega arith)).own (cases_lt (base k i) n)
       where
         by_cases : ((i : ℕ) → i < m → (base k i < n) ⊎ (base k i ≡ n + i)) → (base k i < n) ⊎ (n ≤ base k i) → ⊥
-        by_cases _ (inl q) = below-apart R O ((table_after R O m n t k).entry m (col k)) (enters k l).below
-            (ap ((table_after R O m n t k).entry m) (sym e) ∙ basic_cost R O m n p (table_after R O m n t k) (holds k (omega arith)) i hi ∙ ap (λ b. cond b R.null (R.neg R.unit)) (lt-ltb (base k i) n q))
+        by_cases _ (inl q) = below-apart F ((table_after F m n t k).entry m (col k)) (enters k l).below
+            (ap ((table_after F m n t k).entry m) (sym e) ∙ basic_cost F m n p (table_after F m n t k) (holds k (omega arith)) i hi ∙ ap (λ b. cond b F.ring.null (F.ring.neg F.ring.unit)) (lt-ltb (base k i) n q))
         by_cases _ (inr q) = let c : col k < n = (enters k l).column in absurd (omega arith)
 
     -- ---- the right sides
     gain : ℕ → A
-    gain k = R.mul (R.neg ((table_after R O m n t k).entry m (col k))) (O.inv ((table_after R O m n t k).entry (row k) (col k)))
+    gain k = F.ring.mul (F.ring.neg ((table_after F m n t k).entry m (col k))) (F.order.inv ((table_after F m n t k).entry (row k) (col k)))
 
-    gained : (k : ℕ) → k < N → right (suc k) m ≡ R.add (right k m) (R.mul (right k (row k)) (gain k))
+    gained : (k : ℕ) → k < N → right (suc k) m ≡ F.ring.add (right k m) (F.ring.mul (right k (row k)) (gain k))
     unfolding gain
-    gained k l = other_row R O m n (table_after R O m n t k) (row k) (col k) m (n + m) (λ e. let r : row k < m = (leaves k l).row in omega arith)
-        ∙ ring R (right k m ∷ right k (row k) ∷ (table_after R O m n t k).entry m (col k) ∷ O.inv ((table_after R O m n t k).entry (row k) (col k)) ∷ [])
+    gained k l = other_row F m n (table_after F m n t k) (row k) (col k) m (n + m) (λ e. let r : row k < m = (leaves k l).row in omega arith)
+        ∙ ring F.ring (right k m ∷ right k (row k) ∷ (table_after F m n t k).entry m (col k) ∷ F.order.inv ((table_after F m n t k).entry (row k) (col k)) ∷ [])
         (plus (v 0) (minus (times (v 1) (times (v 2) (v 3))))) (plus (v 0) (times (v 1) (times (minus (v 2)) (v 3)))) refl
 
-    inv-positive : (a : A) → IsAboveZero R O a → IsAboveZero R O (O.inv a)
-    inv-positive a k = above-from R O (O.inv a) (inv-least R O a k)
-        (λ e. O.apart (sym (inv-above R O a k) ∙ ap (R.mul a) e ∙ mul-null R a))
+    inv-positive : (a : A) → IsAboveZero F a → IsAboveZero F (F.order.inv a)
+    inv-positive a k = above-from F (F.order.inv a) (inv-least F a k)
+        (λ e. F.order.apart (sym (inv-above F a k) ∙ ap (F.ring.mul a) e ∙ mul-null F.ring a))
 
-    gain-above : (k : ℕ) → k < N → IsAboveZero R O (gain k)
+    gain-above : (k : ℕ) → k < N → IsAboveZero F (gain k)
     unfolding gain
-    gain-above k l = mul-above R O (R.neg ((table_after R O m n t k).entry m (col k))) (O.inv ((table_after R O m n t k).entry (row k) (col k)))
-        (neg-above R O ((table_after R O m n t k).entry m (col k)) (enters k l).below) (inv-positive ((table_after R O m n t k).entry (row k) (col k)) (leaves k l).above)
+    gain-above k l = mul-above F (F.ring.neg ((table_after F m n t k).entry m (col k))) (F.order.inv ((table_after F m n t k).entry (row k) (col k)))
+        (neg-above F ((table_after F m n t k).entry m (col k)) (enters k l).below) (inv-positive ((table_after F m n t k).entry (row k) (col k)) (leaves k l).above)
 
-    gain-least : (k : ℕ) → k < N → IsAtLeastZero R O (R.mul (right k (row k)) (gain k))
-    gain-least k l = O.mul-least (right k (row k)) (gain k) ((holds k (omega arith)).rights (row k) (leaves k l).row) (above-least R O (gain k) (gain-above k l))
+    gain-least : (k : ℕ) → k < N → IsAtLeastZero F (F.ring.mul (right k (row k)) (gain k))
+    gain-least k l = F.order.mul-least (right k (row k)) (gain k) ((holds k (omega arith)).rights (row k) (leaves k l).row) (above-least F (gain k) (gain-above k l))
 
     -- the cost row's right side never falls
-    rises : (k d : ℕ) → k + d ≤ N → IsAtLeastZero R O (difference R (right (k + d) m) (right k m))
-    rises k zero l = subst (λ (x : ℕ). IsAtLeastZero R O (difference R (right x m) (right k m))) here (subst (IsAtLeastZero R O) (sym (R.add-neg (right k m))) (null-least R O))
+    rises : (k d : ℕ) → k + d ≤ N → IsAtLeastZero F (difference F.ring (right (k + d) m) (right k m))
+    rises k zero l = subst (λ (x : ℕ). IsAtLeastZero F (difference F.ring (right x m) (right k m))) here (subst (IsAtLeastZero F) (sym (F.ring.add-neg (right k m))) (null-least F))
       where
         here : k ≡ k + zero
         here = omega arith
-    rises k (suc d) l = subst (λ (x : ℕ). IsAtLeastZero R O (difference R (right x m) (right k m))) here
-        (subst (IsAtLeastZero R O) (ring R (right (k + d) m ∷ right k m ∷ R.mul (right (k + d) (row (k + d))) (gain (k + d)) ∷ []) (plus (plus (v 0) (minus (v 1))) (v 2)) (plus (plus (v 0) (v 2)) (minus (v 1))) refl
-        ∙ ap (λ x. difference R x (right k m)) (sym (gained (k + d) (omega arith))))
-        (O.add-least (difference R (right (k + d) m) (right k m)) (R.mul (right (k + d) (row (k + d))) (gain (k + d))) (rises k d (omega arith)) (gain-least (k + d) (omega arith))))
+    rises k (suc d) l = subst (λ (x : ℕ). IsAtLeastZero F (difference F.ring (right x m) (right k m))) here
+        (subst (IsAtLeastZero F) (ring F.ring (right (k + d) m ∷ right k m ∷ F.ring.mul (right (k + d) (row (k + d))) (gain (k + d)) ∷ []) (plus (plus (v 0) (minus (v 1))) (v 2)) (plus (plus (v 0) (v 2)) (minus (v 1))) refl
+        ∙ ap (λ x. difference F.ring x (right k m)) (sym (gained (k + d) (omega arith))))
+        (F.order.add-least (difference F.ring (right (k + d) m) (right k m)) (F.ring.mul (right (k + d) (row (k + d))) (gain (k + d))) (rises k d (omega arith)) (gain-least (k + d) (omega arith))))
       where
         here : suc (k + d) ≡ k + suc d
         here = omega arith
 
-    rises_to : (j k : ℕ) → j ≤ k → k ≤ N → IsAtLeastZero R O (difference R (right k m) (right j m))
-    rises_to j k q l = subst (λ (x : ℕ). IsAtLeastZero R O (difference R (right x m) (right j m))) here (rises j (k - j) (omega arith))
+    rises_to : (j k : ℕ) → j ≤ k → k ≤ N → IsAtLeastZero F (difference F.ring (right k m) (right j m))
+    rises_to j k q l = subst (λ (x : ℕ). IsAtLeastZero F (difference F.ring (right x m) (right j m))) here (rises j (k - j) (omega arith))
       where
         here : j + (k - j) ≡ k
         here = omega arith
 
     module _ (a b : ℕ) (first : a < b) (last : b ≤ N) (again : (i : ℕ) → i < m → base a i ≡ base b i) where
       same_cost : (k : ℕ) → a ≤ k → k ≤ b → right k m ≡ right a m
-      same_cost k f g = tied R O m n (right k m) (right a m) (rises_to a k f (omega arith))
-          (subst (λ (x : A). IsAtLeastZero R O (difference R x (right k m))) (sym (same_right R O m n p (table_after R O m n t a) (table_after R O m n t b) (holds a (omega arith)) (holds b last) again)) (rises_to k b g last))
+      same_cost k f g = tied F m n (right k m) (right a m) (rises_to a k f (omega arith))
+          (subst (λ (x : A). IsAtLeastZero F (difference F.ring x (right k m))) (sym (same_right F m n p (table_after F m n t a) (table_after F m n t b) (holds a (omega arith)) (holds b last) again)) (rises_to k b g last))
 
       -- the leaving row's right side is 0
-      right_null : (k : ℕ) → a ≤ k → k < b → right k (row k) ≡ R.null
-      right_null k f g = by_cases (cases_Bool (O.is_least (R.neg (right k (row k)))))
+      right_null : (k : ℕ) → a ≤ k → k < b → right k (row k) ≡ F.ring.null
+      right_null k f g = by_cases (cases_Bool (F.order.is_least (F.ring.neg (right k (row k)))))
         where
-          none : R.mul (right k (row k)) (gain k) ≡ R.null
-          none = ring R (right k m ∷ R.mul (right k (row k)) (gain k) ∷ []) (v 1) (plus (plus (v 0) (v 1)) (minus (v 0))) refl
-              ∙ ap (λ x. R.add x (R.neg (right k m))) (sym (gained k (omega arith)) ∙ same_cost (suc k) (omega arith) (omega arith) ∙ sym (same_cost k f (omega arith)))
-              ∙ R.add-neg (right k m)
+          none : F.ring.mul (right k (row k)) (gain k) ≡ F.ring.null
+          none = ring F.ring (right k m ∷ F.ring.mul (right k (row k)) (gain k) ∷ []) (v 1) (plus (plus (v 0) (v 1)) (minus (v 0))) refl
+              ∙ ap (λ x. F.ring.add x (F.ring.neg (right k m))) (sym (gained k (omega arith)) ∙ same_cost (suc k) (omega arith) (omega arith) ∙ sym (same_cost k f (omega arith)))
+              ∙ F.ring.add-neg (right k m)
 
-          by_cases : (IsAtLeastZero R O (R.neg (right k (row k)))) ⊎ (IsAboveZero R O (right k (row k))) → right k (row k) ≡ R.null
-          by_cases (inl q) = O.strict (right k (row k)) ((holds k (omega arith)).rights (row k) (leaves k (omega arith)).row) q
-          by_cases (inr q) = absurd (above-apart R O (R.mul (right k (row k)) (gain k)) (mul-above R O (right k (row k)) (gain k) q (gain-above k (omega arith))) none)
+          by_cases : (IsAtLeastZero F (F.ring.neg (right k (row k)))) ⊎ (IsAboveZero F (right k (row k))) → right k (row k) ≡ F.ring.null
+          by_cases (inl q) = F.order.strict (right k (row k)) ((holds k (omega arith)).rights (row k) (leaves k (omega arith)).row) q
+          by_cases (inr q) = absurd (above-apart F (F.ring.mul (right k (row k)) (gain k)) (mul-above F (right k (row k)) (gain k) q (gain-above k (omega arith))) none)
 
       -- no right side changes
       right_step : (k i : ℕ) → a ≤ k → k < b → right (suc k) i ≡ right k i
@@ -122,11 +121,11 @@ module _ {A : Type 0} (R : Ring A) (O : Order R) (m n : ℕ) where
         where
           by_cases : (i ≡ row k) ⊎ (i ≡ row k → ⊥) → right (suc k) i ≡ right k i
           by_cases (inl e) = subst (λ (x : ℕ). right (suc k) x ≡ right k x) (sym e)
-              (pivot_row R O m n (table_after R O m n t k) (row k) (col k) (n + m) ∙ ap (λ x. R.mul x (O.inv ((table_after R O m n t k).entry (row k) (col k)))) (right_null k f g)
-              ∙ R.mul_comm R.null (O.inv ((table_after R O m n t k).entry (row k) (col k))) ∙ mul-null R (O.inv ((table_after R O m n t k).entry (row k) (col k))) ∙ sym (right_null k f g))
-          by_cases (inr d) = other_row R O m n (table_after R O m n t k) (row k) (col k) i (n + m) d
-              ∙ ap (λ x. difference R (right k i) (R.mul x (R.mul ((table_after R O m n t k).entry i (col k)) (O.inv ((table_after R O m n t k).entry (row k) (col k)))))) (right_null k f g)
-              ∙ ring R (right k i ∷ R.mul ((table_after R O m n t k).entry i (col k)) (O.inv ((table_after R O m n t k).entry (row k) (col k))) ∷ []) (plus (v 0) (minus (times nil (v 1)))) (v 0) refl
+              (pivot_row F m n (table_after F m n t k) (row k) (col k) (n + m) ∙ ap (λ x. F.ring.mul x (F.order.inv ((table_after F m n t k).entry (row k) (col k)))) (right_null k f g)
+              ∙ F.ring.mul_comm F.ring.null (F.order.inv ((table_after F m n t k).entry (row k) (col k))) ∙ mul-null F.ring (F.order.inv ((table_after F m n t k).entry (row k) (col k))) ∙ sym (right_null k f g))
+          by_cases (inr d) = other_row F m n (table_after F m n t k) (row k) (col k) i (n + m) d
+              ∙ ap (λ x. difference F.ring (right k i) (F.ring.mul x (F.ring.mul ((table_after F m n t k).entry i (col k)) (F.order.inv ((table_after F m n t k).entry (row k) (col k)))))) (right_null k f g)
+              ∙ ring F.ring (right k i ∷ F.ring.mul ((table_after F m n t k).entry i (col k)) (F.order.inv ((table_after F m n t k).entry (row k) (col k))) ∷ []) (plus (v 0) (minus (times nil (v 1)))) (v 0) refl
 
       right_same : (d i : ℕ) → a + d ≤ b → right (a + d) i ≡ right a i
       right_same zero i l = ap (λ x. right x i) here
@@ -182,13 +181,13 @@ module _ {A : Type 0} (R : Ring A) (O : Order R) (m n : ℕ) where
       abbrev Goes : ℕ → Type 0
       Goes x = (k : ℕ) × (a ≤ k) × (k < b) × (base k (row k) ≡ x)
 
-      goes_or_stays : (i k : ℕ) → i < m → a ≤ k → k ≤ b → ((Goes (base k i)) × (right k i ≡ R.null)) ⊎ ((j : ℕ) → a ≤ j → j ≤ b → base j i ≡ base k i)
+      goes_or_stays : (i k : ℕ) → i < m → a ≤ k → k ≤ b → ((Goes (base k i)) × (right k i ≡ F.ring.null)) ⊎ ((j : ℕ) → a ≤ j → j ≤ b → base j i ≡ base k i)
       goes_or_stays i k hi f g = by_cases (moves_between i k b g) (moves_between i a k f)
         where
-          gone : (j : ℕ) → a ≤ j → j < b → row j ≡ i → base j i ≡ base k i → (Goes (base k i)) × (right k i ≡ R.null)
+          gone : (j : ℕ) → a ≤ j → j < b → row j ≡ i → base j i ≡ base k i → (Goes (base k i)) × (right k i ≡ F.ring.null)
           gone j x y e q = ((j, x, y, ap (base j) e ∙ q), right_at k j i f g x (omega arith) ∙ ap (right j) (sym e) ∙ right_null j x y)
 
-          by_cases : (Moves i k b) ⊎ (Keeps i k b) → (Moves i a k) ⊎ (Keeps i a k) → ((Goes (base k i)) × (right k i ≡ R.null)) ⊎ ((j : ℕ) → a ≤ j → j ≤ b → base j i ≡ base k i)
+          by_cases : (Moves i k b) ⊎ (Keeps i k b) → (Moves i a k) ⊎ (Keeps i a k) → ((Goes (base k i)) × (right k i ≡ F.ring.null)) ⊎ ((j : ℕ) → a ≤ j → j ≤ b → base j i ≡ base k i)
           by_cases (inl s) _ = inl (gone s.0 (omega (arith, s.1)) s.2 s.3 s.4)
           by_cases (inr s) (inl u) = inl (gone u.0 u.1 (omega (arith, u.2)) u.3 (u.4 ∙ again i hi ∙ s b g (omega arith)))
           by_cases (inr s) (inr u) = inr (λ j x y. split j x y (cases_lt j k))
@@ -263,7 +262,7 @@ module _ {A : Type 0} (R : Ring A) (O : Order R) (m n : ℕ) where
             other : top ≢ col P
             other = fresh P (row P) (omega arith) rP
 
-            by_cases : ((Goes (base (suc P) (row P))) × (right (suc P) (row P) ≡ R.null)) ⊎ ((j : ℕ) → a ≤ j → j ≤ b → base j (row P) ≡ base (suc P) (row P)) → col P < top
+            by_cases : ((Goes (base (suc P) (row P))) × (right (suc P) (row P) ≡ F.ring.null)) ⊎ ((j : ℕ) → a ≤ j → j ≤ b → base j (row P) ≡ base (suc P) (row P)) → col P < top
             by_cases (inl g) = let l : base (suc P) (row P) ≤ top = goes_least (base (suc P) (row P)) g.0 in let e : base (suc P) (row P) ≡ col P = moved P in between l e
               where
                 between : base (suc P) (row P) ≤ top → base (suc P) (row P) ≡ col P → col P < top
@@ -281,79 +280,79 @@ module _ {A : Type 0} (R : Ring A) (O : Order R) (m n : ℕ) where
 
         module _ (Q : ℕ) (fQ : a ≤ Q) (gQ : Q < b) (eQ : col Q ≡ top) where
           abbrev cost : ℕ → ℕ → A
-          cost k j = (table_after R O m n t k).entry m j
+          cost k j = (table_after F m n t k).entry m j
 
           abbrev at_entering : ℕ → A
-          at_entering i = (table_after R O m n t P).entry i (col P)
+          at_entering i = (table_after F m n t P).entry i (col P)
 
           top_column : top < n
           top_column = subst (λ (x : ℕ). x < n) eQ (enters Q (omega arith)).column
 
-          top_below : IsBelowZero R O (cost Q top)
-          top_below = subst (λ (x : ℕ). IsBelowZero R O (cost Q x)) eQ (enters Q (omega arith)).below
+          top_below : IsBelowZero F (cost Q top)
+          top_below = subst (λ (x : ℕ). IsBelowZero F (cost Q x)) eQ (enters Q (omega arith)).below
 
-          lesser : (x : ℕ) → x < top → IsAtLeastZero R O (cost Q x)
+          lesser : (x : ℕ) → x < top → IsAtLeastZero F (cost Q x)
           lesser x l = (enters Q (omega arith)).first x (subst (λ (y : ℕ). x < y) (sym eQ) l)
 
           abbrev term : ℕ → A
-          term i = R.mul (difference R (cost Q (base P i)) (cost_of R O m n (base P i))) (at_entering i)
+          term i = F.ring.mul (difference F.ring (cost Q (base P i)) (cost_of F m n (base P i))) (at_entering i)
 
-          sum_neg : (f : ℕ → A) → sum_to R m (λ i. R.neg (f i)) ≡ R.neg (sum_to R m f)
-          sum_neg f = sum_same R m (λ i. R.neg (f i)) (λ i. R.mul (R.neg R.unit) (f i)) (λ i _. ring R (f i ∷ []) (minus (v 0)) (times (minus one) (v 0)) refl)
-              ∙ sum_times_left R m f (R.neg R.unit) ∙ ring R (sum_to R m f ∷ []) (times (minus one) (v 0)) (minus (v 0)) refl
+          sum_neg : (f : ℕ → A) → sum_to F.ring m (λ i. F.ring.neg (f i)) ≡ F.ring.neg (sum_to F.ring m f)
+          sum_neg f = sum_same F.ring m (λ i. F.ring.neg (f i)) (λ i. F.ring.mul (F.ring.neg F.ring.unit) (f i)) (λ i _. ring F.ring (f i ∷ []) (minus (v 0)) (times (minus one) (v 0)) refl)
+              ∙ sum_times_left F.ring m f (F.ring.neg F.ring.unit) ∙ ring F.ring (sum_to F.ring m f ∷ []) (times (minus one) (v 0)) (minus (v 0)) refl
 
-          sum_is : sum_to R m term ≡ R.add (cost Q (col P)) (R.neg (cost P (col P)))
+          sum_is : sum_to F.ring m term ≡ F.ring.add (cost Q (col P)) (F.ring.neg (cost P (col P)))
           sum_is =
-              sum_same R m term (λ i. R.add (R.mul (cost Q (base P i)) (at_entering i)) (R.neg (R.mul (cost_of R O m n (base P i)) (at_entering i))))
-              (λ i _. ring R (cost Q (base P i) ∷ cost_of R O m n (base P i) ∷ at_entering i ∷ []) (times (plus (v 0) (minus (v 1))) (v 2)) (plus (times (v 0) (v 2)) (minus (times (v 1) (v 2)))) refl)
-              ∙ sum_add R m (λ i. R.mul (cost Q (base P i)) (at_entering i)) (λ i. R.neg (R.mul (cost_of R O m n (base P i)) (at_entering i)))
-              ∙ ap₂ R.add (sym (row_by_basis R O m n p (table_after R O m n t P) (table_after R O m n t Q) (holds P (omega arith)) (holds Q (omega arith)) m (col P) (omega arith)))
-              (sum_neg (λ i. R.mul (cost_of R O m n (base P i)) (at_entering i)) ∙ ap R.neg (sym ((holds P (omega arith)).costs (col P))))
+              sum_same F.ring m term (λ i. F.ring.add (F.ring.mul (cost Q (base P i)) (at_entering i)) (F.ring.neg (F.ring.mul (cost_of F m n (base P i)) (at_entering i))))
+              (λ i _. ring F.ring (cost Q (base P i) ∷ cost_of F m n (base P i) ∷ at_entering i ∷ []) (times (plus (v 0) (minus (v 1))) (v 2)) (plus (times (v 0) (v 2)) (minus (times (v 1) (v 2)))) refl)
+              ∙ sum_add F.ring m (λ i. F.ring.mul (cost Q (base P i)) (at_entering i)) (λ i. F.ring.neg (F.ring.mul (cost_of F m n (base P i)) (at_entering i)))
+              ∙ ap₂ F.ring.add (sym (row_by_basis F m n p (table_after F m n t P) (table_after F m n t Q) (holds P (omega arith)) (holds Q (omega arith)) m (col P) (omega arith)))
+              (sum_neg (λ i. F.ring.mul (cost_of F m n (base P i)) (at_entering i)) ∙ ap F.ring.neg (sym ((holds P (omega arith)).costs (col P))))
 
-          sum_above : IsAboveZero R O (sum_to R m term)
-          sum_above = subst (IsAboveZero R O) (sym sum_is) (add-above R O (cost Q (col P)) (R.neg (cost P (col P))) (lesser (col P) entering_less)
-              (neg-above R O (cost P (col P)) (enters P (omega arith)).below))
+          sum_above : IsAboveZero F (sum_to F.ring m term)
+          sum_above = subst (IsAboveZero F) (sym sum_is) (add-above F (cost Q (col P)) (F.ring.neg (cost P (col P))) (lesser (col P) entering_less)
+              (neg-above F (cost P (col P)) (enters P (omega arith)).below))
 
-          no_term : (i : ℕ) → i < m → IsAboveZero R O (term i) → ⊥
+          no_term : (i : ℕ) → i < m → IsAboveZero F (term i) → ⊥
           no_term i hi g = by_cases (goes_or_stays i P hi fP (omega arith))
             where
-              none : (x y e : A) → x ≡ y → R.mul (difference R x y) e ≡ R.null
-              none x y e q = ap (λ z. R.mul (difference R z y) e) q ∙ ring R (y ∷ e ∷ []) (times (plus (v 0) (minus (v 0))) (v 1)) nil refl
+              none : (x y e : A) → x ≡ y → F.ring.mul (difference F.ring x y) e ≡ F.ring.null
+              none x y e q = ap (λ z. F.ring.mul (difference F.ring z y) e) q ∙ ring F.ring (y ∷ e ∷ []) (times (plus (v 0) (minus (v 0))) (v 1)) nil refl
 
               -- the term where the cost at P is 0
-              plain : base P i ≤ top → term i ≡ R.mul (cost Q (base P i)) (at_entering i)
-              plain l = ap (λ d. R.mul (difference R (cost Q (base P i)) (cond d R.null (R.neg R.unit))) (at_entering i)) (lt-ltb (base P i) n (let c : top < n = top_column in omega arith))
-                  ∙ ring R (cost Q (base P i) ∷ at_entering i ∷ []) (times (plus (v 0) (minus nil)) (v 1)) (times (v 0) (v 1)) refl
+              plain : base P i ≤ top → term i ≡ F.ring.mul (cost Q (base P i)) (at_entering i)
+              plain l = ap (λ d. F.ring.mul (difference F.ring (cost Q (base P i)) (cond d F.ring.null (F.ring.neg F.ring.unit))) (at_entering i)) (lt-ltb (base P i) n (let c : top < n = top_column in omega arith))
+                  ∙ ring F.ring (cost Q (base P i) ∷ at_entering i ∷ []) (times (plus (v 0) (minus nil)) (v 1)) (times (v 0) (v 1)) refl
 
-              product_neg : (x e : A) → IsAtLeastZero R O (R.neg x) → IsAtLeastZero R O e → IsAboveZero R O (R.mul x e) → ⊥
-              product_neg x e hx he k = not_both R O (R.neg (R.mul x e)) k (subst (IsAtLeastZero R O) (ring R (x ∷ e ∷ []) (times (minus (v 0)) (v 1)) (minus (times (v 0) (v 1))) refl) (O.mul-least (R.neg x) e hx he))
+              product_neg : (x e : A) → IsAtLeastZero F (F.ring.neg x) → IsAtLeastZero F e → IsAboveZero F (F.ring.mul x e) → ⊥
+              product_neg x e hx he k = not_both F (F.ring.neg (F.ring.mul x e)) k (subst (IsAtLeastZero F) (ring F.ring (x ∷ e ∷ []) (times (minus (v 0)) (v 1)) (minus (times (v 0) (v 1))) refl) (F.order.mul-least (F.ring.neg x) e hx he))
 
-              product_neg_right : (x e : A) → IsAtLeastZero R O x → IsAtLeastZero R O (R.neg e) → IsAboveZero R O (R.mul x e) → ⊥
-              product_neg_right x e hx he k = not_both R O (R.neg (R.mul x e)) k (subst (IsAtLeastZero R O) (ring R (x ∷ e ∷ []) (times (v 0) (minus (v 1))) (minus (times (v 0) (v 1))) refl) (O.mul-least x (R.neg e) hx he))
+              product_neg_right : (x e : A) → IsAtLeastZero F x → IsAtLeastZero F (F.ring.neg e) → IsAboveZero F (F.ring.mul x e) → ⊥
+              product_neg_right x e hx he k = not_both F (F.ring.neg (F.ring.mul x e)) k (subst (IsAtLeastZero F) (ring F.ring (x ∷ e ∷ []) (times (v 0) (minus (v 1))) (minus (times (v 0) (v 1))) refl) (F.order.mul-least x (F.ring.neg e) hx he))
 
-              null_ratio : (k : ℕ) → right P k ≡ R.null → ratio R O m n (table_after R O m n t P) (col P) k ≡ R.null
-              null_ratio k e = ap (λ x. R.mul x (O.inv (at_entering k))) e ∙ R.mul_comm R.null (O.inv (at_entering k)) ∙ mul-null R (O.inv (at_entering k))
+              null_ratio : (k : ℕ) → right P k ≡ F.ring.null → ratio F m n (table_after F m n t P) (col P) k ≡ F.ring.null
+              null_ratio k e = ap (λ x. F.ring.mul x (F.order.inv (at_entering k))) e ∙ F.ring.mul_comm F.ring.null (F.order.inv (at_entering k)) ∙ mul-null F.ring (F.order.inv (at_entering k))
 
-              less_top : base P i < top → right P i ≡ R.null → IsAboveZero R O (R.mul (cost Q (base P i)) (at_entering i)) → (IsAtLeastZero R O (R.neg (at_entering i))) ⊎ (IsAboveZero R O (at_entering i)) → ⊥
+              less_top : base P i < top → right P i ≡ F.ring.null → IsAboveZero F (F.ring.mul (cost Q (base P i)) (at_entering i)) → (IsAtLeastZero F (F.ring.neg (at_entering i))) ⊎ (IsAboveZero F (at_entering i)) → ⊥
               less_top l z k (inl q) = product_neg_right (cost Q (base P i)) (at_entering i) (lesser (base P i) l) q k
               less_top l z k (inr q) =
                   let w : top ≤ base P i = (leaves P (omega arith)).first i hi q (null_ratio i z ∙ sym (null_ratio (row P) (right_null P fP gP))) in absurd (omega arith)
 
-              by_cases : ((Goes (base P i)) × (right P i ≡ R.null)) ⊎ ((j : ℕ) → a ≤ j → j ≤ b → base j i ≡ base P i) → ⊥
-              by_cases (inr u) = above-apart R O (term i) g (none (cost Q (base P i)) (cost_of R O m n (base P i)) (at_entering i)
-                  (ap (cost Q) (sym (u Q fQ (omega arith))) ∙ basic_cost R O m n p (table_after R O m n t Q) (holds Q (omega arith)) i hi ∙ ap (cost_of R O m n) (u Q fQ (omega arith))))
+              by_cases : ((Goes (base P i)) × (right P i ≡ F.ring.null)) ⊎ ((j : ℕ) → a ≤ j → j ≤ b → base j i ≡ base P i) → ⊥
+              by_cases (inr u) = above-apart F (term i) g (none (cost Q (base P i)) (cost_of F m n (base P i)) (at_entering i)
+                  (ap (cost Q) (sym (u Q fQ (omega arith))) ∙ basic_cost F m n p (table_after F m n t Q) (holds Q (omega arith)) i hi ∙ ap (cost_of F m n) (u Q fQ (omega arith))))
               by_cases (inl s) = split (cases_eq (base P i) top) (goes_least (base P i) s.0)
                 where
                   split : (base P i ≡ top) ⊎ (base P i ≡ top → ⊥) → base P i ≤ top → ⊥
                   split (inl e) l =
-                      let same : i ≡ row P = distinct R O m n p (table_after R O m n t P) (holds P (omega arith)) i (row P) hi rP e in
-                      product_neg (cost Q top) (at_entering (row P)) (below-neg R O (cost Q top) top_below) (above-least R O (at_entering (row P)) (leaves P (omega arith)).above)
-                      (subst (λ (k : ℕ). IsAboveZero R O (R.mul (cost Q (base P k)) (at_entering k))) same (subst (IsAboveZero R O) (plain l) g))
-                  split (inr d) l = less_top (omega arith) s.1 (subst (IsAboveZero R O) (plain l) g) (cases_Bool (O.is_least (R.neg (at_entering i))))
+                      let same : i ≡ row P = distinct F m n p (table_after F m n t P) (holds P (omega arith)) i (row P) hi rP e in
+                      product_neg (cost Q top) (at_entering (row P)) (below-neg F (cost Q top) top_below) (above-least F (at_entering (row P)) (leaves P (omega arith)).above)
+                      (subst (λ (k : ℕ). IsAboveZero F (F.ring.mul (cost Q (base P k)) (at_entering k))) same (subst (IsAboveZero F) (plain l) g))
+                  split (inr d) l = less_top (omega arith) s.1 (subst (IsAboveZero F) (plain l) g) (cases_Bool (F.order.is_least (F.ring.neg (at_entering i))))
 
           contradiction : ⊥
           contradiction =
-              let s = some_below R O m (λ i. R.neg (term i)) (sym (ap O.is_least (sym (sum_neg term))) ∙ sum_above) in no_term s.0 s.1 s.2
+              let s = some_below F m (λ i. F.ring.neg (term i)) (sym (ap F.order.is_least (sym (sum_neg term))) ∙ sum_above) in no_term s.0 s.1 s.2
 
       pub never_again : ⊥
       never_again = by_cases (greatest (b - a - 1) (omega arith))

@@ -3,8 +3,7 @@
 use Rattle.std.proofs.Common.{◌≡◌, ℕ, pos, negsuc, List, [], ◌∷◌, refl, map}
 use Rattle.it_number.specs.Gcd.{gcd, gcd_within}
 use Rattle.it_rational.specs.Rational.{Rational, quotient}
-use Rattle.it_rational.proofs.RationalLaws.{ring_ℚ}
-use Rattle.it_rational.proofs.Field.{order_ℚ}
+use Rattle.it_rational.proofs.Field.{field_ℚ}
 use Rattle.it_space.specs.Rows.{Terms}
 use Rattle.it_tableau.specs.Tables.{Table}
 use Rattle.it_tableau.specs.Problems.{feasibility_problem, start_of}
@@ -16,10 +15,10 @@ coordinates = 1 ∷ 2 ∷ 3 ∷ []
 
 -- the column that enters and the row that leaves
 abbrev choice : Table Rational → ℕ × ℕ
-choice t = (entering ring_ℚ order_ℚ 3 3 t, leaving ring_ℚ order_ℚ 3 3 t (entering ring_ℚ order_ℚ 3 3 t))
+choice t = (entering field_ℚ 3 3 t, leaving field_ℚ 3 3 t (entering field_ℚ 3 3 t))
 
 abbrev after : Table Rational → Table Rational
-after = next ring_ℚ order_ℚ 3 3
+after = next field_ℚ 3 3
 
 abbrev elementals : List Terms
 elementals = ((2, negsuc 0) ∷ (3, pos 1) ∷ []) ∷ ((1, negsuc 0) ∷ (3, pos 1) ∷ []) ∷ ((1, pos 1) ∷ (2, pos 1) ∷ (3, negsuc 0) ∷ []) ∷ []
@@ -38,7 +37,7 @@ second_choice : choice (after first) ≡ (0, 0)
 unfolding quotient gcd gcd_within
 second_choice = refl
 
-last_column : entering ring_ℚ order_ℚ 3 3 (after (after first)) ≡ 3
+last_column : entering field_ℚ 3 3 (after (after first)) ≡ 3
 unfolding quotient gcd gcd_within
 last_column = refl
 
@@ -46,6 +45,6 @@ last_right : ((after (after first)).entry 3 6).num ≡ negsuc 0
 unfolding quotient gcd gcd_within
 last_right = refl
 
-last_point : map (λ q. q.num) (point ring_ℚ order_ℚ 3 3 (feasibility_problem coordinates elementals target) (after (after first))) ≡ pos 0 ∷ pos 1 ∷ pos 1 ∷ []
+last_point : map (λ q. q.num) (point field_ℚ 3 3 (feasibility_problem coordinates elementals target) (after (after first))) ≡ pos 0 ∷ pos 1 ∷ pos 1 ∷ []
 unfolding quotient gcd gcd_within
 last_point = refl

@@ -1,7 +1,7 @@
 -- The end of a run by recursion on its budget is its end at the first number of steps.
 use Rattle.std.proofs.Common.{◌≡◌, ◌≢◌, ◌⊎◌, inl, inr, ℕ, zero, suc, ◌+◌, ◌-◌, ◌<◌, ◌≤◌, Option, Some, None, refl, sym, ap, subst, ◌∙◌, arith}
 use Rattle.std.proofs.lemmas.Bool.{cases_eq, cases_lt}
-use Rattle.it_run.specs.Runs.{RunEndView, EndsAs, EndsBy, EndsUnbound, IsWithinBudget, after, told, told_number}
+use Rattle.it_run.specs.Runs.{RunEndView, EndsAs, EndsBy, EndsUnbound, IsWithinBudget, after, clip_end, clip_number}
 use Rattle.it_run.specs.Runs.RunEndView.{Weights, Point, Width}
 use Rattle.it_run.specs.FirstEnds.{EndsAt, EndsFirst, GoesOn, IsBudget}
 
@@ -56,7 +56,7 @@ module _ {S W P : Type 0} (IsDone IsStuck Fits : S → Type 0) (next : S → S) 
 
       by_cases : ((¬ (Fits (state s k)) × (e ≡ Width (suc k))) ⊎ (Fits (state s k) × Run left (suc k) (next (state s k)) e))
           → (Fits (state s k) → Run left (suc k) (state s (suc k)) e → First (Some b) s e) → First (Some b) s e
-      by_cases (inl f) ih = let y : suc k ≡ told_number (suc k) = omega arith in record {
+      by_cases (inl f) ih = let y : suc k ≡ clip_number (suc k) = omega arith in record {
         steps = k;
         before = h;
         here = inr (inr (inr (r.0, r.1, apart, f.0, subst (λ (x : ℕ). e ≡ Width x) y f.1)));
@@ -64,17 +64,17 @@ module _ {S W P : Type 0} (IsDone IsStuck Fits : S → Type 0) (next : S → S) 
       by_cases (inr f) ih = ih f.0 f.1
 
   -- without one
-  first_free : (left k : ℕ) (s : S) (d e : RunEndView W P) → IsWithinBudget d → e ≡ told d → ((j : ℕ) → j < k → On None j (state s j)) → Run left k (state s k) d → First None s e
-  first_free zero k s d e w t h (inl r) = record { steps = k; before = h; here = inl (r.0, t ∙ ap told r.1) }
-  first_free zero k s d e w t h (inr (inl r)) = record { steps = k; before = h; here = inr (inl (r.0, r.1, t ∙ ap told r.2)) }
+  first_free : (left k : ℕ) (s : S) (d e : RunEndView W P) → IsWithinBudget d → e ≡ clip_end d → ((j : ℕ) → j < k → On None j (state s j)) → Run left k (state s k) d → First None s e
+  first_free zero k s d e w t h (inl r) = record { steps = k; before = h; here = inl (r.0, t ∙ ap clip_end r.1) }
+  first_free zero k s d e w t h (inr (inl r)) = record { steps = k; before = h; here = inr (inl (r.0, r.1, t ∙ ap clip_end r.2)) }
   first_free zero k s d e w t h (inr (inr r)) = absurd (subst IsWithinBudget r.2 w)
-  first_free (suc left) k s d e w t h (inl r) = record { steps = k; before = h; here = inl (r.0, t ∙ ap told r.1) }
-  first_free (suc left) k s d e w t h (inr (inl r)) = record { steps = k; before = h; here = inr (inl (r.0, r.1, t ∙ ap told r.2)) }
+  first_free (suc left) k s d e w t h (inl r) = record { steps = k; before = h; here = inl (r.0, t ∙ ap clip_end r.1) }
+  first_free (suc left) k s d e w t h (inr (inl r)) = record { steps = k; before = h; here = inr (inl (r.0, r.1, t ∙ ap clip_end r.2)) }
   first_free (suc left) k s d e w t h (inr (inr r)) = by_cases r.2 (λ f. first_free left (suc k) s d e w t (one_longer None s k h (r.0, r.1, none_some k, f)))
     where
       by_cases : ((¬ (Fits (state s k)) × (d ≡ Width (suc k))) ⊎ (Fits (state s k) × Run left (suc k) (next (state s k)) d))
           → (Fits (state s k) → Run left (suc k) (state s (suc k)) d → First None s e) → First None s e
-      by_cases (inl f) ih = record { steps = k; before = h; here = inr (inr (inr (r.0, r.1, none_some k, f.0, t ∙ ap told f.1))) }
+      by_cases (inl f) ih = record { steps = k; before = h; here = inr (inr (inr (r.0, r.1, none_some k, f.0, t ∙ ap clip_end f.1))) }
       by_cases (inr f) ih = ih f.0 f.1
 
   -- back from step k to the first
@@ -93,10 +93,10 @@ module _ {S W P : Type 0} (IsDone IsStuck Fits : S → Type 0) (next : S → S) 
   free_first s e f = by_cases f.here
     where
       by_cases : At None f.steps (state s f.steps) e → EndsUnbound IsDone IsStuck Fits next weights point s e
-      by_cases (inl r) = record { budget = f.steps + 0; end = Weights (weights (state s f.steps)); runs = back None 0 f.steps s (Weights (weights (state s f.steps))) f.before (inl (r.0, refl)); within = tt; is_told = r.1 }
-      by_cases (inr (inl r)) = record { budget = f.steps + 0; end = Point (point (state s f.steps)); runs = back None 0 f.steps s (Point (point (state s f.steps))) f.before (inr (inl (r.0, r.1, refl))); within = tt; is_told = r.2 }
+      by_cases (inl r) = record { budget = f.steps + 0; end = Weights (weights (state s f.steps)); runs = back None 0 f.steps s (Weights (weights (state s f.steps))) f.before (inl (r.0, refl)); within = tt; is_clipped = r.1 }
+      by_cases (inr (inl r)) = record { budget = f.steps + 0; end = Point (point (state s f.steps)); runs = back None 0 f.steps s (Point (point (state s f.steps))) f.before (inr (inl (r.0, r.1, refl))); within = tt; is_clipped = r.2 }
       by_cases (inr (inr (inl r))) = absurd (none_some f.steps r.2)
-      by_cases (inr (inr (inr r))) = record { budget = f.steps + 1; end = Width (suc f.steps); runs = back None 1 f.steps s (Width (suc f.steps)) f.before (inr (inr (r.0, r.1, inl (r.3, refl)))); within = tt; is_told = r.4 }
+      by_cases (inr (inr (inr r))) = record { budget = f.steps + 1; end = Width (suc f.steps); runs = back None 1 f.steps s (Width (suc f.steps)) f.before (inr (inr (r.0, r.1, inl (r.3, refl)))); within = tt; is_clipped = r.4 }
 
   bound_first : (b : ℕ) (s : S) (e : RunEndView W P) → b ≤ 4294967295 → First (Some b) s e → Run b 0 s e
   bound_first b s e u f = by_cases (cases_lt b f.steps) (b - f.steps) refl f.here
@@ -113,10 +113,10 @@ module _ {S W P : Type 0} (IsDone IsStuck Fits : S → Type 0) (next : S → S) 
       by_cases (inr l) zero q (inr (inr (inl r))) = all zero l q (inr (inr (r.0, r.1, r.3)))
       by_cases (inr l) (suc x) q (inr (inr (inl r))) = let y : b ≡ f.steps = same_number b f.steps r.2 in absurd (omega arith)
       by_cases (inr l) zero q (inr (inr (inr r))) = absurd (r.2 (ap (λ (y : ℕ). Some y) (let y : b ≡ f.steps = omega arith in y)))
-      by_cases (inr l) (suc x) q (inr (inr (inr r))) = let y : told_number (suc f.steps) ≡ suc f.steps = omega arith in
+      by_cases (inr l) (suc x) q (inr (inr (inr r))) = let y : clip_number (suc f.steps) ≡ suc f.steps = omega arith in
           all (suc x) l q (inr (inr (r.0, r.1, inl (r.3, subst (λ (z : ℕ). e ≡ Width z) y r.4))))
 
   pub ends_are_first : (budget : Option ℕ) (s : S) (e : RunEndView W P) → IsBudget budget
       → (EndsBy IsDone IsStuck Fits next weights point budget s e → First budget s e) × (First budget s e → EndsBy IsDone IsStuck Fits next weights point budget s e)
   ends_are_first (Some b) s e u = (λ r. first_bound b b 0 s e u (omega arith) (λ j l. absurd (omega arith)) r, λ f. bound_first b s e u f)
-  ends_are_first None s e u = (λ r. first_free r.budget 0 s r.end e r.within r.is_told (λ j l. absurd (omega arith)) r.runs, λ f. free_first s e f)
+  ends_are_first None s e u = (λ r. first_free r.budget 0 s r.end e r.within r.is_clipped (λ j l. absurd (omega arith)) r.runs, λ f. free_first s e f)

@@ -1,7 +1,6 @@
 -- A run has one end, and what its steps keep holds there.
 use Rattle.std.proofs.Common.{ap, List, ◌≡◌, ◌⊎◌, inl, inr, ℕ, zero, suc, ◌+◌, ◌<◌, ◌≤◌, refl, sym, ◌∙◌, subst, arith}
-use Rattle.it_number.specs.Rings.{Ring}
-use Rattle.it_rational.specs.OrderedFields.{Order}
+use Rattle.it_rational.specs.OrderedFields.{OrderedField}
 use Rattle.it_tableau.specs.Tables.{Table, FeasibilityProblem, start}
 use Rattle.it_tableau.specs.Invariants.{HasInvariants}
 use Rattle.it_tableau.proofs.Kept.{kept}
@@ -75,13 +74,13 @@ module _ {S W P : Type 0} (IsDone IsStuck Fits : S → Type 0) (next : S → S) 
         last (inl a) ih = came (suc left) k s (Width (suc k)) e a.1 (omega arith, omega arith)
         last (inr a) ih = further left k e (ih a.1)
 
-module _ {A : Type 0} (R : Ring A) (O : Order R) (m n : ℕ) where
+module _ {A : Type 0} (F : OrderedField A) (m n : ℕ) where
   -- a step of the run keeps what every table keeps
-  pub next_holds : (p : FeasibilityProblem A) (t : Table A) → HasInvariants R O m n p t → ¬ (IsStuck R O m n t) → HasInvariants R O m n p (next R O m n t)
+  pub next_holds : (p : FeasibilityProblem A) (t : Table A) → HasInvariants F m n p t → ¬ (IsStuck F m n t) → HasInvariants F m n p (next F m n t)
   next_holds p t h s =
-      let e = entering_is R O m n t (some_column R O m n t s) in
-      let l = leaving_is R O m n p t (entering R O m n t) h e.below in
-      kept R O m n p t (leaving R O m n t (entering R O m n t)) (entering R O m n t) h (may_enter R O m n t (entering R O m n t) (leaving R O m n t (entering R O m n t)) e l)
+      let e = entering_is F m n t (some_column F m n t s) in
+      let l = leaving_is F m n p t (entering F m n t) h e.below in
+      kept F m n p t (leaving F m n t (entering F m n t)) (entering F m n t) h (may_enter F m n t (entering F m n t) (leaving F m n t (entering F m n t)) e l)
 
 -- what is read off the last table of a run
 module _ {S W P : Type 0} (IsDone IsStuck Fits : S → Type 0) (next : S → S) (weights : S → W) (point : S → P) where
@@ -105,22 +104,22 @@ module _ {S W P : Type 0} (IsDone IsStuck Fits : S → Type 0) (next : S → S) 
       last (inl a) ih = inl (a.0, ap read a.1)
       last (inr a) ih = inr (a.0, ih a.1)
 
-module _ {A : Type 0} (R : Ring A) (O : Order R) (m n : ℕ) where
+module _ {A : Type 0} (F : OrderedField A) (m n : ℕ) where
   abbrev pub EndIsRight : FeasibilityProblem A → RunEndView (List (ℕ × A)) (List A) → Type 0
-  EndIsRight p (Weights ws) = SumsUp R O m n p ws
-  EndIsRight p (Point q) = Separates R O m n p q
+  EndIsRight p (Weights ws) = SumsUp F m n p ws
+  EndIsRight p (Point q) = Separates F m n p q
   EndIsRight p (Pivots j) = Unit {0}
   EndIsRight p (Width j) = Unit {0}
 
   -- the end of a run from the start is right
   pub run_right : (Fits : Table A → Type 0) (p : FeasibilityProblem A) (budget : ℕ) (e : RunEndView (List (ℕ × A)) (List A))
-      → EndsAs (IsDone R O m n) (IsStuck R O m n) Fits (next R O m n) (weights R O m n) (point R O m n p) budget zero (start R O m n p) e → EndIsRight p e
+      → EndsAs (IsDone F m n) (IsStuck F m n) Fits (next F m n) (weights F m n) (point F m n p) budget zero (start F m n p) e → EndIsRight p e
   run_right Fits p budget e r = for_each e
-      (comes (IsDone R O m n) (IsStuck R O m n) Fits (next R O m n) (weights R O m n) (point R O m n p) (HasInvariants R O m n p)
-      (λ t h d s. next_holds R O m n p t h s) budget zero (start R O m n p) e (started R O m n p) r)
+      (comes (IsDone F m n) (IsStuck F m n) Fits (next F m n) (weights F m n) (point F m n p) (HasInvariants F m n p)
+      (λ t h d s. next_holds F m n p t h s) budget zero (start F m n p) e (started F m n p) r)
     where
-      for_each : (e : RunEndView (List (ℕ × A)) (List A)) → Comes (IsDone R O m n) (IsStuck R O m n) Fits (next R O m n) (weights R O m n) (point R O m n p) (HasInvariants R O m n p) budget zero e → EndIsRight p e
-      for_each (Weights w) c = subst (SumsUp R O m n p) (sym c.3) (weights_right R O m n p c.0 c.1 c.2)
-      for_each (Point w) c = subst (Separates R O m n p) (sym c.4) (point_right R O m n p c.0 c.1 c.2 c.3)
+      for_each : (e : RunEndView (List (ℕ × A)) (List A)) → Comes (IsDone F m n) (IsStuck F m n) Fits (next F m n) (weights F m n) (point F m n p) (HasInvariants F m n p) budget zero e → EndIsRight p e
+      for_each (Weights w) c = subst (SumsUp F m n p) (sym c.3) (weights_right F m n p c.0 c.1 c.2)
+      for_each (Point w) c = subst (Separates F m n p) (sym c.4) (point_right F m n p c.0 c.1 c.2 c.3)
       for_each (Pivots j) c = tt
       for_each (Width j) c = tt

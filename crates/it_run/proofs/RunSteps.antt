@@ -2,8 +2,7 @@
 use Rattle.std.proofs.Common.{◌≡◌, inl, inr, ℕ, zero, suc, ◌+◌, ◌-◌, ◌<◌, refl, sym, ap, subst, ◌∙◌, arith, Some}
 use Rattle.std.proofs.lemmas.Bool.{true≢false}
 use Rattle.it_rational.specs.Rational.{Rational, is_at_least_zero}
-use Rattle.it_rational.proofs.RationalLaws.{ring_ℚ}
-use Rattle.it_rational.proofs.Field.{order_ℚ}
+use Rattle.it_rational.proofs.Field.{field_ℚ}
 use Rattle.it_tableau.specs.Tables.{Table, FeasibilityProblem, pivot}
 use Rattle.it_tableau.specs.Fits.{PivotFits}
 use Rattle.it_tableau.specs.Invariants.{HasInvariants}
@@ -18,37 +17,37 @@ use Rattle.it_run.proofs.RunLemmas.{next_holds}
 
 module _ (m n : ℕ) where
   abbrev pub Done : Table Rational → Type 0
-  Done = IsDone ring_ℚ order_ℚ m n
+  Done = IsDone field_ℚ m n
 
   abbrev pub Stuck : Table Rational → Type 0
-  Stuck = IsStuck ring_ℚ order_ℚ m n
+  Stuck = IsStuck field_ℚ m n
 
   -- the column that the search found
   pub record Found (t : Table Rational) (c : ℕ) : Type 0 where
     pub within : c < n
-    pub is : entering ring_ℚ order_ℚ m n t ≡ c
+    pub is : entering field_ℚ m n t ≡ c
 
-  pub stuck : (t : Table Rational) → entering ring_ℚ order_ℚ m n t ≡ n → IsStuck ring_ℚ order_ℚ m n t
+  pub stuck : (t : Table Rational) → entering field_ℚ m n t ≡ n → IsStuck field_ℚ m n t
   stuck t e j l = first_before (λ j. is_at_least_zero (t.entry m j)) 0 n j (omega arith) (omega arith)
 
-  pub moves : (t : Table Rational) (c : ℕ) → Found t c → ¬ (IsStuck ring_ℚ order_ℚ m n t)
+  pub moves : (t : Table Rational) (c : ℕ) → Found t c → ¬ (IsStuck field_ℚ m n t)
   moves t c f s = true≢false (sym (s c f.within) ∙ ap (λ j. is_at_least_zero (t.entry m j)) (sym f.is) ∙ first_at (λ j. is_at_least_zero (t.entry m j)) 0 n (omega (arith, f.is, f.within)))
 
   -- a table with the invariants has a row that leaves
-  pub ready : (p : FeasibilityProblem Rational) (t : Table Rational) → HasInvariants ring_ℚ order_ℚ m n p t → IsReady m n t
+  pub ready : (p : FeasibilityProblem Rational) (t : Table Rational) → HasInvariants field_ℚ m n p t → IsReady m n t
   ready p t h s =
-      let e = entering_is ring_ℚ order_ℚ m n t (some_column ring_ℚ order_ℚ m n t s) in
-      (leaving_is ring_ℚ order_ℚ m n p t (entering ring_ℚ order_ℚ m n t) h e.below).row
+      let e = entering_is field_ℚ m n t (some_column field_ℚ m n t s) in
+      (leaving_is field_ℚ m n p t (entering field_ℚ m n t) h e.below).row
 
   pub wide_ratio : (t : Table Rational) (c : ℕ) → Found t c → ¬ (RatiosFit m n t c) → IsWide m n t
   wide_ratio t c f w = (moves t c f, λ s. w (subst (RatiosFit m n t) f.is s.ratios))
 
   -- the numbers of the pivot that the step makes
-  to_step : (t : Table Rational) (c r : ℕ) → Found t c → IsLeaving m n t c (Some r) → (P : ℕ → ℕ → Type 0) → P r c → P (leaving ring_ℚ order_ℚ m n t (entering ring_ℚ order_ℚ m n t)) (entering ring_ℚ order_ℚ m n t)
-  to_step t c r f l P x = subst (λ (y : ℕ). P (leaving ring_ℚ order_ℚ m n t y) y) (sym f.is) (subst (λ (x : ℕ). P x c) (sym l.0) x)
+  to_step : (t : Table Rational) (c r : ℕ) → Found t c → IsLeaving m n t c (Some r) → (P : ℕ → ℕ → Type 0) → P r c → P (leaving field_ℚ m n t (entering field_ℚ m n t)) (entering field_ℚ m n t)
+  to_step t c r f l P x = subst (λ (y : ℕ). P (leaving field_ℚ m n t y) y) (sym f.is) (subst (λ (x : ℕ). P x c) (sym l.0) x)
 
-  from_step : (t : Table Rational) (c r : ℕ) → Found t c → IsLeaving m n t c (Some r) → (P : ℕ → ℕ → Type 0) → P (leaving ring_ℚ order_ℚ m n t (entering ring_ℚ order_ℚ m n t)) (entering ring_ℚ order_ℚ m n t) → P r c
-  from_step t c r f l P x = subst (λ (x : ℕ). P x c) l.0 (subst (λ (y : ℕ). P (leaving ring_ℚ order_ℚ m n t y) y) f.is x)
+  from_step : (t : Table Rational) (c r : ℕ) → Found t c → IsLeaving m n t c (Some r) → (P : ℕ → ℕ → Type 0) → P (leaving field_ℚ m n t (entering field_ℚ m n t)) (entering field_ℚ m n t) → P r c
+  from_step t c r f l P x = subst (λ (x : ℕ). P x c) l.0 (subst (λ (y : ℕ). P (leaving field_ℚ m n t y) y) f.is x)
 
   pub wide_pivot : (t : Table Rational) (c r : ℕ) → Found t c → IsLeaving m n t c (Some r) → ¬ (PivotFits m n t r c) → IsWide m n t
   wide_pivot t c r f l w = (moves t c f, λ fit. w (from_step t c r f l (PivotFits m n t) fit.pivot))
@@ -56,8 +55,8 @@ module _ (m n : ℕ) where
   pub step_fits : (t : Table Rational) (c r : ℕ) → Found t c → IsLeaving m n t c (Some r) → RatiosFit m n t c → PivotFits m n t r c → StepFits m n t
   step_fits t c r f l q p = record { ratios = subst (RatiosFit m n t) (sym f.is) q; pivot = to_step t c r f l (PivotFits m n t) p }
 
-  pub step_is : (t : Table Rational) (c r : ℕ) → Found t c → IsLeaving m n t c (Some r) → pivot ring_ℚ order_ℚ t r c ≡ next ring_ℚ order_ℚ m n t
-  step_is t c r f l = to_step t c r f l (λ r' c'. pivot ring_ℚ order_ℚ t r c ≡ pivot ring_ℚ order_ℚ t r' c') refl
+  pub step_is : (t : Table Rational) (c r : ℕ) → Found t c → IsLeaving m n t c (Some r) → pivot field_ℚ t r c ≡ next field_ℚ m n t
+  step_is t c r f l = to_step t c r f l (λ r' c'. pivot field_ℚ t r c ≡ pivot field_ℚ t r' c') refl
 
   -- how the loop ends or goes on
   pub run_done : (left k : ℕ) (t : Table Rational) → Done t → Reaches m n left k t (Weights t)
@@ -72,7 +71,7 @@ module _ (m n : ℕ) where
   run_wide zero k j t h d w e = absurd (omega arith)
   run_wide (suc left) k j t h d w e = inr (inr (d, w.0, inl (w.1, ap (λ x. let r : RunEndView (Table Rational) (Table Rational) = Width x in r) e)))
 
-  pub run_more : (left k : ℕ) (t s : Table Rational) (e : RunEndView (Table Rational) (Table Rational)) → 0 < left → ¬ (Done t) → ¬ (Stuck t) → StepFits m n t → s ≡ next ring_ℚ order_ℚ m n t
+  pub run_more : (left k : ℕ) (t s : Table Rational) (e : RunEndView (Table Rational) (Table Rational)) → 0 < left → ¬ (Done t) → ¬ (Stuck t) → StepFits m n t → s ≡ next field_ℚ m n t
       → Reaches m n (left - 1) (k + 1) s e → Reaches m n left k t e
   run_more zero k t s e h d u f q r = absurd (omega arith)
   run_more (suc left) k t s e h d u f q r =
@@ -88,13 +87,13 @@ module _ (m n : ℕ) where
 pub holds_next : (old new : TableauView) → IsStep old new → HoldsSome old → HoldsSome new
 holds_next old new s h = (
   h.0,
-  subst (λ (m : ℕ). HasInvariants ring_ℚ order_ℚ m new.generators h.0 (table new)) (sym s.frame.height)
-      (subst (λ (n : ℕ). HasInvariants ring_ℚ order_ℚ (height old) n h.0 (table new)) (sym s.frame.generators)
-      (subst (HasInvariants ring_ℚ order_ℚ (height old) old.generators h.0) (sym s.table_is) (next_holds ring_ℚ order_ℚ (height old) old.generators h.0 (table old) h.1 s.moves))),
+  subst (λ (m : ℕ). HasInvariants field_ℚ m new.generators h.0 (table new)) (sym s.frame.height)
+      (subst (λ (n : ℕ). HasInvariants field_ℚ (height old) n h.0 (table new)) (sym s.frame.generators)
+      (subst (HasInvariants field_ℚ (height old) old.generators h.0) (sym s.table_is) (next_holds field_ℚ (height old) old.generators h.0 (table old) h.1 s.moves))),
 )
 
 -- what the rest of the run does after a step it does from before it
-pub step_on : (old new : TableauView) (left k : ℕ) (e : RunEndView (Table Rational) (Table Rational)) → 0 < left → ¬ (IsDone ring_ℚ order_ℚ (height old) old.generators (table old)) → IsStep old new
+pub step_on : (old new : TableauView) (left k : ℕ) (e : RunEndView (Table Rational) (Table Rational)) → 0 < left → ¬ (IsDone field_ℚ (height old) old.generators (table old)) → IsStep old new
     → ReachesFrom new (left - 1) (k + 1) e → ReachesFrom old left k e
 step_on old new left k e h d s r = run_more (height old) old.generators left k (table old) (table new) e h d s.moves s.fits s.table_is
     (subst (λ (n : ℕ). Reaches (height old) n (left - 1) (k + 1) (table new) e) s.frame.generators

@@ -2,8 +2,7 @@
 use Rattle.std.proofs.Common.{◌≡◌, ℕ, zero, suc, ◌+◌, ◌<◌, ◌≤◌, Bool, true, false, cond, ◌&&◌, ltb, refl, sym, ap, ap₂, subst, ◌∙◌, ◌⊎◌, inl, inr, arith, Less, Equal, Greater, Option, Some, None, eqb}
 use Rattle.std.proofs.lemmas.Bool.{cases_lt, true≢false, eq-eqb, ne_eqb}
 use Rattle.it_rational.specs.Rational.{Rational, plus, minus, rational_cmp, is_at_least_zero}
-use Rattle.it_rational.proofs.Field.{order_ℚ}
-use Rattle.it_rational.proofs.RationalLaws.{ring_ℚ}
+use Rattle.it_rational.proofs.Field.{field_ℚ}
 use Rattle.it_rational.proofs.Signs.{cmp_less, cmp_greater, cmp_equal}
 use Rattle.it_tableau.specs.Tables.{Table, ratio}
 use Rattle.it_run.specs.Choice.{first_false, leaving_of, is_candidate, precedes}
@@ -42,21 +41,21 @@ before_greater q best b d e = let g = cmp_greater q best e in ap₂ (λ x y. con
 pub before_equal : (q best : Rational) (b d : ℕ) → rational_cmp q best ≡ Equal → is_before q b best d ≡ ltb b d
 before_equal q best b d e = let g = cmp_equal q best e in ap₂ (λ x y. cond x (y && ltb b d) true) g.0 g.1
 
-pub best_skips : (m n : ℕ) (t : Table Rational) (c i : ℕ) (best : Option (ℕ × Rational)) → is_candidate ring_ℚ order_ℚ t c i ≡ false → IsBestOf m n t c i best → IsBestOf m n t c (i + 1) best
+pub best_skips : (m n : ℕ) (t : Table Rational) (c i : ℕ) (best : Option (ℕ × Rational)) → is_candidate field_ℚ t c i ≡ false → IsBestOf m n t c i best → IsBestOf m n t c (i + 1) best
 best_skips m n t c i best o h = subst (λ (k : ℕ). IsBestOf m n t c k best) here (by_option best h)
   where
     here : suc i ≡ i + 1
     here = omega arith
 
-    same : leaving_of ring_ℚ order_ℚ m n t c (suc i) ≡ leaving_of ring_ℚ order_ℚ m n t c i
-    same = ap (λ b. cond b (cond (eqb (leaving_of ring_ℚ order_ℚ m n t c i) m) i (cond (precedes ring_ℚ order_ℚ m n t c i (leaving_of ring_ℚ order_ℚ m n t c i)) i (leaving_of ring_ℚ order_ℚ m n t c i))) (leaving_of ring_ℚ order_ℚ m n t c i)) o
+    same : leaving_of field_ℚ m n t c (suc i) ≡ leaving_of field_ℚ m n t c i
+    same = ap (λ b. cond b (cond (eqb (leaving_of field_ℚ m n t c i) m) i (cond (precedes field_ℚ m n t c i (leaving_of field_ℚ m n t c i)) i (leaving_of field_ℚ m n t c i))) (leaving_of field_ℚ m n t c i)) o
 
     by_option : (best : Option (ℕ × Rational)) → IsBestOf m n t c i best → IsBestOf m n t c (suc i) best
     by_option None h = same ∙ h
     by_option (Some b) h = (same ∙ h.0, omega (arith, h.1), h.2, h.3)
 
 pub best_takes : (m n : ℕ) (t : Table Rational) (c i : ℕ) (q : Rational) (best : Option (ℕ × Rational)) → i < m
-    → is_candidate ring_ℚ order_ℚ t c i ≡ true → q ≡ ratio ring_ℚ order_ℚ m n t c i
+    → is_candidate field_ℚ t c i ≡ true → q ≡ ratio field_ℚ m n t c i
     → IsBestOf m n t c i best → IsBestOf m n t c (i + 1) (best_after best i q t.basis)
 best_takes m n t c i q best hi o e h = subst (λ (k : ℕ). IsBestOf m n t c k (best_after best i q t.basis)) here (by_option best h)
   where
@@ -64,23 +63,23 @@ best_takes m n t c i q best hi o e h = subst (λ (k : ℕ). IsBestOf m n t c k (
     here = omega arith
 
     L : ℕ
-    L = leaving_of ring_ℚ order_ℚ m n t c i
+    L = leaving_of field_ℚ m n t c i
 
-    opened : leaving_of ring_ℚ order_ℚ m n t c (suc i) ≡ cond (eqb (leaving_of ring_ℚ order_ℚ m n t c i) m) i
-        (cond (precedes ring_ℚ order_ℚ m n t c i (leaving_of ring_ℚ order_ℚ m n t c i)) i (leaving_of ring_ℚ order_ℚ m n t c i))
-    opened = ap (λ b. cond b (cond (eqb (leaving_of ring_ℚ order_ℚ m n t c i) m) i
-        (cond (precedes ring_ℚ order_ℚ m n t c i (leaving_of ring_ℚ order_ℚ m n t c i)) i (leaving_of ring_ℚ order_ℚ m n t c i)))
-        (leaving_of ring_ℚ order_ℚ m n t c i)) o
+    opened : leaving_of field_ℚ m n t c (suc i) ≡ cond (eqb (leaving_of field_ℚ m n t c i) m) i
+        (cond (precedes field_ℚ m n t c i (leaving_of field_ℚ m n t c i)) i (leaving_of field_ℚ m n t c i))
+    opened = ap (λ b. cond b (cond (eqb (leaving_of field_ℚ m n t c i) m) i
+        (cond (precedes field_ℚ m n t c i (leaving_of field_ℚ m n t c i)) i (leaving_of field_ℚ m n t c i)))
+        (leaving_of field_ℚ m n t c i)) o
 
     by_option : (best : Option (ℕ × Rational)) → IsBestOf m n t c i best → IsBestOf m n t c (suc i) (best_after best i q t.basis)
-    by_option None h = (opened ∙ ap (λ b. cond b i (cond (precedes ring_ℚ order_ℚ m n t c i (leaving_of ring_ℚ order_ℚ m n t c i)) i (leaving_of ring_ℚ order_ℚ m n t c i))) (eq-eqb (leaving_of ring_ℚ order_ℚ m n t c i) m h), omega arith, e, o)
+    by_option None h = (opened ∙ ap (λ b. cond b i (cond (precedes field_ℚ m n t c i (leaving_of field_ℚ m n t c i)) i (leaving_of field_ℚ m n t c i))) (eq-eqb (leaving_of field_ℚ m n t c i) m h), omega arith, e, o)
     by_option (Some b) h = pick (is_before q (t.basis i) b.1 (t.basis b.0)) refl
       where
-        now : leaving_of ring_ℚ order_ℚ m n t c (suc i) ≡ cond (is_before q (t.basis i) b.1 (t.basis b.0)) i b.0
+        now : leaving_of field_ℚ m n t c (suc i) ≡ cond (is_before q (t.basis i) b.1 (t.basis b.0)) i b.0
         now = opened
-            ∙ ap (λ x. cond x i (cond (precedes ring_ℚ order_ℚ m n t c i (leaving_of ring_ℚ order_ℚ m n t c i)) i (leaving_of ring_ℚ order_ℚ m n t c i)))
-            (ne_eqb (leaving_of ring_ℚ order_ℚ m n t c i) m (λ z. omega (arith, h.0, h.1)))
-            ∙ ap (λ k. cond (precedes ring_ℚ order_ℚ m n t c i k) i k) h.0
+            ∙ ap (λ x. cond x i (cond (precedes field_ℚ m n t c i (leaving_of field_ℚ m n t c i)) i (leaving_of field_ℚ m n t c i)))
+            (ne_eqb (leaving_of field_ℚ m n t c i) m (λ z. omega (arith, h.0, h.1)))
+            ∙ ap (λ k. cond (precedes field_ℚ m n t c i k) i k) h.0
             ∙ ap₂ (λ x y. cond (is_before x (t.basis i) y (t.basis b.0)) i b.0) (sym e) (sym h.2)
 
         pick : (d : Bool) → is_before q (t.basis i) b.1 (t.basis b.0) ≡ d → IsBestOf m n t c (suc i) (cond d (Some (i, q)) (Some b))

@@ -1,9 +1,8 @@
 -- A run without a budget ends: how many steps are left to a table falls with each step.
 use Rattle.std.proofs.Common.{◌≡◌, ℕ, zero, suc, ◌+◌, ◌^◌, ◌<◌, ◌≤◌, Bool, true, false, ltb, cond, refl, sym, ap, ◌∙◌, ◌⊎◌, inl, inr, arith}
 use Rattle.std.proofs.lemmas.Bool.{cases_lt, cases_eq, cases_Bool, ltb-true, ltb-false, true≢false}
-use Rattle.it_number.specs.Rings.{Ring}
 use Rattle.it_rational.proofs.Ordered.{not_both}
-use Rattle.it_rational.specs.OrderedFields.{Order}
+use Rattle.it_rational.specs.OrderedFields.{OrderedField}
 use Rattle.it_tableau.specs.Tables.{Table, FeasibilityProblem}
 use Rattle.it_tableau.specs.Invariants.{HasInvariants}
 use Rattle.it_run.specs.Choice.{first_false, entering, next, IsStuck}
@@ -13,12 +12,12 @@ use Rattle.it_run.proofs.RunLemmas.{next_holds}
 use Rattle.it_run.proofs.Cycle.{never_again}
 use Rattle.it_run.proofs.Pigeon.{pigeon, digits, digits_below, digits_tell}
 
-module _ {A : Type 0} (R : Ring A) (O : Order R) (m n : ℕ) where
+module _ {A : Type 0} (F : OrderedField A) (m n : ℕ) where
   -- there are no more steps than lists of basic columns
   abbrev pub most : ℕ
   most = (n + m) ^ m
 
-  basis_below : (p : FeasibilityProblem A) (t : Table A) → HasInvariants R O m n p t → (i : ℕ) → i < m → t.basis i < n + m
+  basis_below : (p : FeasibilityProblem A) (t : Table A) → HasInvariants F m n p t → (i : ℕ) → i < m → t.basis i < n + m
   basis_below p t h i l = by_cases (h.own i l)
     where
       by_cases : (t.basis i < n) ⊎ (t.basis i ≡ n + i) → t.basis i < n + m
@@ -26,43 +25,43 @@ module _ {A : Type 0} (R : Ring A) (O : Order R) (m n : ℕ) where
       by_cases (inr q) = omega arith
 
   -- some table within so many steps has no column to enter
-  pub not_always : (p : FeasibilityProblem A) (t : Table A) → HasInvariants R O m n p t → ((k : ℕ) → k ≤ most → ¬ (IsStuck R O m n (table_after R O m n t k))) → ⊥
+  pub not_always : (p : FeasibilityProblem A) (t : Table A) → HasInvariants F m n p t → ((k : ℕ) → k ≤ most → ¬ (IsStuck F m n (table_after F m n t k))) → ⊥
   not_always p t h s =
-      let q = pigeon most (λ k. digits (n + m) m (table_after R O m n t k).basis) (λ k l. digits_below (n + m) m (table_after R O m n t k).basis (basis_below p (table_after R O m n t k) (holds k l))) in
-      never_again R O m n p t h most (λ k l. s k (omega arith)) q.0 q.1 q.2 q.3
-      (digits_tell (n + m) m (table_after R O m n t q.0).basis (table_after R O m n t q.1).basis
-      (basis_below p (table_after R O m n t q.0) (holds q.0 (omega (arith, q.2, q.3)))) (basis_below p (table_after R O m n t q.1) (holds q.1 q.3)) q.4)
+      let q = pigeon most (λ k. digits (n + m) m (table_after F m n t k).basis) (λ k l. digits_below (n + m) m (table_after F m n t k).basis (basis_below p (table_after F m n t k) (holds k l))) in
+      never_again F m n p t h most (λ k l. s k (omega arith)) q.0 q.1 q.2 q.3
+      (digits_tell (n + m) m (table_after F m n t q.0).basis (table_after F m n t q.1).basis
+      (basis_below p (table_after F m n t q.0) (holds q.0 (omega (arith, q.2, q.3)))) (basis_below p (table_after F m n t q.1) (holds q.1 q.3)) q.4)
     where
-      holds : (k : ℕ) → k ≤ most → HasInvariants R O m n p (table_after R O m n t k)
+      holds : (k : ℕ) → k ≤ most → HasInvariants F m n p (table_after F m n t k)
       holds zero l = h
-      holds (suc k) l = next_holds R O m n p (table_after R O m n t k) (holds k (omega arith)) (s k (omega arith))
+      holds (suc k) l = next_holds F m n p (table_after F m n t k) (holds k (omega arith)) (s k (omega arith))
 
   -- how many steps are left to a table with no column to enter
   abbrev pub moving : Table A → Bool
-  moving t = ltb (entering R O m n t) n
+  moving t = ltb (entering F m n t) n
 
   abbrev pub steps_left : Table A → ℕ
-  steps_left t = first_false (λ k. moving (table_after R O m n t k)) 0 (suc most)
+  steps_left t = first_false (λ k. moving (table_after F m n t k)) 0 (suc most)
 
-  after_next : (t : Table A) (k : ℕ) → table_after R O m n (next R O m n t) k ≡ table_after R O m n t (suc k)
+  after_next : (t : Table A) (k : ℕ) → table_after F m n (next F m n t) k ≡ table_after F m n t (suc k)
   after_next t zero = refl
-  after_next t (suc k) = ap (next R O m n) (after_next t k)
+  after_next t (suc k) = ap (next F m n) (after_next t k)
 
-  pub stuck_if : (t : Table A) → moving t ≡ false → IsStuck R O m n t
-  stuck_if t e j l = first_before (λ j. O.is_least (t.entry m j)) 0 n j (omega arith) (let q : n ≤ entering R O m n t = ltb-false (entering R O m n t) n e in omega arith)
+  pub stuck_if : (t : Table A) → moving t ≡ false → IsStuck F m n t
+  stuck_if t e j l = first_before (λ j. F.order.is_least (t.entry m j)) 0 n j (omega arith) (let q : n ≤ entering F m n t = ltb-false (entering F m n t) n e in omega arith)
 
-  pub moving_if : (t : Table A) → ¬ (IsStuck R O m n t) → moving t ≡ true
+  pub moving_if : (t : Table A) → ¬ (IsStuck F m n t) → moving t ≡ true
   moving_if t s = by_cases (cases_Bool (moving t))
     where
       by_cases : (moving t ≡ true) ⊎ (moving t ≡ false) → moving t ≡ true
       by_cases (inl e) = e
       by_cases (inr e) = absurd (s (stuck_if t e))
 
-  pub not_stuck_if : (t : Table A) → moving t ≡ true → ¬ (IsStuck R O m n t)
-  not_stuck_if t e s = by_cases (entering_is R O m n t (ltb-true (entering R O m n t) n e))
+  pub not_stuck_if : (t : Table A) → moving t ≡ true → ¬ (IsStuck F m n t)
+  not_stuck_if t e s = by_cases (entering_is F m n t (ltb-true (entering F m n t) n e))
     where
-      by_cases : Enters R O m n t (entering R O m n t) → ⊥
-      by_cases x = not_both R O (t.entry m (entering R O m n t)) x.below (s (entering R O m n t) x.column)
+      by_cases : Enters F m n t (entering F m n t) → ⊥
+      by_cases x = not_both F (t.entry m (entering F m n t)) x.below (s (entering F m n t) x.column)
 
   -- a bound on the first false
   pub first_at_most : (f : ℕ → Bool) (k left j : ℕ) → k ≤ j → f j ≡ false → first_false f k left ≤ j
@@ -75,21 +74,21 @@ module _ {A : Type 0} (R : Ring A) (O : Order R) (m n : ℕ) where
       by_cases true q (inr c) ih = ih (omega arith)
 
   -- each step lowers it
-  pub steps_fall : (p : FeasibilityProblem A) (t : Table A) → HasInvariants R O m n p t → ¬ (IsStuck R O m n t) → steps_left (next R O m n t) < steps_left t
+  pub steps_fall : (p : FeasibilityProblem A) (t : Table A) → HasInvariants F m n p t → ¬ (IsStuck F m n t) → steps_left (next F m n t) < steps_left t
   steps_fall p t h s = by_cases (cases_lt (steps_left t) (suc most))
     where
       f : ℕ → Bool
-      f k = moving (table_after R O m n t k)
+      f k = moving (table_after F m n t k)
 
-      by_cases : (steps_left t < suc most) ⊎ (suc most ≤ steps_left t) → steps_left (next R O m n t) < steps_left t
-      by_cases (inr l) = absurd (not_always p t h (λ k q. not_stuck_if (table_after R O m n t k) (first_before (λ k. moving (table_after R O m n t k)) 0 (suc most) k (omega arith) (omega arith))))
+      by_cases : (steps_left t < suc most) ⊎ (suc most ≤ steps_left t) → steps_left (next F m n t) < steps_left t
+      by_cases (inr l) = absurd (not_always p t h (λ k q. not_stuck_if (table_after F m n t k) (first_before (λ k. moving (table_after F m n t k)) 0 (suc most) k (omega arith) (omega arith))))
       by_cases (inl l) = some (steps_left t) refl
         where
-          ends : moving (table_after R O m n t (steps_left t)) ≡ false
-          ends = first_at (λ k. moving (table_after R O m n t k)) 0 (suc most) (omega arith)
+          ends : moving (table_after F m n t (steps_left t)) ≡ false
+          ends = first_at (λ k. moving (table_after F m n t k)) 0 (suc most) (omega arith)
 
-          some : (x : ℕ) → steps_left t ≡ x → steps_left (next R O m n t) < x
-          some zero e = absurd (true≢false (sym (moving_if t s) ∙ ap (λ k. moving (table_after R O m n t k)) (sym e) ∙ ends))
+          some : (x : ℕ) → steps_left t ≡ x → steps_left (next F m n t) < x
+          some zero e = absurd (true≢false (sym (moving_if t s) ∙ ap (λ k. moving (table_after F m n t k)) (sym e) ∙ ends))
           some (suc x) e =
-              let b : steps_left (next R O m n t) ≤ x = first_at_most (λ k. moving (table_after R O m n (next R O m n t) k)) 0 (suc most) x (omega arith)
-              (ap moving (after_next t x) ∙ ap (λ k. moving (table_after R O m n t k)) (sym e) ∙ ends) in omega arith
+              let b : steps_left (next F m n t) ≤ x = first_at_most (λ k. moving (table_after F m n (next F m n t) k)) 0 (suc most) x (omega arith)
+              (ap moving (after_next t x) ∙ ap (λ k. moving (table_after F m n t k)) (sym e) ∙ ends) in omega arith

@@ -1,12 +1,11 @@
 -- A run without a budget, and how its loop ends or goes on.
 use Rattle.std.proofs.Common.{◌≡◌, ℕ, suc, ◌+◌, ◌-◌, ◌<◌, None, refl, sym, subst, arith, min}
 use Rattle.it_rational.specs.Rational.{Rational}
-use Rattle.it_rational.proofs.RationalLaws.{ring_ℚ}
-use Rattle.it_rational.proofs.Field.{order_ℚ}
+use Rattle.it_rational.proofs.Field.{field_ℚ}
 use Rattle.it_tableau.specs.TableauViews.{TableauView, height, table}
 use Rattle.it_tableau.specs.Tables.{Table}
 use Rattle.it_run.specs.Choice.{IsDone, IsStuck}
-use Rattle.it_run.specs.Runs.{RunEndView, told, told_number, IsWithinBudget}
+use Rattle.it_run.specs.Runs.{RunEndView, clip_end, clip_number, IsWithinBudget}
 use Rattle.it_run.specs.Runs.RunEndView.{Weights, Point, Width}
 use Rattle.it_run.specs.Steps.{IsStep, IsWide, HoldsSome, ReachesBy, ReachesFrom}
 use Rattle.it_run.proofs.RunSteps.{run_done, run_stuck, run_wide, step_on}
@@ -17,20 +16,20 @@ Free t e = ReachesBy (height t) t.generators None (table t) e
 
 -- so many steps are left to a tableau whose table has the invariants
 unfoldable pub left_to : TableauView → ℕ
-left_to t = steps_left ring_ℚ order_ℚ (height t) t.generators (table t)
+left_to t = steps_left field_ℚ (height t) t.generators (table t)
 
 pub left_falls : (old new : TableauView) → IsStep old new → HoldsSome old → left_to new < left_to old
 unfolding left_to
 left_falls old new s h =
-    subst (λ (m : ℕ). steps_left ring_ℚ order_ℚ m new.generators (table new) < left_to old) (sym s.frame.height)
-    (subst (λ (n : ℕ). steps_left ring_ℚ order_ℚ (height old) n (table new) < left_to old) (sym s.frame.generators)
-    (subst (λ (t : Table Rational). steps_left ring_ℚ order_ℚ (height old) old.generators t < left_to old) (sym s.table_is)
-    (steps_fall ring_ℚ order_ℚ (height old) old.generators h.0 (table old) h.1 s.moves)))
+    subst (λ (m : ℕ). steps_left field_ℚ m new.generators (table new) < left_to old) (sym s.frame.height)
+    (subst (λ (n : ℕ). steps_left field_ℚ (height old) n (table new) < left_to old) (sym s.frame.generators)
+    (subst (λ (t : Table Rational). steps_left field_ℚ (height old) old.generators t < left_to old) (sym s.table_is)
+    (steps_fall field_ℚ (height old) old.generators h.0 (table old) h.1 s.moves)))
 
 -- the run has come from one tableau to another, and the next step has this number
 pub record OnTheWay (from now : TableauView) (number : ℕ) : Type 0 where
   pub made : ℕ
-  pub number_is : number ≡ told_number (suc made)
+  pub number_is : number ≡ clip_number (suc made)
   -- what the rest of the run does from here it does from the start, with some budget
   pub back : (left : ℕ) (e : RunEndView (Table Rational) (Table Rational)) → ReachesFrom now left made e → (budget : ℕ) × ReachesFrom from budget 0 e
 
@@ -39,21 +38,21 @@ begins t = record { made = 0; number_is = refl; back = λ left e r. (left, r) }
 
 module _ (from now : TableauView) (number : ℕ) (w : OnTheWay from now number) where
   -- it ends so
-  ends : (left : ℕ) (e : RunEndView (Table Rational) (Table Rational)) → ReachesFrom now left w.made e → IsWithinBudget e → Free from (told e)
-  ends left e r i = let b = w.back left e r in record { budget = b.0; end = e; runs = b.1; within = i; is_told = refl }
+  ends : (left : ℕ) (e : RunEndView (Table Rational) (Table Rational)) → ReachesFrom now left w.made e → IsWithinBudget e → Free from (clip_end e)
+  ends left e r i = let b = w.back left e r in record { budget = b.0; end = e; runs = b.1; within = i; is_clipped = refl }
 
-  pub free_done : IsDone ring_ℚ order_ℚ (height now) now.generators (table now) → Free from (Weights (table now))
+  pub free_done : IsDone field_ℚ (height now) now.generators (table now) → Free from (Weights (table now))
   free_done d = ends 0 (Weights (table now)) (run_done (height now) now.generators 0 w.made (table now) d) tt
 
-  pub free_stuck : (s : Table Rational) → ¬ (IsDone ring_ℚ order_ℚ (height now) now.generators (table now)) → IsStuck ring_ℚ order_ℚ (height now) now.generators (table now) → s ≡ table now → Free from (Point s)
+  pub free_stuck : (s : Table Rational) → ¬ (IsDone field_ℚ (height now) now.generators (table now)) → IsStuck field_ℚ (height now) now.generators (table now) → s ≡ table now → Free from (Point s)
   free_stuck s d u e = ends 0 (Point s) (run_stuck (height now) now.generators 0 w.made (table now) s d u e) tt
 
-  pub free_wide : ¬ (IsDone ring_ℚ order_ℚ (height now) now.generators (table now)) → IsWide (height now) now.generators (table now) → Free from (Width number)
+  pub free_wide : ¬ (IsDone field_ℚ (height now) now.generators (table now)) → IsWide (height now) now.generators (table now) → Free from (Width number)
   free_wide d u = subst (λ (k : ℕ). Free from (Width k)) (sym w.number_is)
       (ends 1 (Width (suc w.made)) (run_wide (height now) now.generators 1 w.made (suc w.made) (table now) (omega arith) d u refl) tt)
 
   -- a step further
-  pub further : (new : TableauView) (k : ℕ) → k ≡ told_number (number + 1) → ¬ (IsDone ring_ℚ order_ℚ (height now) now.generators (table now)) → IsStep now new → OnTheWay from new k
+  pub further : (new : TableauView) (k : ℕ) → k ≡ clip_number (number + 1) → ¬ (IsDone field_ℚ (height now) now.generators (table now)) → IsStep now new → OnTheWay from new k
   further new k q d s = record {
     made = suc w.made;
     number_is = (let n : number ≡ min (suc w.made) 4294967295 = w.number_is in let x : k ≡ min (number + 1) 4294967295 = q in omega arith);

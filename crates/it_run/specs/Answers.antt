@@ -1,8 +1,7 @@
 -- What the answer of a run from a start says.
 use Rattle.std.specs.Prelude.{◌≡◌, ℕ, ◌<◌, false, cond, pos, List, slice_index_or, Option}
 use Rattle.it_rational.specs.Rational.{Rational, whole, minus}
-use Rattle.it_rational.proofs.RationalLaws.{ring_ℚ}
-use Rattle.it_rational.proofs.Field.{order_ℚ}
+use Rattle.it_rational.proofs.Field.{field_ℚ}
 use Rattle.it_tableau.specs.TableauViews.{TableauView, height, table}
 use Rattle.it_tableau.specs.Tables.{FeasibilityProblem, sign, start}
 use Rattle.it_run.specs.Runs.{RunEndView}
@@ -24,11 +23,11 @@ sign_number t k = cond (slice_index_or t.negated k false) (minus (whole (pos 1))
 
 -- a problem whose rows were negated as the tableau's
 abbrev pub HasSigns : TableauView → FeasibilityProblem Rational → Type 0
-HasSigns t p = (k : ℕ) → k < height t → sign_number t k ≡ sign ring_ℚ order_ℚ p k
+HasSigns t p = (k : ℕ) → k < height t → sign_number t k ≡ sign field_ℚ p k
 
 -- the tableau is the start of the problem
 pub record IsStartOf (p : FeasibilityProblem Rational) (t : TableauView) : Type 0 where
-  pub table_is : table t ≡ start ring_ℚ order_ℚ (height t) t.generators p
+  pub table_is : table t ≡ start field_ℚ (height t) t.generators p
   pub signs : HasSigns t p
 
 -- it is the start of some problem

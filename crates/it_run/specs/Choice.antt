@@ -1,7 +1,6 @@
 -- The choice of column and row by Bland's rule (Bland 1977, "New finite pivoting rules for the simplex method"), and the step.
 use Rattle.std.specs.Prelude.{◌≡◌, ℕ, zero, suc, ◌+◌, ◌<◌, Bool, true, cond, eqb, ltb, ◌&&◌, not}
-use Rattle.it_number.specs.Rings.{Ring}
-use Rattle.it_rational.specs.OrderedFields.{Order}
+use Rattle.it_rational.specs.OrderedFields.{OrderedField}
 use Rattle.it_tableau.specs.Tables.{Table, difference, pivot, ratio}
 
 -- the least number from k on, below k + left, at which f is false; k + left where there is none
@@ -9,20 +8,20 @@ abbrev pub first_false : (ℕ → Bool) → ℕ → ℕ → ℕ
 first_false f k zero = k
 first_false f k (suc left) = cond (f k) (first_false f (suc k) left) k
 
-module _ {A : Type 0} (R : Ring A) (O : Order R) where
+module _ {A : Type 0} (F : OrderedField A) where
   -- whether the entry of row i at column c is above 0
   abbrev pub is_candidate : Table A → ℕ → ℕ → Bool
-  is_candidate t c i = not (O.is_least (R.neg (t.entry i c)))
+  is_candidate t c i = not (F.order.is_least (F.ring.neg (t.entry i c)))
 
   module _ (m n : ℕ) where
     -- the column that enters: the least-numbered with a cost below 0 that is no artificial, n where there is none
     abbrev pub entering : Table A → ℕ
-    entering t = first_false (λ j. O.is_least (t.entry m j)) 0 n
+    entering t = first_false (λ j. F.order.is_least (t.entry m j)) 0 n
 
     -- row i comes before row k: its ratio is less, or equal and its basic column is less
     abbrev pub precedes : Table A → ℕ → ℕ → ℕ → Bool
-    precedes t c i k = cond (O.is_least (difference R (ratio R O m n t c i) (ratio R O m n t c k)))
-        (O.is_least (difference R (ratio R O m n t c k) (ratio R O m n t c i)) && ltb (t.basis i) (t.basis k)) true
+    precedes t c i k = cond (F.order.is_least (difference F.ring (ratio F m n t c i) (ratio F m n t c k)))
+        (F.order.is_least (difference F.ring (ratio F m n t c k) (ratio F m n t c i)) && ltb (t.basis i) (t.basis k)) true
 
     -- the first in this order of the rows below i that have an entry above 0 at column c, m where there is none
     abbrev pub leaving_of : Table A → ℕ → ℕ → ℕ
@@ -35,12 +34,12 @@ module _ {A : Type 0} (R : Ring A) (O : Order R) where
 
     -- the table after the step
     abbrev pub next : Table A → Table A
-    next t = pivot R O t (leaving t (entering t)) (entering t)
+    next t = pivot F t (leaving t (entering t)) (entering t)
 
     -- the end by weights: the cost row's right side is 0
     abbrev pub IsDone : Table A → Type 0
-    IsDone t = t.entry m (n + m) ≡ R.null
+    IsDone t = t.entry m (n + m) ≡ F.ring.null
 
     -- the end by a point: no column but artificial ones has a cost below 0
     abbrev pub IsStuck : Table A → Type 0
-    IsStuck t = (j : ℕ) → j < n → O.is_least (t.entry m j) ≡ true
+    IsStuck t = (j : ℕ) → j < n → F.order.is_least (t.entry m j) ≡ true

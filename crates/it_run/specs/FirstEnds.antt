@@ -1,12 +1,11 @@
 -- How a run ends, by the first number of steps at which one of its ends holds.
 use Rattle.std.specs.Prelude.{◌≡◌, ◌≢◌, ◌⊎◌, ℕ, suc, ◌<◌, ◌≤◌, Option, Some, None, List}
 use Rattle.it_rational.specs.Rational.{Rational}
-use Rattle.it_rational.proofs.RationalLaws.{ring_ℚ}
-use Rattle.it_rational.proofs.Field.{order_ℚ}
+use Rattle.it_rational.proofs.Field.{field_ℚ}
 use Rattle.it_tableau.specs.Tables.{Table, FeasibilityProblem}
 use Rattle.it_run.specs.Choice.{next, IsDone, IsStuck}
 use Rattle.it_run.specs.Readings.{weights, point}
-use Rattle.it_run.specs.Runs.{RunEndView, after, told_number}
+use Rattle.it_run.specs.Runs.{RunEndView, after, clip_number}
 use Rattle.it_run.specs.Solving.{RunsTo, StepFits}
 use Rattle.it_run.specs.Runs.RunEndView.{Weights, Point, Pivots, Width}
 
@@ -15,7 +14,7 @@ module _ {S W P : Type 0} (IsDone IsStuck Fits : S → Type 0) (next : S → S) 
   abbrev pub EndsAt : Option ℕ → ℕ → S → RunEndView W P → Type 0
   EndsAt budget k s e = (IsDone s × (e ≡ Weights (weights s))) ⊎ ((¬ (IsDone s) × IsStuck s × (e ≡ Point (point s)))
       ⊎ ((¬ (IsDone s) × ¬ (IsStuck s) × (budget ≡ Some k) × (e ≡ Pivots k))
-      ⊎ (¬ (IsDone s) × ¬ (IsStuck s) × (budget ≢ Some k) × ¬ (Fits s) × (e ≡ Width (told_number (suc k))))))
+      ⊎ (¬ (IsDone s) × ¬ (IsStuck s) × (budget ≢ Some k) × ¬ (Fits s) × (e ≡ Width (clip_number (suc k))))))
 
   -- none of these holds
   abbrev pub GoesOn : Option ℕ → ℕ → S → Type 0
@@ -33,8 +32,8 @@ IsBudget None = Unit {0}
 
 -- how the run from table t ends
 abbrev pub RunsFirst : (m n : ℕ) → FeasibilityProblem Rational → Option ℕ → Table Rational → RunEndView (List (ℕ × Rational)) (List Rational) → Type 0
-RunsFirst m n p = EndsFirst (IsDone ring_ℚ order_ℚ m n) (IsStuck ring_ℚ order_ℚ m n) (StepFits m n) (next ring_ℚ order_ℚ m n)
-    (weights ring_ℚ order_ℚ m n) (point ring_ℚ order_ℚ m n p)
+RunsFirst m n p = EndsFirst (IsDone field_ℚ m n) (IsStuck field_ℚ m n) (StepFits m n) (next field_ℚ m n)
+    (weights field_ℚ m n) (point field_ℚ m n p)
 
 -- both ways to say it say the same
 abbrev pub EndsAreFirst : Type 0

@@ -1,18 +1,16 @@
 -- The tables that a run comes to, and that no two of them have the same basic columns.
 use Rattle.std.specs.Prelude.{◌≡◌, ℕ, ◌+◌, ◌^◌, ◌<◌, ◌≤◌}
-use Rattle.it_number.specs.Rings.{Ring}
 use Rattle.it_rational.specs.Rational.{Rational}
-use Rattle.it_rational.specs.OrderedFields.{Order}
-use Rattle.it_rational.proofs.RationalLaws.{ring_ℚ}
-use Rattle.it_rational.proofs.Field.{order_ℚ}
+use Rattle.it_rational.specs.OrderedFields.{OrderedField}
+use Rattle.it_rational.proofs.Field.{field_ℚ}
 use Rattle.it_tableau.specs.Tables.{Table, FeasibilityProblem, start}
 use Rattle.it_run.specs.Choice.{next, IsStuck}
 use Rattle.it_run.specs.Runs.{after}
 
-module _ {A : Type 0} (R : Ring A) (O : Order R) (m n : ℕ) where
+module _ {A : Type 0} (F : OrderedField A) (m n : ℕ) where
   -- the table after k steps
   abbrev pub table_after : Table A → ℕ → Table A
-  table_after = after (next R O m n)
+  table_after = after (next F m n)
 
 -- each basic column of a table is one of another
 module _ {A : Type 0} (m : ℕ) where
@@ -22,10 +20,10 @@ module _ {A : Type 0} (m : ℕ) where
 -- while a column can enter, no table of the run has the set of basic columns of an earlier one
 abbrev pub MeetsNoBasisTwice : Type 0
 MeetsNoBasisTwice = (m n : ℕ) (p : FeasibilityProblem Rational) (a b : ℕ) → a < b
-    → ((k : ℕ) → k < b → ¬ (IsStuck ring_ℚ order_ℚ m n (table_after ring_ℚ order_ℚ m n (start ring_ℚ order_ℚ m n p) k)))
-    → Within m (table_after ring_ℚ order_ℚ m n (start ring_ℚ order_ℚ m n p) a) (table_after ring_ℚ order_ℚ m n (start ring_ℚ order_ℚ m n p) b)
-    → Within m (table_after ring_ℚ order_ℚ m n (start ring_ℚ order_ℚ m n p) b) (table_after ring_ℚ order_ℚ m n (start ring_ℚ order_ℚ m n p) a) → ⊥
+    → ((k : ℕ) → k < b → ¬ (IsStuck field_ℚ m n (table_after field_ℚ m n (start field_ℚ m n p) k)))
+    → Within m (table_after field_ℚ m n (start field_ℚ m n p) a) (table_after field_ℚ m n (start field_ℚ m n p) b)
+    → Within m (table_after field_ℚ m n (start field_ℚ m n p) b) (table_after field_ℚ m n (start field_ℚ m n p) a) → ⊥
 
 -- a run comes to a table with no column to enter, within as many steps as there are lists of basic columns
 abbrev pub RunsEnd : Type 0
-RunsEnd = (m n : ℕ) (p : FeasibilityProblem Rational) → (k : ℕ) × (k ≤ (n + m) ^ m) × IsStuck ring_ℚ order_ℚ m n (table_after ring_ℚ order_ℚ m n (start ring_ℚ order_ℚ m n p) k)
+RunsEnd = (m n : ℕ) (p : FeasibilityProblem Rational) → (k : ℕ) × (k ≤ (n + m) ^ m) × IsStuck field_ℚ m n (table_after field_ℚ m n (start field_ℚ m n p) k)

@@ -21,15 +21,16 @@ module _ {S W P : Type 0} (IsDone IsStuck Fits : S → Type 0) (next : S → S) 
   EndsAs (suc left) k s e = (IsDone s × (e ≡ Weights (weights s))) ⊎ ((¬ (IsDone s) × IsStuck s × (e ≡ Point (point s))) ⊎
       (¬ (IsDone s) × ¬ (IsStuck s) × ((¬ (Fits s) × (e ≡ Width (suc k))) ⊎ (Fits s × EndsAs left (suc k) (next s) e))))
 
--- the number of a step as it is told: numbers past the greatest of 32 bits are told as that one
-abbrev pub told_number : ℕ → ℕ
-told_number k = min k 4294967295
+-- the number of a step in 32 bits: the greatest of them stands for each greater number too
+abbrev pub clip_number : ℕ → ℕ
+clip_number k = min k 4294967295
 
-abbrev pub told : {W P : Type 0} → RunEndView W P → RunEndView W P
-told (Weights w) = Weights w
-told (Point q) = Point q
-told (Pivots k) = Pivots k
-told (Width k) = Width (told_number k)
+-- the end of a run with the number of its step so
+abbrev pub clip_end : {W P : Type 0} → RunEndView W P → RunEndView W P
+clip_end (Weights w) = Weights w
+clip_end (Point q) = Point q
+clip_end (Pivots k) = Pivots k
+clip_end (Width k) = Width (clip_number k)
 
 -- the run didn't end for want of steps
 abbrev pub IsWithinBudget : {W P : Type 0} → RunEndView W P → Type 0
@@ -45,9 +46,10 @@ module _ {S W P : Type 0} (IsDone IsStuck Fits : S → Type 0) (next : S → S) 
     pub end : RunEndView W P
     pub runs : EndsAs IsDone IsStuck Fits next weights point budget zero s end
     pub within : IsWithinBudget end
-    pub is_told : e ≡ told end
+    pub is_clipped : e ≡ clip_end end
 
-  -- how a run from s ends with so many steps at most, or without a budget
+  -- How a run from s ends with so many steps at most, or without a budget. With a budget nothing is clipped: a budget has 32 bits,
+  -- and the run makes no step of a greater number.
   abbrev pub EndsBy : Option ℕ → S → RunEndView W P → Type 0
   EndsBy (Some budget) s e = EndsAs IsDone IsStuck Fits next weights point budget zero s e
   EndsBy None s e = EndsUnbound s e

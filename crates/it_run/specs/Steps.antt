@@ -1,8 +1,7 @@
 -- A step of the run on a tableau, and the run to its last table. No public clause cites this.
 use Rattle.std.specs.Prelude.{◌≡◌, ℕ, ◌<◌, Bool, true, false, cond, ltb, ◌&&◌, Option, Some, None}
 use Rattle.it_rational.specs.Rational.{Rational, plus, minus, is_at_least_zero}
-use Rattle.it_rational.proofs.RationalLaws.{ring_ℚ}
-use Rattle.it_rational.proofs.Field.{order_ℚ}
+use Rattle.it_rational.proofs.Field.{field_ℚ}
 use Rattle.it_tableau.specs.Tables.{Table, FeasibilityProblem, ratio}
 use Rattle.it_tableau.specs.Invariants.{HasInvariants}
 use Rattle.it_tableau.specs.TableauViews.{TableauView, height, table, IsPositive, KeepsFrame}
@@ -24,44 +23,44 @@ best_after (Some b) i q basis = cond (is_before q (basis i) b.1 (basis b.0)) (So
 
 -- it is the best of the rows below i
 abbrev pub IsBestOf : ℕ → ℕ → Table Rational → ℕ → ℕ → Option (ℕ × Rational) → Type 0
-IsBestOf m n t c i None = leaving_of ring_ℚ order_ℚ m n t c i ≡ m
-IsBestOf m n t c i (Some b) = (leaving_of ring_ℚ order_ℚ m n t c i ≡ b.0) × (b.0 < i) × (b.1 ≡ ratio ring_ℚ order_ℚ m n t c b.0) × (is_candidate ring_ℚ order_ℚ t c b.0 ≡ true)
+IsBestOf m n t c i None = leaving_of field_ℚ m n t c i ≡ m
+IsBestOf m n t c i (Some b) = (leaving_of field_ℚ m n t c i ≡ b.0) × (b.0 < i) × (b.1 ≡ ratio field_ℚ m n t c b.0) × (is_candidate field_ℚ t c b.0 ≡ true)
 
 -- the row that leaves, or none
 abbrev pub IsLeaving : ℕ → ℕ → Table Rational → ℕ → Option ℕ → Type 0
-IsLeaving m n t c None = leaving ring_ℚ order_ℚ m n t c ≡ m
-IsLeaving m n t c (Some r) = (leaving ring_ℚ order_ℚ m n t c ≡ r) × (r < m) × IsPositive (t.entry r c)
+IsLeaving m n t c None = leaving field_ℚ m n t c ≡ m
+IsLeaving m n t c (Some r) = (leaving field_ℚ m n t c ≡ r) × (r < m) × IsPositive (t.entry r c)
 
 -- where some column enters, some row leaves
 abbrev pub IsReady : ℕ → ℕ → Table Rational → Type 0
-IsReady m n t = ¬ (IsStuck ring_ℚ order_ℚ m n t) → leaving ring_ℚ order_ℚ m n t (entering ring_ℚ order_ℚ m n t) < m
+IsReady m n t = ¬ (IsStuck field_ℚ m n t) → leaving field_ℚ m n t (entering field_ℚ m n t) < m
 
 -- a step was made
 pub record IsStep (old new : TableauView) : Type 0 where
-  pub moves : ¬ (IsStuck ring_ℚ order_ℚ (height old) old.generators (table old))
+  pub moves : ¬ (IsStuck field_ℚ (height old) old.generators (table old))
   pub fits : StepFits (height old) old.generators (table old)
   pub usable : new.spent ≡ false
   pub frame : KeepsFrame old new
-  pub table_is : table new ≡ next ring_ℚ order_ℚ (height old) old.generators (table old)
+  pub table_is : table new ≡ next field_ℚ (height old) old.generators (table old)
 
 -- no step was made since none is left to make, or one was
 abbrev pub IsStepOrStuck : TableauView → TableauView → Bool → Type 0
-IsStepOrStuck old new false = IsStuck ring_ℚ order_ℚ (height old) old.generators (table old) × (new ≡ old)
+IsStepOrStuck old new false = IsStuck field_ℚ (height old) old.generators (table old) × (new ≡ old)
 IsStepOrStuck old new true = IsStep old new
 
 abbrev pub IsWide : ℕ → ℕ → Table Rational → Type 0
-IsWide m n t = ¬ (IsStuck ring_ℚ order_ℚ m n t) × ¬ (StepFits m n t)
+IsWide m n t = ¬ (IsStuck field_ℚ m n t) × ¬ (StepFits m n t)
 
 -- the run whose end has its last table
 abbrev pub Reaches : ℕ → ℕ → ℕ → ℕ → Table Rational → RunEndView (Table Rational) (Table Rational) → Type 0
-Reaches m n = EndsAs (IsDone ring_ℚ order_ℚ m n) (IsStuck ring_ℚ order_ℚ m n) (StepFits m n) (next ring_ℚ order_ℚ m n) (λ t. t) (λ t. t)
+Reaches m n = EndsAs (IsDone field_ℚ m n) (IsStuck field_ℚ m n) (StepFits m n) (next field_ℚ m n) (λ t. t) (λ t. t)
 
 abbrev pub ReachesFrom : TableauView → ℕ → ℕ → RunEndView (Table Rational) (Table Rational) → Type 0
 ReachesFrom t left k = Reaches (height t) t.generators left k (table t)
 
 -- the same with a budget or without one
 abbrev pub ReachesBy : ℕ → ℕ → Option ℕ → Table Rational → RunEndView (Table Rational) (Table Rational) → Type 0
-ReachesBy m n = EndsBy (IsDone ring_ℚ order_ℚ m n) (IsStuck ring_ℚ order_ℚ m n) (StepFits m n) (next ring_ℚ order_ℚ m n) (λ t. t) (λ t. t)
+ReachesBy m n = EndsBy (IsDone field_ℚ m n) (IsStuck field_ℚ m n) (StepFits m n) (next field_ℚ m n) (λ t. t) (λ t. t)
 
 abbrev pub run_end_view : RunEnd → Table Rational → RunEndView (Table Rational) (Table Rational)
 run_end_view run_ends.Weights t = Weights t
@@ -71,7 +70,7 @@ run_end_view (run_ends.Width k) t = Width k
 
 -- the table has the invariants, for some problem
 abbrev pub HoldsSome : TableauView → Type 0
-HoldsSome t = (p : FeasibilityProblem Rational) × HasInvariants ring_ℚ order_ℚ (height t) t.generators p (table t)
+HoldsSome t = (p : FeasibilityProblem Rational) × HasInvariants field_ℚ (height t) t.generators p (table t)
 
 -- it can be read, and has the frame of an earlier one
 pub record IsKept (old new : TableauView) : Type 0 where

@@ -2,8 +2,7 @@
 ghost use Rattle.std.specs.Prelude.{◌≡◌, ◌<◌, ◌+◌, ◌++◌, ◌∷◌, [], false, pos, IfOk, OnOk, slice_index_or};
 ghost use Rattle.std.specs.Bool.{OnFalse, OnTrue};
 ghost use Rattle.std.specs.Option.{IfNone, IfSome};
-ghost use Rattle.it_rational.proofs.Field.{order_ℚ};
-ghost use Rattle.it_rational.proofs.RationalLaws.{ring_ℚ};
+ghost use Rattle.it_rational.proofs.Field.{field_ℚ};
 ghost use Rattle.it_rational.specs.Rational.{Rational, times, whole};
 ghost use Rattle.it_tableau.specs.TableauViews.{height, table};
 ghost use Rattle.it_tableau.specs.Tables.{FeasibilityProblem};
@@ -19,8 +18,8 @@ use std::alloc::{AllocError, Global};
 fn weight_of(tableau: &Tableau, j: usize) -> Option<Fraction>
     requires usable { tableau.now.spent ≡ false }
     requires holds { HoldsSome tableau.now }
-    ensures some { IfSome result (λ w. w ≡ weight ring_ℚ order_ℚ (height tableau.now) tableau.now.generators (table tableau.now) j) }
-    ensures none { IfNone result (weight ring_ℚ order_ℚ (height tableau.now) tableau.now.generators (table tableau.now) j ≡ whole (pos 0)) }
+    ensures some { IfSome result (λ w. w ≡ weight field_ℚ (height tableau.now) tableau.now.generators (table tableau.now) j) }
+    ensures none { IfNone result (weight field_ℚ (height tableau.now) tableau.now.generators (table tableau.now) j ≡ whole (pos 0)) }
 {
     for i in 0..tableau.rows() {
         if tableau.basic(i) == j {
@@ -55,7 +54,7 @@ fn append(
 pub fn weights(alloc: Global, tableau: &Tableau) -> Result<Vec<(usize, Fraction)>, AllocError>
     requires usable { tableau.now.spent ≡ false }
     requires holds { HoldsSome tableau.now }
-    ensures { IfOk result (λ out. out.items ≡ weights_of ring_ℚ order_ℚ (height tableau.now) tableau.now.generators (table tableau.now)) }
+    ensures { IfOk result (λ out. out.items ≡ weights_of field_ℚ (height tableau.now) tableau.now.generators (table tableau.now)) }
 {
     let mut out = Vec::new(alloc);
     for j in 0..tableau.generators() {
@@ -96,7 +95,7 @@ fn value_at(tableau: &Tableau, k: usize) -> Fraction
 /// The point, by rows.
 pub fn point(alloc: Global, tableau: &Tableau) -> Result<Vec<Fraction>, AllocError>
     requires usable { tableau.now.spent ≡ false }
-    ensures { IfOk result (λ out. (p : FeasibilityProblem Rational) → HasSigns tableau.now p → out.items ≡ point_of ring_ℚ order_ℚ (height tableau.now) tableau.now.generators p (table tableau.now)) }
+    ensures { IfOk result (λ out. (p : FeasibilityProblem Rational) → HasSigns tableau.now p → out.items ≡ point_of field_ℚ (height tableau.now) tableau.now.generators p (table tableau.now)) }
 {
     let mut out = Vec::with_capacity(alloc, tableau.rows())?;
     for k in 0..tableau.rows() {

@@ -1,11 +1,10 @@
 //! The run.
 ghost use Rattle.std.specs.Prelude.{◌≡◌, ◌+◌, ◌<◌, false, IfErr, IfOk, None};
 ghost use Rattle.std.specs.Bool.{OnFalse, OnTrue};
-ghost use Rattle.it_rational.proofs.Field.{order_ℚ};
-ghost use Rattle.it_rational.proofs.RationalLaws.{ring_ℚ};
+ghost use Rattle.it_rational.proofs.Field.{field_ℚ};
 ghost use Rattle.it_tableau.specs.TableauViews.{height, table};
 ghost use Rattle.it_run.specs.Choice.{IsDone};
-ghost use Rattle.it_run.specs.Runs.{told_number};
+ghost use Rattle.it_run.specs.Runs.{clip_number};
 ghost use Rattle.it_run.specs.Steps.{run_end_view, HoldsSome, IsReady, IsWide, LeavesTableau, Reaches, ReachesBy, IsStepOrStuck};
 
 use crate::choice::{entering, leaving};
@@ -46,8 +45,8 @@ fn step(tableau: &mut Tableau) -> Result<bool, RowFault>
 #[tactic(auto, using(it_tableau::proofs::Zeros::null_from_top, it_tableau::proofs::Zeros::top_from_null))]
 fn is_done(tableau: &Tableau) -> bool
     requires { tableau.now.spent ≡ false }
-    ensures yes { OnTrue result (IsDone ring_ℚ order_ℚ (height tableau.now) tableau.now.generators (table tableau.now)) }
-    ensures no { OnFalse result (¬ (IsDone ring_ℚ order_ℚ (height tableau.now) tableau.now.generators (table tableau.now))) }
+    ensures yes { OnTrue result (IsDone field_ℚ (height tableau.now) tableau.now.generators (table tableau.now)) }
+    ensures no { OnFalse result (¬ (IsDone field_ℚ (height tableau.now) tableau.now.generators (table tableau.now))) }
 {
     if tableau.cost_rhs().is_zero() {
         true
@@ -85,7 +84,7 @@ fn run_within(tableau: &mut Tableau, budget: u32) -> Result<RunEnd, AllocError>
 
 /// The number of the step after, or the greatest of 32 bits again.
 fn next_number(number: u32) -> u32
-    ensures { result ≡ told_number (number + 1) }
+    ensures { result ≡ clip_number (number + 1) }
 {
     if number < u32::MAX {
         number + 1

@@ -1,9 +1,8 @@
 -- From a run on a tableau to the answer of a question.
-use Rattle.std.proofs.Common.{◌≡◌, inl, inr, ℕ, zero, pos, Bool, true, false, not, cond, List, length, slice_index_or, Option, Some, None, refl, sym, ap, ap₂, subst, ◌∙◌, arith}
+use Rattle.std.proofs.Common.{◌≡◌, inl, inr, ℕ, pos, Bool, true, false, not, cond, List, length, slice_index_or, Option, Some, None, refl, sym, ap, ap₂, subst, ◌∙◌, arith}
 use Rattle.std.specs.Option.{IfNone}
 use Rattle.it_rational.specs.Rational.{Rational, whole, minus, is_at_least_zero}
-use Rattle.it_rational.proofs.RationalLaws.{ring_ℚ}
-use Rattle.it_rational.proofs.Field.{order_ℚ}
+use Rattle.it_rational.proofs.Field.{field_ℚ}
 use Rattle.it_space.specs.Rows.{Terms, coefficient}
 use Rattle.it_tableau.specs.Fits.{StartFits}
 use Rattle.it_tableau.specs.Problems.{feasibility_problem, start_of}
@@ -36,7 +35,7 @@ module _ (cs : List ℕ) (columns : List Terms) (target : Terms) (t : TableauVie
   -- the tableau is the start of the question's problem
   pub starts : IsStartOf (feasibility_problem cs columns target) t
   starts = record {
-    table_is = s.table_is ∙ ap₂ (λ m n. start ring_ℚ order_ℚ m n (feasibility_problem cs columns target)) (sym s.height_is) (sym s.generators_are);
+    table_is = s.table_is ∙ ap₂ (λ m n. start field_ℚ m n (feasibility_problem cs columns target)) (sym s.height_is) (sym s.generators_are);
     signs = start_signs;
   }
 
@@ -48,9 +47,9 @@ module _ (cs : List ℕ) (columns : List Terms) (target : Terms) (t : TableauVie
   solves budget a f r = inr (f, run_from_start budget a r)
 
   pub right : (budget : Option ℕ) (a : Solved) → RunsFrom t budget a → IsRightSolved cs columns target a
-  right budget a r = from_end a (right_by ring_ℚ order_ℚ (length cs) (length columns) (StepFits (length cs) (length columns)) (feasibility_problem cs columns target) budget (solved_end a) (run_from_start budget a r))
+  right budget a r = from_end a (right_by field_ℚ (length cs) (length columns) (StepFits (length cs) (length columns)) (feasibility_problem cs columns target) budget (solved_end a) (run_from_start budget a r))
     where
-      from_end : (a : Solved) → EndIsRight ring_ℚ order_ℚ (length cs) (length columns) (feasibility_problem cs columns target) (solved_end a) → IsRightSolved cs columns target a
+      from_end : (a : Solved) → EndIsRight field_ℚ (length cs) (length columns) (feasibility_problem cs columns target) (solved_end a) → IsRightSolved cs columns target a
       from_end (Weights ws) x = x
       from_end (Point q) x = x
       from_end (Pivots k) x = tt
@@ -65,7 +64,7 @@ pub unbound : (cs : List ℕ) (columns : List Terms) (target : Terms) (e : RunEn
 unbound cs columns target e (inl a) = subst IsWithinBudget (sym a.1) tt
 unbound cs columns target e (inr a) =
     let m = length cs in let n = length columns in
-    within_budget (IsDone ring_ℚ order_ℚ m n) (IsStuck ring_ℚ order_ℚ m n) (StepFits m n) (next ring_ℚ order_ℚ m n) (weights ring_ℚ order_ℚ m n) (point ring_ℚ order_ℚ m n (feasibility_problem cs columns target))
+    within_budget (IsDone field_ℚ m n) (IsStuck field_ℚ m n) (StepFits m n) (next field_ℚ m n) (weights field_ℚ m n) (point field_ℚ m n (feasibility_problem cs columns target))
     (start_of cs columns target) e a.1
 
 -- the run has one end, and so has the answer
@@ -76,5 +75,5 @@ ends_once cs columns target budget d e (inl a) (inr b) = absurd (a.0 b.0)
 ends_once cs columns target budget d e (inr a) (inl b) = absurd (b.0 a.0)
 ends_once cs columns target budget d e (inr a) (inr b) =
     let m = length cs in let n = length columns in
-    one_end_by (IsDone ring_ℚ order_ℚ m n) (IsStuck ring_ℚ order_ℚ m n) (StepFits m n) (next ring_ℚ order_ℚ m n) (weights ring_ℚ order_ℚ m n) (point ring_ℚ order_ℚ m n (feasibility_problem cs columns target))
+    one_end_by (IsDone field_ℚ m n) (IsStuck field_ℚ m n) (StepFits m n) (next field_ℚ m n) (weights field_ℚ m n) (point field_ℚ m n (feasibility_problem cs columns target))
     budget (start_of cs columns target) d e a.1 b.1

@@ -3,8 +3,7 @@
 use Rattle.std.proofs.Common.{◌≡◌, ℕ, ℤ, pos, negsuc, List, [], ◌∷◌, refl}
 use Rattle.it_number.specs.Gcd.{gcd, gcd_within}
 use Rattle.it_rational.specs.Rational.{Rational, quotient}
-use Rattle.it_rational.proofs.RationalLaws.{ring_ℚ}
-use Rattle.it_rational.proofs.Field.{order_ℚ}
+use Rattle.it_rational.proofs.Field.{field_ℚ}
 use Rattle.it_tableau.specs.Tables.{Table, pivot}
 use Rattle.it_tableau.specs.Problems.{start_of}
 
@@ -14,10 +13,10 @@ first = start_of (1 ∷ 2 ∷ 3 ∷ [])
     ((1, pos 1) ∷ (3, negsuc 0) ∷ [])
 
 abbrev second : Table Rational
-second = pivot ring_ℚ order_ℚ first 1 2
+second = pivot field_ℚ first 1 2
 
 abbrev third : Table Rational
-third = pivot ring_ℚ order_ℚ second 0 0
+third = pivot field_ℚ second 0 0
 
 -- the numerators of a row at the three columns and the right side
 abbrev tops : Table Rational → ℕ → List ℤ

@@ -8,8 +8,7 @@ use Rattle.std.specs.List.Sorted.{IsBinarySearchResult}
 use Rattle.std.specs.Ordering.{nat_cmp}
 use Rattle.std.proofs.Math.Seq.{drop-cons}
 use Rattle.it_rational.specs.Rational.{Rational, whole}
-use Rattle.it_rational.proofs.RationalLaws.{ring_ℚ}
-use Rattle.it_rational.proofs.Field.{order_ℚ}
+use Rattle.it_rational.proofs.Field.{field_ℚ}
 use Rattle.it_fraction.specs.Fits.{IsNarrow}
 use Rattle.it_fraction.proofs.ZeroLemmas.{product-zero}
 use Rattle.it_space.specs.Rows.{Terms, coefficient, Ascends}
@@ -130,8 +129,8 @@ module _ (cs : List ℕ) (f : ℕ → Rational) (terms : Terms) (j : ℕ) (old :
 module _ (cs : List ℕ) (columns : List Terms) (target : Terms) where
   -- a column without a term at a coordinate has the entry 0 in its row
   pub no_entry : (j k : ℕ) → j < length columns → coefficient (slice_index_or columns j []) (slice_index_or cs k 0) ≡ pos 0 → start_number cs columns target k j ≡ whole (pos 0)
-  no_entry j k h e = row_column ring_ℚ order_ℚ (length cs) (length columns) (feasibility_problem cs columns target) k j h
-      ∙ product-zero (sign ring_ℚ order_ℚ (feasibility_problem cs columns target) k) (whole (coefficient (slice_index_or columns j []) (slice_index_or cs k 0))) (top_from_null (whole (coefficient (slice_index_or columns j []) (slice_index_or cs k 0))) (ap whole e))
+  no_entry j k h e = row_column field_ℚ (length cs) (length columns) (feasibility_problem cs columns target) k j h
+      ∙ product-zero (sign field_ℚ (feasibility_problem cs columns target) k) (whole (coefficient (slice_index_or columns j []) (slice_index_or cs k 0))) (top_from_null (whole (coefficient (slice_index_or columns j []) (slice_index_or cs k 0))) (ap whole e))
 
   pub gathered : (j : ℕ) (old new : List RowTerms) → AreAppended cs (λ k. start_number cs columns target k j) j old new → AreGathered cs columns target j old → AreGathered cs columns target (j + 1) new
   gathered j old new a g = record { count = a.count ∙ g.count; rows = λ k l. lists k (one k l) }
@@ -154,8 +153,8 @@ module _ (cs : List ℕ) (columns : List Terms) (target : Terms) where
 
     whole_entry : (j : ℕ) → j < length columns → F j
     whole_entry j h = record {
-      whole_is = ap (λ (q : Rational). q.den) (row_column ring_ℚ order_ℚ (length cs) (length columns) (feasibility_problem cs columns target) k j h)
-          ∙ signed_den (order_ℚ.is_least (whole (coefficient target (slice_index_or cs k 0)))) (coefficient (slice_index_or columns j []) (slice_index_or cs k 0));
+      whole_is = ap (λ (q : Rational). q.den) (row_column field_ℚ (length cs) (length columns) (feasibility_problem cs columns target) k j h)
+          ∙ signed_den (field_ℚ.order.is_least (whole (coefficient target (slice_index_or cs k 0)))) (coefficient (slice_index_or columns j []) (slice_index_or cs k 0));
       narrow = subst IsNarrow (lists.entries j h) (climbs_narrow 0 (length columns) terms j lists.ascend);
     }
 
@@ -163,7 +162,7 @@ module _ (cs : List ℕ) (columns : List Terms) (target : Terms) where
     no_unit j l h d = (subst IsWholeNumber (sym null) zero_number, null)
       where
         apart : (i : ℕ) → j ≡ length columns + i → i < length cs → f j ≡ whole (pos 0)
-        apart i e m = ap f e ∙ row_artificial ring_ℚ order_ℚ (length cs) (length columns) (feasibility_problem cs columns target) k i m
+        apart i e m = ap f e ∙ row_artificial field_ℚ (length cs) (length columns) (feasibility_problem cs columns target) k i m
             ∙ ap (λ b. cond b (whole (pos 1)) (whole (pos 0))) (ne_eqb i k (λ s. d (e ∙ ap (λ x. length columns + x) s)))
 
         null : f j ≡ whole (pos 0)

@@ -2,157 +2,156 @@
 use Rattle.std.proofs.Common.{◌≡◌, ◌≢◌, ℕ, zero, suc, ◌+◌, ◌<◌, ◌≤◌, Bool, true, false, cond, eqb, [], ◌∷◌, refl, sym, ap, ap₂, subst, ◌∙◌, ◌⊎◌, inl, inr, arith}
 use Rattle.std.proofs.lemmas.Bool.{eq-eqb, ne_eqb, eqb-true, cases_eq, lt-ltb, cases_Bool}
 use Rattle.it_number.proofs.Ring.{ring, mul-null, v, plus, times, minus, nil, one}
-use Rattle.it_number.specs.Rings.{Ring}
 use Rattle.it_rational.proofs.Ordered.{inv-least, inv-above, above-least}
-use Rattle.it_rational.specs.OrderedFields.{Order, IsAtLeastZero, IsAboveZero}
+use Rattle.it_rational.specs.OrderedFields.{OrderedField, IsAtLeastZero, IsAboveZero}
 use Rattle.it_tableau.specs.Sums.{sum_to}
 use Rattle.it_tableau.specs.Tables.{Table, FeasibilityProblem, difference, start_row, pivot}
 use Rattle.it_tableau.specs.Invariants.{cost_of, CombinesStart, HasInvariants, MayEnter}
 use Rattle.it_tableau.proofs.Sums.{sum_same, sum_times, sum_changed}
 use Rattle.it_tableau.proofs.BasicColumns.{pivot_sum}
 
-module _ {A : Type 0} (R : Ring A) (O : Order R) (m n : ℕ) where
+module _ {A : Type 0} (F : OrderedField A) (m n : ℕ) where
   -- the pivot row and the others
-  pub pivot_row : (t : Table A) (r c j : ℕ) → (pivot R O t r c).entry r j ≡ R.mul (t.entry r j) (O.inv (t.entry r c))
-  pivot_row t r c j = ap (λ b. cond b (R.mul (t.entry r j) (O.inv (t.entry r c))) (difference R (t.entry r j) (R.mul (t.entry r j) (R.mul (t.entry r c) (O.inv (t.entry r c)))))) (eq-eqb r r refl)
+  pub pivot_row : (t : Table A) (r c j : ℕ) → (pivot F t r c).entry r j ≡ F.ring.mul (t.entry r j) (F.order.inv (t.entry r c))
+  pivot_row t r c j = ap (λ b. cond b (F.ring.mul (t.entry r j) (F.order.inv (t.entry r c))) (difference F.ring (t.entry r j) (F.ring.mul (t.entry r j) (F.ring.mul (t.entry r c) (F.order.inv (t.entry r c)))))) (eq-eqb r r refl)
 
-  pub other_row : (t : Table A) (r c i j : ℕ) → i ≢ r → (pivot R O t r c).entry i j ≡ difference R (t.entry i j) (R.mul (t.entry r j) (R.mul (t.entry i c) (O.inv (t.entry r c))))
-  other_row t r c i j h = ap (λ b. cond b (R.mul (t.entry r j) (O.inv (t.entry r c))) (difference R (t.entry i j) (R.mul (t.entry r j) (R.mul (t.entry i c) (O.inv (t.entry r c)))))) (ne_eqb i r h)
+  pub other_row : (t : Table A) (r c i j : ℕ) → i ≢ r → (pivot F t r c).entry i j ≡ difference F.ring (t.entry i j) (F.ring.mul (t.entry r j) (F.ring.mul (t.entry i c) (F.order.inv (t.entry r c))))
+  other_row t r c i j h = ap (λ b. cond b (F.ring.mul (t.entry r j) (F.order.inv (t.entry r c))) (difference F.ring (t.entry i j) (F.ring.mul (t.entry r j) (F.ring.mul (t.entry i c) (F.order.inv (t.entry r c)))))) (ne_eqb i r h)
 
-  pub new_basis : (t : Table A) (r c : ℕ) → (pivot R O t r c).basis r ≡ c
+  pub new_basis : (t : Table A) (r c : ℕ) → (pivot F t r c).basis r ≡ c
   new_basis t r c = ap (λ b. cond b c (t.basis r)) (eq-eqb r r refl)
 
-  pub old_basis : (t : Table A) (r c i : ℕ) → i ≢ r → (pivot R O t r c).basis i ≡ t.basis i
+  pub old_basis : (t : Table A) (r c i : ℕ) → i ≢ r → (pivot F t r c).basis i ≡ t.basis i
   old_basis t r c i h = ap (λ b. cond b c (t.basis i)) (ne_eqb i r h)
 
   -- any pivot keeps each row a sum of start rows
-  pub kept_combines : (p : FeasibilityProblem A) (t : Table A) (r c : ℕ) → r < m → CombinesStart R O m n p t → (i j : ℕ) → i ≤ m
-      → (pivot R O t r c).entry i j ≡ sum_to R m (λ k. R.mul ((pivot R O t r c).entry i (n + k)) (start_row R O m n p k j))
+  pub kept_combines : (p : FeasibilityProblem A) (t : Table A) (r c : ℕ) → r < m → CombinesStart F m n p t → (i j : ℕ) → i ≤ m
+      → (pivot F t r c).entry i j ≡ sum_to F.ring m (λ k. F.ring.mul ((pivot F t r c).entry i (n + k)) (start_row F m n p k j))
   kept_combines p t r c hr h i j hi = by_test (eqb i r)
     where
       u : A
-      u = O.inv (t.entry r c)
+      u = F.order.inv (t.entry r c)
 
       S : ℕ → A
-      S = λ k. start_row R O m n p k j
+      S = λ k. start_row F m n p k j
 
-      scaled : (l : ℕ) → sum_to R l (λ k. R.mul (R.mul (t.entry r (n + k)) u) (S k)) ≡ R.mul (sum_to R l (λ k. R.mul (t.entry r (n + k)) (S k))) u
-      scaled l = sum_same R l (λ k. R.mul (R.mul (t.entry r (n + k)) u) (S k)) (λ k. R.mul (R.mul (t.entry r (n + k)) (S k)) u)
-          (λ k _. ring R (t.entry r (n + k) ∷ u ∷ S k ∷ []) (times (times (v 0) (v 1)) (v 2)) (times (times (v 0) (v 2)) (v 1)) refl)
-          ∙ sum_times R l (λ k. R.mul (t.entry r (n + k)) (S k)) u
+      scaled : (l : ℕ) → sum_to F.ring l (λ k. F.ring.mul (F.ring.mul (t.entry r (n + k)) u) (S k)) ≡ F.ring.mul (sum_to F.ring l (λ k. F.ring.mul (t.entry r (n + k)) (S k))) u
+      scaled l = sum_same F.ring l (λ k. F.ring.mul (F.ring.mul (t.entry r (n + k)) u) (S k)) (λ k. F.ring.mul (F.ring.mul (t.entry r (n + k)) (S k)) u)
+          (λ k _. ring F.ring (t.entry r (n + k) ∷ u ∷ S k ∷ []) (times (times (v 0) (v 1)) (v 2)) (times (times (v 0) (v 2)) (v 1)) refl)
+          ∙ sum_times F.ring l (λ k. F.ring.mul (t.entry r (n + k)) (S k)) u
 
-      lessened : (l : ℕ) (q : A) → sum_to R l (λ k. R.mul (R.add (t.entry i (n + k)) (R.neg (R.mul (t.entry r (n + k)) q))) (S k))
-          ≡ R.add (sum_to R l (λ k. R.mul (t.entry i (n + k)) (S k))) (R.neg (R.mul (sum_to R l (λ k. R.mul (t.entry r (n + k)) (S k))) q))
-      lessened zero q = ring R (q ∷ []) nil (plus nil (minus (times nil (v 0)))) refl
-      lessened (suc l) q = ap (R.add (R.mul (R.add (t.entry i (n + l)) (R.neg (R.mul (t.entry r (n + l)) q))) (S l))) (lessened l q)
-          ∙ ring R (t.entry i (n + l) ∷ t.entry r (n + l) ∷ S l ∷ q ∷ sum_to R l (λ k. R.mul (t.entry i (n + k)) (S k)) ∷ sum_to R l (λ k. R.mul (t.entry r (n + k)) (S k)) ∷ [])
+      lessened : (l : ℕ) (q : A) → sum_to F.ring l (λ k. F.ring.mul (F.ring.add (t.entry i (n + k)) (F.ring.neg (F.ring.mul (t.entry r (n + k)) q))) (S k))
+          ≡ F.ring.add (sum_to F.ring l (λ k. F.ring.mul (t.entry i (n + k)) (S k))) (F.ring.neg (F.ring.mul (sum_to F.ring l (λ k. F.ring.mul (t.entry r (n + k)) (S k))) q))
+      lessened zero q = ring F.ring (q ∷ []) nil (plus nil (minus (times nil (v 0)))) refl
+      lessened (suc l) q = ap (F.ring.add (F.ring.mul (F.ring.add (t.entry i (n + l)) (F.ring.neg (F.ring.mul (t.entry r (n + l)) q))) (S l))) (lessened l q)
+          ∙ ring F.ring (t.entry i (n + l) ∷ t.entry r (n + l) ∷ S l ∷ q ∷ sum_to F.ring l (λ k. F.ring.mul (t.entry i (n + k)) (S k)) ∷ sum_to F.ring l (λ k. F.ring.mul (t.entry r (n + k)) (S k)) ∷ [])
           (plus (times (plus (v 0) (minus (times (v 1) (v 3)))) (v 2)) (plus (v 4) (minus (times (v 5) (v 3)))))
           (plus (plus (times (v 0) (v 2)) (v 4)) (minus (times (plus (times (v 1) (v 2)) (v 5)) (v 3)))) refl
 
-      by_test : (b : Bool) → cond b (R.mul (t.entry r j) (O.inv (t.entry r c))) (R.add (t.entry i j) (R.neg (R.mul (t.entry r j) (R.mul (t.entry i c) (O.inv (t.entry r c))))))
-          ≡ sum_to R m (λ k. R.mul (cond b (R.mul (t.entry r (n + k)) (O.inv (t.entry r c))) (R.add (t.entry i (n + k)) (R.neg (R.mul (t.entry r (n + k)) (R.mul (t.entry i c) (O.inv (t.entry r c))))))) (start_row R O m n p k j))
-      by_test true = ap (λ x. R.mul x u) (h r j (omega arith)) ∙ sym (scaled m)
-      by_test false = ap₂ (λ x y. R.add x (R.neg (R.mul y (R.mul (t.entry i c) u)))) (h i j hi) (h r j (omega arith)) ∙ sym (lessened m (R.mul (t.entry i c) u))
+      by_test : (b : Bool) → cond b (F.ring.mul (t.entry r j) (F.order.inv (t.entry r c))) (F.ring.add (t.entry i j) (F.ring.neg (F.ring.mul (t.entry r j) (F.ring.mul (t.entry i c) (F.order.inv (t.entry r c))))))
+          ≡ sum_to F.ring m (λ k. F.ring.mul (cond b (F.ring.mul (t.entry r (n + k)) (F.order.inv (t.entry r c))) (F.ring.add (t.entry i (n + k)) (F.ring.neg (F.ring.mul (t.entry r (n + k)) (F.ring.mul (t.entry i c) (F.order.inv (t.entry r c))))))) (start_row F m n p k j))
+      by_test true = ap (λ x. F.ring.mul x u) (h r j (omega arith)) ∙ sym (scaled m)
+      by_test false = ap₂ (λ x y. F.ring.add x (F.ring.neg (F.ring.mul y (F.ring.mul (t.entry i c) u)))) (h i j hi) (h r j (omega arith)) ∙ sym (lessened m (F.ring.mul (t.entry i c) u))
 
-  kept_spans : (p : FeasibilityProblem A) (t : Table A) (r c : ℕ) → r < m → R.mul (t.entry r c) (O.inv (t.entry r c)) ≡ R.unit → HasInvariants R O m n p t → (k j : ℕ) → k < m
-      → start_row R O m n p k j ≡ sum_to R m (λ i. R.mul (start_row R O m n p k ((pivot R O t r c).basis i)) ((pivot R O t r c).entry i j))
+  kept_spans : (p : FeasibilityProblem A) (t : Table A) (r c : ℕ) → r < m → F.ring.mul (t.entry r c) (F.order.inv (t.entry r c)) ≡ F.ring.unit → HasInvariants F m n p t → (k j : ℕ) → k < m
+      → start_row F m n p k j ≡ sum_to F.ring m (λ i. F.ring.mul (start_row F m n p k ((pivot F t r c).basis i)) ((pivot F t r c).entry i j))
   kept_spans p t r c hr inverse h k j hk =
-      pivot_sum R O m n t r c (λ i. start_row R O m n p k (t.basis i)) (λ j. start_row R O m n p k j) hr inverse (λ j. h.spans k j hk) j
-      ∙ sum_same R m (λ i. R.mul (cond (eqb i r) (start_row R O m n p k c) (start_row R O m n p k (t.basis i))) ((pivot R O t r c).entry i j))
-      (λ i. R.mul (start_row R O m n p k ((pivot R O t r c).basis i)) ((pivot R O t r c).entry i j))
-      (λ i l. ap (λ x. R.mul x ((pivot R O t r c).entry i j)) (by_test (eqb i r) i))
+      pivot_sum F m n t r c (λ i. start_row F m n p k (t.basis i)) (λ j. start_row F m n p k j) hr inverse (λ j. h.spans k j hk) j
+      ∙ sum_same F.ring m (λ i. F.ring.mul (cond (eqb i r) (start_row F m n p k c) (start_row F m n p k (t.basis i))) ((pivot F t r c).entry i j))
+      (λ i. F.ring.mul (start_row F m n p k ((pivot F t r c).basis i)) ((pivot F t r c).entry i j))
+      (λ i l. ap (λ x. F.ring.mul x ((pivot F t r c).entry i j)) (by_test (eqb i r) i))
     where
-      by_test : (b : Bool) (i : ℕ) → cond b (start_row R O m n p k c) (start_row R O m n p k (t.basis i)) ≡ start_row R O m n p k (cond b c (t.basis i))
+      by_test : (b : Bool) (i : ℕ) → cond b (start_row F m n p k c) (start_row F m n p k (t.basis i)) ≡ start_row F m n p k (cond b c (t.basis i))
       by_test true i = refl
       by_test false i = refl
 
-  kept_costs : (p : FeasibilityProblem A) (t : Table A) (r c : ℕ) → r < m → c < n → R.mul (t.entry r c) (O.inv (t.entry r c)) ≡ R.unit → HasInvariants R O m n p t → (j : ℕ)
-      → (pivot R O t r c).entry m j ≡ sum_to R m (λ i. R.mul (cost_of R O m n ((pivot R O t r c).basis i)) ((pivot R O t r c).entry i j))
+  kept_costs : (p : FeasibilityProblem A) (t : Table A) (r c : ℕ) → r < m → c < n → F.ring.mul (t.entry r c) (F.order.inv (t.entry r c)) ≡ F.ring.unit → HasInvariants F m n p t → (j : ℕ)
+      → (pivot F t r c).entry m j ≡ sum_to F.ring m (λ i. F.ring.mul (cost_of F m n ((pivot F t r c).basis i)) ((pivot F t r c).entry i j))
   kept_costs p t r c hr hc inverse h j =
       other_row t r c m j (λ e. omega arith)
-      ∙ ap₂ (λ x y. R.add x (R.neg y)) before (ring R (t.entry r j ∷ t.entry m c ∷ O.inv (t.entry r c) ∷ []) (times (v 0) (times (v 1) (v 2))) (times (v 1) (times (v 0) (v 2))) refl
-      ∙ ap (R.mul (t.entry m c)) (sym (pivot_row t r c j)))
-      ∙ ring R (sum_to R m g ∷ R.mul (t.entry m c) (new r) ∷ g r ∷ [])
+      ∙ ap₂ (λ x y. F.ring.add x (F.ring.neg y)) before (ring F.ring (t.entry r j ∷ t.entry m c ∷ F.order.inv (t.entry r c) ∷ []) (times (v 0) (times (v 1) (v 2))) (times (v 1) (times (v 0) (v 2))) refl
+      ∙ ap (F.ring.mul (t.entry m c)) (sym (pivot_row t r c j)))
+      ∙ ring F.ring (sum_to F.ring m g ∷ F.ring.mul (t.entry m c) (new r) ∷ g r ∷ [])
       (plus (plus (v 0) (plus (v 1) (minus (v 2)))) (minus (v 1))) (plus (v 0) (plus nil (minus (v 2)))) refl
       ∙ sym after
     where
       new : ℕ → A
-      new = λ i. (pivot R O t r c).entry i j
+      new = λ i. (pivot F t r c).entry i j
 
       g : ℕ → A
-      g = λ i. R.mul (cost_of R O m n (t.basis i)) (new i)
+      g = λ i. F.ring.mul (cost_of F m n (t.basis i)) (new i)
 
-      one_of : (b : Bool) (i : ℕ) (x : A) → (b ≡ true → i ≡ r) → R.mul (cond b x (cost_of R O m n (t.basis i))) (new i) ≡ cond b (R.mul x (new r)) (g i)
-      one_of true i x e = ap (λ k. R.mul x (new k)) (e refl)
+      one_of : (b : Bool) (i : ℕ) (x : A) → (b ≡ true → i ≡ r) → F.ring.mul (cond b x (cost_of F m n (t.basis i))) (new i) ≡ cond b (F.ring.mul x (new r)) (g i)
+      one_of true i x e = ap (λ k. F.ring.mul x (new k)) (e refl)
       one_of false i x e = refl
 
-      none_of : (b : Bool) (i : ℕ) → R.mul (cost_of R O m n (cond b c (t.basis i))) (new i) ≡ cond b R.null (g i)
-      none_of true i = ap (λ b. R.mul (cond b R.null (R.neg R.unit)) (new i)) (lt-ltb c n hc) ∙ R.mul_comm R.null (new i) ∙ mul-null R (new i)
+      none_of : (b : Bool) (i : ℕ) → F.ring.mul (cost_of F m n (cond b c (t.basis i))) (new i) ≡ cond b F.ring.null (g i)
+      none_of true i = ap (λ b. F.ring.mul (cond b F.ring.null (F.ring.neg F.ring.unit)) (new i)) (lt-ltb c n hc) ∙ F.ring.mul_comm F.ring.null (new i) ∙ mul-null F.ring (new i)
       none_of false i = refl
 
-      before : t.entry m j ≡ R.add (sum_to R m g) (R.add (R.mul (t.entry m c) (new r)) (R.neg (g r)))
-      before = pivot_sum R O m n t r c (λ i. cost_of R O m n (t.basis i)) (t.entry m) hr inverse h.costs j
-          ∙ sum_same R m (λ i. R.mul (cond (eqb i r) (t.entry m c) (cost_of R O m n (t.basis i))) (new i)) (λ i. cond (eqb i r) (R.mul (t.entry m c) (new r)) (g i))
+      before : t.entry m j ≡ F.ring.add (sum_to F.ring m g) (F.ring.add (F.ring.mul (t.entry m c) (new r)) (F.ring.neg (g r)))
+      before = pivot_sum F m n t r c (λ i. cost_of F m n (t.basis i)) (t.entry m) hr inverse h.costs j
+          ∙ sum_same F.ring m (λ i. F.ring.mul (cond (eqb i r) (t.entry m c) (cost_of F m n (t.basis i))) (new i)) (λ i. cond (eqb i r) (F.ring.mul (t.entry m c) (new r)) (g i))
           (λ i l. one_of (eqb i r) i (t.entry m c) (eqb-true i r))
-          ∙ sum_changed R m g r (R.mul (t.entry m c) (new r)) hr
+          ∙ sum_changed F.ring m g r (F.ring.mul (t.entry m c) (new r)) hr
 
-      after : sum_to R m (λ i. R.mul (cost_of R O m n ((pivot R O t r c).basis i)) (new i)) ≡ R.add (sum_to R m g) (R.add R.null (R.neg (g r)))
-      after = sum_same R m (λ i. R.mul (cost_of R O m n ((pivot R O t r c).basis i)) (new i)) (λ i. cond (eqb i r) R.null (g i)) (λ i l. none_of (eqb i r) i)
-          ∙ sum_changed R m g r R.null hr
+      after : sum_to F.ring m (λ i. F.ring.mul (cost_of F m n ((pivot F t r c).basis i)) (new i)) ≡ F.ring.add (sum_to F.ring m g) (F.ring.add F.ring.null (F.ring.neg (g r)))
+      after = sum_same F.ring m (λ i. F.ring.mul (cost_of F m n ((pivot F t r c).basis i)) (new i)) (λ i. cond (eqb i r) F.ring.null (g i)) (λ i l. none_of (eqb i r) i)
+          ∙ sum_changed F.ring m g r F.ring.null hr
 
   -- right sides: a row with an entry of at most 0, and one whose ratio is no less
-  kept_low : (b r t u : A) → IsAtLeastZero R O b → IsAtLeastZero R O r → IsAtLeastZero R O u → IsAtLeastZero R O (R.neg t) → IsAtLeastZero R O (R.add b (R.neg (R.mul r (R.mul t u))))
-  kept_low b r t u hb hr hu ht = subst (IsAtLeastZero R O) (ring R (b ∷ r ∷ t ∷ u ∷ []) (plus (v 0) (times (v 1) (times (minus (v 2)) (v 3)))) (plus (v 0) (minus (times (v 1) (times (v 2) (v 3))))) refl)
-      (O.add-least b (R.mul r (R.mul (R.neg t) u)) hb (O.mul-least r (R.mul (R.neg t) u) hr (O.mul-least (R.neg t) u ht hu)))
+  kept_low : (b r t u : A) → IsAtLeastZero F b → IsAtLeastZero F r → IsAtLeastZero F u → IsAtLeastZero F (F.ring.neg t) → IsAtLeastZero F (F.ring.add b (F.ring.neg (F.ring.mul r (F.ring.mul t u))))
+  kept_low b r t u hb hr hu ht = subst (IsAtLeastZero F) (ring F.ring (b ∷ r ∷ t ∷ u ∷ []) (plus (v 0) (times (v 1) (times (minus (v 2)) (v 3)))) (plus (v 0) (minus (times (v 1) (times (v 2) (v 3))))) refl)
+      (F.order.add-least b (F.ring.mul r (F.ring.mul (F.ring.neg t) u)) hb (F.order.mul-least r (F.ring.mul (F.ring.neg t) u) hr (F.order.mul-least (F.ring.neg t) u ht hu)))
 
-  kept_high : (b r t u w : A) → IsAtLeastZero R O t → R.mul t w ≡ R.unit → IsAtLeastZero R O (R.add (R.mul b w) (R.neg (R.mul r u))) → IsAtLeastZero R O (R.add b (R.neg (R.mul r (R.mul t u))))
-  kept_high b r t u w ht e h = subst (IsAtLeastZero R O)
-      (ring R (b ∷ r ∷ t ∷ u ∷ w ∷ []) (times (v 2) (plus (times (v 0) (v 4)) (minus (times (v 1) (v 3))))) (plus (times (v 0) (times (v 2) (v 4))) (minus (times (v 1) (times (v 2) (v 3))))) refl
-      ∙ ap (λ x. R.add (R.mul b x) (R.neg (R.mul r (R.mul t u)))) e
-      ∙ ring R (b ∷ r ∷ t ∷ u ∷ []) (plus (times (v 0) one) (minus (times (v 1) (times (v 2) (v 3))))) (plus (v 0) (minus (times (v 1) (times (v 2) (v 3))))) refl)
-      (O.mul-least t (R.add (R.mul b w) (R.neg (R.mul r u))) ht h)
+  kept_high : (b r t u w : A) → IsAtLeastZero F t → F.ring.mul t w ≡ F.ring.unit → IsAtLeastZero F (F.ring.add (F.ring.mul b w) (F.ring.neg (F.ring.mul r u))) → IsAtLeastZero F (F.ring.add b (F.ring.neg (F.ring.mul r (F.ring.mul t u))))
+  kept_high b r t u w ht e h = subst (IsAtLeastZero F)
+      (ring F.ring (b ∷ r ∷ t ∷ u ∷ w ∷ []) (times (v 2) (plus (times (v 0) (v 4)) (minus (times (v 1) (v 3))))) (plus (times (v 0) (times (v 2) (v 4))) (minus (times (v 1) (times (v 2) (v 3))))) refl
+      ∙ ap (λ x. F.ring.add (F.ring.mul b x) (F.ring.neg (F.ring.mul r (F.ring.mul t u)))) e
+      ∙ ring F.ring (b ∷ r ∷ t ∷ u ∷ []) (plus (times (v 0) one) (minus (times (v 1) (times (v 2) (v 3))))) (plus (v 0) (minus (times (v 1) (times (v 2) (v 3))))) refl)
+      (F.order.mul-least t (F.ring.add (F.ring.mul b w) (F.ring.neg (F.ring.mul r u))) ht h)
 
-  kept_rights : (p : FeasibilityProblem A) (t : Table A) (r c : ℕ) → HasInvariants R O m n p t → MayEnter R O m n t r c → (i : ℕ) → i < m → IsAtLeastZero R O ((pivot R O t r c).entry i (n + m))
-  kept_rights p t r c h l i hi = by_cases (cases_eq i r) (cases_Bool (O.is_least (R.neg (t.entry i c))))
+  kept_rights : (p : FeasibilityProblem A) (t : Table A) (r c : ℕ) → HasInvariants F m n p t → MayEnter F m n t r c → (i : ℕ) → i < m → IsAtLeastZero F ((pivot F t r c).entry i (n + m))
+  kept_rights p t r c h l i hi = by_cases (cases_eq i r) (cases_Bool (F.order.is_least (F.ring.neg (t.entry i c))))
     where
-      small : IsAtLeastZero R O (O.inv (t.entry r c))
-      small = inv-least R O (t.entry r c) l.above
+      small : IsAtLeastZero F (F.order.inv (t.entry r c))
+      small = inv-least F (t.entry r c) l.above
 
-      by_cases : (i ≡ r) ⊎ (i ≡ r → ⊥) → (IsAtLeastZero R O (R.neg (t.entry i c))) ⊎ (IsAboveZero R O (t.entry i c)) → IsAtLeastZero R O ((pivot R O t r c).entry i (n + m))
-      by_cases (inl e) q = subst (λ (k : ℕ). IsAtLeastZero R O ((pivot R O t r c).entry k (n + m))) (sym e)
-          (subst (IsAtLeastZero R O) (sym (pivot_row t r c (n + m))) (O.mul-least (t.entry r (n + m)) (O.inv (t.entry r c)) (h.rights r l.row) small))
-      by_cases (inr e) (inl q) = subst (IsAtLeastZero R O) (sym (other_row t r c i (n + m) e))
-          (kept_low (t.entry i (n + m)) (t.entry r (n + m)) (t.entry i c) (O.inv (t.entry r c)) (h.rights i hi) (h.rights r l.row) small q)
-      by_cases (inr e) (inr q) = subst (IsAtLeastZero R O) (sym (other_row t r c i (n + m) e))
-          (kept_high (t.entry i (n + m)) (t.entry r (n + m)) (t.entry i c) (O.inv (t.entry r c)) (O.inv (t.entry i c)) (above-least R O (t.entry i c) q) (inv-above R O (t.entry i c) q) (l.least i hi q))
+      by_cases : (i ≡ r) ⊎ (i ≡ r → ⊥) → (IsAtLeastZero F (F.ring.neg (t.entry i c))) ⊎ (IsAboveZero F (t.entry i c)) → IsAtLeastZero F ((pivot F t r c).entry i (n + m))
+      by_cases (inl e) q = subst (λ (k : ℕ). IsAtLeastZero F ((pivot F t r c).entry k (n + m))) (sym e)
+          (subst (IsAtLeastZero F) (sym (pivot_row t r c (n + m))) (F.order.mul-least (t.entry r (n + m)) (F.order.inv (t.entry r c)) (h.rights r l.row) small))
+      by_cases (inr e) (inl q) = subst (IsAtLeastZero F) (sym (other_row t r c i (n + m) e))
+          (kept_low (t.entry i (n + m)) (t.entry r (n + m)) (t.entry i c) (F.order.inv (t.entry r c)) (h.rights i hi) (h.rights r l.row) small q)
+      by_cases (inr e) (inr q) = subst (IsAtLeastZero F) (sym (other_row t r c i (n + m) e))
+          (kept_high (t.entry i (n + m)) (t.entry r (n + m)) (t.entry i c) (F.order.inv (t.entry r c)) (F.order.inv (t.entry i c)) (above-least F (t.entry i c) q) (inv-above F (t.entry i c) q) (l.least i hi q))
 
-  kept_units : (p : FeasibilityProblem A) (t : Table A) (r c : ℕ) → r < m → R.mul (t.entry r c) (O.inv (t.entry r c)) ≡ R.unit → HasInvariants R O m n p t → (i k : ℕ) → i < m → k < m
-      → (pivot R O t r c).entry i ((pivot R O t r c).basis k) ≡ cond (eqb i k) R.unit R.null
+  kept_units : (p : FeasibilityProblem A) (t : Table A) (r c : ℕ) → r < m → F.ring.mul (t.entry r c) (F.order.inv (t.entry r c)) ≡ F.ring.unit → HasInvariants F m n p t → (i k : ℕ) → i < m → k < m
+      → (pivot F t r c).entry i ((pivot F t r c).basis k) ≡ cond (eqb i k) F.ring.unit F.ring.null
   kept_units p t r c hr inverse h i k hi hk = by_cases (cases_eq k r) (cases_eq i r)
     where
       to : Table A
-      to = pivot R O t r c
+      to = pivot F t r c
 
-      is_null : (k ≡ r → ⊥) → t.entry r (t.basis k) ≡ R.null
-      is_null d = h.units r k hr hk ∙ ap (λ b. cond b R.unit R.null) (ne_eqb r k (λ e. d (sym e)))
+      is_null : (k ≡ r → ⊥) → t.entry r (t.basis k) ≡ F.ring.null
+      is_null d = h.units r k hr hk ∙ ap (λ b. cond b F.ring.unit F.ring.null) (ne_eqb r k (λ e. d (sym e)))
 
-      by_cases : (k ≡ r) ⊎ (k ≡ r → ⊥) → (i ≡ r) ⊎ (i ≡ r → ⊥) → to.entry i (to.basis k) ≡ cond (eqb i k) R.unit R.null
+      by_cases : (k ≡ r) ⊎ (k ≡ r → ⊥) → (i ≡ r) ⊎ (i ≡ r → ⊥) → to.entry i (to.basis k) ≡ cond (eqb i k) F.ring.unit F.ring.null
       by_cases (inl d) (inl e) = ap₂ (λ x y. to.entry x (to.basis y)) e d ∙ ap (to.entry r) (new_basis t r c) ∙ pivot_row t r c c ∙ inverse
-          ∙ ap (λ b. cond b R.unit R.null) (sym (eq-eqb i k (e ∙ sym d)))
+          ∙ ap (λ b. cond b F.ring.unit F.ring.null) (sym (eq-eqb i k (e ∙ sym d)))
       by_cases (inl d) (inr e) = ap (λ y. to.entry i (to.basis y)) d ∙ ap (to.entry i) (new_basis t r c) ∙ other_row t r c i c e
-          ∙ ring R (t.entry i c ∷ t.entry r c ∷ O.inv (t.entry r c) ∷ []) (plus (v 0) (minus (times (v 1) (times (v 0) (v 2))))) (plus (v 0) (minus (times (v 0) (times (v 1) (v 2))))) refl
-          ∙ ap (λ x. R.add (t.entry i c) (R.neg (R.mul (t.entry i c) x))) inverse
-          ∙ ring R (t.entry i c ∷ []) (plus (v 0) (minus (times (v 0) one))) nil refl
-          ∙ ap (λ b. cond b R.unit R.null) (sym (ne_eqb i k (λ q. e (q ∙ d))))
+          ∙ ring F.ring (t.entry i c ∷ t.entry r c ∷ F.order.inv (t.entry r c) ∷ []) (plus (v 0) (minus (times (v 1) (times (v 0) (v 2))))) (plus (v 0) (minus (times (v 0) (times (v 1) (v 2))))) refl
+          ∙ ap (λ x. F.ring.add (t.entry i c) (F.ring.neg (F.ring.mul (t.entry i c) x))) inverse
+          ∙ ring F.ring (t.entry i c ∷ []) (plus (v 0) (minus (times (v 0) one))) nil refl
+          ∙ ap (λ b. cond b F.ring.unit F.ring.null) (sym (ne_eqb i k (λ q. e (q ∙ d))))
       by_cases (inr d) (inl e) = ap (to.entry i) (old_basis t r c k d) ∙ ap (λ x. to.entry x (t.basis k)) e ∙ pivot_row t r c (t.basis k)
-          ∙ ap (λ x. R.mul x (O.inv (t.entry r c))) (is_null d)
-          ∙ ring R (O.inv (t.entry r c) ∷ []) (times nil (v 0)) nil refl
-          ∙ ap (λ b. cond b R.unit R.null) (sym (ne_eqb i k (λ q. d (sym q ∙ e))))
+          ∙ ap (λ x. F.ring.mul x (F.order.inv (t.entry r c))) (is_null d)
+          ∙ ring F.ring (F.order.inv (t.entry r c) ∷ []) (times nil (v 0)) nil refl
+          ∙ ap (λ b. cond b F.ring.unit F.ring.null) (sym (ne_eqb i k (λ q. d (sym q ∙ e))))
       by_cases (inr d) (inr e) = ap (to.entry i) (old_basis t r c k d) ∙ other_row t r c i (t.basis k) e
-          ∙ ap₂ (λ x y. R.add x (R.neg (R.mul y (R.mul (t.entry i c) (O.inv (t.entry r c)))))) (h.units i k hi hk) (is_null d)
-          ∙ ring R (cond (eqb i k) R.unit R.null ∷ R.mul (t.entry i c) (O.inv (t.entry r c)) ∷ []) (plus (v 0) (minus (times nil (v 1)))) (v 0) refl
+          ∙ ap₂ (λ x y. F.ring.add x (F.ring.neg (F.ring.mul y (F.ring.mul (t.entry i c) (F.order.inv (t.entry r c)))))) (h.units i k hi hk) (is_null d)
+          ∙ ring F.ring (cond (eqb i k) F.ring.unit F.ring.null ∷ F.ring.mul (t.entry i c) (F.order.inv (t.entry r c)) ∷ []) (plus (v 0) (minus (times nil (v 1)))) (v 0) refl
 
-  pub kept : (p : FeasibilityProblem A) (t : Table A) (r c : ℕ) → HasInvariants R O m n p t → MayEnter R O m n t r c → HasInvariants R O m n p (pivot R O t r c)
+  pub kept : (p : FeasibilityProblem A) (t : Table A) (r c : ℕ) → HasInvariants F m n p t → MayEnter F m n t r c → HasInvariants F m n p (pivot F t r c)
   kept p t r c h l = record {
     combines = kept_combines p t r c l.row h.combines;
     spans = kept_spans p t r c l.row inverse h;
@@ -162,9 +161,9 @@ module _ {A : Type 0} (R : Ring A) (O : Order R) (m n : ℕ) where
     own = λ k hk. by_cases k (cases_eq k r) hk;
   }
     where
-      inverse : R.mul (t.entry r c) (O.inv (t.entry r c)) ≡ R.unit
-      inverse = inv-above R O (t.entry r c) l.above
+      inverse : F.ring.mul (t.entry r c) (F.order.inv (t.entry r c)) ≡ F.ring.unit
+      inverse = inv-above F (t.entry r c) l.above
 
-      by_cases : (k : ℕ) → (k ≡ r) ⊎ (k ≡ r → ⊥) → k < m → ((pivot R O t r c).basis k < n) ⊎ ((pivot R O t r c).basis k ≡ n + k)
-      by_cases k (inl q) hk = inl (subst (λ (b : ℕ). b < n) (sym (ap (pivot R O t r c).basis q ∙ new_basis t r c)) l.column)
+      by_cases : (k : ℕ) → (k ≡ r) ⊎ (k ≡ r → ⊥) → k < m → ((pivot F t r c).basis k < n) ⊎ ((pivot F t r c).basis k ≡ n + k)
+      by_cases k (inl q) hk = inl (subst (λ (b : ℕ). b < n) (sym (ap (pivot F t r c).basis q ∙ new_basis t r c)) l.column)
       by_cases k (inr q) hk = subst (λ (b : ℕ). (b < n) ⊎ (b ≡ n + k)) (sym (old_basis t r c k q)) (h.own k hk)

@@ -2,9 +2,8 @@
 use Rattle.std.proofs.Common.{◌≡◌, ℕ, ◌+◌, ◌<◌, ◌≤◌, Bool, true, false, cond, eqb, [], ◌∷◌, refl, sym, ap, ap₂, subst, ◌∙◌, ◌⊎◌, inl, inr, arith}
 use Rattle.std.proofs.lemmas.Bool.{eq-eqb, ne_eqb, cases_eq, lt-ltb, le-ltb}
 use Rattle.it_number.proofs.Ring.{ring, v, times, minus, one}
-use Rattle.it_number.specs.Rings.{Ring}
 use Rattle.it_rational.proofs.Ordered.{below-neg}
-use Rattle.it_rational.specs.OrderedFields.{Order, IsAtLeastZero}
+use Rattle.it_rational.specs.OrderedFields.{OrderedField, IsAtLeastZero}
 use Rattle.it_tableau.specs.Sums.{sum_to}
 use Rattle.it_tableau.specs.Tables.{FeasibilityProblem, sign, start_row, start}
 use Rattle.it_tableau.specs.Invariants.{cost_of, HasInvariants}
@@ -17,68 +16,68 @@ eqb_shift n i k = by_cases (cases_eq i k)
     by_cases (inl e) = eq-eqb (n + i) (n + k) (ap (λ x. n + x) e) ∙ sym (eq-eqb i k e)
     by_cases (inr d) = ne_eqb (n + i) (n + k) (λ e. d (omega arith)) ∙ sym (ne_eqb i k d)
 
-module _ {A : Type 0} (R : Ring A) (O : Order R) (m n : ℕ) where
-  pub row_column : (p : FeasibilityProblem A) (k j : ℕ) → j < n → start_row R O m n p k j ≡ R.mul (sign R O p k) (p.column j k)
-  row_column p k j h = ap (λ b. cond b (R.mul (sign R O p k) (p.column j k)) (cond (eqb j (n + m)) (R.mul (sign R O p k) (p.target k)) (cond (eqb j (n + k)) R.unit R.null))) (lt-ltb j n h)
+module _ {A : Type 0} (F : OrderedField A) (m n : ℕ) where
+  pub row_column : (p : FeasibilityProblem A) (k j : ℕ) → j < n → start_row F m n p k j ≡ F.ring.mul (sign F p k) (p.column j k)
+  row_column p k j h = ap (λ b. cond b (F.ring.mul (sign F p k) (p.column j k)) (cond (eqb j (n + m)) (F.ring.mul (sign F p k) (p.target k)) (cond (eqb j (n + k)) F.ring.unit F.ring.null))) (lt-ltb j n h)
 
-  pub row_right : (p : FeasibilityProblem A) (k : ℕ) → start_row R O m n p k (n + m) ≡ R.mul (sign R O p k) (p.target k)
-  row_right p k = ap₂ (λ b c. cond b (R.mul (sign R O p k) (p.column (n + m) k)) (cond c (R.mul (sign R O p k) (p.target k)) (cond (eqb (n + m) (n + k)) R.unit R.null)))
+  pub row_right : (p : FeasibilityProblem A) (k : ℕ) → start_row F m n p k (n + m) ≡ F.ring.mul (sign F p k) (p.target k)
+  row_right p k = ap₂ (λ b c. cond b (F.ring.mul (sign F p k) (p.column (n + m) k)) (cond c (F.ring.mul (sign F p k) (p.target k)) (cond (eqb (n + m) (n + k)) F.ring.unit F.ring.null)))
       (le-ltb (n + m) n (omega arith)) (eq-eqb (n + m) (n + m) refl)
 
-  pub row_artificial : (p : FeasibilityProblem A) (k i : ℕ) → i < m → start_row R O m n p k (n + i) ≡ cond (eqb i k) R.unit R.null
+  pub row_artificial : (p : FeasibilityProblem A) (k i : ℕ) → i < m → start_row F m n p k (n + i) ≡ cond (eqb i k) F.ring.unit F.ring.null
   row_artificial p k i h =
-      ap₂ (λ b c. cond b (R.mul (sign R O p k) (p.column (n + i) k)) (cond c (R.mul (sign R O p k) (p.target k)) (cond (eqb (n + i) (n + k)) R.unit R.null)))
+      ap₂ (λ b c. cond b (F.ring.mul (sign F p k) (p.column (n + i) k)) (cond c (F.ring.mul (sign F p k) (p.target k)) (cond (eqb (n + i) (n + k)) F.ring.unit F.ring.null)))
       (le-ltb (n + i) n (omega arith)) (ne_eqb (n + i) (n + m) (λ e. omega arith))
-      ∙ ap (λ b. cond b R.unit R.null) (eqb_shift n i k)
+      ∙ ap (λ b. cond b F.ring.unit F.ring.null) (eqb_shift n i k)
 
-  pub start_entry : (p : FeasibilityProblem A) (i j : ℕ) → i < m → (start R O m n p).entry i j ≡ start_row R O m n p i j
-  start_entry p i j h = ap (λ b. cond b (start_row R O m n p i j) (cond (eqb i m) (R.neg (sum_to R m (λ k. start_row R O m n p k j))) R.null)) (lt-ltb i m h)
+  pub start_entry : (p : FeasibilityProblem A) (i j : ℕ) → i < m → (start F m n p).entry i j ≡ start_row F m n p i j
+  start_entry p i j h = ap (λ b. cond b (start_row F m n p i j) (cond (eqb i m) (F.ring.neg (sum_to F.ring m (λ k. start_row F m n p k j))) F.ring.null)) (lt-ltb i m h)
 
-  pub start_cost : (p : FeasibilityProblem A) (j : ℕ) → (start R O m n p).entry m j ≡ R.neg (sum_to R m (λ k. start_row R O m n p k j))
-  start_cost p j = ap₂ (λ b d. cond b (start_row R O m n p m j) (cond d (R.neg (sum_to R m (λ k. start_row R O m n p k j))) R.null)) (le-ltb m m (omega arith)) (eq-eqb m m refl)
+  pub start_cost : (p : FeasibilityProblem A) (j : ℕ) → (start F m n p).entry m j ≡ F.ring.neg (sum_to F.ring m (λ k. start_row F m n p k j))
+  start_cost p j = ap₂ (λ b d. cond b (start_row F m n p m j) (cond d (F.ring.neg (sum_to F.ring m (λ k. start_row F m n p k j))) F.ring.null)) (le-ltb m m (omega arith)) (eq-eqb m m refl)
 
-  pub start_basis : (p : FeasibilityProblem A) (i : ℕ) → i < m → (start R O m n p).basis i ≡ n + i
+  pub start_basis : (p : FeasibilityProblem A) (i : ℕ) → i < m → (start F m n p).basis i ≡ n + i
   start_basis p i h = ap (λ b. cond b (n + i) 0) (lt-ltb i m h)
 
-  artificial_cost : (p : FeasibilityProblem A) (k : ℕ) → k < m → (start R O m n p).entry m (n + k) ≡ R.neg R.unit
-  artificial_cost p k h = start_cost p (n + k) ∙ ap R.neg
-      (sum_same R m (λ i. start_row R O m n p i (n + k)) (λ i. cond (eqb i k) R.unit R.null) (λ i l. row_artificial p i k h ∙ ap (λ b. cond b R.unit R.null) (eqb_comm k i))
-      ∙ sum_one R m (λ i. R.unit) k h)
+  artificial_cost : (p : FeasibilityProblem A) (k : ℕ) → k < m → (start F m n p).entry m (n + k) ≡ F.ring.neg F.ring.unit
+  artificial_cost p k h = start_cost p (n + k) ∙ ap F.ring.neg
+      (sum_same F.ring m (λ i. start_row F m n p i (n + k)) (λ i. cond (eqb i k) F.ring.unit F.ring.null) (λ i l. row_artificial p i k h ∙ ap (λ b. cond b F.ring.unit F.ring.null) (eqb_comm k i))
+      ∙ sum_one F.ring m (λ i. F.ring.unit) k h)
 
   -- the sum of the negated rows
-  negated : (p : FeasibilityProblem A) (j : ℕ) (f : ℕ → A) → ((k : ℕ) → k < m → f k ≡ R.neg R.unit) → (start R O m n p).entry m j ≡ sum_to R m (λ k. R.mul (f k) (start_row R O m n p k j))
+  negated : (p : FeasibilityProblem A) (j : ℕ) (f : ℕ → A) → ((k : ℕ) → k < m → f k ≡ F.ring.neg F.ring.unit) → (start F m n p).entry m j ≡ sum_to F.ring m (λ k. F.ring.mul (f k) (start_row F m n p k j))
   negated p j f h = start_cost p j
-      ∙ ring R (sum_to R m (λ k. start_row R O m n p k j) ∷ []) (minus (v 0)) (times (minus one) (v 0)) refl
-      ∙ sym (sum_same R m (λ k. R.mul (f k) (start_row R O m n p k j)) (λ k. R.mul (R.neg R.unit) (start_row R O m n p k j)) (λ k l. ap (λ x. R.mul x (start_row R O m n p k j)) (h k l))
-      ∙ sum_times_left R m (λ k. start_row R O m n p k j) (R.neg R.unit))
+      ∙ ring F.ring (sum_to F.ring m (λ k. start_row F m n p k j) ∷ []) (minus (v 0)) (times (minus one) (v 0)) refl
+      ∙ sym (sum_same F.ring m (λ k. F.ring.mul (f k) (start_row F m n p k j)) (λ k. F.ring.mul (F.ring.neg F.ring.unit) (start_row F m n p k j)) (λ k l. ap (λ x. F.ring.mul x (start_row F m n p k j)) (h k l))
+      ∙ sum_times_left F.ring m (λ k. start_row F m n p k j) (F.ring.neg F.ring.unit))
 
   -- one row of a sum against a unit
-  picked : (p : FeasibilityProblem A) (k j : ℕ) (f g : ℕ → A) → k < m → ((i : ℕ) → i < m → f i ≡ cond (eqb i k) R.unit R.null) → ((i : ℕ) → i < m → g i ≡ start_row R O m n p i j)
-      → sum_to R m (λ i. R.mul (f i) (g i)) ≡ start_row R O m n p k j
+  picked : (p : FeasibilityProblem A) (k j : ℕ) (f g : ℕ → A) → k < m → ((i : ℕ) → i < m → f i ≡ cond (eqb i k) F.ring.unit F.ring.null) → ((i : ℕ) → i < m → g i ≡ start_row F m n p i j)
+      → sum_to F.ring m (λ i. F.ring.mul (f i) (g i)) ≡ start_row F m n p k j
   picked p k j f g h hf hg =
-      sum_same R m (λ i. R.mul (f i) (g i)) (λ i. R.mul (start_row R O m n p i j) (cond (eqb i k) R.unit R.null)) (λ i l. ap₂ R.mul (hf i l) (hg i l) ∙ R.mul_comm (cond (eqb i k) R.unit R.null) (start_row R O m n p i j))
-      ∙ sum_unit R m (λ i. start_row R O m n p i j) k h
+      sum_same F.ring m (λ i. F.ring.mul (f i) (g i)) (λ i. F.ring.mul (start_row F m n p i j) (cond (eqb i k) F.ring.unit F.ring.null)) (λ i l. ap₂ F.ring.mul (hf i l) (hg i l) ∙ F.ring.mul_comm (cond (eqb i k) F.ring.unit F.ring.null) (start_row F m n p i j))
+      ∙ sum_unit F.ring m (λ i. start_row F m n p i j) k h
 
-  pub started : (p : FeasibilityProblem A) → HasInvariants R O m n p (start R O m n p)
+  pub started : (p : FeasibilityProblem A) → HasInvariants F m n p (start F m n p)
   started p = record {
     combines = λ i j h. combined i j (cases_eq i m) h;
-    spans = λ k j h. sym (picked p k j (λ i. start_row R O m n p k ((start R O m n p).basis i)) (λ i. (start R O m n p).entry i j) h
-        (λ i l. ap (start_row R O m n p k) (start_basis p i l) ∙ row_artificial p k i l) (λ i l. start_entry p i j l));
-    rights = λ i h. subst (IsAtLeastZero R O) (sym (start_entry p i (n + m) h ∙ row_right p i)) (signed (p.target i) (O.is_least (p.target i)) refl);
-    costs = λ j. negated p j (λ k. cost_of R O m n ((start R O m n p).basis k))
-        (λ k l. ap (cost_of R O m n) (start_basis p k l) ∙ ap (λ b. cond b R.null (R.neg R.unit)) (le-ltb (n + k) n (omega arith)))
-        ∙ sum_same R m (λ k. R.mul (cost_of R O m n ((start R O m n p).basis k)) (start_row R O m n p k j)) (λ k. R.mul (cost_of R O m n ((start R O m n p).basis k)) ((start R O m n p).entry k j))
-        (λ k l. ap (R.mul (cost_of R O m n ((start R O m n p).basis k))) (sym (start_entry p k j l)));
-    units = λ i k hi hk. ap ((start R O m n p).entry i) (start_basis p k hk) ∙ start_entry p i (n + k) hi ∙ row_artificial p i k hk ∙ ap (λ b. cond b R.unit R.null) (eqb_comm k i);
+    spans = λ k j h. sym (picked p k j (λ i. start_row F m n p k ((start F m n p).basis i)) (λ i. (start F m n p).entry i j) h
+        (λ i l. ap (start_row F m n p k) (start_basis p i l) ∙ row_artificial p k i l) (λ i l. start_entry p i j l));
+    rights = λ i h. subst (IsAtLeastZero F) (sym (start_entry p i (n + m) h ∙ row_right p i)) (signed (p.target i) (F.order.is_least (p.target i)) refl);
+    costs = λ j. negated p j (λ k. cost_of F m n ((start F m n p).basis k))
+        (λ k l. ap (cost_of F m n) (start_basis p k l) ∙ ap (λ b. cond b F.ring.null (F.ring.neg F.ring.unit)) (le-ltb (n + k) n (omega arith)))
+        ∙ sum_same F.ring m (λ k. F.ring.mul (cost_of F m n ((start F m n p).basis k)) (start_row F m n p k j)) (λ k. F.ring.mul (cost_of F m n ((start F m n p).basis k)) ((start F m n p).entry k j))
+        (λ k l. ap (F.ring.mul (cost_of F m n ((start F m n p).basis k))) (sym (start_entry p k j l)));
+    units = λ i k hi hk. ap ((start F m n p).entry i) (start_basis p k hk) ∙ start_entry p i (n + k) hi ∙ row_artificial p i k hk ∙ ap (λ b. cond b F.ring.unit F.ring.null) (eqb_comm k i);
     own = λ k h. inr (start_basis p k h);
   }
     where
-      signed : (x : A) (b : Bool) → O.is_least x ≡ b → IsAtLeastZero R O (R.mul (cond b R.unit (R.neg R.unit)) x)
-      signed x true e = subst (IsAtLeastZero R O) (sym (R.unit-mul x)) e
-      signed x false e = subst (IsAtLeastZero R O) (ring R (x ∷ []) (minus (v 0)) (times (minus one) (v 0)) refl) (below-neg R O x e)
+      signed : (x : A) (b : Bool) → F.order.is_least x ≡ b → IsAtLeastZero F (F.ring.mul (cond b F.ring.unit (F.ring.neg F.ring.unit)) x)
+      signed x true e = subst (IsAtLeastZero F) (sym (F.ring.unit-mul x)) e
+      signed x false e = subst (IsAtLeastZero F) (ring F.ring (x ∷ []) (minus (v 0)) (times (minus one) (v 0)) refl) (below-neg F x e)
 
-      combined : (i j : ℕ) → (i ≡ m) ⊎ (i ≡ m → ⊥) → i ≤ m → (start R O m n p).entry i j ≡ sum_to R m (λ k. R.mul ((start R O m n p).entry i (n + k)) (start_row R O m n p k j))
-      combined i j (inl e) h = subst (λ (x : ℕ). (start R O m n p).entry x j ≡ sum_to R m (λ k. R.mul ((start R O m n p).entry x (n + k)) (start_row R O m n p k j))) (sym e)
-          (negated p j (λ k. (start R O m n p).entry m (n + k)) (λ k l. artificial_cost p k l))
+      combined : (i j : ℕ) → (i ≡ m) ⊎ (i ≡ m → ⊥) → i ≤ m → (start F m n p).entry i j ≡ sum_to F.ring m (λ k. F.ring.mul ((start F m n p).entry i (n + k)) (start_row F m n p k j))
+      combined i j (inl e) h = subst (λ (x : ℕ). (start F m n p).entry x j ≡ sum_to F.ring m (λ k. F.ring.mul ((start F m n p).entry x (n + k)) (start_row F m n p k j))) (sym e)
+          (negated p j (λ k. (start F m n p).entry m (n + k)) (λ k l. artificial_cost p k l))
       combined i j (inr d) h = let l : i < m = omega arith in start_entry p i j l
-          ∙ sym (picked p i j (λ k. (start R O m n p).entry i (n + k)) (λ k. start_row R O m n p k j) l (λ k q. start_entry p i (n + k) l ∙ row_artificial p i k q) (λ k q. refl))
+          ∙ sym (picked p i j (λ k. (start F m n p).entry i (n + k)) (λ k. start_row F m n p k j) l (λ k q. start_entry p i (n + k) l ∙ row_artificial p i k q) (λ k q. refl))

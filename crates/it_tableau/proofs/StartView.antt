@@ -7,7 +7,7 @@ use Rattle.it_number.proofs.Ring.{ring, minus, nil}
 use Rattle.it_rational.specs.Rational.{Rational}
 use Rattle.it_rational.specs.Rational as Q
 use Rattle.it_rational.proofs.RationalLaws.{ring_ℚ}
-use Rattle.it_rational.proofs.Field.{order_ℚ}
+use Rattle.it_rational.proofs.Field.{field_ℚ}
 use Rattle.it_space.specs.Rows.{Terms}
 use Rattle.it_fraction.specs.Fits.{SumFits}
 use Rattle.it_tableau.specs.Sums.{sum_to}
@@ -31,14 +31,14 @@ module _ (cs : List ℕ) (columns : List Terms) (target : Terms) where
 
   -- entry j of row k of the start
   abbrev entry : ℕ → ℕ → Rational
-  entry k j = start_row ring_ℚ order_ℚ (length cs) (length columns) (feasibility_problem cs columns target) k j
+  entry k j = start_row field_ℚ (length cs) (length columns) (feasibility_problem cs columns target) k j
 
   -- past the right side a row of the start has nothing
   entry_past : (k j : ℕ) → k < length cs → length columns + length cs + 1 ≤ j → entry k j ≡ Q.whole (pos 0)
   entry_past k j h l =
       let p : FeasibilityProblem Rational = feasibility_problem cs columns target in
-      ap (λ b. cond b (Q.times (sign ring_ℚ order_ℚ p k) (p.column j k)) (cond (eqb j (n + m)) (Q.times (sign ring_ℚ order_ℚ p k) (p.target k)) (cond (eqb j (n + k)) (Q.whole (pos 1)) (Q.whole (pos 0))))) (le-ltb j n (omega arith))
-      ∙ ap₂ (λ b d. cond b (Q.times (sign ring_ℚ order_ℚ p k) (p.target k)) (cond d (Q.whole (pos 1)) (Q.whole (pos 0)))) (ne_eqb j (n + m) (λ e. omega arith)) (ne_eqb j (n + k) (λ e. omega arith))
+      ap (λ b. cond b (Q.times (sign field_ℚ p k) (p.column j k)) (cond (eqb j (n + m)) (Q.times (sign field_ℚ p k) (p.target k)) (cond (eqb j (n + k)) (Q.whole (pos 1)) (Q.whole (pos 0))))) (le-ltb j n (omega arith))
+      ∙ ap₂ (λ b d. cond b (Q.times (sign field_ℚ p k) (p.target k)) (cond d (Q.whole (pos 1)) (Q.whole (pos 0)))) (ne_eqb j (n + m) (λ e. omega arith)) (ne_eqb j (n + k) (λ e. omega arith))
 
   module _ (rows : List (List Rational)) (a : AreStartRows cs columns target (length cs) rows) where
     sum_is : (k j : ℕ) → k ≤ length cs → j < length columns + length cs + 1 → column_sum rows j k ≡ sum_to ring_ℚ k (λ i. entry i j)

@@ -4,7 +4,7 @@ use Rattle.std.proofs.lemmas.Bool.{eq-eqb, ne_eqb, eqb-true, cases_eq}
 use Rattle.it_number.proofs.Ring.{ring, mul-null, v, plus, times, minus, nil}
 use Rattle.it_number.specs.Rings.{Ring}
 use Rattle.it_rational.proofs.Ordered.{null-least, not_both}
-use Rattle.it_rational.specs.OrderedFields.{Order, IsAtLeastZero, IsBelowZero}
+use Rattle.it_rational.specs.OrderedFields.{OrderedField, IsAtLeastZero, IsBelowZero}
 use Rattle.it_tableau.specs.Sums.{sum_to}
 use native.Mathlib.Nat.{eq-or-lt_of_le, le_of_suc-le-suc}
 
@@ -76,36 +76,36 @@ module _ {A : Type 0} (R : Ring A) where
       for_each i true = R.mul_comm (f i) R.unit ∙ R.unit-mul (f i)
       for_each i false = mul-null R (f i)
 
-module _ {A : Type 0} (R : Ring A) (O : Order R) where
+module _ {A : Type 0} (F : OrderedField A) where
   -- a sum of terms of at least 0 is at least 0
-  pub sum_least : (n : ℕ) (f : ℕ → A) → ((k : ℕ) → k < n → IsAtLeastZero R O (f k)) → IsAtLeastZero R O (sum_to R n f)
-  sum_least zero f h = null-least R O
-  sum_least (suc n) f h = O.add-least (f n) (sum_to R n f) (h n (omega arith)) (sum_least n f (λ k l. h k (omega arith)))
+  pub sum_least : (n : ℕ) (f : ℕ → A) → ((k : ℕ) → k < n → IsAtLeastZero F (f k)) → IsAtLeastZero F (sum_to F.ring n f)
+  sum_least zero f h = null-least F
+  sum_least (suc n) f h = F.order.add-least (f n) (sum_to F.ring n f) (h n (omega arith)) (sum_least n f (λ k l. h k (omega arith)))
 
   -- where terms of at least 0 sum to 0, each is 0
-  pub all_null : (n : ℕ) (f : ℕ → A) → ((k : ℕ) → k < n → IsAtLeastZero R O (f k)) → sum_to R n f ≡ R.null → (k : ℕ) → k < n → f k ≡ R.null
+  pub all_null : (n : ℕ) (f : ℕ → A) → ((k : ℕ) → k < n → IsAtLeastZero F (f k)) → sum_to F.ring n f ≡ F.ring.null → (k : ℕ) → k < n → f k ≡ F.ring.null
   all_null zero f h e k l = absurd (omega arith)
-  all_null (suc n) f h e k l = by_cases (eq-or-lt_of_le (le_of_suc-le-suc l)) (all_null n f (λ k l. h k (omega arith)) (sum_is_null (f n) (sum_to R n f) last_null e) k)
+  all_null (suc n) f h e k l = by_cases (eq-or-lt_of_le (le_of_suc-le-suc l)) (all_null n f (λ k l. h k (omega arith)) (sum_is_null (f n) (sum_to F.ring n f) last_null e) k)
     where
-      opposite : (a b : A) → R.add a b ≡ R.null → b ≡ R.neg a
-      opposite a b e = ring R (a ∷ b ∷ []) (v 1) (plus (plus (v 0) (v 1)) (minus (v 0))) refl ∙ ap (λ z. R.add z (R.neg a)) e ∙ R.null-add (R.neg a)
+      opposite : (a b : A) → F.ring.add a b ≡ F.ring.null → b ≡ F.ring.neg a
+      opposite a b e = ring F.ring (a ∷ b ∷ []) (v 1) (plus (plus (v 0) (v 1)) (minus (v 0))) refl ∙ ap (λ z. F.ring.add z (F.ring.neg a)) e ∙ F.ring.null-add (F.ring.neg a)
 
-      last_null : f n ≡ R.null
-      last_null = O.strict (f n) (h n (omega arith)) (rw (← opposite (f n) (sum_to R n f) e) (sum_least n f (λ k l. h k (omega arith))))
+      last_null : f n ≡ F.ring.null
+      last_null = F.order.strict (f n) (h n (omega arith)) (rw (← opposite (f n) (sum_to F.ring n f) e) (sum_least n f (λ k l. h k (omega arith))))
 
-      sum_is_null : (a b : A) → a ≡ R.null → R.add a b ≡ R.null → b ≡ R.null
-      sum_is_null a b h e = sym (R.null-add b) ∙ ap (λ z. R.add z b) (sym h) ∙ e
+      sum_is_null : (a b : A) → a ≡ F.ring.null → F.ring.add a b ≡ F.ring.null → b ≡ F.ring.null
+      sum_is_null a b h e = sym (F.ring.null-add b) ∙ ap (λ z. F.ring.add z b) (sym h) ∙ e
 
-      by_cases : (k ≡ n) ⊎ (k < n) → (k < n → f k ≡ R.null) → f k ≡ R.null
+      by_cases : (k ≡ n) ⊎ (k < n) → (k < n → f k ≡ F.ring.null) → f k ≡ F.ring.null
       by_cases (inl e) g = ap f e ∙ last_null
       by_cases (inr l) g = g l
 
   -- a sum below 0 has a term below 0
-  pub some_below : (n : ℕ) (f : ℕ → A) → IsBelowZero R O (sum_to R n f) → (k : ℕ) × (k < n) × IsBelowZero R O (f k)
-  some_below zero f h = absurd (not_both R O R.null h (null-least R O))
-  some_below (suc n) f h = by_test (O.is_least (f n)) (O.is_least (sum_to R n f)) refl refl (λ b. some_below n f b)
+  pub some_below : (n : ℕ) (f : ℕ → A) → IsBelowZero F (sum_to F.ring n f) → (k : ℕ) × (k < n) × IsBelowZero F (f k)
+  some_below zero f h = absurd (not_both F F.ring.null h (null-least F))
+  some_below (suc n) f h = by_test (F.order.is_least (f n)) (F.order.is_least (sum_to F.ring n f)) refl refl (λ b. some_below n f b)
     where
-      by_test : (a b : Bool) → O.is_least (f n) ≡ a → O.is_least (sum_to R n f) ≡ b → (IsBelowZero R O (sum_to R n f) → (k : ℕ) × (k < n) × IsBelowZero R O (f k)) → (k : ℕ) × (k < suc n) × IsBelowZero R O (f k)
+      by_test : (a b : Bool) → F.order.is_least (f n) ≡ a → F.order.is_least (sum_to F.ring n f) ≡ b → (IsBelowZero F (sum_to F.ring n f) → (k : ℕ) × (k < n) × IsBelowZero F (f k)) → (k : ℕ) × (k < suc n) × IsBelowZero F (f k)
       by_test false b e d g = (n, omega arith, e)
       by_test true false e d g = let p = g d in (p.0, omega (arith, p.1), p.2)
-      by_test true true e d g = absurd (not_both R O (sum_to R (suc n) f) h (O.add-least (f n) (sum_to R n f) e d))
+      by_test true true e d g = absurd (not_both F (sum_to F.ring (suc n) f) h (F.order.add-least (f n) (sum_to F.ring n f) e d))

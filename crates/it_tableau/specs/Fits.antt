@@ -3,14 +3,14 @@
 use Rattle.std.specs.Prelude.{◌≢◌, ℕ, ◌+◌, ◌<◌, ◌≤◌}
 use Rattle.it_rational.specs.Rational.{Rational, times, inverse}
 use Rattle.it_rational.proofs.RationalLaws.{ring_ℚ}
-use Rattle.it_rational.proofs.Field.{order_ℚ}
+use Rattle.it_rational.proofs.Field.{field_ℚ}
 use Rattle.it_fraction.specs.Fits.{IsNarrow, DifferenceFits}
 use Rattle.it_tableau.specs.Sums.{sum_to}
 use Rattle.it_tableau.specs.Tables.{Table, FeasibilityProblem, start_row}
 
 -- each partial sum of the cost row, in the order of the rows
 abbrev pub StartFits : ℕ → ℕ → FeasibilityProblem Rational → Type 0
-StartFits m n p = (k j : ℕ) → k ≤ m → j < n + m + 1 → IsNarrow (sum_to ring_ℚ k (λ i. start_row ring_ℚ order_ℚ m n p i j))
+StartFits m n p = (k j : ℕ) → k ≤ m → j < n + m + 1 → IsNarrow (sum_to ring_ℚ k (λ i. start_row field_ℚ m n p i j))
 
 abbrev pub QuotientFits : Rational → Rational → Type 0
 QuotientFits x y = IsNarrow (times x (inverse y))

@@ -1,29 +1,28 @@
 -- What every table of the first phase keeps, and which pivots keep it.
 use Rattle.std.specs.Prelude.{◌≡◌, ◌⊎◌, ℕ, ◌+◌, ◌<◌, ◌≤◌, cond, eqb, ltb}
-use Rattle.it_number.specs.Rings.{Ring}
-use Rattle.it_rational.specs.OrderedFields.{Order, IsAtLeastZero, IsAboveZero}
+use Rattle.it_rational.specs.OrderedFields.{OrderedField, IsAtLeastZero, IsAboveZero}
 use Rattle.it_tableau.specs.Sums.{sum_to}
 use Rattle.it_tableau.specs.Tables.{Table, FeasibilityProblem, difference, start_row, ratio}
 
-module _ {A : Type 0} (R : Ring A) (O : Order R) (m n : ℕ) where
+module _ {A : Type 0} (F : OrderedField A) (m n : ℕ) where
   -- the cost of a basic column: 0, and -1 where it is an artificial
   abbrev pub cost_of : ℕ → A
-  cost_of j = cond (ltb j n) R.null (R.neg R.unit)
+  cost_of j = cond (ltb j n) F.ring.null (F.ring.neg F.ring.unit)
 
   -- each row, the cost row too, is the sum of its entries at the artificials times the start rows
   abbrev pub CombinesStart : FeasibilityProblem A → Table A → Type 0
-  CombinesStart p t = (i j : ℕ) → i ≤ m → t.entry i j ≡ sum_to R m (λ k. R.mul (t.entry i (n + k)) (start_row R O m n p k j))
+  CombinesStart p t = (i j : ℕ) → i ≤ m → t.entry i j ≡ sum_to F.ring m (λ k. F.ring.mul (t.entry i (n + k)) (start_row F m n p k j))
 
   pub record HasInvariants (p : FeasibilityProblem A) (t : Table A) : Type 0 where
     pub combines : CombinesStart p t
     -- each start row is the sum of its entries at the basic columns times the rows
-    pub spans : (k j : ℕ) → k < m → start_row R O m n p k j ≡ sum_to R m (λ i. R.mul (start_row R O m n p k (t.basis i)) (t.entry i j))
+    pub spans : (k j : ℕ) → k < m → start_row F m n p k j ≡ sum_to F.ring m (λ i. F.ring.mul (start_row F m n p k (t.basis i)) (t.entry i j))
     -- right sides are at least 0
-    pub rights : (i : ℕ) → i < m → IsAtLeastZero R O (t.entry i (n + m))
+    pub rights : (i : ℕ) → i < m → IsAtLeastZero F (t.entry i (n + m))
     -- the cost row is the negated sum of the rows whose basic column is an artificial
-    pub costs : (j : ℕ) → t.entry m j ≡ sum_to R m (λ i. R.mul (cost_of (t.basis i)) (t.entry i j))
+    pub costs : (j : ℕ) → t.entry m j ≡ sum_to F.ring m (λ i. F.ring.mul (cost_of (t.basis i)) (t.entry i j))
     -- a basic column is a unit column
-    pub units : (i k : ℕ) → i < m → k < m → t.entry i (t.basis k) ≡ cond (eqb i k) R.unit R.null
+    pub units : (i k : ℕ) → i < m → k < m → t.entry i (t.basis k) ≡ cond (eqb i k) F.ring.unit F.ring.null
     -- a basic artificial is the row's own: one that has left doesn't come back
     pub own : (k : ℕ) → k < m → (t.basis k < n) ⊎ (t.basis k ≡ n + k)
 
@@ -31,5 +30,5 @@ module _ {A : Type 0} (R : Ring A) (O : Order R) (m n : ℕ) where
   pub record MayEnter (t : Table A) (r c : ℕ) : Type 0 where
     pub column : c < n
     pub row : r < m
-    pub above : IsAboveZero R O (t.entry r c)
-    pub least : (i : ℕ) → i < m → IsAboveZero R O (t.entry i c) → IsAtLeastZero R O (difference R (ratio R O m n t c i) (ratio R O m n t c r))
+    pub above : IsAboveZero F (t.entry r c)
+    pub least : (i : ℕ) → i < m → IsAboveZero F (t.entry i c) → IsAtLeastZero F (difference F.ring (ratio F m n t c i) (ratio F m n t c r))

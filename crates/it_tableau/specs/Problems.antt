@@ -1,8 +1,7 @@
 -- The problem of sparse rows: the coordinates are the table's rows, each row of the list is a column.
 use Rattle.std.specs.Prelude.{ℕ, List, [], length, slice_index_or}
 use Rattle.it_rational.specs.Rational.{Rational, whole}
-use Rattle.it_rational.proofs.RationalLaws.{ring_ℚ}
-use Rattle.it_rational.proofs.Field.{order_ℚ}
+use Rattle.it_rational.proofs.Field.{field_ℚ}
 use Rattle.it_space.specs.Rows.{Terms, coefficient}
 use Rattle.it_tableau.specs.Tables.{FeasibilityProblem, Table, start}
 
@@ -13,4 +12,4 @@ feasibility_problem coordinates columns target = record {
 }
 
 abbrev pub start_of : List ℕ → List Terms → Terms → Table Rational
-start_of coordinates columns target = start ring_ℚ order_ℚ (length coordinates) (length columns) (feasibility_problem coordinates columns target)
+start_of coordinates columns target = start field_ℚ (length coordinates) (length columns) (feasibility_problem coordinates columns target)

@@ -2,7 +2,7 @@
 -- the pivot (Dantzig 1963, "Linear Programming and Extensions", chapter 5).
 use Rattle.std.specs.Prelude.{ℕ, ◌+◌, cond, eqb, ltb}
 use Rattle.it_number.specs.Rings.{Ring}
-use Rattle.it_rational.specs.OrderedFields.{Order}
+use Rattle.it_rational.specs.OrderedFields.{OrderedField}
 use Rattle.it_tableau.specs.Sums.{sum_to}
 
 -- The question: whether the target is a sum of the columns with weights of at least 0.
@@ -21,33 +21,33 @@ module _ {A : Type 0} (R : Ring A) where
   abbrev pub difference : A → A → A
   difference a b = R.add a (R.neg b)
 
-module _ {A : Type 0} (R : Ring A) (O : Order R) where
+module _ {A : Type 0} (F : OrderedField A) where
   -- the sign by which a row is multiplied, so that its right side is at least 0
   abbrev pub sign : FeasibilityProblem A → ℕ → A
-  sign p k = cond (O.is_least (p.target k)) R.unit (R.neg R.unit)
+  sign p k = cond (F.order.is_least (p.target k)) F.ring.unit (F.ring.neg F.ring.unit)
 
   -- the table after column c has become basic in row r: row r is divided by its entry at c, and every other row has as much of
   -- row r taken off as makes its entry at c 0
   abbrev pub pivot : Table A → ℕ → ℕ → Table A
   pivot t r c = record {
-    entry = λ i j. cond (eqb i r) (R.mul (t.entry r j) (O.inv (t.entry r c)))
-        (difference R (t.entry i j) (R.mul (t.entry r j) (R.mul (t.entry i c) (O.inv (t.entry r c)))));
+    entry = λ i j. cond (eqb i r) (F.ring.mul (t.entry r j) (F.order.inv (t.entry r c)))
+        (difference F.ring (t.entry i j) (F.ring.mul (t.entry r j) (F.ring.mul (t.entry i c) (F.order.inv (t.entry r c)))));
     basis = λ i. cond (eqb i r) c (t.basis i);
   }
 
   module _ (m n : ℕ) where
     -- row k of the start: the columns, the artificial columns as an identity matrix, the right side
     abbrev pub start_row : FeasibilityProblem A → ℕ → ℕ → A
-    start_row p k j = cond (ltb j n) (R.mul (sign p k) (p.column j k))
-        (cond (eqb j (n + m)) (R.mul (sign p k) (p.target k)) (cond (eqb j (n + k)) R.unit R.null))
+    start_row p k j = cond (ltb j n) (F.ring.mul (sign p k) (p.column j k))
+        (cond (eqb j (n + m)) (F.ring.mul (sign p k) (p.target k)) (cond (eqb j (n + k)) F.ring.unit F.ring.null))
 
     -- the start: the artificial columns are basic, and the cost row is the negated sum of the rows
     abbrev pub start : FeasibilityProblem A → Table A
     start p = record {
-      entry = λ i j. cond (ltb i m) (start_row p i j) (cond (eqb i m) (R.neg (sum_to R m (λ k. start_row p k j))) R.null);
+      entry = λ i j. cond (ltb i m) (start_row p i j) (cond (eqb i m) (F.ring.neg (sum_to F.ring m (λ k. start_row p k j))) F.ring.null);
       basis = λ i. cond (ltb i m) (n + i) 0;
     }
 
     -- the right side of a row divided by its entry at c
     abbrev pub ratio : Table A → ℕ → ℕ → A
-    ratio t c i = R.mul (t.entry i (n + m)) (O.inv (t.entry i c))
+    ratio t c i = F.ring.mul (t.entry i (n + m)) (F.order.inv (t.entry i c))

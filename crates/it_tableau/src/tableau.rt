@@ -1,7 +1,6 @@
 //! The tableau.
 ghost use Rattle.std.specs.Prelude.{◌≡◌, ◌+◌, ◌<◌, ℕ, false, true, length, IfErr, IfOk, OkIff, OnErr, OnOk, slice_index_or};
-ghost use Rattle.it_rational.proofs.Field.{order_ℚ};
-ghost use Rattle.it_rational.proofs.RationalLaws.{ring_ℚ};
+ghost use Rattle.it_rational.proofs.Field.{field_ℚ};
 ghost use Rattle.it_fraction.specs.Fits.{IsNarrow};
 ghost use Rattle.it_tableau.specs.Fits.{PivotFits, StartFits};
 ghost use Rattle.it_tableau.specs.Problems.{feasibility_problem};
@@ -162,7 +161,7 @@ impl Tableau {
         requires row { row < height self.now }
         requires column { column < width self.now }
         requires positive { IsPositive ((table self.now).entry row column) }
-        ensures { OkIff result (IsNarrow (ratio ring_ℚ order_ℚ (height self.now) self.now.generators (table self.now) column row)) (ratio ring_ℚ order_ℚ (height self.now) self.now.generators (table self.now) column row) }
+        ensures { OkIff result (IsNarrow (ratio field_ℚ (height self.now) self.now.generators (table self.now) column row)) (ratio field_ℚ (height self.now) self.now.generators (table self.now) column row) }
     {
         self.rhs(row).div(self.entry(row, column))
     }
@@ -174,7 +173,7 @@ impl Tableau {
         requires column { column < width self.old }
         requires positive { IsPositive ((table self.old).entry row column) }
         ensures ok { OnOk result (PivotFits (height self.old) self.old.generators (table self.old) row column) }
-        ensures value { OnOk result (table self.new ≡ pivot ring_ℚ order_ℚ (table self.old) row column) }
+        ensures value { OnOk result (table self.new ≡ pivot field_ℚ (table self.old) row column) }
         ensures usable { OnOk result (self.new.spent ≡ false) }
         ensures frame { KeepsFrame self.old self.new }
         ensures wide { IfErr result (λ fault. fault ≡ RowFault.Wide → ¬ (PivotFits (height self.old) self.old.generators (table self.old) row column)) }

@@ -1,7 +1,6 @@
 use Rattle.std.proofs.Common.{◌≡◌, ◌<◌, ℕ, ◌+◌, true, not, ap, sym, ◌∙◌, subst, arith}
 use Rattle.std.proofs.lemmas.Bool.{true≢false}
-use Rattle.it_rational.proofs.RationalLaws.{ring_ℚ}
-use Rattle.it_rational.proofs.Field.{order_ℚ}
+use Rattle.it_rational.proofs.Field.{field_ℚ}
 use Rattle.it_rational.specs.Rational.{minus, is_at_least_zero}
 use Rattle.it_fraction.specs.Fits.{IsNarrow}
 use Rattle.it_tableau.specs.TableauViews.{height, table}
@@ -14,10 +13,10 @@ use Rattle.it_run.proofs.choice.leaving.Goals as goal
 use Rattle.it_run.proofs.choice.leaving.Goals.{Joined-is_positive, then-is_positive+in_ok-ratio, else-is_positive}
 
 abbrev Open : Joined-is_positive → ℕ → Type 0
-Open c i = is_candidate ring_ℚ order_ℚ (table c.args.tableau.now) c.args.column i ≡ true
+Open c i = is_candidate field_ℚ (table c.args.tableau.now) c.args.column i ≡ true
 
 abbrev Fit : Joined-is_positive → ℕ → Type 0
-Fit c i = IsNarrow (ratio ring_ℚ order_ℚ (height c.args.tableau.now) c.args.tableau.now.generators (table c.args.tableau.now) c.args.column i)
+Fit c i = IsNarrow (ratio field_ℚ (height c.args.tableau.now) c.args.tableau.now.generators (table c.args.tableau.now) c.args.column i)
 
 pub loop-i-preserved : goal.loop-i-preserved
 loop-i-preserved c =

@@ -1,6 +1,5 @@
 use Rattle.std.proofs.Common.{◌≡◌, ℕ, ◌<◌, true}
-use Rattle.it_rational.proofs.RationalLaws.{ring_ℚ}
-use Rattle.it_rational.proofs.Field.{order_ℚ}
+use Rattle.it_rational.proofs.Field.{field_ℚ}
 use Rattle.it_fraction.specs.Fits.{IsNarrow}
 use Rattle.it_tableau.specs.TableauViews.{height, table}
 use Rattle.it_tableau.specs.Tables.{ratio}
@@ -11,5 +10,5 @@ use Rattle.it_run.proofs.choice.leaving.Given as goal
 abbrev pub invariant-loop-i : goal.invariant-loop-i
 invariant-loop-i l = record {
   best : IsBestOf (height l.tableau) l.tableau.generators (table l.tableau) l.column l.i l.best;
-  fits : (i : ℕ) → i < l.i → is_candidate ring_ℚ order_ℚ (table l.tableau) l.column i ≡ true → IsNarrow (ratio ring_ℚ order_ℚ (height l.tableau) l.tableau.generators (table l.tableau) l.column i);
+  fits : (i : ℕ) → i < l.i → is_candidate field_ℚ (table l.tableau) l.column i ≡ true → IsNarrow (ratio field_ℚ (height l.tableau) l.tableau.generators (table l.tableau) l.column i);
 }
