@@ -44,14 +44,6 @@ pub fn gather(
     Ok(())
 }
 
-/// The same row once more.
-pub fn copy(alloc: Global, row: &Row) -> Result<Row, AllocError>
-    ensures { IfOk result (λ r. r ≡ row.now) }
-{
-    let terms = row.terms().iter().copied().collect(alloc)?;
-    Ok(Row::new(terms))
-}
-
 /// The rows as a list.
 pub fn row_list(alloc: Global, rows: &IndexSet<Vec<(u32, i128)>>) -> Result<Vec<Row>, AllocError>
     requires { Every IsCanonical (rows_of rows.now.keys) }
@@ -80,7 +72,7 @@ pub fn in_order(alloc: Global, rows: &[Row]) -> Result<IndexSet<Vec<(u32, i128)>
 {
     let mut ordered = IndexSet::new(alloc);
     for row in rows {
-        put_lowest(&mut ordered, copy(alloc, row)?)?;
+        put_lowest(&mut ordered, row.copy(alloc)?)?;
     }
     Ok(ordered)
 }

@@ -7,7 +7,7 @@ ghost use Rattle.it_eliminate.specs.Elimination.{next_list, PairsFit};
 ghost use Rattle.std.specs.List.{AllByRecursion as Every, flat_map};
 ghost use Rattle.it_eliminate.specs.Gathering.{rows_of, pair_of, up_pairs, flat_of, DownFits, UpFits, Gathers, IsKept};
 
-use crate::ordered::{copy, gather};
+use crate::ordered::gather;
 use indexmap::IndexSet;
 use it_space::{Row, RowFault, cancel};
 use std::alloc::{AllocError, Global};
@@ -23,7 +23,7 @@ fn gather_flat(
     ensures { OnOk result (Gathers most (flat_of at row.now) (rows_of list.old.keys) (rows_of list.new.keys)) }
 {
     if row.coefficient(at) == 0 {
-        gather(list, copy(alloc, row)?, most)?;
+        gather(list, row.copy(alloc)?, most)?;
     }
     Ok(())
 }

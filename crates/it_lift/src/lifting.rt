@@ -41,21 +41,9 @@ pub fn lift(
     ensures wide { IfErr result (λ fault. fault ≡ RowFault.Wide → (dependences.now.list ≢ []) × (¬ (FitsLift (problem_view problem.now) dependences.now target.now (certificate_view collapsed.now)))) }
 {
     if dependences.list().is_empty() {
-        return Ok(copy_of(alloc, collapsed)?);
+        return Ok(collapsed.copy(alloc)?);
     }
     lift_all(alloc, problem, dependences, target, collapsed)
-}
-
-/// The certificate once more.
-fn copy_of(alloc: Global, certificate: &Certificate) -> Result<Certificate, AllocError>
-    ensures { IfOk result (λ c. certificate_view c ≡ certificate_view certificate.now) }
-{
-    let mut weights = Vec::new(alloc);
-    weights.extend_from_slice(certificate.weights.as_slice())?;
-    Ok(Certificate {
-        scale: certificate.scale,
-        weights,
-    })
 }
 
 /// The same with every number formed.

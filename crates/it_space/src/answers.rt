@@ -1,13 +1,31 @@
 //! Answers to questions, and what they are made of.
+ghost use Rattle.std.specs.Prelude.{◌≡◌, IfOk};
+ghost use Rattle.it_space.specs.Answers.{certificate_view};
+
 use crate::points::Point;
 use crate::rows::Row;
 use crate::sets::VarSet;
+use std::alloc::{AllocError, Global};
 
 /// Weights of generators over one positive scale, each weight after its generator's number.
 #[derive(Debug, Drop)]
 pub struct Certificate {
     pub scale: i128,
     pub weights: Vec<(u32, i128)>,
+}
+
+impl Certificate {
+    /// The same certificate once more.
+    pub fn copy(&self, alloc: Global) -> Result<Certificate, AllocError>
+        ensures { IfOk result (λ c. certificate_view c ≡ certificate_view self.now) }
+    {
+        let mut weights = Vec::new(alloc);
+        weights.extend_from_slice(self.weights.as_slice())?;
+        Ok(Certificate {
+            scale: self.scale,
+            weights,
+        })
+    }
 }
 
 /// The answer to a question.
