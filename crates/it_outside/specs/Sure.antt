@@ -16,8 +16,8 @@ abbrev pub new_sure_sink : ℕ → SureSinkState
 new_sure_sink limit = record { limit = limit; kept = []; more = false }
 
 -- the bytes that it took, where it kept all of them
-abbrev pub told : SureSinkState → Option (List ℕ)
-told s = if s.more then None else Some s.kept
+abbrev pub bytes_told : SureSinkState → Option (List ℕ)
+bytes_told s = if s.more then None else Some s.kept
 
 -- the sink after a write of this piece
 abbrev pub after_sure_write : SureSinkState → List ℕ → SureSinkState

@@ -3,7 +3,7 @@ ghost use Rattle.std.specs.Prelude.{◌≡◌, ◌<◌, ◌≤◌, ◌++◌, [],
 ghost use Rattle.std.specs.Io.{ReadsAtMost, WritesAtMost};
 ghost use Rattle.std.specs.Io.KnownBytes.{ReadConsumes};
 ghost use Rattle.it_outside.specs.Causes.{HasCause};
-ghost use Rattle.it_outside.specs.Sure.{new_sure_sink, told, after_sure_write};
+ghost use Rattle.it_outside.specs.Sure.{new_sure_sink, bytes_told, after_sure_write};
 ghost use Rattle.it_outside.specs.Traffic.{WriteGains};
 
 use crate::ends::{Failed, Sink, Source};
@@ -110,7 +110,7 @@ impl SureSink {
 }
 
 impl Sink for SureSink {
-    ghost taken = { told };
+    ghost taken = { bytes_told };
 
     ghost faults = { λ s. 0 };
 
@@ -118,7 +118,7 @@ impl Sink for SureSink {
     fn write(&mut self, piece: &[u8]) -> Result<usize, Failed>
         ensures bound { WritesAtMost result piece.now }
         ensures moves { IfOk result (λ count. 0 < length piece.now → 0 < count) }
-        ensures bytes { WriteGains (told self.old) (told self.new) result piece.now }
+        ensures bytes { WriteGains (bytes_told self.old) (bytes_told self.new) result piece.now }
         ensures cause { HasCause 0 0 result }
 
         // Exactly what is taken: everything.

@@ -21,13 +21,13 @@ value_from n [] = Some n
 value_from n (d ∷ ds) = if is_digit d then value_from (10 * n + (d - 48)) ds else None
 
 -- a number in its range
-abbrev pub within : ℕ → ℕ → ℕ → Option ℕ
-within least most n = if nat_le least n && nat_le n most then Some n else None
+abbrev pub number_within : ℕ → ℕ → ℕ → Option ℕ
+number_within least most n = if nat_le least n && nat_le n most then Some n else None
 
 -- one to ten decimal digits with a value from `least` to `most`
 unfoldable pub number_of : ℕ → ℕ → Text → Option ℕ
 number_of least most text =
-    if nat_le 1 (length text) && nat_le (length text) 10 then option_and_then (within least most) (value_from 0 text) else None
+    if nat_le 1 (length text) && nat_le (length text) 10 then option_and_then (number_within least most) (value_from 0 text) else None
 
 -- the default where nothing was given
 abbrev pub number_or : ℕ → ℕ → ℕ → Option Text → Option ℕ
@@ -75,8 +75,8 @@ pub record ValuesView : Type 0 where
   pub seed : Option Text
   pub count : Option Text
 
-abbrev pub nothing : Option Text → Bool
-nothing o = not (is_some o)
+abbrev pub is_none : Option Text → Bool
+is_none o = not (is_some o)
 
 -- the settings of mode `answer`, where each value has a reading
 abbrev pub answer_by : Option Format → Option (Option ℕ) → Option ℕ → Option ℕ → Option Settings
@@ -85,13 +85,13 @@ answer_by format pivots rows tries =
 
 -- no option of another mode, and each value in its range
 unfoldable pub answer_of : ValuesView → Option Settings
-answer_of v = if nothing v.seed && nothing v.count
+answer_of v = if is_none v.seed && is_none v.count
     then answer_by (format_or v.format) (pivots_or v.pivots) (rows_or v.rows) (tries_or v.tries)
     else None
 
 -- no option at all
 unfoldable pub check_of : ValuesView → Option Settings
-check_of v = if nothing v.format && (nothing v.pivots && (nothing v.rows && (nothing v.tries && (nothing v.seed && nothing v.count)))) then Some settings.Check else None
+check_of v = if is_none v.format && (is_none v.pivots && (is_none v.rows && (is_none v.tries && (is_none v.seed && is_none v.count)))) then Some settings.Check else None
 
 -- the settings of mode `bench`, where each value has a reading
 abbrev pub bench_by : Option ℕ → Option ℕ → Option (Option ℕ) → Option ℕ → Option ℕ → Option Settings
@@ -100,7 +100,7 @@ bench_by seed count pivots rows tries =
 
 -- no format, and each value in its range
 unfoldable pub bench_of : ValuesView → Option Settings
-bench_of v = if nothing v.format
+bench_of v = if is_none v.format
     then bench_by (number_or 0 2147483647 1 v.seed) (number_or 1 1000 100 v.count) (pivots_or v.pivots) (rows_or v.rows) (tries_or v.tries)
     else None
 
@@ -143,7 +143,12 @@ Reads reading (Ok s) = reading ≡ Some s
 Reads reading (Err Usage) = reading ≡ None
 Reads reading (Err Memory) = Unit {0}
 
--- a generated file has a seed below 2^31 and 1 to 1000 questions
+-- 1 to 4096 rows, and as many candidates
+abbrev pub AreFew : ℕ → ℕ → Type 0
+AreFew rows tries = ((1 ≤ rows) × (rows ≤ 4096)) × ((1 ≤ tries) × (tries ≤ 4096))
+
+-- rows and candidates are few, and a generated file has a seed below 2^31 and 1 to 1000 questions
 abbrev pub AreInRange : Settings → Type 0
-AreInRange (settings.Bench seed count pivots rows tries) = (seed < 2 ^ 31) × ((1 ≤ count) × (count ≤ 1000))
-AreInRange s = Unit {0}
+AreInRange (settings.Answer format pivots rows tries) = AreFew rows tries
+AreInRange settings.Check = Unit {0}
+AreInRange (settings.Bench seed count pivots rows tries) = (seed < 2 ^ 31) × ((1 ≤ count) × (count ≤ 1000)) × AreFew rows tries

@@ -1,6 +1,6 @@
 //! The values of options.
 ghost use Rattle.std.specs.Prelude.{◌≡◌, ◌≤◌, ◌<◌, ◌+◌, ◌*◌, ◌-◌, ◌^◌, option_map, IfSome, length};
-ghost use Rattle.it_settings.specs.Settings.{value_from, number_of, number_or, rows_or, tries_or, pivots_of, pivots_or, format_of, format_or, within};
+ghost use Rattle.it_settings.specs.Settings.{value_from, number_of, number_or, rows_or, tries_or, pivots_of, pivots_or, format_of, format_or, number_within};
 
 use crate::types::Format;
 
@@ -20,8 +20,8 @@ fn value(bytes: &[u8]) -> Option<u64>
 }
 
 /// A number that is in its range.
-fn bounded(least: u32, most: u32, n: u64) -> Option<u32>
-    ensures reads { result ≡ within least most n }
+fn number_within(least: u32, most: u32, n: u64) -> Option<u32>
+    ensures reads { result ≡ number_within least most n }
     ensures range { IfSome result (λ m. (least ≤ m) × (m ≤ most)) }
 {
     if least as u64 <= n && n <= most as u64 {
@@ -39,7 +39,7 @@ fn number(text: &str, least: u32, most: u32) -> Option<u32>
 {
     let bytes = text.as_bytes();
     if bytes.len() >= 1 && bytes.len() <= 10 {
-        bounded(least, most, value(bytes)?)
+        number_within(least, most, value(bytes)?)
     } else {
         None
     }
@@ -59,14 +59,16 @@ pub fn number_or(text: Option<&str>, least: u32, most: u32, default: u32) -> Opt
 
 /// The most rows that were given, or the default where none was.
 pub fn rows_or(text: Option<&str>) -> Option<u32>
-    ensures { result ≡ rows_or (option_map (λ s. s.now) text.entry) }
+    ensures reads { result ≡ rows_or (option_map (λ s. s.now) text.entry) }
+    ensures range { IfSome result (λ n. (1 ≤ n) × (n ≤ 4096)) }
 {
     number_or(text, 1, 4096, 512)
 }
 
 /// The most candidates that were given, or the default where none was.
 pub fn tries_or(text: Option<&str>) -> Option<u32>
-    ensures { result ≡ tries_or (option_map (λ s. s.now) text.entry) }
+    ensures reads { result ≡ tries_or (option_map (λ s. s.now) text.entry) }
+    ensures range { IfSome result (λ n. (1 ≤ n) × (n ≤ 4096)) }
 {
     number_or(text, 1, 4096, 256)
 }
