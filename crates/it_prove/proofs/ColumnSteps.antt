@@ -21,7 +21,7 @@ use Rattle.it_prove.proofs.ClosedRows.{collapse_same}
 use Rattle.it_prove.specs.Closed.{collapsed_row, collapsed_generator, collapsed_all, closed_target}
 use Rattle.it_space.proofs.TermLemmas.{coefficient-negated_terms}
 use Rattle.it_prove.specs.Columns.{columns_by, columns_of, columns, column_count, weight_by, weights_from}
-use Rattle.it_prove.specs.Steps.{SameRows}
+use Rattle.it_prove.specs.ClosedProblems.{SameRows, AreColumns}
 
 -- ---- columns
 
@@ -40,10 +40,10 @@ same_columns Inequality r t e = (e, tt)
 same_columns Equation r t e = (e, ((λ c. coefficient-negated_terms c r ∙ ap neg_ℤ (e c) ∙ sym (coefficient-negated_terms c t)), tt))
 
 pub pushed : (old new : List Terms) (k l : Kind) (r t : Terms) → new ≡ old ++ columns_by k r → k ≡ l → ((c : ℕ) → coefficient r c ≡ coefficient t c)
-    → (xs : List Terms) → SameRows old xs → SameRows new (xs ++ columns_by l t)
-pushed old new k l r t is kind e xs s =
-    subst (λ (ys : List Terms). SameRows ys (xs ++ columns_by l t)) (sym is)
-    (subst (λ (m : Kind). SameRows (old ++ columns_by k r) (xs ++ columns_by m t)) kind (same-append old xs (columns_by k r) (columns_by k t) s (same_columns k r t e)))
+    → (front xs : List Terms) → SameRows (front ++ old) xs → SameRows (front ++ new) (xs ++ columns_by l t)
+pushed old new k l r t is kind e front xs s =
+    subst (λ (ys : List Terms). SameRows ys (xs ++ columns_by l t)) (append_assoc front old (columns_by k r) ∙ ap (λ ys. front ++ ys) (sym is))
+    (subst (λ (m : Kind). SameRows ((front ++ old) ++ columns_by k r) (xs ++ columns_by m t)) kind (same-append (front ++ old) xs (columns_by k r) (columns_by k t) s (same_columns k r t e)))
 
 -- the columns of so many generators over closed sets
 take_more : (gs : List Generator) (i : ℕ) → i < length gs → take (suc i) gs ≡ take i gs ++ generator_at gs i ∷ []
@@ -59,10 +59,6 @@ columns-append (g ∷ gs) hs = ap (λ xs. columns_of g ++ xs) (columns-append gs
 columns-one : (g : Generator) → columns (g ∷ []) ≡ columns_of g
 unfolding columns
 columns-one g = append-nil (columns_of g)
-
-pub record AreColumns (n : ℕ) (ds : List Dependence) (gs : List Generator) (i : ℕ) (rows : List Terms) : Type 0 where
-  pub same : SameRows rows (columns (collapsed_all n ds (take i gs)))
-  pub fits : (j : ℕ) → j < i → CollapseFits n ds (generator_at gs j).row
 
 module _ (n : ℕ) (ds : List Dependence) (gs : List Generator) where
   pub columns_start : AreColumns n ds gs 0 []
@@ -95,6 +91,20 @@ module _ (n : ℕ) (ds : List Dependence) (gs : List Generator) where
     subst (λ hs. SameRows old (columns (collapsed_all n ds hs))) (take_all i gs h) a.same,
     λ j d l. subst (λ (g : Generator). CollapseFits n ds g.row) (get_or_default gs j (record { kind = Inequality; row = [] }) d l) (a.fits j (omega arith)),
   )
+
+  pub columns_whole : (i : ℕ) (rows : List Terms) → i ≡ length gs → SameRows rows (columns (collapsed_all n ds gs)) → All (λ g. CollapseFits n ds g.row) gs → AreColumns n ds gs i rows
+  columns_whole i rows e same fits = record {
+    same = subst (λ hs. SameRows rows (columns (collapsed_all n ds hs))) (sym (take_all i gs (omega (arith, e)))) same;
+    fits = λ j h. fits j (record { kind = Inequality; row = [] }) (omega (arith, e));
+  }
+
+  -- the same where the dependences are those of a problem
+  pub columns_more_by : (es : List Dependence) (i : ℕ) (old new : List Terms) → es ≡ ds → i < length gs
+      → ((xs : List Terms) → SameRows old xs → SameRows new (xs ++ columns_of (collapsed_generator n es (generator_at gs i))))
+      → CollapseFits n es (generator_at gs i).row → AreColumns n ds gs i old → AreColumns n ds gs (i + 1) new
+  columns_more_by es i old new e h add fit = columns_more i old new h
+      (subst (λ (x : List Dependence). (xs : List Terms) → SameRows old xs → SameRows new (xs ++ columns_of (collapsed_generator n x (generator_at gs i)))) e add)
+      (subst (λ (x : List Dependence). CollapseFits n x (generator_at gs i).row) e fit)
 
 -- there are few
 pub few_columns : (gs : List Generator) → length (columns gs) ≤ 2 * length gs

@@ -10,7 +10,7 @@ use Rattle.std.proofs.lemmas.Int.{ints}
 use Rattle.std.proofs.lemmas.List.{get_or-map, get_or_default, length-map}
 use Rattle.it_rational.specs.Rational.{Rational, whole, times, is_at_least_zero}
 use Rattle.it_rational.proofs.RationalLaws.{ring_ℚ}
-use Rattle.it_rational.proofs.Field.{order_ℚ}
+use Rattle.it_rational.proofs.Field.{field_ℚ}
 use Rattle.it_space.specs.declared.problems.Kind.{Kind}
 use Rattle.it_space.specs.declared.problems.Kind.TheVariants.{Inequality, Equation}
 use Rattle.it_space.specs.declared.spaces.Space.{Space}
@@ -177,7 +177,7 @@ value_spread n ds size at row u = each row (every_of (λ (t : ℕ × ℤ). (1 �
     each (t ∷ ts) b = ap₂ (λ x y. t.1 *ℤ x +ℤ y) (here t.0 b.0.0 b.0.1) (each ts b.1)
 
 module _ (q : ProblemView) (target : Terms) (qs : List Rational) (k : IsProblem q) (u : IsUpTo (size_of q.space) target)
-    (s : Separates ring_ℚ order_ℚ (length (closed_places q)) (length (columns (closed_generators q))) (feasibility_problem (closed_places q) (columns (closed_generators q)) (closed_target q target)) qs) where
+    (s : Separates field_ℚ (length (closed_places q)) (length (columns (closed_generators q))) (feasibility_problem (closed_places q) (columns (closed_generators q)) (closed_target q target)) qs) where
   n : ℕ
   n = q.space.variables
 

@@ -1,11 +1,10 @@
 -- From the ends of the run and the checker's verdict to the outcome.
-use Rattle.std.proofs.Common.{◌≡◌, ◌≢◌, ◌⊎◌, inl, inr, ℕ, zero, suc, ℤ, List, [], ◌∷◌, map, length, get_or, All, Option, Some, None, Result, Ok, Err, refl, sym, ap, subst, subst₂, ◌∙◌}
+use Rattle.std.proofs.Common.{◌≡◌, ◌≢◌, ◌⊎◌, inl, inr, ℕ, zero, suc, ◌≤◌, ℤ, List, [], ◌∷◌, map, length, get_or, All, Option, Some, None, Result, Ok, Err, refl, sym, ap, subst, subst₂, ◌∙◌}
 use Rattle.std.specs.Option.{IfNone}
 use Rattle.std.specs.Result.{IfOk}
 use Rattle.it_number.specs.Limit.{IsWithin}
 use Rattle.it_rational.specs.Rational.{Rational, whole}
-use Rattle.it_rational.proofs.RationalLaws.{ring_ℚ}
-use Rattle.it_rational.proofs.Field.{order_ℚ}
+use Rattle.it_rational.proofs.Field.{field_ℚ}
 use Rattle.it_space.specs.declared.answers.Cause.{Cause}
 use Rattle.it_space.specs.declared.answers.Cause.TheVariants.{Scale}
 use Rattle.it_space.specs.declared.answers.Cause.TheVariants as causes
@@ -25,8 +24,6 @@ use Rattle.it_simplex.specs.Answers.{Solves, IsRightSolved as IsRightAnswer}
 use Rattle.it_run.specs.Answers.{solved_end}
 use Rattle.it_run.specs.declared.answering.Solved.{Solved}
 use Rattle.it_run.specs.declared.answering.Solved.TheVariants.{Weights as OfWeights, Point as OfPoint, Pivots as OfPivots, Width as OfWidth}
-use Rattle.it_closure.specs.Coordinates.{closed_coordinates}
-use Rattle.it_closure.specs.DependencesViews.{DependencesView}
 use Rattle.it_closure.specs.Reading.{dependences_of}
 use Rattle.it_tableau.specs.Tables as Table
 use Rattle.it_tableau.specs.Tables.{start}
@@ -38,7 +35,8 @@ use Rattle.it_check.specs.Verdicts.{yes_verdict, no_verdict}
 use Rattle.it_check.specs.declared.verdicts.Verdict.TheVariants.{Valid}
 use Rattle.it_check.proofs.Truth.{valid_yes_is, valid_no_is}
 use Rattle.it_prove.specs.Columns.{columns}
-use Rattle.it_prove.specs.Steps.{SameRows}
+use Rattle.it_prove.specs.ClosedProblems.{AreColumns, IsClosedProblem, SameRows}
+use Rattle.it_prove.specs.declared.closed.ClosedProblem.{ClosedProblem}
 use Rattle.it_prove.specs.Closed.{closed_places, closed_generators, closed_target, CollapsesFit, spread_point}
 use Rattle.it_prove.specs.Scaling.{EachFits, NumbersFit, scaled_number}
 use Rattle.it_prove.specs.ProofViews.{ProofView, Yes, No, Undecided, IsLifted, LiftedFit, Follows, Runs, EndsWith, IsRightProof, NeverOutOfSteps, OneProofView, ProvenAscends, proof_view}
@@ -65,7 +63,7 @@ module _ (q : ProblemView) (target : Terms) (k : IsProblem q) (u : IsUpTo (size_
   -- ---- points
 
   module _ (qs : List Rational) (values : List ℤ) (same : values ≡ spread_point q qs) (fit : NumbersFit qs)
-      (s : Separates ring_ℚ order_ℚ (length (closed_places q)) (length (columns (closed_generators q))) (feasibility_problem (closed_places q) (columns (closed_generators q)) (closed_target q target)) qs) where
+      (s : Separates field_ℚ (length (closed_places q)) (length (columns (closed_generators q))) (feasibility_problem (closed_places q) (columns (closed_generators q)) (closed_target q target)) qs) where
     refutes : RefutesRow q target values
     refutes = subst (RefutesRow q target) (sym same) (point_right q target qs k u s)
 
@@ -113,16 +111,16 @@ module _ (coords : List ℕ) (rs ss : List Terms) (s : SameRows rs ss) (r t : Te
   }
 
   abbrev run_by : Option ℕ → RunEndView (List (ℕ × Rational)) (List Rational) → ℕ → Table.FeasibilityProblem Rational → Type 0
-  run_by budget end n p = (¬ (StartFits (length coords) n p) × (end ≡ Width zero)) ⊎ (StartFits (length coords) n p × RunsTo (length coords) n p budget (start ring_ℚ order_ℚ (length coords) n p) end)
+  run_by budget end n p = (¬ (StartFits (length coords) n p) × (end ≡ Width zero)) ⊎ (StartFits (length coords) n p × RunsTo (length coords) n p budget (start field_ℚ (length coords) n p) end)
 
   pub same_run : (budget : Option ℕ) (end : RunEndView (List (ℕ × Rational)) (List Rational)) → Solves coords rs r budget end → Solves coords ss t budget end
   same_run budget end h = subst₂ (run_by budget end) (same_length rs ss s) same_problem h
 
-  pub same_sums : (ws : List (ℕ × Rational)) → SumsUp ring_ℚ order_ℚ (length coords) (length rs) (feasibility_problem coords rs r) ws → SumsUp ring_ℚ order_ℚ (length coords) (length ss) (feasibility_problem coords ss t) ws
-  same_sums ws h = subst₂ (λ (n : ℕ) (p : Table.FeasibilityProblem Rational). SumsUp ring_ℚ order_ℚ (length coords) n p ws) (same_length rs ss s) same_problem h
+  pub same_sums : (ws : List (ℕ × Rational)) → SumsUp field_ℚ (length coords) (length rs) (feasibility_problem coords rs r) ws → SumsUp field_ℚ (length coords) (length ss) (feasibility_problem coords ss t) ws
+  same_sums ws h = subst₂ (λ (n : ℕ) (p : Table.FeasibilityProblem Rational). SumsUp field_ℚ (length coords) n p ws) (same_length rs ss s) same_problem h
 
-  pub same_separates : (qs : List Rational) → Separates ring_ℚ order_ℚ (length coords) (length rs) (feasibility_problem coords rs r) qs → Separates ring_ℚ order_ℚ (length coords) (length ss) (feasibility_problem coords ss t) qs
-  same_separates qs h = subst₂ (λ (n : ℕ) (p : Table.FeasibilityProblem Rational). Separates ring_ℚ order_ℚ (length coords) n p qs) (same_length rs ss s) same_problem h
+  pub same_separates : (qs : List Rational) → Separates field_ℚ (length coords) (length rs) (feasibility_problem coords rs r) qs → Separates field_ℚ (length coords) (length ss) (feasibility_problem coords ss t) qs
+  same_separates qs h = subst₂ (λ (n : ℕ) (p : Table.FeasibilityProblem Rational). Separates field_ℚ (length coords) n p qs) (same_length rs ss s) same_problem h
 
 -- the run of the code's rows is that of the problem
 module _ (q : ProblemView) (target : Terms) (coords : List ℕ) (at : coords ≡ closed_places q) (rs : List Terms) (s : SameRows rs (columns (closed_generators q)))
@@ -134,21 +132,21 @@ module _ (q : ProblemView) (target : Terms) (coords : List ℕ) (at : coords ≡
     follows = f;
   }
 
-  pub sums_so : (ws : List (ℕ × Rational)) → SumsUp ring_ℚ order_ℚ (length coords) (length rs) (feasibility_problem coords rs r) ws
-      → SumsUp ring_ℚ order_ℚ (length (closed_places q)) (length (columns (closed_generators q))) (feasibility_problem (closed_places q) (columns (closed_generators q)) (closed_target q target)) ws
-  sums_so ws h = same_sums (closed_places q) rs (columns (closed_generators q)) s r (closed_target q target) e ws (subst (λ (cs : List ℕ). SumsUp ring_ℚ order_ℚ (length cs) (length rs) (feasibility_problem cs rs r) ws) at h)
+  pub sums_so : (ws : List (ℕ × Rational)) → SumsUp field_ℚ (length coords) (length rs) (feasibility_problem coords rs r) ws
+      → SumsUp field_ℚ (length (closed_places q)) (length (columns (closed_generators q))) (feasibility_problem (closed_places q) (columns (closed_generators q)) (closed_target q target)) ws
+  sums_so ws h = same_sums (closed_places q) rs (columns (closed_generators q)) s r (closed_target q target) e ws (subst (λ (cs : List ℕ). SumsUp field_ℚ (length cs) (length rs) (feasibility_problem cs rs r) ws) at h)
 
-  pub separates_so : (qs : List Rational) → Separates ring_ℚ order_ℚ (length coords) (length rs) (feasibility_problem coords rs r) qs
-      → Separates ring_ℚ order_ℚ (length (closed_places q)) (length (columns (closed_generators q))) (feasibility_problem (closed_places q) (columns (closed_generators q)) (closed_target q target)) qs
-  separates_so qs h = same_separates (closed_places q) rs (columns (closed_generators q)) s r (closed_target q target) e qs (subst (λ (cs : List ℕ). Separates ring_ℚ order_ℚ (length cs) (length rs) (feasibility_problem cs rs r) qs) at h)
+  pub separates_so : (qs : List Rational) → Separates field_ℚ (length coords) (length rs) (feasibility_problem coords rs r) qs
+      → Separates field_ℚ (length (closed_places q)) (length (columns (closed_generators q))) (feasibility_problem (closed_places q) (columns (closed_generators q)) (closed_target q target)) qs
+  separates_so qs h = same_separates (closed_places q) rs (columns (closed_generators q)) s r (closed_target q target) e qs (subst (λ (cs : List ℕ). Separates field_ℚ (length cs) (length rs) (feasibility_problem cs rs r) qs) at h)
 
 pub wide_start : (q : ProblemView) (target : Terms) (budget : Option ℕ) → ¬ (CollapsesFit q target) → EndsWith q target budget (Undecided (causes.Width 0))
 wide_start q target budget n = record { end = Width 0; run = inl (n, refl); follows = refl }
 
 -- what the answer of the run shows, by its end
 abbrev IsRightEnd : List ℕ → List Terms → Terms → RunEndView (List (ℕ × Rational)) (List Rational) → Type 0
-IsRightEnd coords rs r (Weights ws) = SumsUp ring_ℚ order_ℚ (length coords) (length rs) (feasibility_problem coords rs r) ws
-IsRightEnd coords rs r (Point qs) = Separates ring_ℚ order_ℚ (length coords) (length rs) (feasibility_problem coords rs r) qs
+IsRightEnd coords rs r (Weights ws) = SumsUp field_ℚ (length coords) (length rs) (feasibility_problem coords rs r) ws
+IsRightEnd coords rs r (Point qs) = Separates field_ℚ (length coords) (length rs) (feasibility_problem coords rs r) qs
 IsRightEnd coords rs r (Pivots k) = Unit {0}
 IsRightEnd coords rs r (Width k) = Unit {0}
 
@@ -159,10 +157,10 @@ right_end coords rs r (OfPivots k) h = tt
 right_end coords rs r (OfWidth k) h = tt
 
 -- the same with what the code has
-module _ (q : ProblemView) (target : Terms) (d : DependencesView) (list : d.list ≡ dependences_of q) (coords items : List ℕ) (slice : coords ≡ items) (at : items ≡ closed_coordinates q.space.variables q.space.rates d.list)
+module _ (q : ProblemView) (target : Terms) (coords items : List ℕ) (slice : coords ≡ items) (at : items ≡ closed_places q)
     (rs rows : List Terms) (same : rs ≡ rows) (s : SameRows rows (columns (closed_generators q))) (r : Terms) (e : (c : ℕ) → coefficient r c ≡ coefficient (closed_target q target) c) (x : Solved) where
   places_are : coords ≡ closed_places q
-  places_are = slice ∙ at ∙ ap (closed_coordinates q.space.variables q.space.rates) list
+  places_are = slice ∙ at
 
   rows_are : SameRows rs (columns (closed_generators q))
   rows_are = subst (λ (xs : List Terms). SameRows xs (columns (closed_generators q))) (sym same) s
@@ -172,12 +170,23 @@ module _ (q : ProblemView) (target : Terms) (d : DependencesView) (list : d.list
   answered fit budget h end o is f = ends_so q target coords places_are rs rows_are r e fit budget end o (subst (Solves coords rs r budget) is h) f
 
   pub summed : IsRightAnswer coords rs r x → (part : List (ℕ × Rational)) → solved_end x ≡ Weights part
-      → SumsUp ring_ℚ order_ℚ (length (closed_places q)) (length (columns (closed_generators q))) (feasibility_problem (closed_places q) (columns (closed_generators q)) (closed_target q target)) part
+      → SumsUp field_ℚ (length (closed_places q)) (length (columns (closed_generators q))) (feasibility_problem (closed_places q) (columns (closed_generators q)) (closed_target q target)) part
   summed h part is = sums_so q target coords places_are rs rows_are r e part (subst (IsRightEnd coords rs r) is (right_end coords rs r x h))
 
   pub separated : IsRightAnswer coords rs r x → (part : List Rational) → solved_end x ≡ Point part
-      → Separates ring_ℚ order_ℚ (length (closed_places q)) (length (columns (closed_generators q))) (feasibility_problem (closed_places q) (columns (closed_generators q)) (closed_target q target)) part
+      → Separates field_ℚ (length (closed_places q)) (length (columns (closed_generators q))) (feasibility_problem (closed_places q) (columns (closed_generators q)) (closed_target q target)) part
   separated h part is = separates_so q target coords places_are rs rows_are r e part (subst (IsRightEnd coords rs r) is (right_end coords rs r x h))
+
+-- what was made of a problem, with the same parts again
+pub closed_again : (c d : ClosedProblem) → d.dependences ≡ c.dependences → d.coordinates ≡ c.coordinates → d.count ≡ c.count → d.columns.items ≡ c.columns.items
+    → (q : ProblemView) → IsClosedProblem q c → IsClosedProblem q d
+closed_again c d ds cs n rows q h = record {
+  space = ap (λ x. x.space) ds ∙ h.space;
+  list = ap (λ x. x.list) ds ∙ h.list;
+  coordinates = ap (λ x. x.items) cs ∙ h.coordinates;
+  few = subst (λ i. i ≤ length (generators q)) (sym n) h.few;
+  columns = subst₂ (AreColumns q.space.variables (dependences_of q) (generators q)) (sym n) (sym rows) h.columns;
+}
 
 -- ---- one outcome
 

@@ -7,7 +7,7 @@ use Rattle.it_number.proofs.Ring.{ring}
 use Rattle.it_number.proofs.Ring as S
 use Rattle.it_rational.specs.Rational.{Rational, whole, plus, times, minus}
 use Rattle.it_rational.proofs.RationalLaws.{ring_ℚ}
-use Rattle.it_rational.proofs.Field.{order_ℚ}
+use Rattle.it_rational.proofs.Field.{field_ℚ}
 use Rattle.it_fraction.specs.Fits.{IsNarrow}
 use Rattle.it_space.specs.declared.answers.Cause.TheVariants as causes
 use Rattle.it_space.specs.declared.answers.Cause.TheVariants.{Scale}
@@ -28,7 +28,7 @@ use Rattle.it_run.specs.Readings.{weights, point}
 use Rattle.it_run.specs.Solving.{StepFits, RunsTo}
 use Rattle.it_tableau.specs.Sums.{sum_to}
 use Rattle.it_tableau.specs.Tables.{Table, start_row, sign}
-use Rattle.it_run.specs.Runs.{RunEndView, EndsAs, told}
+use Rattle.it_run.specs.Runs.{RunEndView, EndsAs, clip_end}
 use Rattle.it_run.specs.Runs.RunEndView.{Weights, Point, Pivots, Width}
 use Rattle.it_run.proofs.RowValues.{whole_plus}
 use Rattle.it_prove.specs.Closed.{collapsed_row, collapsed_generator, closed_places, closed_generators, closed_target, CollapsesFit}
@@ -88,7 +88,7 @@ rise_length from to [] r = omega (arith, r)
 rise_length from to (x ∷ xs) r = omega (arith, r.0, rise_length (x + 1) to xs r.1)
 
 module _ (coords : List ℕ) (cols : List Terms) (t : Terms) (few : length coords ≤ 2 ^ 11) (cs : Every SmallRow cols) (ts : SmallRow t) where
-  entry_below : (k j : ℕ) → IsBelow (2 ^ 85) (start_row ring_ℚ order_ℚ (length coords) (length cols) (feasibility_problem coords cols t) k j)
+  entry_below : (k j : ℕ) → IsBelow (2 ^ 85) (start_row field_ℚ (length coords) (length cols) (feasibility_problem coords cols t) k j)
   entry_below k j = by_test (ltb j (length cols)) (eqb j (length cols + length coords)) (eqb j (length cols + k))
     where
       column : IsBelow (2 ^ 85) (whole (coefficient (get_or cols j []) (get_or coords k 0)))
@@ -97,16 +97,16 @@ module _ (coords : List ℕ) (cols : List Terms) (t : Terms) (few : length coord
       right : IsBelow (2 ^ 85) (whole (coefficient t (get_or coords k 0)))
       right = (coefficient t (get_or coords k 0), refl, ts (get_or coords k 0))
 
-      by_test : (a b c : Bool) → IsBelow (2 ^ 85) (cond a (times (sign ring_ℚ order_ℚ (feasibility_problem coords cols t) k) (whole (coefficient (get_or cols j []) (get_or coords k 0))))
-          (cond b (times (sign ring_ℚ order_ℚ (feasibility_problem coords cols t) k) (whole (coefficient t (get_or coords k 0)))) (cond c (whole (pos 1)) (whole (pos 0)))))
-      by_test true b c = below_sign (2 ^ 85) (order_ℚ.is_least (whole (coefficient t (get_or coords k 0)))) (whole (coefficient (get_or cols j []) (get_or coords k 0))) column
-      by_test false true c = below_sign (2 ^ 85) (order_ℚ.is_least (whole (coefficient t (get_or coords k 0)))) (whole (coefficient t (get_or coords k 0))) right
+      by_test : (a b c : Bool) → IsBelow (2 ^ 85) (cond a (times (sign field_ℚ (feasibility_problem coords cols t) k) (whole (coefficient (get_or cols j []) (get_or coords k 0))))
+          (cond b (times (sign field_ℚ (feasibility_problem coords cols t) k) (whole (coefficient t (get_or coords k 0)))) (cond c (whole (pos 1)) (whole (pos 0)))))
+      by_test true b c = below_sign (2 ^ 85) (field_ℚ.order.is_least (whole (coefficient t (get_or coords k 0)))) (whole (coefficient (get_or cols j []) (get_or coords k 0))) column
+      by_test false true c = below_sign (2 ^ 85) (field_ℚ.order.is_least (whole (coefficient t (get_or coords k 0)))) (whole (coefficient t (get_or coords k 0))) right
       by_test false false true = below_one (2 ^ 85) (omega arith)
       by_test false false false = below_null (2 ^ 85)
 
   start_fits : StartFits (length coords) (length cols) (feasibility_problem coords cols t)
-  start_fits k j h l = narrow (pile k) (sum_to ring_ℚ k (λ i. start_row ring_ℚ order_ℚ (length coords) (length cols) (feasibility_problem coords cols t) i j)) (omega (arith, pile_is k, h, few))
-      (sum_below k (λ i. start_row ring_ℚ order_ℚ (length coords) (length cols) (feasibility_problem coords cols t) i j) (λ i. entry_below i j))
+  start_fits k j h l = narrow (pile k) (sum_to ring_ℚ k (λ i. start_row field_ℚ (length coords) (length cols) (feasibility_problem coords cols t) i j)) (omega (arith, pile_is k, h, few))
+      (sum_below k (λ i. start_row field_ℚ (length coords) (length cols) (feasibility_problem coords cols t) i j) (λ i. entry_below i j))
 
 -- ---- the run
 
@@ -119,12 +119,12 @@ never_zero D T F next ws pt (suc left) k s (inr (inl a)) = absurd (cc)
 never_zero D T F next ws pt (suc left) k s (inr (inr (d, t, inl a))) = absurd (cc)
 never_zero D T F next ws pt (suc left) k s (inr (inr (d, t, inr a))) = never_zero D T F next ws pt left (suc k) (next s) a.1
 
--- an end that is told as step 0 is that of step 0
-told_zero : (e : RunEndView (List (ℕ × Rational)) (List Rational)) → Width zero ≡ told e → e ≡ Width zero
-told_zero (Weights w) q = absurd (cc)
-told_zero (Point w) q = absurd (cc)
-told_zero (Pivots k) q = absurd (cc)
-told_zero (Width k) q = by_number k (inside (min k 4294967295) q)
+-- an end that is that of step 0 when clipped is that of step 0
+zero_before_clip : (e : RunEndView (List (ℕ × Rational)) (List Rational)) → Width zero ≡ clip_end e → e ≡ Width zero
+zero_before_clip (Weights w) q = absurd (cc)
+zero_before_clip (Point w) q = absurd (cc)
+zero_before_clip (Pivots k) q = absurd (cc)
+zero_before_clip (Width k) q = by_number k (inside (min k 4294967295) q)
   where
     inside : (j : ℕ) → (let x : RunEndView (List (ℕ × Rational)) (List Rational) = Width zero in x) ≡ Width j → zero ≡ j
     inside j q = cc
@@ -134,10 +134,10 @@ told_zero (Width k) q = by_number k (inside (min k 4294967295) q)
 
 never_run : (m n : ℕ) (p : Tables.FeasibilityProblem Rational) (budget : Option ℕ) (t : Table Rational) (e : RunEndView (List (ℕ × Rational)) (List Rational)) → e ≡ Width zero → RunsTo m n p budget t e → ⊥
 never_run m n p (Some steps) t e z r =
-    never_zero (IsDone ring_ℚ order_ℚ m n) (IsStuck ring_ℚ order_ℚ m n) (StepFits m n) (next ring_ℚ order_ℚ m n) (weights ring_ℚ order_ℚ m n) (point ring_ℚ order_ℚ m n p) steps zero t (subst (RunsTo m n p (Some steps) t) z r)
+    never_zero (IsDone field_ℚ m n) (IsStuck field_ℚ m n) (StepFits m n) (next field_ℚ m n) (weights field_ℚ m n) (point field_ℚ m n p) steps zero t (subst (RunsTo m n p (Some steps) t) z r)
 never_run m n p None t e z r =
-    never_zero (IsDone ring_ℚ order_ℚ m n) (IsStuck ring_ℚ order_ℚ m n) (StepFits m n) (next ring_ℚ order_ℚ m n) (weights ring_ℚ order_ℚ m n) (point ring_ℚ order_ℚ m n p) r.budget zero t
-    (subst (RunsTo m n p (Some r.budget) t) (told_zero r.end (sym z ∙ r.is_told)) r.runs)
+    never_zero (IsDone field_ℚ m n) (IsStuck field_ℚ m n) (StepFits m n) (next field_ℚ m n) (weights field_ℚ m n) (point field_ℚ m n p) r.budget zero t
+    (subst (RunsTo m n p (Some r.budget) t) (zero_before_clip r.end (sym z ∙ r.is_clipped)) r.runs)
 
 pub never_at_start : NeverAtStart
 never_at_start q target budget k s e = by_cases e.run (zero_end e.end e.follows)

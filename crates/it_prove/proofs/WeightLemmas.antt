@@ -2,8 +2,7 @@
 use Rattle.std.proofs.Common.{◌≡◌, ◌≢◌, ℕ, suc, ◌+◌, ◌<◌, ◌≤◌, ℤ, pos, ◌+ℤ◌, ◌*ℤ◌, ◌≤ℤ◌, ◌<ℤ◌, List, [], ◌∷◌, length, get_or, Bool, true, false, cond, eqb, All, sym, ap, subst, ◌∙◌, arith}
 use Rattle.std.proofs.lemmas.Int.{ints}
 use Rattle.it_rational.specs.Rational.{Rational}
-use Rattle.it_rational.proofs.RationalLaws.{ring_ℚ}
-use Rattle.it_rational.proofs.Field.{order_ℚ}
+use Rattle.it_rational.proofs.Field.{field_ℚ}
 use Rattle.it_space.specs.Rows.{Terms, coefficient, value, Ascends}
 use Rattle.std.specs.List.{AllByRecursion as Every}
 use Rattle.it_space.proofs.EveryLemmas.{all_of}
@@ -20,11 +19,11 @@ use Rattle.it_prove.proofs.GroupLemmas.{value_total, regrouped}
 use Prim.Native.Nat.{◌∣◌}
 
 -- each scaled weight is of a column and above 0
-known : (l n from : ℕ) (ws : List (ℕ × Rational)) → AreWeights ring_ℚ order_ℚ n from ws → Every (λ (t : ℕ × ℤ). t.0 < n) (scaled_by l ws)
+known : (l n from : ℕ) (ws : List (ℕ × Rational)) → AreWeights field_ℚ n from ws → Every (λ (t : ℕ × ℤ). t.0 < n) (scaled_by l ws)
 known l n from [] a = tt
 known l n from (w ∷ ws) a = (a.1, known l n (suc w.0) ws a.3)
 
-positive : (l n from : ℕ) (ws : List (ℕ × Rational)) → 0 < l → Every (λ q. q.den ∣ l) (numbers_of ws) → AreWeights ring_ℚ order_ℚ n from ws → (j : ℕ) → pos 0 ≤ℤ coefficient (scaled_by l ws) j
+positive : (l n from : ℕ) (ws : List (ℕ × Rational)) → 0 < l → Every (λ q. q.den ∣ l) (numbers_of ws) → AreWeights field_ℚ n from ws → (j : ℕ) → pos 0 ≤ℤ coefficient (scaled_by l ws) j
 positive l n from [] h d a j = omega (arith, ints)
 positive l n from (w ∷ ws) h d a j = by_test (eqb w.0 j) (scaled_above l w.1 h d.0 a.2) (positive l n (suc w.0) ws h d.1 a.3 j)
   where
@@ -33,7 +32,7 @@ positive l n from (w ∷ ws) h d a j = by_test (eqb w.0 j) (scaled_above l w.1 h
     by_test false g k = omega (arith, ints)
 
 -- as a row over the columns they are canonical
-pub canonical : (l n from : ℕ) (ws : List (ℕ × Rational)) → 0 < l → Every (λ q. q.den ∣ l) (numbers_of ws) → EachFits l (numbers_of ws) → AreWeights ring_ℚ order_ℚ n from ws → Ascends from (scaled_by l ws)
+pub canonical : (l n from : ℕ) (ws : List (ℕ × Rational)) → 0 < l → Every (λ q. q.den ∣ l) (numbers_of ws) → EachFits l (numbers_of ws) → AreWeights field_ℚ n from ws → Ascends from (scaled_by l ws)
 canonical l n from [] h d f a = tt
 canonical l n from (w ∷ ws) h d f a = (a.0, apart (scaled_number l w.1) (scaled_above l w.1 h d.0 a.2), f.0, lower (canonical l n (suc w.0) ws h d.1 f.1 a.3))
   where
@@ -47,17 +46,17 @@ canonical l n from (w ∷ ws) h d f a = (a.0, apart (scaled_number l w.1) (scale
         one m = omega arith
 
 -- as the code has them, with the scale that it found
-pub columns_below : (m n from : ℕ) (ws : List (ℕ × Rational)) → n ≤ m → AreWeights ring_ℚ order_ℚ n from ws → All (λ (w : ℕ × Rational). w.0 < m) ws
+pub columns_below : (m n from : ℕ) (ws : List (ℕ × Rational)) → n ≤ m → AreWeights field_ℚ n from ws → All (λ (w : ℕ × Rational). w.0 < m) ws
 columns_below m n from ws h a = all_of (λ (w : ℕ × Rational). w.0 < m) ws (each from ws a)
   where
     below : (x : ℕ) → x < n → x < m
     below x l = omega arith
 
-    each : (from : ℕ) (ws : List (ℕ × Rational)) → AreWeights ring_ℚ order_ℚ n from ws → Every (λ (w : ℕ × Rational). w.0 < m) ws
+    each : (from : ℕ) (ws : List (ℕ × Rational)) → AreWeights field_ℚ n from ws → Every (λ (w : ℕ × Rational). w.0 < m) ws
     each from [] a = tt
     each from (w ∷ ws) a = (below w.0 a.1, each (suc w.0) ws a.3)
 
-module _ (n l : ℕ) (ws : List (ℕ × Rational)) (e : l ≡ scale_of (numbers_of ws)) (a : AreWeights ring_ℚ order_ℚ n 0 ws) where
+module _ (n l : ℕ) (ws : List (ℕ × Rational)) (e : l ≡ scale_of (numbers_of ws)) (a : AreWeights field_ℚ n 0 ws) where
   found_divides : Every (λ q. q.den ∣ l) (numbers_of ws)
   found_divides = subst (λ l. Every (λ q. q.den ∣ l) (numbers_of ws)) (sym e) (divides 1 (numbers_of ws))
 
@@ -71,7 +70,7 @@ module _ (n l : ℕ) (ws : List (ℕ × Rational)) (e : l ≡ scale_of (numbers_
   terms_positive ts s j = subst (λ ts. pos 0 ≤ℤ coefficient ts j) (sym s) (positive l n 0 ws found_some found_divides a j)
 
 module _ (gs : List Generator) (coords : List ℕ) (target : Terms) (ws : List (ℕ × Rational))
-    (a : SumsUp ring_ℚ order_ℚ (length coords) (length (columns gs)) (feasibility_problem coords (columns gs) target) ws) where
+    (a : SumsUp field_ℚ (length coords) (length (columns gs)) (feasibility_problem coords (columns gs) target) ws) where
   scaled_divide : Every (λ q. q.den ∣ scale_of (numbers_of ws)) (numbers_of ws)
   scaled_divide = divides 1 (numbers_of ws)
 

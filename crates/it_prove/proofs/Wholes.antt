@@ -7,7 +7,7 @@ use Rattle.it_number.proofs.Quotients.{one_pos}
 use Rattle.it_rational.specs.Rational.{Rational, is_at_least_zero}
 use Rattle.it_rational.specs.Rational as Q
 use Rattle.it_rational.proofs.RationalLaws.{ring_ℚ}
-use Rattle.it_rational.proofs.Field.{order_ℚ, from_sign, to_sign}
+use Rattle.it_rational.proofs.Field.{from_sign, to_sign, field_ℚ}
 use Rattle.it_rational.proofs.Names.{same_value, quotient_names, times_names, own_name, own_parts}
 use Rattle.it_rational.proofs.Signs.{minus_below, minus_least}
 use Rattle.it_rational.proofs.Ordered.{neg-above, mul-above}
@@ -54,24 +54,24 @@ whole_scaled l q h =
 -- ---- sums of weights
 
 pub weighted_scaled : (l : ℕ) (ws : List (ℕ × Rational)) (f : ℕ → ℤ) → Every (λ q. q.den ∣ l) (map (λ w. w.1) ws)
-    → Q.whole (value (scaled_by l ws) f) ≡ Q.times (Q.whole (pos l)) (ring_combination ring_ℚ order_ℚ ws (λ j. Q.whole (f j)))
+    → Q.whole (value (scaled_by l ws) f) ≡ Q.times (Q.whole (pos l)) (ring_combination field_ℚ ws (λ j. Q.whole (f j)))
 weighted_scaled l [] f d = sym (ring ring_ℚ (Q.whole (pos l) ∷ []) (times (v 0) nil) nil refl)
 weighted_scaled l (w ∷ ws) f d =
     whole_plus (scaled_number l w.1 *ℤ f w.0) (value (scaled_by l ws) f)
     ∙ ap₂ Q.plus (whole_times (scaled_number l w.1) (f w.0) ∙ ap (λ x. Q.times x (Q.whole (f w.0))) (whole_scaled l w.1 d.0)) (weighted_scaled l ws f d.1)
-    ∙ ring ring_ℚ (Q.whole (pos l) ∷ w.1 ∷ Q.whole (f w.0) ∷ ring_combination ring_ℚ order_ℚ ws (λ j. Q.whole (f j)) ∷ [])
+    ∙ ring ring_ℚ (Q.whole (pos l) ∷ w.1 ∷ Q.whole (f w.0) ∷ ring_combination field_ℚ ws (λ j. Q.whole (f j)) ∷ [])
     (plus (times (times (v 0) (v 1)) (v 2)) (times (v 0) (v 3))) (times (v 0) (plus (times (v 1) (v 2)) (v 3))) refl
 
 -- weights that sum to a whole number, times the scale
 pub scaled_sum : (l : ℕ) (ws : List (ℕ × Rational)) (f : ℕ → ℤ) (t : ℤ) → Every (λ q. q.den ∣ l) (map (λ w. w.1) ws)
-    → ring_combination ring_ℚ order_ℚ ws (λ j. Q.whole (f j)) ≡ Q.whole t → value (scaled_by l ws) f ≡ pos l *ℤ t
+    → ring_combination field_ℚ ws (λ j. Q.whole (f j)) ≡ Q.whole t → value (scaled_by l ws) f ≡ pos l *ℤ t
 scaled_sum l ws f t d e = whole_same (value (scaled_by l ws) f) (pos l *ℤ t)
     (weighted_scaled l ws f d ∙ ap (Q.times (Q.whole (pos l))) e ∙ sym (whole_times (pos l) t))
 
 -- ---- signs
 
 -- a number above 0 has a numerator above 0
-pub above_num : (q : Rational) → IsAboveZero ring_ℚ order_ℚ q → pos 0 <ℤ q.num
+pub above_num : (q : Rational) → IsAboveZero field_ℚ q → pos 0 <ℤ q.num
 above_num q h = by_sign q.num (λ n. apart (is_at_least_zero (Q.minus q)) (minus_least q n) h)
   where
     apart : (b : Bool) → b ≡ true → b ≡ false → ⊥
@@ -82,7 +82,7 @@ above_num q h = by_sign q.num (λ n. apart (is_at_least_zero (Q.minus q)) (minus
     by_sign (pos (suc n)) f = omega (arith, ints)
     by_sign (negsuc n) f = absurd (f (λ h. omega (arith, ints)))
 
-pub scaled_above : (l : ℕ) (q : Rational) → 0 < l → q.den ∣ l → IsAboveZero ring_ℚ order_ℚ q → pos 0 <ℤ scaled_number l q
+pub scaled_above : (l : ℕ) (q : Rational) → 0 < l → q.den ∣ l → IsAboveZero field_ℚ q → pos 0 <ℤ scaled_number l q
 unfolding scaled_number
 scaled_above l q h d a = product q.num (l / q.den) (above_num q a) (some (l / q.den) (div-mul_cancel q.den d))
   where
@@ -106,19 +106,19 @@ module _ (l : ℕ) (p : ℕ → ℤ) (h : ℕ → Rational) where
       (plus (times (v 1) (times (v 0) (v 2))) (times (v 0) (v 3))) (times (v 0) (plus (times (v 1) (v 2)) (v 3))) refl
 
   module _ (some : 0 < l) (row : Terms) (e : Every (λ t. Q.whole (p t.0) ≡ Q.times (Q.whole (pos l)) (h t.0)) row) where
-    scale_above : IsAboveZero ring_ℚ order_ℚ (Q.whole (pos l))
+    scale_above : IsAboveZero field_ℚ (Q.whole (pos l))
     scale_above = minus_below (Q.whole (pos l)) (subst (λ (z : ℤ). pos 0 <ℤ z) (sym (whole_parts (pos l)).0) (omega (arith, ints)))
 
     pub least_scaled : is_at_least_zero (value_at row h) ≡ true → pos 0 ≤ℤ value row p
     least_scaled a =
         let scale_least : is_at_least_zero (Q.whole (pos l)) ≡ true = to_sign (Q.whole (pos l)).num (subst (λ (z : ℤ). pos 0 ≤ℤ z) (sym (whole_parts (pos l)).0) (omega (arith, ints))) in
         subst (λ (z : ℤ). pos 0 ≤ℤ z) (whole_parts (value row p)).0
-        (from_sign (Q.whole (value row p)).num (ap is_at_least_zero (value_scaled row e) ∙ order_ℚ.mul-least (Q.whole (pos l)) (value_at row h) scale_least a))
+        (from_sign (Q.whole (value row p)).num (ap is_at_least_zero (value_scaled row e) ∙ field_ℚ.order.mul-least (Q.whole (pos l)) (value_at row h) scale_least a))
 
     pub below_scaled : is_at_least_zero (value_at row h) ≡ false → value row p ≤ℤ neg_ℤ (pos 1)
     below_scaled b =
-        let above : IsAboveZero ring_ℚ order_ℚ (Q.times (Q.whole (pos l)) (Q.minus (value_at row h))) =
-        mul-above ring_ℚ order_ℚ (Q.whole (pos l)) (Q.minus (value_at row h)) scale_above (neg-above ring_ℚ order_ℚ (value_at row h) b) in
+        let above : IsAboveZero field_ℚ (Q.times (Q.whole (pos l)) (Q.minus (value_at row h))) =
+        mul-above field_ℚ (Q.whole (pos l)) (Q.minus (value_at row h)) scale_above (neg-above field_ℚ (value_at row h) b) in
         let is : Q.times (Q.whole (pos l)) (Q.minus (value_at row h)) ≡ Q.whole (neg_ℤ (value row p)) =
         ring ring_ℚ (Q.whole (pos l) ∷ value_at row h ∷ []) (times (v 0) (minus (v 1))) (minus (times (v 0) (v 1))) refl ∙ ap Q.minus (sym (value_scaled row e)) ∙ sym (whole_minus (value row p)) in
         under (value row p) (subst (λ (z : ℤ). pos 0 <ℤ z) (ap (λ (q : Rational). q.num) is ∙ (whole_parts (neg_ℤ (value row p))).0) (above_num (Q.times (Q.whole (pos l)) (Q.minus (value_at row h))) above))

@@ -1,7 +1,6 @@
 //! A certificate from the weights of columns.
 ghost use Rattle.std.specs.Prelude.{◌≡◌, ◌<◌, ◌^◌, ◌++◌, ℕ, ℤ, pos, ◌≤ℤ◌, length, IfErr, IfOk, OnOk};
-ghost use Rattle.it_rational.proofs.Field.{order_ℚ};
-ghost use Rattle.it_rational.proofs.RationalLaws.{ring_ℚ};
+ghost use Rattle.it_rational.proofs.Field.{field_ℚ};
 ghost use Rattle.it_space.specs.Answers.{certificate_view};
 ghost use Rattle.it_space.specs.Problems.{IsProblem, problem_view};
 ghost use Rattle.it_space.specs.Rows.{coefficient, term_at};
@@ -76,7 +75,7 @@ pub fn certificate(
     weights: &[(usize, Fraction)],
 ) -> Result<Certificate, RowFault>
     requires problem { IsProblem (problem_view problem.now) }
-    requires ordered { AreWeights ring_ℚ order_ℚ (length (columns (generators (problem_view problem.now)))) 0 weights.now }
+    requires ordered { AreWeights field_ℚ (length (columns (generators (problem_view problem.now)))) 0 weights.now }
     ensures value { IfOk result (λ c. certificate_view c ≡ certificate_of (generators (problem_view problem.now)) weights.now) }
     ensures fits { OnOk result (NumbersFit (numbers_of weights.now)) }
     ensures wide { IfErr result (λ f. f ≡ RowFault.Wide → ¬ (NumbersFit (numbers_of weights.now))) }

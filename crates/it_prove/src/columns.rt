@@ -1,26 +1,18 @@
 //! The columns of the run: one for an inequality, two for an equation.
-ghost use Rattle.std.specs.Prelude.{◌≡◌, ◌<◌, ◌++◌, ℕ, List, neg_ℤ, length, All, IfErr, IfOk, OnOk};
+ghost use Rattle.std.specs.Prelude.{◌≡◌, ◌<◌, ◌++◌, ℕ, List, neg_ℤ, length, IfErr, IfOk, OnOk};
 ghost use Rattle.it_number.specs.Limit.{IsWithin};
 ghost use Rattle.it_space.specs.Problems.{IsProblem, problem_view};
 ghost use Rattle.it_space.specs.Rows.{Terms, IsCanonical, coefficient, negated_terms};
 ghost use Rattle.it_closure.specs.Collapse.{CollapseFits};
 ghost use Rattle.it_elemental.specs.Generators.{generators, generator_at};
-ghost use Rattle.it_prove.specs.Closed.{collapsed_row, collapsed_all, collapsed_generator};
-ghost use Rattle.it_prove.specs.Columns.{columns, columns_by, columns_of};
-ghost use Rattle.it_prove.specs.Steps.{SameRows};
+ghost use Rattle.it_prove.specs.Closed.{collapsed_row, collapsed_generator};
+ghost use Rattle.it_prove.specs.ClosedProblems.{SameRows};
+ghost use Rattle.it_prove.specs.Columns.{columns_by, columns_of};
 
 use it_closure::Dependences;
-use it_elemental::{count, generator_count, kind_at, row};
+use it_elemental::{count, kind_at, row};
 use it_space::{Kind, Problem, Row, RowFault};
 use std::alloc::{AllocError, Global};
-
-/// The row once more.
-fn copy_of(alloc: Global, row: &Row) -> Result<Row, AllocError>
-    ensures { IfOk result (λ r. r ≡ row.now) }
-{
-    let terms = row.terms().iter().copied().collect(alloc)?;
-    Ok(Row::new(terms))
-}
 
 /// The term with its sign turned.
 fn opposite(term: &(u32, i128)) -> (u32, i128)
@@ -61,10 +53,9 @@ fn row_at(alloc: Global, problem: &Problem, index: u32) -> Result<Row, AllocErro
     if index < elementals {
         return row(alloc, n, index);
     }
-    copy_of(
-        alloc,
-        &problem.constraints[(index - elementals) as usize].row,
-    )
+    problem.constraints[(index - elementals) as usize]
+        .row
+        .copy(alloc)
 }
 
 /// The row of a generator over closed sets. `Wide` where a partial sum of its coefficients passes the limit.
@@ -105,7 +96,7 @@ fn push_row(columns: &mut Vec<Row>, alloc: Global, kind: Kind, row: Row) -> Resu
 }
 
 /// Puts the columns of a generator over closed sets behind the others.
-fn push_columns(
+pub fn push_columns(
     columns: &mut Vec<Row>,
     alloc: Global,
     problem: &Problem,
@@ -115,31 +106,11 @@ fn push_columns(
     requires problem { IsProblem (problem_view problem.now) }
     requires space { dependences.now.space ≡ problem.now.space }
     requires listed { index < length (generators (problem_view problem.now)) }
-    ensures added { OnOk result ((xs : List Terms) → SameRows columns.old.items xs → SameRows columns.new.items (xs ++ columns_of (collapsed_generator problem.now.space.variables dependences.now.list (generator_at (generators (problem_view problem.now)) index)))) }
+    ensures added { OnOk result ((front xs : List Terms) → SameRows (front ++ columns.old.items) xs → SameRows (front ++ columns.new.items) (xs ++ columns_of (collapsed_generator problem.now.space.variables dependences.now.list (generator_at (generators (problem_view problem.now)) index)))) }
     ensures fits { OnOk result (CollapseFits problem.now.space.variables dependences.now.list (generator_at (generators (problem_view problem.now)) index).row) }
     ensures wide { IfErr result (λ f. f ≡ RowFault.Wide → ¬ (CollapseFits problem.now.space.variables dependences.now.list (generator_at (generators (problem_view problem.now)) index).row)) }
 {
     let row = collapsed_row(alloc, problem, dependences, index)?;
     push_row(columns, alloc, kind_at(problem, index), row)?;
     Ok(())
-}
-
-/// All columns over closed sets, in the order of the generators. `Wide` where a partial sum of a coefficient passes the
-/// limit.
-pub fn columns(
-    alloc: Global,
-    problem: &Problem,
-    dependences: &Dependences,
-) -> Result<Vec<Row>, RowFault>
-    requires problem { IsProblem (problem_view problem.now) }
-    requires space { dependences.now.space ≡ problem.now.space }
-    ensures same { IfOk result (λ v. SameRows v.items (columns (collapsed_all problem.now.space.variables dependences.now.list (generators (problem_view problem.now))))) }
-    ensures fits { OnOk result (All (λ g. CollapseFits problem.now.space.variables dependences.now.list g.row) (generators (problem_view problem.now))) }
-    ensures wide { IfErr result (λ f. f ≡ RowFault.Wide → ¬ (All (λ g. CollapseFits problem.now.space.variables dependences.now.list g.row) (generators (problem_view problem.now)))) }
-{
-    let mut columns = Vec::new(alloc);
-    for index in 0..generator_count(problem) {
-        push_columns(&mut columns, alloc, problem, dependences, index)?;
-    }
-    Ok(columns)
 }

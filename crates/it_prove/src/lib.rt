@@ -5,6 +5,7 @@
 #![tactic(auto)]
 
 mod certificates;
+mod closed;
 mod columns;
 mod laws;
 mod points;
@@ -14,6 +15,7 @@ mod scaling;
 mod tests;
 mod types;
 
+pub use closed::ClosedProblem;
 pub use columns::opposite_row;
 pub use laws::{never_at_start, never_out_of_steps, one_outcome, proven_ascends};
 pub use proving::prove;

@@ -1,11 +1,10 @@
 //! The answer about one target: collapse, run, lift or spread out, check.
-ghost use Rattle.std.specs.Prelude.{◌≡◌, ◌≢◌, ℕ, length, IfErr, IfOk, OnOk};
+ghost use Rattle.std.specs.Prelude.{◌≡◌, ◌≢◌, ◌++◌, ℕ, length, IfErr, IfOk, OnOk};
 ghost use Rattle.std.specs.Option.{IfNone};
-ghost use Rattle.it_rational.proofs.Field.{order_ℚ};
-ghost use Rattle.it_rational.proofs.RationalLaws.{ring_ℚ};
+ghost use Rattle.it_rational.proofs.Field.{field_ℚ};
 ghost use Rattle.it_space.specs.Answers.{certificate_view};
 ghost use Rattle.it_space.specs.declared.answers.Cause.TheVariants as causes;
-ghost use Rattle.it_space.specs.Problems.{IsProblem, problem_view};
+ghost use Rattle.it_space.specs.Problems.{IsProblem, ProblemView, problem_view};
 ghost use Rattle.it_space.specs.Rows.{IsUpTo, coefficient};
 ghost use Rattle.it_space.specs.Spaces.{size_of};
 ghost use Rattle.it_closure.specs.Reading.{dependences_of};
@@ -14,12 +13,12 @@ ghost use Rattle.it_run.specs.Readings.{Separates, SumsUp};
 ghost use Rattle.it_run.specs.Runs.RunEndView.{Point, Weights};
 ghost use Rattle.it_check.specs.Meaning.{CertifiesRow};
 ghost use Rattle.it_prove.specs.Closed.{closed_generators, closed_places, closed_target, CollapsesFit};
+ghost use Rattle.it_prove.specs.ClosedProblems.{IsClosedProblem, SameRows};
 ghost use Rattle.it_prove.specs.Columns.{columns};
-ghost use Rattle.it_prove.specs.Steps.{SameRows};
 ghost use Rattle.it_prove.specs.ProofViews.{EndsWith, Follows, IsLifted, IsRightProof, LiftedFit, Undecided, proof_view};
 
 use crate::certificates::certificate;
-use crate::columns::columns;
+use crate::closed::{ClosedProblem, other_columns};
 use crate::points::whole_point;
 use crate::types::Proof;
 use it_check::{Verdict, check_no, check_yes};
@@ -43,7 +42,7 @@ fn lifted_certificate(
     requires space { dependences.now.space ≡ problem.now.space }
     requires list { dependences.now.list ≡ dependences_of (problem_view problem.now) }
     requires target { IsUpTo (size_of problem.now.space) target.now }
-    requires sum { SumsUp ring_ℚ order_ℚ (length (closed_places (problem_view problem.now))) (length (columns (closed_generators (problem_view problem.now)))) (feasibility_problem (closed_places (problem_view problem.now)) (columns (closed_generators (problem_view problem.now))) (closed_target (problem_view problem.now) target.now)) weights.now }
+    requires sum { SumsUp field_ℚ (length (closed_places (problem_view problem.now))) (length (columns (closed_generators (problem_view problem.now)))) (feasibility_problem (closed_places (problem_view problem.now)) (columns (closed_generators (problem_view problem.now))) (closed_target (problem_view problem.now) target.now)) weights.now }
     ensures lifted { IfOk result (λ c. IsLifted (problem_view problem.now) target.now weights.now (certificate_view c)) }
     ensures certifies { IfOk result (λ c. CertifiesRow (problem_view problem.now) target.now (certificate_view c)) }
     ensures fits { OnOk result (LiftedFit (problem_view problem.now) target.now weights.now) }
@@ -66,7 +65,7 @@ fn by_weights(
     requires space { dependences.now.space ≡ problem.now.space }
     requires list { dependences.now.list ≡ dependences_of (problem_view problem.now) }
     requires target { IsUpTo (size_of problem.now.space) target.now }
-    requires sum { SumsUp ring_ℚ order_ℚ (length (closed_places (problem_view problem.now))) (length (columns (closed_generators (problem_view problem.now)))) (feasibility_problem (closed_places (problem_view problem.now)) (columns (closed_generators (problem_view problem.now))) (closed_target (problem_view problem.now) target.now)) weights.now }
+    requires sum { SumsUp field_ℚ (length (closed_places (problem_view problem.now))) (length (columns (closed_generators (problem_view problem.now)))) (feasibility_problem (closed_places (problem_view problem.now)) (columns (closed_generators (problem_view problem.now))) (closed_target (problem_view problem.now) target.now)) weights.now }
     ensures follows { IfOk result (λ proof. Follows (problem_view problem.now) target.now (Weights weights.now) (proof_view proof)) }
     ensures right { IfOk result (λ proof. IsRightProof (problem_view problem.now) target.now (proof_view proof)) }
 {
@@ -94,7 +93,7 @@ fn by_point(
     requires list { dependences.now.list ≡ dependences_of (problem_view problem.now) }
     requires target { IsUpTo (size_of problem.now.space) target.now }
     requires coordinates { coordinates.now ≡ closed_places (problem_view problem.now) }
-    requires apart { Separates ring_ℚ order_ℚ (length (closed_places (problem_view problem.now))) (length (columns (closed_generators (problem_view problem.now)))) (feasibility_problem (closed_places (problem_view problem.now)) (columns (closed_generators (problem_view problem.now))) (closed_target (problem_view problem.now) target.now)) point.now }
+    requires apart { Separates field_ℚ (length (closed_places (problem_view problem.now))) (length (columns (closed_generators (problem_view problem.now)))) (feasibility_problem (closed_places (problem_view problem.now)) (columns (closed_generators (problem_view problem.now))) (closed_target (problem_view problem.now) target.now)) point.now }
     ensures follows { IfOk result (λ proof. Follows (problem_view problem.now) target.now (Point point.now) (proof_view proof)) }
     ensures right { IfOk result (λ proof. IsRightProof (problem_view problem.now) target.now (proof_view proof)) }
 {
@@ -108,74 +107,128 @@ fn by_point(
     }
 }
 
-/// What the run is given: the columns and the target over closed sets.
+/// What the run is given besides: the columns that aren't there yet, and the target over closed sets.
 #[derive(Drop)]
 struct ClosedRows {
     columns: Vec<Row>,
     target: Row,
 }
 
-/// The columns and the target over closed sets. `Wide` where a partial sum of a coefficient passes the limit.
+/// The columns that aren't there yet, and the target, over closed sets. `Wide` where a partial sum of a coefficient passes the limit.
 fn collapse_rows(
     alloc: Global,
     problem: &Problem,
-    dependences: &Dependences,
+    closed: &ClosedProblem,
     target: &Row,
 ) -> Result<ClosedRows, RowFault>
     requires problem { IsProblem (problem_view problem.now) }
-    requires space { dependences.now.space ≡ problem.now.space }
-    requires list { dependences.now.list ≡ dependences_of (problem_view problem.now) }
+    requires closed { IsClosedProblem (problem_view problem.now) closed.now }
     requires target { IsUpTo (size_of problem.now.space) target.now }
-    ensures columns { IfOk result (λ c. SameRows c.columns.items (columns (closed_generators (problem_view problem.now)))) }
+    ensures columns { IfOk result (λ c. SameRows (closed.now.columns.items ++ c.columns.items) (columns (closed_generators (problem_view problem.now)))) }
     ensures target { IfOk result (λ c. (k : ℕ) → coefficient c.target k ≡ coefficient (closed_target (problem_view problem.now) target.now) k) }
     ensures fits { OnOk result (CollapsesFit (problem_view problem.now) target.now) }
     ensures wide { IfErr result (λ f. f ≡ RowFault.Wide → ¬ (CollapsesFit (problem_view problem.now) target.now)) }
 {
-    let columns = columns(alloc, problem, dependences)?;
-    let target = dependences.collapse(alloc, target)?;
+    let columns = other_columns(alloc, problem, closed)?;
+    let target = closed.dependences.collapse(alloc, target)?;
     Ok(ClosedRows { columns, target })
 }
 
-/// The answer by the run over closed sets.
+/// The answer by the run over closed sets, where all columns are there.
 fn on_closed(
     alloc: Global,
     problem: &Problem,
-    dependences: &Dependences,
+    closed: &ClosedProblem,
     target: &Row,
-    rows: &ClosedRows,
+    collapsed: &Row,
     budget: Budget,
 ) -> Result<Proof, AllocError>
     requires problem { IsProblem (problem_view problem.now) }
-    requires space { dependences.now.space ≡ problem.now.space }
-    requires list { dependences.now.list ≡ dependences_of (problem_view problem.now) }
+    requires space { closed.now.dependences.space ≡ problem.now.space }
+    requires list { closed.now.dependences.list ≡ dependences_of (problem_view problem.now) }
+    requires coordinates { closed.now.coordinates.items ≡ closed_places (problem_view problem.now) }
     requires target { IsUpTo (size_of problem.now.space) target.now }
-    requires columns { SameRows rows.now.columns.items (columns (closed_generators (problem_view problem.now))) }
-    requires collapsed { (k : ℕ) → coefficient rows.now.target k ≡ coefficient (closed_target (problem_view problem.now) target.now) k }
+    requires columns { SameRows closed.now.columns.items (columns (closed_generators (problem_view problem.now))) }
+    requires collapsed { (k : ℕ) → coefficient collapsed.now k ≡ coefficient (closed_target (problem_view problem.now) target.now) k }
     requires fits { CollapsesFit (problem_view problem.now) target.now }
     ensures ends { IfOk result (λ proof. EndsWith (problem_view problem.now) target.now budget (proof_view proof)) }
     ensures right { IfOk result (λ proof. IsRightProof (problem_view problem.now) target.now (proof_view proof)) }
 {
-    let coordinates = dependences.closed_coordinates(alloc, problem.space)?;
     match solve(
         alloc,
-        coordinates.as_slice(),
-        rows.columns.as_slice(),
-        &rows.target,
+        closed.coordinates.as_slice(),
+        closed.columns.as_slice(),
+        collapsed,
         budget,
     )? {
-        Solved::Weights(weights) => {
-            by_weights(alloc, problem, dependences, target, weights.as_slice())
-        }
+        Solved::Weights(weights) => by_weights(
+            alloc,
+            problem,
+            &closed.dependences,
+            target,
+            weights.as_slice(),
+        ),
         Solved::Point(point) => by_point(
             alloc,
             problem,
-            dependences,
+            &closed.dependences,
             target,
-            coordinates.as_slice(),
+            closed.coordinates.as_slice(),
             point.as_slice(),
         ),
         Solved::Pivots(steps) => Ok(Proof::Undecided(Cause::Pivots(steps))),
         Solved::Width(step) => Ok(Proof::Undecided(Cause::Width(step))),
+    }
+}
+
+/// The answer with more columns behind those that are there, which go again after the run.
+fn with_columns(
+    alloc: Global,
+    problem: &Problem,
+    closed: &mut ClosedProblem,
+    target: &Row,
+    mut rows: ClosedRows,
+    budget: Budget,
+) -> Result<Proof, AllocError>
+    requires problem { IsProblem (problem_view problem.now) }
+    requires closed { IsClosedProblem (problem_view problem.now) closed.old }
+    requires target { IsUpTo (size_of problem.now.space) target.now }
+    requires columns { SameRows (closed.old.columns.items ++ rows.columns.items) (columns (closed_generators (problem_view problem.now))) }
+    requires collapsed { (k : ℕ) → coefficient rows.target k ≡ coefficient (closed_target (problem_view problem.now) target.now) k }
+    requires fits { CollapsesFit (problem_view problem.now) target.now }
+    ensures ends { IfOk result (λ proof. EndsWith (problem_view problem.now) target.now budget (proof_view proof)) }
+    ensures right { IfOk result (λ proof. IsRightProof (problem_view problem.now) target.now (proof_view proof)) }
+    ensures stays { OnOk result ((q : ProblemView) → IsClosedProblem q closed.old → IsClosedProblem q closed.new) }
+{
+    let count = closed.columns.len();
+    closed.columns.append(&mut rows.columns)?;
+    let proof = on_closed(alloc, problem, closed, target, &rows.target, budget)?;
+    closed.columns.truncate(count);
+    Ok(proof)
+}
+
+impl ClosedProblem {
+    /// The answer of `prove` for a target under a problem that this one is of, or that goes on behind the constraints of such a
+    /// problem by constraints of `row` lines. It is then of the same problems as before.
+    pub fn prove(
+        &mut self,
+        alloc: Global,
+        problem: &Problem,
+        target: &Row,
+        budget: Budget,
+    ) -> Result<Proof, AllocError>
+        requires problem { IsProblem (problem_view problem.now) }
+        requires closed { IsClosedProblem (problem_view problem.now) self.old }
+        requires target { IsUpTo (size_of problem.now.space) target.now }
+        ensures ends { IfOk result (λ proof. EndsWith (problem_view problem.now) target.now budget (proof_view proof)) }
+        ensures right { IfOk result (λ proof. IsRightProof (problem_view problem.now) target.now (proof_view proof)) }
+        ensures stays { OnOk result ((q : ProblemView) → IsClosedProblem q self.old → IsClosedProblem q self.new) }
+    {
+        match collapse_rows(alloc, problem, self, target) {
+            Ok(rows) => with_columns(alloc, problem, self, target, rows, budget),
+            Err(RowFault::Wide) => Ok(Proof::Undecided(Cause::Width(0))),
+            Err(RowFault::Memory) => Err(AllocError),
+        }
     }
 }
 
@@ -195,10 +248,7 @@ pub fn prove(
     ensures unbound { IfNone budget (IfOk result (λ proof. (k : ℕ) → proof_view proof ≢ Undecided (causes.Pivots k))) }
     ensures right { IfOk result (λ proof. IsRightProof (problem_view problem.now) target.now (proof_view proof)) }
 {
-    let dependences = Dependences::read(alloc, problem)?;
-    match collapse_rows(alloc, problem, &dependences, target) {
-        Ok(rows) => on_closed(alloc, problem, &dependences, target, &rows, budget),
-        Err(RowFault::Wide) => Ok(Proof::Undecided(Cause::Width(0))),
-        Err(RowFault::Memory) => Err(AllocError),
-    }
+    let mut closed = ClosedProblem::read(alloc, problem)?;
+    let proof = closed.prove(alloc, problem, target, budget)?;
+    Ok(proof)
 }

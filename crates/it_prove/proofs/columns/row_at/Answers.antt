@@ -20,5 +20,5 @@ index-requires c = omega (arith, length-listed c.args.problem.now.space.variable
 pub returns : goal.returns
 returns c =
     let q = (problem_view c.args.problem.now) in
-    if_ok c.copy_of.result (λ (r : Terms). r ≡ c.index.result.now.row) (λ (r : Terms). r ≡ (generator_at (generators q) c.args.index).row) c.copy_of.ensures
+    if_ok c.copy.result (λ (r : Terms). r ≡ c.index.result.now.row) (λ (r : Terms). r ≡ (generator_at (generators q) c.args.index).row) c.copy.ensures
     (λ r e. e ∙ sym (ap (λ g. g.row) (behind_is q.space.variables q.constraints c.args.index c.count-elementals.result c.index.result.now c.count-elementals.ensures c.if-index-elementals.false c.requires.listed c.index.ensures)))

@@ -1,9 +1,7 @@
+use Rattle.std.proofs.Common.{ℕ, Ok}
 use Rattle.it_space.specs.Problems.{problem_view}
-use Rattle.it_prove.proofs.ProofLemmas.{never_pivots, wide_start}
+use Rattle.it_prove.proofs.ProofLemmas.{never_pivots}
 use Rattle.it_prove.proofs.proving.prove.Goals as goal
 
-pub returns-in-Ok-clause-unbound : goal.returns-in-Ok-clause-unbound
-returns-in-Ok-clause-unbound c = never_pivots (problem_view c.args.problem.now) c.args.target.now c.args.budget c.on_closed.result c.on_closed.ensures.ends
-
-pub returns-in-Err-Wide-clause-ends : goal.returns-in-Err-Wide-clause-ends
-returns-in-Err-Wide-clause-ends c = wide_start (problem_view c.args.problem.now) c.args.target.now c.args.budget (c.in-Err-Wide.ensures.wide c.in-Err-Wide.field-0-is)
+pub returns-clause-unbound : goal.returns-clause-unbound
+returns-clause-unbound c = never_pivots {E = ℕ} (problem_view c.args.problem.now) c.args.target.now c.args.budget (Ok c.in_ok-proof.proof) c.in_ok-proof.ensures.ends

@@ -1,0 +1,19 @@
+use Rattle.std.proofs.Common.{◌++◌, arith}
+use Rattle.it_space.specs.Problems.{problem_view}
+use Rattle.it_elemental.specs.Generators.{generators}
+use Rattle.it_closure.specs.Reading.{dependences_of}
+use Rattle.it_prove.proofs.ColumnSteps.{columns_done, columns_more_by}
+use Rattle.it_prove.proofs.closed.other_columns.Goals as goal
+
+pub loop-index-preserved : goal.loop-index-preserved
+loop-index-preserved c =
+    let q = problem_view c.args.problem.now in
+    columns_more_by q.space.variables (dependences_of q) (generators q) c.args.closed.now.dependences.list c.loop-index.index
+    (c.args.closed.now.columns.items ++ c.loop-index.columns.items) (c.args.closed.now.columns.items ++ c.push_columns.new.columns.items)
+    c.requires.closed.list (omega (arith, c.generator_count-index-end.ensures, c.loop-index-test.true)) (c.in_ok-push_columns.ensures.added c.args.closed.now.columns.items) c.in_ok-push_columns.ensures.fits c.loop-index.invariant
+
+pub returns-clause-fits : goal.returns-clause-fits
+returns-clause-fits c =
+    let q = problem_view c.args.problem.now in
+    (columns_done q.space.variables (dependences_of q) (generators q) c.loop-index.index (c.args.closed.now.columns.items ++ c.loop-index.columns.items)
+    (omega (arith, c.generator_count-index-end.ensures, c.loop-index-test.false)) c.loop-index.invariant).1

@@ -1,0 +1,80 @@
+//! What is made once of a problem, for runs about many targets under it and under problems that go on behind its constraints.
+ghost use Rattle.std.specs.Prelude.{◌≡◌, [], ◌++◌, All, IfErr, IfOk, OnOk};
+ghost use Rattle.it_space.specs.Problems.{IsProblem, problem_view};
+ghost use Rattle.it_elemental.specs.Generators.{generators};
+ghost use Rattle.it_closure.specs.Collapse.{CollapseFits};
+ghost use Rattle.it_closure.specs.Reading.{dependences_of};
+ghost use Rattle.it_prove.specs.Closed.{closed_generators};
+ghost use Rattle.it_prove.specs.ClosedProblems.{IsClosedProblem, SameRows};
+ghost use Rattle.it_prove.specs.Columns.{columns};
+
+use crate::columns::push_columns;
+use it_closure::Dependences;
+use it_elemental::generator_count;
+use it_space::{Problem, Row, RowFault};
+use std::alloc::{AllocError, Global};
+
+/// A problem over closed sets: its dependences, its coordinates, and the columns of its first generators, so many as are counted.
+/// It serves each problem that has these dependences and begins with these generators.
+#[derive(Debug, Drop)]
+pub struct ClosedProblem {
+    pub(crate) dependences: Dependences,
+    pub(crate) coordinates: Vec<u32>,
+    pub(crate) columns: Vec<Row>,
+    count: u32,
+}
+
+impl ClosedProblem {
+    /// That of a problem, with the columns of all its generators; with none where a partial sum of a coefficient passes the limit.
+    pub fn read(alloc: Global, problem: &Problem) -> Result<ClosedProblem, AllocError>
+        requires { IsProblem (problem_view problem.now) }
+        ensures { IfOk result (IsClosedProblem (problem_view problem.now)) }
+    {
+        let mut closed = without_columns(alloc, problem)?;
+        match other_columns(alloc, problem, &closed) {
+            Ok(others) => {
+                closed.columns = others;
+                closed.count = generator_count(problem);
+                Ok(closed)
+            }
+            Err(RowFault::Wide) => Ok(closed),
+            Err(RowFault::Memory) => Err(AllocError),
+        }
+    }
+}
+
+/// That of a problem, before any column is made.
+fn without_columns(alloc: Global, problem: &Problem) -> Result<ClosedProblem, AllocError>
+    requires { IsProblem (problem_view problem.now) }
+    ensures closed { IfOk result (IsClosedProblem (problem_view problem.now)) }
+    ensures none { IfOk result (λ c. c.columns.items ≡ []) }
+{
+    let dependences = Dependences::read(alloc, problem)?;
+    let coordinates = dependences.closed_coordinates(alloc, problem.space)?;
+    Ok(ClosedProblem {
+        dependences,
+        coordinates,
+        columns: Vec::new(alloc),
+        count: 0,
+    })
+}
+
+/// The columns of the problem's generators that aren't there yet, in order. `Wide` where a partial sum of a coefficient passes the
+/// limit.
+pub fn other_columns(
+    alloc: Global,
+    problem: &Problem,
+    closed: &ClosedProblem,
+) -> Result<Vec<Row>, RowFault>
+    requires problem { IsProblem (problem_view problem.now) }
+    requires closed { IsClosedProblem (problem_view problem.now) closed.now }
+    ensures same { IfOk result (λ v. SameRows (closed.now.columns.items ++ v.items) (columns (closed_generators (problem_view problem.now)))) }
+    ensures fits { OnOk result (All (λ g. CollapseFits problem.now.space.variables (dependences_of (problem_view problem.now)) g.row) (generators (problem_view problem.now))) }
+    ensures wide { IfErr result (λ f. f ≡ RowFault.Wide → ¬ (All (λ g. CollapseFits problem.now.space.variables (dependences_of (problem_view problem.now)) g.row) (generators (problem_view problem.now)))) }
+{
+    let mut columns = Vec::new(alloc);
+    for index in closed.count..generator_count(problem) {
+        push_columns(&mut columns, alloc, problem, &closed.dependences, index)?;
+    }
+    Ok(columns)
+}
