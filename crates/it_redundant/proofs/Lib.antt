@@ -1,5 +1,9 @@
 pub mod RowLemmas
 pub mod ReductionLemmas
+pub mod ClosedLemmas
 pub mod VisitLemmas
 pub mod MultipleLemmas
 pub mod ProjectionLemmas
+pub mod LowestLemmas
+pub mod PartLemmas
+pub mod PlainCauseLemmas

@@ -6,12 +6,15 @@ use Rattle.it_space.specs.Answers.{CertificateView}
 use Rattle.it_space.specs.Problems.{ProblemView, IsProblem}
 use Rattle.it_space.specs.Rows.{Terms, IsUpTo}
 use Rattle.it_space.specs.Spaces.{size_of}
+use Rattle.it_prove.specs.ClosedProblems.{IsClosedProblem}
+use Rattle.it_prove.specs.declared.closed.ClosedProblem.{ClosedProblem}
 use Rattle.it_prove.specs.ProofViews.{ProofView, EndsWith, IsRightProof}
 use Rattle.it_redundant.specs.declared.types.Need.{Need}
 use Rattle.it_redundant.specs.Reduction.{NeedView, Reduces, IsOutcome, kept_by, dropped_by, kept_rows, need_view, with_rows}
 use Rattle.it_redundant.specs.ReductionSteps.{AreRowsUpTo}
 use Rattle.it_redundant.proofs.RowLemmas.{problem_limits}
 use Rattle.it_redundant.proofs.ReductionLemmas.{few_kept, kept_up_to}
+use Rattle.it_redundant.proofs.ClosedLemmas.{closed_behind}
 
 -- the rows of what stays, by its needs as they are kept
 pub rows_kept : (ks : List (Terms × Need)) → kept_rows (map (λ k. (k.0, need_view k.1)) ks) ≡ map (λ k. k.0) ks
@@ -65,6 +68,10 @@ module _ (givens p : ProblemView) (budget : Option ℕ) (kept slice : List (Term
       → AreRowsUpTo (size_of givens.space) after → IsProblem p
   visit_limits limits few count up ups = subst IsProblem (sym kept_is) (problem_limits givens (map (λ k. k.0) kept ++ after) limits few
       (omega (arith, count, length-append (map (λ k. k.0) kept) after, length-map kept (λ (k : Terms × Need). k.0))) (All-append (IsUpTo (size_of givens.space)) (map (λ k. k.0) kept) after up ups))
+
+  -- what was made of the givens serves the problem
+  pub visit_closed : (c : ClosedProblem) → IsClosedProblem givens c → IsClosedProblem p c
+  visit_closed c h = subst (λ q. IsClosedProblem q c) (sym kept_is) (closed_behind givens (map (λ k. k.0) kept ++ after) c h)
 
   pub visit_outcome : (row : Terms) (o : ProofView) → EndsWith p row budget o → IsRightProof p row o → IsOutcome givens budget (kept_rows (map (λ k. (k.0, need_view k.1)) kept) ++ after) row o
   visit_outcome row o e r =

@@ -9,7 +9,7 @@ mod reduction;
 mod tests;
 mod types;
 
-pub use laws::reductions_are_determined;
+pub use laws::{causes_are_plain, reductions_are_determined};
 pub use projection::project;
 pub use reduction::reduce;
 pub use types::{Need, Projected, Reduced};

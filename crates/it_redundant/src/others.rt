@@ -7,20 +7,12 @@ use crate::types::Need;
 use it_space::{Constraint, Kind, Origin, Problem, Row};
 use std::alloc::{AllocError, Global};
 
-/// The same row once more.
-pub fn copy(alloc: Global, row: &Row) -> Result<Row, AllocError>
-    ensures { IfOk result (λ r. r ≡ row.now) }
-{
-    let terms = row.terms().iter().copied().collect(alloc)?;
-    Ok(Row::new(terms))
-}
-
 /// The same constraint once more.
 fn copy_constraint(alloc: Global, constraint: &Constraint) -> Result<Constraint, AllocError>
     ensures { IfOk result (λ c. c ≡ constraint.now) }
 {
     Ok(Constraint {
-        row: copy(alloc, &constraint.row)?,
+        row: constraint.row.copy(alloc)?,
         kind: constraint.kind,
         origin: constraint.origin,
     })
@@ -37,7 +29,7 @@ fn push_row(
     ensures { OnOk result (constraints.new.items ≡ constraints.old.items ++ row_constraints line (row.now ∷ [])) }
 {
     constraints.push(Constraint {
-        row: copy(alloc, row)?,
+        row: row.copy(alloc)?,
         kind: Kind::Inequality,
         origin: Origin::Rate { line: line as u16 },
     })?;

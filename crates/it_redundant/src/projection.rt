@@ -7,7 +7,6 @@ ghost use Rattle.it_redundant.specs.ProjectionSteps.{HasRowsUpTo, IsAfterRate, I
 ghost use Rattle.it_redundant.specs.ReducedElimination.{ReducedEnds, projected_view};
 ghost use Rattle.it_redundant.specs.Theorems.{RegionIsReduced, SpeakOfSets};
 
-use crate::others::copy;
 use crate::reduction::reduce;
 use crate::types::{Projected, Reduced};
 use it_eliminate::{Eliminated, step};
@@ -100,7 +99,7 @@ fn kept_system(alloc: Global, space: Space, reduced: &Reduced) -> Result<System,
 {
     let mut rows = Vec::new(alloc);
     for (row, _) in &reduced.kept {
-        rows.push(copy(alloc, row)?)?;
+        rows.push(row.copy(alloc)?)?;
     }
     Ok(System { space, rows })
 }

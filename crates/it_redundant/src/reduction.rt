@@ -4,14 +4,15 @@ ghost use Rattle.it_space.specs.Answers.{certificate_view};
 ghost use Rattle.it_space.specs.Problems.{IsProblem, IsSystem, problem_view};
 ghost use Rattle.it_space.specs.Rows.{IsUpTo};
 ghost use Rattle.it_space.specs.Spaces.{size_of};
+ghost use Rattle.it_prove.specs.ClosedProblems.{IsClosedProblem};
 ghost use Rattle.it_prove.specs.ProofViews.{proof_view};
 ghost use Rattle.it_redundant.specs.Reduction.{Reduces, dropped_by, dropped_view, kept_by, kept_rows, kept_view, need_view};
 ghost use Rattle.it_redundant.specs.ReductionSteps.{AreRowsUpTo, IsVisited};
 ghost use Rattle.it_redundant.specs.Theorems.{AreNeeded, HoldAlike};
 
-use crate::others::{copy, problem_with};
+use crate::others::problem_with;
 use crate::types::{Need, Reduced};
-use it_prove::{Proof, prove};
+use it_prove::{ClosedProblem, Proof};
 use it_simplex::Budget;
 use it_space::{Certificate, Problem, Row, System};
 use std::alloc::{AllocError, Global};
@@ -50,6 +51,7 @@ fn reduced_rows(
     requires few_givens { length givens.now.constraints.items ≤ 65535 }
     ensures { IfOk result (λ r. Reduces (problem_view givens.now) budget [] rows.now (kept_view r) (dropped_view r)) }
 {
+    let mut closed = ClosedProblem::read(alloc, givens)?;
     let mut reduced = Reduced {
         kept: Vec::new(alloc),
         dropped: Vec::new(alloc),
@@ -58,6 +60,7 @@ fn reduced_rows(
         visit(
             alloc,
             givens,
+            &mut closed,
             &mut reduced,
             &rows[i],
             &rows[i + 1..],
@@ -67,10 +70,11 @@ fn reduced_rows(
     Ok(reduced)
 }
 
-/// Visits a row: the rows that stay so far stand before it, the others after it.
+/// Visits a row: the rows that stay so far stand before it, the others after it. What is made of the givens serves each visit.
 fn visit(
     alloc: Global,
     givens: &Problem,
+    closed: &mut ClosedProblem,
     reduced: &mut Reduced,
     row: &Row,
     after: &[Row],
@@ -82,10 +86,12 @@ fn visit(
     requires row { IsUpTo (size_of givens.now.space) row.now }
     requires kept { AreRowsUpTo (size_of givens.now.space) (map (λ k. k.0) reduced.old.kept.items) }
     requires after { AreRowsUpTo (size_of givens.now.space) after.now }
-    ensures { OnOk result (IsVisited (problem_view givens.now) budget row.now after.now reduced.old reduced.new) }
+    requires closed { IsClosedProblem (problem_view givens.now) closed.old }
+    ensures visited { OnOk result (IsVisited (problem_view givens.now) budget row.now after.now reduced.old reduced.new) }
+    ensures closed { OnOk result (IsClosedProblem (problem_view givens.now) closed.new) }
 {
     let problem = problem_with(alloc, givens, reduced.kept.as_slice(), after)?;
-    let proof = prove(alloc, &problem, row, budget)?;
+    let proof = closed.prove(alloc, &problem, row, budget)?;
     put(alloc, reduced, row, proof)?;
     Ok(())
 }
@@ -112,7 +118,7 @@ fn drop_row(
     ensures kept { OnOk result (kept_view reduced.new ≡ kept_view reduced.old) }
     ensures dropped { OnOk result (dropped_view reduced.new ≡ dropped_view reduced.old ++ (row.now, certificate_view certificate) ∷ []) }
 {
-    reduced.dropped.push((copy(alloc, row)?, certificate))?;
+    reduced.dropped.push((row.copy(alloc)?, certificate))?;
     Ok(())
 }
 
@@ -121,6 +127,6 @@ fn keep(alloc: Global, reduced: &mut Reduced, row: &Row, need: Need) -> Result<(
     ensures kept { OnOk result (kept_view reduced.new ≡ kept_view reduced.old ++ (row.now, need_view need) ∷ []) }
     ensures dropped { OnOk result (dropped_view reduced.new ≡ dropped_view reduced.old) }
 {
-    reduced.kept.push((copy(alloc, row)?, need))?;
+    reduced.kept.push((row.copy(alloc)?, need))?;
     Ok(())
 }

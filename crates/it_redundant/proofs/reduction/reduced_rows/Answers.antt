@@ -9,7 +9,7 @@ use Rattle.it_redundant.proofs.VisitLemmas.{rows_kept, under_way_end, under_way_
 use Rattle.it_redundant.proofs.reduction.reduced_rows.Goals as goal
 
 pub visit-requires-clause-kept : goal.visit-requires-clause-kept
-visit-requires-clause-kept c = subst (AreRowsUpTo (size_of c.args.givens.now.space)) (rows_kept c.loop-i.reduced.kept.items) c.loop-i.invariant.up
+visit-requires-clause-kept c = subst (AreRowsUpTo (size_of c.args.givens.now.space)) (rows_kept c.loop-i.reduced.kept.items) c.loop-i.invariant.0.up
 
 pub loop-i-preserved : goal.loop-i-preserved
 loop-i-preserved c =
@@ -18,13 +18,15 @@ loop-i-preserved c =
     let rows = c.args.rows.now in
     let i = c.loop-i.i in
     let row = c.index-rows-i.result in
-    let below : i < length rows = search rules in
-    under_way_more q c.args.budget size rows (kept_view c.loop-i.reduced) (kept_view c.visit.new.reduced) (dropped_view c.loop-i.reduced) (dropped_view c.visit.new.reduced) i row c.in_ok-visit.ensures.outcome below
-    (drop_more rows i row below ∙ ap (λ x. x ∷ drop (i + 1) rows) (sym c.index-rows-i.is)) (subst (IsUpTo size) (sym c.index-rows-i.is) (c.requires.rows i row below))
-    (subst (λ xs. IsOutcome q c.args.budget (kept_rows (kept_view c.loop-i.reduced) ++ xs) row c.in_ok-visit.ensures.outcome) (take_all _ _ (simp length-drop (omega arith))) c.in_ok-visit.ensures.is)
-    c.in_ok-visit.ensures.kept c.in_ok-visit.ensures.dropped c.loop-i.invariant
+    let below : i < length rows = search rules in (
+      under_way_more q c.args.budget size rows (kept_view c.loop-i.reduced) (kept_view c.visit.new.reduced) (dropped_view c.loop-i.reduced) (dropped_view c.visit.new.reduced) i row c.in_ok-visit.ensures.visited.outcome below
+          (drop_more rows i row below ∙ ap (λ x. x ∷ drop (i + 1) rows) (sym c.index-rows-i.is)) (subst (IsUpTo size) (sym c.index-rows-i.is) (c.requires.rows i row below))
+          (subst (λ xs. IsOutcome q c.args.budget (kept_rows (kept_view c.loop-i.reduced) ++ xs) row c.in_ok-visit.ensures.visited.outcome) (take_all _ _ (simp length-drop (omega arith))) c.in_ok-visit.ensures.visited.is)
+          c.in_ok-visit.ensures.visited.kept c.in_ok-visit.ensures.visited.dropped c.loop-i.invariant.0,
+      c.in_ok-visit.ensures.closed,
+    )
 
 pub returns : goal.returns
 returns c =
     let all : length c.args.rows.now ≤ c.loop-i.i = search rules in
-    under_way_end (problem_view c.args.givens.now) c.args.budget (size_of c.args.givens.now.space) c.args.rows.now (kept_view c.loop-i.reduced) (dropped_view c.loop-i.reduced) c.loop-i.i (drop_all c.loop-i.i c.args.rows.now all) c.loop-i.invariant
+    under_way_end (problem_view c.args.givens.now) c.args.budget (size_of c.args.givens.now.space) c.args.rows.now (kept_view c.loop-i.reduced) (dropped_view c.loop-i.reduced) c.loop-i.i (drop_all c.loop-i.i c.args.rows.now all) c.loop-i.invariant.0

@@ -1,8 +1,9 @@
 use Rattle.it_space.specs.Problems.{problem_view}
 use Rattle.it_space.specs.Spaces.{size_of}
+use Rattle.it_prove.specs.ClosedProblems.{IsClosedProblem}
 use Rattle.it_redundant.specs.Reduction.{kept_view, dropped_view}
 use Rattle.it_redundant.proofs.VisitLemmas.{IsUnderWay}
 use Rattle.it_redundant.proofs.reduction.reduced_rows.Given as goal
 
 abbrev pub invariant-loop-i : goal.invariant-loop-i
-invariant-loop-i l = IsUnderWay (problem_view l.givens) l.budget (size_of l.givens.space) l.rows (kept_view l.reduced) (dropped_view l.reduced) l.i
+invariant-loop-i l = IsUnderWay (problem_view l.givens) l.budget (size_of l.givens.space) l.rows (kept_view l.reduced) (dropped_view l.reduced) l.i × IsClosedProblem (problem_view l.givens) l.closed
