@@ -1,7 +1,10 @@
--- The letters that are left at a cursor, by what is left of its line.
-use Rattle.std.proofs.Common.{◌≡◌, List, [], ◌++◌, map, Option, Some, None, ap}
+-- The letters that are left at a cursor, by what is left of its line, and the code at the first of them.
+use Rattle.std.proofs.Common.{◌≡◌, List, [], ◌∷◌, ◌++◌, map, Option, Some, None, refl, ap}
 use Rattle.it_syntax.specs.declared.rest.Rest.{Rest}
-use Rattle.it_syntax.specs.Letters.{Letter}
+use Rattle.it_syntax.specs.declared.types.Token.{Token}
+use Rattle.it_syntax.specs.Letters.{Letter, Word, Number, Sym, End, Bad}
+use Rattle.it_syntax.specs.FirstFault.{own_code}
+use Rattle.it_syntax.specs.Spans.{letter_of, letters_until, last_letter}
 use Rattle.it_syntax.specs.Gives as gives
 use Rattle.it_question.specs.declared.cursor.Cursor.{Cursor}
 use Rattle.it_question.specs.Cursors.{token_line, left_of, left}
@@ -18,3 +21,22 @@ left_none c e = ap (λ (o : Option Rest). left_of o c.behind.now) e
 pub left_some : (c : Cursor) (r : Rest) → c.rest ≡ Some r → left c ≡ gives.left r ++ behind c
 unfolding left
 left_some c r e = ap (λ (o : Option Rest). left_of o c.behind.now) e
+
+-- the code at the front of some letters is that of the first
+own_code-first : (l : Letter) (xs ys : List Letter) → own_code (l ∷ xs) ≡ own_code (l ∷ ys)
+own_code-first (Word w) xs ys = refl
+own_code-first (Number n) xs ys = refl
+own_code-first (Sym s) xs ys = refl
+own_code-first End xs ys = refl
+own_code-first (Bad c) xs ys = refl
+
+-- and so what stands behind a line doesn't change the code at its front
+pub own_code-line : (r : Rest) (more : List Letter) → own_code (gives.left r ++ more) ≡ own_code (gives.left r)
+own_code-line r more = by_tokens r.tokens.now
+  where
+    last : Letter
+    last = last_letter r.misspelling
+
+    by_tokens : (ts : List Token) → own_code (letters_until r.line.now ts last ++ more) ≡ own_code (letters_until r.line.now ts last)
+    by_tokens [] = own_code-first last more []
+    by_tokens (t ∷ ts) = own_code-first (letter_of r.line.now t.start t.end t.kind) (letters_until r.line.now ts last ++ more) (letters_until r.line.now ts last)

@@ -8,7 +8,7 @@ use Rattle.it_syntax.specs.FirstFault.{own_code}
 use Rattle.it_syntax.specs.AtomReading.{Reads, ◌>>=◌}
 use Rattle.it_syntax.specs.WrittenAtoms.{Environment, WrittenList, is_measure, index_or}
 use Rattle.it_syntax.proofs.Traces.{Stuck, By, Traces, traces_bind, traces_map}
-use Rattle.it_syntax.proofs.AtomTraces.{begun, empty, stuck_here, stuck_none}
+use Rattle.it_syntax.proofs.AtomTraces.{for_same_head, for_no_head, stuck_here, stuck_none}
 use Rattle.it_question.specs.WrittenLines.{is_among, once_mark, spell_once, spell_once_more, spell_distinct, indexes_of, distinct_of}
 use Rattle.it_question.specs.Reading.{if_unseen, rate_once, read_once, read_once_more, read_distinct}
 use Rattle.it_question.proofs.NameTraces.{some_name, number_of, IsJudged, marked_here, nothing_read}
@@ -71,7 +71,7 @@ more_marked env seen w ls c h e = record {
   front = Sym Comma ∷ [];
   parts = refl;
   spells = λ k. (spell_once env seen w k, (refl, inr (Word w, k, (h k, refl))));
-  stays = begun (λ s. read_once_more env seen (Sym Comma ∷ s) ≡ Err (c, s)) (Word w) (λ s. more_is env seen w s (Err (c, Word w ∷ s)) (e s));
+  stays = for_same_head (λ s. read_once_more env seen (Sym Comma ∷ s) ≡ Err (c, s)) (Word w) (λ s. more_is env seen w s (Err (c, Word w ∷ s)) (e s));
 }
 
 -- what further rates tell behind a rate
@@ -115,7 +115,7 @@ no_rate env seen l ls c h o = record {
   front = Sym Comma ∷ [];
   parts = refl;
   spells = λ k. (spell_once env seen some_name k, (refl, inl o));
-  stays = begun (λ s. read_once_more env seen (Sym Comma ∷ s) ≡ Err (c, s)) l h;
+  stays = for_same_head (λ s. read_once_more env seen (Sym Comma ∷ s) ≡ Err (c, s)) l h;
 }
 
 -- further rates, each behind a comma
@@ -127,11 +127,11 @@ once_more_traces env seen (Sym Comma ∷ []) = record {
   front = Sym Comma ∷ [];
   parts = refl;
   spells = λ k. (spell_once env seen some_name k, (refl, inl refl));
-  stays = empty (λ s. read_once_more env seen (Sym Comma ∷ s) ≡ Err (codes.Word, s)) refl;
+  stays = for_no_head (λ s. read_once_more env seen (Sym Comma ∷ s) ≡ Err (codes.Word, s)) refl;
 }
 once_more_traces env seen (Sym Comma ∷ l ∷ ls) = no_rate env seen l ls _ (λ s. refl) refl
-once_more_traces env seen [] = nothing_read (read_once_more env seen) (spell_once_more env seen) (indexes_of env) [] [] (λ k. refl) (empty (λ s. read_once_more env seen s ≡ Ok ([], s)) refl)
-once_more_traces env seen (l ∷ ls) = nothing_read (read_once_more env seen) (spell_once_more env seen) (indexes_of env) [] (l ∷ ls) (λ k. refl) (begun (λ s. read_once_more env seen s ≡ Ok ([], s)) l (λ s. refl))
+once_more_traces env seen [] = nothing_read (read_once_more env seen) (spell_once_more env seen) (indexes_of env) [] [] (λ k. refl) (for_no_head (λ s. read_once_more env seen s ≡ Ok ([], s)) refl)
+once_more_traces env seen (l ∷ ls) = nothing_read (read_once_more env seen) (spell_once_more env seen) (indexes_of env) [] (l ∷ ls) (λ k. refl) (for_same_head (λ s. read_once_more env seen s ≡ Ok ([], s)) l (λ s. refl))
 
 abbrev rates_made : List ℕ → List (List ℕ) → WrittenList
 rates_made w ws = record { first = w; more = ws }

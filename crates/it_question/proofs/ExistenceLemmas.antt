@@ -77,9 +77,9 @@ letters_left bytes lines c cut e =
 abbrev HasOne : List ℕ → Type 0
 HasOne bytes = ((qs : List QuestionView) × IsFile bytes qs) ⊎ ((line : ℕ) × (column : ℕ) × (c : Code) × FileFaultAt bytes line column c)
 
-faulty : (bytes : List ℕ) (lines : List TokenLine) (c : Code) (r : List Letter) → AreLinesOf bytes lines → read_file (letters_of_lines lines) ≡ Err (c, r) → HasOne bytes
-faulty bytes lines c [] cut e = absurd (letters_left bytes lines c cut e)
-faulty bytes lines c (l ∷ r) cut e =
+fault_exists : (bytes : List ℕ) (lines : List TokenLine) (c : Code) (r : List Letter) → AreLinesOf bytes lines → read_file (letters_of_lines lines) ≡ Err (c, r) → HasOne bytes
+fault_exists bytes lines c [] cut e = absurd (letters_left bytes lines c cut e)
+fault_exists bytes lines c (l ∷ r) cut e =
     let f = read_stops lines c (l ∷ r) e in
     let i = length (letters_of_lines lines) - length (l ∷ r) in
     let within : i < length (places_of_lines lines) = omega (arith, places_length lines, ap length f.parts, length-append f.front (l ∷ r)) in
@@ -95,4 +95,4 @@ file_has_one bytes = by (read_file (letters_of_lines cut.0)) refl
     by : (r : Reads (List BodyView)) → read_file (letters_of_lines cut.0) ≡ r → HasOne bytes
     by (Ok x) e = let k = read_asks bytes cut.0 x.0 x.1 cut.1 e in
         inl (with_texts cut.0 x.0, record { lines = cut.0; cut = cut.1; trees = k.0; spelled = k.1.0; are = ap (with_texts cut.0) k.1.1 })
-    by (Err x) e = faulty bytes cut.0 x.0 x.1 cut.1 e
+    by (Err x) e = fault_exists bytes cut.0 x.0 x.1 cut.1 e

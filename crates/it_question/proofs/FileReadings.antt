@@ -65,8 +65,8 @@ some_left bytes lines (stops.Fault c) (l ∷ r) cut e =
     let f = read_stops lines c (l ∷ r) e in
     record { within = omega (arith, ap length f.parts, length-append f.front (l ∷ r)); some = omega (arith, places_length lines, ap length f.parts, length-append f.front (l ∷ r)) }
 
-pub faulty : (bytes : List ℕ) (lines : List TokenLine) (stop : Stop) (r : List Letter) (fault : FileFault) → AreLinesOf bytes lines → StopsAs stop r (read_file (letters_of_lines lines)) → IsStopAt (place_of lines r) stop fault → IsFirstFileFault bytes fault
-faulty bytes lines stops.Memory r fault cut e at = subst (IsFirstFileFault bytes) (sym at) tt
-faulty bytes lines (stops.Fault c) r Memory cut e at = absurd at
-faulty bytes lines (stops.Fault c) r (Fault line column code) cut e at =
+pub first_file_fault : (bytes : List ℕ) (lines : List TokenLine) (stop : Stop) (r : List Letter) (fault : FileFault) → AreLinesOf bytes lines → StopsAs stop r (read_file (letters_of_lines lines)) → IsStopAt (place_of lines r) stop fault → IsFirstFileFault bytes fault
+first_file_fault bytes lines stops.Memory r fault cut e at = subst (IsFirstFileFault bytes) (sym at) tt
+first_file_fault bytes lines (stops.Fault c) r Memory cut e at = absurd at
+first_file_fault bytes lines (stops.Fault c) r (Fault line column code) cut e at =
     record { lines = lines; cut = cut; left = r; first = subst (λ (d : Code). FirstFault spell_file (letters_of_lines lines) d r) (sym at.0) (read_stops lines c r e); place = at.1 }

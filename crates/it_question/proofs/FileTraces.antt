@@ -12,7 +12,7 @@ use Rattle.it_syntax.specs.WrittenAtoms.{WrittenList}
 use Rattle.it_syntax.specs.WrittenRelations.{WrittenRelation, spell_relation, relation_of}
 use Rattle.it_syntax.specs.Scopes.{scope_of}
 use Rattle.it_syntax.specs.RelationReading.{read_relation}
-use Rattle.it_syntax.proofs.Traces.{By, Traces, traces_bind, traces_map, letter_then, switch, renamed}
+use Rattle.it_syntax.proofs.Traces.{By, Traces, traces_bind, traces_map, letter_then, switch, by_renaming}
 use Rattle.it_syntax.proofs.AtomTraces.{stuck_here, stuck_none}
 use Rattle.it_syntax.proofs.RelationTraces.{relation_traces}
 use Rattle.it_question.specs.Lines.{file_end}
@@ -49,17 +49,17 @@ pub elimination_traces : (v : NamesView) → Traces (read_elimination v) (spell_
 unfolding read_elimination
 elimination_traces v = traces_map (to_end (read_distinct (rates_env v))) views.Eliminate (spell_elimination v) (distinct_of (rates_env v)) (ended_traces (read_distinct (rates_env v)) (spell_distinct (rates_env v)) (distinct_of (rates_env v)) (distinct_traces (rates_env v)))
 
-abbrev chosen : ℕ → ℕ → NamesView → List ℕ → List Letter → Bool → Bool → Bool → Reads VerbView
-chosen g r v w ls h i j = cond h (read_proof v ls) (cond i (read_elimination v ls) (cond j (read_containment g r v ls) (Err (codes.Word, Word w ∷ ls))))
+abbrev verb_by_word : ℕ → ℕ → NamesView → List ℕ → List Letter → Bool → Bool → Bool → Reads VerbView
+verb_by_word g r v w ls h i j = cond h (read_proof v ls) (cond i (read_elimination v ls) (cond j (read_containment g r v ls) (Err (codes.Word, Word w ∷ ls))))
 
-verb_is : (g r : ℕ) (v : NamesView) (w : List ℕ) (h i j : Bool) → bytes_eq w prove_text ≡ h → bytes_eq w eliminate_text ≡ i → bytes_eq w region_text ≡ j → (ls : List Letter) → read_verb g r v (Word w ∷ ls) ≡ chosen g r v w ls h i j
+verb_is : (g r : ℕ) (v : NamesView) (w : List ℕ) (h i j : Bool) → bytes_eq w prove_text ≡ h → bytes_eq w eliminate_text ≡ i → bytes_eq w region_text ≡ j → (ls : List Letter) → read_verb g r v (Word w ∷ ls) ≡ verb_by_word g r v w ls h i j
 unfolding read_verb
-verb_is g r v w h i j eh ei ej ls = ap (λ (b : Bool). chosen g r v w ls b (bytes_eq w eliminate_text) (bytes_eq w region_text)) eh ∙ ap (λ (b : Bool). chosen g r v w ls h b (bytes_eq w region_text)) ei ∙ ap (λ (b : Bool). chosen g r v w ls h i b) ej
+verb_is g r v w h i j eh ei ej ls = ap (λ (b : Bool). verb_by_word g r v w ls b (bytes_eq w eliminate_text) (bytes_eq w region_text)) eh ∙ ap (λ (b : Bool). verb_by_word g r v w ls h b (bytes_eq w region_text)) ei ∙ ap (λ (b : Bool). verb_by_word g r v w ls h i b) ej
 
 some_verb : WrittenVerb
 some_verb = Prove some_relation
 
-verb_by : (g r : ℕ) (v : NamesView) (w : List ℕ) (ls : List Letter) (h i j : Bool) → bytes_eq w prove_text ≡ h → bytes_eq w eliminate_text ≡ i → bytes_eq w region_text ≡ j → By (read_verb g r v) (spell_verb g r v) (verb_of v) (Word w ∷ ls) (chosen g r v w ls h i j)
+verb_by : (g r : ℕ) (v : NamesView) (w : List ℕ) (ls : List Letter) (h i j : Bool) → bytes_eq w prove_text ≡ h → bytes_eq w eliminate_text ≡ i → bytes_eq w region_text ≡ j → By (read_verb g r v) (spell_verb g r v) (verb_of v) (Word w ∷ ls) (verb_by_word g r v w ls h i j)
 verb_by g r v w ls true i j eh ei ej = letter_then (read_verb g r v) (read_proof v) (Word w) (spell_proof v) (spell_verb g r v) (λ x. views.Prove (relation_of (scope_of v true) x)) (verb_of v) Prove ls (verb_is g r v w true i j eh ei ej)
     (λ z k. ap (λ (t : List ℕ). clean (Word t) ∷ spell_proof v z k) (sym ((bytes_eq-Decides w prove_text).0 eh))) (λ z. refl) (read_proof v ls) (proof_traces v ls)
 verb_by g r v w ls false true j eh ei ej = letter_then (read_verb g r v) (read_elimination v) (Word w) (spell_elimination v) (spell_verb g r v) (λ l. views.Eliminate (distinct_of (rates_env v) l)) (verb_of v) Eliminate ls (verb_is g r v w false true j eh ei ej)
@@ -152,7 +152,7 @@ file_end_traces (l ∷ ls) = stuck_here read_end (λ (u : Unit {0}) k. clean fil
 no_question_left : (n : ℕ) (ls : List Letter) → ((s : List Letter) → head s ≡ head ls → read_questions n s ≡ read_end s) → By (read_questions n) (spell_to_end n) questions_of ls (read_questions n ls)
 no_question_left n ls h = subst (λ (t : Reads (List BodyView)). By (read_questions n) (spell_to_end n) questions_of ls t) (sym (h ls refl))
     (switch read_end (read_questions n) (spell_to_end n) questions_of ls h (read_end ls)
-    (renamed read_end (λ (u : Unit {0}) k. clean file_end ∷ k) (spell_to_end n) (λ u. []) questions_of (λ u. []) ls (λ z k. refl) (λ z. refl) (read_end ls) (file_end_traces ls)))
+    (by_renaming read_end (λ (u : Unit {0}) k. clean file_end ∷ k) (spell_to_end n) (λ u. []) questions_of (λ u. []) ls (λ z k. refl) (λ z. refl) (read_end ls) (file_end_traces ls)))
 
 -- a question, and those behind it
 abbrev Questions : Type 0

@@ -111,17 +111,17 @@ abbrev Asks : BodyView × List Letter → Type 0
 Asks x = IsQuestion x.0
 
 -- rates leave the variables as they are
-declared : (variables names : NamesView) (hv : IsGrown Variable 1 8 no_names variables) → IsGrown Rate 0 16 variables names → names.variables ≡ hv.own
-declared variables names hv hn = ap (λ (w : NamesView). w.variables) hn.is ∙ ap (λ (w : NamesView). w.variables) hv.is
+own_variables : (variables names : NamesView) (hv : IsGrown Variable 1 8 no_names variables) → IsGrown Rate 0 16 variables names → names.variables ≡ hv.own
+own_variables variables names hv hn = ap (λ (w : NamesView). w.variables) hn.is ∙ ap (λ (w : NamesView). w.variables) hv.is
 
 few_variables : (variables names : NamesView) → IsGrown Variable 1 8 no_names variables → IsGrown Rate 0 16 variables names → length names.variables ≤ 8
-few_variables variables names hv hn = subst (λ (ws : List (List ℕ)). length ws ≤ 8) (sym (declared variables names hv hn)) hv.few
+few_variables variables names hv hn = subst (λ (ws : List (List ℕ)). length ws ≤ 8) (sym (own_variables variables names hv hn)) hv.few
 
 question_over : (variables names : NamesView) (own : OwnLinesView) (aim : VerbView) → IsGrown Variable 1 8 no_names variables → IsGrown Rate 0 16 variables names → AreLinesOver names own → IsVerbOver names aim → IsQuestion (record { names = names; lines = own; verb = aim })
 question_over variables names own aim hv hn lines over =
     let rated : names.rates ≡ hn.own = ap (λ (w : NamesView). w.rates) hn.is ∙ ap (λ (w : NamesView). w.rates ++ hn.own) hv.is in
     record {
-      some = subst (λ (ws : List (List ℕ)). 1 ≤ length ws) (sym (declared variables names hv hn)) hv.some;
+      some = subst (λ (ws : List (List ℕ)). 1 ≤ length ws) (sym (own_variables variables names hv hn)) hv.some;
       few = few_variables variables names hv hn;
       few_rates = subst (λ (ws : List (List ℕ)). length ws ≤ 16) (sym rated) hn.few;
       lines = lines;

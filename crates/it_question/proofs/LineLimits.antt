@@ -24,7 +24,7 @@ abbrev pub OverRelation : NamesView → RelationView → Type 0
 OverRelation v y = IsRelationOf (length v.variables) (length v.rates) y
 
 abbrev pub OverCondition : NamesView → GivenView → Type 0
-OverCondition v y = IsGivenOf (length v.variables) (length v.rates) y
+OverCondition v y = IsGivenOf (length v.variables) y
 
 -- what is so of each that is read
 pub sure_if : {A : Type 0} (P : A → Type 0) (r : Reads A) → ((x : A) (rest : List Letter) → r ≡ Ok (x, rest) → P x) → Sure (λ (x : A × List Letter). P x.0) r

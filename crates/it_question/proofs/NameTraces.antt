@@ -12,16 +12,16 @@ use Rattle.it_syntax.specs.Lines.{to_end}
 use Rattle.it_syntax.specs.AtomReading.{Reads, ◌>>=◌, line_end}
 use Rattle.it_syntax.specs.WrittenAtoms.{Environment, WrittenList, is_measure, index_or}
 use Rattle.it_syntax.proofs.Traces.{Stuck, By, Traces, traces_bind, traces_map, letter_then}
-use Rattle.it_syntax.proofs.AtomTraces.{begun, empty, stuck_here, stuck_none}
-use Rattle.it_syntax.proofs.LineEnd.{spell_end, nothing, end_traces}
+use Rattle.it_syntax.proofs.AtomTraces.{for_same_head, for_no_head, stuck_here, stuck_none}
+use Rattle.it_syntax.proofs.LineEnd.{spell_end, end_value, end_traces}
 use Rattle.it_question.specs.NewNames.{Sort, with_name, is_taken, new_mark, spell_new, spell_new_more, spell_new_names, with_names, new_names_of, spell_names_line, names_line_of}
 use Rattle.it_question.specs.Reading.{read_word, behind_word, new_name_or_fault, read_new, read_new_more, read_new_names, if_behind, read_names_line}
 
 -- a reader up to the line's end
 pub ended_traces : {A X : Type 0} (f : List Letter → Reads A) (spell : X → Marked → Marked) (value : X → A) → Traces f spell value → Traces (to_end f) (λ x k. spell x (clean End ∷ k)) value
-unfolding to_end spell_end nothing
+unfolding to_end spell_end end_value
 ended_traces f spell value h = traces_bind f (λ a ls. line_end ls >>= λ e. Ok (a, e.1)) (to_end f) spell (λ a. spell_end) (λ x k. spell x (clean End ∷ k)) value (λ a u. a) value (λ x u. x)
-    (record { is = λ ls. refl; spells = λ y z k. refl; value = λ y z. refl; some = tt; first = h; second = λ a. traces_map line_end (λ u. a) spell_end nothing end_traces })
+    (record { is = λ ls. refl; spells = λ y z k. refl; value = λ y z. refl; some = tt; first = h; second = λ a. traces_map line_end (λ u. a) spell_end end_value end_traces })
 
 -- ---- a letter that is marked, and letters that are left
 
@@ -33,7 +33,7 @@ marked_here f spell tree l ls c rest h e = record {
   front = [];
   parts = refl;
   spells = λ k. (spell tree k, (refl, inr (l, rest k, (h k, refl))));
-  stays = begun (λ s. f s ≡ Err (c, s)) l e;
+  stays = for_same_head (λ s. f s ≡ Err (c, s)) l e;
 }
 
 -- no letter is read, and a tree is spelled by none
@@ -90,9 +90,9 @@ stands_first text (Word w ∷ ls) = by (bytes_eq w text) refl
   where
     by : (b : Bool) → bytes_eq w text ≡ b → ((behind : List Letter) × (Word w ∷ ls ≡ Word text ∷ behind)) ⊎ IsAbsent text (Word w ∷ ls)
     by true e = inl (ls, ap (λ (t : List ℕ). Word t ∷ ls) ((bytes_eq-Decides w text).0 e))
-    by false e = inr (begun (λ s. behind_word text s ≡ None) (Word w) (λ s. ap (λ (b : Bool). cond b (Some s) None) e))
-stands_first text [] = inr (empty (λ s. behind_word text s ≡ None) refl)
-stands_first text (l ∷ ls) = inr (begun (λ s. behind_word text s ≡ None) l (λ s. refl))
+    by false e = inr (for_same_head (λ s. behind_word text s ≡ None) (Word w) (λ s. ap (λ (b : Bool). cond b (Some s) None) e))
+stands_first text [] = inr (for_no_head (λ s. behind_word text s ≡ None) refl)
+stands_first text (l ∷ ls) = inr (for_same_head (λ s. behind_word text s ≡ None) l (λ s. refl))
 
 -- what stands behind a word
 pub word_behind : (text : List ℕ) (s : List Letter) → behind_word text (Word text ∷ s) ≡ Some s
@@ -176,10 +176,10 @@ pub new_more_traces : (sort : Sort) (n : ℕ) (v : NamesView) → Traces (read_n
 unfolding read_new_more
 new_more_traces sort zero v (Sym Comma ∷ ls) = letter_then (read_new_more sort zero v) (read_new sort zero v) (Sym Comma) (spell_new sort zero v) (spell_new_more sort zero v) (with_name sort v) (with_names sort v) (λ w. w ∷ []) ls (λ s. refl) (λ z k. refl) (λ z. refl) (read_new sort zero v ls) (new_traces sort zero v ls)
 new_more_traces sort (suc n) v (Sym Comma ∷ ls) = letter_then (read_new_more sort (suc n) v) (new_then sort (suc n) n v) (Sym Comma) (spell_then sort (suc n) n v) (spell_new_more sort (suc n) v) (then_of sort v) (with_names sort v) more_made ls (λ s. refl) (more_spelled sort n v) (λ z. refl) (new_then sort (suc n) n v ls) (then_traces sort (suc n) n v (new_more_traces sort n) ls)
-new_more_traces sort zero v [] = nothing_read (read_new_more sort zero v) (spell_new_more sort zero v) (with_names sort v) [] [] (λ k. refl) (empty (λ s. read_new_more sort zero v s ≡ Ok (v, s)) refl)
-new_more_traces sort zero v (l ∷ ls) = nothing_read (read_new_more sort zero v) (spell_new_more sort zero v) (with_names sort v) [] (l ∷ ls) (λ k. refl) (begun (λ s. read_new_more sort zero v s ≡ Ok (v, s)) l (λ s. refl))
-new_more_traces sort (suc n) v [] = nothing_read (read_new_more sort (suc n) v) (spell_new_more sort (suc n) v) (with_names sort v) [] [] (λ k. refl) (empty (λ s. read_new_more sort (suc n) v s ≡ Ok (v, s)) refl)
-new_more_traces sort (suc n) v (l ∷ ls) = nothing_read (read_new_more sort (suc n) v) (spell_new_more sort (suc n) v) (with_names sort v) [] (l ∷ ls) (λ k. refl) (begun (λ s. read_new_more sort (suc n) v s ≡ Ok (v, s)) l (λ s. refl))
+new_more_traces sort zero v [] = nothing_read (read_new_more sort zero v) (spell_new_more sort zero v) (with_names sort v) [] [] (λ k. refl) (for_no_head (λ s. read_new_more sort zero v s ≡ Ok (v, s)) refl)
+new_more_traces sort zero v (l ∷ ls) = nothing_read (read_new_more sort zero v) (spell_new_more sort zero v) (with_names sort v) [] (l ∷ ls) (λ k. refl) (for_same_head (λ s. read_new_more sort zero v s ≡ Ok (v, s)) l (λ s. refl))
+new_more_traces sort (suc n) v [] = nothing_read (read_new_more sort (suc n) v) (spell_new_more sort (suc n) v) (with_names sort v) [] [] (λ k. refl) (for_no_head (λ s. read_new_more sort (suc n) v s ≡ Ok (v, s)) refl)
+new_more_traces sort (suc n) v (l ∷ ls) = nothing_read (read_new_more sort (suc n) v) (spell_new_more sort (suc n) v) (with_names sort v) [] (l ∷ ls) (λ k. refl) (for_same_head (λ s. read_new_more sort (suc n) v s ≡ Ok (v, s)) l (λ s. refl))
 
 names_made : List ℕ → List (List ℕ) → WrittenList
 names_made w ws = record { first = w; more = ws }

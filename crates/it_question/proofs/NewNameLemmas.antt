@@ -49,6 +49,6 @@ is_done sort (suc n) v (Sym Comma ∷ ls) e = absurd cc
 is_done sort n v ls e = refl
 
 -- the rates stay as they were
-pub kept : (sort : NameSort) (u v w : NamesView) → KeepsRates sort u v → KeepsRates sort v w → KeepsRates sort u w
-kept sorts.Variable u v w h k = k ∙ h
-kept sorts.Rate u v w h k = tt
+pub keeps_rates-trans : (sort : NameSort) (u v w : NamesView) → KeepsRates sort u v → KeepsRates sort v w → KeepsRates sort u w
+keeps_rates-trans sorts.Variable u v w h k = k ∙ h
+keeps_rates-trans sorts.Rate u v w h k = tt

@@ -18,10 +18,10 @@ with_questions front r = r >>= λ x. Ok (front ++ x.0, x.1)
 abbrev then_more : (List Letter → Reads (List BodyView)) → Reads BodyView → Reads (List BodyView)
 then_more f r = r >>= λ q. f q.1 >>= λ qs. Ok (q.0 ∷ qs.0, qs.1)
 
-asked : (n : ℕ) (ls tail : List Letter) → 0 < n → behind_word vars_text ls ≡ Some tail → read_questions n ls ≡ then_more (read_questions (n - 1)) (read_question tail)
+first_question_is : (n : ℕ) (ls tail : List Letter) → 0 < n → behind_word vars_text ls ≡ Some tail → read_questions n ls ≡ then_more (read_questions (n - 1)) (read_question tail)
 unfolding read_questions
-asked zero ls tail lt e = absurd (omega (arith, lt))
-asked (suc n) ls tail lt e =
+first_question_is zero ls tail lt e = absurd (omega (arith, lt))
+first_question_is (suc n) ls tail lt e =
     let k : (suc n - 1) ≡ n = omega arith in
     rw k (ap (λ (o : Option (List Letter)). if_question (question_then (read_questions n)) o ls) e)
 
@@ -33,13 +33,13 @@ regroup front a (Err e) = refl
 pub goes_on : (front : List BodyView) (n : ℕ) (ls tail after : List Letter) (q : BodyView) (total : Reads (List BodyView)) → 0 < n → behind_word vars_text ls ≡ Some tail → read_question tail ≡ Ok (q, after)
     → with_questions front (read_questions n ls) ≡ total → with_questions (front ++ q ∷ []) (read_questions (n - 1) after) ≡ total
 goes_on front n ls tail after q total lt e h so_far =
-    sym (ap (with_questions front) (asked n ls tail lt e ∙ ap (then_more (read_questions (n - 1))) h) ∙ regroup front q (read_questions (n - 1) after)) ∙ so_far
+    sym (ap (with_questions front) (first_question_is n ls tail lt e ∙ ap (then_more (read_questions (n - 1))) h) ∙ regroup front q (read_questions (n - 1) after)) ∙ so_far
 
 -- the loop stops at a fault in a question
 pub ends : (e : Stop) (front : List BodyView) (n : ℕ) (ls tail rest : List Letter) (total : Reads (List BodyView)) → 0 < n → behind_word vars_text ls ≡ Some tail → StopsAs e rest (read_question tail)
     → with_questions front (read_questions n ls) ≡ total → StopsAs e rest total
 ends stops.Memory front n ls tail rest total lt e h so_far = tt
-ends (stops.Fault c) front n ls tail rest total lt e h so_far = sym so_far ∙ ap (with_questions front) (asked n ls tail lt e ∙ ap (then_more (read_questions (n - 1))) h)
+ends (stops.Fault c) front n ls tail rest total lt e h so_far = sym so_far ∙ ap (with_questions front) (first_question_is n ls tail lt e ∙ ap (then_more (read_questions (n - 1))) h)
 
 none_left : (ls tail : List Letter) → behind_word vars_text ls ≡ Some tail → read_questions 0 ls ≡ Err (codes.Many, ls)
 unfolding read_questions

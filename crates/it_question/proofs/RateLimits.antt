@@ -1,5 +1,5 @@
--- The rates of an `eliminate` line that are read are rates that there are, each once.
-use Rattle.std.proofs.Common.{◌≡◌, ℕ, ◌<◌, Bool, true, false, List, [], ◌∷◌, ◌++◌, length, Option, None, Some, Ok, refl, sym, ◌∙◌}
+-- The rates of an `eliminate` line that are read are rates that there are, at least one and each once.
+use Rattle.std.proofs.Common.{◌≡◌, ℕ, ◌<◌, Bool, true, false, List, [], ◌∷◌, ◌++◌, length, Option, None, Some, Ok, refl, sym, ◌∙◌, arith}
 use Rattle.std.specs.Prelude.{All, eqb, ◌||◌, ◌==◌, bytes_eq}
 use Rattle.std.specs.List.{IsDistinct, AllByRecursion}
 use Rattle.std.proofs.lemmas.List.Elements.{All-nil, All-cons}
@@ -89,4 +89,4 @@ unfolding read_distinct
 distinct_sure env m k ls =
     sure_bind (IsUnseen m []) (Rates m) (read_once env [] ls) (λ i. read_once_more env (i.0 ∷ []) i.1 >>= λ more. Ok (i.0 ∷ more.0, more.1)) (first_sure env m k [] ls)
     (λ i hi. sure_bind (Unseen m (i.0 ∷ [])) (Rates m) (read_once_more env (i.0 ∷ []) i.1) (λ more. Ok (i.0 ∷ more.0, more.1)) (once_more_sure env m k (i.0 ∷ []) i.1)
-    (λ more hm. let h = unseen_cons m [] i.0 more.0 hi.0 hi.1 hm in record { within = h.within; distinct = h.distinct }))
+    (λ more hm. let h = unseen_cons m [] i.0 more.0 hi.0 hi.1 hm in record { some = omega arith; within = h.within; distinct = h.distinct }))

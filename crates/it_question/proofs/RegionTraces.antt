@@ -6,7 +6,7 @@ use Rattle.it_syntax.specs.AtomReading.{Reads, ◌>>=◌, line_end}
 use Rattle.it_syntax.specs.Scopes.{env_of}
 use Rattle.it_syntax.specs.WrittenAtoms.{WrittenList}
 use Rattle.it_syntax.proofs.Traces.{Traces, traces_bind, traces_map}
-use Rattle.it_syntax.proofs.LineEnd.{spell_end, nothing, end_traces}
+use Rattle.it_syntax.proofs.LineEnd.{spell_end, end_value, end_traces}
 use Rattle.it_question.specs.Keywords.{region_text, aux_text, contain_text}
 use Rattle.it_question.specs.Questions.{OwnLinesView, RegionView, VerbView, Contain}
 use Rattle.it_question.specs.WrittenQuestions.{WrittenLine, WrittenRegion, WrittenTry, WrittenContainment, most_lines}
@@ -50,8 +50,8 @@ abbrev region_made : Unit {0} → Parts → WrittenRegion
 region_made u x = record { auxiliaries = x.0; own = x.1 }
 
 pub region_traces : (g r : ℕ) (v : NamesView) → Traces (read_region g r v) (spell_bounds g r v) (region_of v)
-unfolding read_region spell_end nothing
-region_traces g r v = traces_bind line_end (λ u. read_parts g r v) (read_region g r v) spell_end (λ u. spell_parts g r v) (spell_bounds g r v) nothing (λ u. parts_of v) (region_of v) region_made
+unfolding read_region spell_end end_value
+region_traces g r v = traces_bind line_end (λ u. read_parts g r v) (read_region g r v) spell_end (λ u. spell_parts g r v) (spell_bounds g r v) end_value (λ u. parts_of v) (region_of v) region_made
     (record { is = λ ls. refl; spells = λ y z k. refl; value = λ y z. refl; some = (None, []); first = end_traces; second = λ u. parts_traces g r v })
 
 -- ---- a line of one word
@@ -60,8 +60,8 @@ abbrev pub spell_word_line : List ℕ → Unit {0} → Marked → Marked
 spell_word_line text u k = clean (Word text) ∷ clean End ∷ k
 
 pub word_line_traces : (text : List ℕ) → Traces (read_word_line text) (spell_word_line text) (λ u. tt)
-unfolding read_word_line spell_end nothing
-word_line_traces text = traces_bind (read_word text) (λ u. line_end) (read_word_line text) (spell_word text) (λ u. spell_end) (spell_word_line text) (λ u. tt) (λ u. nothing) (λ u. tt) (λ u w. tt)
+unfolding read_word_line spell_end end_value
+word_line_traces text = traces_bind (read_word text) (λ u. line_end) (read_word_line text) (spell_word text) (λ u. spell_end) (spell_word_line text) (λ u. tt) (λ u. end_value) (λ u. tt) (λ u w. tt)
     (record { is = λ ls. refl; spells = λ y z k. refl; value = λ y z. refl; some = tt; first = word_traces text; second = λ u. end_traces })
 
 -- ---- containment questions

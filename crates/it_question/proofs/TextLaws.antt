@@ -42,21 +42,21 @@ first_alone mark x k lines e s =
       are = ap (λ (text : List ℕ). record { body = question_of x; text = text } ∷ []) (ap (λ (i : ℕ). text_of_lines (take i t.again)) (sym d.long) ∙ t.text);
     }
 
-alone : (n : ℕ) (xs : List WrittenQuestion) (lines : List TokenLine) (front rs : List QuestionView) (q : QuestionView) → spell_questions n xs end_mark ≡ clean_all (letters_of_lines lines) → AreSound lines → with_texts lines (questions_of xs) ≡ front ++ q ∷ rs → IsFile q.text (q ∷ [])
+one_question_file : (n : ℕ) (xs : List WrittenQuestion) (lines : List TokenLine) (front rs : List QuestionView) (q : QuestionView) → spell_questions n xs end_mark ≡ clean_all (letters_of_lines lines) → AreSound lines → with_texts lines (questions_of xs) ≡ front ++ q ∷ rs → IsFile q.text (q ∷ [])
 unfolding first_of
-alone n [] lines [] rs q e s h = absurd cc
-alone n [] lines (f ∷ front) rs q e s h = absurd cc
-alone n (x ∷ xs) lines [] rs q e s h =
+one_question_file n [] lines [] rs q e s h = absurd cc
+one_question_file n [] lines (f ∷ front) rs q e s h = absurd cc
+one_question_file n (x ∷ xs) lines [] rs q e s h =
     let first : first_of x lines ≡ q = cc in
     subst (λ (y : QuestionView). IsFile y.text (y ∷ [])) first (first_alone (limit_mark n) x (spell_questions (n - 1) xs end_mark) lines e s)
-alone n (x ∷ xs) lines (f ∷ front) rs q e s h =
+one_question_file n (x ∷ xs) lines (f ∷ front) rs q e s h =
     let i = question_lines (question_of x) in
     let k = spell_questions (n - 1) xs end_mark in
     let p = question_puts (limit_mark n) x in
     let c = clean_parts p.front k (letters_of_lines lines) (sym (p.is k) ∙ e) in
     let d = parted i lines (letters p.front) (letters k) p.kind c.all s in
     let tails : with_texts (drop i lines) (questions_of xs) ≡ front ++ q ∷ rs = cc in
-    alone (n - 1) xs (drop i lines) front rs q (c.behind ∙ ap clean_all (sym d.behind)) d.sound tails
+    one_question_file (n - 1) xs (drop i lines) front rs q (c.behind ∙ ap clean_all (sym d.behind)) d.sound tails
 
 pub text_reads_back : TextReadsBack
-text_reads_back bytes qs rs q front f e = alone most_questions f.trees f.lines front rs q f.spelled (lines_sound 1 (split_lines bytes) f.lines f.cut) (f.are ∙ e)
+text_reads_back bytes qs rs q front f e = one_question_file most_questions f.trees f.lines front rs q f.spelled (lines_sound 1 (split_lines bytes) f.lines f.cut) (f.are ∙ e)

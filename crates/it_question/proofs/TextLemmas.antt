@@ -7,10 +7,10 @@ behind_blank : (line : List ℕ) (b : ℕ) → (b == 32) ≡ true → without_tr
 behind_blank [] b e = ap (λ (t : Bool). cond t [] (b ∷ [])) e
 behind_blank (c ∷ line) b e = ap (unless_blank c) (behind_blank line b e)
 
-kept : (line : List ℕ) (b : ℕ) → (b == 32) ≡ false → without_trailing (line ++ b ∷ []) ≡ line ++ b ∷ []
-kept [] b e = ap (λ (t : Bool). cond t [] (b ∷ [])) e
-kept (c ∷ []) b e = ap (unless_blank c) (kept [] b e)
-kept (c ∷ d ∷ line) b e = ap (unless_blank c) (kept (d ∷ line) b e)
+ends_without_blank : (line : List ℕ) (b : ℕ) → (b == 32) ≡ false → without_trailing (line ++ b ∷ []) ≡ line ++ b ∷ []
+ends_without_blank [] b e = ap (λ (t : Bool). cond t [] (b ∷ [])) e
+ends_without_blank (c ∷ []) b e = ap (unless_blank c) (ends_without_blank [] b e)
+ends_without_blank (c ∷ d ∷ line) b e = ap (unless_blank c) (ends_without_blank (d ∷ line) b e)
 
 is_blank : (b : ℕ) → b ≡ 32 → (b == 32) ≡ true
 is_blank b e = ap (λ (x : ℕ). x == 32) e
@@ -23,4 +23,4 @@ pub last_blank : (line front : List ℕ) (b : ℕ) → line ≡ front ++ b ∷ [
 last_blank line front b h e = sym (behind_blank front b (is_blank b e)) ∙ ap without_trailing (sym h)
 
 pub last_kept : (line front : List ℕ) (b : ℕ) → line ≡ front ++ b ∷ [] → (b ≡ 32 → ⊥) → line ≡ without_trailing line
-last_kept line front b h e = h ∙ sym (kept front b (no_blank b e)) ∙ ap without_trailing (sym h)
+last_kept line front b h e = h ∙ sym (ends_without_blank front b (no_blank b e)) ∙ ap without_trailing (sym h)

@@ -25,17 +25,17 @@ list_puts env l = tokens_then (name_puts env l.first) (more_puts env l.more)
 
 -- ---- sums
 
-closing : Puts AreTokens (λ k. clean (Sym symbols.RightParen) ∷ k)
-closing = one_token (clean (Sym symbols.RightParen)) tt
+close_puts : Puts AreTokens (λ k. clean (Sym symbols.RightParen) ∷ k)
+close_puts = one_token (clean (Sym symbols.RightParen)) tt
 
-opening : {s : Marked → Marked} (w : List ℕ) → Puts AreTokens s → Puts AreTokens (λ k. clean (Word w) ∷ clean (Sym symbols.LeftParen) ∷ s k)
-opening w p = token_then (clean (Word w)) tt (token_then (clean (Sym symbols.LeftParen)) tt p)
+open_puts : {s : Marked → Marked} (w : List ℕ) → Puts AreTokens s → Puts AreTokens (λ k. clean (Word w) ∷ clean (Sym symbols.LeftParen) ∷ s k)
+open_puts w p = token_then (clean (Word w)) tt (token_then (clean (Sym symbols.LeftParen)) tt p)
 
 atom_puts : (env : Environment) (x : WrittenAtom) → Puts AreTokens (spell_atom env x)
-atom_puts env (Entropy a) = opening entropy_text (tokens_then (list_puts env a) closing)
-atom_puts env (EntropyGiven a c) = opening entropy_text (tokens_then (list_puts env a) (token_then (clean (Sym symbols.Bar)) tt (tokens_then (list_puts env c) closing)))
-atom_puts env (Mutual a b) = opening mutual_text (tokens_then (list_puts env a) (token_then (clean (Sym symbols.Semicolon)) tt (tokens_then (list_puts env b) closing)))
-atom_puts env (MutualGiven a b c) = opening mutual_text (tokens_then (list_puts env a) (token_then (clean (Sym symbols.Semicolon)) tt (tokens_then (list_puts env b) (token_then (clean (Sym symbols.Bar)) tt (tokens_then (list_puts env c) closing)))))
+atom_puts env (Entropy a) = open_puts entropy_text (tokens_then (list_puts env a) close_puts)
+atom_puts env (EntropyGiven a c) = open_puts entropy_text (tokens_then (list_puts env a) (token_then (clean (Sym symbols.Bar)) tt (tokens_then (list_puts env c) close_puts)))
+atom_puts env (Mutual a b) = open_puts mutual_text (tokens_then (list_puts env a) (token_then (clean (Sym symbols.Semicolon)) tt (tokens_then (list_puts env b) close_puts)))
+atom_puts env (MutualGiven a b c) = open_puts mutual_text (tokens_then (list_puts env a) (token_then (clean (Sym symbols.Semicolon)) tt (tokens_then (list_puts env b) (token_then (clean (Sym symbols.Bar)) tt (tokens_then (list_puts env c) close_puts)))))
 
 quantity_puts : (s : Scope) (q : WrittenQuantity) → Puts AreTokens (spell_quantity s q)
 quantity_puts s (Measure a) = atom_puts s.variables a

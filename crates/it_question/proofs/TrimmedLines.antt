@@ -129,10 +129,10 @@ cut_trimmed at to bytes t rest c =
       end = refl;
     }
 
-moved : (line front bytes : List ℕ) (at to : ℕ) (ts : List Token) → line ≡ front ++ bytes → length front ≡ at → SpellsUntil at bytes ts None → Moved to (without_trailing bytes) line ts
+move_tokens : (line front bytes : List ℕ) (at to : ℕ) (ts : List Token) → line ≡ front ++ bytes → length front ≡ at → SpellsUntil at bytes ts None → Moved to (without_trailing bytes) line ts
 unfolding cut_trimmed
-moved line front bytes at to [] e n h = record { tokens = []; spelled = subst (AreAll is_space) (sym (trailing_blank bytes h)) tt; same = λ text front whole len. refl; filled = λ f. f }
-moved line front bytes at to (t ∷ ts) e n h =
+move_tokens line front bytes at to [] e n h = record { tokens = []; spelled = subst (AreAll is_space) (sym (trailing_blank bytes h)) tt; same = λ text front whole len. refl; filled = λ f. f }
+move_tokens line front bytes at to (t ∷ ts) e n h =
     let rest = h.0 in
     let c = h.1 in
     let start = to + length c.gap in
@@ -142,7 +142,7 @@ moved line front bytes at to (t ∷ ts) e n h =
     λ front bytes rest e. ap (λ (b : List ℕ). front ++ b) (e ∙ sym (append_assoc c.gap c.text rest)) ∙ sym (append_assoc front (c.gap ++ c.text) rest) in
     let len : (front : List ℕ) → length (front ++ (c.gap ++ c.text)) ≡ length front + (length c.gap + length c.text) =
     λ front. length-append front (c.gap ++ c.text) ∙ ap (λ (i : ℕ). length front + i) (length-append c.gap c.text) in
-    let more : Moved end (without_trailing rest) line ts = moved line (front ++ (c.gap ++ c.text)) rest t.end end ts (e ∙ whole front bytes rest c.whole) (omega (arith, len front, n, c.start, c.end)) h.2 in
+    let more : Moved end (without_trailing rest) line ts = move_tokens line (front ++ (c.gap ++ c.text)) rest t.end end ts (e ∙ whole front bytes rest c.whole) (omega (arith, len front, n, c.start, c.end)) h.2 in
     record {
       tokens = record { kind = t.kind; start = start; end = end } ∷ more.tokens;
       spelled = (without_trailing rest, cut, more.spelled);
@@ -179,7 +179,7 @@ from_first text (t ∷ ts) h f =
     let stops : Stops is_space (c.text ++ h.0) = subst (λ (b : List ℕ). Stops is_space (b ++ h.0)) (sym some.2) solid.0 in
     let behind : without_leading text ≡ c.text ++ h.0 = ap without_leading c.whole ∙ leading_behind c.gap (c.text ++ h.0) c.blank stops in
     let cut : Cut (length c.gap) (without_leading text) t h.0 = record { gap = []; text = c.text; whole = behind; blank = tt; spelled = c.spelled; ends = c.ends; start = omega (arith, c.start); end = c.end } in
-    moved text c.gap (without_leading text) (length c.gap) 0 (t ∷ ts) (c.whole ∙ ap (λ (b : List ℕ). c.gap ++ b) (sym behind)) refl (h.0, cut, h.2)
+    move_tokens text c.gap (without_leading text) (length c.gap) 0 (t ∷ ts) (c.whole ∙ ap (λ (b : List ℕ). c.gap ++ b) (sym behind)) refl (h.0, cut, h.2)
 
 pub again : (n : ℕ) (l : TokenLine) → IsWhole l → Again n l
 again n l h =

@@ -106,16 +106,16 @@ pub tries_stop : (n : ℕ) (aux env : Environment) (sets : Sets) (front : Tries)
 tries_stop n aux env sets front ls b whole stop rest h e w some f =
     subst (StopsAs stop rest) (sym (ap (with_tries front) (some_more n aux env sets ls b e w some)) ∙ h) (then_stops (read_tries (n - 1) aux env sets) front stop rest (read_try aux env sets b) f)
 
-grouped : (front : Tries) (x : List ℕ) (r : Reads Tries) → with_tries front (r >>= λ more. Ok (x ∷ more.0, more.1)) ≡ with_tries (front ++ x ∷ []) r
-grouped front x (Ok y) = ap (λ (t : Tries). ok_tries t y.1) (sym (append_assoc front (x ∷ []) y.0))
+with_tries-regroup : (front : Tries) (x : List ℕ) (r : Reads Tries) → with_tries front (r >>= λ more. Ok (x ∷ more.0, more.1)) ≡ with_tries (front ++ x ∷ []) r
+with_tries-regroup front x (Ok y) = ap (λ (t : Tries). ok_tries t y.1) (sym (append_assoc front (x ∷ []) y.0))
   where
     ok_tries : Tries → List Letter → Reads Tries
     ok_tries t ls = Ok (t, ls)
-grouped front x (Err e) = refl
+with_tries-regroup front x (Err e) = refl
 
 pub tries_more : (n : ℕ) (aux env : Environment) (sets : Sets) (front : Tries) (ls b : List Letter) (whole : Reads Tries) (x : List ℕ × List Letter) → with_tries front (read_tries n aux env sets ls) ≡ whole → behind_word try_text ls ≡ Some b → is_whole sets ≡ false → (n ≡ 0 → ⊥) → read_try aux env sets b ≡ Ok x → with_tries (front ++ x.0 ∷ []) (read_tries (n - 1) aux env sets x.1) ≡ whole
 tries_more n aux env sets front ls b whole x h e w some f =
-    sym (grouped front x.0 (read_tries (n - 1) aux env sets x.1))
+    sym (with_tries-regroup front x.0 (read_tries (n - 1) aux env sets x.1))
     ∙ sym (ap (λ (t : Reads (List ℕ)). with_tries front (t >>= λ y. read_tries (n - 1) aux env sets y.1 >>= λ more. Ok (y.0 ∷ more.0, more.1))) f)
     ∙ sym (ap (with_tries front) (some_more n aux env sets ls b e w some)) ∙ h
 

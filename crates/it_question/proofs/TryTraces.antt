@@ -7,8 +7,8 @@ use Rattle.it_syntax.specs.Letters.{Letter, Word, Number, Sym, End, Marked, clea
 use Rattle.it_syntax.specs.FirstFault.{head, own_code}
 use Rattle.it_syntax.specs.AtomReading.{Reads, ◌>>=◌, read_list, line_end}
 use Rattle.it_syntax.specs.WrittenAtoms.{Environment, is_measure, index_or, spell_list, list_set}
-use Rattle.it_syntax.proofs.Traces.{By, Traces, traces_bind, traces_map, letter_then, switch, renamed}
-use Rattle.it_syntax.proofs.AtomTraces.{begun, empty, stuck_here, stuck_none, list_traces}
+use Rattle.it_syntax.proofs.Traces.{By, Traces, traces_bind, traces_map, letter_then, switch, by_renaming}
+use Rattle.it_syntax.proofs.AtomTraces.{for_same_head, for_no_head, stuck_here, stuck_none, list_traces}
 use Rattle.it_syntax.proofs.LetterReaders.{TakesLetter, behind_traces}
 use Rattle.it_question.specs.Keywords.{try_text}
 use Rattle.it_question.specs.WrittenQuestions.{WrittenSet, Empty, Listed, WrittenPart, WrittenTry}
@@ -66,21 +66,21 @@ assign_takes = record { takes = λ s. refl; refuses = refuses }
   where
     refuses : (ls : List Letter) → (head ls ≡ Some (Sym Assign)) ⊎ ((c : Code) × (own_code ls ≡ c) × ((s : List Letter) → head s ≡ head ls → read_assign s ≡ Err (c, s)))
     refuses (Sym Assign ∷ ls) = inl refl
-    refuses [] = inr (codes.Word, refl, empty (λ s. read_assign s ≡ Err (codes.Word, s)) refl)
-    refuses (l ∷ ls) = inr (own_code (l ∷ ls), refl, begun (λ s. read_assign s ≡ Err (own_code (l ∷ ls), s)) l (λ s. refl))
+    refuses [] = inr (codes.Word, refl, for_no_head (λ s. read_assign s ≡ Err (codes.Word, s)) refl)
+    refuses (l ∷ ls) = inr (own_code (l ∷ ls), refl, for_same_head (λ s. read_assign s ≡ Err (own_code (l ∷ ls), s)) l (λ s. refl))
 
 -- no number stands there
-listed : (env : Environment) (ls : List Letter) → ((s : List Letter) → head s ≡ head ls → read_set env s ≡ read_list env s) → By (read_set env) (spell_set env) (set_of env) ls (read_list env ls)
-listed env ls h = switch (read_list env) (read_set env) (spell_set env) (set_of env) ls h (read_list env ls)
-    (renamed (read_list env) (spell_list env) (spell_set env) (list_set env) (set_of env) Listed ls (λ z k. refl) (λ z. refl) (read_list env ls) (list_traces env ls))
+set_by_names : (env : Environment) (ls : List Letter) → ((s : List Letter) → head s ≡ head ls → read_set env s ≡ read_list env s) → By (read_set env) (spell_set env) (set_of env) ls (read_list env ls)
+set_by_names env ls h = switch (read_list env) (read_set env) (spell_set env) (set_of env) ls h (read_list env ls)
+    (by_renaming (read_list env) (spell_list env) (spell_set env) (list_set env) (set_of env) Listed ls (λ z k. refl) (λ z. refl) (read_list env ls) (list_traces env ls))
 
 -- `0`, or names
 pub set_traces : (env : Environment) → Traces (read_set env) (spell_set env) (set_of env)
 unfolding read_set
 set_traces env (Number zero ∷ ls) = record { tree = Empty; front = Number 0 ∷ []; value = refl; parts = refl; spells = λ k. refl; stays = λ s e. refl }
 set_traces env (Number (suc n) ∷ ls) = stuck_here (read_set env) (spell_set env) Empty (Number (suc n)) ls codes.Word (λ s. refl) refl
-set_traces env [] = listed env [] (empty (λ s. read_set env s ≡ read_list env s) refl)
-set_traces env (l ∷ ls) = listed env (l ∷ ls) (begun (λ s. read_set env s ≡ read_list env s) l (λ s. refl))
+set_traces env [] = set_by_names env [] (for_no_head (λ s. read_set env s ≡ read_list env s) refl)
+set_traces env (l ∷ ls) = set_by_names env (l ∷ ls) (for_same_head (λ s. read_set env s ≡ read_list env s) l (λ s. refl))
 
 -- ---- parts
 
@@ -128,10 +128,10 @@ pub parts_traces : (n : ℕ) (aux env : Environment) (sets : Sets) → Traces (r
 unfolding read_parts
 parts_traces zero aux env sets (Sym Semicolon ∷ ls) = letter_then (read_parts zero aux env sets) (read_part aux env sets) (Sym Semicolon) (spell_part aux env sets) (spell_parts aux env sets) (with_part aux env sets) (with_parts aux env sets) (λ x. x ∷ []) ls (λ s. refl) (λ z k. refl) (λ z. refl) (read_part aux env sets ls) (part_traces aux env sets ls)
 parts_traces (suc n) aux env sets (Sym Semicolon ∷ ls) = letter_then (read_parts (suc n) aux env sets) (part_then n aux env sets) (Sym Semicolon) (spell_part_then aux env sets) (spell_parts aux env sets) (part_then_of aux env sets) (with_parts aux env sets) parts_made ls (λ s. refl) (λ z k. refl) (λ z. refl) (part_then n aux env sets ls) (part_then_traces n aux env sets (parts_traces n aux env) ls)
-parts_traces zero aux env sets [] = no_part zero aux env sets [] (empty (λ s. read_parts zero aux env sets s ≡ Ok (sets, s)) refl)
-parts_traces zero aux env sets (l ∷ ls) = no_part zero aux env sets (l ∷ ls) (begun (λ s. read_parts zero aux env sets s ≡ Ok (sets, s)) l (λ s. refl))
-parts_traces (suc n) aux env sets [] = no_part (suc n) aux env sets [] (empty (λ s. read_parts (suc n) aux env sets s ≡ Ok (sets, s)) refl)
-parts_traces (suc n) aux env sets (l ∷ ls) = no_part (suc n) aux env sets (l ∷ ls) (begun (λ s. read_parts (suc n) aux env sets s ≡ Ok (sets, s)) l (λ s. refl))
+parts_traces zero aux env sets [] = no_part zero aux env sets [] (for_no_head (λ s. read_parts zero aux env sets s ≡ Ok (sets, s)) refl)
+parts_traces zero aux env sets (l ∷ ls) = no_part zero aux env sets (l ∷ ls) (for_same_head (λ s. read_parts zero aux env sets s ≡ Ok (sets, s)) l (λ s. refl))
+parts_traces (suc n) aux env sets [] = no_part (suc n) aux env sets [] (for_no_head (λ s. read_parts (suc n) aux env sets s ≡ Ok (sets, s)) refl)
+parts_traces (suc n) aux env sets (l ∷ ls) = no_part (suc n) aux env sets (l ∷ ls) (for_same_head (λ s. read_parts (suc n) aux env sets s ≡ Ok (sets, s)) l (λ s. refl))
 
 -- ---- a whole line
 

@@ -5,11 +5,11 @@ use Rattle.it_syntax.specs.NamesViews.{NamesView}
 use Rattle.it_syntax.specs.Givens.{IsRelationOf, IsGivenOf}
 use Rattle.it_question.specs.Questions.{OwnLinesView, RegionView, VerbView, Prove, Eliminate, Contain, BodyView}
 
--- lines over these names
+-- lines over these names: no given has a rate
 pub record AreLinesOver (v : NamesView) (own : OwnLinesView) : Type 0 where
   pub few_givens : length own.givens ≤ 64
   pub few_rows : length own.rows ≤ 64
-  pub givens : All (IsGivenOf (length v.variables) (length v.rates)) own.givens
+  pub givens : All (IsGivenOf (length v.variables)) own.givens
   pub rows : All (IsRelationOf (length v.variables) (length v.rates)) own.rows
 
 -- a region of a question with these names: their variables, and behind them at most 4 auxiliaries, 8 in all
@@ -27,7 +27,9 @@ pub record IsTryOf (n : ℕ) (sets : List ℕ) : Type 0 where
   pub four : length sets ≡ 4
   pub within : All (λ s. s < 2 ^ n) sets
 
+-- at least one of m rates, each once
 pub record AreRatesOf (m : ℕ) (rates : List ℕ) : Type 0 where
+  pub some : 1 ≤ length rates
   pub within : All (λ r. r < m) rates
   pub distinct : IsDistinct eqb rates
 

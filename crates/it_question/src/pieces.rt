@@ -1,7 +1,7 @@
 //! The pieces of a file, one after the other.
 ghost use Rattle.std.specs.Prelude.{◌≡◌, [], map, IfSome, IfNone};
 ghost use Rattle.it_syntax.specs.declared.rest.Stop.TheVariants.{Fault};
-ghost use Rattle.it_syntax.specs.AtomReading.{code_at};
+ghost use Rattle.it_syntax.specs.FirstFault.{own_code};
 ghost use Rattle.it_syntax.specs.ReaderSteps.{HasLength};
 ghost use Rattle.it_question.specs.Cursors.{token_line, left, with_letter};
 ghost use Rattle.it_question.specs.Lines.{letters_of_lines};
@@ -53,11 +53,11 @@ impl<'a> Cursor<'a> {
 
     /// The fault at the first piece where no rule goes on: its own, if it is a misspelling or the file's end.
     pub fn fault(self) -> Stop
-        ensures { result ≡ Fault (code_at (left self.entry)) }
+        ensures { result ≡ Fault (own_code (left self.entry)) }
     {
-        match self.front() {
-            Some((Piece::Bad(code), _)) => Stop::Fault(code),
-            _ => Stop::Fault(Code::Word),
+        match self.rest {
+            Some(rest) => rest.fault(),
+            None => Stop::Fault(Code::Word),
         }
     }
 }

@@ -13,14 +13,14 @@ use Rattle.it_syntax.specs.AtomReading.{Reads, ◌>>=◌, variable_or_fault, rea
 use Rattle.it_syntax.proofs.Traces.{Went, Stuck, By, Traces, traces_bind, traces_map, letter_then}
 
 -- what holds of the letters that begin as r does
-pub begun : (P : List Letter → Type 0) (l : Letter) → ((s : List Letter) → P (l ∷ s)) → (s : List Letter) → head s ≡ Some l → P s
-begun P l h [] e = absurd cc
-begun P l h (m ∷ s) e = let same : l ≡ m = cc in subst (λ (n : Letter). P (n ∷ s)) same (h s)
+pub for_same_head : (P : List Letter → Type 0) (l : Letter) → ((s : List Letter) → P (l ∷ s)) → (s : List Letter) → head s ≡ Some l → P s
+for_same_head P l h [] e = absurd cc
+for_same_head P l h (m ∷ s) e = let same : l ≡ m = cc in subst (λ (n : Letter). P (n ∷ s)) same (h s)
 
 -- what holds of no letters
-pub empty : (P : List Letter → Type 0) → P [] → (s : List Letter) → head s ≡ None → P s
-empty P h [] e = h
-empty P h (m ∷ s) e = absurd cc
+pub for_no_head : (P : List Letter → Type 0) → P [] → (s : List Letter) → head s ≡ None → P s
+for_no_head P h [] e = h
+for_no_head P h (m ∷ s) e = absurd cc
 
 -- no rule goes on at the first letter
 pub stuck_here : {A X : Type 0} (f : List Letter → Reads A) (spell : X → Marked → Marked) (x : X) (l : Letter) (ls : List Letter) (c : Code) → ((s : List Letter) → f (l ∷ s) ≡ Err (c, l ∷ s)) → own_code (l ∷ ls) ≡ c → Stuck f spell (l ∷ ls) c (l ∷ ls)
@@ -29,7 +29,7 @@ stuck_here f spell x l ls c h o = record {
   front = [];
   parts = refl;
   spells = λ k. (spell x k, (refl, inl o));
-  stays = begun (λ s. f s ≡ Err (c, s)) l h;
+  stays = for_same_head (λ s. f s ≡ Err (c, s)) l h;
 }
 
 -- and at no letter at all
@@ -39,7 +39,7 @@ stuck_none f spell x h = record {
   front = [];
   parts = refl;
   spells = λ k. (spell x k, (refl, inl refl));
-  stays = empty (λ s. f s ≡ Err (codes.Word, s)) h;
+  stays = for_no_head (λ s. f s ≡ Err (codes.Word, s)) h;
 }
 
 some_name : List ℕ
@@ -58,7 +58,7 @@ named_by env w ls false None eh eo = record {
   front = [];
   parts = refl;
   spells = λ k. ((Word w, name_mark env w) ∷ k, (refl, inr (Word w, k, (ap (λ (m : Option Code). (Word w, m) ∷ k) (ap (λ (b : Bool). cond b (Some codes.Word) (unknown (env w))) eh ∙ ap unknown eo), refl))));
-  stays = begun (λ s. read_name env s ≡ Err (codes.Name, s)) (Word w) (λ s. ap (λ (b : Bool). variable_or_fault w b (env w) s) eh ∙ ap (λ (p : Option ℕ). variable_or_fault w false p s) eo);
+  stays = for_same_head (λ s. read_name env s ≡ Err (codes.Name, s)) (Word w) (λ s. ap (λ (b : Bool). variable_or_fault w b (env w) s) eh ∙ ap (λ (p : Option ℕ). variable_or_fault w false p s) eo);
 }
 named_by env w ls false (Some i) eh eo = record {
   tree = w;
@@ -83,32 +83,32 @@ closed_traces x (l ∷ ls) = stuck_here (close_paren x) (λ (u : Unit {0}) k. cl
 
 -- ---- further names
 
-abbrev further : ℕ → Reads ℕ → Reads ℕ
-further i t = t >>= λ m. Ok (bit_or (2 ^ i) m.0, m.1)
+abbrev with_further : ℕ → Reads ℕ → Reads ℕ
+with_further i t = t >>= λ m. Ok (bit_or (2 ^ i) m.0, m.1)
 
 -- what reading further names does behind a comma and a name
-more_at : (env : Environment) (w : List ℕ) (s : List Letter) (h : Bool) (o : Option ℕ) → is_measure w ≡ h → env w ≡ o → read_more env (Sym Comma ∷ Word w ∷ s) ≡ (variable_or_fault w h o s >>= λ n. further n.0 (read_more env s))
+more_at : (env : Environment) (w : List ℕ) (s : List Letter) (h : Bool) (o : Option ℕ) → is_measure w ≡ h → env w ≡ o → read_more env (Sym Comma ∷ Word w ∷ s) ≡ (variable_or_fault w h o s >>= λ n. with_further n.0 (read_more env s))
 unfolding read_more
-more_at env w s h o eh eo = ap (λ (b : Bool). variable_or_fault w b (env w) s >>= λ n. further n.0 (read_more env s)) eh ∙ ap (λ (p : Option ℕ). variable_or_fault w h p s >>= λ n. further n.0 (read_more env s)) eo
+more_at env w s h o eh eo = ap (λ (b : Bool). variable_or_fault w b (env w) s >>= λ n. with_further n.0 (read_more env s)) eh ∙ ap (λ (p : Option ℕ). variable_or_fault w h p s >>= λ n. with_further n.0 (read_more env s)) eo
 
 mark_is : (env : Environment) (w : List ℕ) (h : Bool) (o : Option ℕ) → is_measure w ≡ h → env w ≡ o → name_mark env w ≡ cond h (Some codes.Word) (unknown o)
 mark_is env w h o eh eo = ap (λ (b : Bool). cond b (Some codes.Word) (unknown (env w))) eh ∙ ap (λ (p : Option ℕ). cond h (Some codes.Word) (unknown p)) eo
 
 more_by : (env : Environment) (w : List ℕ) (ls : List Letter) (h : Bool) (o : Option ℕ) → is_measure w ≡ h → env w ≡ o → (t : Reads ℕ) → By (read_more env) (spell_more env) (more_set env) ls t
-    → By (read_more env) (spell_more env) (more_set env) (Sym Comma ∷ Word w ∷ ls) (variable_or_fault w h o ls >>= λ n. further n.0 t)
+    → By (read_more env) (spell_more env) (more_set env) (Sym Comma ∷ Word w ∷ ls) (variable_or_fault w h o ls >>= λ n. with_further n.0 t)
 more_by env w ls true o eh eo t b = record {
   tree = w ∷ [];
   front = Sym Comma ∷ [];
   parts = refl;
   spells = λ k. ((Word w, name_mark env w) ∷ k, (refl, inl refl));
-  stays = begun (λ s. read_more env (Sym Comma ∷ s) ≡ Err (codes.Word, s)) (Word w) (λ s. more_at env w s true o eh eo);
+  stays = for_same_head (λ s. read_more env (Sym Comma ∷ s) ≡ Err (codes.Word, s)) (Word w) (λ s. more_at env w s true o eh eo);
 }
 more_by env w ls false None eh eo t b = record {
   tree = w ∷ [];
   front = Sym Comma ∷ [];
   parts = refl;
   spells = λ k. ((Word w, name_mark env w) ∷ k, (refl, inr (Word w, k, (ap (λ (m : Option Code). (Word w, m) ∷ k) (mark_is env w false None eh eo), refl))));
-  stays = begun (λ s. read_more env (Sym Comma ∷ s) ≡ Err (codes.Name, s)) (Word w) (λ s. more_at env w s false None eh eo);
+  stays = for_same_head (λ s. read_more env (Sym Comma ∷ s) ≡ Err (codes.Name, s)) (Word w) (λ s. more_at env w s false None eh eo);
 }
 more_by env w ls false (Some i) eh eo (Ok x) b = record {
   tree = w ∷ b.tree;
@@ -116,14 +116,14 @@ more_by env w ls false (Some i) eh eo (Ok x) b = record {
   value = ap (λ (j : ℕ). bit_or (2 ^ j) (more_set env b.tree)) (ap index_or eo) ∙ ap (bit_or (2 ^ i)) b.value;
   parts = ap (λ (s : List Letter). Sym Comma ∷ Word w ∷ s) b.parts;
   spells = λ k. ap (λ (m : Option Code). clean (Sym Comma) ∷ (Word w, m) ∷ spell_more env b.tree k) (mark_is env w false (Some i) eh eo) ∙ ap (λ (q : Marked). clean (Sym Comma) ∷ clean (Word w) ∷ q) (b.spells k);
-  stays = λ s e. more_at env w (b.front ++ s) false (Some i) eh eo ∙ ap (further i) (b.stays s e);
+  stays = λ s e. more_at env w (b.front ++ s) false (Some i) eh eo ∙ ap (with_further i) (b.stays s e);
 }
 more_by env w ls false (Some i) eh eo (Err x) b = record {
   tree = w ∷ b.tree;
   front = Sym Comma ∷ Word w ∷ b.front;
   parts = ap (λ (s : List Letter). Sym Comma ∷ Word w ∷ s) b.parts;
   spells = λ k. let q = b.spells k in (q.0, (ap (λ (m : Option Code). clean (Sym Comma) ∷ (Word w, m) ∷ spell_more env b.tree k) (mark_is env w false (Some i) eh eo) ∙ ap (λ (r : Marked). clean (Sym Comma) ∷ clean (Word w) ∷ r) q.1.0, q.1.1));
-  stays = λ s e. more_at env w (b.front ++ s) false (Some i) eh eo ∙ ap (further i) (b.stays s e);
+  stays = λ s e. more_at env w (b.front ++ s) false (Some i) eh eo ∙ ap (with_further i) (b.stays s e);
 }
 
 -- behind a comma stands no name
@@ -133,11 +133,11 @@ no_name env l ls c h o = record {
   front = Sym Comma ∷ [];
   parts = refl;
   spells = λ k. ((Word some_name, name_mark env some_name) ∷ k, (refl, inl o));
-  stays = begun (λ s. read_more env (Sym Comma ∷ s) ≡ Err (c, s)) l h;
+  stays = for_same_head (λ s. read_more env (Sym Comma ∷ s) ≡ Err (c, s)) l h;
 }
 
 no_comma : (env : Environment) (l : Letter) (ls : List Letter) → ((s : List Letter) → read_more env (l ∷ s) ≡ Ok (0, l ∷ s)) → Went (read_more env) (spell_more env) (more_set env) (l ∷ ls) 0 (l ∷ ls)
-no_comma env l ls h = record { tree = []; front = []; value = refl; parts = refl; spells = λ k. refl; stays = begun (λ s. read_more env s ≡ Ok (0, s)) l h }
+no_comma env l ls h = record { tree = []; front = []; value = refl; parts = refl; spells = λ k. refl; stays = for_same_head (λ s. read_more env s ≡ Ok (0, s)) l h }
 
 more_traces : (env : Environment) → Traces (read_more env) (spell_more env) (more_set env)
 unfolding read_more
@@ -147,10 +147,10 @@ more_traces env (Sym Comma ∷ []) = record {
   front = Sym Comma ∷ [];
   parts = refl;
   spells = λ k. ((Word some_name, name_mark env some_name) ∷ k, (refl, inl refl));
-  stays = empty (λ s. read_more env (Sym Comma ∷ s) ≡ Err (codes.Word, s)) refl;
+  stays = for_no_head (λ s. read_more env (Sym Comma ∷ s) ≡ Err (codes.Word, s)) refl;
 }
 more_traces env (Sym Comma ∷ l ∷ ls) = no_name env l ls _ (λ s. refl) refl
-more_traces env [] = record { tree = []; front = []; value = refl; parts = refl; spells = λ k. refl; stays = empty (λ s. read_more env s ≡ Ok (0, s)) refl }
+more_traces env [] = record { tree = []; front = []; value = refl; parts = refl; spells = λ k. refl; stays = for_no_head (λ s. read_more env s ≡ Ok (0, s)) refl }
 more_traces env (l ∷ ls) = no_comma env l ls (λ s. refl)
 
 -- ---- lists
@@ -161,7 +161,7 @@ list_made w ws = record { first = w; more = ws }
 -- a list of names
 pub list_traces : (env : Environment) → Traces (read_list env) (spell_list env) (list_set env)
 unfolding read_list list_made name_of
-list_traces env = traces_bind (read_name env) (λ i ls. further i (read_more env ls)) (read_list env) (spell_name env) (λ i. spell_more env) (spell_list env) (name_of env) (λ i ws. bit_or (2 ^ i) (more_set env ws)) (list_set env) list_made
+list_traces env = traces_bind (read_name env) (λ i ls. with_further i (read_more env ls)) (read_list env) (spell_name env) (λ i. spell_more env) (spell_list env) (name_of env) (λ i ws. bit_or (2 ^ i) (more_set env ws)) (list_set env) list_made
     (record { is = λ ls. refl; spells = λ y z k. refl; value = λ y z. refl; some = []; first = name_traces env; second = λ i. traces_map (read_more env) (bit_or (2 ^ i)) (spell_more env) (more_set env) (more_traces env) })
 
 -- ---- what stands behind `|`, up to `)`
@@ -169,11 +169,11 @@ list_traces env = traces_bind (read_name env) (λ i ls. further i (read_more env
 abbrev pub spell_inner : Environment → WrittenList → Marked → Marked
 spell_inner env c k = spell_list env c (clean (Sym RightParen) ∷ k)
 
-abbrev inner : Environment → List Letter → Reads ℕ
-inner env ls = read_list env ls >>= λ c. close_paren c.0 c.1
+abbrev inner_list : Environment → List Letter → Reads ℕ
+inner_list env ls = read_list env ls >>= λ c. close_paren c.0 c.1
 
-inner_traces : (env : Environment) → Traces (inner env) (spell_inner env) (list_set env)
-inner_traces env = traces_bind (read_list env) close_paren (inner env) (spell_list env) (λ x (u : Unit {0}) k. clean (Sym RightParen) ∷ k) (spell_inner env) (list_set env) (λ x u. x) (list_set env) (λ c u. c)
+inner_traces : (env : Environment) → Traces (inner_list env) (spell_inner env) (list_set env)
+inner_traces env = traces_bind (read_list env) close_paren (inner_list env) (spell_list env) (λ x (u : Unit {0}) k. clean (Sym RightParen) ∷ k) (spell_inner env) (list_set env) (λ x u. x) (list_set env) (λ c u. c)
     (record { is = λ ls. refl; spells = λ y z k. refl; value = λ y z. refl; some = tt; first = list_traces env; second = closed_traces })
 
 abbrev pub spell_given : Environment → Option WrittenList → Marked → Marked
@@ -188,7 +188,7 @@ given_set env (Some c) = list_set env c
 pub given_traces : (env : Environment) → Traces (read_given_set env) (spell_given env) (given_set env)
 unfolding read_given_set bar_or_close
 given_traces env (Sym RightParen ∷ ls) = record { tree = None; front = Sym RightParen ∷ []; value = refl; parts = refl; spells = λ k. refl; stays = λ s e. refl }
-given_traces env (Sym Bar ∷ ls) = letter_then (read_given_set env) (inner env) (Sym Bar) (spell_inner env) (spell_given env) (list_set env) (given_set env) Some ls (λ s. refl) (λ z k. refl) (λ z. refl) (inner env ls) (inner_traces env ls)
+given_traces env (Sym Bar ∷ ls) = letter_then (read_given_set env) (inner_list env) (Sym Bar) (spell_inner env) (spell_given env) (list_set env) (given_set env) Some ls (λ s. refl) (λ z k. refl) (λ z. refl) (inner_list env ls) (inner_traces env ls)
 given_traces env [] = stuck_none (read_given_set env) (spell_given env) None refl
 given_traces env (l ∷ ls) = stuck_here (read_given_set env) (spell_given env) None l ls _ (λ s. refl) refl
 

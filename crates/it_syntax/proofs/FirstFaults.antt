@@ -20,10 +20,10 @@ letters_cleaned (l ∷ p) = ap (λ (t : List Letter). l ∷ t) (letters_cleaned 
 pub letters_behind : (p : List Letter) (m : Marked) → letters (clean_all p ++ m) ≡ p ++ letters m
 letters_behind p m = letters_append (clean_all p) m ∙ ap (λ (t : List Letter). t ++ letters m) (letters_cleaned p)
 
-abbrev failed : {A : Type 0} → Fault → Reads A
-failed f = Err f
+abbrev err_of : {A : Type 0} → Fault → Reads A
+err_of f = Err f
 
-err_is : {A : Type 0} (f g : Fault) → failed {A = A} f ≡ failed {A = A} g → f ≡ g
+err_is : {A : Type 0} (f g : Fault) → err_of {A = A} f ≡ err_of {A = A} g → f ≡ g
 err_is f g e = cc
 
 -- a mark at which q is left stands behind front
@@ -97,8 +97,8 @@ clean_not_marked (x ∷ front) d l more c k = clean_not_marked front d l more c 
     tail_is x y a b e = cc
 
 -- a fault that stands before another's place contradicts it
-earlier : {X : Type 0} (spell : X → Marked) (ls : List Letter) (c e : Code) (r s : List Letter) (f : FirstFault spell ls c r) (g : FirstFault spell ls e s) (l : Letter) (d : List Letter) → g.front ≡ f.front ++ (l ∷ d) → r ≡ l ∷ (d ++ s) → ⊥
-earlier spell ls c e r s f g l d front-is r-is =
+no_earlier_fault : {X : Type 0} (spell : X → Marked) (ls : List Letter) (c e : Code) (r s : List Letter) (f : FirstFault spell ls c r) (g : FirstFault spell ls e s) (l : Letter) (d : List Letter) → g.front ≡ f.front ++ (l ∷ d) → r ≡ l ∷ (d ++ s) → ⊥
+no_earlier_fault spell ls c e r s f g l d front-is r-is =
     let spelled : spell g.tree ≡ clean_all (f.front ++ (l ∷ d)) ++ g.more = g.viable ∙ ap (λ (t : List Letter). clean_all t ++ g.more) front-is in
     let here : letters (spell g.tree) ≡ f.front ++ (l ∷ (d ++ letters g.more)) = ap letters spelled ∙ letters_behind (f.front ++ (l ∷ d)) g.more ∙ append_assoc f.front (l ∷ d) (letters g.more) in
     let k = f.each g.tree (l ∷ (d ++ letters g.more)) (sym (ap head r-is)) here in
@@ -127,9 +127,9 @@ one_code spell ls c e r s f g same left =
 pub one_fault : {X : Type 0} (spell : X → Marked) (ls : List Letter) (c e : Code) (r s : List Letter) → FirstFault spell ls c r → FirstFault spell ls e s → (c ≡ e) × (r ≡ s)
 one_fault spell ls c e r s f g =
     elim (compare f.front g.front r s (sym f.parts ∙ g.parts)) [
-      | inl x ↦ absurd (earlier spell ls c e r s f g x.0 x.1 x.2.0 x.2.1)
+      | inl x ↦ absurd (no_earlier_fault spell ls c e r s f g x.0 x.1 x.2.0 x.2.1)
       | inr y ↦ elim y [
-        | inl x ↦ absurd (earlier spell ls e c s r g f x.0 x.1 x.2.0 x.2.1)
+        | inl x ↦ absurd (no_earlier_fault spell ls e c s r g f x.0 x.1 x.2.0 x.2.1)
         | inr x ↦ (one_code spell ls c e r s f g x.0 x.1, x.1)
       ]
     ]

@@ -17,7 +17,7 @@ use Rattle.it_syntax.specs.RelationReading.{read_relation}
 use Rattle.it_syntax.specs.GivenReading.{arrow, read_of, behind_divider, spare, read_spare, if_divided, member_then, read_members, with_sets, read_chain, read_bar, read_independence, read_function, read_plain, read_given}
 use Rattle.it_syntax.proofs.SpelledIsRead.{Answers, answers_ok, answers_cons, answers_bind, NoComma, NoWord, NoSign, list_answers, list_then}
 use Rattle.it_syntax.proofs.RelationAnswers.{relation_answers}
-use Rattle.it_syntax.proofs.GivenTraces.{opens_form, opens, chosen}
+use Rattle.it_syntax.proofs.GivenTraces.{opens_form, opens, given_by_word}
 
 -- ---- further members
 
@@ -149,7 +149,7 @@ function_answers env x k free =
 
 -- ---- conditions
 
-plain_by : (s : Scope) (w : List ℕ) (ls : List Letter) (h i j : Bool) → (h || (i || j)) ≡ false → chosen s w ls h i j ≡ read_plain s (Word w ∷ ls)
+plain_by : (s : Scope) (w : List ℕ) (ls : List Letter) (h i j : Bool) → (h || (i || j)) ≡ false → given_by_word s w ls h i j ≡ read_plain s (Word w ∷ ls)
 plain_by s w ls true i j e = absurd cc
 plain_by s w ls false true j e = absurd cc
 plain_by s w ls false false true e = absurd cc

@@ -17,7 +17,7 @@ use Rattle.it_syntax.specs.Givens.{GivenView, Relation, Markov, Independent, Fun
 use Rattle.it_syntax.specs.Lines.{to_end}
 use Rattle.it_syntax.specs.AtomReading.{Reads, ◌>>=◌, read_list, semicolon, line_end}
 use Rattle.it_syntax.proofs.LimitLemmas.{Sure, sure_bind, Any, any, Knows, IsBelow, some_sets, list_sure}
-use Rattle.it_syntax.proofs.RelationLimits.{Covers, scope_covers, IsWithinLimits, relation_line_sure}
+use Rattle.it_syntax.proofs.RelationLimits.{Covers, variables_covered, IsWithinLimits, relation_line_sure}
 
 -- at most so many sets of n variables
 abbrev AreFew : ℕ → ℕ → List ℕ × List Letter → Type 0
@@ -48,8 +48,8 @@ unfolding read_members
 members_sure env n zero k d ls = divided_sure n zero (read_spare env) (spare_sure (AreFew n zero) env) (behind_divider d ls) ls
 members_sure env n (suc most) k d ls = divided_sure n (suc most) (member_then (read_members most d env) env) (member_sure env n most k (read_members most d env) (members_sure env n most k d)) (behind_divider d ls) ls
 
-abbrev IsMet : ℕ → ℕ → GivenView × List Letter → Type 0
-IsMet n m y = IsGivenOf n m y.0
+abbrev IsMet : ℕ → GivenView × List Letter → Type 0
+IsMet n y = IsGivenOf n y.0
 
 abbrev AreBetween : ℕ → ℕ → List ℕ × List Letter → Type 0
 AreBetween n least x = AreSetsOf n least 16 x.0
@@ -66,15 +66,15 @@ two_sure env n k a b ha hb ls = sure_bind (AreFew n 14) (AreBetween n 2) (read_m
 list_first : {A : Type 0} (Q : A × List Letter → Type 0) (env : Environment) (n : ℕ) → Knows env n → (f : ℕ × List Letter → Reads A) (ls : List Letter) → ((x : ℕ × List Letter) → x.0 < 2 ^ n → Sure Q (f x)) → Sure Q (read_list env ls >>= f)
 list_first Q env n k f ls h = sure_bind (IsBelow (2 ^ n)) Q (read_list env ls) f (list_sure env n k ls) h
 
-chain_sure : (env : Environment) (n m : ℕ) → Knows env n → (ls : List Letter) → Sure (IsMet n m) (read_chain env ls)
+chain_sure : (env : Environment) (n : ℕ) → Knows env n → (ls : List Letter) → Sure (IsMet n) (read_chain env ls)
 unfolding read_chain
-chain_sure env n m k ls =
-    list_first (IsMet n m) env n k (λ a. arrow a.1 >>= λ first. read_list env first >>= λ b. arrow b.1 >>= λ second. read_list env second >>= λ c. with_sets (a.0 ∷ b.0 ∷ c.0 ∷ []) (read_members 13 Arrows env c.1) >>= λ sets. Ok (Markov sets.0, sets.1)) ls
-    (λ a ha. sure_bind Any (IsMet n m) (arrow a.1) (λ first. read_list env first >>= λ b. arrow b.1 >>= λ second. read_list env second >>= λ c. with_sets (a.0 ∷ b.0 ∷ c.0 ∷ []) (read_members 13 Arrows env c.1) >>= λ sets. Ok (Markov sets.0, sets.1)) (any (arrow a.1))
-    (λ first u. list_first (IsMet n m) env n k (λ b. arrow b.1 >>= λ second. read_list env second >>= λ c. with_sets (a.0 ∷ b.0 ∷ c.0 ∷ []) (read_members 13 Arrows env c.1) >>= λ sets. Ok (Markov sets.0, sets.1)) first
-    (λ b hb. sure_bind Any (IsMet n m) (arrow b.1) (λ second. read_list env second >>= λ c. with_sets (a.0 ∷ b.0 ∷ c.0 ∷ []) (read_members 13 Arrows env c.1) >>= λ sets. Ok (Markov sets.0, sets.1)) (any (arrow b.1))
-    (λ second v. list_first (IsMet n m) env n k (λ c. with_sets (a.0 ∷ b.0 ∷ c.0 ∷ []) (read_members 13 Arrows env c.1) >>= λ sets. Ok (Markov sets.0, sets.1)) second
-    (λ c hc. sure_bind (AreBetween n 3) (IsMet n m) (with_sets (a.0 ∷ b.0 ∷ c.0 ∷ []) (read_members 13 Arrows env c.1)) (λ sets. Ok (Markov sets.0, sets.1)) (three_sure env n k a.0 b.0 c.0 ha hb hc c.1) (λ sets hs. hs))))))
+chain_sure env n k ls =
+    list_first (IsMet n) env n k (λ a. arrow a.1 >>= λ first. read_list env first >>= λ b. arrow b.1 >>= λ second. read_list env second >>= λ c. with_sets (a.0 ∷ b.0 ∷ c.0 ∷ []) (read_members 13 Arrows env c.1) >>= λ sets. Ok (Markov sets.0, sets.1)) ls
+    (λ a ha. sure_bind Any (IsMet n) (arrow a.1) (λ first. read_list env first >>= λ b. arrow b.1 >>= λ second. read_list env second >>= λ c. with_sets (a.0 ∷ b.0 ∷ c.0 ∷ []) (read_members 13 Arrows env c.1) >>= λ sets. Ok (Markov sets.0, sets.1)) (any (arrow a.1))
+    (λ first u. list_first (IsMet n) env n k (λ b. arrow b.1 >>= λ second. read_list env second >>= λ c. with_sets (a.0 ∷ b.0 ∷ c.0 ∷ []) (read_members 13 Arrows env c.1) >>= λ sets. Ok (Markov sets.0, sets.1)) first
+    (λ b hb. sure_bind Any (IsMet n) (arrow b.1) (λ second. read_list env second >>= λ c. with_sets (a.0 ∷ b.0 ∷ c.0 ∷ []) (read_members 13 Arrows env c.1) >>= λ sets. Ok (Markov sets.0, sets.1)) (any (arrow b.1))
+    (λ second v. list_first (IsMet n) env n k (λ c. with_sets (a.0 ∷ b.0 ∷ c.0 ∷ []) (read_members 13 Arrows env c.1) >>= λ sets. Ok (Markov sets.0, sets.1)) second
+    (λ c hc. sure_bind (AreBetween n 3) (IsMet n) (with_sets (a.0 ∷ b.0 ∷ c.0 ∷ []) (read_members 13 Arrows env c.1)) (λ sets. Ok (Markov sets.0, sets.1)) (three_sure env n k a.0 b.0 c.0 ha hb hc c.1) (λ sets hs. hs))))))
 
 bar_sure : (env : Environment) (n : ℕ) → Knows env n → (ls : List Letter) → Sure (IsBelow (2 ^ n)) (read_bar env ls)
 unfolding read_bar
@@ -82,43 +82,42 @@ bar_sure env n k (Sym Bar ∷ ls) = list_sure env n k ls
 bar_sure env n k [] = some_sets n
 bar_sure env n k (l ∷ ls) = some_sets n
 
-independence_sure : (env : Environment) (n m : ℕ) → Knows env n → (ls : List Letter) → Sure (IsMet n m) (read_independence env ls)
+independence_sure : (env : Environment) (n : ℕ) → Knows env n → (ls : List Letter) → Sure (IsMet n) (read_independence env ls)
 unfolding read_independence
-independence_sure env n m k ls =
-    list_first (IsMet n m) env n k (λ a. semicolon a.1 >>= λ first. read_list env first >>= λ b. with_sets (a.0 ∷ b.0 ∷ []) (read_members 14 Semicolons env b.1) >>= λ sets. read_bar env sets.1 >>= λ w. Ok (Independent sets.0 w.0, w.1)) ls
-    (λ a ha. sure_bind Any (IsMet n m) (semicolon a.1) (λ first. read_list env first >>= λ b. with_sets (a.0 ∷ b.0 ∷ []) (read_members 14 Semicolons env b.1) >>= λ sets. read_bar env sets.1 >>= λ w. Ok (Independent sets.0 w.0, w.1)) (any (semicolon a.1))
-    (λ first u. list_first (IsMet n m) env n k (λ b. with_sets (a.0 ∷ b.0 ∷ []) (read_members 14 Semicolons env b.1) >>= λ sets. read_bar env sets.1 >>= λ w. Ok (Independent sets.0 w.0, w.1)) first
-    (λ b hb. sure_bind (AreBetween n 2) (IsMet n m) (with_sets (a.0 ∷ b.0 ∷ []) (read_members 14 Semicolons env b.1)) (λ sets. read_bar env sets.1 >>= λ w. Ok (Independent sets.0 w.0, w.1)) (two_sure env n k a.0 b.0 ha hb b.1)
-    (λ sets hs. sure_bind (IsBelow (2 ^ n)) (IsMet n m) (read_bar env sets.1) (λ w. Ok (Independent sets.0 w.0, w.1)) (bar_sure env n k sets.1) (λ w hw. (hs, hw))))))
+independence_sure env n k ls =
+    list_first (IsMet n) env n k (λ a. semicolon a.1 >>= λ first. read_list env first >>= λ b. with_sets (a.0 ∷ b.0 ∷ []) (read_members 14 Semicolons env b.1) >>= λ sets. read_bar env sets.1 >>= λ w. Ok (Independent sets.0 w.0, w.1)) ls
+    (λ a ha. sure_bind Any (IsMet n) (semicolon a.1) (λ first. read_list env first >>= λ b. with_sets (a.0 ∷ b.0 ∷ []) (read_members 14 Semicolons env b.1) >>= λ sets. read_bar env sets.1 >>= λ w. Ok (Independent sets.0 w.0, w.1)) (any (semicolon a.1))
+    (λ first u. list_first (IsMet n) env n k (λ b. with_sets (a.0 ∷ b.0 ∷ []) (read_members 14 Semicolons env b.1) >>= λ sets. read_bar env sets.1 >>= λ w. Ok (Independent sets.0 w.0, w.1)) first
+    (λ b hb. sure_bind (AreBetween n 2) (IsMet n) (with_sets (a.0 ∷ b.0 ∷ []) (read_members 14 Semicolons env b.1)) (λ sets. read_bar env sets.1 >>= λ w. Ok (Independent sets.0 w.0, w.1)) (two_sure env n k a.0 b.0 ha hb b.1)
+    (λ sets hs. sure_bind (IsBelow (2 ^ n)) (IsMet n) (read_bar env sets.1) (λ w. Ok (Independent sets.0 w.0, w.1)) (bar_sure env n k sets.1) (λ w hw. (hs, hw))))))
 
-function_sure : (env : Environment) (n m : ℕ) → Knows env n → (ls : List Letter) → Sure (IsMet n m) (read_function env ls)
+function_sure : (env : Environment) (n : ℕ) → Knows env n → (ls : List Letter) → Sure (IsMet n) (read_function env ls)
 unfolding read_function
-function_sure env n m k ls =
-    list_first (IsMet n m) env n k (λ z. read_of z.1 >>= λ behind. read_list env behind >>= λ x. Ok (Function z.0 x.0, x.1)) ls
-    (λ z hz. sure_bind Any (IsMet n m) (read_of z.1) (λ behind. read_list env behind >>= λ x. Ok (Function z.0 x.0, x.1)) (any (read_of z.1))
-    (λ behind u. list_first (IsMet n m) env n k (λ x. Ok (Function z.0 x.0, x.1)) behind (λ x hx. (hz, hx))))
+function_sure env n k ls =
+    list_first (IsMet n) env n k (λ z. read_of z.1 >>= λ behind. read_list env behind >>= λ x. Ok (Function z.0 x.0, x.1)) ls
+    (λ z hz. sure_bind Any (IsMet n) (read_of z.1) (λ behind. read_list env behind >>= λ x. Ok (Function z.0 x.0, x.1)) (any (read_of z.1))
+    (λ behind u. list_first (IsMet n) env n k (λ x. Ok (Function z.0 x.0, x.1)) behind (λ x hx. (hz, hx))))
 
-plain_sure : (s : Scope) (n m : ℕ) → Covers s n m → (ls : List Letter) → Sure (IsMet n m) (read_plain s ls)
+plain_sure : (s : Scope) (n : ℕ) → Covers s n 0 → (ls : List Letter) → Sure (IsMet n) (read_plain s ls)
 unfolding read_plain
-plain_sure s n m k ls = sure_bind (IsWithinLimits n m) (IsMet n m) (read_relation s ls) (λ y. Ok (Relation y.0, y.1)) (relation_line_sure s n m k ls) (λ y hy. record { few = hy.0; left = hy.1; right = hy.2 })
+plain_sure s n k ls = sure_bind (IsWithinLimits n 0) (IsMet n) (read_relation s ls) (λ y. Ok (Relation y.0, y.1)) (relation_line_sure s n 0 k ls) (λ y hy. record { few = hy.0; left = hy.1; right = hy.2 })
 
-given_line_sure : (s : Scope) (n m : ℕ) → Covers s n m → (ls : List Letter) → Sure (IsMet n m) (read_given s ls)
+given_line_sure : (s : Scope) (n : ℕ) → Covers s n 0 → (ls : List Letter) → Sure (IsMet n) (read_given s ls)
 unfolding read_given
-given_line_sure s n m k (Word w ∷ ls) = chosen (bytes_eq w markov_text) (bytes_eq w indep_text) (bytes_eq w func_text)
+given_line_sure s n k (Word w ∷ ls) = chosen (bytes_eq w markov_text) (bytes_eq w indep_text) (bytes_eq w func_text)
   where
-    chosen : (h i j : Bool) → Sure (IsMet n m) (cond h (read_chain s.variables ls) (cond i (read_independence s.variables ls) (cond j (read_function s.variables ls) (read_plain s (Word w ∷ ls)))))
-    chosen true i j = chain_sure s.variables n m k.variables ls
-    chosen false true j = independence_sure s.variables n m k.variables ls
-    chosen false false true = function_sure s.variables n m k.variables ls
-    chosen false false false = plain_sure s n m k (Word w ∷ ls)
-given_line_sure s n m k [] = plain_sure s n m k []
-given_line_sure s n m k (l ∷ ls) = plain_sure s n m k (l ∷ ls)
+    chosen : (h i j : Bool) → Sure (IsMet n) (cond h (read_chain s.variables ls) (cond i (read_independence s.variables ls) (cond j (read_function s.variables ls) (read_plain s (Word w ∷ ls)))))
+    chosen true i j = chain_sure s.variables n k.variables ls
+    chosen false true j = independence_sure s.variables n k.variables ls
+    chosen false false true = function_sure s.variables n k.variables ls
+    chosen false false false = plain_sure s n k (Word w ∷ ls)
+given_line_sure s n k [] = plain_sure s n k []
+given_line_sure s n k (l ∷ ls) = plain_sure s n k (l ∷ ls)
 
--- a constraint that is read up to its line's end keeps the limits
-pub given_limited : (v : NamesView) (ls r : List Letter) (y : GivenView) → to_end (read_given (scope_of v false)) ls ≡ Ok (y, r) → IsGivenOf (length v.variables) (length v.rates) y
+-- a constraint that is read up to its line's end keeps the limits, and has no rates
+pub given_limited : (v : NamesView) (ls r : List Letter) (y : GivenView) → to_end (read_given (scope_of v false)) ls ≡ Ok (y, r) → IsGivenOf (length v.variables) y
 unfolding to_end
 given_limited v ls r y e =
     let n = length v.variables in
-    let m = length v.rates in
     let f = read_given (scope_of v false) in
-    subst (Sure (IsMet n m)) e (sure_bind (IsMet n m) (IsMet n m) (f ls) (λ x. line_end x.1 >>= λ e. Ok (x.0, e.1)) (given_line_sure (scope_of v false) n m (scope_covers v false) ls) (λ x hx. sure_bind Any (IsMet n m) (line_end x.1) (λ e. Ok (x.0, e.1)) (any (line_end x.1)) (λ e u. hx)))
+    subst (Sure (IsMet n)) e (sure_bind (IsMet n) (IsMet n) (f ls) (λ x. line_end x.1 >>= λ e. Ok (x.0, e.1)) (given_line_sure (scope_of v false) n (variables_covered v) ls) (λ x hx. sure_bind Any (IsMet n) (line_end x.1) (λ e. Ok (x.0, e.1)) (any (line_end x.1)) (λ e u. hx)))

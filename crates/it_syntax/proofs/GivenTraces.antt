@@ -19,9 +19,9 @@ use Rattle.it_syntax.specs.AtomReading.{Reads, ◌>>=◌, semicolon, read_list}
 use Rattle.it_syntax.specs.RelationReading.{read_relation}
 use Rattle.it_syntax.specs.GivenReading.{arrow, read_of, spare, read_spare, member_then, read_members, with_sets, read_chain, read_bar, read_independence, read_function, read_plain, read_given}
 use Rattle.it_syntax.proofs.Traces.{Went, Stuck, By, Traces, traces_bind, traces_map, letter_then, switch}
-use Rattle.it_syntax.proofs.AtomTraces.{begun, empty, stuck_here, stuck_none, some_list, list_traces}
+use Rattle.it_syntax.proofs.AtomTraces.{for_same_head, for_no_head, stuck_here, stuck_none, some_list, list_traces}
 use Rattle.it_syntax.proofs.RelationTraces.{relation_traces}
-use Rattle.it_syntax.proofs.LetterReaders.{TakesLetter, behind_traces, Restricts, restricted}
+use Rattle.it_syntax.proofs.LetterReaders.{TakesLetter, behind_traces, Restricts, by_restriction}
 
 -- ---- letters that must stand there
 
@@ -31,8 +31,8 @@ pointed_takes = record { takes = λ s. refl; refuses = refuses }
   where
     refuses : (ls : List Letter) → (head ls ≡ Some (Sym Arrow)) ⊎ ((c : Code) × (own_code ls ≡ c) × ((s : List Letter) → head s ≡ head ls → arrow s ≡ Err (c, s)))
     refuses (Sym Arrow ∷ ls) = inl refl
-    refuses [] = inr (codes.Word, refl, empty (λ s. arrow s ≡ Err (codes.Word, s)) refl)
-    refuses (l ∷ ls) = inr (own_code (l ∷ ls), refl, begun (λ s. arrow s ≡ Err (own_code (l ∷ ls), s)) l (λ s. refl))
+    refuses [] = inr (codes.Word, refl, for_no_head (λ s. arrow s ≡ Err (codes.Word, s)) refl)
+    refuses (l ∷ ls) = inr (own_code (l ∷ ls), refl, for_same_head (λ s. arrow s ≡ Err (own_code (l ∷ ls), s)) l (λ s. refl))
 
 divided_takes : TakesLetter semicolon (Sym Semicolon)
 unfolding semicolon
@@ -40,8 +40,8 @@ divided_takes = record { takes = λ s. refl; refuses = refuses }
   where
     refuses : (ls : List Letter) → (head ls ≡ Some (Sym Semicolon)) ⊎ ((c : Code) × (own_code ls ≡ c) × ((s : List Letter) → head s ≡ head ls → semicolon s ≡ Err (c, s)))
     refuses (Sym Semicolon ∷ ls) = inl refl
-    refuses [] = inr (codes.Word, refl, empty (λ s. semicolon s ≡ Err (codes.Word, s)) refl)
-    refuses (l ∷ ls) = inr (own_code (l ∷ ls), refl, begun (λ s. semicolon s ≡ Err (own_code (l ∷ ls), s)) l (λ s. refl))
+    refuses [] = inr (codes.Word, refl, for_no_head (λ s. semicolon s ≡ Err (codes.Word, s)) refl)
+    refuses (l ∷ ls) = inr (own_code (l ∷ ls), refl, for_same_head (λ s. semicolon s ≡ Err (own_code (l ∷ ls), s)) l (λ s. refl))
 
 of_takes : TakesLetter read_of (Word of_text)
 unfolding read_of
@@ -49,12 +49,12 @@ of_takes = record { takes = λ s. refl; refuses = refuses }
   where
     by : (w : List ℕ) (ls : List Letter) (b : Bool) → bytes_eq w of_text ≡ b → (head (Word w ∷ ls) ≡ Some (Word of_text)) ⊎ ((c : Code) × (own_code (Word w ∷ ls) ≡ c) × ((s : List Letter) → head s ≡ head (Word w ∷ ls) → read_of s ≡ Err (c, s)))
     by w ls true e = inl (ap (λ (t : List ℕ). Some (Word t)) ((bytes_eq-Decides w of_text).0 e))
-    by w ls false e = inr (codes.Word, refl, begun (λ s. read_of s ≡ Err (codes.Word, s)) (Word w) (λ s. ap (λ (b : Bool). cond b (Ok s) (Err (codes.Word, Word w ∷ s))) e))
+    by w ls false e = inr (codes.Word, refl, for_same_head (λ s. read_of s ≡ Err (codes.Word, s)) (Word w) (λ s. ap (λ (b : Bool). cond b (Ok s) (Err (codes.Word, Word w ∷ s))) e))
 
     refuses : (ls : List Letter) → (head ls ≡ Some (Word of_text)) ⊎ ((c : Code) × (own_code ls ≡ c) × ((s : List Letter) → head s ≡ head ls → read_of s ≡ Err (c, s)))
     refuses (Word w ∷ ls) = by w ls (bytes_eq w of_text) refl
-    refuses [] = inr (codes.Word, refl, empty (λ s. read_of s ≡ Err (codes.Word, s)) refl)
-    refuses (l ∷ ls) = inr (own_code (l ∷ ls), refl, begun (λ s. read_of s ≡ Err (own_code (l ∷ ls), s)) l (λ s. refl))
+    refuses [] = inr (codes.Word, refl, for_no_head (λ s. read_of s ≡ Err (codes.Word, s)) refl)
+    refuses (l ∷ ls) = inr (own_code (l ∷ ls), refl, for_same_head (λ s. read_of s ≡ Err (own_code (l ∷ ls), s)) l (λ s. refl))
 
 -- ---- further members
 
@@ -79,7 +79,7 @@ spare_at d env w ls c h e = record {
   front = [];
   parts = refl;
   spells = λ k. (mark_surplus (spell_list env (one_name w) k), (refl, inr (Word w, k, (h k, refl))));
-  stays = begun (λ r. read_spare env r ≡ Err (c, r)) (Word w) e;
+  stays = for_same_head (λ r. read_spare env r ≡ Err (c, r)) (Word w) e;
 }
 
 spare_is : (env : Environment) (w : List ℕ) (h : Bool) (o : Option ℕ) → is_measure w ≡ h → env w ≡ o → (ls : List Letter) → read_spare env (Word w ∷ ls) ≡ spare w h o ls
@@ -107,8 +107,8 @@ member_traces : (n : ℕ) (d : Divider) (env : Environment) → Traces (read_mem
 member_traces n d env h = traces_bind (read_list env) (λ a ls. read_members n d env ls >>= λ more. Ok (a ∷ more.0, more.1)) (member_then (read_members n d env) env) (spell_list env) (λ a. spell_members n d env) (spell_member n d env) (list_set env) (λ a more. a ∷ sets_of env more) (members_of env) (λ a more. (a, more))
     (record { is = λ ls. refl; spells = λ y z k. refl; value = λ y z. refl; some = []; first = list_traces env; second = λ a. traces_map (read_members n d env) (λ more. a ∷ more) (spell_members n d env) (sets_of env) h })
 
-abbrev listed : Members → List WrittenList
-listed m = m.0 ∷ m.1
+abbrev all_members : Members → List WrittenList
+all_members m = m.0 ∷ m.1
 
 -- no divider stands there
 no_member : (n : ℕ) (d : Divider) (env : Environment) (ls : List Letter) → ((s : List Letter) → head s ≡ head ls → read_members n d env s ≡ Ok ([], s)) → Went (read_members n d env) (spell_members n d env) (sets_of env) ls [] ls
@@ -116,18 +116,18 @@ no_member n d env ls h = record { tree = []; front = []; value = refl; parts = r
 
 members_traces : (n : ℕ) (d : Divider) (env : Environment) → Traces (read_members n d env) (spell_members n d env) (sets_of env)
 unfolding read_members
-members_traces zero Arrows env (Sym Arrow ∷ ls) = letter_then (read_members zero Arrows env) (read_spare env) (Sym Arrow) (spell_spare Arrows env) (spell_members zero Arrows env) (members_of env) (sets_of env) listed ls (λ s. refl) (λ z k. refl) (λ z. refl) (read_spare env ls) (spare_traces Arrows env ls)
-members_traces zero Arrows env [] = no_member zero Arrows env [] (empty (λ s. read_members zero Arrows env s ≡ Ok ([], s)) refl)
-members_traces zero Arrows env (l ∷ ls) = no_member zero Arrows env (l ∷ ls) (begun (λ s. read_members zero Arrows env s ≡ Ok ([], s)) l (λ s. refl))
-members_traces zero Semicolons env (Sym Semicolon ∷ ls) = letter_then (read_members zero Semicolons env) (read_spare env) (Sym Semicolon) (spell_spare Semicolons env) (spell_members zero Semicolons env) (members_of env) (sets_of env) listed ls (λ s. refl) (λ z k. refl) (λ z. refl) (read_spare env ls) (spare_traces Semicolons env ls)
-members_traces zero Semicolons env [] = no_member zero Semicolons env [] (empty (λ s. read_members zero Semicolons env s ≡ Ok ([], s)) refl)
-members_traces zero Semicolons env (l ∷ ls) = no_member zero Semicolons env (l ∷ ls) (begun (λ s. read_members zero Semicolons env s ≡ Ok ([], s)) l (λ s. refl))
-members_traces (suc n) Arrows env (Sym Arrow ∷ ls) = letter_then (read_members (suc n) Arrows env) (member_then (read_members n Arrows env) env) (Sym Arrow) (spell_member n Arrows env) (spell_members (suc n) Arrows env) (members_of env) (sets_of env) listed ls (λ s. refl) (λ z k. refl) (λ z. refl) (member_then (read_members n Arrows env) env ls) (member_traces n Arrows env (members_traces n Arrows env) ls)
-members_traces (suc n) Arrows env [] = no_member (suc n) Arrows env [] (empty (λ s. read_members (suc n) Arrows env s ≡ Ok ([], s)) refl)
-members_traces (suc n) Arrows env (l ∷ ls) = no_member (suc n) Arrows env (l ∷ ls) (begun (λ s. read_members (suc n) Arrows env s ≡ Ok ([], s)) l (λ s. refl))
-members_traces (suc n) Semicolons env (Sym Semicolon ∷ ls) = letter_then (read_members (suc n) Semicolons env) (member_then (read_members n Semicolons env) env) (Sym Semicolon) (spell_member n Semicolons env) (spell_members (suc n) Semicolons env) (members_of env) (sets_of env) listed ls (λ s. refl) (λ z k. refl) (λ z. refl) (member_then (read_members n Semicolons env) env ls) (member_traces n Semicolons env (members_traces n Semicolons env) ls)
-members_traces (suc n) Semicolons env [] = no_member (suc n) Semicolons env [] (empty (λ s. read_members (suc n) Semicolons env s ≡ Ok ([], s)) refl)
-members_traces (suc n) Semicolons env (l ∷ ls) = no_member (suc n) Semicolons env (l ∷ ls) (begun (λ s. read_members (suc n) Semicolons env s ≡ Ok ([], s)) l (λ s. refl))
+members_traces zero Arrows env (Sym Arrow ∷ ls) = letter_then (read_members zero Arrows env) (read_spare env) (Sym Arrow) (spell_spare Arrows env) (spell_members zero Arrows env) (members_of env) (sets_of env) all_members ls (λ s. refl) (λ z k. refl) (λ z. refl) (read_spare env ls) (spare_traces Arrows env ls)
+members_traces zero Arrows env [] = no_member zero Arrows env [] (for_no_head (λ s. read_members zero Arrows env s ≡ Ok ([], s)) refl)
+members_traces zero Arrows env (l ∷ ls) = no_member zero Arrows env (l ∷ ls) (for_same_head (λ s. read_members zero Arrows env s ≡ Ok ([], s)) l (λ s. refl))
+members_traces zero Semicolons env (Sym Semicolon ∷ ls) = letter_then (read_members zero Semicolons env) (read_spare env) (Sym Semicolon) (spell_spare Semicolons env) (spell_members zero Semicolons env) (members_of env) (sets_of env) all_members ls (λ s. refl) (λ z k. refl) (λ z. refl) (read_spare env ls) (spare_traces Semicolons env ls)
+members_traces zero Semicolons env [] = no_member zero Semicolons env [] (for_no_head (λ s. read_members zero Semicolons env s ≡ Ok ([], s)) refl)
+members_traces zero Semicolons env (l ∷ ls) = no_member zero Semicolons env (l ∷ ls) (for_same_head (λ s. read_members zero Semicolons env s ≡ Ok ([], s)) l (λ s. refl))
+members_traces (suc n) Arrows env (Sym Arrow ∷ ls) = letter_then (read_members (suc n) Arrows env) (member_then (read_members n Arrows env) env) (Sym Arrow) (spell_member n Arrows env) (spell_members (suc n) Arrows env) (members_of env) (sets_of env) all_members ls (λ s. refl) (λ z k. refl) (λ z. refl) (member_then (read_members n Arrows env) env ls) (member_traces n Arrows env (members_traces n Arrows env) ls)
+members_traces (suc n) Arrows env [] = no_member (suc n) Arrows env [] (for_no_head (λ s. read_members (suc n) Arrows env s ≡ Ok ([], s)) refl)
+members_traces (suc n) Arrows env (l ∷ ls) = no_member (suc n) Arrows env (l ∷ ls) (for_same_head (λ s. read_members (suc n) Arrows env s ≡ Ok ([], s)) l (λ s. refl))
+members_traces (suc n) Semicolons env (Sym Semicolon ∷ ls) = letter_then (read_members (suc n) Semicolons env) (member_then (read_members n Semicolons env) env) (Sym Semicolon) (spell_member n Semicolons env) (spell_members (suc n) Semicolons env) (members_of env) (sets_of env) all_members ls (λ s. refl) (λ z k. refl) (λ z. refl) (member_then (read_members n Semicolons env) env ls) (member_traces n Semicolons env (members_traces n Semicolons env) ls)
+members_traces (suc n) Semicolons env [] = no_member (suc n) Semicolons env [] (for_no_head (λ s. read_members (suc n) Semicolons env s ≡ Ok ([], s)) refl)
+members_traces (suc n) Semicolons env (l ∷ ls) = no_member (suc n) Semicolons env (l ∷ ls) (for_same_head (λ s. read_members (suc n) Semicolons env s ≡ Ok ([], s)) l (λ s. refl))
 
 -- ---- chains
 
@@ -179,8 +179,8 @@ chain_traces env = traces_bind (read_list env) (λ a ls. arrow ls >>= from_secon
 bar_traces : (env : Environment) → Traces (read_bar env) (spell_bar env) (bar_set env)
 unfolding read_bar
 bar_traces env (Sym Bar ∷ ls) = letter_then (read_bar env) (read_list env) (Sym Bar) (spell_list env) (spell_bar env) (list_set env) (bar_set env) Some ls (λ s. refl) (λ z k. refl) (λ z. refl) (read_list env ls) (list_traces env ls)
-bar_traces env [] = record { tree = None; front = []; value = refl; parts = refl; spells = λ k. refl; stays = empty (λ s. read_bar env s ≡ Ok (0, s)) refl }
-bar_traces env (l ∷ ls) = record { tree = None; front = []; value = refl; parts = refl; spells = λ k. refl; stays = begun (λ s. read_bar env s ≡ Ok (0, s)) l (λ s. refl) }
+bar_traces env [] = record { tree = None; front = []; value = refl; parts = refl; spells = λ k. refl; stays = for_no_head (λ s. read_bar env s ≡ Ok (0, s)) refl }
+bar_traces env (l ∷ ls) = record { tree = None; front = []; value = refl; parts = refl; spells = λ k. refl; stays = for_same_head (λ s. read_bar env s ≡ Ok (0, s)) l (λ s. refl) }
 
 -- further members, and what is given
 abbrev Others : Type 0
@@ -292,30 +292,30 @@ plain_restricts s = record { spells = λ x p k. refl; values = λ x p. refl; som
 
 plain_traces : (s : Scope) (ls : List Letter) → opens_form ls ≡ false → By (read_plain s) (spell_given s) (given_of s) ls (read_plain s ls)
 unfolding read_plain
-plain_traces s ls e = restricted (read_plain s) (spell_relation s) (λ x. given_views.Relation (relation_of s x)) (spell_given s) (given_of s) IsPlain plain_made (plain_restricts s) ls (λ x k h. sym (opens s x k) ∙ same_opening (letters (spell_relation s x k)) ls h ∙ e) (read_plain s ls)
+plain_traces s ls e = by_restriction (read_plain s) (spell_relation s) (λ x. given_views.Relation (relation_of s x)) (spell_given s) (given_of s) IsPlain plain_made (plain_restricts s) ls (λ x k h. sym (opens s x k) ∙ same_opening (letters (spell_relation s x k)) ls h ∙ e) (read_plain s ls)
     (traces_map (read_relation s) given_views.Relation (spell_relation s) (relation_of s) (relation_traces s) ls)
 
 -- ---- conditions
 
-abbrev pub chosen : Scope → List ℕ → List Letter → Bool → Bool → Bool → Reads GivenView
-chosen s w ls h i j = cond h (read_chain s.variables ls) (cond i (read_independence s.variables ls) (cond j (read_function s.variables ls) (read_plain s (Word w ∷ ls))))
+abbrev pub given_by_word : Scope → List ℕ → List Letter → Bool → Bool → Bool → Reads GivenView
+given_by_word s w ls h i j = cond h (read_chain s.variables ls) (cond i (read_independence s.variables ls) (cond j (read_function s.variables ls) (read_plain s (Word w ∷ ls))))
 
-word_is : (s : Scope) (w : List ℕ) (h i j : Bool) → bytes_eq w markov_text ≡ h → bytes_eq w indep_text ≡ i → bytes_eq w func_text ≡ j → (ls : List Letter) → read_given s (Word w ∷ ls) ≡ chosen s w ls h i j
+word_is : (s : Scope) (w : List ℕ) (h i j : Bool) → bytes_eq w markov_text ≡ h → bytes_eq w indep_text ≡ i → bytes_eq w func_text ≡ j → (ls : List Letter) → read_given s (Word w ∷ ls) ≡ given_by_word s w ls h i j
 unfolding read_given
-word_is s w h i j eh ei ej ls = ap (λ (b : Bool). chosen s w ls b (bytes_eq w indep_text) (bytes_eq w func_text)) eh ∙ ap (λ (b : Bool). chosen s w ls h b (bytes_eq w func_text)) ei ∙ ap (λ (b : Bool). chosen s w ls h i b) ej
+word_is s w h i j eh ei ej ls = ap (λ (b : Bool). given_by_word s w ls b (bytes_eq w indep_text) (bytes_eq w func_text)) eh ∙ ap (λ (b : Bool). given_by_word s w ls h b (bytes_eq w func_text)) ei ∙ ap (λ (b : Bool). given_by_word s w ls h i b) ej
 
-given_line_by : (s : Scope) (w : List ℕ) (ls : List Letter) (h i j : Bool) → bytes_eq w markov_text ≡ h → bytes_eq w indep_text ≡ i → bytes_eq w func_text ≡ j → By (read_given s) (spell_given s) (given_of s) (Word w ∷ ls) (chosen s w ls h i j)
+given_line_by : (s : Scope) (w : List ℕ) (ls : List Letter) (h i j : Bool) → bytes_eq w markov_text ≡ h → bytes_eq w indep_text ≡ i → bytes_eq w func_text ≡ j → By (read_given s) (spell_given s) (given_of s) (Word w ∷ ls) (given_by_word s w ls h i j)
 given_line_by s w ls true i j eh ei ej = letter_then (read_given s) (read_chain s.variables) (Word w) (spell_chain s.variables) (spell_given s) (chain_of s.variables) (given_of s) Markov ls (word_is s w true i j eh ei ej)
     (λ z k. ap (λ (t : List ℕ). clean (Word t) ∷ spell_chain s.variables z k) (sym ((bytes_eq-Decides w markov_text).0 eh))) (λ z. refl) (read_chain s.variables ls) (chain_traces s.variables ls)
 given_line_by s w ls false true j eh ei ej = letter_then (read_given s) (read_independence s.variables) (Word w) (spell_independence s.variables) (spell_given s) (independence_of s.variables) (given_of s) Independent ls (word_is s w false true j eh ei ej)
     (λ z k. ap (λ (t : List ℕ). clean (Word t) ∷ spell_independence s.variables z k) (sym ((bytes_eq-Decides w indep_text).0 ei))) (λ z. refl) (read_independence s.variables ls) (independence_traces s.variables ls)
 given_line_by s w ls false false true eh ei ej = letter_then (read_given s) (read_function s.variables) (Word w) (spell_function s.variables) (spell_given s) (function_of s.variables) (given_of s) Function ls (word_is s w false false true eh ei ej)
     (λ z k. ap (λ (t : List ℕ). clean (Word t) ∷ spell_function s.variables z k) (sym ((bytes_eq-Decides w func_text).0 ej))) (λ z. refl) (read_function s.variables ls) (function_traces s.variables ls)
-given_line_by s w ls false false false eh ei ej = switch (read_plain s) (read_given s) (spell_given s) (given_of s) (Word w ∷ ls) (begun (λ t. read_given s t ≡ read_plain s t) (Word w) (word_is s w false false false eh ei ej)) (read_plain s (Word w ∷ ls))
+given_line_by s w ls false false false eh ei ej = switch (read_plain s) (read_given s) (spell_given s) (given_of s) (Word w ∷ ls) (for_same_head (λ t. read_given s t ≡ read_plain s t) (Word w) (word_is s w false false false eh ei ej)) (read_plain s (Word w ∷ ls))
     (plain_traces s (Word w ∷ ls) (ap (λ (b : Bool). b || (bytes_eq w indep_text || bytes_eq w func_text)) eh ∙ ap (λ (b : Bool). b || bytes_eq w func_text) ei ∙ ej))
 
 pub given_line_traces : (s : Scope) → Traces (read_given s) (spell_given s) (given_of s)
 unfolding read_given
 given_line_traces s (Word w ∷ ls) = given_line_by s w ls (bytes_eq w markov_text) (bytes_eq w indep_text) (bytes_eq w func_text) refl refl refl
-given_line_traces s [] = switch (read_plain s) (read_given s) (spell_given s) (given_of s) [] (empty (λ t. read_given s t ≡ read_plain s t) refl) (read_plain s []) (plain_traces s [] refl)
-given_line_traces s (l ∷ ls) = switch (read_plain s) (read_given s) (spell_given s) (given_of s) (l ∷ ls) (begun (λ t. read_given s t ≡ read_plain s t) l (λ t. refl)) (read_plain s (l ∷ ls)) (plain_traces s (l ∷ ls) refl)
+given_line_traces s [] = switch (read_plain s) (read_given s) (spell_given s) (given_of s) [] (for_no_head (λ t. read_given s t ≡ read_plain s t) refl) (read_plain s []) (plain_traces s [] refl)
+given_line_traces s (l ∷ ls) = switch (read_plain s) (read_given s) (spell_given s) (given_of s) (l ∷ ls) (for_same_head (λ t. read_given s t ≡ read_plain s t) l (λ t. refl)) (read_plain s (l ∷ ls)) (plain_traces s (l ∷ ls) refl)

@@ -15,16 +15,16 @@ pub record TakesLetter (m : List Letter → Result (List Letter) Fault) (l : Let
 abbrev behind : {A : Type 0} → (List Letter → Result (List Letter) Fault) → (List Letter → Reads A) → List Letter → Reads A
 behind m g ls = m ls >>= g
 
-taken : {A X : Type 0} (m : List Letter → Result (List Letter) Fault) (l : Letter) (g : List Letter → Reads A) (spell : X → Marked → Marked) (value : X → A) → TakesLetter m l → Traces g spell value → (ls : List Letter) → head ls ≡ Some l → By (behind m g) (λ z k. clean l ∷ spell z k) value ls (behind m g ls)
-taken m l g spell value h traces [] e = absurd cc
-taken {A} m l g spell value h traces (x ∷ ls) e =
+behind_letter : {A X : Type 0} (m : List Letter → Result (List Letter) Fault) (l : Letter) (g : List Letter → Reads A) (spell : X → Marked → Marked) (value : X → A) → TakesLetter m l → Traces g spell value → (ls : List Letter) → head ls ≡ Some l → By (behind m g) (λ z k. clean l ∷ spell z k) value ls (behind m g ls)
+behind_letter m l g spell value h traces [] e = absurd cc
+behind_letter {A} m l g spell value h traces (x ∷ ls) e =
     let same : l ≡ x = cc in
     subst (λ (y : Letter). By (behind m g) (λ z k. clean l ∷ spell z k) value (y ∷ ls) (behind m g (y ∷ ls))) same
     (subst (λ (t : Reads A). By (behind m g) (λ z k. clean l ∷ spell z k) value (l ∷ ls) t) (sym (ap (λ (q : Result (List Letter) Fault). q >>= g) (h.takes ls)))
     (letter_then (behind m g) g l spell (λ z k. clean l ∷ spell z k) value value (λ z. z) ls (λ s. ap (λ (q : Result (List Letter) Fault). q >>= g) (h.takes s)) (λ z k. refl) (λ z. refl) (g ls) (traces ls)))
 
-refused : {A X : Type 0} (m : List Letter → Result (List Letter) Fault) (l : Letter) (g : List Letter → Reads A) (spell : X → Marked → Marked) (value : X → A) (some : X) (ls : List Letter) (c : Code) → own_code ls ≡ c → ((s : List Letter) → head s ≡ head ls → m s ≡ Err (c, s)) → By (behind m g) (λ z k. clean l ∷ spell z k) value ls (behind m g ls)
-refused {A} m l g spell value some ls c o h = subst (λ (t : Reads A). By (behind m g) (λ z k. clean l ∷ spell z k) value ls t) (sym (ap (λ (q : Result (List Letter) Fault). q >>= g) (h ls refl)))
+behind_no_letter : {A X : Type 0} (m : List Letter → Result (List Letter) Fault) (l : Letter) (g : List Letter → Reads A) (spell : X → Marked → Marked) (value : X → A) (some : X) (ls : List Letter) (c : Code) → own_code ls ≡ c → ((s : List Letter) → head s ≡ head ls → m s ≡ Err (c, s)) → By (behind m g) (λ z k. clean l ∷ spell z k) value ls (behind m g ls)
+behind_no_letter {A} m l g spell value some ls c o h = subst (λ (t : Reads A). By (behind m g) (λ z k. clean l ∷ spell z k) value ls t) (sym (ap (λ (q : Result (List Letter) Fault). q >>= g) (h ls refl)))
     (record {
       tree = some;
       front = [];
@@ -36,8 +36,8 @@ refused {A} m l g spell value some ls c o h = subst (λ (t : Reads A). By (behin
 -- a letter that must stand there, and then what another reader reads
 pub behind_traces : {A X : Type 0} (m : List Letter → Result (List Letter) Fault) (l : Letter) (g : List Letter → Reads A) (spell : X → Marked → Marked) (value : X → A) (some : X) → TakesLetter m l → Traces g spell value → Traces (λ ls. m ls >>= g) (λ z k. clean l ∷ spell z k) value
 behind_traces m l g spell value some h traces ls = elim (h.refuses ls) [
-  | inl e ↦ taken m l g spell value h traces ls e
-  | inr x ↦ refused m l g spell value some ls x.0 x.1 x.2
+  | inl e ↦ behind_letter m l g spell value h traces ls e
+  | inr x ↦ behind_no_letter m l g spell value some ls x.0 x.1 x.2
 ]
 
 -- ---- trees that meet a condition, which their first letter tells
@@ -60,11 +60,11 @@ stuck_at_front f spell value spell_z value_z P make h ls r c told tree (l ∷ fr
     record { tree = make tree p; front = l ∷ front; parts = parts; spells = λ k. let q = spells k in (q.0, (h.spells tree p k ∙ q.1.0, q.1.1)); stays = stays }
 
 -- what such trees tell, where the first letter says that the condition is met
-pub restricted : {A X Z : Type 0} (f : List Letter → Reads A) (spell : X → Marked → Marked) (value : X → A) (spell_z : Z → Marked → Marked) (value_z : Z → A) (P : X → Type 0) (make : (x : X) → P x → Z) → Restricts spell value spell_z value_z P make
+pub by_restriction : {A X Z : Type 0} (f : List Letter → Reads A) (spell : X → Marked → Marked) (value : X → A) (spell_z : Z → Marked → Marked) (value_z : Z → A) (P : X → Type 0) (make : (x : X) → P x → Z) → Restricts spell value spell_z value_z P make
     → (ls : List Letter) → ((x : X) (k : Marked) → head (letters (spell x k)) ≡ head ls → P x) → (t : Reads A) → By f spell value ls t → By f spell_z value_z ls t
-restricted f spell value spell_z value_z P make h ls told (Ok x) w =
+by_restriction f spell value spell_z value_z P make h ls told (Ok x) w =
     let p = told w.tree (clean_all x.1) (ap head (ap letters (w.spells (clean_all x.1)) ∙ letters_behind w.front (clean_all x.1) ∙ ap (λ (t : List Letter). w.front ++ t) (letters_cleaned x.1) ∙ sym w.parts)) in
     record { tree = make w.tree p; front = w.front; value = h.values w.tree p ∙ w.value; parts = w.parts; spells = λ k. h.spells w.tree p k ∙ w.spells k; stays = w.stays }
-restricted f spell value spell_z value_z P make h ls told (Err x) w =
+by_restriction f spell value spell_z value_z P make h ls told (Err x) w =
     let q = w.spells [] in
     stuck_at_front f spell value spell_z value_z P make h ls x.1 x.0 told w.tree w.front w.parts w.spells w.stays q.0 q.1.0 q.1.1

@@ -10,7 +10,7 @@ use Rattle.it_syntax.specs.Lines.{spell_ended, SaysAs, to_end, letters_from, col
 use Rattle.it_syntax.specs.AtomReading.{Reads, ◌>>=◌, line_end}
 use Rattle.it_syntax.proofs.Traces.{Traces, traces_bind, traces_map}
 use Rattle.it_syntax.proofs.SpelledIsRead.{Answers, answers_ok, answers_cons, answers_bind}
-use Rattle.it_syntax.proofs.LineEnd.{spell_end, nothing, end_traces}
+use Rattle.it_syntax.proofs.LineEnd.{spell_end, end_value, end_traces}
 use Rattle.it_syntax.proofs.FirstFaults.{first_fault, one_fault, reads_found, reads_only, clean_is_clean, letters_cleaned}
 
 -- A reader of a language, with what its laws are. `Answers` is asked at the line's end alone.
@@ -24,7 +24,7 @@ ended spell x k = spell x (clean End ∷ k)
 ended_traces : {A X : Type 0} (f : List Letter → Reads A) (spell : X → Marked → Marked) (value : X → A) → Traces f spell value → Traces (to_end f) (ended spell) value
 unfolding to_end spell_end ended
 ended_traces f spell value h = traces_bind f (λ a ls. line_end ls >>= λ e. Ok (a, e.1)) (to_end f) spell (λ a. spell_end) (ended spell) value (λ a u. a) value (λ x u. x)
-    (record { is = λ ls. refl; spells = λ y z k. refl; value = λ y z. refl; some = tt; first = h; second = λ a. traces_map line_end (λ u. a) spell_end nothing end_traces })
+    (record { is = λ ls. refl; spells = λ y z k. refl; value = λ y z. refl; some = tt; first = h; second = λ a. traces_map line_end (λ u. a) spell_end end_value end_traces })
 
 ended_answers : {A X : Type 0} (f : List Letter → Reads A) (spell : X → Marked → Marked) (value : X → A) (x : X) → Answers (f (letters (spell_ended spell x))) (spell_ended spell x) (value x) (clean End ∷ []) → Answers (to_end f (letters (ended spell x []))) (ended spell x []) (value x) []
 unfolding to_end line_end ended
@@ -50,13 +50,13 @@ stops_first f spell value h ls c r e = first_fault (to_end f) (ended spell) valu
 
 -- ---- one reading, or one fault
 
-abbrev whole : {A : Type 0} → A × List Letter → Reads A
-whole p = Ok p
+abbrev ok_of : {A : Type 0} → A × List Letter → Reads A
+ok_of p = Ok p
 
-same_value : {A : Type 0} (y z : A) → whole (y, []) ≡ whole (z, []) → y ≡ z
+same_value : {A : Type 0} (y z : A) → ok_of (y, []) ≡ ok_of (z, []) → y ≡ z
 same_value {A} y z e = ap (λ (q : A × List Letter). q.0) (ok_is (y, []) (z, []) e)
   where
-    ok_is : {A : Type 0} (p q : A × List Letter) → whole p ≡ whole q → p ≡ q
+    ok_is : {A : Type 0} (p q : A × List Letter) → ok_of p ≡ ok_of q → p ≡ q
     ok_is p q e = cc
 
 -- a line says one thing
@@ -121,10 +121,10 @@ fault_at spell line ts from n c r f h =
     )
 
 -- a reader that stopped did so at the first fault, and left tokens of the line
-pub refused : {A X : Type 0} (f : List Letter → Reads A) (spell : X → Marked → Marked) (value : X → A) → IsReader f spell value → (line : List ℕ) (ts : LineTokens) (from : ℕ) (text : List ℕ) (us : List Token) (last : Letter) (c : Code)
+pub stop_is_fault : {A X : Type 0} (f : List Letter → Reads A) (spell : X → Marked → Marked) (value : X → A) → IsReader f spell value → (line : List ℕ) (ts : LineTokens) (from : ℕ) (text : List ℕ) (us : List Token) (last : Letter) (c : Code)
     → to_end f (letters_from line ts from) ≡ Err (c, letters_until text us last)
     → (length us ≤ length ts.tokens.items) × FaultAt spell line ts from (column_of (drop (length ts.tokens.items - length us) ts.tokens.items) (column_behind ts.tokens.items ts.misspelling)) c
-refused f spell value h line ts from text us last c e = fault_at spell line ts from (length us) c (letters_until text us last) (stops_first f spell value h (letters_from line ts from) c (letters_until text us last) e) (until_length text us last)
+stop_is_fault f spell value h line ts from text us last c e = fault_at spell line ts from (length us) c (letters_until text us last) (stops_first f spell value h (letters_from line ts from) c (letters_until text us last) e) (until_length text us last)
 
 from_length : (line : List ℕ) (ts : LineTokens) (n : ℕ) → length (letters_from line ts n) ≡ suc (length ts.tokens.items - n)
 from_length line ts n = until_length line (drop n ts.tokens.items) (last_letter ts.misspelling) ∙ ap suc (length-drop n ts.tokens.items)

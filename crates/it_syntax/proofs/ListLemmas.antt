@@ -1,5 +1,5 @@
 -- Names one after the other, as a loop reads them.
-use Rattle.std.proofs.Common.{◌≡◌, ℕ, ◌^◌, ◌<◌, Bool, true, false, List, [], ◌∷◌, length, Option, Some, None, Ok, Err, refl, sym, ap, ◌∙◌, arith}
+use Rattle.std.proofs.Common.{◌≡◌, ℕ, ◌^◌, Bool, true, false, List, [], ◌∷◌, Option, Some, None, Ok, Err, refl, sym, ap, ◌∙◌, arith}
 use Rattle.std.specs.Prelude.{bit_or}
 use Rattle.std.specs.Int.Bits.{or_zero_l, or_zero_r}
 use Rattle.std.proofs.lemmas.Nat.Bits.{bit_at_or, same_from_bits}
@@ -62,11 +62,6 @@ step_ok env s i ls tail after e h = with_more s (2 ^ i) (read_more env after) �
 -- a fault at a name is one of the whole
 pub step_err : (env : Environment) (s : ℕ) (ls tail : List Letter) (f : Fault) → after_comma ls ≡ Some tail → read_name env tail ≡ Err f → with_set s (read_more env ls) ≡ Err f
 step_err env s ls tail f e h = ap (with_set s) (ap (read_more env) (comma_is ls tail e) ∙ comma_more env tail ∙ ap (λ (r : Reads ℕ). r >>= then_more env) h)
-
--- a comma is taken
-pub shorter : (ls t : List Letter) → after_comma ls ≡ Some t → length t < length ls
-shorter (Sym Comma ∷ ls) t e = let same : ls ≡ t = cc in omega (arith, ap length same)
-shorter ls t e = absurd cc
 
 -- the loop stops at a fault
 pub ends : (e : Stop) (env : Environment) (s : ℕ) (ls tail rest : List Letter) (total : Reads ℕ) → after_comma ls ≡ Some tail → StopsAs e rest (read_name env tail) → with_set s (read_more env ls) ≡ total → StopsAs e rest total

@@ -91,17 +91,17 @@ token_or_wrong at bytes m t rest h c =
     let f = found_of at (length h.gap) bytes t rest (wrong_run at bytes m h) c in
     wrong_front m.code t.kind (t.end - t.start) h.body h.wrong (subst (λ (b : List ℕ). IsTokenFront t.kind (t.end - t.start) b) (wrong_body at bytes m h) f.shape)
 
-made : ℕ → Code → Misspelling
-made column code = record { column = column; code = code }
+misspelling_at : ℕ → Code → Misspelling
+misspelling_at column code = record { column = column; code = code }
 
 same_misspelling : (at : ℕ) (bytes : List ℕ) (m k : Misspelling) → Misspelled at bytes m → Misspelled at bytes k → m ≡ k
-unfolding made
+unfolding misspelling_at
 same_misspelling at bytes m k h g =
     let gaps : length h.gap ≡ length g.gap = run_once is_space bytes (length h.gap) (length g.gap) (wrong_run at bytes m h) (wrong_run at bytes k g) in
     let bodies : h.body ≡ g.body = sym (wrong_body at bytes m h) ∙ ap (λ (n : ℕ). drop n bytes) gaps ∙ wrong_body at bytes k g in
     let codes : m.code ≡ k.code = wrong_one m.code k.code g.body (subst (λ (b : List ℕ). IsWrong m.code b) bodies h.wrong) g.wrong in
     let columns : m.column ≡ k.column = omega (arith, h.column, g.column, gaps) in
-    ap (λ (n : ℕ). made n m.code) columns ∙ ap (λ (c : Code). made k.column c) codes
+    ap (λ (n : ℕ). misspelling_at n m.code) columns ∙ ap (λ (c : Code). misspelling_at k.column c) codes
 
 until_one : (at : ℕ) (bytes : List ℕ) (ts us : List Token) (m k : Option Misspelling) → SpellsUntil at bytes ts m → SpellsUntil at bytes us k → (ts ≡ us) × (m ≡ k)
 until_one at bytes [] [] None None h g = (refl, refl)

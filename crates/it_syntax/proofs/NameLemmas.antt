@@ -29,8 +29,8 @@ all_fail p (x ∷ xs) h = (h 0 (omega arith), all_fail p xs (λ k lt. h (suc k) 
 pub nowhere_all : (name : List ℕ) (xs : List (List ℕ)) → index_of xs name ≡ None → AllByRecursion (λ y. bytes_eq name y ≡ false) xs
 nowhere_all name xs none = all_fail (bytes_eq name) xs (nowhere_fails (bytes_eq name) xs [] none)
 
-turned : (xs ys : List ℕ) → bytes_eq xs ys ≡ false → bytes_eq ys xs ≡ false
-turned xs ys e = by_test (bytes_eq ys xs) refl
+differs_both_ways : (xs ys : List ℕ) → bytes_eq xs ys ≡ false → bytes_eq ys xs ≡ false
+differs_both_ways xs ys e = by_test (bytes_eq ys xs) refl
   where
     by_test : (b : Bool) → bytes_eq ys xs ≡ b → b ≡ false
     by_test false h = refl
@@ -51,7 +51,7 @@ all_join p (x ∷ xs) ys h k = (h.0, all_join p xs ys h.1 k)
 pub distinct_insert : (xs ys : List (List ℕ)) (name : List ℕ) → IsDistinct bytes_eq (xs ++ ys) → AllByRecursion (λ y. bytes_eq name y ≡ false) xs → AllByRecursion (λ y. bytes_eq name y ≡ false) ys → IsDistinct bytes_eq (xs ++ name ∷ ys)
 unfolding IsDistinct
 distinct_insert [] ys name d h k = (k, d)
-distinct_insert (x ∷ xs) ys name d h k = (all_insert (bytes_eq x) xs ys name d.0 (turned name x h.0), distinct_insert xs ys name d.1 h.1 k)
+distinct_insert (x ∷ xs) ys name d h k = (all_insert (bytes_eq x) xs ys name d.0 (differs_both_ways name x h.0), distinct_insert xs ys name d.1 h.1 k)
 
 short_insert : (P : List ℕ → Type 0) (xs ys : List (List ℕ)) (name : List ℕ) → All P (xs ++ ys) → P name → All P (xs ++ name ∷ ys)
 short_insert P [] ys name h n = All-cons P name ys n h

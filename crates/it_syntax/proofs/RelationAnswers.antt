@@ -145,26 +145,26 @@ counted_answers zero s b t ts k free w = over_answers s t (spell_terms zero s ts
 counted_answers (suc n) s b t ts k free w = term_then s b t ts n k w (terms_answers n s ts k free w)
 
 -- after an optional sign
-unsigned : (n : ℕ) (s : Scope) (t : WrittenTerm) (ts : List (TermSign × WrittenTerm)) (k : Marked) → read_sign (letters (spell_counted n s t ts k)) ≡ (false, letters (spell_counted n s t ts k))
+no_sign_read : (n : ℕ) (s : Scope) (t : WrittenTerm) (ts : List (TermSign × WrittenTerm)) (k : Marked) → read_sign (letters (spell_counted n s t ts k)) ≡ (false, letters (spell_counted n s t ts k))
 unfolding read_sign
-unsigned zero s Zero ts k = refl
-unsigned zero s (Times n q) ts k = refl
-unsigned zero s (Once (Measure (Entropy a))) ts k = refl
-unsigned zero s (Once (Measure (EntropyGiven a c))) ts k = refl
-unsigned zero s (Once (Measure (Mutual a b))) ts k = refl
-unsigned zero s (Once (Measure (MutualGiven a b c))) ts k = refl
-unsigned zero s (Once (RateOf r)) ts k = subst (λ (ls : List Letter). read_sign ls ≡ (false, ls)) (sym (letters_over (Word r.text) (unknown (s.rates r.text)) (spell_terms zero s ts k))) refl
-unsigned (suc n) s Zero ts k = refl
-unsigned (suc n) s (Times m q) ts k = refl
-unsigned (suc n) s (Once (Measure (Entropy a))) ts k = refl
-unsigned (suc n) s (Once (Measure (EntropyGiven a c))) ts k = refl
-unsigned (suc n) s (Once (Measure (Mutual a b))) ts k = refl
-unsigned (suc n) s (Once (Measure (MutualGiven a b c))) ts k = refl
-unsigned (suc n) s (Once (RateOf r)) ts k = refl
+no_sign_read zero s Zero ts k = refl
+no_sign_read zero s (Times n q) ts k = refl
+no_sign_read zero s (Once (Measure (Entropy a))) ts k = refl
+no_sign_read zero s (Once (Measure (EntropyGiven a c))) ts k = refl
+no_sign_read zero s (Once (Measure (Mutual a b))) ts k = refl
+no_sign_read zero s (Once (Measure (MutualGiven a b c))) ts k = refl
+no_sign_read zero s (Once (RateOf r)) ts k = subst (λ (ls : List Letter). read_sign ls ≡ (false, ls)) (sym (letters_over (Word r.text) (unknown (s.rates r.text)) (spell_terms zero s ts k))) refl
+no_sign_read (suc n) s Zero ts k = refl
+no_sign_read (suc n) s (Times m q) ts k = refl
+no_sign_read (suc n) s (Once (Measure (Entropy a))) ts k = refl
+no_sign_read (suc n) s (Once (Measure (EntropyGiven a c))) ts k = refl
+no_sign_read (suc n) s (Once (Measure (Mutual a b))) ts k = refl
+no_sign_read (suc n) s (Once (Measure (MutualGiven a b c))) ts k = refl
+no_sign_read (suc n) s (Once (RateOf r)) ts k = refl
 
 signed : (o : Option TermSign) (n : ℕ) (s : Scope) (t : WrittenTerm) (ts : List (TermSign × WrittenTerm)) (k : Marked) → read_sign (letters (spell_sign o (spell_counted n s t ts k))) ≡ (is_minus o, letters (spell_counted n s t ts k))
 unfolding read_sign
-signed None n s t ts k = unsigned n s t ts k
+signed None n s t ts k = no_sign_read n s t ts k
 signed (Some Positive) n s t ts k = refl
 signed (Some Negative) n s t ts k = refl
 

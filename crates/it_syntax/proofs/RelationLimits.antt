@@ -36,11 +36,11 @@ quantity_sure s n m k [] = tt
 quantity_sure s n m k (Bad c ∷ ls) = tt
 quantity_sure s n m k (l ∷ ls) = tt
 
-abbrev counted : Bool → ℕ → Atom × List Letter → Reads Term
-counted b number a = Ok (record { negative = b; number = number; atom = a.0 }, a.1)
+abbrev counted_term : Bool → ℕ → Atom × List Letter → Reads Term
+counted_term b number a = Ok (record { negative = b; number = number; atom = a.0 }, a.1)
 
-counted_sure : (s : Scope) (n m : ℕ) → Covers s n m → (b : Bool) (number : ℕ) (ls : List Letter) → Sure (TermHasSets n m) (read_quantity s ls >>= counted b number)
-counted_sure s n m k b number ls = sure_bind (HasSets n m) (TermHasSets n m) (read_quantity s ls) (counted b number) (quantity_sure s n m k ls) (λ a ha. ha)
+counted_sure : (s : Scope) (n m : ℕ) → Covers s n m → (b : Bool) (number : ℕ) (ls : List Letter) → Sure (TermHasSets n m) (read_quantity s ls >>= counted_term b number)
+counted_sure s n m k b number ls = sure_bind (HasSets n m) (TermHasSets n m) (read_quantity s ls) (counted_term b number) (quantity_sure s n m k ls) (λ a ha. ha)
 
 after_number_sure : (s : Scope) (n m : ℕ) → Covers s n m → (b : Bool) (number : ℕ) (ls : List Letter) → Sure (TermHasSets n m) (after_number s b number ls)
 unfolding after_number
@@ -111,6 +111,11 @@ scope_covers v rates = record { variables = knows_names v; rates = λ w i. known
     known w i true e = (position-Some (bytes_eq w) v.rates i [] e).0
     known w i false e = absurd cc
 
+-- a scope without rates covers none
+pub variables_covered : (v : NamesView) → Covers (scope_of v false) (length v.variables) 0
+unfolding scope_of
+variables_covered v = record { variables = knows_names v; rates = λ w i (e : None ≡ Some i). absurd cc }
+
 -- a sum that is read has at most so many terms
 pub sum_few : (v : NamesView) (rates : Bool) (most : ℕ) (ls r : List Letter) (ts : List Term) → read_sum most (scope_of v rates) ls ≡ Ok (ts, r) → length ts ≤ most
 sum_few v rates most ls r ts e = (subst (Sure (AreFew (length v.variables) (length v.rates) most)) e (sum_sure (scope_of v rates) (length v.variables) (length v.rates) most (scope_covers v rates) ls)).0
@@ -118,8 +123,8 @@ sum_few v rates most ls r ts e = (subst (Sure (AreFew (length v.variables) (leng
 abbrev Limited : NamesView → RelationView × List Letter → Type 0
 Limited v y = IsRelationOf (length v.variables) (length v.rates) y.0
 
-limited : (v : NamesView) (rates : Bool) (ls : List Letter) → Sure (Limited v) (read_relation (scope_of v rates) ls)
-limited v rates ls = weaker (read_relation (scope_of v rates) ls) (relation_line_sure (scope_of v rates) (length v.variables) (length v.rates) (scope_covers v rates) ls)
+relation_within : (v : NamesView) (rates : Bool) (ls : List Letter) → Sure (Limited v) (read_relation (scope_of v rates) ls)
+relation_within v rates ls = weaker (read_relation (scope_of v rates) ls) (relation_line_sure (scope_of v rates) (length v.variables) (length v.rates) (scope_covers v rates) ls)
   where
     weaker : (r : Reads RelationView) → Sure (IsWithinLimits (length v.variables) (length v.rates)) r → Sure (Limited v) r
     weaker (Ok y) h = record { few = h.0; left = h.1; right = h.2 }
@@ -130,4 +135,4 @@ pub relation_limited : (v : NamesView) (rates : Bool) (ls r : List Letter) (y : 
 unfolding to_end
 relation_limited v rates ls r y e =
     let f = read_relation (scope_of v rates) in
-    subst (Sure (Limited v)) e (sure_bind (Limited v) (Limited v) (f ls) (λ x. line_end x.1 >>= λ e. Ok (x.0, e.1)) (limited v rates ls) (λ x hx. sure_bind Any (Limited v) (line_end x.1) (λ e. Ok (x.0, e.1)) (any (line_end x.1)) (λ e u. hx)))
+    subst (Sure (Limited v)) e (sure_bind (Limited v) (Limited v) (f ls) (λ x. line_end x.1 >>= λ e. Ok (x.0, e.1)) (relation_within v rates ls) (λ x hx. sure_bind Any (Limited v) (line_end x.1) (λ e. Ok (x.0, e.1)) (any (line_end x.1)) (λ e u. hx)))

@@ -18,8 +18,8 @@ use Rattle.it_syntax.specs.WrittenAtoms.{Entropy, Mutual, TermSign, Positive, Ne
 use Rattle.it_syntax.specs.WrittenRelations.{Scope, WrittenQuantity, Measure, RateOf, WrittenTerm, Zero, Once, Times, WrittenSum, WrittenRelation, spell_quantity, spell_term, spell_terms, spell_counted, spell_sum, compare_letter, most_terms, spell_relation, quantity_of, term_of, terms_of, sum_of, relation_of}
 use Rattle.it_syntax.specs.AtomReading.{Reads, ◌>>=◌, read_atom, read_sign}
 use Rattle.it_syntax.specs.RelationReading.{rate_or_fault, read_quantity, after_number, read_term, surplus, read_over, read_terms, read_counted, read_sum, read_compare, read_relation}
-use Rattle.it_syntax.proofs.Traces.{Went, Stuck, By, Traces, traces_bind, traces_map, letter_then, switch, renamed}
-use Rattle.it_syntax.proofs.AtomTraces.{begun, empty, stuck_here, stuck_none, some_list}
+use Rattle.it_syntax.proofs.Traces.{Went, Stuck, By, Traces, traces_bind, traces_map, letter_then, switch, by_renaming}
+use Rattle.it_syntax.proofs.AtomTraces.{for_same_head, for_no_head, stuck_here, stuck_none, some_list}
 use Rattle.it_syntax.proofs.SideTraces.{atom_traces}
 
 -- ---- quantities
@@ -27,17 +27,17 @@ use Rattle.it_syntax.proofs.SideTraces.{atom_traces}
 some_quantity : WrittenQuantity
 some_quantity = Measure (Entropy some_list)
 
-abbrev chosen : Scope → List ℕ → Bool → Option ℕ → List Letter → Reads Atom
-chosen s w h o ls = cond h (read_atom s.variables (Word w ∷ ls)) (rate_or_fault w o ls)
+abbrev word_or_rate : Scope → List ℕ → Bool → Option ℕ → List Letter → Reads Atom
+word_or_rate s w h o ls = cond h (read_atom s.variables (Word w ∷ ls)) (rate_or_fault w o ls)
 
-word_is : (s : Scope) (w : List ℕ) (h : Bool) (o : Option ℕ) → is_measure w ≡ h → s.rates w ≡ o → (ls : List Letter) → read_quantity s (Word w ∷ ls) ≡ chosen s w h o ls
+word_is : (s : Scope) (w : List ℕ) (h : Bool) (o : Option ℕ) → is_measure w ≡ h → s.rates w ≡ o → (ls : List Letter) → read_quantity s (Word w ∷ ls) ≡ word_or_rate s w h o ls
 unfolding read_quantity
-word_is s w h o eh eo ls = ap (λ (b : Bool). chosen s w b (s.rates w) ls) eh ∙ ap (λ (p : Option ℕ). chosen s w h p ls) eo
+word_is s w h o eh eo ls = ap (λ (b : Bool). word_or_rate s w b (s.rates w) ls) eh ∙ ap (λ (p : Option ℕ). word_or_rate s w h p ls) eo
 
-quantity_by : (s : Scope) (w : List ℕ) (ls : List Letter) (h : Bool) (o : Option ℕ) → is_measure w ≡ h → s.rates w ≡ o → By (read_quantity s) (spell_quantity s) (quantity_of s) (Word w ∷ ls) (chosen s w h o ls)
+quantity_by : (s : Scope) (w : List ℕ) (ls : List Letter) (h : Bool) (o : Option ℕ) → is_measure w ≡ h → s.rates w ≡ o → By (read_quantity s) (spell_quantity s) (quantity_of s) (Word w ∷ ls) (word_or_rate s w h o ls)
 quantity_by s w ls true o eh eo =
-    renamed (read_quantity s) (spell_atom s.variables) (spell_quantity s) (atom_of s.variables) (quantity_of s) Measure (Word w ∷ ls) (λ z k. refl) (λ z. refl) (read_atom s.variables (Word w ∷ ls))
-    (switch (read_atom s.variables) (read_quantity s) (spell_atom s.variables) (atom_of s.variables) (Word w ∷ ls) (begun (λ t. read_quantity s t ≡ read_atom s.variables t) (Word w) (word_is s w true o eh eo)) (read_atom s.variables (Word w ∷ ls)) (atom_traces s.variables (Word w ∷ ls)))
+    by_renaming (read_quantity s) (spell_atom s.variables) (spell_quantity s) (atom_of s.variables) (quantity_of s) Measure (Word w ∷ ls) (λ z k. refl) (λ z. refl) (read_atom s.variables (Word w ∷ ls))
+    (switch (read_atom s.variables) (read_quantity s) (spell_atom s.variables) (atom_of s.variables) (Word w ∷ ls) (for_same_head (λ t. read_quantity s t ≡ read_atom s.variables t) (Word w) (word_is s w true o eh eo)) (read_atom s.variables (Word w ∷ ls)) (atom_traces s.variables (Word w ∷ ls)))
 quantity_by s w ls false (Some i) eh eo = record {
   tree = RateOf (record { text = w; is_name = eh });
   front = Word w ∷ [];
@@ -51,7 +51,7 @@ quantity_by s w ls false None eh eo = record {
   front = [];
   parts = refl;
   spells = λ k. ((Word w, unknown (s.rates w)) ∷ k, (refl, inr (Word w, k, (ap (λ (p : Option ℕ). (Word w, unknown p) ∷ k) eo, refl))));
-  stays = begun (λ t. read_quantity s t ≡ Err (codes.Name, t)) (Word w) (word_is s w false None eh eo);
+  stays = for_same_head (λ t. read_quantity s t ≡ Err (codes.Name, t)) (Word w) (word_is s w false None eh eo);
 }
 
 quantity_traces : (s : Scope) → Traces (read_quantity s) (spell_quantity s) (quantity_of s)
@@ -62,23 +62,23 @@ quantity_traces s (l ∷ ls) = stuck_here (read_quantity s) (spell_quantity s) s
 
 -- ---- terms
 
-abbrev counted : Bool → ℕ → Atom → Term
-counted b n a = record { negative = b; number = n; atom = a }
+abbrev counted_term : Bool → ℕ → Atom → Term
+counted_term b n a = record { negative = b; number = n; atom = a }
 
 abbrev times : Scope → Bool → ℕ → List Letter → Reads Term
-times s b n ls = read_quantity s ls >>= λ a. Ok (counted b n a.0, a.1)
+times s b n ls = read_quantity s ls >>= λ a. Ok (counted_term b n a.0, a.1)
 
-times_traces : (s : Scope) (b : Bool) (n : ℕ) → Traces (times s b n) (spell_quantity s) (λ x. counted b n (quantity_of s x))
-times_traces s b n = traces_map (read_quantity s) (counted b n) (spell_quantity s) (quantity_of s) (quantity_traces s)
+times_traces : (s : Scope) (b : Bool) (n : ℕ) → Traces (times s b n) (spell_quantity s) (λ x. counted_term b n (quantity_of s x))
+times_traces s b n = traces_map (read_quantity s) (counted_term b n) (spell_quantity s) (quantity_of s) (quantity_traces s)
 
 -- behind a number
-number_then : (s : Scope) (b : Bool) (n : ℕ) (ls : List Letter) → By (after_number s b n) (spell_quantity s) (λ x. counted b n (quantity_of s x)) ls (after_number s b n ls) → By (read_term s b) (spell_term s) (term_of s b) (Number n ∷ ls) (after_number s b n ls)
+number_then : (s : Scope) (b : Bool) (n : ℕ) (ls : List Letter) → By (after_number s b n) (spell_quantity s) (λ x. counted_term b n (quantity_of s x)) ls (after_number s b n ls) → By (read_term s b) (spell_term s) (term_of s b) (Number n ∷ ls) (after_number s b n ls)
 unfolding read_term
-number_then s b n ls h = letter_then (read_term s b) (after_number s b n) (Number n) (spell_quantity s) (spell_term s) (λ x. counted b n (quantity_of s x)) (term_of s b) (Times n) ls (λ t. refl) (λ z k. refl) (λ z. refl) (after_number s b n ls) h
+number_then s b n ls h = letter_then (read_term s b) (after_number s b n) (Number n) (spell_quantity s) (spell_term s) (λ x. counted_term b n (quantity_of s x)) (term_of s b) (Times n) ls (λ t. refl) (λ z k. refl) (λ z. refl) (after_number s b n ls) h
 
-number_word : (s : Scope) (b : Bool) (n : ℕ) (w : List ℕ) (ls : List Letter) → By (after_number s b n) (spell_quantity s) (λ x. counted b n (quantity_of s x)) (Word w ∷ ls) (times s b n (Word w ∷ ls))
+number_word : (s : Scope) (b : Bool) (n : ℕ) (w : List ℕ) (ls : List Letter) → By (after_number s b n) (spell_quantity s) (λ x. counted_term b n (quantity_of s x)) (Word w ∷ ls) (times s b n (Word w ∷ ls))
 unfolding after_number
-number_word s b n w ls = switch (times s b n) (after_number s b n) (spell_quantity s) (λ x. counted b n (quantity_of s x)) (Word w ∷ ls) (begun (λ t. after_number s b n t ≡ times s b n t) (Word w) (λ t. refl)) (times s b n (Word w ∷ ls)) (times_traces s b n (Word w ∷ ls))
+number_word s b n w ls = switch (times s b n) (after_number s b n) (spell_quantity s) (λ x. counted_term b n (quantity_of s x)) (Word w ∷ ls) (for_same_head (λ t. after_number s b n t ≡ times s b n t) (Word w) (λ t. refl)) (times s b n (Word w ∷ ls)) (times_traces s b n (Word w ∷ ls))
 
 zero_alone : (s : Scope) (b : Bool) (ls : List Letter) → ((t : List Letter) → head t ≡ head ls → read_term s b (Number 0 ∷ t) ≡ Ok (term_of s b Zero, t)) → Went (read_term s b) (spell_term s) (term_of s b) (Number 0 ∷ ls) (term_of s b Zero) ls
 zero_alone s b ls h = record { tree = Zero; front = Number 0 ∷ []; value = refl; parts = refl; spells = λ k. refl; stays = h }
@@ -89,26 +89,26 @@ no_quantity s b n l ls c h o = record {
   front = Number n ∷ [];
   parts = refl;
   spells = λ k. (spell_quantity s some_quantity k, (refl, inl o));
-  stays = begun (λ t. read_term s b (Number n ∷ t) ≡ Err (c, t)) l h;
+  stays = for_same_head (λ t. read_term s b (Number n ∷ t) ≡ Err (c, t)) l h;
 }
 
 term_traces : (s : Scope) (b : Bool) → Traces (read_term s b) (spell_term s) (term_of s b)
 unfolding read_term after_number read_quantity
 term_traces s b (Number n ∷ Word w ∷ ls) = number_then s b n (Word w ∷ ls) (number_word s b n w ls)
-term_traces s b (Number zero ∷ []) = zero_alone s b [] (empty (λ t. read_term s b (Number 0 ∷ t) ≡ Ok (term_of s b Zero, t)) refl)
-term_traces s b (Number zero ∷ l ∷ ls) = zero_alone s b (l ∷ ls) (begun (λ t. read_term s b (Number 0 ∷ t) ≡ Ok (term_of s b Zero, t)) l (λ t. refl))
+term_traces s b (Number zero ∷ []) = zero_alone s b [] (for_no_head (λ t. read_term s b (Number 0 ∷ t) ≡ Ok (term_of s b Zero, t)) refl)
+term_traces s b (Number zero ∷ l ∷ ls) = zero_alone s b (l ∷ ls) (for_same_head (λ t. read_term s b (Number 0 ∷ t) ≡ Ok (term_of s b Zero, t)) l (λ t. refl))
 term_traces s b (Number (suc n) ∷ []) = record {
   tree = Times (suc n) some_quantity;
   front = Number (suc n) ∷ [];
   parts = refl;
   spells = λ k. (spell_quantity s some_quantity k, (refl, inl refl));
-  stays = empty (λ t. read_term s b (Number (suc n) ∷ t) ≡ Err (codes.Word, t)) refl;
+  stays = for_no_head (λ t. read_term s b (Number (suc n) ∷ t) ≡ Err (codes.Word, t)) refl;
 }
 term_traces s b (Number (suc n) ∷ l ∷ ls) = no_quantity s b (suc n) l ls _ (λ t. refl) refl
 term_traces s b [] = stuck_none (read_term s b) (spell_term s) Zero refl
 term_traces s b (Word w ∷ ls) =
-    renamed (read_term s b) (spell_quantity s) (spell_term s) (λ x. counted b 1 (quantity_of s x)) (term_of s b) Once (Word w ∷ ls) (λ z k. refl) (λ z. refl) (times s b 1 (Word w ∷ ls))
-    (switch (times s b 1) (read_term s b) (spell_quantity s) (λ x. counted b 1 (quantity_of s x)) (Word w ∷ ls) (begun (λ t. read_term s b t ≡ times s b 1 t) (Word w) (λ t. refl)) (times s b 1 (Word w ∷ ls)) (times_traces s b 1 (Word w ∷ ls)))
+    by_renaming (read_term s b) (spell_quantity s) (spell_term s) (λ x. counted_term b 1 (quantity_of s x)) (term_of s b) Once (Word w ∷ ls) (λ z k. refl) (λ z. refl) (times s b 1 (Word w ∷ ls))
+    (switch (times s b 1) (read_term s b) (spell_quantity s) (λ x. counted_term b 1 (quantity_of s x)) (Word w ∷ ls) (for_same_head (λ t. read_term s b t ≡ times s b 1 t) (Word w) (λ t. refl)) (times s b 1 (Word w ∷ ls)) (times_traces s b 1 (Word w ∷ ls)))
 term_traces s b (l ∷ ls) = stuck_here (read_term s b) (spell_term s) Zero l ls _ (λ t. refl) refl
 
 -- ---- terms one after the other
@@ -152,7 +152,7 @@ over_at s b l ls t c rest h e = record {
   front = [];
   parts = refl;
   spells = λ k. (mark_surplus (spell_term s t k), (refl, inr (l, rest k, (h k, refl))));
-  stays = begun (λ r. read_over s r ≡ Err (c, r)) l e;
+  stays = for_same_head (λ r. read_over s r ≡ Err (c, r)) l e;
 }
 
 abbrev behind_joint : Scope → Marked → Marked
@@ -194,12 +194,12 @@ terms_traces : (n : ℕ) (s : Scope) → Traces (read_terms n s) (spell_terms n 
 unfolding read_terms
 terms_traces zero s (Sym Plus ∷ ls) = letter_then (read_terms zero s) (read_over s) (Sym Plus) (spell_over s) (spell_terms zero s) (term_more_of s false) (terms_of s) up_more ls (λ t. refl) (λ z k. refl) (λ z. refl) (read_over s ls) (over_traces s false ls)
 terms_traces zero s (Sym Minus ∷ ls) = letter_then (read_terms zero s) (read_over s) (Sym Minus) (spell_over s) (spell_terms zero s) (term_more_of s true) (terms_of s) down_more ls (λ t. refl) (λ z k. refl) (λ z. refl) (read_over s ls) (over_traces s true ls)
-terms_traces zero s [] = no_further zero s [] (empty (λ t. read_terms zero s t ≡ Ok ([], t)) refl)
-terms_traces zero s (l ∷ ls) = no_further zero s (l ∷ ls) (begun (λ t. read_terms zero s t ≡ Ok ([], t)) l (λ t. refl))
+terms_traces zero s [] = no_further zero s [] (for_no_head (λ t. read_terms zero s t ≡ Ok ([], t)) refl)
+terms_traces zero s (l ∷ ls) = no_further zero s (l ∷ ls) (for_same_head (λ t. read_terms zero s t ≡ Ok ([], t)) l (λ t. refl))
 terms_traces (suc n) s (Sym Plus ∷ ls) = letter_then (read_terms (suc n) s) (term_more n s false) (Sym Plus) (spell_term_more n s) (spell_terms (suc n) s) (term_more_of s false) (terms_of s) up_more ls (λ t. refl) (λ z k. refl) (λ z. refl) (term_more n s false ls) (term_more_traces n s false (terms_traces n s) ls)
 terms_traces (suc n) s (Sym Minus ∷ ls) = letter_then (read_terms (suc n) s) (term_more n s true) (Sym Minus) (spell_term_more n s) (spell_terms (suc n) s) (term_more_of s true) (terms_of s) down_more ls (λ t. refl) (λ z k. refl) (λ z. refl) (term_more n s true ls) (term_more_traces n s true (terms_traces n s) ls)
-terms_traces (suc n) s [] = no_further (suc n) s [] (empty (λ t. read_terms (suc n) s t ≡ Ok ([], t)) refl)
-terms_traces (suc n) s (l ∷ ls) = no_further (suc n) s (l ∷ ls) (begun (λ t. read_terms (suc n) s t ≡ Ok ([], t)) l (λ t. refl))
+terms_traces (suc n) s [] = no_further (suc n) s [] (for_no_head (λ t. read_terms (suc n) s t ≡ Ok ([], t)) refl)
+terms_traces (suc n) s (l ∷ ls) = no_further (suc n) s (l ∷ ls) (for_same_head (λ t. read_terms (suc n) s t ≡ Ok ([], t)) l (λ t. refl))
 
 -- ---- sums
 
@@ -208,24 +208,24 @@ spell_first n s t k = spell_counted n s t.0 t.1 k
 
 counted_traces : (n : ℕ) (s : Scope) (b : Bool) → Traces (read_counted n s b) (spell_first n s) (term_more_of s b)
 unfolding read_counted
-counted_traces zero s b ls = renamed (read_counted zero s b) (spell_over s) (spell_first zero s) (term_more_of s b) (term_more_of s b) (λ t. t) ls (λ z k. refl) (λ z. refl) (read_over s ls)
+counted_traces zero s b ls = by_renaming (read_counted zero s b) (spell_over s) (spell_first zero s) (term_more_of s b) (term_more_of s b) (λ t. t) ls (λ z k. refl) (λ z. refl) (read_over s ls)
     (switch (read_over s) (read_counted zero s b) (spell_over s) (term_more_of s b) ls (λ t e. refl) (read_over s ls) (over_traces s b ls))
-counted_traces (suc n) s b ls = renamed (read_counted (suc n) s b) (spell_term_more n s) (spell_first (suc n) s) (term_more_of s b) (term_more_of s b) (λ t. t) ls (λ z k. refl) (λ z. refl) (term_more n s b ls)
+counted_traces (suc n) s b ls = by_renaming (read_counted (suc n) s b) (spell_term_more n s) (spell_first (suc n) s) (term_more_of s b) (term_more_of s b) (λ t. t) ls (λ z k. refl) (λ z. refl) (term_more n s b ls)
     (switch (term_more n s b) (read_counted (suc n) s b) (spell_term_more n s) (term_more_of s b) ls (λ t e. refl) (term_more n s b ls) (term_more_traces n s b (terms_traces n s) ls))
 
 abbrev sum_made : Option TermSign → Terms → WrittenSum
 sum_made o t = record { sign = o; first = t.0; more = t.1 }
 
-unsigned : (n : ℕ) (s : Scope) (ls : List Letter) → ((t : List Letter) → head t ≡ head ls → read_sum n s t ≡ read_counted n s false t) → By (read_sum n s) (spell_sum n s) (sum_of s) ls (read_counted n s false ls)
-unsigned n s ls h = switch (read_counted n s false) (read_sum n s) (spell_sum n s) (sum_of s) ls h (read_counted n s false ls)
-    (renamed (read_counted n s false) (spell_first n s) (spell_sum n s) (term_more_of s false) (sum_of s) (sum_made None) ls (λ z k. refl) (λ z. refl) (read_counted n s false ls) (counted_traces n s false ls))
+sum_without_sign : (n : ℕ) (s : Scope) (ls : List Letter) → ((t : List Letter) → head t ≡ head ls → read_sum n s t ≡ read_counted n s false t) → By (read_sum n s) (spell_sum n s) (sum_of s) ls (read_counted n s false ls)
+sum_without_sign n s ls h = switch (read_counted n s false) (read_sum n s) (spell_sum n s) (sum_of s) ls h (read_counted n s false ls)
+    (by_renaming (read_counted n s false) (spell_first n s) (spell_sum n s) (term_more_of s false) (sum_of s) (sum_made None) ls (λ z k. refl) (λ z. refl) (read_counted n s false ls) (counted_traces n s false ls))
 
 sum_traces : (n : ℕ) (s : Scope) → Traces (read_sum n s) (spell_sum n s) (sum_of s)
 unfolding read_sum read_sign
 sum_traces n s (Sym Plus ∷ ls) = letter_then (read_sum n s) (read_counted n s false) (Sym Plus) (spell_first n s) (spell_sum n s) (term_more_of s false) (sum_of s) (sum_made (Some Positive)) ls (λ t. refl) (λ z k. refl) (λ z. refl) (read_counted n s false ls) (counted_traces n s false ls)
 sum_traces n s (Sym Minus ∷ ls) = letter_then (read_sum n s) (read_counted n s true) (Sym Minus) (spell_first n s) (spell_sum n s) (term_more_of s true) (sum_of s) (sum_made (Some Negative)) ls (λ t. refl) (λ z k. refl) (λ z. refl) (read_counted n s true ls) (counted_traces n s true ls)
-sum_traces n s [] = unsigned n s [] (empty (λ t. read_sum n s t ≡ read_counted n s false t) refl)
-sum_traces n s (l ∷ ls) = unsigned n s (l ∷ ls) (begun (λ t. read_sum n s t ≡ read_counted n s false t) l (λ t. refl))
+sum_traces n s [] = sum_without_sign n s [] (for_no_head (λ t. read_sum n s t ≡ read_counted n s false t) refl)
+sum_traces n s (l ∷ ls) = sum_without_sign n s (l ∷ ls) (for_same_head (λ t. read_sum n s t ≡ read_counted n s false t) l (λ t. refl))
 
 -- ---- relations
 
@@ -248,27 +248,27 @@ terms_counted s (t ∷ ts) = ap suc (terms_counted s ts)
 zero_sum : WrittenSum
 zero_sum = record { sign = None; first = Zero; more = [] }
 
-abbrev compared : List Term → Sign → List Term → RelationView
-compared left sign right = record { left = left; sign = sign; right = right }
+abbrev relation_of_sides : List Term → Sign → List Term → RelationView
+relation_of_sides left sign right = record { left = left; sign = sign; right = right }
 
 -- what stands behind the left side
 abbrev Behind : Type 0
 Behind = Sign × WrittenSum
 
 abbrev behind_left : Scope → List Term → List Letter → Reads RelationView
-behind_left s left ls = read_compare ls >>= λ sign. read_sum (most_terms - length left) s sign.1 >>= λ right. Ok (compared left sign.0 right.0, right.1)
+behind_left s left ls = read_compare ls >>= λ sign. read_sum (most_terms - length left) s sign.1 >>= λ right. Ok (relation_of_sides left sign.0 right.0, right.1)
 
 abbrev spell_behind : Scope → List Term → Behind → Marked → Marked
 spell_behind s left p k = spell_compare p.0 (spell_sum (most_terms - length left) s p.1 k)
 
 abbrev behind_of : Scope → List Term → Behind → RelationView
-behind_of s left p = compared left p.0 (sum_of s p.1)
+behind_of s left p = relation_of_sides left p.0 (sum_of s p.1)
 
 behind_traces : (s : Scope) (left : List Term) → Traces (behind_left s left) (spell_behind s left) (behind_of s left)
 behind_traces s left =
     let n = most_terms - length left in
-    traces_bind read_compare (λ sign ls. read_sum n s ls >>= λ right. Ok (compared left sign right.0, right.1)) (behind_left s left) spell_compare (λ sign. spell_sum n s) (spell_behind s left) (λ sign. sign) (λ sign e. compared left sign (sum_of s e)) (behind_of s left) (λ sign e. (sign, e))
-    (record { is = λ ls. refl; spells = λ y z k. refl; value = λ y z. refl; some = zero_sum; first = compare_traces; second = λ sign. traces_map (read_sum n s) (compared left sign) (spell_sum n s) (sum_of s) (sum_traces n s) })
+    traces_bind read_compare (λ sign ls. read_sum n s ls >>= λ right. Ok (relation_of_sides left sign right.0, right.1)) (behind_left s left) spell_compare (λ sign. spell_sum n s) (spell_behind s left) (λ sign. sign) (λ sign e. relation_of_sides left sign (sum_of s e)) (behind_of s left) (λ sign e. (sign, e))
+    (record { is = λ ls. refl; spells = λ y z k. refl; value = λ y z. refl; some = zero_sum; first = compare_traces; second = λ sign. traces_map (read_sum n s) (relation_of_sides left sign) (spell_sum n s) (sum_of s) (sum_traces n s) })
 
 relation_made : WrittenSum → Behind → WrittenRelation
 relation_made left p = record { left = left; sign = p.0; right = p.1 }

@@ -35,14 +35,14 @@ passes_cons l m k p = record { front = l ∷ p.front; is = ap (λ (q : Marked). 
 marks_cons : (l : Letter) (m : Marked) (f : Fault) → Marks m f → Marks (clean l ∷ m) f
 marks_cons l m f p = record { front = l ∷ p.front; letter = p.letter; rest = p.rest; is = ap (λ (q : Marked). clean l ∷ q) p.is; left = p.left }
 
-joined : (p q : List Letter) (m n k : Marked) → m ≡ clean_all p ++ n → n ≡ clean_all q ++ k → m ≡ clean_all (p ++ q) ++ k
-joined p q m n k g h = g ∙ ap (λ (t : Marked). clean_all p ++ t) h ∙ rw (cleaned_append p q, append_assoc) refl
+append_cleaned : (p q : List Letter) (m n k : Marked) → m ≡ clean_all p ++ n → n ≡ clean_all q ++ k → m ≡ clean_all (p ++ q) ++ k
+append_cleaned p q m n k g h = g ∙ ap (λ (t : Marked). clean_all p ++ t) h ∙ rw (cleaned_append p q, append_assoc) refl
 
 passes_then : (m n k : Marked) → Clears m n → Clears n k → Clears m k
-passes_then m n k p q = record { front = p.front ++ q.front; is = joined p.front q.front m n k p.is q.is }
+passes_then m n k p q = record { front = p.front ++ q.front; is = append_cleaned p.front q.front m n k p.is q.is }
 
 marks_then : (m n : Marked) (f : Fault) → Clears m n → Marks n f → Marks m f
-marks_then m n f p q = record { front = p.front ++ q.front; letter = q.letter; rest = q.rest; is = joined p.front q.front m n ((q.letter, Some f.0) ∷ q.rest) p.is q.is; left = q.left }
+marks_then m n f p q = record { front = p.front ++ q.front; letter = q.letter; rest = q.rest; is = append_cleaned p.front q.front m n ((q.letter, Some f.0) ∷ q.rest) p.is q.is; left = q.left }
 
 -- nothing more to read
 pub answers_ok : {A : Type 0} (x : A) (k : Marked) → Answers (Ok (x, letters k)) k x k
@@ -109,9 +109,9 @@ list_answers env x k s =
     (name_answers env x.first n)
     (answers_bind (read_more env (letters n)) (λ m. Ok (bit_or (2 ^ index_or (env x.first)) m.0, m.1)) n k k (more_set env x.more) y (more_answers env x.more k s) (answers_ok y k))
 
-closing : {A : Type 0} (x : A) (k : Marked) → Answers (close_paren x (letters (clean (Sym RightParen) ∷ k))) (clean (Sym RightParen) ∷ k) x k
+close_answers : {A : Type 0} (x : A) (k : Marked) → Answers (close_paren x (letters (clean (Sym RightParen) ∷ k))) (clean (Sym RightParen) ∷ k) x k
 unfolding close_paren
-closing x k = answers_cons (Sym RightParen) (Ok (x, letters k)) k x k (answers_ok x k)
+close_answers x k = answers_cons (Sym RightParen) (Ok (x, letters k)) k x k (answers_ok x k)
 
 -- a list of names, and what is read behind it
 pub list_then : {A : Type 0} (env : Environment) (a : WrittenList) (f : ℕ → List Letter → Reads A) (n k : Marked) (y : A) → NoComma n → Answers (f (list_set env a) (letters n)) n y k → Answers (read_list env (letters (spell_list env a n)) >>= λ x. f x.0 x.1) (spell_list env a n) y k
@@ -126,7 +126,7 @@ unfolding read_given_set bar_or_close
 given_some env c k =
     let o : Marked = clean (Sym RightParen) ∷ k in
     answers_cons (Sym Bar) _ (spell_list env c o) (list_set env c) k
-    (list_then env c close_paren o k (list_set env c) tt (closing (list_set env c) k))
+    (list_then env c close_paren o k (list_set env c) tt (close_answers (list_set env c) k))
 
 -- what is behind the first list of H, and behind the second of I
 joint_then : (env : Environment) (a : WrittenList) (s : ℕ) (n k : Marked) → NoComma n → Answers (read_given_set env (letters n)) n s k → Answers (read_joint env (Sym LeftParen ∷ letters (spell_list env a n))) (spell_list env a n) (atoms.Entropy (list_set env a) s) k

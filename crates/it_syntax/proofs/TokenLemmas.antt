@@ -91,14 +91,14 @@ starts_is (b ∷ text) (c ∷ bytes) e =
     let rest = starts_is text bytes both.1 in
     rw same (ap (λ (t : List ℕ). c ∷ t) rest)
 
-chosen : {A : Type 0} (b : Bool) (x y z : A) → cond b x y ≡ z → ((b ≡ true) × (x ≡ z)) ⊎ ((b ≡ false) × (y ≡ z))
-chosen true x y z e = inl (refl, e)
-chosen false x y z e = inr (refl, e)
+cond_either : {A : Type 0} (b : Bool) (x y z : A) → cond b x y ≡ z → ((b ≡ true) × (x ≡ z)) ⊎ ((b ≡ false) × (y ≡ z))
+cond_either true x y z e = inl (refl, e)
+cond_either false x y z e = inr (refl, e)
 
 find_is : (ss : List Symbol) (bytes : List ℕ) (s : Symbol) → find_symbol ss bytes ≡ Some s → starts_with (symbol_text s) bytes ≡ true
 find_is [] bytes s e = absurd cc
 find_is (x ∷ ss) bytes s e =
-    elim (chosen (starts_with (symbol_text x) bytes) (Some x) (find_symbol ss bytes) (Some s) e) [
+    elim (cond_either (starts_with (symbol_text x) bytes) (Some x) (find_symbol ss bytes) (Some s) e) [
       | inl p ↦ let same : x ≡ s = cc in subst (λ (y : Symbol). starts_with (symbol_text y) bytes ≡ true) same p.0
       | inr p ↦ find_is ss bytes s p.1
     ]
@@ -265,12 +265,12 @@ cut_made at g n bytes t r s start end =
       end = end ∙ omega (arith, length-take n (drop g bytes), x.1.1);
     }
 
-made : TokenKind → ℕ → ℕ → Token
-made k s e = record { kind = k; start = s; end = e }
+token_at : TokenKind → ℕ → ℕ → Token
+token_at k s e = record { kind = k; start = s; end = e }
 
 same_token : (t u : Token) → t.kind ≡ u.kind → t.start ≡ u.start → t.end ≡ u.end → t ≡ u
-unfolding made
-same_token t u p q r = ap (λ (k : TokenKind). made k t.start t.end) p ∙ ap (λ (n : ℕ). made u.kind n t.end) q ∙ ap (λ (n : ℕ). made u.kind u.start n) r
+unfolding token_at
+same_token t u p q r = ap (λ (k : TokenKind). token_at k t.start t.end) p ∙ ap (λ (n : ℕ). token_at u.kind n t.end) q ∙ ap (λ (n : ℕ). token_at u.kind u.start n) r
 
 -- a cut is one
 pub one_cut : (at : ℕ) (bytes : List ℕ) (g : ℕ) (t u : Token) (r s : List ℕ) → IsLongestRun is_space bytes g → Cut at bytes t r → Cut at bytes u s → (t ≡ u) × (r ≡ s)

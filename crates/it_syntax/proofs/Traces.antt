@@ -143,7 +143,7 @@ switch f g spell res ls same (Err x) w = record {
 }
 
 -- The same trees under another name.
-pub renamed : {A X Z : Type 0} (f : List Letter → Reads A) (spell_z : Z → Marked → Marked) (spell_x : X → Marked → Marked) (res_z : Z → A) (res_x : X → A) (make : Z → X) (ls : List Letter)
+pub by_renaming : {A X Z : Type 0} (f : List Letter → Reads A) (spell_z : Z → Marked → Marked) (spell_x : X → Marked → Marked) (res_z : Z → A) (res_x : X → A) (make : Z → X) (ls : List Letter)
     → ((z : Z) (k : Marked) → spell_x (make z) k ≡ spell_z z k) → ((z : Z) → res_x (make z) ≡ res_z z) → (t : Reads A) → By f spell_z res_z ls t → By f spell_x res_x ls t
-renamed f spell_z spell_x res_z res_x make ls spells value (Ok x) w = record { tree = make w.tree; front = w.front; value = value w.tree ∙ w.value; parts = w.parts; spells = λ k. spells w.tree k ∙ w.spells k; stays = w.stays }
-renamed f spell_z spell_x res_z res_x make ls spells value (Err x) w = record { tree = make w.tree; front = w.front; parts = w.parts; spells = λ k. let q = w.spells k in (q.0, (spells w.tree k ∙ q.1.0, q.1.1)); stays = w.stays }
+by_renaming f spell_z spell_x res_z res_x make ls spells value (Ok x) w = record { tree = make w.tree; front = w.front; value = value w.tree ∙ w.value; parts = w.parts; spells = λ k. spells w.tree k ∙ w.spells k; stays = w.stays }
+by_renaming f spell_z spell_x res_z res_x make ls spells value (Err x) w = record { tree = make w.tree; front = w.front; parts = w.parts; spells = λ k. let q = w.spells k in (q.0, (spells w.tree k ∙ q.1.0, q.1.1)); stays = w.stays }

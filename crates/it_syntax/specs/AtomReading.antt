@@ -5,7 +5,8 @@ use Rattle.it_syntax.specs.declared.types.Symbol.TheVariants.{LeftParen, RightPa
 use Rattle.it_syntax.specs.declared.types.Code.{Code}
 use Rattle.it_syntax.specs.declared.types.Atom.{Atom}
 use Rattle.it_syntax.specs.declared.types.Atom.TheVariants.{Entropy, Mutual}
-use Rattle.it_syntax.specs.Letters.{Letter, Word, Sym, End, Bad}
+use Rattle.it_syntax.specs.Letters.{Letter, Word, Sym, End}
+use Rattle.it_syntax.specs.FirstFault.{own_code}
 use Rattle.it_syntax.specs.WrittenAtoms.{Environment, entropy_text, mutual_text, is_measure}
 use Rattle.it_syntax.specs.declared.types.Code.TheVariants as codes
 
@@ -22,13 +23,9 @@ abbrev pub ◌>>=◌ : {A B : Type 0} → Result A Fault → (A → Result B Fau
 (Ok x) >>= f = f x
 (Err e) >>= f = Err e
 
--- the code of what stands there, where no rule goes on: its own, if it is no token
-abbrev pub code_at : List Letter → Code
-code_at (Bad c ∷ ls) = c
-code_at ls = codes.Word
-
+-- no rule goes on with what stands there
 abbrev pub no_rule : {A : Type 0} → List Letter → Result A Fault
-no_rule ls = Err (code_at ls, ls)
+no_rule ls = Err (own_code ls, ls)
 
 -- the variable of a word that may be no name (true), and may be unknown
 abbrev pub variable_or_fault : List ℕ → Bool → Option ℕ → List Letter → Reads ℕ

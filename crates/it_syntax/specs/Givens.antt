@@ -60,9 +60,9 @@ pub record AreSetsOf (n least most : ℕ) (sets : List ℕ) : Type 0 where
   pub few : length sets ≤ most
   pub within : All (λ s. s < 2 ^ n) sets
 
--- the conditions on n variables and m rates that are within the limits: 3 to 16 sets in a chain, 2 to 16 in an independence
-abbrev pub IsGivenOf : ℕ → ℕ → GivenView → Type 0
-IsGivenOf n m (Relation r) = IsRelationOf n m r
-IsGivenOf n m (Markov sets) = AreSetsOf n 3 16 sets
-IsGivenOf n m (Independent members given) = AreSetsOf n 2 16 members × (given < 2 ^ n)
-IsGivenOf n m (Function value argument) = (value < 2 ^ n) × (argument < 2 ^ n)
+-- the conditions on n variables that are within the limits: without rates, 3 to 16 sets in a chain, 2 to 16 in an independence
+abbrev pub IsGivenOf : ℕ → GivenView → Type 0
+IsGivenOf n (Relation r) = IsRelationOf n 0 r
+IsGivenOf n (Markov sets) = AreSetsOf n 3 16 sets
+IsGivenOf n (Independent members given) = AreSetsOf n 2 16 members × (given < 2 ^ n)
+IsGivenOf n (Function value argument) = (value < 2 ^ n) × (argument < 2 ^ n)

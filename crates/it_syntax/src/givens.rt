@@ -214,7 +214,7 @@ pub fn given(
     requires inside { InLine line.now tokens.now.tokens.items }
     requires within { from ≤ length tokens.now.tokens.items }
     ensures read { IfOk result (λ g. IsGiven names.now line.now tokens.now from (given_view g)) }
-    ensures limits { IfOk result (λ g. IsGivenOf (length names.now.variables) (length names.now.rates) (given_view g)) }
+    ensures limits { IfOk result (λ g. IsGivenOf (length names.now.variables) (given_view g)) }
     ensures fault { IfErr result (IsFirstFault (spell_given (scope_of names.now false)) line.now tokens.now from) }
 {
     let all = Rest {

@@ -1,7 +1,7 @@
 //! The pieces of a line, one after the other.
 ghost use Rattle.std.specs.Prelude.{◌≡◌, ◌≤◌, length};
 ghost use Rattle.it_syntax.specs.declared.rest.Stop.TheVariants.{Fault};
-ghost use Rattle.it_syntax.specs.AtomReading.{code_at};
+ghost use Rattle.it_syntax.specs.FirstFault.{own_code};
 ghost use Rattle.it_syntax.specs.Gives.{left};
 ghost use Rattle.it_syntax.specs.ReaderSteps.{HasLength, with_front};
 ghost use Rattle.it_syntax.specs.ReaderSteps.{token_text};
@@ -49,7 +49,7 @@ impl<'a> Rest<'a> {
 
     /// The fault at the first piece where no rule goes on: its own, if it is a misspelling.
     pub fn fault(self) -> Stop
-        ensures { result ≡ Fault (code_at (left self.entry)) }
+        ensures { result ≡ Fault (own_code (left self.entry)) }
     {
         match self.front() {
             (Piece::Bad(code), _) => Stop::Fault(code),

@@ -12,7 +12,7 @@ use Rattle.it_question.specs.declared.cursor.Line.{Line}
 use Rattle.it_question.specs.Questions.{BodyView}
 use Rattle.it_question.specs.Reading.{read_file}
 use Rattle.it_question.specs.Texts.{with_texts}
-use Rattle.it_question.proofs.FileReadings.{file_read, bodies_limited, questions_limited, few_letters, some_left, faulty}
+use Rattle.it_question.proofs.FileReadings.{file_read, bodies_limited, questions_limited, few_letters, some_left, first_file_fault}
 use Rattle.it_question.proofs.files.questions.Goals as goal
 
 -- reading began at the first of the lines
@@ -48,5 +48,5 @@ stop_fault-requires-clause-there c = same_lines (λ ls. IfFault c.in-Err.stop (I
 
 pub returns-clause-fault : goal.returns-clause-fault
 returns-clause-fault c =
-    faulty c.args.bytes.now (map token_line c.in_ok-lines.lines.items) c.in-Err.stop (left c.bodies.new.cursor) c.stop_fault.result c.in_ok-lines.ensures (begun_stop c.in_ok-lines.lines.items _ _ c.in-Err.stop (left c.bodies.new.cursor) c.at-cursor.ensures c.as_slice.ensures.value c.in-Err.ensures)
+    first_file_fault c.args.bytes.now (map token_line c.in_ok-lines.lines.items) c.in-Err.stop (left c.bodies.new.cursor) c.stop_fault.result c.in_ok-lines.ensures (begun_stop c.in_ok-lines.lines.items _ _ c.in-Err.stop (left c.bodies.new.cursor) c.at-cursor.ensures c.as_slice.ensures.value c.in-Err.ensures)
     (subst (λ (ls : List Line). IsStopAt (place_of (map token_line ls) (left c.bodies.new.cursor)) c.in-Err.stop c.stop_fault.result) c.as_slice-in-Err.ensures.value c.stop_fault.ensures)

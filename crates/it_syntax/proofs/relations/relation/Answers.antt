@@ -5,7 +5,7 @@ use Rattle.it_syntax.specs.Lines.{letters_from}
 use Rattle.it_syntax.specs.Meaning.{relation_view}
 use Rattle.it_syntax.specs.Spans.{last_letter}
 use Rattle.it_syntax.proofs.SpanLemmas.{in_line_drop}
-use Rattle.it_syntax.proofs.LineLemmas.{read_says, refused}
+use Rattle.it_syntax.proofs.LineLemmas.{read_says, stop_is_fault}
 use Rattle.it_syntax.proofs.RelationLemmas.{relation_reader}
 use Rattle.it_syntax.proofs.RelationLimits.{relation_limited}
 use Rattle.it_syntax.proofs.relations.relation.Goals as goal
@@ -17,7 +17,7 @@ pub column-requires-clause-within : goal.column-requires-clause-within
 column-requires-clause-within c =
     let s = scope_of c.args.names.now c.args.rates in
     let e = rw (c.in-Err-Fault.field-0-is, c.split_at.ensures.back, c.as_slice.ensures.value) at c.in-Err-Fault.ensures in
-    rw c.as_slice.ensures.value (refused (read_relation s) (spell_relation s) (relation_of s) (relation_reader s) c.args.line.now c.args.tokens.now c.args.from c.relation_to_end.new.rest.line.now c.relation_to_end.new.rest.tokens.now (last_letter c.relation_to_end.new.rest.misspelling) c.in-Err-Fault.code e).0
+    rw c.as_slice.ensures.value (stop_is_fault (read_relation s) (spell_relation s) (relation_of s) (relation_reader s) c.args.line.now c.args.tokens.now c.args.from c.relation_to_end.new.rest.line.now c.relation_to_end.new.rest.tokens.now (last_letter c.relation_to_end.new.rest.misspelling) c.in-Err-Fault.code e).0
 
 pub returns-in-Ok-clause-read : goal.returns-in-Ok-clause-read
 returns-in-Ok-clause-read c =
@@ -32,4 +32,4 @@ pub returns-in-Err-Fault-clause-fault : goal.returns-in-Err-Fault-clause-fault
 returns-in-Err-Fault-clause-fault c =
     let s = scope_of c.args.names.now c.args.rates in
     let e = rw (c.in-Err-Fault.field-0-is, c.split_at.ensures.back, c.as_slice.ensures.value) at c.in-Err-Fault.ensures in
-    rw (c.column.ensures, c.as_slice.ensures.value) (refused (read_relation s) (spell_relation s) (relation_of s) (relation_reader s) c.args.line.now c.args.tokens.now c.args.from c.relation_to_end.new.rest.line.now c.relation_to_end.new.rest.tokens.now (last_letter c.relation_to_end.new.rest.misspelling) c.in-Err-Fault.code e).1
+    rw (c.column.ensures, c.as_slice.ensures.value) (stop_is_fault (read_relation s) (spell_relation s) (relation_of s) (relation_reader s) c.args.line.now c.args.tokens.now c.args.from c.relation_to_end.new.rest.line.now c.relation_to_end.new.rest.tokens.now (last_letter c.relation_to_end.new.rest.misspelling) c.in-Err-Fault.code e).1
