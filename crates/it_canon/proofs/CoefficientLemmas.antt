@@ -82,8 +82,8 @@ added-same xs ys m n f g h same a = record {
 }
 
 -- taken off
-pub taken : (xs ys : List ℤ) (t : ℤ) (a : ℕ) → IsFormAdded xs ys (unsigned_abs (neg_ℤ t)) (λ p. neg_ℤ t *ℤ p a) → IsFormAdded xs ys (unsigned_abs t) (λ p. neg_ℤ t *ℤ p a)
-taken xs ys t a f = added-same xs ys (unsigned_abs (neg_ℤ t)) (unsigned_abs t) (λ p. neg_ℤ t *ℤ p a) (λ p. neg_ℤ t *ℤ p a) (omega (arith, ints)) (λ p. refl) f
+pub added_negated : (xs ys : List ℤ) (t : ℤ) (a : ℕ) → IsFormAdded xs ys (unsigned_abs (neg_ℤ t)) (λ p. neg_ℤ t *ℤ p a) → IsFormAdded xs ys (unsigned_abs t) (λ p. neg_ℤ t *ℤ p a)
+added_negated xs ys t a f = added-same xs ys (unsigned_abs (neg_ℤ t)) (unsigned_abs t) (λ p. neg_ℤ t *ℤ p a) (λ p. neg_ℤ t *ℤ p a) (omega (arith, ints)) (λ p. refl) f
 
 less : (t x y : ℤ) → t *ℤ x +ℤ neg_ℤ t *ℤ y ≡ t *ℤ (x -ℤ y)
 less t x y = omega (arith, zring)

@@ -10,7 +10,7 @@ use Rattle.it_syntax.specs.Meaning.{RelationView}
 use Rattle.it_question.specs.Questions.{BodyView}
 use Rattle.it_canon.specs.Demands.{AreStated}
 use Rattle.it_canon.specs.Targets.{targets}
-use Rattle.it_canon.specs.QuestionDemands.{problem_names, question_demands, AreRowsOf, Poses}
+use Rattle.it_canon.specs.QuestionDemands.{variables_of, question_demands, AreRowsOf, Poses}
 use Rattle.it_canon.proofs.UniqueRows.{one_constraint_list, one_row_list}
 
 pub one_problem : (q : BodyView) (r : RelationView) (a b : Poses q r) → a.problem ≡ b.problem
@@ -20,11 +20,8 @@ one_problem q r a b = ap₂ (λ (s : Space) (cs : List Constraint). record { spa
     same : a.problem.space ≡ b.problem.space
     same = a.space ∙ sym b.space
 
-abbrev targets_of : BodyView → RelationView → List Form
-targets_of q r = targets (length (problem_names q).variables) r
-
 pub same_rows : (q : BodyView) (r : RelationView) (a b : Poses q r) → a.rows ≡ b.rows
-same_rows q r a b = one_row_list b.problem.space (targets_of q r) a.rows b.rows (subst (λ (s : Space). AreRowsOf s (targets_of q r) a.rows) (a.space ∙ sym b.space) a.targets_are) b.targets_are
+same_rows q r a b = one_row_list b.problem.space (targets (variables_of q) r) a.rows b.rows (subst (λ (s : Space). AreRowsOf s (targets (variables_of q) r) a.rows) (a.space ∙ sym b.space) a.targets_are) b.targets_are
 
 -- the coordinates of rows are of their space
 pub rows_up_to : (s : Space) (fs : List Form) (ts : List Terms) → AreRowsOf s fs ts → All (IsUpTo (size_of s)) ts

@@ -73,9 +73,9 @@ pair_numbers d t is =
 list_numbers : {A : Type 0} (P : A → Type 0) (f : Data → Option A) → ((d : Data) (a : A) → f d ≡ Some a → P a) → (o : Option Data) (xs : List A) → list_at f o ≡ Some xs → All P xs
 list_numbers P f each o xs is = let h = and_then_some (items_of_array o) (all_of f) xs is in all_of_holds P f each h.0 xs h.1.1
 
-counted : {A : Type 0} (P : A → Type 0) (f : Data → Option A) → ((d : Data) (a : A) → f d ≡ Some a → P a) → (n : ℕ) (o : Option Data) (xs : List A)
+counted_numbers : {A : Type 0} (P : A → Type 0) (f : Data → Option A) → ((d : Data) (a : A) → f d ≡ Some a → P a) → (n : ℕ) (o : Option Data) (xs : List A)
     → option_and_then (of_length n) (list_at f o) ≡ Some xs → (length xs ≡ n) × All P xs
-counted P f each n o xs is =
+counted_numbers P f each n o xs is =
     let h = and_then_some (list_at f o) (of_length n) xs is in
     let m = cond_some (length h.0 == n) (Some h.0) xs h.1.1 in
     let e : h.0 ≡ xs = let s = m.1 in cc in
@@ -92,7 +92,7 @@ certificate_numbers d c is =
 
 proofs_fit : (n : ℕ) (d : Data) (ps : List CertificateView) → proofs_at n d ≡ Some ps → (length ps ≡ n) × All IsNumbered ps
 unfolding proofs_at
-proofs_fit n d ps is = counted IsNumbered certificate_at certificate_numbers n (get (codes "proofs") d) ps is
+proofs_fit n d ps is = counted_numbers IsNumbered certificate_at certificate_numbers n (get (codes "proofs") d) ps is
 
 -- ---- yes, no
 
@@ -223,7 +223,7 @@ set_fits n d s is =
 
 parts_fit : (count n : ℕ) (d : Data) (ss : List ℕ) → parts_at count n d ≡ Some ss → (length ss ≡ count) × All (IsSetIn n) ss
 unfolding parts_at
-parts_fit count n d ss is = counted (IsSetIn n) (set_at n) (set_fits n) count (get (codes "parts") d) ss is
+parts_fit count n d ss is = counted_numbers (IsSetIn n) (set_at n) (set_fits n) count (get (codes "parts") d) ss is
 
 contained_fits : (first second : RegionView) (d : Data) (a : AnswerView) → contained_at second.auxiliaries (length first.names.variables) (obligation_count second) d ≡ Ok a → FitsContain first second a
 unfolding contained_at

@@ -6,7 +6,7 @@ mod BackLemmas
 mod ValueLemmas
 mod ObligationLemmas
 mod QuestionLemmas
-mod ReportLemmas
+pub mod ReportLemmas
 pub mod OneLemmas
 pub mod FitLemmas
 mod RoundLemmas

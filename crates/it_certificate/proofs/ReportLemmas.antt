@@ -31,9 +31,9 @@ by_file d text is fits [] file = (None, other_text d text is (λ q le one. let e
 by_file d text is fits (q ∷ []) file = (Some q, found_text d text q is (fits, file))
 by_file d text is fits (q ∷ r ∷ qs) file = (None, other_text d text is (λ p le one. let e = ap length (file_is_one text (q ∷ r ∷ qs) (p ∷ []) file one) in omega (arith, e)))
 
-by_text : (d : Data) (o : Option (List ℕ)) → text_of (get (codes "question") d) ≡ o → (r : Option QuestionView) × IsQuestionAt d r
-by_text d None is = (None, no_text d is)
-by_text d (Some text) is = by_length (cases_lt 1048577 (length text))
+pub question_there : (d : Data) (o : Option (List ℕ)) → text_of (get (codes "question") d) ≡ o → (r : Option QuestionView) × IsQuestionAt d r
+question_there d None is = (None, no_text d is)
+question_there d (Some text) is = by_length (cases_lt 1048577 (length text))
   where
     by_reading : length text ≤ 1048577 → ((qs : List QuestionView) × IsFile text qs) ⊎ ((line : ℕ) × (column : ℕ) × (c : Code) × FileFaultAt text line column c) → (r : Option QuestionView) × IsQuestionAt d r
     by_reading fits (inl h) = by_file d text is fits h.0 h.1
@@ -46,7 +46,7 @@ by_text d (Some text) is = by_length (cases_lt 1048577 (length text))
 pub no_kind : (d : Data) → None ≡ answer_kind_at d → ReadsAs d (Err keys.Answer)
 unfolding report_of
 no_kind d is =
-    let own = by_text d (text_of (get (codes "question") d)) refl in
+    let own = question_there d (text_of (get (codes "question") d)) refl in
     record { own = own.0; question = own.1; is = ap (λ k. and_then (or_key keys.Answer k) (λ kind. and_then (or_key keys.Question own.0) (λ q. and_then (question_answer q kind d) (λ a. Ok (q, a))))) (sym is) }
 
 with_kind : (d : Data) (kind : AnswerKind) (o : Option QuestionView) → Some kind ≡ answer_kind_at d → report_of o d ≡ and_then (or_key keys.Question o) (λ q. and_then (question_answer q kind d) (λ a. Ok (q, a)))

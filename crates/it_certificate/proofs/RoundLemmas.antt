@@ -69,14 +69,14 @@ certificate_back c p =
     ap (λ s. certificate_by s (all_of pair_at (items_of (map pair_value (filter is_some_weight c.parts))))) (number_back c.scale p.scale)
     ∙ ap (λ ws. certificate_by (Some c.scale) ws) (same_back IsPair pair_at pair_value pair_back (filter is_some_weight c.parts) (All-filter is_some_weight IsPair c.parts p.parts))
 
-exactly : {A : Type 0} (n : ℕ) (xs : List A) → length xs ≡ n → of_length n xs ≡ Some xs
-exactly n xs is = ap (λ b. cond b (Some xs) None) (eq-eqb (length xs) n is)
+of_length_is : {A : Type 0} (n : ℕ) (xs : List A) → length xs ≡ n → of_length n xs ≡ Some xs
+of_length_is n xs is = ap (λ b. cond b (Some xs) None) (eq-eqb (length xs) n is)
 
 certificates_back : (n : ℕ) (ws : List CertificateView) → length ws ≡ n → All IsNumbered ws
     → option_and_then (of_length n) (all_of certificate_at (items_of (map proof_value ws))) ≡ Some (map without_zeros ws)
 certificates_back n ws is all =
     ap (option_and_then (of_length n)) (all_back IsNumbered certificate_at proof_value without_zeros certificate_back ws all)
-    ∙ exactly n (map without_zeros ws) (length-map ws without_zeros ∙ is)
+    ∙ of_length_is n (map without_zeros ws) (length-map ws without_zeros ∙ is)
 
 -- ---- yes and no
 
@@ -86,7 +86,7 @@ yes_back text v sign ws fits = ap (λ o. and_then (or_key keys.Proofs o) (λ ps.
 
 point_back : (text : List ℕ) (v : NamesView) (n : ℕ) (back : Bool) (vs : List ℤ) → length vs ≡ n → All IsWithin vs → point_at n (answer_value text v (No back vs)) ≡ Some vs
 unfolding point_at answer_value
-point_back text v n back vs is all = ap (option_and_then (of_length n)) (same_back IsWithin whole_at whole_value number_back vs all) ∙ exactly n vs is
+point_back text v n back vs is all = ap (option_and_then (of_length n)) (same_back IsWithin whole_at whole_value number_back vs all) ∙ of_length_is n vs is
 
 side_back : (text : List ℕ) (v : NamesView) (equality back : Bool) (vs : List ℤ) → (back ≡ true → equality ≡ true) → back_at equality (answer_value text v (No back vs)) ≡ Some back
 unfolding back_at answer_value
@@ -195,7 +195,7 @@ contained_back text v first second parts ws fits =
     let n = length first.names.variables in
     ap (λ o. and_then (or_key keys.Parts o) (λ ss. and_then (or_key keys.Proofs (option_and_then (of_length (obligation_count second)) (all_of certificate_at (items_of (map proof_value ws))))) (λ ps. Ok (Contained ss ps))))
     (ap (option_and_then (of_length second.auxiliaries)) (same_back (λ s. (s < 2 ^ 32) × (s < 2 ^ length first.names.variables)) (set_at (length first.names.variables)) count_value (set_back (length first.names.variables)) parts fits.sets)
-    ∙ exactly second.auxiliaries parts fits.each)
+    ∙ of_length_is second.auxiliaries parts fits.each)
     ∙ ap (λ o. and_then (or_key keys.Proofs o) (λ ps. Ok (Contained parts ps))) (certificates_back (obligation_count second) ws fits.obligations fits.numbers)
 
 open_back : (text : List ℕ) (v : NamesView) (tried : ℕ) → tried < 2 ^ 32 → open_at (answer_value text v (Open tried)) ≡ Ok (Open tried)

@@ -1,5 +1,6 @@
 -- The rows, computed.
 use Rattle.std.proofs.Common.{refl}
+use Rattle.std.specs.Prelude.{⊤}
 use Rattle.std.specs.Fmt.{digits}
 use Rattle.serde_json.proofs.OnLiterals.{serde_json_on_literals}
 use Rattle.it_certificate.specs.Numerals.{magnitude_of, whole_of, step_of}
@@ -9,6 +10,11 @@ use Rattle.it_certificate.specs.AnswerReading.{yes_at, no_at, undecided_at, regi
 use Rattle.it_certificate.specs.Obligations.{obligation_count}
 use Rattle.it_certificate.specs.Reports.{prove_answer, eliminate_answer, contain_answer, question_answer, report_of}
 use Rattle.it_certificate.specs.Rows.{NumbersReadAsSaid, TextsReadAsSaid, KindsReadAsSaid, ProofsReadAsSaid, PointsReadAsSaid, CausesReadAsSaid, RegionsReadAsSaid, ContainmentsReadAsSaid, LinesWrittenAsSaid}
+
+-- what unfolds to read a literal report
+unfoldable report_on_literals : ⊤
+unfolding serde_json_on_literals magnitude_of whole_of step_of whole_at count_at pair_at certificate_at answer_kind_at proofs_at point_at back_at cause_kind_at cause_at mark_at terms_at row_at rows_at set_at parts_at tried_at yes_at no_at undecided_at region_at contained_at open_at obligation_count prove_answer eliminate_answer contain_answer question_answer report_of
+report_on_literals = tt
 
 pub numbers_read_as_said : NumbersReadAsSaid
 unfolding magnitude_of whole_of step_of
@@ -62,7 +68,7 @@ texts_read_as_said = record {
 }
 
 pub kinds_read_as_said : KindsReadAsSaid
-unfolding serde_json_on_literals magnitude_of whole_of step_of whole_at count_at pair_at certificate_at answer_kind_at proofs_at point_at back_at cause_kind_at cause_at mark_at terms_at row_at rows_at set_at parts_at tried_at yes_at no_at undecided_at region_at contained_at open_at obligation_count prove_answer eliminate_answer contain_answer question_answer report_of
+unfolding report_on_literals
 kinds_read_as_said = record {
   no_object = refl;
   no_key = refl;
@@ -76,7 +82,7 @@ kinds_read_as_said = record {
 }
 
 pub proofs_read_as_said : ProofsReadAsSaid
-unfolding serde_json_on_literals magnitude_of whole_of step_of whole_at count_at pair_at certificate_at answer_kind_at proofs_at point_at back_at cause_kind_at cause_at mark_at terms_at row_at rows_at set_at parts_at tried_at yes_at no_at undecided_at region_at contained_at open_at obligation_count prove_answer eliminate_answer contain_answer question_answer report_of
+unfolding report_on_literals
 proofs_read_as_said = record {
   missing = refl;
   none = refl;
@@ -91,7 +97,7 @@ proofs_read_as_said = record {
 }
 
 pub points_read_as_said : PointsReadAsSaid
-unfolding serde_json_on_literals magnitude_of whole_of step_of whole_at count_at pair_at certificate_at answer_kind_at proofs_at point_at back_at cause_kind_at cause_at mark_at terms_at row_at rows_at set_at parts_at tried_at yes_at no_at undecided_at region_at contained_at open_at obligation_count prove_answer eliminate_answer contain_answer question_answer report_of
+unfolding report_on_literals
 points_read_as_said = record {
   missing = refl;
   short = refl;
@@ -103,7 +109,7 @@ points_read_as_said = record {
 }
 
 pub causes_read_as_said : CausesReadAsSaid
-unfolding serde_json_on_literals magnitude_of whole_of step_of whole_at count_at pair_at certificate_at answer_kind_at proofs_at point_at back_at cause_kind_at cause_at mark_at terms_at row_at rows_at set_at parts_at tried_at yes_at no_at undecided_at region_at contained_at open_at obligation_count prove_answer eliminate_answer contain_answer question_answer report_of
+unfolding report_on_literals
 causes_read_as_said = record {
   missing = refl;
   other = refl;
@@ -122,7 +128,7 @@ causes_read_as_said = record {
 }
 
 pub regions_read_as_said : RegionsReadAsSaid
-unfolding serde_json_on_literals magnitude_of whole_of step_of whole_at count_at pair_at certificate_at answer_kind_at proofs_at point_at back_at cause_kind_at cause_at mark_at terms_at row_at rows_at set_at parts_at tried_at yes_at no_at undecided_at region_at contained_at open_at obligation_count prove_answer eliminate_answer contain_answer question_answer report_of
+unfolding report_on_literals
 regions_read_as_said = record {
   missing = refl;
   none = refl;
@@ -136,7 +142,7 @@ regions_read_as_said = record {
 }
 
 pub containments_read_as_said : ContainmentsReadAsSaid
-unfolding serde_json_on_literals magnitude_of whole_of step_of whole_at count_at pair_at certificate_at answer_kind_at proofs_at point_at back_at cause_kind_at cause_at mark_at terms_at row_at rows_at set_at parts_at tried_at yes_at no_at undecided_at region_at contained_at open_at obligation_count prove_answer eliminate_answer contain_answer question_answer report_of
+unfolding report_on_literals
 containments_read_as_said = record {
   nothing = refl;
   no_part = refl;

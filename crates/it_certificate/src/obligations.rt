@@ -25,7 +25,7 @@ fn sign_forms(sign: Sign) -> usize
 /// How many forms a given says to be at least 0: two an equation.
 fn given_forms(given: &Given) -> usize
     ensures count { result ≡ given_forms (given_view given.now) }
-    ensures few { (n m : ℕ) → IsGivenOf n m (given_view given.now) → result ≤ 32 }
+    ensures few { (n : ℕ) → IsGivenOf n (given_view given.now) → result ≤ 32 }
 {
     match given {
         Given::Relation(relation) => sign_forms(relation.sign),

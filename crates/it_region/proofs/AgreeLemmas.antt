@@ -8,6 +8,7 @@ use Rattle.it_syntax.specs.declared.types.Term.{Term}
 use Rattle.it_syntax.specs.Meaning.{RelationView, atom_at, side_at, Compares, Holds, IsAtomOf}
 use Rattle.it_syntax.specs.Givens.{GivenView, Relation, Markov, Independent, Function, union_of, links, links_from, sum_given, IsTrueAt, IsRelationOf, IsGivenOf}
 use Rattle.it_canon.proofs.ChainLemmas.{union_below}
+use Rattle.it_canon.proofs.QuestionLemmas.{more_rates}
 use Rattle.it_region.specs.Regions.{AgreeOnCommon}
 
 module _ (common rates n m : ℕ) (p q : ℕ → ℤ) (h : AgreeOnCommon common rates n m p q) where
@@ -49,16 +50,16 @@ module _ (common rates n m : ℕ) (p q : ℕ → ℤ) (h : AgreeOnCommon common 
   sum_same [] given a l = refl
   sum_same (s ∷ members) given a l = ap₂ (λ x y. x +ℤ y) (atom_same (Entropy s given) (All-head (λ s. s < 2 ^ common) s members a, l)) (sum_same members given (All-tail (λ s. s < 2 ^ common) s members a) l)
 
-  pub true_same : (c : GivenView) → IsGivenOf common rates c → IsTrueAt n p c → IsTrueAt m q c
-  true_same (Relation r) k t = holds_same r k t
+  pub true_same : (c : GivenView) → IsGivenOf common c → IsTrueAt n p c → IsTrueAt m q c
+  true_same (Relation r) k t = holds_same r (more_rates common rates r k) t
   true_same (Markov sets) k t = all_links_same sets k.within t
   true_same (Independent members given) k t =
       atom_same (Entropy (union_of members) given) (union_below common members k.0.within, k.1) ∙ t ∙ sym (sum_same members given k.0.within k.1)
   true_same (Function value argument) k t = zero_same (Entropy value argument) k t
 
-  pub all_true : (cs : List GivenView) → All (IsGivenOf common rates) cs → All (IsTrueAt n p) cs → All (IsTrueAt m q) cs
+  pub all_true : (cs : List GivenView) → All (IsGivenOf common) cs → All (IsTrueAt n p) cs → All (IsTrueAt m q) cs
   all_true [] k t = All-nil (IsTrueAt m q)
-  all_true (c ∷ cs) k t = All-cons (IsTrueAt m q) c cs (true_same c (All-head (IsGivenOf common rates) c cs k) (All-head (IsTrueAt n p) c cs t)) (all_true cs (All-tail (IsGivenOf common rates) c cs k) (All-tail (IsTrueAt n p) c cs t))
+  all_true (c ∷ cs) k t = All-cons (IsTrueAt m q) c cs (true_same c (All-head (IsGivenOf common) c cs k) (All-head (IsTrueAt n p) c cs t)) (all_true cs (All-tail (IsGivenOf common) c cs k) (All-tail (IsTrueAt n p) c cs t))
 
   pub all_hold : (rs : List RelationView) → All (IsRelationOf common rates) rs → All (Holds n p) rs → All (Holds m q) rs
   all_hold [] k t = All-nil (Holds m q)

@@ -73,15 +73,15 @@ none_left (t ∷ ts) (suc i) h = none_left ts i (omega arith)
 pub few_at_end : (f : ℕ → ℕ) (turned : Bool) (whole : Terms) (size : ℕ) (now : List ℤ) (i : ℕ) → IsUnderWay f turned whole size now i → largest now ≤ row_mass whole
 few_at_end f turned whole size now i u = omega (arith, u.small)
 
-nothing : (f : ℕ → ℕ) (turned : Bool) (p : ℕ → ℤ) → pulled_form f turned [] p ≡ pos 0
-nothing f true p = refl
-nothing f false p = refl
+pulled_form-nil : (f : ℕ → ℕ) (turned : Bool) (p : ℕ → ℤ) → pulled_form f turned [] p ≡ pos 0
+pulled_form-nil f true p = refl
+pulled_form-nil f false p = refl
 
 pub row_at_end : {E : Type 0} (s : Space) (f : ℕ → ℕ) (turned : Bool) (whole : Terms) (now : List ℤ) (i : ℕ) (row : Result Terms E) → length whole ≤ i → IsUnderWay f turned whole (size_of s) now i
     → IfOk row (λ r. (p : ℕ → ℤ) → p 0 ≡ pos 0 → value r p ≡ dense_form now p) → IfOk row (IsUpTo (length now - 1)) → IfOk row IsCanonical → IfOk row (IsPulledRow s (pulled_form f turned whole))
 row_at_end s f turned whole now i (Err e) l u same up can = tt
 row_at_end s f turned whole now i (Ok row) l u same up can = record {
-  same = λ p z. same p z ∙ omega (arith, ints, u.sum p, ap (λ (ts : Terms). pulled_form f turned ts p) (none_left whole i l) ∙ nothing f turned p);
+  same = λ p z. same p z ∙ omega (arith, ints, u.sum p, ap (λ (ts : Terms). pulled_form f turned ts p) (none_left whole i l) ∙ pulled_form-nil f turned p);
   coordinates = let e : length now - 1 ≡ size_of s = omega (arith, u.complete) in subst (λ n. IsUpTo n row) e up;
   canonical = can;
 }
