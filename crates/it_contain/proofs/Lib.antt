@@ -9,4 +9,4 @@ pub mod ContainLemmas
 pub mod ProofLemmas
 pub mod PlanLemmas
 pub mod OneEndLemmas
-pub mod MemoryLemmas
+pub mod OutcomeLemmas

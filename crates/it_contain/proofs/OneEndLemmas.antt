@@ -19,9 +19,9 @@ use Rattle.it_region.specs.declared.types.Pair.{Pair}
 use Rattle.it_region.specs.Obligations.{own_demands, constraint_obligations, ArePulledRows}
 use Rattle.it_region.specs.Pairs.{IsPairOf, Fits, pair_obligations}
 use Rattle.it_region.specs.Pulling.{sets_of, place}
+use Rattle.it_region.proofs.TextLemmas.{pulled_rows_told}
 use Rattle.it_contain.specs.Search.{Goal, goal_of, IsProofOf, AreProofsOf, IsProofBy, IsProved, IsUnproved, IsFirst, IsOpen}
 use Rattle.it_contain.specs.Shapes.{shape_of}
-use Rattle.it_contain.proofs.ProofLemmas.{rows_told}
 
 -- ---- one goal
 
@@ -60,7 +60,7 @@ one_proof q budget target w v a b = inside (one_outcome q target budget (Yes w) 
 
 pub one_proof_list : (goal : Goal) (c : Candidate) (ws vs : List CertificateView) → IsProofBy goal c ws → IsProofBy goal c vs → ws ≡ vs
 one_proof_list goal c ws vs a b =
-    let same : b.rows ≡ a.rows = rows_told goal.pair.first.space (pair_obligations goal.pair c) b.rows a.rows b.are a.are in
+    let same : b.rows ≡ a.rows = pulled_rows_told goal.pair.first.space (pair_obligations goal.pair c) b.rows a.rows b.are a.are in
     zip-told (IsProofOf (problem_view goal.pair.first) goal.budget) (one_proof (problem_view goal.pair.first) goal.budget) a.rows ws vs a.proofs
     (subst (λ (rows : List Terms). AreProofsOf (problem_view goal.pair.first) goal.budget rows vs) same b.proofs)
 

@@ -1,32 +1,21 @@
 -- Proofs of obligations: of one target, of all, and of a candidate.
 use Rattle.std.proofs.Common.{◌≡◌, ℕ, zero, suc, ◌+◌, ◌<◌, ◌≤◌, ℤ, List, [], ◌∷◌, ◌++◌, length, map, drop, get_or, refl, sym, ap, subst, ◌∙◌, arith, Option, Some, None, Result, Ok, Err, IfOk, append-nil, append_assoc}
 use Rattle.std.proofs.lemmas.List.{drop_more, drop_all}
-use Rattle.it_space.specs.declared.spaces.Space.{Space}
 use Rattle.it_space.specs.declared.answers.Cause.{Cause}
 use Rattle.it_space.specs.declared.answers.Certificate.{Certificate}
 use Rattle.it_space.specs.Answers.{CertificateView, certificate_view}
 use Rattle.it_space.specs.Problems.{ProblemView, problem_view}
 use Rattle.it_space.specs.Rows.{Terms}
-use Rattle.it_space.specs.Spaces.{size_of}
-use Rattle.it_polymatroid.specs.Certificates.{Form}
-use Rattle.it_canon.proofs.UniqueRows.{told_by_values, zip-told}
 use Rattle.it_prove.specs.declared.types.Proof.{Proof}
 use Rattle.it_prove.specs.declared.types.Proof.TheVariants as proofs
 use Rattle.it_prove.specs.ProofViews.{ProofView, Yes, No, Undecided, proof_view, EndsWith, IsRightProof}
 use Rattle.it_prove.proofs.ProofLemmas.{one_outcome}
 use Rattle.it_region.specs.declared.types.Candidate.{Candidate}
-use Rattle.it_region.specs.Obligations.{IsPulledRow, ArePulledRows}
+use Rattle.it_region.specs.Obligations.{ArePulledRows}
 use Rattle.it_region.specs.Pairs.{Fits, pair_obligations}
+use Rattle.it_region.proofs.TextLemmas.{pulled_rows_told}
 use Rattle.it_contain.specs.Search.{Goal, IsProofOf, AreProofsOf, IsProof, IsProved, Proofs, proof_views}
 use Rattle.it_contain.specs.SearchSteps.{ProvesOne, ProvesAll, Judges}
-
--- ---- a form has one row
-
-row_told : (s : Space) (form : Form) (t u : Terms) → IsPulledRow s form t → IsPulledRow s form u → t ≡ u
-row_told s form t u a b = told_by_values (size_of s) t u a.coordinates b.coordinates a.canonical b.canonical (λ p z. a.same p z ∙ sym (b.same p z))
-
-pub rows_told : (s : Space) (fs : List Form) (ts us : List Terms) → ArePulledRows s fs ts → ArePulledRows s fs us → ts ≡ us
-rows_told s fs ts us a b = zip-told (IsPulledRow s) (row_told s) fs ts us a b
 
 -- ---- one target
 
@@ -95,4 +84,4 @@ pub judges : (goal : Goal) (c : Candidate) (rows : List Terms) (o : Option Proof
 unfolding IsProved IsProof
 judges goal c rows (Some w) f a p = record { fits = f; rows = rows; are = a; proofs = p }
 judges goal c rows None f a n = λ x.
-    n x.0 (subst (λ (ts : List Terms). AreProofsOf (problem_view goal.pair.first) goal.budget ts x.0) (rows_told goal.pair.first.space (pair_obligations goal.pair c) x.1.rows rows x.1.are a) x.1.proofs)
+    n x.0 (subst (λ (ts : List Terms). AreProofsOf (problem_view goal.pair.first) goal.budget ts x.0) (pulled_rows_told goal.pair.first.space (pair_obligations goal.pair c) x.1.rows rows x.1.are a) x.1.proofs)

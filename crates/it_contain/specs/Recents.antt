@@ -17,8 +17,3 @@ is_of_shape s c = (c.count == s.parts) && list_all (λ part. nat_lt part (2 ^ s.
 abbrev pub recent_candidates : Shape → Option Candidate → List Candidate
 recent_candidates s None = []
 recent_candidates s (Some c) = if is_of_shape s c then c ∷ [] else []
-
--- what is still to come
-abbrev pub listed : Option Candidate → List Candidate
-listed None = []
-listed (Some c) = c ∷ []

@@ -22,6 +22,7 @@ pub record Goal : Type 0 where
   pub pair : Pair
   pub budget : Option ℕ
 
+-- that of a pair and a budget
 abbrev pub goal_of : Pair → Option ℕ → Goal
 goal_of p budget = record { pair = p; budget = budget }
 
@@ -41,15 +42,19 @@ pub record IsProofBy (goal : Goal) (c : Candidate) (ws : List CertificateView) :
   pub are : ArePulledRows goal.pair.first.space (pair_obligations goal.pair c) rows
   pub proofs : AreProofsOf (problem_view goal.pair.first) goal.budget rows ws
 
+-- the certificates of a candidate's obligations, in order
 abbrev pub Proofs : Type 0
 Proofs = Vec Certificate Global
 
+-- what contracts see of them
 abbrev pub proof_views : Proofs → List CertificateView
 proof_views proofs = map certificate_view proofs.items
 
+-- these certificates prove the candidate
 unfoldable pub IsProof : Goal → Candidate → Proofs → Type 0
 IsProof goal c proofs = IsProofBy goal c (proof_views proofs)
 
+-- some certificates do
 unfoldable pub IsProved : Goal → Candidate → Type 0
 IsProved goal c = (ws : List CertificateView) × IsProofBy goal c ws
 
@@ -75,6 +80,7 @@ pub record IsOpen (goal : Goal) (tries : ℕ) (plan : List Candidate) (tried : �
 abbrev pub lists_of : Shape → List Plan → List (List Candidate)
 lists_of shape plans = map (λ p. p shape []) plans
 
+-- the lists one after the other
 abbrev pub joined_lists : List (List Candidate) → List Candidate
 joined_lists lists = flat_map (λ xs. xs) lists
 

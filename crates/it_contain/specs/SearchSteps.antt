@@ -5,7 +5,7 @@ use Rattle.it_space.specs.Answers.{CertificateView, certificate_view}
 use Rattle.it_space.specs.Problems.{ProblemView}
 use Rattle.it_space.specs.Rows.{Terms}
 use Rattle.it_region.specs.declared.types.Candidate.{Candidate}
-use Rattle.it_contain.specs.declared.memory.Memory.{Memory}
+use Rattle.it_contain.specs.declared.outcomes.Outcomes.{Outcomes}
 use Rattle.it_contain.specs.declared.types.Contained.{Contained}
 use Rattle.it_contain.specs.declared.types.Contained.TheVariants.{Found, Open}
 use Rattle.it_contain.specs.Proposals.{Plan, plan_after}
@@ -16,9 +16,9 @@ abbrev pub ProvesOne : ProblemView → Option ℕ → Terms → Option Certifica
 ProvesOne q budget t None = (w : CertificateView) → IsProofOf q budget t w → ⊥
 ProvesOne q budget t (Some c) = IsProofOf q budget t (certificate_view c)
 
--- what is kept of each row is whether it is proved
-unfoldable pub Remembers : ProblemView → Option ℕ → Memory → Type 0
-Remembers q budget m = All (λ e. ProvesOne q budget e.0.items e.1) m.outcomes.entries
+-- each row that is kept stands with its outcome: the certificate that proves it, or that none does
+unfoldable pub AreOutcomes : ProblemView → Option ℕ → Outcomes → Type 0
+AreOutcomes q budget o = All (λ e. ProvesOne q budget e.0.items e.1) o.by_row.entries
 
 -- whether all are
 abbrev pub ProvesAll : ProblemView → Option ℕ → List Terms → Option Proofs → Type 0

@@ -33,8 +33,10 @@ all_sets n = span 0 (2 ^ n)
 unfoldable pub candidate_of : ℕ → List ℕ → Candidate
 candidate_of parts tuple = record { count = parts; parts = take 4 (tuple ++ (0 ∷ 0 ∷ 0 ∷ 0 ∷ [])) }
 
+-- what `Singles` proposes: all tuples of sets of at most one variable
 unfoldable pub single_candidates : Shape → List Candidate
 single_candidates s = map (candidate_of s.parts) (tuples (small_sets s.variables) s.parts)
 
+-- what `Subsets` proposes: all tuples of sets
 unfoldable pub subset_candidates : Shape → List Candidate
 subset_candidates s = map (candidate_of s.parts) (tuples (all_sets s.variables) s.parts)

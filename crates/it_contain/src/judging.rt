@@ -5,9 +5,9 @@ ghost use Rattle.it_space.specs.Rows.{IsUpTo};
 ghost use Rattle.it_space.specs.Spaces.{size_of};
 ghost use Rattle.it_region.specs.Pairs.{IsPair};
 ghost use Rattle.it_contain.specs.Search.{goal_of};
-ghost use Rattle.it_contain.specs.SearchSteps.{ProvesOne, ProvesAll, Judges, Remembers};
+ghost use Rattle.it_contain.specs.SearchSteps.{ProvesOne, ProvesAll, Judges, AreOutcomes};
 
-use crate::memory::{Memory, outcome_copied};
+use crate::outcomes::{Outcomes, copy_outcome};
 use it_prove::{Proof, prove};
 use it_region::{Candidate, Pair, fits, obligations};
 use it_simplex::Budget;
@@ -15,7 +15,7 @@ use it_space::{Certificate, Problem, Row};
 use std::alloc::{AllocError, Global};
 
 /// The certificate that the run about a target ends with, if it does.
-fn solved(
+fn certificate_of(
     alloc: Global,
     problem: &Problem,
     target: &Row,
@@ -38,20 +38,20 @@ fn proof_of(
     problem: &Problem,
     target: &Row,
     budget: Budget,
-    memory: &mut Memory,
+    outcomes: &mut Outcomes,
 ) -> Result<Option<Certificate>, AllocError>
     requires problem { IsProblem (problem_view problem.now) }
     requires target { IsUpTo (size_of problem.now.space) target.now }
-    requires memory { Remembers (problem_view problem.now) budget memory.old }
+    requires outcomes { AreOutcomes (problem_view problem.now) budget outcomes.old }
     ensures proves { IfOk result (λ o. ProvesOne (problem_view problem.now) budget target.now o) }
-    ensures memory { OnOk result (Remembers (problem_view problem.now) budget memory.new) }
+    ensures outcomes { OnOk result (AreOutcomes (problem_view problem.now) budget outcomes.new) }
 {
-    if let Some(outcome) = memory.outcomes.get(target.terms()) {
-        let kept = outcome_copied(alloc, outcome)?;
+    if let Some(outcome) = outcomes.by_row.get(target.terms()) {
+        let kept = copy_outcome(alloc, outcome)?;
         return Ok(kept);
     }
-    let outcome = solved(alloc, problem, target, budget)?;
-    memory.keep(alloc, target, &outcome)?;
+    let outcome = certificate_of(alloc, problem, target, budget)?;
+    outcomes.keep(alloc, target, &outcome)?;
     Ok(outcome)
 }
 
@@ -61,17 +61,17 @@ fn proofs_of(
     problem: &Problem,
     targets: &[Row],
     budget: Budget,
-    memory: &mut Memory,
+    outcomes: &mut Outcomes,
 ) -> Result<Option<Vec<Certificate>>, AllocError>
     requires problem { IsProblem (problem_view problem.now) }
     requires targets { All (IsUpTo (size_of problem.now.space)) targets.now }
-    requires memory { Remembers (problem_view problem.now) budget memory.old }
+    requires outcomes { AreOutcomes (problem_view problem.now) budget outcomes.old }
     ensures proves { IfOk result (λ o. ProvesAll (problem_view problem.now) budget targets.now o) }
-    ensures memory { OnOk result (Remembers (problem_view problem.now) budget memory.new) }
+    ensures outcomes { OnOk result (AreOutcomes (problem_view problem.now) budget outcomes.new) }
 {
     let mut proofs = Vec::new(alloc);
     for target in targets {
-        match proof_of(alloc, problem, target, budget, memory)? {
+        match proof_of(alloc, problem, target, budget, outcomes)? {
             Some(proof) => proofs.push(proof)?,
             None => return Ok(None),
         }
@@ -85,17 +85,17 @@ pub(crate) fn proofs_of_candidate(
     pair: &Pair,
     candidate: &Candidate,
     budget: Budget,
-    memory: &mut Memory,
+    outcomes: &mut Outcomes,
 ) -> Result<Option<Vec<Certificate>>, AllocError>
     requires pair { IsPair pair.now }
-    requires memory { Remembers (problem_view pair.now.first) budget memory.old }
+    requires outcomes { AreOutcomes (problem_view pair.now.first) budget outcomes.old }
     ensures judges { IfOk result (λ o. Judges (goal_of pair.now budget) candidate.now o) }
-    ensures memory { OnOk result (Remembers (problem_view pair.now.first) budget memory.new) }
+    ensures outcomes { OnOk result (AreOutcomes (problem_view pair.now.first) budget outcomes.new) }
 {
     if !fits(pair, candidate) {
         return Ok(None);
     }
     let rows = obligations(alloc, pair, candidate)?;
-    let proofs = proofs_of(alloc, &pair.first, rows.as_slice(), budget, memory)?;
+    let proofs = proofs_of(alloc, &pair.first, rows.as_slice(), budget, outcomes)?;
     Ok(proofs)
 }

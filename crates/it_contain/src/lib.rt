@@ -4,7 +4,7 @@
 
 mod boxes;
 mod judging;
-mod memory;
+mod outcomes;
 mod proposer;
 mod recent;
 mod search;

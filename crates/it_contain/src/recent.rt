@@ -1,6 +1,7 @@
 //! A proposer that remembers.
 ghost use Rattle.std.specs.Prelude.{◌≡◌, ◌≤◌, [], None};
-ghost use Rattle.it_contain.specs.Recents.{last_of, is_of_shape, recent_candidates, listed};
+ghost use Rattle.std.specs.Option.{option_to_list};
+ghost use Rattle.it_contain.specs.Recents.{last_of, is_of_shape, recent_candidates};
 
 use crate::proposer::Proposer;
 use crate::types::Shape;
@@ -23,7 +24,7 @@ fn is_of_shape(shape: Shape, candidate: &Candidate) -> bool
 /// The kept candidate, if there is one and it is of the shape.
 fn of_shape(shape: Shape, kept: &Option<Candidate>) -> Option<Candidate>
     requires { shape.variables ≤ 10 }
-    ensures { listed result ≡ recent_candidates shape kept.now }
+    ensures { option_to_list result ≡ recent_candidates shape kept.now }
 {
     match kept {
         Some(candidate) => if is_of_shape(shape, candidate) {
@@ -58,7 +59,7 @@ impl Recent {
 }
 
 impl Proposer for Recent {
-    ghost pending = { λ r. listed r.left };
+    ghost pending = { λ r. option_to_list r.left };
 
     ghost plan = { λ r shape proved. recent_candidates shape (last_of r.kept proved) };
 

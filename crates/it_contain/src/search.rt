@@ -4,11 +4,11 @@ ghost use Rattle.it_space.specs.Problems.{problem_view};
 ghost use Rattle.it_region.specs.Pairs.{IsPair};
 ghost use Rattle.it_contain.specs.Shapes.{IsShape, shape_of};
 ghost use Rattle.it_contain.specs.Search.{lists_of, plan_of, Ends, goal_of};
-ghost use Rattle.it_contain.specs.SearchSteps.{Tries, KeepsLater, Remembers};
+ghost use Rattle.it_contain.specs.SearchSteps.{Tries, KeepsLater, AreOutcomes};
 
 use crate::boxes::{begin_all, next_at, teach_all, tell_all};
 use crate::judging::proofs_of_candidate;
-use crate::memory::Memory;
+use crate::outcomes::Outcomes;
 use crate::proposer::Proposer;
 use crate::types::{Contained, Shape};
 use it_region::{Candidate, Pair};
@@ -35,8 +35,17 @@ pub fn contain(
         variables: pair.first.space.variables,
         parts: pair.parts,
     };
-    let mut memory = Memory::new(alloc);
-    let end = try_all(alloc, pair, shape, first, boxes, tries, budget, &mut memory)?;
+    let mut outcomes = Outcomes::new(alloc);
+    let end = try_all(
+        alloc,
+        pair,
+        shape,
+        first,
+        boxes,
+        tries,
+        budget,
+        &mut outcomes,
+    )?;
     Ok(end)
 }
 
@@ -47,14 +56,14 @@ fn try_one(
     candidate: &Candidate,
     boxes: &mut Vec<Box<dyn Proposer>>,
     budget: Budget,
-    memory: &mut Memory,
+    outcomes: &mut Outcomes,
 ) -> Result<Option<Vec<Certificate>>, AllocError>
     requires pair { IsPair pair.now }
-    requires memory { Remembers (problem_view pair.now.first) budget memory.old }
+    requires outcomes { AreOutcomes (problem_view pair.now.first) budget outcomes.old }
     ensures tries { IfOk result (λ o. Tries (goal_of pair.now budget) candidate.now o (map pending boxes.old.items) (map plan boxes.old.items) (map pending boxes.new.items) (map plan boxes.new.items)) }
-    ensures memory { OnOk result (Remembers (problem_view pair.now.first) budget memory.new) }
+    ensures outcomes { OnOk result (AreOutcomes (problem_view pair.now.first) budget outcomes.new) }
 {
-    match proofs_of_candidate(alloc, pair, candidate, budget, memory)? {
+    match proofs_of_candidate(alloc, pair, candidate, budget, outcomes)? {
         Some(proof) => {
             teach_all(boxes, candidate);
             Ok(Some(proof))
@@ -74,20 +83,20 @@ fn try_list(
     boxes: &mut Vec<Box<dyn Proposer>>,
     tries: u32,
     budget: Budget,
-    memory: &mut Memory,
+    outcomes: &mut Outcomes,
 ) -> Result<Contained, AllocError>
     requires pair { IsPair pair.now }
-    requires memory { Remembers (problem_view pair.now.first) budget memory.old }
+    requires outcomes { AreOutcomes (problem_view pair.now.first) budget outcomes.old }
     ensures ends { IfOk result (λ r. Ends (goal_of pair.now budget) tries first.now (map plan boxes.old.items) r (map plan boxes.new.items)) }
     ensures later { IfOk result (λ r. KeepsLater r (map pending boxes.old.items) (map pending boxes.new.items)) }
-    ensures memory { OnOk result (Remembers (problem_view pair.now.first) budget memory.new) }
+    ensures outcomes { OnOk result (AreOutcomes (problem_view pair.now.first) budget outcomes.new) }
 {
     let mut count: u32 = 0;
     for candidate in first {
         if count == tries {
             return Ok(Contained::Open { tried: count });
         }
-        match try_one(alloc, pair, candidate, boxes, budget, memory)? {
+        match try_one(alloc, pair, candidate, boxes, budget, outcomes)? {
             Some(proof) => return Ok(Contained::Found(*candidate, proof)),
             None => count += 1,
         }
@@ -103,20 +112,20 @@ fn try_box(
     i: usize,
     tries: u32,
     budget: Budget,
-    memory: &mut Memory,
+    outcomes: &mut Outcomes,
 ) -> Result<Contained, AllocError>
     requires pair { IsPair pair.now }
-    requires memory { Remembers (problem_view pair.now.first) budget memory.old }
+    requires outcomes { AreOutcomes (problem_view pair.now.first) budget outcomes.old }
     requires box_is { i < vec_len boxes.old }
     ensures ends { IfOk result (λ r. Ends (goal_of pair.now budget) tries (get_or (map pending boxes.old.items) i []) (map plan boxes.old.items) r (map plan boxes.new.items)) }
     ensures later { IfOk result (λ r. KeepsLater r (drop (i + 1) (map pending boxes.old.items)) (drop (i + 1) (map pending boxes.new.items))) }
-    ensures memory { OnOk result (Remembers (problem_view pair.now.first) budget memory.new) }
+    ensures outcomes { OnOk result (AreOutcomes (problem_view pair.now.first) budget outcomes.new) }
 {
     for count in 0..tries {
         let Some(candidate) = next_at(boxes, i) else {
             return Ok(Contained::Open { tried: count });
         };
-        match try_one(alloc, pair, &candidate, boxes, budget, memory)? {
+        match try_one(alloc, pair, &candidate, boxes, budget, outcomes)? {
             Some(proof) => return Ok(Contained::Found(candidate, proof)),
             None => {}
         }
@@ -133,20 +142,20 @@ fn try_all(
     boxes: &mut Vec<Box<dyn Proposer>>,
     tries: u32,
     budget: Budget,
-    memory: &mut Memory,
+    outcomes: &mut Outcomes,
 ) -> Result<Contained, AllocError>
     requires pair { IsPair pair.now }
-    requires memory { Remembers (problem_view pair.now.first) budget memory.old }
+    requires outcomes { AreOutcomes (problem_view pair.now.first) budget outcomes.old }
     requires shape { IsShape shape }
     ensures { IfOk result (λ r. Ends (goal_of pair.now budget) tries (plan_of first.now (map plan boxes.old.items) shape) (map plan boxes.old.items) r (map plan boxes.new.items)) }
 {
     begin_all(boxes, shape);
-    let mut count = match try_list(alloc, pair, first, boxes, tries, budget, memory)? {
+    let mut count = match try_list(alloc, pair, first, boxes, tries, budget, outcomes)? {
         Contained::Found(candidate, proof) => return Ok(Contained::Found(candidate, proof)),
         Contained::Open { tried } => tried,
     };
     for i in 0..boxes.len() {
-        match try_box(alloc, pair, boxes, i, tries - count, budget, memory)? {
+        match try_box(alloc, pair, boxes, i, tries - count, budget, outcomes)? {
             Contained::Found(candidate, proof) => return Ok(Contained::Found(candidate, proof)),
             Contained::Open { tried: more } => count += more,
         }

@@ -1,11 +1,11 @@
 use Rattle.it_space.specs.Problems.{problem_view}
 use Rattle.it_contain.specs.Search.{proof_views}
-use Rattle.it_contain.specs.SearchSteps.{Remembers}
+use Rattle.it_contain.specs.SearchSteps.{AreOutcomes}
 use Rattle.it_contain.proofs.ProofLemmas.{AreUnderWay}
 use Rattle.it_contain.proofs.judging.proofs_of.Given as goal
 
 abbrev pub invariant-loop-target : goal.invariant-loop-target
 invariant-loop-target l = record {
   under_way : AreUnderWay (problem_view l.problem) l.budget l.targets (proof_views l.proofs) l.target-index;
-  memory : Remembers (problem_view l.problem) l.budget l.memory;
+  outcomes : AreOutcomes (problem_view l.problem) l.budget l.outcomes;
 }

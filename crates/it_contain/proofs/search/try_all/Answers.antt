@@ -17,7 +17,7 @@ loop-i-init g c =
       open_so_far = open_at_first (goal_of c.args.pair.now c.args.budget) c.args.tries c.args.first.now [] c.in-Open.tried o.0;
       plans = o.1 ∙ c.begin_all.ensures.plan;
       later = keeps c.in_ok-candidate.field-0 c.in-Open.tried _ _ c.in_ok-candidate.ensures.later c.in-Open.is ∙ c.begin_all.ensures.pending;
-      memory = search rules;
+      outcomes = search rules;
     }
 
 pub returns-in-Found-2 : goal.returns-in-Found-2
@@ -39,7 +39,7 @@ loop-i-preserved g c =
       open_so_far = open_one_more (goal_of c.args.pair.now c.args.budget) c.args.tries c.args.first.now _ _ c.loop-i.i c.loop-i.count c.in-Open-2.more (simp length-map (search (rules, n))) c.loop-i.invariant.later c.loop-i.invariant.open_so_far o.0;
       plans = o.1 ∙ c.loop-i.invariant.plans;
       later = keeps c.in_ok-candidate-2.field-0 c.in-Open-2.more _ _ c.in_ok-candidate-2.ensures.later c.in-Open-2.is ∙ rest_more _ _ c.loop-i.i c.loop-i.invariant.later;
-      memory = search rules;
+      outcomes = search rules;
     }
 
 pub returns : goal.returns

@@ -1,7 +1,7 @@
 use Rattle.std.proofs.Common.{◌≡◌, ◌≤◌, map, drop}
 use Rattle.it_space.specs.Problems.{problem_view}
 use Rattle.it_contain.specs.Search.{goal_of}
-use Rattle.it_contain.specs.SearchSteps.{IsPast, Remembers}
+use Rattle.it_contain.specs.SearchSteps.{IsPast, AreOutcomes}
 use Rattle.it_contain.proofs.search.try_list.Given as goal
 
 abbrev pub invariant-loop-candidate : goal.invariant-loop-candidate
@@ -10,5 +10,5 @@ invariant-loop-candidate g l = record {
   passed : IsPast (goal_of l.pair l.budget) l.first (drop l.candidate-index l.first) l.count;
   plans : map (λ b. (goal.Proposer-dyn g (b.vtable, b.value)).plan b.value) l.boxes.items ≡ map (λ b. (goal.Proposer-dyn g (b.vtable, b.value)).plan b.value) l.initial.boxes.items;
   pending : map (λ b. (goal.Proposer-dyn g (b.vtable, b.value)).pending b.value) l.boxes.items ≡ map (λ b. (goal.Proposer-dyn g (b.vtable, b.value)).pending b.value) l.initial.boxes.items;
-  memory : Remembers (problem_view l.pair.first) l.budget l.memory;
+  outcomes : AreOutcomes (problem_view l.pair.first) l.budget l.outcomes;
 }

@@ -11,9 +11,9 @@ use Rattle.it_space.specs.declared.answers.Certificate.{Certificate}
 use Rattle.it_space.specs.Answers.{CertificateView, certificate_view}
 use Rattle.it_space.specs.Problems.{ProblemView}
 use Rattle.it_space.specs.Rows.{Terms}
-use Rattle.it_contain.specs.declared.memory.Memory.{Memory}
+use Rattle.it_contain.specs.declared.outcomes.Outcomes.{Outcomes}
 use Rattle.it_contain.specs.Search.{IsProofOf}
-use Rattle.it_contain.specs.SearchSteps.{ProvesOne, Remembers}
+use Rattle.it_contain.specs.SearchSteps.{ProvesOne, AreOutcomes}
 
 -- an outcome says the same once it is copied
 pub same_outcome : (q : ProblemView) (budget : Option ℕ) (t : Terms) (o p : Option Certificate) → option_map certificate_view o ≡ option_map certificate_view p → ProvesOne q budget t p → ProvesOne q budget t o
@@ -80,19 +80,19 @@ module _ (q : ProblemView) (budget : Option ℕ) where
       by later true is = subst (λ (b : Bool). All IsKept (if b then (x.0, o) ∷ es else x ∷ insert_entry eq es v o)) (sym is) (All-cons IsKept (x.0, o) es (subst (λ (u : Terms). ProvesOne q budget u o) (same x.0 is) h) (All-tail IsKept x es a))
       by later false is = subst (λ (b : Bool). All IsKept (if b then (x.0, o) ∷ es else x ∷ insert_entry eq es v o)) (sym is) (All-cons IsKept x (insert_entry eq es v o) (All-head IsKept x es a) later)
 
--- ---- of a memory
+-- ---- of all outcomes
 
-pub remembers_nothing : (q : ProblemView) (budget : Option ℕ) (m : Memory) → m.outcomes.entries ≡ [] → Remembers q budget m
-unfolding Remembers
-remembers_nothing q budget m e = subst (λ (es : List Entry). All (λ x. ProvesOne q budget x.0.items x.1) es) (sym e) (All-nil _)
+pub empty_outcomes : (q : ProblemView) (budget : Option ℕ) (m : Outcomes) → m.by_row.entries ≡ [] → AreOutcomes q budget m
+unfolding AreOutcomes
+empty_outcomes q budget m e = subst (λ (es : List Entry). All (λ x. ProvesOne q budget x.0.items x.1) es) (sym e) (All-nil _)
 
-pub remembers_one : (q : ProblemView) (budget : Option ℕ) (eq : ℕ × ℤ → ℕ × ℤ → Bool) → Compares eq → (m n : Memory) (v : Row) (o : Option Certificate)
-    → n.outcomes.entries ≡ insert_entry (λ x y. pointwise eq x.items y.items) m.outcomes.entries v o → Remembers q budget m → ProvesOne q budget v.items o → Remembers q budget n
-unfolding Remembers
-remembers_one q budget eq is m n v o e r h =
-    subst (λ (es : List Entry). All (λ x. ProvesOne q budget x.0.items x.1) es) (sym e) (kept q budget (λ x y. pointwise eq x.items y.items) v (λ w t. same_terms eq is v.items w.items t) o m.outcomes.entries r h)
+pub one_outcome_more : (q : ProblemView) (budget : Option ℕ) (eq : ℕ × ℤ → ℕ × ℤ → Bool) → Compares eq → (m n : Outcomes) (v : Row) (o : Option Certificate)
+    → n.by_row.entries ≡ insert_entry (λ x y. pointwise eq x.items y.items) m.by_row.entries v o → AreOutcomes q budget m → ProvesOne q budget v.items o → AreOutcomes q budget n
+unfolding AreOutcomes
+one_outcome_more q budget eq is m n v o e r h =
+    subst (λ (es : List Entry). All (λ x. ProvesOne q budget x.0.items x.1) es) (sym e) (kept q budget (λ x y. pointwise eq x.items y.items) v (λ w t. same_terms eq is v.items w.items t) o m.by_row.entries r h)
 
-pub recalls : (q : ProblemView) (budget : Option ℕ) (eq : ℕ × ℤ → ℕ × ℤ → Bool) → Compares eq → (m : Memory) (t : Terms) (o : Option Certificate)
-    → Some o ≡ lookup (λ v. pointwise eq t v.items) m.outcomes.entries → Remembers q budget m → ProvesOne q budget t o
-unfolding Remembers
-recalls q budget eq is m t o e r = found q budget (λ v. pointwise eq t v.items) t (λ v h. same_terms eq is t v.items h) m.outcomes.entries o r (sym e)
+pub outcome_of_row : (q : ProblemView) (budget : Option ℕ) (eq : ℕ × ℤ → ℕ × ℤ → Bool) → Compares eq → (m : Outcomes) (t : Terms) (o : Option Certificate)
+    → Some o ≡ lookup (λ v. pointwise eq t v.items) m.by_row.entries → AreOutcomes q budget m → ProvesOne q budget t o
+unfolding AreOutcomes
+outcome_of_row q budget eq is m t o e r = found q budget (λ v. pointwise eq t v.items) t (λ v h. same_terms eq is t v.items h) m.by_row.entries o r (sym e)

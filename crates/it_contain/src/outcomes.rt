@@ -3,7 +3,7 @@ ghost use Rattle.std.specs.Prelude.{◌≡◌, ℕ, Option, IfOk, OnOk};
 ghost use Rattle.std.specs.Option.{option_map};
 ghost use Rattle.it_space.specs.Answers.{certificate_view};
 ghost use Rattle.it_space.specs.Problems.{ProblemView};
-ghost use Rattle.it_contain.specs.SearchSteps.{ProvesOne, Remembers};
+ghost use Rattle.it_contain.specs.SearchSteps.{ProvesOne, AreOutcomes};
 
 use indexmap::IndexMap;
 use it_space::{Certificate, Row};
@@ -15,17 +15,17 @@ const MOST_ROWS: usize = 4096;
 /// Rows that were targets of runs about one problem, each with the certificate that its run ended with, if it did. The first
 /// `MOST_ROWS` of them are kept.
 #[derive(Drop)]
-pub(crate) struct Memory {
-    pub(crate) outcomes: IndexMap<Vec<(u32, i128)>, Option<Certificate>>,
+pub(crate) struct Outcomes {
+    pub(crate) by_row: IndexMap<Vec<(u32, i128)>, Option<Certificate>>,
 }
 
-impl Memory {
+impl Outcomes {
     /// With nothing kept.
-    pub(crate) fn new(alloc: Global) -> Memory
-        ensures { (q : ProblemView) (budget : Option ℕ) → Remembers q budget result }
+    pub(crate) fn new(alloc: Global) -> Outcomes
+        ensures { (q : ProblemView) (budget : Option ℕ) → AreOutcomes q budget result }
     {
-        Memory {
-            outcomes: IndexMap::new(alloc),
+        Outcomes {
+            by_row: IndexMap::new(alloc),
         }
     }
 
@@ -36,31 +36,19 @@ impl Memory {
         target: &Row,
         outcome: &Option<Certificate>,
     ) -> Result<(), AllocError>
-        ensures { OnOk result ((q : ProblemView) (budget : Option ℕ) → Remembers q budget self.old → ProvesOne q budget target.now outcome.now → Remembers q budget self.new) }
+        ensures { OnOk result ((q : ProblemView) (budget : Option ℕ) → AreOutcomes q budget self.old → ProvesOne q budget target.now outcome.now → AreOutcomes q budget self.new) }
     {
-        if self.outcomes.len() < MOST_ROWS {
+        if self.by_row.len() < MOST_ROWS {
             let terms = target.terms().iter().copied().collect(alloc)?;
-            let kept = outcome_copied(alloc, outcome)?;
-            self.outcomes.insert(terms, kept)?;
+            let kept = copy_outcome(alloc, outcome)?;
+            self.by_row.insert(terms, kept)?;
         }
         Ok(())
     }
 }
 
-/// The certificate once more.
-fn certificate_copied(alloc: Global, certificate: &Certificate) -> Result<Certificate, AllocError>
-    ensures { IfOk result (λ c. certificate_view c ≡ certificate_view certificate.now) }
-{
-    let mut weights = Vec::new(alloc);
-    weights.extend_from_slice(certificate.weights.as_slice())?;
-    Ok(Certificate {
-        scale: certificate.scale,
-        weights,
-    })
-}
-
-/// The outcome once more.
-pub(crate) fn outcome_copied(
+/// Copies an outcome.
+pub(crate) fn copy_outcome(
     alloc: Global,
     outcome: &Option<Certificate>,
 ) -> Result<Option<Certificate>, AllocError>
@@ -68,7 +56,7 @@ pub(crate) fn outcome_copied(
 {
     match outcome {
         Some(certificate) => {
-            let copy = certificate_copied(alloc, certificate)?;
+            let copy = certificate.copy(alloc)?;
             Ok(Some(copy))
         }
         None => Ok(None),
