@@ -22,7 +22,7 @@ use Rattle.it_question.specs.WrittenFiles.{spell_question, spell_questions, ques
 use Rattle.it_question.specs.WrittenQuestions.{WrittenQuestion, Prove, most_variables}
 use Rattle.it_question.proofs.PlainLines.{spelled_plain, plain_same, plain_first}
 use Rattle.it_gen.specs.Draws.{state_after}
-use Rattle.it_gen.specs.GeneratedFiles.{term_text, bound_text, question_text, generated_file, IsProof, GeneratedIsFile}
+use Rattle.it_gen.specs.GeneratedFiles.{term_text, bound_text, question_text, generated_file, IsProve, GeneratedIsFile}
 use Rattle.it_gen.proofs.SpelledLines.{IsSpelled, line_end, Writes, Anything, writes_then, writes_space, writes_word, writes_symbol}
 use Rattle.it_gen.proofs.PartTexts.{four_variables, term_tree, bound_tree, term_writes, bound_writes}
 use Rattle.it_gen.proofs.Lengths.{generated_short}
@@ -44,9 +44,9 @@ unfolding is_word_byte
 keyword w h = writes_then (writes_word w h) writes_space (λ rest d. refl)
 
 -- a name, and `, ` behind it
-listed : (w : List ℕ) → IsText kinds.Word w → Writes Anything (w ++ codes ", ") (λ k. clean (Word w) ∷ clean (Sym symbols.Comma) ∷ k)
+name_and_comma : (w : List ℕ) → IsText kinds.Word w → Writes Anything (w ++ codes ", ") (λ k. clean (Word w) ∷ clean (Sym symbols.Comma) ∷ k)
 unfolding is_word_byte
-listed w h = writes_then (writes_word w h) (writes_then (writes_symbol symbols.Comma) writes_space (λ rest d. tt)) (λ rest d. refl)
+name_and_comma w h = writes_then (writes_word w h) (writes_then (writes_symbol symbols.Comma) writes_space (λ rest d. tt)) (λ rest d. refl)
 
 vars_line : List ℕ
 vars_line = codes "vars A, B, C, D"
@@ -57,9 +57,9 @@ vars_writes =
     let short : 1 ≤ 16 = omega arith in
     let short_vars : 4 ≤ 16 = omega arith in
     writes_then (keyword (codes "vars") (refl, (refl, (refl, (refl, (refl, tt)))), short_vars))
-    (writes_then (listed (codes "A") (refl, (refl, tt), short))
-    (writes_then (listed (codes "B") (refl, (refl, tt), short))
-    (writes_then (listed (codes "C") (refl, (refl, tt), short)) (writes_word (codes "D") (refl, (refl, tt), short)) (λ rest d. tt)) (λ rest d. tt)) (λ rest d. tt)) (λ rest d. tt)
+    (writes_then (name_and_comma (codes "A") (refl, (refl, tt), short))
+    (writes_then (name_and_comma (codes "B") (refl, (refl, tt), short))
+    (writes_then (name_and_comma (codes "C") (refl, (refl, tt), short)) (writes_word (codes "D") (refl, (refl, tt), short)) (λ rest d. tt)) (λ rest d. tt)) (λ rest d. tt)) (λ rest d. tt)
 
 prove_line : ℕ → List ℕ
 prove_line x = codes "prove " ++ term_text x ++ codes " + " ++ term_text (state_after 2 x) ++ codes " + " ++ term_text (state_after 4 x) ++ codes " >= " ++ bound_text (state_after 6 x)
@@ -140,10 +140,10 @@ unfolding trees
 counted seed zero lines = refl
 counted seed (suc count) lines = ap suc (counted (state_after 8 seed) count _)
 
-all_prove : (seed count : ℕ) (lines : List TokenLine) → All IsProof (with_texts lines (questions_of (trees seed count)))
+all_prove : (seed count : ℕ) (lines : List TokenLine) → All IsProve (with_texts lines (questions_of (trees seed count)))
 unfolding trees question_tree
-all_prove seed zero lines = All-nil IsProof
-all_prove seed (suc count) lines = All-cons IsProof _ _ tt (all_prove (state_after 8 seed) count _)
+all_prove seed zero lines = All-nil IsProve
+all_prove seed (suc count) lines = All-cons IsProve _ _ tt (all_prove (state_after 8 seed) count _)
 
 pub generated_is_file : GeneratedIsFile
 generated_is_file seed count few =

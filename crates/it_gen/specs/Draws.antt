@@ -1,6 +1,7 @@
 -- Drawn numbers: those of the generator that the C standard gives as an example (ISO/IEC 9899:1990, 7.10.2).
 use Rattle.std.specs.Prelude.{ℕ, zero, suc, ◌+◌, ◌*◌, ◌/◌, ◌%◌, ◌^◌}
 
+-- the state after one draw
 unfoldable pub next_state : ℕ → ℕ
 next_state x = (1103515245 * x + 12345) % 2 ^ 31
 

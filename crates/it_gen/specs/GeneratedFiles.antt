@@ -7,6 +7,7 @@ use Rattle.it_question.specs.Files.{IsFile}
 use Rattle.it_print.specs.Lines.{set_text, elemental_text}
 use Rattle.it_gen.specs.Draws.{state_after, draw}
 
+-- the names of the variables
 abbrev pub four_names : List (List ℕ)
 four_names = codes "A" ∷ codes "B" ∷ codes "C" ∷ codes "D" ∷ []
 
@@ -32,22 +33,22 @@ generated_file seed (suc count) = question_text seed ++ generated_file (state_af
 -- ---- what the file is
 
 -- its verb is `prove`
-abbrev pub IsProof : QuestionView → Type 0
-IsProof q = IsProve q.body.verb
+abbrev pub IsProve : QuestionView → Type 0
+IsProve q = IsVerbProve q.body.verb
   where
-    IsProve : VerbView → Type 0
-    IsProve (Prove r) = Unit {0}
-    IsProve (Eliminate rates) = ⊥
-    IsProve (Contain first second tries) = ⊥
+    IsVerbProve : VerbView → Type 0
+    IsVerbProve (Prove r) = Unit {0}
+    IsVerbProve (Eliminate rates) = ⊥
+    IsVerbProve (Contain first second tries) = ⊥
 
 -- a question file of so many questions with the verb `prove`, no longer than a file may be
-pub record IsProofFile (bytes : List ℕ) (count : ℕ) : Type 0 where
+pub record IsProveFile (bytes : List ℕ) (count : ℕ) : Type 0 where
   pub questions : List QuestionView
   pub asked : IsFile bytes questions
   pub counted : length questions ≡ count
-  pub prove : All IsProof questions
+  pub prove : All IsProve questions
   pub short : length bytes ≤ 1048576
 
 -- Up to the greatest number of questions of a file, the generated questions are one.
 abbrev pub GeneratedIsFile : Type 0
-GeneratedIsFile = (seed count : ℕ) → count ≤ 1000 → IsProofFile (generated_file seed count) count
+GeneratedIsFile = (seed count : ℕ) → count ≤ 1000 → IsProveFile (generated_file seed count) count

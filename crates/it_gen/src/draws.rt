@@ -2,13 +2,13 @@
 ghost use Rattle.std.specs.Prelude.{◌≡◌, ◌<◌};
 ghost use Rattle.it_gen.specs.Draws.{draw, next_state};
 
-/// The state of the generator between two draws.
+/// Numbers that are drawn one after the other: the state between two draws.
 #[derive(Debug, Drop)]
-pub struct Generator {
+pub struct Draws {
     pub state: u32,
 }
 
-impl Generator {
+impl Draws {
     /// The next number, from 0 on and below the bound.
     pub fn draw(&mut self, below: u32) -> u32
         requires some { 0 < below }

@@ -3,7 +3,7 @@ ghost use Rattle.std.specs.Prelude.{◌≡◌, ◌<◌, ◌≤◌, ◌++◌, ◌
 ghost use Rattle.it_gen.specs.Draws.{state_after};
 ghost use Rattle.it_gen.specs.GeneratedFiles.{bound_text, four_names, generated_file, question_text, term_text};
 
-use crate::draws::Generator;
+use crate::draws::Draws;
 use it_print::{write_elemental, write_number, write_set};
 use it_space::VarSet;
 use it_syntax::Names;
@@ -15,8 +15,8 @@ const INEQUALITIES: u32 = 28;
 /// How many sets of four variables aren't empty.
 const NONEMPTY_SETS: u32 = 15;
 
-/// So many questions about the variables A, B, C and D, two lines each, drawn one after the other from a generator that begins
-/// with the seed. The same seed always gives the same bytes.
+/// So many questions about the variables A, B, C and D, two lines each, by draws that begin with the seed. The same seed always
+/// gives the same bytes.
 pub fn questions_of(alloc: Global, seed: u32, count: u32) -> Result<Vec<u8>, AllocError>
     requires seed { seed < 2 ^ 31 }
     requires some { 1 ≤ count }
@@ -29,7 +29,7 @@ pub fn questions_of(alloc: Global, seed: u32, count: u32) -> Result<Vec<u8>, All
     Ok(out)
 }
 
-/// So many questions behind what stands, by a generator that begins with the seed.
+/// So many questions behind what stands, by draws that begin with the seed.
 fn write_questions(
     out: &mut Vec<u8>,
     names: &Names,
@@ -39,9 +39,9 @@ fn write_questions(
     requires { names.now.variables ≡ four_names }
     ensures { OnOk result (out.new.items ≡ out.old.items ++ generated_file seed count) }
 {
-    let mut generator = Generator { state: seed };
+    let mut draws = Draws { state: seed };
     for _ in 0..count {
-        write_question(out, names, &mut generator)?;
+        write_question(out, names, &mut draws)?;
     }
     Ok(())
 }
@@ -60,35 +60,31 @@ fn four_names(alloc: Global) -> Result<Names, AllocError>
 
 /// A question, by eight draws.
 #[tactic(auto, unfolding(crate::specs::GeneratedFiles::question_text))]
-fn write_question(
-    out: &mut Vec<u8>,
-    names: &Names,
-    generator: &mut Generator,
-) -> Result<(), AllocError>
+fn write_question(out: &mut Vec<u8>, names: &Names, draws: &mut Draws) -> Result<(), AllocError>
     requires { names.now.variables ≡ four_names }
-    ensures text { OnOk result (out.new.items ≡ out.old.items ++ question_text generator.old.state) }
-    ensures state { OnOk result (generator.new.state ≡ state_after 8 generator.old.state) }
+    ensures text { OnOk result (out.new.items ≡ out.old.items ++ question_text draws.old.state) }
+    ensures state { OnOk result (draws.new.state ≡ state_after 8 draws.old.state) }
 {
     out.extend_from_slice(b"vars A, B, C, D\nprove ")?;
-    write_term(out, names, generator)?;
+    write_term(out, names, draws)?;
     out.extend_from_slice(b" + ")?;
-    write_term(out, names, generator)?;
+    write_term(out, names, draws)?;
     out.extend_from_slice(b" + ")?;
-    write_term(out, names, generator)?;
+    write_term(out, names, draws)?;
     out.extend_from_slice(b" >= ")?;
-    write_bound(out, names, generator)?;
+    write_bound(out, names, draws)?;
     out.extend_from_slice(b"\n")
 }
 
 /// A drawn elemental inequality with a drawn coefficient.
 #[tactic(auto, unfolding(crate::specs::GeneratedFiles::term_text))]
-fn write_term(out: &mut Vec<u8>, names: &Names, generator: &mut Generator) -> Result<(), AllocError>
+fn write_term(out: &mut Vec<u8>, names: &Names, draws: &mut Draws) -> Result<(), AllocError>
     requires { names.now.variables ≡ four_names }
-    ensures text { OnOk result (out.new.items ≡ out.old.items ++ term_text generator.old.state) }
-    ensures state { OnOk result (generator.new.state ≡ state_after 2 generator.old.state) }
+    ensures text { OnOk result (out.new.items ≡ out.old.items ++ term_text draws.old.state) }
+    ensures state { OnOk result (draws.new.state ≡ state_after 2 draws.old.state) }
 {
-    let coefficient = 1 + generator.draw(4);
-    let inequality = generator.draw(INEQUALITIES);
+    let coefficient = 1 + draws.draw(4);
+    let inequality = draws.draw(INEQUALITIES);
     write_number(out, coefficient as usize)?;
     out.extend_from_slice(b" ")?;
     write_elemental(out, names, inequality)
@@ -96,17 +92,13 @@ fn write_term(out: &mut Vec<u8>, names: &Names, generator: &mut Generator) -> Re
 
 /// A drawn multiple of a drawn entropy.
 #[tactic(auto, unfolding(crate::specs::GeneratedFiles::bound_text))]
-fn write_bound(
-    out: &mut Vec<u8>,
-    names: &Names,
-    generator: &mut Generator,
-) -> Result<(), AllocError>
+fn write_bound(out: &mut Vec<u8>, names: &Names, draws: &mut Draws) -> Result<(), AllocError>
     requires { names.now.variables ≡ four_names }
-    ensures text { OnOk result (out.new.items ≡ out.old.items ++ bound_text generator.old.state) }
-    ensures state { OnOk result (generator.new.state ≡ state_after 2 generator.old.state) }
+    ensures text { OnOk result (out.new.items ≡ out.old.items ++ bound_text draws.old.state) }
+    ensures state { OnOk result (draws.new.state ≡ state_after 2 draws.old.state) }
 {
-    let factor = generator.draw(3);
-    let set = VarSet::from_number(1 + generator.draw(NONEMPTY_SETS) as u16);
+    let factor = draws.draw(3);
+    let set = VarSet::from_number(1 + draws.draw(NONEMPTY_SETS) as u16);
     write_number(out, factor as usize)?;
     out.extend_from_slice(b" H(")?;
     write_set(out, names, set)?;

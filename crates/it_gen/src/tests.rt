@@ -1,4 +1,4 @@
-use crate::draws::Generator;
+use crate::draws::Draws;
 use crate::questions_of;
 use std::process::Abort;
 use std::test::Fail;
@@ -12,9 +12,9 @@ prove 1 I(C;D|B) + 2 I(C;D|A,B) + 1 I(B;D) >= 2 H(A,D)
 
 #[test]
 fn the_first_draws_are_those_of_the_constants(rt: HostRuntime) {
-    let mut generator = Generator { state: 1 };
+    let mut draws = Draws { state: 1 };
     for number in [16838, 5758, 10113, 17515, 31051, 5627, 23010, 7419] {
-        assert_eq!(rt; generator.draw(32768), number);
+        assert_eq!(rt; draws.draw(32768), number);
     }
 }
 

@@ -31,6 +31,7 @@ abbrev pub joined_texts : List ℕ → Bool → List (List ℕ) → List ℕ
 joined_texts separator some [] = []
 joined_texts separator some (text ∷ texts) = between_if some separator ++ text ++ joined_texts separator true texts
 
+-- a list of one item, or the empty list
 abbrev pub one_if : {X : Type 0} → Bool → X → List X
 one_if true x = x ∷ []
 one_if false x = []
@@ -48,6 +49,7 @@ set_text names set = joined_texts (codes ",") false (members_from 0 names set)
 unfoldable pub set_or_zero_text : List (List ℕ) → ℕ → List ℕ
 set_or_zero_text names set = if set == 0 then codes "0" else set_text names set
 
+-- what is given, behind a bar, or nothing
 abbrev pub given_set_text : List (List ℕ) → ℕ → List ℕ
 given_set_text names set = if set == 0 then [] else codes "|" ++ set_text names set
 
@@ -58,17 +60,20 @@ elemental_text names (Conditional i) =
 elemental_text names (Mutual i j k) =
     codes "I(" ++ set_text names (2 ^ i) ++ codes ";" ++ set_text names (2 ^ j) ++ given_set_text names k ++ codes ")"
 
--- where a constraint comes from: `given J`, `given J.I` where the line gives several, or `row J`
+-- `.I` where a line gives several constraints
 abbrev pub part_number : ℕ → ℕ → List ℕ
 part_number part parts = if nat_lt 1 parts then codes "." ++ decimal part else []
 
+-- where a constraint comes from: `given J`, `given J.I` where the line gives several, or `row J`
 unfoldable pub place_text : Origin → List ℕ
 place_text (Given line part parts) = codes "given " ++ decimal line ++ part_number part parts
 place_text (Rate line) = codes "row " ++ decimal line
 
+-- where the constraints come from, in order
 abbrev pub places_of : List Constraint → List Origin
 places_of cs = map (λ c. c.origin) cs
 
+-- where the constraint of this number comes from
 abbrev pub place_at : List Origin → ℕ → Origin
 place_at places i = slice_index_or places i (Rate 0)
 
@@ -78,9 +83,11 @@ generator_text names places g =
     if nat_lt g (length (elementals (length names))) then elemental_text names (elemental_at (length names) g)
     else place_text (place_at places (g - length (elementals (length names))))
 
+-- a part of a sum: the weight and the generator
 unfoldable pub part_text : List (List ℕ) → List Origin → ℕ × ℤ → List ℕ
 part_text names places part = signed_decimal part.1 ++ codes " " ++ generator_text names places part.0
 
+-- whether the weight isn't 0
 abbrev pub is_some_weight : ℕ × ℤ → Bool
 is_some_weight part = not (unsigned_abs part.1 == 0)
 
@@ -95,9 +102,11 @@ or_zero true texts = texts
 or_zero false [] = codes "0" ∷ []
 or_zero false (text ∷ texts) = text ∷ texts
 
+-- the parts of a certificate with ` + ` between them, or `0`
 unfoldable pub sum_text : List (List ℕ) → List Origin → List (ℕ × ℤ) → List ℕ
 sum_text names places parts = joined_texts (codes " + ") false (or_zero false (part_texts names places parts))
 
+-- a certificate: the scale, and the sum
 unfoldable pub weights_text : List (List ℕ) → List Origin → CertificateView → List ℕ
 weights_text names places w = signed_decimal w.scale ++ codes " : " ++ sum_text names places w.parts
 
@@ -106,6 +115,7 @@ unfoldable pub coordinate_text : NamesView → ℕ → List ℕ
 coordinate_text v c =
     if nat_lt c (2 ^ length v.variables) then codes "h(" ++ set_text v.variables c ++ codes ")" else slice_index_or v.rates (c - 2 ^ length v.variables) []
 
+-- a coordinate with its value, behind a blank
 abbrev pub value_text : NamesView → ℕ → ℤ → List ℕ
 value_text v c x = codes " " ++ coordinate_text v c ++ codes "=" ++ signed_decimal x
 
@@ -122,23 +132,27 @@ cause_text v Scale = codes "scale"
 cause_text v (Rows r) = codes "rows " ++ slice_index_or v.rates r []
 cause_text v (WideRate r) = codes "width " ++ slice_index_or v.rates r []
 
--- ROW: the sign of a term, with blanks round it behind another term; its coefficient with a blank where that isn't 1
+-- whether a number is below 0
 abbrev pub is_negative : ℤ → Bool
 is_negative (pos n) = false
 is_negative (negsuc n) = true
 
+-- the sign of a term that is the first or not, and negative or not: with blanks round it behind another term
 abbrev pub sign_text : Bool → Bool → List ℕ
 sign_text true true = codes "-"
 sign_text true false = []
 sign_text false true = codes " - "
 sign_text false false = codes " + "
 
+-- a coefficient without its sign and with a blank behind it, and nothing where it is 1
 abbrev pub factor_text : ℕ → List ℕ
 factor_text n = if n == 1 then [] else decimal n ++ codes " "
 
+-- a term, the first or a later one
 unfoldable pub term_text : NamesView → Bool → ℕ × ℤ → List ℕ
 term_text v is_first t = sign_text is_first (is_negative t.1) ++ factor_text (unsigned_abs t.1) ++ coordinate_text v t.0
 
+-- terms in order, the first of them as such or not
 abbrev pub terms_text : NamesView → Bool → Terms → List ℕ
 terms_text v is_first [] = []
 terms_text v is_first (t ∷ ts) = term_text v is_first t ++ terms_text v false ts
@@ -148,6 +162,7 @@ unfoldable pub form_text : NamesView → Terms → List ℕ
 form_text v [] = codes "0"
 form_text v (t ∷ ts) = terms_text v true (t ∷ ts)
 
+-- what a row is to be
 abbrev pub kind_text : Kind → List ℕ
 kind_text Inequality = codes " >= 0"
 kind_text Equation = codes " = 0"
@@ -156,14 +171,17 @@ kind_text Equation = codes " = 0"
 unfoldable pub row_text : NamesView → Kind → Terms → List ℕ
 row_text v kind terms = form_text v terms ++ kind_text kind
 
+-- the word of a mark
 abbrev pub mark_text : Mark → List ℕ
 mark_text Plain = codes "plain"
 mark_text Needed = codes "needed"
 mark_text Unsettled = codes "unsettled"
 
+-- the line of a row of the region that answers question k
 unfoldable pub row_line : ℕ → NamesView → Mark × Terms → List ℕ
 row_line k v row = decimal k ++ codes " row " ++ mark_text row.0 ++ codes " " ++ row_text v Inequality row.1 ++ codes "\n"
 
+-- a line for each row
 abbrev pub row_lines : ℕ → NamesView → List (Mark × Terms) → List ℕ
 row_lines k v [] = []
 row_lines k v (row ∷ rows) = row_line k v row ++ row_lines k v rows
@@ -172,9 +190,11 @@ row_lines k v (row ∷ rows) = row_line k v row ++ row_lines k v rows
 unfoldable pub yes_line : ℕ → List (List ℕ) → List Origin → List CertificateView → List ℕ
 yes_line k names places ws = decimal k ++ codes " yes " ++ joined_texts (codes " and ") false (map (weights_text names places) ws) ++ codes "\n"
 
+-- `no`, and the values of the point
 unfoldable pub no_line : ℕ → NamesView → List ℤ → List ℕ
 no_line k v values = decimal k ++ codes " no" ++ values_from v 1 values ++ codes "\n"
 
+-- `undecided`, and its cause
 unfoldable pub undecided_line : ℕ → NamesView → Cause → List ℕ
 undecided_line k v cause = decimal k ++ codes " undecided " ++ cause_text v cause ++ codes "\n"
 
@@ -188,6 +208,7 @@ auxiliary_names_by v (Prove r) = []
 auxiliary_names_by v (Eliminate rates) = []
 auxiliary_names_by v (Contain first second tries) = drop (length v.variables) second.names.variables
 
+-- those of a question
 abbrev pub auxiliary_names : BodyView → List (List ℕ)
 auxiliary_names q = auxiliary_names_by q.names q.verb
 
@@ -195,14 +216,17 @@ auxiliary_names q = auxiliary_names_by q.names q.verb
 unfoldable pub part_for : List (List ℕ) → List ℕ → ℕ → List ℕ
 part_for variables name set = codes " " ++ name ++ codes ":=" ++ set_or_zero_text variables set
 
+-- the sets of the auxiliary variables, in order
 abbrev pub parts_for : List (List ℕ) → List (List ℕ) → List ℕ → List ℕ
 parts_for variables [] sets = []
 parts_for variables (name ∷ names) [] = []
 parts_for variables (name ∷ names) (set ∷ sets) = part_for variables name set ++ parts_for variables names sets
 
+-- `contained`, and the substitution
 unfoldable pub contained_line : ℕ → List (List ℕ) → List (List ℕ) → List ℕ → List ℕ
 contained_line k auxiliaries variables sets = decimal k ++ codes " contained" ++ parts_for variables auxiliaries sets ++ codes "\n"
 
+-- `open`, and how many candidates were tried
 unfoldable pub open_line : ℕ → ℕ → List ℕ
 open_line k tried = decimal k ++ codes " open " ++ decimal tried ++ codes "\n"
 

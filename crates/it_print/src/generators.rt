@@ -105,7 +105,7 @@ fn write_place(out: &mut Vec<u8>, place: Origin) -> Result<(), AllocError>
         Origin::Given { line, part, parts } => {
             out.extend_from_slice(b"given ")?;
             write_number(out, line as usize)?;
-            write_part(out, part, parts)
+            write_part_number(out, part, parts)
         }
         Origin::Rate { line } => {
             out.extend_from_slice(b"row ")?;
@@ -115,7 +115,7 @@ fn write_place(out: &mut Vec<u8>, place: Origin) -> Result<(), AllocError>
 }
 
 /// `.I` where a line gives several constraints.
-fn write_part(out: &mut Vec<u8>, part: u16, parts: u16) -> Result<(), AllocError>
+fn write_part_number(out: &mut Vec<u8>, part: u16, parts: u16) -> Result<(), AllocError>
     ensures { OnOk result (out.new.items ≡ out.old.items ++ part_number part parts) }
 {
     if parts > 1 {

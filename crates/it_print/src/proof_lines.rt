@@ -12,7 +12,7 @@ use crate::lines::answer_line;
 use crate::names::problem_names;
 use crate::pieces::{write_number, write_signed};
 use crate::rows::write_row;
-use crate::sums::{is_some, write_part};
+use crate::sums::{is_some, write_sum_part};
 use it_elemental::{count, row};
 use it_question::types::Question;
 use it_space::{Answer, Certificate, Constraint, Kind, Row};
@@ -138,7 +138,7 @@ fn write_weight_line(
 {
     write_number(out, k)?;
     out.extend_from_slice(b" proof ")?;
-    write_part(out, names, constraints, weight)?;
+    write_sum_part(out, names, constraints, weight)?;
     out.extend_from_slice(b" : ")?;
     write_generator_row(alloc, out, names, constraints, weight.0)?;
     out.extend_from_slice(b"\n")

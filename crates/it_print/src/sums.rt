@@ -70,7 +70,7 @@ fn write_sum(
 {
     let mut some = false;
     for weight in weights {
-        let text = part(alloc, names, constraints, weight)?;
+        let text = sum_part(alloc, names, constraints, weight)?;
         some = write_if(out, some, b" + ", is_some(weight), text.as_slice())?;
     }
     if !some {
@@ -79,8 +79,8 @@ fn write_sum(
     Ok(())
 }
 
-/// A weight and its generator.
-fn part(
+/// A part of a sum: a weight and its generator.
+fn sum_part(
     alloc: Global,
     names: &Names,
     constraints: &[Constraint],
@@ -91,13 +91,13 @@ fn part(
     ensures { IfOk result (λ t. t.items ≡ part_text names.now.variables (places_of constraints.now) weight.now) }
 {
     let mut out = Vec::new(alloc);
-    write_part(&mut out, names, constraints, weight)?;
+    write_sum_part(&mut out, names, constraints, weight)?;
     Ok(out)
 }
 
 /// The same behind what stands.
 #[tactic(auto, unfolding(crate::specs::Lines::part_text))]
-pub fn write_part(
+pub fn write_sum_part(
     out: &mut Vec<u8>,
     names: &Names,
     constraints: &[Constraint],

@@ -9,7 +9,7 @@ on_ok (Err x) new more old e = tt
 pub returns-clause-text : goal.returns-clause-text
 unfolding question_text
 returns-clause-text c =
-    let whole : c.write_bound.new.out.items ++ codes "\n" ≡ c.args.out.now.items ++ question_text c.args.generator.now.state =
+    let whole : c.write_bound.new.out.items ++ codes "\n" ≡ c.args.out.now.items ++ question_text c.args.draws.now.state =
     rw (
       c.in_ok-write_bound.ensures.text,
       c.in_ok-extend_from_slice-4.ensures.items,
