@@ -82,7 +82,7 @@ row_negation s f t u e h = subst (IsRowOf s (negation f)) (sym e) (record {
 pub nothing_found : (budgets : Budgets) (plans : List Plan) (q : BodyView) (answer : AnswerView) → IsRightAnswer budgets plans q (record { answer = answer; found = [] }) → IsAnswered budgets plans q answer plans
 nothing_found budgets plans q answer x = record { found = []; right = x; learned = sym (after_none plans) }
 
-pub left_of_rows : (budgets : Budgets) (plans : List Plan) (q : BodyView) (rates : List ℕ) (answer : AnswerView) → q.verb ≡ Eliminate rates → IsRightElimination budgets.rows q rates answer
+pub left_of_rows : (budgets : Budgets) (plans : List Plan) (q : BodyView) (rates : List ℕ) (answer : AnswerView) → q.verb ≡ Eliminate rates → IsRightElimination budgets q rates answer
     → IsAnswered budgets plans q answer plans
 left_of_rows budgets plans q rates answer is x = nothing_found budgets plans q answer (subst (λ m. IsRightAnswerBy budgets plans q m (record { answer = answer; found = [] })) (sym is) (x, refl))
 

@@ -1,6 +1,7 @@
 pub mod FormLemmas
 pub mod AnswerLemmas
 pub mod TruthLemmas
+pub mod GivenLemmas
 pub mod RegionLemmas
 pub mod ContainmentLemmas
 pub mod TargetLemmas

@@ -1,30 +1,36 @@
--- What elimination of the rows of the text ends with is the one right answer.
-use Rattle.std.proofs.Common.{◌≡◌, inl, inr, ◌↔◌, ℕ, ◌+◌, ◌^◌, ℤ, pos, ◌*ℤ◌, ◌≤ℤ◌, refl, sym, ap, subst, ◌∙◌, arith, List, [], ◌∷◌, length, map, All}
+-- What reduced elimination of the rows of the text ends with is the one right answer.
+use Rattle.std.proofs.Common.{◌≡◌, inl, inr, ◌↔◌, ℕ, ◌+◌, ◌^◌, ℤ, pos, ◌*ℤ◌, ◌≤ℤ◌, refl, sym, ap, ap₂, subst, ◌∙◌, arith, List, [], ◌∷◌, ◌++◌, length, map, All}
 use Rattle.std.proofs.lemmas.Int.{ints}
 use Rattle.std.proofs.lemmas.Nat.{pow_pos}
 use Rattle.std.proofs.lemmas.List.Elements.{All-nil, All-cons, All-head, All-tail}
 use Rattle.it_space.specs.declared.answers.Cause.TheVariants.{Width}
-use Rattle.it_space.specs.declared.problems.System.{System}
+use Rattle.it_space.specs.declared.answers.Mark.{Mark}
+use Rattle.it_space.specs.declared.answers.Mark.TheVariants as marks
+use Rattle.it_space.specs.declared.problems.Constraint.{Constraint}
 use Rattle.it_space.specs.declared.spaces.Space.{Space}
 use Rattle.it_space.specs.Answers.{AnswerView}
 use Rattle.it_space.specs.Answers.AnswerView.{Undecided, Region}
-use Rattle.it_space.specs.Rows.{Terms, IsUpTo, value}
+use Rattle.it_space.specs.Problems.{ProblemView, AreMet}
+use Rattle.it_space.specs.Rows.{Terms, IsUpTo, map_of, value}
 use Rattle.it_space.specs.Spaces.{size_of}
 use Rattle.it_polymatroid.specs.Polymatroid.{IsPolymatroid}
 use Rattle.it_syntax.specs.Givens.{IsTrueAt}
 use Rattle.it_syntax.specs.Meaning.{RelationView, Holds}
 use Rattle.it_question.specs.Questions.{BodyView, OwnLinesView}
-use Rattle.it_canon.specs.QuestionDemands.{variables_of, space_of, problem_names_by, problem_lines, problem_lines_by, system_forms, AreTrueAt, AreRowsOf, AreAtLeastZero}
-use Rattle.it_canon.proofs.UniqueRows.{one_row_list}
-use Rattle.it_eliminate.specs.declared.types.Eliminated.{Eliminated}
-use Rattle.it_eliminate.specs.declared.types.Eliminated.TheVariants as eliminated
-use Rattle.it_eliminate.specs.Elimination.{Member, EliminatedView, Ends, in_order}
-use Rattle.it_eliminate.specs.Elimination as elimination
-use Rattle.it_eliminate.specs.Projections.{In, Lacks, Extends, IsProjection, RegionIsProjection}
-use Rattle.it_eliminate.specs.Views.{eliminated_view}
-use Rattle.it_eliminate.proofs.LawLemmas.{one_end}
-use Rattle.it_answer.specs.RightRegions.{region_rows, plain_rows, LinesExtend, IsRightRegion, ShowsRegion, answer_of_end, IsRightElimination}
-use Rattle.it_answer.specs.RightAnswers.{IsRightAnswerBy, ARegionIsTrue}
+use Rattle.it_canon.specs.Demands.{AreStated}
+use Rattle.it_canon.specs.QuestionDemands.{variables_of, space_of, given_demands, problem_names_by, problem_lines, problem_lines_by, system_forms, AreTrueAt, AreRowsOf, AreAtLeastZero}
+use Rattle.it_canon.proofs.UniqueRows.{one_constraint_list, one_row_list}
+use Rattle.it_eliminate.specs.Elimination.{Member}
+use Rattle.it_eliminate.specs.Projections.{In, Lacks, Extends}
+use Rattle.it_redundant.specs.Reduction.{NeedView, Needed, Unsettled, kept_rows}
+use Rattle.it_redundant.specs.ReducedElimination.{ProjectedView, ReducedEnds}
+use Rattle.it_redundant.specs.ReducedElimination as reduced
+use Rattle.it_redundant.specs.Theorems as theorems
+use Rattle.it_redundant.specs.Theorems.{IsReducedRegion, RegionIsReduced}
+use Rattle.it_redundant.proofs.ProjectionLemmas.{one_reduced_end}
+use Rattle.it_answer.specs.declared.types.Budgets.{Budgets}
+use Rattle.it_answer.specs.RightRegions.{region_rows, marked_rows, LinesExtend, Separates, AreNeeded, IsRightRegion, ShowsRegion, answer_of_end, IsRightElimination}
+use Rattle.it_answer.specs.RightAnswers.{IsRightAnswerBy, ARegionIsTrue, NeededRowsAreNeeded}
 
 -- ---- the rows of the text and its lines
 
@@ -56,65 +62,148 @@ module _ (n : ℕ) (rates : List ℕ) (lines : List RelationView) (rows : List T
     λ x. record { factor = x.factor; some = x.some; point = x.point; kept = x.kept; meets = in_of rows x.point ((met x.point (zero_kept x.factor p x.point z x.kept)).1 x.meets) },
   )
 
--- ---- what elimination ends with is right
+-- ---- the rows that stay and their marks
 
-rows_again : (rows : List Terms) → region_rows (plain_rows rows) ≡ rows
+rows_again : (kept : List (Terms × NeedView)) → region_rows (marked_rows kept) ≡ kept_rows kept
 rows_again [] = refl
-rows_again (r ∷ rows) = ap (λ rs. r ∷ rs) (rows_again rows)
+rows_again (k ∷ kept) = ap (λ (rs : List Terms). k.0 ∷ rs) (rows_again kept)
 
-module _ (q : BodyView) (rates : List ℕ) (system : System) (same : system.space ≡ space_of q.names)
-    (met : (p : ℕ → ℤ) → p 0 ≡ pos 0 → AreAtLeastZero p system.rows.items ↔ All (Holds system.space.variables p) q.lines.rows) where
-  right_region : (region : System) → IsProjection system rates region → IsRightRegion q rates region.rows.items
-  right_region region x = record {
-    coordinates = subst (λ (s : Space). All (IsUpTo (size_of s)) region.rows.items) (x.space ∙ same) x.system.rows;
-    free = λ r m. subst (λ (s : Space). Lacks (2 ^ s.variables + r) region.rows.items) same (x.free r m);
-    exact = λ p h g. subst (λ (s : Space). In region.rows.items p ↔ LinesExtend s.variables rates q.lines.rows p) same (
-      λ a. (lines_extend system.space.variables rates q.lines.rows system.rows.items met p h.empty).0 ((x.exact p).0 a),
-      λ e. (x.exact p).1 ((lines_extend system.space.variables rates q.lines.rows system.rows.items met p h.empty).1 e),
-    );
+-- where a row is marked as needed, it stands between those that stay before it and after it, with its point
+record StandsBetween (kept : List (Terms × NeedView)) (before after : List (Mark × Terms)) (row : Terms) : Type 0 where
+  kept_before : List (Terms × NeedView)
+  kept_after : List (Terms × NeedView)
+  values : List ℤ
+  is : kept ≡ kept_before ++ (row, Needed values) ∷ kept_after
+  before_is : before ≡ marked_rows kept_before
+  after_is : after ≡ marked_rows kept_after
+
+unsettled_not_needed : marks.Unsettled ≡ marks.Needed → ⊥
+unsettled_not_needed e = cc
+
+stands_first : (k : Terms × NeedView) (kept : List (Terms × NeedView)) (after : List (Mark × Terms)) (row : Terms) → marked_rows (k ∷ kept) ≡ (marks.Needed, row) ∷ after → StandsBetween (k ∷ kept) [] after row
+stands_first (t, Needed values) kept after row e = record {
+  kept_before = [];
+  kept_after = kept;
+  values = values;
+  is = let same : (marks.Needed, t) ≡ (marks.Needed, row) = cc in ap (λ (x : Mark × Terms). (x.1, Needed values) ∷ kept) same;
+  before_is = refl;
+  after_is = cc;
+}
+stands_first (t, Unsettled cause) kept after row e =
+    let same : (marks.Unsettled, t) ≡ (marks.Needed, row) = cc in absurd (unsettled_not_needed (ap (λ (x : Mark × Terms). x.0) same))
+
+stands_later : (k : Terms × NeedView) (m : Mark × Terms) (kept : List (Terms × NeedView)) (before after : List (Mark × Terms)) (row : Terms) → marked_rows (k ∷ kept) ≡ m ∷ before ++ (marks.Needed, row) ∷ after
+    → StandsBetween kept before after row → StandsBetween (k ∷ kept) (m ∷ before) after row
+stands_later k m kept before after row e b = record {
+  kept_before = k ∷ b.kept_before;
+  kept_after = b.kept_after;
+  values = b.values;
+  is = ap (λ (ks : List (Terms × NeedView)). k ∷ ks) b.is;
+  before_is = cc;
+  after_is = b.after_is;
+}
+
+stands_between : (kept : List (Terms × NeedView)) (before after : List (Mark × Terms)) (row : Terms) → marked_rows kept ≡ before ++ (marks.Needed, row) ∷ after → StandsBetween kept before after row
+stands_between [] [] after row e = absurd cc
+stands_between [] (m ∷ before) after row e = absurd cc
+stands_between (k ∷ kept) [] after row e = stands_first k kept after row e
+stands_between (k ∷ kept) (m ∷ before) after row e = stands_later k m kept before after row e (stands_between kept before after row cc)
+
+-- ---- what reduced elimination ends with is right
+
+module _ (q : BodyView) (rates : List ℕ) (givens : ProblemView) (rows : List Terms) (same : givens.space ≡ space_of q.names)
+    (true_at : (p : ℕ → ℤ) → p 0 ≡ pos 0 → AreMet p givens.constraints ↔ All (IsTrueAt givens.space.variables p) q.lines.givens)
+    (met : (p : ℕ → ℤ) → p 0 ≡ pos 0 → AreAtLeastZero p rows ↔ All (Holds givens.space.variables p) q.lines.rows) where
+  -- a polymatroid and rates at which the givens are true meet their constraints
+  meets_givens : (p : ℕ → ℤ) → IsPolymatroid (length q.names.variables) p → All (IsTrueAt (length q.names.variables) p) q.lines.givens → theorems.MeetsGivens givens p
+  meets_givens p h g = (
+    subst (λ (s : Space). IsPolymatroid s.variables p) (sym same) h,
+    (true_at p h.empty).1 (subst (λ (s : Space). All (IsTrueAt s.variables p) q.lines.givens) (sym same) g),
+  )
+
+  separates : (others other_rows : List Terms) (row : Terms) (values : List ℤ) → others ≡ other_rows → theorems.Separates givens others row values → Separates q other_rows row
+  separates others other_rows row values e x = record {
+    point = map_of values;
+    polymatroid = subst (λ (s : Space). IsPolymatroid s.variables (map_of values)) same x.meets.0;
+    givens_true = subst (λ (s : Space). All (IsTrueAt s.variables (map_of values)) q.lines.givens) same ((true_at (map_of values) refl).0 x.meets.1);
+    others_hold = subst (λ (rs : List Terms). In rs (map_of values)) e x.others_hold;
+    violated = x.violated;
   }
 
-  shows_end : (end : Eliminated) → RegionIsProjection system rates end → ShowsRegion q rates (answer_of_end (eliminated_view end))
-  shows_end (eliminated.Region region) x = subst (IsRightRegion q rates) (sym (rows_again region.rows.items)) (right_region region x)
-  shows_end (eliminated.Rows rate) x = tt
-  shows_end (eliminated.Wide rate) x = tt
+  are_needed : (kept : List (Terms × NeedView)) → theorems.AreNeeded givens kept → AreNeeded q (marked_rows kept)
+  are_needed kept need before after row e =
+      let b = stands_between kept before after row e in
+      let others : kept_rows b.kept_before ++ kept_rows b.kept_after ≡ region_rows before ++ region_rows after =
+      ap₂ (λ (xs ys : List Terms). xs ++ ys) (sym (rows_again b.kept_before) ∙ ap region_rows (sym b.before_is)) (sym (rows_again b.kept_after) ∙ ap region_rows (sym b.after_is)) in
+      separates (kept_rows b.kept_before ++ kept_rows b.kept_after) (region_rows before ++ region_rows after) row b.values others (need b.kept_before b.kept_after (row, Needed b.values) b.is)
 
-  pub right_answer : (most : ℕ) (end : Eliminated) (answer : AnswerView) → AreRowsOf system.space (system_forms system.space.variables q.lines.rows) system.rows.items
-      → Ends (2 ^ system.space.variables) most (in_order system.rows.items) rates (eliminated_view end) → RegionIsProjection system rates end → answer ≡ answer_of_end (eliminated_view end)
-      → IsRightElimination most q rates answer
-  right_answer most end answer are ends x is = record {
+  right_region : (kept : List (Terms × NeedView)) → IsReducedRegion givens rates rows kept → IsRightRegion q rates (marked_rows kept)
+  right_region kept x = record {
+    coordinates = subst (λ (rs : List Terms). All (IsUpTo (size_of (space_of q.names))) rs) (sym (rows_again kept)) (subst (λ (s : Space). All (IsUpTo (size_of s)) (kept_rows kept)) same x.coordinates);
+    free = λ r m. subst (λ (rs : List Terms). Lacks (2 ^ length q.names.variables + r) rs) (sym (rows_again kept)) (subst (λ (s : Space). Lacks (2 ^ s.variables + r) (kept_rows kept)) same (x.free r m));
+    exact = λ p h g. subst (λ (rs : List Terms). In rs p ↔ LinesExtend (length q.names.variables) rates q.lines.rows p) (sym (rows_again kept))
+        (subst (λ (s : Space). In (kept_rows kept) p ↔ LinesExtend s.variables rates q.lines.rows p) same (
+          λ a. (lines_extend givens.space.variables rates q.lines.rows rows met p h.empty).0 ((x.exact p (meets_givens p h g)).0 a),
+          λ e. (x.exact p (meets_givens p h g)).1 ((lines_extend givens.space.variables rates q.lines.rows rows met p h.empty).1 e),
+        ));
+    needed = are_needed kept x.needed;
+  }
+
+  shows_end : (end : ProjectedView) → RegionIsReduced givens rates rows end → ShowsRegion q rates (answer_of_end end)
+  shows_end (reduced.Region kept) x = right_region kept x
+  shows_end (reduced.Rows rate) x = tt
+  shows_end (reduced.Wide rate) x = tt
+
+  pub right_answer : (budgets : Budgets) (end : ProjectedView) (answer : AnswerView) → AreStated givens.space (given_demands givens.space.variables 1 q.lines.givens) givens.constraints
+      → AreRowsOf givens.space (system_forms givens.space.variables q.lines.rows) rows → ReducedEnds givens budgets.pivots budgets.rows rows [] rates end → RegionIsReduced givens rates rows end
+      → answer ≡ answer_of_end end → IsRightElimination budgets q rates answer
+  right_answer budgets end answer stated are ends x is = record {
     shows = subst (ShowsRegion q rates) (sym is) (shows_end end x);
     due = record {
-      rows = system.rows.items;
-      are_rows = subst (λ (s : Space). AreRowsOf s (system_forms s.variables q.lines.rows) system.rows.items) same are;
-      end = eliminated_view end;
-      ends = subst (λ (s : Space). Ends (2 ^ s.variables) most (in_order system.rows.items) rates (eliminated_view end)) same ends;
+      givens = givens;
+      space = same;
+      constraints = subst (λ (s : Space). AreStated givens.space (given_demands s.variables 1 q.lines.givens) givens.constraints) same stated;
+      rows = rows;
+      are_rows = subst (λ (s : Space). AreRowsOf s (system_forms s.variables q.lines.rows) rows) same are;
+      end = end;
+      ends = ends;
       is = is;
     };
   }
 
 -- ---- there is one right answer
 
-pub one_elimination : (most : ℕ) (q : BodyView) (rates : List ℕ) (a b : AnswerView) → IsRightElimination most q rates a → IsRightElimination most q rates b → a ≡ b
-one_elimination most q rates a b x y =
+pub one_elimination : (budgets : Budgets) (q : BodyView) (rates : List ℕ) (a b : AnswerView) → IsRightElimination budgets q rates a → IsRightElimination budgets q rates b → a ≡ b
+one_elimination budgets q rates a b x y =
     let n = length q.names.variables in
-    let same = one_row_list (space_of q.names) (system_forms n q.lines.rows) x.due.rows y.due.rows x.due.are_rows y.due.are_rows in
-    let ends : Ends (2 ^ n) most (in_order y.due.rows) rates x.due.end = subst (λ (rows : List Terms). Ends (2 ^ n) most (in_order rows) rates x.due.end) same x.due.ends in
-    x.due.is ∙ ap answer_of_end (one_end (2 ^ n) most (in_order y.due.rows) rates x.due.end y.due.end ends y.due.ends) ∙ sym y.due.is
+    let demands = given_demands n 1 q.lines.givens in
+    let same_space : x.due.givens.space ≡ y.due.givens.space = x.due.space ∙ sym y.due.space in
+    let same_givens : x.due.givens ≡ y.due.givens = ap₂ (λ (s : Space) (cs : List Constraint). record { space = s; constraints = cs }) same_space
+    (one_constraint_list y.due.givens.space demands x.due.givens.constraints y.due.givens.constraints
+    (subst (λ (s : Space). AreStated s demands x.due.givens.constraints) same_space x.due.constraints) y.due.constraints) in
+    let same_rows : x.due.rows ≡ y.due.rows = one_row_list (space_of q.names) (system_forms n q.lines.rows) x.due.rows y.due.rows x.due.are_rows y.due.are_rows in
+    let ends : ReducedEnds y.due.givens budgets.pivots budgets.rows y.due.rows [] rates x.due.end =
+    subst (λ (g : ProblemView). ReducedEnds g budgets.pivots budgets.rows y.due.rows [] rates x.due.end) same_givens
+    (subst (λ (rs : List Terms). ReducedEnds x.due.givens budgets.pivots budgets.rows rs [] rates x.due.end) same_rows x.due.ends) in
+    x.due.is ∙ ap answer_of_end (one_reduced_end y.due.givens budgets.pivots budgets.rows y.due.rows [] rates x.due.end y.due.end ends y.due.ends) ∙ sym y.due.is
 
 -- ---- what follows
 
-pub not_width : (step : ℕ) (end : EliminatedView) → Undecided (Width step) ≡ answer_of_end end → ⊥
-not_width step (elimination.Region rows) e = cc
-not_width step (elimination.Rows rate) e = cc
-not_width step (elimination.Wide rate) e = cc
+pub not_width : (step : ℕ) (end : ProjectedView) → Undecided (Width step) ≡ answer_of_end end → ⊥
+not_width step (reduced.Region kept) e = cc
+not_width step (reduced.Rows rate) e = cc
+not_width step (reduced.Wide rate) e = cc
 
 pub a_region_is_true : ARegionIsTrue
 a_region_is_true budgets plans q rates rows found is right p h lines =
-    let a : IsRightElimination budgets.rows q rates (Region rows) = (subst (λ verb. IsRightAnswerBy budgets plans q verb (record { answer = Region rows; found = found })) is right).0 in
+    let a : IsRightElimination budgets q rates (Region rows) = (subst (λ verb. IsRightAnswerBy budgets plans q verb (record { answer = Region rows; found = found })) is right).0 in
     let n_is : variables_of q ≡ length q.names.variables = ap (λ verb. length (problem_names_by q.names verb).variables) is in
     subst (λ (n : ℕ). In (region_rows rows) p ↔ LinesExtend n rates q.lines.rows p) (sym n_is)
-    (a.shows.exact p (subst (λ (n : ℕ). IsPolymatroid n p) n_is h) (subst (λ (n : ℕ). All (IsTrueAt n p) q.lines.givens) n_is (ap_givens lines)))
+    (a.shows.exact p (subst (λ (n : ℕ). IsPolymatroid n p) n_is h) (subst (λ (n : ℕ). All (IsTrueAt n p) q.lines.givens) n_is (givens_of_lines lines)))
   where
-    ap_givens : AreTrueAt (variables_of q) p (problem_lines q) → All (IsTrueAt (variables_of q) p) q.lines.givens
-    ap_givens l = subst (λ (own : OwnLinesView). All (IsTrueAt (variables_of q) p) own.givens) (ap (problem_lines_by q.lines) is) l.givens
+    givens_of_lines : AreTrueAt (variables_of q) p (problem_lines q) → All (IsTrueAt (variables_of q) p) q.lines.givens
+    givens_of_lines l = subst (λ (own : OwnLinesView). All (IsTrueAt (variables_of q) p) own.givens) (ap (problem_lines_by q.lines) is) l.givens
+
+pub needed_rows_are_needed : NeededRowsAreNeeded
+needed_rows_are_needed budgets plans q rates rows found is right =
+    let a : IsRightElimination budgets q rates (Region rows) = (subst (λ verb. IsRightAnswerBy budgets plans q verb (record { answer = Region rows; found = found })) is right).0 in a.shows.needed

@@ -190,7 +190,7 @@ without_found one other xs ys same e f = ap₂ reply_of same (e ∙ sym f)
 
 one_by : (budgets : Budgets) (plans : List Plan) (q : BodyView) (aim : VerbView) (a b : Reply) → IsRightAnswerBy budgets plans q aim a → IsRightAnswerBy budgets plans q aim b → a ≡ b
 one_by budgets plans q (Prove r) a b x y = without_found a.answer b.answer a.found b.found (one_for budgets.pivots q r a.answer b.answer x.0 y.0) x.1 y.1
-one_by budgets plans q (Eliminate rates) a b x y = without_found a.answer b.answer a.found b.found (one_elimination budgets.rows q rates a.answer b.answer x.0 y.0) x.1 y.1
+one_by budgets plans q (Eliminate rates) a b x y = without_found a.answer b.answer a.found b.found (one_elimination budgets q rates a.answer b.answer x.0 y.0) x.1 y.1
 one_by budgets plans q (Contain first second tries) a b x y = one_containment budgets plans q first second tries a b x y
 
 pub one_right_answer : OneRightAnswer

@@ -26,7 +26,7 @@ use Rattle.it_answer.specs.declared.types.Budgets.{Budgets}
 use Rattle.it_answer.specs.Forms.{CertifiesForm, CertifyAll}
 use Rattle.it_answer.specs.Replies.{Reply}
 use Rattle.it_answer.specs.RightContainments.{IsRightContainment}
-use Rattle.it_answer.specs.RightRegions.{IsRightElimination, LinesExtend, region_rows}
+use Rattle.it_answer.specs.RightRegions.{AreNeeded, IsRightElimination, LinesExtend, region_rows}
 
 -- ---- what the answer shows, by the meaning of the text
 
@@ -95,7 +95,7 @@ pub record IsRightFor (budget : Option ℕ) (q : BodyView) (r : RelationView) (a
 
 abbrev pub IsRightAnswerBy : Budgets → List Plan → BodyView → VerbView → Reply → Type 0
 IsRightAnswerBy budgets plans q (Prove r) reply = IsRightFor budgets.pivots q r reply.answer × (reply.found ≡ [])
-IsRightAnswerBy budgets plans q (Eliminate rates) reply = IsRightElimination budgets.rows q rates reply.answer × (reply.found ≡ [])
+IsRightAnswerBy budgets plans q (Eliminate rates) reply = IsRightElimination budgets q rates reply.answer × (reply.found ≡ [])
 IsRightAnswerBy budgets plans q (Contain a b tries) reply = IsRightContainment budgets plans q a b tries reply
 
 -- a right answer to a question, by boxes with these plans
@@ -128,6 +128,11 @@ abbrev pub ARegionIsTrue : Type 0
 ARegionIsTrue = (budgets : Budgets) (plans : List Plan) (q : BodyView) (rates : List ℕ) (rows : List (Mark × Terms)) (found : List Candidate) → q.verb ≡ Eliminate rates
     → IsRightAnswer budgets plans q (record { answer = Region rows; found = found })
     → (p : ℕ → ℤ) → IsPolymatroid (variables_of q) p → AreTrueAt (variables_of q) p (problem_lines q) → In (region_rows rows) p ↔ LinesExtend (variables_of q) rates q.lines.rows p
+
+-- and no row of it that is marked as needed follows from the others
+abbrev pub NeededRowsAreNeeded : Type 0
+NeededRowsAreNeeded = (budgets : Budgets) (plans : List Plan) (q : BodyView) (rates : List ℕ) (rows : List (Mark × Terms)) (found : List Candidate) → q.verb ≡ Eliminate rates
+    → IsRightAnswer budgets plans q (record { answer = Region rows; found = found }) → AreNeeded q rows
 
 -- where it is a right containment, the first region lies in the second, and its parts are a set for each auxiliary
 abbrev pub AContainmentIsTrue : Type 0

@@ -58,9 +58,7 @@ fn answer_under(
 {
     match &question.verb {
         Verb::Prove(relation) => about(alloc, problem, relation, budget_of(budgets.pivots)),
-        Verb::Eliminate(rates) => {
-            region(alloc, question, rates.as_slice(), budgets.rows as usize)
-        }
+        Verb::Eliminate(rates) => { region(alloc, question, rates.as_slice(), problem, budgets) }
         Verb::Contain {
             first,
             second,

@@ -1,6 +1,6 @@
 //! Right answers to questions. To `prove`: a question's problem and targets, each target by `prove` of it_prove, and the answer
-//! that they give together. To `eliminate`: the rows of the question's system, and the region that elimination leaves. To
-//! `contain`: the pair of the question's regions, and what the search over boxes finds.
+//! that they give together. To `eliminate`: the rows of the question's system, and the region that reduced elimination leaves under
+//! the question's givens. To `contain`: the pair of the question's regions, and what the search over boxes finds.
 #![tactic(auto)]
 
 mod answering;

@@ -1,56 +1,75 @@
 //! The answer to a question that eliminates rates.
 ghost use Rattle.std.specs.Prelude.{◌≡◌, map, IfOk};
 ghost use Rattle.it_space.specs.Answers.{answer_view};
+ghost use Rattle.it_space.specs.Problems.{problem_view};
 ghost use Rattle.it_question.specs.Limits.{IsQuestion};
 ghost use Rattle.it_question.specs.Questions.{Eliminate, question_body};
-ghost use Rattle.it_eliminate.specs.Views.{eliminated_view};
-ghost use Rattle.it_answer.specs.RightRegions.{IsRightElimination, answer_of_end, plain_rows};
+ghost use Rattle.it_redundant.specs.ReducedElimination.{projected_view};
+ghost use Rattle.it_redundant.specs.Reduction.{need_view};
+ghost use Rattle.it_answer.specs.RightRegions.{IsRightElimination, answer_of_end, mark_of, marked_rows};
+ghost use Rattle.it_answer.specs.RowAnswers.{IsProblemOf};
 
+use crate::types::{Budgets, budget_of};
 use it_canon::system;
-use it_eliminate::{Eliminated, eliminate};
 use it_question::types::Question;
-use it_space::{Answer, Cause, Mark, Row};
+use it_redundant::{Need, Projected, project};
+use it_space::{Answer, Cause, Mark, Problem, Row};
 use std::alloc::{AllocError, Global};
 
-/// The region that is left of the question's `row` lines without the rates, which are eliminated in the order of their list; or
-/// why there is none, where a rate leaves more than `most` rows or a row of it passes the limit.
+/// The region that is left of the question's `row` lines without the rates. These are eliminated in the order of their list, and
+/// after each the rows go that the givens and the other rows give. Or why there is none: a rate leaves more rows than the budget
+/// has, or a row of it passes the limit.
 pub fn region(
     alloc: Global,
     question: &Question,
     rates: &[u8],
-    most: usize,
+    givens: &Problem,
+    budgets: Budgets,
 ) -> Result<Answer, AllocError>
     requires question { IsQuestion (question_body question.now) }
     requires eliminates { (question_body question.now).verb ≡ Eliminate rates.now }
-    ensures { IfOk result (λ a. IsRightElimination most (question_body question.now) rates.now (answer_view a)) }
+    requires givens { IsProblemOf (question_body question.now) (problem_view givens.now) }
+    ensures { IfOk result (λ a. IsRightElimination budgets (question_body question.now) rates.now (answer_view a)) }
 {
     let system = system(alloc, question)?;
-    let end = eliminate(alloc, &system, rates, most)?;
+    let rows = budgets.rows as usize;
+    let budget = budget_of(budgets.pivots);
+    let end = project(alloc, &system, rates, givens, rows, budget)?;
     let answer = answer_of_end(alloc, end)?;
     Ok(answer)
 }
 
-/// The answer that tells what elimination ended with.
-fn answer_of_end(alloc: Global, end: Eliminated) -> Result<Answer, AllocError>
-    ensures { IfOk result (λ a. answer_view a ≡ answer_of_end (eliminated_view end)) }
+/// The answer that tells what reduced elimination ended with.
+fn answer_of_end(alloc: Global, end: Projected) -> Result<Answer, AllocError>
+    ensures { IfOk result (λ a. answer_view a ≡ answer_of_end (projected_view end)) }
 {
     match end {
-        Eliminated::Region(system) => {
-            let rows = plain_rows(alloc, system.rows)?;
+        Projected::Region(reduced) => {
+            let rows = marked_rows(alloc, reduced.kept)?;
             Ok(Answer::Region(rows))
         }
-        Eliminated::Rows { rate } => Ok(Answer::Undecided(Cause::Rows(rate))),
-        Eliminated::Wide { rate } => Ok(Answer::Undecided(Cause::WideRate(rate))),
+        Projected::Rows { rate } => Ok(Answer::Undecided(Cause::Rows(rate))),
+        Projected::Wide { rate } => Ok(Answer::Undecided(Cause::WideRate(rate))),
     }
 }
 
-/// The rows, with nothing known of them.
-fn plain_rows(alloc: Global, rows: Vec<Row>) -> Result<Vec<(Mark, Row)>, AllocError>
-    ensures { IfOk result (λ v. v.items ≡ plain_rows rows.items) }
+/// The rows in order, each with its mark before it.
+fn marked_rows(alloc: Global, kept: Vec<(Row, Need)>) -> Result<Vec<(Mark, Row)>, AllocError>
+    ensures { IfOk result (λ v. v.items ≡ marked_rows (map (λ k. (k.0, need_view k.1)) kept.items)) }
 {
     let mut marked = Vec::new(alloc);
-    for row in rows {
-        marked.push((Mark::Plain, row))?;
+    for (row, need) in kept {
+        marked.push((mark_of(&need), row))?;
     }
     Ok(marked)
+}
+
+/// Why a row stays, as its mark.
+fn mark_of(need: &Need) -> Mark
+    ensures { result ≡ mark_of (need_view need.now) }
+{
+    match need {
+        Need::Needed(_) => Mark::Needed,
+        Need::Unsettled(_) => Mark::Unsettled,
+    }
 }

@@ -4,12 +4,12 @@ ghost use Rattle.std.specs.Prelude.{◌≡◌};
 use it_simplex::Budget;
 use it_space::{Answer, Problem};
 
-/// How much an answer may cost: the most steps of a run, without which each run goes on to its end; the most rows that are left
-/// after a rate; and the most candidates that are tried.
+/// How much an answer may cost: the most steps of a run, without which each run goes on to its end; the most rows that the
+/// elimination of a rate may leave before they are reduced, at most 65,535 by its type; and the most candidates that are tried.
 #[derive(Clone, Copy, Debug, PartialEq, Eq)]
 pub struct Budgets {
     pub pivots: Option<u32>,
-    pub rows: u32,
+    pub rows: u16,
     pub tries: u32,
 }
 

@@ -23,6 +23,6 @@ returns-in-Prove g c =
 pub returns-in-Eliminate : goal.returns-in-Eliminate
 returns-in-Eliminate g c =
     let q = question_body c.args.question.now in
-    if_ok c.region.result (λ a. IsRightElimination c.args.budgets.rows q c.in-Eliminate.rates.items (answer_view a)) (λ a. IsAnswered c.args.budgets _ q (answer_view a) _)
+    if_ok c.region.result (λ a. IsRightElimination c.args.budgets q c.in-Eliminate.rates.items (answer_view a)) (λ a. IsAnswered c.args.budgets _ q (answer_view a) _)
     (rw (← c.as_slice.ensures.value) c.region.ensures)
     (λ a x. left_of_rows c.args.budgets _ q c.in-Eliminate.rates.items (answer_view a) (ap verb_view c.in-Eliminate.is) x)

@@ -1,8 +1,45 @@
+use Rattle.std.proofs.Common.{◌≡◌, ◌∙◌, ◌<◌, ◌↔◌, ℕ, ℤ, pos, [], Option, All, sym, subst}
+use Rattle.it_space.specs.declared.spaces.Space.{Space}
 use Rattle.it_space.specs.Answers.{answer_view}
+use Rattle.it_space.specs.Problems.{problem_view}
+use Rattle.it_syntax.specs.Meaning.{Holds}
 use Rattle.it_question.specs.Questions.{question_body}
+use Rattle.it_canon.specs.QuestionDemands.{system_forms, AreAtLeastZero, AreRowsOf}
+use Rattle.it_redundant.specs.ReducedElimination.{ReducedEnds, projected_view}
+use Rattle.it_answer.proofs.GivenLemmas.{space_of_names, givens_stated, met_where_true, few_constraints, constraints_of_sets, rates_of_question}
 use Rattle.it_answer.proofs.RegionLemmas.{right_answer}
 use Rattle.it_answer.proofs.regions.region.Goals as goal
 
+pub project-requires-clause-rates : goal.project-requires-clause-rates
+project-requires-clause-rates c =
+    subst (λ (s : Space). All (λ r. r < s.rates) c.args.rates.now) (sym c.in_ok-system.ensures.space) (rates_of_question (question_body c.args.question.now) c.args.rates.now c.requires.eliminates c.requires.question).within
+
+pub project-requires-clause-some : goal.project-requires-clause-some
+project-requires-clause-some c = (rates_of_question (question_body c.args.question.now) c.args.rates.now c.requires.eliminates c.requires.question).some
+
+pub project-requires-clause-space : goal.project-requires-clause-space
+project-requires-clause-space c =
+    c.in_ok-system.ensures.space ∙ sym (space_of_names (question_body c.args.question.now) c.args.rates.now (problem_view c.args.givens.now) c.requires.eliminates c.requires.givens)
+
+pub project-requires-clause-sets : goal.project-requires-clause-sets
+project-requires-clause-sets c =
+    constraints_of_sets (question_body c.args.question.now) c.args.rates.now (problem_view c.args.givens.now) c.requires.eliminates c.requires.givens c.requires.question
+
+pub project-requires-clause-few_givens : goal.project-requires-clause-few_givens
+project-requires-clause-few_givens c =
+    few_constraints (question_body c.args.question.now) c.args.rates.now (problem_view c.args.givens.now) c.requires.eliminates c.requires.givens c.requires.question
+
 pub returns : goal.returns
-returns c = right_answer (question_body c.args.question.now) c.args.rates.now c.in_ok-system.system c.in_ok-system.ensures.space c.in_ok-system.ensures.met c.args.most c.in_ok-end.end (answer_view c.in_ok-answer.answer)
-    c.in_ok-system.ensures.rows c.in_ok-end.ensures.ends c.in_ok-end.ensures.region c.in_ok-answer.ensures
+returns c =
+    let q = question_body c.args.question.now in
+    let rates = c.args.rates.now in
+    let givens = problem_view c.args.givens.now in
+    let rows = c.in_ok-system.system.rows.items in
+    let end = projected_view c.in_ok-end.end in
+    let same = space_of_names q rates givens c.requires.eliminates c.requires.givens in
+    let of_system = c.in_ok-system.ensures.space ∙ sym same in
+    right_answer q rates givens rows same (met_where_true q rates givens c.requires.eliminates c.requires.givens)
+    (subst (λ (s : Space). (p : ℕ → ℤ) → p 0 ≡ pos 0 → AreAtLeastZero p rows ↔ All (Holds s.variables p) q.lines.rows) of_system c.in_ok-system.ensures.met)
+    c.args.budgets end (answer_view c.in_ok-answer.answer) (givens_stated q rates givens c.requires.eliminates c.requires.givens)
+    (subst (λ (s : Space). AreRowsOf s (system_forms s.variables q.lines.rows) rows) of_system c.in_ok-system.ensures.rows)
+    (subst (λ (b : Option ℕ). ReducedEnds givens b c.args.budgets.rows rows [] rates end) c.budget_of-budget.ensures c.in_ok-end.ensures.ends) c.in_ok-end.ensures.region c.in_ok-answer.ensures
