@@ -30,35 +30,31 @@ use Rattle.it_certificate.specs.Reports.{Reads, Reports}
 use Rattle.it_check.specs.declared.verdicts.Verdict.{Verdict}
 use Rattle.it_report.specs.RowVerdicts.{place_named}
 use Rattle.it_report.specs.LineVerdicts.{LineVerdict, NotJson, Shape, Skipped, Judged, IsLineOf}
-use Rattle.it_report.specs.Judging.{judged_forms_by, judged_forms, answer_verdict, is_passed_over, IsJudged, IsAnswerVerdict, IsVerdict, IsJudgedLine}
+use Rattle.it_report.specs.Judging.{judged_forms_by, judged_forms, answer_verdict, IsJudged, IsAnswerVerdict, IsVerdict, IsJudgedLine}
 use Rattle.it_report.specs.Steps.{IsAboutRelation, IsFaultLine, IsJudgedAnswer}
 
 -- ---- lines
 
-read_verdict : (line : List ℕ) (q : QuestionView) (a : AnswerView) (v : LineVerdict) → Reads line (Ok (q, a)) → IsAnswerVerdict q.body a v → IsVerdict line v
+pub read_verdict : (line : List ℕ) (q : QuestionView) (a : AnswerView) (v : LineVerdict) → Reads line (Ok (q, a)) → IsAnswerVerdict q.body a v → IsVerdict line v
 read_verdict line q a NotJson h is = absurd is
 read_verdict line q a (Shape key) h is = absurd is
 read_verdict line q a Skipped h is = record { question = q; answer = a; reads = h; verdict = is }
 read_verdict line q a (Judged names v) h is = record { question = q; answer = a; reads = h; verdict = is }
 
 module _ {L E : Type 0} (text : L → List ℕ) (invalid : L → Bool) (k : ℕ) where
-  pub faulty : (line : List ℕ) (fault : ReportFault) (r : Result L E) → Reports line (Err fault) → IfOk r (λ j. IsFaultLine k fault (text j) (invalid j)) → IfOk r (λ j. IsJudgedLine k line (text j) (invalid j))
-  faulty line faults.Memory (Ok j) h told = absurd told
-  faulty line faults.NotJson (Ok j) h told = record { verdict = NotJson; is = h; told = told }
-  faulty line (faults.Shape key) (Ok j) h told = record { verdict = Shape key; is = h; told = told }
-  faulty line fault (Err e) h told = tt
+  pub fault_is_judged : (line : List ℕ) (fault : ReportFault) (r : Result L E) → Reports line (Err fault) → IfOk r (λ j. IsFaultLine k fault (text j) (invalid j)) → IfOk r (λ j. IsJudgedLine k line (text j) (invalid j))
+  fault_is_judged line faults.Memory (Ok j) h told = absurd told
+  fault_is_judged line faults.NotJson (Ok j) h told = record { verdict = NotJson; is = h; told = told }
+  fault_is_judged line (faults.Shape key) (Ok j) h told = record { verdict = Shape key; is = h; told = told }
+  fault_is_judged line fault (Err e) h told = tt
 
-  pub answered : (line : List ℕ) (q : QuestionView) (a : AnswerView) (r : Result L E) → Reads line (Ok (q, a)) → IfOk r (λ j. IsJudgedAnswer k q.body a (text j) (invalid j)) → IfOk r (λ j. IsJudgedLine k line (text j) (invalid j))
-  answered line q a (Ok j) h judged = record { verdict = judged.verdict; is = read_verdict line q a judged.verdict h judged.is; told = judged.told }
-  answered line q a (Err e) h judged = tt
+  pub answer_is_judged : (line : List ℕ) (q : QuestionView) (a : AnswerView) (r : Result L E) → Reads line (Ok (q, a)) → IfOk r (λ j. IsJudgedAnswer k q.body a (text j) (invalid j)) → IfOk r (λ j. IsJudgedLine k line (text j) (invalid j))
+  answer_is_judged line q a (Ok j) h judged = record { verdict = judged.verdict; is = read_verdict line q a judged.verdict h judged.is; told = judged.told }
+  answer_is_judged line q a (Err e) h judged = tt
 
-  pub skipped : (q : BodyView) (a : AnswerView) (r : Result L E) → is_passed_over a ≡ true → IfOk r (λ j. IsLineOf k Skipped (text j) (invalid j)) → IfOk r (λ j. IsJudgedAnswer k q a (text j) (invalid j))
-  skipped q a (Ok j) h told = record { verdict = Skipped; is = h; told = told }
-  skipped q a (Err e) h told = tt
-
-  pub judged : (q : BodyView) (a : AnswerView) (names : NamesView) (v : Verdict) (r : Result L E) → IsJudged q a names v → IfOk r (λ j. IsLineOf k (Judged names v) (text j) (invalid j)) → IfOk r (λ j. IsJudgedAnswer k q a (text j) (invalid j))
-  judged q a names v (Ok j) h told = record { verdict = Judged names v; is = h; told = told }
-  judged q a names v (Err e) h told = tt
+  pub verdict_is_told : (q : BodyView) (a : AnswerView) (names : NamesView) (v : Verdict) (r : Result L E) → IsJudged q a names v → IfOk r (λ j. IsLineOf k (Judged names v) (text j) (invalid j)) → IfOk r (λ j. IsJudgedAnswer k q a (text j) (invalid j))
+  verdict_is_told q a names v (Ok j) h told = record { verdict = Judged names v; is = h; told = told }
+  verdict_is_told q a names v (Err e) h told = tt
 
 -- ---- the question that an answer fits
 
@@ -116,8 +112,8 @@ module _ (q : BodyView) (r : RelationView) (about : q.verb ≡ Prove r) where
   target_rows_are a s ts e are = rows_as_pulled s (judged_forms q a) ts
       (subst (λ fs. AreRowsOf s fs ts) (ap (λ n. targets n r) (ap (λ s. s.variables) e) ∙ sym (ap (λ v. judged_forms_by q v a) about)) are)
 
-  pub complete : (back : Bool) (values : List ℤ) (s : Space) → s ≡ space_of (problem_names q) → FitsQuestion q (No back values) → length values ≡ size_of s
-  complete back values s e h = (verb_fits q (No back values) (Prove r) about h).0 ∙ sym (ap size_of (e ∙ ap space_of relation_names))
+  pub point_is_complete : (back : Bool) (values : List ℤ) (s : Space) → s ≡ space_of (problem_names q) → FitsQuestion q (No back values) → length values ≡ size_of s
+  point_is_complete back values s e h = (verb_fits q (No back values) (Prove r) about h).0 ∙ sym (ap size_of (e ∙ ap space_of relation_names))
 
   one_target : (n : ℕ) → 0 < length (targets n r)
   one_target n = by r.sign (form_of n r)
@@ -135,8 +131,8 @@ module _ (q : BodyView) (r : RelationView) (about : q.verb ≡ Prove r) where
       by AtMost f e = absurd (cc)
       by Equal f e = lit< tt
 
-  pub named : (back : Bool) (values : List ℤ) (n : ℕ) (ts : List Terms) → length ts ≡ length (targets n r) → FitsQuestion q (No back values) → place_named back < length ts
-  named back values n ts as_many h = by back (verb_fits q (No back values) (Prove r) about h).2
+  pub target_is_there : (back : Bool) (values : List ℤ) (n : ℕ) (ts : List Terms) → length ts ≡ length (targets n r) → FitsQuestion q (No back values) → place_named back < length ts
+  target_is_there back values n ts as_many h = by back (verb_fits q (No back values) (Prove r) about h).2
     where
       by : (back : Bool) → (back ≡ true → is_equality r.sign ≡ true) → place_named back < length ts
       by true equal = omega (arith, as_many, two_targets n (equal refl))

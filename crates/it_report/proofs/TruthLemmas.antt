@@ -52,7 +52,7 @@ use Rattle.it_check.proofs.Truth.{valid_yes_is, valid_no_is, yes_is_true}
 use Rattle.it_report.specs.RowVerdicts.{is_valid, proof_verdict, proofs_verdict, point_verdict, place_named}
 use Rattle.it_report.specs.Judging.{parts_of, judged_forms_by, answer_verdict, IsJudged}
 use Rattle.it_report.specs.Meaning.{IsRelationClaim, IsRegionClaim, IsClaimTrueBy, ValidIsTrue}
-use Rattle.it_report.proofs.JudgingLemmas.{verb_fits, named, complete, parts_as_named}
+use Rattle.it_report.proofs.JudgingLemmas.{verb_fits, target_is_there, point_is_complete, parts_as_named}
 use Rattle.it_report.proofs.CountLemmas.{obligations_counted}
 use Rattle.it_report.proofs.OneLemmas.{Reading, as_read, one_pair}
 
@@ -98,21 +98,25 @@ of_question : (d : Data) (q : QuestionView) → IsQuestionOf d q → IsQuestion 
 unfolding IsQuestionOf
 of_question d q h = All-head IsQuestion q.body [] (file_limits h.0 (q ∷ []) h.1.1.1)
 
+-- the question that was read is that of the line's value
+pub question_read : (line : List ℕ) (q : QuestionView) (a : AnswerView) (h : Reads line (Ok (q, a))) → IsQuestionOf h.value q
+question_read line q a h = subst (IsQuestionAt h.value) (read_is h.reads.own h.value q a h.reads.is).0 h.reads.question
+
 pub limits_question : (line : List ℕ) (q : QuestionView) (a : AnswerView) → Reads line (Ok (q, a)) → IsQuestion q.body
-limits_question line q a h = of_question h.value q (subst (IsQuestionAt h.value) (read_is h.reads.own h.value q a h.reads.is).0 h.reads.question)
+limits_question line q a h = of_question h.value q (question_read line q a h)
 
 -- ---- valid certificates
 
-chosen : (v u : Verdict) → (if is_valid v then u else v) ≡ Valid → (v ≡ Valid) × (u ≡ Valid)
-chosen Valid u e = (refl, e)
-chosen (BadScale s) u e = absurd (cc)
-chosen (UnknownGenerator i) u e = absurd (cc)
-chosen (NegativeWeight i) u e = absurd (cc)
-chosen (Width i) u e = absurd (cc)
-chosen (Mismatch i x y) u e = absurd (cc)
-chosen (BrokenElemental i x) u e = absurd (cc)
-chosen (UnmetConstraint i x) u e = absurd (cc)
-chosen (NotViolated x) u e = absurd (cc)
+both_valid : (v u : Verdict) → (if is_valid v then u else v) ≡ Valid → (v ≡ Valid) × (u ≡ Valid)
+both_valid Valid u e = (refl, e)
+both_valid (BadScale s) u e = absurd (cc)
+both_valid (UnknownGenerator i) u e = absurd (cc)
+both_valid (NegativeWeight i) u e = absurd (cc)
+both_valid (Width i) u e = absurd (cc)
+both_valid (Mismatch i x y) u e = absurd (cc)
+both_valid (BrokenElemental i x) u e = absurd (cc)
+both_valid (UnmetConstraint i x) u e = absurd (cc)
+both_valid (NotViolated x) u e = absurd (cc)
 
 same_some : (v w : Verdict) → Some v ≡ Some w → v ≡ w
 same_some v w e = cc
@@ -150,7 +154,7 @@ module _ (q : BodyView) (p : ProblemView) (space : p.space ≡ space_of (problem
     all_hold (f ∷ fs) [] ws z l e = absurd z
     all_hold (f ∷ fs) (t ∷ ts) [] z l e = absurd (omega (arith, l))
     all_hold (f ∷ fs) (t ∷ ts) (w ∷ ws) z l e =
-        let c = chosen (proof_verdict p t w) (proofs_verdict p ts ws) e in
+        let c = both_valid (proof_verdict p t w) (proofs_verdict p ts ws) e in
         All-cons (λ (f : Form). pos 0 ≤ℤ f m) f fs (target_holds f t w z.0 c.0) (all_hold fs ts ws z.1 (omega (arith, l)) c.1)
 
   target_number : (sign : Sign) (f : Form) → length (targets_by sign f) ≡ target_count sign
@@ -194,8 +198,8 @@ judged_true q (Prove r) a names about k fits j = by a fits (subst (λ v. ArePull
     by : (a : AnswerView) → FitsQuestion q a → ArePulledRows j.problem.space (targets (length (problem_names q).variables) r) j.rows → answer_verdict j.problem j.rows a ≡ Some Valid → IsRelationClaim q r a
     by (Yes ws) fits are e = yes_true q j.problem j.space j.limits j.constraints r j.rows ws are (verb_fits q (Yes ws) (Prove r) about fits).0 (same_some (proofs_verdict j.problem j.rows ws) Valid e)
     by (No back values) fits are e = no_true q j.problem j.space j.limits j.constraints r j.rows back values are
-        (complete q r about back values j.problem.space j.space fits)
-        (named q r about back values (length (problem_names q).variables) j.rows (zip-length (IsPulledRow j.problem.space) (targets (length (problem_names q).variables) r) j.rows are) fits)
+        (point_is_complete q r about back values j.problem.space j.space fits)
+        (target_is_there q r about back values (length (problem_names q).variables) j.rows (zip-length (IsPulledRow j.problem.space) (targets (length (problem_names q).variables) r) j.rows are) fits)
         (same_some (point_verdict j.problem j.rows back values) Valid e)
     by (Undecided cause) fits are e = tt
     by (Region rows) fits are e = tt

@@ -12,7 +12,8 @@ use Rattle.it_check.specs.Sums.{sum_within}
 use Rattle.it_check.specs.Verdicts.{or_else, valid_unless, of_scale, of_weight, of_weights, left_number, right_number, of_numbers, of_coordinate, of_coordinates, yes_verdict, violates, violation, of_value, of_generator, of_generators, of_target, no_verdict}
 use Rattle.it_check.specs.declared.verdicts.Verdict.{Verdict}
 use Rattle.it_check.specs.declared.verdicts.Verdict.TheVariants.{Valid, BadScale, UnknownGenerator, NegativeWeight, Mismatch, BrokenElemental, UnmetConstraint, NotViolated}
-use Rattle.it_report.specs.RowVerdicts.{IsVerdictOver, proof_verdict, proofs_verdict, is_valid}
+use Rattle.it_report.specs.RowVerdicts.{proof_verdict, proofs_verdict, is_valid}
+use Rattle.it_report.specs.Steps.{IsVerdictOver}
 
 abbrev IsFindingOver : ℕ → Option Verdict → Type 0
 IsFindingOver b None = Unit {0}

@@ -1,5 +1,5 @@
--- What the verdicts mean.
-use Rattle.std.specs.Prelude.{◌≡◌, ℕ, ℤ, pos, neg_ℤ, ◌≤ℤ◌, List, get_or, Ok}
+-- What the verdicts mean: each line has one and no other, and the claim of a valid one is true.
+use Rattle.std.specs.Prelude.{◌≡◌, ℕ, ℤ, pos, neg_ℤ, ◌≤ℤ◌, List, Bool, get_or, Ok}
 use Rattle.it_space.specs.Answers.{AnswerView}
 use Rattle.it_space.specs.Answers.AnswerView.{Yes, No, Undecided, Region, Contained, Open}
 use Rattle.it_space.specs.Rows.{map_of}
@@ -14,7 +14,11 @@ use Rattle.it_certificate.specs.Reports.{Reads}
 use Rattle.it_check.specs.declared.verdicts.Verdict.TheVariants.{Valid}
 use Rattle.it_report.specs.RowVerdicts.{place_named}
 use Rattle.it_report.specs.LineVerdicts.{LineVerdict, Judged}
-use Rattle.it_report.specs.Judging.{IsVerdict}
+use Rattle.it_report.specs.Judging.{IsVerdict, IsJudgedLine}
+
+-- Each line of a report has a verdict, and so a line about it.
+abbrev pub EachLineIsJudged : Type 0
+EachLineIsJudged = (k : ℕ) (line : List ℕ) → (text : List ℕ) × (invalid : Bool) × IsJudgedLine k line text invalid
 
 -- A line has at most one verdict.
 abbrev pub OneVerdict : Type 0

@@ -1,5 +1,5 @@
 -- The verdict on an answer, against the rows of its question's targets.
-use Rattle.std.specs.Prelude.{ℕ, ◌<◌, ℤ, List, [], ◌∷◌, length, Bool, true, false, if◌then◌else◌, get_or}
+use Rattle.std.specs.Prelude.{ℕ, ℤ, List, [], ◌∷◌, length, Bool, true, false, if◌then◌else◌, get_or}
 use Rattle.it_space.specs.Answers.{CertificateView}
 use Rattle.it_space.specs.Problems.{ProblemView}
 use Rattle.it_space.specs.Rows.{Terms, map_of}
@@ -8,7 +8,7 @@ use Rattle.it_polymatroid.specs.Elementals.{elementals}
 use Rattle.it_elemental.specs.Generators.{generators}
 use Rattle.it_check.specs.Verdicts.{yes_verdict, no_verdict}
 use Rattle.it_check.specs.declared.verdicts.Verdict.{Verdict}
-use Rattle.it_check.specs.declared.verdicts.Verdict.TheVariants.{Valid, Mismatch}
+use Rattle.it_check.specs.declared.verdicts.Verdict.TheVariants.{Valid}
 
 abbrev pub is_valid : Verdict → Bool
 is_valid Valid = true
@@ -31,8 +31,3 @@ place_named back = if back then 1 else 0
 -- the verdict on a point against that target
 unfoldable pub point_verdict : ProblemView → List Terms → Bool → List ℤ → Verdict
 point_verdict p ts back values = no_verdict (length (elementals p.space.variables)) (generators p) (get_or ts (place_named back) []) (map_of values)
-
--- the coordinate of a verdict, where it has one, is below a bound
-abbrev pub IsVerdictOver : ℕ → Verdict → Type 0
-IsVerdictOver bound (Mismatch c left right) = c < bound
-IsVerdictOver bound _ = Unit {0}

@@ -1,9 +1,12 @@
--- No public clause cites this module: the lines of faults and of answers, of which the line about a report's line is one.
-use Rattle.std.specs.Prelude.{ℕ, List, Bool}
+-- No public clause cites this module: the lines of faults and of answers, of which the line about a report's line is one, and the
+-- coordinates that verdicts name.
+use Rattle.std.specs.Prelude.{ℕ, ◌<◌, List, Bool}
 use Rattle.it_space.specs.Answers.{AnswerView}
 use Rattle.it_question.specs.Questions.{BodyView, VerbView, Prove, Eliminate, Contain}
 use Rattle.it_certificate.specs.declared.keys.ReportFault.{ReportFault}
 use Rattle.it_certificate.specs.declared.keys.ReportFault.TheVariants as faults
+use Rattle.it_check.specs.declared.verdicts.Verdict.{Verdict}
+use Rattle.it_check.specs.declared.verdicts.Verdict.TheVariants.{Mismatch}
 use Rattle.it_report.specs.LineVerdicts.{LineVerdict, NotJson, Shape, IsLineOf}
 use Rattle.it_report.specs.Judging.{IsAnswerVerdict}
 
@@ -24,3 +27,8 @@ pub record IsJudgedAnswer (k : ℕ) (q : BodyView) (answer : AnswerView) (text :
   pub verdict : LineVerdict
   pub is : IsAnswerVerdict q answer verdict
   pub told : IsLineOf k verdict text invalid
+
+-- the coordinate of a verdict, where it has one, is below a bound
+abbrev pub IsVerdictOver : ℕ → Verdict → Type 0
+IsVerdictOver bound (Mismatch c left right) = c < bound
+IsVerdictOver bound _ = Unit {0}

@@ -1,7 +1,12 @@
 //! What the verdicts mean, each theorem as the contract of a function.
-ghost use Rattle.it_report.specs.Meaning.{OneVerdict, ValidIsTrue};
+ghost use Rattle.it_report.specs.Meaning.{EachLineIsJudged, OneVerdict, ValidIsTrue};
 
-/// A line has one verdict.
+/// Each line of a report, whatever its bytes, has a verdict and so a line about it.
+pub fn each_line_is_judged()
+    ensures { EachLineIsJudged }
+{}
+
+/// A line has at most one verdict.
 #[tactic(auto, using(crate::proofs::OneLemmas::one_verdict))]
 pub fn verdict_is_one()
     ensures { OneVerdict }

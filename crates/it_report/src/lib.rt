@@ -8,5 +8,5 @@ mod rows;
 mod words;
 
 pub use judging::judge;
-pub use laws::{valid_is_true, verdict_is_one};
+pub use laws::{each_line_is_judged, valid_is_true, verdict_is_one};
 pub use lines::JudgedLine;

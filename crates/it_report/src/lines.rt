@@ -1,7 +1,7 @@
 //! The lines of verdicts.
 ghost use Rattle.std.specs.Prelude.{◌≡◌, ◌<◌, ◌+◌, ◌^◌, length, codes, not, true, false, IfOk};
 ghost use Rattle.it_report.specs.LineVerdicts.{key_text, numbered_line, IsLineOf, NotJson, Shape, Skipped, Judged};
-ghost use Rattle.it_report.specs.RowVerdicts.{IsVerdictOver};
+ghost use Rattle.it_report.specs.Steps.{IsVerdictOver};
 
 use crate::rows::is_valid;
 use crate::words::{key_name, write_verdict};

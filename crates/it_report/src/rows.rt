@@ -4,7 +4,8 @@ ghost use Rattle.it_space.specs.Answers.{certificate_view};
 ghost use Rattle.it_space.specs.Problems.{IsProblem, problem_view};
 ghost use Rattle.it_space.specs.Rows.{IsUpTo};
 ghost use Rattle.it_space.specs.Spaces.{size_of};
-ghost use Rattle.it_report.specs.RowVerdicts.{proofs_verdict, point_verdict, proof_verdict, place_named, is_valid, IsVerdictOver};
+ghost use Rattle.it_report.specs.RowVerdicts.{proofs_verdict, point_verdict, proof_verdict, place_named, is_valid};
+ghost use Rattle.it_report.specs.Steps.{IsVerdictOver};
 
 use it_check::{Verdict, check_no, check_yes};
 use it_space::{Certificate, Point, Problem, Row};

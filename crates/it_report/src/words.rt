@@ -2,7 +2,7 @@
 ghost use Rattle.std.specs.Prelude.{◌≡◌, ◌<◌, ◌+◌, ◌^◌, ◌++◌, length, OnOk, decimal};
 ghost use Rattle.std.specs.Fmt.{signed_decimal};
 ghost use Rattle.it_report.specs.LineVerdicts.{generator_value_text, key_text, mismatch_text, verdict_text};
-ghost use Rattle.it_report.specs.RowVerdicts.{IsVerdictOver};
+ghost use Rattle.it_report.specs.Steps.{IsVerdictOver};
 
 use it_certificate::Key;
 use it_check::Verdict;

@@ -7,7 +7,7 @@ use Rattle.it_question.specs.Questions.{question_body}
 use Rattle.it_canon.specs.Targets.{targets}
 use Rattle.it_canon.proofs.PosesLemmas.{as_many_rows}
 use Rattle.it_report.specs.Judging.{answer_verdict}
-use Rattle.it_report.proofs.JudgingLemmas.{judged, has_verdict, no_about, target_rows_are, named, complete}
+use Rattle.it_report.proofs.JudgingLemmas.{verdict_is_told, has_verdict, no_about, target_rows_are, target_is_there, point_is_complete}
 use Rattle.it_report.proofs.judging.no_line.Goals as goal
 
 pub relation_of-requires : goal.relation_of-requires
@@ -18,12 +18,12 @@ point_verdict-verdict-requires-clause-named c =
     let r = relation_view c.relation_of.result.now in
     let p = problem_view c.in_ok-problem.problem in
     subst (λ ts. place_named c.args.back < length ts) (sym c.as_slice.ensures.value)
-    (named (question_body c.args.question.now) r c.relation_of.ensures c.args.back c.args.point.now p.space.variables c.in_ok-rows.rows.items
+    (target_is_there (question_body c.args.question.now) r c.relation_of.ensures c.args.back c.args.point.now p.space.variables c.in_ok-rows.rows.items
     (as_many_rows p.space (targets p.space.variables r) c.in_ok-rows.rows.items c.in_ok-rows.ensures) c.requires.fits)
 
 pub point_verdict-verdict-requires-clause-complete : goal.point_verdict-verdict-requires-clause-complete
 point_verdict-verdict-requires-clause-complete c =
-    complete (question_body c.args.question.now) (relation_view c.relation_of.result.now) c.relation_of.ensures c.args.back c.args.point.now c.in_ok-problem.problem.space c.in_ok-problem.ensures.space c.requires.fits
+    point_is_complete (question_body c.args.question.now) (relation_view c.relation_of.result.now) c.relation_of.ensures c.args.back c.args.point.now c.in_ok-problem.problem.space c.in_ok-problem.ensures.space c.requires.fits
 
 pub returns : goal.returns
 returns c =
@@ -34,6 +34,6 @@ returns c =
     let e : answer_verdict p c.in_ok-rows.rows.items a ≡ Some v
     = subst (λ ts. answer_verdict p ts a ≡ Some v) c.as_slice.ensures.value (ap Some (sym c.point_verdict-verdict.ensures.verdict)) in
     let are = target_rows_are q (relation_view c.relation_of.result.now) c.relation_of.ensures a p.space c.in_ok-rows.rows.items c.in_ok-problem.ensures.space c.in_ok-rows.ensures in
-    judged (λ j. j.text.items) (λ j. j.invalid) c.args.k q a c.problem_names.result.now v c.verdict_line.result
+    verdict_is_told (λ j. j.text.items) (λ j. j.invalid) c.args.k q a c.problem_names.result.now v c.verdict_line.result
     (has_verdict q p c.in_ok-problem.ensures.space c.in_ok-problem.ensures.limits c.in_ok-problem.ensures.constraints a c.in_ok-rows.rows.items c.problem_names.result.now v are c.problem_names.ensures e)
     c.verdict_line.ensures

@@ -4,7 +4,7 @@ use Rattle.it_space.specs.Rows.{map_of}
 use Rattle.it_space.specs.Spaces.{size_of}
 use Rattle.it_polymatroid.specs.Elementals.{elementals}
 use Rattle.it_elemental.specs.Generators.{generators}
-use Rattle.it_report.specs.RowVerdicts.{IsVerdictOver}
+use Rattle.it_report.specs.Steps.{IsVerdictOver}
 use Rattle.it_report.proofs.VerdictLemmas.{no_over}
 use Rattle.it_report.proofs.rows.point_verdict.Goals as goal
 
