@@ -46,12 +46,13 @@ use Rattle.it_contain.specs.Search.{AreProofsOf}
 use Rattle.it_answer.specs.declared.types.Budgets.{Budgets}
 use Rattle.it_answer.specs.Forms.{all_demands, generators_by, CertifiesForm, CertifyAll}
 use Rattle.it_answer.specs.Replies.{Reply}
-use Rattle.it_answer.specs.RightAnswers.{IsCounterexample, ViolatesFirst, ProofsAreDue, PointIsDue, IsRightFor, IsRightAnswer, IsRightAnswerBy}
+use Rattle.it_answer.specs.RightAnswers.{IsCounterexample, ViolatesFirst, ProofsAreDue, PointIsDue, IsRightFor, IsRightAnswer, IsRightAnswerBy, ProofsAscend}
 use Rattle.it_answer.specs.RightContainments.{IsRightContainment}
 use Rattle.it_answer.specs.RightRegions.{IsRightElimination}
 use Rattle.it_eliminate.proofs.MemberLemmas.{every_member}
 use Rattle.it_space.proofs.EveryLemmas.{every_of}
 use Rattle.it_answer.proofs.FormLemmas.{spoken, by_rows}
+use Rattle.it_answer.proofs.UniqueLemmas.{a_yes_ascends}
 use Rattle.it_certificate.specs.Fits.{FitsQuestion, FitsVerb, IsCauseFor}
 use Rattle.it_certificate.specs.Laws.{ReadsBack, written_answer}
 use Rattle.it_certificate.specs.Reports.{Reads}
@@ -64,8 +65,8 @@ use Rattle.it_report.proofs.OneLemmas.{one_verdict}
 use Rattle.it_cli.proofs.DataLemmas.{IsPlain, yes_plain, no_plain, undecided_plain, region_plain, contained_plain, open_plain, yes_low, no_low, undecided_low, region_low, contained_low, open_low, answer_text_utf8, answer_text_back}
 use Rattle.it_cli.proofs.RegionFits.{right_region_fits}
 use Rattle.it_cli.proofs.FeedLemmas.{IsNoFeed, answer_text_clear}
-use Rattle.it_cli.proofs.JsonLemmas.{right_prove_fits, right_yes_ascends, eliminated_cause_fits, written_whole, yes_same, no_same}
-use Rattle.it_cli.proofs.ContainedFits.{pair_space, contained_fits, contained_ascends}
+use Rattle.it_cli.proofs.JsonLemmas.{right_prove_fits, eliminated_cause_fits, written_whole, yes_same, no_same}
+use Rattle.it_cli.proofs.ContainedFits.{pair_space, contained_fits}
 use Rattle.it_cli.proofs.NameFits.{rates_found}
 use Rattle.it_cli.specs.Accepted.{ReportsAreAccepted}
 
@@ -153,8 +154,8 @@ pub record IsAccepted (line : List ℕ) : Type 0 where
   pub clear : Every IsNoFeed line
   pub verdicts : (v : LineVerdict) → IsVerdict line v → is_invalid v ≡ false
 
-accepted : (line : List ℕ) (w : LineVerdict) → Every IsNoFeed line → IsVerdict line w → is_invalid w ≡ false → IsAccepted line
-accepted line w clear is ok = record { clear = clear; verdicts = λ v h. ap is_invalid (one_verdict line v w h is) ∙ ok }
+accepted_by_verdict : (line : List ℕ) (w : LineVerdict) → Every IsNoFeed line → IsVerdict line w → is_invalid w ≡ false → IsAccepted line
+accepted_by_verdict line w clear is ok = record { clear = clear; verdicts = λ v h. ap is_invalid (one_verdict line v w h is) ∙ ok }
 
 rate_ascii : (rates : List (List ℕ)) (r : ℕ) → All IsAscii rates → IsAscii (slice_index_or rates r [])
 rate_ascii [] zero all = IsAscii-nil
@@ -193,71 +194,71 @@ module _ (back : ReadsBack) (q : QuestionView) (short : length q.text ≤ 104857
   clear_of : (a : AnswerView) → IsPlain (answer_value q.text q.body.names a) → Every IsNoFeed (line_of a)
   clear_of a plain = answer_text_clear q.text q.body.names a plain
 
-  judged : (a : AnswerView) (line : List ℕ) → Every IsNoFeed line → IsJudged q.body a (problem_names q.body) Valid → Reads line (Ok (q, a)) → IsAccepted line
-  judged a line clear verdict reads = accepted line (Judged (problem_names q.body) Valid) clear (record { question = q; answer = a; reads = reads; verdict = verdict }) refl
+  judged_is_accepted : (a : AnswerView) (line : List ℕ) → Every IsNoFeed line → IsJudged q.body a (problem_names q.body) Valid → Reads line (Ok (q, a)) → IsAccepted line
+  judged_is_accepted a line clear verdict reads = accepted_by_verdict line (Judged (problem_names q.body) Valid) clear (record { question = q; answer = a; reads = reads; verdict = verdict }) refl
 
   -- by the problem and the targets' rows of its relation
   by_relation : (r : RelationView) (a : AnswerView) → q.body.verb ≡ Prove r → (b : Poses q.body r) → answer_verdict b.problem b.rows a ≡ Some Valid → IsJudged q.body a (problem_names q.body) Valid
   by_relation r a about b e = has_verdict q.body b.problem b.space b.limits b.constraints a b.rows (problem_names q.body) Valid
       (rows_as_pulled b.problem.space (judged_forms q.body a) b.rows (subst (λ fs. AreRowsOf b.problem.space fs b.rows) (sym (ap (λ v. judged_forms_by q.body v a) about)) b.targets_are)) refl e
 
-  skipped : (a : AnswerView) (line : List ℕ) → Every IsNoFeed line → is_passed_over a ≡ true → Reads line (Ok (q, a)) → IsAccepted line
-  skipped a line clear e reads = accepted line Skipped clear (record { question = q; answer = a; reads = reads; verdict = e }) refl
+  skipped_is_accepted : (a : AnswerView) (line : List ℕ) → Every IsNoFeed line → is_passed_over a ≡ true → Reads line (Ok (q, a)) → IsAccepted line
+  skipped_is_accepted a line clear e reads = accepted_by_verdict line Skipped clear (record { question = q; answer = a; reads = reads; verdict = e }) refl
 
   undecided_accepted : (c : Cause) → FitsQuestion q.body (Undecided c) → IsCauseFor q.body.names c → IsAccepted (line_of (Undecided c))
   undecided_accepted c fits cause =
       let plain = undecided_plain q.text q.body.names text_is c (IsUtf8-from_ascii (place_text q.body.names c) (place_ascii q.body.names c ascii.rates cause)) in
-      skipped (Undecided c) (line_of (Undecided c)) (clear_of (Undecided c) plain) refl (line_reads (Undecided c) fits plain (undecided_low q.text q.body.names c))
+      skipped_is_accepted (Undecided c) (line_of (Undecided c)) (clear_of (Undecided c) plain) refl (line_reads (Undecided c) fits plain (undecided_low q.text q.body.names c))
 
-  region_accepted : (most : ℕ) (rates : List ℕ) (rows : List (Mark × Terms)) → IsQuestion q.body → q.body.verb ≡ Eliminate rates → IsRightElimination most q.body rates (Region rows) → IsAccepted (line_of (Region rows))
-  region_accepted most rates rows k about right =
-      let fits = right_region_fits most q.body rates rows k right in
+  region_accepted : (budgets : Budgets) (rates : List ℕ) (rows : List (Mark × Terms)) → IsQuestion q.body → q.body.verb ≡ Eliminate rates → IsRightElimination budgets q.body rates (Region rows) → IsAccepted (line_of (Region rows))
+  region_accepted budgets rates rows k about right =
+      let fits = right_region_fits budgets q.body rates rows k right in
       let plain = region_plain q.text q.body.names text_is rows (λ i d l. (fits i d l).terms) in
-      skipped (Region rows) (line_of (Region rows)) (clear_of (Region rows) plain) refl
+      skipped_is_accepted (Region rows) (line_of (Region rows)) (clear_of (Region rows) plain) refl
       (line_reads (Region rows) (question_fits q.body (Region rows) (Eliminate rates) about fits) plain (region_low q.text q.body.names rows))
 
   module _ (budgets : Budgets) (few : IfSome budgets.pivots (λ n. n < 2 ^ 32)) where
-    yes_accepted : (r : RelationView) (ws : List CertificateView) → q.body.verb ≡ Prove r → IsRightFor budgets.pivots q.body r (Yes ws) → IsAccepted (line_of (Yes ws))
-    yes_accepted r ws about right =
+    yes_accepted : (r : RelationView) (ws : List CertificateView) → q.body.verb ≡ Prove r → ProofsAscend (Yes ws) → IsRightFor budgets.pivots q.body r (Yes ws) → IsAccepted (line_of (Yes ws))
+    yes_accepted r ws about ascend right =
         let fits = right_prove_fits budgets.pivots q.body r (Yes ws) few about right in
         let e = proofs_valid q.body r right.poses budgets.pivots (targets (variables_of q.body) r) right.poses.rows ws right.poses.targets_are right.shows right.due in
         let plain = yes_plain q.text q.body.names text_is ws fits.1 in
         let reads = line_reads (Yes ws) (question_fits q.body (Yes ws) (Prove r) about fits) plain (yes_low q.text q.body.names ws) in
-        judged (Yes ws) (line_of (Yes ws)) (clear_of (Yes ws) plain) (by_relation r (Yes ws) about right.poses (ap Some e))
-        (subst (λ us. Reads (line_of (Yes ws)) (Ok (q, Yes us))) (written_whole ws (right_yes_ascends budgets.pivots q.body r ws right)) reads)
+        judged_is_accepted (Yes ws) (line_of (Yes ws)) (clear_of (Yes ws) plain) (by_relation r (Yes ws) about right.poses (ap Some e))
+        (subst (λ us. Reads (line_of (Yes ws)) (Ok (q, Yes us))) (written_whole ws ascend) reads)
 
     no_accepted : (r : RelationView) (is_back : Bool) (values : List ℤ) → q.body.verb ≡ Prove r → IsRightFor budgets.pivots q.body r (No is_back values) → IsAccepted (line_of (No is_back values))
     no_accepted r is_back values about right =
         let fits = right_prove_fits budgets.pivots q.body r (No is_back values) few about right in
         let e = point_valid q.body r right.poses budgets.pivots (targets (variables_of q.body) r) right.poses.rows is_back values right.poses.targets_are right.shows right.due in
         let plain = no_plain q.text q.body.names text_is is_back values fits.1 in
-        judged (No is_back values) (line_of (No is_back values)) (clear_of (No is_back values) plain) (by_relation r (No is_back values) about right.poses (ap Some e))
+        judged_is_accepted (No is_back values) (line_of (No is_back values)) (clear_of (No is_back values) plain) (by_relation r (No is_back values) about right.poses (ap Some e))
         (line_reads (No is_back values) (question_fits q.body (No is_back values) (Prove r) about fits) plain (no_low q.text q.body.names is_back values))
 
-    prove_accepted : (r : RelationView) (a : AnswerView) → q.body.verb ≡ Prove r → IsRightFor budgets.pivots q.body r a → IsAccepted (line_of a)
-    prove_accepted r (Yes ws) about right = yes_accepted r ws about right
-    prove_accepted r (No is_back values) about right = no_accepted r is_back values about right
-    prove_accepted r (Undecided c) about right =
+    prove_accepted : (r : RelationView) (a : AnswerView) → q.body.verb ≡ Prove r → ProofsAscend a → IsRightFor budgets.pivots q.body r a → IsAccepted (line_of a)
+    prove_accepted r (Yes ws) about ascend right = yes_accepted r ws about ascend right
+    prove_accepted r (No is_back values) about ascend right = no_accepted r is_back values about right
+    prove_accepted r (Undecided c) about ascend right =
         let fits = right_prove_fits budgets.pivots q.body r (Undecided c) few about right in
         undecided_accepted c (question_fits q.body (Undecided c) (Prove r) about fits) fits
-    prove_accepted r (Region rows) about right = absurd right.shows
-    prove_accepted r (Contained parts proofs) about right = absurd right.shows
-    prove_accepted r (Open tried) about right = absurd right.shows
+    prove_accepted r (Region rows) about ascend right = absurd right.shows
+    prove_accepted r (Contained parts proofs) about ascend right = absurd right.shows
+    prove_accepted r (Open tried) about ascend right = absurd right.shows
 
-    eliminate_accepted : (rates : List ℕ) (a : AnswerView) → q.body.verb ≡ Eliminate rates → IsQuestion q.body → IsRightElimination budgets.rows q.body rates a → IsAccepted (line_of a)
+    eliminate_accepted : (rates : List ℕ) (a : AnswerView) → q.body.verb ≡ Eliminate rates → IsQuestion q.body → IsRightElimination budgets q.body rates a → IsAccepted (line_of a)
     eliminate_accepted rates (Yes ws) about k right = absurd right.shows
     eliminate_accepted rates (No is_back values) about k right = absurd right.shows
     eliminate_accepted rates (Undecided c) about k right =
         let within = (subst (IsVerbOver q.body.names) about k.verb).within in
-        let fits = eliminated_cause_fits budgets.rows q.body rates c (λ r m. rates_found q r file (every_member (λ i. i < length q.body.names.rates) rates r (every_of (λ i. i < length q.body.names.rates) rates within) m)) right in
+        let fits = eliminated_cause_fits budgets q.body rates c (λ r m. rates_found q r file (every_member (λ i. i < length q.body.names.rates) rates r (every_of (λ i. i < length q.body.names.rates) rates within) m)) right in
         undecided_accepted c (question_fits q.body (Undecided c) (Eliminate rates) about fits) fits
-    eliminate_accepted rates (Region rows) about k right = region_accepted budgets.rows rates rows k about right
+    eliminate_accepted rates (Region rows) about k right = region_accepted budgets rates rows k about right
     eliminate_accepted rates (Contained parts proofs) about k right = absurd right.shows
     eliminate_accepted rates (Open tried) about k right = absurd right.shows
 
     contained_accepted : (plans : List Plan) (first second : RegionView) (tries : List (List ℕ)) (parts : List ℕ) (ws : List CertificateView) (found : List Candidate) → q.body.verb ≡ Contain first second tries
-        → IsRightContainment budgets plans q.body first second tries (record { answer = Contained parts ws; found = found }) → IsAccepted (line_of (Contained parts ws))
-    contained_accepted plans first second tries parts ws found about right =
+        → ProofsAscend (Contained parts ws) → IsRightContainment budgets plans q.body first second tries (record { answer = Contained parts ws; found = found }) → IsAccepted (line_of (Contained parts ws))
+    contained_accepted plans first second tries parts ws found about ascend right =
         let a = Contained parts ws in
         let p = problem_view right.pair.first in
         let c = right.due.candidate in
@@ -270,34 +271,34 @@ module _ (back : ReadsBack) (q : QuestionView) (short : length q.text ≤ 104857
         let e = proofs_by_valid p budgets.pivots (obligations q.body first second parts) proofs.rows ws right.limits.problem rows proofs.proofs in
         let verdict = has_verdict q.body p (pair_space budgets plans q.body first second tries (record { answer = a; found = found }) about right) right.limits.problem right.pairs.first a proofs.rows (problem_names q.body) Valid
         (subst (λ fs. ArePulledRows p.space fs proofs.rows) (sym (ap (λ v. judged_forms_by q.body v a) about)) rows) refl (ap Some e) in
-        judged a (line_of a) (clear_of a plain) verdict
-        (subst (λ us. Reads (line_of a) (Ok (q, Contained parts us))) (written_whole ws (contained_ascends budgets plans q.body first second tries parts ws found right)) reads)
+        judged_is_accepted a (line_of a) (clear_of a plain) verdict
+        (subst (λ us. Reads (line_of a) (Ok (q, Contained parts us))) (written_whole ws ascend) reads)
 
     open_accepted : (plans : List Plan) (first second : RegionView) (tries : List (List ℕ)) (tried : ℕ) (found : List Candidate) → budgets.tries < 2 ^ 32 → q.body.verb ≡ Contain first second tries
         → IsRightContainment budgets plans q.body first second tries (record { answer = Open tried; found = found }) → IsAccepted (line_of (Open tried))
     open_accepted plans first second tries tried found short about right =
         let l : tried < 2 ^ 32 = let is = right.due.0.tried_is in omega (arith, is, short) in
         let plain = open_plain q.text q.body.names text_is tried l in
-        skipped (Open tried) (line_of (Open tried)) (clear_of (Open tried) plain) refl
+        skipped_is_accepted (Open tried) (line_of (Open tried)) (clear_of (Open tried) plain) refl
         (line_reads (Open tried) (question_fits q.body (Open tried) (Contain first second tries) about l) plain (open_low q.text q.body.names tried))
 
     contain_accepted : (plans : List Plan) (first second : RegionView) (tries : List (List ℕ)) (a : AnswerView) (found : List Candidate) → budgets.tries < 2 ^ 32 → q.body.verb ≡ Contain first second tries
-        → IsRightContainment budgets plans q.body first second tries (record { answer = a; found = found }) → IsAccepted (line_of a)
-    contain_accepted plans first second tries (Yes ws) found short about right = absurd right.shows
-    contain_accepted plans first second tries (No is_back values) found short about right = absurd right.shows
-    contain_accepted plans first second tries (Undecided c) found short about right = absurd right.shows
-    contain_accepted plans first second tries (Region rows) found short about right = absurd right.shows
-    contain_accepted plans first second tries (Contained parts proofs) found short about right = contained_accepted plans first second tries parts proofs found about right
-    contain_accepted plans first second tries (Open tried) found short about right = open_accepted plans first second tries tried found short about right
+        → ProofsAscend a → IsRightContainment budgets plans q.body first second tries (record { answer = a; found = found }) → IsAccepted (line_of a)
+    contain_accepted plans first second tries (Yes ws) found short about ascend right = absurd right.shows
+    contain_accepted plans first second tries (No is_back values) found short about ascend right = absurd right.shows
+    contain_accepted plans first second tries (Undecided c) found short about ascend right = absurd right.shows
+    contain_accepted plans first second tries (Region rows) found short about ascend right = absurd right.shows
+    contain_accepted plans first second tries (Contained parts proofs) found short about ascend right = contained_accepted plans first second tries parts proofs found about ascend right
+    contain_accepted plans first second tries (Open tried) found short about ascend right = open_accepted plans first second tries tried found short about right
 
-    verb_accepted : (plans : List Plan) (verb : VerbView) (reply : Reply) → q.body.verb ≡ verb → budgets.tries < 2 ^ 32 → IsQuestion q.body → IsRightAnswerBy budgets plans q.body verb reply → IsAccepted (line_of reply.answer)
-    verb_accepted plans (Prove r) reply about short k right = prove_accepted r reply.answer about right.0
-    verb_accepted plans (Eliminate rates) reply about short k right = eliminate_accepted rates reply.answer about k right.0
-    verb_accepted plans (Contain first second tries) reply about short k right = contain_accepted plans first second tries reply.answer reply.found short about right
+    verb_accepted : (plans : List Plan) (verb : VerbView) (reply : Reply) → q.body.verb ≡ verb → budgets.tries < 2 ^ 32 → IsQuestion q.body → ProofsAscend reply.answer → IsRightAnswerBy budgets plans q.body verb reply → IsAccepted (line_of reply.answer)
+    verb_accepted plans (Prove r) reply about short k ascend right = prove_accepted r reply.answer about ascend right.0
+    verb_accepted plans (Eliminate rates) reply about short k ascend right = eliminate_accepted rates reply.answer about k right.0
+    verb_accepted plans (Contain first second tries) reply about short k ascend right = contain_accepted plans first second tries reply.answer reply.found short about ascend right
 
 pub right_accepted : ReadsBack → (budgets : Budgets) (plans : List Plan) (q : QuestionView) (reply : Reply) → IfSome budgets.pivots (λ n. n < 2 ^ 32) → budgets.tries < 2 ^ 32 → length q.text ≤ 1048577 → IsFile q.text (q ∷ [])
     → IsQuestion q.body → IsRightAnswer budgets plans q.body reply → IsAccepted (answer_text q.text q.body.names reply.answer)
-right_accepted back budgets plans q reply few tries short file k right = verb_accepted back q short file budgets few plans q.body.verb reply refl tries k right
+right_accepted back budgets plans q reply few tries short file k right = verb_accepted back q short file budgets few plans q.body.verb reply refl tries k (a_yes_ascends budgets plans q.body reply right) right
 
 pub reports_are_accepted : ReadsBack → ReportsAreAccepted
 reports_are_accepted back budgets plans q reply few tries short file k right = (right_accepted back budgets plans q reply few tries short file k right).verdicts

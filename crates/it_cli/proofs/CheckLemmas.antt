@@ -2,15 +2,18 @@
 use Rattle.std.proofs.Common.{◌≡◌, ℕ, zero, suc, ◌+◌, ◌<◌, ◌≤◌, List, [], ◌∷◌, length, drop, get_or, Bool, true, false, ◌||◌, ◌==◌, Option, refl, sym, ap, subst, ◌∙◌, arith}
 use Rattle.std.proofs.lemmas.Bool.{eqb-true}
 use Rattle.std.proofs.lemmas.List.{nil_from_length}
+use Rattle.it_outside.specs.Groups.{GroupsInPart}
 use Rattle.it_outside.specs.Traffic.{Gains, TookFront}
 use Rattle.it_outside.proofs.GroupLemmas.{UnderWay, under_way_first, under_way_more, under_way_done, under_way_stops, under_way_waits}
 use Rattle.it_settings.specs.declared.types.Settings.TheVariants.{Check}
 use Rattle.it_contain.specs.Proposals.{Plan}
 use Rattle.it_question.specs.Lines.{split_lines}
 use Rattle.it_report.specs.Judging.{IsJudgedLine}
-use Rattle.it_cli.specs.Outputs.{IsVerdictAfter, after_verdict, verdict_text_of, verdict_status}
+use Rattle.it_report.specs.Meaning.{EachLineIsJudged}
+use Rattle.it_cli.specs.Outputs.{IsOutputInPart, IsVerdictAfter, after_verdict, verdict_text_of, verdict_status}
 use Rattle.it_cli.specs.InnerEnds.{WroteOutput, WroteInPart, EndOfBytes}
 use Rattle.it_cli.specs.declared.status.Status.{Status}
+use Rattle.it_cli.proofs.FrontLemmas.{part_is_front}
 
 -- what is left of a list after its first k items
 next_item : {X : Type 0} (k : ℕ) (xs ys : List X) (y : X) → drop k xs ≡ y ∷ ys → (k < length xs) × (get_or xs k y ≡ y) × (drop (k + 1) xs ≡ ys)
@@ -44,18 +47,24 @@ checked_more a b c bytes rest line behind k some_invalid invalid text piece h sp
       counted = omega (arith, h.counted);
     }
 
-pub checked_stops : (plans : List Plan) (a b c : Option (List ℕ)) (bytes rest line behind : List ℕ) (k : ℕ) (some_invalid invalid : Bool) (text piece : List ℕ) → IsChecked a b bytes rest k some_invalid
+-- what is written in part is a front of a whole output, since each line has a verdict
+front_of_output : EachLineIsJudged → (plans : List Plan) (bytes out : List ℕ) → GroupsInPart IsVerdictAfter after_verdict verdict_text_of 1 false (split_lines bytes) out → IsOutputInPart plans Check bytes out
+front_of_output each plans bytes out part =
+    let f = part_is_front IsVerdictAfter after_verdict verdict_text_of (λ before line. let judged = (each 1 line).2 in (judged.verdict, judged.is)) 1 false (split_lines bytes) out part in
+    (f.whole, verdict_status f.state, (f.state, f.groups, refl), f.front)
+
+pub checked_stops : (plans : List Plan) (a b c : Option (List ℕ)) (bytes rest line behind : List ℕ) (k : ℕ) (some_invalid invalid : Bool) (text piece : List ℕ) → EachLineIsJudged → IsChecked a b bytes rest k some_invalid
     → split_lines rest ≡ line ∷ split_lines behind → IsJudgedLine (k + 1) line text invalid → piece ≡ text → TookFront b c piece → WroteInPart plans a c Check bytes
-checked_stops plans a b c bytes rest line behind k some_invalid invalid text piece h split judged same took =
+checked_stops plans a b c bytes rest line behind k some_invalid invalid text piece each h split judged same took =
     let next = next_item k (split_lines bytes) (split_lines behind) line (h.rest_is ∙ split) in
     let stopped = under_way_stops IsVerdictAfter after_verdict verdict_text_of a b c false (split_lines bytes) k some_invalid line judged.verdict text h.written next.0 next.1 judged.is judged.told.0
     (subst (TookFront b c) same took) in
-    record { out = stopped.out; output = stopped.groups; wrote = stopped.wrote }
+    record { out = stopped.out; output = front_of_output each plans bytes stopped.out stopped.groups; wrote = stopped.wrote }
 
-pub checked_waits : (plans : List Plan) (a b : Option (List ℕ)) (bytes rest : List ℕ) (k : ℕ) (some_invalid : Bool) → IsChecked a b bytes rest k some_invalid → WroteInPart plans a b Check bytes
-checked_waits plans a b bytes rest k some_invalid h = record {
+pub checked_waits : (plans : List Plan) (a b : Option (List ℕ)) (bytes rest : List ℕ) (k : ℕ) (some_invalid : Bool) → EachLineIsJudged → IsChecked a b bytes rest k some_invalid → WroteInPart plans a b Check bytes
+checked_waits plans a b bytes rest k some_invalid each h = record {
   out = h.written.out;
-  output = under_way_waits IsVerdictAfter after_verdict verdict_text_of a b false (split_lines bytes) k some_invalid h.written;
+  output = front_of_output each plans bytes h.written.out (under_way_waits IsVerdictAfter after_verdict verdict_text_of a b false (split_lines bytes) k some_invalid h.written);
   wrote = h.written.wrote;
 }
 

@@ -5,7 +5,6 @@ use Rattle.it_space.specs.declared.spaces.Space.{Space}
 use Rattle.it_space.specs.Answers.{CertificateView}
 use Rattle.it_space.specs.Answers.AnswerView.{Contained}
 use Rattle.it_space.specs.Problems.{problem_view}
-use Rattle.it_space.specs.Rows.{IsCanonical}
 use Rattle.it_question.specs.Questions.{BodyView, RegionView, Contain}
 use Rattle.it_canon.specs.QuestionDemands.{space_of, problem_names, problem_names_by}
 use Rattle.it_region.specs.declared.types.Candidate.{Candidate}
@@ -26,11 +25,8 @@ module _ (budgets : Budgets) (plans : List Plan) (q : BodyView) (first second : 
     abbrev IsRight : Type 0
     IsRight = IsRightContainment budgets plans q first second tries (record { answer = Contained parts ws; found = found })
 
-    scaled : IsRight → All IsScaled ws
-    scaled right = proofs_scaled (problem_view right.pair.first) budgets.pivots right.due.proofs.rows ws right.due.proofs.proofs
-
-    pub contained_ascends : IsRight → All (λ w. IsCanonical w.parts) ws
-    contained_ascends right = All-weaker IsScaled (λ w. IsCanonical w.parts) (λ w s. s.parts) ws (scaled right)
+    are_scaled : IsRight → All IsScaled ws
+    are_scaled right = proofs_scaled (problem_view right.pair.first) budgets.pivots right.due.proofs.rows ws right.due.proofs.proofs
 
     few_variables : (right : IsRight) → length first.names.variables ≤ 10
     few_variables right = let few = right.limits.problem.space.few in omega (arith, few, ap (λ (s : Space). s.variables) right.pairs.first_space)
@@ -46,5 +42,5 @@ module _ (budgets : Budgets) (plans : List Plan) (q : BodyView) (first second : 
           each = right.shows.are_parts.count;
           sets = All-weaker (λ s. s < 2 ^ length first.names.variables) (λ s. (s < 2 ^ 32) × (s < 2 ^ length first.names.variables)) (λ s h. (small s h, h)) parts right.shows.are_parts.within;
           obligations = all_counted q p space limits right.pairs.first forms ws right.shows.certified ∙ obligations_counted q first second parts;
-          numbers = all_numbered q p space limits right.pairs.first forms ws right.shows.certified (scaled right);
+          numbers = all_numbered q p space limits right.pairs.first forms ws right.shows.certified (are_scaled right);
         }

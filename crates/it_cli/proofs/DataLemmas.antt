@@ -165,9 +165,9 @@ read_text d h shallow =
 
 -- ---- the values of answers
 
-listed : {A : Type 0} (f : A → Data) (P : A → Type 0) → ((a : A) → P a → IsPlain (f a)) → (xs : List A) → All P xs → ItemsArePlain (items_of (map f xs))
-listed f P each [] h = tt
-listed f P each (x ∷ xs) h = (each x (All-head P x xs h), listed f P each xs (All-tail P x xs h))
+items_plain : {A : Type 0} (f : A → Data) (P : A → Type 0) → ((a : A) → P a → IsPlain (f a)) → (xs : List A) → All P xs → ItemsArePlain (items_of (map f xs))
+items_plain f P each [] h = tt
+items_plain f P each (x ∷ xs) h = (each x (All-head P x xs h), items_plain f P each xs (All-tail P x xs h))
 
 below_wide : (n : ℕ) → n < 2 ^ 127 → n < 10 ^ 64
 below_wide n h = let e : 2 ^ 127 ≤ 10 ^ 64 = lit≤ tt in omega (arith, e)
@@ -192,7 +192,7 @@ proof_plain c h = (
       whole_plain c.scale h.scale,
       (
         IsUtf8-are_ascii (codes "weights") refl,
-        (listed pair_value IsPair pair_plain (filter is_some_weight c.parts) (All-filter is_some_weight IsPair c.parts h.parts), tt),
+        (items_plain pair_value IsPair pair_plain (filter is_some_weight c.parts) (All-filter is_some_weight IsPair c.parts h.parts), tt),
       ),
     ),
   ),
@@ -206,7 +206,7 @@ mark_utf8 Unsettled = IsUtf8-are_ascii (codes "unsettled") refl
 
 row_plain : (r : Mark × Terms) → All IsPair r.1 → IsPlain (row_value r)
 unfolding row_value
-row_plain r h = ((IsUtf8-are_ascii (codes "mark") refl, (mark_utf8 r.0, (IsUtf8-are_ascii (codes "row") refl, (listed pair_value IsPair pair_plain r.1 h, tt)))), refl)
+row_plain r h = ((IsUtf8-are_ascii (codes "mark") refl, (mark_utf8 r.0, (IsUtf8-are_ascii (codes "row") refl, (items_plain pair_value IsPair pair_plain r.1 h, tt)))), refl)
 
 cause_utf8 : (c : Cause) → IsUtf8 (cause_text c)
 cause_utf8 (causes.Pivots k) = IsUtf8-are_ascii (codes "pivots") refl
@@ -228,7 +228,7 @@ question_utf8 = IsUtf8-are_ascii (codes "question") refl
 module _ (text : List ℕ) (v : NamesView) (ok : IsUtf8 text) where
   pub yes_plain : (ws : List CertificateView) → All IsNumbered ws → IsPlain (answer_value text v (Yes ws))
   unfolding answer_value
-  yes_plain ws h = ((answer_utf8, (IsUtf8-are_ascii (codes "yes") refl, (IsUtf8-are_ascii (codes "proofs") refl, (listed proof_value IsNumbered proof_plain ws h, (question_utf8, (ok, tt)))))), refl)
+  yes_plain ws h = ((answer_utf8, (IsUtf8-are_ascii (codes "yes") refl, (IsUtf8-are_ascii (codes "proofs") refl, (items_plain proof_value IsNumbered proof_plain ws h, (question_utf8, (ok, tt)))))), refl)
 
   pub no_plain : (back : Bool) (values : List ℤ) → All IsWithin values → IsPlain (answer_value text v (No back values))
   unfolding answer_value
@@ -240,7 +240,7 @@ module _ (text : List ℕ) (v : NamesView) (ok : IsUtf8 text) where
         (
           IsUtf8-are_ascii (codes "point") refl,
           (
-            listed whole_value IsWithin whole_plain values h,
+            items_plain whole_value IsWithin whole_plain values h,
             (
               question_utf8,
               (
@@ -261,7 +261,7 @@ module _ (text : List ℕ) (v : NamesView) (ok : IsUtf8 text) where
 
   pub region_plain : (rows : List (Mark × Terms)) → All (λ r. All IsPair r.1) rows → IsPlain (answer_value text v (Region rows))
   unfolding answer_value
-  region_plain rows h = ((answer_utf8, (IsUtf8-are_ascii (codes "region") refl, (question_utf8, (ok, (IsUtf8-are_ascii (codes "rows") refl, (listed row_value (λ r. All IsPair r.1) row_plain rows h, tt)))))), refl)
+  region_plain rows h = ((answer_utf8, (IsUtf8-are_ascii (codes "region") refl, (question_utf8, (ok, (IsUtf8-are_ascii (codes "rows") refl, (items_plain row_value (λ r. All IsPair r.1) row_plain rows h, tt)))))), refl)
 
   pub contained_plain : (parts : List ℕ) (proofs : List CertificateView) → All (λ s. s < 2 ^ 32) parts → All IsNumbered proofs → IsPlain (answer_value text v (Contained parts proofs))
   unfolding answer_value
@@ -273,10 +273,10 @@ module _ (text : List ℕ) (v : NamesView) (ok : IsUtf8 text) where
         (
           IsUtf8-are_ascii (codes "parts") refl,
           (
-            listed count_value (λ s. s < 2 ^ 32) count_plain parts h,
+            items_plain count_value (λ s. s < 2 ^ 32) count_plain parts h,
             (
               IsUtf8-are_ascii (codes "proofs") refl,
-              (listed proof_value IsNumbered proof_plain proofs k, (question_utf8, (ok, tt))),
+              (items_plain proof_value IsNumbered proof_plain proofs k, (question_utf8, (ok, tt))),
             ),
           ),
         ),

@@ -1,7 +1,7 @@
 -- A right answer fits its question, so that what is written of it reads back as it.
 use Rattle.std.proofs.Common.{◌≡◌, ◌⊎◌, inl, inr, ℕ, zero, suc, ◌+◌, ◌<◌, ◌≤◌, ◌^◌, min, ℤ, pos, List, [], ◌∷◌, map, filter, length, All, Bool, true, false, Option, Some, None, IfSome, refl, sym, ap, subst, ◌∙◌, arith, lit≤, cond, negsuc, not, unsigned_abs, ◌==◌, rules}
 use Rattle.std.proofs.lemmas.List.{length-append, length-map}
-use Rattle.std.proofs.lemmas.List.Elements.{All-nil, All-cons, All-head, All-tail, All-weaker}
+use Rattle.std.proofs.lemmas.List.Elements.{All-nil, All-cons, All-head, All-tail}
 use Rattle.it_number.specs.Limit.{IsWithin}
 use Rattle.it_rational.specs.Rational.{Rational}
 use Rattle.it_space.specs.declared.answers.Cause.{Cause}
@@ -16,7 +16,7 @@ use Rattle.it_polymatroid.specs.Certificates.{Form, Generators, IsAllowed}
 use Rattle.it_polymatroid.specs.Elementals.{elementals}
 use Rattle.it_elemental.proofs.GeneratorLemmas.{few_elementals}
 use Rattle.it_closure.specs.Reading.{dependences_of}
-use Rattle.it_run.specs.Runs.{RunEndView, EndsAs, EndsBy, IsWithinBudget, told}
+use Rattle.it_run.specs.Runs.{RunEndView, EndsAs, EndsBy, IsWithinBudget, clip_end}
 use Rattle.it_run.specs.Runs.RunEndView.{Weights, Point, Pivots, Width}
 use Rattle.it_simplex.specs.Answers.{Solves}
 use Rattle.it_prove.specs.Closed.{closed_places, spread_point, spread_values}
@@ -36,9 +36,11 @@ use Rattle.it_canon.specs.Demands.{States, AreStated}
 use Rattle.it_canon.specs.Targets.{targets, targets_by}
 use Rattle.it_canon.specs.QuestionDemands.{space_of, problem_names, problem_names_by, variables_of, question_demands, Poses}
 use Rattle.it_canon.proofs.ZipLemmas.{zip-length}
-use Rattle.it_eliminate.specs.Elimination.{Member, EliminatedView, Ends, in_order, next_list}
-use Rattle.it_eliminate.specs.Elimination as elimination
+use Rattle.it_eliminate.specs.Elimination.{Member}
+use Rattle.it_redundant.specs.ReducedElimination.{ProjectedView}
+use Rattle.it_redundant.specs.ReducedElimination as reduced
 use Rattle.it_contain.specs.Search.{AreProofsOf}
+use Rattle.it_answer.specs.declared.types.Budgets.{Budgets}
 use Rattle.it_answer.specs.Forms.{all_demands, generators_by, demand_of_elemental, demand_of_line, CertifyAll}
 use Rattle.it_answer.specs.RightAnswers.{ViolatesFirst, ProofsAreDue, PointIsDue, CauseIsDue, IsRightFor}
 use Rattle.it_answer.specs.RightRegions.{answer_of_end, IsRightElimination}
@@ -47,6 +49,8 @@ use Rattle.it_certificate.specs.Fits.{IsPair, IsNumbered, IsFoundIn, IsCauseFor,
 use Rattle.it_certificate.specs.Numerals.{step_of}
 use Rattle.it_certificate.specs.Laws.{without_zeros}
 use Rattle.it_certificate.specs.Values.{is_some_weight, rate_text}
+use Rattle.it_cli.proofs.LineLemmas.{point_size}
+use Rattle.it_cli.proofs.RateLemmas.{IsEndOf, end_of_rates}
 
 -- ---- the ends of one target
 
@@ -110,7 +114,7 @@ up_to_more few most (Point qs) l h = tt
 up_to_more few most (Pivots j) l h = omega (arith, l, h)
 up_to_more few most (Width j) l h = omega (arith, l, h)
 
-told_up_to : {W P : Type 0} (e : RunEndView W P) → IsWithinBudget e → IsUpToStep last_step (told e)
+told_up_to : {W P : Type 0} (e : RunEndView W P) → IsWithinBudget e → IsUpToStep last_step (clip_end e)
 told_up_to (Weights ws) h = tt
 told_up_to (Point qs) h = tt
 told_up_to (Pivots j) h = absurd h
@@ -133,7 +137,7 @@ module _ {S W P : Type 0} (IsDone IsStuck Fits : S → Type 0) (next : S → S) 
   -- with a budget of 32 bits, or without one
   ends_told : (budget : Option ℕ) (s : S) (e : RunEndView W P) → IfSome budget (λ n. n < 2 ^ 32) → EndsBy IsDone IsStuck Fits next weights point budget s e → IsUpToStep last_step e
   ends_told (Some most) s e few h = up_to_more (0 + most) last_step e (omega (arith, few)) (in_budget most 0 s e h)
-  ends_told None s e few h = subst (IsUpToStep last_step) (sym h.is_told) (told_up_to h.end h.within)
+  ends_told None s e few h = subst (IsUpToStep last_step) (sym h.is_clipped) (told_up_to h.end h.within)
 
 at_start : {W P : Type 0} (e : RunEndView W P) → e ≡ Width 0 → IsUpToStep last_step e
 at_start e is = subst (IsUpToStep last_step) (sym is) (let l : 0 ≤ last_step = omega arith in l)
@@ -228,12 +232,6 @@ module _ (q : BodyView) (r : RelationView) (b : Poses q r) where
   values_due budget (t ∷ []) true values d = absurd d
   values_due budget (t ∷ u ∷ ts) true values d = values_by_end b.problem u b.limits values d.1.end d.1.follows
 
-  complete : (fs : List Form) (back : Bool) (values : List ℤ) → ViolatesFirst q fs back values → length values ≡ size_of (space_of (problem_names q))
-  complete [] back values c = absurd c
-  complete (f ∷ fs) false values c = c.complete
-  complete (f ∷ []) true values c = absurd c
-  complete (f ∷ g ∷ fs) true values c = c.1.complete
-
   second_only : (s : Sign) (f : Form) (back : Bool) (values : List ℤ) → ViolatesFirst q (targets_by s f) back values → back ≡ true → is_equality s ≡ true
   second_only AtLeast f true values c e = absurd c
   second_only AtMost f true values c e = absurd c
@@ -257,7 +255,7 @@ right_prove_fits budget q r (Yes ws) few verb right =
     )
 right_prove_fits budget q r (No back values) few verb right =
     let own : space_of (problem_names q) ≡ space_of q.names = ap (λ (v : _). space_of (problem_names_by q.names v)) verb in (
-      complete q r right.poses (targets (variables_of q) r) back values right.shows ∙ ap size_of own,
+      point_size q (targets (variables_of q) r) back values right.shows ∙ ap size_of own,
       values_due q r right.poses budget right.poses.rows back values right.due,
       second_only q r right.poses r.sign (form_of (variables_of q) r) back values right.shows,
     )
@@ -266,43 +264,21 @@ right_prove_fits budget q r (Region rows) few verb right = absurd right.shows
 right_prove_fits budget q r (Contained parts proofs) few verb right = absurd right.shows
 right_prove_fits budget q r (Open tried) few verb right = absurd right.shows
 
--- the certificates of a right yes ascend
-pub right_yes_ascends : (budget : Option ℕ) (q : BodyView) (r : RelationView) (ws : List CertificateView) → IsRightFor budget q r (Yes ws) → All (λ w. IsCanonical w.parts) ws
-right_yes_ascends budget q r ws right = All-weaker IsScaled (λ w. IsCanonical w.parts) (λ w s. s.parts) ws (due_scaled right.poses.problem budget right.poses.rows ws right.due)
-
 -- ---- eliminations that end with a cause
-
-row_same : (r s : ℕ) → elimination.Rows r ≡ elimination.Rows s → r ≡ s
-row_same r s e = cc
-
-wide_same : (r s : ℕ) → elimination.Wide r ≡ elimination.Wide s → r ≡ s
-wide_same r s e = cc
-
--- the rate of an end is one of those that are eliminated
-rows_listed : (base most : ℕ) (rows : List Terms) (rates : List ℕ) (r : ℕ) → Ends base most rows rates (elimination.Rows r) → Member r rates
-rows_listed base most rows [] r e = absurd (cc)
-rows_listed base most rows (s ∷ rates) r (inl h) = let e = h.1 in absurd (cc)
-rows_listed base most rows (s ∷ rates) r (inr (inl h)) = inl (row_same r s h.2)
-rows_listed base most rows (s ∷ rates) r (inr (inr h)) = inr (rows_listed base most (next_list (base + s) rows) rates r h.2)
-
-wide_listed : (base most : ℕ) (rows : List Terms) (rates : List ℕ) (r : ℕ) → Ends base most rows rates (elimination.Wide r) → Member r rates
-wide_listed base most rows [] r e = absurd (cc)
-wide_listed base most rows (s ∷ rates) r (inl h) = inl (wide_same r s h.1)
-wide_listed base most rows (s ∷ rates) r (inr (inl h)) = let e = h.2 in absurd (cc)
-wide_listed base most rows (s ∷ rates) r (inr (inr h)) = inr (wide_listed base most (next_list (base + s) rows) rates r h.2)
 
 undecided_same : (c d : Cause) → Undecided c ≡ Undecided d → c ≡ d
 undecided_same c d e = cc
 
 -- A cause of an elimination fits, where each listed rate is found by its name, and the name is no number.
-pub eliminated_cause_fits : (most : ℕ) (q : BodyView) (rates : List ℕ) (cause : Cause) → ((r : ℕ) → Member r rates → IsFoundIn q.names r × (step_of (rate_text q.names r) ≡ None))
-    → IsRightElimination most q rates (Undecided cause) → IsCauseFor q.names cause
-eliminated_cause_fits most q rates cause named right = by right.due.end right.due.ends right.due.is
+pub eliminated_cause_fits : (budgets : Budgets) (q : BodyView) (rates : List ℕ) (cause : Cause) → ((r : ℕ) → Member r rates → IsFoundIn q.names r × (step_of (rate_text q.names r) ≡ None))
+    → IsRightElimination budgets q rates (Undecided cause) → IsCauseFor q.names cause
+eliminated_cause_fits budgets q rates cause named right =
+    by right.due.end (end_of_rates right.due.givens budgets.pivots budgets.rows right.due.rows [] rates right.due.end right.due.ends) right.due.is
   where
-    by : (end : EliminatedView) → Ends (2 ^ length q.names.variables) most (in_order right.due.rows) rates end → Undecided cause ≡ answer_of_end end → IsCauseFor q.names cause
-    by (elimination.Region rows) e is = absurd (cc)
-    by (elimination.Rows r) e is = subst (IsCauseFor q.names) (sym (undecided_same cause (causes.Rows r) is)) (named r (rows_listed (2 ^ length q.names.variables) most (in_order right.due.rows) rates r e)).0
-    by (elimination.Wide r) e is = subst (IsCauseFor q.names) (sym (undecided_same cause (causes.WideRate r) is)) (named r (wide_listed (2 ^ length q.names.variables) most (in_order right.due.rows) rates r e))
+    by : (end : ProjectedView) → IsEndOf rates end → Undecided cause ≡ answer_of_end end → IsCauseFor q.names cause
+    by (reduced.Region kept) h is = absurd (cc)
+    by (reduced.Rows r) h is = subst (IsCauseFor q.names) (sym (undecided_same cause (causes.Rows r) is)) (named r h).0
+    by (reduced.Wide r) h is = subst (IsCauseFor q.names) (sym (undecided_same cause (causes.WideRate r) is)) (named r h)
 
 -- ---- weights other than 0
 

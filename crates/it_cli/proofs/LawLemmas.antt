@@ -211,8 +211,8 @@ sure_ends r Memory ends none none_written = ((λ is. cc), λ is. cc)
 -- ---- what a run that is done has written
 
 -- what a sink that tells its bytes took
-gained : (before now : Option (List ℕ)) (old new out : List ℕ) → before ≡ Some old → now ≡ Some new → Gains before now out → new ≡ old ++ out
-gained before now old new out b n g = subst (λ (o : Option (List ℕ)). Gains (Some old) o out) n (subst (λ (o : Option (List ℕ)). Gains o now out) b g)
+gain_is_told : (before now : Option (List ℕ)) (old new out : List ℕ) → before ≡ Some old → now ≡ Some new → Gains before now out → new ≡ old ++ out
+gain_is_told before now old new out b n g = subst (λ (o : Option (List ℕ)). Gains (Some old) o out) n (subst (λ (o : Option (List ℕ)). Gains o now out) b g)
 
 -- the output of the mode that the words ask for
 output_of : (r : Call) (s : Status) (settings : Settings) (h : HasOutput r s) → IsReading r settings → IsOutput r.plans settings h.bytes h.out s
@@ -223,14 +223,14 @@ headline r format pivots rows tries bytes old new ends reading e taken taken_aft
     let same = given_by r (Answer format pivots rows tries) ends.settings 1048576 bytes ends.bytes reading refl e ends.input in
     let output : IsOutput r.plans (Answer format pivots rows tries) bytes ends.out Done =
     subst (λ (b : List ℕ). IsOutput r.plans (Answer format pivots rows tries) b ends.out Done) same.0 (output_of r Done (Answer format pivots rows tries) ends reading) in
-    (ends.out, output.0, gained r.taken r.taken_after old new ends.out taken taken_after ends.wrote)
+    (ends.out, output.0, gain_is_told r.taken r.taken_after old new ends.out taken taken_after ends.wrote)
 
 written_by : (r : Call) (s : Status) (bytes old new : List ℕ) → HasOutput r s → IsReading r Check → r.left ≡ Some bytes → r.taken ≡ Some old → r.taken_after ≡ Some new
     → (some_invalid : Bool) × (out : List ℕ) × Verdicts bytes some_invalid out × (new ≡ old ++ out) × (s ≡ verdict_status some_invalid)
 written_by r s bytes old new h reading e taken taken_after =
     let same = given_by r Check h.settings 67108864 bytes h.bytes reading refl e h.input in
     let output : IsOutput r.plans Check bytes h.out s = subst (λ (b : List ℕ). IsOutput r.plans Check b h.out s) same.0 (output_of r s Check h reading) in
-    (output.0, h.out, output.1, gained r.taken r.taken_after old new h.out taken taken_after h.wrote, output.2)
+    (output.0, h.out, output.1, gain_is_told r.taken r.taken_after old new h.out taken taken_after h.wrote, output.2)
 
 pub verdicts_are_written : VerdictsAreWritten
 verdicts_are_written r Done bytes old new ends is reading e taken taken_after = written_by r Done bytes old new ends reading e taken taken_after
@@ -249,4 +249,4 @@ verdicts_are_written r Memory bytes old new ends (inr is) reading e taken taken_
 pub counts_are_written : CountsAreWritten
 counts_are_written r seed count pivots rows tries old new ends reading taken taken_after =
     let output = output_of r Done (Bench seed count pivots rows tries) ends reading in
-    (ends.out, output.0, gained r.taken r.taken_after old new ends.out taken taken_after ends.wrote, unread_input r (Bench seed count pivots rows tries) ends.settings ends.bytes reading refl ends.input)
+    (ends.out, output.0, gain_is_told r.taken r.taken_after old new ends.out taken taken_after ends.wrote, unread_input r (Bench seed count pivots rows tries) ends.settings ends.bytes reading refl ends.input)

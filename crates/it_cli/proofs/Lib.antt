@@ -1,3 +1,4 @@
+pub mod RateLemmas
 pub mod LineLemmas
 pub mod VerdictLemmas
 pub mod RightLemmas
@@ -8,6 +9,7 @@ pub mod ProofLemmas
 pub mod EndLemmas
 pub mod LawLemmas
 pub mod OutputLemmas
+pub mod FrontLemmas
 pub mod CheckLemmas
 pub mod JsonLemmas
 pub mod ContainedFits

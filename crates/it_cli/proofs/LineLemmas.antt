@@ -1,5 +1,5 @@
 -- Right answers can be written: their generators are there, their points and causes are of the question's names.
-use Rattle.std.proofs.Common.{◌≡◌, inl, inr, ℕ, ◌+◌, ◌<◌, ◌≤◌, ◌^◌, ℤ, List, [], ◌∷◌, map, length, drop, All, Bool, true, false, Option, refl, sym, ap, ap₂, subst, ◌∙◌, arith, length-append}
+use Rattle.std.proofs.Common.{◌≡◌, inl, inr, ℕ, ◌+◌, ◌<◌, ◌≤◌, ℤ, List, [], ◌∷◌, map, length, drop, All, Bool, true, false, Option, refl, sym, ap, ap₂, subst, ◌∙◌, arith, length-append}
 use Rattle.std.proofs.lemmas.List.{length-map}
 use Rattle.std.proofs.Math.Seq.{drop-append_seam}
 use Rattle.std.proofs.lemmas.List.Elements.{All-nil, All-cons, All-head, All-tail}
@@ -35,8 +35,9 @@ use Rattle.it_run.specs.Runs.RunEndView.{Weights, Point, Pivots, Width}
 use Rattle.it_run.specs.Runs.{RunEndView}
 use Rattle.it_rational.specs.Rational.{Rational}
 use Rattle.it_prove.specs.ProofViews.{Yes, No, Undecided, Follows}
-use Rattle.it_eliminate.specs.Elimination.{EliminatedView, next_list, in_order}
-use Rattle.it_eliminate.specs.Elimination as elimination
+use Rattle.it_eliminate.proofs.MemberLemmas.{every_member}
+use Rattle.it_redundant.specs.ReducedElimination.{ProjectedView}
+use Rattle.it_redundant.specs.ReducedElimination as reduced
 use Rattle.it_answer.specs.declared.types.Budgets.{Budgets}
 use Rattle.it_answer.specs.RightRegions.{IsRightElimination, answer_of_end, region_rows}
 use Rattle.it_answer.specs.Forms.{CertifyAll, all_demands, generators_by}
@@ -52,6 +53,7 @@ use Rattle.it_contain.specs.Proposals.{Plan}
 use Rattle.it_settings.specs.declared.types.Format.TheVariants.{Text, Proof}
 use Rattle.it_cli.specs.Right.{answer_lines, terms_in}
 use Rattle.it_cli.proofs.ProofLemmas.{generators_told}
+use Rattle.it_cli.proofs.RateLemmas.{IsEndOf, end_of_rates}
 use Rattle.it_cli.proofs.RowLemmas.{row_over}
 
 length-demands : (n : ℕ) (ds : List LineDemand) → length (all_demands n ds) ≡ length (elementals n) + length ds
@@ -74,7 +76,8 @@ certificates q n m (g ∷ fs) (k ∷ ks) e f c = All-cons (λ (c : Certificate).
     (λ w a. omega (arith, a.0, length-demands (variables_of q) (question_demands q), ap (λ i. length (elementals i)) e, f)) (every_of (IsAllowed (generators_by (all_demands (variables_of q) (question_demands q)))) k.weights.items c.0.allowed)))
     (certificates q n m fs ks e f c.1)
 
-point_size : (q : BodyView) (fs : List Form) (is_back : Bool) (values : List ℤ) → ViolatesFirst q fs is_back values → length values ≡ size_of (space_of (problem_names q))
+-- a counterexample has a value for each coordinate
+pub point_size : (q : BodyView) (fs : List Form) (is_back : Bool) (values : List ℤ) → ViolatesFirst q fs is_back values → length values ≡ size_of (space_of (problem_names q))
 point_size q [] is_back values c = absurd c
 point_size q (f ∷ fs) false values c = c.complete
 point_size q (f ∷ []) true values c = absurd c
@@ -153,25 +156,25 @@ rows_over v [] a = All-nil (λ (row : Mark × Terms). IsRowOver v row.1)
 rows_over v (row ∷ rows) a = All-cons (λ (row : Mark × Terms). IsRowOver v row.1) row rows (row_over v row.1 (All-head (IsUpTo (size_of (space_of v))) row.1 (region_rows rows) a))
     (rows_over v rows (All-tail (IsUpTo (size_of (space_of v))) row.1 (region_rows rows) a))
 
--- the cause's rate is one of those that are eliminated
+-- a cause's rate is one of m
 abbrev IsCauseIn : ℕ → AnswerView → Type 0
 IsCauseIn m (views.Undecided cause) = IsCauseOf m cause
 IsCauseIn m _ = Unit {0}
 
-cause_of_end : (base most m : ℕ) (rows : List Terms) (rates : List ℕ) (end : EliminatedView) → All (λ r. r < m) rates → elimination.Ends base most rows rates end → IsCauseIn m (answer_of_end end)
-cause_of_end base most m rows [] end within e = subst (λ x. IsCauseIn m (answer_of_end x)) (sym e) tt
-cause_of_end base most m rows (r ∷ rates) end within (inl e) = subst (λ x. IsCauseIn m (answer_of_end x)) (sym e.1) (All-head (λ r. r < m) r rates within)
-cause_of_end base most m rows (r ∷ rates) end within (inr (inl e)) = subst (λ x. IsCauseIn m (answer_of_end x)) (sym e.2) (All-head (λ r. r < m) r rates within)
-cause_of_end base most m rows (r ∷ rates) end within (inr (inr e)) = cause_of_end base most m (next_list (base + r) rows) rates end (All-tail (λ r. r < m) r rates within) e.2
+cause_of_end : (m : ℕ) (rates : List ℕ) (end : ProjectedView) → All (λ r. r < m) rates → IsEndOf rates end → IsCauseIn m (answer_of_end end)
+cause_of_end m rates (reduced.Region kept) within h = tt
+cause_of_end m rates (reduced.Rows rate) within h = every_member (λ r. r < m) rates rate (every_of (λ r. r < m) rates within) h
+cause_of_end m rates (reduced.Wide rate) within h = every_member (λ r. r < m) rates rate (every_of (λ r. r < m) rates within) h
 
-printable_region : (most : ℕ) (q : BodyView) (rates : List ℕ) (m : ℕ) (answer : Answer) → problem_names q ≡ q.names → All (λ r. r < length q.names.rates) rates → IsRightElimination most q rates (answer_view answer) → IsPrintable q m answer
-printable_region most q rates m (answers.Yes proofs) names within a = absurd a.shows
-printable_region most q rates m (answers.No is_back point) names within a = absurd a.shows
-printable_region most q rates m (answers.Undecided cause) names within a =
-    subst (λ (v : NamesView). IsCauseOf (length v.rates) cause) (sym names) (subst (IsCauseIn (length q.names.rates)) (sym a.due.is) (cause_of_end (2 ^ length q.names.variables) most (length q.names.rates) (in_order a.due.rows) rates a.due.end within a.due.ends))
-printable_region most q rates m (answers.Region rows) names within a = subst (λ (v : NamesView). All (λ (row : Mark × Terms). IsRowOver v row.1) rows.items) (sym names) (rows_over q.names rows.items a.shows.coordinates)
-printable_region most q rates m (answers.Contained parts proofs) names within a = absurd a.shows
-printable_region most q rates m (answers.Open tried) names within a = absurd a.shows
+printable_region : (budgets : Budgets) (q : BodyView) (rates : List ℕ) (m : ℕ) (answer : Answer) → problem_names q ≡ q.names → All (λ r. r < length q.names.rates) rates → IsRightElimination budgets q rates (answer_view answer) → IsPrintable q m answer
+printable_region budgets q rates m (answers.Yes proofs) names within a = absurd a.shows
+printable_region budgets q rates m (answers.No is_back point) names within a = absurd a.shows
+printable_region budgets q rates m (answers.Undecided cause) names within a =
+    subst (λ (v : NamesView). IsCauseOf (length v.rates) cause) (sym names) (subst (IsCauseIn (length q.names.rates)) (sym a.due.is)
+    (cause_of_end (length q.names.rates) rates a.due.end within (end_of_rates a.due.givens budgets.pivots budgets.rows a.due.rows [] rates a.due.end a.due.ends)))
+printable_region budgets q rates m (answers.Region rows) names within a = subst (λ (v : NamesView). All (λ (row : Mark × Terms). IsRowOver v row.1) rows.items) (sym names) (rows_over q.names rows.items a.shows.coordinates)
+printable_region budgets q rates m (answers.Contained parts proofs) names within a = absurd a.shows
+printable_region budgets q rates m (answers.Open tried) names within a = absurd a.shows
 
 -- ---- an answer to `contain`
 
@@ -194,13 +197,13 @@ printable_containment budgets plans q a b tries m (answers.Open tried) found is 
 
 -- ---- each verb
 
-pub printable : (budgets : Budgets) (plans : List Plan) (q : BodyView) (m : ℕ) (answer : Answer) (found : List Candidate) → IsQuestion q → m ≡ length (question_demands q)
+pub right_is_printable : (budgets : Budgets) (plans : List Plan) (q : BodyView) (m : ℕ) (answer : Answer) (found : List Candidate) → IsQuestion q → m ≡ length (question_demands q)
     → IsRightAnswer budgets plans q (record { answer = answer_view answer; found = found }) → IsPrintable q m answer
-printable budgets plans q m answer found k few right = by q.verb refl right
+right_is_printable budgets plans q m answer found k few right = by q.verb refl right
   where
     by : (verb : VerbView) → q.verb ≡ verb → IsRightAnswerBy budgets plans q verb (record { answer = answer_view answer; found = found }) → IsPrintable q m answer
     by (Prove r) is x = printable_proof budgets.pivots q r m answer k few x.0
-    by (Eliminate rates) is x = printable_region budgets.rows q rates m answer (ap (problem_names_by q.names) is) (subst (IsVerbOver q.names) is k.verb).within x.0
+    by (Eliminate rates) is x = printable_region budgets q rates m answer (ap (problem_names_by q.names) is) (subst (IsVerbOver q.names) is k.verb).within x.0
     by (Contain a b tries) is x = printable_containment budgets plans q a b tries m answer found is k few x
 
 -- ---- its texts
@@ -215,17 +218,17 @@ rates_are q k = by q.verb k.verb
     by (Contain a b tries) over = over.0.rates
 
 -- an answer with a line of text has one of JSON
-pub writable : (q : QuestionView) (m : ℕ) (answer : Answer) → IsQuestion q.body → IsAsciiQuestion q → IsPrintable q.body m answer → IsWritable q.body.names (answer_view answer)
-writable q m (answers.Yes proofs) k ascii p = tt
-writable q m (answers.No back point) k ascii p = tt
-writable q m (answers.Undecided (causes.Pivots steps)) k ascii p = tt
-writable q m (answers.Undecided (causes.Width step)) k ascii p = tt
-writable q m (answers.Undecided causes.Scale) k ascii p = tt
-writable q m (answers.Undecided (causes.Rows r)) k ascii p = let within = subst (λ (rs : List (List ℕ)). r < length rs) (rates_are q.body k) p in (within, ascii.rates r [] within)
-writable q m (answers.Undecided (causes.WideRate r)) k ascii p = let within = subst (λ (rs : List (List ℕ)). r < length rs) (rates_are q.body k) p in (within, ascii.rates r [] within)
-writable q m (answers.Region rows) k ascii p = tt
-writable q m (answers.Contained parts proofs) k ascii p = tt
-writable q m (answers.Open tried) k ascii p = tt
+pub printable_is_writable : (q : QuestionView) (m : ℕ) (answer : Answer) → IsQuestion q.body → IsAsciiQuestion q → IsPrintable q.body m answer → IsWritable q.body.names (answer_view answer)
+printable_is_writable q m (answers.Yes proofs) k ascii p = tt
+printable_is_writable q m (answers.No back point) k ascii p = tt
+printable_is_writable q m (answers.Undecided (causes.Pivots steps)) k ascii p = tt
+printable_is_writable q m (answers.Undecided (causes.Width step)) k ascii p = tt
+printable_is_writable q m (answers.Undecided causes.Scale) k ascii p = tt
+printable_is_writable q m (answers.Undecided (causes.Rows r)) k ascii p = let within = subst (λ (rs : List (List ℕ)). r < length rs) (rates_are q.body k) p in (within, ascii.rates r [] within)
+printable_is_writable q m (answers.Undecided (causes.WideRate r)) k ascii p = let within = subst (λ (rs : List (List ℕ)). r < length rs) (rates_are q.body k) p in (within, ascii.rates r [] within)
+printable_is_writable q m (answers.Region rows) k ascii p = tt
+printable_is_writable q m (answers.Contained parts proofs) k ascii p = tt
+printable_is_writable q m (answers.Open tried) k ascii p = tt
 
 -- the lines in each format
 pub text_is : (q : QuestionView) (k : ℕ) (s : Space) (cs : List Constraint) (answer : AnswerView) (bytes : List ℕ) → AreStated s (question_demands q.body) cs

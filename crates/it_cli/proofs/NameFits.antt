@@ -167,8 +167,8 @@ read_good q lines (x ∷ xs) a s e =
 
 -- ---- such names are found, and are no numbers
 
-turned : (xs ys : List ℕ) → bytes_eq xs ys ≡ false → bytes_eq ys xs ≡ false
-turned xs ys e = by_test (bytes_eq ys xs) refl
+bytes_eq_turned : (xs ys : List ℕ) → bytes_eq xs ys ≡ false → bytes_eq ys xs ≡ false
+bytes_eq_turned xs ys e = by_test (bytes_eq ys xs) refl
   where
     by_test : (b : Bool) → bytes_eq ys xs ≡ b → b ≡ false
     by_test false h = refl
@@ -188,7 +188,7 @@ place_is [] r d h = absurd (omega arith)
 place_is (x ∷ names) zero d h = ap (λ b. cond (not b) (1 + position_or_len (bytes_eq x) names) 0) ((bytes_eq-Decides x x).1 refl)
 place_is (x ∷ names) (suc r) d h =
     let name = get_or names r [] in
-    let other = turned x name (every_at (λ y. bytes_eq x y ≡ false) names r d.0 (omega arith)) in
+    let other = bytes_eq_turned x name (every_at (λ y. bytes_eq x y ≡ false) names r d.0 (omega arith)) in
     ap (λ b. cond (not b) (1 + position_or_len (bytes_eq name) names) 0) other ∙ ap (λ i. 1 + i) (place_is names r d.1 (omega arith)) ∙ (let e : 1 + r ≡ suc r = omega arith in e)
 
 found_at : (names : List (List ℕ)) (r : ℕ) → IsDistinct bytes_eq names → r < length names → index_of names (get_or names r []) ≡ Some r

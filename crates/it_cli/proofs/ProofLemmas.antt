@@ -29,15 +29,15 @@ at_image g [] z y e i = e
 at_image g (b ∷ ys) z y e zero = refl
 at_image g (b ∷ ys) z y e (suc i) = at_image g ys z y e i
 
-listed : (q : BodyView) (cs : List Constraint) → AreStated (space_of (problem_names q)) (question_demands q) cs
+generators_are_demands : (q : BodyView) (cs : List Constraint) → AreStated (space_of (problem_names q)) (question_demands q) cs
     → generator_list (variables_of q) cs ≡ map (row_of_demand q) (all_demands (variables_of q) (question_demands q))
 unfolding all_demands
-listed q cs stated = generators_are (space_of (problem_names q)) (question_demands q) cs stated
+generators_are_demands q cs stated = generators_are (space_of (problem_names q)) (question_demands q) cs stated
     ∙ ap₂ (λ (xs ys : List Generator). xs ++ ys) (sym (map-map (row_of_demand q) (demand_of_elemental (variables_of q)) (elementals (variables_of q)))) (sym (map-map (row_of_demand q) demand_of_line (question_demands q)))
     ∙ sym (map-append (row_of_demand q) (map (demand_of_elemental (variables_of q)) (elementals (variables_of q))) (map demand_of_line (question_demands q)))
 
 pub generators_told : (q : BodyView) (cs : List Constraint) → AreStated (space_of (problem_names q)) (question_demands q) cs → generator_rows (problem_names q) cs ≡ rows_of q
-generators_told q cs stated = fun_ext (λ g. ap (λ (gs : List Generator). generator_at gs g) (listed q cs stated)
+generators_told q cs stated = fun_ext (λ g. ap (λ (gs : List Generator). generator_at gs g) (generators_are_demands q cs stated)
     ∙ at_image (row_of_demand q) (all_demands (variables_of q) (question_demands q)) _ _ (ap (λ (t : Terms). let x : Generator = record { kind = Inequality; row = t } in x) (sym (no_terms (size_of (space_of (problem_names q)))))) g)
 
 -- the rows of the constraints, and those of which an answer has certificates, are over the question's coordinates

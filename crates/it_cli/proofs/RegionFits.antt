@@ -1,5 +1,5 @@
 -- The rows of a right region are canonical, so that the region fits its question.
-use Rattle.std.proofs.Common.{◌≡◌, ◌≢◌, ◌⊎◌, inl, inr, ℕ, zero, suc, ◌+◌, ◌<◌, ◌≤◌, ◌^◌, ℤ, pos, neg_ℤ, ◌+ℤ◌, ◌*ℤ◌, ◌<ℤ◌, List, [], ◌∷◌, length, All, refl, sym, ap, subst, ◌∙◌, arith}
+use Rattle.std.proofs.Common.{◌≡◌, ◌≢◌, ◌⊎◌, inl, inr, ℕ, zero, suc, ◌+◌, ◌<◌, ◌≤◌, ◌^◌, ℤ, pos, neg_ℤ, ◌+ℤ◌, ◌*ℤ◌, ◌<ℤ◌, List, [], ◌∷◌, length, All, Option, refl, sym, ap, subst, ◌∙◌, arith}
 use Rattle.std.proofs.lemmas.Int.{ints}
 use Rattle.std.proofs.lemmas.Bool.{cases_eq}
 use Rattle.std.proofs.lemmas.List.Elements.{All-nil, All-cons, All-head, All-tail}
@@ -11,6 +11,7 @@ use Rattle.it_space.specs.declared.spaces.Space.{Space}
 use Rattle.it_space.specs.Answers.AnswerView.{Region}
 use Rattle.it_space.specs.Cancelling.{times_up, times_down, cancelled_row, CancelFits}
 use Rattle.it_space.specs.Divisors.{lowest_terms}
+use Rattle.it_space.specs.Problems.{ProblemView}
 use Rattle.it_space.specs.Rows.{Terms, Ascends, IsCanonical, IsUpTo, coefficient}
 use Rattle.it_space.specs.Spaces.{size_of}
 use Rattle.it_space.proofs.CanonicalRows.{here_is, other_is}
@@ -21,12 +22,17 @@ use Rattle.it_polymatroid.specs.Certificates.{Form}
 use Rattle.it_question.specs.Questions.{BodyView}
 use Rattle.it_question.specs.Limits.{IsQuestion}
 use Rattle.it_canon.specs.QuestionDemands.{space_of, AreRowsOf}
-use Rattle.it_eliminate.specs.Elimination.{Member, EliminatedView, Ends, PairsFit, with_row, with_rows, in_order, results, next_list}
+use Rattle.it_eliminate.specs.Elimination.{Member, Ends, PairsFit, with_row, with_rows, in_order, results, next_list}
 use Rattle.it_eliminate.specs.Elimination as elimination
 use Rattle.it_eliminate.proofs.MemberLemmas.{every_member, member_every}
 use Rattle.it_eliminate.proofs.OrderLemmas.{every-with_row}
 use Rattle.it_eliminate.proofs.StepLemmas.{results_all}
-use Rattle.it_answer.specs.RightRegions.{region_rows, plain_rows, answer_of_end, IsRightElimination}
+use Rattle.it_redundant.specs.Reduction.{NeedView, kept_rows}
+use Rattle.it_redundant.specs.ReducedElimination.{ProjectedView, ReducedEnds}
+use Rattle.it_redundant.specs.ReducedElimination as reduced
+use Rattle.it_redundant.proofs.ReductionLemmas.{every_kept}
+use Rattle.it_answer.specs.declared.types.Budgets.{Budgets}
+use Rattle.it_answer.specs.RightRegions.{region_rows, marked_rows, answer_of_end, IsRightElimination}
 use Rattle.it_certificate.specs.Fits.{IsPair, IsRowIn}
 
 -- ---- cancelled rows
@@ -53,18 +59,18 @@ ascends_within from (t ∷ ts) a h = (a.0, a.1, subst IsWithin (first_is from t 
     rest : (c : ℕ) → IsWithin (coefficient ts c)
     rest c = by c (cases_eq c t.0)
 
-some : (g n : ℕ) (z : ℤ) → pos g *ℤ pos n ≡ z → pos 0 <ℤ z → 0 < n
-some g zero z e h = absurd (none e h)
+factor_is_some : (g n : ℕ) (z : ℤ) → pos g *ℤ pos n ≡ z → pos 0 <ℤ z → 0 < n
+factor_is_some g zero z e h = absurd (none e h)
   where
     none : pos g *ℤ pos 0 ≡ z → pos 0 <ℤ z → ⊥
     none e h = omega (arith, ints)
-some g (suc n) z e h = omega arith
+factor_is_some g (suc n) z e h = omega arith
 
 cancelled_canonical : (at : ℕ) (up down : Terms) → pos 0 <ℤ coefficient up at → coefficient down at <ℤ pos 0 → IsCanonical up → IsCanonical down → CancelFits at up down → IsCanonical (cancelled_row at up down)
 cancelled_canonical at up down h k a b fits =
     let f = factors at up down h k in
     ascends_within 0 (cancelled_row at up down)
-    (rises-cancelled_row at up down (some f.common (times_up at up down) (neg_ℤ (coefficient down at)) f.up_is (omega (arith, ints))) (some f.common (times_down at up down) (coefficient up at) f.down_is h) a b)
+    (rises-cancelled_row at up down (factor_is_some f.common (times_up at up down) (neg_ℤ (coefficient down at)) f.up_is (omega (arith, ints))) (factor_is_some f.common (times_down at up down) (coefficient up at) f.down_is h) a b)
     (λ c. by c (cases_eq c at))
   where
     by : (c : ℕ) → (c ≡ at) ⊎ (c ≢ at) → IsWithin (coefficient (cancelled_row at up down) c)
@@ -87,14 +93,29 @@ next_canonical at rows h fit = with_rows_canonical [] (results at rows) tt (memb
     (λ row m e. every_member IsCanonical rows row h m)
     (λ up down m n p k. cancelled_canonical at up down p k (every_member IsCanonical rows up h m) (every_member IsCanonical rows down h n) (fit up down m n p k))))
 
-region_same : (xs ys : List Terms) → elimination.Region xs ≡ elimination.Region ys → xs ≡ ys
-region_same xs ys e = cc
+list_same : (xs ys : List Terms) → elimination.Region xs ≡ elimination.Region ys → xs ≡ ys
+list_same xs ys e = cc
 
-end_canonical : (base most : ℕ) (rows : List Terms) (rates : List ℕ) (out : List Terms) → Every IsCanonical rows → Ends base most rows rates (elimination.Region out) → Every IsCanonical out
-end_canonical base most rows [] out h e = subst (λ (rs : List Terms). Every IsCanonical rs) (sym (region_same out rows e)) h
-end_canonical base most rows (r ∷ rates) out h (inl e) = let f = e.1 in absurd (cc)
-end_canonical base most rows (r ∷ rates) out h (inr (inl e)) = let f = e.2 in absurd (cc)
-end_canonical base most rows (r ∷ rates) out h (inr (inr e)) = end_canonical base most (next_list (base + r) rows) rates out (next_canonical (base + r) rows h e.0) e.2
+-- the list that the step of a rate leaves
+step_canonical : (base most : ℕ) (rows : List Terms) (r : ℕ) (next : List Terms) → Every IsCanonical rows → Ends base most rows (r ∷ []) (elimination.Region next) → Every IsCanonical next
+step_canonical base most rows r next h (inl e) = let f = e.1 in absurd (cc)
+step_canonical base most rows r next h (inr (inl e)) = let f = e.2 in absurd (cc)
+step_canonical base most rows r next h (inr (inr e)) = subst (Every IsCanonical) (sym (list_same next (next_list (base + r) rows) e.2)) (next_canonical (base + r) rows h e.0)
+
+kept_same : (xs ys : List (Terms × NeedView)) → reduced.Region xs ≡ reduced.Region ys → xs ≡ ys
+kept_same xs ys e = cc
+
+-- the rows that stay
+module _ (givens : ProblemView) (budget : Option ℕ) (most : ℕ) where
+  kept_canonical : (rows : List Terms) (last kept : List (Terms × NeedView)) (rates : List ℕ) → Every IsCanonical rows → Every IsCanonical (kept_rows last) → ReducedEnds givens budget most rows last rates (reduced.Region kept)
+      → Every IsCanonical (kept_rows kept)
+  kept_canonical rows last kept [] h l is = subst (λ (ks : List (Terms × NeedView)). Every IsCanonical (kept_rows ks)) (sym (kept_same kept last is)) l
+  kept_canonical rows last kept (r ∷ rates) h l (elimination.Region next, e, g) =
+      let stay : Every IsCanonical (kept_rows g.0) =
+      every_kept givens budget IsCanonical [] next g.0 g.1 g.2 (step_canonical (2 ^ givens.space.variables) most (in_order rows) r next (with_rows_canonical [] rows tt h) e) in
+      kept_canonical (kept_rows g.0) g.0 kept rates stay stay g.3
+  kept_canonical rows last kept (r ∷ rates) h l (elimination.Rows rate, e, is) = absurd (cc)
+  kept_canonical rows last kept (r ∷ rates) h l (elimination.Wide rate, e, is) = absurd (cc)
 
 stated_canonical : (s : Space) (fs : List Form) (rows : List Terms) → AreRowsOf s fs rows → Every IsCanonical rows
 stated_canonical s [] [] z = tt
@@ -104,25 +125,22 @@ stated_canonical s (f ∷ fs) (t ∷ ts) z = (z.0.canonical, stated_canonical s 
 
 -- ---- the region
 
-plain_canonical : (rows : List Terms) → Every IsCanonical rows → Every IsCanonical (region_rows (plain_rows rows))
-plain_canonical [] h = tt
-plain_canonical (r ∷ rows) h = (h.0, plain_canonical rows h.1)
+marked_canonical : (kept : List (Terms × NeedView)) → Every IsCanonical (kept_rows kept) → Every IsCanonical (region_rows (marked_rows kept))
+marked_canonical [] h = tt
+marked_canonical (k ∷ kept) h = (h.0, marked_canonical kept h.1)
 
 answer_same : (rows others : List (Mark × Terms)) → Region rows ≡ Region others → rows ≡ others
 answer_same rows others e = cc
 
-rows_canonical : (most : ℕ) (q : BodyView) (rates : List ℕ) (rows : List (Mark × Terms)) → IsRightElimination most q rates (Region rows) → Every IsCanonical (region_rows rows)
-rows_canonical most q rates rows right = by right.due.end right.due.ends right.due.is
+rows_canonical : (budgets : Budgets) (q : BodyView) (rates : List ℕ) (rows : List (Mark × Terms)) → IsRightElimination budgets q rates (Region rows) → Every IsCanonical (region_rows rows)
+rows_canonical budgets q rates rows right = by right.due.end right.due.ends right.due.is
   where
-    first : Every IsCanonical (in_order right.due.rows)
-    first = with_rows_canonical [] right.due.rows tt (stated_canonical _ _ right.due.rows right.due.are_rows)
-
-    by : (end : EliminatedView) → Ends (2 ^ length q.names.variables) most (in_order right.due.rows) rates end → Region rows ≡ answer_of_end end → Every IsCanonical (region_rows rows)
-    by (elimination.Region out) e is =
-        subst (λ (rs : List (Mark × Terms)). Every IsCanonical (region_rows rs)) (sym (answer_same rows (plain_rows out) is))
-        (plain_canonical out (end_canonical (2 ^ length q.names.variables) most (in_order right.due.rows) rates out first e))
-    by (elimination.Rows r) e is = absurd (cc)
-    by (elimination.Wide r) e is = absurd (cc)
+    by : (end : ProjectedView) → ReducedEnds right.due.givens budgets.pivots budgets.rows right.due.rows [] rates end → Region rows ≡ answer_of_end end → Every IsCanonical (region_rows rows)
+    by (reduced.Region kept) e is =
+        subst (λ (rs : List (Mark × Terms)). Every IsCanonical (region_rows rs)) (sym (answer_same rows (marked_rows kept) is))
+        (marked_canonical kept (kept_canonical right.due.givens budgets.pivots budgets.rows right.due.rows [] kept rates (stated_canonical _ _ right.due.rows right.due.are_rows) tt e))
+    by (reduced.Rows r) e is = absurd (cc)
+    by (reduced.Wide r) e is = absurd (cc)
 
 pairs_of_row : (size from : ℕ) (ts : Terms) → size < 2 ^ 32 → Ascends from ts → IsUpTo size ts → All IsPair ts
 pairs_of_row size from [] few a up = All-nil IsPair
@@ -139,5 +157,5 @@ rows_fit size (r ∷ rows) few up canonical =
 few_coordinates : (q : BodyView) → IsQuestion q → size_of (space_of q.names) < 2 ^ 32
 few_coordinates q k = omega (arith, pow_mono {i = length q.names.variables} {j = 8} k.few, k.few_rates)
 
-pub right_region_fits : (most : ℕ) (q : BodyView) (rates : List ℕ) (rows : List (Mark × Terms)) → IsQuestion q → IsRightElimination most q rates (Region rows) → All (IsRowIn (size_of (space_of q.names))) rows
-right_region_fits most q rates rows k right = rows_fit (size_of (space_of q.names)) rows (few_coordinates q k) right.shows.coordinates (rows_canonical most q rates rows right)
+pub right_region_fits : (budgets : Budgets) (q : BodyView) (rates : List ℕ) (rows : List (Mark × Terms)) → IsQuestion q → IsRightElimination budgets q rates (Region rows) → All (IsRowIn (size_of (space_of q.names))) rows
+right_region_fits budgets q rates rows k right = rows_fit (size_of (space_of q.names)) rows (few_coordinates q k) right.shows.coordinates (rows_canonical budgets q rates rows right)

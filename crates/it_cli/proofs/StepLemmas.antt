@@ -5,8 +5,8 @@ use Rattle.it_space.specs.Answers.AnswerView.{Undecided}
 use Rattle.it_space.specs.Problems.{ProblemView}
 use Rattle.it_space.specs.Rows.{Terms}
 use Rattle.it_question.specs.Questions.{BodyView, VerbView, Prove, Eliminate, Contain}
-use Rattle.it_eliminate.specs.Elimination as elimination
-use Rattle.it_eliminate.specs.Elimination.{EliminatedView}
+use Rattle.it_redundant.specs.ReducedElimination.{ProjectedView}
+use Rattle.it_redundant.specs.ReducedElimination as reduced
 use Rattle.it_region.specs.declared.types.Candidate.{Candidate}
 use Rattle.it_prove.specs.ProofViews as proofs
 use Rattle.it_contain.specs.Proposals.{Plan}
@@ -15,10 +15,10 @@ use Rattle.it_answer.specs.RightAnswers.{CauseIsDue, IsRightAnswerBy}
 use Rattle.it_answer.specs.RightRegions.{answer_of_end}
 use Rattle.it_cli.specs.Laws.{NeverOutOfSteps}
 
-not_of_end : (steps : ℕ) (end : EliminatedView) → Undecided (causes.Pivots steps) ≡ answer_of_end end → ⊥
-not_of_end steps (elimination.Region rows) e = cc
-not_of_end steps (elimination.Rows rate) e = cc
-not_of_end steps (elimination.Wide rate) e = cc
+not_of_end : (steps : ℕ) (end : ProjectedView) → Undecided (causes.Pivots steps) ≡ answer_of_end end → ⊥
+not_of_end steps (reduced.Region kept) e = cc
+not_of_end steps (reduced.Rows rate) e = cc
+not_of_end steps (reduced.Wide rate) e = cc
 
 module _ (never : proofs.NeverOutOfSteps) where
   no_cause : (p : ProblemView) (steps : ℕ) (ts : List Terms) → CauseIsDue p None ts (causes.Pivots steps) → ⊥

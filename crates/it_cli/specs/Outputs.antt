@@ -1,6 +1,6 @@
 -- What a whole input is answered with, by the mode that the words ask for.
 use Rattle.std.specs.Prelude.{◌≡◌, ℕ, List, Bool, true, false, ◌||◌, Option, Some, None}
-use Rattle.it_outside.specs.Groups.{Groups, GroupsInPart}
+use Rattle.it_outside.specs.Groups.{Groups}
 use Rattle.it_outside.specs.Traffic.{IsFront}
 use Rattle.it_settings.specs.declared.types.Settings.{Settings}
 use Rattle.it_settings.specs.declared.types.Settings.TheVariants.{Answer, Check, Bench}
@@ -44,10 +44,6 @@ verdict_text_of k line v = verdict_line k v
 abbrev pub Verdicts : List ℕ → Bool → List ℕ → Type 0
 Verdicts bytes some_invalid out = Groups IsVerdictAfter after_verdict verdict_text_of 1 false (split_lines bytes) some_invalid out
 
--- the verdicts on the first lines, and then a front of the next one's line
-abbrev pub VerdictsInPart : List ℕ → List ℕ → Type 0
-VerdictsInPart bytes out = GroupsInPart IsVerdictAfter after_verdict verdict_text_of 1 false (split_lines bytes) out
-
 abbrev pub verdict_status : Bool → Status
 verdict_status true = Invalid
 verdict_status false = Done
@@ -60,8 +56,12 @@ IsOutput plans (Answer format pivots rows tries) bytes out status = Answers (bud
 IsOutput plans Check bytes out status = (some_invalid : Bool) × Verdicts bytes some_invalid out × (status ≡ verdict_status some_invalid)
 IsOutput plans (Bench seed count pivots rows tries) bytes out status = IsBenchLine (budgets_of pivots rows tries) plans seed count out × (status ≡ Done)
 
--- the first groups of such an output, and then a front of the next one; or a front of its one line
+-- a front of such an output
+abbrev pub IsFrontOfOutput : List Plan → Settings → List ℕ → List ℕ → Type 0
+IsFrontOfOutput plans settings bytes out = (whole : List ℕ) × (status : Status) × IsOutput plans settings bytes whole status × IsFront out whole
+
+-- what is written of it where a run is cut off: the first groups, and then a front of the next one; in the other modes a front of it
 abbrev pub IsOutputInPart : List Plan → Settings → List ℕ → List ℕ → Type 0
 IsOutputInPart plans (Answer format pivots rows tries) bytes out = (qs : List QuestionView) × IsQuestionFile bytes qs × AnsweredInPart (budgets_of pivots rows tries) plans format qs out
-IsOutputInPart plans Check bytes out = VerdictsInPart bytes out
-IsOutputInPart plans (Bench seed count pivots rows tries) bytes out = (line : List ℕ) × IsBenchLine (budgets_of pivots rows tries) plans seed count line × IsFront out line
+IsOutputInPart plans Check bytes out = IsFrontOfOutput plans Check bytes out
+IsOutputInPart plans (Bench seed count pivots rows tries) bytes out = IsFrontOfOutput plans (Bench seed count pivots rows tries) bytes out

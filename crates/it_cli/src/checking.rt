@@ -8,13 +8,14 @@ ghost use Rattle.it_cli.specs.Outputs.{verdict_status};
 use crate::status::Status;
 use it_outside::{Sink, write_all};
 use it_question::first_line;
-use it_report::judge;
+use it_report::{each_line_is_judged, judge};
 use std::alloc::Global;
 
 /// What is done for the bytes of a report: each verdict is written as soon as it is there.
 pub fn check_report<K: Sink>(alloc: Global, bytes: &[u8], sink: &mut K) -> Status
     ensures { (plans : List Plan) → EndOfBytes plans (K.taken sink.old) (K.taken sink.new) (K.faults sink.old) (K.faults sink.new) Check bytes.now result }
 {
+    each_line_is_judged();
     let mut rest = bytes;
     let mut count: usize = 0;
     let mut some_invalid = false;

@@ -1,5 +1,5 @@
 //! Theorems on how a run ends and on what it writes, each as the contract of a function.
-ghost use Rattle.it_answer.specs.RightAnswers.{AContainmentIsTrue, ANoIsTrue, ARegionIsTrue, AYesAscends, AYesIsTrue, NoStepIsZero, OneRightAnswer};
+ghost use Rattle.it_answer.specs.RightAnswers.{AContainmentIsTrue, ANoIsTrue, ARegionIsTrue, AYesAscends, AYesIsTrue, NeededRowsAreNeeded, NoStepIsZero, OneRightAnswer};
 ghost use Rattle.it_cli.specs.Accepted.{OutputIsAccepted, ReportsAreAccepted};
 ghost use Rattle.it_cli.specs.Laws.{BenchReadsNothing, CountsAddUp, CountsAreWritten, FaultIsDue, Headline, IsComplete, LongIsDue, NeverOutOfSteps, NeverYesAndNo, OneOutput, SureEnds, UsageIsDue, VerdictsAreWritten};
 
@@ -44,11 +44,13 @@ pub fn are_due()
 
 /// Where a yes is right the relation holds at every polymatroid and rates that make the lines true; where a no is right its
 /// values are ones at which it doesn't. So no question has both. Where a region is right its rows hold exactly at the points that
-/// extend to the eliminated rates. Where a containment is right the first region lies in the second.
+/// extend to the eliminated rates, and no row that is marked as needed follows from the others. Where a containment is right the
+/// first region lies in the second.
 pub fn verdicts_are_true()
     ensures yes { AYesIsTrue }
     ensures no { ANoIsTrue }
     ensures region { ARegionIsTrue }
+    ensures needed { NeededRowsAreNeeded }
     ensures contained { AContainmentIsTrue }
     ensures one { NeverYesAndNo }
 {

@@ -5,6 +5,7 @@ ghost use Rattle.it_settings.specs.Settings.{AreInRange, settings_of};
 ghost use Rattle.it_cli.specs.Ends.{Ends, call_of};
 ghost use Rattle.it_cli.specs.InnerEnds.{EndOfBytes};
 ghost use Rattle.it_cli.specs.Outputs.{most_bytes};
+ghost use Rattle.it_cli.specs.Right.{budgets_of};
 
 use crate::answering::answer_file;
 use crate::benching::bench;
@@ -104,6 +105,18 @@ fn limit(settings: Settings) -> Option<usize>
     }
 }
 
+/// How much an answer may cost.
+fn budgets_of(pivots: Option<u32>, rows: u32, tries: u32) -> Budgets
+    requires few { rows ≤ 4096 }
+    ensures { result ≡ budgets_of pivots rows tries }
+{
+    Budgets {
+        pivots,
+        rows: rows as u16,
+        tries,
+    }
+}
+
 /// What is done for the bytes of a whole input, or for none.
 fn reply<K: Sink>(
     alloc: Global,
@@ -123,11 +136,7 @@ fn reply<K: Sink>(
             rows,
             tries,
         } => {
-            let budgets = Budgets {
-                pivots,
-                rows,
-                tries,
-            };
+            let budgets = budgets_of(pivots, rows, tries);
             answer_file(alloc, format, budgets, bytes, boxes, sink)
         }
         Settings::Check => check_report(alloc, bytes, sink),
@@ -138,11 +147,7 @@ fn reply<K: Sink>(
             rows,
             tries,
         } => {
-            let budgets = Budgets {
-                pivots,
-                rows,
-                tries,
-            };
+            let budgets = budgets_of(pivots, rows, tries);
             bench(alloc, seed, count, budgets, boxes, sink)
         }
     }

@@ -1,17 +1,17 @@
 use Rattle.std.proofs.Common.{arith}
 use Rattle.std.proofs.lemmas.List.{length-map}
 use Rattle.it_question.specs.AsciiTexts.{IsAsciiQuestion}
-use Rattle.it_cli.proofs.RightLemmas.{all_views, answers_more, answers_stop, done, first, rose_later, waits}
+use Rattle.it_cli.proofs.RightLemmas.{all_views, all_written, answers_more, answers_stop, none_written, rose_later, some_written}
 use Rattle.it_cli.proofs.answering.answer_all.Goals as goal
 
 pub loop-i-init : goal.loop-i-init
-loop-i-init g c = (first c.args.budgets _ c.args.format _ _, omega arith)
+loop-i-init g c = (none_written c.args.budgets _ c.args.format _ _, omega arith)
 
 pub answer_one-requires-clause-ascii : goal.answer_one-requires-clause-ascii
 answer_one-requires-clause-ascii g c = rw c.index-questions-i.is (all_views IsAsciiQuestion c.args.questions.now c.requires.ascii c.loop-i.i c.index-questions-i.result (omega arith))
 
 pub returns-in_default : goal.returns-in_default
-returns-in_default g c = waits c.args.budgets _ _ c.args.format _ _ _ c.loop-i.i c.loop-i.invariant.0
+returns-in_default g c = some_written c.args.budgets _ _ c.args.format _ _ _ c.loop-i.i c.loop-i.invariant.0
 
 pub returns-in_default-write_all : goal.returns-in_default-write_all
 returns-in_default-write_all g c = (
@@ -28,4 +28,4 @@ loop-i-preserved g c = (
 )
 
 pub returns : goal.returns
-returns g c = done c.args.budgets _ _ c.args.format _ _ _ c.loop-i.i c.loop-i.invariant.0 (simp length-map (omega arith))
+returns g c = all_written c.args.budgets _ _ c.args.format _ _ _ c.loop-i.i c.loop-i.invariant.0 (simp length-map (omega arith))

@@ -1,7 +1,7 @@
 use Rattle.it_question.specs.Questions.{question_body}
 use Rattle.it_space.specs.Answers.{answer_view}
 use Rattle.it_answer.proofs.KindLemmas.{is_answer_to}
-use Rattle.it_cli.proofs.LineLemmas.{few_constraints, printable}
+use Rattle.it_cli.proofs.LineLemmas.{few_constraints, right_is_printable}
 use Rattle.it_cli.proofs.answering.answer_one.Goals as goal
 
 pub lines-requires-clause-fits : goal.lines-requires-clause-fits
@@ -9,7 +9,7 @@ lines-requires-clause-fits g c = is_answer_to c.args.budgets _ (question_body c.
 
 pub lines-requires-clause-printable : goal.lines-requires-clause-printable
 lines-requires-clause-printable g c =
-    printable c.args.budgets _ (question_body c.args.question.now) _ c.in_ok-answered.answered.answer c.in_ok-answered.ensures.answered.found c.requires.limits
+    right_is_printable c.args.budgets _ (question_body c.args.question.now) _ c.in_ok-answered.answered.answer c.in_ok-answered.ensures.answered.found c.requires.limits
     (few_constraints (question_body c.args.question.now) c.in_ok-answered.answered.problem.space c.in_ok-answered.answered.problem.constraints.items c.in_ok-answered.ensures.problem)
     c.in_ok-answered.ensures.answered.right
 

@@ -10,11 +10,11 @@ use Rattle.it_answer.specs.AnswerForms.{answer_forms}
 use Rattle.it_print.specs.Lines.{answer_line, places_of}
 use Rattle.it_print.specs.ProofLines.{generator_rows, proof_text}
 use Rattle.it_cli.specs.Right.{answer_lines, terms_in}
-use Rattle.it_cli.proofs.LineLemmas.{proof_is, text_is, writable}
+use Rattle.it_cli.proofs.LineLemmas.{proof_is, text_is, printable_is_writable}
 use Rattle.it_cli.proofs.answering.lines.Goals as goal
 
 pub json_line-requires-clause-writable : goal.json_line-requires-clause-writable
-json_line-requires-clause-writable c = writable (question_view c.args.question.now) _ c.args.answered.now.answer c.requires.limits c.requires.ascii c.requires.printable
+json_line-requires-clause-writable c = printable_is_writable (question_view c.args.question.now) _ c.args.answered.now.answer c.requires.limits c.requires.ascii c.requires.printable
 
 pub returns-in-Text : goal.returns-in-Text
 returns-in-Text c = rw c.in-Text.is (told c.text_lines.result c.text_lines.ensures)

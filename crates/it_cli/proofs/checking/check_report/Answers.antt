@@ -4,13 +4,13 @@ use Rattle.it_cli.proofs.RightLemmas.{rose_later}
 use Rattle.it_cli.proofs.checking.check_report.Goals as goal
 
 pub returns-in_default : goal.returns-in_default
-returns-in_default g c plans = inr (checked_waits plans _ _ c.args.bytes.now c.loop-rest.rest.now c.loop-rest.count c.loop-rest.some_invalid c.loop-rest.invariant.0)
+returns-in_default g c plans = inr (checked_waits plans _ _ c.args.bytes.now c.loop-rest.rest.now c.loop-rest.count c.loop-rest.some_invalid c.each_line_is_judged.ensures c.loop-rest.invariant.0)
 
 pub returns-in_default-write_all : goal.returns-in_default-write_all
 returns-in_default-write_all g c plans = (
   rose_later _ _ _ c.loop-rest.invariant.1 c.in_default-write_all.ensures.write,
   inr (checked_stops plans _ _ _ c.args.bytes.now c.loop-rest.rest.now c.first_line.result.0.now c.first_line.result.1.now c.loop-rest.count c.loop-rest.some_invalid c.in-Ok.judged.invalid c.in-Ok.judged.text.items
-      c.as_slice.result.now c.loop-rest.invariant.0 c.first_line.ensures.split c.in-Ok.ensures c.as_slice.ensures.value c.in_default-write_all.ensures.part),
+      c.as_slice.result.now c.each_line_is_judged.ensures c.loop-rest.invariant.0 c.first_line.ensures.split c.in-Ok.ensures c.as_slice.ensures.value c.in_default-write_all.ensures.part),
 )
 
 pub loop-rest-preserved : goal.loop-rest-preserved
