@@ -116,7 +116,7 @@ fn is_proved(
 }
 
 /// How many candidates of a box are tried until one is proved, and whether one is.
-fn tried_of(
+fn search_box(
     alloc: Global,
     pair: &Pair,
     proposer: &mut Box<dyn Proposer>,
@@ -141,8 +141,8 @@ fn tried_of(
     Ok((tries, false))
 }
 
-/// The search without a memory.
-fn plain(
+/// The search that keeps no outcome of an obligation: how many candidates are tried until one is proved, and whether one is.
+fn search_plainly(
     alloc: Global,
     pair: &Pair,
     boxes: &mut Vec<Box<dyn Proposer>>,
@@ -153,7 +153,7 @@ fn plain(
 {
     let mut count: u32 = 0;
     for i in 0..boxes.len() {
-        let (tried, is_found) = tried_of(
+        let (tried, is_found) = search_box(
             alloc,
             pair,
             &mut boxes[i],
@@ -208,7 +208,7 @@ fn main(rt: HostRuntime) -> io::Result<()> {
                 count: 0,
                 rows: IndexSet::new(alloc),
             };
-            let (tried, is_found) = plain(alloc, &pair, &mut boxes, tries, &mut calls)?;
+            let (tried, is_found) = search_plainly(alloc, &pair, &mut boxes, tries, &mut calls)?;
             println!(rt;
                 "{} {tried} calls {} rows {}",
                 if is_found { "found" } else { "open" },

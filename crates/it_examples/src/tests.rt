@@ -439,15 +439,19 @@ const CONSTRAINED: [(&[u8], &[u8]); 51] = [
 const SUPERPOSITION: &[u8] =
     b"vars U, X, Y\nrates R, Rc, Rp\nrow Rc >= 0\nrow Rp >= 0\nrow Rc <= I(U;Y)\nrow Rp <= I(X;Y|U)\nrow R = Rc + Rp\neliminate Rc, Rp\n";
 
+/// Two rows of which each gives the other by the functions.
+const EITHER: &[u8] =
+    b"vars X, Y\nrates R, A\ngiven func Y of X\ngiven func X of Y\nrow R <= H(X)\nrow R <= H(Y)\nrow A >= 0\neliminate A\n";
+
 /// Questions that eliminate rates, and the lines that answer them, worked out by hand.
-const ELIMINATED: [(&[u8], &[u8]); 14] = [
+const ELIMINATED: [(&[u8], &[u8]); 22] = [
     (
         SUPERPOSITION,
-        b"1 region 4\n1 row plain h(U) + h(Y) - h(U,Y) >= 0\n1 row plain -h(U) + h(U,X) + h(U,Y) - h(U,X,Y) >= 0\n1 row plain R >= 0\n1 row plain h(U,X) + h(Y) - h(U,X,Y) - R >= 0\n",
+        b"1 region 2\n1 row needed R >= 0\n1 row needed h(U,X) + h(Y) - h(U,X,Y) - R >= 0\n",
     ),
     (
         b"vars X\nrates A, R\nrow A >= R\nrow A <= H(X)\neliminate A\n",
-        b"1 region 1\n1 row plain h(X) - R >= 0\n",
+        b"1 region 1\n1 row needed h(X) - R >= 0\n",
     ),
     // an equation bounds its rate on both sides
     (
@@ -462,34 +466,69 @@ const ELIMINATED: [(&[u8], &[u8]); 14] = [
     (b"vars X, Y\nrates R\neliminate R\n", b"1 region 0\n"),
     (
         b"vars X\nrates R, S\nrow 6 S <= 4 H(X)\nrow S - S >= 0\nrow 3 S <= 2 H(X)\neliminate R",
-        b"1 region 1\n1 row plain 2 h(X) - 3 S >= 0\n",
+        b"1 region 1\n1 row needed 2 h(X) - 3 S >= 0\n",
     ),
     (
         b"vars X, Y\nrates R, S\nrow R >= S\neliminate S, R",
         b"1 region 0\n",
     ),
-    // first terms below 0, and coefficients of 1 and of more
+    // first terms below 0, and coefficients of 1 and of more; a row that Shannon's inequalities give, and two that they don't
     (
         b"vars X, Y\nrates R\nrow 3 H(X,Y) >= 2 H(X) + H(Y)\nrow 0 >= 2 R\nrow H(X) <= - 5 H(Y)\neliminate R\n",
-        b"1 region 2\n1 row plain -2 h(X) - h(Y) + 3 h(X,Y) >= 0\n1 row plain -h(X) - 5 h(Y) >= 0\n",
+        b"1 region 1\n1 row needed -h(X) - 5 h(Y) >= 0\n",
+    ),
+    (
+        b"vars X, Y\nrates R\nrow 3 H(X,Y) >= 2 H(X) + 2 H(Y)\nrow 0 >= 2 R\nrow H(X) <= 5 H(Y)\neliminate R\n",
+        b"1 region 2\n1 row needed -2 h(X) - 2 h(Y) + 3 h(X,Y) >= 0\n1 row needed -h(X) + 5 h(Y) >= 0\n",
     ),
     // the order in which rates are listed
     (
         b"vars X, Y\nrates A, B, C\nrow A >= B\nrow C >= B\nrow H(X) >= A\nrow H(Y) >= C\neliminate C, A\n",
-        b"1 region 2\n1 row plain h(Y) - B >= 0\n1 row plain h(X) - B >= 0\n",
+        b"1 region 2\n1 row needed h(Y) - B >= 0\n1 row needed h(X) - B >= 0\n",
     ),
     (
         b"vars X, Y\nrates A, B, C\nrow A >= B\nrow C >= B\nrow H(X) >= A\nrow H(Y) >= C\neliminate A, C\n",
-        b"1 region 2\n1 row plain h(X) - B >= 0\n1 row plain h(Y) - B >= 0\n",
+        b"1 region 2\n1 row needed h(X) - B >= 0\n1 row needed h(Y) - B >= 0\n",
     ),
     // a row from what another rate left, and rates with the names of keywords
     (
         b"vars X\nrates A, B, R\nrow A >= R\nrow B >= A\nrow H(X) >= B\nrow R >= B\neliminate A, B\n",
-        b"1 region 1\n1 row plain h(X) - R >= 0\n",
+        b"1 region 1\n1 row needed h(X) - R >= 0\n",
     ),
     (
         b"vars vars\nrates rates, row\nrow row >= rates\nrow row <= H(vars)\neliminate row\n",
-        b"1 region 1\n1 row plain h(vars) - rates >= 0\n",
+        b"1 region 1\n1 row needed h(vars) - rates >= 0\n",
+    ),
+    // of two rows of which each gives the other the first goes
+    (EITHER, b"1 region 1\n1 row needed h(Y) - R >= 0\n"),
+    (
+        b"vars X, Y\nrates R, A\nrow R <= H(X)\nrow R <= H(Y)\nrow A >= 0\neliminate A\n",
+        b"1 region 2\n1 row needed h(X) - R >= 0\n1 row needed h(Y) - R >= 0\n",
+    ),
+    // a sum of two others goes
+    (
+        b"vars X\nrates A, B, C\nrow A + B >= H(X)\nrow A >= 0\nrow B >= H(X)\neliminate C\n",
+        b"1 region 2\n1 row needed A >= 0\n1 row needed -h(X) + B >= 0\n",
+    ),
+    // a chain, which is an equation of the givens and no row
+    (
+        b"vars X, Y, Z\nrates R, A\ngiven markov X -> Y -> Z\nrow R <= I(X;Z)\nrow R <= I(X;Y)\neliminate A\n",
+        b"1 region 1\n1 row needed h(X) + h(Z) - h(X,Z) - R >= 0\n",
+    ),
+    // the second step of each row's run would pass 2^127 - 1
+    (
+        b"vars X\nrates A, B, C\nrow 18446744073709551615 A + B >= 0\nrow A + 18446744073709551615 B >= 0\nrow A + B >= 0\neliminate C\n",
+        b"1 region 3\n1 row unsettled 18446744073709551615 A + B >= 0\n1 row unsettled A + 18446744073709551615 B >= 0\n1 row unsettled A + B >= 0\n",
+    ),
+    // the row's coefficients pass it together, before the first step
+    (
+        b"vars X\nrates A, B, C\nrow 18446744073709551615 A >= H(X)\nrow 9223372036854775807 B + 9223372036854775807 C + H(X) >= 18446744073709551613 A\neliminate A\n",
+        b"1 region 1\n1 row unsettled 2 h(X) + 170141183460469231704017187605319778305 B + 170141183460469231704017187605319778305 C >= 0\n",
+    ),
+    // weights without a common scale within the limit, and rows that are needed all the same
+    (
+        b"vars X\nrates A, B, C, D, E\nrow A + B >= 0\nrow 18446744073709551615 A >= C\nrow C >= 0\nrow 18446744073709551614 B >= D\nrow D >= 0\neliminate E\n",
+        b"1 region 5\n1 row unsettled A + B >= 0\n1 row needed 18446744073709551615 A - C >= 0\n1 row unsettled C >= 0\n1 row needed 18446744073709551614 B - D >= 0\n1 row unsettled D >= 0\n",
     ),
     // beside other questions
     (
@@ -668,7 +707,7 @@ fn rates_are_eliminated(rt: HostRuntime) -> Result<(), Fail> {
 }
 
 /// Why an elimination stays undecided with at most so many rows, if it does.
-fn cause(rt: &impl Abort, alloc: Global, input: &[u8], rows: u32) -> Result<Option<Cause>, Fail> {
+fn cause(rt: &impl Abort, alloc: Global, input: &[u8], rows: u16) -> Result<Option<Cause>, Fail> {
     assert!(rt; input.len() <= ROOM);
     let budgets = Budgets {
         pivots: Some(1),
@@ -690,7 +729,7 @@ fn cause(rt: &impl Abort, alloc: Global, input: &[u8], rows: u32) -> Result<Opti
 #[test]
 fn rows_have_a_budget(rt: HostRuntime) -> Result<(), Fail> {
     let alloc = rt.alloc();
-    // Without the rate Rc, number 1, five rows are left.
+    // The step of the rate Rc, number 1, leaves five rows, which are counted before their reduction.
     assert_eq!(rt; cause(&rt, alloc, SUPERPOSITION, 2)?, Some(Cause::Rows(1)));
     assert_eq!(rt; cause(&rt, alloc, SUPERPOSITION, 4)?, Some(Cause::Rows(1)));
     assert_eq!(rt; cause(&rt, alloc, SUPERPOSITION, 5)?, None);
@@ -704,7 +743,7 @@ fn regions_are_compared(rt: HostRuntime) -> Result<(), Fail> {
 }
 
 /// Words with a reading, an input, and what the call writes and how it ends.
-const MODES: [(&[&str], &[u8], &[u8], Status); 17] = [
+const MODES: [(&[&str], &[u8], &[u8], Status); 24] = [
     (
         &["answer", "--pivots", "1"],
         b"vars X\nrates A, B\nrow 18446744073709551615 A + B >= 0\nrow A + 18446744073709551615 B >= 0\nprove A + B >= 0\n",
@@ -799,6 +838,54 @@ const MODES: [(&[&str], &[u8], &[u8], Status); 17] = [
         &["answer", "--pivots", "none"],
         b"vars X, Y\nprove H(X) - H(X,Y) >= 0\n",
         b"1 no h(X)=0 h(Y)=1 h(X,Y)=1\n",
+        Status::Done,
+    ),
+    // too many rows after the first rate
+    (
+        &["answer", "--rows", "2"],
+        SUPERPOSITION,
+        b"1 undecided rows Rc\n",
+        Status::Done,
+    ),
+    // two steps would show that the first row goes
+    (
+        &["answer", "--pivots", "1"],
+        EITHER,
+        b"1 region 2\n1 row unsettled h(X) - R >= 0\n1 row unsettled h(Y) - R >= 0\n",
+        Status::Done,
+    ),
+    // five rows after the first rate, of which the reduction leaves three; six after the second rate without it
+    (
+        &["answer", "--rows", "5"],
+        b"vars X, Y\nrates A, B, C, D\nrow A >= B\nrow A <= H(X)\nrow A <= 2 H(X)\nrow A <= H(X,Y)\nrow B >= C\nrow B >= D\neliminate A, B\n",
+        b"1 region 2\n1 row needed h(X) - C >= 0\n1 row needed h(X) - D >= 0\n",
+        Status::Done,
+    ),
+    // rows are counted before their reduction
+    (
+        &["answer", "--rows", "2"],
+        b"vars X, Y\nrates A, B\nrow A >= B\nrow A <= H(X)\nrow A <= 2 H(X)\nrow A <= H(X,Y)\neliminate A\n",
+        b"1 undecided rows A\n",
+        Status::Done,
+    ),
+    // a region as JSON, by both marks
+    (
+        &["answer", "--format", "json"],
+        EITHER,
+        b"{\"answer\":\"region\",\"question\":\"vars X, Y\\nrates R, A\\ngiven func Y of X\\ngiven func X of Y\\nrow R <= H(X)\\nrow R <= H(Y)\\nrow A >= 0\\neliminate A\\n\",\"rows\":[{\"mark\":\"needed\",\"row\":[[2,\"1\"],[4,\"-1\"]]}]}\n",
+        Status::Done,
+    ),
+    (
+        &["answer", "--format", "json", "--pivots", "1"],
+        EITHER,
+        b"{\"answer\":\"region\",\"question\":\"vars X, Y\\nrates R, A\\ngiven func Y of X\\ngiven func X of Y\\nrow R <= H(X)\\nrow R <= H(Y)\\nrow A >= 0\\neliminate A\\n\",\"rows\":[{\"mark\":\"unsettled\",\"row\":[[1,\"1\"],[4,\"-1\"]]},{\"mark\":\"unsettled\",\"row\":[[2,\"1\"],[4,\"-1\"]]}]}\n",
+        Status::Done,
+    ),
+    // a region of a report has any of three marks
+    (
+        &["check"],
+        b"{\"answer\":\"region\",\"question\":\"vars X\\nrates A, R\\nrow A >= R\\nrow A <= H(X)\\neliminate A\\n\",\"rows\":[{\"mark\":\"plain\",\"row\":[[1,\"1\"],[3,\"-1\"]]}]}\n{\"answer\":\"region\",\"question\":\"vars X\\nrates A, R\\nrow A >= R\\nrow A <= H(X)\\neliminate A\\n\",\"rows\":[{\"mark\":\"needed\",\"row\":[[1,\"1\"]]},{\"mark\":\"unsettled\",\"row\":[[3,\"-1\"]]}]}\n",
+        b"1 skipped\n2 skipped\n",
         Status::Done,
     ),
     (
