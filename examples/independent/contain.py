@@ -9,10 +9,9 @@ definitions.
 
 from itertools import chain, islice, product
 
-from defined import Run
+from defined import outcome
 from eliminate import row_text
 from questions import Generator, Scope, row_of
-from verify import point_fault, sum_fault, value
 
 
 def moved(row, place):
@@ -64,12 +63,9 @@ class Containment:
         """The certificates of the obligations, or None where one of them isn't proved."""
         found = []
         for target in self.obligations(parts):
-            end, *rest = Run(self.first, target, pivots).answer()
-            if end == "no":
-                assert not point_fault(self.first, rest[0]) and value(target, rest[0]) < 0
+            end, rest, _ = outcome(self.first, target, pivots)
             if end != "yes":
                 return None
-            assert not sum_fault(self.first, target, *rest)
             found.append(rest)
         return found
 

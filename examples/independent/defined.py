@@ -8,14 +8,16 @@ import atexit
 from functools import cache
 from math import gcd
 from pathlib import Path
-from subprocess import PIPE, run
+from subprocess import DEVNULL, PIPE, CalledProcessError, run
 from tempfile import TemporaryDirectory
+
+from verify import point_fault, sum_fault, value
 
 # every number of the product is at most this in absolute value
 LIMIT = 2**127 - 1
 
-# a table of more rows than this is run by `steps.rs`, where there is no budget of steps
-LARGE = 100
+# a table of more rows than this is run by `steps.rs`, as far as its numbers are below this and stay short there
+LARGE, SHORT = 25, 2**32
 
 
 @cache
@@ -190,8 +192,10 @@ class Run:
             self.table()
         except Wide:
             return "width", 0
-        if self.budget is None and len(self.places) > LARGE:
-            return self.end_by_program()
+        if len(self.places) > LARGE:
+            end = self.end_by_program()
+            if end:
+                return end
         while True:
             if self.cost_right[0] == 0:
                 return "weights", {j: self.right[i] for i, j in enumerate(self.basic) if j < self.columns and self.right[i][0]}
@@ -208,14 +212,23 @@ class Run:
             self.steps += 1
 
     def end_by_program(self):
-        """The same by `steps.rs`, which is told the table; a run without a budget ends by weights or a point there."""
-        lines = [f"{self.columns} {len(self.rows)}"]
+        """The same by `steps.rs`, which is told the table; None where its numbers grow too long for it."""
+        numbers = [v[0] for row in self.rows for v in row.values()] + [v[0] for v in self.right]
+        if max(map(abs, numbers)) >= SHORT:
+            return None
+        budget = "" if self.budget is None else f" {self.budget}"
+        lines = [f"{self.columns} {len(self.rows)}{budget}"]
         lines += [" ".join(f"{j} {v[0]}" for j, v in sorted(row.items()) if j < self.columns) for row in self.rows]
         lines.append(" ".join(str(v[0]) for v in self.right))
-        told = run([program()], input="\n".join(lines) + "\n", text=True, check=True, stdout=PIPE).stdout.splitlines()
+        try:
+            told = run([program()], input="\n".join(lines) + "\n", text=True, check=True, stdout=PIPE, stderr=DEVNULL).stdout.splitlines()
+        except CalledProcessError:
+            return None
         steps, end = told[0].split()
         self.steps = int(steps)
         numbers = [[int(word) for word in line.split()] for line in told[1:]]
+        if end == "pivots":
+            return end, self.steps
         if end == "weights":
             return end, {j: lowest(num, den) for j, num, den in numbers}
         return end, [lowest(sign * num, den) for sign, (num, den) in zip(self.sign, numbers)]
@@ -369,6 +382,17 @@ def lines(number, question, end, found):
     if end == "no":
         return [f"{number} no {values_text(question, found[1])}"]
     return [f"{number} undecided {end}" + (f" {found}" if end != "scale" else "")]
+
+
+def outcome(scope, target, budget):
+    """The answer of the run about one target, and its steps; what it shows is verified by its definition."""
+    run = Run(scope, target, budget)
+    end, *found = run.answer()
+    if end == "yes":
+        assert not sum_fault(scope, target, *found)
+    elif end == "no":
+        assert not point_fault(scope, found[0]) and value(target, found[0]) < 0
+    return end, found, run.steps
 
 
 def prove(question, budget=20000):

@@ -1,10 +1,15 @@
-"""Plain Fourier-Motzkin elimination over numbers without bounds, its causes, and the lines that it gives.
+"""Fourier-Motzkin elimination over numbers without bounds, with a reduction after each rate, its causes, and the lines that it gives.
 
 A list of rows is put in order by dividing each row by the greatest common divisor of its coefficients and leaving out zero rows and
-rows that equal an earlier one.
+rows that equal an earlier one. It is reduced by visiting its rows in order: the run of each, as it is defined, under the `given` lines and
+all other rows that still stand says whether it goes (a proof), stays as needed (a point) or as unsettled (a cause). Proofs and points are
+verified by their definitions.
 """
 
 from math import gcd
+
+from defined import outcome
+from questions import Generator, Scope
 
 # every number of the product is at most this in absolute value
 LIMIT = 2**127 - 1
@@ -41,16 +46,55 @@ def without(rows, rate):
     return in_order(flat + [row for row, _ in pairs]), any(wide for _, wide in pairs)
 
 
-def eliminate(question, most=512):
-    """("region", rows), or ("width", rate) or ("rows", rate) for the first rate with a cause."""
+def with_rows(question, rows):
+    """The question's `given` lines, and rows behind them."""
+    scope = Scope(question.names, question.rates)
+    scope.constraints = question.constraints + [Generator(f"row {i}", row) for i, row in enumerate(rows, 1)]
+    return scope
+
+
+def follows(question, rows, target):
+    """Whether a row follows from Shannon's inequalities, the `given` lines and other rows: a verified proof or point tells."""
+    if target in rows:
+        return True
+    end, _, _ = outcome(with_rows(question, rows), target, None)
+    assert end in ("yes", "no")
+    return end == "yes"
+
+
+def reduce(question, rows, pivots, steps):
+    """The rows that stay, each behind its mark; the number of steps of each row's run goes to `steps`."""
+    kept = []
+    for number, row in enumerate(rows):
+        others = [other for _, other in kept] + rows[number + 1 :]
+        end, _, made = outcome(with_rows(question, others), row, pivots)
+        steps.append(made)
+        if end != "yes":
+            kept.append(("needed" if end == "no" else "unsettled", row))
+    return kept
+
+
+def plain(question):
+    """The rows that plain elimination leaves, without a reduction and without a budget."""
     rows = in_order(question.system())
+    for rate in question.eliminated:
+        rows, _ = without(rows, rate)
+    return rows
+
+
+def eliminate(question, most=512, pivots=20000):
+    """("region", rows behind their marks), or ("width", rate) or ("rows", rate) for the first rate with a cause; and the number of steps of
+    each run."""
+    rows, steps = in_order(question.system()), []
     for rate in question.eliminated:
         rows, wide = without(rows, rate)
         if wide:
-            return "width", rate
+            return "width", rate, steps
         if len(rows) > most:
-            return "rows", rate
-    return "region", rows
+            return "rows", rate, steps
+        kept = reduce(question, rows, pivots, steps)
+        rows = [row for _, row in kept]
+    return "region", kept, steps
 
 
 def row_text(question, row):
@@ -66,4 +110,4 @@ def lines(number, question, end, found):
     """The lines of the answer to an `eliminate` question."""
     if end != "region":
         return [f"{number} undecided {end} {question.coordinate_text(found)}"]
-    return [f"{number} region {len(found)}"] + [f"{number} row plain {row_text(question, row)}" for row in found]
+    return [f"{number} region {len(found)}"] + [f"{number} row {mark} {row_text(question, row)}" for mark, row in found]

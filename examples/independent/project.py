@@ -1,5 +1,5 @@
-"""Tests projections without eliminating anything: at a point of whole numbers on the coordinates that stay, an exact linear program
-says whether the eliminated rates can be chosen (rationals, so whole numbers after a whole multiple of everything).
+"""Tests projections without eliminating anything: at a polymatroid that makes the `given` lines true, with whole rates that stay, an exact
+linear program says whether the eliminated rates can be chosen (rationals, so whole numbers after a whole multiple of everything).
 
 Where they can't, weights of the rows show it; where they can, the rates are shown. Both are checked here by sums.
 """
@@ -38,35 +38,70 @@ def choose(question, values):
     return chosen
 
 
+def ranks(vectors):
+    """The dimension of the span of each set's vectors over two elements, by the set's number; each variable has a list of vectors."""
+    table = [0]
+    for s in range(1, 2 ** len(vectors)):
+        basis = []
+        for i, own in enumerate(vectors):
+            for vector in own if s >> i & 1 else []:
+                for other in basis:
+                    vector = min(vector, vector ^ other)
+                if vector:
+                    basis.append(vector)
+        table.append(len(basis))
+    return table
+
+
 class Points:
-    """Points on the coordinates that stay: small numbers, polymatroids with small rates, and points next to a row's border."""
+    """Points on the coordinates that stay: polymatroids that make the `given` lines true, with small rates or with rates next to a row's
+    border."""
 
     def __init__(self, question, rows, seed):
         self.question, self.rows, self.random = question, rows, Random(seed)
         self.n = len(question.names)
-        self.kept = [at for at in range(1, question.size() + 1) if at not in question.eliminated]
+        self.rates = [at for at in range(2**self.n, question.size() + 1) if at not in question.eliminated]
+        self.parts = [table for table in self.tables() if self.meets(table)]
+
+    def tables(self):
+        """A bit that all variables of a set know, and entropies of sums of random bits."""
+        for t in range(1, 2**self.n):
+            yield [int(s & t > 0) for s in range(2**self.n)]
+        for _ in range(600 if self.n < 6 else 150):
+            bits = self.random.choice([2, 2, 3])
+            sizes = [self.random.choice([0, 1, 1, 1, 2]) for _ in range(self.n)]
+            yield ranks([[self.random.randrange(2**bits) for _ in range(size)] for size in sizes])
+
+    def meets(self, table):
+        for constraint in self.question.constraints:
+            found = value(constraint.row, table)
+            if found < 0 or constraint.equation and found:
+                return False
+        return True
 
     def small(self):
-        return {at: self.random.randint(-3, 3) for at in self.kept}
-
-    def polymatroid(self):
-        """A sum of multiples of functions that are 1 at the sets that meet a given set."""
-        covers = [(self.random.randint(1, 4), self.random.randrange(1, 2**self.n)) for _ in range(self.random.randint(1, 4))]
-        h = {s: sum(c for c, t in covers if s & t) for s in range(1, 2**self.n)}
-        return {at: h[at] if at in h else self.random.randint(-2, 6) for at in self.kept}
+        """A sum of multiples of such polymatroids, each of which makes the lines true: so does the sum."""
+        parts = [(self.random.randint(1, 4), self.random.choice(self.parts)) for _ in range(self.random.randint(1, 4)) if self.parts]
+        values = {s: sum(c * table[s] for c, table in parts) for s in range(1, 2**self.n)}
+        return values | {at: self.random.randint(-2, 6) for at in self.rates}
 
     def bordering(self):
-        """A point at which one row of the projection is 0 or 1 short of it."""
-        values = self.polymatroid() if self.random.random() < 0.7 else self.small()
-        rows = [row for row in self.rows if 1 in row.values() or -1 in row.values()]
+        """A point at which one row of the projection is 0 or just short of it, by the choice of one rate."""
+        values = self.small()
+        rows = [row for row in self.rows if any(at in row for at in self.rates)]
         if rows:
             row = self.random.choice(rows)
-            at = self.random.choice([at for at, c in row.items() if abs(c) == 1])
-            values[at] -= row[at] * (value(row, values) + self.random.choice([0, 0, 1]))
+            at = self.random.choice([at for at in self.rates if at in row])
+            values[at] = 0
+            rest, c = value(row, values) - self.random.choice([0, 0, 1]), abs(row[at])
+            if rest % c:
+                values = {key: c * v for key, v in values.items()}
+                rest *= c
+            values[at] = -rest // row[at]
         return values
 
     def next(self):
-        return self.random.choice([self.small, self.polymatroid, self.bordering, self.bordering])()
+        return self.random.choice([self.small, self.bordering, self.bordering])()
 
 
 def test(question, rows, count, seed=1):

@@ -30,8 +30,8 @@ class NoReading(Exception):
 # Writing
 
 def answer_json(question, end, found):
-    """The line of an answer: ("yes", [(scale, weights by generator)]), ("no", (side, values)), ("region", rows), ("contained", (parts,
-    proofs)), ("open", tried), (cause, at)."""
+    """The line of an answer: ("yes", [(scale, weights by generator)]), ("no", (side, values)), ("region", rows behind their
+    marks), ("contained", (parts, proofs)), ("open", tried), (cause, at)."""
     value = {"question": question.text}
     if end == "yes":
         value |= {"answer": end, "proofs": [proof_value(*proof) for proof in found]}
@@ -39,7 +39,7 @@ def answer_json(question, end, found):
         side, values = found
         value |= {"answer": end, "point": [str(values[at]) for at in range(1, question.size() + 1)], "side": side}
     elif end == "region":
-        rows = [{"mark": "plain", "row": [[at, str(row[at])] for at in sorted(row)]} for row in found]
+        rows = [{"mark": mark, "row": [[at, str(row[at])] for at in sorted(row)]} for mark, row in found]
         value |= {"answer": end, "rows": rows}
     elif end == "contained":
         value |= {"answer": end, "parts": list(found[0]), "proofs": [proof_value(*proof) for proof in found[1]]}

@@ -1,9 +1,10 @@
 // The run of defined.py on whole numbers, for questions whose run has many steps: the whole table over one common denominator, the last
 // pivot (Bareiss, "Sylvester's identity and multistep integer-preserving Gaussian elimination", 1968; Edmonds, 1967). It stops with an error where a number
 // would not fit 62 bits, so no number that it meets in lowest terms has parts that don't.
-// usage: steps < TABLE, where TABLE has the number of columns without artificials and of rows, then a line of `column value ..` for each row,
-// the artificials left out, then the right sides. It prints the number of steps, how the run ends, and `weights` as `column numerator
-// denominator` or the cost row at the artificials as `numerator denominator`.
+// usage: steps < TABLE, where TABLE has the number of columns without artificials and of rows, and the budget of steps where there is one, then
+// a line of `column value ..` for each row, the artificials left out, then the right sides. It prints the number of steps, how the run ends
+// (`weights`, `point` or `pivots`), and `weights` as `column numerator denominator` or the cost row at the artificials as `numerator
+// denominator`.
 use std::io::Read;
 
 const MOST: i128 = 1 << 62;
@@ -91,6 +92,7 @@ fn main() {
         .collect();
     let (columns, height) = (lines[0][0] as usize, lines[0][1] as usize);
     let mut table = Table::start(columns, &lines[1..1 + height], &lines[1 + height]);
+    let budget = lines[0].get(2).copied().unwrap_or(i64::MAX);
     let mut steps = 0;
     loop {
         let width = columns + height + 1;
@@ -110,6 +112,10 @@ fn main() {
             }
             return;
         };
+        if steps == budget {
+            println!("{steps} pivots");
+            return;
+        }
         let r = table.leaving(c);
         table.pivot(r, c);
         steps += 1;
