@@ -11,7 +11,7 @@ use Rattle.it_space.specs.declared.problems.Constraint.{Constraint}
 use Rattle.it_space.specs.Problems.{Meets, AreMet, IsMet}
 use Rattle.it_space.specs.Rows.{Terms, ValueFits, value}
 use Rattle.it_polymatroid.specs.Polymatroid.{IsPolymatroid}
-use Rattle.it_polymatroid.specs.Elementals.{elementals, worth}
+use Rattle.it_polymatroid.specs.Elementals.{elementals, elemental_value}
 use Rattle.std.specs.List.{AllByRecursion as Every}
 use Rattle.it_space.proofs.EveryLemmas.{every_of, all_of, every-append, every_front, every_back, every-map, every_mapped, every-same}
 use Rattle.it_polymatroid.proofs.Generate.{elementals_generate}
@@ -149,15 +149,15 @@ pub met_listed : (n : ℕ) (cs : List Constraint) (p : ℕ → ℤ) → p 0 ≡ 
 unfolding generator_list
 met_listed n cs p z h m = every-append (λ (g : Generator). Meets g.kind (value g.row p)) (map (of_elemental n) (elementals n)) (map of_constraint cs)
     (every-map (λ (g : Generator). Meets g.kind (value g.row p)) (of_elemental n) (elementals n)
-    (every-same (λ e. pos 0 ≤ℤ worth n p e) (λ e. pos 0 ≤ℤ value (elemental_row n e) p) (elementals n) (λ e k. subst (λ (x : ℤ). pos 0 ≤ℤ x) (sym (value-row n e p z)) k)
-    (every_of (λ e. pos 0 ≤ℤ worth n p e) (elementals n) ((elementals_generate n p z).1 h))))
+    (every-same (λ e. pos 0 ≤ℤ elemental_value n p e) (λ e. pos 0 ≤ℤ value (elemental_row n e) p) (elementals n) (λ e k. subst (λ (x : ℤ). pos 0 ≤ℤ x) (sym (value-row n e p z)) k)
+    (every_of (λ e. pos 0 ≤ℤ elemental_value n p e) (elementals n) ((elementals_generate n p z).1 h))))
     (every-map (λ (g : Generator). Meets g.kind (value g.row p)) of_constraint cs (every_of (IsMet p) cs m))
 
 pub listed_met : (n : ℕ) (cs : List Constraint) (p : ℕ → ℤ) → p 0 ≡ pos 0 → Every (λ g. Meets g.kind (value g.row p)) (generator_list n cs) → IsPolymatroid n p × AreMet p cs
 unfolding generator_list
 listed_met n cs p z h = (
-  (elementals_generate n p z).0 (all_of (λ e. pos 0 ≤ℤ worth n p e) (elementals n)
-      (every-same (λ e. pos 0 ≤ℤ value (elemental_row n e) p) (λ e. pos 0 ≤ℤ worth n p e) (elementals n) (λ e k. subst (λ (x : ℤ). pos 0 ≤ℤ x) (value-row n e p z) k)
+  (elementals_generate n p z).0 (all_of (λ e. pos 0 ≤ℤ elemental_value n p e) (elementals n)
+      (every-same (λ e. pos 0 ≤ℤ value (elemental_row n e) p) (λ e. pos 0 ≤ℤ elemental_value n p e) (elementals n) (λ e k. subst (λ (x : ℤ). pos 0 ≤ℤ x) (value-row n e p z) k)
       (every_mapped (λ (g : Generator). Meets g.kind (value g.row p)) (of_elemental n) (elementals n) (every_front (λ (g : Generator). Meets g.kind (value g.row p)) (map (of_elemental n) (elementals n)) (map of_constraint cs) h)))),
   all_of (IsMet p) cs (every_mapped (λ (g : Generator). Meets g.kind (value g.row p)) of_constraint cs (every_back (λ (g : Generator). Meets g.kind (value g.row p)) (map (of_elemental n) (elementals n)) (map of_constraint cs) h)),
 )

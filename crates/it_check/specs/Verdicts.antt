@@ -15,12 +15,14 @@ abbrev pub or_else : Option Verdict → Option Verdict → Option Verdict
 or_else (Some v) o = Some v
 or_else None o = o
 
+-- the finding, or that nothing is wrong
 abbrev pub valid_unless : Option Verdict → Verdict
 valid_unless (Some v) = v
 valid_unless None = Valid
 
 -- ---- certificates
 
+-- a scale below 1
 abbrev pub of_scale : ℤ → Option Verdict
 of_scale scale = if int_lt scale (pos 1) then Some (BadScale scale) else None
 
@@ -30,11 +32,12 @@ of_weight gs w =
     if nat_lt w.0 (length gs) then (if int_lt w.1 (pos 0) && not (is_equation (generator_at gs w.0).kind) then Some (NegativeWeight w.0) else None)
     else Some (UnknownGenerator w.0)
 
+-- the first such weight
 unfoldable pub of_weights : List Generator → List (ℕ × ℤ) → Option Verdict
 of_weights gs [] = None
 of_weights gs (w ∷ ws) = or_else (of_weight gs w) (of_weights gs ws)
 
--- the numbers of the two sides at a coordinate
+-- the left side at a coordinate: the scale times the target's coefficient
 abbrev pub left_number : Terms → ℤ → ℕ → Option ℤ
 left_number target scale c = product_within scale (coefficient target c)
 
@@ -42,19 +45,21 @@ left_number target scale c = product_within scale (coefficient target c)
 abbrev pub column : List Generator → ℕ → ℕ → ℤ
 column gs c i = coefficient (generator_at gs i).row c
 
+-- the right side there: the sum of weights times coefficients
 abbrev pub right_number : List Generator → List (ℕ × ℤ) → ℕ → Option ℤ
 right_number gs ws c = sum_within (pos 0) ws (column gs c)
 
--- one of them is wide, or they differ
+-- one of the two sides is wide, or they differ
 abbrev pub of_numbers : ℕ → Option ℤ → Option ℤ → Option Verdict
 of_numbers c None right = Some (Width c)
 of_numbers c (Some left) None = Some (Width c)
 of_numbers c (Some left) (Some right) = if int_eq left right then None else Some (Mismatch c left right)
 
+-- what is wrong at a coordinate
 abbrev pub of_coordinate : List Generator → Terms → CertificateView → ℕ → Option Verdict
 of_coordinate gs target w c = of_numbers c (left_number target w.scale c) (right_number gs w.parts c)
 
--- so many coordinates from coordinate c on
+-- the first thing that is wrong at so many coordinates from coordinate c on
 unfoldable pub of_coordinates : List Generator → Terms → CertificateView → ℕ → ℕ → Option Verdict
 of_coordinates gs target w c zero = None
 of_coordinates gs target w c (suc left) = or_else (of_coordinate gs target w c) (of_coordinates gs target w (c + 1) left)
@@ -74,14 +79,16 @@ violates Equation x = not (int_eq x (pos 0))
 abbrev pub violation : ℕ → ℕ → ℤ → Verdict
 violation count i x = if nat_lt i count then BrokenElemental i x else UnmetConstraint i x
 
+-- a value that is wide, or breaks what is asked of generator i
 abbrev pub of_value : ℕ → ℕ → Kind → Option ℤ → Option Verdict
 of_value count i kind None = Some (Width i)
 of_value count i kind (Some x) = if violates kind x then Some (violation count i x) else None
 
+-- what is wrong with a point at generator i
 abbrev pub of_generator : ℕ → ℕ → Generator → (ℕ → ℤ) → Option Verdict
 of_generator count i g p = of_value count i g.kind (sum_within (pos 0) g.row p)
 
--- generators from number i on
+-- the first thing that is wrong at generators from number i on
 unfoldable pub of_generators : ℕ → ℕ → List Generator → (ℕ → ℤ) → Option Verdict
 of_generators count i [] p = None
 of_generators count i (g ∷ gs) p = or_else (of_generator count i g p) (of_generators count (i + 1) gs p)

@@ -11,8 +11,8 @@ use Rattle.it_space.specs.declared.spaces.Space.{Space}
 use Rattle.it_space.specs.Rows.{Terms, coefficient}
 use Rattle.it_closure.specs.declared.dependences.Dependence.{Dependence}
 use Rattle.it_closure.specs.Closures.{closure}
-use Rattle.it_closure.specs.Collapse.{place, placed_terms, PartsFit, CollapseFits}
-use Rattle.it_closure.specs.Placings.{IsPut, ArePlaced}
+use Rattle.it_closure.specs.Collapse.{place, placed_terms, PlaceSumsFit, CollapseFits}
+use Rattle.it_closure.specs.Placings.{IsPutAtPlace, ArePlaced}
 use Rattle.it_closure.specs.DependencesViews.{DependencesView, AreOfSpace}
 use Rattle.it_space.specs.Spaces.{size_of}
 use Rattle.it_space.specs.Sums.{number_at, plus_at, IsAdded}
@@ -74,7 +74,7 @@ place_rate_found d m sp a e h =
 plus_none : (x : ℤ) → x ≡ x +ℤ pos 0
 plus_none x = omega (arith, ints)
 
-put_added : (old new : List ℤ) (place : ℕ) (amount : ℤ) → IsAdded old new place amount → IsPut old new place amount
+put_added : (old new : List ℤ) (place : ℕ) (amount : ℤ) → IsAdded old new place amount → IsPutAtPlace old new place amount
 put_added old new place amount a = record {
   fits = λ h. a.fits;
   same = λ c h. ap (λ (f : ℕ → ℤ). f c) a.same;
@@ -82,7 +82,7 @@ put_added old new place amount a = record {
   within = a.within;
 }
 
-pub put_found : {X E : Type 0} (r : Result X E) (old new : List ℤ) (place : ℕ) (amount : ℤ) → OnOk r (IsAdded old new place amount) → OnOk r (IsPut old new place amount)
+pub put_found : {X E : Type 0} (r : Result X E) (old new : List ℤ) (place : ℕ) (amount : ℤ) → OnOk r (IsAdded old new place amount) → OnOk r (IsPutAtPlace old new place amount)
 put_found (Ok x) old new place amount a = put_added old new place amount a
 put_found (Err e) old new place amount a = tt
 
@@ -92,7 +92,7 @@ pub record IsPlacing (n : ℕ) (ds : List Dependence) (terms : Terms) (size : �
   pub within : All IsWithin values
   pub sofar : ℕ → ℤ
   pub same : (c : ℕ) → 0 < c → number_at values c ≡ sofar c
-  pub fits : PartsFit sofar (placed_terms n ds (drop i terms)) ↔ PartsFit (λ c. pos 0) (placed_terms n ds terms)
+  pub fits : PlaceSumsFit sofar (placed_terms n ds (drop i terms)) ↔ PlaceSumsFit (λ c. pos 0) (placed_terms n ds terms)
   pub total : (c : ℕ) → sofar c +ℤ coefficient (placed_terms n ds (drop i terms)) c ≡ coefficient (placed_terms n ds terms) c
 
 pub placing-start : (n : ℕ) (ds : List Dependence) (terms : Terms) (size : ℕ) (values : List ℤ) → values ≡ replicate size (pos 0) → IsPlacing n ds terms size values 0
@@ -109,11 +109,11 @@ rest_is : (terms : Terms) (i : ℕ) (t : ℕ × ℤ) → i < length terms → t 
 rest_is terms i t h is = drop_more terms i t h ∙ ap (λ x. x ∷ drop (i + 1) terms) (sym is)
 
 pub placing-more : (n : ℕ) (ds : List Dependence) (terms : Terms) (size : ℕ) (values new : List ℤ) (i p : ℕ) (t : ℕ × ℤ) → i < length terms → t ≡ get_or terms i t → p ≡ place n ds t.0
-    → IsPut values new p t.1 → IsPlacing n ds terms size values i → IsPlacing n ds terms size new (i + 1)
+    → IsPutAtPlace values new p t.1 → IsPlacing n ds terms size values i → IsPlacing n ds terms size new (i + 1)
 placing-more n ds terms size values new i p t h is e put u =
     let split : drop i terms ≡ t ∷ drop (i + 1) terms = rest_is terms i t h is in
     let q : ℕ × ℤ = (place n ds t.0, t.1) in
-    let f = subst (λ (r : Terms). PartsFit u.sofar (placed_terms n ds r) ↔ PartsFit (λ c. pos 0) (placed_terms n ds terms)) split u.fits in
+    let f = subst (λ (r : Terms). PlaceSumsFit u.sofar (placed_terms n ds r) ↔ PlaceSumsFit (λ c. pos 0) (placed_terms n ds terms)) split u.fits in
     let here : 0 < place n ds t.0 → IsWithin (u.sofar (place n ds t.0) +ℤ t.1) =
     (λ k. subst (λ (y : ℤ). IsWithin (y +ℤ t.1)) (u.same (place n ds t.0) k) (subst (λ (m : ℕ). IsWithin (number_at values m +ℤ t.1)) e (put.fits (rw e k)))) in
     record {
@@ -132,7 +132,7 @@ placing-more n ds terms size values new i p t h is e put u =
 pub placing-stops : (n : ℕ) (ds : List Dependence) (terms : Terms) (size : ℕ) (values : List ℤ) (i p : ℕ) (t : ℕ × ℤ) → i < length terms → t ≡ get_or terms i t → p ≡ place n ds t.0
     → ¬ (0 < p → IsWithin (number_at values p +ℤ t.1)) → IsPlacing n ds terms size values i → ¬ (CollapseFits n ds terms)
 placing-stops n ds terms size values i p t h is e wide u all =
-    let f = subst (λ (r : Terms). PartsFit u.sofar (placed_terms n ds r)) (rest_is terms i t h is) (u.fits.1 all) in
+    let f = subst (λ (r : Terms). PlaceSumsFit u.sofar (placed_terms n ds r)) (rest_is terms i t h is) (u.fits.1 all) in
     wide (λ k. subst (λ (m : ℕ). IsWithin (number_at values m +ℤ t.1)) (sym e) (subst (λ (y : ℤ). IsWithin (y +ℤ t.1)) (sym (u.same (place n ds t.0) (subst (λ (m : ℕ). 0 < m) e k))) (f.0 (subst (λ (m : ℕ). 0 < m) e k))))
 
 pub placing-end : (n : ℕ) (ds : List Dependence) (terms : Terms) (size : ℕ) (values : List ℤ) (i : ℕ) → length terms ≤ i → IsPlacing n ds terms size values i → ArePlaced n ds terms size values
@@ -142,7 +142,7 @@ placing-end n ds terms size values i h u =
       complete = u.complete;
       within = u.within;
       sums = λ c k. u.same c k ∙ plus_none (u.sofar c) ∙ subst (λ (r : Terms). u.sofar c +ℤ coefficient (placed_terms n ds r) c ≡ coefficient (placed_terms n ds terms) c) none (u.total c);
-      fits = u.fits.0 (subst (λ (r : Terms). PartsFit u.sofar (placed_terms n ds r)) (sym none) tt);
+      fits = u.fits.0 (subst (λ (r : Terms). PlaceSumsFit u.sofar (placed_terms n ds r)) (sym none) tt);
     }
   where
     drop_none : (xs : Terms) (i : ℕ) → length xs ≤ i → drop i xs ≡ []
@@ -167,7 +167,7 @@ sets_in s = omega (arith, pow_pos s.variables)
 
 -- the same with the terms that the code reads
 pub went_on : (n : ℕ) (ds : List Dependence) (terms items : Terms) (size : ℕ) (values new : List ℤ) (i p : ℕ) (t : ℕ × ℤ) → items ≡ terms → i < length items → t ≡ get_or items i t → p ≡ place n ds t.0
-    → IsPut values new p t.1 → IsPlacing n ds terms size values i → IsPlacing n ds terms size new (i + 1)
+    → IsPutAtPlace values new p t.1 → IsPlacing n ds terms size values i → IsPlacing n ds terms size new (i + 1)
 went_on n ds terms items size values new i p t e h is k put u =
     placing-more n ds terms size values new i p t (subst (λ (ts : Terms). i < length ts) e h) (subst (λ (ts : Terms). t ≡ get_or ts i t) e is) k put u
 

@@ -10,7 +10,7 @@ use Rattle.std.specs.List.{AllByRecursion as Every}
 use Rattle.it_space.proofs.EveryLemmas.{all_of, every-append}
 use Rattle.it_closure.specs.declared.dependences.Dependence.{Dependence}
 use Rattle.it_closure.specs.DependencesViews.{IsDependenceOf, AreOfSpace}
-use Rattle.it_closure.specs.Reading.{SaysDependence, read_one, one_if, read_from}
+use Rattle.it_closure.specs.Reading.{SaysDependence, read_one, dependence_list, read_from}
 use Rattle.it_closure.proofs.ReadLemmas.{reads_exactly}
 
 -- what is read is the dependence of a constraint, with its number
@@ -20,7 +20,7 @@ pub record IsRead (s : Space) (cs : List Constraint) (g : ℕ) (d : Dependence) 
   pub number : d.generator ≡ g + place
   pub is : (c : Constraint) → SaysDependence s (Rattle.std.specs.Prelude.slice_index_or cs place c) d
 
-here : (s : Space) (size g : ℕ) (c : Constraint) (cs : List Constraint) (o : Option Dependence) → IsUpTo size c.row → read_one s.variables g c ≡ o → Every (IsRead s (c ∷ cs) g) (one_if o)
+here : (s : Space) (size g : ℕ) (c : Constraint) (cs : List Constraint) (o : Option Dependence) → IsUpTo size c.row → read_one s.variables g c ≡ o → Every (IsRead s (c ∷ cs) g) (dependence_list o)
 here s size g c cs None u e = tt
 here s size g c cs (Some d) u e =
     let r = (reads_exactly s size g c d u).0 e in
@@ -32,7 +32,7 @@ later s c cs g (d ∷ ds) e = (record { place = suc e.0.place; inside = omega (a
 
 pub all_read : (s : Space) (size g : ℕ) (cs : List Constraint) → All (λ c. IsUpTo size c.row) cs → Every (IsRead s cs g) (read_from s.variables g cs)
 all_read s size g [] u = tt
-all_read s size g (c ∷ cs) u = every-append (IsRead s (c ∷ cs) g) (one_if (read_one s.variables g c)) (read_from s.variables (g + 1) cs)
+all_read s size g (c ∷ cs) u = every-append (IsRead s (c ∷ cs) g) (dependence_list (read_one s.variables g c)) (read_from s.variables (g + 1) cs)
     (here s size g c cs (read_one s.variables g c) (All-head (λ c. IsUpTo size c.row) c cs u) refl)
     (later s c cs g (read_from s.variables (g + 1) cs) (all_read s size (g + 1) cs (All-tail (λ c. IsUpTo size c.row) c cs u)))
 

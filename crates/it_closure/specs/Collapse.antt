@@ -26,13 +26,13 @@ abbrev pub IsCollapseOf : ℕ → List Dependence → Terms → Terms → Type 0
 IsCollapseOf n ds old new = (p : ℕ → ℤ) → p 0 ≡ pos 0 → value new p ≡ value old (spread_out n ds p)
 
 -- each partial sum at a place other than 0 is within the limit, one term added after the other
-abbrev pub PartsFit : (ℕ → ℤ) → Terms → Type 0
-PartsFit f [] = Unit {0}
-PartsFit f (t ∷ ts) = (0 < t.0 → IsWithin (f t.0 +ℤ t.1)) × PartsFit (plus_at f t) ts
+abbrev pub PlaceSumsFit : (ℕ → ℤ) → Terms → Type 0
+PlaceSumsFit f [] = Unit {0}
+PlaceSumsFit f (t ∷ ts) = (0 < t.0 → IsWithin (f t.0 +ℤ t.1)) × PlaceSumsFit (plus_at f t) ts
 
 -- each partial sum of coefficients at one place, in order of the terms, is within the limit
 abbrev pub CollapseFits : ℕ → List Dependence → Terms → Type 0
-CollapseFits n ds terms = PartsFit (λ c. pos 0) (placed_terms n ds terms)
+CollapseFits n ds terms = PlaceSumsFit (λ c. pos 0) (placed_terms n ds terms)
 
 -- dependences of sets of the n variables
 pub record AreDependences (n : ℕ) (ds : List Dependence) : Type 0 where

@@ -1,4 +1,4 @@
--- No public clause cites these: how coefficients are summed at their places, one after the other.
+-- No public clause cites this module: how coefficients are summed at their places, one after the other.
 use Rattle.std.specs.Prelude.{◌≡◌, ℕ, ◌<◌, ℤ, pos, ◌+ℤ◌, List, length, cond, nat_eq, All}
 use Rattle.it_number.specs.Limit.{IsWithin}
 use Rattle.it_space.specs.Rows.{Terms, coefficient}
@@ -7,7 +7,7 @@ use Rattle.it_closure.specs.declared.dependences.Dependence.{Dependence}
 use Rattle.it_closure.specs.Collapse.{placed_terms, CollapseFits}
 
 -- an amount put at a place, unless that is 0
-pub record IsPut (old new : List ℤ) (place : ℕ) (amount : ℤ) : Type 0 where
+pub record IsPutAtPlace (old new : List ℤ) (place : ℕ) (amount : ℤ) : Type 0 where
   pub fits : 0 < place → IsWithin (number_at old place +ℤ amount)
   pub same : (c : ℕ) → 0 < c → number_at new c ≡ number_at old c +ℤ cond (nat_eq place c) amount (pos 0)
   pub complete : length new ≡ length old

@@ -74,12 +74,12 @@ impl Dependences {
         ensures all { result ≡ closure 16 self.now.list set }
         ensures own { set < 2 ^ self.now.space.variables → result ≡ closure self.now.space.variables self.now.list set }
     {
-        closed_under(self.list.as_slice(), set)
+        closure(self.list.as_slice(), set)
     }
 }
 
 /// The least set that holds this one and what its subsets determine.
-fn closed_under(list: &[Dependence], set: VarSet) -> VarSet
+fn closure(list: &[Dependence], set: VarSet) -> VarSet
     requires below { All (λ d. d.to < 2 ^ 16) list.now }
     ensures { result ≡ closure 16 list.now set }
 {

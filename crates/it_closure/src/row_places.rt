@@ -5,7 +5,7 @@ ghost use Rattle.it_space.specs.Rows.{IsUpTo, coefficient};
 ghost use Rattle.it_space.specs.Spaces.{size_of};
 ghost use Rattle.it_space.specs.Sums.{number_at};
 ghost use Rattle.it_closure.specs.Collapse.{CollapseFits, IsCollapseOf, place, placed_terms};
-ghost use Rattle.it_closure.specs.Placings.{ArePlaced, IsPut};
+ghost use Rattle.it_closure.specs.Placings.{ArePlaced, IsPutAtPlace};
 
 use crate::dependences::Dependences;
 use it_fraction::Wide;
@@ -61,7 +61,7 @@ fn placed_sums(alloc: Global, dependences: &Dependences, row: &Row) -> Result<Su
 /// Adds at a place, unless that is 0.
 fn put(sums: &mut Sums, place: u32, amount: i128) -> Result<(), Wide>
     requires { place < length sums.old }
-    ensures put { OnOk result (IsPut sums.old sums.new place amount) }
+    ensures put { OnOk result (IsPutAtPlace sums.old sums.new place amount) }
     ensures wide { OnErr result (¬ (0 < place → IsWithin (number_at sums.old place +ℤ amount))) }
 {
     if place == 0 {

@@ -8,8 +8,8 @@ use Rattle.it_space.specs.Rows.{Terms, coefficient, IsUpTo}
 use Rattle.std.proofs.lemmas.List.Elements.{All-head, All-tail}
 use Rattle.it_space.proofs.CanonicalRows.{other_is}
 use Rattle.it_polymatroid.specs.Elementals.{Conditional, elementals, elemental_at}
-use Rattle.it_elemental.specs.Places.{pairs}
-use Rattle.it_elemental.proofs.PairLemmas.{length-pairs}
+use Rattle.it_elemental.specs.Places.{index_pairs}
+use Rattle.it_elemental.proofs.PairLemmas.{length-index_pairs}
 use Rattle.std.specs.List.{AllByRecursion as Every}
 use Rattle.it_space.proofs.EveryLemmas.{every_of, every-append, every-map}
 use Rattle.it_elemental.specs.Rows.{elemental_row}
@@ -42,7 +42,7 @@ pub few_elementals : (n : ℕ) → n ≤ 10 → length (elementals n) ≤ 20000
 few_elementals n h =
     let power : 2 ^ n ≤ 2 ^ 10 = pow_mono {i = n} {j = 10} h in
     let square : n * (n - 1) ≤ 10 * 10 = product n (n - 1) 10 10 h (omega arith) in
-    let both : length (pairs n) * (2 ^ n / 4) ≤ 50 * 256 = product (length (pairs n)) (2 ^ n / 4) 50 256 (omega (arith, length-pairs n)) (omega arith) in
+    let both : length (index_pairs n) * (2 ^ n / 4) ≤ 50 * 256 = product (length (index_pairs n)) (2 ^ n / 4) 50 256 (omega (arith, length-index_pairs n)) (omega arith) in
     omega (arith, length-elementals n)
   where
     product : (a b c d : ℕ) → a ≤ c → b ≤ d → a * b ≤ c * d

@@ -6,7 +6,7 @@ use Rattle.std.proofs.lemmas.List.{get_or_past}
 use Rattle.it_fraction.specs.declared.fraction.Wide.{Wide}
 use Rattle.it_number.specs.Limit.{IsWithin}
 use Rattle.it_space.specs.Rows.{ValueFits, map_of, value}
-use Rattle.it_polymatroid.specs.Elementals.{Conditional, Mutual, worth}
+use Rattle.it_polymatroid.specs.Elementals.{Conditional, Mutual, elemental_value}
 use Rattle.it_elemental.specs.Broken.{AlternatingFits}
 use Rattle.it_elemental.specs.Rows.{elemental_row}
 use Rattle.it_elemental.proofs.FitLemmas.{conditional_fits, mutual_fits, ok_iff-same}
@@ -35,5 +35,5 @@ mutual_value values n i j k r a b c d w p q s u o =
     (rw (p, q, s, u) (mutual_fits n i j k (map_of values) refl (point_within values w))) (sym (value-row n (Mutual i j k) (map_of values) refl ∙ turned a b c d p q s u)) o
   where
     turned : (a b c d : ℤ) → a ≡ map_of values k → b ≡ map_of values (k + 2 ^ i) → c ≡ map_of values (k + 2 ^ j) → d ≡ map_of values (k + 2 ^ i + 2 ^ j)
-        → worth n (map_of values) (Mutual i j k) ≡ ((b -ℤ a) +ℤ c) -ℤ d
+        → elemental_value n (map_of values) (Mutual i j k) ≡ ((b -ℤ a) +ℤ c) -ℤ d
     turned a b c d p q s u = omega (arith, ints, p, q, s, u)

@@ -9,13 +9,16 @@ use Rattle.it_polymatroid.specs.Certificates.{Generators}
 use Rattle.it_polymatroid.specs.Elementals.{Elemental, elementals}
 use Rattle.it_elemental.specs.Rows.{elemental_row}
 
+-- a row that is to be at least 0, or to be 0
 pub record Generator : Type 0 where
   pub kind : Kind
   pub row : Terms
 
+-- an elemental inequality as a generator
 abbrev pub of_elemental : ℕ → Elemental → Generator
 of_elemental n e = record { kind = Inequality; row = elemental_row n e }
 
+-- a constraint as a generator
 abbrev pub of_constraint : Constraint → Generator
 of_constraint c = record { kind = c.kind; row = c.row }
 
@@ -23,6 +26,7 @@ of_constraint c = record { kind = c.kind; row = c.row }
 unfoldable pub generator_list : ℕ → List Constraint → List Generator
 generator_list n cs = map (of_elemental n) (elementals n) ++ map of_constraint cs
 
+-- the generators of a problem
 abbrev pub generators : ProblemView → List Generator
 generators q = generator_list q.space.variables q.constraints
 
@@ -30,15 +34,16 @@ generators q = generator_list q.space.variables q.constraints
 abbrev pub generator_at : List Generator → ℕ → Generator
 generator_at gs i = slice_index_or gs i (record { kind = Inequality; row = [] })
 
+-- whether a row of this kind is to be 0
 abbrev pub is_equation : Kind → Bool
 is_equation Inequality = false
 is_equation Equation = true
 
--- as what certificates are built from
+-- generators as what certificates are built from
 abbrev pub forms_of : List Generator → Generators
 forms_of gs = record {
   count = length gs;
-  worth_of = λ i p. value (generator_at gs i).row p;
+  form = λ i p. value (generator_at gs i).row p;
   is_equation = λ i. is_equation (generator_at gs i).kind;
 }
 

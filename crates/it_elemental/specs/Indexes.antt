@@ -9,19 +9,19 @@ pairs_before n zero = 0
 pairs_before n (suc i) = pairs_before n i + (n - (i + 1))
 
 -- the binary digits of k with the one at place j taken out
-abbrev pub gather : ℕ → ℕ → ℕ
-gather j k = (k / 2 ^ suc j) * 2 ^ j + k % 2 ^ j
+abbrev pub without_digit : ℕ → ℕ → ℕ
+without_digit j k = (k / 2 ^ suc j) * 2 ^ j + k % 2 ^ j
 
 -- the number of H(Xi | all others), or of I(Xi;Xj | K), which is that of the pair times the number of sets, and then that of K with the digits of i and j taken out
-unfoldable pub index_of : ℕ → Elemental → ℕ
-index_of n (Conditional i) = i
-index_of n (Mutual i j k) = n + (pairs_before n i + (j - i - 1)) * (2 ^ n / 4) + gather i (gather j k)
+unfoldable pub elemental_index : ℕ → Elemental → ℕ
+elemental_index n (Conditional i) = i
+elemental_index n (Mutual i j k) = n + (pairs_before n i + (j - i - 1)) * (2 ^ n / 4) + without_digit i (without_digit j k)
 
 -- it is the one place at which the list has the inequality
-abbrev pub IndexesTold : Type 0
-IndexesTold = (n : ℕ) → ((e : Elemental) → IsElemental n e → (index_of n e < length (elementals n)) × (elemental_at n (index_of n e) ≡ e))
-    × ((i : ℕ) → i < length (elementals n) → index_of n (elemental_at n i) ≡ i)
+abbrev pub IndexesAreTold : Type 0
+IndexesAreTold = (n : ℕ) → ((e : Elemental) → IsElemental n e → (elemental_index n e < length (elementals n)) × (elemental_at n (elemental_index n e) ≡ e))
+    × ((i : ℕ) → i < length (elementals n) → elemental_index n (elemental_at n i) ≡ i)
 
 -- so none stands there twice
-abbrev pub ListedOnce : Type 0
-ListedOnce = (n i j : ℕ) → i < length (elementals n) → j < length (elementals n) → elemental_at n i ≡ elemental_at n j → i ≡ j
+abbrev pub InequalitiesAreListedOnce : Type 0
+InequalitiesAreListedOnce = (n i j : ℕ) → i < length (elementals n) → j < length (elementals n) → elemental_at n i ≡ elemental_at n j → i ≡ j

@@ -1,12 +1,12 @@
 //! Theorems on the list, each as the contract of a function.
-ghost use Rattle.it_elemental.specs.Indexes.{IndexesTold, ListedOnce};
+ghost use Rattle.it_elemental.specs.Indexes.{IndexesAreTold, InequalitiesAreListedOnce};
 
 /// The formula gives the one number that an elemental inequality has in the list.
-pub fn indexes_told()
-    ensures { IndexesTold }
+pub fn indexes_are_told()
+    ensures { IndexesAreTold }
 {}
 
 /// No elemental inequality stands in the list twice.
-pub fn listed_once()
-    ensures { ListedOnce }
+pub fn inequalities_are_listed_once()
+    ensures { InequalitiesAreListedOnce }
 {}

@@ -8,7 +8,7 @@ ghost use Rattle.it_elemental.specs.Rows.{elemental_row};
 ghost use Rattle.it_elemental.specs.Views.{IsElemental};
 
 use crate::inequalities::{Elemental, parts};
-use crate::sets::{all, all_but, with};
+use crate::sets::{all_but, all_variables, with};
 use it_fraction::{Wide, difference, sum};
 use it_space::{Point, VarSet};
 
@@ -22,8 +22,10 @@ pub fn value_at(n: u8, index: u32, point: &Point) -> Result<i128, Wide>
     ensures { OkIff result (ValueFits (elemental_row n (elemental_at n index)) (map_of point.now)) (value (elemental_row n (elemental_at n index)) (map_of point.now)) }
 {
     match parts(n, index) {
-        Elemental::Conditional { of } => conditional(point, n, of),
-        Elemental::Mutual { left, right, given } => mutual(point, n, left, right, given),
+        Elemental::Conditional { of } => conditional_entropy(point, n, of),
+        Elemental::Mutual { left, right, given } => mutual_information(
+            point, n, left, right, given,
+        ),
     }
 }
 
@@ -50,17 +52,26 @@ pub fn alternating_sum(a: i128, b: i128, c: i128, d: i128) -> Result<i128, Wide>
 }
 
 /// The entropy of a variable given all others.
-fn conditional(point: &Point, n: u8, of: u8) -> Result<i128, Wide>
+fn conditional_entropy(point: &Point, n: u8, of: u8) -> Result<i128, Wide>
     requires few { n ≤ 10 }
     requires shape { of < n }
     requires complete { 2 ^ n ≤ length point.now + 1 }
     ensures { OkIff result (ValueFits (elemental_row n (Conditional of)) (map_of point.now)) (value (elemental_row n (Conditional of)) (map_of point.now)) }
 {
-    difference(at_set(point, all(n)), at_set(point, all_but(n, of)))
+    difference(
+        at_set(point, all_variables(n)),
+        at_set(point, all_but(n, of)),
+    )
 }
 
 /// The mutual information of two variables given a set.
-fn mutual(point: &Point, n: u8, left: u8, right: u8, given: VarSet) -> Result<i128, Wide>
+fn mutual_information(
+    point: &Point,
+    n: u8,
+    left: u8,
+    right: u8,
+    given: VarSet,
+) -> Result<i128, Wide>
     requires few { n ≤ 10 }
     requires shape { IsElemental n (Mutual left right given) }
     requires complete { 2 ^ n ≤ length point.now + 1 }

@@ -7,9 +7,9 @@ use Rattle.it_space.specs.Rows.{Terms, IsCanonical, coefficient}
 use Rattle.it_space.specs.Divisors.{lowest_terms}
 use Rattle.it_space.specs.Cancelling.{cancelled_row}
 use Rattle.it_eliminate.proofs.MemberLemmas.{every_member, member_every}
-use Rattle.it_eliminate.proofs.StepLemmas.{is_flat_at}
-use Rattle.it_eliminate.specs.Elimination.{is_same, with_row, with_rows, is_up, is_down, is_flat, pairs_of, results, next_list, PairsFit}
-use Rattle.it_eliminate.specs.Gathering.{flat_of, pair_of, up_pairs, DownFits, UpFits, IsKept, Gathers}
+use Rattle.it_eliminate.proofs.StepLemmas.{test_from_zero}
+use Rattle.it_eliminate.specs.Elimination.{is_same, with_row, with_lowest_rows, is_positive_at, is_negative_at, is_zero_at, pairs_of, results, next_list, PairsFit}
+use Rattle.it_eliminate.specs.Gathering.{flat_of, pair_of, up_pairs, DownFits, UpFits, IsKeptList, Gathers}
 
 -- ---- one row
 
@@ -23,13 +23,13 @@ longer rows (t ∷ ts) = by_test (list_any (is_same (t ∷ ts)) rows)
 
 -- ---- many rows
 
-with_rows-append : (seen xs ys : List Terms) → with_rows seen (xs ++ ys) ≡ with_rows (with_rows seen xs) ys
-with_rows-append seen [] ys = refl
-with_rows-append seen (x ∷ xs) ys = with_rows-append (with_row seen (lowest_terms x)) xs ys
+with_lowest_rows-append : (seen xs ys : List Terms) → with_lowest_rows seen (xs ++ ys) ≡ with_lowest_rows (with_lowest_rows seen xs) ys
+with_lowest_rows-append seen [] ys = refl
+with_lowest_rows-append seen (x ∷ xs) ys = with_lowest_rows-append (with_row seen (lowest_terms x)) xs ys
 
 pub gathers_both : (most : ℕ) (xs ys : List Terms) (old mid new : List Terms) → Gathers most xs old mid → Gathers most ys mid new → Gathers most (xs ++ ys) old new
 gathers_both most xs ys old mid new f g = record {
-  keeps = λ exact k. subst (λ (rs : List Terms). IsKept most rs new) (sym (with_rows-append exact xs ys)) (g.keeps (with_rows exact xs) (f.keeps exact k));
+  keeps = λ exact k. subst (λ (rs : List Terms). IsKeptList most rs new) (sym (with_lowest_rows-append exact xs ys)) (g.keeps (with_lowest_rows exact xs) (f.keeps exact k));
 }
 
 -- what is still to come leads from what is there to an end
@@ -83,16 +83,16 @@ flat_filter_is f g test (r ∷ rows) h = by_test (test r) (flat_filter_is f g te
 
 pub results_is : (at : ℕ) (rows : List Terms) → results at rows ≡ flat_map (flat_of at) rows ++ flat_map (up_pairs at rows) rows
 unfolding results
-results_is at rows = ap₂ (λ xs ys. xs ++ ys) (filter_is (is_flat at) rows)
-    (flat_filter_is (λ up. pairs_of at up rows) (λ up. flat_map (pair_of at up) rows) (is_up at) rows (λ up. map_filter_is (cancelled_row at up) (is_down at) rows))
+results_is at rows = ap₂ (λ xs ys. xs ++ ys) (filter_is (is_zero_at at) rows)
+    (flat_filter_is (λ up. pairs_of at up rows) (λ up. flat_map (pair_of at up) rows) (is_positive_at at) rows (λ up. map_filter_is (cancelled_row at up) (is_negative_at at) rows))
 
 -- the whole list, from nothing
-pub next_kept : (most at : ℕ) (rows none mid new : List Terms) → none ≡ [] → Gathers most (flat_map (flat_of at) rows) none mid → Gathers most (flat_map (up_pairs at rows) rows) mid new → IsKept most (next_list at rows) new
-next_kept most at rows none mid new e f g = subst (λ (rs : List Terms). IsKept most (with_rows [] rs) new) (sym (results_is at rows))
+pub next_kept : (most at : ℕ) (rows none mid new : List Terms) → none ≡ [] → Gathers most (flat_map (flat_of at) rows) none mid → Gathers most (flat_map (up_pairs at rows) rows) mid new → IsKeptList most (next_list at rows) new
+next_kept most at rows none mid new e f g = subst (λ (rs : List Terms). IsKeptList most (with_lowest_rows [] rs) new) (sym (results_is at rows))
     ((gathers_both most (flat_map (flat_of at) rows) (flat_map (up_pairs at rows) rows) none mid new f g).keeps [] (record { is = inl e; canonical = subst (λ (rs : List Terms). Every IsCanonical rs) (sym e) tt }))
 
 pub gathers_flat : (most at : ℕ) (row same : Terms) (old new : List Terms) → coefficient row at ≡ pos 0 → same ≡ row → Gathers most (same ∷ []) old new → Gathers most (flat_of at row) old new
-gathers_flat most at row same old new e f g = subst (λ (b : Bool). Gathers most (if b then row ∷ [] else []) old new) (sym (is_flat_at at row e)) (subst (λ (r : Terms). Gathers most (r ∷ []) old new) f g)
+gathers_flat most at row same old new e f g = subst (λ (b : Bool). Gathers most (if b then row ∷ [] else []) old new) (sym (test_from_zero at row e)) (subst (λ (r : Terms). Gathers most (r ∷ []) old new) f g)
 
 -- ---- the pairs
 

@@ -5,12 +5,12 @@ use Rattle.it_space.specs.declared.spaces.Space.{Space}
 use Rattle.it_space.specs.Problems.{IsSystem}
 use Rattle.it_space.specs.Rows.{Terms, IsUpTo}
 use Rattle.it_space.specs.Spaces.{IsSpace, size_of}
-use Rattle.it_eliminate.specs.Elimination.{Member, EliminatedView, Region, Rows, Wide, next_list, Ends, in_order}
+use Rattle.it_eliminate.specs.Elimination.{Member, EliminatedView, Region, Rows, Wide, next_list, EliminationEnds, ordered_rows, list_after}
 use Rattle.it_eliminate.specs.Projections.{In, Extends, Lacks, IsProjection}
 use Rattle.it_eliminate.specs.Laws.{OneEnd}
 use Rattle.it_eliminate.proofs.MemberLemmas.{member-map}
 use Rattle.it_eliminate.proofs.SpaceLemmas.{projection_up_to}
-use Rattle.it_eliminate.proofs.RateLemmas.{after_rates, projection_exact, projection_lacks}
+use Rattle.it_eliminate.proofs.RateLemmas.{projection_exact, projection_lacks}
 
 pub one_end : OneEnd
 one_end base most rows [] o u e f = e ∙ sym f
@@ -35,17 +35,17 @@ IsRegion (Rows r) = ⊥
 IsRegion (Wide r) = ⊥
 
 -- a region has the list after all rates
-region_is : (base most : ℕ) (rows : List Terms) (rates : List ℕ) (kept : List Terms) → Ends base most rows rates (Region kept) → kept ≡ after_rates (map (λ r. base + r) rates) rows
+region_is : (base most : ℕ) (rows : List Terms) (rates : List ℕ) (kept : List Terms) → EliminationEnds base most rows rates (Region kept) → kept ≡ list_after (map (λ r. base + r) rates) rows
 region_is base most rows [] kept e = ap (λ o. rows_or o rows) e
 region_is base most rows (r ∷ rs) kept (inl e) = absurd (subst IsRegion e.1 tt)
 region_is base most rows (r ∷ rs) kept (inr (inl e)) = absurd (subst IsRegion e.2 tt)
 region_is base most rows (r ∷ rs) kept (inr (inr e)) = region_is base most (next_list (base + r) rows) rs kept e.2
 
 pub is_projection : (most : ℕ) (system region : System) (rates : List ℕ) → IsSystem system → region.space ≡ system.space
-    → Ends (2 ^ system.space.variables) most (in_order system.rows.items) rates (Region region.rows.items) → IsProjection system rates region
+    → EliminationEnds (2 ^ system.space.variables) most (ordered_rows system.rows.items) rates (Region region.rows.items) → IsProjection system rates region
 is_projection most system region rates h same e =
     let ats : List ℕ = map (λ r. 2 ^ system.space.variables + r) rates in
-    let is : region.rows.items ≡ after_rates ats (in_order system.rows.items) = region_is (2 ^ system.space.variables) most (in_order system.rows.items) rates region.rows.items e in
+    let is : region.rows.items ≡ list_after ats (ordered_rows system.rows.items) = region_is (2 ^ system.space.variables) most (ordered_rows system.rows.items) rates region.rows.items e in
     let fits : All (IsUpTo (size_of system.space)) region.rows.items
     = subst (λ (rs : List Terms). All (IsUpTo (size_of system.space)) rs) (sym is) (projection_up_to (size_of system.space) ats system.rows.items h.rows) in record {
       space = same;

@@ -8,7 +8,7 @@ use Rattle.it_space.specs.Rows.{Terms, coefficient, value, HaveOneSign, one_at}
 use Rattle.it_space.specs.Divisors.{content, divided_terms, lowest_terms}
 use Rattle.it_space.proofs.Contents.{DividesAll, content_divides, divided_value, one_sign}
 use Rattle.it_space.proofs.TermLemmas.{value-one_at, same_number}
-use Rattle.it_eliminate.specs.Elimination.{is_same, with_row, with_rows, in_order, Member}
+use Rattle.it_eliminate.specs.Elimination.{is_same, with_row, with_lowest_rows, ordered_rows, Member}
 use Rattle.it_eliminate.specs.Projections.{In, Lacks}
 use Rattle.it_eliminate.proofs.MemberLemmas.{not_true, every_member}
 use Rattle.it_space.proofs.EveryLemmas.{every-append, every_front, every_back}
@@ -88,18 +88,18 @@ in-with_row rows (t ∷ ts) p = by_test (list_any (is_same (t ∷ ts)) rows) (fo
       λ a. every-append (λ (row : Terms). pos 0 ≤ℤ value row p) rows ((t ∷ ts) ∷ []) a.0 (a.1, tt),
     )
 
-pub in-with_rows : (before rows : List Terms) (p : ℕ → ℤ) → In (with_rows before rows) p ↔ (In before p × In rows p)
-in-with_rows before [] p = (λ a. (a, tt), λ a. a.0)
-in-with_rows before (row ∷ rows) p =
-    let rest = in-with_rows (with_row before (lowest_terms row)) rows p in
+pub in-with_lowest_rows : (before rows : List Terms) (p : ℕ → ℤ) → In (with_lowest_rows before rows) p ↔ (In before p × In rows p)
+in-with_lowest_rows before [] p = (λ a. (a, tt), λ a. a.0)
+in-with_lowest_rows before (row ∷ rows) p =
+    let rest = in-with_lowest_rows (with_row before (lowest_terms row)) rows p in
     let one = in-with_row before (lowest_terms row) p in
     let signs = lowest_signs row p in (
       λ a. let b = rest.0 a in let c = one.0 b.0 in (c.0, (signs.positive.1 c.1, b.1)),
       λ a. rest.1 (one.1 (a.0, signs.positive.0 a.1.0), a.1.1),
     )
 
-pub in-in_order : (rows : List Terms) (p : ℕ → ℤ) → In (in_order rows) p ↔ In rows p
-in-in_order rows p = let both = in-with_rows [] rows p in (λ a. (both.0 a).1, λ a. both.1 (tt, a))
+pub in-ordered_rows : (rows : List Terms) (p : ℕ → ℤ) → In (ordered_rows rows) p ↔ In rows p
+in-ordered_rows rows p = let both = in-with_lowest_rows [] rows p in (λ a. (both.0 a).1, λ a. both.1 (tt, a))
 
 -- ---- rows without a coordinate
 
@@ -112,7 +112,7 @@ lacks_lowest at row e =
     both : (z : ℤ) → pos 0 ≤ℤ z → z ≤ℤ pos 0 → z ≡ pos 0
     both z a b = omega (arith, ints)
 
-pub lacks-with_rows : (at : ℕ) (before rows : List Terms) → Lacks at before → Lacks at rows → Lacks at (with_rows before rows)
-lacks-with_rows at before [] a b = a
-lacks-with_rows at before (row ∷ rows) a b = lacks-with_rows at (with_row before (lowest_terms row)) rows
+pub lacks-with_lowest_rows : (at : ℕ) (before rows : List Terms) → Lacks at before → Lacks at rows → Lacks at (with_lowest_rows before rows)
+lacks-with_lowest_rows at before [] a b = a
+lacks-with_lowest_rows at before (row ∷ rows) a b = lacks-with_lowest_rows at (with_row before (lowest_terms row)) rows
     (every-with_row (λ r. coefficient r at ≡ pos 0) before (lowest_terms row) (lacks_lowest at row b.0) a) b.1

@@ -7,16 +7,11 @@ use Rattle.it_eliminate.proofs.FurthestBounds.{uncancel}
 use Rattle.it_space.specs.Rows.{Terms, coefficient, value}
 use Rattle.it_space.specs.Cancelling.{times_up, times_down}
 use Rattle.it_space.proofs.TermLemmas.{coefficient-cancelled_row, same_number}
-use Rattle.it_eliminate.proofs.OrderLemmas.{in-in_order, lacks-with_rows}
+use Rattle.it_eliminate.proofs.OrderLemmas.{in-ordered_rows, lacks-with_lowest_rows}
 use Rattle.it_eliminate.proofs.MemberLemmas.{every_member, member_every}
 use Rattle.it_eliminate.proofs.StepLemmas.{results_all, next_lacks, step_exact}
-use Rattle.it_eliminate.specs.Elimination.{results, next_list, in_order, Member}
+use Rattle.it_eliminate.specs.Elimination.{results, next_list, list_after, ordered_rows, Member}
 use Rattle.it_eliminate.specs.Projections.{In, Extends, Lacks}
-
--- the list after the rates at some coordinates, one after the other
-abbrev pub after_rates : List ℕ → List Terms → List Terms
-after_rates [] rows = rows
-after_rates (at ∷ ats) rows = after_rates ats (next_list at rows)
 
 -- ---- eliminated coordinates stay away
 
@@ -24,18 +19,18 @@ mix_none : (a b : ℕ) (x y : ℤ) → x ≡ pos 0 → y ≡ pos 0 → pos a *�
 mix_none a b x y e f = ap (λ z. pos a *ℤ z +ℤ pos b *ℤ y) e ∙ ap (λ z. pos a *ℤ pos 0 +ℤ pos b *ℤ z) f ∙ omega (arith, ints)
 
 pub next_keeps_lacking : (c at : ℕ) (rows : List Terms) → Lacks c rows → Lacks c (next_list at rows)
-next_keeps_lacking c at rows a = lacks-with_rows c [] (results at rows) tt (member_every (λ (row : Terms). coefficient row c ≡ pos 0) (results at rows) (results_all (λ row. coefficient row c ≡ pos 0) at rows
+next_keeps_lacking c at rows a = lacks-with_lowest_rows c [] (results at rows) tt (member_every (λ (row : Terms). coefficient row c ≡ pos 0) (results at rows) (results_all (λ row. coefficient row c ≡ pos 0) at rows
     (λ row m e. every_member (λ (r : Terms). coefficient r c ≡ pos 0) rows row a m)
     (λ up down m n h k. coefficient-cancelled_row at up down c
     ∙ mix_none (times_up at up down) (times_down at up down) (coefficient up c) (coefficient down c) (every_member (λ (r : Terms). coefficient r c ≡ pos 0) rows up a m) (every_member (λ (r : Terms). coefficient r c ≡ pos 0) rows down a n))))
 
-pub after_keeps_lacking : (c : ℕ) (ats : List ℕ) (rows : List Terms) → Lacks c rows → Lacks c (after_rates ats rows)
+pub after_keeps_lacking : (c : ℕ) (ats : List ℕ) (rows : List Terms) → Lacks c rows → Lacks c (list_after ats rows)
 after_keeps_lacking c [] rows a = a
 after_keeps_lacking c (at ∷ ats) rows a = after_keeps_lacking c ats (next_list at rows) (next_keeps_lacking c at rows a)
 
-pub after_lacks : (c : ℕ) (ats : List ℕ) (rows : List Terms) → Member c ats → Lacks c (after_rates ats rows)
+pub after_lacks : (c : ℕ) (ats : List ℕ) (rows : List Terms) → Member c ats → Lacks c (list_after ats rows)
 after_lacks c [] rows m = absurd m
-after_lacks c (at ∷ ats) rows (inl e) = subst (λ (n : ℕ). Lacks n (after_rates ats (next_list at rows))) (sym e) (after_keeps_lacking at ats (next_list at rows) (next_lacks at rows))
+after_lacks c (at ∷ ats) rows (inl e) = subst (λ (n : ℕ). Lacks n (list_after ats (next_list at rows))) (sym e) (after_keeps_lacking at ats (next_list at rows) (next_lacks at rows))
 after_lacks c (at ∷ ats) rows (inr m) = after_lacks c ats (next_list at rows) m
 
 -- ---- points
@@ -136,7 +131,7 @@ split_extension at ats rows p x = by (member_number at ats)
         off : (c : ℕ) → c ≢ at → x.point c ≡ q c
         off c n = sym (ap (λ b. cond b (pos x.factor *ℤ p c) (x.point c)) (differ c at n))
 
-pub rates_exact : (ats : List ℕ) (rows : List Terms) (p : ℕ → ℤ) → In (after_rates ats rows) p ↔ Extends ats rows p
+pub rates_exact : (ats : List ℕ) (rows : List Terms) (p : ℕ → ℤ) → In (list_after ats rows) p ↔ Extends ats rows p
 rates_exact [] rows p = (none_extended rows p, extended_none rows p)
 rates_exact (at ∷ ats) rows p =
     let later = rates_exact ats (next_list at rows) p in (
@@ -149,12 +144,12 @@ extends_same : (ats : List ℕ) (xs ys : List Terms) (p : ℕ → ℤ) → ((q :
 extends_same ats xs ys p f x = record { factor = x.factor; some = x.some; point = x.point; kept = x.kept; meets = f x.point x.meets }
 
 -- the region holds exactly the points that extend
-pub projection_exact : (ats : List ℕ) (rows : List Terms) (p : ℕ → ℤ) → In (after_rates ats (in_order rows)) p ↔ Extends ats rows p
+pub projection_exact : (ats : List ℕ) (rows : List Terms) (p : ℕ → ℤ) → In (list_after ats (ordered_rows rows)) p ↔ Extends ats rows p
 projection_exact ats rows p =
-    let r = rates_exact ats (in_order rows) p in (
-      λ a. extends_same ats (in_order rows) rows p (λ q. (in-in_order rows q).0) (r.0 a),
-      λ x. r.1 (extends_same ats rows (in_order rows) p (λ q. (in-in_order rows q).1) x),
+    let r = rates_exact ats (ordered_rows rows) p in (
+      λ a. extends_same ats (ordered_rows rows) rows p (λ q. (in-ordered_rows rows q).0) (r.0 a),
+      λ x. r.1 (extends_same ats rows (ordered_rows rows) p (λ q. (in-ordered_rows rows q).1) x),
     )
 
-pub projection_lacks : (c : ℕ) (ats : List ℕ) (rows : List Terms) → Member c ats → Lacks c (after_rates ats (in_order rows))
-projection_lacks c ats rows m = after_lacks c ats (in_order rows) m
+pub projection_lacks : (c : ℕ) (ats : List ℕ) (rows : List Terms) → Member c ats → Lacks c (list_after ats (ordered_rows rows))
+projection_lacks c ats rows m = after_lacks c ats (ordered_rows rows) m

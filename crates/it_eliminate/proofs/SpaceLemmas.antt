@@ -1,15 +1,14 @@
 -- The coordinates of the rows stay those of the space.
 use Rattle.std.proofs.Common.{ℕ, zero, suc, ◌≤◌, ℤ, pos, negsuc, ◌+ℤ◌, List, [], ◌∷◌, ◌++◌, Bool, true, false, nat_eq, nat_lt, All, if◌then◌else◌}
 use Rattle.std.specs.List.{AllByRecursion as Every}
-use Rattle.it_space.specs.Rows.{Terms, IsUpTo, term_at}
+use Rattle.it_space.specs.Rows.{Terms, IsUpTo, single_term}
 use Rattle.it_space.specs.Divisors.{content, divided_terms, lowest_terms}
 use Rattle.it_space.specs.Cancelling.{times_up, times_down, with_term, row_sum, row_multiple, cancelled_row}
 use Rattle.it_eliminate.proofs.MemberLemmas.{every_member, member_every}
 use Rattle.it_space.proofs.EveryLemmas.{every_of, all_of}
 use Rattle.it_eliminate.proofs.OrderLemmas.{every-with_row}
 use Rattle.it_eliminate.proofs.StepLemmas.{results_all}
-use Rattle.it_eliminate.proofs.RateLemmas.{after_rates}
-use Rattle.it_eliminate.specs.Elimination.{with_row, with_rows, results, next_list, in_order}
+use Rattle.it_eliminate.specs.Elimination.{with_row, with_lowest_rows, results, next_list, ordered_rows, list_after}
 
 module _ (size : ℕ) where
   abbrev Has : ℕ × ℤ → Type 0
@@ -18,10 +17,10 @@ module _ (size : ℕ) where
   abbrev UpTo : Terms → Type 0
   UpTo ts = Every Has ts
 
-  up_to-term_at : (c : ℕ) (x : ℤ) (ts : Terms) → (1 ≤ c) × (c ≤ size) → UpTo ts → UpTo (term_at c x ++ ts)
-  up_to-term_at c (pos zero) ts h a = a
-  up_to-term_at c (pos (suc n)) ts h a = (h, a)
-  up_to-term_at c (negsuc n) ts h a = (h, a)
+  up_to-single_term : (c : ℕ) (x : ℤ) (ts : Terms) → (1 ≤ c) × (c ≤ size) → UpTo ts → UpTo (single_term c x ++ ts)
+  up_to-single_term c (pos zero) ts h a = a
+  up_to-single_term c (pos (suc n)) ts h a = (h, a)
+  up_to-single_term c (negsuc n) ts h a = (h, a)
 
   up_to-with_term : (c : ℕ) (x : ℤ) (ts : Terms) → (1 ≤ c) × (c ≤ size) → UpTo ts → UpTo (with_term c x ts)
   up_to-with_term c (pos zero) [] h a = tt
@@ -29,9 +28,9 @@ module _ (size : ℕ) where
   up_to-with_term c (negsuc n) [] h a = (h, tt)
   up_to-with_term c x (t ∷ ts) h a = by (nat_lt c t.0) (nat_eq c t.0) (up_to-with_term c x ts h a.1)
     where
-      by : (p q : Bool) → UpTo (with_term c x ts) → UpTo (if p then term_at c x ++ t ∷ ts else if q then term_at c (x +ℤ t.1) ++ ts else t ∷ with_term c x ts)
-      by true q ih = up_to-term_at c x (t ∷ ts) h a
-      by false true ih = up_to-term_at c (x +ℤ t.1) ts h a.1
+      by : (p q : Bool) → UpTo (with_term c x ts) → UpTo (if p then single_term c x ++ t ∷ ts else if q then single_term c (x +ℤ t.1) ++ ts else t ∷ with_term c x ts)
+      by true q ih = up_to-single_term c x (t ∷ ts) h a
+      by false true ih = up_to-single_term c (x +ℤ t.1) ts h a.1
       by false false ih = (a.0, ih)
 
   up_to-row_sum : (xs ys : Terms) → UpTo xs → UpTo ys → UpTo (row_sum xs ys)
@@ -54,15 +53,15 @@ module _ (size : ℕ) where
       by k [] a = tt
       by k (t ∷ ts) a = (a.0, by k ts a.1)
 
-  up_to-with_rows : (before rows : List Terms) → Every UpTo before → Every UpTo rows → Every UpTo (with_rows before rows)
-  up_to-with_rows before [] a b = a
-  up_to-with_rows before (row ∷ rows) a b = up_to-with_rows (with_row before (lowest_terms row)) rows (every-with_row UpTo before (lowest_terms row) (up_to-lowest_terms row b.0) a) b.1
+  up_to-with_lowest_rows : (before rows : List Terms) → Every UpTo before → Every UpTo rows → Every UpTo (with_lowest_rows before rows)
+  up_to-with_lowest_rows before [] a b = a
+  up_to-with_lowest_rows before (row ∷ rows) a b = up_to-with_lowest_rows (with_row before (lowest_terms row)) rows (every-with_row UpTo before (lowest_terms row) (up_to-lowest_terms row b.0) a) b.1
 
   up_to-next : (at : ℕ) (rows : List Terms) → Every UpTo rows → Every UpTo (next_list at rows)
-  up_to-next at rows a = up_to-with_rows [] (results at rows) tt (member_every UpTo (results at rows) (results_all UpTo at rows (λ row m e. every_member UpTo rows row a m)
+  up_to-next at rows a = up_to-with_lowest_rows [] (results at rows) tt (member_every UpTo (results at rows) (results_all UpTo at rows (λ row m e. every_member UpTo rows row a m)
       (λ up down m n h k. up_to-cancelled_row at up down (every_member UpTo rows up a m) (every_member UpTo rows down a n))))
 
-  up_to-after : (ats : List ℕ) (rows : List Terms) → Every UpTo rows → Every UpTo (after_rates ats rows)
+  up_to-after : (ats : List ℕ) (rows : List Terms) → Every UpTo rows → Every UpTo (list_after ats rows)
   up_to-after [] rows a = a
   up_to-after (at ∷ ats) rows a = up_to-after ats (next_list at rows) (up_to-next at rows a)
 
@@ -80,5 +79,5 @@ module _ (size : ℕ) where
       deep [] a = tt
       deep (r ∷ rows) a = (all_of Has r a.0, deep rows a.1)
 
-  pub projection_up_to : (ats : List ℕ) (rows : List Terms) → All (IsUpTo size) rows → All (IsUpTo size) (after_rates ats (in_order rows))
-  projection_up_to ats rows a = to_all (after_rates ats (in_order rows)) (up_to-after ats (in_order rows) (up_to-with_rows [] rows tt (to_each rows a)))
+  pub projection_up_to : (ats : List ℕ) (rows : List Terms) → All (IsUpTo size) rows → All (IsUpTo size) (list_after ats (ordered_rows rows))
+  projection_up_to ats rows a = to_all (list_after ats (ordered_rows rows)) (up_to-after ats (ordered_rows rows) (up_to-with_lowest_rows [] rows tt (to_each rows a)))

@@ -14,44 +14,44 @@ use Rattle.it_eliminate.proofs.FurthestBounds.{uncancel, product_least, extends}
 use Rattle.it_space.proofs.MixLemmas.{factors, cancelled_gone}
 use Rattle.it_space.proofs.TermLemmas.{value-cancelled_row, coefficient-cancelled_row, same_number}
 use Rattle.it_eliminate.proofs.MemberLemmas.{every_member, member_every, member-front, member-back, member_either, member-map, member_mapped, member-filter, member_filtered, member-flat_map, member_flat_mapped}
-use Rattle.it_eliminate.proofs.OrderLemmas.{in-in_order, lacks-with_rows}
-use Rattle.it_eliminate.specs.Elimination.{is_up, is_down, is_flat, pairs_of, pairs, results, next_list, Member}
+use Rattle.it_eliminate.proofs.OrderLemmas.{in-ordered_rows, lacks-with_lowest_rows}
+use Rattle.it_eliminate.specs.Elimination.{is_positive_at, is_negative_at, is_zero_at, pairs_of, cancelled_pairs, results, next_list, Member}
 use Rattle.it_eliminate.specs.Projections.{In, Extends, Lacks}
 
 -- ---- the tests
 
-pub up_is : (at : ℕ) (row : Terms) → is_up at row ≡ true → pos 0 <ℤ coefficient row at
-up_is at row e = is (coefficient row at) e
+pub positive_from_test : (at : ℕ) (row : Terms) → is_positive_at at row ≡ true → pos 0 <ℤ coefficient row at
+positive_from_test at row e = is (coefficient row at) e
   where
     is : (z : ℤ) → lt_z (pos 0) z ≡ true → pos 0 <ℤ z
     is z h = grind (arith, ints)
 
-pub is_up_at : (at : ℕ) (row : Terms) → pos 0 <ℤ coefficient row at → is_up at row ≡ true
-is_up_at at row e = is (coefficient row at) e
+pub test_from_positive : (at : ℕ) (row : Terms) → pos 0 <ℤ coefficient row at → is_positive_at at row ≡ true
+test_from_positive at row e = is (coefficient row at) e
   where
     is : (z : ℤ) → pos 0 <ℤ z → lt_z (pos 0) z ≡ true
     is z h = grind (arith, ints)
 
-pub down_is : (at : ℕ) (row : Terms) → is_down at row ≡ true → coefficient row at <ℤ pos 0
-down_is at row e = is (coefficient row at) e
+pub negative_from_test : (at : ℕ) (row : Terms) → is_negative_at at row ≡ true → coefficient row at <ℤ pos 0
+negative_from_test at row e = is (coefficient row at) e
   where
     is : (z : ℤ) → lt_z z (pos 0) ≡ true → z <ℤ pos 0
     is z h = grind (arith, ints)
 
-pub is_down_at : (at : ℕ) (row : Terms) → coefficient row at <ℤ pos 0 → is_down at row ≡ true
-is_down_at at row e = is (coefficient row at) e
+pub test_from_negative : (at : ℕ) (row : Terms) → coefficient row at <ℤ pos 0 → is_negative_at at row ≡ true
+test_from_negative at row e = is (coefficient row at) e
   where
     is : (z : ℤ) → z <ℤ pos 0 → lt_z z (pos 0) ≡ true
     is z h = grind (arith, ints)
 
-pub flat_is : (at : ℕ) (row : Terms) → is_flat at row ≡ true → coefficient row at ≡ pos 0
-flat_is at row e = is (coefficient row at) e
+pub zero_from_test : (at : ℕ) (row : Terms) → is_zero_at at row ≡ true → coefficient row at ≡ pos 0
+zero_from_test at row e = is (coefficient row at) e
   where
     is : (z : ℤ) → int_eq z (pos 0) ≡ true → z ≡ pos 0
     is z h = grind (arith, ints)
 
-pub is_flat_at : (at : ℕ) (row : Terms) → coefficient row at ≡ pos 0 → is_flat at row ≡ true
-is_flat_at at row e = is (coefficient row at) e
+pub test_from_zero : (at : ℕ) (row : Terms) → coefficient row at ≡ pos 0 → is_zero_at at row ≡ true
+test_from_zero at row e = is (coefficient row at) e
   where
     is : (z : ℤ) → z ≡ pos 0 → int_eq z (pos 0) ≡ true
     is z h = grind (arith, ints)
@@ -60,30 +60,30 @@ is_flat_at at row e = is (coefficient row at) e
 
 pub flat_member : (at : ℕ) (rows : List Terms) (row : Terms) → Member row rows → coefficient row at ≡ pos 0 → Member row (results at rows)
 unfolding results
-flat_member at rows row m e = member-front row (filter (is_flat at) rows) (pairs at rows) (member-filter (is_flat at) row rows m (is_flat_at at row e))
+flat_member at rows row m e = member-front row (filter (is_zero_at at) rows) (cancelled_pairs at rows) (member-filter (is_zero_at at) row rows m (test_from_zero at row e))
 
 pub pair_member : (at : ℕ) (rows : List Terms) (up down : Terms) → Member up rows → Member down rows → pos 0 <ℤ coefficient up at → coefficient down at <ℤ pos 0 → Member (cancelled_row at up down) (results at rows)
 unfolding results
-pair_member at rows up down m n h k = member-back (cancelled_row at up down) (filter (is_flat at) rows) (pairs at rows)
-    (member-flat_map (λ (r : Terms). pairs_of at r rows) up (cancelled_row at up down) (filter (is_up at) rows) (member-filter (is_up at) up rows m (is_up_at at up h))
-    (member-map (cancelled_row at up) down (filter (is_down at) rows) (member-filter (is_down at) down rows n (is_down_at at down k))))
+pair_member at rows up down m n h k = member-back (cancelled_row at up down) (filter (is_zero_at at) rows) (cancelled_pairs at rows)
+    (member-flat_map (λ (r : Terms). pairs_of at r rows) up (cancelled_row at up down) (filter (is_positive_at at) rows) (member-filter (is_positive_at at) up rows m (test_from_positive at up h))
+    (member-map (cancelled_row at up) down (filter (is_negative_at at) rows) (member-filter (is_negative_at at) down rows n (test_from_negative at down k))))
 
 -- what holds of each row without the coordinate and of each cancelled pair holds of each result
 pub results_all : (P : Terms → Type 0) (at : ℕ) (rows : List Terms) → ((row : Terms) → Member row rows → coefficient row at ≡ pos 0 → P row)
     → ((up down : Terms) → Member up rows → Member down rows → pos 0 <ℤ coefficient up at → coefficient down at <ℤ pos 0 → P (cancelled_row at up down))
     → (row : Terms) → Member row (results at rows) → P row
 unfolding results
-results_all P at rows f g row m = ⊎_elim flat (λ k. pair (member_flat_mapped (λ (r : Terms). pairs_of at r rows) row (filter (is_up at) rows) k)) (member_either row (filter (is_flat at) rows) (pairs at rows) m)
+results_all P at rows f g row m = ⊎_elim flat (λ k. pair (member_flat_mapped (λ (r : Terms). pairs_of at r rows) row (filter (is_positive_at at) rows) k)) (member_either row (filter (is_zero_at at) rows) (cancelled_pairs at rows) m)
   where
-    flat : Member row (filter (is_flat at) rows) → P row
-    flat k = let r = member_filtered (is_flat at) row rows k in f row r.0 (flat_is at row r.1)
+    flat : Member row (filter (is_zero_at at) rows) → P row
+    flat k = let r = member_filtered (is_zero_at at) row rows k in f row r.0 (zero_from_test at row r.1)
 
-    pair : ((up : Terms) × Member up (filter (is_up at) rows) × Member row (pairs_of at up rows)) → P row
+    pair : ((up : Terms) × Member up (filter (is_positive_at at) rows) × Member row (pairs_of at up rows)) → P row
     pair s =
-        let u = member_filtered (is_up at) s.0 rows s.1 in
-        let d = member_mapped (cancelled_row at s.0) row (filter (is_down at) rows) s.2 in
-        let w = member_filtered (is_down at) d.0 rows d.1 in
-        subst (λ (r : Terms). P r) (sym d.2) (g s.0 d.0 u.0 w.0 (up_is at s.0 u.1) (down_is at d.0 w.1))
+        let u = member_filtered (is_positive_at at) s.0 rows s.1 in
+        let d = member_mapped (cancelled_row at s.0) row (filter (is_negative_at at) rows) s.2 in
+        let w = member_filtered (is_negative_at at) d.0 rows d.1 in
+        subst (λ (r : Terms). P r) (sym d.2) (g s.0 d.0 u.0 w.0 (positive_from_test at s.0 u.1) (negative_from_test at d.0 w.1))
 
 -- no result has the coordinate
 pub results_lack : (at : ℕ) (rows : List Terms) → Lacks at (results at rows)
@@ -91,7 +91,7 @@ results_lack at rows = member_every (λ (row : Terms). coefficient row at ≡ po
     (λ up down m n h k. coefficient-cancelled_row at up down at ∙ cancelled_gone at up down h k))
 
 pub next_lacks : (at : ℕ) (rows : List Terms) → Lacks at (next_list at rows)
-next_lacks at rows = lacks-with_rows at [] (results at rows) tt (results_lack at rows)
+next_lacks at rows = lacks-with_lowest_rows at [] (results at rows) tt (results_lack at rows)
 
 -- ---- values with the coordinate apart
 
@@ -238,4 +238,4 @@ extending at rows p h = of_pair (extends (map (apart at p) rows) flat pair)
     of_pair s = of_factor s.0 s.1 s.2 s.3
 
 pub step_exact : (at : ℕ) (rows : List Terms) (p : ℕ → ℤ) → In (next_list at rows) p ↔ Extends (at ∷ []) rows p
-step_exact at rows p = let o = in-in_order (results at rows) p in (λ a. extending at rows p (o.0 a), λ x. o.1 (after_extending at rows p x))
+step_exact at rows p = let o = in-ordered_rows (results at rows) p in (λ a. extending at rows p (o.0 a), λ x. o.1 (after_extending at rows p x))

@@ -9,6 +9,7 @@ use Rattle.it_space.specs.Rows.{Terms, coefficient}
 use Rattle.it_space.specs.Divisors.{lowest_terms}
 use Rattle.it_space.specs.Cancelling.{cancelled_row, CancelFits}
 
+-- x stands in a list
 abbrev pub Member : {X : Type 0} → X → List X → Type 0
 Member x [] = ⊥
 Member x (y ∷ ys) = (x ≡ y) ⊎ Member x ys
@@ -23,38 +24,46 @@ with_row rows [] = rows
 with_row rows (t ∷ ts) = if list_any (is_same (t ∷ ts)) rows then rows else rows ++ (t ∷ ts) ∷ []
 
 -- each of some rows in turn, divided by the common divisor of its coefficients
-abbrev pub with_rows : List Terms → List Terms → List Terms
-with_rows before [] = before
-with_rows before (row ∷ rows) = with_rows (with_row before (lowest_terms row)) rows
+abbrev pub with_lowest_rows : List Terms → List Terms → List Terms
+with_lowest_rows before [] = before
+with_lowest_rows before (row ∷ rows) = with_lowest_rows (with_row before (lowest_terms row)) rows
 
 -- rows in order: in lowest terms, without zero rows and doubles
-abbrev pub in_order : List Terms → List Terms
-in_order rows = with_rows [] rows
+abbrev pub ordered_rows : List Terms → List Terms
+ordered_rows rows = with_lowest_rows [] rows
 
-abbrev pub is_up : ℕ → Terms → Bool
-is_up at row = lt_z (pos 0) (coefficient row at)
+-- whether the coefficient at a coordinate is above 0
+abbrev pub is_positive_at : ℕ → Terms → Bool
+is_positive_at at row = lt_z (pos 0) (coefficient row at)
 
-abbrev pub is_down : ℕ → Terms → Bool
-is_down at row = lt_z (coefficient row at) (pos 0)
+-- whether it is below 0
+abbrev pub is_negative_at : ℕ → Terms → Bool
+is_negative_at at row = lt_z (coefficient row at) (pos 0)
 
-abbrev pub is_flat : ℕ → Terms → Bool
-is_flat at row = int_eq (coefficient row at) (pos 0)
+-- whether it is 0
+abbrev pub is_zero_at : ℕ → Terms → Bool
+is_zero_at at row = int_eq (coefficient row at) (pos 0)
 
 -- a row that is positive at the coordinate, cancelled with each row that is negative there
 abbrev pub pairs_of : ℕ → Terms → List Terms → List Terms
-pairs_of at up rows = map (cancelled_row at up) (filter (is_down at) rows)
+pairs_of at up rows = map (cancelled_row at up) (filter (is_negative_at at) rows)
 
 -- each positive row, cancelled with each negative one
-abbrev pub pairs : ℕ → List Terms → List Terms
-pairs at rows = flat_map (λ up. pairs_of at up rows) (filter (is_up at) rows)
+abbrev pub cancelled_pairs : ℕ → List Terms → List Terms
+cancelled_pairs at rows = flat_map (λ up. pairs_of at up rows) (filter (is_positive_at at) rows)
 
 -- the rows without the coordinate, then the pairs
 unfoldable pub results : ℕ → List Terms → List Terms
-results at rows = filter (is_flat at) rows ++ pairs at rows
+results at rows = filter (is_zero_at at) rows ++ cancelled_pairs at rows
 
 -- the list after the rate at a coordinate
 abbrev pub next_list : ℕ → List Terms → List Terms
-next_list at rows = in_order (results at rows)
+next_list at rows = ordered_rows (results at rows)
+
+-- the list after the rates at some coordinates, one after the other
+abbrev pub list_after : List ℕ → List Terms → List Terms
+list_after [] rows = rows
+list_after (at ∷ ats) rows = list_after ats (next_list at rows)
 
 -- no pair is wide
 abbrev pub PairsFit : ℕ → List Terms → Type 0
@@ -68,8 +77,8 @@ pub data EliminatedView : Type 0 where
 
 -- what elimination of rates from rows in order ends with: the first rate with a wide pair or, failing that, with more than `most`
 -- rows after it, or the list after all; rate r is at coordinate `base` + r
-abbrev pub Ends : ℕ → ℕ → List Terms → List ℕ → EliminatedView → Type 0
-Ends base most rows [] end = end ≡ Region rows
-Ends base most rows (r ∷ rs) end = ((¬ (PairsFit (base + r) rows)) × (end ≡ Wide r))
+abbrev pub EliminationEnds : ℕ → ℕ → List Terms → List ℕ → EliminatedView → Type 0
+EliminationEnds base most rows [] end = end ≡ Region rows
+EliminationEnds base most rows (r ∷ rs) end = ((¬ (PairsFit (base + r) rows)) × (end ≡ Wide r))
     ⊎ ((PairsFit (base + r) rows × (most < length (next_list (base + r) rows)) × (end ≡ Rows r))
-    ⊎ (PairsFit (base + r) rows × (length (next_list (base + r) rows) ≤ most) × Ends base most (next_list (base + r) rows) rs end))
+    ⊎ (PairsFit (base + r) rows × (length (next_list (base + r) rows) ≤ most) × EliminationEnds base most (next_list (base + r) rows) rs end))

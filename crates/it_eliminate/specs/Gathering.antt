@@ -6,7 +6,7 @@ use Rattle.it_space.specs.Rows.{Terms, IsCanonical, coefficient}
 use Rattle.it_space.specs.Cancelling.{cancelled_row, CancelFits}
 use Rattle.it_eliminate.specs.declared.types.RateEnd.{RateEnd}
 use Rattle.it_eliminate.specs.declared.types.RateEnd.TheVariants as ends
-use Rattle.it_eliminate.specs.Elimination.{with_rows, is_up, is_down, is_flat, next_list, PairsFit}
+use Rattle.it_eliminate.specs.Elimination.{with_lowest_rows, is_positive_at, is_negative_at, is_zero_at, next_list, PairsFit}
 
 -- the rows of an index set of terms
 abbrev pub rows_of : List (Vec (ℕ × ℤ)) → List Terms
@@ -14,15 +14,15 @@ rows_of vs = map (λ v. v.items) vs
 
 -- a row that lacks the coordinate
 abbrev pub flat_of : ℕ → Terms → List Terms
-flat_of at row = if is_flat at row then row ∷ [] else []
+flat_of at row = if is_zero_at at row then row ∷ [] else []
 
 -- what cancels of two rows
 abbrev pub pair_of : ℕ → Terms → Terms → List Terms
-pair_of at up down = if is_down at down then cancelled_row at up down ∷ [] else []
+pair_of at up down = if is_negative_at at down then cancelled_row at up down ∷ [] else []
 
 -- what cancels of one row and all
 abbrev pub up_pairs : ℕ → List Terms → Terms → List Terms
-up_pairs at rows up = if is_up at up then flat_map (pair_of at up) rows else []
+up_pairs at rows up = if is_positive_at at up then flat_map (pair_of at up) rows else []
 
 -- a row cancels with a positive one, if it is negative
 abbrev pub DownFits : ℕ → Terms → Terms → Type 0
@@ -33,13 +33,13 @@ abbrev pub UpFits : ℕ → List Terms → Terms → Type 0
 UpFits at rows up = pos 0 <ℤ coefficient up at → Every (DownFits at up) rows
 
 -- the rows are the exact list, or both are more than `most`
-pub record IsKept (most : ℕ) (exact kept : List Terms) : Type 0 where
+pub record IsKeptList (most : ℕ) (exact kept : List Terms) : Type 0 where
   pub is : (kept ≡ exact) ⊎ ((most < length kept) × (most < length exact))
   pub canonical : Every IsCanonical kept
 
 -- rows were put in order behind what is kept
 pub record Gathers (most : ℕ) (more old new : List Terms) : Type 0 where
-  pub keeps : (exact : List Terms) → IsKept most exact old → IsKept most (with_rows exact more) new
+  pub keeps : (exact : List Terms) → IsKeptList most exact old → IsKeptList most (with_lowest_rows exact more) new
 
 -- the list after the rate at a coordinate, or what keeps from it
 abbrev pub IsRateEnd : ℕ → ℕ → List Terms → RateEnd → Type 0

@@ -2,12 +2,12 @@
 ghost use Rattle.std.specs.Prelude.{◌≡◌, ◌+◌, ◌^◌, ◌<◌, All, IfOk, [], ◌∷◌};
 ghost use Rattle.it_space.specs.Problems.{IsSystem};
 ghost use Rattle.it_space.specs.Spaces.{IsSpace};
-ghost use Rattle.it_eliminate.specs.Elimination.{in_order, Ends};
+ghost use Rattle.it_eliminate.specs.Elimination.{ordered_rows, EliminationEnds};
 ghost use Rattle.it_eliminate.specs.Views.{eliminated_view};
 ghost use Rattle.it_eliminate.specs.Projections.{RegionIsProjection};
 ghost use Rattle.it_eliminate.specs.Gathering.{IsRateEnd};
 
-use crate::ordered::{in_order, row_list};
+use crate::ordered::{ordered_rows, row_list};
 use crate::pairs::next_list;
 use crate::types::{Eliminated, RateEnd};
 use it_space::{Row, RowFault, Space, System};
@@ -23,10 +23,10 @@ pub fn eliminate(
 ) -> Result<Eliminated, AllocError>
     requires system { IsSystem system.now }
     requires rates { All (λ r. r < system.now.space.rates) rates.now }
-    ensures ends { IfOk result (λ e. Ends (2 ^ system.now.space.variables) rows (in_order system.now.rows.items) rates.now (eliminated_view e)) }
+    ensures ends { IfOk result (λ e. EliminationEnds (2 ^ system.now.space.variables) rows (ordered_rows system.now.rows.items) rates.now (eliminated_view e)) }
     ensures region { IfOk result (RegionIsProjection system.now rates.now) }
 {
-    let ordered = in_order(alloc, system.rows.as_slice())?;
+    let ordered = ordered_rows(alloc, system.rows.as_slice())?;
     let mut current = row_list(alloc, &ordered)?;
     for rate in rates {
         match after_rate(
@@ -50,7 +50,7 @@ pub fn eliminate(
 pub fn step(alloc: Global, system: &System, rate: u8, rows: usize) -> Result<Eliminated, AllocError>
     requires system { IsSystem system.now }
     requires rate { rate < system.now.space.rates }
-    ensures ends { IfOk result (λ e. Ends (2 ^ system.now.space.variables) rows (in_order system.now.rows.items) (rate ∷ []) (eliminated_view e)) }
+    ensures ends { IfOk result (λ e. EliminationEnds (2 ^ system.now.space.variables) rows (ordered_rows system.now.rows.items) (rate ∷ []) (eliminated_view e)) }
     ensures region { IfOk result (RegionIsProjection system.now (rate ∷ [])) }
 {
     eliminate(alloc, system, [rate].as_slice(), rows)

@@ -3,12 +3,12 @@
 ghost use Rattle.std.specs.Prelude.{◌≡◌, [], ◌∷◌, length, map, All, OnOk, OnErr, IfOk};
 ghost use Rattle.it_space.specs.Divisors.{lowest_terms};
 ghost use Rattle.it_space.specs.Rows.{IsCanonical};
-ghost use Rattle.it_eliminate.specs.Elimination.{with_row, in_order};
+ghost use Rattle.it_eliminate.specs.Elimination.{with_row, ordered_rows};
 ghost use Rattle.std.specs.List.{AllByRecursion as Every};
 ghost use Rattle.it_eliminate.specs.Gathering.{rows_of, Gathers};
 
 use indexmap::IndexSet;
-use it_space::{Row, normal};
+use it_space::{Row, lowest_terms};
 use std::alloc::{AllocError, Global};
 
 /// Puts a row behind the others, unless it is zero or one of them.
@@ -26,7 +26,7 @@ fn put_lowest(rows: &mut IndexSet<Vec<(u32, i128)>>, row: Row) -> Result<(), All
     ensures rows { OnOk result (rows_of rows.new.keys ≡ with_row (rows_of rows.old.keys) (lowest_terms row)) }
     ensures canonical { OnOk result (Every IsCanonical (rows_of rows.old.keys) → Every IsCanonical (rows_of rows.new.keys)) }
 {
-    put(rows, normal(row).into_terms())?;
+    put(rows, lowest_terms(row).into_terms())?;
     Ok(())
 }
 
@@ -66,8 +66,8 @@ fn rows_from(alloc: Global, lists: &[Vec<(u32, i128)>]) -> Result<Vec<Row>, Allo
 }
 
 /// All rows in order.
-pub fn in_order(alloc: Global, rows: &[Row]) -> Result<IndexSet<Vec<(u32, i128)>>, AllocError>
-    ensures rows { IfOk result (λ s. rows_of s.keys ≡ in_order rows.now) }
+pub fn ordered_rows(alloc: Global, rows: &[Row]) -> Result<IndexSet<Vec<(u32, i128)>>, AllocError>
+    ensures rows { IfOk result (λ s. rows_of s.keys ≡ ordered_rows rows.now) }
     ensures canonical { IfOk result (λ s. Every IsCanonical (rows_of s.keys)) }
 {
     let mut ordered = IndexSet::new(alloc);

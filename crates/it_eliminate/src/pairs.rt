@@ -5,7 +5,7 @@ ghost use Rattle.it_space.specs.Cancelling.{CancelFits};
 ghost use Rattle.it_space.specs.declared.faults.RowFault.TheVariants.{Wide as IsTooWide};
 ghost use Rattle.it_eliminate.specs.Elimination.{next_list, PairsFit};
 ghost use Rattle.std.specs.List.{AllByRecursion as Every, flat_map};
-ghost use Rattle.it_eliminate.specs.Gathering.{rows_of, pair_of, up_pairs, flat_of, DownFits, UpFits, Gathers, IsKept};
+ghost use Rattle.it_eliminate.specs.Gathering.{rows_of, pair_of, up_pairs, flat_of, DownFits, UpFits, Gathers, IsKeptList};
 
 use crate::ordered::gather;
 use indexmap::IndexSet;
@@ -129,7 +129,7 @@ pub fn next_list(
     at: u32,
     most: usize,
 ) -> Result<IndexSet<Vec<(u32, i128)>>, RowFault>
-    ensures list { IfOk result (λ s. IsKept most (next_list at rows.now) (rows_of s.keys)) }
+    ensures list { IfOk result (λ s. IsKeptList most (next_list at rows.now) (rows_of s.keys)) }
     ensures fits { OnOk result (PairsFit at rows.now) }
     ensures wide { IfErr result (λ fault. fault ≡ IsTooWide → ¬ (PairsFit at rows.now)) }
 {

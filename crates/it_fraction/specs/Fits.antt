@@ -24,6 +24,7 @@ pub record PartsFit (a : ℤ) (b : ℕ) (c : ℤ) (d : ℕ) : Type 0 where
   pub total : IsWithin (common_numerator a b c d)
   pub bottom : IsWithin (pos ((b / gcd b d) * (d / shared_rest a b c d)))
 
+-- the numbers that the sum of two fractions names fit
 abbrev pub SumFits : Rational → Rational → Type 0
 SumFits x y = PartsFit x.num x.den y.num y.den
 

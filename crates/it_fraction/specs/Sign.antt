@@ -8,5 +8,6 @@ signum (pos zero) = pos 0
 signum (pos (suc n)) = pos 1
 signum (negsuc n) = negsuc 0
 
+-- the sign of a rational number: that of its numerator
 abbrev pub sign_of : Rational → ℤ
 sign_of q = signum q.num

@@ -4,7 +4,7 @@ ghost use Rattle.it_number.specs.Gcd.{gcd as gcd_of, lcm as lcm_of};
 ghost use Rattle.it_number.specs.Limit.{IsWithin};
 
 use crate::fraction::Wide;
-use crate::steps::{common, product, quotient};
+use crate::steps::{common_divisor, product, quotient};
 
 /// The greatest common divisor, at least 0; 0 of 0 and 0.
 pub fn gcd(a: i128, b: i128) -> i128
@@ -13,7 +13,7 @@ pub fn gcd(a: i128, b: i128) -> i128
     ensures value { result ≡ pos (gcd_of (unsigned_abs a) (unsigned_abs b)) }
     ensures within { IsWithin result }
 {
-    common(a.unsigned_abs(), b.unsigned_abs()) as i128
+    common_divisor(a.unsigned_abs(), b.unsigned_abs()) as i128
 }
 
 /// The least common multiple of two numbers above 0.
@@ -24,6 +24,6 @@ pub fn lcm(a: i128, b: i128) -> Result<i128, Wide>
 {
     let left = a.unsigned_abs();
     let right = b.unsigned_abs();
-    let multiple = product(left, quotient(right, common(left, right)))?;
+    let multiple = product(left, quotient(right, common_divisor(left, right)))?;
     Ok(multiple as i128)
 }

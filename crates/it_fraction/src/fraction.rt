@@ -14,7 +14,7 @@ ghost use Rattle.it_fraction.specs.Sign.{sign_of};
 
 use crate::order::compare_parts;
 use crate::products::{parts_product, whole_product};
-use crate::steps::{common, quotient, signed_quotient};
+use crate::steps::{common_divisor, quotient, signed_quotient};
 use crate::sums::{parts_sum, whole_sum};
 use std::cmp::Ordering;
 use std::marker::Model;
@@ -65,7 +65,7 @@ fn reduce(num: i128, den: u128) -> Fraction
     requires den_some { 0 < den }
     ensures { result ≡ quotient num den }
 {
-    let shared = common(num.unsigned_abs(), den);
+    let shared = common_divisor(num.unsigned_abs(), den);
     in_lowest_terms(signed_quotient(num, shared), quotient(den, shared))
 }
 
@@ -90,7 +90,7 @@ impl Fraction {
     }
 
     /// num / den, where den may be below 0.
-    pub fn lowest(num: i128, den: i128) -> Fraction
+    pub fn quotient(num: i128, den: i128) -> Fraction
         requires num_within { IsWithin num }
         requires den_within { IsWithin den }
         requires den_some { den ≢ pos 0 }
@@ -210,7 +210,6 @@ impl Fraction {
         self.mul(other.inverse())
     }
 
-    // 1 over this number
     /// 1 divided by the number.
     fn inverse(self) -> Fraction
         requires { self.num ≢ pos 0 }
@@ -240,7 +239,6 @@ impl Fraction {
         }
     }
 
-    // how the absolute values compare
     /// How the absolute values compare.
     fn compare_size(self, other: Fraction) -> Ordering
         ensures { result ≡ nat_cmp (unsigned_abs self.num * other.den) (unsigned_abs other.num * self.den) }

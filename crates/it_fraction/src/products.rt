@@ -6,7 +6,7 @@ ghost use Rattle.it_rational.specs.Rational.{quotient, whole};
 ghost use Rattle.it_fraction.specs.Fits.{IsNarrow};
 
 use crate::fraction::{Fraction, Wide, in_lowest_terms};
-use crate::steps::{common, product, quotient, signed_product, signed_quotient};
+use crate::steps::{common_divisor, product, quotient, signed_product, signed_quotient};
 
 /// The product of a / b and c / d, each in lowest terms.
 pub fn parts_product(a: i128, b: u128, c: i128, d: u128) -> Result<Fraction, Wide>
@@ -18,8 +18,8 @@ pub fn parts_product(a: i128, b: u128, c: i128, d: u128) -> Result<Fraction, Wid
     requires right { IsGcd (unsigned_abs c) d 1 }
     ensures { OkIff result (IsNarrow (quotient (a *ℤ c) (b * d))) (quotient (a *ℤ c) (b * d)) }
 {
-    let left_shared = common(a.unsigned_abs(), d);
-    let right_shared = common(c.unsigned_abs(), b);
+    let left_shared = common_divisor(a.unsigned_abs(), d);
+    let right_shared = common_divisor(c.unsigned_abs(), b);
     let left = signed_quotient(a, left_shared);
     let right = signed_quotient(c, right_shared);
     let top = signed_product(left, right)?;

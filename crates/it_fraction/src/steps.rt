@@ -11,7 +11,7 @@ const LARGEST: u128 = i128::MAX as u128;
 
 /// The greatest common divisor.
 #[tactic(auto, using(crate::proofs::DivisorLemmas::gcd_above, crate::proofs::DivisorLemmas::gcd_of_one))]
-pub fn common(a: u128, b: u128) -> u128
+pub fn common_divisor(a: u128, b: u128) -> u128
     ensures value { result ≡ gcd a b }
     ensures some { 0 < b → 0 < result }
 {
@@ -19,13 +19,13 @@ pub fn common(a: u128, b: u128) -> u128
         return 1;
     }
     match (u64::try_from(a), u64::try_from(b)) {
-        (Ok(a), Ok(b)) => u128::from(short_common(a, b)),
-        _ => long_common(a, b),
+        (Ok(a), Ok(b)) => u128::from(short_common_divisor(a, b)),
+        _ => long_common_divisor(a, b),
     }
 }
 
 /// The same in 64 bits.
-fn short_common(a: u64, b: u64) -> u64
+fn short_common_divisor(a: u64, b: u64) -> u64
     ensures { result ≡ gcd a b }
 {
     let mut larger = a;
@@ -39,7 +39,7 @@ fn short_common(a: u64, b: u64) -> u64
 }
 
 /// The same, in 64 bits as soon as a rest fits.
-fn long_common(a: u128, b: u128) -> u128
+fn long_common_divisor(a: u128, b: u128) -> u128
     ensures { result ≡ gcd a b }
 {
     let mut larger = a;
@@ -52,7 +52,7 @@ fn long_common(a: u128, b: u128) -> u128
     if smaller == 0 {
         return larger;
     }
-    u128::from(short_common(smaller as u64, (larger % smaller) as u64))
+    u128::from(short_common_divisor(smaller as u64, (larger % smaller) as u64))
 }
 
 /// a / k, rounded down.

@@ -6,7 +6,7 @@ ghost use Rattle.it_rational.specs.Rational.{quotient, whole};
 ghost use Rattle.it_fraction.specs.Fits.{PartsFit};
 
 use crate::fraction::{Fraction, Wide, in_lowest_terms};
-use crate::steps::{common, multiple, product, quotient, signed_quotient, sum};
+use crate::steps::{common_divisor, multiple, product, quotient, signed_quotient, sum};
 
 /// The sum of a / b and c / d, each in lowest terms.
 pub fn parts_sum(a: i128, b: u128, c: i128, d: u128) -> Result<Fraction, Wide>
@@ -18,13 +18,13 @@ pub fn parts_sum(a: i128, b: u128, c: i128, d: u128) -> Result<Fraction, Wide>
     requires right { IsGcd (unsigned_abs c) d 1 }
     ensures { OkIff result (PartsFit a b c d) (quotient (a *ℤ pos d +ℤ c *ℤ pos b) (b * d)) }
 {
-    let shared = common(b, d);
+    let shared = common_divisor(b, d);
     let left_factor = quotient(d, shared);
     let right_factor = quotient(b, shared);
     let left = multiple(a, left_factor)?;
     let right = multiple(c, right_factor)?;
     let total = sum(left, right)?;
-    let rest = common(total.unsigned_abs(), shared);
+    let rest = common_divisor(total.unsigned_abs(), shared);
     let bottom = product(right_factor, quotient(d, rest))?;
     Ok(in_lowest_terms(signed_quotient(total, rest), bottom))
 }

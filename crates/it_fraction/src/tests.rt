@@ -27,7 +27,7 @@ fn fraction(parts: Parts) -> Option<Fraction> {
     if num == i128::MIN || den == i128::MIN || den == 0 {
         return None;
     }
-    Some(Fraction::lowest(num, den))
+    Some(Fraction::quotient(num, den))
 }
 
 // what the operations give for two numbers

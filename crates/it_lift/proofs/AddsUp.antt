@@ -19,24 +19,24 @@ use Rattle.it_closure.specs.Collapse.{place, spread_out, AreDependences}
 use Rattle.it_closure.proofs.Places.{place-rate, place-null, place-set, place-zero, null_or_not}
 use Rattle.it_closure.proofs.Meets.{closure_is}
 use Rattle.it_lift.specs.Lifts.{excess, null_sets, sum_over, with_empty, moves_at, moves, AddsUpOverClosed, LiftAddsUp}
-use Rattle.it_lift.proofs.MoveLemmas.{weighted-append, AreWorth, at-worth}
+use Rattle.it_lift.proofs.MoveLemmas.{weighted-append, AreGeneratorValues, at-value}
 
 -- a sum of weights of linear forms is linear
-weighted_linear : (size : ℕ) (g : Generators) → ((i : ℕ) → i < g.count → IsLinear size (g.worth_of i)) → (ws : List (ℕ × ℤ)) → All (λ p. p.0 < g.count) ws
-    → IsLinear size (λ h. combination ws (λ i. g.worth_of i h))
+weighted_linear : (size : ℕ) (g : Generators) → ((i : ℕ) → i < g.count → IsLinear size (g.form i)) → (ws : List (ℕ × ℤ)) → All (λ p. p.0 < g.count) ws
+    → IsLinear size (λ h. combination ws (λ i. g.form i h))
 weighted_linear size g l [] a = linear_zero size
 weighted_linear size g l (w ∷ ws) a =
-    linear-add size (λ h. w.1 *ℤ g.worth_of w.0 h) (λ h. combination ws (λ i. g.worth_of i h))
-    (linear-scale size w.1 (g.worth_of w.0) (l w.0 (All-head (λ p. p.0 < g.count) w ws a))) (weighted_linear size g l ws (All-tail (λ p. p.0 < g.count) w ws a))
+    linear-add size (λ h. w.1 *ℤ g.form w.0 h) (λ h. combination ws (λ i. g.form i h))
+    (linear-scale size w.1 (g.form w.0) (l w.0 (All-head (λ p. p.0 < g.count) w ws a))) (weighted_linear size g l ws (All-tail (λ p. p.0 < g.count) w ws a))
 
 -- what is left over at a map
 abbrev left_over : CertificateView → Form → Generators → Form
-left_over w target g h = w.scale *ℤ target h -ℤ combination w.parts (λ i. g.worth_of i h)
+left_over w target g h = w.scale *ℤ target h -ℤ combination w.parts (λ i. g.form i h)
 
-left_over_linear : (size : ℕ) (target : Form) (g : Generators) (w : CertificateView) → IsLinear size target → ((i : ℕ) → i < g.count → IsLinear size (g.worth_of i)) → All (λ p. p.0 < g.count) w.parts
+left_over_linear : (size : ℕ) (target : Form) (g : Generators) (w : CertificateView) → IsLinear size target → ((i : ℕ) → i < g.count → IsLinear size (g.form i)) → All (λ p. p.0 < g.count) w.parts
     → (h : ℕ → ℤ) → h 0 ≡ pos 0 → left_over w target g h ≡ dot size (excess w target g) h
 left_over_linear size target g w l m a h z =
-    (Rattle.it_polymatroid.proofs.Forms.linear-sub size (λ h. w.scale *ℤ target h) (λ h. combination w.parts (λ i. g.worth_of i h)) (linear-scale size w.scale target l) (weighted_linear size g m w.parts a)).sum h z
+    (Rattle.it_polymatroid.proofs.Forms.linear-sub size (λ h. w.scale *ℤ target h) (λ h. combination w.parts (λ i. g.form i h)) (linear-scale size w.scale target l) (weighted_linear size g m w.parts a)).sum h z
 
 -- a sum of products with differences
 dot-less : (n : ℕ) (f p q : ℕ → ℤ) → dot n f (λ c. p c -ℤ q c) ≡ dot n f p -ℤ dot n f q
@@ -59,16 +59,16 @@ sum_over-append e [] ys = omega (arith, ints)
 sum_over-append e (x ∷ xs) ys = omega (arith, ints, sum_over-append e xs ys)
 
 -- the moves of the first sets
-moves-worth : (n : ℕ) (ds : List Dependence) (h v e : ℕ → ℤ) → AreDependences n ds → AreWorth n ds h v → (m : ℕ) → m ≤ 2 ^ n
+moves-value : (n : ℕ) (ds : List Dependence) (h v e : ℕ → ℤ) → AreDependences n ds → AreGeneratorValues n ds h v → (m : ℕ) → m ≤ 2 ^ n
     → combination (flat_map (λ s. moves_at n ds s (e s)) (span 0 m)) v ≡ dot m e (λ s. h s -ℤ h (closure n ds s))
-moves-worth n ds h v e r w zero l = refl
-moves-worth n ds h v e r w (suc m) l =
+moves-value n ds h v e r w zero l = refl
+moves-value n ds h v e r w (suc m) l =
     let z : 0 + m ≡ m = omega arith in
     let last : List (ℕ × ℤ) = moves_at n ds m (e m) in
     ap (λ ss. combination (flat_map (λ s. moves_at n ds s (e s)) ss) v) (span-last 0 m ∙ ap (λ k. span 0 m ++ k ∷ []) z)
     ∙ ap (λ xs. combination xs v) (flat_map-append (λ s. moves_at n ds s (e s)) (span 0 m) (m ∷ []))
     ∙ weighted-append (flat_map (λ s. moves_at n ds s (e s)) (span 0 m)) (last ++ []) v
-    ∙ ap₂ (λ x y. x +ℤ y) (moves-worth n ds h v e r w m (omega arith)) (weighted-append last [] v ∙ ap (λ x. x +ℤ pos 0) (at-worth n ds h v m (e m) r w (omega arith)))
+    ∙ ap₂ (λ x y. x +ℤ y) (moves-value n ds h v e r w m (omega arith)) (weighted-append last [] v ∙ ap (λ x. x +ℤ pos 0) (at-value n ds h v m (e m) r w (omega arith)))
     ∙ swap (dot m e (λ s. h s -ℤ h (closure n ds s))) (e m *ℤ (h m -ℤ h (closure n ds m)))
   where
     swap : (x y : ℤ) → x +ℤ (y +ℤ pos 0) ≡ y +ℤ x
@@ -182,13 +182,13 @@ linear_spread size n ds f k r l =
 
 -- over closed sets nothing is left over
 none_left : (size n : ℕ) (ds : List Dependence) (target : Form) (g : Generators) (w : CertificateView) → 2 ^ n ≤ size → AreDependences n ds
-    → IsLinear size target → ((i : ℕ) → i < g.count → IsLinear size (g.worth_of i)) → All (λ p. p.0 < g.count) w.parts → AddsUpOverClosed size n ds target g w
+    → IsLinear size target → ((i : ℕ) → i < g.count → IsLinear size (g.form i)) → All (λ p. p.0 < g.count) w.parts → AddsUpOverClosed size n ds target g w
     → (h : ℕ → ℤ) → h 0 ≡ pos 0 → left_over w target g (spread_out n ds h) ≡ pos 0
 none_left size n ds target g w k r l m a up h z =
     let A : Form = λ h. w.scale *ℤ target (spread_out n ds h) in
-    let B : Form = λ h. combination w.parts (λ i. g.worth_of i (spread_out n ds h)) in
+    let B : Form = λ h. combination w.parts (λ i. g.form i (spread_out n ds h)) in
     let la : IsLinear size A = linear-scale size w.scale (λ h. target (spread_out n ds h)) (linear_spread size n ds target k r l) in
-    let lb : IsLinear size B = linear_spread size n ds (λ h. combination w.parts (λ i. g.worth_of i h)) k r (weighted_linear size g m w.parts a) in
+    let lb : IsLinear size B = linear_spread size n ds (λ h. combination w.parts (λ i. g.form i h)) k r (weighted_linear size g m w.parts a) in
     null (A h) (B h) (la.sum h z ∙ dot_from_one size (λ c. A (one_at c)) (λ c. B (one_at c)) h z up ∙ sym (lb.sum h z))
   where
     null : (x y : ℤ) → x ≡ y → x -ℤ y ≡ pos 0
@@ -197,7 +197,7 @@ none_left size n ds target g w k r l m a up h z =
 pub lift_adds_up : LiftAddsUp
 lift_adds_up size n ds target g w k r d l m a up h z =
     let e : ℕ → ℤ = excess w target g in
-    let v : ℕ → ℤ = λ i. g.worth_of i h in
+    let v : ℕ → ℤ = λ i. g.form i h in
     let h' : ℕ → ℤ = spread_out n ds h in
     let z' : h' 0 ≡ pos 0 = ap h (place-zero n ds) ∙ z in
     let here : left_over w target g h ≡ dot size e h = left_over_linear size target g w l m a h z in
@@ -206,12 +206,12 @@ lift_adds_up size n ds target g w k r d l m a up h z =
     let size_is : (size - 2 ^ n) + 2 ^ n ≡ size = omega arith in
     let short : dot size e (λ c. h c -ℤ h (place n ds c)) ≡ dot (2 ^ n) e (λ c. h c -ℤ h (place n ds c)) =
     ap (λ s. dot s e (λ c. h c -ℤ h (place n ds c))) (sym size_is) ∙ dot_short (2 ^ n) (size - 2 ^ n) e (λ c. h c -ℤ h (place n ds c)) (λ c q. null (h c) (h (place n ds c)) (ap h (sym (place-rate n ds c q)))) in
-    let worth : combination (moves n ds e) v ≡ dot (2 ^ n) (with_empty n ds e) (λ c. h c -ℤ h (closure n ds c)) =
-    moves-worth n ds h v (with_empty n ds e) r (record { elemental = λ i q. d.elemental i q h z; equation = λ i x q. d.equation i x q h z }) (2 ^ n) (omega arith) in
+    let elemental_value : combination (moves n ds e) v ≡ dot (2 ^ n) (with_empty n ds e) (λ c. h c -ℤ h (closure n ds c)) =
+    moves-value n ds h v (with_empty n ds e) r (record { elemental = λ i q. d.elemental i q h z; equation = λ i x q. d.equation i x q h z }) (2 ^ n) (omega arith) in
     let even = all_evened n ds e h z in
     let whole = weighted-append w.parts (moves n ds e) v in
     whole_is (w.scale *ℤ target h) (combination w.parts v) (combination (moves n ds e) v) (combination (w.parts ++ moves n ds e) v) (dot size e h)
-    here (worth ∙ sym even ∙ sym short ∙ apart ∙ ap (λ y. dot size e h -ℤ y) closed) whole
+    here (elemental_value ∙ sym even ∙ sym short ∙ apart ∙ ap (λ y. dot size e h -ℤ y) closed) whole
   where
     null : (x y : ℤ) → x ≡ y → x -ℤ y ≡ pos 0
     null x y e = omega (arith, ints, e)

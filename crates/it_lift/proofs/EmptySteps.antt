@@ -11,7 +11,7 @@ use Rattle.it_space.specs.Rows.{one_at}
 use Rattle.it_polymatroid.specs.Elementals.{span}
 use Rattle.it_closure.specs.declared.dependences.Dependence.{Dependence}
 use Rattle.it_closure.specs.Closures.{closure}
-use Rattle.it_lift.specs.Fits.{FallFits, ExcessFits, SumsFit, EmptyFits}
+use Rattle.it_lift.specs.Fits.{FallFits, ExcessFits, PartialSumsFit, EmptyFits}
 use Rattle.it_lift.specs.Lifts.{excess, null_sets, sum_over}
 use native.Mathlib.Nat.{mod-eq_of_lt}
 
@@ -22,7 +22,7 @@ nulls_from n ds m = filter (λ s. nat_eq (closure n ds s) (closure n ds 0)) (spa
 pub record IsEvening (n : ℕ) (ds : List Dependence) (target : Form) (g : Generators) (w : CertificateView) (m : ℕ) (sum : ℤ) : Type 0 where
   pub within : IsWithin sum
   pub excesses : (s : ℕ) → 0 < s → s < m → ExcessFits w target g s
-  pub fits : SumsFit sum (excess w target g) (nulls_from n ds m) ↔ SumsFit (pos 0) (excess w target g) (null_sets n ds)
+  pub fits : PartialSumsFit sum (excess w target g) (nulls_from n ds m) ↔ PartialSumsFit (pos 0) (excess w target g) (null_sets n ds)
   pub total : sum +ℤ sum_over (excess w target g) (nulls_from n ds m) ≡ sum_over (excess w target g) (null_sets n ds)
 
 next : (n : ℕ) (ds : List Dependence) (m : ℕ) (b : Bool) → m < 2 ^ n → nat_eq (closure n ds m) (closure n ds 0) ≡ b → nulls_from n ds m ≡ cond b (m ∷ nulls_from n ds (m + 1)) (nulls_from n ds (m + 1))
@@ -43,7 +43,7 @@ pub evening-more : (n : ℕ) (ds : List Dependence) (target : Form) (g : Generat
     → IsEvening n ds target g w m sum → IsEvening n ds target g w (m + 1) next'
 evening-more n ds target g w m sum x next' true h t e is v k u =
     let split : nulls_from n ds m ≡ m ∷ nulls_from n ds (m + 1) = next n ds m true h t in
-    let f = subst (λ (r : List ℕ). SumsFit sum (excess w target g) r ↔ SumsFit (pos 0) (excess w target g) (null_sets n ds)) split u.fits in
+    let f = subst (λ (r : List ℕ). PartialSumsFit sum (excess w target g) r ↔ PartialSumsFit (pos 0) (excess w target g) (null_sets n ds)) split u.fits in
     let s = subst (λ (r : List ℕ). sum +ℤ sum_over (excess w target g) r ≡ sum_over (excess w target g) (null_sets n ds)) split u.total in
     let k' : next' ≡ sum +ℤ excess w target g m = k ∙ ap (λ y. sum +ℤ y) is in
     let v' : IsWithin (sum +ℤ excess w target g m) = subst (λ (y : ℤ). IsWithin (sum +ℤ y)) is v in
@@ -62,7 +62,7 @@ evening-more n ds target g w m sum x next' false h t e is v k u =
     record {
       within = rw k' u.within;
       excesses = more-excesses w target g m u.excesses e;
-      fits = rw k' (subst (λ (r : List ℕ). SumsFit sum (excess w target g) r ↔ SumsFit (pos 0) (excess w target g) (null_sets n ds)) split u.fits);
+      fits = rw k' (subst (λ (r : List ℕ). PartialSumsFit sum (excess w target g) r ↔ PartialSumsFit (pos 0) (excess w target g) (null_sets n ds)) split u.fits);
       total = rw k' (subst (λ (r : List ℕ). sum +ℤ sum_over (excess w target g) r ≡ sum_over (excess w target g) (null_sets n ds)) split u.total);
     }
   where
@@ -74,7 +74,7 @@ pub evening-stops : (n : ℕ) (ds : List Dependence) (target : Form) (g : Genera
     → x ≡ excess w target g m → ¬ (IsWithin (sum +ℤ cond b x (pos 0))) → IsEvening n ds target g w m sum → ¬ (EmptyFits n ds target g w)
 evening-stops n ds target g w m sum x true h t is v u all =
     let split : nulls_from n ds m ≡ m ∷ nulls_from n ds (m + 1) = next n ds m true h t in
-    let f = subst (λ (r : List ℕ). SumsFit sum (excess w target g) r) split (u.fits.1 all.empty) in
+    let f = subst (λ (r : List ℕ). PartialSumsFit sum (excess w target g) r) split (u.fits.1 all.empty) in
     v (subst (λ (y : ℤ). IsWithin (sum +ℤ y)) (sym is) f.0)
 evening-stops n ds target g w m sum x false h t is v u all = v (let e : sum +ℤ pos 0 ≡ sum = none sum in rw e u.within)
   where
@@ -83,7 +83,7 @@ evening-stops n ds target g w m sum x false h t is v u all = v (let e : sum +ℤ
 
 -- an excess that fits is within the limit
 pub excess_within : (w : CertificateView) (target : Form) (g : Generators) (s : ℕ) → ExcessFits w target g s → IsWithin (excess w target g s)
-excess_within w target g s e = falls (w.scale *ℤ target (one_at s)) w.parts (λ i. g.worth_of i (one_at s)) e.0 e.1
+excess_within w target g s e = falls (w.scale *ℤ target (one_at s)) w.parts (λ i. g.form i (one_at s)) e.0 e.1
   where
     rest : (a b c : ℤ) → (a -ℤ b) -ℤ c ≡ a -ℤ (b +ℤ c)
     rest a b c = omega (arith, ints)

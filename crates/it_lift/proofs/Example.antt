@@ -2,7 +2,7 @@
 use Rattle.std.proofs.Common.{◌≡◌, ℕ, ℤ, pos, negsuc, List, [], ◌∷◌, false, cond, nat_eq, refl}
 use Rattle.it_closure.specs.declared.dependences.Dependence.{Dependence}
 use Rattle.it_closure.specs.Closures.{closure, way}
-use Rattle.it_elemental.specs.Indexes.{index_of}
+use Rattle.it_elemental.specs.Indexes.{elemental_index}
 use Rattle.it_lift.specs.Lifts.{moves}
 
 givens : List Dependence
@@ -16,7 +16,7 @@ unfolding closure givens
 closes = refl
 
 moved : moves 3 givens left ≡ (9, negsuc 0) ∷ (6, pos 1) ∷ (10, negsuc 0) ∷ (1, pos 1) ∷ []
-unfolding closure way index_of givens left
+unfolding closure way elemental_index givens left
 moved = refl
 
 -- H(X) = 0: e({X}) is 1
@@ -27,5 +27,5 @@ null_left : ℕ → ℤ
 null_left s = cond (nat_eq s 1) (pos 1) (pos 0)
 
 null_moved : moves 1 null null_left ≡ (0, pos 1) ∷ []
-unfolding closure way index_of null null_left
+unfolding closure way elemental_index null null_left
 null_moved = refl

@@ -6,10 +6,10 @@ use Rattle.std.proofs.lemmas.Nat.{or_lt, and_le_r}
 use Rattle.it_number.proofs.Integers.{zring}
 use Rattle.it_space.specs.Sets.{IsInside}
 use Rattle.it_polymatroid.specs.Certificates.{combination}
-use Rattle.it_polymatroid.specs.Elementals.{Elemental, elementals, elemental_at, worth}
+use Rattle.it_polymatroid.specs.Elementals.{Elemental, elementals, elemental_at, elemental_value}
 use Rattle.it_space.proofs.EveryLemmas.{every_of}
 use Rattle.it_elemental.specs.Views.{IsElemental}
-use Rattle.it_elemental.specs.Expansions.{members, mutual_expansion, conditional_expansion, worth_together}
+use Rattle.it_elemental.specs.Expansions.{members, mutual_expansion, conditional_expansion, sum_of_values}
 use Rattle.it_elemental.proofs.Sums.{mutual_total, conditional_total}
 use Rattle.it_closure.specs.declared.dependences.Dependence.{Dependence}
 use Rattle.it_closure.specs.Closures.{closure, way, first_open, IsClosureOf}
@@ -17,7 +17,7 @@ use Rattle.it_closure.specs.Collapse.{AreDependences}
 use Rattle.it_closure.proofs.Insides.{inside-trans, inside-refl, inside-antisym, inside_left, or_inside, inside_le, grows}
 use Rattle.it_closure.proofs.Meets.{closure_is}
 use Rattle.it_closure.proofs.Ways.{IsOpenOf, open_where, closed_where, way-end, way-more, some_open}
-use Rattle.it_elemental.specs.Indexes.{index_of}
+use Rattle.it_elemental.specs.Indexes.{elemental_index}
 use Rattle.it_lift.specs.Lifts.{set_difference, each_weight, turn_moves, moves_at, signed_value}
 use Rattle.it_lift.proofs.Validity.{mutual_valid, conditional_valid, back_listed, listed}
 use Rattle.it_lift.proofs.Differences.{less_below, less_apart, less_less, less_meet, less_meet_right, less_joined, less_joined_right, less_all, less_inner}
@@ -27,52 +27,52 @@ pub weighted-append : (xs ys : List (ℕ × ℤ)) (f : ℕ → ℤ) → combinat
 weighted-append [] ys f = omega (arith, ints)
 weighted-append (x ∷ xs) ys f = omega (arith, ints, weighted-append xs ys f)
 
--- what the generators are worth at a map
-pub record AreWorth (n : ℕ) (ds : List Dependence) (h v : ℕ → ℤ) : Type 0 where
-  pub elemental : (i : ℕ) → i < length (elementals n) → v i ≡ worth n h (elemental_at n i)
+-- the values of the generators at a map
+pub record AreGeneratorValues (n : ℕ) (ds : List Dependence) (h v : ℕ → ℤ) : Type 0 where
+  pub elemental : (i : ℕ) → i < length (elementals n) → v i ≡ elemental_value n h (elemental_at n i)
   pub equation : All (λ d. v d.generator ≡ signed_value d.negated (h d.to -ℤ h d.from)) ds
 
 -- one weight for each of some inequalities
-each-worth : (n : ℕ) (ds : List Dependence) (h v : ℕ → ℤ) (x : ℤ) (es : List Elemental) → AreWorth n ds h v → Every (IsElemental n) es
-    → combination (each_weight n x es) v ≡ x *ℤ worth_together n h (map (index_of n) es)
-each-worth n ds h v x es w e = over es (listed n es e)
+each-value : (n : ℕ) (ds : List Dependence) (h v : ℕ → ℤ) (x : ℤ) (es : List Elemental) → AreGeneratorValues n ds h v → Every (IsElemental n) es
+    → combination (each_weight n x es) v ≡ x *ℤ sum_of_values n h (map (elemental_index n) es)
+each-value n ds h v x es w e = over es (listed n es e)
   where
-    over : (es : List Elemental) → Every (λ i. i < length (elementals n)) (map (index_of n) es) → combination (each_weight n x es) v ≡ x *ℤ worth_together n h (map (index_of n) es)
+    over : (es : List Elemental) → Every (λ i. i < length (elementals n)) (map (elemental_index n) es) → combination (each_weight n x es) v ≡ x *ℤ sum_of_values n h (map (elemental_index n) es)
     over [] l = omega (arith, ints)
-    over (e ∷ es) l = ap₂ (λ a b. x *ℤ a +ℤ b) (w.elemental (index_of n e) l.0) (over es l.1) ∙ omega (arith, zring)
+    over (e ∷ es) l = ap₂ (λ a b. x *ℤ a +ℤ b) (w.elemental (elemental_index n e) l.0) (over es l.1) ∙ omega (arith, zring)
 
 -- H(t - s|s)
-conditional-worth : (n : ℕ) (ds : List Dependence) (h v : ℕ → ℤ) (x : ℤ) (s t : ℕ) → AreWorth n ds h v → s < 2 ^ n → t < 2 ^ n → IsInside s t
+conditional-value : (n : ℕ) (ds : List Dependence) (h v : ℕ → ℤ) (x : ℤ) (s t : ℕ) → AreGeneratorValues n ds h v → s < 2 ^ n → t < 2 ^ n → IsInside s t
     → combination (each_weight n x (conditional_expansion n (members n (set_difference t s)) s)) v ≡ x *ℤ (h t -ℤ h s)
-conditional-worth n ds h v x s t w hs ht i =
+conditional-value n ds h v x s t w hs ht i =
     let es : List Elemental = conditional_expansion n (members n (set_difference t s)) s in
     let valid : Every (IsElemental n) es = conditional_valid n (set_difference t s) s hs (less_apart n t s ht hs) in
-    each-worth n ds h v x es w valid
-    ∙ ap (λ z. x *ℤ z) (conditional_total n h (set_difference t s) s (map (index_of n) es) (less_below n t s ht) hs (less_apart n t s ht hs) (back_listed n es valid)
+    each-value n ds h v x es w valid
+    ∙ ap (λ z. x *ℤ z) (conditional_total n h (set_difference t s) s (map (elemental_index n) es) (less_below n t s ht) hs (less_apart n t s ht hs) (back_listed n es valid)
     ∙ ap (λ m. h m -ℤ h s) (less_inner n t s ht hs i))
 
 -- I(t - a;a - t|a ^ t)
-mutual-worth : (n : ℕ) (ds : List Dependence) (h v : ℕ → ℤ) (x : ℤ) (a t : ℕ) → AreWorth n ds h v → a < 2 ^ n → t < 2 ^ n
+mutual-value : (n : ℕ) (ds : List Dependence) (h v : ℕ → ℤ) (x : ℤ) (a t : ℕ) → AreGeneratorValues n ds h v → a < 2 ^ n → t < 2 ^ n
     → combination (each_weight n x (mutual_expansion (members n (set_difference t a)) (members n (set_difference a t)) (bit_and a t))) v ≡ x *ℤ ((h t +ℤ h a) -ℤ (h (bit_or a t) +ℤ h (bit_and a t)))
-mutual-worth n ds h v x a t w ha ht =
+mutual-value n ds h v x a t w ha ht =
     let es : List Elemental = mutual_expansion (members n (set_difference t a)) (members n (set_difference a t)) (bit_and a t) in
     let low : bit_and a t < 2 ^ n = omega (arith, and_le_r a t) in
     let valid : Every (IsElemental n) es = mutual_valid n (set_difference t a) (set_difference a t) (bit_and a t) low (less_meet_right n t a ht ha) (less_meet n a t ha ht) (less_less n t a ht ha) in
-    each-worth n ds h v x es w valid
-    ∙ ap (λ z. x *ℤ z) (mutual_total n h (set_difference t a) (set_difference a t) (bit_and a t) (map (index_of n) es) (less_below n t a ht) (less_below n a t ha) (less_less n t a ht ha)
+    each-value n ds h v x es w valid
+    ∙ ap (λ z. x *ℤ z) (mutual_total n h (set_difference t a) (set_difference a t) (bit_and a t) (map (elemental_index n) es) (less_below n t a ht) (less_below n a t ha) (less_less n t a ht ha)
     (less_meet_right n t a ht ha) (less_meet n a t ha ht) (back_listed n es valid)
     ∙ omega (arith, ints, ap h (less_joined_right n t a ht ha), ap h (less_joined n a t ha ht), ap h (less_all n a t ha ht)))
 
 -- one turn
-turn-worth : (n : ℕ) (ds : List Dependence) (h v : ℕ → ℤ) (x : ℤ) (a : ℕ) (d : Dependence) → AreWorth n ds h v → a < 2 ^ n → d.to < 2 ^ n → IsInside d.from a → IsInside d.from d.to
+turn-value : (n : ℕ) (ds : List Dependence) (h v : ℕ → ℤ) (x : ℤ) (a : ℕ) (d : Dependence) → AreGeneratorValues n ds h v → a < 2 ^ n → d.to < 2 ^ n → IsInside d.from a → IsInside d.from d.to
     → v d.generator ≡ signed_value d.negated (h d.to -ℤ h d.from)
     → combination (turn_moves n x (a, d)) v ≡ x *ℤ (h a -ℤ h (bit_or a d.to))
-turn-worth n ds h v x a d w ha ht i j e =
+turn-value n ds h v x a d w ha ht i j e =
     let low : bit_and a d.to < 2 ^ n = omega (arith, and_le_r a d.to) in
     let in' : IsInside d.from (bit_and a d.to) = inside_meet d.from a d.to i j in
     let from : d.from < 2 ^ n = omega (arith, inside_le d.from a i) in
-    let one = mutual-worth n ds h v x a d.to w ha ht in
-    let two = conditional-worth n ds h v x d.from (bit_and a d.to) w from low in' in
+    let one = mutual-value n ds h v x a d.to w ha ht in
+    let two = conditional-value n ds h v x d.from (bit_and a d.to) w from low in' in
     let xs : List (ℕ × ℤ) = each_weight n x (mutual_expansion (members n (set_difference d.to a)) (members n (set_difference a d.to)) (bit_and a d.to)) in
     let ys : List (ℕ × ℤ) = each_weight n x (conditional_expansion n (members n (set_difference (bit_and a d.to) d.from)) d.from) in
     let zs : List (ℕ × ℤ) = (d.generator, cond d.negated x (neg_ℤ x)) ∷ [] in
@@ -103,15 +103,15 @@ own_closure n ds a b l e =
     let i : IsClosureOf n ds a (closure n ds a) = closure_is n ds a b l in
     inside-antisym (closure n ds a) a (i.least a l (inside-refl a) (closed_where ds a e)) i.holds
 
--- a dependence and what its equation is worth
+-- a dependence and the value of its equation
 record IsTurnable (h v : ℕ → ℤ) (d : Dependence) : Type 0 where
   inside : IsInside d.from d.to
-  worth_is : v d.generator ≡ signed_value d.negated (h d.to -ℤ h d.from)
+  value_is : v d.generator ≡ signed_value d.negated (h d.to -ℤ h d.from)
 
-way-worth : (n : ℕ) (ds : List Dependence) (h v : ℕ → ℤ) (x : ℤ) → AreDependences n ds → AreWorth n ds h v → (turns a : ℕ) → 2 ^ n ≤ a + turns → a < 2 ^ n
+way-value : (n : ℕ) (ds : List Dependence) (h v : ℕ → ℤ) (x : ℤ) → AreDependences n ds → AreGeneratorValues n ds h v → (turns a : ℕ) → 2 ^ n ≤ a + turns → a < 2 ^ n
     → combination (flat_map (turn_moves n x) (way n ds a)) v ≡ x *ℤ (h a -ℤ h (closure n ds a))
-way-worth n ds h v x r w zero a k l = absurd (omega arith)
-way-worth n ds h v x r w (suc turns) a k l = by_option (first_open ds a) refl (λ c. way-worth n ds h v x r w turns c)
+way-value n ds h v x r w zero a k l = absurd (omega arith)
+way-value n ds h v x r w (suc turns) a k l = by_option (first_open ds a) refl (λ c. way-value n ds h v x r w turns c)
   where
     none : (y : ℤ) → pos 0 ≡ x *ℤ (y -ℤ y)
     none y = omega (arith, zring)
@@ -126,24 +126,24 @@ way-worth n ds h v x r w (suc turns) a k l = by_option (first_open ds a) refl (�
     by_option (Some d) e ih =
         let o : IsOpenOf n ds a d = open_where n ds a d r.below e in
         let more : a < bit_or a d.to = grows a d.to o.new in
-        let t : IsTurnable h v d = (some_open (IsTurnable h v) ds a d (every_of (IsTurnable h v) ds (λ i d k. record { inside = r.inside i d k; worth_is = w.equation i d k })) e).0 in
+        let t : IsTurnable h v d = (some_open (IsTurnable h v) ds a d (every_of (IsTurnable h v) ds (λ i d k. record { inside = r.inside i d k; value_is = w.equation i d k })) e).0 in
         let next = ih (bit_or a d.to) (omega arith) (or_lt n a d.to l o.below) in
         ap (λ ts. combination (flat_map (turn_moves n x) ts) v) (way-more n ds a d r.below l e)
         ∙ weighted-append (turn_moves n x (a, d)) (flat_map (turn_moves n x) (way n ds (bit_or a d.to))) v
-        ∙ ap₂ (λ y z. y +ℤ z) (turn-worth n ds h v x a d w l o.below o.known t.inside t.worth_is)
+        ∙ ap₂ (λ y z. y +ℤ z) (turn-value n ds h v x a d w l o.below o.known t.inside t.value_is)
         (next ∙ ap (λ c. x *ℤ (h (bit_or a d.to) -ℤ h c)) (same_closure n ds a d r.below l o))
         ∙ sum (h a) (h (bit_or a d.to)) (h (closure n ds a))
 
 -- one set
-pub at-worth : (n : ℕ) (ds : List Dependence) (h v : ℕ → ℤ) (s : ℕ) (x : ℤ) → AreDependences n ds → AreWorth n ds h v → s < 2 ^ n → combination (moves_at n ds s x) v ≡ x *ℤ (h s -ℤ h (closure n ds s))
-at-worth n ds h v s (negsuc k) r w l =
+pub at-value : (n : ℕ) (ds : List Dependence) (h v : ℕ → ℤ) (s : ℕ) (x : ℤ) → AreDependences n ds → AreGeneratorValues n ds h v → s < 2 ^ n → combination (moves_at n ds s x) v ≡ x *ℤ (h s -ℤ h (closure n ds s))
+at-value n ds h v s (negsuc k) r w l =
     let i : IsClosureOf n ds s (closure n ds s) = closure_is n ds s r.below l in
-    conditional-worth n ds h v (pos (suc k)) s (closure n ds s) w l i.below i.holds ∙ turned (h s) (h (closure n ds s))
+    conditional-value n ds h v (pos (suc k)) s (closure n ds s) w l i.below i.holds ∙ turned (h s) (h (closure n ds s))
   where
     turned : (a b : ℤ) → pos (suc k) *ℤ (b -ℤ a) ≡ negsuc k *ℤ (a -ℤ b)
     turned a b = other (pos (suc k)) (negsuc k) (omega (arith, ints))
       where
         other : (x y : ℤ) → y ≡ neg_ℤ x → x *ℤ (b -ℤ a) ≡ y *ℤ (a -ℤ b)
         other x y e = rw e (omega (arith, zring))
-at-worth n ds h v s (pos zero) r w l = omega (arith, ints)
-at-worth n ds h v s (pos (suc k)) r w l = way-worth n ds h v (pos (suc k)) r w (2 ^ n) s (omega arith) l
+at-value n ds h v s (pos zero) r w l = omega (arith, ints)
+at-value n ds h v s (pos (suc k)) r w l = way-value n ds h v (pos (suc k)) r w (2 ^ n) s (omega arith) l

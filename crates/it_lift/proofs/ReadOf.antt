@@ -10,26 +10,26 @@ use Rattle.std.specs.List.{AllByRecursion as Every}
 use Rattle.it_space.proofs.EveryLemmas.{all_of, every-same}
 use Rattle.it_elemental.specs.Rows.{set_term}
 use Rattle.it_closure.specs.declared.dependences.Dependence.{Dependence}
-use Rattle.it_closure.specs.Reading.{dependence_row, one_if, read_one, read_from, dependences_of}
+use Rattle.it_closure.specs.Reading.{dependence_row, dependence_list, read_one, read_from, dependences_of}
 use Rattle.it_closure.proofs.ReadLemmas.{reads_exactly}
 use Rattle.it_closure.proofs.ReadLists.{IsRead, all_read, read_of_space}
-use Rattle.it_lift.specs.Fits.{Ascend}
+use Rattle.it_lift.specs.Fits.{GeneratorsAscend}
 use Rattle.it_elemental.specs.Generators.{Generator, generators, generator_at, generators_of, is_equation}
 use Rattle.it_lift.specs.Lifts.{signed_value}
-use Rattle.it_lift.specs.OfProblems.{ReadAreOf}
+use Rattle.it_lift.specs.OfProblems.{ReadingGivesDependences}
 use Rattle.it_lift.proofs.GeneratorLemmas.{total_is, constraint_is}
 use Rattle.std.proofs.lemmas.List.{get_or_default}
 
 -- the numbers ascend
-lower : (from to : ℕ) (ds : List Dependence) → from ≤ to → Ascend to ds → Ascend from ds
+lower : (from to : ℕ) (ds : List Dependence) → from ≤ to → GeneratorsAscend to ds → GeneratorsAscend from ds
 lower from to [] h a = tt
 lower from to (d ∷ ds) h a = (omega (arith, a.0), a.1)
 
-ascend_read : (s : Rattle.it_space.specs.declared.spaces.Space.Space) (size g : ℕ) (cs : List Constraint) → All (λ c. IsUpTo size c.row) cs → Ascend g (read_from s.variables g cs)
+ascend_read : (s : Rattle.it_space.specs.declared.spaces.Space.Space) (size g : ℕ) (cs : List Constraint) → All (λ c. IsUpTo size c.row) cs → GeneratorsAscend g (read_from s.variables g cs)
 ascend_read s size g [] u = tt
 ascend_read s size g (c ∷ cs) u = by_option (read_one s.variables g c) refl (ascend_read s size (g + 1) cs (Rattle.std.proofs.lemmas.List.Elements.All-tail (λ c. IsUpTo size c.row) c cs u))
   where
-    by_option : (o : Option Dependence) → read_one s.variables g c ≡ o → Ascend (g + 1) (read_from s.variables (g + 1) cs) → Ascend g (one_if o ++ read_from s.variables (g + 1) cs)
+    by_option : (o : Option Dependence) → read_one s.variables g c ≡ o → GeneratorsAscend (g + 1) (read_from s.variables (g + 1) cs) → GeneratorsAscend g (dependence_list o ++ read_from s.variables (g + 1) cs)
     by_option None e a = lower g (g + 1) (read_from s.variables (g + 1) cs) (omega arith) a
     by_option (Some d) e a =
         let r = (reads_exactly s size g c d (Rattle.std.proofs.lemmas.List.Elements.All-head (λ c. IsUpTo size c.row) c cs u)).0 e in
@@ -53,7 +53,7 @@ value-row false f t h z = value-two f t (negsuc 0) (pos 1) h z ∙ omega (arith,
 record IsEquation (q : ProblemView) (d : Dependence) : Type 0 where
   placed : d.generator < (generators_of q).count
   kind : (generators_of q).is_equation d.generator ≡ true
-  equation : (h : ℕ → ℤ) → h 0 ≡ pos 0 → (generators_of q).worth_of d.generator h ≡ signed_value d.negated (h d.to -ℤ h d.from)
+  equation : (h : ℕ → ℤ) → h 0 ≡ pos 0 → (generators_of q).form d.generator h ≡ signed_value d.negated (h d.to -ℤ h d.from)
 
 some_of : (cs : List Constraint) (i : ℕ) → i < length cs → Constraint
 some_of [] i h = absurd (omega arith)
@@ -72,8 +72,8 @@ equation_of q d r =
       equation = λ h z. ap (λ (g : Generator). value g.row h) is ∙ ap (λ ts. value ts h) (r.is x).row ∙ value-row d.negated d.from d.to h z;
     }
 
-pub read_are_of : ReadAreOf
-read_are_of q d p s e =
+pub reading_gives_dependences : ReadingGivesDependences
+reading_gives_dependences q d p s e =
     let g : ℕ = length (elementals q.space.variables) in
     let n : q.space.variables ≡ d.space.variables = ap (λ t. t.variables) (sym s) in
     let equations : Every (IsEquation q) (dependences_of q) = every-same (IsRead q.space q.constraints g) (IsEquation q) (dependences_of q) (λ x r. equation_of q x r) (all_read q.space (size_of q.space) g q.constraints p.rows) in
@@ -81,7 +81,7 @@ read_are_of q d p s e =
     record {
       shape = rw (s, e) (read_of_space q g p);
       space = s;
-      numbered = subst (Ascend (length (elementals d.space.variables))) (sym e) (subst (λ (k : ℕ). Ascend k (dependences_of q)) (ap (λ m. length (elementals m)) n) (ascend_read q.space (size_of q.space) g q.constraints p.rows));
+      numbered = subst (GeneratorsAscend (length (elementals d.space.variables))) (sym e) (subst (λ (k : ℕ). GeneratorsAscend k (dependences_of q)) (ap (λ m. length (elementals m)) n) (ascend_read q.space (size_of q.space) g q.constraints p.rows));
       placed = λ i x l. (all i x l).placed;
       kinds = λ i x l. (all i x l).kind;
       equations = λ i x l. (all i x l).equation;

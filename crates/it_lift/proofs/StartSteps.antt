@@ -7,25 +7,25 @@ use Rattle.std.proofs.lemmas.Int.{ints}
 use Rattle.std.proofs.lemmas.Bool.{eqb-true}
 use Rattle.std.proofs.lemmas.List.{take_more, get_or-set_other}
 use Rattle.std.proofs.lemmas.Grind.{get_or-set_at}
-use Rattle.it_space.specs.Rows.{coefficient, term_at}
+use Rattle.it_space.specs.Rows.{coefficient, single_term}
 use Rattle.it_space.specs.Sums.{number_at, terms_from}
-use Rattle.it_lift.specs.Lifted.{InOrder}
+use Rattle.it_lift.specs.Lifted.{WeightsAscend}
 use Rattle.it_space.proofs.TermLemmas.{coefficient-append}
 
-order_at : (from : ℕ) (ws : List (ℕ × ℤ)) (k : ℕ) (d : ℕ × ℤ) → InOrder from ws → k < length ws → from ≤ (get_or ws k d).0
+order_at : (from : ℕ) (ws : List (ℕ × ℤ)) (k : ℕ) (d : ℕ × ℤ) → WeightsAscend from ws → k < length ws → from ≤ (get_or ws k d).0
 order_at from [] k d o h = absurd (omega arith)
 order_at from (w ∷ ws) zero d o h = o.0
 order_at from (w ∷ ws) (suc k) d o h = omega (arith, o.0, order_at (w.0 + 1) ws k d o.1 (omega arith))
 
 -- the earlier ones have other numbers
-earlier : (from : ℕ) (ws : List (ℕ × ℤ)) (k : ℕ) (d : ℕ × ℤ) → InOrder from ws → k < length ws → coefficient (take k ws) (get_or ws k d).0 ≡ pos 0
+earlier : (from : ℕ) (ws : List (ℕ × ℤ)) (k : ℕ) (d : ℕ × ℤ) → WeightsAscend from ws → k < length ws → coefficient (take k ws) (get_or ws k d).0 ≡ pos 0
 earlier from [] k d o h = absurd (omega arith)
 earlier from (w ∷ ws) zero d o h = refl
 earlier from (w ∷ ws) (suc k) d o h =
     let later : w.0 + 1 ≤ (get_or ws k d).0 = order_at (w.0 + 1) ws k d o.1 (omega arith) in
     ap (λ b. cond b w.1 (pos 0) +ℤ coefficient (take k ws) (get_or ws k d).0) (ne_eqb w.0 (get_or ws k d).0 (λ e. omega arith)) ∙ ap (λ y. pos 0 +ℤ y) (earlier (w.0 + 1) ws k d o.1 (omega arith)) ∙ omega (arith, ints)
 
-pub start-more : (ws : List (ℕ × ℤ)) (k : ℕ) (d : ℕ × ℤ) (xs : List ℤ) → InOrder 0 ws → k < length ws → (get_or ws k d).0 < length xs → ((i : ℕ) → number_at xs i ≡ coefficient (take k ws) i)
+pub start-more : (ws : List (ℕ × ℤ)) (k : ℕ) (d : ℕ × ℤ) (xs : List ℤ) → WeightsAscend 0 ws → k < length ws → (get_or ws k d).0 < length xs → ((i : ℕ) → number_at xs i ≡ coefficient (take k ws) i)
     → (i : ℕ) → number_at (set xs (get_or ws k d).0 (get_or ws k d).1) i ≡ coefficient (take (k + 1) ws) i
 start-more ws k d xs o h l same i = by_test (nat_eq w.0 i) refl ∙ sym more
   where
@@ -56,34 +56,34 @@ start-more ws k d xs o h l same i = by_test (nat_eq w.0 i) refl ∙ sym more
         ∙ ap (λ b. coefficient (take k ws) i +ℤ (cond b w.1 (pos 0) +ℤ pos 0)) (sym e)
 
 -- the numbers other than 0 are in order
-in_order-term_at : (i : ℕ) (x : ℤ) (ws : List (ℕ × ℤ)) → InOrder (i + 1) ws → InOrder i (term_at i x ++ ws)
-in_order-term_at i (pos zero) ws o = lower ws o
+weights_ascend-single_term : (i : ℕ) (x : ℤ) (ws : List (ℕ × ℤ)) → WeightsAscend (i + 1) ws → WeightsAscend i (single_term i x ++ ws)
+weights_ascend-single_term i (pos zero) ws o = lower ws o
   where
-    lower : (ws : List (ℕ × ℤ)) → InOrder (i + 1) ws → InOrder i ws
+    lower : (ws : List (ℕ × ℤ)) → WeightsAscend (i + 1) ws → WeightsAscend i ws
     lower [] o = tt
     lower (w ∷ ws) o = (omega (arith, o.0), o.1)
-in_order-term_at i (pos (suc x)) ws o = (omega arith, o)
-in_order-term_at i (negsuc x) ws o = (omega arith, o)
+weights_ascend-single_term i (pos (suc x)) ws o = (omega arith, o)
+weights_ascend-single_term i (negsuc x) ws o = (omega arith, o)
 
-pub weights_order : (first : ℕ) (xs : List ℤ) → InOrder first (terms_from first xs)
+pub weights_order : (first : ℕ) (xs : List ℤ) → WeightsAscend first (terms_from first xs)
 weights_order first [] = tt
-weights_order first (x ∷ xs) = in_order-term_at first x (terms_from (first + 1) xs) (weights_order (first + 1) xs)
+weights_order first (x ∷ xs) = weights_ascend-single_term first x (terms_from (first + 1) xs) (weights_order (first + 1) xs)
 
 -- the weights of a list in order are its numbers or 0
-pub parts_within : (ws : List (ℕ × ℤ)) → InOrder 0 ws → All (λ p. IsWithin p.1) ws → (i : ℕ) → IsWithin (coefficient ws i)
+pub parts_within : (ws : List (ℕ × ℤ)) → WeightsAscend 0 ws → All (λ p. IsWithin p.1) ws → (i : ℕ) → IsWithin (coefficient ws i)
 parts_within ws o a i = over 0 ws o (every_of (λ p. IsWithin p.1) ws a)
   where
     plain : (a b : ℤ) → b ≡ pos 0 → a +ℤ b ≡ a
     plain a b e = rw e (omega (arith, ints))
 
-    none_above : (from : ℕ) (ws : List (ℕ × ℤ)) → InOrder from ws → i < from → coefficient ws i ≡ pos 0
+    none_above : (from : ℕ) (ws : List (ℕ × ℤ)) → WeightsAscend from ws → i < from → coefficient ws i ≡ pos 0
     none_above from [] o h = refl
     none_above from (w ∷ ws) o h = ap (λ b. cond b w.1 (pos 0) +ℤ coefficient ws i) (ne_eqb w.0 i (λ e. omega (arith, o.0))) ∙ ap (λ y. pos 0 +ℤ y) (none_above (w.0 + 1) ws o.1 (omega (arith, o.0)))
 
     zero_plus : (b : ℤ) → pos 0 +ℤ b ≡ b
     zero_plus b = omega (arith, ints)
 
-    over : (from : ℕ) (ws : List (ℕ × ℤ)) → InOrder from ws → Every (λ p. IsWithin p.1) ws → IsWithin (coefficient ws i)
+    over : (from : ℕ) (ws : List (ℕ × ℤ)) → WeightsAscend from ws → Every (λ p. IsWithin p.1) ws → IsWithin (coefficient ws i)
     over from [] o v = lit< tt
     over from (w ∷ ws) o v = by_test (nat_eq w.0 i) refl (over (w.0 + 1) ws o.1 v.1)
       where

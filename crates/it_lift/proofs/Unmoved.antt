@@ -8,21 +8,17 @@ use Rattle.it_space.specs.Answers.{CertificateView}
 use Rattle.it_space.specs.Rows.{Terms, coefficient, value, IsUpTo}
 use Rattle.it_space.specs.Sets.{has_member}
 use Rattle.it_space.specs.Spaces.{size_of}
-use Rattle.it_polymatroid.specs.Certificates.{combination}
 use Rattle.it_polymatroid.specs.Elementals.{span}
 use Rattle.it_elemental.specs.Expansions.{members, conditional_expansion}
 use Rattle.it_elemental.proofs.Spans.{keep_none}
 use Rattle.it_closure.specs.declared.dependences.Dependence.{Dependence}
 use Rattle.it_closure.specs.DependencesViews.{DependencesView}
-use Rattle.it_closure.proofs.ClosingLoop.{of_space}
 use Rattle.it_closure.proofs.Ways.{way-end}
 use Rattle.it_elemental.specs.Generators.{generators_of}
 use Rattle.it_lift.specs.Lifts.{excess, set_difference, each_weight, turn_moves, moves_at, moves_of, moves, lifted_weights}
-use Rattle.it_lift.specs.Lifted.{AreOf, AddUpOverClosed, IsLiftOf}
-use Rattle.it_lift.proofs.AddsUp.{lift_adds_up}
+use Rattle.it_lift.specs.Lifted.{AreDependencesOf, IsCertificateOverClosed, IsLiftOf}
 use Rattle.it_lift.proofs.MoveLemmas.{own_closure}
-use Rattle.it_lift.proofs.Whole.{sets_here, have, form_linear}
-use Rattle.it_polymatroid.proofs.Forms.{value_linear}
+use Rattle.it_lift.proofs.Whole.{lifted_adds_up}
 
 at-none : (n s : ℕ) (x : ℤ) → s < 2 ^ n → moves_at n [] s x ≡ []
 at-none n s (pos zero) l = refl
@@ -41,7 +37,7 @@ flat-none F a (suc m) f = ap₂ (λ xs ys. xs ++ ys) (f a (omega arith)) (flat-n
 moves-none : (n : ℕ) (ds : List Dependence) (e : ℕ → ℤ) → ds ≡ [] → moves n ds e ≡ []
 moves-none n ds e q = subst (λ (es : List Dependence). moves n es e ≡ []) (sym q) (flat-none (moves_of n [] e) 0 (2 ^ n) (λ s h. at-none n s _ (omega arith)))
 
-pub unmoved : (q : ProblemView) (d : DependencesView) (target : Terms) (w : CertificateView) → IsProblem q → AreOf q d → IsUpTo (size_of q.space) target → AddUpOverClosed q d target w → d.list ≡ [] → IsLiftOf q d target w w
+pub unmoved : (q : ProblemView) (d : DependencesView) (target : Terms) (w : CertificateView) → IsProblem q → AreDependencesOf q d → IsUpTo (size_of q.space) target → IsCertificateOverClosed q d target w → d.list ≡ [] → IsLiftOf q d target w w
 unmoved q d target w p a t c none =
     let same : lifted_weights d.space.variables d.list (value target) (generators_of q) w ≡ w.parts =
     ap (λ ms. w.parts ++ ms) (moves-none d.space.variables d.list (excess w (value target) (generators_of q)) none) ∙ append-nil w.parts in
@@ -50,6 +46,5 @@ unmoved q d target w p a t c none =
       order = c.order;
       allowed = c.allowed;
       weights = λ i. sym (ap (λ ms. coefficient ms i) same);
-      adds_up = λ h z. lift_adds_up (size_of q.space + 1) d.space.variables d.list (value target) (generators_of q) w (sets_here q d p a) (of_space d a.shape) (have q d a) (value_linear (size_of q.space) target t)
-          (λ i l. form_linear q i p) (λ i x l. (c.allowed i x l).0) c.sums h z ∙ ap (λ ms. combination ms (λ i. (generators_of q).worth_of i h)) same;
+      adds_up = lifted_adds_up q d target w p a t c w.parts (λ i. sym (ap (λ ms. coefficient ms i) same));
     }

@@ -10,10 +10,10 @@ use Rattle.it_closure.specs.Closures.{first_open, way}
 use Rattle.it_closure.specs.Collapse.{AreDependences}
 use Rattle.it_closure.proofs.Insides.{grows}
 use Rattle.it_closure.proofs.Ways.{IsOpenOf, open_where, way-end, way-more, some_open}
-use Rattle.it_lift.specs.Fits.{WayFits}
+use Rattle.it_lift.specs.Fits.{WeightSumsFit}
 use Rattle.it_lift.specs.Lifts.{turn_moves}
 use Rattle.it_space.specs.Sums.{number_at}
-use Rattle.it_lift.specs.Sums.{AreAdded}
+use Rattle.it_lift.specs.Sums.{AreWeightsAdded}
 use Rattle.it_lift.proofs.SumSteps.{added-append, stops-after, stops-before}
 
 -- what is added on the way from a set on
@@ -23,7 +23,7 @@ on_way n ds x a = flat_map (turn_moves n x) (way n ds a)
 pub record IsWayUnderWay (n : ℕ) (ds : List Dependence) (x : ℤ) (s : ℕ) (old now : List ℤ) (a : ℕ) : Type 0 where
   pub below : a < 2 ^ n
   pub done : List (ℕ × ℤ)
-  pub added : AreAdded old now done
+  pub added : AreWeightsAdded old now done
   pub rest : done ++ on_way n ds x a ≡ on_way n ds x s
 
 -- the facts of a turn
@@ -50,7 +50,7 @@ turn_is n ds len a d r p l e =
 split : (n : ℕ) (ds : List Dependence) (x : ℤ) (a : ℕ) (d : Dependence) → AreDependences n ds → a < 2 ^ n → first_open ds a ≡ Some d → on_way n ds x a ≡ turn_moves n x (a, d) ++ on_way n ds x (bit_or a d.to)
 split n ds x a d r l e = ap (flat_map (turn_moves n x)) (way-more n ds a d r.below l e)
 
-pub way_goes_on : (n : ℕ) (ds : List Dependence) (x : ℤ) (s : ℕ) (old now new : List ℤ) (a : ℕ) (d : Dependence) → AreDependences n ds → first_open ds a ≡ Some d → AreAdded now new (turn_moves n x (a, d))
+pub way_goes_on : (n : ℕ) (ds : List Dependence) (x : ℤ) (s : ℕ) (old now new : List ℤ) (a : ℕ) (d : Dependence) → AreDependences n ds → first_open ds a ≡ Some d → AreWeightsAdded now new (turn_moves n x (a, d))
     → IsWayUnderWay n ds x s old now a → IsWayUnderWay n ds x s old new (bit_or a d.to)
 way_goes_on n ds x s old now new a d r e h u = record {
   below = or_lt n a d.to u.below (open_where n ds a d r.below e).below;
@@ -60,10 +60,10 @@ way_goes_on n ds x s old now new a d r e h u = record {
 }
 
 pub way_stops : (n : ℕ) (ds : List Dependence) (x : ℤ) (s : ℕ) (old now : List ℤ) (a : ℕ) (d : Dependence) → AreDependences n ds → first_open ds a ≡ Some d → IsWayUnderWay n ds x s old now a
-    → ¬ (WayFits (number_at now) (turn_moves n x (a, d))) → ¬ (WayFits (number_at old) (on_way n ds x s))
+    → ¬ (WeightSumsFit (number_at now) (turn_moves n x (a, d))) → ¬ (WeightSumsFit (number_at old) (on_way n ds x s))
 way_stops n ds x s old now a d r e u h =
-    subst (λ (m : List (ℕ × ℤ)). ¬ (WayFits (number_at old) m)) (ap (λ y. u.done ++ y) (sym (split n ds x a d r u.below e)) ∙ u.rest)
+    subst (λ (m : List (ℕ × ℤ)). ¬ (WeightSumsFit (number_at old) m)) (ap (λ y. u.done ++ y) (sym (split n ds x a d r u.below e)) ∙ u.rest)
     (stops-after old now u.done (turn_moves n x (a, d) ++ on_way n ds x (bit_or a d.to)) u.added (stops-before (number_at now) (turn_moves n x (a, d)) (on_way n ds x (bit_or a d.to)) h))
 
-pub way_ends : (n : ℕ) (ds : List Dependence) (x : ℤ) (s : ℕ) (old now : List ℤ) (a : ℕ) → first_open ds a ≡ None → IsWayUnderWay n ds x s old now a → AreAdded old now (on_way n ds x s)
-way_ends n ds x s old now a e u = subst (AreAdded old now) (sym (append-nil u.done) ∙ ap (λ y. u.done ++ y) (sym (ap (flat_map (turn_moves n x)) (way-end n ds a u.below e))) ∙ u.rest) u.added
+pub way_ends : (n : ℕ) (ds : List Dependence) (x : ℤ) (s : ℕ) (old now : List ℤ) (a : ℕ) → first_open ds a ≡ None → IsWayUnderWay n ds x s old now a → AreWeightsAdded old now (on_way n ds x s)
+way_ends n ds x s old now a e u = subst (AreWeightsAdded old now) (sym (append-nil u.done) ∙ ap (λ y. u.done ++ y) (sym (ap (flat_map (turn_moves n x)) (way-end n ds a u.below e))) ∙ u.rest) u.added

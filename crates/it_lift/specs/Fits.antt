@@ -15,39 +15,40 @@ abbrev pub FallFits : ℤ → List (ℕ × ℤ) → (ℕ → ℤ) → Type 0
 FallFits sum [] f = Unit {0}
 FallFits sum (w ∷ ws) f = IsWithin (w.1 *ℤ f w.0) × IsWithin (sum -ℤ w.1 *ℤ f w.0) × FallFits (sum -ℤ w.1 *ℤ f w.0) ws f
 
+-- the numbers from which the excess at a nonempty set is formed
 abbrev pub ExcessFits : CertificateView → Form → Generators → ℕ → Type 0
-ExcessFits w target g s = IsWithin (w.scale *ℤ target (one_at s)) × FallFits (w.scale *ℤ target (one_at s)) w.parts (λ i. g.worth_of i (one_at s))
+ExcessFits w target g s = IsWithin (w.scale *ℤ target (one_at s)) × FallFits (w.scale *ℤ target (one_at s)) w.parts (λ i. g.form i (one_at s))
 
 -- each partial sum over some sets, on top of a sum so far
-abbrev pub SumsFit : ℤ → (ℕ → ℤ) → List ℕ → Type 0
-SumsFit sum e [] = Unit {0}
-SumsFit sum e (s ∷ ss) = IsWithin (sum +ℤ e s) × SumsFit (sum +ℤ e s) e ss
+abbrev pub PartialSumsFit : ℤ → (ℕ → ℤ) → List ℕ → Type 0
+PartialSumsFit sum e [] = Unit {0}
+PartialSumsFit sum e (s ∷ ss) = IsWithin (sum +ℤ e s) × PartialSumsFit (sum +ℤ e s) e ss
 
 -- the numbers before any weight is moved
 pub record EmptyFits (n : ℕ) (ds : List Dependence) (target : Form) (g : Generators) (w : CertificateView) : Type 0 where
   pub excesses : (s : ℕ) → 0 < s → s < 2 ^ n → ExcessFits w target g s
-  pub empty : SumsFit (pos 0) (excess w target g) (null_sets n ds)
+  pub empty : PartialSumsFit (pos 0) (excess w target g) (null_sets n ds)
 
 -- all numbers of a lift
 pub record LiftFits (n : ℕ) (ds : List Dependence) (target : Form) (g : Generators) (w : CertificateView) : Type 0 where
   pub before : EmptyFits n ds target g w
   pub weights : (i : ℕ) → IsWithin (coefficient (lifted_weights n ds target g w) i)
 
--- each weight on the way, where one is added after the other
-abbrev pub WayFits : (ℕ → ℤ) → List (ℕ × ℤ) → Type 0
-WayFits f [] = Unit {0}
-WayFits f (m ∷ ms) = IsWithin (f m.0 +ℤ m.1) × WayFits (plus_at f m) ms
+-- each weight while amounts are added, one after the other
+abbrev pub WeightSumsFit : (ℕ → ℤ) → List (ℕ × ℤ) → Type 0
+WeightSumsFit f [] = Unit {0}
+WeightSumsFit f (m ∷ ms) = IsWithin (f m.0 +ℤ m.1) × WeightSumsFit (plus_at f m) ms
 
 -- generators in ascending order, from a number on
-abbrev pub Ascend : ℕ → List Dependence → Type 0
-Ascend from [] = Unit {0}
-Ascend from (d ∷ ds) = (from ≤ d.generator) × Ascend (d.generator + 1) ds
+abbrev pub GeneratorsAscend : ℕ → List Dependence → Type 0
+GeneratorsAscend from [] = Unit {0}
+GeneratorsAscend from (d ∷ ds) = (from ≤ d.generator) × GeneratorsAscend (d.generator + 1) ds
 
 -- the equations of the dependences come after the elemental inequalities, in order
 abbrev pub AreNumbered : ℕ → List Dependence → Type 0
-AreNumbered n ds = Ascend (length (elementals n)) ds
+AreNumbered n ds = GeneratorsAscend (length (elementals n)) ds
 
--- A weight moves in one direction alone: so it is within the limit on the way exactly where it is at the end.
-abbrev pub WayFitsAsEnd : Type 0
-WayFitsAsEnd = (n : ℕ) (ds : List Dependence) (target : Form) (g : Generators) (w : CertificateView) → AreDependences n ds → AreNumbered n ds → ((i : ℕ) → IsWithin (coefficient w.parts i))
-    → WayFits (coefficient w.parts) (moves n ds (excess w target g)) ↔ ((i : ℕ) → IsWithin (coefficient (lifted_weights n ds target g w) i))
+-- All amounts of one weight have one sign, so its partial sums are within the limit exactly where their end is.
+abbrev pub WeightSumsFitAsEnd : Type 0
+WeightSumsFitAsEnd = (n : ℕ) (ds : List Dependence) (target : Form) (g : Generators) (w : CertificateView) → AreDependences n ds → AreNumbered n ds → ((i : ℕ) → IsWithin (coefficient w.parts i))
+    → WeightSumsFit (coefficient w.parts) (moves n ds (excess w target g)) ↔ ((i : ℕ) → IsWithin (coefficient (lifted_weights n ds target g w) i))

@@ -12,22 +12,22 @@ use Rattle.it_elemental.specs.Generators.{generators_of}
 use Rattle.it_lift.specs.Lifts.{signed_value, lifted_weights, AddsUpOverClosed}
 
 -- the dependences are equations of the problem, in order
-pub record AreOf (q : ProblemView) (d : DependencesView) : Type 0 where
+pub record AreDependencesOf (q : ProblemView) (d : DependencesView) : Type 0 where
   pub shape : AreOfSpace d
   pub space : d.space ≡ q.space
   pub numbered : AreNumbered d.space.variables d.list
   pub placed : All (λ x. x.generator < (generators_of q).count) d.list
   pub kinds : All (λ x. (generators_of q).is_equation x.generator ≡ true) d.list
-  pub equations : All (λ x. (h : ℕ → ℤ) → h 0 ≡ pos 0 → (generators_of q).worth_of x.generator h ≡ signed_value x.negated (h x.to -ℤ h x.from)) d.list
+  pub equations : All (λ x. (h : ℕ → ℤ) → h 0 ≡ pos 0 → (generators_of q).form x.generator h ≡ signed_value x.negated (h x.to -ℤ h x.from)) d.list
 
--- weights in ascending order of their numbers, from one on
-abbrev pub InOrder : ℕ → List (ℕ × ℤ) → Type 0
-InOrder from [] = Unit {0}
-InOrder from (w ∷ ws) = (from ≤ w.0) × InOrder (w.0 + 1) ws
+-- the numbers of weights ascend from one on
+abbrev pub WeightsAscend : ℕ → List (ℕ × ℤ) → Type 0
+WeightsAscend from [] = Unit {0}
+WeightsAscend from (w ∷ ws) = (from ≤ w.0) × WeightsAscend (w.0 + 1) ws
 
--- weights that add up over closed sets
-pub record AddUpOverClosed (q : ProblemView) (d : DependencesView) (target : Terms) (w : CertificateView) : Type 0 where
-  pub order : InOrder 0 w.parts
+-- a certificate over closed sets: ascending weights that may stand in a certificate, and that add up over closed sets
+pub record IsCertificateOverClosed (q : ProblemView) (d : DependencesView) (target : Terms) (w : CertificateView) : Type 0 where
+  pub order : WeightsAscend 0 w.parts
   pub allowed : All (IsAllowed (generators_of q)) w.parts
   pub within : All (λ p. IsWithin p.1) w.parts
   pub sums : AddsUpOverClosed (size_of q.space + 1) d.space.variables d.list (value target) (generators_of q) w
@@ -35,10 +35,11 @@ pub record AddUpOverClosed (q : ProblemView) (d : DependencesView) (target : Ter
 -- the weights with all that is added, in order, and they add up at every map
 pub record IsLiftOf (q : ProblemView) (d : DependencesView) (target : Terms) (old new : CertificateView) : Type 0 where
   pub scale : new.scale ≡ old.scale
-  pub order : InOrder 0 new.parts
+  pub order : WeightsAscend 0 new.parts
   pub allowed : All (IsAllowed (generators_of q)) new.parts
   pub weights : (i : ℕ) → coefficient new.parts i ≡ coefficient (lifted_weights d.space.variables d.list (value target) (generators_of q) old) i
-  pub adds_up : (h : ℕ → ℤ) → h 0 ≡ pos 0 → new.scale *ℤ value target h ≡ combination new.parts (λ i. (generators_of q).worth_of i h)
+  pub adds_up : (h : ℕ → ℤ) → h 0 ≡ pos 0 → new.scale *ℤ value target h ≡ combination new.parts (λ i. (generators_of q).form i h)
 
+-- all numbers of the lift are within the limit
 abbrev pub FitsLift : ProblemView → DependencesView → Terms → CertificateView → Type 0
 FitsLift q d target w = LiftFits d.space.variables d.list (value target) (generators_of q) w

@@ -3,26 +3,27 @@ use Rattle.std.specs.Prelude.{◌≡◌, ℕ, zero, suc, ◌-◌, ◌^◌, ◌<�
 use Rattle.it_space.specs.Answers.{CertificateView}
 use Rattle.it_polymatroid.specs.Certificates.{Form, Generators, IsLinear, combination}
 use Rattle.it_space.specs.Rows.{one_at}
-use Rattle.it_polymatroid.specs.Elementals.{Elemental, elementals, elemental_at, worth, span}
+use Rattle.it_polymatroid.specs.Elementals.{Elemental, elementals, elemental_at, elemental_value, span}
 use Rattle.it_elemental.specs.Expansions.{members, mutual_expansion, conditional_expansion}
 use Rattle.it_closure.specs.declared.dependences.Dependence.{Dependence}
 use Rattle.it_closure.specs.Closures.{closure, way}
 use Rattle.it_closure.specs.Collapse.{AreDependences, spread_out}
-use Rattle.it_elemental.specs.Indexes.{index_of}
+use Rattle.it_elemental.specs.Indexes.{elemental_index}
 
 -- What is left over at a set: the scale times the target's coefficient, less the weights times the generators' coefficients.
 abbrev pub excess : CertificateView → Form → Generators → ℕ → ℤ
-excess w target g s = w.scale *ℤ target (one_at s) -ℤ combination w.parts (λ i. g.worth_of i (one_at s))
+excess w target g s = w.scale *ℤ target (one_at s) -ℤ combination w.parts (λ i. g.form i (one_at s))
 
 -- the nonempty sets that have the closure of the empty set
 abbrev pub null_sets : ℕ → List Dependence → List ℕ
 null_sets n ds = filter (λ s. nat_eq (closure n ds s) (closure n ds 0)) (span 1 (2 ^ n - 1))
 
+-- the sum of a map over some sets
 abbrev pub sum_over : (ℕ → ℤ) → List ℕ → ℤ
 sum_over e [] = pos 0
 sum_over e (s ∷ ss) = e s +ℤ sum_over e ss
 
--- and at the empty set what evens them out
+-- amounts at sets, and at the empty set what evens out those at the sets with its closure
 abbrev pub with_empty : ℕ → List Dependence → (ℕ → ℤ) → ℕ → ℤ
 with_empty n ds e zero = neg_ℤ (sum_over e (null_sets n ds))
 with_empty n ds e (suc s) = e (suc s)
@@ -33,7 +34,7 @@ set_difference s t = s - bit_and t s
 
 -- one more weight for each of some elemental inequalities
 abbrev pub each_weight : ℕ → ℤ → List Elemental → List (ℕ × ℤ)
-each_weight n x es = map (λ e. (index_of n e, x)) es
+each_weight n x es = map (λ e. (elemental_index n e, x)) es
 
 -- From a set A to its union with T, for a dependence of T on P in A: x times
 -- `h(A) - h(A u T) = I(T-A;A-T|A^T) + H((A^T)-P|P) - (h(T) - h(P))`.
@@ -49,13 +50,15 @@ moves_at n ds s (negsuc k) = each_weight n (pos (suc k)) (conditional_expansion 
 moves_at n ds s (pos zero) = []
 moves_at n ds s (pos (suc k)) = flat_map (turn_moves n (pos (suc k))) (way n ds s)
 
--- all that is added to the weights, by the sets' numbers
+-- what is added to the weights for one set
 abbrev pub moves_of : ℕ → List Dependence → (ℕ → ℤ) → ℕ → List (ℕ × ℤ)
 moves_of n ds e s = moves_at n ds s (with_empty n ds e s)
 
+-- all that is added to the weights, by the sets' numbers
 abbrev pub moves : ℕ → List Dependence → (ℕ → ℤ) → List (ℕ × ℤ)
 moves n ds e = flat_map (moves_of n ds e) (span 0 (2 ^ n))
 
+-- the weights over all sets: those over closed sets with all that is added
 abbrev pub lifted_weights : ℕ → List Dependence → Form → Generators → CertificateView → List (ℕ × ℤ)
 lifted_weights n ds target g w = w.parts ++ moves n ds (excess w target g)
 
@@ -65,16 +68,16 @@ signed_value negated x = if negated then neg_ℤ x else x
 
 -- the generators are the elemental inequalities, then constraints, among them the equations of the dependences
 pub record HaveDependences (n : ℕ) (ds : List Dependence) (g : Generators) : Type 0 where
-  pub elemental : (i : ℕ) → i < length (elementals n) → (h : ℕ → ℤ) → h 0 ≡ pos 0 → g.worth_of i h ≡ worth n h (elemental_at n i)
-  pub equation : All (λ d. (h : ℕ → ℤ) → h 0 ≡ pos 0 → g.worth_of d.generator h ≡ signed_value d.negated (h d.to -ℤ h d.from)) ds
+  pub elemental : (i : ℕ) → i < length (elementals n) → (h : ℕ → ℤ) → h 0 ≡ pos 0 → g.form i h ≡ elemental_value n h (elemental_at n i)
+  pub equation : All (λ d. (h : ℕ → ℤ) → h 0 ≡ pos 0 → g.form d.generator h ≡ signed_value d.negated (h d.to -ℤ h d.from)) ds
 
 -- the weights add up over closed sets, at each coordinate
 abbrev pub AddsUpOverClosed : ℕ → ℕ → List Dependence → Form → Generators → CertificateView → Type 0
 AddsUpOverClosed size n ds target g w = (c : ℕ) → 0 < c → c < size
-    → w.scale *ℤ target (spread_out n ds (one_at c)) ≡ combination w.parts (λ i. g.worth_of i (spread_out n ds (one_at c)))
+    → w.scale *ℤ target (spread_out n ds (one_at c)) ≡ combination w.parts (λ i. g.form i (spread_out n ds (one_at c)))
 
 -- The lifted weights add up at every map.
 abbrev pub LiftAddsUp : Type 0
 LiftAddsUp = (size n : ℕ) (ds : List Dependence) (target : Form) (g : Generators) (w : CertificateView) → 2 ^ n ≤ size → AreDependences n ds → HaveDependences n ds g
-    → IsLinear size target → ((i : ℕ) → i < g.count → IsLinear size (g.worth_of i)) → All (λ p. p.0 < g.count) w.parts → AddsUpOverClosed size n ds target g w
-    → (h : ℕ → ℤ) → h 0 ≡ pos 0 → w.scale *ℤ target h ≡ combination (lifted_weights n ds target g w) (λ i. g.worth_of i h)
+    → IsLinear size target → ((i : ℕ) → i < g.count → IsLinear size (g.form i)) → All (λ p. p.0 < g.count) w.parts → AddsUpOverClosed size n ds target g w
+    → (h : ℕ → ℤ) → h 0 ≡ pos 0 → w.scale *ℤ target h ≡ combination (lifted_weights n ds target g w) (λ i. g.form i h)

@@ -3,7 +3,8 @@ use Rattle.std.specs.Prelude.{◌≡◌}
 use Rattle.it_space.specs.Problems.{ProblemView, IsProblem}
 use Rattle.it_closure.specs.DependencesViews.{DependencesView}
 use Rattle.it_closure.specs.Reading.{dependences_of}
-use Rattle.it_lift.specs.Lifted.{AreOf}
+use Rattle.it_lift.specs.Lifted.{AreDependencesOf}
 
-abbrev pub ReadAreOf : Type 0
-ReadAreOf = (q : ProblemView) (d : DependencesView) → IsProblem q → d.space ≡ q.space → d.list ≡ dependences_of q → AreOf q d
+-- what is read from a problem are equations of it, in order
+abbrev pub ReadingGivesDependences : Type 0
+ReadingGivesDependences = (q : ProblemView) (d : DependencesView) → IsProblem q → d.space ≡ q.space → d.list ≡ dependences_of q → AreDependencesOf q d

@@ -1,7 +1,7 @@
--- No public clause cites these: amounts that are added to the weights, one after the other.
+-- No public clause cites this module: amounts that are added to the weights, one after the other.
 use Rattle.std.specs.Prelude.{◌≡◌, ℕ, ℤ, List, [], ◌∷◌, length, map}
 use Rattle.it_space.specs.Sums.{number_at, plus_at}
-use Rattle.it_lift.specs.Fits.{WayFits}
+use Rattle.it_lift.specs.Fits.{WeightSumsFit}
 
 -- with one weight after the other added
 abbrev pub weights_after : (ℕ → ℤ) → List (ℕ × ℤ) → ℕ → ℤ
@@ -9,8 +9,8 @@ weights_after f [] = f
 weights_after f (m ∷ ms) = weights_after (plus_at f m) ms
 
 -- some weights were added, and each sum on the way is within the limit
-pub record AreAdded (old new : List ℤ) (ms : List (ℕ × ℤ)) : Type 0 where
-  pub fits : WayFits (number_at old) ms
+pub record AreWeightsAdded (old new : List ℤ) (ms : List (ℕ × ℤ)) : Type 0 where
+  pub fits : WeightSumsFit (number_at old) ms
   pub same : number_at new ≡ weights_after (number_at old) ms
   pub complete : length new ≡ length old
 

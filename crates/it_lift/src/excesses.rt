@@ -40,7 +40,7 @@ fn left_of(
     requires problem { IsProblem (problem_view problem.now) }
     requires listed { All (λ p. p.0 < (generators_of (problem_view problem.now)).count) weights.now }
     requires some { 0 < set }
-    ensures { OkIff result (FallFits whole weights.now (λ i. (generators_of (problem_view problem.now)).worth_of i (one_at set))) (whole -ℤ combination weights.now (λ i. (generators_of (problem_view problem.now)).worth_of i (one_at set))) }
+    ensures { OkIff result (FallFits whole weights.now (λ i. (generators_of (problem_view problem.now)).form i (one_at set))) (whole -ℤ combination weights.now (λ i. (generators_of (problem_view problem.now)).form i (one_at set))) }
 {
     let mut left = whole;
     for (index, weight) in weights {
@@ -54,7 +54,7 @@ fn coefficient_at_set(problem: &Problem, index: u32, set: VarSet) -> i128
     requires problem { IsProblem (problem_view problem.now) }
     requires listed { index < (generators_of (problem_view problem.now)).count }
     requires some { 0 < set }
-    ensures { result ≡ (generators_of (problem_view problem.now)).worth_of index (one_at set) }
+    ensures { result ≡ (generators_of (problem_view problem.now)).form index (one_at set) }
 {
     coefficient_at(problem, index, set.number() as u32)
 }

@@ -7,5 +7,5 @@ mod lifting;
 mod moves;
 mod sums;
 
-pub use laws::{lift_adds_up, read_are_of, way_fits_as_end};
+pub use laws::{lift_adds_up, reading_gives_dependences, weight_sums_fit_as_end};
 pub use lifting::lift;

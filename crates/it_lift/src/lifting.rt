@@ -6,12 +6,12 @@ ghost use Rattle.it_space.specs.Problems.{IsProblem, problem_view};
 ghost use Rattle.it_space.specs.Rows.{IsUpTo, value};
 ghost use Rattle.it_space.specs.Spaces.{size_of};
 ghost use Rattle.it_polymatroid.specs.Elementals.{elementals, span};
-ghost use Rattle.it_lift.specs.Fits.{EmptyFits, WayFits};
+ghost use Rattle.it_lift.specs.Fits.{EmptyFits, WeightSumsFit};
 ghost use Rattle.it_elemental.specs.Generators.{generators_of};
-ghost use Rattle.it_lift.specs.Lifted.{AddUpOverClosed, AreOf, FitsLift, IsLiftOf};
+ghost use Rattle.it_lift.specs.Lifted.{IsCertificateOverClosed, AreDependencesOf, FitsLift, IsLiftOf};
 ghost use Rattle.it_lift.specs.Lifts.{excess, moves, moves_of, with_empty};
 ghost use Rattle.it_space.specs.Sums.{number_at};
-ghost use Rattle.it_lift.specs.Sums.{AreAdded};
+ghost use Rattle.it_lift.specs.Sums.{AreWeightsAdded};
 
 use crate::excesses::{empty_excess, excess};
 use crate::moves::add_moves;
@@ -31,9 +31,9 @@ pub fn lift(
     collapsed: &Certificate,
 ) -> Result<Certificate, RowFault>
     requires problem { IsProblem (problem_view problem.now) }
-    requires dependences { AreOf (problem_view problem.now) dependences.now }
+    requires dependences { AreDependencesOf (problem_view problem.now) dependences.now }
     requires target { IsUpTo (size_of problem.now.space) target.now }
-    requires sums { AddUpOverClosed (problem_view problem.now) dependences.now target.now (certificate_view collapsed.now) }
+    requires sums { IsCertificateOverClosed (problem_view problem.now) dependences.now target.now (certificate_view collapsed.now) }
     ensures unchanged { IfOk result (λ c. dependences.now.list ≡ [] → certificate_view c ≡ certificate_view collapsed.now) }
     ensures fits { OnOk result (dependences.now.list ≢ [] → FitsLift (problem_view problem.now) dependences.now target.now (certificate_view collapsed.now)) }
     ensures nonzero { IfOk result (λ c. dependences.now.list ≢ [] → All (λ p. p.1 ≢ pos 0) (certificate_view c).parts) }
@@ -55,9 +55,9 @@ fn lift_all(
     collapsed: &Certificate,
 ) -> Result<Certificate, RowFault>
     requires problem { IsProblem (problem_view problem.now) }
-    requires dependences { AreOf (problem_view problem.now) dependences.now }
+    requires dependences { AreDependencesOf (problem_view problem.now) dependences.now }
     requires target { IsUpTo (size_of problem.now.space) target.now }
-    requires sums { AddUpOverClosed (problem_view problem.now) dependences.now target.now (certificate_view collapsed.now) }
+    requires sums { IsCertificateOverClosed (problem_view problem.now) dependences.now target.now (certificate_view collapsed.now) }
     ensures fits { OnOk result (FitsLift (problem_view problem.now) dependences.now target.now (certificate_view collapsed.now)) }
     ensures nonzero { IfOk result (λ c. All (λ p. p.1 ≢ pos 0) (certificate_view c).parts) }
     ensures lifted { IfOk result (λ c. IsLiftOf (problem_view problem.now) dependences.now target.now (certificate_view collapsed.now) (certificate_view c)) }
@@ -87,8 +87,8 @@ fn add_all(
     requires places { All (λ d. d.generator < length sums.old) dependences.now.list }
     requires complete { length (elementals dependences.now.space.variables) ≤ length sums.old }
     ensures before { OnOk result (EmptyFits dependences.now.space.variables dependences.now.list (value target.now) (generators_of (problem_view problem.now)) (certificate_view collapsed.now)) }
-    ensures added { OnOk result (AreAdded sums.old sums.new (moves dependences.now.space.variables dependences.now.list (excess (certificate_view collapsed.now) (value target.now) (generators_of (problem_view problem.now))))) }
-    ensures wide { IfErr result (λ fault. fault ≡ RowFault.Wide → ¬ (EmptyFits dependences.now.space.variables dependences.now.list (value target.now) (generators_of (problem_view problem.now)) (certificate_view collapsed.now) × WayFits (number_at sums.old) (moves dependences.now.space.variables dependences.now.list (excess (certificate_view collapsed.now) (value target.now) (generators_of (problem_view problem.now)))))) }
+    ensures added { OnOk result (AreWeightsAdded sums.old sums.new (moves dependences.now.space.variables dependences.now.list (excess (certificate_view collapsed.now) (value target.now) (generators_of (problem_view problem.now))))) }
+    ensures wide { IfErr result (λ fault. fault ≡ RowFault.Wide → ¬ (EmptyFits dependences.now.space.variables dependences.now.list (value target.now) (generators_of (problem_view problem.now)) (certificate_view collapsed.now) × WeightSumsFit (number_at sums.old) (moves dependences.now.space.variables dependences.now.list (excess (certificate_view collapsed.now) (value target.now) (generators_of (problem_view problem.now)))))) }
 {
     let empty = empty_excess(problem, dependences, target, collapsed)?;
     add_moves(alloc, sums, dependences, VarSet::empty(), empty)?;
@@ -111,8 +111,8 @@ fn add_others(
     requires places { All (λ d. d.generator < length sums.old) dependences.now.list }
     requires complete { length (elementals dependences.now.space.variables) ≤ length sums.old }
     requires before { EmptyFits dependences.now.space.variables dependences.now.list (value target.now) (generators_of (problem_view problem.now)) (certificate_view collapsed.now) }
-    ensures added { OnOk result (AreAdded sums.old sums.new (flat_map (moves_of dependences.now.space.variables dependences.now.list (excess (certificate_view collapsed.now) (value target.now) (generators_of (problem_view problem.now)))) (span 1 (2 ^ dependences.now.space.variables - 1)))) }
-    ensures wide { IfErr result (λ fault. fault ≡ RowFault.Wide → ¬ WayFits (number_at sums.old) (flat_map (moves_of dependences.now.space.variables dependences.now.list (excess (certificate_view collapsed.now) (value target.now) (generators_of (problem_view problem.now)))) (span 1 (2 ^ dependences.now.space.variables - 1)))) }
+    ensures added { OnOk result (AreWeightsAdded sums.old sums.new (flat_map (moves_of dependences.now.space.variables dependences.now.list (excess (certificate_view collapsed.now) (value target.now) (generators_of (problem_view problem.now)))) (span 1 (2 ^ dependences.now.space.variables - 1)))) }
+    ensures wide { IfErr result (λ fault. fault ≡ RowFault.Wide → ¬ WeightSumsFit (number_at sums.old) (flat_map (moves_of dependences.now.space.variables dependences.now.list (excess (certificate_view collapsed.now) (value target.now) (generators_of (problem_view problem.now)))) (span 1 (2 ^ dependences.now.space.variables - 1)))) }
 {
     for number in 1..1u16 << problem.space.variables {
         let set = VarSet::from_number(number);

@@ -2,10 +2,10 @@
 ghost use Rattle.std.specs.Prelude.{◌≡◌, ◌<◌, ◌^◌, ℤ, pos, [], ◌∷◌, length, ℕ, ◌≤◌, All, IfOk, OnOk, OnErr};
 ghost use Rattle.it_space.specs.Rows.{coefficient};
 ghost use Rattle.it_space.specs.Sums.{number_at, terms_from};
-ghost use Rattle.it_lift.specs.Fits.{WayFits};
-ghost use Rattle.it_lift.specs.Lifted.{InOrder};
+ghost use Rattle.it_lift.specs.Fits.{WeightSumsFit};
+ghost use Rattle.it_lift.specs.Lifted.{WeightsAscend};
 ghost use Rattle.it_lift.specs.Lifts.{signed_value};
-ghost use Rattle.it_lift.specs.Sums.{for_each, AreAdded};
+ghost use Rattle.it_lift.specs.Sums.{for_each, AreWeightsAdded};
 
 use it_fraction::Wide;
 use it_space::Sums;
@@ -33,7 +33,7 @@ impl WeightSums {
         count: usize,
         weights: &[(u32, i128)],
     ) -> Result<WeightSums, AllocError>
-        requires order { InOrder 0 weights.now }
+        requires order { WeightsAscend 0 weights.now }
         requires places { All (λ w. w.0 < count) weights.now }
         ensures complete { IfOk result (λ s. length s ≡ count) }
         ensures weights { IfOk result (λ s. number_at s ≡ coefficient weights.now) }
@@ -54,8 +54,8 @@ impl WeightSums {
     pub fn add(&mut self, index: u32, amount: u128, taken: bool) -> Result<(), Wide>
         requires place { index < length self.old }
         requires within { amount < 2 ^ 127 }
-        ensures added { OnOk result (AreAdded self.old self.new ((index, signed_value taken (pos amount)) ∷ [])) }
-        ensures wide { OnErr result (¬ WayFits (number_at self.old) ((index, signed_value taken (pos amount)) ∷ [])) }
+        ensures added { OnOk result (AreWeightsAdded self.old self.new ((index, signed_value taken (pos amount)) ∷ [])) }
+        ensures wide { OnErr result (¬ WeightSumsFit (number_at self.old) ((index, signed_value taken (pos amount)) ∷ [])) }
     {
         self.sums.add(index as usize, signed_amount(amount, taken))
     }
@@ -64,8 +64,8 @@ impl WeightSums {
     pub fn add_each(&mut self, indexes: &[u32], amount: u128) -> Result<(), Wide>
         requires places { All (λ i. i < length self.old) indexes.now }
         requires within { amount < 2 ^ 127 }
-        ensures added { OnOk result (AreAdded self.old self.new (for_each (pos amount) indexes.now)) }
-        ensures wide { OnErr result (¬ WayFits (number_at self.old) (for_each (pos amount) indexes.now)) }
+        ensures added { OnOk result (AreWeightsAdded self.old self.new (for_each (pos amount) indexes.now)) }
+        ensures wide { OnErr result (¬ WeightSumsFit (number_at self.old) (for_each (pos amount) indexes.now)) }
     {
         for index in indexes {
             self.add(*index, amount, false)?;
@@ -85,7 +85,7 @@ fn signed_amount(amount: u128, taken: bool) -> i128
 
 /// The weights by their generators' numbers, 0 where none is.
 fn sums_of(alloc: Global, count: usize, weights: &[(u32, i128)]) -> Result<Sums, AllocError>
-    requires order { InOrder 0 weights.now }
+    requires order { WeightsAscend 0 weights.now }
     requires places { All (λ w. w.0 < count) weights.now }
     ensures complete { IfOk result (λ s. length s ≡ count) }
     ensures weights { IfOk result (λ s. (i : ℕ) → number_at s i ≡ coefficient weights.now i) }

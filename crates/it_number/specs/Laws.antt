@@ -8,10 +8,11 @@ use Rattle.it_number.specs.Gcd.{gcd, lcm}
 abbrev pub GcdIsGreatest : Type 0
 GcdIsGreatest = (a b : ℕ) → IsGcd a b (gcd a b)
 
--- m is a multiple of both, and divides each multiple of both
+-- m is a multiple of both, and divides each multiple of both: the least common one
 abbrev pub IsLcm : ℕ → ℕ → ℕ → Type 0
 IsLcm a b m = (a ∣ m) × (b ∣ m) × ((n : ℕ) → a ∣ n → b ∣ n → m ∣ n)
 
+-- lcm a b is a multiple of both, and divides every number that both divide
 abbrev pub LcmIsLeast : Type 0
 LcmIsLeast = (a b : ℕ) → IsLcm a b (lcm a b)
 

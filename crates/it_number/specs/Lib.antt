@@ -1,4 +1,5 @@
 pub mod Division
+pub mod Decimals
 pub mod Gcd
 pub mod Limit
 pub mod Rings

@@ -14,6 +14,7 @@ abbrev pub WriteGains : {E : Type 0} → Option (List ℕ) → Option (List ℕ)
 WriteGains old new (Ok n) piece = Gains old new (take n piece)
 WriteGains old new (Err e) piece = Gains old new []
 
+-- a text begins with a part
 abbrev pub IsFront : List ℕ → List ℕ → Type 0
 IsFront part text = (rest : List ℕ) × (text ≡ part ++ rest)
 

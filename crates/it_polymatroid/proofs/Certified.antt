@@ -34,23 +34,23 @@ unscaled (pos (suc k)) (negsuc x) h g = absurd (omega (arith, ints))
 unscaled (negsuc k) x h g = absurd (omega (arith, ints))
 
 -- the weights that stand name generators, so their sum is linear
-weighted_is : (size : ℕ) (g : Generators) → ((i : ℕ) → i < g.count → IsLinear size (g.worth_of i)) → (ws : List (ℕ × ℤ)) → All (IsAllowed g) ws
-    → (p : ℕ → ℤ) → p 0 ≡ pos 0 → combination ws (λ i. g.worth_of i p) ≡ dot size (λ c. combination ws (λ i. g.worth_of i (one_at c))) p
+weighted_is : (size : ℕ) (g : Generators) → ((i : ℕ) → i < g.count → IsLinear size (g.form i)) → (ws : List (ℕ × ℤ)) → All (IsAllowed g) ws
+    → (p : ℕ → ℤ) → p 0 ≡ pos 0 → combination ws (λ i. g.form i p) ≡ dot size (λ c. combination ws (λ i. g.form i (one_at c))) p
 weighted_is size g l [] a p e = (linear_zero size).sum p e
 weighted_is size g l (w ∷ ws) a p e =
-    ap₂ (λ x y. x +ℤ y) ((linear-scale size w.1 (g.worth_of w.0) (l w.0 (All-head (IsAllowed g) w ws a).0)).sum p e) (weighted_is size g l ws (All-tail (IsAllowed g) w ws a) p e)
-    ∙ sym (dot-add size (λ c. w.1 *ℤ g.worth_of w.0 (one_at c)) (λ c. combination ws (λ i. g.worth_of i (one_at c))) p)
+    ap₂ (λ x y. x +ℤ y) ((linear-scale size w.1 (g.form w.0) (l w.0 (All-head (IsAllowed g) w ws a).0)).sum p e) (weighted_is size g l ws (All-tail (IsAllowed g) w ws a) p e)
+    ∙ sym (dot-add size (λ c. w.1 *ℤ g.form w.0 (one_at c)) (λ c. combination ws (λ i. g.form i (one_at c))) p)
 
 -- sums that agree at each coordinate agree at every map
-pub adds_up_everywhere : (size : ℕ) (g : Generators) (target : Form) (w : CertificateView) → ((i : ℕ) → i < g.count → IsLinear size (g.worth_of i)) → IsLinear size target
-    → IsCertificate size g target w → (p : ℕ → ℤ) → p 0 ≡ pos 0 → w.scale *ℤ target p ≡ combination w.parts (λ i. g.worth_of i p)
+pub adds_up_everywhere : (size : ℕ) (g : Generators) (target : Form) (w : CertificateView) → ((i : ℕ) → i < g.count → IsLinear size (g.form i)) → IsLinear size target
+    → IsCertificate size g target w → (p : ℕ → ℤ) → p 0 ≡ pos 0 → w.scale *ℤ target p ≡ combination w.parts (λ i. g.form i p)
 adds_up_everywhere size g target w l m c p e =
     ap (λ x. w.scale *ℤ x) (m.sum p e)
     ∙ sym (dot-scale size w.scale (λ k. target (one_at k)) p)
-    ∙ dot_from_one size (λ k. w.scale *ℤ target (one_at k)) (λ k. combination w.parts (λ i. g.worth_of i (one_at k))) p e c.adds_up
+    ∙ dot_from_one size (λ k. w.scale *ℤ target (one_at k)) (λ k. combination w.parts (λ i. g.form i (one_at k))) p e c.adds_up
     ∙ sym (weighted_is size g l w.parts c.allowed p e)
 
 pub certificates_prove : CertificatesProve
 certificates_prove size g target w l m c p e least zeros =
     unscaled w.scale (target p) c.scale_from_one
-    (subst (λ (x : ℤ). pos 0 ≤ℤ x) (sym (adds_up_everywhere size g target w l m c p e)) (weighted_least g (λ i. g.worth_of i p) least zeros w.parts c.allowed))
+    (subst (λ (x : ℤ). pos 0 ≤ℤ x) (sym (adds_up_everywhere size g target w l m c p e)) (weighted_least g (λ i. g.form i p) least zeros w.parts c.allowed))

@@ -5,7 +5,7 @@ use Rattle.std.proofs.lemmas.Int.{ints}
 use Rattle.std.proofs.lemmas.Bool.Decides.{nat_tests}
 use Rattle.std.proofs.lemmas.Nat.Bits.{bit_at-lt}
 use Rattle.std.specs.Int.{bit_at}
-use Rattle.it_polymatroid.specs.Elementals.{Elemental, Conditional, Mutual, worth, span, lacks, mutuals_of, elementals, ElementalsGenerate}
+use Rattle.it_polymatroid.specs.Elementals.{Elemental, Conditional, Mutual, elemental_value, span, lacks, mutuals_of, elementals, ElementalsGenerate}
 use Rattle.it_space.proofs.EveryLemmas.{every_of, all_of, every-append, every_front, every_back, every-map, every_mapped, every-flat_map, every_flat_mapped, every-filter, every_filtered}
 use Rattle.it_polymatroid.proofs.EverySpan.{every-span, every_spanned}
 use Rattle.it_polymatroid.proofs.Halves.{ElementalsHold, polymatroid_of}
@@ -53,7 +53,7 @@ difference : (a b : ℤ) → b ≤ℤ a → pos 0 ≤ℤ (a -ℤ b)
 difference a b h = omega (arith, ints)
 
 abbrev Met : ℕ → (ℕ → ℤ) → Elemental → Type 0
-Met n h e = pos 0 ≤ℤ worth n h e
+Met n h e = pos 0 ≤ℤ elemental_value n h e
 
 by_index : (n : ℕ) (h : ℕ → ℤ) → HoldsOfElementals (Met n h) n → ElementalsHold n h
 by_index n h e = record {

@@ -10,7 +10,7 @@ Form = (ℕ → ℤ) → ℤ
 -- what an answer may be built from: for each number below `count` a form that is to be at least 0, or to be 0 where it is an equation
 pub record Generators : Type 0 where
   pub count : ℕ
-  pub worth_of : ℕ → Form
+  pub form : ℕ → Form
   pub is_equation : ℕ → Bool
 
 -- the sum over a list of numbered weights
@@ -26,7 +26,7 @@ IsAllowed g w = (w.0 < g.count) × (g.is_equation w.0 ≡ false → pos 0 ≤ℤ
 pub record IsCertificate (size : ℕ) (g : Generators) (target : Form) (w : CertificateView) : Type 0 where
   pub scale_from_one : pos 1 ≤ℤ w.scale
   pub allowed : All (IsAllowed g) w.parts
-  pub adds_up : (c : ℕ) → 0 < c → c < size → w.scale *ℤ target (one_at c) ≡ combination w.parts (λ i. g.worth_of i (one_at c))
+  pub adds_up : (c : ℕ) → 0 < c → c < size → w.scale *ℤ target (one_at c) ≡ combination w.parts (λ i. g.form i (one_at c))
 
 -- the sum over the coordinates below `size` of value times coefficient
 abbrev pub dot : ℕ → (ℕ → ℤ) → (ℕ → ℤ) → ℤ
@@ -39,6 +39,6 @@ pub record IsLinear (size : ℕ) (f : Form) : Type 0 where
 
 -- Weak duality: a target with a certificate over linear generators is at least 0 wherever the generators are met.
 abbrev pub CertificatesProve : Type 0
-CertificatesProve = (size : ℕ) (g : Generators) (target : Form) (w : CertificateView) → ((i : ℕ) → i < g.count → IsLinear size (g.worth_of i)) → IsLinear size target
+CertificatesProve = (size : ℕ) (g : Generators) (target : Form) (w : CertificateView) → ((i : ℕ) → i < g.count → IsLinear size (g.form i)) → IsLinear size target
     → IsCertificate size g target w → (p : ℕ → ℤ) → p 0 ≡ pos 0
-    → ((i : ℕ) → i < g.count → pos 0 ≤ℤ g.worth_of i p) → ((i : ℕ) → i < g.count → g.is_equation i ≡ true → g.worth_of i p ≡ pos 0) → pos 0 ≤ℤ target p
+    → ((i : ℕ) → i < g.count → pos 0 ≤ℤ g.form i p) → ((i : ℕ) → i < g.count → g.is_equation i ≡ true → g.form i p ≡ pos 0) → pos 0 ≤ℤ target p

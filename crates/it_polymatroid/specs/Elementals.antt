@@ -9,15 +9,16 @@ pub data Elemental : Type 0 where
   Mutual : (i j k : ℕ) → Elemental
 
 -- the value at h: what the inequality says to be at least 0
-abbrev pub worth : ℕ → (ℕ → ℤ) → Elemental → ℤ
-worth n h (Conditional i) = h (2 ^ n - 1) -ℤ h (2 ^ n - 1 - 2 ^ i)
-worth n h (Mutual i j k) = (h (k + 2 ^ i) +ℤ h (k + 2 ^ j)) -ℤ (h (k + 2 ^ i + 2 ^ j) +ℤ h k)
+abbrev pub elemental_value : ℕ → (ℕ → ℤ) → Elemental → ℤ
+elemental_value n h (Conditional i) = h (2 ^ n - 1) -ℤ h (2 ^ n - 1 - 2 ^ i)
+elemental_value n h (Mutual i j k) = (h (k + 2 ^ i) +ℤ h (k + 2 ^ j)) -ℤ (h (k + 2 ^ i + 2 ^ j) +ℤ h k)
 
 -- from, from + 1 and so on, count of them
 abbrev pub span : ℕ → ℕ → List ℕ
 span from zero = []
 span from (suc count) = from ∷ span (from + 1) count
 
+-- whether variable i is no member of k
 abbrev pub lacks : ℕ → ℕ → Bool
 lacks i k = not (has_member k i)
 
@@ -36,7 +37,7 @@ elemental_at n i = slice_index_or (elementals n) i (Conditional 0)
 
 -- h meets all of them
 abbrev pub MeetsElementals : ℕ → (ℕ → ℤ) → Type 0
-MeetsElementals n h = All (λ e. pos 0 ≤ℤ worth n h e) (elementals n)
+MeetsElementals n h = All (λ e. pos 0 ≤ℤ elemental_value n h e) (elementals n)
 
 -- They generate the axioms: a function that is 0 at the empty set is a polymatroid exactly where it meets them.
 abbrev pub ElementalsGenerate : Type 0

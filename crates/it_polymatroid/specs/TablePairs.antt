@@ -1,4 +1,4 @@
--- The axioms of polymatroids at two sets, as the test of a table goes through them. No public clause cites it.
+-- No public clause cites this module: the axioms of polymatroids at two sets, as the test of a table goes through them.
 use Rattle.std.specs.Prelude.{ℕ, ◌^◌, ◌<◌, ℤ, ◌+ℤ◌, ◌≤ℤ◌, bit_and, bit_or}
 use Rattle.it_space.specs.Sets.{IsInside}
 

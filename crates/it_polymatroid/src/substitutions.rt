@@ -44,12 +44,12 @@ impl Substitution {
         requires { length self.now ≤ 16 }
         ensures { result ≡ image self.now set }
     {
-        union_of(self.sets.as_slice(), set)
+        image(self.sets.as_slice(), set)
     }
 }
 
-/// The union of the sets that the members of a set stand for.
-fn union_of(sets: &[VarSet], of: VarSet) -> VarSet
+/// The union of the sets that the members of a set stand for, each variable for one of the sets in order.
+pub fn image(sets: &[VarSet], of: VarSet) -> VarSet
     requires { length sets.now ≤ 16 }
     ensures { result ≡ image sets.now of }
 {

@@ -3,7 +3,7 @@ use Rattle.std.proofs.Common.{◌≡◌, ℕ, zero, suc, ◌+◌, ◌*◌, ◌/�
 use Rattle.std.proofs.lemmas.Int.{ints, unsigned_abs-mul}
 use Rattle.std.specs.Int.{IsGcd}
 use Rattle.it_number.specs.Gcd.{gcd}
-use Rattle.it_rational.specs.Rational.{Rational, quotient, Names}
+use Rattle.it_rational.specs.Rational.{Rational, quotient, IsRatio}
 use Rattle.it_rational.specs.Rational as Q
 use Rattle.it_number.proofs.Integers.{zring}
 use Rattle.it_number.proofs.Ring.{ring, v, plus, times}
@@ -18,7 +18,7 @@ use borrow.Author.Differences.{up, down, same_in}
 across : (N n : ℤ) (D g d : ℕ) → N *ℤ pos g ≡ n → D * g ≡ d → N *ℤ pos d ≡ n *ℤ pos D
 across N n D g d e f = rw (← e, ← f) (omega (arith, zring))
 
-pub quotient_names : (n : ℤ) (d : ℕ) → 0 < d → Names (quotient n d) n d
+pub quotient_names : (n : ℤ) (d : ℕ) → 0 < d → IsRatio (quotient n d) n d
 unfolding quotient
 quotient_names n zero h = absurd (omega arith)
 quotient_names n (suc d) h =
@@ -55,7 +55,7 @@ same_across a b e =
     same_parts a b (cancel a.num b.num b.den b.positive (e ∙ ap (λ n. b.num *ℤ pos n) d)) d
 
 -- the same value by two names
-pub same_value : (q r : Rational) (n m : ℤ) (d e : ℕ) → 0 < d → 0 < e → Names q n d → Names r m e → n *ℤ pos e ≡ m *ℤ pos d → q ≡ r
+pub same_value : (q r : Rational) (n m : ℤ) (d e : ℕ) → 0 < d → 0 < e → IsRatio q n d → IsRatio r m e → n *ℤ pos e ≡ m *ℤ pos d → q ≡ r
 same_value q r n m d e hd he f g h = same_across q r (cancel (q.num *ℤ pos r.den) (r.num *ℤ pos q.den) (d * e) (mul-pos hd he)
     (cross q.num n r.num m (pos q.den) (pos d) (pos r.den) (pos e) f g h))
   where
@@ -71,18 +71,18 @@ same_value q r n m d e hd he f g h = same_across q r (cancel (q.num *ℤ pos r.d
         ∙ ap (λ x. x *ℤ (qd *ℤ d)) (sym g)
         ∙ ring ring_ℤ ρ (times (times RN E) (times QD D)) (times (times RN QD) (times D E)) refl
 
-pub own_name : (a : Rational) → Names a a.num a.den
+pub own_name : (a : Rational) → IsRatio a a.num a.den
 own_name a = refl
 
 -- names of sums, products and negations, from names of their parts
-names_of : (q : Rational) (n m : ℤ) (d e : ℕ) → 0 < d → 0 < e → Names q n d → n *ℤ pos e ≡ m *ℤ pos d → Names q m e
+names_of : (q : Rational) (n m : ℤ) (d e : ℕ) → 0 < d → 0 < e → IsRatio q n d → n *ℤ pos e ≡ m *ℤ pos d → IsRatio q m e
 names_of q n m d e hd he f h = cancel (q.num *ℤ pos e) (m *ℤ pos q.den) d hd
     (zswap q.num (pos e) (pos d) ∙ ap (λ x. x *ℤ pos e) f ∙ zswap n (pos q.den) (pos e) ∙ ap (λ x. x *ℤ pos q.den) h ∙ zswap m (pos d) (pos q.den))
   where
     zswap : (a b c : ℤ) → (a *ℤ b) *ℤ c ≡ (a *ℤ c) *ℤ b
     zswap a b c = omega (arith, zring)
 
-pub plus_names : (a b : Rational) (n m : ℤ) (d e : ℕ) → 0 < d → 0 < e → Names a n d → Names b m e → Names (Q.plus a b) (n *ℤ pos e +ℤ m *ℤ pos d) (d * e)
+pub plus_names : (a b : Rational) (n m : ℤ) (d e : ℕ) → 0 < d → 0 < e → IsRatio a n d → IsRatio b m e → IsRatio (Q.plus a b) (n *ℤ pos e +ℤ m *ℤ pos d) (d * e)
 plus_names a b n m d e hd he f g =
     names_of (Q.plus a b) (a.num *ℤ pos b.den +ℤ b.num *ℤ pos a.den) (n *ℤ pos e +ℤ m *ℤ pos d) (a.den * b.den) (d * e)
     (mul-pos a.positive b.positive) (mul-pos hd he) (quotient_names (a.num *ℤ pos b.den +ℤ b.num *ℤ pos a.den) (a.den * b.den) (mul-pos a.positive b.positive))
@@ -96,7 +96,7 @@ plus_names a b n m d e hd he f g =
         ∙ ap₂ (λ x y. x *ℤ (bd *ℤ e) +ℤ y *ℤ (ad *ℤ d)) f g
         ∙ ring ring_ℤ ρ (plus (times (times N AD) (times BD E)) (times (times M BD) (times AD D))) (times (plus (times N E) (times M D)) (times AD BD)) refl
 
-pub times_names : (a b : Rational) (n m : ℤ) (d e : ℕ) → 0 < d → 0 < e → Names a n d → Names b m e → Names (Q.times a b) (n *ℤ m) (d * e)
+pub times_names : (a b : Rational) (n m : ℤ) (d e : ℕ) → 0 < d → 0 < e → IsRatio a n d → IsRatio b m e → IsRatio (Q.times a b) (n *ℤ m) (d * e)
 times_names a b n m d e hd he f g =
     names_of (Q.times a b) (a.num *ℤ b.num) (n *ℤ m) (a.den * b.den) (d * e)
     (mul-pos a.positive b.positive) (mul-pos hd he) (quotient_names (a.num *ℤ b.num) (a.den * b.den) (mul-pos a.positive b.positive))
@@ -121,5 +121,5 @@ quotient_parts N n D d hd hD is e = (ap (λ q. q.num) (quotient_is N n D d hd hD
 pub own_parts : (n : ℤ) (d : ℕ) → 0 < d → IsGcd (unsigned_abs n) d 1 → ((quotient n d).num ≡ n) × ((quotient n d).den ≡ d)
 own_parts n d h is = quotient_parts n n d d h h is refl
 
-pub whole_names : (n : ℤ) → Names (Q.whole n) n 1
+pub whole_names : (n : ℤ) → IsRatio (Q.whole n) n 1
 whole_names n = quotient_names n 1 (omega arith)

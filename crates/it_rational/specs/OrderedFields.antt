@@ -21,11 +21,14 @@ pub record OrderedField (A : Type 0) : Type 0 where
   pub order : Order ring
 
 module _ {A : Type 0} (F : OrderedField A) where
+  -- a is at least 0
   abbrev pub IsAtLeastZero : A → Type 0
   IsAtLeastZero a = F.order.is_least a ≡ true
 
+  -- a is below 0
   abbrev pub IsBelowZero : A → Type 0
   IsBelowZero a = F.order.is_least a ≡ false
 
+  -- a is above 0: its negation is below 0
   abbrev pub IsAboveZero : A → Type 0
   IsAboveZero a = F.order.is_least (F.ring.neg a) ≡ false

@@ -24,15 +24,19 @@ quotient n (suc d) = record {
   lowest = rest_lowest n d;
 }
 
+-- a whole number as a rational one
 abbrev pub whole : ℤ → Rational
 whole n = quotient n 1
 
+-- the sum
 abbrev pub plus : Rational → Rational → Rational
 plus a b = quotient (a.num *ℤ pos b.den +ℤ b.num *ℤ pos a.den) (a.den * b.den)
 
+-- the product
 abbrev pub times : Rational → Rational → Rational
 times a b = quotient (a.num *ℤ b.num) (a.den * b.den)
 
+-- the negation
 abbrev pub minus : Rational → Rational
 minus a = quotient (neg_ℤ a.num) a.den
 
@@ -59,5 +63,5 @@ abbrev pub is_at_least_zero : Rational → Bool
 is_at_least_zero q = sign_least q.num
 
 -- q is n / d
-abbrev pub Names : Rational → ℤ → ℕ → Type 0
-Names q n d = q.num *ℤ pos d ≡ n *ℤ pos q.den
+abbrev pub IsRatio : Rational → ℤ → ℕ → Type 0
+IsRatio q n d = q.num *ℤ pos d ≡ n *ℤ pos q.den

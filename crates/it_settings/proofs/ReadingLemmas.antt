@@ -8,7 +8,7 @@ use Rattle.clap.specs.declared.error.kind.ErrorKind.TheVariants as kinds
 use Rattle.clap.proofs.WalkLemmas.{first_value-rows}
 use Rattle.it_settings.specs.App.{itip_app}
 use Rattle.it_settings.specs.ErrorKinds.{IsFaultOf}
-use Rattle.it_settings.specs.Settings.{settings_of, settings_by, values_by, unless_fault, Reads}
+use Rattle.it_settings.specs.Settings.{settings_of, settings_by, values_by, unless_fault, TellsReading}
 use Rattle.it_settings.specs.declared.types.Settings.{Settings}
 use Rattle.it_settings.specs.declared.types.WordsFault.{WordsFault}
 use Rattle.it_settings.specs.declared.types.WordsFault.TheVariants.{Usage, Memory}
@@ -28,7 +28,7 @@ without [] o some = absurd (some refl)
 without (k ∷ ks) o some = refl
 
 pub has_no_reading : (words : List Text) (kind : ErrorKind) (fault : WordsFault)
-    → (fault_of itip_app words ≡ [] → kind ≡ kinds.OutOfMemory) → IsFaultOf kind fault → Reads (settings_of words) (Err fault)
+    → (fault_of itip_app words ≡ [] → kind ≡ kinds.OutOfMemory) → IsFaultOf kind fault → TellsReading (settings_of words) (Err fault)
 unfolding settings_of
 has_no_reading words kind Usage none is = without (fault_of itip_app words) _ (λ e. is (none e))
 has_no_reading words kind Memory none is = tt

@@ -1,6 +1,7 @@
 -- The settings that words give: what the command takes from them, each value then judged.
-use Rattle.std.specs.Prelude.{ℕ, ◌+◌, ◌*◌, ◌-◌, ◌^◌, ◌≡◌, ◌≤◌, ◌<◌, ◌&&◌, List, [], ◌∷◌, length, Bool, Option, Some, None, is_some, not, Result, Ok, Err, if◌then◌else◌, codes, option_and_then, option_map, nat_le}
+use Rattle.std.specs.Prelude.{ℕ, ◌^◌, ◌≡◌, ◌≤◌, ◌<◌, ◌&&◌, List, [], ◌∷◌, length, Bool, Option, Some, None, is_some, not, Result, Ok, Err, if◌then◌else◌, codes, option_and_then, option_map, nat_le}
 use Rattle.std.specs.Str.{bytes_eq}
+use Rattle.it_number.specs.Decimals.{value_from}
 use Rattle.clap.specs.Words.{Text, Kinds, fault_of, matches_of, first_of}
 use Rattle.it_settings.specs.App.{itip_app}
 use Rattle.it_settings.specs.declared.types.Format.{Format}
@@ -11,14 +12,6 @@ use Rattle.it_settings.specs.declared.types.WordsFault.{WordsFault}
 use Rattle.it_settings.specs.declared.types.WordsFault.TheVariants.{Usage, Memory}
 
 -- ---- the value of an option
-
-abbrev pub is_digit : ℕ → Bool
-is_digit b = nat_le 48 b && nat_le b 57
-
--- the value of decimal digits behind a number; none where a byte is no digit
-abbrev pub value_from : ℕ → List ℕ → Option ℕ
-value_from n [] = Some n
-value_from n (d ∷ ds) = if is_digit d then value_from (10 * n + (d - 48)) ds else None
 
 -- a number in its range
 abbrev pub number_within : ℕ → ℕ → ℕ → Option ℕ
@@ -138,10 +131,10 @@ unfoldable pub settings_of : List Text → Option Settings
 settings_of words = unless_fault (fault_of itip_app words) (settings_by (values_by (λ id. first_of id (matches_of itip_app words))))
 
 -- an answer tells the reading: its settings, or `Usage` exactly where there is none
-abbrev pub Reads : Option Settings → Result Settings WordsFault → Type 0
-Reads reading (Ok s) = reading ≡ Some s
-Reads reading (Err Usage) = reading ≡ None
-Reads reading (Err Memory) = Unit {0}
+abbrev pub TellsReading : Option Settings → Result Settings WordsFault → Type 0
+TellsReading reading (Ok s) = reading ≡ Some s
+TellsReading reading (Err Usage) = reading ≡ None
+TellsReading reading (Err Memory) = Unit {0}
 
 -- 1 to 4096 rows, and as many candidates
 abbrev pub AreFew : ℕ → ℕ → Type 0

@@ -29,7 +29,7 @@ fn mode<'a>(alloc: Global) -> Arg<'a>
 
 /// The command without arguments, whose words begin with no program's name.
 #[tactic(auto, unfolding(crate::specs::App::bare_app))]
-fn bare<'a>(alloc: Global) -> Command<'a>
+fn bare_command<'a>(alloc: Global) -> Command<'a>
     ensures { app_of result ≡ bare_app }
 {
     Command::new(alloc, "itip")
@@ -62,7 +62,7 @@ fn with_mode<'a>(command: Command<'a>, alloc: Global) -> Result<Command<'a>, All
 fn itip<'a>(alloc: Global) -> Result<Command<'a>, AllocError>
     ensures { IfOk result (λ r. app_of r ≡ itip_app) }
 {
-    let command = with_mode(bare(alloc), alloc)?;
+    let command = with_mode(bare_command(alloc), alloc)?;
     let command = with_option(command, alloc, "format")?;
     let command = with_option(command, alloc, "pivots")?;
     let command = with_option(command, alloc, "rows")?;
@@ -72,7 +72,7 @@ fn itip<'a>(alloc: Global) -> Result<Command<'a>, AllocError>
 }
 
 /// The matches of the words, or clap's error: one of memory, or words that the command doesn't read.
-pub fn parsed<'a>(alloc: Global, words: &'a [&'a str]) -> Result<ArgMatches<'a>, Error>
+pub fn parse<'a>(alloc: Global, words: &'a [&'a str]) -> Result<ArgMatches<'a>, Error>
     ensures fits { IfOk result (λ m. fault_of itip_app (map (λ w. w.now) words.entry.now) ≡ []) }
     ensures rows { IfOk result (λ m. rows_of (found_of m) ≡ matches_of itip_app (map (λ w. w.now) words.entry.now)) }
     ensures none { IfErr result (λ e. fault_of itip_app (map (λ w. w.now) words.entry.now) ≡ [] → kind_of e ≡ ErrorKind.OutOfMemory) }

@@ -1,6 +1,7 @@
 //! The values of options.
 ghost use Rattle.std.specs.Prelude.{◌≡◌, ◌≤◌, ◌<◌, ◌+◌, ◌*◌, ◌-◌, ◌^◌, option_map, IfSome, length};
-ghost use Rattle.it_settings.specs.Settings.{value_from, number_of, number_or, rows_or, tries_or, pivots_of, pivots_or, format_of, format_or, number_within};
+ghost use Rattle.it_number.specs.Decimals.{value_from};
+ghost use Rattle.it_settings.specs.Settings.{number_of, number_or, rows_or, tries_or, pivots_of, pivots_or, format_of, format_or, number_within};
 
 use crate::types::Format;
 
@@ -11,10 +12,10 @@ fn value(bytes: &[u8]) -> Option<u64>
 {
     let mut n: u64 = 0;
     for d in bytes {
-        if *d < 48 || *d > 57 {
+        if !d.is_ascii_digit() {
             return None;
         }
-        n = 10 * n + (*d - 48) as u64;
+        n = 10 * n + (*d - b'0') as u64;
     }
     Some(n)
 }

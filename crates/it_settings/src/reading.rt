@@ -3,9 +3,9 @@ ghost use Rattle.std.specs.Prelude.{◌≡◌, Option, map, option_map, IfOk, If
 ghost use Rattle.clap.specs.Words.{first_value, found_of, kind_of};
 ghost use Rattle.it_settings.specs.ValuesViews.{values_view};
 ghost use Rattle.it_settings.specs.ErrorKinds.{IsFaultOf};
-ghost use Rattle.it_settings.specs.Settings.{answer_of, check_of, bench_of, settings_by, values_by, settings_of, Reads, AreInRange};
+ghost use Rattle.it_settings.specs.Settings.{answer_of, check_of, bench_of, settings_by, values_by, settings_of, TellsReading, AreInRange};
 
-use crate::command::parsed;
+use crate::command::parse;
 use crate::numbers::{format_or, number_or, pivots_or, rows_or, tries_or};
 use crate::types::{Settings, WordsFault};
 use clap::error::ErrorKind;
@@ -133,10 +133,10 @@ fn fault(error: Error) -> WordsFault
 
 /// The settings that the words after the program's name give, or that they have no reading.
 pub fn settings(alloc: Global, words: &[&str]) -> Result<Settings, WordsFault>
-    ensures reads { Reads (settings_of (map (λ w. w.now) words.now)) result }
+    ensures reads { TellsReading (settings_of (map (λ w. w.now) words.now)) result }
     ensures ranges { IfOk result AreInRange }
 {
-    match parsed(alloc, words) {
+    match parse(alloc, words) {
         Ok(matches) => match matched_settings(&matches) {
             Some(settings) => Ok(settings),
             None => Err(WordsFault::Usage),

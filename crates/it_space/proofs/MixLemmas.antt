@@ -10,10 +10,10 @@ use Rattle.it_number.proofs.Integers.{zring}
 use Rattle.it_number.proofs.Ring.{ring, v, plus, times as prod}
 use Rattle.it_number.proofs.IntegerRing.{ring_ℤ}
 use native.Mathlib.Nat.{div-mul_cancel}
-use Rattle.it_space.specs.Rows.{Terms, coefficient, Ascends, term_at}
+use Rattle.it_space.specs.Rows.{Terms, coefficient, Ascends, single_term}
 use Rattle.it_space.specs.Cancelling.{common_at, times_up, times_down, CancelFits, cancelled_row, MixFits}
-use Rattle.it_space.specs.Mixing.{mix, present, MixesFit, AreLater, IsFirst, IsPut, IsMix}
-use Rattle.it_space.proofs.TermLemmas.{coefficient-cancelled_row, rises-cancelled_row, ascends_rise, told_rising, coefficient-append, coefficient-term_at, ascends_lower}
+use Rattle.it_space.specs.Mixing.{mix, presence, MixesFit, AreLater, IsFirstCoordinate, IsTermPut, IsMix}
+use Rattle.it_space.proofs.TermLemmas.{coefficient-cancelled_row, rises-cancelled_row, ascends_rise, told_rising, coefficient-append, coefficient-single_term, ascends_lower}
 use Rattle.it_space.proofs.CanonicalRows.{none_below, head_is}
 
 -- ascending terms from lo on, all below hi
@@ -33,14 +33,14 @@ spans_more : (lo : ℕ) (ts : Terms) (hi c : ℕ) (x : ℤ) → hi ≤ c → x �
 spans_more lo [] hi c x h n w s = (omega (arith, s), n, w, omega arith)
 spans_more lo (t ∷ ts) hi c x h n w s = (s.0, s.1, s.2, spans_more (t.0 + 1) ts hi c x h n w s.3)
 
-spans-term_at : (lo : ℕ) (ts : Terms) (hi c : ℕ) (x : ℤ) → hi ≤ c → IsWithin x → Spans lo ts hi → Spans lo (ts ++ term_at c x) (c + 1)
-spans-term_at lo ts hi c (pos zero) h w s = subst (λ (us : Terms). Spans lo us (c + 1)) (sym (plain ts)) (spans_wider lo ts hi (c + 1) (omega arith) s)
+spans-single_term : (lo : ℕ) (ts : Terms) (hi c : ℕ) (x : ℤ) → hi ≤ c → IsWithin x → Spans lo ts hi → Spans lo (ts ++ single_term c x) (c + 1)
+spans-single_term lo ts hi c (pos zero) h w s = subst (λ (us : Terms). Spans lo us (c + 1)) (sym (plain ts)) (spans_wider lo ts hi (c + 1) (omega arith) s)
   where
     plain : (ts : Terms) → ts ++ [] ≡ ts
     plain [] = refl
     plain (t ∷ ts) = ap (λ us. t ∷ us) (plain ts)
-spans-term_at lo ts hi c (pos (suc n)) h w s = spans_more lo ts hi c (pos (suc n)) h (λ e. omega (arith, ints, e)) w s
-spans-term_at lo ts hi c (negsuc n) h w s = spans_more lo ts hi c (negsuc n) h (λ e. omega (arith, ints, e)) w s
+spans-single_term lo ts hi c (pos (suc n)) h w s = spans_more lo ts hi c (pos (suc n)) h (λ e. omega (arith, ints, e)) w s
+spans-single_term lo ts hi c (negsuc n) h w s = spans_more lo ts hi c (negsuc n) h (λ e. omega (arith, ints, e)) w s
 
 -- ---- the state of the loop
 
@@ -63,13 +63,13 @@ abbrev one_if : Bool → ℕ
 one_if b = cond b 1 0
 
 -- the first coordinate is one of those that are still to come
-not_before : (from c : ℕ) (left right : Terms) → Ascends from left → Ascends from right → 1 ≤ present c left + present c right → from ≤ c
+not_before : (from c : ℕ) (left right : Terms) → Ascends from left → Ascends from right → 1 ≤ presence c left + presence c right → from ≤ c
 not_before from c left right h k s = by (present_from left h) (present_from right k)
   where
     same : (n c : ℕ) → nat_eq n c ≡ true → n ≡ c
     same n c e = grind (arith, nat_tests)
 
-    present_from : (ts : Terms) → Ascends from ts → (present c ts ≡ 0) ⊎ (from ≤ c)
+    present_from : (ts : Terms) → Ascends from ts → (presence c ts ≡ 0) ⊎ (from ≤ c)
     present_from [] a = inl refl
     present_from (t ∷ ts) a = by_test (nat_eq t.0 c) refl
       where
@@ -77,7 +77,7 @@ not_before from c left right h k s = by (present_from left h) (present_from righ
         by_test true e = inr (omega (arith, a.0, same t.0 c e))
         by_test false e = inl refl
 
-    by : (present c left ≡ 0) ⊎ (from ≤ c) → (present c right ≡ 0) ⊎ (from ≤ c) → from ≤ c
+    by : (presence c left ≡ 0) ⊎ (from ≤ c) → (presence c right ≡ 0) ⊎ (from ≤ c) → from ≤ c
     by (inl e) (inl f) = absurd (omega (arith, e, f))
     by (inl e) (inr g) = g
     by (inr g) f = g
@@ -119,7 +119,7 @@ module _ (at a b c : ℕ) (up down left right left' right' : Terms) (l : AreLate
       back g d n (inl e) = subst (λ (i : ℕ). MixFits (pos a) (coefficient left' i) (pos b) (coefficient right' i)) (sym e) (zero_fits a b (coefficient left' c) (coefficient right' c) gone_left gone_right)
       back g d n (inr e) = subst (λ (x : ℤ). MixFits (pos a) x (pos b) (coefficient right' d)) (sym (l.same d e)) (subst (λ (y : ℤ). MixFits (pos a) (coefficient left d) (pos b) y) (sym (r.same d e)) (g d n))
 
-  pub mix_more : (terms new : Terms) → IsFirst left right c → IsPut at c a left b right terms new → UnderWay at a up b down left right terms → UnderWay at a up b down left' right' new
+  pub mix_more : (terms new : Terms) → IsFirstCoordinate left right c → IsTermPut at c a left b right terms new → UnderWay at a up b down left right terms → UnderWay at a up b down left' right' new
   mix_more terms new i p u = subst (λ (ts : Terms). UnderWay at a up b down left' right' ts) (sym p.is) (by (nat_eq c at) refl)
     where
       same_number : (n m : ℕ) → nat_eq n m ≡ true → n ≡ m
@@ -147,7 +147,7 @@ module _ (at a b c : ℕ) (up down left right left' right' : Terms) (l : AreLate
       sum_none : (x y : ℤ) → y ≡ pos 0 → x +ℤ y ≡ x
       sum_none x y e = omega (arith, ints, e)
 
-      by : (t : Bool) → nat_eq c at ≡ t → UnderWay at a up b down left' right' (terms ++ cond t [] (term_at c (mix a left b right c)))
+      by : (t : Bool) → nat_eq c at ≡ t → UnderWay at a up b down left' right' (terms ++ cond t [] (single_term c (mix a left b right c)))
       by true e = subst (λ (ts : Terms). UnderWay at a up b down left' right' ts) (sym (plain terms)) record {
         from = c + 1;
         left_from = l.ascends;
@@ -159,12 +159,12 @@ module _ (at a b c : ℕ) (up down left right left' right' : Terms) (l : AreLate
       }
       by false e =
           let x : ℤ = mix a left b right c in
-          let new_is : (d : ℕ) → coefficient (terms ++ term_at c x) d ≡ coefficient terms d +ℤ cond (nat_eq c d) x (pos 0) =
-          λ d. coefficient-append terms (term_at c x) d ∙ ap (λ z. coefficient terms d +ℤ z) (coefficient-term_at c x d) in record {
+          let new_is : (d : ℕ) → coefficient (terms ++ single_term c x) d ≡ coefficient terms d +ℤ cond (nat_eq c d) x (pos 0) =
+          λ d. coefficient-append terms (single_term c x) d ∙ ap (λ z. coefficient terms d +ℤ z) (coefficient-single_term c x d) in record {
             from = c + 1;
             left_from = l.ascends;
             right_from = r.ascends;
-            spans = spans-term_at 0 terms u.from c x later (p.fits (other_number c at e)).sum u.spans;
+            spans = spans-single_term 0 terms u.from c x later (p.fits (other_number c at e)).sum u.spans;
             same = λ d n. ap (λ z. z +ℤ mix a left' b right' d) (new_is d) ∙ one d n (nat_eq c d) refl;
             gone = new_is at ∙ ap (λ t. coefficient terms at +ℤ cond t x (pos 0)) e ∙ sum_none (coefficient terms at) (pos 0) refl ∙ u.gone;
             fits = fits;

@@ -6,9 +6,9 @@ use Rattle.std.proofs.lemmas.Grind.{get_or-set_at}
 use Rattle.std.proofs.lemmas.List.{get_or-set_other}
 use Rattle.std.proofs.lemmas.List.Elements.{All-cons, All-head, All-tail, All-set}
 use Rattle.it_number.specs.Limit.{IsWithin}
-use Rattle.it_space.specs.Rows.{Terms, coefficient, Ascends, IsUpTo, term_at}
+use Rattle.it_space.specs.Rows.{Terms, coefficient, Ascends, IsUpTo, single_term}
 use Rattle.it_space.specs.Sums.{number_at, plus_at, IsAdded, terms_from}
-use Rattle.it_space.proofs.TermLemmas.{coefficient-append, coefficient-term_at, ascends-term_at}
+use Rattle.it_space.proofs.TermLemmas.{coefficient-append, coefficient-single_term, ascends-single_term}
 
 -- two maps with the same numbers
 pub same_functions : (f g : ℕ → ℤ) → ((x : ℕ) → f x ≡ g x) → f ≡ g
@@ -40,19 +40,19 @@ added-set xs i x y h e w = record {
 
 below_none : (first : ℕ) (xs : List ℤ) (c : ℕ) → c < first → coefficient (terms_from first xs) c ≡ pos 0
 below_none first [] c h = refl
-below_none first (x ∷ xs) c h = coefficient-append (term_at first x) (terms_from (first + 1) xs) c
-    ∙ ap₂ (λ a b. a +ℤ b) (coefficient-term_at first x c ∙ ap (λ b. cond b x (pos 0)) (ne_eqb first c (λ e. omega arith))) (below_none (first + 1) xs c (omega arith))
+below_none first (x ∷ xs) c h = coefficient-append (single_term first x) (terms_from (first + 1) xs) c
+    ∙ ap₂ (λ a b. a +ℤ b) (coefficient-single_term first x c ∙ ap (λ b. cond b x (pos 0)) (ne_eqb first c (λ e. omega arith))) (below_none (first + 1) xs c (omega arith))
 
 pub terms_at : (first : ℕ) (xs : List ℤ) (i : ℕ) → coefficient (terms_from first xs) (first + i) ≡ number_at xs i
 terms_at first [] i = refl
 terms_at first (x ∷ xs) zero =
     let e : first + 0 ≡ first = omega arith in
-    ap (coefficient (terms_from first (x ∷ xs))) e ∙ coefficient-append (term_at first x) (terms_from (first + 1) xs) first
-    ∙ ap₂ (λ a b. a +ℤ b) (coefficient-term_at first x first ∙ ap (λ b. cond b x (pos 0)) (eq-eqb first first refl)) (below_none (first + 1) xs first (omega arith)) ∙ omega (arith, ints)
+    ap (coefficient (terms_from first (x ∷ xs))) e ∙ coefficient-append (single_term first x) (terms_from (first + 1) xs) first
+    ∙ ap₂ (λ a b. a +ℤ b) (coefficient-single_term first x first ∙ ap (λ b. cond b x (pos 0)) (eq-eqb first first refl)) (below_none (first + 1) xs first (omega arith)) ∙ omega (arith, ints)
 terms_at first (x ∷ xs) (suc i) =
     let e : first + suc i ≡ first + 1 + i = omega arith in
-    ap (coefficient (terms_from first (x ∷ xs))) e ∙ coefficient-append (term_at first x) (terms_from (first + 1) xs) (first + 1 + i)
-    ∙ ap₂ (λ a b. a +ℤ b) (coefficient-term_at first x (first + 1 + i) ∙ ap (λ b. cond b x (pos 0)) (ne_eqb first (first + 1 + i) (λ e. omega arith))) (terms_at (first + 1) xs i) ∙ omega (arith, ints)
+    ap (coefficient (terms_from first (x ∷ xs))) e ∙ coefficient-append (single_term first x) (terms_from (first + 1) xs) (first + 1 + i)
+    ∙ ap₂ (λ a b. a +ℤ b) (coefficient-single_term first x (first + 1 + i) ∙ ap (λ b. cond b x (pos 0)) (ne_eqb first (first + 1 + i) (λ e. omega arith))) (terms_at (first + 1) xs i) ∙ omega (arith, ints)
 
 -- from place 0, and from place 1
 pub terms_from_zero : (xs : List ℤ) (c : ℕ) → coefficient (terms_from 0 xs) c ≡ number_at xs c
@@ -68,14 +68,14 @@ terms_from_one xs (suc c) h = let e : suc c ≡ 1 + c = omega arith in ap (coeff
 
 pub terms_ascend : (first : ℕ) (xs : List ℤ) → All IsWithin xs → Ascends first (terms_from first xs)
 terms_ascend first [] v = tt
-terms_ascend first (x ∷ xs) v = ascends-term_at first first x (terms_from (first + 1) xs) (omega arith) (All-head IsWithin x xs v) (terms_ascend (first + 1) xs (All-tail IsWithin x xs v))
+terms_ascend first (x ∷ xs) v = ascends-single_term first first x (terms_from (first + 1) xs) (omega arith) (All-head IsWithin x xs v) (terms_ascend (first + 1) xs (All-tail IsWithin x xs v))
 
 -- and their places are those of the list
 pub terms_up_to : (size first : ℕ) (xs : List ℤ) → 1 ≤ first → first + length xs ≤ size + 1 → IsUpTo size (terms_from first xs)
 terms_up_to size first [] h k = λ i d l. absurd (omega arith)
 terms_up_to size first (x ∷ xs) h k = here x (terms_up_to size (first + 1) xs (omega arith) (omega arith))
   where
-    here : (y : ℤ) → IsUpTo size (terms_from (first + 1) xs) → IsUpTo size (term_at first y ++ terms_from (first + 1) xs)
+    here : (y : ℤ) → IsUpTo size (terms_from (first + 1) xs) → IsUpTo size (single_term first y ++ terms_from (first + 1) xs)
     here (pos zero) a = a
     here (pos (suc y)) a = All-cons (λ t. (1 ≤ t.0) × (t.0 ≤ size)) (first, pos (suc y)) (terms_from (first + 1) xs) (h, omega arith) a
     here (negsuc y) a = All-cons (λ t. (1 ≤ t.0) × (t.0 ≤ size)) (first, negsuc y) (terms_from (first + 1) xs) (h, omega arith) a

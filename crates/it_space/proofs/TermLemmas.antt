@@ -4,7 +4,7 @@ use Rattle.std.proofs.lemmas.Int.{ints}
 use Rattle.std.proofs.lemmas.Bool.Decides.{nat_tests}
 use Rattle.it_number.proofs.Integers.{zring}
 use Rattle.it_number.specs.Limit.{IsWithin}
-use Rattle.it_space.specs.Rows.{Terms, coefficient, value, Ascends, term_at, negated_terms, one_at}
+use Rattle.it_space.specs.Rows.{Terms, coefficient, value, Ascends, single_term, negated_terms, one_at}
 use Rattle.it_space.proofs.CanonicalRows.{here_is, other_is}
 use Rattle.std.proofs.lemmas.Bool.{cases_order}
 use Rattle.it_space.specs.Cancelling.{times_up, times_down, with_term, row_sum, row_multiple, cancelled_row}
@@ -27,30 +27,30 @@ pub coefficient-append : (xs ys : Terms) (c : ℕ) → coefficient (xs ++ ys) c 
 coefficient-append [] ys c = omega (arith, ints)
 coefficient-append (x ∷ xs) ys c = omega (arith, ints, coefficient-append xs ys c)
 
-pub coefficient-term_at : (c : ℕ) (x : ℤ) (d : ℕ) → coefficient (term_at c x) d ≡ cond (nat_eq c d) x (pos 0)
-coefficient-term_at c (pos zero) d = by_test (nat_eq c d)
+pub coefficient-single_term : (c : ℕ) (x : ℤ) (d : ℕ) → coefficient (single_term c x) d ≡ cond (nat_eq c d) x (pos 0)
+coefficient-single_term c (pos zero) d = by_test (nat_eq c d)
   where
     by_test : (b : Bool) → pos 0 ≡ cond b (pos 0) (pos 0)
     by_test true = refl
     by_test false = refl
-coefficient-term_at c (pos (suc n)) d = plain (cond (nat_eq c d) (pos (suc n)) (pos 0))
+coefficient-single_term c (pos (suc n)) d = plain (cond (nat_eq c d) (pos (suc n)) (pos 0))
   where
     plain : (a : ℤ) → a +ℤ pos 0 ≡ a
     plain a = omega (arith, ints)
-coefficient-term_at c (negsuc n) d = plain (cond (nat_eq c d) (negsuc n) (pos 0))
+coefficient-single_term c (negsuc n) d = plain (cond (nat_eq c d) (negsuc n) (pos 0))
   where
     plain : (a : ℤ) → a +ℤ pos 0 ≡ a
     plain a = omega (arith, ints)
 
-pub ascends-term_at : (from c : ℕ) (x : ℤ) (ts : Terms) → from ≤ c → IsWithin x → Ascends (c + 1) ts → Ascends from (term_at c x ++ ts)
-ascends-term_at from c (pos zero) ts h w a = ascends_lower from (c + 1) ts (omega arith) a
-ascends-term_at from c (pos (suc n)) ts h w a = (h, (λ e. omega (arith, ints, e)), w, a)
-ascends-term_at from c (negsuc n) ts h w a = (h, (λ e. omega (arith, ints, e)), w, a)
+pub ascends-single_term : (from c : ℕ) (x : ℤ) (ts : Terms) → from ≤ c → IsWithin x → Ascends (c + 1) ts → Ascends from (single_term c x ++ ts)
+ascends-single_term from c (pos zero) ts h w a = ascends_lower from (c + 1) ts (omega arith) a
+ascends-single_term from c (pos (suc n)) ts h w a = (h, (λ e. omega (arith, ints, e)), w, a)
+ascends-single_term from c (negsuc n) ts h w a = (h, (λ e. omega (arith, ints, e)), w, a)
 
-pub value-term_at : (c : ℕ) (x : ℤ) (ts : Terms) (p : ℕ → ℤ) → value (term_at c x ++ ts) p ≡ x *ℤ p c +ℤ value ts p
-value-term_at c (pos zero) ts p = omega (arith, ints)
-value-term_at c (pos (suc n)) ts p = refl
-value-term_at c (negsuc n) ts p = refl
+pub value-single_term : (c : ℕ) (x : ℤ) (ts : Terms) (p : ℕ → ℤ) → value (single_term c x ++ ts) p ≡ x *ℤ p c +ℤ value ts p
+value-single_term c (pos zero) ts p = omega (arith, ints)
+value-single_term c (pos (suc n)) ts p = refl
+value-single_term c (negsuc n) ts p = refl
 
 pub value-with_term : (c : ℕ) (x : ℤ) (ts : Terms) (p : ℕ → ℤ) → value (with_term c x ts) p ≡ x *ℤ p c +ℤ value ts p
 value-with_term c (pos zero) [] p = omega (arith, ints)
@@ -58,14 +58,14 @@ value-with_term c (pos (suc n)) [] p = refl
 value-with_term c (negsuc n) [] p = refl
 value-with_term c x (t ∷ ts) p = by (nat_lt c t.0) (nat_eq c t.0) (same_number c t.0) (value-with_term c x ts p)
   where
-    before : value (term_at c x ++ t ∷ ts) p ≡ x *ℤ p c +ℤ value (t ∷ ts) p
-    before = value-term_at c x (t ∷ ts) p
+    before : value (single_term c x ++ t ∷ ts) p ≡ x *ℤ p c +ℤ value (t ∷ ts) p
+    before = value-single_term c x (t ∷ ts) p
 
-    here : c ≡ t.0 → value (term_at c (x +ℤ t.1) ++ ts) p ≡ x *ℤ p c +ℤ value (t ∷ ts) p
-    here e = let q : t.1 *ℤ p c ≡ t.1 *ℤ p t.0 = ap (λ n. t.1 *ℤ p n) e in value-term_at c (x +ℤ t.1) ts p ∙ omega (arith, zring, q)
+    here : c ≡ t.0 → value (single_term c (x +ℤ t.1) ++ ts) p ≡ x *ℤ p c +ℤ value (t ∷ ts) p
+    here e = let q : t.1 *ℤ p c ≡ t.1 *ℤ p t.0 = ap (λ n. t.1 *ℤ p n) e in value-single_term c (x +ℤ t.1) ts p ∙ omega (arith, zring, q)
 
     by : (a b : Bool) → (b ≡ true → c ≡ t.0) → value (with_term c x ts) p ≡ x *ℤ p c +ℤ value ts p
-        → value (if a then term_at c x ++ t ∷ ts else if b then term_at c (x +ℤ t.1) ++ ts else t ∷ with_term c x ts) p ≡ x *ℤ p c +ℤ value (t ∷ ts) p
+        → value (if a then single_term c x ++ t ∷ ts else if b then single_term c (x +ℤ t.1) ++ ts else t ∷ with_term c x ts) p ≡ x *ℤ p c +ℤ value (t ∷ ts) p
     by true b f ih = before
     by false true f ih = here (f refl)
     by false false f ih = omega (arith, ints, ih)
@@ -134,10 +134,10 @@ rises_lower : (lo from : ℕ) (ts : Terms) → lo ≤ from → Rises from ts →
 rises_lower lo from [] h a = tt
 rises_lower lo from (t ∷ ts) h a = (omega (arith, a.0), a.1, a.2)
 
-rises-term_at : (lo c : ℕ) (x : ℤ) (ts : Terms) → lo ≤ c → Rises (c + 1) ts → Rises lo (term_at c x ++ ts)
-rises-term_at lo c (pos zero) ts h a = rises_lower lo (c + 1) ts (omega arith) a
-rises-term_at lo c (pos (suc n)) ts h a = (h, (λ e. omega (arith, ints, e)), a)
-rises-term_at lo c (negsuc n) ts h a = (h, (λ e. omega (arith, ints, e)), a)
+rises-single_term : (lo c : ℕ) (x : ℤ) (ts : Terms) → lo ≤ c → Rises (c + 1) ts → Rises lo (single_term c x ++ ts)
+rises-single_term lo c (pos zero) ts h a = rises_lower lo (c + 1) ts (omega arith) a
+rises-single_term lo c (pos (suc n)) ts h a = (h, (λ e. omega (arith, ints, e)), a)
+rises-single_term lo c (negsuc n) ts h a = (h, (λ e. omega (arith, ints, e)), a)
 
 rises-with_term : (lo c : ℕ) (x : ℤ) (ts : Terms) → lo ≤ c → Rises lo ts → Rises lo (with_term c x ts)
 rises-with_term lo c (pos zero) [] h a = tt
@@ -152,9 +152,9 @@ rises-with_term lo c x (t ∷ ts) h a = by (nat_lt c t.0) (nat_eq c t.0) refl re
     is_above m n e f = grind (arith, nat_tests)
 
     by : (p q : Bool) → nat_lt c t.0 ≡ p → nat_eq c t.0 ≡ q → (t.0 + 1 ≤ c → Rises (t.0 + 1) (with_term c x ts))
-        → Rises lo (if p then term_at c x ++ t ∷ ts else if q then term_at c (x +ℤ t.1) ++ ts else t ∷ with_term c x ts)
-    by true q e f ih = rises-term_at lo c x (t ∷ ts) h (omega (arith, is_below c t.0 e), a.1, a.2)
-    by false true e f ih = rises-term_at lo c (x +ℤ t.1) ts h (subst (λ (n : ℕ). Rises (n + 1) ts) (sym (same_number c t.0 f)) a.2)
+        → Rises lo (if p then single_term c x ++ t ∷ ts else if q then single_term c (x +ℤ t.1) ++ ts else t ∷ with_term c x ts)
+    by true q e f ih = rises-single_term lo c x (t ∷ ts) h (omega (arith, is_below c t.0 e), a.1, a.2)
+    by false true e f ih = rises-single_term lo c (x +ℤ t.1) ts h (subst (λ (n : ℕ). Rises (n + 1) ts) (sym (same_number c t.0 f)) a.2)
     by false false e f ih = (a.0, a.1, ih (omega (arith, is_above c t.0 e f)))
 
 rises-row_sum : (lo : ℕ) (xs ys : Terms) → Rises lo xs → Rises lo ys → Rises lo (row_sum xs ys)

@@ -3,12 +3,12 @@
 use Rattle.std.specs.Prelude.{◌≢◌, ℕ, ◌/◌, ℤ, pos, ◌+ℤ◌, ◌*ℤ◌, unsigned_abs, [], ◌∷◌, ◌++◌, map, nat_eq, nat_lt, if◌then◌else◌}
 use Rattle.it_number.specs.Gcd.{gcd}
 use Rattle.it_number.specs.Limit.{IsWithin}
-use Rattle.it_space.specs.Rows.{Terms, coefficient, term_at}
+use Rattle.it_space.specs.Rows.{Terms, coefficient, single_term}
 
 -- a row with x more at coordinate c
 abbrev pub with_term : ℕ → ℤ → Terms → Terms
-with_term c x [] = term_at c x
-with_term c x (t ∷ ts) = if nat_lt c t.0 then term_at c x ++ t ∷ ts else if nat_eq c t.0 then term_at c (x +ℤ t.1) ++ ts else t ∷ with_term c x ts
+with_term c x [] = single_term c x
+with_term c x (t ∷ ts) = if nat_lt c t.0 then single_term c x ++ t ∷ ts else if nat_eq c t.0 then single_term c (x +ℤ t.1) ++ ts else t ∷ with_term c x ts
 
 -- the sum of two rows
 abbrev pub row_sum : Terms → Terms → Terms

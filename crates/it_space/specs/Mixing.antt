@@ -1,6 +1,6 @@
 -- No public clause cites this module: two ascending rows, each so many times, added coordinate by coordinate.
 use Rattle.std.specs.Prelude.{◌≡◌, ◌≢◌, ℕ, ◌+◌, ◌≤◌, ℤ, pos, ◌+ℤ◌, ◌*ℤ◌, [], ◌∷◌, ◌++◌, length, cond, nat_eq}
-use Rattle.it_space.specs.Rows.{Terms, coefficient, Ascends, term_at}
+use Rattle.it_space.specs.Rows.{Terms, coefficient, Ascends, single_term}
 use Rattle.it_space.specs.Cancelling.{MixFits}
 
 -- the coefficient of the sum at a coordinate
@@ -12,26 +12,26 @@ abbrev pub MixesFit : ℕ → ℕ → Terms → ℕ → Terms → Type 0
 MixesFit at a up b down = (c : ℕ) → c ≢ at → MixFits (pos a) (coefficient up c) (pos b) (coefficient down c)
 
 -- 1 where the first term is at a coordinate, and else 0
-abbrev pub present : ℕ → Terms → ℕ
-present c [] = 0
-present c (t ∷ ts) = cond (nat_eq t.0 c) 1 0
+abbrev pub presence : ℕ → Terms → ℕ
+presence c [] = 0
+presence c (t ∷ ts) = cond (nat_eq t.0 c) 1 0
 
 -- the terms behind a coordinate that none is before
 pub record AreLater (c : ℕ) (old new : Terms) : Type 0 where
   pub ascends : Ascends (c + 1) new
   pub same : (d : ℕ) → d ≢ c → coefficient new d ≡ coefficient old d
-  pub shorter : length new + present c old ≡ length old
+  pub shorter : length new + presence c old ≡ length old
 
 -- the first coordinate of two rows
-pub record IsFirst (left right : Terms) (c : ℕ) : Type 0 where
+pub record IsFirstCoordinate (left right : Terms) (c : ℕ) : Type 0 where
   pub left_from : Ascends c left
   pub right_from : Ascends c right
-  pub some : 1 ≤ present c left + present c right
+  pub some : 1 ≤ presence c left + presence c right
 
 -- the term at a coordinate was put behind the others, unless the coordinate is left out
-pub record IsPut (at c a : ℕ) (left : Terms) (b : ℕ) (right : Terms) (old new : Terms) : Type 0 where
+pub record IsTermPut (at c a : ℕ) (left : Terms) (b : ℕ) (right : Terms) (old new : Terms) : Type 0 where
   pub fits : c ≢ at → MixFits (pos a) (coefficient left c) (pos b) (coefficient right c)
-  pub is : new ≡ old ++ cond (nat_eq c at) [] (term_at c (mix a left b right c))
+  pub is : new ≡ old ++ cond (nat_eq c at) [] (single_term c (mix a left b right c))
 
 -- the whole sum, without the coordinate that is left out
 pub record IsMix (at a : ℕ) (up : Terms) (b : ℕ) (down : Terms) (new : Terms) : Type 0 where

@@ -1,7 +1,7 @@
 -- Whole numbers by place, while amounts are added to them.
 use Rattle.std.specs.Prelude.{◌≡◌, ℕ, ◌+◌, ℤ, pos, ◌+ℤ◌, List, [], ◌∷◌, ◌++◌, length, cond, nat_eq, slice_index_or, All}
 use Rattle.it_number.specs.Limit.{IsWithin}
-use Rattle.it_space.specs.Rows.{Terms, term_at}
+use Rattle.it_space.specs.Rows.{Terms, single_term}
 
 -- the number at a place, 0 past the last one
 abbrev pub number_at : List ℤ → ℕ → ℤ
@@ -21,4 +21,4 @@ pub record IsAdded (old new : List ℤ) (place : ℕ) (amount : ℤ) : Type 0 wh
 -- the numbers of a list other than 0, each after its place, where the first one stands at a place
 abbrev pub terms_from : ℕ → List ℤ → Terms
 terms_from first [] = []
-terms_from first (x ∷ xs) = term_at first x ++ terms_from (first + 1) xs
+terms_from first (x ∷ xs) = single_term first x ++ terms_from (first + 1) xs

@@ -1,6 +1,6 @@
 //! Answers to questions, and what they are made of.
 ghost use Rattle.std.specs.Prelude.{◌≡◌, IfOk};
-ghost use Rattle.it_space.specs.Answers.{certificate_view};
+ghost use Rattle.it_space.specs.Answers.{certificate_view, is_nonzero_weight, mark_word};
 
 use crate::points::Point;
 use crate::rows::Row;
@@ -26,6 +26,13 @@ impl Certificate {
             weights,
         })
     }
+}
+
+/// Whether a generator's weight is other than 0.
+pub fn is_nonzero_weight(weight: &(u32, i128)) -> bool
+    ensures { result ≡ is_nonzero_weight weight.now }
+{
+    weight.1 != 0
 }
 
 /// The answer to a question.
@@ -59,6 +66,19 @@ pub enum Mark {
     Plain,
     Needed,
     Unsettled,
+}
+
+impl Mark {
+    /// The mark in a word, as outputs have it.
+    pub fn word(self) -> &'static str
+        ensures { result.now ≡ mark_word self }
+    {
+        match self {
+            Mark::Plain => "plain",
+            Mark::Needed => "needed",
+            Mark::Unsettled => "unsettled",
+        }
+    }
 }
 
 /// Why a question stays undecided.

@@ -1,9 +1,9 @@
 //! A coordinate cancelled between two rows.
 ghost use Rattle.std.specs.Prelude.{◌≡◌, ◌≢◌, pos, ◌*ℤ◌, ◌<◌, ◌^◌, ◌<ℤ◌, ◌++◌, OkIff, OnOk, IfOk, IfErr, IfSome, IfNone, [], unsigned_abs};
 ghost use Rattle.it_number.specs.Limit.{IsWithin};
-ghost use Rattle.it_space.specs.Rows.{Ascends, IsCanonical, coefficient, term_at};
+ghost use Rattle.it_space.specs.Rows.{Ascends, IsCanonical, coefficient, single_term};
 ghost use Rattle.it_space.specs.Cancelling.{common_at, MixFits, CancelFits, cancelled_row};
-ghost use Rattle.it_space.specs.Mixing.{mix, MixesFit, AreLater, IsFirst, IsPut, IsMix};
+ghost use Rattle.it_space.specs.Mixing.{mix, MixesFit, AreLater, IsFirstCoordinate, IsTermPut, IsMix};
 ghost use Rattle.it_space.specs.declared.faults.RowFault.TheVariants.{Wide as IsTooWide};
 
 use crate::faults::RowFault;
@@ -76,7 +76,7 @@ fn mix(
 fn first_coordinate(left: &[(u32, i128)], right: &[(u32, i128)]) -> Option<u32>
     requires left { IsCanonical left.now }
     requires right { IsCanonical right.now }
-    ensures some { IfSome result (IsFirst left.now right.now) }
+    ensures some { IfSome result (IsFirstCoordinate left.now right.now) }
     ensures none { IfNone result ((left.now ≡ []) × (right.now ≡ [])) }
 {
     match (left, right) {
@@ -123,7 +123,7 @@ fn put_term(
     requires right { Ascends coordinate right.now }
     requires a { a < 2 ^ 127 }
     requires b { b < 2 ^ 127 }
-    ensures is { OnOk result (IsPut at coordinate a left.now b right.now terms.old.items terms.new.items) }
+    ensures is { OnOk result (IsTermPut at coordinate a left.now b right.now terms.old.items terms.new.items) }
     ensures wide { IfErr result (λ fault. fault ≡ IsTooWide → (coordinate ≢ at) × ¬ (MixFits (pos a) (coefficient left.now coordinate) (pos b) (coefficient right.now coordinate))) }
 {
     if coordinate == at {
@@ -139,7 +139,7 @@ fn put_nonzero(
     coordinate: u32,
     coefficient: i128,
 ) -> Result<(), RowFault>
-    ensures is { OnOk result (terms.new.items ≡ terms.old.items ++ term_at coordinate coefficient) }
+    ensures is { OnOk result (terms.new.items ≡ terms.old.items ++ single_term coordinate coefficient) }
     ensures fault { IfErr result (λ fault. fault ≢ IsTooWide) }
 {
     if coefficient == 0 {

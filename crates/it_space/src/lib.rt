@@ -3,8 +3,8 @@
 
 mod answers;
 mod cancelling;
+mod divisors;
 mod faults;
-mod normal_rows;
 mod points;
 mod problems;
 mod rows;
@@ -13,10 +13,10 @@ mod spaces;
 mod sums;
 mod values;
 
-pub use answers::{Answer, Cause, Certificate, Mark};
+pub use answers::{Answer, Cause, Certificate, Mark, is_nonzero_weight};
 pub use cancelling::cancel;
+pub use divisors::lowest_terms;
 pub use faults::RowFault;
-pub use normal_rows::normal;
 pub use points::Point;
 pub use problems::{Constraint, Kind, Origin, Problem, System};
 pub use rows::Row;

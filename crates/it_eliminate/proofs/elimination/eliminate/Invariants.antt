@@ -1,7 +1,7 @@
 use Rattle.std.proofs.Common.{◌^◌, drop}
-use Rattle.it_eliminate.specs.Elimination.{in_order}
+use Rattle.it_eliminate.specs.Elimination.{ordered_rows}
 use Rattle.it_eliminate.proofs.EndLemmas.{LeadsTo}
 use Rattle.it_eliminate.proofs.elimination.eliminate.Given as goal
 
 abbrev pub invariant-loop-rate : goal.invariant-loop-rate
-invariant-loop-rate l = LeadsTo (2 ^ l.system.space.variables) l.fn.rows (in_order l.system.rows.items) l.current.items l.rates l.rate-index
+invariant-loop-rate l = LeadsTo (2 ^ l.system.space.variables) l.fn.rows (ordered_rows l.system.rows.items) l.current.items l.rates l.rate-index

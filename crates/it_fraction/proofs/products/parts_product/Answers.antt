@@ -14,8 +14,8 @@ product_is c =
     let fa : FitsSigned w128 c.args.a = c.ranges.a in
     let fc : FitsSigned w128 c.args.c = c.ranges.c in
     ap₂ (λ x y. x *ℤ y)
-    (simp to_z-of_z at c.signed_quotient-left.ensures ∙ ap (int_quotient c.args.a) (c.common-left_shared.ensures.value ∙ ap (λ n. gcd n c.args.d) (simp to_z-of_z at c.unsigned_abs.ensures.value)))
-    (simp to_z-of_z at c.signed_quotient-right.ensures ∙ ap (int_quotient c.args.c) (c.common-right_shared.ensures.value ∙ ap (λ n. gcd n c.args.b) (simp to_z-of_z at c.unsigned_abs-2.ensures.value)))
+    (simp to_z-of_z at c.signed_quotient-left.ensures ∙ ap (int_quotient c.args.a) (c.common_divisor-left_shared.ensures.value ∙ ap (λ n. gcd n c.args.d) (simp to_z-of_z at c.unsigned_abs.ensures.value)))
+    (simp to_z-of_z at c.signed_quotient-right.ensures ∙ ap (int_quotient c.args.c) (c.common_divisor-right_shared.ensures.value ∙ ap (λ n. gcd n c.args.b) (simp to_z-of_z at c.unsigned_abs-2.ensures.value)))
 
 top_is : (c : In_ok-top) → c.in_ok-top.top ≡ c.signed_quotient-left.result *ℤ c.signed_quotient-right.result
 top_is c =
@@ -28,8 +28,8 @@ rest_is c =
     let fa : FitsSigned w128 c.args.a = c.ranges.a in
     let fc : FitsSigned w128 c.args.c = c.ranges.c in
     ap₂ (λ m n. m * n)
-    (c.quotient.ensures ∙ ap (λ n. c.args.b / n) (c.common-right_shared.ensures.value ∙ ap (λ n. gcd n c.args.b) (simp to_z-of_z at c.unsigned_abs-2.ensures.value)))
-    (c.quotient-2.ensures ∙ ap (λ n. c.args.d / n) (c.common-left_shared.ensures.value ∙ ap (λ n. gcd n c.args.d) (simp to_z-of_z at c.unsigned_abs.ensures.value)))
+    (c.quotient.ensures ∙ ap (λ n. c.args.b / n) (c.common_divisor-right_shared.ensures.value ∙ ap (λ n. gcd n c.args.b) (simp to_z-of_z at c.unsigned_abs-2.ensures.value)))
+    (c.quotient-2.ensures ∙ ap (λ n. c.args.d / n) (c.common_divisor-left_shared.ensures.value ∙ ap (λ n. gcd n c.args.d) (simp to_z-of_z at c.unsigned_abs.ensures.value)))
 
 pub returns-in_err-top : goal.returns-in_err-top
 returns-in_err-top c =

@@ -27,4 +27,4 @@ returns c =
     let rest = simp to_z-of_z at c.left_of.ensures in
     let is : c.in_ok-whole.whole ≡ c.args.collapsed.now.scale *ℤ value c.args.target.now (one_at c.args.set) = first.1 ∙ ap (λ x. c.args.collapsed.now.scale *ℤ x) at in
     excess_is c.left_of.result c.in_ok-whole.whole (c.args.collapsed.now.scale *ℤ value c.args.target.now (one_at c.args.set)) c.as_slice.result.now c.args.collapsed.now.weights.items
-    (λ i. (generators_of (problem_view c.args.problem.now)).worth_of i (one_at c.args.set)) is (subst (λ (x : ℤ). IsWithin (c.args.collapsed.now.scale *ℤ x)) at first.0) c.as_slice.ensures.value rest
+    (λ i. (generators_of (problem_view c.args.problem.now)).form i (one_at c.args.set)) is (subst (λ (x : ℤ). IsWithin (c.args.collapsed.now.scale *ℤ x)) at first.0) c.as_slice.ensures.value rest

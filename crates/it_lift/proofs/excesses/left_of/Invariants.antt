@@ -5,4 +5,4 @@ use Rattle.it_lift.proofs.FallSteps.{IsFalling}
 use Rattle.it_lift.proofs.excesses.left_of.Given as goal
 
 abbrev pub invariant-loop-index : goal.invariant-loop-index
-invariant-loop-index l = IsFalling l.weights (λ i. (generators_of (problem_view l.problem)).worth_of i (one_at l.set)) l.fn.whole l.index-index l.left
+invariant-loop-index l = IsFalling l.weights (λ i. (generators_of (problem_view l.problem)).form i (one_at l.set)) l.fn.whole l.index-index l.left

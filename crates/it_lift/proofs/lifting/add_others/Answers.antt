@@ -4,10 +4,10 @@ use Rattle.it_space.specs.Answers.{certificate_view}
 use Rattle.it_space.specs.Rows.{value}
 use Rattle.it_closure.specs.declared.dependences.Dependence.{Dependence}
 use Rattle.it_elemental.specs.Generators.{generators_of}
-use Rattle.it_lift.specs.Fits.{WayFits}
+use Rattle.it_lift.specs.Fits.{WeightSumsFit}
 use Rattle.it_lift.specs.Lifts.{excess, moves_of}
 use Rattle.it_space.specs.Sums.{number_at}
-use Rattle.it_lift.specs.Sums.{AreAdded}
+use Rattle.it_lift.specs.Sums.{AreWeightsAdded}
 use Rattle.it_lift.proofs.AllSteps.{others-more, others-stop, moves_found}
 use Rattle.it_lift.proofs.EmptySteps.{excess_within, number_below}
 use Rattle.it_lift.proofs.lifting.add_others.Goals as goal
@@ -30,7 +30,7 @@ returns-in_err-add_moves-clause-wide c =
     let from : 1 ≤ m = omega arith in
     let is = moves_found n ds e m c.from_number-set.result c.in_ok-left.left from c.from_number-set.ensures c.in_ok-left.ensures.1 in
     let wide = simp to_z-of_z at c.in_err-add_moves.ensures.wide in
-    let stops = where_fault wide (λ w. others-stop (moves_of n ds e) m n c.args.sums.now c.loop-number.sums from below c.loop-number.invariant (subst (λ (ms : List (ℕ × ℤ)). ¬ (WayFits (number_at c.loop-number.sums) ms)) is w)) in
+    let stops = where_fault wide (λ w. others-stop (moves_of n ds e) m n c.args.sums.now c.loop-number.sums from below c.loop-number.invariant (subst (λ (ms : List (ℕ × ℤ)). ¬ (WeightSumsFit (number_at c.loop-number.sums) ms)) is w)) in
     search (rules, stops)
 
 pub loop-number-preserved : goal.loop-number-preserved
@@ -43,4 +43,4 @@ loop-number-preserved c =
     let from : 1 ≤ m = omega arith in
     let is = moves_found n ds e m c.from_number-set.result c.in_ok-left.left from c.from_number-set.ensures c.in_ok-left.ensures.1 in
     let added = simp to_z-of_z at c.in_ok-add_moves.ensures.added in
-    others-more (moves_of n ds e) m c.args.sums.now c.loop-number.sums c.add_moves.new.sums from c.loop-number.invariant (subst (AreAdded c.loop-number.sums c.add_moves.new.sums) is added)
+    others-more (moves_of n ds e) m c.args.sums.now c.loop-number.sums c.add_moves.new.sums from c.loop-number.invariant (subst (AreWeightsAdded c.loop-number.sums c.add_moves.new.sums) is added)

@@ -52,7 +52,7 @@ returns-clause-lifted c =
     let len : c.len.result ≡ length c.args.problem.now.constraints.items = omega (arith, c.len.ensures, c.args.problem.now.constraints.ok.0) in
     let is = c.in_ok-sums.ensures.weights ∙ ap coefficient c.as_slice.ensures.value in
     rw (to_z-of_z f, c.in_ok-weights.ensures) (is_lift (problem_view c.args.problem.now) c.args.dependences.now c.args.target.now (certificate_view c.args.collapsed.now) c.in_ok-sums.sums c.add_all.new.sums c.requires.problem
-    c.requires.dependences.shape c.requires.dependences c.requires.target c.requires.sums (c.in_ok-sums.ensures.complete ∙ count_is (problem_view c.args.problem.now) c.count.result c.len.result c.count.ensures len) is c.in_ok-add_all.ensures.added)
+    c.requires.dependences c.requires.target c.requires.sums (c.in_ok-sums.ensures.complete ∙ count_is (problem_view c.args.problem.now) c.count.result c.len.result c.count.ensures len) is c.in_ok-add_all.ensures.added)
 
 pub returns-clause-nonzero : goal.returns-clause-nonzero
 returns-clause-nonzero c = rw c.in_ok-weights.ensures (weights_some 0 c.add_all.new.sums)

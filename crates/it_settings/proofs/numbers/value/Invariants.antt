@@ -1,5 +1,5 @@
 use Rattle.std.proofs.Common.{◌≡◌, ◌<◌, ◌^◌, drop}
-use Rattle.it_settings.specs.Settings.{value_from}
+use Rattle.it_number.specs.Decimals.{value_from}
 use Rattle.it_settings.proofs.numbers.value.Given as goal
 
 abbrev pub invariant-loop-d : goal.invariant-loop-d

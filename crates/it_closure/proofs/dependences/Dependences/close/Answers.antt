@@ -8,5 +8,5 @@ pub returns-clause-own : goal.returns-clause-own
 returns-clause-own c h =
     let n : ℕ = c.args.self.now.space.variables in
     let a : AreOfSpace c.args.self.now = subst AreOfSpace c.self.view_is c.self.invariant in
-    c.closed_under.ensures ∙ ap (λ ds. closure 16 ds c.args.set) (c.as_slice.ensures.value ∙ ap (λ d. d.list) c.self.view_is)
+    c.closure.ensures ∙ ap (λ ds. closure 16 ds c.args.set) (c.as_slice.ensures.value ∙ ap (λ d. d.list) c.self.view_is)
     ∙ closure_among n 16 c.args.self.now.list c.args.set (powers n a.space.few) (of_space c.args.self.now a).below h

@@ -1,9 +1,0 @@
-use Rattle.std.proofs.Common.{◌≡◌, drop, []}
-use Rattle.it_space.specs.Rows.{IsCanonical}
-use Rattle.it_eliminate.proofs.ordered.in_order.Given as goal
-use Rattle.it_eliminate.specs.Elimination.{with_rows}
-use Rattle.it_eliminate.specs.Gathering.{rows_of}
-use Rattle.std.specs.List.{AllByRecursion as Every}
-
-abbrev pub invariant-loop-row : goal.invariant-loop-row
-invariant-loop-row l = (with_rows (rows_of l.ordered.keys) (drop l.row-index l.rows) ≡ with_rows [] l.rows) × Every IsCanonical (rows_of l.ordered.keys)
