@@ -10,11 +10,11 @@ use Rattle.it_run.specs.Answers.{solved_end, HasSigns, RunsFrom}
 use Rattle.it_run.specs.Readings.{weights, point}
 use Rattle.it_run.specs.Runs.RunEndView.{Weights, Point, Pivots}
 use Rattle.it_run.specs.Solving.{RunsTo}
-use Rattle.it_run.specs.declared.answering.Solved.{Solved}
+use Rattle.it_run.specs.declared.answering.RunAnswer.{RunAnswer}
 use Rattle.it_run.proofs.AnswerLemmas.{read_run}
 use Rattle.it_engine.specs.Ends.{AnswersQuestion, AreWeightsOf, IsPointOf}
 use Rattle.it_engine.specs.Engine.{StandsFor, IsFinished}
-use Rattle.it_engine.specs.Loading.{AreRead, AreReadRows, IsNorm, IsReadBasis}
+use Rattle.it_engine.specs.Loading.{AreReadColumns, AreReadRows, IsNorm, IsReadBasis}
 use Rattle.it_engine.specs.Whole.{WholeRowView}
 use Rattle.it_engine.specs.declared.engine.EngineEnd.TheVariants as engine_ends
 use Rattle.it_engine.proofs.Starts.{stands_start}
@@ -44,11 +44,11 @@ module _ (first : TableauView) (columns : List Terms) (limit : ℕ) (old : List 
   by_budget k f p t sg s = let r = f.runs p t s in read_run (length basis) (length columns) p budget t (Pivots k) r.2
 
 -- from the start
-pub from_start : (t : TableauView) (columns : List Terms) (norm limit : ℕ) (rows : List WholeRowView) (basis : List ℕ)
-    → AreRead t t.generators columns → IsNorm columns norm → norm * limit < 2 ^ 63 → AreReadRows t limit (height t + 1) rows → IsReadBasis t (height t) basis
-    → (budget : Option ℕ) (solved : Solved) → AnswersQuestion t columns limit rows basis budget solved
+pub answer_from_start : (t : TableauView) (columns : List Terms) (norm limit : ℕ) (rows : List WholeRowView) (basis : List ℕ)
+    → AreReadColumns t t.generators columns → IsNorm columns norm → norm * limit < 2 ^ 63 → AreReadRows t limit (height t + 1) rows → IsReadBasis t (height t) basis
+    → (budget : Option ℕ) (solved : RunAnswer) → AnswersQuestion t columns limit rows basis budget solved
     → RunsFrom t budget solved
-from_start t columns norm limit rows basis cs n fit ls bs budget solved a p s =
+answer_from_start t columns norm limit rows basis cs n fit ls bs budget solved a p s =
     subst (λ (m : ℕ). RunsTo m t.generators p budget (table t) (solved_end solved)) bs.0
     (subst (λ (n : ℕ). RunsTo (length basis) n p budget (table t) (solved_end solved)) cs.0
     (a p (table t) s.signs (stands_start t columns norm limit rows basis cs n fit ls bs p s.table_is)))

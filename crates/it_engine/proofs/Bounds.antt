@@ -2,7 +2,8 @@
 use Rattle.std.proofs.Common.{◌≡◌, ℕ, ◌+◌, ◌*◌, ◌<◌, ◌≤◌, ℤ, ◌+ℤ◌, ◌*ℤ◌, neg_ℤ, unsigned_abs, List, length, sym, subst, arith}
 use Rattle.std.proofs.lemmas.Int.{ints, unsigned_abs-mul}
 use Rattle.std.proofs.lemmas.Nat.{mul-le}
-use Rattle.it_engine.specs.Whole.{number_at, AreAtMost}
+use Rattle.it_space.specs.Sums.{number_at}
+use Rattle.it_engine.specs.Whole.{AreAtMost}
 
 module _ (row by : List ℤ) (a b : ℤ) (x y limit : ℕ) (hx : AreAtMost row x) (hy : AreAtMost by y) (even : length row ≡ length by) (h : x * unsigned_abs a + y * unsigned_abs b ≤ limit) where
   pub sizes : (k : ℕ) → k < length by → unsigned_abs (number_at row k *ℤ a) + unsigned_abs (number_at by k *ℤ b) ≤ limit

@@ -5,50 +5,37 @@ use Rattle.it_number.proofs.Integers.{zring}
 use Rattle.it_rational.specs.Rational.{Rational, sign_least, is_at_least_zero}
 use Rattle.it_rational.specs.Rational as Q
 use Rattle.it_rational.proofs.Names.{plus_names}
-use Rattle.it_rational.specs.Rational.{Names}
+use Rattle.it_rational.specs.Rational.{IsRatio}
 use Rattle.it_rational.proofs.Field.{field_ℚ}
 use Rattle.it_tableau.specs.Tables.{Table, ratio}
-use Rattle.it_run.specs.Choice.{first_false, is_candidate, precedes, leaving_of}
+use Rattle.it_run.specs.Choice.{is_candidate, precedes, leaving_row_of}
 use Rattle.std.specs.Option.{IfSome}
-use Rattle.it_run.proofs.SearchLemmas as L
-use Rattle.it_engine.specs.Choosing.{is_above, comes_first, best_after_row, best_below}
+use Rattle.it_engine.specs.Choosing.{is_above_zero, comes_first, best_after_row, best_row_below}
 use Rattle.it_engine.proofs.Names.{sign_named, minus_names, quotient_in_row}
 
--- the first at which one function is false is that of another which agrees with it
--- the first below a number at which a function is false
-pub first_is : (f : ℕ → Bool) (n j : ℕ) → j < n → ((k : ℕ) → k < j → f k ≡ true) → f j ≡ false → first_false f 0 n ≡ j
-first_is f n j l before here = L.first_is f n j l before here
-
-pub first_none : (f : ℕ → Bool) (n : ℕ) → ((k : ℕ) → k < n → f k ≡ true) → first_false f 0 n ≡ n
-first_none f n all = L.first_none f n all
-
 -- the best row so far is one of those seen
-pub best_within : (entry right : ℕ → ℤ) (basis : ℕ → ℕ) (i m : ℕ) (o : Option ℕ) → o ≡ best_below entry right basis i → i ≤ m → IfSome o (λ k. k < m)
+pub best_within : (entry right : ℕ → ℤ) (basis : ℕ → ℕ) (i m : ℕ) (o : Option ℕ) → o ≡ best_row_below entry right basis i → i ≤ m → IfSome o (λ k. k < m)
 best_within entry right basis zero m o e h = subst (λ (o : Option ℕ). IfSome o (λ k. k < m)) (sym e) tt
-best_within entry right basis (suc i) m o e h = subst (λ (o : Option ℕ). IfSome o (λ k. k < m)) (sym e) (by_option (best_below entry right basis i) (best_within entry right basis i m (best_below entry right basis i) refl (omega arith)))
+best_within entry right basis (suc i) m o e h = subst (λ (o : Option ℕ). IfSome o (λ k. k < m)) (sym e) (by_option (best_row_below entry right basis i) (best_within entry right basis i m (best_row_below entry right basis i) refl (omega arith)))
   where
     by_option : (o : Option ℕ) → IfSome o (λ k. k < m) → IfSome (best_after_row entry right basis i o) (λ k. k < m)
-    by_option None a = one (is_above (entry i))
+    by_option None a = one (is_above_zero (entry i))
       where
         one : (b : Bool) → IfSome (cond b (Some i) None) (λ k. k < m)
         one true = omega arith
         one false = tt
-    by_option (Some k) a = two (is_above (entry i)) (comes_first (right i) (entry i) (basis i) (right k) (entry k) (basis k))
+    by_option (Some k) a = two (is_above_zero (entry i)) (comes_first (right i) (entry i) (basis i) (right k) (entry k) (basis k))
       where
         two : (b d : Bool) → IfSome (cond b (cond d (Some i) (Some k)) (Some k)) (λ k. k < m)
         two true true = omega arith
         two true false = a
         two false d = a
 
-pub best_more : (entry right : ℕ → ℤ) (basis : ℕ → ℕ) (i : ℕ) → best_below entry right basis (i + 1) ≡ best_after_row entry right basis i (best_below entry right basis i)
-best_more entry right basis i = let e : i + 1 ≡ suc i = omega arith in ap (best_below entry right basis) e
-
-pub first_same : (f g : ℕ → Bool) (k left : ℕ) → ((j : ℕ) → k ≤ j → j < k + left → f j ≡ g j) → first_false f k left ≡ first_false g k left
-first_same f g k zero e = refl
-first_same f g k (suc left) e = ap₂ (λ b x. cond b x k) (e k (omega arith) (omega arith)) (first_same f g (suc k) left (λ j a b. e j (omega arith) (omega arith)))
+pub best_more : (entry right : ℕ → ℤ) (basis : ℕ → ℕ) (i : ℕ) → best_row_below entry right basis (i + 1) ≡ best_after_row entry right basis i (best_row_below entry right basis i)
+best_more entry right basis i = let e : i + 1 ≡ suc i = omega arith in ap (best_row_below entry right basis) e
 
 -- the sign of a difference of n / x and k / y
-difference_sign : (a b : Rational) (n k : ℤ) (x y : ℕ) → 0 < x → 0 < y → Names a n x → Names b k y
+difference_sign : (a b : Rational) (n k : ℤ) (x y : ℕ) → 0 < x → 0 < y → IsRatio a n x → IsRatio b k y
     → is_at_least_zero (Q.plus a (Q.minus b)) ≡ sign_least (n *ℤ pos y +ℤ neg_ℤ (k *ℤ pos x))
 difference_sign a b n k x y hx hy e f =
     sign_named (Q.plus a (Q.minus b)) (n *ℤ pos y +ℤ neg_ℤ k *ℤ pos x) (x * y) (mul-pos hx hy) (plus_names a (Q.minus b) n (neg_ℤ k) x y hx hy e (minus_names b k y f))
@@ -58,26 +45,26 @@ difference_sign a b n k x y hx hy e f =
     turn z k x = omega (arith, zring)
 
 -- the best row so far is that of the run
-abbrev pub IsBest : ℕ → ℕ → Table Rational → ℕ → ℕ → Option ℕ → Type 0
-IsBest m n t c i None = leaving_of field_ℚ m n t c i ≡ m
-IsBest m n t c i (Some k) = (leaving_of field_ℚ m n t c i ≡ k) × (k < i) × (is_candidate field_ℚ t c k ≡ true)
+abbrev pub IsBestRowBelow : ℕ → ℕ → Table Rational → ℕ → ℕ → Option ℕ → Type 0
+IsBestRowBelow m n t c i None = leaving_row_of field_ℚ m n t c i ≡ m
+IsBestRowBelow m n t c i (Some k) = (leaving_row_of field_ℚ m n t c i ≡ k) × (k < i) × (is_candidate field_ℚ t c k ≡ true)
 
 module _ (m n : ℕ) (t : Table Rational) (c : ℕ) (entry right : ℕ → ℤ) (bottom basis : ℕ → ℕ)
-    (some : (i : ℕ) → i < m → 0 < bottom i) (entries : (i : ℕ) → i < m → Names (t.entry i c) (entry i) (bottom i))
-    (rights : (i : ℕ) → i < m → Names (t.entry i (n + m)) (right i) (bottom i)) (basis_is : (i : ℕ) → i < m → t.basis i ≡ basis i) where
-  pub open_is : (i : ℕ) → i < m → is_candidate field_ℚ t c i ≡ is_above (entry i)
-  open_is i h = ap not (sign_named (Q.minus (t.entry i c)) (neg_ℤ (entry i)) (bottom i) (some i h) (minus_names (t.entry i c) (entry i) (bottom i) (entries i h)))
+    (some : (i : ℕ) → i < m → 0 < bottom i) (entries : (i : ℕ) → i < m → IsRatio (t.entry i c) (entry i) (bottom i))
+    (rights : (i : ℕ) → i < m → IsRatio (t.entry i (n + m)) (right i) (bottom i)) (basis_is : (i : ℕ) → i < m → t.basis i ≡ basis i) where
+  pub candidate_is_above : (i : ℕ) → i < m → is_candidate field_ℚ t c i ≡ is_above_zero (entry i)
+  candidate_is_above i h = ap not (sign_named (Q.minus (t.entry i c)) (neg_ℤ (entry i)) (bottom i) (some i h) (minus_names (t.entry i c) (entry i) (bottom i) (entries i h)))
 
-  above_number : (z : ℤ) → is_above z ≡ true → (p : ℕ) × (0 < p) × (z ≡ pos p)
+  above_number : (z : ℤ) → is_above_zero z ≡ true → (p : ℕ) × (0 < p) × (z ≡ pos p)
   above_number (pos zero) e = absurd (true≢false (sym e))
   above_number (pos (suc p)) e = (suc p, omega arith, refl)
   above_number (negsuc p) e = absurd (true≢false (sym e))
 
-  ratio_named : (i p : ℕ) → i < m → 0 < p → entry i ≡ pos p → Names (ratio field_ℚ m n t c i) (right i) p
+  ratio_named : (i p : ℕ) → i < m → 0 < p → entry i ≡ pos p → IsRatio (ratio field_ℚ m n t c i) (right i) p
   ratio_named i p h hp e = quotient_in_row (t.entry i (n + m)) (t.entry i c) (right i) p (bottom i) (some i h) hp (rights i h)
-      (subst (λ (z : ℤ). Names (t.entry i c) z (bottom i)) e (entries i h))
+      (subst (λ (z : ℤ). IsRatio (t.entry i c) z (bottom i)) e (entries i h))
 
-  precedes_is : (i k : ℕ) → i < m → k < m → is_above (entry i) ≡ true → is_above (entry k) ≡ true
+  precedes_is : (i k : ℕ) → i < m → k < m → is_above_zero (entry i) ≡ true → is_above_zero (entry k) ≡ true
       → precedes field_ℚ m n t c i k ≡ comes_first (right i) (entry i) (basis i) (right k) (entry k) (basis k)
   precedes_is i k hi hk oi ok =
       let p = above_number (entry i) oi in
@@ -91,36 +78,36 @@ module _ (m n : ℕ) (t : Table Rational) (c : ℕ) (entry right : ℕ → ℤ) 
       ∙ ap₂ (λ x y. sign_least (right k *ℤ x +ℤ neg_ℤ (right i *ℤ y))) (sym p.2) (sym q.2))
       ∙ ap₂ (λ x y. cond (sign_least (right i *ℤ entry k +ℤ neg_ℤ (right k *ℤ entry i))) (sign_least (right k *ℤ entry i +ℤ neg_ℤ (right i *ℤ entry k)) && ltb x y) true) (basis_is i hi) (basis_is k hk)
 
-  agrees : (i : ℕ) → i ≤ m → IsBest m n t c i (best_below entry right basis i)
-  agrees zero h = refl
-  agrees (suc i) h = by_option (best_below entry right basis i) (is_above (entry i)) refl (agrees i (omega arith))
+  best_row_agrees : (i : ℕ) → i ≤ m → IsBestRowBelow m n t c i (best_row_below entry right basis i)
+  best_row_agrees zero h = refl
+  best_row_agrees (suc i) h = by_option (best_row_below entry right basis i) (is_above_zero (entry i)) refl (best_row_agrees i (omega arith))
     where
-      now : (b : Bool) → is_above (entry i) ≡ b → leaving_of field_ℚ m n t c (suc i) ≡ cond b (cond (eqb (leaving_of field_ℚ m n t c i) m) i (cond (precedes field_ℚ m n t c i (leaving_of field_ℚ m n t c i)) i (leaving_of field_ℚ m n t c i))) (leaving_of field_ℚ m n t c i)
-      now b e = ap (λ b. cond b (cond (eqb (leaving_of field_ℚ m n t c i) m) i (cond (precedes field_ℚ m n t c i (leaving_of field_ℚ m n t c i)) i (leaving_of field_ℚ m n t c i))) (leaving_of field_ℚ m n t c i))
-          (open_is i (omega arith) ∙ e)
+      now : (b : Bool) → is_above_zero (entry i) ≡ b → leaving_row_of field_ℚ m n t c (suc i) ≡ cond b (cond (eqb (leaving_row_of field_ℚ m n t c i) m) i (cond (precedes field_ℚ m n t c i (leaving_row_of field_ℚ m n t c i)) i (leaving_row_of field_ℚ m n t c i))) (leaving_row_of field_ℚ m n t c i)
+      now b e = ap (λ b. cond b (cond (eqb (leaving_row_of field_ℚ m n t c i) m) i (cond (precedes field_ℚ m n t c i (leaving_row_of field_ℚ m n t c i)) i (leaving_row_of field_ℚ m n t c i))) (leaving_row_of field_ℚ m n t c i))
+          (candidate_is_above i (omega arith) ∙ e)
 
-      by_option : (o : Option ℕ) (b : Bool) → is_above (entry i) ≡ b → IsBest m n t c i o → IsBest m n t c (suc i) (best_after_row entry right basis i o)
-      by_option None false e a = subst (λ (x : Bool). IsBest m n t c (suc i) (cond x (Some i) None)) (sym e) (now false e ∙ a)
-      by_option None true e a = subst (λ (x : Bool). IsBest m n t c (suc i) (cond x (Some i) None)) (sym e)
-          (now true e ∙ ap (λ x. cond x i (cond (precedes field_ℚ m n t c i (leaving_of field_ℚ m n t c i)) i (leaving_of field_ℚ m n t c i))) (eq-eqb (leaving_of field_ℚ m n t c i) m a), omega arith, open_is i (omega arith) ∙ e)
-      by_option (Some k) false e a = subst (λ (x : Bool). IsBest m n t c (suc i) (cond x (cond (comes_first (right i) (entry i) (basis i) (right k) (entry k) (basis k)) (Some i) (Some k)) (Some k))) (sym e)
+      by_option : (o : Option ℕ) (b : Bool) → is_above_zero (entry i) ≡ b → IsBestRowBelow m n t c i o → IsBestRowBelow m n t c (suc i) (best_after_row entry right basis i o)
+      by_option None false e a = subst (λ (x : Bool). IsBestRowBelow m n t c (suc i) (cond x (Some i) None)) (sym e) (now false e ∙ a)
+      by_option None true e a = subst (λ (x : Bool). IsBestRowBelow m n t c (suc i) (cond x (Some i) None)) (sym e)
+          (now true e ∙ ap (λ x. cond x i (cond (precedes field_ℚ m n t c i (leaving_row_of field_ℚ m n t c i)) i (leaving_row_of field_ℚ m n t c i))) (eq-eqb (leaving_row_of field_ℚ m n t c i) m a), omega arith, candidate_is_above i (omega arith) ∙ e)
+      by_option (Some k) false e a = subst (λ (x : Bool). IsBestRowBelow m n t c (suc i) (cond x (cond (comes_first (right i) (entry i) (basis i) (right k) (entry k) (basis k)) (Some i) (Some k)) (Some k))) (sym e)
           (now false e ∙ a.0, omega (arith, a.1), a.2)
-      by_option (Some k) true e a = subst (λ (x : Bool). IsBest m n t c (suc i) (cond x (cond (comes_first (right i) (entry i) (basis i) (right k) (entry k) (basis k)) (Some i) (Some k)) (Some k))) (sym e)
+      by_option (Some k) true e a = subst (λ (x : Bool). IsBestRowBelow m n t c (suc i) (cond x (cond (comes_first (right i) (entry i) (basis i) (right k) (entry k) (basis k)) (Some i) (Some k)) (Some k))) (sym e)
           (pick (comes_first (right i) (entry i) (basis i) (right k) (entry k) (basis k)) refl)
         where
           same : precedes field_ℚ m n t c i k ≡ comes_first (right i) (entry i) (basis i) (right k) (entry k) (basis k)
-          same = precedes_is i k (omega arith) (omega (arith, a.1)) e (sym (open_is k (omega (arith, a.1))) ∙ a.2)
+          same = precedes_is i k (omega arith) (omega (arith, a.1)) e (sym (candidate_is_above k (omega (arith, a.1))) ∙ a.2)
 
-          stepped : leaving_of field_ℚ m n t c (suc i) ≡ cond (comes_first (right i) (entry i) (basis i) (right k) (entry k) (basis k)) i k
+          stepped : leaving_row_of field_ℚ m n t c (suc i) ≡ cond (comes_first (right i) (entry i) (basis i) (right k) (entry k) (basis k)) i k
           stepped = now true e
-              ∙ ap (λ x. cond x i (cond (precedes field_ℚ m n t c i (leaving_of field_ℚ m n t c i)) i (leaving_of field_ℚ m n t c i)))
-              (ne_eqb (leaving_of field_ℚ m n t c i) m (λ z. omega (arith, a.0, a.1, z)))
+              ∙ ap (λ x. cond x i (cond (precedes field_ℚ m n t c i (leaving_row_of field_ℚ m n t c i)) i (leaving_row_of field_ℚ m n t c i)))
+              (ne_eqb (leaving_row_of field_ℚ m n t c i) m (λ z. omega (arith, a.0, a.1, z)))
               ∙ ap (λ l. cond (precedes field_ℚ m n t c i l) i l) a.0
               ∙ ap (λ b. cond b i k) same
 
-          pick : (d : Bool) → comes_first (right i) (entry i) (basis i) (right k) (entry k) (basis k) ≡ d → IsBest m n t c (suc i) (cond d (Some i) (Some k))
-          pick true f = (stepped ∙ ap (λ b. cond b i k) f, omega arith, open_is i (omega arith) ∙ e)
+          pick : (d : Bool) → comes_first (right i) (entry i) (basis i) (right k) (entry k) (basis k) ≡ d → IsBestRowBelow m n t c (suc i) (cond d (Some i) (Some k))
+          pick true f = (stepped ∙ ap (λ b. cond b i k) f, omega arith, candidate_is_above i (omega arith) ∙ e)
           pick false f = (stepped ∙ ap (λ b. cond b i k) f, omega (arith, a.1), a.2)
 
-  pub leaves : IsBest m n t c m (best_below entry right basis m)
-  leaves = agrees m (omega arith)
+  pub best_row_leaves : IsBestRowBelow m n t c m (best_row_below entry right basis m)
+  best_row_leaves = best_row_agrees m (omega arith)

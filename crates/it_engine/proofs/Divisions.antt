@@ -6,7 +6,7 @@ use Rattle.it_number.specs.Gcd.{gcd}
 use Rattle.it_number.specs.Division.{int_quotient}
 use Rattle.it_number.proofs.SignedDivisors.{over_back}
 use Rattle.it_number.proofs.Divisors.{gcd_is}
-use Rattle.it_engine.specs.Whole.{number_at}
+use Rattle.it_space.specs.Sums.{number_at}
 use Prim.Native.Nat.{◌∣◌}
 use native.Mathlib.Nat.{pos_of_dvd_of_pos}
 

@@ -7,42 +7,43 @@ use Rattle.it_number.proofs.Integers.{zring}
 use Rattle.it_rational.specs.Rational.{Rational}
 use Rattle.it_rational.specs.Rational as Q
 use Rattle.it_rational.proofs.Names.{plus_names, times_names, whole_names, quotient_names}
-use Rattle.it_rational.specs.Rational.{Names}
+use Rattle.it_rational.specs.Rational.{IsRatio}
 use Rattle.it_rational.proofs.Field.{field_ℚ}
 use Rattle.it_space.specs.Rows.{Terms, value}
 use Rattle.it_tableau.specs.Invariants.{HasInvariants}
 use Rattle.it_tableau.specs.Tables.{Table, FeasibilityProblem}
-use Rattle.it_run.specs.RowValues.{value_at}
-use Rattle.it_engine.specs.Whole.{WholeRowView, number_at, row_at, weight_of_terms, IsShort, IsOver, AreColumns, ShowsTable}
+use Rattle.it_run.specs.RowValues.{rational_value}
+use Rattle.it_space.specs.Sums.{number_at}
+use Rattle.it_engine.specs.Whole.{WholeRowView, whole_row_at, weight_of_terms, IsShort, IsOver, AreStartColumns, ShowsTable}
 use Rattle.it_engine.proofs.Names.{reduced_name}
 
 -- n / d plus k / d
-pub sum_named : (x y : Rational) (n k : ℤ) (d : ℕ) → 0 < d → Names x n d → Names y k d → Names (Q.plus x y) (n +ℤ k) d
+pub sum_named : (x y : Rational) (n k : ℤ) (d : ℕ) → 0 < d → IsRatio x n d → IsRatio y k d → IsRatio (Q.plus x y) (n +ℤ k) d
 sum_named x y n k d h e f = reduced_name (Q.plus x y) (n +ℤ k) d d h
-    (subst (λ (z : ℤ). Names (Q.plus x y) z (d * d)) (gather n k d) (plus_names x y n k d d h h e f))
+    (subst (λ (z : ℤ). IsRatio (Q.plus x y) z (d * d)) (gather n k d) (plus_names x y n k d d h h e f))
   where
     gather : (n k : ℤ) (d : ℕ) → n *ℤ pos d +ℤ k *ℤ pos d ≡ (n +ℤ k) *ℤ pos d
     gather n k d = omega (arith, zring)
 
 -- a whole multiple of n / d
-pub multiple_named : (a : ℤ) (x : Rational) (n : ℤ) (d : ℕ) → 0 < d → Names x n d → Names (Q.times (Q.whole a) x) (a *ℤ n) d
-multiple_named a x n d h e = subst (λ (k : ℕ). Names (Q.times (Q.whole a) x) (a *ℤ n) k) (once d)
+pub multiple_named : (a : ℤ) (x : Rational) (n : ℤ) (d : ℕ) → 0 < d → IsRatio x n d → IsRatio (Q.times (Q.whole a) x) (a *ℤ n) d
+multiple_named a x n d h e = subst (λ (k : ℕ). IsRatio (Q.times (Q.whole a) x) (a *ℤ n) k) (once d)
     (times_names (Q.whole a) x a n 1 d (omega arith) h (whole_names a) e)
   where
     once : (d : ℕ) → 1 * d ≡ d
     once d = omega arith
 
-zero_named : (d : ℕ) → Names (Q.whole (pos 0)) (pos 0) d
+zero_named : (d : ℕ) → IsRatio (Q.whole (pos 0)) (pos 0) d
 zero_named d = by_sign (Q.whole (pos 0)).num (Q.whole (pos 0)).den (quotient_names (pos 0) 1 (omega arith))
   where
     by_sign : (z : ℤ) (k : ℕ) → z *ℤ pos 1 ≡ pos 0 *ℤ pos k → z *ℤ pos d ≡ pos 0 *ℤ pos k
     by_sign z k e = let f : z ≡ pos 0 = omega (arith, ints, e) in ap (λ x. x *ℤ pos d) f ∙ omega (arith, ints)
 
 -- a combination of numbers over one denominator
-pub value_named : (terms : Terms) (m : ℕ) (g : ℕ → Rational) (f : ℕ → ℤ) (d : ℕ) → 0 < d → All (λ t. t.0 < m) terms → ((k : ℕ) → k < m → Names (g k) (f k) d)
-    → Names (value_at terms g) (value terms f) d
+pub value_named : (terms : Terms) (m : ℕ) (g : ℕ → Rational) (f : ℕ → ℤ) (d : ℕ) → 0 < d → All (λ t. t.0 < m) terms → ((k : ℕ) → k < m → IsRatio (g k) (f k) d)
+    → IsRatio (rational_value terms g) (value terms f) d
 value_named [] m g f d h a e = zero_named d
-value_named (t ∷ ts) m g f d h a e = sum_named (Q.times (Q.whole t.1) (g t.0)) (value_at ts g) (t.1 *ℤ f t.0) (value ts f) d h
+value_named (t ∷ ts) m g f d h a e = sum_named (Q.times (Q.whole t.1) (g t.0)) (rational_value ts g) (t.1 *ℤ f t.0) (value ts f) d h
     (multiple_named t.1 (g t.0) (f t.0) d h (e t.0 (a 0 t (omega arith)))) (value_named ts m g f d h (λ k s l. a (suc k) s (omega (arith, l))) e)
 
 -- is at most the weight of the terms times the bound
@@ -62,30 +63,32 @@ value_bounded (t ∷ ts) m f limit a h =
     both x y a b l h k = omega (arith, ints, h, k)
 
 module _ (m n limit norm : ℕ) (p : FeasibilityProblem Rational) (t : Table Rational) (columns : List Terms) (rows : List WholeRowView) (basis : List ℕ)
-    (h : HasInvariants field_ℚ m n p t) (s : ShowsTable m n limit t rows basis) (cs : AreColumns m n norm p columns) (fit : norm * limit < 2 ^ 63) (some : 1 ≤ norm) where
-  abbrev pub terms_of : ℕ → Terms
-  terms_of j = slice_index_or columns j []
+    (h : HasInvariants field_ℚ m n p t) (s : ShowsTable m n limit t rows basis) (cs : AreStartColumns m n norm p columns) (fit : norm * limit < 2 ^ 63) (some : 1 ≤ norm) where
+  -- the terms of column j
+  abbrev pub column_terms : ℕ → Terms
+  column_terms j = slice_index_or columns j []
 
   -- the number of row i at column j that isn't artificial
   abbrev pub price : ℕ → ℕ → ℤ
-  price i j = value (terms_of j) (number_at (row_at rows i).numbers)
+  price i j = value (column_terms j) (number_at (whole_row_at rows i).numbers)
 
+  -- the denominator of row i
   abbrev pub bottom : ℕ → ℕ
-  bottom i = (row_at rows i).bottom
+  bottom i = (whole_row_at rows i).bottom
 
-  pub price_named : (i j : ℕ) → i ≤ m → j < n → Names (t.entry i j) (price i j) (bottom i)
+  pub price_named : (i j : ℕ) → i ≤ m → j < n → IsRatio (t.entry i j) (price i j) (bottom i)
   price_named i j hi hj =
       let c = cs.column j hj in
       let r = s.row i (omega (arith, hi)) in
-      subst (λ (q : Rational). Names q (price i j) (bottom i)) (sym (h.combines i j hi ∙ c.value_is (λ k. t.entry i (n + k))))
-      (value_named (terms_of j) m (λ k. t.entry i (n + k)) (number_at (row_at rows i).numbers) (bottom i) r.some c.within (λ k l. r.named k (omega (arith, l))))
+      subst (λ (q : Rational). IsRatio q (price i j) (bottom i)) (sym (h.combines i j hi ∙ c.value_is (λ k. t.entry i (n + k))))
+      (value_named (column_terms j) m (λ k. t.entry i (n + k)) (number_at (whole_row_at rows i).numbers) (bottom i) r.some c.within (λ k l. r.named k (omega (arith, l))))
 
   pub price_short : (i j : ℕ) → i ≤ m → j < n → IsShort (price i j)
   price_short i j hi hj =
       let c = cs.column j hj in
       let r = s.row i (omega (arith, hi)) in
-      let b : unsigned_abs (price i j) ≤ weight_of_terms (terms_of j) * limit = value_bounded (terms_of j) m (number_at (row_at rows i).numbers) limit c.within (λ k l. r.small k (omega (arith, l))) in
-      let w : weight_of_terms (terms_of j) * limit ≤ norm * limit = mul-le (weight_of_terms (terms_of j)) limit norm limit c.bounded (omega arith) in
+      let b : unsigned_abs (price i j) ≤ weight_of_terms (column_terms j) * limit = value_bounded (column_terms j) m (number_at (whole_row_at rows i).numbers) limit c.within (λ k l. r.small k (omega (arith, l))) in
+      let w : weight_of_terms (column_terms j) * limit ≤ norm * limit = mul-le (weight_of_terms (column_terms j)) limit norm limit c.bounded (omega arith) in
       omega (arith, b, w, fit)
 
   limit_short : limit < 2 ^ 63
@@ -93,23 +96,23 @@ module _ (m n limit norm : ℕ) (p : FeasibilityProblem Rational) (t : Table Rat
 
   -- all numbers of the table
   abbrev pub number : ℕ → ℕ → ℤ
-  number i j = cond (ltb j n) (price i j) (number_at (row_at rows i).numbers (j - n))
+  number i j = cond (ltb j n) (price i j) (number_at (whole_row_at rows i).numbers (j - n))
 
-  pub over : IsOver m n t number bottom
-  over = record {
+  pub table_is_over : IsOver m n t number bottom
+  table_is_over = record {
     some = λ i hi. (s.row i (omega (arith, hi))).some;
     low = λ i hi. (s.row i (omega (arith, hi))).low;
     named = λ i j hi hj. name i j hi hj (cases_lt j n);
     short = λ i j hi hj. short i j hi hj (cases_lt j n);
   }
     where
-      name : (i j : ℕ) → i ≤ m → j ≤ n + m → (j < n) ⊎ (n ≤ j) → Names (t.entry i j) (number i j) (bottom i)
-      name i j hi hj (inl l) = subst (λ (b : Bool). Names (t.entry i j) (cond b (price i j) (number_at (row_at rows i).numbers (j - n))) (bottom i)) (sym (lt-ltb j n l)) (price_named i j hi l)
-      name i j hi hj (inr l) = subst (λ (b : Bool). Names (t.entry i j) (cond b (price i j) (number_at (row_at rows i).numbers (j - n))) (bottom i)) (sym (le-ltb j n l))
+      name : (i j : ℕ) → i ≤ m → j ≤ n + m → (j < n) ⊎ (n ≤ j) → IsRatio (t.entry i j) (number i j) (bottom i)
+      name i j hi hj (inl l) = subst (λ (b : Bool). IsRatio (t.entry i j) (cond b (price i j) (number_at (whole_row_at rows i).numbers (j - n))) (bottom i)) (sym (lt-ltb j n l)) (price_named i j hi l)
+      name i j hi hj (inr l) = subst (λ (b : Bool). IsRatio (t.entry i j) (cond b (price i j) (number_at (whole_row_at rows i).numbers (j - n))) (bottom i)) (sym (le-ltb j n l))
           (let back : n + (j - n) ≡ j = omega (arith, l) in
-          subst (λ (k : ℕ). Names (t.entry i k) (number_at (row_at rows i).numbers (j - n)) (bottom i)) back ((s.row i (omega (arith, hi))).named (j - n) (omega (arith, hj, l))))
+          subst (λ (k : ℕ). IsRatio (t.entry i k) (number_at (whole_row_at rows i).numbers (j - n)) (bottom i)) back ((s.row i (omega (arith, hi))).named (j - n) (omega (arith, hj, l))))
 
       short : (i j : ℕ) → i ≤ m → j ≤ n + m → (j < n) ⊎ (n ≤ j) → IsShort (number i j)
-      short i j hi hj (inl l) = subst (λ (b : Bool). IsShort (cond b (price i j) (number_at (row_at rows i).numbers (j - n)))) (sym (lt-ltb j n l)) (price_short i j hi l)
-      short i j hi hj (inr l) = subst (λ (b : Bool). IsShort (cond b (price i j) (number_at (row_at rows i).numbers (j - n)))) (sym (le-ltb j n l))
+      short i j hi hj (inl l) = subst (λ (b : Bool). IsShort (cond b (price i j) (number_at (whole_row_at rows i).numbers (j - n)))) (sym (lt-ltb j n l)) (price_short i j hi l)
+      short i j hi hj (inr l) = subst (λ (b : Bool). IsShort (cond b (price i j) (number_at (whole_row_at rows i).numbers (j - n)))) (sym (le-ltb j n l))
           (let b = (s.row i (omega (arith, hi))).small (j - n) (omega (arith, hj, l)) in omega (arith, b, limit_short))

@@ -2,11 +2,11 @@
 use Rattle.std.proofs.Common.{◌≡◌, ◌⊎◌, inl, inr, ℕ, ℤ, pos, ◌+◌, ◌<◌, ◌≤◌, List, length, slice_index_or, slice_set, subst, sym, ◌∙◌, arith}
 use Rattle.std.proofs.lemmas.List.{get_or_default, get_or-set_same, get_or-set_other}
 use Rattle.std.proofs.lemmas.Bool.{cases_eq}
-use Rattle.it_engine.specs.Whole.{number_at}
+use Rattle.it_space.specs.Sums.{number_at}
 
 -- what an index reads is the item by any default
-pub read : {X : Type 0} (xs : List X) (i : ℕ) (x d : X) → i < length xs → x ≡ slice_index_or xs i x → x ≡ slice_index_or xs i d
-read xs i x d h e = e ∙ get_or_default xs i x d h
+pub item_by_default : {X : Type 0} (xs : List X) (i : ℕ) (x d : X) → i < length xs → x ≡ slice_index_or xs i x → x ≡ slice_index_or xs i d
+item_by_default xs i x d h e = e ∙ get_or_default xs i x d h
 
 -- a list of numbers of which the next one is written
 pub set_done : (now : List ℤ) (k : ℕ) (x : ℤ) (P : ℕ → ℤ → Type 0) → k < length now → ((j : ℕ) → j < k → P j (number_at now j)) → P k x → (j : ℕ) → j < k + 1 → P j (number_at (slice_set now k x) j)

@@ -10,13 +10,13 @@ use Rattle.it_rational.proofs.Names.{same_value, whole_names}
 use Rattle.it_rational.proofs.RationalLaws.{ring_ℚ}
 use Rattle.it_space.specs.Rows.{Terms}
 use Rattle.it_tableau.specs.Sums.{sum_to}
-use Rattle.it_run.specs.RowValues.{value_at}
+use Rattle.it_run.specs.RowValues.{rational_value}
 use Rattle.it_tableau.specs.TableauViews.{TableauView, height, table}
 use Rattle.std.proofs.lemmas.Bool.{cases_eq}
 use Rattle.std.proofs.lemmas.List.{get_or_append_left}
 use Rattle.std.proofs.Math.Seq.{get_or-append_seam}
 use Rattle.it_engine.specs.Whole.{weight_of_terms, WholeRowView}
-use Rattle.it_engine.specs.Loading.{AreReadRows, IsReadRow, IsRead, IsShortWhole}
+use Rattle.it_engine.specs.Loading.{AreReadRows, IsReadRow, IsReadColumn, IsShortWhole}
 
 pub short_whole : (limit : ℕ) (q : Rational) (o : Option ℤ) → pos q.den ≡ pos 1 → SomeIff o (unsigned_abs q.num ≤ limit) q.num → IfSome o (λ z. IsShortWhole limit q z)
 short_whole limit q None d h = tt
@@ -36,20 +36,20 @@ All-one k z zero d l = omega arith
 All-one k z (suc i) d l = absurd (omega arith)
 
 -- a row whose entry is 0 adds no term
-pub read_null : (k : ℕ) (f : ℕ → Rational) (terms : Terms) → (f k).num ≡ pos 0 → IsRead k f terms → IsRead (k + 1) f terms
-read_null k f terms e r = subst (λ (n : ℕ). IsRead n f terms) (one_more k) record {
+pub read_null : (k : ℕ) (f : ℕ → Rational) (terms : Terms) → (f k).num ≡ pos 0 → IsReadColumn k f terms → IsReadColumn (k + 1) f terms
+read_null k f terms e r = subst (λ (n : ℕ). IsReadColumn n f terms) (one_more k) record {
   value_is = λ g. ap (λ x. Q.plus (Q.times (g k) x) (sum_to ring_ℚ k (λ k. Q.times (g k) (f k)))) (null_from (f k) e)
       ∙ ring ring_ℚ (g k ∷ sum_to ring_ℚ k (λ k. Q.times (g k) (f k)) ∷ []) (plus (times (v 0) nil) (v 1)) (v 1) refl ∙ r.value_is g;
   within = λ i d l. let w = r.within i d l in omega (arith, w);
 }
 
-value_more : (terms : Terms) (k : ℕ) (z : ℤ) (g : ℕ → Rational) → value_at (terms ++ (k, z) ∷ []) g ≡ Q.plus (Q.times (g k) (whole z)) (value_at terms g)
+value_more : (terms : Terms) (k : ℕ) (z : ℤ) (g : ℕ → Rational) → rational_value (terms ++ (k, z) ∷ []) g ≡ Q.plus (Q.times (g k) (whole z)) (rational_value terms g)
 value_more [] k z g = ring ring_ℚ (whole z ∷ g k ∷ []) (plus (times (v 0) (v 1)) nil) (plus (times (v 1) (v 0)) nil) refl
 value_more (t ∷ ts) k z g = ap (Q.plus (Q.times (whole t.1) (g t.0))) (value_more ts k z g)
-    ∙ ring ring_ℚ (Q.times (whole t.1) (g t.0) ∷ Q.times (g k) (whole z) ∷ value_at ts g ∷ []) (plus (v 0) (plus (v 1) (v 2))) (plus (v 1) (plus (v 0) (v 2))) refl
+    ∙ ring ring_ℚ (Q.times (whole t.1) (g t.0) ∷ Q.times (g k) (whole z) ∷ rational_value ts g ∷ []) (plus (v 0) (plus (v 1) (v 2))) (plus (v 1) (plus (v 0) (v 2))) refl
 
-pub read_more : (k : ℕ) (f : ℕ → Rational) (terms : Terms) (z : ℤ) → f k ≡ whole z → IsRead k f terms → IsRead (k + 1) f (terms ++ (k, z) ∷ [])
-read_more k f terms z e r = subst (λ (n : ℕ). IsRead n f (terms ++ (k, z) ∷ [])) (one_more k) record {
+pub read_more : (k : ℕ) (f : ℕ → Rational) (terms : Terms) (z : ℤ) → f k ≡ whole z → IsReadColumn k f terms → IsReadColumn (k + 1) f (terms ++ (k, z) ∷ [])
+read_more k f terms z e r = subst (λ (n : ℕ). IsReadColumn n f (terms ++ (k, z) ∷ [])) (one_more k) record {
   value_is = λ g. ap₂ (λ x y. Q.plus (Q.times (g k) x) y) e (r.value_is g) ∙ sym (value_more terms k z g);
   within = All-append (λ (t : ℕ × ℤ). t.0 < suc k) terms ((k, z) ∷ []) (λ i d l. let w = r.within i d l in omega (arith, w)) (All-one k z);
 }

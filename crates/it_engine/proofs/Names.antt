@@ -8,12 +8,12 @@ use Rattle.it_rational.specs.Rational.{Rational, sign_least, is_at_least_zero}
 use Rattle.it_rational.specs.Rational as Q
 use Rattle.it_rational.proofs.Field.{null_from, to_sign}
 use Rattle.it_rational.proofs.Names.{cancel, quotient_names, times_names}
-use Rattle.it_rational.specs.Rational.{Names}
+use Rattle.it_rational.specs.Rational.{IsRatio}
 use Rattle.it_rational.proofs.Order.{sign_kept}
 use Rattle.it_rational.proofs.Signs.{below_sign}
 
 -- the sign of n / d is that of n
-pub sign_named : (q : Rational) (n : ℤ) (d : ℕ) → 0 < d → Names q n d → is_at_least_zero q ≡ sign_least n
+pub sign_named : (q : Rational) (n : ℤ) (d : ℕ) → 0 < d → IsRatio q n d → is_at_least_zero q ≡ sign_least n
 sign_named q (pos n) d h e = to_sign q.num (sign_kept q.num (pos n) d q.den h q.positive e (omega (arith, ints)))
 sign_named q (negsuc n) d h e = below_sign q (by_sign q.num e)
   where
@@ -24,7 +24,7 @@ sign_named q (negsuc n) d h e = below_sign q (by_sign q.num e)
     by_sign (pos k) e = absurd (omega (arith, ints, e, some n q.den q.positive))
     by_sign (negsuc k) e = omega (arith, ints)
 
-pub minus_names : (q : Rational) (n : ℤ) (d : ℕ) → Names q n d → Names (Q.minus q) (neg_ℤ n) d
+pub minus_names : (q : Rational) (n : ℤ) (d : ℕ) → IsRatio q n d → IsRatio (Q.minus q) (neg_ℤ n) d
 minus_names y k l e = cancel ((Q.minus y).num *ℤ pos l) (neg_ℤ k *ℤ pos (Q.minus y).den) y.den y.positive
     (cross (Q.minus y).num y.num k (pos l) (pos y.den) (pos (Q.minus y).den) (quotient_names (neg_ℤ y.num) y.den y.positive) e)
   where
@@ -32,24 +32,24 @@ minus_names y k l e = cancel ((Q.minus y).num *ℤ pos l) (neg_ℤ k *ℤ pos (Q
     cross a b k l d f p q = omega (arith, zring, ap (λ z. z *ℤ l) p, ap (λ z. z *ℤ f) q)
 
 -- a name with a factor
-pub scaled_name : (q : Rational) (n : ℤ) (d k : ℕ) → Names q n d → Names q (n *ℤ pos k) (d * k)
+pub scaled_name : (q : Rational) (n : ℤ) (d k : ℕ) → IsRatio q n d → IsRatio q (n *ℤ pos k) (d * k)
 scaled_name q n d k e = turn q.num d k ∙ ap (λ z. z *ℤ pos k) e ∙ omega (arith, zring)
   where
     turn : (x : ℤ) (d k : ℕ) → x *ℤ pos (d * k) ≡ (x *ℤ pos d) *ℤ pos k
     turn x d k = omega (arith, zring)
 
 -- and without one
-pub reduced_name : (q : Rational) (n : ℤ) (d k : ℕ) → 0 < k → Names q (n *ℤ pos k) (d * k) → Names q n d
+pub reduced_name : (q : Rational) (n : ℤ) (d k : ℕ) → 0 < k → IsRatio q (n *ℤ pos k) (d * k) → IsRatio q n d
 reduced_name q n d k h e = cancel (q.num *ℤ pos d) (n *ℤ pos q.den) k h (turn q.num d k ∙ e ∙ omega (arith, zring))
   where
     turn : (x : ℤ) (d k : ℕ) → (x *ℤ pos d) *ℤ pos k ≡ x *ℤ pos (d * k)
     turn x d k = omega (arith, zring)
 
 -- 1 over p / d is d / p
-pub inverse_names : (q : Rational) (p d : ℕ) → 0 < p → 0 < d → Names q (pos p) d → Names (Q.inverse q) (pos d) p
+pub inverse_names : (q : Rational) (p d : ℕ) → 0 < p → 0 < d → IsRatio q (pos p) d → IsRatio (Q.inverse q) (pos d) p
 inverse_names q p d hp hd e = by_sign q.num refl
   where
-    by_sign : (z : ℤ) → q.num ≡ z → Names (Q.signed_quotient (pos q.den) z) (pos d) p
+    by_sign : (z : ℤ) → q.num ≡ z → IsRatio (Q.signed_quotient (pos q.den) z) (pos d) p
     by_sign (pos zero) f = absurd (none p q.den d hp q.positive (ap (λ x. x *ℤ pos d) (sym f) ∙ e))
       where
         none : (p a d : ℕ) → 0 < p → 0 < a → pos 0 *ℤ pos d ≡ pos p *ℤ pos a → ⊥
@@ -71,24 +71,24 @@ inverse_names q p d hp hd e = by_sign q.num refl
         none a p b d h k e = omega (arith, ints, e, mul-pos h k)
 
 -- (n / d) / (p / e) is n e / (d p)
-pub quotient_of_names : (x y : Rational) (n : ℤ) (p d e : ℕ) → 0 < d → 0 < e → 0 < p → Names x n d → Names y (pos p) e → Names (Q.times x (Q.inverse y)) (n *ℤ pos e) (d * p)
+pub quotient_of_names : (x y : Rational) (n : ℤ) (p d e : ℕ) → 0 < d → 0 < e → 0 < p → IsRatio x n d → IsRatio y (pos p) e → IsRatio (Q.times x (Q.inverse y)) (n *ℤ pos e) (d * p)
 quotient_of_names x y n p d e hd he hp f g = times_names x (Q.inverse y) n (pos e) d p hd hp f (inverse_names y p e hp he g)
 
 -- over one denominator it is n / p
-pub quotient_in_row : (x y : Rational) (n : ℤ) (p d : ℕ) → 0 < d → 0 < p → Names x n d → Names y (pos p) d → Names (Q.times x (Q.inverse y)) n p
+pub quotient_in_row : (x y : Rational) (n : ℤ) (p d : ℕ) → 0 < d → 0 < p → IsRatio x n d → IsRatio y (pos p) d → IsRatio (Q.times x (Q.inverse y)) n p
 quotient_in_row x y n p d hd hp f g = reduced_name (Q.times x (Q.inverse y)) n p d hd
-    (subst (λ (k : ℕ). Names (Q.times x (Q.inverse y)) (n *ℤ pos d) k) (swap d p) (quotient_of_names x y n p d d hd hd hp f g))
+    (subst (λ (k : ℕ). IsRatio (Q.times x (Q.inverse y)) (n *ℤ pos d) k) (swap d p) (quotient_of_names x y n p d d hd hd hp f g))
   where
     swap : (a b : ℕ) → a * b ≡ b * a
     swap a b = omega arith
 
 -- (a / d) ((b / e) / (p / d)) is a b / (e p)
-pub product_in_row : (y x w : Rational) (a b : ℤ) (p d e : ℕ) → 0 < d → 0 < e → 0 < p → Names y a d → Names x b e → Names w (pos p) d
-    → Names (Q.times y (Q.times x (Q.inverse w))) (a *ℤ b) (e * p)
+pub product_in_row : (y x w : Rational) (a b : ℤ) (p d e : ℕ) → 0 < d → 0 < e → 0 < p → IsRatio y a d → IsRatio x b e → IsRatio w (pos p) d
+    → IsRatio (Q.times y (Q.times x (Q.inverse w))) (a *ℤ b) (e * p)
 product_in_row y x w a b p d e hd he hp f g h =
     reduced_name (Q.times y (Q.times x (Q.inverse w))) (a *ℤ b) (e * p) d hd
-    (subst (λ (k : ℕ). Names (Q.times y (Q.times x (Q.inverse w))) ((a *ℤ b) *ℤ pos d) k) (turn d (e * p))
-    (subst (λ (z : ℤ). Names (Q.times y (Q.times x (Q.inverse w))) z (d * (e * p))) (assoc a b (pos d))
+    (subst (λ (k : ℕ). IsRatio (Q.times y (Q.times x (Q.inverse w))) ((a *ℤ b) *ℤ pos d) k) (turn d (e * p))
+    (subst (λ (z : ℤ). IsRatio (Q.times y (Q.times x (Q.inverse w))) z (d * (e * p))) (assoc a b (pos d))
     (times_names y (Q.times x (Q.inverse w)) a (b *ℤ pos d) d (e * p) hd (mul-pos he hp) f (quotient_of_names x w b p e d he hd hp g h))))
   where
     turn : (a b : ℕ) → a * b ≡ b * a
@@ -98,7 +98,7 @@ product_in_row y x w a b p d e hd he hp f g h =
     assoc a b c = omega (arith, zring)
 
 -- 0 / d is 0
-pub null_named : (q : Rational) (d : ℕ) → 0 < d → Names q (pos 0) d → q ≡ Q.whole (pos 0)
+pub null_named : (q : Rational) (d : ℕ) → 0 < d → IsRatio q (pos 0) d → q ≡ Q.whole (pos 0)
 null_named q d h e = null_from q (cancel q.num (pos 0) d h (e ∙ none q.den d))
   where
     none : (a d : ℕ) → pos 0 *ℤ pos a ≡ pos 0 *ℤ pos d

@@ -12,13 +12,13 @@ use Rattle.it_number.proofs.Integers.{zring}
 use Rattle.it_rational.specs.Rational.{Rational}
 use Rattle.it_rational.specs.Rational as Q
 use Rattle.it_rational.proofs.Names.{cancel}
-use Rattle.it_rational.specs.Rational.{Names}
+use Rattle.it_rational.specs.Rational.{IsRatio}
 use Rattle.it_engine.proofs.Names.{minus_names}
 use Rattle.it_fraction.specs.Fits.{IsNarrow, PartsFit, DifferenceFits, common_numerator, shared_rest}
 use Prim.Native.Nat.{◌∣◌}
 use native.Mathlib.Nat.{dvd-mul_left, le_of_dvd, div-mul_cancel, mul-div_cancel', le_of_mul-le-mul_right, eq_of_mul-eq-mul_left, div-le_self}
 
-pub parts_below : (q : Rational) (n : ℤ) (d : ℕ) → 0 < d → Names q n d → (unsigned_abs q.num ≤ unsigned_abs n) × (q.den ∣ d)
+pub parts_below : (q : Rational) (n : ℤ) (d : ℕ) → 0 < d → IsRatio q n d → (unsigned_abs q.num ≤ unsigned_abs n) × (q.den ∣ d)
 parts_below q n d h e =
     let x : unsigned_abs q.num * d ≡ unsigned_abs n * q.den = sym (unsigned_abs-mul q.num (pos d)) ∙ ap unsigned_abs e ∙ unsigned_abs-mul n (pos q.den) in
     let div : q.den ∣ d = euclid q.den (unsigned_abs q.num) d (IsGcd-swap (unsigned_abs q.num) q.den 1 q.lowest) (subst (λ k. q.den ∣ k) (sym x) (dvd-mul_left q.den (unsigned_abs n))) in
@@ -28,7 +28,7 @@ parts_below q n d h e =
     same : (k : ℕ) → k ≤ k
     same k = omega arith
 
-pub narrow_by : (q : Rational) (n : ℤ) (d : ℕ) → 0 < d → Names q n d → IsWithin n → IsWithin (pos d) → IsNarrow q
+pub narrow_by : (q : Rational) (n : ℤ) (d : ℕ) → 0 < d → IsRatio q n d → IsWithin n → IsWithin (pos d) → IsNarrow q
 narrow_by q n d h e wn wd = let p = parts_below q n d h e in (omega (arith, p.0, wn), omega (arith, le_of_dvd h p.1, wd))
 
 -- a number is within the limit where a multiple of it is
@@ -118,17 +118,17 @@ parts_fit a c b d u w l hb hd hl eu ew wl wa wc wt = record {
         swap x y = omega arith
 
 -- a number that is n / l over its own denominator
-own_over : (q : Rational) (n : ℤ) (u l : ℕ) → Names q n l → q.den * u ≡ l → q.num *ℤ pos u ≡ n
+own_over : (q : Rational) (n : ℤ) (u l : ℕ) → IsRatio q n l → q.den * u ≡ l → q.num *ℤ pos u ≡ n
 own_over q n u l e f = cancel (q.num *ℤ pos u) n q.den q.positive (turn q.num u q.den ∙ ap (λ k. q.num *ℤ pos k) f ∙ e)
   where
     turn : (x : ℤ) (u d : ℕ) → (x *ℤ pos u) *ℤ pos d ≡ x *ℤ pos (d * u)
     turn x u d = omega (arith, zring)
 
 -- the difference of n / l and k / l
-pub difference_fits : (x y : Rational) (n k : ℤ) (l : ℕ) → 0 < l → Names x n l → Names y k l
+pub difference_fits : (x y : Rational) (n k : ℤ) (l : ℕ) → 0 < l → IsRatio x n l → IsRatio y k l
     → IsWithin (pos l) → IsWithin n → IsWithin (neg_ℤ k) → IsWithin (n +ℤ neg_ℤ k) → DifferenceFits x y
 difference_fits x y n k l h ex ey wl wn wk wt =
-    let m : Names (Q.minus y) (neg_ℤ k) l = minus_names y k l ey in
+    let m : IsRatio (Q.minus y) (neg_ℤ k) l = minus_names y k l ey in
     let px = parts_below x n l h ex in
     let py = parts_below (Q.minus y) (neg_ℤ k) l h m in
     let fx : x.den * (l / x.den) ≡ l = mul-div_cancel' x.den px.1 in

@@ -6,12 +6,12 @@ use Rattle.std.proofs.lemmas.Nat.{mul-lt}
 use Rattle.it_number.specs.Limit.{IsWithin}
 use Rattle.it_rational.specs.Rational.{Rational, sign_least, is_at_least_zero}
 use Rattle.it_rational.specs.Rational as Q
-use Rattle.it_rational.specs.Rational.{Names}
+use Rattle.it_rational.specs.Rational.{IsRatio}
 use Rattle.it_rational.proofs.Field.{field_ℚ}
 use Rattle.it_fraction.specs.Fits.{IsNarrow}
 use Rattle.it_tableau.specs.Tables.{Table, ratio}
 use Rattle.it_tableau.specs.Fits.{QuotientFits, EntryFits, PivotFits}
-use Rattle.it_run.specs.Choice.{entering, leaving, is_candidate}
+use Rattle.it_run.specs.Choice.{entering_column, leaving_row, is_candidate}
 use Rattle.it_run.specs.Solving.{StepFits}
 use Rattle.it_engine.specs.Whole.{IsShort, IsOver}
 use Rattle.it_engine.proofs.Narrowness.{narrow_by, difference_fits}
@@ -53,7 +53,7 @@ module _ (m n : ℕ) (t : Table Rational) (number : ℕ → ℕ → ℤ) (bottom
   ratio_fits : (i c p : ℕ) → i ≤ m → c ≤ n + m → 0 < p → number i c ≡ pos p → IsNarrow (ratio field_ℚ m n t c i)
   ratio_fits i c p hi hc hp e = narrow_by (ratio field_ℚ m n t c i) (number i (n + m)) p hp
       (quotient_in_row (t.entry i (n + m)) (t.entry i c) (number i (n + m)) p (bottom i) (o.some i hi) hp (o.named i (n + m) hi (omega arith))
-      (subst (λ (z : ℤ). Names (t.entry i c) z (bottom i)) e (o.named i c hi hc)))
+      (subst (λ (z : ℤ). IsRatio (t.entry i c) z (bottom i)) e (o.named i c hi hc)))
       (short_within (number i (n + m)) (o.short i (n + m) hi (omega arith)))
       (short_within (pos p) (subst IsShort e (o.short i c hi hc)))
 
@@ -67,8 +67,8 @@ module _ (m n : ℕ) (t : Table Rational) (number : ℕ → ℕ → ℤ) (bottom
         (short_within (number r j) (o.short r j hr (omega arith))) (short_within (pos p) p_short);
   }
     where
-      own_entry : Names (t.entry r c) (pos p) (bottom r)
-      own_entry = subst (λ (z : ℤ). Names (t.entry r c) z (bottom r)) e (o.named r c hr hc)
+      own_entry : IsRatio (t.entry r c) (pos p) (bottom r)
+      own_entry = subst (λ (z : ℤ). IsRatio (t.entry r c) z (bottom r)) e (o.named r c hr hc)
 
       p_short : IsShort (pos p)
       p_short = subst IsShort e (o.short r c hr hc)
@@ -102,8 +102,8 @@ module _ (m n : ℕ) (t : Table Rational) (number : ℕ → ℕ → ℤ) (bottom
           }
 
   -- the sign of an entry is that of its number
-  pub open_number : (i c : ℕ) → i ≤ m → c ≤ n + m → is_candidate field_ℚ t c i ≡ true → (p : ℕ) × (0 < p) × (number i c ≡ pos p)
-  open_number i c hi hc h = by_sign (number i c) refl
+  pub candidate_number : (i c : ℕ) → i ≤ m → c ≤ n + m → is_candidate field_ℚ t c i ≡ true → (p : ℕ) × (0 < p) × (number i c ≡ pos p)
+  candidate_number i c hi hc h = by_sign (number i c) refl
     where
       sign : {z : ℤ} → number i c ≡ z → is_at_least_zero (Q.minus (t.entry i c)) ≡ sign_least (neg_ℤ z)
       sign e = sign_named (Q.minus (t.entry i c)) (neg_ℤ (number i c)) (bottom i) (o.some i hi) (minus_names (t.entry i c) (number i c) (bottom i) (o.named i c hi hc)) ∙ ap (λ z. sign_least (neg_ℤ z)) e
@@ -114,13 +114,13 @@ module _ (m n : ℕ) (t : Table Rational) (number : ℕ → ℕ → ℤ) (bottom
       by_sign (negsuc p) e = absurd (true≢false (sym h ∙ ap not (sign e)))
 
   -- a step isn't wide
-  pub step_fits : leaving field_ℚ m n t (entering field_ℚ m n t) < m → entering field_ℚ m n t < n
-      → is_candidate field_ℚ t (entering field_ℚ m n t) (leaving field_ℚ m n t (entering field_ℚ m n t)) ≡ true → StepFits m n t
+  pub step_fits : leaving_row field_ℚ m n t (entering_column field_ℚ m n t) < m → entering_column field_ℚ m n t < n
+      → is_candidate field_ℚ t (entering_column field_ℚ m n t) (leaving_row field_ℚ m n t (entering_column field_ℚ m n t)) ≡ true → StepFits m n t
   step_fits hr hc h =
-      let c = entering field_ℚ m n t in
-      let r = leaving field_ℚ m n t c in
-      let p = open_number r c (omega (arith, hr)) (omega (arith, hc)) h in
+      let c = entering_column field_ℚ m n t in
+      let r = leaving_row field_ℚ m n t c in
+      let p = candidate_number r c (omega (arith, hr)) (omega (arith, hc)) h in
       record {
-        ratios = λ i hi k. let q = open_number i c (omega (arith, hi)) (omega (arith, hc)) k in ratio_fits i c q.0 (omega (arith, hi)) (omega (arith, hc)) q.1 q.2;
+        ratios = λ i hi k. let q = candidate_number i c (omega (arith, hi)) (omega (arith, hc)) k in ratio_fits i c q.0 (omega (arith, hi)) (omega (arith, hc)) q.1 q.2;
         pivot = pivot_fits r c p.0 (omega (arith, hr)) (omega (arith, hc)) p.1 p.2;
       }

@@ -3,70 +3,72 @@ use Rattle.std.proofs.Common.{◌≡◌, ◌≢◌, ◌⊎◌, inl, inr, ℤ, po
 use Rattle.std.proofs.lemmas.Bool.{cases_eq}
 use Rattle.std.proofs.lemmas.List.{get_or-set_same, get_or-set_other, length-set}
 use Rattle.it_space.specs.Rows.{Terms, value}
-use Rattle.it_engine.specs.Updates.{ArePivoted, IsDivided, IsQuotient, IsUpdated, IsUsable}
-use Rattle.it_engine.specs.Whole.{number_at, WholeRowView, row_at}
+use Rattle.it_engine.specs.Updates.{AreWholeRowsPivoted, IsWholeRowDivided, IsQuotient, IsUpdated, IsUsable}
+use Rattle.it_space.specs.Sums.{number_at}
+use Rattle.it_engine.specs.Whole.{WholeRowView, whole_row_at}
 use Rattle.it_engine.proofs.RowSteps.{divided_row, less_divided}
 use Rattle.it_engine.proofs.Usable.{quotient_usable, shortened_divided}
 
-pub record UnderWay (old now : List WholeRowView) (r i : ℕ) (Done : ℕ → WholeRowView → Type 0) : Type 0 where
+-- the rows below i but row r are done, and those from it on are the old ones
+pub record IsPivotUnderWay (old now : List WholeRowView) (r i : ℕ) (Done : ℕ → WholeRowView → Type 0) : Type 0 where
   pub same_length : length now ≡ length old
-  pub done : (k : ℕ) → k < i → k ≢ r → Done k (row_at now k)
-  pub rest : (k : ℕ) → i ≤ k → k ≢ r → row_at now k ≡ row_at old k
+  pub done : (k : ℕ) → k < i → k ≢ r → Done k (whole_row_at now k)
+  pub rest : (k : ℕ) → i ≤ k → k ≢ r → whole_row_at now k ≡ whole_row_at old k
 
--- what row_at gives past the last row
+-- what whole_row_at gives past the last row
 abbrev absent_row : WholeRowView
 absent_row = record { numbers = []; bottom = 1 }
 
 module _ (old : List WholeRowView) (r : ℕ) (Done : ℕ → WholeRowView → Type 0) where
-  pub begun : (y : WholeRowView) → UnderWay old (slice_set old r y) r 0 Done
-  begun y = record {
+  pub pivot_begins : (y : WholeRowView) → IsPivotUnderWay old (slice_set old r y) r 0 Done
+  pivot_begins y = record {
     same_length = length-set old r y;
     done = λ k l d. absurd (omega arith);
     rest = λ k l d. get_or-set_other old r k y absent_row d;
   }
 
-  pub skipped : (now : List WholeRowView) (i : ℕ) → i ≡ r → UnderWay old now r i Done → UnderWay old now r (i + 1) Done
-  skipped now i e u = record {
+  pub own_row_is_skipped : (now : List WholeRowView) (i : ℕ) → i ≡ r → IsPivotUnderWay old now r i Done → IsPivotUnderWay old now r (i + 1) Done
+  own_row_is_skipped now i e u = record {
     same_length = u.same_length;
     done = λ k l d. u.done k (omega (arith, l, d, e)) d;
     rest = λ k l d. u.rest k (omega arith) d;
   }
 
-  pub stepped : (now : List WholeRowView) (i : ℕ) (y : WholeRowView) → i < length now → Done i y → UnderWay old now r i Done → UnderWay old (slice_set now i y) r (i + 1) Done
-  stepped now i y h p u = record {
+  pub row_is_updated : (now : List WholeRowView) (i : ℕ) (y : WholeRowView) → i < length now → Done i y → IsPivotUnderWay old now r i Done → IsPivotUnderWay old (slice_set now i y) r (i + 1) Done
+  row_is_updated now i y h p u = record {
     same_length = length-set now i y ∙ u.same_length;
     done = λ k l d. split k l d (cases_eq k i);
     rest = λ k l d. get_or-set_other now i k y absent_row (λ e. omega arith) ∙ u.rest k (omega arith) d;
   }
     where
-      split : (k : ℕ) → k < i + 1 → k ≢ r → (k ≡ i) ⊎ (k ≡ i → ⊥) → Done k (row_at (slice_set now i y) k)
-      split k l d (inl e) = subst (λ (x : ℕ). Done x (row_at (slice_set now i y) x)) (sym e) (subst (Done i) (sym (get_or-set_same now i y absent_row h)) p)
+      split : (k : ℕ) → k < i + 1 → k ≢ r → (k ≡ i) ⊎ (k ≡ i → ⊥) → Done k (whole_row_at (slice_set now i y) k)
+      split k l d (inl e) = subst (λ (x : ℕ). Done x (whole_row_at (slice_set now i y) x)) (sym e) (subst (Done i) (sym (get_or-set_same now i y absent_row h)) p)
       split k l d (inr n) = subst (Done k) (sym (get_or-set_other now i k y absent_row n)) (u.done k (omega arith) d)
 
-  pub others_done : (now : List WholeRowView) (i : ℕ) (y : WholeRowView) → length old ≤ i → UnderWay old now r i Done → (k : ℕ) → k < length old → k ≢ r → Done k (row_at (slice_set now r y) k)
-  others_done now i y h u k l d = subst (Done k) (sym (get_or-set_other now r k y absent_row d)) (u.done k (omega arith) d)
+  pub other_rows_are_done : (now : List WholeRowView) (i : ℕ) (y : WholeRowView) → length old ≤ i → IsPivotUnderWay old now r i Done → (k : ℕ) → k < length old → k ≢ r → Done k (whole_row_at (slice_set now r y) k)
+  other_rows_are_done now i y h u k l d = subst (Done k) (sym (get_or-set_other now r k y absent_row d)) (u.done k (omega arith) d)
 
 -- all rows are done by the row that leaves as divided by its entry, and that row is row r
-pub finished : (old : List WholeRowView) (r width limit : ℕ) (terms : Terms) (p : ℤ) (now : List WholeRowView) (i : ℕ) (y : WholeRowView) → r < length old → IsUsable width limit (row_at old r) → length old ≤ i
-    → p ≡ value terms (number_at (row_at old r).numbers) → pos 1 ≤ℤ p → unsigned_abs p < 2 ^ 63
-    → UnderWay old now r i (λ k row. IsUpdated width limit (row_at old k) y terms (pos y.bottom) row) → IsQuotient (row_at old r) p y → ArePivoted width limit old terms r (slice_set now r y)
-finished old r width limit terms p now i y hr usable hi ep hp small u q = record {
+pub pivot_ends : (old : List WholeRowView) (r width limit : ℕ) (terms : Terms) (p : ℤ) (now : List WholeRowView) (i : ℕ) (y : WholeRowView) → r < length old → IsUsable width limit (whole_row_at old r) → length old ≤ i
+    → p ≡ value terms (number_at (whole_row_at old r).numbers) → pos 1 ≤ℤ p → unsigned_abs p < 2 ^ 63
+    → IsPivotUnderWay old now r i (λ k row. IsUpdated width limit (whole_row_at old k) y terms (pos y.bottom) row) → IsQuotient (whole_row_at old r) p y → AreWholeRowsPivoted width limit old terms r (slice_set now r y)
+pivot_ends old r width limit terms p now i y hr usable hi ep hp small u q = record {
   same_length = length-set now r y ∙ u.same_length;
-  others = λ k l d. subst (λ (z : ℤ). IsUpdated width limit (row_at old k) (row_at old r) terms z (row_at (slice_set now r y) k)) ep
-      (by_own k (row_at (slice_set now r y) k) (others_done old r (λ k row. IsUpdated width limit (row_at old k) y terms (pos y.bottom) row) now i y hi u k l d));
-  own = subst (IsDivided width limit (row_at old r) (value terms (number_at (row_at old r).numbers))) here (subst (λ (z : ℤ). IsDivided width limit (row_at old r) z y) ep divided);
-  own_usable = subst (IsUsable width limit) here (quotient_usable width limit (row_at old r) p y usable hp q);
+  others = λ k l d. subst (λ (z : ℤ). IsUpdated width limit (whole_row_at old k) (whole_row_at old r) terms z (whole_row_at (slice_set now r y) k)) ep
+      (by_own k (whole_row_at (slice_set now r y) k) (other_rows_are_done old r (λ k row. IsUpdated width limit (whole_row_at old k) y terms (pos y.bottom) row) now i y hi u k l d));
+  own = subst (IsWholeRowDivided width limit (whole_row_at old r) (value terms (number_at (whole_row_at old r).numbers))) here (subst (λ (z : ℤ). IsWholeRowDivided width limit (whole_row_at old r) z y) ep divided);
+  own_usable = subst (IsUsable width limit) here (quotient_usable width limit (whole_row_at old r) p y usable hp q);
 }
   where
-    here : y ≡ row_at (slice_set now r y) r
+    here : y ≡ whole_row_at (slice_set now r y) r
     here = sym (get_or-set_same now r y absent_row (omega (arith, u.same_length, hr)))
 
-    divided : IsDivided width limit (row_at old r) p y
-    divided = shortened_divided width limit (row_at old r) record { numbers = (row_at old r).numbers; bottom = unsigned_abs p } y p
-        (divided_row width limit (row_at old r) record { numbers = (row_at old r).numbers; bottom = unsigned_abs p } p hp small refl refl) q
+    divided : IsWholeRowDivided width limit (whole_row_at old r) p y
+    divided = shortened_divided width limit (whole_row_at old r) record { numbers = (whole_row_at old r).numbers; bottom = unsigned_abs p } y p
+        (divided_row width limit (whole_row_at old r) record { numbers = (whole_row_at old r).numbers; bottom = unsigned_abs p } p hp small refl refl) q
 
-    by_own : (k : ℕ) (new : WholeRowView) → IsUpdated width limit (row_at old k) y terms (pos y.bottom) new → IsUpdated width limit (row_at old k) (row_at old r) terms p new
+    by_own : (k : ℕ) (new : WholeRowView) → IsUpdated width limit (whole_row_at old k) y terms (pos y.bottom) new → IsUpdated width limit (whole_row_at old k) (whole_row_at old r) terms p new
     by_own k new w = record {
-      less = less_divided width limit (row_at old k) (row_at old r) y new (value terms (number_at (row_at old k).numbers)) p divided w.less;
+      less = less_divided width limit (whole_row_at old k) (whole_row_at old r) y new (value terms (number_at (whole_row_at old k).numbers)) p divided w.less;
       usable = w.usable;
     }

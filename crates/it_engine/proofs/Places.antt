@@ -3,13 +3,13 @@ use Rattle.std.proofs.Common.{◌≡◌, ◌⊎◌, inl, inr, ℕ, ◌+◌, ◌<
 use Rattle.std.proofs.lemmas.Bool.{cases_eq, cases_lt}
 use Rattle.it_number.proofs.Ring.{ring, v, plus, times, minus, nil}
 use Rattle.it_number.proofs.IntegerRing.{ring_ℤ}
-use Rattle.it_engine.specs.Updates.{IsNext}
-use Rattle.it_engine.specs.Whole.{number_at}
+use Rattle.it_engine.specs.Updates.{IsNextPlace}
+use Rattle.it_space.specs.Sums.{number_at}
 
-pub next_here : (row : List ℤ) (k : ℕ) → k ≤ length row → IsNext row k k
+pub next_here : (row : List ℤ) (k : ℕ) → k ≤ length row → IsNextPlace row k k
 next_here row k h = record { after = omega arith; within = h; nulls = λ j l m. absurd (omega (arith, l, m)) }
 
-pub next_null : (row : List ℤ) (k to : ℕ) → IsNext row (k + 1) to → number_at row k ≡ pos 0 → IsNext row k to
+pub next_null : (row : List ℤ) (k to : ℕ) → IsNextPlace row (k + 1) to → number_at row k ≡ pos 0 → IsNextPlace row k to
 next_null row k to n e = record { after = omega (arith, n.after); within = n.within; nulls = λ j l m. split j l m (cases_eq j k) }
   where
     split : (j : ℕ) → k ≤ j → j < to → (j ≡ k) ⊎ (j ≡ k → ⊥) → number_at row j ≡ pos 0
@@ -17,11 +17,11 @@ next_null row k to n e = record { after = omega (arith, n.after); within = n.wit
     split j l m (inr d) = n.nulls j (omega (arith, l, d)) m
 
 -- a row less another times b is done up to the next place, where all between are 0 in the other
-pub passed : (now old by : List ℤ) (b : ℤ) (from to : ℕ) → IsNext by from to
+pub nulls_are_passed : (now old by : List ℤ) (b : ℤ) (from to : ℕ) → IsNextPlace by from to
     → ((k : ℕ) → k < from → number_at now k ≡ number_at old k +ℤ neg_ℤ (number_at by k *ℤ b))
     → ((k : ℕ) → from ≤ k → number_at now k ≡ number_at old k)
     → (k : ℕ) → k < to → number_at now k ≡ number_at old k +ℤ neg_ℤ (number_at by k *ℤ b)
-passed now old by b from to n done rest k l = split (cases_lt k from)
+nulls_are_passed now old by b from to n done rest k l = split (cases_lt k from)
   where
     stays : (x y : ℤ) → y ≡ pos 0 → x ≡ x +ℤ neg_ℤ (y *ℤ b)
     stays x y e = none x ∙ ap (λ y. x +ℤ neg_ℤ (y *ℤ b)) (sym e)

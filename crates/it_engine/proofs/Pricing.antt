@@ -4,7 +4,8 @@ use Rattle.std.proofs.lemmas.Int.{ints, unsigned_abs-mul}
 use Rattle.std.proofs.lemmas.Nat.{mul-le}
 use Rattle.std.proofs.Math.Seq.{drop-cons}
 use Rattle.it_space.specs.Rows.{Terms, value}
-use Rattle.it_engine.specs.Whole.{number_at, weight_of_terms}
+use Rattle.it_space.specs.Sums.{number_at}
+use Rattle.it_engine.specs.Whole.{weight_of_terms}
 use Rattle.it_engine.specs.Updates.{IsPriceable, IsPriced}
 
 module _ (terms : Terms) (numbers : List ℤ) (i : ℕ) (h : i < length terms) (w : All (λ t. t.0 < length numbers) terms) where

@@ -1,87 +1,70 @@
 -- What is read off the engine is what is read off the table that it shows.
-use Rattle.std.proofs.Common.{◌≡◌, ◌≢◌, ℕ, suc, ◌+◌, ◌-◌, ◌<◌, ◌≤◌, ◌++◌, Bool, true, false, cond, ℤ, pos, negsuc, ◌<ℤ◌, List, [], ◌∷◌, length, slice_index_or, refl, sym, ap, ap₂, ◌∙◌, arith}
-use Rattle.std.proofs.lemmas.Int.{ints}
+use Rattle.std.proofs.Common.{◌≡◌, ◌≢◌, ℕ, suc, ◌+◌, ◌-◌, ◌<◌, ◌≤◌, ◌++◌, Bool, true, false, cond, ℤ, pos, List, [], ◌∷◌, length, slice_index_or, refl, sym, ap, ap₂, ◌∙◌, arith}
 use Rattle.std.proofs.lemmas.List.{append_assoc, append-nil}
 use Rattle.it_number.proofs.Ring.{ring, v, one}
 use Rattle.it_number.proofs.Ring as R
 use Rattle.it_rational.specs.Rational.{Rational, quotient, whole, minus, times}
 use Rattle.it_rational.proofs.Names.{quotient_names, same_value}
-use Rattle.it_rational.specs.Rational.{Names}
+use Rattle.it_rational.specs.Rational.{IsRatio}
 use Rattle.it_rational.proofs.RationalLaws.{ring_ℚ}
 use Rattle.it_rational.proofs.Field.{field_ℚ}
 use Rattle.it_space.specs.Rows.{Terms}
 use Rattle.it_tableau.specs.TableauViews.{TableauView, height}
 use Rattle.it_tableau.specs.Tables.{Table, FeasibilityProblem}
-use Rattle.it_run.specs.Readings.{weight, weights, weights_from, point_at, point_from, point}
+use Rattle.it_run.specs.Readings.{weight, weights, weights_from_column, point_value, point_from_row, point}
 use Rattle.it_run.specs.Answers.{HasSigns, sign_number}
-use Rattle.it_run.proofs.FillingLemmas.{SoFar, so_far_null, so_far_more}
-use Rattle.it_tableau.proofs.Zeros as S
+use Rattle.it_run.proofs.FillingLemmas.{AreWeightsSoFar, weights_skip_null, weights_with_next}
 use Rattle.it_run.proofs.Reading.{weight_found, weight_none}
-use Rattle.it_engine.specs.Choosing.{right_of}
+use Rattle.it_engine.specs.Choosing.{right_side_of}
 use Rattle.it_engine.specs.Engine.{StandsFor}
 use Rattle.it_engine.specs.Ends.{IsWeightOf, IsPointOf}
-use Rattle.it_engine.specs.Whole.{row_at, WholeRowView}
+use Rattle.it_engine.specs.Whole.{whole_row_at, WholeRowView}
 
-pub quotient_named : (q : Rational) (n : ℤ) (d : ℕ) → 0 < d → Names q n d → quotient n d ≡ q
+pub quotient_named : (q : Rational) (n : ℤ) (d : ℕ) → 0 < d → IsRatio q n d → quotient n d ≡ q
 quotient_named q n d h e = same_value (quotient n d) q n n d d h h (quotient_names n d h) e refl
 
 module _ (p : FeasibilityProblem Rational) (t : Table Rational) (columns : List Terms) (limit : ℕ) (rows : List WholeRowView) (basis : List ℕ) (s : StandsFor p t columns limit rows basis) where
   weight_is : (j : ℕ) (w : Rational) → IsWeightOf rows basis j w → w ≡ weight field_ℚ (length basis) (length columns) t j
   weight_is j w i = i.value_is
       ∙ (let r = s.shows.row i.row (omega (arith, i.within)) in
-      quotient_named (t.entry i.row (length columns + length basis)) (right_of (length basis) rows i.row) (row_at rows i.row).bottom r.some (r.named (length basis) (omega arith)))
+      quotient_named (t.entry i.row (length columns + length basis)) (right_side_of (length basis) rows i.row) (whole_row_at rows i.row).bottom r.some (r.named (length basis) (omega arith)))
       ∙ sym (weight_found field_ℚ (length basis) (length columns) p t s.holds i.row j i.within (s.shows.basis_is i.row i.within ∙ i.basic))
 
 -- the weights so far, for whichever table the engine shows
 abbrev pub WeightsSoFar : List Terms → List WholeRowView → List ℕ → List (ℕ × Rational) → ℕ → Type 0
-WeightsSoFar columns rows basis out j = (p : FeasibilityProblem Rational) (t : Table Rational) (limit : ℕ) → StandsFor p t columns limit rows basis → SoFar (length basis) (length columns) t out j
+WeightsSoFar columns rows basis out j = (p : FeasibilityProblem Rational) (t : Table Rational) (limit : ℕ) → StandsFor p t columns limit rows basis → AreWeightsSoFar (length basis) (length columns) t out j
 
 pub weights_more : (columns : List Terms) (rows : List WholeRowView) (basis : List ℕ) (out : List (ℕ × Rational)) (j : ℕ) (w : Rational) → j < length columns → IsWeightOf rows basis j w → ¬ (w ≡ whole (pos 0))
     → WeightsSoFar columns rows basis out j → WeightsSoFar columns rows basis (out ++ (j, w) ∷ []) (j + 1)
-weights_more columns rows basis out j w l i n h = λ p t limit s. so_far_more (length basis) (length columns) t out j w l (weight_is p t columns limit rows basis s j w i) n (h p t limit s)
+weights_more columns rows basis out j w l i n h = λ p t limit s. weights_with_next (length basis) (length columns) t out j w l (weight_is p t columns limit rows basis s j w i) n (h p t limit s)
 
 pub weights_null : (columns : List Terms) (rows : List WholeRowView) (basis : List ℕ) (out : List (ℕ × Rational)) (j : ℕ) (w : Rational) → j < length columns → IsWeightOf rows basis j w → w ≡ whole (pos 0)
     → WeightsSoFar columns rows basis out j → WeightsSoFar columns rows basis out (j + 1)
-weights_null columns rows basis out j w l i n h = λ p t limit s. so_far_null (length basis) (length columns) t out j l (sym (weight_is p t columns limit rows basis s j w i) ∙ n) (h p t limit s)
+weights_null columns rows basis out j w l i n h = λ p t limit s. weights_skip_null (length basis) (length columns) t out j l (sym (weight_is p t columns limit rows basis s j w i) ∙ n) (h p t limit s)
 
 pub weights_none : (columns : List Terms) (rows : List WholeRowView) (basis : List ℕ) (out : List (ℕ × Rational)) (j : ℕ) → j < length columns → ((i : ℕ) → i < length basis → slice_index_or basis i 0 ≢ j)
     → WeightsSoFar columns rows basis out j → WeightsSoFar columns rows basis out (j + 1)
-weights_none columns rows basis out j l n h = λ p t limit s. so_far_null (length basis) (length columns) t out j l
+weights_none columns rows basis out j l n h = λ p t limit s. weights_skip_null (length basis) (length columns) t out j l
     (weight_none field_ℚ (length basis) (length columns) t j (λ i k e. n i k (sym (s.shows.basis_is i k) ∙ e))) (h p t limit s)
-
--- signs
-pub sign_below : (b : Bool) → cond b (negsuc 0) (pos 1) <ℤ pos 0 → b ≡ true
-sign_below true h = refl
-sign_below false h = absurd (omega (arith, ints))
-
-pub sign_above : (b : Bool) → ¬ (cond b (negsuc 0) (pos 1) <ℤ pos 0) → b ≡ false
-sign_above true h = absurd (h (omega (arith, ints)))
-sign_above false h = refl
 
 -- the point's values so far
 abbrev pub PointSoFar : TableauView → List WholeRowView → List ℕ → List Rational → ℕ → Type 0
 PointSoFar first rows basis out k = (p : FeasibilityProblem Rational) (t : Table Rational) (columns : List Terms) (limit : ℕ) → HasSigns first p → StandsFor p t columns limit rows basis
-    → out ++ point_from field_ℚ (length basis) (length columns) p t k (length basis - k) ≡ point field_ℚ (length basis) (length columns) p t
+    → out ++ point_from_row field_ℚ (length basis) (length columns) p t k (length basis - k) ≡ point field_ℚ (length basis) (length columns) p t
 
 pub point_more : (first : TableauView) (rows : List WholeRowView) (basis : List ℕ) (out : List Rational) (k : ℕ) (x : Rational) → k < length basis → length basis ≡ height first
-    → x ≡ times (sign_number first k) (quotient (right_of k rows (length basis)) (row_at rows (length basis)).bottom)
+    → x ≡ times (sign_number first k) (quotient (right_side_of k rows (length basis)) (whole_row_at rows (length basis)).bottom)
     → PointSoFar first rows basis out k → PointSoFar first rows basis (out ++ x ∷ []) (k + 1)
 point_more first rows basis out k x l m e h = λ p t columns limit sg s.
     let r = s.shows.row (length basis) (omega arith) in
     let here : length basis - k ≡ suc (length basis - (k + 1)) = omega (arith, l) in
     let there : suc k ≡ k + 1 = omega arith in
-    append_assoc out (x ∷ []) (point_from field_ℚ (length basis) (length columns) p t (k + 1) (length basis - (k + 1)))
-    ∙ ap (λ y. out ++ y ∷ point_from field_ℚ (length basis) (length columns) p t (k + 1) (length basis - (k + 1)))
-    (e ∙ ap₂ times (sg k (omega (arith, l, m))) (quotient_named (t.entry (length basis) (length columns + k)) (right_of k rows (length basis)) (row_at rows (length basis)).bottom r.some (r.named k (omega (arith, l)))))
-    ∙ ap (λ xs. out ++ xs) (sym (ap (point_from field_ℚ (length basis) (length columns) p t k) here
-    ∙ ap (λ i. point_at field_ℚ (length basis) (length columns) p t k ∷ point_from field_ℚ (length basis) (length columns) p t i (length basis - (k + 1))) there))
+    append_assoc out (x ∷ []) (point_from_row field_ℚ (length basis) (length columns) p t (k + 1) (length basis - (k + 1)))
+    ∙ ap (λ y. out ++ y ∷ point_from_row field_ℚ (length basis) (length columns) p t (k + 1) (length basis - (k + 1)))
+    (e ∙ ap₂ times (sg k (omega (arith, l, m))) (quotient_named (t.entry (length basis) (length columns + k)) (right_side_of k rows (length basis)) (whole_row_at rows (length basis)).bottom r.some (r.named k (omega (arith, l)))))
+    ∙ ap (λ xs. out ++ xs) (sym (ap (point_from_row field_ℚ (length basis) (length columns) p t k) here
+    ∙ ap (λ i. point_value field_ℚ (length basis) (length columns) p t k ∷ point_from_row field_ℚ (length basis) (length columns) p t i (length basis - (k + 1))) there))
     ∙ h p t columns limit sg s
-
-pub null_from_top : (q : Rational) → q.num ≡ pos 0 → q ≡ whole (pos 0)
-null_from_top q e = S.null_from_top q e
-
-pub top_from_null : (q : Rational) → q ≡ whole (pos 0) → q.num ≡ pos 0
-top_from_null q e = S.top_from_null q e
 
 pub signed_is : (b : Bool) (x : Rational) → cond b (minus x) x ≡ times (cond b (minus (whole (pos 1))) (whole (pos 1))) x
 signed_is true x = ring ring_ℚ (x ∷ []) (R.minus (v 0)) (R.times (R.minus one) (v 0)) refl
@@ -91,8 +74,8 @@ signed_is false x = ring ring_ℚ (x ∷ []) (v 0) (R.times one (v 0)) refl
 pub weights_all : (columns : List Terms) (rows : List WholeRowView) (basis : List ℕ) (out : List (ℕ × Rational)) (j : ℕ) → length columns ≤ j → WeightsSoFar columns rows basis out j
     → (p : FeasibilityProblem Rational) (t : Table Rational) (limit : ℕ) → StandsFor p t columns limit rows basis → out ≡ weights field_ℚ (length basis) (length columns) t
 weights_all columns rows basis out j l h p t limit s = let none : length columns - j ≡ 0 = omega (arith, l) in
-    sym (append-nil out) ∙ ap (λ k. out ++ weights_from field_ℚ (length basis) (length columns) t j k) (sym none) ∙ h p t limit s
+    sym (append-nil out) ∙ ap (λ k. out ++ weights_from_column field_ℚ (length basis) (length columns) t j k) (sym none) ∙ h p t limit s
 
 pub point_all : (first : TableauView) (rows : List WholeRowView) (basis : List ℕ) (out : List Rational) (k : ℕ) → length basis ≤ k → PointSoFar first rows basis out k → IsPointOf first rows basis out
 point_all first rows basis out k l h = λ p t columns limit sg s. let none : length basis - k ≡ 0 = omega (arith, l) in
-    sym (append-nil out) ∙ ap (λ i. out ++ point_from field_ℚ (length basis) (length columns) p t k i) (sym none) ∙ h p t columns limit sg s
+    sym (append-nil out) ∙ ap (λ i. out ++ point_from_row field_ℚ (length basis) (length columns) p t k i) (sym none) ∙ h p t columns limit sg s

@@ -11,41 +11,42 @@ use Rattle.it_number.proofs.Divisors.{gcd_is}
 use Rattle.it_number.proofs.SignedDivisors.{over_back}
 use Rattle.it_rational.specs.Rational.{Rational}
 use Rattle.it_rational.specs.Rational as Q
-use Rattle.it_rational.specs.Rational.{Names}
+use Rattle.it_rational.specs.Rational.{IsRatio}
 use Rattle.it_rational.proofs.Names.{same_value, whole_names}
 use Rattle.it_rational.proofs.RationalLaws.{ring_ℚ}
 use Rattle.it_tableau.specs.Tables.{difference}
-use Rattle.it_engine.specs.Updates.{IsCombined, IsDivided, IsLess, IsShortened}
-use Rattle.it_engine.specs.Whole.{number_at, WholeRowView, IsRow}
+use Rattle.it_engine.specs.Updates.{IsCombined, IsWholeRowDivided, IsWholeRowReduced, IsShortened}
+use Rattle.it_space.specs.Sums.{number_at}
+use Rattle.it_engine.specs.Whole.{WholeRowView, IsRow}
 use Rattle.it_engine.proofs.Generators.{sum_named}
 use Rattle.it_engine.proofs.Names.{null_named, minus_names, inverse_names, scaled_name, reduced_name, quotient_in_row, product_in_row}
 use native.Mathlib.Nat.{div-mul_cancel, pos_of_dvd_of_pos}
 
 -- x and p are the entries of the row and of the leaving row at the column that enters, and h divides both
 pub row_stepped : (width limit : ℕ) (f g : ℕ → Rational) (row by new : List ℤ) (d e : ℕ) (x w : Rational) (z b : ℤ) (p a h : ℕ)
-    → IsRow width limit f row d → IsRow width limit g by e → Names x z d → Names w (pos p) e → 0 < h → 0 < a → a * h ≡ p → b *ℤ pos h ≡ z
+    → IsRow width limit f row d → IsRow width limit g by e → IsRatio x z d → IsRatio w (pos p) e → 0 < h → 0 < a → a * h ≡ p → b *ℤ pos h ≡ z
     → IsCombined width limit row by (pos a) b new → d * a < 2 ^ 63
     → IsRow width limit (λ k. difference ring_ℚ (f k) (Q.times (g k) (Q.times x (Q.inverse w)))) new (d * a)
 row_stepped width limit f g row by new d e x w z b p a h rf rg ex ew hh ha ea eb c low = record {
   length_is = c.length_is;
   some = mul-pos rf.some ha;
   low = low;
-  named = λ k l. subst (λ (y : ℤ). Names (difference ring_ℚ (f k) (Q.times (g k) (Q.times x (Q.inverse w)))) y (d * a)) (sym (c.entries k l)) (each k l);
+  named = λ k l. subst (λ (y : ℤ). IsRatio (difference ring_ℚ (f k) (Q.times (g k) (Q.times x (Q.inverse w)))) y (d * a)) (sym (c.entries k l)) (each k l);
   small = c.small;
 }
   where
     hp : 0 < p
     hp = subst (λ k. 0 < k) ea (mul-pos ha hh)
 
-    each : (k : ℕ) → k < width → Names (difference ring_ℚ (f k) (Q.times (g k) (Q.times x (Q.inverse w)))) (number_at row k *ℤ pos a +ℤ neg_ℤ (number_at by k *ℤ b)) (d * a)
+    each : (k : ℕ) → k < width → IsRatio (difference ring_ℚ (f k) (Q.times (g k) (Q.times x (Q.inverse w)))) (number_at row k *ℤ pos a +ℤ neg_ℤ (number_at by k *ℤ b)) (d * a)
     each k l =
-        let left : Names (f k) (number_at row k *ℤ pos p) (d * p) = scaled_name (f k) (number_at row k) d p (rf.named k l) in
-        let right : Names (Q.times (g k) (Q.times x (Q.inverse w))) (number_at by k *ℤ z) (d * p) = product_in_row (g k) x w (number_at by k) z p e d rg.some rf.some hp (rg.named k l) ex ew in
+        let left : IsRatio (f k) (number_at row k *ℤ pos p) (d * p) = scaled_name (f k) (number_at row k) d p (rf.named k l) in
+        let right : IsRatio (Q.times (g k) (Q.times x (Q.inverse w))) (number_at by k *ℤ z) (d * p) = product_in_row (g k) x w (number_at by k) z p e d rg.some rf.some hp (rg.named k l) ex ew in
         let both = sum_named (f k) (Q.minus (Q.times (g k) (Q.times x (Q.inverse w)))) (number_at row k *ℤ pos p) (neg_ℤ (number_at by k *ℤ z)) (d * p) (mul-pos rf.some hp) left
         (minus_names (Q.times (g k) (Q.times x (Q.inverse w))) (number_at by k *ℤ z) (d * p) right) in
         reduced_name (difference ring_ℚ (f k) (Q.times (g k) (Q.times x (Q.inverse w)))) (number_at row k *ℤ pos a +ℤ neg_ℤ (number_at by k *ℤ b)) (d * a) h hh
-        (subst (λ (y : ℤ). Names (difference ring_ℚ (f k) (Q.times (g k) (Q.times x (Q.inverse w)))) y (d * a * h)) (gather (number_at row k) (number_at by k) a b h p z ea eb)
-        (subst (λ (q : ℕ). Names (difference ring_ℚ (f k) (Q.times (g k) (Q.times x (Q.inverse w)))) (number_at row k *ℤ pos p +ℤ neg_ℤ (number_at by k *ℤ z)) q) (int_quotient d a h p ea) both))
+        (subst (λ (y : ℤ). IsRatio (difference ring_ℚ (f k) (Q.times (g k) (Q.times x (Q.inverse w)))) y (d * a * h)) (gather (number_at row k) (number_at by k) a b h p z ea eb)
+        (subst (λ (q : ℕ). IsRatio (difference ring_ℚ (f k) (Q.times (g k) (Q.times x (Q.inverse w)))) (number_at row k *ℤ pos p +ℤ neg_ℤ (number_at by k *ℤ z)) q) (int_quotient d a h p ea) both))
       where
         int_quotient : (d a h p : ℕ) → a * h ≡ p → d * p ≡ d * a * h
         int_quotient d a h p e = rw (← e) (omega arith)
@@ -65,7 +66,7 @@ row_stays width limit f g row d x w e r = record {
   length_is = r.length_is;
   some = r.some;
   low = r.low;
-  named = λ k l. subst (λ (q : Rational). Names q (number_at row k) d) (stays (f k) (g k)) (r.named k l);
+  named = λ k l. subst (λ (q : Rational). IsRatio q (number_at row k) d) (stays (f k) (g k)) (r.named k l);
   small = r.small;
 }
   where
@@ -74,7 +75,7 @@ row_stays width limit f g row d x w e r = record {
         ∙ ap (λ y. difference ring_ℚ a (Q.times b (Q.times y (Q.inverse w)))) (sym e)
 
 -- the leaving row keeps its numbers: their new denominator is its entry
-pub row_divided : (width limit : ℕ) (g : ℕ → Rational) (by : List ℤ) (e : ℕ) (w : Rational) (p : ℕ) → IsRow width limit g by e → Names w (pos p) e → 0 < p → p < 2 ^ 63
+pub row_divided : (width limit : ℕ) (g : ℕ → Rational) (by : List ℤ) (e : ℕ) (w : Rational) (p : ℕ) → IsRow width limit g by e → IsRatio w (pos p) e → 0 < p → p < 2 ^ 63
     → IsRow width limit (λ k. Q.times (g k) (Q.inverse w)) by p
 row_divided width limit g by e w p r ew hp low = record {
   length_is = r.length_is;
@@ -91,8 +92,8 @@ row_shortened width limit f old new s r = let h = s.shared in record {
   some = some new.bottom s.bottom_is;
   low = difference new.bottom h old.bottom s.some s.bottom_is r.low;
   named = λ k l. reduced_name (f k) (number_at new.numbers k) new.bottom h s.some
-      (subst (λ (d : ℕ). Names (f k) (number_at new.numbers k *ℤ pos h) d) (sym s.bottom_is)
-      (subst (λ (z : ℤ). Names (f k) z old.bottom) (sym (s.entries k (omega (arith, l, r.length_is)))) (r.named k l)));
+      (subst (λ (d : ℕ). IsRatio (f k) (number_at new.numbers k *ℤ pos h) d) (sym s.bottom_is)
+      (subst (λ (z : ℤ). IsRatio (f k) z old.bottom) (sym (s.entries k (omega (arith, l, r.length_is)))) (r.named k l)));
   small = λ k l. fewer (unsigned_abs (number_at new.numbers k)) h (unsigned_abs (number_at old.numbers k)) limit s.some
       (sym (unsigned_abs-mul (number_at new.numbers k) (pos h)) ∙ ap unsigned_abs (s.entries k (omega (arith, l, r.length_is)))) (r.small k l);
 }
@@ -115,7 +116,7 @@ row_shortened width limit f old new s r = let h = s.shared in record {
 pub less_row : (width limit : ℕ) (old own new : WholeRowView) (z p a b : ℤ) → pos 1 ≤ℤ p
     → a ≡ int_quotient p (gcd (unsigned_abs p) (unsigned_abs z)) → b ≡ int_quotient z (gcd (unsigned_abs p) (unsigned_abs z))
     → IsCombined width limit old.numbers own.numbers a b new.numbers → new.bottom ≡ old.bottom * unsigned_abs a → old.bottom * unsigned_abs a < 2 ^ 63
-    → IsLess width limit old own z p new
+    → IsWholeRowReduced width limit old own z p new
 less_row width limit old own new z (negsuc p) a b hp ea eb c d l = absurd (omega (arith, ints))
 less_row width limit old own new z (pos p) a b hp ea eb c d l = λ f g x w rf rg ex ew.
     subst (λ (k : ℕ). IsRow width limit (λ k. difference ring_ℚ (f k) (Q.times (g k) (Q.times x (Q.inverse w)))) new.numbers k) (sym (d ∙ ap (λ a. old.bottom * unsigned_abs a) ea))
@@ -140,10 +141,10 @@ less_row width limit old own new z (pos p) a b hp ea eb c d l = λ f g x w rf rg
     some (suc k) e = omega arith
 
 -- and where the entry is 0 already
-pub kept_row : (width limit : ℕ) (old own : WholeRowView) (p : ℤ) → IsLess width limit old own (pos 0) p old
+pub kept_row : (width limit : ℕ) (old own : WholeRowView) (p : ℤ) → IsWholeRowReduced width limit old own (pos 0) p old
 kept_row width limit old own p = λ f g x w rf rg ex ew. row_stays width limit f g old.numbers old.bottom x w (null_named x old.bottom rf.some ex) rf
 
-pub divided_row : (width limit : ℕ) (old new : WholeRowView) (p : ℤ) → pos 1 ≤ℤ p → unsigned_abs p < 2 ^ 63 → new.numbers ≡ old.numbers → new.bottom ≡ unsigned_abs p → IsDivided width limit old p new
+pub divided_row : (width limit : ℕ) (old new : WholeRowView) (p : ℤ) → pos 1 ≤ℤ p → unsigned_abs p < 2 ^ 63 → new.numbers ≡ old.numbers → new.bottom ≡ unsigned_abs p → IsWholeRowDivided width limit old p new
 divided_row width limit old new (negsuc p) h k e d = absurd (omega (arith, ints))
 divided_row width limit old new (pos p) h k e d = λ g w r ew.
     subst (λ (ns : List ℤ). IsRow width limit (λ k. Q.times (g k) (Q.inverse w)) ns new.bottom) (sym e)
@@ -151,7 +152,7 @@ divided_row width limit old new (pos p) h k e d = λ g w r ew.
     (row_divided width limit g old.numbers old.bottom w p r ew (omega (arith, ints, h)) k))
 
 -- as much of the leaving row as makes an entry 0 may be taken from that row when it is divided by its entry, where it has 1
-pub less_divided : (width limit : ℕ) (old own mid new : WholeRowView) (z p : ℤ) → IsDivided width limit own p mid → IsLess width limit old mid z (pos mid.bottom) new → IsLess width limit old own z p new
+pub less_divided : (width limit : ℕ) (old own mid new : WholeRowView) (z p : ℤ) → IsWholeRowDivided width limit own p mid → IsWholeRowReduced width limit old mid z (pos mid.bottom) new → IsWholeRowReduced width limit old own z p new
 less_divided width limit old own mid new z p d l = λ f g x w rf rg ex ew.
     same_row (λ k. difference ring_ℚ (f k) (Q.times (Q.times (g k) (Q.inverse w)) (Q.times x (Q.inverse (Q.whole (pos 1)))))) (λ k. difference ring_ℚ (f k) (Q.times (g k) (Q.times x (Q.inverse w))))
     (λ k. same (f k) (g k) x (Q.inverse w))
@@ -162,7 +163,7 @@ less_divided width limit old own mid new z p d l = λ f g x w rf rg ex ew.
       length_is = r.length_is;
       some = r.some;
       low = r.low;
-      named = λ k h. subst (λ (q : Rational). Names q (number_at new.numbers k) new.bottom) (e k) (r.named k h);
+      named = λ k h. subst (λ (q : Rational). IsRatio q (number_at new.numbers k) new.bottom) (e k) (r.named k h);
       small = r.small;
     }
 

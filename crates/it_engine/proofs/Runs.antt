@@ -3,7 +3,7 @@ use Rattle.std.proofs.Common.{◌≡◌, ℕ, ◌+◌, ◌-◌, ◌<◌, ℤ, po
 use Rattle.std.proofs.lemmas.Int.{ints}
 use Rattle.it_rational.specs.Rational.{Rational}
 use Rattle.it_rational.proofs.Names.{cancel}
-use Rattle.it_rational.specs.Rational.{Names}
+use Rattle.it_rational.specs.Rational.{IsRatio}
 use Rattle.it_rational.proofs.Field.{field_ℚ}
 use Rattle.it_fraction.proofs.ZeroLemmas.{zero_parts}
 use Rattle.it_space.specs.Rows.{Terms}
@@ -12,81 +12,82 @@ use Rattle.it_run.specs.Choice.{next, IsDone, IsStuck}
 use Rattle.it_run.specs.Runs.{RunEndView}
 use Rattle.it_run.specs.Steps.{Reaches}
 use Rattle.it_run.proofs.RunSteps.{run_done, run_stuck, run_more, run_budget}
-use Rattle.it_engine.specs.Choosing.{right_of, first_below}
-use Rattle.it_engine.specs.Engine.{IsSafe, StandsFor, IsStep, IsFinished}
-use Rattle.it_engine.specs.Whole.{row_at, WholeRowView}
+use Rattle.it_engine.specs.Choosing.{right_side_of, first_negative_cost}
+use Rattle.it_engine.specs.Engine.{IsSafe, StandsFor, IsEngineStep, IsFinished}
+use Rattle.it_engine.specs.Whole.{whole_row_at, WholeRowView}
 use Rattle.it_engine.specs.declared.engine.EngineEnd.TheVariants.{Weights, Point, Pivots}
 use Rattle.it_engine.proofs.Names.{null_named}
 use Rattle.it_engine.proofs.Steps.{entering_same}
 
-pub record OnTheWay (columns : List Terms) (limit : ℕ) (old : List WholeRowView) (basis : List ℕ) (budget : ℕ) (now : List WholeRowView) (now_basis : List ℕ) (k : ℕ) : Type 0 where
+-- after k steps the engine shows a table from which the run goes on as from the first
+pub record IsRunUnderWay (columns : List Terms) (limit : ℕ) (old : List WholeRowView) (basis : List ℕ) (budget : ℕ) (now : List WholeRowView) (now_basis : List ℕ) (k : ℕ) : Type 0 where
   pub engine : IsSafe columns limit now now_basis
   pub height : length now_basis ≡ length basis
   pub runs : (p : FeasibilityProblem Rational) (t : Table Rational) → StandsFor p t columns limit old basis
       → (s : Table Rational) × StandsFor p s columns limit now now_basis
       × ((e : RunEndView (Table Rational) (Table Rational)) → Reaches (length basis) (length columns) (budget - k) k s e → Reaches (length basis) (length columns) budget 0 t e)
 
-pub begin_way : (columns : List Terms) (limit : ℕ) (old : List WholeRowView) (basis : List ℕ) (budget : ℕ) → IsSafe columns limit old basis → OnTheWay columns limit old basis budget old basis 0
-begin_way columns limit old basis budget h = record { engine = h; height = refl; runs = λ p t s. (t, s, λ e r. subst (λ (x : ℕ). Reaches (length basis) (length columns) x 0 t e) (all budget) r) }
+pub run_begins : (columns : List Terms) (limit : ℕ) (old : List WholeRowView) (basis : List ℕ) (budget : ℕ) → IsSafe columns limit old basis → IsRunUnderWay columns limit old basis budget old basis 0
+run_begins columns limit old basis budget h = record { engine = h; height = refl; runs = λ p t s. (t, s, λ e r. subst (λ (x : ℕ). Reaches (length basis) (length columns) x 0 t e) (all budget) r) }
   where
     all : (b : ℕ) → b - 0 ≡ b
     all b = omega arith
 
 -- the cost row's right side
 module _ (p : FeasibilityProblem Rational) (t : Table Rational) (columns : List Terms) (limit : ℕ) (rows : List WholeRowView) (basis : List ℕ) (s : StandsFor p t columns limit rows basis) where
-  cost_named : Names (t.entry (length basis) (length columns + length basis)) (right_of (length basis) rows (length basis)) (row_at rows (length basis)).bottom
+  cost_named : IsRatio (t.entry (length basis) (length columns + length basis)) (right_side_of (length basis) rows (length basis)) (whole_row_at rows (length basis)).bottom
   cost_named = (s.shows.row (length basis) (omega arith)).named (length basis) (omega arith)
 
-  pub done_here : right_of (length basis) rows (length basis) ≡ pos 0 → IsDone field_ℚ (length basis) (length columns) t
-  done_here e = null_named (t.entry (length basis) (length columns + length basis)) (row_at rows (length basis)).bottom (s.shows.row (length basis) (omega arith)).some
-      (subst (λ (z : ℤ). Names (t.entry (length basis) (length columns + length basis)) z (row_at rows (length basis)).bottom) e cost_named)
+  pub done_here : right_side_of (length basis) rows (length basis) ≡ pos 0 → IsDone field_ℚ (length basis) (length columns) t
+  done_here e = null_named (t.entry (length basis) (length columns + length basis)) (whole_row_at rows (length basis)).bottom (s.shows.row (length basis) (omega arith)).some
+      (subst (λ (z : ℤ). IsRatio (t.entry (length basis) (length columns + length basis)) z (whole_row_at rows (length basis)).bottom) e cost_named)
 
-  pub not_done_here : ¬ (right_of (length basis) rows (length basis) ≡ pos 0) → ¬ (IsDone field_ℚ (length basis) (length columns) t)
-  not_done_here n d = n (number_null (right_of (length basis) rows (length basis)) (t.entry (length basis) (length columns + length basis)) (row_at rows (length basis)).bottom cost_named (ap (λ (q : Rational). q.num) d ∙ zero_parts.0))
+  pub not_done_here : ¬ (right_side_of (length basis) rows (length basis) ≡ pos 0) → ¬ (IsDone field_ℚ (length basis) (length columns) t)
+  not_done_here n d = n (number_null (right_side_of (length basis) rows (length basis)) (t.entry (length basis) (length columns + length basis)) (whole_row_at rows (length basis)).bottom cost_named (ap (λ (q : Rational). q.num) d ∙ zero_parts.0))
     where
-      number_null : (z : ℤ) (q : Rational) (d : ℕ) → Names q z d → q.num ≡ pos 0 → z ≡ pos 0
+      number_null : (z : ℤ) (q : Rational) (d : ℕ) → IsRatio q z d → q.num ≡ pos 0 → z ≡ pos 0
       number_null z q d e f = cancel z (pos 0) q.den q.positive (sym e ∙ ap (λ x. x *ℤ pos d) f ∙ none d q.den)
         where
           none : (a b : ℕ) → pos 0 *ℤ pos a ≡ pos 0 *ℤ pos b
           none a b = omega (arith, ints)
 
 module _ (columns : List Terms) (limit : ℕ) (old : List WholeRowView) (basis : List ℕ) (budget : ℕ) (now : List WholeRowView) (now_basis : List ℕ) (k : ℕ)
-    (w : OnTheWay columns limit old basis budget now now_basis k) where
+    (w : IsRunUnderWay columns limit old basis budget now now_basis k) where
   -- what is said of the height now is said of the height at first
-  moved : (P : ℕ → Type 0) → P (length now_basis) → P (length basis)
-  moved P x = subst P w.height x
+  by_same_height : (P : ℕ → Type 0) → P (length now_basis) → P (length basis)
+  by_same_height P x = subst P w.height x
 
-  pub way_done : right_of (length now_basis) now (length now_basis) ≡ pos 0 → IsFinished columns limit old basis (Some budget) now now_basis Weights
-  way_done e = record {
+  pub run_ends_done : right_side_of (length now_basis) now (length now_basis) ≡ pos 0 → IsFinished columns limit old basis (Some budget) now now_basis Weights
+  run_ends_done e = record {
     engine = w.engine;
     height = w.height;
     runs = λ p t s. let r = w.runs p t s in (
       r.0,
       r.1,
       r.2 _ (run_done (length basis) (length columns) (budget - k) k r.0
-          (moved (λ m. IsDone field_ℚ m (length columns) r.0) (done_here p r.0 columns limit now now_basis r.1 e))),
+          (by_same_height (λ m. IsDone field_ℚ m (length columns) r.0) (done_here p r.0 columns limit now now_basis r.1 e))),
     );
   }
 
-  pub way_stuck : ¬ (right_of (length now_basis) now (length now_basis) ≡ pos 0)
+  pub run_ends_stuck : ¬ (right_side_of (length now_basis) now (length now_basis) ≡ pos 0)
       → ((p : FeasibilityProblem Rational) (t : Table Rational) → StandsFor p t columns limit now now_basis → IsStuck field_ℚ (length now_basis) (length columns) t)
       → IsFinished columns limit old basis (Some budget) now now_basis Point
-  way_stuck n u = record {
+  run_ends_stuck n u = record {
     engine = w.engine;
     height = w.height;
     runs = λ p t s. let r = w.runs p t s in (
       r.0,
       r.1,
       r.2 _ (run_stuck (length basis) (length columns) (budget - k) k r.0 r.0
-          (moved (λ m. ¬ (IsDone field_ℚ m (length columns) r.0)) (not_done_here p r.0 columns limit now now_basis r.1 n))
-          (moved (λ m. IsStuck field_ℚ m (length columns) r.0) (u p r.0 r.1)) refl),
+          (by_same_height (λ m. ¬ (IsDone field_ℚ m (length columns) r.0)) (not_done_here p r.0 columns limit now now_basis r.1 n))
+          (by_same_height (λ m. IsStuck field_ℚ m (length columns) r.0) (u p r.0 r.1)) refl),
     );
   }
 
-  pub way_budget : ¬ (right_of (length now_basis) now (length now_basis) ≡ pos 0) → k ≡ budget
+  pub run_ends_at_budget : ¬ (right_side_of (length now_basis) now (length now_basis) ≡ pos 0) → k ≡ budget
       → ((p : FeasibilityProblem Rational) (t : Table Rational) → StandsFor p t columns limit now now_basis → ¬ (IsStuck field_ℚ (length now_basis) (length columns) t))
       → IsFinished columns limit old basis (Some budget) now now_basis (Pivots budget)
-  way_budget n e u = record {
+  run_ends_at_budget n e u = record {
     engine = w.engine;
     height = w.height;
     runs = λ p t s. let r = w.runs p t s in (
@@ -94,14 +95,14 @@ module _ (columns : List Terms) (limit : ℕ) (old : List WholeRowView) (basis :
       r.1,
       r.2 _ (subst (λ (x : ℕ). Reaches (length basis) (length columns) (budget - k) k r.0 (Rattle.it_run.specs.Runs.RunEndView.Pivots x)) e
           (run_budget (length basis) (length columns) (budget - k) k r.0 (omega (arith, e))
-          (moved (λ m. ¬ (IsDone field_ℚ m (length columns) r.0)) (not_done_here p r.0 columns limit now now_basis r.1 n))
-          (moved (λ m. ¬ (IsStuck field_ℚ m (length columns) r.0)) (u p r.0 r.1)))),
+          (by_same_height (λ m. ¬ (IsDone field_ℚ m (length columns) r.0)) (not_done_here p r.0 columns limit now now_basis r.1 n))
+          (by_same_height (λ m. ¬ (IsStuck field_ℚ m (length columns) r.0)) (u p r.0 r.1)))),
     );
   }
 
-  pub way_step : (new : List WholeRowView) (new_basis : List ℕ) → ¬ (right_of (length now_basis) now (length now_basis) ≡ pos 0) → k < budget → IsStep columns limit now now_basis new new_basis
-      → OnTheWay columns limit old basis budget new new_basis (k + 1)
-  way_step new new_basis n h g = record {
+  pub step_is_made : (new : List WholeRowView) (new_basis : List ℕ) → ¬ (right_side_of (length now_basis) now (length now_basis) ≡ pos 0) → k < budget → IsEngineStep columns limit now now_basis new new_basis
+      → IsRunUnderWay columns limit old basis budget new new_basis (k + 1)
+  step_is_made new new_basis n h g = record {
     engine = g.engine;
     height = g.height ∙ w.height;
     runs = λ p t s.
@@ -111,9 +112,9 @@ module _ (columns : List Terms) (limit : ℕ) (old : List WholeRowView) (basis :
           made.stands,
           λ e q. r.2 e
               (run_more (length basis) (length columns) (budget - k) k r.0 (next field_ℚ (length now_basis) (length columns) r.0) e (omega (arith, h))
-              (moved (λ m. ¬ (IsDone field_ℚ m (length columns) r.0)) (not_done_here p r.0 columns limit now now_basis r.1 n))
-              (moved (λ m. ¬ (IsStuck field_ℚ m (length columns) r.0)) made.moves)
-              (moved (λ m. Rattle.it_run.specs.Solving.StepFits m (length columns) r.0) made.fits)
+              (by_same_height (λ m. ¬ (IsDone field_ℚ m (length columns) r.0)) (not_done_here p r.0 columns limit now now_basis r.1 n))
+              (by_same_height (λ m. ¬ (IsStuck field_ℚ m (length columns) r.0)) made.moves)
+              (by_same_height (λ m. Rattle.it_run.specs.Solving.StepFits m (length columns) r.0) made.fits)
               (ap (λ m. next field_ℚ m (length columns) r.0) w.height)
               (subst (λ (x : ℕ). Reaches (length basis) (length columns) x (k + 1) (next field_ℚ (length now_basis) (length columns) r.0) e) (fewer budget k) q)),
         );
@@ -124,6 +125,6 @@ module _ (columns : List Terms) (limit : ℕ) (old : List WholeRowView) (basis :
 
 -- where a column has a cost below 0 the run isn't stuck
 pub not_stuck_here : (p : FeasibilityProblem Rational) (t : Table Rational) (columns : List Terms) (limit : ℕ) (rows : List WholeRowView) (basis : List ℕ) (c : ℕ) → StandsFor p t columns limit rows basis
-    → c < length columns → first_below columns (row_at rows (length basis)).numbers ≡ c → ¬ (IsStuck field_ℚ (length basis) (length columns) t)
-not_stuck_here p t columns limit rows basis c s h e = Rattle.it_run.proofs.RunSteps.moves (length basis) (length columns) t c
+    → c < length columns → first_negative_cost columns (whole_row_at rows (length basis)).numbers ≡ c → ¬ (IsStuck field_ℚ (length basis) (length columns) t)
+not_stuck_here p t columns limit rows basis c s h e = Rattle.it_run.proofs.RunSteps.not_stuck_with_entering (length basis) (length columns) t c
     record { within = h; is = entering_same p t columns limit rows basis s ∙ e }

@@ -1,25 +1,26 @@
 -- The engine of the start.
 use Rattle.std.proofs.Common.{◌≡◌, ℕ, ◌+◌, ◌*◌, ◌/◌, ◌<◌, ◌≤◌, ◌^◌, List, [], length, slice_index_or, sym, ap, subst, ◌∙◌, arith}
 use Rattle.std.proofs.lemmas.Nat.{mul-le}
-use Rattle.it_rational.specs.Rational.{Rational, whole}
+use Rattle.it_rational.specs.Rational.{Rational}
 use Rattle.it_rational.specs.Rational as Q
 use Rattle.it_rational.proofs.Names.{whole_names}
-use Rattle.it_rational.specs.Rational.{Names}
+use Rattle.it_rational.specs.Rational.{IsRatio}
 use Rattle.it_rational.proofs.RationalLaws.{ring_ℚ}
 use Rattle.it_rational.proofs.Field.{field_ℚ}
 use Rattle.it_space.specs.Rows.{Terms}
 use Rattle.it_tableau.specs.Invariants.{HasInvariants}
 use Rattle.it_tableau.specs.TableauViews.{TableauView, height, table}
 use Rattle.it_tableau.specs.Tables.{Table, FeasibilityProblem, start, start_row}
-use Rattle.it_tableau.proofs.StartLemmas.{started, start_entry}
+use Rattle.it_tableau.proofs.StartLemmas.{start_has_invariants, start_entry}
 use Rattle.it_tableau.proofs.Sums.{sum_same}
 use Rattle.it_engine.specs.Engine.{IsSafe, StandsFor}
-use Rattle.it_engine.specs.Loading.{AreRead, AreReadRows, IsNorm, IsReadBasis}
-use Rattle.it_engine.specs.Whole.{number_at, row_at, weight_of_terms, WholeRowView, AreColumns, ShowsTable}
+use Rattle.it_engine.specs.Loading.{AreReadColumns, AreReadRows, IsNorm, IsReadBasis}
+use Rattle.it_space.specs.Sums.{number_at}
+use Rattle.it_engine.specs.Whole.{whole_row_at, weight_of_terms, WholeRowView, AreStartColumns, ShowsTable}
 use native.Mathlib.Nat.{mul-div-le}
 
 module _ (t : TableauView) (columns : List Terms) (norm limit : ℕ) (rows : List WholeRowView) (basis : List ℕ)
-    (cs : AreRead t t.generators columns) (n : IsNorm columns norm) (fit : norm * limit < 2 ^ 63) (ls : AreReadRows t limit (height t + 1) rows) (bs : IsReadBasis t (height t) basis) where
+    (cs : AreReadColumns t t.generators columns) (n : IsNorm columns norm) (fit : norm * limit < 2 ^ 63) (ls : AreReadRows t limit (height t + 1) rows) (bs : IsReadBasis t (height t) basis) where
   limit_short : limit < 2 ^ 63
   limit_short = let s = n.some in let w : 1 * limit ≤ norm * limit = mul-le 1 limit norm limit s (omega arith) in omega (arith, w, fit)
 
@@ -40,22 +41,22 @@ module _ (t : TableauView) (columns : List Terms) (norm limit : ℕ) (rows : Lis
 
   module _ (p : FeasibilityProblem Rational) (e : table t ≡ start field_ℚ (height t) t.generators p) where
     -- with the tableau's sizes
-    shows : ShowsTable (height t) t.generators limit (table t) rows basis
-    shows = record {
+    start_is_shown : ShowsTable (height t) t.generators limit (table t) rows basis
+    start_is_shown = record {
       rows_are = ls.0;
       basis_are = bs.0;
       row = λ i l. let r = ls.1 i l in record {
         length_is = r.0.length_is;
         some = subst (λ (k : ℕ). 0 < k) (sym r.1) (omega arith);
         low = subst (λ (k : ℕ). k < 2 ^ 63) (sym r.1) (omega arith);
-        named = λ k l. subst (λ (d : ℕ). Names ((table t).entry i (t.generators + k)) (number_at (row_at rows i).numbers k) d) (sym r.1)
-            (subst (λ (q : Rational). Names q (number_at (row_at rows i).numbers k) 1) (sym (r.0.each k l).value_is) (whole_names (number_at (row_at rows i).numbers k)));
+        named = λ k l. subst (λ (d : ℕ). IsRatio ((table t).entry i (t.generators + k)) (number_at (whole_row_at rows i).numbers k) d) (sym r.1)
+            (subst (λ (q : Rational). IsRatio q (number_at (whole_row_at rows i).numbers k) 1) (sym (r.0.each k l).value_is) (whole_names (number_at (whole_row_at rows i).numbers k)));
         small = λ k l. (r.0.each k l).small;
       };
       basis_is = bs.1;
     }
 
-    columns_are : AreColumns (height t) t.generators norm p columns
+    columns_are : AreStartColumns (height t) t.generators norm p columns
     columns_are = record {
       count = cs.0;
       column = λ j l. let c = cs.1 j l in record {
@@ -71,9 +72,9 @@ module _ (t : TableauView) (columns : List Terms) (norm limit : ℕ) (rows : Lis
       norm = norm;
       some = n.some;
       fit = fit;
-      holds = moved (λ m n. HasInvariants field_ℚ m n p (table t)) (subst (HasInvariants field_ℚ (height t) t.generators p) (sym e) (started field_ℚ (height t) t.generators p));
-      shows = moved (λ m n. ShowsTable m n limit (table t) rows basis) shows;
-      columns_are = moved (λ m n. AreColumns m n norm p columns) columns_are;
+      holds = moved (λ m n. HasInvariants field_ℚ m n p (table t)) (subst (HasInvariants field_ℚ (height t) t.generators p) (sym e) (start_has_invariants field_ℚ (height t) t.generators p));
+      shows = moved (λ m n. ShowsTable m n limit (table t) rows basis) start_is_shown;
+      columns_are = moved (λ m n. AreStartColumns m n norm p columns) columns_are;
     }
       where
         moved : (P : ℕ → ℕ → Type 0) → P (height t) t.generators → P (length basis) (length columns)

@@ -5,46 +5,48 @@ use Rattle.it_rational.proofs.Field.{field_ℚ}
 use Rattle.it_space.specs.Rows.{Terms, value}
 use Rattle.it_tableau.specs.Tables.{Table, FeasibilityProblem}
 use Rattle.it_run.specs.Choice.{next}
-use Rattle.it_run.proofs.Agreeing.{Agree, left_agrees}
+use Rattle.it_run.proofs.Agreeing.{Agree, steps_left_agrees}
 use Rattle.it_run.proofs.StepsLeft.{steps_left, steps_fall}
-use Rattle.it_engine.specs.Engine.{StandsFor, IsStep}
-use Rattle.it_engine.specs.Whole.{number_at, row_at, WholeRowView}
-use Rattle.it_engine.proofs.Generators.{over}
+use Rattle.it_engine.specs.Engine.{StandsFor, IsEngineStep}
+use Rattle.it_space.specs.Sums.{number_at}
+use Rattle.it_engine.specs.Whole.{whole_row_at, WholeRowView}
+use Rattle.it_engine.proofs.Generators.{table_is_over}
 use Rattle.it_engine.proofs.Readings.{quotient_named}
 
 -- the table that an engine shows, as a function of the engine
-abbrev pub table_of : List Terms → List WholeRowView → List ℕ → Table Rational
-table_of columns rows basis = record {
-  entry = λ i j. quotient (cond (ltb j (length columns)) (value (slice_index_or columns j []) (number_at (row_at rows i).numbers)) (number_at (row_at rows i).numbers (j - length columns))) (row_at rows i).bottom;
+abbrev pub shown_table : List Terms → List WholeRowView → List ℕ → Table Rational
+shown_table columns rows basis = record {
+  entry = λ i j. quotient (cond (ltb j (length columns)) (value (slice_index_or columns j []) (number_at (whole_row_at rows i).numbers)) (number_at (whole_row_at rows i).numbers (j - length columns))) (whole_row_at rows i).bottom;
   basis = λ i. slice_index_or basis i 0;
 }
 
-unfoldable pub left_to : List Terms → List WholeRowView → List ℕ → ℕ
-left_to columns rows basis = steps_left field_ℚ (length basis) (length columns) (table_of columns rows basis)
+-- the number of steps that are left to it
+unfoldable pub steps_left_to : List Terms → List WholeRowView → List ℕ → ℕ
+steps_left_to columns rows basis = steps_left field_ℚ (length basis) (length columns) (shown_table columns rows basis)
 
 -- any table that it shows agrees with it
-agrees : (p : FeasibilityProblem Rational) (t : Table Rational) (columns : List Terms) (limit : ℕ) (rows : List WholeRowView) (basis : List ℕ) → StandsFor p t columns limit rows basis
-    → Agree field_ℚ (length basis) (length columns) t (table_of columns rows basis)
-agrees p t columns limit rows basis s = record {
+shown_table_agrees : (p : FeasibilityProblem Rational) (t : Table Rational) (columns : List Terms) (limit : ℕ) (rows : List WholeRowView) (basis : List ℕ) → StandsFor p t columns limit rows basis
+    → Agree field_ℚ (length basis) (length columns) t (shown_table columns rows basis)
+shown_table_agrees p t columns limit rows basis s = record {
   entries = λ i j hi hj.
-      let o = over (length basis) (length columns) limit s.norm p t columns rows basis s.holds s.shows s.columns_are s.fit s.some in
-      sym (quotient_named (t.entry i j) (cond (ltb j (length columns)) (value (slice_index_or columns j []) (number_at (row_at rows i).numbers)) (number_at (row_at rows i).numbers (j - length columns)))
-      (row_at rows i).bottom (o.some i hi) (o.named i j hi hj));
+      let o = table_is_over (length basis) (length columns) limit s.norm p t columns rows basis s.holds s.shows s.columns_are s.fit s.some in
+      sym (quotient_named (t.entry i j) (cond (ltb j (length columns)) (value (slice_index_or columns j []) (number_at (whole_row_at rows i).numbers)) (number_at (whole_row_at rows i).numbers (j - length columns)))
+      (whole_row_at rows i).bottom (o.some i hi) (o.named i j hi hj));
   basics = s.shows.basis_is;
 }
 
-left_is : (p : FeasibilityProblem Rational) (t : Table Rational) (columns : List Terms) (limit : ℕ) (rows : List WholeRowView) (basis : List ℕ) → StandsFor p t columns limit rows basis
-    → left_to columns rows basis ≡ steps_left field_ℚ (length basis) (length columns) t
-unfolding left_to
-left_is p t columns limit rows basis s = sym (left_agrees field_ℚ (length basis) (length columns) t (table_of columns rows basis) (agrees p t columns limit rows basis s))
+steps_left_is : (p : FeasibilityProblem Rational) (t : Table Rational) (columns : List Terms) (limit : ℕ) (rows : List WholeRowView) (basis : List ℕ) → StandsFor p t columns limit rows basis
+    → steps_left_to columns rows basis ≡ steps_left field_ℚ (length basis) (length columns) t
+unfolding steps_left_to
+steps_left_is p t columns limit rows basis s = sym (steps_left_agrees field_ℚ (length basis) (length columns) t (shown_table columns rows basis) (shown_table_agrees p t columns limit rows basis s))
 
 -- a step lowers it
-pub left_falls : (p : FeasibilityProblem Rational) (t : Table Rational) (columns : List Terms) (limit : ℕ) (old : List WholeRowView) (basis : List ℕ) (new : List WholeRowView) (new_basis : List ℕ)
-    → StandsFor p t columns limit old basis → IsStep columns limit old basis new new_basis → left_to columns new new_basis < left_to columns old basis
-left_falls p t columns limit old basis new new_basis s g =
+pub steps_left_falls : (p : FeasibilityProblem Rational) (t : Table Rational) (columns : List Terms) (limit : ℕ) (old : List WholeRowView) (basis : List ℕ) (new : List WholeRowView) (new_basis : List ℕ)
+    → StandsFor p t columns limit old basis → IsEngineStep columns limit old basis new new_basis → steps_left_to columns new new_basis < steps_left_to columns old basis
+steps_left_falls p t columns limit old basis new new_basis s g =
     let m = g.made p t s in
-    let after = left_is p (next field_ℚ (length basis) (length columns) t) columns limit new new_basis m.stands in
-    subst (λ (x : ℕ). x < left_to columns old basis) (sym after)
-    (subst (λ (y : ℕ). steps_left field_ℚ (length new_basis) (length columns) (next field_ℚ (length basis) (length columns) t) < y) (sym (left_is p t columns limit old basis s))
+    let after = steps_left_is p (next field_ℚ (length basis) (length columns) t) columns limit new new_basis m.stands in
+    subst (λ (x : ℕ). x < steps_left_to columns old basis) (sym after)
+    (subst (λ (y : ℕ). steps_left field_ℚ (length new_basis) (length columns) (next field_ℚ (length basis) (length columns) t) < y) (sym (steps_left_is p t columns limit old basis s))
     (subst (λ (h : ℕ). steps_left field_ℚ h (length columns) (next field_ℚ (length basis) (length columns) t) < steps_left field_ℚ (length basis) (length columns) t) (sym g.height)
     (steps_fall field_ℚ (length basis) (length columns) p t s.holds m.moves)))

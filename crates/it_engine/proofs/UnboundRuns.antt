@@ -10,72 +10,73 @@ use Rattle.it_run.specs.Runs.RunEndView.{Weights, Point}
 use Rattle.it_run.specs.Solving.{StepFits}
 use Rattle.it_run.specs.Steps.{Reaches, ReachesBy}
 use Rattle.it_run.proofs.RunSteps.{run_done, run_stuck, run_more}
-use Rattle.it_engine.specs.Choosing.{right_of}
-use Rattle.it_engine.specs.Engine.{IsSafe, StandsFor, StandsForSome, IsStep, IsFinished}
+use Rattle.it_engine.specs.Choosing.{right_side_of}
+use Rattle.it_engine.specs.Engine.{IsSafe, StandsFor, StandsForSome, IsEngineStep, IsFinished}
 use Rattle.it_engine.specs.Whole.{WholeRowView}
 use Rattle.it_engine.specs.declared.engine.EngineEnd.TheVariants as engine_ends
-use Rattle.it_engine.proofs.StepsLeft.{left_to, left_falls}
+use Rattle.it_engine.proofs.StepsLeft.{steps_left_to, steps_left_falls}
 use Rattle.it_engine.proofs.Runs.{done_here, not_done_here}
 
--- some budget does
-abbrev Serves : ℕ → ℕ → Table Rational → ℕ → Table Rational → Type 0
-Serves m n t made s = (left : ℕ) (e : RunEndView (Table Rational) (Table Rational)) → Reaches m n left made s e → (budget : ℕ) × Reaches m n budget 0 t e
+-- what the run from s does after so many steps it does from t, with some budget
+abbrev RunsOnFrom : ℕ → ℕ → Table Rational → ℕ → Table Rational → Type 0
+RunsOnFrom m n t made s = (left : ℕ) (e : RunEndView (Table Rational) (Table Rational)) → Reaches m n left made s e → (budget : ℕ) × Reaches m n budget 0 t e
 
 -- the run from a table has come to one that the engine shows
 pub record ComesTo (p : FeasibilityProblem Rational) (columns : List Terms) (limit height : ℕ) (t : Table Rational) (now : List WholeRowView) (now_basis : List ℕ) : Type 0 where
   pub last : Table Rational
   pub stands : StandsFor p last columns limit now now_basis
   pub made : ℕ
-  pub serves : Serves height (length columns) t made last
+  pub serves : RunsOnFrom height (length columns) t made last
 
-pub record OnTheWay (columns : List Terms) (limit : ℕ) (old : List WholeRowView) (basis : List ℕ) (now : List WholeRowView) (now_basis : List ℕ) : Type 0 where
+-- the engine shows some table, and one that the run from the first comes to
+pub record IsRunUnderWay (columns : List Terms) (limit : ℕ) (old : List WholeRowView) (basis : List ℕ) (now : List WholeRowView) (now_basis : List ℕ) : Type 0 where
   pub engine : IsSafe columns limit now now_basis
   pub height : length now_basis ≡ length basis
   pub some : StandsForSome columns limit now now_basis
   pub runs : (p : FeasibilityProblem Rational) (t : Table Rational) → StandsFor p t columns limit old basis → ComesTo p columns limit (length basis) t now now_basis
 
-pub begin_way : (columns : List Terms) (limit : ℕ) (old : List WholeRowView) (basis : List ℕ) → IsSafe columns limit old basis → StandsForSome columns limit old basis → OnTheWay columns limit old basis old basis
-begin_way columns limit old basis h i = record { engine = h; height = refl; some = i; runs = λ p t s. record { last = t; stands = s; made = 0; serves = λ left e r. (left, r) } }
+pub run_begins : (columns : List Terms) (limit : ℕ) (old : List WholeRowView) (basis : List ℕ) → IsSafe columns limit old basis → StandsForSome columns limit old basis → IsRunUnderWay columns limit old basis old basis
+run_begins columns limit old basis h i = record { engine = h; height = refl; some = i; runs = λ p t s. record { last = t; stands = s; made = 0; serves = λ left e r. (left, r) } }
 
-module _ (columns : List Terms) (limit : ℕ) (old : List WholeRowView) (basis : List ℕ) (now : List WholeRowView) (now_basis : List ℕ) (w : OnTheWay columns limit old basis now now_basis) where
+module _ (columns : List Terms) (limit : ℕ) (old : List WholeRowView) (basis : List ℕ) (now : List WholeRowView) (now_basis : List ℕ) (w : IsRunUnderWay columns limit old basis now now_basis) where
   -- what is said of the height now is said of the height at first
-  moved : (P : ℕ → Type 0) → P (length now_basis) → P (length basis)
-  moved P x = subst P w.height x
+  by_same_height : (P : ℕ → Type 0) → P (length now_basis) → P (length basis)
+  by_same_height P x = subst P w.height x
 
-  ends : (t s : Table Rational) (made left : ℕ) (e : RunEndView (Table Rational) (Table Rational)) → Serves (length basis) (length columns) t made s → Reaches (length basis) (length columns) left made s e → IsWithinBudget e
+  run_ends : (t s : Table Rational) (made left : ℕ) (e : RunEndView (Table Rational) (Table Rational)) → RunsOnFrom (length basis) (length columns) t made s → Reaches (length basis) (length columns) left made s e → IsWithinBudget e
       → ReachesBy (length basis) (length columns) None t (clip_end e)
-  ends t s made left e f r i = let b = f left e r in record { budget = b.0; end = e; runs = b.1; within = i; is_clipped = refl }
+  run_ends t s made left e f r i = let b = f left e r in record { budget = b.0; end = e; runs = b.1; within = i; is_clipped = refl }
 
-  pub way_done : right_of (length now_basis) now (length now_basis) ≡ pos 0 → IsFinished columns limit old basis None now now_basis engine_ends.Weights
-  way_done e = record {
+  pub unbound_done : right_side_of (length now_basis) now (length now_basis) ≡ pos 0 → IsFinished columns limit old basis None now now_basis engine_ends.Weights
+  unbound_done e = record {
     engine = w.engine;
     height = w.height;
     runs = λ p t s. let r = w.runs p t s in (
       r.last,
       r.stands,
-      ends t r.last r.made 0 (Weights r.last) r.serves (run_done (length basis) (length columns) 0 r.made r.last
-          (moved (λ m. IsDone field_ℚ m (length columns) r.last) (done_here p r.last columns limit now now_basis r.stands e))) tt,
+      run_ends t r.last r.made 0 (Weights r.last) r.serves (run_done (length basis) (length columns) 0 r.made r.last
+          (by_same_height (λ m. IsDone field_ℚ m (length columns) r.last) (done_here p r.last columns limit now now_basis r.stands e))) tt,
     );
   }
 
-  pub way_stuck : ¬ (right_of (length now_basis) now (length now_basis) ≡ pos 0)
+  pub unbound_stuck : ¬ (right_side_of (length now_basis) now (length now_basis) ≡ pos 0)
       → ((p : FeasibilityProblem Rational) (t : Table Rational) → StandsFor p t columns limit now now_basis → IsStuck field_ℚ (length now_basis) (length columns) t)
       → IsFinished columns limit old basis None now now_basis engine_ends.Point
-  way_stuck n u = record {
+  unbound_stuck n u = record {
     engine = w.engine;
     height = w.height;
     runs = λ p t s. let r = w.runs p t s in (
       r.last,
       r.stands,
-      ends t r.last r.made 0 (Point r.last) r.serves (run_stuck (length basis) (length columns) 0 r.made r.last r.last
-          (moved (λ m. ¬ (IsDone field_ℚ m (length columns) r.last)) (not_done_here p r.last columns limit now now_basis r.stands n))
-          (moved (λ m. IsStuck field_ℚ m (length columns) r.last) (u p r.last r.stands)) refl) tt,
+      run_ends t r.last r.made 0 (Point r.last) r.serves (run_stuck (length basis) (length columns) 0 r.made r.last r.last
+          (by_same_height (λ m. ¬ (IsDone field_ℚ m (length columns) r.last)) (not_done_here p r.last columns limit now now_basis r.stands n))
+          (by_same_height (λ m. IsStuck field_ℚ m (length columns) r.last) (u p r.last r.stands)) refl) tt,
     );
   }
 
-  pub way_step : (new : List WholeRowView) (new_basis : List ℕ) → ¬ (right_of (length now_basis) now (length now_basis) ≡ pos 0) → IsStep columns limit now now_basis new new_basis
-      → OnTheWay columns limit old basis new new_basis
-  way_step new new_basis n g = record {
+  pub step_is_made : (new : List WholeRowView) (new_basis : List ℕ) → ¬ (right_side_of (length now_basis) now (length now_basis) ≡ pos 0) → IsEngineStep columns limit now now_basis new new_basis
+      → IsRunUnderWay columns limit old basis new new_basis
+  step_is_made new new_basis n g = record {
     engine = g.engine;
     height = g.height ∙ w.height;
     some = (let i = w.some in (i.0, next field_ℚ (length now_basis) (length columns) i.1, (g.made i.0 i.1 i.2).stands));
@@ -87,9 +88,9 @@ module _ (columns : List Terms) (limit : ℕ) (old : List WholeRowView) (basis :
           made = r.made + 1;
           serves = λ left e q. r.serves (suc left) e
               (run_more (length basis) (length columns) (suc left) r.made r.last (next field_ℚ (length now_basis) (length columns) r.last) e (omega arith)
-              (moved (λ m. ¬ (IsDone field_ℚ m (length columns) r.last)) (not_done_here p r.last columns limit now now_basis r.stands n))
-              (moved (λ m. ¬ (IsStuck field_ℚ m (length columns) r.last)) made.moves)
-              (moved (λ m. StepFits m (length columns) r.last) made.fits)
+              (by_same_height (λ m. ¬ (IsDone field_ℚ m (length columns) r.last)) (not_done_here p r.last columns limit now now_basis r.stands n))
+              (by_same_height (λ m. ¬ (IsStuck field_ℚ m (length columns) r.last)) made.moves)
+              (by_same_height (λ m. StepFits m (length columns) r.last) made.fits)
               (ap (λ m. next field_ℚ m (length columns) r.last) w.height)
               (subst (λ (x : ℕ). Reaches (length basis) (length columns) x (r.made + 1) (next field_ℚ (length now_basis) (length columns) r.last) e) (fewer left) q));
         };
@@ -98,5 +99,5 @@ module _ (columns : List Terms) (limit : ℕ) (old : List WholeRowView) (basis :
       fewer : (left : ℕ) → left ≡ suc left - 1
       fewer left = omega arith
 
-  pub way_falls : (new : List WholeRowView) (new_basis : List ℕ) → IsStep columns limit now now_basis new new_basis → left_to columns new new_basis < left_to columns now now_basis
-  way_falls new new_basis g = let i = w.some in left_falls i.0 i.1 columns limit now now_basis new new_basis i.2 g
+  pub step_lowers_steps_left : (new : List WholeRowView) (new_basis : List ℕ) → IsEngineStep columns limit now now_basis new new_basis → steps_left_to columns new new_basis < steps_left_to columns now now_basis
+  step_lowers_steps_left new new_basis g = let i = w.some in steps_left_falls i.0 i.1 columns limit now now_basis new new_basis i.2 g

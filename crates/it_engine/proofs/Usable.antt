@@ -5,8 +5,9 @@ use Rattle.it_number.specs.Gcd.{gcd}
 use Rattle.it_number.specs.Division.{int_quotient}
 use Rattle.it_number.proofs.Divisors.{gcd_is}
 use Rattle.it_space.specs.Rows.{Terms, value}
-use Rattle.it_engine.specs.Whole.{number_at, WholeRowView}
-use Rattle.it_engine.specs.Updates.{IsDivided, IsFitting, IsLess, IsQuotient, IsShortened, IsUpdated, IsUsable, Suits}
+use Rattle.it_space.specs.Sums.{number_at}
+use Rattle.it_engine.specs.Whole.{WholeRowView}
+use Rattle.it_engine.specs.Updates.{IsWholeRowDivided, IsFitting, IsWholeRowReduced, IsQuotient, IsShortened, IsUpdated, IsUsable, Suits}
 use Rattle.it_engine.proofs.Generators.{value_bounded}
 use Rattle.it_engine.proofs.RowSteps.{kept_row, row_shortened}
 use native.Mathlib.Nat.{div-mul_cancel}
@@ -48,10 +49,10 @@ quotient_usable width limit old p new u h q = shortened_usable width limit recor
     above : (z : ℤ) → pos 1 ≤ℤ z → 0 < unsigned_abs z
     above z h = omega (arith, ints, h)
 
-pub shortened_less : (width limit : ℕ) (old own mid new : WholeRowView) (z p : ℤ) → IsLess width limit old own z p mid → IsShortened mid new → IsLess width limit old own z p new
+pub shortened_less : (width limit : ℕ) (old own mid new : WholeRowView) (z p : ℤ) → IsWholeRowReduced width limit old own z p mid → IsShortened mid new → IsWholeRowReduced width limit old own z p new
 shortened_less width limit old own mid new z p l s = λ f g x w rf rg ex ew. row_shortened width limit _ mid new s (l f g x w rf rg ex ew)
 
-pub shortened_divided : (width limit : ℕ) (old mid new : WholeRowView) (p : ℤ) → IsDivided width limit old p mid → IsShortened mid new → IsDivided width limit old p new
+pub shortened_divided : (width limit : ℕ) (old mid new : WholeRowView) (p : ℤ) → IsWholeRowDivided width limit old p mid → IsShortened mid new → IsWholeRowDivided width limit old p new
 shortened_divided width limit old mid new p l s = λ g w r ew. row_shortened width limit _ mid new s (l g w r ew)
 
 -- the factor of a pivot that is above 0 is some
@@ -69,6 +70,6 @@ factor_some (pos p) z a h e = subst (λ (a : ℤ). 0 < unsigned_abs a) (sym e) (
 -- a row whose entry is 0 is kept
 pub kept_updated : (width limit : ℕ) (old own : WholeRowView) (terms : Terms) (p : ℤ) → IsUsable width limit old → value terms (number_at old.numbers) ≡ pos 0 → IsUpdated width limit old own terms p old
 kept_updated width limit old own terms p u e = record {
-  less = subst (λ (z : ℤ). IsLess width limit old own z p old) (sym e) (kept_row width limit old own p);
+  less = subst (λ (z : ℤ). IsWholeRowReduced width limit old own z p old) (sym e) (kept_row width limit old own p);
   usable = u;
 }

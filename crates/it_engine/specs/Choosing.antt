@@ -1,46 +1,50 @@
--- The choice of column and row by whole numbers. No public clause cites this.
+-- No public clause cites this module: the choice of column and row by whole numbers.
 use Rattle.std.specs.Prelude.{ℕ, zero, suc, Bool, true, cond, ltb, ◌&&◌, not, Option, Some, None, ℤ, ◌+ℤ◌, ◌*ℤ◌, neg_ℤ, List, [], length, slice_index_or}
 use Rattle.it_rational.specs.Rational.{sign_least}
 use Rattle.it_space.specs.Rows.{Terms, value}
 use Rattle.it_run.specs.Choice.{first_false}
-use Rattle.it_engine.specs.Whole.{number_at, row_at, WholeRowView}
+use Rattle.it_space.specs.Sums.{number_at}
+use Rattle.it_engine.specs.Whole.{whole_row_at, WholeRowView}
 
 -- whether z is above 0
-abbrev pub is_above : ℤ → Bool
-is_above z = not (sign_least (neg_ℤ z))
+abbrev pub is_above_zero : ℤ → Bool
+is_above_zero z = not (sign_least (neg_ℤ z))
 
 -- the first column whose cost is below 0
-abbrev pub first_below : List Terms → List ℤ → ℕ
-first_below columns cost = first_false (λ j. sign_least (value (slice_index_or columns j []) (number_at cost))) 0 (length columns)
+abbrev pub first_negative_cost : List Terms → List ℤ → ℕ
+first_negative_cost columns cost = first_false (λ j. sign_least (value (slice_index_or columns j []) (number_at cost))) 0 (length columns)
 
 -- left comes before right, and of equal ones d before f
-abbrev pub in_order : ℤ → ℤ → ℕ → ℕ → Bool
-in_order left right d f = cond (sign_least (left +ℤ neg_ℤ right)) (sign_least (right +ℤ neg_ℤ left) && ltb d f) true
+abbrev pub is_earlier : ℤ → ℤ → ℕ → ℕ → Bool
+is_earlier left right d f = cond (sign_least (left +ℤ neg_ℤ right)) (sign_least (right +ℤ neg_ℤ left) && ltb d f) true
 
 -- b / x with the basic column d comes before e / y with f, where x and y are above 0
 abbrev pub comes_first : ℤ → ℤ → ℕ → ℤ → ℤ → ℕ → Bool
-comes_first b x d e y f = in_order (b *ℤ y) (e *ℤ x) d f
+comes_first b x d e y f = is_earlier (b *ℤ y) (e *ℤ x) d f
 
 module _ (entry right : ℕ → ℤ) (basis : ℕ → ℕ) where
   -- the best row so far, after row i
   abbrev pub best_after_row : ℕ → Option ℕ → Option ℕ
-  best_after_row i None = cond (is_above (entry i)) (Some i) None
-  best_after_row i (Some k) = cond (is_above (entry i)) (cond (comes_first (right i) (entry i) (basis i) (right k) (entry k) (basis k)) (Some i) (Some k)) (Some k)
+  best_after_row i None = cond (is_above_zero (entry i)) (Some i) None
+  best_after_row i (Some k) = cond (is_above_zero (entry i)) (cond (comes_first (right i) (entry i) (basis i) (right k) (entry k) (basis k)) (Some i) (Some k)) (Some k)
 
   -- the best of the rows below a number
-  abbrev pub best_below : ℕ → Option ℕ
-  best_below zero = None
-  best_below (suc i) = best_after_row i (best_below i)
+  abbrev pub best_row_below : ℕ → Option ℕ
+  best_row_below zero = None
+  best_row_below (suc i) = best_after_row i (best_row_below i)
 
--- of the column's entries in the rows, with the right sides at place m, the best row
+-- the entry of row i at a column, over the row's denominator
 abbrev pub entry_of : Terms → List WholeRowView → ℕ → ℤ
-entry_of terms rows i = value terms (number_at (row_at rows i).numbers)
+entry_of terms rows i = value terms (number_at (whole_row_at rows i).numbers)
 
-abbrev pub right_of : ℕ → List WholeRowView → ℕ → ℤ
-right_of m rows i = number_at (row_at rows i).numbers m
+-- the right side of row i, which stands at place m
+abbrev pub right_side_of : ℕ → List WholeRowView → ℕ → ℤ
+right_side_of m rows i = number_at (whole_row_at rows i).numbers m
 
-abbrev pub basic_of : List ℕ → ℕ → ℕ
-basic_of basis i = slice_index_or basis i 0
+-- the basic column of row i
+abbrev pub basic_column_at : List ℕ → ℕ → ℕ
+basic_column_at basis i = slice_index_or basis i 0
 
+-- the best of the rows below i for a column that enters
 abbrev pub best_row : Terms → List WholeRowView → List ℕ → ℕ → Option ℕ
-best_row terms rows basis i = best_below (entry_of terms rows) (right_of (length basis) rows) (basic_of basis) i
+best_row terms rows basis i = best_row_below (entry_of terms rows) (right_side_of (length basis) rows) (basic_column_at basis) i

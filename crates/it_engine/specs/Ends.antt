@@ -1,4 +1,4 @@
--- What is read off the engine at the end of a run. No public clause cites this.
+-- No public clause cites this module: what is read off the engine at the end of a run.
 use Rattle.std.specs.Prelude.{◌≡◌, ℕ, ◌<◌, List, length, slice_index_or, Option}
 use Rattle.it_rational.specs.Rational.{Rational, quotient}
 use Rattle.it_rational.proofs.Field.{field_ℚ}
@@ -8,17 +8,17 @@ use Rattle.it_tableau.specs.Tables.{Table, FeasibilityProblem}
 use Rattle.it_run.specs.Readings.{weights, point}
 use Rattle.it_run.specs.Answers.{solved_end, HasSigns}
 use Rattle.it_run.specs.Solving.{RunsTo}
-use Rattle.it_run.specs.declared.answering.Solved.{Solved}
-use Rattle.it_engine.specs.Choosing.{right_of}
+use Rattle.it_run.specs.declared.answering.RunAnswer.{RunAnswer}
+use Rattle.it_engine.specs.Choosing.{right_side_of}
 use Rattle.it_engine.specs.Engine.{StandsFor}
-use Rattle.it_engine.specs.Whole.{row_at, WholeRowView}
+use Rattle.it_engine.specs.Whole.{whole_row_at, WholeRowView}
 
 -- the right side of a row whose basic column is j
 pub record IsWeightOf (rows : List WholeRowView) (basis : List ℕ) (j : ℕ) (w : Rational) : Type 0 where
   pub row : ℕ
   pub within : row < length basis
   pub basic : slice_index_or basis row 0 ≡ j
-  pub value_is : w ≡ quotient (right_of (length basis) rows row) (row_at rows row).bottom
+  pub value_is : w ≡ quotient (right_side_of (length basis) rows row) (whole_row_at rows row).bottom
 
 -- the weights of whichever table the engine shows
 abbrev pub AreWeightsOf : List Terms → List WholeRowView → List ℕ → List (ℕ × Rational) → Type 0
@@ -29,6 +29,6 @@ abbrev pub IsPointOf : TableauView → List WholeRowView → List ℕ → List R
 IsPointOf first rows basis q = (p : FeasibilityProblem Rational) (t : Table Rational) (columns : List Terms) (limit : ℕ) → HasSigns first p → StandsFor p t columns limit rows basis → q ≡ point field_ℚ (length basis) (length columns) p t
 
 -- the answer to the question whose start the engine shows
-abbrev pub AnswersQuestion : TableauView → List Terms → ℕ → List WholeRowView → List ℕ → Option ℕ → Solved → Type 0
+abbrev pub AnswersQuestion : TableauView → List Terms → ℕ → List WholeRowView → List ℕ → Option ℕ → RunAnswer → Type 0
 AnswersQuestion first columns limit rows basis budget solved = (p : FeasibilityProblem Rational) (t : Table Rational) → HasSigns first p → StandsFor p t columns limit rows basis
     → RunsTo (length basis) (length columns) p budget t (solved_end solved)

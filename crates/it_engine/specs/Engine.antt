@@ -1,4 +1,4 @@
--- The engine: what it keeps of a table, and a step on it. No public clause cites this.
+-- No public clause cites this module: what the engine keeps of a table, and a step on it.
 -- The engine stands for a table of the run: it keeps no table, and its contracts range over all tables that it may stand for.
 use Rattle.std.specs.Prelude.{◌≡◌, ℕ, ◌+◌, ◌*◌, ◌<◌, ◌≤◌, ◌^◌, Bool, true, false, List, [], length, slice_index_or, Option}
 use Rattle.it_rational.specs.Rational.{Rational}
@@ -14,7 +14,7 @@ use Rattle.it_run.specs.Steps.{ReachesBy}
 use Rattle.it_engine.specs.declared.engine.EngineEnd.{EngineEnd}
 use Rattle.it_engine.specs.declared.engine.EngineEnd.TheVariants as engine_ends
 use Rattle.it_engine.specs.Updates.{AreUsable, IsFitting}
-use Rattle.it_engine.specs.Whole.{WholeRowView, AreColumns, ShowsTable}
+use Rattle.it_engine.specs.Whole.{WholeRowView, AreStartColumns, ShowsTable}
 
 -- what contracts see of the engine
 pub record EngineView : Type 0 where
@@ -35,28 +35,29 @@ pub record StandsFor (p : FeasibilityProblem Rational) (t : Table Rational) (col
   pub fit : norm * limit < 2 ^ 63
   pub holds : HasInvariants field_ℚ (length basis) (length columns) p t
   pub shows : ShowsTable (length basis) (length columns) limit t rows basis
-  pub columns_are : AreColumns (length basis) (length columns) norm p columns
+  pub columns_are : AreStartColumns (length basis) (length columns) norm p columns
 
 -- the step of the run that is made on the table, whichever it shows
-pub record IsMade (p : FeasibilityProblem Rational) (t : Table Rational) (columns : List Terms) (limit : ℕ) (basis : List ℕ) (new : List WholeRowView) (new_basis : List ℕ) : Type 0 where
+pub record IsStepMade (p : FeasibilityProblem Rational) (t : Table Rational) (columns : List Terms) (limit : ℕ) (basis : List ℕ) (new : List WholeRowView) (new_basis : List ℕ) : Type 0 where
   pub moves : ¬ (IsStuck field_ℚ (length basis) (length columns) t)
   pub fits : StepFits (length basis) (length columns) t
   pub stands : StandsFor p (next field_ℚ (length basis) (length columns) t) columns limit new new_basis
 
-pub record IsStep (columns : List Terms) (limit : ℕ) (old : List WholeRowView) (basis : List ℕ) (new : List WholeRowView) (new_basis : List ℕ) : Type 0 where
+-- a step was made, whichever table the engine showed
+pub record IsEngineStep (columns : List Terms) (limit : ℕ) (old : List WholeRowView) (basis : List ℕ) (new : List WholeRowView) (new_basis : List ℕ) : Type 0 where
   pub engine : IsSafe columns limit new new_basis
   pub height : length new_basis ≡ length basis
-  pub made : (p : FeasibilityProblem Rational) (t : Table Rational) → StandsFor p t columns limit old basis → IsMade p t columns limit basis new new_basis
+  pub made : (p : FeasibilityProblem Rational) (t : Table Rational) → StandsFor p t columns limit old basis → IsStepMade p t columns limit basis new new_basis
 
 -- the engine shows some table of some problem
 abbrev pub StandsForSome : List Terms → ℕ → List WholeRowView → List ℕ → Type 0
 StandsForSome columns limit rows basis = (p : FeasibilityProblem Rational) × (t : Table Rational) × StandsFor p t columns limit rows basis
 
 -- no step is left to make, or one is made
-abbrev pub MovesOn : List Terms → ℕ → List WholeRowView → List ℕ → List WholeRowView → List ℕ → Bool → Type 0
-MovesOn columns limit old basis new new_basis false = (new ≡ old) × (new_basis ≡ basis)
+abbrev pub IsEngineStepOrStuck : List Terms → ℕ → List WholeRowView → List ℕ → List WholeRowView → List ℕ → Bool → Type 0
+IsEngineStepOrStuck columns limit old basis new new_basis false = (new ≡ old) × (new_basis ≡ basis)
     × ((p : FeasibilityProblem Rational) (t : Table Rational) → StandsFor p t columns limit old basis → IsStuck field_ℚ (length basis) (length columns) t)
-MovesOn columns limit old basis new new_basis true = IsStep columns limit old basis new new_basis
+IsEngineStepOrStuck columns limit old basis new new_basis true = IsEngineStep columns limit old basis new new_basis
 
 -- the end of the run that it tells
 abbrev pub engine_end_view : EngineEnd → Table Rational → RunEndView (Table Rational) (Table Rational)

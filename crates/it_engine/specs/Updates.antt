@@ -1,11 +1,12 @@
--- What the engine makes of a row, said of the rational numbers that it shows. No public clause cites this.
+-- No public clause cites this module: what the engine makes of a row, said of the rational numbers that it shows.
 use Rattle.std.specs.Prelude.{◌≡◌, ◌≢◌, ℕ, ◌+◌, ◌*◌, ◌+ℤ◌, ◌*ℤ◌, neg_ℤ, drop, All, [], slice_index_or, ◌<◌, ◌≤◌, ◌^◌, ℤ, pos, unsigned_abs, List, length}
 use Rattle.it_rational.specs.Rational.{Rational, times, inverse}
-use Rattle.it_rational.specs.Rational.{Names}
+use Rattle.it_rational.specs.Rational.{IsRatio}
 use Rattle.it_rational.proofs.RationalLaws.{ring_ℚ}
 use Rattle.it_space.specs.Rows.{Terms, value}
 use Rattle.it_tableau.specs.Tables.{difference}
-use Rattle.it_engine.specs.Whole.{number_at, AreAtMost, IsShort, row_at, weight_of_terms, WholeRowView, IsRow}
+use Rattle.it_space.specs.Sums.{number_at}
+use Rattle.it_engine.specs.Whole.{AreAtMost, IsShort, whole_row_at, weight_of_terms, WholeRowView, IsRow}
 use Prim.Native.Nat.{◌∣◌}
 
 -- no sum of the column's terms at the row's numbers passes 2 ^ 63 - 1
@@ -23,7 +24,7 @@ AllSuit columns numbers = (j : ℕ) → j < length columns → Suits (slice_inde
 
 -- the column suits each of the rows
 abbrev pub SuitsAll : Terms → List WholeRowView → Type 0
-SuitsAll terms rows = (i : ℕ) → i < length rows → Suits terms (row_at rows i).numbers
+SuitsAll terms rows = (i : ℕ) → i < length rows → Suits terms (whole_row_at rows i).numbers
 
 -- the sum of the first i terms, with the rest, gives the value, and stays small
 pub record IsPriced (terms : Terms) (numbers : List ℤ) (i : ℕ) (sum : ℤ) : Type 0 where
@@ -31,14 +32,14 @@ pub record IsPriced (terms : Terms) (numbers : List ℤ) (i : ℕ) (sum : ℤ) :
   pub small : (limit : ℕ) → ((k : ℕ) → k < length numbers → unsigned_abs (number_at numbers k) ≤ limit) → unsigned_abs sum + weight_of_terms (drop i terms) * limit ≤ weight_of_terms terms * limit
 
 -- the row less as much of the leaving row as makes its entry z at the column 0, where the leaving row's entry is p
-abbrev pub IsLess : ℕ → ℕ → WholeRowView → WholeRowView → ℤ → ℤ → WholeRowView → Type 0
-IsLess width limit old own z p new = (f g : ℕ → Rational) (x w : Rational)
-    → IsRow width limit f old.numbers old.bottom → IsRow width limit g own.numbers own.bottom → Names x z old.bottom → Names w p own.bottom
+abbrev pub IsWholeRowReduced : ℕ → ℕ → WholeRowView → WholeRowView → ℤ → ℤ → WholeRowView → Type 0
+IsWholeRowReduced width limit old own z p new = (f g : ℕ → Rational) (x w : Rational)
+    → IsRow width limit f old.numbers old.bottom → IsRow width limit g own.numbers own.bottom → IsRatio x z old.bottom → IsRatio w p own.bottom
     → IsRow width limit (λ k. difference ring_ℚ (f k) (times (g k) (times x (inverse w)))) new.numbers new.bottom
 
 -- the leaving row over its entry p
-abbrev pub IsDivided : ℕ → ℕ → WholeRowView → ℤ → WholeRowView → Type 0
-IsDivided width limit old p new = (g : ℕ → Rational) (w : Rational) → IsRow width limit g old.numbers old.bottom → Names w p old.bottom
+abbrev pub IsWholeRowDivided : ℕ → ℕ → WholeRowView → ℤ → WholeRowView → Type 0
+IsWholeRowDivided width limit old p new = (g : ℕ → Rational) (w : Rational) → IsRow width limit g old.numbers old.bottom → IsRatio w p old.bottom
     → IsRow width limit (λ k. times (g k) (inverse w)) new.numbers new.bottom
 
 -- the numbers of a row times a, less those of another times b
@@ -64,7 +65,7 @@ abbrev pub IsQuotient : WholeRowView → ℤ → WholeRowView → Type 0
 IsQuotient old p new = IsShortened record { numbers = old.numbers; bottom = unsigned_abs p } new
 
 -- shared divides all numbers and the denominator
-pub record Divides (shared : ℕ) (numbers : List ℤ) : Type 0 where
+pub record DividesAll (shared : ℕ) (numbers : List ℤ) : Type 0 where
   pub some : 0 < shared
   pub each : (k : ℕ) → k < length numbers → shared ∣ unsigned_abs (number_at numbers k)
 
@@ -79,20 +80,21 @@ pub record IsFitting (width limit : ℕ) (terms : Terms) : Type 0 where
   pub within : All (λ t. t.0 < width) terms
   pub fits : weight_of_terms terms * limit < 2 ^ 63
 
+-- all rows are such
 abbrev pub AreUsable : ℕ → ℕ → List WholeRowView → Type 0
-AreUsable width limit rows = (i : ℕ) → i < length rows → IsUsable width limit (row_at rows i)
+AreUsable width limit rows = (i : ℕ) → i < length rows → IsUsable width limit (whole_row_at rows i)
 
 -- the row is made less as above, and stays usable
 pub record IsUpdated (width limit : ℕ) (old own : WholeRowView) (terms : Terms) (p : ℤ) (new : WholeRowView) : Type 0 where
-  pub less : IsLess width limit old own (value terms (number_at old.numbers)) p new
+  pub less : IsWholeRowReduced width limit old own (value terms (number_at old.numbers)) p new
   pub usable : IsUsable width limit new
 
 -- the rows after a pivot on row r and the column of these terms
-pub record ArePivoted (width limit : ℕ) (old : List WholeRowView) (terms : Terms) (r : ℕ) (new : List WholeRowView) : Type 0 where
+pub record AreWholeRowsPivoted (width limit : ℕ) (old : List WholeRowView) (terms : Terms) (r : ℕ) (new : List WholeRowView) : Type 0 where
   pub same_length : length new ≡ length old
-  pub others : (i : ℕ) → i < length old → i ≢ r → IsUpdated width limit (row_at old i) (row_at old r) terms (value terms (number_at (row_at old r).numbers)) (row_at new i)
-  pub own : IsDivided width limit (row_at old r) (value terms (number_at (row_at old r).numbers)) (row_at new r)
-  pub own_usable : IsUsable width limit (row_at new r)
+  pub others : (i : ℕ) → i < length old → i ≢ r → IsUpdated width limit (whole_row_at old i) (whole_row_at old r) terms (value terms (number_at (whole_row_at old r).numbers)) (whole_row_at new i)
+  pub own : IsWholeRowDivided width limit (whole_row_at old r) (value terms (number_at (whole_row_at old r).numbers)) (whole_row_at new r)
+  pub own_usable : IsUsable width limit (whole_row_at new r)
 
 -- no number times a and no number of another row, which are at most y, times b sum to more than a bound within the limit
 pub record IsBound (row : List ℤ) (a y b limit bound : ℕ) : Type 0 where
@@ -102,12 +104,12 @@ pub record IsBound (row : List ℤ) (a y b limit bound : ℕ) : Type 0 where
   pub within : bound ≤ limit
 
 -- a row is 0 at each place from one on up to another
-pub record IsNext (row : List ℤ) (from to : ℕ) : Type 0 where
+pub record IsNextPlace (row : List ℤ) (from to : ℕ) : Type 0 where
   pub after : from ≤ to
   pub within : to ≤ length row
   pub nulls : (k : ℕ) → from ≤ k → k < to → number_at row k ≡ pos 0
 
 -- next has for each place such a next one, so that all places where the row isn't 0 are met from each to the next
-pub record ArePlaces (row : List ℤ) (next : List ℕ) : Type 0 where
+pub record AreNextPlaces (row : List ℤ) (next : List ℕ) : Type 0 where
   pub length_is : length next ≡ length row + 1
-  pub each : (k : ℕ) → k ≤ length row → IsNext row k (slice_index_or next k 0)
+  pub each : (k : ℕ) → k ≤ length row → IsNextPlace row k (slice_index_or next k 0)

@@ -1,13 +1,14 @@
--- Tables of whole numbers over one denominator a row. No public clause cites this.
-use Rattle.std.specs.Prelude.{◌≡◌, ℕ, ◌+◌, ◌<◌, ◌≤◌, ◌^◌, ℤ, pos, unsigned_abs, List, [], ◌∷◌, length, slice_index_or, All}
+-- No public clause cites this module: tables of whole numbers over one denominator a row.
+use Rattle.std.specs.Prelude.{◌≡◌, ℕ, ◌+◌, ◌<◌, ◌≤◌, ◌^◌, ℤ, unsigned_abs, List, [], ◌∷◌, length, slice_index_or, All}
 use Rattle.it_rational.specs.Rational.{Rational, times}
-use Rattle.it_rational.specs.Rational.{Names}
+use Rattle.it_rational.specs.Rational.{IsRatio}
 use Rattle.it_rational.proofs.RationalLaws.{ring_ℚ}
 use Rattle.it_rational.proofs.Field.{field_ℚ}
 use Rattle.it_space.specs.Rows.{Terms}
+use Rattle.it_space.specs.Sums.{number_at}
 use Rattle.it_tableau.specs.Sums.{sum_to}
 use Rattle.it_tableau.specs.Tables.{Table, FeasibilityProblem, start_row}
-use Rattle.it_run.specs.RowValues.{value_at}
+use Rattle.it_run.specs.RowValues.{rational_value}
 
 -- at most 2 ^ 63 - 1 in absolute value
 abbrev pub IsShort : ℤ → Type 0
@@ -18,20 +19,17 @@ IsShort z = unsigned_abs z < 2 ^ 63
 pub record IsOver (m n : ℕ) (t : Table Rational) (number : ℕ → ℕ → ℤ) (bottom : ℕ → ℕ) : Type 0 where
   pub some : (i : ℕ) → i ≤ m → 0 < bottom i
   pub low : (i : ℕ) → i ≤ m → bottom i < 2 ^ 63
-  pub named : (i j : ℕ) → i ≤ m → j ≤ n + m → Names (t.entry i j) (number i j) (bottom i)
+  pub named : (i j : ℕ) → i ≤ m → j ≤ n + m → IsRatio (t.entry i j) (number i j) (bottom i)
   pub short : (i j : ℕ) → i ≤ m → j ≤ n + m → IsShort (number i j)
-
--- the number at a place, 0 past the end
-abbrev pub number_at : List ℤ → ℕ → ℤ
-number_at row k = slice_index_or row k (pos 0)
 
 -- what contracts see of a row of whole numbers over one denominator
 pub record WholeRowView : Type 0 where
   pub numbers : List ℤ
   pub bottom : ℕ
 
-abbrev pub row_at : List WholeRowView → ℕ → WholeRowView
-row_at rows i = slice_index_or rows i record { numbers = []; bottom = 1 }
+-- row i, one without numbers past the end
+abbrev pub whole_row_at : List WholeRowView → ℕ → WholeRowView
+whole_row_at rows i = slice_index_or rows i record { numbers = []; bottom = 1 }
 
 -- no number is greater in absolute value
 abbrev pub AreAtMost : List ℤ → ℕ → Type 0
@@ -47,22 +45,23 @@ pub record IsRow (width limit : ℕ) (f : ℕ → Rational) (row : List ℤ) (bo
   pub length_is : length row ≡ width
   pub some : 0 < bottom
   pub low : bottom < 2 ^ 63
-  pub named : (k : ℕ) → k < width → Names (f k) (number_at row k) bottom
+  pub named : (k : ℕ) → k < width → IsRatio (f k) (number_at row k) bottom
   pub small : (k : ℕ) → k < width → unsigned_abs (number_at row k) ≤ limit
 
 -- the terms of a column of the start whose entries are f
-pub record IsColumn (m norm : ℕ) (f : ℕ → Rational) (terms : Terms) : Type 0 where
-  pub value_is : (g : ℕ → Rational) → sum_to ring_ℚ m (λ k. times (g k) (f k)) ≡ value_at terms g
+pub record IsStartColumn (m norm : ℕ) (f : ℕ → Rational) (terms : Terms) : Type 0 where
+  pub value_is : (g : ℕ → Rational) → sum_to ring_ℚ m (λ k. times (g k) (f k)) ≡ rational_value terms g
   pub within : All (λ t. t.0 < m) terms
   pub bounded : weight_of_terms terms ≤ norm
 
-pub record AreColumns (m n norm : ℕ) (p : FeasibilityProblem Rational) (columns : List Terms) : Type 0 where
+-- the columns of the start but the artificial ones, none heavier than the norm
+pub record AreStartColumns (m n norm : ℕ) (p : FeasibilityProblem Rational) (columns : List Terms) : Type 0 where
   pub count : length columns ≡ n
-  pub column : (j : ℕ) → j < n → IsColumn m norm (λ k. start_row field_ℚ m n p k j) (slice_index_or columns j [])
+  pub column : (j : ℕ) → j < n → IsStartColumn m norm (λ k. start_row field_ℚ m n p k j) (slice_index_or columns j [])
 
 -- what is kept of a table: of each row its entries at the artificial columns and its right side
 pub record ShowsTable (m n limit : ℕ) (t : Table Rational) (rows : List WholeRowView) (basis : List ℕ) : Type 0 where
   pub rows_are : length rows ≡ m + 1
   pub basis_are : length basis ≡ m
-  pub row : (i : ℕ) → i < m + 1 → IsRow (m + 1) limit (λ k. t.entry i (n + k)) (row_at rows i).numbers (row_at rows i).bottom
+  pub row : (i : ℕ) → i < m + 1 → IsRow (m + 1) limit (λ k. t.entry i (n + k)) (whole_row_at rows i).numbers (whole_row_at rows i).bottom
   pub basis_is : (i : ℕ) → i < m → t.basis i ≡ slice_index_or basis i 0

@@ -1,19 +1,19 @@
 //! Operations on single whole numbers.
-ghost use Rattle.std.specs.Prelude.{◌≡◌, ◌+◌, ◌*◌, ◌<◌, ◌≤◌, ◌^◌, ◌+ℤ◌, ◌*ℤ◌, neg_ℤ, pos, unsigned_abs, SomeIff};
+ghost use Rattle.std.specs.Prelude.{◌≡◌, ◌+◌, ◌*◌, ◌<◌, ◌≤◌, ◌^◌, ◌+ℤ◌, ◌*ℤ◌, neg_ℤ, unsigned_abs, SomeIff};
 ghost use Rattle.it_number.specs.Division.{int_quotient};
 ghost use Rattle.it_number.specs.Gcd.{gcd};
 ghost use Rattle.it_rational.specs.Rational.{sign_least};
-ghost use Rattle.it_engine.specs.Choosing.{comes_first as comes_first_of, in_order as in_order_of, is_above as is_above_of};
+ghost use Rattle.it_engine.specs.Choosing.{comes_first as comes_first_of, is_earlier as is_earlier_of, is_above_zero as is_above_zero_of};
 
 /// Whether z is above 0.
-pub fn is_above(z: i64) -> bool
-    ensures { result ≡ is_above_of z }
+pub fn is_above_zero(z: i64) -> bool
+    ensures { result ≡ is_above_zero_of z }
 {
     z > 0
 }
 
 /// Whether z is at least 0.
-pub fn is_least(z: i64) -> bool
+pub fn is_at_least_zero(z: i64) -> bool
     ensures { result ≡ sign_least z }
 {
     z >= 0
@@ -21,7 +21,7 @@ pub fn is_least(z: i64) -> bool
 
 /// The product, where that is below 2^63.
 #[inline]
-pub fn scaled(a: u64, b: u64) -> Option<u64>
+pub fn short_product(a: u64, b: u64) -> Option<u64>
     ensures { SomeIff result (a * b < 2 ^ 63) (a * b) }
 {
     let product = a.checked_mul(b)?;
@@ -34,7 +34,7 @@ pub fn scaled(a: u64, b: u64) -> Option<u64>
 
 /// The sum plus the product.
 #[inline]
-pub fn increased(sum: i64, factor: i64, x: i64) -> i64
+pub fn plus_product(sum: i64, factor: i64, x: i64) -> i64
     requires { unsigned_abs sum + unsigned_abs (factor *ℤ x) < 2 ^ 63 }
     ensures { result ≡ sum +ℤ factor *ℤ x }
 {
@@ -60,7 +60,7 @@ fn difference(x: i128, y: i128) -> i128
 
 /// The number itself, where it is at most the limit in absolute value.
 #[inline]
-pub fn narrowed(z: i128, limit: u64) -> Option<i64>
+pub fn narrow(z: i128, limit: u64) -> Option<i64>
     requires { limit < 2 ^ 63 }
     ensures { SomeIff result (unsigned_abs z ≤ limit) z }
 {
@@ -74,7 +74,7 @@ pub fn narrowed(z: i128, limit: u64) -> Option<i64>
 /// The difference x a - y b, where that is at most the limit in absolute value.
 #[inline]
 #[tactic(auto, using(crate::proofs::NoWide::half_product))]
-pub fn combined(x: i64, a: i64, y: i64, b: i64, limit: u64) -> Option<i64>
+pub fn narrow_difference(x: i64, a: i64, y: i64, b: i64, limit: u64) -> Option<i64>
     requires x { unsigned_abs x < 2 ^ 63 }
     requires a { unsigned_abs a < 2 ^ 63 }
     requires y { unsigned_abs y < 2 ^ 63 }
@@ -82,13 +82,13 @@ pub fn combined(x: i64, a: i64, y: i64, b: i64, limit: u64) -> Option<i64>
     requires limit { limit < 2 ^ 63 }
     ensures { SomeIff result (unsigned_abs (x *ℤ a +ℤ neg_ℤ (y *ℤ b)) ≤ limit) (x *ℤ a +ℤ neg_ℤ (y *ℤ b)) }
 {
-    narrowed(difference(product(x, a), product(y, b)), limit)
+    narrow(difference(product(x, a), product(y, b)), limit)
 }
 
 /// Whether left comes before right, and of equal ones d before f.
 #[tactic(auto, using(crate::proofs::Signs::order_less, crate::proofs::Signs::order_same, crate::proofs::Signs::order_more))]
-fn in_order(left: i128, right: i128, d: usize, f: usize) -> bool
-    ensures { result ≡ in_order_of left right d f }
+fn is_earlier(left: i128, right: i128, d: usize, f: usize) -> bool
+    ensures { result ≡ is_earlier_of left right d f }
 {
     if left < right {
         true
@@ -103,11 +103,11 @@ fn in_order(left: i128, right: i128, d: usize, f: usize) -> bool
 pub fn comes_first(b: i64, x: i64, d: usize, e: i64, y: i64, f: usize) -> bool
     ensures { result ≡ comes_first_of b x d e y f }
 {
-    in_order(product(b, y), product(e, x), d, f)
+    is_earlier(product(b, y), product(e, x), d, f)
 }
 
 /// The greatest common divisor.
-pub fn common(a: u64, b: u64) -> u64
+pub fn common_divisor(a: u64, b: u64) -> u64
     ensures value { result ≡ gcd a b }
     ensures some { 0 < a → 0 < result }
 {
@@ -125,7 +125,7 @@ pub fn common(a: u64, b: u64) -> u64
 }
 
 /// The quotient z / k, toward 0.
-pub fn divided(z: i64, k: u64) -> i64
+pub fn quotient(z: i64, k: u64) -> i64
     requires z { unsigned_abs z < 2 ^ 63 }
     requires some { 0 < k }
     ensures { result ≡ int_quotient z k }
@@ -139,7 +139,7 @@ pub fn divided(z: i64, k: u64) -> i64
 
 /// The sum, where that is below 2^63.
 #[inline]
-pub fn added(a: u64, b: u64) -> Option<u64>
+pub fn short_sum(a: u64, b: u64) -> Option<u64>
     ensures { SomeIff result (a + b < 2 ^ 63) (a + b) }
 {
     let sum = a.checked_add(b)?;

@@ -1,24 +1,24 @@
 //! The column that enters and the row that leaves.
 ghost use Rattle.std.specs.Prelude.{◌≡◌, ◌+◌, ◌<◌, ℕ, length};
 ghost use Rattle.std.specs.Option.{IfNone, IfSome};
-ghost use Rattle.it_engine.specs.Choosing.{best_after_row, basic_of, best_row, entry_of, first_below, right_of};
+ghost use Rattle.it_engine.specs.Choosing.{best_after_row, basic_column_at, best_row, entry_of, first_negative_cost, right_side_of};
 ghost use Rattle.it_engine.specs.Updates.{AllSuit, SuitsAll};
-ghost use Rattle.it_engine.specs.Whole.{row_at};
+ghost use Rattle.it_engine.specs.Whole.{whole_row_at};
 
-use crate::arithmetic::{comes_first, is_above, is_least};
+use crate::arithmetic::{comes_first, is_above_zero, is_at_least_zero};
 use crate::columns::Column;
 use crate::rows::WholeRow;
 
 /// The first column with a cost below 0.
-#[tactic(auto, using(crate::proofs::Choices::first_is, crate::proofs::Choices::first_none))]
-pub fn entering(columns: &[Column], cost: &WholeRow) -> Option<usize>
+#[tactic(auto, using(it_run::proofs::SearchLemmas::first_is, it_run::proofs::SearchLemmas::first_none))]
+pub fn entering_column(columns: &[Column], cost: &WholeRow) -> Option<usize>
     requires { AllSuit columns.now cost.now.numbers }
     ensures within { IfSome result (λ c. c < length columns.now) }
-    ensures some { IfSome result (λ c. first_below columns.now cost.now.numbers ≡ c) }
-    ensures none { IfNone result (first_below columns.now cost.now.numbers ≡ length columns.now) }
+    ensures some { IfSome result (λ c. first_negative_cost columns.now cost.now.numbers ≡ c) }
+    ensures none { IfNone result (first_negative_cost columns.now cost.now.numbers ≡ length columns.now) }
 {
     for j in 0..columns.len() {
-        if !is_least(columns[j].price(cost)) {
+        if !is_at_least_zero(columns[j].price(cost)) {
             return Some(j);
         }
     }
@@ -35,16 +35,16 @@ fn entry(column: &Column, rows: &[WholeRow], i: usize) -> i64
 }
 
 /// The right side of a row, which stands at this place.
-pub fn right(rows: &[WholeRow], i: usize, place: usize) -> i64
+pub fn right_side(rows: &[WholeRow], i: usize, place: usize) -> i64
     requires row { i < length rows.now }
-    requires place { place < length (row_at rows.now i).numbers }
-    ensures { result ≡ right_of place rows.now i }
+    requires place { place < length (whole_row_at rows.now i).numbers }
+    ensures { result ≡ right_side_of place rows.now i }
 {
     rows[i].number(place)
 }
 
 /// The better of the best row so far and row i.
-fn better(
+fn better_row(
     best: Option<usize>,
     i: usize,
     column: &Column,
@@ -54,12 +54,12 @@ fn better(
     requires row { i < length basis.now }
     requires best { IfSome best (λ k. k < length basis.now) }
     requires rows { length rows.now ≡ length basis.now + 1 }
-    requires even { (k : ℕ) → k < length rows.now → length (row_at rows.now k).numbers ≡ length rows.now }
+    requires even { (k : ℕ) → k < length rows.now → length (whole_row_at rows.now k).numbers ≡ length rows.now }
     requires suits { SuitsAll column.now rows.now }
-    ensures { result ≡ best_after_row (entry_of column.now rows.now) (right_of (length basis.now) rows.now) (basic_of basis.now) i best }
+    ensures { result ≡ best_after_row (entry_of column.now rows.now) (right_side_of (length basis.now) rows.now) (basic_column_at basis.now) i best }
 {
     let entering = entry(column, rows, i);
-    if !is_above(entering) {
+    if !is_above_zero(entering) {
         return best;
     }
     let Some(k) = best else {
@@ -67,10 +67,10 @@ fn better(
     };
     let last = basis.len();
     if comes_first(
-        right(rows, i, last),
+        right_side(rows, i, last),
         entering,
         basis[i],
-        right(rows, k, last),
+        right_side(rows, k, last),
         entry(column, rows, k),
         basis[k],
     ) {
@@ -82,16 +82,16 @@ fn better(
 
 /// The row with the least ratio of those with an entry above 0, of several the one with the least basic column.
 #[tactic(auto, using(crate::proofs::Choices::best_within, crate::proofs::Choices::best_more))]
-pub fn leaving(column: &Column, rows: &[WholeRow], basis: &[usize]) -> Option<usize>
+pub fn leaving_row(column: &Column, rows: &[WholeRow], basis: &[usize]) -> Option<usize>
     requires rows { length rows.now ≡ length basis.now + 1 }
-    requires even { (k : ℕ) → k < length rows.now → length (row_at rows.now k).numbers ≡ length rows.now }
+    requires even { (k : ℕ) → k < length rows.now → length (whole_row_at rows.now k).numbers ≡ length rows.now }
     requires suits { SuitsAll column.now rows.now }
     ensures value { result ≡ best_row column.now rows.now basis.now (length basis.now) }
     ensures within { IfSome result (λ r. r < length basis.now) }
 {
     let mut best: Option<usize> = None;
     for i in 0..basis.len() {
-        best = better(best, i, column, rows, basis);
+        best = better_row(best, i, column, rows, basis);
     }
     best
 }

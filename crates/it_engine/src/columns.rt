@@ -3,9 +3,10 @@ ghost use Rattle.std.specs.Prelude.{◌≡◌, ◌+◌, ◌<◌, ◌^◌, ◌++�
 ghost use Rattle.std.specs.Option.{IfSome};
 ghost use Rattle.it_space.specs.Rows.{value};
 ghost use Rattle.it_engine.specs.Updates.{IsPriced, Suits};
-ghost use Rattle.it_engine.specs.Whole.{number_at, weight_of_terms as weight_of};
+ghost use Rattle.it_space.specs.Sums.{number_at};
+ghost use Rattle.it_engine.specs.Whole.{weight_of_terms as weight_of};
 
-use crate::arithmetic::{added, increased};
+use crate::arithmetic::{plus_product, short_sum};
 use crate::rows::WholeRow;
 use std::alloc::{AllocError, Global};
 use std::marker::Model;
@@ -70,7 +71,7 @@ impl Column {
     {
         let mut sum: u64 = 0;
         for i in 0..self.size() {
-            sum = added(sum, self.factor(i).unsigned_abs())?;
+            sum = short_sum(sum, self.factor(i).unsigned_abs())?;
         }
         Some(sum)
     }
@@ -83,7 +84,7 @@ impl Column {
         requires priced { IsPriced self.now row.now.numbers i sum }
         ensures { IsPriced self.now row.now.numbers (i + 1) result }
     {
-        increased(sum, self.factor(i), row.number(self.place(i)))
+        plus_product(sum, self.factor(i), row.number(self.place(i)))
     }
 
     /// The entry of a row at this column, over the row's denominator.

@@ -2,11 +2,11 @@
 ghost use Rattle.std.specs.Prelude.{◌≡◌, ◌+◌, ◌<◌, ℕ, length, pos, None, Some};
 ghost use Rattle.std.specs.Bool.{OnFalse, OnTrue};
 ghost use Rattle.std.specs.Option.{IfNone, IfSome};
-ghost use Rattle.it_engine.specs.Choosing.{first_below, right_of};
-ghost use Rattle.it_engine.specs.Engine.{IsFinished, IsSafe, MovesOn, StandsForSome};
-ghost use Rattle.it_engine.specs.Whole.{row_at};
+ghost use Rattle.it_engine.specs.Choosing.{first_negative_cost, right_side_of};
+ghost use Rattle.it_engine.specs.Engine.{IsFinished, IsSafe, IsEngineStepOrStuck, StandsForSome};
+ghost use Rattle.it_engine.specs.Whole.{whole_row_at};
 
-use crate::choice::{entering, leaving};
+use crate::choice::{entering_column, leaving_row};
 use crate::columns::Column;
 use crate::pivots::pivot;
 use crate::rows::WholeRow;
@@ -76,7 +76,7 @@ impl Engine {
 
     fn cost_row(&self) -> &WholeRow
         requires { length self.now.basis < length self.now.rows }
-        ensures { result.now ≡ row_at self.now.rows (length self.now.basis) }
+        ensures { result.now ≡ whole_row_at self.now.rows (length self.now.basis) }
     {
         last_row(self.rows.as_slice(), self.basis.len())
     }
@@ -84,9 +84,9 @@ impl Engine {
     /// Whether the cost row's right side is 0.
     fn is_done(&self) -> bool
         requires row { length self.now.basis < length self.now.rows }
-        requires place { length self.now.basis < length (row_at self.now.rows (length self.now.basis)).numbers }
-        ensures yes { OnTrue result (right_of (length self.now.basis) self.now.rows (length self.now.basis) ≡ pos 0) }
-        ensures no { OnFalse result (¬ (right_of (length self.now.basis) self.now.rows (length self.now.basis) ≡ pos 0)) }
+        requires place { length self.now.basis < length (whole_row_at self.now.rows (length self.now.basis)).numbers }
+        ensures yes { OnTrue result (right_side_of (length self.now.basis) self.now.rows (length self.now.basis) ≡ pos 0) }
+        ensures no { OnFalse result (¬ (right_side_of (length self.now.basis) self.now.rows (length self.now.basis) ≡ pos 0)) }
     {
         is_null(self.cost_row().number(self.basis.len()))
     }
@@ -95,21 +95,21 @@ impl Engine {
     fn next_column(&self, columns: &[Column]) -> Option<usize>
         requires { (limit : ℕ) × IsSafe columns.now limit self.now.rows self.now.basis }
         ensures within { IfSome result (λ c. c < length columns.now) }
-        ensures some { IfSome result (λ c. first_below columns.now (row_at self.now.rows (length self.now.basis)).numbers ≡ c) }
-        ensures none { IfNone result (first_below columns.now (row_at self.now.rows (length self.now.basis)).numbers ≡ length columns.now) }
+        ensures some { IfSome result (λ c. first_negative_cost columns.now (whole_row_at self.now.rows (length self.now.basis)).numbers ≡ c) }
+        ensures none { IfNone result (first_negative_cost columns.now (whole_row_at self.now.rows (length self.now.basis)).numbers ≡ length columns.now) }
     {
-        entering(columns, self.cost_row())
+        entering_column(columns, self.cost_row())
     }
 
     /// Makes one step, if there is one to make; None where a number would be too large, and then nothing is known of the engine.
     fn step(&mut self, columns: &[Column], limit: u64) -> Option<bool>
         requires { IsSafe columns.now limit self.old.rows self.old.basis }
-        ensures { IfSome result (λ moved. MovesOn columns.now limit self.old.rows self.old.basis self.new.rows self.new.basis moved) }
+        ensures { IfSome result (λ moved. IsEngineStepOrStuck columns.now limit self.old.rows self.old.basis self.new.rows self.new.basis moved) }
     {
         let Some(column) = self.next_column(columns) else {
             return Some(false);
         };
-        let row = leaving(&columns[column], self.rows(), self.basis())?;
+        let row = leaving_row(&columns[column], self.rows(), self.basis())?;
         if pivot(
             self.alloc,
             self.rows.as_mut_slice(),
@@ -177,10 +177,10 @@ impl Engine {
     }
 }
 
-#[tactic(auto, using(crate::proofs::Items::read))]
+#[tactic(auto, using(crate::proofs::Items::item_by_default))]
 fn last_row(rows: &[WholeRow], last: usize) -> &WholeRow
     requires { last < length rows.now }
-    ensures { result.now ≡ row_at rows.now last }
+    ensures { result.now ≡ whole_row_at rows.now last }
 {
     &rows[last]
 }

@@ -1,13 +1,14 @@
 //! The engine of the start of a run.
-ghost use Rattle.std.specs.Prelude.{◌≡◌, ◌+◌, ◌<◌, ◌^◌, ◌++◌, ◌∷◌, ℕ, [], false, length, slice_index_or, IfOk, OnOk};
+ghost use Rattle.std.specs.Prelude.{◌≡◌, ◌+◌, ◌<◌, ◌^◌, ◌++◌, ◌∷◌, ℕ, [], false, length, IfOk, OnOk};
 ghost use Rattle.std.specs.Bool.{OnTrue};
 ghost use Rattle.std.specs.Option.{IfSome};
-ghost use Rattle.it_tableau.specs.Merging.{column_at, term_at};
+ghost use Rattle.it_tableau.specs.Gathering.{AreEmpty};
+ghost use Rattle.it_tableau.specs.Merging.{column_at, number_of_term};
 ghost use Rattle.it_tableau.specs.SparseRows.{Climbs};
 ghost use Rattle.it_tableau.specs.TableauViews.{height, table};
-ghost use Rattle.it_engine.specs.Loading.{AreNoTerms, AreRead, AreReadRows, IsNorm, IsPushed, IsReadBasis, IsReadRow, IsRowRead, IsShortWhole};
+ghost use Rattle.it_engine.specs.Loading.{AreReadColumns, AreReadRows, IsNorm, IsTermPushed, IsReadBasis, IsReadRow, IsRowRead, IsShortWhole};
 
-use crate::arithmetic::narrowed;
+use crate::arithmetic::narrow;
 use crate::columns::Column;
 use crate::rows::WholeRow;
 use it_fraction::Fraction;
@@ -22,7 +23,7 @@ fn whole_number(value: Fraction, limit: u64) -> Option<i64>
     ensures { IfSome result (λ z. IsShortWhole limit value z) }
 {
     if value.den() == 1 {
-        narrowed(value.num(), limit)
+        narrow(value.num(), limit)
     } else {
         None
     }
@@ -37,7 +38,7 @@ fn column_of(terms: &[(usize, Fraction)], i: usize) -> usize
 
 fn value_of(terms: &[(usize, Fraction)], i: usize) -> Fraction
     requires { i < length terms.now }
-    ensures { result ≡ term_at terms.now i }
+    ensures { result ≡ number_of_term terms.now i }
 {
     terms[i].1
 }
@@ -49,7 +50,7 @@ fn push_entry(
     number: i64,
 ) -> Result<(), AllocError>
     requires { column < length columns.old.items }
-    ensures { OnOk result (IsPushed columns.old.items column row number columns.new.items) }
+    ensures { OnOk result (IsTermPushed columns.old.items column row number columns.new.items) }
 {
     columns[column].push_entry(row, number)?;
     Ok(())
@@ -79,7 +80,7 @@ fn read_terms(
 }
 
 fn empty_columns(alloc: Global, count: usize) -> Result<Vec<Column>, AllocError>
-    ensures { IfOk result (λ columns. AreNoTerms count columns.items) }
+    ensures { IfOk result (λ columns. AreEmpty count columns.items) }
 {
     let mut columns = Vec::with_capacity(alloc, count)?;
     for _ in 0..count {
@@ -91,7 +92,7 @@ fn empty_columns(alloc: Global, count: usize) -> Result<Vec<Column>, AllocError>
 /// The columns that aren't artificial, row by row. None where a number isn't whole or is too large.
 pub fn columns(alloc: Global, tableau: &Tableau) -> Result<Option<Vec<Column>>, AllocError>
     requires usable { tableau.now.spent ≡ false }
-    ensures { IfOk result (λ o. IfSome o (λ columns. AreRead tableau.now tableau.now.generators columns.items)) }
+    ensures { IfOk result (λ o. IfSome o (λ columns. AreReadColumns tableau.now tableau.now.generators columns.items)) }
 {
     let mut columns = empty_columns(alloc, tableau.generators())?;
     for k in 0..tableau.rows() {
@@ -168,7 +169,7 @@ fn read_row(
         };
         push_number(&mut numbers, number)?;
     }
-    Ok(Some(WholeRow::of(numbers)))
+    Ok(Some(WholeRow::from_numbers(numbers)))
 }
 
 /// The rows and the cost row.
@@ -199,7 +200,7 @@ pub fn basis(alloc: Global, tableau: &Tableau) -> Result<Vec<usize>, AllocError>
 {
     let mut basis = Vec::with_capacity(alloc, tableau.rows())?;
     for i in 0..tableau.rows() {
-        basis.push(tableau.basic(i))?;
+        basis.push(tableau.basic_column(i))?;
     }
     Ok(basis)
 }

@@ -2,11 +2,12 @@
 ghost use Rattle.std.specs.Prelude.{◌≡◌, ℕ, ◌+◌, ◌*◌, ◌<◌, ◌≤◌, ◌^◌, ◌+ℤ◌, ◌*ℤ◌, neg_ℤ, pos, length, unsigned_abs, SomeIff};
 ghost use Prim.Native.Nat.{◌∣◌};
 ghost use Rattle.std.specs.Bool.{OnTrue};
-ghost use Rattle.std.specs.Option.{IfSome};
-ghost use Rattle.it_engine.specs.Updates.{AreShort, ArePlaces, Divides, IsBound, IsCombined, IsNext};
-ghost use Rattle.it_engine.specs.Whole.{number_at, AreAtMost};
+ghost use Rattle.std.specs.Option.{IfNone, IfSome};
+ghost use Rattle.it_engine.specs.Updates.{AreShort, AreNextPlaces, DividesAll, IsBound, IsCombined, IsNextPlace};
+ghost use Rattle.it_space.specs.Sums.{number_at};
+ghost use Rattle.it_engine.specs.Whole.{AreAtMost};
 
-use crate::arithmetic::{combined, common, divided};
+use crate::arithmetic::{common_divisor, narrow_difference, quotient};
 
 #[inline]
 fn read(row: &[i64], k: usize) -> i64
@@ -28,7 +29,7 @@ fn next_number(row: &[i64], by: &[i64], k: usize, a: i64, b: i64, limit: u64) ->
     requires limit { limit < 2 ^ 63 }
     ensures { SomeIff result (unsigned_abs (number_at row.now k *ℤ a +ℤ neg_ℤ (number_at by.now k *ℤ b)) ≤ limit) (number_at row.now k *ℤ a +ℤ neg_ℤ (number_at by.now k *ℤ b)) }
 {
-    combined(read(row, k), a, read(by, k), b, limit)
+    narrow_difference(read(row, k), a, read(by, k), b, limit)
 }
 
 /// As combine, with a test at each number; false where one would be too large, and then nothing is known of them.
@@ -51,7 +52,7 @@ fn combine_tested(row: &mut Vec<i64>, by: &[i64], a: i64, b: i64, limit: u64) ->
 }
 
 /// The greatest absolute value.
-pub fn greatest(row: &[i64]) -> u64
+pub fn greatest_size(row: &[i64]) -> u64
     ensures { AreAtMost row.now result }
 {
     let mut most: u64 = 0;
@@ -66,25 +67,27 @@ pub fn greatest(row: &[i64]) -> u64
 
 /// The sum x a + y b, where that is at most the limit.
 fn sum_within(x: u64, a: u64, y: u64, b: u64, limit: u64) -> Option<u64>
-    ensures { IfSome result (λ s. (s ≡ x * a + y * b) × (s ≤ limit)) }
+    ensures some { IfSome result (λ s. (s ≡ x * a + y * b) × (s ≤ limit)) }
+    ensures none { IfNone result (¬ (x * a + y * b ≤ limit)) }
 {
     let sum = x.checked_mul(a)?.checked_add(y.checked_mul(b)?)?;
     if sum <= limit { Some(sum) } else { None }
 }
 
-/// A bound on each number times a less another, which is at most y, times b; None where it is above the limit.
+/// A bound on each number times a less another, which is at most y, times b: with most for the numbers, and where that is
+/// above the limit, with the greatest of them. None where that is above it too.
 fn bound(row: &[i64], most: u64, a: u64, y: u64, b: u64, limit: u64) -> Option<u64>
     requires most { AreAtMost row.now most }
     ensures { IfSome result (λ s. IsBound row.now a y b limit s) }
 {
     match sum_within(most, a, y, b, limit) {
         Some(sum) => Some(sum),
-        None => sum_within(greatest(row), a, y, b, limit),
+        None => sum_within(greatest_size(row), a, y, b, limit),
     }
 }
 
 #[inline]
-fn multiplied(x: i64, a: i64) -> i64
+fn times(x: i64, a: i64) -> i64
     requires { unsigned_abs (x *ℤ a) < 2 ^ 63 }
     ensures { result ≡ x *ℤ a }
 {
@@ -92,7 +95,7 @@ fn multiplied(x: i64, a: i64) -> i64
 }
 
 #[inline]
-fn subtracted(x: i64, y: i64) -> i64
+fn minus(x: i64, y: i64) -> i64
     requires { unsigned_abs x + unsigned_abs y < 2 ^ 63 }
     ensures { result ≡ x +ℤ neg_ℤ y }
 {
@@ -100,11 +103,11 @@ fn subtracted(x: i64, y: i64) -> i64
 }
 
 #[inline]
-fn plain(x: i64, a: i64, y: i64, b: i64) -> i64
+fn plain_difference(x: i64, a: i64, y: i64, b: i64) -> i64
     requires { unsigned_abs (x *ℤ a) + unsigned_abs (y *ℤ b) < 2 ^ 63 }
     ensures { result ≡ x *ℤ a +ℤ neg_ℤ (y *ℤ b) }
 {
-    subtracted(multiplied(x, a), multiplied(y, b))
+    minus(times(x, a), times(y, b))
 }
 
 #[inline]
@@ -114,7 +117,7 @@ fn plain_number(row: &[i64], by: &[i64], k: usize, a: i64, b: i64) -> i64
     requires bound { unsigned_abs (number_at row.now k *ℤ a) + unsigned_abs (number_at by.now k *ℤ b) < 2 ^ 63 }
     ensures { result ≡ number_at row.now k *ℤ a +ℤ neg_ℤ (number_at by.now k *ℤ b) }
 {
-    plain(read(row, k), a, read(by, k), b)
+    plain_difference(read(row, k), a, read(by, k), b)
 }
 
 #[inline]
@@ -124,15 +127,15 @@ fn less_product(row: &[i64], by: &[i64], k: usize, b: i64) -> i64
     requires bound { unsigned_abs (number_at row.now k) + unsigned_abs (number_at by.now k *ℤ b) < 2 ^ 63 }
     ensures { result ≡ number_at row.now k +ℤ neg_ℤ (number_at by.now k *ℤ b) }
 {
-    subtracted(read(row, k), multiplied(read(by, k), b))
+    minus(read(row, k), times(read(by, k), b))
 }
 
 /// The place itself where the row isn't 0 there, else the one found after it.
 #[tactic(auto, using(crate::proofs::Places::next_here, crate::proofs::Places::next_null))]
 fn next_place(row: &[i64], k: usize, after: usize) -> usize
     requires k { k < length row.now }
-    requires after { IsNext row.now (k + 1) after }
-    ensures { IsNext row.now k result }
+    requires after { IsNextPlace row.now (k + 1) after }
+    ensures { IsNextPlace row.now k result }
 {
     if read(row, k) == 0 { after } else { k }
 }
@@ -140,7 +143,7 @@ fn next_place(row: &[i64], k: usize, after: usize) -> usize
 /// Notes for each place of the row the next one where the row isn't 0.
 pub fn note_places(row: &[i64], next: &mut Vec<usize>)
     requires { length next.old.items ≡ length row.now + 1 }
-    ensures { ArePlaces row.now next.new.items }
+    ensures { AreNextPlaces row.now next.new.items }
 {
     let mut k = row.len();
     next[k] = k;
@@ -165,7 +168,7 @@ fn multiply_and_subtract(row: &mut Vec<i64>, by: &[i64], a: i64, b: i64)
 fn subtract_times(row: &mut Vec<i64>, by: &[i64], next: &[usize], b: i64)
     requires even { length row.old.items ≡ length by.now }
     requires bound { (k : ℕ) → k < length by.now → unsigned_abs (number_at row.old.items k) + unsigned_abs (number_at by.now k *ℤ b) < 2 ^ 63 }
-    requires places { ArePlaces by.now next.now }
+    requires places { AreNextPlaces by.now next.now }
     ensures length { length row.new.items ≡ length row.old.items }
     ensures entries { (k : ℕ) → k < length by.now → number_at row.new.items k ≡ number_at row.old.items k +ℤ neg_ℤ (number_at by.now k *ℤ b) }
 {
@@ -180,7 +183,7 @@ fn subtract_times(row: &mut Vec<i64>, by: &[i64], next: &[usize], b: i64)
 fn combine_plain(row: &mut Vec<i64>, by: &[i64], next: &[usize], a: i64, b: i64)
     requires even { length row.old.items ≡ length by.now }
     requires bound { (k : ℕ) → k < length by.now → unsigned_abs (number_at row.old.items k *ℤ a) + unsigned_abs (number_at by.now k *ℤ b) < 2 ^ 63 }
-    requires places { ArePlaces by.now next.now }
+    requires places { AreNextPlaces by.now next.now }
     ensures length { length row.new.items ≡ length row.old.items }
     ensures entries { (k : ℕ) → k < length by.now → number_at row.new.items k ≡ number_at row.old.items k *ℤ a +ℤ neg_ℤ (number_at by.now k *ℤ b) }
 {
@@ -206,7 +209,7 @@ pub fn combine(
     requires even { length row.old.items ≡ length by.now }
     requires row { AreShort row.old.items }
     requires by { AreShort by.now }
-    requires places { ArePlaces by.now next.now }
+    requires places { AreNextPlaces by.now next.now }
     requires most { AreAtMost row.old.items most }
     requires most_by { AreAtMost by.now most_by }
     requires a { unsigned_abs a < 2 ^ 63 }
@@ -237,10 +240,10 @@ pub fn combine(
     }
 }
 
-/// The greatest common divisor of the numbers and the denominator
+/// The greatest common divisor of the numbers and the denominator.
 pub fn divisor(row: &[i64], bottom: u64) -> u64
     requires { 0 < bottom }
-    ensures numbers { Divides result row.now }
+    ensures numbers { DividesAll result row.now }
     ensures bottom { result ∣ bottom }
 {
     let mut shared = bottom;
@@ -248,7 +251,7 @@ pub fn divisor(row: &[i64], bottom: u64) -> u64
         if shared == 1 {
             return 1;
         }
-        shared = common(read(row, k).unsigned_abs(), shared);
+        shared = common_divisor(read(row, k).unsigned_abs(), shared);
     }
     shared
 }
@@ -256,11 +259,11 @@ pub fn divisor(row: &[i64], bottom: u64) -> u64
 /// Divides the numbers by a common divisor.
 pub fn divide(row: &mut Vec<i64>, shared: u64)
     requires row { AreShort row.old.items }
-    requires divides { Divides shared row.old.items }
+    requires divides { DividesAll shared row.old.items }
     ensures length { length row.new.items ≡ length row.old.items }
     ensures entries { (k : ℕ) → k < length row.old.items → number_at row.new.items k *ℤ pos shared ≡ number_at row.old.items k }
 {
     for k in 0..row.len() {
-        row[k] = divided(read(row.as_slice(), k), shared);
+        row[k] = quotient(read(row.as_slice(), k), shared);
     }
 }

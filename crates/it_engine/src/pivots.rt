@@ -2,8 +2,9 @@
 ghost use Rattle.std.specs.Prelude.{◌≡◌, ◌+◌, ◌<◌, ◌^◌, ◌≤ℤ◌, pos, length};
 ghost use Rattle.std.specs.Bool.{OnTrue};
 ghost use Rattle.it_space.specs.Rows.{value};
-ghost use Rattle.it_engine.specs.Updates.{ArePivoted, AreUsable, IsFitting};
-ghost use Rattle.it_engine.specs.Whole.{number_at, row_at};
+ghost use Rattle.it_engine.specs.Updates.{AreWholeRowsPivoted, AreUsable, IsFitting};
+ghost use Rattle.it_space.specs.Sums.{number_at};
+ghost use Rattle.it_engine.specs.Whole.{whole_row_at};
 
 use crate::columns::Column;
 use crate::rows::WholeRow;
@@ -23,9 +24,9 @@ pub fn pivot(
     requires rows { AreUsable (length rows.old) limit rows.old }
     requires room { length next.old.items ≡ length rows.old + 1 }
     requires column { IsFitting (length rows.old) limit column.now }
-    requires positive { pos 1 ≤ℤ value column.now (number_at (row_at rows.old r).numbers) }
+    requires positive { pos 1 ≤ℤ value column.now (number_at (whole_row_at rows.old r).numbers) }
     requires limit { limit < 2 ^ 63 }
-    ensures pivoted { OnTrue result (ArePivoted (length rows.old) limit rows.old column.now r rows.new) }
+    ensures pivoted { OnTrue result (AreWholeRowsPivoted (length rows.old) limit rows.old column.now r rows.new) }
     ensures room { length next.new.items ≡ length next.old.items }
 {
     let taken = std::mem::replace(&mut rows[r], WholeRow::empty(alloc));

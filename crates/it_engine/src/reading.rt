@@ -4,10 +4,11 @@ ghost use Rattle.std.specs.Bool.{OnFalse, OnTrue};
 ghost use Rattle.std.specs.Option.{IfNone, IfSome};
 ghost use Rattle.it_rational.specs.Rational.{minus, quotient, times, whole};
 ghost use Rattle.it_tableau.specs.TableauViews.{height};
-ghost use Rattle.it_engine.specs.Choosing.{right_of};
+ghost use Rattle.it_engine.specs.Choosing.{right_side_of};
 ghost use Rattle.it_engine.specs.Engine.{IsSafe};
 ghost use Rattle.it_engine.specs.Ends.{AreWeightsOf, IsPointOf, IsWeightOf};
-ghost use Rattle.it_engine.specs.Whole.{number_at, row_at};
+ghost use Rattle.it_space.specs.Sums.{number_at};
+ghost use Rattle.it_engine.specs.Whole.{whole_row_at};
 
 use crate::columns::Column;
 use crate::rows::WholeRow;
@@ -20,14 +21,14 @@ fn fraction(row: &WholeRow, k: usize) -> Fraction
     requires some { 0 < row.now.bottom }
     ensures { result ≡ quotient (number_at row.now.numbers k) row.now.bottom }
 {
-    Fraction::lowest(i128::from(row.number(k)), i128::from(row.bottom()))
+    Fraction::quotient(i128::from(row.number(k)), i128::from(row.bottom()))
 }
 
 fn fraction_at(rows: &[WholeRow], i: usize, k: usize) -> Fraction
     requires row { i < length rows.now }
-    requires place { k < length (row_at rows.now i).numbers }
-    requires some { 0 < (row_at rows.now i).bottom }
-    ensures { result ≡ quotient (right_of k rows.now i) (row_at rows.now i).bottom }
+    requires place { k < length (whole_row_at rows.now i).numbers }
+    requires some { 0 < (whole_row_at rows.now i).bottom }
+    ensures { result ≡ quotient (right_side_of k rows.now i) (whole_row_at rows.now i).bottom }
 {
     fraction(&rows[i], k)
 }
@@ -57,7 +58,7 @@ fn push_weight(
     Ok(())
 }
 
-#[tactic(auto, using(crate::proofs::Readings::null_from_top, crate::proofs::Readings::top_from_null))]
+#[tactic(auto, using(it_tableau::proofs::Zeros::null_from_top, it_tableau::proofs::Zeros::top_from_null))]
 fn is_null(value: Fraction) -> bool
     ensures yes { OnTrue result (value ≡ whole (pos 0)) }
     ensures no { OnFalse result (¬ (value ≡ whole (pos 0))) }
@@ -86,15 +87,6 @@ pub fn weights(
     Ok(out)
 }
 
-#[tactic(auto, using(crate::proofs::Readings::sign_below, crate::proofs::Readings::sign_above))]
-fn is_negated(tableau: &Tableau, k: usize) -> bool
-    requires usable { tableau.now.spent ≡ false }
-    requires row { k < height tableau.now }
-    ensures { result ≡ slice_index_or tableau.now.negated k false }
-{
-    if tableau.sign(k) < 0 { true } else { false }
-}
-
 fn signed_value(value: Fraction, negated: bool) -> Fraction
     ensures { result ≡ times (cond negated (minus (whole (pos 1))) (whole (pos 1))) value }
 {
@@ -116,7 +108,7 @@ pub fn point(
     let mut out = Vec::with_capacity(alloc, basis.len())?;
     for k in 0..basis.len() {
         let cost = fraction_at(rows, basis.len(), k);
-        out.push(signed_value(cost, is_negated(first, k)))?;
+        out.push(signed_value(cost, first.is_negated(k)))?;
     }
     Ok(out)
 }

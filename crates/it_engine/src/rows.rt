@@ -1,12 +1,12 @@
 //! Rows of whole numbers over one denominator.
-ghost use Rattle.std.specs.Prelude.{◌≡◌, ◌+◌, ◌<◌, ◌^◌, ◌≤ℤ◌, unsigned_abs, length, pos};
+ghost use Rattle.std.specs.Prelude.{◌≡◌, ◌+◌, ◌<◌, ◌^◌, ◌≤ℤ◌, [], unsigned_abs, length, pos};
 ghost use Rattle.std.specs.Bool.{OnTrue};
-ghost use Rattle.it_engine.specs.Whole.{number_at};
-ghost use Rattle.it_engine.specs.Updates.{ArePlaces, AreShort, IsFitting, IsLess, IsQuotient, IsShortened, IsUpdated, IsUsable};
+ghost use Rattle.it_space.specs.Sums.{number_at};
+ghost use Rattle.it_engine.specs.Updates.{AreNextPlaces, AreShort, IsFitting, IsWholeRowReduced, IsQuotient, IsShortened, IsUpdated, IsUsable};
 
-use crate::arithmetic::{common, divided, scaled};
+use crate::arithmetic::{common_divisor, quotient, short_product};
 use crate::columns::Column;
-use crate::numbers::{combine, divide, divisor, greatest, note_places};
+use crate::numbers::{combine, divide, divisor, greatest_size, note_places};
 use std::alloc::Global;
 use std::marker::Model;
 
@@ -31,11 +31,11 @@ impl Model for WholeRow {
 
 impl WholeRow {
     /// A row of whole numbers.
-    pub fn of(numbers: Vec<i64>) -> WholeRow
+    pub fn from_numbers(numbers: Vec<i64>) -> WholeRow
         ensures numbers { result.numbers ≡ numbers.items }
         ensures bottom { result.bottom ≡ 1 }
     {
-        let most = greatest(numbers.as_slice());
+        let most = greatest_size(numbers.as_slice());
         WholeRow {
             numbers,
             bottom: 1,
@@ -44,7 +44,10 @@ impl WholeRow {
     }
 
     /// A row without numbers. It takes no memory.
-    pub fn empty(alloc: Global) -> WholeRow {
+    pub fn empty(alloc: Global) -> WholeRow
+        ensures numbers { result.numbers ≡ [] }
+        ensures bottom { result.bottom ≡ 1 }
+    {
         WholeRow {
             numbers: Vec::new(alloc),
             bottom: 1,
@@ -78,16 +81,16 @@ impl WholeRow {
     /// Notes for each place the next one where the row isn't 0.
     pub fn note_places(&self, next: &mut Vec<usize>)
         requires { length next.old.items ≡ length self.now.numbers + 1 }
-        ensures { ArePlaces self.now.numbers next.new.items }
+        ensures { AreNextPlaces self.now.numbers next.new.items }
     {
         note_places(self.numbers.as_slice(), next);
     }
 
     /// The same row, with an exact bound on its numbers.
-    fn tightened(self) -> WholeRow
+    fn with_exact_bound(self) -> WholeRow
         ensures { result ≡ self }
     {
-        let most = greatest(self.numbers.as_slice());
+        let most = greatest_size(self.numbers.as_slice());
         WholeRow {
             numbers: self.numbers,
             bottom: self.bottom,
@@ -107,7 +110,7 @@ impl WholeRow {
         }
         divide(&mut self.numbers, shared);
         self.bottom /= shared;
-        self.most = greatest(self.numbers.as_slice());
+        self.most = greatest_size(self.numbers.as_slice());
     }
 
     /// Takes off as much of the leaving row as makes the entry at the column 0; false where a number would be too large, and then
@@ -115,17 +118,17 @@ impl WholeRow {
     fn reduce(&mut self, own: &WholeRow, next: &[usize], entry: i64, pivot: i64, limit: u64) -> bool
         requires row { IsUsable (length own.now.numbers) limit self.old }
         requires own { IsUsable (length own.now.numbers) limit own.now }
-        requires places { ArePlaces own.now.numbers next.now }
+        requires places { AreNextPlaces own.now.numbers next.now }
         requires entry { unsigned_abs entry < 2 ^ 63 }
         requires pivot { pos 1 ≤ℤ pivot }
         requires limit { limit < 2 ^ 63 }
-        ensures less { OnTrue result (IsLess (length own.now.numbers) limit self.old own.now entry pivot self.new) }
+        ensures less { OnTrue result (IsWholeRowReduced (length own.now.numbers) limit self.old own.now entry pivot self.new) }
         ensures usable { OnTrue result (IsUsable (length own.now.numbers) limit self.new) }
     {
-        let shared = common(pivot.unsigned_abs(), entry.unsigned_abs());
-        let a = divided(pivot, shared);
-        let b = divided(entry, shared);
-        let Some(bottom) = scaled(self.bottom, a.unsigned_abs()) else {
+        let shared = common_divisor(pivot.unsigned_abs(), entry.unsigned_abs());
+        let a = quotient(pivot, shared);
+        let b = quotient(entry, shared);
+        let Some(bottom) = short_product(self.bottom, a.unsigned_abs()) else {
             return false;
         };
         match combine(
@@ -144,7 +147,7 @@ impl WholeRow {
                 true
             }
             None => {
-                self.most = greatest(self.numbers.as_slice());
+                self.most = greatest_size(self.numbers.as_slice());
                 false
             }
         }
@@ -162,7 +165,7 @@ impl WholeRow {
     ) -> bool
         requires row { IsUsable (length own.now.numbers) limit self.old }
         requires own { IsUsable (length own.now.numbers) limit own.now }
-        requires places { ArePlaces own.now.numbers next.now }
+        requires places { AreNextPlaces own.now.numbers next.now }
         requires column { IsFitting (length own.now.numbers) limit column.now }
         requires pivot { pos 1 ≤ℤ pivot }
         requires limit { limit < 2 ^ 63 }
@@ -193,7 +196,7 @@ impl WholeRow {
             most: self.most,
         };
         row.shorten();
-        row.tightened()
+        row.with_exact_bound()
     }
 }
 

@@ -5,51 +5,41 @@ use Rattle.std.proofs.lemmas.Bool.{cases_eq, eq-eqb}
 use Rattle.it_rational.specs.OrderedFields.{OrderedField}
 use Rattle.it_tableau.specs.Tables.{Table, difference, pivot, ratio}
 use Rattle.it_tableau.proofs.ViewLemmas.{same_functions}
-use Rattle.it_run.specs.Choice.{first_false, entering, is_candidate, precedes, leaving_of, leaving, next}
+use Rattle.it_run.specs.Choice.{first_false, entering_column, is_candidate, precedes, leaving_row_of, leaving_row, next}
 use Rattle.it_run.specs.Meetings.{table_after}
+use Rattle.it_run.proofs.SearchLemmas.{first_false_agrees, first_false_at_most}
 use Rattle.it_run.proofs.StepsLeft.{most, steps_left}
 
-first_agrees : (f g : ℕ → Bool) (k left bound : ℕ) → k + left ≤ bound → ((j : ℕ) → j < bound → f j ≡ g j) → first_false f k left ≡ first_false g k left
-first_agrees f g k zero bound l h = refl
-first_agrees f g k (suc left) bound l h = ap₂ (λ (b : Bool) (x : ℕ). cond b x k) (h k (omega arith)) (first_agrees f g (suc k) left bound (omega arith) h)
-
-first_most : (f : ℕ → Bool) (k left : ℕ) → first_false f k left ≤ k + left
-first_most f k zero = omega arith
-first_most f k (suc left) = by_cases (f k) (first_most f (suc k) left)
-  where
-    by_cases : (b : Bool) → first_false f (suc k) left ≤ suc k + left → cond b (first_false f (suc k) left) k ≤ k + suc left
-    by_cases true h = omega arith
-    by_cases false h = omega arith
-
 module _ {A : Type 0} (F : OrderedField A) (m n : ℕ) where
+  -- the tables have the same entries and the same basic columns
   pub record Agree (t s : Table A) : Type 0 where
     pub entries : (i j : ℕ) → i ≤ m → j ≤ n + m → t.entry i j ≡ s.entry i j
     pub basics : (i : ℕ) → i < m → t.basis i ≡ s.basis i
 
-  entering_most : (t : Table A) → entering F m n t ≤ n
-  entering_most t = let l = first_most (λ j. F.order.is_least (t.entry m j)) 0 n in omega (arith, l)
+  entering_most : (t : Table A) → entering_column F m n t ≤ n
+  entering_most t = let l = first_false_at_most (λ j. F.order.is_least (t.entry m j)) 0 n in omega (arith, l)
 
-  leaving_most : (t : Table A) (c i : ℕ) → i ≤ m → leaving_of F m n t c i ≤ m
+  leaving_most : (t : Table A) (c i : ℕ) → i ≤ m → leaving_row_of F m n t c i ≤ m
   leaving_most t c zero h = omega arith
   leaving_most t c (suc i) h = by_cases (leaving_most t c i (omega arith))
     where
       best : ℕ
-      best = leaving_of F m n t c i
+      best = leaving_row_of F m n t c i
 
       two : (b : Bool) {x y : ℕ} → x ≤ m → y ≤ m → cond b x y ≤ m
       two true f g = f
       two false f g = g
 
-      by_cases : leaving_of F m n t c i ≤ m → leaving_of F m n t c (suc i) ≤ m
+      by_cases : leaving_row_of F m n t c i ≤ m → leaving_row_of F m n t c (suc i) ≤ m
       by_cases up = two (is_candidate F t c i) (two (eqb best m) (omega arith) (two (precedes F m n t c i best) (omega arith) up)) up
 
   module _ (t s : Table A) (a : Agree t s) where
-    entering_agrees : entering F m n t ≡ entering F m n s
-    entering_agrees = first_agrees (λ j. F.order.is_least (t.entry m j)) (λ j. F.order.is_least (s.entry m j)) 0 n n (omega arith) (λ j l. ap F.order.is_least (a.entries m j (omega arith) (omega arith)))
+    entering_agrees : entering_column F m n t ≡ entering_column F m n s
+    entering_agrees = first_false_agrees (λ j. F.order.is_least (t.entry m j)) (λ j. F.order.is_least (s.entry m j)) 0 n (λ j _ l. ap F.order.is_least (a.entries m j (omega arith) (omega arith)))
 
     module _ (c : ℕ) (hc : c ≤ n) where
-      open_agrees : (i : ℕ) → i ≤ m → is_candidate F t c i ≡ is_candidate F s c i
-      open_agrees i h = ap (λ x. not (F.order.is_least (F.ring.neg x))) (a.entries i c h (omega arith))
+      candidate_agrees : (i : ℕ) → i ≤ m → is_candidate F t c i ≡ is_candidate F s c i
+      candidate_agrees i h = ap (λ x. not (F.order.is_least (F.ring.neg x))) (a.entries i c h (omega arith))
 
       ratio_agrees : (i : ℕ) → i ≤ m → ratio F m n t c i ≡ ratio F m n s c i
       ratio_agrees i h = ap₂ (λ x y. F.ring.mul x (F.order.inv y)) (a.entries i (n + m) h (omega arith)) (a.entries i c h (omega arith))
@@ -59,17 +49,17 @@ module _ {A : Type 0} (F : OrderedField A) (m n : ℕ) where
           ap₂ (λ x y. cond (F.order.is_least (difference F.ring x y)) (F.order.is_least (difference F.ring y x) && ltb (t.basis i) (t.basis k)) true) (ratio_agrees i (omega arith)) (ratio_agrees k (omega arith))
           ∙ ap₂ (λ x y. cond (F.order.is_least (difference F.ring (ratio F m n s c i) (ratio F m n s c k))) (F.order.is_least (difference F.ring (ratio F m n s c k) (ratio F m n s c i)) && ltb x y) true) (a.basics i hi) (a.basics k hk)
 
-      leaving_agrees : (i : ℕ) → i ≤ m → leaving_of F m n t c i ≡ leaving_of F m n s c i
+      leaving_agrees : (i : ℕ) → i ≤ m → leaving_row_of F m n t c i ≡ leaving_row_of F m n s c i
       leaving_agrees zero h = refl
       leaving_agrees (suc i) h =
-          by_cases (leaving_of F m n t c i) (cases_eq (leaving_of F m n t c i) m) (leaving_most t c i (omega arith))
+          by_cases (leaving_row_of F m n t c i) (cases_eq (leaving_row_of F m n t c i) m) (leaving_most t c i (omega arith))
           ∙ ap (λ x. cond (is_candidate F s c i) (cond (eqb x m) i (cond (precedes F m n s c i x) i x)) x) (leaving_agrees i (omega arith))
         where
           by_cases : (x : ℕ) → (x ≡ m) ⊎ (x ≡ m → ⊥) → x ≤ m
               → cond (is_candidate F t c i) (cond (eqb x m) i (cond (precedes F m n t c i x) i x)) x ≡ cond (is_candidate F s c i) (cond (eqb x m) i (cond (precedes F m n s c i x) i x)) x
-          by_cases x (inl e) l = ap₂ (λ b d. cond b (cond d i (cond (precedes F m n t c i x) i x)) x) (open_agrees i (omega arith)) (eq-eqb x m e)
+          by_cases x (inl e) l = ap₂ (λ b d. cond b (cond d i (cond (precedes F m n t c i x) i x)) x) (candidate_agrees i (omega arith)) (eq-eqb x m e)
               ∙ ap (λ d. cond (is_candidate F s c i) (cond d i (cond (precedes F m n s c i x) i x)) x) (sym (eq-eqb x m e))
-          by_cases x (inr d) l = ap₂ (λ b q. cond b (cond (eqb x m) i (cond q i x)) x) (open_agrees i (omega arith)) (precedes_agrees i x (omega arith) (omega arith))
+          by_cases x (inr d) l = ap₂ (λ b q. cond b (cond (eqb x m) i (cond q i x)) x) (candidate_agrees i (omega arith)) (precedes_agrees i x (omega arith) (omega arith))
 
     pivot_agrees : (r c : ℕ) → r ≤ m → c ≤ n → Agree (pivot F t r c) (pivot F s r c)
     pivot_agrees r c hr hc = record {
@@ -81,18 +71,18 @@ module _ {A : Type 0} (F : OrderedField A) (m n : ℕ) where
 
     next_agrees : Agree (next F m n t) (next F m n s)
     next_agrees =
-        let c = entering F m n t in
-        let r = leaving F m n t (entering F m n t) in
-        let same : leaving F m n t (entering F m n t) ≡ leaving F m n s (entering F m n s) =
-        leaving_agrees (entering F m n t) (entering_most t) m (omega arith) ∙ ap (leaving F m n s) entering_agrees in
-        subst (λ (x : ℕ). Agree (next F m n t) (pivot F s x (entering F m n s))) same
-        (subst (λ (y : ℕ). Agree (next F m n t) (pivot F s (leaving F m n t (entering F m n t)) y)) entering_agrees
-        (pivot_agrees (leaving F m n t (entering F m n t)) (entering F m n t) (leaving_most t (entering F m n t) m (omega arith)) (entering_most t)))
+        let c = entering_column F m n t in
+        let r = leaving_row F m n t (entering_column F m n t) in
+        let same : leaving_row F m n t (entering_column F m n t) ≡ leaving_row F m n s (entering_column F m n s) =
+        leaving_agrees (entering_column F m n t) (entering_most t) m (omega arith) ∙ ap (leaving_row F m n s) entering_agrees in
+        subst (λ (x : ℕ). Agree (next F m n t) (pivot F s x (entering_column F m n s))) same
+        (subst (λ (y : ℕ). Agree (next F m n t) (pivot F s (leaving_row F m n t (entering_column F m n t)) y)) entering_agrees
+        (pivot_agrees (leaving_row F m n t (entering_column F m n t)) (entering_column F m n t) (leaving_most t (entering_column F m n t) m (omega arith)) (entering_most t)))
 
   after_agrees : (t s : Table A) → Agree t s → (k : ℕ) → Agree (table_after F m n t k) (table_after F m n s k)
   after_agrees t s a zero = a
   after_agrees t s a (suc k) = next_agrees (table_after F m n t k) (table_after F m n s k) (after_agrees t s a k)
 
-  pub left_agrees : (t s : Table A) → Agree t s → steps_left F m n t ≡ steps_left F m n s
-  left_agrees t s a = ap (λ (f : ℕ → Bool). first_false f 0 (suc (most F m n)))
+  pub steps_left_agrees : (t s : Table A) → Agree t s → steps_left F m n t ≡ steps_left F m n s
+  steps_left_agrees t s a = ap (λ (f : ℕ → Bool). first_false f 0 (suc (most F m n)))
       (same_functions (λ k. ap (λ c. ltb c n) (entering_agrees (table_after F m n t k) (table_after F m n s k) (after_agrees t s a k))))

@@ -6,20 +6,20 @@ use Rattle.it_rational.proofs.Field.{field_ℚ}
 use Rattle.it_tableau.specs.Invariants.{HasInvariants}
 use Rattle.it_tableau.specs.TableauViews.{TableauView, height, table, KeepsFrame}
 use Rattle.it_tableau.specs.Tables.{Table, FeasibilityProblem}
-use Rattle.it_tableau.proofs.StartLemmas.{started}
+use Rattle.it_tableau.proofs.StartLemmas.{start_has_invariants}
 use Rattle.it_run.specs.Answers.{HasProblem, HasSigns}
 use Rattle.it_run.specs.Choice.{next, IsDone, IsStuck}
 use Rattle.it_run.specs.Readings.{weights, point}
 use Rattle.it_run.specs.Runs.{RunEndView}
 use Rattle.it_run.specs.Runs.RunEndView.{Weights, Point}
 use Rattle.it_run.specs.Solving.{RunsTo, StepFits}
-use Rattle.it_run.specs.Steps.{HoldsSome, ReachesBy}
+use Rattle.it_run.specs.Steps.{HasInvariantsForSome, ReachesBy}
 use Rattle.it_run.proofs.BudgetLemmas.{read_by}
-use Rattle.it_run.proofs.RunLemmas.{read}
+use Rattle.it_run.proofs.RunLemmas.{with_readings}
 
 -- the run with what is read off its last table
 pub read_run : (m n : ℕ) (p : FeasibilityProblem Rational) (budget : Option ℕ) (t : Table Rational) (e : RunEndView (Table Rational) (Table Rational)) → ReachesBy m n budget t e
-    → RunsTo m n p budget t (read (IsDone field_ℚ m n) (IsStuck field_ℚ m n) (StepFits m n) (next field_ℚ m n) (weights field_ℚ m n) (point field_ℚ m n p) e)
+    → RunsTo m n p budget t (with_readings (IsDone field_ℚ m n) (IsStuck field_ℚ m n) (StepFits m n) (next field_ℚ m n) (weights field_ℚ m n) (point field_ℚ m n p) e)
 read_run m n p budget t e r = read_by (IsDone field_ℚ m n) (IsStuck field_ℚ m n) (StepFits m n) (next field_ℚ m n) (weights field_ℚ m n) (point field_ℚ m n p) budget t e r
 
 module _ (old new : TableauView) (p : FeasibilityProblem Rational) (budget : Option ℕ) where
@@ -35,8 +35,8 @@ module _ (old new : TableauView) (p : FeasibilityProblem Rational) (budget : Opt
       ∙ ap₂ (λ m n. point field_ℚ m n p (table new)) f.height f.generators)) (read_run (height old) old.generators p budget (table old) (Point (table new)) r)
 
 -- a start has the invariants
-pub holds_start : (t : TableauView) → HasProblem t → HoldsSome t
-holds_start t s = (s.0, subst (λ (x : Table Rational). HasInvariants field_ℚ (height t) t.generators s.0 x) (sym s.1.table_is) (started field_ℚ (height t) t.generators s.0))
+pub holds_start : (t : TableauView) → HasProblem t → HasInvariantsForSome t
+holds_start t s = (s.0, subst (λ (x : Table Rational). HasInvariants field_ℚ (height t) t.generators s.0 x) (sym s.1.table_is) (start_has_invariants field_ℚ (height t) t.generators s.0))
 
 pub if_ok : {X E : Type 0} (r : Result X E) (P Q : X → Type 0) → IfOk r P → ((x : X) → P x → Q x) → IfOk r Q
 if_ok (Ok x) P Q h f = f x h

@@ -7,7 +7,7 @@ use Rattle.it_rational.proofs.Ordered.{null-least, not_both, below-neg, below-ap
 use Rattle.it_rational.specs.OrderedFields.{OrderedField, IsAtLeastZero, IsBelowZero, IsAboveZero}
 use Rattle.it_tableau.specs.Tables.{Table, FeasibilityProblem, difference, ratio}
 use Rattle.it_tableau.specs.Invariants.{cost_of, HasInvariants, MayEnter}
-use Rattle.it_run.specs.Choice.{first_false, entering, is_candidate, precedes, leaving_of, leaving, IsStuck}
+use Rattle.it_run.specs.Choice.{first_false, entering_column, is_candidate, precedes, leaving_row_of, leaving_row, IsStuck}
 use Rattle.it_tableau.proofs.Sums.{some_below}
 use native.Mathlib.Nat.{eq-or-lt_of_le, le_of_suc-le-suc}
 
@@ -49,17 +49,17 @@ module _ {A : Type 0} (F : OrderedField A) (m n : ℕ) where
   pub may_enter : (t : Table A) (c r : ℕ) → Enters t c → Leaves t c r → MayEnter F m n t r c
   may_enter t c r e l = record { column = e.column; row = l.row; above = l.above; least = l.least }
 
-  pub entering_is : (t : Table A) → entering F m n t < n → Enters t (entering F m n t)
+  pub entering_is : (t : Table A) → entering_column F m n t < n → Enters t (entering_column F m n t)
   entering_is t h = record {
     column = h;
     below = first_at (λ j. F.order.is_least (t.entry m j)) 0 n (omega arith);
     first = λ j l. first_before (λ j. F.order.is_least (t.entry m j)) 0 n j (omega arith) l;
   }
 
-  pub some_column : (t : Table A) → ¬ (IsStuck F m n t) → entering F m n t < n
-  some_column t s = by_cases (cases_lt (entering F m n t) n)
+  pub some_column : (t : Table A) → ¬ (IsStuck F m n t) → entering_column F m n t < n
+  some_column t s = by_cases (cases_lt (entering_column F m n t) n)
     where
-      by_cases : (entering F m n t < n) ⊎ (n ≤ entering F m n t) → entering F m n t < n
+      by_cases : (entering_column F m n t < n) ⊎ (n ≤ entering_column F m n t) → entering_column F m n t < n
       by_cases (inl h) = h
       by_cases (inr h) = absurd (s (λ j l. first_before (λ j. F.order.is_least (t.entry m j)) 0 n j (omega arith) (omega arith)))
 
@@ -74,31 +74,32 @@ module _ {A : Type 0} (F : OrderedField A) (m n : ℕ) where
       by_test false x k = subst (IsBelowZero F) (ring F.ring (x ∷ []) (times (minus one) (v 0)) (minus (v 0)) refl) k
 
   -- the best row below a number of rows
-  pub record Best (t : Table A) (c bound best : ℕ) : Type 0 where
+  pub record IsBestBelow (t : Table A) (c bound best : ℕ) : Type 0 where
     pub row : best < bound
     pub above : is_candidate F t c best ≡ true
     pub least : (i : ℕ) → i < bound → is_candidate F t c i ≡ true → IsAtLeastZero F (difference F.ring (ratio F m n t c i) (ratio F m n t c best))
     pub first : (i : ℕ) → i < bound → is_candidate F t c i ≡ true → ratio F m n t c i ≡ ratio F m n t c best → t.basis best ≤ t.basis i
 
-  abbrev IsBest : Table A → ℕ → ℕ → ℕ → Type 0
-  IsBest t c bound best = ((best ≡ m) × ((i : ℕ) → i < bound → is_candidate F t c i ≡ false)) ⊎ Best t c bound best
+  -- it is m where no row below the number has an entry above 0, else the best of them
+  abbrev IsBestOrNone : Table A → ℕ → ℕ → ℕ → Type 0
+  IsBestOrNone t c bound best = ((best ≡ m) × ((i : ℕ) → i < bound → is_candidate F t c i ≡ false)) ⊎ IsBestBelow t c bound best
 
-  turned : (a b : A) → IsBelowZero F (difference F.ring a b) → IsAtLeastZero F (difference F.ring b a)
-  turned a b h = subst (IsAtLeastZero F) (ring F.ring (a ∷ b ∷ []) (minus (plus (v 0) (minus (v 1)))) (plus (v 1) (minus (v 0))) refl) (below-neg F (difference F.ring a b) h)
+  opposite_of_below : (a b : A) → IsBelowZero F (difference F.ring a b) → IsAtLeastZero F (difference F.ring b a)
+  opposite_of_below a b h = subst (IsAtLeastZero F) (ring F.ring (a ∷ b ∷ []) (minus (plus (v 0) (minus (v 1)))) (plus (v 1) (minus (v 0))) refl) (below-neg F (difference F.ring a b) h)
 
-  chained : (a b c : A) → IsAtLeastZero F (difference F.ring a b) → IsAtLeastZero F (difference F.ring b c) → IsAtLeastZero F (difference F.ring a c)
-  chained a b c h k = subst (IsAtLeastZero F) (ring F.ring (a ∷ b ∷ c ∷ []) (plus (plus (v 0) (minus (v 1))) (plus (v 1) (minus (v 2)))) (plus (v 0) (minus (v 2))) refl)
+  at_least_chain : (a b c : A) → IsAtLeastZero F (difference F.ring a b) → IsAtLeastZero F (difference F.ring b c) → IsAtLeastZero F (difference F.ring a c)
+  at_least_chain a b c h k = subst (IsAtLeastZero F) (ring F.ring (a ∷ b ∷ c ∷ []) (plus (plus (v 0) (minus (v 1))) (plus (v 1) (minus (v 2)))) (plus (v 0) (minus (v 2))) refl)
       (F.order.add-least (difference F.ring a b) (difference F.ring b c) h k)
 
-  pub tied : (a b : A) → IsAtLeastZero F (difference F.ring a b) → IsAtLeastZero F (difference F.ring b a) → a ≡ b
-  tied a b h k = ring F.ring (a ∷ b ∷ []) (v 0) (plus (plus (v 0) (minus (v 1))) (v 1)) refl
+  pub equal_by_order : (a b : A) → IsAtLeastZero F (difference F.ring a b) → IsAtLeastZero F (difference F.ring b a) → a ≡ b
+  equal_by_order a b h k = ring F.ring (a ∷ b ∷ []) (v 0) (plus (plus (v 0) (minus (v 1))) (v 1)) refl
       ∙ ap (λ x. F.ring.add x b) (F.order.strict (difference F.ring a b) h (subst (IsAtLeastZero F) (ring F.ring (a ∷ b ∷ []) (plus (v 1) (minus (v 0))) (minus (plus (v 0) (minus (v 1)))) refl) k))
       ∙ F.ring.null-add b
 
   same-least : (a b : A) → a ≡ b → IsAtLeastZero F (difference F.ring a b)
   same-least a b e = subst (λ (x : A). IsAtLeastZero F (difference F.ring a x)) e (subst (IsAtLeastZero F) (sym (F.ring.add-neg a)) (null-least F))
 
-  leaving_best : (t : Table A) (c i : ℕ) → i ≤ m → IsBest t c i (leaving_of F m n t c i)
+  leaving_best : (t : Table A) (c i : ℕ) → i ≤ m → IsBestOrNone t c i (leaving_row_of F m n t c i)
   leaving_best t c zero h = inl (refl, λ i l. absurd (omega arith))
   leaving_best t c (suc i) h = by_test (is_candidate F t c i) refl (leaving_best t c i (omega arith))
     where
@@ -106,7 +107,7 @@ module _ {A : Type 0} (F : OrderedField A) (m n : ℕ) where
       q = ratio F m n t c
 
       best : ℕ
-      best = leaving_of F m n t c i
+      best = leaving_row_of F m n t c i
 
       below_suc : (P : ℕ → Type 0) (k : ℕ) → k < suc i → (k < i → P k) → (k ≡ i → P k) → P k
       below_suc P k l f g = split (eq-or-lt_of_le (le_of_suc-le-suc l))
@@ -119,7 +120,7 @@ module _ {A : Type 0} (F : OrderedField A) (m n : ℕ) where
       closed k e f g = true≢false (sym g ∙ ap (is_candidate F t c) e ∙ f)
 
       -- row i is the first open one
-      alone : is_candidate F t c i ≡ true → ((k : ℕ) → k < i → is_candidate F t c k ≡ false) → Best t c (suc i) i
+      alone : is_candidate F t c i ≡ true → ((k : ℕ) → k < i → is_candidate F t c k ≡ false) → IsBestBelow t c (suc i) i
       alone o f = record {
         row = omega arith;
         above = o;
@@ -128,19 +129,19 @@ module _ {A : Type 0} (F : OrderedField A) (m n : ℕ) where
       }
 
       -- row i comes before the best so far
-      better : is_candidate F t c i ≡ true → Best t c i best → (b d : Bool) → F.order.is_least (difference F.ring (q i) (q best)) ≡ b → F.order.is_least (difference F.ring (q best) (q i)) ≡ d
-          → cond b (d && ltb (t.basis i) (t.basis best)) true ≡ true → Best t c (suc i) i
+      better : is_candidate F t c i ≡ true → IsBestBelow t c i best → (b d : Bool) → F.order.is_least (difference F.ring (q i) (q best)) ≡ b → F.order.is_least (difference F.ring (q best) (q i)) ≡ d
+          → cond b (d && ltb (t.basis i) (t.basis best)) true ≡ true → IsBestBelow t c (suc i) i
       better o s false d e f g = record {
         row = omega arith;
         above = o;
-        least = λ k l w. below_suc (λ k. IsAtLeastZero F (difference F.ring (q k) (q i))) k l (λ a. chained (q k) (q best) (q i) (s.least k a w) (turned (q i) (q best) e)) (λ x. same-least (q k) (q i) (ap q x));
+        least = λ k l w. below_suc (λ k. IsAtLeastZero F (difference F.ring (q k) (q i))) k l (λ a. at_least_chain (q k) (q best) (q i) (s.least k a w) (opposite_of_below (q i) (q best) e)) (λ x. same-least (q k) (q i) (ap q x));
         first = λ k l w x. below_suc (λ k. t.basis i ≤ t.basis k) k l
             (λ a. absurd (not_both F (difference F.ring (q i) (q best)) e (subst (λ (y : A). IsAtLeastZero F (difference F.ring y (q best))) x (s.least k a w))))
             (λ x. subst (λ (y : ℕ). t.basis i ≤ t.basis y) (sym x) (omega arith));
       }
       better o s true false e f g = absurd (false≢true g)
       better o s true true e f g =
-          let y : q i ≡ q best = tied (q i) (q best) e f in
+          let y : q i ≡ q best = equal_by_order (q i) (q best) e f in
           let l : t.basis i < t.basis best = ltb-true (t.basis i) (t.basis best) g in record {
             row = omega arith;
             above = o;
@@ -151,8 +152,8 @@ module _ {A : Type 0} (F : OrderedField A) (m n : ℕ) where
           }
 
       -- the best so far stays
-      stays : is_candidate F t c i ≡ true → Best t c i best → (b d : Bool) → F.order.is_least (difference F.ring (q i) (q best)) ≡ b → F.order.is_least (difference F.ring (q best) (q i)) ≡ d
-          → cond b (d && ltb (t.basis i) (t.basis best)) true ≡ false → Best t c (suc i) best
+      stays : is_candidate F t c i ≡ true → IsBestBelow t c i best → (b d : Bool) → F.order.is_least (difference F.ring (q i) (q best)) ≡ b → F.order.is_least (difference F.ring (q best) (q i)) ≡ d
+          → cond b (d && ltb (t.basis i) (t.basis best)) true ≡ false → IsBestBelow t c (suc i) best
       stays o s false d e f g = absurd (true≢false g)
       stays o s true d e f g = record {
         row = (let r = s.row in omega arith);
@@ -166,8 +167,8 @@ module _ {A : Type 0} (F : OrderedField A) (m n : ℕ) where
           tie true f g k = ltb-false (t.basis i) (t.basis best) g
           tie false f g k = absurd (not_both F (difference F.ring (q best) (q i)) f k)
 
-      by_test : (b : Bool) → is_candidate F t c i ≡ b → IsBest t c i best
-          → IsBest t c (suc i) (cond b (cond (eqb best m) i (cond (precedes F m n t c i best) i best)) best)
+      by_test : (b : Bool) → is_candidate F t c i ≡ b → IsBestOrNone t c i best
+          → IsBestOrNone t c (suc i) (cond b (cond (eqb best m) i (cond (precedes F m n t c i best) i best)) best)
       by_test false o (inl s) = inl (s.0, λ k l. below_suc (λ k. is_candidate F t c k ≡ false) k l (s.1 k) (λ e. ap (is_candidate F t c) e ∙ o))
       by_test false o (inr s) = inr record {
         row = (let r = s.row in omega arith);
@@ -175,25 +176,25 @@ module _ {A : Type 0} (F : OrderedField A) (m n : ℕ) where
         least = λ k l w. below_suc (λ k. IsAtLeastZero F (difference F.ring (q k) (q best))) k l (λ a. s.least k a w) (λ e. absurd (closed k e o w));
         first = λ k l w x. below_suc (λ k. t.basis best ≤ t.basis k) k l (λ a. s.first k a w x) (λ e. absurd (closed k e o w));
       }
-      by_test true o (inl s) = subst (λ (b : Bool). IsBest t c (suc i) (cond b i (cond (precedes F m n t c i best) i best))) (sym (eq-eqb best m s.0)) (inr (alone o s.1))
-      by_test true o (inr s) = subst (λ (b : Bool). IsBest t c (suc i) (cond b i (cond (precedes F m n t c i best) i best))) (sym (ne_eqb best m (λ e. let r = s.row in omega arith)))
+      by_test true o (inl s) = subst (λ (b : Bool). IsBestOrNone t c (suc i) (cond b i (cond (precedes F m n t c i best) i best))) (sym (eq-eqb best m s.0)) (inr (alone o s.1))
+      by_test true o (inr s) = subst (λ (b : Bool). IsBestOrNone t c (suc i) (cond b i (cond (precedes F m n t c i best) i best))) (sym (ne_eqb best m (λ e. let r = s.row in omega arith)))
           (pick (precedes F m n t c i best) refl)
         where
-          pick : (b : Bool) → precedes F m n t c i best ≡ b → IsBest t c (suc i) (cond b i best)
+          pick : (b : Bool) → precedes F m n t c i best ≡ b → IsBestOrNone t c (suc i) (cond b i best)
           pick true e = inr (better o s (F.order.is_least (difference F.ring (q i) (q best))) (F.order.is_least (difference F.ring (q best) (q i))) refl refl e)
           pick false e = inr (stays o s (F.order.is_least (difference F.ring (q i) (q best))) (F.order.is_least (difference F.ring (q best) (q i))) refl refl e)
 
-  open_from : (t : Table A) (c i : ℕ) → IsAboveZero F (t.entry i c) → is_candidate F t c i ≡ true
-  open_from t c i h = ap not h
+  above_is_candidate : (t : Table A) (c i : ℕ) → IsAboveZero F (t.entry i c) → is_candidate F t c i ≡ true
+  above_is_candidate t c i h = ap not h
 
-  pub leaving_is : (p : FeasibilityProblem A) (t : Table A) (c : ℕ) → HasInvariants F m n p t → IsBelowZero F (t.entry m c) → Leaves t c (leaving F m n t c)
+  pub leaving_is : (p : FeasibilityProblem A) (t : Table A) (c : ℕ) → HasInvariants F m n p t → IsBelowZero F (t.entry m c) → Leaves t c (leaving_row F m n t c)
   leaving_is p t c h b = by_cases (leaving_best t c m (omega arith)) (some_row p t c h b)
     where
-      by_cases : IsBest t c m (leaving F m n t c) → ((i : ℕ) × (i < m) × IsAboveZero F (t.entry i c)) → Leaves t c (leaving F m n t c)
-      by_cases (inl s) w = absurd (true≢false (sym (open_from t c w.0 w.2) ∙ s.1 w.0 w.1))
+      by_cases : IsBestOrNone t c m (leaving_row F m n t c) → ((i : ℕ) × (i < m) × IsAboveZero F (t.entry i c)) → Leaves t c (leaving_row F m n t c)
+      by_cases (inl s) w = absurd (true≢false (sym (above_is_candidate t c w.0 w.2) ∙ s.1 w.0 w.1))
       by_cases (inr s) w = record {
         row = s.row;
-        above = not-true (F.order.is_least (F.ring.neg (t.entry (leaving F m n t c) c))) s.above;
-        least = λ i l k. s.least i l (open_from t c i k);
-        first = λ i l k e. s.first i l (open_from t c i k) e;
+        above = not-true (F.order.is_least (F.ring.neg (t.entry (leaving_row F m n t c) c))) s.above;
+        least = λ i l k. s.least i l (above_is_candidate t c i k);
+        first = λ i l k e. s.first i l (above_is_candidate t c i k) e;
       }

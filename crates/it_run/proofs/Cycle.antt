@@ -7,22 +7,23 @@ use Rattle.it_rational.specs.OrderedFields.{OrderedField, IsAtLeastZero, IsBelow
 use Rattle.it_tableau.specs.Sums.{sum_to}
 use Rattle.it_tableau.specs.Tables.{Table, FeasibilityProblem, difference, ratio}
 use Rattle.it_tableau.specs.Invariants.{cost_of, HasInvariants}
-use Rattle.it_run.specs.Choice.{entering, leaving, IsStuck}
+use Rattle.it_run.specs.Choice.{entering_column, leaving_row, IsStuck}
 use Rattle.it_run.specs.Meetings.{table_after}
 use Rattle.it_tableau.proofs.Sums.{sum_same, sum_add, sum_times_left, some_below}
-use Rattle.it_tableau.proofs.BasicColumns.{distinct}
+use Rattle.it_tableau.proofs.BasicColumns.{basic_columns_differ}
 use Rattle.it_tableau.proofs.Kept.{pivot_row, other_row, new_basis, old_basis}
-use Rattle.it_run.proofs.BlandRule.{Enters, Leaves, entering_is, some_column, leaving_is, tied}
+use Rattle.it_run.proofs.BlandRule.{Enters, Leaves, entering_is, some_column, leaving_is, equal_by_order}
 use Rattle.it_run.proofs.RunLemmas.{next_holds}
 use Rattle.it_run.proofs.RowsByBasis.{basic_cost, row_by_basis, same_right}
 
 module _ {A : Type 0} (F : OrderedField A) (m n : ℕ) where
   module _ (p : FeasibilityProblem A) (t : Table A) (h : HasInvariants F m n p t) (N : ℕ) (moving : (k : ℕ) → k < N → ¬ (IsStuck F m n (table_after F m n t k))) where
+    -- the entering column, the leaving row, the basic columns and the right sides of the table after k steps
     abbrev col : ℕ → ℕ
-    col k = entering F m n (table_after F m n t k)
+    col k = entering_column F m n (table_after F m n t k)
 
     abbrev row : ℕ → ℕ
-    row k = leaving F m n (table_after F m n t k) (col k)
+    row k = leaving_row F m n (table_after F m n t k) (col k)
 
     abbrev base : ℕ → ℕ → ℕ
     base k i = (table_after F m n t k).basis i
@@ -40,15 +41,15 @@ module _ {A : Type 0} (F : OrderedField A) (m n : ℕ) where
     leaves : (k : ℕ) → k < N → Leaves F m n (table_after F m n t k) (col k) (row k)
     leaves k l = leaving_is F m n p (table_after F m n t k) (col k) (holds k (omega arith)) (enters k l).below
 
-    moved : (k : ℕ) → base (suc k) (row k) ≡ col k
-    moved k = new_basis F m n (table_after F m n t k) (row k) (col k)
+    entering_becomes_basic : (k : ℕ) → base (suc k) (row k) ≡ col k
+    entering_becomes_basic k = new_basis F m n (table_after F m n t k) (row k) (col k)
 
-    unmoved : (k i : ℕ) → i ≢ row k → base (suc k) i ≡ base k i
-    unmoved k i d = old_basis F m n (table_after F m n t k) (row k) (col k) i d
+    other_rows_keep_basis : (k i : ℕ) → i ≢ row k → base (suc k) i ≡ base k i
+    other_rows_keep_basis k i d = old_basis F m n (table_after F m n t k) (row k) (col k) i d
 
     -- the entering column isn't basic
-    fresh : (k i : ℕ) → k < N → i < m → base k i ≢ col k
-    fresh k i l hi e = by_cases (holds k (omega arith)).own (cases_lt (base k i) n)
+    entering_is_not_basic : (k i : ℕ) → k < N → i < m → base k i ≢ col k
+    entering_is_not_basic k i l hi e = by_cases (holds k (omega arith)).own (cases_lt (base k i) n)
       where
         by_cases : ((i : ℕ) → i < m → (base k i < n) ⊎ (base k i ≡ n + i)) → (base k i < n) ⊎ (n ≤ base k i) → ⊥
         by_cases _ (inl q) = below-apart F ((table_after F m n t k).entry m (col k)) (enters k l).below
@@ -59,9 +60,9 @@ module _ {A : Type 0} (F : OrderedField A) (m n : ℕ) where
     gain : ℕ → A
     gain k = F.ring.mul (F.ring.neg ((table_after F m n t k).entry m (col k))) (F.order.inv ((table_after F m n t k).entry (row k) (col k)))
 
-    gained : (k : ℕ) → k < N → right (suc k) m ≡ F.ring.add (right k m) (F.ring.mul (right k (row k)) (gain k))
+    right_side_gains : (k : ℕ) → k < N → right (suc k) m ≡ F.ring.add (right k m) (F.ring.mul (right k (row k)) (gain k))
     unfolding gain
-    gained k l = other_row F m n (table_after F m n t k) (row k) (col k) m (n + m) (λ e. let r : row k < m = (leaves k l).row in omega arith)
+    right_side_gains k l = other_row F m n (table_after F m n t k) (row k) (col k) m (n + m) (λ e. let r : row k < m = (leaves k l).row in omega arith)
         ∙ ring F.ring (right k m ∷ right k (row k) ∷ (table_after F m n t k).entry m (col k) ∷ F.order.inv ((table_after F m n t k).entry (row k) (col k)) ∷ [])
         (plus (v 0) (minus (times (v 1) (times (v 2) (v 3))))) (plus (v 0) (times (v 1) (times (minus (v 2)) (v 3)))) refl
 
@@ -78,29 +79,29 @@ module _ {A : Type 0} (F : OrderedField A) (m n : ℕ) where
     gain-least k l = F.order.mul-least (right k (row k)) (gain k) ((holds k (omega arith)).rights (row k) (leaves k l).row) (above-least F (gain k) (gain-above k l))
 
     -- the cost row's right side never falls
-    rises : (k d : ℕ) → k + d ≤ N → IsAtLeastZero F (difference F.ring (right (k + d) m) (right k m))
-    rises k zero l = subst (λ (x : ℕ). IsAtLeastZero F (difference F.ring (right x m) (right k m))) here (subst (IsAtLeastZero F) (sym (F.ring.add-neg (right k m))) (null-least F))
+    right_side_rises : (k d : ℕ) → k + d ≤ N → IsAtLeastZero F (difference F.ring (right (k + d) m) (right k m))
+    right_side_rises k zero l = subst (λ (x : ℕ). IsAtLeastZero F (difference F.ring (right x m) (right k m))) here (subst (IsAtLeastZero F) (sym (F.ring.add-neg (right k m))) (null-least F))
       where
         here : k ≡ k + zero
         here = omega arith
-    rises k (suc d) l = subst (λ (x : ℕ). IsAtLeastZero F (difference F.ring (right x m) (right k m))) here
+    right_side_rises k (suc d) l = subst (λ (x : ℕ). IsAtLeastZero F (difference F.ring (right x m) (right k m))) here
         (subst (IsAtLeastZero F) (ring F.ring (right (k + d) m ∷ right k m ∷ F.ring.mul (right (k + d) (row (k + d))) (gain (k + d)) ∷ []) (plus (plus (v 0) (minus (v 1))) (v 2)) (plus (plus (v 0) (v 2)) (minus (v 1))) refl
-        ∙ ap (λ x. difference F.ring x (right k m)) (sym (gained (k + d) (omega arith))))
-        (F.order.add-least (difference F.ring (right (k + d) m) (right k m)) (F.ring.mul (right (k + d) (row (k + d))) (gain (k + d))) (rises k d (omega arith)) (gain-least (k + d) (omega arith))))
+        ∙ ap (λ x. difference F.ring x (right k m)) (sym (right_side_gains (k + d) (omega arith))))
+        (F.order.add-least (difference F.ring (right (k + d) m) (right k m)) (F.ring.mul (right (k + d) (row (k + d))) (gain (k + d))) (right_side_rises k d (omega arith)) (gain-least (k + d) (omega arith))))
       where
         here : suc (k + d) ≡ k + suc d
         here = omega arith
 
-    rises_to : (j k : ℕ) → j ≤ k → k ≤ N → IsAtLeastZero F (difference F.ring (right k m) (right j m))
-    rises_to j k q l = subst (λ (x : ℕ). IsAtLeastZero F (difference F.ring (right x m) (right j m))) here (rises j (k - j) (omega arith))
+    right_side_rises_to : (j k : ℕ) → j ≤ k → k ≤ N → IsAtLeastZero F (difference F.ring (right k m) (right j m))
+    right_side_rises_to j k q l = subst (λ (x : ℕ). IsAtLeastZero F (difference F.ring (right x m) (right j m))) here (right_side_rises j (k - j) (omega arith))
       where
         here : j + (k - j) ≡ k
         here = omega arith
 
     module _ (a b : ℕ) (first : a < b) (last : b ≤ N) (again : (i : ℕ) → i < m → base a i ≡ base b i) where
       same_cost : (k : ℕ) → a ≤ k → k ≤ b → right k m ≡ right a m
-      same_cost k f g = tied F m n (right k m) (right a m) (rises_to a k f (omega arith))
-          (subst (λ (x : A). IsAtLeastZero F (difference F.ring x (right k m))) (sym (same_right F m n p (table_after F m n t a) (table_after F m n t b) (holds a (omega arith)) (holds b last) again)) (rises_to k b g last))
+      same_cost k f g = equal_by_order F m n (right k m) (right a m) (right_side_rises_to a k f (omega arith))
+          (subst (λ (x : A). IsAtLeastZero F (difference F.ring x (right k m))) (sym (same_right F m n p (table_after F m n t a) (table_after F m n t b) (holds a (omega arith)) (holds b last) again)) (right_side_rises_to k b g last))
 
       -- the leaving row's right side is 0
       right_null : (k : ℕ) → a ≤ k → k < b → right k (row k) ≡ F.ring.null
@@ -108,7 +109,7 @@ module _ {A : Type 0} (F : OrderedField A) (m n : ℕ) where
         where
           none : F.ring.mul (right k (row k)) (gain k) ≡ F.ring.null
           none = ring F.ring (right k m ∷ F.ring.mul (right k (row k)) (gain k) ∷ []) (v 1) (plus (plus (v 0) (v 1)) (minus (v 0))) refl
-              ∙ ap (λ x. F.ring.add x (F.ring.neg (right k m))) (sym (gained k (omega arith)) ∙ same_cost (suc k) (omega arith) (omega arith) ∙ sym (same_cost k f (omega arith)))
+              ∙ ap (λ x. F.ring.add x (F.ring.neg (right k m))) (sym (right_side_gains k (omega arith)) ∙ same_cost (suc k) (omega arith) (omega arith) ∙ sym (same_cost k f (omega arith)))
               ∙ F.ring.add-neg (right k m)
 
           by_cases : (IsAtLeastZero F (F.ring.neg (right k (row k)))) ⊎ (IsAboveZero F (right k (row k))) → right k (row k) ≡ F.ring.null
@@ -151,6 +152,7 @@ module _ {A : Type 0} (F : OrderedField A) (m n : ℕ) where
       abbrev Moves : ℕ → ℕ → ℕ → Type 0
       Moves i from to = (k : ℕ) × (from ≤ k) × (k < to) × (row k ≡ i) × (base k i ≡ base from i)
 
+      -- row i keeps its column
       abbrev Keeps : ℕ → ℕ → ℕ → Type 0
       Keeps i from to = (k : ℕ) → from ≤ k → k ≤ to → base k i ≡ base from i
 
@@ -169,7 +171,7 @@ module _ {A : Type 0} (F : OrderedField A) (m n : ℕ) where
                   end : (k : ℕ) → from ≤ k → k ≤ from + suc d → (k ≡ from + suc d) ⊎ (k ≡ from + suc d → ⊥) → base k i ≡ base from i
                   end k f g (inr z) = s k f (omega arith)
                   end k f g (inl z) = let y : k ≡ suc (from + d) = omega arith in
-                      ap (λ x. base x i) y ∙ unmoved (from + d) i (λ e. q (sym e)) ∙ s (from + d) (omega arith) (omega arith)
+                      ap (λ x. base x i) y ∙ other_rows_keep_basis (from + d) i (λ e. q (sym e)) ∙ s (from + d) (omega arith) (omega arith)
 
       moves_between : (i from to : ℕ) → from ≤ to → (Moves i from to) ⊎ (Keeps i from to)
       moves_between i from to l = subst (λ (x : ℕ). (Moves i from x) ⊎ (Keeps i from x)) here (first_move i from (to - from))
@@ -234,8 +236,8 @@ module _ {A : Type 0} (F : OrderedField A) (m n : ℕ) where
 
           by_cases : (base (from + d) i ≡ x) ⊎ (base (from + d) i ≡ x → ⊥) → (i ≡ row (from + d)) ⊎ (i ≡ row (from + d) → ⊥) → (base (from + d) i ≡ x → (k : ℕ) × (from ≤ k) × (k < from + d) × (col k ≡ x)) → (k : ℕ) × (from ≤ k) × (k < from + suc d) × (col k ≡ x)
           by_cases (inl q) _ ih = let s = ih q in (s.0, s.1, omega (arith, s.2), s.3)
-          by_cases (inr q) (inl y) ih = (from + d, omega arith, omega arith, sym (moved (from + d)) ∙ ap (base (suc (from + d))) (sym y) ∙ ap (λ z. base z i) here ∙ e)
-          by_cases (inr q) (inr y) ih = absurd (q (sym (unmoved (from + d) i y) ∙ ap (λ z. base z i) here ∙ e))
+          by_cases (inr q) (inl y) ih = (from + d, omega arith, omega arith, sym (entering_becomes_basic (from + d)) ∙ ap (base (suc (from + d))) (sym y) ∙ ap (λ z. base z i) here ∙ e)
+          by_cases (inr q) (inr y) ih = absurd (q (sym (other_rows_keep_basis (from + d) i y) ∙ ap (λ z. base z i) here ∙ e))
 
       arrives_to : (i x from to : ℕ) → from ≤ to → base from i ≢ x → base to i ≡ x → (k : ℕ) × (from ≤ k) × (k < to) × (col k ≡ x)
       arrives_to i x from to l n e =
@@ -246,6 +248,7 @@ module _ {A : Type 0} (F : OrderedField A) (m n : ℕ) where
 
       -- ---- the contradiction: P is the step at which the greatest column leaves
       module _ (P : ℕ) (fP : a ≤ P) (gP : P < b) (most : (j : ℕ) → a ≤ j → j < b → base j (row j) ≤ base P (row P)) where
+        -- the greatest column that leaves, and its row
         abbrev top : ℕ
         top = base P (row P)
 
@@ -260,25 +263,26 @@ module _ {A : Type 0} (F : OrderedField A) (m n : ℕ) where
         entering_less = by_cases (goes_or_stays (row P) (suc P) rP (omega arith) (omega arith))
           where
             other : top ≢ col P
-            other = fresh P (row P) (omega arith) rP
+            other = entering_is_not_basic P (row P) (omega arith) rP
 
             by_cases : ((Goes (base (suc P) (row P))) × (right (suc P) (row P) ≡ F.ring.null)) ⊎ ((j : ℕ) → a ≤ j → j ≤ b → base j (row P) ≡ base (suc P) (row P)) → col P < top
-            by_cases (inl g) = let l : base (suc P) (row P) ≤ top = goes_least (base (suc P) (row P)) g.0 in let e : base (suc P) (row P) ≡ col P = moved P in between l e
+            by_cases (inl g) = let l : base (suc P) (row P) ≤ top = goes_least (base (suc P) (row P)) g.0 in let e : base (suc P) (row P) ≡ col P = entering_becomes_basic P in between l e
               where
                 between : base (suc P) (row P) ≤ top → base (suc P) (row P) ≡ col P → col P < top
                 between l e = omega (arith, subst (λ (y : ℕ). y ≤ top) e l, other)
-            by_cases (inr u) = absurd (other (u P fP (omega arith) ∙ moved P))
+            by_cases (inr u) = absurd (other (u P fP (omega arith) ∙ entering_becomes_basic P))
 
         -- the greatest column enters too
         top_enters : (k : ℕ) × (a ≤ k) × (k < b) × (col k ≡ top)
         top_enters = by_cases (cases_eq (base a (row P)) top)
           where
             by_cases : (base a (row P) ≡ top) ⊎ (base a (row P) ≡ top → ⊥) → (k : ℕ) × (a ≤ k) × (k < b) × (col k ≡ top)
-            by_cases (inl e) = let s = arrives_to (row P) top (suc P) b (omega arith) (λ q. fresh P (row P) (omega arith) rP (sym q ∙ moved P)) (sym (again (row P) rP) ∙ e) in
+            by_cases (inl e) = let s = arrives_to (row P) top (suc P) b (omega arith) (λ q. entering_is_not_basic P (row P) (omega arith) rP (sym q ∙ entering_becomes_basic P)) (sym (again (row P) rP) ∙ e) in
                 (s.0, omega (arith, s.1), s.2, s.3)
             by_cases (inr d) = let s = arrives_to (row P) top a P fP d refl in (s.0, s.1, omega (arith, s.2), s.3)
 
         module _ (Q : ℕ) (fQ : a ≤ Q) (gQ : Q < b) (eQ : col Q ≡ top) where
+          -- the costs of the table after k steps, and what the column that enters at P has in row i
           abbrev cost : ℕ → ℕ → A
           cost k j = (table_after F m n t k).entry m j
 
@@ -294,6 +298,7 @@ module _ {A : Type 0} (F : OrderedField A) (m n : ℕ) where
           lesser : (x : ℕ) → x < top → IsAtLeastZero F (cost Q x)
           lesser x l = (enters Q (omega arith)).first x (subst (λ (y : ℕ). x < y) (sym eQ) l)
 
+          -- what row i adds to the cost at Q of the column that enters at P
           abbrev term : ℕ → A
           term i = F.ring.mul (difference F.ring (cost Q (base P i)) (cost_of F m n (base P i))) (at_entering i)
 
@@ -345,7 +350,7 @@ module _ {A : Type 0} (F : OrderedField A) (m n : ℕ) where
                 where
                   split : (base P i ≡ top) ⊎ (base P i ≡ top → ⊥) → base P i ≤ top → ⊥
                   split (inl e) l =
-                      let same : i ≡ row P = distinct F m n p (table_after F m n t P) (holds P (omega arith)) i (row P) hi rP e in
+                      let same : i ≡ row P = basic_columns_differ F m n p (table_after F m n t P) (holds P (omega arith)) i (row P) hi rP e in
                       product_neg (cost Q top) (at_entering (row P)) (below-neg F (cost Q top) top_below) (above-least F (at_entering (row P)) (leaves P (omega arith)).above)
                       (subst (λ (k : ℕ). IsAboveZero F (F.ring.mul (cost Q (base P k)) (at_entering k))) same (subst (IsAboveZero F) (plain l) g))
                   split (inr d) l = less_top (omega arith) s.1 (subst (IsAboveZero F) (plain l) g) (cases_Bool (F.order.is_least (F.ring.neg (at_entering i))))

@@ -8,7 +8,7 @@ use Rattle.it_tableau.specs.Sums.{sum_to}
 use Rattle.it_tableau.specs.Tables.{Table, FeasibilityProblem, sign, start_row}
 use Rattle.it_tableau.specs.Invariants.{cost_of, HasInvariants}
 use Rattle.it_run.specs.Choice.{IsDone, IsStuck}
-use Rattle.it_run.specs.Readings.{weight, weights_from, weights, point_at, point_from, point, ring_combination, AreWeights, SumsUp, value_at_point, Separates}
+use Rattle.it_run.specs.Readings.{weight, weights_from_column, weights, point_value, point_from_row, point, ring_combination, AreWeights, SumsUp, value_at_point, Separates}
 use Rattle.it_tableau.proofs.Sums.{sum_same, sum_null, sum_times, sum_times_left, sum_swap, sum_one, sum_least, all_null, eqb_comm}
 use Rattle.it_tableau.proofs.StartLemmas.{row_column, row_right}
 
@@ -101,15 +101,15 @@ module _ {A : Type 0} (F : OrderedField A) (m n : ℕ) where
           ∙ ap (λ b. cond b (F.ring.mul (x i) (p.column (t.basis i) k)) F.ring.null) (sym (le-ltb (t.basis i) n h))
 
   -- the list of the weights
-  listed : (t : Table A) (f : ℕ → A) (j left : ℕ) → F.ring.add (ring_combination F (weights_from F m n t j left) f) (sum_to F.ring j (λ i. F.ring.mul (weight F m n t i) (f i))) ≡ sum_to F.ring (j + left) (λ i. F.ring.mul (weight F m n t i) (f i))
-  listed t f j zero = F.ring.null-add (sum_to F.ring j g) ∙ ap (λ i. sum_to F.ring i g) here
+  combination_of_weights : (t : Table A) (f : ℕ → A) (j left : ℕ) → F.ring.add (ring_combination F (weights_from_column F m n t j left) f) (sum_to F.ring j (λ i. F.ring.mul (weight F m n t i) (f i))) ≡ sum_to F.ring (j + left) (λ i. F.ring.mul (weight F m n t i) (f i))
+  combination_of_weights t f j zero = F.ring.null-add (sum_to F.ring j g) ∙ ap (λ i. sum_to F.ring i g) here
     where
       g : ℕ → A
       g i = F.ring.mul (weight F m n t i) (f i)
 
       here : j ≡ j + zero
       here = omega arith
-  listed t f j (suc left) = by_test (F.order.is_least (weight F m n t j)) (F.order.is_least (F.ring.neg (weight F m n t j))) refl refl (listed t f (suc j) left) ∙ ap (λ i. sum_to F.ring i g) here
+  combination_of_weights t f j (suc left) = by_test (F.order.is_least (weight F m n t j)) (F.order.is_least (F.ring.neg (weight F m n t j))) refl refl (combination_of_weights t f (suc j) left) ∙ ap (λ i. sum_to F.ring i g) here
     where
       g : ℕ → A
       g i = F.ring.mul (weight F m n t i) (f i)
@@ -118,7 +118,7 @@ module _ {A : Type 0} (F : OrderedField A) (m n : ℕ) where
       here = omega arith
 
       rest : A
-      rest = ring_combination F (weights_from F m n t (suc j) left) f
+      rest = ring_combination F (weights_from_column F m n t (suc j) left) f
 
       dropped : weight F m n t j ≡ F.ring.null → F.ring.add rest (F.ring.add (g j) (sum_to F.ring j g)) ≡ sum_to F.ring (suc j + left) g → F.ring.add rest (sum_to F.ring j g) ≡ sum_to F.ring (suc j + left) g
       dropped e ih = sym (ap (F.ring.add rest) (ap (λ x. F.ring.add x (sum_to F.ring j g)) (ap (λ x. F.ring.mul x (f j)) e ∙ F.ring.mul_comm F.ring.null (f j) ∙ mul-null F.ring (f j)) ∙ F.ring.null-add (sum_to F.ring j g))) ∙ ih
@@ -127,7 +127,7 @@ module _ {A : Type 0} (F : OrderedField A) (m n : ℕ) where
       moved ih = ring F.ring (rest ∷ g j ∷ sum_to F.ring j g ∷ []) (plus (plus (v 1) (v 0)) (v 2)) (plus (v 0) (plus (v 1) (v 2))) refl ∙ ih
 
       by_test : (b d : Bool) → F.order.is_least (weight F m n t j) ≡ b → F.order.is_least (F.ring.neg (weight F m n t j)) ≡ d → F.ring.add rest (F.ring.add (g j) (sum_to F.ring j g)) ≡ sum_to F.ring (suc j + left) g
-          → F.ring.add (ring_combination F (cond (b && d) (weights_from F m n t (suc j) left) ((j, weight F m n t j) ∷ weights_from F m n t (suc j) left)) f) (sum_to F.ring j g) ≡ sum_to F.ring (suc j + left) g
+          → F.ring.add (ring_combination F (cond (b && d) (weights_from_column F m n t (suc j) left) ((j, weight F m n t j) ∷ weights_from_column F m n t (suc j) left)) f) (sum_to F.ring j g) ≡ sum_to F.ring (suc j + left) g
       by_test true true e d ih = dropped (F.order.strict (weight F m n t j) e d) ih
       by_test true false e d ih = moved ih
       by_test false b e d ih = moved ih
@@ -136,7 +136,7 @@ module _ {A : Type 0} (F : OrderedField A) (m n : ℕ) where
   pub weights_sum : (p : FeasibilityProblem A) (t : Table A) → HasInvariants F m n p t → IsDone F m n t → (k : ℕ) → k < m → ring_combination F (weights F m n t) (λ j. p.column j k) ≡ p.target k
   weights_sum p t h d k hk =
       ring F.ring (ring_combination F (weights F m n t) (λ j. p.column j k) ∷ []) (v 0) (plus (v 0) nil) refl
-      ∙ listed t (λ j. p.column j k) 0 n ∙ ap (λ i. sum_to F.ring i (λ j. F.ring.mul (weight F m n t j) (p.column j k))) here ∙ by_columns p t k ∙ sym (target_is p t h d k hk)
+      ∙ combination_of_weights t (λ j. p.column j k) 0 n ∙ ap (λ i. sum_to F.ring i (λ j. F.ring.mul (weight F m n t j) (p.column j k))) here ∙ by_columns p t k ∙ sym (target_is p t h d k hk)
     where
       here : 0 + n ≡ n
       here = omega arith
@@ -148,39 +148,39 @@ module _ {A : Type 0} (F : OrderedField A) (m n : ℕ) where
       for_each i l true = h.rights i l
       for_each i l false = null-least F
 
-  later : (from to : ℕ) (ws : List (ℕ × A)) → from ≤ to → AreWeights F n to ws → AreWeights F n from ws
-  later from to [] h a = tt
-  later from to (w ∷ ws) h a = (omega (arith, a.0), a.1, a.2, a.3)
+  weights_from_less : (from to : ℕ) (ws : List (ℕ × A)) → from ≤ to → AreWeights F n to ws → AreWeights F n from ws
+  weights_from_less from to [] h a = tt
+  weights_from_less from to (w ∷ ws) h a = (omega (arith, a.0), a.1, a.2, a.3)
 
   pub weights_are : (p : FeasibilityProblem A) (t : Table A) → HasInvariants F m n p t → AreWeights F n 0 (weights F m n t)
   weights_are p t h = all 0 n (omega arith)
     where
-      all : (j left : ℕ) → j + left ≡ n → AreWeights F n j (weights_from F m n t j left)
+      all : (j left : ℕ) → j + left ≡ n → AreWeights F n j (weights_from_column F m n t j left)
       all j zero e = tt
       all j (suc left) e = by_test (F.order.is_least (weight F m n t j)) (F.order.is_least (F.ring.neg (weight F m n t j))) refl refl (all (suc j) left (omega arith))
         where
-          by_test : (b d : Bool) → F.order.is_least (weight F m n t j) ≡ b → F.order.is_least (F.ring.neg (weight F m n t j)) ≡ d → AreWeights F n (suc j) (weights_from F m n t (suc j) left)
-              → AreWeights F n j (cond (b && d) (weights_from F m n t (suc j) left) ((j, weight F m n t j) ∷ weights_from F m n t (suc j) left))
-          by_test true true f g ih = later j (suc j) (weights_from F m n t (suc j) left) (omega arith) ih
+          by_test : (b d : Bool) → F.order.is_least (weight F m n t j) ≡ b → F.order.is_least (F.ring.neg (weight F m n t j)) ≡ d → AreWeights F n (suc j) (weights_from_column F m n t (suc j) left)
+              → AreWeights F n j (cond (b && d) (weights_from_column F m n t (suc j) left) ((j, weight F m n t j) ∷ weights_from_column F m n t (suc j) left))
+          by_test true true f g ih = weights_from_less j (suc j) (weights_from_column F m n t (suc j) left) (omega arith) ih
           by_test true false f g ih = (omega arith, omega arith, g, ih)
           by_test false d f g ih = absurd (not_both F (weight F m n t j) f (weight_least p t h j))
 
   -- the list of the point's values
-  point_length : (p : FeasibilityProblem A) (t : Table A) (k left : ℕ) → length (point_from F m n p t k left) ≡ left
+  point_length : (p : FeasibilityProblem A) (t : Table A) (k left : ℕ) → length (point_from_row F m n p t k left) ≡ left
   point_length p t k zero = refl
   point_length p t k (suc left) = let e = point_length p t (suc k) left in omega (arith, e)
 
-  point_value : (p : FeasibilityProblem A) (t : Table A) (k left i : ℕ) → i < left → get_or (point_from F m n p t k left) i F.ring.null ≡ point_at F m n p t (k + i)
-  point_value p t k zero i l = absurd (omega arith)
-  point_value p t k (suc left) zero l = let e : k ≡ k + 0 = omega arith in ap (point_at F m n p t) e
-  point_value p t k (suc left) (suc i) l = let e : suc k + i ≡ k + suc i = omega arith in point_value p t (suc k) left i (omega arith) ∙ ap (point_at F m n p t) e
+  point_entry_is : (p : FeasibilityProblem A) (t : Table A) (k left i : ℕ) → i < left → get_or (point_from_row F m n p t k left) i F.ring.null ≡ point_value F m n p t (k + i)
+  point_entry_is p t k zero i l = absurd (omega arith)
+  point_entry_is p t k (suc left) zero l = let e : k ≡ k + 0 = omega arith in ap (point_value F m n p t) e
+  point_entry_is p t k (suc left) (suc i) l = let e : suc k + i ≡ k + suc i = omega arith in point_entry_is p t (suc k) left i (omega arith) ∙ ap (point_value F m n p t) e
 
   -- the value of a row that is f at each coordinate is its cost
-  valued : (p : FeasibilityProblem A) (t : Table A) (f : ℕ → A) (j : ℕ) → HasInvariants F m n p t → ((k : ℕ) → k < m → start_row F m n p k j ≡ F.ring.mul (sign F p k) (f k))
+  point_value_of_column : (p : FeasibilityProblem A) (t : Table A) (f : ℕ → A) (j : ℕ) → HasInvariants F m n p t → ((k : ℕ) → k < m → start_row F m n p k j ≡ F.ring.mul (sign F p k) (f k))
       → value_at_point F m n (point F m n p t) f ≡ t.entry m j
-  valued p t f j h e =
+  point_value_of_column p t f j h e =
       sum_same F.ring m (λ k. F.ring.mul (f k) (get_or (point F m n p t) k F.ring.null)) (λ k. F.ring.mul (t.entry m (n + k)) (start_row F m n p k j))
-      (λ k l. ap (F.ring.mul (f k)) (point_value p t 0 m k l ∙ ap (point_at F m n p t) (from_zero k))
+      (λ k l. ap (F.ring.mul (f k)) (point_entry_is p t 0 m k l ∙ ap (point_value F m n p t) (from_zero k))
       ∙ ring F.ring (f k ∷ sign F p k ∷ t.entry m (n + k) ∷ []) (times (v 0) (times (v 1) (v 2))) (times (v 2) (times (v 1) (v 0))) refl ∙ ap (F.ring.mul (t.entry m (n + k))) (sym (e k l)))
       ∙ sym (h.combines m j (omega arith))
     where
@@ -195,7 +195,7 @@ module _ {A : Type 0} (F : OrderedField A) (m n : ℕ) where
   pub point_right : (p : FeasibilityProblem A) (t : Table A) → HasInvariants F m n p t → ¬ (IsDone F m n t) → IsStuck F m n t → Separates F m n p (point F m n p t)
   point_right p t h d s = record {
     complete = point_length p t 0 m;
-    columns = λ j l. subst (IsAtLeastZero F) (sym (valued p t (p.column j) j h (λ k _. row_column F m n p k j l))) (s j l);
-    below = subst (IsBelowZero F) (sym (valued p t p.target (n + m) h (λ k _. row_right F m n p k)))
+    columns = λ j l. subst (IsAtLeastZero F) (sym (point_value_of_column p t (p.column j) j h (λ k _. row_column F m n p k j l))) (s j l);
+    below = subst (IsBelowZero F) (sym (point_value_of_column p t p.target (n + m) h (λ k _. row_right F m n p k)))
         (below-from F (t.entry m (n + m)) (right_at_most p t h) d);
   }

@@ -1,33 +1,22 @@
 -- A worked run: on the coordinates h(X), h(Y), h(X,Y) with the columns H(X|Y), H(Y|X), I(X;Y) and the target h(X) - h(X,Y),
 -- columns 2 and 0 enter by rows 1 and 0, and the run ends by the point (0, 1, 1).
-use Rattle.std.proofs.Common.{◌≡◌, ℕ, pos, negsuc, List, [], ◌∷◌, refl, map}
+use Rattle.std.proofs.Common.{◌≡◌, ℕ, pos, negsuc, [], ◌∷◌, refl, map}
 use Rattle.it_number.specs.Gcd.{gcd, gcd_within}
 use Rattle.it_rational.specs.Rational.{Rational, quotient}
 use Rattle.it_rational.proofs.Field.{field_ℚ}
-use Rattle.it_space.specs.Rows.{Terms}
 use Rattle.it_tableau.specs.Tables.{Table}
-use Rattle.it_tableau.specs.Problems.{feasibility_problem, start_of}
-use Rattle.it_run.specs.Choice.{entering, leaving, next}
+use Rattle.it_tableau.specs.Problems.{feasibility_problem}
+use Rattle.it_tableau.proofs.Example.{coordinates, elementals, first, target}
+use Rattle.it_run.specs.Choice.{entering_column, leaving_row, next}
 use Rattle.it_run.specs.Readings.{point}
-
-abbrev coordinates : List ℕ
-coordinates = 1 ∷ 2 ∷ 3 ∷ []
 
 -- the column that enters and the row that leaves
 abbrev choice : Table Rational → ℕ × ℕ
-choice t = (entering field_ℚ 3 3 t, leaving field_ℚ 3 3 t (entering field_ℚ 3 3 t))
+choice t = (entering_column field_ℚ 3 3 t, leaving_row field_ℚ 3 3 t (entering_column field_ℚ 3 3 t))
 
+-- the table after the step
 abbrev after : Table Rational → Table Rational
 after = next field_ℚ 3 3
-
-abbrev elementals : List Terms
-elementals = ((2, negsuc 0) ∷ (3, pos 1) ∷ []) ∷ ((1, negsuc 0) ∷ (3, pos 1) ∷ []) ∷ ((1, pos 1) ∷ (2, pos 1) ∷ (3, negsuc 0) ∷ []) ∷ []
-
-abbrev target : Terms
-target = (1, pos 1) ∷ (3, negsuc 0) ∷ []
-
-abbrev first : Table Rational
-first = start_of coordinates elementals target
 
 first_choice : choice first ≡ (2, 1)
 unfolding quotient gcd gcd_within
@@ -37,7 +26,7 @@ second_choice : choice (after first) ≡ (0, 0)
 unfolding quotient gcd gcd_within
 second_choice = refl
 
-last_column : entering field_ℚ 3 3 (after (after first)) ≡ 3
+last_column : entering_column field_ℚ 3 3 (after (after first)) ≡ 3
 unfolding quotient gcd gcd_within
 last_column = refl
 

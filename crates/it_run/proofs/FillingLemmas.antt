@@ -1,6 +1,5 @@
 -- The lists of weights and of a point's values as they are filled, one after another.
-use Rattle.std.proofs.Common.{◌≡◌, ℕ, suc, ◌+◌, ◌-◌, ◌<◌, ◌++◌, pos, negsuc, ◌<ℤ◌, true, false, cond, ◌&&◌, Bool, List, [], ◌∷◌, refl, sym, ap, ap₂, ◌∙◌, arith}
-use Rattle.std.proofs.lemmas.Int.{ints}
+use Rattle.std.proofs.Common.{◌≡◌, ℕ, suc, ◌+◌, ◌-◌, ◌<◌, ◌++◌, pos, true, false, cond, ◌&&◌, Bool, List, [], ◌∷◌, refl, sym, ap, ap₂, ◌∙◌, arith}
 use Rattle.std.proofs.lemmas.List.{append_assoc}
 use Rattle.it_rational.specs.Rational.{Rational, whole, minus, times, is_at_least_zero}
 use Rattle.it_rational.proofs.RationalLaws.{ring_ℚ}
@@ -9,19 +8,21 @@ use Rattle.it_rational.proofs.Ordered.{null-least}
 use Rattle.it_number.proofs.Ring.{neg-null}
 use Rattle.it_tableau.specs.Tables.{Table, FeasibilityProblem}
 use Rattle.it_tableau.specs.TableauViews.{TableauView, height, table}
-use Rattle.it_run.specs.Readings.{weight, weights_from, weights, point_at, point_from, point}
+use Rattle.it_run.specs.Readings.{weight, weights_from_column, weights, point_value, point_from_row, point}
 use Rattle.it_run.specs.Answers.{sign_number, HasSigns}
 
 module _ (m n : ℕ) (t : Table Rational) where
+  -- the weight of a column
   abbrev W : ℕ → Rational
   W j = weight field_ℚ m n t j
 
+  -- the weights that are still to come
   abbrev From : ℕ → ℕ → List (ℕ × Rational)
-  From = weights_from field_ℚ m n t
+  From = weights_from_column field_ℚ m n t
 
   -- the list so far with what is still to come is the list of all
-  abbrev pub SoFar : List (ℕ × Rational) → ℕ → Type 0
-  SoFar out j = out ++ weights_from field_ℚ m n t j (n - j) ≡ weights field_ℚ m n t
+  abbrev pub AreWeightsSoFar : List (ℕ × Rational) → ℕ → Type 0
+  AreWeightsSoFar out j = out ++ weights_from_column field_ℚ m n t j (n - j) ≡ weights field_ℚ m n t
 
   split_off : (j : ℕ) → j < n → From j (n - j) ≡ cond (is_at_least_zero (W j) && is_at_least_zero (minus (W j))) (From (j + 1) (n - (j + 1))) ((j, W j) ∷ From (j + 1) (n - (j + 1)))
   split_off j l = ap (From j) here ∙ ap (λ (k : ℕ). cond (is_at_least_zero (W j) && is_at_least_zero (minus (W j))) (From k (n - (j + 1))) ((j, W j) ∷ From k (n - (j + 1)))) there
@@ -32,12 +33,12 @@ module _ (m n : ℕ) (t : Table Rational) where
       there : suc j ≡ j + 1
       there = omega arith
 
-  pub so_far_null : (out : List (ℕ × Rational)) (j : ℕ) → j < n → W j ≡ whole (pos 0) → SoFar out j → SoFar out (j + 1)
-  so_far_null out j l e h = ap (λ xs. out ++ xs) (sym (split_off j l ∙ ap₂ (λ b d. cond (b && d) (From (j + 1) (n - (j + 1))) ((j, W j) ∷ From (j + 1) (n - (j + 1))))
+  pub weights_skip_null : (out : List (ℕ × Rational)) (j : ℕ) → j < n → W j ≡ whole (pos 0) → AreWeightsSoFar out j → AreWeightsSoFar out (j + 1)
+  weights_skip_null out j l e h = ap (λ xs. out ++ xs) (sym (split_off j l ∙ ap₂ (λ b d. cond (b && d) (From (j + 1) (n - (j + 1))) ((j, W j) ∷ From (j + 1) (n - (j + 1))))
       (ap is_at_least_zero e ∙ null-least field_ℚ) (ap (λ x. is_at_least_zero (minus x)) e ∙ ap is_at_least_zero (neg-null ring_ℚ) ∙ null-least field_ℚ))) ∙ h
 
-  pub so_far_more : (out : List (ℕ × Rational)) (j : ℕ) (w : Rational) → j < n → w ≡ W j → ¬ (w ≡ whole (pos 0)) → SoFar out j → SoFar (out ++ ((j, w) ∷ [])) (j + 1)
-  so_far_more out j w l e d h =
+  pub weights_with_next : (out : List (ℕ × Rational)) (j : ℕ) (w : Rational) → j < n → w ≡ W j → ¬ (w ≡ whole (pos 0)) → AreWeightsSoFar out j → AreWeightsSoFar (out ++ ((j, w) ∷ [])) (j + 1)
+  weights_with_next out j w l e d h =
       append_assoc out ((j, w) ∷ []) (From (j + 1) (n - (j + 1)))
       ∙ ap (λ x. out ++ ((j, x) ∷ From (j + 1) (n - (j + 1)))) e
       ∙ ap (λ xs. out ++ xs) (sym (split_off j l ∙ ap (λ b. cond b (From (j + 1) (n - (j + 1))) ((j, W j) ∷ From (j + 1) (n - (j + 1)))) (kept (is_at_least_zero (W j)) (is_at_least_zero (minus (W j))) refl refl)))
@@ -51,30 +52,21 @@ module _ (m n : ℕ) (t : Table Rational) where
 -- the values so far with those that are still to come are those of the point
 abbrev pub ValuesSoFar : TableauView → List Rational → ℕ → Type 0
 ValuesSoFar t out k = (p : FeasibilityProblem Rational) → HasSigns t p
-    → out ++ point_from field_ℚ (height t) t.generators p (table t) k (height t - k) ≡ point field_ℚ (height t) t.generators p (table t)
+    → out ++ point_from_row field_ℚ (height t) t.generators p (table t) k (height t - k) ≡ point field_ℚ (height t) t.generators p (table t)
 
 pub values_more : (t : TableauView) (out : List Rational) (k : ℕ) (x : Rational) → k < height t → x ≡ times (sign_number t k) ((table t).entry (height t) (t.generators + k))
     → ValuesSoFar t out k → ValuesSoFar t (out ++ x ∷ []) (k + 1)
 values_more t out k x l e h p s =
     append_assoc out (x ∷ []) (rest (k + 1) (height t - (k + 1)))
     ∙ ap (λ y. out ++ y ∷ rest (k + 1) (height t - (k + 1))) (e ∙ ap (λ z. times z ((table t).entry (height t) (t.generators + k))) (s k l))
-    ∙ ap (λ xs. out ++ xs) (sym (ap (rest k) here ∙ ap (λ i. point_at field_ℚ (height t) t.generators p (table t) k ∷ rest i (height t - (k + 1))) there))
+    ∙ ap (λ xs. out ++ xs) (sym (ap (rest k) here ∙ ap (λ i. point_value field_ℚ (height t) t.generators p (table t) k ∷ rest i (height t - (k + 1))) there))
     ∙ h p s
   where
     rest : ℕ → ℕ → List Rational
-    rest = point_from field_ℚ (height t) t.generators p (table t)
+    rest = point_from_row field_ℚ (height t) t.generators p (table t)
 
     here : height t - k ≡ suc (height t - (k + 1))
     here = omega arith
 
     there : suc k ≡ k + 1
     there = omega arith
-
--- what a row's sign says
-pub sign_below : (b : Bool) → cond b (negsuc 0) (pos 1) <ℤ pos 0 → true ≡ b
-sign_below true h = refl
-sign_below false h = absurd (omega (arith, ints))
-
-pub sign_above : (b : Bool) → ¬ (cond b (negsuc 0) (pos 1) <ℤ pos 0) → false ≡ b
-sign_above true h = absurd (h (omega (arith, ints)))
-sign_above false h = refl

@@ -1,10 +1,11 @@
 -- The end of a run by recursion on its budget is its end at the first number of steps.
 use Rattle.std.proofs.Common.{◌≡◌, ◌≢◌, ◌⊎◌, inl, inr, ℕ, zero, suc, ◌+◌, ◌-◌, ◌<◌, ◌≤◌, Option, Some, None, refl, sym, ap, subst, ◌∙◌, arith}
 use Rattle.std.proofs.lemmas.Bool.{cases_eq, cases_lt}
-use Rattle.it_run.specs.Runs.{RunEndView, EndsAs, EndsBy, EndsUnbound, IsWithinBudget, after, clip_end, clip_number}
+use Rattle.it_run.specs.Runs.{RunEndView, EndsAs, EndsBy, EndsUnbound, IsWithinBudget, state_after_steps, clip_end, clip_number}
 use Rattle.it_run.specs.Runs.RunEndView.{Weights, Point, Width}
-use Rattle.it_run.specs.FirstEnds.{EndsAt, EndsFirst, GoesOn, IsBudget}
+use Rattle.it_run.specs.FirstEnds.{EndsAt, EndsFirst, GoesOnAt, IsBudget}
 
+-- the number, 0 where there is none
 abbrev number_in : Option ℕ → ℕ
 number_in None = 0
 number_in (Some k) = k
@@ -20,20 +21,25 @@ none_some k e = subst IsSome (sym e) tt
     IsSome (Some k) = Unit {0}
 
 module _ {S W P : Type 0} (IsDone IsStuck Fits : S → Type 0) (next : S → S) (weights : S → W) (point : S → P) where
+  -- how a run with so many steps left ends
   abbrev Run : ℕ → ℕ → S → RunEndView W P → Type 0
   Run = EndsAs IsDone IsStuck Fits next weights point
 
+  -- its end at the first number of steps
   abbrev First : Option ℕ → S → RunEndView W P → Type 0
   First = EndsFirst IsDone IsStuck Fits next weights point
 
+  -- it goes on after so many steps
   abbrev On : Option ℕ → ℕ → S → Type 0
-  On = GoesOn IsDone IsStuck Fits next weights point
+  On = GoesOnAt IsDone IsStuck Fits next weights point
 
+  -- it ends after so many steps
   abbrev At : Option ℕ → ℕ → S → RunEndView W P → Type 0
   At = EndsAt IsDone IsStuck Fits next weights point
 
+  -- the state after so many steps
   abbrev state : S → ℕ → S
-  state = after next
+  state = state_after_steps next
 
   one_longer : (o : Option ℕ) (s : S) (k : ℕ) → ((j : ℕ) → j < k → On o j (state s j)) → On o k (state s k) → (j : ℕ) → j < suc k → On o j (state s j)
   one_longer o s k h x j l = by_cases (cases_eq j k)
@@ -78,13 +84,13 @@ module _ {S W P : Type 0} (IsDone IsStuck Fits : S → Type 0) (next : S → S) 
       by_cases (inr f) ih = ih f.0 f.1
 
   -- back from step k to the first
-  back : (o : Option ℕ) (x k : ℕ) (s : S) (e : RunEndView W P) → ((j : ℕ) → j < k → On o j (state s j)) → Run x k (state s k) e → Run (k + x) 0 s e
-  back o x zero s e h r = subst (λ (y : ℕ). Run y 0 s e) here r
+  run_from_first_step : (o : Option ℕ) (x k : ℕ) (s : S) (e : RunEndView W P) → ((j : ℕ) → j < k → On o j (state s j)) → Run x k (state s k) e → Run (k + x) 0 s e
+  run_from_first_step o x zero s e h r = subst (λ (y : ℕ). Run y 0 s e) here r
     where
       here : x ≡ 0 + x
       here = omega arith
-  back o x (suc k) s e h r = subst (λ (y : ℕ). Run y 0 s e) here
-      (back o (suc x) k s e (λ j l. h j (omega arith)) (let g = h k (omega arith) in inr (inr (g.0, g.1, inr (g.3, r)))))
+  run_from_first_step o x (suc k) s e h r = subst (λ (y : ℕ). Run y 0 s e) here
+      (run_from_first_step o (suc x) k s e (λ j l. h j (omega arith)) (let g = h k (omega arith) in inr (inr (g.0, g.1, inr (g.3, r)))))
     where
       here : k + suc x ≡ suc k + x
       here = omega arith
@@ -93,16 +99,16 @@ module _ {S W P : Type 0} (IsDone IsStuck Fits : S → Type 0) (next : S → S) 
   free_first s e f = by_cases f.here
     where
       by_cases : At None f.steps (state s f.steps) e → EndsUnbound IsDone IsStuck Fits next weights point s e
-      by_cases (inl r) = record { budget = f.steps + 0; end = Weights (weights (state s f.steps)); runs = back None 0 f.steps s (Weights (weights (state s f.steps))) f.before (inl (r.0, refl)); within = tt; is_clipped = r.1 }
-      by_cases (inr (inl r)) = record { budget = f.steps + 0; end = Point (point (state s f.steps)); runs = back None 0 f.steps s (Point (point (state s f.steps))) f.before (inr (inl (r.0, r.1, refl))); within = tt; is_clipped = r.2 }
+      by_cases (inl r) = record { budget = f.steps + 0; end = Weights (weights (state s f.steps)); runs = run_from_first_step None 0 f.steps s (Weights (weights (state s f.steps))) f.before (inl (r.0, refl)); within = tt; is_clipped = r.1 }
+      by_cases (inr (inl r)) = record { budget = f.steps + 0; end = Point (point (state s f.steps)); runs = run_from_first_step None 0 f.steps s (Point (point (state s f.steps))) f.before (inr (inl (r.0, r.1, refl))); within = tt; is_clipped = r.2 }
       by_cases (inr (inr (inl r))) = absurd (none_some f.steps r.2)
-      by_cases (inr (inr (inr r))) = record { budget = f.steps + 1; end = Width (suc f.steps); runs = back None 1 f.steps s (Width (suc f.steps)) f.before (inr (inr (r.0, r.1, inl (r.3, refl)))); within = tt; is_clipped = r.4 }
+      by_cases (inr (inr (inr r))) = record { budget = f.steps + 1; end = Width (suc f.steps); runs = run_from_first_step None 1 f.steps s (Width (suc f.steps)) f.before (inr (inr (r.0, r.1, inl (r.3, refl)))); within = tt; is_clipped = r.4 }
 
   bound_first : (b : ℕ) (s : S) (e : RunEndView W P) → b ≤ 4294967295 → First (Some b) s e → Run b 0 s e
   bound_first b s e u f = by_cases (cases_lt b f.steps) (b - f.steps) refl f.here
     where
       all : (x : ℕ) → f.steps ≤ b → b - f.steps ≡ x → Run x f.steps (state s f.steps) e → Run b 0 s e
-      all x l q r = let y : f.steps + x ≡ b = omega arith in subst (λ (z : ℕ). Run z 0 s e) y (back (Some b) x f.steps s e f.before r)
+      all x l q r = let y : f.steps + x ≡ b = omega arith in subst (λ (z : ℕ). Run z 0 s e) y (run_from_first_step (Some b) x f.steps s e f.before r)
 
       by_cases : (b < f.steps) ⊎ (f.steps ≤ b) → (x : ℕ) → b - f.steps ≡ x → At (Some b) f.steps (state s f.steps) e → Run b 0 s e
       by_cases (inl l) x q r = absurd ((f.before b l).2 refl)

@@ -1,12 +1,12 @@
--- more numbers than there are below a bound repeat; lists of digits as numbers
+-- More numbers than there are below a bound repeat; lists of digits as numbers
 use Rattle.std.proofs.Common.{◌≡◌, ◌≢◌, ℕ, zero, suc, ◌+◌, ◌-◌, ◌*◌, ◌^◌, ◌<◌, ◌≤◌, Bool, cond, ltb, sym, ap, subst, ◌∙◌, ◌⊎◌, inl, inr, arith}
 use Rattle.std.proofs.lemmas.Bool.{cases_eq, cases_lt, lt-ltb, le-ltb}
 use native.Mathlib.Nat.{eq-or-lt_of_le, le_of_suc-le-suc, pow-zero, pow-succ'}
 
 -- a number below a bound at which f is v, or none
-find : (f : ℕ → ℕ) (v N : ℕ) → ((k : ℕ) × (k < N) × (f k ≡ v)) ⊎ ((k : ℕ) → k < N → f k ≢ v)
-find f v zero = inr (λ k l. absurd (omega arith))
-find f v (suc N) = by_cases (cases_eq (f N) v) (find f v N)
+value_is_taken : (f : ℕ → ℕ) (v N : ℕ) → ((k : ℕ) × (k < N) × (f k ≡ v)) ⊎ ((k : ℕ) → k < N → f k ≢ v)
+value_is_taken f v zero = inr (λ k l. absurd (omega arith))
+value_is_taken f v (suc N) = by_cases (cases_eq (f N) v) (value_is_taken f v N)
   where
     by_cases : (f N ≡ v) ⊎ (f N ≡ v → ⊥) → ((k : ℕ) × (k < N) × (f k ≡ v)) ⊎ ((k : ℕ) → k < N → f k ≢ v) → ((k : ℕ) × (k < suc N) × (f k ≡ v)) ⊎ ((k : ℕ) → k < suc N → f k ≢ v)
     by_cases (inl e) _ = inl (N, omega arith, e)
@@ -17,6 +17,7 @@ find f v (suc N) = by_cases (cases_eq (f N) v) (find f v N)
         split k (inl e) = λ q. d (ap f (sym e) ∙ q)
         split k (inr l) = s k l
 
+-- x with the numbers above v moved down by one
 abbrev closed_up : ℕ → ℕ → ℕ
 closed_up v x = cond (ltb x v) x (x - 1)
 
@@ -36,9 +37,9 @@ closed_same v x y d e q = by_cases (cases_lt x v) (cases_lt y v)
     by_cases (inr l) (inl k) = let z : x - 1 ≡ y = ap (λ b. cond b x (x - 1)) (sym (le-ltb x v l)) ∙ q ∙ ap (λ b. cond b y (y - 1)) (lt-ltb y v k) in absurd (omega arith)
     by_cases (inr l) (inr k) = let z : x - 1 ≡ y - 1 = ap (λ b. cond b x (x - 1)) (sym (le-ltb x v l)) ∙ q ∙ ap (λ b. cond b y (y - 1)) (le-ltb y v k) in omega arith
 
-pub pigeon : (N : ℕ) (f : ℕ → ℕ) → ((k : ℕ) → k ≤ N → f k < N) → (a b : ℕ) × (a < b) × (b ≤ N) × (f a ≡ f b)
-pigeon zero f h = absurd (let l : f 0 < 0 = h 0 (omega arith) in omega arith)
-pigeon (suc N) f h = by_cases (find f (f (suc N)) (suc N)) (λ g. pigeon N (λ k. closed_up (f (suc N)) (f k)) g)
+pub pigeonhole : (N : ℕ) (f : ℕ → ℕ) → ((k : ℕ) → k ≤ N → f k < N) → (a b : ℕ) × (a < b) × (b ≤ N) × (f a ≡ f b)
+pigeonhole zero f h = absurd (let l : f 0 < 0 = h 0 (omega arith) in omega arith)
+pigeonhole (suc N) f h = by_cases (value_is_taken f (f (suc N)) (suc N)) (λ g. pigeonhole N (λ k. closed_up (f (suc N)) (f k)) g)
   where
     v : ℕ
     v = f (suc N)

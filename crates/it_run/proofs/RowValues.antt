@@ -13,11 +13,11 @@ use Rattle.it_tableau.specs.Problems.{feasibility_problem}
 use Rattle.it_tableau.specs.Sums.{sum_to}
 use Rattle.it_tableau.proofs.Sums.{sum_same, sum_add, sum_null, sum_one}
 use Rattle.it_run.specs.Readings.{ring_combination, SumsUp, Separates}
-use Rattle.it_run.specs.RowValues.{value_at}
+use Rattle.it_run.specs.RowValues.{rational_value}
 
 -- each term's coordinate is one of the list
-abbrev pub IsOver : List ℕ → Terms → Type 0
-IsOver coordinates row = All (λ t. (k : ℕ) × (k < length coordinates) × (get_or coordinates k 0 ≡ t.0)) row
+abbrev pub IsOnCoordinates : List ℕ → Terms → Type 0
+IsOnCoordinates coordinates row = All (λ t. (k : ℕ) × (k < length coordinates) × (get_or coordinates k 0 ≡ t.0)) row
 
 -- no coordinate stands in the list twice
 abbrev pub AreApart : List ℕ → Type 0
@@ -31,8 +31,8 @@ whole_plus a b = same_value (Q.whole (a +ℤ b)) (Q.plus (Q.whole a) (Q.whole b)
 
 module _ (coordinates : List ℕ) (apart : AreApart coordinates) where
   -- a row's value is the sum over the coordinates
-  pub value_is : (row : Terms) (h : ℕ → Rational) → IsOver coordinates row
-      → value_at row h ≡ sum_to ring_ℚ (length coordinates) (λ k. Q.times (Q.whole (coefficient row (get_or coordinates k 0))) (h (get_or coordinates k 0)))
+  pub value_is : (row : Terms) (h : ℕ → Rational) → IsOnCoordinates coordinates row
+      → rational_value row h ≡ sum_to ring_ℚ (length coordinates) (λ k. Q.times (Q.whole (coefficient row (get_or coordinates k 0))) (h (get_or coordinates k 0)))
   value_is [] h o = sym (sum_same ring_ℚ (length coordinates) (λ k. Q.times (Q.whole (pos 0)) (h (get_or coordinates k 0))) (λ k. Q.whole (pos 0))
       (λ k l. ring ring_ℚ (h (get_or coordinates k 0) ∷ []) (times nil (v 0)) nil refl) ∙ sum_null ring_ℚ (length coordinates))
   value_is (t ∷ ts) h o = ap₂ Q.plus here (value_is ts h (λ k d l. o (suc k) d (omega (arith, l)))) ∙ sym split
@@ -67,10 +67,10 @@ module _ (coordinates : List ℕ) (apart : AreApart coordinates) where
               ∙ ap (λ c. Q.times (Q.whole t.1) (h c)) s.2)
 
   -- at an end by a point q, any map h that is q at the coordinates is at least 0 on each column and below 0 on the target
-  pub separates : (columns : List Terms) (target : Terms) (q : List Rational) (h : ℕ → Rational) → ((j : ℕ) → j < length columns → IsOver coordinates (get_or columns j [])) → IsOver coordinates target
+  pub separates : (columns : List Terms) (target : Terms) (q : List Rational) (h : ℕ → Rational) → ((j : ℕ) → j < length columns → IsOnCoordinates coordinates (get_or columns j [])) → IsOnCoordinates coordinates target
       → ((k : ℕ) → k < length coordinates → h (get_or coordinates k 0) ≡ get_or q k (Q.whole (pos 0)))
       → Separates field_ℚ (length coordinates) (length columns) (feasibility_problem coordinates columns target) q
-      → ((j : ℕ) → j < length columns → is_at_least_zero (value_at (get_or columns j []) h) ≡ true) × (is_at_least_zero (value_at target h) ≡ false)
+      → ((j : ℕ) → j < length columns → is_at_least_zero (rational_value (get_or columns j []) h) ≡ true) × (is_at_least_zero (rational_value target h) ≡ false)
   separates columns target q h oc ot e s = (
     (λ j l. subst (λ (x : Rational). is_at_least_zero x ≡ true) (sym (value_is (get_or columns j []) h (oc j l) ∙ same (get_or columns j []))) (s.columns j l)),
     subst (λ (x : Rational). is_at_least_zero x ≡ false) (sym (value_is target h ot ∙ same target)) s.below,

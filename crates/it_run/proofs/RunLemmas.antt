@@ -3,9 +3,9 @@ use Rattle.std.proofs.Common.{ap, List, ◌≡◌, ◌⊎◌, inl, inr, ℕ, zer
 use Rattle.it_rational.specs.OrderedFields.{OrderedField}
 use Rattle.it_tableau.specs.Tables.{Table, FeasibilityProblem, start}
 use Rattle.it_tableau.specs.Invariants.{HasInvariants}
-use Rattle.it_tableau.proofs.Kept.{kept}
-use Rattle.it_tableau.proofs.StartLemmas.{started}
-use Rattle.it_run.specs.Choice.{next, entering, leaving, IsDone, IsStuck}
+use Rattle.it_tableau.proofs.Kept.{pivot_keeps_invariants}
+use Rattle.it_tableau.proofs.StartLemmas.{start_has_invariants}
+use Rattle.it_run.specs.Choice.{next, entering_column, leaving_row, IsDone, IsStuck}
 use Rattle.it_run.specs.Readings.{weights, point, SumsUp, Separates}
 use Rattle.it_run.specs.Runs.{RunEndView, EndsAs}
 use Rattle.it_run.specs.Runs.RunEndView.{Weights, Point, Pivots, Width}
@@ -13,6 +13,7 @@ use Rattle.it_run.proofs.BlandRule.{entering_is, some_column, leaving_is, may_en
 use Rattle.it_run.proofs.Ends.{weights_right, point_right}
 
 module _ {S W P : Type 0} (IsDone IsStuck Fits : S → Type 0) (next : S → S) (weights : S → W) (point : S → P) where
+  -- how a run with so many steps left ends
   abbrev Run : ℕ → ℕ → S → RunEndView W P → Type 0
   Run = EndsAs IsDone IsStuck Fits next weights point
 
@@ -47,64 +48,67 @@ module _ {S W P : Type 0} (IsDone IsStuck Fits : S → Type 0) (next : S → S) 
 
   -- where a run's end comes from, if each step keeps I
   module _ (I : S → Type 0) where
-    abbrev pub Comes : ℕ → ℕ → RunEndView W P → Type 0
-    Comes left k (Weights w) = (s : S) × I s × IsDone s × (w ≡ weights s)
-    Comes left k (Point q) = (s : S) × I s × ¬ (IsDone s) × IsStuck s × (q ≡ point s)
-    Comes left k (Pivots j) = j ≡ k + left
-    Comes left k (Width j) = (k < j) × (j ≤ k + left)
+    -- the end is read off a state with I, or it has the number of a step that was left
+    abbrev pub EndComesFrom : ℕ → ℕ → RunEndView W P → Type 0
+    EndComesFrom left k (Weights w) = (s : S) × I s × IsDone s × (w ≡ weights s)
+    EndComesFrom left k (Point q) = (s : S) × I s × ¬ (IsDone s) × IsStuck s × (q ≡ point s)
+    EndComesFrom left k (Pivots j) = j ≡ k + left
+    EndComesFrom left k (Width j) = (k < j) × (j ≤ k + left)
 
-    came : (left k : ℕ) (s : S) (d e : RunEndView W P) → e ≡ d → Comes left k d → Comes left k e
-    came left k s d e q c = subst (Comes left k) (sym q) c
+    comes_from_equal : (left k : ℕ) (s : S) (d e : RunEndView W P) → e ≡ d → EndComesFrom left k d → EndComesFrom left k e
+    comes_from_equal left k s d e q c = subst (EndComesFrom left k) (sym q) c
 
-    further : (left k : ℕ) (e : RunEndView W P) → Comes left (suc k) e → Comes (suc left) k e
-    further left k (Weights w) c = c
-    further left k (Point q) c = c
-    further left k (Pivots j) c = omega arith
-    further left k (Width j) c = (omega (arith, c.0), omega (arith, c.1))
+    comes_from_later : (left k : ℕ) (e : RunEndView W P) → EndComesFrom left (suc k) e → EndComesFrom (suc left) k e
+    comes_from_later left k (Weights w) c = c
+    comes_from_later left k (Point q) c = c
+    comes_from_later left k (Pivots j) c = omega arith
+    comes_from_later left k (Width j) c = (omega (arith, c.0), omega (arith, c.1))
 
-    pub comes : ((s : S) → I s → ¬ (IsDone s) → ¬ (IsStuck s) → I (next s)) → (left k : ℕ) (s : S) (e : RunEndView W P) → I s → Run left k s e → Comes left k e
-    comes keeps zero k s e i (inl p) = came zero k s (Weights (weights s)) e p.1 (s, i, p.0, refl)
-    comes keeps zero k s e i (inr (inl p)) = came zero k s (Point (point s)) e p.2 (s, i, p.0, p.1, refl)
-    comes keeps zero k s e i (inr (inr p)) = came zero k s (Pivots k) e p.2 (omega arith)
-    comes keeps (suc left) k s e i (inl p) = came (suc left) k s (Weights (weights s)) e p.1 (s, i, p.0, refl)
-    comes keeps (suc left) k s e i (inr (inl p)) = came (suc left) k s (Point (point s)) e p.2 (s, i, p.0, p.1, refl)
-    comes keeps (suc left) k s e i (inr (inr p)) = last p.2 (λ r. comes keeps left (suc k) (next s) e (keeps s i p.0 p.1) r)
+    pub end_comes_from : ((s : S) → I s → ¬ (IsDone s) → ¬ (IsStuck s) → I (next s)) → (left k : ℕ) (s : S) (e : RunEndView W P) → I s → Run left k s e → EndComesFrom left k e
+    end_comes_from keeps zero k s e i (inl p) = comes_from_equal zero k s (Weights (weights s)) e p.1 (s, i, p.0, refl)
+    end_comes_from keeps zero k s e i (inr (inl p)) = comes_from_equal zero k s (Point (point s)) e p.2 (s, i, p.0, p.1, refl)
+    end_comes_from keeps zero k s e i (inr (inr p)) = comes_from_equal zero k s (Pivots k) e p.2 (omega arith)
+    end_comes_from keeps (suc left) k s e i (inl p) = comes_from_equal (suc left) k s (Weights (weights s)) e p.1 (s, i, p.0, refl)
+    end_comes_from keeps (suc left) k s e i (inr (inl p)) = comes_from_equal (suc left) k s (Point (point s)) e p.2 (s, i, p.0, p.1, refl)
+    end_comes_from keeps (suc left) k s e i (inr (inr p)) = last p.2 (λ r. end_comes_from keeps left (suc k) (next s) e (keeps s i p.0 p.1) r)
       where
-        last : ((¬ (Fits s) × (e ≡ Width (suc k))) ⊎ (Fits s × Run left (suc k) (next s) e)) → (Run left (suc k) (next s) e → Comes left (suc k) e) → Comes (suc left) k e
-        last (inl a) ih = came (suc left) k s (Width (suc k)) e a.1 (omega arith, omega arith)
-        last (inr a) ih = further left k e (ih a.1)
+        last : ((¬ (Fits s) × (e ≡ Width (suc k))) ⊎ (Fits s × Run left (suc k) (next s) e)) → (Run left (suc k) (next s) e → EndComesFrom left (suc k) e) → EndComesFrom (suc left) k e
+        last (inl a) ih = comes_from_equal (suc left) k s (Width (suc k)) e a.1 (omega arith, omega arith)
+        last (inr a) ih = comes_from_later left k e (ih a.1)
 
 module _ {A : Type 0} (F : OrderedField A) (m n : ℕ) where
   -- a step of the run keeps what every table keeps
   pub next_holds : (p : FeasibilityProblem A) (t : Table A) → HasInvariants F m n p t → ¬ (IsStuck F m n t) → HasInvariants F m n p (next F m n t)
   next_holds p t h s =
       let e = entering_is F m n t (some_column F m n t s) in
-      let l = leaving_is F m n p t (entering F m n t) h e.below in
-      kept F m n p t (leaving F m n t (entering F m n t)) (entering F m n t) h (may_enter F m n t (entering F m n t) (leaving F m n t (entering F m n t)) e l)
+      let l = leaving_is F m n p t (entering_column F m n t) h e.below in
+      pivot_keeps_invariants F m n p t (leaving_row F m n t (entering_column F m n t)) (entering_column F m n t) h (may_enter F m n t (entering_column F m n t) (leaving_row F m n t (entering_column F m n t)) e l)
 
 -- what is read off the last table of a run
 module _ {S W P : Type 0} (IsDone IsStuck Fits : S → Type 0) (next : S → S) (weights : S → W) (point : S → P) where
-  abbrev pub read : RunEndView S S → RunEndView W P
-  read (Weights s) = Weights (weights s)
-  read (Point s) = Point (point s)
-  read (Pivots k) = Pivots k
-  read (Width k) = Width k
+  -- the end with what is read off its state
+  abbrev pub with_readings : RunEndView S S → RunEndView W P
+  with_readings (Weights s) = Weights (weights s)
+  with_readings (Point s) = Point (point s)
+  with_readings (Pivots k) = Pivots k
+  with_readings (Width k) = Width k
 
-  pub read_end : (left k : ℕ) (s : S) (e : RunEndView S S) → EndsAs IsDone IsStuck Fits next (λ s. s) (λ s. s) left k s e → EndsAs IsDone IsStuck Fits next weights point left k s (read e)
-  read_end zero k s e (inl p) = inl (p.0, ap read p.1)
-  read_end zero k s e (inr (inl p)) = inr (inl (p.0, p.1, ap read p.2))
-  read_end zero k s e (inr (inr p)) = inr (inr (p.0, p.1, ap read p.2))
-  read_end (suc left) k s e (inl p) = inl (p.0, ap read p.1)
-  read_end (suc left) k s e (inr (inl p)) = inr (inl (p.0, p.1, ap read p.2))
-  read_end (suc left) k s e (inr (inr p)) = inr (inr (p.0, p.1, last p.2 (λ r. read_end left (suc k) (next s) e r)))
+  pub end_with_readings : (left k : ℕ) (s : S) (e : RunEndView S S) → EndsAs IsDone IsStuck Fits next (λ s. s) (λ s. s) left k s e → EndsAs IsDone IsStuck Fits next weights point left k s (with_readings e)
+  end_with_readings zero k s e (inl p) = inl (p.0, ap with_readings p.1)
+  end_with_readings zero k s e (inr (inl p)) = inr (inl (p.0, p.1, ap with_readings p.2))
+  end_with_readings zero k s e (inr (inr p)) = inr (inr (p.0, p.1, ap with_readings p.2))
+  end_with_readings (suc left) k s e (inl p) = inl (p.0, ap with_readings p.1)
+  end_with_readings (suc left) k s e (inr (inl p)) = inr (inl (p.0, p.1, ap with_readings p.2))
+  end_with_readings (suc left) k s e (inr (inr p)) = inr (inr (p.0, p.1, last p.2 (λ r. end_with_readings left (suc k) (next s) e r)))
     where
       last : ((¬ (Fits s) × (e ≡ Width (suc k))) ⊎ (Fits s × EndsAs IsDone IsStuck Fits next (λ s. s) (λ s. s) left (suc k) (next s) e))
-          → (EndsAs IsDone IsStuck Fits next (λ s. s) (λ s. s) left (suc k) (next s) e → EndsAs IsDone IsStuck Fits next weights point left (suc k) (next s) (read e))
-          → ((¬ (Fits s) × (read e ≡ Width (suc k))) ⊎ (Fits s × EndsAs IsDone IsStuck Fits next weights point left (suc k) (next s) (read e)))
-      last (inl a) ih = inl (a.0, ap read a.1)
+          → (EndsAs IsDone IsStuck Fits next (λ s. s) (λ s. s) left (suc k) (next s) e → EndsAs IsDone IsStuck Fits next weights point left (suc k) (next s) (with_readings e))
+          → ((¬ (Fits s) × (with_readings e ≡ Width (suc k))) ⊎ (Fits s × EndsAs IsDone IsStuck Fits next weights point left (suc k) (next s) (with_readings e)))
+      last (inl a) ih = inl (a.0, ap with_readings a.1)
       last (inr a) ih = inr (a.0, ih a.1)
 
 module _ {A : Type 0} (F : OrderedField A) (m n : ℕ) where
+  -- weights sum to the target, and a point separates it from the columns
   abbrev pub EndIsRight : FeasibilityProblem A → RunEndView (List (ℕ × A)) (List A) → Type 0
   EndIsRight p (Weights ws) = SumsUp F m n p ws
   EndIsRight p (Point q) = Separates F m n p q
@@ -115,10 +119,10 @@ module _ {A : Type 0} (F : OrderedField A) (m n : ℕ) where
   pub run_right : (Fits : Table A → Type 0) (p : FeasibilityProblem A) (budget : ℕ) (e : RunEndView (List (ℕ × A)) (List A))
       → EndsAs (IsDone F m n) (IsStuck F m n) Fits (next F m n) (weights F m n) (point F m n p) budget zero (start F m n p) e → EndIsRight p e
   run_right Fits p budget e r = for_each e
-      (comes (IsDone F m n) (IsStuck F m n) Fits (next F m n) (weights F m n) (point F m n p) (HasInvariants F m n p)
-      (λ t h d s. next_holds F m n p t h s) budget zero (start F m n p) e (started F m n p) r)
+      (end_comes_from (IsDone F m n) (IsStuck F m n) Fits (next F m n) (weights F m n) (point F m n p) (HasInvariants F m n p)
+      (λ t h d s. next_holds F m n p t h s) budget zero (start F m n p) e (start_has_invariants F m n p) r)
     where
-      for_each : (e : RunEndView (List (ℕ × A)) (List A)) → Comes (IsDone F m n) (IsStuck F m n) Fits (next F m n) (weights F m n) (point F m n p) (HasInvariants F m n p) budget zero e → EndIsRight p e
+      for_each : (e : RunEndView (List (ℕ × A)) (List A)) → EndComesFrom (IsDone F m n) (IsStuck F m n) Fits (next F m n) (weights F m n) (point F m n p) (HasInvariants F m n p) budget zero e → EndIsRight p e
       for_each (Weights w) c = subst (SumsUp F m n p) (sym c.3) (weights_right F m n p c.0 c.1 c.2)
       for_each (Point w) c = subst (Separates F m n p) (sym c.4) (point_right F m n p c.0 c.1 c.2 c.3)
       for_each (Pivots j) c = tt

@@ -7,55 +7,57 @@ use Rattle.it_tableau.specs.Tables.{Table, FeasibilityProblem, pivot}
 use Rattle.it_tableau.specs.Fits.{PivotFits}
 use Rattle.it_tableau.specs.Invariants.{HasInvariants}
 use Rattle.it_tableau.specs.TableauViews.{TableauView, height, table}
-use Rattle.it_run.specs.Choice.{entering, leaving, next, IsDone, IsStuck}
+use Rattle.it_run.specs.Choice.{entering_column, leaving_row, next, IsDone, IsStuck}
 use Rattle.it_run.specs.Runs.{RunEndView}
 use Rattle.it_run.specs.Runs.RunEndView.{Weights, Point, Pivots, Width}
 use Rattle.it_run.specs.Solving.{RatiosFit, StepFits}
-use Rattle.it_run.specs.Steps.{IsLeaving, IsReady, IsStep, IsWide, Reaches, ReachesFrom, HoldsSome}
+use Rattle.it_run.specs.Steps.{IsLeaving, IsReady, IsStep, IsWide, Reaches, ReachesFrom, HasInvariantsForSome}
 use Rattle.it_run.proofs.BlandRule.{first_before, first_at, entering_is, some_column, leaving_is}
 use Rattle.it_run.proofs.RunLemmas.{next_holds}
 
 module _ (m n : ℕ) where
+  -- the end by weights
   abbrev pub Done : Table Rational → Type 0
   Done = IsDone field_ℚ m n
 
+  -- the end by a point
   abbrev pub Stuck : Table Rational → Type 0
   Stuck = IsStuck field_ℚ m n
 
   -- the column that the search found
-  pub record Found (t : Table Rational) (c : ℕ) : Type 0 where
+  pub record IsEnteringColumn (t : Table Rational) (c : ℕ) : Type 0 where
     pub within : c < n
-    pub is : entering field_ℚ m n t ≡ c
+    pub is : entering_column field_ℚ m n t ≡ c
 
-  pub stuck : (t : Table Rational) → entering field_ℚ m n t ≡ n → IsStuck field_ℚ m n t
-  stuck t e j l = first_before (λ j. is_at_least_zero (t.entry m j)) 0 n j (omega arith) (omega arith)
+  pub stuck_without_entering : (t : Table Rational) → entering_column field_ℚ m n t ≡ n → IsStuck field_ℚ m n t
+  stuck_without_entering t e j l = first_before (λ j. is_at_least_zero (t.entry m j)) 0 n j (omega arith) (omega arith)
 
-  pub moves : (t : Table Rational) (c : ℕ) → Found t c → ¬ (IsStuck field_ℚ m n t)
-  moves t c f s = true≢false (sym (s c f.within) ∙ ap (λ j. is_at_least_zero (t.entry m j)) (sym f.is) ∙ first_at (λ j. is_at_least_zero (t.entry m j)) 0 n (omega (arith, f.is, f.within)))
+  pub not_stuck_with_entering : (t : Table Rational) (c : ℕ) → IsEnteringColumn t c → ¬ (IsStuck field_ℚ m n t)
+  not_stuck_with_entering t c f s = true≢false (sym (s c f.within) ∙ ap (λ j. is_at_least_zero (t.entry m j)) (sym f.is) ∙ first_at (λ j. is_at_least_zero (t.entry m j)) 0 n (omega (arith, f.is, f.within)))
 
   -- a table with the invariants has a row that leaves
-  pub ready : (p : FeasibilityProblem Rational) (t : Table Rational) → HasInvariants field_ℚ m n p t → IsReady m n t
-  ready p t h s =
+  pub ready_by_invariants : (p : FeasibilityProblem Rational) (t : Table Rational) → HasInvariants field_ℚ m n p t → IsReady m n t
+  ready_by_invariants p t h s =
       let e = entering_is field_ℚ m n t (some_column field_ℚ m n t s) in
-      (leaving_is field_ℚ m n p t (entering field_ℚ m n t) h e.below).row
+      (leaving_is field_ℚ m n p t (entering_column field_ℚ m n t) h e.below).row
 
-  pub wide_ratio : (t : Table Rational) (c : ℕ) → Found t c → ¬ (RatiosFit m n t c) → IsWide m n t
-  wide_ratio t c f w = (moves t c f, λ s. w (subst (RatiosFit m n t) f.is s.ratios))
+  pub wide_ratio : (t : Table Rational) (c : ℕ) → IsEnteringColumn t c → ¬ (RatiosFit m n t c) → IsWide m n t
+  wide_ratio t c f w = (not_stuck_with_entering t c f, λ s. w (subst (RatiosFit m n t) f.is s.ratios))
 
   -- the numbers of the pivot that the step makes
-  to_step : (t : Table Rational) (c r : ℕ) → Found t c → IsLeaving m n t c (Some r) → (P : ℕ → ℕ → Type 0) → P r c → P (leaving field_ℚ m n t (entering field_ℚ m n t)) (entering field_ℚ m n t)
-  to_step t c r f l P x = subst (λ (y : ℕ). P (leaving field_ℚ m n t y) y) (sym f.is) (subst (λ (x : ℕ). P x c) (sym l.0) x)
+  to_step : (t : Table Rational) (c r : ℕ) → IsEnteringColumn t c → IsLeaving m n t c (Some r) → (P : ℕ → ℕ → Type 0) → P r c → P (leaving_row field_ℚ m n t (entering_column field_ℚ m n t)) (entering_column field_ℚ m n t)
+  to_step t c r f l P x = subst (λ (y : ℕ). P (leaving_row field_ℚ m n t y) y) (sym f.is) (subst (λ (x : ℕ). P x c) (sym l.0) x)
 
-  from_step : (t : Table Rational) (c r : ℕ) → Found t c → IsLeaving m n t c (Some r) → (P : ℕ → ℕ → Type 0) → P (leaving field_ℚ m n t (entering field_ℚ m n t)) (entering field_ℚ m n t) → P r c
-  from_step t c r f l P x = subst (λ (x : ℕ). P x c) l.0 (subst (λ (y : ℕ). P (leaving field_ℚ m n t y) y) f.is x)
+  from_step : (t : Table Rational) (c r : ℕ) → IsEnteringColumn t c → IsLeaving m n t c (Some r) → (P : ℕ → ℕ → Type 0) → P (leaving_row field_ℚ m n t (entering_column field_ℚ m n t)) (entering_column field_ℚ m n t) → P r c
+  from_step t c r f l P x = subst (λ (x : ℕ). P x c) l.0 (subst (λ (y : ℕ). P (leaving_row field_ℚ m n t y) y) f.is x)
 
-  pub wide_pivot : (t : Table Rational) (c r : ℕ) → Found t c → IsLeaving m n t c (Some r) → ¬ (PivotFits m n t r c) → IsWide m n t
-  wide_pivot t c r f l w = (moves t c f, λ fit. w (from_step t c r f l (PivotFits m n t) fit.pivot))
+  pub wide_pivot : (t : Table Rational) (c r : ℕ) → IsEnteringColumn t c → IsLeaving m n t c (Some r) → ¬ (PivotFits m n t r c) → IsWide m n t
+  wide_pivot t c r f l w = (not_stuck_with_entering t c f, λ fit. w (from_step t c r f l (PivotFits m n t) fit.pivot))
 
-  pub step_fits : (t : Table Rational) (c r : ℕ) → Found t c → IsLeaving m n t c (Some r) → RatiosFit m n t c → PivotFits m n t r c → StepFits m n t
+  pub step_fits : (t : Table Rational) (c r : ℕ) → IsEnteringColumn t c → IsLeaving m n t c (Some r) → RatiosFit m n t c → PivotFits m n t r c → StepFits m n t
   step_fits t c r f l q p = record { ratios = subst (RatiosFit m n t) (sym f.is) q; pivot = to_step t c r f l (PivotFits m n t) p }
 
-  pub step_is : (t : Table Rational) (c r : ℕ) → Found t c → IsLeaving m n t c (Some r) → pivot field_ℚ t r c ≡ next field_ℚ m n t
+  pub step_is : (t : Table Rational) (c r : ℕ) → IsEnteringColumn t c → IsLeaving m n t c (Some r) → pivot field_ℚ t r c ≡ next field_ℚ m n t
   step_is t c r f l = to_step t c r f l (λ r' c'. pivot field_ℚ t r c ≡ pivot field_ℚ t r' c') refl
 
   -- how the loop ends or goes on
@@ -84,7 +86,7 @@ module _ (m n : ℕ) where
   run_budget (suc left) k t h d u = absurd (omega arith)
 
 -- a step keeps the invariants
-pub holds_next : (old new : TableauView) → IsStep old new → HoldsSome old → HoldsSome new
+pub holds_next : (old new : TableauView) → IsStep old new → HasInvariantsForSome old → HasInvariantsForSome new
 holds_next old new s h = (
   h.0,
   subst (λ (m : ℕ). HasInvariants field_ℚ m new.generators h.0 (table new)) (sym s.frame.height)

@@ -5,17 +5,22 @@ use Rattle.it_rational.specs.Rational.{Rational, plus, minus, rational_cmp, is_a
 use Rattle.it_rational.proofs.Field.{field_ℚ}
 use Rattle.it_rational.proofs.Signs.{cmp_less, cmp_greater, cmp_equal}
 use Rattle.it_tableau.specs.Tables.{Table, ratio}
-use Rattle.it_run.specs.Choice.{first_false, leaving_of, is_candidate, precedes}
-use Rattle.it_run.specs.Steps.{is_before, best_after, IsBestOf}
+use Rattle.it_run.specs.Choice.{first_false, leaving_row_of, is_candidate, precedes}
+use Rattle.it_run.specs.Steps.{ratio_precedes, best_after, IsBestOf}
 use Rattle.it_run.proofs.BlandRule.{first_before, first_at}
 
-first_upto : (f : ℕ → Bool) (k left : ℕ) → first_false f k left ≤ k + left
-first_upto f k zero = omega arith
-first_upto f k (suc left) = by_test (f k) (first_upto f (suc k) left)
+pub first_false_at_most : (f : ℕ → Bool) (k left : ℕ) → first_false f k left ≤ k + left
+first_false_at_most f k zero = omega arith
+first_false_at_most f k (suc left) = by_test (f k) (first_false_at_most f (suc k) left)
   where
     by_test : (b : Bool) → first_false f (suc k) left ≤ suc k + left → cond b (first_false f (suc k) left) k ≤ k + suc left
     by_test true ih = omega arith
     by_test false ih = omega arith
+
+-- the first number at which one function is false is that of another which agrees with it
+pub first_false_agrees : (f g : ℕ → Bool) (k left : ℕ) → ((j : ℕ) → k ≤ j → j < k + left → f j ≡ g j) → first_false f k left ≡ first_false g k left
+first_false_agrees f g k zero e = refl
+first_false_agrees f g k (suc left) e = ap₂ (λ b x. cond b x k) (e k (omega arith) (omega arith)) (first_false_agrees f g (suc k) left (λ j a b. e j (omega arith) (omega arith)))
 
 pub first_is : (f : ℕ → Bool) (n j : ℕ) → j < n → ((k : ℕ) → k < j → f k ≡ true) → f j ≡ false → first_false f 0 n ≡ j
 first_is f n j l before here = by_cases (cases_lt (first_false f 0 n) j) (cases_lt j (first_false f 0 n))
@@ -30,15 +35,15 @@ first_none f n all = by_cases (cases_lt (first_false f 0 n) n)
   where
     by_cases : (first_false f 0 n < n) ⊎ (n ≤ first_false f 0 n) → first_false f 0 n ≡ n
     by_cases (inl a) = absurd (true≢false (sym (all (first_false f 0 n) a) ∙ first_at f 0 n (omega arith)))
-    by_cases (inr a) = let u = first_upto f 0 n in omega (arith, u)
+    by_cases (inr a) = let u = first_false_at_most f 0 n in omega (arith, u)
 
-pub before_less : (q best : Rational) (b d : ℕ) → rational_cmp q best ≡ Less → is_before q b best d ≡ true
+pub before_less : (q best : Rational) (b d : ℕ) → rational_cmp q best ≡ Less → ratio_precedes q b best d ≡ true
 before_less q best b d e = ap (λ x. cond x (is_at_least_zero (plus best (minus q)) && ltb b d) true) (cmp_less q best e)
 
-pub before_greater : (q best : Rational) (b d : ℕ) → rational_cmp q best ≡ Greater → is_before q b best d ≡ false
+pub before_greater : (q best : Rational) (b d : ℕ) → rational_cmp q best ≡ Greater → ratio_precedes q b best d ≡ false
 before_greater q best b d e = let g = cmp_greater q best e in ap₂ (λ x y. cond x (y && ltb b d) true) g.0 g.1
 
-pub before_equal : (q best : Rational) (b d : ℕ) → rational_cmp q best ≡ Equal → is_before q b best d ≡ ltb b d
+pub before_equal : (q best : Rational) (b d : ℕ) → rational_cmp q best ≡ Equal → ratio_precedes q b best d ≡ ltb b d
 before_equal q best b d e = let g = cmp_equal q best e in ap₂ (λ x y. cond x (y && ltb b d) true) g.0 g.1
 
 pub best_skips : (m n : ℕ) (t : Table Rational) (c i : ℕ) (best : Option (ℕ × Rational)) → is_candidate field_ℚ t c i ≡ false → IsBestOf m n t c i best → IsBestOf m n t c (i + 1) best
@@ -47,8 +52,8 @@ best_skips m n t c i best o h = subst (λ (k : ℕ). IsBestOf m n t c k best) he
     here : suc i ≡ i + 1
     here = omega arith
 
-    same : leaving_of field_ℚ m n t c (suc i) ≡ leaving_of field_ℚ m n t c i
-    same = ap (λ b. cond b (cond (eqb (leaving_of field_ℚ m n t c i) m) i (cond (precedes field_ℚ m n t c i (leaving_of field_ℚ m n t c i)) i (leaving_of field_ℚ m n t c i))) (leaving_of field_ℚ m n t c i)) o
+    same : leaving_row_of field_ℚ m n t c (suc i) ≡ leaving_row_of field_ℚ m n t c i
+    same = ap (λ b. cond b (cond (eqb (leaving_row_of field_ℚ m n t c i) m) i (cond (precedes field_ℚ m n t c i (leaving_row_of field_ℚ m n t c i)) i (leaving_row_of field_ℚ m n t c i))) (leaving_row_of field_ℚ m n t c i)) o
 
     by_option : (best : Option (ℕ × Rational)) → IsBestOf m n t c i best → IsBestOf m n t c (suc i) best
     by_option None h = same ∙ h
@@ -63,25 +68,25 @@ best_takes m n t c i q best hi o e h = subst (λ (k : ℕ). IsBestOf m n t c k (
     here = omega arith
 
     L : ℕ
-    L = leaving_of field_ℚ m n t c i
+    L = leaving_row_of field_ℚ m n t c i
 
-    opened : leaving_of field_ℚ m n t c (suc i) ≡ cond (eqb (leaving_of field_ℚ m n t c i) m) i
-        (cond (precedes field_ℚ m n t c i (leaving_of field_ℚ m n t c i)) i (leaving_of field_ℚ m n t c i))
-    opened = ap (λ b. cond b (cond (eqb (leaving_of field_ℚ m n t c i) m) i
-        (cond (precedes field_ℚ m n t c i (leaving_of field_ℚ m n t c i)) i (leaving_of field_ℚ m n t c i)))
-        (leaving_of field_ℚ m n t c i)) o
+    opened : leaving_row_of field_ℚ m n t c (suc i) ≡ cond (eqb (leaving_row_of field_ℚ m n t c i) m) i
+        (cond (precedes field_ℚ m n t c i (leaving_row_of field_ℚ m n t c i)) i (leaving_row_of field_ℚ m n t c i))
+    opened = ap (λ b. cond b (cond (eqb (leaving_row_of field_ℚ m n t c i) m) i
+        (cond (precedes field_ℚ m n t c i (leaving_row_of field_ℚ m n t c i)) i (leaving_row_of field_ℚ m n t c i)))
+        (leaving_row_of field_ℚ m n t c i)) o
 
     by_option : (best : Option (ℕ × Rational)) → IsBestOf m n t c i best → IsBestOf m n t c (suc i) (best_after best i q t.basis)
-    by_option None h = (opened ∙ ap (λ b. cond b i (cond (precedes field_ℚ m n t c i (leaving_of field_ℚ m n t c i)) i (leaving_of field_ℚ m n t c i))) (eq-eqb (leaving_of field_ℚ m n t c i) m h), omega arith, e, o)
-    by_option (Some b) h = pick (is_before q (t.basis i) b.1 (t.basis b.0)) refl
+    by_option None h = (opened ∙ ap (λ b. cond b i (cond (precedes field_ℚ m n t c i (leaving_row_of field_ℚ m n t c i)) i (leaving_row_of field_ℚ m n t c i))) (eq-eqb (leaving_row_of field_ℚ m n t c i) m h), omega arith, e, o)
+    by_option (Some b) h = pick (ratio_precedes q (t.basis i) b.1 (t.basis b.0)) refl
       where
-        now : leaving_of field_ℚ m n t c (suc i) ≡ cond (is_before q (t.basis i) b.1 (t.basis b.0)) i b.0
+        now : leaving_row_of field_ℚ m n t c (suc i) ≡ cond (ratio_precedes q (t.basis i) b.1 (t.basis b.0)) i b.0
         now = opened
-            ∙ ap (λ x. cond x i (cond (precedes field_ℚ m n t c i (leaving_of field_ℚ m n t c i)) i (leaving_of field_ℚ m n t c i)))
-            (ne_eqb (leaving_of field_ℚ m n t c i) m (λ z. omega (arith, h.0, h.1)))
+            ∙ ap (λ x. cond x i (cond (precedes field_ℚ m n t c i (leaving_row_of field_ℚ m n t c i)) i (leaving_row_of field_ℚ m n t c i)))
+            (ne_eqb (leaving_row_of field_ℚ m n t c i) m (λ z. omega (arith, h.0, h.1)))
             ∙ ap (λ k. cond (precedes field_ℚ m n t c i k) i k) h.0
-            ∙ ap₂ (λ x y. cond (is_before x (t.basis i) y (t.basis b.0)) i b.0) (sym e) (sym h.2)
+            ∙ ap₂ (λ x y. cond (ratio_precedes x (t.basis i) y (t.basis b.0)) i b.0) (sym e) (sym h.2)
 
-        pick : (d : Bool) → is_before q (t.basis i) b.1 (t.basis b.0) ≡ d → IsBestOf m n t c (suc i) (cond d (Some (i, q)) (Some b))
+        pick : (d : Bool) → ratio_precedes q (t.basis i) b.1 (t.basis b.0) ≡ d → IsBestOf m n t c (suc i) (cond d (Some (i, q)) (Some b))
         pick true f = (now ∙ ap (λ x. cond x i b.0) f, omega arith, e, o)
         pick false f = (now ∙ ap (λ x. cond x i b.0) f, omega (arith, h.1), h.2, h.3)

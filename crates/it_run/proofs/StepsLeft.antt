@@ -5,12 +5,12 @@ use Rattle.it_rational.proofs.Ordered.{not_both}
 use Rattle.it_rational.specs.OrderedFields.{OrderedField}
 use Rattle.it_tableau.specs.Tables.{Table, FeasibilityProblem}
 use Rattle.it_tableau.specs.Invariants.{HasInvariants}
-use Rattle.it_run.specs.Choice.{first_false, entering, next, IsStuck}
+use Rattle.it_run.specs.Choice.{first_false, entering_column, next, IsStuck}
 use Rattle.it_run.specs.Meetings.{table_after}
 use Rattle.it_run.proofs.BlandRule.{Enters, first_before, first_at, entering_is}
 use Rattle.it_run.proofs.RunLemmas.{next_holds}
 use Rattle.it_run.proofs.Cycle.{never_again}
-use Rattle.it_run.proofs.Pigeon.{pigeon, digits, digits_below, digits_tell}
+use Rattle.it_run.proofs.Pigeon.{pigeonhole, digits, digits_below, digits_tell}
 
 module _ {A : Type 0} (F : OrderedField A) (m n : ℕ) where
   -- there are no more steps than lists of basic columns
@@ -27,7 +27,7 @@ module _ {A : Type 0} (F : OrderedField A) (m n : ℕ) where
   -- some table within so many steps has no column to enter
   pub not_always : (p : FeasibilityProblem A) (t : Table A) → HasInvariants F m n p t → ((k : ℕ) → k ≤ most → ¬ (IsStuck F m n (table_after F m n t k))) → ⊥
   not_always p t h s =
-      let q = pigeon most (λ k. digits (n + m) m (table_after F m n t k).basis) (λ k l. digits_below (n + m) m (table_after F m n t k).basis (basis_below p (table_after F m n t k) (holds k l))) in
+      let q = pigeonhole most (λ k. digits (n + m) m (table_after F m n t k).basis) (λ k l. digits_below (n + m) m (table_after F m n t k).basis (basis_below p (table_after F m n t k) (holds k l))) in
       never_again F m n p t h most (λ k l. s k (omega arith)) q.0 q.1 q.2 q.3
       (digits_tell (n + m) m (table_after F m n t q.0).basis (table_after F m n t q.1).basis
       (basis_below p (table_after F m n t q.0) (holds q.0 (omega (arith, q.2, q.3)))) (basis_below p (table_after F m n t q.1) (holds q.1 q.3)) q.4)
@@ -37,31 +37,32 @@ module _ {A : Type 0} (F : OrderedField A) (m n : ℕ) where
       holds (suc k) l = next_holds F m n p (table_after F m n t k) (holds k (omega arith)) (s k (omega arith))
 
   -- how many steps are left to a table with no column to enter
-  abbrev pub moving : Table A → Bool
-  moving t = ltb (entering F m n t) n
+  abbrev pub is_moving : Table A → Bool
+  is_moving t = ltb (entering_column F m n t) n
 
+  -- the number of steps to the first table with no column to enter
   abbrev pub steps_left : Table A → ℕ
-  steps_left t = first_false (λ k. moving (table_after F m n t k)) 0 (suc most)
+  steps_left t = first_false (λ k. is_moving (table_after F m n t k)) 0 (suc most)
 
   after_next : (t : Table A) (k : ℕ) → table_after F m n (next F m n t) k ≡ table_after F m n t (suc k)
   after_next t zero = refl
   after_next t (suc k) = ap (next F m n) (after_next t k)
 
-  pub stuck_if : (t : Table A) → moving t ≡ false → IsStuck F m n t
-  stuck_if t e j l = first_before (λ j. F.order.is_least (t.entry m j)) 0 n j (omega arith) (let q : n ≤ entering F m n t = ltb-false (entering F m n t) n e in omega arith)
+  pub stuck_if : (t : Table A) → is_moving t ≡ false → IsStuck F m n t
+  stuck_if t e j l = first_before (λ j. F.order.is_least (t.entry m j)) 0 n j (omega arith) (let q : n ≤ entering_column F m n t = ltb-false (entering_column F m n t) n e in omega arith)
 
-  pub moving_if : (t : Table A) → ¬ (IsStuck F m n t) → moving t ≡ true
-  moving_if t s = by_cases (cases_Bool (moving t))
+  pub moving_if : (t : Table A) → ¬ (IsStuck F m n t) → is_moving t ≡ true
+  moving_if t s = by_cases (cases_Bool (is_moving t))
     where
-      by_cases : (moving t ≡ true) ⊎ (moving t ≡ false) → moving t ≡ true
+      by_cases : (is_moving t ≡ true) ⊎ (is_moving t ≡ false) → is_moving t ≡ true
       by_cases (inl e) = e
       by_cases (inr e) = absurd (s (stuck_if t e))
 
-  pub not_stuck_if : (t : Table A) → moving t ≡ true → ¬ (IsStuck F m n t)
-  not_stuck_if t e s = by_cases (entering_is F m n t (ltb-true (entering F m n t) n e))
+  pub not_stuck_if : (t : Table A) → is_moving t ≡ true → ¬ (IsStuck F m n t)
+  not_stuck_if t e s = by_cases (entering_is F m n t (ltb-true (entering_column F m n t) n e))
     where
-      by_cases : Enters F m n t (entering F m n t) → ⊥
-      by_cases x = not_both F (t.entry m (entering F m n t)) x.below (s (entering F m n t) x.column)
+      by_cases : Enters F m n t (entering_column F m n t) → ⊥
+      by_cases x = not_both F (t.entry m (entering_column F m n t)) x.below (s (entering_column F m n t) x.column)
 
   -- a bound on the first false
   pub first_at_most : (f : ℕ → Bool) (k left j : ℕ) → k ≤ j → f j ≡ false → first_false f k left ≤ j
@@ -78,17 +79,17 @@ module _ {A : Type 0} (F : OrderedField A) (m n : ℕ) where
   steps_fall p t h s = by_cases (cases_lt (steps_left t) (suc most))
     where
       f : ℕ → Bool
-      f k = moving (table_after F m n t k)
+      f k = is_moving (table_after F m n t k)
 
       by_cases : (steps_left t < suc most) ⊎ (suc most ≤ steps_left t) → steps_left (next F m n t) < steps_left t
-      by_cases (inr l) = absurd (not_always p t h (λ k q. not_stuck_if (table_after F m n t k) (first_before (λ k. moving (table_after F m n t k)) 0 (suc most) k (omega arith) (omega arith))))
+      by_cases (inr l) = absurd (not_always p t h (λ k q. not_stuck_if (table_after F m n t k) (first_before (λ k. is_moving (table_after F m n t k)) 0 (suc most) k (omega arith) (omega arith))))
       by_cases (inl l) = some (steps_left t) refl
         where
-          ends : moving (table_after F m n t (steps_left t)) ≡ false
-          ends = first_at (λ k. moving (table_after F m n t k)) 0 (suc most) (omega arith)
+          ends : is_moving (table_after F m n t (steps_left t)) ≡ false
+          ends = first_at (λ k. is_moving (table_after F m n t k)) 0 (suc most) (omega arith)
 
           some : (x : ℕ) → steps_left t ≡ x → steps_left (next F m n t) < x
-          some zero e = absurd (true≢false (sym (moving_if t s) ∙ ap (λ k. moving (table_after F m n t k)) (sym e) ∙ ends))
+          some zero e = absurd (true≢false (sym (moving_if t s) ∙ ap (λ k. is_moving (table_after F m n t k)) (sym e) ∙ ends))
           some (suc x) e =
-              let b : steps_left (next F m n t) ≤ x = first_at_most (λ k. moving (table_after F m n (next F m n t) k)) 0 (suc most) x (omega arith)
-              (ap moving (after_next t x) ∙ ap (λ k. moving (table_after F m n t k)) (sym e) ∙ ends) in omega arith
+              let b : steps_left (next F m n t) ≤ x = first_at_most (λ k. is_moving (table_after F m n (next F m n t) k)) 0 (suc most) x (omega arith)
+              (ap is_moving (after_next t x) ∙ ap (λ k. is_moving (table_after F m n t k)) (sym e) ∙ ends) in omega arith

@@ -7,53 +7,54 @@ use Rattle.it_tableau.specs.Tables.{Table}
 use Rattle.it_run.specs.Choice.{IsDone, IsStuck}
 use Rattle.it_run.specs.Runs.{RunEndView, clip_end, clip_number, IsWithinBudget}
 use Rattle.it_run.specs.Runs.RunEndView.{Weights, Point, Width}
-use Rattle.it_run.specs.Steps.{IsStep, IsWide, HoldsSome, ReachesBy, ReachesFrom}
+use Rattle.it_run.specs.Steps.{IsStep, IsWide, HasInvariantsForSome, ReachesBy, ReachesFrom}
 use Rattle.it_run.proofs.RunSteps.{run_done, run_stuck, run_wide, step_on}
 use Rattle.it_run.proofs.StepsLeft.{steps_left, steps_fall}
 
-abbrev Free : TableauView → RunEndView (Table Rational) (Table Rational) → Type 0
-Free t e = ReachesBy (height t) t.generators None (table t) e
+-- the run from a tableau without a budget ends so
+abbrev EndsWithoutBudget : TableauView → RunEndView (Table Rational) (Table Rational) → Type 0
+EndsWithoutBudget t e = ReachesBy (height t) t.generators None (table t) e
 
 -- so many steps are left to a tableau whose table has the invariants
-unfoldable pub left_to : TableauView → ℕ
-left_to t = steps_left field_ℚ (height t) t.generators (table t)
+unfoldable pub steps_left_to : TableauView → ℕ
+steps_left_to t = steps_left field_ℚ (height t) t.generators (table t)
 
-pub left_falls : (old new : TableauView) → IsStep old new → HoldsSome old → left_to new < left_to old
-unfolding left_to
-left_falls old new s h =
-    subst (λ (m : ℕ). steps_left field_ℚ m new.generators (table new) < left_to old) (sym s.frame.height)
-    (subst (λ (n : ℕ). steps_left field_ℚ (height old) n (table new) < left_to old) (sym s.frame.generators)
-    (subst (λ (t : Table Rational). steps_left field_ℚ (height old) old.generators t < left_to old) (sym s.table_is)
+pub steps_left_falls : (old new : TableauView) → IsStep old new → HasInvariantsForSome old → steps_left_to new < steps_left_to old
+unfolding steps_left_to
+steps_left_falls old new s h =
+    subst (λ (m : ℕ). steps_left field_ℚ m new.generators (table new) < steps_left_to old) (sym s.frame.height)
+    (subst (λ (n : ℕ). steps_left field_ℚ (height old) n (table new) < steps_left_to old) (sym s.frame.generators)
+    (subst (λ (t : Table Rational). steps_left field_ℚ (height old) old.generators t < steps_left_to old) (sym s.table_is)
     (steps_fall field_ℚ (height old) old.generators h.0 (table old) h.1 s.moves)))
 
 -- the run has come from one tableau to another, and the next step has this number
-pub record OnTheWay (from now : TableauView) (number : ℕ) : Type 0 where
+pub record IsRunUnderWay (from now : TableauView) (number : ℕ) : Type 0 where
   pub made : ℕ
   pub number_is : number ≡ clip_number (suc made)
   -- what the rest of the run does from here it does from the start, with some budget
   pub back : (left : ℕ) (e : RunEndView (Table Rational) (Table Rational)) → ReachesFrom now left made e → (budget : ℕ) × ReachesFrom from budget 0 e
 
-pub begins : (t : TableauView) → OnTheWay t t 1
-begins t = record { made = 0; number_is = refl; back = λ left e r. (left, r) }
+pub run_begins : (t : TableauView) → IsRunUnderWay t t 1
+run_begins t = record { made = 0; number_is = refl; back = λ left e r. (left, r) }
 
-module _ (from now : TableauView) (number : ℕ) (w : OnTheWay from now number) where
+module _ (from now : TableauView) (number : ℕ) (w : IsRunUnderWay from now number) where
   -- it ends so
-  ends : (left : ℕ) (e : RunEndView (Table Rational) (Table Rational)) → ReachesFrom now left w.made e → IsWithinBudget e → Free from (clip_end e)
-  ends left e r i = let b = w.back left e r in record { budget = b.0; end = e; runs = b.1; within = i; is_clipped = refl }
+  run_ends : (left : ℕ) (e : RunEndView (Table Rational) (Table Rational)) → ReachesFrom now left w.made e → IsWithinBudget e → EndsWithoutBudget from (clip_end e)
+  run_ends left e r i = let b = w.back left e r in record { budget = b.0; end = e; runs = b.1; within = i; is_clipped = refl }
 
-  pub free_done : IsDone field_ℚ (height now) now.generators (table now) → Free from (Weights (table now))
-  free_done d = ends 0 (Weights (table now)) (run_done (height now) now.generators 0 w.made (table now) d) tt
+  pub unbound_done : IsDone field_ℚ (height now) now.generators (table now) → EndsWithoutBudget from (Weights (table now))
+  unbound_done d = run_ends 0 (Weights (table now)) (run_done (height now) now.generators 0 w.made (table now) d) tt
 
-  pub free_stuck : (s : Table Rational) → ¬ (IsDone field_ℚ (height now) now.generators (table now)) → IsStuck field_ℚ (height now) now.generators (table now) → s ≡ table now → Free from (Point s)
-  free_stuck s d u e = ends 0 (Point s) (run_stuck (height now) now.generators 0 w.made (table now) s d u e) tt
+  pub unbound_stuck : (s : Table Rational) → ¬ (IsDone field_ℚ (height now) now.generators (table now)) → IsStuck field_ℚ (height now) now.generators (table now) → s ≡ table now → EndsWithoutBudget from (Point s)
+  unbound_stuck s d u e = run_ends 0 (Point s) (run_stuck (height now) now.generators 0 w.made (table now) s d u e) tt
 
-  pub free_wide : ¬ (IsDone field_ℚ (height now) now.generators (table now)) → IsWide (height now) now.generators (table now) → Free from (Width number)
-  free_wide d u = subst (λ (k : ℕ). Free from (Width k)) (sym w.number_is)
-      (ends 1 (Width (suc w.made)) (run_wide (height now) now.generators 1 w.made (suc w.made) (table now) (omega arith) d u refl) tt)
+  pub unbound_wide : ¬ (IsDone field_ℚ (height now) now.generators (table now)) → IsWide (height now) now.generators (table now) → EndsWithoutBudget from (Width number)
+  unbound_wide d u = subst (λ (k : ℕ). EndsWithoutBudget from (Width k)) (sym w.number_is)
+      (run_ends 1 (Width (suc w.made)) (run_wide (height now) now.generators 1 w.made (suc w.made) (table now) (omega arith) d u refl) tt)
 
   -- a step further
-  pub further : (new : TableauView) (k : ℕ) → k ≡ clip_number (number + 1) → ¬ (IsDone field_ℚ (height now) now.generators (table now)) → IsStep now new → OnTheWay from new k
-  further new k q d s = record {
+  pub step_is_made : (new : TableauView) (k : ℕ) → k ≡ clip_number (number + 1) → ¬ (IsDone field_ℚ (height now) now.generators (table now)) → IsStep now new → IsRunUnderWay from new k
+  step_is_made new k q d s = record {
     made = suc w.made;
     number_is = (let n : number ≡ min (suc w.made) 4294967295 = w.number_is in let x : k ≡ min (number + 1) 4294967295 = q in omega arith);
     back = λ left e r. w.back (suc left) e (step_on now new (suc left) w.made e (omega arith) d s (back left e r));

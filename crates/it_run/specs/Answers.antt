@@ -7,11 +7,11 @@ use Rattle.it_tableau.specs.Tables.{FeasibilityProblem, sign, start}
 use Rattle.it_run.specs.Runs.{RunEndView}
 use Rattle.it_run.specs.Runs.RunEndView.{Weights, Point, Pivots, Width}
 use Rattle.it_run.specs.Solving.{RunsTo}
-use Rattle.it_run.specs.declared.answering.Solved.{Solved}
-use Rattle.it_run.specs.declared.answering.Solved.TheVariants as solved
+use Rattle.it_run.specs.declared.answering.RunAnswer.{RunAnswer}
+use Rattle.it_run.specs.declared.answering.RunAnswer.TheVariants as solved
 
 -- the end of the run that it tells
-abbrev pub solved_end : Solved → RunEndView (List (ℕ × Rational)) (List Rational)
+abbrev pub solved_end : RunAnswer → RunEndView (List (ℕ × Rational)) (List Rational)
 solved_end (solved.Weights ws) = Weights ws.items
 solved_end (solved.Point q) = Point q.items
 solved_end (solved.Pivots k) = Pivots k
@@ -35,5 +35,5 @@ abbrev pub HasProblem : TableauView → Type 0
 HasProblem t = (p : FeasibilityProblem Rational) × IsStartOf p t
 
 -- the answer tells the end of the run from the tableau with a budget or without one, whichever problem it is the start of
-abbrev pub RunsFrom : TableauView → Option ℕ → Solved → Type 0
+abbrev pub RunsFrom : TableauView → Option ℕ → RunAnswer → Type 0
 RunsFrom t budget solved = (p : FeasibilityProblem Rational) → IsStartOf p t → RunsTo (height t) t.generators p budget (table t) (solved_end solved)

@@ -15,8 +15,8 @@ module _ {A : Type 0} (F : OrderedField A) where
 
   module _ (m n : ℕ) where
     -- the column that enters: the least-numbered with a cost below 0 that is no artificial, n where there is none
-    abbrev pub entering : Table A → ℕ
-    entering t = first_false (λ j. F.order.is_least (t.entry m j)) 0 n
+    abbrev pub entering_column : Table A → ℕ
+    entering_column t = first_false (λ j. F.order.is_least (t.entry m j)) 0 n
 
     -- row i comes before row k: its ratio is less, or equal and its basic column is less
     abbrev pub precedes : Table A → ℕ → ℕ → ℕ → Bool
@@ -24,17 +24,17 @@ module _ {A : Type 0} (F : OrderedField A) where
         (F.order.is_least (difference F.ring (ratio F m n t c k) (ratio F m n t c i)) && ltb (t.basis i) (t.basis k)) true
 
     -- the first in this order of the rows below i that have an entry above 0 at column c, m where there is none
-    abbrev pub leaving_of : Table A → ℕ → ℕ → ℕ
-    leaving_of t c zero = m
-    leaving_of t c (suc i) = cond (is_candidate t c i) (cond (eqb (leaving_of t c i) m) i (cond (precedes t c i (leaving_of t c i)) i (leaving_of t c i))) (leaving_of t c i)
+    abbrev pub leaving_row_of : Table A → ℕ → ℕ → ℕ
+    leaving_row_of t c zero = m
+    leaving_row_of t c (suc i) = cond (is_candidate t c i) (cond (eqb (leaving_row_of t c i) m) i (cond (precedes t c i (leaving_row_of t c i)) i (leaving_row_of t c i))) (leaving_row_of t c i)
 
     -- the row that leaves
-    abbrev pub leaving : Table A → ℕ → ℕ
-    leaving t c = leaving_of t c m
+    abbrev pub leaving_row : Table A → ℕ → ℕ
+    leaving_row t c = leaving_row_of t c m
 
     -- the table after the step
     abbrev pub next : Table A → Table A
-    next t = pivot F t (leaving t (entering t)) (entering t)
+    next t = pivot F t (leaving_row t (entering_column t)) (entering_column t)
 
     -- the end by weights: the cost row's right side is 0
     abbrev pub IsDone : Table A → Type 0

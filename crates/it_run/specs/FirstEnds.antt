@@ -5,7 +5,7 @@ use Rattle.it_rational.proofs.Field.{field_ℚ}
 use Rattle.it_tableau.specs.Tables.{Table, FeasibilityProblem}
 use Rattle.it_run.specs.Choice.{next, IsDone, IsStuck}
 use Rattle.it_run.specs.Readings.{weights, point}
-use Rattle.it_run.specs.Runs.{RunEndView, after, clip_number}
+use Rattle.it_run.specs.Runs.{RunEndView, state_after_steps, clip_number}
 use Rattle.it_run.specs.Solving.{RunsTo, StepFits}
 use Rattle.it_run.specs.Runs.RunEndView.{Weights, Point, Pivots, Width}
 
@@ -17,13 +17,14 @@ module _ {S W P : Type 0} (IsDone IsStuck Fits : S → Type 0) (next : S → S) 
       ⊎ (¬ (IsDone s) × ¬ (IsStuck s) × (budget ≢ Some k) × ¬ (Fits s) × (e ≡ Width (clip_number (suc k))))))
 
   -- none of these holds
-  abbrev pub GoesOn : Option ℕ → ℕ → S → Type 0
-  GoesOn budget k s = ¬ (IsDone s) × ¬ (IsStuck s) × (budget ≢ Some k) × Fits s
+  abbrev pub GoesOnAt : Option ℕ → ℕ → S → Type 0
+  GoesOnAt budget k s = ¬ (IsDone s) × ¬ (IsStuck s) × (budget ≢ Some k) × Fits s
 
+  -- from the state s the run ends so at the first number of steps at which it doesn't go on
   pub record EndsFirst (budget : Option ℕ) (s : S) (e : RunEndView W P) : Type 0 where
     pub steps : ℕ
-    pub before : (k : ℕ) → k < steps → GoesOn budget k (after next s k)
-    pub here : EndsAt budget steps (after next s steps) e
+    pub before : (k : ℕ) → k < steps → GoesOnAt budget k (state_after_steps next s k)
+    pub here : EndsAt budget steps (state_after_steps next s steps) e
 
 -- a budget of 32 bits, or none
 abbrev pub IsBudget : Option ℕ → Type 0

@@ -5,24 +5,24 @@ use Rattle.it_rational.specs.OrderedFields.{OrderedField}
 use Rattle.it_rational.proofs.Field.{field_ℚ}
 use Rattle.it_tableau.specs.Tables.{Table, FeasibilityProblem, start}
 use Rattle.it_run.specs.Choice.{next, IsStuck}
-use Rattle.it_run.specs.Runs.{after}
+use Rattle.it_run.specs.Runs.{state_after_steps}
 
 module _ {A : Type 0} (F : OrderedField A) (m n : ℕ) where
   -- the table after k steps
   abbrev pub table_after : Table A → ℕ → Table A
-  table_after = after (next F m n)
+  table_after = state_after_steps (next F m n)
 
--- each basic column of a table is one of another
 module _ {A : Type 0} (m : ℕ) where
-  abbrev pub Within : Table A → Table A → Type 0
-  Within t s = (i : ℕ) → i < m → (k : ℕ) × (k < m) × (t.basis i ≡ s.basis k)
+  -- each basic column of t is one of s
+  abbrev pub IsBasisWithin : Table A → Table A → Type 0
+  IsBasisWithin t s = (i : ℕ) → i < m → (k : ℕ) × (k < m) × (t.basis i ≡ s.basis k)
 
 -- while a column can enter, no table of the run has the set of basic columns of an earlier one
 abbrev pub MeetsNoBasisTwice : Type 0
 MeetsNoBasisTwice = (m n : ℕ) (p : FeasibilityProblem Rational) (a b : ℕ) → a < b
     → ((k : ℕ) → k < b → ¬ (IsStuck field_ℚ m n (table_after field_ℚ m n (start field_ℚ m n p) k)))
-    → Within m (table_after field_ℚ m n (start field_ℚ m n p) a) (table_after field_ℚ m n (start field_ℚ m n p) b)
-    → Within m (table_after field_ℚ m n (start field_ℚ m n p) b) (table_after field_ℚ m n (start field_ℚ m n p) a) → ⊥
+    → IsBasisWithin m (table_after field_ℚ m n (start field_ℚ m n p) a) (table_after field_ℚ m n (start field_ℚ m n p) b)
+    → IsBasisWithin m (table_after field_ℚ m n (start field_ℚ m n p) b) (table_after field_ℚ m n (start field_ℚ m n p) a) → ⊥
 
 -- a run comes to a table with no column to enter, within as many steps as there are lists of basic columns
 abbrev pub RunsEnd : Type 0

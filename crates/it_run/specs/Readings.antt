@@ -10,24 +10,26 @@ module _ {A : Type 0} (F : OrderedField A) (m n : ℕ) where
   weight t j = sum_to F.ring m (λ i. cond (eqb (t.basis i) j) (t.entry i (n + m)) F.ring.null)
 
   -- the weights other than 0 of so many columns from column j on, by column
-  abbrev pub weights_from : Table A → ℕ → ℕ → List (ℕ × A)
-  weights_from t j zero = []
-  weights_from t j (suc left) = cond (F.order.is_least (weight t j) && F.order.is_least (F.ring.neg (weight t j))) (weights_from t (suc j) left) ((j, weight t j) ∷ weights_from t (suc j) left)
+  abbrev pub weights_from_column : Table A → ℕ → ℕ → List (ℕ × A)
+  weights_from_column t j zero = []
+  weights_from_column t j (suc left) = cond (F.order.is_least (weight t j) && F.order.is_least (F.ring.neg (weight t j))) (weights_from_column t (suc j) left) ((j, weight t j) ∷ weights_from_column t (suc j) left)
 
+  -- the weights other than 0 of all columns but the artificial ones
   abbrev pub weights : Table A → List (ℕ × A)
-  weights t = weights_from t 0 n
+  weights t = weights_from_column t 0 n
 
   -- the point at row k: the row's sign times the cost of its artificial column
-  abbrev pub point_at : FeasibilityProblem A → Table A → ℕ → A
-  point_at p t k = F.ring.mul (sign F p k) (t.entry m (n + k))
+  abbrev pub point_value : FeasibilityProblem A → Table A → ℕ → A
+  point_value p t k = F.ring.mul (sign F p k) (t.entry m (n + k))
 
   -- its values at so many rows from row k on
-  abbrev pub point_from : FeasibilityProblem A → Table A → ℕ → ℕ → List A
-  point_from p t k zero = []
-  point_from p t k (suc left) = point_at p t k ∷ point_from p t (suc k) left
+  abbrev pub point_from_row : FeasibilityProblem A → Table A → ℕ → ℕ → List A
+  point_from_row p t k zero = []
+  point_from_row p t k (suc left) = point_value p t k ∷ point_from_row p t (suc k) left
 
+  -- its values at all rows
   abbrev pub point : FeasibilityProblem A → Table A → List A
-  point p t = point_from p t 0 m
+  point p t = point_from_row p t 0 m
 
 module _ {A : Type 0} (F : OrderedField A) where
   -- the sum over a list of numbered weights of weight times f of the number

@@ -9,9 +9,9 @@ pub data RunEndView (W P : Type 0) : Type 0 where
   Width : ℕ → RunEndView W P
 
 -- the state after k steps from s
-abbrev pub after : {S : Type 0} → (S → S) → S → ℕ → S
-after next s zero = s
-after next s (suc k) = next (after next s k)
+abbrev pub state_after_steps : {S : Type 0} → (S → S) → S → ℕ → S
+state_after_steps next s zero = s
+state_after_steps next s (suc k) = next (state_after_steps next s k)
 
 module _ {S W P : Type 0} (IsDone IsStuck Fits : S → Type 0) (next : S → S) (weights : S → W) (point : S → P) where
   -- From the state s after k steps, with so many steps left, the run ends so. At each state the first of these that holds is

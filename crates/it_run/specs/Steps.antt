@@ -1,11 +1,11 @@
--- A step of the run on a tableau, and the run to its last table. No public clause cites this.
+-- No public clause cites this module: a step of the run on a tableau, and the run to its last table.
 use Rattle.std.specs.Prelude.{◌≡◌, ℕ, ◌<◌, Bool, true, false, cond, ltb, ◌&&◌, Option, Some, None}
 use Rattle.it_rational.specs.Rational.{Rational, plus, minus, is_at_least_zero}
 use Rattle.it_rational.proofs.Field.{field_ℚ}
 use Rattle.it_tableau.specs.Tables.{Table, FeasibilityProblem, ratio}
 use Rattle.it_tableau.specs.Invariants.{HasInvariants}
 use Rattle.it_tableau.specs.TableauViews.{TableauView, height, table, IsPositive, KeepsFrame}
-use Rattle.it_run.specs.Choice.{entering, is_candidate, leaving, leaving_of, next, IsDone, IsStuck}
+use Rattle.it_run.specs.Choice.{entering_column, is_candidate, leaving_row, leaving_row_of, next, IsDone, IsStuck}
 use Rattle.it_run.specs.Runs.{RunEndView, EndsAs, EndsBy}
 use Rattle.it_run.specs.Runs.RunEndView.{Weights, Point, Pivots, Width}
 use Rattle.it_run.specs.Solving.{StepFits}
@@ -13,27 +13,27 @@ use Rattle.it_run.specs.declared.run.RunEnd.{RunEnd}
 use Rattle.it_run.specs.declared.run.RunEnd.TheVariants as run_ends
 
 -- whether a row comes before the best so far, by its ratio and its basic column
-abbrev pub is_before : Rational → ℕ → Rational → ℕ → Bool
-is_before q b best d = cond (is_at_least_zero (plus q (minus best))) (is_at_least_zero (plus best (minus q)) && ltb b d) true
+abbrev pub ratio_precedes : Rational → ℕ → Rational → ℕ → Bool
+ratio_precedes q b best d = cond (is_at_least_zero (plus q (minus best))) (is_at_least_zero (plus best (minus q)) && ltb b d) true
 
 -- the best row so far with its ratio, after row i with the ratio q
 abbrev pub best_after : Option (ℕ × Rational) → ℕ → Rational → (ℕ → ℕ) → Option (ℕ × Rational)
 best_after None i q basis = Some (i, q)
-best_after (Some b) i q basis = cond (is_before q (basis i) b.1 (basis b.0)) (Some (i, q)) (Some b)
+best_after (Some b) i q basis = cond (ratio_precedes q (basis i) b.1 (basis b.0)) (Some (i, q)) (Some b)
 
 -- it is the best of the rows below i
 abbrev pub IsBestOf : ℕ → ℕ → Table Rational → ℕ → ℕ → Option (ℕ × Rational) → Type 0
-IsBestOf m n t c i None = leaving_of field_ℚ m n t c i ≡ m
-IsBestOf m n t c i (Some b) = (leaving_of field_ℚ m n t c i ≡ b.0) × (b.0 < i) × (b.1 ≡ ratio field_ℚ m n t c b.0) × (is_candidate field_ℚ t c b.0 ≡ true)
+IsBestOf m n t c i None = leaving_row_of field_ℚ m n t c i ≡ m
+IsBestOf m n t c i (Some b) = (leaving_row_of field_ℚ m n t c i ≡ b.0) × (b.0 < i) × (b.1 ≡ ratio field_ℚ m n t c b.0) × (is_candidate field_ℚ t c b.0 ≡ true)
 
 -- the row that leaves, or none
 abbrev pub IsLeaving : ℕ → ℕ → Table Rational → ℕ → Option ℕ → Type 0
-IsLeaving m n t c None = leaving field_ℚ m n t c ≡ m
-IsLeaving m n t c (Some r) = (leaving field_ℚ m n t c ≡ r) × (r < m) × IsPositive (t.entry r c)
+IsLeaving m n t c None = leaving_row field_ℚ m n t c ≡ m
+IsLeaving m n t c (Some r) = (leaving_row field_ℚ m n t c ≡ r) × (r < m) × IsPositive (t.entry r c)
 
 -- where some column enters, some row leaves
 abbrev pub IsReady : ℕ → ℕ → Table Rational → Type 0
-IsReady m n t = ¬ (IsStuck field_ℚ m n t) → leaving field_ℚ m n t (entering field_ℚ m n t) < m
+IsReady m n t = ¬ (IsStuck field_ℚ m n t) → leaving_row field_ℚ m n t (entering_column field_ℚ m n t) < m
 
 -- a step was made
 pub record IsStep (old new : TableauView) : Type 0 where
@@ -48,6 +48,7 @@ abbrev pub IsStepOrStuck : TableauView → TableauView → Bool → Type 0
 IsStepOrStuck old new false = IsStuck field_ℚ (height old) old.generators (table old) × (new ≡ old)
 IsStepOrStuck old new true = IsStep old new
 
+-- a step is left to make, and a number of it doesn't fit
 abbrev pub IsWide : ℕ → ℕ → Table Rational → Type 0
 IsWide m n t = ¬ (IsStuck field_ℚ m n t) × ¬ (StepFits m n t)
 
@@ -55,6 +56,7 @@ IsWide m n t = ¬ (IsStuck field_ℚ m n t) × ¬ (StepFits m n t)
 abbrev pub Reaches : ℕ → ℕ → ℕ → ℕ → Table Rational → RunEndView (Table Rational) (Table Rational) → Type 0
 Reaches m n = EndsAs (IsDone field_ℚ m n) (IsStuck field_ℚ m n) (StepFits m n) (next field_ℚ m n) (λ t. t) (λ t. t)
 
+-- it from a tableau
 abbrev pub ReachesFrom : TableauView → ℕ → ℕ → RunEndView (Table Rational) (Table Rational) → Type 0
 ReachesFrom t left k = Reaches (height t) t.generators left k (table t)
 
@@ -62,6 +64,7 @@ ReachesFrom t left k = Reaches (height t) t.generators left k (table t)
 abbrev pub ReachesBy : ℕ → ℕ → Option ℕ → Table Rational → RunEndView (Table Rational) (Table Rational) → Type 0
 ReachesBy m n = EndsBy (IsDone field_ℚ m n) (IsStuck field_ℚ m n) (StepFits m n) (next field_ℚ m n) (λ t. t) (λ t. t)
 
+-- the end that the code tells, with the last table
 abbrev pub run_end_view : RunEnd → Table Rational → RunEndView (Table Rational) (Table Rational)
 run_end_view run_ends.Weights t = Weights t
 run_end_view run_ends.Point t = Point t
@@ -69,18 +72,18 @@ run_end_view (run_ends.Pivots k) t = Pivots k
 run_end_view (run_ends.Width k) t = Width k
 
 -- the table has the invariants, for some problem
-abbrev pub HoldsSome : TableauView → Type 0
-HoldsSome t = (p : FeasibilityProblem Rational) × HasInvariants field_ℚ (height t) t.generators p (table t)
+abbrev pub HasInvariantsForSome : TableauView → Type 0
+HasInvariantsForSome t = (p : FeasibilityProblem Rational) × HasInvariants field_ℚ (height t) t.generators p (table t)
 
 -- it can be read, and has the frame of an earlier one
-pub record IsKept (old new : TableauView) : Type 0 where
+pub record IsTableauKept (old new : TableauView) : Type 0 where
   pub usable : new.spent ≡ false
   pub frame : KeepsFrame old new
-  pub holds : HoldsSome new
+  pub holds : HasInvariantsForSome new
 
 -- what an end leaves: after a wide step nothing is known of the tableau
 abbrev pub LeavesTableau : RunEnd → TableauView → TableauView → Type 0
-LeavesTableau run_ends.Weights old new = IsKept old new
-LeavesTableau run_ends.Point old new = IsKept old new
-LeavesTableau (run_ends.Pivots k) old new = IsKept old new
+LeavesTableau run_ends.Weights old new = IsTableauKept old new
+LeavesTableau run_ends.Point old new = IsTableauKept old new
+LeavesTableau (run_ends.Pivots k) old new = IsTableauKept old new
 LeavesTableau (run_ends.Width k) old new = Unit {0}

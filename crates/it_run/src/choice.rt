@@ -3,9 +3,9 @@ ghost use Rattle.std.specs.Prelude.{◌≡◌, ◌<◌, false, IfOk, OnErr, OnOk
 ghost use Rattle.std.specs.Option.{IfNone, IfSome};
 ghost use Rattle.it_rational.proofs.Field.{field_ℚ};
 ghost use Rattle.it_tableau.specs.TableauViews.{height, table};
-ghost use Rattle.it_run.specs.Choice.{entering as entering_of};
+ghost use Rattle.it_run.specs.Choice.{entering_column as entering_of};
 ghost use Rattle.it_run.specs.Solving.{RatiosFit};
-ghost use Rattle.it_run.specs.Steps.{best_after, is_before, IsLeaving};
+ghost use Rattle.it_run.specs.Steps.{best_after, ratio_precedes, IsLeaving};
 
 use it_fraction::{Fraction, Wide};
 use it_tableau::Tableau;
@@ -13,7 +13,7 @@ use std::cmp::Ordering;
 
 /// The least-numbered column with a cost below 0 that isn't artificial.
 #[tactic(auto, using(crate::proofs::SearchLemmas::first_is, crate::proofs::SearchLemmas::first_none))]
-pub fn entering(tableau: &Tableau) -> Option<usize>
+pub fn entering_column(tableau: &Tableau) -> Option<usize>
     requires { tableau.now.spent ≡ false }
     ensures within { IfSome result (λ c. c < tableau.now.generators) }
     ensures some { IfSome result (λ c. entering_of field_ℚ (height tableau.now) tableau.now.generators (table tableau.now) ≡ c) }
@@ -29,8 +29,8 @@ pub fn entering(tableau: &Tableau) -> Option<usize>
 
 /// Whether a row comes before the best so far: its ratio is less, or as great with a smaller basic column.
 #[tactic(auto, using(crate::proofs::SearchLemmas::before_less, crate::proofs::SearchLemmas::before_greater, crate::proofs::SearchLemmas::before_equal))]
-fn precedes(ratio: Fraction, column: usize, best: Fraction, best_column: usize) -> bool
-    ensures { result ≡ is_before ratio column best best_column }
+fn ratio_precedes(ratio: Fraction, column: usize, best: Fraction, best_column: usize) -> bool
+    ensures { result ≡ ratio_precedes ratio column best best_column }
 {
     match ratio.compare(best) {
         Ordering::Less => true,
@@ -54,7 +54,12 @@ fn best_after(
     match best {
         None => Some((row, ratio)),
         Some((best_row, least)) => {
-            if precedes(ratio, tableau.basic(row), least, tableau.basic(best_row)) {
+            if ratio_precedes(
+                ratio,
+                tableau.basic_column(row),
+                least,
+                tableau.basic_column(best_row),
+            ) {
                 Some((row, ratio))
             } else {
                 Some((best_row, least))
@@ -64,7 +69,7 @@ fn best_after(
 }
 
 /// The row with the least ratio of those with an entry above 0, of several the one with the least basic column.
-pub fn leaving(tableau: &Tableau, column: usize) -> Result<Option<usize>, Wide>
+pub fn leaving_row(tableau: &Tableau, column: usize) -> Result<Option<usize>, Wide>
     requires usable { tableau.now.spent ≡ false }
     requires column { column < tableau.now.generators }
     ensures ok { OnOk result (RatiosFit (height tableau.now) tableau.now.generators (table tableau.now) column) }

@@ -1,5 +1,5 @@
 //! What is read off the last table of a run.
-ghost use Rattle.std.specs.Prelude.{◌≡◌, ◌<◌, ◌+◌, ◌++◌, ◌∷◌, [], false, pos, IfOk, OnOk, slice_index_or};
+ghost use Rattle.std.specs.Prelude.{◌≡◌, ◌<◌, ◌+◌, ◌++◌, ◌∷◌, [], false, pos, IfOk, OnOk};
 ghost use Rattle.std.specs.Bool.{OnFalse, OnTrue};
 ghost use Rattle.std.specs.Option.{IfNone, IfSome};
 ghost use Rattle.it_rational.proofs.Field.{field_ℚ};
@@ -8,7 +8,7 @@ ghost use Rattle.it_tableau.specs.TableauViews.{height, table};
 ghost use Rattle.it_tableau.specs.Tables.{FeasibilityProblem};
 ghost use Rattle.it_run.specs.Readings.{point as point_of, weight, weights as weights_of};
 ghost use Rattle.it_run.specs.Answers.{sign_number, HasSigns};
-ghost use Rattle.it_run.specs.Steps.{HoldsSome};
+ghost use Rattle.it_run.specs.Steps.{HasInvariantsForSome};
 
 use it_fraction::Fraction;
 use it_tableau::Tableau;
@@ -17,12 +17,12 @@ use std::alloc::{AllocError, Global};
 /// The right side of the row in which column j is basic, None where it is basic in none.
 fn weight_of(tableau: &Tableau, j: usize) -> Option<Fraction>
     requires usable { tableau.now.spent ≡ false }
-    requires holds { HoldsSome tableau.now }
+    requires holds { HasInvariantsForSome tableau.now }
     ensures some { IfSome result (λ w. w ≡ weight field_ℚ (height tableau.now) tableau.now.generators (table tableau.now) j) }
     ensures none { IfNone result (weight field_ℚ (height tableau.now) tableau.now.generators (table tableau.now) j ≡ whole (pos 0)) }
 {
     for i in 0..tableau.rows() {
-        if tableau.basic(i) == j {
+        if tableau.basic_column(i) == j {
             return Some(tableau.rhs(i));
         }
     }
@@ -53,7 +53,7 @@ fn append(
 /// The weights other than 0, by column.
 pub fn weights(alloc: Global, tableau: &Tableau) -> Result<Vec<(usize, Fraction)>, AllocError>
     requires usable { tableau.now.spent ≡ false }
-    requires holds { HoldsSome tableau.now }
+    requires holds { HasInvariantsForSome tableau.now }
     ensures { IfOk result (λ out. out.items ≡ weights_of field_ℚ (height tableau.now) tableau.now.generators (table tableau.now)) }
 {
     let mut out = Vec::new(alloc);
@@ -67,16 +67,6 @@ pub fn weights(alloc: Global, tableau: &Tableau) -> Result<Vec<(usize, Fraction)
     Ok(out)
 }
 
-/// Whether row k was negated at the start.
-#[tactic(auto, using(crate::proofs::FillingLemmas::sign_below, crate::proofs::FillingLemmas::sign_above))]
-fn is_negated(tableau: &Tableau, k: usize) -> bool
-    requires usable { tableau.now.spent ≡ false }
-    requires row { k < height tableau.now }
-    ensures { result ≡ slice_index_or tableau.now.negated k false }
-{
-    if tableau.sign(k) < 0 { true } else { false }
-}
-
 /// The value at coordinate k: the cost of its artificial column, with the row's sign.
 fn value_at(tableau: &Tableau, k: usize) -> Fraction
     requires usable { tableau.now.spent ≡ false }
@@ -85,7 +75,7 @@ fn value_at(tableau: &Tableau, k: usize) -> Fraction
 {
     let artificials = tableau.columns() - tableau.rows();
     let cost = tableau.cost(artificials + k);
-    if is_negated(tableau, k) {
+    if tableau.is_negated(k) {
         cost.neg()
     } else {
         cost

@@ -5,9 +5,9 @@ ghost use Rattle.it_rational.proofs.Field.{field_ℚ};
 ghost use Rattle.it_tableau.specs.TableauViews.{height, table};
 ghost use Rattle.it_run.specs.Choice.{IsDone};
 ghost use Rattle.it_run.specs.Runs.{clip_number};
-ghost use Rattle.it_run.specs.Steps.{run_end_view, HoldsSome, IsReady, IsWide, LeavesTableau, Reaches, ReachesBy, IsStepOrStuck};
+ghost use Rattle.it_run.specs.Steps.{run_end_view, HasInvariantsForSome, IsReady, IsWide, LeavesTableau, Reaches, ReachesBy, IsStepOrStuck};
 
-use crate::choice::{entering, leaving};
+use crate::choice::{entering_column, leaving_row};
 use it_space::RowFault;
 use it_tableau::Tableau;
 use std::alloc::AllocError;
@@ -28,10 +28,10 @@ fn step(tableau: &mut Tableau) -> Result<bool, RowFault>
     ensures value { IfOk result (λ moved. IsStepOrStuck tableau.old tableau.new moved) }
     ensures wide { IfErr result (λ fault. fault ≡ RowFault.Wide → IsWide (height tableau.old) tableau.old.generators (table tableau.old)) }
 {
-    let Some(column) = entering(tableau) else {
+    let Some(column) = entering_column(tableau) else {
         return Ok(false);
     };
-    match leaving(tableau, column) {
+    match leaving_row(tableau, column) {
         Ok(Some(row)) => {
             tableau.pivot(row, column)?;
             Ok(true)
@@ -58,7 +58,7 @@ fn is_done(tableau: &Tableau) -> bool
 /// Makes the run with a budget of steps.
 fn run_within(tableau: &mut Tableau, budget: u32) -> Result<RunEnd, AllocError>
     requires usable { tableau.old.spent ≡ false }
-    requires holds { HoldsSome tableau.old }
+    requires holds { HasInvariantsForSome tableau.old }
     ensures end { IfOk result (λ ending. Reaches (height tableau.old) tableau.old.generators budget 0 (table tableau.old) (run_end_view ending (table tableau.new))) }
     ensures kept { IfOk result (λ ending. LeavesTableau ending tableau.old tableau.new) }
 {
@@ -76,7 +76,7 @@ fn run_within(tableau: &mut Tableau, budget: u32) -> Result<RunEnd, AllocError>
     if is_done(tableau) {
         return Ok(RunEnd::Weights);
     }
-    match entering(tableau) {
+    match entering_column(tableau) {
         Some(_) => Ok(RunEnd::Pivots(budget)),
         None => Ok(RunEnd::Point),
     }
@@ -96,7 +96,7 @@ fn next_number(number: u32) -> u32
 /// Makes the run without a budget. It ends since no set of basic columns comes back (Bland 1977).
 fn run_on(tableau: &mut Tableau) -> Result<RunEnd, AllocError>
     requires usable { tableau.old.spent ≡ false }
-    requires holds { HoldsSome tableau.old }
+    requires holds { HasInvariantsForSome tableau.old }
     ensures end { IfOk result (λ ending. ReachesBy (height tableau.old) tableau.old.generators None (table tableau.old) (run_end_view ending (table tableau.new))) }
     ensures kept { IfOk result (λ ending. LeavesTableau ending tableau.old tableau.new) }
 {
@@ -118,7 +118,7 @@ fn run_on(tableau: &mut Tableau) -> Result<RunEnd, AllocError>
 /// Makes the run with a budget of steps, or without one.
 pub fn run(tableau: &mut Tableau, budget: Option<u32>) -> Result<RunEnd, AllocError>
     requires usable { tableau.old.spent ≡ false }
-    requires holds { HoldsSome tableau.old }
+    requires holds { HasInvariantsForSome tableau.old }
     ensures end { IfOk result (λ ending. ReachesBy (height tableau.old) tableau.old.generators budget (table tableau.old) (run_end_view ending (table tableau.new))) }
     ensures kept { IfOk result (λ ending. LeavesTableau ending tableau.old tableau.new) }
 {

@@ -13,43 +13,43 @@ use Rattle.it_run.specs.Choice.{next, IsDone, IsStuck}
 use Rattle.it_run.specs.Readings.{weights, point}
 use Rattle.it_run.specs.Runs.{RunEndView, IsWithinBudget}
 use Rattle.it_run.specs.Solving.{RunsTo, StepFits}
-use Rattle.it_run.specs.declared.answering.Solved.{Solved}
-use Rattle.it_run.specs.declared.answering.Solved.TheVariants.{Weights, Point, Pivots, Width}
+use Rattle.it_run.specs.declared.answering.RunAnswer.{RunAnswer}
+use Rattle.it_run.specs.declared.answering.RunAnswer.TheVariants.{Weights, Point, Pivots, Width}
 use Rattle.it_run.proofs.BudgetLemmas.{one_end_by, right_by, within_budget}
 use Rattle.it_run.proofs.RunLemmas.{EndIsRight}
-use Rattle.it_simplex.specs.Answers.{IsRightSolved, Solves}
+use Rattle.it_simplex.specs.Answers.{IsRightRunAnswer, Solves}
 
 module _ (cs : List ℕ) (columns : List Terms) (target : Terms) (t : TableauView) (s : IsStart cs columns target t) where
   -- what is said of the start's sizes and table, and of the tableau's
-  moved : (P : ℕ → ℕ → Table Rational → Type 0) → P (height t) t.generators (table t) → P (length cs) (length columns) (start_of cs columns target)
-  moved P x = subst (P (length cs) (length columns)) s.table_is (subst (λ (n : ℕ). P (length cs) n (table t)) s.generators_are (subst (λ (m : ℕ). P m t.generators (table t)) s.height_is x))
+  by_start : (P : ℕ → ℕ → Table Rational → Type 0) → P (height t) t.generators (table t) → P (length cs) (length columns) (start_of cs columns target)
+  by_start P x = subst (P (length cs) (length columns)) s.table_is (subst (λ (n : ℕ). P (length cs) n (table t)) s.generators_are (subst (λ (m : ℕ). P m t.generators (table t)) s.height_is x))
 
-  turned : (b : Bool) (x y : Rational) → cond (not b) x y ≡ cond b y x
-  turned true x y = refl
-  turned false x y = refl
+  cond_of_not : (b : Bool) (x y : Rational) → cond (not b) x y ≡ cond b y x
+  cond_of_not true x y = refl
+  cond_of_not false x y = refl
 
   start_signs : HasSigns t (feasibility_problem cs columns target)
   start_signs k l = ap (λ b. cond b (minus (whole (pos 1))) (whole (pos 1))) (s.signs_are k (omega (arith, s.height_is)))
-      ∙ turned (is_at_least_zero (whole (coefficient target (slice_index_or cs k 0)))) (minus (whole (pos 1))) (whole (pos 1))
+      ∙ cond_of_not (is_at_least_zero (whole (coefficient target (slice_index_or cs k 0)))) (minus (whole (pos 1))) (whole (pos 1))
 
   -- the tableau is the start of the question's problem
-  pub starts : IsStartOf (feasibility_problem cs columns target) t
-  starts = record {
+  pub start_is_of_problem : IsStartOf (feasibility_problem cs columns target) t
+  start_is_of_problem = record {
     table_is = s.table_is ∙ ap₂ (λ m n. start field_ℚ m n (feasibility_problem cs columns target)) (sym s.height_is) (sym s.generators_are);
     signs = start_signs;
   }
 
   -- the run from the tableau is that from the start
-  run_from_start : (budget : Option ℕ) (a : Solved) → RunsFrom t budget a → RunsTo (length cs) (length columns) (feasibility_problem cs columns target) budget (start_of cs columns target) (solved_end a)
-  run_from_start budget a r = moved (λ m n t. RunsTo m n (feasibility_problem cs columns target) budget t (solved_end a)) (r (feasibility_problem cs columns target) starts)
+  run_from_start : (budget : Option ℕ) (a : RunAnswer) → RunsFrom t budget a → RunsTo (length cs) (length columns) (feasibility_problem cs columns target) budget (start_of cs columns target) (solved_end a)
+  run_from_start budget a r = by_start (λ m n t. RunsTo m n (feasibility_problem cs columns target) budget t (solved_end a)) (r (feasibility_problem cs columns target) start_is_of_problem)
 
-  pub solves : (budget : Option ℕ) (a : Solved) → StartFits (length cs) (length columns) (feasibility_problem cs columns target) → RunsFrom t budget a → Solves cs columns target budget (solved_end a)
-  solves budget a f r = inr (f, run_from_start budget a r)
+  pub run_solves : (budget : Option ℕ) (a : RunAnswer) → StartFits (length cs) (length columns) (feasibility_problem cs columns target) → RunsFrom t budget a → Solves cs columns target budget (solved_end a)
+  run_solves budget a f r = inr (f, run_from_start budget a r)
 
-  pub right : (budget : Option ℕ) (a : Solved) → RunsFrom t budget a → IsRightSolved cs columns target a
-  right budget a r = from_end a (right_by field_ℚ (length cs) (length columns) (StepFits (length cs) (length columns)) (feasibility_problem cs columns target) budget (solved_end a) (run_from_start budget a r))
+  pub answer_is_right : (budget : Option ℕ) (a : RunAnswer) → RunsFrom t budget a → IsRightRunAnswer cs columns target a
+  answer_is_right budget a r = from_end a (right_by field_ℚ (length cs) (length columns) (StepFits (length cs) (length columns)) (feasibility_problem cs columns target) budget (solved_end a) (run_from_start budget a r))
     where
-      from_end : (a : Solved) → EndIsRight field_ℚ (length cs) (length columns) (feasibility_problem cs columns target) (solved_end a) → IsRightSolved cs columns target a
+      from_end : (a : RunAnswer) → EndIsRight field_ℚ (length cs) (length columns) (feasibility_problem cs columns target) (solved_end a) → IsRightRunAnswer cs columns target a
       from_end (Weights ws) x = x
       from_end (Point q) x = x
       from_end (Pivots k) x = tt
@@ -60,9 +60,9 @@ if_none None P f = f refl
 if_none (Some k) P f = tt
 
 -- without a budget the answer isn't that the budget is used up
-pub unbound : (cs : List ℕ) (columns : List Terms) (target : Terms) (e : RunEndView (List (ℕ × Rational)) (List Rational)) → Solves cs columns target None e → IsWithinBudget e
-unbound cs columns target e (inl a) = subst IsWithinBudget (sym a.1) tt
-unbound cs columns target e (inr a) =
+pub ends_within_budget : (cs : List ℕ) (columns : List Terms) (target : Terms) (e : RunEndView (List (ℕ × Rational)) (List Rational)) → Solves cs columns target None e → IsWithinBudget e
+ends_within_budget cs columns target e (inl a) = subst IsWithinBudget (sym a.1) tt
+ends_within_budget cs columns target e (inr a) =
     let m = length cs in let n = length columns in
     within_budget (IsDone field_ℚ m n) (IsStuck field_ℚ m n) (StepFits m n) (next field_ℚ m n) (weights field_ℚ m n) (point field_ℚ m n (feasibility_problem cs columns target))
     (start_of cs columns target) e a.1

@@ -3,17 +3,17 @@ ghost use Rattle.std.specs.Prelude.{◌≡◌, false, IfOk};
 ghost use Rattle.std.specs.Option.{IfNone};
 ghost use Rattle.it_run.specs.Answers.{solved_end, HasProblem, RunsFrom};
 ghost use Rattle.it_run.specs.Runs.{IsWithinBudget};
-ghost use Rattle.it_simplex.specs.Answers.{IsRightSolved, Solves};
+ghost use Rattle.it_simplex.specs.Answers.{IsRightRunAnswer, Solves};
 
 use crate::budget::Budget;
 use it_engine::whole_run;
-use it_run::{Solved, exact_run};
+use it_run::{RunAnswer, exact_run};
 use it_space::{Row, RowFault};
 use it_tableau::Tableau;
 use std::alloc::{AllocError, Global};
 
 /// The run by whole numbers, and where these give up by fractions from the start.
-fn run_answer(alloc: Global, start: Tableau, budget: Option<u32>) -> Result<Solved, AllocError>
+fn run_answer(alloc: Global, start: Tableau, budget: Option<u32>) -> Result<RunAnswer, AllocError>
     requires usable { start.spent ≡ false }
     requires start { HasProblem start }
     ensures { IfOk result (λ solved. RunsFrom start budget solved) }
@@ -33,14 +33,14 @@ pub fn solve(
     columns: &[Row],
     target: &Row,
     budget: Budget,
-) -> Result<Solved, AllocError>
+) -> Result<RunAnswer, AllocError>
     ensures end { IfOk result (λ solved. Solves coordinates.now columns.now target.now budget (solved_end solved)) }
     ensures unbound { IfNone budget (IfOk result (λ solved. IsWithinBudget (solved_end solved))) }
-    ensures right { IfOk result (λ solved. IsRightSolved coordinates.now columns.now target.now solved) }
+    ensures right { IfOk result (λ solved. IsRightRunAnswer coordinates.now columns.now target.now solved) }
 {
     match Tableau::start(alloc, coordinates, columns, target) {
         Ok(start) => run_answer(alloc, start, budget.steps()),
-        Err(RowFault::Wide) => Ok(Solved::Width(0)),
+        Err(RowFault::Wide) => Ok(RunAnswer::Width(0)),
         Err(RowFault::Memory) => Err(AllocError),
     }
 }

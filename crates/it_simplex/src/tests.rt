@@ -2,7 +2,7 @@ ghost use Rattle.std.specs.Prelude.{◌≡◌, ◌≢◌, ◌+◌, ◌++◌, ◌
 ghost use Rattle.std.specs.Bool.{OnTrue};
 ghost use Rattle.it_number.specs.Limit.{IsWithin};
 
-use crate::{Budget, Solved, solve};
+use crate::{Budget, RunAnswer, solve};
 use it_engine::whole_run;
 use it_fraction::Fraction;
 use it_space::Row;
@@ -98,23 +98,23 @@ fn same_values(values: &[Fraction], wanted: &[(i128, i128)]) -> bool {
     true
 }
 
-fn agrees(solved: &Solved, end: &End) -> bool {
+fn agrees(solved: &RunAnswer, end: &End) -> bool {
     match (solved, end) {
-        (Solved::Weights(weights), End::Weights(wanted)) => same_weights(
+        (RunAnswer::Weights(weights), End::Weights(wanted)) => same_weights(
             weights.as_slice(),
             wanted,
         ),
-        (Solved::Point(values), End::Point(wanted)) => same_values(values.as_slice(), wanted),
-        (Solved::Pivots(steps), End::Pivots(wanted)) => *steps == *wanted,
-        (Solved::Width(step), End::Width(wanted)) => *step == *wanted,
+        (RunAnswer::Point(values), End::Point(wanted)) => same_values(values.as_slice(), wanted),
+        (RunAnswer::Pivots(steps), End::Pivots(wanted)) => *steps == *wanted,
+        (RunAnswer::Width(step), End::Width(wanted)) => *step == *wanted,
         _ => false,
     }
 }
 
 // without a budget a run ends as with one that isn't used up, and never for want of steps
-fn ends_freely(solved: &Solved, end: &End) -> bool {
+fn ends_freely(solved: &RunAnswer, end: &End) -> bool {
     match end {
-        End::Pivots(_) => !matches!(solved, Solved::Pivots(_)),
+        End::Pivots(_) => !matches!(solved, RunAnswer::Pivots(_)),
         end => agrees(solved, end),
     }
 }
@@ -129,7 +129,7 @@ fn columns_of(alloc: Global, system: &System) -> Result<Vec<Row>, AllocError> {
 
 const COORDINATES: [u32; 6] = [1, 2, 3, 4, 5, 6];
 
-fn answer(alloc: Global, system: &System, budget: Budget) -> Result<Solved, AllocError> {
+fn answer(alloc: Global, system: &System, budget: Budget) -> Result<RunAnswer, AllocError> {
     let columns = columns_of(alloc, system)?;
     let target = row_of(alloc, system.target)?;
     let count = system.target.len().min(6);
@@ -149,7 +149,7 @@ fn whole_end(
     columns: &[Row],
     target: &Row,
     budget: Option<u32>,
-) -> Result<Option<Solved>, AllocError> {
+) -> Result<Option<RunAnswer>, AllocError> {
     match Tableau::start(alloc, coordinates, columns, target) {
         Ok(start) => whole_run(alloc, &start, budget),
         Err(_) => Ok(None),
@@ -160,7 +160,7 @@ fn whole_answer(
     alloc: Global,
     system: &System,
     budget: Option<u32>,
-) -> Result<Option<Solved>, AllocError> {
+) -> Result<Option<RunAnswer>, AllocError> {
     let columns = columns_of(alloc, system)?;
     let target = row_of(alloc, system.target)?;
     let count = system.target.len().min(6);
@@ -233,7 +233,7 @@ fn exact_fractions_take_over(rt: HostRuntime) -> Result<(), Fail> {
         let system = &takeover.system;
         let kept = whole_answer(alloc, system, Some(takeover.lost))?;
         assert!(rt;
-            matches!(&kept, Some(Solved::Pivots(steps)) if *steps == takeover.lost),
+            matches!(&kept, Some(RunAnswer::Pivots(steps)) if *steps == takeover.lost),
             "{kept:?}"
         );
         let lost = whole_answer(alloc, system, Some(system.budget))?;
@@ -266,7 +266,7 @@ fn many_steps_are_made(rt: HostRuntime) -> Result<(), Fail> {
             &target,
             budget,
         )? {
-            Solved::Weights(weights) => {
+            RunAnswer::Weights(weights) => {
                 assert_eq!(rt; (steps, weights.len()), (255, 255));
                 for (column, weight) in weights.as_slice() {
                     assert!(rt; weight.num() == weight.den(), "{column} {weight:?}");

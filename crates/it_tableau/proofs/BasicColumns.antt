@@ -10,8 +10,8 @@ use Rattle.it_tableau.proofs.Sums.{sum_same, sum_changed}
 
 module _ {A : Type 0} (F : OrderedField A) (m n : ℕ) where
   -- no two rows have one basic column
-  pub distinct : (p : FeasibilityProblem A) (t : Table A) → HasInvariants F m n p t → (i k : ℕ) → i < m → k < m → t.basis i ≡ t.basis k → i ≡ k
-  distinct p t h i k hi hk e = by_cases (cases_eq i k)
+  pub basic_columns_differ : (p : FeasibilityProblem A) (t : Table A) → HasInvariants F m n p t → (i k : ℕ) → i < m → k < m → t.basis i ≡ t.basis k → i ≡ k
+  basic_columns_differ p t h i k hi hk e = by_cases (cases_eq i k)
     where
       by_cases : (i ≡ k) ⊎ (i ≡ k → ⊥) → i ≡ k
       by_cases (inl d) = d

@@ -4,18 +4,18 @@ use Rattle.std.proofs.lemmas.Bool.{cases_eq, cases_lt, eq-eqb, ne_eqb}
 use Rattle.std.proofs.lemmas.List.{drop_all}
 use Rattle.std.proofs.Math.Seq.{drop-cons}
 use Rattle.it_rational.specs.Rational.{Rational, whole}
-use Rattle.it_tableau.specs.SparseRows.{RowTerms, number_at, Climbs}
-use Rattle.it_tableau.specs.Merging.{column_at, term_at, IsAppended}
+use Rattle.it_tableau.specs.SparseRows.{RowTerms, entry_in, Climbs}
+use Rattle.it_tableau.specs.Merging.{column_at, number_of_term, IsAppended}
 use Rattle.it_tableau.proofs.Climbing.{climbs_below, climbs_more, climbs_none, climbs_upto, climbs_weaker, number_more}
 
 -- the terms of the columns below next are put: they have the numbers f, of which F holds
 pub record IsBuilt (f : ℕ → Rational) (F : ℕ → Type 0) (next : ℕ) (out : RowTerms) : Type 0 where
-  pub entries : (k : ℕ) → k < next → number_at out k ≡ f k
+  pub entries : (k : ℕ) → k < next → entry_in out k ≡ f k
   pub climbs : Climbs 0 next out
   pub fits : (k : ℕ) → k < next → F k
 
-pub built_begun : (f : ℕ → Rational) (F : ℕ → Type 0) → IsBuilt f F 0 []
-built_begun f F = record { entries = λ k l. absurd (omega arith); climbs = omega arith; fits = λ k l. absurd (omega arith) }
+pub nothing_is_built : (f : ℕ → Rational) (F : ℕ → Type 0) → IsBuilt f F 0 []
+nothing_is_built f F = record { entries = λ k l. absurd (omega arith); climbs = omega arith; fits = λ k l. absurd (omega arith) }
 
 -- columns without a number
 pub built_skip : (f : ℕ → Rational) (F : ℕ → Type 0) (next c : ℕ) (out : RowTerms) → next ≤ c → ((k : ℕ) → next ≤ k → k < c → F k × (f k ≡ whole (pos 0))) → IsBuilt f F next out → IsBuilt f F c out
@@ -25,7 +25,7 @@ built_skip f F next c out h none m = record {
   fits = λ k l. fit k l (cases_lt k next);
 }
   where
-    entry : (k : ℕ) → k < c → (k < next) ⊎ (next ≤ k) → number_at out k ≡ f k
+    entry : (k : ℕ) → k < c → (k < next) ⊎ (next ≤ k) → entry_in out k ≡ f k
     entry k l (inl a) = m.entries k a
     entry k l (inr a) = climbs_none 0 next out k m.climbs a ∙ sym (none k a l).1
 
@@ -41,11 +41,11 @@ built_more f F c out new v a e here m = record {
   fits = λ k l. fit k l (cases_eq k c);
 }
   where
-    entry : IsAppended out c v new → (k : ℕ) → k < c + 1 → (k ≡ c) ⊎ (k ≡ c → ⊥) → number_at new k ≡ f k
-    entry (inl a) k l (inl x) = ap (λ ts. number_at ts k) a.1 ∙ climbs_none 0 c out k m.climbs (omega (arith, x)) ∙ sym a.0 ∙ e ∙ ap f (sym x)
-    entry (inl a) k l (inr d) = ap (λ ts. number_at ts k) a.1 ∙ m.entries k (omega arith)
-    entry (inr a) k l (inl x) = ap (λ ts. number_at ts k) a.2 ∙ number_more 0 c out v k m.climbs ∙ ap (λ b. cond b v (number_at out k)) (eq-eqb c k (sym x)) ∙ e ∙ ap f (sym x)
-    entry (inr a) k l (inr d) = ap (λ ts. number_at ts k) a.2 ∙ number_more 0 c out v k m.climbs ∙ ap (λ b. cond b v (number_at out k)) (ne_eqb c k (λ z. d (sym z))) ∙ m.entries k (omega arith)
+    entry : IsAppended out c v new → (k : ℕ) → k < c + 1 → (k ≡ c) ⊎ (k ≡ c → ⊥) → entry_in new k ≡ f k
+    entry (inl a) k l (inl x) = ap (λ ts. entry_in ts k) a.1 ∙ climbs_none 0 c out k m.climbs (omega (arith, x)) ∙ sym a.0 ∙ e ∙ ap f (sym x)
+    entry (inl a) k l (inr d) = ap (λ ts. entry_in ts k) a.1 ∙ m.entries k (omega arith)
+    entry (inr a) k l (inl x) = ap (λ ts. entry_in ts k) a.2 ∙ number_more 0 c out v k m.climbs ∙ ap (λ b. cond b v (entry_in out k)) (eq-eqb c k (sym x)) ∙ e ∙ ap f (sym x)
+    entry (inr a) k l (inr d) = ap (λ ts. entry_in ts k) a.2 ∙ number_more 0 c out v k m.climbs ∙ ap (λ b. cond b v (entry_in out k)) (ne_eqb c k (λ z. d (sym z))) ∙ m.entries k (omega arith)
 
     climbs : IsAppended out c v new → Climbs 0 (c + 1) new
     climbs (inl a) = subst (Climbs 0 (c + 1)) (sym a.1) (climbs_weaker 0 c (c + 1) out (omega arith) m.climbs)
@@ -57,29 +57,29 @@ built_more f F c out new v a e here m = record {
 
 -- what of the terms is still to come: from column next on they are those from the i-th on
 pub record IsRest (width : ℕ) (terms : RowTerms) (i next : ℕ) : Type 0 where
-  pub same : (k : ℕ) → next ≤ k → number_at terms k ≡ number_at (drop i terms) k
+  pub same : (k : ℕ) → next ≤ k → entry_in terms k ≡ entry_in (drop i terms) k
   pub ascends : Climbs next width (drop i terms)
 
-pub rest_begun : (width : ℕ) (terms : RowTerms) → Climbs 0 width terms → IsRest width terms 0 0
-rest_begun width terms a = record { same = λ k l. refl; ascends = a }
+pub rest_is_all : (width : ℕ) (terms : RowTerms) → Climbs 0 width terms → IsRest width terms 0 0
+rest_is_all width terms a = record { same = λ k l. refl; ascends = a }
 
-ascends_from : (from new to : ℕ) (ts : RowTerms) → new ≤ to → Climbs from to ts → ((k : ℕ) → from ≤ k → k < new → number_at ts k ≡ whole (pos 0)) → Climbs new to ts
+ascends_from : (from new to : ℕ) (ts : RowTerms) → new ≤ to → Climbs from to ts → ((k : ℕ) → from ≤ k → k < new → entry_in ts k ≡ whole (pos 0)) → Climbs new to ts
 ascends_from from new to [] u a h = u
 ascends_from from new to (t ∷ ts) u a h = split (cases_lt t.0 new)
   where
     split : (t.0 < new) ⊎ (new ≤ t.0) → Climbs new to (t ∷ ts)
-    split (inl l) = absurd (a.1 (ap (λ b. cond b t.1 (number_at ts t.0)) (sym (eq-eqb t.0 t.0 refl)) ∙ h t.0 a.0 l))
+    split (inl l) = absurd (a.1 (ap (λ b. cond b t.1 (entry_in ts t.0)) (sym (eq-eqb t.0 t.0 refl)) ∙ h t.0 a.0 l))
     split (inr l) = (l, a.1, a.2, a.3)
 
 module _ (width : ℕ) (terms : RowTerms) (i next : ℕ) (r : IsRest width terms i next) where
-  pub rest_over : length terms ≤ i → (k : ℕ) → next ≤ k → number_at terms k ≡ whole (pos 0)
-  rest_over h k l = r.same k l ∙ ap (λ ts. number_at ts k) (drop_all i terms h)
+  pub rest_over : length terms ≤ i → (k : ℕ) → next ≤ k → entry_in terms k ≡ whole (pos 0)
+  rest_over h k l = r.same k l ∙ ap (λ ts. entry_in ts k) (drop_all i terms h)
 
   pub rest_upto : next ≤ width
   rest_upto = climbs_upto next width (drop i terms) r.ascends
 
   -- where no term stands before c the rest is that from c on
-  pub rest_later : (c : ℕ) → next ≤ c → c ≤ width → ((k : ℕ) → next ≤ k → k < c → number_at terms k ≡ whole (pos 0)) → IsRest width terms i c
+  pub rest_later : (c : ℕ) → next ≤ c → c ≤ width → ((k : ℕ) → next ≤ k → k < c → entry_in terms k ≡ whole (pos 0)) → IsRest width terms i c
   rest_later c l u h = record {
     same = λ k m. r.same k (omega arith);
     ascends = ascends_from next c width (drop i terms) u r.ascends (λ k a b. sym (r.same k a) ∙ h k a b);
@@ -98,19 +98,19 @@ module _ (width : ℕ) (terms : RowTerms) (i next : ℕ) (r : IsRest width terms
     pub column_within : column_at terms i + 1 ≤ width
     column_within = let u = climbs_upto (suc (column_at terms i)) width (drop (suc i) terms) here.3 in omega (arith, u)
 
-    pub before_column : (k : ℕ) → next ≤ k → k < column_at terms i → number_at terms k ≡ whole (pos 0)
-    before_column k a l = r.same k a ∙ ap (λ ts. number_at ts k) split
-        ∙ ap (λ b. cond b (term_at terms i) (number_at (drop (suc i) terms) k)) (ne_eqb (column_at terms i) k (λ e. omega (arith, e, l)))
+    pub before_column : (k : ℕ) → next ≤ k → k < column_at terms i → entry_in terms k ≡ whole (pos 0)
+    before_column k a l = r.same k a ∙ ap (λ ts. entry_in ts k) split
+        ∙ ap (λ b. cond b (number_of_term terms i) (entry_in (drop (suc i) terms) k)) (ne_eqb (column_at terms i) k (λ e. omega (arith, e, l)))
         ∙ climbs_below (suc (column_at terms i)) width (drop (suc i) terms) k here.3 (omega (arith, l))
 
-    pub at_column : number_at terms (column_at terms i) ≡ term_at terms i
-    at_column = r.same (column_at terms i) here.0 ∙ ap (λ ts. number_at ts (column_at terms i)) split
-        ∙ ap (λ b. cond b (term_at terms i) (number_at (drop (suc i) terms) (column_at terms i))) (eq-eqb (column_at terms i) (column_at terms i) refl)
+    pub at_column : entry_in terms (column_at terms i) ≡ number_of_term terms i
+    at_column = r.same (column_at terms i) here.0 ∙ ap (λ ts. entry_in ts (column_at terms i)) split
+        ∙ ap (λ b. cond b (number_of_term terms i) (entry_in (drop (suc i) terms) (column_at terms i))) (eq-eqb (column_at terms i) (column_at terms i) refl)
 
     pub rest_next : IsRest width terms (i + 1) (column_at terms i + 1)
     rest_next = let e : suc i ≡ i + 1 = omega arith in let f : suc (column_at terms i) ≡ column_at terms i + 1 = omega arith in
         subst (λ (n : ℕ). IsRest width terms n (column_at terms i + 1)) e (subst (λ (n : ℕ). IsRest width terms (suc i) n) f record {
-          same = λ k l. r.same k (let c = here.0 in omega (arith, c, l)) ∙ ap (λ ts. number_at ts k) split
-              ∙ ap (λ b. cond b (term_at terms i) (number_at (drop (suc i) terms) k)) (ne_eqb (column_at terms i) k (λ e. omega (arith, e, l)));
+          same = λ k l. r.same k (let c = here.0 in omega (arith, c, l)) ∙ ap (λ ts. entry_in ts k) split
+              ∙ ap (λ b. cond b (number_of_term terms i) (entry_in (drop (suc i) terms) k)) (ne_eqb (column_at terms i) k (λ e. omega (arith, e, l)));
           ascends = here.3;
         })

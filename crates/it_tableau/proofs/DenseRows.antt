@@ -7,34 +7,34 @@ use Rattle.it_rational.specs.Rational.{Rational, whole, plus, minus, times, inve
 use Rattle.it_fraction.specs.Fits.{IsNarrow}
 use Rattle.it_fraction.proofs.ZeroLemmas.{zero_narrow}
 use Rattle.it_tableau.specs.Fits.{EntryFits, QuotientFits}
-use Rattle.it_tableau.specs.Merging.{AreDivided, AreMerged, MergeFits, TermsDivide}
+use Rattle.it_tableau.specs.Merging.{AreDivided, AreMerged, MergeFits, TermQuotientsFit}
 use Rattle.it_tableau.specs.Entries.{entry_at, zero_rational}
-use Rattle.it_tableau.specs.Rows.{DividedFits, IsDivided, IsReduced, ListsValues, RowFits, RowStepFits, dense, dense_row}
-use Rattle.it_tableau.specs.SparseRows.{RowTerms, number_at, Climbs, ListsEntries}
+use Rattle.it_tableau.specs.Rows.{RowQuotientsFit, IsDivided, IsReduced, ListsValues, RowFits, RowStepFits, entries_from, dense_row}
+use Rattle.it_tableau.specs.SparseRows.{RowTerms, entry_in, Climbs, ListsEntries}
 use Rattle.it_tableau.proofs.Building.{IsBuilt}
 use Rattle.it_tableau.proofs.Climbing.{climbs_narrow, climbs_none}
-use Rattle.it_tableau.proofs.Zeros.{by_none, none_divided, without}
+use Rattle.it_tableau.proofs.Zeros.{difference_of_null_factor, quotient_of_null, difference_of_null_entry}
 
-dense_length : (ts : RowTerms) (from n : ℕ) → length (dense ts from n) ≡ n
+dense_length : (ts : RowTerms) (from n : ℕ) → length (entries_from ts from n) ≡ n
 dense_length ts from zero = refl
 dense_length ts from (suc n) = ap suc (dense_length ts (suc from) n)
 
-dense_entry : (ts : RowTerms) (from n j : ℕ) → j < n → entry_at (dense ts from n) j ≡ number_at ts (from + j)
+dense_entry : (ts : RowTerms) (from n j : ℕ) → j < n → entry_at (entries_from ts from n) j ≡ entry_in ts (from + j)
 dense_entry ts from zero j h = absurd (omega arith)
-dense_entry ts from (suc n) zero h = ap (number_at ts) (let e : from ≡ from + 0 = omega arith in e)
-dense_entry ts from (suc n) (suc j) h = dense_entry ts (suc from) n j (omega arith) ∙ ap (number_at ts) (let e : suc from + j ≡ from + suc j = omega arith in e)
+dense_entry ts from (suc n) zero h = ap (entry_in ts) (let e : from ≡ from + 0 = omega arith in e)
+dense_entry ts from (suc n) (suc j) h = dense_entry ts (suc from) n j (omega arith) ∙ ap (entry_in ts) (let e : suc from + j ≡ from + suc j = omega arith in e)
 
 pub row_length : (w : ℕ) (ts : RowTerms) (right : Rational) → length (dense_row w ts right) ≡ w + 1
 unfolding dense_row
-row_length w ts right = length-append (dense ts 0 w) (right ∷ []) ∙ (let l = dense_length ts 0 w in omega (arith, l))
+row_length w ts right = length-append (entries_from ts 0 w) (right ∷ []) ∙ (let l = dense_length ts 0 w in omega (arith, l))
 
-pub row_entry : (w : ℕ) (ts : RowTerms) (right : Rational) (j : ℕ) → j < w → entry_at (dense_row w ts right) j ≡ number_at ts j
+pub row_entry : (w : ℕ) (ts : RowTerms) (right : Rational) (j : ℕ) → j < w → entry_at (dense_row w ts right) j ≡ entry_in ts j
 unfolding dense_row
-row_entry w ts right j h = get_or_append_left (dense ts 0 w) (right ∷ []) zero_rational j (let l = dense_length ts 0 w in omega (arith, l, h)) ∙ dense_entry ts 0 w j h ∙ ap (number_at ts) (let e : 0 + j ≡ j = omega arith in e)
+row_entry w ts right j h = get_or_append_left (entries_from ts 0 w) (right ∷ []) zero_rational j (let l = dense_length ts 0 w in omega (arith, l, h)) ∙ dense_entry ts 0 w j h ∙ ap (entry_in ts) (let e : 0 + j ≡ j = omega arith in e)
 
 pub row_end : (w : ℕ) (ts : RowTerms) (right : Rational) (j : ℕ) → j ≡ w → entry_at (dense_row w ts right) j ≡ right
 unfolding dense_row
-row_end w ts right j e = ap (entry_at (dense ts 0 w ++ right ∷ [])) (e ∙ sym (dense_length ts 0 w)) ∙ get_or-append_seam (dense ts 0 w) right [] zero_rational
+row_end w ts right j e = ap (entry_at (entries_from ts 0 w ++ right ∷ [])) (e ∙ sym (dense_length ts 0 w)) ∙ get_or-append_seam (entries_from ts 0 w) right [] zero_rational
 
 -- rows of one length have the same columns
 pub same_width : (w x : ℕ) (ts us : RowTerms) (r s : Rational) (row by : List Rational) → dense_row w ts r ≡ row → dense_row x us s ≡ by → length row ≡ length by → x ≡ w
@@ -61,7 +61,7 @@ module _ (w : ℕ) (old by : RowTerms) (r s : Rational) where
     row_fits m e j l = split (cases_lt j w)
       where
         split : (j < w) ⊎ (w ≤ j) → EntryFits (entry_at (dense_row w old r) j) (entry_at (dense_row w by s) j) q
-        split (inl h) = subst (λ (x : Rational). EntryFits x (entry_at (dense_row w by s) j) q) (sym (row_entry w old r j h)) (subst (λ (y : Rational). EntryFits (number_at old j) y q) (sym (row_entry w by s j h)) (m j))
+        split (inl h) = subst (λ (x : Rational). EntryFits x (entry_at (dense_row w by s) j) q) (sym (row_entry w old r j h)) (subst (λ (y : Rational). EntryFits (entry_in old j) y q) (sym (row_entry w by s j h)) (m j))
         split (inr h) =
             let same : j ≡ w = (let n = row_length w old r in omega (arith, l, h, n)) in
             subst (λ (x : Rational). EntryFits x (entry_at (dense_row w by s) j) q) (sym (row_end w old r j same)) (subst (λ (y : Rational). EntryFits r y q) (sym (row_end w by s j same)) e)
@@ -73,10 +73,10 @@ module _ (w : ℕ) (old by : RowTerms) (r s : Rational) where
     pub terms_fit : Climbs 0 w old → Climbs 0 w by → RowFits (dense_row w old r) (dense_row w by s) q → MergeFits old by q
     terms_fit a b f j = split (cases_lt j w)
       where
-        split : (j < w) ⊎ (w ≤ j) → EntryFits (number_at old j) (number_at by j) q
-        split (inl h) = subst (λ (x : Rational). EntryFits x (number_at by j) q) (row_entry w old r j h) (subst (λ (y : Rational). EntryFits (entry_at (dense_row w old r) j) y q) (row_entry w by s j h)
+        split : (j < w) ⊎ (w ≤ j) → EntryFits (entry_in old j) (entry_in by j) q
+        split (inl h) = subst (λ (x : Rational). EntryFits x (entry_in by j) q) (row_entry w old r j h) (subst (λ (y : Rational). EntryFits (entry_at (dense_row w old r) j) y q) (row_entry w by s j h)
             (f j (let n = row_length w old r in omega (arith, n, h))))
-        split (inr h) = (without (number_at old j) (number_at by j) q (subst IsNarrow (sym (climbs_none 0 w old j a h)) zero_narrow) (climbs_none 0 w by j b h)).0
+        split (inr h) = (difference_of_null_entry (entry_in old j) (entry_in by j) q (subst IsNarrow (sym (climbs_none 0 w old j a h)) zero_narrow) (climbs_none 0 w by j b h)).0
 
     pub row_reduced : (out : RowTerms) (right : Rational) → AreMerged old by q w out → right ≡ plus r (minus (times s q)) → IsReduced (dense_row w old r) (dense_row w by s) q (dense_row w out right)
     row_reduced out right m e = record {
@@ -99,35 +99,35 @@ module _ (w : ℕ) (ts : RowTerms) (right : Rational) (a : Climbs 0 w ts) (n : I
       split (inr h) = subst IsNarrow (sym (row_end w ts right j (let n = row_length w ts right in omega (arith, l, h, n)))) n
 
   module _ (by : List Rational) (c : ℕ) (p : Rational) (none : entry_at (dense_row w ts right) c ≡ whole (pos 0)) where
-    pub untouched_fits : RowStepFits (dense_row w ts right) by c p
-    untouched_fits = record {
-      quotient = (none_divided (entry_at (dense_row w ts right) c) p none).0;
-      row_fits = λ j l. (by_none (entry_at (dense_row w ts right) j) (entry_at by j) (times (entry_at (dense_row w ts right) c) (inverse p)) (entry_narrow j l) (none_divided (entry_at (dense_row w ts right) c) p none).1).0;
+    pub row_without_entry_fits : RowStepFits (dense_row w ts right) by c p
+    row_without_entry_fits = record {
+      quotient = (quotient_of_null (entry_at (dense_row w ts right) c) p none).0;
+      row_fits = λ j l. (difference_of_null_factor (entry_at (dense_row w ts right) j) (entry_at by j) (times (entry_at (dense_row w ts right) c) (inverse p)) (entry_narrow j l) (quotient_of_null (entry_at (dense_row w ts right) c) p none).1).0;
     }
 
-    pub untouched : IsReduced (dense_row w ts right) by (times (entry_at (dense_row w ts right) c) (inverse p)) (dense_row w ts right)
-    untouched = record {
+    pub row_without_entry_stays : IsReduced (dense_row w ts right) by (times (entry_at (dense_row w ts right) c) (inverse p)) (dense_row w ts right)
+    row_without_entry_stays = record {
       same_length = refl;
-      entries = λ j l. sym (by_none (entry_at (dense_row w ts right) j) (entry_at by j) (times (entry_at (dense_row w ts right) c) (inverse p)) (entry_narrow j l) (none_divided (entry_at (dense_row w ts right) c) p none).1).1;
+      entries = λ j l. sym (difference_of_null_factor (entry_at (dense_row w ts right) j) (entry_at by j) (times (entry_at (dense_row w ts right) c) (inverse p)) (entry_narrow j l) (quotient_of_null (entry_at (dense_row w ts right) c) p none).1).1;
     }
 
 module _ (w : ℕ) (old : RowTerms) (r p : Rational) where
-  pub row_divides : TermsDivide old p → QuotientFits r p → DividedFits (dense_row w old r) p
-  row_divides m e j l = split (cases_lt j w)
+  pub row_quotients_fit : TermQuotientsFit old p → QuotientFits r p → RowQuotientsFit (dense_row w old r) p
+  row_quotients_fit m e j l = split (cases_lt j w)
     where
       split : (j < w) ⊎ (w ≤ j) → QuotientFits (entry_at (dense_row w old r) j) p
       split (inl h) = subst (λ (x : Rational). QuotientFits x p) (sym (row_entry w old r j h)) (m j)
       split (inr h) = subst (λ (x : Rational). QuotientFits x p) (sym (row_end w old r j (let n = row_length w old r in omega (arith, l, h, n)))) e
 
-  pub right_divides : DividedFits (dense_row w old r) p → QuotientFits r p
-  right_divides f = subst (λ (x : Rational). QuotientFits x p) (row_end w old r w refl) (f w (let n = row_length w old r in omega (arith, n)))
+  pub right_quotient_fits : RowQuotientsFit (dense_row w old r) p → QuotientFits r p
+  right_quotient_fits f = subst (λ (x : Rational). QuotientFits x p) (row_end w old r w refl) (f w (let n = row_length w old r in omega (arith, n)))
 
-  pub terms_divide : Climbs 0 w old → DividedFits (dense_row w old r) p → TermsDivide old p
-  terms_divide a f j = split (cases_lt j w)
+  pub term_quotients_fit : Climbs 0 w old → RowQuotientsFit (dense_row w old r) p → TermQuotientsFit old p
+  term_quotients_fit a f j = split (cases_lt j w)
     where
-      split : (j < w) ⊎ (w ≤ j) → QuotientFits (number_at old j) p
+      split : (j < w) ⊎ (w ≤ j) → QuotientFits (entry_in old j) p
       split (inl h) = subst (λ (x : Rational). QuotientFits x p) (row_entry w old r j h) (f j (let n = row_length w old r in omega (arith, n, h)))
-      split (inr h) = (none_divided (number_at old j) p (climbs_none 0 w old j a h)).0
+      split (inr h) = (quotient_of_null (entry_in old j) p (climbs_none 0 w old j a h)).0
 
   pub row_divided : (out : RowTerms) (right : Rational) → AreDivided old p w out → right ≡ times r (inverse p) → IsDivided (dense_row w old r) p (dense_row w out right)
   row_divided out right m e = record {

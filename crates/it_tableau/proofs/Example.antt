@@ -4,13 +4,23 @@ use Rattle.std.proofs.Common.{◌≡◌, ℕ, ℤ, pos, negsuc, List, [], ◌∷
 use Rattle.it_number.specs.Gcd.{gcd, gcd_within}
 use Rattle.it_rational.specs.Rational.{Rational, quotient}
 use Rattle.it_rational.proofs.Field.{field_ℚ}
+use Rattle.it_space.specs.Rows.{Terms}
 use Rattle.it_tableau.specs.Tables.{Table, pivot}
 use Rattle.it_tableau.specs.Problems.{start_of}
 
-abbrev first : Table Rational
-first = start_of (1 ∷ 2 ∷ 3 ∷ [])
-    (((2, negsuc 0) ∷ (3, pos 1) ∷ []) ∷ ((1, negsuc 0) ∷ (3, pos 1) ∷ []) ∷ ((1, pos 1) ∷ (2, pos 1) ∷ (3, negsuc 0) ∷ []) ∷ [])
-    ((1, pos 1) ∷ (3, negsuc 0) ∷ [])
+-- the coordinates, the columns and the target
+abbrev pub coordinates : List ℕ
+coordinates = 1 ∷ 2 ∷ 3 ∷ []
+
+abbrev pub elementals : List Terms
+elementals = ((2, negsuc 0) ∷ (3, pos 1) ∷ []) ∷ ((1, negsuc 0) ∷ (3, pos 1) ∷ []) ∷ ((1, pos 1) ∷ (2, pos 1) ∷ (3, negsuc 0) ∷ []) ∷ []
+
+abbrev pub target : Terms
+target = (1, pos 1) ∷ (3, negsuc 0) ∷ []
+
+-- the start, and the tables after one step and after two
+abbrev pub first : Table Rational
+first = start_of coordinates elementals target
 
 abbrev second : Table Rational
 second = pivot field_ℚ first 1 2

@@ -13,7 +13,7 @@ use Rattle.it_fraction.specs.Fits.{IsNarrow}
 use Rattle.it_fraction.proofs.ZeroLemmas.{product-zero}
 use Rattle.it_space.specs.Rows.{Terms, coefficient, Ascends}
 use Rattle.it_space.proofs.CanonicalRows.{here_is, none_below, other_is}
-use Rattle.it_tableau.specs.Gathering.{list_at, start_number, AreAppended, AreGathered, IsAscending, IsPut, IsTaken}
+use Rattle.it_tableau.specs.Gathering.{row_terms_at, start_number, AreAppended, AreGathered, IsAscending, IsEntryPut, IsListTaken}
 use Rattle.it_tableau.specs.Merging.{IsAppended}
 use Rattle.it_tableau.specs.Problems.{feasibility_problem}
 use Rattle.it_tableau.specs.Rows.{IsWholeNumber, ListsValues}
@@ -29,8 +29,8 @@ use Rattle.it_tableau.proofs.WholeNumbers.{signed_den, zero_number}
 use Rattle.it_tableau.proofs.Zeros.{top_from_null}
 
 -- what a search doesn't find isn't there
-pub nowhere : (cs : List ℕ) (x i : ℕ) → IsAscending cs → IsBinarySearchResult (λ y. nat_cmp y x) cs (Err i) → (k : ℕ) → k < length cs → slice_index_or cs k 0 ≢ x
-nowhere cs x i up h k l e = let s = searched cs x (Err i) h rises in by_side (λ m. s.1 k m) (λ m. s.2 k m l) (cases_lt k i)
+pub coordinate_is_absent : (cs : List ℕ) (x i : ℕ) → IsAscending cs → IsBinarySearchResult (λ y. nat_cmp y x) cs (Err i) → (k : ℕ) → k < length cs → slice_index_or cs k 0 ≢ x
+coordinate_is_absent cs x i up h k l e = let s = searched cs x (Err i) h rises in by_side (λ m. s.1 k m) (λ m. s.2 k m l) (cases_lt k i)
   where
     rises : (a b : ℕ) → a ≤ b → b < length cs → slice_index_or cs a 0 ≤ slice_index_or cs b 0
     rises a b m n = by_case (cases_eq a b)
@@ -44,8 +44,8 @@ nowhere cs x i up h k l e = let s = searched cs x (Err i) h rises in by_side (λ
     by_side below above (inr m) = let a = above m in omega (arith, a, e)
 
 -- one coordinate has one row
-pub one_row : (cs : List ℕ) (i k : ℕ) → IsAscending cs → i < length cs → k < length cs → slice_index_or cs i 0 ≡ slice_index_or cs k 0 → i ≡ k
-one_row cs i k up l m e = by_order (cases_lt i k) (cases_lt k i)
+pub row_is_unique : (cs : List ℕ) (i k : ℕ) → IsAscending cs → i < length cs → k < length cs → slice_index_or cs i 0 ≡ slice_index_or cs k 0 → i ≡ k
+row_is_unique cs i k up l m e = by_order (cases_lt i k) (cases_lt k i)
   where
     by_order : (i < k) ⊎ (k ≤ i) → (k < i) ⊎ (i ≤ k) → i ≡ k
     by_order (inl a) b = absurd (let u = up i k a m in omega (arith, u, e))
@@ -62,10 +62,11 @@ pub record IsColumnUnderWay (cs : List ℕ) (f : ℕ → Rational) (terms : Term
   pub ascends : Ascends from (drop i terms)
   pub count : length now ≡ length old
   pub rows : (k : ℕ) → k < length cs
-      → IsRowUnderWay (coefficient (drop i terms) (slice_index_or cs k 0)) (coefficient terms (slice_index_or cs k 0)) j (f k) (list_at old k) (list_at now k)
+      → IsRowUnderWay (coefficient (drop i terms) (slice_index_or cs k 0)) (coefficient terms (slice_index_or cs k 0)) j (f k) (row_terms_at old k) (row_terms_at now k)
 
 module _ (cs : List ℕ) (f : ℕ → Rational) (terms : Terms) (j : ℕ) (old : List RowTerms) (i : ℕ) (now : List RowTerms) (w : IsColumnUnderWay cs f terms j old i now) where
-  module _ (h : i < length terms) (new : List RowTerms) (put : IsPut cs f (slice_index_or terms i (0, pos 0)).0 j now new) where
+  module _ (h : i < length terms) (new : List RowTerms) (put : IsEntryPut cs f (slice_index_or terms i (0, pos 0)).0 j now new) where
+    -- the next term
     abbrev term : ℕ × ℤ
     term = slice_index_or terms i (0, pos 0)
 
@@ -77,8 +78,8 @@ module _ (cs : List ℕ) (f : ℕ → Rational) (terms : Terms) (j : ℕ) (old :
 
     module _ (k : ℕ) (l : k < length cs) where
       -- the term's own row
-      own : slice_index_or cs k 0 ≡ term.0 → IsRowUnderWay (coefficient (drop i terms) (slice_index_or cs k 0)) (coefficient terms (slice_index_or cs k 0)) j (f k) (list_at old k) (list_at now k)
-          → IsRowUnderWay (coefficient (drop (suc i) terms) (slice_index_or cs k 0)) (coefficient terms (slice_index_or cs k 0)) j (f k) (list_at old k) (list_at new k)
+      own : slice_index_or cs k 0 ≡ term.0 → IsRowUnderWay (coefficient (drop i terms) (slice_index_or cs k 0)) (coefficient terms (slice_index_or cs k 0)) j (f k) (row_terms_at old k) (row_terms_at now k)
+          → IsRowUnderWay (coefficient (drop (suc i) terms) (slice_index_or cs k 0)) (coefficient terms (slice_index_or cs k 0)) j (f k) (row_terms_at old k) (row_terms_at new k)
       own e = by_state
         where
           none : coefficient (drop (suc i) terms) (slice_index_or cs k 0) ≡ pos 0
@@ -88,25 +89,25 @@ module _ (cs : List ℕ) (f : ℕ → Rational) (terms : Terms) (j : ℕ) (old :
           value = ap (λ (ts : Terms). coefficient ts (slice_index_or cs k 0)) split ∙ here_is term (drop (suc i) terms) (slice_index_or cs k 0) (sym e)
               ∙ ap (λ z. term.1 +ℤ z) none ∙ omega (arith, ints)
 
-          by_state : IsRowUnderWay (coefficient (drop i terms) (slice_index_or cs k 0)) (coefficient terms (slice_index_or cs k 0)) j (f k) (list_at old k) (list_at now k)
-              → IsRowUnderWay (coefficient (drop (suc i) terms) (slice_index_or cs k 0)) (coefficient terms (slice_index_or cs k 0)) j (f k) (list_at old k) (list_at new k)
-          by_state (inl s) = inr (subst (λ (o : RowTerms). IsAppended o j (f k) (list_at new k)) s.0 (put.own k l e), none)
+          by_state : IsRowUnderWay (coefficient (drop i terms) (slice_index_or cs k 0)) (coefficient terms (slice_index_or cs k 0)) j (f k) (row_terms_at old k) (row_terms_at now k)
+              → IsRowUnderWay (coefficient (drop (suc i) terms) (slice_index_or cs k 0)) (coefficient terms (slice_index_or cs k 0)) j (f k) (row_terms_at old k) (row_terms_at new k)
+          by_state (inl s) = inr (subst (λ (o : RowTerms). IsAppended o j (f k) (row_terms_at new k)) s.0 (put.own k l e), none)
           by_state (inr s) = absurd (here.1 (sym value ∙ s.1))
 
-      other : slice_index_or cs k 0 ≢ term.0 → IsRowUnderWay (coefficient (drop i terms) (slice_index_or cs k 0)) (coefficient terms (slice_index_or cs k 0)) j (f k) (list_at old k) (list_at now k)
-          → IsRowUnderWay (coefficient (drop (suc i) terms) (slice_index_or cs k 0)) (coefficient terms (slice_index_or cs k 0)) j (f k) (list_at old k) (list_at new k)
+      other : slice_index_or cs k 0 ≢ term.0 → IsRowUnderWay (coefficient (drop i terms) (slice_index_or cs k 0)) (coefficient terms (slice_index_or cs k 0)) j (f k) (row_terms_at old k) (row_terms_at now k)
+          → IsRowUnderWay (coefficient (drop (suc i) terms) (slice_index_or cs k 0)) (coefficient terms (slice_index_or cs k 0)) j (f k) (row_terms_at old k) (row_terms_at new k)
       other d = by_state
         where
           same : coefficient (drop (suc i) terms) (slice_index_or cs k 0) ≡ coefficient (drop i terms) (slice_index_or cs k 0)
           same = sym (ap (λ (ts : Terms). coefficient ts (slice_index_or cs k 0)) split ∙ other_is term (drop (suc i) terms) (slice_index_or cs k 0) (λ e. d (sym e)))
 
-          by_state : IsRowUnderWay (coefficient (drop i terms) (slice_index_or cs k 0)) (coefficient terms (slice_index_or cs k 0)) j (f k) (list_at old k) (list_at now k)
-              → IsRowUnderWay (coefficient (drop (suc i) terms) (slice_index_or cs k 0)) (coefficient terms (slice_index_or cs k 0)) j (f k) (list_at old k) (list_at new k)
+          by_state : IsRowUnderWay (coefficient (drop i terms) (slice_index_or cs k 0)) (coefficient terms (slice_index_or cs k 0)) j (f k) (row_terms_at old k) (row_terms_at now k)
+              → IsRowUnderWay (coefficient (drop (suc i) terms) (slice_index_or cs k 0)) (coefficient terms (slice_index_or cs k 0)) j (f k) (row_terms_at old k) (row_terms_at new k)
           by_state (inl s) = inl (put.others k l d ∙ s.0, same ∙ s.1)
-          by_state (inr s) = inr (subst (IsAppended (list_at old k) j (f k)) (sym (put.others k l d)) s.0, same ∙ s.1)
+          by_state (inr s) = inr (subst (IsAppended (row_terms_at old k) j (f k)) (sym (put.others k l d)) s.0, same ∙ s.1)
 
       row_put : (slice_index_or cs k 0 ≡ term.0) ⊎ (slice_index_or cs k 0 ≡ term.0 → ⊥)
-          → IsRowUnderWay (coefficient (drop (suc i) terms) (slice_index_or cs k 0)) (coefficient terms (slice_index_or cs k 0)) j (f k) (list_at old k) (list_at new k)
+          → IsRowUnderWay (coefficient (drop (suc i) terms) (slice_index_or cs k 0)) (coefficient terms (slice_index_or cs k 0)) j (f k) (row_terms_at old k) (row_terms_at new k)
       row_put (inl e) = own e (w.rows k l)
       row_put (inr d) = other d (w.rows k l)
 
@@ -121,8 +122,8 @@ module _ (cs : List ℕ) (f : ℕ → Rational) (terms : Terms) (j : ℕ) (old :
   pub column_put : length terms ≤ i → ((k : ℕ) → k < length cs → coefficient terms (slice_index_or cs k 0) ≡ pos 0 → f k ≡ whole (pos 0)) → AreAppended cs f j old now
   column_put over none = record { count = w.count; rows = λ k l. by_state k l (w.rows k l) }
     where
-      by_state : (k : ℕ) → k < length cs → IsRowUnderWay (coefficient (drop i terms) (slice_index_or cs k 0)) (coefficient terms (slice_index_or cs k 0)) j (f k) (list_at old k) (list_at now k)
-          → IsAppended (list_at old k) j (f k) (list_at now k)
+      by_state : (k : ℕ) → k < length cs → IsRowUnderWay (coefficient (drop i terms) (slice_index_or cs k 0)) (coefficient terms (slice_index_or cs k 0)) j (f k) (row_terms_at old k) (row_terms_at now k)
+          → IsAppended (row_terms_at old k) j (f k) (row_terms_at now k)
       by_state k l (inl s) = inl (none k l (sym s.1 ∙ ap (λ (ts : Terms). coefficient ts (slice_index_or cs k 0)) (drop_all i terms over)), s.0)
       by_state k l (inr s) = s.0
 
@@ -132,19 +133,20 @@ module _ (cs : List ℕ) (columns : List Terms) (target : Terms) where
   no_entry j k h e = row_column field_ℚ (length cs) (length columns) (feasibility_problem cs columns target) k j h
       ∙ product-zero (sign field_ℚ (feasibility_problem cs columns target) k) (whole (coefficient (slice_index_or columns j []) (slice_index_or cs k 0))) (top_from_null (whole (coefficient (slice_index_or columns j []) (slice_index_or cs k 0))) (ap whole e))
 
-  pub gathered : (j : ℕ) (old new : List RowTerms) → AreAppended cs (λ k. start_number cs columns target k j) j old new → AreGathered cs columns target j old → AreGathered cs columns target (j + 1) new
-  gathered j old new a g = record { count = a.count ∙ g.count; rows = λ k l. lists k (one k l) }
+  pub column_is_gathered : (j : ℕ) (old new : List RowTerms) → AreAppended cs (λ k. start_number cs columns target k j) j old new → AreGathered cs columns target j old → AreGathered cs columns target (j + 1) new
+  column_is_gathered j old new a g = record { count = a.count ∙ g.count; rows = λ k l. lists k (one k l) }
     where
-      one : (k : ℕ) → k < length cs → IsBuilt (start_number cs columns target k) (λ i. Unit {0}) (j + 1) (list_at new k)
-      one k l = built_more (start_number cs columns target k) (λ i. Unit {0}) j (list_at old k) (list_at new k) (start_number cs columns target k j) (a.rows k l) refl tt
+      one : (k : ℕ) → k < length cs → IsBuilt (start_number cs columns target k) (λ i. Unit {0}) (j + 1) (row_terms_at new k)
+      one k l = built_more (start_number cs columns target k) (λ i. Unit {0}) j (row_terms_at old k) (row_terms_at new k) (start_number cs columns target k j) (a.rows k l) refl tt
           record { entries = (g.rows k l).entries; climbs = (g.rows k l).ascend; fits = λ i h. tt }
 
-      lists : (k : ℕ) → IsBuilt (start_number cs columns target k) (λ i. Unit {0}) (j + 1) (list_at new k) → ListsEntries (start_number cs columns target k) (j + 1) (list_at new k)
+      lists : (k : ℕ) → IsBuilt (start_number cs columns target k) (λ i. Unit {0}) (j + 1) (row_terms_at new k) → ListsEntries (start_number cs columns target k) (j + 1) (row_terms_at new k)
       lists k b = record { ascend = b.climbs; entries = b.entries }
 
   -- a row with its artificial column and its right side
   module _ (k : ℕ) (row : k < length cs) (terms out : RowTerms) (lists : ListsEntries (start_number cs columns target k) (length columns) terms) (v : Rational) (wv : IsWholeNumber v)
       (ev : v ≡ start_number cs columns target k (length columns + k)) (a : IsAppended terms (length columns + k) v out) where
+    -- the entries of row k, whole numbers
     abbrev f : ℕ → Rational
     f = start_number cs columns target k
 
@@ -191,12 +193,12 @@ module _ (cs : List ℕ) (columns : List Terms) (target : Terms) where
           by_end (inr h) = subst IsWholeNumber (er ∙ ap f (let e : length columns + length cs ≡ j = omega (arith, l, h) in e)) wr
 
   -- the first k rows are finished, and the lists of the others are gathered
-  pub record AreUnderWay (k : ℕ) (lists : List RowTerms) (rows : List (List Rational)) : Type 0 where
+  pub record AreRowsUnderWay (k : ℕ) (lists : List RowTerms) (rows : List (List Rational)) : Type 0 where
     pub count : length lists ≡ length cs
-    pub left : (i : ℕ) → k ≤ i → i < length cs → ListsEntries (start_number cs columns target i) (length columns) (list_at lists i)
+    pub left : (i : ℕ) → k ≤ i → i < length cs → ListsEntries (start_number cs columns target i) (length columns) (row_terms_at lists i)
     pub done : AreStartRows cs columns target k rows
 
-  pub row_taken : (k : ℕ) (lists new : List RowTerms) (rows : List (List Rational)) (all : List (List Rational)) → IsTaken lists k new → AreUnderWay k lists rows → AreStartRows cs columns target (k + 1) all → AreUnderWay (k + 1) new all
+  pub row_taken : (k : ℕ) (lists new : List RowTerms) (rows : List (List Rational)) (all : List (List Rational)) → IsListTaken lists k new → AreRowsUnderWay k lists rows → AreStartRows cs columns target (k + 1) all → AreRowsUnderWay (k + 1) new all
   row_taken k lists new rows all t w done = record {
     count = t.count ∙ w.count;
     left = λ i l h. subst (ListsEntries (start_number cs columns target i) (length columns)) (sym (t.others i (λ e. omega (arith, e, l)))) (w.left i (omega (arith, l)) h);

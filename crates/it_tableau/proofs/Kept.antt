@@ -151,8 +151,8 @@ module _ {A : Type 0} (F : OrderedField A) (m n : ℕ) where
           ∙ ap₂ (λ x y. F.ring.add x (F.ring.neg (F.ring.mul y (F.ring.mul (t.entry i c) (F.order.inv (t.entry r c)))))) (h.units i k hi hk) (is_null d)
           ∙ ring F.ring (cond (eqb i k) F.ring.unit F.ring.null ∷ F.ring.mul (t.entry i c) (F.order.inv (t.entry r c)) ∷ []) (plus (v 0) (minus (times nil (v 1)))) (v 0) refl
 
-  pub kept : (p : FeasibilityProblem A) (t : Table A) (r c : ℕ) → HasInvariants F m n p t → MayEnter F m n t r c → HasInvariants F m n p (pivot F t r c)
-  kept p t r c h l = record {
+  pub pivot_keeps_invariants : (p : FeasibilityProblem A) (t : Table A) (r c : ℕ) → HasInvariants F m n p t → MayEnter F m n t r c → HasInvariants F m n p (pivot F t r c)
+  pivot_keeps_invariants p t r c h l = record {
     combines = kept_combines p t r c l.row h.combines;
     spans = kept_spans p t r c l.row inverse h;
     rights = kept_rights p t r c h l;

@@ -6,7 +6,8 @@ use Rattle.it_rational.specs.Rational.{Rational, times, inverse}
 use Rattle.it_tableau.specs.Entries.{entry_at, row_at}
 use Rattle.it_tableau.specs.Rows.{RowStepFits, IsReduced, IsDivided, RowsPivotFits, ArePivoted}
 
-pub record UnderWay (old now : List (List Rational)) (own : List Rational) (r c i : ℕ) (p : Rational) : Type 0 where
+-- own is row r with its entry p at column c, and of the other rows those below i are reduced
+pub record IsPivotUnderWay (old now : List (List Rational)) (own : List Rational) (r c i : ℕ) (p : Rational) : Type 0 where
   pub same : length now ≡ length old
   pub own_is : own ≡ row_at old r
   pub p_is : p ≡ entry_at (row_at old r) c
@@ -14,8 +15,8 @@ pub record UnderWay (old now : List (List Rational)) (own : List Rational) (r c 
   pub fits : (k : ℕ) → k < i → k ≢ r → RowStepFits (row_at old k) own c p
   pub rest : (k : ℕ) → i ≤ k → k ≢ r → row_at now k ≡ row_at old k
 
-pub begun : (old : List (List Rational)) (own y : List Rational) (r c : ℕ) (p : Rational) → own ≡ row_at old r → p ≡ entry_at (row_at old r) c → UnderWay old (slice_set old r y) own r c 0 p
-begun old own y r c p e f = record {
+pub pivot_begins : (old : List (List Rational)) (own y : List Rational) (r c : ℕ) (p : Rational) → own ≡ row_at old r → p ≡ entry_at (row_at old r) c → IsPivotUnderWay old (slice_set old r y) own r c 0 p
+pivot_begins old own y r c p e f = record {
   same = length-set old r y;
   own_is = e;
   p_is = f;
@@ -24,8 +25,8 @@ begun old own y r c p e f = record {
   rest = λ k l d. get_or-set_other old r k y [] d;
 }
 
-pub skipped : (old now : List (List Rational)) (own : List Rational) (r c i : ℕ) (p : Rational) → i ≡ r → UnderWay old now own r c i p → UnderWay old now own r c (i + 1) p
-skipped old now own r c i p e u = record {
+pub own_row_is_skipped : (old now : List (List Rational)) (own : List Rational) (r c i : ℕ) (p : Rational) → i ≡ r → IsPivotUnderWay old now own r c i p → IsPivotUnderWay old now own r c (i + 1) p
+own_row_is_skipped old now own r c i p e u = record {
   same = u.same;
   own_is = u.own_is;
   p_is = u.p_is;
@@ -34,9 +35,9 @@ skipped old now own r c i p e u = record {
   rest = λ k l d. u.rest k (omega arith) d;
 }
 
-pub stepped : (old now : List (List Rational)) (own y : List Rational) (r c i : ℕ) (p : Rational) → i < length now → RowStepFits (row_at old i) own c p
-    → IsReduced (row_at old i) own (times (entry_at (row_at old i) c) (inverse p)) y → UnderWay old now own r c i p → UnderWay old (slice_set now i y) own r c (i + 1) p
-stepped old now own y r c i p h fit red u = record {
+pub row_is_reduced : (old now : List (List Rational)) (own y : List Rational) (r c i : ℕ) (p : Rational) → i < length now → RowStepFits (row_at old i) own c p
+    → IsReduced (row_at old i) own (times (entry_at (row_at old i) c) (inverse p)) y → IsPivotUnderWay old now own r c i p → IsPivotUnderWay old (slice_set now i y) own r c (i + 1) p
+row_is_reduced old now own y r c i p h fit red u = record {
   same = length-set now i y ∙ u.same;
   own_is = u.own_is;
   p_is = u.p_is;
@@ -54,11 +55,11 @@ stepped old now own y r c i p h fit red u = record {
     split_fits k l d (inl e) = subst (λ (x : ℕ). RowStepFits (row_at old x) own c p) (sym e) fit
     split_fits k l d (inr n) = u.fits k (omega arith) d
 
-pub refused : (old now : List (List Rational)) (own : List Rational) (r c i : ℕ) (p : Rational) → i < length old → i ≢ r → UnderWay old now own r c i p → ¬ (RowStepFits (row_at old i) own c p) → ¬ (RowsPivotFits old r c)
-refused old now own r c i p h d u n f = n (subst (λ (x : List Rational). RowStepFits (row_at old i) x c p) (sym u.own_is) (subst (RowStepFits (row_at old i) (row_at old r) c) (sym u.p_is) (f.others i h d)))
+pub row_refuses_pivot : (old now : List (List Rational)) (own : List Rational) (r c i : ℕ) (p : Rational) → i < length old → i ≢ r → IsPivotUnderWay old now own r c i p → ¬ (RowStepFits (row_at old i) own c p) → ¬ (RowsPivotFits old r c)
+row_refuses_pivot old now own r c i p h d u n f = n (subst (λ (x : List Rational). RowStepFits (row_at old i) x c p) (sym u.own_is) (subst (RowStepFits (row_at old i) (row_at old r) c) (sym u.p_is) (f.others i h d)))
 
-pub pivoted : (old now : List (List Rational)) (own y : List Rational) (r c i : ℕ) (p : Rational) → r < length old → length old ≤ i → UnderWay old now own r c i p → IsDivided own p y → ArePivoted old r c (slice_set now r y)
-pivoted old now own y r c i p hr h u g = record {
+pub pivot_ends : (old now : List (List Rational)) (own y : List Rational) (r c i : ℕ) (p : Rational) → r < length old → length old ≤ i → IsPivotUnderWay old now own r c i p → IsDivided own p y → ArePivoted old r c (slice_set now r y)
+pivot_ends old now own y r c i p hr h u g = record {
   same_length = length-set now r y ∙ u.same;
   others = λ k l d. subst (λ (q : Rational). IsReduced (row_at old k) (row_at old r) (times (entry_at (row_at old k) c) (inverse q)) (row_at (slice_set now r y) k)) u.p_is
       (subst (λ (x : List Rational). IsReduced (row_at old k) x (times (entry_at (row_at old k) c) (inverse p)) (row_at (slice_set now r y) k)) u.own_is
@@ -67,6 +68,6 @@ pivoted old now own y r c i p hr h u g = record {
       (subst (λ (q : Rational). IsDivided (row_at old r) q y) u.p_is (subst (λ (x : List Rational). IsDivided x p y) u.own_is g));
 }
 
--- the row that is lent is that of the start
-pub lent : (old now : List (List Rational)) (own : List Rational) (r c i : ℕ) (p : Rational) (d x : List Rational) → x ≡ get_or now i d → i < length now → i ≢ r → UnderWay old now own r c i p → x ≡ row_at old i
-lent old now own r c i p d x e h n u = e ∙ get_or_default now i d [] h ∙ u.rest i (omega arith) n
+-- a row that isn't reduced yet is still the old one
+pub row_is_unchanged : (old now : List (List Rational)) (own : List Rational) (r c i : ℕ) (p : Rational) (d x : List Rational) → x ≡ get_or now i d → i < length now → i ≢ r → IsPivotUnderWay old now own r c i p → x ≡ row_at old i
+row_is_unchanged old now own r c i p d x e h n u = e ∙ get_or_default now i d [] h ∙ u.rest i (omega arith) n

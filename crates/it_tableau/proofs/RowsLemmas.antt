@@ -15,6 +15,6 @@ on_err (Ok x) P p = tt
 on_err (Err e) P p = p
 
 -- an error that is handed on
-pub handed_on : {X F : Type 0} (r : Result X F) (x w : F) (Q : Type 0) → IsErrAnd r (λ y. y ≡ x) → (x ≡ w → Q) → IfErr r (λ f. f ≡ w → Q)
-handed_on (Ok v) x w Q e h = tt
-handed_on (Err y) x w Q e h = λ g. h (sym e ∙ g)
+pub fault_is_handed_on : {X F : Type 0} (r : Result X F) (x w : F) (Q : Type 0) → IsErrAnd r (λ y. y ≡ x) → (x ≡ w → Q) → IfErr r (λ f. f ≡ w → Q)
+fault_is_handed_on (Ok v) x w Q e h = tt
+fault_is_handed_on (Err y) x w Q e h = λ g. h (sym e ∙ g)

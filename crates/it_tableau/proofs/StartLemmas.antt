@@ -45,26 +45,26 @@ module _ {A : Type 0} (F : OrderedField A) (m n : ℕ) where
       ∙ sum_one F.ring m (λ i. F.ring.unit) k h)
 
   -- the sum of the negated rows
-  negated : (p : FeasibilityProblem A) (j : ℕ) (f : ℕ → A) → ((k : ℕ) → k < m → f k ≡ F.ring.neg F.ring.unit) → (start F m n p).entry m j ≡ sum_to F.ring m (λ k. F.ring.mul (f k) (start_row F m n p k j))
-  negated p j f h = start_cost p j
+  cost_is_weighted_sum : (p : FeasibilityProblem A) (j : ℕ) (f : ℕ → A) → ((k : ℕ) → k < m → f k ≡ F.ring.neg F.ring.unit) → (start F m n p).entry m j ≡ sum_to F.ring m (λ k. F.ring.mul (f k) (start_row F m n p k j))
+  cost_is_weighted_sum p j f h = start_cost p j
       ∙ ring F.ring (sum_to F.ring m (λ k. start_row F m n p k j) ∷ []) (minus (v 0)) (times (minus one) (v 0)) refl
       ∙ sym (sum_same F.ring m (λ k. F.ring.mul (f k) (start_row F m n p k j)) (λ k. F.ring.mul (F.ring.neg F.ring.unit) (start_row F m n p k j)) (λ k l. ap (λ x. F.ring.mul x (start_row F m n p k j)) (h k l))
       ∙ sum_times_left F.ring m (λ k. start_row F m n p k j) (F.ring.neg F.ring.unit))
 
   -- one row of a sum against a unit
-  picked : (p : FeasibilityProblem A) (k j : ℕ) (f g : ℕ → A) → k < m → ((i : ℕ) → i < m → f i ≡ cond (eqb i k) F.ring.unit F.ring.null) → ((i : ℕ) → i < m → g i ≡ start_row F m n p i j)
+  sum_picks_row : (p : FeasibilityProblem A) (k j : ℕ) (f g : ℕ → A) → k < m → ((i : ℕ) → i < m → f i ≡ cond (eqb i k) F.ring.unit F.ring.null) → ((i : ℕ) → i < m → g i ≡ start_row F m n p i j)
       → sum_to F.ring m (λ i. F.ring.mul (f i) (g i)) ≡ start_row F m n p k j
-  picked p k j f g h hf hg =
+  sum_picks_row p k j f g h hf hg =
       sum_same F.ring m (λ i. F.ring.mul (f i) (g i)) (λ i. F.ring.mul (start_row F m n p i j) (cond (eqb i k) F.ring.unit F.ring.null)) (λ i l. ap₂ F.ring.mul (hf i l) (hg i l) ∙ F.ring.mul_comm (cond (eqb i k) F.ring.unit F.ring.null) (start_row F m n p i j))
       ∙ sum_unit F.ring m (λ i. start_row F m n p i j) k h
 
-  pub started : (p : FeasibilityProblem A) → HasInvariants F m n p (start F m n p)
-  started p = record {
+  pub start_has_invariants : (p : FeasibilityProblem A) → HasInvariants F m n p (start F m n p)
+  start_has_invariants p = record {
     combines = λ i j h. combined i j (cases_eq i m) h;
-    spans = λ k j h. sym (picked p k j (λ i. start_row F m n p k ((start F m n p).basis i)) (λ i. (start F m n p).entry i j) h
+    spans = λ k j h. sym (sum_picks_row p k j (λ i. start_row F m n p k ((start F m n p).basis i)) (λ i. (start F m n p).entry i j) h
         (λ i l. ap (start_row F m n p k) (start_basis p i l) ∙ row_artificial p k i l) (λ i l. start_entry p i j l));
     rights = λ i h. subst (IsAtLeastZero F) (sym (start_entry p i (n + m) h ∙ row_right p i)) (signed (p.target i) (F.order.is_least (p.target i)) refl);
-    costs = λ j. negated p j (λ k. cost_of F m n ((start F m n p).basis k))
+    costs = λ j. cost_is_weighted_sum p j (λ k. cost_of F m n ((start F m n p).basis k))
         (λ k l. ap (cost_of F m n) (start_basis p k l) ∙ ap (λ b. cond b F.ring.null (F.ring.neg F.ring.unit)) (le-ltb (n + k) n (omega arith)))
         ∙ sum_same F.ring m (λ k. F.ring.mul (cost_of F m n ((start F m n p).basis k)) (start_row F m n p k j)) (λ k. F.ring.mul (cost_of F m n ((start F m n p).basis k)) ((start F m n p).entry k j))
         (λ k l. ap (F.ring.mul (cost_of F m n ((start F m n p).basis k))) (sym (start_entry p k j l)));
@@ -78,6 +78,6 @@ module _ {A : Type 0} (F : OrderedField A) (m n : ℕ) where
 
       combined : (i j : ℕ) → (i ≡ m) ⊎ (i ≡ m → ⊥) → i ≤ m → (start F m n p).entry i j ≡ sum_to F.ring m (λ k. F.ring.mul ((start F m n p).entry i (n + k)) (start_row F m n p k j))
       combined i j (inl e) h = subst (λ (x : ℕ). (start F m n p).entry x j ≡ sum_to F.ring m (λ k. F.ring.mul ((start F m n p).entry x (n + k)) (start_row F m n p k j))) (sym e)
-          (negated p j (λ k. (start F m n p).entry m (n + k)) (λ k l. artificial_cost p k l))
+          (cost_is_weighted_sum p j (λ k. (start F m n p).entry m (n + k)) (λ k l. artificial_cost p k l))
       combined i j (inr d) h = let l : i < m = omega arith in start_entry p i j l
-          ∙ sym (picked p i j (λ k. (start F m n p).entry i (n + k)) (λ k. start_row F m n p k j) l (λ k q. start_entry p i (n + k) l ∙ row_artificial p i k q) (λ k q. refl))
+          ∙ sym (sum_picks_row p i j (λ k. (start F m n p).entry i (n + k)) (λ k. start_row F m n p k j) l (λ k q. start_entry p i (n + k) l ∙ row_artificial p i k q) (λ k q. refl))

@@ -19,10 +19,11 @@ use Rattle.it_tableau.specs.StartRows.{AreStartRows}
 use Rattle.it_tableau.specs.TableauViews.{table_of}
 use Rattle.it_tableau.specs.Tables.{FeasibilityProblem, Table, sign, start_row}
 use Rattle.it_tableau.proofs.Sums.{sum_same, sum_null}
-use Rattle.it_tableau.proofs.ViewLemmas.{past, past_row, same_functions}
+use Rattle.it_tableau.proofs.ViewLemmas.{entry_past_end, entry_past_rows, same_functions}
 use Rattle.it_tableau.proofs.WholeNumbers.{sums_narrow, sums_fit}
 
 module _ (cs : List ℕ) (columns : List Terms) (target : Terms) where
+  -- how many rows and how many columns there are
   abbrev m : ℕ
   m = length cs
 
@@ -85,14 +86,14 @@ module _ (cs : List ℕ) (columns : List Terms) (target : Terms) where
         where
           split : (j < length columns + length cs + 1) ⊎ (length columns + length cs + 1 ≤ j) → entry_at (row_at rows i) j ≡ entry i j
           split (inl l) = (a.entries_are i h).entries j l
-          split (inr l) = past (row_at rows i) j (omega (arith, (a.entries_are i h).length_is)) ∙ sym (entry_past i j h l)
+          split (inr l) = entry_past_end (row_at rows i) j (omega (arith, (a.entries_are i h).length_is)) ∙ sym (entry_past i j h l)
       entries i j (inr h) (inl e) w = ap (λ r. entry_at r j) (last i e) ∙ split w
           ∙ ap₂ (λ b d. cond b (entry i j) (cond d (Q.minus (sum_to ring_ℚ m (λ k. entry k j))) (Q.whole (pos 0)))) (sym (le-ltb i m h)) (sym (eq-eqb i m e))
         where
           split : (j < length columns + length cs + 1) ⊎ (length columns + length cs + 1 ≤ j) → entry_at cost j ≡ Q.minus (sum_to ring_ℚ (length cs) (λ k. entry k j))
           split (inl l) = cost_is j l
-          split (inr l) = past cost j (omega (arith, s.length_is)) ∙ sym (cost_past j l)
-      entries i j (inr h) (inr d) w = past_row (rows ++ cost ∷ []) i j (omega (arith, all_length))
+          split (inr l) = entry_past_end cost j (omega (arith, s.length_is)) ∙ sym (cost_past j l)
+      entries i j (inr h) (inr d) w = entry_past_rows (rows ++ cost ∷ []) i j (omega (arith, all_length))
           ∙ ap₂ (λ b d. cond b (entry i j) (cond d (Q.minus (sum_to ring_ℚ m (λ k. entry k j))) (Q.whole (pos 0)))) (sym (le-ltb i m h)) (sym (ne_eqb i m d))
 
       module _ (basis : List ℕ) (count : length basis ≡ length cs) (value : (i : ℕ) → i < length cs → slice_index_or basis i 0 ≡ length columns + i) where

@@ -1,4 +1,4 @@
--- Finite sums: equal terms, sums of sums, one term changed, and over an ordered ring their signs.
+-- Finite sums: equal terms, sums of sums, one term changed, and over an ordered field their signs.
 use Rattle.std.proofs.Common.{◌≡◌, ℕ, zero, suc, ◌<◌, Bool, true, false, cond, eqb, [], ◌∷◌, refl, sym, ap, ap₂, ◌∙◌, ◌⊎◌, inl, inr, arith}
 use Rattle.std.proofs.lemmas.Bool.{eq-eqb, ne_eqb, eqb-true, cases_eq}
 use Rattle.it_number.proofs.Ring.{ring, mul-null, v, plus, times, minus, nil}

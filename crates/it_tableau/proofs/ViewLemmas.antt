@@ -21,11 +21,11 @@ unfolding zero_rational
 zero_is = refl
 
 -- past the end a list reads 0
-pub past : (row : List Rational) (j : ℕ) → length row ≤ j → entry_at row j ≡ Q.whole (pos 0)
-past row j h = get_or_past row j zero_rational h ∙ zero_is
+pub entry_past_end : (row : List Rational) (j : ℕ) → length row ≤ j → entry_at row j ≡ Q.whole (pos 0)
+entry_past_end row j h = get_or_past row j zero_rational h ∙ zero_is
 
-pub past_row : (rows : List (List Rational)) (i j : ℕ) → length rows ≤ i → entry_at (row_at rows i) j ≡ Q.whole (pos 0)
-past_row rows i j h = ap (λ r. entry_at r j) (get_or_past rows i [] h) ∙ past [] j (omega arith)
+pub entry_past_rows : (rows : List (List Rational)) (i j : ℕ) → length rows ≤ i → entry_at (row_at rows i) j ≡ Q.whole (pos 0)
+entry_past_rows rows i j h = ap (λ r. entry_at r j) (get_or_past rows i [] h) ∙ entry_past_end [] j (omega arith)
 
 pub new_shape : (m n : ℕ) (old new : List (List Rational)) (basis : List ℕ) (r c : ℕ) → r < m → HasShape m n old basis → ArePivoted old r c new → HasShape m n new (slice_set basis r c)
 new_shape m n old new basis r c hr s p = record {
@@ -38,9 +38,9 @@ new_shape m n old new basis r c hr s p = record {
     split i l (inl e) = ap (λ k. length (row_at new k)) e ∙ p.own.same_length ∙ s.entries_are r (omega arith)
     split i l (inr d) = (p.others i (omega (arith, s.rows_are)) d).same_length ∙ s.entries_are i l
 
-pub shows : (m n : ℕ) (old new : List (List Rational)) (basis : List ℕ) (r c : ℕ) → r < m → c < n + m → HasShape m n old basis → ArePivoted old r c new
+pub pivot_is_shown : (m n : ℕ) (old new : List (List Rational)) (basis : List ℕ) (r c : ℕ) → r < m → c < n + m → HasShape m n old basis → ArePivoted old r c new
     → table_of new (slice_set basis r c) ≡ pivot field_ℚ (table_of old basis) r c
-shows m n old new basis r c hr hc s p = ap₂ (λ (e : ℕ → ℕ → Rational) (b : ℕ → ℕ). let t : Table Rational = record { entry = e; basis = b } in t)
+pivot_is_shown m n old new basis r c hr hc s p = ap₂ (λ (e : ℕ → ℕ → Rational) (b : ℕ → ℕ). let t : Table Rational = record { entry = e; basis = b } in t)
     (same_functions (λ i. same_functions (λ j. entry i j (cases_lt i (m + 1)) (cases_lt j (n + m + 1)) (cases_eq i r))))
     (same_functions (λ i. column i (cases_eq i r)))
   where
@@ -71,23 +71,23 @@ shows m n old new basis r c hr hc s p = ap₂ (λ (e : ℕ → ℕ → Rational)
     entry : (i j : ℕ) → (i < m + 1) ⊎ (m + 1 ≤ i) → (j < n + m + 1) ⊎ (n + m + 1 ≤ j) → (i ≡ r) ⊎ (i ≡ r → ⊥) → entry_at (row_at new i) j ≡ (pivot field_ℚ (table_of old basis) r c).entry i j
     entry i j (inl l) (inl k) (inl e) = ap (λ x. entry_at (row_at new x) j) e ∙ p.own.entries j (omega (arith, s.entries_are r (omega arith))) ∙ sym (own i j e)
     entry i j (inl l) (inl k) (inr d) = (p.others i (omega (arith, s.rows_are)) d).entries j (omega (arith, s.entries_are i l)) ∙ sym (other i j d)
-    entry i j (inl l) (inr k) (inl e) = past (row_at new i) j (omega (arith, new_length i l))
-        ∙ sym (own i j e ∙ zero_times (entry_at (row_at old r) j) (Q.inverse (entry_at (row_at old r) c)) (past (row_at old r) j (omega (arith, s.entries_are r (omega arith)))))
-    entry i j (inl l) (inr k) (inr d) = past (row_at new i) j (omega (arith, new_length i l))
+    entry i j (inl l) (inr k) (inl e) = entry_past_end (row_at new i) j (omega (arith, new_length i l))
+        ∙ sym (own i j e ∙ zero_times (entry_at (row_at old r) j) (Q.inverse (entry_at (row_at old r) c)) (entry_past_end (row_at old r) j (omega (arith, s.entries_are r (omega arith)))))
+    entry i j (inl l) (inr k) (inr d) = entry_past_end (row_at new i) j (omega (arith, new_length i l))
         ∙ sym (other i j d ∙ zero_less (entry_at (row_at old i) j) (entry_at (row_at old r) j) (Q.times (entry_at (row_at old i) c) (Q.inverse (entry_at (row_at old r) c)))
-        (past (row_at old i) j (omega (arith, s.entries_are i l))) (past (row_at old r) j (omega (arith, s.entries_are r (omega arith)))))
+        (entry_past_end (row_at old i) j (omega (arith, s.entries_are i l))) (entry_past_end (row_at old r) j (omega (arith, s.entries_are r (omega arith)))))
     entry i j (inr l) k (inl e) = absurd (omega arith)
-    entry i j (inr l) k (inr d) = past_row new i j (omega (arith, p.same_length, s.rows_are))
+    entry i j (inr l) k (inr d) = entry_past_rows new i j (omega (arith, p.same_length, s.rows_are))
         ∙ sym (other i j d ∙ zero_quotient (entry_at (row_at old i) j) (entry_at (row_at old r) j) (entry_at (row_at old i) c) (Q.inverse (entry_at (row_at old r) c))
-        (past_row old i j (omega (arith, s.rows_are))) (past_row old i c (omega (arith, s.rows_are))))
+        (entry_past_rows old i j (omega (arith, s.rows_are))) (entry_past_rows old i c (omega (arith, s.rows_are))))
 
     column : (i : ℕ) → (i ≡ r) ⊎ (i ≡ r → ⊥) → get_or (slice_set basis r c) i 0 ≡ cond (eqb i r) c (get_or basis i 0)
     column i (inl e) = ap (λ x. get_or (slice_set basis r c) x 0) e ∙ get_or-set_same basis r c 0 (omega (arith, s.basis_is)) ∙ ap (λ b. cond b c (get_or basis i 0)) (sym (eq-eqb i r e))
     column i (inr d) = get_or-set_other basis r i c 0 d ∙ ap (λ b. cond b c (get_or basis i 0)) (sym (ne_eqb i r d))
 
 -- the numbers of the code's pivot are those of the step
-pub numbers_to : (m n : ℕ) (rows : List (List Rational)) (basis : List ℕ) (r c : ℕ) → r < m → HasShape m n rows basis → RowsPivotFits rows r c → PivotFits m n (table_of rows basis) r c
-numbers_to m n rows basis r c hr s f = record {
+pub pivot_numbers_fit : (m n : ℕ) (rows : List (List Rational)) (basis : List ℕ) (r c : ℕ) → r < m → HasShape m n rows basis → RowsPivotFits rows r c → PivotFits m n (table_of rows basis) r c
+pivot_numbers_fit m n rows basis r c hr s f = record {
   quotients = λ i l d. (f.others i (omega (arith, s.rows_are)) d).quotient;
   entries = λ i j l d k. (f.others i (omega (arith, s.rows_are)) d).row_fits j (omega (arith, s.entries_are i l));
   own = λ j k. f.own j (omega (arith, s.entries_are r (omega arith)));

@@ -19,24 +19,24 @@ any_err (Ok x) w Q q = tt
 any_err (Err y) w Q q = λ _. q
 
 -- nothing is taken off
-pub without : (x y q : Rational) → IsNarrow x → y ≡ whole (pos 0) → EntryFits x y q × (plus x (minus (times y q)) ≡ x)
-without x y q n e =
+pub difference_of_null_entry : (x y q : Rational) → IsNarrow x → y ≡ whole (pos 0) → EntryFits x y q × (plus x (minus (times y q)) ≡ x)
+difference_of_null_entry x y q n e =
     let z : times y q ≡ whole (pos 0) = zero-product y q (top_from_null y e) in
     (record { product = zero-product-narrow y q (top_from_null y e); difference = difference-zero-fits x (times y q) (top_from_null (times y q) z) n }, difference-zero x (times y q) (top_from_null (times y q) z))
 
 -- and so where the factor is 0
-pub by_none : (x y q : Rational) → IsNarrow x → q ≡ whole (pos 0) → EntryFits x y q × (plus x (minus (times y q)) ≡ x)
-by_none x y q n e =
+pub difference_of_null_factor : (x y q : Rational) → IsNarrow x → q ≡ whole (pos 0) → EntryFits x y q × (plus x (minus (times y q)) ≡ x)
+difference_of_null_factor x y q n e =
     let z : times y q ≡ whole (pos 0) = product-zero y q (top_from_null q e) in
     (record { product = product-zero-narrow y q (top_from_null q e); difference = difference-zero-fits x (times y q) (top_from_null (times y q) z) n }, difference-zero x (times y q) (top_from_null (times y q) z))
 
 -- something is taken off 0
-pub from_none : (x y q : Rational) → x ≡ whole (pos 0) → (IsNarrow (times y q) ↔ EntryFits x y q) × (plus x (minus (times y q)) ≡ minus (times y q))
-from_none x y q e = (
+pub difference_from_null : (x y q : Rational) → x ≡ whole (pos 0) → (IsNarrow (times y q) ↔ EntryFits x y q) × (plus x (minus (times y q)) ≡ minus (times y q))
+difference_from_null x y q e = (
   ((λ n. record { product = n; difference = zero-difference-fits x (times y q) (top_from_null x e) (minus-narrow (times y q) n) }), (λ f. f.product)),
   zero-difference x (times y q) (top_from_null x e),
 )
 
 -- 0 divided
-pub none_divided : (x p : Rational) → x ≡ whole (pos 0) → QuotientFits x p × (times x (inverse p) ≡ whole (pos 0))
-none_divided x p e = (zero-product-narrow x (inverse p) (top_from_null x e), zero-product x (inverse p) (top_from_null x e))
+pub quotient_of_null : (x p : Rational) → x ≡ whole (pos 0) → QuotientFits x p × (times x (inverse p) ≡ whole (pos 0))
+quotient_of_null x p e = (zero-product-narrow x (inverse p) (top_from_null x e), zero-product x (inverse p) (top_from_null x e))

@@ -2,6 +2,7 @@
 use Rattle.std.specs.Prelude.{ℕ, List, [], slice_index_or, pos}
 use Rattle.it_rational.specs.Rational.{Rational, whole}
 
+-- the rational number 0
 unfoldable pub zero_rational : Rational
 zero_rational = whole (pos 0)
 
@@ -9,5 +10,6 @@ zero_rational = whole (pos 0)
 abbrev pub entry_at : List Rational → ℕ → Rational
 entry_at row k = slice_index_or row k zero_rational
 
+-- the row of a number, empty past the end
 abbrev pub row_at : List (List Rational) → ℕ → List Rational
 row_at rows i = slice_index_or rows i []

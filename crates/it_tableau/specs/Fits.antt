@@ -12,6 +12,7 @@ use Rattle.it_tableau.specs.Tables.{Table, FeasibilityProblem, start_row}
 abbrev pub StartFits : ℕ → ℕ → FeasibilityProblem Rational → Type 0
 StartFits m n p = (k j : ℕ) → k ≤ m → j < n + m + 1 → IsNarrow (sum_to ring_ℚ k (λ i. start_row field_ℚ m n p i j))
 
+-- x divided by y is within the limit
 abbrev pub QuotientFits : Rational → Rational → Type 0
 QuotientFits x y = IsNarrow (times x (inverse y))
 

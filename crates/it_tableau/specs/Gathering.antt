@@ -1,4 +1,4 @@
--- The terms of the start's rows, column after column. No public clause cites this.
+-- No public clause cites this module: the terms of the start's rows, column after column.
 use Rattle.std.specs.Prelude.{◌≡◌, ◌≢◌, ℕ, ◌<◌, List, [], length, slice_index_or}
 use Rattle.it_rational.specs.Rational.{Rational}
 use Rattle.it_rational.proofs.Field.{field_ℚ}
@@ -12,34 +12,36 @@ use Rattle.it_tableau.specs.Tables.{start_row}
 abbrev pub IsAscending : List ℕ → Type 0
 IsAscending coordinates = (i k : ℕ) → i < k → k < length coordinates → slice_index_or coordinates i 0 < slice_index_or coordinates k 0
 
-abbrev pub list_at : List RowTerms → ℕ → RowTerms
-list_at lists k = slice_index_or lists k []
+-- the terms of row k, none past the end
+abbrev pub row_terms_at : List RowTerms → ℕ → RowTerms
+row_terms_at lists k = slice_index_or lists k []
 
 -- the entry of the start in row k and column j
 abbrev pub start_number : List ℕ → List Terms → Terms → ℕ → ℕ → Rational
 start_number coordinates columns target k j = start_row field_ℚ (length coordinates) (length columns) (feasibility_problem coordinates columns target) k j
 
 -- no list but the k-th is changed
-pub record IsTaken (old : List RowTerms) (k : ℕ) (new : List RowTerms) : Type 0 where
+pub record IsListTaken (old : List RowTerms) (k : ℕ) (new : List RowTerms) : Type 0 where
   pub count : length new ≡ length old
-  pub others : (i : ℕ) → i ≢ k → list_at new i ≡ list_at old i
+  pub others : (i : ℕ) → i ≢ k → row_terms_at new i ≡ row_terms_at old i
 
 -- the rows of coordinate c have their number f k in column j put behind
-pub record IsPut (coordinates : List ℕ) (f : ℕ → Rational) (c j : ℕ) (old new : List RowTerms) : Type 0 where
+pub record IsEntryPut (coordinates : List ℕ) (f : ℕ → Rational) (c j : ℕ) (old new : List RowTerms) : Type 0 where
   pub count : length new ≡ length old
-  pub own : (k : ℕ) → k < length coordinates → slice_index_or coordinates k 0 ≡ c → IsAppended (list_at old k) j (f k) (list_at new k)
-  pub others : (k : ℕ) → k < length coordinates → slice_index_or coordinates k 0 ≢ c → list_at new k ≡ list_at old k
+  pub own : (k : ℕ) → k < length coordinates → slice_index_or coordinates k 0 ≡ c → IsAppended (row_terms_at old k) j (f k) (row_terms_at new k)
+  pub others : (k : ℕ) → k < length coordinates → slice_index_or coordinates k 0 ≢ c → row_terms_at new k ≡ row_terms_at old k
 
 -- each row has its number f k in column j put behind
 pub record AreAppended (coordinates : List ℕ) (f : ℕ → Rational) (j : ℕ) (old new : List RowTerms) : Type 0 where
   pub count : length new ≡ length old
-  pub rows : (k : ℕ) → k < length coordinates → IsAppended (list_at old k) j (f k) (list_at new k)
+  pub rows : (k : ℕ) → k < length coordinates → IsAppended (row_terms_at old k) j (f k) (row_terms_at new k)
 
-pub record AreEmpty (count : ℕ) (lists : List RowTerms) : Type 0 where
+-- so many empty lists
+pub record AreEmpty {A : Type 0} (count : ℕ) (lists : List (List A)) : Type 0 where
   pub count_is : length lists ≡ count
-  pub empty : (k : ℕ) → k < count → list_at lists k ≡ []
+  pub empty : (k : ℕ) → k < count → slice_index_or lists k [] ≡ []
 
 -- each row has its terms in the first n columns
 pub record AreGathered (coordinates : List ℕ) (columns : List Terms) (target : Terms) (n : ℕ) (lists : List RowTerms) : Type 0 where
   pub count : length lists ≡ length coordinates
-  pub rows : (k : ℕ) → k < length coordinates → ListsEntries (start_number coordinates columns target k) n (list_at lists k)
+  pub rows : (k : ℕ) → k < length coordinates → ListsEntries (start_number coordinates columns target k) n (row_terms_at lists k)

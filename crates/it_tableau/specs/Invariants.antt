@@ -13,6 +13,7 @@ module _ {A : Type 0} (F : OrderedField A) (m n : ℕ) where
   abbrev pub CombinesStart : FeasibilityProblem A → Table A → Type 0
   CombinesStart p t = (i j : ℕ) → i ≤ m → t.entry i j ≡ sum_to F.ring m (λ k. F.ring.mul (t.entry i (n + k)) (start_row F m n p k j))
 
+  -- what every table of a run from the start of p keeps
   pub record HasInvariants (p : FeasibilityProblem A) (t : Table A) : Type 0 where
     pub combines : CombinesStart p t
     -- each start row is the sum of its entries at the basic columns times the rows

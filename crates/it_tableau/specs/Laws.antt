@@ -6,13 +6,16 @@ use Rattle.it_rational.specs.Rational.{Rational}
 use Rattle.it_tableau.specs.Invariants.{CombinesStart, HasInvariants, MayEnter}
 use Rattle.it_tableau.specs.Tables.{FeasibilityProblem, Table, pivot, start}
 
-abbrev pub StartHolds : Type 0
-StartHolds = (m n : ℕ) (p : FeasibilityProblem Rational) → HasInvariants field_ℚ m n p (start field_ℚ m n p)
+-- the start has the invariants
+abbrev pub StartHasInvariants : Type 0
+StartHasInvariants = (m n : ℕ) (p : FeasibilityProblem Rational) → HasInvariants field_ℚ m n p (start field_ℚ m n p)
 
-abbrev pub PivotsKeep : Type 0
-PivotsKeep = (m n : ℕ) (p : FeasibilityProblem Rational) (t : Table Rational) (r c : ℕ)
+-- a pivot on a smallest ratio, in a column that isn't artificial, keeps the invariants
+abbrev pub PivotsKeepInvariants : Type 0
+PivotsKeepInvariants = (m n : ℕ) (p : FeasibilityProblem Rational) (t : Table Rational) (r c : ℕ)
     → HasInvariants field_ℚ m n p t → MayEnter field_ℚ m n t r c → HasInvariants field_ℚ m n p (pivot field_ℚ t r c)
 
-abbrev pub PivotsCombine : Type 0
-PivotsCombine = (m n : ℕ) (p : FeasibilityProblem Rational) (t : Table Rational) (r c : ℕ)
+-- any pivot keeps each row a sum of start rows
+abbrev pub PivotsCombineStart : Type 0
+PivotsCombineStart = (m n : ℕ) (p : FeasibilityProblem Rational) (t : Table Rational) (r c : ℕ)
     → r < m → CombinesStart field_ℚ m n p t → CombinesStart field_ℚ m n p (pivot field_ℚ t r c)

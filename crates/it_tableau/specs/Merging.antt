@@ -3,40 +3,43 @@ use Rattle.std.specs.Prelude.{◌≡◌, ◌≢◌, ◌⊎◌, ◌++◌, length,
 use Rattle.it_rational.specs.Rational.{Rational, whole, plus, minus, times, inverse}
 use Rattle.it_fraction.specs.Fits.{IsNarrow}
 use Rattle.it_tableau.specs.Fits.{EntryFits, QuotientFits}
-use Rattle.it_tableau.specs.SparseRows.{RowTerms, number_at, Climbs}
+use Rattle.it_tableau.specs.SparseRows.{RowTerms, entry_in, Climbs}
 use Rattle.it_tableau.specs.declared.merging.Side.{Side}
 use Rattle.it_tableau.specs.declared.merging.Side.TheVariants.{Old, By, Both}
 
 -- what a pivot makes of the number in a column
 abbrev pub less_at : RowTerms → RowTerms → Rational → ℕ → Rational
-less_at old by q k = plus (number_at old k) (minus (times (number_at by k) q))
+less_at old by q k = plus (entry_in old k) (minus (times (entry_in by k) q))
 
 -- the numbers of all columns fit
 abbrev pub MergeFits : RowTerms → RowTerms → Rational → Type 0
-MergeFits old by q = (k : ℕ) → EntryFits (number_at old k) (number_at by k) q
+MergeFits old by q = (k : ℕ) → EntryFits (entry_in old k) (entry_in by k) q
 
 -- the merged row
 pub record AreMerged (old by : RowTerms) (q : Rational) (width : ℕ) (out : RowTerms) : Type 0 where
-  pub entries : (k : ℕ) → number_at out k ≡ less_at old by q k
+  pub entries : (k : ℕ) → entry_in out k ≡ less_at old by q k
   pub ascend : Climbs 0 width out
 
-abbrev pub TermsDivide : RowTerms → Rational → Type 0
-TermsDivide old p = (k : ℕ) → QuotientFits (number_at old k) p
+-- the numbers of all columns divided by p fit
+abbrev pub TermQuotientsFit : RowTerms → Rational → Type 0
+TermQuotientsFit old p = (k : ℕ) → QuotientFits (entry_in old k) p
 
 -- the divided row
 pub record AreDivided (old : RowTerms) (p : Rational) (width : ℕ) (out : RowTerms) : Type 0 where
-  pub entries : (k : ℕ) → number_at out k ≡ times (number_at old k) (inverse p)
+  pub entries : (k : ℕ) → entry_in out k ≡ times (entry_in old k) (inverse p)
   pub ascend : Climbs 0 width out
 
 -- a term is put behind, unless its number is 0
 abbrev pub IsAppended : RowTerms → ℕ → Rational → RowTerms → Type 0
 IsAppended out c v new = ((v ≡ whole (pos 0)) × (new ≡ out)) ⊎ ((v ≢ whole (pos 0)) × IsNarrow v × (new ≡ out ++ (c, v) ∷ []))
 
+-- the column of term i
 abbrev pub column_at : RowTerms → ℕ → ℕ
 column_at terms i = (slice_index_or terms i (0, whole (pos 0))).0
 
-abbrev pub term_at : RowTerms → ℕ → Rational
-term_at terms i = (slice_index_or terms i (0, whole (pos 0))).1
+-- the number of term i
+abbrev pub number_of_term : RowTerms → ℕ → Rational
+number_of_term terms i = (slice_index_or terms i (0, whole (pos 0))).1
 
 -- which of the rows has the next term
 abbrev pub IsSide : RowTerms → RowTerms → ℕ → ℕ → Side → Type 0

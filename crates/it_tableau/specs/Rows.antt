@@ -5,17 +5,17 @@ use Rattle.it_rational.proofs.RationalLaws.{ring_ℚ}
 use Rattle.it_fraction.specs.Fits.{IsNarrow, SumFits}
 use Rattle.it_tableau.specs.Sums.{sum_to}
 use Rattle.it_tableau.specs.Entries.{entry_at, row_at}
-use Rattle.it_tableau.specs.SparseRows.{RowTerms, number_at}
+use Rattle.it_tableau.specs.SparseRows.{RowTerms, entry_in}
 use Rattle.it_tableau.specs.Fits.{QuotientFits, EntryFits}
 
 -- so many numbers from column j on
-abbrev pub dense : RowTerms → ℕ → ℕ → List Rational
-dense terms j zero = []
-dense terms j (suc left) = number_at terms j ∷ dense terms (suc j) left
+abbrev pub entries_from : RowTerms → ℕ → ℕ → List Rational
+entries_from terms j zero = []
+entries_from terms j (suc left) = entry_in terms j ∷ entries_from terms (suc j) left
 
 -- all numbers of a row of so many columns, and the right side behind them
 unfoldable pub dense_row : ℕ → RowTerms → Rational → List Rational
-dense_row width terms right = dense terms 0 width ++ right ∷ []
+dense_row width terms right = entries_from terms 0 width ++ right ∷ []
 
 -- a whole number within the limit
 pub record IsWholeNumber (q : Rational) : Type 0 where
@@ -39,6 +39,7 @@ ColumnFits rows j = (k : ℕ) → k < length rows → SumFits (entry_at (row_at 
 abbrev pub ColumnsFit : List (List Rational) → ℕ → Type 0
 ColumnsFit rows width = (j : ℕ) → j < width → ColumnFits rows j
 
+-- the numbers of each entry less q times the other row's fit
 abbrev pub RowFits : List Rational → List Rational → Rational → Type 0
 RowFits row by q = (k : ℕ) → k < length row → EntryFits (entry_at row k) (entry_at by k) q
 
@@ -47,9 +48,11 @@ pub record IsReduced (old by : List Rational) (q : Rational) (new : List Rationa
   pub same_length : length new ≡ length old
   pub entries : (k : ℕ) → k < length old → entry_at new k ≡ plus (entry_at old k) (minus (times (entry_at by k) q))
 
-abbrev pub DividedFits : List Rational → Rational → Type 0
-DividedFits row p = (k : ℕ) → k < length row → QuotientFits (entry_at row k) p
+-- each entry divided by p fits
+abbrev pub RowQuotientsFit : List Rational → Rational → Type 0
+RowQuotientsFit row p = (k : ℕ) → k < length row → QuotientFits (entry_at row k) p
 
+-- each entry divided by p
 pub record IsDivided (old : List Rational) (p : Rational) (new : List Rational) : Type 0 where
   pub same_length : length new ≡ length old
   pub entries : (k : ℕ) → k < length old → entry_at new k ≡ times (entry_at old k) (inverse p)
@@ -66,8 +69,9 @@ AreEven rows n = (i : ℕ) → i < length rows → length (row_at rows i) ≡ n
 -- the numbers of a pivot at row r and column c fit
 pub record RowsPivotFits (rows : List (List Rational)) (r c : ℕ) : Type 0 where
   pub others : (i : ℕ) → i < length rows → i ≢ r → RowStepFits (row_at rows i) (row_at rows r) c (entry_at (row_at rows r) c)
-  pub own : DividedFits (row_at rows r) (entry_at (row_at rows r) c)
+  pub own : RowQuotientsFit (row_at rows r) (entry_at (row_at rows r) c)
 
+-- the rows after a pivot at row r and column c
 pub record ArePivoted (old : List (List Rational)) (r c : ℕ) (new : List (List Rational)) : Type 0 where
   pub same_length : length new ≡ length old
   pub others : (i : ℕ) → i < length old → i ≢ r

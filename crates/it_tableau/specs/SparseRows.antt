@@ -8,9 +8,9 @@ abbrev pub RowTerms : Type 0
 RowTerms = List (ℕ × Rational)
 
 -- the number in a column, 0 where no term has it
-abbrev pub number_at : RowTerms → ℕ → Rational
-number_at [] j = whole (pos 0)
-number_at (t ∷ ts) j = cond (eqb t.0 j) t.1 (number_at ts j)
+abbrev pub entry_in : RowTerms → ℕ → Rational
+entry_in [] j = whole (pos 0)
+entry_in (t ∷ ts) j = cond (eqb t.0 j) t.1 (entry_in ts j)
 
 -- the columns ascend from a number on and stay below another, and no number is 0 or past the limit
 abbrev pub Climbs : ℕ → ℕ → RowTerms → Type 0
@@ -20,4 +20,4 @@ Climbs from to (t ∷ ts) = (from ≤ t.0) × (t.1 ≢ whole (pos 0)) × IsNarro
 -- the terms are those of the first n numbers of f that aren't 0
 pub record ListsEntries (f : ℕ → Rational) (n : ℕ) (terms : RowTerms) : Type 0 where
   pub ascend : Climbs 0 n terms
-  pub entries : (j : ℕ) → j < n → number_at terms j ≡ f j
+  pub entries : (j : ℕ) → j < n → entry_in terms j ≡ f j

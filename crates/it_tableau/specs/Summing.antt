@@ -1,16 +1,17 @@
--- The sums of the columns, row by row. No public clause cites this.
+-- No public clause cites this module: the sums of the columns, row by row.
 use Rattle.std.specs.Prelude.{◌≡◌, ◌≢◌, ℕ, ◌<◌, List, length}
 use Rattle.it_rational.specs.Rational.{Rational, plus}
 use Rattle.it_fraction.specs.Fits.{IsNarrow, SumFits}
 use Rattle.it_tableau.specs.Entries.{entry_at}
 use Rattle.it_tableau.specs.Rows.{column_sum}
-use Rattle.it_tableau.specs.SparseRows.{RowTerms, number_at}
+use Rattle.it_tableau.specs.SparseRows.{RowTerms, entry_in}
 
+-- all numbers are within the limit
 abbrev pub AreNarrow : List Rational → Type 0
 AreNarrow sums = (j : ℕ) → j < length sums → IsNarrow (entry_at sums j)
 
 -- a number is added to the sum of column c, and the other sums stay
-pub record IsAdded (old : List Rational) (c : ℕ) (number : Rational) (new : List Rational) : Type 0 where
+pub record IsNumberAdded (old : List Rational) (c : ℕ) (number : Rational) (new : List Rational) : Type 0 where
   pub same_length : length new ≡ length old
   pub own : entry_at new c ≡ plus number (entry_at old c)
   pub narrow : IsNarrow (entry_at new c)
@@ -18,12 +19,12 @@ pub record IsAdded (old : List Rational) (c : ℕ) (number : Rational) (new : Li
 
 -- each number of a row can be added to the sum of its column
 abbrev pub SumsFit : RowTerms → List Rational → Type 0
-SumsFit terms sums = (j : ℕ) → j < length sums → SumFits (number_at terms j) (entry_at sums j)
+SumsFit terms sums = (j : ℕ) → j < length sums → SumFits (entry_in terms j) (entry_at sums j)
 
 -- the sums with the numbers of a row added
-pub record AreAdded (terms : RowTerms) (old new : List Rational) : Type 0 where
+pub record IsRowAdded (terms : RowTerms) (old new : List Rational) : Type 0 where
   pub same_length : length new ≡ length old
-  pub entries : (j : ℕ) → j < length old → entry_at new j ≡ plus (number_at terms j) (entry_at old j)
+  pub entries : (j : ℕ) → j < length old → entry_at new j ≡ plus (entry_in terms j) (entry_at old j)
 
 -- the sums of the first k rows in each of so many columns
 pub record AreColumnSums (rows : List (List Rational)) (width k : ℕ) (sums : List Rational) : Type 0 where

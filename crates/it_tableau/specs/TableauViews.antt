@@ -1,16 +1,18 @@
 -- What contracts see of a tableau.
-use Rattle.std.specs.Prelude.{◌≡◌, ℕ, ◌+◌, ◌<◌, ℤ, pos, negsuc, Bool, false, not, cond, List, length, slice_index_or}
+use Rattle.std.specs.Prelude.{◌≡◌, ℕ, ◌+◌, ◌<◌, Bool, false, not, List, length, slice_index_or}
 use Rattle.it_rational.specs.Rational.{Rational, minus, whole, is_at_least_zero}
 use Rattle.it_space.specs.Rows.{Terms, coefficient}
 use Rattle.it_tableau.specs.Tables.{Table}
 use Rattle.it_tableau.specs.Entries.{entry_at, row_at}
 use Rattle.it_tableau.specs.Problems.{start_of}
 
+-- a table as the code keeps it
 pub record TableauView : Type 0 where
   -- how many columns there are but the artificial ones
   pub generators : ℕ
   -- the rows with their right sides, and last the cost row
   pub rows : List (List Rational)
+  -- the basic column of each row
   pub basis : List ℕ
   -- whether a row was negated at the start
   pub negated : List Bool
@@ -25,14 +27,13 @@ height t = length t.basis
 abbrev pub width : TableauView → ℕ
 width t = t.generators + height t
 
+-- the table of lists of numbers, 0 where they have none
 abbrev pub table_of : List (List Rational) → List ℕ → Table Rational
 table_of rows basis = record { entry = λ i j. entry_at (row_at rows i) j; basis = λ i. slice_index_or basis i 0 }
 
+-- the table that it shows
 abbrev pub table : TableauView → Table Rational
 table t = table_of t.rows t.basis
-
-abbrev pub sign_at : TableauView → ℕ → ℤ
-sign_at t i = cond (slice_index_or t.negated i false) (negsuc 0) (pos 1)
 
 -- q is above 0
 abbrev pub IsPositive : Rational → Type 0

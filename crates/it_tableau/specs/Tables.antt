@@ -18,6 +18,7 @@ pub record Table (A : Type 0) : Type 0 where
   pub basis : ℕ → ℕ
 
 module _ {A : Type 0} (R : Ring A) where
+  -- a less b
   abbrev pub difference : A → A → A
   difference a b = R.add a (R.neg b)
 

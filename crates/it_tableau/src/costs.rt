@@ -1,11 +1,11 @@
 //! The cost row of the start.
 ghost use Rattle.std.specs.Prelude.{◌≡◌, ◌+◌, ◌-◌, ◌<◌, ℕ, length, IfErr, IfOk, OnErr, OnOk};
-ghost use Rattle.it_rational.specs.Rational.{minus, plus};
-ghost use Rattle.it_fraction.specs.Fits.{IsNarrow, SumFits};
+ghost use Rattle.it_rational.specs.Rational.{minus};
+ghost use Rattle.it_fraction.specs.Fits.{SumFits};
 ghost use Rattle.it_tableau.specs.Entries.{entry_at, row_at};
 ghost use Rattle.it_tableau.specs.Rows.{column_sum, AreEven, ColumnFits, ColumnsFit, ListsValues};
 ghost use Rattle.it_tableau.specs.SparseRows.{Climbs, ListsEntries};
-ghost use Rattle.it_tableau.specs.Summing.{AreAdded, AreColumnSums, AreNarrow, IsAdded, SumsFit};
+ghost use Rattle.it_tableau.specs.Summing.{IsRowAdded, AreColumnSums, AreNarrow, IsNumberAdded, SumsFit};
 
 use crate::merging::{append, column, narrow_number, term};
 use crate::rows::read;
@@ -18,7 +18,7 @@ use std::alloc::Global;
 fn add_number(sums: &mut Vec<Fraction>, column: usize, number: Fraction) -> Result<(), Wide>
     requires { column < length sums.old.items }
     ensures ok { OnOk result (SumFits number (entry_at sums.old.items column)) }
-    ensures value { OnOk result (IsAdded sums.old.items column number sums.new.items) }
+    ensures value { OnOk result (IsNumberAdded sums.old.items column number sums.new.items) }
     ensures err { OnErr result (¬ (SumFits number (entry_at sums.old.items column))) }
 {
     let sum = number.add(sums[column])?;
@@ -31,7 +31,7 @@ fn add_row(sums: &mut Vec<Fraction>, terms: &[(usize, Fraction)]) -> Result<(), 
     requires terms { Climbs 0 (length sums.old.items) terms.now }
     requires narrow { AreNarrow sums.old.items }
     ensures ok { OnOk result (SumsFit terms.now sums.old.items) }
-    ensures value { OnOk result (AreAdded terms.now sums.old.items sums.new.items) }
+    ensures value { OnOk result (IsRowAdded terms.now sums.old.items sums.new.items) }
     ensures narrow { OnOk result (AreNarrow sums.new.items) }
     ensures err { OnErr result (¬ (SumsFit terms.now sums.old.items)) }
 {

@@ -3,7 +3,7 @@ ghost use Rattle.std.specs.Prelude.{◌≡◌, ◌+◌, ◌<◌, [], ℕ, length
 ghost use Rattle.std.specs.Bool.{OnFalse, OnTrue};
 ghost use Rattle.std.specs.Option.{IfNone, IfSome};
 ghost use Rattle.it_space.specs.Rows.{IsCanonical};
-ghost use Rattle.it_tableau.specs.Gathering.{list_at, start_number, AreAppended, AreEmpty, AreGathered, IsAscending, IsPut, IsTaken};
+ghost use Rattle.it_tableau.specs.Gathering.{row_terms_at, start_number, AreAppended, AreEmpty, AreGathered, IsAscending, IsEntryPut, IsListTaken};
 ghost use Rattle.it_tableau.specs.Merging.{IsAppended};
 ghost use Rattle.it_tableau.specs.Rows.{IsWholeNumber, ListsValues};
 ghost use Rattle.it_tableau.specs.SparseRows.{ListsEntries};
@@ -103,8 +103,8 @@ fn put_in(
     value: Fraction,
 ) -> Result<(), AllocError>
     requires { k < length lists.old.items }
-    ensures own { OnOk result (IsAppended (list_at lists.old.items k) column value (list_at lists.new.items k)) }
-    ensures others { OnOk result (IsTaken lists.old.items k lists.new.items) }
+    ensures own { OnOk result (IsAppended (row_terms_at lists.old.items k) column value (row_terms_at lists.new.items k)) }
+    ensures others { OnOk result (IsListTaken lists.old.items k lists.new.items) }
 {
     lists[k].put(column, value)?;
     Ok(())
@@ -121,7 +121,7 @@ fn put_term(
 ) -> Result<(), AllocError>
     requires ascending { IsAscending coordinates.now }
     requires count { length lists.old.items ≡ length coordinates.now }
-    ensures { OnOk result (IsPut coordinates.now (λ k. start_number coordinates.now columns.now target.now k j) coordinate j lists.old.items lists.new.items) }
+    ensures { OnOk result (IsEntryPut coordinates.now (λ k. start_number coordinates.now columns.now target.now k j) coordinate j lists.old.items lists.new.items) }
 {
     if let Some(k) = place_of(coordinates, coordinate) {
         let entry = start_entry(coordinates, columns, target, k, j);
@@ -208,8 +208,8 @@ fn finished_row(
 
 fn take_list(alloc: Global, lists: &mut Vec<TermList>, k: usize) -> TermList
     requires { k < length lists.old.items }
-    ensures own { result ≡ list_at lists.old.items k }
-    ensures others { IsTaken lists.old.items k lists.new.items }
+    ensures own { result ≡ row_terms_at lists.old.items k }
+    ensures others { IsListTaken lists.old.items k lists.new.items }
 {
     std::mem::replace(&mut lists[k], TermList::empty(alloc))
 }

@@ -12,5 +12,5 @@ mod tableau;
 #[cfg(test)]
 mod tests;
 
-pub use laws::{pivots_combine, pivots_keep, start_holds};
+pub use laws::{pivots_combine_start, pivots_keep_invariants, start_has_invariants};
 pub use tableau::Tableau;

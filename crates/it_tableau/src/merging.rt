@@ -4,7 +4,7 @@ ghost use Rattle.std.specs.Bool.{OnFalse, OnTrue};
 ghost use Rattle.it_rational.specs.Rational.{minus, plus, times, whole};
 ghost use Rattle.it_fraction.specs.Fits.{IsNarrow};
 ghost use Rattle.it_tableau.specs.Fits.{EntryFits};
-ghost use Rattle.it_tableau.specs.Merging.{column_at, term_at, AreMerged, IsAppended, IsSide, MergeFits};
+ghost use Rattle.it_tableau.specs.Merging.{column_at, number_of_term, AreMerged, IsAppended, IsSide, MergeFits};
 ghost use Rattle.it_tableau.specs.SparseRows.{Climbs};
 
 use it_fraction::{Fraction, Wide};
@@ -40,7 +40,7 @@ pub fn narrow_number(value: Fraction) -> Fraction
 /// The number of term i.
 pub fn term(terms: &[(usize, Fraction)], i: usize) -> Fraction
     requires { i < length terms.now }
-    ensures value { result ≡ term_at terms.now i }
+    ensures value { result ≡ number_of_term terms.now i }
     ensures narrow { IsNarrow result }
 {
     narrow_number(terms[i].1)

@@ -1,10 +1,10 @@
 //! Rows of the table without their zeros.
-ghost use Rattle.std.specs.Prelude.{◌≡◌, ◌≢◌, ◌+◌, ◌-◌, ◌<◌, [], length, pos, slice_index_or, IfErr, IfOk, OnErr, OnOk};
+ghost use Rattle.std.specs.Prelude.{◌≡◌, ◌≢◌, ◌-◌, ◌<◌, [], length, pos, slice_index_or, IfErr, OnOk};
 ghost use Rattle.it_rational.specs.Rational.{inverse, times, whole};
-ghost use Rattle.it_tableau.specs.Merging.{AreDivided, TermsDivide};
+ghost use Rattle.it_tableau.specs.Merging.{AreDivided, TermQuotientsFit};
 ghost use Rattle.it_tableau.specs.Entries.{entry_at, zero_rational};
-ghost use Rattle.it_tableau.specs.Rows.{DividedFits, IsDivided, IsReduced, RowStepFits, dense_row};
-ghost use Rattle.it_tableau.specs.SparseRows.{number_at, Climbs, ListsEntries};
+ghost use Rattle.it_tableau.specs.Rows.{RowQuotientsFit, IsDivided, IsReduced, RowStepFits, dense_row};
+ghost use Rattle.it_tableau.specs.SparseRows.{entry_in, Climbs, ListsEntries};
 
 use crate::merging::{append, column, is_null, merge, narrow_number, reduced_entry, term};
 use it_fraction::Fraction;
@@ -114,9 +114,9 @@ impl SparseRow {
         buffer: &mut Vec<(usize, Fraction)>,
     ) -> Result<(), RowFault>
         requires { pivot.num ≢ pos 0 }
-        ensures ok { OnOk result (DividedFits self.old pivot) }
+        ensures ok { OnOk result (RowQuotientsFit self.old pivot) }
         ensures value { OnOk result (IsDivided self.old pivot self.new) }
-        ensures wide { IfErr result (λ fault. fault ≡ RowFault.Wide → ¬ (DividedFits self.old pivot)) }
+        ensures wide { IfErr result (λ fault. fault ≡ RowFault.Wide → ¬ (RowQuotientsFit self.old pivot)) }
     {
         let right = self.right.div(pivot)?;
         divide_terms(buffer, self.terms.as_slice(), pivot, self.width)?;
@@ -129,7 +129,7 @@ impl SparseRow {
 /// The number in a column by binary search, 0 where no term has it.
 fn number_in(terms: &[(usize, Fraction)], at: usize, width: usize) -> Fraction
     requires { Climbs 0 width terms.now }
-    ensures { result ≡ number_at terms.now at }
+    ensures { result ≡ entry_in terms.now at }
 {
     match terms.binary_search_by_key(&at, |term| term.0) {
         Ok(i) => terms[i].1,
@@ -146,9 +146,9 @@ fn divide_terms(
 ) -> Result<(), RowFault>
     requires terms { Climbs 0 width terms.now }
     requires some { pivot.num ≢ pos 0 }
-    ensures ok { OnOk result (TermsDivide terms.now pivot) }
+    ensures ok { OnOk result (TermQuotientsFit terms.now pivot) }
     ensures value { OnOk result (AreDivided terms.now pivot width buffer.new.items) }
-    ensures wide { IfErr result (λ fault. fault ≡ RowFault.Wide → ¬ (TermsDivide terms.now pivot)) }
+    ensures wide { IfErr result (λ fault. fault ≡ RowFault.Wide → ¬ (TermQuotientsFit terms.now pivot)) }
 {
     buffer.clear();
     for i in 0..terms.len() {

@@ -1,11 +1,11 @@
 //! The tableau.
-ghost use Rattle.std.specs.Prelude.{◌≡◌, ◌+◌, ◌<◌, ℕ, false, true, length, IfErr, IfOk, OkIff, OnErr, OnOk, slice_index_or};
+ghost use Rattle.std.specs.Prelude.{◌≡◌, ◌+◌, ◌<◌, false, true, length, IfErr, IfOk, OkIff, OnErr, OnOk, slice_index_or};
 ghost use Rattle.it_rational.proofs.Field.{field_ℚ};
 ghost use Rattle.it_fraction.specs.Fits.{IsNarrow};
 ghost use Rattle.it_tableau.specs.Fits.{PivotFits, StartFits};
 ghost use Rattle.it_tableau.specs.Problems.{feasibility_problem};
 ghost use Rattle.it_tableau.specs.SparseRows.{ListsEntries};
-ghost use Rattle.it_tableau.specs.TableauViews.{height, sign_at, table, width, IsPositive, IsStart, KeepsFrame};
+ghost use Rattle.it_tableau.specs.TableauViews.{height, table, width, IsPositive, IsStart, KeepsFrame};
 ghost use Rattle.it_tableau.specs.Tables.{pivot, ratio};
 
 use crate::rows::{pivot_rows, read};
@@ -92,7 +92,7 @@ impl Tableau {
     }
 
     /// The column that is basic in a row.
-    pub fn basic(&self, row: usize) -> usize
+    pub fn basic_column(&self, row: usize) -> usize
         requires usable { self.now.spent ≡ false }
         requires row { row < height self.now }
         ensures { result ≡ (table self.now).basis row }
@@ -100,13 +100,13 @@ impl Tableau {
         self.basis[row]
     }
 
-    /// -1 where the row was negated at the start, else 1.
-    pub fn sign(&self, row: usize) -> i8
+    /// Whether the row was negated at the start.
+    pub fn is_negated(&self, row: usize) -> bool
         requires usable { self.now.spent ≡ false }
         requires row { row < height self.now }
-        ensures { result ≡ sign_at self.now row }
+        ensures { result ≡ slice_index_or self.now.negated row false }
     {
-        if self.negated[row] { -1 } else { 1 }
+        self.negated[row]
     }
 
     /// The entry of a row at a column.

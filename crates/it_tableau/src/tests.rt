@@ -71,7 +71,7 @@ fn example(alloc: Global) -> Result<Tableau, RowFault>
 }
 
 // the ratio, and the tableau after the pivot
-fn pivoted(start: Tableau, row: usize, column: usize) -> Result<(Fraction, Tableau), RowFault>
+fn pivot_once(start: Tableau, row: usize, column: usize) -> Result<(Fraction, Tableau), RowFault>
     requires usable { start.spent ≡ false }
     requires rows { height start ≡ 3 }
     requires columns { start.generators ≡ 3 }
@@ -102,8 +102,12 @@ fn a_start_has_the_rows_with_their_signs(rt: HostRuntime) -> Result<(), Fail> {
         (3, 6, 3)
     );
     assert_eq!(rt;
-        (tableau.sign(0), tableau.sign(1), tableau.sign(2)),
-        (1, 1, -1)
+        (
+            tableau.is_negated(0),
+            tableau.is_negated(1),
+            tableau.is_negated(2)
+        ),
+        (false, false, true)
     );
     assert_eq!(rt;
         row_of(alloc, &tableau, 0)?.as_slice(),
@@ -135,7 +139,7 @@ fn two_pivots_lead_to_a_point(rt: HostRuntime) -> Result<(), Fail> {
         assert!(rt; false);
         return Ok(());
     };
-    let Ok((ratio, tableau)) = pivoted(start, 1, 2) else {
+    let Ok((ratio, tableau)) = pivot_once(start, 1, 2) else {
         assert!(rt; false);
         return Ok(());
     };
@@ -144,7 +148,7 @@ fn two_pivots_lead_to_a_point(rt: HostRuntime) -> Result<(), Fail> {
         cost_of(alloc, &tableau)?.as_slice(),
         [-1, 2, 0, -1, 2, -1, -2].as_slice()
     );
-    let Ok((ratio, tableau)) = pivoted(tableau, 0, 0) else {
+    let Ok((ratio, tableau)) = pivot_once(tableau, 0, 0) else {
         assert!(rt; false);
         return Ok(());
     };
@@ -154,7 +158,11 @@ fn two_pivots_lead_to_a_point(rt: HostRuntime) -> Result<(), Fail> {
         [0, 1, 0, 0, 1, -1, -1].as_slice()
     );
     assert_eq!(rt;
-        (tableau.basic(0), tableau.basic(1), tableau.basic(2)),
+        (
+            tableau.basic_column(0),
+            tableau.basic_column(1),
+            tableau.basic_column(2)
+        ),
         (0, 2, 5)
     );
     Ok(())

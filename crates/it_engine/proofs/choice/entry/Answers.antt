@@ -1,10 +1,10 @@
 use Rattle.std.proofs.Common.{subst, sym, []}
 use Rattle.it_engine.specs.Updates.{Suits}
 use Rattle.it_engine.specs.Whole.{WholeRowView}
-use Rattle.it_engine.proofs.Items.{read}
+use Rattle.it_engine.proofs.Items.{item_by_default}
 use Rattle.it_engine.proofs.choice.entry.Goals as goal
 
 pub price-requires : goal.price-requires
 price-requires c = record {
-  suits = subst (λ (r : WholeRowView). Suits c.args.column.now r.numbers) (sym (read c.args.rows.now c.args.i c.index-rows-i.result record { numbers = []; bottom = 1 } c.requires.row c.index-rows-i.is)) (c.requires.suits c.args.i c.requires.row);
+  suits = subst (λ (r : WholeRowView). Suits c.args.column.now r.numbers) (sym (item_by_default c.args.rows.now c.args.i c.index-rows-i.result record { numbers = []; bottom = 1 } c.requires.row c.index-rows-i.is)) (c.requires.suits c.args.i c.requires.row);
 }

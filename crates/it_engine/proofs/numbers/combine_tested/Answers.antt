@@ -1,6 +1,6 @@
 use Rattle.std.proofs.Common.{rules, to_z, of_z, length, ◌≡◌, ◌⊎◌, inl, inr, ◌<◌, ◌≤◌, ◌^◌, ◌+ℤ◌, ◌*ℤ◌, neg_ℤ, ℤ, ℕ, unsigned_abs, FitsSigned, to_z-of_z, w64, ap, sym, subst, ◌∙◌, arith}
 use Rattle.std.proofs.lemmas.Bool.{cases_lt}
-use Rattle.it_engine.specs.Whole.{number_at}
+use Rattle.it_space.specs.Sums.{number_at}
 use Rattle.it_engine.proofs.Items.{set_done, set_rest}
 use Rattle.it_engine.proofs.numbers.combine_tested.Goals as goal
 

@@ -1,5 +1,5 @@
 use Rattle.std.proofs.Common.{length, ◌≡◌, ℕ, ◌<◌, ◌≤◌, ◌+ℤ◌, ◌*ℤ◌, neg_ℤ, unsigned_abs}
-use Rattle.it_engine.specs.Whole.{number_at}
+use Rattle.it_space.specs.Sums.{number_at}
 use Rattle.it_engine.proofs.numbers.combine_tested.Given as goal
 
 abbrev pub invariant-loop-k : goal.invariant-loop-k

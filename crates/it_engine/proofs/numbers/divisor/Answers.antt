@@ -13,5 +13,5 @@ returns-then-shared-eq1-clause-bottom c = one-dvd c.args.bottom
 pub loop-k-preserved : goal.loop-k-preserved
 loop-k-preserved c =
     let f : FitsSigned w64 c.read.result = search rules in
-    divides_more c.args.row.now c.args.bottom c.loop-k.shared c.common-shared.result c.read.result c.loop-k.k
-    (c.common-shared.ensures.value ∙ ap (λ n. gcd n c.loop-k.shared) (c.unsigned_abs.ensures.value ∙ ap unsigned_abs (to_z-of_z f))) c.read.ensures c.loop-k.invariant
+    divides_more c.args.row.now c.args.bottom c.loop-k.shared c.common_divisor-shared.result c.read.result c.loop-k.k
+    (c.common_divisor-shared.ensures.value ∙ ap (λ n. gcd n c.loop-k.shared) (c.unsigned_abs.ensures.value ∙ ap unsigned_abs (to_z-of_z f))) c.read.ensures c.loop-k.invariant

@@ -1,5 +1,5 @@
 use Rattle.std.proofs.Common.{rules, to_z, of_z, length, ◌≡◌, ◌<◌, ◌+ℤ◌, ◌*ℤ◌, neg_ℤ, FitsSigned, to_z-of_z, w64, ap, ◌∙◌, arith}
-use Rattle.it_engine.specs.Whole.{number_at}
+use Rattle.it_space.specs.Sums.{number_at}
 use Rattle.it_engine.proofs.Items.{set_done, set_rest}
 use Rattle.it_engine.proofs.numbers.multiply_and_subtract.Goals as goal
 

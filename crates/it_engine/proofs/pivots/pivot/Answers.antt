@@ -1,39 +1,40 @@
 use Rattle.std.proofs.Common.{rules, ◌≡◌, ◌≤ℤ◌, pos, ℤ, ◌<◌, ◌+◌, ◌^◌, ◌∙◌, ap, sym, subst, FitsSigned, to_z-of_z, to_z, of_z, w64, length, List, ℕ, [], slice_index_or, unsigned_abs, arith}
 use Rattle.std.proofs.lemmas.List.{get_or_default}
 use Rattle.it_space.specs.Rows.{value}
-use Rattle.it_engine.specs.Whole.{number_at, row_at, WholeRowView}
+use Rattle.it_space.specs.Sums.{number_at}
+use Rattle.it_engine.specs.Whole.{whole_row_at, WholeRowView}
 use Rattle.it_engine.specs.Updates.{IsQuotient, IsUpdated, IsUsable}
-use Rattle.it_engine.proofs.Pivoting.{UnderWay, skipped, stepped, finished}
+use Rattle.it_engine.proofs.Pivoting.{IsPivotUnderWay, own_row_is_skipped, row_is_updated, pivot_ends}
 use Rattle.it_engine.proofs.Usable.{fitting_short, quotient_usable}
 use Rattle.it_engine.proofs.pivots.pivot.Goals as goal
 use Rattle.it_engine.proofs.pivots.pivot.Goals.{then-i-r+else-not-update, else-i-r, After-price-entry, After-unit-p}
 
-taken_is : (c : After-price-entry) → c.replace-taken.result ≡ row_at c.args.rows.now c.args.r
+taken_is : (c : After-price-entry) → c.replace-taken.result ≡ whole_row_at c.args.rows.now c.args.r
 taken_is c = c.replace-taken.ensures.value ∙ get_or_default c.args.rows.now c.args.r c.index-rows-r.result record { numbers = []; bottom = 1 } c.requires.row
 
-entry_is : (c : After-price-entry) → c.price-entry.result ≡ value c.args.column.now (number_at (row_at c.args.rows.now c.args.r).numbers)
+entry_is : (c : After-price-entry) → c.price-entry.result ≡ value c.args.column.now (number_at (whole_row_at c.args.rows.now c.args.r).numbers)
 entry_is c = c.price-entry.ensures ∙ ap (λ (r : WholeRowView). value c.args.column.now (number_at r.numbers)) (taken_is c)
 
 positive : (c : After-price-entry) → pos 1 ≤ℤ c.price-entry.result
 positive c = subst (λ (z : ℤ). pos 1 ≤ℤ z) (sym (entry_is c)) c.requires.positive
 
 entry_short : (c : After-price-entry) → unsigned_abs c.price-entry.result < 2 ^ 63
-entry_short c = subst (λ (z : ℤ). unsigned_abs z < 2 ^ 63) (sym (entry_is c)) (fitting_short (length c.args.rows.now) c.args.limit c.args.column.now (row_at c.args.rows.now c.args.r) c.requires.column (c.requires.rows c.args.r c.requires.row))
+entry_short c = subst (λ (z : ℤ). unsigned_abs z < 2 ^ 63) (sym (entry_is c)) (fitting_short (length c.args.rows.now) c.args.limit c.args.column.now (whole_row_at c.args.rows.now c.args.r) c.requires.column (c.requires.rows c.args.r c.requires.row))
 
-quotient_is : (c : After-unit-p) → IsQuotient (row_at c.args.rows.now c.args.r) c.price-entry.result c.divided_by-own.result
+quotient_is : (c : After-unit-p) → IsQuotient (whole_row_at c.args.rows.now c.args.r) c.price-entry.result c.divided_by-own.result
 quotient_is c =
     let f : FitsSigned w64 c.price-entry.result = search rules in
     subst (λ (o : WholeRowView). IsQuotient o c.price-entry.result c.divided_by-own.result) (taken_is (goal.at.After-unit-p c).After-price-entry) (simp to_z-of_z at c.divided_by-own.ensures)
 
 own_usable : (c : After-unit-p) → IsUsable (length c.args.rows.now) c.args.limit c.divided_by-own.result
-own_usable c = quotient_usable (length c.args.rows.now) c.args.limit (row_at c.args.rows.now c.args.r) c.price-entry.result c.divided_by-own.result
+own_usable c = quotient_usable (length c.args.rows.now) c.args.limit (whole_row_at c.args.rows.now c.args.r) c.price-entry.result c.divided_by-own.result
     (c.requires.rows c.args.r c.requires.row) (positive (goal.at.After-unit-p c).After-price-entry) (quotient_is c)
 
 pub update-requires-clause-row : goal.update-requires-clause-row
 update-requires-clause-row c =
     let d = (goal.at.update-requires-clause-row c).After-unit-p in
     let reached : c.loop-i.i < length c.loop-i.rows = omega (arith, c.loop-i-test.true, c.loop-i.auto.rows) in
-    let row : slice_index_or c.loop-i.rows c.loop-i.i c.index-rows-i.result ≡ row_at c.args.rows.now c.loop-i.i =
+    let row : slice_index_or c.loop-i.rows c.loop-i.i c.index-rows-i.result ≡ whole_row_at c.args.rows.now c.loop-i.i =
     get_or_default c.loop-i.rows c.loop-i.i c.index-rows-i.result record { numbers = []; bottom = 1 } reached ∙ c.loop-i.invariant.rest c.loop-i.i (omega arith) c.if-i-r.true in
     subst (λ (n : ℕ). IsUsable n c.args.limit (slice_index_or c.loop-i.rows c.loop-i.i c.index-rows-i.result)) (sym (own_usable d).length_is)
     (subst (IsUsable (length c.args.rows.now) c.args.limit) (sym row) (c.requires.rows c.loop-i.i (omega (arith, reached, c.loop-i.invariant.same_length))))
@@ -46,20 +47,20 @@ update-requires-clause-own c =
 pub loop-i-preserved : goal.loop-i-preserved
 loop-i-preserved c =
     let d = (goal.at.loop-i-preserved c).After-unit-p in
-    let Done : ℕ → WholeRowView → Type 0 = λ k row. IsUpdated (length c.args.rows.now) c.args.limit (row_at c.args.rows.now k) c.divided_by-own.result c.args.column.now (to_z w64 (of_z w64 c.unit-p.result)) row in
+    let Done : ℕ → WholeRowView → Type 0 = λ k row. IsUpdated (length c.args.rows.now) c.args.limit (whole_row_at c.args.rows.now k) c.divided_by-own.result c.args.column.now (to_z w64 (of_z w64 c.unit-p.result)) row in
     elim c.if-i-r.branch [
       | then-i-r+else-not-update w ↦
           let reached : c.loop-i.i < length c.loop-i.rows = omega (arith, c.loop-i-test.true, c.loop-i.auto.rows) in
-          let row : slice_index_or c.loop-i.rows c.loop-i.i w.index-rows-i.result ≡ row_at c.args.rows.now c.loop-i.i =
+          let row : slice_index_or c.loop-i.rows c.loop-i.i w.index-rows-i.result ≡ whole_row_at c.args.rows.now c.loop-i.i =
           get_or_default c.loop-i.rows c.loop-i.i w.index-rows-i.result record { numbers = []; bottom = 1 } reached ∙ c.loop-i.invariant.rest c.loop-i.i (omega arith) w.if-i-r.true in
-          subst (λ (l : List WholeRowView). UnderWay c.args.rows.now l c.args.r (c.loop-i.i + 1) Done) (sym w.rows-is)
-          (stepped c.args.rows.now c.args.r Done c.loop-i.rows c.loop-i.i w.update.new.self reached
+          subst (λ (l : List WholeRowView). IsPivotUnderWay c.args.rows.now l c.args.r (c.loop-i.i + 1) Done) (sym w.rows-is)
+          (row_is_updated c.args.rows.now c.args.r Done c.loop-i.rows c.loop-i.i w.update.new.self reached
           (subst (λ (x : WholeRowView). IsUpdated (length c.args.rows.now) c.args.limit x c.divided_by-own.result c.args.column.now (to_z w64 (of_z w64 c.unit-p.result)) w.update.new.self) row
           (subst (λ (n : ℕ). IsUpdated n c.args.limit (slice_index_or c.loop-i.rows c.loop-i.i w.index-rows-i.result) c.divided_by-own.result c.args.column.now (to_z w64 (of_z w64 c.unit-p.result)) w.update.new.self) (own_usable d).length_is w.if-not-update.ensures))
           c.loop-i.invariant)
       | else-i-r w ↦
-          subst (λ (l : List WholeRowView). UnderWay c.args.rows.now l c.args.r (c.loop-i.i + 1) Done) (sym w.rows-is)
-          (skipped c.args.rows.now c.args.r Done c.loop-i.rows c.loop-i.i (omega (arith, w.if-i-r.false)) c.loop-i.invariant)
+          subst (λ (l : List WholeRowView). IsPivotUnderWay c.args.rows.now l c.args.r (c.loop-i.i + 1) Done) (sym w.rows-is)
+          (own_row_is_skipped c.args.rows.now c.args.r Done c.loop-i.rows c.loop-i.i (omega (arith, w.if-i-r.false)) c.loop-i.invariant)
     ]
 
 pub returns-clause-pivoted : goal.returns-clause-pivoted
@@ -68,7 +69,7 @@ returns-clause-pivoted c =
     let e = (goal.at.returns-clause-pivoted c).After-price-entry in
     let f : FitsSigned w64 c.unit-p.result = search rules in
     let u = simp to_z-of_z at c.loop-i.invariant in
-    finished c.args.rows.now c.args.r (length c.args.rows.now) c.args.limit c.args.column.now c.price-entry.result c.loop-i.rows c.loop-i.i c.divided_by-own.result
+    pivot_ends c.args.rows.now c.args.r (length c.args.rows.now) c.args.limit c.args.column.now c.price-entry.result c.loop-i.rows c.loop-i.i c.divided_by-own.result
     c.requires.row (c.requires.rows c.args.r c.requires.row) (omega (arith, c.loop-i-test.false, c.loop-i.invariant.same_length)) (entry_is e) (positive e) (entry_short e)
-    (subst (λ (p : ℤ). UnderWay c.args.rows.now c.loop-i.rows c.args.r c.loop-i.i
-    (λ k row. IsUpdated (length c.args.rows.now) c.args.limit (row_at c.args.rows.now k) c.divided_by-own.result c.args.column.now p row)) c.unit-p.ensures u) (quotient_is d)
+    (subst (λ (p : ℤ). IsPivotUnderWay c.args.rows.now c.loop-i.rows c.args.r c.loop-i.i
+    (λ k row. IsUpdated (length c.args.rows.now) c.args.limit (whole_row_at c.args.rows.now k) c.divided_by-own.result c.args.column.now p row)) c.unit-p.ensures u) (quotient_is d)

@@ -1,4 +1,4 @@
-use Rattle.it_engine.proofs.Readings.{null_from_top}
+use Rattle.it_tableau.proofs.Zeros.{null_from_top}
 use Rattle.it_engine.proofs.reading.is_null.Goals as goal
 
 pub returns-then-is_zero-clause-yes : goal.returns-then-is_zero-clause-yes

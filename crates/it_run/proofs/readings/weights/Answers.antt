@@ -1,7 +1,7 @@
 use Rattle.std.proofs.Common.{◌<◌, ℕ, ◌+◌, List, ap, sym, ◌∙◌, subst, arith}
 use Rattle.it_rational.specs.Rational.{Rational}
 use Rattle.it_tableau.specs.TableauViews.{height, table}
-use Rattle.it_run.proofs.FillingLemmas.{SoFar, so_far_null, so_far_more}
+use Rattle.it_run.proofs.FillingLemmas.{AreWeightsSoFar, weights_skip_null, weights_with_next}
 use Rattle.it_run.proofs.readings.weights.Goals as goal
 use Rattle.it_run.proofs.readings.weights.Goals.{in-Some+then-not-is_null+in_ok-append, in-Some+else-not-is_null, in_default}
 
@@ -11,12 +11,12 @@ loop-j-preserved c =
     let within : c.loop-j.j < t.generators = omega (arith, c.loop-j-test.true) in
     elim c.match-weight_of.branch [
       | in-Some+then-not-is_null+in_ok-append w ↦
-          subst (λ (out : List (ℕ × Rational)). SoFar (height t) t.generators (table t) out (c.loop-j.j + 1)) (sym (ap (λ v. v.items) w.out-is ∙ w.in_ok-append.ensures))
-          (so_far_more (height t) t.generators (table t) c.loop-j.out.items c.loop-j.j w.in-Some.weight within w.in-Some.ensures.some w.if-not-is_null.ensures.no c.loop-j.invariant)
+          subst (λ (out : List (ℕ × Rational)). AreWeightsSoFar (height t) t.generators (table t) out (c.loop-j.j + 1)) (sym (ap (λ v. v.items) w.out-is ∙ w.in_ok-append.ensures))
+          (weights_with_next (height t) t.generators (table t) c.loop-j.out.items c.loop-j.j w.in-Some.weight within w.in-Some.ensures.some w.if-not-is_null.ensures.no c.loop-j.invariant)
       | in-Some+else-not-is_null w ↦
-          subst (λ (out : List (ℕ × Rational)). SoFar (height t) t.generators (table t) out (c.loop-j.j + 1)) (sym (ap (λ v. v.items) w.out-is))
-          (so_far_null (height t) t.generators (table t) c.loop-j.out.items c.loop-j.j within (sym w.in-Some.ensures.some ∙ w.if-not-is_null.ensures.yes) c.loop-j.invariant)
+          subst (λ (out : List (ℕ × Rational)). AreWeightsSoFar (height t) t.generators (table t) out (c.loop-j.j + 1)) (sym (ap (λ v. v.items) w.out-is))
+          (weights_skip_null (height t) t.generators (table t) c.loop-j.out.items c.loop-j.j within (sym w.in-Some.ensures.some ∙ w.if-not-is_null.ensures.yes) c.loop-j.invariant)
       | in_default w ↦
-          subst (λ (out : List (ℕ × Rational)). SoFar (height t) t.generators (table t) out (c.loop-j.j + 1)) (sym (ap (λ v. v.items) w.out-is))
-          (so_far_null (height t) t.generators (table t) c.loop-j.out.items c.loop-j.j within w.in_default.ensures.none c.loop-j.invariant)
+          subst (λ (out : List (ℕ × Rational)). AreWeightsSoFar (height t) t.generators (table t) out (c.loop-j.j + 1)) (sym (ap (λ v. v.items) w.out-is))
+          (weights_skip_null (height t) t.generators (table t) c.loop-j.out.items c.loop-j.j within w.in_default.ensures.none c.loop-j.invariant)
     ]

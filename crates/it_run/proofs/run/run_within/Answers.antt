@@ -2,7 +2,7 @@ use Rattle.std.proofs.Common.{◌≡◌, ◌∙◌, ◌+◌, ◌-◌, ℕ, refl,
 use Rattle.it_tableau.specs.TableauViews.{height, table}
 use Rattle.it_run.specs.Runs.RunEndView.{Weights, Point, Pivots, Width}
 use Rattle.it_run.specs.Steps.{IsStep, ReachesFrom, IsStepOrStuck}
-use Rattle.it_run.proofs.RunSteps.{Found, stuck, moves, ready, run_done, run_stuck, run_wide, run_budget, holds_next, step_on}
+use Rattle.it_run.proofs.RunSteps.{IsEnteringColumn, stuck_without_entering, not_stuck_with_entering, ready_by_invariants, run_done, run_stuck, run_wide, run_budget, holds_next, step_on}
 use Rattle.it_run.proofs.run.run_within.Goals as goal
 
 pub returns-then-is_done-clause-end : goal.returns-then-is_done-clause-end
@@ -10,7 +10,7 @@ returns-then-is_done-clause-end c = let t = c.loop-k.tableau in
     c.loop-k.invariant.back (Weights (table t)) (run_done (height t) t.generators (c.args.budget - c.loop-k.k) c.loop-k.k (table t) c.if-is_done.ensures.yes)
 
 pub step-requires-clause-ready : goal.step-requires-clause-ready
-step-requires-clause-ready c = let t = c.loop-k.tableau in let h = c.loop-k.invariant.kept.holds in ready (height t) t.generators h.0 (table t) h.1
+step-requires-clause-ready c = let t = c.loop-k.tableau in let h = c.loop-k.invariant.kept.holds in ready_by_invariants (height t) t.generators h.0 (table t) h.1
 
 pub returns-in-Ok-false-clause-end : goal.returns-in-Ok-false-clause-end
 returns-in-Ok-false-clause-end c = let t = c.loop-k.tableau in let s = c.step.new.tableau in
@@ -41,12 +41,12 @@ loop-k-preserved c = let t = c.loop-k.tableau in let s = c.step.new.tableau in
 pub returns-in-Some-clause-end : goal.returns-in-Some-clause-end
 returns-in-Some-clause-end c = let t = c.loop-k.tableau in
     let last : c.loop-k.k ≡ c.args.budget = omega (arith, c.loop-k-test.false, c.loop-k.auto.k-end) in
-    let f : Found (height t) t.generators (table t) c.in-Some.field-0 = record { within = c.in-Some.ensures.within; is = c.in-Some.ensures.some } in
+    let f : IsEnteringColumn (height t) t.generators (table t) c.in-Some.field-0 = record { within = c.in-Some.ensures.within; is = c.in-Some.ensures.some } in
     c.loop-k.invariant.back (Pivots c.args.budget)
     (subst (λ (x : ℕ). ReachesFrom t (c.args.budget - c.loop-k.k) c.loop-k.k (Pivots x)) last
-    (run_budget (height t) t.generators (c.args.budget - c.loop-k.k) c.loop-k.k (table t) (omega (arith, last)) c.if-is_done-2.ensures.no (moves (height t) t.generators (table t) c.in-Some.field-0 f)))
+    (run_budget (height t) t.generators (c.args.budget - c.loop-k.k) c.loop-k.k (table t) (omega (arith, last)) c.if-is_done-2.ensures.no (not_stuck_with_entering (height t) t.generators (table t) c.in-Some.field-0 f)))
 
 pub returns-in-None-clause-end : goal.returns-in-None-clause-end
 returns-in-None-clause-end c = let t = c.loop-k.tableau in
     c.loop-k.invariant.back (Point (table t))
-    (run_stuck (height t) t.generators (c.args.budget - c.loop-k.k) c.loop-k.k (table t) (table t) c.if-is_done-2.ensures.no (stuck (height t) t.generators (table t) c.in-None.ensures.none) refl)
+    (run_stuck (height t) t.generators (c.args.budget - c.loop-k.k) c.loop-k.k (table t) (table t) c.if-is_done-2.ensures.no (stuck_without_entering (height t) t.generators (table t) c.in-None.ensures.none) refl)

@@ -4,7 +4,7 @@ use Rattle.it_space.specs.declared.faults.RowFault.TheVariants.{Wide}
 use Rattle.it_tableau.specs.Entries.{entry_at, row_at}
 use Rattle.it_tableau.specs.Rows.{AreEven, ColumnFits}
 use Rattle.it_tableau.specs.SparseRows.{RowTerms, ListsEntries}
-use Rattle.it_tableau.proofs.SumSteps.{row_added, row_climbs, row_refused}
+use Rattle.it_tableau.proofs.SumSteps.{row_is_summed, row_climbs, row_is_refused}
 use Rattle.it_tableau.proofs.Zeros.{any_err}
 use Rattle.it_tableau.proofs.costs.column_sums.Goals as goal
 
@@ -22,10 +22,10 @@ add_row-requires-clause-terms c =
 pub returns-in_err-add_row-clause-wide : goal.returns-in_err-add_row-clause-wide
 returns-in_err-add_row-clause-wide c =
     any_err c.from_residual-in_err-add_row.result Wide (¬ ((j : ℕ) → j < c.args.width → ColumnFits c.args.rows.now j))
-    (row_refused c.args.rows.now c.args.width c.loop-i.i c.terms_of.result.now (with_width c.args.rows.now c.args.width c.loop-i.i c.terms_of.result.now c.requires c.loop-i-test.true c.terms_of.ensures)
+    (row_is_refused c.args.rows.now c.args.width c.loop-i.i c.terms_of.result.now (with_width c.args.rows.now c.args.width c.loop-i.i c.terms_of.result.now c.requires c.loop-i-test.true c.terms_of.ensures)
     c.loop-i.sums.items c.loop-i.invariant c.loop-i-test.true c.in_err-add_row.ensures.err)
 
 pub loop-i-preserved : goal.loop-i-preserved
 loop-i-preserved c =
-    row_added c.args.rows.now c.args.width c.loop-i.i c.terms_of.result.now (with_width c.args.rows.now c.args.width c.loop-i.i c.terms_of.result.now c.requires c.loop-i-test.true c.terms_of.ensures)
+    row_is_summed c.args.rows.now c.args.width c.loop-i.i c.terms_of.result.now (with_width c.args.rows.now c.args.width c.loop-i.i c.terms_of.result.now c.requires c.loop-i-test.true c.terms_of.ensures)
     c.loop-i.sums.items c.loop-i.invariant c.add_row.new.sums.items c.in_ok-add_row.ensures.ok c.in_ok-add_row.ensures.value c.in_ok-add_row.ensures.narrow

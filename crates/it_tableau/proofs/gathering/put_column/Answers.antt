@@ -1,7 +1,7 @@
 use Rattle.std.proofs.Common.{ℕ, [], pos, length, slice_index_or, ap, subst, ◌∙◌, ◌<◌, arith}
 use Rattle.it_rational.specs.Rational.{Rational}
 use Rattle.it_space.specs.Rows.{Terms}
-use Rattle.it_tableau.specs.Gathering.{start_number, IsPut}
+use Rattle.it_tableau.specs.Gathering.{start_number, IsEntryPut}
 use Rattle.it_tableau.proofs.GatherSteps.{column_put, no_entry, term_put}
 use Rattle.it_tableau.proofs.gathering.put_column.Goals as goal
 
@@ -11,7 +11,7 @@ loop-i-preserved c =
     let terms : Terms = slice_index_or c.args.columns.now c.args.j [] in
     let inside = subst (λ (ts : Terms). c.loop-i.i < length ts) c.terms_of_column-terms.ensures.value c.loop-i-test.true in
     term_put c.args.coordinates.now f terms c.args.j c.args.lists.now.items c.loop-i.i c.loop-i.lists.items c.loop-i.invariant inside c.put_term.new.lists.items
-    (subst (λ (x : ℕ). IsPut c.args.coordinates.now f x c.args.j c.loop-i.lists.items c.put_term.new.lists.items)
+    (subst (λ (x : ℕ). IsEntryPut c.args.coordinates.now f x c.args.j c.loop-i.lists.items c.put_term.new.lists.items)
     (c.coordinate_at.ensures ∙ ap (λ (ts : Terms). (slice_index_or ts c.loop-i.i (0, pos 0)).0) c.terms_of_column-terms.ensures.value) c.in_ok-put_term.ensures)
 
 pub returns : goal.returns

@@ -2,8 +2,8 @@ use Rattle.std.proofs.Common.{rules, FitsSigned, to_z-of_z, w64}
 use Rattle.it_engine.proofs.Pricing.{priced_more, priced_small}
 use Rattle.it_engine.proofs.columns.Column.add_term.Goals as goal
 
-pub increased-requires : goal.increased-requires
-increased-requires c =
+pub plus_product-requires : goal.plus_product-requires
+plus_product-requires c =
     let f0 : FitsSigned w64 c.args.sum = c.ranges.sum in
     let f1 : FitsSigned w64 c.factor.result = search rules in
     let f2 : FitsSigned w64 c.number.result = search rules in
@@ -15,6 +15,6 @@ returns c =
     let f0 : FitsSigned w64 c.args.sum = c.ranges.sum in
     let f1 : FitsSigned w64 c.factor.result = search rules in
     let f2 : FitsSigned w64 c.number.result = search rules in
-    let f3 : FitsSigned w64 c.increased.result = search rules in
-    simp to_z-of_z (rw c.increased.ensures (simp to_z-of_z (rw (c.factor.ensures, c.number.ensures, c.place.ensures)
+    let f3 : FitsSigned w64 c.plus_product.result = search rules in
+    simp to_z-of_z (rw c.plus_product.ensures (simp to_z-of_z (rw (c.factor.ensures, c.number.ensures, c.place.ensures)
     (priced_more c.args.self.now c.args.row.now.numbers c.args.i c.requires.place c.requires.suits.within c.args.sum c.requires.priced))))

@@ -1,31 +1,31 @@
 use Rattle.std.proofs.Common.{sym, subst, List, ℕ, false, None}
-use Rattle.it_engine.specs.Engine.{IsFinished, IsStep, MovesOn}
+use Rattle.it_engine.specs.Engine.{IsFinished, IsEngineStep, IsEngineStepOrStuck}
 use Rattle.it_engine.specs.Whole.{WholeRowView}
 use Rattle.it_engine.specs.declared.engine.EngineEnd.TheVariants.{Point}
-use Rattle.it_engine.proofs.UnboundRuns.{begin_way, way_done, way_falls, way_step, way_stuck}
+use Rattle.it_engine.proofs.UnboundRuns.{run_begins, unbound_done, step_lowers_steps_left, step_is_made, unbound_stuck}
 use Rattle.it_engine.proofs.engine.Engine.run_on.Goals as goal
 use Rattle.it_engine.proofs.engine.Engine.run_on.Goals.{Else-not-branch}
 
 pub steps-init : goal.steps-init
-steps-init c = begin_way c.args.columns.now c.args.limit c.args.self.now.rows c.args.self.now.basis c.requires.engine c.requires.stands
+steps-init c = run_begins c.args.columns.now c.args.limit c.args.self.now.rows c.args.self.now.basis c.requires.engine c.requires.stands
 
 pub returns-then-is_done : goal.returns-then-is_done
-returns-then-is_done c = way_done c.args.columns.now c.args.limit c.args.self.now.rows c.args.self.now.basis c.steps.self.rows c.steps.self.basis c.steps.invariant c.if-is_done.ensures.yes
+returns-then-is_done c = unbound_done c.args.columns.now c.args.limit c.args.self.now.rows c.args.self.now.basis c.steps.self.rows c.steps.self.basis c.steps.invariant c.if-is_done.ensures.yes
 
 pub returns-then-not-branch : goal.returns-then-not-branch
 returns-then-not-branch c =
-    let g : MovesOn c.args.columns.now c.args.limit c.steps.self.rows c.steps.self.basis c.step.new.self.rows c.step.new.self.basis false =
-    subst (MovesOn c.args.columns.now c.args.limit c.steps.self.rows c.steps.self.basis c.step.new.self.rows c.step.new.self.basis) c.if-not-branch.true c.in_ok-step.ensures in
+    let g : IsEngineStepOrStuck c.args.columns.now c.args.limit c.steps.self.rows c.steps.self.basis c.step.new.self.rows c.step.new.self.basis false =
+    subst (IsEngineStepOrStuck c.args.columns.now c.args.limit c.steps.self.rows c.steps.self.basis c.step.new.self.rows c.step.new.self.basis) c.if-not-branch.true c.in_ok-step.ensures in
     subst (λ (l : List WholeRowView). IsFinished c.args.columns.now c.args.limit c.args.self.now.rows c.args.self.now.basis None l c.step.new.self.basis Point) (sym g.0)
     (subst (λ (b : List ℕ). IsFinished c.args.columns.now c.args.limit c.args.self.now.rows c.args.self.now.basis None c.steps.self.rows b Point) (sym g.1)
-    (way_stuck c.args.columns.now c.args.limit c.args.self.now.rows c.args.self.now.basis c.steps.self.rows c.steps.self.basis c.steps.invariant c.if-is_done.ensures.no g.2))
+    (unbound_stuck c.args.columns.now c.args.limit c.args.self.now.rows c.args.self.now.basis c.steps.self.rows c.steps.self.basis c.steps.invariant c.if-is_done.ensures.no g.2))
 
-made : (c : Else-not-branch) → IsStep c.args.columns.now c.args.limit c.steps.self.rows c.steps.self.basis c.step.new.self.rows c.step.new.self.basis
-made c = subst (MovesOn c.args.columns.now c.args.limit c.steps.self.rows c.steps.self.basis c.step.new.self.rows c.step.new.self.basis) c.if-not-branch.false c.in_ok-step.ensures
+made : (c : Else-not-branch) → IsEngineStep c.args.columns.now c.args.limit c.steps.self.rows c.steps.self.basis c.step.new.self.rows c.step.new.self.basis
+made c = subst (IsEngineStepOrStuck c.args.columns.now c.args.limit c.steps.self.rows c.steps.self.basis c.step.new.self.rows c.step.new.self.basis) c.if-not-branch.false c.in_ok-step.ensures
 
 pub steps-smaller : goal.steps-smaller
-steps-smaller c = way_falls c.args.columns.now c.args.limit c.args.self.now.rows c.args.self.now.basis c.steps.self.rows c.steps.self.basis c.steps.invariant c.step.new.self.rows c.step.new.self.basis (made (goal.at.steps-smaller c).Else-not-branch)
+steps-smaller c = step_lowers_steps_left c.args.columns.now c.args.limit c.args.self.now.rows c.args.self.now.basis c.steps.self.rows c.steps.self.basis c.steps.invariant c.step.new.self.rows c.step.new.self.basis (made (goal.at.steps-smaller c).Else-not-branch)
 
 pub steps-preserved : goal.steps-preserved
-steps-preserved c = way_step c.args.columns.now c.args.limit c.args.self.now.rows c.args.self.now.basis c.steps.self.rows c.steps.self.basis c.steps.invariant c.step.new.self.rows c.step.new.self.basis
+steps-preserved c = step_is_made c.args.columns.now c.args.limit c.args.self.now.rows c.args.self.now.basis c.steps.self.rows c.steps.self.basis c.steps.invariant c.step.new.self.rows c.step.new.self.basis
     c.if-is_done.ensures.no (made (goal.at.steps-preserved c).Else-not-branch)

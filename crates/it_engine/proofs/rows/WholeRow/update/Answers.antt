@@ -1,5 +1,5 @@
 use Rattle.std.proofs.Common.{rules, ◌≡◌, ◌∙◌, sym, subst, FitsSigned, to_z-of_z, w64, length, pos, ℤ}
-use Rattle.it_engine.specs.Updates.{IsLess}
+use Rattle.it_engine.specs.Updates.{IsWholeRowReduced}
 use Rattle.it_engine.proofs.Usable.{fitting_short, kept_updated, shortened_less, shortened_usable}
 use Rattle.it_engine.proofs.rows.WholeRow.update.Goals as goal
 
@@ -19,7 +19,7 @@ returns-then-is_large c =
     let f : FitsSigned w64 c.price-entry.result = search rules in
     let fp : FitsSigned w64 c.args.pivot = c.ranges.pivot in
     let less = simp to_z-of_z at c.if-not-reduce.ensures.less in record {
-      less = subst (λ (z : ℤ). IsLess (length c.args.own.now.numbers) c.args.limit c.args.self.now c.args.own.now z c.args.pivot c.shorten.new.self) c.price-entry.ensures
+      less = subst (λ (z : ℤ). IsWholeRowReduced (length c.args.own.now.numbers) c.args.limit c.args.self.now c.args.own.now z c.args.pivot c.shorten.new.self) c.price-entry.ensures
           (shortened_less (length c.args.own.now.numbers) c.args.limit c.args.self.now c.args.own.now c.reduce.new.self c.shorten.new.self c.price-entry.result c.args.pivot less c.shorten.ensures);
       usable = shortened_usable (length c.args.own.now.numbers) c.args.limit c.reduce.new.self c.shorten.new.self c.shorten.ensures c.if-not-reduce.ensures.usable;
     }
@@ -29,6 +29,6 @@ returns-else-is_large c =
     let f : FitsSigned w64 c.price-entry.result = search rules in
     let fp : FitsSigned w64 c.args.pivot = c.ranges.pivot in
     let less = simp to_z-of_z at c.if-not-reduce.ensures.less in record {
-      less = subst (λ (z : ℤ). IsLess (length c.args.own.now.numbers) c.args.limit c.args.self.now c.args.own.now z c.args.pivot c.reduce.new.self) c.price-entry.ensures less;
+      less = subst (λ (z : ℤ). IsWholeRowReduced (length c.args.own.now.numbers) c.args.limit c.args.self.now c.args.own.now z c.args.pivot c.reduce.new.self) c.price-entry.ensures less;
       usable = c.if-not-reduce.ensures.usable;
     }

@@ -7,8 +7,8 @@ use Rattle.it_tableau.specs.Merging.{AreMerged, MergeFits}
 use Rattle.it_tableau.specs.Entries.{entry_at}
 use Rattle.it_tableau.specs.Rows.{IsReduced, RowStepFits, dense_row}
 use Rattle.it_tableau.specs.SparseRows.{RowTerms, Climbs}
-use Rattle.it_tableau.proofs.DenseRows.{same_width, step_fits, step_reduced, step_right, step_terms, untouched, untouched_fits}
-use Rattle.it_tableau.proofs.RowsLemmas.{handed_on}
+use Rattle.it_tableau.proofs.DenseRows.{same_width, step_fits, step_reduced, step_right, step_terms, row_without_entry_stays, row_without_entry_fits}
+use Rattle.it_tableau.proofs.RowsLemmas.{fault_is_handed_on}
 use Rattle.it_tableau.proofs.Zeros.{any_err}
 use Rattle.it_tableau.proofs.sparse_rows.SparseRow.reduce.Goals as goal
 use Rattle.it_tableau.proofs.sparse_rows.SparseRow.reduce.Goals.{After-narrow_number-right, After-reduced_entry}
@@ -23,12 +23,12 @@ right_narrow c = subst IsNarrow c.narrow_number-right.ensures.value c.narrow_num
 pub returns-then-is_null-clause-ok : goal.returns-then-is_null-clause-ok
 returns-then-is_null-clause-ok c =
     subst (λ (row : List Rational). RowStepFits row c.args.by.now c.args.column c.args.pivot) c.self.view_is
-    (untouched_fits c.self.inside.width c.self.inside.terms.items c.self.inside.right c.self.invariant (right_narrow c) c.args.by.now c.args.column c.args.pivot (no_entry c))
+    (row_without_entry_fits c.self.inside.width c.self.inside.terms.items c.self.inside.right c.self.invariant (right_narrow c) c.args.by.now c.args.column c.args.pivot (no_entry c))
 
 pub returns-then-is_null-clause-value : goal.returns-then-is_null-clause-value
 returns-then-is_null-clause-value c =
     subst (λ (row : List Rational). IsReduced row c.args.by.now (times (entry_at row c.args.column) (inverse c.args.pivot)) row) c.self.view_is
-    (untouched c.self.inside.width c.self.inside.terms.items c.self.inside.right c.self.invariant (right_narrow c) c.args.by.now c.args.column c.args.pivot (no_entry c))
+    (row_without_entry_stays c.self.inside.width c.self.inside.terms.items c.self.inside.right c.self.invariant (right_narrow c) c.args.by.now c.args.column c.args.pivot (no_entry c))
 
 width_is : (c : After-reduced_entry) → c.by.inside.width ≡ c.self.inside.width
 width_is c = same_width c.self.inside.width c.by.inside.width c.self.inside.terms.items c.by.inside.terms.items c.self.inside.right c.by.inside.right c.args.self.now c.args.by.now
@@ -58,7 +58,7 @@ merge-requires-clause-by c =
 pub returns-in_err-merge-clause-wide : goal.returns-in_err-merge-clause-wide
 returns-in_err-merge-clause-wide c =
     let d = (goal.at.returns-in_err-merge-clause-wide c).After-reduced_entry in
-    handed_on c.from_residual-in_err-merge.result c.in_err-merge.field-0.0 Wide (¬ (RowStepFits c.args.self.now c.args.by.now c.args.column c.args.pivot)) c.from_residual-in_err-merge.ensures.1
+    fault_is_handed_on c.from_residual-in_err-merge.result c.in_err-merge.field-0.0 Wide (¬ (RowStepFits c.args.self.now c.args.by.now c.args.column c.args.pivot)) c.from_residual-in_err-merge.ensures.1
     (λ e fits. c.in_err-merge.ensures.wide e
     (subst (λ (ts : RowTerms). MergeFits ts c.as_slice-2.result.now c.in_ok-q.q) (sym c.as_slice.ensures.value)
     (subst (λ (ts : RowTerms). MergeFits c.self.inside.terms.items ts c.in_ok-q.q) (sym c.as_slice-2.ensures.value)

@@ -9,7 +9,7 @@ use Rattle.it_tableau.specs.Rows.{ArePivoted, RowsPivotFits}
 use Rattle.it_tableau.specs.TableauViews.{TableauView, IsSound, table, height}
 use Rattle.it_tableau.specs.Tables.{pivot}
 use Rattle.it_tableau.proofs.Positive.{positive_some}
-use Rattle.it_tableau.proofs.ViewLemmas.{pivot_sound, shows, numbers_to}
+use Rattle.it_tableau.proofs.ViewLemmas.{pivot_sound, pivot_is_shown, pivot_numbers_fit}
 use Rattle.it_tableau.proofs.tableau.Tableau.pivot.Goals as goal
 use Rattle.it_tableau.proofs.tableau.Tableau.pivot.Goals.{After-as_mut_slice, After-pivot_rows}
 
@@ -61,12 +61,12 @@ returns-in-Ok-clause-value c = let d = (goal.at.returns-in-Ok-clause-value c).Af
     let e = (goal.at.returns-in-Ok-clause-value c).After-pivot_rows in
     let m = length c.self.inside.basis.items in
     let columns : c.args.column < c.self.inside.generators + m = (let w = ap (λ (s : TableauView). s.generators + length s.basis) c.self.view_is in omega (arith, w, c.requires.column)) in
-    shows m c.self.inside.generators c.self.inside.rows.items (with_items c.self.inside.rows c.pivot_rows.new.rows).items c.self.inside.basis.items
+    pivot_is_shown m c.self.inside.generators c.self.inside.rows.items (with_items c.self.inside.rows c.pivot_rows.new.rows).items c.self.inside.basis.items
     c.args.row c.args.column (row_within d) columns (sound d).shape (pivoted e c.in-Ok.ensures.value)
     ∙ ap (λ (s : TableauView). pivot field_ℚ (table s) c.args.row c.args.column) c.self.view_is
 
 pub returns-in-Ok-clause-ok : goal.returns-in-Ok-clause-ok
 returns-in-Ok-clause-ok c = let d = (goal.at.returns-in-Ok-clause-ok c).After-as_mut_slice in
     subst (λ (s : TableauView). PivotFits (height s) s.generators (table s) c.args.row c.args.column) c.self.view_is
-    (numbers_to (length c.self.inside.basis.items) c.self.inside.generators c.self.inside.rows.items c.self.inside.basis.items c.args.row c.args.column (row_within d) (sound d).shape
+    (pivot_numbers_fit (length c.self.inside.basis.items) c.self.inside.generators c.self.inside.rows.items c.self.inside.basis.items c.args.row c.args.column (row_within d) (sound d).shape
     (subst (λ (old : List (List Rational)). RowsPivotFits old c.args.row c.args.column) (lent d) c.in-Ok.ensures.ok))

@@ -2,7 +2,7 @@ use Rattle.std.proofs.Common.{◌∙◌, ap, sym, arith}
 use Rattle.it_rational.specs.Rational.{is_at_least_zero}
 use Rattle.it_tableau.specs.TableauViews.{height, table}
 use Rattle.it_run.proofs.SearchLemmas.{first_is}
-use Rattle.it_run.proofs.choice.entering.Goals as goal
+use Rattle.it_run.proofs.choice.entering_column.Goals as goal
 
 pub returns-then-is_negative-clause-some : goal.returns-then-is_negative-clause-some
 returns-then-is_negative-clause-some c =

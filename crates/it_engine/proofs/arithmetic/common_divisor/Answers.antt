@@ -2,7 +2,7 @@ use Rattle.std.proofs.Common.{arith, ◌∙◌, ap, sym}
 use Rattle.it_number.specs.Gcd.{gcd}
 use Rattle.it_number.proofs.Divisors.{gcd-step, gcd-zero, one-gcd}
 use Rattle.it_engine.proofs.Divisions.{gcd_some}
-use Rattle.it_engine.proofs.arithmetic.common.Goals as goal
+use Rattle.it_engine.proofs.arithmetic.common_divisor.Goals as goal
 
 pub returns-then-a-eq1-clause-value : goal.returns-then-a-eq1-clause-value
 returns-then-a-eq1-clause-value c = let e = c.if-a-eq1.true in sym (ap (λ a. gcd a c.args.b) e ∙ one-gcd c.args.b)

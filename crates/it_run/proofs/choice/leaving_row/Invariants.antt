@@ -5,7 +5,7 @@ use Rattle.it_tableau.specs.TableauViews.{height, table}
 use Rattle.it_tableau.specs.Tables.{ratio}
 use Rattle.it_run.specs.Choice.{is_candidate}
 use Rattle.it_run.specs.Steps.{IsBestOf}
-use Rattle.it_run.proofs.choice.leaving.Given as goal
+use Rattle.it_run.proofs.choice.leaving_row.Given as goal
 
 abbrev pub invariant-loop-i : goal.invariant-loop-i
 invariant-loop-i l = record {
