@@ -15,7 +15,7 @@ use Rattle.it_closure.specs.Coordinates.{closed_coordinates, RiseTo}
 use Rattle.it_closure.proofs.Places.{value-placed}
 use Rattle.it_closure.proofs.Serving.{coordinates_serve}
 use Rattle.it_run.proofs.RowValues.{AreApart}
-use Rattle.it_prove.specs.Closed.{collapsed_row, collapsed_generator, collapsed_all}
+use Rattle.it_prove.specs.Closed.{collapsed_row, collapsed_generator, collapsed_generators}
 
 -- ---- terms with a coordinate
 
@@ -82,7 +82,7 @@ module _ (n : ℕ) (ds : List Dependence) where
   collapse_same size old new k u (suc c) =
       sym (value-one_at new (suc c)) ∙ k (one_at (suc c)) (one_at-zero (suc c) (omega arith)) ∙ collapsed_at old (suc c) (omega arith)
 
-  pub collapsed_generator_at : (gs : List Generator) (i : ℕ) → generator_at (collapsed_all n ds gs) i ≡ collapsed_generator n ds (generator_at gs i)
+  pub collapsed_generator_at : (gs : List Generator) (i : ℕ) → generator_at (collapsed_generators n ds gs) i ≡ collapsed_generator n ds (generator_at gs i)
   collapsed_generator_at [] i = refl
   collapsed_generator_at (g ∷ gs) zero = refl
   collapsed_generator_at (g ∷ gs) (suc i) = collapsed_generator_at gs i

@@ -6,7 +6,7 @@ use Rattle.std.proofs.lemmas.List.{drop_more, drop_all, take_all, map-append, ge
 use Rattle.it_space.specs.declared.problems.Kind.{Kind}
 use Rattle.it_space.specs.declared.problems.Kind.TheVariants.{Inequality, Equation}
 use Rattle.it_space.specs.Problems.{ProblemView, IsProblem}
-use Rattle.it_space.specs.Rows.{Terms, IsUpTo, coefficient, term_at}
+use Rattle.it_space.specs.Rows.{Terms, IsUpTo, coefficient, single_term}
 use Rattle.it_closure.specs.declared.dependences.Dependence.{Dependence}
 use Rattle.it_closure.specs.Collapse.{CollapseFits, IsCollapseOf}
 use Rattle.it_elemental.specs.Generators.{Generator, generators, generator_at}
@@ -18,7 +18,7 @@ use Rattle.it_closure.specs.DependencesViews.{DependencesView}
 use Rattle.it_closure.specs.Reading.{dependences_of}
 use Rattle.it_lift.proofs.GeneratorLemmas.{row_of_space}
 use Rattle.it_prove.proofs.ClosedRows.{collapse_same}
-use Rattle.it_prove.specs.Closed.{collapsed_row, collapsed_generator, collapsed_all, closed_target}
+use Rattle.it_prove.specs.Closed.{collapsed_row, collapsed_generator, collapsed_generators, closed_target}
 use Rattle.it_space.proofs.TermLemmas.{coefficient-negated_terms}
 use Rattle.it_prove.specs.Columns.{columns_by, columns_of, columns, column_count, weight_by, weights_from}
 use Rattle.it_prove.specs.ClosedProblems.{SameRows, AreColumns}
@@ -69,32 +69,32 @@ module _ (n : ℕ) (ds : List Dependence) (gs : List Generator) where
       → ((xs : List Terms) → SameRows old xs → SameRows new (xs ++ columns_of (collapsed_generator n ds (generator_at gs i))))
       → CollapseFits n ds (generator_at gs i).row → AreColumns n ds gs i old → AreColumns n ds gs (i + 1) new
   columns_more i old new h add fit a = record {
-    same = subst (SameRows new) (sym all) (add (columns (collapsed_all n ds (take i gs))) a.same);
+    same = subst (SameRows new) (sym all) (add (columns (collapsed_generators n ds (take i gs))) a.same);
     fits = λ j l. by_cases j l (cases_lt j i);
   }
     where
       one : i + 1 ≡ suc i
       one = omega arith
 
-      all : columns (collapsed_all n ds (take (i + 1) gs)) ≡ columns (collapsed_all n ds (take i gs)) ++ columns_of (collapsed_generator n ds (generator_at gs i))
-      all = ap (λ k. columns (collapsed_all n ds (take k gs))) one ∙ ap (λ hs. columns (collapsed_all n ds hs)) (take_more gs i h)
+      all : columns (collapsed_generators n ds (take (i + 1) gs)) ≡ columns (collapsed_generators n ds (take i gs)) ++ columns_of (collapsed_generator n ds (generator_at gs i))
+      all = ap (λ k. columns (collapsed_generators n ds (take k gs))) one ∙ ap (λ hs. columns (collapsed_generators n ds hs)) (take_more gs i h)
           ∙ ap columns (map-append (collapsed_generator n ds) (take i gs) (generator_at gs i ∷ []))
-          ∙ columns-append (collapsed_all n ds (take i gs)) (collapsed_generator n ds (generator_at gs i) ∷ [])
-          ∙ ap (λ xs. columns (collapsed_all n ds (take i gs)) ++ xs) (columns-one (collapsed_generator n ds (generator_at gs i)))
+          ∙ columns-append (collapsed_generators n ds (take i gs)) (collapsed_generator n ds (generator_at gs i) ∷ [])
+          ∙ ap (λ xs. columns (collapsed_generators n ds (take i gs)) ++ xs) (columns-one (collapsed_generator n ds (generator_at gs i)))
 
       by_cases : (j : ℕ) → j < i + 1 → (j < i) ⊎ (i ≤ j) → CollapseFits n ds (generator_at gs j).row
       by_cases j l (inl k) = a.fits j k
       by_cases j l (inr k) = let e : i ≡ j = omega arith in subst (λ (m : ℕ). CollapseFits n ds (generator_at gs m).row) e fit
 
-  pub columns_done : (i : ℕ) (old : List Terms) → length gs ≤ i → AreColumns n ds gs i old → SameRows old (columns (collapsed_all n ds gs)) × All (λ g. CollapseFits n ds g.row) gs
+  pub columns_done : (i : ℕ) (old : List Terms) → length gs ≤ i → AreColumns n ds gs i old → SameRows old (columns (collapsed_generators n ds gs)) × All (λ g. CollapseFits n ds g.row) gs
   columns_done i old h a = (
-    subst (λ hs. SameRows old (columns (collapsed_all n ds hs))) (take_all i gs h) a.same,
+    subst (λ hs. SameRows old (columns (collapsed_generators n ds hs))) (take_all i gs h) a.same,
     λ j d l. subst (λ (g : Generator). CollapseFits n ds g.row) (get_or_default gs j (record { kind = Inequality; row = [] }) d l) (a.fits j (omega arith)),
   )
 
-  pub columns_whole : (i : ℕ) (rows : List Terms) → i ≡ length gs → SameRows rows (columns (collapsed_all n ds gs)) → All (λ g. CollapseFits n ds g.row) gs → AreColumns n ds gs i rows
+  pub columns_whole : (i : ℕ) (rows : List Terms) → i ≡ length gs → SameRows rows (columns (collapsed_generators n ds gs)) → All (λ g. CollapseFits n ds g.row) gs → AreColumns n ds gs i rows
   columns_whole i rows e same fits = record {
-    same = subst (λ hs. SameRows rows (columns (collapsed_all n ds hs))) (sym (take_all i gs (omega (arith, e)))) same;
+    same = subst (λ hs. SameRows rows (columns (collapsed_generators n ds hs))) (sym (take_all i gs (omega (arith, e)))) same;
     fits = λ j h. fits j (record { kind = Inequality; row = [] }) (omega (arith, e));
   }
 
@@ -121,12 +121,12 @@ few_generators q k = omega (arith, length-listed q.space.variables q.constraints
 
 -- ---- weights
 
-pub weights_more : (gs : List Generator) (f : ℕ → ℤ) (i j next : ℕ) (k : Kind) (w : ℤ) (old new : List (ℕ × ℤ)) → i < length gs → k ≡ (generator_at gs i).kind → w ≡ weight_by k f j → next ≡ j + column_count k → new ≡ old ++ term_at i w
+pub weights_more : (gs : List Generator) (f : ℕ → ℤ) (i j next : ℕ) (k : Kind) (w : ℤ) (old new : List (ℕ × ℤ)) → i < length gs → k ≡ (generator_at gs i).kind → w ≡ weight_by k f j → next ≡ j + column_count k → new ≡ old ++ single_term i w
     → old ++ weights_from i j (drop i gs) f ≡ weights_from 0 0 gs f → new ++ weights_from (i + 1) next (drop (i + 1) gs) f ≡ weights_from 0 0 gs f
 unfolding weights_from
 weights_more gs f i j next k w old new h same weight step e inv =
-    ap₂ (λ xs n. xs ++ weights_from (i + 1) n (drop (i + 1) gs) f) (e ∙ ap (λ x. old ++ term_at i x) (weight ∙ ap (λ k. weight_by k f j) same)) (step ∙ ap (λ k. j + column_count k) same)
-    ∙ append_assoc old (term_at i (weight_by (generator_at gs i).kind f j)) (weights_from (i + 1) (j + column_count (generator_at gs i).kind) (drop (i + 1) gs) f)
+    ap₂ (λ xs n. xs ++ weights_from (i + 1) n (drop (i + 1) gs) f) (e ∙ ap (λ x. old ++ single_term i x) (weight ∙ ap (λ k. weight_by k f j) same)) (step ∙ ap (λ k. j + column_count k) same)
+    ∙ append_assoc old (single_term i (weight_by (generator_at gs i).kind f j)) (weights_from (i + 1) (j + column_count (generator_at gs i).kind) (drop (i + 1) gs) f)
     ∙ ap (λ xs. old ++ weights_from i j xs f) (sym (generator_split gs i h)) ∙ inv
 
 pub weights_done : (gs : List Generator) (f : ℕ → ℤ) (i j : ℕ) (old : List (ℕ × ℤ)) → length gs ≤ i → old ++ weights_from i j (drop i gs) f ≡ weights_from 0 0 gs f → old ≡ weights_from 0 0 gs f

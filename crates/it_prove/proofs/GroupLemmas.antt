@@ -4,8 +4,8 @@ use Rattle.std.proofs.lemmas.Int.{ints}
 use Rattle.it_number.proofs.Integers.{zring}
 use Rattle.it_space.specs.declared.problems.Kind.{Kind}
 use Rattle.it_space.specs.declared.problems.Kind.TheVariants.{Inequality, Equation}
-use Rattle.it_space.specs.Rows.{Terms, coefficient, value, term_at}
-use Rattle.it_space.proofs.TermLemmas.{coefficient-negated_terms, value-term_at}
+use Rattle.it_space.specs.Rows.{Terms, coefficient, value, single_term}
+use Rattle.it_space.proofs.TermLemmas.{coefficient-negated_terms, value-single_term}
 use Rattle.it_polymatroid.specs.Certificates.{IsAllowed}
 use Rattle.std.specs.List.{AllByRecursion as Every}
 use Rattle.it_space.proofs.EveryLemmas.{every-append}
@@ -75,7 +75,7 @@ module _ (c : ℕ) where
       let here : generator_at all i ≡ g = ap (generator_at all) (same i) ∙ h zero (omega arith) in
       one_generator g.kind g.row j (columns gs) f
       ∙ ap₂ (λ x y. weight_by g.kind f j *ℤ x +ℤ y) (sym (ap (λ (g : Generator). coefficient g.row c) here)) (regrouped all gs (i + 1) (j + column_count g.kind) f (λ k l. ap (generator_at all) (next i k) ∙ h (suc k) (omega arith)))
-      ∙ sym (value-term_at i (weight_by g.kind f j) (weights_from (i + 1) (j + column_count g.kind) gs f) (column all c))
+      ∙ sym (value-single_term i (weight_by g.kind f j) (weights_from (i + 1) (j + column_count g.kind) gs f) (column all c))
     where
       same : (i : ℕ) → i ≡ i + zero
       same i = omega arith
@@ -85,10 +85,10 @@ module _ (c : ℕ) where
 
 -- ---- the weights that stand in the certificate may stand there
 
-every-term_at : (P : ℕ × ℤ → Type 0) (i : ℕ) (x : ℤ) → P (i, x) → Every P (term_at i x)
-every-term_at P i (pos zero) h = tt
-every-term_at P i (pos (suc n)) h = (h, tt)
-every-term_at P i (negsuc n) h = (h, tt)
+every-single_term : (P : ℕ × ℤ → Type 0) (i : ℕ) (x : ℤ) → P (i, x) → Every P (single_term i x)
+every-single_term P i (pos zero) h = tt
+every-single_term P i (pos (suc n)) h = (h, tt)
+every-single_term P i (negsuc n) h = (h, tt)
 
 least_weight : (k : Kind) (f : ℕ → ℤ) (j : ℕ) → ((n : ℕ) → pos 0 ≤ℤ f n) → is_equation k ≡ false → pos 0 ≤ℤ weight_by k f j
 least_weight Inequality f j h e = h j
@@ -100,8 +100,8 @@ unfolding weights_from
 weights_allowed all [] i j f p b h = tt
 weights_allowed all (g ∷ gs) i j f p b h =
     let here : generator_at all i ≡ g = ap (generator_at all) (same i) ∙ h zero (omega arith) in
-    every-append (IsAllowed (forms_of all)) (term_at i (weight_by g.kind f j)) (weights_from (i + 1) (j + column_count g.kind) gs f)
-    (every-term_at (IsAllowed (forms_of all)) i (weight_by g.kind f j) (omega arith, λ e. least_weight g.kind f j p (sym (ap (λ (g : Generator). is_equation g.kind) here) ∙ e)))
+    every-append (IsAllowed (forms_of all)) (single_term i (weight_by g.kind f j)) (weights_from (i + 1) (j + column_count g.kind) gs f)
+    (every-single_term (IsAllowed (forms_of all)) i (weight_by g.kind f j) (omega arith, λ e. least_weight g.kind f j p (sym (ap (λ (g : Generator). is_equation g.kind) here) ∙ e)))
     (weights_allowed all gs (i + 1) (j + column_count g.kind) f p (omega arith) (λ k l. ap (generator_at all) (next i k) ∙ h (suc k) (omega arith)))
   where
     same : (i : ℕ) → i ≡ i + zero

@@ -8,5 +8,6 @@ pub mod PointLemmas
 pub mod ScaleSteps
 pub mod ColumnSteps
 pub mod ProofLemmas
+pub mod RightLemmas
 pub mod SmallRows
 pub mod SmallLemmas

@@ -9,7 +9,7 @@ use Rattle.it_space.specs.declared.problems.Kind.{Kind}
 use Rattle.it_space.specs.declared.problems.Kind.TheVariants.{Inequality, Equation}
 use Rattle.it_space.specs.Problems.{ProblemView, IsProblem}
 use Rattle.it_space.specs.Answers.{CertificateView}
-use Rattle.it_space.specs.Rows.{Terms, Ascends, coefficient, value, IsUpTo, one_at, term_at}
+use Rattle.it_space.specs.Rows.{Terms, Ascends, coefficient, value, IsUpTo, one_at, single_term}
 use Rattle.it_space.specs.Spaces.{size_of}
 use Rattle.it_space.proofs.CanonicalRows.{head_is, other_is, told}
 use Rattle.it_polymatroid.specs.Certificates.{IsAllowed, combination}
@@ -23,40 +23,41 @@ use Rattle.it_closure.specs.Collapse.{AreDependences, spread_out}
 use Rattle.it_closure.specs.DependencesViews.{DependencesView}
 use Rattle.it_closure.specs.Reading.{dependences_of}
 use Rattle.it_closure.proofs.ClosingLoop.{of_space}
-use Rattle.it_lift.specs.Lifted.{InOrder, AreOf, AddUpOverClosed, IsLiftOf, FitsLift}
+use Rattle.it_lift.specs.Lifted.{WeightsAscend, AreDependencesOf, IsCertificateOverClosed, IsLiftOf, FitsLift}
 use Rattle.it_lift.specs.Lifts.{lifted_weights}
-use Rattle.it_lift.proofs.ReadOf.{read_are_of}
+use Rattle.it_lift.proofs.ReadOf.{reading_gives_dependences}
+use Rattle.it_lift.proofs.Whole.{canonical_lift, canonical_weights_ascend}
 use Rattle.it_tableau.specs.Problems.{feasibility_problem}
 use Rattle.it_run.specs.Readings.{AreWeights, SumsUp}
 use Rattle.it_check.specs.Meaning.{CertifiesRow}
 use Rattle.it_check.specs.Verdicts.{column}
-use Rattle.it_prove.specs.Closed.{collapsed_row, collapsed_all, closed_places, closed_generators, closed_target}
+use Rattle.it_prove.specs.Closed.{collapsed_row, collapsed_generators, closed_places, closed_generators, closed_target}
 use Rattle.it_prove.specs.Columns.{columns, columns_by, columns_of, column_count, weight_by, weights_from}
 use Rattle.it_prove.specs.Scaling.{NumbersFit, numbers_of, scale_of, scaled_weights}
 use Rattle.it_prove.specs.ProofViews.{IsLifted, closed_weights}
 use Rattle.it_prove.proofs.ClosedRows.{In, find, collapsed_at, collapsed_generator_at, collapsed_none}
 use Rattle.it_prove.proofs.GroupLemmas.{weights_allowed}
 use Rattle.it_prove.proofs.WeightLemmas.{adds_up, scale_least, scaled_positive, scaled_canonical}
-use Rattle.it_space.proofs.TermLemmas.{ascends-term_at}
+use Rattle.it_space.proofs.TermLemmas.{ascends-single_term}
 
 -- ---- the weights go by the kinds alone
 
-pub weights_same : (n : ℕ) (ds : List Dependence) (gs : List Generator) (i j : ℕ) (f : ℕ → ℤ) → weights_from i j (collapsed_all n ds gs) f ≡ weights_from i j gs f
+pub weights_same : (n : ℕ) (ds : List Dependence) (gs : List Generator) (i j : ℕ) (f : ℕ → ℤ) → weights_from i j (collapsed_generators n ds gs) f ≡ weights_from i j gs f
 unfolding weights_from
 weights_same n ds [] i j f = refl
-weights_same n ds (g ∷ gs) i j f = ap (λ xs. term_at i (weight_by g.kind f j) ++ xs) (weights_same n ds gs (i + 1) (j + column_count g.kind) f)
+weights_same n ds (g ∷ gs) i j f = ap (λ xs. single_term i (weight_by g.kind f j) ++ xs) (weights_same n ds gs (i + 1) (j + column_count g.kind) f)
 
-columns_length : (n : ℕ) (ds : List Dependence) (gs : List Generator) → length (columns (collapsed_all n ds gs)) ≡ length (columns gs)
+columns_length : (n : ℕ) (ds : List Dependence) (gs : List Generator) → length (columns (collapsed_generators n ds gs)) ≡ length (columns gs)
 unfolding columns
 columns_length n ds [] = refl
 columns_length n ds (g ∷ gs) = by_kind g.kind (columns_length n ds gs)
   where
-    by_kind : (k : Kind) → length (flat_map columns_of (collapsed_all n ds gs)) ≡ length (flat_map columns_of gs)
-        → length (columns_by k (collapsed_row n ds g.row) ++ flat_map columns_of (collapsed_all n ds gs)) ≡ length (columns_by k g.row ++ flat_map columns_of gs)
+    by_kind : (k : Kind) → length (flat_map columns_of (collapsed_generators n ds gs)) ≡ length (flat_map columns_of gs)
+        → length (columns_by k (collapsed_row n ds g.row) ++ flat_map columns_of (collapsed_generators n ds gs)) ≡ length (columns_by k g.row ++ flat_map columns_of gs)
     by_kind Inequality e = ap suc e
     by_kind Equation e = ap (λ m. suc (suc m)) e
 
-pub ordered_so : (n : ℕ) (ds : List Dependence) (gs : List Generator) (ws : List (ℕ × Rational)) → AreWeights field_ℚ (length (columns (collapsed_all n ds gs))) 0 ws → AreWeights field_ℚ (length (columns gs)) 0 ws
+pub ordered_so : (n : ℕ) (ds : List Dependence) (gs : List Generator) (ws : List (ℕ × Rational)) → AreWeights field_ℚ (length (columns (collapsed_generators n ds gs))) 0 ws → AreWeights field_ℚ (length (columns gs)) 0 ws
 ordered_so n ds gs ws a = subst (λ (m : ℕ). AreWeights field_ℚ m 0 ws) (columns_length n ds gs) a
 
 -- ---- they ascend, none is 0, and all are within the limit
@@ -82,11 +83,7 @@ weight_within Equation f j p w = between (f j) (f (j + 1)) (p j) (p (j + 1)) (w 
 weights_ascend : (gs : List Generator) (i j : ℕ) (f : ℕ → ℤ) → ((n : ℕ) → pos 0 ≤ℤ f n) → ((n : ℕ) → IsWithin (f n)) → Ascends i (weights_from i j gs f)
 unfolding weights_from
 weights_ascend [] i j f p w = tt
-weights_ascend (g ∷ gs) i j f p w = ascends-term_at i i (weight_by g.kind f j) (weights_from (i + 1) (j + column_count g.kind) gs f) (omega arith) (weight_within g.kind f j p w) (weights_ascend gs (i + 1) (j + column_count g.kind) f p w)
-
-in_order : (from : ℕ) (ts : Terms) → Ascends from ts → InOrder from ts
-in_order from [] a = tt
-in_order from (t ∷ ts) a = (a.0, in_order (t.0 + 1) ts a.3)
+weights_ascend (g ∷ gs) i j f p w = ascends-single_term i i (weight_by g.kind f j) (weights_from (i + 1) (j + column_count g.kind) gs f) (omega arith) (weight_within g.kind f j p w) (weights_ascend gs (i + 1) (j + column_count g.kind) f p w)
 
 each_within : (from : ℕ) (ts : Terms) → Ascends from ts → Every (λ (t : ℕ × ℤ). IsWithin t.1) ts
 each_within from [] a = tt
@@ -114,11 +111,11 @@ below_size size m row h u = every-same (λ (t : ℕ × ℤ). (1 ≤ t.0) × (t.0
 abbrev pub read_of : ProblemView → DependencesView
 read_of q = record { space = q.space; list = dependences_of q }
 
-pub are_of : (q : ProblemView) → IsProblem q → AreOf q (read_of q)
-are_of q k = read_are_of q (read_of q) k refl refl
+pub are_dependences_of : (q : ProblemView) → IsProblem q → AreDependencesOf q (read_of q)
+are_dependences_of q k = reading_gives_dependences q (read_of q) k refl refl
 
 pub dependences_sound : (q : ProblemView) → IsProblem q → AreDependences q.space.variables (dependences_of q)
-dependences_sound q k = of_space (read_of q) (are_of q k).shape
+dependences_sound q k = of_space (read_of q) (are_dependences_of q k).shape
 
 pub read_is : (q : ProblemView) (d : DependencesView) → d.space ≡ q.space → d.list ≡ dependences_of q → read_of q ≡ d
 read_is q d s l = ap₂ (λ x y. record { space = x; list = y }) (sym s) (sym l)
@@ -165,9 +162,9 @@ module _ (q : ProblemView) (target : Terms) (k : IsProblem q) (u : IsUpTo (size_
     parts_canonical = weights_ascend (generators q) 0 0 (coefficient (scaled_weights ws)) (scaled_positive (closed_generators q) (closed_places q) (closed_target q target) ws a)
         (coefficient_within 0 (scaled_weights ws) (scaled_canonical (closed_generators q) (closed_places q) (closed_target q target) ws a fit.numbers))
 
-    given : AddUpOverClosed q (read_of q) target (closed_weights q ws)
+    given : IsCertificateOverClosed q (read_of q) target (closed_weights q ws)
     given = record {
-      order = in_order 0 (closed_weights q ws).parts parts_canonical;
+      order = canonical_weights_ascend 0 (closed_weights q ws).parts parts_canonical;
       allowed = all_of (IsAllowed (generators_of q)) (closed_weights q ws).parts
           (weights_allowed (generators q) (generators q) 0 0 (coefficient (scaled_weights ws)) (scaled_positive (closed_generators q) (closed_places q) (closed_target q target) ws a) (omega arith) (λ i l. ap (generator_at (generators q)) (plain i)));
       within = all_of (λ (t : ℕ × ℤ). IsWithin t.1) (closed_weights q ws).parts (each_within 0 (closed_weights q ws).parts parts_canonical);
@@ -178,8 +175,8 @@ module _ (q : ProblemView) (target : Terms) (k : IsProblem q) (u : IsUpTo (size_
         plain i = omega arith
 
     -- as the code has it
-    pub lift_given : (d : DependencesView) (w : CertificateView) → read_of q ≡ d → w ≡ closed_weights q ws → AddUpOverClosed q d target w
-    lift_given d w e s = subst (λ (x : DependencesView). AddUpOverClosed q x target w) e (subst (AddUpOverClosed q (read_of q) target) (sym s) given)
+    pub lift_given : (d : DependencesView) (w : CertificateView) → read_of q ≡ d → w ≡ closed_weights q ws → IsCertificateOverClosed q d target w
+    lift_given d w e s = subst (λ (x : DependencesView). IsCertificateOverClosed q x target w) e (subst (IsCertificateOverClosed q (read_of q) target) (sym s) given)
 
     -- what it gives certifies the target
     pub lift_certifies : (d : DependencesView) (w new : CertificateView) → w ≡ closed_weights q ws → IsLiftOf q d target w new → CertifiesRow q target new
@@ -189,13 +186,17 @@ module _ (q : ProblemView) (target : Terms) (k : IsProblem q) (u : IsUpTo (size_
       adds_up = λ c h l. i.adds_up (one_at c) (one_at-zero c h);
     }
 
+    -- so does whatever is the lift by its coefficients
+    pub lifted_certifies : (w : CertificateView) → IsLifted q target ws w → CertifiesRow q target w
+    lifted_certifies w l = lift_certifies (read_of q) (closed_weights q ws) w refl (canonical_lift q (read_of q) target (closed_weights q ws) k (are_dependences_of q k) u given w l.scale l.parts l.weights)
+
 -- ---- what it gives is the lift
 
-none_before : (from : ℕ) (ts : Terms) (c : ℕ) → InOrder from ts → c < from → coefficient ts c ≡ pos 0
+none_before : (from : ℕ) (ts : Terms) (c : ℕ) → WeightsAscend from ts → c < from → coefficient ts c ≡ pos 0
 none_before from [] c a h = refl
 none_before from (t ∷ ts) c a h = other_is t ts c (λ e. omega (arith, a.0, e)) ∙ none_before (t.0 + 1) ts c a.1 (omega (arith, a.0))
 
-ascends_of : (from : ℕ) (ts : Terms) → InOrder from ts → Every (λ (t : ℕ × ℤ). t.1 ≢ pos 0) ts → ((c : ℕ) → IsWithin (coefficient ts c)) → Ascends from ts
+ascends_of : (from : ℕ) (ts : Terms) → WeightsAscend from ts → Every (λ (t : ℕ × ℤ). t.1 ≢ pos 0) ts → ((c : ℕ) → IsWithin (coefficient ts c)) → Ascends from ts
 ascends_of from [] a e w = tt
 ascends_of from (t ∷ ts) a e w = (
   a.0,
@@ -248,5 +249,5 @@ module _ (q : ProblemView) (target : Terms) (k : IsProblem q) (u : IsUpTo (size_
 pub one_lift : (q : ProblemView) (target : Terms) (ws : List (ℕ × Rational)) (v w : CertificateView) → IsLifted q target ws v → IsLifted q target ws w → v ≡ w
 one_lift q target ws v w a b = ap₂ (λ x y. record { scale = x; parts = y }) (a.scale ∙ sym b.scale) (told 0 v.parts w.parts a.parts b.parts (λ i. a.weights i ∙ sym (b.weights i)))
 
-pub are_of_so : (q : ProblemView) (d : DependencesView) → IsProblem q → read_of q ≡ d → AreOf q d
-are_of_so q d k e = subst (AreOf q) e (are_of q k)
+pub are_dependences_of_so : (q : ProblemView) (d : DependencesView) → IsProblem q → read_of q ≡ d → AreDependencesOf q d
+are_dependences_of_so q d k e = subst (AreDependencesOf q) e (are_dependences_of q k)

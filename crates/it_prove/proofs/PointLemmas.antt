@@ -15,14 +15,14 @@ use Rattle.it_space.specs.declared.problems.Kind.{Kind}
 use Rattle.it_space.specs.declared.problems.Kind.TheVariants.{Inequality, Equation}
 use Rattle.it_space.specs.declared.spaces.Space.{Space}
 use Rattle.it_space.specs.Problems.{ProblemView, IsProblem, Meets}
-use Rattle.it_space.specs.Rows.{Terms, Ascends, IsUpTo, coefficient, map_of, value, negated_terms, term_at}
+use Rattle.it_space.specs.Rows.{Terms, Ascends, IsUpTo, coefficient, map_of, value, negated_terms, single_term}
 use Rattle.it_space.specs.Spaces.{size_of}
 use Rattle.it_space.proofs.EveryLemmas.{every_of, all_of, every-flat_map, every_flat_mapped, every-same, every-map, every_mapped, every_all}
 use Rattle.it_polymatroid.specs.Elementals.{span}
 use Rattle.it_elemental.proofs.Spans.{get_or-span, length-span}
 use Rattle.it_tableau.specs.Problems.{feasibility_problem}
 use Rattle.it_run.specs.Readings.{Separates}
-use Rattle.it_run.specs.RowValues.{value_at}
+use Rattle.it_run.specs.RowValues.{rational_value}
 use Rattle.it_run.proofs.RowValues.{separates}
 use Rattle.it_elemental.specs.Generators.{Generator, generators}
 use Rattle.it_check.specs.Meaning.{RefutesRow}
@@ -34,14 +34,14 @@ use Rattle.it_closure.specs.Coordinates.{RiseTo}
 use Rattle.it_closure.specs.Reading.{dependences_of}
 use Rattle.it_prove.specs.Columns.{columns_by, columns_of, columns}
 use Rattle.it_prove.specs.Closed.{collapsed_row, collapsed_generator, closed_places, closed_generators, closed_target, spread_values, spread_point}
-use Rattle.it_prove.specs.Steps.{pairs}
+use Rattle.it_prove.specs.Steps.{terms_of_places}
 use Rattle.it_prove.specs.Scaling.{scale_of, scaled_number, scaled_point}
 use Rattle.it_prove.proofs.Scales.{scale_pos, divides}
 use Rattle.it_prove.proofs.ClosedRows.{In, rise_low, rise_apart, coords_rise, collapsed_over, collapsed_value}
 use Rattle.it_prove.proofs.LiftLemmas.{coefficient_within, dependences_sound, below_size}
 use Rattle.it_prove.proofs.Wholes.{whole_scaled, least_scaled, below_scaled}
 use Prim.Native.Nat.{◌∣◌}
-use Rattle.it_space.proofs.TermLemmas.{ascends-term_at, ascends_lower, value-negated_terms, coefficient-append, coefficient-term_at}
+use Rattle.it_space.proofs.TermLemmas.{ascends-single_term, ascends_lower, value-negated_terms, coefficient-append, coefficient-single_term}
 
 -- ---- rows of the columns
 
@@ -71,20 +71,20 @@ columns_met gs p e = every-same (λ g. Every (λ r. pos 0 ≤ℤ value r p) (col
 
 -- ---- a point's values by coordinate
 
-coefficient_some : (x : ℕ) (y : ℤ) (rest : Terms) (c : ℕ) → coefficient (term_at x y ++ rest) c ≡ cond (nat_eq x c) y (pos 0) +ℤ coefficient rest c
-coefficient_some x y rest c = coefficient-append (term_at x y) rest c ∙ ap (λ z. z +ℤ coefficient rest c) (coefficient-term_at x y c)
+coefficient_some : (x : ℕ) (y : ℤ) (rest : Terms) (c : ℕ) → coefficient (single_term x y ++ rest) c ≡ cond (nat_eq x c) y (pos 0) +ℤ coefficient rest c
+coefficient_some x y rest c = coefficient-append (single_term x y) rest c ∙ ap (λ z. z +ℤ coefficient rest c) (coefficient-single_term x y c)
 
-pub pairs_below : (from to : ℕ) (cs : List ℕ) (vs : List ℤ) (c : ℕ) → RiseTo from to cs → c < from → coefficient (pairs cs vs) c ≡ pos 0
+pub pairs_below : (from to : ℕ) (cs : List ℕ) (vs : List ℤ) (c : ℕ) → RiseTo from to cs → c < from → coefficient (terms_of_places cs vs) c ≡ pos 0
 pairs_below from to [] vs c r h = refl
 pairs_below from to (x ∷ xs) [] c r h = refl
 pairs_below from to (x ∷ xs) (y ∷ vs) c r h =
-    coefficient_some x y (pairs xs vs) c
+    coefficient_some x y (terms_of_places xs vs) c
     ∙ ap₂ (λ b z. cond b y (pos 0) +ℤ z) (ne_eqb x c (λ e. omega (arith, r.0, e))) (pairs_below (x + 1) to xs vs c r.1 (omega (arith, r.0)))
 
-pub pairs_ascend : (from to : ℕ) (cs : List ℕ) (vs : List ℤ) → RiseTo from to cs → Every IsWithin vs → Ascends from (pairs cs vs)
+pub pairs_ascend : (from to : ℕ) (cs : List ℕ) (vs : List ℤ) → RiseTo from to cs → Every IsWithin vs → Ascends from (terms_of_places cs vs)
 pairs_ascend from to [] vs r w = tt
 pairs_ascend from to (x ∷ xs) [] r w = tt
-pairs_ascend from to (x ∷ xs) (y ∷ vs) r w = ascends-term_at from x y (pairs xs vs) r.0 w.0 (pairs_ascend (x + 1) to xs vs r.1 w.1)
+pairs_ascend from to (x ∷ xs) (y ∷ vs) r w = ascends-single_term from x y (terms_of_places xs vs) r.0 w.0 (pairs_ascend (x + 1) to xs vs r.1 w.1)
 
 -- as the code puts them one behind the other
 pub spread_more : (F : ℕ → ℤ) (size c : ℕ) (old new : List ℤ) → c ≤ size → new ≡ old ++ F c ∷ [] → old ++ map F (span c (size + 1 - c)) ≡ map F (span 1 size)
@@ -101,20 +101,20 @@ pub spread_within : (n : ℕ) (ds : List Dependence) (size : ℕ) (row : Terms) 
 spread_within n ds size row a = all_of IsWithin (spread_values n ds size row) (every-map IsWithin (λ c. coefficient row (place n ds c)) (span 1 size) (every_all (λ c. IsWithin (coefficient row (place n ds c))) (span 1 size) (λ c. coefficient_within 0 row a (place n ds c))))
 
 -- zeros left in or out, the values at the places are the same
-pairs_same : (cs : List ℕ) (vs : List ℤ) (c : ℕ) → coefficient (pairs cs vs) c ≡ coefficient (zip cs vs) c
+pairs_same : (cs : List ℕ) (vs : List ℤ) (c : ℕ) → coefficient (terms_of_places cs vs) c ≡ coefficient (zip cs vs) c
 pairs_same [] vs c = refl
 pairs_same (x ∷ xs) [] c = refl
-pairs_same (x ∷ xs) (y ∷ vs) c = coefficient_some x y (pairs xs vs) c ∙ ap (λ z. cond (nat_eq x c) y (pos 0) +ℤ z) (pairs_same xs vs c)
+pairs_same (x ∷ xs) (y ∷ vs) c = coefficient_some x y (terms_of_places xs vs) c ∙ ap (λ z. cond (nat_eq x c) y (pos 0) +ℤ z) (pairs_same xs vs c)
 
-spread_same : (n : ℕ) (ds : List Dependence) (size : ℕ) (cs : List ℕ) (vs : List ℤ) → spread_values n ds size (pairs cs vs) ≡ spread_values n ds size (zip cs vs)
+spread_same : (n : ℕ) (ds : List Dependence) (size : ℕ) (cs : List ℕ) (vs : List ℤ) → spread_values n ds size (terms_of_places cs vs) ≡ spread_values n ds size (zip cs vs)
 spread_same n ds size cs vs = ap (λ (f : ℕ → ℤ). map (spread_out n ds f) (span 1 size)) (λ i c. pairs_same cs vs c i)
 
 -- as the code has them
 pub point_spread : (q : ProblemView) (s : Space) (ds : List Dependence) (cs : List ℕ) (qs : List Rational) (row : Terms) (values : List ℤ)
-    → s ≡ q.space → ds ≡ dependences_of q → cs ≡ closed_places q → row ≡ pairs cs (scaled_point qs) → values ≡ spread_values s.variables ds (size_of s) row → values ≡ spread_point q qs
+    → s ≡ q.space → ds ≡ dependences_of q → cs ≡ closed_places q → row ≡ terms_of_places cs (scaled_point qs) → values ≡ spread_values s.variables ds (size_of s) row → values ≡ spread_point q qs
 point_spread q s ds cs qs row values space list places is e =
     e ∙ ap₂ (λ (t : Space) (es : List Dependence). spread_values t.variables es (size_of t) row) space list
-    ∙ ap (spread_values q.space.variables (dependences_of q) (size_of q.space)) (is ∙ ap (λ (xs : List ℕ). pairs xs (scaled_point qs)) places)
+    ∙ ap (spread_values q.space.variables (dependences_of q) (size_of q.space)) (is ∙ ap (λ (xs : List ℕ). terms_of_places xs (scaled_point qs)) places)
     ∙ spread_same q.space.variables (dependences_of q) (size_of q.space) (closed_places q) (scaled_point qs)
 
 abbrev found : List ℕ → List Rational → ℕ → Rational
@@ -126,10 +126,10 @@ nothing : (l : ℕ) → whole (pos 0) ≡ times (whole (pos l)) (whole (pos 0))
 nothing l = sym (ring ring_ℚ (whole (pos l) ∷ []) (S.times (v 0) nil) nil refl)
 
 whole_found : (l from to : ℕ) (cs : List ℕ) (qs : List Rational) → RiseTo from to cs → Every (λ q. q.den ∣ l) qs → (c : ℕ)
-    → whole (coefficient (pairs cs (map (scaled_number l) qs)) c) ≡ times (whole (pos l)) (found cs qs c)
+    → whole (coefficient (terms_of_places cs (map (scaled_number l) qs)) c) ≡ times (whole (pos l)) (found cs qs c)
 whole_found l from to [] qs r d c = nothing l
 whole_found l from to (x ∷ xs) [] r d c = nothing l
-whole_found l from to (x ∷ xs) (q ∷ qs) r d c = ap whole (coefficient_some x (scaled_number l q) (pairs xs (map (scaled_number l) qs)) c) ∙ by_test (nat_eq x c) refl (whole_found l (x + 1) to xs qs r.1 d.1 c)
+whole_found l from to (x ∷ xs) (q ∷ qs) r d c = ap whole (coefficient_some x (scaled_number l q) (terms_of_places xs (map (scaled_number l) qs)) c) ∙ by_test (nat_eq x c) refl (whole_found l (x + 1) to xs qs r.1 d.1 c)
   where
     right : (y : ℤ) → y +ℤ pos 0 ≡ y
     right y = omega (arith, ints)
@@ -137,12 +137,12 @@ whole_found l from to (x ∷ xs) (q ∷ qs) r d c = ap whole (coefficient_some x
     left : (y : ℤ) → pos 0 +ℤ y ≡ y
     left y = omega (arith, ints)
 
-    by_test : (b : Bool) → nat_eq x c ≡ b → whole (coefficient (pairs xs (map (scaled_number l) qs)) c) ≡ times (whole (pos l)) (found xs qs c)
-        → whole (cond b (scaled_number l q) (pos 0) +ℤ coefficient (pairs xs (map (scaled_number l) qs)) c) ≡ times (whole (pos l)) (cond b q (found xs qs c))
+    by_test : (b : Bool) → nat_eq x c ≡ b → whole (coefficient (terms_of_places xs (map (scaled_number l) qs)) c) ≡ times (whole (pos l)) (found xs qs c)
+        → whole (cond b (scaled_number l q) (pos 0) +ℤ coefficient (terms_of_places xs (map (scaled_number l) qs)) c) ≡ times (whole (pos l)) (cond b q (found xs qs c))
     by_test true e ih =
-        let past : coefficient (pairs xs (map (scaled_number l) qs)) c ≡ pos 0 = pairs_below (x + 1) to xs (map (scaled_number l) qs) c r.1 (omega (arith, eqb-true x c e)) in
+        let past : coefficient (terms_of_places xs (map (scaled_number l) qs)) c ≡ pos 0 = pairs_below (x + 1) to xs (map (scaled_number l) qs) c r.1 (omega (arith, eqb-true x c e)) in
         ap (λ y. whole (scaled_number l q +ℤ y)) past ∙ ap whole (right (scaled_number l q)) ∙ whole_scaled l q d.0
-    by_test false e ih = ap whole (left (coefficient (pairs xs (map (scaled_number l) qs)) c)) ∙ ih
+    by_test false e ih = ap whole (left (coefficient (terms_of_places xs (map (scaled_number l) qs)) c)) ∙ ih
 
 found_at : (from to : ℕ) (cs : List ℕ) (qs : List Rational) → RiseTo from to cs → length qs ≡ length cs → (k : ℕ) → k < length cs → found cs qs (get_or cs k 0) ≡ get_or qs k (whole (pos 0))
 found_at from to [] qs r e k h = absurd (omega arith)
@@ -185,7 +185,7 @@ module _ (q : ProblemView) (target : Terms) (qs : List Rational) (k : IsProblem 
   ds = dependences_of q
 
   abbrev values : Terms
-  values = pairs (closed_places q) (scaled_point qs)
+  values = terms_of_places (closed_places q) (scaled_point qs)
 
   sizes : size_of q.space < 2 ^ q.space.variables + q.space.rates
   sizes = omega (arith, pow_pos q.space.variables)
@@ -207,8 +207,8 @@ module _ (q : ProblemView) (target : Terms) (qs : List Rational) (k : IsProblem 
       (every-map (λ g. Every (λ (t : ℕ × ℤ). In (closed_places q) t.0) g.row) (collapsed_generator q.space.variables (dependences_of q)) (generators q)
       (every-same (λ g. IsUpTo (size_of q.space) g.row) (λ g. Every (λ (t : ℕ × ℤ). In (closed_places q) t.0) (collapsed_row q.space.variables (dependences_of q) g.row)) (generators q) (λ g b. over g.row b) rows))
 
-  apart : ((j : ℕ) → j < length (columns (closed_generators q)) → is_at_least_zero (value_at (get_or (columns (closed_generators q)) j []) (found (closed_places q) qs)) ≡ true)
-      × (is_at_least_zero (value_at (closed_target q target) (found (closed_places q) qs)) ≡ false)
+  apart : ((j : ℕ) → j < length (columns (closed_generators q)) → is_at_least_zero (rational_value (get_or (columns (closed_generators q)) j []) (found (closed_places q) qs)) ≡ true)
+      × (is_at_least_zero (rational_value (closed_target q target) (found (closed_places q) qs)) ≡ false)
   apart = separates (closed_places q) (rise_apart 1 (2 ^ q.space.variables + q.space.rates) (closed_places q) rise) (columns (closed_generators q)) (closed_target q target) qs (found (closed_places q) qs)
       (λ j l. all_of (λ (t : ℕ × ℤ). In (closed_places q) t.0) (get_or (columns (closed_generators q)) j [])
       (every_at (λ (r : Terms). Every (λ (t : ℕ × ℤ). In (closed_places q) t.0) r) (columns (closed_generators q)) j [] columns_over l))
@@ -252,5 +252,5 @@ pub places_rise : (q : ProblemView) (cs : List ℕ) → IsProblem q → cs ≡ c
 places_rise q cs k e = (2 ^ q.space.variables + q.space.rates, subst (RiseTo 1 (2 ^ q.space.variables + q.space.rates)) (sym e) (coords_rise q.space.variables q.space.rates (dependences_of q) (dependences_sound q k)))
 
 -- and the row of the scaled values
-pub pairs_canonical : (cs : List ℕ) (vs : List ℤ) (ts : Terms) → ts ≡ pairs cs vs → (to : ℕ) × RiseTo 1 to cs → All IsWithin vs → Ascends 0 ts
-pairs_canonical cs vs ts e r w = subst (Ascends 0) (sym e) (ascends_lower 0 1 (pairs cs vs) (omega arith) (pairs_ascend 1 r.0 cs vs r.1 (every_of IsWithin vs w)))
+pub pairs_canonical : (cs : List ℕ) (vs : List ℤ) (ts : Terms) → ts ≡ terms_of_places cs vs → (to : ℕ) × RiseTo 1 to cs → All IsWithin vs → Ascends 0 ts
+pairs_canonical cs vs ts e r w = subst (Ascends 0) (sym e) (ascends_lower 0 1 (terms_of_places cs vs) (omega arith) (pairs_ascend 1 r.0 cs vs r.1 (every_of IsWithin vs w)))

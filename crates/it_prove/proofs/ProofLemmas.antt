@@ -20,15 +20,16 @@ use Rattle.it_run.specs.Readings.{SumsUp, Separates}
 use Rattle.it_run.specs.Runs.{RunEndView, IsWithinBudget}
 use Rattle.it_run.specs.Runs.RunEndView.{Weights, Point, Pivots, Width}
 use Rattle.it_run.specs.Solving.{RunsTo}
-use Rattle.it_simplex.specs.Answers.{Solves, IsRightSolved as IsRightAnswer}
+use Rattle.it_run.proofs.RunLemmas.{EndIsRight}
+use Rattle.it_simplex.specs.Answers.{Solves, IsRightRunAnswer as IsRightAnswer}
 use Rattle.it_run.specs.Answers.{solved_end}
-use Rattle.it_run.specs.declared.answering.Solved.{Solved}
-use Rattle.it_run.specs.declared.answering.Solved.TheVariants.{Weights as OfWeights, Point as OfPoint, Pivots as OfPivots, Width as OfWidth}
+use Rattle.it_run.specs.declared.answering.RunAnswer.{RunAnswer}
+use Rattle.it_run.specs.declared.answering.RunAnswer.TheVariants.{Weights as OfWeights, Point as OfPoint, Pivots as OfPivots, Width as OfWidth}
 use Rattle.it_closure.specs.Reading.{dependences_of}
 use Rattle.it_tableau.specs.Tables as Table
 use Rattle.it_tableau.specs.Tables.{start}
 use Rattle.it_tableau.specs.Fits.{StartFits}
-use Rattle.it_simplex.proofs.AnswerLemmas.{unbound, ends_once as run_ends_once}
+use Rattle.it_simplex.proofs.AnswerLemmas.{ends_within_budget, ends_once as run_ends_once}
 use Rattle.it_elemental.specs.Generators.{generators}
 use Rattle.it_check.specs.Meaning.{CertifiesRow, CertificateFits, RefutesRow, PointFits}
 use Rattle.it_check.specs.Verdicts.{yes_verdict, no_verdict}
@@ -39,7 +40,7 @@ use Rattle.it_prove.specs.ClosedProblems.{AreColumns, IsClosedProblem, SameRows}
 use Rattle.it_prove.specs.declared.closed.ClosedProblem.{ClosedProblem}
 use Rattle.it_prove.specs.Closed.{closed_places, closed_generators, closed_target, CollapsesFit, spread_point}
 use Rattle.it_prove.specs.Scaling.{EachFits, NumbersFit, scaled_number}
-use Rattle.it_prove.specs.ProofViews.{ProofView, Yes, No, Undecided, IsLifted, LiftedFit, Follows, Runs, EndsWith, IsRightProof, NeverOutOfSteps, OneProofView, ProvenAscends, proof_view}
+use Rattle.it_prove.specs.ProofViews.{ProofView, Yes, No, Undecided, IsLifted, LiftedFit, Follows, Runs, EndsWith, NeverOutOfSteps, OneProofView, ProvenAscends, proof_view}
 use Rattle.it_prove.specs.declared.types.Proof.{Proof}
 use Rattle.it_prove.proofs.PointLemmas.{point_right}
 use Rattle.it_prove.proofs.LiftLemmas.{one_lift}
@@ -50,9 +51,6 @@ module _ (q : ProblemView) (target : Terms) (k : IsProblem q) (u : IsUpTo (size_
   module _ (ws : List (ℕ × Rational)) (w : CertificateView) (lift : IsLifted q target ws w) (certifies : CertifiesRow q target w) where
     pub proven_follows : LiftedFit q target ws → Valid ≡ yes_verdict (generators q) (size_of q.space) target w → Follows q target (Weights ws) (Yes w)
     proven_follows fit e = inl (w, lift, record { lifted = fit; check = ((valid_yes_is q target w k u).0 (sym e)).1 }, refl)
-
-    pub proven_right : Valid ≡ yes_verdict (generators q) (size_of q.space) target w → IsRightProof q target (Yes w)
-    proven_right e = (valid_yes_is q target w k u).0 (sym e)
 
     pub wide_certificate : (yes_verdict (generators q) (size_of q.space) target w ≡ Valid → ⊥) → Follows q target (Weights ws) (Undecided Scale)
     wide_certificate n = inr (
@@ -66,9 +64,6 @@ module _ (q : ProblemView) (target : Terms) (k : IsProblem q) (u : IsUpTo (size_
       (s : Separates field_ℚ (length (closed_places q)) (length (columns (closed_generators q))) (feasibility_problem (closed_places q) (columns (closed_generators q)) (closed_target q target)) qs) where
     refutes : RefutesRow q target values
     refutes = subst (RefutesRow q target) (sym same) (point_right q target qs k u s)
-
-    pub refuted_right : Valid ≡ no_verdict (length (elementals q.space.variables)) (generators q) target (map_of values) → IsRightProof q target (No values)
-    refuted_right e = (valid_no_is q target values k u refutes.complete).0 (sym e)
 
     pub refuted_follows : Valid ≡ no_verdict (length (elementals q.space.variables)) (generators q) target (map_of values) → Follows q target (Point qs) (No values)
     refuted_follows e = inl (record { numbers = fit; check = subst (PointFits q target) same ((valid_no_is q target values k u refutes.complete).0 (sym e)).1 }, ap No same)
@@ -145,12 +140,9 @@ wide_start q target budget n = record { end = Width 0; run = inl (n, refl); foll
 
 -- what the answer of the run shows, by its end
 abbrev IsRightEnd : List ℕ → List Terms → Terms → RunEndView (List (ℕ × Rational)) (List Rational) → Type 0
-IsRightEnd coords rs r (Weights ws) = SumsUp field_ℚ (length coords) (length rs) (feasibility_problem coords rs r) ws
-IsRightEnd coords rs r (Point qs) = Separates field_ℚ (length coords) (length rs) (feasibility_problem coords rs r) qs
-IsRightEnd coords rs r (Pivots k) = Unit {0}
-IsRightEnd coords rs r (Width k) = Unit {0}
+IsRightEnd coords rs r end = EndIsRight field_ℚ (length coords) (length rs) (feasibility_problem coords rs r) end
 
-right_end : (coords : List ℕ) (rs : List Terms) (r : Terms) (x : Solved) → IsRightAnswer coords rs r x → IsRightEnd coords rs r (solved_end x)
+right_end : (coords : List ℕ) (rs : List Terms) (r : Terms) (x : RunAnswer) → IsRightAnswer coords rs r x → IsRightEnd coords rs r (solved_end x)
 right_end coords rs r (OfWeights ws) h = h
 right_end coords rs r (OfPoint qs) h = h
 right_end coords rs r (OfPivots k) h = tt
@@ -158,7 +150,7 @@ right_end coords rs r (OfWidth k) h = tt
 
 -- the same with what the code has
 module _ (q : ProblemView) (target : Terms) (coords items : List ℕ) (slice : coords ≡ items) (at : items ≡ closed_places q)
-    (rs rows : List Terms) (same : rs ≡ rows) (s : SameRows rows (columns (closed_generators q))) (r : Terms) (e : (c : ℕ) → coefficient r c ≡ coefficient (closed_target q target) c) (x : Solved) where
+    (rs rows : List Terms) (same : rs ≡ rows) (s : SameRows rows (columns (closed_generators q))) (r : Terms) (e : (c : ℕ) → coefficient r c ≡ coefficient (closed_target q target) c) (x : RunAnswer) where
   places_are : coords ≡ closed_places q
   places_are = slice ∙ at
 
@@ -246,7 +238,7 @@ proven_ascends q target budget w e = for_each e.end e.follows
 
 within : (q : ProblemView) (target : Terms) (e : RunEndView (List (ℕ × Rational)) (List Rational)) → Runs q target None e → IsWithinBudget e
 within q target e (inl a) = subst IsWithinBudget (sym a.1) tt
-within q target e (inr a) = unbound (closed_places q) (columns (closed_generators q)) (closed_target q target) e a.1
+within q target e (inr a) = ends_within_budget (closed_places q) (columns (closed_generators q)) (closed_target q target) e a.1
 
 pub never_out_of_steps : NeverOutOfSteps
 never_out_of_steps q target k e = for_each e.end e.follows (within q target e.end e.run)

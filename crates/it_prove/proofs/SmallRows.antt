@@ -13,7 +13,7 @@ use Rattle.it_space.proofs.EveryLemmas.{every_of, all_of, every-same, every-appe
 use Rattle.it_elemental.specs.Generators.{Generator, of_elemental, of_constraint, generator_list}
 use Rattle.it_elemental.specs.Rows.{elemental_row, set_term}
 use Rattle.it_closure.specs.declared.dependences.Dependence.{Dependence}
-use Rattle.it_closure.specs.Collapse.{PartsFit, CollapseFits, place, placed_terms}
+use Rattle.it_closure.specs.Collapse.{PlaceSumsFit, CollapseFits, place, placed_terms}
 use Rattle.it_space.specs.Sums.{plus_at}
 use Rattle.it_prove.specs.Closed.{collapsed_row}
 use Rattle.it_prove.specs.Columns.{columns_by, columns_of, columns}
@@ -73,7 +73,7 @@ generators_small n cs a = every-append (λ (g : Generator). IsSmall g.row) (map 
 -- ---- rows over closed sets
 
 module _ (n : ℕ) (ds : List Dependence) where
-  parts_fit : (f : ℕ → ℤ) (ts : Terms) (m : ℕ) → ((c : ℕ) → unsigned_abs (f c) ≤ m * 2 ^ 74) → m + length ts ≤ 2 ^ 11 → Every Small ts → PartsFit f (placed_terms n ds ts)
+  parts_fit : (f : ℕ → ℤ) (ts : Terms) (m : ℕ) → ((c : ℕ) → unsigned_abs (f c) ≤ m * 2 ^ 74) → m + length ts ≤ 2 ^ 11 → Every Small ts → PlaceSumsFit f (placed_terms n ds ts)
   parts_fit f [] m b l e = tt
   parts_fit f (t ∷ ts) m b l e = (
     (λ h. omega (arith, l, abs_add (f (place n ds t.0)) t.1 (m * 2 ^ 74) (2 ^ 74) (b (place n ds t.0)) (omega (arith, e.0)))),

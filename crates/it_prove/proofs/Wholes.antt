@@ -14,7 +14,7 @@ use Rattle.it_rational.proofs.Ordered.{neg-above, mul-above}
 use Rattle.it_rational.specs.OrderedFields.{IsAboveZero}
 use Rattle.it_space.specs.Rows.{Terms, value}
 use Rattle.it_run.specs.Readings.{ring_combination}
-use Rattle.it_run.specs.RowValues.{value_at}
+use Rattle.it_run.specs.RowValues.{rational_value}
 use Rattle.it_run.proofs.RowValues.{whole_plus}
 use Rattle.std.specs.List.{AllByRecursion as Every}
 use Rattle.it_prove.specs.Scaling.{scaled_number, scaled_by}
@@ -97,31 +97,31 @@ scaled_above l q h d a = product q.num (l / q.den) (above_num q a) (some (l / q.
 -- ---- values at a point times the scale
 
 module _ (l : ℕ) (p : ℕ → ℤ) (h : ℕ → Rational) where
-  pub value_scaled : (row : Terms) → Every (λ t. Q.whole (p t.0) ≡ Q.times (Q.whole (pos l)) (h t.0)) row → Q.whole (value row p) ≡ Q.times (Q.whole (pos l)) (value_at row h)
+  pub value_scaled : (row : Terms) → Every (λ t. Q.whole (p t.0) ≡ Q.times (Q.whole (pos l)) (h t.0)) row → Q.whole (value row p) ≡ Q.times (Q.whole (pos l)) (rational_value row h)
   value_scaled [] e = sym (ring ring_ℚ (Q.whole (pos l) ∷ []) (times (v 0) nil) nil refl)
   value_scaled (t ∷ ts) e =
       whole_plus (t.1 *ℤ p t.0) (value ts p)
       ∙ ap₂ Q.plus (whole_times t.1 (p t.0) ∙ ap (Q.times (Q.whole t.1)) e.0) (value_scaled ts e.1)
-      ∙ ring ring_ℚ (Q.whole (pos l) ∷ Q.whole t.1 ∷ h t.0 ∷ value_at ts h ∷ [])
+      ∙ ring ring_ℚ (Q.whole (pos l) ∷ Q.whole t.1 ∷ h t.0 ∷ rational_value ts h ∷ [])
       (plus (times (v 1) (times (v 0) (v 2))) (times (v 0) (v 3))) (times (v 0) (plus (times (v 1) (v 2)) (v 3))) refl
 
   module _ (some : 0 < l) (row : Terms) (e : Every (λ t. Q.whole (p t.0) ≡ Q.times (Q.whole (pos l)) (h t.0)) row) where
     scale_above : IsAboveZero field_ℚ (Q.whole (pos l))
     scale_above = minus_below (Q.whole (pos l)) (subst (λ (z : ℤ). pos 0 <ℤ z) (sym (whole_parts (pos l)).0) (omega (arith, ints)))
 
-    pub least_scaled : is_at_least_zero (value_at row h) ≡ true → pos 0 ≤ℤ value row p
+    pub least_scaled : is_at_least_zero (rational_value row h) ≡ true → pos 0 ≤ℤ value row p
     least_scaled a =
         let scale_least : is_at_least_zero (Q.whole (pos l)) ≡ true = to_sign (Q.whole (pos l)).num (subst (λ (z : ℤ). pos 0 ≤ℤ z) (sym (whole_parts (pos l)).0) (omega (arith, ints))) in
         subst (λ (z : ℤ). pos 0 ≤ℤ z) (whole_parts (value row p)).0
-        (from_sign (Q.whole (value row p)).num (ap is_at_least_zero (value_scaled row e) ∙ field_ℚ.order.mul-least (Q.whole (pos l)) (value_at row h) scale_least a))
+        (from_sign (Q.whole (value row p)).num (ap is_at_least_zero (value_scaled row e) ∙ field_ℚ.order.mul-least (Q.whole (pos l)) (rational_value row h) scale_least a))
 
-    pub below_scaled : is_at_least_zero (value_at row h) ≡ false → value row p ≤ℤ neg_ℤ (pos 1)
+    pub below_scaled : is_at_least_zero (rational_value row h) ≡ false → value row p ≤ℤ neg_ℤ (pos 1)
     below_scaled b =
-        let above : IsAboveZero field_ℚ (Q.times (Q.whole (pos l)) (Q.minus (value_at row h))) =
-        mul-above field_ℚ (Q.whole (pos l)) (Q.minus (value_at row h)) scale_above (neg-above field_ℚ (value_at row h) b) in
-        let is : Q.times (Q.whole (pos l)) (Q.minus (value_at row h)) ≡ Q.whole (neg_ℤ (value row p)) =
-        ring ring_ℚ (Q.whole (pos l) ∷ value_at row h ∷ []) (times (v 0) (minus (v 1))) (minus (times (v 0) (v 1))) refl ∙ ap Q.minus (sym (value_scaled row e)) ∙ sym (whole_minus (value row p)) in
-        under (value row p) (subst (λ (z : ℤ). pos 0 <ℤ z) (ap (λ (q : Rational). q.num) is ∙ (whole_parts (neg_ℤ (value row p))).0) (above_num (Q.times (Q.whole (pos l)) (Q.minus (value_at row h))) above))
+        let above : IsAboveZero field_ℚ (Q.times (Q.whole (pos l)) (Q.minus (rational_value row h))) =
+        mul-above field_ℚ (Q.whole (pos l)) (Q.minus (rational_value row h)) scale_above (neg-above field_ℚ (rational_value row h) b) in
+        let is : Q.times (Q.whole (pos l)) (Q.minus (rational_value row h)) ≡ Q.whole (neg_ℤ (value row p)) =
+        ring ring_ℚ (Q.whole (pos l) ∷ rational_value row h ∷ []) (times (v 0) (minus (v 1))) (minus (times (v 0) (v 1))) refl ∙ ap Q.minus (sym (value_scaled row e)) ∙ sym (whole_minus (value row p)) in
+        under (value row p) (subst (λ (z : ℤ). pos 0 <ℤ z) (ap (λ (q : Rational). q.num) is ∙ (whole_parts (neg_ℤ (value row p))).0) (above_num (Q.times (Q.whole (pos l)) (Q.minus (rational_value row h))) above))
       where
         under : (x : ℤ) → pos 0 <ℤ neg_ℤ x → x ≤ℤ neg_ℤ (pos 1)
         under x h = omega (arith, ints)

@@ -21,15 +21,15 @@ collapsed_row n ds row = filter (λ t. nat_lt 0 t.0) (placed_terms n ds row)
 abbrev pub collapsed_generator : ℕ → List Dependence → Generator → Generator
 collapsed_generator n ds g = record { kind = g.kind; row = collapsed_row n ds g.row }
 
-abbrev pub collapsed_all : ℕ → List Dependence → List Generator → List Generator
-collapsed_all n ds gs = map (collapsed_generator n ds) gs
+abbrev pub collapsed_generators : ℕ → List Dependence → List Generator → List Generator
+collapsed_generators n ds gs = map (collapsed_generator n ds) gs
 
 -- the coordinates of the run, its columns and its target
 abbrev pub closed_places : ProblemView → List ℕ
 closed_places q = closed_coordinates q.space.variables q.space.rates (dependences_of q)
 
 abbrev pub closed_generators : ProblemView → List Generator
-closed_generators q = collapsed_all q.space.variables (dependences_of q) (generators q)
+closed_generators q = collapsed_generators q.space.variables (dependences_of q) (generators q)
 
 abbrev pub closed_target : ProblemView → Terms → Terms
 closed_target q target = collapsed_row q.space.variables (dependences_of q) target

@@ -4,7 +4,7 @@ use Rattle.std.specs.Prelude.{ℕ, ◌+◌, ℤ, ◌-ℤ◌, List, [], ◌∷◌
 use Rattle.std.specs.List.{flat_map}
 use Rattle.it_space.specs.declared.problems.Kind.{Kind}
 use Rattle.it_space.specs.declared.problems.Kind.TheVariants.{Inequality, Equation}
-use Rattle.it_space.specs.Rows.{Terms, negated_terms, term_at}
+use Rattle.it_space.specs.Rows.{Terms, negated_terms, single_term}
 use Rattle.it_elemental.specs.Generators.{Generator}
 
 -- the columns of one generator
@@ -32,4 +32,4 @@ weight_by Equation f j = f j -ℤ f (j + 1)
 -- the weights of generators from number i on, the first of which has column j
 unfoldable pub weights_from : ℕ → ℕ → List Generator → (ℕ → ℤ) → List (ℕ × ℤ)
 weights_from i j [] f = []
-weights_from i j (g ∷ gs) f = term_at i (weight_by g.kind f j) ++ weights_from (i + 1) (j + column_count g.kind) gs f
+weights_from i j (g ∷ gs) f = single_term i (weight_by g.kind f j) ++ weights_from (i + 1) (j + column_count g.kind) gs f

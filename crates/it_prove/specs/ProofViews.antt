@@ -1,6 +1,7 @@
 -- How a question about one target ends: by weights of the run over closed sets, which are lifted to a certificate, by a point of
 -- it, which is spread out, or by neither.
 use Rattle.std.specs.Prelude.{◌≡◌, ◌≢◌, ◌⊎◌, ℕ, ℤ, List, [], All, Option, None}
+use Rattle.std.specs.List.{AllZip}
 use Rattle.it_rational.specs.Rational.{Rational}
 use Rattle.it_space.specs.declared.answers.Cause.{Cause}
 use Rattle.it_space.specs.declared.answers.Cause.TheVariants as causes
@@ -8,7 +9,8 @@ use Rattle.it_space.specs.declared.answers.Cause.TheVariants.{Scale}
 use Rattle.it_space.specs.Problems.{ProblemView, IsProblem}
 use Rattle.it_space.specs.Answers.{CertificateView, certificate_view}
 use Rattle.it_space.specs.Bounds.{IsSmall}
-use Rattle.it_space.specs.Rows.{Terms, IsCanonical, coefficient, value}
+use Rattle.it_space.specs.Rows.{Terms, IsCanonical, IsUpTo, coefficient, value}
+use Rattle.it_space.specs.Spaces.{size_of}
 use Rattle.it_run.specs.Runs.{RunEndView}
 use Rattle.it_run.specs.Runs.RunEndView.{Weights, Point, Pivots, Width}
 use Rattle.it_simplex.specs.Answers.{Solves}
@@ -82,11 +84,19 @@ pub record EndsWith (q : ProblemView) (target : Terms) (budget : Option ℕ) (o 
   pub run : Runs q target budget end
   pub follows : Follows q target end o
 
+-- the run about each target ends with its certificate, in order
+abbrev pub AreProofsOf : ProblemView → Option ℕ → List Terms → List CertificateView → Type 0
+AreProofsOf q budget targets ws = AllZip (λ t w. EndsWith q t budget (Yes w)) targets ws
+
 -- a certificate certifies the target, and a point refutes it
 abbrev pub IsRightProof : ProblemView → Terms → ProofView → Type 0
 IsRightProof q target (Yes w) = CertifiesRow q target w × CertificateFits q target w
 IsRightProof q target (No values) = RefutesRow q target values × PointFits q target values
 IsRightProof q target (Undecided cause) = Unit {0}
+
+-- what a run ends with is right
+abbrev pub EndsAreRight : Type 0
+EndsAreRight = (q : ProblemView) (target : Terms) (budget : Option ℕ) (o : ProofView) → IsProblem q → IsUpTo (size_of q.space) target → EndsWith q target budget o → IsRightProof q target o
 
 -- a question has one outcome
 abbrev pub OneProofView : Type 0

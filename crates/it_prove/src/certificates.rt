@@ -3,7 +3,7 @@ ghost use Rattle.std.specs.Prelude.{◌≡◌, ◌<◌, ◌^◌, ◌++◌, ℕ, 
 ghost use Rattle.it_rational.proofs.Field.{field_ℚ};
 ghost use Rattle.it_space.specs.Answers.{certificate_view};
 ghost use Rattle.it_space.specs.Problems.{IsProblem, problem_view};
-ghost use Rattle.it_space.specs.Rows.{coefficient, term_at};
+ghost use Rattle.it_space.specs.Rows.{coefficient, single_term};
 ghost use Rattle.it_run.specs.Readings.{AreWeights};
 ghost use Rattle.it_elemental.specs.Generators.{generators};
 ghost use Rattle.it_prove.specs.Columns.{columns, weight_by, weights_from, column_count};
@@ -39,7 +39,7 @@ fn weight_of(row: &Row, kind: Kind, column: u32) -> i128
 
 /// Puts a weight behind the others, unless it is 0.
 pub fn push_some(weights: &mut Vec<(u32, i128)>, index: u32, weight: i128) -> Result<(), AllocError>
-    ensures { OnOk result (weights.new.items ≡ weights.old.items ++ term_at index weight) }
+    ensures { OnOk result (weights.new.items ≡ weights.old.items ++ single_term index weight) }
 {
     if weight != 0 {
         weights.push((index, weight))?;

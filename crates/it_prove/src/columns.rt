@@ -15,7 +15,7 @@ use it_space::{Kind, Problem, Row, RowFault};
 use std::alloc::{AllocError, Global};
 
 /// The term with its sign turned.
-fn opposite(term: &(u32, i128)) -> (u32, i128)
+fn opposite_term(term: &(u32, i128)) -> (u32, i128)
     requires { IsWithin term.now.1 }
     ensures { result ≡ (term.now.0, neg_ℤ term.now.1) }
 {
@@ -29,7 +29,7 @@ fn opposite_terms(alloc: Global, terms: &[(u32, i128)]) -> Result<Vec<(u32, i128
 {
     let mut opposites = Vec::with_capacity(alloc, terms.len())?;
     for term in terms {
-        opposites.push(opposite(term))?;
+        opposites.push(opposite_term(term))?;
     }
     Ok(opposites)
 }

@@ -1,5 +1,10 @@
 //! What the outcomes say, each theorem as the contract of a function.
-ghost use Rattle.it_prove.specs.ProofViews.{NeverAtStart, NeverOutOfSteps, OneProofView, ProvenAscends};
+ghost use Rattle.it_prove.specs.ProofViews.{EndsAreRight, NeverAtStart, NeverOutOfSteps, OneProofView, ProvenAscends};
+
+/// What a run ends with is right: a certificate certifies the target, and a point refutes it.
+pub fn ends_are_right()
+    ensures { EndsAreRight }
+{}
 
 /// A question has one outcome.
 pub fn one_outcome()

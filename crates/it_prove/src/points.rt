@@ -1,13 +1,13 @@
 //! Points over all coordinates from points over closed sets.
 ghost use Rattle.std.specs.Prelude.{◌≡◌, ◌<◌, ◌++◌, ◌∷◌, [], ℕ, pos, length, slice_index_or, IfErr, IfOk, OnOk};
 ghost use Rattle.it_space.specs.Problems.{IsProblem, problem_view};
-ghost use Rattle.it_space.specs.Rows.{IsCanonical, coefficient, term_at};
+ghost use Rattle.it_space.specs.Rows.{IsCanonical, coefficient, single_term};
 ghost use Rattle.it_space.specs.Spaces.{size_of};
 ghost use Rattle.it_closure.specs.Collapse.{place};
 ghost use Rattle.it_closure.specs.Coordinates.{RiseTo};
 ghost use Rattle.it_closure.specs.Reading.{dependences_of};
 ghost use Rattle.it_prove.specs.Closed.{closed_places, spread_point, spread_values};
-ghost use Rattle.it_prove.specs.Steps.{pairs};
+ghost use Rattle.it_prove.specs.Steps.{terms_of_places};
 ghost use Rattle.it_prove.specs.Scaling.{NumbersFit, scaled_point};
 
 use crate::certificates::push_some;
@@ -26,19 +26,19 @@ fn put_pair(
 ) -> Result<(), AllocError>
     requires coordinate { k < length coordinates.now }
     requires value { k < length values.now }
-    ensures { OnOk result (terms.new.items ≡ terms.old.items ++ term_at (slice_index_or coordinates.now k 0) (slice_index_or values.now k (pos 0))) }
+    ensures { OnOk result (terms.new.items ≡ terms.old.items ++ single_term (slice_index_or coordinates.now k 0) (slice_index_or values.now k (pos 0))) }
 {
     push_some(terms, coordinates[k], values[k])
 }
 
 /// The values other than 0, each after its coordinate.
-fn pairs(
+fn terms_of_places(
     alloc: Global,
     coordinates: &[u32],
     values: &[i128],
 ) -> Result<Vec<(u32, i128)>, AllocError>
     requires { length values.now ≡ length coordinates.now }
-    ensures { IfOk result (λ v. v.items ≡ pairs coordinates.now values.now) }
+    ensures { IfOk result (λ v. v.items ≡ terms_of_places coordinates.now values.now) }
 {
     let mut terms = Vec::new(alloc);
     for k in 0..coordinates.len() {
@@ -61,7 +61,11 @@ fn put_value(
 }
 
 /// The values at all coordinates from 1 on by a row that has the value at each place.
-fn spread(alloc: Global, dependences: &Dependences, row: &Row) -> Result<Vec<i128>, AllocError>
+fn spread_values(
+    alloc: Global,
+    dependences: &Dependences,
+    row: &Row,
+) -> Result<Vec<i128>, AllocError>
     ensures { IfOk result (λ v. v.items ≡ spread_values dependences.now.space.variables dependences.now.list (size_of dependences.now.space) row.now) }
 {
     let size = dependences.space().size();
@@ -76,14 +80,14 @@ fn spread(alloc: Global, dependences: &Dependences, row: &Row) -> Result<Vec<i12
 fn whole_row(alloc: Global, coordinates: &[u32], point: &[Fraction]) -> Result<Row, RowFault>
     requires rise { (to : ℕ) × RiseTo 1 to coordinates.now }
     requires complete { length point.now ≡ length coordinates.now }
-    ensures value { IfOk result (λ r. r ≡ pairs coordinates.now (scaled_point point.now)) }
+    ensures value { IfOk result (λ r. r ≡ terms_of_places coordinates.now (scaled_point point.now)) }
     ensures canonical { IfOk result IsCanonical }
     ensures fits { OnOk result (NumbersFit point.now) }
     ensures wide { IfErr result (λ f. f ≡ RowFault.Wide → ¬ (NumbersFit point.now)) }
 {
     let scale = common_scale(point)?;
     let values = values(alloc, point, scale)?;
-    let terms = pairs(alloc, coordinates, values.as_slice())?;
+    let terms = terms_of_places(alloc, coordinates, values.as_slice())?;
     Ok(Row::new(terms))
 }
 
@@ -106,6 +110,6 @@ pub fn whole_point(
     ensures wide { IfErr result (λ f. f ≡ RowFault.Wide → ¬ (NumbersFit point.now)) }
 {
     let row = whole_row(alloc, coordinates, point)?;
-    let values = spread(alloc, dependences, &row)?;
+    let values = spread_values(alloc, dependences, &row)?;
     Ok(Point::new(problem.space, values))
 }

@@ -25,7 +25,7 @@ use it_check::{Verdict, check_no, check_yes};
 use it_closure::Dependences;
 use it_fraction::Fraction;
 use it_lift::lift;
-use it_simplex::{Budget, Solved, solve};
+use it_simplex::{Budget, RunAnswer, solve};
 use it_space::{Cause, Certificate, Problem, Row, RowFault};
 use std::alloc::{AllocError, Global};
 
@@ -66,8 +66,7 @@ fn by_weights(
     requires list { dependences.now.list ≡ dependences_of (problem_view problem.now) }
     requires target { IsUpTo (size_of problem.now.space) target.now }
     requires sum { SumsUp field_ℚ (length (closed_places (problem_view problem.now))) (length (columns (closed_generators (problem_view problem.now)))) (feasibility_problem (closed_places (problem_view problem.now)) (columns (closed_generators (problem_view problem.now))) (closed_target (problem_view problem.now) target.now)) weights.now }
-    ensures follows { IfOk result (λ proof. Follows (problem_view problem.now) target.now (Weights weights.now) (proof_view proof)) }
-    ensures right { IfOk result (λ proof. IsRightProof (problem_view problem.now) target.now (proof_view proof)) }
+    ensures { IfOk result (λ proof. Follows (problem_view problem.now) target.now (Weights weights.now) (proof_view proof)) }
 {
     match lifted_certificate(alloc, problem, dependences, target, weights) {
         Ok(certificate) => match check_yes(problem, target, &certificate) {
@@ -94,8 +93,7 @@ fn by_point(
     requires target { IsUpTo (size_of problem.now.space) target.now }
     requires coordinates { coordinates.now ≡ closed_places (problem_view problem.now) }
     requires apart { Separates field_ℚ (length (closed_places (problem_view problem.now))) (length (columns (closed_generators (problem_view problem.now)))) (feasibility_problem (closed_places (problem_view problem.now)) (columns (closed_generators (problem_view problem.now))) (closed_target (problem_view problem.now) target.now)) point.now }
-    ensures follows { IfOk result (λ proof. Follows (problem_view problem.now) target.now (Point point.now) (proof_view proof)) }
-    ensures right { IfOk result (λ proof. IsRightProof (problem_view problem.now) target.now (proof_view proof)) }
+    ensures { IfOk result (λ proof. Follows (problem_view problem.now) target.now (Point point.now) (proof_view proof)) }
 {
     match whole_point(alloc, problem, dependences, coordinates, point) {
         Ok(point) => match check_no(problem, target, &point) {
@@ -151,8 +149,7 @@ fn on_closed(
     requires columns { SameRows closed.now.columns.items (columns (closed_generators (problem_view problem.now))) }
     requires collapsed { (k : ℕ) → coefficient collapsed.now k ≡ coefficient (closed_target (problem_view problem.now) target.now) k }
     requires fits { CollapsesFit (problem_view problem.now) target.now }
-    ensures ends { IfOk result (λ proof. EndsWith (problem_view problem.now) target.now budget (proof_view proof)) }
-    ensures right { IfOk result (λ proof. IsRightProof (problem_view problem.now) target.now (proof_view proof)) }
+    ensures { IfOk result (λ proof. EndsWith (problem_view problem.now) target.now budget (proof_view proof)) }
 {
     match solve(
         alloc,
@@ -161,14 +158,14 @@ fn on_closed(
         collapsed,
         budget,
     )? {
-        Solved::Weights(weights) => by_weights(
+        RunAnswer::Weights(weights) => by_weights(
             alloc,
             problem,
             &closed.dependences,
             target,
             weights.as_slice(),
         ),
-        Solved::Point(point) => by_point(
+        RunAnswer::Point(point) => by_point(
             alloc,
             problem,
             &closed.dependences,
@@ -176,8 +173,8 @@ fn on_closed(
             closed.coordinates.as_slice(),
             point.as_slice(),
         ),
-        Solved::Pivots(steps) => Ok(Proof::Undecided(Cause::Pivots(steps))),
-        Solved::Width(step) => Ok(Proof::Undecided(Cause::Width(step))),
+        RunAnswer::Pivots(steps) => Ok(Proof::Undecided(Cause::Pivots(steps))),
+        RunAnswer::Width(step) => Ok(Proof::Undecided(Cause::Width(step))),
     }
 }
 
@@ -197,7 +194,6 @@ fn with_columns(
     requires collapsed { (k : ℕ) → coefficient rows.target k ≡ coefficient (closed_target (problem_view problem.now) target.now) k }
     requires fits { CollapsesFit (problem_view problem.now) target.now }
     ensures ends { IfOk result (λ proof. EndsWith (problem_view problem.now) target.now budget (proof_view proof)) }
-    ensures right { IfOk result (λ proof. IsRightProof (problem_view problem.now) target.now (proof_view proof)) }
     ensures stays { OnOk result ((q : ProblemView) → IsClosedProblem q closed.old → IsClosedProblem q closed.new) }
 {
     let count = closed.columns.len();
@@ -221,6 +217,7 @@ impl ClosedProblem {
         requires closed { IsClosedProblem (problem_view problem.now) self.old }
         requires target { IsUpTo (size_of problem.now.space) target.now }
         ensures ends { IfOk result (λ proof. EndsWith (problem_view problem.now) target.now budget (proof_view proof)) }
+        ensures unbound { IfNone budget (IfOk result (λ proof. (k : ℕ) → proof_view proof ≢ Undecided (causes.Pivots k))) }
         ensures right { IfOk result (λ proof. IsRightProof (problem_view problem.now) target.now (proof_view proof)) }
         ensures stays { OnOk result ((q : ProblemView) → IsClosedProblem q self.old → IsClosedProblem q self.new) }
     {

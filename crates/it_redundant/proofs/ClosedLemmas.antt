@@ -11,9 +11,9 @@ use Rattle.it_elemental.specs.Generators.{Generator, of_elemental, of_constraint
 use Rattle.it_closure.specs.declared.dependences.Dependence.{Dependence}
 use Rattle.it_closure.specs.Collapse.{CollapseFits}
 use Rattle.it_closure.specs.Coordinates.{closed_coordinates}
-use Rattle.it_closure.specs.Reading.{dependences_of, one_if, read_from, read_one}
+use Rattle.it_closure.specs.Reading.{dependences_of, dependence_list, read_from, read_one}
 use Rattle.it_prove.specs.declared.closed.ClosedProblem.{ClosedProblem}
-use Rattle.it_prove.specs.Closed.{collapsed_all}
+use Rattle.it_prove.specs.Closed.{collapsed_generators}
 use Rattle.it_prove.specs.ClosedProblems.{AreColumns, IsClosedProblem, SameRows}
 use Rattle.it_prove.specs.Columns.{columns}
 use Rattle.it_redundant.specs.Reduction.{row_constraints, with_rows}
@@ -25,7 +25,7 @@ rows_read n g line (row ∷ rows) = rows_read n (g + 1) (line + 1) rows
 
 read_behind : (n g : ℕ) (cs : List Constraint) (rows : List Terms) → read_from n g (cs ++ row_constraints 1 rows) ≡ read_from n g cs
 read_behind n g [] rows = rows_read n g 1 rows
-read_behind n g (c ∷ cs) rows = ap (λ ds. one_if (read_one n g c) ++ ds) (read_behind n (g + 1) cs rows)
+read_behind n g (c ∷ cs) rows = ap (λ ds. dependence_list (read_one n g c) ++ ds) (read_behind n (g + 1) cs rows)
 
 generators_behind : (n : ℕ) (cs ds : List Constraint) → generator_list n (cs ++ ds) ≡ generator_list n cs ++ map of_constraint ds
 unfolding generator_list
@@ -41,7 +41,7 @@ take_front (g ∷ gs) hs (suc i) h = ap (λ xs. g ∷ xs) (take_front gs hs i (o
 
 columns_behind : (n : ℕ) (ds : List Dependence) (gs hs : List Generator) (i : ℕ) (rows : List Terms) → i ≤ length gs → AreColumns n ds gs i rows → AreColumns n ds (gs ++ hs) i rows
 columns_behind n ds gs hs i rows h a = record {
-  same = subst (λ xs. SameRows rows (columns (collapsed_all n ds xs))) (sym (take_front gs hs i h)) a.same;
+  same = subst (λ xs. SameRows rows (columns (collapsed_generators n ds xs))) (sym (take_front gs hs i h)) a.same;
   fits = λ j l. subst (λ (g : Generator). CollapseFits n ds g.row) (sym (get_or_append_left gs hs (record { kind = Inequality; row = [] }) j (omega arith))) (a.fits j l);
 }
 

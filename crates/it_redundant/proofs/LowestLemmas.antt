@@ -6,11 +6,11 @@ use Rattle.it_number.proofs.Quotients.{abs-over}
 use Rattle.it_number.proofs.SignedDivisors.{over_back}
 use Rattle.it_space.specs.Rows.{Terms}
 use Rattle.it_space.specs.Divisors.{content, divided_terms, lowest_terms}
-use Rattle.it_space.proofs.Contents.{DividesAll, content_divides, content_greatest}
+use Rattle.it_space.proofs.Contents.{DividesAll, content_divides, content_greatest, times_divides, divided-one}
 use Prim.Native.Nat.{◌∣◌}
 use native.Mathlib.Nat.{dvd-zero, one-dvd, div-mul_cancel, dvd_of_mul-dvd-mul_right, mul-dvd-mul_right, eq-one_of_dvd-one}
 
--- a row without values, divided by 0, and any row, divided by 1, is itself
+-- a row without values, divided by 0, is itself
 divided_zero : (ts : Terms) → DividesAll 0 ts → divided_terms 0 ts ≡ ts
 divided_zero [] d = refl
 divided_zero (t ∷ ts) d = ap₂ (λ (z : ℤ) (us : Terms). let x : ℕ × ℤ = (t.0, z) in x ∷ us) (same (int_quotient t.1 0) t.1 (abs-over t.1 0) (over_back t.1 0 d.0)) (divided_zero ts d.1)
@@ -18,27 +18,12 @@ divided_zero (t ∷ ts) d = ap₂ (λ (z : ℤ) (us : Terms). let x : ℕ × ℤ
     same : (q z : ℤ) → unsigned_abs q ≡ unsigned_abs z / 0 → q *ℤ pos 0 ≡ z → q ≡ z
     same q z a e = omega (arith, ints)
 
-divided_one : (ts : Terms) → divided_terms 1 ts ≡ ts
-divided_one [] = refl
-divided_one (t ∷ ts) = ap₂ (λ (z : ℤ) (us : Terms). let x : ℕ × ℤ = (t.0, z) in x ∷ us) (same (int_quotient t.1 1) t.1 (over_back t.1 1 (one-dvd (unsigned_abs t.1)))) (divided_one ts)
-  where
-    same : (q z : ℤ) → q *ℤ pos 1 ≡ z → q ≡ z
-    same q z e = omega (arith, ints)
-
--- what divides the divided coefficients, times the divisor, divides the coefficients
-product_divides : (d k : ℕ) (ts : Terms) → DividesAll k ts → DividesAll d (divided_terms k ts) → DividesAll (d * k) ts
-product_divides d k [] a b = tt
-product_divides d k (t ∷ ts) a b = (
-  subst (λ n. d * k ∣ n) (div-mul_cancel k a.0) (mul-dvd-mul_right d (subst (λ n. d ∣ n) (abs-over t.1 k) b.0) k),
-  product_divides d k ts a.1 b.1,
-)
-
 -- a row divided by its common divisor has none above 1
 content_of_divided : (ts : Terms) → 0 < content 0 ts → content 0 (divided_terms (content 0 ts) ts) ≡ 1
 content_of_divided ts some =
     let k : ℕ = content 0 ts in
     let j : ℕ = content 0 (divided_terms k ts) in
-    let both : j * k ∣ k = content_greatest (j * k) 0 ts (dvd-zero (j * k)) (product_divides j k ts (content_divides 0 ts).1 (content_divides 0 (divided_terms k ts)).1) in
+    let both : j * k ∣ k = content_greatest (j * k) 0 ts (dvd-zero (j * k)) (times_divides j k ts (content_divides 0 ts).1 (content_divides 0 (divided_terms k ts)).1) in
     eq-one_of_dvd-one (dvd_of_mul-dvd-mul_right {k = k} j some (subst (λ n. j * k ∣ n) (sym (one-mul k)) both))
 
 pub lowest_again : (ts : Terms) → lowest_terms (lowest_terms ts) ≡ lowest_terms ts
@@ -49,4 +34,4 @@ lowest_again ts = for_each (content 0 ts) refl
     for_each zero e =
         let same : divided_terms (content 0 ts) ts ≡ ts = ap (λ k. divided_terms k ts) e ∙ divided_zero ts (subst (λ k. DividesAll k ts) e (content_divides 0 ts).1) in
         ap (λ us. divided_terms (content 0 us) us) same
-    for_each (suc k) e = ap (λ j. divided_terms j (divided_terms (content 0 ts) ts)) (content_of_divided ts (omega arith)) ∙ divided_one (divided_terms (content 0 ts) ts)
+    for_each (suc k) e = ap (λ j. divided_terms j (divided_terms (content 0 ts) ts)) (content_of_divided ts (omega arith)) ∙ divided-one (divided_terms (content 0 ts) ts)

@@ -7,7 +7,7 @@ use Rattle.std.proofs.lemmas.Int.{ints}
 use Rattle.std.proofs.lemmas.Bool.Decides.{nat_tests}
 use Rattle.it_space.specs.Rows.{Terms}
 use Rattle.it_space.specs.Divisors.{lowest_terms}
-use Rattle.it_eliminate.specs.Elimination.{Member, is_same, with_row, with_rows, in_order, results, next_list, PairsFit}
+use Rattle.it_eliminate.specs.Elimination.{Member, is_same, with_row, with_lowest_rows, ordered_rows, results, next_list, PairsFit}
 use Rattle.it_eliminate.proofs.MemberLemmas.{not_true, member-front, member-back, member_either}
 use Rattle.it_eliminate.proofs.OrderLemmas.{found_member}
 use Rattle.it_eliminate.proofs.StepLemmas.{results_all, flat_member, pair_member}
@@ -127,18 +127,18 @@ source-with_row rows (t ∷ ts) x m = by_test (list_any (is_same (t ∷ ts)) row
 
 -- ---- rows put in order
 
-no_doubles-with_rows : (before rows : List Terms) → HasNoDoubles before → HasNoDoubles (with_rows before rows)
+no_doubles-with_rows : (before rows : List Terms) → HasNoDoubles before → HasNoDoubles (with_lowest_rows before rows)
 no_doubles-with_rows before [] d = d
 no_doubles-with_rows before (row ∷ rows) d = no_doubles-with_rows (with_row before (lowest_terms row)) rows (no_doubles-with_row before (lowest_terms row) d)
 
-no_doubles-in_order : (rows : List Terms) → HasNoDoubles (in_order rows)
-no_doubles-in_order rows = no_doubles-with_rows [] rows tt
+no_doubles-ordered_rows : (rows : List Terms) → HasNoDoubles (ordered_rows rows)
+no_doubles-ordered_rows rows = no_doubles-with_rows [] rows tt
 
-stays-with_rows : (before rows : List Terms) (x : Terms) → Member x before → Member x (with_rows before rows)
+stays-with_rows : (before rows : List Terms) (x : Terms) → Member x before → Member x (with_lowest_rows before rows)
 stays-with_rows before [] x m = m
 stays-with_rows before (row ∷ rows) x m = stays-with_rows (with_row before (lowest_terms row)) rows x (stays-with_row before (lowest_terms row) x m)
 
-comes-with_rows : (before rows : List Terms) (y : Terms) → Member y rows → lowest_terms y ≢ [] → Member (lowest_terms y) (with_rows before rows)
+comes-with_rows : (before rows : List Terms) (y : Terms) → Member y rows → lowest_terms y ≢ [] → Member (lowest_terms y) (with_lowest_rows before rows)
 comes-with_rows before [] y m n = absurd m
 comes-with_rows before (row ∷ rows) y (inl e) n = stays-with_rows (with_row before (lowest_terms row)) rows (lowest_terms y)
     (subst (λ (r : Terms). Member (lowest_terms y) (with_row before r)) (ap lowest_terms e) (comes-with_row before (lowest_terms y) n))
@@ -151,29 +151,29 @@ record IsLowestOf (rows : List Terms) (x : Terms) : Type 0 where
   is : x ≡ lowest_terms source
   some : x ≢ []
 
-source-with_rows : (before rows : List Terms) (x : Terms) → Member x (with_rows before rows) → Member x before ⊎ IsLowestOf rows x
+source-with_rows : (before rows : List Terms) (x : Terms) → Member x (with_lowest_rows before rows) → Member x before ⊎ IsLowestOf rows x
 source-with_rows before [] x m = inl m
 source-with_rows before (row ∷ rows) x m = ⊎_elim
     (λ k. ⊎_elim (λ h. inl h) (λ e. inr (record { source = row; member = inl refl; is = e.0; some = λ z. e.1 (sym e.0 ∙ z) })) (source-with_row before (lowest_terms row) x k))
     (λ s. inr (record { source = s.source; member = inr s.member; is = s.is; some = s.some }))
     (source-with_rows (with_row before (lowest_terms row)) rows x m)
 
-source-in_order : (rows : List Terms) (x : Terms) → Member x (in_order rows) → IsLowestOf rows x
-source-in_order rows x m = ⊎_elim (λ k. absurd k) (λ s. s) (source-with_rows [] rows x m)
+source-ordered_rows : (rows : List Terms) (x : Terms) → Member x (ordered_rows rows) → IsLowestOf rows x
+source-ordered_rows rows x m = ⊎_elim (λ k. absurd k) (λ s. s) (source-with_rows [] rows x m)
 
-comes-in_order : (rows : List Terms) (y x : Terms) → Member y rows → x ≡ lowest_terms y → x ≢ [] → Member x (in_order rows)
-comes-in_order rows y x m e n = subst (λ (r : Terms). Member r (in_order rows)) (sym e) (comes-with_rows [] rows y m (λ z. n (e ∙ z)))
+comes-ordered_rows : (rows : List Terms) (y x : Terms) → Member y rows → x ≡ lowest_terms y → x ≢ [] → Member x (ordered_rows rows)
+comes-ordered_rows rows y x m e n = subst (λ (r : Terms). Member r (ordered_rows rows)) (sym e) (comes-with_rows [] rows y m (λ z. n (e ∙ z)))
 
-part-in_order : (xs ys : List Terms) → IsPart xs ys → IsPart (in_order xs) (in_order ys)
-part-in_order xs ys p x m = let s = source-in_order xs x m in comes-in_order ys s.source x (p s.source s.member) s.is s.some
+part-ordered_rows : (xs ys : List Terms) → IsPart xs ys → IsPart (ordered_rows xs) (ordered_rows ys)
+part-ordered_rows xs ys p x m = let s = source-ordered_rows xs x m in comes-ordered_rows ys s.source x (p s.source s.member) s.is s.some
 
 -- a part of a list in order is still one when it is put in order itself: lowest terms of lowest terms are the same
-pub part-ordered : (xs ys : List Terms) → IsPart xs (in_order ys) → IsPart (in_order xs) (in_order ys)
+pub part-ordered : (xs ys : List Terms) → IsPart xs (ordered_rows ys) → IsPart (ordered_rows xs) (ordered_rows ys)
 part-ordered xs ys p x m =
-    let s = source-in_order xs x m in
-    let t = source-in_order ys s.source (p s.source s.member) in
+    let s = source-ordered_rows xs x m in
+    let t = source-ordered_rows ys s.source (p s.source s.member) in
     let same : x ≡ s.source = s.is ∙ ap lowest_terms t.is ∙ lowest_again t.source ∙ sym t.is in
-    subst (λ (r : Terms). Member r (in_order ys)) (sym same) (p s.source s.member)
+    subst (λ (r : Terms). Member r (ordered_rows ys)) (sym same) (p s.source s.member)
 
 -- ---- one rate
 
@@ -183,10 +183,10 @@ module _ (at : ℕ) (xs ys : List Terms) (p : IsPart xs ys) where
       (λ up down m n h k. pair_member at ys up down (p up m) (p down n) h k)
 
   pub part-next_list : IsPart (next_list at xs) (next_list at ys)
-  part-next_list = part-in_order (results at xs) (results at ys) part-results
+  part-next_list = part-ordered_rows (results at xs) (results at ys) part-results
 
   pub next_list_no_longer : length (next_list at xs) ≤ length (next_list at ys)
-  next_list_no_longer = part_no_longer (next_list at xs) (next_list at ys) (no_doubles-in_order (results at xs)) part-next_list
+  next_list_no_longer = part_no_longer (next_list at xs) (next_list at ys) (no_doubles-ordered_rows (results at xs)) part-next_list
 
   pub pairs_fit_part : PairsFit at ys → PairsFit at xs
   pairs_fit_part f up down m n h k = f up down (p up m) (p down n) h k

@@ -3,7 +3,7 @@ use Rattle.std.proofs.Common.{◌≡◌, inl, inr, ℕ, ◌+◌, ◌^◌, List, 
 use Rattle.it_space.specs.Answers.{CertificateView}
 use Rattle.it_space.specs.Problems.{ProblemView}
 use Rattle.it_space.specs.Rows.{Terms}
-use Rattle.it_eliminate.specs.Elimination.{Member, EliminatedView, Ends, in_order, next_list, results}
+use Rattle.it_eliminate.specs.Elimination.{Member, EliminatedView, EliminationEnds, ordered_rows, next_list, results}
 use Rattle.it_eliminate.proofs.MemberLemmas.{every_member, member_every}
 use Rattle.it_redundant.specs.Reduction.{NeedView, Reduces, kept_rows}
 use Rattle.it_redundant.specs.ReducedElimination.{ProjectedView, Region, Rows, Wide, GoesOn, ReducedEnds}
@@ -34,14 +34,14 @@ module _ (givens : ProblemView) (budget : Option ℕ) (most : ℕ) where
 
   module _ (base : ℕ) (r : ℕ) (rs : List ℕ) (part start : List Terms) (p : IsPart part start) (later : List (Terms × NeedView) → Type 0) where
     -- the reduced list after a rate, in order, is a part of the plain one
-    next_part : (kept : List (Terms × NeedView)) (dropped : List (Terms × CertificateView)) → Reduces givens budget [] (next_list (base + r) part) kept dropped → IsPart (in_order (kept_rows kept)) (next_list (base + r) start)
+    next_part : (kept : List (Terms × NeedView)) (dropped : List (Terms × CertificateView)) → Reduces givens budget [] (next_list (base + r) part) kept dropped → IsPart (ordered_rows (kept_rows kept)) (next_list (base + r) start)
     next_part kept dropped red x m =
         part-next_list (base + r) part start p x (part-ordered (kept_rows kept) (results (base + r) part) (kept_part (next_list (base + r) part) kept dropped red) x m)
 
     -- so a cause at this rate is one of plain elimination, and each later one where it is one from the next list
     step_is_plain : (step : EliminatedView) (end : ProjectedView)
-        → ((kept : List (Terms × NeedView)) → IsPart (in_order (kept_rows kept)) (next_list (base + r) start) → later kept → IsPlainCause base most (next_list (base + r) start) rs end)
-        → Ends base most part (r ∷ []) step → GoesOn givens budget later step end → IsPlainCause base most start (r ∷ rs) end
+        → ((kept : List (Terms × NeedView)) → IsPart (ordered_rows (kept_rows kept)) (next_list (base + r) start) → later kept → IsPlainCause base most (next_list (base + r) start) rs end)
+        → EliminationEnds base most part (r ∷ []) step → GoesOn givens budget later step end → IsPlainCause base most start (r ∷ rs) end
     step_is_plain step end ih (inl e) g =
         let is : end ≡ Wide r = subst (λ x. GoesOn givens budget later x end) e.1 g in
         subst (IsPlainCause base most start (r ∷ rs)) (sym is) (start, comes_first base most start r rs, λ f. e.0 (pairs_fit_part (base + r) part start p f))
@@ -53,12 +53,12 @@ module _ (givens : ProblemView) (budget : Option ℕ) (most : ℕ) where
         cause_later base most start r rs end (ih kept (next_part kept dropped red) rest)
 
   -- from rows that are, in order, a part of the start
-  end_is_plain : (rows start : List Terms) (last : List (Terms × NeedView)) (rates : List ℕ) (end : ProjectedView) → IsPart (in_order rows) start → ReducedEnds givens budget most rows last rates end
+  end_is_plain : (rows start : List Terms) (last : List (Terms × NeedView)) (rates : List ℕ) (end : ProjectedView) → IsPart (ordered_rows rows) start → ReducedEnds givens budget most rows last rates end
       → IsPlainCause (2 ^ givens.space.variables) most start rates end
   end_is_plain rows start last [] end p e = subst (IsPlainCause (2 ^ givens.space.variables) most start []) (sym e) tt
   end_is_plain rows start last (r ∷ rs) end p (step, ends, g) =
-      step_is_plain (2 ^ givens.space.variables) r rs (in_order rows) start p (λ kept. ReducedEnds givens budget most (kept_rows kept) kept rs end) step end
+      step_is_plain (2 ^ givens.space.variables) r rs (ordered_rows rows) start p (λ kept. ReducedEnds givens budget most (kept_rows kept) kept rs end) step end
       (λ kept q rest. end_is_plain (kept_rows kept) (next_list (2 ^ givens.space.variables + r) start) kept rs end q rest) ends g
 
 pub causes_are_plain : CausesArePlain
-causes_are_plain givens budget most rows last rates end e = end_is_plain givens budget most rows (in_order rows) last rates end (λ x m. m) e
+causes_are_plain givens budget most rows last rates end e = end_is_plain givens budget most rows (ordered_rows rows) last rates end (λ x m. m) e

@@ -8,7 +8,7 @@ use Rattle.it_space.specs.Problems.{ProblemView, IsProblem, IsSystem}
 use Rattle.it_space.specs.Rows.{Terms, IsUpTo, coefficient}
 use Rattle.it_space.specs.Spaces.{IsSpace, size_of}
 use Rattle.it_space.proofs.EveryLemmas.{every_of, all_of}
-use Rattle.it_eliminate.specs.Elimination.{Member, EliminatedView, Ends, in_order, next_list}
+use Rattle.it_eliminate.specs.Elimination.{Member, EliminatedView, EliminationEnds, ordered_rows, next_list, list_after}
 use Rattle.it_eliminate.specs.Elimination as elimination
 use Rattle.it_eliminate.specs.Projections.{In, Extends, Lacks}
 use Rattle.it_eliminate.specs.declared.types.Eliminated.{Eliminated}
@@ -16,8 +16,8 @@ use Rattle.it_eliminate.specs.declared.types.Eliminated.TheVariants as eliminate
 use Rattle.it_eliminate.specs.Views.{eliminated_view}
 use Rattle.it_eliminate.proofs.LawLemmas.{one_end}
 use Rattle.it_eliminate.proofs.MemberLemmas.{member_mapped}
-use Rattle.it_eliminate.proofs.OrderLemmas.{lacks-with_rows}
-use Rattle.it_eliminate.proofs.RateLemmas.{after_rates, next_keeps_lacking, projection_exact, rates_exact}
+use Rattle.it_eliminate.proofs.OrderLemmas.{lacks-with_lowest_rows}
+use Rattle.it_eliminate.proofs.RateLemmas.{next_keeps_lacking, projection_exact, rates_exact}
 use Rattle.it_eliminate.proofs.SpaceLemmas.{projection_up_to}
 use Rattle.it_eliminate.proofs.StepLemmas.{next_lacks}
 use Rattle.it_redundant.specs.declared.types.Projected.{Projected}
@@ -43,7 +43,7 @@ same_list : (xs ys : List Terms) → elimination.Region xs ≡ elimination.Regio
 same_list xs ys e = cc
 
 -- a step that ends with a list has the next list, and few rows
-pub step_list : (base most : ℕ) (rows : List Terms) (r : ℕ) (next : List Terms) → Ends base most rows (r ∷ []) (elimination.Region next) → (next ≡ next_list (base + r) rows) × (length next ≤ most)
+pub step_list : (base most : ℕ) (rows : List Terms) (r : ℕ) (next : List Terms) → EliminationEnds base most rows (r ∷ []) (elimination.Region next) → (next ≡ next_list (base + r) rows) × (length next ≤ most)
 step_list base most rows r next (inl e) = absurd (not_wide next r e.1)
 step_list base most rows r next (inr (inl e)) = absurd (not_rows next r e.2)
 step_list base most rows r next (inr (inr e)) =
@@ -51,12 +51,12 @@ step_list base most rows r next (inr (inr e)) =
 
 -- the rows of the list are of the space, and so are those that stay of it
 list_up : (givens : ProblemView) (most : ℕ) (rows : List Terms) (r : ℕ) (next : List Terms) → All (IsUpTo (size_of givens.space)) rows
-    → Ends (2 ^ givens.space.variables) most (in_order rows) (r ∷ []) (elimination.Region next) → All (IsUpTo (size_of givens.space)) next
-list_up givens most rows r next up e = subst (λ (xs : List Terms). All (IsUpTo (size_of givens.space)) xs) (sym (step_list (2 ^ givens.space.variables) most (in_order rows) r next e).0)
+    → EliminationEnds (2 ^ givens.space.variables) most (ordered_rows rows) (r ∷ []) (elimination.Region next) → All (IsUpTo (size_of givens.space)) next
+list_up givens most rows r next up e = subst (λ (xs : List Terms). All (IsUpTo (size_of givens.space)) xs) (sym (step_list (2 ^ givens.space.variables) most (ordered_rows rows) r next e).0)
     (projection_up_to (size_of givens.space) ((2 ^ givens.space.variables + r) ∷ []) rows up)
 
 pub kept_up : (givens : ProblemView) (budget : Option ℕ) (most : ℕ) (rows : List Terms) (r : ℕ) (next : List Terms) (mid : List (Terms × NeedView)) (dropped : List (Terms × CertificateView)) → All (IsUpTo (size_of givens.space)) rows
-    → Ends (2 ^ givens.space.variables) most (in_order rows) (r ∷ []) (elimination.Region next) → Reduces givens budget [] next mid dropped → All (IsUpTo (size_of givens.space)) (kept_rows mid)
+    → EliminationEnds (2 ^ givens.space.variables) most (ordered_rows rows) (r ∷ []) (elimination.Region next) → Reduces givens budget [] next mid dropped → All (IsUpTo (size_of givens.space)) (kept_rows mid)
 kept_up givens budget most rows r next mid dropped up e red = all_of (IsUpTo (size_of givens.space)) (kept_rows mid)
     (every_kept givens budget (IsUpTo (size_of givens.space)) [] next mid dropped red (every_of (IsUpTo (size_of givens.space)) next (list_up givens most rows r next up e)))
 
@@ -106,7 +106,7 @@ module _ (givens : ProblemView) (budget : Option ℕ) (most : ℕ) where
 pub one_reduced_end : OneReducedEnd
 one_reduced_end givens budget most rows last [] end other e f = e ∙ sym f
 one_reduced_end givens budget most rows last (r ∷ rs) end other (s, e, g) (t, f, h) =
-    let same : s ≡ t = one_end (2 ^ givens.space.variables) most (in_order rows) (r ∷ []) s t e f in
+    let same : s ≡ t = one_end (2 ^ givens.space.variables) most (ordered_rows rows) (r ∷ []) s t e f in
     by_step s g (subst (λ (x : EliminatedView). GoesOn givens budget (λ kept. ReducedEnds givens budget most (kept_rows kept) kept rs other) x other) (sym same) h)
     (λ kept. one_reduced_end givens budget most (kept_rows kept) kept rs end other)
   where
@@ -146,12 +146,12 @@ module _ (givens : ProblemView) (budget : Option ℕ) (most : ℕ) (limits : IsP
   extends_alike rates xs ys p m f y = record { factor = y.factor; some = y.some; point = y.point; kept = y.kept; meets = f y.point (point_meets rates xs p y m) y.meets }
 
   module _ (rows : List Terms) (r : ℕ) (next : List Terms) (mid : List (Terms × NeedView)) (dropped : List (Terms × CertificateView)) (up : All (IsUpTo (size_of givens.space)) rows)
-      (e : Ends (2 ^ givens.space.variables) most (in_order rows) (r ∷ []) (elimination.Region next)) (red : Reduces givens budget [] next mid dropped) where
-    next_is : next ≡ next_list (2 ^ givens.space.variables + r) (in_order rows)
-    next_is = (step_list (2 ^ givens.space.variables) most (in_order rows) r next e).0
+      (e : EliminationEnds (2 ^ givens.space.variables) most (ordered_rows rows) (r ∷ []) (elimination.Region next)) (red : Reduces givens budget [] next mid dropped) where
+    next_is : next ≡ next_list (2 ^ givens.space.variables + r) (ordered_rows rows)
+    next_is = (step_list (2 ^ givens.space.variables) most (ordered_rows rows) r next e).0
 
     few_next : length next ≤ most
-    few_next = (step_list (2 ^ givens.space.variables) most (in_order rows) r next e).1
+    few_next = (step_list (2 ^ givens.space.variables) most (ordered_rows rows) r next e).1
 
     next_up : All (IsUpTo (size_of givens.space)) next
     next_up = list_up givens most rows r next up e
@@ -166,7 +166,7 @@ module _ (givens : ProblemView) (budget : Option ℕ) (most : ℕ) (limits : IsP
     mid_lacks c h = every_kept givens budget (λ (row : Terms). coefficient row c ≡ pos 0) [] next mid dropped red h
 
     mid_needed : AreNeeded givens mid
-    mid_needed pre post k is = needed givens budget [] next mid dropped red pre post k is
+    mid_needed = needed givens budget limits few next mid dropped (omega (arith, few_next, few_rows)) next_up red
 
     one_more : (rs : List ℕ) (kept : List (Terms × NeedView)) → Holds rs (kept_rows mid) kept → Holds (r ∷ rs) rows kept
     one_more rs kept h = record {
@@ -176,25 +176,25 @@ module _ (givens : ProblemView) (budget : Option ℕ) (most : ℕ) (limits : IsP
         exact = λ p m. (to_rows p m, from_rows p m);
         needed = h.region.needed;
       };
-      keeps = λ c l. h.keeps c (mid_lacks c (subst (λ (xs : List Terms). Lacks c xs) (sym next_is) (next_keeps_lacking c (2 ^ givens.space.variables + r) (in_order rows) (lacks-with_rows c [] rows tt l))));
+      keeps = λ c l. h.keeps c (mid_lacks c (subst (λ (xs : List Terms). Lacks c xs) (sym next_is) (next_keeps_lacking c (2 ^ givens.space.variables + r) (ordered_rows rows) (lacks-with_lowest_rows c [] rows tt l))));
     }
       where
         free : (s : ℕ) → Member s (r ∷ rs) → Lacks (2 ^ givens.space.variables + s) (kept_rows kept)
         free s (inl is) = h.keeps (2 ^ givens.space.variables + s) (mid_lacks (2 ^ givens.space.variables + s)
             (subst (λ (xs : List Terms). Lacks (2 ^ givens.space.variables + s) xs) (sym next_is)
-            (subst (λ (x : ℕ). Lacks (2 ^ givens.space.variables + x) (next_list (2 ^ givens.space.variables + r) (in_order rows))) (sym is) (next_lacks (2 ^ givens.space.variables + r) (in_order rows)))))
+            (subst (λ (x : ℕ). Lacks (2 ^ givens.space.variables + x) (next_list (2 ^ givens.space.variables + r) (ordered_rows rows))) (sym is) (next_lacks (2 ^ givens.space.variables + r) (ordered_rows rows)))))
         free s (inr m) = h.region.free s m
 
         to_rows : (p : ℕ → ℤ) → MeetsGivens givens p → In (kept_rows kept) p → Extends ((2 ^ givens.space.variables + r) ∷ map (λ s. 2 ^ givens.space.variables + s) rs) rows p
         to_rows p m i =
             let y = extends_alike rs (kept_rows mid) next p m (λ q n. (mid_alike q n).1) ((h.region.exact p m).0 i) in
-            let there : In (after_rates (map (λ s. 2 ^ givens.space.variables + s) rs) next) p = (rates_exact (map (λ s. 2 ^ givens.space.variables + s) rs) next p).1 y in
+            let there : In (list_after (map (λ s. 2 ^ givens.space.variables + s) rs) next) p = (rates_exact (map (λ s. 2 ^ givens.space.variables + s) rs) next p).1 y in
             (projection_exact ((2 ^ givens.space.variables + r) ∷ map (λ s. 2 ^ givens.space.variables + s) rs) rows p).0
-            (subst (λ (xs : List Terms). In (after_rates (map (λ s. 2 ^ givens.space.variables + s) rs) xs) p) next_is there)
+            (subst (λ (xs : List Terms). In (list_after (map (λ s. 2 ^ givens.space.variables + s) rs) xs) p) next_is there)
 
         from_rows : (p : ℕ → ℤ) → MeetsGivens givens p → Extends ((2 ^ givens.space.variables + r) ∷ map (λ s. 2 ^ givens.space.variables + s) rs) rows p → In (kept_rows kept) p
         from_rows p m x =
-            let there : In (after_rates (map (λ s. 2 ^ givens.space.variables + s) rs) next) p = subst (λ (xs : List Terms). In (after_rates (map (λ s. 2 ^ givens.space.variables + s) rs) xs) p) (sym next_is)
+            let there : In (list_after (map (λ s. 2 ^ givens.space.variables + s) rs) next) p = subst (λ (xs : List Terms). In (list_after (map (λ s. 2 ^ givens.space.variables + s) rs) xs) p) (sym next_is)
             ((projection_exact ((2 ^ givens.space.variables + r) ∷ map (λ s. 2 ^ givens.space.variables + s) rs) rows p).1 x) in
             (h.region.exact p m).1 (extends_alike rs next (kept_rows mid) p m (λ q n. (mid_alike q n).0) ((rates_exact (map (λ s. 2 ^ givens.space.variables + s) rs) next p).0 there))
 
@@ -231,14 +231,14 @@ module _ (givens : ProblemView) (budget : Option ℕ) (most : ℕ) (limits : IsP
 -- ---- what the code's step and reduction make
 
 module _ (givens : ProblemView) (budget : Option ℕ) (most : ℕ) (system : System) (rate : ℕ) (end : Eliminated) (space : system.space ≡ givens.space)
-    (ends : Ends (2 ^ system.space.variables) most (in_order system.rows.items) (rate ∷ []) (eliminated_view end)) where
-  over_givens : (e : EliminatedView) → eliminated_view end ≡ e → Ends (2 ^ givens.space.variables) most (in_order system.rows.items) (rate ∷ []) e
-  over_givens e is = subst (λ (s : Space). Ends (2 ^ s.variables) most (in_order system.rows.items) (rate ∷ []) e) space
-      (subst (λ (x : EliminatedView). Ends (2 ^ system.space.variables) most (in_order system.rows.items) (rate ∷ []) x) is ends)
+    (ends : EliminationEnds (2 ^ system.space.variables) most (ordered_rows system.rows.items) (rate ∷ []) (eliminated_view end)) where
+  over_givens : (e : EliminatedView) → eliminated_view end ≡ e → EliminationEnds (2 ^ givens.space.variables) most (ordered_rows system.rows.items) (rate ∷ []) e
+  over_givens e is = subst (λ (s : Space). EliminationEnds (2 ^ s.variables) most (ordered_rows system.rows.items) (rate ∷ []) e) space
+      (subst (λ (x : EliminatedView). EliminationEnds (2 ^ system.space.variables) most (ordered_rows system.rows.items) (rate ∷ []) x) is ends)
 
   module _ (next : System) (is : end ≡ eliminated.Region next) where
     pub few_step : most ≤ 65535 → length next.rows.items ≤ 65535
-    few_step few = omega (arith, few, (step_list (2 ^ givens.space.variables) most (in_order system.rows.items) rate next.rows.items (over_givens (elimination.Region next.rows.items) (ap eliminated_view is))).1)
+    few_step few = omega (arith, few, (step_list (2 ^ givens.space.variables) most (ordered_rows system.rows.items) rate next.rows.items (over_givens (elimination.Region next.rows.items) (ap eliminated_view is))).1)
 
     pub after_region : (reduced : Reduced) → Reduces givens budget [] next.rows.items (kept_view reduced) (dropped_view reduced) → IsAfterRate givens budget most system.rows.items rate (Region (kept_view reduced))
     after_region reduced red = (elimination.Region next.rows.items, over_givens (elimination.Region next.rows.items) (ap eliminated_view is), (kept_view reduced, dropped_view reduced, red, refl))

@@ -8,10 +8,11 @@ use Rattle.it_space.specs.Rows.{Terms, IsUpTo, map_of, value}
 use Rattle.it_space.specs.Spaces.{size_of}
 use Rattle.it_eliminate.specs.Projections.{In}
 use Rattle.it_check.proofs.Truth.{yes_is_true}
-use Rattle.it_prove.specs.ProofViews.{ProofView, Yes, No, Undecided}
+use Rattle.it_prove.specs.ProofViews.{ProofView, Yes, No, Undecided, EndsWith}
 use Rattle.it_prove.proofs.ProofLemmas.{one_outcome}
-use Rattle.it_redundant.specs.Reduction.{NeedView, Needed, Unsettled, Reduces, IsOutcome, with_rows, row_constraints, kept_by, dropped_by, kept_rows}
-use Rattle.it_redundant.specs.Theorems.{MeetsGivens, HoldAlike, IsNeeded, OneReduction}
+use Rattle.it_prove.proofs.RightLemmas.{ends_are_right}
+use Rattle.it_redundant.specs.Reduction.{NeedView, Needed, Unsettled, Reduces, with_rows, row_constraints, kept_by, dropped_by, kept_rows}
+use Rattle.it_redundant.specs.Theorems.{MeetsGivens, HoldAlike, SeparatesRow, IsNeeded, AreNeeded, OneReduction}
 use Rattle.it_redundant.proofs.RowLemmas.{met_rows_hold, front_is_met, rest_is_met, rows_append, rows_front, rows_rest, problem_is_met, problem_limits}
 
 module _ (givens : ProblemView) (budget : Option ℕ) where
@@ -29,7 +30,7 @@ module _ (givens : ProblemView) (budget : Option ℕ) where
 
     pub every_kept : (before rows : List Terms) (kept : List (Terms × NeedView)) (dropped : List (Terms × CertificateView)) → Reduces givens budget before rows kept dropped → Every P rows → Every P (kept_rows kept)
     every_kept before [] kept dropped r h = subst (λ k. Every P (kept_rows k)) (sym r.0) tt
-    every_kept before (row ∷ rows) kept dropped (o, k, d, out, e, f, r) h =
+    every_kept before (row ∷ rows) kept dropped (o, k, d, ends, e, f, r) h =
         subst (λ k. Every P (kept_rows k)) (sym e) (every_part (kept_by row o) k (some_keep row o h.0) (every_kept (before ++ kept_rows (kept_by row o)) rows k d r h.1))
 
   module _ (p : ℕ → ℤ) where
@@ -52,76 +53,119 @@ module _ (givens : ProblemView) (budget : Option ℕ) where
   kept_up_to size row (No values) h = All-cons (IsUpTo size) row [] h (All-nil (IsUpTo size))
   kept_up_to size row (Undecided cause) h = All-cons (IsUpTo size) row [] h (All-nil (IsUpTo size))
 
-  module _ (limits : IsProblem givens) (few : length givens.constraints ≤ 65535) (p : ℕ → ℤ) (meets : MeetsGivens givens p) where
-    -- a row with an outcome holds: it is proved from the others, or it is one that stays
-    row_holds : (others : List Terms) (row : Terms) (o : ProofView) → length others ≤ 65535 → All (IsUpTo (size_of givens.space)) others → IsUpTo (size_of givens.space) row
-        → IsOutcome givens budget others row o → In others p → In (kept_rows (kept_by row o)) p → pos 0 ≤ℤ value row p
-    row_holds others row (Yes w) few_others up own out h k =
-        yes_is_true (with_rows givens others) row w (problem_limits givens others limits few few_others up) own out.right.0 p meets.0 (problem_is_met p givens others meets.1 h)
-    row_holds others row (No values) few_others up own out h k = k.0
-    row_holds others row (Undecided cause) few_others up own out h k = k.0
+  -- rows that stay and rows that are still to be visited, as the calls take them
+  record AreTaken (before rows : List Terms) : Type 0 where
+    count : length before + length rows ≤ 65535
+    up : All (IsUpTo (size_of givens.space)) before
+    ups : All (IsUpTo (size_of givens.space)) rows
 
-    pub all_hold : (before rows : List Terms) (kept : List (Terms × NeedView)) (dropped : List (Terms × CertificateView)) → length before + length rows ≤ 65535
-        → All (IsUpTo (size_of givens.space)) before → All (IsUpTo (size_of givens.space)) rows → Reduces givens budget before rows kept dropped → In before p → In (kept_rows kept) p → In rows p
-    all_hold before [] kept dropped count up ups r b h = tt
-    all_hold before (row ∷ rows) kept dropped count up ups (o, k, d, out, e, f, r) b h =
-        let own = All-head (IsUpTo (size_of givens.space)) row rows ups in
-        let others = All-tail (IsUpTo (size_of givens.space)) row rows ups in
-        let parts = parts_of_rows p (kept_by row o) k (subst (λ k. In (kept_rows k) p) e h) in
-        let hold : In rows p = all_hold (before ++ kept_rows (kept_by row o)) rows k d (omega (arith, count, length-append before (kept_rows (kept_by row o)), few_kept row o))
-        (All-append (IsUpTo (size_of givens.space)) before (kept_rows (kept_by row o)) up (kept_up_to (size_of givens.space) row o own)) others r (rows_append p before (kept_rows (kept_by row o)) b parts.0) parts.1 in
-        (row_holds (before ++ rows) row o (omega (arith, count, length-append before rows)) (All-append (IsUpTo (size_of givens.space)) before rows up others) own out (rows_append p before rows b hold) parts.0, hold)
+  own_up : (before rows : List Terms) (row : Terms) → AreTaken before (row ∷ rows) → IsUpTo (size_of givens.space) row
+  own_up before rows row t = All-head (IsUpTo (size_of givens.space)) row rows t.ups
+
+  others_up : (before rows : List Terms) (row : Terms) → AreTaken before (row ∷ rows) → All (IsUpTo (size_of givens.space)) (before ++ rows)
+  others_up before rows row t = All-append (IsUpTo (size_of givens.space)) before rows t.up (All-tail (IsUpTo (size_of givens.space)) row rows t.ups)
+
+  -- and after a visit
+  taken_next : (before rows : List Terms) (row : Terms) (o : ProofView) → AreTaken before (row ∷ rows) → AreTaken (before ++ kept_rows (kept_by row o)) rows
+  taken_next before rows row o t = record {
+    count = omega (arith, t.count, length-append before (kept_rows (kept_by row o)), few_kept row o);
+    up = All-append (IsUpTo (size_of givens.space)) before (kept_rows (kept_by row o)) t.up (kept_up_to (size_of givens.space) row o (own_up before rows row t));
+    ups = All-tail (IsUpTo (size_of givens.space)) row rows t.ups;
+  }
+
+  module _ (limits : IsProblem givens) (few : length givens.constraints ≤ 65535) where
+    taken_problem : (before rows : List Terms) (row : Terms) → AreTaken before (row ∷ rows) → IsProblem (with_rows givens (before ++ rows))
+    taken_problem before rows row t = problem_limits givens (before ++ rows) limits few (omega (arith, t.count, length-append before rows)) (others_up before rows row t)
+
+    module _ (p : ℕ → ℤ) (meets : MeetsGivens givens p) where
+      -- a row with an outcome holds: it is proved from the others, or it is one that stays
+      row_holds : (others : List Terms) (row : Terms) (o : ProofView) → IsProblem (with_rows givens others) → IsUpTo (size_of givens.space) row
+          → EndsWith (with_rows givens others) row budget o → In others p → In (kept_rows (kept_by row o)) p → pos 0 ≤ℤ value row p
+      row_holds others row (Yes w) problem own ends h k =
+          yes_is_true (with_rows givens others) row w problem own (ends_are_right (with_rows givens others) row budget (Yes w) problem own ends).0 p meets.0 (problem_is_met p givens others meets.1 h)
+      row_holds others row (No values) problem own ends h k = k.0
+      row_holds others row (Undecided cause) problem own ends h k = k.0
+
+      all_hold : (before rows : List Terms) (kept : List (Terms × NeedView)) (dropped : List (Terms × CertificateView)) → AreTaken before rows → Reduces givens budget before rows kept dropped → In before p → In (kept_rows kept) p → In rows p
+      all_hold before [] kept dropped t r b h = tt
+      all_hold before (row ∷ rows) kept dropped t (o, k, d, ends, e, f, r) b h =
+          let parts = parts_of_rows p (kept_by row o) k (subst (λ k. In (kept_rows k) p) e h) in
+          let hold : In rows p = all_hold (before ++ kept_rows (kept_by row o)) rows k d (taken_next before rows row o t) r (rows_append p before (kept_rows (kept_by row o)) b parts.0) parts.1 in
+          (row_holds (before ++ rows) row o (taken_problem before rows row t) (own_up before rows row t) ends (rows_append p before rows b hold) parts.0, hold)
+
+  taken_first : (rows : List Terms) → length rows ≤ 65535 → All (IsUpTo (size_of givens.space)) rows → AreTaken [] rows
+  taken_first rows count ups = record { count = omega (arith, count); up = All-nil (IsUpTo (size_of givens.space)); ups = ups }
 
   pub hold_alike : IsProblem givens → length givens.constraints ≤ 65535 → (rows : List Terms) (kept : List (Terms × NeedView)) (dropped : List (Terms × CertificateView)) → length rows ≤ 65535
       → All (IsUpTo (size_of givens.space)) rows → Reduces givens budget [] rows kept dropped → HoldAlike givens rows (kept_rows kept)
   hold_alike limits few rows kept dropped count ups r p meets =
-      (λ h. kept_hold p [] rows kept dropped r h, λ h. all_hold limits few p meets [] rows kept dropped (omega (arith, count)) (All-nil (IsUpTo (size_of givens.space))) ups r tt h)
+      (λ h. kept_hold p [] rows kept dropped r h, λ h. all_hold limits few p meets [] rows kept dropped (taken_first rows count ups) r tt h)
 
   -- ---- the point of a needed row separates it from the others that stay
 
-  need_at : (before rows : List Terms) (row : Terms) (o : ProofView) (kept : List (Terms × NeedView)) (dropped : List (Terms × CertificateView))
-      → IsOutcome givens budget (before ++ rows) row o → Reduces givens budget (before ++ kept_rows (kept_by row o)) rows kept dropped
+  -- the point with which the run about a row ends, under the givens and other rows
+  point_separates : (others : List Terms) (row : Terms) (values : List ℤ) → IsProblem (with_rows givens others) → IsUpTo (size_of givens.space) row → EndsWith (with_rows givens others) row budget (No values) → SeparatesRow givens others row values
+  point_separates others row values problem own ends =
+      let refutes = (ends_are_right (with_rows givens others) row budget (No values) problem own ends).0 in let p = map_of values in record {
+        meets = (refutes.polymatroid, front_is_met p givens.constraints (row_constraints 1 others) refutes.met);
+        others_hold = met_rows_hold p 1 others (rest_is_met p givens.constraints (row_constraints 1 others) refutes.met);
+        violated = refutes.violated;
+      }
+
+  need_at : (before rows : List Terms) (row : Terms) (o : ProofView) (kept : List (Terms × NeedView)) (dropped : List (Terms × CertificateView)) → IsProblem (with_rows givens (before ++ rows)) → IsUpTo (size_of givens.space) row
+      → EndsWith (with_rows givens (before ++ rows)) row budget o → Reduces givens budget (before ++ kept_rows (kept_by row o)) rows kept dropped
       → (k : Terms × NeedView) → kept_by row o ≡ k ∷ [] → IsNeeded givens (before ++ kept_rows kept) k
-  need_at before rows row (Yes w) kept dropped out r k e = absurd (let n : 0 ≡ 1 = ap length e in omega (arith, n))
-  need_at before rows row (No values) kept dropped out r k e = subst (IsNeeded givens (before ++ kept_rows kept)) (ap (λ ks. get_or ks 0 k) e)
-      (let p = map_of values in let hold = met_rows_hold p 1 (before ++ rows) (rest_is_met p givens.constraints (row_constraints 1 (before ++ rows)) out.right.0.met) in record {
-        meets = (out.right.0.polymatroid, front_is_met p givens.constraints (row_constraints 1 (before ++ rows)) out.right.0.met);
-        others_hold = rows_append p before (kept_rows kept) (rows_front p before rows hold) (kept_hold p (before ++ row ∷ []) rows kept dropped r (rows_rest p before rows hold));
-        violated = out.right.0.violated;
+  need_at before rows row (Yes w) kept dropped problem own ends r k e = absurd (let n : 0 ≡ 1 = ap length e in omega (arith, n))
+  need_at before rows row (No values) kept dropped problem own ends r k e = subst (IsNeeded givens (before ++ kept_rows kept)) (ap (λ ks. get_or ks 0 k) e)
+      (let apart = point_separates (before ++ rows) row values problem own ends in let p = map_of values in record {
+        meets = apart.meets;
+        others_hold = rows_append p before (kept_rows kept) (rows_front p before rows apart.others_hold) (kept_hold p (before ++ row ∷ []) rows kept dropped r (rows_rest p before rows apart.others_hold));
+        violated = apart.violated;
       })
-  need_at before rows row (Undecided cause) kept dropped out r k e = subst (IsNeeded givens (before ++ kept_rows kept)) (ap (λ ks. get_or ks 0 k) e) tt
+  need_at before rows row (Undecided cause) kept dropped problem own ends r k e = subst (IsNeeded givens (before ++ kept_rows kept)) (ap (λ ks. get_or ks 0 k) e) tt
 
   nothing_there : (pre post : List (Terms × NeedView)) (k : Terms × NeedView) → [] ≡ pre ++ k ∷ post → ⊥
   nothing_there [] post k e = absurd (let n : 0 ≡ suc (length post) = ap length e in omega (arith, n))
   nothing_there (x ∷ pre) post k e = absurd (let n : 0 ≡ suc (length (pre ++ k ∷ post)) = ap length e in omega (arith, n))
 
-  pub needed : (before rows : List Terms) (kept : List (Terms × NeedView)) (dropped : List (Terms × CertificateView)) → Reduces givens budget before rows kept dropped
-      → (pre post : List (Terms × NeedView)) (k : Terms × NeedView) → kept ≡ pre ++ k ∷ post → IsNeeded givens (before ++ (kept_rows pre ++ kept_rows post)) k
-  needed before [] kept dropped r pre post k e = absurd (nothing_there pre post k (sym r.0 ∙ e))
-  needed before (row ∷ rows) kept dropped (o, ks, d, out, e, f, r) pre post k is = by_outcome o out (sym e ∙ is) r (λ b s pre. needed b rows ks d s pre post k)
-    where
-      stays : (x : Terms × NeedView) → x.0 ≡ row → ((n : Terms × NeedView) → x ∷ [] ≡ n ∷ [] → IsNeeded givens (before ++ kept_rows ks) n)
-          → Reduces givens budget (before ++ row ∷ []) rows ks d → (pre : List (Terms × NeedView)) → x ∷ ks ≡ pre ++ k ∷ post
-          → ((pre : List (Terms × NeedView)) → ks ≡ pre ++ k ∷ post → IsNeeded givens ((before ++ row ∷ []) ++ (kept_rows pre ++ kept_rows post)) k)
-          → IsNeeded givens (before ++ (kept_rows pre ++ kept_rows post)) k
-      stays x same here r [] e later = subst (λ l. IsNeeded givens (before ++ kept_rows l) k) (ap (λ l. drop 1 l) e) (here k (ap (λ l. take 1 l) e))
-      stays x same here r (y ∷ pre) e later = subst (λ l. IsNeeded givens l k)
-          (append_assoc before (row ∷ []) (kept_rows pre ++ kept_rows post) ∙ ap (λ z. before ++ z ∷ (kept_rows pre ++ kept_rows post)) (sym same ∙ ap (λ l. (get_or l 0 x).0) e))
-          (later pre (ap (λ l. drop 1 l) e))
+  module _ (limits : IsProblem givens) (few : length givens.constraints ≤ 65535) where
+    needed_from : (before rows : List Terms) (kept : List (Terms × NeedView)) (dropped : List (Terms × CertificateView)) → AreTaken before rows → Reduces givens budget before rows kept dropped
+        → (pre post : List (Terms × NeedView)) (k : Terms × NeedView) → kept ≡ pre ++ k ∷ post → IsNeeded givens (before ++ (kept_rows pre ++ kept_rows post)) k
+    needed_from before [] kept dropped t r pre post k e = absurd (nothing_there pre post k (sym r.0 ∙ e))
+    needed_from before (row ∷ rows) kept dropped t (o, ks, d, ends, e, f, r) pre post k is = by_outcome o ends (sym e ∙ is) r (taken_next before rows row o t) (λ b u s pre. needed_from b rows ks d u s pre post k)
+      where
+        problem : IsProblem (with_rows givens (before ++ rows))
+        problem = taken_problem limits few before rows row t
 
-      by_outcome : (o : ProofView) → IsOutcome givens budget (before ++ rows) row o → kept_by row o ++ ks ≡ pre ++ k ∷ post
-          → Reduces givens budget (before ++ kept_rows (kept_by row o)) rows ks d
-          → ((b : List Terms) → Reduces givens budget b rows ks d → (pre : List (Terms × NeedView)) → ks ≡ pre ++ k ∷ post → IsNeeded givens (b ++ (kept_rows pre ++ kept_rows post)) k)
-          → IsNeeded givens (before ++ (kept_rows pre ++ kept_rows post)) k
-      by_outcome (Yes w) out e r later = subst (λ l. IsNeeded givens (l ++ (kept_rows pre ++ kept_rows post)) k) (append-nil before) (later (before ++ []) r pre e)
-      by_outcome (No values) out e r later = stays (row, Needed values) refl (need_at before rows row (No values) ks d out r) r pre e (later (before ++ row ∷ []) r)
-      by_outcome (Undecided cause) out e r later = stays (row, Unsettled cause) refl (need_at before rows row (Undecided cause) ks d out r) r pre e (later (before ++ row ∷ []) r)
+        own : IsUpTo (size_of givens.space) row
+        own = own_up before rows row t
+
+        stays : (x : Terms × NeedView) → x.0 ≡ row → ((n : Terms × NeedView) → x ∷ [] ≡ n ∷ [] → IsNeeded givens (before ++ kept_rows ks) n)
+            → Reduces givens budget (before ++ row ∷ []) rows ks d → (pre : List (Terms × NeedView)) → x ∷ ks ≡ pre ++ k ∷ post
+            → ((pre : List (Terms × NeedView)) → ks ≡ pre ++ k ∷ post → IsNeeded givens ((before ++ row ∷ []) ++ (kept_rows pre ++ kept_rows post)) k)
+            → IsNeeded givens (before ++ (kept_rows pre ++ kept_rows post)) k
+        stays x same here r [] e later = subst (λ l. IsNeeded givens (before ++ kept_rows l) k) (ap (λ l. drop 1 l) e) (here k (ap (λ l. take 1 l) e))
+        stays x same here r (y ∷ pre) e later = subst (λ l. IsNeeded givens l k)
+            (append_assoc before (row ∷ []) (kept_rows pre ++ kept_rows post) ∙ ap (λ z. before ++ z ∷ (kept_rows pre ++ kept_rows post)) (sym same ∙ ap (λ l. (get_or l 0 x).0) e))
+            (later pre (ap (λ l. drop 1 l) e))
+
+        by_outcome : (o : ProofView) → EndsWith (with_rows givens (before ++ rows)) row budget o → kept_by row o ++ ks ≡ pre ++ k ∷ post
+            → Reduces givens budget (before ++ kept_rows (kept_by row o)) rows ks d → AreTaken (before ++ kept_rows (kept_by row o)) rows
+            → ((b : List Terms) → AreTaken b rows → Reduces givens budget b rows ks d → (pre : List (Terms × NeedView)) → ks ≡ pre ++ k ∷ post → IsNeeded givens (b ++ (kept_rows pre ++ kept_rows post)) k)
+            → IsNeeded givens (before ++ (kept_rows pre ++ kept_rows post)) k
+        by_outcome (Yes w) ends e r u later = subst (λ l. IsNeeded givens (l ++ (kept_rows pre ++ kept_rows post)) k) (append-nil before) (later (before ++ []) u r pre e)
+        by_outcome (No values) ends e r u later = stays (row, Needed values) refl (need_at before rows row (No values) ks d problem own ends r) r pre e (later (before ++ row ∷ []) u r)
+        by_outcome (Undecided cause) ends e r u later = stays (row, Unsettled cause) refl (need_at before rows row (Undecided cause) ks d problem own ends r) r pre e (later (before ++ row ∷ []) u r)
+
+    pub needed : (rows : List Terms) (kept : List (Terms × NeedView)) (dropped : List (Terms × CertificateView)) → length rows ≤ 65535 → All (IsUpTo (size_of givens.space)) rows
+        → Reduces givens budget [] rows kept dropped → AreNeeded givens kept
+    needed rows kept dropped count ups r pre post k is = needed_from [] rows kept dropped (taken_first rows count ups) r pre post k is
 
 -- ---- a list has one reduction
 
 pub one_reduction : OneReduction
 one_reduction givens budget before [] kept other dropped other_dropped r s = (r.0 ∙ sym s.0, r.1 ∙ sym s.1)
-one_reduction givens budget before (row ∷ rows) kept other dropped other_dropped (o, k, d, out, e, f, r) (p, l, g, outcome, h, i, s) =
-    let same : o ≡ p = one_outcome (with_rows givens (before ++ rows)) row budget o p out.due outcome.due in
+one_reduction givens budget before (row ∷ rows) kept other dropped other_dropped (o, k, d, ends, e, f, r) (p, l, g, others_end, h, i, s) =
+    let same : o ≡ p = one_outcome (with_rows givens (before ++ rows)) row budget o p ends others_end in
     let rest = one_reduction givens budget (before ++ kept_rows (kept_by row o)) rows k l d g r (subst (λ x. Reduces givens budget (before ++ kept_rows (kept_by row x)) rows l g) (sym same) s) in
     (e ∙ ap (λ x. kept_by row x ++ k) same ∙ ap (λ x. kept_by row p ++ x) rest.0 ∙ sym h, f ∙ ap (λ x. dropped_by row x ++ d) same ∙ ap (λ x. dropped_by row p ++ x) rest.1 ∙ sym i)

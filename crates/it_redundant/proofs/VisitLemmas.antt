@@ -8,9 +8,9 @@ use Rattle.it_space.specs.Rows.{Terms, IsUpTo}
 use Rattle.it_space.specs.Spaces.{size_of}
 use Rattle.it_prove.specs.ClosedProblems.{IsClosedProblem}
 use Rattle.it_prove.specs.declared.closed.ClosedProblem.{ClosedProblem}
-use Rattle.it_prove.specs.ProofViews.{ProofView, EndsWith, IsRightProof}
+use Rattle.it_prove.specs.ProofViews.{ProofView, EndsWith}
 use Rattle.it_redundant.specs.declared.types.Need.{Need}
-use Rattle.it_redundant.specs.Reduction.{NeedView, Reduces, IsOutcome, kept_by, dropped_by, kept_rows, need_view, with_rows}
+use Rattle.it_redundant.specs.Reduction.{NeedView, Reduces, kept_by, dropped_by, kept_rows, need_view, with_rows}
 use Rattle.it_redundant.specs.ReductionSteps.{AreRowsUpTo}
 use Rattle.it_redundant.proofs.RowLemmas.{problem_limits}
 use Rattle.it_redundant.proofs.ReductionLemmas.{few_kept, kept_up_to}
@@ -40,7 +40,7 @@ module _ (givens : ProblemView) (budget : Option ℕ) (size : ℕ) (rows : List 
   under_way_start = record { more = λ k d r. r; few = omega arith; up = All-nil (IsUpTo size) }
 
   pub under_way_more : (kept new_kept : List (Terms × NeedView)) (dropped new_dropped : List (Terms × CertificateView)) (i : ℕ) (row : Terms) (o : ProofView) → i < length rows
-      → drop i rows ≡ row ∷ drop (i + 1) rows → IsUpTo size row → IsOutcome givens budget (kept_rows kept ++ drop (i + 1) rows) row o
+      → drop i rows ≡ row ∷ drop (i + 1) rows → IsUpTo size row → EndsWith (with_rows givens (kept_rows kept ++ drop (i + 1) rows)) row budget o
       → new_kept ≡ kept ++ kept_by row o → new_dropped ≡ dropped ++ dropped_by row o
       → IsUnderWay givens budget size rows kept dropped i → IsUnderWay givens budget size rows new_kept new_dropped (i + 1)
   under_way_more kept new_kept dropped new_dropped i row o below next own out e f u = record {
@@ -73,7 +73,7 @@ module _ (givens p : ProblemView) (budget : Option ℕ) (kept slice : List (Term
   pub visit_closed : (c : ClosedProblem) → IsClosedProblem givens c → IsClosedProblem p c
   visit_closed c h = subst (λ q. IsClosedProblem q c) (sym kept_is) (closed_behind givens (map (λ k. k.0) kept ++ after) c h)
 
-  pub visit_outcome : (row : Terms) (o : ProofView) → EndsWith p row budget o → IsRightProof p row o → IsOutcome givens budget (kept_rows (map (λ k. (k.0, need_view k.1)) kept) ++ after) row o
-  visit_outcome row o e r =
+  pub visit_ends : (row : Terms) (o : ProofView) → EndsWith p row budget o → EndsWith (with_rows givens (kept_rows (map (λ k. (k.0, need_view k.1)) kept) ++ after)) row budget o
+  visit_ends row o e =
       let as_viewed : p ≡ with_rows givens (kept_rows (map (λ k. (k.0, need_view k.1)) kept) ++ after) = kept_is ∙ ap (λ (rows : List Terms). with_rows givens (rows ++ after)) (sym (rows_kept kept)) in
-      record { due = subst (λ (q : ProblemView). EndsWith q row budget o) as_viewed e; right = subst (λ (q : ProblemView). IsRightProof q row o) as_viewed r }
+      subst (λ (q : ProblemView). EndsWith q row budget o) as_viewed e

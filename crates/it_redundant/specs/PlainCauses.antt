@@ -1,22 +1,17 @@
 -- Causes of plain elimination, which goes on past a cause: its lists are over numbers without bounds.
-use Rattle.std.specs.Prelude.{◌≡◌, ℕ, ◌+◌, ◌^◌, ◌<◌, List, [], ◌∷◌, ◌++◌, length, Option}
+use Rattle.std.specs.Prelude.{◌≡◌, ℕ, ◌+◌, ◌^◌, ◌<◌, List, [], ◌∷◌, ◌++◌, length, map, Option}
 use Rattle.it_space.specs.Problems.{ProblemView}
 use Rattle.it_space.specs.Rows.{Terms}
-use Rattle.it_eliminate.specs.Elimination.{PairsFit, in_order, next_list}
+use Rattle.it_eliminate.specs.Elimination.{PairsFit, ordered_rows, next_list, list_after}
 use Rattle.it_redundant.specs.Reduction.{NeedView}
 use Rattle.it_redundant.specs.ReducedElimination.{ProjectedView, Region, Rows, Wide, ReducedEnds}
 
--- the list of plain elimination after these rates, from rows in order; rate r is at coordinate `base` + r
-abbrev pub plain_list : ℕ → List Terms → List ℕ → List Terms
-plain_list base rows [] = rows
-plain_list base rows (r ∷ rs) = plain_list base (next_list (base + r) rows) rs
-
--- plain elimination of rates from `start` comes to a rate with these rows
+-- plain elimination of rates from `start` comes to a rate with these rows; rate r is at coordinate `base` + r
 pub record ComesTo (base : ℕ) (start : List Terms) (rates : List ℕ) (rate : ℕ) (rows : List Terms) : Type 0 where
   pub before : List ℕ
   pub after : List ℕ
   pub rates_are : rates ≡ before ++ rate ∷ after
-  pub rows_are : rows ≡ plain_list base start before
+  pub rows_are : rows ≡ list_after (map (λ r. base + r) before) start
 
 -- a cause is one of plain elimination at this rate: more than `most` rows after it, or a wide pair of the rows that come to it
 abbrev pub IsPlainCause : ℕ → ℕ → List Terms → List ℕ → ProjectedView → Type 0
@@ -27,4 +22,4 @@ IsPlainCause base most start rates (Wide rate) = (rows : List Terms) × ComesTo 
 -- where reduced elimination ends with a cause at a rate, plain elimination has the same cause at this rate
 abbrev pub CausesArePlain : Type 0
 CausesArePlain = (givens : ProblemView) (budget : Option ℕ) (most : ℕ) (rows : List Terms) (last : List (Terms × NeedView)) (rates : List ℕ) (end : ProjectedView)
-    → ReducedEnds givens budget most rows last rates end → IsPlainCause (2 ^ givens.space.variables) most (in_order rows) rates end
+    → ReducedEnds givens budget most rows last rates end → IsPlainCause (2 ^ givens.space.variables) most (ordered_rows rows) rates end

@@ -2,13 +2,13 @@
 use Rattle.std.specs.Prelude.{◌≡◌, ℕ, ◌^◌, List, [], ◌∷◌, Option, All}
 use Rattle.it_space.specs.Problems.{ProblemView}
 use Rattle.it_space.specs.Rows.{Terms, IsUpTo}
-use Rattle.it_eliminate.specs.Elimination.{EliminatedView, Ends, in_order}
+use Rattle.it_eliminate.specs.Elimination.{EliminatedView, EliminationEnds, ordered_rows}
 use Rattle.it_redundant.specs.Reduction.{kept_rows}
 use Rattle.it_redundant.specs.ReducedElimination.{ProjectedView, Region, Rows, Wide, GoesOn, ReducedEnds}
 
 -- what one rate leaves of rows
 abbrev pub IsAfterRate : ProblemView → Option ℕ → ℕ → List Terms → ℕ → ProjectedView → Type 0
-IsAfterRate givens budget most rows rate end = (step : EliminatedView) × Ends (2 ^ givens.space.variables) most (in_order rows) (rate ∷ []) step × GoesOn givens budget (λ kept. end ≡ Region kept) step end
+IsAfterRate givens budget most rows rate end = (step : EliminatedView) × EliminationEnds (2 ^ givens.space.variables) most (ordered_rows rows) (rate ∷ []) step × GoesOn givens budget (λ kept. end ≡ Region kept) step end
 
 -- and of what is there: a cause stays
 abbrev pub IsNext : ProblemView → Option ℕ → ℕ → ℕ → ProjectedView → ProjectedView → Type 0

@@ -3,7 +3,7 @@ use Rattle.std.specs.Prelude.{◌≡◌, ℕ, ◌^◌, List, [], ◌∷◌, Opti
 use Rattle.it_space.specs.Answers.{CertificateView}
 use Rattle.it_space.specs.Problems.{ProblemView}
 use Rattle.it_space.specs.Rows.{Terms}
-use Rattle.it_eliminate.specs.Elimination.{EliminatedView, Ends, in_order}
+use Rattle.it_eliminate.specs.Elimination.{EliminatedView, EliminationEnds, ordered_rows}
 use Rattle.it_eliminate.specs.Elimination as elimination
 use Rattle.it_redundant.specs.declared.types.Projected.{Projected}
 use Rattle.it_redundant.specs.declared.types.Projected.TheVariants as ends
@@ -30,5 +30,5 @@ GoesOn givens budget later (elimination.Wide rate) end = end ≡ Wide rate
 -- in order, and may leave at most `most` before their reduction
 abbrev pub ReducedEnds : ProblemView → Option ℕ → ℕ → List Terms → List (Terms × NeedView) → List ℕ → ProjectedView → Type 0
 ReducedEnds givens budget most rows last [] end = end ≡ Region last
-ReducedEnds givens budget most rows last (r ∷ rs) end = (step : EliminatedView) × Ends (2 ^ givens.space.variables) most (in_order rows) (r ∷ []) step
+ReducedEnds givens budget most rows last (r ∷ rs) end = (step : EliminatedView) × EliminationEnds (2 ^ givens.space.variables) most (ordered_rows rows) (r ∷ []) step
     × GoesOn givens budget (λ kept. ReducedEnds givens budget most (kept_rows kept) kept rs end) step end

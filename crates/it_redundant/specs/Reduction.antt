@@ -1,13 +1,14 @@
 -- Reduction of a list of rows: each in turn goes where the givens and all other rows that still stand give it, and stays otherwise.
-use Rattle.std.specs.Prelude.{◌≡◌, ℕ, ◌+◌, ℤ, List, [], ◌∷◌, ◌++◌, map, Option}
+use Rattle.std.specs.Prelude.{◌≡◌, ℕ, ◌+◌, ◌≤◌, ℤ, List, [], ◌∷◌, ◌++◌, length, map, Option}
 use Rattle.it_space.specs.declared.answers.Cause.{Cause}
 use Rattle.it_space.specs.declared.problems.Constraint.{Constraint}
 use Rattle.it_space.specs.declared.problems.Kind.TheVariants.{Inequality}
 use Rattle.it_space.specs.declared.problems.Origin.TheVariants.{Rate}
 use Rattle.it_space.specs.Answers.{CertificateView, certificate_view}
-use Rattle.it_space.specs.Problems.{ProblemView}
+use Rattle.it_space.specs.declared.problems.System.{System}
+use Rattle.it_space.specs.Problems.{ProblemView, IsProblem, IsSystem}
 use Rattle.it_space.specs.Rows.{Terms}
-use Rattle.it_prove.specs.ProofViews.{ProofView, Yes, No, Undecided, EndsWith, IsRightProof}
+use Rattle.it_prove.specs.ProofViews.{ProofView, Yes, No, Undecided, EndsWith}
 use Rattle.it_redundant.specs.declared.types.Need.{Need}
 use Rattle.it_redundant.specs.declared.types.Need.TheVariants as needs
 use Rattle.it_redundant.specs.declared.types.Reduced.{Reduced}
@@ -21,10 +22,12 @@ row_constraints line (row ∷ rows) = record { row = row; kind = Inequality; ori
 abbrev pub with_rows : ProblemView → List Terms → ProblemView
 with_rows givens rows = record { space = givens.space; constraints = givens.constraints ++ row_constraints 1 rows }
 
--- the outcome of a row under the givens and other rows: that of the run, and right
-pub record IsOutcome (givens : ProblemView) (budget : Option ℕ) (others : List Terms) (row : Terms) (o : ProofView) : Type 0 where
-  pub due : EndsWith (with_rows givens others) row budget o
-  pub right : IsRightProof (with_rows givens others) row o
+-- a system over the space of some givens, which are few enough that their problem with 65,535 rows behind them is one
+pub record IsSystemUnder (q : ProblemView) (s : System) : Type 0 where
+  pub system : IsSystem s
+  pub givens : IsProblem q
+  pub space : s.space ≡ q.space
+  pub few_givens : length q.constraints ≤ 65535
 
 -- why a row stays: it is violated at a point at which the others hold, or the run about it has no end within its bounds
 pub data NeedView : Type 0 where
@@ -56,10 +59,10 @@ dropped_by row (Undecided cause) = []
 abbrev pub kept_rows : List (Terms × NeedView) → List Terms
 kept_rows kept = map (λ k. k.0) kept
 
--- Behind the rows `before`, which stay, the rows that are still to be visited end so: each has its outcome under those and the rows
--- after it, by which it goes or stays.
+-- Behind the rows `before`, which stay, the rows that are still to be visited end so: the run about each, under the givens, those and
+-- the rows after it, has an outcome, by which the row goes or stays.
 abbrev pub Reduces : ProblemView → Option ℕ → List Terms → List Terms → List (Terms × NeedView) → List (Terms × CertificateView) → Type 0
 Reduces givens budget before [] kept dropped = (kept ≡ []) × (dropped ≡ [])
 Reduces givens budget before (row ∷ rows) kept dropped =
-    (o : ProofView) × (k : List (Terms × NeedView)) × (d : List (Terms × CertificateView)) × IsOutcome givens budget (before ++ rows) row o
+    (o : ProofView) × (k : List (Terms × NeedView)) × (d : List (Terms × CertificateView)) × EndsWith (with_rows givens (before ++ rows)) row budget o
     × (kept ≡ kept_by row o ++ k) × (dropped ≡ dropped_by row o ++ d) × Reduces givens budget (before ++ kept_rows (kept_by row o)) rows k d

@@ -19,13 +19,13 @@ abbrev pub HoldAlike : ProblemView → List Terms → List Terms → Type 0
 HoldAlike givens rows kept = (p : ℕ → ℤ) → MeetsGivens givens p → In rows p ↔ In kept p
 
 -- the point meets the givens and the other rows, and violates this one
-pub record Separates (givens : ProblemView) (others : List Terms) (row : Terms) (values : List ℤ) : Type 0 where
+pub record SeparatesRow (givens : ProblemView) (others : List Terms) (row : Terms) (values : List ℤ) : Type 0 where
   pub meets : MeetsGivens givens (map_of values)
   pub others_hold : In others (map_of values)
   pub violated : value row (map_of values) ≤ℤ neg_ℤ (pos 1)
 
 abbrev pub IsNeeded : ProblemView → List Terms → Terms × NeedView → Type 0
-IsNeeded givens others (row, Needed values) = Separates givens others row values
+IsNeeded givens others (row, Needed values) = SeparatesRow givens others row values
 IsNeeded givens others (row, Unsettled cause) = Unit {0}
 
 -- the point of each needed row separates it from all others that stay

@@ -10,6 +10,6 @@ mod tests;
 mod types;
 
 pub use laws::{causes_are_plain, reductions_are_determined};
-pub use projection::project;
+pub use projection::{kept_system, project};
 pub use reduction::reduce;
 pub use types::{Need, Projected, Reduced};

@@ -1,9 +1,10 @@
 //! Reduced elimination.
 ghost use Rattle.std.specs.Prelude.{◌≡◌, ◌<◌, ◌≤◌, [], length, map, All, IfOk};
-ghost use Rattle.it_space.specs.Problems.{IsProblem, IsSystem, problem_view};
+ghost use Rattle.it_space.specs.Problems.{IsProblem, problem_view};
 ghost use Rattle.it_space.specs.Rows.{IsUpTo};
 ghost use Rattle.it_space.specs.Spaces.{size_of};
 ghost use Rattle.it_redundant.specs.ProjectionSteps.{HasRowsUpTo, IsAfterRate, IsNext};
+ghost use Rattle.it_redundant.specs.Reduction.{IsSystemUnder};
 ghost use Rattle.it_redundant.specs.ReducedElimination.{ReducedEnds, projected_view};
 ghost use Rattle.it_redundant.specs.Theorems.{RegionIsReduced, SpeakOfSets};
 
@@ -25,14 +26,11 @@ pub fn project(
     rows: usize,
     budget: Budget,
 ) -> Result<Projected, AllocError>
-    requires system { IsSystem system.now }
+    requires system { IsSystemUnder (problem_view givens.now) system.now }
     requires rates { All (λ r. r < system.now.space.rates) rates.now }
     requires some { 1 ≤ length rates.now }
-    requires givens { IsProblem (problem_view givens.now) }
-    requires space { system.now.space ≡ givens.now.space }
     requires sets { SpeakOfSets (problem_view givens.now) }
     requires few_rows { rows ≤ 65535 }
-    requires few_givens { length givens.now.constraints.items ≤ 65535 }
     ensures ends { IfOk result (λ e. ReducedEnds (problem_view givens.now) budget rows system.now.rows.items [] rates.now (projected_view e)) }
     ensures region { IfOk result (λ e. RegionIsReduced (problem_view givens.now) rates.now system.now.rows.items (projected_view e)) }
 {
@@ -49,13 +47,10 @@ fn reduced_elimination(
     rows: usize,
     budget: Budget,
 ) -> Result<Projected, AllocError>
-    requires system { IsSystem system.now }
+    requires system { IsSystemUnder (problem_view givens.now) system.now }
     requires rates { All (λ r. r < system.now.space.rates) rates.now }
     requires some { 1 ≤ length rates.now }
-    requires givens { IsProblem (problem_view givens.now) }
-    requires space { system.now.space ≡ givens.now.space }
     requires few_rows { rows ≤ 65535 }
-    requires few_givens { length givens.now.constraints.items ≤ 65535 }
     ensures { IfOk result (λ e. ReducedEnds (problem_view givens.now) budget rows system.now.rows.items [] rates.now (projected_view e)) }
 {
     let mut end = after_rate(alloc, system, rates[0], givens, rows, budget)?;
@@ -92,8 +87,8 @@ fn next_end(
     }
 }
 
-/// The rows that stay, as a system.
-fn kept_system(alloc: Global, space: Space, reduced: &Reduced) -> Result<System, AllocError>
+/// The rows that stay of a reduction, in order, as a system over this space.
+pub fn kept_system(alloc: Global, space: Space, reduced: &Reduced) -> Result<System, AllocError>
     ensures space { IfOk result (λ s. s.space ≡ space) }
     ensures rows { IfOk result (λ s. s.rows.items ≡ map (λ k. k.0) reduced.now.kept.items) }
 {
@@ -113,12 +108,9 @@ fn after_rate(
     rows: usize,
     budget: Budget,
 ) -> Result<Projected, AllocError>
-    requires system { IsSystem system.now }
+    requires system { IsSystemUnder (problem_view givens.now) system.now }
     requires rate { rate < system.now.space.rates }
-    requires givens { IsProblem (problem_view givens.now) }
-    requires space { system.now.space ≡ givens.now.space }
     requires few_rows { rows ≤ 65535 }
-    requires few_givens { length givens.now.constraints.items ≤ 65535 }
     ensures after { IfOk result (λ e. IsAfterRate (problem_view givens.now) budget rows system.now.rows.items rate (projected_view e)) }
     ensures rows { IfOk result (λ e. HasRowsUpTo (size_of givens.now.space) (projected_view e)) }
 {

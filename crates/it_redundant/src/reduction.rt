@@ -1,12 +1,12 @@
 //! Reduction of a list of rows.
 ghost use Rattle.std.specs.Prelude.{◌≡◌, [], ◌∷◌, ◌++◌, ◌+◌, ◌≤◌, length, map, OnOk, IfOk};
 ghost use Rattle.it_space.specs.Answers.{certificate_view};
-ghost use Rattle.it_space.specs.Problems.{IsProblem, IsSystem, problem_view};
+ghost use Rattle.it_space.specs.Problems.{IsProblem, problem_view};
 ghost use Rattle.it_space.specs.Rows.{IsUpTo};
 ghost use Rattle.it_space.specs.Spaces.{size_of};
 ghost use Rattle.it_prove.specs.ClosedProblems.{IsClosedProblem};
 ghost use Rattle.it_prove.specs.ProofViews.{proof_view};
-ghost use Rattle.it_redundant.specs.Reduction.{Reduces, dropped_by, dropped_view, kept_by, kept_rows, kept_view, need_view};
+ghost use Rattle.it_redundant.specs.Reduction.{IsSystemUnder, Reduces, dropped_by, dropped_view, kept_by, kept_rows, kept_view, need_view};
 ghost use Rattle.it_redundant.specs.ReductionSteps.{AreRowsUpTo, IsVisited};
 ghost use Rattle.it_redundant.specs.Theorems.{AreNeeded, HoldAlike};
 
@@ -25,11 +25,8 @@ pub fn reduce(
     givens: &Problem,
     budget: Budget,
 ) -> Result<Reduced, AllocError>
-    requires system { IsSystem system.now }
-    requires givens { IsProblem (problem_view givens.now) }
-    requires space { system.now.space ≡ givens.now.space }
+    requires system { IsSystemUnder (problem_view givens.now) system.now }
     requires few_rows { length system.now.rows.items ≤ 65535 }
-    requires few_givens { length givens.now.constraints.items ≤ 65535 }
     ensures reduces { IfOk result (λ r. Reduces (problem_view givens.now) budget [] system.now.rows.items (kept_view r) (dropped_view r)) }
     ensures alike { IfOk result (λ r. HoldAlike (problem_view givens.now) system.now.rows.items (kept_rows (kept_view r))) }
     ensures needed { IfOk result (λ r. AreNeeded (problem_view givens.now) (kept_view r)) }

@@ -2,14 +2,14 @@ use Rattle.it_space.specs.Problems.{problem_view}
 use Rattle.it_space.specs.Answers.{certificate_view}
 use Rattle.it_elemental.specs.Generators.{generators}
 use Rattle.it_closure.specs.Reading.{dependences_of}
-use Rattle.it_prove.proofs.LiftLemmas.{read_is, are_of_so, ordered_so, lift_given, lift_is, lift_certifies}
+use Rattle.it_prove.proofs.LiftLemmas.{read_is, are_dependences_of_so, ordered_so, lift_given, lift_is, lift_certifies}
 use Rattle.it_prove.proofs.proving.lifted_certificate.Goals as goal
 
 pub certificate-requires-clause-ordered : goal.certificate-requires-clause-ordered
 certificate-requires-clause-ordered c = ordered_so c.args.problem.now.space.variables (dependences_of (problem_view c.args.problem.now)) (generators (problem_view c.args.problem.now)) c.args.weights.now c.requires.sum.ordered
 
 pub lift-requires-clause-dependences : goal.lift-requires-clause-dependences
-lift-requires-clause-dependences c = are_of_so (problem_view c.args.problem.now) c.args.dependences.now c.requires.problem (read_is (problem_view c.args.problem.now) c.args.dependences.now c.requires.space c.requires.list)
+lift-requires-clause-dependences c = are_dependences_of_so (problem_view c.args.problem.now) c.args.dependences.now c.requires.problem (read_is (problem_view c.args.problem.now) c.args.dependences.now c.requires.space c.requires.list)
 
 pub lift-requires-clause-sums : goal.lift-requires-clause-sums
 lift-requires-clause-sums c = lift_given (problem_view c.args.problem.now) c.args.target.now c.requires.problem c.requires.target c.args.weights.now c.requires.sum c.in_ok-collapsed.ensures.fits

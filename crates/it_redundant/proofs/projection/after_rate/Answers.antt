@@ -3,5 +3,5 @@ use Rattle.it_redundant.proofs.ProjectionLemmas.{region_up}
 use Rattle.it_redundant.proofs.projection.after_rate.Goals as goal
 
 pub returns-in_ok-reduced-in-Region-clause-rows : goal.returns-in_ok-reduced-in-Region-clause-rows
-returns-in_ok-reduced-in-Region-clause-rows c = region_up (problem_view c.args.givens.now) c.args.budget c.args.rows c.args.system.now c.args.rate c.in_ok-end.end c.requires.space c.in_ok-end.ensures.ends c.in-Region.next c.in-Region.is
-    c.in_ok-reduced-in-Region.reduced c.requires.system.rows c.in_ok-reduced-in-Region.ensures.reduces
+returns-in_ok-reduced-in-Region-clause-rows c = region_up (problem_view c.args.givens.now) c.args.budget c.args.rows c.args.system.now c.args.rate c.in_ok-end.end c.requires.system.space c.in_ok-end.ensures.ends c.in-Region.next c.in-Region.is
+    c.in_ok-reduced-in-Region.reduced c.requires.system.system.rows c.in_ok-reduced-in-Region.ensures.reduces

@@ -3,7 +3,8 @@ use Rattle.std.proofs.lemmas.List.{drop_all, drop_more, length-drop, take_all}
 use Rattle.it_space.specs.Problems.{problem_view}
 use Rattle.it_space.specs.Rows.{IsUpTo}
 use Rattle.it_space.specs.Spaces.{size_of}
-use Rattle.it_redundant.specs.Reduction.{IsOutcome, kept_rows, kept_view, dropped_view}
+use Rattle.it_prove.specs.ProofViews.{EndsWith}
+use Rattle.it_redundant.specs.Reduction.{with_rows, kept_rows, kept_view, dropped_view}
 use Rattle.it_redundant.specs.ReductionSteps.{AreRowsUpTo}
 use Rattle.it_redundant.proofs.VisitLemmas.{rows_kept, under_way_end, under_way_more}
 use Rattle.it_redundant.proofs.reduction.reduced_rows.Goals as goal
@@ -21,7 +22,7 @@ loop-i-preserved c =
     let below : i < length rows = search rules in (
       under_way_more q c.args.budget size rows (kept_view c.loop-i.reduced) (kept_view c.visit.new.reduced) (dropped_view c.loop-i.reduced) (dropped_view c.visit.new.reduced) i row c.in_ok-visit.ensures.visited.outcome below
           (drop_more rows i row below ∙ ap (λ x. x ∷ drop (i + 1) rows) (sym c.index-rows-i.is)) (subst (IsUpTo size) (sym c.index-rows-i.is) (c.requires.rows i row below))
-          (subst (λ xs. IsOutcome q c.args.budget (kept_rows (kept_view c.loop-i.reduced) ++ xs) row c.in_ok-visit.ensures.visited.outcome) (take_all _ _ (simp length-drop (omega arith))) c.in_ok-visit.ensures.visited.is)
+          (subst (λ xs. EndsWith (with_rows q (kept_rows (kept_view c.loop-i.reduced) ++ xs)) row c.args.budget c.in_ok-visit.ensures.visited.outcome) (take_all _ _ (simp length-drop (omega arith))) c.in_ok-visit.ensures.visited.ends)
           c.in_ok-visit.ensures.visited.kept c.in_ok-visit.ensures.visited.dropped c.loop-i.invariant.0,
       c.in_ok-visit.ensures.closed,
     )

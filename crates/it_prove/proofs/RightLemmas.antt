@@ -1,0 +1,49 @@
+-- What a run ends with is right: of weights the lift certifies the target, and a point that is spread out refutes it.
+use Rattle.std.proofs.Common.{inl, inr, ℕ, List, Option, Result, Ok, Err, length, sym, subst}
+use Rattle.std.specs.Result.{IfOk}
+use Rattle.it_rational.specs.Rational.{Rational}
+use Rattle.it_rational.proofs.Field.{field_ℚ}
+use Rattle.it_space.specs.Problems.{ProblemView, IsProblem}
+use Rattle.it_space.specs.Rows.{Terms, IsUpTo}
+use Rattle.it_space.specs.Spaces.{size_of}
+use Rattle.it_tableau.specs.Problems.{feasibility_problem}
+use Rattle.it_run.specs.Runs.{RunEndView}
+use Rattle.it_run.specs.Runs.RunEndView.{Weights, Point, Pivots, Width}
+use Rattle.it_run.specs.Solving.{StepFits}
+use Rattle.it_run.proofs.BudgetLemmas.{right_by}
+use Rattle.it_run.proofs.RunLemmas.{EndIsRight}
+use Rattle.it_prove.specs.Closed.{closed_places, closed_generators, closed_target}
+use Rattle.it_prove.specs.Columns.{columns}
+use Rattle.it_prove.specs.ProofViews.{ProofView, Follows, Runs, EndsWith, IsRightProof, EndsAreRight, proof_view}
+use Rattle.it_prove.specs.declared.types.Proof.{Proof}
+use Rattle.it_prove.proofs.LiftLemmas.{lifted_certifies}
+use Rattle.it_prove.proofs.PointLemmas.{point_right}
+
+module _ (q : ProblemView) (target : Terms) where
+  -- weights sum to the collapsed target, and a point separates it from the columns
+  abbrev IsRightEnd : RunEndView (List (ℕ × Rational)) (List Rational) → Type 0
+  IsRightEnd end = EndIsRight field_ℚ (length (closed_places q)) (length (columns (closed_generators q))) (feasibility_problem (closed_places q) (columns (closed_generators q)) (closed_target q target)) end
+
+  right_run : (budget : Option ℕ) (end : RunEndView (List (ℕ × Rational)) (List Rational)) → Runs q target budget end → IsRightEnd end
+  right_run budget end (inl a) = subst IsRightEnd (sym a.1) tt
+  right_run budget end (inr (c, inl a)) = subst IsRightEnd (sym a.1) tt
+  right_run budget end (inr (c, inr a)) =
+      let m = length (closed_places q) in let n = length (columns (closed_generators q)) in
+      right_by field_ℚ m n (StepFits m n) (feasibility_problem (closed_places q) (columns (closed_generators q)) (closed_target q target)) budget end a.1
+
+  right_outcome : IsProblem q → IsUpTo (size_of q.space) target → (end : RunEndView (List (ℕ × Rational)) (List Rational)) (o : ProofView) → IsRightEnd end → Follows q target end o → IsRightProof q target o
+  right_outcome k u (Weights ws) o r (inl (w, lift, fit, is)) = subst (IsRightProof q target) (sym is) (lifted_certifies q target k u ws r fit.lifted.numbers w lift, fit.check)
+  right_outcome k u (Weights ws) o r (inr a) = subst (IsRightProof q target) (sym a.1) tt
+  right_outcome k u (Point qs) o r (inl a) = subst (IsRightProof q target) (sym a.1) (point_right q target qs k u r, a.0.check)
+  right_outcome k u (Point qs) o r (inr a) = subst (IsRightProof q target) (sym a.1) tt
+  right_outcome k u (Pivots j) o r e = subst (IsRightProof q target) (sym e) tt
+  right_outcome k u (Width j) o r e = subst (IsRightProof q target) (sym e) tt
+
+pub ends_are_right : EndsAreRight
+ends_are_right q target budget o k u e = right_outcome q target k u e.end o (right_run q target budget e.end e.run) e.follows
+
+-- so is what the code gives
+pub right_result : {E : Type 0} (q : ProblemView) (target : Terms) (budget : Option ℕ) (r : Result Proof E) → IsProblem q → IsUpTo (size_of q.space) target
+    → IfOk r (λ proof. EndsWith q target budget (proof_view proof)) → IfOk r (λ proof. IsRightProof q target (proof_view proof))
+right_result q target budget (Err e) k u h = tt
+right_result q target budget (Ok proof) k u h = ends_are_right q target budget (proof_view proof) k u h
