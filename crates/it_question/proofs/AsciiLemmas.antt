@@ -12,23 +12,24 @@ use Rattle.it_syntax.specs.declared.types.Symbol.TheVariants.{LeftParen, RightPa
 use Rattle.it_syntax.specs.declared.types.Token.{Token}
 use Rattle.it_syntax.specs.declared.types.TokenKind.{TokenKind}
 use Rattle.it_syntax.specs.declared.types.TokenKind.TheVariants as kinds
-use Rattle.it_syntax.specs.Letters.{Letter, Word, Number, Sym, End, Bad, Marked, clean, letters, clean_all}
+use Rattle.it_syntax.specs.Letters.{Letter, Word, Number, Sym, End, Bad, MarkedLetters, unmarked, letters, unmarked_all}
 use Rattle.it_syntax.specs.Misspellings.{SpellsUntil}
 use Rattle.it_syntax.specs.NamesViews.{NamesView}
 use Rattle.it_syntax.specs.Spans.{letter_of, letters_until, last_letter}
 use Rattle.it_syntax.specs.Spelling.{is_word_byte, is_space, symbol_text, AreAll, IsText}
 use Rattle.it_syntax.specs.WrittenAtoms.{WrittenList}
+use Rattle.it_syntax.proofs.RunLemmas.{value_digits}
 use Rattle.it_question.specs.AsciiTexts.{IsAsciiQuestion, TextsAreAscii}
 use Rattle.it_question.specs.Keywords.{vars_text, rates_text}
 use Rattle.it_question.specs.Lines.{TokenLine, split_lines, file_end, line_letters, letters_of_lines}
 use Rattle.it_question.specs.NewNames.{Sort, Variable, Rate, with_name, no_names, spell_new_more, spell_new_names, with_names, new_names_of, spell_names_line, names_line_of}
 use Rattle.it_question.specs.Questions.{QuestionView}
-use Rattle.it_question.specs.Texts.{without_leading, unless_blank, without_trailing, trimmed_line, text_of_lines, question_lines, with_texts}
+use Rattle.it_question.specs.Texts.{without_leading, unless_blank, without_trailing, trimmed_line, text_of_lines, question_line_count, with_texts}
 use Rattle.it_question.specs.WrittenLines.{limit_mark}
 use Rattle.it_question.specs.WrittenQuestions.{WrittenQuestion, most_questions, most_variables, most_rates}
 use Rattle.it_question.specs.WrittenFiles.{names_of, spell_question, question_of, spell_questions, questions_of}
 use Rattle.it_question.proofs.CleanLetters.{clean_parts}
-use Rattle.it_question.proofs.LineParts.{AreWhole, AreSound, lines_sound, parted}
+use Rattle.it_question.proofs.LineParts.{AreWhole, AreSound, lines_sound, letters_of_first_lines}
 use Rattle.it_question.proofs.LinePuts.{question_puts}
 
 -- ---- bytes of tokens
@@ -70,7 +71,7 @@ symbol_ascii Assign = two_ascii 58 61 (omega arith) (omega arith)
 
 text_ascii : (k : TokenKind) (text : List ℕ) → IsText k text → IsAscii text
 text_ascii kinds.Word text h = all_ascii is_word_byte word_byte_below text h.1
-text_ascii (kinds.Number n) text h = all_ascii is_ascii_digit digit_below text h.1
+text_ascii (kinds.Number n) text h = all_ascii is_ascii_digit digit_below text (value_digits 0 text n h.1)
 text_ascii (kinds.Symbol s) text h = subst IsAscii (sym h) (symbol_ascii s)
 
 -- a line of tokens alone
@@ -158,45 +159,45 @@ name_ascii Variable v w a h = record { variables = All-append IsAscii v.variable
 name_ascii Rate v w a h = record { variables = a.variables; rates = All-append IsAscii v.rates (w ∷ []) a.rates (one_name w h) }
 
 -- the names with further ones, where the words of their spelling are ASCII, and those that follow
-abbrev Spelled : NamesView → Marked → Type 0
+abbrev Spelled : NamesView → MarkedLetters → Type 0
 Spelled v k = AsciiNames v × AsciiWords (letters k)
 
-more_spelled : (sort : Sort) (n : ℕ) (v : NamesView) (ws : List (List ℕ)) (k : Marked) → AsciiNames v → AsciiWords (letters (spell_new_more sort n v ws k)) → Spelled (with_names sort v ws) k
+more_spelled : (sort : Sort) (n : ℕ) (v : NamesView) (ws : List (List ℕ)) (k : MarkedLetters) → AsciiNames v → AsciiWords (letters (spell_new_more sort n v ws k)) → Spelled (with_names sort v ws) k
 more_spelled sort n v [] k a h = (a, h)
 more_spelled sort n v (w ∷ ws) k a h = more_spelled sort (n - 1) (with_name sort v w) ws k (name_ascii sort v w a h.0) h.1
 
-new_spelled : (sort : Sort) (n : ℕ) (v : NamesView) (l : WrittenList) (k : Marked) → AsciiNames v → AsciiWords (letters (spell_new_names sort n v l k)) → Spelled (new_names_of sort v l) k
+new_spelled : (sort : Sort) (n : ℕ) (v : NamesView) (l : WrittenList) (k : MarkedLetters) → AsciiNames v → AsciiWords (letters (spell_new_names sort n v l k)) → Spelled (new_names_of sort v l) k
 new_spelled sort n v l k a h = more_spelled sort (n - 1) (with_name sort v l.first) l.more k (name_ascii sort v l.first a h.0) h.1
 
-line_spelled : (sort : Sort) (n : ℕ) (keyword : List ℕ) (v : NamesView) (o : Option WrittenList) (k : Marked) → AsciiNames v → AsciiWords (letters (spell_names_line sort n keyword v o k)) → AsciiNames (names_line_of sort v o)
+line_spelled : (sort : Sort) (n : ℕ) (keyword : List ℕ) (v : NamesView) (o : Option WrittenList) (k : MarkedLetters) → AsciiNames v → AsciiWords (letters (spell_names_line sort n keyword v o k)) → AsciiNames (names_line_of sort v o)
 line_spelled sort n keyword v None k a h = a
-line_spelled sort n keyword v (Some l) k a h = (new_spelled sort n v l (clean End ∷ k) a h.1).0
+line_spelled sort n keyword v (Some l) k a h = (new_spelled sort n v l (unmarked End ∷ k) a h.1).0
 
 no_names_ascii : AsciiNames no_names
 no_names_ascii = record { variables = All-nil IsAscii; rates = All-nil IsAscii }
 
-names_ascii : (x : WrittenQuestion) (k : Marked) → AsciiWords (letters (spell_question x k)) → AsciiNames (names_of x)
+names_ascii : (x : WrittenQuestion) (k : MarkedLetters) → AsciiWords (letters (spell_question x k)) → AsciiNames (names_of x)
 names_ascii x k h =
     let first = new_spelled Variable most_variables no_names x.variables _ no_names_ascii h in
     line_spelled Rate most_rates rates_text (new_names_of Variable no_names x.variables) x.rates _ first.0 first.1
 
 -- ---- files
 
-all_questions : (n : ℕ) (xs : List WrittenQuestion) (lines : List TokenLine) → spell_questions n xs (clean file_end ∷ []) ≡ clean_all (letters_of_lines lines) → AreSound lines → All IsAsciiQuestion (with_texts lines (questions_of xs))
+all_questions : (n : ℕ) (xs : List WrittenQuestion) (lines : List TokenLine) → spell_questions n xs (unmarked file_end ∷ []) ≡ unmarked_all (letters_of_lines lines) → AreSound lines → All IsAsciiQuestion (with_texts lines (questions_of xs))
 all_questions n [] lines e s = All-nil IsAsciiQuestion
 all_questions n (x ∷ xs) lines e s =
-    let i = question_lines (question_of x) in
-    let k = spell_questions (n - 1) xs (clean file_end ∷ []) in
+    let i = question_line_count (question_of x) in
+    let k = spell_questions (n - 1) xs (unmarked file_end ∷ []) in
     let p = question_puts (limit_mark n) x in
     let c = clean_parts p.front k (letters_of_lines lines) (sym (p.is k) ∙ e) in
-    let d = parted i lines (letters p.front) (letters k) p.kind c.all s in
+    let d = letters_of_first_lines i lines (letters p.front) (letters k) p.kind c.all s in
     let same : letters_of_lines (take i lines) ≡ letters ((Word vars_text, limit_mark n) ∷ spell_question x []) = d.front ∙ ap letters (sym (append-nil p.front) ∙ sym (p.is [])) in
     let words : AsciiWords (letters ((Word vars_text, limit_mark n) ∷ spell_question x [])) = subst AsciiWords same (lines_words (take i lines) d.whole) in
     let names = names_ascii x [] words.1 in
     let q : QuestionView = record { body = question_of x; text = text_of_lines (take i lines) } in
     let first : IsAsciiQuestion q = record { text = lines_ascii (take i lines) d.whole; variables = names.variables; rates = names.rates } in
     All-cons IsAsciiQuestion q (with_texts (drop i lines) (questions_of xs)) first
-    (all_questions (n - 1) xs (drop i lines) (c.behind ∙ ap clean_all (sym d.behind)) d.sound)
+    (all_questions (n - 1) xs (drop i lines) (c.behind ∙ ap unmarked_all (sym d.behind)) d.sound)
 
 pub texts_are_ascii : TextsAreAscii
 texts_are_ascii bytes qs f = subst (All IsAsciiQuestion) f.are (all_questions most_questions f.trees f.lines f.spelled (lines_sound 1 (split_lines bytes) f.lines f.cut))

@@ -3,7 +3,7 @@ use Rattle.std.proofs.Common.{◌≡◌, ℕ, Bool, true, false, cond, List, [],
 use Rattle.it_syntax.specs.declared.types.Symbol.TheVariants.{Comma}
 use Rattle.it_syntax.specs.declared.types.Code.{Code}
 use Rattle.it_syntax.specs.declared.types.Code.TheVariants as codes
-use Rattle.it_syntax.specs.Letters.{Letter, Word, Sym, Marked, clean}
+use Rattle.it_syntax.specs.Letters.{Letter, Word, Sym, MarkedLetters, unmarked}
 use Rattle.it_syntax.specs.FirstFault.{own_code}
 use Rattle.it_syntax.specs.AtomReading.{Reads, ◌>>=◌}
 use Rattle.it_syntax.specs.WrittenAtoms.{Environment, WrittenList, is_measure, index_or}
@@ -19,13 +19,13 @@ once_is : (env : Environment) (seen : List ℕ) (w : List ℕ) (h : Bool) (o : O
 unfolding read_once
 once_is env seen w h o e ls = ap (λ (b : Bool). rate_once b seen (env w) w ls) e.0 ∙ ap (λ (p : Option ℕ). rate_once h seen p w ls) e.1
 
-mark_is : (env : Environment) (seen : List ℕ) (w : List ℕ) (h : Bool) (o : Option ℕ) → IsJudged env w h o → (k : Marked) → spell_once env seen w k ≡ (Word w, once_mark h seen o) ∷ k
+mark_is : (env : Environment) (seen : List ℕ) (w : List ℕ) (h : Bool) (o : Option ℕ) → IsJudged env w h o → (k : MarkedLetters) → spell_once env seen w k ≡ (Word w, once_mark h seen o) ∷ k
 mark_is env seen w h o e k = ap (λ (b : Bool). (Word w, once_mark b seen (env w)) ∷ k) e.0 ∙ ap (λ (p : Option ℕ). (Word w, once_mark h seen p) ∷ k) e.1
 
 known_is : (env : Environment) (seen : List ℕ) (w : List ℕ) (i : ℕ) (b : Bool) → IsJudged env w false (Some i) → is_among seen i ≡ b → (ls : List Letter) → read_once env seen (Word w ∷ ls) ≡ if_unseen i w b ls (Word w ∷ ls)
 known_is env seen w i b e eb ls = once_is env seen w false (Some i) e ls ∙ ap (λ (x : Bool). if_unseen i w x ls (Word w ∷ ls)) eb
 
-known_mark : (env : Environment) (seen : List ℕ) (w : List ℕ) (i : ℕ) (b : Bool) → IsJudged env w false (Some i) → is_among seen i ≡ b → (k : Marked) → spell_once env seen w k ≡ (Word w, cond b (Some codes.Twice) None) ∷ k
+known_mark : (env : Environment) (seen : List ℕ) (w : List ℕ) (i : ℕ) (b : Bool) → IsJudged env w false (Some i) → is_among seen i ≡ b → (k : MarkedLetters) → spell_once env seen w k ≡ (Word w, cond b (Some codes.Twice) None) ∷ k
 known_mark env seen w i b e eb k = mark_is env seen w false (Some i) e k ∙ ap (λ (x : Bool). (Word w, cond x (Some codes.Twice) None) ∷ k) eb
 
 known_by : (env : Environment) (seen : List ℕ) (w : List ℕ) (ls : List Letter) (i : ℕ) (b : Bool) → IsJudged env w false (Some i) → is_among seen i ≡ b → By (read_once env seen) (spell_once env seen) (number_of env) (Word w ∷ ls) (if_unseen i w b ls (Word w ∷ ls))
@@ -65,7 +65,7 @@ unfolding read_once_more read_once
 more_is env seen w s t e = ap (with_rate env seen s) e
 
 -- the rate behind the comma is marked
-more_marked : (env : Environment) (seen : List ℕ) (w : List ℕ) (ls : List Letter) (c : Code) → ((k : Marked) → spell_once env seen w k ≡ (Word w, Some c) ∷ k) → ((s : List Letter) → read_once env seen (Word w ∷ s) ≡ Err (c, Word w ∷ s)) → Stuck (read_once_more env seen) (spell_once_more env seen) (Sym Comma ∷ Word w ∷ ls) c (Word w ∷ ls)
+more_marked : (env : Environment) (seen : List ℕ) (w : List ℕ) (ls : List Letter) (c : Code) → ((k : MarkedLetters) → spell_once env seen w k ≡ (Word w, Some c) ∷ k) → ((s : List Letter) → read_once env seen (Word w ∷ s) ≡ Err (c, Word w ∷ s)) → Stuck (read_once_more env seen) (spell_once_more env seen) (Sym Comma ∷ Word w ∷ ls) c (Word w ∷ ls)
 more_marked env seen w ls c h e = record {
   tree = w ∷ [];
   front = Sym Comma ∷ [];
@@ -82,14 +82,14 @@ more_known env seen w ls i e eb (Ok x) b = record {
   front = Sym Comma ∷ Word w ∷ b.front;
   value = ap (λ (p : Option ℕ). index_or p ∷ indexes_of env b.tree) e.1 ∙ ap (λ (more : List ℕ). i ∷ more) b.value;
   parts = ap (λ (s : List Letter). Sym Comma ∷ Word w ∷ s) b.parts;
-  spells = λ k. ap (λ (q : Marked). clean (Sym Comma) ∷ q) (known_mark env seen w i false e eb (spell_once_more env (seen ++ index_or (env w) ∷ []) b.tree k)) ∙ ap (λ (p : Option ℕ). clean (Sym Comma) ∷ clean (Word w) ∷ spell_once_more env (seen ++ index_or p ∷ []) b.tree k) e.1 ∙ ap (λ (q : Marked). clean (Sym Comma) ∷ clean (Word w) ∷ q) (b.spells k);
+  spells = λ k. ap (λ (q : MarkedLetters). unmarked (Sym Comma) ∷ q) (known_mark env seen w i false e eb (spell_once_more env (seen ++ index_or (env w) ∷ []) b.tree k)) ∙ ap (λ (p : Option ℕ). unmarked (Sym Comma) ∷ unmarked (Word w) ∷ spell_once_more env (seen ++ index_or p ∷ []) b.tree k) e.1 ∙ ap (λ (q : MarkedLetters). unmarked (Sym Comma) ∷ unmarked (Word w) ∷ q) (b.spells k);
   stays = λ s h. more_is env seen w (b.front ++ s) (Ok (i, b.front ++ s)) (known_is env seen w i false e eb (b.front ++ s)) ∙ ap (behind_rate i) (b.stays s h);
 }
 more_known env seen w ls i e eb (Err x) b = record {
   tree = w ∷ b.tree;
   front = Sym Comma ∷ Word w ∷ b.front;
   parts = ap (λ (s : List Letter). Sym Comma ∷ Word w ∷ s) b.parts;
-  spells = λ k. let q = b.spells k in (q.0, (ap (λ (q : Marked). clean (Sym Comma) ∷ q) (known_mark env seen w i false e eb (spell_once_more env (seen ++ index_or (env w) ∷ []) b.tree k)) ∙ ap (λ (p : Option ℕ). clean (Sym Comma) ∷ clean (Word w) ∷ spell_once_more env (seen ++ index_or p ∷ []) b.tree k) e.1 ∙ ap (λ (q : Marked). clean (Sym Comma) ∷ clean (Word w) ∷ q) q.1.0, q.1.1));
+  spells = λ k. let q = b.spells k in (q.0, (ap (λ (q : MarkedLetters). unmarked (Sym Comma) ∷ q) (known_mark env seen w i false e eb (spell_once_more env (seen ++ index_or (env w) ∷ []) b.tree k)) ∙ ap (λ (p : Option ℕ). unmarked (Sym Comma) ∷ unmarked (Word w) ∷ spell_once_more env (seen ++ index_or p ∷ []) b.tree k) e.1 ∙ ap (λ (q : MarkedLetters). unmarked (Sym Comma) ∷ unmarked (Word w) ∷ q) q.1.0, q.1.1));
   stays = λ s h. more_is env seen w (b.front ++ s) (Ok (i, b.front ++ s)) (known_is env seen w i false e eb (b.front ++ s)) ∙ ap (behind_rate i) (b.stays s h);
 }
 

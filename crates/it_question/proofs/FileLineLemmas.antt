@@ -2,7 +2,7 @@
 use Rattle.std.proofs.Common.{◌≡◌, ℕ, suc, ◌+◌, ◌≤◌, ◌==◌, Bool, true, false, cond, List, [], ◌∷◌, ◌++◌, length, refl, sym, ap, ◌∙◌, subst, inl, inr, append_assoc, arith}
 use Rattle.std.proofs.lemmas.List.{length-map}
 use Rattle.it_question.specs.Lines.{TokenLine, AreLines, without_return, before_comment, without_tab, plain_text}
-use Rattle.it_question.specs.ReaderSteps.{Added}
+use Rattle.it_question.specs.ReaderSteps.{IsLineAdded}
 
 return_shorter : (line : List ℕ) → length (without_return line) ≤ length line
 return_shorter [] = omega arith
@@ -29,7 +29,7 @@ plain_shorter line = omega (arith, length-map (before_comment (without_return li
 abbrev pub GoOn : ℕ → List (List ℕ) → List (List ℕ) → List TokenLine → Type 0
 GoOn n whole more old = (rest : List TokenLine) → AreLines n more rest → AreLines 1 whole (old ++ rest)
 
-pub goes_on : (n : ℕ) (whole more : List (List ℕ)) (bytes : List ℕ) (old new : List TokenLine) → GoOn n whole (bytes ∷ more) old → Added n bytes old new → GoOn (n + 1) whole more new
+pub goes_on : (n : ℕ) (whole more : List (List ℕ)) (bytes : List ℕ) (old new : List TokenLine) → GoOn n whole (bytes ∷ more) old → IsLineAdded n bytes old new → GoOn (n + 1) whole more new
 goes_on n whole more bytes old new h (inl a) rest r = subst (λ (t : List TokenLine). AreLines 1 whole (t ++ rest)) (sym a.1) (h rest (inl (a.0, r)))
 goes_on n whole more bytes old new h (inr a) rest r =
     let e : new ++ rest ≡ old ++ a.0 ∷ rest = ap (λ (t : List TokenLine). t ++ rest) a.1 ∙ append_assoc old (a.0 ∷ []) rest in

@@ -18,9 +18,9 @@ use Rattle.it_question.specs.Lines.{TokenLine, AreLinesOf, letters_of_lines}
 use Rattle.it_question.specs.Limits.{IsQuestion}
 use Rattle.it_question.specs.Questions.{BodyView, QuestionView, question_body, question_view}
 use Rattle.it_question.specs.Reading.{read_file}
-use Rattle.it_question.specs.WrittenFiles.{spell_file}
-use Rattle.it_question.specs.Texts.{question_lines, with_texts}
-use Rattle.it_question.proofs.FileLemmas.{read_asks, read_stops}
+use Rattle.it_question.specs.WrittenFiles.{spell_file, questions_of}
+use Rattle.it_question.specs.Texts.{question_line_count, with_texts}
+use Rattle.it_question.proofs.FileLemmas.{read_asks, asks_read, read_stops}
 use Rattle.it_question.proofs.LimitLemmas.{file_limited}
 use Rattle.it_question.proofs.LetterLemmas.{letters_bound, places_length}
 use Rattle.it_question.proofs.ExistenceLemmas.{letters_left}
@@ -34,7 +34,7 @@ file_read bytes lines ys r qs cut e are =
 -- the questions with their texts are those that were read
 body_again : (lines : List TokenLine) (ys : List BodyView) → map (λ (q : QuestionView). q.body) (with_texts lines ys) ≡ ys
 body_again lines [] = refl
-body_again lines (y ∷ ys) = ap (λ (qs : List BodyView). y ∷ qs) (body_again (drop (question_lines y) lines) ys)
+body_again lines (y ∷ ys) = ap (λ (qs : List BodyView). y ∷ qs) (body_again (drop (question_line_count y) lines) ys)
 
 -- what holds of each of some values holds of what they are made from
 from_map : {X Y : Type 0} (P : Y → Type 0) (f : X → Y) (xs : List X) → All P (map f xs) → All (λ x. P (f x)) xs
@@ -52,6 +52,13 @@ questions_limited qs lines ys r e are =
     map_twice : (qs : List Question) → map question_body qs ≡ map (λ (q : QuestionView). q.body) (map question_view qs)
     map_twice [] = refl
     map_twice (q ∷ qs) = ap (λ (xs : List BodyView). question_body q ∷ xs) (map_twice qs)
+
+-- the questions of a file keep the limits
+pub file_limits : (bytes : List ℕ) (qs : List QuestionView) → IsFile bytes qs → All (λ (q : QuestionView). IsQuestion q.body) qs
+file_limits bytes qs f =
+    let bodies = questions_of f.trees in
+    from_map IsQuestion (λ (q : QuestionView). q.body) qs (subst (All IsQuestion) (sym (body_again f.lines bodies) ∙ ap (map (λ (q : QuestionView). q.body)) f.are)
+    (file_limited (letters_of_lines f.lines) [] bodies (asks_read (letters_of_lines f.lines) f.trees f.spelled)))
 
 -- ---- a fault
 

@@ -4,7 +4,7 @@ use Rattle.std.specs.Prelude.{bytes_eq}
 use Rattle.std.proofs.lemmas.Slice.Eq.{bytes_eq-Decides}
 use Rattle.it_syntax.specs.declared.types.Code.TheVariants as codes
 use Rattle.it_syntax.specs.NamesViews.{NamesView}
-use Rattle.it_syntax.specs.Letters.{Letter, Word, End, Bad, Marked, clean}
+use Rattle.it_syntax.specs.Letters.{Letter, Word, End, Bad, MarkedLetters, unmarked}
 use Rattle.it_syntax.specs.FirstFault.{head}
 use Rattle.it_syntax.specs.Lines.{to_end}
 use Rattle.it_syntax.specs.AtomReading.{Reads, ◌>>=◌}
@@ -15,6 +15,7 @@ use Rattle.it_syntax.specs.RelationReading.{read_relation}
 use Rattle.it_syntax.proofs.Traces.{By, Traces, traces_bind, traces_map, letter_then, switch, by_renaming}
 use Rattle.it_syntax.proofs.AtomTraces.{stuck_here, stuck_none}
 use Rattle.it_syntax.proofs.RelationTraces.{relation_traces}
+use Rattle.it_syntax.proofs.LineEnd.{to_end_traces}
 use Rattle.it_question.specs.Lines.{file_end}
 use Rattle.it_question.specs.Keywords.{vars_text, rates_text, region_text, prove_text, eliminate_text}
 use Rattle.it_question.specs.Questions.{OwnLinesView, VerbView, BodyView}
@@ -25,7 +26,7 @@ use Rattle.it_question.specs.WrittenLines.{spell_own, own_of, spell_distinct, di
 use Rattle.it_question.specs.WrittenRegions.{givens_left, rows_left, containment_of}
 use Rattle.it_question.specs.WrittenFiles.{spell_verb, verb_of, spell_question, question_of, spell_questions, questions_of}
 use Rattle.it_question.specs.Reading.{behind_word, read_new_names, read_names_line, read_lines, read_distinct, read_containment, read_proof, read_elimination, read_verb, read_question, read_end, question_then, if_question, read_questions, read_file}
-use Rattle.it_question.proofs.NameTraces.{ended_traces, marked_here, at_word, behind_traced, new_names_traces, names_line_traces}
+use Rattle.it_question.proofs.NameTraces.{marked_here, at_word, behind_traced, new_names_traces, names_line_traces}
 use Rattle.it_question.proofs.LineTraces.{some_relation, lines_traces}
 use Rattle.it_question.proofs.DistinctTraces.{distinct_traces}
 use Rattle.it_question.proofs.RegionAnswers.{spell_contained}
@@ -33,21 +34,21 @@ use Rattle.it_question.proofs.RegionTraces.{containment_traces}
 
 -- ---- aims
 
-abbrev pub spell_proof : NamesView → WrittenRelation → Marked → Marked
-spell_proof v x k = spell_relation (scope_of v true) x (clean End ∷ k)
+abbrev pub spell_proof : NamesView → WrittenRelation → MarkedLetters → MarkedLetters
+spell_proof v x k = spell_relation (scope_of v true) x (unmarked End ∷ k)
 
 -- behind `prove`
 pub proof_traces : (v : NamesView) → Traces (read_proof v) (spell_proof v) (λ x. views.Prove (relation_of (scope_of v true) x))
 unfolding read_proof
-proof_traces v = traces_map (to_end (read_relation (scope_of v true))) views.Prove (spell_proof v) (relation_of (scope_of v true)) (ended_traces (read_relation (scope_of v true)) (spell_relation (scope_of v true)) (relation_of (scope_of v true)) (relation_traces (scope_of v true)))
+proof_traces v = traces_map (to_end (read_relation (scope_of v true))) views.Prove (spell_proof v) (relation_of (scope_of v true)) (to_end_traces (read_relation (scope_of v true)) (spell_relation (scope_of v true)) (relation_of (scope_of v true)) (relation_traces (scope_of v true)))
 
-abbrev pub spell_elimination : NamesView → WrittenList → Marked → Marked
-spell_elimination v l k = spell_distinct (rates_env v) l (clean End ∷ k)
+abbrev pub spell_elimination : NamesView → WrittenList → MarkedLetters → MarkedLetters
+spell_elimination v l k = spell_distinct (rates_env v) l (unmarked End ∷ k)
 
 -- behind `eliminate`
 pub elimination_traces : (v : NamesView) → Traces (read_elimination v) (spell_elimination v) (λ l. views.Eliminate (distinct_of (rates_env v) l))
 unfolding read_elimination
-elimination_traces v = traces_map (to_end (read_distinct (rates_env v))) views.Eliminate (spell_elimination v) (distinct_of (rates_env v)) (ended_traces (read_distinct (rates_env v)) (spell_distinct (rates_env v)) (distinct_of (rates_env v)) (distinct_traces (rates_env v)))
+elimination_traces v = traces_map (to_end (read_distinct (rates_env v))) views.Eliminate (spell_elimination v) (distinct_of (rates_env v)) (to_end_traces (read_distinct (rates_env v)) (spell_distinct (rates_env v)) (distinct_of (rates_env v)) (distinct_traces (rates_env v)))
 
 abbrev verb_by_word : ℕ → ℕ → NamesView → List ℕ → List Letter → Bool → Bool → Bool → Reads VerbView
 verb_by_word g r v w ls h i j = cond h (read_proof v ls) (cond i (read_elimination v ls) (cond j (read_containment g r v ls) (Err (codes.Word, Word w ∷ ls))))
@@ -61,11 +62,11 @@ some_verb = Prove some_relation
 
 verb_by : (g r : ℕ) (v : NamesView) (w : List ℕ) (ls : List Letter) (h i j : Bool) → bytes_eq w prove_text ≡ h → bytes_eq w eliminate_text ≡ i → bytes_eq w region_text ≡ j → By (read_verb g r v) (spell_verb g r v) (verb_of v) (Word w ∷ ls) (verb_by_word g r v w ls h i j)
 verb_by g r v w ls true i j eh ei ej = letter_then (read_verb g r v) (read_proof v) (Word w) (spell_proof v) (spell_verb g r v) (λ x. views.Prove (relation_of (scope_of v true) x)) (verb_of v) Prove ls (verb_is g r v w true i j eh ei ej)
-    (λ z k. ap (λ (t : List ℕ). clean (Word t) ∷ spell_proof v z k) (sym ((bytes_eq-Decides w prove_text).0 eh))) (λ z. refl) (read_proof v ls) (proof_traces v ls)
+    (λ z k. ap (λ (t : List ℕ). unmarked (Word t) ∷ spell_proof v z k) (sym ((bytes_eq-Decides w prove_text).0 eh))) (λ z. refl) (read_proof v ls) (proof_traces v ls)
 verb_by g r v w ls false true j eh ei ej = letter_then (read_verb g r v) (read_elimination v) (Word w) (spell_elimination v) (spell_verb g r v) (λ l. views.Eliminate (distinct_of (rates_env v) l)) (verb_of v) Eliminate ls (verb_is g r v w false true j eh ei ej)
-    (λ z k. ap (λ (t : List ℕ). clean (Word t) ∷ spell_elimination v z k) (sym ((bytes_eq-Decides w eliminate_text).0 ei))) (λ z. refl) (read_elimination v ls) (elimination_traces v ls)
+    (λ z k. ap (λ (t : List ℕ). unmarked (Word t) ∷ spell_elimination v z k) (sym ((bytes_eq-Decides w eliminate_text).0 ei))) (λ z. refl) (read_elimination v ls) (elimination_traces v ls)
 verb_by g r v w ls false false true eh ei ej = letter_then (read_verb g r v) (read_containment g r v) (Word w) (spell_contained g r v) (spell_verb g r v) (containment_of v) (verb_of v) Contain ls (verb_is g r v w false false true eh ei ej)
-    (λ z k. ap (λ (t : List ℕ). clean (Word t) ∷ spell_contained g r v z k) (sym ((bytes_eq-Decides w region_text).0 ej))) (λ z. refl) (read_containment g r v ls) (containment_traces g r v ls)
+    (λ z k. ap (λ (t : List ℕ). unmarked (Word t) ∷ spell_contained g r v z k) (sym ((bytes_eq-Decides w region_text).0 ej))) (λ z. refl) (read_containment g r v ls) (containment_traces g r v ls)
 verb_by g r v w ls false false false eh ei ej = stuck_here (read_verb g r v) (spell_verb g r v) some_verb (Word w) ls codes.Word (verb_is g r v w false false false eh ei ej) refl
 
 -- what a question wants, where g and r lines may still stand in its regions
@@ -90,10 +91,10 @@ Body = List WrittenLine × WrittenVerb
 abbrev read_body : NamesView → List Letter → Reads BodyView
 read_body v ls = read_lines most_lines most_lines v ls >>= λ own. verb_then v own.0 own.1
 
-abbrev spell_left : NamesView → OwnLinesView → WrittenVerb → Marked → Marked
+abbrev spell_left : NamesView → OwnLinesView → WrittenVerb → MarkedLetters → MarkedLetters
 spell_left v own x k = spell_verb (givens_left most_lines own) (rows_left most_lines own) v x k
 
-abbrev spell_body : NamesView → Body → Marked → Marked
+abbrev spell_body : NamesView → Body → MarkedLetters → MarkedLetters
 spell_body v x k = spell_own most_lines most_lines v x.0 (spell_left v (own_of v x.0) x.1 k)
 
 abbrev body_of : NamesView → Body → BodyView
@@ -113,7 +114,7 @@ Rest = Option WrittenList × Body
 abbrev read_rest : NamesView → List Letter → Reads BodyView
 read_rest v ls = read_names_line Rate most_rates rates_text v ls >>= λ names. read_body names.0 names.1
 
-abbrev spell_rest : NamesView → Rest → Marked → Marked
+abbrev spell_rest : NamesView → Rest → MarkedLetters → MarkedLetters
 spell_rest v x k = spell_names_line Rate most_rates rates_text v x.0 (spell_body (names_line_of Rate v x.0) x.1 k)
 
 abbrev rest_of : NamesView → Rest → BodyView
@@ -129,8 +130,8 @@ question_made l x = record { variables = l; rates = x.0; own = x.1.0; verb = x.1
 -- a question behind its word `vars`
 pub question_traces : Traces read_question spell_question question_of
 unfolding read_question
-question_traces = traces_bind (to_end (read_new_names Variable most_variables no_names)) read_rest read_question (λ l k. spell_new_names Variable most_variables no_names l (clean End ∷ k)) spell_rest spell_question (new_names_of Variable no_names) rest_of question_of question_made
-    (record { is = λ ls. refl; spells = λ y z k. refl; value = λ y z. refl; some = (None, some_body); first = ended_traces (read_new_names Variable most_variables no_names) (spell_new_names Variable most_variables no_names) (new_names_of Variable no_names) (new_names_traces Variable most_variables no_names); second = rest_traces })
+question_traces = traces_bind (to_end (read_new_names Variable most_variables no_names)) read_rest read_question (λ l k. spell_new_names Variable most_variables no_names l (unmarked End ∷ k)) spell_rest spell_question (new_names_of Variable no_names) rest_of question_of question_made
+    (record { is = λ ls. refl; spells = λ y z k. refl; value = λ y z. refl; some = (None, some_body); first = to_end_traces (read_new_names Variable most_variables no_names) (spell_new_names Variable most_variables no_names) (new_names_of Variable no_names) (new_names_traces Variable most_variables no_names); second = rest_traces })
 
 some_question : WrittenQuestion
 some_question = record { variables = record { first = 88 ∷ []; more = [] }; rates = None; own = []; verb = some_verb }
@@ -138,27 +139,27 @@ some_question = record { variables = record { first = 88 ∷ []; more = [] }; ra
 -- ---- files
 
 -- questions, of which n are allowed, and the file's end
-abbrev pub spell_to_end : ℕ → List WrittenQuestion → Marked → Marked
-spell_to_end n xs k = spell_questions n xs (clean file_end ∷ k)
+abbrev pub spell_to_end : ℕ → List WrittenQuestion → MarkedLetters → MarkedLetters
+spell_to_end n xs k = spell_questions n xs (unmarked file_end ∷ k)
 
 -- the file's end
-pub file_end_traces : Traces read_end (λ (u : Unit {0}) k. clean file_end ∷ k) (λ u. [])
+pub file_end_traces : Traces read_end (λ (u : Unit {0}) k. unmarked file_end ∷ k) (λ u. [])
 unfolding read_end
 file_end_traces (Bad codes.Unfinished ∷ ls) = record { tree = tt; front = file_end ∷ []; value = refl; parts = refl; spells = λ k. refl; stays = λ s e. refl }
-file_end_traces [] = stuck_none read_end (λ (u : Unit {0}) k. clean file_end ∷ k) tt refl
-file_end_traces (l ∷ ls) = stuck_here read_end (λ (u : Unit {0}) k. clean file_end ∷ k) tt l ls _ (λ s. refl) refl
+file_end_traces [] = stuck_none read_end (λ (u : Unit {0}) k. unmarked file_end ∷ k) tt refl
+file_end_traces (l ∷ ls) = stuck_here read_end (λ (u : Unit {0}) k. unmarked file_end ∷ k) tt l ls _ (λ s. refl) refl
 
 -- no further question stands there
 no_question_left : (n : ℕ) (ls : List Letter) → ((s : List Letter) → head s ≡ head ls → read_questions n s ≡ read_end s) → By (read_questions n) (spell_to_end n) questions_of ls (read_questions n ls)
 no_question_left n ls h = subst (λ (t : Reads (List BodyView)). By (read_questions n) (spell_to_end n) questions_of ls t) (sym (h ls refl))
     (switch read_end (read_questions n) (spell_to_end n) questions_of ls h (read_end ls)
-    (by_renaming read_end (λ (u : Unit {0}) k. clean file_end ∷ k) (spell_to_end n) (λ u. []) questions_of (λ u. []) ls (λ z k. refl) (λ z. refl) (read_end ls) (file_end_traces ls)))
+    (by_renaming read_end (λ (u : Unit {0}) k. unmarked file_end ∷ k) (spell_to_end n) (λ u. []) questions_of (λ u. []) ls (λ z k. refl) (λ z. refl) (read_end ls) (file_end_traces ls)))
 
 -- a question, and those behind it
 abbrev Questions : Type 0
 Questions = WrittenQuestion × List WrittenQuestion
 
-abbrev spell_question_then : ℕ → Questions → Marked → Marked
+abbrev spell_question_then : ℕ → Questions → MarkedLetters → MarkedLetters
 spell_question_then n x k = spell_question x.0 (spell_to_end n x.1 k)
 
 abbrev question_then_of : Questions → List BodyView
@@ -171,22 +172,22 @@ question_then_traces n h = traces_bind read_question (λ q ls. read_questions n 
 abbrev questions_made : Questions → List WrittenQuestion
 questions_made x = x.0 ∷ x.1
 
-questions_spelled : (n : ℕ) (x : Questions) (k : Marked) → spell_to_end (suc n) (questions_made x) k ≡ clean (Word vars_text) ∷ spell_question_then n x k
+questions_spelled : (n : ℕ) (x : Questions) (k : MarkedLetters) → spell_to_end (suc n) (questions_made x) k ≡ unmarked (Word vars_text) ∷ spell_question_then n x k
 questions_spelled n x k =
     let e : suc n - 1 ≡ n = omega arith in
-    ap (λ (m : ℕ). clean (Word vars_text) ∷ spell_question_then m x k) e
+    ap (λ (m : ℕ). unmarked (Word vars_text) ∷ spell_question_then m x k) e
 
 -- questions up to the file's end, of which n are allowed
-pub questions_traces : (n : ℕ) → Traces (read_questions n) (λ xs k. spell_questions n xs (clean file_end ∷ k)) questions_of
+pub questions_traces : (n : ℕ) → Traces (read_questions n) (λ xs k. spell_questions n xs (unmarked file_end ∷ k)) questions_of
 unfolding read_questions behind_word
 questions_traces zero ls = at_word vars_text (read_questions zero) (spell_to_end zero) questions_of ls
-    (λ behind. marked_here (read_questions zero) (spell_to_end zero) (some_question ∷ []) (Word vars_text) behind codes.Many (λ k. spell_question some_question (clean file_end ∷ k)) (λ k. refl) (λ s. refl))
+    (λ behind. marked_here (read_questions zero) (spell_to_end zero) (some_question ∷ []) (Word vars_text) behind codes.Many (λ k. spell_question some_question (unmarked file_end ∷ k)) (λ k. refl) (λ s. refl))
     (λ h. no_question_left zero ls (λ s e. ap (λ (o : Option (List Letter)). if_question (λ behind. Err (codes.Many, s)) o s) (h s e)))
 questions_traces (suc n) ls = at_word vars_text (read_questions (suc n)) (spell_to_end (suc n)) questions_of ls
     (λ behind. behind_traced vars_text (read_questions (suc n)) (question_then (read_questions n)) (spell_question_then n) (spell_to_end (suc n)) question_then_of questions_of questions_made behind (λ s. refl) (questions_spelled n) (λ z. refl) (question_then_traces n (questions_traces n)))
     (λ h. no_question_left (suc n) ls (λ s e. ap (λ (o : Option (List Letter)). if_question (question_then (read_questions n)) o s) (h s e)))
 
 -- a whole file
-pub file_traces : Traces read_file (λ xs k. spell_questions most_questions xs (clean file_end ∷ k)) questions_of
+pub file_traces : Traces read_file (λ xs k. spell_questions most_questions xs (unmarked file_end ∷ k)) questions_of
 unfolding read_file
 file_traces = questions_traces most_questions

@@ -43,5 +43,6 @@ pub mod TextLaws
 pub mod AsciiLemmas
 pub mod LineCountLemmas
 pub mod FileReadings
+pub mod NumberLemmas
 pub mod QuestionLemmas
 pub mod RegionLemmas

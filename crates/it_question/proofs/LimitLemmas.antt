@@ -21,7 +21,7 @@ use Rattle.it_question.specs.WrittenRegions.{auxiliaries_left, auxiliary_env, gi
 use Rattle.it_question.specs.WrittenLines.{rates_env}
 use Rattle.it_question.specs.WrittenTries.{unnamed_sets}
 use Rattle.it_question.specs.Reading.{behind_word, read_word, read_word_line, read_new_names, read_names_line, read_lines, read_distinct, read_tries, read_region, read_containment, read_proof, read_elimination, read_verb, read_question, read_end, question_then, if_question, read_questions, read_file}
-use Rattle.it_syntax.proofs.LimitLemmas.{Sure, sure_bind, Any, any, knows_names}
+use Rattle.it_syntax.proofs.LimitLemmas.{Sure, sure_bind, Any, sure_any, knows_names}
 use Rattle.it_question.proofs.NameLimits.{ended_sure, IsGrown, Grows, new_names_sure, names_line_sure}
 use Rattle.it_question.proofs.LineLimits.{OverRelation, relation_sure, AreOwn, Own, lines_sure}
 use Rattle.it_question.proofs.RateLimits.{knows_rates, Rates, distinct_sure}
@@ -57,7 +57,7 @@ Region v x = IsRegionOf v x.0
 region_sure : (g r : ℕ) (v : NamesView) → g ≤ 64 → r ≤ 64 → length v.variables ≤ 8 → (ls : List Letter) → Sure (Region v) (read_region g r v ls)
 unfolding read_region
 region_sure g r v few_g few_r few ls =
-    sure_bind Any (Region v) (line_end ls) (λ e. read_names_line Variable (auxiliaries_left v) aux_text v e.1 >>= λ names. read_lines g r names.0 names.1 >>= λ own. Ok (bounds v names.0 own.0, own.1)) (any (line_end ls))
+    sure_bind Any (Region v) (line_end ls) (λ e. read_names_line Variable (auxiliaries_left v) aux_text v e.1 >>= λ names. read_lines g r names.0 names.1 >>= λ own. Ok (bounds v names.0 own.0, own.1)) (sure_any (line_end ls))
     (λ e u. sure_bind (Grows Variable 0 (auxiliaries_left v) v) (Region v) (read_names_line Variable (auxiliaries_left v) aux_text v e.1) (λ names. read_lines g r names.0 names.1 >>= λ own. Ok (bounds v names.0 own.0, own.1)) (names_line_sure Variable (auxiliaries_left v) aux_text v e.1)
     (λ names hn. sure_bind (Own g r names.0) (Region v) (read_lines g r names.0 names.1) (λ own. Ok (bounds v names.0 own.0, own.1)) (lines_sure g r names.0 names.1)
     (λ own ho. region_of_own v names.0 own.0 few hn (lines_over g r names.0 own.0 few_g few_r ho))))
@@ -76,10 +76,10 @@ containment_sure g r v few_g few_r few ls =
     let rows = rows_left r first.0.lines in
     let env = env_of first.0.names in
     let n = length first.0.names.variables in
-    sure_bind Any (Over v) (read_word region_text first.1) (λ x. read_region givens rows v x.1 >>= λ second. read_tries most_lines (auxiliary_env v second.0.names) env (unnamed_sets second.0.auxiliaries) second.1 >>= λ tries. read_word_line contain_text tries.1 >>= λ e. Ok (Contain first.0 second.0 tries.0, e.1)) (any (read_word region_text first.1))
+    sure_bind Any (Over v) (read_word region_text first.1) (λ x. read_region givens rows v x.1 >>= λ second. read_tries most_lines (auxiliary_env v second.0.names) env (unnamed_sets second.0.auxiliaries) second.1 >>= λ tries. read_word_line contain_text tries.1 >>= λ e. Ok (Contain first.0 second.0 tries.0, e.1)) (sure_any (read_word region_text first.1))
     (λ x u. sure_bind (Region v) (Over v) (read_region givens rows v x.1) (λ second. read_tries most_lines (auxiliary_env v second.0.names) env (unnamed_sets second.0.auxiliaries) second.1 >>= λ tries. read_word_line contain_text tries.1 >>= λ e. Ok (Contain first.0 second.0 tries.0, e.1)) (region_sure givens rows v (omega (arith, few_g)) (omega (arith, few_r)) few x.1)
     (λ second hs. sure_bind (AreTries n most_lines) (Over v) (read_tries most_lines (auxiliary_env v second.0.names) env (unnamed_sets second.0.auxiliaries) second.1) (λ tries. read_word_line contain_text tries.1 >>= λ e. Ok (Contain first.0 second.0 tries.0, e.1)) (tries_sure most_lines (auxiliary_env v second.0.names) env n (knows_names first.0.names) second.0.auxiliaries second.1)
-    (λ tries ht. sure_bind Any (Over v) (read_word_line contain_text tries.1) (λ e. Ok (Contain first.0 second.0 tries.0, e.1)) (any (read_word_line contain_text tries.1)) (λ e w. (hf, hs, ht.0, ht.1))))))
+    (λ tries ht. sure_bind Any (Over v) (read_word_line contain_text tries.1) (λ e. Ok (Contain first.0 second.0 tries.0, e.1)) (sure_any (read_word_line contain_text tries.1)) (λ e w. (hf, hs, ht.0, ht.1))))))
 
 proof_sure : (v : NamesView) (ls : List Letter) → Sure (Over v) (read_proof v ls)
 unfolding read_proof

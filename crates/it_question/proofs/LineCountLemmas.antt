@@ -13,7 +13,7 @@ use Rattle.it_question.specs.Cursors.{token_line}
 use Rattle.it_question.specs.Lines.{TokenLine}
 use Rattle.it_question.specs.Questions.{region_view, BodyView, QuestionView, question_view}
 use Rattle.it_question.specs.ReaderSteps.{FewLines}
-use Rattle.it_question.specs.Texts.{region_lines, one_unless_zero, question_lines, text_of_lines, with_texts}
+use Rattle.it_question.specs.Texts.{region_line_count, one_unless_zero, question_line_count, text_of_lines, with_texts}
 
 abbrev question_with : BodyView → List ℕ → QuestionView
 question_with p text = record { body = p; text = text }
@@ -24,7 +24,7 @@ few_givens r h = omega (arith, h.0, length-map r.lines.givens.items given_view)
 pub few_rows : (r : Region) → FewLines (region_view r).lines → length r.lines.rows.items ≤ 64
 few_rows r h = omega (arith, h.1, length-map r.lines.rows.items relation_view)
 
-pub region_lines_are : (r : Region) → region_lines (region_view r) ≡ 1 + one_unless_zero r.auxiliaries + (length r.lines.givens.items + length r.lines.rows.items)
+pub region_lines_are : (r : Region) → region_line_count (region_view r) ≡ 1 + one_unless_zero r.auxiliaries + (length r.lines.givens.items + length r.lines.rows.items)
 region_lines_are r = omega (arith, length-map r.lines.givens.items given_view, length-map r.lines.rows.items relation_view)
 
 -- ---- questions with their texts, one after the other
@@ -36,10 +36,10 @@ pub others_are : {X : Type 0} (P : X → Type 0) (xs ys : List X) (x : X) → Al
 others_are P xs ys x h e = All-tail P x ys (subst (All P) e h)
 
 pub texts_step : (old new : List Question) (q : Question) (rest own behind : List Line) (xs ys : List Body) (x : Body) (n : ℕ) (whole : List QuestionView)
-    → map question_view old ++ with_texts (map token_line rest) (map body_view xs) ≡ whole → xs ≡ x ∷ ys → new ≡ old ++ q ∷ [] → n ≡ question_lines (body_view x) → own ≡ take n rest → behind ≡ drop n rest
+    → map question_view old ++ with_texts (map token_line rest) (map body_view xs) ≡ whole → xs ≡ x ∷ ys → new ≡ old ++ q ∷ [] → n ≡ question_line_count (body_view x) → own ≡ take n rest → behind ≡ drop n rest
     → question_view q ≡ record { body = body_view x; text = text_of_lines (map token_line own) } → map question_view new ++ with_texts (map token_line behind) (map body_view ys) ≡ whole
 texts_step old new q rest own behind xs ys x n whole h e pushed count first last is =
-    let m = question_lines (body_view x) in
+    let m = question_line_count (body_view x) in
     let lines = map token_line rest in
     let own_lines : map token_line own ≡ take m lines = ap (map token_line) (first ∙ ap (λ (k : ℕ). take k rest) count) ∙ sym (take-map token_line m rest) in
     let behind_lines : map token_line behind ≡ drop m lines = ap (map token_line) (last ∙ ap (λ (k : ℕ). drop k rest) count) ∙ sym (drop-map token_line m rest) in

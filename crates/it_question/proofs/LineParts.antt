@@ -66,7 +66,7 @@ line_parted line (t ∷ ts) m more n (l ∷ p) r h e =
     record { behind = k.behind; parts = ap (λ (x : Letter). x ∷ p) (sym same) ∙ ap (λ (q : List Letter). letter ∷ q) k.parts; more_is = k.more_is; lines = k.lines; whole = k.whole }
 
 -- n lines, and those behind them
-pub record Parted (n : ℕ) (lines : List TokenLine) (p r : List Letter) : Type 0 where
+pub record FirstLines (n : ℕ) (lines : List TokenLine) (p r : List Letter) : Type 0 where
   pub front : letters_of_lines (take n lines) ≡ p
   pub behind : letters_of_lines (drop n lines) ≡ r
   pub long : length (take n lines) ≡ n
@@ -74,15 +74,15 @@ pub record Parted (n : ℕ) (lines : List TokenLine) (p r : List Letter) : Type 
   pub sound : AreSound (drop n lines)
 
 -- the letters of n lines are those of the first n, which have no misspelling
-pub parted : (n : ℕ) (lines : List TokenLine) (p r : List Letter) → HasLines n p → letters_of_lines lines ≡ p ++ r → AreSound lines → Parted n lines p r
-parted zero [] [] r h e s = record { front = refl; behind = e; long = refl; whole = tt; sound = tt }
-parted zero (l ∷ lines) [] r h e s = record { front = refl; behind = e; long = refl; whole = tt; sound = s }
-parted zero lines (x ∷ p) r h e s = absurd h
-parted (suc n) [] [] r h e s = absurd h
-parted (suc n) [] (x ∷ p) r h e s = absurd cc
-parted (suc n) (l ∷ lines) p r h e s =
+pub letters_of_first_lines : (n : ℕ) (lines : List TokenLine) (p r : List Letter) → HasLines n p → letters_of_lines lines ≡ p ++ r → AreSound lines → FirstLines n lines p r
+letters_of_first_lines zero [] [] r h e s = record { front = refl; behind = e; long = refl; whole = tt; sound = tt }
+letters_of_first_lines zero (l ∷ lines) [] r h e s = record { front = refl; behind = e; long = refl; whole = tt; sound = s }
+letters_of_first_lines zero lines (x ∷ p) r h e s = absurd h
+letters_of_first_lines (suc n) [] [] r h e s = absurd h
+letters_of_first_lines (suc n) [] (x ∷ p) r h e s = absurd cc
+letters_of_first_lines (suc n) (l ∷ lines) p r h e s =
     let k = line_parted l.text l.tokens l.misspelling (letters_of_lines lines) n p r h e in
-    let more = parted n lines k.behind r k.lines k.more_is s.1 in
+    let more = letters_of_first_lines n lines k.behind r k.lines k.more_is s.1 in
     record {
       front = ap (λ (q : List Letter). line_letters l ++ q) more.front ∙ ap (λ (m : Option Misspelling). letters_until l.text l.tokens (last_letter m) ++ k.behind) k.whole ∙ sym k.parts;
       behind = more.behind;

@@ -4,7 +4,7 @@ use Rattle.it_syntax.specs.declared.types.Code.TheVariants as codes
 use Rattle.it_syntax.specs.declared.types.Sign.TheVariants as signs
 use Rattle.it_syntax.specs.NamesViews.{NamesView}
 use Rattle.it_syntax.specs.Meaning.{RelationView}
-use Rattle.it_syntax.specs.Letters.{Letter, Word, End, Marked, clean}
+use Rattle.it_syntax.specs.Letters.{Letter, Word, End, MarkedLetters, unmarked}
 use Rattle.it_syntax.specs.Lines.{to_end}
 use Rattle.it_syntax.specs.AtomReading.{Reads, ◌>>=◌}
 use Rattle.it_syntax.specs.WrittenRelations.{WrittenSum, WrittenRelation, Zero, spell_relation, relation_of}
@@ -16,12 +16,13 @@ use Rattle.it_syntax.specs.Givens.{GivenView}
 use Rattle.it_syntax.proofs.Traces.{By, Traces, traces_bind, traces_map}
 use Rattle.it_syntax.proofs.RelationTraces.{relation_traces}
 use Rattle.it_syntax.proofs.GivenTraces.{given_line_traces}
+use Rattle.it_syntax.proofs.LineEnd.{to_end_traces}
 use Rattle.it_question.specs.Keywords.{given_text, row_text}
 use Rattle.it_question.specs.Questions.{OwnLinesView}
 use Rattle.it_question.specs.WrittenQuestions.{WrittenLine, GivenLine, RowLine}
 use Rattle.it_question.specs.WrittenLines.{spell_own, no_lines, own_of}
 use Rattle.it_question.specs.Reading.{behind_word, within_limit, given_then, row_then, by_keyword, read_own, read_lines}
-use Rattle.it_question.proofs.NameTraces.{ended_traces, marked_here, nothing_read, word_behind, at_word, behind_traced}
+use Rattle.it_question.proofs.NameTraces.{marked_here, nothing_read, word_behind, at_word, behind_traced}
 
 abbrev zero_sum : WrittenSum
 zero_sum = record { sign = None; first = Zero; more = [] }
@@ -38,8 +39,8 @@ some_given = Relation (record { relation = some_relation; plain = refl })
 abbrev GivenMore : Type 0
 GivenMore = WrittenGiven × List WrittenLine
 
-abbrev spell_given_more : ℕ → ℕ → NamesView → GivenMore → Marked → Marked
-spell_given_more g r v x k = spell_given (scope_of v false) x.0 (clean End ∷ spell_own (g - 1) r v x.1 k)
+abbrev spell_given_more : ℕ → ℕ → NamesView → GivenMore → MarkedLetters → MarkedLetters
+spell_given_more g r v x k = spell_given (scope_of v false) x.0 (unmarked End ∷ spell_own (g - 1) r v x.1 k)
 
 abbrev with_given : GivenView → OwnLinesView → OwnLinesView
 with_given x own = record { givens = x ∷ own.givens; rows = own.rows }
@@ -51,14 +52,14 @@ abbrev given_made : GivenMore → List WrittenLine
 given_made x = GivenLine x.0 ∷ x.1
 
 given_then_traces : (f : List Letter → Reads OwnLinesView) (g r : ℕ) (v : NamesView) → Traces f (spell_own (g - 1) r v) (own_of v) → Traces (given_then f v) (spell_given_more g r v) (given_more_of v)
-given_then_traces f g r v h = traces_bind (to_end (read_given (scope_of v false))) (λ x ls. f ls >>= λ own. Ok (with_given x own.0, own.1)) (given_then f v) (λ x k. spell_given (scope_of v false) x (clean End ∷ k)) (λ x. spell_own (g - 1) r v) (spell_given_more g r v) (given_of (scope_of v false)) (λ x own. with_given x (own_of v own)) (given_more_of v) (λ x own. (x, own))
-    (record { is = λ ls. refl; spells = λ y z k. refl; value = λ y z. refl; some = []; first = ended_traces (read_given (scope_of v false)) (spell_given (scope_of v false)) (given_of (scope_of v false)) (given_line_traces (scope_of v false)); second = λ x. traces_map f (with_given x) (spell_own (g - 1) r v) (own_of v) h })
+given_then_traces f g r v h = traces_bind (to_end (read_given (scope_of v false))) (λ x ls. f ls >>= λ own. Ok (with_given x own.0, own.1)) (given_then f v) (λ x k. spell_given (scope_of v false) x (unmarked End ∷ k)) (λ x. spell_own (g - 1) r v) (spell_given_more g r v) (given_of (scope_of v false)) (λ x own. with_given x (own_of v own)) (given_more_of v) (λ x own. (x, own))
+    (record { is = λ ls. refl; spells = λ y z k. refl; value = λ y z. refl; some = []; first = to_end_traces (read_given (scope_of v false)) (spell_given (scope_of v false)) (given_of (scope_of v false)) (given_line_traces (scope_of v false)); second = λ x. traces_map f (with_given x) (spell_own (g - 1) r v) (own_of v) h })
 
 abbrev RowMore : Type 0
 RowMore = WrittenRelation × List WrittenLine
 
-abbrev spell_row_more : ℕ → ℕ → NamesView → RowMore → Marked → Marked
-spell_row_more g r v x k = spell_relation (scope_of v true) x.0 (clean End ∷ spell_own g (r - 1) v x.1 k)
+abbrev spell_row_more : ℕ → ℕ → NamesView → RowMore → MarkedLetters → MarkedLetters
+spell_row_more g r v x k = spell_relation (scope_of v true) x.0 (unmarked End ∷ spell_own g (r - 1) v x.1 k)
 
 abbrev with_row : RelationView → OwnLinesView → OwnLinesView
 with_row x own = record { givens = own.givens; rows = x ∷ own.rows }
@@ -70,8 +71,8 @@ abbrev row_made : RowMore → List WrittenLine
 row_made x = RowLine x.0 ∷ x.1
 
 row_then_traces : (f : List Letter → Reads OwnLinesView) (g r : ℕ) (v : NamesView) → Traces f (spell_own g (r - 1) v) (own_of v) → Traces (row_then f v) (spell_row_more g r v) (row_more_of v)
-row_then_traces f g r v h = traces_bind (to_end (read_relation (scope_of v true))) (λ x ls. f ls >>= λ own. Ok (with_row x own.0, own.1)) (row_then f v) (λ x k. spell_relation (scope_of v true) x (clean End ∷ k)) (λ x. spell_own g (r - 1) v) (spell_row_more g r v) (relation_of (scope_of v true)) (λ x own. with_row x (own_of v own)) (row_more_of v) (λ x own. (x, own))
-    (record { is = λ ls. refl; spells = λ y z k. refl; value = λ y z. refl; some = []; first = ended_traces (read_relation (scope_of v true)) (spell_relation (scope_of v true)) (relation_of (scope_of v true)) (relation_traces (scope_of v true)); second = λ x. traces_map f (with_row x) (spell_own g (r - 1) v) (own_of v) h })
+row_then_traces f g r v h = traces_bind (to_end (read_relation (scope_of v true))) (λ x ls. f ls >>= λ own. Ok (with_row x own.0, own.1)) (row_then f v) (λ x k. spell_relation (scope_of v true) x (unmarked End ∷ k)) (λ x. spell_own g (r - 1) v) (spell_row_more g r v) (relation_of (scope_of v true)) (λ x own. with_row x (own_of v own)) (row_more_of v) (λ x own. (x, own))
+    (record { is = λ ls. refl; spells = λ y z k. refl; value = λ y z. refl; some = []; first = to_end_traces (read_relation (scope_of v true)) (spell_relation (scope_of v true)) (relation_of (scope_of v true)) (relation_traces (scope_of v true)); second = λ x. traces_map f (with_row x) (spell_own g (r - 1) v) (own_of v) h })
 
 -- ---- a reader by the keyword that stands there
 
@@ -114,14 +115,14 @@ given_over : (f h : List Letter → List Letter → Reads OwnLinesView) (r : ℕ
 given_over f h r v behind e =
     let stays : (s : List Letter) → by_words f h (Word given_text ∷ s) ≡ Err (codes.Many, Word given_text ∷ s) = λ s. given_stands f h s ∙ e s (Word given_text ∷ s) in
     subst (λ (t : Reads OwnLinesView). By (by_words f h) (spell_own zero r v) (own_of v) (Word given_text ∷ behind) t) (sym (stays behind))
-    (marked_here (by_words f h) (spell_own zero r v) (GivenLine some_given ∷ []) (Word given_text) behind codes.Many (λ k. spell_given (scope_of v false) some_given (clean End ∷ k)) (λ k. refl) stays)
+    (marked_here (by_words f h) (spell_own zero r v) (GivenLine some_given ∷ []) (Word given_text) behind codes.Many (λ k. spell_given (scope_of v false) some_given (unmarked End ∷ k)) (λ k. refl) stays)
 
 -- and `row`
 row_over : (f h : List Letter → List Letter → Reads OwnLinesView) (g : ℕ) (v : NamesView) (behind : List Letter) → ((b s : List Letter) → h b s ≡ Err (codes.Many, s)) → By (by_words f h) (spell_own g zero v) (own_of v) (Word row_text ∷ behind) (by_words f h (Word row_text ∷ behind))
 row_over f h g v behind e =
     let stays : (s : List Letter) → by_words f h (Word row_text ∷ s) ≡ Err (codes.Many, Word row_text ∷ s) = λ s. row_stands f h s ∙ e s (Word row_text ∷ s) in
     subst (λ (t : Reads OwnLinesView). By (by_words f h) (spell_own g zero v) (own_of v) (Word row_text ∷ behind) t) (sym (stays behind))
-    (marked_here (by_words f h) (spell_own g zero v) (RowLine some_relation ∷ []) (Word row_text) behind codes.Many (λ k. spell_relation (scope_of v true) some_relation (clean End ∷ k)) (λ k. refl) stays)
+    (marked_here (by_words f h) (spell_own g zero v) (RowLine some_relation ∷ []) (Word row_text) behind codes.Many (λ k. spell_relation (scope_of v true) some_relation (unmarked End ∷ k)) (λ k. refl) stays)
 
 given_by : (n g r : ℕ) (v : NamesView) (behind : List Letter) → (1 ≤ g → Traces (read_own n (g - 1) r v) (spell_own (g - 1) r v) (own_of v))
     → By (by_words (givens_by n g r v) (rows_by n g r v)) (spell_own g r v) (own_of v) (Word given_text ∷ behind) (by_words (givens_by n g r v) (rows_by n g r v) (Word given_text ∷ behind))

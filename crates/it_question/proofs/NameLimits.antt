@@ -9,14 +9,14 @@ use Rattle.it_syntax.specs.AtomReading.{Reads, ◌>>=◌, line_end}
 use Rattle.it_syntax.specs.WrittenAtoms.{is_measure}
 use Rattle.it_question.specs.NewNames.{Sort, Variable, Rate, with_name, is_taken}
 use Rattle.it_question.specs.Reading.{behind_word, new_name_or_fault, read_new, read_new_more, read_new_names, if_behind, read_names_line}
-use Rattle.it_syntax.proofs.LimitLemmas.{Sure, sure_bind, Any, any}
+use Rattle.it_syntax.proofs.LimitLemmas.{Sure, sure_bind, Any, sure_any}
 
 -- up to the line's end
 pub ended_sure : {A : Type 0} (P : A → Type 0) (f : List Letter → Reads A) → ((ls : List Letter) → Sure (λ (x : A × List Letter). P x.0) (f ls)) → (ls : List Letter) → Sure (λ (x : A × List Letter). P x.0) (to_end f ls)
 unfolding to_end
 ended_sure {A} P f h ls =
     sure_bind (λ (x : A × List Letter). P x.0) (λ (x : A × List Letter). P x.0) (f ls) (λ x. line_end x.1 >>= λ e. Ok (x.0, e.1)) (h ls)
-    (λ x hx. sure_bind Any (λ (x : A × List Letter). P x.0) (line_end x.1) (λ e. Ok (x.0, e.1)) (any (line_end x.1)) (λ e u. hx))
+    (λ x hx. sure_bind Any (λ (x : A × List Letter). P x.0) (line_end x.1) (λ e. Ok (x.0, e.1)) (sure_any (line_end x.1)) (λ e u. hx))
 
 -- names of one sort behind those that there are
 abbrev pub with_own : Sort → NamesView → List (List ℕ) → NamesView

@@ -6,28 +6,22 @@ use Rattle.it_syntax.specs.declared.types.Symbol.TheVariants.{Comma}
 use Rattle.it_syntax.specs.declared.types.Code.{Code}
 use Rattle.it_syntax.specs.declared.types.Code.TheVariants as codes
 use Rattle.it_syntax.specs.NamesViews.{NamesView}
-use Rattle.it_syntax.specs.Letters.{Letter, Word, Sym, End, Marked, clean}
+use Rattle.it_syntax.specs.Letters.{Letter, Word, Sym, End, MarkedLetters, unmarked}
 use Rattle.it_syntax.specs.FirstFault.{head}
 use Rattle.it_syntax.specs.Lines.{to_end}
 use Rattle.it_syntax.specs.AtomReading.{Reads, ◌>>=◌, line_end}
 use Rattle.it_syntax.specs.WrittenAtoms.{Environment, WrittenList, is_measure, index_or}
 use Rattle.it_syntax.proofs.Traces.{Stuck, By, Traces, traces_bind, traces_map, letter_then}
 use Rattle.it_syntax.proofs.AtomTraces.{for_same_head, for_no_head, stuck_here, stuck_none}
-use Rattle.it_syntax.proofs.LineEnd.{spell_end, end_value, end_traces}
+use Rattle.it_syntax.proofs.LineEnd.{to_end_traces}
 use Rattle.it_question.specs.NewNames.{Sort, with_name, is_taken, new_mark, spell_new, spell_new_more, spell_new_names, with_names, new_names_of, spell_names_line, names_line_of}
 use Rattle.it_question.specs.Reading.{read_word, behind_word, new_name_or_fault, read_new, read_new_more, read_new_names, if_behind, read_names_line}
-
--- a reader up to the line's end
-pub ended_traces : {A X : Type 0} (f : List Letter → Reads A) (spell : X → Marked → Marked) (value : X → A) → Traces f spell value → Traces (to_end f) (λ x k. spell x (clean End ∷ k)) value
-unfolding to_end spell_end end_value
-ended_traces f spell value h = traces_bind f (λ a ls. line_end ls >>= λ e. Ok (a, e.1)) (to_end f) spell (λ a. spell_end) (λ x k. spell x (clean End ∷ k)) value (λ a u. a) value (λ x u. x)
-    (record { is = λ ls. refl; spells = λ y z k. refl; value = λ y z. refl; some = tt; first = h; second = λ a. traces_map line_end (λ u. a) spell_end end_value end_traces })
 
 -- ---- a letter that is marked, and letters that are left
 
 -- the first letter of a tree's spelling is marked by c
-pub marked_here : {A X : Type 0} (f : List Letter → Reads A) (spell : X → Marked → Marked) (tree : X) (l : Letter) (ls : List Letter) (c : Code) (rest : Marked → Marked)
-    → ((k : Marked) → spell tree k ≡ (l, Some c) ∷ rest k) → ((s : List Letter) → f (l ∷ s) ≡ Err (c, l ∷ s)) → Stuck f spell (l ∷ ls) c (l ∷ ls)
+pub marked_here : {A X : Type 0} (f : List Letter → Reads A) (spell : X → MarkedLetters → MarkedLetters) (tree : X) (l : Letter) (ls : List Letter) (c : Code) (rest : MarkedLetters → MarkedLetters)
+    → ((k : MarkedLetters) → spell tree k ≡ (l, Some c) ∷ rest k) → ((s : List Letter) → f (l ∷ s) ≡ Err (c, l ∷ s)) → Stuck f spell (l ∷ ls) c (l ∷ ls)
 marked_here f spell tree l ls c rest h e = record {
   tree = tree;
   front = [];
@@ -37,8 +31,8 @@ marked_here f spell tree l ls c rest h e = record {
 }
 
 -- no letter is read, and a tree is spelled by none
-pub nothing_read : {A X : Type 0} (f : List Letter → Reads A) (spell : X → Marked → Marked) (value : X → A) (tree : X) (ls : List Letter)
-    → ((k : Marked) → spell tree k ≡ k) → ((s : List Letter) → head s ≡ head ls → f s ≡ Ok (value tree, s)) → By f spell value ls (f ls)
+pub nothing_read : {A X : Type 0} (f : List Letter → Reads A) (spell : X → MarkedLetters → MarkedLetters) (value : X → A) (tree : X) (ls : List Letter)
+    → ((k : MarkedLetters) → spell tree k ≡ k) → ((s : List Letter) → head s ≡ head ls → f s ≡ Ok (value tree, s)) → By f spell value ls (f ls)
 nothing_read {A} f spell value tree ls h stays = subst (λ (t : Reads A). By f spell value ls t) (sym (stays ls refl))
     (record { tree = tree; front = []; value = refl; parts = refl; spells = h; stays = stays })
 
@@ -58,8 +52,8 @@ IsJudged env w h o = (is_measure w ≡ h) × (env w ≡ o)
 
 -- ---- words
 
-abbrev pub spell_word : List ℕ → Unit {0} → Marked → Marked
-spell_word text u k = clean (Word text) ∷ k
+abbrev pub spell_word : List ℕ → Unit {0} → MarkedLetters → MarkedLetters
+spell_word text u k = unmarked (Word text) ∷ k
 
 word_by : (text w : List ℕ) (ls : List Letter) (b : Bool) → bytes_eq w text ≡ b → By (read_word text) (spell_word text) (λ u. tt) (Word w ∷ ls) (cond b (Ok (tt, ls)) (Err (codes.Word, Word w ∷ ls)))
 unfolding read_word
@@ -68,7 +62,7 @@ word_by text w ls true e = record {
   front = Word w ∷ [];
   value = refl;
   parts = refl;
-  spells = λ k. ap (λ (t : List ℕ). clean (Word t) ∷ k) (sym ((bytes_eq-Decides w text).0 e));
+  spells = λ k. ap (λ (t : List ℕ). unmarked (Word t) ∷ k) (sym ((bytes_eq-Decides w text).0 e));
   stays = λ s h. ap (λ (b : Bool). cond b (Ok (tt, s)) (Err (codes.Word, Word w ∷ s))) e;
 }
 word_by text w ls false e = stuck_here (read_word text) (spell_word text) tt (Word w) ls codes.Word (λ s. ap (λ (b : Bool). cond b (Ok (tt, s)) (Err (codes.Word, Word w ∷ s))) e) refl
@@ -100,7 +94,7 @@ unfolding behind_word
 word_behind text s = ap (λ (b : Bool). cond b (Some s) None) ((bytes_eq-Decides text text).1 refl)
 
 -- a reader that looks whether a word stands there
-pub at_word : {A X : Type 0} (text : List ℕ) (f : List Letter → Reads A) (spell : X → Marked → Marked) (value : X → A) (ls : List Letter)
+pub at_word : {A X : Type 0} (text : List ℕ) (f : List Letter → Reads A) (spell : X → MarkedLetters → MarkedLetters) (value : X → A) (ls : List Letter)
     → ((behind : List Letter) → By f spell value (Word text ∷ behind) (f (Word text ∷ behind))) → (IsAbsent text ls → By f spell value ls (f ls)) → By f spell value ls (f ls)
 at_word text f spell value ls stands absent = elim (stands_first text ls) [
   | inl x ↦ subst (λ (t : List Letter). By f spell value t (f t)) (sym x.1) (stands x.0)
@@ -108,8 +102,8 @@ at_word text f spell value ls stands absent = elim (stands_first text ls) [
 ]
 
 -- behind the word another reader reads
-pub behind_traced : {A X Z : Type 0} (text : List ℕ) (f g : List Letter → Reads A) (spell_z : Z → Marked → Marked) (spell_x : X → Marked → Marked) (value_z : Z → A) (value_x : X → A) (make : Z → X) (behind : List Letter)
-    → ((s : List Letter) → f (Word text ∷ s) ≡ g s) → ((z : Z) (k : Marked) → spell_x (make z) k ≡ clean (Word text) ∷ spell_z z k) → ((z : Z) → value_x (make z) ≡ value_z z) → Traces g spell_z value_z
+pub behind_traced : {A X Z : Type 0} (text : List ℕ) (f g : List Letter → Reads A) (spell_z : Z → MarkedLetters → MarkedLetters) (spell_x : X → MarkedLetters → MarkedLetters) (value_z : Z → A) (value_x : X → A) (make : Z → X) (behind : List Letter)
+    → ((s : List Letter) → f (Word text ∷ s) ≡ g s) → ((z : Z) (k : MarkedLetters) → spell_x (make z) k ≡ unmarked (Word text) ∷ spell_z z k) → ((z : Z) → value_x (make z) ≡ value_z z) → Traces g spell_z value_z
     → By f spell_x value_x (Word text ∷ behind) (f (Word text ∷ behind))
 behind_traced {A} text f g spell_z spell_x value_z value_x make behind is spells values traces = subst (λ (t : Reads A). By f spell_x value_x (Word text ∷ behind) t) (sym (is behind))
     (letter_then f g (Word text) spell_z spell_x value_z value_x make behind is spells values (g behind) (traces behind))
@@ -120,7 +114,7 @@ new_is : (sort : Sort) (n : ℕ) (v : NamesView) (w : List ℕ) (h t : Bool) →
 unfolding read_new
 new_is sort n v w h t eh et ls = ap (λ (b : Bool). new_name_or_fault sort n v w b (is_taken v w) ls) eh ∙ ap (λ (b : Bool). new_name_or_fault sort n v w h b ls) et
 
-mark_is : (n : ℕ) (v : NamesView) (w : List ℕ) (h t : Bool) → is_measure w ≡ h → is_taken v w ≡ t → (k : Marked) → (Word w, new_mark (is_measure w) (is_taken v w) n) ∷ k ≡ (Word w, new_mark h t n) ∷ k
+mark_is : (n : ℕ) (v : NamesView) (w : List ℕ) (h t : Bool) → is_measure w ≡ h → is_taken v w ≡ t → (k : MarkedLetters) → (Word w, new_mark (is_measure w) (is_taken v w) n) ∷ k ≡ (Word w, new_mark h t n) ∷ k
 mark_is n v w h t eh et k = ap (λ (b : Bool). (Word w, new_mark b (is_taken v w) n) ∷ k) eh ∙ ap (λ (b : Bool). (Word w, new_mark h b n) ∷ k) et
 
 new_by : (sort : Sort) (n : ℕ) (v : NamesView) (w : List ℕ) (ls : List Letter) (h t : Bool) → is_measure w ≡ h → is_taken v w ≡ t → By (read_new sort n v) (spell_new sort n v) (with_name sort v) (Word w ∷ ls) (new_name_or_fault sort n v w h t ls)
@@ -153,7 +147,7 @@ Names = List ℕ × List (List ℕ)
 abbrev new_then : Sort → ℕ → ℕ → NamesView → List Letter → Reads NamesView
 new_then sort m n v ls = read_new sort m v ls >>= λ x. read_new_more sort n x.0 x.1
 
-abbrev spell_then : Sort → ℕ → ℕ → NamesView → Names → Marked → Marked
+abbrev spell_then : Sort → ℕ → ℕ → NamesView → Names → MarkedLetters → MarkedLetters
 spell_then sort m n v x k = spell_new sort m v x.0 (spell_new_more sort n (with_name sort v x.0) x.1 k)
 
 abbrev then_of : Sort → NamesView → Names → NamesView
@@ -166,10 +160,10 @@ then_traces sort m n v h = traces_bind (read_new sort m v) (read_new_more sort n
 abbrev more_made : Names → List (List ℕ)
 more_made x = x.0 ∷ x.1
 
-more_spelled : (sort : Sort) (n : ℕ) (v : NamesView) (x : Names) (k : Marked) → spell_new_more sort (suc n) v (more_made x) k ≡ clean (Sym Comma) ∷ spell_then sort (suc n) n v x k
+more_spelled : (sort : Sort) (n : ℕ) (v : NamesView) (x : Names) (k : MarkedLetters) → spell_new_more sort (suc n) v (more_made x) k ≡ unmarked (Sym Comma) ∷ spell_then sort (suc n) n v x k
 more_spelled sort n v x k =
     let e : suc n - 1 ≡ n = omega arith in
-    ap (λ (m : ℕ). clean (Sym Comma) ∷ spell_then sort (suc n) m v x k) e
+    ap (λ (m : ℕ). unmarked (Sym Comma) ∷ spell_then sort (suc n) m v x k) e
 
 -- further new names
 pub new_more_traces : (sort : Sort) (n : ℕ) (v : NamesView) → Traces (read_new_more sort n v) (spell_new_more sort n v) (with_names sort v)
@@ -196,8 +190,8 @@ new_names_traces sort n v = traces_bind (read_new sort n v) (read_new_more sort 
 pub names_line_traces : (sort : Sort) (n : ℕ) (keyword : List ℕ) (v : NamesView) → Traces (read_names_line sort n keyword v) (spell_names_line sort n keyword v) (names_line_of sort v)
 unfolding read_names_line
 names_line_traces sort n keyword v ls = at_word keyword (read_names_line sort n keyword v) (spell_names_line sort n keyword v) (names_line_of sort v) ls
-    (λ behind. behind_traced keyword (read_names_line sort n keyword v) (to_end (read_new_names sort n v)) (λ l k. spell_new_names sort n v l (clean End ∷ k)) (spell_names_line sort n keyword v) (new_names_of sort v) (names_line_of sort v) Some behind
+    (λ behind. behind_traced keyword (read_names_line sort n keyword v) (to_end (read_new_names sort n v)) (λ l k. spell_new_names sort n v l (unmarked End ∷ k)) (spell_names_line sort n keyword v) (new_names_of sort v) (names_line_of sort v) Some behind
     (λ s. ap (λ (o : Option (List Letter)). if_behind sort n v o (Word keyword ∷ s)) (word_behind keyword s)) (λ z k. refl) (λ z. refl)
-    (ended_traces (read_new_names sort n v) (spell_new_names sort n v) (new_names_of sort v) (new_names_traces sort n v)))
+    (to_end_traces (read_new_names sort n v) (spell_new_names sort n v) (new_names_of sort v) (new_names_traces sort n v)))
     (λ h. nothing_read (read_names_line sort n keyword v) (spell_names_line sort n keyword v) (names_line_of sort v) None ls (λ k. refl)
     (λ s e. ap (λ (o : Option (List Letter)). if_behind sort n v o s) (h s e)))

@@ -35,11 +35,11 @@ goes_on sort (suc n) v w ls tail after e h lt =
     rw k (ap (read_new_more sort (suc n) v) (comma_is ls tail e) ∙ ap (λ (r : Reads NamesView). r >>= λ x. read_new_more sort n x.0 x.1) h)
 
 -- the loop stops at a fault
-pub ends : (e : Stop) (sort : Sort) (n : ℕ) (v : NamesView) (ls tail rest : List Letter) (total : Reads NamesView) → after_comma ls ≡ Some tail → StopsAs e rest (read_new sort n v tail) → read_new_more sort n v ls ≡ total → StopsAs e rest total
+pub stops_at_fault : (e : Stop) (sort : Sort) (n : ℕ) (v : NamesView) (ls tail rest : List Letter) (total : Reads NamesView) → after_comma ls ≡ Some tail → StopsAs e rest (read_new sort n v tail) → read_new_more sort n v ls ≡ total → StopsAs e rest total
 unfolding read_new_more
-ends stops.Memory sort n v ls tail rest total e h so_far = tt
-ends (stops.Fault c) sort zero v ls tail rest total e h so_far = sym so_far ∙ ap (read_new_more sort zero v) (comma_is ls tail e) ∙ h
-ends (stops.Fault c) sort (suc n) v ls tail rest total e h so_far = sym so_far ∙ ap (read_new_more sort (suc n) v) (comma_is ls tail e) ∙ ap (λ (r : Reads NamesView). r >>= λ x. read_new_more sort n x.0 x.1) h
+stops_at_fault stops.Memory sort n v ls tail rest total e h so_far = tt
+stops_at_fault (stops.Fault c) sort zero v ls tail rest total e h so_far = sym so_far ∙ ap (read_new_more sort zero v) (comma_is ls tail e) ∙ h
+stops_at_fault (stops.Fault c) sort (suc n) v ls tail rest total e h so_far = sym so_far ∙ ap (read_new_more sort (suc n) v) (comma_is ls tail e) ∙ ap (λ (r : Reads NamesView). r >>= λ x. read_new_more sort n x.0 x.1) h
 
 -- the loop ends without a comma
 pub is_done : (sort : Sort) (n : ℕ) (v : NamesView) (ls : List Letter) → after_comma ls ≡ None → read_new_more sort n v ls ≡ Ok (v, ls)

@@ -14,7 +14,7 @@ use Rattle.it_syntax.specs.AtomReading.{Reads, ◌>>=◌}
 use Rattle.it_syntax.specs.Scopes.{scope_of}
 use Rattle.it_syntax.specs.RelationReading.{read_relation}
 use Rattle.it_syntax.specs.GivenReading.{read_given}
-use Rattle.it_question.specs.Bodies.{with_given, with_row}
+use Rattle.it_question.specs.Bodies.{with_given_line, with_row_line}
 use Rattle.it_question.specs.Keywords.{given_text, row_text}
 use Rattle.it_question.specs.Questions.{OwnLinesView}
 use Rattle.it_question.specs.Reading.{behind_word, within_limit, given_then, row_then, by_keyword, read_own, with_lines}
@@ -70,30 +70,30 @@ no_line zero g r v ls e h = ap (λ (o : Option (List Letter)). by_keyword (λ be
 no_line (suc n) g r v ls e h = ap (λ (o : Option (List Letter)). by_keyword (λ behind. within_limit g (given_then (read_own n (g - 1) r v) v) behind ls) (λ behind. within_limit r (row_then (read_own n g (r - 1) v) v) behind ls) o (behind_word row_text ls) ls) e
     ∙ ap (λ (o : Option (List Letter)). by_keyword (λ behind. within_limit g (given_then (read_own n (g - 1) r v) v) behind ls) (λ behind. within_limit r (row_then (read_own n g (r - 1) v) v) behind ls) None o ls) h
 
-regroup_given : (front : OwnLinesView) (x : GivenView) (ls : List Letter) (f : List Letter → Reads OwnLinesView) → with_lines front (given_behind f (Ok (x, ls))) ≡ with_lines (with_given front x) (f ls)
+regroup_given : (front : OwnLinesView) (x : GivenView) (ls : List Letter) (f : List Letter → Reads OwnLinesView) → with_lines front (given_behind f (Ok (x, ls))) ≡ with_lines (with_given_line front x) (f ls)
 regroup_given front x ls f = go (f ls)
   where
-    go : (t : Reads OwnLinesView) → with_lines front (t >>= λ own. Ok (record { givens = x ∷ own.0.givens; rows = own.0.rows }, own.1)) ≡ with_lines (with_given front x) t
+    go : (t : Reads OwnLinesView) → with_lines front (t >>= λ own. Ok (record { givens = x ∷ own.0.givens; rows = own.0.rows }, own.1)) ≡ with_lines (with_given_line front x) t
     go (Err e) = refl
     go (Ok own) = rw (append_assoc front.givens (x ∷ []) own.0.givens) refl
 
-regroup_row : (front : OwnLinesView) (x : RelationView) (ls : List Letter) (f : List Letter → Reads OwnLinesView) → with_lines front (row_behind f (Ok (x, ls))) ≡ with_lines (with_row front x) (f ls)
+regroup_row : (front : OwnLinesView) (x : RelationView) (ls : List Letter) (f : List Letter → Reads OwnLinesView) → with_lines front (row_behind f (Ok (x, ls))) ≡ with_lines (with_row_line front x) (f ls)
 regroup_row front x ls f = go (f ls)
   where
-    go : (t : Reads OwnLinesView) → with_lines front (t >>= λ own. Ok (record { givens = own.0.givens; rows = x ∷ own.0.rows }, own.1)) ≡ with_lines (with_row front x) t
+    go : (t : Reads OwnLinesView) → with_lines front (t >>= λ own. Ok (record { givens = own.0.givens; rows = x ∷ own.0.rows }, own.1)) ≡ with_lines (with_row_line front x) t
     go (Err e) = refl
     go (Ok own) = rw (append_assoc front.rows (x ∷ []) own.0.rows) refl
 
 -- ---- one more line
 
 pub given_goes_on : (front : OwnLinesView) (g r : ℕ) (v : NamesView) (ls tail after : List Letter) (x : GivenView) (total : Reads OwnLinesView) → 0 < g → behind_word given_text ls ≡ Some tail → to_end (read_given (scope_of v false)) tail ≡ Ok (x, after)
-    → with_lines front (read_own (g + r) g r v ls) ≡ total → with_lines (with_given front x) (read_own ((g - 1) + r) (g - 1) r v after) ≡ total
+    → with_lines front (read_own (g + r) g r v ls) ≡ total → with_lines (with_given_line front x) (read_own ((g - 1) + r) (g - 1) r v after) ≡ total
 given_goes_on front g r v ls tail after x total lt e h so_far =
     let f : List Letter → Reads OwnLinesView = read_own ((g - 1) + r) (g - 1) r v in
     sym (ap (with_lines front) (given_is g r v ls tail lt e ∙ ap (given_behind f) h) ∙ regroup_given front x after f) ∙ so_far
 
 pub row_goes_on : (front : OwnLinesView) (g r : ℕ) (v : NamesView) (ls tail after : List Letter) (x : RelationView) (total : Reads OwnLinesView) → 0 < r → behind_word given_text ls ≡ None → behind_word row_text ls ≡ Some tail → to_end (read_relation (scope_of v true)) tail ≡ Ok (x, after)
-    → with_lines front (read_own (g + r) g r v ls) ≡ total → with_lines (with_row front x) (read_own (g + (r - 1)) g (r - 1) v after) ≡ total
+    → with_lines front (read_own (g + r) g r v ls) ≡ total → with_lines (with_row_line front x) (read_own (g + (r - 1)) g (r - 1) v after) ≡ total
 row_goes_on front g r v ls tail after x total lt e h k so_far =
     let f : List Letter → Reads OwnLinesView = read_own (g + (r - 1)) g (r - 1) v in
     sym (ap (with_lines front) (row_is g r v ls tail lt e h ∙ ap (row_behind f) k) ∙ regroup_row front x after f) ∙ so_far

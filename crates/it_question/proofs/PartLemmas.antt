@@ -5,7 +5,7 @@ use Rattle.it_syntax.specs.declared.types.Code.TheVariants as codes
 use Rattle.it_syntax.specs.declared.types.Token.{Token}
 use Rattle.it_syntax.specs.declared.rest.Stop.{Stop}
 use Rattle.it_syntax.specs.declared.rest.Stop.TheVariants as stops
-use Rattle.it_syntax.specs.Letters.{Letter, Word, Number, Sym, End, Bad, Marked}
+use Rattle.it_syntax.specs.Letters.{Letter, Word, Number, Sym, End, Bad, MarkedLetters}
 use Rattle.it_syntax.specs.Spans.{letters_until}
 use Rattle.it_syntax.specs.FirstFault.{head}
 use Rattle.it_syntax.specs.Gives.{StopsAs}
@@ -35,18 +35,18 @@ regroup : (front r more : List Letter) (ls : List Letter) → ls ≡ front ++ r 
 regroup front r more ls e = ap (λ (t : List Letter). t ++ more) e ∙ append_assoc front r more
 
 -- a value
-pub part_ok : {A X : Type 0} (f : List Letter → Reads A) (spell : X → Marked → Marked) (value : X → A) → Traces f spell value → (ls r more : List Letter) (x : A) → f ls ≡ Ok (x, r) → HasLetters r → f (ls ++ more) ≡ Ok (x, r ++ more)
+pub part_ok : {A X : Type 0} (f : List Letter → Reads A) (spell : X → MarkedLetters → MarkedLetters) (value : X → A) → Traces f spell value → (ls r more : List Letter) (x : A) → f ls ≡ Ok (x, r) → HasLetters r → f (ls ++ more) ≡ Ok (x, r ++ more)
 part_ok {A} f spell value h ls r more x e some =
     let w : Went f spell value ls x r = subst (λ (t : Reads A). By f spell value ls t) e (h ls) in
     ap f (regroup w.front r more ls w.parts) ∙ w.stays (r ++ more) (head_same r more some)
 
 -- a fault
-pub part_err : {A X : Type 0} (f : List Letter → Reads A) (spell : X → Marked → Marked) (value : X → A) → Traces f spell value → (ls r more : List Letter) (c : Code) → f ls ≡ Err (c, r) → HasLetters r → f (ls ++ more) ≡ Err (c, r ++ more)
+pub part_err : {A X : Type 0} (f : List Letter → Reads A) (spell : X → MarkedLetters → MarkedLetters) (value : X → A) → Traces f spell value → (ls r more : List Letter) (c : Code) → f ls ≡ Err (c, r) → HasLetters r → f (ls ++ more) ≡ Err (c, r ++ more)
 part_err {A} f spell value h ls r more c e some =
     let w : Stuck f spell ls c r = subst (λ (t : Reads A). By f spell value ls t) e (h ls) in
     ap f (regroup w.front r more ls w.parts) ∙ w.stays (r ++ more) (head_same r more some)
 
-pub part_stops : {A X : Type 0} (f : List Letter → Reads A) (spell : X → Marked → Marked) (value : X → A) → Traces f spell value → (e : Stop) (ls r more : List Letter) → StopsAs e r (f ls) → HasLetters r → StopsAs e (r ++ more) (f (ls ++ more))
+pub part_stops : {A X : Type 0} (f : List Letter → Reads A) (spell : X → MarkedLetters → MarkedLetters) (value : X → A) → Traces f spell value → (e : Stop) (ls r more : List Letter) → StopsAs e r (f ls) → HasLetters r → StopsAs e (r ++ more) (f (ls ++ more))
 part_stops f spell value h stops.Memory ls r more e some = tt
 part_stops f spell value h (stops.Fault c) ls r more e some = part_err f spell value h ls r more c e some
 
@@ -81,7 +81,7 @@ at_end (Bad c ∷ ls) y x h = absurd cc
 at_end {A} (End ∷ ls) y x h = (ap (λ (t : List Letter). End ∷ t) (ap left_behind h), ap (value_or y) h)
 
 -- a value, and then the line's end
-pub whole_ok : {A X : Type 0} (f : List Letter → Reads A) (spell : X → Marked → Marked) (value : X → A) → Traces f spell value → (ls more : List Letter) (x : A) → to_end f ls ≡ Ok (x, []) → to_end f (ls ++ more) ≡ Ok (x, more)
+pub whole_ok : {A X : Type 0} (f : List Letter → Reads A) (spell : X → MarkedLetters → MarkedLetters) (value : X → A) → Traces f spell value → (ls more : List Letter) (x : A) → to_end f ls ≡ Ok (x, []) → to_end f (ls ++ more) ≡ Ok (x, more)
 unfolding to_end line_end
 whole_ok {A} f spell value h ls more x e = go (f ls) refl e
   where
@@ -104,7 +104,7 @@ some_first c [] rest h some = subst HasLetters (sym (ap left_behind h)) some
 some_first c (l ∷ r) rest h some = tt
 
 -- a fault up to the line's end
-pub whole_err : {A X : Type 0} (f : List Letter → Reads A) (spell : X → Marked → Marked) (value : X → A) → Traces f spell value → (ls r more : List Letter) (c : Code) → to_end f ls ≡ Err (c, r) → HasLetters r → to_end f (ls ++ more) ≡ Err (c, r ++ more)
+pub whole_err : {A X : Type 0} (f : List Letter → Reads A) (spell : X → MarkedLetters → MarkedLetters) (value : X → A) → Traces f spell value → (ls r more : List Letter) (c : Code) → to_end f ls ≡ Err (c, r) → HasLetters r → to_end f (ls ++ more) ≡ Err (c, r ++ more)
 unfolding to_end fault_or
 whole_err {A} f spell value h ls r more c e some = go (f ls) refl e
   where
@@ -116,7 +116,7 @@ whole_err {A} f spell value h ls r more c e some = go (f ls) refl e
         let stuck = part_err line_end _ _ end_traces y.1 r more c ends some in
         ap (λ (t : Reads A). then_end t) read ∙ ap (with_value y.0) stuck
 
-pub whole_stops : {A X : Type 0} (f : List Letter → Reads A) (spell : X → Marked → Marked) (value : X → A) → Traces f spell value → (e : Stop) (ls r more : List Letter) → StopsAs e r (to_end f ls) → HasLetters r → StopsAs e (r ++ more) (to_end f (ls ++ more))
+pub whole_stops : {A X : Type 0} (f : List Letter → Reads A) (spell : X → MarkedLetters → MarkedLetters) (value : X → A) → Traces f spell value → (e : Stop) (ls r more : List Letter) → StopsAs e r (to_end f ls) → HasLetters r → StopsAs e (r ++ more) (to_end f (ls ++ more))
 whole_stops f spell value h stops.Memory ls r more e some = tt
 whole_stops f spell value h (stops.Fault c) ls r more e some = whole_err f spell value h ls r more c e some
 

@@ -45,15 +45,15 @@ split_at_end (c ∷ []) (suc (suc n)) all e some = ap (λ (t : Bool). cond t ([]
 split_at_end (c ∷ d ∷ bytes) (suc n) all e some = ap (λ (t : Bool). cond t ([] ∷ split_lines (d ∷ bytes)) (in_front c (split_lines (d ∷ bytes)))) (is_same (c == 10) true all.0) ∙ ap (in_front c) (split_at_end (d ∷ bytes) n all.1 e (omega arith))
 
 -- a last carriage return, and a line without one
-pub returned : (front : List ℕ) → without_return (front ++ 13 ∷ []) ≡ front
-returned [] = refl
-returned (b ∷ []) = refl
-returned (b ∷ c ∷ front) = ap (λ (t : List ℕ). b ∷ t) (returned (c ∷ front))
+pub return_dropped : (front : List ℕ) → without_return (front ++ 13 ∷ []) ≡ front
+return_dropped [] = refl
+return_dropped (b ∷ []) = refl
+return_dropped (b ∷ c ∷ front) = ap (λ (t : List ℕ). b ∷ t) (return_dropped (c ∷ front))
 
-pub not_returned : (front : List ℕ) (b : ℕ) → (b == 13) ≡ false → without_return (front ++ b ∷ []) ≡ front ++ b ∷ []
-not_returned [] b e = ap (λ (t : Bool). cond t [] (b ∷ [])) e
-not_returned (c ∷ []) b e = ap (λ (t : List ℕ). c ∷ t) (not_returned [] b e)
-not_returned (c ∷ d ∷ front) b e = ap (λ (t : List ℕ). c ∷ t) (not_returned (d ∷ front) b e)
+pub no_return_kept : (front : List ℕ) (b : ℕ) → (b == 13) ≡ false → without_return (front ++ b ∷ []) ≡ front ++ b ∷ []
+no_return_kept [] b e = ap (λ (t : Bool). cond t [] (b ∷ [])) e
+no_return_kept (c ∷ []) b e = ap (λ (t : List ℕ). c ∷ t) (no_return_kept [] b e)
+no_return_kept (c ∷ d ∷ front) b e = ap (λ (t : List ℕ). c ∷ t) (no_return_kept (d ∷ front) b e)
 
 -- the first of these lines, as a slice is cut
 pub cut_at_feed : (bytes front rest : List ℕ) (n : ℕ) → IsLongestRun (is_other 10) bytes n → front ≡ take n bytes → rest ≡ drop n bytes → 1 ≤ length rest → split_lines bytes ≡ front ∷ split_lines (take (length rest - 1) (drop 1 rest))

@@ -9,6 +9,7 @@ use Rattle.it_syntax.specs.Misspellings.{SpellsUntil}
 use Rattle.std.specs.Char.{is_ascii_digit}
 use Rattle.it_syntax.specs.Spelling.{is_word_byte, is_space, symbol_text, AreAll, IsText}
 use Rattle.it_syntax.proofs.TokenLemmas.{other_byte}
+use Rattle.it_syntax.proofs.RunLemmas.{value_digits}
 use Rattle.it_question.specs.Lines.{in_front, split_lines, without_return, before_comment, without_tab, plain_text}
 
 -- none of the bytes that are read otherwise
@@ -56,7 +57,7 @@ symbol_plain Assign = (refl, (refl, tt))
 text_plain : (k : TokenKind) (text : List ℕ) → IsText k text → AreAll is_plain text
 unfolding is_word_byte
 text_plain kinds.Word text h = all_plain is_word_byte refl refl refl refl text h.1
-text_plain (kinds.Number n) text h = all_plain is_ascii_digit refl refl refl refl text h.1
+text_plain (kinds.Number n) text h = all_plain is_ascii_digit refl refl refl refl text (value_digits 0 text n h.1)
 text_plain (kinds.Symbol s) text h = subst (AreAll is_plain) (sym h) (symbol_plain s)
 
 all_join : (f : ℕ → Bool) (a b : List ℕ) → AreAll f a → AreAll f b → AreAll f (a ++ b)

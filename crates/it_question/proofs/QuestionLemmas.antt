@@ -36,10 +36,10 @@ goes_on front n ls tail after q total lt e h so_far =
     sym (ap (with_questions front) (first_question_is n ls tail lt e ∙ ap (then_more (read_questions (n - 1))) h) ∙ regroup front q (read_questions (n - 1) after)) ∙ so_far
 
 -- the loop stops at a fault in a question
-pub ends : (e : Stop) (front : List BodyView) (n : ℕ) (ls tail rest : List Letter) (total : Reads (List BodyView)) → 0 < n → behind_word vars_text ls ≡ Some tail → StopsAs e rest (read_question tail)
+pub stops_at_fault : (e : Stop) (front : List BodyView) (n : ℕ) (ls tail rest : List Letter) (total : Reads (List BodyView)) → 0 < n → behind_word vars_text ls ≡ Some tail → StopsAs e rest (read_question tail)
     → with_questions front (read_questions n ls) ≡ total → StopsAs e rest total
-ends stops.Memory front n ls tail rest total lt e h so_far = tt
-ends (stops.Fault c) front n ls tail rest total lt e h so_far = sym so_far ∙ ap (with_questions front) (first_question_is n ls tail lt e ∙ ap (then_more (read_questions (n - 1))) h)
+stops_at_fault stops.Memory front n ls tail rest total lt e h so_far = tt
+stops_at_fault (stops.Fault c) front n ls tail rest total lt e h so_far = sym so_far ∙ ap (with_questions front) (first_question_is n ls tail lt e ∙ ap (then_more (read_questions (n - 1))) h)
 
 none_left : (ls tail : List Letter) → behind_word vars_text ls ≡ Some tail → read_questions 0 ls ≡ Err (codes.Many, ls)
 unfolding read_questions

@@ -46,10 +46,10 @@ goes_on seen env ls tail after i total e h so_far =
     sym (ap (with_sets seen) (ap (read_once_more env seen) (comma_is ls tail e) ∙ comma_more env seen tail ∙ ap (then_more env seen) h) ∙ regroup seen i (read_once_more env (seen ++ i ∷ []) after)) ∙ so_far
 
 -- the loop stops at a fault
-pub ends : (e : Stop) (seen : List ℕ) (env : Environment) (ls tail rest : List Letter) (total : Reads (List ℕ)) → after_comma ls ≡ Some tail → StopsAs e rest (read_once env seen tail)
+pub stops_at_fault : (e : Stop) (seen : List ℕ) (env : Environment) (ls tail rest : List Letter) (total : Reads (List ℕ)) → after_comma ls ≡ Some tail → StopsAs e rest (read_once env seen tail)
     → with_sets seen (read_once_more env seen ls) ≡ total → StopsAs e rest total
-ends stops.Memory seen env ls tail rest total e h so_far = tt
-ends (stops.Fault c) seen env ls tail rest total e h so_far = sym so_far ∙ ap (with_sets seen) (ap (read_once_more env seen) (comma_is ls tail e) ∙ comma_more env seen tail ∙ ap (then_more env seen) h)
+stops_at_fault stops.Memory seen env ls tail rest total e h so_far = tt
+stops_at_fault (stops.Fault c) seen env ls tail rest total e h so_far = sym so_far ∙ ap (with_sets seen) (ap (read_once_more env seen) (comma_is ls tail e) ∙ comma_more env seen tail ∙ ap (then_more env seen) h)
 
 no_comma : (env : Environment) (seen : List ℕ) (ls : List Letter) → after_comma ls ≡ None → read_once_more env seen ls ≡ Ok ([], ls)
 unfolding read_once_more

@@ -1,7 +1,7 @@
 -- Regions, and a containment of two, that are spelled so are read, up to the first mark.
 use Rattle.std.proofs.Common.{◌≡◌, ℕ, ◌-◌, List, [], ◌∷◌, length, Option, None, Ok, refl}
 use Rattle.it_syntax.specs.NamesViews.{NamesView}
-use Rattle.it_syntax.specs.Letters.{Word, End, Marked, clean, letters}
+use Rattle.it_syntax.specs.Letters.{Word, End, MarkedLetters, unmarked, letters}
 use Rattle.it_syntax.specs.AtomReading.{◌>>=◌, line_end}
 use Rattle.it_syntax.specs.Scopes.{env_of}
 use Rattle.it_syntax.specs.WrittenAtoms.{Environment}
@@ -19,15 +19,15 @@ use Rattle.it_question.proofs.LineAnswers.{NoOwn, lines_answers, own_no_word}
 use Rattle.it_question.proofs.TryAnswers.{tries_answers}
 
 -- what may follow a region: neither a line of its own nor its `aux` line
-pub record EndsRegion (k : Marked) : Type 0 where
+pub record EndsRegion (k : MarkedLetters) : Type 0 where
   pub no_own : NoOwn k
   pub no_aux : behind_word aux_text (letters k) ≡ None
 
 -- a region behind its word
-abbrev pub spell_bounds : ℕ → ℕ → NamesView → WrittenRegion → Marked → Marked
-spell_bounds g r v x k = clean End ∷ spell_names_line Variable (auxiliaries_left v) aux_text v x.auxiliaries (spell_own g r (names_line_of Variable v x.auxiliaries) x.own k)
+abbrev pub spell_bounds : ℕ → ℕ → NamesView → WrittenRegion → MarkedLetters → MarkedLetters
+spell_bounds g r v x k = unmarked End ∷ spell_names_line Variable (auxiliaries_left v) aux_text v x.auxiliaries (spell_own g r (names_line_of Variable v x.auxiliaries) x.own k)
 
-pub region_answers : (g r : ℕ) (v : NamesView) (x : WrittenRegion) (k : Marked) → EndsRegion k → Answers (read_region g r v (letters (spell_bounds g r v x k))) (spell_bounds g r v x k) (region_of v x) k
+pub region_answers : (g r : ℕ) (v : NamesView) (x : WrittenRegion) (k : MarkedLetters) → EndsRegion k → Answers (read_region g r v (letters (spell_bounds g r v x k))) (spell_bounds g r v x k) (region_of v x) k
 unfolding read_region line_end
 region_answers g r v x k ends =
     let names = names_line_of Variable v x.auxiliaries in
@@ -41,27 +41,27 @@ region_answers g r v x k ends =
     (answers_bind (read_lines g r names (letters n)) (λ own. Ok (record { names = names; auxiliaries = length names.variables - length v.variables; lines = own.0 }, own.1)) n k k own y (lines_answers g r names x.own k ends.no_own) (answers_ok y k)))
 
 -- the second region, the tries and the verb
-abbrev spell_rest : ℕ → ℕ → NamesView → RegionView → WrittenContainment → Marked → Marked
+abbrev spell_rest : ℕ → ℕ → NamesView → RegionView → WrittenContainment → MarkedLetters → MarkedLetters
 spell_rest g r v first x k =
     let second = region_of v x.second in
-    spell_region g r v x.second (spell_tries most_lines (auxiliary_env v second.names) (env_of first.names) (unnamed_sets second.auxiliaries) x.tries (clean (Word contain_text) ∷ clean End ∷ k))
+    spell_region g r v x.second (spell_tries most_lines (auxiliary_env v second.names) (env_of first.names) (unnamed_sets second.auxiliaries) x.tries (unmarked (Word contain_text) ∷ unmarked End ∷ k))
 
-tries_end : (n : ℕ) (aux env : Environment) (sets : List (Option ℕ)) (xs : List WrittenTry) (k : Marked) → EndsRegion (spell_tries n aux env sets xs (clean (Word contain_text) ∷ clean End ∷ k))
+tries_end : (n : ℕ) (aux env : Environment) (sets : List (Option ℕ)) (xs : List WrittenTry) (k : MarkedLetters) → EndsRegion (spell_tries n aux env sets xs (unmarked (Word contain_text) ∷ unmarked End ∷ k))
 unfolding behind_word
 tries_end n aux env sets [] k = record { no_own = record { no_given = refl; no_row = refl }; no_aux = refl }
 tries_end n aux env sets (x ∷ xs) k = record { no_own = record { no_given = refl; no_row = refl }; no_aux = refl }
 
-contain_answers : (k : Marked) → Answers (read_word_line contain_text (letters (clean (Word contain_text) ∷ clean End ∷ k))) (clean (Word contain_text) ∷ clean End ∷ k) tt k
+contain_answers : (k : MarkedLetters) → Answers (read_word_line contain_text (letters (unmarked (Word contain_text) ∷ unmarked End ∷ k))) (unmarked (Word contain_text) ∷ unmarked End ∷ k) tt k
 unfolding read_word_line read_word line_end
-contain_answers k = answers_cons (Word contain_text) _ (clean End ∷ k) tt k (answers_cons End _ k tt k (answers_ok tt k))
+contain_answers k = answers_cons (Word contain_text) _ (unmarked End ∷ k) tt k (answers_cons End _ k tt k (answers_ok tt k))
 
 -- a containment behind its first word
-abbrev pub spell_contained : ℕ → ℕ → NamesView → WrittenContainment → Marked → Marked
+abbrev pub spell_contained : ℕ → ℕ → NamesView → WrittenContainment → MarkedLetters → MarkedLetters
 spell_contained g r v x k =
     let first = region_of v x.first in
     spell_bounds g r v x.first (spell_rest (givens_left g first.lines) (rows_left r first.lines) v first x k)
 
-pub containment_answers : (g r : ℕ) (v : NamesView) (x : WrittenContainment) (k : Marked) → Answers (read_containment g r v (letters (spell_contained g r v x k))) (spell_contained g r v x k) (containment_of v x) k
+pub containment_answers : (g r : ℕ) (v : NamesView) (x : WrittenContainment) (k : MarkedLetters) → Answers (read_containment g r v (letters (spell_contained g r v x k))) (spell_contained g r v x k) (containment_of v x) k
 unfolding read_containment read_word behind_word
 containment_answers g r v x k =
     let first = region_of v x.first in
@@ -71,10 +71,10 @@ containment_answers g r v x k =
     let sets = unnamed_sets second.auxiliaries in
     let givens = givens_left g first.lines in
     let rows = rows_left r first.lines in
-    let verb : Marked = clean (Word contain_text) ∷ clean End ∷ k in
+    let verb : MarkedLetters = unmarked (Word contain_text) ∷ unmarked End ∷ k in
     let lines = spell_tries most_lines aux env sets x.tries verb in
     let bounds = spell_bounds givens rows v x.second lines in
-    let rest : Marked = clean (Word region_text) ∷ bounds in
+    let rest : MarkedLetters = unmarked (Word region_text) ∷ bounds in
     let tries = tries_of aux env sets x.tries in
     let y = containment_of v x in
     let all = spell_bounds g r v x.first rest in

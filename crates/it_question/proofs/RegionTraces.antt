@@ -1,7 +1,7 @@
 -- Regions and containment questions are traced.
 use Rattle.std.proofs.Common.{ℕ, ◌-◌, List, [], ◌∷◌, length, Option, None, Ok, refl}
 use Rattle.it_syntax.specs.NamesViews.{NamesView}
-use Rattle.it_syntax.specs.Letters.{Letter, Word, End, Marked, clean}
+use Rattle.it_syntax.specs.Letters.{Letter, Word, End, MarkedLetters, unmarked}
 use Rattle.it_syntax.specs.AtomReading.{Reads, ◌>>=◌, line_end}
 use Rattle.it_syntax.specs.Scopes.{env_of}
 use Rattle.it_syntax.specs.WrittenAtoms.{WrittenList}
@@ -35,7 +35,7 @@ own_then g r v names ls = read_lines g r names ls >>= λ own. Ok (bounded_by v n
 abbrev read_parts : ℕ → ℕ → NamesView → List Letter → Reads RegionView
 read_parts g r v ls = read_names_line Variable (auxiliaries_left v) aux_text v ls >>= λ names. own_then g r v names.0 names.1
 
-abbrev spell_parts : ℕ → ℕ → NamesView → Parts → Marked → Marked
+abbrev spell_parts : ℕ → ℕ → NamesView → Parts → MarkedLetters → MarkedLetters
 spell_parts g r v x k = spell_names_line Variable (auxiliaries_left v) aux_text v x.0 (spell_own g r (names_line_of Variable v x.0) x.1 k)
 
 abbrev parts_of : NamesView → Parts → RegionView
@@ -56,8 +56,8 @@ region_traces g r v = traces_bind line_end (λ u. read_parts g r v) (read_region
 
 -- ---- a line of one word
 
-abbrev pub spell_word_line : List ℕ → Unit {0} → Marked → Marked
-spell_word_line text u k = clean (Word text) ∷ clean End ∷ k
+abbrev pub spell_word_line : List ℕ → Unit {0} → MarkedLetters → MarkedLetters
+spell_word_line text u k = unmarked (Word text) ∷ unmarked End ∷ k
 
 pub word_line_traces : (text : List ℕ) → Traces (read_word_line text) (spell_word_line text) (λ u. tt)
 unfolding read_word_line spell_end end_value
@@ -73,8 +73,8 @@ contain_then first second tries ls = read_word_line contain_text ls >>= λ e. Ok
 abbrev behind_second : NamesView → RegionView → RegionView → List Letter → Reads VerbView
 behind_second v first second ls = read_tries most_lines (auxiliary_env v second.names) (env_of first.names) (unnamed_sets second.auxiliaries) ls >>= λ tries. contain_then first second tries.0 tries.1
 
-abbrev spell_behind_second : NamesView → RegionView → RegionView → List WrittenTry → Marked → Marked
-spell_behind_second v first second xs k = spell_tries most_lines (auxiliary_env v second.names) (env_of first.names) (unnamed_sets second.auxiliaries) xs (clean (Word contain_text) ∷ clean End ∷ k)
+abbrev spell_behind_second : NamesView → RegionView → RegionView → List WrittenTry → MarkedLetters → MarkedLetters
+spell_behind_second v first second xs k = spell_tries most_lines (auxiliary_env v second.names) (env_of first.names) (unnamed_sets second.auxiliaries) xs (unmarked (Word contain_text) ∷ unmarked End ∷ k)
 
 abbrev behind_second_of : NamesView → RegionView → RegionView → List WrittenTry → VerbView
 behind_second_of v first second xs = Contain first second (tries_of (auxiliary_env v second.names) (env_of first.names) (unnamed_sets second.auxiliaries) xs)
@@ -94,7 +94,7 @@ Second = WrittenRegion × List WrittenTry
 abbrev from_second : ℕ → ℕ → NamesView → RegionView → List Letter → Reads VerbView
 from_second g r v first ls = read_region g r v ls >>= λ second. behind_second v first second.0 second.1
 
-abbrev spell_second : ℕ → ℕ → NamesView → RegionView → Second → Marked → Marked
+abbrev spell_second : ℕ → ℕ → NamesView → RegionView → Second → MarkedLetters → MarkedLetters
 spell_second g r v first x k = spell_bounds g r v x.0 (spell_behind_second v first (region_of v x.0) x.1 k)
 
 abbrev second_of : NamesView → RegionView → Second → VerbView
@@ -111,8 +111,8 @@ some_second = (record { auxiliaries = None; own = [] }, [])
 abbrev behind_first : ℕ → ℕ → NamesView → RegionView → List Letter → Reads VerbView
 behind_first g r v first ls = read_word region_text ls >>= λ x. from_second (givens_left g first.lines) (rows_left r first.lines) v first x.1
 
-abbrev spell_behind_first : ℕ → ℕ → NamesView → RegionView → Second → Marked → Marked
-spell_behind_first g r v first x k = clean (Word region_text) ∷ spell_second (givens_left g first.lines) (rows_left r first.lines) v first x k
+abbrev spell_behind_first : ℕ → ℕ → NamesView → RegionView → Second → MarkedLetters → MarkedLetters
+spell_behind_first g r v first x k = unmarked (Word region_text) ∷ spell_second (givens_left g first.lines) (rows_left r first.lines) v first x k
 
 behind_first_traces : (g r : ℕ) (v : NamesView) (first : RegionView) → Traces (behind_first g r v first) (spell_behind_first g r v first) (second_of v first)
 behind_first_traces g r v first =

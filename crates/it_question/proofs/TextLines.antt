@@ -7,7 +7,7 @@ use Rattle.it_question.specs.Lines.{TokenLine, AreLines, split_lines, file_end, 
 use Rattle.it_question.specs.Texts.{trimmed_line, text_of_lines}
 use Rattle.it_question.proofs.Blanks.{trimmed_once}
 use Rattle.it_question.proofs.PlainLines.{spelled_plain, plain_first}
-use Rattle.it_question.proofs.TrimmedLines.{IsWhole, again}
+use Rattle.it_question.proofs.TrimmedLines.{IsWhole, reads_again}
 use Rattle.it_question.proofs.LineParts.{AreWhole}
 
 -- what the text of these lines is read as, from line number n on
@@ -24,7 +24,7 @@ whole_letters l h = ap (λ (m : Option Misspelling). letters_until l.text l.toke
 pub read_again : (n : ℕ) (lines : List TokenLine) → AreWhole lines → ReadAgain n lines
 read_again n [] h = record { again = end_line n ∷ []; cut = refl; same = refl; text = refl }
 read_again n (l ∷ lines) h =
-    let a = again n l h.0 in
+    let a = reads_again n l h.0 in
     let more = read_again (n + 1) lines h.1 in
     let plain = spelled_plain 0 (trimmed_line l.text) a.line.tokens a.spelled in
     let letters : line_letters a.line ≡ line_letters l = a.letters ∙ sym (whole_letters l h.0) in

@@ -13,7 +13,8 @@ use Rattle.it_syntax.specs.Fronts.{IsLongestRun, symbol_of}
 use Rattle.it_syntax.specs.ReaderSteps.{IsTokenFront}
 use Rattle.it_syntax.specs.Misspellings.{IsWrong, SpellsUntil}
 use Rattle.std.specs.Char.{is_ascii_alphabetic, is_ascii_digit}
-use Rattle.it_syntax.specs.Spelling.{is_word_byte, is_space, value_from, symbol_text, Stops}
+use Rattle.it_syntax.specs.Spelling.{is_word_byte, is_space, symbol_text, Stops}
+use Rattle.it_syntax.proofs.RunLemmas.{digits_value}
 use Rattle.it_syntax.proofs.TokenLemmas.{run_all, cut_made, shape_some}
 
 -- how many bytes of a kind stand in front
@@ -42,9 +43,9 @@ number_front : (b : ℕ) (bytes : List ℕ) → is_ascii_digit b ≡ true → Fr
 number_front b bytes e = by (run_there is_ascii_digit (b ∷ bytes))
   where
     by : (n : ℕ) × IsLongestRun is_ascii_digit (b ∷ bytes) n → Front (b ∷ bytes)
-    by r = let v = value_from 0 (take r.0 (b ∷ bytes)) in elim (cases_lt v (2 ^ 64)) [
-      | inl h ↦ inl (kinds.Number v, r.0, (e, r.1, refl, h))
-      | inr h ↦ inr (codes.Number, (e, (r.0, (r.1, h))))
+    by r = let v = digits_value 0 (take r.0 (b ∷ bytes)) r.1.all in elim (cases_lt v.0 (2 ^ 64)) [
+      | inl h ↦ inl (kinds.Number v.0, r.0, (e, r.1, v.1, h))
+      | inr h ↦ inr (codes.Number, (e, (r.0, (r.1, rw v.1 h))))
     ]
 
 other_front : (b : ℕ) (bytes : List ℕ) → is_ascii_alphabetic b ≡ false → is_ascii_digit b ≡ false → is_space b ≡ false → (o : Option Symbol) → symbol_of (b ∷ bytes) ≡ o → Front (b ∷ bytes)
@@ -85,8 +86,8 @@ token_there at bytes g k n run shape more =
     let t : Token = record { kind = k; start = at + g; end = at + g + n } in
     (t ∷ more.0, more.1, (drop n (drop g bytes), cut_made at g n bytes t run shape refl refl, more.2))
 
-step : (at : ℕ) (bytes : List ℕ) → ((at : ℕ) (rest : List ℕ) → length rest < length bytes → AreThere at rest) → AreThere at bytes
-step at bytes more = by (run_there is_space bytes)
+tokens_step : (at : ℕ) (bytes : List ℕ) → ((at : ℕ) (rest : List ℕ) → length rest < length bytes → AreThere at rest) → AreThere at bytes
+tokens_step at bytes more = by (run_there is_space bytes)
   where
     behind : (g : ℕ) → IsLongestRun is_space bytes g → (body : List ℕ) → drop g bytes ≡ body → Stops is_space body → AreThere at bytes
     behind g run [] e s = blank_there at bytes g run e
@@ -100,10 +101,10 @@ step at bytes more = by (run_there is_space bytes)
     by : (g : ℕ) × IsLongestRun is_space bytes g → AreThere at bytes
     by r = behind r.0 r.1 (drop r.0 bytes) refl r.1.stops
 
-there : (fuel : ℕ) (at : ℕ) (bytes : List ℕ) → length bytes ≤ fuel → AreThere at bytes
-there zero at bytes le = step at bytes (λ a rest lt. absurd (omega arith))
-there (suc fuel) at bytes le = step at bytes (λ a rest lt. there fuel a rest (omega arith))
+tokens_there_within : (fuel : ℕ) (at : ℕ) (bytes : List ℕ) → length bytes ≤ fuel → AreThere at bytes
+tokens_there_within zero at bytes le = tokens_step at bytes (λ a rest lt. absurd (omega arith))
+tokens_there_within (suc fuel) at bytes le = tokens_step at bytes (λ a rest lt. tokens_there_within fuel a rest (omega arith))
 
 -- a line has its tokens
 pub tokens_there : (line : List ℕ) → AreThere 0 line
-tokens_there line = there (length line) 0 line (omega arith)
+tokens_there line = tokens_there_within (length line) 0 line (omega arith)

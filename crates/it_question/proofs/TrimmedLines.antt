@@ -12,6 +12,7 @@ use Rattle.it_syntax.specs.Spans.{letter_of, letters_until}
 use Rattle.std.specs.Char.{is_ascii_digit}
 use Rattle.it_syntax.specs.Spelling.{is_word_byte, is_space, is_greater, symbol_text, AreAll, Stops, IsText, EndsToken, Cut}
 use Rattle.it_syntax.proofs.TokenLemmas.{not_space}
+use Rattle.it_syntax.proofs.RunLemmas.{value_digits}
 use Rattle.it_question.specs.Lines.{TokenLine, IsFilled, IsLine, HasTokens, line_letters}
 use Rattle.it_question.specs.Texts.{without_leading, without_trailing, trimmed_line}
 use Rattle.it_question.proofs.Blanks.{AreSolid, leading_behind, trailing_stops, trailing_blank, solid_kept, some_kept}
@@ -40,7 +41,7 @@ symbol_solid Assign = (refl, (refl, tt))
 text_solid : (k : TokenKind) (text : List ℕ) → IsText k text → AreSolid text
 unfolding is_word_byte
 text_solid kinds.Word text h = all_solid is_word_byte refl text h.1
-text_solid (kinds.Number n) text h = all_solid is_ascii_digit refl text h.1
+text_solid (kinds.Number n) text h = all_solid is_ascii_digit refl text (value_digits 0 text n h.1)
 text_solid (kinds.Symbol s) text h = subst AreSolid (sym h) (symbol_solid s)
 
 abbrev HasBytes : List ℕ → Type 0
@@ -161,8 +162,7 @@ pub record IsWhole (l : TokenLine) : Type 0 where
   pub filled : IsFilled l.tokens None
 
 -- the line that a trimmed line is read as
--- OLD
-pub record Again (n : ℕ) (l : TokenLine) : Type 0 where
+pub record ReadsAgain (n : ℕ) (l : TokenLine) : Type 0 where
   pub line : TokenLine
   pub is : IsLine n (trimmed_line l.text) line
   pub spelled : SpellsUntil 0 (trimmed_line l.text) line.tokens None
@@ -181,8 +181,8 @@ from_first text (t ∷ ts) h f =
     let cut : Cut (length c.gap) (without_leading text) t h.0 = record { gap = []; text = c.text; whole = behind; blank = tt; spelled = c.spelled; ends = c.ends; start = omega (arith, c.start); end = c.end } in
     move_tokens text c.gap (without_leading text) (length c.gap) 0 (t ∷ ts) (c.whole ∙ ap (λ (b : List ℕ). c.gap ++ b) (sym behind)) refl (h.0, cut, h.2)
 
-pub again : (n : ℕ) (l : TokenLine) → IsWhole l → Again n l
-again n l h =
+pub reads_again : (n : ℕ) (l : TokenLine) → IsWhole l → ReadsAgain n l
+reads_again n l h =
     let m = from_first l.text l.tokens h.spelled h.filled in
     record {
       line = record { number = n; text = trimmed_line l.text; tokens = m.tokens; misspelling = None };

@@ -9,9 +9,9 @@ use Rattle.it_syntax.specs.AtomReading.{Reads, ◌>>=◌}
 use Rattle.it_syntax.specs.WrittenAtoms.{Environment}
 use Rattle.it_question.specs.Keywords.{try_text}
 use Rattle.it_question.specs.Limits.{IsTryOf}
-use Rattle.it_question.specs.WrittenTries.{Sets, unnamed_sets, with_set, is_whole, set_or, sets_of}
-use Rattle.it_question.specs.Reading.{behind_word, within_limit, read_assign, read_set, read_auxiliary, read_part, read_parts, read_whole, read_try, if_allowed, try_then, if_tried, read_tries}
-use Rattle.it_syntax.proofs.LimitLemmas.{Sure, sure_bind, Any, any, Knows, IsBelow, some_sets, list_sure}
+use Rattle.it_question.specs.WrittenTries.{Sets, unnamed_sets, with_set, is_whole, set_or, sets_view}
+use Rattle.it_question.specs.Reading.{behind_word, within_limit, read_assign, read_set, read_auxiliary, read_part, read_parts, read_try_end, read_try, if_allowed, try_then, if_tried, read_tries}
+use Rattle.it_syntax.proofs.LimitLemmas.{Sure, sure_bind, Any, sure_any, Knows, IsBelow, some_sets, list_sure}
 
 abbrev IsWithin : ℕ → Option ℕ → Type 0
 IsWithin n o = set_or o < 2 ^ n
@@ -63,8 +63,8 @@ Within n x = AreWithin n x.0
 part_sure : (aux env : Environment) (n : ℕ) → Knows env n → (sets : Sets) → AreWithin n sets → (ls : List Letter) → Sure (Within n) (read_part aux env sets ls)
 unfolding read_part
 part_sure aux env n k sets h ls =
-    sure_bind Any (Within n) (read_auxiliary aux sets ls) (λ i. read_assign i.1 >>= λ behind. read_set env behind >>= λ set. Ok (with_set sets i.0 set.0, set.1)) (any (read_auxiliary aux sets ls))
-    (λ i u. sure_bind Any (Within n) (read_assign i.1) (λ behind. read_set env behind >>= λ set. Ok (with_set sets i.0 set.0, set.1)) (any (read_assign i.1))
+    sure_bind Any (Within n) (read_auxiliary aux sets ls) (λ i. read_assign i.1 >>= λ behind. read_set env behind >>= λ set. Ok (with_set sets i.0 set.0, set.1)) (sure_any (read_auxiliary aux sets ls))
+    (λ i u. sure_bind Any (Within n) (read_assign i.1) (λ behind. read_set env behind >>= λ set. Ok (with_set sets i.0 set.0, set.1)) (sure_any (read_assign i.1))
     (λ behind w. sure_bind (IsBelow (2 ^ n)) (Within n) (read_set env behind) (λ set. Ok (with_set sets i.0 set.0, set.1)) (set_sure env n k behind)
     (λ set hs. record { four = with_set_length sets i.0 set.0 ∙ h.four; within = with_set_within n sets i.0 set.0 hs h.within })))
 
@@ -77,7 +77,7 @@ parts_sure (suc most) aux env n k sets h (Sym Semicolon ∷ ls) = sure_bind (Wit
 parts_sure (suc most) aux env n k sets h [] = h
 parts_sure (suc most) aux env n k sets h (l ∷ ls) = h
 
-sets_sure : (n : ℕ) (sets : Sets) → AreWithin n sets → IsTryOf n (sets_of sets)
+sets_sure : (n : ℕ) (sets : Sets) → AreWithin n sets → IsTryOf n (sets_view sets)
 sets_sure n sets h = record { four = length-map sets set_or ∙ h.four; within = All-map (λ (s : ℕ). s < 2 ^ n) set_or sets h.within }
 
 abbrev Try : ℕ → List ℕ × List Letter → Type 0
@@ -86,9 +86,9 @@ Try n x = IsTryOf n x.0
 try_sure : (aux env : Environment) (n : ℕ) → Knows env n → (sets : Sets) → AreWithin n sets → (ls : List Letter) → Sure (Try n) (read_try aux env sets ls)
 unfolding read_try
 try_sure aux env n k sets h ls =
-    sure_bind (Within n) (Try n) (read_part aux env sets ls) (λ x. read_parts 4 aux env x.0 x.1 >>= λ y. read_whole (is_whole y.0) y.1 >>= λ e. Ok (sets_of y.0, e.1)) (part_sure aux env n k sets h ls)
-    (λ x hx. sure_bind (Within n) (Try n) (read_parts 4 aux env x.0 x.1) (λ y. read_whole (is_whole y.0) y.1 >>= λ e. Ok (sets_of y.0, e.1)) (parts_sure 4 aux env n k x.0 hx x.1)
-    (λ y hy. sure_bind Any (Try n) (read_whole (is_whole y.0) y.1) (λ e. Ok (sets_of y.0, e.1)) (any (read_whole (is_whole y.0) y.1)) (λ e u. sets_sure n y.0 hy)))
+    sure_bind (Within n) (Try n) (read_part aux env sets ls) (λ x. read_parts 4 aux env x.0 x.1 >>= λ y. read_try_end (is_whole y.0) y.1 >>= λ e. Ok (sets_view y.0, e.1)) (part_sure aux env n k sets h ls)
+    (λ x hx. sure_bind (Within n) (Try n) (read_parts 4 aux env x.0 x.1) (λ y. read_try_end (is_whole y.0) y.1 >>= λ e. Ok (sets_view y.0, e.1)) (parts_sure 4 aux env n k x.0 hx x.1)
+    (λ y hy. sure_bind Any (Try n) (read_try_end (is_whole y.0) y.1) (λ e. Ok (sets_view y.0, e.1)) (sure_any (read_try_end (is_whole y.0) y.1)) (λ e u. sets_sure n y.0 hy)))
 
 abbrev pub AreTries : ℕ → ℕ → List (List ℕ) × List Letter → Type 0
 AreTries n most x = (length x.0 ≤ most) × All (IsTryOf n) x.0

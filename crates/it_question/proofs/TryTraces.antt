@@ -3,7 +3,7 @@ use Rattle.std.proofs.Common.{◌≡◌, ℕ, zero, suc, ◌-◌, Bool, true, fa
 use Rattle.it_syntax.specs.declared.types.Symbol.TheVariants.{Semicolon, Assign}
 use Rattle.it_syntax.specs.declared.types.Code.{Code}
 use Rattle.it_syntax.specs.declared.types.Code.TheVariants as codes
-use Rattle.it_syntax.specs.Letters.{Letter, Word, Number, Sym, End, Marked, clean}
+use Rattle.it_syntax.specs.Letters.{Letter, Word, Number, Sym, End, MarkedLetters, unmarked}
 use Rattle.it_syntax.specs.FirstFault.{head, own_code}
 use Rattle.it_syntax.specs.AtomReading.{Reads, ◌>>=◌, read_list, line_end}
 use Rattle.it_syntax.specs.WrittenAtoms.{Environment, is_measure, index_or, spell_list, list_set}
@@ -12,26 +12,26 @@ use Rattle.it_syntax.proofs.AtomTraces.{for_same_head, for_no_head, stuck_here, 
 use Rattle.it_syntax.proofs.LetterReaders.{TakesLetter, behind_traces}
 use Rattle.it_question.specs.Keywords.{try_text}
 use Rattle.it_question.specs.WrittenQuestions.{WrittenSet, Empty, Listed, WrittenPart, WrittenTry}
-use Rattle.it_question.specs.WrittenTries.{Sets, is_named, with_set, is_whole, sets_of, part_mark, spell_set, set_of, spell_part, with_part, spell_parts, with_parts, whole_mark, spell_try, try_of, try_mark, spell_tries, tries_of}
-use Rattle.it_question.specs.Reading.{behind_word, read_assign, read_set, if_unnamed, auxiliary, read_auxiliary, read_part, read_parts, read_whole, read_try, if_allowed, try_then, if_tried, read_tries}
+use Rattle.it_question.specs.WrittenTries.{Sets, is_named, with_set, is_whole, sets_view, part_mark, spell_set, set_of, spell_part, with_part, spell_parts, with_parts, try_end_mark, spell_try, try_of, try_mark, spell_tries, tries_of}
+use Rattle.it_question.specs.Reading.{behind_word, read_assign, read_set, if_unnamed, auxiliary, read_auxiliary, read_part, read_parts, read_try_end, read_try, if_allowed, try_then, if_tried, read_tries}
 use Rattle.it_question.proofs.NameTraces.{some_name, number_of, IsJudged, marked_here, nothing_read, IsAbsent, at_word, behind_traced}
 
 -- ---- the name of an auxiliary
 
-abbrev pub spell_auxiliary : Environment → Sets → List ℕ → Marked → Marked
+abbrev pub spell_auxiliary : Environment → Sets → List ℕ → MarkedLetters → MarkedLetters
 spell_auxiliary aux sets w k = (Word w, part_mark (is_measure w) sets (aux w)) ∷ k
 
 auxiliary_is : (aux : Environment) (sets : Sets) (w : List ℕ) (h : Bool) (o : Option ℕ) → IsJudged aux w h o → (ls : List Letter) → read_auxiliary aux sets (Word w ∷ ls) ≡ auxiliary h sets o w ls
 unfolding read_auxiliary
 auxiliary_is aux sets w h o e ls = ap (λ (b : Bool). auxiliary b sets (aux w) w ls) e.0 ∙ ap (λ (p : Option ℕ). auxiliary h sets p w ls) e.1
 
-mark_is : (aux : Environment) (sets : Sets) (w : List ℕ) (h : Bool) (o : Option ℕ) → IsJudged aux w h o → (k : Marked) → spell_auxiliary aux sets w k ≡ (Word w, part_mark h sets o) ∷ k
+mark_is : (aux : Environment) (sets : Sets) (w : List ℕ) (h : Bool) (o : Option ℕ) → IsJudged aux w h o → (k : MarkedLetters) → spell_auxiliary aux sets w k ≡ (Word w, part_mark h sets o) ∷ k
 mark_is aux sets w h o e k = ap (λ (b : Bool). (Word w, part_mark b sets (aux w)) ∷ k) e.0 ∙ ap (λ (p : Option ℕ). (Word w, part_mark h sets p) ∷ k) e.1
 
 known_is : (aux : Environment) (sets : Sets) (w : List ℕ) (i : ℕ) (b : Bool) → IsJudged aux w false (Some i) → is_named sets i ≡ b → (ls : List Letter) → read_auxiliary aux sets (Word w ∷ ls) ≡ if_unnamed i b ls (Word w ∷ ls)
 known_is aux sets w i b e eb ls = auxiliary_is aux sets w false (Some i) e ls ∙ ap (λ (x : Bool). if_unnamed i x ls (Word w ∷ ls)) eb
 
-known_mark : (aux : Environment) (sets : Sets) (w : List ℕ) (i : ℕ) (b : Bool) → IsJudged aux w false (Some i) → is_named sets i ≡ b → (k : Marked) → spell_auxiliary aux sets w k ≡ (Word w, cond b (Some codes.Twice) None) ∷ k
+known_mark : (aux : Environment) (sets : Sets) (w : List ℕ) (i : ℕ) (b : Bool) → IsJudged aux w false (Some i) → is_named sets i ≡ b → (k : MarkedLetters) → spell_auxiliary aux sets w k ≡ (Word w, cond b (Some codes.Twice) None) ∷ k
 known_mark aux sets w i b e eb k = mark_is aux sets w false (Some i) e k ∙ ap (λ (x : Bool). (Word w, cond x (Some codes.Twice) None) ∷ k) eb
 
 known_by : (aux : Environment) (sets : Sets) (w : List ℕ) (ls : List Letter) (i : ℕ) (b : Bool) → IsJudged aux w false (Some i) → is_named sets i ≡ b → By (read_auxiliary aux sets) (spell_auxiliary aux sets) (number_of aux) (Word w ∷ ls) (if_unnamed i b ls (Word w ∷ ls))
@@ -87,8 +87,8 @@ set_traces env (l ∷ ls) = set_by_names env (l ∷ ls) (for_same_head (λ s. re
 abbrev from_set : Environment → Sets → ℕ → List Letter → Reads Sets
 from_set env sets i ls = read_set env ls >>= λ set. Ok (with_set sets i set.0, set.1)
 
-abbrev spell_assigned : Environment → WrittenSet → Marked → Marked
-spell_assigned env x k = clean (Sym Assign) ∷ spell_set env x k
+abbrev spell_assigned : Environment → WrittenSet → MarkedLetters → MarkedLetters
+spell_assigned env x k = unmarked (Sym Assign) ∷ spell_set env x k
 
 abbrev part_made : List ℕ → WrittenSet → WrittenPart
 part_made w x = record { name = w; set = x }
@@ -106,7 +106,7 @@ Parts = WrittenPart × List WrittenPart
 abbrev part_then : ℕ → Environment → Environment → Sets → List Letter → Reads Sets
 part_then n aux env sets ls = read_part aux env sets ls >>= λ x. read_parts n aux env x.0 x.1
 
-abbrev spell_part_then : Environment → Environment → Sets → Parts → Marked → Marked
+abbrev spell_part_then : Environment → Environment → Sets → Parts → MarkedLetters → MarkedLetters
 spell_part_then aux env sets x k = spell_part aux env sets x.0 (spell_parts aux env (with_part aux env sets x.0) x.1 k)
 
 abbrev part_then_of : Environment → Environment → Sets → Parts → Sets
@@ -135,34 +135,34 @@ parts_traces (suc n) aux env sets (l ∷ ls) = no_part (suc n) aux env sets (l �
 
 -- ---- a whole line
 
-abbrev pub spell_whole : Bool → Unit {0} → Marked → Marked
-spell_whole b u k = (End, whole_mark b) ∷ k
+abbrev pub spell_try_end : Bool → Unit {0} → MarkedLetters → MarkedLetters
+spell_try_end b u k = (End, try_end_mark b) ∷ k
 
 -- the line's end, at which each auxiliary must have its set
-pub whole_traces : (b : Bool) → Traces (read_whole b) (spell_whole b) (λ u. tt)
-unfolding read_whole line_end
-whole_traces true (End ∷ ls) = record { tree = tt; front = End ∷ []; value = refl; parts = refl; spells = λ k. refl; stays = λ s e. refl }
-whole_traces true [] = stuck_none (read_whole true) (spell_whole true) tt refl
-whole_traces true (l ∷ ls) = stuck_here (read_whole true) (spell_whole true) tt l ls _ (λ s. refl) refl
-whole_traces false (End ∷ ls) = marked_here (read_whole false) (spell_whole false) tt End ls codes.Word (λ k. k) (λ k. refl) (λ s. refl)
-whole_traces false [] = stuck_none (read_whole false) (spell_whole false) tt refl
-whole_traces false (l ∷ ls) = stuck_here (read_whole false) (spell_whole false) tt l ls _ (λ s. refl) refl
+pub try_end_traces : (b : Bool) → Traces (read_try_end b) (spell_try_end b) (λ u. tt)
+unfolding read_try_end line_end
+try_end_traces true (End ∷ ls) = record { tree = tt; front = End ∷ []; value = refl; parts = refl; spells = λ k. refl; stays = λ s e. refl }
+try_end_traces true [] = stuck_none (read_try_end true) (spell_try_end true) tt refl
+try_end_traces true (l ∷ ls) = stuck_here (read_try_end true) (spell_try_end true) tt l ls _ (λ s. refl) refl
+try_end_traces false (End ∷ ls) = marked_here (read_try_end false) (spell_try_end false) tt End ls codes.Word (λ k. k) (λ k. refl) (λ s. refl)
+try_end_traces false [] = stuck_none (read_try_end false) (spell_try_end false) tt refl
+try_end_traces false (l ∷ ls) = stuck_here (read_try_end false) (spell_try_end false) tt l ls _ (λ s. refl) refl
 
-abbrev whole_then : Sets → List Letter → Reads (List ℕ)
-whole_then sets ls = read_whole (is_whole sets) ls >>= λ e. Ok (sets_of sets, e.1)
+abbrev try_end_then : Sets → List Letter → Reads (List ℕ)
+try_end_then sets ls = read_try_end (is_whole sets) ls >>= λ e. Ok (sets_view sets, e.1)
 
 abbrev rest_of_try : Environment → Environment → Sets → List Letter → Reads (List ℕ)
-rest_of_try aux env sets ls = read_parts 4 aux env sets ls >>= λ y. whole_then y.0 y.1
+rest_of_try aux env sets ls = read_parts 4 aux env sets ls >>= λ y. try_end_then y.0 y.1
 
-abbrev spell_rest : Environment → Environment → Sets → List WrittenPart → Marked → Marked
-spell_rest aux env sets xs k = spell_parts aux env sets xs (spell_whole (is_whole (with_parts aux env sets xs)) tt k)
+abbrev spell_rest : Environment → Environment → Sets → List WrittenPart → MarkedLetters → MarkedLetters
+spell_rest aux env sets xs k = spell_parts aux env sets xs (spell_try_end (is_whole (with_parts aux env sets xs)) tt k)
 
 abbrev rest_of : Environment → Environment → Sets → List WrittenPart → List ℕ
-rest_of aux env sets xs = sets_of (with_parts aux env sets xs)
+rest_of aux env sets xs = sets_view (with_parts aux env sets xs)
 
 rest_traces : (aux env : Environment) (sets : Sets) → Traces (rest_of_try aux env sets) (spell_rest aux env sets) (rest_of aux env sets)
-rest_traces aux env sets = traces_bind (read_parts 4 aux env sets) whole_then (rest_of_try aux env sets) (spell_parts aux env sets) (λ y. spell_whole (is_whole y)) (spell_rest aux env sets) (with_parts aux env sets) (λ y u. sets_of y) (rest_of aux env sets) (λ xs u. xs)
-    (record { is = λ ls. refl; spells = λ y z k. refl; value = λ y z. refl; some = tt; first = parts_traces 4 aux env sets; second = λ y. traces_map (read_whole (is_whole y)) (λ u. sets_of y) (spell_whole (is_whole y)) (λ u. tt) (whole_traces (is_whole y)) })
+rest_traces aux env sets = traces_bind (read_parts 4 aux env sets) try_end_then (rest_of_try aux env sets) (spell_parts aux env sets) (λ y. spell_try_end (is_whole y)) (spell_rest aux env sets) (with_parts aux env sets) (λ y u. sets_view y) (rest_of aux env sets) (λ xs u. xs)
+    (record { is = λ ls. refl; spells = λ y z k. refl; value = λ y z. refl; some = tt; first = parts_traces 4 aux env sets; second = λ y. traces_map (read_try_end (is_whole y)) (λ u. sets_view y) (spell_try_end (is_whole y)) (λ u. tt) (try_end_traces (is_whole y)) })
 
 abbrev try_made : WrittenPart → List WrittenPart → WrittenTry
 try_made x xs = record { first = x; more = xs }
@@ -179,7 +179,7 @@ try_traces aux env sets = traces_bind (read_part aux env sets) (rest_of_try aux 
 abbrev Tries : Type 0
 Tries = WrittenTry × List WrittenTry
 
-abbrev spell_try_then : ℕ → Environment → Environment → Sets → Tries → Marked → Marked
+abbrev spell_try_then : ℕ → Environment → Environment → Sets → Tries → MarkedLetters → MarkedLetters
 spell_try_then n aux env sets x k = spell_try aux env sets x.0 (spell_tries n aux env sets x.1 k)
 
 abbrev try_then_of : Environment → Environment → Sets → Tries → List (List ℕ)
@@ -195,13 +195,13 @@ tries_made x = x.0 ∷ x.1
 some_try : WrittenTry
 some_try = record { first = record { name = 88 ∷ []; set = Empty }; more = [] }
 
-abbrev behind_try : ℕ → Environment → Environment → Sets → Marked → Marked
+abbrev behind_try : ℕ → Environment → Environment → Sets → MarkedLetters → MarkedLetters
 behind_try n aux env sets k = spell_try aux env sets some_try (spell_tries (n - 1) aux env sets [] k)
 
-tries_spelled : (n : ℕ) (aux env : Environment) (sets : Sets) → is_whole sets ≡ false → (x : Tries) (k : Marked) → spell_tries (suc n) aux env sets (tries_made x) k ≡ clean (Word try_text) ∷ spell_try_then n aux env sets x k
+tries_spelled : (n : ℕ) (aux env : Environment) (sets : Sets) → is_whole sets ≡ false → (x : Tries) (k : MarkedLetters) → spell_tries (suc n) aux env sets (tries_made x) k ≡ unmarked (Word try_text) ∷ spell_try_then n aux env sets x k
 tries_spelled n aux env sets eb x k =
     let e : suc n - 1 ≡ n = omega arith in
-    ap (λ (b : Bool). (Word try_text, try_mark b (suc n)) ∷ spell_try_then (suc n - 1) aux env sets x k) eb ∙ ap (λ (m : ℕ). clean (Word try_text) ∷ spell_try_then m aux env sets x k) e
+    ap (λ (b : Bool). (Word try_text, try_mark b (suc n)) ∷ spell_try_then (suc n - 1) aux env sets x k) eb ∙ ap (λ (m : ℕ). unmarked (Word try_text) ∷ spell_try_then m aux env sets x k) e
 
 -- what stands behind `try`, where f reads it if it may stand there
 abbrev behind_word_of : Bool → ℕ → (List Letter → Reads (List (List ℕ))) → List Letter → Reads (List (List ℕ))

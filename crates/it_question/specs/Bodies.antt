@@ -9,8 +9,8 @@ abbrev pub body_view : Body → BodyView
 body_view b = record { names = b.names; lines = own_lines_view b.lines; verb = verb_view b.verb }
 
 -- one more line
-abbrev pub with_given : OwnLinesView → GivenView → OwnLinesView
-with_given own x = record { givens = own.givens ++ x ∷ []; rows = own.rows }
+abbrev pub with_given_line : OwnLinesView → GivenView → OwnLinesView
+with_given_line own x = record { givens = own.givens ++ x ∷ []; rows = own.rows }
 
-abbrev pub with_row : OwnLinesView → RelationView → OwnLinesView
-with_row own x = record { givens = own.givens; rows = own.rows ++ x ∷ [] }
+abbrev pub with_row_line : OwnLinesView → RelationView → OwnLinesView
+with_row_line own x = record { givens = own.givens; rows = own.rows ++ x ∷ [] }

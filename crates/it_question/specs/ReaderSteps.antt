@@ -18,7 +18,7 @@ unfoldable pub is_other : ℕ → ℕ → Bool
 is_other stop b = not (b == stop)
 
 -- a line was put behind others, if it has tokens
-abbrev pub Added : ℕ → List ℕ → List TokenLine → List TokenLine → Type 0
-Added n bytes old new =
+abbrev pub IsLineAdded : ℕ → List ℕ → List TokenLine → List TokenLine → Type 0
+IsLineAdded n bytes old new =
     (SpellsUntil 0 (plain_text bytes) [] None × (new ≡ old))
     ⊎ ((l : TokenLine) × (new ≡ old ++ l ∷ []) × IsLine n bytes l × HasTokens l)

@@ -15,7 +15,7 @@ use Rattle.it_syntax.specs.GivenReading.{read_given}
 use Rattle.it_question.specs.Keywords.{vars_text, rates_text, given_text, row_text, region_text, aux_text, try_text, prove_text, eliminate_text, contain_text}
 use Rattle.it_question.specs.Questions.{OwnLinesView, RegionView, VerbView, Prove, Eliminate, Contain, BodyView}
 use Rattle.it_question.specs.NewNames.{Sort, Variable, Rate, with_name, no_names, is_taken}
-use Rattle.it_question.specs.WrittenTries.{Sets, unnamed_sets, is_named, with_set, is_whole, sets_of}
+use Rattle.it_question.specs.WrittenTries.{Sets, unnamed_sets, is_named, with_set, is_whole, sets_view}
 use Rattle.it_question.specs.WrittenLines.{no_lines, is_among, rates_env}
 use Rattle.it_question.specs.WrittenRegions.{auxiliaries_left, auxiliary_env, givens_left, rows_left}
 use Rattle.it_question.specs.WrittenQuestions.{most_questions, most_variables, most_rates, most_lines}
@@ -177,17 +177,17 @@ read_parts (suc n) aux env sets (Sym Semicolon ∷ ls) = do
 read_parts n aux env sets ls = Ok (sets, ls)
 
 -- the line's end, at which each auxiliary must have its set
-unfoldable pub read_whole : Bool → List Letter → Reads (Unit {0})
-read_whole true ls = line_end ls
-read_whole false (End ∷ ls) = Err (codes.Word, End ∷ ls)
-read_whole false ls = no_rule ls
+unfoldable pub read_try_end : Bool → List Letter → Reads (Unit {0})
+read_try_end true ls = line_end ls
+read_try_end false (End ∷ ls) = Err (codes.Word, End ∷ ls)
+read_try_end false ls = no_rule ls
 
 unfoldable pub read_try : Environment → Environment → Sets → List Letter → Reads (List ℕ)
 read_try aux env sets ls = do
   x ← read_part aux env sets ls
   y ← read_parts 4 aux env x.0 x.1
-  e ← read_whole (is_whole y.0) y.1
-  Ok (sets_of y.0, e.1)
+  e ← read_try_end (is_whole y.0) y.1
+  Ok (sets_view y.0, e.1)
 
 -- what stands behind `try`, if such a line may stand there and more are allowed
 abbrev pub if_allowed : {A : Type 0} → Bool → ℕ → (List Letter → Reads A) → List Letter → List Letter → Reads A

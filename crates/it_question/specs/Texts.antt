@@ -29,26 +29,26 @@ abbrev pub one_if_some : {X : Type 0} → List X → ℕ
 one_if_some [] = 0
 one_if_some (x ∷ xs) = 1
 
-abbrev pub own_lines : OwnLinesView → ℕ
-own_lines own = length own.givens + length own.rows
+abbrev pub own_line_count : OwnLinesView → ℕ
+own_line_count own = length own.givens + length own.rows
 
 abbrev pub one_unless_zero : ℕ → ℕ
 one_unless_zero n = if n == 0 then 0 else 1
 
 -- with its `region` line
-abbrev pub region_lines : RegionView → ℕ
-region_lines r = 1 + one_unless_zero r.auxiliaries + own_lines r.lines
+abbrev pub region_line_count : RegionView → ℕ
+region_line_count r = 1 + one_unless_zero r.auxiliaries + own_line_count r.lines
 
 -- with the verb's line
-abbrev pub verb_lines : VerbView → ℕ
-verb_lines (Prove r) = 1
-verb_lines (Eliminate rates) = 1
-verb_lines (Contain first second tries) = region_lines first + region_lines second + length tries + 1
+abbrev pub verb_line_count : VerbView → ℕ
+verb_line_count (Prove r) = 1
+verb_line_count (Eliminate rates) = 1
+verb_line_count (Contain first second tries) = region_line_count first + region_line_count second + length tries + 1
 
-abbrev pub question_lines : BodyView → ℕ
-question_lines q = 1 + one_if_some q.names.rates + own_lines q.lines + verb_lines q.verb
+abbrev pub question_line_count : BodyView → ℕ
+question_line_count q = 1 + one_if_some q.names.rates + own_line_count q.lines + verb_line_count q.verb
 
 -- the questions of these lines, one after the other, with their texts
 abbrev pub with_texts : List TokenLine → List BodyView → List QuestionView
 with_texts lines [] = []
-with_texts lines (q ∷ qs) = record { body = q; text = text_of_lines (take (question_lines q) lines) } ∷ with_texts (drop (question_lines q) lines) qs
+with_texts lines (q ∷ qs) = record { body = q; text = text_of_lines (take (question_line_count q) lines) } ∷ with_texts (drop (question_line_count q) lines) qs

@@ -1,7 +1,7 @@
 -- How the verb's lines, questions and whole files are spelled, and what they ask.
 use Rattle.std.specs.Prelude.{ℕ, ◌-◌, true, List, [], ◌∷◌, map}
 use Rattle.it_syntax.specs.NamesViews.{NamesView}
-use Rattle.it_syntax.specs.Letters.{Word, End, Marked, clean}
+use Rattle.it_syntax.specs.Letters.{Word, End, MarkedLetters, unmarked}
 use Rattle.it_syntax.specs.WrittenRelations.{spell_relation, relation_of}
 use Rattle.it_syntax.specs.Scopes.{scope_of}
 use Rattle.it_question.specs.Lines.{file_end}
@@ -13,9 +13,9 @@ use Rattle.it_question.specs.WrittenLines.{limit_mark, spell_own, own_of, spell_
 use Rattle.it_question.specs.WrittenRegions.{givens_left, rows_left, spell_containment, containment_of}
 use Rattle.it_question.specs.Questions as views
 
-abbrev pub spell_verb : ℕ → ℕ → NamesView → WrittenVerb → Marked → Marked
-spell_verb g r v (Prove x) k = clean (Word prove_text) ∷ spell_relation (scope_of v true) x (clean End ∷ k)
-spell_verb g r v (Eliminate l) k = clean (Word eliminate_text) ∷ spell_distinct (rates_env v) l (clean End ∷ k)
+abbrev pub spell_verb : ℕ → ℕ → NamesView → WrittenVerb → MarkedLetters → MarkedLetters
+spell_verb g r v (Prove x) k = unmarked (Word prove_text) ∷ spell_relation (scope_of v true) x (unmarked End ∷ k)
+spell_verb g r v (Eliminate l) k = unmarked (Word eliminate_text) ∷ spell_distinct (rates_env v) l (unmarked End ∷ k)
 spell_verb g r v (Contain x) k = spell_containment g r v x k
 
 abbrev pub verb_of : NamesView → WrittenVerb → VerbView
@@ -27,13 +27,13 @@ abbrev pub names_of : WrittenQuestion → NamesView
 names_of x = names_line_of Rate (new_names_of Variable no_names x.variables) x.rates
 
 -- behind `vars`
-abbrev pub spell_question : WrittenQuestion → Marked → Marked
+abbrev pub spell_question : WrittenQuestion → MarkedLetters → MarkedLetters
 spell_question x k =
     let variables = new_names_of Variable no_names x.variables in
     let names = names_of x in
     let own = own_of names x.own in
     spell_new_names Variable most_variables no_names x.variables
-    (clean End ∷ spell_names_line Rate most_rates rates_text variables x.rates
+    (unmarked End ∷ spell_names_line Rate most_rates rates_text variables x.rates
     (spell_own most_lines most_lines names x.own
     (spell_verb (givens_left most_lines own) (rows_left most_lines own) names x.verb k)))
 
@@ -41,7 +41,7 @@ abbrev pub question_of : WrittenQuestion → BodyView
 question_of x = let names = names_of x in record { names = names; lines = own_of names x.own; verb = verb_of names x.verb }
 
 -- questions, of which n are allowed
-abbrev pub spell_questions : ℕ → List WrittenQuestion → Marked → Marked
+abbrev pub spell_questions : ℕ → List WrittenQuestion → MarkedLetters → MarkedLetters
 spell_questions n [] k = k
 spell_questions n (x ∷ xs) k = (Word vars_text, limit_mark n) ∷ spell_question x (spell_questions (n - 1) xs k)
 
@@ -49,5 +49,5 @@ abbrev pub questions_of : List WrittenQuestion → List BodyView
 questions_of xs = map question_of xs
 
 -- a whole file, up to its end
-abbrev pub spell_file : List WrittenQuestion → Marked
-spell_file xs = spell_questions most_questions xs (clean file_end ∷ [])
+abbrev pub spell_file : List WrittenQuestion → MarkedLetters
+spell_file xs = spell_questions most_questions xs (unmarked file_end ∷ [])

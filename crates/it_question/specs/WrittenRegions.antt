@@ -1,7 +1,7 @@
 -- How the regions of a containment are spelled, and what they say.
 use Rattle.std.specs.Prelude.{ℕ, ◌-◌, min, nat_lt, ◌∷◌, length, Option, Some, None, if◌then◌else◌}
 use Rattle.it_syntax.specs.NamesViews.{NamesView, index_of}
-use Rattle.it_syntax.specs.Letters.{Word, End, Marked, clean}
+use Rattle.it_syntax.specs.Letters.{Word, End, MarkedLetters, unmarked}
 use Rattle.it_syntax.specs.WrittenAtoms.{Environment}
 use Rattle.it_syntax.specs.Scopes.{env_of}
 use Rattle.it_question.specs.Keywords.{region_text, aux_text, contain_text}
@@ -16,8 +16,8 @@ use Rattle.it_question.specs.Questions as views
 abbrev pub auxiliaries_left : NamesView → ℕ
 auxiliaries_left v = min most_auxiliaries (most_variables - length v.variables)
 
-abbrev pub spell_region : ℕ → ℕ → NamesView → WrittenRegion → Marked → Marked
-spell_region g r v x k = clean (Word region_text) ∷ clean End ∷ spell_names_line Variable (auxiliaries_left v) aux_text v x.auxiliaries (spell_own g r (names_line_of Variable v x.auxiliaries) x.own k)
+abbrev pub spell_region : ℕ → ℕ → NamesView → WrittenRegion → MarkedLetters → MarkedLetters
+spell_region g r v x k = unmarked (Word region_text) ∷ unmarked End ∷ spell_names_line Variable (auxiliaries_left v) aux_text v x.auxiliaries (spell_own g r (names_line_of Variable v x.auxiliaries) x.own k)
 
 abbrev pub region_of : NamesView → WrittenRegion → RegionView
 region_of v x = let names = names_line_of Variable v x.auxiliaries in record { names = names; auxiliaries = length names.variables - length v.variables; lines = own_of names x.own }
@@ -37,14 +37,14 @@ givens_left g own = g - length own.givens
 abbrev pub rows_left : ℕ → OwnLinesView → ℕ
 rows_left r own = r - length own.rows
 
-abbrev pub spell_containment : ℕ → ℕ → NamesView → WrittenContainment → Marked → Marked
+abbrev pub spell_containment : ℕ → ℕ → NamesView → WrittenContainment → MarkedLetters → MarkedLetters
 spell_containment g r v x k =
     let first = region_of v x.first in
     let second = region_of v x.second in
     spell_region g r v x.first
     (spell_region (givens_left g first.lines) (rows_left r first.lines) v x.second
     (spell_tries most_lines (auxiliary_env v second.names) (env_of first.names) (unnamed_sets second.auxiliaries) x.tries
-    (clean (Word contain_text) ∷ clean End ∷ k)))
+    (unmarked (Word contain_text) ∷ unmarked End ∷ k)))
 
 abbrev pub containment_of : NamesView → WrittenContainment → VerbView
 containment_of v x =

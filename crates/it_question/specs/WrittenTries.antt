@@ -2,7 +2,7 @@
 use Rattle.std.specs.Prelude.{ℕ, zero, suc, ◌-◌, Bool, true, false, List, [], ◌∷◌, map, is_some, Option, Some, None, if◌then◌else◌}
 use Rattle.it_syntax.specs.declared.types.Symbol.TheVariants.{Semicolon, Assign}
 use Rattle.it_syntax.specs.declared.types.Code.{Code}
-use Rattle.it_syntax.specs.Letters.{Word, Number, Sym, End, Marked, clean}
+use Rattle.it_syntax.specs.Letters.{Word, Number, Sym, End, MarkedLetters, unmarked}
 use Rattle.it_syntax.specs.WrittenAtoms.{Environment, is_measure, index_or, spell_list, list_set}
 use Rattle.it_question.specs.Keywords.{try_text}
 use Rattle.it_question.specs.WrittenQuestions.{Empty, Listed, WrittenSet, WrittenPart, WrittenTry}
@@ -40,8 +40,8 @@ abbrev pub set_or : Option ℕ → ℕ
 set_or None = 0
 set_or (Some set) = set
 
-abbrev pub sets_of : Sets → List ℕ
-sets_of sets = map set_or sets
+abbrev pub sets_view : Sets → List ℕ
+sets_view sets = map set_or sets
 
 -- against the name of an auxiliary: it may be no name, be none of them, or have been named
 abbrev pub part_mark : Bool → Sets → Option ℕ → Option Code
@@ -49,8 +49,8 @@ part_mark true sets o = Some codes.Word
 part_mark false sets None = Some codes.Name
 part_mark false sets (Some i) = if is_named sets i then Some codes.Twice else None
 
-abbrev pub spell_set : Environment → WrittenSet → Marked → Marked
-spell_set env Empty k = clean (Number 0) ∷ k
+abbrev pub spell_set : Environment → WrittenSet → MarkedLetters → MarkedLetters
+spell_set env Empty k = unmarked (Number 0) ∷ k
 spell_set env (Listed l) k = spell_list env l k
 
 abbrev pub set_of : Environment → WrittenSet → ℕ
@@ -58,40 +58,40 @@ set_of env Empty = 0
 set_of env (Listed l) = list_set env l
 
 -- `aux` tells the auxiliaries of the second region, `env` the variables of the first
-abbrev pub spell_part : Environment → Environment → Sets → WrittenPart → Marked → Marked
-spell_part aux env sets x k = (Word x.name, part_mark (is_measure x.name) sets (aux x.name)) ∷ clean (Sym Assign) ∷ spell_set env x.set k
+abbrev pub spell_part : Environment → Environment → Sets → WrittenPart → MarkedLetters → MarkedLetters
+spell_part aux env sets x k = (Word x.name, part_mark (is_measure x.name) sets (aux x.name)) ∷ unmarked (Sym Assign) ∷ spell_set env x.set k
 
 abbrev pub with_part : Environment → Environment → Sets → WrittenPart → Sets
 with_part aux env sets x = with_set sets (index_or (aux x.name)) (set_of env x.set)
 
-abbrev pub spell_parts : Environment → Environment → Sets → List WrittenPart → Marked → Marked
+abbrev pub spell_parts : Environment → Environment → Sets → List WrittenPart → MarkedLetters → MarkedLetters
 spell_parts aux env sets [] k = k
-spell_parts aux env sets (x ∷ xs) k = clean (Sym Semicolon) ∷ spell_part aux env sets x (spell_parts aux env (with_part aux env sets x) xs k)
+spell_parts aux env sets (x ∷ xs) k = unmarked (Sym Semicolon) ∷ spell_part aux env sets x (spell_parts aux env (with_part aux env sets x) xs k)
 
 abbrev pub with_parts : Environment → Environment → Sets → List WrittenPart → Sets
 with_parts aux env sets [] = sets
 with_parts aux env sets (x ∷ xs) = with_parts aux env (with_part aux env sets x) xs
 
 -- a line that leaves out an auxiliary is wrong at its end
-abbrev pub whole_mark : Bool → Option Code
-whole_mark true = None
-whole_mark false = Some codes.Word
+abbrev pub try_end_mark : Bool → Option Code
+try_end_mark true = None
+try_end_mark false = Some codes.Word
 
 -- behind `try`, up to the line's end
-abbrev pub spell_try : Environment → Environment → Sets → WrittenTry → Marked → Marked
+abbrev pub spell_try : Environment → Environment → Sets → WrittenTry → MarkedLetters → MarkedLetters
 spell_try aux env sets x k =
     let first = with_part aux env sets x.first in
-    spell_part aux env sets x.first (spell_parts aux env first x.more ((End, whole_mark (is_whole (with_parts aux env first x.more))) ∷ k))
+    spell_part aux env sets x.first (spell_parts aux env first x.more ((End, try_end_mark (is_whole (with_parts aux env first x.more))) ∷ k))
 
 abbrev pub try_of : Environment → Environment → Sets → WrittenTry → List ℕ
-try_of aux env sets x = sets_of (with_parts aux env (with_part aux env sets x.first) x.more)
+try_of aux env sets x = sets_view (with_parts aux env (with_part aux env sets x.first) x.more)
 
 -- A `try` line may not stand where the second region has no auxiliaries; n are allowed.
 abbrev pub try_mark : Bool → ℕ → Option Code
 try_mark true n = Some codes.Word
 try_mark false n = limit_mark n
 
-abbrev pub spell_tries : ℕ → Environment → Environment → Sets → List WrittenTry → Marked → Marked
+abbrev pub spell_tries : ℕ → Environment → Environment → Sets → List WrittenTry → MarkedLetters → MarkedLetters
 spell_tries n aux env sets [] k = k
 spell_tries n aux env sets (x ∷ xs) k = (Word try_text, try_mark (is_whole sets) n) ∷ spell_try aux env sets x (spell_tries (n - 1) aux env sets xs k)
 

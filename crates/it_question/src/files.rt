@@ -10,7 +10,7 @@ ghost use Rattle.it_question.specs.Questions.{question_view, question_body};
 use crate::asking::bodies;
 use crate::cursor::{Cursor, Line};
 use crate::lines::file_lines;
-use crate::places::{count, left, place};
+use crate::places::{count, letters_left, place};
 use crate::texts::with_texts;
 use crate::types::{FileFault, Question};
 use it_syntax::rest::Stop;
@@ -23,7 +23,7 @@ fn fault(lines: &[Line], cursor: Cursor<'_>, code: Code) -> FileFault
     requires there { IsLeft (map token_line lines.now) (left cursor) }
     ensures { IsFaultAt (place_of (map token_line lines.now) (left cursor.entry)) code result }
 {
-    let at = count(lines) - left(&cursor);
+    let at = count(lines) - letters_left(&cursor);
     let (line, column) = place(lines, at).unwrap();
     FileFault::Fault { line, column, code }
 }

@@ -3,7 +3,7 @@ ghost use Rattle.std.specs.Bool.{OnTrue, OnFalse};
 ghost use Rattle.std.specs.Prelude.{◌≡◌, ◌≤◌, ◌++◌, [], ◌∷◌, length, map, None, IfOk, OnOk};
 ghost use Rattle.it_question.specs.Cursors.{token_line};
 ghost use Rattle.it_question.specs.Lines.{AreLinesOf, IsLine, HasTokens, end_line};
-ghost use Rattle.it_question.specs.ReaderSteps.{Added};
+ghost use Rattle.it_question.specs.ReaderSteps.{IsLineAdded};
 
 use crate::cursor::Line;
 use crate::plain::{first_line, plain_text};
@@ -43,7 +43,7 @@ fn has_tokens(line: &Line) -> bool
 /// Puts a line behind the others, if it has tokens.
 fn add(alloc: Global, lines: &mut Vec<Line>, number: u32, bytes: &[u8]) -> Result<(), AllocError>
     requires { length bytes.now ≤ 1048577 }
-    ensures { OnOk result (Added number bytes.now (map token_line lines.old.items) (map token_line lines.new.items)) }
+    ensures { OnOk result (IsLineAdded number bytes.now (map token_line lines.old.items) (map token_line lines.new.items)) }
 {
     let line = line_of(alloc, number, bytes)?;
     if has_tokens(&line) {

@@ -4,7 +4,7 @@ ghost use Rattle.it_syntax.specs.declared.rest.Stop.TheVariants.{Memory};
 ghost use Rattle.it_syntax.specs.Givens.{given_view};
 ghost use Rattle.it_syntax.specs.Gives.{GivesBy};
 ghost use Rattle.it_syntax.specs.Meaning.{relation_view};
-ghost use Rattle.it_question.specs.Bodies.{with_given, with_row};
+ghost use Rattle.it_question.specs.Bodies.{with_given_line, with_row_line};
 ghost use Rattle.it_question.specs.Cursors.{left};
 ghost use Rattle.it_question.specs.Questions.{own_lines_view};
 ghost use Rattle.it_question.specs.Reading.{read_lines};
@@ -37,7 +37,7 @@ impl OwnLines {
 
 /// Puts the constraint of a `given` line behind the others.
 fn add_given(own: &mut OwnLines, given: Given) -> Result<(), Stop>
-    ensures added { OnOk result (own_lines_view own.new ≡ with_given (own_lines_view own.old) (given_view given)) }
+    ensures added { OnOk result (own_lines_view own.new ≡ with_given_line (own_lines_view own.old) (given_view given)) }
     ensures memory { IfErr result (λ e. e ≡ Memory) }
 {
     match own.givens.push(given) {
@@ -48,7 +48,7 @@ fn add_given(own: &mut OwnLines, given: Given) -> Result<(), Stop>
 
 /// Puts the relation of a `row` line behind the others.
 fn add_row(own: &mut OwnLines, row: Relation) -> Result<(), Stop>
-    ensures added { OnOk result (own_lines_view own.new ≡ with_row (own_lines_view own.old) (relation_view row)) }
+    ensures added { OnOk result (own_lines_view own.new ≡ with_row_line (own_lines_view own.old) (relation_view row)) }
     ensures memory { IfErr result (λ e. e ≡ Memory) }
 {
     match own.rows.push(row) {

@@ -20,7 +20,7 @@ pub fn count(lines: &[Line]) -> usize
 
 /// How many letters are left.
 #[tactic(auto, unfolding(crate::specs::Cursors::left))]
-pub fn left(cursor: &Cursor<'_>) -> usize
+pub fn letters_left(cursor: &Cursor<'_>) -> usize
     requires { length (left cursor.now) ≤ 2 ^ 32 }
     ensures { result ≡ length (left cursor.now) }
 {

@@ -16,7 +16,7 @@ fn is_other(stop: u8, b: u8) -> bool
 
 /// The number of bytes in front of the first that is `stop`.
 #[tactic(auto, using(crate::proofs::PlainLemmas::run_lemmas))]
-fn before(bytes: &[u8], stop: u8) -> usize
+fn count_before(bytes: &[u8], stop: u8) -> usize
     ensures { IsLongestRun (is_other stop) bytes.now result }
 {
     for (i, b) in bytes.iter().enumerate() {
@@ -34,7 +34,7 @@ pub fn first_line(bytes: &[u8]) -> (&[u8], &[u8])
     ensures shorter { length result.0.now + length result.1.now ≤ length bytes.now }
     ensures progress { length result.1.now < length bytes.now }
 {
-    let (line, behind) = bytes.split_at(before(bytes, b'\n'));
+    let (line, behind) = bytes.split_at(count_before(bytes, b'\n'));
     match behind {
         [_, behind @ ..] => (line, behind),
         [] => (line, behind),
@@ -42,7 +42,7 @@ pub fn first_line(bytes: &[u8]) -> (&[u8], &[u8])
 }
 
 /// The line without a carriage return at its end.
-#[tactic(auto, using(crate::proofs::PlainLemmas::returned, crate::proofs::PlainLemmas::not_returned))]
+#[tactic(auto, using(crate::proofs::PlainLemmas::return_dropped, crate::proofs::PlainLemmas::no_return_kept))]
 fn without_return(line: &[u8]) -> &[u8]
     ensures { result.now ≡ without_return line.now }
 {
@@ -56,7 +56,7 @@ fn without_return(line: &[u8]) -> &[u8]
 fn before_comment(line: &[u8]) -> &[u8]
     ensures { result.now ≡ before_comment line.now }
 {
-    line.split_at(before(line, b'#')).0
+    line.split_at(count_before(line, b'#')).0
 }
 
 /// The byte, a space for a tab.

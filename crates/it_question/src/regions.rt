@@ -55,7 +55,7 @@ fn copy_of(names: &Names) -> Result<Names, Stop>
     ensures copy { IfOk result (λ n. n ≡ names.now) }
     ensures memory { IfErr result (λ e. e ≡ Memory) }
 {
-    match names.copied() {
+    match names.copy() {
         Ok(names) => Ok(names),
         Err(_) => Err(Stop::Memory),
     }

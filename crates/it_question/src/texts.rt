@@ -5,7 +5,7 @@ ghost use Rattle.it_question.specs.Cursors.{token_line};
 ghost use Rattle.it_question.specs.Limits.{IsQuestion};
 ghost use Rattle.it_question.specs.ReaderSteps.{FewLines, FewLinesOf};
 ghost use Rattle.it_question.specs.Questions.{verb_view, question_view, region_view};
-ghost use Rattle.it_question.specs.Texts.{without_leading, without_trailing, trimmed_line, text_of_lines, region_lines, verb_lines, question_lines, with_texts};
+ghost use Rattle.it_question.specs.Texts.{without_leading, without_trailing, trimmed_line, text_of_lines, region_line_count, verb_line_count, question_line_count, with_texts};
 
 use crate::bodies::Body;
 use crate::cursor::Line;
@@ -64,9 +64,9 @@ pub fn text_of(alloc: Global, lines: &[Line]) -> Result<Vec<u8>, AllocError>
 
 /// How many lines a region has, its `region` line among them.
 #[tactic(auto, using(crate::proofs::LineCountLemmas::few_givens, crate::proofs::LineCountLemmas::few_rows, crate::proofs::LineCountLemmas::region_lines_are))]
-fn region_lines(region: &Region) -> usize
+fn region_line_count(region: &Region) -> usize
     requires { FewLines (region_view region.now).lines }
-    ensures lines { result ≡ region_lines (region_view region.now) }
+    ensures lines { result ≡ region_line_count (region_view region.now) }
     ensures few { result ≤ 130 }
 {
     let auxiliaries = if region.auxiliaries == 0 { 0 } else { 1 };
@@ -74,9 +74,9 @@ fn region_lines(region: &Region) -> usize
 }
 
 /// How many lines stand from the verb or the first region on.
-fn verb_lines(verb: &Verb) -> usize
+fn verb_line_count(verb: &Verb) -> usize
     requires { FewLinesOf (verb_view verb.now) }
-    ensures lines { result ≡ verb_lines (verb_view verb.now) }
+    ensures lines { result ≡ verb_line_count (verb_view verb.now) }
     ensures few { result ≤ 325 }
 {
     match verb {
@@ -86,14 +86,14 @@ fn verb_lines(verb: &Verb) -> usize
             first,
             second,
             tries,
-        } => region_lines(first) + region_lines(second) + tries.len() + 1,
+        } => region_line_count(first) + region_line_count(second) + tries.len() + 1,
     }
 }
 
 /// How many lines a question has.
-fn question_lines(question: &Body) -> usize
+fn question_line_count(question: &Body) -> usize
     requires { IsQuestion (body_view question.now) }
-    ensures { result ≡ question_lines (body_view question.now) }
+    ensures { result ≡ question_line_count (body_view question.now) }
 {
     let rates = if question.names.space().rates == 0 {
         0
@@ -102,7 +102,7 @@ fn question_lines(question: &Body) -> usize
     };
     1 + rates
         + (question.lines.givens.len() + question.lines.rows.len())
-        + verb_lines(&question.verb)
+        + verb_line_count(&question.verb)
 }
 
 /// The first lines, and those behind them.
@@ -139,7 +139,7 @@ pub fn with_texts(
     let mut left = bodies.into_iter();
     let mut questions = Vec::new(alloc);
     while let Some(body) = left.next() {
-        let (own, behind) = cut(rest, question_lines(&body));
+        let (own, behind) = cut(rest, question_line_count(&body));
         let question = with_text(alloc, own, body)?;
         match questions.push(question) {
             Ok(()) => {}

@@ -7,9 +7,9 @@ ghost use Rattle.it_syntax.specs.ReaderSteps.{Passes};
 ghost use Rattle.it_syntax.specs.AtomReading.{read_list};
 ghost use Rattle.it_syntax.specs.Scopes.{env_of};
 ghost use Rattle.it_question.specs.Cursors.{left};
-ghost use Rattle.it_question.specs.Reading.{after_semicolon, read_auxiliary, read_assign, read_set, read_part, read_parts, read_whole, read_try, read_tries};
+ghost use Rattle.it_question.specs.Reading.{after_semicolon, read_auxiliary, read_assign, read_set, read_part, read_parts, read_try_end, read_try, read_tries};
 ghost use Rattle.it_question.specs.WrittenRegions.{auxiliary_env};
-ghost use Rattle.it_question.specs.WrittenTries.{is_named, with_set, is_whole, set_or, sets_of, unnamed_sets};
+ghost use Rattle.it_question.specs.WrittenTries.{is_named, with_set, is_whole, set_or, sets_view, unnamed_sets};
 
 use crate::cursor::Cursor;
 use crate::parts::names_set;
@@ -182,9 +182,9 @@ fn parts(cursor: &mut Cursor<'_>, regions: Regions<'_>, sets: &mut Sets) -> Resu
 }
 
 /// The line's end, if each auxiliary has its set.
-#[tactic(auto, unfolding(crate::specs::Reading::read_whole))]
-fn whole(cursor: &mut Cursor<'_>, sets: &Sets) -> Result<(), Stop>
-    ensures { Gives result (left cursor.new) (read_whole (is_whole sets.now) (left cursor.old)) }
+#[tactic(auto, unfolding(crate::specs::Reading::read_try_end))]
+fn try_end(cursor: &mut Cursor<'_>, sets: &Sets) -> Result<(), Stop>
+    ensures { Gives result (left cursor.new) (read_try_end (is_whole sets.now) (left cursor.old)) }
 {
     if is_whole(sets) {
         return line_end(cursor);
@@ -204,7 +204,7 @@ fn set_of(set: &Option<VarSet>) -> VarSet
 
 /// The sets of the auxiliaries in order.
 fn sets_of(sets: &Sets) -> [VarSet; 4]
-    ensures { result ≡ sets_of sets.now }
+    ensures { result ≡ sets_view sets.now }
 {
     [
         set_of(&sets[0]),
@@ -251,7 +251,7 @@ fn substitution(
     let mut sets = unnamed_sets(auxiliaries);
     part(cursor, regions, &mut sets)?;
     parts(cursor, regions, &mut sets)?;
-    whole(cursor, &sets)?;
+    try_end(cursor, &sets)?;
     Ok(sets_of(&sets))
 }
 

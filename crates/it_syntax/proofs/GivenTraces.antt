@@ -8,16 +8,16 @@ use Rattle.it_syntax.specs.declared.types.Symbol.TheVariants.{Arrow, Semicolon, 
 use Rattle.it_syntax.specs.declared.types.Code.{Code}
 use Rattle.it_syntax.specs.declared.types.Code.TheVariants as codes
 use Rattle.it_syntax.specs.declared.types.Sign.TheVariants as signs
-use Rattle.it_syntax.specs.Letters.{Letter, Word, Sym, Marked, clean, letters}
+use Rattle.it_syntax.specs.Letters.{Letter, Word, Sym, MarkedLetters, unmarked, letters}
 use Rattle.it_syntax.specs.FirstFault.{head, own_code}
-use Rattle.it_syntax.specs.WrittenAtoms.{Environment, WrittenList, Entropy, EntropyGiven, Mutual, MutualGiven, TermSign, Positive, Negative, is_measure, unknown, name_mark, spell_list, list_set, mark_surplus}
+use Rattle.it_syntax.specs.WrittenAtoms.{Environment, WrittenList, Entropy, EntropyGiven, Mutual, MutualGiven, TermSign, Positive, Negative, is_measure, unknown_mark, name_mark, spell_list, list_set, mark_surplus}
 use Rattle.it_syntax.specs.WrittenRelations.{Scope, Measure, RateOf, WrittenTerm, Zero, Once, Times, WrittenRelation, spell_sum, spell_relation, relation_of}
 use Rattle.it_syntax.specs.WrittenGivens.{markov_text, indep_text, func_text, of_text, is_form, is_form_first, WrittenChain, WrittenIndependence, WrittenFunction, WrittenGiven, Relation, Markov, Independent, Function, spell_members, spell_chain, spell_bar, spell_independence, spell_function, spell_given, sets_of, bar_set, chain_of, independence_of, function_of, given_of}
 use Rattle.it_syntax.specs.Givens.{GivenView}
 use Rattle.it_syntax.specs.Givens as given_views
 use Rattle.it_syntax.specs.AtomReading.{Reads, ◌>>=◌, semicolon, read_list}
 use Rattle.it_syntax.specs.RelationReading.{read_relation}
-use Rattle.it_syntax.specs.GivenReading.{arrow, read_of, spare, read_spare, member_then, read_members, with_sets, read_chain, read_bar, read_independence, read_function, read_plain, read_given}
+use Rattle.it_syntax.specs.GivenReading.{arrow, read_of, surplus_name, read_surplus_member, member_then, read_members, with_sets, read_chain, read_bar, read_independence, read_function, read_plain, read_given}
 use Rattle.it_syntax.proofs.Traces.{Went, Stuck, By, Traces, traces_bind, traces_map, letter_then, switch}
 use Rattle.it_syntax.proofs.AtomTraces.{for_same_head, for_no_head, stuck_here, stuck_none, some_list, list_traces}
 use Rattle.it_syntax.proofs.RelationTraces.{relation_traces}
@@ -62,8 +62,8 @@ of_takes = record { takes = λ s. refl; refuses = refuses }
 abbrev Members : Type 0
 Members = WrittenList × List WrittenList
 
-abbrev spell_spare : Divider → Environment → Members → Marked → Marked
-spell_spare d env m k = mark_surplus (spell_list env m.0 (spell_members zero d env m.1 k))
+abbrev spell_surplus_member : Divider → Environment → Members → MarkedLetters → MarkedLetters
+spell_surplus_member d env m k = mark_surplus (spell_list env m.0 (spell_members zero d env m.1 k))
 
 abbrev members_of : Environment → Members → List ℕ
 members_of env m = list_set env m.0 ∷ sets_of env m.1
@@ -72,35 +72,35 @@ one_name : List ℕ → WrittenList
 one_name w = record { first = w; more = [] }
 
 -- the first letter of a list of one name is marked by c
-spare_at : (d : Divider) (env : Environment) (w : List ℕ) (ls : List Letter) (c : Code) → ((k : Marked) → mark_surplus ((Word w, name_mark env w) ∷ k) ≡ (Word w, Some c) ∷ k) → ((r : List Letter) → read_spare env (Word w ∷ r) ≡ Err (c, Word w ∷ r)) → Stuck (read_spare env) (spell_spare d env) (Word w ∷ ls) c (Word w ∷ ls)
+surplus_member_marked : (d : Divider) (env : Environment) (w : List ℕ) (ls : List Letter) (c : Code) → ((k : MarkedLetters) → mark_surplus ((Word w, name_mark env w) ∷ k) ≡ (Word w, Some c) ∷ k) → ((r : List Letter) → read_surplus_member env (Word w ∷ r) ≡ Err (c, Word w ∷ r)) → Stuck (read_surplus_member env) (spell_surplus_member d env) (Word w ∷ ls) c (Word w ∷ ls)
 unfolding one_name
-spare_at d env w ls c h e = record {
+surplus_member_marked d env w ls c h e = record {
   tree = (one_name w, []);
   front = [];
   parts = refl;
   spells = λ k. (mark_surplus (spell_list env (one_name w) k), (refl, inr (Word w, k, (h k, refl))));
-  stays = for_same_head (λ r. read_spare env r ≡ Err (c, r)) (Word w) e;
+  stays = for_same_head (λ r. read_surplus_member env r ≡ Err (c, r)) (Word w) e;
 }
 
-spare_is : (env : Environment) (w : List ℕ) (h : Bool) (o : Option ℕ) → is_measure w ≡ h → env w ≡ o → (ls : List Letter) → read_spare env (Word w ∷ ls) ≡ spare w h o ls
-unfolding read_spare
-spare_is env w h o eh eo ls = ap (λ (b : Bool). spare w b (env w) ls) eh ∙ ap (λ (p : Option ℕ). spare w h p ls) eo
+surplus_member_is : (env : Environment) (w : List ℕ) (h : Bool) (o : Option ℕ) → is_measure w ≡ h → env w ≡ o → (ls : List Letter) → read_surplus_member env (Word w ∷ ls) ≡ surplus_name w h o ls
+unfolding read_surplus_member
+surplus_member_is env w h o eh eo ls = ap (λ (b : Bool). surplus_name w b (env w) ls) eh ∙ ap (λ (p : Option ℕ). surplus_name w h p ls) eo
 
-mark_is : (env : Environment) (w : List ℕ) (h : Bool) (o : Option ℕ) → is_measure w ≡ h → env w ≡ o → name_mark env w ≡ cond h (Some codes.Word) (unknown o)
-mark_is env w h o eh eo = ap (λ (b : Bool). cond b (Some codes.Word) (unknown (env w))) eh ∙ ap (λ (p : Option ℕ). cond h (Some codes.Word) (unknown p)) eo
+mark_is : (env : Environment) (w : List ℕ) (h : Bool) (o : Option ℕ) → is_measure w ≡ h → env w ≡ o → name_mark env w ≡ cond h (Some codes.Word) (unknown_mark o)
+mark_is env w h o eh eo = ap (λ (b : Bool). cond b (Some codes.Word) (unknown_mark (env w))) eh ∙ ap (λ (p : Option ℕ). cond h (Some codes.Word) (unknown_mark p)) eo
 
-spare_by : (d : Divider) (env : Environment) (w : List ℕ) (ls : List Letter) (h : Bool) (o : Option ℕ) → is_measure w ≡ h → env w ≡ o → By (read_spare env) (spell_spare d env) (members_of env) (Word w ∷ ls) (spare w h o ls)
-spare_by d env w ls true o eh eo = spare_at d env w ls codes.Word (λ k. ap (λ (m : Option Code). mark_surplus ((Word w, m) ∷ k)) (mark_is env w true o eh eo)) (spare_is env w true o eh eo)
-spare_by d env w ls false (Some i) eh eo = spare_at d env w ls codes.Many (λ k. ap (λ (m : Option Code). mark_surplus ((Word w, m) ∷ k)) (mark_is env w false (Some i) eh eo)) (spare_is env w false (Some i) eh eo)
-spare_by d env w ls false None eh eo = spare_at d env w ls codes.Name (λ k. ap (λ (m : Option Code). mark_surplus ((Word w, m) ∷ k)) (mark_is env w false None eh eo)) (spare_is env w false None eh eo)
+surplus_member_by : (d : Divider) (env : Environment) (w : List ℕ) (ls : List Letter) (h : Bool) (o : Option ℕ) → is_measure w ≡ h → env w ≡ o → By (read_surplus_member env) (spell_surplus_member d env) (members_of env) (Word w ∷ ls) (surplus_name w h o ls)
+surplus_member_by d env w ls true o eh eo = surplus_member_marked d env w ls codes.Word (λ k. ap (λ (m : Option Code). mark_surplus ((Word w, m) ∷ k)) (mark_is env w true o eh eo)) (surplus_member_is env w true o eh eo)
+surplus_member_by d env w ls false (Some i) eh eo = surplus_member_marked d env w ls codes.Many (λ k. ap (λ (m : Option Code). mark_surplus ((Word w, m) ∷ k)) (mark_is env w false (Some i) eh eo)) (surplus_member_is env w false (Some i) eh eo)
+surplus_member_by d env w ls false None eh eo = surplus_member_marked d env w ls codes.Name (λ k. ap (λ (m : Option Code). mark_surplus ((Word w, m) ∷ k)) (mark_is env w false None eh eo)) (surplus_member_is env w false None eh eo)
 
-spare_traces : (d : Divider) (env : Environment) → Traces (read_spare env) (spell_spare d env) (members_of env)
-unfolding read_spare
-spare_traces d env (Word w ∷ ls) = spare_by d env w ls (is_measure w) (env w) refl refl
-spare_traces d env [] = stuck_none (read_spare env) (spell_spare d env) (some_list, []) refl
-spare_traces d env (l ∷ ls) = stuck_here (read_spare env) (spell_spare d env) (some_list, []) l ls _ (λ s. refl) refl
+surplus_member_traces : (d : Divider) (env : Environment) → Traces (read_surplus_member env) (spell_surplus_member d env) (members_of env)
+unfolding read_surplus_member
+surplus_member_traces d env (Word w ∷ ls) = surplus_member_by d env w ls (is_measure w) (env w) refl refl
+surplus_member_traces d env [] = stuck_none (read_surplus_member env) (spell_surplus_member d env) (some_list, []) refl
+surplus_member_traces d env (l ∷ ls) = stuck_here (read_surplus_member env) (spell_surplus_member d env) (some_list, []) l ls _ (λ s. refl) refl
 
-abbrev spell_member : ℕ → Divider → Environment → Members → Marked → Marked
+abbrev spell_member : ℕ → Divider → Environment → Members → MarkedLetters → MarkedLetters
 spell_member n d env m k = spell_list env m.0 (spell_members n d env m.1 k)
 
 member_traces : (n : ℕ) (d : Divider) (env : Environment) → Traces (read_members n d env) (spell_members n d env) (sets_of env) → Traces (member_then (read_members n d env) env) (spell_member n d env) (members_of env)
@@ -116,10 +116,10 @@ no_member n d env ls h = record { tree = []; front = []; value = refl; parts = r
 
 members_traces : (n : ℕ) (d : Divider) (env : Environment) → Traces (read_members n d env) (spell_members n d env) (sets_of env)
 unfolding read_members
-members_traces zero Arrows env (Sym Arrow ∷ ls) = letter_then (read_members zero Arrows env) (read_spare env) (Sym Arrow) (spell_spare Arrows env) (spell_members zero Arrows env) (members_of env) (sets_of env) all_members ls (λ s. refl) (λ z k. refl) (λ z. refl) (read_spare env ls) (spare_traces Arrows env ls)
+members_traces zero Arrows env (Sym Arrow ∷ ls) = letter_then (read_members zero Arrows env) (read_surplus_member env) (Sym Arrow) (spell_surplus_member Arrows env) (spell_members zero Arrows env) (members_of env) (sets_of env) all_members ls (λ s. refl) (λ z k. refl) (λ z. refl) (read_surplus_member env ls) (surplus_member_traces Arrows env ls)
 members_traces zero Arrows env [] = no_member zero Arrows env [] (for_no_head (λ s. read_members zero Arrows env s ≡ Ok ([], s)) refl)
 members_traces zero Arrows env (l ∷ ls) = no_member zero Arrows env (l ∷ ls) (for_same_head (λ s. read_members zero Arrows env s ≡ Ok ([], s)) l (λ s. refl))
-members_traces zero Semicolons env (Sym Semicolon ∷ ls) = letter_then (read_members zero Semicolons env) (read_spare env) (Sym Semicolon) (spell_spare Semicolons env) (spell_members zero Semicolons env) (members_of env) (sets_of env) all_members ls (λ s. refl) (λ z k. refl) (λ z. refl) (read_spare env ls) (spare_traces Semicolons env ls)
+members_traces zero Semicolons env (Sym Semicolon ∷ ls) = letter_then (read_members zero Semicolons env) (read_surplus_member env) (Sym Semicolon) (spell_surplus_member Semicolons env) (spell_members zero Semicolons env) (members_of env) (sets_of env) all_members ls (λ s. refl) (λ z k. refl) (λ z. refl) (read_surplus_member env ls) (surplus_member_traces Semicolons env ls)
 members_traces zero Semicolons env [] = no_member zero Semicolons env [] (for_no_head (λ s. read_members zero Semicolons env s ≡ Ok ([], s)) refl)
 members_traces zero Semicolons env (l ∷ ls) = no_member zero Semicolons env (l ∷ ls) (for_same_head (λ s. read_members zero Semicolons env s ≡ Ok ([], s)) l (λ s. refl))
 members_traces (suc n) Arrows env (Sym Arrow ∷ ls) = letter_then (read_members (suc n) Arrows env) (member_then (read_members n Arrows env) env) (Sym Arrow) (spell_member n Arrows env) (spell_members (suc n) Arrows env) (members_of env) (sets_of env) all_members ls (λ s. refl) (λ z k. refl) (λ z. refl) (member_then (read_members n Arrows env) env ls) (member_traces n Arrows env (members_traces n Arrows env) ls)
@@ -144,10 +144,10 @@ third_traces env a b = traces_bind (read_list env) (λ c ls. with_sets (a ∷ b 
 abbrev Seconds : Type 0
 Seconds = WrittenList × Members
 
-abbrev spell_third : Environment → Members → Marked → Marked
-spell_third env m k = clean (Sym Arrow) ∷ spell_member 13 Arrows env m k
+abbrev spell_third : Environment → Members → MarkedLetters → MarkedLetters
+spell_third env m k = unmarked (Sym Arrow) ∷ spell_member 13 Arrows env m k
 
-abbrev spell_second : Environment → Seconds → Marked → Marked
+abbrev spell_second : Environment → Seconds → MarkedLetters → MarkedLetters
 spell_second env m k = spell_list env m.0 (spell_third env m.1 k)
 
 abbrev from_second : Environment → ℕ → List Letter → Reads GivenView
@@ -163,8 +163,8 @@ second_traces : (env : Environment) (a : ℕ) → Traces (from_second env a) (sp
 second_traces env a = traces_bind (read_list env) (λ b ls. arrow ls >>= from_third env a b) (from_second env a) (spell_list env) (λ b. spell_third env) (spell_second env) (list_set env) (third_of env a) (second_of env a) (λ b m. (b, m))
     (record { is = λ ls. refl; spells = λ y z k. refl; value = λ y z. refl; some = some_members; first = list_traces env; second = λ b. behind_traces arrow (Sym Arrow) (from_third env a b) (spell_member 13 Arrows env) (third_of env a b) some_members pointed_takes (third_traces env a b) })
 
-abbrev spell_seconds : Environment → Seconds → Marked → Marked
-spell_seconds env m k = clean (Sym Arrow) ∷ spell_second env m k
+abbrev spell_seconds : Environment → Seconds → MarkedLetters → MarkedLetters
+spell_seconds env m k = unmarked (Sym Arrow) ∷ spell_second env m k
 
 chain_made : WrittenList → Seconds → WrittenChain
 chain_made a m = record { first = a; second = m.0; third = m.1.0; more = m.1.1 }
@@ -186,7 +186,7 @@ bar_traces env (l ∷ ls) = record { tree = None; front = []; value = refl; part
 abbrev Others : Type 0
 Others = List WrittenList × Option WrittenList
 
-abbrev spell_others : Environment → Others → Marked → Marked
+abbrev spell_others : Environment → Others → MarkedLetters → MarkedLetters
 spell_others env o k = spell_members 14 Semicolons env o.0 (spell_bar env o.1 k)
 
 abbrev from_others : Environment → ℕ → ℕ → List Letter → Reads GivenView
@@ -202,7 +202,7 @@ others_traces env a b = traces_bind (λ ls. with_sets (a ∷ b ∷ []) (read_mem
 abbrev Partners : Type 0
 Partners = WrittenList × Others
 
-abbrev spell_partners : Environment → Partners → Marked → Marked
+abbrev spell_partners : Environment → Partners → MarkedLetters → MarkedLetters
 spell_partners env p k = spell_list env p.0 (spell_others env p.1 k)
 
 abbrev from_partner : Environment → ℕ → List Letter → Reads GivenView
@@ -215,8 +215,8 @@ partner_traces : (env : Environment) (a : ℕ) → Traces (from_partner env a) (
 partner_traces env a = traces_bind (read_list env) (from_others env a) (from_partner env a) (spell_list env) (λ b. spell_others env) (spell_partners env) (list_set env) (others_of env a) (partners_of env a) (λ b o. (b, o))
     (record { is = λ ls. refl; spells = λ y z k. refl; value = λ y z. refl; some = ([], None); first = list_traces env; second = others_traces env a })
 
-abbrev spell_behind_first : Environment → Partners → Marked → Marked
-spell_behind_first env p k = clean (Sym Semicolon) ∷ spell_partners env p k
+abbrev spell_behind_first : Environment → Partners → MarkedLetters → MarkedLetters
+spell_behind_first env p k = unmarked (Sym Semicolon) ∷ spell_partners env p k
 
 independence_made : WrittenList → Partners → WrittenIndependence
 independence_made a p = record { first = a; second = p.0; more = p.1.0; given = p.1.1 }
@@ -234,8 +234,8 @@ independence_traces env = traces_bind (read_list env) (λ a ls. semicolon ls >>=
 abbrev from_argument : Environment → ℕ → List Letter → Reads GivenView
 from_argument env z ls = read_list env ls >>= λ x. Ok (given_views.Function z x.0, x.1)
 
-abbrev spell_argument : Environment → WrittenList → Marked → Marked
-spell_argument env x k = clean (Word of_text) ∷ spell_list env x k
+abbrev spell_argument : Environment → WrittenList → MarkedLetters → MarkedLetters
+spell_argument env x k = unmarked (Word of_text) ∷ spell_list env x k
 
 function_made : WrittenList → WrittenList → WrittenFunction
 function_made z x = record { value = z; argument = x }
@@ -253,10 +253,10 @@ opens_form (Word w ∷ ls) = is_form w
 opens_form ls = false
 
 -- a relation begins as a form where its first letter does
-pub opens : (s : Scope) (x : WrittenRelation) (k : Marked) → opens_form (letters (spell_relation s x k)) ≡ is_form_first x.left.sign x.left.first
-opens s x k = by x.left.sign x.left.first x.left.more _
+pub opens_form_first : (s : Scope) (x : WrittenRelation) (k : MarkedLetters) → opens_form (letters (spell_relation s x k)) ≡ is_form_first x.left.sign x.left.first
+opens_form_first s x k = by x.left.sign x.left.first x.left.more _
   where
-    by : (o : Option TermSign) (t : WrittenTerm) (more : List (TermSign × WrittenTerm)) (k : Marked) → opens_form (letters (spell_sum 256 s (record { sign = o; first = t; more = more }) k)) ≡ is_form_first o t
+    by : (o : Option TermSign) (t : WrittenTerm) (more : List (TermSign × WrittenTerm)) (k : MarkedLetters) → opens_form (letters (spell_sum 256 s (record { sign = o; first = t; more = more }) k)) ≡ is_form_first o t
     by (Some Positive) t more k = refl
     by (Some Negative) t more k = refl
     by None Zero more k = refl
@@ -292,7 +292,7 @@ plain_restricts s = record { spells = λ x p k. refl; values = λ x p. refl; som
 
 plain_traces : (s : Scope) (ls : List Letter) → opens_form ls ≡ false → By (read_plain s) (spell_given s) (given_of s) ls (read_plain s ls)
 unfolding read_plain
-plain_traces s ls e = by_restriction (read_plain s) (spell_relation s) (λ x. given_views.Relation (relation_of s x)) (spell_given s) (given_of s) IsPlain plain_made (plain_restricts s) ls (λ x k h. sym (opens s x k) ∙ same_opening (letters (spell_relation s x k)) ls h ∙ e) (read_plain s ls)
+plain_traces s ls e = by_restriction (read_plain s) (spell_relation s) (λ x. given_views.Relation (relation_of s x)) (spell_given s) (given_of s) IsPlain plain_made (plain_restricts s) ls (λ x k h. sym (opens_form_first s x k) ∙ same_opening (letters (spell_relation s x k)) ls h ∙ e) (read_plain s ls)
     (traces_map (read_relation s) given_views.Relation (spell_relation s) (relation_of s) (relation_traces s) ls)
 
 -- ---- conditions
@@ -306,11 +306,11 @@ word_is s w h i j eh ei ej ls = ap (λ (b : Bool). given_by_word s w ls b (bytes
 
 given_line_by : (s : Scope) (w : List ℕ) (ls : List Letter) (h i j : Bool) → bytes_eq w markov_text ≡ h → bytes_eq w indep_text ≡ i → bytes_eq w func_text ≡ j → By (read_given s) (spell_given s) (given_of s) (Word w ∷ ls) (given_by_word s w ls h i j)
 given_line_by s w ls true i j eh ei ej = letter_then (read_given s) (read_chain s.variables) (Word w) (spell_chain s.variables) (spell_given s) (chain_of s.variables) (given_of s) Markov ls (word_is s w true i j eh ei ej)
-    (λ z k. ap (λ (t : List ℕ). clean (Word t) ∷ spell_chain s.variables z k) (sym ((bytes_eq-Decides w markov_text).0 eh))) (λ z. refl) (read_chain s.variables ls) (chain_traces s.variables ls)
+    (λ z k. ap (λ (t : List ℕ). unmarked (Word t) ∷ spell_chain s.variables z k) (sym ((bytes_eq-Decides w markov_text).0 eh))) (λ z. refl) (read_chain s.variables ls) (chain_traces s.variables ls)
 given_line_by s w ls false true j eh ei ej = letter_then (read_given s) (read_independence s.variables) (Word w) (spell_independence s.variables) (spell_given s) (independence_of s.variables) (given_of s) Independent ls (word_is s w false true j eh ei ej)
-    (λ z k. ap (λ (t : List ℕ). clean (Word t) ∷ spell_independence s.variables z k) (sym ((bytes_eq-Decides w indep_text).0 ei))) (λ z. refl) (read_independence s.variables ls) (independence_traces s.variables ls)
+    (λ z k. ap (λ (t : List ℕ). unmarked (Word t) ∷ spell_independence s.variables z k) (sym ((bytes_eq-Decides w indep_text).0 ei))) (λ z. refl) (read_independence s.variables ls) (independence_traces s.variables ls)
 given_line_by s w ls false false true eh ei ej = letter_then (read_given s) (read_function s.variables) (Word w) (spell_function s.variables) (spell_given s) (function_of s.variables) (given_of s) Function ls (word_is s w false false true eh ei ej)
-    (λ z k. ap (λ (t : List ℕ). clean (Word t) ∷ spell_function s.variables z k) (sym ((bytes_eq-Decides w func_text).0 ej))) (λ z. refl) (read_function s.variables ls) (function_traces s.variables ls)
+    (λ z k. ap (λ (t : List ℕ). unmarked (Word t) ∷ spell_function s.variables z k) (sym ((bytes_eq-Decides w func_text).0 ej))) (λ z. refl) (read_function s.variables ls) (function_traces s.variables ls)
 given_line_by s w ls false false false eh ei ej = switch (read_plain s) (read_given s) (spell_given s) (given_of s) (Word w ∷ ls) (for_same_head (λ t. read_given s t ≡ read_plain s t) (Word w) (word_is s w false false false eh ei ej)) (read_plain s (Word w ∷ ls))
     (plain_traces s (Word w ∷ ls) (ap (λ (b : Bool). b || (bytes_eq w indep_text || bytes_eq w func_text)) eh ∙ ap (λ (b : Bool). b || bytes_eq w func_text) ei ∙ ej))
 

@@ -12,7 +12,7 @@ use Rattle.it_syntax.specs.Letters.{Letter, Word, Sym, Bad}
 use Rattle.it_syntax.specs.Meaning.{IsAtomOf}
 use Rattle.it_syntax.specs.NamesViews.{NamesView}
 use Rattle.it_syntax.specs.WrittenAtoms.{Environment, entropy_text, mutual_text, is_measure}
-use Rattle.it_syntax.specs.AtomReading.{Fault, ◌>>=◌, no_rule, variable_or_fault, read_name, read_more, read_list, close_paren, open_paren, semicolon, bar_or_close, read_given_set, read_joint, read_mutual, read_atom}
+use Rattle.it_syntax.specs.AtomReading.{Fault, ◌>>=◌, no_rule, variable_or_fault, read_name, read_more, read_list, close_paren, open_paren, semicolon, bar_or_close, read_given_set, read_entropy, read_mutual_information, read_atom}
 use Rattle.it_syntax.specs.Scopes.{env_of}
 
 -- of what was read, if it was
@@ -29,10 +29,10 @@ sure_bind P Q (Err e) f h k = tt
 pub Any : {A : Type 0} → A → Type 0
 Any x = Unit {0}
 
-pub any : {A : Type 0} (r : Result A Fault) → Sure Any r
+pub sure_any : {A : Type 0} (r : Result A Fault) → Sure Any r
 unfolding Any
-any (Ok x) = tt
-any (Err e) = tt
+sure_any (Ok x) = tt
+sure_any (Err e) = tt
 
 -- nothing is read
 pub stuck_sure : {A : Type 0} (P : A × List Letter → Type 0) (ls : List Letter) → Sure P (no_rule ls)
@@ -90,7 +90,7 @@ closed_sure P x h (l ∷ ls) = tt
 
 given_sure : (env : Environment) (n : ℕ) → Knows env n → (ls : List Letter) → Sure (IsBelow (2 ^ n)) (read_given_set env ls)
 unfolding read_given_set
-given_sure env n k ls = sure_bind Any (IsBelow (2 ^ n)) (bar_or_close ls) (λ bar. cond bar.0 (read_list env bar.1 >>= λ c. close_paren c.0 c.1) (Ok (0, bar.1))) (any (bar_or_close ls)) (λ bar u. chosen bar.0 bar.1)
+given_sure env n k ls = sure_bind Any (IsBelow (2 ^ n)) (bar_or_close ls) (λ bar. cond bar.0 (read_list env bar.1 >>= λ c. close_paren c.0 c.1) (Ok (0, bar.1))) (sure_any (bar_or_close ls)) (λ bar u. chosen bar.0 bar.1)
   where
     chosen : (b : Bool) (rest : List Letter) → Sure (IsBelow (2 ^ n)) (cond b (read_list env rest >>= λ c. close_paren c.0 c.1) (Ok (0, rest)))
     chosen true rest = sure_bind (IsBelow (2 ^ n)) (IsBelow (2 ^ n)) (read_list env rest) (λ c. close_paren c.0 c.1) (list_sure env n k rest) (λ c hc. closed_sure (λ (s : ℕ). s < 2 ^ n) c.0 hc c.1)
@@ -99,19 +99,19 @@ given_sure env n k ls = sure_bind Any (IsBelow (2 ^ n)) (bar_or_close ls) (λ ba
 abbrev pub HasSets : ℕ → ℕ → Atom × List Letter → Type 0
 HasSets n m x = IsAtomOf n m x.0
 
-joint_sure : (env : Environment) (n m : ℕ) → Knows env n → (ls : List Letter) → Sure (HasSets n m) (read_joint env ls)
-unfolding read_joint
-joint_sure env n m k ls =
-    sure_bind Any (HasSets n m) (open_paren ls) (λ inner. read_list env inner >>= λ a. read_given_set env a.1 >>= λ c. Ok (Entropy a.0 c.0, c.1)) (any (open_paren ls))
+entropy_sure : (env : Environment) (n m : ℕ) → Knows env n → (ls : List Letter) → Sure (HasSets n m) (read_entropy env ls)
+unfolding read_entropy
+entropy_sure env n m k ls =
+    sure_bind Any (HasSets n m) (open_paren ls) (λ inner. read_list env inner >>= λ a. read_given_set env a.1 >>= λ c. Ok (Entropy a.0 c.0, c.1)) (sure_any (open_paren ls))
     (λ inner u. sure_bind (IsBelow (2 ^ n)) (HasSets n m) (read_list env inner) (λ a. read_given_set env a.1 >>= λ c. Ok (Entropy a.0 c.0, c.1)) (list_sure env n k inner)
     (λ a ha. sure_bind (IsBelow (2 ^ n)) (HasSets n m) (read_given_set env a.1) (λ c. Ok (Entropy a.0 c.0, c.1)) (given_sure env n k a.1) (λ c hc. (ha, hc))))
 
-mutual_sure : (env : Environment) (n m : ℕ) → Knows env n → (ls : List Letter) → Sure (HasSets n m) (read_mutual env ls)
-unfolding read_mutual
-mutual_sure env n m k ls =
-    sure_bind Any (HasSets n m) (open_paren ls) (λ inner. read_list env inner >>= λ a. semicolon a.1 >>= λ middle. read_list env middle >>= λ b. read_given_set env b.1 >>= λ c. Ok (Mutual a.0 b.0 c.0, c.1)) (any (open_paren ls))
+mutual_information_sure : (env : Environment) (n m : ℕ) → Knows env n → (ls : List Letter) → Sure (HasSets n m) (read_mutual_information env ls)
+unfolding read_mutual_information
+mutual_information_sure env n m k ls =
+    sure_bind Any (HasSets n m) (open_paren ls) (λ inner. read_list env inner >>= λ a. semicolon a.1 >>= λ middle. read_list env middle >>= λ b. read_given_set env b.1 >>= λ c. Ok (Mutual a.0 b.0 c.0, c.1)) (sure_any (open_paren ls))
     (λ inner u. sure_bind (IsBelow (2 ^ n)) (HasSets n m) (read_list env inner) (λ a. semicolon a.1 >>= λ middle. read_list env middle >>= λ b. read_given_set env b.1 >>= λ c. Ok (Mutual a.0 b.0 c.0, c.1)) (list_sure env n k inner)
-    (λ a ha. sure_bind Any (HasSets n m) (semicolon a.1) (λ middle. read_list env middle >>= λ b. read_given_set env b.1 >>= λ c. Ok (Mutual a.0 b.0 c.0, c.1)) (any (semicolon a.1))
+    (λ a ha. sure_bind Any (HasSets n m) (semicolon a.1) (λ middle. read_list env middle >>= λ b. read_given_set env b.1 >>= λ c. Ok (Mutual a.0 b.0 c.0, c.1)) (sure_any (semicolon a.1))
     (λ middle v. sure_bind (IsBelow (2 ^ n)) (HasSets n m) (read_list env middle) (λ b. read_given_set env b.1 >>= λ c. Ok (Mutual a.0 b.0 c.0, c.1)) (list_sure env n k middle)
     (λ b hb. sure_bind (IsBelow (2 ^ n)) (HasSets n m) (read_given_set env b.1) (λ c. Ok (Mutual a.0 b.0 c.0, c.1)) (given_sure env n k b.1) (λ c hc. (ha, hb, hc))))))
 
@@ -120,9 +120,9 @@ pub atom_sure : (env : Environment) (n m : ℕ) → Knows env n → (ls : List L
 unfolding read_atom
 atom_sure env n m k (Word w ∷ ls) = chosen (bytes_eq w entropy_text) (bytes_eq w mutual_text)
   where
-    chosen : (h i : Bool) → Sure (HasSets n m) (cond h (read_joint env ls) (cond i (read_mutual env ls) (no_rule (Word w ∷ ls))))
-    chosen true i = joint_sure env n m k ls
-    chosen false true = mutual_sure env n m k ls
+    chosen : (h i : Bool) → Sure (HasSets n m) (cond h (read_entropy env ls) (cond i (read_mutual_information env ls) (no_rule (Word w ∷ ls))))
+    chosen true i = entropy_sure env n m k ls
+    chosen false true = mutual_information_sure env n m k ls
     chosen false false = tt
 atom_sure env n m k [] = tt
 atom_sure env n m k (Bad c ∷ ls) = tt

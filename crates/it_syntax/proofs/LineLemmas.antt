@@ -3,50 +3,38 @@ use Rattle.std.proofs.Common.{◌≡◌, ℕ, ◌-◌, ◌≤◌, suc, zero, Lis
 use Rattle.it_syntax.specs.declared.types.Token.{Token}
 use Rattle.it_syntax.specs.declared.types.Code.{Code}
 use Rattle.it_syntax.specs.declared.types.LineTokens.{LineTokens}
-use Rattle.it_syntax.specs.Letters.{Letter, End, Marked, clean, letters}
+use Rattle.it_syntax.specs.Letters.{Letter, End, MarkedLetters, unmarked, letters}
 use Rattle.it_syntax.specs.Spans.{letter_of, letters_until, last_letter}
 use Rattle.it_syntax.specs.FirstFault.{FirstFault}
 use Rattle.it_syntax.specs.Lines.{spell_ended, SaysAs, to_end, letters_from, column_of, column_behind, FaultAt}
-use Rattle.it_syntax.specs.AtomReading.{Reads, ◌>>=◌, line_end}
-use Rattle.it_syntax.proofs.Traces.{Traces, traces_bind, traces_map}
-use Rattle.it_syntax.proofs.SpelledIsRead.{Answers, answers_ok, answers_cons, answers_bind}
-use Rattle.it_syntax.proofs.LineEnd.{spell_end, end_value, end_traces}
+use Rattle.it_syntax.specs.AtomReading.{Reads}
+use Rattle.it_syntax.proofs.Traces.{Traces}
+use Rattle.it_syntax.proofs.SpelledIsRead.{Answers}
+use Rattle.it_syntax.proofs.LineEnd.{to_end_traces, to_end_answers}
 use Rattle.it_syntax.proofs.FirstFaults.{first_fault, one_fault, reads_found, reads_only, clean_is_clean, letters_cleaned}
 
 -- A reader of a language, with what its laws are. `Answers` is asked at the line's end alone.
-pub record IsReader {A X : Type 0} (f : List Letter → Reads A) (spell : X → Marked → Marked) (value : X → A) : Type 0 where
+pub record IsReader {A X : Type 0} (f : List Letter → Reads A) (spell : X → MarkedLetters → MarkedLetters) (value : X → A) : Type 0 where
   pub traces : Traces f spell value
-  pub answers : (x : X) → Answers (f (letters (spell_ended spell x))) (spell_ended spell x) (value x) (clean End ∷ [])
+  pub answers : (x : X) → Answers (f (letters (spell_ended spell x))) (spell_ended spell x) (value x) (unmarked End ∷ [])
 
-ended : {X : Type 0} → (X → Marked → Marked) → X → Marked → Marked
-ended spell x k = spell x (clean End ∷ k)
-
-ended_traces : {A X : Type 0} (f : List Letter → Reads A) (spell : X → Marked → Marked) (value : X → A) → Traces f spell value → Traces (to_end f) (ended spell) value
-unfolding to_end spell_end ended
-ended_traces f spell value h = traces_bind f (λ a ls. line_end ls >>= λ e. Ok (a, e.1)) (to_end f) spell (λ a. spell_end) (ended spell) value (λ a u. a) value (λ x u. x)
-    (record { is = λ ls. refl; spells = λ y z k. refl; value = λ y z. refl; some = tt; first = h; second = λ a. traces_map line_end (λ u. a) spell_end end_value end_traces })
-
-ended_answers : {A X : Type 0} (f : List Letter → Reads A) (spell : X → Marked → Marked) (value : X → A) (x : X) → Answers (f (letters (spell_ended spell x))) (spell_ended spell x) (value x) (clean End ∷ []) → Answers (to_end f (letters (ended spell x []))) (ended spell x []) (value x) []
-unfolding to_end line_end ended
-ended_answers f spell value x h =
-    let n : Marked = clean End ∷ [] in
-    answers_bind (f (letters (spell x n))) (λ y. line_end y.1 >>= λ e. Ok (y.0, e.1)) (spell x n) n [] (value x) (value x) h
-    (answers_cons End (Ok (value x, [])) [] (value x) [] (answers_ok (value x) []))
+spell_to_end : {X : Type 0} → (X → MarkedLetters → MarkedLetters) → X → MarkedLetters → MarkedLetters
+spell_to_end spell x k = spell x (unmarked End ∷ k)
 
 -- what is read is a line
-pub read_says : {A X : Type 0} (f : List Letter → Reads A) (spell : X → Marked → Marked) (value : X → A) → IsReader f spell value → (ls : List Letter) (y : A) → to_end f ls ≡ Ok (y, []) → SaysAs spell value ls y
-unfolding ended
-read_says f spell value h ls y e = reads_found (to_end f) (ended spell) value (ended_traces f spell value h.traces) ls y e
+pub read_says : {A X : Type 0} (f : List Letter → Reads A) (spell : X → MarkedLetters → MarkedLetters) (value : X → A) → IsReader f spell value → (ls : List Letter) (y : A) → to_end f ls ≡ Ok (y, []) → SaysAs spell value ls y
+unfolding spell_to_end
+read_says f spell value h ls y e = reads_found (to_end f) (spell_to_end spell) value (to_end_traces f spell value h.traces) ls y e
 
 -- a line is read
-pub says_read : {A X : Type 0} (f : List Letter → Reads A) (spell : X → Marked → Marked) (value : X → A) → IsReader f spell value → (ls : List Letter) (y : A) → SaysAs spell value ls y → to_end f ls ≡ Ok (y, [])
-unfolding ended
-says_read {A} f spell value h ls y s = subst (λ (z : A). to_end f ls ≡ Ok (z, [])) s.1.1 (reads_only (to_end f) (ended spell) value (λ x. ended_answers f spell value x (h.answers x)) s.0 ls s.1.0)
+pub says_read : {A X : Type 0} (f : List Letter → Reads A) (spell : X → MarkedLetters → MarkedLetters) (value : X → A) → IsReader f spell value → (ls : List Letter) (y : A) → SaysAs spell value ls y → to_end f ls ≡ Ok (y, [])
+unfolding spell_to_end
+says_read {A} f spell value h ls y s = subst (λ (z : A). to_end f ls ≡ Ok (z, [])) s.1.1 (reads_only (to_end f) (spell_to_end spell) value (λ x. to_end_answers f (spell_ended spell x) [] (value x) (h.answers x)) s.0 ls s.1.0)
 
 -- where reading stops is the first fault
-pub stops_first : {A X : Type 0} (f : List Letter → Reads A) (spell : X → Marked → Marked) (value : X → A) → IsReader f spell value → (ls : List Letter) (c : Code) (r : List Letter) → to_end f ls ≡ Err (c, r) → FirstFault (spell_ended spell) ls c r
-unfolding ended
-stops_first f spell value h ls c r e = first_fault (to_end f) (ended spell) value (ended_traces f spell value h.traces) (λ x. ended_answers f spell value x (h.answers x)) ls c r e
+pub stops_first : {A X : Type 0} (f : List Letter → Reads A) (spell : X → MarkedLetters → MarkedLetters) (value : X → A) → IsReader f spell value → (ls : List Letter) (c : Code) (r : List Letter) → to_end f ls ≡ Err (c, r) → FirstFault (spell_ended spell) ls c r
+unfolding spell_to_end
+stops_first f spell value h ls c r e = first_fault (to_end f) (spell_to_end spell) value (to_end_traces f spell value h.traces) (λ x. to_end_answers f (spell_ended spell x) [] (value x) (h.answers x)) ls c r e
 
 -- ---- one reading, or one fault
 
@@ -60,11 +48,11 @@ same_value {A} y z e = ap (λ (q : A × List Letter). q.0) (ok_is (y, []) (z, []
     ok_is p q e = cc
 
 -- a line says one thing
-pub says_one : {A X : Type 0} (f : List Letter → Reads A) (spell : X → Marked → Marked) (value : X → A) → IsReader f spell value → (ls : List Letter) (y z : A) → SaysAs spell value ls y → SaysAs spell value ls z → y ≡ z
+pub says_one : {A X : Type 0} (f : List Letter → Reads A) (spell : X → MarkedLetters → MarkedLetters) (value : X → A) → IsReader f spell value → (ls : List Letter) (y z : A) → SaysAs spell value ls y → SaysAs spell value ls z → y ≡ z
 says_one f spell value h ls y z s t = same_value y z (sym (says_read f spell value h ls y s) ∙ says_read f spell value h ls z t)
 
 -- what says something has no fault
-pub says_or_faulty : {A X : Type 0} (spell : X → Marked → Marked) (value : X → A) (ls r : List Letter) (c : Code) (y : A) → SaysAs spell value ls y → FirstFault (spell_ended spell) ls c r → ⊥
+pub says_or_faulty : {A X : Type 0} (spell : X → MarkedLetters → MarkedLetters) (value : X → A) (ls r : List Letter) (c : Code) (y : A) → SaysAs spell value ls y → FirstFault (spell_ended spell) ls c r → ⊥
 says_or_faulty spell value ls r c y s f =
     let k = f.each s.0 r refl (ap letters s.1.0 ∙ letters_cleaned ls ∙ f.parts) in
     clean_is_clean ls f.front c (k.0, k.1, sym s.1.0 ∙ k.2)
@@ -75,23 +63,23 @@ pub until_length : (line : List ℕ) (ts : List Token) (last : Letter) → lengt
 until_length line [] last = refl
 until_length line (t ∷ ts) last = ap suc (until_length line ts last)
 
-fewer : (a n : ℕ) → n ≤ a → suc a - n ≡ suc (a - n)
-fewer a n h = omega (arith, h)
+suc_minus : (a n : ℕ) → n ≤ a → suc a - n ≡ suc (a - n)
+suc_minus a n h = omega (arith, h)
 
 -- what is left of the letters is what is left of the tokens
-suffix : (line : List ℕ) (ts : List Token) (last : Letter) (front r : List Letter) (n : ℕ) → letters_until line ts last ≡ front ++ r → length r ≡ suc n → (n ≤ length ts) × (r ≡ letters_until line (drop (length ts - n) ts) last)
-suffix line ts last [] r n e h =
+suffix_is_of_tokens : (line : List ℕ) (ts : List Token) (last : Letter) (front r : List Letter) (n : ℕ) → letters_until line ts last ≡ front ++ r → length r ≡ suc n → (n ≤ length ts) × (r ≡ letters_until line (drop (length ts - n) ts) last)
+suffix_is_of_tokens line ts last [] r n e h =
     let same : suc n ≡ suc (length ts) = sym h ∙ ap length (sym e) ∙ until_length line ts last in
     let none : length ts - n ≡ 0 = omega (arith, same) in
     (omega (arith, same), sym e ∙ ap (λ (i : ℕ). letters_until line (drop i ts) last) (sym none))
-suffix line [] last (l ∷ front) r n e h =
+suffix_is_of_tokens line [] last (l ∷ front) r n e h =
     let total : 1 ≡ suc (length (front ++ r)) = ap length e in
     let parts = length-append front r in
     absurd (omega (arith, total, parts, h))
-suffix line (t ∷ ts) last (l ∷ front) r n e h =
+suffix_is_of_tokens line (t ∷ ts) last (l ∷ front) r n e h =
     let tails : letters_until line ts last ≡ front ++ r = cc in
-    let k = suffix line ts last front r n tails h in
-    (omega (arith, k.0), k.1 ∙ ap (λ (i : ℕ). letters_until line (drop i (t ∷ ts)) last) (sym (fewer (length ts) n k.0)))
+    let k = suffix_is_of_tokens line ts last front r n tails h in
+    (omega (arith, k.0), k.1 ∙ ap (λ (i : ℕ). letters_until line (drop i (t ∷ ts)) last) (sym (suc_minus (length ts) n k.0)))
 
 -- the letters of a line end with those of its last tokens
 split_letters : (line : List ℕ) (ts : List Token) (last : Letter) (n : ℕ) → (front : List Letter) × (letters_until line ts last ≡ front ++ letters_until line (drop n ts) last)
@@ -104,10 +92,10 @@ left_is : (line : List ℕ) (ts : LineTokens) (from n : ℕ) (front r : List Let
 left_is line ts from n front r e h =
     let last = last_letter ts.misspelling in
     let k = split_letters line ts.tokens.items last from in
-    suffix line ts.tokens.items last (k.0 ++ front) r n (k.1 ∙ ap (λ (q : List Letter). k.0 ++ q) e ∙ sym (append_assoc k.0 front r)) h
+    suffix_is_of_tokens line ts.tokens.items last (k.0 ++ front) r n (k.1 ∙ ap (λ (q : List Letter). k.0 ++ q) e ∙ sym (append_assoc k.0 front r)) h
 
 -- the fault at the letters r has the place of the token from which they come
-pub fault_at : {X : Type 0} (spell : X → Marked → Marked) (line : List ℕ) (ts : LineTokens) (from n : ℕ) (c : Code) (r : List Letter) → FirstFault (spell_ended spell) (letters_from line ts from) c r → length r ≡ suc n
+pub fault_at : {X : Type 0} (spell : X → MarkedLetters → MarkedLetters) (line : List ℕ) (ts : LineTokens) (from n : ℕ) (c : Code) (r : List Letter) → FirstFault (spell_ended spell) (letters_from line ts from) c r → length r ≡ suc n
     → (n ≤ length ts.tokens.items) × FaultAt spell line ts from (column_of (drop (length ts.tokens.items - n) ts.tokens.items) (column_behind ts.tokens.items ts.misspelling)) c
 fault_at spell line ts from n c r f h =
     let k = left_is line ts from n f.front r f.parts h in (
@@ -121,7 +109,7 @@ fault_at spell line ts from n c r f h =
     )
 
 -- a reader that stopped did so at the first fault, and left tokens of the line
-pub stop_is_fault : {A X : Type 0} (f : List Letter → Reads A) (spell : X → Marked → Marked) (value : X → A) → IsReader f spell value → (line : List ℕ) (ts : LineTokens) (from : ℕ) (text : List ℕ) (us : List Token) (last : Letter) (c : Code)
+pub stop_is_fault : {A X : Type 0} (f : List Letter → Reads A) (spell : X → MarkedLetters → MarkedLetters) (value : X → A) → IsReader f spell value → (line : List ℕ) (ts : LineTokens) (from : ℕ) (text : List ℕ) (us : List Token) (last : Letter) (c : Code)
     → to_end f (letters_from line ts from) ≡ Err (c, letters_until text us last)
     → (length us ≤ length ts.tokens.items) × FaultAt spell line ts from (column_of (drop (length ts.tokens.items - length us) ts.tokens.items) (column_behind ts.tokens.items ts.misspelling)) c
 stop_is_fault f spell value h line ts from text us last c e = fault_at spell line ts from (length us) c (letters_until text us last) (stops_first f spell value h (letters_from line ts from) c (letters_until text us last) e) (until_length text us last)
@@ -130,7 +118,7 @@ from_length : (line : List ℕ) (ts : LineTokens) (n : ℕ) → length (letters_
 from_length line ts n = until_length line (drop n ts.tokens.items) (last_letter ts.misspelling) ∙ ap suc (length-drop n ts.tokens.items)
 
 -- two first faults are one
-pub fault_at_one : {X : Type 0} (spell : X → Marked → Marked) (line : List ℕ) (ts : LineTokens) (from a b : ℕ) (c d : Code) → FaultAt spell line ts from a c → FaultAt spell line ts from b d → (a ≡ b) × (c ≡ d)
+pub fault_at_one : {X : Type 0} (spell : X → MarkedLetters → MarkedLetters) (line : List ℕ) (ts : LineTokens) (from a b : ℕ) (c d : Code) → FaultAt spell line ts from a c → FaultAt spell line ts from b d → (a ≡ b) × (c ≡ d)
 fault_at_one spell line ts from a b c d f g =
     let k = one_fault (spell_ended spell) (letters_from line ts from) c d (letters_from line ts f.at) (letters_from line ts g.at) f.first g.first in
     let lengths = sym (from_length line ts f.at) ∙ ap length k.1 ∙ from_length line ts g.at in

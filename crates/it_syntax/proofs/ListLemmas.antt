@@ -64,9 +64,9 @@ pub step_err : (env : Environment) (s : ℕ) (ls tail : List Letter) (f : Fault)
 step_err env s ls tail f e h = ap (with_set s) (ap (read_more env) (comma_is ls tail e) ∙ comma_more env tail ∙ ap (λ (r : Reads ℕ). r >>= then_more env) h)
 
 -- the loop stops at a fault
-pub ends : (e : Stop) (env : Environment) (s : ℕ) (ls tail rest : List Letter) (total : Reads ℕ) → after_comma ls ≡ Some tail → StopsAs e rest (read_name env tail) → with_set s (read_more env ls) ≡ total → StopsAs e rest total
-ends stops.Memory env s ls tail rest total e h so_far = tt
-ends (stops.Fault c) env s ls tail rest total e h so_far = sym so_far ∙ step_err env s ls tail (c, rest) e h
+pub stops_at_fault : (e : Stop) (env : Environment) (s : ℕ) (ls tail rest : List Letter) (total : Reads ℕ) → after_comma ls ≡ Some tail → StopsAs e rest (read_name env tail) → with_set s (read_more env ls) ≡ total → StopsAs e rest total
+stops_at_fault stops.Memory env s ls tail rest total e h so_far = tt
+stops_at_fault (stops.Fault c) env s ls tail rest total e h so_far = sym so_far ∙ step_err env s ls tail (c, rest) e h
 
 -- the loop ends without a comma
 pub is_done : (env : Environment) (s : ℕ) (ls : List Letter) (total : Reads ℕ) → after_comma ls ≡ None → with_set s (read_more env ls) ≡ total → total ≡ Ok (s, ls)

@@ -8,19 +8,19 @@ use Rattle.it_syntax.specs.declared.types.Atom.TheVariants.{Rate}
 use Rattle.it_syntax.specs.declared.types.Term.{Term}
 use Rattle.it_syntax.specs.declared.types.Sign.{Sign}
 use Rattle.it_syntax.specs.declared.types.Sign.TheVariants.{AtLeast, AtMost, Equal}
-use Rattle.it_syntax.specs.Letters.{Letter, Word, Number, Sym, Marked, clean, letters}
-use Rattle.it_syntax.specs.WrittenAtoms.{Entropy, EntropyGiven, Mutual, MutualGiven, TermSign, Positive, Negative, entropy_text, mutual_text, unknown, index_or, spell_sign, mark_surplus, is_minus}
+use Rattle.it_syntax.specs.Letters.{Letter, Word, Number, Sym, MarkedLetters, unmarked, letters}
+use Rattle.it_syntax.specs.WrittenAtoms.{Entropy, EntropyGiven, Mutual, MutualGiven, TermSign, Positive, Negative, entropy_text, mutual_text, unknown_mark, index_or, spell_sign, mark_surplus, is_minus}
 use Rattle.it_syntax.specs.WrittenRelations.{Scope, WrittenQuantity, Measure, RateOf, WrittenTerm, Zero, Once, Times, WrittenSum, WrittenRelation, spell_quantity, spell_term, spell_terms, spell_counted, spell_sum, compare_letter, most_terms, number_of_terms, spell_relation, quantity_of, term_of, terms_of, sum_of, relation_of}
 use Rattle.it_syntax.specs.AtomReading.{Reads, ◌>>=◌, read_atom, read_sign}
-use Rattle.it_syntax.specs.RelationReading.{rate_or_fault, read_quantity, after_number, read_term, surplus, read_over, read_terms, read_counted, read_sum, read_compare, read_relation}
+use Rattle.it_syntax.specs.RelationReading.{rate_or_fault, read_quantity, after_number, read_term, surplus_rate, read_surplus_term, read_terms, read_counted, read_sum, read_compare, read_relation}
 use Rattle.it_syntax.proofs.SpelledIsRead.{Answers, answers_ok, answers_cons, answers_bind, NoWord, NoSign, atom_answers, sign_answers}
 use Rattle.it_syntax.proofs.RelationTraces.{terms_counted}
 
-rated_answers : (w : List ℕ) (o : Option ℕ) (k : Marked) → Answers (rate_or_fault w o (letters k)) ((Word w, unknown o) ∷ k) (Rate (index_or o)) k
+rated_answers : (w : List ℕ) (o : Option ℕ) (k : MarkedLetters) → Answers (rate_or_fault w o (letters k)) ((Word w, unknown_mark o) ∷ k) (Rate (index_or o)) k
 rated_answers w (Some i) k = inl (refl, record { front = Word w ∷ []; is = refl })
 rated_answers w None k = inr ((codes.Name, Word w ∷ letters k), (refl, record { front = []; letter = Word w; rest = k; is = refl; left = refl }))
 
-quantity_answers : (s : Scope) (q : WrittenQuantity) (k : Marked) → Answers (read_quantity s (letters (spell_quantity s q k))) (spell_quantity s q k) (quantity_of s q) k
+quantity_answers : (s : Scope) (q : WrittenQuantity) (k : MarkedLetters) → Answers (read_quantity s (letters (spell_quantity s q k))) (spell_quantity s q k) (quantity_of s q) k
 unfolding read_quantity
 quantity_answers s (Measure (Entropy a)) k = atom_answers s.variables (Entropy a) k
 quantity_answers s (Measure (EntropyGiven a c)) k = atom_answers s.variables (EntropyGiven a c) k
@@ -29,7 +29,7 @@ quantity_answers s (Measure (MutualGiven a b c)) k = atom_answers s.variables (M
 quantity_answers s (RateOf r) k =
     subst (λ (b : Bool). Answers (cond b (read_atom s.variables (Word r.text ∷ letters k)) (rate_or_fault r.text (s.rates r.text) (letters k))) (spell_quantity s (RateOf r) k) (quantity_of s (RateOf r)) k) (sym r.is_name) (rated_answers r.text (s.rates r.text) k)
 
-zero_answers : (s : Scope) (b : Bool) (k : Marked) → NoWord k → Answers (after_number s b 0 (letters k)) k (term_of s b Zero) k
+zero_answers : (s : Scope) (b : Bool) (k : MarkedLetters) → NoWord k → Answers (after_number s b 0 (letters k)) k (term_of s b Zero) k
 unfolding after_number
 zero_answers s b [] free = answers_ok (term_of s b Zero) []
 zero_answers s b ((Word w, m) ∷ k) free = absurd free
@@ -38,7 +38,7 @@ zero_answers s b (x ∷ k) free = answers_ok (term_of s b Zero) (x ∷ k)
 abbrev times : Bool → ℕ → Atom × List Letter → Reads Term
 times b n y = Ok (record { negative = b; number = n; atom = y.0 }, y.1)
 
-number_first : (s : Scope) (b : Bool) (n : ℕ) (q : WrittenQuantity) (k : Marked) → after_number s b n (letters (spell_quantity s q k)) ≡ (read_quantity s (letters (spell_quantity s q k)) >>= times b n)
+number_first : (s : Scope) (b : Bool) (n : ℕ) (q : WrittenQuantity) (k : MarkedLetters) → after_number s b n (letters (spell_quantity s q k)) ≡ (read_quantity s (letters (spell_quantity s q k)) >>= times b n)
 unfolding after_number
 number_first s b n (Measure (Entropy a)) k = refl
 number_first s b n (Measure (EntropyGiven a c)) k = refl
@@ -46,7 +46,7 @@ number_first s b n (Measure (Mutual a d)) k = refl
 number_first s b n (Measure (MutualGiven a d c)) k = refl
 number_first s b n (RateOf r) k = refl
 
-once_first : (s : Scope) (b : Bool) (q : WrittenQuantity) (k : Marked) → read_term s b (letters (spell_quantity s q k)) ≡ (read_quantity s (letters (spell_quantity s q k)) >>= times b 1)
+once_first : (s : Scope) (b : Bool) (q : WrittenQuantity) (k : MarkedLetters) → read_term s b (letters (spell_quantity s q k)) ≡ (read_quantity s (letters (spell_quantity s q k)) >>= times b 1)
 unfolding read_term
 once_first s b (Measure (Entropy a)) k = refl
 once_first s b (Measure (EntropyGiven a c)) k = refl
@@ -54,7 +54,7 @@ once_first s b (Measure (Mutual a d)) k = refl
 once_first s b (Measure (MutualGiven a d c)) k = refl
 once_first s b (RateOf r) k = refl
 
-term_answers : (s : Scope) (b : Bool) (x : WrittenTerm) (k : Marked) → NoWord k → Answers (read_term s b (letters (spell_term s x k))) (spell_term s x k) (term_of s b x) k
+term_answers : (s : Scope) (b : Bool) (x : WrittenTerm) (k : MarkedLetters) → NoWord k → Answers (read_term s b (letters (spell_term s x k))) (spell_term s x k) (term_of s b x) k
 unfolding read_term
 term_answers s b Zero k free = answers_cons (Number 0) _ k (term_of s b Zero) k (zero_answers s b k free)
 term_answers s b (Times n q) k free =
@@ -71,7 +71,7 @@ term_answers s b (Once q) k free =
 
 -- ---- terms one after the other
 
-no_terms : (n : ℕ) (s : Scope) (k : Marked) → NoSign k → Answers (read_terms n s (letters k)) k [] k
+no_terms : (n : ℕ) (s : Scope) (k : MarkedLetters) → NoSign k → Answers (read_terms n s (letters k)) k [] k
 unfolding read_terms
 no_terms zero s [] free = answers_ok [] []
 no_terms zero s ((Sym Plus, m) ∷ k) free = absurd free
@@ -82,7 +82,7 @@ no_terms (suc n) s ((Sym Plus, m) ∷ k) free = absurd free
 no_terms (suc n) s ((Sym Minus, m) ∷ k) free = absurd free
 no_terms (suc n) s (x ∷ k) free = answers_ok [] (x ∷ k)
 
-no_word : (n : ℕ) (s : Scope) (ts : List (TermSign × WrittenTerm)) (k : Marked) → NoWord k → NoWord (spell_terms n s ts k)
+no_word : (n : ℕ) (s : Scope) (ts : List (TermSign × WrittenTerm)) (k : MarkedLetters) → NoWord k → NoWord (spell_terms n s ts k)
 no_word n s [] k free = free
 no_word zero s ((Positive, t) ∷ ts) k free = tt
 no_word zero s ((Negative, t) ∷ ts) k free = tt
@@ -90,7 +90,7 @@ no_word (suc n) s ((Positive, t) ∷ ts) k free = tt
 no_word (suc n) s ((Negative, t) ∷ ts) k free = tt
 
 -- a term, and the terms behind it
-term_then : (s : Scope) (b : Bool) (t : WrittenTerm) (ts : List (TermSign × WrittenTerm)) (n : ℕ) (k : Marked) → NoWord k → Answers (read_terms n s (letters (spell_terms n s ts k))) (spell_terms n s ts k) (terms_of s ts) k
+term_then : (s : Scope) (b : Bool) (t : WrittenTerm) (ts : List (TermSign × WrittenTerm)) (n : ℕ) (k : MarkedLetters) → NoWord k → Answers (read_terms n s (letters (spell_terms n s ts k))) (spell_terms n s ts k) (terms_of s ts) k
     → Answers (read_term s b (letters (spell_term s t (spell_terms n s ts k))) >>= λ x. read_terms n s x.1 >>= λ y. Ok (x.0 ∷ y.0, y.1)) (spell_term s t (spell_terms n s ts k)) (term_of s b t ∷ terms_of s ts) k
 term_then s b t ts n k free h =
     let m = spell_terms n s ts k in
@@ -100,38 +100,38 @@ term_then s b t ts n k free h =
 
 -- ---- a term too many
 
-over_marked : (l : Letter) (c : Code) (m k : Marked) (y : List Term) → Answers (Err (c, l ∷ letters m)) ((l, Some c) ∷ m) y k
-over_marked l c m k y = inr ((c, l ∷ letters m), (refl, record { front = []; letter = l; rest = m; is = refl; left = refl }))
+surplus_marked : (l : Letter) (c : Code) (m k : MarkedLetters) (y : List Term) → Answers (Err (c, l ∷ letters m)) ((l, Some c) ∷ m) y k
+surplus_marked l c m k y = inr ((c, l ∷ letters m), (refl, record { front = []; letter = l; rest = m; is = refl; left = refl }))
 
-surplus_answers : (w : List ℕ) (o : Option ℕ) (m k : Marked) (y : List Term) → Answers (surplus w o (letters m)) (mark_surplus ((Word w, unknown o) ∷ m)) y k
-surplus_answers w (Some i) m k y = over_marked (Word w) codes.Many m k y
-surplus_answers w None m k y = over_marked (Word w) codes.Name m k y
+surplus_rate_answers : (w : List ℕ) (o : Option ℕ) (m k : MarkedLetters) (y : List Term) → Answers (surplus_rate w o (letters m)) (mark_surplus ((Word w, unknown_mark o) ∷ m)) y k
+surplus_rate_answers w (Some i) m k y = surplus_marked (Word w) codes.Many m k y
+surplus_rate_answers w None m k y = surplus_marked (Word w) codes.Name m k y
 
-letters_over : (l : Letter) (c : Option Code) (m : Marked) → letters (mark_surplus ((l, c) ∷ m)) ≡ l ∷ letters m
+letters_over : (l : Letter) (c : Option Code) (m : MarkedLetters) → letters (mark_surplus ((l, c) ∷ m)) ≡ l ∷ letters m
 letters_over l None m = refl
 letters_over l (Some c) m = refl
 
-over_answers : (s : Scope) (t : WrittenTerm) (m k : Marked) (y : List Term) → Answers (read_over s (letters (mark_surplus (spell_term s t m)))) (mark_surplus (spell_term s t m)) y k
-unfolding read_over
-over_answers s Zero m k y = over_marked (Number 0) codes.Many m k y
-over_answers s (Times n q) m k y = over_marked (Number n) codes.Many (spell_quantity s q m) k y
-over_answers s (Once (Measure (Entropy a))) m k y = over_marked (Word entropy_text) codes.Many _ k y
-over_answers s (Once (Measure (EntropyGiven a c))) m k y = over_marked (Word entropy_text) codes.Many _ k y
-over_answers s (Once (Measure (Mutual a b))) m k y = over_marked (Word mutual_text) codes.Many _ k y
-over_answers s (Once (Measure (MutualGiven a b c))) m k y = over_marked (Word mutual_text) codes.Many _ k y
-over_answers s (Once (RateOf r)) m k y =
+surplus_term_answers : (s : Scope) (t : WrittenTerm) (m k : MarkedLetters) (y : List Term) → Answers (read_surplus_term s (letters (mark_surplus (spell_term s t m)))) (mark_surplus (spell_term s t m)) y k
+unfolding read_surplus_term
+surplus_term_answers s Zero m k y = surplus_marked (Number 0) codes.Many m k y
+surplus_term_answers s (Times n q) m k y = surplus_marked (Number n) codes.Many (spell_quantity s q m) k y
+surplus_term_answers s (Once (Measure (Entropy a))) m k y = surplus_marked (Word entropy_text) codes.Many _ k y
+surplus_term_answers s (Once (Measure (EntropyGiven a c))) m k y = surplus_marked (Word entropy_text) codes.Many _ k y
+surplus_term_answers s (Once (Measure (Mutual a b))) m k y = surplus_marked (Word mutual_text) codes.Many _ k y
+surplus_term_answers s (Once (Measure (MutualGiven a b c))) m k y = surplus_marked (Word mutual_text) codes.Many _ k y
+surplus_term_answers s (Once (RateOf r)) m k y =
     let o = s.rates r.text in
-    let x = mark_surplus ((Word r.text, unknown o) ∷ m) in
-    subst (λ (ls : List Letter). Answers (read_over s ls) x y k) (sym (letters_over (Word r.text) (unknown o) m))
-    (subst (λ (b : Bool). Answers (cond b (Err (codes.Many, Word r.text ∷ letters m)) (surplus r.text o (letters m))) x y k) (sym r.is_name) (surplus_answers r.text o m k y))
+    let x = mark_surplus ((Word r.text, unknown_mark o) ∷ m) in
+    subst (λ (ls : List Letter). Answers (read_surplus_term s ls) x y k) (sym (letters_over (Word r.text) (unknown_mark o) m))
+    (subst (λ (b : Bool). Answers (cond b (Err (codes.Many, Word r.text ∷ letters m)) (surplus_rate r.text o (letters m))) x y k) (sym r.is_name) (surplus_rate_answers r.text o m k y))
 
-terms_answers : (n : ℕ) (s : Scope) (ts : List (TermSign × WrittenTerm)) (k : Marked) → NoSign k → NoWord k → Answers (read_terms n s (letters (spell_terms n s ts k))) (spell_terms n s ts k) (terms_of s ts) k
+terms_answers : (n : ℕ) (s : Scope) (ts : List (TermSign × WrittenTerm)) (k : MarkedLetters) → NoSign k → NoWord k → Answers (read_terms n s (letters (spell_terms n s ts k))) (spell_terms n s ts k) (terms_of s ts) k
 unfolding read_terms
 terms_answers n s [] k free w = no_terms n s k free
 terms_answers zero s ((Positive, t) ∷ ts) k free w =
-    answers_cons (Sym Plus) _ (mark_surplus (spell_term s t (spell_terms zero s ts k))) (term_of s false t ∷ terms_of s ts) k (over_answers s t (spell_terms zero s ts k) k (term_of s false t ∷ terms_of s ts))
+    answers_cons (Sym Plus) _ (mark_surplus (spell_term s t (spell_terms zero s ts k))) (term_of s false t ∷ terms_of s ts) k (surplus_term_answers s t (spell_terms zero s ts k) k (term_of s false t ∷ terms_of s ts))
 terms_answers zero s ((Negative, t) ∷ ts) k free w =
-    answers_cons (Sym Minus) _ (mark_surplus (spell_term s t (spell_terms zero s ts k))) (term_of s true t ∷ terms_of s ts) k (over_answers s t (spell_terms zero s ts k) k (term_of s true t ∷ terms_of s ts))
+    answers_cons (Sym Minus) _ (mark_surplus (spell_term s t (spell_terms zero s ts k))) (term_of s true t ∷ terms_of s ts) k (surplus_term_answers s t (spell_terms zero s ts k) k (term_of s true t ∷ terms_of s ts))
 terms_answers (suc n) s ((Positive, t) ∷ ts) k free w =
     answers_cons (Sym Plus) _ (spell_term s t (spell_terms n s ts k)) (term_of s false t ∷ terms_of s ts) k (term_then s false t ts n k w (terms_answers n s ts k free w))
 terms_answers (suc n) s ((Negative, t) ∷ ts) k free w =
@@ -139,13 +139,13 @@ terms_answers (suc n) s ((Negative, t) ∷ ts) k free w =
 
 -- ---- sums
 
-counted_answers : (n : ℕ) (s : Scope) (b : Bool) (t : WrittenTerm) (ts : List (TermSign × WrittenTerm)) (k : Marked) → NoSign k → NoWord k → Answers (read_counted n s b (letters (spell_counted n s t ts k))) (spell_counted n s t ts k) (term_of s b t ∷ terms_of s ts) k
+counted_answers : (n : ℕ) (s : Scope) (b : Bool) (t : WrittenTerm) (ts : List (TermSign × WrittenTerm)) (k : MarkedLetters) → NoSign k → NoWord k → Answers (read_counted n s b (letters (spell_counted n s t ts k))) (spell_counted n s t ts k) (term_of s b t ∷ terms_of s ts) k
 unfolding read_counted
-counted_answers zero s b t ts k free w = over_answers s t (spell_terms zero s ts k) k (term_of s b t ∷ terms_of s ts)
+counted_answers zero s b t ts k free w = surplus_term_answers s t (spell_terms zero s ts k) k (term_of s b t ∷ terms_of s ts)
 counted_answers (suc n) s b t ts k free w = term_then s b t ts n k w (terms_answers n s ts k free w)
 
 -- after an optional sign
-no_sign_read : (n : ℕ) (s : Scope) (t : WrittenTerm) (ts : List (TermSign × WrittenTerm)) (k : Marked) → read_sign (letters (spell_counted n s t ts k)) ≡ (false, letters (spell_counted n s t ts k))
+no_sign_read : (n : ℕ) (s : Scope) (t : WrittenTerm) (ts : List (TermSign × WrittenTerm)) (k : MarkedLetters) → read_sign (letters (spell_counted n s t ts k)) ≡ (false, letters (spell_counted n s t ts k))
 unfolding read_sign
 no_sign_read zero s Zero ts k = refl
 no_sign_read zero s (Times n q) ts k = refl
@@ -153,7 +153,7 @@ no_sign_read zero s (Once (Measure (Entropy a))) ts k = refl
 no_sign_read zero s (Once (Measure (EntropyGiven a c))) ts k = refl
 no_sign_read zero s (Once (Measure (Mutual a b))) ts k = refl
 no_sign_read zero s (Once (Measure (MutualGiven a b c))) ts k = refl
-no_sign_read zero s (Once (RateOf r)) ts k = subst (λ (ls : List Letter). read_sign ls ≡ (false, ls)) (sym (letters_over (Word r.text) (unknown (s.rates r.text)) (spell_terms zero s ts k))) refl
+no_sign_read zero s (Once (RateOf r)) ts k = subst (λ (ls : List Letter). read_sign ls ≡ (false, ls)) (sym (letters_over (Word r.text) (unknown_mark (s.rates r.text)) (spell_terms zero s ts k))) refl
 no_sign_read (suc n) s Zero ts k = refl
 no_sign_read (suc n) s (Times m q) ts k = refl
 no_sign_read (suc n) s (Once (Measure (Entropy a))) ts k = refl
@@ -162,44 +162,44 @@ no_sign_read (suc n) s (Once (Measure (Mutual a b))) ts k = refl
 no_sign_read (suc n) s (Once (Measure (MutualGiven a b c))) ts k = refl
 no_sign_read (suc n) s (Once (RateOf r)) ts k = refl
 
-signed : (o : Option TermSign) (n : ℕ) (s : Scope) (t : WrittenTerm) (ts : List (TermSign × WrittenTerm)) (k : Marked) → read_sign (letters (spell_sign o (spell_counted n s t ts k))) ≡ (is_minus o, letters (spell_counted n s t ts k))
+sign_read : (o : Option TermSign) (n : ℕ) (s : Scope) (t : WrittenTerm) (ts : List (TermSign × WrittenTerm)) (k : MarkedLetters) → read_sign (letters (spell_sign o (spell_counted n s t ts k))) ≡ (is_minus o, letters (spell_counted n s t ts k))
 unfolding read_sign
-signed None n s t ts k = no_sign_read n s t ts k
-signed (Some Positive) n s t ts k = refl
-signed (Some Negative) n s t ts k = refl
+sign_read None n s t ts k = no_sign_read n s t ts k
+sign_read (Some Positive) n s t ts k = refl
+sign_read (Some Negative) n s t ts k = refl
 
-sum_answers : (n : ℕ) (s : Scope) (x : WrittenSum) (k : Marked) → NoSign k → NoWord k → Answers (read_sum n s (letters (spell_sum n s x k))) (spell_sum n s x k) (sum_of s x) k
+sum_answers : (n : ℕ) (s : Scope) (x : WrittenSum) (k : MarkedLetters) → NoSign k → NoWord k → Answers (read_sum n s (letters (spell_sum n s x k))) (spell_sum n s x k) (sum_of s x) k
 unfolding read_sum
 sum_answers n s x k free w =
     let m = spell_counted n s x.first x.more k in
-    subst (λ (q : Bool × List Letter). Answers (read_counted n s q.0 q.1) (spell_sum n s x k) (sum_of s x) k) (sym (signed x.sign n s x.first x.more k))
+    subst (λ (q : Bool × List Letter). Answers (read_counted n s q.0 q.1) (spell_sum n s x k) (sum_of s x) k) (sym (sign_read x.sign n s x.first x.more k))
     (sign_answers x.sign _ m (sum_of s x) k (counted_answers n s (is_minus x.sign) x.first x.more k free w))
 
 -- ---- relations
 
-compare_answers : (sign : Sign) (k : Marked) → Answers (read_compare (letters (clean (compare_letter sign) ∷ k))) (clean (compare_letter sign) ∷ k) sign k
+compare_answers : (sign : Sign) (k : MarkedLetters) → Answers (read_compare (letters (unmarked (compare_letter sign) ∷ k))) (unmarked (compare_letter sign) ∷ k) sign k
 unfolding read_compare
 compare_answers AtLeast k = answers_cons (compare_letter AtLeast) _ k AtLeast k (answers_ok AtLeast k)
 compare_answers AtMost k = answers_cons (compare_letter AtMost) _ k AtMost k (answers_ok AtMost k)
 compare_answers Equal k = answers_cons (compare_letter Equal) _ k Equal k (answers_ok Equal k)
 
-compare_no_sign : (sign : Sign) (k : Marked) → NoSign (clean (compare_letter sign) ∷ k)
+compare_no_sign : (sign : Sign) (k : MarkedLetters) → NoSign (unmarked (compare_letter sign) ∷ k)
 compare_no_sign AtLeast k = tt
 compare_no_sign AtMost k = tt
 compare_no_sign Equal k = tt
 
-compare_no_word : (sign : Sign) (k : Marked) → NoWord (clean (compare_letter sign) ∷ k)
+compare_no_word : (sign : Sign) (k : MarkedLetters) → NoWord (unmarked (compare_letter sign) ∷ k)
 compare_no_word AtLeast k = tt
 compare_no_word AtMost k = tt
 compare_no_word Equal k = tt
 
 -- a relation
-pub relation_answers : (s : Scope) (x : WrittenRelation) (k : Marked) → NoSign k → NoWord k → Answers (read_relation s (letters (spell_relation s x k))) (spell_relation s x k) (relation_of s x) k
+pub relation_answers : (s : Scope) (x : WrittenRelation) (k : MarkedLetters) → NoSign k → NoWord k → Answers (read_relation s (letters (spell_relation s x k))) (spell_relation s x k) (relation_of s x) k
 unfolding read_relation
 relation_answers s x k free w =
     let n = most_terms - number_of_terms x.left in
     let r = spell_sum n s x.right k in
-    let m : Marked = clean (compare_letter x.sign) ∷ r in
+    let m : MarkedLetters = unmarked (compare_letter x.sign) ∷ r in
     let left = sum_of s x.left in
     let y = relation_of s x in
     answers_bind (read_sum most_terms s (letters (spell_sum most_terms s x.left m))) (λ left. read_compare left.1 >>= λ sign. read_sum (most_terms - length left.0) s sign.1 >>= λ right. Ok (record { left = left.0; sign = sign.0; right = right.0 }, right.1)) (spell_sum most_terms s x.left m) m k left y

@@ -16,8 +16,8 @@ use Rattle.it_syntax.specs.WrittenRelations.{Scope, most_terms}
 use Rattle.it_syntax.specs.Scopes.{scope_of}
 use Rattle.it_syntax.specs.Lines.{to_end}
 use Rattle.it_syntax.specs.AtomReading.{Reads, ◌>>=◌, read_atom, read_sign, line_end}
-use Rattle.it_syntax.specs.RelationReading.{rate_or_fault, read_quantity, after_number, read_term, surplus, read_over, read_terms, read_counted, read_sum, read_compare, read_relation}
-use Rattle.it_syntax.proofs.LimitLemmas.{Sure, sure_bind, Any, any, Knows, HasSets, TermHasSets, AreFew, atom_sure, knows_names}
+use Rattle.it_syntax.specs.RelationReading.{rate_or_fault, read_quantity, after_number, read_term, surplus_rate, read_surplus_term, read_terms, read_counted, read_sum, read_compare, read_relation}
+use Rattle.it_syntax.proofs.LimitLemmas.{Sure, sure_bind, Any, sure_any, Knows, HasSets, TermHasSets, AreFew, atom_sure, knows_names}
 
 -- the names of a scope are those of n variables and m rates
 pub record Covers (s : Scope) (n m : ℕ) : Type 0 where
@@ -57,18 +57,18 @@ term_sure s n m k b (Number number ∷ ls) = after_number_sure s n m k b number 
 term_sure s n m k b [] = counted_sure s n m k b 1 []
 term_sure s n m k b (l ∷ ls) = counted_sure s n m k b 1 (l ∷ ls)
 
-over_sure : (P : List Term × List Letter → Type 0) (s : Scope) (ls : List Letter) → Sure P (read_over s ls)
-unfolding read_over
-over_sure P s (Number n ∷ ls) = tt
-over_sure P s (Word w ∷ ls) = chosen (is_measure w) (s.rates w)
+surplus_term_sure : (P : List Term × List Letter → Type 0) (s : Scope) (ls : List Letter) → Sure P (read_surplus_term s ls)
+unfolding read_surplus_term
+surplus_term_sure P s (Number n ∷ ls) = tt
+surplus_term_sure P s (Word w ∷ ls) = chosen (is_measure w) (s.rates w)
   where
-    chosen : (b : Bool) (o : Option ℕ) → Sure P (cond b (Err (codes.Many, Word w ∷ ls)) (surplus w o ls))
+    chosen : (b : Bool) (o : Option ℕ) → Sure P (cond b (Err (codes.Many, Word w ∷ ls)) (surplus_rate w o ls))
     chosen true o = tt
     chosen false (Some i) = tt
     chosen false None = tt
-over_sure P s [] = tt
-over_sure P s (Bad c ∷ ls) = tt
-over_sure P s (l ∷ ls) = tt
+surplus_term_sure P s [] = tt
+surplus_term_sure P s (Bad c ∷ ls) = tt
+surplus_term_sure P s (l ∷ ls) = tt
 
 more_terms_sure : (s : Scope) (n m most : ℕ) → Covers s n m → (b : Bool) (ls : List Letter) → ((rest : List Letter) → Sure (AreFew n m most) (read_terms most s rest)) → Sure (AreFew n m (suc most)) (read_term s b ls >>= λ t. read_terms most s t.1 >>= λ ts. Ok (t.0 ∷ ts.0, ts.1))
 more_terms_sure s n m most k b ls h =
@@ -77,8 +77,8 @@ more_terms_sure s n m most k b ls h =
 
 terms_sure : (s : Scope) (n m most : ℕ) → Covers s n m → (ls : List Letter) → Sure (AreFew n m most) (read_terms most s ls)
 unfolding read_terms
-terms_sure s n m zero k (Sym Plus ∷ ls) = over_sure (AreFew n m zero) s ls
-terms_sure s n m zero k (Sym Minus ∷ ls) = over_sure (AreFew n m zero) s ls
+terms_sure s n m zero k (Sym Plus ∷ ls) = surplus_term_sure (AreFew n m zero) s ls
+terms_sure s n m zero k (Sym Minus ∷ ls) = surplus_term_sure (AreFew n m zero) s ls
 terms_sure s n m zero k [] = (omega arith, All-nil (λ (u : Term). IsAtomOf n m u.atom))
 terms_sure s n m zero k (l ∷ ls) = (omega arith, All-nil (λ (u : Term). IsAtomOf n m u.atom))
 terms_sure s n m (suc most) k (Sym Plus ∷ ls) = more_terms_sure s n m most k false ls (terms_sure s n m most k)
@@ -88,7 +88,7 @@ terms_sure s n m (suc most) k (l ∷ ls) = (omega arith, All-nil (λ (u : Term).
 
 sum_sure : (s : Scope) (n m most : ℕ) → Covers s n m → (ls : List Letter) → Sure (AreFew n m most) (read_sum most s ls)
 unfolding read_sum read_counted
-sum_sure s n m zero k ls = over_sure (AreFew n m zero) s (read_sign ls).1
+sum_sure s n m zero k ls = surplus_term_sure (AreFew n m zero) s (read_sign ls).1
 sum_sure s n m (suc most) k ls = more_terms_sure s n m most k (read_sign ls).0 (read_sign ls).1 (terms_sure s n m most k)
 
 abbrev pub IsWithinLimits : ℕ → ℕ → RelationView × List Letter → Type 0
@@ -98,7 +98,7 @@ pub relation_line_sure : (s : Scope) (n m : ℕ) → Covers s n m → (ls : List
 unfolding read_relation
 relation_line_sure s n m k ls =
     sure_bind (AreFew n m most_terms) (IsWithinLimits n m) (read_sum most_terms s ls) (λ left. read_compare left.1 >>= λ sign. read_sum (most_terms - length left.0) s sign.1 >>= λ right. Ok (record { left = left.0; sign = sign.0; right = right.0 }, right.1)) (sum_sure s n m most_terms k ls)
-    (λ left hl. sure_bind Any (IsWithinLimits n m) (read_compare left.1) (λ sign. read_sum (most_terms - length left.0) s sign.1 >>= λ right. Ok (record { left = left.0; sign = sign.0; right = right.0 }, right.1)) (any (read_compare left.1))
+    (λ left hl. sure_bind Any (IsWithinLimits n m) (read_compare left.1) (λ sign. read_sum (most_terms - length left.0) s sign.1 >>= λ right. Ok (record { left = left.0; sign = sign.0; right = right.0 }, right.1)) (sure_any (read_compare left.1))
     (λ sign u. sure_bind (AreFew n m (most_terms - length left.0)) (IsWithinLimits n m) (read_sum (most_terms - length left.0) s sign.1) (λ right. Ok (record { left = left.0; sign = sign.0; right = right.0 }, right.1)) (sum_sure s n m (most_terms - length left.0) k sign.1)
     (λ right hr. (omega (arith, hl.0, hr.0), hl.1, hr.1))))
 
@@ -135,4 +135,4 @@ pub relation_limited : (v : NamesView) (rates : Bool) (ls r : List Letter) (y : 
 unfolding to_end
 relation_limited v rates ls r y e =
     let f = read_relation (scope_of v rates) in
-    subst (Sure (Limited v)) e (sure_bind (Limited v) (Limited v) (f ls) (λ x. line_end x.1 >>= λ e. Ok (x.0, e.1)) (relation_within v rates ls) (λ x hx. sure_bind Any (Limited v) (line_end x.1) (λ e. Ok (x.0, e.1)) (any (line_end x.1)) (λ e u. hx)))
+    subst (Sure (Limited v)) e (sure_bind (Limited v) (Limited v) (f ls) (λ x. line_end x.1 >>= λ e. Ok (x.0, e.1)) (relation_within v rates ls) (λ x hx. sure_bind Any (Limited v) (line_end x.1) (λ e. Ok (x.0, e.1)) (sure_any (line_end x.1)) (λ e u. hx)))

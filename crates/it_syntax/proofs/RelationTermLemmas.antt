@@ -9,7 +9,7 @@ use Rattle.it_syntax.specs.Letters.{Letter, Sym}
 use Rattle.it_syntax.specs.Gives.{StopsAs}
 use Rattle.it_syntax.specs.AtomReading.{Reads, ◌>>=◌}
 use Rattle.it_syntax.specs.ReaderSteps.{after_sign, with_terms}
-use Rattle.it_syntax.specs.RelationReading.{read_term, read_terms, read_over}
+use Rattle.it_syntax.specs.RelationReading.{read_term, read_terms, read_surplus_term}
 use Rattle.it_syntax.specs.WrittenRelations.{Scope}
 
 abbrev one_more : ℕ → Scope → Bool → List Letter → Reads (List Term)
@@ -27,17 +27,17 @@ sign_some n scope (Sym Minus ∷ ls) t b e = let p : (true, ls) ≡ (b, t) = som
     some_is x y e = cc
 sign_some n scope ls t b e = absurd cc
 
-sign_over : (scope : Scope) (ls t : List Letter) (b : Bool) → after_sign ls ≡ Some (b, t) → read_terms 0 scope ls ≡ read_over scope t
+sign_surplus : (scope : Scope) (ls t : List Letter) (b : Bool) → after_sign ls ≡ Some (b, t) → read_terms 0 scope ls ≡ read_surplus_term scope t
 unfolding read_terms
-sign_over scope (Sym Plus ∷ ls) t b e = let p : ls ≡ t = some_is (false, ls) (b, t) e in ap (read_over scope) p
+sign_surplus scope (Sym Plus ∷ ls) t b e = let p : ls ≡ t = some_is (false, ls) (b, t) e in ap (read_surplus_term scope) p
   where
     some_is : (x y : Bool × List Letter) → Some x ≡ Some y → x.1 ≡ y.1
     some_is x y e = let h : x ≡ y = cc in ap (λ (z : Bool × List Letter). z.1) h
-sign_over scope (Sym Minus ∷ ls) t b e = let p : ls ≡ t = some_is (true, ls) (b, t) e in ap (read_over scope) p
+sign_surplus scope (Sym Minus ∷ ls) t b e = let p : ls ≡ t = some_is (true, ls) (b, t) e in ap (read_surplus_term scope) p
   where
     some_is : (x y : Bool × List Letter) → Some x ≡ Some y → x.1 ≡ y.1
     some_is x y e = let h : x ≡ y = cc in ap (λ (z : Bool × List Letter). z.1) h
-sign_over scope ls t b e = absurd cc
+sign_surplus scope ls t b e = absurd cc
 
 sign_none : (n : ℕ) (scope : Scope) (ls : List Letter) → after_sign ls ≡ None → read_terms n scope ls ≡ Ok ([], ls)
 unfolding read_terms
@@ -46,9 +46,9 @@ sign_none n scope (Sym Minus ∷ ls) e = absurd cc
 sign_none zero scope ls e = refl
 sign_none (suc n) scope ls e = refl
 
-regroup : (front : List Term) (t : Term) (r : Reads (List Term)) → with_terms front (r >>= λ ts. Ok (t ∷ ts.0, ts.1)) ≡ with_terms (front ++ t ∷ []) r
-regroup front t (Ok x) = ap (λ (ts : List Term). Ok (ts, x.1)) (simp append_assoc)
-regroup front t (Err e) = refl
+with_terms_append : (front : List Term) (t : Term) (r : Reads (List Term)) → with_terms front (r >>= λ ts. Ok (t ∷ ts.0, ts.1)) ≡ with_terms (front ++ t ∷ []) r
+with_terms_append front t (Ok x) = ap (λ (ts : List Term). Ok (ts, x.1)) (simp append_assoc)
+with_terms_append front t (Err e) = refl
 
 -- one more term
 pub goes_on : (front : List Term) (n : ℕ) (scope : Scope) (ls tail after : List Letter) (b : Bool) (t : Term) (total : Reads (List Term)) → 0 < n → after_sign ls ≡ Some (b, tail) → read_term scope b tail ≡ Ok (t, after)
@@ -56,21 +56,21 @@ pub goes_on : (front : List Term) (n : ℕ) (scope : Scope) (ls tail after : Lis
 goes_on front n scope ls tail after b t total lt s h so_far =
     let k : n ≡ suc (n - 1) = omega arith in
     let one : with_terms front (read_terms n scope ls) ≡ with_terms (front ++ t ∷ []) (read_terms (n - 1) scope after) =
-    ap (λ (m : ℕ). with_terms front (read_terms m scope ls)) k ∙ ap (with_terms front) (sign_some (n - 1) scope ls tail b s ∙ ap (λ (r : Reads Term). r >>= λ t. read_terms (n - 1) scope t.1 >>= λ ts. Ok (t.0 ∷ ts.0, ts.1)) h) ∙ regroup front t (read_terms (n - 1) scope after) in
+    ap (λ (m : ℕ). with_terms front (read_terms m scope ls)) k ∙ ap (with_terms front) (sign_some (n - 1) scope ls tail b s ∙ ap (λ (r : Reads Term). r >>= λ t. read_terms (n - 1) scope t.1 >>= λ ts. Ok (t.0 ∷ ts.0, ts.1)) h) ∙ with_terms_append front t (read_terms (n - 1) scope after) in
     sym one ∙ so_far
 
 -- the loop stops at a fault in a term
-pub ends : (e : Stop) (front : List Term) (n : ℕ) (scope : Scope) (ls tail rest : List Letter) (b : Bool) (total : Reads (List Term)) → 0 < n → after_sign ls ≡ Some (b, tail) → StopsAs e rest (read_term scope b tail)
+pub stops_at_fault : (e : Stop) (front : List Term) (n : ℕ) (scope : Scope) (ls tail rest : List Letter) (b : Bool) (total : Reads (List Term)) → 0 < n → after_sign ls ≡ Some (b, tail) → StopsAs e rest (read_term scope b tail)
     → with_terms front (read_terms n scope ls) ≡ total → StopsAs e rest total
-ends stops.Memory front n scope ls tail rest b total lt s h so_far = tt
-ends (stops.Fault c) front n scope ls tail rest b total lt s h so_far =
+stops_at_fault stops.Memory front n scope ls tail rest b total lt s h so_far = tt
+stops_at_fault (stops.Fault c) front n scope ls tail rest b total lt s h so_far =
     let k : n ≡ suc (n - 1) = omega arith in
     sym so_far ∙ ap (λ (m : ℕ). with_terms front (read_terms m scope ls)) k ∙ ap (with_terms front) (sign_some (n - 1) scope ls tail b s ∙ ap (λ (r : Reads Term). r >>= λ t. read_terms (n - 1) scope t.1 >>= λ ts. Ok (t.0 ∷ ts.0, ts.1)) h)
 
 -- the loop stops at a term too many
-pub too_many : (e : Stop) (front : List Term) (scope : Scope) (ls tail : List Letter) (b : Bool) (total : Reads (List Term)) → after_sign ls ≡ Some (b, tail) → StopsAs e tail (read_over scope tail) → with_terms front (read_terms 0 scope ls) ≡ total → StopsAs e tail total
+pub too_many : (e : Stop) (front : List Term) (scope : Scope) (ls tail : List Letter) (b : Bool) (total : Reads (List Term)) → after_sign ls ≡ Some (b, tail) → StopsAs e tail (read_surplus_term scope tail) → with_terms front (read_terms 0 scope ls) ≡ total → StopsAs e tail total
 too_many stops.Memory front scope ls tail b total s h so_far = tt
-too_many (stops.Fault c) front scope ls tail b total s h so_far = sym so_far ∙ ap (with_terms front) (sign_over scope ls tail b s ∙ h)
+too_many (stops.Fault c) front scope ls tail b total s h so_far = sym so_far ∙ ap (with_terms front) (sign_surplus scope ls tail b s ∙ h)
 
 -- the loop ends without a sign
 pub is_done : (front : List Term) (n : ℕ) (scope : Scope) (ls : List Letter) (total : Reads (List Term)) → after_sign ls ≡ None → with_terms front (read_terms n scope ls) ≡ total → total ≡ Ok (front, ls)

@@ -11,13 +11,13 @@ use Rattle.it_syntax.specs.declared.types.Atom.TheVariants.{Rate}
 use Rattle.it_syntax.specs.declared.types.Term.{Term}
 use Rattle.it_syntax.specs.declared.types.Sign.{Sign}
 use Rattle.it_syntax.specs.declared.types.Sign.TheVariants.{AtLeast, AtMost, Equal}
-use Rattle.it_syntax.specs.Letters.{Letter, Word, Number, Sym, Marked, clean}
+use Rattle.it_syntax.specs.Letters.{Letter, Word, Number, Sym, MarkedLetters, unmarked}
 use Rattle.it_syntax.specs.Meaning.{RelationView}
 use Rattle.it_syntax.specs.FirstFault.{head, own_code}
-use Rattle.it_syntax.specs.WrittenAtoms.{Entropy, Mutual, TermSign, Positive, Negative, entropy_text, mutual_text, is_measure, unknown, index_or, atom_of, spell_list, spell_atom, mark_surplus}
+use Rattle.it_syntax.specs.WrittenAtoms.{Entropy, Mutual, TermSign, Positive, Negative, entropy_text, mutual_text, is_measure, unknown_mark, index_or, atom_of, spell_list, spell_atom, mark_surplus}
 use Rattle.it_syntax.specs.WrittenRelations.{Scope, WrittenQuantity, Measure, RateOf, WrittenTerm, Zero, Once, Times, WrittenSum, WrittenRelation, spell_quantity, spell_term, spell_terms, spell_counted, spell_sum, compare_letter, most_terms, spell_relation, quantity_of, term_of, terms_of, sum_of, relation_of}
 use Rattle.it_syntax.specs.AtomReading.{Reads, ◌>>=◌, read_atom, read_sign}
-use Rattle.it_syntax.specs.RelationReading.{rate_or_fault, read_quantity, after_number, read_term, surplus, read_over, read_terms, read_counted, read_sum, read_compare, read_relation}
+use Rattle.it_syntax.specs.RelationReading.{rate_or_fault, read_quantity, after_number, read_term, surplus_rate, read_surplus_term, read_terms, read_counted, read_sum, read_compare, read_relation}
 use Rattle.it_syntax.proofs.Traces.{Went, Stuck, By, Traces, traces_bind, traces_map, letter_then, switch, by_renaming}
 use Rattle.it_syntax.proofs.AtomTraces.{for_same_head, for_no_head, stuck_here, stuck_none, some_list}
 use Rattle.it_syntax.proofs.SideTraces.{atom_traces}
@@ -43,14 +43,14 @@ quantity_by s w ls false (Some i) eh eo = record {
   front = Word w ∷ [];
   value = ap (λ (p : Option ℕ). Rate (index_or p)) eo;
   parts = refl;
-  spells = λ k. ap (λ (p : Option ℕ). (Word w, unknown p) ∷ k) eo;
+  spells = λ k. ap (λ (p : Option ℕ). (Word w, unknown_mark p) ∷ k) eo;
   stays = λ t e. word_is s w false (Some i) eh eo t;
 }
 quantity_by s w ls false None eh eo = record {
   tree = RateOf (record { text = w; is_name = eh });
   front = [];
   parts = refl;
-  spells = λ k. ((Word w, unknown (s.rates w)) ∷ k, (refl, inr (Word w, k, (ap (λ (p : Option ℕ). (Word w, unknown p) ∷ k) eo, refl))));
+  spells = λ k. ((Word w, unknown_mark (s.rates w)) ∷ k, (refl, inr (Word w, k, (ap (λ (p : Option ℕ). (Word w, unknown_mark p) ∷ k) eo, refl))));
   stays = for_same_head (λ t. read_quantity s t ≡ Err (codes.Name, t)) (Word w) (word_is s w false None eh eo);
 }
 
@@ -123,7 +123,7 @@ Terms = WrittenTerm × Further
 abbrev term_more : ℕ → Scope → Bool → List Letter → Reads (List Term)
 term_more n s b ls = read_term s b ls >>= λ t. read_terms n s t.1 >>= λ ts. Ok (t.0 ∷ ts.0, ts.1)
 
-abbrev spell_term_more : ℕ → Scope → Terms → Marked → Marked
+abbrev spell_term_more : ℕ → Scope → Terms → MarkedLetters → MarkedLetters
 spell_term_more n s t k = spell_term s t.0 (spell_terms n s t.1 k)
 
 abbrev term_more_of : Scope → Bool → Terms → List Term
@@ -135,48 +135,48 @@ term_more_traces n s b h = traces_bind (read_term s b) (λ t ls. read_terms n s 
 
 -- ---- a term too many
 
-abbrev spell_over : Scope → Terms → Marked → Marked
-spell_over s t k = mark_surplus (spell_term s t.0 (spell_terms zero s t.1 k))
+abbrev spell_surplus_term : Scope → Terms → MarkedLetters → MarkedLetters
+spell_surplus_term s t k = mark_surplus (spell_term s t.0 (spell_terms zero s t.1 k))
 
-abbrev over_word : List ℕ → Bool → Option ℕ → List Letter → Reads (List Term)
-over_word w h o ls = cond h (Err (codes.Many, Word w ∷ ls)) (surplus w o ls)
+abbrev surplus_term_word : List ℕ → Bool → Option ℕ → List Letter → Reads (List Term)
+surplus_term_word w h o ls = cond h (Err (codes.Many, Word w ∷ ls)) (surplus_rate w o ls)
 
-over_is : (s : Scope) (w : List ℕ) (h i : Bool) (o : Option ℕ) → bytes_eq w entropy_text ≡ h → bytes_eq w mutual_text ≡ i → s.rates w ≡ o → (ls : List Letter) → read_over s (Word w ∷ ls) ≡ over_word w (h || i) o ls
-unfolding read_over
-over_is s w h i o eh ei eo ls = ap (λ (b : Bool). over_word w (b || bytes_eq w mutual_text) (s.rates w) ls) eh ∙ ap (λ (b : Bool). over_word w (h || b) (s.rates w) ls) ei ∙ ap (λ (p : Option ℕ). over_word w (h || i) p ls) eo
+surplus_term_is : (s : Scope) (w : List ℕ) (h i : Bool) (o : Option ℕ) → bytes_eq w entropy_text ≡ h → bytes_eq w mutual_text ≡ i → s.rates w ≡ o → (ls : List Letter) → read_surplus_term s (Word w ∷ ls) ≡ surplus_term_word w (h || i) o ls
+unfolding read_surplus_term
+surplus_term_is s w h i o eh ei eo ls = ap (λ (b : Bool). surplus_term_word w (b || bytes_eq w mutual_text) (s.rates w) ls) eh ∙ ap (λ (b : Bool). surplus_term_word w (h || b) (s.rates w) ls) ei ∙ ap (λ (p : Option ℕ). surplus_term_word w (h || i) p ls) eo
 
 -- the first letter of the tree t is marked by c
-over_at : (s : Scope) (b : Bool) (l : Letter) (ls : List Letter) (t : WrittenTerm) (c : Code) (rest : Marked → Marked) → ((k : Marked) → mark_surplus (spell_term s t k) ≡ (l, Some c) ∷ rest k) → ((r : List Letter) → read_over s (l ∷ r) ≡ Err (c, l ∷ r)) → Stuck (read_over s) (spell_over s) (l ∷ ls) c (l ∷ ls)
-over_at s b l ls t c rest h e = record {
+surplus_term_marked : (s : Scope) (b : Bool) (l : Letter) (ls : List Letter) (t : WrittenTerm) (c : Code) (rest : MarkedLetters → MarkedLetters) → ((k : MarkedLetters) → mark_surplus (spell_term s t k) ≡ (l, Some c) ∷ rest k) → ((r : List Letter) → read_surplus_term s (l ∷ r) ≡ Err (c, l ∷ r)) → Stuck (read_surplus_term s) (spell_surplus_term s) (l ∷ ls) c (l ∷ ls)
+surplus_term_marked s b l ls t c rest h e = record {
   tree = (t, []);
   front = [];
   parts = refl;
   spells = λ k. (mark_surplus (spell_term s t k), (refl, inr (l, rest k, (h k, refl))));
-  stays = for_same_head (λ r. read_over s r ≡ Err (c, r)) l e;
+  stays = for_same_head (λ r. read_surplus_term s r ≡ Err (c, r)) l e;
 }
 
-abbrev behind_joint : Scope → Marked → Marked
-behind_joint s k = clean (Sym LeftParen) ∷ spell_list s.variables some_list (clean (Sym RightParen) ∷ k)
+abbrev behind_entropy : Scope → MarkedLetters → MarkedLetters
+behind_entropy s k = unmarked (Sym LeftParen) ∷ spell_list s.variables some_list (unmarked (Sym RightParen) ∷ k)
 
-abbrev behind_shared : Scope → Marked → Marked
-behind_shared s k = clean (Sym LeftParen) ∷ spell_list s.variables some_list (clean (Sym Semicolon) ∷ spell_list s.variables some_list (clean (Sym RightParen) ∷ k))
+abbrev behind_mutual : Scope → MarkedLetters → MarkedLetters
+behind_mutual s k = unmarked (Sym LeftParen) ∷ spell_list s.variables some_list (unmarked (Sym Semicolon) ∷ spell_list s.variables some_list (unmarked (Sym RightParen) ∷ k))
 
-over_by : (s : Scope) (b : Bool) (w : List ℕ) (ls : List Letter) (h i : Bool) (o : Option ℕ) → bytes_eq w entropy_text ≡ h → bytes_eq w mutual_text ≡ i → s.rates w ≡ o → By (read_over s) (spell_over s) (term_more_of s b) (Word w ∷ ls) (over_word w (h || i) o ls)
-over_by s b w ls true i o eh ei eo =
-    over_at s b (Word w) ls (Once (Measure (Entropy some_list))) codes.Many (behind_joint s) (λ k. ap (λ (t : List ℕ). (Word t, Some codes.Many) ∷ behind_joint s k) (sym ((bytes_eq-Decides w entropy_text).0 eh))) (over_is s w true i o eh ei eo)
-over_by s b w ls false true o eh ei eo =
-    over_at s b (Word w) ls (Once (Measure (Mutual some_list some_list))) codes.Many (behind_shared s) (λ k. ap (λ (t : List ℕ). (Word t, Some codes.Many) ∷ behind_shared s k) (sym ((bytes_eq-Decides w mutual_text).0 ei))) (over_is s w false true o eh ei eo)
-over_by s b w ls false false (Some i) eh ei eo =
-    over_at s b (Word w) ls (Once (RateOf (record { text = w; is_name = ap (λ (b : Bool). b || bytes_eq w mutual_text) eh ∙ ei }))) codes.Many (λ k. k) (λ k. ap (λ (p : Option ℕ). mark_surplus ((Word w, unknown p) ∷ k)) eo) (over_is s w false false (Some i) eh ei eo)
-over_by s b w ls false false None eh ei eo =
-    over_at s b (Word w) ls (Once (RateOf (record { text = w; is_name = ap (λ (b : Bool). b || bytes_eq w mutual_text) eh ∙ ei }))) codes.Name (λ k. k) (λ k. ap (λ (p : Option ℕ). mark_surplus ((Word w, unknown p) ∷ k)) eo) (over_is s w false false None eh ei eo)
+surplus_term_by : (s : Scope) (b : Bool) (w : List ℕ) (ls : List Letter) (h i : Bool) (o : Option ℕ) → bytes_eq w entropy_text ≡ h → bytes_eq w mutual_text ≡ i → s.rates w ≡ o → By (read_surplus_term s) (spell_surplus_term s) (term_more_of s b) (Word w ∷ ls) (surplus_term_word w (h || i) o ls)
+surplus_term_by s b w ls true i o eh ei eo =
+    surplus_term_marked s b (Word w) ls (Once (Measure (Entropy some_list))) codes.Many (behind_entropy s) (λ k. ap (λ (t : List ℕ). (Word t, Some codes.Many) ∷ behind_entropy s k) (sym ((bytes_eq-Decides w entropy_text).0 eh))) (surplus_term_is s w true i o eh ei eo)
+surplus_term_by s b w ls false true o eh ei eo =
+    surplus_term_marked s b (Word w) ls (Once (Measure (Mutual some_list some_list))) codes.Many (behind_mutual s) (λ k. ap (λ (t : List ℕ). (Word t, Some codes.Many) ∷ behind_mutual s k) (sym ((bytes_eq-Decides w mutual_text).0 ei))) (surplus_term_is s w false true o eh ei eo)
+surplus_term_by s b w ls false false (Some i) eh ei eo =
+    surplus_term_marked s b (Word w) ls (Once (RateOf (record { text = w; is_name = ap (λ (b : Bool). b || bytes_eq w mutual_text) eh ∙ ei }))) codes.Many (λ k. k) (λ k. ap (λ (p : Option ℕ). mark_surplus ((Word w, unknown_mark p) ∷ k)) eo) (surplus_term_is s w false false (Some i) eh ei eo)
+surplus_term_by s b w ls false false None eh ei eo =
+    surplus_term_marked s b (Word w) ls (Once (RateOf (record { text = w; is_name = ap (λ (b : Bool). b || bytes_eq w mutual_text) eh ∙ ei }))) codes.Name (λ k. k) (λ k. ap (λ (p : Option ℕ). mark_surplus ((Word w, unknown_mark p) ∷ k)) eo) (surplus_term_is s w false false None eh ei eo)
 
-over_traces : (s : Scope) (b : Bool) → Traces (read_over s) (spell_over s) (term_more_of s b)
-unfolding read_over
-over_traces s b (Number n ∷ ls) = over_at s b (Number n) ls (Times n some_quantity) codes.Many (spell_quantity s some_quantity) (λ k. refl) (λ r. refl)
-over_traces s b (Word w ∷ ls) = over_by s b w ls (bytes_eq w entropy_text) (bytes_eq w mutual_text) (s.rates w) refl refl refl
-over_traces s b [] = stuck_none (read_over s) (spell_over s) (Zero, []) refl
-over_traces s b (l ∷ ls) = stuck_here (read_over s) (spell_over s) (Zero, []) l ls _ (λ r. refl) refl
+surplus_term_traces : (s : Scope) (b : Bool) → Traces (read_surplus_term s) (spell_surplus_term s) (term_more_of s b)
+unfolding read_surplus_term
+surplus_term_traces s b (Number n ∷ ls) = surplus_term_marked s b (Number n) ls (Times n some_quantity) codes.Many (spell_quantity s some_quantity) (λ k. refl) (λ r. refl)
+surplus_term_traces s b (Word w ∷ ls) = surplus_term_by s b w ls (bytes_eq w entropy_text) (bytes_eq w mutual_text) (s.rates w) refl refl refl
+surplus_term_traces s b [] = stuck_none (read_surplus_term s) (spell_surplus_term s) (Zero, []) refl
+surplus_term_traces s b (l ∷ ls) = stuck_here (read_surplus_term s) (spell_surplus_term s) (Zero, []) l ls _ (λ r. refl) refl
 
 -- ---- further terms
 
@@ -192,8 +192,8 @@ no_further n s ls h = record { tree = []; front = []; value = refl; parts = refl
 
 terms_traces : (n : ℕ) (s : Scope) → Traces (read_terms n s) (spell_terms n s) (terms_of s)
 unfolding read_terms
-terms_traces zero s (Sym Plus ∷ ls) = letter_then (read_terms zero s) (read_over s) (Sym Plus) (spell_over s) (spell_terms zero s) (term_more_of s false) (terms_of s) up_more ls (λ t. refl) (λ z k. refl) (λ z. refl) (read_over s ls) (over_traces s false ls)
-terms_traces zero s (Sym Minus ∷ ls) = letter_then (read_terms zero s) (read_over s) (Sym Minus) (spell_over s) (spell_terms zero s) (term_more_of s true) (terms_of s) down_more ls (λ t. refl) (λ z k. refl) (λ z. refl) (read_over s ls) (over_traces s true ls)
+terms_traces zero s (Sym Plus ∷ ls) = letter_then (read_terms zero s) (read_surplus_term s) (Sym Plus) (spell_surplus_term s) (spell_terms zero s) (term_more_of s false) (terms_of s) up_more ls (λ t. refl) (λ z k. refl) (λ z. refl) (read_surplus_term s ls) (surplus_term_traces s false ls)
+terms_traces zero s (Sym Minus ∷ ls) = letter_then (read_terms zero s) (read_surplus_term s) (Sym Minus) (spell_surplus_term s) (spell_terms zero s) (term_more_of s true) (terms_of s) down_more ls (λ t. refl) (λ z k. refl) (λ z. refl) (read_surplus_term s ls) (surplus_term_traces s true ls)
 terms_traces zero s [] = no_further zero s [] (for_no_head (λ t. read_terms zero s t ≡ Ok ([], t)) refl)
 terms_traces zero s (l ∷ ls) = no_further zero s (l ∷ ls) (for_same_head (λ t. read_terms zero s t ≡ Ok ([], t)) l (λ t. refl))
 terms_traces (suc n) s (Sym Plus ∷ ls) = letter_then (read_terms (suc n) s) (term_more n s false) (Sym Plus) (spell_term_more n s) (spell_terms (suc n) s) (term_more_of s false) (terms_of s) up_more ls (λ t. refl) (λ z k. refl) (λ z. refl) (term_more n s false ls) (term_more_traces n s false (terms_traces n s) ls)
@@ -203,13 +203,13 @@ terms_traces (suc n) s (l ∷ ls) = no_further (suc n) s (l ∷ ls) (for_same_he
 
 -- ---- sums
 
-abbrev spell_first : ℕ → Scope → Terms → Marked → Marked
+abbrev spell_first : ℕ → Scope → Terms → MarkedLetters → MarkedLetters
 spell_first n s t k = spell_counted n s t.0 t.1 k
 
 counted_traces : (n : ℕ) (s : Scope) (b : Bool) → Traces (read_counted n s b) (spell_first n s) (term_more_of s b)
 unfolding read_counted
-counted_traces zero s b ls = by_renaming (read_counted zero s b) (spell_over s) (spell_first zero s) (term_more_of s b) (term_more_of s b) (λ t. t) ls (λ z k. refl) (λ z. refl) (read_over s ls)
-    (switch (read_over s) (read_counted zero s b) (spell_over s) (term_more_of s b) ls (λ t e. refl) (read_over s ls) (over_traces s b ls))
+counted_traces zero s b ls = by_renaming (read_counted zero s b) (spell_surplus_term s) (spell_first zero s) (term_more_of s b) (term_more_of s b) (λ t. t) ls (λ z k. refl) (λ z. refl) (read_surplus_term s ls)
+    (switch (read_surplus_term s) (read_counted zero s b) (spell_surplus_term s) (term_more_of s b) ls (λ t e. refl) (read_surplus_term s ls) (surplus_term_traces s b ls))
 counted_traces (suc n) s b ls = by_renaming (read_counted (suc n) s b) (spell_term_more n s) (spell_first (suc n) s) (term_more_of s b) (term_more_of s b) (λ t. t) ls (λ z k. refl) (λ z. refl) (term_more n s b ls)
     (switch (term_more n s b) (read_counted (suc n) s b) (spell_term_more n s) (term_more_of s b) ls (λ t e. refl) (term_more n s b ls) (term_more_traces n s b (terms_traces n s) ls))
 
@@ -229,8 +229,8 @@ sum_traces n s (l ∷ ls) = sum_without_sign n s (l ∷ ls) (for_same_head (λ t
 
 -- ---- relations
 
-abbrev spell_compare : Sign → Marked → Marked
-spell_compare sign k = clean (compare_letter sign) ∷ k
+abbrev spell_compare : Sign → MarkedLetters → MarkedLetters
+spell_compare sign k = unmarked (compare_letter sign) ∷ k
 
 compare_traces : Traces read_compare spell_compare (λ sign. sign)
 unfolding read_compare
@@ -258,7 +258,7 @@ Behind = Sign × WrittenSum
 abbrev behind_left : Scope → List Term → List Letter → Reads RelationView
 behind_left s left ls = read_compare ls >>= λ sign. read_sum (most_terms - length left) s sign.1 >>= λ right. Ok (relation_of_sides left sign.0 right.0, right.1)
 
-abbrev spell_behind : Scope → List Term → Behind → Marked → Marked
+abbrev spell_behind : Scope → List Term → Behind → MarkedLetters → MarkedLetters
 spell_behind s left p k = spell_compare p.0 (spell_sum (most_terms - length left) s p.1 k)
 
 abbrev behind_of : Scope → List Term → Behind → RelationView

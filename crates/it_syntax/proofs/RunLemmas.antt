@@ -1,7 +1,8 @@
 -- Runs of bytes of one kind, and the number that digits are.
-use Rattle.std.proofs.Common.{◌≡◌, ℕ, zero, suc, ◌+◌, ◌-◌, ◌*◌, ◌<◌, ◌≤◌, Bool, true, false, List, [], ◌∷◌, length, get_or, take, drop, refl, arith}
+use Rattle.std.proofs.Common.{◌≡◌, ℕ, zero, suc, ◌+◌, ◌-◌, ◌*◌, ◌<◌, ◌≤◌, Bool, true, false, List, [], ◌∷◌, length, get_or, take, drop, Some, None, cond, IsSomeAnd, refl, arith}
 use Rattle.std.specs.Char.{is_ascii_digit}
-use Rattle.it_syntax.specs.Spelling.{AreAll, Stops, value_from}
+use Rattle.it_number.specs.Decimals.{value_from}
+use Rattle.it_syntax.specs.Spelling.{AreAll, Stops}
 use Rattle.std.proofs.lemmas.Bool.Decides.{nat_tests}
 
 -- one more byte of the kind
@@ -24,15 +25,15 @@ stops_end f (x ∷ xs) = stops_end f xs
 pub ruleset run_lemmas = (all_more, stops_at, stops_end)
 
 -- one digit more
-pub value_step : (n : ℕ) (ds : List ℕ) (i : ℕ) → i < length ds → value_from n (drop i ds) ≡ value_from (10 * n + (get_or ds i 0 - 48)) (drop (suc i) ds)
-value_step n [] i lt = absurd (omega arith)
-value_step n (d ∷ ds) zero lt = refl
-value_step n (d ∷ ds) (suc i) lt = value_step n ds i (omega arith)
+pub value_step : (n : ℕ) (ds : List ℕ) (i : ℕ) → i < length ds → is_ascii_digit (get_or ds i 0) ≡ true → value_from n (drop i ds) ≡ value_from (10 * n + (get_or ds i 0 - 48)) (drop (suc i) ds)
+value_step n [] i lt is = absurd (omega arith)
+value_step n (d ∷ ds) zero lt is = rw is refl
+value_step n (d ∷ ds) (suc i) lt is = value_step n ds i (omega arith) is
 
 -- the next digit is one, and so are those behind it
-pub digit_step : (ds : List ℕ) (i : ℕ) → i < length ds → AreAll is_ascii_digit (drop i ds) → (48 ≤ get_or ds i 0) × ((get_or ds i 0 ≤ 57) × AreAll is_ascii_digit (drop (suc i) ds))
+pub digit_step : (ds : List ℕ) (i : ℕ) → i < length ds → AreAll is_ascii_digit (drop i ds) → (is_ascii_digit (get_or ds i 0) ≡ true) × (48 ≤ get_or ds i 0) × (get_or ds i 0 ≤ 57) × AreAll is_ascii_digit (drop (suc i) ds)
 digit_step [] i lt h = absurd (omega arith)
-digit_step (d ∷ ds) zero lt h = let e = h.0 in (digit_low d e, (digit_high d e, h.1))
+digit_step (d ∷ ds) zero lt h = let e = h.0 in (e, digit_low d e, digit_high d e, h.1)
   where
     digit_low : (d : ℕ) → is_ascii_digit d ≡ true → 48 ≤ d
     digit_low d e = grind (arith, nat_tests)
@@ -41,21 +42,28 @@ digit_step (d ∷ ds) zero lt h = let e = h.0 in (digit_low d e, (digit_high d e
     digit_high d e = grind (arith, nat_tests)
 digit_step (d ∷ ds) (suc i) lt h = digit_step ds i (omega arith) h
 
--- digits behind a number make it no smaller
-pub value_grows : (n : ℕ) (ds : List ℕ) → n ≤ value_from n ds
-value_grows n [] = omega arith
-value_grows n (d ∷ ds) = omega (arith, value_grows (10 * n + (d - 48)) ds)
+-- digits behind a number from `most` on make it no smaller
+pub value_large : (most n : ℕ) (ds : List ℕ) → AreAll is_ascii_digit ds → most ≤ n → IsSomeAnd (value_from n ds) (λ v. most ≤ v)
+value_large most n [] h le = le
+value_large most n (d ∷ ds) h le = rw h.0 (value_large most (10 * n + (d - 48)) ds h.1 (omega arith))
 
 -- no digit is left
-pub value_end : (n : ℕ) (ds : List ℕ) → value_from n (drop (length ds) ds) ≡ n
+pub value_end : (n : ℕ) (ds : List ℕ) → value_from n (drop (length ds) ds) ≡ Some n
 value_end n [] = refl
 value_end n (d ∷ ds) = value_end n ds
 
--- at an index past the end no digit is left
-pub value_past : (n : ℕ) (ds : List ℕ) (i : ℕ) → length ds ≤ i → value_from n (drop i ds) ≡ n
-value_past n [] zero le = refl
-value_past n [] (suc i) le = refl
-value_past n (d ∷ ds) zero le = absurd (omega arith)
-value_past n (d ∷ ds) (suc i) le = value_past n ds i (omega arith)
+-- only digits have a value
+pub value_digits : (n : ℕ) (ds : List ℕ) (v : ℕ) → value_from n ds ≡ Some v → AreAll is_ascii_digit ds
+value_digits n [] v e = tt
+value_digits n (d ∷ ds) v e = by (is_ascii_digit d) refl e (value_digits (10 * n + (d - 48)) ds v)
+  where
+    by : (b : Bool) → is_ascii_digit d ≡ b → cond b (value_from (10 * n + (d - 48)) ds) None ≡ Some v → (value_from (10 * n + (d - 48)) ds ≡ Some v → AreAll is_ascii_digit ds) → AreAll is_ascii_digit (d ∷ ds)
+    by true is h more = (is, more h)
+    by false is h more = absurd cc
 
-pub ruleset value_lemmas = (value_step, digit_step, value_grows, value_end)
+-- digits have a value
+pub digits_value : (n : ℕ) (ds : List ℕ) → AreAll is_ascii_digit ds → (v : ℕ) × (value_from n ds ≡ Some v)
+digits_value n [] h = (n, refl)
+digits_value n (d ∷ ds) h = rw h.0 (digits_value (10 * n + (d - 48)) ds h.1)
+
+pub ruleset value_lemmas = (value_step, digit_step, value_large, value_end)

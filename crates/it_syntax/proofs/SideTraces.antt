@@ -6,19 +6,19 @@ use Rattle.it_syntax.specs.declared.types.Symbol.TheVariants.{LeftParen, Semicol
 use Rattle.it_syntax.specs.declared.types.Code.TheVariants as codes
 use Rattle.it_syntax.specs.declared.types.Atom.{Atom}
 use Rattle.it_syntax.specs.declared.types.Atom.TheVariants as atoms
-use Rattle.it_syntax.specs.Letters.{Letter, Word, Sym, Marked, clean}
+use Rattle.it_syntax.specs.Letters.{Letter, Word, Sym, MarkedLetters, unmarked}
 use Rattle.it_syntax.specs.WrittenAtoms.{Environment, WrittenList, WrittenAtom, Entropy, EntropyGiven, Mutual, MutualGiven, entropy_text, mutual_text, list_set, atom_of, spell_list, spell_atom}
-use Rattle.it_syntax.specs.AtomReading.{Reads, ◌>>=◌, no_rule, read_list, semicolon, open_paren, read_given_set, read_joint, read_mutual, read_atom}
+use Rattle.it_syntax.specs.AtomReading.{Reads, ◌>>=◌, no_rule, read_list, semicolon, open_paren, read_given_set, read_entropy, read_mutual_information, read_atom}
 use Rattle.it_syntax.proofs.Traces.{By, Traces, traces_bind, traces_map, letter_then}
-use Rattle.it_syntax.proofs.AtomTraces.{stuck_here, stuck_none, Pair, spell_pair, joint_of, joint_traces, some_list, list_traces, given_traces, spell_given, given_set}
+use Rattle.it_syntax.proofs.AtomTraces.{stuck_here, stuck_none, Pair, spell_pair, entropy_of, entropy_traces, some_list, list_traces, given_traces, spell_given, given_set}
 
 -- ---- I
 
 abbrev Triple : Type 0
 Triple = WrittenList × Pair
 
-abbrev spell_behind : Environment → Pair → Marked → Marked
-spell_behind env p k = clean (Sym Semicolon) ∷ spell_pair env p k
+abbrev spell_behind : Environment → Pair → MarkedLetters → MarkedLetters
+spell_behind env p k = unmarked (Sym Semicolon) ∷ spell_pair env p k
 
 abbrev behind_of : Environment → ℕ → Pair → Atom
 behind_of env a p = atoms.Mutual a (list_set env p.0) (given_set env p.1)
@@ -39,7 +39,7 @@ behind_traces env a (Sym Semicolon ∷ ls) = letter_then (behind_first env a) (p
 behind_traces env a [] = stuck_none (behind_first env a) (spell_behind env) (some_list, None) refl
 behind_traces env a (l ∷ ls) = stuck_here (behind_first env a) (spell_behind env) (some_list, None) l ls _ (λ s. refl) refl
 
-abbrev spell_triple : Environment → Triple → Marked → Marked
+abbrev spell_triple : Environment → Triple → MarkedLetters → MarkedLetters
 spell_triple env t k = spell_list env t.0 (spell_behind env t.1 k)
 
 abbrev triple_of : Environment → Triple → Atom
@@ -52,46 +52,46 @@ triple_traces : (env : Environment) → Traces (triple_inner env) (spell_triple 
 triple_traces env = traces_bind (read_list env) (behind_first env) (triple_inner env) (spell_list env) (λ a. spell_behind env) (spell_triple env) (list_set env) (behind_of env) (triple_of env) (λ a p. (a, p))
     (record { is = λ ls. refl; spells = λ y z k. refl; value = λ y z. refl; some = (some_list, None); first = list_traces env; second = behind_traces env })
 
-abbrev spell_opened : Environment → Triple → Marked → Marked
-spell_opened env t k = clean (Sym LeftParen) ∷ spell_triple env t k
+abbrev spell_opened : Environment → Triple → MarkedLetters → MarkedLetters
+spell_opened env t k = unmarked (Sym LeftParen) ∷ spell_triple env t k
 
-mutual_traces : (env : Environment) → Traces (read_mutual env) (spell_opened env) (triple_of env)
-unfolding read_mutual open_paren
-mutual_traces env (Sym LeftParen ∷ ls) = letter_then (read_mutual env) (triple_inner env) (Sym LeftParen) (spell_triple env) (spell_opened env) (triple_of env) (triple_of env) (λ p. p) ls (λ s. refl) (λ z k. refl) (λ z. refl) (triple_inner env ls) (triple_traces env ls)
-mutual_traces env [] = stuck_none (read_mutual env) (spell_opened env) (some_list, (some_list, None)) refl
-mutual_traces env (l ∷ ls) = stuck_here (read_mutual env) (spell_opened env) (some_list, (some_list, None)) l ls _ (λ s. refl) refl
+mutual_information_traces : (env : Environment) → Traces (read_mutual_information env) (spell_opened env) (triple_of env)
+unfolding read_mutual_information open_paren
+mutual_information_traces env (Sym LeftParen ∷ ls) = letter_then (read_mutual_information env) (triple_inner env) (Sym LeftParen) (spell_triple env) (spell_opened env) (triple_of env) (triple_of env) (λ p. p) ls (λ s. refl) (λ z k. refl) (λ z. refl) (triple_inner env ls) (triple_traces env ls)
+mutual_information_traces env [] = stuck_none (read_mutual_information env) (spell_opened env) (some_list, (some_list, None)) refl
+mutual_information_traces env (l ∷ ls) = stuck_here (read_mutual_information env) (spell_opened env) (some_list, (some_list, None)) l ls _ (λ s. refl) refl
 
 -- ---- atoms
 
-abbrev joint_written : Pair → WrittenAtom
-joint_written (a, None) = Entropy a
-joint_written (a, Some c) = EntropyGiven a c
+abbrev entropy_written : Pair → WrittenAtom
+entropy_written (a, None) = Entropy a
+entropy_written (a, Some c) = EntropyGiven a c
 
-abbrev shared_written : Triple → WrittenAtom
-shared_written (a, (b, None)) = Mutual a b
-shared_written (a, (b, Some c)) = MutualGiven a b c
+abbrev mutual_written : Triple → WrittenAtom
+mutual_written (a, (b, None)) = Mutual a b
+mutual_written (a, (b, Some c)) = MutualGiven a b c
 
-joint_spelled : (env : Environment) (w : List ℕ) → entropy_text ≡ w → (z : Pair) (k : Marked) → spell_atom env (joint_written z) k ≡ clean (Word w) ∷ clean (Sym LeftParen) ∷ spell_pair env z k
-joint_spelled env w e (a, None) k = ap (λ (t : List ℕ). clean (Word t) ∷ clean (Sym LeftParen) ∷ spell_pair env (a, None) k) e
-joint_spelled env w e (a, Some c) k = ap (λ (t : List ℕ). clean (Word t) ∷ clean (Sym LeftParen) ∷ spell_pair env (a, Some c) k) e
+entropy_spelled : (env : Environment) (w : List ℕ) → entropy_text ≡ w → (z : Pair) (k : MarkedLetters) → spell_atom env (entropy_written z) k ≡ unmarked (Word w) ∷ unmarked (Sym LeftParen) ∷ spell_pair env z k
+entropy_spelled env w e (a, None) k = ap (λ (t : List ℕ). unmarked (Word t) ∷ unmarked (Sym LeftParen) ∷ spell_pair env (a, None) k) e
+entropy_spelled env w e (a, Some c) k = ap (λ (t : List ℕ). unmarked (Word t) ∷ unmarked (Sym LeftParen) ∷ spell_pair env (a, Some c) k) e
 
-joint_value : (env : Environment) (z : Pair) → atom_of env (joint_written z) ≡ joint_of env z
-joint_value env (a, None) = refl
-joint_value env (a, Some c) = refl
+entropy_value : (env : Environment) (z : Pair) → atom_of env (entropy_written z) ≡ entropy_of env z
+entropy_value env (a, None) = refl
+entropy_value env (a, Some c) = refl
 
-shared_spelled : (env : Environment) (w : List ℕ) → mutual_text ≡ w → (z : Triple) (k : Marked) → spell_atom env (shared_written z) k ≡ clean (Word w) ∷ spell_opened env z k
-shared_spelled env w e (a, (b, None)) k = ap (λ (t : List ℕ). clean (Word t) ∷ spell_opened env (a, (b, None)) k) e
-shared_spelled env w e (a, (b, Some c)) k = ap (λ (t : List ℕ). clean (Word t) ∷ spell_opened env (a, (b, Some c)) k) e
+mutual_spelled : (env : Environment) (w : List ℕ) → mutual_text ≡ w → (z : Triple) (k : MarkedLetters) → spell_atom env (mutual_written z) k ≡ unmarked (Word w) ∷ spell_opened env z k
+mutual_spelled env w e (a, (b, None)) k = ap (λ (t : List ℕ). unmarked (Word t) ∷ spell_opened env (a, (b, None)) k) e
+mutual_spelled env w e (a, (b, Some c)) k = ap (λ (t : List ℕ). unmarked (Word t) ∷ spell_opened env (a, (b, Some c)) k) e
 
-shared_value : (env : Environment) (z : Triple) → atom_of env (shared_written z) ≡ triple_of env z
-shared_value env (a, (b, None)) = refl
-shared_value env (a, (b, Some c)) = refl
+mutual_value : (env : Environment) (z : Triple) → atom_of env (mutual_written z) ≡ triple_of env z
+mutual_value env (a, (b, None)) = refl
+mutual_value env (a, (b, Some c)) = refl
 
 some_atom : WrittenAtom
 some_atom = Entropy (record { first = 88 ∷ []; more = [] })
 
 abbrev chosen_atom : Environment → List ℕ → List Letter → Bool → Bool → Reads Atom
-chosen_atom env w ls h i = cond h (read_joint env ls) (cond i (read_mutual env ls) (no_rule (Word w ∷ ls)))
+chosen_atom env w ls h i = cond h (read_entropy env ls) (cond i (read_mutual_information env ls) (no_rule (Word w ∷ ls)))
 
 word_is : (env : Environment) (w : List ℕ) (s : List Letter) (h i : Bool) → bytes_eq w entropy_text ≡ h → bytes_eq w mutual_text ≡ i → read_atom env (Word w ∷ s) ≡ chosen_atom env w s h i
 unfolding read_atom
@@ -99,11 +99,11 @@ word_is env w s h i eh ei = ap (λ (b : Bool). chosen_atom env w s b (bytes_eq w
 
 atom_by : (env : Environment) (w : List ℕ) (ls : List Letter) (h i : Bool) → bytes_eq w entropy_text ≡ h → bytes_eq w mutual_text ≡ i → By (read_atom env) (spell_atom env) (atom_of env) (Word w ∷ ls) (chosen_atom env w ls h i)
 atom_by env w ls true i eh ei =
-    letter_then (read_atom env) (read_joint env) (Word w) (λ p k. clean (Sym LeftParen) ∷ spell_pair env p k) (spell_atom env) (joint_of env) (atom_of env) joint_written ls
-    (λ s. word_is env w s true i eh ei) (joint_spelled env w (sym ((bytes_eq-Decides w entropy_text).0 eh))) (joint_value env) (read_joint env ls) (joint_traces env ls)
+    letter_then (read_atom env) (read_entropy env) (Word w) (λ p k. unmarked (Sym LeftParen) ∷ spell_pair env p k) (spell_atom env) (entropy_of env) (atom_of env) entropy_written ls
+    (λ s. word_is env w s true i eh ei) (entropy_spelled env w (sym ((bytes_eq-Decides w entropy_text).0 eh))) (entropy_value env) (read_entropy env ls) (entropy_traces env ls)
 atom_by env w ls false true eh ei =
-    letter_then (read_atom env) (read_mutual env) (Word w) (spell_opened env) (spell_atom env) (triple_of env) (atom_of env) shared_written ls
-    (λ s. word_is env w s false true eh ei) (shared_spelled env w (sym ((bytes_eq-Decides w mutual_text).0 ei))) (shared_value env) (read_mutual env ls) (mutual_traces env ls)
+    letter_then (read_atom env) (read_mutual_information env) (Word w) (spell_opened env) (spell_atom env) (triple_of env) (atom_of env) mutual_written ls
+    (λ s. word_is env w s false true eh ei) (mutual_spelled env w (sym ((bytes_eq-Decides w mutual_text).0 ei))) (mutual_value env) (read_mutual_information env ls) (mutual_information_traces env ls)
 atom_by env w ls false false eh ei = stuck_here (read_atom env) (spell_atom env) some_atom (Word w) ls codes.Word (λ s. word_is env w s false false eh ei) refl
 
 -- an entropy or a mutual information

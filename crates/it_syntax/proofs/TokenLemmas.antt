@@ -1,17 +1,19 @@
 -- The tokens of a line: one token, and no other, stands in front.
-use Rattle.std.proofs.Common.{◌≡◌, ℕ, zero, suc, ◌+◌, ◌-◌, ◌<◌, ◌≤◌, ◌^◌, Bool, true, false, cond, ◌&&◌, List, [], ◌∷◌, ◌++◌, length, take, drop, Some, refl, ap, sym, subst, ◌∙◌, arith, length-take, length-drop, inl, inr, ◌⊎◌, length-append}
+use Rattle.std.proofs.Common.{◌≡◌, ℕ, zero, suc, ◌+◌, ◌-◌, ◌<◌, ◌≤◌, ◌^◌, Bool, true, false, cond, ◌&&◌, List, [], ◌∷◌, ◌++◌, length, take, drop, Some, IsSomeAnd, refl, ap, sym, subst, ◌∙◌, arith, length-take, length-drop, inl, inr, ◌⊎◌, length-append}
 use Rattle.std.specs.Prelude.{◌==◌}
 use Rattle.std.proofs.lemmas.List.{take_at, drop_at, take-append-drop}
 use Rattle.std.proofs.lemmas.Bool.Decides.{Decides-eqb, eqb_tells, nat_tests}
+use Rattle.it_number.specs.Decimals.{value_from}
 use Rattle.it_syntax.specs.declared.types.Symbol.{Symbol}
 use Rattle.it_syntax.specs.declared.types.Symbol.TheVariants.{LeftParen, RightParen, Comma, Semicolon, Bar, Plus, Minus, Arrow, AtLeast, AtMost, Equal, Assign}
 use Rattle.it_syntax.specs.declared.types.TokenKind.{TokenKind}
 use Rattle.it_syntax.specs.declared.types.TokenKind.TheVariants as kinds
 use Rattle.it_syntax.specs.declared.types.Token.{Token}
 use Rattle.std.specs.Char.{is_ascii_alphabetic, is_ascii_digit}
-use Rattle.it_syntax.specs.Spelling.{is_word_byte, is_space, is_greater, AreAll, StartsWith, Stops, IsText, EndsToken, Cut, symbol_text, value_from}
+use Rattle.it_syntax.specs.Spelling.{is_word_byte, is_space, is_greater, AreAll, StartsWith, Stops, IsText, EndsToken, Cut, symbol_text}
 use Rattle.it_syntax.specs.Fronts.{IsLongestRun, symbol_of, starts_with, find_symbol}
 use Rattle.it_syntax.specs.ReaderSteps.{IsTokenFront}
+use Rattle.it_syntax.proofs.RunLemmas.{value_digits}
 
 -- ---- runs
 
@@ -155,7 +157,7 @@ starts_front f (b ∷ text) rest h = h
 -- a token and what ends it have a shape
 pub shape_of : (k : TokenKind) (text rest : List ℕ) → IsText k text → EndsToken k rest → IsTokenFront k (length text) (text ++ rest)
 shape_of kinds.Word text rest t e = (starts_front is_ascii_alphabetic text rest t.0, run_of_text is_word_byte text rest t.1 e, t.2)
-shape_of (kinds.Number v) text rest t e = (starts_front is_ascii_digit text rest t.0, run_of_text is_ascii_digit text rest t.1 e, rw (take_at text rest (length text) refl) t.2, t.3)
+shape_of (kinds.Number v) text rest t e = (starts_front is_ascii_digit text rest t.0, run_of_text is_ascii_digit text rest (value_digits 0 text v t.1) e, rw (take_at text rest (length text) refl) t.1, t.2)
 shape_of (kinds.Symbol s) text rest t e = (subst (λ (u : List ℕ). symbol_of (u ++ rest) ≡ Some s) (sym t) (symbol_spelled s rest e), ap length t)
 
 starts_take : (f g : ℕ → Bool) (body : List ℕ) (n : ℕ) → StartsWith f body → IsLongestRun g body n → ((b : ℕ) → f b ≡ true → g b ≡ true) → StartsWith f (take n body)
@@ -170,7 +172,7 @@ letter_wordly b h = rw h refl
 -- and back
 pub shape_text : (k : TokenKind) (n : ℕ) (body : List ℕ) → IsTokenFront k n body → IsText k (take n body) × (EndsToken k (drop n body) × (n ≤ length body))
 shape_text kinds.Word n body h = ((starts_take is_ascii_alphabetic is_word_byte body n h.0 h.1 letter_wordly, h.1.all, omega (arith, length-take n body, h.2)), (h.1.stops, h.1.within))
-shape_text (kinds.Number v) n body h = ((starts_take is_ascii_digit is_ascii_digit body n h.0 h.1 (λ b e. e), h.1.all, h.2, h.3), (h.1.stops, h.1.within))
+shape_text (kinds.Number v) n body h = ((starts_take is_ascii_digit is_ascii_digit body n h.0 h.1 (λ b e. e), h.2, h.3), (h.1.stops, h.1.within))
 shape_text (kinds.Symbol s) n body h =
     let is : body ≡ symbol_text s ++ drop (length (symbol_text s)) body = symbol_is s body h.0 in
     let there : symbol_of (symbol_text s ++ drop (length (symbol_text s)) body) ≡ Some s = ap symbol_of (sym is) ∙ h.0 in
@@ -192,7 +194,8 @@ one_shape kinds.Word (kinds.Symbol s) n m body g h = absurd (no_letter s _ (firs
 one_shape (kinds.Number v) kinds.Word n m body g h = absurd (both_starts body h.0 g.0)
 one_shape (kinds.Number v) (kinds.Number w) n m body g h =
     let same : n ≡ m = run_once is_ascii_digit body n m g.1 h.1 in
-    let value : v ≡ w = sym g.2 ∙ ap (λ (i : ℕ). value_from 0 (take i body)) same ∙ h.2 in
+    let values : Some v ≡ Some w = sym g.2 ∙ ap (λ (i : ℕ). value_from 0 (take i body)) same ∙ h.2 in
+    let value : v ≡ w = cc in
     (ap kinds.Number value, same)
 one_shape (kinds.Number v) (kinds.Symbol s) n m body g h = absurd (no_digit s _ (first_letter is_ascii_digit s body h.0 g.0))
 one_shape (kinds.Symbol s) kinds.Word n m body g h = absurd (no_letter s _ (first_letter is_ascii_alphabetic s body g.0 h.0))
@@ -323,9 +326,12 @@ word_long n body h r lt (kinds.Number v) m s = both_starts body h s.0
 word_long n body h r lt (kinds.Symbol x) m s = no_letter x _ (first_letter is_ascii_alphabetic x body s.0 h)
 
 -- a number past the limit in front, and yet no token
-pub number_large : (n : ℕ) (body : List ℕ) → StartsWith is_ascii_digit body → IsLongestRun is_ascii_digit body n → 2 ^ 64 ≤ value_from 0 (take n body) → (k : TokenKind) (m : ℕ) → IsTokenFront k m body → ⊥
+pub number_large : (n : ℕ) (body : List ℕ) → StartsWith is_ascii_digit body → IsLongestRun is_ascii_digit body n → IsSomeAnd (value_from 0 (take n body)) (λ v. 2 ^ 64 ≤ v) → (k : TokenKind) (m : ℕ) → IsTokenFront k m body → ⊥
 number_large n body h r le kinds.Word m s = both_starts body s.0 h
-number_large n body h r le (kinds.Number v) m s = omega (arith, ap (λ (i : ℕ). value_from 0 (take i body)) (run_once is_ascii_digit body n m r s.1), s.2, s.3)
+number_large n body h r le (kinds.Number v) m s =
+    let same : value_from 0 (take n body) ≡ Some v = ap (λ (i : ℕ). value_from 0 (take i body)) (run_once is_ascii_digit body n m r s.1) ∙ s.2 in
+    let large : 2 ^ 64 ≤ v = subst (λ o. IsSomeAnd o (λ v. 2 ^ 64 ≤ v)) same le in
+    omega (arith, large, s.3)
 number_large n body h r le (kinds.Symbol x) m s = no_digit x _ (first_letter is_ascii_digit x body s.0 h)
 
 -- the test for emptiness

@@ -78,15 +78,15 @@ read_given_set env ls = do
   bar ← bar_or_close ls
   if bar.0 then (read_list env bar.1 >>= λ c. close_paren c.0 c.1) else Ok (0, bar.1)
 
-unfoldable pub read_joint : Environment → List Letter → Reads Atom
-read_joint env ls = do
+unfoldable pub read_entropy : Environment → List Letter → Reads Atom
+read_entropy env ls = do
   inner ← open_paren ls
   a ← read_list env inner
   c ← read_given_set env a.1
   Ok (Entropy a.0 c.0, c.1)
 
-unfoldable pub read_mutual : Environment → List Letter → Reads Atom
-read_mutual env ls = do
+unfoldable pub read_mutual_information : Environment → List Letter → Reads Atom
+read_mutual_information env ls = do
   inner ← open_paren ls
   a ← read_list env inner
   middle ← semicolon a.1
@@ -95,7 +95,7 @@ read_mutual env ls = do
   Ok (Mutual a.0 b.0 c.0, c.1)
 
 unfoldable pub read_atom : Environment → List Letter → Reads Atom
-read_atom env (Word w ∷ ls) = if bytes_eq w entropy_text then read_joint env ls else (if bytes_eq w mutual_text then read_mutual env ls else no_rule (Word w ∷ ls))
+read_atom env (Word w ∷ ls) = if bytes_eq w entropy_text then read_entropy env ls else (if bytes_eq w mutual_text then read_mutual_information env ls else no_rule (Word w ∷ ls))
 read_atom env ls = no_rule ls
 
 unfoldable pub read_sign : List Letter → Bool × List Letter

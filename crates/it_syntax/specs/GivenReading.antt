@@ -28,14 +28,14 @@ behind_divider Semicolons (Sym Semicolon ∷ ls) = Some ls
 behind_divider d ls = None
 
 -- a member too many, if its name may be one (false) and is known
-abbrev pub spare : List ℕ → Bool → Option ℕ → List Letter → Reads (List ℕ)
-spare w true o ls = Err (codes.Word, Word w ∷ ls)
-spare w false (Some i) ls = Err (codes.Many, Word w ∷ ls)
-spare w false None ls = Err (codes.Name, Word w ∷ ls)
+abbrev pub surplus_name : List ℕ → Bool → Option ℕ → List Letter → Reads (List ℕ)
+surplus_name w true o ls = Err (codes.Word, Word w ∷ ls)
+surplus_name w false (Some i) ls = Err (codes.Many, Word w ∷ ls)
+surplus_name w false None ls = Err (codes.Name, Word w ∷ ls)
 
-unfoldable pub read_spare : Environment → List Letter → Reads (List ℕ)
-read_spare env (Word w ∷ ls) = spare w (is_measure w) (env w) ls
-read_spare env ls = no_rule ls
+unfoldable pub read_surplus_member : Environment → List Letter → Reads (List ℕ)
+read_surplus_member env (Word w ∷ ls) = surplus_name w (is_measure w) (env w) ls
+read_surplus_member env ls = no_rule ls
 
 -- what is read by `f` behind a divider, or nothing
 abbrev pub if_divided : (List Letter → Reads (List ℕ)) → Option (List Letter) → List Letter → Reads (List ℕ)
@@ -50,7 +50,7 @@ member_then f env ls = do
 
 -- further members, of which n are allowed
 unfoldable pub read_members : ℕ → Divider → Environment → List Letter → Reads (List ℕ)
-read_members zero d env ls = if_divided (read_spare env) (behind_divider d ls) ls
+read_members zero d env ls = if_divided (read_surplus_member env) (behind_divider d ls) ls
 read_members (suc n) d env ls = if_divided (member_then (read_members n d env) env) (behind_divider d ls) ls
 
 -- sets read before, and those still read

@@ -12,15 +12,15 @@ pub data Letter : Type 0 where
   Bad : (code : Code) → Letter
 
 -- a letter, and the code of what the rules say against it where it stands
-abbrev pub Marked : Type 0
-Marked = List (Letter × Option Code)
+abbrev pub MarkedLetters : Type 0
+MarkedLetters = List (Letter × Option Code)
 
 -- nothing is said against it
-abbrev pub clean : Letter → Letter × Option Code
-clean l = (l, None)
+abbrev pub unmarked : Letter → Letter × Option Code
+unmarked l = (l, None)
 
-abbrev pub letters : Marked → List Letter
+abbrev pub letters : MarkedLetters → List Letter
 letters m = map (λ (x : Letter × Option Code). x.0) m
 
-abbrev pub clean_all : List Letter → Marked
-clean_all ls = map clean ls
+abbrev pub unmarked_all : List Letter → MarkedLetters
+unmarked_all ls = map unmarked ls

@@ -6,18 +6,18 @@ use Rattle.it_syntax.specs.declared.types.Misspelling.{Misspelling}
 use Rattle.it_syntax.specs.declared.types.LineTokens.{LineTokens}
 use Rattle.it_syntax.specs.declared.types.SyntaxFault.{SyntaxFault}
 use Rattle.it_syntax.specs.declared.types.SyntaxFault.TheVariants.{Memory, Fault}
-use Rattle.it_syntax.specs.Letters.{Letter, End, Marked, clean, clean_all}
+use Rattle.it_syntax.specs.Letters.{Letter, End, MarkedLetters, unmarked, unmarked_all}
 use Rattle.it_syntax.specs.Spans.{letters_until, last_letter}
 use Rattle.it_syntax.specs.FirstFault.{FirstFault}
 use Rattle.it_syntax.specs.AtomReading.{Reads, ◌>>=◌, line_end}
 
 -- the tree, and then the line's end
-abbrev pub spell_ended : {X : Type 0} → (X → Marked → Marked) → X → Marked
-spell_ended spell x = spell x (clean End ∷ [])
+abbrev pub spell_ended : {X : Type 0} → (X → MarkedLetters → MarkedLetters) → X → MarkedLetters
+spell_ended spell x = spell x (unmarked End ∷ [])
 
 -- these letters are a line that says y, and nothing is said against one
-abbrev pub SaysAs : {X Y : Type 0} → (X → Marked → Marked) → (X → Y) → List Letter → Y → Type 0
-SaysAs spell value ls y = (x : _) × ((spell_ended spell x ≡ clean_all ls) × (value x ≡ y))
+abbrev pub SaysAs : {X Y : Type 0} → (X → MarkedLetters → MarkedLetters) → (X → Y) → List Letter → Y → Type 0
+SaysAs spell value ls y = (x : _) × ((spell_ended spell x ≡ unmarked_all ls) × (value x ≡ y))
 
 -- a reader up to the line's end
 unfoldable pub to_end : {A : Type 0} → (List Letter → Reads A) → List Letter → Reads A
@@ -45,7 +45,7 @@ column_of [] behind = behind
 column_of (t ∷ ts) behind = t.start + 1
 
 -- Of a line from its token number `from` on, the first fault is `code`, at this column.
-pub record FaultAt {X : Type 0} (spell : X → Marked → Marked) (line : List ℕ) (ts : LineTokens) (from : ℕ) (column : ℕ) (code : Code) : Type 0 where
+pub record FaultAt {X : Type 0} (spell : X → MarkedLetters → MarkedLetters) (line : List ℕ) (ts : LineTokens) (from : ℕ) (column : ℕ) (code : Code) : Type 0 where
   -- the number of the token that it comes at, or the number of tokens
   pub at : ℕ
   pub within : at ≤ length ts.tokens.items
@@ -53,6 +53,6 @@ pub record FaultAt {X : Type 0} (spell : X → Marked → Marked) (line : List �
   pub place : column ≡ column_of (drop at ts.tokens.items) (column_behind ts.tokens.items ts.misspelling)
 
 -- of an error: memory ran out, or it is the first fault
-abbrev pub IsFirstFault : {X : Type 0} → (X → Marked → Marked) → List ℕ → LineTokens → ℕ → SyntaxFault → Type 0
+abbrev pub IsFirstFault : {X : Type 0} → (X → MarkedLetters → MarkedLetters) → List ℕ → LineTokens → ℕ → SyntaxFault → Type 0
 IsFirstFault spell line ts from Memory = Unit {0}
 IsFirstFault spell line ts from (Fault column code) = FaultAt spell line ts from column code

@@ -1,6 +1,7 @@
 -- The tokens of a line up to its first misspelling: a byte that begins no token, a word of more than 16 bytes, or a number of more
 -- than 2 ^ 64 - 1.
-use Rattle.std.specs.Prelude.{◌≡◌, ℕ, ◌+◌, ◌^◌, ◌<◌, ◌≤◌, false, List, [], ◌∷◌, ◌++◌, length, take, Option, Some, None}
+use Rattle.std.specs.Prelude.{◌≡◌, ℕ, ◌+◌, ◌^◌, ◌<◌, ◌≤◌, false, List, [], ◌∷◌, ◌++◌, length, take, Option, Some, None, IsSomeAnd}
+use Rattle.it_number.specs.Decimals.{value_from}
 use Rattle.it_syntax.specs.declared.types.Code.{Code}
 use Rattle.it_syntax.specs.declared.types.Code.TheVariants as codes
 use Rattle.it_syntax.specs.declared.types.Misspelling.{Misspelling}
@@ -9,7 +10,7 @@ use Rattle.it_syntax.specs.declared.types.SyntaxFault.{SyntaxFault}
 use Rattle.it_syntax.specs.declared.types.SyntaxFault.TheVariants.{Memory, Fault}
 use Rattle.it_syntax.specs.Fronts.{IsLongestRun, symbol_of}
 use Rattle.std.specs.Char.{is_ascii_alphabetic, is_ascii_digit}
-use Rattle.it_syntax.specs.Spelling.{is_word_byte, is_space, value_from, AreAll, StartsWith, Cut}
+use Rattle.it_syntax.specs.Spelling.{is_word_byte, is_space, AreAll, StartsWith, Cut}
 
 -- the first byte begins no token and is no space
 abbrev pub BeginsNothing : List ℕ → Type 0
@@ -20,7 +21,7 @@ BeginsNothing (b ∷ bs) = (is_ascii_alphabetic b ≡ false) × (is_ascii_digit 
 abbrev pub IsWrong : Code → List ℕ → Type 0
 IsWrong codes.Byte body = BeginsNothing body
 IsWrong codes.Many body = StartsWith is_ascii_alphabetic body × ((n : ℕ) × (IsLongestRun is_word_byte body n × (16 < n)))
-IsWrong codes.Number body = StartsWith is_ascii_digit body × ((n : ℕ) × (IsLongestRun is_ascii_digit body n × (2 ^ 64 ≤ value_from 0 (take n body))))
+IsWrong codes.Number body = StartsWith is_ascii_digit body × ((n : ℕ) × (IsLongestRun is_ascii_digit body n × IsSomeAnd (value_from 0 (take n body)) (λ v. 2 ^ 64 ≤ v)))
 IsWrong c body = ⊥
 
 -- Behind spaces, a misspelling stands in the bytes from column `at` on.

@@ -1,5 +1,6 @@
 -- What the readers' own functions say of their steps. No public clause cites it.
 use Rattle.std.specs.Prelude.{◌≡◌, ◌≤◌, List, [], ◌∷◌, length, Result, Ok, Err, ℕ, ◌^◌, Bool, true, false, ◌++◌, Option, Some, None, ◌<◌, take, drop, ◌-◌}
+use Rattle.it_number.specs.Decimals.{value_from}
 use Rattle.it_syntax.specs.declared.rest.Stop.{Stop}
 use Rattle.it_syntax.specs.declared.rest.Piece.{Piece}
 use Rattle.it_syntax.specs.Letters.{Letter, Word, Number, Sym, End, Bad}
@@ -8,7 +9,7 @@ use Rattle.it_syntax.specs.declared.types.Symbol.TheVariants.{Comma, Plus, Minus
 use Rattle.it_syntax.specs.declared.types.Term.{Term}
 use Rattle.it_syntax.specs.declared.types.TokenKind.{TokenKind}
 use Rattle.std.specs.Char.{is_ascii_alphabetic, is_ascii_digit}
-use Rattle.it_syntax.specs.Spelling.{is_word_byte, value_from, symbol_text, StartsWith}
+use Rattle.it_syntax.specs.Spelling.{is_word_byte, symbol_text, StartsWith}
 use Rattle.it_syntax.specs.declared.types.Token.{Token}
 use Rattle.it_syntax.specs.Gives.{StopsAs}
 use Rattle.it_syntax.specs.Fronts.{IsLongestRun, symbol_of}
@@ -48,7 +49,7 @@ with_terms front r = r >>= λ x. Ok (front ++ x.0, x.1)
 -- a token of this kind, of n bytes, stands in front, as long as it can be
 abbrev pub IsTokenFront : TokenKind → ℕ → List ℕ → Type 0
 IsTokenFront kinds.Word n body = StartsWith is_ascii_alphabetic body × IsLongestRun is_word_byte body n × (n ≤ 16)
-IsTokenFront (kinds.Number v) n body = StartsWith is_ascii_digit body × IsLongestRun is_ascii_digit body n × (value_from 0 (take n body) ≡ v) × (v < 2 ^ 64)
+IsTokenFront (kinds.Number v) n body = StartsWith is_ascii_digit body × IsLongestRun is_ascii_digit body n × (value_from 0 (take n body) ≡ Some v) × (v < 2 ^ 64)
 IsTokenFront (kinds.Symbol s) n body = (symbol_of body ≡ Some s) × (n ≡ length (symbol_text s))
 
 abbrev pub token_text : List ℕ → Token → List ℕ

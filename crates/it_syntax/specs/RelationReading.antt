@@ -38,20 +38,20 @@ read_term s minus ls = do
   Ok (record { negative = minus; number = 1; atom = q.0 }, q.1)
 
 -- a rate too many, if it isn't unknown
-abbrev pub surplus : List ℕ → Option ℕ → List Letter → Reads (List Term)
-surplus w (Some i) ls = Err (codes.Many, Word w ∷ ls)
-surplus w None ls = Err (codes.Name, Word w ∷ ls)
+abbrev pub surplus_rate : List ℕ → Option ℕ → List Letter → Reads (List Term)
+surplus_rate w (Some i) ls = Err (codes.Many, Word w ∷ ls)
+surplus_rate w None ls = Err (codes.Name, Word w ∷ ls)
 
 -- a term too many: its first letter is the fault, if no rule stands against it
-unfoldable pub read_over : Scope → List Letter → Reads (List Term)
-read_over s (Number n ∷ ls) = Err (codes.Many, Number n ∷ ls)
-read_over s (Word w ∷ ls) = if is_measure w then Err (codes.Many, Word w ∷ ls) else surplus w (s.rates w) ls
-read_over s ls = no_rule ls
+unfoldable pub read_surplus_term : Scope → List Letter → Reads (List Term)
+read_surplus_term s (Number n ∷ ls) = Err (codes.Many, Number n ∷ ls)
+read_surplus_term s (Word w ∷ ls) = if is_measure w then Err (codes.Many, Word w ∷ ls) else surplus_rate w (s.rates w) ls
+read_surplus_term s ls = no_rule ls
 
 -- further terms, of which n are allowed
 unfoldable pub read_terms : ℕ → Scope → List Letter → Reads (List Term)
-read_terms zero s (Sym Plus ∷ ls) = read_over s ls
-read_terms zero s (Sym Minus ∷ ls) = read_over s ls
+read_terms zero s (Sym Plus ∷ ls) = read_surplus_term s ls
+read_terms zero s (Sym Minus ∷ ls) = read_surplus_term s ls
 read_terms (suc n) s (Sym Plus ∷ ls) = do
   t ← read_term s false ls
   ts ← read_terms n s t.1
@@ -64,7 +64,7 @@ read_terms n s ls = Ok ([], ls)
 
 -- a first term and further ones, of which n are allowed in all
 unfoldable pub read_counted : ℕ → Scope → Bool → List Letter → Reads (List Term)
-read_counted zero s minus ls = read_over s ls
+read_counted zero s minus ls = read_surplus_term s ls
 read_counted (suc n) s minus ls = do
   t ← read_term s minus ls
   ts ← read_terms n s t.1

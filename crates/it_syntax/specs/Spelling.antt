@@ -1,7 +1,8 @@
 -- The tokens of a line: words, numbers and symbols with spaces between them, each token as long as it can be.
-use Rattle.std.specs.Prelude.{◌≡◌, ℕ, ◌+◌, ◌-◌, ◌*◌, ◌^◌, ◌<◌, ◌≤◌, Bool, true, false, ◌||◌, ◌==◌, List, [], ◌∷◌, ◌++◌, length, codes}
+use Rattle.std.specs.Prelude.{◌≡◌, ℕ, ◌+◌, ◌^◌, ◌<◌, ◌≤◌, Bool, true, false, ◌||◌, ◌==◌, List, [], ◌∷◌, ◌++◌, length, Some, codes}
 use Rattle.std.specs.List.{AllByRecursion}
 use Rattle.std.specs.Char.{is_ascii_alphabetic, is_ascii_digit}
+use Rattle.it_number.specs.Decimals.{value_from}
 use Rattle.it_syntax.specs.declared.types.Symbol.{Symbol}
 use Rattle.it_syntax.specs.declared.types.Symbol.TheVariants.{LeftParen, RightParen, Comma, Semicolon, Bar, Plus, Minus, Arrow, AtLeast, AtMost, Equal, Assign}
 use Rattle.it_syntax.specs.declared.types.TokenKind.{TokenKind}
@@ -34,11 +35,6 @@ Stops f (b ∷ bs) = f b ≡ false
 
 -- ---- tokens
 
--- the number that decimal digits go on to, behind digits that are n
-abbrev pub value_from : ℕ → List ℕ → ℕ
-value_from n [] = n
-value_from n (d ∷ ds) = value_from (10 * n + (d - 48)) ds
-
 abbrev pub symbol_text : Symbol → List ℕ
 symbol_text LeftParen = codes "("
 symbol_text RightParen = codes ")"
@@ -56,7 +52,7 @@ symbol_text Assign = codes ":="
 -- The text of a token of this kind: a word has a letter first and at most 16 bytes, a number is below 2 ^ 64.
 abbrev pub IsText : TokenKind → List ℕ → Type 0
 IsText kinds.Word text = StartsWith is_ascii_alphabetic text × AreAll is_word_byte text × (length text ≤ 16)
-IsText (kinds.Number n) text = StartsWith is_ascii_digit text × AreAll is_ascii_digit text × (value_from 0 text ≡ n) × (n < 2 ^ 64)
+IsText (kinds.Number n) text = StartsWith is_ascii_digit text × (value_from 0 text ≡ Some n) × (n < 2 ^ 64)
 IsText (kinds.Symbol s) text = text ≡ symbol_text s
 
 -- What follows doesn't go on the token: it is as long as it can be.

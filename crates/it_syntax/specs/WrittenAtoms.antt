@@ -6,7 +6,7 @@ use Rattle.it_syntax.specs.declared.types.Code.{Code}
 use Rattle.it_syntax.specs.declared.types.Code.TheVariants as codes
 use Rattle.it_syntax.specs.declared.types.Atom.{Atom}
 use Rattle.it_syntax.specs.declared.types.Atom.TheVariants as atoms
-use Rattle.it_syntax.specs.Letters.{Letter, Word, Sym, Marked, clean}
+use Rattle.it_syntax.specs.Letters.{Letter, Word, Sym, MarkedLetters, unmarked}
 
 -- which variable a name is
 abbrev pub Environment : Type 0
@@ -40,40 +40,40 @@ mutual_text = codes "I"
 abbrev pub is_measure : List ℕ → Bool
 is_measure w = bytes_eq w entropy_text || bytes_eq w mutual_text
 
-abbrev pub unknown : Option ℕ → Option Code
-unknown (Some i) = None
-unknown None = Some codes.Name
+abbrev pub unknown_mark : Option ℕ → Option Code
+unknown_mark (Some i) = None
+unknown_mark None = Some codes.Name
 
 abbrev pub name_mark : Environment → List ℕ → Option Code
-name_mark env w = if is_measure w then Some codes.Word else unknown (env w)
+name_mark env w = if is_measure w then Some codes.Word else unknown_mark (env w)
 
 -- Each spelling takes the letters that follow.
-abbrev pub spell_name : Environment → List ℕ → Marked → Marked
+abbrev pub spell_name : Environment → List ℕ → MarkedLetters → MarkedLetters
 spell_name env w k = (Word w, name_mark env w) ∷ k
 
-abbrev pub spell_more : Environment → List (List ℕ) → Marked → Marked
+abbrev pub spell_more : Environment → List (List ℕ) → MarkedLetters → MarkedLetters
 spell_more env [] k = k
-spell_more env (w ∷ ws) k = clean (Sym Comma) ∷ spell_name env w (spell_more env ws k)
+spell_more env (w ∷ ws) k = unmarked (Sym Comma) ∷ spell_name env w (spell_more env ws k)
 
-abbrev pub spell_list : Environment → WrittenList → Marked → Marked
+abbrev pub spell_list : Environment → WrittenList → MarkedLetters → MarkedLetters
 spell_list env l k = spell_name env l.first (spell_more env l.more k)
 
-abbrev pub spell_atom : Environment → WrittenAtom → Marked → Marked
-spell_atom env (Entropy a) k = clean (Word entropy_text) ∷ clean (Sym LeftParen) ∷ spell_list env a (clean (Sym RightParen) ∷ k)
-spell_atom env (EntropyGiven a c) k = clean (Word entropy_text) ∷ clean (Sym LeftParen) ∷ spell_list env a (clean (Sym Bar) ∷ spell_list env c (clean (Sym RightParen) ∷ k))
-spell_atom env (Mutual a b) k = clean (Word mutual_text) ∷ clean (Sym LeftParen) ∷ spell_list env a (clean (Sym Semicolon) ∷ spell_list env b (clean (Sym RightParen) ∷ k))
-spell_atom env (MutualGiven a b c) k = clean (Word mutual_text) ∷ clean (Sym LeftParen) ∷ spell_list env a (clean (Sym Semicolon) ∷ spell_list env b (clean (Sym Bar) ∷ spell_list env c (clean (Sym RightParen) ∷ k)))
+abbrev pub spell_atom : Environment → WrittenAtom → MarkedLetters → MarkedLetters
+spell_atom env (Entropy a) k = unmarked (Word entropy_text) ∷ unmarked (Sym LeftParen) ∷ spell_list env a (unmarked (Sym RightParen) ∷ k)
+spell_atom env (EntropyGiven a c) k = unmarked (Word entropy_text) ∷ unmarked (Sym LeftParen) ∷ spell_list env a (unmarked (Sym Bar) ∷ spell_list env c (unmarked (Sym RightParen) ∷ k))
+spell_atom env (Mutual a b) k = unmarked (Word mutual_text) ∷ unmarked (Sym LeftParen) ∷ spell_list env a (unmarked (Sym Semicolon) ∷ spell_list env b (unmarked (Sym RightParen) ∷ k))
+spell_atom env (MutualGiven a b c) k = unmarked (Word mutual_text) ∷ unmarked (Sym LeftParen) ∷ spell_list env a (unmarked (Sym Semicolon) ∷ spell_list env b (unmarked (Sym Bar) ∷ spell_list env c (unmarked (Sym RightParen) ∷ k)))
 
 abbrev pub sign_letter : TermSign → Letter
 sign_letter Positive = Sym Plus
 sign_letter Negative = Sym Minus
 
-abbrev pub spell_sign : Option TermSign → Marked → Marked
+abbrev pub spell_sign : Option TermSign → MarkedLetters → MarkedLetters
 spell_sign None k = k
-spell_sign (Some s) k = clean (sign_letter s) ∷ k
+spell_sign (Some s) k = unmarked (sign_letter s) ∷ k
 
 -- the first letter is one too many, if nothing else is said against it
-abbrev pub mark_surplus : Marked → Marked
+abbrev pub mark_surplus : MarkedLetters → MarkedLetters
 mark_surplus [] = []
 mark_surplus ((l, None) ∷ m) = (l, Some codes.Many) ∷ m
 mark_surplus ((l, Some c) ∷ m) = (l, Some c) ∷ m

@@ -9,8 +9,8 @@ use Rattle.it_syntax.specs.declared.types.Term.{Term}
 use Rattle.it_syntax.specs.declared.types.Sign.{Sign}
 use Rattle.it_syntax.specs.declared.types.Sign.TheVariants.{AtLeast, AtMost, Equal}
 use Rattle.it_syntax.specs.Meaning.{RelationView}
-use Rattle.it_syntax.specs.Letters.{Letter, Word, Number, Sym, Marked, clean}
-use Rattle.it_syntax.specs.WrittenAtoms.{Environment, WrittenAtom, TermSign, is_measure, unknown, spell_atom, sign_letter, spell_sign, mark_surplus, index_or, atom_of, is_negative, is_minus}
+use Rattle.it_syntax.specs.Letters.{Letter, Word, Number, Sym, MarkedLetters, unmarked}
+use Rattle.it_syntax.specs.WrittenAtoms.{Environment, WrittenAtom, TermSign, is_measure, unknown_mark, spell_atom, sign_letter, spell_sign, mark_surplus, index_or, atom_of, is_negative, is_minus}
 
 -- which variable a name is, and which rate, where rates may stand
 pub record Scope : Type 0 where
@@ -44,27 +44,27 @@ pub record WrittenRelation : Type 0 where
   pub right : WrittenSum
 
 -- Each spelling takes the letters that follow.
-abbrev pub spell_quantity : Scope → WrittenQuantity → Marked → Marked
+abbrev pub spell_quantity : Scope → WrittenQuantity → MarkedLetters → MarkedLetters
 spell_quantity s (Measure a) k = spell_atom s.variables a k
-spell_quantity s (RateOf r) k = (Word r.text, unknown (s.rates r.text)) ∷ k
+spell_quantity s (RateOf r) k = (Word r.text, unknown_mark (s.rates r.text)) ∷ k
 
-abbrev pub spell_term : Scope → WrittenTerm → Marked → Marked
-spell_term s Zero k = clean (Number 0) ∷ k
+abbrev pub spell_term : Scope → WrittenTerm → MarkedLetters → MarkedLetters
+spell_term s Zero k = unmarked (Number 0) ∷ k
 spell_term s (Once q) k = spell_quantity s q k
-spell_term s (Times n q) k = clean (Number n) ∷ spell_quantity s q k
+spell_term s (Times n q) k = unmarked (Number n) ∷ spell_quantity s q k
 
 -- further terms, of which n are allowed
-abbrev pub spell_terms : ℕ → Scope → List (TermSign × WrittenTerm) → Marked → Marked
+abbrev pub spell_terms : ℕ → Scope → List (TermSign × WrittenTerm) → MarkedLetters → MarkedLetters
 spell_terms n s [] k = k
-spell_terms zero s (t ∷ ts) k = clean (sign_letter t.0) ∷ mark_surplus (spell_term s t.1 (spell_terms zero s ts k))
-spell_terms (suc n) s (t ∷ ts) k = clean (sign_letter t.0) ∷ spell_term s t.1 (spell_terms n s ts k)
+spell_terms zero s (t ∷ ts) k = unmarked (sign_letter t.0) ∷ mark_surplus (spell_term s t.1 (spell_terms zero s ts k))
+spell_terms (suc n) s (t ∷ ts) k = unmarked (sign_letter t.0) ∷ spell_term s t.1 (spell_terms n s ts k)
 
 -- a first term and further ones, n in all
-abbrev pub spell_counted : ℕ → Scope → WrittenTerm → List (TermSign × WrittenTerm) → Marked → Marked
+abbrev pub spell_counted : ℕ → Scope → WrittenTerm → List (TermSign × WrittenTerm) → MarkedLetters → MarkedLetters
 spell_counted zero s t ts k = mark_surplus (spell_term s t (spell_terms zero s ts k))
 spell_counted (suc n) s t ts k = spell_term s t (spell_terms n s ts k)
 
-abbrev pub spell_sum : ℕ → Scope → WrittenSum → Marked → Marked
+abbrev pub spell_sum : ℕ → Scope → WrittenSum → MarkedLetters → MarkedLetters
 spell_sum n s e k = spell_sign e.sign (spell_counted n s e.first e.more k)
 
 abbrev pub compare_letter : Sign → Letter
@@ -79,8 +79,8 @@ most_terms = 256
 abbrev pub number_of_terms : WrittenSum → ℕ
 number_of_terms e = suc (length e.more)
 
-abbrev pub spell_relation : Scope → WrittenRelation → Marked → Marked
-spell_relation s x k = spell_sum most_terms s x.left (clean (compare_letter x.sign) ∷ spell_sum (most_terms - number_of_terms x.left) s x.right k)
+abbrev pub spell_relation : Scope → WrittenRelation → MarkedLetters → MarkedLetters
+spell_relation s x k = spell_sum most_terms s x.left (unmarked (compare_letter x.sign) ∷ spell_sum (most_terms - number_of_terms x.left) s x.right k)
 
 -- ---- what a tree says; 0 stands in for a name that is unknown, which is marked
 abbrev pub quantity_of : Scope → WrittenQuantity → Atom

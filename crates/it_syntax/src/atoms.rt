@@ -1,7 +1,7 @@
 //! Readers of entropies and mutual informations.
 ghost use Rattle.it_syntax.specs.Gives.{Gives, left};
 ghost use Rattle.it_syntax.specs.ReaderSteps.{Passes};
-ghost use Rattle.it_syntax.specs.AtomReading.{close_paren, open_paren, semicolon, bar_or_close, read_given_set, read_joint, read_mutual, read_atom};
+ghost use Rattle.it_syntax.specs.AtomReading.{close_paren, open_paren, semicolon, bar_or_close, read_given_set, read_entropy, read_mutual_information, read_atom};
 ghost use Rattle.it_syntax.specs.Scopes.{env_of};
 
 use crate::lists::{ENTROPY, MUTUAL, list};
@@ -72,7 +72,7 @@ fn bar_or_close(rest: &mut Rest<'_>) -> Result<bool, Stop>
 
 /// What is given, up to `)`.
 #[tactic(auto, unfolding(crate::specs::AtomReading::read_given_set))]
-fn given(rest: &mut Rest<'_>, names: &Names) -> Result<VarSet, Stop>
+fn given_set(rest: &mut Rest<'_>, names: &Names) -> Result<VarSet, Stop>
     ensures { Gives result (left rest.new) (read_given_set (env_of names.now) (left rest.old)) }
 {
     if bar_or_close(rest)? {
@@ -84,26 +84,26 @@ fn given(rest: &mut Rest<'_>, names: &Names) -> Result<VarSet, Stop>
 }
 
 /// An entropy, behind its `H`.
-#[tactic(auto, unfolding(crate::specs::AtomReading::read_joint))]
-fn joint(rest: &mut Rest<'_>, names: &Names) -> Result<Atom, Stop>
-    ensures { Gives result (left rest.new) (read_joint (env_of names.now) (left rest.old)) }
+#[tactic(auto, unfolding(crate::specs::AtomReading::read_entropy))]
+fn entropy(rest: &mut Rest<'_>, names: &Names) -> Result<Atom, Stop>
+    ensures { Gives result (left rest.new) (read_entropy (env_of names.now) (left rest.old)) }
 {
     open_paren(rest)?;
     let of = list(rest, names)?;
-    let given = given(rest, names)?;
+    let given = given_set(rest, names)?;
     Ok(Atom::Entropy { of, given })
 }
 
 /// A mutual information, behind its `I`.
-#[tactic(auto, unfolding(crate::specs::AtomReading::read_mutual))]
-fn mutual(rest: &mut Rest<'_>, names: &Names) -> Result<Atom, Stop>
-    ensures { Gives result (left rest.new) (read_mutual (env_of names.now) (left rest.old)) }
+#[tactic(auto, unfolding(crate::specs::AtomReading::read_mutual_information))]
+fn mutual_information(rest: &mut Rest<'_>, names: &Names) -> Result<Atom, Stop>
+    ensures { Gives result (left rest.new) (read_mutual_information (env_of names.now) (left rest.old)) }
 {
     open_paren(rest)?;
     let left = list(rest, names)?;
     semicolon(rest)?;
     let right = list(rest, names)?;
-    let given = given(rest, names)?;
+    let given = given_set(rest, names)?;
     Ok(Atom::Mutual { left, right, given })
 }
 
@@ -116,10 +116,10 @@ pub fn atom(rest: &mut Rest<'_>, names: &Names) -> Result<Atom, Stop>
         (Piece::Word(word), behind) => {
             if word == ENTROPY {
                 *rest = behind;
-                joint(rest, names)
+                entropy(rest, names)
             } else if word == MUTUAL {
                 *rest = behind;
-                mutual(rest, names)
+                mutual_information(rest, names)
             } else {
                 Err(Stop::Fault(Code::Word))
             }

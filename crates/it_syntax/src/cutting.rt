@@ -1,10 +1,11 @@
 //! The tokens of a line.
-ghost use Rattle.std.specs.Prelude.{◌≡◌, ◌≤◌, ◌<◌, ◌^◌, ℕ, length, drop, None, IfOk, IfErr, SomeIff};
+ghost use Rattle.std.specs.Prelude.{◌≡◌, ◌≤◌, ◌<◌, ◌^◌, ℕ, length, drop, Some, None, IfOk, IfErr, IfSome, IfNone, IsSomeAnd};
+ghost use Rattle.it_number.specs.Decimals.{value_from};
 ghost use Rattle.it_syntax.specs.ReaderSteps.{IsTokenFront};
 ghost use Rattle.it_syntax.specs.Misspellings.{IsWrong, SpellsUntil, IsMisspelled};
 ghost use Rattle.it_syntax.specs.Spans.{InLine};
 ghost use Rattle.std.specs.Char.{is_ascii_alphabetic, is_ascii_digit};
-ghost use Rattle.it_syntax.specs.Spelling.{is_space, value_from, symbol_text, AreAll, StartsWith, Stops};
+ghost use Rattle.it_syntax.specs.Spelling.{is_space, symbol_text, AreAll, StartsWith, Stops};
 
 use crate::runs::{digits, spaces, symbol, word_bytes};
 use crate::types::{Code, LineTokens, Misspelling, Symbol, SyntaxFault, Token, TokenKind};
@@ -14,7 +15,7 @@ use std::alloc::{AllocError, Global};
 const LONGEST_WORD: usize = 16;
 
 /// The bytes behind the first n.
-fn behind(bytes: &[u8], n: usize) -> &[u8]
+fn bytes_behind(bytes: &[u8], n: usize) -> &[u8]
     requires { n ≤ length bytes.now }
     ensures { result.now ≡ drop n bytes.now }
 {
@@ -35,7 +36,8 @@ fn symbol_len(symbol: Symbol) -> usize
 #[tactic(auto, using(crate::proofs::RunLemmas::value_lemmas))]
 fn value(text: &[u8]) -> Option<u64>
     requires { AreAll is_ascii_digit text.now }
-    ensures { SomeIff result (value_from 0 text.now < 2 ^ 64) (value_from 0 text.now) }
+    ensures value { IfSome result (λ n. value_from 0 text.now ≡ Some n) }
+    ensures large { IfNone result (IsSomeAnd (value_from 0 text.now) (λ n. 2 ^ 64 ≤ n)) }
 {
     let mut n: u64 = 0;
     for b in text {
@@ -100,7 +102,7 @@ pub fn line_tokens(alloc: Global, line: &[u8]) -> Result<LineTokens, AllocError>
     let mut rest = line;
     loop {
         let gap = spaces(rest);
-        let body = behind(rest, gap);
+        let body = bytes_behind(rest, gap);
         if body.is_empty() {
             return Ok(LineTokens {
                 tokens,
@@ -126,7 +128,7 @@ pub fn line_tokens(alloc: Global, line: &[u8]) -> Result<LineTokens, AllocError>
             Err(_) => return Err(AllocError),
         }
         at = end;
-        rest = behind(body, n);
+        rest = bytes_behind(body, n);
     }
 }
 

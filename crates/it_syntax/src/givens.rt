@@ -82,8 +82,13 @@ fn bar(rest: &mut Rest<'_>, names: &Names) -> Result<VarSet, Stop>
     }
 }
 
-/// Sets one after the other.
-fn three(alloc: Global, first: VarSet, second: VarSet, third: VarSet) -> Result<Vec<VarSet>, Stop>
+/// A list of three sets.
+fn three_sets(
+    alloc: Global,
+    first: VarSet,
+    second: VarSet,
+    third: VarSet,
+) -> Result<Vec<VarSet>, Stop>
     ensures sets { IfOk result (λ sets. sets.items ≡ first ∷ second ∷ third ∷ []) }
     ensures memory { IfErr result (λ e. e ≡ Memory) }
 {
@@ -95,7 +100,7 @@ fn three(alloc: Global, first: VarSet, second: VarSet, third: VarSet) -> Result<
 }
 
 /// A list of two sets.
-fn two(alloc: Global, first: VarSet, second: VarSet) -> Result<Vec<VarSet>, Stop>
+fn two_sets(alloc: Global, first: VarSet, second: VarSet) -> Result<Vec<VarSet>, Stop>
     ensures sets { IfOk result (λ sets. sets.items ≡ first ∷ second ∷ []) }
     ensures memory { IfErr result (λ e. e ≡ Memory) }
 {
@@ -115,7 +120,7 @@ fn chain(alloc: Global, rest: &mut Rest<'_>, names: &Names) -> Result<Given, Sto
     let second = list(rest, names)?;
     arrow(rest)?;
     let third = list(rest, names)?;
-    match three(alloc, first, second, third) {
+    match three_sets(alloc, first, second, third) {
         Ok(sets) => {
             let sets = members(sets, FURTHER_LINKS, Divider::Arrows, rest, names)?;
             Ok(Given::Markov(sets))
@@ -132,7 +137,7 @@ fn independence(alloc: Global, rest: &mut Rest<'_>, names: &Names) -> Result<Giv
     let first = list(rest, names)?;
     semicolon(rest)?;
     let second = list(rest, names)?;
-    match two(alloc, first, second) {
+    match two_sets(alloc, first, second) {
         Ok(sets) => {
             let members = members(sets, FURTHER_MEMBERS, Divider::Semicolons, rest, names)?;
             let given = bar(rest, names)?;

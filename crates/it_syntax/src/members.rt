@@ -2,7 +2,7 @@
 ghost use Rattle.std.specs.Bool.{OnTrue, OnFalse};
 ghost use Rattle.std.specs.Prelude.{◌≡◌, ◌++◌, [], ◌∷◌, Some, None, OnOk, IfErr};
 ghost use Rattle.it_syntax.specs.declared.rest.Stop.TheVariants.{Memory};
-ghost use Rattle.it_syntax.specs.GivenReading.{behind_divider, read_spare, read_members, with_sets};
+ghost use Rattle.it_syntax.specs.GivenReading.{behind_divider, read_surplus_member, read_members, with_sets};
 ghost use Rattle.it_syntax.specs.Gives.{GivesBy, StopsAs, left};
 ghost use Rattle.it_syntax.specs.Scopes.{env_of};
 
@@ -37,9 +37,9 @@ fn is_divided(rest: &mut Rest<'_>, divider: Divider) -> bool
 }
 
 /// The fault of a member too many.
-#[tactic(auto, unfolding(crate::specs::GivenReading::read_spare))]
-fn spare_fault(rest: &Rest<'_>, names: &Names) -> Stop
-    ensures { StopsAs result (left rest.now) (read_spare (env_of names.now) (left rest.now)) }
+#[tactic(auto, unfolding(crate::specs::GivenReading::read_surplus_member))]
+fn surplus_member_fault(rest: &Rest<'_>, names: &Names) -> Stop
+    ensures { StopsAs result (left rest.now) (read_surplus_member (env_of names.now) (left rest.now)) }
 {
     match rest.front() {
         (Piece::Word(word), _) => {
@@ -80,7 +80,7 @@ pub fn members(
     let mut allowed = most;
     while is_divided(rest, divider) {
         if allowed == 0 {
-            return Err(spare_fault(rest, names));
+            return Err(surplus_member_fault(rest, names));
         }
         match list(rest, names) {
             Ok(next) => add(&mut found, next)?,

@@ -39,7 +39,7 @@ impl Names {
     }
 
     /// The same names once more.
-    pub fn copied(&self) -> Result<Names, AllocError>
+    pub fn copy(&self) -> Result<Names, AllocError>
         ensures { IfOk result (λ n. n ≡ self.now) }
     {
         let variables = self.variables.clone()?;

@@ -2,7 +2,7 @@
 ghost use Rattle.std.specs.Prelude.{◌≡◌};
 ghost use Rattle.it_syntax.specs.AtomReading.{read_atom};
 ghost use Rattle.it_syntax.specs.Scopes.{scope_of};
-ghost use Rattle.it_syntax.specs.RelationReading.{read_quantity, after_number, read_term, read_over};
+ghost use Rattle.it_syntax.specs.RelationReading.{read_quantity, after_number, read_term, read_surplus_term};
 ghost use Rattle.it_syntax.specs.Gives.{Gives, StopsAs, left};
 
 use crate::atoms::atom;
@@ -106,9 +106,9 @@ pub fn term(negative: bool, rest: &mut Rest<'_>, names: &Names, rates: bool) -> 
 }
 
 /// The fault of a term too many.
-#[tactic(auto, unfolding(crate::specs::RelationReading::read_over))]
-pub fn over(rest: &Rest<'_>, names: &Names, rates: bool) -> Stop
-    ensures { StopsAs result (left rest.now) (read_over (scope_of names.now rates) (left rest.now)) }
+#[tactic(auto, unfolding(crate::specs::RelationReading::read_surplus_term))]
+pub fn surplus_term_fault(rest: &Rest<'_>, names: &Names, rates: bool) -> Stop
+    ensures { StopsAs result (left rest.now) (read_surplus_term (scope_of names.now rates) (left rest.now)) }
 {
     match rest.front() {
         (Piece::Number(_), _) => Stop::Fault(Code::Many),

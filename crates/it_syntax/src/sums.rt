@@ -6,7 +6,7 @@ ghost use Rattle.it_syntax.specs.Gives.{GivesBy, left};
 ghost use Rattle.it_syntax.specs.ReaderSteps.{with_terms};
 
 use crate::names::Names;
-use crate::quantities::{over, term};
+use crate::quantities::{surplus_term_fault, term};
 use crate::rest::{Rest, Stop};
 use crate::signs::{add, first_sign, sign};
 use crate::types::Term;
@@ -28,7 +28,7 @@ fn terms(
     let mut allowed = most;
     while let Some(negative) = sign(rest) {
         if allowed == 0 {
-            return Err(over(rest, names, rates));
+            return Err(surplus_term_fault(rest, names, rates));
         }
         match term(negative, rest, names, rates) {
             Ok(next) => add(&mut found, next)?,
@@ -52,7 +52,7 @@ fn counted_terms(
     ensures { GivesBy (λ x. x.items) result (left rest.new) (read_counted most (scope_of names.now rates) negative (left rest.old)) }
 {
     if most == 0 {
-        return Err(over(rest, names, rates));
+        return Err(surplus_term_fault(rest, names, rates));
     }
     match term(negative, rest, names, rates) {
         Ok(first) => terms(alloc, first, most - 1, rest, names, rates),

@@ -137,7 +137,7 @@ fn names_are_found_in_order(rt: HostRuntime) -> Result<(), Fail> {
 }
 
 /// The terms in a line: sign, number, and H or I with the numbers of its sets.
-pub fn written(alloc: Global, terms: &[Term]) -> Result<String, Fail> {
+pub fn text_of(alloc: Global, terms: &[Term]) -> Result<String, Fail> {
     let mut out = String::new(alloc);
     for term in terms {
         let sign = if term.negative { '-' } else { '+' };
@@ -195,9 +195,9 @@ fn a_relation_is_read_as_its_terms(rt: HostRuntime) -> Result<(), Fail> {
     ];
     for (line, want) in cases {
         let read = read(&rt, alloc, line, &names)?;
-        assert_eq!(rt; written(alloc, read.left.terms.as_slice())?.as_str(), want);
+        assert_eq!(rt; text_of(alloc, read.left.terms.as_slice())?.as_str(), want);
         assert_eq!(rt; read.sign, Sign::AtLeast);
-        assert_eq!(rt; written(alloc, read.right.terms.as_slice())?.as_str(), "+0");
+        assert_eq!(rt; text_of(alloc, read.right.terms.as_slice())?.as_str(), "+0");
     }
     Ok(())
 }

@@ -4,7 +4,7 @@ use Rattle.it_question.specs.Cursors.{left}
 use Rattle.it_question.specs.Questions.{BodyView}
 use Rattle.it_question.specs.Reading.{read_questions, read_file}
 use Rattle.it_question.specs.WrittenQuestions.{most_questions}
-use Rattle.it_question.proofs.QuestionLemmas.{with_questions, goes_on, ends, too_many, is_done, no_end}
+use Rattle.it_question.proofs.QuestionLemmas.{with_questions, goes_on, stops_at_fault, too_many, is_done, no_end}
 use Rattle.it_question.proofs.asking.bodies.Goals as goal
 
 pub returns-then-allowed-eq0 : goal.returns-then-allowed-eq0
@@ -15,7 +15,7 @@ returns-then-allowed-eq0 c =
 pub returns-in-Err : goal.returns-in-Err
 unfolding read_file
 returns-in-Err c =
-    ends c.in-Err.stop (map body_view c.loop-behind.found.items) c.loop-behind.allowed (left c.loop-behind.cursor) (left c.in-Some.behind) (left c.question.new.cursor) (read_questions most_questions (left c.args.cursor.now)) (omega arith) c.in-Some.ensures.found c.in-Err.ensures c.loop-behind.invariant
+    stops_at_fault c.in-Err.stop (map body_view c.loop-behind.found.items) c.loop-behind.allowed (left c.loop-behind.cursor) (left c.in-Some.behind) (left c.question.new.cursor) (read_questions most_questions (left c.args.cursor.now)) (omega arith) c.in-Some.ensures.found c.in-Err.ensures c.loop-behind.invariant
 
 pub loop-behind-preserved : goal.loop-behind-preserved
 loop-behind-preserved c =

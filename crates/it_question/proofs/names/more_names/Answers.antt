@@ -2,13 +2,13 @@ use Rattle.std.proofs.Common.{◌∙◌, sym}
 use Rattle.it_question.specs.Cursors.{left}
 use Rattle.it_question.specs.Reading.{read_new_more}
 use Rattle.it_question.specs.Sorts.{sort_of}
-use Rattle.it_question.proofs.NewNameLemmas.{goes_on, ends, is_done, keeps_rates-trans}
+use Rattle.it_question.proofs.NewNameLemmas.{goes_on, stops_at_fault, is_done, keeps_rates-trans}
 use Rattle.it_question.proofs.names.more_names.Goals as goal
 
 pub returns-in-Err-clause-gives : goal.returns-in-Err-clause-gives
 returns-in-Err-clause-gives c =
     let total = read_new_more (sort_of c.args.sort) c.args.most c.args.names.now (left c.args.cursor.now) in
-    ends c.in-Err.stop (sort_of c.args.sort) c.loop-sort.allowed c.loop-sort.names (left c.loop-sort.cursor) (left c.comma.new.cursor) (left c.new_name.new.cursor) total c.loop-sort-test.ensures.taken c.in-Err.ensures.gives c.loop-sort.invariant.0
+    stops_at_fault c.in-Err.stop (sort_of c.args.sort) c.loop-sort.allowed c.loop-sort.names (left c.loop-sort.cursor) (left c.comma.new.cursor) (left c.new_name.new.cursor) total c.loop-sort-test.ensures.taken c.in-Err.ensures.gives c.loop-sort.invariant.0
 
 pub loop-sort-preserved : goal.loop-sort-preserved
 loop-sort-preserved c =

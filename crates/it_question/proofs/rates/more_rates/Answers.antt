@@ -4,7 +4,7 @@ use Rattle.it_syntax.specs.Gives.{StopsAs}
 use Rattle.it_question.specs.Cursors.{left}
 use Rattle.it_question.specs.Reading.{read_once, read_once_more}
 use Rattle.it_question.specs.WrittenLines.{rates_env}
-use Rattle.it_question.proofs.RateLemmas.{goes_on, ends, is_done}
+use Rattle.it_question.proofs.RateLemmas.{goes_on, stops_at_fault, is_done}
 use Rattle.it_question.proofs.rates.more_rates.Goals as goal
 
 pub loop-cursor-preserved : goal.loop-cursor-preserved
@@ -20,7 +20,7 @@ returns-in-Err c =
     let env = rates_env c.args.names.now in
     let total = with_sets c.args.first.items (read_once_more env c.args.first.items (left c.args.cursor.now)) in
     let gives = subst (λ (seen : List ℕ). StopsAs c.in-Err.stop (left c.new_rate.new.cursor) (read_once env seen (left c.comma.new.cursor))) c.as_slice.ensures.value c.in-Err.ensures.gives in
-    ends c.in-Err.stop c.loop-cursor.found.items env (left c.loop-cursor.cursor) (left c.comma.new.cursor) (left c.new_rate.new.cursor) total c.loop-cursor-test.ensures.taken gives c.loop-cursor.invariant
+    stops_at_fault c.in-Err.stop c.loop-cursor.found.items env (left c.loop-cursor.cursor) (left c.comma.new.cursor) (left c.new_rate.new.cursor) total c.loop-cursor-test.ensures.taken gives c.loop-cursor.invariant
 
 pub returns : goal.returns
 returns c =

@@ -6,8 +6,8 @@ use Rattle.it_question.specs.WrittenTries.{Sets}
 use Rattle.it_question.proofs.TryLoopLemmas.{parts_stop, parts_last, parts_more, parts_end}
 use Rattle.it_question.proofs.tries.parts.Goals as goal
 
-abbrev ended : Sets → List Letter → Reads Sets
-ended sets ls = Ok (sets, ls)
+abbrev sets_unchanged : Sets → List Letter → Reads Sets
+sets_unchanged sets ls = Ok (sets, ls)
 
 pub returns-in-Err : goal.returns-in-Err
 returns-in-Err c = parts_stop c.loop-cursor.allowed _ _ c.loop-cursor.sets (left c.loop-cursor.cursor) (left c.semicolon.new.cursor) _ c.in-Err.stop (left c.part.new.cursor) c.loop-cursor.invariant c.loop-cursor-test.ensures.taken c.in-Err.ensures
@@ -19,4 +19,4 @@ pub loop-cursor-preserved : goal.loop-cursor-preserved
 loop-cursor-preserved c = parts_more c.loop-cursor.allowed _ _ c.loop-cursor.sets (left c.loop-cursor.cursor) (left c.semicolon.new.cursor) _ (c.part.new.sets, left c.part.new.cursor) c.loop-cursor.invariant c.loop-cursor-test.ensures.taken c.in-Ok.ensures c.if-allowed-eq0.false
 
 pub returns : goal.returns
-returns c = parts_end c.loop-cursor.allowed _ _ c.loop-cursor.sets (left c.loop-cursor.cursor) _ c.loop-cursor.invariant c.loop-cursor-test.ensures.none ∙ ap (ended c.loop-cursor.sets) (sym c.loop-cursor-test.ensures.same)
+returns c = parts_end c.loop-cursor.allowed _ _ c.loop-cursor.sets (left c.loop-cursor.cursor) _ c.loop-cursor.invariant c.loop-cursor-test.ensures.none ∙ ap (sets_unchanged c.loop-cursor.sets) (sym c.loop-cursor-test.ensures.same)

@@ -1,6 +1,7 @@
 use Rattle.std.proofs.Common.{◌≡◌, ◌<◌, ◌^◌, drop}
 use Rattle.std.specs.Char.{is_ascii_digit}
-use Rattle.it_syntax.specs.Spelling.{AreAll, value_from}
+use Rattle.it_number.specs.Decimals.{value_from}
+use Rattle.it_syntax.specs.Spelling.{AreAll}
 use Rattle.it_syntax.proofs.cutting.value.Given as goal
 
 abbrev pub invariant-loop-b : goal.invariant-loop-b

@@ -3,7 +3,7 @@ use Rattle.std.proofs.lemmas.Result.{err_from_is_err_and}
 use Rattle.it_syntax.specs.Gives.{left}
 use Rattle.it_syntax.specs.Scopes.{env_of}
 use Rattle.it_syntax.specs.AtomReading.{read_more}
-use Rattle.it_syntax.proofs.ListLemmas.{with_none, step_ok, ends, is_done}
+use Rattle.it_syntax.proofs.ListLemmas.{with_none, step_ok, stops_at_fault, is_done}
 use Rattle.it_syntax.proofs.lists.more.Goals as goal
 
 pub loop-rest-init : goal.loop-rest-init
@@ -12,7 +12,7 @@ loop-rest-init c = rw c.empty-set.ensures (with_none _)
 pub returns-in_err-i : goal.returns-in_err-i
 returns-in_err-i c =
     let p = err_from_is_err_and c.from_residual.result c.from_residual.ensures.1 in
-    rw (p.1, p.2) (ends c.in_err-i.field-0.0 (env_of c.args.names.now) c.loop-rest.set (left c.loop-rest.rest) (left c.comma.new.rest) (left c.name.new.rest) (read_more (env_of c.args.names.now) (left c.args.rest.now)) (c.loop-rest-test.ensures.taken) c.in_err-i.ensures.gives c.loop-rest.invariant)
+    rw (p.1, p.2) (stops_at_fault c.in_err-i.field-0.0 (env_of c.args.names.now) c.loop-rest.set (left c.loop-rest.rest) (left c.comma.new.rest) (left c.name.new.rest) (read_more (env_of c.args.names.now) (left c.args.rest.now)) (c.loop-rest-test.ensures.taken) c.in_err-i.ensures.gives c.loop-rest.invariant)
 
 pub loop-rest-preserved : goal.loop-rest-preserved
 loop-rest-preserved c =

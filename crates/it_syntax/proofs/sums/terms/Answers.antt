@@ -4,21 +4,21 @@ use Rattle.it_syntax.specs.Gives.{left}
 use Rattle.it_syntax.specs.Scopes.{scope_of}
 use Rattle.it_syntax.specs.ReaderSteps.{with_terms}
 use Rattle.it_syntax.specs.RelationReading.{read_terms}
-use Rattle.it_syntax.proofs.RelationTermLemmas.{goes_on, ends, too_many, is_done}
+use Rattle.it_syntax.proofs.RelationTermLemmas.{goes_on, stops_at_fault, too_many, is_done}
 use Rattle.it_syntax.proofs.sums.terms.Goals as goal
 
 pub returns-then-allowed-eq0 : goal.returns-then-allowed-eq0
 returns-then-allowed-eq0 c =
     let s = scope_of c.args.names.now c.args.rates in
     let total = with_terms (c.args.first ∷ []) (read_terms c.args.most s (left c.args.rest.now)) in
-    too_many c.over.result c.loop-negative.found.items s (left c.loop-negative.rest) (left c.sign.new.rest) c.in-Some.negative total c.in-Some.ensures c.over.ensures
+    too_many c.surplus_term_fault.result c.loop-negative.found.items s (left c.loop-negative.rest) (left c.sign.new.rest) c.in-Some.negative total c.in-Some.ensures c.surplus_term_fault.ensures
     (subst (λ (n : ℕ). with_terms c.loop-negative.found.items (read_terms n s (left c.loop-negative.rest)) ≡ total) c.if-allowed-eq0.true c.loop-negative.invariant)
 
 pub returns-in-Err : goal.returns-in-Err
 returns-in-Err c =
     let s = scope_of c.args.names.now c.args.rates in
     let total = with_terms (c.args.first ∷ []) (read_terms c.args.most s (left c.args.rest.now)) in
-    ends c.in-Err.stop c.loop-negative.found.items c.loop-negative.allowed s (left c.loop-negative.rest) (left c.sign.new.rest) (left c.term.new.rest) c.in-Some.negative total (omega arith) c.in-Some.ensures c.in-Err.ensures c.loop-negative.invariant
+    stops_at_fault c.in-Err.stop c.loop-negative.found.items c.loop-negative.allowed s (left c.loop-negative.rest) (left c.sign.new.rest) (left c.term.new.rest) c.in-Some.negative total (omega arith) c.in-Some.ensures c.in-Err.ensures c.loop-negative.invariant
 
 pub loop-negative-preserved : goal.loop-negative-preserved
 loop-negative-preserved c =

@@ -1,6 +1,6 @@
 use Rattle.std.proofs.Common.{arith}
 use Rattle.it_question.proofs.PlaceLemmas.{left_length}
-use Rattle.it_question.proofs.places.left.Goals as goal
+use Rattle.it_question.proofs.places.letters_left.Goals as goal
 
 pub overflow_add-result : goal.overflow_add-result
 overflow_add-result c = omega (arith, c.requires, left_length c.args.cursor.now c.in-Some.rest c.in-Some.is)

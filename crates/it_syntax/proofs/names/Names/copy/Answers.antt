@@ -1,5 +1,5 @@
 use Rattle.it_syntax.proofs.NameLemmas.{copied_vectors}
-use Rattle.it_syntax.proofs.names.Names.copied.Goals as goal
+use Rattle.it_syntax.proofs.names.Names.copy.Goals as goal
 
 pub invariant_of-result : goal.invariant_of-result
 invariant_of-result c =
