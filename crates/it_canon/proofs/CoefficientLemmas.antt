@@ -85,14 +85,14 @@ added-same xs ys m n f g h same a = record {
 pub added_negated : (xs ys : List ℤ) (t : ℤ) (a : ℕ) → IsFormAdded xs ys (unsigned_abs (neg_ℤ t)) (λ p. neg_ℤ t *ℤ p a) → IsFormAdded xs ys (unsigned_abs t) (λ p. neg_ℤ t *ℤ p a)
 added_negated xs ys t a f = added-same xs ys (unsigned_abs (neg_ℤ t)) (unsigned_abs t) (λ p. neg_ℤ t *ℤ p a) (λ p. neg_ℤ t *ℤ p a) (omega (arith, ints)) (λ p. refl) f
 
-less : (t x y : ℤ) → t *ℤ x +ℤ neg_ℤ t *ℤ y ≡ t *ℤ (x -ℤ y)
-less t x y = omega (arith, zring)
+times_difference : (t x y : ℤ) → t *ℤ x +ℤ neg_ℤ t *ℤ y ≡ t *ℤ (x -ℤ y)
+times_difference t x y = omega (arith, zring)
 
 -- H(A|B), where s is A and B
 pub added_entropy : (xs ys zs : List ℤ) (t : ℤ) (s given : ℕ) → IsFormAdded xs ys (unsigned_abs t) (λ p. t *ℤ p s) → IsFormAdded ys zs (unsigned_abs t) (λ p. neg_ℤ t *ℤ p given)
     → IsFormAdded xs zs (2 * unsigned_abs t) (λ p. t *ℤ (p s -ℤ p given))
 added_entropy xs ys zs t s given a b = added-same xs zs (unsigned_abs t + unsigned_abs t) (2 * unsigned_abs t) (λ p. t *ℤ p s +ℤ neg_ℤ t *ℤ p given) (λ p. t *ℤ (p s -ℤ p given))
-    (omega arith) (λ p. less t (p s) (p given)) (added-trans xs ys zs (unsigned_abs t) (unsigned_abs t) (λ p. t *ℤ p s) (λ p. neg_ℤ t *ℤ p given) a b)
+    (omega arith) (λ p. times_difference t (p s) (p given)) (added-trans xs ys zs (unsigned_abs t) (unsigned_abs t) (λ p. t *ℤ p s) (λ p. neg_ℤ t *ℤ p given) a b)
 
 -- I(A;B|C), where a is A and C, b is B and C, and s all three
 pub added_mutual : (vs ws xs ys zs : List ℤ) (t : ℤ) (a b s given : ℕ)

@@ -11,17 +11,22 @@ use Rattle.it_question.specs.Questions.{BodyView}
 use Rattle.it_canon.specs.Demands.{AreStated}
 use Rattle.it_canon.specs.Targets.{targets}
 use Rattle.it_canon.specs.QuestionDemands.{variables_of, question_demands, AreRowsOf, Poses}
+use Rattle.it_canon.specs.Theorems.{OneProblem}
 use Rattle.it_canon.proofs.UniqueRows.{one_constraint_list, one_row_list}
 
-pub one_problem : (q : BodyView) (r : RelationView) (a b : Poses q r) → a.problem ≡ b.problem
-one_problem q r a b = ap₂ (λ (s : Space) (cs : List Constraint). record { space = s; constraints = cs }) same (one_constraint_list b.problem.space (question_demands q) a.problem.constraints b.problem.constraints
-    (subst (λ (s : Space). AreStated s (question_demands q) a.problem.constraints) same a.constraints) b.constraints)
+pub one_problem : OneProblem
+one_problem q p r a b = ap₂ (λ (s : Space) (cs : List Constraint). record { space = s; constraints = cs }) same (one_constraint_list r.space (question_demands q) p.constraints r.constraints
+    (subst (λ (s : Space). AreStated s (question_demands q) p.constraints) same a.constraints) b.constraints)
   where
-    same : a.problem.space ≡ b.problem.space
+    same : p.space ≡ r.space
     same = a.space ∙ sym b.space
 
+pub same_problem : (q : BodyView) (r : RelationView) (a b : Poses q r) → a.problem ≡ b.problem
+same_problem q r a b = one_problem q a.problem b.problem a.is_problem b.is_problem
+
 pub same_rows : (q : BodyView) (r : RelationView) (a b : Poses q r) → a.rows ≡ b.rows
-same_rows q r a b = one_row_list b.problem.space (targets (variables_of q) r) a.rows b.rows (subst (λ (s : Space). AreRowsOf s (targets (variables_of q) r) a.rows) (a.space ∙ sym b.space) a.targets_are) b.targets_are
+same_rows q r a b = one_row_list b.problem.space (targets (variables_of q) r) a.rows b.rows
+    (subst (λ (s : Space). AreRowsOf s (targets (variables_of q) r) a.rows) (a.is_problem.space ∙ sym b.is_problem.space) a.targets_are) b.targets_are
 
 -- the coordinates of rows are of their space
 pub rows_up_to : (s : Space) (fs : List Form) (ts : List Terms) → AreRowsOf s fs ts → All (IsUpTo (size_of s)) ts

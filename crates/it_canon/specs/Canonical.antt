@@ -1,5 +1,5 @@
 -- Rows of linear forms, and the forms of relations.
-use Rattle.std.specs.Prelude.{◌≡◌, ℕ, ℤ, pos, neg_ℤ}
+use Rattle.std.specs.Prelude.{◌≡◌, ℕ, ◌+◌, ℤ, pos, neg_ℤ, unsigned_abs, [], ◌∷◌}
 use Rattle.it_space.specs.declared.spaces.Space.{Space}
 use Rattle.it_space.specs.Bounds.{IsSmall}
 use Rattle.it_space.specs.Rows.{Terms, IsCanonical, IsUpTo, value}
@@ -16,6 +16,11 @@ pub record IsRowOf (s : Space) (form : Form) (row : Terms) : Type 0 where
   pub coordinates : IsUpTo (size_of s) row
   pub canonical : IsCanonical row
   pub small : IsSmall row
+
+-- the sum of the absolute values of a row's coefficients
+abbrev pub row_mass : Terms → ℕ
+row_mass [] = 0
+row_mass (t ∷ ts) = unsigned_abs t.1 + row_mass ts
 
 -- the difference of the sides as it is compared with 0 by `>=` or `=`
 abbrev pub signed_difference : Sign → ℤ → ℤ

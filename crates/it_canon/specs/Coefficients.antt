@@ -3,11 +3,12 @@ use Rattle.std.specs.Prelude.{◌≡◌, ℕ, ◌+◌, ◌≤◌, max, ℤ, pos,
 use Rattle.it_space.specs.Rows.{Terms}
 use Rattle.it_polymatroid.specs.Certificates.{Form}
 
--- the value of the form that has these coefficients
+-- the form that has these coefficients, of the coordinates from a first one on
 abbrev pub dense_form_from : ℕ → List ℤ → Form
 dense_form_from first [] p = pos 0
 dense_form_from first (x ∷ xs) p = x *ℤ p first +ℤ dense_form_from (first + 1) xs p
 
+-- of all coordinates, from 0 on
 abbrev pub dense_form : List ℤ → Form
 dense_form xs p = dense_form_from 0 xs p
 

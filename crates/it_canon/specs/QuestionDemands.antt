@@ -1,4 +1,4 @@
--- The constraints of a question in generator order, and the rows of its system.
+-- The constraints of a question in generator order, the problem that it poses, and the rows of its system.
 use Rattle.std.specs.Prelude.{◌≡◌, ℕ, ◌+◌, ℤ, pos, ◌≤ℤ◌, List, [], ◌∷◌, ◌++◌, length, All}
 use Rattle.std.specs.List.{AllZip, flat_map}
 use Rattle.it_space.specs.declared.spaces.Space.{Space}
@@ -14,6 +14,7 @@ use Rattle.it_canon.specs.Canonical.{IsRowOf}
 use Rattle.it_canon.specs.Targets.{targets}
 use Rattle.it_canon.specs.Demands.{LineDemand, AreStated, demands, demand_of, parts_of}
 
+-- the space of as many variables and rates
 abbrev pub space_of : NamesView → Space
 space_of v = record { variables = length v.variables; rates = length v.rates }
 
@@ -74,11 +75,15 @@ AreRowsOf s forms rows = AllZip (IsRowOf s) forms rows
 abbrev pub AreAtLeastZero : (ℕ → ℤ) → List Terms → Type 0
 AreAtLeastZero p rows = All (λ row. pos 0 ≤ℤ value row p) rows
 
+-- the problem that a question poses
+pub record IsProblemOf (q : BodyView) (p : ProblemView) : Type 0 where
+  pub space : p.space ≡ space_of (problem_names q)
+  pub limits : IsProblem p
+  pub constraints : AreStated p.space (question_demands q) p.constraints
+
 -- the problem and the targets' rows that a question about a relation poses
 pub record Poses (q : BodyView) (r : RelationView) : Type 0 where
   pub problem : ProblemView
+  pub is_problem : IsProblemOf q problem
   pub rows : List Terms
-  pub space : problem.space ≡ space_of (problem_names q)
-  pub limits : IsProblem problem
-  pub constraints : AreStated problem.space (question_demands q) problem.constraints
   pub targets_are : AreRowsOf problem.space (targets (variables_of q) r) rows

@@ -6,6 +6,7 @@ use Rattle.it_syntax.specs.declared.types.Sign.TheVariants.{AtLeast, AtMost, Equ
 use Rattle.it_syntax.specs.Meaning.{RelationView}
 use Rattle.it_canon.specs.Canonical.{form_of}
 
+-- the form with its sign turned
 abbrev pub negation : Form → Form
 negation form p = neg_ℤ (form p)
 
@@ -15,5 +16,6 @@ targets_by AtLeast form = form ∷ []
 targets_by AtMost form = form ∷ []
 targets_by Equal form = form ∷ negation form ∷ []
 
+-- the targets of a relation over n variables
 abbrev pub targets : ℕ → RelationView → List Form
 targets n r = targets_by r.sign (form_of n r)

@@ -1,12 +1,17 @@
--- What the rows of a question are told by: a form has one row, and demands have one list of constraints.
-use Rattle.std.specs.Prelude.{◌≡◌, List}
+-- What the rows of a question are told by: a form has one row, and demands have one list of constraints. A question of a file
+-- poses a problem, and no other.
+use Rattle.std.specs.Prelude.{◌≡◌, ℕ, List, All}
 use Rattle.it_space.specs.declared.spaces.Space.{Space}
 use Rattle.it_space.specs.declared.problems.Constraint.{Constraint}
+use Rattle.it_space.specs.Problems.{ProblemView}
 use Rattle.it_space.specs.Rows.{Terms}
 use Rattle.it_polymatroid.specs.Certificates.{Form}
+use Rattle.it_syntax.specs.Meaning.{RelationView}
+use Rattle.it_question.specs.Files.{IsFile}
+use Rattle.it_question.specs.Questions.{BodyView, QuestionView, Prove}
 use Rattle.it_canon.specs.Canonical.{IsRowOf}
 use Rattle.it_canon.specs.Demands.{LineDemand, AreStated}
-use Rattle.it_canon.specs.QuestionDemands.{AreRowsOf}
+use Rattle.it_canon.specs.QuestionDemands.{AreRowsOf, IsProblemOf, Poses}
 
 -- a form has one row
 abbrev pub OneRow : Type 0
@@ -19,3 +24,15 @@ OneRowList = (s : Space) (forms : List Form) (rs ts : List Terms) → AreRowsOf 
 -- demands have one list of constraints that states them
 abbrev pub OneConstraintList : Type 0
 OneConstraintList = (s : Space) (demanded : List LineDemand) (cs ds : List Constraint) → AreStated s demanded cs → AreStated s demanded ds → cs ≡ ds
+
+-- each question of a file poses a problem
+abbrev pub QuestionHasProblem : Type 0
+QuestionHasProblem = (bytes : List ℕ) (qs : List QuestionView) → IsFile bytes qs → All (λ q. (p : ProblemView) × IsProblemOf q.body p) qs
+
+-- each question of a file about a relation poses it with the rows of the relation's targets
+abbrev pub RelationHasRows : Type 0
+RelationHasRows = (bytes : List ℕ) (qs : List QuestionView) → IsFile bytes qs → All (λ q. (r : RelationView) → q.body.verb ≡ Prove r → Poses q.body r) qs
+
+-- a question poses one problem
+abbrev pub OneProblem : Type 0
+OneProblem = (q : BodyView) (p r : ProblemView) → IsProblemOf q p → IsProblemOf q r → p ≡ r

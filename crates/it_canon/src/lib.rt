@@ -12,7 +12,7 @@ mod tests;
 
 pub use coefficients::Coefficients;
 pub use givens::canon_given;
-pub use laws::rows_are_unique;
-pub use problems::{problem, region_lines};
+pub use laws::{questions_pose_problems, rows_are_unique};
+pub use problems::{problem, problem_names, region_lines};
 pub use relations::canon;
 pub use systems::{system, target_rows};

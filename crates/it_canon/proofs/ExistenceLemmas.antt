@@ -1,0 +1,98 @@
+-- A question of a file poses a problem, and one about a relation the rows of its targets.
+use Rattle.std.proofs.Common.{◌≡◌, ℕ, ◌^◌, List, [], ◌∷◌, ◌++◌, length, All, refl, sym, ap, subst}
+use Rattle.std.specs.List.{AllByRecursion as Every}
+use Rattle.it_space.specs.declared.spaces.Space.{Space}
+use Rattle.it_space.specs.declared.problems.Constraint.{Constraint}
+use Rattle.it_space.specs.Problems.{ProblemView}
+use Rattle.it_space.specs.Rows.{Terms}
+use Rattle.it_space.specs.Spaces.{IsSpace, size_of}
+use Rattle.it_space.proofs.EveryLemmas.{every_of, all_of, every-append}
+use Rattle.it_polymatroid.specs.Certificates.{Form}
+use Rattle.it_syntax.specs.Givens.{IsRelationOf, IsGivenOf}
+use Rattle.it_syntax.specs.Meaning.{RelationView}
+use Rattle.it_syntax.specs.NamesViews.{NamesView}
+use Rattle.it_question.specs.Files.{IsFile}
+use Rattle.it_question.specs.Limits.{IsVerbOver, IsQuestion}
+use Rattle.it_question.specs.Questions.{VerbView, Prove, Eliminate, Contain, BodyView, QuestionView}
+use Rattle.it_question.proofs.FileReadings.{file_limits}
+use Rattle.it_question.proofs.NumberLemmas.{HasSmallNumbers, GivenHasSmallNumbers, VerbHasSmallNumbers, QuestionHasSmallNumbers, file_has_small_numbers}
+use Rattle.it_canon.specs.Demands.{LineDemand, AreStated}
+use Rattle.it_canon.specs.QuestionDemands.{space_of, problem_names, problem_names_by, problem_lines_by, variables_of, line_demands, question_demands, AreRowsOf, IsProblemOf, Poses}
+use Rattle.it_canon.specs.Targets.{targets}
+use Rattle.it_canon.specs.Theorems.{QuestionHasProblem, RelationHasRows}
+use Rattle.it_canon.proofs.DemandForms.{AreLineDemandsUpTo, lines_up_to, targets_up_to}
+use Rattle.it_canon.proofs.ProblemLemmas.{question_problem}
+use Rattle.it_canon.proofs.QuestionLemmas.{space_is, shared_givens, shared_rows}
+use Rattle.it_canon.proofs.SmallForms.{IsFormUpTo, row_there}
+
+-- ---- constraints and rows
+
+module _ (s : Space) (k : IsSpace s) where
+  constraints_there : (ds : List LineDemand) → Every (λ (d : LineDemand). IsFormUpTo (size_of s) (2 ^ 74) d.demand.form) ds → (cs : List Constraint) × AreStated s ds cs
+  constraints_there [] h = ([], tt)
+  constraints_there (d ∷ ds) h =
+      let one = row_there s k d.demand.form h.0 in
+      let rest = constraints_there ds h.1 in
+      let c : Constraint = record { row = one.0; kind = d.demand.kind; origin = d.place } in
+      (c ∷ rest.0, (record { row = one.1; kind = refl; origin = refl }, rest.1))
+
+  pub rows_there : (fs : List Form) → Every (IsFormUpTo (size_of s) (2 ^ 74)) fs → (ts : List Terms) × AreRowsOf s fs ts
+  rows_there [] h = ([], tt)
+  rows_there (f ∷ fs) h =
+      let one = row_there s k f h.0 in
+      let rest = rows_there fs h.1 in
+      (one.0 ∷ rest.0, (one.1, rest.1))
+
+-- ---- the problem of a question
+
+module _ (q : BodyView) (k : IsQuestion q) (small : QuestionHasSmallNumbers q) where
+  abbrev own_space : Space
+  own_space = space_of (problem_names q)
+
+  problem_up_to : AreLineDemandsUpTo own_space.variables own_space.rates (question_demands q)
+  problem_up_to = by q.verb k.verb small.1 (shared_givens q own_space k refl) (shared_rows q own_space k refl)
+    where
+      by : (verb : VerbView) → IsVerbOver q.names verb → VerbHasSmallNumbers verb → All (IsGivenOf (length (problem_names_by q.names verb).variables)) q.lines.givens
+          → All (IsRelationOf (length (problem_names_by q.names verb).variables) (length (problem_names_by q.names verb).rates)) q.lines.rows
+          → AreLineDemandsUpTo (length (problem_names_by q.names verb).variables) (length (problem_names_by q.names verb).rates) (line_demands (length (problem_names_by q.names verb).variables) (problem_lines_by q.lines verb))
+      by (Prove r) over counts givens rows = lines_up_to _ _ q.lines (every_of _ q.lines.givens givens) (every_of _ q.lines.rows rows) small.0
+      by (Eliminate rates) over counts givens rows = lines_up_to _ _ (record { givens = q.lines.givens; rows = [] }) (every_of _ q.lines.givens givens) tt (small.0.0, tt)
+      by (Contain first second tries) over counts givens rows =
+          let n = length first.names.variables in
+          let m = length first.names.rates in
+          lines_up_to n m (record { givens = q.lines.givens ++ first.lines.givens; rows = q.lines.rows ++ first.lines.rows })
+          (every-append (IsGivenOf n) q.lines.givens first.lines.givens (every_of (IsGivenOf n) q.lines.givens givens) (every_of (IsGivenOf n) first.lines.givens over.0.lines.givens))
+          (every-append (IsRelationOf n m) q.lines.rows first.lines.rows (every_of (IsRelationOf n m) q.lines.rows rows) (every_of (IsRelationOf n m) first.lines.rows over.0.lines.rows))
+          (every-append GivenHasSmallNumbers q.lines.givens first.lines.givens small.0.0 counts.0.0, every-append HasSmallNumbers q.lines.rows first.lines.rows small.0.1 counts.0.1)
+
+  pub question_has_problem : (p : ProblemView) × IsProblemOf q p
+  question_has_problem =
+      let cs = constraints_there own_space (space_is q k) (question_demands q) problem_up_to in
+      let p : ProblemView = record { space = own_space; constraints = cs.0 } in
+      (p, record { space = refl; limits = question_problem q p k refl cs.1; constraints = cs.1 })
+
+  -- and the rows of its relation's targets
+  pub relation_has_rows : (r : RelationView) → q.verb ≡ Prove r → Poses q r
+  relation_has_rows r about =
+      let own : IsRelationOf (length q.names.variables) (length q.names.rates) r = subst (IsVerbOver q.names) about k.verb in
+      let over : IsRelationOf own_space.variables own_space.rates r = subst (λ (v : NamesView). IsRelationOf (length v.variables) (length v.rates) r) (sym (ap (problem_names_by q.names) about)) own in
+      let forms = targets_up_to own_space.variables own_space.rates r over (subst VerbHasSmallNumbers about small.1) in
+      let b = question_has_problem in
+      let rows = rows_there b.0.space b.1.limits.space (targets (variables_of q) r) (subst (λ (s : Space). Every (IsFormUpTo (size_of s) (2 ^ 74)) (targets (variables_of q) r)) (sym b.1.space) forms) in
+      record { problem = b.0; is_problem = b.1; rows = rows.0; targets_are = rows.1 }
+
+-- ---- the questions of a file
+
+-- what follows from the limits and from small numbers
+each_question : (P : QuestionView → Type 0) → ((q : QuestionView) → IsQuestion q.body → QuestionHasSmallNumbers q.body → P q) → (bytes : List ℕ) (qs : List QuestionView) → IsFile bytes qs → All P qs
+each_question P f bytes qs file = all_of P qs (both qs (every_of (λ (q : QuestionView). IsQuestion q.body) qs (file_limits bytes qs file)) (file_has_small_numbers bytes qs file))
+  where
+    both : (qs : List QuestionView) → Every (λ (q : QuestionView). IsQuestion q.body) qs → Every (λ (q : QuestionView). QuestionHasSmallNumbers q.body) qs → Every P qs
+    both [] h k = tt
+    both (q ∷ qs) h k = (f q h.0 k.0, both qs h.1 k.1)
+
+pub file_has_problems : QuestionHasProblem
+file_has_problems = each_question (λ q. (p : ProblemView) × IsProblemOf q.body p) (λ q k small. question_has_problem q.body k small)
+
+pub file_has_rows : RelationHasRows
+file_has_rows = each_question (λ q. (r : RelationView) → q.body.verb ≡ Prove r → Poses q.body r) (λ q k small. relation_has_rows q.body k small)

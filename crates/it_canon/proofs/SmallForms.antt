@@ -1,0 +1,156 @@
+-- The rows of forms: a form that is the value of few terms with small coefficients has its canonical row.
+use Rattle.std.proofs.Common.{◌≡◌, ℕ, zero, suc, ◌+◌, ◌-◌, ◌≤◌, ◌^◌, ℤ, pos, neg_ℤ, ◌+ℤ◌, ◌*ℤ◌, unsigned_abs, Bool, true, false, cond, nat_eq, List, [], ◌∷◌, ◌++◌, map, length, refl, sym, ap, ap₂, subst, ◌∙◌, arith, lit<}
+use Rattle.std.specs.List.{AllByRecursion as Every}
+use Rattle.std.proofs.Math.Nat.{pow-le-pow_right}
+use Rattle.std.proofs.lemmas.Int.{ints}
+use Rattle.std.proofs.lemmas.List.Elements.{All-weaker}
+use Rattle.it_space.specs.declared.spaces.Space.{Space}
+use Rattle.it_space.specs.Bounds.{IsSmall}
+use Rattle.it_space.specs.Rows.{Terms, IsCanonical, IsUpTo, one_at, value, negated_terms}
+use Rattle.it_space.specs.Spaces.{IsSpace, size_of}
+use Rattle.it_space.specs.Sums.{terms_from}
+use Rattle.it_space.proofs.EveryLemmas.{every-append}
+use Rattle.it_space.proofs.TermLemmas.{value-append, value-negated_terms}
+use Rattle.it_polymatroid.specs.Certificates.{Form, dot, IsLinear}
+use Rattle.it_polymatroid.specs.Elementals.{span}
+use Rattle.it_polymatroid.proofs.Forms.{linear_at, linear_zero, linear-add, linear-scale}
+use Rattle.it_canon.specs.Canonical.{IsRowOf, row_mass}
+use Rattle.it_canon.specs.Coefficients.{dense_form_from, largest, IsNoLarger}
+use Rattle.it_canon.specs.Targets.{negation}
+use Rattle.it_canon.proofs.TermLemmas.{row_canonical, row-value, row_up_to, row_no_larger}
+
+-- the form is the value of terms with coordinates up to `size`, whose coefficients are `bound` together at most
+pub record IsFormUpTo (size bound : ℕ) (form : Form) : Type 0 where
+  pub terms : Terms
+  pub same : (p : ℕ → ℤ) → value terms p ≡ form p
+  pub coordinates : Every (λ (t : ℕ × ℤ). t.0 ≤ size) terms
+  pub small : row_mass terms ≤ bound
+
+-- ---- how forms are made
+
+mass-append : (xs ys : Terms) → row_mass (xs ++ ys) ≡ row_mass xs + row_mass ys
+mass-append [] ys = let e : row_mass ys ≡ 0 + row_mass ys = omega arith in e
+mass-append (x ∷ xs) ys = omega (arith, mass-append xs ys)
+
+mass-negated : (xs : Terms) → row_mass (negated_terms xs) ≡ row_mass xs
+mass-negated [] = refl
+mass-negated (x ∷ xs) = ap₂ (λ (a b : ℕ). a + b) (abs-negated x.1) (mass-negated xs)
+  where
+    abs-negated : (z : ℤ) → unsigned_abs (neg_ℤ z) ≡ unsigned_abs z
+    abs-negated z = omega (arith, ints)
+
+every-negated : (size : ℕ) (xs : Terms) → Every (λ (t : ℕ × ℤ). t.0 ≤ size) xs → Every (λ (t : ℕ × ℤ). t.0 ≤ size) (negated_terms xs)
+every-negated size [] e = tt
+every-negated size (x ∷ xs) e = (e.0, every-negated size xs e.1)
+
+pub form_zero : (size : ℕ) → IsFormUpTo size 0 (λ p. pos 0)
+form_zero size = record { terms = []; same = λ p. refl; coordinates = tt; small = omega arith }
+
+pub form-add : (size a b : ℕ) (f g : Form) → IsFormUpTo size a f → IsFormUpTo size b g → IsFormUpTo size (a + b) (λ p. f p +ℤ g p)
+form-add size a b f g x y = record {
+  terms = x.terms ++ y.terms;
+  same = λ p. value-append x.terms y.terms p ∙ ap₂ (λ (m n : ℤ). m +ℤ n) (x.same p) (y.same p);
+  coordinates = every-append (λ (t : ℕ × ℤ). t.0 ≤ size) x.terms y.terms x.coordinates y.coordinates;
+  small = omega (arith, mass-append x.terms y.terms, x.small, y.small);
+}
+
+pub form-negation : (size a : ℕ) (f : Form) → IsFormUpTo size a f → IsFormUpTo size a (negation f)
+form-negation size a f x = record {
+  terms = negated_terms x.terms;
+  same = λ p. value-negated_terms x.terms p ∙ ap neg_ℤ (x.same p);
+  coordinates = every-negated size x.terms x.coordinates;
+  small = omega (arith, mass-negated x.terms, x.small);
+}
+
+-- the same form by another name, and a greater bound
+pub form_same : (size a b : ℕ) (f g : Form) → a ≤ b → ((p : ℕ → ℤ) → f p ≡ g p) → IsFormUpTo size a f → IsFormUpTo size b g
+form_same size a b f g l e x = record { terms = x.terms; same = λ p. x.same p ∙ e p; coordinates = x.coordinates; small = omega (arith, l, x.small) }
+
+-- ---- the row of a form
+
+value_linear : (size : ℕ) (ts : Terms) → Every (λ (t : ℕ × ℤ). t.0 ≤ size) ts → IsLinear (size + 1) (value ts)
+value_linear size [] e = linear_zero (size + 1)
+value_linear size (t ∷ ts) e =
+    linear-add (size + 1) (λ p. t.1 *ℤ p t.0) (value ts) (linear-scale (size + 1) t.1 (λ p. p t.0) (linear_at (size + 1) t.0 (omega (arith, e.0)))) (value_linear size ts e.1)
+
+-- a coefficient is no greater than all together
+value-small : (ts : Terms) (c : ℕ) → unsigned_abs (value ts (one_at c)) ≤ row_mass ts
+value-small [] c = omega arith
+value-small (t ∷ ts) c = sum-small (t.1 *ℤ one_at c t.0) t.1 (value ts (one_at c)) (row_mass ts) (by_test t.1 (nat_eq t.0 c)) (value-small ts c)
+  where
+    by_test : (x : ℤ) (b : Bool) → unsigned_abs (x *ℤ cond b (pos 1) (pos 0)) ≤ unsigned_abs x
+    by_test x true = omega (arith, ints)
+    by_test x false = omega (arith, ints)
+
+    sum-small : (x y z : ℤ) (m : ℕ) → unsigned_abs x ≤ unsigned_abs y → unsigned_abs z ≤ m → unsigned_abs (x +ℤ z) ≤ unsigned_abs y + m
+    sum-small x y z m h k = omega (arith, ints, h, k)
+
+-- the coefficients from a coordinate on
+dense_is : (first count : ℕ) (f p : ℕ → ℤ) → dot first f p +ℤ dense_form_from first (map f (span first count)) p ≡ dot (first + count) f p
+dense_is first zero f p = let e : first ≡ first + 0 = omega arith in plus_zero (dot first f p) ∙ ap (λ (n : ℕ). dot n f p) e
+  where
+    plus_zero : (x : ℤ) → x +ℤ pos 0 ≡ x
+    plus_zero x = omega (arith, ints)
+dense_is first (suc count) f p =
+    let e : first + 1 + count ≡ first + suc count = omega arith in
+    let next : suc first ≡ first + 1 = omega arith in
+    let rest : ℤ = dense_form_from (first + 1) (map f (span (first + 1) count)) p in
+    sum-swap (dot first f p) (f first *ℤ p first) rest ∙ ap (λ (n : ℕ). dot n f p +ℤ rest) next ∙ dense_is (first + 1) count f p ∙ ap (λ (n : ℕ). dot n f p) e
+  where
+    sum-swap : (x y z : ℤ) → x +ℤ (y +ℤ z) ≡ (y +ℤ x) +ℤ z
+    sum-swap x y z = omega (arith, ints)
+
+largest_below : (f : ℕ → ℤ) (m : ℕ) → ((c : ℕ) → unsigned_abs (f c) ≤ m) → (cs : List ℕ) → largest (map f cs) ≤ m
+largest_below f m h [] = omega arith
+largest_below f m h (c ∷ cs) = omega (arith, h c, largest_below f m h cs)
+
+length-span : (f : ℕ → ℤ) (first count : ℕ) → length (map f (span first count)) ≡ count
+length-span f first zero = refl
+length-span f first (suc count) = ap suc (length-span f (first + 1) count)
+
+module _ (s : Space) (k : IsSpace s) (form : Form) (x : IsFormUpTo (size_of s) (2 ^ 74) form) where
+  -- its value at the map that is 1 at a coordinate
+  abbrev coefficient_at : ℕ → ℤ
+  coefficient_at c = value x.terms (one_at c)
+
+  abbrev coefficients : List ℤ
+  coefficients = map coefficient_at (span 0 (suc (size_of s)))
+
+  abbrev row : Terms
+  row = terms_from 1 (map coefficient_at (span 1 (size_of s)))
+
+  all_small : largest coefficients ≤ 2 ^ 74
+  all_small = largest_below coefficient_at (2 ^ 74) (λ c. omega (arith, value-small x.terms c, x.small)) (span 0 (suc (size_of s)))
+
+  row_same : (p : ℕ → ℤ) → p 0 ≡ pos 0 → value row p ≡ form p
+  row_same p z =
+      let e : 0 + suc (size_of s) ≡ size_of s + 1 = omega arith in
+      row-value coefficients row p refl z ∙ zero_plus (dense_form_from 0 coefficients p) ∙ dense_is 0 (suc (size_of s)) coefficient_at p
+      ∙ ap (λ (n : ℕ). dot n coefficient_at p) e ∙ sym ((value_linear (size_of s) x.terms x.coordinates).sum p z) ∙ x.same p
+    where
+      zero_plus : (y : ℤ) → y ≡ pos 0 +ℤ y
+      zero_plus y = omega (arith, ints)
+
+  row_coordinates : IsUpTo (size_of s) row
+  row_coordinates = let e : length coefficients - 1 ≡ size_of s = omega (arith, length-span coefficient_at 0 (suc (size_of s))) in subst (λ (n : ℕ). IsUpTo n row) e (row_up_to coefficients row refl)
+
+  row_is_canonical : IsCanonical row
+  row_is_canonical = row_canonical coefficients row refl (omega (arith, all_small))
+
+  size_few : size_of s + 1 ≤ 2 ^ 11
+  size_few = omega (arith, k.few_rates, powers s.variables k.few)
+    where
+      powers : (n : ℕ) → n ≤ 10 → 2 ^ n ≤ 2 ^ 10
+      powers n h = pow-le-pow_right (lit< tt) h
+
+  row_is_small : IsSmall row
+  row_is_small =
+      let fit : IsNoLarger coefficients row = row_no_larger coefficients row refl in
+      record {
+        few = omega (arith, fit.few, length-span coefficient_at 0 (suc (size_of s)), size_few);
+        each = All-weaker (λ (t : ℕ × ℤ). unsigned_abs t.1 ≤ largest coefficients) (λ (t : ℕ × ℤ). unsigned_abs t.1 ≤ 2 ^ 74) (λ t h. omega (arith, h, all_small)) row fit.each;
+      }
+
+  -- the form has its canonical row
+  pub row_there : (ts : Terms) × IsRowOf s form ts
+  row_there = (row, record { same = row_same; coordinates = row_coordinates; canonical = row_is_canonical; small = row_is_small })
