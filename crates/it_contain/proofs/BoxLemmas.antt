@@ -30,6 +30,12 @@ begun_more pending plan f xs ps i b d lt is at set_to begun =
 pub later_kept : {B L : Type 0} (pending : B → L) (xs : List B) (i : ℕ) (b : B) → drop (i + 1) (map pending (set xs i b)) ≡ drop (i + 1) (map pending xs)
 later_kept pending xs i b = ap (drop (i + 1)) (map-set pending xs i b) ∙ drop-set-lt (i + 1) (map pending xs) i (pending b) (omega arith)
 
+-- what is left of two lists is one: their members there are one
+pub member_same : {A : Type 0} (xs ys : List A) (i : ℕ) (d : A) → drop i xs ≡ drop i ys → get_or xs i d ≡ get_or ys i d
+member_same xs ys i d same =
+    let zero_on : i + 0 ≡ i = omega arith in
+    ap (λ k. get_or xs k d) (sym zero_on) ∙ sym (get_or-drop i xs 0 d) ∙ ap (λ zs. get_or zs 0 d) same ∙ get_or-drop i ys 0 d ∙ ap (λ k. get_or ys k d) zero_on
+
 -- the first i plans have learned, and one more does
 pub learned_more : {B P : Type 0} (plan : B → P) (f : P → P) (xs : List B) (ps : List P) (i : ℕ) (b d : B)
     → i < length xs → i < length ps → d ≡ get_or xs i d → plan b ≡ f (plan d)
@@ -39,11 +45,7 @@ pub learned_more : {B P : Type 0} (plan : B → P) (f : P → P) (xs : List B) (
 learned_more plan f xs ps i b d lt enough at learns rest so_far =
     let long : i < length (map plan xs) = omega (arith, length-map xs plan) in
     let far : i < length (map f ps) = omega (arith, length-map ps f) in
-    let zero_on : i + 0 ≡ i = omega arith in
-    let same : get_or ps i (plan d) ≡ get_or (map plan xs) i (plan d) =
-    ap (λ k. get_or ps k (plan d)) (sym zero_on) ∙ sym (get_or-drop i ps 0 (plan d)) ∙ ap (λ zs. get_or zs 0 (plan d)) (sym rest)
-    ∙ get_or-drop i (map plan xs) 0 (plan d) ∙ ap (λ k. get_or (map plan xs) k (plan d)) zero_on in
-    let its_plan : get_or ps i (plan d) ≡ plan d = same ∙ get_or-map plan xs i d (plan d) lt ∙ ap plan (sym at) in
+    let its_plan : get_or ps i (plan d) ≡ plan d = sym (member_same (map plan xs) ps i (plan d) rest) ∙ get_or-map plan xs i d (plan d) lt ∙ ap plan (sym at) in
     let its_new : get_or (map f ps) i (plan b) ≡ plan b = get_or-map f ps i (plan d) (plan b) enough ∙ ap f its_plan ∙ sym learns in
     ap (take (i + 1)) (map-set plan xs i b) ∙ take_more_set (map plan xs) i (plan b) long
     ∙ ap (λ zs. zs ++ plan b ∷ []) so_far ∙ ap (λ z. take i (map f ps) ++ z ∷ []) (sym its_new) ∙ sym (take_more (map f ps) i (plan b) far)

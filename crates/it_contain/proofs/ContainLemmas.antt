@@ -1,22 +1,17 @@
 -- The list `first` and the lists of boxes, one after the other.
 use Rattle.std.proofs.Common.{◌≡◌, ℕ, ◌+◌, ◌-◌, ◌<◌, ◌≤◌, List, [], ◌∷◌, ◌++◌, length, get_or, take, drop, map, ap, sym, subst, ◌∙◌, arith, append_assoc, append-nil}
-use Rattle.std.proofs.lemmas.List.{take-append-drop, take_more, drop_more, take_all, get_or-drop}
+use Rattle.std.proofs.lemmas.List.{take-append-drop, take_more, drop_more, take_all}
 use Rattle.std.proofs.lemmas.Grind.{flat_map-append}
 use Rattle.it_contain.specs.declared.types.Shape.{Shape}
 use Rattle.it_region.specs.declared.types.Candidate.{Candidate}
 use Rattle.it_contain.specs.declared.types.Contained.{Contained}
 use Rattle.it_contain.specs.declared.types.Contained.TheVariants.{Found, Open}
 use Rattle.it_contain.specs.Proposals.{Plan, plan_after}
-use Rattle.it_contain.specs.Search.{Goal, Proofs, IsProof, IsFirst, IsOpen, Ends, joined_lists, lists_of, plan_of}
+use Rattle.it_contain.specs.Search.{Goal, Proofs, IsProof, IsFirstProved, IsOpen, SearchEnds, joined_lists, lists_of, plan_of}
 use Rattle.it_contain.specs.SearchSteps.{KeepsLater}
+use Rattle.it_contain.proofs.BoxLemmas.{member_same}
 use Rattle.it_contain.proofs.SearchLemmas.{first_front, first_later}
 use Rattle.it_contain.proofs.OpenLemmas.{open_more}
-
--- what is left of two lists is one: their members there are one
-pub member_same : {A : Type 0} (xs ys : List A) (i : ℕ) (d : A) → drop i xs ≡ drop i ys → get_or xs i d ≡ get_or ys i d
-member_same xs ys i d same =
-    let zero_on : i + 0 ≡ i = omega arith in
-    ap (λ k. get_or xs k d) (sym zero_on) ∙ sym (get_or-drop i xs 0 d) ∙ ap (λ zs. get_or zs 0 d) same ∙ get_or-drop i ys 0 d ∙ ap (λ k. get_or ys k d) zero_on
 
 pub joined_parts : (ls : List (List Candidate)) (i : ℕ) → i < length ls → joined_lists ls ≡ joined_lists (take i ls) ++ (get_or ls i [] ++ joined_lists (drop (i + 1) ls))
 joined_parts ls i lt =
@@ -27,26 +22,26 @@ joined_more ls i lt =
     ap joined_lists (take_more ls i [] lt) ∙ flat_map-append (λ xs. xs) (take i ls) (get_or ls i [] ∷ []) ∙ ap (λ zs. joined_lists (take i ls) ++ zs) (append-nil (get_or ls i []))
 
 pub found_at_once : (goal : Goal) (tries : ℕ) (first : List Candidate) (shape : Shape) (plans plans_after plans_first : List Plan) (c : Candidate) (w : Proofs) (r : Contained)
-    → Ends goal tries first plans r plans_after → r ≡ Found c w → plans ≡ plans_first
-    → IsFirst goal tries (plan_of first plans_first shape) c × IsProof goal c w × (plans_after ≡ map (plan_after c) plans_first)
+    → SearchEnds goal tries first plans r plans_after → r ≡ Found c w → plans ≡ plans_first
+    → IsFirstProved goal tries (plan_of first plans_first shape) c × IsProof goal c w × (plans_after ≡ map (plan_after c) plans_first)
 unfolding plan_of
 found_at_once goal tries first shape plans plans_after plans_first c w r ends is same =
-    let now : Ends goal tries first plans (Found c w) plans_after = subst (λ z. Ends goal tries first plans z plans_after) is ends in
+    let now : SearchEnds goal tries first plans (Found c w) plans_after = subst (λ z. SearchEnds goal tries first plans z plans_after) is ends in
     (first_front goal tries first (joined_lists (lists_of shape plans_first)) c now.0, now.1, now.2 ∙ ap (map (plan_after c)) same)
 
 pub found_in_box : (goal : Goal) (tries : ℕ) (first : List Candidate) (shape : Shape) (plans plans_after plans_first : List Plan) (lists : List (List Candidate)) (i t : ℕ) (c : Candidate) (w : Proofs) (r : Contained)
     → i < length (lists_of shape plans_first) → drop i lists ≡ drop i (lists_of shape plans_first) → plans ≡ plans_first
     → IsOpen goal tries (first ++ joined_lists (take i (lists_of shape plans_first))) t
-    → Ends goal (tries - t) (get_or lists i []) plans r plans_after → r ≡ Found c w
-    → IsFirst goal tries (plan_of first plans_first shape) c × IsProof goal c w × (plans_after ≡ map (plan_after c) plans_first)
+    → SearchEnds goal (tries - t) (get_or lists i []) plans r plans_after → r ≡ Found c w
+    → IsFirstProved goal tries (plan_of first plans_first shape) c × IsProof goal c w × (plans_after ≡ map (plan_after c) plans_first)
 unfolding plan_of
 found_in_box goal tries first shape plans plans_after plans_first lists i t c w r lt left same o ends is =
-    let now : Ends goal (tries - t) (get_or lists i []) plans (Found c w) plans_after = subst (λ z. Ends goal (tries - t) (get_or lists i []) plans z plans_after) is ends in
-    let own : IsFirst goal (tries - t) (get_or (lists_of shape plans_first) i []) c = subst (λ zs. IsFirst goal (tries - t) zs c) (member_same lists (lists_of shape plans_first) i [] left) now.0 in
+    let now : SearchEnds goal (tries - t) (get_or lists i []) plans (Found c w) plans_after = subst (λ z. SearchEnds goal (tries - t) (get_or lists i []) plans z plans_after) is ends in
+    let own : IsFirstProved goal (tries - t) (get_or (lists_of shape plans_first) i []) c = subst (λ zs. IsFirstProved goal (tries - t) zs c) (member_same lists (lists_of shape plans_first) i [] left) now.0 in
     let parts : first ++ joined_lists (lists_of shape plans_first) ≡ (first ++ joined_lists (take i (lists_of shape plans_first))) ++ (get_or (lists_of shape plans_first) i [] ++ joined_lists (drop (i + 1) (lists_of shape plans_first))) =
     ap (λ zs. first ++ zs) (joined_parts (lists_of shape plans_first) i lt) ∙ sym (append_assoc first _ _) in
-    let all : IsFirst goal tries (first ++ joined_lists (lists_of shape plans_first)) c =
-    subst (λ zs. IsFirst goal tries zs c) (sym parts) (first_later goal tries _ _ t c o (first_front goal (tries - t) _ (joined_lists (drop (i + 1) (lists_of shape plans_first))) c own)) in
+    let all : IsFirstProved goal tries (first ++ joined_lists (lists_of shape plans_first)) c =
+    subst (λ zs. IsFirstProved goal tries zs c) (sym parts) (first_later goal tries _ _ t c o (first_front goal (tries - t) _ (joined_lists (drop (i + 1) (lists_of shape plans_first))) c own)) in
     (all, now.1, now.2 ∙ ap (map (plan_after c)) same)
 
 pub open_at_first : (goal : Goal) (tries : ℕ) (first : List Candidate) (ls : List (List Candidate)) (t : ℕ)
@@ -70,9 +65,9 @@ open_at_end goal tries first shape plans i t few o = subst (λ zs. IsOpen goal t
 pub open_within : (goal : Goal) (tries t : ℕ) (xs : List Candidate) → IsOpen goal tries xs t → t ≤ tries
 open_within goal tries t xs o = let is = o.tried_is in omega (arith, is)
 
-pub opens : (goal : Goal) (tries : ℕ) (xs : List Candidate) (plans plans_after : List Plan) (r : Contained) (t : ℕ)
-    → Ends goal tries xs plans r plans_after → r ≡ Open t → IsOpen goal tries xs t × (plans_after ≡ plans)
-opens goal tries xs plans plans_after r t ends is = subst (λ z. Ends goal tries xs plans z plans_after) is ends
+pub open_end : (goal : Goal) (tries : ℕ) (xs : List Candidate) (plans plans_after : List Plan) (r : Contained) (t : ℕ)
+    → SearchEnds goal tries xs plans r plans_after → r ≡ Open t → IsOpen goal tries xs t × (plans_after ≡ plans)
+open_end goal tries xs plans plans_after r t ends is = subst (λ z. SearchEnds goal tries xs plans z plans_after) is ends
 
-pub keeps : (r : Contained) (t : ℕ) (later later_after : List (List Candidate)) → KeepsLater r later later_after → r ≡ Open t → later_after ≡ later
-keeps r t later later_after kept is = subst (λ z. KeepsLater z later later_after) is kept
+pub open_keeps_later : (r : Contained) (t : ℕ) (later later_after : List (List Candidate)) → KeepsLater r later later_after → r ≡ Open t → later_after ≡ later
+open_keeps_later r t later later_after kept is = subst (λ z. KeepsLater z later later_after) is kept

@@ -1,4 +1,3 @@
-pub mod PowerLemmas
 pub mod TupleLemmas
 pub mod CandidateLemmas
 pub mod BoxLemmas

@@ -12,15 +12,15 @@ use Rattle.it_question.specs.Questions.{RegionView, BodyView}
 use Rattle.it_canon.specs.Demands.{AreStated}
 use Rattle.it_canon.specs.QuestionDemands.{question_demands}
 use Rattle.it_canon.proofs.UniqueRows.{zip-told, one_constraint_list}
-use Rattle.it_prove.specs.ProofViews.{Yes}
+use Rattle.it_prove.specs.ProofViews.{Yes, EndsWith, AreProofsOf}
 use Rattle.it_prove.proofs.ProofLemmas.{one_outcome}
 use Rattle.it_region.specs.declared.types.Candidate.{Candidate}
 use Rattle.it_region.specs.declared.types.Pair.{Pair}
 use Rattle.it_region.specs.Obligations.{own_demands, constraint_obligations, ArePulledRows}
 use Rattle.it_region.specs.Pairs.{IsPairOf, Fits, pair_obligations}
-use Rattle.it_region.specs.Pulling.{sets_of, place}
+use Rattle.it_region.specs.Pulling.{substituted_sets, pulled_coordinate}
 use Rattle.it_region.proofs.TextLemmas.{pulled_rows_told}
-use Rattle.it_contain.specs.Search.{Goal, goal_of, IsProofOf, AreProofsOf, IsProofBy, IsProved, IsUnproved, IsFirst, IsOpen}
+use Rattle.it_contain.specs.Search.{Goal, goal_of, IsProofBy, IsProved, IsUnproved, IsFirstProved, IsOpen}
 use Rattle.it_contain.specs.Shapes.{shape_of}
 
 -- ---- one goal
@@ -38,7 +38,7 @@ one_of_list goal (x ∷ xs) [] us vs c d e a b p q = absurd (All-head (IsUnprove
 one_of_list goal (x ∷ xs) (y ∷ ys) us vs c d e a b p q =
     one_of_list goal xs ys us vs c d (tails x y (xs ++ c ∷ us) (ys ++ d ∷ vs) e) (All-tail (IsUnproved goal) x xs a) (All-tail (IsUnproved goal) y ys b) p q
 
-pub one_first : (goal : Goal) (tries : ℕ) (plan : List Candidate) (c d : Candidate) → IsFirst goal tries plan c → IsFirst goal tries plan d → c ≡ d
+pub one_first : (goal : Goal) (tries : ℕ) (plan : List Candidate) (c d : Candidate) → IsFirstProved goal tries plan c → IsFirstProved goal tries plan d → c ≡ d
 one_first goal tries plan c d f g = one_of_list goal f.before g.before f.after g.after c d (sym f.parts ∙ g.parts) f.unproved g.unproved f.proved g.proved
 
 tried_unproved : (goal : Goal) (tries : ℕ) (xs us : List Candidate) (c : Candidate) → length xs < tries → All (IsUnproved goal) (take tries (xs ++ c ∷ us)) → IsUnproved goal c
@@ -46,14 +46,14 @@ tried_unproved goal zero xs us c l a = absurd (omega arith)
 tried_unproved goal (suc tries) [] us c l a = All-head (IsUnproved goal) c (take tries us) a
 tried_unproved goal (suc tries) (x ∷ xs) us c l a = tried_unproved goal tries xs us c (omega arith) (All-tail (IsUnproved goal) x (take tries (xs ++ c ∷ us)) a)
 
-pub first_not_open : (goal : Goal) (tries : ℕ) (plan : List Candidate) (c : Candidate) (t : ℕ) → IsFirst goal tries plan c → IsOpen goal tries plan t → ⊥
+pub first_not_open : (goal : Goal) (tries : ℕ) (plan : List Candidate) (c : Candidate) (t : ℕ) → IsFirstProved goal tries plan c → IsOpen goal tries plan t → ⊥
 first_not_open goal tries plan c t f o = tried_unproved goal tries f.before f.after c f.within (subst (λ (cs : List Candidate). All (IsUnproved goal) (take tries cs)) f.parts o.unproved) f.proved
 
 pub one_open : (goal : Goal) (tries : ℕ) (plan : List Candidate) (t u : ℕ) → IsOpen goal tries plan t → IsOpen goal tries plan u → t ≡ u
 one_open goal tries plan t u o p = o.tried_is ∙ sym p.tried_is
 
-one_proof : (q : ProblemView) (budget : Option ℕ) (target : Terms) (w v : CertificateView) → IsProofOf q budget target w → IsProofOf q budget target v → w ≡ v
-one_proof q budget target w v a b = inside (one_outcome q target budget (Yes w) (Yes v) a.due b.due)
+one_proof : (q : ProblemView) (budget : Option ℕ) (target : Terms) (w v : CertificateView) → EndsWith q target budget (Yes w) → EndsWith q target budget (Yes v) → w ≡ v
+one_proof q budget target w v a b = inside (one_outcome q target budget (Yes w) (Yes v) a b)
   where
     inside : Yes w ≡ Yes v → w ≡ v
     inside e = cc
@@ -61,13 +61,13 @@ one_proof q budget target w v a b = inside (one_outcome q target budget (Yes w) 
 pub one_proof_list : (goal : Goal) (c : Candidate) (ws vs : List CertificateView) → IsProofBy goal c ws → IsProofBy goal c vs → ws ≡ vs
 one_proof_list goal c ws vs a b =
     let same : b.rows ≡ a.rows = pulled_rows_told goal.pair.first.space (pair_obligations goal.pair c) b.rows a.rows b.are a.are in
-    zip-told (IsProofOf (problem_view goal.pair.first) goal.budget) (one_proof (problem_view goal.pair.first) goal.budget) a.rows ws vs a.proofs
+    zip-told (λ t w. EndsWith (problem_view goal.pair.first) t goal.budget (Yes w)) (one_proof (problem_view goal.pair.first) goal.budget) a.rows ws vs a.proofs
     (subst (λ (rows : List Terms). AreProofsOf (problem_view goal.pair.first) goal.budget rows vs) same b.proofs)
 
 -- ---- two pairs of one question's regions
 
 abbrev obligations_by : ℕ → ℕ → ℕ → List ℕ → List Constraint → List Form
-obligations_by n m common parts cs = constraint_obligations (λ c. place n m (sets_of common parts) c) cs
+obligations_by n m common parts cs = constraint_obligations (λ c. pulled_coordinate n m (substituted_sets common parts) c) cs
 
 module _ (q : BodyView) (a b : RegionView) (p r : Pair) (o : IsPairOf q a b p) (s : IsPairOf q a b r) where
   first_space : p.first.space ≡ r.first.space
@@ -125,7 +125,7 @@ pub unproved_for_other : (q : BodyView) (a b : RegionView) (p r : Pair) → IsPa
 unproved_for_other q a b p r o s budget cs u = All-weaker (IsUnproved (goal_of p budget)) (IsUnproved (goal_of r budget)) (λ c n h. n (proved_for_other q a b r p s o budget c h)) cs u
 
 pub first_of_other : (q : BodyView) (a b : RegionView) (p r : Pair) → IsPairOf q a b p → IsPairOf q a b r → (budget : Option ℕ) (tries : ℕ) (plan : List Candidate) (c : Candidate)
-    → IsFirst (goal_of p budget) tries plan c → IsFirst (goal_of r budget) tries plan c
+    → IsFirstProved (goal_of p budget) tries plan c → IsFirstProved (goal_of r budget) tries plan c
 first_of_other q a b p r o s budget tries plan c f = record {
   before = f.before;
   after = f.after;

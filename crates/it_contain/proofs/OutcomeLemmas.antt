@@ -11,8 +11,8 @@ use Rattle.it_space.specs.declared.answers.Certificate.{Certificate}
 use Rattle.it_space.specs.Answers.{CertificateView, certificate_view}
 use Rattle.it_space.specs.Problems.{ProblemView}
 use Rattle.it_space.specs.Rows.{Terms}
+use Rattle.it_prove.specs.ProofViews.{Yes, EndsWith}
 use Rattle.it_contain.specs.declared.outcomes.Outcomes.{Outcomes}
-use Rattle.it_contain.specs.Search.{IsProofOf}
 use Rattle.it_contain.specs.SearchSteps.{ProvesOne, AreOutcomes}
 
 -- an outcome says the same once it is copied
@@ -20,7 +20,7 @@ pub same_outcome : (q : ProblemView) (budget : Option ℕ) (t : Terms) (o p : Op
 same_outcome q budget t None None e h = h
 same_outcome q budget t None (Some c) e h = absurd (cc)
 same_outcome q budget t (Some c) None e h = absurd (cc)
-same_outcome q budget t (Some c) (Some d) e h = subst (λ (w : CertificateView). IsProofOf q budget t w) (sym (inside e)) h
+same_outcome q budget t (Some c) (Some d) e h = subst (λ (w : CertificateView). EndsWith q t budget (Yes w)) (sym (inside e)) h
   where
     inside : Some (certificate_view c) ≡ Some (certificate_view d) → certificate_view c ≡ certificate_view d
     inside e = cc
@@ -28,8 +28,8 @@ same_outcome q budget t (Some c) (Some d) e h = subst (λ (w : CertificateView).
 -- ---- equal rows
 
 -- how the terms of rows are compared
-abbrev pub Compares : (ℕ × ℤ → ℕ × ℤ → Bool) → Type 0
-Compares eq = (s t : ℕ × ℤ) → eq s t ≡ (nat_eq s.0 t.0 && int_eq s.1 t.1)
+abbrev pub ComparesTerms : (ℕ × ℤ → ℕ × ℤ → Bool) → Type 0
+ComparesTerms eq = (s t : ℕ × ℤ) → eq s t ≡ (nat_eq s.0 t.0 && int_eq s.1 t.1)
 
 both : (a b : Bool) → (a && b) ≡ true → (a ≡ true) × (b ≡ true)
 both true true e = (refl, refl)
@@ -41,7 +41,7 @@ same_term s t e =
     let h = both (nat_eq s.0 t.0) (int_eq s.1 t.1) e in
     ap₂ (λ c x. (c, x)) ((Decides-eqb s.0 t.0).0 h.0) ((Decides-int_eq s.1 t.1).0 h.1)
 
-same_terms : (eq : ℕ × ℤ → ℕ × ℤ → Bool) → Compares eq → (xs ys : Terms) → pointwise eq xs ys ≡ true → xs ≡ ys
+same_terms : (eq : ℕ × ℤ → ℕ × ℤ → Bool) → ComparesTerms eq → (xs ys : Terms) → pointwise eq xs ys ≡ true → xs ≡ ys
 same_terms eq is [] [] e = refl
 same_terms eq is [] (y ∷ ys) e = absurd (cc)
 same_terms eq is (x ∷ xs) [] e = absurd (cc)
@@ -86,13 +86,13 @@ pub empty_outcomes : (q : ProblemView) (budget : Option ℕ) (m : Outcomes) → 
 unfolding AreOutcomes
 empty_outcomes q budget m e = subst (λ (es : List Entry). All (λ x. ProvesOne q budget x.0.items x.1) es) (sym e) (All-nil _)
 
-pub one_outcome_more : (q : ProblemView) (budget : Option ℕ) (eq : ℕ × ℤ → ℕ × ℤ → Bool) → Compares eq → (m n : Outcomes) (v : Row) (o : Option Certificate)
+pub one_outcome_more : (q : ProblemView) (budget : Option ℕ) (eq : ℕ × ℤ → ℕ × ℤ → Bool) → ComparesTerms eq → (m n : Outcomes) (v : Row) (o : Option Certificate)
     → n.by_row.entries ≡ insert_entry (λ x y. pointwise eq x.items y.items) m.by_row.entries v o → AreOutcomes q budget m → ProvesOne q budget v.items o → AreOutcomes q budget n
 unfolding AreOutcomes
 one_outcome_more q budget eq is m n v o e r h =
     subst (λ (es : List Entry). All (λ x. ProvesOne q budget x.0.items x.1) es) (sym e) (kept q budget (λ x y. pointwise eq x.items y.items) v (λ w t. same_terms eq is v.items w.items t) o m.by_row.entries r h)
 
-pub outcome_of_row : (q : ProblemView) (budget : Option ℕ) (eq : ℕ × ℤ → ℕ × ℤ → Bool) → Compares eq → (m : Outcomes) (t : Terms) (o : Option Certificate)
+pub outcome_of_row : (q : ProblemView) (budget : Option ℕ) (eq : ℕ × ℤ → ℕ × ℤ → Bool) → ComparesTerms eq → (m : Outcomes) (t : Terms) (o : Option Certificate)
     → Some o ≡ lookup (λ v. pointwise eq t v.items) m.by_row.entries → AreOutcomes q budget m → ProvesOne q budget t o
 unfolding AreOutcomes
 outcome_of_row q budget eq is m t o e r = found q budget (λ v. pointwise eq t v.items) t (λ v h. same_terms eq is t v.items h) m.by_row.entries o r (sym e)

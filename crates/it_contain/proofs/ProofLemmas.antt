@@ -8,27 +8,21 @@ use Rattle.it_space.specs.Problems.{ProblemView, problem_view}
 use Rattle.it_space.specs.Rows.{Terms}
 use Rattle.it_prove.specs.declared.types.Proof.{Proof}
 use Rattle.it_prove.specs.declared.types.Proof.TheVariants as proofs
-use Rattle.it_prove.specs.ProofViews.{ProofView, Yes, No, Undecided, proof_view, EndsWith, IsRightProof}
+use Rattle.it_prove.specs.ProofViews.{ProofView, Yes, No, Undecided, proof_view, EndsWith, AreProofsOf}
 use Rattle.it_prove.proofs.ProofLemmas.{one_outcome}
 use Rattle.it_region.specs.declared.types.Candidate.{Candidate}
 use Rattle.it_region.specs.Obligations.{ArePulledRows}
 use Rattle.it_region.specs.Pairs.{Fits, pair_obligations}
 use Rattle.it_region.proofs.TextLemmas.{pulled_rows_told}
-use Rattle.it_contain.specs.Search.{Goal, IsProofOf, AreProofsOf, IsProof, IsProved, Proofs, proof_views}
+use Rattle.it_contain.specs.Search.{Goal, IsProof, IsProved, Proofs, proof_views}
 use Rattle.it_contain.specs.SearchSteps.{ProvesOne, ProvesAll, Judges}
 
 -- ---- one target
 
 not_due : (q : ProblemView) (t : Terms) (budget : Option ℕ) (o : ProofView) → EndsWith q t budget o → ((v : CertificateView) → o ≡ Yes v → ⊥) → ProvesOne q budget t None
-not_due q t budget o e n w p = n w (one_outcome q t budget o (Yes w) e p.due)
+not_due q t budget o e n w p = n w (one_outcome q t budget o (Yes w) e p)
 
 module _ (q : ProblemView) (t : Terms) (budget : Option ℕ) (p : Proof) (end : EndsWith q t budget (proof_view p)) where
-  pub yes_proves : (c : Certificate) → IsRightProof q t (proof_view p) → p ≡ proofs.Yes c → ProvesOne q budget t (Some c)
-  yes_proves c right is = record {
-    due = subst (λ (x : Proof). EndsWith q t budget (proof_view x)) is end;
-    right = subst (λ (x : Proof). IsRightProof q t (proof_view x)) is right;
-  }
-
   pub no_proves : (values : List ℤ) → p ≡ proofs.No values → ProvesOne q budget t None
   no_proves values is = not_due q t budget (proof_view p) end (λ v e. apart v (sym (ap proof_view is) ∙ e))
     where
@@ -47,7 +41,7 @@ module _ (q : ProblemView) (t : Terms) (budget : Option ℕ) (p : Proof) (end : 
 pub record AreUnderWay (q : ProblemView) (budget : Option ℕ) (ts : List Terms) (found : List CertificateView) (i : ℕ) : Type 0 where
   pub all : (more : List CertificateView) → AreProofsOf q budget (drop i ts) more → AreProofsOf q budget ts (found ++ more)
 
-pub proofs_more : (q : ProblemView) (budget : Option ℕ) (ts : List Terms) (old new : Proofs) (i : ℕ) (t : Terms) (c : Certificate) → i < length ts → t ≡ get_or ts i t → IsProofOf q budget t (certificate_view c)
+pub proofs_more : (q : ProblemView) (budget : Option ℕ) (ts : List Terms) (old new : Proofs) (i : ℕ) (t : Terms) (c : Certificate) → i < length ts → t ≡ get_or ts i t → EndsWith q t budget (Yes (certificate_view c))
     → new.items ≡ old.items ++ c ∷ [] → AreUnderWay q budget ts (proof_views old) i → AreUnderWay q budget ts (proof_views new) (i + 1)
 proofs_more q budget ts old new i t c l is p e u = record {
   all = λ more a.
@@ -65,10 +59,10 @@ pub proofs_end : (q : ProblemView) (budget : Option ℕ) (ts : List Terms) (foun
 proofs_end q budget ts found i l u = subst (λ (ws : List CertificateView). AreProofsOf q budget ts ws) (append-nil found) (u.all [] (subst (λ (xs : List Terms). AreProofsOf q budget xs []) (sym (drop_all i ts l)) tt))
 
 -- where all are proved, each is
-each_proof : (q : ProblemView) (budget : Option ℕ) (ts : List Terms) (ws : List CertificateView) (i : ℕ) (t : Terms) → i < length ts → t ≡ get_or ts i t → AreProofsOf q budget ts ws → (w : CertificateView) × IsProofOf q budget t w
+each_proof : (q : ProblemView) (budget : Option ℕ) (ts : List Terms) (ws : List CertificateView) (i : ℕ) (t : Terms) → i < length ts → t ≡ get_or ts i t → AreProofsOf q budget ts ws → (w : CertificateView) × EndsWith q t budget (Yes w)
 each_proof q budget [] ws i t l is a = absurd (omega arith)
 each_proof q budget (x ∷ xs) [] i t l is a = absurd a
-each_proof q budget (x ∷ xs) (w ∷ ws) zero t l is a = (w, subst (λ (y : Terms). IsProofOf q budget y w) (sym is) a.0)
+each_proof q budget (x ∷ xs) (w ∷ ws) zero t l is a = (w, subst (λ (y : Terms). EndsWith q y budget (Yes w)) (sym is) a.0)
 each_proof q budget (x ∷ xs) (w ∷ ws) (suc i) t l is a = each_proof q budget xs ws i t (omega arith) is a.1
 
 pub none_at : (q : ProblemView) (budget : Option ℕ) (ts : List Terms) (i : ℕ) (t : Terms) → i < length ts → t ≡ get_or ts i t → ProvesOne q budget t None → ProvesAll q budget ts None

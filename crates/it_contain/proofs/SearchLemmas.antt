@@ -5,7 +5,7 @@ use Rattle.std.proofs.Math.Seq.{take-append_seam}
 use Rattle.std.proofs.lemmas.List.{take_all}
 use Rattle.std.proofs.lemmas.List.Elements.{All-nil, All-append, All-push, All-same}
 use Rattle.it_region.specs.declared.types.Candidate.{Candidate}
-use Rattle.it_contain.specs.Search.{Goal, Proofs, proof_views, IsProof, IsProved, IsUnproved, IsFirst, IsOpen}
+use Rattle.it_contain.specs.Search.{Goal, Proofs, proof_views, IsProof, IsProved, IsUnproved, IsFirstProved, IsOpen}
 use Rattle.it_contain.specs.SearchSteps.{IsPast}
 
 pub passed_first : (goal : Goal) (xs : List Candidate) → IsPast goal xs xs 0
@@ -21,7 +21,7 @@ passed_more goal whole rest rest_after c t p is not = record {
 }
 
 pub passed_found : (goal : Goal) (tries : ℕ) (whole rest rest_after : List Candidate) (c : Candidate) (t : ℕ) (w : Proofs)
-    → IsPast goal whole rest t → rest ≡ c ∷ rest_after → IsProof goal c w → t < tries → IsFirst goal tries whole c
+    → IsPast goal whole rest t → rest ≡ c ∷ rest_after → IsProof goal c w → t < tries → IsFirstProved goal tries whole c
 unfolding IsProved IsProof
 passed_found goal tries whole rest rest_after c t w p is proof lt = record {
   before = p.passed;
@@ -53,7 +53,7 @@ passed_all goal whole rest t p =
     }
 
 -- what was found in a front is found in the whole
-pub first_front : (goal : Goal) (tries : ℕ) (xs ys : List Candidate) (c : Candidate) → IsFirst goal tries xs c → IsFirst goal tries (xs ++ ys) c
+pub first_front : (goal : Goal) (tries : ℕ) (xs ys : List Candidate) (c : Candidate) → IsFirstProved goal tries xs c → IsFirstProved goal tries (xs ++ ys) c
 first_front goal tries xs ys c f = record {
   before = f.before;
   after = f.after ++ ys;
@@ -71,7 +71,7 @@ open_whole goal tries xs t o lt =
     let long : length xs ≤ tries = omega (arith, is) in
     (All-same (IsUnproved goal) _ _ (sym (take_all tries xs long)) o.unproved, n)
 
-pub first_later : (goal : Goal) (tries : ℕ) (xs ys : List Candidate) (t : ℕ) (c : Candidate) → IsOpen goal tries xs t → IsFirst goal (tries - t) ys c → IsFirst goal tries (xs ++ ys) c
+pub first_later : (goal : Goal) (tries : ℕ) (xs ys : List Candidate) (t : ℕ) (c : Candidate) → IsOpen goal tries xs t → IsFirstProved goal (tries - t) ys c → IsFirstProved goal tries (xs ++ ys) c
 first_later goal tries xs ys t c o f =
     let within = f.within in
     let lt : t < tries = omega arith in

@@ -2,7 +2,7 @@
 use Rattle.std.proofs.Common.{◌≡◌, ℕ, ◌+◌, ◌<◌, List, [], ◌∷◌, get_or, map, ap, sym, subst, ◌∙◌, Option, Some, None}
 use Rattle.it_region.specs.declared.types.Candidate.{Candidate}
 use Rattle.it_contain.specs.Proposals.{Plan, plan_after}
-use Rattle.it_contain.specs.Search.{Goal, Proofs, IsProof, IsUnproved, IsFirst}
+use Rattle.it_contain.specs.Search.{Goal, Proofs, IsProof, IsUnproved, IsFirstProved}
 use Rattle.it_contain.specs.SearchSteps.{IsPast, Tries}
 use Rattle.it_contain.proofs.SearchLemmas.{passed_found, passed_more}
 
@@ -10,7 +10,7 @@ pub try_finds : (goal : Goal) (tries : ℕ) (whole rest rest_after : List Candid
     (lists : List (List Candidate)) (plans : List Plan) (lists_after : List (List Candidate)) (plans_after plans_first : List Plan)
     → Tries goal c o lists plans lists_after plans_after → o ≡ Some w
     → IsPast goal whole rest t → rest ≡ c ∷ rest_after → t < tries → plans ≡ plans_first
-    → IsFirst goal tries whole c × IsProof goal c w × (plans_after ≡ map (plan_after c) plans_first)
+    → IsFirstProved goal tries whole c × IsProof goal c w × (plans_after ≡ map (plan_after c) plans_first)
 try_finds goal tries whole rest rest_after c t w o lists plans lists_after plans_after plans_first tries_it is passed parts lt same =
     let now : Tries goal c (Some w) lists plans lists_after plans_after = subst (λ z. Tries goal c z lists plans lists_after plans_after) is tries_it in
     (passed_found goal tries whole rest rest_after c t w passed parts now.0 lt, now.0, now.1 ∙ ap (map (plan_after c)) same)

@@ -2,7 +2,7 @@
 use Rattle.std.proofs.Common.{◌≡◌, ℕ, suc, zero, ◌+◌, ◌*◌, ◌^◌, ◌/◌, ◌%◌, ◌<◌, ◌≤◌, List, [], ◌∷◌, ◌++◌, length, get_or, take, map, refl, ap, sym, subst, ◌∙◌, arith, lit<, append-nil, add-one, length-append}
 use Rattle.std.specs.List.{flat_map}
 use Rattle.std.proofs.lemmas.Nat.{pow_pos}
-use Rattle.std.proofs.Math.Nat.{div-lt_iff_lt-mul, mod-lt, mod-add-div', pow-le-pow_right, pow-suc, pow-succ', pow-zero}
+use Rattle.std.proofs.Math.Nat.{div-lt_iff_lt-mul, mod-lt, mod-add-div', pow-le-pow_left, pow-le-pow_right, pow-suc, pow-succ', pow-zero}
 use Rattle.std.proofs.lemmas.List.{map-append, length-map, length-take-le, get_or-map}
 use Rattle.std.proofs.lemmas.List.Concat.{get_or-flat_map}
 use Rattle.std.proofs.lemmas.Grind.{flat_map-append}
@@ -11,9 +11,6 @@ use Rattle.it_polymatroid.specs.Elementals.{span}
 use Rattle.it_elemental.proofs.Spans.{length-span, get_or-span}
 use Rattle.it_contain.specs.Shapes.{tuples, small_sets, all_sets}
 use Rattle.it_contain.specs.Digits.{digits, tuple_at}
-
-snoc : List ℕ → ℕ → List ℕ
-snoc t y = t ++ y ∷ []
 
 cons_inside : (xs : List ℕ) (x : ℕ) (ts : List (List ℕ))
     → map (λ t. x ∷ t) (flat_map (λ t. map (λ y. t ++ y ∷ []) xs) ts) ≡ flat_map (λ t. map (λ y. t ++ y ∷ []) xs) (map (λ t. x ∷ t) ts)
@@ -36,10 +33,10 @@ first_tuples xs [] = refl
 first_tuples xs (y ∷ ys) = ap (λ zs. (y ∷ []) ∷ zs) (first_tuples xs ys)
 
 -- the last member changes fastest
-pub by_last : (xs : List ℕ) (a : ℕ) → tuples xs (suc a) ≡ flat_map (λ t. map (λ y. t ++ y ∷ []) xs) (tuples xs a)
+pub tuples_by_last : (xs : List ℕ) (a : ℕ) → tuples xs (suc a) ≡ flat_map (λ t. map (λ y. t ++ y ∷ []) xs) (tuples xs a)
 unfolding tuples
-by_last xs zero = first_tuples xs xs ∙ sym (append-nil (map (λ y. y ∷ []) xs))
-by_last xs (suc a) = ap (λ ts. flat_map (λ x. map (λ t. x ∷ t) ts) xs) (by_last xs a) ∙ cons_outside xs xs (tuples xs a)
+tuples_by_last xs zero = first_tuples xs xs ∙ sym (append-nil (map (λ y. y ∷ []) xs))
+tuples_by_last xs (suc a) = ap (λ ts. flat_map (λ x. map (λ t. x ∷ t) ts) xs) (tuples_by_last xs a) ∙ cons_outside xs xs (tuples xs a)
 
 length_blocks : {X A : Type 0} (f : X → List A) (n : ℕ) → ((x : X) → length (f x) ≡ n) → (xs : List X) → length (flat_map f xs) ≡ length xs * n
 length_blocks f n even [] = omega arith
@@ -55,28 +52,28 @@ length_tuples xs (suc a) =
     length_blocks (λ x. map (λ t. x ∷ t) (tuples xs a)) (length (tuples xs a)) (λ x. length-map (tuples xs a) (λ t. x ∷ t)) xs
     ∙ ap (λ n. length xs * n) (length_tuples xs a) ∙ sym (pow-succ' (length xs) a)
 
-at_block : {X A : Type 0} (f : X → List A) (n : ℕ) → ((x : X) → length (f x) ≡ n) → (xs : List X) (q r : ℕ) (e : X) (d : A) → q < length xs → r < n
+at_blocks : {X A : Type 0} (f : X → List A) (n : ℕ) → ((x : X) → length (f x) ≡ n) → (xs : List X) (q r : ℕ) (e : X) (d : A) → q < length xs → r < n
     → get_or (flat_map f xs) (q * n + r) d ≡ get_or (f (get_or xs q e)) r d
-at_block f n even xs q r e d lt small =
+at_blocks f n even xs q r e d lt small =
     let le : q ≤ length xs = omega arith in
     let before : length (flat_map f (take q xs)) ≡ q * n = length_blocks f n even (take q xs) ∙ ap (λ k. k * n) (length-take-le q xs le) in
     let own = even (get_or xs q e) in
     ap (λ k. get_or (flat_map f xs) (k + r) d) (sym before) ∙ get_or-flat_map f xs q r e d lt (omega (arith, own))
 
-pub tuple_is : (xs : List ℕ) (a k : ℕ) → 0 < length xs → k < length xs ^ a → get_or (tuples xs a) k [] ≡ tuple_at xs a k
+pub at_tuples : (xs : List ℕ) (a k : ℕ) → 0 < length xs → k < length xs ^ a → get_or (tuples xs a) k [] ≡ tuple_at xs a k
 unfolding tuples
-tuple_is xs zero k some lt = let z : k ≡ 0 = omega (arith, pow-zero (length xs)) in ap (λ n. get_or ([] ∷ []) n []) z
-tuple_is xs (suc a) k some lt =
+at_tuples xs zero k some lt = let z : k ≡ 0 = omega (arith, pow-zero (length xs)) in ap (λ n. get_or ([] ∷ []) n []) z
+at_tuples xs (suc a) k some lt =
     let m = length xs in
     let front : k / length xs < length xs ^ a = (div-lt_iff_lt-mul some).1 (subst (λ n. k < n) (pow-suc (length xs) a) lt) in
     let small : k % length xs < length xs = mod-lt k some in
     let far : k / length xs < length (tuples xs a) = omega (arith, length_tuples xs a) in
     let parts : k ≡ k / length xs * length xs + k % length xs = omega (arith, mod-add-div' k (length xs)) in
-    ap (λ ts. get_or ts k []) (by_last xs a)
+    ap (λ ts. get_or ts k []) (tuples_by_last xs a)
     ∙ ap (λ n. get_or (flat_map (λ t. map (λ y. t ++ y ∷ []) xs) (tuples xs a)) n []) parts
-    ∙ at_block (λ t. map (λ y. t ++ y ∷ []) xs) (length xs) (λ t. length-map xs (λ y. t ++ y ∷ [])) (tuples xs a) (k / length xs) (k % length xs) [] [] far small
+    ∙ at_blocks (λ t. map (λ y. t ++ y ∷ []) xs) (length xs) (λ t. length-map xs (λ y. t ++ y ∷ [])) (tuples xs a) (k / length xs) (k % length xs) [] [] far small
     ∙ get_or-map (λ y. get_or (tuples xs a) (k / length xs) [] ++ y ∷ []) xs (k % length xs) 0 [] small
-    ∙ ap (λ t. t ++ get_or xs (k % length xs) 0 ∷ []) (tuple_is xs a (k / length xs) some front)
+    ∙ ap (λ t. t ++ get_or xs (k % length xs) 0 ∷ []) (at_tuples xs a (k / length xs) some front)
     ∙ sym (map-append (λ d. get_or xs d 0) (digits (length xs) a (k / length xs)) (k % length xs ∷ []))
 
 pub length_small_sets : (n : ℕ) → length (small_sets n) ≡ n + 1
@@ -89,9 +86,9 @@ pub length_all_sets : (n : ℕ) → length (all_sets n) ≡ 2 ^ n
 unfolding all_sets
 length_all_sets n = length-span 0 (2 ^ n)
 
-pub no_small_set : (n : ℕ) → get_or (small_sets n) 0 0 ≡ 0
+pub first_small_set : (n : ℕ) → get_or (small_sets n) 0 0 ≡ 0
 unfolding small_sets
-no_small_set n = refl
+first_small_set n = refl
 
 pub at_small_sets : (n i : ℕ) → i < n → get_or (small_sets n) (i + 1) 0 ≡ 2 ^ i
 unfolding small_sets
@@ -105,8 +102,14 @@ pub at_all_sets : (n d : ℕ) → d < 2 ^ n → get_or (all_sets n) d 0 ≡ d
 unfolding all_sets
 at_all_sets n d lt = let e = get_or-span 0 (2 ^ n) d 0 lt in omega (arith, e)
 
-pub power_some : (n : ℕ) → 0 < 2 ^ n
-power_some n = pow_pos n
+pub first_set : (n : ℕ) → get_or (all_sets n) 0 0 ≡ 0
+first_set n = at_all_sets n 0 (pow_pos n)
 
-pub power_few : (n : ℕ) → n ≤ 10 → 2 ^ n ≤ 1024
-power_few n le = pow-le-pow_right (lit< tt) le
+pub few_sets : (n : ℕ) → n ≤ 10 → 2 ^ n ≤ 1024
+few_sets n le = pow-le-pow_right (lit< tt) le
+
+pub few_tuples : (m a : ℕ) → m ≤ 1024 → a ≤ 4 → m ^ a < 2 ^ 64
+few_tuples m a few parts =
+    let base : m ^ a ≤ 1024 ^ a = pow-le-pow_left few a in
+    let whole : 1024 ^ a ≤ 1024 ^ 4 = pow-le-pow_right (lit< tt) parts in
+    omega (arith, base, whole)

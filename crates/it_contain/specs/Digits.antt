@@ -12,8 +12,8 @@ abbrev pub tuple_at : List ℕ → ℕ → ℕ → List ℕ
 tuple_at xs parts number = map (λ d. get_or xs d 0) (digits (length xs) parts number)
 
 -- a shape that a proposer keeps: also that of no variable, before it is begun
-abbrev pub IsWithin : Shape → Type 0
-IsWithin s = (s.variables ≤ 10) × (s.parts ≤ 4)
+abbrev pub IsShapeWithin : Shape → Type 0
+IsShapeWithin s = (s.variables ≤ 10) × (s.parts ≤ 4)
 
 -- four digits below m
 abbrev pub AreBelow : ℕ → List ℕ → Type 0

@@ -1,12 +1,12 @@
 -- What a search over boxes ends with.
 use Rattle.std.specs.Prelude.{◌≡◌, ℕ, ◌<◌, List, [], ◌∷◌, ◌++◌, map, take, length, min, Option, Vec, All}
 use Rattle.std.specs.Global.{Global}
-use Rattle.std.specs.List.{AllZip, flat_map}
+use Rattle.std.specs.List.{flat_map}
 use Rattle.it_space.specs.declared.answers.Certificate.{Certificate}
 use Rattle.it_space.specs.Answers.{CertificateView, certificate_view}
 use Rattle.it_space.specs.Problems.{ProblemView, problem_view}
 use Rattle.it_space.specs.Rows.{Terms}
-use Rattle.it_prove.specs.ProofViews.{Yes, EndsWith, IsRightProof}
+use Rattle.it_prove.specs.ProofViews.{AreProofsOf}
 use Rattle.it_region.specs.declared.types.Candidate.{Candidate}
 use Rattle.it_contain.specs.declared.types.Contained.{Contained}
 use Rattle.it_contain.specs.declared.types.Contained.TheVariants.{Found, Open}
@@ -26,16 +26,7 @@ pub record Goal : Type 0 where
 abbrev pub goal_of : Pair → Option ℕ → Goal
 goal_of p budget = record { pair = p; budget = budget }
 
--- the certificate with which the run about a target ends, which is right
-pub record IsProofOf (q : ProblemView) (budget : Option ℕ) (target : Terms) (w : CertificateView) : Type 0 where
-  pub due : EndsWith q target budget (Yes w)
-  pub right : IsRightProof q target (Yes w)
-
--- one for each target, in order
-abbrev pub AreProofsOf : ProblemView → Option ℕ → List Terms → List CertificateView → Type 0
-AreProofsOf q budget targets ws = AllZip (IsProofOf q budget) targets ws
-
--- the candidate fits, and each of its obligations has its proof
+-- the candidate fits, and the run about each of its obligations ends with a proof
 pub record IsProofBy (goal : Goal) (c : Candidate) (ws : List CertificateView) : Type 0 where
   pub fits : Fits goal.pair c
   pub rows : List Terms
@@ -63,7 +54,7 @@ abbrev pub IsUnproved : Goal → Candidate → Type 0
 IsUnproved goal c = IsProved goal c → ⊥
 
 -- c is the first proved candidate among the first `tries` of the plan
-pub record IsFirst (goal : Goal) (tries : ℕ) (plan : List Candidate) (c : Candidate) : Type 0 where
+pub record IsFirstProved (goal : Goal) (tries : ℕ) (plan : List Candidate) (c : Candidate) : Type 0 where
   pub before : List Candidate
   pub after : List Candidate
   pub parts : plan ≡ before ++ c ∷ after
@@ -89,6 +80,6 @@ unfoldable pub plan_of : List Candidate → List Plan → Shape → List Candida
 plan_of first plans shape = first ++ joined_lists (lists_of shape plans)
 
 -- The end of a search over boxes with these plans: what it found, and the plans that they have then.
-abbrev pub Ends : Goal → ℕ → List Candidate → List Plan → Contained → List Plan → Type 0
-Ends goal tries plan plans (Found c proofs) plans_after = IsFirst goal tries plan c × IsProof goal c proofs × (plans_after ≡ map (plan_after c) plans)
-Ends goal tries plan plans (Open tried) plans_after = IsOpen goal tries plan tried × (plans_after ≡ plans)
+abbrev pub SearchEnds : Goal → ℕ → List Candidate → List Plan → Contained → List Plan → Type 0
+SearchEnds goal tries plan plans (Found c proofs) plans_after = IsFirstProved goal tries plan c × IsProof goal c proofs × (plans_after ≡ map (plan_after c) plans)
+SearchEnds goal tries plan plans (Open tried) plans_after = IsOpen goal tries plan tried × (plans_after ≡ plans)

@@ -4,17 +4,18 @@ use Rattle.it_space.specs.declared.answers.Certificate.{Certificate}
 use Rattle.it_space.specs.Answers.{CertificateView, certificate_view}
 use Rattle.it_space.specs.Problems.{ProblemView}
 use Rattle.it_space.specs.Rows.{Terms}
+use Rattle.it_prove.specs.ProofViews.{Yes, EndsWith, AreProofsOf}
 use Rattle.it_region.specs.declared.types.Candidate.{Candidate}
 use Rattle.it_contain.specs.declared.outcomes.Outcomes.{Outcomes}
 use Rattle.it_contain.specs.declared.types.Contained.{Contained}
 use Rattle.it_contain.specs.declared.types.Contained.TheVariants.{Found, Open}
 use Rattle.it_contain.specs.Proposals.{Plan, plan_after}
-use Rattle.it_contain.specs.Search.{Goal, IsProofOf, AreProofsOf, Proofs, proof_views, IsProof, IsUnproved}
+use Rattle.it_contain.specs.Search.{Goal, Proofs, proof_views, IsProof, IsUnproved}
 
 -- whether a target is proved
 abbrev pub ProvesOne : ProblemView → Option ℕ → Terms → Option Certificate → Type 0
-ProvesOne q budget t None = (w : CertificateView) → IsProofOf q budget t w → ⊥
-ProvesOne q budget t (Some c) = IsProofOf q budget t (certificate_view c)
+ProvesOne q budget t None = (w : CertificateView) → EndsWith q t budget (Yes w) → ⊥
+ProvesOne q budget t (Some c) = EndsWith q t budget (Yes (certificate_view c))
 
 -- each row that is kept stands with its outcome: the certificate that proves it, or that none does
 unfoldable pub AreOutcomes : ProblemView → Option ℕ → Outcomes → Type 0

@@ -4,6 +4,7 @@ use Rattle.std.specs.List.{flat_map}
 use Rattle.it_polymatroid.specs.Elementals.{span}
 use Rattle.it_region.specs.declared.types.Pair.{Pair}
 use Rattle.it_region.specs.declared.types.Candidate.{Candidate}
+use Rattle.it_region.specs.Pulling.{singles}
 use Rattle.it_contain.specs.declared.types.Shape.{Shape}
 
 -- 1 to 10 variables, and at most 4 parts
@@ -23,7 +24,7 @@ tuples xs (suc parts) = flat_map (λ x. map (λ t. x ∷ t) (tuples xs parts)) x
 
 -- the sets of at most one of n variables: the empty set, and each variable alone
 unfoldable pub small_sets : ℕ → List ℕ
-small_sets n = 0 ∷ map (λ i. 2 ^ i) (span 0 n)
+small_sets n = 0 ∷ singles 0 n
 
 -- all sets of n variables
 unfoldable pub all_sets : ℕ → List ℕ
@@ -33,10 +34,14 @@ all_sets n = span 0 (2 ^ n)
 unfoldable pub candidate_of : ℕ → List ℕ → Candidate
 candidate_of parts tuple = record { count = parts; parts = take 4 (tuple ++ (0 ∷ 0 ∷ 0 ∷ 0 ∷ [])) }
 
+-- the candidates of all tuples of so many sets out of a list
+unfoldable pub tuple_candidates : List ℕ → ℕ → List Candidate
+tuple_candidates sets parts = map (candidate_of parts) (tuples sets parts)
+
 -- what `Singles` proposes: all tuples of sets of at most one variable
-unfoldable pub single_candidates : Shape → List Candidate
-single_candidates s = map (candidate_of s.parts) (tuples (small_sets s.variables) s.parts)
+abbrev pub single_candidates : Shape → List Candidate
+single_candidates s = tuple_candidates (small_sets s.variables) s.parts
 
 -- what `Subsets` proposes: all tuples of sets
-unfoldable pub subset_candidates : Shape → List Candidate
-subset_candidates s = map (candidate_of s.parts) (tuples (all_sets s.variables) s.parts)
+abbrev pub subset_candidates : Shape → List Candidate
+subset_candidates s = tuple_candidates (all_sets s.variables) s.parts

@@ -3,7 +3,7 @@ ghost use Rattle.std.specs.Prelude.{◌≡◌, ◌<◌, ◌+◌, List, [], map, 
 ghost use Rattle.it_space.specs.Problems.{problem_view};
 ghost use Rattle.it_region.specs.Pairs.{IsPair};
 ghost use Rattle.it_contain.specs.Shapes.{IsShape, shape_of};
-ghost use Rattle.it_contain.specs.Search.{lists_of, plan_of, Ends, goal_of};
+ghost use Rattle.it_contain.specs.Search.{lists_of, plan_of, SearchEnds, goal_of};
 ghost use Rattle.it_contain.specs.SearchSteps.{Tries, KeepsLater, AreOutcomes};
 
 use crate::boxes::{begin_all, next_at, teach_all, tell_all};
@@ -29,7 +29,7 @@ pub fn contain(
     budget: Budget,
 ) -> Result<Contained, AllocError>
     requires pair { IsPair pair.now }
-    ensures { IfOk result (λ r. Ends (goal_of pair.now budget) tries (plan_of first.now (map plan boxes.old.items) (shape_of pair.now)) (map plan boxes.old.items) r (map plan boxes.new.items)) }
+    ensures { IfOk result (λ r. SearchEnds (goal_of pair.now budget) tries (plan_of first.now (map plan boxes.old.items) (shape_of pair.now)) (map plan boxes.old.items) r (map plan boxes.new.items)) }
 {
     let shape = Shape {
         variables: pair.first.space.variables,
@@ -87,7 +87,7 @@ fn try_list(
 ) -> Result<Contained, AllocError>
     requires pair { IsPair pair.now }
     requires outcomes { AreOutcomes (problem_view pair.now.first) budget outcomes.old }
-    ensures ends { IfOk result (λ r. Ends (goal_of pair.now budget) tries first.now (map plan boxes.old.items) r (map plan boxes.new.items)) }
+    ensures ends { IfOk result (λ r. SearchEnds (goal_of pair.now budget) tries first.now (map plan boxes.old.items) r (map plan boxes.new.items)) }
     ensures later { IfOk result (λ r. KeepsLater r (map pending boxes.old.items) (map pending boxes.new.items)) }
     ensures outcomes { OnOk result (AreOutcomes (problem_view pair.now.first) budget outcomes.new) }
 {
@@ -117,7 +117,7 @@ fn try_box(
     requires pair { IsPair pair.now }
     requires outcomes { AreOutcomes (problem_view pair.now.first) budget outcomes.old }
     requires box_is { i < vec_len boxes.old }
-    ensures ends { IfOk result (λ r. Ends (goal_of pair.now budget) tries (get_or (map pending boxes.old.items) i []) (map plan boxes.old.items) r (map plan boxes.new.items)) }
+    ensures ends { IfOk result (λ r. SearchEnds (goal_of pair.now budget) tries (get_or (map pending boxes.old.items) i []) (map plan boxes.old.items) r (map plan boxes.new.items)) }
     ensures later { IfOk result (λ r. KeepsLater r (drop (i + 1) (map pending boxes.old.items)) (drop (i + 1) (map pending boxes.new.items))) }
     ensures outcomes { OnOk result (AreOutcomes (problem_view pair.now.first) budget outcomes.new) }
 {
@@ -147,7 +147,7 @@ fn try_all(
     requires pair { IsPair pair.now }
     requires outcomes { AreOutcomes (problem_view pair.now.first) budget outcomes.old }
     requires shape { IsShape shape }
-    ensures { IfOk result (λ r. Ends (goal_of pair.now budget) tries (plan_of first.now (map plan boxes.old.items) shape) (map plan boxes.old.items) r (map plan boxes.new.items)) }
+    ensures { IfOk result (λ r. SearchEnds (goal_of pair.now budget) tries (plan_of first.now (map plan boxes.old.items) shape) (map plan boxes.old.items) r (map plan boxes.new.items)) }
 {
     begin_all(boxes, shape);
     let mut count = match try_list(alloc, pair, first, boxes, tries, budget, outcomes)? {

@@ -1,4 +1,4 @@
--- OwnLinesView over the common variables say the same of two maps that agree.
+-- Lines over the common variables say the same of two maps that agree.
 use Rattle.std.proofs.Common.{◌≡◌, ℕ, ◌<◌, ◌^◌, bit_or, ℤ, pos, neg_ℤ, ◌+ℤ◌, ◌-ℤ◌, ◌*ℤ◌, List, [], ◌∷◌, cond, refl, sym, ap₂, subst₂, ◌∙◌, All}
 use Rattle.std.proofs.lemmas.List.Elements.{All-nil, All-cons, All-head, All-tail}
 use Rattle.std.proofs.lemmas.Nat.{or_lt}

@@ -1,4 +1,4 @@
-pub mod PlaceLemmas
+pub mod PullingLemmas
 pub mod AgreeLemmas
 pub mod RegionLemmas
 pub mod RowLemmas

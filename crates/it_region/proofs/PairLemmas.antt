@@ -11,15 +11,16 @@ use Rattle.it_space.specs.Spaces.{size_of}
 use Rattle.it_question.specs.Limits.{IsQuestion, IsVerbOver, IsRegionOf}
 use Rattle.it_question.specs.Questions.{RegionView, VerbView, Prove, Eliminate, Contain, BodyView}
 use Rattle.it_space.specs.Bounds.{IsSmall}
+use Rattle.it_canon.specs.Canonical.{row_mass}
 use Rattle.it_canon.specs.Demands.{LineDemand, States, AreStated}
 use Rattle.it_canon.specs.QuestionDemands.{space_of}
 use Rattle.it_canon.proofs.ZipLemmas.{zip-right}
 use Rattle.it_region.specs.declared.types.Pair.{Pair}
 use Rattle.it_region.specs.Obligations.{own_demands}
-use Rattle.it_region.specs.Pairs.{row_mass, IsPair, IsPairOf, PairsBy, Pairs, Fits, candidate_sets}
+use Rattle.it_region.specs.Pairs.{IsPair, IsPairOf, PairsBy, Pairs, Fits, candidate_sets}
 use Rattle.it_region.specs.PairSteps.{AreSetsFor}
 use Rattle.it_region.specs.declared.types.Candidate.{Candidate}
-use Rattle.it_region.proofs.PlaceLemmas.{sets_within, length-sets}
+use Rattle.it_region.proofs.PullingLemmas.{sets_within, length-sets}
 use Rattle.std.proofs.lemmas.List.{length-take-le}
 
 mass_within : (ts : Terms) → All (λ t. unsigned_abs t.1 ≤ 2 ^ 74) ts → row_mass ts ≤ length ts * 2 ^ 74
@@ -39,7 +40,7 @@ stated_small s ds cs a = zip-right (λ (d : LineDemand) (c : Constraint). States
 pub stated_rows : (s : Space) (ds : List LineDemand) (cs : List Constraint) → AreStated s ds cs → All (λ c. IsUpTo (size_of s) c.row) cs
 stated_rows s ds cs a = zip-right (λ (d : LineDemand) (c : Constraint). States s d.place d.demand c) (λ c. IsUpTo (size_of s) c.row) (λ d c t. t.row.coordinates) ds cs a
 
-region_wider : (q : BodyView) (r : RegionView) → IsRegionOf q.names r → length r.names.variables ≡ length q.names.variables + r.auxiliaries
+pub region_wider : (q : BodyView) (r : RegionView) → IsRegionOf q.names r → length r.names.variables ≡ length q.names.variables + r.auxiliaries
 region_wider q r k = omega (arith, ap length k.variables, length-append q.names.variables k.own, k.counted)
 
 pair_limits : (q : BodyView) (a b : RegionView) (p : Pair) → IsQuestion q → IsRegionOf q.names a → IsRegionOf q.names b → IsProblem (problem_view p.first) → IsPairOf q a b p → IsPair p

@@ -1,7 +1,7 @@
 -- The rows of obligations, and loops that make them.
-use Rattle.std.proofs.Common.{◌≡◌, ◌↔◌, ℕ, zero, suc, ◌+◌, ◌-◌, ◌<◌, ◌≤◌, ◌^◌, ℤ, pos, neg_ℤ, ◌+ℤ◌, ◌*ℤ◌, ◌≤ℤ◌, unsigned_abs, Bool, true, false, List, [], ◌∷◌, length, drop, get_or, refl, sym, ap, subst, ◌∙◌, arith, All, Result, Ok, Err, IfOk, Vec, Global}
+use Rattle.std.proofs.Common.{◌≡◌, ◌↔◌, ℕ, ◌+◌, ◌-◌, ◌<◌, ◌≤◌, ◌^◌, ℤ, pos, neg_ℤ, ◌+ℤ◌, ◌*ℤ◌, ◌≤ℤ◌, unsigned_abs, Bool, true, false, List, [], ◌∷◌, length, drop, get_or, refl, sym, ap, subst, ◌∙◌, arith, All, Result, Ok, Err, IfOk, Vec, Global}
 use Rattle.std.proofs.lemmas.Int.{ints}
-use Rattle.std.proofs.lemmas.List.{drop_more}
+use Rattle.std.proofs.lemmas.List.{drop_more, drop_all}
 use Rattle.std.proofs.lemmas.List.Elements.{All-nil, All-cons, All-head, All-tail, All-append}
 use Rattle.it_number.proofs.Integers.{zring}
 use Rattle.it_space.specs.declared.spaces.Space.{Space}
@@ -12,117 +12,111 @@ use Rattle.it_space.specs.Problems.{Meets, IsMet, AreMet}
 use Rattle.it_space.specs.Rows.{Terms, IsCanonical, IsUpTo, value}
 use Rattle.it_space.specs.Spaces.{size_of}
 use Rattle.it_polymatroid.specs.Certificates.{Form}
-use Rattle.it_region.specs.Pairs.{row_mass}
+use Rattle.it_canon.specs.Canonical.{row_mass}
 use Rattle.it_canon.specs.QuestionDemands.{AreAtLeastZero}
 use Rattle.it_canon.specs.Coefficients.{dense_form, largest, signed_by, IsFormAdded}
-use Rattle.it_canon.proofs.ZipLemmas.{split, zip-same, zip-right}
-use Rattle.it_region.specs.Obligations.{halves, moved_form, constraint_obligations, IsPulledRow, ArePulledRows}
+use Rattle.it_canon.proofs.ZipLemmas.{All-parts, zip-same, zip-right}
+use Rattle.it_region.specs.Obligations.{halves, pulled_form, constraint_obligations, IsPulledRow, ArePulledRows}
 
 -- ---- the terms of one row
 
--- the row at the pulled-back map, or that turned
-abbrev pub pulled_form : (ℕ → ℕ) → Bool → Terms → Form
-pulled_form f turned ts p = signed_by turned (value ts (λ c. p (f c)))
+-- the row at the pulled-back map, or its negation where it is turned
+abbrev pub signed_form : (ℕ → ℕ) → Bool → Terms → Form
+signed_form f turned ts p = signed_by turned (value ts (λ c. p (f c)))
 
 -- the first i terms are added, and the others are still to add
 pub record IsUnderWay (f : ℕ → ℕ) (turned : Bool) (whole : Terms) (size : ℕ) (now : List ℤ) (i : ℕ) : Type 0 where
   pub complete : length now ≡ size + 1
   pub small : largest now + row_mass (drop i whole) ≤ row_mass whole
-  pub sum : (p : ℕ → ℤ) → dense_form now p +ℤ pulled_form f turned (drop i whole) p ≡ pulled_form f turned whole p
+  pub sum : (p : ℕ → ℤ) → dense_form now p +ℤ signed_form f turned (drop i whole) p ≡ signed_form f turned whole p
 
 pub begins : (f : ℕ → ℕ) (turned : Bool) (whole : Terms) (size : ℕ) (now : List ℤ) → length now ≡ size + 1 → largest now ≡ 0 → ((p : ℕ → ℤ) → dense_form now p ≡ pos 0) → IsUnderWay f turned whole size now 0
 begins f turned whole size now l m z = record {
   complete = l;
   small = omega (arith, m);
-  sum = λ p. ap (λ x. x +ℤ pulled_form f turned whole p) (z p) ∙ omega (arith, ints);
+  sum = λ p. ap (λ x. x +ℤ signed_form f turned whole p) (z p) ∙ omega (arith, ints);
 }
 
-splits : (f : ℕ → ℕ) (turned : Bool) (t : ℕ × ℤ) (ts : Terms) (p : ℕ → ℤ) → pulled_form f turned (t ∷ ts) p ≡ signed_by turned t.1 *ℤ p (f t.0) +ℤ pulled_form f turned ts p
-splits f true t ts p = step t.1 (p (f t.0)) (value ts (λ c. p (f c)))
+signed_form-cons : (f : ℕ → ℕ) (turned : Bool) (t : ℕ × ℤ) (ts : Terms) (p : ℕ → ℤ) → signed_form f turned (t ∷ ts) p ≡ signed_by turned t.1 *ℤ p (f t.0) +ℤ signed_form f turned ts p
+signed_form-cons f true t ts p = step t.1 (p (f t.0)) (value ts (λ c. p (f c)))
   where
     step : (x y z : ℤ) → neg_ℤ (x *ℤ y +ℤ z) ≡ neg_ℤ x *ℤ y +ℤ neg_ℤ z
     step x y z = omega (arith, zring)
-splits f false t ts p = refl
+signed_form-cons f false t ts p = refl
 
-here : (whole : Terms) (i : ℕ) (t : ℕ × ℤ) → i < length whole → t ≡ get_or whole i t → drop i whole ≡ t ∷ drop (i + 1) whole
-here whole i t l is = drop_more whole i t l ∙ ap (λ (y : ℕ × ℤ). y ∷ drop (i + 1) whole) (sym is)
+drop_term : (whole : Terms) (i : ℕ) (t : ℕ × ℤ) → i < length whole → t ≡ get_or whole i t → drop i whole ≡ t ∷ drop (i + 1) whole
+drop_term whole i t l is = drop_more whole i t l ∙ ap (λ (y : ℕ × ℤ). y ∷ drop (i + 1) whole) (sym is)
 
 -- a term has room
 pub room : (f : ℕ → ℕ) (turned : Bool) (whole : Terms) (size : ℕ) (now : List ℤ) (i : ℕ) (t : ℕ × ℤ) → i < length whole → t ≡ get_or whole i t → row_mass whole < 2 ^ 127 → IsUnderWay f turned whole size now i
     → largest now + unsigned_abs t.1 < 2 ^ 127
-room f turned whole size now i t l is few u = omega (arith, u.small, ap row_mass (here whole i t l is), few)
+room f turned whole size now i t l is few u = omega (arith, u.small, ap row_mass (drop_term whole i t l is), few)
 
 pub goes_on : (f : ℕ → ℕ) (turned : Bool) (whole : Terms) (size : ℕ) (now new : List ℤ) (i : ℕ) (t : ℕ × ℤ) → i < length whole → t ≡ get_or whole i t
     → IsFormAdded now new (unsigned_abs t.1) (λ p. signed_by turned t.1 *ℤ p (f t.0)) → IsUnderWay f turned whole size now i → IsUnderWay f turned whole size new (i + 1)
 goes_on f turned whole size now new i t l is a u = record {
   complete = a.complete ∙ u.complete;
-  small = omega (arith, a.small, u.small, ap row_mass (here whole i t l is));
-  sum = λ p. step (dense_form new p) (dense_form now p) (signed_by turned t.1 *ℤ p (f t.0)) (pulled_form f turned (drop (i + 1) whole) p) (pulled_form f turned whole p) (a.sum p)
-      (ap (λ x. dense_form now p +ℤ x) (sym (ap (λ (ts : Terms). pulled_form f turned ts p) (here whole i t l is) ∙ splits f turned t (drop (i + 1) whole) p)) ∙ u.sum p);
+  small = omega (arith, a.small, u.small, ap row_mass (drop_term whole i t l is));
+  sum = λ p. step (dense_form new p) (dense_form now p) (signed_by turned t.1 *ℤ p (f t.0)) (signed_form f turned (drop (i + 1) whole) p) (signed_form f turned whole p) (a.sum p)
+      (ap (λ x. dense_form now p +ℤ x) (sym (ap (λ (ts : Terms). signed_form f turned ts p) (drop_term whole i t l is) ∙ signed_form-cons f turned t (drop (i + 1) whole) p)) ∙ u.sum p);
 }
   where
     step : (new now x rest all : ℤ) → new ≡ now +ℤ x → now +ℤ (x +ℤ rest) ≡ all → new +ℤ rest ≡ all
     step new now x rest all e h = omega (arith, ints, e, h)
 
-none_left : (whole : Terms) (i : ℕ) → length whole ≤ i → drop i whole ≡ []
-none_left [] zero h = refl
-none_left [] (suc i) h = refl
-none_left (t ∷ ts) zero h = absurd (omega arith)
-none_left (t ∷ ts) (suc i) h = none_left ts i (omega arith)
-
 pub few_at_end : (f : ℕ → ℕ) (turned : Bool) (whole : Terms) (size : ℕ) (now : List ℤ) (i : ℕ) → IsUnderWay f turned whole size now i → largest now ≤ row_mass whole
 few_at_end f turned whole size now i u = omega (arith, u.small)
 
-pulled_form-nil : (f : ℕ → ℕ) (turned : Bool) (p : ℕ → ℤ) → pulled_form f turned [] p ≡ pos 0
-pulled_form-nil f true p = refl
-pulled_form-nil f false p = refl
+signed_form-nil : (f : ℕ → ℕ) (turned : Bool) (p : ℕ → ℤ) → signed_form f turned [] p ≡ pos 0
+signed_form-nil f true p = refl
+signed_form-nil f false p = refl
 
 pub row_at_end : {E : Type 0} (s : Space) (f : ℕ → ℕ) (turned : Bool) (whole : Terms) (now : List ℤ) (i : ℕ) (row : Result Terms E) → length whole ≤ i → IsUnderWay f turned whole (size_of s) now i
-    → IfOk row (λ r. (p : ℕ → ℤ) → p 0 ≡ pos 0 → value r p ≡ dense_form now p) → IfOk row (IsUpTo (length now - 1)) → IfOk row IsCanonical → IfOk row (IsPulledRow s (pulled_form f turned whole))
+    → IfOk row (λ r. (p : ℕ → ℤ) → p 0 ≡ pos 0 → value r p ≡ dense_form now p) → IfOk row (IsUpTo (length now - 1)) → IfOk row IsCanonical → IfOk row (IsPulledRow s (signed_form f turned whole))
 row_at_end s f turned whole now i (Err e) l u same up can = tt
 row_at_end s f turned whole now i (Ok row) l u same up can = record {
-  same = λ p z. same p z ∙ omega (arith, ints, u.sum p, ap (λ (ts : Terms). pulled_form f turned ts p) (none_left whole i l) ∙ pulled_form-nil f turned p);
+  same = λ p z. same p z ∙ omega (arith, ints, u.sum p, ap (λ (ts : Terms). signed_form f turned ts p) (drop_all i whole l) ∙ signed_form-nil f turned p);
   coordinates = let e : length now - 1 ≡ size_of s = omega (arith, u.complete) in subst (λ n. IsUpTo n row) e up;
   canonical = can;
 }
 
 -- ---- the rows of constraints
 
--- what the constraints from place i on owe
-abbrev pub owed_from : (ℕ → ℕ) → ℕ → List Constraint → List Form
-owed_from f i cs = constraint_obligations f cs
+-- the obligations that the constraints from number i on give, which don't depend on i
+abbrev pub obligations_from : (ℕ → ℕ) → ℕ → List Constraint → List Form
+obligations_from f i cs = constraint_obligations f cs
+
+abbrev pub IsFormAtLeastZero : (ℕ → ℤ) → Form → Type 0
+IsFormAtLeastZero p f = pos 0 ≤ℤ f p
 
 -- each row has the value of its form
-abbrev pub AtLeast : (ℕ → ℤ) → Form → Type 0
-AtLeast p f = pos 0 ≤ℤ f p
-
-pub rows_same : (s : Space) (fs : List Form) (rows : List Terms) (p : ℕ → ℤ) → p 0 ≡ pos 0 → ArePulledRows s fs rows → AreAtLeastZero p rows ↔ All (AtLeast p) fs
-rows_same s fs rows p z a = zip-same (IsPulledRow s) (AtLeast p) (λ (row : Terms). pos 0 ≤ℤ value row p)
+pub rows_same : (s : Space) (fs : List Form) (rows : List Terms) (p : ℕ → ℤ) → p 0 ≡ pos 0 → ArePulledRows s fs rows → AreAtLeastZero p rows ↔ All (IsFormAtLeastZero p) fs
+rows_same s fs rows p z a = zip-same (IsPulledRow s) (IsFormAtLeastZero p) (λ (row : Terms). pos 0 ≤ℤ value row p)
     (λ f row r. (λ h. subst (λ (x : ℤ). pos 0 ≤ℤ x) (r.same p z) h, λ h. subst (λ (x : ℤ). pos 0 ≤ℤ x) (sym (r.same p z)) h)) fs rows a
 
-half_met : (k : Kind) (form : Form) (p : ℕ → ℤ) → All (AtLeast p) (halves k form) ↔ Meets k (form p)
-half_met Inequality form p = (λ a. All-head (AtLeast p) form [] a, λ h. All-cons (AtLeast p) form [] h (All-nil (AtLeast p)))
+pub half_met : (k : Kind) (form : Form) (p : ℕ → ℤ) → All (IsFormAtLeastZero p) (halves k form) ↔ Meets k (form p)
+half_met Inequality form p = (λ a. All-head (IsFormAtLeastZero p) form [] a, λ h. All-cons (IsFormAtLeastZero p) form [] h (All-nil (IsFormAtLeastZero p)))
 half_met Equation form p =
     let down : Form = λ q. neg_ℤ (form q) in (
-      λ a. let up = All-head (AtLeast p) form (down ∷ []) a in let low = All-head (AtLeast p) down [] (All-tail (AtLeast p) form (down ∷ []) a) in omega (arith, ints, up, low),
-      λ h. All-cons (AtLeast p) form (down ∷ []) (omega (arith, ints, h)) (All-cons (AtLeast p) down [] (omega (arith, ints, h)) (All-nil (AtLeast p))),
+      λ a. let up = All-head (IsFormAtLeastZero p) form (down ∷ []) a in let low = All-head (IsFormAtLeastZero p) down [] (All-tail (IsFormAtLeastZero p) form (down ∷ []) a) in omega (arith, ints, up, low),
+      λ h. All-cons (IsFormAtLeastZero p) form (down ∷ []) (omega (arith, ints, h)) (All-cons (IsFormAtLeastZero p) down [] (omega (arith, ints, h)) (All-nil (IsFormAtLeastZero p))),
     )
 
-owed_met : (f : ℕ → ℕ) (p : ℕ → ℤ) (cs : List Constraint) → All (AtLeast p) (constraint_obligations f cs) ↔ AreMet (λ c. p (f c)) cs
-owed_met f p [] = (λ a. All-nil (IsMet (λ c. p (f c))), λ a. All-nil (AtLeast p))
-owed_met f p (c ∷ cs) =
-    let first : List Form = halves c.kind (moved_form f (value c.row)) in
-    let one = half_met c.kind (moved_form f (value c.row)) p in
-    let rest = owed_met f p cs in (
-      λ a. let each = split (AtLeast p) first (constraint_obligations f cs) a in All-cons (IsMet (λ c. p (f c))) c cs (one.0 each.0) (rest.0 each.1),
-      λ h. All-append (AtLeast p) first (constraint_obligations f cs) (one.1 (All-head (IsMet (λ c. p (f c))) c cs h)) (rest.1 (All-tail (IsMet (λ c. p (f c))) c cs h)),
+forms_met : (f : ℕ → ℕ) (p : ℕ → ℤ) (cs : List Constraint) → All (IsFormAtLeastZero p) (constraint_obligations f cs) ↔ AreMet (λ c. p (f c)) cs
+forms_met f p [] = (λ a. All-nil (IsMet (λ c. p (f c))), λ a. All-nil (IsFormAtLeastZero p))
+forms_met f p (c ∷ cs) =
+    let first : List Form = halves c.kind (pulled_form f (value c.row)) in
+    let one = half_met c.kind (pulled_form f (value c.row)) p in
+    let rest = forms_met f p cs in (
+      λ a. let each = All-parts (IsFormAtLeastZero p) first (constraint_obligations f cs) a in All-cons (IsMet (λ c. p (f c))) c cs (one.0 each.0) (rest.0 each.1),
+      λ h. All-append (IsFormAtLeastZero p) first (constraint_obligations f cs) (one.1 (All-head (IsMet (λ c. p (f c))) c cs h)) (rest.1 (All-tail (IsMet (λ c. p (f c))) c cs h)),
     )
 
 pub obligations_met : (s : Space) (f : ℕ → ℕ) (cs : List Constraint) (rows : List Terms) → ArePulledRows s (constraint_obligations f cs) rows
     → (p : ℕ → ℤ) → p 0 ≡ pos 0 → AreAtLeastZero p rows ↔ AreMet (λ c. p (f c)) cs
 obligations_met s f cs rows a p z =
     let r = rows_same s (constraint_obligations f cs) rows p z a in
-    let m = owed_met f p cs in
+    let m = forms_met f p cs in
     (λ h. m.0 (r.0 h), λ h. r.1 (m.1 h))
 
 pub obligations_up_to : (s : Space) (fs : List Form) (rows : List Terms) → ArePulledRows s fs rows → All (IsUpTo (size_of s)) rows

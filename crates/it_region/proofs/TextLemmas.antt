@@ -1,7 +1,8 @@
 -- The obligations of a pair are those of the text that it is of.
 use Rattle.std.proofs.Common.{◌≡◌, ℕ, ◌+◌, ◌<◌, ◌≤◌, ◌^◌, ℤ, pos, neg_ℤ, List, [], ◌∷◌, ◌++◌, length, take, get_or, refl, sym, ap, subst, ◌∙◌, arith, All}
 use Rattle.std.specs.List.{AllZip}
-use Rattle.std.proofs.lemmas.List.{length-take-le}
+use Rattle.std.proofs.Math.Seq.{take-append_seam}
+use Rattle.std.proofs.lemmas.List.{length-take-le, take-take}
 use Rattle.it_space.specs.declared.spaces.Space.{Space}
 use Rattle.it_space.specs.declared.problems.Kind.{Kind}
 use Rattle.it_space.specs.declared.problems.Kind.TheVariants.{Inequality, Equation}
@@ -10,17 +11,16 @@ use Rattle.it_space.specs.Rows.{Terms, value}
 use Rattle.it_space.specs.Spaces.{size_of}
 use Rattle.it_polymatroid.specs.Certificates.{Form}
 use Rattle.it_question.specs.Questions.{BodyView, RegionView}
-use Rattle.it_canon.specs.Canonical.{IsRowOf}
 use Rattle.it_canon.specs.Demands.{LineDemand, AreStated}
 use Rattle.it_canon.specs.QuestionDemands.{AreRowsOf}
 use Rattle.it_canon.proofs.UniqueRows.{told_by_values, zip-told}
 use Rattle.it_canon.proofs.ZipLemmas.{zip-append}
 use Rattle.it_region.specs.declared.types.Candidate.{Candidate}
 use Rattle.it_region.specs.declared.types.Pair.{Pair}
-use Rattle.it_region.specs.Obligations.{halves, moved_form, demand_obligations, constraint_obligations, own_demands, obligations, ArePartsOf, IsPulledRow, ArePulledRows}
-use Rattle.it_region.specs.Pairs.{IsPair, IsPairOf, Fits, candidate_place, pair_obligations}
-use Rattle.it_region.specs.Pulling.{sets_of, place}
-use Rattle.it_region.proofs.PlaceLemmas.{place_empty}
+use Rattle.it_region.specs.Obligations.{halves, pulled_form, demand_obligations, constraint_obligations, own_demands, obligations, ArePartsOf, IsPulledRow, ArePulledRows}
+use Rattle.it_region.specs.Pairs.{IsPair, IsPairOf, Fits, candidate_coordinate, pair_obligations}
+use Rattle.it_region.specs.Pulling.{substituted_sets, pulled_coordinate}
+use Rattle.it_region.proofs.PullingLemmas.{coordinate_of_empty_set}
 
 -- ---- canonical rows of forms
 
@@ -50,10 +50,10 @@ forms_same s f [] [] e a = tt
 forms_same s f [] (c ∷ cs) e a = absurd a
 forms_same s f (d ∷ ds) [] e a = absurd a
 forms_same s f (d ∷ ds) (c ∷ cs) e a =
-    let one : AllZip AreOne (halves d.demand.kind (moved_form f (value c.row))) (halves d.demand.kind (moved_form f d.demand.form)) =
-    halves_same d.demand.kind (moved_form f (value c.row)) (moved_form f d.demand.form) (λ p z. a.0.row.same (λ x. p (f x)) (ap p e ∙ z)) in
-    zip-append AreOne (halves c.kind (moved_form f (value c.row))) (constraint_obligations f cs) (halves d.demand.kind (moved_form f d.demand.form)) (demand_obligations f ds)
-    (subst (λ (k : Kind). AllZip AreOne (halves k (moved_form f (value c.row))) (halves d.demand.kind (moved_form f d.demand.form))) (sym a.0.kind) one) (forms_same s f ds cs e a.1)
+    let one : AllZip AreOne (halves d.demand.kind (pulled_form f (value c.row))) (halves d.demand.kind (pulled_form f d.demand.form)) =
+    halves_same d.demand.kind (pulled_form f (value c.row)) (pulled_form f d.demand.form) (λ p z. a.0.row.same (λ x. p (f x)) (ap p e ∙ z)) in
+    zip-append AreOne (halves c.kind (pulled_form f (value c.row))) (constraint_obligations f cs) (halves d.demand.kind (pulled_form f d.demand.form)) (demand_obligations f ds)
+    (subst (λ (k : Kind). AllZip AreOne (halves k (pulled_form f (value c.row))) (halves d.demand.kind (pulled_form f d.demand.form))) (sym a.0.kind) one) (forms_same s f ds cs e a.1)
 
 rows_of_text : (s : Space) (fs gs : List Form) (rows : List Terms) → AllZip AreOne fs gs → ArePulledRows s fs rows → ArePulledRows s gs rows
 rows_of_text s [] [] [] h a = tt
@@ -70,28 +70,28 @@ abbrev pub candidate_parts : Candidate → List ℕ
 candidate_parts c = take c.count c.parts
 
 module _ (q : BodyView) (a b : RegionView) (p : Pair) (o : IsPairOf q a b p) where
-  n_is : p.first.space.variables ≡ length a.names.variables
-  n_is = ap (λ (s : Space). s.variables) o.first_space
+  first_variables : p.first.space.variables ≡ length a.names.variables
+  first_variables = ap (λ (s : Space). s.variables) o.first_space
 
-  m_is : p.space.variables ≡ length b.names.variables
-  m_is = ap (λ (s : Space). s.variables) o.second_space
+  second_variables : p.space.variables ≡ length b.names.variables
+  second_variables = ap (λ (s : Space). s.variables) o.second_space
 
-  place_is : (c : Candidate) → candidate_place p c ≡ place (length a.names.variables) (length b.names.variables) (sets_of (length q.names.variables) (candidate_parts c))
-  place_is c = ap {B = ℕ → ℕ} (λ n. place n p.space.variables (sets_of p.common (candidate_parts c))) n_is
-      ∙ ap {B = ℕ → ℕ} (λ m. place (length a.names.variables) m (sets_of p.common (candidate_parts c))) m_is
-      ∙ ap {B = ℕ → ℕ} (λ w. place (length a.names.variables) (length b.names.variables) (sets_of w (candidate_parts c))) o.common
+  coordinate_is : (c : Candidate) → candidate_coordinate p c ≡ pulled_coordinate (length a.names.variables) (length b.names.variables) (substituted_sets (length q.names.variables) (candidate_parts c))
+  coordinate_is c = ap {B = ℕ → ℕ} (λ n. pulled_coordinate n p.space.variables (substituted_sets p.common (candidate_parts c))) first_variables
+      ∙ ap {B = ℕ → ℕ} (λ m. pulled_coordinate (length a.names.variables) m (substituted_sets p.common (candidate_parts c))) second_variables
+      ∙ ap {B = ℕ → ℕ} (λ w. pulled_coordinate (length a.names.variables) (length b.names.variables) (substituted_sets w (candidate_parts c))) o.common
 
   -- the rows of a candidate's obligations are those that the text has for its parts
   pub text_rows : (c : Candidate) (rows : List Terms) → ArePulledRows p.first.space (pair_obligations p c) rows → ArePulledRows p.first.space (obligations q a b (candidate_parts c)) rows
-  text_rows c rows r = subst (λ (f : ℕ → ℕ). ArePulledRows p.first.space (demand_obligations f (own_demands q b)) rows) (place_is c)
-      (rows_of_text p.first.space (pair_obligations p c) (demand_obligations (candidate_place p c) (own_demands q b)) rows
-      (forms_same p.space (candidate_place p c) (own_demands q b) p.own.items (place_empty p.first.space.variables p.space.variables p.common (candidate_parts c)) o.own) r)
+  text_rows c rows r = subst (λ (f : ℕ → ℕ). ArePulledRows p.first.space (demand_obligations f (own_demands q b)) rows) (coordinate_is c)
+      (rows_of_text p.first.space (pair_obligations p c) (demand_obligations (candidate_coordinate p c) (own_demands q b)) rows
+      (forms_same p.space (candidate_coordinate p c) (own_demands q b) p.own.items (coordinate_of_empty_set p.first.space.variables p.space.variables p.common (candidate_parts c)) o.own) r)
 
   -- the parts of a candidate that fits
   pub parts_are : (c : Candidate) → IsPair p → Fits p c → ArePartsOf a b (candidate_parts c)
   parts_are c l f = record {
     count = length-take-le c.count c.parts (omega (arith, f.complete, f.count, l.few_parts)) ∙ f.count ∙ o.parts;
-    within = subst (λ (n : ℕ). All (λ s. s < 2 ^ n) (candidate_parts c)) n_is f.within;
+    within = subst (λ (n : ℕ). All (λ s. s < 2 ^ n) (candidate_parts c)) first_variables f.within;
   }
 
   -- and a candidate of parts does
@@ -99,20 +99,12 @@ module _ (q : BodyView) (a b : RegionView) (p : Pair) (o : IsPairOf q a b p) whe
   parts_fit c parts four count same h = record {
     complete = four;
     count = count ∙ h.count ∙ sym o.parts;
-    within = subst (All (λ s. s < 2 ^ p.first.space.variables)) (sym same) (subst (λ (n : ℕ). All (λ s. s < 2 ^ n) parts) (sym n_is) h.within);
+    within = subst (All (λ s. s < 2 ^ p.first.space.variables)) (sym same) (subst (λ (n : ℕ). All (λ s. s < 2 ^ n) parts) (sym first_variables) h.within);
   }
 
 -- ---- the parts of a candidate
 
--- at most four sets are the first ones of four places
-pub at_places : (parts : List ℕ) → length parts ≤ 4 → take (length parts) (get_or parts 0 0 ∷ get_or parts 1 0 ∷ get_or parts 2 0 ∷ get_or parts 3 0 ∷ []) ≡ parts
-at_places [] h = refl
-at_places (a ∷ []) h = refl
-at_places (a ∷ b ∷ []) h = refl
-at_places (a ∷ b ∷ c ∷ []) h = refl
-at_places (a ∷ b ∷ c ∷ d ∷ []) h = refl
-at_places (a ∷ b ∷ c ∷ d ∷ e ∷ more) h = absurd (omega arith)
-
+-- at most four sets, and the empty set at the places behind them
 pub all_places : (parts : List ℕ) → length parts ≤ 4 → get_or parts 0 0 ∷ get_or parts 1 0 ∷ get_or parts 2 0 ∷ get_or parts 3 0 ∷ [] ≡ take 4 (parts ++ (0 ∷ 0 ∷ 0 ∷ 0 ∷ []))
 all_places [] h = refl
 all_places (a ∷ []) h = refl
@@ -120,3 +112,6 @@ all_places (a ∷ b ∷ []) h = refl
 all_places (a ∷ b ∷ c ∷ []) h = refl
 all_places (a ∷ b ∷ c ∷ d ∷ []) h = refl
 all_places (a ∷ b ∷ c ∷ d ∷ e ∷ more) h = absurd (omega arith)
+
+pub at_places : (parts : List ℕ) → length parts ≤ 4 → take (length parts) (get_or parts 0 0 ∷ get_or parts 1 0 ∷ get_or parts 2 0 ∷ get_or parts 3 0 ∷ []) ≡ parts
+at_places parts h = ap (take (length parts)) (all_places parts h) ∙ take-take (length parts) 4 (parts ++ (0 ∷ 0 ∷ 0 ∷ 0 ∷ [])) h ∙ take-append_seam parts (0 ∷ 0 ∷ 0 ∷ 0 ∷ [])

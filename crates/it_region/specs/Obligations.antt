@@ -12,26 +12,26 @@ use Rattle.it_question.specs.Questions.{RegionView, BodyView}
 use Rattle.it_canon.specs.Targets.{negation}
 use Rattle.it_canon.specs.Demands.{LineDemand}
 use Rattle.it_canon.specs.QuestionDemands.{given_demands, row_demands}
-use Rattle.it_region.specs.Pulling.{sets_of, place}
+use Rattle.it_region.specs.Pulling.{substituted_sets, pulled_coordinate}
 
 -- the forms that are at least 0 exactly where a constraint is met: that of an equation, and then its negation
 abbrev pub halves : Kind → Form → List Form
 halves Inequality f = f ∷ []
 halves Equation f = f ∷ negation f ∷ []
 
--- the form at the map that has at each coordinate the value at its place
-abbrev pub moved_form : (ℕ → ℕ) → Form → Form
-moved_form f form p = form (λ c. p (f c))
+-- the form at a map pulled back, which has at each coordinate c the value at f c
+abbrev pub pulled_form : (ℕ → ℕ) → Form → Form
+pulled_form f form p = form (λ c. p (f c))
 
 -- the obligations that demands give, in order
 abbrev pub demand_obligations : (ℕ → ℕ) → List LineDemand → List Form
 demand_obligations f [] = []
-demand_obligations f (d ∷ ds) = halves d.demand.kind (moved_form f d.demand.form) ++ demand_obligations f ds
+demand_obligations f (d ∷ ds) = halves d.demand.kind (pulled_form f d.demand.form) ++ demand_obligations f ds
 
 -- and those that constraints give
 abbrev pub constraint_obligations : (ℕ → ℕ) → List Constraint → List Form
 constraint_obligations f [] = []
-constraint_obligations f (c ∷ cs) = halves c.kind (moved_form f (value c.row)) ++ constraint_obligations f cs
+constraint_obligations f (c ∷ cs) = halves c.kind (pulled_form f (value c.row)) ++ constraint_obligations f cs
 
 -- what the second region's own lines demand; its lines are counted behind the question's own
 abbrev pub own_demands : BodyView → RegionView → List LineDemand
@@ -40,8 +40,9 @@ own_demands q b = given_demands (length b.names.variables) (1 + length q.lines.g
 
 -- the obligations where each auxiliary of region b stands for a part, by the meaning of the lines
 abbrev pub obligations : BodyView → RegionView → RegionView → List ℕ → List Form
-obligations q a b parts = demand_obligations (place (length a.names.variables) (length b.names.variables) (sets_of (length q.names.variables) parts)) (own_demands q b)
+obligations q a b parts = demand_obligations (pulled_coordinate (length a.names.variables) (length b.names.variables) (substituted_sets (length q.names.variables) parts)) (own_demands q b)
 
+-- each of the forms is at least 0 at p
 abbrev pub AreFormsAtLeastZero : (ℕ → ℤ) → List Form → Type 0
 AreFormsAtLeastZero p forms = All (λ f. pos 0 ≤ℤ f p) forms
 

@@ -1,21 +1,17 @@
 -- Pairs of regions, and the candidates that fit them.
-use Rattle.std.specs.Prelude.{◌≡◌, ℕ, ◌+◌, ◌<◌, ◌≤◌, ◌^◌, unsigned_abs, List, [], ◌∷◌, take, length, All}
+use Rattle.std.specs.Prelude.{◌≡◌, ℕ, ◌+◌, ◌<◌, ◌≤◌, ◌^◌, List, take, length, All}
 use Rattle.it_space.specs.Problems.{IsProblem, problem_view}
-use Rattle.it_space.specs.Rows.{Terms, IsUpTo}
+use Rattle.it_space.specs.Rows.{IsUpTo}
 use Rattle.it_space.specs.Spaces.{IsSpace, size_of}
 use Rattle.it_polymatroid.specs.Certificates.{Form}
 use Rattle.it_question.specs.Questions.{RegionView, VerbView, Prove, Eliminate, Contain, BodyView}
+use Rattle.it_canon.specs.Canonical.{row_mass}
 use Rattle.it_canon.specs.Demands.{AreStated}
 use Rattle.it_canon.specs.QuestionDemands.{space_of, question_demands}
 use Rattle.it_region.specs.declared.types.Pair.{Pair}
 use Rattle.it_region.specs.declared.types.Candidate.{Candidate}
-use Rattle.it_region.specs.Pulling.{sets_of, place}
+use Rattle.it_region.specs.Pulling.{substituted_sets, pulled_coordinate}
 use Rattle.it_region.specs.Obligations.{own_demands, constraint_obligations}
-
--- the sum of the absolute values of a row's coefficients
-abbrev pub row_mass : Terms → ℕ
-row_mass [] = 0
-row_mass (t ∷ ts) = unsigned_abs t.1 + row_mass ts
 
 -- the pairs that calls take
 pub record IsPair (p : Pair) : Type 0 where
@@ -37,12 +33,13 @@ pub record IsPairOf (q : BodyView) (a b : RegionView) (p : Pair) : Type 0 where
   pub common : p.common ≡ length q.names.variables
   pub parts : p.parts ≡ b.auxiliaries
 
--- where the verb is `contain`
+-- the pair is that of a verb's two regions, where the verb is `contain`
 abbrev pub PairsBy : BodyView → VerbView → Pair → Type 0
 PairsBy q (Prove r) p = ⊥
 PairsBy q (Eliminate rates) p = ⊥
 PairsBy q (Contain a b tries) p = IsPairOf q a b p
 
+-- the pair is that of a question's regions
 abbrev pub Pairs : BodyView → Pair → Type 0
 Pairs q p = PairsBy q q.verb p
 
@@ -58,17 +55,18 @@ pub record Fits (p : Pair) (c : Candidate) : Type 0 where
   pub count : c.count ≡ p.parts
   pub within : All (λ s. s < 2 ^ p.first.space.variables) (take c.count c.parts)
 
--- where the second region's coordinates go
-abbrev pub pair_place : Pair → List ℕ → ℕ → ℕ
-pair_place p sets c = place p.first.space.variables p.space.variables sets c
+-- the coordinate of the first region that one of the second stands for, by what its variables stand for
+abbrev pub pair_coordinate : Pair → List ℕ → ℕ → ℕ
+pair_coordinate p sets c = pulled_coordinate p.first.space.variables p.space.variables sets c
 
 -- what each variable of the second region stands for
 abbrev pub candidate_sets : Pair → Candidate → List ℕ
-candidate_sets p c = sets_of p.common (take c.count c.parts)
+candidate_sets p c = substituted_sets p.common (take c.count c.parts)
 
-abbrev pub candidate_place : Pair → Candidate → ℕ → ℕ
-candidate_place p c = pair_place p (candidate_sets p c)
+-- the same by a candidate
+abbrev pub candidate_coordinate : Pair → Candidate → ℕ → ℕ
+candidate_coordinate p c = pair_coordinate p (candidate_sets p c)
 
 -- the obligations of a candidate, by the rows of the pair
 abbrev pub pair_obligations : Pair → Candidate → List Form
-pair_obligations p c = constraint_obligations (candidate_place p c) p.own.items
+pair_obligations p c = constraint_obligations (candidate_coordinate p c) p.own.items

@@ -1,18 +1,19 @@
 //! The obligations of a candidate.
-ghost use Rattle.std.specs.Prelude.{◌≡◌, ℕ, ℤ, pos, ◌+◌, ◌<◌, ◌≤◌, ◌^◌, ◌*ℤ◌, ◌↔◌, unsigned_abs, length, take, All, IfOk};
+ghost use Rattle.std.specs.Prelude.{◌≡◌, ℕ, ℤ, pos, ◌+◌, ◌<◌, ◌≤◌, ◌^◌, ◌*ℤ◌, ◌↔◌, unsigned_abs, length, All, IfOk};
 ghost use Rattle.it_space.specs.Problems.{AreMet};
 ghost use Rattle.it_space.specs.Rows.{IsUpTo, value};
 ghost use Rattle.it_space.specs.Spaces.{size_of};
-ghost use Rattle.it_polymatroid.specs.Substitutions.{image};
+ghost use Rattle.it_canon.specs.Canonical.{row_mass};
 ghost use Rattle.it_canon.specs.QuestionDemands.{AreAtLeastZero};
 ghost use Rattle.it_canon.specs.Coefficients.{largest, signed_by, IsFormAdded};
-ghost use Rattle.it_region.specs.Obligations.{halves, moved_form, constraint_obligations, ArePulledRows, IsPulledRow};
+ghost use Rattle.it_region.specs.Obligations.{halves, pulled_form, constraint_obligations, ArePulledRows, IsPulledRow};
 ghost use Rattle.it_region.specs.Pulling.{singles};
 ghost use Rattle.it_region.specs.PairSteps.{AreSetsFor};
-ghost use Rattle.it_region.specs.Pairs.{row_mass, Fits, IsPair, pair_obligations, candidate_place, pair_place, candidate_sets};
+ghost use Rattle.it_region.specs.Pairs.{Fits, IsPair, pair_obligations, candidate_coordinate, pair_coordinate, candidate_sets};
 
 use crate::types::{Candidate, Pair};
 use it_canon::Coefficients;
+use it_polymatroid::image;
 use it_space::{Constraint, Kind, Row, VarSet};
 use std::alloc::{AllocError, Global};
 
@@ -45,26 +46,12 @@ fn singles(alloc: Global, count: u8) -> Result<Vec<VarSet>, AllocError>
     Ok(sets)
 }
 
-/// The union of what the members of a set stand for, each variable for one of the sets in order.
-fn image(sets: &[VarSet], set: VarSet) -> VarSet
-    requires { length sets.now ≤ 16 }
-    ensures { result ≡ image sets.now set }
-{
-    let mut union = VarSet::empty();
-    for i in 0..sets.len() {
-        if set.has(i as u8) {
-            union = union.union(sets[i]);
-        }
-    }
-    union
-}
-
-/// Where a coordinate of the second region goes.
-fn place(pair: &Pair, sets: &[VarSet], coordinate: u32) -> usize
+/// The coordinate of the first region that one of the second stands for.
+fn pulled_coordinate(pair: &Pair, sets: &[VarSet], coordinate: u32) -> usize
     requires pair { IsPair pair.now }
     requires sets { AreSetsFor pair.now sets.now }
     requires coordinate { coordinate ≤ size_of pair.now.space }
-    ensures place { result ≡ pair_place pair.now sets.now coordinate }
+    ensures value { result ≡ pair_coordinate pair.now sets.now coordinate }
     ensures below { result ≤ size_of pair.now.first.space }
 {
     let count = 1u32 << pair.space.variables;
@@ -76,7 +63,7 @@ fn place(pair: &Pair, sets: &[VarSet], coordinate: u32) -> usize
 }
 
 /// A term's coefficient, or its negation.
-fn signed(term: &(u32, i128), turned: bool) -> i128
+fn signed_coefficient(term: &(u32, i128), turned: bool) -> i128
     requires { unsigned_abs term.now.1 < 2 ^ 127 }
     ensures value { result ≡ signed_by turned term.now.1 }
     ensures size { unsigned_abs result ≡ unsigned_abs term.now.1 }
@@ -84,20 +71,23 @@ fn signed(term: &(u32, i128), turned: bool) -> i128
     if turned { -term.1 } else { term.1 }
 }
 
-/// Adds a term where it goes.
+/// Adds a term at its pulled coordinate.
 fn add_term(sums: &mut Coefficients, pair: &Pair, sets: &[VarSet], term: &(u32, i128), turned: bool)
     requires pair { IsPair pair.now }
     requires sets { AreSetsFor pair.now sets.now }
     requires coordinate { term.now.0 ≤ size_of pair.now.space }
     requires complete { length sums.old ≡ size_of pair.now.first.space + 1 }
     requires room { largest sums.old + unsigned_abs term.now.1 < 2 ^ 127 }
-    ensures { IsFormAdded sums.old sums.new (unsigned_abs term.now.1) (λ p. signed_by turned term.now.1 *ℤ p (pair_place pair.now sets.now term.now.0)) }
+    ensures { IsFormAdded sums.old sums.new (unsigned_abs term.now.1) (λ p. signed_by turned term.now.1 *ℤ p (pair_coordinate pair.now sets.now term.now.0)) }
 {
-    sums.add(place(pair, sets, term.0), signed(term, turned));
+    sums.add(
+        pulled_coordinate(pair, sets, term.0),
+        signed_coefficient(term, turned),
+    );
 }
 
 /// The row that a row of the second region is at the pulled-back map, or that row turned.
-fn moved_row(
+fn pulled_row(
     alloc: Global,
     pair: &Pair,
     sets: &[VarSet],
@@ -108,7 +98,7 @@ fn moved_row(
     requires sets { AreSetsFor pair.now sets.now }
     requires row { IsUpTo (size_of pair.now.space) row.now }
     requires small { row_mass row.now < 2 ^ 127 }
-    ensures { IfOk result (IsPulledRow pair.now.first.space (λ p. signed_by turned (value row.now (λ c. p (pair_place pair.now sets.now c))))) }
+    ensures { IfOk result (IsPulledRow pair.now.first.space (λ p. signed_by turned (value row.now (λ c. p (pair_coordinate pair.now sets.now c))))) }
 {
     let mut sums = Coefficients::new(alloc, pair.first.space)?;
     for term in row.terms() {
@@ -128,12 +118,12 @@ fn halves(
     requires sets { AreSetsFor pair.now sets.now }
     requires row { IsUpTo (size_of pair.now.space) constraint.now.row }
     requires small { row_mass constraint.now.row < 2 ^ 127 }
-    ensures { IfOk result (λ v. ArePulledRows pair.now.first.space (halves constraint.now.kind (moved_form (pair_place pair.now sets.now) (value constraint.now.row))) v.items) }
+    ensures { IfOk result (λ v. ArePulledRows pair.now.first.space (halves constraint.now.kind (pulled_form (pair_coordinate pair.now sets.now) (value constraint.now.row))) v.items) }
 {
     let mut rows = Vec::new(alloc);
-    rows.push(moved_row(alloc, pair, sets, &constraint.row, false)?)?;
+    rows.push(pulled_row(alloc, pair, sets, &constraint.row, false)?)?;
     if constraint.kind == Kind::Equation {
-        rows.push(moved_row(alloc, pair, sets, &constraint.row, true)?)?;
+        rows.push(pulled_row(alloc, pair, sets, &constraint.row, true)?)?;
     }
     Ok(rows)
 }
@@ -142,7 +132,7 @@ fn halves(
 fn rows_of(alloc: Global, pair: &Pair, sets: &[VarSet]) -> Result<Vec<Row>, AllocError>
     requires pair { IsPair pair.now }
     requires sets { AreSetsFor pair.now sets.now }
-    ensures { IfOk result (λ v. ArePulledRows pair.now.first.space (constraint_obligations (pair_place pair.now sets.now) pair.now.own.items) v.items) }
+    ensures { IfOk result (λ v. ArePulledRows pair.now.first.space (constraint_obligations (pair_coordinate pair.now sets.now) pair.now.own.items) v.items) }
 {
     let mut rows = Vec::new(alloc);
     for constraint in pair.own.as_slice() {
@@ -162,7 +152,7 @@ pub fn obligations(
     requires pair { IsPair pair.now }
     requires fits { Fits pair.now candidate.now }
     ensures rows { IfOk result (λ v. ArePulledRows pair.now.first.space (pair_obligations pair.now candidate.now) v.items) }
-    ensures met { IfOk result (λ v. (p : ℕ → ℤ) → p 0 ≡ pos 0 → AreAtLeastZero p v.items ↔ AreMet (λ c. p (candidate_place pair.now candidate.now c)) pair.now.own.items) }
+    ensures met { IfOk result (λ v. (p : ℕ → ℤ) → p 0 ≡ pos 0 → AreAtLeastZero p v.items ↔ AreMet (λ c. p (candidate_coordinate pair.now candidate.now c)) pair.now.own.items) }
     ensures limits { IfOk result (λ v. All (IsUpTo (size_of pair.now.first.space)) v.items) }
 {
     let sets = candidate_sets(alloc, pair, candidate)?;

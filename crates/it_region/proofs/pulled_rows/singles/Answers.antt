@@ -1,5 +1,5 @@
 use Rattle.std.proofs.Common.{◌++◌, ◌∷◌, [], ap, ◌∙◌, ℕ, arith}
-use Rattle.it_region.proofs.PlaceLemmas.{singles-more, singles-end}
+use Rattle.it_region.proofs.PullingLemmas.{singles-more, singles-end}
 use Rattle.it_region.proofs.pulled_rows.singles.Goals as goal
 
 pub loop-i-preserved : goal.loop-i-preserved

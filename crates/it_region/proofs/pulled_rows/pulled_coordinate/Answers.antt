@@ -1,0 +1,20 @@
+use Rattle.std.proofs.Common.{◌<◌, ◌≤◌, ◌+◌, ◌-◌, ◌^◌, ℕ, arith, sym, ap, ap₂, ◌∙◌}
+use Rattle.it_polymatroid.specs.Substitutions.{image}
+use Rattle.it_region.proofs.PullingLemmas.{coordinate_of_set, coordinate_above_sets, shift_32, shift_64, image_up_to}
+use Rattle.it_region.proofs.pulled_rows.pulled_coordinate.Goals as goal
+
+pub returns-then-coordinate-count-clause-value : goal.returns-then-coordinate-count-clause-value
+returns-then-coordinate-count-clause-value c =
+    let m : ℕ = c.args.pair.now.space.variables in
+    let below : c.args.coordinate < 2 ^ m = omega (arith, c.if-coordinate-count.true, shift_32 m c.requires.pair.space.few) in
+    c.number.ensures ∙ c.image.ensures ∙ ap (image c.args.sets.now) c.from_number.ensures ∙ sym (coordinate_of_set c.args.pair.now.first.space.variables m c.args.sets.now c.args.coordinate below)
+
+pub returns-then-coordinate-count-clause-below : goal.returns-then-coordinate-count-clause-below
+returns-then-coordinate-count-clause-below c = omega (arith, c.number.ensures, c.image.ensures, image_up_to c.args.pair.now.first.space c.args.sets.now c.from_number.result c.requires.sets.within)
+
+pub returns-else-coordinate-count-clause-value : goal.returns-else-coordinate-count-clause-value
+returns-else-coordinate-count-clause-value c =
+    let n : ℕ = c.args.pair.now.first.space.variables in
+    let m : ℕ = c.args.pair.now.space.variables in
+    let above : 2 ^ m ≤ c.args.coordinate = omega (arith, c.if-coordinate-count.false, shift_32 m c.requires.pair.space.few) in
+    ap₂ (λ (x y : ℕ). x + (c.args.coordinate - y)) (shift_64 n c.requires.pair.problem.space.few) (shift_32 m c.requires.pair.space.few) ∙ sym (coordinate_above_sets n m c.args.sets.now c.args.coordinate above)
