@@ -135,7 +135,7 @@ module _ (q : BodyView) (p : ProblemView) (e : p.space ≡ space_of (problem_nam
   right budgets plans r answer is a = nothing_found budgets plans q answer (subst (λ m. IsRightAnswerBy budgets plans q m (record { answer = answer; found = [] })) (sym is) (
     record {
       shows = moved (λ s. ShowsTargets q (targets s.variables r) answer) (show (targets p.space.variables r) a.rows answer a.are a.answered.shows);
-      poses = record { problem = p; rows = a.rows; space = e; limits = k; constraints = st; targets_are = subst (λ n. AreRowsOf p.space (targets n r) a.rows) (ap (λ (s : Space). s.variables) e) a.are };
+      poses = record { problem = p; is_problem = record { space = e; limits = k; constraints = st }; rows = a.rows; targets_are = subst (λ n. AreRowsOf p.space (targets n r) a.rows) (ap (λ (s : Space). s.variables) e) a.are };
       due = a.answered.due;
     },
     refl,

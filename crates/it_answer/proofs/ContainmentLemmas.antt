@@ -12,6 +12,8 @@ use Rattle.it_question.specs.Questions.{OwnLinesView, RegionView, VerbView, Body
 use Rattle.it_canon.specs.QuestionDemands.{space_of, problem_names, problem_names_by, problem_lines, problem_lines_by, AreTrueAt, AreAtLeastZero}
 use Rattle.it_canon.proofs.ProblemLemmas.{question_met}
 use Rattle.it_check.proofs.Truth.{yes_is_true}
+use Rattle.it_prove.specs.ProofViews.{Yes, AreProofsOf}
+use Rattle.it_prove.proofs.RightLemmas.{ends_are_right}
 use Rattle.it_region.specs.declared.types.Candidate.{Candidate}
 use Rattle.it_region.specs.declared.types.Pair.{Pair}
 use Rattle.it_region.specs.Obligations.{ArePulledRows, obligations}
@@ -24,7 +26,7 @@ use Rattle.it_contain.specs.declared.types.Contained.{Contained}
 use Rattle.it_contain.specs.declared.types.Contained.TheVariants.{Found, Open}
 use Rattle.it_contain.specs.Proposals.{Plan, plan_after_all}
 use Rattle.it_contain.specs.Shapes.{shape_of}
-use Rattle.it_contain.specs.Search.{AreProofsOf, Ends, IsProof, IsProofBy, Proofs, goal_of, plan_of, proof_views}
+use Rattle.it_contain.specs.Search.{SearchEnds, IsProof, IsProofBy, Proofs, goal_of, plan_of, proof_views}
 use Rattle.it_contain.proofs.PlanLemmas.{after_none}
 use Rattle.it_answer.specs.declared.types.Budgets.{Budgets}
 use Rattle.it_answer.specs.Forms.{CertifyAll}
@@ -48,7 +50,10 @@ module _ (q : BodyView) (a b : RegionView) (tries : List (List ℕ)) (p : Pair) 
   all_certified budget [] (t ∷ ts) ws r c = absurd r
   all_certified budget (f ∷ fs) [] ws r c = absurd r
   all_certified budget (f ∷ fs) (t ∷ ts) [] r c = absurd c
-  all_certified budget (f ∷ fs) (t ∷ ts) (w ∷ ws) r c = (show_certificate q (problem_view p.first) first_is o.first l.problem f t w r.0.same c.0.right.0, all_certified budget fs ts ws r.1 c.1)
+  all_certified budget (f ∷ fs) (t ∷ ts) (w ∷ ws) r c = (
+    show_certificate q (problem_view p.first) first_is o.first l.problem f t w r.0.same (ends_are_right (problem_view p.first) t budget (Yes w) l.problem r.0.coordinates c.0).0,
+    all_certified budget fs ts ws r.1 c.1,
+  )
 
   -- ---- and so the obligations hold
 
@@ -64,7 +69,7 @@ module _ (q : BodyView) (a b : RegionView) (tries : List (List ℕ)) (p : Pair) 
     rows_hold budget (f ∷ fs) [] ws r c = absurd r
     rows_hold budget (f ∷ fs) (t ∷ ts) [] r c = absurd c
     rows_hold budget (f ∷ fs) (t ∷ ts) (w ∷ ws) r c = All-cons (λ (row : Terms). pos 0 ≤ℤ value row h) t ts
-        (yes_is_true (problem_view p.first) t w l.problem r.0.coordinates c.0.right.0 h (subst (λ (n : ℕ). IsPolymatroid n h) (sym n_is) inside.polymatroid) met) (rows_hold budget fs ts ws r.1 c.1)
+        (yes_is_true (problem_view p.first) t w l.problem r.0.coordinates (ends_are_right (problem_view p.first) t budget (Yes w) l.problem r.0.coordinates c.0).0 h (subst (λ (n : ℕ). IsPolymatroid n h) (sym n_is) inside.polymatroid) met) (rows_hold budget fs ts ws r.1 c.1)
 
   shows : (budget : Option ℕ) (c : Candidate) (ws : List CertificateView) → IsProofBy (goal_of p budget) c ws → ShowsContained q a b (candidate_parts c) ws
   shows budget c ws g =
@@ -84,7 +89,7 @@ module _ (q : BodyView) (a b : RegionView) (tries : List (List ℕ)) (p : Pair) 
   proof_by budget c w g = g
 
   module _ (budgets : Budgets) (plans plans_after : List Plan) where
-    right_search : (end : Contained) → Ends (goal_of p budgets.pivots) budgets.tries (plan_of (tried_of b tries) plans (shape_of p)) plans end plans_after
+    right_search : (end : Contained) → SearchEnds (goal_of p budgets.pivots) budgets.tries (plan_of (tried_of b tries) plans (shape_of p)) plans end plans_after
         → IsRightContainment budgets plans q a b tries (record { answer = answer_of_search end; found = found_of end })
     right_search (Found c w) e =
         let proofs = proof_by budgets.pivots c w e.1 in
@@ -97,17 +102,17 @@ module _ (q : BodyView) (a b : RegionView) (tries : List (List ℕ)) (p : Pair) 
         }
     right_search (Open t) e = record { shows = tt; pair = p; limits = l; pairs = o; due = (e.0, refl) }
 
-    learned_search : (end : Contained) (plan : List Candidate) → Ends (goal_of p budgets.pivots) budgets.tries plan plans end plans_after → plans_after ≡ map (plan_after_all (found_of end)) plans
+    learned_search : (end : Contained) (plan : List Candidate) → SearchEnds (goal_of p budgets.pivots) budgets.tries plan plans end plans_after → plans_after ≡ map (plan_after_all (found_of end)) plans
     learned_search (Found c w) plan e = e.2
     learned_search (Open t) plan e = e.1 ∙ sym (after_none plans)
 
     pub answered : (end : Contained) (budget : Option ℕ) (first : List Candidate) (answer : AnswerView) → budget ≡ budgets.pivots → first ≡ tried_of b tries → answer ≡ answer_of_search end
-        → Ends (goal_of p budget) budgets.tries (plan_of first plans (shape_of p)) plans end plans_after → IsAnswered budgets plans q answer plans_after
+        → SearchEnds (goal_of p budget) budgets.tries (plan_of first plans (shape_of p)) plans end plans_after → IsAnswered budgets plans q answer plans_after
     answered end budget first answer budget_is first_are answer_is e =
-        let bounded : Ends (goal_of p budgets.pivots) budgets.tries (plan_of first plans (shape_of p)) plans end plans_after =
-        subst (λ (n : Option ℕ). Ends (goal_of p n) budgets.tries (plan_of first plans (shape_of p)) plans end plans_after) budget_is e in
-        let ends : Ends (goal_of p budgets.pivots) budgets.tries (plan_of (tried_of b tries) plans (shape_of p)) plans end plans_after =
-        subst (λ (cs : List Candidate). Ends (goal_of p budgets.pivots) budgets.tries (plan_of cs plans (shape_of p)) plans end plans_after) first_are bounded in
+        let bounded : SearchEnds (goal_of p budgets.pivots) budgets.tries (plan_of first plans (shape_of p)) plans end plans_after =
+        subst (λ (n : Option ℕ). SearchEnds (goal_of p n) budgets.tries (plan_of first plans (shape_of p)) plans end plans_after) budget_is e in
+        let ends : SearchEnds (goal_of p budgets.pivots) budgets.tries (plan_of (tried_of b tries) plans (shape_of p)) plans end plans_after =
+        subst (λ (cs : List Candidate). SearchEnds (goal_of p budgets.pivots) budgets.tries (plan_of cs plans (shape_of p)) plans end plans_after) first_are bounded in
         record {
           found = found_of end;
           right = subst (λ (m : VerbView). IsRightAnswerBy budgets plans q m (record { answer = answer; found = found_of end })) (sym is)

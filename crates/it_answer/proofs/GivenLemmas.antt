@@ -10,13 +10,12 @@ use Rattle.it_syntax.specs.Meaning.{Holds}
 use Rattle.it_question.specs.Questions.{BodyView, OwnLinesView, VerbView, Eliminate}
 use Rattle.it_question.specs.Limits.{AreRatesOf, IsQuestion, IsVerbOver}
 use Rattle.it_canon.specs.Demands.{AreStated, LineDemand, States}
-use Rattle.it_canon.specs.QuestionDemands.{space_of, given_demands, line_demands, problem_names_by, problem_lines_by}
+use Rattle.it_canon.specs.QuestionDemands.{space_of, given_demands, line_demands, problem_names_by, problem_lines_by, IsProblemOf}
 use Rattle.it_canon.proofs.GivenSets.{given_sets}
 use Rattle.it_canon.proofs.MetLemmas.{lines_met}
 use Rattle.it_canon.proofs.QuestionLemmas.{givens-few}
 use Rattle.it_canon.proofs.ZipLemmas.{zip-length}
 use Rattle.it_redundant.specs.Theorems.{SpeakOfSets}
-use Rattle.it_answer.specs.RowAnswers.{IsProblemOf}
 
 module _ (q : BodyView) (rates : List ℕ) (givens : ProblemView) (is : q.verb ≡ Eliminate rates) (own : IsProblemOf q givens) where
   pub space_of_names : givens.space ≡ space_of q.names

@@ -29,7 +29,7 @@ use Rattle.it_redundant.specs.Theorems as theorems
 use Rattle.it_redundant.specs.Theorems.{IsReducedRegion, RegionIsReduced}
 use Rattle.it_redundant.proofs.ProjectionLemmas.{one_reduced_end}
 use Rattle.it_answer.specs.declared.types.Budgets.{Budgets}
-use Rattle.it_answer.specs.RightRegions.{region_rows, marked_rows, LinesExtend, Separates, AreNeeded, IsRightRegion, ShowsRegion, answer_of_end, IsRightElimination}
+use Rattle.it_answer.specs.RightRegions.{region_rows, marked_rows, LinesExtend, DoesNotFollow, MarkedRowsAreNeeded, IsRightRegion, ShowsRegion, answer_of_end, IsRightElimination}
 use Rattle.it_answer.specs.RightAnswers.{IsRightAnswerBy, ARegionIsTrue, NeededRowsAreNeeded}
 
 -- ---- the rows of the text and its lines
@@ -121,7 +121,7 @@ module _ (q : BodyView) (rates : List ℕ) (givens : ProblemView) (rows : List T
     (true_at p h.empty).1 (subst (λ (s : Space). All (IsTrueAt s.variables p) q.lines.givens) (sym same) g),
   )
 
-  separates : (others other_rows : List Terms) (row : Terms) (values : List ℤ) → others ≡ other_rows → theorems.Separates givens others row values → Separates q other_rows row
+  separates : (others other_rows : List Terms) (row : Terms) (values : List ℤ) → others ≡ other_rows → theorems.SeparatesRow givens others row values → DoesNotFollow q other_rows row
   separates others other_rows row values e x = record {
     point = map_of values;
     polymatroid = subst (λ (s : Space). IsPolymatroid s.variables (map_of values)) same x.meets.0;
@@ -130,7 +130,7 @@ module _ (q : BodyView) (rates : List ℕ) (givens : ProblemView) (rows : List T
     violated = x.violated;
   }
 
-  are_needed : (kept : List (Terms × NeedView)) → theorems.AreNeeded givens kept → AreNeeded q (marked_rows kept)
+  are_needed : (kept : List (Terms × NeedView)) → theorems.AreNeeded givens kept → MarkedRowsAreNeeded q (marked_rows kept)
   are_needed kept need before after row e =
       let b = stands_between kept before after row e in
       let others : kept_rows b.kept_before ++ kept_rows b.kept_after ≡ region_rows before ++ region_rows after =

@@ -21,7 +21,7 @@ use Rattle.it_answer.proofs.RegionLemmas.{not_width}
 use Rattle.it_answer.specs.RightAnswers.{CauseIsDue, IsRightAnswerBy, NoStepIsZero}
 
 small_constraints : (q : BodyView) (r : RelationView) (b : Poses q r) → All (λ (c : Constraint). IsSmall c.row) b.problem.constraints
-small_constraints q r b = zip-right (λ (d : LineDemand) (c : Constraint). States b.problem.space d.place d.demand c) (λ (c : Constraint). IsSmall c.row) (λ d c s. s.row.small) (question_demands q) b.problem.constraints b.constraints
+small_constraints q r b = zip-right (λ (d : LineDemand) (c : Constraint). States b.problem.space d.place d.demand c) (λ (c : Constraint). IsSmall c.row) (λ d c s. s.row.small) (question_demands q) b.problem.constraints b.is_problem.constraints
 
 not_before_start : (p : ProblemView) (budget : Option ℕ) (fs : List Form) (ts : List Terms) → IsProblem p → All (λ (c : Constraint). IsSmall c.row) p.constraints → AreRowsOf p.space fs ts → CauseIsDue p budget ts (Width 0) → ⊥
 not_before_start p budget [] [] k small a c = absurd c
@@ -31,7 +31,7 @@ not_before_start p budget (f ∷ fs) (t ∷ ts) k small a (inl e) = never_at_sta
 not_before_start p budget (f ∷ fs) (t ∷ ts) k small a (inr c) = not_before_start p budget fs ts k small a.1 c.1
 
 by_verb : (budgets : Budgets) (plans : List Plan) (q : BodyView) (aim : VerbView) (found : List Candidate) → IsRightAnswerBy budgets plans q aim (record { answer = answer_views.Undecided (Width 0); found = found }) → ⊥
-by_verb budgets plans q (Prove r) found a = not_before_start a.0.poses.problem budgets.pivots (targets (variables_of q) r) a.0.poses.rows a.0.poses.limits (small_constraints q r a.0.poses) a.0.poses.targets_are a.0.due
+by_verb budgets plans q (Prove r) found a = not_before_start a.0.poses.problem budgets.pivots (targets (variables_of q) r) a.0.poses.rows a.0.poses.is_problem.limits (small_constraints q r a.0.poses) a.0.poses.targets_are a.0.due
 by_verb budgets plans q (Eliminate rates) found a = not_width 0 a.0.due.end a.0.due.is
 by_verb budgets plans q (Contain first second tries) found a = a.shows
 

@@ -12,9 +12,9 @@ use Rattle.it_polymatroid.specs.Certificates.{Form}
 use Rattle.it_syntax.specs.Meaning.{RelationView}
 use Rattle.it_question.specs.Questions.{BodyView, RegionView, Prove, Contain}
 use Rattle.it_canon.specs.QuestionDemands.{AreRowsOf, problem_names, problem_names_by, space_of}
-use Rattle.it_canon.specs.RowsOfForms.{terms_of}
+use Rattle.it_canon.specs.RowsOfForms.{terms_of_form}
 use Rattle.it_canon.specs.Targets.{targets}
-use Rattle.it_canon.proofs.FormRows.{rows_are, told_by_form}
+use Rattle.it_canon.proofs.FormRows.{rows_are_terms_of_forms, told_by_form}
 use Rattle.it_region.specs.declared.types.Candidate.{Candidate}
 use Rattle.it_region.specs.declared.types.Pair.{Pair}
 use Rattle.it_region.specs.Obligations.{ArePartsOf, ArePulledRows, obligations}
@@ -25,9 +25,9 @@ use Rattle.it_answer.specs.AnswerForms.{IsAnswerBy, IsAnswerTo, answer_forms, an
 -- ---- of a yes
 
 pub yes_rows : {E : Type 0} (q : BodyView) (r : RelationView) (s : Space) (answer : Answer) (proofs : Vec Certificate Global) (rows : Result (Vec Terms Global) E) → q.verb ≡ Prove r → s ≡ space_of q.names → answer ≡ answers.Yes proofs
-    → IfOk rows (λ v. AreRowsOf s (targets s.variables r) v.items) → IfOk rows (λ v. v.items ≡ map (terms_of (size_of (space_of (problem_names q)))) (answer_forms q (answer_view answer)))
+    → IfOk rows (λ v. AreRowsOf s (targets s.variables r) v.items) → IfOk rows (λ v. v.items ≡ map (terms_of_form (size_of (space_of (problem_names q)))) (answer_forms q (answer_view answer)))
 yes_rows q r s answer proofs (Err e) is space_is answer_is a = tt
-yes_rows q r s answer proofs (Ok v) is space_is answer_is a = rows_are s (targets s.variables r) v.items a ∙ ap₂ (λ (t : Space) (fs : List Form). map (terms_of (size_of t)) fs) same_space same_forms
+yes_rows q r s answer proofs (Ok v) is space_is answer_is a = rows_are_terms_of_forms s (targets s.variables r) v.items a ∙ ap₂ (λ (t : Space) (fs : List Form). map (terms_of_form (size_of t)) fs) same_space same_forms
   where
     same_space : s ≡ space_of (problem_names q)
     same_space = space_is ∙ sym (ap (λ m. space_of (problem_names_by q.names m)) is)
@@ -49,7 +49,7 @@ no_targets q r answer is not = ap (λ m. answer_forms_by q m (answer_view answer
 
 -- ---- of a containment
 
-pulled_rows_are : (s : Space) (forms : List Form) (rows : List Terms) → ArePulledRows s forms rows → rows ≡ map (terms_of (size_of s)) forms
+pulled_rows_are : (s : Space) (forms : List Form) (rows : List Terms) → ArePulledRows s forms rows → rows ≡ map (terms_of_form (size_of s)) forms
 pulled_rows_are s [] [] a = refl
 pulled_rows_are s [] (row ∷ rows) a = absurd a
 pulled_rows_are s (form ∷ forms) [] a = absurd a
@@ -58,15 +58,15 @@ pulled_rows_are s (form ∷ forms) (row ∷ rows) a =
 
 module _ (q : BodyView) (a b : RegionView) (tries : List (List ℕ)) (is : q.verb ≡ Contain a b tries) where
   pub obligation_rows : (p : Pair) (o : IsPairOf q a b p) (c : Candidate) (parts : List ℕ) (rows : List Terms) → candidate_parts c ≡ parts → ArePulledRows p.first.space (pair_obligations p c) rows
-      → rows ≡ map (terms_of (size_of (space_of (problem_names q)))) (obligations q a b parts)
+      → rows ≡ map (terms_of_form (size_of (space_of (problem_names q)))) (obligations q a b parts)
   obligation_rows p o c parts rows same h = pulled_rows_are p.first.space (obligations q a b (candidate_parts c)) rows (text_rows q a b p o c rows h)
-      ∙ ap₂ (λ (t : Space) (zs : List ℕ). map (terms_of (size_of t)) (obligations q a b zs)) (o.first_space ∙ sym (ap (λ m. space_of (problem_names_by q.names m)) is)) same
+      ∙ ap₂ (λ (t : Space) (zs : List ℕ). map (terms_of_form (size_of t)) (obligations q a b zs)) (o.first_space ∙ sym (ap (λ m. space_of (problem_names_by q.names m)) is)) same
 
   pub contained_rows : {E : Type 0} (answer : Answer) (parts : Vec ℕ Global) (proofs : Vec Certificate Global) (rows : Result (Vec Terms Global) E) → answer ≡ answers.Contained parts proofs
-      → IfOk rows (λ v. v.items ≡ map (terms_of (size_of (space_of (problem_names q)))) (obligations q a b parts.items))
-      → IfOk rows (λ v. v.items ≡ map (terms_of (size_of (space_of (problem_names q)))) (answer_forms q (answer_view answer)))
+      → IfOk rows (λ v. v.items ≡ map (terms_of_form (size_of (space_of (problem_names q)))) (obligations q a b parts.items))
+      → IfOk rows (λ v. v.items ≡ map (terms_of_form (size_of (space_of (problem_names q)))) (answer_forms q (answer_view answer)))
   contained_rows answer parts proofs (Err e) answer_is h = tt
-  contained_rows answer parts proofs (Ok v) answer_is h = h ∙ sym (ap₂ (λ m x. map (terms_of (size_of (space_of (problem_names q)))) (answer_forms_by q m x)) is (ap answer_view answer_is))
+  contained_rows answer parts proofs (Ok v) answer_is h = h ∙ sym (ap₂ (λ m x. map (terms_of_form (size_of (space_of (problem_names q)))) (answer_forms_by q m x)) is (ap answer_view answer_is))
 
   pub parts_of_answer : (answer : Answer) (parts : Vec ℕ Global) (proofs : Vec Certificate Global) → answer ≡ answers.Contained parts proofs → IsAnswerTo q (answer_view answer) → ArePartsOf a b parts.items
   parts_of_answer answer parts proofs answer_is h = subst (λ x. IsAnswerBy (Contain a b tries) x) (ap answer_view answer_is) (subst (λ m. IsAnswerBy m (answer_view answer)) is h)

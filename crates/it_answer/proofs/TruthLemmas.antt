@@ -29,16 +29,16 @@ use Rattle.it_answer.proofs.FormLemmas.{spoken, by_rows}
 
 module _ (q : BodyView) (r : RelationView) (b : Poses q r) (m : ℕ → ℤ) (h : IsPolymatroid (variables_of q) m) (lines_true : AreTrueAt (variables_of q) m (problem_lines q)) where
   back_to : (P : Space → Type 0) → P (space_of (problem_names q)) → P b.problem.space
-  back_to P x = subst P (sym b.space) x
+  back_to P x = subst P (sym b.is_problem.space) x
 
   -- a certified target is at least 0
   valid : (f : Form) (t : Terms) (w : CertificateView) → IsRowOf b.problem.space f t → CertifiesForm q f w → pos 0 ≤ℤ f m
   valid f t w row c =
       let p = b.problem in
-      let by : CertifiesRow p t w = by_rows (all_demands p.space.variables (demanded q)) (generators p) (spoken p.space (demanded q) p.constraints b.constraints) (size_of p.space + 1) (value t) f row.same w
+      let by : CertifiesRow p t w = by_rows (all_demands p.space.variables (demanded q)) (generators p) (spoken p.space (demanded q) p.constraints b.is_problem.constraints) (size_of p.space + 1) (value t) f row.same w
       (back_to (λ s. IsCertificate (size_of s + 1) (generators_by (all_demands s.variables (demanded q))) f w) c) in
-      let met : AreMet m p.constraints = (question_met q p.space p.constraints b.space b.constraints m h.empty).1 (back_to (λ s. AreTrueAt s.variables m (problem_lines q)) lines_true) in
-      subst (λ (x : ℤ). pos 0 ≤ℤ x) (row.same m h.empty) (yes_is_true p t w b.limits row.coordinates by m (back_to (λ s. IsPolymatroid s.variables m) h) met)
+      let met : AreMet m p.constraints = (question_met q p.space p.constraints b.is_problem.space b.is_problem.constraints m h.empty).1 (back_to (λ s. AreTrueAt s.variables m (problem_lines q)) lines_true) in
+      subst (λ (x : ℤ). pos 0 ≤ℤ x) (row.same m h.empty) (yes_is_true p t w b.is_problem.limits row.coordinates by m (back_to (λ s. IsPolymatroid s.variables m) h) met)
 
   all_valid : (fs : List Form) (ts : List Terms) (ws : List CertificateView) → AreRowsOf b.problem.space fs ts → CertifyAll q fs ws → All (λ f. pos 0 ≤ℤ f m) fs
   all_valid [] [] [] z c = All-nil (λ (f : Form). pos 0 ≤ℤ f m)

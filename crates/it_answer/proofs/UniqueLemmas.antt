@@ -9,22 +9,22 @@ use Rattle.it_space.specs.Rows.{Terms, IsCanonical}
 use Rattle.it_syntax.specs.Meaning.{RelationView}
 use Rattle.it_question.specs.Questions.{BodyView, RegionView, VerbView, Prove, Eliminate, Contain}
 use Rattle.it_canon.proofs.ZipLemmas.{zip-right}
-use Rattle.it_canon.proofs.PosesLemmas.{one_problem, same_rows}
-use Rattle.it_prove.specs.ProofViews.{Yes, No, Undecided}
+use Rattle.it_canon.proofs.PosesLemmas.{same_problem, same_rows}
+use Rattle.it_prove.specs.ProofViews.{Yes, No, Undecided, EndsWith, AreProofsOf}
 use Rattle.it_prove.proofs.ProofLemmas.{one_outcome, proven_ascends}
 use Rattle.it_region.specs.declared.types.Candidate.{Candidate}
 use Rattle.it_region.specs.declared.types.Pair.{Pair}
 use Rattle.it_region.specs.Pairs.{IsPairOf}
 use Rattle.it_contain.specs.Proposals.{Plan}
 use Rattle.it_contain.specs.Shapes.{shape_of}
-use Rattle.it_contain.specs.Search.{Goal, IsOpen, IsProofOf, IsProofBy, goal_of, plan_of}
+use Rattle.it_contain.specs.Search.{Goal, IsOpen, IsProofBy, goal_of, plan_of}
 use Rattle.it_contain.proofs.OneEndLemmas.{one_first, first_not_open, one_open, one_proof_list, same_shape, first_of_other, open_of_other, proof_of_other}
 use Rattle.it_answer.specs.declared.types.Budgets.{Budgets}
 use Rattle.it_answer.proofs.RegionLemmas.{one_elimination}
 use Rattle.it_answer.specs.Replies.{Reply}
 use Rattle.it_answer.specs.RightRegions.{ShowsRegion}
 use Rattle.it_answer.specs.RightContainments.{tried_of, IsFound, IsDueSearch, IsRightContainment}
-use Rattle.it_answer.specs.RightAnswers.{ProofsAreDue, PointIsDue, CauseIsDue, IsDue, IsRightFor, IsRightAnswerBy, OneRightAnswer, ProofsAscend, AYesAscends}
+use Rattle.it_answer.specs.RightAnswers.{PointIsDue, CauseIsDue, IsDue, IsRightFor, IsRightAnswerBy, OneRightAnswer, ProofsAscend, AYesAscends}
 
 -- ---- the answer that is due
 
@@ -47,7 +47,7 @@ refuted_not_open : (xs : List ℤ) (c : Cause) → No xs ≡ Undecided c → ⊥
 refuted_not_open xs c e = cc
 
 module _ (p : ProblemView) (budget : Option ℕ) where
-  one_yes : (ts : List Terms) (ws vs : List CertificateView) → ProofsAreDue p budget ts ws → ProofsAreDue p budget ts vs → ws ≡ vs
+  one_yes : (ts : List Terms) (ws vs : List CertificateView) → AreProofsOf p budget ts ws → AreProofsOf p budget ts vs → ws ≡ vs
   one_yes [] [] [] a b = refl
   one_yes [] [] (v ∷ vs) a b = absurd b
   one_yes [] (w ∷ ws) vs a b = absurd a
@@ -55,7 +55,7 @@ module _ (p : ProblemView) (budget : Option ℕ) where
   one_yes (t ∷ ts) (w ∷ ws) [] a b = absurd b
   one_yes (t ∷ ts) (w ∷ ws) (v ∷ vs) a b = ap₂ (λ x xs. x ∷ xs) (proven_is w v (one_outcome p t budget (Yes w) (Yes v) a.0 b.0)) (one_yes ts ws vs a.1 b.1)
 
-  yes_not_no : (ts : List Terms) (ws : List CertificateView) (is_back : Bool) (values : List ℤ) → ProofsAreDue p budget ts ws → PointIsDue p budget ts is_back values → ⊥
+  yes_not_no : (ts : List Terms) (ws : List CertificateView) (is_back : Bool) (values : List ℤ) → AreProofsOf p budget ts ws → PointIsDue p budget ts is_back values → ⊥
   yes_not_no [] ws is_back values a b = absurd b
   yes_not_no (t ∷ ts) [] is_back values a b = absurd a
   yes_not_no (t ∷ ts) (w ∷ ws) false values a b = proven_not_refuted w values (one_outcome p t budget (Yes w) (No values) a.0 b)
@@ -63,7 +63,7 @@ module _ (p : ProblemView) (budget : Option ℕ) where
   yes_not_no (t ∷ u ∷ ts) (w ∷ []) true values a b = absurd a.1
   yes_not_no (t ∷ u ∷ ts) (w ∷ v ∷ ws) true values a b = proven_not_refuted v values (one_outcome p u budget (Yes v) (No values) a.1.0 b.1)
 
-  yes_not_undecided : (ts : List Terms) (ws : List CertificateView) (cause : Cause) → ProofsAreDue p budget ts ws → CauseIsDue p budget ts cause → ⊥
+  yes_not_undecided : (ts : List Terms) (ws : List CertificateView) (cause : Cause) → AreProofsOf p budget ts ws → CauseIsDue p budget ts cause → ⊥
   yes_not_undecided [] ws cause a b = absurd b
   yes_not_undecided (t ∷ ts) [] cause a b = absurd a
   yes_not_undecided (t ∷ ts) (w ∷ ws) cause a (inl e) = proven_not_open w cause (one_outcome p t budget (Yes w) (Undecided cause) a.0 e)
@@ -93,7 +93,7 @@ module _ (p : ProblemView) (budget : Option ℕ) where
   one_cause (t ∷ ts) c d (inr a) (inl b) = absurd (proven_not_open a.0.0 d (one_outcome p t budget (Yes a.0.0) (Undecided d) a.0.1 b))
   one_cause (t ∷ ts) c d (inr a) (inr b) = one_cause ts c d a.1 b.1
 
-  yes_is : (ts : List Terms) (ws : List CertificateView) (b : AnswerView) → ProofsAreDue p budget ts ws → IsDue p budget ts b → answer_views.Yes ws ≡ b
+  yes_is : (ts : List Terms) (ws : List CertificateView) (b : AnswerView) → AreProofsOf p budget ts ws → IsDue p budget ts b → answer_views.Yes ws ≡ b
   yes_is ts ws (answer_views.Yes vs) x y = ap answer_views.Yes (one_yes ts ws vs x y)
   yes_is ts ws (answer_views.No is_back values) x y = absurd (yes_not_no ts ws is_back values x y)
   yes_is ts ws (answer_views.Undecided cause) x y = absurd (yes_not_undecided ts ws cause x y)
@@ -127,7 +127,7 @@ module _ (p : ProblemView) (budget : Option ℕ) where
 
 one_for : (budget : Option ℕ) (q : BodyView) (r : RelationView) (a b : AnswerView) → IsRightFor budget q r a → IsRightFor budget q r b → a ≡ b
 one_for budget q r a b x y = one_due y.poses.problem budget y.poses.rows a b
-    (subst (λ (p : ProblemView). IsDue p budget y.poses.rows a) (one_problem q r x.poses y.poses) (subst (λ (ts : List Terms). IsDue x.poses.problem budget ts a) (same_rows q r x.poses y.poses) x.due)) y.due
+    (subst (λ (p : ProblemView). IsDue p budget y.poses.rows a) (same_problem q r x.poses y.poses) (subst (λ (ts : List Terms). IsDue x.poses.problem budget ts a) (same_rows q r x.poses y.poses) x.due)) y.due
 
 -- ---- what a search finds
 
@@ -198,7 +198,7 @@ one_right_answer budgets plans q a b x y = one_by budgets plans q q.verb a b x y
 
 -- ---- the certificates of an answer
 
-each_ascends : (p : ProblemView) (budget : Option ℕ) (ts : List Terms) (ws : List CertificateView) → ProofsAreDue p budget ts ws → All (λ (w : CertificateView). IsCanonical w.parts) ws
+each_ascends : (p : ProblemView) (budget : Option ℕ) (ts : List Terms) (ws : List CertificateView) → AreProofsOf p budget ts ws → All (λ (w : CertificateView). IsCanonical w.parts) ws
 each_ascends p budget [] [] a = All-nil (λ (w : CertificateView). IsCanonical w.parts)
 each_ascends p budget [] (w ∷ ws) a = absurd a
 each_ascends p budget (t ∷ ts) [] a = absurd a
@@ -226,8 +226,8 @@ search_ascends goal tries plan found (answer_views.No is_back values) x = absurd
 search_ascends goal tries plan found (answer_views.Undecided cause) x = absurd x
 search_ascends goal tries plan found (answer_views.Region rows) x = absurd x
 search_ascends goal tries plan found (answer_views.Contained parts ws) x =
-    zip-right (λ (t : Terms) (w : CertificateView). IsProofOf (problem_view goal.pair.first) goal.budget t w) (λ (w : CertificateView). IsCanonical w.parts)
-    (λ t w p. proven_ascends (problem_view goal.pair.first) t goal.budget w p.due) x.proofs.rows ws x.proofs.proofs
+    zip-right (λ (t : Terms) (w : CertificateView). EndsWith (problem_view goal.pair.first) t goal.budget (Yes w)) (λ (w : CertificateView). IsCanonical w.parts)
+    (λ t w p. proven_ascends (problem_view goal.pair.first) t goal.budget w p) x.proofs.rows ws x.proofs.proofs
 search_ascends goal tries plan found (answer_views.Open tried) x = tt
 
 ascends_by : (budgets : Budgets) (plans : List Plan) (q : BodyView) (aim : VerbView) (reply : Reply) → IsRightAnswerBy budgets plans q aim reply → ProofsAscend reply.answer

@@ -1,18 +1,19 @@
 -- The generators of a question by the meaning of its text: the elemental inequalities, then what its lines demand; and
 -- certificates over these generators.
-use Rattle.std.specs.Prelude.{ℕ, ◌+◌, pos, List, [], ◌∷◌, ◌++◌, length, map, slice_index_or}
+use Rattle.std.specs.Prelude.{ℕ, ◌+◌, pos, List, ◌++◌, length, map, slice_index_or}
+use Rattle.std.specs.List.{AllZip}
 use Rattle.it_space.specs.declared.problems.Kind.TheVariants.{Inequality}
 use Rattle.it_space.specs.Answers.{CertificateView}
 use Rattle.it_space.specs.Spaces.{size_of}
 use Rattle.it_polymatroid.specs.Certificates.{Form, Generators, IsCertificate}
-use Rattle.it_polymatroid.specs.Elementals.{Elemental, elementals, worth}
+use Rattle.it_polymatroid.specs.Elementals.{Elemental, elementals, elemental_value}
 use Rattle.it_question.specs.Questions.{BodyView}
 use Rattle.it_canon.specs.Demands.{Demand, LineDemand}
 use Rattle.it_canon.specs.QuestionDemands.{space_of, problem_names, question_demands, variables_of}
 use Rattle.it_elemental.specs.Generators.{is_equation}
 
 abbrev pub demand_of_elemental : ℕ → Elemental → Demand
-demand_of_elemental n e = record { kind = Inequality; form = λ p. worth n p e }
+demand_of_elemental n e = record { kind = Inequality; form = λ p. elemental_value n p e }
 
 abbrev pub demand_of_line : LineDemand → Demand
 demand_of_line d = d.demand
@@ -26,7 +27,7 @@ demand_at ds i = slice_index_or ds i (record { kind = Inequality; form = λ p. p
 abbrev pub generators_by : List Demand → Generators
 generators_by ds = record {
   count = length ds;
-  worth_of = λ i p. (demand_at ds i).form p;
+  form = λ i p. (demand_at ds i).form p;
   is_equation = λ i. is_equation (demand_at ds i).kind;
 }
 
@@ -36,7 +37,4 @@ CertifiesForm q f w = IsCertificate (size_of (space_of (problem_names q)) + 1) (
 
 -- one certificate of each target, in order
 abbrev pub CertifyAll : BodyView → List Form → List CertificateView → Type 0
-CertifyAll q [] [] = Unit {0}
-CertifyAll q [] (w ∷ ws) = ⊥
-CertifyAll q (f ∷ fs) [] = ⊥
-CertifyAll q (f ∷ fs) (w ∷ ws) = CertifiesForm q f w × CertifyAll q fs ws
+CertifyAll q fs ws = AllZip (CertifiesForm q) fs ws

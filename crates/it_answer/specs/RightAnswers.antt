@@ -20,13 +20,13 @@ use Rattle.it_region.specs.declared.types.Candidate.{Candidate}
 use Rattle.it_region.specs.Obligations.{ArePartsOf}
 use Rattle.it_region.specs.Regions.{LiesIn}
 use Rattle.it_prove.specs.ProofViews as proof_views
-use Rattle.it_prove.specs.ProofViews.{EndsWith}
+use Rattle.it_prove.specs.ProofViews.{EndsWith, AreProofsOf}
 use Rattle.it_contain.specs.Proposals.{Plan, plan_after_all}
 use Rattle.it_answer.specs.declared.types.Budgets.{Budgets}
 use Rattle.it_answer.specs.Forms.{CertifiesForm, CertifyAll}
 use Rattle.it_answer.specs.Replies.{Reply}
 use Rattle.it_answer.specs.RightContainments.{IsRightContainment}
-use Rattle.it_answer.specs.RightRegions.{AreNeeded, IsRightElimination, LinesExtend, region_rows}
+use Rattle.it_answer.specs.RightRegions.{MarkedRowsAreNeeded, IsRightElimination, LinesExtend, region_rows}
 
 -- ---- what the answer shows, by the meaning of the text
 
@@ -58,13 +58,6 @@ ShowsTargets q fs (Open tried) = ⊥
 abbrev pub IsProven : ProblemView → Option ℕ → Terms → Type 0
 IsProven p budget t = (w : CertificateView) × EndsWith p t budget (proof_views.Yes w)
 
--- each target ends by a proof, and these are the run's certificates
-abbrev pub ProofsAreDue : ProblemView → Option ℕ → List Terms → List CertificateView → Type 0
-ProofsAreDue p budget [] [] = Unit {0}
-ProofsAreDue p budget [] (w ∷ ws) = ⊥
-ProofsAreDue p budget (t ∷ ts) [] = ⊥
-ProofsAreDue p budget (t ∷ ts) (w ∷ ws) = EndsWith p t budget (proof_views.Yes w) × ProofsAreDue p budget ts ws
-
 -- the first target that doesn't end by a proof ends by a point, and these are the run's values
 abbrev pub PointIsDue : ProblemView → Option ℕ → List Terms → Bool → List ℤ → Type 0
 PointIsDue p budget [] is_back values = ⊥
@@ -78,7 +71,7 @@ CauseIsDue p budget [] cause = ⊥
 CauseIsDue p budget (t ∷ ts) cause = EndsWith p t budget (proof_views.Undecided cause) ⊎ (IsProven p budget t × CauseIsDue p budget ts cause)
 
 abbrev pub IsDue : ProblemView → Option ℕ → List Terms → AnswerView → Type 0
-IsDue p budget ts (Yes ws) = ProofsAreDue p budget ts ws
+IsDue p budget ts (Yes ws) = AreProofsOf p budget ts ws
 IsDue p budget ts (No is_back values) = PointIsDue p budget ts is_back values
 IsDue p budget ts (Undecided cause) = CauseIsDue p budget ts cause
 IsDue p budget ts (Region rows) = ⊥
@@ -132,7 +125,7 @@ ARegionIsTrue = (budgets : Budgets) (plans : List Plan) (q : BodyView) (rates : 
 -- and no row of it that is marked as needed follows from the others
 abbrev pub NeededRowsAreNeeded : Type 0
 NeededRowsAreNeeded = (budgets : Budgets) (plans : List Plan) (q : BodyView) (rates : List ℕ) (rows : List (Mark × Terms)) (found : List Candidate) → q.verb ≡ Eliminate rates
-    → IsRightAnswer budgets plans q (record { answer = Region rows; found = found }) → AreNeeded q rows
+    → IsRightAnswer budgets plans q (record { answer = Region rows; found = found }) → MarkedRowsAreNeeded q rows
 
 -- where it is a right containment, the first region lies in the second, and its parts are a set for each auxiliary
 abbrev pub AContainmentIsTrue : Type 0

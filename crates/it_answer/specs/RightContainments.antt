@@ -10,7 +10,7 @@ use Rattle.it_region.specs.Obligations.{ArePartsOf, obligations}
 use Rattle.it_region.specs.Pairs.{IsPair, IsPairOf}
 use Rattle.it_contain.specs.Shapes.{shape_of}
 use Rattle.it_contain.specs.Proposals.{Plan}
-use Rattle.it_contain.specs.Search.{Goal, IsFirst, IsOpen, IsProofBy, goal_of, plan_of}
+use Rattle.it_contain.specs.Search.{Goal, IsFirstProved, IsOpen, IsProofBy, goal_of, plan_of}
 use Rattle.it_answer.specs.declared.types.Budgets.{Budgets}
 use Rattle.it_answer.specs.Forms.{CertifyAll}
 use Rattle.it_answer.specs.Replies.{Reply}
@@ -42,7 +42,7 @@ tried_of b tries = map (λ sets. record { count = b.auxiliaries; parts = sets })
 pub record IsFound (goal : Goal) (tries : ℕ) (plan found : List Candidate) (parts : List ℕ) (ws : List CertificateView) : Type 0 where
   pub candidate : Candidate
   pub found_is : found ≡ candidate ∷ []
-  pub first : IsFirst goal tries plan candidate
+  pub first : IsFirstProved goal tries plan candidate
   pub parts_are : parts ≡ take candidate.count candidate.parts
   pub proofs : IsProofBy goal candidate ws
 

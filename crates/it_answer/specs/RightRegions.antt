@@ -36,7 +36,7 @@ pub record LinesExtend (n : ℕ) (rates : List ℕ) (lines : List RelationView) 
   pub meets : All (Holds n point) lines
 
 -- a polymatroid and rates that make the givens true, at which the other rows hold and this one is -1 or less
-pub record Separates (q : BodyView) (others : List Terms) (row : Terms) : Type 0 where
+pub record DoesNotFollow (q : BodyView) (others : List Terms) (row : Terms) : Type 0 where
   pub point : ℕ → ℤ
   pub polymatroid : IsPolymatroid (length q.names.variables) point
   pub givens_true : All (IsTrueAt (length q.names.variables) point) q.lines.givens
@@ -44,9 +44,9 @@ pub record Separates (q : BodyView) (others : List Terms) (row : Terms) : Type 0
   pub violated : value row point ≤ℤ neg_ℤ (pos 1)
 
 -- each row that is marked as needed is one that the others don't give
-abbrev pub AreNeeded : BodyView → List (Mark × Terms) → Type 0
-AreNeeded q rows = (before after : List (Mark × Terms)) (row : Terms) → rows ≡ before ++ (marks.Needed, row) ∷ after
-    → Separates q (region_rows before ++ region_rows after) row
+abbrev pub MarkedRowsAreNeeded : BodyView → List (Mark × Terms) → Type 0
+MarkedRowsAreNeeded q rows = (before after : List (Mark × Terms)) (row : Terms) → rows ≡ before ++ (marks.Needed, row) ∷ after
+    → DoesNotFollow q (region_rows before ++ region_rows after) row
 
 -- rows over the question's coordinates, without the eliminated rates, that hold at a polymatroid which makes the givens true, and
 -- rates, exactly where this point extends to the eliminated rates; and none that is marked as needed follows from the others
@@ -55,7 +55,7 @@ pub record IsRightRegion (q : BodyView) (rates : List ℕ) (rows : List (Mark ×
   pub free : (r : ℕ) → Member r rates → Lacks (2 ^ length q.names.variables + r) (region_rows rows)
   pub exact : (p : ℕ → ℤ) → IsPolymatroid (length q.names.variables) p → All (IsTrueAt (length q.names.variables) p) q.lines.givens
       → In (region_rows rows) p ↔ LinesExtend (length q.names.variables) rates q.lines.rows p
-  pub needed : AreNeeded q rows
+  pub needed : MarkedRowsAreNeeded q rows
 
 abbrev pub ShowsRegion : BodyView → List ℕ → AnswerView → Type 0
 ShowsRegion q rates (Region rows) = IsRightRegion q rates rows
@@ -68,12 +68,12 @@ ShowsRegion q rates (Open tried) = ⊥
 -- ---- which answer is due, by reduced elimination of the rows of the text
 
 -- why a row stays, as its mark
-abbrev pub mark_of : NeedView → Mark
-mark_of (Needed values) = marks.Needed
-mark_of (Unsettled cause) = marks.Unsettled
+abbrev pub mark_of_need : NeedView → Mark
+mark_of_need (Needed values) = marks.Needed
+mark_of_need (Unsettled cause) = marks.Unsettled
 
 abbrev pub marked_rows : List (Terms × NeedView) → List (Mark × Terms)
-marked_rows kept = map (λ k. (mark_of k.1, k.0)) kept
+marked_rows kept = map (λ k. (mark_of_need k.1, k.0)) kept
 
 -- a region with its rows in order; or the cause that there is none, with its rate
 abbrev pub answer_of_end : ProjectedView → AnswerView

@@ -1,30 +1,20 @@
 -- Answers about rows, by which the calls in this crate are proved. No public clause cites this module.
-use Rattle.std.specs.Prelude.{◌≡◌, ℕ, ℤ, List, [], ◌∷◌, Bool, true, false, Option}
-use Rattle.it_space.specs.Problems.{ProblemView, IsProblem}
+use Rattle.std.specs.Prelude.{ℕ, ℤ, List, [], ◌∷◌, Bool, true, false, Option}
+use Rattle.std.specs.List.{AllZip}
+use Rattle.it_space.specs.Problems.{ProblemView}
 use Rattle.it_space.specs.Answers.{AnswerView, CertificateView}
 use Rattle.it_space.specs.Answers.AnswerView.{Yes, No, Undecided, Region, Contained, Open}
 use Rattle.it_space.specs.Rows.{Terms}
 use Rattle.it_polymatroid.specs.Certificates.{Form}
-use Rattle.it_question.specs.Questions.{BodyView}
-use Rattle.it_canon.specs.Demands.{AreStated}
-use Rattle.it_canon.specs.QuestionDemands.{AreRowsOf, space_of, problem_names, question_demands}
+use Rattle.it_canon.specs.QuestionDemands.{AreRowsOf}
 use Rattle.it_check.specs.Meaning.{CertifiesRow, RefutesRow}
 use Rattle.it_prove.specs.ProofViews.{ProofView}
 use Rattle.it_prove.specs.ProofViews as proof_views
 use Rattle.it_answer.specs.RightAnswers.{IsDue}
 
--- the problem that a question poses
-pub record IsProblemOf (q : BodyView) (p : ProblemView) : Type 0 where
-  pub space : p.space ≡ space_of (problem_names q)
-  pub limits : IsProblem p
-  pub constraints : AreStated p.space (question_demands q) p.constraints
-
 -- one certificate of each row, in order
 abbrev pub CertifyRows : ProblemView → List Terms → List CertificateView → Type 0
-CertifyRows p [] [] = Unit {0}
-CertifyRows p [] (w ∷ ws) = ⊥
-CertifyRows p (t ∷ ts) [] = ⊥
-CertifyRows p (t ∷ ts) (w ∷ ws) = CertifiesRow p t w × CertifyRows p ts ws
+CertifyRows p ts ws = AllZip (CertifiesRow p) ts ws
 
 -- The values refute the first row; or, `is_back`, the second one, where the first has a certificate.
 abbrev pub RefutesFirst : ProblemView → List Terms → Bool → List ℤ → Type 0

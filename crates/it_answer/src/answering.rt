@@ -8,11 +8,11 @@ ghost use Rattle.it_question.specs.Limits.{IsQuestion};
 ghost use Rattle.it_question.specs.Questions.{question_body};
 ghost use Rattle.it_canon.specs.Canonical.{form_of};
 ghost use Rattle.it_canon.specs.Demands.{AreStated};
-ghost use Rattle.it_canon.specs.QuestionDemands.{problem_names, question_demands, space_of};
+ghost use Rattle.it_canon.specs.QuestionDemands.{problem_names, question_demands, space_of, IsProblemOf};
 ghost use Rattle.it_canon.specs.Targets.{negation, targets};
 ghost use Rattle.it_prove.specs.ProofViews.{proof_view};
 ghost use Rattle.it_answer.specs.RightAnswers.{IsAnswered};
-ghost use Rattle.it_answer.specs.RowAnswers.{AnswersForms, IsProblemOf, answer_after_one, answer_after_two};
+ghost use Rattle.it_answer.specs.RowAnswers.{AnswersForms, answer_after_one, answer_after_two};
 
 use crate::containments::containment;
 use crate::regions::region;
@@ -57,7 +57,12 @@ fn answer_under(
     ensures { IfOk result (λ a. IsAnswered budgets (map plan boxes.old.items) (question_body question.now) (answer_view a) (map plan boxes.new.items)) }
 {
     match &question.verb {
-        Verb::Prove(relation) => about(alloc, problem, relation, budget_of(budgets.pivots)),
+        Verb::Prove(relation) => relation_answer(
+            alloc,
+            problem,
+            relation,
+            budget_of(budgets.pivots),
+        ),
         Verb::Eliminate(rates) => { region(alloc, question, rates.as_slice(), problem, budgets) }
         Verb::Contain {
             first,
@@ -77,7 +82,7 @@ fn answer_under(
 
 /// The answer about a relation under a problem, by runs of at most the budget's steps, if it has some. The two targets of an equality are the left
 /// side less the right one, then the right side less the left one; the second is asked only where the first has a certificate.
-fn about(
+fn relation_answer(
     alloc: Global,
     problem: &Problem,
     relation: &Relation,

@@ -4,10 +4,10 @@ ghost use Rattle.it_space.specs.Answers.{answer_view};
 ghost use Rattle.it_space.specs.Problems.{problem_view};
 ghost use Rattle.it_question.specs.Limits.{IsQuestion};
 ghost use Rattle.it_question.specs.Questions.{Eliminate, question_body};
+ghost use Rattle.it_canon.specs.QuestionDemands.{IsProblemOf};
 ghost use Rattle.it_redundant.specs.ReducedElimination.{projected_view};
 ghost use Rattle.it_redundant.specs.Reduction.{need_view};
-ghost use Rattle.it_answer.specs.RightRegions.{IsRightElimination, answer_of_end, mark_of, marked_rows};
-ghost use Rattle.it_answer.specs.RowAnswers.{IsProblemOf};
+ghost use Rattle.it_answer.specs.RightRegions.{IsRightElimination, answer_of_end, mark_of_need, marked_rows};
 
 use crate::types::{Budgets, budget_of};
 use it_canon::system;
@@ -59,14 +59,14 @@ fn marked_rows(alloc: Global, kept: Vec<(Row, Need)>) -> Result<Vec<(Mark, Row)>
 {
     let mut marked = Vec::new(alloc);
     for (row, need) in kept {
-        marked.push((mark_of(&need), row))?;
+        marked.push((mark_of_need(&need), row))?;
     }
     Ok(marked)
 }
 
 /// Why a row stays, as its mark.
-fn mark_of(need: &Need) -> Mark
-    ensures { result ≡ mark_of (need_view need.now) }
+fn mark_of_need(need: &Need) -> Mark
+    ensures { result ≡ mark_of_need (need_view need.now) }
 {
     match need {
         Need::Needed(_) => Mark::Needed,

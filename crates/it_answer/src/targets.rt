@@ -6,7 +6,7 @@ ghost use Rattle.it_syntax.specs.Meaning.{relation_view};
 ghost use Rattle.it_question.specs.Limits.{IsQuestion};
 ghost use Rattle.it_question.specs.Questions.{Contain, Prove, question_body, region_view};
 ghost use Rattle.it_canon.specs.QuestionDemands.{problem_names, space_of};
-ghost use Rattle.it_canon.specs.RowsOfForms.{terms_of};
+ghost use Rattle.it_canon.specs.RowsOfForms.{terms_of_form};
 ghost use Rattle.it_region.specs.Obligations.{ArePartsOf, obligations};
 ghost use Rattle.it_answer.specs.AnswerForms.{IsAnswerTo, answer_forms};
 
@@ -25,7 +25,7 @@ pub fn target_rows(
 ) -> Result<Vec<Row>, AllocError>
     requires limits { IsQuestion (question_body question.now) }
     requires fits { IsAnswerTo (question_body question.now) (answer_view answer.now) }
-    ensures { IfOk result (λ v. v.items ≡ map (terms_of (size_of (space_of (problem_names (question_body question.now))))) (answer_forms (question_body question.now) (answer_view answer.now))) }
+    ensures { IfOk result (λ v. v.items ≡ map (terms_of_form (size_of (space_of (problem_names (question_body question.now))))) (answer_forms (question_body question.now) (answer_view answer.now))) }
 {
     match &question.verb {
         Verb::Prove(relation) => yes_rows(alloc, question, relation, answer),
@@ -47,7 +47,7 @@ fn yes_rows(
 ) -> Result<Vec<Row>, AllocError>
     requires limits { IsQuestion (question_body question.now) }
     requires proves { (question_body question.now).verb ≡ Prove (relation_view relation.now) }
-    ensures { IfOk result (λ v. v.items ≡ map (terms_of (size_of (space_of (problem_names (question_body question.now))))) (answer_forms (question_body question.now) (answer_view answer.now))) }
+    ensures { IfOk result (λ v. v.items ≡ map (terms_of_form (size_of (space_of (problem_names (question_body question.now))))) (answer_forms (question_body question.now) (answer_view answer.now))) }
 {
     match answer {
         Answer::Yes(_) => it_canon::target_rows(alloc, relation, question.names.space()),
@@ -67,7 +67,7 @@ fn contained_rows(
     requires limits { IsQuestion (question_body question.now) }
     requires contains { (question_body question.now).verb ≡ Contain (region_view first.now) (region_view second.now) tries.now }
     requires fits { IsAnswerTo (question_body question.now) (answer_view answer.now) }
-    ensures { IfOk result (λ v. v.items ≡ map (terms_of (size_of (space_of (problem_names (question_body question.now))))) (answer_forms (question_body question.now) (answer_view answer.now))) }
+    ensures { IfOk result (λ v. v.items ≡ map (terms_of_form (size_of (space_of (problem_names (question_body question.now))))) (answer_forms (question_body question.now) (answer_view answer.now))) }
 {
     match answer {
         Answer::Contained { parts, .. } => {
@@ -89,7 +89,7 @@ fn obligation_rows(
     requires limits { IsQuestion (question_body question.now) }
     requires contains { (question_body question.now).verb ≡ Contain (region_view first.now) (region_view second.now) tries.now }
     requires parts { ArePartsOf (region_view first.now) (region_view second.now) parts.now }
-    ensures { IfOk result (λ v. v.items ≡ map (terms_of (size_of (space_of (problem_names (question_body question.now))))) (obligations (question_body question.now) (region_view first.now) (region_view second.now) parts.now)) }
+    ensures { IfOk result (λ v. v.items ≡ map (terms_of_form (size_of (space_of (problem_names (question_body question.now))))) (obligations (question_body question.now) (region_view first.now) (region_view second.now) parts.now)) }
 {
     let pair = pair(alloc, question)?;
     let candidate = candidate(parts);

@@ -16,7 +16,7 @@ returns-in-Prove g c =
     let q = question_body c.args.question.now in
     let p = problem_view c.args.problem.now in
     let r = relation_view c.in-Prove.relation in
-    if_ok c.about.result (λ a. AnswersForms p (targets p.space.variables r) (answer_view a) c.budget_of.result) (λ a. IsAnswered c.args.budgets _ q (answer_view a) _) c.about.ensures
+    if_ok c.relation_answer.result (λ a. AnswersForms p (targets p.space.variables r) (answer_view a) c.budget_of.result) (λ a. IsAnswered c.args.budgets _ q (answer_view a) _) c.relation_answer.ensures
     (λ a answered. right q p c.requires.problem.space c.requires.problem.constraints c.requires.problem.limits c.args.budgets _ r (answer_view a) (ap verb_view c.in-Prove.is)
     (subst (λ (b : Option ℕ). AnswersForms p (targets p.space.variables r) (answer_view a) b) c.budget_of.ensures answered))
 

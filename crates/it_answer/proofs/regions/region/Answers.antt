@@ -17,17 +17,17 @@ project-requires-clause-rates c =
 pub project-requires-clause-some : goal.project-requires-clause-some
 project-requires-clause-some c = (rates_of_question (question_body c.args.question.now) c.args.rates.now c.requires.eliminates c.requires.question).some
 
-pub project-requires-clause-space : goal.project-requires-clause-space
-project-requires-clause-space c =
-    c.in_ok-system.ensures.space ∙ sym (space_of_names (question_body c.args.question.now) c.args.rates.now (problem_view c.args.givens.now) c.requires.eliminates c.requires.givens)
+pub project-requires-clause-system : goal.project-requires-clause-system
+project-requires-clause-system c = record {
+  system = c.in_ok-system.ensures.limits;
+  givens = c.requires.givens.limits;
+  space = c.in_ok-system.ensures.space ∙ sym (space_of_names (question_body c.args.question.now) c.args.rates.now (problem_view c.args.givens.now) c.requires.eliminates c.requires.givens);
+  few_givens = few_constraints (question_body c.args.question.now) c.args.rates.now (problem_view c.args.givens.now) c.requires.eliminates c.requires.givens c.requires.question;
+}
 
 pub project-requires-clause-sets : goal.project-requires-clause-sets
 project-requires-clause-sets c =
     constraints_of_sets (question_body c.args.question.now) c.args.rates.now (problem_view c.args.givens.now) c.requires.eliminates c.requires.givens c.requires.question
-
-pub project-requires-clause-few_givens : goal.project-requires-clause-few_givens
-project-requires-clause-few_givens c =
-    few_constraints (question_body c.args.question.now) c.args.rates.now (problem_view c.args.givens.now) c.requires.eliminates c.requires.givens c.requires.question
 
 pub returns : goal.returns
 returns c =
