@@ -2,19 +2,20 @@
 use Rattle.std.proofs.Common.{◌≡◌, ℕ, suc, ◌+◌, ◌*◌, ◌-◌, ◌<◌, ◌≤◌, ◌^◌, ◌==◌, ◌&&◌, ℤ, pos, negsuc, List, [], ◌∷◌, length, refl, ap, ◌∙◌, arith, Some, None, option_and_then, option_map, true, false, cond, nat_le, rules, lit<, lit≤}
 use Rattle.std.specs.Fmt.{decimal, signed_decimal}
 use Rattle.std.specs.Str.Parse.{IsNumeral, AllDigits, digits_value_after}
-use Rattle.std.specs.Char.{digit_value}
+use Rattle.std.specs.Char.{digit_value, is_ascii_digit}
 use Rattle.std.proofs.lemmas.Fmt.{decimal_is_IsNumeral_wide, length-decimal-le_wide}
 use Rattle.std.proofs.lemmas.Str.{digit_value_digit}
 use Rattle.std.proofs.lemmas.Str.Parse.{digit_from_value}
 use Rattle.it_number.specs.Limit.{IsWithin}
-use Rattle.it_certificate.specs.Numerals.{is_digit, value_from, up_to_limit, magnitude_of, minus, whole_of, count_of, count_of_whole, step_of}
+use Rattle.it_number.specs.Decimals.{value_from}
+use Rattle.it_certificate.specs.Numerals.{up_to_limit, magnitude_of, negative_of, integer_of, count_of, count_of_integer, step_of}
 
 digits_read : (n : ℕ) (ds : List ℕ) → AllDigits 10 ds → value_from n ds ≡ Some (digits_value_after 10 n ds)
 digits_read n [] all = refl
 digits_read n (d ∷ ds) all =
     let range = digit_from_value d all.0 in
     let value = digit_value_digit d range in
-    let is : is_digit d ≡ true = search (rules, range) in
+    let is : is_ascii_digit d ≡ true = search (rules, range) in
     let same : 10 * n + (d - 48) ≡ n * 10 + digit_value d = omega (arith, value) in
     ap (λ b. cond b (value_from (10 * n + (d - 48)) ds) None) is ∙ ap (λ k. value_from k ds) same ∙ digits_read (n * 10 + digit_value d) ds all.1
 
@@ -36,27 +37,27 @@ magnitude_back n lt =
     tens : 10 ^ 39 ≤ 10 ^ 64
     tens = lit≤ tt
 
-no_minus : (n : ℕ) (cs : List ℕ) → IsNumeral 10 cs → whole_of cs ≡ option_map pos (magnitude_of cs)
-unfolding whole_of
+no_minus : (n : ℕ) (cs : List ℕ) → IsNumeral 10 cs → integer_of cs ≡ option_map pos (magnitude_of cs)
+unfolding integer_of
 no_minus n [] numeral = absurd (omega (arith, numeral.0))
 no_minus n (c ∷ cs) numeral =
     let range = digit_from_value c numeral.1.0 in
     let not : (c == 45) ≡ false = search (rules, range) in
-    ap (λ b. cond b (option_map minus (magnitude_of cs)) (option_map pos (magnitude_of (c ∷ cs)))) not
+    ap (λ b. cond b (option_map negative_of (magnitude_of cs)) (option_map pos (magnitude_of (c ∷ cs)))) not
 
-pub whole_back : (z : ℤ) → IsWithin z → whole_of (signed_decimal z) ≡ Some z
-unfolding whole_of
-whole_back (pos n) lt =
+pub integer_back : (z : ℤ) → IsWithin z → integer_of (signed_decimal z) ≡ Some z
+unfolding integer_of
+integer_back (pos n) lt =
     let wide : n < 10 ^ 64 = omega (arith, below_wide n lt, (let e : 10 ^ 39 ≤ 10 ^ 64 = lit≤ tt in e)) in
     no_minus n (decimal n) (decimal_is_IsNumeral_wide n wide).0 ∙ ap (option_map pos) (magnitude_back n lt)
-whole_back (negsuc n) lt = ap (option_map minus) (magnitude_back (suc n) lt)
+integer_back (negsuc n) lt = ap (option_map negative_of) (magnitude_back (suc n) lt)
 
-decimal_whole : (n : ℕ) → n < 2 ^ 127 → whole_of (decimal n) ≡ Some (pos n)
-decimal_whole n lt = whole_back (pos n) lt
+decimal_integer : (n : ℕ) → n < 2 ^ 127 → integer_of (decimal n) ≡ Some (pos n)
+decimal_integer n lt = integer_back (pos n) lt
 
 pub count_back : (n : ℕ) → n < 2 ^ 32 → count_of n ≡ Some n
 count_back n lt = search (rules, lt)
 
 pub step_back : (n : ℕ) → n < 2 ^ 32 → step_of (decimal n) ≡ Some n
 unfolding step_of
-step_back n lt = ap (option_and_then count_of_whole) (decimal_whole n (let e : 2 ^ 32 ≤ 2 ^ 127 = lit≤ tt in omega (arith, lt, e))) ∙ count_back n lt
+step_back n lt = ap (option_and_then count_of_integer) (decimal_integer n (let e : 2 ^ 32 ≤ 2 ^ 127 = lit≤ tt in omega (arith, lt, e))) ∙ count_back n lt

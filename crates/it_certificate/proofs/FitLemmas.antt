@@ -1,6 +1,6 @@
 -- What is read of an answer fits its question.
 use Rattle.std.proofs.Common.{◌≡◌, ℕ, ◌+◌, ◌<◌, ◌≤◌, ◌^◌, ◌==◌, ◌&&◌, ℤ, pos, negsuc, not, unsigned_abs, List, [], ◌∷◌, length, refl, ap, sym, subst, ◌∙◌, Option, Some, None, Result, Ok, Err, option_and_then, option_map, Bool, true, false, cond, nat_le, nat_lt, rules, arith, codes}
-use Rattle.std.specs.Prelude.{All, bytes_eq, get_or}
+use Rattle.std.specs.Prelude.{All, ok_or, bytes_eq, get_or}
 use Rattle.std.specs.List.{position_or_len}
 use Rattle.std.proofs.lemmas.List.Sums.{passes_at_first}
 use Rattle.std.proofs.lemmas.Slice.Eq.{bytes_eq-Decides}
@@ -25,18 +25,18 @@ use Rattle.it_certificate.specs.declared.kinds.AnswerKind.{AnswerKind}
 use Rattle.it_certificate.specs.declared.kinds.AnswerKind.TheVariants as kinds
 use Rattle.it_certificate.specs.declared.kinds.CauseKind.{CauseKind}
 use Rattle.it_certificate.specs.declared.kinds.CauseKind.TheVariants as causes
-use Rattle.it_certificate.specs.Numerals.{count_of, count_of_whole, step_of, whole_of}
-use Rattle.it_certificate.specs.Values.{rate_text}
+use Rattle.it_certificate.specs.Numerals.{count_of, count_of_integer, step_of, integer_of}
+use Rattle.it_certificate.specs.Values.{rate_name}
 use Rattle.it_certificate.specs.Kinds.{back_of}
-use Rattle.it_certificate.specs.Parts.{text_of, items_of_array, whole_at, count_at, both, two_of, pair_at, all_of, list_at, of_length, certificate_at, proofs_at, point_at, back_at, cause_kind_at, cause_of, cause_at, step_or_rate, is_row_between, is_term_between, row_of, mark_at, terms_at, row_at, rows_at, set_of, set_at, parts_at, tried_at}
-use Rattle.it_certificate.specs.AnswerReading.{or_key, and_then, is_equality, target_count, yes_at, no_at, undecided_at, region_at, contained_at, open_at}
-use Rattle.it_certificate.specs.Obligations.{obligation_count}
+use Rattle.it_certificate.specs.Parts.{text_of, items_of_array, integer_at, count_at, both, two_of, pair_at, all_of, list_at, of_length, certificate_at, proofs_at, point_at, back_at, cause_kind_at, cause_of, cause_at, step_or_rate, is_row_between, is_term_between, row_of, mark_at, terms_at, row_at, rows_at, set_of, set_at, parts_at, tried_at}
+use Rattle.it_certificate.specs.AnswerReading.{and_then, is_equality, yes_at, no_at, undecided_at, region_at, contained_at, open_at}
+use Rattle.it_certificate.specs.Obligations.{obligation_count, target_count}
 use Rattle.it_certificate.specs.Reports.{prove_answer, eliminate_answer, contain_answer, verb_answer, question_answer}
-use Rattle.it_certificate.specs.Fits.{IsPair, IsNumbered, IsRowIn, IsFoundIn, IsCauseFor, FitsProve, FitsEliminate, FitsContain, FitsVerb, FitsQuestion}
-use Rattle.it_certificate.proofs.WithinLemmas.{and_then_some, map_some, cond_some, both_some, all_of_holds, whole_at_within, all_within, point_length}
+use Rattle.it_certificate.specs.Fits.{IsNumberedAmount, IsNumbered, IsRowIn, IsFoundIn, IsCauseFor, FitsProve, FitsEliminate, FitsContain, FitsVerb, FitsQuestion}
+use Rattle.it_certificate.proofs.WithinLemmas.{and_then_some, map_some, cond_some, both_some, all_of_holds, integer_at_within, point_within, point_length}
 use Rattle.it_certificate.proofs.RowLemmas.{both_true, canonical}
 
-key_ok : {A : Type 0} (k : Key) (o : Option A) (a : A) → or_key k o ≡ Ok a → o ≡ Some a
+key_ok : {A : Type 0} (k : Key) (o : Option A) (a : A) → ok_or o k ≡ Ok a → o ≡ Some a
 key_ok k None a is = absurd (cc)
 key_ok k (Some b) a is = let e : b ≡ a = cc in ap Some e
 
@@ -63,12 +63,12 @@ count_at_below : (d : Data) (n : ℕ) → count_at d ≡ Some n → n < 2 ^ 32
 unfolding count_at
 count_at_below d n is = let h = and_then_some (option_and_then as_u64 (as_number d)) count_of n is in count_below h.0 n h.1.1
 
-pair_numbers : (d : Data) (t : ℕ × ℤ) → pair_at d ≡ Some t → IsPair t
+pair_numbers : (d : Data) (t : ℕ × ℤ) → pair_at d ≡ Some t → IsNumberedAmount t
 unfolding pair_at
 pair_numbers d t is =
-    let h = and_then_some (option_and_then two_of (as_array d)) (λ p. both (count_at p.0) (whole_at p.1)) t is in
-    let k = both_some (count_at h.0.0) (whole_at h.0.1) t h.1.1 in
-    (count_at_below h.0.0 t.0 k.0, whole_at_within h.0.1 t.1 k.1)
+    let h = and_then_some (option_and_then two_of (as_array d)) (λ p. both (count_at p.0) (integer_at p.1)) t is in
+    let k = both_some (count_at h.0.0) (integer_at h.0.1) t h.1.1 in
+    (count_at_below h.0.0 t.0 k.0, integer_at_within h.0.1 t.1 k.1)
 
 list_numbers : {A : Type 0} (P : A → Type 0) (f : Data → Option A) → ((d : Data) (a : A) → f d ≡ Some a → P a) → (o : Option Data) (xs : List A) → list_at f o ≡ Some xs → All P xs
 list_numbers P f each o xs is = let h = and_then_some (items_of_array o) (all_of f) xs is in all_of_holds P f each h.0 xs h.1.1
@@ -85,10 +85,10 @@ counted_numbers P f each n o xs is =
 certificate_numbers : (d : Data) (c : CertificateView) → certificate_at d ≡ Some c → IsNumbered c
 unfolding certificate_at
 certificate_numbers d c is =
-    let h = and_then_some (option_and_then whole_at (get (codes "scale") d)) (λ s. option_map (λ ws. record { scale = s; parts = ws }) (list_at pair_at (get (codes "weights") d))) c is in
+    let h = and_then_some (option_and_then integer_at (get (codes "scale") d)) (λ s. option_map (λ ws. record { scale = s; parts = ws }) (list_at pair_at (get (codes "weights") d))) c is in
     let k = map_some (list_at pair_at (get (codes "weights") d)) (λ ws. record { scale = h.0; parts = ws }) c h.1.1 in
-    let s = and_then_some (get (codes "scale") d) whole_at h.0 h.1.0 in
-    subst IsNumbered k.1.1 (record { scale = whole_at_within s.0 h.0 s.1.1; parts = list_numbers IsPair pair_at pair_numbers (get (codes "weights") d) k.0 k.1.0 })
+    let s = and_then_some (get (codes "scale") d) integer_at h.0 h.1.0 in
+    subst IsNumbered k.1.1 (record { scale = integer_at_within s.0 h.0 s.1.1; parts = list_numbers IsNumberedAmount pair_at pair_numbers (get (codes "weights") d) k.0 k.1.0 })
 
 proofs_fit : (n : ℕ) (d : Data) (ps : List CertificateView) → proofs_at n d ≡ Some ps → (length ps ≡ n) × All IsNumbered ps
 unfolding proofs_at
@@ -99,7 +99,7 @@ proofs_fit n d ps is = counted_numbers IsNumbered certificate_at certificate_num
 yes_fits : (v : NamesView) (sign : Sign) (d : Data) (a : AnswerView) → yes_at sign d ≡ Ok a → FitsProve v sign a
 unfolding yes_at
 yes_fits v sign d a is =
-    let h = then_ok (or_key keys.Proofs (proofs_at (target_count sign) d)) (λ ps. Ok (Yes ps)) a is in
+    let h = then_ok (ok_or (proofs_at (target_count sign) d) keys.Proofs) (λ ps. Ok (Yes ps)) a is in
     subst (FitsProve v sign) (ok_same (Yes h.0) a h.1.1) (proofs_fit (target_count sign) d h.0 (key_ok keys.Proofs (proofs_at (target_count sign) d) h.0 h.1.0))
 
 back_only : (equality back : Bool) (text : List ℕ) → back_of equality text ≡ Some back → back ≡ true → equality ≡ true
@@ -119,29 +119,29 @@ no_fits : (v : NamesView) (sign : Sign) (d : Data) (a : AnswerView) → no_at (s
 unfolding no_at
 no_fits v sign d a is =
     let size = size_of (space_of v) in
-    let h = then_ok (or_key keys.Point (point_at (size_of (space_of v)) d)) (λ values. and_then (or_key keys.Side (back_at (is_equality sign) d)) (λ back. Ok (No back values))) a is in
-    let k = then_ok (or_key keys.Side (back_at (is_equality sign) d)) (λ back. Ok (No back h.0)) a h.1.1 in
+    let h = then_ok (ok_or (point_at (size_of (space_of v)) d) keys.Point) (λ values. and_then (ok_or (back_at (is_equality sign) d) keys.Side) (λ back. Ok (No back values))) a is in
+    let k = then_ok (ok_or (back_at (is_equality sign) d) keys.Side) (λ back. Ok (No back h.0)) a h.1.1 in
     let p = key_ok keys.Point (point_at (size_of (space_of v)) d) h.0 h.1.0 in
     let b = key_ok keys.Side (back_at (is_equality sign) d) k.0 k.1.0 in
-    subst (FitsProve v sign) (ok_same (No k.0 h.0) a k.1.1) (point_length (size_of (space_of v)) d h.0 p, all_within (size_of (space_of v)) d h.0 p, back_fits (is_equality sign) k.0 d b)
+    subst (FitsProve v sign) (ok_same (No k.0 h.0) a k.1.1) (point_length (size_of (space_of v)) d h.0 p, point_within (size_of (space_of v)) d h.0 p, back_fits (is_equality sign) k.0 d b)
 
 -- ---- undecided
 
-whole_below : (z : ℤ) (n : ℕ) → count_of_whole z ≡ Some n → n < 2 ^ 32
-whole_below (pos m) n is = count_below m n is
-whole_below (negsuc m) n is = absurd (cc)
+integer_below : (z : ℤ) (n : ℕ) → count_of_integer z ≡ Some n → n < 2 ^ 32
+integer_below (pos m) n is = count_below m n is
+integer_below (negsuc m) n is = absurd (cc)
 
 step_below : (text : List ℕ) (n : ℕ) → step_of text ≡ Some n → n < 2 ^ 32
 unfolding step_of
-step_below text n is = let h = and_then_some (whole_of text) count_of_whole n is in whole_below h.0 n h.1.1
+step_below text n is = let h = and_then_some (integer_of text) count_of_integer n is in integer_below h.0 n h.1.1
 
 -- a name that is found is the name at its place
-found_in : (v : NamesView) (text : List ℕ) (r : ℕ) → index_of v.rates text ≡ Some r → rate_text v r ≡ text
+found_in : (v : NamesView) (text : List ℕ) (r : ℕ) → index_of v.rates text ≡ Some r → rate_name v r ≡ text
 found_in v text r is =
     let h = cond_some (nat_lt (position_or_len (bytes_eq text) v.rates) (length v.rates)) (Some (position_or_len (bytes_eq text) v.rates)) r is in
     let e : position_or_len (bytes_eq text) v.rates ≡ r = let s = h.1 in cc in
     let lt : position_or_len (bytes_eq text) v.rates < length v.rates = let t = h.0 in search (rules, t) in
-    subst (λ i. rate_text v i ≡ text) e (sym ((bytes_eq-Decides text (get_or v.rates (position_or_len (bytes_eq text) v.rates) [])).0 (passes_at_first (bytes_eq text) v.rates [] lt)))
+    subst (λ i. rate_name v i ≡ text) e (sym ((bytes_eq-Decides text (get_or v.rates (position_or_len (bytes_eq text) v.rates) [])).0 (passes_at_first (bytes_eq text) v.rates [] lt)))
 
 found_rate : (v : NamesView) (text : List ℕ) (r : ℕ) → index_of v.rates text ≡ Some r → IsFoundIn v r
 found_rate v text r is = ap (index_of v.rates) (found_in v text r is) ∙ is
@@ -165,8 +165,8 @@ cause_fits v kind d c is = let h = and_then_some (text_of (get (codes "at") d)) 
 undecided_fits : (v : NamesView) (d : Data) (a : AnswerView) → undecided_at v.rates d ≡ Ok a → (c : Cause) × ((Undecided c ≡ a) × IsCauseFor v c)
 unfolding undecided_at
 undecided_fits v d a is =
-    let h = then_ok (or_key keys.Cause (cause_kind_at d)) (λ kind. and_then (or_key keys.At (cause_at v.rates kind d)) (λ cause. Ok (Undecided cause))) a is in
-    let k = then_ok (or_key keys.At (cause_at v.rates h.0 d)) (λ cause. Ok (Undecided cause)) a h.1.1 in
+    let h = then_ok (ok_or (cause_kind_at d) keys.Cause) (λ kind. and_then (ok_or (cause_at v.rates kind d) keys.At) (λ cause. Ok (Undecided cause))) a is in
+    let k = then_ok (ok_or (cause_at v.rates h.0 d) keys.At) (λ cause. Ok (Undecided cause)) a h.1.1 in
     (k.0, (ok_same (Undecided k.0) a k.1.1, cause_fits v h.0 d k.0 (key_ok keys.At (cause_at v.rates h.0 d) k.0 k.1.0)))
 
 -- ---- regions
@@ -181,13 +181,13 @@ up_to from size (t ∷ ts) low is =
     let last : t.0 ≤ size = let e = m.0 in search (rules, e) in
     All-cons (λ t. (1 ≤ t.0) × (t.0 ≤ size)) t ts (omega (arith, there, low), last) (up_to (t.0 + 1) size ts (omega arith) h.1)
 
-all_second : (ts : Terms) → All IsPair ts → All (λ t. IsWithin t.1) ts
+all_second : (ts : Terms) → All IsNumberedAmount ts → All (λ t. IsWithin t.1) ts
 all_second [] all = All-nil (λ t. IsWithin t.1)
-all_second (t ∷ ts) all = All-cons (λ t. IsWithin t.1) t ts (All-head IsPair t ts all).1 (all_second ts (All-tail IsPair t ts all))
+all_second (t ∷ ts) all = All-cons (λ t. IsWithin t.1) t ts (All-head IsNumberedAmount t ts all).1 (all_second ts (All-tail IsNumberedAmount t ts all))
 
-terms_numbers : (d : Data) (ts : Terms) → terms_at d ≡ Some ts → All IsPair ts
+terms_numbers : (d : Data) (ts : Terms) → terms_at d ≡ Some ts → All IsNumberedAmount ts
 unfolding terms_at
-terms_numbers d ts is = list_numbers IsPair pair_at pair_numbers (get (codes "row") d) ts is
+terms_numbers d ts is = list_numbers IsNumberedAmount pair_at pair_numbers (get (codes "row") d) ts is
 
 row_fits : (size : ℕ) (d : Data) (r : Mark × Terms) → row_at size d ≡ Some r → IsRowIn size r
 unfolding row_at
@@ -196,14 +196,14 @@ row_fits size d r is =
     let k = and_then_some (terms_at d) (row_of size) r.1 h.1 in
     let m = cond_some (is_row_between 1 size k.0) (Some k.0) r.1 k.1.1 in
     let e : k.0 ≡ r.1 = let s = m.1 in cc in
-    let terms : All IsPair r.1 = subst (λ ts. All IsPair ts) e (terms_numbers d k.0 k.1.0) in
+    let terms : All IsNumberedAmount r.1 = subst (λ ts. All IsNumberedAmount ts) e (terms_numbers d k.0 k.1.0) in
     let row : is_row_between 1 size r.1 ≡ true = subst (λ ts. is_row_between 1 size ts ≡ true) e m.0 in
     record { terms = terms; canonical = canonical size r.1 row (all_second r.1 terms); coordinates = up_to 1 size r.1 (omega arith) row }
 
 region_fits : (v : NamesView) (d : Data) (a : AnswerView) → region_at (size_of (space_of v)) d ≡ Ok a → FitsEliminate v a
 unfolding region_at rows_at
 region_fits v d a is =
-    let h = then_ok (or_key keys.Rows (list_at (row_at (size_of (space_of v))) (get (codes "rows") d))) (λ rows. Ok (Region rows)) a is in
+    let h = then_ok (ok_or (list_at (row_at (size_of (space_of v))) (get (codes "rows") d)) keys.Rows) (λ rows. Ok (Region rows)) a is in
     subst (FitsEliminate v) (ok_same (Region h.0) a h.1.1)
     (list_numbers (IsRowIn (size_of (space_of v))) (row_at (size_of (space_of v))) (row_fits (size_of (space_of v))) (get (codes "rows") d) h.0 (key_ok keys.Rows (list_at (row_at (size_of (space_of v))) (get (codes "rows") d)) h.0 h.1.0))
 
@@ -228,8 +228,8 @@ parts_fit count n d ss is = counted_numbers (IsSetIn n) (set_at n) (set_fits n) 
 contained_fits : (first second : RegionView) (d : Data) (a : AnswerView) → contained_at second.auxiliaries (length first.names.variables) (obligation_count second) d ≡ Ok a → FitsContain first second a
 unfolding contained_at
 contained_fits first second d a is =
-    let h = then_ok (or_key keys.Parts (parts_at second.auxiliaries (length first.names.variables) d)) (λ parts. and_then (or_key keys.Proofs (proofs_at (obligation_count second) d)) (λ proofs. Ok (Contained parts proofs))) a is in
-    let k = then_ok (or_key keys.Proofs (proofs_at (obligation_count second) d)) (λ proofs. Ok (Contained h.0 proofs)) a h.1.1 in
+    let h = then_ok (ok_or (parts_at second.auxiliaries (length first.names.variables) d) keys.Parts) (λ parts. and_then (ok_or (proofs_at (obligation_count second) d) keys.Proofs) (λ proofs. Ok (Contained parts proofs))) a is in
+    let k = then_ok (ok_or (proofs_at (obligation_count second) d) keys.Proofs) (λ proofs. Ok (Contained h.0 proofs)) a h.1.1 in
     let p = parts_fit second.auxiliaries (length first.names.variables) d h.0 (key_ok keys.Parts (parts_at second.auxiliaries (length first.names.variables) d) h.0 h.1.0) in
     let w = proofs_fit (obligation_count second) d k.0 (key_ok keys.Proofs (proofs_at (obligation_count second) d) k.0 k.1.0) in
     subst (FitsContain first second) (ok_same (Contained h.0 k.0) a k.1.1) (record { each = p.0; sets = p.1; obligations = w.0; numbers = w.1 })
@@ -237,7 +237,7 @@ contained_fits first second d a is =
 open_fits : (first second : RegionView) (d : Data) (a : AnswerView) → open_at d ≡ Ok a → FitsContain first second a
 unfolding open_at tried_at
 open_fits first second d a is =
-    let h = then_ok (or_key keys.Tried (option_and_then count_at (get (codes "tried") d))) (λ tried. Ok (Open tried)) a is in
+    let h = then_ok (ok_or (option_and_then count_at (get (codes "tried") d)) keys.Tried) (λ tried. Ok (Open tried)) a is in
     let k = and_then_some (get (codes "tried") d) count_at h.0 (key_ok keys.Tried (option_and_then count_at (get (codes "tried") d)) h.0 h.1.0) in
     subst (FitsContain first second) (ok_same (Open h.0) a h.1.1) (count_at_below k.0 h.0 k.1.1)
 

@@ -1,7 +1,7 @@
 mod DigitLemmas
 mod PairLemmas
 mod WithinLemmas
-mod RowLemmas
+pub mod RowLemmas
 mod BackLemmas
 mod ValueLemmas
 mod ObligationLemmas

@@ -9,24 +9,24 @@ use Rattle.it_syntax.specs.Givens.{GivenView, Relation, Markov, Independent, Fun
 use Rattle.it_question.specs.Questions.{RegionView}
 use Rattle.it_canon.specs.Demands.{Demand, LineDemand, demands, equations, parts_from, parts_of}
 use Rattle.it_canon.specs.QuestionDemands.{given_demands, row_demands}
-use Rattle.it_certificate.specs.Obligations.{forms_of, obligation_count}
-use Rattle.it_certificate.specs.ReportSteps.{given_forms, relation_forms}
+use Rattle.it_certificate.specs.Obligations.{form_count, obligation_count}
+use Rattle.it_certificate.specs.ReportSteps.{given_form_count, relation_form_count}
 
 abbrev total : {A : Type 0} → (A → ℕ) → ℕ → List A → ℕ
 total f a xs = fold (λ s x. s + f x) a xs
 
 abbrev line_forms : LineDemand → ℕ
-line_forms d = forms_of d.demand.kind
+line_forms d = form_count d.demand.kind
 
 total_append : {A : Type 0} (f : A → ℕ) (a : ℕ) (xs ys : List A) → total f a (xs ++ ys) ≡ total f (total f a xs) ys
 total_append f a [] ys = refl
 total_append f a (x ∷ xs) ys = total_append f (a + f x) xs ys
 
-of_parts : (a part line parts : ℕ) (ds : List Demand) → total line_forms a (parts_from part line parts ds) ≡ total (λ d. forms_of d.kind) a ds
+of_parts : (a part line parts : ℕ) (ds : List Demand) → total line_forms a (parts_from part line parts ds) ≡ total (λ d. form_count d.kind) a ds
 of_parts a part line parts [] = refl
-of_parts a part line parts (d ∷ ds) = of_parts (a + forms_of d.kind) (part + 1) line parts ds
+of_parts a part line parts (d ∷ ds) = of_parts (a + form_count d.kind) (part + 1) line parts ds
 
-of_equations : (n a : ℕ) (atoms : List Atom) → total (λ d. forms_of d.kind) a (equations n atoms) ≡ a + 2 * length atoms
+of_equations : (n a : ℕ) (atoms : List Atom) → total (λ d. form_count d.kind) a (equations n atoms) ≡ a + 2 * length atoms
 of_equations n a [] = omega arith
 of_equations n a (x ∷ xs) = of_equations n (a + 2) xs ∙ omega arith
 
@@ -39,22 +39,22 @@ chain_length : (sets : List ℕ) → length (links sets) ≡ length sets - 2
 chain_length [] = refl
 chain_length (first ∷ sets) = let e = links_length first sets in omega (arith, e)
 
-of_given : (n a : ℕ) (g : GivenView) → total (λ d. forms_of d.kind) a (demands n g) ≡ a + given_forms g
+of_given : (n a : ℕ) (g : GivenView) → total (λ d. form_count d.kind) a (demands n g) ≡ a + given_form_count g
 of_given n a (Relation r) = refl
 of_given n a (Markov sets) = of_equations n a (links sets) ∙ ap (λ k. a + 2 * k) (chain_length sets)
 of_given n a (Independent members given) = refl
 of_given n a (Function value argument) = refl
 
-of_givens : (n a line : ℕ) (gs : List GivenView) → total line_forms a (given_demands n line gs) ≡ total given_forms a gs
+of_givens : (n a line : ℕ) (gs : List GivenView) → total line_forms a (given_demands n line gs) ≡ total given_form_count a gs
 of_givens n a line [] = refl
 of_givens n a line (g ∷ gs) =
     total_append line_forms a (parts_of line (demands n g)) (given_demands n (line + 1) gs)
     ∙ ap (λ b. total line_forms b (given_demands n (line + 1) gs)) (of_parts a 1 line (length (demands n g)) (demands n g) ∙ of_given n a g)
-    ∙ of_givens n (a + given_forms g) (line + 1) gs
+    ∙ of_givens n (a + given_form_count g) (line + 1) gs
 
-of_rows : (n a line : ℕ) (rs : List RelationView) → total line_forms a (row_demands n line rs) ≡ total relation_forms a rs
+of_rows : (n a line : ℕ) (rs : List RelationView) → total line_forms a (row_demands n line rs) ≡ total relation_form_count a rs
 of_rows n a line [] = refl
-of_rows n a line (r ∷ rs) = of_rows n (a + relation_forms r) (line + 1) rs
+of_rows n a line (r ∷ rs) = of_rows n (a + relation_form_count r) (line + 1) rs
 
 from_total : {A : Type 0} (f : A → ℕ) (a : ℕ) (xs : List A) → total f a xs ≡ a + total f 0 xs
 from_total f a [] = omega arith
@@ -63,22 +63,22 @@ from_total f a (x ∷ xs) =
     let g : total f 0 (x ∷ xs) ≡ (0 + f x) + total f 0 xs = from_total f (0 + f x) xs in
     omega (arith, e, g)
 
-region_forms : (r : RegionView) → sum_by given_forms r.lines.givens + sum_by relation_forms r.lines.rows ≡ obligation_count r
+region_forms : (r : RegionView) → sum_by given_form_count r.lines.givens + sum_by relation_form_count r.lines.rows ≡ obligation_count r
 unfolding obligation_count
 region_forms r =
     let n = length r.names.variables in
     sym (total_append line_forms 0 (given_demands n 1 r.lines.givens) (row_demands n 1 r.lines.rows)
     ∙ of_rows n (total line_forms 0 (given_demands n 1 r.lines.givens)) 1 r.lines.rows
-    ∙ from_total relation_forms (total line_forms 0 (given_demands n 1 r.lines.givens)) r.lines.rows
-    ∙ ap (λ k. k + total relation_forms 0 r.lines.rows) (of_givens n 0 1 r.lines.givens))
+    ∙ from_total relation_form_count (total line_forms 0 (given_demands n 1 r.lines.givens)) r.lines.rows
+    ∙ ap (λ k. k + total relation_form_count 0 r.lines.rows) (of_givens n 0 1 r.lines.givens))
 
-pub count_is : (r : RegionView) (a b : ℕ) → a ≡ sum_by given_forms r.lines.givens → b ≡ sum_by relation_forms r.lines.rows → a + b ≡ obligation_count r
-count_is r a b p q = ap (λ x. x + b) p ∙ ap (λ y. sum_by given_forms r.lines.givens + y) q ∙ region_forms r
+pub count_is : (r : RegionView) (a b : ℕ) → a ≡ sum_by given_form_count r.lines.givens → b ≡ sum_by relation_form_count r.lines.rows → a + b ≡ obligation_count r
+count_is r a b p q = ap (λ x. x + b) p ∙ ap (λ y. sum_by given_form_count r.lines.givens + y) q ∙ region_forms r
 
 -- a given more
-pub given_more : (gs : List Given) (i a k whole : ℕ) (g : Given) → i < length gs → g ≡ get_or gs i g → k ≡ given_forms (given_view g)
-    → fold (λ s x. s + given_forms x) a (map given_view (drop i gs)) ≡ whole → fold (λ s x. s + given_forms x) (a + k) (map given_view (drop (i + 1) gs)) ≡ whole
+pub given_more : (gs : List Given) (i a k whole : ℕ) (g : Given) → i < length gs → g ≡ get_or gs i g → k ≡ given_form_count (given_view g)
+    → fold (λ s x. s + given_form_count x) a (map given_view (drop i gs)) ≡ whole → fold (λ s x. s + given_form_count x) (a + k) (map given_view (drop (i + 1) gs)) ≡ whole
 given_more gs i a k whole g lt at forms rest =
-    ap (λ n. fold (λ s x. s + given_forms x) (a + n) (map given_view (drop (i + 1) gs))) forms
-    ∙ sym (ap (λ zs. fold (λ s x. s + given_forms x) a (map given_view zs)) (drop_more gs i g lt ∙ ap (λ z. z ∷ drop (i + 1) gs) (sym at)))
+    ap (λ n. fold (λ s x. s + given_form_count x) (a + n) (map given_view (drop (i + 1) gs))) forms
+    ∙ sym (ap (λ zs. fold (λ s x. s + given_form_count x) a (map given_view zs)) (drop_more gs i g lt ∙ ap (λ z. z ∷ drop (i + 1) gs) (sym at)))
     ∙ rest

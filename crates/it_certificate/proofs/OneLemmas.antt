@@ -8,9 +8,7 @@ use Rattle.it_question.proofs.FileLemmas.{file_is_one}
 use Rattle.it_certificate.specs.declared.keys.Key.{Key}
 use Rattle.it_certificate.specs.Reports.{IsQuestionOf, IsQuestionAt, ReadsAs, report_of}
 use Rattle.it_certificate.specs.Laws.{OneReading}
-
-same_some : {A : Type 0} (a b : A) → Some a ≡ Some b → a ≡ b
-same_some a b e = cc
+use Rattle.it_certificate.proofs.QuestionLemmas.{some_same}
 
 first_of : {A : Type 0} (a b : A) → a ∷ [] ≡ b ∷ [] → a ≡ b
 first_of a b e = cc
@@ -18,7 +16,7 @@ first_of a b e = cc
 one_question : (d : Data) (p q : QuestionView) → IsQuestionOf d p → IsQuestionOf d q → p ≡ q
 unfolding IsQuestionOf
 one_question d p q h k =
-    let e : k.0 ≡ h.0 = same_some k.0 h.0 (sym k.1.0 ∙ h.1.0) in
+    let e : k.0 ≡ h.0 = some_same k.0 h.0 (sym k.1.0 ∙ h.1.0) in
     first_of p q (file_is_one h.0 (p ∷ []) (q ∷ []) h.1.1.1 (subst (λ t. IsFile t (q ∷ [])) e k.1.1.1))
 
 one_own : (d : Data) (o p : Option QuestionView) → IsQuestionAt d o → IsQuestionAt d p → o ≡ p
@@ -32,5 +30,5 @@ one_value d r s h k = sym h.is ∙ ap (λ o. report_of o d) (one_own d h.own k.o
 
 pub one_reading : OneReading
 one_reading line r s h k =
-    let e : k.value ≡ h.value = same_some k.value h.value (sym k.is_json ∙ h.is_json) in
+    let e : k.value ≡ h.value = some_same k.value h.value (sym k.is_json ∙ h.is_json) in
     one_value h.value r s h.reads (subst (λ d. ReadsAs d s) e k.reads)

@@ -17,8 +17,8 @@ more_than_pair (a ∷ []) many = refl
 more_than_pair (a ∷ b ∷ []) many = absurd (omega arith)
 more_than_pair (a ∷ b ∷ c ∷ ds) many = refl
 
-pub fewer : (vs : List Value) → length vs < 2 → None ≡ two_of (items_view vs)
-fewer vs few = sym (no_pair (map view vs) (omega (arith, length-map vs view)))
+pub two_of_fewer : (vs : List Value) → length vs < 2 → None ≡ two_of (items_view vs)
+two_of_fewer vs few = sym (no_pair (map view vs) (omega (arith, length-map vs view)))
 
-pub more : (vs : List Value) → 3 ≤ length vs → None ≡ two_of (items_view vs)
-more vs many = sym (more_than_pair (map view vs) (omega (arith, length-map vs view)))
+pub two_of_more : (vs : List Value) → 3 ≤ length vs → None ≡ two_of (items_view vs)
+two_of_more vs many = sym (more_than_pair (map view vs) (omega (arith, length-map vs view)))

@@ -35,7 +35,7 @@ pub no_text : (d : Data) → text_of (get (codes "question") d) ≡ None → (q 
 unfolding IsQuestionOf
 no_text d none q h = let e : None ≡ Some h.0 = sym none ∙ h.1.0 in cc
 
-some_same : {A : Type 0} (a b : A) → Some a ≡ Some b → a ≡ b
+pub some_same : {A : Type 0} (a b : A) → Some a ≡ Some b → a ≡ b
 some_same a b e = cc
 
 pub other_text : (d : Data) (text : List ℕ) → text_of (get (codes "question") d) ≡ Some text

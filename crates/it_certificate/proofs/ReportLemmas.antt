@@ -1,5 +1,6 @@
 -- The reading of a value, step by step.
 use Rattle.std.proofs.Common.{◌≡◌, ℕ, ◌≤◌, ◌<◌, List, [], ◌∷◌, length, refl, ap, sym, subst, ◌∙◌, arith, Option, Some, None, Result, Ok, Err, ◌⊎◌, inl, inr, codes}
+use Rattle.std.specs.Prelude.{ok_or}
 use Rattle.std.proofs.lemmas.Bool.{cases_lt}
 use Rattle.serde_json.specs.Data.{Data}
 use Rattle.serde_json.specs.Find.{get}
@@ -22,7 +23,7 @@ use Rattle.it_certificate.specs.Parts.{text_of, answer_kind_at}
 use Rattle.it_certificate.specs.Reports.{IsQuestionOf, IsQuestionAt, question_answer, report_of, ReadsAs}
 use Rattle.it_certificate.specs.ReportSteps.{GivesQuestion, ReadsValue}
 use Rattle.it_certificate.specs.Steps.{GivesKeyed, fault_by}
-use Rattle.it_certificate.specs.AnswerReading.{or_key, and_then}
+use Rattle.it_certificate.specs.AnswerReading.{and_then}
 use Rattle.it_certificate.proofs.QuestionLemmas.{found_text, no_text, other_text}
 
 -- each value has a question or none
@@ -47,11 +48,11 @@ pub no_kind : (d : Data) → None ≡ answer_kind_at d → ReadsAs d (Err keys.A
 unfolding report_of
 no_kind d is =
     let own = question_there d (text_of (get (codes "question") d)) refl in
-    record { own = own.0; question = own.1; is = ap (λ k. and_then (or_key keys.Answer k) (λ kind. and_then (or_key keys.Question own.0) (λ q. and_then (question_answer q kind d) (λ a. Ok (q, a))))) (sym is) }
+    record { own = own.0; question = own.1; is = ap (λ k. and_then (ok_or k keys.Answer) (λ kind. and_then (ok_or own.0 keys.Question) (λ q. and_then (question_answer q kind d) (λ a. Ok (q, a))))) (sym is) }
 
-with_kind : (d : Data) (kind : AnswerKind) (o : Option QuestionView) → Some kind ≡ answer_kind_at d → report_of o d ≡ and_then (or_key keys.Question o) (λ q. and_then (question_answer q kind d) (λ a. Ok (q, a)))
+with_kind : (d : Data) (kind : AnswerKind) (o : Option QuestionView) → Some kind ≡ answer_kind_at d → report_of o d ≡ and_then (ok_or o keys.Question) (λ q. and_then (question_answer q kind d) (λ a. Ok (q, a)))
 unfolding report_of
-with_kind d kind o is = ap (λ k. and_then (or_key keys.Answer k) (λ kind. and_then (or_key keys.Question o) (λ q. and_then (question_answer q kind d) (λ a. Ok (q, a))))) (sym is)
+with_kind d kind o is = ap (λ k. and_then (ok_or k keys.Answer) (λ kind. and_then (ok_or o keys.Question) (λ q. and_then (question_answer q kind d) (λ a. Ok (q, a))))) (sym is)
 
 pub no_question : (d : Data) (kind : AnswerKind) (refusal : Refusal) (f : ReportFault) → Some kind ≡ answer_kind_at d → GivesQuestion d (Err refusal) → f ≡ fault_by refusal keys.Question → ReadsValue d (Err f)
 no_question d kind refusals.Shape f is none made = subst (λ g. ReadsValue d (Err g)) (sym made) (record { own = None; question = none; is = with_kind d kind None is })

@@ -1,6 +1,6 @@
 -- What is written of an answer reads back.
-use Rattle.std.proofs.Common.{◌≡◌, ℕ, ◌+◌, ◌<◌, ◌≤◌, ◌^◌, ◌==◌, ◌&&◌, ℤ, pos, zero, suc, negsuc, not, unsigned_abs, List, [], ◌∷◌, length, map, filter, refl, ap, ◌∙◌, Option, Some, None, Ok, option_and_then, option_map, Bool, true, false, cond, nat_le, nat_lt, rules, arith, codes, eq-eqb, decimal}
-use Rattle.std.specs.Prelude.{All}
+use Rattle.std.proofs.Common.{◌≡◌, ℕ, ◌+◌, ◌<◌, ◌≤◌, ◌^◌, ◌==◌, ◌&&◌, ℤ, not, unsigned_abs, List, [], ◌∷◌, length, map, filter, refl, ap, ◌∙◌, Option, Some, None, Ok, option_and_then, option_map, Bool, true, false, cond, nat_le, nat_lt, rules, arith, codes, eq-eqb, decimal}
+use Rattle.std.specs.Prelude.{All, ok_or}
 use Rattle.std.proofs.lemmas.List.{length-map}
 use Rattle.std.proofs.lemmas.List.Elements.{All-head, All-tail, All-filter}
 use Rattle.serde_json.specs.Data.{Data}
@@ -9,7 +9,7 @@ use Rattle.serde_json.specs.View.{items_of}
 use Rattle.it_number.specs.Limit.{IsWithin}
 use Rattle.it_space.specs.Rows.{Terms, Ascends, IsCanonical, IsUpTo}
 use Rattle.it_space.specs.Spaces.{size_of}
-use Rattle.it_space.specs.Answers.{CertificateView, AnswerView}
+use Rattle.it_space.specs.Answers.{CertificateView, AnswerView, is_nonzero_weight}
 use Rattle.it_space.specs.Answers.AnswerView.{Yes, No, Undecided, Region, Contained, Open}
 use Rattle.it_space.specs.declared.answers.Mark.{Mark}
 use Rattle.it_space.specs.declared.answers.Mark.TheVariants.{Plain, Needed, Unsettled}
@@ -24,29 +24,30 @@ use Rattle.it_certificate.specs.declared.kinds.AnswerKind.{AnswerKind}
 use Rattle.it_certificate.specs.declared.kinds.AnswerKind.TheVariants as kinds
 use Rattle.it_certificate.specs.declared.kinds.CauseKind.{CauseKind}
 use Rattle.it_certificate.specs.declared.kinds.CauseKind.TheVariants as causes
-use Rattle.it_certificate.specs.Values.{whole_value, count_value, pair_value, is_some_weight, proof_value, row_value, rate_text, place_text, answer_value}
-use Rattle.it_certificate.specs.Parts.{text_of, whole_at, count_at, both, pair_at, all_of, of_length, certificate_by, certificate_at, answer_kind_at, proofs_at, point_at, back_at, cause_kind_at, cause_of, cause_at, step_or_rate, is_term_between, is_row_between, row_of, mark_at, terms_at, row_at, rows_at, set_of, set_at, parts_at, tried_at}
-use Rattle.it_certificate.specs.AnswerReading.{or_key, and_then, is_equality, target_count, yes_at, no_at, undecided_at, region_at, contained_at, open_at}
-use Rattle.it_certificate.specs.Obligations.{obligation_count}
+use Rattle.it_certificate.specs.Values.{integer_value, count_value, pair_value, proof_value, row_value, rate_name, place_word, answer_value}
+use Rattle.it_certificate.specs.Parts.{text_of, integer_at, count_at, both, pair_at, all_of, of_length, certificate_by, certificate_at, answer_kind_at, proofs_at, point_at, back_at, cause_kind_at, cause_of, cause_at, step_or_rate, is_term_between, is_row_between, row_of, mark_at, terms_at, row_at, rows_at, set_of, set_at, parts_at, tried_at}
+use Rattle.it_certificate.specs.AnswerReading.{and_then, is_equality, yes_at, no_at, undecided_at, region_at, contained_at, open_at}
+use Rattle.it_certificate.specs.Obligations.{obligation_count, target_count}
 use Rattle.it_certificate.specs.Reports.{prove_answer, eliminate_answer, contain_answer, verb_answer, question_answer, report_of}
-use Rattle.it_certificate.specs.Fits.{IsPair, IsNumbered, IsRowIn, IsCauseFor, FitsProve, FitsEliminate, FitsContainment, FitsContain, FitsVerb, FitsQuestion}
+use Rattle.it_certificate.specs.Fits.{IsNumberedAmount, IsNumbered, IsRowIn, IsCauseFor, FitsProve, FitsEliminate, FitsContainment, FitsContain, FitsVerb, FitsQuestion}
 use Rattle.it_certificate.specs.Laws.{without_zeros, written_answer, ReadsBack}
-use Rattle.it_certificate.proofs.BackLemmas.{whole_back, count_back, step_back}
+use Rattle.it_certificate.proofs.BackLemmas.{integer_back, count_back, step_back}
 use Rattle.it_certificate.proofs.QuestionLemmas.{found_text}
+use Rattle.it_certificate.proofs.RowLemmas.{nonzero_passes}
 
 -- ---- numbers, terms and certificates
 
-number_back : (z : ℤ) → IsWithin z → whole_at (whole_value z) ≡ Some z
-unfolding whole_at
-number_back z lt = whole_back z lt
+number_back : (z : ℤ) → IsWithin z → integer_at (integer_value z) ≡ Some z
+unfolding integer_at
+number_back z lt = integer_back z lt
 
 count_read : (n : ℕ) → n < 2 ^ 32 → count_at (count_value n) ≡ Some n
 unfolding count_at
 count_read n lt = count_back n lt
 
-pair_back : (t : ℕ × ℤ) → IsPair t → pair_at (pair_value t) ≡ Some t
+pair_back : (t : ℕ × ℤ) → IsNumberedAmount t → pair_at (pair_value t) ≡ Some t
 unfolding pair_at pair_value
-pair_back t p = ap (λ c. both c (whole_at (whole_value t.1))) (count_read t.0 p.0) ∙ ap (λ z. both (Some t.0) z) (number_back t.1 p.1)
+pair_back t p = ap (λ c. both c (integer_at (integer_value t.1))) (count_read t.0 p.0) ∙ ap (λ z. both (Some t.0) z) (number_back t.1 p.1)
 
 all_back : {A B : Type 0} (P : A → Type 0) (f : Data → Option B) (v : A → Data) (g : A → B) → ((a : A) → P a → f (v a) ≡ Some (g a)) → (xs : List A) → All P xs
     → all_of f (items_of (map v xs)) ≡ Some (map g xs)
@@ -66,8 +67,8 @@ same_back P f v each xs all = all_back P f v (λ x. x) each xs all ∙ ap Some (
 certificate_back : (c : CertificateView) → IsNumbered c → certificate_at (proof_value c) ≡ Some (without_zeros c)
 unfolding certificate_at proof_value
 certificate_back c p =
-    ap (λ s. certificate_by s (all_of pair_at (items_of (map pair_value (filter is_some_weight c.parts))))) (number_back c.scale p.scale)
-    ∙ ap (λ ws. certificate_by (Some c.scale) ws) (same_back IsPair pair_at pair_value pair_back (filter is_some_weight c.parts) (All-filter is_some_weight IsPair c.parts p.parts))
+    ap (λ s. certificate_by s (all_of pair_at (items_of (map pair_value (filter is_nonzero_weight c.parts))))) (number_back c.scale p.scale)
+    ∙ ap (λ ws. certificate_by (Some c.scale) ws) (same_back IsNumberedAmount pair_at pair_value pair_back (filter is_nonzero_weight c.parts) (All-filter is_nonzero_weight IsNumberedAmount c.parts p.parts))
 
 of_length_is : {A : Type 0} (n : ℕ) (xs : List A) → length xs ≡ n → of_length n xs ≡ Some xs
 of_length_is n xs is = ap (λ b. cond b (Some xs) None) (eq-eqb (length xs) n is)
@@ -82,11 +83,11 @@ certificates_back n ws is all =
 
 yes_back : (text : List ℕ) (v : NamesView) (sign : Sign) (ws : List CertificateView) → FitsProve v sign (Yes ws) → yes_at sign (answer_value text v (Yes ws)) ≡ Ok (Yes (map without_zeros ws))
 unfolding yes_at proofs_at answer_value
-yes_back text v sign ws fits = ap (λ o. and_then (or_key keys.Proofs o) (λ ps. Ok (Yes ps))) (certificates_back (target_count sign) ws fits.0 fits.1)
+yes_back text v sign ws fits = ap (λ o. and_then (ok_or o keys.Proofs) (λ ps. Ok (Yes ps))) (certificates_back (target_count sign) ws fits.0 fits.1)
 
 point_back : (text : List ℕ) (v : NamesView) (n : ℕ) (back : Bool) (vs : List ℤ) → length vs ≡ n → All IsWithin vs → point_at n (answer_value text v (No back vs)) ≡ Some vs
 unfolding point_at answer_value
-point_back text v n back vs is all = ap (option_and_then (of_length n)) (same_back IsWithin whole_at whole_value number_back vs all) ∙ of_length_is n vs is
+point_back text v n back vs is all = ap (option_and_then (of_length n)) (same_back IsWithin integer_at integer_value number_back vs all) ∙ of_length_is n vs is
 
 side_back : (text : List ℕ) (v : NamesView) (equality back : Bool) (vs : List ℤ) → (back ≡ true → equality ≡ true) → back_at equality (answer_value text v (No back vs)) ≡ Some back
 unfolding back_at answer_value
@@ -96,9 +97,9 @@ side_back text v equality false vs is = refl
 no_back : (text : List ℕ) (v : NamesView) (sign : Sign) (back : Bool) (vs : List ℤ) → FitsProve v sign (No back vs) → no_at (size_of (space_of v)) sign (answer_value text v (No back vs)) ≡ Ok (No back vs)
 unfolding no_at
 no_back text v sign back vs fits =
-    ap (λ o. and_then (or_key keys.Point o) (λ values. and_then (or_key keys.Side (back_at (is_equality sign) (answer_value text v (No back vs)))) (λ b. Ok (No b values))))
+    ap (λ o. and_then (ok_or o keys.Point) (λ values. and_then (ok_or (back_at (is_equality sign) (answer_value text v (No back vs))) keys.Side) (λ b. Ok (No b values))))
     (point_back text v (size_of (space_of v)) back vs fits.0 fits.1)
-    ∙ ap (λ o. and_then (or_key keys.Side o) (λ b. Ok (No b vs))) (side_back text v (is_equality sign) back vs fits.2)
+    ∙ ap (λ o. and_then (ok_or o keys.Side) (λ b. Ok (No b vs))) (side_back text v (is_equality sign) back vs fits.2)
 
 -- ---- undecided
 
@@ -117,12 +118,12 @@ kind_back text v Scale = refl
 kind_back text v (Rows r) = refl
 kind_back text v (WideRate r) = refl
 
-place_back : (v : NamesView) (c : Cause) → IsCauseFor v c → cause_of v.rates (kind_of_cause c) (place_text v c) ≡ Some c
+place_back : (v : NamesView) (c : Cause) → IsCauseFor v c → cause_of v.rates (kind_of_cause c) (place_word v c) ≡ Some c
 place_back v (Pivots steps) fits = ap (option_map Pivots) (step_back steps fits)
 place_back v (Width step) fits = ap (λ o. step_or_rate o (index_of v.rates (decimal step))) (step_back step fits)
 place_back v Scale fits = refl
 place_back v (Rows r) fits = ap (option_map Rows) fits
-place_back v (WideRate r) fits = ap (λ o. step_or_rate o (index_of v.rates (rate_text v r))) fits.1 ∙ ap (option_map WideRate) fits.0
+place_back v (WideRate r) fits = ap (λ o. step_or_rate o (index_of v.rates (rate_name v r))) fits.1 ∙ ap (option_map WideRate) fits.0
 
 cause_back : (text : List ℕ) (v : NamesView) (c : Cause) → IsCauseFor v c → cause_at v.rates (kind_of_cause c) (answer_value text v (Undecided c)) ≡ Some c
 unfolding cause_at answer_value
@@ -131,18 +132,13 @@ cause_back text v c fits = place_back v c fits
 undecided_back : (text : List ℕ) (v : NamesView) (c : Cause) → IsCauseFor v c → undecided_at v.rates (answer_value text v (Undecided c)) ≡ Ok (Undecided c)
 unfolding undecided_at
 undecided_back text v c fits =
-    ap (λ o. and_then (or_key keys.Cause o) (λ kind. and_then (or_key keys.At (cause_at v.rates kind (answer_value text v (Undecided c)))) (λ cause. Ok (Undecided cause)))) (kind_back text v c)
-    ∙ ap (λ o. and_then (or_key keys.At o) (λ cause. Ok (Undecided cause))) (cause_back text v c fits)
+    ap (λ o. and_then (ok_or o keys.Cause) (λ kind. and_then (ok_or (cause_at v.rates kind (answer_value text v (Undecided c))) keys.At) (λ cause. Ok (Undecided cause)))) (kind_back text v c)
+    ∙ ap (λ o. and_then (ok_or o keys.At) (λ cause. Ok (Undecided cause))) (cause_back text v c fits)
 
 -- ---- regions
 
 true_both : (a b : Bool) → a ≡ true → b ≡ true → (a && b) ≡ true
 true_both a b p q = ap (λ c. c && b) p ∙ q
-
-nonzero : (z : ℤ) → (z ≡ pos 0 → ⊥) → not (unsigned_abs z == 0) ≡ true
-nonzero (pos zero) other = absurd (other refl)
-nonzero (pos (suc n)) other = search (rules)
-nonzero (negsuc n) other = search (rules)
 
 row_test : (from low size : ℕ) (ts : Terms) → (from ≤ low) → Ascends low ts → IsUpTo size ts → is_row_between from size ts ≡ true
 row_test from low size [] le asc up = refl
@@ -151,7 +147,7 @@ row_test from low size (t ∷ ts) le asc up =
     let there : nat_le from t.0 ≡ true = let e : from ≤ t.0 = omega (arith, le, asc.0) in search (rules, e) in
     let last : nat_le t.0 size ≡ true = let e = h.1 in search (rules, e) in
     true_both (is_term_between from size t) (is_row_between (t.0 + 1) size ts)
-    (true_both (nat_le from t.0) (nat_le t.0 size && not (unsigned_abs t.1 == 0)) there (true_both (nat_le t.0 size) (not (unsigned_abs t.1 == 0)) last (nonzero t.1 asc.1)))
+    (true_both (nat_le from t.0) (nat_le t.0 size && not (unsigned_abs t.1 == 0)) there (true_both (nat_le t.0 size) (not (unsigned_abs t.1 == 0)) last (nonzero_passes t.1 asc.1)))
     (row_test (t.0 + 1) (t.0 + 1) size ts (omega arith) asc.3 (All-tail (λ t. (1 ≤ t.0) × (t.0 ≤ size)) t ts up))
 
 from_one : (size : ℕ) (ts : Terms) → Ascends 0 ts → IsUpTo size ts → Ascends 1 ts
@@ -167,9 +163,9 @@ mark_back Plain ts = refl
 mark_back Needed ts = refl
 mark_back Unsettled ts = refl
 
-terms_back : (r : Mark × Terms) → All IsPair r.1 → terms_at (row_value r) ≡ Some r.1
+terms_back : (r : Mark × Terms) → All IsNumberedAmount r.1 → terms_at (row_value r) ≡ Some r.1
 unfolding terms_at row_value
-terms_back r all = same_back IsPair pair_at pair_value pair_back r.1 all
+terms_back r all = same_back IsNumberedAmount pair_at pair_value pair_back r.1 all
 
 row_back : (size : ℕ) (r : Mark × Terms) → IsRowIn size r → row_at size (row_value r) ≡ Some r
 unfolding row_at
@@ -180,7 +176,7 @@ row_back size r fits =
 
 region_back : (text : List ℕ) (v : NamesView) (rows : List (Mark × Terms)) (size : ℕ) → All (IsRowIn size) rows → region_at size (answer_value text v (Region rows)) ≡ Ok (Region rows)
 unfolding region_at rows_at answer_value
-region_back text v rows size all = ap (λ o. and_then (or_key keys.Rows o) (λ rs. Ok (Region rs))) (same_back (IsRowIn size) (row_at size) row_value (row_back size) rows all)
+region_back text v rows size all = ap (λ o. and_then (ok_or o keys.Rows) (λ rs. Ok (Region rs))) (same_back (IsRowIn size) (row_at size) row_value (row_back size) rows all)
 
 -- ---- containments
 
@@ -193,14 +189,14 @@ contained_back : (text : List ℕ) (v : NamesView) (first second : RegionView) (
 unfolding contained_at parts_at proofs_at answer_value
 contained_back text v first second parts ws fits =
     let n = length first.names.variables in
-    ap (λ o. and_then (or_key keys.Parts o) (λ ss. and_then (or_key keys.Proofs (option_and_then (of_length (obligation_count second)) (all_of certificate_at (items_of (map proof_value ws))))) (λ ps. Ok (Contained ss ps))))
+    ap (λ o. and_then (ok_or o keys.Parts) (λ ss. and_then (ok_or (option_and_then (of_length (obligation_count second)) (all_of certificate_at (items_of (map proof_value ws)))) keys.Proofs) (λ ps. Ok (Contained ss ps))))
     (ap (option_and_then (of_length second.auxiliaries)) (same_back (λ s. (s < 2 ^ 32) × (s < 2 ^ length first.names.variables)) (set_at (length first.names.variables)) count_value (set_back (length first.names.variables)) parts fits.sets)
     ∙ of_length_is second.auxiliaries parts fits.each)
-    ∙ ap (λ o. and_then (or_key keys.Proofs o) (λ ps. Ok (Contained parts ps))) (certificates_back (obligation_count second) ws fits.obligations fits.numbers)
+    ∙ ap (λ o. and_then (ok_or o keys.Proofs) (λ ps. Ok (Contained parts ps))) (certificates_back (obligation_count second) ws fits.obligations fits.numbers)
 
 open_back : (text : List ℕ) (v : NamesView) (tried : ℕ) → tried < 2 ^ 32 → open_at (answer_value text v (Open tried)) ≡ Ok (Open tried)
 unfolding open_at tried_at answer_value
-open_back text v tried lt = ap (λ o. and_then (or_key keys.Tried o) (λ t. Ok (Open t))) (count_read tried lt)
+open_back text v tried lt = ap (λ o. and_then (ok_or o keys.Tried) (λ t. Ok (Open t))) (count_read tried lt)
 
 -- ---- reports
 
@@ -271,6 +267,6 @@ unfolding report_of
 reads_back q a short file fits = record {
   own = Some q;
   question = found_text (answer_value q.text q.body.names a) q.text q (text_back q.text q.body.names a) (short, file);
-  is = ap (λ k. and_then (or_key keys.Answer k) (λ kind. and_then (question_answer q kind (answer_value q.text q.body.names a)) (λ b. Ok (q, b)))) (answer_kind_back q.text q.body.names a)
+  is = ap (λ k. and_then (ok_or k keys.Answer) (λ kind. and_then (question_answer q kind (answer_value q.text q.body.names a)) (λ b. Ok (q, b)))) (answer_kind_back q.text q.body.names a)
       ∙ ap (λ r. and_then r (λ b. Ok (q, b))) (answer_back q a fits);
 }

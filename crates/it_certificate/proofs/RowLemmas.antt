@@ -1,5 +1,5 @@
 -- Rows as they are read are canonical.
-use Rattle.std.proofs.Common.{◌≡◌, ◌≢◌, ℕ, ◌+◌, ◌≤◌, ◌==◌, ◌&&◌, ℤ, pos, not, unsigned_abs, [], ◌∷◌, refl, ap, true, false, Bool, nat_le, arith, rules}
+use Rattle.std.proofs.Common.{◌≡◌, ◌≢◌, ℕ, zero, suc, ◌+◌, ◌≤◌, ◌==◌, ◌&&◌, ℤ, pos, negsuc, not, unsigned_abs, [], ◌∷◌, refl, ap, true, false, Bool, nat_le, arith, rules}
 use Rattle.std.specs.Prelude.{All}
 use Rattle.std.proofs.lemmas.List.Elements.{All-head, All-tail}
 use Rattle.it_number.specs.Limit.{IsWithin}
@@ -10,6 +10,13 @@ pub both_true : (a b : Bool) → (a && b) ≡ true → (a ≡ true) × (b ≡ tr
 both_true true b is = (refl, is)
 both_true false b is = absurd (cc)
 
+-- a number other than 0 passes the test for it
+pub nonzero_passes : (z : ℤ) → (z ≡ pos 0 → ⊥) → not (unsigned_abs z == 0) ≡ true
+nonzero_passes (pos zero) other = absurd (other refl)
+nonzero_passes (pos (suc n)) other = search (rules)
+nonzero_passes (negsuc n) other = search (rules)
+
+-- and only such a number does
 not_zero : (z : ℤ) → not (unsigned_abs z == 0) ≡ true → z ≢ pos 0
 not_zero z is e = let f : not (unsigned_abs z == 0) ≡ false = ap (λ x. not (unsigned_abs x == 0)) e in cc
 

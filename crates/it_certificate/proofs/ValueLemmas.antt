@@ -5,11 +5,11 @@ use Rattle.serde_json.specs.View.{items_of}
 use Rattle.serde_json.specs.Read.{read}
 use Rattle.serde_json.specs.Written.{has_float, items_have_float, compact_text}
 use Rattle.it_space.specs.Rows.{Terms}
-use Rattle.it_space.specs.Answers.{CertificateView, AnswerView}
+use Rattle.it_space.specs.Answers.{CertificateView, AnswerView, is_nonzero_weight}
 use Rattle.it_space.specs.Answers.AnswerView.{Yes, No, Undecided, Region, Contained, Open}
 use Rattle.it_space.specs.declared.answers.Mark.{Mark}
 use Rattle.it_syntax.specs.NamesViews.{NamesView}
-use Rattle.it_certificate.specs.Values.{whole_value, count_value, pair_value, is_some_weight, proof_value, row_value, answer_value, answer_text}
+use Rattle.it_certificate.specs.Values.{integer_value, count_value, pair_value, proof_value, row_value, answer_value, answer_text}
 
 items_no_float : {A : Type 0} (f : A → Data) → ((a : A) → has_float (f a) ≡ false) → (xs : List A) → items_have_float (items_of (map f xs)) ≡ false
 items_no_float f none [] = refl
@@ -24,7 +24,7 @@ or_none a b p q = ap (λ c. c || b) p ∙ q
 
 proof_no_float : (c : CertificateView) → has_float (proof_value c) ≡ false
 unfolding proof_value
-proof_no_float c = or_none _ false (items_no_float pair_value pair_no_float (filter is_some_weight c.parts)) refl
+proof_no_float c = or_none _ false (items_no_float pair_value pair_no_float (filter is_nonzero_weight c.parts)) refl
 
 row_no_float : (r : Mark × Terms) → has_float (row_value r) ≡ false
 unfolding row_value
@@ -33,7 +33,7 @@ row_no_float r = or_none _ false (items_no_float pair_value pair_no_float r.1) r
 pub no_float : (text : List ℕ) (v : NamesView) (a : AnswerView) → has_float (answer_value text v a) ≡ false
 unfolding answer_value
 no_float text v (Yes proofs) = or_none _ false (items_no_float proof_value proof_no_float proofs) refl
-no_float text v (No back values) = or_none _ false (items_no_float whole_value (λ z. refl) values) refl
+no_float text v (No back values) = or_none _ false (items_no_float integer_value (λ z. refl) values) refl
 no_float text v (Undecided cause) = refl
 no_float text v (Region rows) = or_none _ false (items_no_float row_value row_no_float rows) refl
 no_float text v (Contained parts proofs) = or_none _ _ (items_no_float count_value (λ n. refl) parts) (or_none _ false (items_no_float proof_value proof_no_float proofs) refl)
@@ -49,7 +49,7 @@ pair_shallow w = omega arith
 
 proof_shallow : (c : CertificateView) → depth (proof_value c) ≤ 3
 unfolding proof_value
-proof_shallow c = let e = items_shallow pair_value 1 pair_shallow (filter is_some_weight c.parts) in omega (arith, e)
+proof_shallow c = let e = items_shallow pair_value 1 pair_shallow (filter is_nonzero_weight c.parts) in omega (arith, e)
 
 row_shallow : (r : Mark × Terms) → depth (row_value r) ≤ 3
 unfolding row_value
@@ -58,7 +58,7 @@ row_shallow r = let e = items_shallow pair_value 1 pair_shallow r.1 in omega (ar
 pub shallow : (text : List ℕ) (v : NamesView) (a : AnswerView) → depth (answer_value text v a) ≤ 127
 unfolding answer_value
 shallow text v (Yes proofs) = let e = items_shallow proof_value 3 proof_shallow proofs in omega (arith, e)
-shallow text v (No back values) = let e = items_shallow whole_value 0 (λ z. omega arith) values in omega (arith, e)
+shallow text v (No back values) = let e = items_shallow integer_value 0 (λ z. omega arith) values in omega (arith, e)
 shallow text v (Undecided cause) = omega arith
 shallow text v (Region rows) = let e = items_shallow row_value 3 row_shallow rows in omega (arith, e)
 shallow text v (Contained parts proofs) =

@@ -5,8 +5,9 @@ use Rattle.std.proofs.lemmas.List.Elements.{All-nil, All-cons}
 use Rattle.serde_json.specs.Data.{Data, Items, no_items, item}
 use Rattle.serde_json.specs.Find.{get, as_str, as_array}
 use Rattle.it_number.specs.Limit.{IsWithin}
-use Rattle.it_certificate.specs.Numerals.{value_from, up_to_limit, whole_of, magnitude_of, minus}
-use Rattle.it_certificate.specs.Parts.{whole_at, count_at, both, two_of, all_of, point_at, list_at, of_length, items_of_array, pair_at, terms_at}
+use Rattle.it_number.specs.Decimals.{value_from}
+use Rattle.it_certificate.specs.Numerals.{up_to_limit, integer_of, magnitude_of, negative_of}
+use Rattle.it_certificate.specs.Parts.{integer_at, count_at, both, two_of, all_of, point_at, list_at, of_length, items_of_array, pair_at, terms_at}
 
 pub and_then_some : {A B : Type 0} (o : Option A) (f : A → Option B) (b : B) → option_and_then f o ≡ Some b → (a : A) × ((o ≡ Some a) × (f a ≡ Some b))
 and_then_some None f b is = absurd (cc)
@@ -27,8 +28,8 @@ all_of_holds P f each (item d ds) xs is =
     let k = map_some (all_of f ds) (λ rest. h.0 ∷ rest) xs h.1.1 in
     subst (λ zs. All P zs) k.1.1 (All-cons P h.0 k.0 (each d h.0 h.1.0) (all_of_holds P f each ds k.0 k.1.0))
 
-within_is : (n m : ℕ) → up_to_limit n ≡ Some m → m < 2 ^ 127
-within_is n m is =
+up_to_limit_within : (n m : ℕ) → up_to_limit n ≡ Some m → m < 2 ^ 127
+up_to_limit_within n m is =
     let h = cond_some (nat_lt n (2 ^ 127)) (Some n) m is in
     let e : n ≡ m = let s = h.1 in cc in
     let lt : n < 2 ^ 127 = let t = h.0 in search (rules, t) in
@@ -39,38 +40,38 @@ unfolding magnitude_of
 magnitude_within ds m is =
     let h = cond_some (nat_le 1 (length ds) && nat_le (length ds) 39) (option_and_then up_to_limit (value_from 0 ds)) m is in
     let k = and_then_some (value_from 0 ds) up_to_limit m h.1 in
-    within_is k.0 m k.1.1
+    up_to_limit_within k.0 m k.1.1
 
-minus_within : (m : ℕ) → m < 2 ^ 127 → IsWithin (minus m)
-minus_within zero lt = lt
-minus_within (suc m) lt = lt
+negative_within : (m : ℕ) → m < 2 ^ 127 → IsWithin (negative_of m)
+negative_within zero lt = lt
+negative_within (suc m) lt = lt
 
-whole_within : (cs : List ℕ) (z : ℤ) → whole_of cs ≡ Some z → IsWithin z
-unfolding whole_of
-whole_within [] z is = absurd (cc)
-whole_within (c ∷ cs) z is = by (c == 45) is
+integer_within : (cs : List ℕ) (z : ℤ) → integer_of cs ≡ Some z → IsWithin z
+unfolding integer_of
+integer_within [] z is = absurd (cc)
+integer_within (c ∷ cs) z is = by (c == 45) is
   where
-    by : (t : Bool) → cond t (option_map minus (magnitude_of cs)) (option_map pos (magnitude_of (c ∷ cs))) ≡ Some z → IsWithin z
-    by true e = let h = map_some (magnitude_of cs) minus z e in subst IsWithin h.1.1 (minus_within h.0 (magnitude_within cs h.0 h.1.0))
+    by : (t : Bool) → cond t (option_map negative_of (magnitude_of cs)) (option_map pos (magnitude_of (c ∷ cs))) ≡ Some z → IsWithin z
+    by true e = let h = map_some (magnitude_of cs) negative_of z e in subst IsWithin h.1.1 (negative_within h.0 (magnitude_within cs h.0 h.1.0))
     by false e = let h = map_some (magnitude_of (c ∷ cs)) pos z e in subst IsWithin h.1.1 (magnitude_within (c ∷ cs) h.0 h.1.0)
 
-pub whole_at_within : (d : Data) (z : ℤ) → whole_at d ≡ Some z → IsWithin z
-unfolding whole_at
-whole_at_within d z is = let h = and_then_some (as_str d) whole_of z is in whole_within h.0 z h.1.1
+pub integer_at_within : (d : Data) (z : ℤ) → integer_at d ≡ Some z → IsWithin z
+unfolding integer_at
+integer_at_within d z is = let h = and_then_some (as_str d) integer_of z is in integer_within h.0 z h.1.1
 
-pub all_within : (n : ℕ) (d : Data) (vs : List ℤ) → point_at n d ≡ Some vs → All IsWithin vs
+pub point_within : (n : ℕ) (d : Data) (vs : List ℤ) → point_at n d ≡ Some vs → All IsWithin vs
 unfolding point_at
-all_within n d vs is =
-    let h = and_then_some (list_at whole_at (get (codes "point") d)) (of_length n) vs is in
-    let k = and_then_some (items_of_array (get (codes "point") d)) (all_of whole_at) h.0 h.1.0 in
+point_within n d vs is =
+    let h = and_then_some (list_at integer_at (get (codes "point") d)) (of_length n) vs is in
+    let k = and_then_some (items_of_array (get (codes "point") d)) (all_of integer_at) h.0 h.1.0 in
     let m = cond_some (length h.0 == n) (Some h.0) vs h.1.1 in
     let e : h.0 ≡ vs = let s = m.1 in cc in
-    subst (λ zs. All IsWithin zs) e (all_of_holds IsWithin whole_at whole_at_within k.0 h.0 k.1.1)
+    subst (λ zs. All IsWithin zs) e (all_of_holds IsWithin integer_at integer_at_within k.0 h.0 k.1.1)
 
 pub point_length : (n : ℕ) (d : Data) (vs : List ℤ) → point_at n d ≡ Some vs → length vs ≡ n
 unfolding point_at
 point_length n d vs is =
-    let h = and_then_some (list_at whole_at (get (codes "point") d)) (of_length n) vs is in
+    let h = and_then_some (list_at integer_at (get (codes "point") d)) (of_length n) vs is in
     let m = cond_some (length h.0 == n) (Some h.0) vs h.1.1 in
     let e : h.0 ≡ vs = let s = m.1 in cc in
     let f : length h.0 ≡ n = let t = m.0 in search (rules, t) in
@@ -85,8 +86,8 @@ both_some o p c is =
 pair_within : (d : Data) (t : ℕ × ℤ) → pair_at d ≡ Some t → IsWithin t.1
 unfolding pair_at
 pair_within d t is =
-    let h = and_then_some (option_and_then two_of (as_array d)) (λ p. both (count_at p.0) (whole_at p.1)) t is in
-    whole_at_within h.0.1 t.1 (both_some (count_at h.0.0) (whole_at h.0.1) t h.1.1).1
+    let h = and_then_some (option_and_then two_of (as_array d)) (λ p. both (count_at p.0) (integer_at p.1)) t is in
+    integer_at_within h.0.1 t.1 (both_some (count_at h.0.0) (integer_at h.0.1) t h.1.1).1
 
 pub terms_within : (d : Data) (ts : List (ℕ × ℤ)) → terms_at d ≡ Some ts → All (λ t. IsWithin t.1) ts
 unfolding terms_at

@@ -1,5 +1,5 @@
 -- The answer of a report by its kind, or the first key that is missing or of another shape: one key after the other.
-use Rattle.std.specs.Prelude.{ℕ, List, Bool, true, false, if◌then◌else◌, Option, Some, None, Result, Ok, Err}
+use Rattle.std.specs.Prelude.{ℕ, List, Bool, true, false, Result, Ok, Err, ok_or}
 use Rattle.serde_json.specs.Data.{Data}
 use Rattle.it_space.specs.Answers.{AnswerView}
 use Rattle.it_space.specs.Answers.AnswerView.{Yes, No, Undecided, Region, Contained, Open}
@@ -7,45 +7,46 @@ use Rattle.it_syntax.specs.declared.types.Sign.{Sign}
 use Rattle.it_syntax.specs.declared.types.Sign.TheVariants.{AtLeast, AtMost, Equal}
 use Rattle.it_certificate.specs.declared.keys.Key.{Key}
 use Rattle.it_certificate.specs.declared.keys.Key.TheVariants as keys
+use Rattle.it_certificate.specs.Obligations.{target_count}
 use Rattle.it_certificate.specs.Parts.{proofs_at, point_at, back_at, cause_kind_at, cause_at, rows_at, parts_at, tried_at}
 
-abbrev pub or_key : {A : Type 0} → Key → Option A → Result A Key
-or_key k (Some a) = Ok a
-or_key k None = Err k
-
+-- the reading of one key after another
 abbrev pub and_then : {A B : Type 0} → Result A Key → (A → Result B Key) → Result B Key
 and_then (Ok a) f = f a
 and_then (Err k) f = Err k
 
+-- whether a relation of this sign is an equality
 abbrev pub is_equality : Sign → Bool
 is_equality AtLeast = false
 is_equality AtMost = false
 is_equality Equal = true
 
-abbrev pub target_count : Sign → ℕ
-target_count sign = if is_equality sign then 2 else 1
-
+-- a yes: a certificate for each target of a relation of this sign
 unfoldable pub yes_at : Sign → Data → Result AnswerView Key
-yes_at sign d = and_then (or_key keys.Proofs (proofs_at (target_count sign) d)) (λ proofs. Ok (Yes proofs))
+yes_at sign d = and_then (ok_or (proofs_at (target_count sign) d) keys.Proofs) (λ proofs. Ok (Yes proofs))
 
+-- a no: a value for each of so many coordinates, and a side
 unfoldable pub no_at : ℕ → Sign → Data → Result AnswerView Key
 no_at size sign d =
-    and_then (or_key keys.Point (point_at size d)) (λ values.
-    and_then (or_key keys.Side (back_at (is_equality sign) d)) (λ back. Ok (No back values)))
+    and_then (ok_or (point_at size d) keys.Point) (λ values.
+    and_then (ok_or (back_at (is_equality sign) d) keys.Side) (λ back. Ok (No back values)))
 
+-- an undecided: its cause, and at which step, budget or rate
 unfoldable pub undecided_at : List (List ℕ) → Data → Result AnswerView Key
 undecided_at rates d =
-    and_then (or_key keys.Cause (cause_kind_at d)) (λ kind.
-    and_then (or_key keys.At (cause_at rates kind d)) (λ cause. Ok (Undecided cause)))
+    and_then (ok_or (cause_kind_at d) keys.Cause) (λ kind.
+    and_then (ok_or (cause_at rates kind d) keys.At) (λ cause. Ok (Undecided cause)))
 
+-- a region over so many coordinates
 unfoldable pub region_at : ℕ → Data → Result AnswerView Key
-region_at size d = and_then (or_key keys.Rows (rows_at size d)) (λ rows. Ok (Region rows))
+region_at size d = and_then (ok_or (rows_at size d) keys.Rows) (λ rows. Ok (Region rows))
 
--- for so many auxiliaries, sets of so many variables, and so many obligations
+-- a containment: for so many auxiliaries, sets of so many variables, and so many obligations
 unfoldable pub contained_at : ℕ → ℕ → ℕ → Data → Result AnswerView Key
 contained_at auxiliaries variables obligations d =
-    and_then (or_key keys.Parts (parts_at auxiliaries variables d)) (λ parts.
-    and_then (or_key keys.Proofs (proofs_at obligations d)) (λ proofs. Ok (Contained parts proofs)))
+    and_then (ok_or (parts_at auxiliaries variables d) keys.Parts) (λ parts.
+    and_then (ok_or (proofs_at obligations d) keys.Proofs) (λ proofs. Ok (Contained parts proofs)))
 
+-- a search without an end
 unfoldable pub open_at : Data → Result AnswerView Key
-open_at d = and_then (or_key keys.Tried (tried_at d)) (λ tried. Ok (Open tried))
+open_at d = and_then (ok_or (tried_at d) keys.Tried) (λ tried. Ok (Open tried))

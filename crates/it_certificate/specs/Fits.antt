@@ -13,28 +13,28 @@ use Rattle.it_syntax.specs.declared.types.Sign.{Sign}
 use Rattle.it_question.specs.Questions.{BodyView, RegionView, VerbView, Prove, Eliminate, Contain}
 use Rattle.it_canon.specs.QuestionDemands.{space_of}
 use Rattle.it_certificate.specs.Numerals.{step_of}
-use Rattle.it_certificate.specs.Values.{rate_text}
-use Rattle.it_certificate.specs.AnswerReading.{is_equality, target_count}
-use Rattle.it_certificate.specs.Obligations.{obligation_count}
+use Rattle.it_certificate.specs.Values.{rate_name}
+use Rattle.it_certificate.specs.AnswerReading.{is_equality}
+use Rattle.it_certificate.specs.Obligations.{obligation_count, target_count}
 
 -- a number of 32 bits with one within the limit
-abbrev pub IsPair : ℕ × ℤ → Type 0
-IsPair t = (t.0 < 2 ^ 32) × IsWithin t.1
+abbrev pub IsNumberedAmount : ℕ × ℤ → Type 0
+IsNumberedAmount t = (t.0 < 2 ^ 32) × IsWithin t.1
 
 -- the numbers of a certificate
 pub record IsNumbered (c : CertificateView) : Type 0 where
   pub scale : IsWithin c.scale
-  pub parts : All IsPair c.parts
+  pub parts : All IsNumberedAmount c.parts
 
 -- a row of a space with so many coordinates
 pub record IsRowIn (size : ℕ) (r : Mark × Terms) : Type 0 where
-  pub terms : All IsPair r.1
+  pub terms : All IsNumberedAmount r.1
   pub canonical : IsCanonical r.1
   pub coordinates : IsUpTo size r.1
 
 -- the rate is found by its name
 abbrev pub IsFoundIn : NamesView → ℕ → Type 0
-IsFoundIn v r = index_of v.rates (rate_text v r) ≡ Some r
+IsFoundIn v r = index_of v.rates (rate_name v r) ≡ Some r
 
 -- A rate at which a number is too wide is told apart from a step by its name.
 abbrev pub IsCauseFor : NamesView → Cause → Type 0
@@ -42,7 +42,7 @@ IsCauseFor v (Pivots steps) = steps < 2 ^ 32
 IsCauseFor v (Width step) = step < 2 ^ 32
 IsCauseFor v Scale = Unit {0}
 IsCauseFor v (Rows r) = IsFoundIn v r
-IsCauseFor v (WideRate r) = IsFoundIn v r × (step_of (rate_text v r) ≡ None)
+IsCauseFor v (WideRate r) = IsFoundIn v r × (step_of (rate_name v r) ≡ None)
 
 -- a certificate a target; a value a coordinate, and the second target where there are two; a cause
 abbrev pub FitsProve : NamesView → Sign → AnswerView → Type 0

@@ -7,6 +7,7 @@ use Rattle.it_certificate.specs.declared.kinds.AnswerKind.TheVariants as answers
 use Rattle.it_certificate.specs.declared.kinds.CauseKind.{CauseKind}
 use Rattle.it_certificate.specs.declared.kinds.CauseKind.TheVariants as causes
 
+-- the kind of answer of a word
 abbrev pub answer_kind_of : List ℕ → Option AnswerKind
 answer_kind_of text =
     if bytes_eq text (codes "yes") then Some answers.Yes else
@@ -16,6 +17,7 @@ answer_kind_of text =
     if bytes_eq text (codes "contained") then Some answers.Contained else
     if bytes_eq text (codes "open") then Some answers.Open else None
 
+-- the kind of cause of a word
 abbrev pub cause_kind_of : List ℕ → Option CauseKind
 cause_kind_of text =
     if bytes_eq text (codes "pivots") then Some causes.Pivots else
@@ -23,13 +25,14 @@ cause_kind_of text =
     if bytes_eq text (codes "scale") then Some causes.Scale else
     if bytes_eq text (codes "rows") then Some causes.Rows else None
 
+-- the mark of a word
 abbrev pub mark_of : List ℕ → Option Mark
 mark_of text =
     if bytes_eq text (codes "plain") then Some marks.Plain else
     if bytes_eq text (codes "needed") then Some marks.Needed else
     if bytes_eq text (codes "unsettled") then Some marks.Unsettled else None
 
--- the second side, `back`, is there for an equality alone
+-- whether a word names the second side; `back` is there for an equality alone
 abbrev pub back_of : Bool → List ℕ → Option Bool
 back_of equality text =
     if bytes_eq text (codes "forward") then Some false else

@@ -1,16 +1,17 @@
 -- What is written reads back, and a line has one reading.
 use Rattle.std.specs.Prelude.{◌≡◌, ℕ, ◌≤◌, List, [], ◌∷◌, map, filter, length, Result, Ok}
-use Rattle.it_space.specs.Answers.{CertificateView, AnswerView}
+use Rattle.it_space.specs.Answers.{CertificateView, AnswerView, is_nonzero_weight}
 use Rattle.it_space.specs.Answers.AnswerView.{Yes, No, Undecided, Region, Contained, Open}
 use Rattle.it_question.specs.Questions.{QuestionView}
 use Rattle.it_question.specs.Files.{IsFile}
 use Rattle.it_certificate.specs.declared.keys.Key.{Key}
-use Rattle.it_certificate.specs.Values.{is_some_weight, answer_value}
-use Rattle.it_certificate.specs.Reports.{ReadsAs, Reads}
+use Rattle.it_certificate.specs.Values.{answer_value}
+use Rattle.it_certificate.specs.Reports.{ReadsAs, ReadsReport}
 use Rattle.it_certificate.specs.Fits.{FitsQuestion}
 
+-- a certificate without its weights of 0
 abbrev pub without_zeros : CertificateView → CertificateView
-without_zeros c = record { scale = c.scale; parts = filter is_some_weight c.parts }
+without_zeros c = record { scale = c.scale; parts = filter is_nonzero_weight c.parts }
 
 -- an answer without its weights of 0
 abbrev pub written_answer : AnswerView → AnswerView
@@ -28,4 +29,4 @@ ReadsBack = (q : QuestionView) (answer : AnswerView) → length q.text ≤ 10485
 
 -- A line has at most one reading.
 abbrev pub OneReading : Type 0
-OneReading = (line : List ℕ) (r s : Result (QuestionView × AnswerView) Key) → Reads line r → Reads line s → r ≡ s
+OneReading = (line : List ℕ) (r s : Result (QuestionView × AnswerView) Key) → ReadsReport line r → ReadsReport line s → r ≡ s

@@ -2,8 +2,8 @@ pub mod Numerals
 pub mod Kinds
 pub mod Values
 pub mod Parts
-pub mod AnswerReading
 pub mod Obligations
+pub mod AnswerReading
 pub mod Reports
 pub mod Fits
 pub mod Laws

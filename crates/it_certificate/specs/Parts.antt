@@ -11,26 +11,30 @@ use Rattle.it_syntax.specs.NamesViews.{index_of}
 use Rattle.it_certificate.specs.declared.kinds.AnswerKind.{AnswerKind}
 use Rattle.it_certificate.specs.declared.kinds.CauseKind.{CauseKind}
 use Rattle.it_certificate.specs.declared.kinds.CauseKind.TheVariants as causes
-use Rattle.it_certificate.specs.Numerals.{whole_of, count_of, step_of}
+use Rattle.it_certificate.specs.Numerals.{integer_of, count_of, step_of}
 use Rattle.it_certificate.specs.Kinds.{answer_kind_of, cause_kind_of, mark_of, back_of}
 
+-- a member as text
 abbrev pub text_of : Option Data → Option (List ℕ)
 text_of d = option_and_then as_str d
 
+-- the items of a member that is an array
 abbrev pub items_of_array : Option Data → Option Items
 items_of_array d = option_and_then as_array d
 
--- a whole number as decimal text
-unfoldable pub whole_at : Data → Option ℤ
-whole_at d = option_and_then whole_of (as_str d)
+-- an integer as decimal text
+unfoldable pub integer_at : Data → Option ℤ
+integer_at d = option_and_then integer_of (as_str d)
 
--- a whole number from 0 to 4294967295, written with digits alone
+-- an integer from 0 to 4294967295, written with digits alone
 unfoldable pub count_at : Data → Option ℕ
 count_at d = option_and_then count_of (option_and_then as_u64 (as_number d))
 
+-- two values, where both are there
 abbrev pub both : {A B : Type 0} → Option A → Option B → Option (A × B)
 both a b = option_and_then (λ x. option_map (λ y. (x, y)) b) a
 
+-- the items of a pair
 abbrev pub two_of : Items → Option (Data × Data)
 two_of no_items = None
 two_of (item a no_items) = None
@@ -39,25 +43,30 @@ two_of (item a (item b (item c ds))) = None
 
 -- a term or a weight: a pair of a number and a decimal text
 unfoldable pub pair_at : Data → Option (ℕ × ℤ)
-pair_at d = option_and_then (λ p. both (count_at p.0) (whole_at p.1)) (option_and_then two_of (as_array d))
+pair_at d = option_and_then (λ p. both (count_at p.0) (integer_at p.1)) (option_and_then two_of (as_array d))
 
 -- each item by f, where each has one
 abbrev pub all_of : {A : Type 0} → (Data → Option A) → Items → Option (List A)
 all_of f no_items = Some []
 all_of f (item d ds) = option_and_then (λ a. option_map (λ rest. a ∷ rest) (all_of f ds)) (f d)
 
+-- a member that is an array, each item by f
 abbrev pub list_at : {A : Type 0} → (Data → Option A) → Option Data → Option (List A)
 list_at f d = option_and_then (all_of f) (items_of_array d)
 
+-- a list of n items
 abbrev pub of_length : {A : Type 0} → ℕ → List A → Option (List A)
 of_length n xs = if length xs == n then Some xs else None
 
+-- a scale and weights
 abbrev pub certificate_by : Option ℤ → Option (List (ℕ × ℤ)) → Option CertificateView
 certificate_by scale parts = option_and_then (λ s. option_map (λ ws. record { scale = s; parts = ws }) parts) scale
 
+-- a certificate
 unfoldable pub certificate_at : Data → Option CertificateView
-certificate_at d = certificate_by (option_and_then whole_at (get (codes "scale") d)) (list_at pair_at (get (codes "weights") d))
+certificate_at d = certificate_by (option_and_then integer_at (get (codes "scale") d)) (list_at pair_at (get (codes "weights") d))
 
+-- the kind of the answer
 unfoldable pub answer_kind_at : Data → Option AnswerKind
 answer_kind_at d = option_and_then answer_kind_of (text_of (get (codes "answer") d))
 
@@ -67,11 +76,13 @@ proofs_at n d = option_and_then (of_length n) (list_at certificate_at (get (code
 
 -- so many values
 unfoldable pub point_at : ℕ → Data → Option (List ℤ)
-point_at n d = option_and_then (of_length n) (list_at whole_at (get (codes "point") d))
+point_at n d = option_and_then (of_length n) (list_at integer_at (get (codes "point") d))
 
+-- the side, of an equality or not
 unfoldable pub back_at : Bool → Data → Option Bool
 back_at equality d = option_and_then (back_of equality) (text_of (get (codes "side") d))
 
+-- the kind of the cause
 unfoldable pub cause_kind_at : Data → Option CauseKind
 cause_kind_at d = option_and_then cause_kind_of (text_of (get (codes "cause") d))
 
@@ -87,6 +98,7 @@ cause_of rates causes.Width place = step_or_rate (step_of place) (index_of rates
 cause_of rates causes.Scale place = if bytes_eq place (codes "0") then Some Scale else None
 cause_of rates causes.Rows place = option_map Rows (index_of rates place)
 
+-- the cause of this kind
 unfoldable pub cause_at : List (List ℕ) → CauseKind → Data → Option Cause
 cause_at rates kind d = option_and_then (cause_of rates kind) (text_of (get (codes "at") d))
 
@@ -103,9 +115,11 @@ is_row_between from size (t ∷ ts) = is_term_between from size t && is_row_betw
 abbrev pub row_of : ℕ → Terms → Option Terms
 row_of size ts = if is_row_between 1 size ts then Some ts else None
 
+-- the mark of a row
 unfoldable pub mark_at : Data → Option Mark
 mark_at d = option_and_then mark_of (text_of (get (codes "mark") d))
 
+-- the terms of a row
 unfoldable pub terms_at : Data → Option Terms
 terms_at d = list_at pair_at (get (codes "row") d)
 
@@ -113,6 +127,7 @@ terms_at d = list_at pair_at (get (codes "row") d)
 unfoldable pub row_at : ℕ → Data → Option (Mark × Terms)
 row_at size d = both (mark_at d) (option_and_then (row_of size) (terms_at d))
 
+-- the rows of a region
 unfoldable pub rows_at : ℕ → Data → Option (List (Mark × Terms))
 rows_at size d = list_at (row_at size) (get (codes "rows") d)
 
@@ -120,6 +135,7 @@ rows_at size d = list_at (row_at size) (get (codes "rows") d)
 abbrev pub set_of : ℕ → ℕ → Option ℕ
 set_of n s = if nat_lt s (2 ^ n) then Some s else None
 
+-- a set of n variables
 unfoldable pub set_at : ℕ → Data → Option ℕ
 set_at n d = option_and_then (set_of n) (count_at d)
 
@@ -127,5 +143,6 @@ set_at n d = option_and_then (set_of n) (count_at d)
 unfoldable pub parts_at : ℕ → ℕ → Data → Option (List ℕ)
 parts_at count n d = option_and_then (of_length count) (list_at (set_at n) (get (codes "parts") d))
 
+-- how many candidates were tried
 unfoldable pub tried_at : Data → Option ℕ
 tried_at d = option_and_then count_at (get (codes "tried") d)

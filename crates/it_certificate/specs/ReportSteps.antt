@@ -7,25 +7,24 @@ use Rattle.it_syntax.specs.Givens.{GivenView, Relation, Markov, Independent, Fun
 use Rattle.it_question.specs.Questions.{QuestionView, question_view}
 use Rattle.it_question.specs.Files.{IsFile}
 use Rattle.it_question.specs.declared.types.Question.{Question}
-use Rattle.it_canon.specs.Demands.{kind_of}
 use Rattle.it_certificate.specs.declared.keys.Refusal.{Refusal}
 use Rattle.it_certificate.specs.declared.keys.Refusal.TheVariants.{Memory, Shape}
 use Rattle.it_certificate.specs.declared.keys.ReportFault.{ReportFault}
 use Rattle.it_certificate.specs.declared.keys.ReportFault.TheVariants as faults
 use Rattle.it_certificate.specs.declared.types.Reported.{Reported}
-use Rattle.it_certificate.specs.Obligations.{forms_of}
+use Rattle.it_certificate.specs.Obligations.{target_count}
 use Rattle.it_certificate.specs.Reports.{IsQuestionOf, ReadsAs}
 
 -- how many forms a given says to be at least 0: two an equation
-abbrev pub given_forms : GivenView → ℕ
-given_forms (Relation r) = forms_of (kind_of r.sign)
-given_forms (Markov sets) = 2 * (length sets - 2)
-given_forms (Independent members given) = 2
-given_forms (Function value argument) = 2
+abbrev pub given_form_count : GivenView → ℕ
+given_form_count (Relation r) = target_count r.sign
+given_form_count (Markov sets) = 2 * (length sets - 2)
+given_form_count (Independent members given) = 2
+given_form_count (Function value argument) = 2
 
--- and a relation
-abbrev pub relation_forms : RelationView → ℕ
-relation_forms r = forms_of (kind_of r.sign)
+-- how many a relation does
+abbrev pub relation_form_count : RelationView → ℕ
+relation_form_count r = target_count r.sign
 
 -- the only one of a list, if it has one item
 abbrev pub IsOnly : List Question → Option Question → Type 0

@@ -1,5 +1,5 @@
 -- The reading of a report line: its question and its answer, or the first key that is missing or of another shape.
-use Rattle.std.specs.Prelude.{◌≡◌, ℕ, ◌≤◌, List, [], ◌∷◌, length, codes, Option, Some, None, Result, Ok, Err, IsUtf8}
+use Rattle.std.specs.Prelude.{◌≡◌, ℕ, ◌≤◌, List, [], ◌∷◌, length, codes, Option, Some, None, Result, Ok, Err, ok_or, IsUtf8}
 use Rattle.serde_json.specs.Data.{Data}
 use Rattle.serde_json.specs.Find.{get}
 use Rattle.serde_json.specs.Read.{read}
@@ -18,7 +18,7 @@ use Rattle.it_certificate.specs.declared.kinds.AnswerKind.{AnswerKind}
 use Rattle.it_certificate.specs.declared.kinds.AnswerKind.TheVariants.{Yes, No, Undecided, Region, Contained, Open}
 use Rattle.it_certificate.specs.declared.types.Reported.{Reported}
 use Rattle.it_certificate.specs.Parts.{text_of, answer_kind_at}
-use Rattle.it_certificate.specs.AnswerReading.{or_key, and_then, yes_at, no_at, undecided_at, region_at, contained_at, open_at}
+use Rattle.it_certificate.specs.AnswerReading.{and_then, yes_at, no_at, undecided_at, region_at, contained_at, open_at}
 use Rattle.it_certificate.specs.Obligations.{obligation_count}
 
 -- ---- the answers that each verb gives
@@ -72,8 +72,8 @@ IsQuestionAt d None = (q : QuestionView) → IsQuestionOf d q → ⊥
 -- with its question, if it has one: `answer`, `question`, `answer` again by the verb, and what the answer needs
 unfoldable pub report_of : Option QuestionView → Data → Result (QuestionView × AnswerView) Key
 report_of own d =
-    and_then (or_key keys.Answer (answer_kind_at d)) (λ kind.
-    and_then (or_key keys.Question own) (λ q.
+    and_then (ok_or (answer_kind_at d) keys.Answer) (λ kind.
+    and_then (ok_or own keys.Question) (λ q.
     and_then (question_answer q kind d) (λ answer. Ok (q, answer))))
 
 -- the reading of a JSON value
@@ -83,7 +83,7 @@ pub record ReadsAs (value : Data) (r : Result (QuestionView × AnswerView) Key) 
   pub is : report_of own value ≡ r
 
 -- the line is JSON, and this is its reading
-pub record Reads (line : List ℕ) (r : Result (QuestionView × AnswerView) Key) : Type 0 where
+pub record ReadsReport (line : List ℕ) (r : Result (QuestionView × AnswerView) Key) : Type 0 where
   pub value : Data
   pub utf8 : IsUtf8 line
   pub is_json : read line ≡ Some value
@@ -91,7 +91,7 @@ pub record Reads (line : List ℕ) (r : Result (QuestionView × AnswerView) Key)
 
 -- what is answered of a line: its question and answer, its first key at fault, that it has no JSON reading, or want of memory
 abbrev pub Reports : List ℕ → Result Reported ReportFault → Type 0
-Reports line (Ok r) = Reads line (Ok (question_view r.question, answer_view r.answer))
-Reports line (Err (faults.Shape key)) = Reads line (Err key)
+Reports line (Ok r) = ReadsReport line (Ok (question_view r.question, answer_view r.answer))
+Reports line (Err (faults.Shape key)) = ReadsReport line (Err key)
 Reports line (Err faults.NotJson) = IsUtf8 line → read line ≡ None
 Reports line (Err faults.Memory) = Unit {0}

@@ -14,7 +14,7 @@ use Rattle.it_syntax.specs.declared.types.Sign.TheVariants.{AtLeast, Equal}
 use Rattle.it_question.specs.Questions.{QuestionView, RegionView, VerbView, Prove, Eliminate, Contain}
 use Rattle.it_certificate.specs.declared.keys.Key.{Key}
 use Rattle.it_certificate.specs.declared.keys.Key.TheVariants as keys
-use Rattle.it_certificate.specs.Numerals.{whole_of, step_of}
+use Rattle.it_certificate.specs.Numerals.{integer_of, step_of}
 use Rattle.it_certificate.specs.Parts.{count_at}
 use Rattle.it_certificate.specs.Values.{answer_text}
 use Rattle.it_certificate.specs.Reports.{report_of}
@@ -23,22 +23,22 @@ use Rattle.it_certificate.specs.Reports.{report_of}
 
 -- the greatest number has 39 digits
 pub record NumbersReadAsSaid : Type 0 where
-  pub empty : whole_of [] ≡ None
-  pub zero : whole_of (codes "0") ≡ Some (pos 0)
-  pub minus_zero : whole_of (codes "-0") ≡ Some (pos 0)
-  pub minus : whole_of (codes "-") ≡ None
-  pub two_signs : whole_of (codes "--1") ≡ None
-  pub plus : whole_of (codes "+1") ≡ None
-  pub blank : whole_of (codes " 1") ≡ None
-  pub point : whole_of (codes "1.0") ≡ None
-  pub zeros : whole_of (codes "007") ≡ Some (pos 7)
-  pub minus_zeros : whole_of (codes "-007") ≡ Some (negsuc 6)
-  pub greatest : whole_of (codes "170141183460469231731687303715884105727") ≡ Some (pos (2 ^ 127 - 1))
-  pub too_great : whole_of (codes "170141183460469231731687303715884105728") ≡ None
-  pub least : whole_of (codes "-170141183460469231731687303715884105727") ≡ Some (negsuc (2 ^ 127 - 2))
-  pub too_little : whole_of (codes "-170141183460469231731687303715884105728") ≡ None
-  pub all_digits : whole_of (codes "000000000000000000000000000000000000007") ≡ Some (pos 7)
-  pub digit_more : whole_of (codes "0000000000000000000000000000000000000007") ≡ None
+  pub empty : integer_of [] ≡ None
+  pub zero : integer_of (codes "0") ≡ Some (pos 0)
+  pub minus_zero : integer_of (codes "-0") ≡ Some (pos 0)
+  pub minus : integer_of (codes "-") ≡ None
+  pub two_signs : integer_of (codes "--1") ≡ None
+  pub plus : integer_of (codes "+1") ≡ None
+  pub blank : integer_of (codes " 1") ≡ None
+  pub point : integer_of (codes "1.0") ≡ None
+  pub zeros : integer_of (codes "007") ≡ Some (pos 7)
+  pub minus_zeros : integer_of (codes "-007") ≡ Some (negsuc 6)
+  pub greatest : integer_of (codes "170141183460469231731687303715884105727") ≡ Some (pos (2 ^ 127 - 1))
+  pub too_great : integer_of (codes "170141183460469231731687303715884105728") ≡ None
+  pub least : integer_of (codes "-170141183460469231731687303715884105727") ≡ Some (negsuc (2 ^ 127 - 2))
+  pub too_little : integer_of (codes "-170141183460469231731687303715884105728") ≡ None
+  pub all_digits : integer_of (codes "000000000000000000000000000000000000007") ≡ Some (pos 7)
+  pub digit_more : integer_of (codes "0000000000000000000000000000000000000007") ≡ None
   pub step : step_of (codes "4294967295") ≡ Some 4294967295
   pub step_more : step_of (codes "4294967296") ≡ None
   pub step_zeros : step_of (codes "007") ≡ Some 7

@@ -7,10 +7,10 @@ use Rattle.it_certificate.specs.declared.keys.Refusal.{Refusal}
 use Rattle.it_certificate.specs.declared.keys.Refusal.TheVariants.{Memory, Shape}
 
 -- what a reader gave, against what there is to be read
-abbrev pub Gives : {A B : Type 0} → (A → B) → Result A Refusal → Option B → Type 0
-Gives view (Ok a) o = o ≡ Some (view a)
-Gives view (Err Shape) o = o ≡ None
-Gives view (Err Memory) o = Unit {0}
+abbrev pub Yields : {A B : Type 0} → (A → B) → Result A Refusal → Option B → Type 0
+Yields view (Ok a) o = o ≡ Some (view a)
+Yields view (Err Shape) o = o ≡ None
+Yields view (Err Memory) o = Unit {0}
 
 -- what a reader of keys gave
 abbrev pub GivesKeyed : {A B : Type 0} → (A → B) → Result A ReportFault → Result B Key → Type 0
@@ -19,10 +19,11 @@ GivesKeyed view (Err (faults.Shape key)) r = r ≡ Err key
 GivesKeyed view (Err faults.NotJson) r = ⊥
 GivesKeyed view (Err faults.Memory) r = Unit {0}
 
+-- why a line isn't read, whose part at this key isn't
 abbrev pub fault_by : Refusal → Key → ReportFault
 fault_by Memory key = faults.Memory
 fault_by Shape key = faults.Shape key
 
 -- what was read before what is still to be read
-abbrev pub with_front : {A : Type 0} → List A → Option (List A) → Option (List A)
-with_front xs o = option_map (λ ys. xs ++ ys) o
+abbrev pub prepend : {A : Type 0} → List A → Option (List A) → Option (List A)
+prepend xs o = option_map (λ ys. xs ++ ys) o

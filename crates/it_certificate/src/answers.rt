@@ -8,6 +8,7 @@ ghost use Rattle.it_certificate.specs.Steps.{GivesKeyed, fault_by};
 
 use crate::keys::{Key, Refusal, ReportFault};
 use crate::members::{back_at, cause_at, cause_kind_at, point_at, proofs_at, tried_at};
+use crate::obligations::target_count;
 use crate::rows::rows_at;
 use crate::sets::parts_at;
 use it_space::{Answer, Point, Space};
@@ -26,7 +27,7 @@ pub fn fault(refusal: Refusal, key: Key) -> ReportFault
     }
 }
 
-/// Whether a relation of this sign is an equality, and so has two targets.
+/// Whether a relation of this sign is an equality.
 fn is_equality(sign: Sign) -> bool
     ensures { result ≡ is_equality sign }
 {
@@ -41,15 +42,14 @@ fn is_equality(sign: Sign) -> bool
 pub fn yes_at(alloc: Global, value: &Value, sign: Sign) -> Result<Answer, ReportFault>
     ensures { GivesKeyed answer_view result (yes_at sign (view value.now)) }
 {
-    let targets = if is_equality(sign) { 2 } else { 1 };
-    match proofs_at(alloc, value, targets) {
+    match proofs_at(alloc, value, target_count(sign)) {
         Ok(proofs) => Ok(Answer::Yes(proofs)),
         Err(refusal) => Err(fault(refusal, Key::Proofs)),
     }
 }
 
 /// A no: one value a coordinate, and a side of the relation.
-#[tactic(auto, using(crate::proofs::WithinLemmas::all_within, crate::proofs::WithinLemmas::point_length), unfolding(crate::specs::AnswerReading::no_at))]
+#[tactic(auto, using(crate::proofs::WithinLemmas::point_within, crate::proofs::WithinLemmas::point_length), unfolding(crate::specs::AnswerReading::no_at))]
 pub fn no_at(alloc: Global, value: &Value, space: Space, sign: Sign) -> Result<Answer, ReportFault>
     requires { IsSpace space }
     ensures { GivesKeyed answer_view result (no_at (size_of space) sign (view value.now)) }

@@ -2,11 +2,11 @@
 ghost use Rattle.std.specs.Prelude.{◌≡◌, map, option_and_then, option_map};
 ghost use Rattle.serde_json.specs.View.{view, items_view};
 ghost use Rattle.it_space.specs.Answers.{certificate_view};
-ghost use Rattle.it_certificate.specs.Parts.{all_of, certificate_at, items_of_array, list_at, pair_at, two_of, whole_at};
-ghost use Rattle.it_certificate.specs.Steps.{Gives};
+ghost use Rattle.it_certificate.specs.Parts.{all_of, certificate_at, items_of_array, list_at, pair_at, two_of, integer_at};
+ghost use Rattle.it_certificate.specs.Steps.{Yields};
 
 use crate::keys::Refusal;
-use crate::numbers::{count_at, whole_at};
+use crate::numbers::{count_at, integer_at};
 use it_space::Certificate;
 use serde_json::Value;
 use std::alloc::Global;
@@ -29,13 +29,13 @@ fn pair_at(value: &Value) -> Option<(u32, i128)>
     let values = value.as_array()?;
     let (number, weight) = two_values(values.as_slice())?;
     let number = count_at(number)?;
-    let weight = whole_at(weight)?;
+    let weight = integer_at(weight)?;
     Some((number, weight))
 }
 
 /// Pairs in order.
 fn pairs(alloc: Global, values: &[Value]) -> Result<Vec<(u32, i128)>, Refusal>
-    ensures { Gives (λ v. v.items) result (all_of pair_at (items_view values.now)) }
+    ensures { Yields (λ v. v.items) result (all_of pair_at (items_view values.now)) }
 {
     let mut out = Vec::new(alloc);
     for value in values {
@@ -50,16 +50,16 @@ fn pairs(alloc: Global, values: &[Value]) -> Result<Vec<(u32, i128)>, Refusal>
     Ok(out)
 }
 
-/// Whole numbers in order.
-fn wholes(alloc: Global, values: &[Value]) -> Result<Vec<i128>, Refusal>
-    ensures { Gives (λ v. v.items) result (all_of whole_at (items_view values.now)) }
+/// Integers in order.
+fn integers(alloc: Global, values: &[Value]) -> Result<Vec<i128>, Refusal>
+    ensures { Yields (λ v. v.items) result (all_of integer_at (items_view values.now)) }
 {
     let mut out = Vec::new(alloc);
     for value in values {
-        let Some(whole) = whole_at(value) else {
+        let Some(integer) = integer_at(value) else {
             return Err(Refusal::Shape);
         };
-        match out.push(whole) {
+        match out.push(integer) {
             Ok(()) => {}
             Err(_) => return Err(Refusal::Memory),
         }
@@ -76,7 +76,7 @@ pub fn array_of(value: Option<&Value>) -> Option<&[Value]>
 
 /// The pairs of a member.
 pub fn pairs_of_member(alloc: Global, value: Option<&Value>) -> Result<Vec<(u32, i128)>, Refusal>
-    ensures { Gives (λ v. v.items) result (list_at pair_at (option_map (λ v. view v.now) value.entry)) }
+    ensures { Yields (λ v. v.items) result (list_at pair_at (option_map (λ v. view v.now) value.entry)) }
 {
     match array_of(value) {
         Some(values) => pairs(alloc, values),
@@ -84,29 +84,29 @@ pub fn pairs_of_member(alloc: Global, value: Option<&Value>) -> Result<Vec<(u32,
     }
 }
 
-/// The whole numbers of a member.
-pub fn wholes_of_member(alloc: Global, value: Option<&Value>) -> Result<Vec<i128>, Refusal>
-    ensures { Gives (λ v. v.items) result (list_at whole_at (option_map (λ v. view v.now) value.entry)) }
+/// The integers of a member.
+pub fn integers_of_member(alloc: Global, value: Option<&Value>) -> Result<Vec<i128>, Refusal>
+    ensures { Yields (λ v. v.items) result (list_at integer_at (option_map (λ v. view v.now) value.entry)) }
 {
     match array_of(value) {
-        Some(values) => wholes(alloc, values),
+        Some(values) => integers(alloc, values),
         None => Err(Refusal::Shape),
     }
 }
 
-/// The whole number of a member.
-fn whole_of_member(value: Option<&Value>) -> Option<i128>
-    ensures { result ≡ option_and_then whole_at (option_map (λ v. view v.now) value.entry) }
+/// The integer of a member.
+fn integer_of_member(value: Option<&Value>) -> Option<i128>
+    ensures { result ≡ option_and_then integer_at (option_map (λ v. view v.now) value.entry) }
 {
-    whole_at(value?)
+    integer_at(value?)
 }
 
 /// A certificate.
 #[tactic(auto, unfolding(crate::specs::Parts::certificate_at))]
 fn certificate_at(alloc: Global, value: &Value) -> Result<Certificate, Refusal>
-    ensures { Gives certificate_view result (certificate_at (view value.now)) }
+    ensures { Yields certificate_view result (certificate_at (view value.now)) }
 {
-    let Some(scale) = whole_of_member(value.get("scale")) else {
+    let Some(scale) = integer_of_member(value.get("scale")) else {
         return Err(Refusal::Shape);
     };
     let weights = pairs_of_member(alloc, value.get("weights"))?;
@@ -115,7 +115,7 @@ fn certificate_at(alloc: Global, value: &Value) -> Result<Certificate, Refusal>
 
 /// Certificates in order.
 fn certificates(alloc: Global, values: &[Value]) -> Result<Vec<Certificate>, Refusal>
-    ensures { Gives (λ v. map certificate_view v.items) result (all_of certificate_at (items_view values.now)) }
+    ensures { Yields (λ v. map certificate_view v.items) result (all_of certificate_at (items_view values.now)) }
 {
     let mut out = Vec::new(alloc);
     for value in values {
@@ -133,7 +133,7 @@ pub fn certificates_of_member(
     alloc: Global,
     value: Option<&Value>,
 ) -> Result<Vec<Certificate>, Refusal>
-    ensures { Gives (λ v. map certificate_view v.items) result (list_at certificate_at (option_map (λ v. view v.now) value.entry)) }
+    ensures { Yields (λ v. map certificate_view v.items) result (list_at certificate_at (option_map (λ v. view v.now) value.entry)) }
 {
     match array_of(value) {
         Some(values) => certificates(alloc, values),

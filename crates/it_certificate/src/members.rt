@@ -4,12 +4,12 @@ ghost use Rattle.serde_json.specs.View.{view};
 ghost use Rattle.serde_json.specs.Find.{get};
 ghost use Rattle.it_space.specs.Answers.{certificate_view};
 ghost use Rattle.it_certificate.specs.Parts.{answer_kind_at, back_at, cause_at, cause_kind_at, cause_of, point_at, proofs_at, step_or_rate, text_of, tried_at};
-ghost use Rattle.it_certificate.specs.Steps.{Gives};
+ghost use Rattle.it_certificate.specs.Steps.{Yields};
 
 use crate::keys::Refusal;
 use crate::kinds::{AnswerKind, CauseKind, answer_kind_of, back_of, cause_kind_of};
-use crate::lists::{certificates_of_member, wholes_of_member};
-use crate::numbers::{count_at, step};
+use crate::lists::{certificates_of_member, integers_of_member};
+use crate::numbers::{count_at, step_of};
 use it_space::{Cause, Certificate};
 use it_syntax::Names;
 use serde_json::Value;
@@ -33,7 +33,7 @@ pub fn answer_kind_at(value: &Value) -> Option<AnswerKind>
 /// So many certificates.
 #[tactic(auto, unfolding(crate::specs::Parts::proofs_at))]
 pub fn proofs_at(alloc: Global, value: &Value, count: usize) -> Result<Vec<Certificate>, Refusal>
-    ensures { Gives (λ v. map certificate_view v.items) result (proofs_at count (view value.now)) }
+    ensures { Yields (λ v. map certificate_view v.items) result (proofs_at count (view value.now)) }
 {
     let certificates = certificates_of_member(alloc, value.get("proofs"))?;
     if certificates.len() == count {
@@ -46,9 +46,9 @@ pub fn proofs_at(alloc: Global, value: &Value, count: usize) -> Result<Vec<Certi
 /// So many values.
 #[tactic(auto, unfolding(crate::specs::Parts::point_at))]
 pub fn point_at(alloc: Global, value: &Value, count: usize) -> Result<Vec<i128>, Refusal>
-    ensures { Gives (λ v. v.items) result (point_at count (view value.now)) }
+    ensures { Yields (λ v. v.items) result (point_at count (view value.now)) }
 {
-    let values = wholes_of_member(alloc, value.get("point"))?;
+    let values = integers_of_member(alloc, value.get("point"))?;
     if values.len() == count {
         Ok(values)
     } else {
@@ -87,8 +87,8 @@ fn cause_of(names: &Names, kind: CauseKind, place: &str) -> Option<Cause>
     ensures { result ≡ cause_of names.now.rates kind place.now }
 {
     match kind {
-        CauseKind::Pivots => Some(Cause::Pivots(step(place)?)),
-        CauseKind::Width => step_or_rate(step(place), names.rate(place.as_bytes())),
+        CauseKind::Pivots => Some(Cause::Pivots(step_of(place)?)),
+        CauseKind::Width => step_or_rate(step_of(place), names.rate(place.as_bytes())),
         CauseKind::Scale => match place {
             "0" => Some(Cause::Scale),
             _ => None,

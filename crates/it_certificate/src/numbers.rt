@@ -1,8 +1,9 @@
-//! Numbers in reports: decimal texts, and whole numbers of JSON.
+//! Numbers in reports: decimal texts, and integers of JSON.
 ghost use Rattle.std.specs.Prelude.{◌≡◌, ◌≤◌, ◌<◌, ◌^◌, ◌+◌, ◌*◌, ◌-◌, SomeIff, option_and_then, Some, ℕ};
 ghost use Rattle.serde_json.specs.View.{view};
-ghost use Rattle.it_certificate.specs.Numerals.{count_of, count_of_whole, magnitude_of, step_of, up_to_limit, value_from, whole_of};
-ghost use Rattle.it_certificate.specs.Parts.{count_at, whole_at};
+ghost use Rattle.it_number.specs.Decimals.{value_from};
+ghost use Rattle.it_certificate.specs.Numerals.{count_of, count_of_integer, integer_of, magnitude_of, step_of, up_to_limit};
+ghost use Rattle.it_certificate.specs.Parts.{count_at, integer_at};
 
 use serde_json::Value;
 
@@ -22,8 +23,8 @@ fn with_digit(n: u128, d: u8) -> Option<u128>
     if more > GREATEST { None } else { Some(more) }
 }
 
-/// The value of digits.
-fn value(digits: &[u8]) -> Option<u128>
+/// The value of digits, unless it passes 2^127 - 1.
+fn value_up_to_limit(digits: &[u8]) -> Option<u128>
     ensures { result ≡ option_and_then up_to_limit (value_from 0 digits.now) }
 {
     let mut n: u128 = 0;
@@ -41,35 +42,35 @@ fn value(digits: &[u8]) -> Option<u128>
 
 /// The value of 1 to 39 digits.
 #[tactic(auto, unfolding(crate::specs::Numerals::magnitude_of))]
-fn magnitude(digits: &[u8]) -> Option<u128>
+fn magnitude_of(digits: &[u8]) -> Option<u128>
     ensures value { result ≡ magnitude_of digits.now }
     ensures within { (m : ℕ) → result ≡ Some m → m < 2 ^ 127 }
 {
     if digits.len() >= 1 && digits.len() <= 39 {
-        value(digits)
+        value_up_to_limit(digits)
     } else {
         None
     }
 }
 
 /// The value of a decimal text.
-#[tactic(auto, unfolding(crate::specs::Numerals::whole_of))]
-fn whole(text: &[u8]) -> Option<i128>
-    ensures { result ≡ whole_of text.now }
+#[tactic(auto, unfolding(crate::specs::Numerals::integer_of))]
+fn integer_of(text: &[u8]) -> Option<i128>
+    ensures { result ≡ integer_of text.now }
 {
     match text {
         [] => None,
-        [b'-', rest @ ..] => Some(-(magnitude(rest)? as i128)),
-        _ => Some(magnitude(text)? as i128),
+        [b'-', rest @ ..] => Some(-(magnitude_of(rest)? as i128)),
+        _ => Some(magnitude_of(text)? as i128),
     }
 }
 
-/// A whole number as a decimal text.
-#[tactic(auto, unfolding(crate::specs::Parts::whole_at))]
-pub fn whole_at(value: &Value) -> Option<i128>
-    ensures { result ≡ whole_at (view value.now) }
+/// An integer as a decimal text.
+#[tactic(auto, unfolding(crate::specs::Parts::integer_at))]
+pub fn integer_at(value: &Value) -> Option<i128>
+    ensures { result ≡ integer_at (view value.now) }
 {
-    whole(value.as_str()?.as_bytes())
+    integer_of(value.as_str()?.as_bytes())
 }
 
 /// The number, unless it passes 32 bits.
@@ -79,7 +80,7 @@ fn count_of(n: u64) -> Option<u32>
     if n < 4294967296 { Some(n as u32) } else { None }
 }
 
-/// A whole number from 0 to 4294967295, written with digits alone.
+/// A number from 0 to 4294967295, written with digits alone.
 #[tactic(auto, unfolding(crate::specs::Parts::count_at))]
 pub fn count_at(value: &Value) -> Option<u32>
     ensures { result ≡ count_at (view value.now) }
@@ -88,8 +89,8 @@ pub fn count_at(value: &Value) -> Option<u32>
 }
 
 /// The number, if it is from 0 to 4294967295.
-fn count_of_whole(z: &i128) -> Option<u32>
-    ensures { result ≡ count_of_whole z.now }
+fn count_of_integer(z: &i128) -> Option<u32>
+    ensures { result ≡ count_of_integer z.now }
 {
     if *z >= 0 && *z < 4294967296 {
         Some(*z as u32)
@@ -100,9 +101,9 @@ fn count_of_whole(z: &i128) -> Option<u32>
 
 /// A decimal text with a value from 0 to 4294967295.
 #[tactic(auto, unfolding(crate::specs::Numerals::step_of))]
-pub fn step(text: &str) -> Option<u32>
+pub fn step_of(text: &str) -> Option<u32>
     ensures { result ≡ step_of text.now }
 {
-    let number = whole(text.as_bytes())?;
-    count_of_whole(&number)
+    let number = integer_of(text.as_bytes())?;
+    count_of_integer(&number)
 }

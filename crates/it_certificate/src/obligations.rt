@@ -1,19 +1,18 @@
-//! How many obligations a region has.
+//! How many targets a relation has, and how many obligations a region makes.
 ghost use Rattle.std.specs.Prelude.{◌≡◌, ◌≤◌, ℕ, length, map, sum_by};
 ghost use Rattle.it_syntax.specs.Givens.{IsGivenOf, given_view};
 ghost use Rattle.it_syntax.specs.Meaning.{relation_view};
 ghost use Rattle.it_question.specs.Questions.{region_view};
 ghost use Rattle.it_question.specs.Limits.{AreLinesOver};
-ghost use Rattle.it_canon.specs.Demands.{kind_of};
-ghost use Rattle.it_certificate.specs.Obligations.{forms_of, obligation_count};
-ghost use Rattle.it_certificate.specs.ReportSteps.{given_forms, relation_forms};
+ghost use Rattle.it_certificate.specs.Obligations.{obligation_count, target_count};
+ghost use Rattle.it_certificate.specs.ReportSteps.{given_form_count, relation_form_count};
 
 use it_question::types::Region;
 use it_syntax::types::{Given, Relation, Sign};
 
-/// How many forms a relation of this sign says to be at least 0.
-fn sign_forms(sign: Sign) -> usize
-    ensures count { result ≡ forms_of (kind_of sign) }
+/// How many targets a relation of this sign has.
+pub fn target_count(sign: Sign) -> usize
+    ensures count { result ≡ target_count sign }
     ensures few { result ≤ 2 }
 {
     match sign {
@@ -23,39 +22,39 @@ fn sign_forms(sign: Sign) -> usize
 }
 
 /// How many forms a given says to be at least 0: two an equation.
-fn given_forms(given: &Given) -> usize
-    ensures count { result ≡ given_forms (given_view given.now) }
+fn given_form_count(given: &Given) -> usize
+    ensures count { result ≡ given_form_count (given_view given.now) }
     ensures few { (n : ℕ) → IsGivenOf n (given_view given.now) → result ≤ 32 }
 {
     match given {
-        Given::Relation(relation) => sign_forms(relation.sign),
+        Given::Relation(relation) => target_count(relation.sign),
         Given::Markov(sets) => 2 * sets.len().saturating_sub(2),
         Given::Independent { .. } | Given::Function { .. } => 2,
     }
 }
 
 /// Those of the givens.
-fn givens_forms(region: &Region) -> usize
+fn givens_form_count(region: &Region) -> usize
     requires { AreLinesOver region.now.names (region_view region.now).lines }
-    ensures count { result ≡ sum_by given_forms (map given_view region.now.lines.givens.items) }
+    ensures count { result ≡ sum_by given_form_count (map given_view region.now.lines.givens.items) }
     ensures few { result ≤ 2048 }
 {
     let mut count = 0;
     for given in &region.lines.givens {
-        count += given_forms(given);
+        count += given_form_count(given);
     }
     count
 }
 
 /// Those of the rows.
-fn rows_forms(rows: &[Relation]) -> usize
+fn rows_form_count(rows: &[Relation]) -> usize
     requires { length rows.now ≤ 64 }
-    ensures count { result ≡ sum_by relation_forms (map relation_view rows.now) }
+    ensures count { result ≡ sum_by relation_form_count (map relation_view rows.now) }
     ensures few { result ≤ 128 }
 {
     let mut count = 0;
     for relation in rows {
-        count += sign_forms(relation.sign);
+        count += target_count(relation.sign);
     }
     count
 }
@@ -65,5 +64,5 @@ pub fn obligation_count(region: &Region) -> usize
     requires { AreLinesOver region.now.names (region_view region.now).lines }
     ensures { result ≡ obligation_count (region_view region.now) }
 {
-    givens_forms(region) + rows_forms(region.lines.rows.as_slice())
+    givens_form_count(region) + rows_form_count(region.lines.rows.as_slice())
 }

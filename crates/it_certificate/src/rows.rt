@@ -4,7 +4,7 @@ ghost use Rattle.serde_json.specs.View.{view, items_view};
 ghost use Rattle.serde_json.specs.Find.{get};
 ghost use Rattle.it_number.specs.Limit.{IsWithin};
 ghost use Rattle.it_certificate.specs.Parts.{all_of, is_row_between, is_term_between, mark_at, row_at, row_of, rows_at, terms_at};
-ghost use Rattle.it_certificate.specs.Steps.{Gives};
+ghost use Rattle.it_certificate.specs.Steps.{Yields};
 
 use crate::keys::Refusal;
 use crate::kinds::mark_of;
@@ -58,7 +58,7 @@ fn mark_at(value: &Value) -> Option<Mark>
 /// The terms of a row, each coefficient within the limit.
 #[tactic(auto, using(crate::proofs::WithinLemmas::terms_within), unfolding(crate::specs::Parts::terms_at))]
 fn terms_at(alloc: Global, value: &Value) -> Result<Vec<(u32, i128)>, Refusal>
-    ensures terms { Gives (λ v. v.items) result (terms_at (view value.now)) }
+    ensures terms { Yields (λ v. v.items) result (terms_at (view value.now)) }
     ensures within { IfOk result (λ v. All (λ t. IsWithin t.1) v.items) }
 {
     let terms = pairs_of_member(alloc, value.get("row"))?;
@@ -68,7 +68,7 @@ fn terms_at(alloc: Global, value: &Value) -> Result<Vec<(u32, i128)>, Refusal>
 /// A row with its mark.
 #[tactic(auto, unfolding(crate::specs::Parts::row_at))]
 fn row_at(alloc: Global, value: &Value, size: u32) -> Result<(Mark, Row), Refusal>
-    ensures { Gives (λ r. r) result (row_at size (view value.now)) }
+    ensures { Yields (λ r. r) result (row_at size (view value.now)) }
 {
     let Some(mark) = mark_at(value) else {
         return Err(Refusal::Shape);
@@ -82,7 +82,7 @@ fn row_at(alloc: Global, value: &Value, size: u32) -> Result<(Mark, Row), Refusa
 
 /// Rows in order.
 fn rows(alloc: Global, values: &[Value], size: u32) -> Result<Vec<(Mark, Row)>, Refusal>
-    ensures { Gives (λ v. v.items) result (all_of (row_at size) (items_view values.now)) }
+    ensures { Yields (λ v. v.items) result (all_of (row_at size) (items_view values.now)) }
 {
     let mut out = Vec::new(alloc);
     for value in values {
@@ -98,7 +98,7 @@ fn rows(alloc: Global, values: &[Value], size: u32) -> Result<Vec<(Mark, Row)>, 
 /// The rows of a region over a space with so many coordinates.
 #[tactic(auto, unfolding(crate::specs::Parts::rows_at))]
 pub fn rows_at(alloc: Global, value: &Value, size: u32) -> Result<Vec<(Mark, Row)>, Refusal>
-    ensures { Gives (λ v. v.items) result (rows_at size (view value.now)) }
+    ensures { Yields (λ v. v.items) result (rows_at size (view value.now)) }
 {
     match array_of(value.get("rows")) {
         Some(values) => rows(alloc, values, size),

@@ -2,7 +2,7 @@
 ghost use Rattle.std.specs.Prelude.{◌≡◌, ◌≤◌};
 ghost use Rattle.serde_json.specs.View.{view, items_view};
 ghost use Rattle.it_certificate.specs.Parts.{all_of, parts_at, set_at, set_of};
-ghost use Rattle.it_certificate.specs.Steps.{Gives};
+ghost use Rattle.it_certificate.specs.Steps.{Yields};
 
 use crate::keys::Refusal;
 use crate::lists::array_of;
@@ -35,7 +35,7 @@ fn set_at(variables: u8, value: &Value) -> Option<VarSet>
 /// Sets in order.
 fn sets(alloc: Global, variables: u8, values: &[Value]) -> Result<Vec<VarSet>, Refusal>
     requires { variables ≤ 10 }
-    ensures { Gives (λ v. v.items) result (all_of (set_at variables) (items_view values.now)) }
+    ensures { Yields (λ v. v.items) result (all_of (set_at variables) (items_view values.now)) }
 {
     let mut out = Vec::new(alloc);
     for value in values {
@@ -59,7 +59,7 @@ pub fn parts_at(
     variables: u8,
 ) -> Result<Vec<VarSet>, Refusal>
     requires { variables ≤ 10 }
-    ensures { Gives (λ v. v.items) result (parts_at count variables (view value.now)) }
+    ensures { Yields (λ v. v.items) result (parts_at count variables (view value.now)) }
 {
     let Some(values) = array_of(value.get("parts")) else {
         return Err(Refusal::Shape);

@@ -1,27 +1,27 @@
 //! The parts of answers as JSON values.
-ghost use Rattle.std.specs.Prelude.{◌≡◌, ◌<◌, IfOk, filter, length, map, slice_index_or, [], decimal, IsAscii};
+ghost use Rattle.std.specs.Prelude.{◌≡◌, IfOk, filter, map, decimal, IsAscii};
 ghost use Rattle.serde_json.specs.Data.{string};
 ghost use Rattle.serde_json.specs.View.{view};
-ghost use Rattle.it_space.specs.Answers.{certificate_view};
-ghost use Rattle.it_certificate.specs.Values.{cause_text, count_value, is_some_weight, list_value, mark_text, place_text, proof_value, rate_text, row_value, side_text, pair_value, whole_value, IsCauseOf, IsRateOf};
+ghost use Rattle.it_space.specs.Answers.{IfRate, certificate_view, is_nonzero_weight};
+ghost use Rattle.it_certificate.specs.Values.{IsAsciiRate, cause_word, count_value, integer_value, list_value, pair_value, place_word, proof_value, rate_name, row_value, side_word};
 
-use it_space::{Cause, Certificate, Mark, Row, VarSet};
+use it_space::{Cause, Certificate, Mark, Row, VarSet, is_nonzero_weight};
 use it_syntax::Names;
 use itoa::Buffer;
 use serde_json::{Value, json};
 use std::alloc::{AllocError, Global};
 
-/// A whole number as decimal text.
-fn whole(alloc: Global, number: &i128) -> Result<Value, AllocError>
-    ensures { IfOk result (λ v. view v ≡ whole_value number.now) }
+/// An integer as decimal text.
+fn integer(alloc: Global, number: &i128) -> Result<Value, AllocError>
+    ensures { IfOk result (λ v. view v ≡ integer_value number.now) }
 {
     let mut buffer = Buffer::new();
     let text = buffer.format(*number);
     json!(in alloc; text)
 }
 
-/// A number as decimal text.
-fn step(alloc: Global, number: u32) -> Result<Value, AllocError>
+/// The number of steps, or of one step, as decimal text.
+fn step_number(alloc: Global, number: u32) -> Result<Value, AllocError>
     ensures { IfOk result (λ v. view v ≡ string (decimal number)) }
 {
     let mut buffer = Buffer::new();
@@ -34,24 +34,17 @@ fn step(alloc: Global, number: u32) -> Result<Value, AllocError>
 fn pair(alloc: Global, pair: &(u32, i128)) -> Result<Value, AllocError>
     ensures { IfOk result (λ v. view v ≡ pair_value pair.now) }
 {
-    let number = whole(alloc, &pair.1)?;
+    let number = integer(alloc, &pair.1)?;
     json!(in alloc; [pair.0, number])
 }
 
-/// Whether a weight is other than 0.
-fn is_some_weight(weight: &(u32, i128)) -> bool
-    ensures { result ≡ is_some_weight weight.now }
-{
-    weight.1 != 0
-}
-
-/// The weights that aren't 0.
+/// The weights other than 0.
 fn weights(alloc: Global, weights: &[(u32, i128)]) -> Result<Value, AllocError>
-    ensures { IfOk result (λ v. view v ≡ list_value pair_value (filter is_some_weight weights.now)) }
+    ensures { IfOk result (λ v. view v ≡ list_value pair_value (filter is_nonzero_weight weights.now)) }
 {
     let mut values = Vec::new(alloc);
     for weight in weights {
-        if is_some_weight(weight) {
+        if is_nonzero_weight(weight) {
             values.push(pair(alloc, weight)?)?;
         }
     }
@@ -63,7 +56,7 @@ fn weights(alloc: Global, weights: &[(u32, i128)]) -> Result<Value, AllocError>
 fn proof(alloc: Global, certificate: &Certificate) -> Result<Value, AllocError>
     ensures { IfOk result (λ v. view v ≡ proof_value (certificate_view certificate.now)) }
 {
-    let scale = whole(alloc, &certificate.scale)?;
+    let scale = integer(alloc, &certificate.scale)?;
     let weights = weights(alloc, certificate.weights.as_slice())?;
     json!(in alloc; {"scale": scale, "weights": weights})
 }
@@ -80,32 +73,21 @@ pub fn proofs(alloc: Global, certificates: &[Certificate]) -> Result<Value, Allo
 }
 
 /// The values of a point.
-pub fn wholes(alloc: Global, numbers: &[i128]) -> Result<Value, AllocError>
-    ensures { IfOk result (λ v. view v ≡ list_value whole_value numbers.now) }
+pub fn integers(alloc: Global, numbers: &[i128]) -> Result<Value, AllocError>
+    ensures { IfOk result (λ v. view v ≡ list_value integer_value numbers.now) }
 {
     let mut values = Vec::new(alloc);
     for number in numbers {
-        values.push(whole(alloc, number)?)?;
+        values.push(integer(alloc, number)?)?;
     }
     Ok(Value::Array(values))
 }
 
 /// The word of a side.
-pub fn side_text(back: bool) -> &'static str
-    ensures { result.now ≡ side_text back }
+pub fn side_word(back: bool) -> &'static str
+    ensures { result.now ≡ side_word back }
 {
     if back { "back" } else { "forward" }
-}
-
-/// The word of a mark.
-fn mark_text(mark: Mark) -> &'static str
-    ensures { result.now ≡ mark_text mark }
-{
-    match mark {
-        Mark::Plain => "plain",
-        Mark::Needed => "needed",
-        Mark::Unsettled => "unsettled",
-    }
 }
 
 /// The terms of a row.
@@ -125,7 +107,7 @@ fn row(alloc: Global, row: &(Mark, Row)) -> Result<Value, AllocError>
     ensures { IfOk result (λ v. view v ≡ row_value row.now) }
 {
     let terms = terms(alloc, row.1.terms())?;
-    json!(in alloc; {"mark": mark_text(row.0), "row": terms})
+    json!(in alloc; {"mark": row.0.word(), "row": terms})
 }
 
 /// The rows of a region.
@@ -159,8 +141,8 @@ pub fn sets(alloc: Global, sets: &[VarSet]) -> Result<Value, AllocError>
 }
 
 /// The word of a cause.
-pub fn cause_text(cause: Cause) -> &'static str
-    ensures { result.now ≡ cause_text cause }
+pub fn cause_word(cause: Cause) -> &'static str
+    ensures { result.now ≡ cause_word cause }
 {
     match cause {
         Cause::Pivots(_) => "pivots",
@@ -171,7 +153,7 @@ pub fn cause_text(cause: Cause) -> &'static str
 }
 
 /// ASCII bytes as text.
-pub fn text_of(bytes: &[u8]) -> &str
+pub fn ascii_text(bytes: &[u8]) -> &str
     requires { IsAscii bytes.now }
     ensures { result.now ≡ bytes.now }
 {
@@ -183,21 +165,21 @@ pub fn text_of(bytes: &[u8]) -> &str
 
 /// The name of a rate.
 fn rate(alloc: Global, names: &Names, rate: u8) -> Result<Value, AllocError>
-    requires { IsRateOf names.now rate }
-    ensures { IfOk result (λ v. view v ≡ string (rate_text names.now rate)) }
+    requires { IsAsciiRate names.now rate }
+    ensures { IfOk result (λ v. view v ≡ string (rate_name names.now rate)) }
 {
-    let name = text_of(names.rate_name(rate));
+    let name = ascii_text(names.rate_name(rate));
     json!(in alloc; name)
 }
 
-/// Where a cause stands: its budget, its step or its rate.
+/// At which step, budget or rate a cause came.
 pub fn place(alloc: Global, names: &Names, cause: Cause) -> Result<Value, AllocError>
-    requires { IsCauseOf names.now cause }
-    ensures { IfOk result (λ v. view v ≡ string (place_text names.now cause)) }
+    requires { IfRate (IsAsciiRate names.now) cause }
+    ensures { IfOk result (λ v. view v ≡ string (place_word names.now cause)) }
 {
     match cause {
-        Cause::Pivots(steps) => step(alloc, steps),
-        Cause::Width(number) => step(alloc, number),
+        Cause::Pivots(steps) => step_number(alloc, steps),
+        Cause::Width(number) => step_number(alloc, number),
         Cause::Scale => json!(in alloc; "0"),
         Cause::Rows(number) | Cause::WideRate(number) => rate(alloc, names, number),
     }

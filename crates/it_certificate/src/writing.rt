@@ -2,11 +2,11 @@
 ghost use Rattle.std.specs.Prelude.{◌≡◌, IfOk, map, string_bytes, Some, IsAscii, IsUtf8};
 ghost use Rattle.serde_json.specs.Read.{read};
 ghost use Rattle.serde_json.specs.View.{view};
-ghost use Rattle.it_space.specs.Answers.{answer_view, certificate_view};
+ghost use Rattle.it_space.specs.Answers.{IfRate, answer_view, certificate_view};
 ghost use Rattle.it_space.specs.Answers.AnswerView.{Yes, No, Undecided, Region, Contained, Open};
-ghost use Rattle.it_certificate.specs.Values.{answer_text, answer_value, IsCauseOf, IsWritable};
+ghost use Rattle.it_certificate.specs.Values.{IsAsciiRate, IsWritable, answer_text, answer_value};
 
-use crate::values::{cause_text, place, proofs, rows, sets, side_text, text_of, wholes};
+use crate::values::{ascii_text, cause_word, integers, place, proofs, rows, sets, side_word};
 use it_space::{Answer, Cause, Certificate, Mark, Point, Row, VarSet};
 use it_syntax::Names;
 use serde_json::{Value, json};
@@ -37,8 +37,8 @@ fn no_value(
 ) -> Result<Value, AllocError>
     ensures { IfOk result (λ v. view v ≡ answer_value question.now names.now (No back point.now)) }
 {
-    let values = wholes(alloc, point.values())?;
-    json!(in alloc; {"answer": "no", "point": values, "question": question, "side": side_text(back)})
+    let values = integers(alloc, point.values())?;
+    json!(in alloc; {"answer": "no", "point": values, "question": question, "side": side_word(back)})
 }
 
 /// The value of an undecided.
@@ -49,11 +49,11 @@ fn undecided_value(
     names: &Names,
     cause: Cause,
 ) -> Result<Value, AllocError>
-    requires { IsCauseOf names.now cause }
+    requires { IfRate (IsAsciiRate names.now) cause }
     ensures { IfOk result (λ v. view v ≡ answer_value question.now names.now (Undecided cause)) }
 {
     let place = place(alloc, names, cause)?;
-    json!(in alloc; {"answer": "undecided", "at": place, "cause": cause_text(cause), "question": question})
+    json!(in alloc; {"answer": "undecided", "at": place, "cause": cause_word(cause), "question": question})
 }
 
 /// The value of a region.
@@ -145,7 +145,7 @@ pub fn answer_json(
     ensures reads_back { IfOk result (λ out. read out.items ≡ Some (answer_value text.now names.now (answer_view answer.now))) }
     ensures utf8 { IfOk result (λ out. IsUtf8 out.items) }
 {
-    let line = answer_string(alloc, text_of(text), names, answer)?;
+    let line = answer_string(alloc, ascii_text(text), names, answer)?;
     let _text = line.as_str();
     Ok(line.into_bytes())
 }

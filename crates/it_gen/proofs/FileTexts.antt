@@ -6,7 +6,7 @@ use Rattle.it_syntax.specs.declared.types.Sign.TheVariants.{AtLeast}
 use Rattle.it_syntax.specs.declared.types.Symbol.TheVariants as symbols
 use Rattle.it_syntax.specs.declared.types.Token.{Token}
 use Rattle.it_syntax.specs.declared.types.TokenKind.TheVariants as kinds
-use Rattle.it_syntax.specs.Letters.{Word, Sym, End, Marked, clean, letters, clean_all}
+use Rattle.it_syntax.specs.Letters.{Word, Sym, End, MarkedLetters, unmarked, letters, unmarked_all}
 use Rattle.it_syntax.specs.Scopes.{scope_of}
 use Rattle.it_syntax.specs.Spans.{letters_until}
 use Rattle.it_syntax.specs.Spelling.{is_word_byte, Stops, IsText}
@@ -22,7 +22,7 @@ use Rattle.it_question.specs.WrittenFiles.{spell_question, spell_questions, ques
 use Rattle.it_question.specs.WrittenQuestions.{WrittenQuestion, Prove, most_variables}
 use Rattle.it_question.proofs.PlainLines.{spelled_plain, plain_same, plain_first}
 use Rattle.it_gen.specs.Draws.{state_after}
-use Rattle.it_gen.specs.GeneratedFiles.{term_text, bound_text, question_text, generated_file, IsProve, GeneratedIsFile}
+use Rattle.it_gen.specs.GeneratedFiles.{generated_term_text, bound_text, question_text, generated_file, IsProve, GeneratedIsFile}
 use Rattle.it_gen.proofs.SpelledLines.{IsSpelled, line_end, Writes, Anything, writes_then, writes_space, writes_word, writes_symbol}
 use Rattle.it_gen.proofs.PartTexts.{four_variables, term_tree, bound_tree, term_writes, bound_writes}
 use Rattle.it_gen.proofs.Lengths.{generated_short}
@@ -39,19 +39,19 @@ relation_tree x = record {
 question_tree : ℕ → WrittenQuestion
 question_tree x = record { variables = record { first = codes "A"; more = codes "B" ∷ codes "C" ∷ codes "D" ∷ [] }; rates = None; own = []; verb = Prove (relation_tree x) }
 
-keyword : (w : List ℕ) → IsText kinds.Word w → Writes Anything (w ++ 32 ∷ []) (λ k. clean (Word w) ∷ k)
+keyword : (w : List ℕ) → IsText kinds.Word w → Writes Anything (w ++ 32 ∷ []) (λ k. unmarked (Word w) ∷ k)
 unfolding is_word_byte
 keyword w h = writes_then (writes_word w h) writes_space (λ rest d. refl)
 
 -- a name, and `, ` behind it
-name_and_comma : (w : List ℕ) → IsText kinds.Word w → Writes Anything (w ++ codes ", ") (λ k. clean (Word w) ∷ clean (Sym symbols.Comma) ∷ k)
+name_and_comma : (w : List ℕ) → IsText kinds.Word w → Writes Anything (w ++ codes ", ") (λ k. unmarked (Word w) ∷ unmarked (Sym symbols.Comma) ∷ k)
 unfolding is_word_byte
 name_and_comma w h = writes_then (writes_word w h) (writes_then (writes_symbol symbols.Comma) writes_space (λ rest d. tt)) (λ rest d. refl)
 
 vars_line : List ℕ
 vars_line = codes "vars A, B, C, D"
 
-vars_writes : Writes (Stops is_word_byte) vars_line (λ k. clean (Word vars_text) ∷ spell_new_names Variable most_variables no_names (question_tree 0).variables k)
+vars_writes : Writes (Stops is_word_byte) vars_line (λ k. unmarked (Word vars_text) ∷ spell_new_names Variable most_variables no_names (question_tree 0).variables k)
 unfolding vars_line is_word_byte is_taken question_tree
 vars_writes =
     let short : 1 ≤ 16 = omega arith in
@@ -62,19 +62,19 @@ vars_writes =
     (writes_then (name_and_comma (codes "C") (refl, (refl, tt), short)) (writes_word (codes "D") (refl, (refl, tt), short)) (λ rest d. tt)) (λ rest d. tt)) (λ rest d. tt)) (λ rest d. tt)
 
 prove_line : ℕ → List ℕ
-prove_line x = codes "prove " ++ term_text x ++ codes " + " ++ term_text (state_after 2 x) ++ codes " + " ++ term_text (state_after 4 x) ++ codes " >= " ++ bound_text (state_after 6 x)
+prove_line x = codes "prove " ++ generated_term_text x ++ codes " + " ++ generated_term_text (state_after 2 x) ++ codes " + " ++ generated_term_text (state_after 4 x) ++ codes " >= " ++ bound_text (state_after 6 x)
 
-plus_writes : Writes Anything (codes " + ") (λ k. clean (Sym symbols.Plus) ∷ k)
+plus_writes : Writes Anything (codes " + ") (λ k. unmarked (Sym symbols.Plus) ∷ k)
 plus_writes = writes_then writes_space (writes_then (writes_symbol symbols.Plus) writes_space (λ rest d. tt)) (λ rest d. tt)
 
-at_least_writes : Writes Anything (codes " >= ") (λ k. clean (Sym symbols.AtLeast) ∷ k)
+at_least_writes : Writes Anything (codes " >= ") (λ k. unmarked (Sym symbols.AtLeast) ∷ k)
 at_least_writes = writes_then writes_space (writes_then (writes_symbol symbols.AtLeast) writes_space (λ rest d. tt)) (λ rest d. tt)
 
 -- whatever follows each of these parts
-then : {a b : List ℕ} {s t : Marked → Marked} → Writes Anything a s → Writes Anything b t → Writes Anything (a ++ b) (λ k. s (t k))
+then : {a b : List ℕ} {s t : MarkedLetters → MarkedLetters} → Writes Anything a s → Writes Anything b t → Writes Anything (a ++ b) (λ k. s (t k))
 then p q = writes_then p q (λ rest d. tt)
 
-prove_writes : (x : ℕ) → Writes Anything (prove_line x) (λ k. clean (Word prove_text) ∷ spell_relation (scope_of four_variables true) (relation_tree x) k)
+prove_writes : (x : ℕ) → Writes Anything (prove_line x) (λ k. unmarked (Word prove_text) ∷ spell_relation (scope_of four_variables true) (relation_tree x) k)
 unfolding prove_line relation_tree is_word_byte
 prove_writes x =
     let short : 5 ≤ 16 = omega arith in
@@ -86,16 +86,16 @@ prove_writes x =
 -- ---- lines
 
 -- these bytes are lines from number n on, and their letters are m
-record AreRead (n : ℕ) (bytes : List ℕ) (m : Marked) : Type 0 where
+record AreRead (n : ℕ) (bytes : List ℕ) (m : MarkedLetters) : Type 0 where
   lines : List TokenLine
   cut : AreLines n (split_lines bytes) lines
-  same : m ≡ clean_all (letters_of_lines lines)
+  same : m ≡ unmarked_all (letters_of_lines lines)
 
-filled : (line : List ℕ) (ts : List Token) (tail k : Marked) (w : List ℕ) → clean_all (letters_until line ts End) ++ tail ≡ clean (Word w) ∷ k → IsFilled ts None
+filled : (line : List ℕ) (ts : List Token) (tail k : MarkedLetters) (w : List ℕ) → unmarked_all (letters_until line ts End) ++ tail ≡ unmarked (Word w) ∷ k → IsFilled ts None
 filled line [] tail k w e = let clash : End ∷ letters tail ≡ Word w ∷ letters k = ap letters e in absurd cc
 filled line (t ∷ ts) tail k w e = tt
 
-line_read : (n : ℕ) (line more : List ℕ) (w : List ℕ) (k tail : Marked) → IsSpelled tail [] line (clean (Word w) ∷ k) → AreRead (n + 1) more tail → AreRead n (line ++ 10 ∷ more) (clean (Word w) ∷ k)
+line_read : (n : ℕ) (line more : List ℕ) (w : List ℕ) (k tail : MarkedLetters) → IsSpelled tail [] line (unmarked (Word w) ∷ k) → AreRead (n + 1) more tail → AreRead n (line ++ 10 ∷ more) (unmarked (Word w) ∷ k)
 line_read n line more w k tail h r =
     let l : TokenLine = record { number = n; text = line; tokens = h.tokens; misspelling = None } in
     let plain = spelled_plain 0 line h.tokens h.spelled in
@@ -103,22 +103,22 @@ line_read n line more w k tail h r =
       lines = l ∷ r.lines;
       cut = subst (λ (split : List (List ℕ)). AreLines n split (l ∷ r.lines)) (sym (plain_first line more plain))
           (inr (l, r.lines, refl, record { number = refl; text = sym (plain_same line plain); spelled = h.spelled }, filled line h.tokens tail k w h.same, r.cut));
-      same = sym h.same ∙ ap (λ (t : Marked). clean_all (letters_until line h.tokens End) ++ t) r.same ∙ sym (cleaned_append (letters_until line h.tokens End) (letters_of_lines r.lines));
+      same = sym h.same ∙ ap (λ (t : MarkedLetters). unmarked_all (letters_until line h.tokens End) ++ t) r.same ∙ sym (cleaned_append (letters_until line h.tokens End) (letters_of_lines r.lines));
     }
 
 -- a whole line
-whole : {C : List ℕ → Type 0} {text : List ℕ} {s : Marked → Marked} → Writes C text s → C [] → (tail : Marked) → IsSpelled tail [] text (s (clean End ∷ tail))
-whole {C} {text} {s} p c tail = subst (λ (bytes : List ℕ). IsSpelled tail [] bytes (s (clean End ∷ tail))) (append-nil text) (p.go tail [] [] (clean End ∷ tail) c (line_end tail text))
+whole : {C : List ℕ → Type 0} {text : List ℕ} {s : MarkedLetters → MarkedLetters} → Writes C text s → C [] → (tail : MarkedLetters) → IsSpelled tail [] text (s (unmarked End ∷ tail))
+whole {C} {text} {s} p c tail = subst (λ (bytes : List ℕ). IsSpelled tail [] bytes (s (unmarked End ∷ tail))) (append-nil text) (p.go tail [] [] (unmarked End ∷ tail) c (line_end tail text))
 
 question_lines_are : (x : ℕ) (more : List ℕ) → question_text x ++ more ≡ vars_line ++ 10 ∷ (prove_line x ++ 10 ∷ more)
 unfolding question_text vars_line prove_line
 question_lines_are x more = simp append_assoc
 
-question_read : (n : ℕ) (x : ℕ) (more : List ℕ) (k : Marked) → AreRead (n + 1 + 1) more k → AreRead n (question_text x ++ more) (clean (Word vars_text) ∷ spell_question (question_tree x) k)
+question_read : (n : ℕ) (x : ℕ) (more : List ℕ) (k : MarkedLetters) → AreRead (n + 1 + 1) more k → AreRead n (question_text x ++ more) (unmarked (Word vars_text) ∷ spell_question (question_tree x) k)
 unfolding question_tree is_taken
-question_read n x more k h = subst (λ (bytes : List ℕ). AreRead n bytes (clean (Word vars_text) ∷ spell_question (question_tree x) k)) (sym (question_lines_are x more))
-    (line_read n vars_line (prove_line x ++ 10 ∷ more) vars_text _ (clean (Word prove_text) ∷ spell_relation (scope_of four_variables true) (relation_tree x) (clean End ∷ k)) (whole vars_writes tt _)
-    (line_read (n + 1) (prove_line x) more prove_text (spell_relation (scope_of four_variables true) (relation_tree x) (clean End ∷ k)) k (whole (prove_writes x) tt k) h))
+question_read n x more k h = subst (λ (bytes : List ℕ). AreRead n bytes (unmarked (Word vars_text) ∷ spell_question (question_tree x) k)) (sym (question_lines_are x more))
+    (line_read n vars_line (prove_line x ++ 10 ∷ more) vars_text _ (unmarked (Word prove_text) ∷ spell_relation (scope_of four_variables true) (relation_tree x) (unmarked End ∷ k)) (whole vars_writes tt _)
+    (line_read (n + 1) (prove_line x) more prove_text (spell_relation (scope_of four_variables true) (relation_tree x) (unmarked End ∷ k)) k (whole (prove_writes x) tt k) h))
 
 -- ---- the file
 
@@ -126,14 +126,14 @@ trees : ℕ → ℕ → List WrittenQuestion
 trees seed zero = []
 trees seed (suc count) = question_tree seed ∷ trees (state_after 8 seed) count
 
-file_read : (seed count n limit : ℕ) → count ≤ limit → AreRead n (generated_file seed count) (spell_questions limit (trees seed count) (clean file_end ∷ []))
+file_read : (seed count n limit : ℕ) → count ≤ limit → AreRead n (generated_file seed count) (spell_questions limit (trees seed count) (unmarked file_end ∷ []))
 unfolding trees
 file_read seed zero n limit le = record { lines = end_line n ∷ []; cut = refl; same = refl }
 file_read seed (suc count) n zero le = absurd (omega (arith, le))
 file_read seed (suc count) n (suc limit) le =
     let less : suc limit - 1 ≡ limit = omega arith in
-    subst (λ (i : ℕ). AreRead n (generated_file seed (suc count)) (clean (Word vars_text) ∷ spell_question (question_tree seed) (spell_questions i (trees (state_after 8 seed) count) (clean file_end ∷ [])))) (sym less)
-    (question_read n seed (generated_file (state_after 8 seed) count) (spell_questions limit (trees (state_after 8 seed) count) (clean file_end ∷ [])) (file_read (state_after 8 seed) count (n + 1 + 1) limit (omega (arith, le))))
+    subst (λ (i : ℕ). AreRead n (generated_file seed (suc count)) (unmarked (Word vars_text) ∷ spell_question (question_tree seed) (spell_questions i (trees (state_after 8 seed) count) (unmarked file_end ∷ [])))) (sym less)
+    (question_read n seed (generated_file (state_after 8 seed) count) (spell_questions limit (trees (state_after 8 seed) count) (unmarked file_end ∷ [])) (file_read (state_after 8 seed) count (n + 1 + 1) limit (omega (arith, le))))
 
 counted : (seed count : ℕ) (lines : List TokenLine) → length (with_texts lines (questions_of (trees seed count))) ≡ count
 unfolding trees

@@ -6,7 +6,7 @@ use Rattle.it_space.specs.Sets.{has_member}
 use Rattle.it_polymatroid.specs.Elementals.{Elemental, Conditional, Mutual, elemental_at}
 use Rattle.it_print.specs.Lines.{one_if, members_from, joined_texts, set_text, given_set_text, elemental_text}
 use Rattle.it_gen.specs.Draws.{state_after, draw}
-use Rattle.it_gen.specs.GeneratedFiles.{four_names, term_text, bound_text, question_text, generated_file}
+use Rattle.it_gen.specs.GeneratedFiles.{four_names, generated_term_text, bound_text, question_text, generated_file}
 use Rattle.it_gen.proofs.PartTexts.{drawn_below}
 
 -- the names of members, each with a comma
@@ -64,8 +64,8 @@ elemental_short (Mutual i j k) =
 digit_short : (c : ℕ) → c < 10 → length (decimal c) ≡ 1
 digit_short c h = ap length (decimal_digit c h)
 
-term_short : (x : ℕ) → length (term_text x) ≤ 31
-unfolding term_text
+term_short : (x : ℕ) → length (generated_term_text x) ≤ 31
+unfolding generated_term_text
 term_short x =
     let c = decimal (1 + draw 1 4 x) in
     let e = elemental_text four_names (elemental_at 4 (draw 2 28 x)) in
@@ -81,9 +81,9 @@ bound_short x =
 question_short : (x : ℕ) → length (question_text x) ≤ 139
 unfolding question_text
 question_short x =
-    let a = term_text x in
-    let b = term_text (state_after 2 x) in
-    let c = term_text (state_after 4 x) in
+    let a = generated_term_text x in
+    let b = generated_term_text (state_after 2 x) in
+    let c = generated_term_text (state_after 4 x) in
     let d = bound_text (state_after 6 x) in
     let start = codes "vars A, B, C, D\nprove " in
     omega (

@@ -6,29 +6,29 @@ use Rattle.it_syntax.specs.declared.types.Symbol.{Symbol}
 use Rattle.it_syntax.specs.declared.types.Token.{Token}
 use Rattle.it_syntax.specs.declared.types.TokenKind.{TokenKind}
 use Rattle.it_syntax.specs.declared.types.TokenKind.TheVariants as kinds
-use Rattle.it_syntax.specs.Letters.{Letter, Word, Number, Sym, End, Marked, clean, clean_all}
+use Rattle.it_syntax.specs.Letters.{Letter, Word, Number, Sym, End, MarkedLetters, unmarked, unmarked_all}
 use Rattle.it_syntax.specs.Misspellings.{SpellsUntil}
 use Rattle.it_syntax.specs.Spans.{letter_of, letters_until}
 use Rattle.it_syntax.specs.Spelling.{is_word_byte, symbol_text, Stops, IsText, EndsToken, Cut}
 
 -- Behind `front` the line goes on with these bytes up to its end. With `tail` behind the line's end, they are the letters m, and nothing is said against one.
-pub record IsSpelled (tail : Marked) (front bytes : List ℕ) (m : Marked) : Type 0 where
+pub record IsSpelled (tail : MarkedLetters) (front bytes : List ℕ) (m : MarkedLetters) : Type 0 where
   pub tokens : List Token
   pub spelled : SpellsUntil (length front) bytes tokens None
-  pub same : clean_all (letters_until (front ++ bytes) tokens End) ++ tail ≡ m
+  pub same : unmarked_all (letters_until (front ++ bytes) tokens End) ++ tail ≡ m
 
-pub line_end : (tail : Marked) (front : List ℕ) → IsSpelled tail front [] (clean End ∷ tail)
+pub line_end : (tail : MarkedLetters) (front : List ℕ) → IsSpelled tail front [] (unmarked End ∷ tail)
 line_end tail front = record { tokens = []; spelled = tt; same = refl }
 
 -- Where what follows is as C says, the text spells what s puts before the letters that follow.
-pub record Writes (C : List ℕ → Type 0) (text : List ℕ) (s : Marked → Marked) : Type 0 where
-  pub go : (tail : Marked) (front rest : List ℕ) (m : Marked) → C rest → IsSpelled tail (front ++ text) rest m → IsSpelled tail front (text ++ rest) (s m)
+pub record Writes (C : List ℕ → Type 0) (text : List ℕ) (s : MarkedLetters → MarkedLetters) : Type 0 where
+  pub go : (tail : MarkedLetters) (front rest : List ℕ) (m : MarkedLetters) → C rest → IsSpelled tail (front ++ text) rest m → IsSpelled tail front (text ++ rest) (s m)
 
 -- whatever follows
 abbrev pub Anything : List ℕ → Type 0
 Anything rest = Unit {0}
 
-pub writes_then : {C D : List ℕ → Type 0} {a b : List ℕ} {s t : Marked → Marked} → Writes C a s → Writes D b t → ((rest : List ℕ) → D rest → C (b ++ rest)) → Writes D (a ++ b) (λ k. s (t k))
+pub writes_then : {C D : List ℕ → Type 0} {a b : List ℕ} {s t : MarkedLetters → MarkedLetters} → Writes C a s → Writes D b t → ((rest : List ℕ) → D rest → C (b ++ rest)) → Writes D (a ++ b) (λ k. s (t k))
 writes_then {C} {D} {a} {b} {s} {t} p q fits = record {
   go = λ tail front rest m d h.
       let one : IsSpelled tail ((front ++ a) ++ b) rest m = subst (λ (f : List ℕ). IsSpelled tail f rest m) (sym (append_assoc front a b)) h in
@@ -64,7 +64,7 @@ writes_space = record {
   go = λ tail front rest m c h. record {
     tokens = h.tokens;
     spelled = spaced front rest h.tokens h.spelled;
-    same = ap (λ (line : List ℕ). clean_all (letters_until line h.tokens End) ++ tail) (sym (append_assoc front (32 ∷ []) rest)) ∙ h.same;
+    same = ap (λ (line : List ℕ). unmarked_all (letters_until line h.tokens End) ++ tail) (sym (append_assoc front (32 ∷ []) rest)) ∙ h.same;
   };
 }
 
@@ -73,7 +73,7 @@ writes_space = record {
 token_text : (front text rest : List ℕ) → take (length front + length text - length front) (drop (length front) (front ++ (text ++ rest))) ≡ text
 token_text front text rest = ap (take (length front + length text - length front)) (drop_at front (text ++ rest) (length front) refl) ∙ take_at text rest (length front + length text - length front) (omega arith)
 
-writes_token : (kind : TokenKind) (text : List ℕ) (l : Letter) → IsText kind text → ((line : List ℕ) (start end : ℕ) → take (end - start) (drop start line) ≡ text → letter_of line start end kind ≡ l) → Writes (EndsToken kind) text (λ k. clean l ∷ k)
+writes_token : (kind : TokenKind) (text : List ℕ) (l : Letter) → IsText kind text → ((line : List ℕ) (start end : ℕ) → take (end - start) (drop start line) ≡ text → letter_of line start end kind ≡ l) → Writes (EndsToken kind) text (λ k. unmarked l ∷ k)
 writes_token kind text l is letter = record {
   go = λ tail front rest m ends h.
       let start = length front in
@@ -83,16 +83,16 @@ writes_token kind text l is letter = record {
       record {
         tokens = record { kind = kind; start = start; end = end } ∷ h.tokens;
         spelled = (rest, cut, subst (λ (i : ℕ). SpellsUntil i rest h.tokens None) (length-append front text) h.spelled);
-        same = ap (λ (x : Letter). clean x ∷ (clean_all (letters_until (front ++ (text ++ rest)) h.tokens End) ++ tail)) (letter (front ++ (text ++ rest)) start end (token_text front text rest))
-            ∙ ap (λ (b : List ℕ). clean l ∷ (clean_all (letters_until b h.tokens End) ++ tail)) (sym line) ∙ ap (λ (k : Marked). clean l ∷ k) h.same;
+        same = ap (λ (x : Letter). unmarked x ∷ (unmarked_all (letters_until (front ++ (text ++ rest)) h.tokens End) ++ tail)) (letter (front ++ (text ++ rest)) start end (token_text front text rest))
+            ∙ ap (λ (b : List ℕ). unmarked l ∷ (unmarked_all (letters_until b h.tokens End) ++ tail)) (sym line) ∙ ap (λ (k : MarkedLetters). unmarked l ∷ k) h.same;
       };
 }
 
-pub writes_word : (w : List ℕ) → IsText kinds.Word w → Writes (Stops is_word_byte) w (λ k. clean (Word w) ∷ k)
+pub writes_word : (w : List ℕ) → IsText kinds.Word w → Writes (Stops is_word_byte) w (λ k. unmarked (Word w) ∷ k)
 writes_word w is = writes_token kinds.Word w (Word w) is (λ line start end e. ap Word e)
 
-pub writes_number : (n : ℕ) (text : List ℕ) → IsText (kinds.Number n) text → Writes (Stops is_ascii_digit) text (λ k. clean (Number n) ∷ k)
+pub writes_number : (n : ℕ) (text : List ℕ) → IsText (kinds.Number n) text → Writes (Stops is_ascii_digit) text (λ k. unmarked (Number n) ∷ k)
 writes_number n text is = writes_token (kinds.Number n) text (Number n) is (λ line start end e. refl)
 
-pub writes_symbol : (s : Symbol) → Writes (EndsToken (kinds.Symbol s)) (symbol_text s) (λ k. clean (Sym s) ∷ k)
+pub writes_symbol : (s : Symbol) → Writes (EndsToken (kinds.Symbol s)) (symbol_text s) (λ k. unmarked (Sym s) ∷ k)
 writes_symbol s = writes_token (kinds.Symbol s) (symbol_text s) (Sym s) refl (λ line start end e. refl)

@@ -12,8 +12,8 @@ abbrev pub four_names : List (List ℕ)
 four_names = codes "A" ∷ codes "B" ∷ codes "C" ∷ codes "D" ∷ []
 
 -- two draws: a coefficient from 1 to 4, and which of the 28 elemental inequalities
-unfoldable pub term_text : ℕ → List ℕ
-term_text x = decimal (1 + draw 1 4 x) ++ codes " " ++ elemental_text four_names (elemental_at 4 (draw 2 28 x))
+unfoldable pub generated_term_text : ℕ → List ℕ
+generated_term_text x = decimal (1 + draw 1 4 x) ++ codes " " ++ elemental_text four_names (elemental_at 4 (draw 2 28 x))
 
 -- two draws: a factor from 0 to 2, and which of the 15 nonempty sets
 unfoldable pub bound_text : ℕ → List ℕ
@@ -22,7 +22,7 @@ bound_text x = decimal (draw 1 3 x) ++ codes " H(" ++ set_text four_names (1 + d
 -- the question of the eight draws from state x
 unfoldable pub question_text : ℕ → List ℕ
 question_text x =
-    codes "vars A, B, C, D\nprove " ++ term_text x ++ codes " + " ++ term_text (state_after 2 x) ++ codes " + " ++ term_text (state_after 4 x)
+    codes "vars A, B, C, D\nprove " ++ generated_term_text x ++ codes " + " ++ generated_term_text (state_after 2 x) ++ codes " + " ++ generated_term_text (state_after 4 x)
     ++ codes " >= " ++ bound_text (state_after 6 x) ++ codes "\n"
 
 -- so many questions, one after the other with one state, which begins as the seed

@@ -1,7 +1,7 @@
 //! The file of drawn questions.
 ghost use Rattle.std.specs.Prelude.{◌≡◌, ◌<◌, ◌≤◌, ◌++◌, ◌^◌, [], IfOk, OnOk};
 ghost use Rattle.it_gen.specs.Draws.{state_after};
-ghost use Rattle.it_gen.specs.GeneratedFiles.{bound_text, four_names, generated_file, question_text, term_text};
+ghost use Rattle.it_gen.specs.GeneratedFiles.{bound_text, four_names, generated_file, question_text, generated_term_text};
 
 use crate::draws::Draws;
 use it_print::{write_elemental, write_number, write_set};
@@ -77,10 +77,10 @@ fn write_question(out: &mut Vec<u8>, names: &Names, draws: &mut Draws) -> Result
 }
 
 /// A drawn elemental inequality with a drawn coefficient.
-#[tactic(auto, unfolding(crate::specs::GeneratedFiles::term_text))]
+#[tactic(auto, unfolding(crate::specs::GeneratedFiles::generated_term_text))]
 fn write_term(out: &mut Vec<u8>, names: &Names, draws: &mut Draws) -> Result<(), AllocError>
     requires { names.now.variables ≡ four_names }
-    ensures text { OnOk result (out.new.items ≡ out.old.items ++ term_text draws.old.state) }
+    ensures text { OnOk result (out.new.items ≡ out.old.items ++ generated_term_text draws.old.state) }
     ensures state { OnOk result (draws.new.state ≡ state_after 2 draws.old.state) }
 {
     let coefficient = 1 + draws.draw(4);

@@ -9,25 +9,25 @@ use Rattle.it_elemental.specs.Generators.{Generator}
 use Rattle.it_syntax.specs.NamesViews.{NamesView}
 use Rattle.it_print.specs.ProofLines.{certificate_lines, proof_lines}
 
-module _ (k : ℕ) (v : NamesView) (places : List Origin) (rows : ℕ → Generator) where
+module _ (k : ℕ) (v : NamesView) (origins : List Origin) (rows : ℕ → Generator) where
   -- one more certificate with its target
   pub proof_step : (proofs : List Certificate) (targets : List Terms) (i : ℕ) (w : Certificate) (target : Terms) (old new whole : List ℕ) → i < length proofs → i < length targets
-      → w ≡ get_or proofs i w → target ≡ get_or targets i target → new ≡ old ++ certificate_lines k v places rows (certificate_view w) target
-      → old ++ proof_lines k v places rows (map certificate_view (drop i proofs)) (drop i targets) ≡ whole
-      → new ++ proof_lines k v places rows (map certificate_view (drop (i + 1) proofs)) (drop (i + 1) targets) ≡ whole
+      → w ≡ get_or proofs i w → target ≡ get_or targets i target → new ≡ old ++ certificate_lines k v origins rows (certificate_view w) target
+      → old ++ proof_lines k v origins rows (map certificate_view (drop i proofs)) (drop i targets) ≡ whole
+      → new ++ proof_lines k v origins rows (map certificate_view (drop (i + 1) proofs)) (drop (i + 1) targets) ≡ whole
   proof_step proofs targets i w target old new whole h l is also_is written e =
-      let rest = proof_lines k v places rows (map certificate_view (drop (i + 1) proofs)) (drop (i + 1) targets) in
+      let rest = proof_lines k v origins rows (map certificate_view (drop (i + 1) proofs)) (drop (i + 1) targets) in
       let here : drop i proofs ≡ w ∷ drop (i + 1) proofs = drop_more proofs i w h ∙ ap (λ (x : Certificate). x ∷ drop (i + 1) proofs) (sym is) in
       let also_here : drop i targets ≡ target ∷ drop (i + 1) targets = drop_more targets i target l ∙ ap (λ (x : Terms). x ∷ drop (i + 1) targets) (sym also_is) in
-      ap (λ (x : List ℕ). x ++ rest) written ∙ append_assoc old (certificate_lines k v places rows (certificate_view w) target) rest
-      ∙ ap (λ (x : List ℕ). old ++ x) (sym (ap₂ (λ (ws : List Certificate) (ts : List Terms). proof_lines k v places rows (map certificate_view ws) ts) here also_here)) ∙ e
+      ap (λ (x : List ℕ). x ++ rest) written ∙ append_assoc old (certificate_lines k v origins rows (certificate_view w) target) rest
+      ∙ ap (λ (x : List ℕ). old ++ x) (sym (ap₂ (λ (ws : List Certificate) (ts : List Terms). proof_lines k v origins rows (map certificate_view ws) ts) here also_here)) ∙ e
 
-  no_targets : (ws : List CertificateView) → proof_lines k v places rows ws [] ≡ []
+  no_targets : (ws : List CertificateView) → proof_lines k v origins rows ws [] ≡ []
   no_targets [] = refl
   no_targets (w ∷ ws) = refl
 
   none_left : (proofs : List Certificate) (targets : List Terms) (i : ℕ) → min (length proofs) (length targets) ≤ i
-      → proof_lines k v places rows (map certificate_view (drop i proofs)) (drop i targets) ≡ []
+      → proof_lines k v origins rows (map certificate_view (drop i proofs)) (drop i targets) ≡ []
   none_left [] targets zero h = refl
   none_left [] targets (suc i) h = refl
   none_left (w ∷ proofs) [] zero h = refl
@@ -37,5 +37,5 @@ module _ (k : ℕ) (v : NamesView) (places : List Origin) (rows : ℕ → Genera
 
   -- behind the last certificate, or the last target
   pub proofs_done : (proofs : List Certificate) (targets : List Terms) (i : ℕ) (out whole : List ℕ) → min (length proofs) (length targets) ≤ i
-      → out ++ proof_lines k v places rows (map certificate_view (drop i proofs)) (drop i targets) ≡ whole → out ≡ whole
+      → out ++ proof_lines k v origins rows (map certificate_view (drop i proofs)) (drop i targets) ≡ whole → out ≡ whole
   proofs_done proofs targets i out whole h e = sym (append-nil out) ∙ ap (λ (x : List ℕ). out ++ x) (sym (none_left proofs targets i h)) ∙ e

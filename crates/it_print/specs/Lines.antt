@@ -1,8 +1,8 @@
 -- The lines of an answer, as bytes.
-use Rattle.std.specs.Prelude.{◌≡◌, ℕ, ◌+◌, ◌-◌, ◌^◌, ◌<◌, ℤ, pos, negsuc, unsigned_abs, map, not, All, List, [], ◌∷◌, ◌++◌, length, Bool, true, false, if◌then◌else◌, ◌==◌, codes, decimal, drop, nat_lt, slice_index_or}
+use Rattle.std.specs.Prelude.{◌≡◌, ℕ, ◌+◌, ◌-◌, ◌^◌, ◌<◌, ℤ, pos, negsuc, unsigned_abs, map, All, List, [], ◌∷◌, ◌++◌, length, Bool, true, false, if◌then◌else◌, ◌==◌, codes, decimal, drop, nat_lt, slice_index_or}
 use Rattle.std.specs.Fmt.{signed_decimal}
 use Rattle.it_space.specs.Sets.{has_member}
-use Rattle.it_space.specs.Answers.{AnswerView, CertificateView}
+use Rattle.it_space.specs.Answers.{AnswerView, CertificateView, IfRate, is_nonzero_weight, mark_word}
 use Rattle.it_space.specs.Answers.AnswerView.{Yes, No, Undecided, Region, Contained, Open}
 use Rattle.it_space.specs.declared.answers.Answer.{Answer}
 use Rattle.it_space.specs.declared.answers.Answer.TheVariants as answers
@@ -10,7 +10,6 @@ use Rattle.it_space.specs.declared.answers.Cause.{Cause}
 use Rattle.it_space.specs.declared.answers.Cause.TheVariants.{Pivots, Width, Scale, Rows, WideRate}
 use Rattle.it_space.specs.declared.answers.Certificate.{Certificate}
 use Rattle.it_space.specs.declared.answers.Mark.{Mark}
-use Rattle.it_space.specs.declared.answers.Mark.TheVariants.{Plain, Needed, Unsettled}
 use Rattle.it_space.specs.Rows.{Terms}
 use Rattle.it_space.specs.declared.problems.Constraint.{Constraint}
 use Rattle.it_space.specs.declared.problems.Kind.{Kind}
@@ -64,37 +63,33 @@ elemental_text names (Mutual i j k) =
 abbrev pub part_number : ℕ → ℕ → List ℕ
 part_number part parts = if nat_lt 1 parts then codes "." ++ decimal part else []
 
--- where a constraint comes from: `given J`, `given J.I` where the line gives several, or `row J`
-unfoldable pub place_text : Origin → List ℕ
-place_text (Given line part parts) = codes "given " ++ decimal line ++ part_number part parts
-place_text (Rate line) = codes "row " ++ decimal line
+-- the origin of a constraint: `given J`, `given J.I` where the line gives several, or `row J`
+unfoldable pub origin_text : Origin → List ℕ
+origin_text (Given line part parts) = codes "given " ++ decimal line ++ part_number part parts
+origin_text (Rate line) = codes "row " ++ decimal line
 
--- where the constraints come from, in order
-abbrev pub places_of : List Constraint → List Origin
-places_of cs = map (λ c. c.origin) cs
+-- the origins of constraints, in order
+abbrev pub origins_of : List Constraint → List Origin
+origins_of cs = map (λ c. c.origin) cs
 
--- where the constraint of this number comes from
-abbrev pub place_at : List Origin → ℕ → Origin
-place_at places i = slice_index_or places i (Rate 0)
+-- the origin of the constraint of this number
+abbrev pub origin_at : List Origin → ℕ → Origin
+origin_at origins i = slice_index_or origins i (Rate 0)
 
--- the generator of this number, of names and the places of the constraints
+-- the generator of this number, by the variables' names and the origins of the constraints
 unfoldable pub generator_text : List (List ℕ) → List Origin → ℕ → List ℕ
-generator_text names places g =
+generator_text names origins g =
     if nat_lt g (length (elementals (length names))) then elemental_text names (elemental_at (length names) g)
-    else place_text (place_at places (g - length (elementals (length names))))
+    else origin_text (origin_at origins (g - length (elementals (length names))))
 
--- a part of a sum: the weight and the generator
-unfoldable pub part_text : List (List ℕ) → List Origin → ℕ × ℤ → List ℕ
-part_text names places part = signed_decimal part.1 ++ codes " " ++ generator_text names places part.0
+-- a weight before its generator
+unfoldable pub weight_text : List (List ℕ) → List Origin → ℕ × ℤ → List ℕ
+weight_text names origins weight = signed_decimal weight.1 ++ codes " " ++ generator_text names origins weight.0
 
--- whether the weight isn't 0
-abbrev pub is_some_weight : ℕ × ℤ → Bool
-is_some_weight part = not (unsigned_abs part.1 == 0)
-
--- the parts whose weight isn't 0
-abbrev pub part_texts : List (List ℕ) → List Origin → List (ℕ × ℤ) → List (List ℕ)
-part_texts names places [] = []
-part_texts names places (part ∷ parts) = one_if (is_some_weight part) (part_text names places part) ++ part_texts names places parts
+-- the weights other than 0
+abbrev pub weight_texts : List (List ℕ) → List Origin → List (ℕ × ℤ) → List (List ℕ)
+weight_texts names origins [] = []
+weight_texts names origins (weight ∷ weights) = one_if (is_nonzero_weight weight) (weight_text names origins weight) ++ weight_texts names origins weights
 
 -- `0` where there is none
 abbrev pub or_zero : Bool → List (List ℕ) → List (List ℕ)
@@ -102,13 +97,13 @@ or_zero true texts = texts
 or_zero false [] = codes "0" ∷ []
 or_zero false (text ∷ texts) = text ∷ texts
 
--- the parts of a certificate with ` + ` between them, or `0`
+-- the weights of a certificate with ` + ` between them, or `0`
 unfoldable pub sum_text : List (List ℕ) → List Origin → List (ℕ × ℤ) → List ℕ
-sum_text names places parts = joined_texts (codes " + ") false (or_zero false (part_texts names places parts))
+sum_text names origins weights = joined_texts (codes " + ") false (or_zero false (weight_texts names origins weights))
 
 -- a certificate: the scale, and the sum
-unfoldable pub weights_text : List (List ℕ) → List Origin → CertificateView → List ℕ
-weights_text names places w = signed_decimal w.scale ++ codes " : " ++ sum_text names places w.parts
+unfoldable pub certificate_text : List (List ℕ) → List Origin → CertificateView → List ℕ
+certificate_text names origins w = signed_decimal w.scale ++ codes " : " ++ sum_text names origins w.parts
 
 -- a coordinate as `h(X,Y)`, or as a rate's name
 unfoldable pub coordinate_text : NamesView → ℕ → List ℕ
@@ -133,9 +128,9 @@ cause_text v (Rows r) = codes "rows " ++ slice_index_or v.rates r []
 cause_text v (WideRate r) = codes "width " ++ slice_index_or v.rates r []
 
 -- whether a number is below 0
-abbrev pub is_negative : ℤ → Bool
-is_negative (pos n) = false
-is_negative (negsuc n) = true
+abbrev pub is_below_zero : ℤ → Bool
+is_below_zero (pos n) = false
+is_below_zero (negsuc n) = true
 
 -- the sign of a term that is the first or not, and negative or not: with blanks round it behind another term
 abbrev pub sign_text : Bool → Bool → List ℕ
@@ -150,7 +145,7 @@ factor_text n = if n == 1 then [] else decimal n ++ codes " "
 
 -- a term, the first or a later one
 unfoldable pub term_text : NamesView → Bool → ℕ × ℤ → List ℕ
-term_text v is_first t = sign_text is_first (is_negative t.1) ++ factor_text (unsigned_abs t.1) ++ coordinate_text v t.0
+term_text v is_first t = sign_text is_first (is_below_zero t.1) ++ factor_text (unsigned_abs t.1) ++ coordinate_text v t.0
 
 -- terms in order, the first of them as such or not
 abbrev pub terms_text : NamesView → Bool → Terms → List ℕ
@@ -168,18 +163,12 @@ kind_text Inequality = codes " >= 0"
 kind_text Equation = codes " = 0"
 
 -- a row that is to be at least 0, or to be 0
-unfoldable pub row_text : NamesView → Kind → Terms → List ℕ
-row_text v kind terms = form_text v terms ++ kind_text kind
-
--- the word of a mark
-abbrev pub mark_text : Mark → List ℕ
-mark_text Plain = codes "plain"
-mark_text Needed = codes "needed"
-mark_text Unsettled = codes "unsettled"
+unfoldable pub constraint_text : NamesView → Kind → Terms → List ℕ
+constraint_text v kind terms = form_text v terms ++ kind_text kind
 
 -- the line of a row of the region that answers question k
 unfoldable pub row_line : ℕ → NamesView → Mark × Terms → List ℕ
-row_line k v row = decimal k ++ codes " row " ++ mark_text row.0 ++ codes " " ++ row_text v Inequality row.1 ++ codes "\n"
+row_line k v row = decimal k ++ codes " row " ++ mark_word row.0 ++ codes " " ++ constraint_text v Inequality row.1 ++ codes "\n"
 
 -- a line for each row
 abbrev pub row_lines : ℕ → NamesView → List (Mark × Terms) → List ℕ
@@ -188,7 +177,7 @@ row_lines k v (row ∷ rows) = row_line k v row ++ row_lines k v rows
 
 -- the lines after the question's number
 unfoldable pub yes_line : ℕ → List (List ℕ) → List Origin → List CertificateView → List ℕ
-yes_line k names places ws = decimal k ++ codes " yes " ++ joined_texts (codes " and ") false (map (weights_text names places) ws) ++ codes "\n"
+yes_line k names origins ws = decimal k ++ codes " yes " ++ joined_texts (codes " and ") false (map (certificate_text names origins) ws) ++ codes "\n"
 
 -- `no`, and the values of the point
 unfoldable pub no_line : ℕ → NamesView → List ℤ → List ℕ
@@ -230,26 +219,22 @@ contained_line k auxiliaries variables sets = decimal k ++ codes " contained" ++
 unfoldable pub open_line : ℕ → ℕ → List ℕ
 open_line k tried = decimal k ++ codes " open " ++ decimal tried ++ codes "\n"
 
--- a cause of a question with so many rates
+-- the rate of a cause, where it has one, is one of m
 abbrev pub IsCauseOf : ℕ → Cause → Type 0
-IsCauseOf m (Pivots steps) = Unit {0}
-IsCauseOf m (Width step) = Unit {0}
-IsCauseOf m Scale = Unit {0}
-IsCauseOf m (Rows r) = r < m
-IsCauseOf m (WideRate r) = r < m
+IsCauseOf m cause = IfRate (λ r. r < m) cause
 
 -- the coordinates of a row are sets of the variables and rates
 abbrev pub IsRowOver : NamesView → Terms → Type 0
 IsRowOver v terms = All (λ t. t.0 < 2 ^ length v.variables + length v.rates) terms
 
--- the lines of an answer to question k, with the places of its constraints
+-- the lines of an answer to question k, with the origins of its constraints
 abbrev pub answer_line : ℕ → BodyView → List Origin → AnswerView → List ℕ
-answer_line k q places (Yes ws) = yes_line k (problem_names q).variables places ws
-answer_line k q places (No is_back values) = no_line k (problem_names q) values
-answer_line k q places (Undecided cause) = undecided_line k (problem_names q) cause
-answer_line k q places (Region rows) = region_lines k (problem_names q) rows
-answer_line k q places (Contained parts proofs) = contained_line k (auxiliary_names q) (problem_names q).variables parts
-answer_line k q places (Open tried) = open_line k tried
+answer_line k q origins (Yes ws) = yes_line k (problem_names q).variables origins ws
+answer_line k q origins (No is_back values) = no_line k (problem_names q) values
+answer_line k q origins (Undecided cause) = undecided_line k (problem_names q) cause
+answer_line k q origins (Region rows) = region_lines k (problem_names q) rows
+answer_line k q origins (Contained parts proofs) = contained_line k (auxiliary_names q) (problem_names q).variables parts
+answer_line k q origins (Open tried) = open_line k tried
 
 -- the generators of these certificates are there, of n variables and m constraints
 abbrev pub AreListed : ℕ → ℕ → List Certificate → Type 0

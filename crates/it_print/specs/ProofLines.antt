@@ -1,7 +1,7 @@
 -- The lines of an answer with the rows that its proofs use, as bytes.
 use Rattle.std.specs.Prelude.{ℕ, ℤ, List, [], ◌∷◌, ◌++◌, length, if◌then◌else◌, codes, decimal}
 use Rattle.std.specs.Fmt.{signed_decimal}
-use Rattle.it_space.specs.Answers.{AnswerView, CertificateView}
+use Rattle.it_space.specs.Answers.{AnswerView, CertificateView, is_nonzero_weight}
 use Rattle.it_space.specs.Answers.AnswerView.{Yes, No, Undecided, Region, Contained, Open}
 use Rattle.it_space.specs.Rows.{Terms}
 use Rattle.it_space.specs.declared.problems.Constraint.{Constraint}
@@ -11,7 +11,7 @@ use Rattle.it_elemental.specs.Generators.{Generator, generator_at, generator_lis
 use Rattle.it_syntax.specs.NamesViews.{NamesView}
 use Rattle.it_question.specs.Questions.{BodyView}
 use Rattle.it_canon.specs.QuestionDemands.{problem_names}
-use Rattle.it_print.specs.Lines.{answer_line, is_some_weight, part_text, row_text}
+use Rattle.it_print.specs.Lines.{answer_line, weight_text, constraint_text}
 
 -- what each generator says, by its number: an elemental inequality, or a constraint
 abbrev pub generator_rows : NamesView → List Constraint → ℕ → Generator
@@ -19,30 +19,30 @@ generator_rows v cs g = generator_at (generator_list (length v.variables) cs) g
 
 -- the row of a generator
 unfoldable pub generator_row_text : NamesView → Generator → List ℕ
-generator_row_text v g = row_text v g.kind g.row
+generator_row_text v g = constraint_text v g.kind g.row
 
 -- a weight before its generator, and the generator's row
 unfoldable pub weight_line : ℕ → NamesView → List Origin → (ℕ → Generator) → ℕ × ℤ → List ℕ
-weight_line k v places rows part = decimal k ++ codes " proof " ++ part_text v.variables places part ++ codes " : " ++ generator_row_text v (rows part.0) ++ codes "\n"
+weight_line k v origins rows weight = decimal k ++ codes " proof " ++ weight_text v.variables origins weight ++ codes " : " ++ generator_row_text v (rows weight.0) ++ codes "\n"
 
 -- a line for each weight other than 0
 abbrev pub weight_lines : ℕ → NamesView → List Origin → (ℕ → Generator) → List (ℕ × ℤ) → List ℕ
-weight_lines k v places rows [] = []
-weight_lines k v places rows (part ∷ parts) = (if is_some_weight part then weight_line k v places rows part else []) ++ weight_lines k v places rows parts
+weight_lines k v origins rows [] = []
+weight_lines k v origins rows (weight ∷ weights) = (if is_nonzero_weight weight then weight_line k v origins rows weight else []) ++ weight_lines k v origins rows weights
 
 -- the scale, and the target's row
 unfoldable pub sum_line : ℕ → NamesView → ℤ → Terms → List ℕ
-sum_line k v scale target = decimal k ++ codes " sum " ++ signed_decimal scale ++ codes " : " ++ row_text v Inequality target ++ codes "\n"
+sum_line k v scale target = decimal k ++ codes " sum " ++ signed_decimal scale ++ codes " : " ++ constraint_text v Inequality target ++ codes "\n"
 
 -- the weights of a certificate, and the multiple of its target that they add up to
 unfoldable pub certificate_lines : ℕ → NamesView → List Origin → (ℕ → Generator) → CertificateView → Terms → List ℕ
-certificate_lines k v places rows w target = weight_lines k v places rows w.parts ++ sum_line k v w.scale target
+certificate_lines k v origins rows w target = weight_lines k v origins rows w.parts ++ sum_line k v w.scale target
 
 -- each certificate with its target
 abbrev pub proof_lines : ℕ → NamesView → List Origin → (ℕ → Generator) → List CertificateView → List Terms → List ℕ
-proof_lines k v places rows [] targets = []
-proof_lines k v places rows (w ∷ ws) [] = []
-proof_lines k v places rows (w ∷ ws) (target ∷ targets) = certificate_lines k v places rows w target ++ proof_lines k v places rows ws targets
+proof_lines k v origins rows [] targets = []
+proof_lines k v origins rows (w ∷ ws) [] = []
+proof_lines k v origins rows (w ∷ ws) (target ∷ targets) = certificate_lines k v origins rows w target ++ proof_lines k v origins rows ws targets
 
 -- the certificates of a yes and of a containment
 abbrev pub proofs_in : AnswerView → List CertificateView
@@ -55,4 +55,4 @@ proofs_in (Open tried) = []
 
 -- the lines of an answer, and behind them those of its certificates
 abbrev pub proof_text : ℕ → BodyView → List Origin → (ℕ → Generator) → List Terms → AnswerView → List ℕ
-proof_text k q places rows targets answer = answer_line k q places answer ++ proof_lines k (problem_names q) places rows (proofs_in answer) targets
+proof_text k q origins rows targets answer = answer_line k q origins answer ++ proof_lines k (problem_names q) origins rows (proofs_in answer) targets

@@ -1,7 +1,7 @@
 //! Generators: elemental inequalities, and constraints by the lines that they come from.
 ghost use Rattle.std.specs.Prelude.{◌≡◌, ◌≤◌, ◌<◌, ◌+◌, ◌^◌, ◌-◌, ◌++◌, length, OnOk};
 ghost use Rattle.it_polymatroid.specs.Elementals.{Conditional, Mutual, elementals, elemental_at};
-ghost use Rattle.it_print.specs.Lines.{elemental_text, generator_text, part_number, place_text, places_of};
+ghost use Rattle.it_print.specs.Lines.{elemental_text, generator_text, part_number, origin_text, origins_of};
 
 use crate::pieces::write_number;
 use crate::sets::{write_given, write_set};
@@ -20,13 +20,13 @@ pub fn write_generator(
 ) -> Result<(), AllocError>
     requires some { 1 ≤ length names.now.variables }
     requires there { generator < length (elementals (length names.now.variables)) + length constraints.now }
-    ensures { OnOk result (out.new.items ≡ out.old.items ++ generator_text names.now.variables (places_of constraints.now) generator) }
+    ensures { OnOk result (out.new.items ≡ out.old.items ++ generator_text names.now.variables (origins_of constraints.now) generator) }
 {
     let elementals = count(names.space().variables);
     if generator < elementals {
         write_elemental(out, names, generator)
     } else {
-        write_place(out, constraints[(generator - elementals) as usize].origin)
+        write_origin(out, constraints[(generator - elementals) as usize].origin)
     }
 }
 
@@ -48,7 +48,7 @@ fn write_conditional(out: &mut Vec<u8>, names: &Names, i: u8) -> Result<(), Allo
     requires { i < length names.now.variables }
     ensures { OnOk result (out.new.items ≡ out.old.items ++ elemental_text names.now.variables (Conditional i)) }
 {
-    let others = others_than(i, names.space().variables);
+    let others = other_variables(i, names.space().variables);
     out.extend_from_slice(b"H(")?;
     write_set(out, names, VarSet::single(i))?;
     write_given(out, names, others)?;
@@ -56,7 +56,7 @@ fn write_conditional(out: &mut Vec<u8>, names: &Names, i: u8) -> Result<(), Allo
 }
 
 /// The set of the other variables.
-fn others_than(i: u8, variables: u8) -> VarSet
+fn other_variables(i: u8, variables: u8) -> VarSet
     requires there { i < variables }
     requires few { variables ≤ 10 }
     ensures { result ≡ 2 ^ variables - 1 - 2 ^ i }
@@ -77,8 +77,8 @@ fn write_mutual(
     requires right { j < length names.now.variables }
     ensures { OnOk result (out.new.items ≡ out.old.items ++ elemental_text names.now.variables (Mutual i j given)) }
 {
-    let left = single(names, i);
-    let right = single(names, j);
+    let left = variable_set(names, i);
+    let right = variable_set(names, j);
     out.extend_from_slice(b"I(")?;
     write_set(out, names, left)?;
     out.extend_from_slice(b";")?;
@@ -88,7 +88,7 @@ fn write_mutual(
 }
 
 /// The set of one of the variables.
-fn single(names: &Names, i: u8) -> VarSet
+fn variable_set(names: &Names, i: u8) -> VarSet
     requires { i < length names.now.variables }
     ensures { result ≡ 2 ^ i }
 {
@@ -96,12 +96,12 @@ fn single(names: &Names, i: u8) -> VarSet
     VarSet::single(i)
 }
 
-/// The line that a constraint comes from.
-#[tactic(auto, unfolding(crate::specs::Lines::place_text))]
-fn write_place(out: &mut Vec<u8>, place: Origin) -> Result<(), AllocError>
-    ensures { OnOk result (out.new.items ≡ out.old.items ++ place_text place) }
+/// The origin of a constraint: the line that it comes from.
+#[tactic(auto, unfolding(crate::specs::Lines::origin_text))]
+fn write_origin(out: &mut Vec<u8>, origin: Origin) -> Result<(), AllocError>
+    ensures { OnOk result (out.new.items ≡ out.old.items ++ origin_text origin) }
 {
-    match place {
+    match origin {
         Origin::Given { line, part, parts } => {
             out.extend_from_slice(b"given ")?;
             write_number(out, line as usize)?;

@@ -3,14 +3,14 @@ ghost use Rattle.std.specs.Prelude.{◌≡◌, ◌≤◌, ◌<◌, ◌+◌, ◌^
 ghost use Rattle.it_space.specs.Answers.{answer_view, certificate_view};
 ghost use Rattle.it_question.specs.Questions.{question_body};
 ghost use Rattle.it_canon.specs.QuestionDemands.{problem_names, variables_of};
-ghost use Rattle.it_print.specs.Lines.{AreListed, IsCauseOf, IsPrintable, IsRowOver, answer_line, auxiliary_names, cause_text, contained_line, no_line, open_line, places_of, region_lines, undecided_line, yes_line};
+ghost use Rattle.it_print.specs.Lines.{AreListed, IsCauseOf, IsPrintable, IsRowOver, answer_line, auxiliary_names, cause_text, contained_line, no_line, open_line, origins_of, region_lines, undecided_line, yes_line};
 
-use crate::names::problem_names;
 use crate::pieces::write_number;
 use crate::rows::write_row_lines;
 use crate::substitutions::write_substitution;
 use crate::sums::write_proofs;
 use crate::values::{write_rate, write_values};
+use it_canon::problem_names;
 use it_question::types::Question;
 use it_space::{Answer, Cause, Certificate, Constraint, Mark, Point, Row, VarSet};
 use it_syntax::Names;
@@ -27,7 +27,7 @@ pub fn answer_line(
 ) -> Result<Vec<u8>, AllocError>
     requires some { 1 ≤ variables_of (question_body question.now) }
     requires printable { IsPrintable (question_body question.now) (length constraints.now) answer.now }
-    ensures { IfOk result (λ t. t.items ≡ answer_line k (question_body question.now) (places_of constraints.now) (answer_view answer.now)) }
+    ensures { IfOk result (λ t. t.items ≡ answer_line k (question_body question.now) (origins_of constraints.now) (answer_view answer.now)) }
 {
     let names = problem_names(question);
     match answer {
@@ -51,7 +51,7 @@ fn yes_line(
 ) -> Result<Vec<u8>, AllocError>
     requires some { 1 ≤ length names.now.variables }
     requires there { AreListed (length names.now.variables) (length constraints.now) proofs.now }
-    ensures { IfOk result (λ t. t.items ≡ yes_line k names.now.variables (places_of constraints.now) (map certificate_view proofs.now)) }
+    ensures { IfOk result (λ t. t.items ≡ yes_line k names.now.variables (origins_of constraints.now) (map certificate_view proofs.now)) }
 {
     let mut out = Vec::new(alloc);
     write_number(&mut out, k)?;

@@ -5,22 +5,22 @@ ghost use Rattle.it_polymatroid.specs.Elementals.{elementals, elemental_at};
 ghost use Rattle.it_elemental.specs.Generators.{of_constraint, of_elemental};
 ghost use Rattle.it_question.specs.Questions.{question_body};
 ghost use Rattle.it_canon.specs.QuestionDemands.{problem_names, variables_of};
-ghost use Rattle.it_print.specs.Lines.{AreListed, IsPrintable, IsRowOver, answer_line, places_of};
+ghost use Rattle.it_print.specs.Lines.{AreListed, IsPrintable, IsRowOver, answer_line, origins_of};
 ghost use Rattle.it_print.specs.ProofLines.{certificate_lines, generator_row_text, generator_rows, proof_lines, proof_text, proofs_in, sum_line, weight_line, weight_lines};
 
 use crate::lines::answer_line;
-use crate::names::problem_names;
 use crate::pieces::{write_number, write_signed};
-use crate::rows::write_row;
-use crate::sums::{is_some, write_sum_part};
+use crate::rows::write_constraint;
+use crate::sums::write_weight;
+use it_canon::problem_names;
 use it_elemental::{count, row};
 use it_question::types::Question;
-use it_space::{Answer, Certificate, Constraint, Kind, Row};
+use it_space::{Answer, Certificate, Constraint, Kind, Row, is_nonzero_weight};
 use it_syntax::Names;
 use std::alloc::{AllocError, Global};
 
 /// The lines of an answer to question k, as `answer_line` tells them, and behind them what its certificates add up. For
-/// each certificate, with its target by place: a line for each weight other than 0 with its generator's row, and one with
+/// each certificate, with the target of its number: a line for each weight other than 0 with its generator's row, and one with
 /// the scale and the target's row.
 pub fn proof_text(
     alloc: Global,
@@ -34,7 +34,7 @@ pub fn proof_text(
     requires printable { IsPrintable (question_body question.now) (length constraints.now) answer.now }
     requires rows { All (λ c. IsRowOver (problem_names (question_body question.now)) c.row) constraints.now }
     requires targets { All (IsRowOver (problem_names (question_body question.now))) targets.now }
-    ensures { IfOk result (λ t. t.items ≡ proof_text k (question_body question.now) (places_of constraints.now) (generator_rows (problem_names (question_body question.now)) constraints.now) targets.now (answer_view answer.now)) }
+    ensures { IfOk result (λ t. t.items ≡ proof_text k (question_body question.now) (origins_of constraints.now) (generator_rows (problem_names (question_body question.now)) constraints.now) targets.now (answer_view answer.now)) }
 {
     let mut out = answer_line(alloc, k, question, constraints, answer)?;
     let names = problem_names(question);
@@ -69,17 +69,17 @@ fn write_proof_lines(
     requires there { AreListed (length names.now.variables) (length constraints.now) proofs.now }
     requires rows { All (λ c. IsRowOver names.now c.row) constraints.now }
     requires targets { All (IsRowOver names.now) targets.now }
-    ensures { OnOk result (out.new.items ≡ out.old.items ++ proof_lines k names.now (places_of constraints.now) (generator_rows names.now constraints.now) (map certificate_view proofs.now) targets.now) }
+    ensures { OnOk result (out.new.items ≡ out.old.items ++ proof_lines k names.now (origins_of constraints.now) (generator_rows names.now constraints.now) (map certificate_view proofs.now) targets.now) }
 {
     for i in 0..proofs.len().min(targets.len()) {
-        write_certificate(alloc, out, k, names, constraints, &proofs[i], &targets[i])?;
+        write_certificate_lines(alloc, out, k, names, constraints, &proofs[i], &targets[i])?;
     }
     Ok(())
 }
 
 /// The lines of a certificate and its target.
 #[tactic(auto, unfolding(crate::specs::ProofLines::certificate_lines))]
-fn write_certificate(
+fn write_certificate_lines(
     alloc: Global,
     out: &mut Vec<u8>,
     k: usize,
@@ -92,7 +92,7 @@ fn write_certificate(
     requires there { All (λ w. w.0 < length (elementals (length names.now.variables)) + length constraints.now) certificate.now.weights.items }
     requires rows { All (λ c. IsRowOver names.now c.row) constraints.now }
     requires target { IsRowOver names.now target.now }
-    ensures { OnOk result (out.new.items ≡ out.old.items ++ certificate_lines k names.now (places_of constraints.now) (generator_rows names.now constraints.now) (certificate_view certificate.now) target.now) }
+    ensures { OnOk result (out.new.items ≡ out.old.items ++ certificate_lines k names.now (origins_of constraints.now) (generator_rows names.now constraints.now) (certificate_view certificate.now) target.now) }
 {
     let weights = certificate.weights.as_slice();
     write_weight_lines(alloc, out, k, names, constraints, weights)?;
@@ -111,10 +111,10 @@ fn write_weight_lines(
     requires some { 1 ≤ length names.now.variables }
     requires there { All (λ w. w.0 < length (elementals (length names.now.variables)) + length constraints.now) weights.now }
     requires rows { All (λ c. IsRowOver names.now c.row) constraints.now }
-    ensures { OnOk result (out.new.items ≡ out.old.items ++ weight_lines k names.now (places_of constraints.now) (generator_rows names.now constraints.now) weights.now) }
+    ensures { OnOk result (out.new.items ≡ out.old.items ++ weight_lines k names.now (origins_of constraints.now) (generator_rows names.now constraints.now) weights.now) }
 {
     for weight in weights {
-        if is_some(weight) {
+        if is_nonzero_weight(weight) {
             write_weight_line(alloc, out, k, names, constraints, weight)?;
         }
     }
@@ -134,11 +134,11 @@ fn write_weight_line(
     requires some { 1 ≤ length names.now.variables }
     requires there { weight.now.0 < length (elementals (length names.now.variables)) + length constraints.now }
     requires rows { All (λ c. IsRowOver names.now c.row) constraints.now }
-    ensures { OnOk result (out.new.items ≡ out.old.items ++ weight_line k names.now (places_of constraints.now) (generator_rows names.now constraints.now) weight.now) }
+    ensures { OnOk result (out.new.items ≡ out.old.items ++ weight_line k names.now (origins_of constraints.now) (generator_rows names.now constraints.now) weight.now) }
 {
     write_number(out, k)?;
     out.extend_from_slice(b" proof ")?;
-    write_sum_part(out, names, constraints, weight)?;
+    write_weight(out, names, constraints, weight)?;
     out.extend_from_slice(b" : ")?;
     write_generator_row(alloc, out, names, constraints, weight.0)?;
     out.extend_from_slice(b"\n")
@@ -178,7 +178,7 @@ fn write_elemental_row(
     ensures { OnOk result (out.new.items ≡ out.old.items ++ generator_row_text names.now (of_elemental (length names.now.variables) (elemental_at (length names.now.variables) index))) }
 {
     let row = row(alloc, names.space().variables, index)?;
-    write_row(out, names, Kind::Inequality, &row)
+    write_constraint(out, names, Kind::Inequality, &row)
 }
 
 /// The row of a constraint.
@@ -191,7 +191,7 @@ fn write_constraint_row(
     requires { IsRowOver names.now constraint.now.row }
     ensures { OnOk result (out.new.items ≡ out.old.items ++ generator_row_text names.now (of_constraint constraint.now)) }
 {
-    write_row(out, names, constraint.kind, &constraint.row)
+    write_constraint(out, names, constraint.kind, &constraint.row)
 }
 
 /// The line of the scale and the target.
@@ -210,6 +210,6 @@ fn write_sum_line(
     out.extend_from_slice(b" sum ")?;
     write_signed(out, certificate.scale)?;
     out.extend_from_slice(b" : ")?;
-    write_row(out, names, Kind::Inequality, target)?;
+    write_constraint(out, names, Kind::Inequality, target)?;
     out.extend_from_slice(b"\n")
 }

@@ -1,6 +1,6 @@
 //! Rows that are to be at least 0 or to be 0, and the lines of those of a region.
 ghost use Rattle.std.specs.Prelude.{◌≡◌, ◌<◌, ◌+◌, ◌^◌, ◌++◌, length, IfOk, OnOk, All, decimal, true, false};
-ghost use Rattle.it_print.specs.Lines.{IsRowOver, factor_text, form_text, is_negative, kind_text, mark_text, row_line, row_lines, row_text, sign_text, term_text, terms_text};
+ghost use Rattle.it_print.specs.Lines.{IsRowOver, factor_text, form_text, is_below_zero, kind_text, row_line, row_lines, constraint_text, sign_text, term_text, terms_text};
 
 use crate::pieces::write_number;
 use crate::values::write_coordinate;
@@ -38,46 +38,45 @@ fn write_row_line(
 {
     write_number(out, k)?;
     out.extend_from_slice(b" row ")?;
-    out.extend_from_slice(word(row.0))?;
+    out.extend_from_slice(row.0.word().as_bytes())?;
     out.extend_from_slice(b" ")?;
-    write_row(out, names, Kind::Inequality, &row.1)?;
+    write_constraint(out, names, Kind::Inequality, &row.1)?;
     out.extend_from_slice(b"\n")
-}
-
-/// The word of a mark.
-fn word(mark: Mark) -> &'static [u8]
-    ensures { result.now ≡ mark_text mark }
-{
-    match mark {
-        Mark::Plain => b"plain",
-        Mark::Needed => b"needed",
-        Mark::Unsettled => b"unsettled",
-    }
 }
 
 /// A row by its terms in order of the coordinates, with ` >= 0` or ` = 0` behind them. The row without terms has `0` in
 /// their place.
-pub fn row_text(alloc: Global, row: &Row, kind: Kind, names: &Names) -> Result<Vec<u8>, AllocError>
+pub fn constraint_text(
+    alloc: Global,
+    row: &Row,
+    kind: Kind,
+    names: &Names,
+) -> Result<Vec<u8>, AllocError>
     requires { IsRowOver names.now row.now }
-    ensures { IfOk result (λ t. t.items ≡ row_text names.now kind row.now) }
+    ensures { IfOk result (λ t. t.items ≡ constraint_text names.now kind row.now) }
 {
     let mut out = Vec::new(alloc);
-    write_row(&mut out, names, kind, row)?;
+    write_constraint(&mut out, names, kind, row)?;
     Ok(out)
 }
 
 /// The same behind what stands.
-#[tactic(auto, unfolding(crate::specs::Lines::row_text))]
-pub fn write_row(out: &mut Vec<u8>, names: &Names, kind: Kind, row: &Row) -> Result<(), AllocError>
+#[tactic(auto, unfolding(crate::specs::Lines::constraint_text))]
+pub fn write_constraint(
+    out: &mut Vec<u8>,
+    names: &Names,
+    kind: Kind,
+    row: &Row,
+) -> Result<(), AllocError>
     requires { IsRowOver names.now row.now }
-    ensures { OnOk result (out.new.items ≡ out.old.items ++ row_text names.now kind row.now) }
+    ensures { OnOk result (out.new.items ≡ out.old.items ++ constraint_text names.now kind row.now) }
 {
     write_form(out, names, row.terms())?;
-    out.extend_from_slice(demand(kind))
+    out.extend_from_slice(kind_text(kind))
 }
 
 /// What the value of a row is to be.
-fn demand(kind: Kind) -> &'static [u8]
+fn kind_text(kind: Kind) -> &'static [u8]
     ensures { result.now ≡ kind_text kind }
 {
     match kind {
@@ -123,15 +122,15 @@ fn write_term(
     requires { term.now.0 < 2 ^ length names.now.variables + length names.now.rates }
     ensures { OnOk result (out.new.items ≡ out.old.items ++ term_text names.now is_first term.now) }
 {
-    write_sign(out, is_first, is_negative(term.1))?;
+    write_sign(out, is_first, is_below_zero(term.1))?;
     write_factor(out, term.1.unsigned_abs())?;
     write_coordinate(out, names, term.0)?;
     Ok(())
 }
 
 /// Whether a number is below 0.
-fn is_negative(number: i128) -> bool
-    ensures { result ≡ is_negative number }
+fn is_below_zero(number: i128) -> bool
+    ensures { result ≡ is_below_zero number }
 {
     number < 0
 }

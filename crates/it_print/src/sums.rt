@@ -2,11 +2,11 @@
 ghost use Rattle.std.specs.Prelude.{◌≡◌, ◌≤◌, ◌<◌, ◌+◌, ◌++◌, length, map, OnOk, IfOk, All, codes, false};
 ghost use Rattle.it_space.specs.Answers.{certificate_view};
 ghost use Rattle.it_polymatroid.specs.Elementals.{elementals};
-ghost use Rattle.it_print.specs.Lines.{AreListed, is_some_weight, joined_texts, part_text, places_of, sum_text, weights_text};
+ghost use Rattle.it_print.specs.Lines.{AreListed, joined_texts, weight_text, origins_of, sum_text, certificate_text};
 
 use crate::generators::write_generator;
 use crate::pieces::{write_if, write_signed};
-use it_space::{Certificate, Constraint};
+use it_space::{Certificate, Constraint, is_nonzero_weight};
 use it_syntax::Names;
 use std::alloc::{AllocError, Global};
 
@@ -20,20 +20,20 @@ pub fn write_proofs(
 ) -> Result<(), AllocError>
     requires some { 1 ≤ length names.now.variables }
     requires there { AreListed (length names.now.variables) (length constraints.now) proofs.now }
-    ensures { OnOk result (out.new.items ≡ out.old.items ++ joined_texts (codes " and ") false (map (weights_text names.now.variables (places_of constraints.now)) (map certificate_view proofs.now))) }
+    ensures { OnOk result (out.new.items ≡ out.old.items ++ joined_texts (codes " and ") false (map (certificate_text names.now.variables (origins_of constraints.now)) (map certificate_view proofs.now))) }
 {
     let mut some = false;
     for certificate in proofs {
         let mut text = Vec::new(alloc);
-        write_weights(alloc, &mut text, names, constraints, certificate)?;
+        write_certificate(alloc, &mut text, names, constraints, certificate)?;
         some = write_if(out, some, b" and ", true, text.as_slice())?;
     }
     Ok(())
 }
 
 /// The scale and the sum of a certificate.
-#[tactic(auto, unfolding(crate::specs::Lines::weights_text))]
-fn write_weights(
+#[tactic(auto, unfolding(crate::specs::Lines::certificate_text))]
+fn write_certificate(
     alloc: Global,
     out: &mut Vec<u8>,
     names: &Names,
@@ -42,7 +42,7 @@ fn write_weights(
 ) -> Result<(), AllocError>
     requires some { 1 ≤ length names.now.variables }
     requires there { All (λ w. w.0 < length (elementals (length names.now.variables)) + length constraints.now) certificate.now.weights.items }
-    ensures { OnOk result (out.new.items ≡ out.old.items ++ weights_text names.now.variables (places_of constraints.now) (certificate_view certificate.now)) }
+    ensures { OnOk result (out.new.items ≡ out.old.items ++ certificate_text names.now.variables (origins_of constraints.now) (certificate_view certificate.now)) }
 {
     write_signed(out, certificate.scale)?;
     out.extend_from_slice(b" : ")?;
@@ -55,7 +55,7 @@ fn write_weights(
     )
 }
 
-/// The parts whose weight isn't 0 with ` + ` between them, or `0`.
+/// The weights other than 0 with ` + ` between them, or `0`.
 #[tactic(auto, using(crate::proofs::LineLemmas::sum_step), unfolding(crate::specs::Lines::sum_text))]
 fn write_sum(
     alloc: Global,
@@ -66,12 +66,18 @@ fn write_sum(
 ) -> Result<(), AllocError>
     requires some { 1 ≤ length names.now.variables }
     requires there { All (λ w. w.0 < length (elementals (length names.now.variables)) + length constraints.now) weights.now }
-    ensures { OnOk result (out.new.items ≡ out.old.items ++ sum_text names.now.variables (places_of constraints.now) weights.now) }
+    ensures { OnOk result (out.new.items ≡ out.old.items ++ sum_text names.now.variables (origins_of constraints.now) weights.now) }
 {
     let mut some = false;
     for weight in weights {
-        let text = sum_part(alloc, names, constraints, weight)?;
-        some = write_if(out, some, b" + ", is_some(weight), text.as_slice())?;
+        let text = weight_text(alloc, names, constraints, weight)?;
+        some = write_if(
+            out,
+            some,
+            b" + ",
+            is_nonzero_weight(weight),
+            text.as_slice(),
+        )?;
     }
     if !some {
         out.extend_from_slice(b"0")?;
@@ -79,8 +85,8 @@ fn write_sum(
     Ok(())
 }
 
-/// A part of a sum: a weight and its generator.
-fn sum_part(
+/// A weight before its generator.
+fn weight_text(
     alloc: Global,
     names: &Names,
     constraints: &[Constraint],
@@ -88,16 +94,16 @@ fn sum_part(
 ) -> Result<Vec<u8>, AllocError>
     requires some { 1 ≤ length names.now.variables }
     requires there { weight.now.0 < length (elementals (length names.now.variables)) + length constraints.now }
-    ensures { IfOk result (λ t. t.items ≡ part_text names.now.variables (places_of constraints.now) weight.now) }
+    ensures { IfOk result (λ t. t.items ≡ weight_text names.now.variables (origins_of constraints.now) weight.now) }
 {
     let mut out = Vec::new(alloc);
-    write_sum_part(&mut out, names, constraints, weight)?;
+    write_weight(&mut out, names, constraints, weight)?;
     Ok(out)
 }
 
 /// The same behind what stands.
-#[tactic(auto, unfolding(crate::specs::Lines::part_text))]
-pub fn write_sum_part(
+#[tactic(auto, unfolding(crate::specs::Lines::weight_text))]
+pub fn write_weight(
     out: &mut Vec<u8>,
     names: &Names,
     constraints: &[Constraint],
@@ -105,16 +111,9 @@ pub fn write_sum_part(
 ) -> Result<(), AllocError>
     requires some { 1 ≤ length names.now.variables }
     requires there { weight.now.0 < length (elementals (length names.now.variables)) + length constraints.now }
-    ensures { OnOk result (out.new.items ≡ out.old.items ++ part_text names.now.variables (places_of constraints.now) weight.now) }
+    ensures { OnOk result (out.new.items ≡ out.old.items ++ weight_text names.now.variables (origins_of constraints.now) weight.now) }
 {
     write_signed(out, weight.1)?;
     out.extend_from_slice(b" ")?;
     write_generator(out, names, constraints, weight.0)
-}
-
-/// Whether a weight is other than 0.
-pub fn is_some(weight: &(u32, i128)) -> bool
-    ensures { result ≡ is_some_weight weight.now }
-{
-    weight.1.unsigned_abs() != 0
 }

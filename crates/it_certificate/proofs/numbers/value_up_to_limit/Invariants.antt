@@ -1,6 +1,7 @@
 use Rattle.std.proofs.Common.{◌≡◌, ◌<◌, ◌^◌, drop, option_and_then}
-use Rattle.it_certificate.specs.Numerals.{value_from, up_to_limit}
-use Rattle.it_certificate.proofs.numbers.value.Given as goal
+use Rattle.it_number.specs.Decimals.{value_from}
+use Rattle.it_certificate.specs.Numerals.{up_to_limit}
+use Rattle.it_certificate.proofs.numbers.value_up_to_limit.Given as goal
 
 abbrev pub invariant-loop-d : goal.invariant-loop-d
 invariant-loop-d l = record {

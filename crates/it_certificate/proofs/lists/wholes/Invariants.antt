@@ -1,8 +1,0 @@
-use Rattle.std.proofs.Common.{◌≡◌, drop}
-use Rattle.serde_json.specs.View.{items_view}
-use Rattle.it_certificate.specs.Parts.{whole_at, all_of}
-use Rattle.it_certificate.specs.Steps.{with_front}
-use Rattle.it_certificate.proofs.lists.wholes.Given as goal
-
-abbrev pub invariant-loop-value : goal.invariant-loop-value
-invariant-loop-value l = with_front l.out.items (all_of whole_at (items_view (drop l.value-index l.values))) ≡ all_of whole_at (items_view l.values)
