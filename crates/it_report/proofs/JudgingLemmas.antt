@@ -4,7 +4,7 @@ use Rattle.std.proofs.lemmas.List.Elements.{All-weaker}
 use Rattle.it_space.specs.declared.spaces.Space.{Space}
 use Rattle.it_space.specs.Answers.{AnswerView, CertificateView}
 use Rattle.it_space.specs.Answers.AnswerView.{Yes, No, Contained}
-use Rattle.it_space.specs.Problems.{ProblemView, IsProblem}
+use Rattle.it_space.specs.Problems.{ProblemView, problem_view}
 use Rattle.it_space.specs.Rows.{Terms}
 use Rattle.it_space.specs.Spaces.{size_of}
 use Rattle.it_polymatroid.specs.Certificates.{Form}
@@ -16,7 +16,7 @@ use Rattle.it_question.specs.Questions.{BodyView, QuestionView, RegionView, Verb
 use Rattle.it_canon.specs.Canonical.{form_of}
 use Rattle.it_canon.specs.Demands.{AreStated}
 use Rattle.it_canon.specs.Targets.{targets, targets_by}
-use Rattle.it_canon.specs.QuestionDemands.{space_of, problem_names, problem_names_by, question_demands, AreRowsOf}
+use Rattle.it_canon.specs.QuestionDemands.{space_of, problem_names, problem_names_by, question_demands, AreRowsOf, IsProblemOf, Poses}
 use Rattle.it_region.specs.declared.types.Candidate.{Candidate}
 use Rattle.it_region.specs.declared.types.Pair.{Pair}
 use Rattle.it_region.specs.Obligations.{obligations, ArePartsOf, ArePulledRows}
@@ -26,7 +26,7 @@ use Rattle.it_certificate.specs.AnswerReading.{is_equality}
 use Rattle.it_certificate.specs.Fits.{FitsQuestion, FitsVerb, FitsContainment}
 use Rattle.it_certificate.specs.declared.keys.ReportFault.{ReportFault}
 use Rattle.it_certificate.specs.declared.keys.ReportFault.TheVariants as faults
-use Rattle.it_certificate.specs.Reports.{Reads, Reports}
+use Rattle.it_certificate.specs.Reports.{ReadsReport, Reports}
 use Rattle.it_check.specs.declared.verdicts.Verdict.{Verdict}
 use Rattle.it_report.specs.RowVerdicts.{place_named}
 use Rattle.it_report.specs.LineVerdicts.{LineVerdict, NotJson, Shape, Skipped, Judged, IsLineOf}
@@ -35,7 +35,7 @@ use Rattle.it_report.specs.Steps.{IsAboutRelation, IsFaultLine, IsJudgedAnswer}
 
 -- ---- lines
 
-pub read_verdict : (line : List ℕ) (q : QuestionView) (a : AnswerView) (v : LineVerdict) → Reads line (Ok (q, a)) → IsAnswerVerdict q.body a v → IsVerdict line v
+pub read_verdict : (line : List ℕ) (q : QuestionView) (a : AnswerView) (v : LineVerdict) → ReadsReport line (Ok (q, a)) → IsAnswerVerdict q.body a v → IsVerdict line v
 read_verdict line q a NotJson h is = absurd is
 read_verdict line q a (Shape key) h is = absurd is
 read_verdict line q a Skipped h is = record { question = q; answer = a; reads = h; verdict = is }
@@ -48,7 +48,7 @@ module _ {L E : Type 0} (text : L → List ℕ) (invalid : L → Bool) (k : ℕ)
   fault_is_judged line (faults.Shape key) (Ok j) h told = record { verdict = Shape key; is = h; told = told }
   fault_is_judged line fault (Err e) h told = tt
 
-  pub answer_is_judged : (line : List ℕ) (q : QuestionView) (a : AnswerView) (r : Result L E) → Reads line (Ok (q, a)) → IfOk r (λ j. IsJudgedAnswer k q.body a (text j) (invalid j)) → IfOk r (λ j. IsJudgedLine k line (text j) (invalid j))
+  pub answer_is_judged : (line : List ℕ) (q : QuestionView) (a : AnswerView) (r : Result L E) → ReadsReport line (Ok (q, a)) → IfOk r (λ j. IsJudgedAnswer k q.body a (text j) (invalid j)) → IfOk r (λ j. IsJudgedLine k line (text j) (invalid j))
   answer_is_judged line q a (Ok j) h judged = record { verdict = judged.verdict; is = read_verdict line q a judged.verdict h judged.is; told = judged.told }
   answer_is_judged line q a (Err e) h judged = tt
 
@@ -62,24 +62,24 @@ pub verb_fits : (q : BodyView) (a : AnswerView) (verb : VerbView) → q.verb ≡
 unfolding FitsQuestion
 verb_fits q a verb e h = subst (λ v. FitsVerb q.names v a) e h
 
-pub yes_about : (q : BodyView) (ws : List CertificateView) → FitsQuestion q (Yes ws) → IsAboutRelation q.verb
-yes_about q ws h = by q.verb (verb_fits q (Yes ws) q.verb refl h)
+pub yes_is_about_relation : (q : BodyView) (ws : List CertificateView) → FitsQuestion q (Yes ws) → IsAboutRelation q.verb
+yes_is_about_relation q ws h = by q.verb (verb_fits q (Yes ws) q.verb refl h)
   where
     by : (verb : VerbView) → FitsVerb q.names verb (Yes ws) → IsAboutRelation verb
     by (Prove r) h = tt
     by (Eliminate rates) h = absurd h
     by (Contain first second tries) h = absurd h
 
-pub no_about : (q : BodyView) (back : Bool) (values : List ℤ) → FitsQuestion q (No back values) → IsAboutRelation q.verb
-no_about q back values h = by q.verb (verb_fits q (No back values) q.verb refl h)
+pub no_is_about_relation : (q : BodyView) (back : Bool) (values : List ℤ) → FitsQuestion q (No back values) → IsAboutRelation q.verb
+no_is_about_relation q back values h = by q.verb (verb_fits q (No back values) q.verb refl h)
   where
     by : (verb : VerbView) → FitsVerb q.names verb (No back values) → IsAboutRelation verb
     by (Prove r) h = tt
     by (Eliminate rates) h = absurd h
     by (Contain first second tries) h = absurd h
 
-pub contained_about : (q : BodyView) (parts : List ℕ) (ws : List CertificateView) → FitsQuestion q (Contained parts ws) → IsContainment q.verb
-contained_about q parts ws h = by q.verb (verb_fits q (Contained parts ws) q.verb refl h)
+pub contained_is_about_regions : (q : BodyView) (parts : List ℕ) (ws : List CertificateView) → FitsQuestion q (Contained parts ws) → IsContainment q.verb
+contained_is_about_regions q parts ws h = by q.verb (verb_fits q (Contained parts ws) q.verb refl h)
   where
     by : (verb : VerbView) → FitsVerb q.names verb (Contained parts ws) → IsContainment verb
     by (Prove r) h = absurd h
@@ -88,20 +88,16 @@ contained_about q parts ws h = by q.verb (verb_fits q (Contained parts ws) q.ver
 
 -- ---- the problem and the rows
 
-module _ (q : BodyView) (p : ProblemView) (space : p.space ≡ space_of (problem_names q)) (limits : IsProblem p) (stated : AreStated p.space (question_demands q) p.constraints) where
-  pub has_verdict : (a : AnswerView) (ts : List Terms) (names : NamesView) (v : Verdict) → ArePulledRows p.space (judged_forms q a) ts → names ≡ problem_names q → answer_verdict p ts a ≡ Some v → IsJudged q a names v
-  has_verdict a ts names v are own e = record {
-    problem = p;
-    space = space;
-    limits = limits;
-    constraints = stated;
-    rows = ts;
-    are = are;
-    own_names = own;
-    verdict = e;
-  }
+pub has_verdict : (q : BodyView) (p : ProblemView) → IsProblemOf q p → (a : AnswerView) (ts : List Terms) (names : NamesView) (v : Verdict)
+    → ArePulledRows p.space (judged_forms q a) ts → names ≡ problem_names q → answer_verdict p ts a ≡ Some v → IsJudged q a names v
+has_verdict q p is a ts names v are own e = record { problem = p; is_problem = is; rows = ts; are = are; own_names = own; verdict = e }
 
 -- ---- a relation
+
+-- by the rows of its targets
+pub judged_by_targets : (q : BodyView) (r : RelationView) → q.verb ≡ Prove r → (b : Poses q r) (a : AnswerView) (v : Verdict) → answer_verdict b.problem b.rows a ≡ Some v → IsJudged q a (problem_names q) v
+judged_by_targets q r about b a v e = has_verdict q b.problem b.is_problem a b.rows (problem_names q) v
+    (rows_as_pulled b.problem.space (judged_forms q a) b.rows (subst (λ fs. AreRowsOf b.problem.space fs b.rows) (sym (ap (λ v. judged_forms_by q v a) about)) b.targets_are)) refl e
 
 module _ (q : BodyView) (r : RelationView) (about : q.verb ≡ Prove r) where
   relation_names : problem_names q ≡ q.names
@@ -161,11 +157,11 @@ module _ (q : BodyView) (p : Pair) (parts : List ℕ) (ws : List CertificateView
   pub few_parts : length parts ≤ 4
   few_parts = of_pair (length parts ≤ 4) (λ first second tries e o h. omega (arith, h.count, o.parts, l.few_parts))
 
-  pub pair_space : p.first.space ≡ space_of (problem_names q)
+  pair_space : p.first.space ≡ space_of (problem_names q)
   pair_space = of_pair (p.first.space ≡ space_of (problem_names q)) (λ first second tries e o h. o.first_space ∙ sym (ap (λ v. space_of (problem_names_by q.names v)) e))
 
-  pub pair_stated : AreStated p.first.space (question_demands q) p.first.constraints.items
-  pair_stated = of_pair (AreStated p.first.space (question_demands q) p.first.constraints.items) (λ first second tries e o h. o.first)
+  pub pair_problem : IsProblemOf q (problem_view p.first)
+  pair_problem = record { space = pair_space; limits = l.problem; constraints = of_pair (AreStated p.first.space (question_demands q) p.first.constraints.items) (λ first second tries e o h. o.first) }
 
   pub candidate_fits : (c : Candidate) → length c.parts ≡ 4 → c.count ≡ length parts → take c.count c.parts ≡ parts → Fits p c
   candidate_fits c four count same = of_pair (Fits p c) (λ first second tries e o h. parts_fit q first second p o c parts four count same h)

@@ -3,7 +3,5 @@ pub mod JudgingLemmas
 pub mod CountLemmas
 pub mod OneLemmas
 pub mod TruthLemmas
-pub mod NumberLemmas
-pub mod FormLemmas
-pub mod DemandLemmas
+pub mod ObligationForms
 pub mod ExistenceLemmas

@@ -3,20 +3,17 @@ use Rattle.std.proofs.Common.{◌≡◌, ℕ, List, true, Some, None, Result, Ok
 use Rattle.serde_json.specs.Read.{read}
 use Rattle.serde_json.specs.Data.{Data}
 use Rattle.it_space.specs.declared.spaces.Space.{Space}
-use Rattle.it_space.specs.declared.problems.Constraint.{Constraint}
 use Rattle.it_space.specs.Answers.{AnswerView}
 use Rattle.it_space.specs.Answers.AnswerView.{Yes, No, Undecided, Region, Contained, Open}
 use Rattle.it_space.specs.Problems.{ProblemView}
 use Rattle.it_space.specs.Rows.{Terms}
 use Rattle.it_syntax.specs.NamesViews.{NamesView}
 use Rattle.it_question.specs.Questions.{BodyView, QuestionView}
-use Rattle.it_canon.specs.Demands.{AreStated}
-use Rattle.it_canon.specs.QuestionDemands.{question_demands}
-use Rattle.it_canon.proofs.UniqueRows.{one_constraint_list}
+use Rattle.it_canon.proofs.PosesLemmas.{one_problem}
 use Rattle.it_region.specs.Obligations.{ArePulledRows}
 use Rattle.it_region.proofs.TextLemmas.{pulled_rows_told}
 use Rattle.it_certificate.specs.declared.keys.Key.{Key}
-use Rattle.it_certificate.specs.Reports.{Reads}
+use Rattle.it_certificate.specs.Reports.{ReadsReport}
 use Rattle.it_certificate.proofs.OneLemmas.{one_reading}
 use Rattle.it_check.specs.declared.verdicts.Verdict.{Verdict}
 use Rattle.it_report.specs.LineVerdicts.{LineVerdict, NotJson, Shape, Skipped, Judged}
@@ -35,7 +32,7 @@ as_fault k = Err k
 none_is_not_some : (d : Data) → Some d ≡ None → ⊥
 none_is_not_some d e = cc
 
-has_json : (line : List ℕ) (r : Result Reading Key) → Reads line r → (IsUtf8 line → read line ≡ None) → ⊥
+has_json : (line : List ℕ) (r : Result Reading Key) → ReadsReport line r → (IsUtf8 line → read line ≡ None) → ⊥
 has_json line r h none = none_is_not_some h.value (sym h.is_json ∙ none h.utf8)
 
 one_key : (k j : Key) → as_fault k ≡ as_fault j → k ≡ j
@@ -47,7 +44,7 @@ no_key k x e = cc
 pub one_pair : (x y : Reading) → as_read x ≡ as_read y → x ≡ y
 one_pair x y e = cc
 
-same_some : (v w : Verdict) → Some v ≡ Some w → v ≡ w
+pub same_some : (v w : Verdict) → Some v ≡ Some w → v ≡ w
 same_some v w e = cc
 
 none_judged : (v : Verdict) → None ≡ Some v → ⊥
@@ -61,24 +58,15 @@ passed_or_judged p ts (Region rows) v h e = none_judged v e
 passed_or_judged p ts (Contained parts proofs) v h e = absurd (cc)
 passed_or_judged p ts (Open tried) v h e = none_judged v e
 
--- a question poses one problem
-one_problem : (q : BodyView) (a : AnswerView) (m n : NamesView) (v w : Verdict) (h : IsJudged q a m v) (k : IsJudged q a n w) → h.problem ≡ k.problem
-one_problem q a m n v w h k = ap₂ (λ (s : Space) (cs : List Constraint). record { space = s; constraints = cs }) same
-    (one_constraint_list k.problem.space (question_demands q) h.problem.constraints k.problem.constraints
-    (subst (λ (s : Space). AreStated s (question_demands q) h.problem.constraints) same h.constraints) k.constraints)
-  where
-    same : h.problem.space ≡ k.problem.space
-    same = h.space ∙ sym k.space
-
--- and its answer's forms have one list of rows
+-- the forms of an answer have one list of rows
 one_row_list : (q : BodyView) (a : AnswerView) (m n : NamesView) (v w : Verdict) (h : IsJudged q a m v) (k : IsJudged q a n w) → h.rows ≡ k.rows
 one_row_list q a m n v w h k =
-    pulled_rows_told k.problem.space (judged_forms q a) h.rows k.rows (subst (λ (s : Space). ArePulledRows s (judged_forms q a) h.rows) (h.space ∙ sym k.space) h.are) k.are
+    pulled_rows_told k.problem.space (judged_forms q a) h.rows k.rows (subst (λ (s : Space). ArePulledRows s (judged_forms q a) h.rows) (h.is_problem.space ∙ sym k.is_problem.space) h.are) k.are
 
 same_judged : (q : BodyView) (a : AnswerView) (m n : NamesView) (v w : Verdict) → IsJudged q a m v → IsJudged q a n w → Judged m v ≡ Judged n w
 same_judged q a m n v w h k =
     ap₂ Judged (h.own_names ∙ sym k.own_names)
-    (same_some v w (sym h.verdict ∙ ap₂ (λ p ts. answer_verdict p ts a) (one_problem q a m n v w h k) (one_row_list q a m n v w h k) ∙ k.verdict))
+    (same_some v w (sym h.verdict ∙ ap₂ (λ p ts. answer_verdict p ts a) (one_problem q h.problem k.problem h.is_problem k.is_problem) (one_row_list q a m n v w h k) ∙ k.verdict))
 
 judged_once : (x y : Reading) → x ≡ y → (m n : NamesView) (v w : Verdict) → IsJudged x.0.body x.1 m v → IsJudged y.0.body y.1 n w → Judged m v ≡ Judged n w
 judged_once x y e m n v w h k = same_judged x.0.body x.1 m n v w h (subst (λ z. IsJudged z.0.body z.1 n w) (sym e) k)

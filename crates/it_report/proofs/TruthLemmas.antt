@@ -1,35 +1,24 @@
 -- The claim of a valid line is true.
-use Rattle.std.proofs.Common.{◌≡◌, ℕ, zero, suc, ◌<◌, ℤ, pos, neg_ℤ, ◌≤ℤ◌, List, [], ◌∷◌, length, map, drop, get_or, Bool, Option, Some, None, Result, Ok, Err, All, if◌then◌else◌, refl, sym, ap, subst, ◌∙◌, arith}
+use Rattle.std.proofs.Common.{◌≡◌, ℕ, zero, suc, ◌<◌, ℤ, pos, neg_ℤ, ◌≤ℤ◌, List, [], ◌∷◌, length, get_or, Bool, Option, Some, None, Result, Ok, Err, All, if◌then◌else◌, refl, sym, ap, subst, ◌∙◌, arith}
+use Rattle.std.specs.Prelude.{ok_or}
 use Rattle.std.proofs.lemmas.List.Elements.{All-nil, All-cons, All-head}
 use Rattle.serde_json.specs.Data.{Data}
 use Rattle.it_space.specs.declared.spaces.Space.{Space}
 use Rattle.it_space.specs.Answers.{AnswerView, CertificateView}
 use Rattle.it_space.specs.Answers.AnswerView.{Yes, No, Undecided, Region, Contained, Open}
-use Rattle.it_space.specs.Problems.{ProblemView, IsProblem, AreMet}
+use Rattle.it_space.specs.Problems.{ProblemView, AreMet}
 use Rattle.it_space.specs.Rows.{Terms, map_of}
 use Rattle.it_space.specs.Spaces.{size_of}
 use Rattle.it_polymatroid.specs.Certificates.{Form}
 use Rattle.it_polymatroid.specs.Polymatroid.{IsPolymatroid}
-use Rattle.it_syntax.specs.Letters.{clean}
 use Rattle.it_syntax.specs.Meaning.{RelationView, side_at}
 use Rattle.it_syntax.specs.NamesViews.{NamesView}
-use Rattle.it_syntax.specs.declared.types.Sign.{Sign}
-use Rattle.it_syntax.specs.declared.types.Sign.TheVariants.{AtLeast, AtMost, Equal}
-use Rattle.it_syntax.proofs.FirstFaults.{reads_only}
-use Rattle.it_question.specs.Files.{IsFile}
 use Rattle.it_question.specs.Limits.{IsQuestion}
-use Rattle.it_question.specs.Lines.{TokenLine, file_end, letters_of_lines}
 use Rattle.it_question.specs.Questions.{BodyView, QuestionView, RegionView, VerbView, Prove, Eliminate, Contain}
-use Rattle.it_question.specs.Reading.{read_file}
-use Rattle.it_question.specs.Texts.{question_lines, with_texts}
-use Rattle.it_question.specs.WrittenFiles.{spell_questions, questions_of}
-use Rattle.it_question.specs.WrittenQuestions.{most_questions}
-use Rattle.it_question.proofs.FileAnswers.{file_answers}
-use Rattle.it_question.proofs.LimitLemmas.{file_limited}
+use Rattle.it_question.proofs.FileReadings.{file_limits}
 use Rattle.it_canon.specs.Canonical.{form_of}
-use Rattle.it_canon.specs.Demands.{AreStated}
-use Rattle.it_canon.specs.Targets.{targets, targets_by}
-use Rattle.it_canon.specs.QuestionDemands.{space_of, problem_names, problem_names_by, problem_lines, problem_lines_by, question_demands, AreTrueAt}
+use Rattle.it_canon.specs.Targets.{targets}
+use Rattle.it_canon.specs.QuestionDemands.{space_of, problem_names, problem_names_by, problem_lines, problem_lines_by, AreTrueAt, IsProblemOf}
 use Rattle.it_canon.proofs.MetLemmas.{targets_met}
 use Rattle.it_canon.proofs.ProblemLemmas.{question_met}
 use Rattle.it_canon.proofs.ZipLemmas.{zip-length}
@@ -39,10 +28,11 @@ use Rattle.it_region.proofs.RegionLemmas.{obligations_contain}
 use Rattle.it_certificate.specs.declared.keys.Key.{Key}
 use Rattle.it_certificate.specs.declared.keys.Key.TheVariants as keys
 use Rattle.it_certificate.specs.declared.kinds.AnswerKind.{AnswerKind}
-use Rattle.it_certificate.specs.AnswerReading.{and_then, or_key, target_count}
+use Rattle.it_certificate.specs.AnswerReading.{and_then}
+use Rattle.it_certificate.specs.Obligations.{target_count}
 use Rattle.it_certificate.specs.Fits.{FitsQuestion, FitsContainment}
 use Rattle.it_certificate.specs.Parts.{answer_kind_at}
-use Rattle.it_certificate.specs.Reports.{Reads, IsQuestionOf, IsQuestionAt, question_answer, report_of}
+use Rattle.it_certificate.specs.Reports.{ReadsReport, IsQuestionOf, IsQuestionAt, question_answer, report_of}
 use Rattle.it_certificate.proofs.FitLemmas.{answer_fits}
 use Rattle.it_certificate.proofs.OneLemmas.{one_reading}
 use Rattle.it_check.specs.Meaning.{CertifiesRow, RefutesRow}
@@ -50,11 +40,11 @@ use Rattle.it_check.specs.declared.verdicts.Verdict.{Verdict}
 use Rattle.it_check.specs.declared.verdicts.Verdict.TheVariants.{Valid, BadScale, UnknownGenerator, NegativeWeight, Width, Mismatch, BrokenElemental, UnmetConstraint, NotViolated}
 use Rattle.it_check.proofs.Truth.{valid_yes_is, valid_no_is, yes_is_true}
 use Rattle.it_report.specs.RowVerdicts.{is_valid, proof_verdict, proofs_verdict, point_verdict, place_named}
-use Rattle.it_report.specs.Judging.{parts_of, judged_forms_by, answer_verdict, IsJudged}
+use Rattle.it_report.specs.Judging.{judged_parts, judged_forms_by, answer_verdict, IsJudged}
 use Rattle.it_report.specs.Meaning.{IsRelationClaim, IsRegionClaim, IsClaimTrueBy, ValidIsTrue}
 use Rattle.it_report.proofs.JudgingLemmas.{verb_fits, target_is_there, point_is_complete, parts_as_named}
-use Rattle.it_report.proofs.CountLemmas.{obligations_counted}
-use Rattle.it_report.proofs.OneLemmas.{Reading, as_read, one_pair}
+use Rattle.it_report.proofs.CountLemmas.{obligations_counted, targets_counted}
+use Rattle.it_report.proofs.OneLemmas.{Reading, as_read, one_pair, same_some}
 
 -- ---- what was read fits its question
 
@@ -73,36 +63,25 @@ read_is own d q a e = by_kind (answer_kind_at d) own e
     told kind p (Ok b) is f = let same = one_pair (p, b) (q, a) f in (ap (λ x. Some x.0) same, subst (λ x. FitsQuestion x.0.body x.1) same (answer_fits p kind d b is))
 
     by_kind : (o : Option AnswerKind) (own : Option QuestionView)
-        → and_then (or_key keys.Answer o) (λ kind. and_then (or_key keys.Question own) (λ p. and_then (question_answer p kind d) (with_answer p))) ≡ as_read (q, a) → (own ≡ Some q) × FitsQuestion q.body a
+        → and_then (ok_or o keys.Answer) (λ kind. and_then (ok_or own keys.Question) (λ p. and_then (question_answer p kind d) (with_answer p))) ≡ as_read (q, a) → (own ≡ Some q) × FitsQuestion q.body a
     by_kind None own f = absurd (no_answer keys.Answer (q, a) f)
     by_kind (Some kind) None f = absurd (no_answer keys.Question (q, a) f)
     by_kind (Some kind) (Some p) f = told kind p (question_answer p kind d) refl f
 
-pub fits_question : (line : List ℕ) (q : QuestionView) (a : AnswerView) → Reads line (Ok (q, a)) → FitsQuestion q.body a
+pub fits_question : (line : List ℕ) (q : QuestionView) (a : AnswerView) → ReadsReport line (Ok (q, a)) → FitsQuestion q.body a
 fits_question line q a h = (read_is h.reads.own h.value q a h.reads.is).1
 
 -- ---- and its question keeps the limits
 
-bodies_again : (lines : List TokenLine) (ys : List BodyView) → map (λ (q : QuestionView). q.body) (with_texts lines ys) ≡ ys
-bodies_again lines [] = refl
-bodies_again lines (y ∷ ys) = ap (λ (qs : List BodyView). y ∷ qs) (bodies_again (drop (question_lines y) lines) ys)
-
--- the questions of a file keep the limits
-file_limits : (bytes : List ℕ) (qs : List QuestionView) → IsFile bytes qs → All IsQuestion (map (λ (q : QuestionView). q.body) qs)
-file_limits bytes qs f =
-    let ls = letters_of_lines f.lines in
-    let read : read_file ls ≡ Ok (questions_of f.trees, []) = reads_only read_file (λ xs k. spell_questions most_questions xs (clean file_end ∷ k)) questions_of (λ xs. file_answers xs []) f.trees ls f.spelled in
-    subst (All IsQuestion) (sym (bodies_again f.lines (questions_of f.trees)) ∙ ap (map (λ (q : QuestionView). q.body)) f.are) (file_limited ls [] (questions_of f.trees) read)
-
 of_question : (d : Data) (q : QuestionView) → IsQuestionOf d q → IsQuestion q.body
 unfolding IsQuestionOf
-of_question d q h = All-head IsQuestion q.body [] (file_limits h.0 (q ∷ []) h.1.1.1)
+of_question d q h = All-head (λ (q : QuestionView). IsQuestion q.body) q [] (file_limits h.0 (q ∷ []) h.1.1.1)
 
 -- the question that was read is that of the line's value
-pub question_read : (line : List ℕ) (q : QuestionView) (a : AnswerView) (h : Reads line (Ok (q, a))) → IsQuestionOf h.value q
+pub question_read : (line : List ℕ) (q : QuestionView) (a : AnswerView) (h : ReadsReport line (Ok (q, a))) → IsQuestionOf h.value q
 question_read line q a h = subst (IsQuestionAt h.value) (read_is h.reads.own h.value q a h.reads.is).0 h.reads.question
 
-pub limits_question : (line : List ℕ) (q : QuestionView) (a : AnswerView) → Reads line (Ok (q, a)) → IsQuestion q.body
+pub limits_question : (line : List ℕ) (q : QuestionView) (a : AnswerView) → ReadsReport line (Ok (q, a)) → IsQuestion q.body
 limits_question line q a h = of_question h.value q (question_read line q a h)
 
 -- ---- valid certificates
@@ -118,33 +97,30 @@ both_valid (BrokenElemental i x) u e = absurd (cc)
 both_valid (UnmetConstraint i x) u e = absurd (cc)
 both_valid (NotViolated x) u e = absurd (cc)
 
-same_some : (v w : Verdict) → Some v ≡ Some w → v ≡ w
-same_some v w e = cc
-
 -- the row at a place is that of the form there
-row_at : (s : Space) (fs : List Form) (ts : List Terms) (i : ℕ) (f : Form) → ArePulledRows s fs ts → i < length ts → IsPulledRow s (get_or fs i f) (get_or ts i [])
-row_at s [] [] i f h k = absurd (omega arith)
-row_at s [] (t ∷ ts) i f h k = absurd h
-row_at s (g ∷ fs) [] i f h k = absurd h
-row_at s (g ∷ fs) (t ∷ ts) zero f h k = h.0
-row_at s (g ∷ fs) (t ∷ ts) (suc i) f h k = row_at s fs ts i f h.1 (omega arith)
+pulled_row_at : (s : Space) (fs : List Form) (ts : List Terms) (i : ℕ) (f : Form) → ArePulledRows s fs ts → i < length ts → IsPulledRow s (get_or fs i f) (get_or ts i [])
+pulled_row_at s [] [] i f h k = absurd (omega arith)
+pulled_row_at s [] (t ∷ ts) i f h k = absurd h
+pulled_row_at s (g ∷ fs) [] i f h k = absurd h
+pulled_row_at s (g ∷ fs) (t ∷ ts) zero f h k = h.0
+pulled_row_at s (g ∷ fs) (t ∷ ts) (suc i) f h k = pulled_row_at s fs ts i f h.1 (omega arith)
 
-module _ (q : BodyView) (p : ProblemView) (space : p.space ≡ space_of (problem_names q)) (limits : IsProblem p) (stated : AreStated p.space (question_demands q) p.constraints) where
+module _ (q : BodyView) (p : ProblemView) (is : IsProblemOf q p) where
   abbrev n : ℕ
   n = length (problem_names q).variables
 
   to_problem : (P : Space → Type 0) → P (space_of (problem_names q)) → P p.space
-  to_problem P x = subst P (sym space) x
+  to_problem P x = subst P (sym is.space) x
 
   from_problem : (P : Space → Type 0) → P p.space → P (space_of (problem_names q))
-  from_problem P x = subst P space x
+  from_problem P x = subst P is.space x
 
   module _ (m : ℕ → ℤ) (h : IsPolymatroid n m) (lines : AreTrueAt n m (problem_lines q)) where
     target_holds : (f : Form) (t : Terms) (w : CertificateView) → IsPulledRow p.space f t → proof_verdict p t w ≡ Valid → pos 0 ≤ℤ f m
     target_holds f t w row e =
-        let met : AreMet m p.constraints = (question_met q p.space p.constraints space stated m h.empty).1 (to_problem (λ s. AreTrueAt s.variables m (problem_lines q)) lines) in
-        let by : CertifiesRow p t w = ((valid_yes_is p t w limits row.coordinates).0 e).0 in
-        subst (λ (x : ℤ). pos 0 ≤ℤ x) (row.same m h.empty) (yes_is_true p t w limits row.coordinates by m (to_problem (λ s. IsPolymatroid s.variables m) h) met)
+        let met : AreMet m p.constraints = (question_met q p.space p.constraints is.space is.constraints m h.empty).1 (to_problem (λ s. AreTrueAt s.variables m (problem_lines q)) lines) in
+        let by : CertifiesRow p t w = ((valid_yes_is p t w is.limits row.coordinates).0 e).0 in
+        subst (λ (x : ℤ). pos 0 ≤ℤ x) (row.same m h.empty) (yes_is_true p t w is.limits row.coordinates by m (to_problem (λ s. IsPolymatroid s.variables m) h) met)
 
     -- forms of which each has a valid certificate are at least 0 at the polymatroid
     all_hold : (fs : List Form) (ts : List Terms) (ws : List CertificateView) → ArePulledRows p.space fs ts → length ws ≡ length fs → proofs_verdict p ts ws ≡ Valid → All (λ f. pos 0 ≤ℤ f m) fs
@@ -157,27 +133,22 @@ module _ (q : BodyView) (p : ProblemView) (space : p.space ≡ space_of (problem
         let c = both_valid (proof_verdict p t w) (proofs_verdict p ts ws) e in
         All-cons (λ (f : Form). pos 0 ≤ℤ f m) f fs (target_holds f t w z.0 c.0) (all_hold fs ts ws z.1 (omega (arith, l)) c.1)
 
-  target_number : (sign : Sign) (f : Form) → length (targets_by sign f) ≡ target_count sign
-  target_number AtLeast f = refl
-  target_number AtMost f = refl
-  target_number Equal f = refl
-
   yes_true : (r : RelationView) (ts : List Terms) (ws : List CertificateView) → ArePulledRows p.space (targets n r) ts → length ws ≡ target_count r.sign → proofs_verdict p ts ws ≡ Valid → IsRelationClaim q r (Yes ws)
   yes_true r ts ws are l e m t =
       (targets_met r.sign (side_at n m r.left) (side_at n m r.right) (form_of n r) m refl).0
-      (all_hold m t.0 t.1 (targets n r) ts ws are (l ∙ sym (target_number r.sign (form_of n r))) e)
+      (all_hold m t.0 t.1 (targets n r) ts ws are (l ∙ sym (targets_counted r.sign (form_of n r))) e)
 
   no_true : (r : RelationView) (ts : List Terms) (back : Bool) (values : List ℤ) → ArePulledRows p.space (targets n r) ts → length values ≡ size_of p.space → place_named back < length ts
       → point_verdict p ts back values ≡ Valid → IsRelationClaim q r (No back values)
   unfolding point_verdict
   no_true r ts back values are l there e =
       let i = place_named back in
-      let row = row_at p.space (targets n r) ts i (λ m. pos 0) are there in
+      let row = pulled_row_at p.space (targets n r) ts i (λ m. pos 0) are there in
       let t = get_or ts i [] in
-      let refuted : RefutesRow p t values = ((valid_no_is p t values limits row.coordinates l).0 e).0 in (
+      let refuted : RefutesRow p t values = ((valid_no_is p t values is.limits row.coordinates l).0 e).0 in (
         (
           from_problem (λ s. IsPolymatroid s.variables (map_of values)) refuted.polymatroid,
-          from_problem (λ s. AreTrueAt s.variables (map_of values) (problem_lines q)) ((question_met q p.space p.constraints space stated (map_of values) refl).0 refuted.met),
+          from_problem (λ s. AreTrueAt s.variables (map_of values) (problem_lines q)) ((question_met q p.space p.constraints is.space is.constraints (map_of values) refl).0 refuted.met),
         ),
         subst (λ (x : ℤ). x ≤ℤ neg_ℤ (pos 1)) (row.same (map_of values) refl) refuted.violated,
       )
@@ -196,9 +167,9 @@ judged_true : (q : BodyView) (verb : VerbView) (a : AnswerView) (names : NamesVi
 judged_true q (Prove r) a names about k fits j = by a fits (subst (λ v. ArePulledRows j.problem.space (judged_forms_by q v a) j.rows) about j.are) j.verdict
   where
     by : (a : AnswerView) → FitsQuestion q a → ArePulledRows j.problem.space (targets (length (problem_names q).variables) r) j.rows → answer_verdict j.problem j.rows a ≡ Some Valid → IsRelationClaim q r a
-    by (Yes ws) fits are e = yes_true q j.problem j.space j.limits j.constraints r j.rows ws are (verb_fits q (Yes ws) (Prove r) about fits).0 (same_some (proofs_verdict j.problem j.rows ws) Valid e)
-    by (No back values) fits are e = no_true q j.problem j.space j.limits j.constraints r j.rows back values are
-        (point_is_complete q r about back values j.problem.space j.space fits)
+    by (Yes ws) fits are e = yes_true q j.problem j.is_problem r j.rows ws are (verb_fits q (Yes ws) (Prove r) about fits).0 (same_some (proofs_verdict j.problem j.rows ws) Valid e)
+    by (No back values) fits are e = no_true q j.problem j.is_problem r j.rows back values are
+        (point_is_complete q r about back values j.problem.space j.is_problem.space fits)
         (target_is_there q r about back values (length (problem_names q).variables) j.rows (zip-length (IsPulledRow j.problem.space) (targets (length (problem_names q).variables) r) j.rows are) fits)
         (same_some (point_verdict j.problem j.rows back values) Valid e)
     by (Undecided cause) fits are e = tt
@@ -208,12 +179,12 @@ judged_true q (Prove r) a names about k fits j = by a fits (subst (λ v. ArePull
 judged_true q (Eliminate rates) a names about k fits j = tt
 judged_true q (Contain first second tries) a names about k fits j = by a fits (subst (λ v. ArePulledRows j.problem.space (judged_forms_by q v a) j.rows) about j.are) j.verdict
   where
-    by : (a : AnswerView) → FitsQuestion q a → ArePulledRows j.problem.space (obligations q first second (parts_of a)) j.rows → answer_verdict j.problem j.rows a ≡ Some Valid → IsRegionClaim q first second a
+    by : (a : AnswerView) → FitsQuestion q a → ArePulledRows j.problem.space (obligations q first second (judged_parts a)) j.rows → answer_verdict j.problem j.rows a ≡ Some Valid → IsRegionClaim q first second a
     by (Yes ws) fits are e = tt
     by (No back values) fits are e = tt
     by (Undecided cause) fits are e = tt
     by (Region rows) fits are e = tt
-    by (Contained parts ws) fits are e = contained_true q j.problem j.space j.limits j.constraints first second tries parts j.rows ws about k are
+    by (Contained parts ws) fits are e = contained_true q j.problem j.is_problem first second tries parts j.rows ws about k are
         (verb_fits q (Contained parts ws) (Contain first second tries) about fits) (same_some (proofs_verdict j.problem j.rows ws) Valid e)
     by (Open tried) fits are e = tt
 

@@ -4,34 +4,33 @@ use Rattle.std.specs.Prelude.{◌≡◌, ℕ, List, [], Bool, true, false, Optio
 use Rattle.serde_json.specs.Read.{read}
 use Rattle.it_space.specs.Answers.{AnswerView}
 use Rattle.it_space.specs.Answers.AnswerView.{Yes, No, Undecided, Region, Contained, Open}
-use Rattle.it_space.specs.Problems.{ProblemView, IsProblem}
+use Rattle.it_space.specs.Problems.{ProblemView}
 use Rattle.it_space.specs.Rows.{Terms}
 use Rattle.it_polymatroid.specs.Certificates.{Form}
 use Rattle.it_syntax.specs.NamesViews.{NamesView}
 use Rattle.it_question.specs.Questions.{BodyView, QuestionView, VerbView, Prove, Eliminate, Contain}
-use Rattle.it_canon.specs.Demands.{AreStated}
-use Rattle.it_canon.specs.QuestionDemands.{space_of, problem_names, variables_of, question_demands}
+use Rattle.it_canon.specs.QuestionDemands.{problem_names, variables_of, IsProblemOf}
 use Rattle.it_canon.specs.Targets.{targets}
 use Rattle.it_region.specs.Obligations.{obligations, ArePulledRows}
-use Rattle.it_certificate.specs.Reports.{Reads}
+use Rattle.it_certificate.specs.Reports.{ReadsReport}
 use Rattle.it_check.specs.declared.verdicts.Verdict.{Verdict}
 use Rattle.it_report.specs.RowVerdicts.{proofs_verdict, point_verdict}
 use Rattle.it_report.specs.LineVerdicts.{LineVerdict, NotJson, Shape, Skipped, Judged, IsLineOf}
 
 -- the sets that an answer names
-abbrev pub parts_of : AnswerView → List ℕ
-parts_of (Yes ws) = []
-parts_of (No back values) = []
-parts_of (Undecided cause) = []
-parts_of (Region rows) = []
-parts_of (Contained parts proofs) = parts
-parts_of (Open tried) = []
+abbrev pub judged_parts : AnswerView → List ℕ
+judged_parts (Yes ws) = []
+judged_parts (No back values) = []
+judged_parts (Undecided cause) = []
+judged_parts (Region rows) = []
+judged_parts (Contained parts proofs) = parts
+judged_parts (Open tried) = []
 
 -- what an answer speaks of: the targets of the relation, or the obligations of the parts that it names
 abbrev pub judged_forms_by : BodyView → VerbView → AnswerView → List Form
 judged_forms_by q (Prove r) answer = targets (variables_of q) r
 judged_forms_by q (Eliminate rates) answer = []
-judged_forms_by q (Contain first second tries) answer = obligations q first second (parts_of answer)
+judged_forms_by q (Contain first second tries) answer = obligations q first second (judged_parts answer)
 
 abbrev pub judged_forms : BodyView → AnswerView → List Form
 judged_forms q answer = judged_forms_by q q.verb answer
@@ -57,9 +56,7 @@ is_passed_over (Open tried) = true
 -- the answer to the question has this verdict; the names are those of the problem, so of a containment its first region's
 pub record IsJudged (q : BodyView) (answer : AnswerView) (names : NamesView) (v : Verdict) : Type 0 where
   pub problem : ProblemView
-  pub space : problem.space ≡ space_of (problem_names q)
-  pub limits : IsProblem problem
-  pub constraints : AreStated problem.space (question_demands q) problem.constraints
+  pub is_problem : IsProblemOf q problem
   pub rows : List Terms
   pub are : ArePulledRows problem.space (judged_forms q answer) rows
   pub own_names : names ≡ problem_names q
@@ -76,13 +73,13 @@ IsAnswerVerdict q answer (Judged names v) = IsJudged q answer names v
 pub record HasAnswer (line : List ℕ) (v : LineVerdict) : Type 0 where
   pub question : QuestionView
   pub answer : AnswerView
-  pub reads : Reads line (Ok (question, answer))
+  pub reads : ReadsReport line (Ok (question, answer))
   pub verdict : IsAnswerVerdict question.body answer v
 
 -- the verdict on a line: it is no JSON; this key is the first that is missing or of another shape; or it has an answer, and this is its verdict
 abbrev pub IsVerdict : List ℕ → LineVerdict → Type 0
 IsVerdict line NotJson = IsUtf8 line → read line ≡ None
-IsVerdict line (Shape key) = Reads line (Err key)
+IsVerdict line (Shape key) = ReadsReport line (Err key)
 IsVerdict line Skipped = HasAnswer line Skipped
 IsVerdict line (Judged names v) = HasAnswer line (Judged names v)
 

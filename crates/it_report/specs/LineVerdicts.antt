@@ -24,6 +24,7 @@ is_invalid (Shape key) = true
 is_invalid Skipped = false
 is_invalid (Judged names verdict) = not (is_valid verdict)
 
+-- a key as it stands in reports
 abbrev pub key_text : Key → List ℕ
 key_text keys.Answer = codes "answer"
 key_text keys.Question = codes "question"
@@ -44,6 +45,7 @@ generator_value_text i x = decimal i ++ codes " " ++ signed_decimal x
 unfoldable pub mismatch_text : NamesView → ℕ → ℤ → ℤ → List ℕ
 mismatch_text names c left right = coordinate_text names c ++ codes " " ++ signed_decimal left ++ codes " " ++ signed_decimal right
 
+-- the words of a verdict on an answer; a coordinate has the name of its set or rate
 unfoldable pub verdict_text : NamesView → Verdict → List ℕ
 verdict_text names Valid = codes "valid"
 verdict_text names (BadScale scale) = codes "invalid scale " ++ signed_decimal scale
@@ -55,6 +57,7 @@ verdict_text names (BrokenElemental i x) = codes "invalid elemental " ++ generat
 verdict_text names (UnmetConstraint i x) = codes "invalid constraint " ++ generator_value_text i x
 verdict_text names (NotViolated x) = codes "invalid target " ++ signed_decimal x
 
+-- the words about a line
 abbrev pub words_of : LineVerdict → List ℕ
 words_of NotJson = codes "invalid json"
 words_of (Shape key) = codes "invalid shape " ++ key_text key
@@ -65,6 +68,7 @@ words_of (Judged names verdict) = verdict_text names verdict
 unfoldable pub numbered_line : ℕ → List ℕ → List ℕ
 numbered_line k words = decimal k ++ codes " " ++ words ++ codes "\n"
 
+-- the line of a verdict on line k
 abbrev pub verdict_line : ℕ → LineVerdict → List ℕ
 verdict_line k v = numbered_line k (words_of v)
 

@@ -10,7 +10,7 @@ use Rattle.it_question.specs.Questions.{BodyView, QuestionView, RegionView, Verb
 use Rattle.it_canon.specs.QuestionDemands.{variables_of, problem_lines, AreTrueAt}
 use Rattle.it_canon.specs.Targets.{targets}
 use Rattle.it_region.specs.Regions.{LiesIn}
-use Rattle.it_certificate.specs.Reports.{Reads}
+use Rattle.it_certificate.specs.Reports.{ReadsReport}
 use Rattle.it_check.specs.declared.verdicts.Verdict.TheVariants.{Valid}
 use Rattle.it_report.specs.RowVerdicts.{place_named}
 use Rattle.it_report.specs.LineVerdicts.{LineVerdict, Judged}
@@ -60,4 +60,4 @@ IsClaimTrue q answer = IsClaimTrueBy q q.verb answer
 -- The claim of a line with the verdict `Valid` is true.
 abbrev pub ValidIsTrue : Type 0
 ValidIsTrue = (line : List ℕ) (names : NamesView) (q : QuestionView) (answer : AnswerView)
-    → IsVerdict line (Judged names Valid) → Reads line (Ok (q, answer)) → IsClaimTrue q.body answer
+    → IsVerdict line (Judged names Valid) → ReadsReport line (Ok (q, answer)) → IsClaimTrue q.body answer

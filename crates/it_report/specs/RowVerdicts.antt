@@ -10,6 +10,7 @@ use Rattle.it_check.specs.Verdicts.{yes_verdict, no_verdict}
 use Rattle.it_check.specs.declared.verdicts.Verdict.{Verdict}
 use Rattle.it_check.specs.declared.verdicts.Verdict.TheVariants.{Valid}
 
+-- nothing is wrong
 abbrev pub is_valid : Verdict → Bool
 is_valid Valid = true
 is_valid _ = false

@@ -5,19 +5,17 @@ ghost use Rattle.it_space.specs.Answers.AnswerView.{Yes, No, Contained};
 ghost use Rattle.it_syntax.specs.Meaning.{relation_view};
 ghost use Rattle.it_question.specs.Limits.{IsQuestion};
 ghost use Rattle.it_question.specs.Questions.{Prove, question_body};
-ghost use Rattle.it_canon.specs.QuestionDemands.{problem_names};
 ghost use Rattle.it_certificate.specs.Fits.{FitsQuestion};
 ghost use Rattle.it_report.specs.Judging.{IsJudgedLine};
 ghost use Rattle.it_report.specs.Steps.{IsAboutRelation, IsFaultLine, IsJudgedAnswer};
 
 use crate::lines::{JudgedLine, not_json_line, shape_line, skipped_line, verdict_line};
 use crate::rows::{point_verdict, proofs_verdict};
-use it_canon::{problem, target_rows};
+use it_canon::{problem, problem_names, target_rows};
 use it_certificate::{ReportFault, answer_from_json};
 use it_question::types::{Question, Verb};
 use it_region::{candidate, obligations, pair};
 use it_space::{Answer, Certificate, Point, VarSet};
-use it_syntax::Names;
 use it_syntax::types::Relation;
 use std::alloc::{AllocError, Global};
 
@@ -76,17 +74,6 @@ fn relation_of(question: &Question) -> &Relation
         unreachable!()
     };
     relation
-}
-
-/// The names of a question's problem: of a containment those of its first region.
-fn problem_names(question: &Question) -> &Names
-    ensures { result.now ≡ problem_names (question_body question.now) }
-{
-    match &question.verb {
-        Verb::Prove(_) => &question.names,
-        Verb::Eliminate(_) => &question.names,
-        Verb::Contain { first, .. } => &first.names,
-    }
 }
 
 /// The line about a yes.

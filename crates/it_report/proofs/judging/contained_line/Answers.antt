@@ -4,11 +4,11 @@ use Rattle.it_space.specs.Answers.AnswerView.{Contained}
 use Rattle.it_space.specs.Problems.{problem_view}
 use Rattle.it_question.specs.Questions.{question_body}
 use Rattle.it_report.specs.Judging.{answer_verdict}
-use Rattle.it_report.proofs.JudgingLemmas.{verdict_is_told, has_verdict, contained_about, few_parts, pair_space, pair_stated, candidate_fits, obligation_rows_are}
+use Rattle.it_report.proofs.JudgingLemmas.{verdict_is_told, has_verdict, contained_is_about_regions, few_parts, pair_problem, candidate_fits, obligation_rows_are}
 use Rattle.it_report.proofs.judging.contained_line.Goals as goal
 
 pub pair-requires-clause-contains : goal.pair-requires-clause-contains
-pair-requires-clause-contains c = contained_about (question_body c.args.question.now) c.args.parts.now (map certificate_view c.args.proofs.now) c.requires.fits
+pair-requires-clause-contains c = contained_is_about_regions (question_body c.args.question.now) c.args.parts.now (map certificate_view c.args.proofs.now) c.requires.fits
 
 pub candidate-requires : goal.candidate-requires
 candidate-requires c =
@@ -35,5 +35,5 @@ returns c =
     = subst (λ ts. answer_verdict p ts a ≡ Some v) c.as_slice.ensures.value (ap Some (sym c.proofs_verdict-verdict.ensures.verdict)) in
     let are = obligation_rows_are q pair parts ws limits pairs fits c.candidate.result c.in_ok-rows.rows.items c.candidate.ensures.parts c.in_ok-rows.ensures.rows in
     verdict_is_told (λ j. j.text.items) (λ j. j.invalid) c.args.k q a c.problem_names.result.now v c.verdict_line.result
-    (has_verdict q p (pair_space q pair parts ws limits pairs fits) limits.problem (pair_stated q pair parts ws limits pairs fits) a c.in_ok-rows.rows.items c.problem_names.result.now v are c.problem_names.ensures e)
+    (has_verdict q p (pair_problem q pair parts ws limits pairs fits) a c.in_ok-rows.rows.items c.problem_names.result.now v are c.problem_names.ensures e)
     c.verdict_line.ensures
