@@ -26,7 +26,8 @@ use Rattle.it_run.specs.Runs.{RunEndView}
 use Rattle.it_run.specs.Runs.RunEndView.{Weights, Point, Pivots, Width}
 use Rattle.it_prove.specs.Closed.{spread_point}
 use Rattle.it_prove.specs.ProofViews as proof_views
-use Rattle.it_prove.specs.ProofViews.{Follows, EndsWith}
+use Rattle.it_prove.specs.ProofViews.{Follows, EndsWith, AreProofsOf}
+use Rattle.it_prove.proofs.RightLemmas.{ends_are_right}
 use Rattle.it_syntax.specs.Meaning.{RelationView}
 use Rattle.it_syntax.specs.NamesViews.{NamesView}
 use Rattle.it_question.specs.AsciiTexts.{IsAsciiQuestion}
@@ -40,13 +41,12 @@ use Rattle.it_canon.specs.QuestionDemands.{space_of, problem_names, variables_of
 use Rattle.it_canon.proofs.ProblemLemmas.{question_met}
 use Rattle.it_region.specs.declared.types.Candidate.{Candidate}
 use Rattle.it_region.specs.Obligations.{obligations, ArePulledRows}
-use Rattle.it_region.proofs.TextLemmas.{text_rows, rows_as_pulled}
+use Rattle.it_region.proofs.TextLemmas.{text_rows}
 use Rattle.it_contain.specs.Proposals.{Plan}
-use Rattle.it_contain.specs.Search.{AreProofsOf}
 use Rattle.it_answer.specs.declared.types.Budgets.{Budgets}
 use Rattle.it_answer.specs.Forms.{all_demands, generators_by, CertifiesForm, CertifyAll}
 use Rattle.it_answer.specs.Replies.{Reply}
-use Rattle.it_answer.specs.RightAnswers.{IsCounterexample, ViolatesFirst, ProofsAreDue, PointIsDue, IsRightFor, IsRightAnswer, IsRightAnswerBy, ProofsAscend}
+use Rattle.it_answer.specs.RightAnswers.{IsCounterexample, ViolatesFirst, PointIsDue, IsRightFor, IsRightAnswer, IsRightAnswerBy, ProofsAscend}
 use Rattle.it_answer.specs.RightContainments.{IsRightContainment}
 use Rattle.it_answer.specs.RightRegions.{IsRightElimination}
 use Rattle.it_eliminate.proofs.MemberLemmas.{every_member}
@@ -55,17 +55,17 @@ use Rattle.it_answer.proofs.FormLemmas.{spoken, by_rows}
 use Rattle.it_answer.proofs.UniqueLemmas.{a_yes_ascends}
 use Rattle.it_certificate.specs.Fits.{FitsQuestion, FitsVerb, IsCauseFor}
 use Rattle.it_certificate.specs.Laws.{ReadsBack, written_answer}
-use Rattle.it_certificate.specs.Reports.{Reads}
-use Rattle.it_certificate.specs.Values.{answer_value, answer_text, place_text}
+use Rattle.it_certificate.specs.Reports.{ReadsReport}
+use Rattle.it_certificate.specs.Values.{answer_value, answer_text, place_word}
 use Rattle.it_report.specs.RowVerdicts.{is_valid, proof_verdict, proofs_verdict, point_verdict}
 use Rattle.it_report.specs.LineVerdicts.{LineVerdict, Skipped, Judged, is_invalid}
-use Rattle.it_report.specs.Judging.{judged_forms_by, judged_forms, answer_verdict, is_passed_over, IsJudged, IsVerdict}
-use Rattle.it_report.proofs.JudgingLemmas.{has_verdict}
+use Rattle.it_report.specs.Judging.{judged_forms_by, is_passed_over, IsJudged, IsVerdict}
+use Rattle.it_report.proofs.JudgingLemmas.{has_verdict, judged_by_targets}
 use Rattle.it_report.proofs.OneLemmas.{one_verdict}
 use Rattle.it_cli.proofs.DataLemmas.{IsPlain, yes_plain, no_plain, undecided_plain, region_plain, contained_plain, open_plain, yes_low, no_low, undecided_low, region_low, contained_low, open_low, answer_text_utf8, answer_text_back}
 use Rattle.it_cli.proofs.RegionFits.{right_region_fits}
 use Rattle.it_cli.proofs.FeedLemmas.{IsNoFeed, answer_text_clear}
-use Rattle.it_cli.proofs.JsonLemmas.{right_prove_fits, eliminated_cause_fits, written_whole, yes_same, no_same}
+use Rattle.it_cli.proofs.JsonLemmas.{right_prove_fits, eliminated_cause_fits, all_weights_written, yes_same, no_same}
 use Rattle.it_cli.proofs.ContainedFits.{pair_space, contained_fits}
 use Rattle.it_cli.proofs.NameFits.{rates_found}
 use Rattle.it_cli.specs.Accepted.{ReportsAreAccepted}
@@ -90,26 +90,26 @@ point_fits p t values (Width k) e = absurd (cc)
 
 module _ (q : BodyView) (r : RelationView) (b : Poses q r) (budget : Option ℕ) where
   to_problem : (P : Space → Type 0) → P (space_of (problem_names q)) → P b.problem.space
-  to_problem P x = subst P (sym b.space) x
+  to_problem P x = subst P (sym b.is_problem.space) x
 
   certifies : (f : Form) (t : Terms) (w : CertificateView) → IsRowOf b.problem.space f t → CertifiesForm q f w → CertifiesRow b.problem t w
   certifies f t w row c =
       let p = b.problem in
-      by_rows (all_demands p.space.variables (question_demands q)) (generators p) (spoken p.space (question_demands q) p.constraints b.constraints) (size_of p.space + 1) (value t) f row.same w
+      by_rows (all_demands p.space.variables (question_demands q)) (generators p) (spoken p.space (question_demands q) p.constraints b.is_problem.constraints) (size_of p.space + 1) (value t) f row.same w
       (to_problem (λ s. IsCertificate (size_of s + 1) (generators_by (all_demands s.variables (question_demands q))) f w) c)
 
   refutes : (f : Form) (t : Terms) (values : List ℤ) → IsRowOf b.problem.space f t → IsCounterexample q f values → RefutesRow b.problem t values
   refutes f t values row c = record {
     complete = to_problem (λ s. length values ≡ size_of s) c.complete;
     polymatroid = to_problem (λ s. IsPolymatroid s.variables (map_of values)) c.polymatroid;
-    met = (question_met q b.problem.space b.problem.constraints b.space b.constraints (map_of values) refl).1 (to_problem (λ s. AreTrueAt s.variables (map_of values) (problem_lines q)) c.lines_hold);
+    met = (question_met q b.problem.space b.problem.constraints b.is_problem.space b.is_problem.constraints (map_of values) refl).1 (to_problem (λ s. AreTrueAt s.variables (map_of values) (problem_lines q)) c.lines_hold);
     violated = subst (λ (x : ℤ). x ≤ℤ neg_ℤ (pos 1)) (sym (row.same (map_of values) refl)) c.violated;
   }
 
   proof_valid : (f : Form) (t : Terms) (w : CertificateView) → IsRowOf b.problem.space f t → CertifiesForm q f w → EndsWith b.problem t budget (proof_views.Yes w) → proof_verdict b.problem t w ≡ Valid
-  proof_valid f t w row c d = (valid_yes_is b.problem t w b.limits row.coordinates).1 (certifies f t w row c, certificate_fits b.problem t w d.end d.follows)
+  proof_valid f t w row c d = (valid_yes_is b.problem t w b.is_problem.limits row.coordinates).1 (certifies f t w row c, certificate_fits b.problem t w d.end d.follows)
 
-  proofs_valid : (fs : List Form) (ts : List Terms) (ws : List CertificateView) → AreRowsOf b.problem.space fs ts → CertifyAll q fs ws → ProofsAreDue b.problem budget ts ws → proofs_verdict b.problem ts ws ≡ Valid
+  proofs_valid : (fs : List Form) (ts : List Terms) (ws : List CertificateView) → AreRowsOf b.problem.space fs ts → CertifyAll q fs ws → AreProofsOf b.problem budget ts ws → proofs_verdict b.problem ts ws ≡ Valid
   unfolding proofs_verdict
   proofs_valid [] [] ws z c d = refl
   proofs_valid [] (t ∷ ts) ws z c d = absurd z
@@ -125,12 +125,12 @@ module _ (q : BodyView) (r : RelationView) (b : Poses q r) (budget : Option ℕ)
   point_valid (f ∷ fs) [] back values z c d = absurd z
   point_valid (f ∷ fs) (t ∷ ts) false values z c d =
       let refuted = refutes f t values z.0 c in
-      (valid_no_is b.problem t values b.limits z.0.coordinates refuted.complete).1 (refuted, point_fits b.problem t values d.end d.follows)
+      (valid_no_is b.problem t values b.is_problem.limits z.0.coordinates refuted.complete).1 (refuted, point_fits b.problem t values d.end d.follows)
   point_valid (f ∷ []) (t ∷ ts) true values z c d = absurd c
   point_valid (f ∷ g ∷ fs) (t ∷ []) true values z c d = absurd d
   point_valid (f ∷ g ∷ fs) (t ∷ u ∷ ts) true values z c d =
       let refuted = refutes g u values z.1.0 c.1 in
-      (valid_no_is b.problem u values b.limits z.1.0.coordinates refuted.complete).1 (refuted, point_fits b.problem u values d.1.end d.1.follows)
+      (valid_no_is b.problem u values b.is_problem.limits z.1.0.coordinates refuted.complete).1 (refuted, point_fits b.problem u values d.1.end d.1.follows)
 
 -- ---- the proofs of a candidate are valid
 
@@ -141,7 +141,7 @@ proofs_by_valid p budget [] (t ∷ ts) ws l z d = absurd z
 proofs_by_valid p budget (f ∷ fs) [] ws l z d = absurd z
 proofs_by_valid p budget (f ∷ fs) (t ∷ ts) [] l z d = absurd d
 proofs_by_valid p budget (f ∷ fs) (t ∷ ts) (w ∷ ws) l z d =
-    ap (λ v. if is_valid v then proofs_verdict p ts ws else v) ((valid_yes_is p t w l z.0.coordinates).1 d.0.right) ∙ proofs_by_valid p budget fs ts ws l z.1 d.1
+    ap (λ v. if is_valid v then proofs_verdict p ts ws else v) ((valid_yes_is p t w l z.0.coordinates).1 (ends_are_right p t budget (proof_views.Yes w) l z.0.coordinates d.0)) ∙ proofs_by_valid p budget fs ts ws l z.1 d.1
 
 -- ---- lines
 
@@ -166,7 +166,7 @@ rate_ascii (x ∷ rates) (suc r) all = rate_ascii rates r (All-tail IsAscii x ra
 step_ascii : (n : ℕ) → n < 2 ^ 32 → IsAscii (decimal n)
 step_ascii n h = let e : 2 ^ 32 ≤ 10 ^ 64 = lit≤ tt in IsAscii-decimal_wide n (omega (arith, h, e))
 
-place_ascii : (v : NamesView) (c : Cause) → All IsAscii v.rates → IsCauseFor v c → IsAscii (place_text v c)
+place_ascii : (v : NamesView) (c : Cause) → All IsAscii v.rates → IsCauseFor v c → IsAscii (place_word v c)
 place_ascii v (causes.Pivots k) all h = step_ascii k h
 place_ascii v (causes.Width k) all h = step_ascii k h
 place_ascii v causes.Scale all h = IsAscii-cons 48 [] (omega arith) IsAscii-nil
@@ -174,6 +174,7 @@ place_ascii v (causes.Rows r) all h = rate_ascii v.rates r all
 place_ascii v (causes.WideRate r) all h = rate_ascii v.rates r all
 
 module _ (back : ReadsBack) (q : QuestionView) (short : length q.text ≤ 1048577) (file : IsFile q.text (q ∷ [])) where
+  -- the report's line of an answer
   abbrev line_of : AnswerView → List ℕ
   line_of a = answer_text q.text q.body.names a
 
@@ -183,7 +184,7 @@ module _ (back : ReadsBack) (q : QuestionView) (short : length q.text ≤ 104857
   text_is : IsUtf8 q.text
   text_is = IsUtf8-from_ascii q.text ascii.text
 
-  line_reads : (a : AnswerView) → FitsQuestion q.body a → IsPlain (answer_value q.text q.body.names a) → depth (answer_value q.text q.body.names a) ≤ 127 → Reads (line_of a) (Ok (q, written_answer a))
+  line_reads : (a : AnswerView) → FitsQuestion q.body a → IsPlain (answer_value q.text q.body.names a) → depth (answer_value q.text q.body.names a) ≤ 127 → ReadsReport (line_of a) (Ok (q, written_answer a))
   line_reads a fits plain low = record {
     value = answer_value q.text q.body.names a;
     utf8 = answer_text_utf8 q.text q.body.names a plain;
@@ -194,20 +195,15 @@ module _ (back : ReadsBack) (q : QuestionView) (short : length q.text ≤ 104857
   clear_of : (a : AnswerView) → IsPlain (answer_value q.text q.body.names a) → Every IsNoFeed (line_of a)
   clear_of a plain = answer_text_clear q.text q.body.names a plain
 
-  judged_is_accepted : (a : AnswerView) (line : List ℕ) → Every IsNoFeed line → IsJudged q.body a (problem_names q.body) Valid → Reads line (Ok (q, a)) → IsAccepted line
+  judged_is_accepted : (a : AnswerView) (line : List ℕ) → Every IsNoFeed line → IsJudged q.body a (problem_names q.body) Valid → ReadsReport line (Ok (q, a)) → IsAccepted line
   judged_is_accepted a line clear verdict reads = accepted_by_verdict line (Judged (problem_names q.body) Valid) clear (record { question = q; answer = a; reads = reads; verdict = verdict }) refl
 
-  -- by the problem and the targets' rows of its relation
-  by_relation : (r : RelationView) (a : AnswerView) → q.body.verb ≡ Prove r → (b : Poses q.body r) → answer_verdict b.problem b.rows a ≡ Some Valid → IsJudged q.body a (problem_names q.body) Valid
-  by_relation r a about b e = has_verdict q.body b.problem b.space b.limits b.constraints a b.rows (problem_names q.body) Valid
-      (rows_as_pulled b.problem.space (judged_forms q.body a) b.rows (subst (λ fs. AreRowsOf b.problem.space fs b.rows) (sym (ap (λ v. judged_forms_by q.body v a) about)) b.targets_are)) refl e
-
-  skipped_is_accepted : (a : AnswerView) (line : List ℕ) → Every IsNoFeed line → is_passed_over a ≡ true → Reads line (Ok (q, a)) → IsAccepted line
+  skipped_is_accepted : (a : AnswerView) (line : List ℕ) → Every IsNoFeed line → is_passed_over a ≡ true → ReadsReport line (Ok (q, a)) → IsAccepted line
   skipped_is_accepted a line clear e reads = accepted_by_verdict line Skipped clear (record { question = q; answer = a; reads = reads; verdict = e }) refl
 
   undecided_accepted : (c : Cause) → FitsQuestion q.body (Undecided c) → IsCauseFor q.body.names c → IsAccepted (line_of (Undecided c))
   undecided_accepted c fits cause =
-      let plain = undecided_plain q.text q.body.names text_is c (IsUtf8-from_ascii (place_text q.body.names c) (place_ascii q.body.names c ascii.rates cause)) in
+      let plain = undecided_plain q.text q.body.names text_is c (IsUtf8-from_ascii (place_word q.body.names c) (place_ascii q.body.names c ascii.rates cause)) in
       skipped_is_accepted (Undecided c) (line_of (Undecided c)) (clear_of (Undecided c) plain) refl (line_reads (Undecided c) fits plain (undecided_low q.text q.body.names c))
 
   region_accepted : (budgets : Budgets) (rates : List ℕ) (rows : List (Mark × Terms)) → IsQuestion q.body → q.body.verb ≡ Eliminate rates → IsRightElimination budgets q.body rates (Region rows) → IsAccepted (line_of (Region rows))
@@ -224,15 +220,15 @@ module _ (back : ReadsBack) (q : QuestionView) (short : length q.text ≤ 104857
         let e = proofs_valid q.body r right.poses budgets.pivots (targets (variables_of q.body) r) right.poses.rows ws right.poses.targets_are right.shows right.due in
         let plain = yes_plain q.text q.body.names text_is ws fits.1 in
         let reads = line_reads (Yes ws) (question_fits q.body (Yes ws) (Prove r) about fits) plain (yes_low q.text q.body.names ws) in
-        judged_is_accepted (Yes ws) (line_of (Yes ws)) (clear_of (Yes ws) plain) (by_relation r (Yes ws) about right.poses (ap Some e))
-        (subst (λ us. Reads (line_of (Yes ws)) (Ok (q, Yes us))) (written_whole ws ascend) reads)
+        judged_is_accepted (Yes ws) (line_of (Yes ws)) (clear_of (Yes ws) plain) (judged_by_targets q.body r about right.poses (Yes ws) Valid (ap Some e))
+        (subst (λ us. ReadsReport (line_of (Yes ws)) (Ok (q, Yes us))) (all_weights_written ws ascend) reads)
 
     no_accepted : (r : RelationView) (is_back : Bool) (values : List ℤ) → q.body.verb ≡ Prove r → IsRightFor budgets.pivots q.body r (No is_back values) → IsAccepted (line_of (No is_back values))
     no_accepted r is_back values about right =
         let fits = right_prove_fits budgets.pivots q.body r (No is_back values) few about right in
         let e = point_valid q.body r right.poses budgets.pivots (targets (variables_of q.body) r) right.poses.rows is_back values right.poses.targets_are right.shows right.due in
         let plain = no_plain q.text q.body.names text_is is_back values fits.1 in
-        judged_is_accepted (No is_back values) (line_of (No is_back values)) (clear_of (No is_back values) plain) (by_relation r (No is_back values) about right.poses (ap Some e))
+        judged_is_accepted (No is_back values) (line_of (No is_back values)) (clear_of (No is_back values) plain) (judged_by_targets q.body r about right.poses (No is_back values) Valid (ap Some e))
         (line_reads (No is_back values) (question_fits q.body (No is_back values) (Prove r) about fits) plain (no_low q.text q.body.names is_back values))
 
     prove_accepted : (r : RelationView) (a : AnswerView) → q.body.verb ≡ Prove r → ProofsAscend a → IsRightFor budgets.pivots q.body r a → IsAccepted (line_of a)
@@ -269,10 +265,10 @@ module _ (back : ReadsBack) (q : QuestionView) (short : length q.text ≤ 104857
         let rows : ArePulledRows p.space (obligations q.body first second parts) proofs.rows =
         subst (λ ps. ArePulledRows p.space (obligations q.body first second ps) proofs.rows) (sym right.due.parts_are) (text_rows q.body first second right.pair right.pairs c proofs.rows proofs.are) in
         let e = proofs_by_valid p budgets.pivots (obligations q.body first second parts) proofs.rows ws right.limits.problem rows proofs.proofs in
-        let verdict = has_verdict q.body p (pair_space budgets plans q.body first second tries (record { answer = a; found = found }) about right) right.limits.problem right.pairs.first a proofs.rows (problem_names q.body) Valid
+        let verdict = has_verdict q.body p (record { space = pair_space budgets plans q.body first second tries (record { answer = a; found = found }) about right; limits = right.limits.problem; constraints = right.pairs.first }) a proofs.rows (problem_names q.body) Valid
         (subst (λ fs. ArePulledRows p.space fs proofs.rows) (sym (ap (λ v. judged_forms_by q.body v a) about)) rows) refl (ap Some e) in
         judged_is_accepted a (line_of a) (clear_of a plain) verdict
-        (subst (λ us. Reads (line_of a) (Ok (q, Contained parts us))) (written_whole ws ascend) reads)
+        (subst (λ us. ReadsReport (line_of a) (Ok (q, Contained parts us))) (all_weights_written ws ascend) reads)
 
     open_accepted : (plans : List Plan) (first second : RegionView) (tries : List (List ℕ)) (tried : ℕ) (found : List Candidate) → budgets.tries < 2 ^ 32 → q.body.verb ≡ Contain first second tries
         → IsRightContainment budgets plans q.body first second tries (record { answer = Open tried; found = found }) → IsAccepted (line_of (Open tried))

@@ -22,6 +22,7 @@ module _ (budgets : Budgets) (plans : List Plan) (q : BodyView) (first second : 
   pair_space reply about right = right.pairs.first_space ∙ sym (ap (λ v. space_of (problem_names_by q.names v)) about)
 
   module _ (parts : List ℕ) (ws : List CertificateView) (found : List Candidate) where
+    -- a right answer by these sets, with these certificates
     abbrev IsRight : Type 0
     IsRight = IsRightContainment budgets plans q first second tries (record { answer = Contained parts ws; found = found })
 

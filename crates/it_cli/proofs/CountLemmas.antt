@@ -92,24 +92,24 @@ counted_answer budget q r c (Region rows) a = absurd a.shows
 counted_answer budget q r c (Contained parts proofs) a = absurd a.shows
 counted_answer budget q r c (Open tried) a = absurd a.shows
 
-moved : (q : QuestionView) (verb : VerbView) → q.body.verb ≡ verb → IsProve q → IsProve (record q { body = record q.body { verb = verb } })
-moved q verb is proof = subst (λ (v : VerbView). IsProve (record q { body = record q.body { verb = v } })) is proof
+with_verb_is_prove : (q : QuestionView) (verb : VerbView) → q.body.verb ≡ verb → IsProve q → IsProve (record q { body = record q.body { verb = verb } })
+with_verb_is_prove q verb is proof = subst (λ (v : VerbView). IsProve (record q { body = record q.body { verb = v } })) is proof
 
 -- where the verb is `prove`
-counted_so : (budgets : Budgets) (plans : List Plan) (q : QuestionView) (verb : VerbView) (reply : Reply) (c : Counts) → q.body.verb ≡ verb → IsProve q → IsRightAnswerBy budgets plans q.body verb reply
+counted_reply : (budgets : Budgets) (plans : List Plan) (q : QuestionView) (verb : VerbView) (reply : Reply) (c : Counts) → q.body.verb ≡ verb → IsProve q → IsRightAnswerBy budgets plans q.body verb reply
     → IsOneMore c (with_answer c reply.answer)
-counted_so budgets plans q (Prove r) reply c is proof right = counted_answer budgets.pivots q.body r c reply.answer right.0
-counted_so budgets plans q (Eliminate rates) reply c is proof right = absurd (moved q (Eliminate rates) is proof)
-counted_so budgets plans q (Contain a b tries) reply c is proof right = absurd (moved q (Contain a b tries) is proof)
+counted_reply budgets plans q (Prove r) reply c is proof right = counted_answer budgets.pivots q.body r c reply.answer right.0
+counted_reply budgets plans q (Eliminate rates) reply c is proof right = absurd (with_verb_is_prove q (Eliminate rates) is proof)
+counted_reply budgets plans q (Contain a b tries) reply c is proof right = absurd (with_verb_is_prove q (Contain a b tries) is proof)
 
-add_up : (budgets : Budgets) (plans : List Plan) (before : Context) (counts : Counts) (qs : List QuestionView) (end : Counts) → All IsProve qs → AreCounted budgets plans before counts qs end
+answers_add_up : (budgets : Budgets) (plans : List Plan) (before : Context) (counts : Counts) (qs : List QuestionView) (end : Counts) → All IsProve qs → AreCounted budgets plans before counts qs end
     → (end.yes + end.no + end.undecided ≡ counts.yes + counts.no + counts.undecided + length qs) × (end.regions ≡ counts.regions) × (end.contained ≡ counts.contained) × (end.left_open ≡ counts.left_open)
-add_up budgets plans before counts [] end all is =
+answers_add_up budgets plans before counts [] end all is =
     subst (λ (e : Counts). (e.yes + e.no + e.undecided ≡ counts.yes + counts.no + counts.undecided + 0) × (e.regions ≡ counts.regions) × (e.contained ≡ counts.contained) × (e.left_open ≡ counts.left_open))
     (sym is) (omega arith, refl, refl, refl)
-add_up budgets plans before counts (q ∷ qs) end all (reply, right, rest) =
-    let one = counted_so budgets (map (plan_after_all before) plans) q q.body.verb reply counts refl (All-head IsProve q qs all) right in
-    let more = add_up budgets plans (after_answer before q reply) (with_answer counts reply.answer) qs end (All-tail IsProve q qs all) rest in
+answers_add_up budgets plans before counts (q ∷ qs) end all (reply, right, rest) =
+    let one = counted_reply budgets (map (plan_after_all before) plans) q q.body.verb reply counts refl (All-head IsProve q qs all) right in
+    let more = answers_add_up budgets plans (after_answer before q reply) (with_answer counts reply.answer) qs end (All-tail IsProve q qs all) rest in
     (omega (arith, one.0, more.0), more.1 ∙ one.1, more.2 ∙ one.2, more.3 ∙ one.3)
 
 pub counts_add_up : GeneratedIsFile → FileIsOne → CountsAddUp
@@ -117,11 +117,11 @@ counts_add_up generated one_reading budgets plans seed count questions counts fe
     let file = generated seed count few in
     let same : file.questions ≡ questions = one_reading (generated_file seed count) file.questions questions file.asked asked.read in
     let all : All IsProve questions = subst (λ (qs : List QuestionView). All IsProve qs) same file.prove in
-    let sum = add_up budgets plans [] no_counts questions counts all counted in
+    let sum = answers_add_up budgets plans [] no_counts questions counts all counted in
     (sum.0 ∙ (let n : length questions ≡ count = ap length (sym same) ∙ file.counted in omega (arith, n)), sum.1, sum.2, sum.3)
 
 -- a generated file has no fault
-pub no_fault_in_it : GeneratedIsFile → FileOrFault → (seed count : ℕ) (bytes : List ℕ) (line column : ℕ) (code : Code) → count ≤ 1000 → bytes ≡ generated_file seed count → FileFaultAt bytes line column code → ⊥
-no_fault_in_it generated apart seed count bytes line column code few is fault =
+pub generated_has_no_fault : GeneratedIsFile → FileOrFault → (seed count : ℕ) (bytes : List ℕ) (line column : ℕ) (code : Code) → count ≤ 1000 → bytes ≡ generated_file seed count → FileFaultAt bytes line column code → ⊥
+generated_has_no_fault generated apart seed count bytes line column code few is fault =
     let file = generated seed count few in
     apart (generated_file seed count) file.questions line column code file.asked (subst (λ (b : List ℕ). FileFaultAt b line column code) is fault)

@@ -21,18 +21,19 @@ use Rattle.serde_json.proofs.Numbers.{number_of-decimal}
 use Rattle.serde_json.proofs.Texts.{print-outline}
 use Rattle.it_number.specs.Limit.{IsWithin}
 use Rattle.it_space.specs.Rows.{Terms}
-use Rattle.it_space.specs.Answers.{AnswerView, CertificateView}
+use Rattle.it_space.specs.Answers.{AnswerView, CertificateView, is_nonzero_weight, mark_word}
 use Rattle.it_space.specs.Answers.AnswerView.{Yes, No, Undecided, Region, Contained, Open}
 use Rattle.it_space.specs.declared.answers.Cause.{Cause}
 use Rattle.it_space.specs.declared.answers.Cause.TheVariants as causes
 use Rattle.it_space.specs.declared.answers.Mark.{Mark}
 use Rattle.it_space.specs.declared.answers.Mark.TheVariants.{Plain, Needed, Unsettled}
 use Rattle.it_syntax.specs.NamesViews.{NamesView}
-use Rattle.it_certificate.specs.Fits.{IsPair, IsNumbered}
-use Rattle.it_certificate.specs.Values.{whole_value, count_value, pair_value, is_some_weight, proof_value, side_text, mark_text, row_value, cause_text, place_text, answer_value, answer_text}
+use Rattle.it_certificate.specs.Fits.{IsNumberedAmount, IsNumbered}
+use Rattle.it_certificate.specs.Values.{integer_value, count_value, pair_value, proof_value, side_word, row_value, cause_word, place_word, answer_value, answer_text}
 
 -- ---- values without floats
 
+-- a number of at most 64 bits
 abbrev pub IsPlainNumber : Num → Type 0
 IsPlainNumber (unsigned n) = n < 2 ^ 64
 IsPlainNumber (negative z) = ⊥
@@ -172,16 +173,16 @@ items_plain f P each (x ∷ xs) h = (each x (All-head P x xs h), items_plain f P
 below_wide : (n : ℕ) → n < 2 ^ 127 → n < 10 ^ 64
 below_wide n h = let e : 2 ^ 127 ≤ 10 ^ 64 = lit≤ tt in omega (arith, e)
 
-whole_plain : (z : ℤ) → IsWithin z → IsPlain (whole_value z)
-whole_plain (pos n) h = IsUtf8-from_ascii (decimal n) (IsAscii-decimal_wide n (below_wide n h))
-whole_plain (negsuc n) h = IsUtf8-from_ascii (45 ∷ decimal (suc n)) (IsAscii-cons 45 (decimal (suc n)) (omega arith) (IsAscii-decimal_wide (suc n) (below_wide (suc n) h)))
+integer_plain : (z : ℤ) → IsWithin z → IsPlain (integer_value z)
+integer_plain (pos n) h = IsUtf8-from_ascii (decimal n) (IsAscii-decimal_wide n (below_wide n h))
+integer_plain (negsuc n) h = IsUtf8-from_ascii (45 ∷ decimal (suc n)) (IsAscii-cons 45 (decimal (suc n)) (omega arith) (IsAscii-decimal_wide (suc n) (below_wide (suc n) h)))
 
 count_plain : (n : ℕ) → n < 2 ^ 32 → IsPlain (count_value n)
 count_plain n h = let e : 2 ^ 32 ≤ 2 ^ 64 = lit≤ tt in omega (arith, h, e)
 
-pair_plain : (p : ℕ × ℤ) → IsPair p → IsPlain (pair_value p)
+pair_plain : (p : ℕ × ℤ) → IsNumberedAmount p → IsPlain (pair_value p)
 unfolding pair_value
-pair_plain p h = (count_plain p.0 h.0, (whole_plain p.1 h.1, tt))
+pair_plain p h = (count_plain p.0 h.0, (integer_plain p.1 h.1, tt))
 
 proof_plain : (c : CertificateView) → IsNumbered c → IsPlain (proof_value c)
 unfolding proof_value
@@ -189,33 +190,33 @@ proof_plain c h = (
   (
     IsUtf8-are_ascii (codes "scale") refl,
     (
-      whole_plain c.scale h.scale,
+      integer_plain c.scale h.scale,
       (
         IsUtf8-are_ascii (codes "weights") refl,
-        (items_plain pair_value IsPair pair_plain (filter is_some_weight c.parts) (All-filter is_some_weight IsPair c.parts h.parts), tt),
+        (items_plain pair_value IsNumberedAmount pair_plain (filter is_nonzero_weight c.parts) (All-filter is_nonzero_weight IsNumberedAmount c.parts h.parts), tt),
       ),
     ),
   ),
   refl,
 )
 
-mark_utf8 : (m : Mark) → IsUtf8 (mark_text m)
+mark_utf8 : (m : Mark) → IsUtf8 (mark_word m)
 mark_utf8 Plain = IsUtf8-are_ascii (codes "plain") refl
 mark_utf8 Needed = IsUtf8-are_ascii (codes "needed") refl
 mark_utf8 Unsettled = IsUtf8-are_ascii (codes "unsettled") refl
 
-row_plain : (r : Mark × Terms) → All IsPair r.1 → IsPlain (row_value r)
+row_plain : (r : Mark × Terms) → All IsNumberedAmount r.1 → IsPlain (row_value r)
 unfolding row_value
-row_plain r h = ((IsUtf8-are_ascii (codes "mark") refl, (mark_utf8 r.0, (IsUtf8-are_ascii (codes "row") refl, (items_plain pair_value IsPair pair_plain r.1 h, tt)))), refl)
+row_plain r h = ((IsUtf8-are_ascii (codes "mark") refl, (mark_utf8 r.0, (IsUtf8-are_ascii (codes "row") refl, (items_plain pair_value IsNumberedAmount pair_plain r.1 h, tt)))), refl)
 
-cause_utf8 : (c : Cause) → IsUtf8 (cause_text c)
+cause_utf8 : (c : Cause) → IsUtf8 (cause_word c)
 cause_utf8 (causes.Pivots k) = IsUtf8-are_ascii (codes "pivots") refl
 cause_utf8 (causes.Width k) = IsUtf8-are_ascii (codes "width") refl
 cause_utf8 causes.Scale = IsUtf8-are_ascii (codes "scale") refl
 cause_utf8 (causes.Rows r) = IsUtf8-are_ascii (codes "rows") refl
 cause_utf8 (causes.WideRate r) = IsUtf8-are_ascii (codes "width") refl
 
-side_utf8 : (back : Bool) → IsUtf8 (side_text back)
+side_utf8 : (back : Bool) → IsUtf8 (side_word back)
 side_utf8 true = IsUtf8-are_ascii (codes "back") refl
 side_utf8 false = IsUtf8-are_ascii (codes "forward") refl
 
@@ -240,7 +241,7 @@ module _ (text : List ℕ) (v : NamesView) (ok : IsUtf8 text) where
         (
           IsUtf8-are_ascii (codes "point") refl,
           (
-            items_plain whole_value IsWithin whole_plain values h,
+            items_plain integer_value IsWithin integer_plain values h,
             (
               question_utf8,
               (
@@ -255,13 +256,13 @@ module _ (text : List ℕ) (v : NamesView) (ok : IsUtf8 text) where
     refl,
   )
 
-  pub undecided_plain : (c : Cause) → IsUtf8 (place_text v c) → IsPlain (answer_value text v (Undecided c))
+  pub undecided_plain : (c : Cause) → IsUtf8 (place_word v c) → IsPlain (answer_value text v (Undecided c))
   unfolding answer_value
   undecided_plain c h = ((answer_utf8, (IsUtf8-are_ascii (codes "undecided") refl, (IsUtf8-are_ascii (codes "at") refl, (h, (IsUtf8-are_ascii (codes "cause") refl, (cause_utf8 c, (question_utf8, (ok, tt)))))))), refl)
 
-  pub region_plain : (rows : List (Mark × Terms)) → All (λ r. All IsPair r.1) rows → IsPlain (answer_value text v (Region rows))
+  pub region_plain : (rows : List (Mark × Terms)) → All (λ r. All IsNumberedAmount r.1) rows → IsPlain (answer_value text v (Region rows))
   unfolding answer_value
-  region_plain rows h = ((answer_utf8, (IsUtf8-are_ascii (codes "region") refl, (question_utf8, (ok, (IsUtf8-are_ascii (codes "rows") refl, (items_plain row_value (λ r. All IsPair r.1) row_plain rows h, tt)))))), refl)
+  region_plain rows h = ((answer_utf8, (IsUtf8-are_ascii (codes "region") refl, (question_utf8, (ok, (IsUtf8-are_ascii (codes "rows") refl, (items_plain row_value (λ r. All IsNumberedAmount r.1) row_plain rows h, tt)))))), refl)
 
   pub contained_plain : (parts : List ℕ) (proofs : List CertificateView) → All (λ s. s < 2 ^ 32) parts → All IsNumbered proofs → IsPlain (answer_value text v (Contained parts proofs))
   unfolding answer_value
@@ -310,7 +311,7 @@ pair_low w = omega arith
 
 proof_low : (c : CertificateView) → depth (proof_value c) ≤ 3
 unfolding proof_value
-proof_low c = let e = items_low pair_value 1 pair_low (filter is_some_weight c.parts) in omega (arith, e)
+proof_low c = let e = items_low pair_value 1 pair_low (filter is_nonzero_weight c.parts) in omega (arith, e)
 
 row_low : (r : Mark × Terms) → depth (row_value r) ≤ 3
 unfolding row_value
@@ -322,7 +323,7 @@ yes_low text v ws = let e = items_low proof_value 3 proof_low ws in omega (arith
 
 pub no_low : (text : List ℕ) (v : NamesView) (back : Bool) (values : List ℤ) → depth (answer_value text v (No back values)) ≤ 127
 unfolding answer_value
-no_low text v back values = let e = items_low whole_value 0 (λ z. omega arith) values in omega (arith, e)
+no_low text v back values = let e = items_low integer_value 0 (λ z. omega arith) values in omega (arith, e)
 
 pub undecided_low : (text : List ℕ) (v : NamesView) (c : Cause) → depth (answer_value text v (Undecided c)) ≤ 127
 unfolding answer_value

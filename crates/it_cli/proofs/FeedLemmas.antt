@@ -16,6 +16,7 @@ use Rattle.it_question.specs.Lines.{in_front, split_lines}
 use Rattle.it_certificate.specs.Values.{answer_value, answer_text}
 use Rattle.it_cli.proofs.DataLemmas.{IsPlainNumber, IsPlain, ItemsArePlain, MembersArePlain}
 
+-- a byte is no line feed
 abbrev pub IsNoFeed : ℕ → Type 0
 IsNoFeed b = (b == 10) ≡ false
 
@@ -30,6 +31,7 @@ split_one (b ∷ line) rest h =
 
 -- ---- texts
 
+-- whether none of some bytes is a line feed
 abbrev are_clear : List ℕ → Bool
 are_clear [] = true
 are_clear (x ∷ xs) = not (x == 10) && are_clear xs

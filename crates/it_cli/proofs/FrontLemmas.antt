@@ -1,6 +1,6 @@
 -- Groups that are written in part are a front of a whole output, where each item has a right answer in each state.
 use Rattle.std.proofs.Common.{◌≡◌, ℕ, zero, suc, ◌+◌, inl, inr, List, [], ◌∷◌, ◌++◌, take, drop, refl, sym, ap, subst, ◌∙◌, arith, append_assoc}
-use Rattle.it_outside.specs.Groups.{Groups, Begun, GroupsInPart}
+use Rattle.it_outside.specs.Groups.{Groups, IsBegun, GroupsInPart}
 use Rattle.it_outside.specs.Traffic.{IsFront}
 
 module _ {Q A S : Type 0} (right : S → Q → A → Type 0) (after : S → Q → A → S) (text : ℕ → Q → A → List ℕ) where
@@ -30,25 +30,25 @@ module _ {Q A S : Type 0} (right : S → Q → A → Type 0) (after : S → Q �
   }
 
   module _ (each : (s : S) (q : Q) → (a : A) × right s q a) where
-    -- nothing is a front, and so is a text that is begun, and so are groups with such a text behind them
+    -- nothing is a front, and so is a text that is begun, and so are groups with such a text after them
     empty_is_front : (k : ℕ) (s : S) (qs : List Q) → IsFrontOfAll k s qs []
     empty_is_front k s [] = record { state = s; whole = []; groups = (refl, refl); front = ([], refl) }
     empty_is_front k s (q ∷ qs) =
         let a = each s q in
         front_of_front k s (q ∷ qs) [] (text k q a.0 ++ []) (text k q a.0 ++ [], refl) (text_in_front k s q qs a.0 [] a.1 (empty_is_front (k + 1) (after s q a.0) qs))
 
-    begun_is_front : (k : ℕ) (s : S) (qs : List Q) (part : List ℕ) → Begun right text k s qs part → IsFrontOfAll k s qs part
+    begun_is_front : (k : ℕ) (s : S) (qs : List Q) (part : List ℕ) → IsBegun right text k s qs part → IsFrontOfAll k s qs part
     begun_is_front k s [] part none = subst (IsFrontOfAll k s []) (sym none) (empty_is_front k s [])
     begun_is_front k s (q ∷ qs) part (inl none) = subst (IsFrontOfAll k s (q ∷ qs)) (sym none) (empty_is_front k s (q ∷ qs))
     begun_is_front k s (q ∷ qs) part (inr (a, is_right, (rest, is))) =
         front_of_front k s (q ∷ qs) part (text k q a ++ []) (rest ++ [], ap (λ out. out ++ []) is ∙ append_assoc part rest [])
         (text_in_front k s q qs a [] is_right (empty_is_front (k + 1) (after s q a) qs))
 
-    groups_are_front : (count k n : ℕ) (s : S) (qs : List Q) (state : S) (whole part : List ℕ) → n ≡ k + count → Groups right after text k s (take count qs) state whole → Begun right text n state (drop count qs) part
+    groups_are_front : (count k n : ℕ) (s : S) (qs : List Q) (state : S) (whole part : List ℕ) → n ≡ k + count → Groups right after text k s (take count qs) state whole → IsBegun right text n state (drop count qs) part
         → IsFrontOfAll k s qs (whole ++ part)
     groups_are_front zero k n s qs state whole part e (same, none) begun =
         subst (λ (w : List ℕ). IsFrontOfAll k s qs (w ++ part)) (sym none)
-        (begun_is_front k s qs part (subst (λ (t : S). Begun right text k t qs part) same (subst (λ (i : ℕ). Begun right text i state qs part) (let is : n ≡ k = omega (arith, e) in is) begun)))
+        (begun_is_front k s qs part (subst (λ (t : S). IsBegun right text k t qs part) same (subst (λ (i : ℕ). IsBegun right text i state qs part) (let is : n ≡ k = omega (arith, e) in is) begun)))
     groups_are_front (suc count) k n s [] state whole part e (same, none) begun =
         subst (λ (w : List ℕ). IsFrontOfAll k s [] (w ++ part)) (sym none) (subst (λ (p : List ℕ). IsFrontOfAll k s [] p) (sym begun) (empty_is_front k s []))
     groups_are_front (suc count) k n s (q ∷ qs) state whole part e (a, rest, is_right, groups, joined) begun =

@@ -1,5 +1,5 @@
 -- A right answer fits its question, so that what is written of it reads back as it.
-use Rattle.std.proofs.Common.{◌≡◌, ◌⊎◌, inl, inr, ℕ, zero, suc, ◌+◌, ◌<◌, ◌≤◌, ◌^◌, min, ℤ, pos, List, [], ◌∷◌, map, filter, length, All, Bool, true, false, Option, Some, None, IfSome, refl, sym, ap, subst, ◌∙◌, arith, lit≤, cond, negsuc, not, unsigned_abs, ◌==◌, rules}
+use Rattle.std.proofs.Common.{◌≡◌, ◌⊎◌, inl, inr, ℕ, zero, suc, ◌+◌, ◌<◌, ◌≤◌, ◌^◌, min, ℤ, List, [], ◌∷◌, map, filter, length, All, Bool, true, false, Option, Some, None, IfSome, refl, sym, ap, subst, ◌∙◌, arith, lit≤, cond, ◌==◌}
 use Rattle.std.proofs.lemmas.List.{length-append, length-map}
 use Rattle.std.proofs.lemmas.List.Elements.{All-nil, All-cons, All-head, All-tail}
 use Rattle.it_number.specs.Limit.{IsWithin}
@@ -7,7 +7,7 @@ use Rattle.it_rational.specs.Rational.{Rational}
 use Rattle.it_space.specs.declared.answers.Cause.{Cause}
 use Rattle.it_space.specs.declared.answers.Cause.TheVariants as causes
 use Rattle.it_space.specs.declared.spaces.Space.{Space}
-use Rattle.it_space.specs.Answers.{AnswerView, CertificateView}
+use Rattle.it_space.specs.Answers.{AnswerView, CertificateView, is_nonzero_weight}
 use Rattle.it_space.specs.Answers.AnswerView.{Yes, No, Undecided, Region, Contained, Open}
 use Rattle.it_space.specs.Problems.{ProblemView, IsProblem}
 use Rattle.it_space.specs.Rows.{Terms, Ascends, IsCanonical}
@@ -21,9 +21,9 @@ use Rattle.it_run.specs.Runs.RunEndView.{Weights, Point, Pivots, Width}
 use Rattle.it_simplex.specs.Answers.{Solves}
 use Rattle.it_prove.specs.Closed.{closed_places, spread_point, spread_values}
 use Rattle.it_prove.specs.Scaling.{NumbersFit, scale_of, scaled_point}
-use Rattle.it_prove.specs.Steps.{pairs}
+use Rattle.it_prove.specs.Steps.{terms_of_places}
 use Rattle.it_prove.specs.ProofViews as proof_views
-use Rattle.it_prove.specs.ProofViews.{ProofView, EndsWith, Follows, Runs}
+use Rattle.it_prove.specs.ProofViews.{ProofView, EndsWith, Follows, Runs, AreProofsOf}
 use Rattle.it_prove.proofs.ProofLemmas.{scaled_within}
 use Rattle.it_prove.proofs.PointLemmas.{places_rise, pairs_canonical, point_spread, spread_within}
 use Rattle.it_syntax.specs.declared.types.Sign.{Sign}
@@ -39,16 +39,17 @@ use Rattle.it_canon.proofs.ZipLemmas.{zip-length}
 use Rattle.it_eliminate.specs.Elimination.{Member}
 use Rattle.it_redundant.specs.ReducedElimination.{ProjectedView}
 use Rattle.it_redundant.specs.ReducedElimination as reduced
-use Rattle.it_contain.specs.Search.{AreProofsOf}
 use Rattle.it_answer.specs.declared.types.Budgets.{Budgets}
 use Rattle.it_answer.specs.Forms.{all_demands, generators_by, demand_of_elemental, demand_of_line, CertifyAll}
-use Rattle.it_answer.specs.RightAnswers.{ViolatesFirst, ProofsAreDue, PointIsDue, CauseIsDue, IsRightFor}
+use Rattle.it_answer.specs.RightAnswers.{ViolatesFirst, PointIsDue, CauseIsDue, IsRightFor}
 use Rattle.it_answer.specs.RightRegions.{answer_of_end, IsRightElimination}
-use Rattle.it_certificate.specs.AnswerReading.{is_equality, target_count}
-use Rattle.it_certificate.specs.Fits.{IsPair, IsNumbered, IsFoundIn, IsCauseFor, FitsProve}
+use Rattle.it_certificate.specs.AnswerReading.{is_equality}
+use Rattle.it_certificate.specs.Fits.{IsNumberedAmount, IsNumbered, IsFoundIn, IsCauseFor, FitsProve}
 use Rattle.it_certificate.specs.Numerals.{step_of}
+use Rattle.it_certificate.proofs.RowLemmas.{nonzero_passes}
 use Rattle.it_certificate.specs.Laws.{without_zeros}
-use Rattle.it_certificate.specs.Values.{is_some_weight, rate_text}
+use Rattle.it_certificate.specs.Values.{rate_name}
+use Rattle.it_report.proofs.CountLemmas.{targets_counted}
 use Rattle.it_cli.proofs.LineLemmas.{point_size}
 use Rattle.it_cli.proofs.RateLemmas.{IsEndOf, end_of_rates}
 
@@ -82,7 +83,7 @@ module _ (q : ProblemView) (target : Terms) where
   spread_fits : (qs : List Rational) → IsProblem q → NumbersFit qs → All IsWithin (spread_point q qs)
   spread_fits qs limits fit =
       let cs = closed_places q in
-      let row = pairs (closed_places q) (scaled_point qs) in
+      let row = terms_of_places (closed_places q) (scaled_point qs) in
       let canonical : IsCanonical row = pairs_canonical cs (scaled_point qs) row refl (places_rise q cs limits refl) (scaled_within (scale_of qs) qs (scaled_point qs) refl fit.numbers) in
       let values = spread_values q.space.variables (dependences_of q) (size_of q.space) row in
       subst (All IsWithin) (point_spread q q.space (dependences_of q) cs qs row values refl refl refl refl refl) (spread_within q.space.variables (dependences_of q) (size_of q.space) row canonical)
@@ -114,11 +115,11 @@ up_to_more few most (Point qs) l h = tt
 up_to_more few most (Pivots j) l h = omega (arith, l, h)
 up_to_more few most (Width j) l h = omega (arith, l, h)
 
-told_up_to : {W P : Type 0} (e : RunEndView W P) → IsWithinBudget e → IsUpToStep last_step (clip_end e)
-told_up_to (Weights ws) h = tt
-told_up_to (Point qs) h = tt
-told_up_to (Pivots j) h = absurd h
-told_up_to (Width j) h = let l : min j 4294967295 ≤ 4294967295 = omega arith in l
+clipped_up_to : {W P : Type 0} (e : RunEndView W P) → IsWithinBudget e → IsUpToStep last_step (clip_end e)
+clipped_up_to (Weights ws) h = tt
+clipped_up_to (Point qs) h = tt
+clipped_up_to (Pivots j) h = absurd h
+clipped_up_to (Width j) h = let l : min j 4294967295 ≤ 4294967295 = omega arith in l
 
 module _ {S W P : Type 0} (IsDone IsStuck Fits : S → Type 0) (next : S → S) (weights : S → W) (point : S → P) where
   by_step : (left k : ℕ) (s : S) (e : RunEndView W P) → (EndsAs IsDone IsStuck Fits next weights point left (suc k) (next s) e → IsUpToStep (suc k + left) e)
@@ -137,18 +138,18 @@ module _ {S W P : Type 0} (IsDone IsStuck Fits : S → Type 0) (next : S → S) 
   -- with a budget of 32 bits, or without one
   ends_told : (budget : Option ℕ) (s : S) (e : RunEndView W P) → IfSome budget (λ n. n < 2 ^ 32) → EndsBy IsDone IsStuck Fits next weights point budget s e → IsUpToStep last_step e
   ends_told (Some most) s e few h = up_to_more (0 + most) last_step e (omega (arith, few)) (in_budget most 0 s e h)
-  ends_told None s e few h = subst (IsUpToStep last_step) (sym h.is_clipped) (told_up_to h.end h.within)
+  ends_told None s e few h = subst (IsUpToStep last_step) (sym h.is_clipped) (clipped_up_to h.end h.within)
 
-at_start : {W P : Type 0} (e : RunEndView W P) → e ≡ Width 0 → IsUpToStep last_step e
-at_start e is = subst (IsUpToStep last_step) (sym is) (let l : 0 ≤ last_step = omega arith in l)
+start_up_to : {W P : Type 0} (e : RunEndView W P) → e ≡ Width 0 → IsUpToStep last_step e
+start_up_to e is = subst (IsUpToStep last_step) (sym is) (let l : 0 ≤ last_step = omega arith in l)
 
-solves_told : (coordinates : List ℕ) (columns : List Terms) (target : Terms) (budget : Option ℕ) (e : RunEndView (List (ℕ × Rational)) (List Rational)) → IfSome budget (λ n. n < 2 ^ 32) → Solves coordinates columns target budget e → IsUpToStep last_step e
-solves_told coordinates columns target budget e few (inl h) = at_start e h.1
-solves_told coordinates columns target budget e few (inr h) = ends_told _ _ _ _ _ _ budget _ e few h.1
+solve_end_up_to : (coordinates : List ℕ) (columns : List Terms) (target : Terms) (budget : Option ℕ) (e : RunEndView (List (ℕ × Rational)) (List Rational)) → IfSome budget (λ n. n < 2 ^ 32) → Solves coordinates columns target budget e → IsUpToStep last_step e
+solve_end_up_to coordinates columns target budget e few (inl h) = start_up_to e h.1
+solve_end_up_to coordinates columns target budget e few (inr h) = ends_told _ _ _ _ _ _ budget _ e few h.1
 
-runs_told : (q : ProblemView) (target : Terms) (budget : Option ℕ) (e : RunEndView (List (ℕ × Rational)) (List Rational)) → IfSome budget (λ n. n < 2 ^ 32) → Runs q target budget e → IsUpToStep last_step e
-runs_told q target budget e few (inl h) = at_start e h.1
-runs_told q target budget e few (inr h) = solves_told _ _ _ budget e few h.1
+run_end_up_to : (q : ProblemView) (target : Terms) (budget : Option ℕ) (e : RunEndView (List (ℕ × Rational)) (List Rational)) → IfSome budget (λ n. n < 2 ^ 32) → Runs q target budget e → IsUpToStep last_step e
+run_end_up_to q target budget e few (inl h) = start_up_to e h.1
+run_end_up_to q target budget e few (inr h) = solve_end_up_to _ _ _ budget e few h.1
 
 cause_by_end : (v : NamesView) (q : ProblemView) (target : Terms) (c : Cause) (e : RunEndView (List (ℕ × Rational)) (List Rational)) → IsUpToStep last_step e
     → Follows q target e (proof_views.Undecided c) → IsCauseFor v c
@@ -161,26 +162,19 @@ cause_by_end v q target c (Width k) b e = subst (IsCauseFor v) (cause_same (caus
 
 -- ---- certificates
 
-pairs_below : (g : Generators) → g.count ≤ 2 ^ 32 → (from : ℕ) (ts : Terms) → Ascends from ts → All (IsAllowed g) ts → All IsPair ts
-pairs_below g few from [] a all = All-nil IsPair
+pairs_below : (g : Generators) → g.count ≤ 2 ^ 32 → (from : ℕ) (ts : Terms) → Ascends from ts → All (IsAllowed g) ts → All IsNumberedAmount ts
+pairs_below g few from [] a all = All-nil IsNumberedAmount
 pairs_below g few from (t ∷ ts) a all =
     let h = All-head (IsAllowed g) t ts all in
     let l : t.0 < 2 ^ 32 = let below = h.0 in omega (arith, below, few) in
-    All-cons IsPair t ts (l, a.2) (pairs_below g few (t.0 + 1) ts a.3 (All-tail (IsAllowed g) t ts all))
+    All-cons IsNumberedAmount t ts (l, a.2) (pairs_below g few (t.0 + 1) ts a.3 (All-tail (IsAllowed g) t ts all))
 
--- the run's proofs of targets
-due_scaled : (p : ProblemView) (budget : Option ℕ) (ts : List Terms) (ws : List CertificateView) → ProofsAreDue p budget ts ws → All IsScaled ws
-due_scaled p budget [] [] d = All-nil IsScaled
-due_scaled p budget [] (w ∷ ws) d = absurd d
-due_scaled p budget (t ∷ ts) [] d = absurd d
-due_scaled p budget (t ∷ ts) (w ∷ ws) d = All-cons IsScaled w ws (scaled_by_end p t w d.0.end d.0.follows) (due_scaled p budget ts ws d.1)
-
--- and of obligations
+-- the run's proofs of targets and of obligations
 pub proofs_scaled : (p : ProblemView) (budget : Option ℕ) (ts : List Terms) (ws : List CertificateView) → AreProofsOf p budget ts ws → All IsScaled ws
 proofs_scaled p budget [] [] d = All-nil IsScaled
 proofs_scaled p budget [] (w ∷ ws) d = absurd d
 proofs_scaled p budget (t ∷ ts) [] d = absurd d
-proofs_scaled p budget (t ∷ ts) (w ∷ ws) d = All-cons IsScaled w ws (scaled_by_end p t w d.0.due.end d.0.due.follows) (proofs_scaled p budget ts ws d.1)
+proofs_scaled p budget (t ∷ ts) (w ∷ ws) d = All-cons IsScaled w ws (scaled_by_end p t w d.0.end d.0.follows) (proofs_scaled p budget ts ws d.1)
 
 module _ (q : BodyView) (p : ProblemView) (space : p.space ≡ space_of (problem_names q)) (limits : IsProblem p) (stated : AreStated p.space (question_demands q) p.constraints) where
   demands_counted : length (question_demands q) ≤ 2 ^ 20
@@ -219,18 +213,13 @@ module _ (q : BodyView) (p : ProblemView) (space : p.space ≡ space_of (problem
   all_counted (f ∷ fs) (w ∷ ws) c = ap suc (all_counted fs ws c.1)
 
 module _ (q : BodyView) (r : RelationView) (b : Poses q r) where
-  targets_counted : (s : Sign) (f : Form) → length (targets_by s f) ≡ target_count s
-  targets_counted AtLeast f = refl
-  targets_counted AtMost f = refl
-  targets_counted Equal f = refl
-
   -- ---- points
 
   values_due : (budget : Option ℕ) (ts : List Terms) (back : Bool) (values : List ℤ) → PointIsDue b.problem budget ts back values → All IsWithin values
   values_due budget [] back values d = absurd d
-  values_due budget (t ∷ ts) false values d = values_by_end b.problem t b.limits values d.end d.follows
+  values_due budget (t ∷ ts) false values d = values_by_end b.problem t b.is_problem.limits values d.end d.follows
   values_due budget (t ∷ []) true values d = absurd d
-  values_due budget (t ∷ u ∷ ts) true values d = values_by_end b.problem u b.limits values d.1.end d.1.follows
+  values_due budget (t ∷ u ∷ ts) true values d = values_by_end b.problem u b.is_problem.limits values d.1.end d.1.follows
 
   second_only : (s : Sign) (f : Form) (back : Bool) (values : List ℤ) → ViolatesFirst q (targets_by s f) back values → back ≡ true → is_equality s ≡ true
   second_only AtLeast f true values c e = absurd c
@@ -243,15 +232,15 @@ module _ (q : BodyView) (r : RelationView) (b : Poses q r) where
 
   cause_due : (budget : Option ℕ) → IfSome budget (λ n. n < 2 ^ 32) → (ts : List Terms) (c : Cause) → CauseIsDue b.problem budget ts c → IsCauseFor q.names c
   cause_due budget few [] c d = absurd d
-  cause_due budget few (t ∷ ts) c (inl e) = cause_by_end q.names b.problem t c e.end (runs_told b.problem t budget e.end few e.run) e.follows
+  cause_due budget few (t ∷ ts) c (inl e) = cause_by_end q.names b.problem t c e.end (run_end_up_to b.problem t budget e.end few e.run) e.follows
   cause_due budget few (t ∷ ts) c (inr d) = cause_due budget few ts c d.1
 
 -- a right answer to `prove` fits its question
 pub right_prove_fits : (budget : Option ℕ) (q : BodyView) (r : RelationView) (a : AnswerView) → IfSome budget (λ n. n < 2 ^ 32) → q.verb ≡ Prove r → IsRightFor budget q r a → FitsProve q.names r.sign a
 right_prove_fits budget q r (Yes ws) few verb right =
     let b = right.poses in (
-      all_counted q b.problem b.space b.limits b.constraints (targets (variables_of q) r) ws right.shows ∙ targets_counted q r b r.sign (form_of (variables_of q) r),
-      all_numbered q b.problem b.space b.limits b.constraints (targets (variables_of q) r) ws right.shows (due_scaled b.problem budget b.rows ws right.due),
+      all_counted q b.problem b.is_problem.space b.is_problem.limits b.is_problem.constraints (targets (variables_of q) r) ws right.shows ∙ targets_counted r.sign (form_of (variables_of q) r),
+      all_numbered q b.problem b.is_problem.space b.is_problem.limits b.is_problem.constraints (targets (variables_of q) r) ws right.shows (proofs_scaled b.problem budget b.rows ws right.due),
     )
 right_prove_fits budget q r (No back values) few verb right =
     let own : space_of (problem_names q) ≡ space_of q.names = ap (λ (v : _). space_of (problem_names_by q.names v)) verb in (
@@ -270,7 +259,7 @@ undecided_same : (c d : Cause) → Undecided c ≡ Undecided d → c ≡ d
 undecided_same c d e = cc
 
 -- A cause of an elimination fits, where each listed rate is found by its name, and the name is no number.
-pub eliminated_cause_fits : (budgets : Budgets) (q : BodyView) (rates : List ℕ) (cause : Cause) → ((r : ℕ) → Member r rates → IsFoundIn q.names r × (step_of (rate_text q.names r) ≡ None))
+pub eliminated_cause_fits : (budgets : Budgets) (q : BodyView) (rates : List ℕ) (cause : Cause) → ((r : ℕ) → Member r rates → IsFoundIn q.names r × (step_of (rate_name q.names r) ≡ None))
     → IsRightElimination budgets q rates (Undecided cause) → IsCauseFor q.names cause
 eliminated_cause_fits budgets q rates cause named right =
     by right.due.end (end_of_rates right.due.givens budgets.pivots budgets.rows right.due.rows [] rates right.due.end right.due.ends) right.due.is
@@ -282,18 +271,13 @@ eliminated_cause_fits budgets q rates cause named right =
 
 -- ---- weights other than 0
 
-nothing_left_out : (from : ℕ) (ts : Terms) → Ascends from ts → filter is_some_weight ts ≡ ts
-nothing_left_out from [] a = refl
-nothing_left_out from (t ∷ ts) a = ap (λ b. cond b (t ∷ filter is_some_weight ts) (filter is_some_weight ts)) (nonzero t.1 a.1) ∙ ap (λ zs. t ∷ zs) (nothing_left_out (t.0 + 1) ts a.3)
-  where
-    nonzero : (z : ℤ) → (z ≡ pos 0 → ⊥) → not (unsigned_abs z == 0) ≡ true
-    nonzero (pos zero) other = absurd (other refl)
-    nonzero (pos (suc n)) other = search (rules)
-    nonzero (negsuc n) other = search (rules)
+weights_are_some : (from : ℕ) (ts : Terms) → Ascends from ts → filter is_nonzero_weight ts ≡ ts
+weights_are_some from [] a = refl
+weights_are_some from (t ∷ ts) a = ap (λ b. cond b (t ∷ filter is_nonzero_weight ts) (filter is_nonzero_weight ts)) (nonzero_passes t.1 a.1) ∙ ap (λ zs. t ∷ zs) (weights_are_some (t.0 + 1) ts a.3)
 
 -- A certificate whose weights ascend is written whole.
-pub written_whole : (ws : List CertificateView) → All (λ w. IsCanonical w.parts) ws → map without_zeros ws ≡ ws
-written_whole [] all = refl
-written_whole (w ∷ ws) all =
-    ap (λ ps. record { scale = w.scale; parts = ps } ∷ map without_zeros ws) (nothing_left_out 0 w.parts (All-head (λ (w : CertificateView). IsCanonical w.parts) w ws all))
-    ∙ ap (λ vs. w ∷ vs) (written_whole ws (All-tail (λ (w : CertificateView). IsCanonical w.parts) w ws all))
+pub all_weights_written : (ws : List CertificateView) → All (λ w. IsCanonical w.parts) ws → map without_zeros ws ≡ ws
+all_weights_written [] all = refl
+all_weights_written (w ∷ ws) all =
+    ap (λ ps. record { scale = w.scale; parts = ps } ∷ map without_zeros ws) (weights_are_some 0 w.parts (All-head (λ (w : CertificateView). IsCanonical w.parts) w ws all))
+    ∙ ap (λ vs. w ∷ vs) (all_weights_written ws (All-tail (λ (w : CertificateView). IsCanonical w.parts) w ws all))

@@ -1,4 +1,4 @@
--- What follows for the status of a run.
+-- What follows for the status of a call.
 use Rattle.std.proofs.Common.{◌≡◌, ℕ, ◌≤◌, ◌<◌, inl, inr, List, ◌++◌, length, Bool, Option, Some, None, refl, sym, ap, subst, ◌∙◌, arith}
 use Rattle.it_outside.specs.Causes.{Rose}
 use Rattle.it_outside.specs.Traffic.{Gains, Gave, GaveMore}
@@ -34,10 +34,10 @@ one_limit r settings most limit reading is h = same_some limit most (sym h.limit
 same_bytes : (r : Call) (bytes given : List ℕ) → r.left ≡ Some bytes → Gave r.left r.left_after given → given ≡ bytes
 same_bytes r bytes given e g = end_comes_last bytes given r.left_after (subst (λ (o : Option (List ℕ)). Gave o r.left_after given) e g)
 
--- a run that read the input with this reading read all of it
-given_by : (r : Call) (settings s : Settings) (most : ℕ) (bytes given : List ℕ) → IsReading r settings → most_bytes settings ≡ Some most → r.left ≡ Some bytes → IsInput r s given
+-- a call that read the input with this reading read all of it
+input_is_given : (r : Call) (settings s : Settings) (most : ℕ) (bytes given : List ℕ) → IsReading r settings → most_bytes settings ≡ Some most → r.left ≡ Some bytes → IsInput r s given
     → (given ≡ bytes) × (length bytes ≤ most)
-given_by r settings s most bytes given reading is e input =
+input_is_given r settings s most bytes given reading is e input =
     let taken : IsTaken r (Some most) given = subst (λ (o : Option ℕ). IsTaken r o given) (ap most_bytes (one_reading r s settings input.reading reading) ∙ is) input.taken in
     let same = same_bytes r bytes given e taken.0 in
     (same, subst (λ (b : List ℕ). length b ≤ most) same taken.1)
@@ -70,7 +70,7 @@ usage_is_due r Memory (inr part) none = (untouched_in_part r none part, inr (inr
 
 long_given : (r : Call) (settings : Settings) (most : ℕ) (bytes : List ℕ) → IsReading r settings → most_bytes settings ≡ Some most → r.left ≡ Some bytes → most < length bytes
     → (s : Settings) (given : List ℕ) → IsInput r s given → ⊥
-long_given r settings most bytes reading is e h s given input = let g = given_by r settings s most bytes given reading is e input in omega (arith, g.1)
+long_given r settings most bytes reading is e h s given input = let g = input_is_given r settings s most bytes given reading is e input in omega (arith, g.1)
 
 pub long_is_due : LongIsDue
 long_is_due r Done settings most bytes ends reading is e h = absurd (long_given r settings most bytes reading is e h ends.settings ends.bytes ends.input)
@@ -90,37 +90,37 @@ answer_limit Check mode = absurd mode
 answer_limit (Bench seed count pivots rows tries) mode = absurd mode
 
 -- what mode `answer` has written is of a file that has a reading
-read_in : (plans : List Plan) (settings : Settings) (given out : List ℕ) (s : Status) → IsAnswerMode settings → IsOutput plans settings given out s → (qs : List QuestionView) × IsFile given qs
-read_in plans (Answer format pivots rows tries) given out s mode (answers, is) = (answers.questions, answers.asked.read)
-read_in plans Check given out s mode output = absurd mode
-read_in plans (Bench seed count pivots rows tries) given out s mode output = absurd mode
+output_has_reading : (plans : List Plan) (settings : Settings) (given out : List ℕ) (s : Status) → IsAnswerMode settings → IsOutput plans settings given out s → (qs : List QuestionView) × IsFile given qs
+output_has_reading plans (Answer format pivots rows tries) given out s mode (answers, is) = (answers.questions, answers.asked.read)
+output_has_reading plans Check given out s mode output = absurd mode
+output_has_reading plans (Bench seed count pivots rows tries) given out s mode output = absurd mode
 
-read_by : (r : Call) (s : Status) (settings : Settings) (bytes : List ℕ) → IsReading r settings → IsAnswerMode settings → r.left ≡ Some bytes → HasOutput r s → (qs : List QuestionView) × IsFile bytes qs
-read_by r s settings bytes reading mode e h =
-    let file = read_in r.plans h.settings h.bytes h.out s (subst IsAnswerMode (one_reading r settings h.settings reading h.input.reading) mode) h.output in
-    (file.0, subst (λ (b : List ℕ). IsFile b file.0) (given_by r settings h.settings 1048576 bytes h.bytes reading (answer_limit settings mode) e h.input).0 file.1)
+written_has_reading : (r : Call) (s : Status) (settings : Settings) (bytes : List ℕ) → IsReading r settings → IsAnswerMode settings → r.left ≡ Some bytes → HasOutput r s → (qs : List QuestionView) × IsFile bytes qs
+written_has_reading r s settings bytes reading mode e h =
+    let file = output_has_reading r.plans h.settings h.bytes h.out s (subst IsAnswerMode (one_reading r settings h.settings reading h.input.reading) mode) h.output in
+    (file.0, subst (λ (b : List ℕ). IsFile b file.0) (input_is_given r settings h.settings 1048576 bytes h.bytes reading (answer_limit settings mode) e h.input).0 file.1)
 
 fault_of : (r : Call) (settings : Settings) (most : ℕ) (bytes : List ℕ) (u : IsUnread r) → IsReading r settings → most_bytes settings ≡ Some most → r.left ≡ Some bytes → FileFaultAt bytes u.line u.column u.code
 fault_of r settings most bytes u reading is e =
-    subst (λ (b : List ℕ). FileFaultAt b u.line u.column u.code) (given_by r settings u.settings most bytes u.bytes reading is e u.input).0 u.fault
+    subst (λ (b : List ℕ). FileFaultAt b u.line u.column u.code) (input_is_given r settings u.settings most bytes u.bytes reading is e u.input).0 u.fault
 
 module _ (one_fault : FileFaultIsOne) (apart : FileOrFault) where
-  told_at : (r : Call) (bytes : List ℕ) (line column : ℕ) (code : Code) (u : IsUnread r) → FileFaultAt bytes u.line u.column u.code → FileFaultAt bytes line column code
+  told_fault_is : (r : Call) (bytes : List ℕ) (line column : ℕ) (code : Code) (u : IsUnread r) → FileFaultAt bytes u.line u.column u.code → FileFaultAt bytes line column code
       → Wrote r (fault_line u.line u.column u.code) → Wrote r (fault_line line column code)
-  told_at r bytes line column code u at fault w =
+  told_fault_is r bytes line column code u at fault w =
       let same : (u.line ≡ line) × (u.column ≡ column) × (u.code ≡ code) = one_fault bytes u.line u.column line column u.code code at fault in
       subst (λ (c : Code). Wrote r (fault_line line column c)) same.2 (subst (λ (n : ℕ). Wrote r (fault_line line n u.code)) same.1 (subst (λ (n : ℕ). Wrote r (fault_line n u.column u.code)) same.0 w))
 
   pub fault_is_due : FaultIsDue
   fault_is_due r Done settings bytes line column code ends reading mode e fits fault =
-      let a = read_by r Done settings bytes reading mode e ends in absurd (apart bytes a.0 line column code a.1 fault)
+      let a = written_has_reading r Done settings bytes reading mode e ends in absurd (apart bytes a.0 line column code a.1 fault)
   fault_is_due r Invalid settings bytes line column code ends reading mode e fits fault =
-      let a = read_by r Invalid settings bytes reading mode e ends in absurd (apart bytes a.0 line column code a.1 fault)
+      let a = written_has_reading r Invalid settings bytes reading mode e ends in absurd (apart bytes a.0 line column code a.1 fault)
   fault_is_due r Usage settings bytes line column code (none, untouched, wrote) reading mode e fits fault = absurd (has_one_or_none r settings reading none)
   fault_is_due r Refused settings bytes line column code (inl (t, w)) reading mode e fits fault =
       absurd (omega (arith, too_long_for r settings 1048576 bytes reading (answer_limit settings mode) e t))
   fault_is_due r Refused settings bytes line column code (inr (u, w)) reading mode e fits fault =
-      inl (refl, told_at r bytes line column code u (fault_of r settings 1048576 bytes u reading (answer_limit settings mode) e) fault w)
+      inl (refl, told_fault_is r bytes line column code u (fault_of r settings 1048576 bytes u reading (answer_limit settings mode) e) fault w)
   fault_is_due r ReadFault settings bytes line column code ends reading mode e fits fault = inr (inl refl)
   fault_is_due r WriteFault settings bytes line column code ends reading mode e fits fault = inr (inr (inl refl))
   fault_is_due r Memory settings bytes line column code ends reading mode e fits fault = inr (inr (inr refl))
@@ -208,7 +208,7 @@ sure_ends r Usage ends none none_written = ((λ is. cc), λ is. cc)
 sure_ends r Refused ends none none_written = ((λ is. cc), λ is. cc)
 sure_ends r Memory ends none none_written = ((λ is. cc), λ is. cc)
 
--- ---- what a run that is done has written
+-- ---- what a call that is done has written
 
 -- what a sink that tells its bytes took
 gain_is_told : (before now : Option (List ℕ)) (old new out : List ℕ) → before ≡ Some old → now ≡ Some new → Gains before now out → new ≡ old ++ out
@@ -220,21 +220,21 @@ output_of r s settings h reading = subst (λ (x : Settings). IsOutput r.plans x 
 
 pub headline : Headline
 headline r format pivots rows tries bytes old new ends reading e taken taken_after =
-    let same = given_by r (Answer format pivots rows tries) ends.settings 1048576 bytes ends.bytes reading refl e ends.input in
+    let same = input_is_given r (Answer format pivots rows tries) ends.settings 1048576 bytes ends.bytes reading refl e ends.input in
     let output : IsOutput r.plans (Answer format pivots rows tries) bytes ends.out Done =
     subst (λ (b : List ℕ). IsOutput r.plans (Answer format pivots rows tries) b ends.out Done) same.0 (output_of r Done (Answer format pivots rows tries) ends reading) in
     (ends.out, output.0, gain_is_told r.taken r.taken_after old new ends.out taken taken_after ends.wrote)
 
-written_by : (r : Call) (s : Status) (bytes old new : List ℕ) → HasOutput r s → IsReading r Check → r.left ≡ Some bytes → r.taken ≡ Some old → r.taken_after ≡ Some new
+verdicts_by_output : (r : Call) (s : Status) (bytes old new : List ℕ) → HasOutput r s → IsReading r Check → r.left ≡ Some bytes → r.taken ≡ Some old → r.taken_after ≡ Some new
     → (some_invalid : Bool) × (out : List ℕ) × Verdicts bytes some_invalid out × (new ≡ old ++ out) × (s ≡ verdict_status some_invalid)
-written_by r s bytes old new h reading e taken taken_after =
-    let same = given_by r Check h.settings 67108864 bytes h.bytes reading refl e h.input in
+verdicts_by_output r s bytes old new h reading e taken taken_after =
+    let same = input_is_given r Check h.settings 67108864 bytes h.bytes reading refl e h.input in
     let output : IsOutput r.plans Check bytes h.out s = subst (λ (b : List ℕ). IsOutput r.plans Check b h.out s) same.0 (output_of r s Check h reading) in
     (output.0, h.out, output.1, gain_is_told r.taken r.taken_after old new h.out taken taken_after h.wrote, output.2)
 
 pub verdicts_are_written : VerdictsAreWritten
-verdicts_are_written r Done bytes old new ends is reading e taken taken_after = written_by r Done bytes old new ends reading e taken taken_after
-verdicts_are_written r Invalid bytes old new ends is reading e taken taken_after = written_by r Invalid bytes old new ends reading e taken taken_after
+verdicts_are_written r Done bytes old new ends is reading e taken taken_after = verdicts_by_output r Done bytes old new ends reading e taken taken_after
+verdicts_are_written r Invalid bytes old new ends is reading e taken taken_after = verdicts_by_output r Invalid bytes old new ends reading e taken taken_after
 verdicts_are_written r Usage bytes old new ends (inl is) reading e taken taken_after = cc
 verdicts_are_written r Usage bytes old new ends (inr is) reading e taken taken_after = cc
 verdicts_are_written r Refused bytes old new ends (inl is) reading e taken taken_after = cc

@@ -4,7 +4,6 @@ pub mod VerdictLemmas
 pub mod RightLemmas
 pub mod CountLemmas
 pub mod StepLemmas
-pub mod RowLemmas
 pub mod ProofLemmas
 pub mod EndLemmas
 pub mod LawLemmas

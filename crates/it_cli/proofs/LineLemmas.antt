@@ -43,7 +43,7 @@ use Rattle.it_answer.specs.RightRegions.{IsRightElimination, answer_of_end, regi
 use Rattle.it_answer.specs.Forms.{CertifyAll, all_demands, generators_by}
 use Rattle.it_canon.specs.Targets.{targets}
 use Rattle.it_answer.specs.RightAnswers.{ViolatesFirst, CauseIsDue, IsRightFor, IsRightAnswer, IsRightAnswerBy}
-use Rattle.it_print.specs.Lines.{IsCauseOf, IsPrintable, IsRowOver, answer_line, auxiliary_names, auxiliary_names_by, places_of}
+use Rattle.it_print.specs.Lines.{IsCauseOf, IsPrintable, IsRowOver, answer_line, auxiliary_names, auxiliary_names_by, origins_of}
 use Rattle.it_print.specs.ProofLines.{generator_rows, proof_text}
 use Rattle.it_answer.specs.AnswerForms.{answer_forms}
 use Rattle.it_answer.specs.RightContainments.{IsRightContainment}
@@ -52,19 +52,19 @@ use Rattle.it_region.specs.Obligations.{ArePartsOf, obligations}
 use Rattle.it_contain.specs.Proposals.{Plan}
 use Rattle.it_settings.specs.declared.types.Format.TheVariants.{Text, Proof}
 use Rattle.it_cli.specs.Right.{answer_lines, terms_in}
-use Rattle.it_cli.proofs.ProofLemmas.{generators_told}
+use Rattle.it_cli.proofs.ProofLemmas.{generator_rows_are}
 use Rattle.it_cli.proofs.RateLemmas.{IsEndOf, end_of_rates}
-use Rattle.it_cli.proofs.RowLemmas.{row_over}
+use Rattle.it_print.proofs.RowLemmas.{row_over}
 
 length-demands : (n : ℕ) (ds : List LineDemand) → length (all_demands n ds) ≡ length (elementals n) + length ds
 unfolding all_demands
 length-demands n ds = simp (length-append, length-map)
 
-pub places_same : (s : Space) (ds : List LineDemand) (cs : List Constraint) → AreStated s ds cs → places_of cs ≡ map (λ d. d.place) ds
-places_same s [] [] h = refl
-places_same s [] (c ∷ cs) h = absurd h
-places_same s (d ∷ ds) [] h = absurd h
-places_same s (d ∷ ds) (c ∷ cs) h = ap₂ (λ x xs. x ∷ xs) h.0.origin (places_same s ds cs h.1)
+pub origins_same : (s : Space) (ds : List LineDemand) (cs : List Constraint) → AreStated s ds cs → origins_of cs ≡ map (λ d. d.place) ds
+origins_same s [] [] h = refl
+origins_same s [] (c ∷ cs) h = absurd h
+origins_same s (d ∷ ds) [] h = absurd h
+origins_same s (d ∷ ds) (c ∷ cs) h = ap₂ (λ x xs. x ∷ xs) h.0.origin (origins_same s ds cs h.1)
 
 certificates : (q : BodyView) (n m : ℕ) (fs : List Form) (cs : List Certificate) → n ≡ variables_of q → m ≡ length (question_demands q) → CertifyAll q fs (map certificate_view cs)
     → All (λ (c : Certificate). All (λ (w : ℕ × ℤ). w.0 < length (elementals n) + m) c.weights.items) cs
@@ -83,41 +83,41 @@ point_size q (f ∷ fs) false values c = c.complete
 point_size q (f ∷ []) true values c = absurd c
 point_size q (f ∷ g ∷ fs) true values c = c.1.complete
 
-of_end : (p : ProblemView) (t : Terms) (m : ℕ) (cause : Cause) (e : RunEndView (List (ℕ × Rational)) (List Rational)) → Follows p t e (Undecided cause) → IsCauseOf m cause
-of_end p t m cause (Weights ws) (inl a) = absurd (unlike a.3)
+cause_of_run_end : (p : ProblemView) (t : Terms) (m : ℕ) (cause : Cause) (e : RunEndView (List (ℕ × Rational)) (List Rational)) → Follows p t e (Undecided cause) → IsCauseOf m cause
+cause_of_run_end p t m cause (Weights ws) (inl a) = absurd (unlike a.3)
   where
     unlike : {w : CertificateView} → Undecided cause ≡ Yes w → ⊥
     unlike e = cc
-of_end p t m cause (Weights ws) (inr a) = subst (IsCauseOf m) (sym (inside a.1)) tt
+cause_of_run_end p t m cause (Weights ws) (inr a) = subst (IsCauseOf m) (sym (inside a.1)) tt
   where
     inside : Undecided cause ≡ Undecided Scale → cause ≡ Scale
     inside e = cc
-of_end p t m cause (Point qs) (inl a) = absurd (unlike a.1)
+cause_of_run_end p t m cause (Point qs) (inl a) = absurd (unlike a.1)
   where
     unlike : {values : List ℤ} → Undecided cause ≡ No values → ⊥
     unlike e = cc
-of_end p t m cause (Point qs) (inr a) = subst (IsCauseOf m) (sym (inside a.1)) tt
+cause_of_run_end p t m cause (Point qs) (inr a) = subst (IsCauseOf m) (sym (inside a.1)) tt
   where
     inside : Undecided cause ≡ Undecided Scale → cause ≡ Scale
     inside e = cc
-of_end p t m cause (Pivots k) a = subst (IsCauseOf m) (sym (inside a)) tt
+cause_of_run_end p t m cause (Pivots k) a = subst (IsCauseOf m) (sym (inside a)) tt
   where
     inside : Undecided cause ≡ Undecided (causes.Pivots k) → cause ≡ causes.Pivots k
     inside e = cc
-of_end p t m cause (Width k) a = subst (IsCauseOf m) (sym (inside a)) tt
+cause_of_run_end p t m cause (Width k) a = subst (IsCauseOf m) (sym (inside a)) tt
   where
     inside : Undecided cause ≡ Undecided (causes.Width k) → cause ≡ causes.Width k
     inside e = cc
 
-cause_is : (p : ProblemView) (budget : Option ℕ) (m : ℕ) (ts : List Terms) (cause : Cause) → CauseIsDue p budget ts cause → IsCauseOf m cause
-cause_is p budget m [] cause c = absurd c
-cause_is p budget m (t ∷ ts) cause (inl e) = of_end p t m cause e.end e.follows
-cause_is p budget m (t ∷ ts) cause (inr e) = cause_is p budget m ts cause e.1
+cause_of_due : (p : ProblemView) (budget : Option ℕ) (m : ℕ) (ts : List Terms) (cause : Cause) → CauseIsDue p budget ts cause → IsCauseOf m cause
+cause_of_due p budget m [] cause c = absurd c
+cause_of_due p budget m (t ∷ ts) cause (inl e) = cause_of_run_end p t m cause e.end e.follows
+cause_of_due p budget m (t ∷ ts) cause (inr e) = cause_of_due p budget m ts cause e.1
 
 -- ---- an answer to `prove`
 
-names_are : (q : BodyView) (r : RelationView) → q.verb ≡ Prove r → problem_names q ≡ q.names
-names_are q r e = ap (problem_names_by q.names) e
+names_of_prove : (q : BodyView) (r : RelationView) → q.verb ≡ Prove r → problem_names q ≡ q.names
+names_of_prove q r e = ap (problem_names_by q.names) e
 
 -- a question of a file has few names, also with those of its first region
 few_names : (q : BodyView) → IsQuestion q → (length (problem_names q).variables ≤ 8) × (length (problem_names q).rates ≤ 16)
@@ -144,17 +144,17 @@ printable_proof budget q r m (answers.No is_back point) k few a =
     let size : length point ≡ size_of (space_of (problem_names q)) = point_size q (targets (variables_of q) r) is_back point a.shows in
     let names = few_names q k in
     (omega (arith, size, pow_pos (variables_of q)), omega (arith, size, pow_mono {i = variables_of q} {j = 8} names.0, names.1))
-printable_proof budget q r m (answers.Undecided cause) k few a = cause_is a.poses.problem budget (length (problem_names q).rates) a.poses.rows cause a.due
+printable_proof budget q r m (answers.Undecided cause) k few a = cause_of_due a.poses.problem budget (length (problem_names q).rates) a.poses.rows cause a.due
 printable_proof budget q r m (answers.Region rows) k few a = absurd a.shows
 printable_proof budget q r m (answers.Contained parts proofs) k few a = absurd a.shows
 printable_proof budget q r m (answers.Open tried) k few a = absurd a.shows
 
 -- ---- an answer to `eliminate`
 
-rows_over : (v : NamesView) (rows : List (Mark × Terms)) → All (IsUpTo (size_of (space_of v))) (region_rows rows) → All (λ (row : Mark × Terms). IsRowOver v row.1) rows
-rows_over v [] a = All-nil (λ (row : Mark × Terms). IsRowOver v row.1)
-rows_over v (row ∷ rows) a = All-cons (λ (row : Mark × Terms). IsRowOver v row.1) row rows (row_over v row.1 (All-head (IsUpTo (size_of (space_of v))) row.1 (region_rows rows) a))
-    (rows_over v rows (All-tail (IsUpTo (size_of (space_of v))) row.1 (region_rows rows) a))
+region_rows_over : (v : NamesView) (rows : List (Mark × Terms)) → All (IsUpTo (size_of (space_of v))) (region_rows rows) → All (λ (row : Mark × Terms). IsRowOver v row.1) rows
+region_rows_over v [] a = All-nil (λ (row : Mark × Terms). IsRowOver v row.1)
+region_rows_over v (row ∷ rows) a = All-cons (λ (row : Mark × Terms). IsRowOver v row.1) row rows (row_over v row.1 (All-head (IsUpTo (size_of (space_of v))) row.1 (region_rows rows) a))
+    (region_rows_over v rows (All-tail (IsUpTo (size_of (space_of v))) row.1 (region_rows rows) a))
 
 -- a cause's rate is one of m
 abbrev IsCauseIn : ℕ → AnswerView → Type 0
@@ -172,15 +172,15 @@ printable_region budgets q rates m (answers.No is_back point) names within a = a
 printable_region budgets q rates m (answers.Undecided cause) names within a =
     subst (λ (v : NamesView). IsCauseOf (length v.rates) cause) (sym names) (subst (IsCauseIn (length q.names.rates)) (sym a.due.is)
     (cause_of_end (length q.names.rates) rates a.due.end within (end_of_rates a.due.givens budgets.pivots budgets.rows a.due.rows [] rates a.due.end a.due.ends)))
-printable_region budgets q rates m (answers.Region rows) names within a = subst (λ (v : NamesView). All (λ (row : Mark × Terms). IsRowOver v row.1) rows.items) (sym names) (rows_over q.names rows.items a.shows.coordinates)
+printable_region budgets q rates m (answers.Region rows) names within a = subst (λ (v : NamesView). All (λ (row : Mark × Terms). IsRowOver v row.1) rows.items) (sym names) (region_rows_over q.names rows.items a.shows.coordinates)
 printable_region budgets q rates m (answers.Contained parts proofs) names within a = absurd a.shows
 printable_region budgets q rates m (answers.Open tried) names within a = absurd a.shows
 
 -- ---- an answer to `contain`
 
 -- the parts are as many as the names of auxiliary variables
-as_many : (q : BodyView) (a b : RegionView) (tries : List (List ℕ)) (parts : List ℕ) → q.verb ≡ Contain a b tries → IsRegionOf q.names b → ArePartsOf a b parts → length parts ≡ length (auxiliary_names q)
-as_many q a b tries parts is region are = are.count ∙ region.counted
+as_many_parts : (q : BodyView) (a b : RegionView) (tries : List (List ℕ)) (parts : List ℕ) → q.verb ≡ Contain a b tries → IsRegionOf q.names b → ArePartsOf a b parts → length parts ≡ length (auxiliary_names q)
+as_many_parts q a b tries parts is region are = are.count ∙ region.counted
     ∙ ap length (sym (ap (auxiliary_names_by q.names) is ∙ ap (drop (length q.names.variables)) region.variables ∙ drop-append_seam q.names.variables region.own))
 
 printable_containment : (budgets : Budgets) (plans : List Plan) (q : BodyView) (a b : RegionView) (tries : List (List ℕ)) (m : ℕ) (answer : Answer) (found : List Candidate) → q.verb ≡ Contain a b tries → IsQuestion q
@@ -190,7 +190,7 @@ printable_containment budgets plans q a b tries m (answers.No is_back point) fou
 printable_containment budgets plans q a b tries m (answers.Undecided cause) found is k few c = absurd c.shows
 printable_containment budgets plans q a b tries m (answers.Region rows) found is k few c = absurd c.shows
 printable_containment budgets plans q a b tries m (answers.Contained parts proofs) found is k few c = (
-  as_many q a b tries parts.items is (subst (IsVerbOver q.names) is k.verb).1 c.shows.are_parts,
+  as_many_parts q a b tries parts.items is (subst (IsVerbOver q.names) is k.verb).1 c.shows.are_parts,
   certificates q (variables_of q) m (obligations q a b parts.items) proofs.items refl few c.shows.certified,
 )
 printable_containment budgets plans q a b tries m (answers.Open tried) found is k few c = tt
@@ -209,8 +209,8 @@ right_is_printable budgets plans q m answer found k few right = by q.verb refl r
 -- ---- its texts
 
 -- the rates of the problem are the question's
-rates_are : (q : BodyView) → IsQuestion q → (problem_names q).rates ≡ q.names.rates
-rates_are q k = by q.verb k.verb
+rates_of_problem : (q : BodyView) → IsQuestion q → (problem_names q).rates ≡ q.names.rates
+rates_of_problem q k = by q.verb k.verb
   where
     by : (verb : VerbView) → IsVerbOver q.names verb → (problem_names_by q.names verb).rates ≡ q.names.rates
     by (Prove r) over = refl
@@ -224,21 +224,21 @@ printable_is_writable q m (answers.No back point) k ascii p = tt
 printable_is_writable q m (answers.Undecided (causes.Pivots steps)) k ascii p = tt
 printable_is_writable q m (answers.Undecided (causes.Width step)) k ascii p = tt
 printable_is_writable q m (answers.Undecided causes.Scale) k ascii p = tt
-printable_is_writable q m (answers.Undecided (causes.Rows r)) k ascii p = let within = subst (λ (rs : List (List ℕ)). r < length rs) (rates_are q.body k) p in (within, ascii.rates r [] within)
-printable_is_writable q m (answers.Undecided (causes.WideRate r)) k ascii p = let within = subst (λ (rs : List (List ℕ)). r < length rs) (rates_are q.body k) p in (within, ascii.rates r [] within)
+printable_is_writable q m (answers.Undecided (causes.Rows r)) k ascii p = let within = subst (λ (rs : List (List ℕ)). r < length rs) (rates_of_problem q.body k) p in (within, ascii.rates r [] within)
+printable_is_writable q m (answers.Undecided (causes.WideRate r)) k ascii p = let within = subst (λ (rs : List (List ℕ)). r < length rs) (rates_of_problem q.body k) p in (within, ascii.rates r [] within)
 printable_is_writable q m (answers.Region rows) k ascii p = tt
 printable_is_writable q m (answers.Contained parts proofs) k ascii p = tt
 printable_is_writable q m (answers.Open tried) k ascii p = tt
 
 -- the lines in each format
-pub text_is : (q : QuestionView) (k : ℕ) (s : Space) (cs : List Constraint) (answer : AnswerView) (bytes : List ℕ) → AreStated s (question_demands q.body) cs
-    → bytes ≡ answer_line k q.body (places_of cs) answer → bytes ≡ answer_lines Text k q answer
-text_is q k s cs answer bytes stated is = is ∙ ap (λ xs. answer_line k q.body xs answer) (places_same s (question_demands q.body) cs stated)
+pub text_by_places : (q : QuestionView) (k : ℕ) (s : Space) (cs : List Constraint) (answer : AnswerView) (bytes : List ℕ) → AreStated s (question_demands q.body) cs
+    → bytes ≡ answer_line k q.body (origins_of cs) answer → bytes ≡ answer_lines Text k q answer
+text_by_places q k s cs answer bytes stated is = is ∙ ap (λ xs. answer_line k q.body xs answer) (origins_same s (question_demands q.body) cs stated)
 
-pub proof_is : (q : QuestionView) (k : ℕ) (s : Space) (cs : List Constraint) (answer : AnswerView) (bytes : List ℕ) → s ≡ space_of (problem_names q.body) → AreStated s (question_demands q.body) cs
-    → bytes ≡ proof_text k q.body (places_of cs) (generator_rows (problem_names q.body) cs) (map (terms_in q.body) (answer_forms q.body answer)) answer → bytes ≡ answer_lines Proof k q answer
-proof_is q k s cs answer bytes space stated is = is ∙ ap₂ (λ xs rows. proof_text k q.body xs rows (map (terms_in q.body) (answer_forms q.body answer)) answer)
-    (places_same s (question_demands q.body) cs stated) (generators_told q.body cs (subst (λ (t : Space). AreStated t (question_demands q.body) cs) space stated))
+pub proof_by_places : (q : QuestionView) (k : ℕ) (s : Space) (cs : List Constraint) (answer : AnswerView) (bytes : List ℕ) → s ≡ space_of (problem_names q.body) → AreStated s (question_demands q.body) cs
+    → bytes ≡ proof_text k q.body (origins_of cs) (generator_rows (problem_names q.body) cs) (map (terms_in q.body) (answer_forms q.body answer)) answer → bytes ≡ answer_lines Proof k q answer
+proof_by_places q k s cs answer bytes space stated is = is ∙ ap₂ (λ xs rows. proof_text k q.body xs rows (map (terms_in q.body) (answer_forms q.body answer)) answer)
+    (origins_same s (question_demands q.body) cs stated) (generator_rows_are q.body cs (subst (λ (t : Space). AreStated t (question_demands q.body) cs) space stated))
 
 pub few_constraints : (q : BodyView) (s : Space) (cs : List Constraint) → AreStated s (question_demands q) cs → length cs ≡ length (question_demands q)
 few_constraints q s cs h = zip-length (λ (d : LineDemand) (c : Constraint). States s d.place d.demand c) (question_demands q) cs h

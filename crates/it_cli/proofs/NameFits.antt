@@ -1,6 +1,6 @@
 -- The rates of a question that a file asks are found by their names, and none is the text of a number.
 use Rattle.std.proofs.Common.{◌≡◌, inl, inr, ℕ, zero, suc, ◌+◌, ◌-◌, ◌*◌, ◌<◌, ◌≤◌, ◌==◌, ◌&&◌, nat_lt, nat_le, pos, Bool, true, false, cond, not, List, [], ◌∷◌, ◌++◌, take, drop, length, get_or, Option, Some, None, option_map, option_and_then, bytes_eq, refl, sym, ap, subst, ◌∙◌, arith, rules, append_assoc, append-nil, length-append}
-use Rattle.std.specs.Char.{is_ascii_alphabetic}
+use Rattle.std.specs.Char.{is_ascii_alphabetic, is_ascii_digit}
 use Rattle.std.specs.List.{AllByRecursion as Every, IsDistinct, position_or_len}
 use Rattle.std.proofs.lemmas.Bool.{ne_eqb}
 use Rattle.std.proofs.lemmas.Bool.Decides.{nat_tests}
@@ -13,7 +13,7 @@ use Rattle.it_syntax.specs.declared.types.Token.{Token}
 use Rattle.it_syntax.specs.declared.types.TokenKind.{TokenKind}
 use Rattle.it_syntax.specs.declared.types.TokenKind.TheVariants as kinds
 use Rattle.it_syntax.specs.declared.types.Symbol.TheVariants.{Comma}
-use Rattle.it_syntax.specs.Letters.{Letter, Word, Number, Sym, End, Bad, Marked, clean, clean_all}
+use Rattle.it_syntax.specs.Letters.{Letter, Word, Number, Sym, End, Bad, MarkedLetters, unmarked, unmarked_all}
 use Rattle.it_syntax.specs.Misspellings.{SpellsUntil}
 use Rattle.it_syntax.specs.NamesViews.{NamesView, index_of, IsNew}
 use Rattle.it_syntax.specs.Spans.{letter_of, letters_until, last_letter}
@@ -25,20 +25,23 @@ use Rattle.it_question.specs.Keywords.{vars_text, rates_text}
 use Rattle.it_question.specs.Lines.{TokenLine, AreLines, split_lines, letters_of_lines}
 use Rattle.it_question.specs.NewNames.{Sort, Variable, Rate, with_name, no_names, is_taken, new_mark, spell_new_more, spell_new_names, with_names, new_names_of, spell_names_line, names_line_of}
 use Rattle.it_question.specs.Questions.{QuestionView}
-use Rattle.it_question.specs.Texts.{text_of_lines, question_lines, with_texts}
+use Rattle.it_question.specs.Texts.{text_of_lines, question_line_count, with_texts}
 use Rattle.it_question.specs.WrittenLines.{limit_mark}
 use Rattle.it_question.specs.WrittenQuestions.{WrittenQuestion, most_questions, most_variables, most_rates}
 use Rattle.it_question.specs.WrittenFiles.{names_of, spell_question, question_of, questions_of, spell_file}
 use Rattle.it_question.proofs.NewNameLemmas.{new_of}
 use Rattle.it_certificate.specs.Fits.{IsFoundIn}
-use Rattle.it_certificate.specs.Numerals.{is_digit, value_from, up_to_limit, magnitude_of, minus, whole_of, count_of_whole, step_of}
-use Rattle.it_certificate.specs.Values.{rate_text}
+use Rattle.it_number.specs.Decimals.{value_from}
+use Rattle.it_certificate.specs.Numerals.{up_to_limit, magnitude_of, negative_of, integer_of, count_of_integer, step_of}
+use Rattle.it_certificate.specs.Values.{rate_name}
 
 -- ---- words begin with a letter
 
+-- a word begins with an alphabetic byte
 abbrev IsLettered : List ℕ → Type 0
 IsLettered w = StartsWith is_ascii_alphabetic w
 
+-- a letter that is a word begins with an alphabetic byte
 abbrev IsSound : Letter → Type 0
 IsSound (Word w) = IsLettered w
 IsSound (Number n) = Unit {0}
@@ -83,9 +86,9 @@ record AreGood (v : NamesView) : Type 0 where
   distinct : IsDistinct bytes_eq v.rates
   lettered : Every IsLettered v.rates
 
-nothing_good : AreGood no_names
+no_names_good : AreGood no_names
 unfolding IsDistinct
-nothing_good = record { distinct = tt; lettered = tt }
+no_names_good = record { distinct = tt; lettered = tt }
 
 good_name : (sort : Sort) (v : NamesView) (w : List ℕ) → AreGood v → IsNew v w → IsLettered w → AreGood (with_name sort v w)
 good_name Variable v w g new h = record { distinct = g.distinct; lettered = g.lettered }
@@ -94,19 +97,19 @@ good_name Rate v w g new h = record {
   lettered = every-append IsLettered v.rates (w ∷ []) g.lettered (h, tt);
 }
 
--- the first of some letters that nothing is said against, and those behind it
-record First (l : Letter) (mark : Option Code) (m : Marked) : Type 0 where
+-- the first of some letters that nothing is said against, and those after it
+record First (l : Letter) (mark : Option Code) (m : MarkedLetters) : Type 0 where
   more : List Letter
   sound : Every IsSound more
-  behind : m ≡ clean_all more
+  behind : m ≡ unmarked_all more
   here : IsSound l
   none : mark ≡ None
 
-first_of : (l : Letter) (mark : Option Code) (m : Marked) (ls : List Letter) → Every IsSound ls → (l, mark) ∷ m ≡ clean_all ls → First l mark m
+first_of : (l : Letter) (mark : Option Code) (m : MarkedLetters) (ls : List Letter) → Every IsSound ls → (l, mark) ∷ m ≡ unmarked_all ls → First l mark m
 first_of l mark m [] a e = absurd cc
 first_of l mark m (x ∷ ls) a e =
-    let first : (l, mark) ≡ clean x = cc in
-    let tails : m ≡ clean_all ls = cc in
+    let first : (l, mark) ≡ unmarked x = cc in
+    let tails : m ≡ unmarked_all ls = cc in
     record {
       more = ls;
       sound = a.1;
@@ -121,13 +124,13 @@ not_taken false true n e = absurd cc
 not_taken false false n e = refl
 
 -- the names with further ones, and the letters that follow
-record Grown (w : NamesView) (k : Marked) : Type 0 where
+record Grown (w : NamesView) (k : MarkedLetters) : Type 0 where
   good : AreGood w
   more : List Letter
   sound : Every IsSound more
-  behind : k ≡ clean_all more
+  behind : k ≡ unmarked_all more
 
-more_good : (sort : Sort) (n : ℕ) (v : NamesView) (ws : List (List ℕ)) (k : Marked) (ls : List Letter) → AreGood v → Every IsSound ls → spell_new_more sort n v ws k ≡ clean_all ls → Grown (with_names sort v ws) k
+more_good : (sort : Sort) (n : ℕ) (v : NamesView) (ws : List (List ℕ)) (k : MarkedLetters) (ls : List Letter) → AreGood v → Every IsSound ls → spell_new_more sort n v ws k ≡ unmarked_all ls → Grown (with_names sort v ws) k
 more_good sort n v [] k ls g a e = record { good = g; more = ls; sound = a; behind = e }
 more_good sort n v (w ∷ ws) k ls g a e =
     let rest = spell_new_more sort (n - 1) (with_name sort v w) ws k in
@@ -136,7 +139,7 @@ more_good sort n v (w ∷ ws) k ls g a e =
     let new = new_of v w (not_taken (is_measure w) (is_taken v w) n name.none) in
     more_good sort (n - 1) (with_name sort v w) ws k name.more (good_name sort v w g new name.here) name.sound name.behind
 
-new_good : (sort : Sort) (n : ℕ) (v : NamesView) (l : WrittenList) (k : Marked) (ls : List Letter) → AreGood v → Every IsSound ls → spell_new_names sort n v l k ≡ clean_all ls → Grown (new_names_of sort v l) k
+new_good : (sort : Sort) (n : ℕ) (v : NamesView) (l : WrittenList) (k : MarkedLetters) (ls : List Letter) → AreGood v → Every IsSound ls → spell_new_names sort n v l k ≡ unmarked_all ls → Grown (new_names_of sort v l) k
 new_good sort n v l k ls g a e =
     let w = l.first in
     let rest = spell_new_more sort (n - 1) (with_name sort v w) l.more k in
@@ -144,24 +147,24 @@ new_good sort n v l k ls g a e =
     let new = new_of v w (not_taken (is_measure w) (is_taken v w) n name.none) in
     more_good sort (n - 1) (with_name sort v w) l.more k name.more (good_name sort v w g new name.here) name.sound name.behind
 
-line_good : (sort : Sort) (n : ℕ) (keyword : List ℕ) (v : NamesView) (o : Option WrittenList) (k : Marked) (ls : List Letter) → AreGood v → Every IsSound ls → spell_names_line sort n keyword v o k ≡ clean_all ls
+line_good : (sort : Sort) (n : ℕ) (keyword : List ℕ) (v : NamesView) (o : Option WrittenList) (k : MarkedLetters) (ls : List Letter) → AreGood v → Every IsSound ls → spell_names_line sort n keyword v o k ≡ unmarked_all ls
     → AreGood (names_line_of sort v o)
 line_good sort n keyword v None k ls g a e = g
 line_good sort n keyword v (Some l) k ls g a e =
-    let word = first_of (Word keyword) None (spell_new_names sort n v l (clean End ∷ k)) ls a e in
-    (new_good sort n v l (clean End ∷ k) word.more g word.sound word.behind).good
+    let word = first_of (Word keyword) None (spell_new_names sort n v l (unmarked End ∷ k)) ls a e in
+    (new_good sort n v l (unmarked End ∷ k) word.more g word.sound word.behind).good
 
-question_good : (mark : Option Code) (x : WrittenQuestion) (k : Marked) (ls : List Letter) → Every IsSound ls → (Word vars_text, mark) ∷ spell_question x k ≡ clean_all ls → AreGood (names_of x)
+question_good : (mark : Option Code) (x : WrittenQuestion) (k : MarkedLetters) (ls : List Letter) → Every IsSound ls → (Word vars_text, mark) ∷ spell_question x k ≡ unmarked_all ls → AreGood (names_of x)
 question_good mark x k ls a e =
     let word = first_of (Word vars_text) mark (spell_question x k) ls a e in
-    let variables = new_good Variable most_variables no_names x.variables _ word.more nothing_good word.sound word.behind in
+    let variables = new_good Variable most_variables no_names x.variables _ word.more no_names_good word.sound word.behind in
     let end = first_of End None _ variables.more variables.sound variables.behind in
     line_good Rate most_rates rates_text (new_names_of Variable no_names x.variables) x.rates _ end.more variables.good end.sound end.behind
 
-read_good : (q : QuestionView) (lines : List TokenLine) (trees : List WrittenQuestion) → Every IsSound (letters_of_lines lines) → spell_file trees ≡ clean_all (letters_of_lines lines) → with_texts lines (questions_of trees) ≡ q ∷ [] → AreGood q.body.names
+read_good : (q : QuestionView) (lines : List TokenLine) (trees : List WrittenQuestion) → Every IsSound (letters_of_lines lines) → spell_file trees ≡ unmarked_all (letters_of_lines lines) → with_texts lines (questions_of trees) ≡ q ∷ [] → AreGood q.body.names
 read_good q lines [] a s e = absurd cc
 read_good q lines (x ∷ xs) a s e =
-    let p : QuestionView = record { body = question_of x; text = text_of_lines (take (question_lines (question_of x)) lines) } in
+    let p : QuestionView = record { body = question_of x; text = text_of_lines (take (question_line_count (question_of x)) lines) } in
     let first : p ≡ q = cc in
     subst (λ (y : QuestionView). AreGood y.body.names) first (question_good (limit_mark most_questions) x _ (letters_of_lines lines) a s)
 
@@ -196,10 +199,10 @@ found_at names r d h =
     let below : nat_lt r (length names) ≡ true = search (rules, h) in
     ap (λ i. cond (nat_lt i (length names)) (Some i) None) (place_is names r d h) ∙ ap (λ b. cond b (Some r) None) below
 
-no_digit : (c : ℕ) → is_ascii_alphabetic c ≡ true → (is_digit c ≡ false) × ((c == 45) ≡ false)
+no_digit : (c : ℕ) → is_ascii_alphabetic c ≡ true → (is_ascii_digit c ≡ false) × ((c == 45) ≡ false)
 no_digit c h = let high : 65 ≤ c = grind (arith, nat_tests) in (grind (arith, nat_tests), ne_eqb c 45 (λ e. omega (arith, e, high)))
 
-magnitude_none : (c : ℕ) (cs : List ℕ) → is_digit c ≡ false → magnitude_of (c ∷ cs) ≡ None
+magnitude_none : (c : ℕ) (cs : List ℕ) → is_ascii_digit c ≡ false → magnitude_of (c ∷ cs) ≡ None
 unfolding magnitude_of
 magnitude_none c cs e =
     let test = nat_le 1 (length (c ∷ cs)) && nat_le (length (c ∷ cs)) 39 in
@@ -210,15 +213,15 @@ magnitude_none c cs e =
     either false = refl
 
 no_number : (w : List ℕ) → IsLettered w → step_of w ≡ None
-unfolding step_of whole_of
+unfolding step_of integer_of
 no_number [] h = absurd h
 no_number (c ∷ cs) h =
     let n = no_digit c h in
-    ap (λ b. option_and_then count_of_whole (cond b (option_map minus (magnitude_of cs)) (option_map pos (magnitude_of (c ∷ cs))))) n.1
-    ∙ ap (λ o. option_and_then count_of_whole (option_map pos o)) (magnitude_none c cs n.0)
+    ap (λ b. option_and_then count_of_integer (cond b (option_map negative_of (magnitude_of cs)) (option_map pos (magnitude_of (c ∷ cs))))) n.1
+    ∙ ap (λ o. option_and_then count_of_integer (option_map pos o)) (magnitude_none c cs n.0)
 
 -- a rate of the question that a text asks
-pub rates_found : (q : QuestionView) (r : ℕ) → IsFile q.text (q ∷ []) → r < length q.body.names.rates → IsFoundIn q.body.names r × (step_of (rate_text q.body.names r) ≡ None)
+pub rates_found : (q : QuestionView) (r : ℕ) → IsFile q.text (q ∷ []) → r < length q.body.names.rates → IsFoundIn q.body.names r × (step_of (rate_name q.body.names r) ≡ None)
 rates_found q r f h =
     let g = read_good q f.lines f.trees (lines_sound 1 (split_lines q.text) f.lines f.cut) f.spelled f.are in
-    (found_at q.body.names.rates r g.distinct h, no_number (rate_text q.body.names r) (every_at IsLettered q.body.names.rates r g.lettered h))
+    (found_at q.body.names.rates r g.distinct h, no_number (rate_name q.body.names r) (every_at IsLettered q.body.names.rates r g.lettered h))

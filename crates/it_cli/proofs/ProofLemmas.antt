@@ -18,16 +18,16 @@ use Rattle.it_canon.specs.QuestionDemands.{problem_names, question_demands, spac
 use Rattle.it_canon.proofs.FormRows.{no_terms}
 use Rattle.it_print.specs.Lines.{IsRowOver}
 use Rattle.it_print.specs.ProofLines.{generator_rows}
-use Rattle.it_print.proofs.GeneratorRows.{generators_are, up_to}
+use Rattle.it_print.proofs.GeneratorRows.{generators_are, form_up_to}
 use Rattle.it_answer.specs.Forms.{all_demands, demand_of_elemental, demand_of_line}
-use Rattle.it_cli.specs.Right.{row_of_demand, rows_of, terms_in}
-use Rattle.it_cli.proofs.RowLemmas.{row_over}
+use Rattle.it_cli.specs.Right.{row_of_demand, question_generators, terms_in}
+use Rattle.it_print.proofs.RowLemmas.{row_over}
 
 -- a place of a list, through a function
-at_image : {Y Z : Type 0} (g : Y → Z) (ys : List Y) (z : Z) (y : Y) → z ≡ g y → (i : ℕ) → slice_index_or (map g ys) i z ≡ g (slice_index_or ys i y)
-at_image g [] z y e i = e
-at_image g (b ∷ ys) z y e zero = refl
-at_image g (b ∷ ys) z y e (suc i) = at_image g ys z y e i
+item_of_map : {Y Z : Type 0} (g : Y → Z) (ys : List Y) (z : Z) (y : Y) → z ≡ g y → (i : ℕ) → slice_index_or (map g ys) i z ≡ g (slice_index_or ys i y)
+item_of_map g [] z y e i = e
+item_of_map g (b ∷ ys) z y e zero = refl
+item_of_map g (b ∷ ys) z y e (suc i) = item_of_map g ys z y e i
 
 generators_are_demands : (q : BodyView) (cs : List Constraint) → AreStated (space_of (problem_names q)) (question_demands q) cs
     → generator_list (variables_of q) cs ≡ map (row_of_demand q) (all_demands (variables_of q) (question_demands q))
@@ -36,9 +36,9 @@ generators_are_demands q cs stated = generators_are (space_of (problem_names q))
     ∙ ap₂ (λ (xs ys : List Generator). xs ++ ys) (sym (map-map (row_of_demand q) (demand_of_elemental (variables_of q)) (elementals (variables_of q)))) (sym (map-map (row_of_demand q) demand_of_line (question_demands q)))
     ∙ sym (map-append (row_of_demand q) (map (demand_of_elemental (variables_of q)) (elementals (variables_of q))) (map demand_of_line (question_demands q)))
 
-pub generators_told : (q : BodyView) (cs : List Constraint) → AreStated (space_of (problem_names q)) (question_demands q) cs → generator_rows (problem_names q) cs ≡ rows_of q
-generators_told q cs stated = fun_ext (λ g. ap (λ (gs : List Generator). generator_at gs g) (generators_are_demands q cs stated)
-    ∙ at_image (row_of_demand q) (all_demands (variables_of q) (question_demands q)) _ _ (ap (λ (t : Terms). let x : Generator = record { kind = Inequality; row = t } in x) (sym (no_terms (size_of (space_of (problem_names q)))))) g)
+pub generator_rows_are : (q : BodyView) (cs : List Constraint) → AreStated (space_of (problem_names q)) (question_demands q) cs → generator_rows (problem_names q) cs ≡ question_generators q
+generator_rows_are q cs stated = fun_ext (λ g. ap (λ (gs : List Generator). generator_at gs g) (generators_are_demands q cs stated)
+    ∙ item_of_map (row_of_demand q) (all_demands (variables_of q) (question_demands q)) _ _ (ap (λ (t : Terms). let x : Generator = record { kind = Inequality; row = t } in x) (sym (no_terms (size_of (space_of (problem_names q)))))) g)
 
 -- the rows of the constraints, and those of which an answer has certificates, are over the question's coordinates
 stated_over : (q : BodyView) (ds : List LineDemand) (cs : List Constraint) → AreStated (space_of (problem_names q)) ds cs → All (λ (c : Constraint). IsRowOver (problem_names q) c.row) cs
@@ -52,7 +52,7 @@ constraints_over q s cs e a = stated_over q (question_demands q) cs (subst (λ (
 
 terms_over : (q : BodyView) (forms : List Form) → All (IsRowOver (problem_names q)) (map (terms_in q) forms)
 terms_over q [] = All-nil (IsRowOver (problem_names q))
-terms_over q (f ∷ fs) = All-cons (IsRowOver (problem_names q)) (terms_in q f) (map (terms_in q) fs) (row_over (problem_names q) (terms_in q f) (up_to (size_of (space_of (problem_names q))) f)) (terms_over q fs)
+terms_over q (f ∷ fs) = All-cons (IsRowOver (problem_names q)) (terms_in q f) (map (terms_in q) fs) (row_over (problem_names q) (terms_in q f) (form_up_to (size_of (space_of (problem_names q))) f)) (terms_over q fs)
 
 pub targets_over : (q : BodyView) (forms : List Form) (rows : List Terms) → rows ≡ map (terms_in q) forms → All (IsRowOver (problem_names q)) rows
 targets_over q forms rows e = subst (All (IsRowOver (problem_names q))) (sym e) (terms_over q forms)

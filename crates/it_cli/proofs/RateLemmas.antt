@@ -2,7 +2,7 @@
 use Rattle.std.proofs.Common.{◌≡◌, ℕ, inl, inr, List, [], ◌∷◌, Option, refl, sym, subst}
 use Rattle.it_space.specs.Problems.{ProblemView}
 use Rattle.it_space.specs.Rows.{Terms}
-use Rattle.it_eliminate.specs.Elimination.{Member, EliminatedView, Ends}
+use Rattle.it_eliminate.specs.Elimination.{Member, EliminatedView, EliminationEnds}
 use Rattle.it_eliminate.specs.Elimination as elimination
 use Rattle.it_redundant.specs.Reduction.{NeedView, kept_rows}
 use Rattle.it_redundant.specs.ReducedElimination.{ProjectedView, Region, Rows, Wide, ReducedEnds}
@@ -13,7 +13,7 @@ IsStepOf r (elimination.Region rows) = Unit {0}
 IsStepOf r (elimination.Rows rate) = rate ≡ r
 IsStepOf r (elimination.Wide rate) = rate ≡ r
 
-step_of_rate : (base most : ℕ) (rows : List Terms) (r : ℕ) (step : EliminatedView) → Ends base most rows (r ∷ []) step → IsStepOf r step
+step_of_rate : (base most : ℕ) (rows : List Terms) (r : ℕ) (step : EliminatedView) → EliminationEnds base most rows (r ∷ []) step → IsStepOf r step
 step_of_rate base most rows r step (inl e) = subst (IsStepOf r) (sym e.1) refl
 step_of_rate base most rows r step (inr (inl e)) = subst (IsStepOf r) (sym e.2) refl
 step_of_rate base most rows r step (inr (inr e)) = subst (IsStepOf r) (sym e.2) tt

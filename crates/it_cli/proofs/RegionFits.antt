@@ -22,7 +22,7 @@ use Rattle.it_polymatroid.specs.Certificates.{Form}
 use Rattle.it_question.specs.Questions.{BodyView}
 use Rattle.it_question.specs.Limits.{IsQuestion}
 use Rattle.it_canon.specs.QuestionDemands.{space_of, AreRowsOf}
-use Rattle.it_eliminate.specs.Elimination.{Member, Ends, PairsFit, with_row, with_rows, in_order, results, next_list}
+use Rattle.it_eliminate.specs.Elimination.{Member, EliminationEnds, PairsFit, with_row, with_lowest_rows, ordered_rows, results, next_list}
 use Rattle.it_eliminate.specs.Elimination as elimination
 use Rattle.it_eliminate.proofs.MemberLemmas.{every_member, member_every}
 use Rattle.it_eliminate.proofs.OrderLemmas.{every-with_row}
@@ -33,7 +33,7 @@ use Rattle.it_redundant.specs.ReducedElimination as reduced
 use Rattle.it_redundant.proofs.ReductionLemmas.{every_kept}
 use Rattle.it_answer.specs.declared.types.Budgets.{Budgets}
 use Rattle.it_answer.specs.RightRegions.{region_rows, marked_rows, answer_of_end, IsRightElimination}
-use Rattle.it_certificate.specs.Fits.{IsPair, IsRowIn}
+use Rattle.it_certificate.specs.Fits.{IsNumberedAmount, IsRowIn}
 
 -- ---- cancelled rows
 
@@ -84,7 +84,7 @@ unfolding lowest_terms
 lowest_canonical [] h = tt
 lowest_canonical (t ∷ ts) h = divided_all (t ∷ ts) h (content_pos 0 0 t ts h)
 
-with_rows_canonical : (before rows : List Terms) → Every IsCanonical before → Every IsCanonical rows → Every IsCanonical (with_rows before rows)
+with_rows_canonical : (before rows : List Terms) → Every IsCanonical before → Every IsCanonical rows → Every IsCanonical (with_lowest_rows before rows)
 with_rows_canonical before [] h k = h
 with_rows_canonical before (row ∷ rows) h k = with_rows_canonical (with_row before (lowest_terms row)) rows (every-with_row IsCanonical before (lowest_terms row) (lowest_canonical row k.0) h) k.1
 
@@ -97,7 +97,7 @@ list_same : (xs ys : List Terms) → elimination.Region xs ≡ elimination.Regio
 list_same xs ys e = cc
 
 -- the list that the step of a rate leaves
-step_canonical : (base most : ℕ) (rows : List Terms) (r : ℕ) (next : List Terms) → Every IsCanonical rows → Ends base most rows (r ∷ []) (elimination.Region next) → Every IsCanonical next
+step_canonical : (base most : ℕ) (rows : List Terms) (r : ℕ) (next : List Terms) → Every IsCanonical rows → EliminationEnds base most rows (r ∷ []) (elimination.Region next) → Every IsCanonical next
 step_canonical base most rows r next h (inl e) = let f = e.1 in absurd (cc)
 step_canonical base most rows r next h (inr (inl e)) = let f = e.2 in absurd (cc)
 step_canonical base most rows r next h (inr (inr e)) = subst (Every IsCanonical) (sym (list_same next (next_list (base + r) rows) e.2)) (next_canonical (base + r) rows h e.0)
@@ -112,7 +112,7 @@ module _ (givens : ProblemView) (budget : Option ℕ) (most : ℕ) where
   kept_canonical rows last kept [] h l is = subst (λ (ks : List (Terms × NeedView)). Every IsCanonical (kept_rows ks)) (sym (kept_same kept last is)) l
   kept_canonical rows last kept (r ∷ rates) h l (elimination.Region next, e, g) =
       let stay : Every IsCanonical (kept_rows g.0) =
-      every_kept givens budget IsCanonical [] next g.0 g.1 g.2 (step_canonical (2 ^ givens.space.variables) most (in_order rows) r next (with_rows_canonical [] rows tt h) e) in
+      every_kept givens budget IsCanonical [] next g.0 g.1 g.2 (step_canonical (2 ^ givens.space.variables) most (ordered_rows rows) r next (with_rows_canonical [] rows tt h) e) in
       kept_canonical (kept_rows g.0) g.0 kept rates stay stay g.3
   kept_canonical rows last kept (r ∷ rates) h l (elimination.Rows rate, e, is) = absurd (cc)
   kept_canonical rows last kept (r ∷ rates) h l (elimination.Wide rate, e, is) = absurd (cc)
@@ -142,11 +142,11 @@ rows_canonical budgets q rates rows right = by right.due.end right.due.ends righ
     by (reduced.Rows r) e is = absurd (cc)
     by (reduced.Wide r) e is = absurd (cc)
 
-pairs_of_row : (size from : ℕ) (ts : Terms) → size < 2 ^ 32 → Ascends from ts → IsUpTo size ts → All IsPair ts
-pairs_of_row size from [] few a up = All-nil IsPair
+pairs_of_row : (size from : ℕ) (ts : Terms) → size < 2 ^ 32 → Ascends from ts → IsUpTo size ts → All IsNumberedAmount ts
+pairs_of_row size from [] few a up = All-nil IsNumberedAmount
 pairs_of_row size from (t ∷ ts) few a up =
     let h = All-head (λ (u : ℕ × ℤ). (1 ≤ u.0) × (u.0 ≤ size)) t ts up in
-    All-cons IsPair t ts (omega (arith, h.1, few), a.2) (pairs_of_row size (t.0 + 1) ts few a.3 (All-tail (λ (u : ℕ × ℤ). (1 ≤ u.0) × (u.0 ≤ size)) t ts up))
+    All-cons IsNumberedAmount t ts (omega (arith, h.1, few), a.2) (pairs_of_row size (t.0 + 1) ts few a.3 (All-tail (λ (u : ℕ × ℤ). (1 ≤ u.0) × (u.0 ≤ size)) t ts up))
 
 rows_fit : (size : ℕ) (rows : List (Mark × Terms)) → size < 2 ^ 32 → All (IsUpTo size) (region_rows rows) → Every IsCanonical (region_rows rows) → All (IsRowIn size) rows
 rows_fit size [] few up canonical = All-nil (IsRowIn size)

@@ -3,16 +3,16 @@ use Rattle.std.proofs.Common.{◌≡◌, inl, inr, ℕ, zero, suc, ◌+◌, ◌-
 use Rattle.std.proofs.lemmas.List.{length-map}
 use Rattle.std.proofs.lemmas.List.Elements.{All-nil, All-cons}
 use Rattle.it_syntax.specs.declared.types.Misspelling.{Misspelling}
-use Rattle.it_syntax.specs.Letters.{clean, letters, clean_all}
+use Rattle.it_syntax.specs.Letters.{unmarked, letters, unmarked_all}
 use Rattle.it_question.specs.Files.{IsFile}
 use Rattle.it_question.specs.Lines.{TokenLine, AreLines, split_lines, in_front, without_return, before_comment, without_tab, plain_text, file_end, letters_of_lines}
 use Rattle.it_question.specs.Questions.{QuestionView}
-use Rattle.it_question.specs.Texts.{without_leading, unless_blank, without_trailing, trimmed_line, text_of_lines, question_lines, with_texts}
+use Rattle.it_question.specs.Texts.{without_leading, unless_blank, without_trailing, trimmed_line, text_of_lines, question_line_count, with_texts}
 use Rattle.it_question.specs.WrittenLines.{limit_mark}
 use Rattle.it_question.specs.WrittenQuestions.{WrittenQuestion, most_questions}
 use Rattle.it_question.specs.WrittenFiles.{question_of, spell_questions, questions_of}
 use Rattle.it_question.proofs.CleanLetters.{clean_parts}
-use Rattle.it_question.proofs.LineParts.{AreWhole, AreSound, lines_sound, parted}
+use Rattle.it_question.proofs.LineParts.{AreWhole, AreSound, lines_sound, letters_of_first_lines}
 use Rattle.it_question.proofs.LinePuts.{question_puts}
 
 -- ---- lines get no longer
@@ -87,6 +87,7 @@ abbrev given_by : Option Misspelling → ℕ → ℕ
 given_by None n = n
 given_by (Some m) n = 0
 
+-- what lines give to a text
 abbrev given_all : List TokenLine → ℕ
 given_all [] = 0
 given_all (l ∷ lines) = given_by l.misspelling (length (trimmed_line l.text) + 1) + given_all lines
@@ -121,24 +122,25 @@ taken_given (suc i) (l ∷ lines) = let k = taken_given i lines in omega (arith,
 
 -- ---- files
 
+-- a question's text has at most so many bytes
 abbrev IsShortBy : ℕ → QuestionView → Type 0
 IsShortBy most q = length q.text ≤ most
 
-all_short : (most n : ℕ) (xs : List WrittenQuestion) (lines : List TokenLine) → spell_questions n xs (clean file_end ∷ []) ≡ clean_all (letters_of_lines lines) → AreSound lines → given_all lines ≤ most
+all_short : (most n : ℕ) (xs : List WrittenQuestion) (lines : List TokenLine) → spell_questions n xs (unmarked file_end ∷ []) ≡ unmarked_all (letters_of_lines lines) → AreSound lines → given_all lines ≤ most
     → All (IsShortBy most) (with_texts lines (questions_of xs))
 all_short most n [] lines e s h = All-nil (IsShortBy most)
 all_short most n (x ∷ xs) lines e s h =
-    let i = question_lines (question_of x) in
-    let k = spell_questions (n - 1) xs (clean file_end ∷ []) in
+    let i = question_line_count (question_of x) in
+    let k = spell_questions (n - 1) xs (unmarked file_end ∷ []) in
     let p = question_puts (limit_mark n) x in
     let c = clean_parts p.front k (letters_of_lines lines) (sym (p.is k) ∙ e) in
-    let d = parted i lines (letters p.front) (letters k) p.kind c.all s in
+    let d = letters_of_first_lines i lines (letters p.front) (letters k) p.kind c.all s in
     let q : QuestionView = record { body = question_of x; text = text_of_lines (take i lines) } in
     let sum = taken_given i lines in
     let text = whole_text (take i lines) d.whole in
     let short : IsShortBy most q = omega (arith, sum, text, h) in
     All-cons (IsShortBy most) q (with_texts (drop i lines) (questions_of xs)) short
-    (all_short most (n - 1) xs (drop i lines) (c.behind ∙ ap clean_all (sym d.behind)) d.sound (omega (arith, sum, h)))
+    (all_short most (n - 1) xs (drop i lines) (c.behind ∙ ap unmarked_all (sym d.behind)) d.sound (omega (arith, sum, h)))
 
 pub texts_are_short : (bytes : List ℕ) (qs : List QuestionView) → IsFile bytes qs → All (λ q. length q.text ≤ length bytes + 1) qs
 texts_are_short bytes qs f =

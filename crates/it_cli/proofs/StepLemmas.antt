@@ -13,12 +13,12 @@ use Rattle.it_contain.specs.Proposals.{Plan}
 use Rattle.it_answer.specs.declared.types.Budgets.{Budgets}
 use Rattle.it_answer.specs.RightAnswers.{CauseIsDue, IsRightAnswerBy}
 use Rattle.it_answer.specs.RightRegions.{answer_of_end}
-use Rattle.it_cli.specs.Laws.{NeverOutOfSteps}
+use Rattle.it_cli.specs.Laws.{NoLineIsOutOfSteps}
 
-not_of_end : (steps : ℕ) (end : ProjectedView) → Undecided (causes.Pivots steps) ≡ answer_of_end end → ⊥
-not_of_end steps (reduced.Region kept) e = cc
-not_of_end steps (reduced.Rows rate) e = cc
-not_of_end steps (reduced.Wide rate) e = cc
+no_steps_at_region_end : (steps : ℕ) (end : ProjectedView) → Undecided (causes.Pivots steps) ≡ answer_of_end end → ⊥
+no_steps_at_region_end steps (reduced.Region kept) e = cc
+no_steps_at_region_end steps (reduced.Rows rate) e = cc
+no_steps_at_region_end steps (reduced.Wide rate) e = cc
 
 module _ (never : proofs.NeverOutOfSteps) where
   no_cause : (p : ProblemView) (steps : ℕ) (ts : List Terms) → CauseIsDue p None ts (causes.Pivots steps) → ⊥
@@ -30,8 +30,8 @@ module _ (never : proofs.NeverOutOfSteps) where
       → IsRightAnswerBy budgets plans q verb (record { answer = Undecided (causes.Pivots steps); found = found }) → ⊥
   by_verb budgets plans q (Prove r) steps found none right =
       no_cause right.0.poses.problem steps right.0.poses.rows (subst (λ (o : Option ℕ). CauseIsDue right.0.poses.problem o right.0.poses.rows (causes.Pivots steps)) none right.0.due)
-  by_verb budgets plans q (Eliminate rates) steps found none right = not_of_end steps right.0.due.end right.0.due.is
+  by_verb budgets plans q (Eliminate rates) steps found none right = no_steps_at_region_end steps right.0.due.end right.0.due.is
   by_verb budgets plans q (Contain a b tries) steps found none right = absurd right.shows
 
-  pub never_out_of_steps : NeverOutOfSteps
+  pub never_out_of_steps : NoLineIsOutOfSteps
   never_out_of_steps budgets plans q steps found none right = by_verb budgets plans q q.verb steps found none right

@@ -11,6 +11,7 @@ use Rattle.it_cli.specs.Questions.{IsQuestionFile}
 use Rattle.it_cli.specs.Right.{Context, IsRightAfter, after_answer}
 use Rattle.it_cli.specs.declared.counts.Counts.{Counts}
 
+-- no answer is counted yet
 abbrev pub no_counts : Counts
 no_counts = record { yes = 0; no = 0; undecided = 0; regions = 0; contained = 0; left_open = 0 }
 
@@ -23,15 +24,17 @@ with_answer c (Region rows) = record c { regions = c.regions + 1 }
 with_answer c (Contained parts proofs) = record c { contained = c.contained + 1 }
 with_answer c (Open tried) = record c { left_open = c.left_open + 1 }
 
+-- how many answers are counted
 abbrev pub total : Counts → ℕ
 total c = c.yes + c.no + c.undecided + c.regions + c.contained + c.left_open
 
--- the counts of one right answer for each question in order, behind the counts before
+-- the counts before, and one right answer more for each question in order, come to this
 abbrev pub AreCounted : Budgets → List Plan → Context → Counts → List QuestionView → Counts → Type 0
 AreCounted budgets plans before counts [] end = end ≡ counts
 AreCounted budgets plans before counts (q ∷ qs) end =
     (reply : Reply) × IsRightAfter budgets plans before q reply × AreCounted budgets plans (after_answer before q reply) (with_answer counts reply.answer) qs end
 
+-- the line that tells the counts
 unfoldable pub bench_line : ℕ → ℕ → Counts → List ℕ
 bench_line seed count c = codes "bench seed " ++ decimal seed ++ codes " count " ++ decimal count
     ++ codes " yes " ++ decimal c.yes ++ codes " no " ++ decimal c.no ++ codes " undecided " ++ decimal c.undecided

@@ -1,4 +1,4 @@
--- How the calls inside a run end, by which the run's end is proved. No public clause cites this module.
+-- How the calls inside the top call end, by which its end is proved. No public clause cites this module.
 use Rattle.std.specs.Prelude.{◌≡◌, ℕ, List, [], ◌⊎◌, map, Option}
 use Rattle.it_outside.specs.Causes.{Rose}
 use Rattle.it_outside.specs.Traffic.{Gains, TookFront}
@@ -11,7 +11,7 @@ use Rattle.it_contain.specs.Proposals.{Plan, plan_after_all}
 use Rattle.it_answer.specs.declared.types.Budgets.{Budgets}
 use Rattle.it_answer.specs.Replies.{Reply}
 use Rattle.it_answer.specs.RightAnswers.{IsRightAnswer}
-use Rattle.it_cli.specs.Right.{AreAnswered, AnsweredInPart, answer_text_of}
+use Rattle.it_cli.specs.Right.{AreAnswered, AreAnsweredInPart, answer_text_of}
 use Rattle.it_cli.specs.Outputs.{IsAnswerMode, IsOutput, IsOutputInPart}
 use Rattle.it_cli.specs.Refusals.{fault_line}
 use Rattle.it_cli.specs.declared.status.Status.{Status}
@@ -36,7 +36,7 @@ pub record IsAnswerText (budgets : Budgets) (plans : List Plan) (format : Format
 -- some of the answers stand in the sink
 pub record AnswersInPart (budgets : Budgets) (plans : List Plan) (format : Format) (old new : Option (List ℕ)) (qs : List QuestionView) : Type 0 where
   pub out : List ℕ
-  pub answered : AnsweredInPart budgets plans format qs out
+  pub answered : AreAnsweredInPart budgets plans format qs out
   pub wrote : Gains old new out
 
 -- all of them do
@@ -56,12 +56,13 @@ EndOfAnswers budgets plans format old new before now qs _ = ⊥
 abbrev pub IsRefusal : List ℕ → List ℕ → Type 0
 IsRefusal bytes text = (line : ℕ) × (column : ℕ) × (code : Code) × FileFaultAt bytes line column code × (text ≡ fault_line line column code)
 
--- an output of a mode stands in the sink, whole or in part
+-- a whole output of a mode stands in the sink
 pub record WroteOutput (plans : List Plan) (old new : Option (List ℕ)) (settings : Settings) (bytes : List ℕ) (status : Status) : Type 0 where
   pub out : List ℕ
   pub output : IsOutput plans settings bytes out status
   pub wrote : Gains old new out
 
+-- a part of an output of a mode stands in the sink
 pub record WroteInPart (plans : List Plan) (old new : Option (List ℕ)) (settings : Settings) (bytes : List ℕ) : Type 0 where
   pub out : List ℕ
   pub output : IsOutputInPart plans settings bytes out

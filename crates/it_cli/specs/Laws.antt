@@ -1,4 +1,4 @@
--- What follows from how a run ends and from what a right answer is.
+-- What follows from how a call ends and from what a right answer is.
 use Rattle.std.specs.Prelude.{◌≡◌, ℕ, ◌+◌, ℤ, ◌≤◌, ◌<◌, List, [], ◌++◌, length, Bool, ◌⊎◌, Option, Some, None}
 use Rattle.it_outside.specs.Causes.{Rose}
 use Rattle.it_settings.specs.declared.types.Format.{Format}
@@ -25,7 +25,7 @@ use Rattle.it_cli.specs.Ends.{Call, Ends, IsReading, HasNone, IsUntouched, Wrote
 use Rattle.it_cli.specs.declared.status.Status.{Status}
 use Rattle.it_cli.specs.declared.status.Status.TheVariants.{Done, Invalid, Usage, Refused, ReadFault, WriteFault, Memory}
 
--- ---- what a run that is done has written
+-- ---- what a call that is done has written
 
 -- The headline: where source and sink tell their bytes, in mode `answer` the sink gained right answers for all that the source gave.
 abbrev pub Headline : Type 0
@@ -105,6 +105,6 @@ OneOutput = (plans : List Plan) (settings : Settings) (bytes out other : List �
     → (out ≡ other) × (s ≡ t)
 
 -- without a budget of steps `undecided pivots` is never right
-abbrev pub NeverOutOfSteps : Type 0
-NeverOutOfSteps = (budgets : Budgets) (plans : List Plan) (q : BodyView) (steps : ℕ) (found : List Candidate) → budgets.pivots ≡ None
+abbrev pub NoLineIsOutOfSteps : Type 0
+NoLineIsOutOfSteps = (budgets : Budgets) (plans : List Plan) (q : BodyView) (steps : ℕ) (found : List Candidate) → budgets.pivots ≡ None
     → IsRightAnswer budgets plans q (record { answer = Undecided (Pivots steps); found = found }) → ⊥

@@ -10,7 +10,7 @@ use Rattle.it_contain.specs.Proposals.{Plan}
 use Rattle.it_report.specs.Judging.{IsVerdict}
 use Rattle.it_report.specs.LineVerdicts.{LineVerdict, is_invalid, verdict_line}
 use Rattle.it_cli.specs.Questions.{IsQuestionFile}
-use Rattle.it_cli.specs.Right.{AnsweredInPart, Answers, budgets_of}
+use Rattle.it_cli.specs.Right.{AreAnsweredInPart, Answers, budgets_of}
 use Rattle.it_cli.specs.Counts.{IsBenchLine}
 use Rattle.it_cli.specs.declared.status.Status.{Status}
 use Rattle.it_cli.specs.declared.status.Status.TheVariants.{Done, Invalid}
@@ -37,6 +37,7 @@ IsVerdictAfter before line v = IsVerdict line v
 abbrev pub after_verdict : Bool → List ℕ → LineVerdict → Bool
 after_verdict before line v = before || is_invalid v
 
+-- the line of verdict k
 abbrev pub verdict_text_of : ℕ → List ℕ → LineVerdict → List ℕ
 verdict_text_of k line v = verdict_line k v
 
@@ -44,6 +45,7 @@ verdict_text_of k line v = verdict_line k v
 abbrev pub Verdicts : List ℕ → Bool → List ℕ → Type 0
 Verdicts bytes some_invalid out = Groups IsVerdictAfter after_verdict verdict_text_of 1 false (split_lines bytes) some_invalid out
 
+-- the status after all verdicts are written
 abbrev pub verdict_status : Bool → Status
 verdict_status true = Invalid
 verdict_status false = Done
@@ -60,8 +62,8 @@ IsOutput plans (Bench seed count pivots rows tries) bytes out status = IsBenchLi
 abbrev pub IsFrontOfOutput : List Plan → Settings → List ℕ → List ℕ → Type 0
 IsFrontOfOutput plans settings bytes out = (whole : List ℕ) × (status : Status) × IsOutput plans settings bytes whole status × IsFront out whole
 
--- what is written of it where a run is cut off: the first groups, and then a front of the next one; in the other modes a front of it
+-- what is written of it where a call is cut off: the first groups, and then a front of the next one; in the other modes a front of it
 abbrev pub IsOutputInPart : List Plan → Settings → List ℕ → List ℕ → Type 0
-IsOutputInPart plans (Answer format pivots rows tries) bytes out = (qs : List QuestionView) × IsQuestionFile bytes qs × AnsweredInPart (budgets_of pivots rows tries) plans format qs out
+IsOutputInPart plans (Answer format pivots rows tries) bytes out = (qs : List QuestionView) × IsQuestionFile bytes qs × AreAnsweredInPart (budgets_of pivots rows tries) plans format qs out
 IsOutputInPart plans Check bytes out = IsFrontOfOutput plans Check bytes out
 IsOutputInPart plans (Bench seed count pivots rows tries) bytes out = IsFrontOfOutput plans (Bench seed count pivots rows tries) bytes out

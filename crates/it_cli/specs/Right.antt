@@ -12,7 +12,7 @@ use Rattle.it_elemental.specs.Generators.{Generator}
 use Rattle.it_question.specs.Questions.{BodyView, QuestionView}
 use Rattle.it_canon.specs.Demands.{Demand}
 use Rattle.it_canon.specs.QuestionDemands.{problem_names, question_demands, space_of, variables_of}
-use Rattle.it_canon.specs.RowsOfForms.{terms_of}
+use Rattle.it_canon.specs.RowsOfForms.{terms_of_form}
 use Rattle.it_region.specs.declared.types.Candidate.{Candidate}
 use Rattle.it_contain.specs.Proposals.{Plan, plan_after_all}
 use Rattle.it_certificate.specs.Values.{answer_text}
@@ -37,6 +37,7 @@ Context = List Candidate
 abbrev pub IsRightAfter : Budgets → List Plan → Context → QuestionView → Reply → Type 0
 IsRightAfter budgets plans before q reply = IsRightAnswer budgets (map (plan_after_all before) plans) q.body reply
 
+-- what later answers rest on once this one is given
 abbrev pub after_answer : Context → QuestionView → Reply → Context
 after_answer before q reply = before ++ reply.found
 
@@ -48,15 +49,15 @@ places q = map (λ d. d.place) (question_demands q)
 
 -- a form's terms over the coordinates of the question
 abbrev pub terms_in : BodyView → Form → Terms
-terms_in q form = terms_of (size_of (space_of (problem_names q))) form
+terms_in q form = terms_of_form (size_of (space_of (problem_names q))) form
 
 -- what a demand says, as a row
 abbrev pub row_of_demand : BodyView → Demand → Generator
 row_of_demand q d = record { kind = d.kind; row = terms_in q d.form }
 
 -- the rows of a question's generators, by number
-abbrev pub rows_of : BodyView → ℕ → Generator
-rows_of q g = row_of_demand q (demand_at (all_demands (variables_of q) (question_demands q)) g)
+abbrev pub question_generators : BodyView → ℕ → Generator
+question_generators q g = row_of_demand q (demand_at (all_demands (variables_of q) (question_demands q)) g)
 
 -- the line of an answer in the format `json`
 abbrev pub json_line : QuestionView → AnswerView → List ℕ
@@ -66,8 +67,9 @@ json_line q a = answer_text q.text q.body.names a ++ codes "\n"
 abbrev pub answer_lines : Format → ℕ → QuestionView → AnswerView → List ℕ
 answer_lines Text k q a = answer_line k q.body (places q.body) a
 answer_lines Json k q a = json_line q a
-answer_lines Proof k q a = proof_text k q.body (places q.body) (rows_of q.body) (map (terms_in q.body) (answer_forms q.body a)) a
+answer_lines Proof k q a = proof_text k q.body (places q.body) (question_generators q.body) (map (terms_in q.body) (answer_forms q.body a)) a
 
+-- the lines of a reply to question k
 abbrev pub answer_text_of : Format → ℕ → QuestionView → Reply → List ℕ
 answer_text_of format k q reply = answer_lines format k q reply.answer
 
@@ -78,8 +80,8 @@ abbrev pub AreAnswered : Budgets → List Plan → Format → List QuestionView 
 AreAnswered budgets plans format qs out = (found : Context) × Groups (IsRightAfter budgets plans) after_answer (answer_text_of format) 1 [] qs found out
 
 -- right answers to the first questions, and then a front of the lines of a right answer to the next
-abbrev pub AnsweredInPart : Budgets → List Plan → Format → List QuestionView → List ℕ → Type 0
-AnsweredInPart budgets plans format qs out = GroupsInPart (IsRightAfter budgets plans) after_answer (answer_text_of format) 1 [] qs out
+abbrev pub AreAnsweredInPart : Budgets → List Plan → Format → List QuestionView → List ℕ → Type 0
+AreAnsweredInPart budgets plans format qs out = GroupsInPart (IsRightAfter budgets plans) after_answer (answer_text_of format) 1 [] qs out
 
 -- the lines of one right answer for each of the file's questions
 pub record Answers (budgets : Budgets) (plans : List Plan) (format : Format) (bytes out : List ℕ) : Type 0 where

@@ -8,7 +8,7 @@ ghost use Rattle.it_question.specs.Questions.{question_view, question_body};
 ghost use Rattle.it_canon.specs.Demands.{AreStated};
 ghost use Rattle.it_canon.specs.QuestionDemands.{problem_names, question_demands, space_of};
 ghost use Rattle.it_answer.specs.AnswerForms.{IsAnswerTo, answer_forms};
-ghost use Rattle.it_print.specs.Lines.{IsPrintable, answer_line, places_of};
+ghost use Rattle.it_print.specs.Lines.{IsPrintable, answer_line, origins_of};
 ghost use Rattle.it_print.specs.ProofLines.{generator_rows, proof_text};
 ghost use Rattle.it_certificate.specs.Values.{IsWritable};
 ghost use Rattle.it_cli.specs.InnerEnds.{EndOfAnswers, EndOfBytes, EndOfLineOrMemory, IsAnswerText};
@@ -123,7 +123,7 @@ fn text_lines(
 ) -> Result<Vec<u8>, AllocError>
     requires limits { IsQuestion (question_body question.now) }
     requires printable { IsPrintable (question_body question.now) (length answered.now.problem.constraints.items) answered.now.answer }
-    ensures { IfOk result (λ text. text.items ≡ answer_line k (question_body question.now) (places_of answered.now.problem.constraints.items) (answer_view answered.now.answer)) }
+    ensures { IfOk result (λ text. text.items ≡ answer_line k (question_body question.now) (origins_of answered.now.problem.constraints.items) (answer_view answered.now.answer)) }
 {
     answer_line(
         alloc,
@@ -157,7 +157,7 @@ fn proof_lines(
     requires space { answered.now.problem.space ≡ space_of (problem_names (question_body question.now)) }
     requires fits { IsAnswerTo (question_body question.now) (answer_view answered.now.answer) }
     requires printable { IsPrintable (question_body question.now) (length answered.now.problem.constraints.items) answered.now.answer }
-    ensures { IfOk result (λ text. text.items ≡ proof_text k (question_body question.now) (places_of answered.now.problem.constraints.items) (generator_rows (problem_names (question_body question.now)) answered.now.problem.constraints.items) (map (terms_in (question_body question.now)) (answer_forms (question_body question.now) (answer_view answered.now.answer))) (answer_view answered.now.answer)) }
+    ensures { IfOk result (λ text. text.items ≡ proof_text k (question_body question.now) (origins_of answered.now.problem.constraints.items) (generator_rows (problem_names (question_body question.now)) answered.now.problem.constraints.items) (map (terms_in (question_body question.now)) (answer_forms (question_body question.now) (answer_view answered.now.answer))) (answer_view answered.now.answer)) }
 {
     let targets = target_rows(alloc, question, &answered.answer)?;
     proof_text(

@@ -67,7 +67,7 @@ impl Counts {
     }
 }
 
-/// Appends a word, and a number behind it.
+/// Appends a word, and a number after it.
 fn write_count(out: &mut Vec<u8>, word: &[u8], count: usize) -> Result<(), AllocError>
     ensures { OnOk result (out.new.items ≡ out.old.items ++ word.now ++ decimal count) }
 {

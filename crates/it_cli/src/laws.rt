@@ -1,7 +1,7 @@
-//! Theorems on how a run ends and on what it writes, each as the contract of a function.
+//! Theorems on how a call ends and on what it writes, each as the contract of a function.
 ghost use Rattle.it_answer.specs.RightAnswers.{AContainmentIsTrue, ANoIsTrue, ARegionIsTrue, AYesAscends, AYesIsTrue, NeededRowsAreNeeded, NoStepIsZero, OneRightAnswer};
 ghost use Rattle.it_cli.specs.Accepted.{OutputIsAccepted, ReportsAreAccepted};
-ghost use Rattle.it_cli.specs.Laws.{BenchReadsNothing, CountsAddUp, CountsAreWritten, FaultIsDue, Headline, IsComplete, LongIsDue, NeverOutOfSteps, NeverYesAndNo, OneOutput, SureEnds, UsageIsDue, VerdictsAreWritten};
+ghost use Rattle.it_cli.specs.Laws.{BenchReadsNothing, CountsAddUp, CountsAreWritten, FaultIsDue, Headline, IsComplete, LongIsDue, NoLineIsOutOfSteps, NeverYesAndNo, OneOutput, SureEnds, UsageIsDue, VerdictsAreWritten};
 
 use it_answer::answers_are_determined;
 use it_certificate::answers_read_back;
@@ -9,7 +9,7 @@ use it_gen::generated_is_file;
 use it_question::file_is_one;
 use it_report::verdict_is_one;
 
-/// What a run that is done has written: right answers to all that the source gave, or the verdicts on it, or the counts of right
+/// What a call that is done has written: right answers to all that the source gave, or the verdicts on it, or the counts of right
 /// answers to a generated file.
 pub fn headline()
     ensures answers { Headline }
@@ -79,7 +79,7 @@ pub fn counts_add_up()
 
 /// With `--pivots none` no answer is `undecided pivots`.
 pub fn never_out_of_steps()
-    ensures { NeverOutOfSteps }
+    ensures { NoLineIsOutOfSteps }
 {
     it_prove::never_out_of_steps();
 }

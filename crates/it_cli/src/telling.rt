@@ -1,10 +1,10 @@
-//! The last line that a run writes.
+//! The last line that a call writes.
 ghost use Rattle.it_cli.specs.InnerEnds.{EndOfLine};
 
 use crate::status::Status;
 use it_outside::{Sink, write_all};
 
-/// Writes a line, after which the run ends with the status.
+/// Writes a line, after which the call ends with the status.
 pub fn tell<K: Sink>(sink: &mut K, line: &[u8], status: Status) -> Status
     ensures { EndOfLine (K.taken sink.old) (K.taken sink.new) (K.faults sink.old) (K.faults sink.new) line.now status result }
 {
