@@ -14,7 +14,8 @@ from eliminate import row_text
 from questions import Generator, Scope, row_of
 
 
-def moved(row, place):
+def row_by(row, place):
+    """The row with each coordinate read as another one."""
     return row_of([(c, place(at)) for at, c in row.items()])
 
 
@@ -30,7 +31,7 @@ class Containment:
         self.question, self.second = question, second
         self.common, self.n, self.m = (len(scope.names) for scope in (question, first, second))
         self.first = Scope(first.names, question.rates)
-        common = [Generator(g.name, moved(g.row, self.from_question), g.equation, g.given) for g in question.constraints]
+        common = [Generator(g.name, row_by(g.row, self.from_question), g.equation, g.given) for g in question.constraints]
         self.first.constraints = given_first(common + first.constraints)
 
     def from_question(self, at):
@@ -48,7 +49,7 @@ class Containment:
                 union |= found if at >> i & 1 else 0
             return union
 
-        return [moved(row, place) for constraint in given_first(self.second.constraints) for row in constraint.least()]
+        return [row_by(row, place) for constraint in given_first(self.second.constraints) for row in constraint.least()]
 
     def plan(self, kept):
         """`kept` is the candidate that was proved last, or None."""

@@ -58,7 +58,7 @@ class Program:
                 other.clear(c, row)
         self.basic[r] = c
 
-    def bring_in(self, c):
+    def enter(self, c):
         """Brings a free column in, where a row that isn't taken has it."""
         for r, row in enumerate(self.rows):
             if self.basic[r] is None and row.at(c):
@@ -105,7 +105,7 @@ def decide(question, target):
     program = Program([g.row for g in generators], target, question.size())
     for c, generator in enumerate(generators):
         if generator.equation:
-            program.bring_in(c)
+            program.enter(c)
     end, found = program.run([c for c, g in enumerate(generators) if not g.equation])
     if end == "no":
         return end, dict(enumerate(found, 1))

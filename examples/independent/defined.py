@@ -40,7 +40,7 @@ def fit(number):
     return number
 
 
-def lowest(num, den):
+def lowest_terms(num, den):
     g = gcd(num, den)
     return (num // g, den // g) if den > 0 else (-num // g, -den // g)
 
@@ -48,7 +48,7 @@ def lowest(num, den):
 def multiply(a, b):
     if a[1] == b[1] == 1:
         return fit(a[0] * b[0]), 1
-    num, den = lowest(a[0] * b[0], a[1] * b[1])
+    num, den = lowest_terms(a[0] * b[0], a[1] * b[1])
     return fit(num), fit(den)
 
 
@@ -91,7 +91,7 @@ def dependences(question, first):
     return found
 
 
-def close(found, a):
+def closure(found, a):
     while True:
         before = a
         for d in found:
@@ -109,7 +109,7 @@ class Run:
         self.n = len(question.names)
         self.generators = question.generators()
         self.dependences = dependences(question, len(self.generators) - len(question.constraints))
-        self.closures = [close(self.dependences, a) for a in range(2**self.n)]
+        self.closures = [closure(self.dependences, a) for a in range(2**self.n)]
         self.steps = 0
 
     def place(self, at):
@@ -230,8 +230,8 @@ class Run:
         if end == "pivots":
             return end, self.steps
         if end == "weights":
-            return end, {j: lowest(num, den) for j, num, den in numbers}
-        return end, [lowest(sign * num, den) for sign, (num, den) in zip(self.sign, numbers)]
+            return end, {j: lowest_terms(num, den) for j, num, den in numbers}
+        return end, [lowest_terms(sign * num, den) for sign, (num, den) in zip(self.sign, numbers)]
 
     def answer(self):
         """("yes", scale, weights), ("no", values by coordinate), ("undecided", cause)."""

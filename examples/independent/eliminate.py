@@ -15,7 +15,8 @@ from questions import Generator, Scope
 LIMIT = 2**127 - 1
 
 
-def in_order(rows):
+def ordered_rows(rows):
+    """The rows in order: in lowest terms, without zero rows and doubles."""
     kept = []
     for row in rows:
         divisor = gcd(*row.values())
@@ -25,7 +26,7 @@ def in_order(rows):
     return kept
 
 
-def cancelled(up, down, rate):
+def cancelled_row(up, down, rate):
     """The sum of multiples of two rows without the rate, and whether a number of it passes 2**127 - 1."""
     p, q = up[rate], -down[rate]
     g = gcd(p, q)
@@ -39,15 +40,15 @@ def cancelled(up, down, rate):
     return row, wide
 
 
-def without(rows, rate):
+def list_after(rows, rate):
     """The list after the rate, and whether a pair of it is wide."""
-    pairs = [cancelled(up, down, rate) for up in rows if up.get(rate, 0) > 0 for down in rows if down.get(rate, 0) < 0]
+    pairs = [cancelled_row(up, down, rate) for up in rows if up.get(rate, 0) > 0 for down in rows if down.get(rate, 0) < 0]
     flat = [row for row in rows if rate not in row]
-    return in_order(flat + [row for row, _ in pairs]), any(wide for _, wide in pairs)
+    return ordered_rows(flat + [row for row, _ in pairs]), any(wide for _, wide in pairs)
 
 
 def with_rows(question, rows):
-    """The question's `given` lines, and rows behind them."""
+    """The question's `given` lines, and rows after them."""
     scope = Scope(question.names, question.rates)
     scope.constraints = question.constraints + [Generator(f"row {i}", row) for i, row in enumerate(rows, 1)]
     return scope
@@ -63,7 +64,7 @@ def follows(question, rows, target):
 
 
 def reduce(question, rows, pivots, steps):
-    """The rows that stay, each behind its mark; the number of steps of each row's run goes to `steps`."""
+    """The rows that stay, each with its mark; the number of steps of each row's run goes to `steps`."""
     kept = []
     for number, row in enumerate(rows):
         others = [other for _, other in kept] + rows[number + 1 :]
@@ -74,20 +75,20 @@ def reduce(question, rows, pivots, steps):
     return kept
 
 
-def plain(question):
+def plain_rows(question):
     """The rows that plain elimination leaves, without a reduction and without a budget."""
-    rows = in_order(question.system())
+    rows = ordered_rows(question.system())
     for rate in question.eliminated:
-        rows, _ = without(rows, rate)
+        rows, _ = list_after(rows, rate)
     return rows
 
 
 def eliminate(question, most=512, pivots=20000):
-    """("region", rows behind their marks), or ("width", rate) or ("rows", rate) for the first rate with a cause; and the number of steps of
+    """("region", rows with their marks), or ("width", rate) or ("rows", rate) for the first rate with a cause; and the number of steps of
     each run."""
-    rows, steps = in_order(question.system()), []
+    rows, steps = ordered_rows(question.system()), []
     for rate in question.eliminated:
-        rows, wide = without(rows, rate)
+        rows, wide = list_after(rows, rate)
         if wide:
             return "width", rate, steps
         if len(rows) > most:

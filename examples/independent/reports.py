@@ -30,7 +30,7 @@ class NoReading(Exception):
 # Writing
 
 def answer_json(question, end, found):
-    """The line of an answer: ("yes", [(scale, weights by generator)]), ("no", (side, values)), ("region", rows behind their
+    """The line of an answer: ("yes", [(scale, weights by generator)]), ("no", (side, values)), ("region", rows with their
     marks), ("contained", (parts, proofs)), ("open", tried), (cause, at)."""
     value = {"question": question.text}
     if end == "yes":

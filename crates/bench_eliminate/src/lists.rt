@@ -4,8 +4,6 @@ ghost use Rattle.it_space.specs.Problems.{IsProblem, IsSystem, problem_view};
 ghost use Rattle.it_space.specs.Rows.{IsUpTo};
 ghost use Rattle.it_space.specs.Spaces.{size_of};
 
-use it_prove::{Proof, prove};
-use it_simplex::Budget;
 use it_space::{Constraint, Kind, Origin, Problem, Row, System};
 use std::alloc::{AllocError, Global};
 
@@ -44,8 +42,8 @@ fn constrain(
     Ok(())
 }
 
-/// Puts rows behind the constraints.
-fn constrain_all(alloc: Global, problem: &mut Problem, rows: &[Row]) -> Result<(), AllocError>
+/// Puts rows behind the constraints, as those of `row` lines.
+pub fn constrain_all(alloc: Global, problem: &mut Problem, rows: &[Row]) -> Result<(), AllocError>
     requires problem { IsProblem (problem_view problem.old) }
     requires rows { All (IsUpTo (size_of problem.old.space)) rows.now }
     requires few { length problem.old.constraints.items + length rows.now ≤ 2 ^ 20 }
@@ -61,7 +59,7 @@ fn constrain_all(alloc: Global, problem: &mut Problem, rows: &[Row]) -> Result<(
 }
 
 /// The givens once more.
-fn copy_of(alloc: Global, givens: &Problem) -> Result<Problem, AllocError>
+pub fn copy_of(alloc: Global, givens: &Problem) -> Result<Problem, AllocError>
     requires { IsProblem (problem_view givens.now) }
     ensures problem { IfOk result (λ p. IsProblem (problem_view p)) }
     ensures space { IfOk result (λ p. p.space ≡ givens.now.space) }
@@ -76,28 +74,4 @@ fn copy_of(alloc: Global, givens: &Problem) -> Result<Problem, AllocError>
         constrain(alloc, &mut problem, row, constraint.kind, constraint.origin)?;
     }
     Ok(problem)
-}
-
-/// Whether a row is proved under the givens and the rows before and after it, by a call of its own.
-pub fn follows(
-    alloc: Global,
-    givens: &Problem,
-    before: &[Row],
-    row: &Row,
-    after: &[Row],
-) -> Result<bool, AllocError>
-    requires givens { IsProblem (problem_view givens.now) }
-    requires before { All (IsUpTo (size_of givens.now.space)) before.now }
-    requires row { IsUpTo (size_of givens.now.space) row.now }
-    requires after { All (IsUpTo (size_of givens.now.space)) after.now }
-    requires few { length givens.now.constraints.items ≤ 65535 }
-    requires few_rows { length before.now + length after.now ≤ 65535 }
-{
-    let mut problem = copy_of(alloc, givens)?;
-    constrain_all(alloc, &mut problem, before)?;
-    constrain_all(alloc, &mut problem, after)?;
-    match prove(alloc, &problem, row, Budget::none())? {
-        Proof::Yes(_) => Ok(true),
-        _ => Ok(false),
-    }
 }

@@ -1,16 +1,19 @@
 //! The elimination of a question's rates, step by step.
-ghost use Rattle.std.specs.Prelude.{◌≡◌, ◌≤◌, ◌<◌, length, All, IfOk, IfSome};
+ghost use Rattle.std.specs.Prelude.{◌≡◌, ◌≤◌, ◌<◌, ◌+◌, length, All, IfOk, IfSome};
 ghost use Rattle.it_space.specs.Problems.{IsProblem, IsSystem, problem_view};
+ghost use Rattle.it_space.specs.Rows.{IsUpTo};
+ghost use Rattle.it_space.specs.Spaces.{size_of};
 ghost use Rattle.bench_eliminate.specs.Tasks.{IsListOf, IsTask};
 
-use crate::lists::{follows, keep};
+use crate::lists::{constrain_all, copy_of, keep};
 use it_canon::{problem, system};
 use it_eliminate::{Eliminated, step};
+use it_prove::{Proof, prove};
 use it_question::questions;
 use it_question::types::{Question, Verb};
-use it_redundant::{Reduced, reduce};
+use it_redundant::{kept_system, reduce};
 use it_simplex::Budget;
-use it_space::{Problem, System};
+use it_space::{Problem, Row, System};
 use std::alloc::{AllocError, Global};
 
 /// How a list is reduced.
@@ -89,6 +92,30 @@ fn next(alloc: Global, list: &System, rate: u8) -> Result<Option<System>, AllocE
     }
 }
 
+/// Whether a row is proved under the givens and the rows before and after it, by a call of its own.
+fn follows(
+    alloc: Global,
+    givens: &Problem,
+    before: &[Row],
+    row: &Row,
+    after: &[Row],
+) -> Result<bool, AllocError>
+    requires givens { IsProblem (problem_view givens.now) }
+    requires before { All (IsUpTo (size_of givens.now.space)) before.now }
+    requires row { IsUpTo (size_of givens.now.space) row.now }
+    requires after { All (IsUpTo (size_of givens.now.space)) after.now }
+    requires few { length givens.now.constraints.items ≤ 65535 }
+    requires few_rows { length before.now + length after.now ≤ 65535 }
+{
+    let mut problem = copy_of(alloc, givens)?;
+    constrain_all(alloc, &mut problem, before)?;
+    constrain_all(alloc, &mut problem, after)?;
+    match prove(alloc, &problem, row, Budget::none())? {
+        Proof::Yes(_) => Ok(true),
+        _ => Ok(false),
+    }
+}
+
 /// A list without the rows that the others give, each by a call of its own.
 fn reduction_anew(alloc: Global, list: &System, givens: &Problem) -> Result<System, AllocError>
     requires list { IsListOf givens.now.space list.now }
@@ -110,26 +137,6 @@ fn reduction_anew(alloc: Global, list: &System, givens: &Problem) -> Result<Syst
     Ok(kept)
 }
 
-/// The rows of a list that stay, as a list.
-fn kept_list(alloc: Global, list: &System, reduced: &Reduced) -> Result<System, AllocError>
-    requires { IsListOf list.now.space list.now }
-    ensures { IfOk result (IsListOf list.now.space) }
-{
-    let mut kept = System {
-        space: list.space,
-        rows: Vec::new(alloc),
-    };
-    let rows = list.rows.as_slice();
-    for i in 0..rows.len() {
-        let row = &rows[i];
-        let at = kept.rows.len();
-        if at < reduced.kept.len() && reduced.kept[at].0.terms() == row.terms() {
-            keep(alloc, &mut kept, row)?;
-        }
-    }
-    Ok(kept)
-}
-
 /// A list without the rows that the others give.
 fn reduction(alloc: Global, list: System, givens: &Problem, way: Way) -> Result<System, AllocError>
     requires list { IsListOf givens.now.space list }
@@ -140,7 +147,8 @@ fn reduction(alloc: Global, list: System, givens: &Problem, way: Way) -> Result<
     match way {
         Way::Shared => {
             let reduced = reduce(alloc, &list, givens, Budget::none())?;
-            kept_list(alloc, &list, &reduced)
+            let kept = kept_system(alloc, list.space, &reduced)?;
+            Ok(kept)
         }
         Way::Anew => reduction_anew(alloc, &list, givens),
         Way::Plain => Ok(list),
@@ -150,6 +158,7 @@ fn reduction(alloc: Global, list: System, givens: &Problem, way: Way) -> Result<
 /// The rows after each rate, up to a rate that has no list, and the calls.
 pub fn elimination(alloc: Global, task: &Task, way: Way) -> Result<Counts, AllocError>
     requires { IsTask task.now }
+    ensures { IfOk result (λ c. length c.rows.items ≤ length task.now.rates.items) }
 {
     let mut counts = Counts {
         rows: Vec::new(alloc),

@@ -10,8 +10,8 @@ use it_fraction::{Fraction, Wide};
 use std::cmp::Ordering;
 use std::io;
 
-// the sum so far with one more result
-fn counted(sum: i128, outcome: Result<Fraction, Wide>) -> i128 {
+/// The sum so far with one more result.
+fn add_outcome(sum: i128, outcome: Result<Fraction, Wide>) -> i128 {
     match outcome {
         Ok(fraction) => sum
             .wrapping_add(fraction.num())
@@ -20,26 +20,29 @@ fn counted(sum: i128, outcome: Result<Fraction, Wide>) -> i128 {
     }
 }
 
+/// A sum over the pairs' sums, turn after turn.
 fn sums(pairs: &[Pair], turns: u32) -> i128 {
     let mut sum: i128 = 0;
     for _ in 0..turns {
         for pair in pairs {
-            sum = counted(sum, pair.left.add(pair.right));
+            sum = add_outcome(sum, pair.left.add(pair.right));
         }
     }
     sum
 }
 
+/// A sum over the pairs' products.
 fn products(pairs: &[Pair], turns: u32) -> i128 {
     let mut sum: i128 = 0;
     for _ in 0..turns {
         for pair in pairs {
-            sum = counted(sum, pair.left.mul(pair.right));
+            sum = add_outcome(sum, pair.left.mul(pair.right));
         }
     }
     sum
 }
 
+/// How often the left one is greater, less how often it is less.
 fn orders(pairs: &[Pair], turns: u32) -> i64 {
     let mut sum: i64 = 0;
     for _ in 0..turns {

@@ -1,9 +1,14 @@
 //! Forms of entropies, by coordinates: a set of variables has the number whose binary digits are its members.
+ghost use Rattle.std.specs.Prelude.{IfOk};
+ghost use Rattle.it_space.specs.Rows.{IsUpTo};
+
 use it_space::Row;
 use std::alloc::{AllocError, Global};
 
-// the entropies of the variables less their joint entropy
-fn parts(alloc: Global, variables: u8) -> Result<Row, AllocError> {
+/// The entropies of the variables less their joint entropy.
+fn parts(alloc: Global, variables: u8) -> Result<Row, AllocError>
+    ensures { IfOk result (IsUpTo 255) }
+{
     Ok(match variables {
         3 => Row::new(Vec::from_slice(alloc, &[(1, 1), (2, 1), (4, 1), (7, -1)])?),
         4 => Row::new(Vec::from_slice(alloc, &[(1, 1), (2, 1), (4, 1), (8, 1), (15, -1)])?),
@@ -45,8 +50,10 @@ fn parts(alloc: Global, variables: u8) -> Result<Row, AllocError> {
     })
 }
 
-// the joint entropy less those of the variables
-fn whole(alloc: Global, variables: u8) -> Result<Row, AllocError> {
+/// The joint entropy less those of the variables.
+fn whole(alloc: Global, variables: u8) -> Result<Row, AllocError>
+    ensures { IfOk result (IsUpTo 255) }
+{
     Ok(match variables {
         3 => Row::new(Vec::from_slice(alloc, &[(1, -1), (2, -1), (4, -1), (7, 1)])?),
         4 => Row::new(Vec::from_slice(alloc, &[(1, -1), (2, -1), (4, -1), (8, -1), (15, 1)])?),
@@ -96,8 +103,10 @@ fn whole(alloc: Global, variables: u8) -> Result<Row, AllocError> {
     })
 }
 
-// I(A;B|C) + I(A;B|D) + I(C;D) - I(A;B)
-fn ingleton(alloc: Global) -> Result<Row, AllocError> {
+/// I(A;B|C) + I(A;B|D) + I(C;D) - I(A;B).
+fn ingleton(alloc: Global) -> Result<Row, AllocError>
+    ensures { IfOk result (IsUpTo 255) }
+{
     let terms = Vec::from_slice(
         alloc,
         &[
@@ -116,8 +125,10 @@ fn ingleton(alloc: Global) -> Result<Row, AllocError> {
     Ok(Row::new(terms))
 }
 
-// the sum of I(X;Y) of neighbours in a row of variables is at most the sum of their entropies less their joint entropy
-fn chain(alloc: Global, variables: u8) -> Result<Row, AllocError> {
+/// The sum of the entropies of a row of variables less their joint entropy, less the sum of I(X;Y) over neighbours.
+fn chain(alloc: Global, variables: u8) -> Result<Row, AllocError>
+    ensures { IfOk result (IsUpTo 255) }
+{
     Ok(match variables {
         7 => Row::new(Vec::from_slice(
             alloc,
@@ -173,7 +184,10 @@ fn chain(alloc: Global, variables: u8) -> Result<Row, AllocError> {
     })
 }
 
-pub fn form(alloc: Global, question: &str, variables: u8) -> Result<Row, AllocError> {
+/// The form of a question, over the joint entropies of so many variables, 3 to 8.
+pub fn form(alloc: Global, question: &str, variables: u8) -> Result<Row, AllocError>
+    ensures { IfOk result (IsUpTo 255) }
+{
     match question {
         "whole" => whole(alloc, variables),
         "ingleton" if variables >= 4 => ingleton(alloc),

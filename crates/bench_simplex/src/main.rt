@@ -13,16 +13,36 @@ mod forms;
 mod systems;
 
 use crate::systems::System;
-use it_simplex::Solved;
+use it_simplex::RunAnswer;
+use it_space::Row;
 use std::io;
 
-fn told(solved: &Solved) -> &'static str {
+/// The word for how a run ends.
+fn end_word(solved: &RunAnswer) -> &'static str {
     match solved {
-        Solved::Weights(_) => "weights",
-        Solved::Point(_) => "point",
-        Solved::Pivots(_) => "pivots",
-        Solved::Width(_) => "width",
+        RunAnswer::Weights(_) => "weights",
+        RunAnswer::Point(_) => "point",
+        RunAnswer::Pivots(_) => "pivots",
+        RunAnswer::Width(_) => "width",
     }
+}
+
+/// Writes a row as a line of coordinates with their coefficients.
+fn write_row(rt: HostRuntime, row: &Row) -> io::Result<()> {
+    for (coordinate, coefficient) in row.terms() {
+        print!(rt; "{coordinate} {coefficient} ")?;
+    }
+    println!(rt; "")
+}
+
+/// Writes a system: the number of its rows, then the target and each column.
+fn write(rt: HostRuntime, system: &System) -> io::Result<()> {
+    println!(rt; "{}", system.coordinates.len())?;
+    write_row(rt, &system.target)?;
+    for column in system.columns.as_slice() {
+        write_row(rt, column)?;
+    }
+    Ok(())
 }
 
 fn main(rt: HostRuntime) -> io::Result<()> {
@@ -36,12 +56,12 @@ fn main(rt: HostRuntime) -> io::Result<()> {
     let turns = turns.as_str().parse::<u32>().unwrap_or(0);
     let system = System::new(alloc, variables, question.as_str())?;
     if engine.as_str() == "system" {
-        return system.write(rt);
+        return write(rt, &system);
     }
     let exact = engine.as_str() == "exact";
     for _ in 1..turns {
         system.run(alloc, exact, budget)?;
     }
-    let end = told(&system.run(alloc, exact, budget)?);
+    let end = end_word(&system.run(alloc, exact, budget)?);
     println!(rt; "{end}")
 }

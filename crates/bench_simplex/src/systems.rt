@@ -1,25 +1,31 @@
-//! The systems that are asked.
-ghost use Rattle.std.specs.Prelude.{◌≤◌};
+//! The systems that are asked about.
+ghost use Rattle.std.specs.Prelude.{◌≡◌, ◌+◌, ◌≤◌, ◌^◌, Some, length, IfOk};
+ghost use Rattle.it_polymatroid.specs.Elementals.{elementals};
+ghost use Rattle.it_run.specs.Answers.{solved_end};
+ghost use Rattle.it_simplex.specs.Answers.{Solves};
+ghost use Rattle.it_space.specs.Rows.{IsUpTo};
 
 use crate::forms::form;
 use it_elemental::{count, row};
 use it_run::exact_run;
-use it_simplex::{Budget, Solved, solve};
-use it_space::Row;
+use it_simplex::{Budget, RunAnswer, solve};
+use it_space::{Row, RowFault};
 use it_tableau::Tableau;
 use std::alloc::{AllocError, Global};
-use std::io;
 
+/// The elemental inequalities as columns, their coordinates, and the form that is asked about.
 #[derive(Drop)]
 pub struct System {
-    columns: Vec<Row>,
-    coordinates: Vec<u32>,
-    target: Row,
+    pub columns: Vec<Row>,
+    pub coordinates: Vec<u32>,
+    pub target: Row,
 }
 
+/// The elemental inequalities of so many variables, in their order.
 fn columns(alloc: Global, variables: u8) -> Result<Vec<Row>, AllocError>
     requires from { 3 ≤ variables }
     requires to { variables ≤ 8 }
+    ensures { IfOk result (λ columns. length columns.items ≡ length (elementals variables)) }
 {
     let mut columns = Vec::new(alloc);
     for index in 0..count(variables) {
@@ -28,8 +34,10 @@ fn columns(alloc: Global, variables: u8) -> Result<Vec<Row>, AllocError>
     Ok(columns)
 }
 
+/// The nonempty sets of so many variables, by number.
 fn coordinates(alloc: Global, variables: u8) -> Result<Vec<u32>, AllocError>
     requires { variables ≤ 8 }
+    ensures { IfOk result (λ coordinates. length coordinates.items + 1 ≡ 2 ^ variables) }
 {
     let mut coordinates = Vec::new(alloc);
     for coordinate in 1..1u32 << variables {
@@ -38,17 +46,31 @@ fn coordinates(alloc: Global, variables: u8) -> Result<Vec<u32>, AllocError>
     Ok(coordinates)
 }
 
-fn write_row(rt: HostRuntime, row: &Row) -> io::Result<()> {
-    for (coordinate, coefficient) in row.terms() {
-        print!(rt; "{coordinate} {coefficient} ")?;
+/// The end of the run with a budget of steps, by the table of fractions alone.
+fn exact_end(
+    alloc: Global,
+    coordinates: &[u32],
+    columns: &[Row],
+    target: &Row,
+    steps: u32,
+) -> Result<RunAnswer, AllocError>
+    ensures { IfOk result (λ solved. Solves coordinates.now columns.now target.now (Some steps) (solved_end solved)) }
+{
+    match Tableau::start(alloc, coordinates, columns, target) {
+        Ok(start) => exact_run(alloc, start, Some(steps)),
+        Err(RowFault::Wide) => Ok(RunAnswer::Width(0)),
+        Err(RowFault::Memory) => Err(AllocError),
     }
-    println!(rt; "")
 }
 
 impl System {
+    /// The system of a question about so many variables.
     pub fn new(alloc: Global, variables: u8, question: &str) -> Result<System, AllocError>
         requires from { 3 ≤ variables }
         requires to { variables ≤ 8 }
+        ensures columns { IfOk result (λ s. length s.columns.items ≡ length (elementals variables)) }
+        ensures coordinates { IfOk result (λ s. length s.coordinates.items + 1 ≡ 2 ^ variables) }
+        ensures target { IfOk result (λ s. IsUpTo 255 s.target) }
     {
         Ok(System {
             columns: columns(alloc, variables)?,
@@ -57,38 +79,17 @@ impl System {
         })
     }
 
-    // by the table of fractions alone
-    fn run_exact(&self, alloc: Global, steps: u32) -> Result<Solved, AllocError> {
-        match Tableau::start(
-            alloc,
-            self.coordinates.as_slice(),
-            self.columns.as_slice(),
-            &self.target,
-        ) {
-            Ok(start) => exact_run(alloc, start, Some(steps)),
-            Err(_) => Ok(Solved::Width(0)),
-        }
-    }
-
-    pub fn run(&self, alloc: Global, exact: bool, steps: u32) -> Result<Solved, AllocError> {
+    /// The end of the run with a budget of steps, as the product makes it or by the table of fractions alone.
+    pub fn run(&self, alloc: Global, exact: bool, steps: u32) -> Result<RunAnswer, AllocError>
+        ensures { IfOk result (λ solved. Solves self.now.coordinates.items self.now.columns.items self.now.target (Some steps) (solved_end solved)) }
+    {
+        let coordinates = self.coordinates.as_slice();
+        let columns = self.columns.as_slice();
         if exact {
-            return self.run_exact(alloc, steps);
+            exact_end(alloc, coordinates, columns, &self.target, steps)
+        } else {
+            let budget = Budget::at_most(steps);
+            solve(alloc, coordinates, columns, &self.target, budget)
         }
-        solve(
-            alloc,
-            self.coordinates.as_slice(),
-            self.columns.as_slice(),
-            &self.target,
-            Budget::at_most(steps),
-        )
-    }
-
-    pub fn write(&self, rt: HostRuntime) -> io::Result<()> {
-        println!(rt; "{}", self.coordinates.len())?;
-        write_row(rt, &self.target)?;
-        for column in self.columns.as_slice() {
-            write_row(rt, column)?;
-        }
-        Ok(())
     }
 }

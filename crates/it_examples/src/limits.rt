@@ -418,7 +418,7 @@ const TOO_LONG: [(&[u8], &[u8], usize, &[u8], &[u8]); 2] = [
 ];
 
 /// `piece` so many times between `front` and `back`.
-fn repeated(
+fn repeat(
     alloc: Global,
     front: &[u8],
     piece: &[u8],
@@ -437,7 +437,7 @@ fn repeated(
 fn limits_hold(rt: HostRuntime) -> Result<(), Fail> {
     let alloc = rt.alloc();
     for (i, (front, piece, times, back, want)) in LONG.iter().chain(TOO_LONG.iter()).enumerate() {
-        let input = repeated(alloc, front, piece, *times, back)?;
+        let input = repeat(alloc, front, piece, *times, back)?;
         gets(
             &rt,
             alloc,
@@ -462,7 +462,7 @@ fn blank_files_get_nothing(rt: HostRuntime) -> Result<(), Fail> {
         (b"", 0),
     ];
     for (i, (piece, times)) in pieces.iter().enumerate() {
-        let input = repeated(alloc, b"", piece, *times, b"")?;
+        let input = repeat(alloc, b"", piece, *times, b"")?;
         gets(
             &rt,
             alloc,
@@ -479,7 +479,7 @@ fn blank_files_get_nothing(rt: HostRuntime) -> Result<(), Fail> {
 #[test]
 fn a_thousand_questions_are_answered(rt: HostRuntime) -> Result<(), Fail> {
     let alloc = rt.alloc();
-    let input = repeated(alloc, b"", b"vars X, Y\nprove 0 = 0\n", 1000, b"")?;
+    let input = repeat(alloc, b"", b"vars X, Y\nprove 0 = 0\n", 1000, b"")?;
     let mut want = String::new(alloc);
     for k in 1..1001 {
         want.push_str(format!(in alloc; "{k} yes 1 : 0 and 1 : 0\n")?.as_str())?;

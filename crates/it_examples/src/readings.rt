@@ -318,7 +318,7 @@ fn with_verb(alloc: Global, out: &mut String, verb: &Verb) -> Result<(), Fail> {
     }
 }
 
-fn written(alloc: Global, questions: &[Question]) -> Result<String, Fail> {
+fn text_of(alloc: Global, questions: &[Question]) -> Result<String, Fail> {
     let mut out = String::new(alloc);
     for question in questions {
         with_names(&mut out, &question.names)?;
@@ -338,7 +338,7 @@ fn texts(alloc: Global, questions: &[Question]) -> Result<Vec<u8>, Fail> {
 }
 
 /// The questions of a file that has a reading.
-fn asked(rt: &impl Abort, alloc: Global, input: &[u8]) -> Result<Vec<Question>, Fail> {
+fn questions_of(rt: &impl Abort, alloc: Global, input: &[u8]) -> Result<Vec<Question>, Fail> {
     assert!(rt; input.len() <= MOST);
     Ok(questions(alloc, input)?)
 }
@@ -347,8 +347,8 @@ fn asked(rt: &impl Abort, alloc: Global, input: &[u8]) -> Result<Vec<Question>, 
 fn files_are_read_as_their_questions(rt: HostRuntime) -> Result<(), Fail> {
     let alloc = rt.alloc();
     for (case, (input, want)) in READ.iter().enumerate() {
-        let questions = asked(&rt, alloc, input)?;
-        let written = written(alloc, questions.as_slice())?;
+        let questions = questions_of(&rt, alloc, input)?;
+        let written = text_of(alloc, questions.as_slice())?;
         assert_eq!(rt; written.as_str(), *want, "case {case}");
     }
     Ok(())
@@ -358,7 +358,7 @@ fn files_are_read_as_their_questions(rt: HostRuntime) -> Result<(), Fail> {
 fn questions_keep_their_texts(rt: HostRuntime) -> Result<(), Fail> {
     let alloc = rt.alloc();
     for (case, (input, want)) in TEXTS.iter().enumerate() {
-        let questions = asked(&rt, alloc, input)?;
+        let questions = questions_of(&rt, alloc, input)?;
         let texts = texts(alloc, questions.as_slice())?;
         let texts = str::from_utf8(texts.as_slice())?;
         assert_eq!(rt; texts, str::from_utf8(want)?, "case {case}");

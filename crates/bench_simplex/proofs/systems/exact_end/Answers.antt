@@ -1,0 +1,15 @@
+use Rattle.std.specs.Prelude.{Some}
+use Rattle.it_run.specs.Answers.{solved_end, RunsFrom}
+use Rattle.it_run.proofs.AnswerLemmas.{if_ok}
+use Rattle.it_tableau.specs.Problems.{feasibility_problem}
+use Rattle.it_simplex.specs.Answers.{Solves}
+use Rattle.it_simplex.proofs.AnswerLemmas.{run_solves, start_is_of_problem}
+use Rattle.bench_simplex.proofs.systems.exact_end.Goals as goal
+
+pub exact_run-requires-clause-start : goal.exact_run-requires-clause-start
+exact_run-requires-clause-start c = (feasibility_problem c.args.coordinates.now c.args.columns.now c.args.target.now, start_is_of_problem c.args.coordinates.now c.args.columns.now c.args.target.now c.in-Ok.start c.in-Ok.ensures.value)
+
+pub returns-in-Ok : goal.returns-in-Ok
+returns-in-Ok c =
+    if_ok c.exact_run.result (RunsFrom c.in-Ok.start (Some c.args.steps)) (λ a. Solves c.args.coordinates.now c.args.columns.now c.args.target.now (Some c.args.steps) (solved_end a)) c.exact_run.ensures
+    (λ a r. run_solves c.args.coordinates.now c.args.columns.now c.args.target.now c.in-Ok.start c.in-Ok.ensures.value (Some c.args.steps) a c.in-Ok.ensures.ok r)
