@@ -4,7 +4,7 @@ use Rattle.std.proofs.lemmas.Int.{ints}
 use Rattle.it_number.specs.Limit.{IsWithin}
 use Rattle.it_number.proofs.Divisors.{gcd-one, one-gcd}
 use Rattle.it_number.proofs.Quotients.{one_pos, one_lowest}
-use Rattle.it_rational.specs.Rational.{Rational, quotient, whole, plus, times, minus, inverse}
+use Rattle.it_rational.specs.Rational.{Rational, quotient, integer, plus, times, minus, inverse}
 use Rattle.it_rational.proofs.Field.{null_from}
 use Rattle.it_rational.proofs.Names.{own_parts}
 use Rattle.it_rational.proofs.RationalLaws.{ring_ℚ, zero-plus, plus_comm, times_comm}
@@ -13,14 +13,17 @@ use Rattle.it_fraction.specs.Fits.{IsNarrow, PartsFit, common_numerator, SumFits
 use native.Mathlib.Nat.{div-one, one-dvd}
 
 -- the parts of 0
-pub zero_parts : ((whole (pos 0)).num ≡ pos 0) × ((whole (pos 0)).den ≡ 1)
+pub zero_parts : ((integer (pos 0)).num ≡ pos 0) × ((integer (pos 0)).den ≡ 1)
 zero_parts = own_parts (pos 0) 1 one_pos one_lowest
+
+pub top_of_zero : (x : Rational) → x ≡ integer (pos 0) → x.num ≡ pos 0
+top_of_zero x e = ap (λ (q : Rational). q.num) e ∙ zero_parts.0
 
 -- a number whose numerator is 0 has denominator 1
 zero_den : (x : Rational) → x.num ≡ pos 0 → x.den ≡ 1
 zero_den x e = ap (λ (q : Rational). q.den) (null_from x e) ∙ zero_parts.1
 
-pub zero_narrow : IsNarrow (whole (pos 0))
+pub zero_narrow : IsNarrow (integer (pos 0))
 zero_narrow = rw (zero_parts.0, zero_parts.1) (lit< tt, lit< tt)
 
 one_numerator : (a c : ℤ) (d : ℕ) → common_numerator a 1 c d ≡ a *ℤ pos d +ℤ c
@@ -79,17 +82,17 @@ whole-sum-fits x y e f nx ny = (to, from)
         let t = subst (λ (d : ℕ). PartsFit x.num 1 y.num d) f (subst (λ (b : ℕ). PartsFit x.num b y.num y.den) e s) in
         subst IsWithin (one_numerator x.num y.num 1 ∙ ap (λ z. z +ℤ y.num) (once x.num)) t.total
 
-pub whole-sum : (x y : Rational) → x.den ≡ 1 → y.den ≡ 1 → whole (x.num +ℤ y.num) ≡ plus x y
+pub whole-sum : (x y : Rational) → x.den ≡ 1 → y.den ≡ 1 → integer (x.num +ℤ y.num) ≡ plus x y
 whole-sum x y e f = rw (e, f) (ap (λ (z : ℤ). quotient z 1) (once x.num y.num))
   where
     once : (m n : ℤ) → m +ℤ n ≡ m *ℤ pos 1 +ℤ n *ℤ pos 1
     once m n = omega (arith, ints)
 
 -- products of whole numbers
-pub whole-product : (x y : Rational) → x.den ≡ 1 → y.den ≡ 1 → whole (x.num *ℤ y.num) ≡ times x y
+pub whole-product : (x y : Rational) → x.den ≡ 1 → y.den ≡ 1 → integer (x.num *ℤ y.num) ≡ times x y
 whole-product x y e f = rw (e, f) refl
 
-pub whole-narrow : (z : ℤ) → IsWithin z ↔ IsNarrow (whole z)
+pub whole-narrow : (z : ℤ) → IsWithin z ↔ IsNarrow (integer z)
 whole-narrow z = let p = own_parts z 1 one_pos (one-dvd (unsigned_abs z), one-dvd 1, λ d p q. q) in rw (p.0, p.1) (λ h. (h, lit< tt), λ h. h.0)
 
 -- sums with 0
@@ -128,10 +131,10 @@ pub zero-difference : (x y : Rational) → x.num ≡ pos 0 → plus x (minus y) 
 zero-difference x y e = zero-sum x (minus y) e
 
 -- products with 0
-pub zero-product : (x y : Rational) → x.num ≡ pos 0 → times x y ≡ whole (pos 0)
+pub zero-product : (x y : Rational) → x.num ≡ pos 0 → times x y ≡ integer (pos 0)
 zero-product x y e = times_comm x y ∙ ap (times y) (null_from x e) ∙ mul-null ring_ℚ y
 
-pub product-zero : (x y : Rational) → y.num ≡ pos 0 → times x y ≡ whole (pos 0)
+pub product-zero : (x y : Rational) → y.num ≡ pos 0 → times x y ≡ integer (pos 0)
 product-zero x y e = ap (times x) (null_from y e) ∙ mul-null ring_ℚ x
 
 pub zero-product-narrow : (x y : Rational) → x.num ≡ pos 0 → IsNarrow (times x y)

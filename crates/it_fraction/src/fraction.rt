@@ -1,5 +1,5 @@
 //! Fractions in lowest terms.
-ghost use Rattle.std.specs.Prelude.{◌≡◌, ◌≢◌, ◌<◌, ◌≤ℤ◌, ◌*◌, pos, unsigned_abs, true, false, IsTrue, ◌↔◌, OkIff};
+ghost use Rattle.std.specs.Prelude.{◌≡◌, ◌≢◌, ◌<◌, ◌≤ℤ◌, ◌*◌, pos, unsigned_abs, true, false, OkIff};
 ghost use Rattle.std.specs.Bool.{OnTrue, OnFalse};
 ghost use Rattle.std.specs.Cmp.{eq_by_cmp_equiv, partial_equiv_from_equiv, partial_order_from_agreeing_total};
 ghost use Rattle.std.specs.Cmp.Rules.{comparing};
@@ -7,7 +7,7 @@ ghost use Rattle.std.specs.Int.{IsGcd};
 ghost use Rattle.std.specs.Ordering.{as_partial_cmp, eq_by_cmp, nat_cmp};
 ghost use Rattle.std.proofs.Common.{rules};
 ghost use Rattle.it_number.specs.Limit.{IsWithin};
-ghost use Rattle.it_rational.specs.Rational.{inverse, is_at_least_zero, minus, plus, quotient, signed_quotient, rational_cmp, times, whole};
+ghost use Rattle.it_rational.specs.Rational.{inverse, is_at_least_zero, minus, plus, quotient, signed_quotient, rational_cmp, times, integer};
 ghost use Rattle.it_rational.proofs.Total.{rational_total};
 ghost use Rattle.it_fraction.specs.Fits.{DifferenceFits, IsNarrow, SumFits};
 ghost use Rattle.it_fraction.specs.Sign.{sign_of};
@@ -21,7 +21,7 @@ use std::marker::Model;
 
 /// A number that an operation names is more than 2^127 - 1 in absolute value.
 #[derive(Debug, Clone, Copy, PartialEq, Eq)]
-pub struct Wide;
+pub struct WideNumber;
 
 /// A rational number in lowest terms, whose numerator is at most 2^127 - 1 in absolute value and
 /// whose denominator is from 1 to 2^127 - 1.
@@ -77,14 +77,15 @@ fn are_one(b: u128, d: u128) -> bool
     requires d_some { 0 < d }
     ensures yes { OnTrue result ((b ≡ 1) × (d ≡ 1)) }
 {
+    // written out, so that the prover has each case with its test
     if b | d == 1 { true } else { false }
 }
 
 impl Fraction {
     /// The whole number as a fraction.
-    pub fn whole(value: i128) -> Fraction
+    pub fn integer(value: i128) -> Fraction
         requires { IsWithin value }
-        ensures { result ≡ whole value }
+        ensures { result ≡ integer value }
     {
         in_lowest_terms(value, 1)
     }
@@ -122,10 +123,13 @@ impl Fraction {
     }
 
     /// Whether it is 0.
+    #[tactic(auto, using(crate::proofs::ZeroLemmas::top_of_zero))]
     pub fn is_zero(self) -> bool
-        ensures { IsTrue result ↔ (self.num ≡ pos 0) }
+        ensures yes { OnTrue result (self ≡ integer (pos 0)) }
+        ensures no { OnFalse result (self ≢ integer (pos 0)) }
     {
-        self.top == 0
+        // written out, so that the prover has each case with its test
+        if self.top == 0 { true } else { false }
     }
 
     /// Whether the number is below 0.
@@ -133,6 +137,7 @@ impl Fraction {
         ensures yes { OnTrue result (is_at_least_zero self ≡ false) }
         ensures no { OnFalse result (is_at_least_zero self ≡ true) }
     {
+        // written out, so that the prover has each case with its test
         if self.top < 0 { true } else { false }
     }
 
@@ -142,6 +147,7 @@ impl Fraction {
         ensures yes { OnTrue result (is_at_least_zero (minus self) ≡ false) }
         ensures no { OnFalse result (is_at_least_zero (minus self) ≡ true) }
     {
+        // written out, so that the prover has each case with its test
         if self.top > 0 { true } else { false }
     }
 
@@ -163,7 +169,7 @@ impl Fraction {
     /// Programming vol. 2, 4.5.1). It is refused exactly where one of the four numbers of this way is
     /// too large, so also where the sum itself would fit.
     #[inline]
-    pub fn add(self, other: Fraction) -> Result<Fraction, Wide>
+    pub fn add(self, other: Fraction) -> Result<Fraction, WideNumber>
         ensures { OkIff result (SumFits self other) (plus self other) }
     {
         if are_one(self.bottom, other.bottom) {
@@ -180,7 +186,7 @@ impl Fraction {
 
     /// The difference, as the sum with the other number negated; refused as that sum is.
     #[inline]
-    pub fn sub(self, other: Fraction) -> Result<Fraction, Wide>
+    pub fn sub(self, other: Fraction) -> Result<Fraction, WideNumber>
         ensures { OkIff result (DifferenceFits self other) (plus self (minus other)) }
     {
         self.add(other.neg())
@@ -189,21 +195,21 @@ impl Fraction {
     /// The product, whose common divisors are taken out before anything is multiplied. It is refused
     /// exactly where a part of the result in lowest terms is too large.
     #[inline]
-    pub fn mul(self, other: Fraction) -> Result<Fraction, Wide>
+    pub fn mul(self, other: Fraction) -> Result<Fraction, WideNumber>
         ensures { OkIff result (IsNarrow (times self other)) (times self other) }
     {
         if are_one(self.bottom, other.bottom) {
             return whole_product(self.top, other.top);
         }
         if self.is_zero() || other.is_zero() {
-            return Ok(Fraction::whole(0));
+            return Ok(Fraction::integer(0));
         }
         parts_product(self.top, self.bottom, other.top, other.bottom)
     }
 
     /// The quotient, as the product with the other number turned over; refused as that product is.
     #[inline]
-    pub fn div(self, other: Fraction) -> Result<Fraction, Wide>
+    pub fn div(self, other: Fraction) -> Result<Fraction, WideNumber>
         requires { other.num ≢ pos 0 }
         ensures { OkIff result (IsNarrow (times self (inverse other))) (times self (inverse other)) }
     {

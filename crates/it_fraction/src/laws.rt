@@ -1,7 +1,7 @@
 //! Laws of the arithmetic, over the rational numbers that fractions name: so they hold also where a
 //! call on the way is refused. They are proved and do nothing when they run.
 ghost use Rattle.std.specs.Prelude.{◌≡◌, pos};
-ghost use Rattle.it_rational.specs.Rational.{inverse, plus, times, whole};
+ghost use Rattle.it_rational.specs.Rational.{inverse, plus, times, integer};
 ghost use Rattle.it_fraction.specs.Fits.{DifferenceFits, IsNarrow, SumFits};
 
 use crate::fraction::Fraction;
@@ -33,14 +33,15 @@ pub fn products_distribute(x: Fraction, y: Fraction, z: Fraction)
 
 /// An operation with a zero is never refused.
 pub fn zeros_fit(x: Fraction)
-    ensures sum { SumFits x (whole (pos 0)) }
-    ensures sum_from_zero { SumFits (whole (pos 0)) x }
-    ensures difference { DifferenceFits x (whole (pos 0)) }
-    ensures difference_from_zero { DifferenceFits (whole (pos 0)) x }
-    ensures product { IsNarrow (times x (whole (pos 0))) }
-    ensures product_from_zero { IsNarrow (times (whole (pos 0)) x) }
-    ensures quotient_of_zero { IsNarrow (times (whole (pos 0)) (inverse x)) }
+    ensures sum { SumFits x (integer (pos 0)) }
+    ensures sum_from_zero { SumFits (integer (pos 0)) x }
+    ensures difference { DifferenceFits x (integer (pos 0)) }
+    ensures difference_from_zero { DifferenceFits (integer (pos 0)) x }
+    ensures product { IsNarrow (times x (integer (pos 0))) }
+    ensures product_from_zero { IsNarrow (times (integer (pos 0)) x) }
+    ensures quotient_of_zero { IsNarrow (times (integer (pos 0)) (inverse x)) }
 {
+    // asked for their clauses, that the parts are within the limit
     let _num = x.num();
     let _den = x.den();
 }

@@ -1,5 +1,5 @@
 //! Results against exact arithmetic outside this program.
-use super::{Fraction, Wide, gcd, lcm};
+use super::{Fraction, WideNumber, gcd, lcm};
 use std::cmp::Ordering;
 
 type Parts = (i128, i128);
@@ -15,10 +15,10 @@ struct Row {
     order: Ordering,
 }
 
-fn parts(outcome: Result<Fraction, Wide>) -> Option<Parts> {
+fn parts(outcome: Result<Fraction, WideNumber>) -> Option<Parts> {
     match outcome {
         Ok(fraction) => Some((fraction.num(), fraction.den())),
-        Err(Wide) => None,
+        Err(WideNumber) => None,
     }
 }
 

@@ -66,6 +66,9 @@ pub IsGcd-pos : (a b g : ℕ) → 0 < b → IsGcd a b g → 0 < g
 IsGcd-pos a b g h e = pos_of_dvd_of_pos e.1 h
 
 -- one step of the algorithm, and its end
+pub gcd_some : (a b : ℕ) → 0 < a → 0 < gcd a b
+gcd_some a b h = pos_of_dvd_of_pos (gcd_is a b).0 h
+
 pub gcd-step : (a b : ℕ) → gcd b (a % b) ≡ gcd a b
 gcd-step a b = same_from_IsGcd a b (gcd b (a % b)) (gcd a b) (IsGcd-from_mod a b (gcd b (a % b)) (gcd_is b (a % b))) (gcd_is a b)
 
@@ -82,9 +85,6 @@ one-gcd a = dvd_antisymm (gcd_is 1 a).0 (one-dvd (gcd 1 a))
 -- the divisor is no larger than a part that isn't 0
 pub gcd_le : (a b : ℕ) → 0 < b → gcd a b ≤ b
 gcd_le a b h = le_of_dvd h (gcd_is a b).1
-
-pub gcd_le_left : (a b : ℕ) → 0 < a → gcd a b ≤ a
-gcd_le_left a b h = le_of_dvd h (gcd_is a b).0
 
 pub gcd-pos : (a b : ℕ) → 0 < b → 0 < gcd a b
 gcd-pos a b h = IsGcd-pos a b (gcd a b) h (gcd_is a b)
@@ -104,13 +104,13 @@ product_over_left a b g h = ap (λ n. n / g) (mul_comm a b) ∙ product_over b a
 -- a multiple of both is a multiple of the product over the divisor
 lcm-least : (a b g n : ℕ) → 0 < g → IsGcd a b g → a ∣ n → b ∣ n → a * b / g ∣ n
 lcm-least a b g n h e p q =
-    let shared : (a / g * (n / a)) * g ≡ n = regroup (a / g) (n / a) g ∙ ap (λ m. m * (n / a)) (div-mul_cancel g e.0) ∙ mul-div_cancel' a p in
+    let shared : (a / g * (n / a)) * g ≡ n = swap_last_factors (a / g) (n / a) g ∙ ap (λ m. m * (n / a)) (div-mul_cancel g e.0) ∙ mul-div_cancel' a p in
     let rest : b / g ∣ a / g * (n / a) = dvd_of_mul-dvd-mul_right {k = g} (b / g) h (subst (λ m. b / g * g ∣ m) (sym shared) (subst (λ m. m ∣ n) (sym (div-mul_cancel g e.1)) q)) in
     let factor : b / g ∣ n / a = euclid (b / g) (a / g) (n / a) (IsGcd-swap (a / g) (b / g) 1 (coprime_rest a b g h e)) rest in
     subst (λ m. m ∣ n) (sym (product_over a b g e.1)) (subst (λ m. a * (b / g) ∣ m) (mul-div_cancel' a p) (mul-dvd-mul_left (b / g) a factor))
   where
-    regroup : (x y z : ℕ) → (x * y) * z ≡ (x * z) * y
-    regroup x y z = omega arith
+    swap_last_factors : (x y z : ℕ) → (x * y) * z ≡ (x * z) * y
+    swap_last_factors x y z = omega arith
 
 -- the product over the greatest common divisor is the least common multiple
 pub lcm_is : (a b : ℕ) → IsLcm a b (lcm a b)

@@ -8,7 +8,7 @@ use Rattle.it_number.specs.Division.{int_quotient}
 use Rattle.it_number.proofs.Quotients.{abs-over}
 use Rattle.std.proofs.lemmas.Nat.Gcd.{IsGcd-swap, dvd_refl, dvd_trans}
 use Prim.Native.Nat.{◌∣◌}
-use native.Mathlib.Nat.{dvd-mul_left, dvd-mul_left_of_dvd, dvd-mul_right_of_dvd, one-dvd, div-mul_cancel, mul-div_cancel'}
+use native.Mathlib.Nat.{dvd-mul_left, dvd-mul_left_of_dvd, dvd-mul_right_of_dvd, one-dvd, div-mul_cancel}
 
 -- z over k, back
 pub over_back : (n : ℤ) (g : ℕ) → g ∣ unsigned_abs n → int_quotient n g *ℤ pos g ≡ n
@@ -18,10 +18,6 @@ over_back (negsuc n) g h = omega (arith, ints, zring, div-mul_cancel g h)
 -- a divisor of a multiple's factor
 of_multiple : (k : ℕ) (z q : ℤ) → q *ℤ pos k ≡ z → k ∣ unsigned_abs z
 of_multiple k z q e = subst (λ n. k ∣ n) (sym (unsigned_abs-mul q (pos k)) ∙ ap unsigned_abs e) (dvd-mul_left k (unsigned_abs q))
-
--- what divides a sum and one part divides the other
-pub divides_rest : (k : ℕ) (x y : ℤ) → k ∣ unsigned_abs (x +ℤ y) → k ∣ unsigned_abs x → k ∣ unsigned_abs y
-divides_rest k x y h g = of_multiple k y (int_quotient (x +ℤ y) k -ℤ int_quotient x k) (omega (arith, zring, over_back (x +ℤ y) k h, over_back x k g))
 
 pub divides_rest_left : (k : ℕ) (x y : ℤ) → k ∣ unsigned_abs (x +ℤ y) → k ∣ unsigned_abs y → k ∣ unsigned_abs x
 divides_rest_left k x y h g = of_multiple k x (int_quotient (x +ℤ y) k -ℤ int_quotient y k) (omega (arith, zring, over_back (x +ℤ y) k h, over_back y k g))
@@ -61,7 +57,7 @@ sum_lowest a c b d g b' d' g' hd ab cd is eb ed t et it =
     swap x y = omega (arith, ints)
 
     splits : (h : ℕ) → h * g' ≡ g → 0 < g' → d' * g ≡ d → d / g' ≡ h * d'
-    splits h e s f = native.Mathlib.Nat.div-eq_of_eq-mul_left s (sym f ∙ ap (λ n. d' * n) (sym e) ∙ regroup d' h g')
+    splits h e s f = native.Mathlib.Nat.div-eq_of_eq-mul_left s (sym f ∙ ap (λ n. d' * n) (sym e) ∙ swap_first_factors d' h g')
       where
-        regroup : (x y z : ℕ) → x * (y * z) ≡ y * x * z
-        regroup x y z = omega arith
+        swap_first_factors : (x y z : ℕ) → x * (y * z) ≡ y * x * z
+        swap_first_factors x y z = omega arith

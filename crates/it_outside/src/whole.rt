@@ -1,5 +1,5 @@
 //! Reading a source to its end, and writing a piece whole.
-ghost use Rattle.std.specs.Prelude.{◌≡◌, ◌≢◌, ◌≤◌, length, IfOk, IfErr, OnOk, OnErr, IsErrOf};
+ghost use Rattle.std.specs.Prelude.{◌≢◌, ◌≤◌, length, IfOk, IfErr, OnOk, OnErr, IsErrOf};
 ghost use Rattle.it_outside.specs.Causes.{Rose};
 ghost use Rattle.it_outside.specs.Traffic.{Gains, Gave, GaveAtMost, GaveMore, TookFront};
 

@@ -2,7 +2,7 @@
 use Rattle.std.proofs.Common.{◌≡◌, ◌≢◌, ◌⊎◌, inl, inr, ℕ, zero, suc, ◌<◌, ℤ, pos, negsuc, ◌*ℤ◌, ◌≤ℤ◌, neg_ℤ, true, refl, sym, ap, ◌∙◌, arith, mul-pos}
 use Rattle.std.proofs.lemmas.Bool.{false≢true}
 use Rattle.std.proofs.lemmas.Int.{ints}
-use Rattle.it_rational.specs.Rational.{Rational, quotient, sign_least, is_at_least_zero}
+use Rattle.it_rational.specs.Rational.{Rational, sign_least, is_at_least_zero}
 use Rattle.it_rational.specs.Rational as Q
 use Rattle.it_rational.proofs.Names.{same_across, quotient_names}
 use Rattle.it_rational.proofs.RationalLaws.{ring_ℚ}
@@ -22,19 +22,19 @@ either (pos n) = inl (omega (arith, ints))
 either (negsuc n) = inr (omega (arith, ints))
 
 -- a numerator of 0 is the number 0
-pub null_from : (q : Rational) → q.num ≡ pos 0 → q ≡ Q.whole (pos 0)
-null_from q e = same_across q (Q.whole (pos 0)) (ap (λ z. z *ℤ pos (Q.whole (pos 0)).den) e ∙ zero_is (pos (Q.whole (pos 0)).den) ∙ sym (zero_is (pos q.den)) ∙ ap (λ z. z *ℤ pos q.den) (sym whole_zero))
+pub null_from : (q : Rational) → q.num ≡ pos 0 → q ≡ Q.integer (pos 0)
+null_from q e = same_across q (Q.integer (pos 0)) (ap (λ z. z *ℤ pos (Q.integer (pos 0)).den) e ∙ zero_is (pos (Q.integer (pos 0)).den) ∙ sym (zero_is (pos q.den)) ∙ ap (λ z. z *ℤ pos q.den) (sym whole_zero))
   where
     zero_is : (z : ℤ) → pos 0 *ℤ z ≡ pos 0
     zero_is z = omega (arith, ints)
 
-    whole_zero : (Q.whole (pos 0)).num ≡ pos 0
-    whole_zero = let n : (Q.whole (pos 0)).num *ℤ pos 1 ≡ pos 0 *ℤ pos (Q.whole (pos 0)).den = quotient_names (pos 0) 1 (omega arith) in omega (arith, ints, n)
+    whole_zero : (Q.integer (pos 0)).num ≡ pos 0
+    whole_zero = let n : (Q.integer (pos 0)).num *ℤ pos 1 ≡ pos 0 *ℤ pos (Q.integer (pos 0)).den = quotient_names (pos 0) 1 (omega arith) in omega (arith, ints, n)
 
 pub least_of : (q : Rational) → is_at_least_zero q ≡ true → IsLeast q
 least_of q h = from_sign q.num h
 
-pub rational_strict : (q : Rational) → is_at_least_zero q ≡ true → is_at_least_zero (Q.minus q) ≡ true → q ≡ Q.whole (pos 0)
+pub rational_strict : (q : Rational) → is_at_least_zero q ≡ true → is_at_least_zero (Q.minus q) ≡ true → q ≡ Q.integer (pos 0)
 rational_strict q h k = null_from q (for_each q.num (Q.minus q).num q.den (Q.minus q).den q.positive (Q.minus q).positive (quotient_names (neg_ℤ q.num) q.den q.positive) (from_sign q.num h) (from_sign (Q.minus q).num k))
   where
     for_each : (a b : ℤ) (d e : ℕ) → 0 < d → 0 < e → b *ℤ pos d ≡ neg_ℤ a *ℤ pos e → pos 0 ≤ℤ a → pos 0 ≤ℤ b → a ≡ pos 0
@@ -46,11 +46,11 @@ rational_strict q h k = null_from q (for_each q.num (Q.minus q).num q.den (Q.min
     for_each (pos (suc a)) (negsuc b) d e hd he q h k = absurd (omega (arith, ints))
     for_each (negsuc a) b d e hd he q h k = absurd (omega (arith, ints))
 
-pub rational_apart : Q.whole (pos 1) ≢ Q.whole (pos 0)
+pub rational_apart : Q.integer (pos 1) ≢ Q.integer (pos 0)
 rational_apart e =
-    let a : (Q.whole (pos 1)).num *ℤ pos 1 ≡ pos 1 *ℤ pos (Q.whole (pos 1)).den = quotient_names (pos 1) 1 (omega arith) in
-    let b : (Q.whole (pos 0)).num *ℤ pos 1 ≡ pos 0 *ℤ pos (Q.whole (pos 0)).den = quotient_names (pos 0) 1 (omega arith) in
-    none (Q.whole (pos 1)).num (Q.whole (pos 0)).num (Q.whole (pos 1)).den (Q.whole (pos 0)).den (Q.whole (pos 1)).positive a b (ap (λ q. q.num) e)
+    let a : (Q.integer (pos 1)).num *ℤ pos 1 ≡ pos 1 *ℤ pos (Q.integer (pos 1)).den = quotient_names (pos 1) 1 (omega arith) in
+    let b : (Q.integer (pos 0)).num *ℤ pos 1 ≡ pos 0 *ℤ pos (Q.integer (pos 0)).den = quotient_names (pos 0) 1 (omega arith) in
+    none (Q.integer (pos 1)).num (Q.integer (pos 0)).num (Q.integer (pos 1)).den (Q.integer (pos 0)).den (Q.integer (pos 1)).positive a b (ap (λ q. q.num) e)
   where
     none : (m n : ℤ) (d e : ℕ) → 0 < d → m *ℤ pos 1 ≡ pos 1 *ℤ pos d → n *ℤ pos 1 ≡ pos 0 *ℤ pos e → m ≡ n → ⊥
     none m n d e h p q r = omega (arith, ints)

@@ -121,5 +121,5 @@ quotient_parts N n D d hd hD is e = (ap (λ q. q.num) (quotient_is N n D d hd hD
 pub own_parts : (n : ℤ) (d : ℕ) → 0 < d → IsGcd (unsigned_abs n) d 1 → ((quotient n d).num ≡ n) × ((quotient n d).den ≡ d)
 own_parts n d h is = quotient_parts n n d d h h is refl
 
-pub whole_names : (n : ℤ) → IsRatio (Q.whole n) n 1
+pub whole_names : (n : ℤ) → IsRatio (Q.integer n) n 1
 whole_names n = quotient_names n 1 (omega arith)

@@ -1,6 +1,6 @@
 -- The rational numbers as a commutative ring, for the solver.
 use Rattle.std.proofs.Common.{◌≡◌, ◌*◌, ◌<◌, ℤ, pos, ◌+ℤ◌, ◌*ℤ◌, neg_ℤ, List, [], ◌∷◌, refl, arith, mul-pos}
-use Rattle.it_rational.specs.Rational.{Rational, quotient}
+use Rattle.it_rational.specs.Rational.{Rational}
 use Rattle.it_rational.specs.Rational as Q
 use Rattle.it_number.proofs.Ring.{ring, v, plus, times, minus, one, nil}
 use Rattle.it_number.specs.Rings.{Ring}
@@ -70,25 +70,25 @@ times_comm a b = same_value (Q.times a b) (Q.times b a) _ _ (a.den * b.den) (b.d
     (times (times (v 0) (v 2)) (times (v 3) (v 1)))
     (times (times (v 2) (v 0)) (times (v 1) (v 3))) refl)
 
-pub zero-plus : (a : Rational) → Q.plus (Q.whole (pos 0)) a ≡ a
-zero-plus a = same_value (Q.plus (Q.whole (pos 0)) a) a _ _ (1 * a.den) a.den (mul-pos (omega arith) a.positive) a.positive
-    (plus_names (Q.whole (pos 0)) a (pos 0) a.num 1 a.den (omega arith) a.positive (whole_names (pos 0)) refl) refl
+pub zero-plus : (a : Rational) → Q.plus (Q.integer (pos 0)) a ≡ a
+zero-plus a = same_value (Q.plus (Q.integer (pos 0)) a) a _ _ (1 * a.den) a.den (mul-pos (omega arith) a.positive) a.positive
+    (plus_names (Q.integer (pos 0)) a (pos 0) a.num 1 a.den (omega arith) a.positive (whole_names (pos 0)) refl) refl
     (ring ring_ℤ (a.num ∷ pos a.den ∷ []) (times (plus (times nil (v 1)) (times (v 0) one)) (v 1)) (times (v 0) (times one (v 1))) refl)
 
-pub one-times : (a : Rational) → Q.times (Q.whole (pos 1)) a ≡ a
-one-times a = same_value (Q.times (Q.whole (pos 1)) a) a _ _ (1 * a.den) a.den (mul-pos (omega arith) a.positive) a.positive
-    (times_names (Q.whole (pos 1)) a (pos 1) a.num 1 a.den (omega arith) a.positive (whole_names (pos 1)) refl) refl
+pub one-times : (a : Rational) → Q.times (Q.integer (pos 1)) a ≡ a
+one-times a = same_value (Q.times (Q.integer (pos 1)) a) a _ _ (1 * a.den) a.den (mul-pos (omega arith) a.positive) a.positive
+    (times_names (Q.integer (pos 1)) a (pos 1) a.num 1 a.den (omega arith) a.positive (whole_names (pos 1)) refl) refl
     (ring ring_ℤ (a.num ∷ pos a.den ∷ []) (times (times one (v 0)) (v 1)) (times (v 0) (times one (v 1))) refl)
 
-pub plus-minus : (a : Rational) → Q.plus a (Q.minus a) ≡ Q.whole (pos 0)
-plus-minus a = same_value (Q.plus a (Q.minus a)) (Q.whole (pos 0)) _ (pos 0) (a.den * a.den) 1 (mul-pos a.positive a.positive) (omega arith)
+pub plus-minus : (a : Rational) → Q.plus a (Q.minus a) ≡ Q.integer (pos 0)
+plus-minus a = same_value (Q.plus a (Q.minus a)) (Q.integer (pos 0)) _ (pos 0) (a.den * a.den) 1 (mul-pos a.positive a.positive) (omega arith)
     (plus_names a (Q.minus a) a.num (neg_ℤ a.num) a.den a.den a.positive a.positive refl (quotient_names (neg_ℤ a.num) a.den a.positive)) (whole_names (pos 0))
     (ring ring_ℤ (a.num ∷ pos a.den ∷ []) (times (plus (times (v 0) (v 1)) (times (minus (v 0)) (v 1))) one) (times nil (times (v 1) (v 1))) refl)
 
 abbrev pub ring_ℚ : Ring Rational
 ring_ℚ = record {
-  null = Q.whole (pos 0);
-  unit = Q.whole (pos 1);
+  null = Q.integer (pos 0);
+  unit = Q.integer (pos 1);
   add = Q.plus;
   mul = Q.times;
   neg = Q.minus;

@@ -1,7 +1,7 @@
 -- The laws of the rational numbers that the gate proves.
 use Rattle.std.specs.Prelude.{◌≡◌, ◌≢◌, pos}
 use Rattle.std.specs.Cmp.{IsTotalOrder}
-use Rattle.it_rational.specs.Rational.{Rational, whole, plus, times, minus, inverse, rational_cmp}
+use Rattle.it_rational.specs.Rational.{Rational, integer, plus, times, minus, inverse, rational_cmp}
 
 -- (a + b) + c = a + (b + c)
 abbrev pub SumsAssociate : Type 0
@@ -13,11 +13,11 @@ SumsCommute = (a b : Rational) → plus a b ≡ plus b a
 
 -- 0 + a = a
 abbrev pub ZeroIsNeutral : Type 0
-ZeroIsNeutral = (a : Rational) → plus (whole (pos 0)) a ≡ a
+ZeroIsNeutral = (a : Rational) → plus (integer (pos 0)) a ≡ a
 
 -- a + (-a) = 0
 abbrev pub NegationsCancel : Type 0
-NegationsCancel = (a : Rational) → plus a (minus a) ≡ whole (pos 0)
+NegationsCancel = (a : Rational) → plus a (minus a) ≡ integer (pos 0)
 
 -- (a b) c = a (b c)
 abbrev pub ProductsAssociate : Type 0
@@ -29,7 +29,7 @@ ProductsCommute = (a b : Rational) → times a b ≡ times b a
 
 -- 1 a = a
 abbrev pub OneIsNeutral : Type 0
-OneIsNeutral = (a : Rational) → times (whole (pos 1)) a ≡ a
+OneIsNeutral = (a : Rational) → times (integer (pos 1)) a ≡ a
 
 -- a (b + c) = a b + a c
 abbrev pub ProductsDistribute : Type 0
@@ -37,7 +37,7 @@ ProductsDistribute = (a b c : Rational) → times a (plus b c) ≡ plus (times a
 
 -- a number that isn't 0 times its inverse is 1
 abbrev pub InversesCancel : Type 0
-InversesCancel = (a : Rational) → a.num ≢ pos 0 → times a (inverse a) ≡ whole (pos 1)
+InversesCancel = (a : Rational) → a.num ≢ pos 0 → times a (inverse a) ≡ integer (pos 1)
 
 -- total, transitive, and ties only between equal numbers
 abbrev pub OrderIsTotal : Type 0

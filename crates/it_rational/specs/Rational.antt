@@ -25,8 +25,8 @@ quotient n (suc d) = record {
 }
 
 -- a whole number as a rational one
-abbrev pub whole : ℤ → Rational
-whole n = quotient n 1
+abbrev pub integer : ℤ → Rational
+integer n = quotient n 1
 
 -- the sum
 abbrev pub plus : Rational → Rational → Rational

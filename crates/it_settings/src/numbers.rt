@@ -1,5 +1,5 @@
 //! The values of options.
-ghost use Rattle.std.specs.Prelude.{◌≡◌, ◌≤◌, ◌<◌, ◌+◌, ◌*◌, ◌-◌, ◌^◌, option_map, IfSome, length};
+ghost use Rattle.std.specs.Prelude.{◌≡◌, ◌≤◌, ◌<◌, ◌+◌, ◌*◌, ◌-◌, option_map, IfSome, length};
 ghost use Rattle.it_number.specs.Decimals.{value_from};
 ghost use Rattle.it_settings.specs.Settings.{number_of, number_or, rows_or, tries_or, pivots_of, pivots_or, format_of, format_or, number_within};
 

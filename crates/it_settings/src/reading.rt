@@ -1,5 +1,5 @@
 //! The reading of the words: what the command takes, each value then judged.
-ghost use Rattle.std.specs.Prelude.{◌≡◌, Option, map, option_map, IfOk, IfSome};
+ghost use Rattle.std.specs.Prelude.{◌≡◌, Option, map, IfOk, IfSome};
 ghost use Rattle.clap.specs.Words.{first_value, found_of, kind_of};
 ghost use Rattle.it_settings.specs.ValuesViews.{values_view};
 ghost use Rattle.it_settings.specs.ErrorKinds.{IsFaultOf};

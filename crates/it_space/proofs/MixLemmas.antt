@@ -5,7 +5,7 @@ use Rattle.std.proofs.lemmas.Bool.{cases_order}
 use Rattle.std.proofs.lemmas.Bool.Decides.{nat_tests}
 use Rattle.it_number.specs.Limit.{IsWithin}
 use Rattle.it_number.specs.Gcd.{gcd}
-use Rattle.it_number.proofs.Divisors.{gcd_is, gcd-pos, gcd-zero}
+use Rattle.it_number.proofs.Divisors.{gcd_is, gcd-pos, gcd_some}
 use Rattle.it_number.proofs.Integers.{zring}
 use Rattle.it_number.proofs.Ring.{ring, v, plus, times as prod}
 use Rattle.it_number.proofs.IntegerRing.{ring_ℤ}
@@ -13,8 +13,8 @@ use native.Mathlib.Nat.{div-mul_cancel}
 use Rattle.it_space.specs.Rows.{Terms, coefficient, Ascends, single_term}
 use Rattle.it_space.specs.Cancelling.{common_at, times_up, times_down, CancelFits, cancelled_row, MixFits}
 use Rattle.it_space.specs.Mixing.{mix, presence, MixesFit, AreLater, IsFirstCoordinate, IsTermPut, IsMix}
-use Rattle.it_space.proofs.TermLemmas.{coefficient-cancelled_row, rises-cancelled_row, ascends_rise, told_rising, coefficient-append, coefficient-single_term, ascends_lower}
-use Rattle.it_space.proofs.CanonicalRows.{none_below, head_is}
+use Rattle.it_space.proofs.TermLemmas.{coefficient-cancelled_row, rises-cancelled_row, coefficient-append, coefficient-single_term, ascends_lower}
+use Rattle.it_space.proofs.CanonicalRows.{ascends_rise, none_below, head_is, told_rising}
 
 -- ascending terms from lo on, all below hi
 abbrev pub Spans : ℕ → Terms → ℕ → Type 0
@@ -250,10 +250,6 @@ common-some at up down k h e = subst (λ (n : ℕ). 0 < n) (sym e) (gcd_some (un
   where
     above : (z : ℤ) → pos 0 <ℤ z → 0 < unsigned_abs z
     above z h = omega (arith, ints)
-
-    gcd_some : (a b : ℕ) → 0 < a → 0 < gcd a b
-    gcd_some a zero h = subst (λ (n : ℕ). 0 < n) (sym (gcd-zero a 0 refl)) h
-    gcd_some a (suc b) h = gcd-pos a (suc b) (omega arith)
 
 pub times_up_is : (at : ℕ) (up down : Terms) (m k : ℕ) → m ≡ unsigned_abs (coefficient down at) → k ≡ common_at at up down → m / k ≡ times_up at up down
 unfolding times_up

@@ -1,12 +1,11 @@
 -- Sums of rows and cancelled rows: the value at every point, and the coefficient at every coordinate.
-use Rattle.std.proofs.Common.{◌≡◌, ◌≢◌, ◌⊎◌, inl, inr, ap₂, ℕ, zero, suc, ◌+◌, ◌<◌, ◌≤◌, ℤ, pos, negsuc, neg_ℤ, ◌+ℤ◌, ◌*ℤ◌, refl, sym, ap, subst, ◌∙◌, arith, [], ◌∷◌, ◌++◌, Bool, true, false, cond, nat_eq, nat_lt, if◌then◌else◌}
+use Rattle.std.proofs.Common.{◌≡◌, ap₂, ℕ, zero, suc, ◌+◌, ◌<◌, ◌≤◌, ℤ, pos, negsuc, neg_ℤ, ◌+ℤ◌, ◌*ℤ◌, refl, sym, ap, subst, ◌∙◌, arith, [], ◌∷◌, ◌++◌, Bool, true, false, cond, nat_eq, nat_lt, if◌then◌else◌}
 use Rattle.std.proofs.lemmas.Int.{ints}
 use Rattle.std.proofs.lemmas.Bool.Decides.{nat_tests}
 use Rattle.it_number.proofs.Integers.{zring}
 use Rattle.it_number.specs.Limit.{IsWithin}
 use Rattle.it_space.specs.Rows.{Terms, coefficient, value, Ascends, single_term, negated_terms, one_at}
-use Rattle.it_space.proofs.CanonicalRows.{here_is, other_is}
-use Rattle.std.proofs.lemmas.Bool.{cases_order}
+use Rattle.it_space.proofs.CanonicalRows.{Rises, ascends_rise}
 use Rattle.it_space.specs.Cancelling.{times_up, times_down, with_term, row_sum, row_multiple, cancelled_row}
 use Rattle.it_space.specs.Mixing.{mix}
 
@@ -122,14 +121,6 @@ coefficient-cancelled_row at up down c = sym (value-one_at (cancelled_row at up 
 
 -- ---- ascending terms without a limit
 
-abbrev pub Rises : ℕ → Terms → Type 0
-Rises from [] = Unit {0}
-Rises from (t ∷ ts) = (from ≤ t.0) × (t.1 ≢ pos 0) × Rises (t.0 + 1) ts
-
-pub ascends_rise : (from : ℕ) (ts : Terms) → Ascends from ts → Rises from ts
-ascends_rise from [] a = tt
-ascends_rise from (t ∷ ts) a = (a.0, a.1, ascends_rise (t.0 + 1) ts a.3)
-
 rises_lower : (lo from : ℕ) (ts : Terms) → lo ≤ from → Rises from ts → Rises lo ts
 rises_lower lo from [] h a = tt
 rises_lower lo from (t ∷ ts) h a = (omega (arith, a.0), a.1, a.2)
@@ -175,33 +166,3 @@ pub rises-cancelled_row : (at : ℕ) (up down : Terms) → 0 < times_up at up do
 unfolding cancelled_row
 rises-cancelled_row at up down h k a b = rises-row_sum 0 (row_multiple (times_up at up down) up) (row_multiple (times_down at up down) down)
     (rises-row_multiple 0 (times_up at up down) up h (ascends_rise 0 up a)) (rises-row_multiple 0 (times_down at up down) down k (ascends_rise 0 down b))
-
-none_under : (from : ℕ) (ts : Terms) (c : ℕ) → Rises from ts → c < from → coefficient ts c ≡ pos 0
-none_under from [] c a h = refl
-none_under from (t ∷ ts) c a h = other_is t ts c (λ e. omega (arith, a.0)) ∙ none_under (t.0 + 1) ts c a.2 (omega (arith, a.0))
-
-first_is : (from : ℕ) (t : ℕ × ℤ) (ts : Terms) → Rises from (t ∷ ts) → coefficient (t ∷ ts) t.0 ≡ t.1
-first_is from t ts a = here_is t ts t.0 refl ∙ ap (λ z. t.1 +ℤ z) (none_under (t.0 + 1) ts t.0 a.2 (omega arith)) ∙ omega (arith, ints)
-
--- two rising rows with one coefficient at each coordinate are one
-pub told_rising : (from : ℕ) (xs ys : Terms) → Rises from xs → Rises from ys → ((c : ℕ) → coefficient xs c ≡ coefficient ys c) → xs ≡ ys
-told_rising from [] [] a b h = refl
-told_rising from [] (y ∷ ys) a b h = absurd (b.1 (sym (first_is from y ys b) ∙ sym (h y.0)))
-told_rising from (x ∷ xs) [] a b h = absurd (a.1 (sym (first_is from x xs a) ∙ h x.0))
-told_rising from (x ∷ xs) (y ∷ ys) a b h = by_order (cases_order x.0 y.0) (λ e. told_rising (x.0 + 1) xs ys a.2 (subst (λ (n : ℕ). Rises (n + 1) ys) (sym e) b.2) (rests e))
-  where
-    later : (c : ℕ) → (t : ℕ × ℤ) (ts : Terms) → Rises from (t ∷ ts) → c < t.0 → coefficient (t ∷ ts) c ≡ pos 0
-    later c t ts k l = none_under t.0 (t ∷ ts) c (omega arith, k.1, k.2) l
-
-    rests : x.0 ≡ y.0 → (c : ℕ) → coefficient xs c ≡ coefficient ys c
-    rests e c = by_cases (cases_order c x.0)
-      where
-        by_cases : (c ≡ x.0) ⊎ ((c < x.0) ⊎ (x.0 < c)) → coefficient xs c ≡ coefficient ys c
-        by_cases (inr (inl l)) = none_under (x.0 + 1) xs c a.2 (omega arith) ∙ sym (none_under (y.0 + 1) ys c b.2 (omega arith))
-        by_cases (inl q) = none_under (x.0 + 1) xs c a.2 (omega arith) ∙ sym (none_under (y.0 + 1) ys c b.2 (omega arith))
-        by_cases (inr (inr g)) = sym (other_is x xs c (λ q. omega arith)) ∙ h c ∙ other_is y ys c (λ q. omega arith)
-
-    by_order : (x.0 ≡ y.0) ⊎ ((x.0 < y.0) ⊎ (y.0 < x.0)) → (x.0 ≡ y.0 → xs ≡ ys) → x ∷ xs ≡ y ∷ ys
-    by_order (inr (inl l)) ih = absurd (a.1 (sym (first_is from x xs a) ∙ h x.0 ∙ later x.0 y ys b l))
-    by_order (inl e) ih = ap₂ (λ t ts. t ∷ ts) (ap₂ (λ (n : ℕ) (z : ℤ). let p : ℕ × ℤ = (n, z) in p) e (sym (first_is from x xs a) ∙ h x.0 ∙ ap (coefficient (y ∷ ys)) e ∙ first_is from y ys b)) (ih e)
-    by_order (inr (inr g)) ih = absurd (b.1 (sym (first_is from y ys b) ∙ sym (h y.0) ∙ later y.0 x xs a g))

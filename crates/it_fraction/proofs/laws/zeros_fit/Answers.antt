@@ -1,6 +1,6 @@
 use Rattle.std.proofs.Common.{◌≡◌, pos, subst}
 use Rattle.it_number.specs.Limit.{IsWithin}
-use Rattle.it_rational.specs.Rational.{whole}
+use Rattle.it_rational.specs.Rational.{integer}
 use Rattle.it_fraction.specs.Fits.{IsNarrow}
 use Rattle.it_fraction.proofs.ZeroLemmas.{zero_parts, minus-narrow, sum-zero-fits, zero-sum-fits, difference-zero-fits, zero-difference-fits, product-zero-narrow, zero-product-narrow, zero-quotient-narrow}
 use Rattle.it_fraction.proofs.laws.zeros_fit.Goals as goal
@@ -12,7 +12,7 @@ narrow c = (rw (← c.num-num.ensures.value) c.num-num.ensures.within, subst IsW
 pub returns : goal.returns
 returns c =
     let n = narrow (goal.at.returns c).After-den-den in
-    let zero = whole (pos 0) in
+    let zero = integer (pos 0) in
     let e : zero.num ≡ pos 0 = zero_parts.0 in
     record {
       sum = sum-zero-fits c.args.x zero e n;
