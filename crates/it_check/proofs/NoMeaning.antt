@@ -30,24 +30,24 @@ plain x = omega (arith, ints)
 
 -- ---- one generator
 
-unbroken : (k : Kind) (x : ℤ) → violates k x ≡ false → Meets k x
-unbroken Inequality x e = least x e
-unbroken Equation x e = by_test (int_eq x (pos 0)) (Decides-int_eq x (pos 0)) e
+meets_unless_violated : (k : Kind) (x : ℤ) → violates k x ≡ false → Meets k x
+meets_unless_violated Inequality x e = least x e
+meets_unless_violated Equation x e = by_test (int_eq x (pos 0)) (Decides-int_eq x (pos 0)) e
   where
     by_test : (b : Bool) → Decides b (x ≡ pos 0) → not b ≡ false → x ≡ pos 0
     by_test true d e = d.0 refl
     by_test false d e = absurd (cc)
 
-not_broken : (k : Kind) (x : ℤ) → Meets k x → violates k x ≡ false
-not_broken Inequality x h = not_below x h
-not_broken Equation x h = ap not ((Decides-int_eq x (pos 0)).1 h)
+meets_not_violated : (k : Kind) (x : ℤ) → Meets k x → violates k x ≡ false
+meets_not_violated Inequality x h = not_below x h
+meets_not_violated Equation x h = ap not ((Decides-int_eq x (pos 0)).1 h)
 
 -- the value fits, and meets what is said of it
 abbrev pub IsRight : (ℕ → ℤ) → Generator → Type 0
 IsRight p g = ValueFits g.row p × Meets g.kind (value g.row p)
 
-broken_clean : (count i : ℕ) (x : ℤ) → violation count i x ≡ Valid → ⊥
-broken_clean count i x e = by_test (ltb i count) e
+violation_not_valid : (count i : ℕ) (x : ℤ) → violation count i x ≡ Valid → ⊥
+violation_not_valid count i x e = by_test (ltb i count) e
   where
     by_test : (b : Bool) → cond b (BrokenElemental i x) (UnmetConstraint i x) ≡ Valid → ⊥
     by_test true e = cc
@@ -58,7 +58,7 @@ value_clean count i k None q = cc
 value_clean count i k (Some x) q = by_test (violates k x) q
   where
     by_test : (b : Bool) → cond b (Some (violation count i x)) None ≡ Some Valid → ⊥
-    by_test true q = broken_clean count i x (inside (violation count i x) q)
+    by_test true q = violation_not_valid count i x (inside (violation count i x) q)
       where
         inside : (v : Verdict) → Some v ≡ Some Valid → v ≡ Valid
         inside v q = cc
@@ -69,7 +69,7 @@ generator_none count i g p q = by_option (sum_within (pos 0) g.row p) (λ x e. s
   where
     by_option : (o : Option ℤ) → ((x : ℤ) → o ≡ Some x → ValueFits g.row p × (x ≡ pos 0 +ℤ value g.row p)) → of_value count i g.kind o ≡ None → IsRight p g
     by_option None f q = absurd (cc)
-    by_option (Some x) f q = ((f x refl).0, subst (Meets g.kind) ((f x refl).1 ∙ plain (value g.row p)) (unbroken g.kind x (tested (violates g.kind x) q)))
+    by_option (Some x) f q = ((f x refl).0, subst (Meets g.kind) ((f x refl).1 ∙ plain (value g.row p)) (meets_unless_violated g.kind x (tested (violates g.kind x) q)))
       where
         tested : (b : Bool) → cond b (Some (violation count i x)) None ≡ None → b ≡ false
         tested true q = absurd (cc)
@@ -77,7 +77,7 @@ generator_none count i g p q = by_option (sum_within (pos 0) g.row p) (λ x e. s
 
 none_generator : (count i : ℕ) (g : Generator) (p : ℕ → ℤ) → IsRight p g → of_generator count i g p ≡ None
 none_generator count i g p h = ap (of_value count i g.kind) (sum_fits (pos 0) g.row p h.0 ∙ ap Some (plain (value g.row p)))
-    ∙ ap (λ b. cond b (Some (violation count i (value g.row p))) None) (not_broken g.kind (value g.row p) h.1)
+    ∙ ap (λ b. cond b (Some (violation count i (value g.row p))) None) (meets_not_violated g.kind (value g.row p) h.1)
 
 -- ---- all generators
 

@@ -70,7 +70,7 @@ yes_verdict gs size target w = valid_unless (or_else (of_scale w.scale) (or_else
 
 -- ---- counterexamples
 
--- a value that breaks what is to be at least 0, or to be 0
+-- a value that violates what is to be at least 0, or to be 0
 abbrev pub violates : Kind → ℤ → Bool
 violates Inequality x = int_lt x (pos 0)
 violates Equation x = not (int_eq x (pos 0))
@@ -79,7 +79,7 @@ violates Equation x = not (int_eq x (pos 0))
 abbrev pub violation : ℕ → ℕ → ℤ → Verdict
 violation count i x = if nat_lt i count then BrokenElemental i x else UnmetConstraint i x
 
--- a value that is wide, or breaks what is asked of generator i
+-- a value that is wide, or violates what is asked of generator i
 abbrev pub of_value : ℕ → ℕ → Kind → Option ℤ → Option Verdict
 of_value count i kind None = Some (Width i)
 of_value count i kind (Some x) = if violates kind x then Some (violation count i x) else None

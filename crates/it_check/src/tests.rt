@@ -54,11 +54,11 @@ fn a_point_has_the_first_verdict(rt: HostRuntime) -> Result<(), Fail> {
     assert!(rt; check_no(&problem, &target, &point) == Verdict::Valid);
     // I(X;Y) is -1
     let point = Point::new(SPACE, vec![in alloc; 0, 1, 2]?);
-    let broken = Verdict::BrokenElemental {
+    let violated = Verdict::BrokenElemental {
         index: 2,
         value: -1,
     };
-    assert!(rt; check_no(&problem, &target, &point) == broken);
+    assert!(rt; check_no(&problem, &target, &point) == violated);
     // I(X;Y)
     let target = Row::new(vec![in alloc; (1, 1), (2, 1), (3, -1)]?);
     let point = Point::new(SPACE, vec![in alloc; 1, 1, 1]?);

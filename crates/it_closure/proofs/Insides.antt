@@ -1,5 +1,5 @@
 -- Sets inside each other, digit by digit.
-use Rattle.std.proofs.Common.{◌≡◌, ◌⊎◌, inl, inr, ℕ, ◌-◌, ◌^◌, ◌<◌, ◌≤◌, bit_and, bit_or, ap, subst, ◌∙◌, arith, Bool, true, false, ◌&&◌, refl}
+use Rattle.std.proofs.Common.{◌≡◌, ◌⊎◌, inl, inr, ℕ, ◌-◌, ◌^◌, ◌<◌, ◌≤◌, bit_and, bit_or, ap, subst, ◌∙◌, arith}
 use Rattle.std.proofs.lemmas.Bool.{cases_lt}
 use Rattle.std.proofs.lemmas.Nat.{and_le_r, le_or_l, and_mask}
 use Rattle.std.proofs.lemmas.Nat.Bits.{bit_at_and, bit_at_or, same_from_bits}
@@ -46,9 +46,3 @@ grows a t n = by_cases (cases_lt a (bit_or a t))
     by_cases : (a < bit_or a t) ⊎ (bit_or a t ≤ a) → a < bit_or a t
     by_cases (inl h) = h
     by_cases (inr h) = let e : bit_or a t ≡ a = omega (arith, le_or_l a t) in absurd (n (subst (IsInside t) e (inside_right a t)))
-
--- two tests that are both true
-pub both_true : (x y : Bool) → (x && y) ≡ true → (x ≡ true) × (y ≡ true)
-both_true true true e = (refl, refl)
-both_true true false e = absurd (cc)
-both_true false y e = absurd (cc)

@@ -6,9 +6,10 @@ use Rattle.std.proofs.lemmas.Nat.{pow_pos}
 use Rattle.it_space.specs.Sets.{IsInside}
 use Rattle.it_polymatroid.specs.Elementals.{span}
 use Rattle.it_space.proofs.EveryLemmas.{every_of, all_of, every-filter, every-same, every_all}
+use Rattle.it_space.proofs.BoolLemmas.{both_true}
 use Rattle.it_closure.specs.declared.dependences.Dependence.{Dependence}
 use Rattle.it_closure.specs.Closures.{IsClosed, is_inside, is_open, is_closed, meet_all, closure, IsClosureOf}
-use Rattle.it_closure.proofs.Insides.{inside-refl, inside-trans, inside-antisym, inside_all, inside_le, both_true}
+use Rattle.it_closure.proofs.Insides.{inside-refl, inside-trans, inside-antisym, inside_all, inside_le}
 use Rattle.it_polymatroid.proofs.Images.{inside_meet, meet_left, meet_right}
 
 -- a set keeps a dependence

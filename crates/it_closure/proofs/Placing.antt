@@ -4,9 +4,10 @@ use Rattle.std.proofs.lemmas.Int.{ints}
 use Rattle.std.proofs.lemmas.Bool.{eqb-true, cases_lt}
 use Rattle.std.proofs.lemmas.Nat.{pow_pos}
 use Rattle.std.proofs.Math.Pow.{pow_mono}
-use Rattle.std.proofs.lemmas.List.{drop_more, length-replicate}
+use Rattle.std.proofs.lemmas.List.{length-replicate}
 use Rattle.std.proofs.lemmas.List.Elements.{All-replicate}
 use Rattle.it_number.specs.Limit.{IsWithin}
+use Rattle.it_space.proofs.ListLemmas.{drop_item}
 use Rattle.it_space.specs.declared.spaces.Space.{Space}
 use Rattle.it_space.specs.Rows.{Terms, coefficient}
 use Rattle.it_closure.specs.declared.dependences.Dependence.{Dependence}
@@ -105,13 +106,10 @@ placing-start n ds terms size values e = record {
   total = λ c. omega (arith, ints);
 }
 
-rest_is : (terms : Terms) (i : ℕ) (t : ℕ × ℤ) → i < length terms → t ≡ get_or terms i t → drop i terms ≡ t ∷ drop (i + 1) terms
-rest_is terms i t h is = drop_more terms i t h ∙ ap (λ x. x ∷ drop (i + 1) terms) (sym is)
-
 pub placing-more : (n : ℕ) (ds : List Dependence) (terms : Terms) (size : ℕ) (values new : List ℤ) (i p : ℕ) (t : ℕ × ℤ) → i < length terms → t ≡ get_or terms i t → p ≡ place n ds t.0
     → IsPutAtPlace values new p t.1 → IsPlacing n ds terms size values i → IsPlacing n ds terms size new (i + 1)
 placing-more n ds terms size values new i p t h is e put u =
-    let split : drop i terms ≡ t ∷ drop (i + 1) terms = rest_is terms i t h is in
+    let split : drop i terms ≡ t ∷ drop (i + 1) terms = drop_item terms i t h is in
     let q : ℕ × ℤ = (place n ds t.0, t.1) in
     let f = subst (λ (r : Terms). PlaceSumsFit u.sofar (placed_terms n ds r) ↔ PlaceSumsFit (λ c. pos 0) (placed_terms n ds terms)) split u.fits in
     let here : 0 < place n ds t.0 → IsWithin (u.sofar (place n ds t.0) +ℤ t.1) =
@@ -132,7 +130,7 @@ placing-more n ds terms size values new i p t h is e put u =
 pub placing-stops : (n : ℕ) (ds : List Dependence) (terms : Terms) (size : ℕ) (values : List ℤ) (i p : ℕ) (t : ℕ × ℤ) → i < length terms → t ≡ get_or terms i t → p ≡ place n ds t.0
     → ¬ (0 < p → IsWithin (number_at values p +ℤ t.1)) → IsPlacing n ds terms size values i → ¬ (CollapseFits n ds terms)
 placing-stops n ds terms size values i p t h is e wide u all =
-    let f = subst (λ (r : Terms). PlaceSumsFit u.sofar (placed_terms n ds r)) (rest_is terms i t h is) (u.fits.1 all) in
+    let f = subst (λ (r : Terms). PlaceSumsFit u.sofar (placed_terms n ds r)) (drop_item terms i t h is) (u.fits.1 all) in
     wide (λ k. subst (λ (m : ℕ). IsWithin (number_at values m +ℤ t.1)) (sym e) (subst (λ (y : ℤ). IsWithin (y +ℤ t.1)) (sym (u.same (place n ds t.0) (subst (λ (m : ℕ). 0 < m) e k))) (f.0 (subst (λ (m : ℕ). 0 < m) e k))))
 
 pub placing-end : (n : ℕ) (ds : List Dependence) (terms : Terms) (size : ℕ) (values : List ℤ) (i : ℕ) → length terms ≤ i → IsPlacing n ds terms size values i → ArePlaced n ds terms size values

@@ -6,6 +6,7 @@ use Rattle.it_space.specs.declared.problems.Kind.{Kind}
 use Rattle.it_space.specs.declared.problems.Kind.TheVariants.{Inequality, Equation}
 use Rattle.it_space.specs.declared.problems.Constraint.{Constraint}
 use Rattle.it_space.specs.Rows.{Terms, IsUpTo}
+use Rattle.it_space.proofs.BoolLemmas.{both_true}
 use Rattle.it_closure.specs.declared.dependences.Dependence.{Dependence}
 use Rattle.it_closure.specs.declared.reading.SetPair.{SetPair}
 use Rattle.it_closure.specs.Closures.{is_inside}
@@ -14,7 +15,7 @@ use Rattle.it_elemental.specs.Generators.{is_equation}
 use Rattle.it_elemental.specs.Rows.{set_term}
 use Rattle.it_closure.specs.Reading.{dependence_row, is_given, SaysDependence, is_one, is_minus_one, ends_of, are_ends, with_number, read_one}
 use Rattle.it_closure.specs.ReadLaws.{ReadsExactly}
-use Rattle.it_closure.proofs.Insides.{inside_le, both_true}
+use Rattle.it_closure.proofs.Insides.{inside_le}
 use Rattle.it_closure.proofs.Meets.{tested, test-true}
 
 apart : false ≡ true → ⊥

@@ -12,7 +12,7 @@ IsClosed ds a = All (λ d. IsInside d.from a → IsInside d.to a) ds
 abbrev pub is_inside : ℕ → ℕ → Bool
 is_inside s t = nat_eq (bit_and s t) s
 
--- whether a set breaks a dependence: it holds what determines, and not all that is determined
+-- whether a set violates a dependence: it holds what determines, and not all that is determined
 abbrev pub is_open : Dependence → ℕ → Bool
 is_open d a = is_inside d.from a && not (is_inside d.to a)
 
@@ -45,12 +45,12 @@ ClosureIsLeast = (n : ℕ) (ds : List Dependence) (s : ℕ) → All (λ d. d.to 
 abbrev pub MeetsDependences : List Dependence → (ℕ → ℤ) → Type 0
 MeetsDependences ds h = All (λ d. h d.to ≡ h d.from) ds
 
--- the first dependence that a set breaks
+-- the first dependence that a set violates
 abbrev pub first_open : List Dependence → ℕ → Option Dependence
 first_open [] a = None
 first_open (d ∷ ds) a = if is_open d a then Some d else first_open ds a
 
--- a set that isn't closed with the first dependence that it breaks, and the rest of the way from its union with what that one determines
+-- a set that isn't closed with the first dependence that it violates, and the rest of the way from its union with what that one determines
 abbrev pub way_on : ℕ → Option Dependence → (ℕ → List (ℕ × Dependence)) → List (ℕ × Dependence)
 way_on a None rest = []
 way_on a (Some d) rest = (a, d) ∷ rest (bit_or a d.to)
@@ -60,7 +60,7 @@ abbrev pub way_for : ℕ → List Dependence → ℕ → List (ℕ × Dependence
 way_for zero ds a = []
 way_for (suc turns) ds a = way_on a (first_open ds a) (λ b. way_for turns ds b)
 
--- the way from a to its closure: the sets on it that aren't closed, each with the first dependence that it breaks. Each turn adds a
+-- the way from a to its closure: the sets on it that aren't closed, each with the first dependence that it violates. Each turn adds a
 -- member, so there are fewer turns than sets.
 unfoldable pub way : ℕ → List Dependence → ℕ → List (ℕ × Dependence)
 way n ds a = way_for (2 ^ n) ds a

@@ -1,5 +1,5 @@
 //! The coordinates over closed sets.
-ghost use Rattle.std.specs.Prelude.{◌≡◌, ◌<◌, ◌≤◌, ◌+◌, ◌-◌, ◌^◌, ◌++◌, ◌∷◌, [], Bool, true, cond, filter, length, IfOk, OnOk};
+ghost use Rattle.std.specs.Prelude.{◌≡◌, ◌<◌, ◌+◌, ◌-◌, ◌^◌, ◌++◌, ◌∷◌, [], cond, filter, IfOk, OnOk};
 ghost use Rattle.it_space.specs.Spaces.{IsSpace};
 ghost use Rattle.it_polymatroid.specs.Elementals.{span};
 ghost use Rattle.it_closure.specs.Coordinates.{closed_coordinates, has_row};

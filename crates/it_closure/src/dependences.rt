@@ -1,5 +1,5 @@
 //! The functional dependences among given equations, and the closure of a set under them.
-ghost use Rattle.std.specs.Prelude.{IfOk, ◌≡◌, ◌<◌, ◌^◌, All, length, [], ◌↔◌, IsTrue};
+ghost use Rattle.std.specs.Prelude.{IfOk, ◌≡◌, ◌<◌, ◌^◌, All};
 ghost use Rattle.it_closure.specs.Closures.{closure, first_open, is_open};
 ghost use Rattle.it_space.specs.Problems.{IsProblem, problem_view};
 ghost use Rattle.it_closure.specs.DependencesViews.{AreOfSpace};

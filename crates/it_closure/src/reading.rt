@@ -1,7 +1,6 @@
 //! Given equations read as functional dependences: those whose row is h(to) - h(from), or the negation, where `from` is
 //! strictly inside `to`.
 ghost use Rattle.std.specs.Prelude.{◌≡◌, ◌<◌, ◌≤◌, ◌+◌, ◌^◌, length, Option, Some, None, IfOk};
-ghost use Rattle.it_space.specs.Problems.{IsProblem};
 ghost use Rattle.it_elemental.specs.Generators.{is_equation};
 ghost use Rattle.it_closure.specs.Reading.{are_ends, ends_of, is_given, is_minus_one, is_one, read_from, read_one, with_number};
 
@@ -155,6 +154,7 @@ fn ends_of(terms: &[(u32, i128)]) -> Option<SetPair>
 fn is_one(term: &(u32, i128)) -> bool
     ensures { result ≡ is_one term.now.1 }
 {
+    // written out, so that the prover has each case with its test
     if term.1 == 1 { true } else { false }
 }
 
@@ -162,5 +162,6 @@ fn is_one(term: &(u32, i128)) -> bool
 fn is_minus_one(term: &(u32, i128)) -> bool
     ensures { result ≡ is_minus_one term.now.1 }
 {
+    // written out, so that the prover has each case with its test
     if term.1 == -1 { true } else { false }
 }

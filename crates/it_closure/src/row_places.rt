@@ -8,7 +8,7 @@ ghost use Rattle.it_closure.specs.Collapse.{CollapseFits, IsCollapseOf, place, p
 ghost use Rattle.it_closure.specs.Placings.{ArePlaced, IsPutAtPlace};
 
 use crate::dependences::Dependences;
-use it_fraction::Wide;
+use it_fraction::WideNumber;
 use it_space::{Row, RowFault, Sums, VarSet};
 use std::alloc::Global;
 
@@ -29,7 +29,7 @@ impl Dependences {
         }
     }
 
-    /// The row over closed sets: each set replaced by its closure, and sets with the closure of the empty set left out. Wide
+    /// The row over closed sets: each set replaced by its closure, and sets with the closure of the empty set left out. WideNumber
     /// exactly where a partial sum, by ascending coordinate, is.
     pub fn collapse(&self, alloc: Global, row: &Row) -> Result<Row, RowFault>
         requires { IsUpTo (size_of self.now.space) row.now }
@@ -59,7 +59,7 @@ fn placed_sums(alloc: Global, dependences: &Dependences, row: &Row) -> Result<Su
 }
 
 /// Adds at a place, unless that is 0.
-fn put(sums: &mut Sums, place: u32, amount: i128) -> Result<(), Wide>
+fn put(sums: &mut Sums, place: u32, amount: i128) -> Result<(), WideNumber>
     requires { place < length sums.old }
     ensures put { OnOk result (IsPutAtPlace sums.old sums.new place amount) }
     ensures wide { OnErr result (¬ (0 < place → IsWithin (number_at sums.old place +ℤ amount))) }

@@ -1,8 +1,9 @@
 -- Rows kept up to a number of them, row after row.
-use Rattle.std.proofs.Common.{◌≡◌, inl, ◌↔◌, ℕ, ◌+◌, ◌<◌, ◌≤◌, pos, refl, sym, ap, ap₂, subst, ◌∙◌, arith, List, [], ◌∷◌, ◌++◌, map, length, drop, get_or, Bool, true, false, cond, if◌then◌else◌}
+use Rattle.std.proofs.Common.{◌≡◌, inl, ◌↔◌, ℕ, ◌+◌, ◌<◌, ◌≤◌, pos, refl, sym, ap, ap₂, subst, arith, List, [], ◌∷◌, ◌++◌, map, length, drop, get_or, Bool, true, false, cond, if◌then◌else◌}
 use Rattle.std.specs.List.{list_any, flat_map, AllByRecursion as Every}
 use Rattle.std.specs.Prelude.{filter}
-use Rattle.std.proofs.lemmas.List.{drop_more, length-append}
+use Rattle.std.proofs.lemmas.List.{length-append}
+use Rattle.it_space.proofs.ListLemmas.{drop_item}
 use Rattle.it_space.specs.Rows.{Terms, IsCanonical, coefficient}
 use Rattle.it_space.specs.Divisors.{lowest_terms}
 use Rattle.it_space.specs.Cancelling.{cancelled_row}
@@ -38,7 +39,7 @@ Leads most g rows i first now = (s : List Terms) → Gathers most (flat_map g (d
 
 pub leads_more : (most : ℕ) (g : Terms → List Terms) (rows : List Terms) (i : ℕ) (row : Terms) (first now new : List Terms) → i < length rows → row ≡ get_or rows i row
     → Gathers most (g row) now new → Leads most g rows i first now → Leads most g rows (i + 1) first new
-leads_more most g rows i row first now new h e f l s k = l s (subst (λ (rs : List Terms). Gathers most (flat_map g rs) now s) (sym (drop_more rows i row h ∙ ap (λ r. r ∷ drop (i + 1) rows) (sym e)))
+leads_more most g rows i row first now new h e f l s k = l s (subst (λ (rs : List Terms). Gathers most (flat_map g rs) now s) (sym (drop_item rows i row h e))
     (gathers_both most (g row) (flat_map g (drop (i + 1) rows)) now new s f k))
 
 -- what holds of each still to come holds of all
@@ -47,7 +48,7 @@ Rests P rows i = Every P (drop i rows) ↔ Every P rows
 
 module _ (P : Terms → Type 0) (rows : List Terms) (i : ℕ) (row : Terms) (h : i < length rows) (e : row ≡ get_or rows i row) where
   here : drop i rows ≡ row ∷ drop (i + 1) rows
-  here = drop_more rows i row h ∙ ap (λ r. r ∷ drop (i + 1) rows) (sym e)
+  here = drop_item rows i row h e
 
   pub rests_more : P row → Rests P rows i → Rests P rows (i + 1)
   rests_more p r = (λ a. r.0 (subst (λ (rs : List Terms). Every P rs) (sym here) (p, a)), λ a. (subst (λ (rs : List Terms). Every P rs) here (r.1 a)).1)

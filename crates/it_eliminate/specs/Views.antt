@@ -1,11 +1,10 @@
 -- What elimination ends with, as contracts compare it: each row by its terms.
-use Rattle.std.specs.Prelude.{ℕ}
-use Rattle.it_eliminate.specs.declared.types.Eliminated.{Eliminated}
-use Rattle.it_eliminate.specs.declared.types.Eliminated.TheVariants as eliminated
-use Rattle.it_eliminate.specs.Elimination.{EliminatedView, Region, Rows, Wide}
+use Rattle.it_eliminate.specs.declared.types.EliminationEnd.{EliminationEnd}
+use Rattle.it_eliminate.specs.declared.types.EliminationEnd.TheVariants as eliminated
+use Rattle.it_eliminate.specs.Elimination.{EliminationEndView, Region, Rows, Wide}
 
 -- what elimination ends with, by the terms of the rows
-abbrev pub eliminated_view : Eliminated → EliminatedView
-eliminated_view (eliminated.Region system) = Region system.rows.items
-eliminated_view (eliminated.Rows rate) = Rows rate
-eliminated_view (eliminated.Wide rate) = Wide rate
+abbrev pub elimination_end_view : EliminationEnd → EliminationEndView
+elimination_end_view (eliminated.Region system) = Region system.rows.items
+elimination_end_view (eliminated.Rows rate) = Rows rate
+elimination_end_view (eliminated.Wide rate) = Wide rate

@@ -8,7 +8,7 @@ mod pairs;
 mod types;
 
 pub use elimination::{eliminate, step};
-pub use types::Eliminated;
+pub use types::EliminationEnd;
 
 #[cfg(test)]
 mod tests;

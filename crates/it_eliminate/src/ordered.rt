@@ -1,6 +1,6 @@
 //! Rows in order: each in lowest terms, without zero rows and doubles. Once more of them are there than are allowed, no further
 //! one is kept.
-ghost use Rattle.std.specs.Prelude.{◌≡◌, [], ◌∷◌, length, map, All, OnOk, OnErr, IfOk};
+ghost use Rattle.std.specs.Prelude.{◌≡◌, [], ◌∷◌, OnOk, IfOk};
 ghost use Rattle.it_space.specs.Divisors.{lowest_terms};
 ghost use Rattle.it_space.specs.Rows.{IsCanonical};
 ghost use Rattle.it_eliminate.specs.Elimination.{with_row, ordered_rows};

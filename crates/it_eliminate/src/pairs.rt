@@ -1,7 +1,6 @@
 //! The list of rows after one rate.
-ghost use Rattle.std.specs.Prelude.{◌≡◌, pos, ◌<ℤ◌, [], ◌∷◌, OnOk, IfOk, IfErr};
+ghost use Rattle.std.specs.Prelude.{◌≡◌, pos, ◌<ℤ◌, OnOk, IfOk, IfErr};
 ghost use Rattle.it_space.specs.Rows.{coefficient};
-ghost use Rattle.it_space.specs.Cancelling.{CancelFits};
 ghost use Rattle.it_space.specs.declared.faults.RowFault.TheVariants.{Wide as IsTooWide};
 ghost use Rattle.it_eliminate.specs.Elimination.{next_list, PairsFit};
 ghost use Rattle.std.specs.List.{AllByRecursion as Every, flat_map};

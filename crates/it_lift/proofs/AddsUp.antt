@@ -12,7 +12,7 @@ use Rattle.it_polymatroid.specs.Certificates.{Form, Generators, dot, IsLinear, c
 use Rattle.it_space.specs.Rows.{one_at}
 use Rattle.it_polymatroid.specs.Elementals.{span}
 use Rattle.it_polymatroid.proofs.Forms.{dot_from_one, linear-scale, linear-add, linear_zero, linear_at, linear_same}
-use Rattle.it_elemental.proofs.Spans.{span-append}
+use Rattle.it_polymatroid.proofs.Spans.{span-append}
 use Rattle.it_closure.specs.declared.dependences.Dependence.{Dependence}
 use Rattle.it_closure.specs.Closures.{closure}
 use Rattle.it_closure.specs.Collapse.{place, spread_out, AreDependences}

@@ -4,7 +4,7 @@ use Rattle.std.specs.List.{flat_map}
 use Rattle.std.proofs.lemmas.List.Concat.{flat_map-append}
 use Rattle.std.proofs.lemmas.Nat.{pow_pos}
 use Rattle.it_polymatroid.specs.Elementals.{span}
-use Rattle.it_elemental.proofs.Spans.{span-append}
+use Rattle.it_polymatroid.proofs.Spans.{span-append}
 use Rattle.it_closure.specs.declared.dependences.Dependence.{Dependence}
 use Rattle.it_lift.specs.Lifts.{with_empty, moves_at, moves_of}
 use Rattle.it_lift.specs.Fits.{WeightSumsFit}

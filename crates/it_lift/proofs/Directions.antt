@@ -10,7 +10,7 @@ use Rattle.it_space.specs.Sets.{IsInside}
 use Rattle.it_space.specs.Sums.{plus_at}
 use Rattle.it_polymatroid.specs.Elementals.{Elemental, elementals, span}
 use Rattle.it_space.proofs.EveryLemmas.{every_of, every-append, every-map, every-same, every-flat_map}
-use Rattle.it_polymatroid.proofs.EverySpan.{every-span}
+use Rattle.it_polymatroid.proofs.Spans.{every-span}
 use Rattle.it_elemental.specs.Views.{IsElemental}
 use Rattle.it_elemental.specs.Expansions.{members, mutual_expansion, conditional_expansion}
 use Rattle.it_closure.specs.declared.dependences.Dependence.{Dependence}

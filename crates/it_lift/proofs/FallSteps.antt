@@ -2,8 +2,8 @@
 use Rattle.std.proofs.Common.{◌≡◌, ◌↔◌, ℕ, ◌+◌, ◌<◌, ℤ, ◌-ℤ◌, ◌*ℤ◌, List, ◌∷◌, drop, get_or, length, Result, Ok, Err, sym, ap, subst, subst₂, ◌∙◌, arith}
 use Rattle.std.specs.Result.{OkIff}
 use Rattle.std.proofs.lemmas.Int.{ints}
-use Rattle.std.proofs.lemmas.List.{drop_more}
 use Rattle.it_number.specs.Limit.{IsWithin}
+use Rattle.it_space.proofs.ListLemmas.{drop_item}
 use Rattle.it_polymatroid.specs.Certificates.{combination}
 use Rattle.it_lift.specs.Fits.{FallFits}
 
@@ -11,13 +11,10 @@ pub record IsFalling (ws : List (ℕ × ℤ)) (f : ℕ → ℤ) (whole : ℤ) (i
   pub fits : FallFits left (drop i ws) f ↔ FallFits whole ws f
   pub total : left -ℤ combination (drop i ws) f ≡ whole -ℤ combination ws f
 
-rest_is : (ws : List (ℕ × ℤ)) (i : ℕ) (w : ℕ × ℤ) → i < length ws → w ≡ get_or ws i w → drop i ws ≡ w ∷ drop (i + 1) ws
-rest_is ws i w h is = drop_more ws i w h ∙ ap (λ x. x ∷ drop (i + 1) ws) (sym is)
-
 pub falling-more : (ws : List (ℕ × ℤ)) (f : ℕ → ℤ) (whole : ℤ) (i : ℕ) (left next x : ℤ) (w : ℕ × ℤ) → i < length ws → w ≡ get_or ws i w → x ≡ f w.0
     → (IsWithin (w.1 *ℤ x) × IsWithin (left -ℤ w.1 *ℤ x)) → next ≡ left -ℤ w.1 *ℤ x → IsFalling ws f whole i left → IsFalling ws f whole (i + 1) next
 falling-more ws f whole i left next x w h is at v e u =
-    let split = rest_is ws i w h is in
+    let split = drop_item ws i w h is in
     let g : FallFits left (w ∷ drop (i + 1) ws) f ↔ FallFits whole ws f = subst (λ (r : List (ℕ × ℤ)). FallFits left r f ↔ FallFits whole ws f) split u.fits in
     let t : left -ℤ combination (w ∷ drop (i + 1) ws) f ≡ whole -ℤ combination ws f = subst (λ (r : List (ℕ × ℤ)). left -ℤ combination r f ≡ whole -ℤ combination ws f) split u.total in
     let e' : next ≡ left -ℤ w.1 *ℤ f w.0 = e ∙ ap (λ y. left -ℤ w.1 *ℤ y) at in
@@ -30,7 +27,7 @@ falling-more ws f whole i left next x w h is at v e u =
 pub falling-stops : (ws : List (ℕ × ℤ)) (f : ℕ → ℤ) (whole : ℤ) (i : ℕ) (left x : ℤ) (w : ℕ × ℤ) → i < length ws → w ≡ get_or ws i w → x ≡ f w.0
     → ¬ (IsWithin (w.1 *ℤ x) × IsWithin (left -ℤ w.1 *ℤ x)) → IsFalling ws f whole i left → ¬ (FallFits whole ws f)
 falling-stops ws f whole i left x w h is at wide u all =
-    let here : FallFits left (w ∷ drop (i + 1) ws) f = subst (λ (r : List (ℕ × ℤ)). FallFits left r f) (rest_is ws i w h is) (u.fits.1 all) in
+    let here : FallFits left (w ∷ drop (i + 1) ws) f = subst (λ (r : List (ℕ × ℤ)). FallFits left r f) (drop_item ws i w h is) (u.fits.1 all) in
     wide (subst (λ (y : ℤ). IsWithin (w.1 *ℤ y) × IsWithin (left -ℤ w.1 *ℤ y)) (sym at) (here.0, here.1))
 
 -- the whole excess, from its first product and what is taken off

@@ -9,7 +9,7 @@ use Rattle.std.proofs.lemmas.List.{take_more, get_or-set_other}
 use Rattle.std.proofs.lemmas.Grind.{get_or-set_at}
 use Rattle.it_space.specs.Rows.{coefficient, single_term}
 use Rattle.it_space.specs.Sums.{number_at, terms_from}
-use Rattle.it_lift.specs.Lifted.{WeightsAscend}
+use Rattle.it_lift.specs.LiftedCertificates.{WeightsAscend}
 use Rattle.it_space.proofs.TermLemmas.{coefficient-append}
 
 order_at : (from : ℕ) (ws : List (ℕ × ℤ)) (k : ℕ) (d : ℕ × ℤ) → WeightsAscend from ws → k < length ws → from ≤ (get_or ws k d).0

@@ -1,11 +1,12 @@
 -- Weights added one after the other.
 use Rattle.std.proofs.Common.{◌≡◌, ℕ, ◌+◌, ◌<◌, ◌≤◌, ℤ, ◌+ℤ◌, List, [], ◌∷◌, ◌++◌, map, length, take, drop, get_or, Bool, true, false, cond, refl, sym, ap, ap₂, subst, ◌∙◌, arith, All, bit_and, not, neg_ℤ, Result, Ok, Err, OnOk, OnErr}
 use Rattle.std.proofs.lemmas.Int.{ints}
-use Rattle.std.proofs.lemmas.List.{drop_more, take_more, take-append-drop, map-append}
+use Rattle.std.proofs.lemmas.List.{take_more, take-append-drop, map-append}
 use Rattle.it_number.specs.Limit.{IsWithin}
 use Rattle.it_space.specs.Rows.{coefficient}
 use Rattle.it_polymatroid.specs.Elementals.{Elemental, elementals, elemental_at}
 use Rattle.std.specs.List.{AllByRecursion as Every}
+use Rattle.it_space.proofs.ListLemmas.{drop_item}
 use Rattle.it_space.proofs.EveryLemmas.{every_of}
 use Rattle.it_elemental.specs.Expansions.{members, mutual_expansion, conditional_expansion}
 use Rattle.it_closure.specs.declared.dependences.Dependence.{Dependence}
@@ -59,7 +60,7 @@ one_stops (Ok v) old i x y e a = tt
 one_stops (Err v) old i x y e a = λ w. a (rw e w.0)
 
 split_each : (x : ℤ) (is : List ℕ) (k i : ℕ) → k < length is → i ≡ get_or is k i → for_each x is ≡ for_each x (take k is) ++ (i, x) ∷ for_each x (drop (k + 1) is)
-split_each x is k i h e = ap (for_each x) (sym (take-append-drop k is) ∙ ap (λ r. take k is ++ r) (drop_more is k i h ∙ ap (λ y. y ∷ drop (k + 1) is) (sym e)))
+split_each x is k i h e = ap (for_each x) (sym (take-append-drop k is) ∙ ap (λ r. take k is ++ r) (drop_item is k i h e))
     ∙ map-append (λ i. (i, x)) (take k is) (i ∷ drop (k + 1) is)
 
 pub each-more : (x : ℤ) (is : List ℕ) (k i : ℕ) (a b c : List ℤ) → k < length is → i ≡ get_or is k i → AreWeightsAdded a b (for_each x (take k is)) → AreWeightsAdded b c ((i, x) ∷ []) → AreWeightsAdded a c (for_each x (take (k + 1) is))

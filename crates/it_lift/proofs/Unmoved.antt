@@ -16,7 +16,7 @@ use Rattle.it_closure.specs.DependencesViews.{DependencesView}
 use Rattle.it_closure.proofs.Ways.{way-end}
 use Rattle.it_elemental.specs.Generators.{generators_of}
 use Rattle.it_lift.specs.Lifts.{excess, set_difference, each_weight, turn_moves, moves_at, moves_of, moves, lifted_weights}
-use Rattle.it_lift.specs.Lifted.{AreDependencesOf, IsCertificateOverClosed, IsLiftOf}
+use Rattle.it_lift.specs.LiftedCertificates.{AreDependencesOf, IsCertificateOverClosed, IsLiftOf}
 use Rattle.it_lift.proofs.MoveLemmas.{own_closure}
 use Rattle.it_lift.proofs.Whole.{lifted_adds_up}
 

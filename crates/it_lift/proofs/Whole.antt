@@ -21,7 +21,7 @@ use Rattle.it_elemental.specs.Generators.{generators, generator_at, generators_o
 use Rattle.it_space.proofs.SumLemmas.{terms_from_zero}
 use Rattle.it_polymatroid.proofs.Coefficients.{weighted_same}
 use Rattle.it_lift.specs.Lifts.{excess, moves, lifted_weights, HaveDependences}
-use Rattle.it_lift.specs.Lifted.{AreDependencesOf, WeightsAscend, IsCertificateOverClosed, IsLiftOf, FitsLift}
+use Rattle.it_lift.specs.LiftedCertificates.{AreDependencesOf, WeightsAscend, IsCertificateOverClosed, IsLiftOf, FitsLift}
 use Rattle.it_lift.specs.Sums.{AreWeightsAdded}
 use Rattle.it_lift.proofs.AddsUp.{lift_adds_up}
 use Rattle.it_lift.proofs.Directions.{Goes, goes_up, goes-total, moves_go, moves_placed, weight_sums_fit_as_end}

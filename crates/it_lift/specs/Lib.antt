@@ -1,5 +1,5 @@
 pub mod Lifts
 pub mod Fits
 pub mod Sums
-pub mod Lifted
+pub mod LiftedCertificates
 pub mod OfProblems

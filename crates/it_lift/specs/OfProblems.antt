@@ -3,7 +3,7 @@ use Rattle.std.specs.Prelude.{◌≡◌}
 use Rattle.it_space.specs.Problems.{ProblemView, IsProblem}
 use Rattle.it_closure.specs.DependencesViews.{DependencesView}
 use Rattle.it_closure.specs.Reading.{dependences_of}
-use Rattle.it_lift.specs.Lifted.{AreDependencesOf}
+use Rattle.it_lift.specs.LiftedCertificates.{AreDependencesOf}
 
 -- what is read from a problem are equations of it, in order
 abbrev pub ReadingGivesDependences : Type 0

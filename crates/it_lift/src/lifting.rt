@@ -1,6 +1,5 @@
 //! The lift of a certificate.
-ghost use Rattle.std.specs.Prelude.{[], ◌≢◌, ◌≡◌, ◌<◌, ◌≤◌, ◌+◌, ◌-◌, ◌^◌, ℤ, pos, length, flat_map, All, OnOk, IfOk, IfErr};
-ghost use Rattle.it_number.specs.Limit.{IsWithin};
+ghost use Rattle.std.specs.Prelude.{[], ◌≢◌, ◌≡◌, ◌<◌, ◌≤◌, ◌+◌, ◌-◌, ◌^◌, pos, length, flat_map, All, OnOk, IfOk, IfErr};
 ghost use Rattle.it_space.specs.Answers.{certificate_view};
 ghost use Rattle.it_space.specs.Problems.{IsProblem, problem_view};
 ghost use Rattle.it_space.specs.Rows.{IsUpTo, value};
@@ -8,8 +7,8 @@ ghost use Rattle.it_space.specs.Spaces.{size_of};
 ghost use Rattle.it_polymatroid.specs.Elementals.{elementals, span};
 ghost use Rattle.it_lift.specs.Fits.{EmptyFits, WeightSumsFit};
 ghost use Rattle.it_elemental.specs.Generators.{generators_of};
-ghost use Rattle.it_lift.specs.Lifted.{IsCertificateOverClosed, AreDependencesOf, FitsLift, IsLiftOf};
-ghost use Rattle.it_lift.specs.Lifts.{excess, moves, moves_of, with_empty};
+ghost use Rattle.it_lift.specs.LiftedCertificates.{IsCertificateOverClosed, AreDependencesOf, FitsLift, IsLiftOf};
+ghost use Rattle.it_lift.specs.Lifts.{excess, moves, moves_of};
 ghost use Rattle.it_space.specs.Sums.{number_at};
 ghost use Rattle.it_lift.specs.Sums.{AreWeightsAdded};
 

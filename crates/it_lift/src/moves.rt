@@ -1,13 +1,13 @@
 //! Amounts added to the weights of the inequalities and equations that lead from a set to its closure.
-ghost use Rattle.std.specs.Prelude.{◌≡◌, ◌<◌, ◌≤◌, ◌^◌, ℤ, pos, bit_and, length, flat_map, All, OnOk, IfErr};
+ghost use Rattle.std.specs.Prelude.{◌≡◌, ◌<◌, ◌≤◌, ◌^◌, pos, bit_and, length, flat_map, All, OnOk, IfErr};
 ghost use Rattle.it_number.specs.Limit.{IsWithin};
 ghost use Rattle.it_space.specs.Sets.{IsInside};
 ghost use Rattle.it_polymatroid.specs.Elementals.{elementals};
 ghost use Rattle.it_elemental.specs.Expansions.{members, mutual_expansion, conditional_expansion};
-ghost use Rattle.it_closure.specs.Closures.{closure, way};
+ghost use Rattle.it_closure.specs.Closures.{way};
 ghost use Rattle.it_closure.specs.Collapse.{AreDependences};
 ghost use Rattle.it_lift.specs.Fits.{WeightSumsFit};
-ghost use Rattle.it_lift.specs.Lifts.{each_weight, set_difference, turn_moves, moves_at};
+ghost use Rattle.it_lift.specs.Lifts.{each_weight, turn_moves, moves_at};
 ghost use Rattle.it_space.specs.Sums.{number_at};
 ghost use Rattle.it_lift.specs.Sums.{AreWeightsAdded};
 

@@ -7,7 +7,7 @@ use Rattle.std.proofs.lemmas.Nat.Bits.{bit_at-lt}
 use Rattle.std.specs.Int.{bit_at}
 use Rattle.it_polymatroid.specs.Elementals.{Elemental, Conditional, Mutual, elemental_value, span, lacks, mutuals_of, elementals, ElementalsGenerate}
 use Rattle.it_space.proofs.EveryLemmas.{every_of, all_of, every-append, every_front, every_back, every-map, every_mapped, every-flat_map, every_flat_mapped, every-filter, every_filtered}
-use Rattle.it_polymatroid.proofs.EverySpan.{every-span, every_spanned}
+use Rattle.it_polymatroid.proofs.Spans.{every-span, every_spanned}
 use Rattle.it_polymatroid.proofs.Halves.{ElementalsHold, polymatroid_of}
 use Rattle.it_polymatroid.proofs.Instances.{elementals_of}
 

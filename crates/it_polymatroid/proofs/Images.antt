@@ -1,7 +1,7 @@
 -- What sets of variables stand for, and polymatroids pulled back.
 use Rattle.std.proofs.Common.{◌≡◌, ℕ, zero, suc, ◌+◌, ◌^◌, ◌<◌, ◌≤◌, ◌⊎◌, inl, inr, ℤ, pos, ◌≤ℤ◌, bit_and, bit_or, max, refl, sym, ap, ap₂, subst₂, ◌∙◌, arith, List, [], ◌∷◌, ◌++◌, Bool, true, false, cond, nat_eq, length, drop, get_or, All}
 use Rattle.std.proofs.lemmas.Int.{ints}
-use Rattle.std.proofs.lemmas.List.{drop_more, get_or_append_left, get_or-append-add}
+use Rattle.std.proofs.lemmas.List.{get_or_append_left, get_or-append-add}
 use Rattle.std.proofs.lemmas.Bool.{cases_lt}
 use Rattle.it_number.specs.Limit.{IsWithin}
 use Rattle.it_polymatroid.specs.Tables.{SetFunction, IsTable, value_at}
@@ -10,6 +10,7 @@ use Rattle.std.proofs.lemmas.Nat.{or_lt, and_le_r, pow_pos}
 use Rattle.std.proofs.lemmas.Nat.Bits.{bit_at_and, bit_at_or, bit_at-lt, bit_at-zero, same_from_bits}
 use Rattle.std.specs.Int.{bit_at}
 use Rattle.std.specs.Int.Bits.{or_self, or_zero_l, or_zero_r}
+use Rattle.it_space.proofs.ListLemmas.{drop_item}
 use Rattle.it_space.specs.Sets.{has_member, IsInside}
 use Rattle.it_polymatroid.specs.Polymatroid.{IsPolymatroid}
 use Rattle.it_polymatroid.specs.Substitutions.{union_from, image}
@@ -30,7 +31,7 @@ part first x s = cond (has_member s first) x 0
 pub union-more : (sets : List ℕ) (s u i x : ℕ) → i < length sets → x ≡ get_or sets i x
     → bit_or u (union_from i (drop i sets) s) ≡ bit_or (bit_or u (part i x s)) (union_from (i + 1) (drop (i + 1) sets) s)
 union-more sets s u i x h is =
-    ap (λ xs. bit_or u (union_from i xs s)) (drop_more sets i x h ∙ ap (λ y. y ∷ drop (i + 1) sets) (sym is))
+    ap (λ xs. bit_or u (union_from i xs s)) (drop_item sets i x h is)
     ∙ sym (or_assoc u (part i x s) (union_from (i + 1) (drop (i + 1) sets) s))
 
 -- and at the end

@@ -1,4 +1,4 @@
-pub mod EverySpan
+pub mod Spans
 pub mod Halves
 pub mod Instances
 pub mod Generate

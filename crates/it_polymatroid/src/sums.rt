@@ -13,6 +13,7 @@ pub fn is_at_most(c: i128, d: i128, a: i128, b: i128) -> bool
     let left_turns = turns(c, d, left);
     let right_turns = turns(a, b, right);
     if left_turns == right_turns {
+        // written out, so that the prover has each case with its test
         if left <= right { true } else { false }
     } else {
         if left_turns < right_turns {

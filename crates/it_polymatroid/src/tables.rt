@@ -1,5 +1,5 @@
 //! Tables of the values of all sets, and whether one is a polymatroid.
-ghost use Rattle.std.specs.Prelude.{◌≡◌, ◌<◌, ◌≤◌, ◌^◌, ◌↔◌, ℕ, IsTrue};
+ghost use Rattle.std.specs.Prelude.{◌≡◌, ◌<◌, ◌^◌, ◌↔◌, IsTrue};
 ghost use Rattle.std.specs.Bool.{OnTrue, OnFalse};
 ghost use Rattle.it_polymatroid.specs.Polymatroid.{IsPolymatroid};
 ghost use Rattle.it_polymatroid.specs.Tables.{IsTable, value_at};

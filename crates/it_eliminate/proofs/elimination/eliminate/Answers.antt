@@ -1,7 +1,7 @@
-use Rattle.std.proofs.Common.{rules, ◌≡◌, ◌+◌, ◌^◌, ◌<◌, ◌≤◌, length, get_or, refl, subst}
+use Rattle.std.proofs.Common.{rules, ◌≡◌, ◌+◌, ◌^◌, get_or, refl, subst}
 use Rattle.it_eliminate.specs.declared.types.RateEnd.{RateEnd}
 use Rattle.it_eliminate.specs.declared.types.RateEnd.TheVariants as ends
-use Rattle.it_eliminate.specs.Elimination.{PairsFit, next_list}
+use Rattle.it_eliminate.specs.Elimination.{PairsFit}
 use Rattle.it_eliminate.specs.Gathering.{IsRateEnd}
 use Rattle.it_eliminate.proofs.EndLemmas.{ends_done, ends_wide, ends_many, leads_on}
 use Rattle.it_eliminate.proofs.LawLemmas.{is_projection}

@@ -1,4 +1,4 @@
-use Rattle.std.proofs.Common.{◌^◌, drop}
+use Rattle.std.proofs.Common.{◌^◌}
 use Rattle.it_eliminate.specs.Elimination.{ordered_rows}
 use Rattle.it_eliminate.proofs.EndLemmas.{LeadsTo}
 use Rattle.it_eliminate.proofs.elimination.eliminate.Given as goal

@@ -3,7 +3,7 @@ use Rattle.std.proofs.Common.{◌≡◌, [], length, sym, subst, ◌∙◌}
 use Rattle.std.proofs.lemmas.Bool.{eqb-true}
 use Rattle.std.proofs.lemmas.List.{nil_from_length}
 use Rattle.it_space.specs.Answers.{certificate_view}
-use Rattle.it_lift.specs.Lifted.{IsLiftOf}
+use Rattle.it_lift.specs.LiftedCertificates.{IsLiftOf}
 use Rattle.it_lift.proofs.Unmoved.{unmoved}
 use Rattle.it_lift.proofs.lifting.lift.Goals as goal
 
