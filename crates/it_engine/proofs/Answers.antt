@@ -5,8 +5,8 @@ use Rattle.it_rational.specs.Rational.{Rational}
 use Rattle.it_rational.proofs.Field.{field_ℚ}
 use Rattle.it_space.specs.Rows.{Terms}
 use Rattle.it_tableau.specs.TableauViews.{TableauView, height, table}
-use Rattle.it_tableau.specs.Tables.{Table, FeasibilityProblem}
-use Rattle.it_run.specs.Answers.{solved_end, HasSigns, RunsFrom}
+use Rattle.it_tableau.specs.SimplexTables.{SimplexTable, FeasibilityProblem}
+use Rattle.it_run.specs.Answers.{end_of_answer, HasSigns, RunsFrom}
 use Rattle.it_run.specs.Readings.{weights, point}
 use Rattle.it_run.specs.Runs.RunEndView.{Weights, Point, Pivots}
 use Rattle.it_run.specs.Solving.{RunsTo}
@@ -28,19 +28,19 @@ of_some o x P e h = subst (λ (o : Option _). IfSome o P) e h
 
 module _ (first : TableauView) (columns : List Terms) (limit : ℕ) (old : List WholeRowView) (basis : List ℕ) (budget : Option ℕ) (new : List WholeRowView) (new_basis : List ℕ) where
   pub by_weights : (ws : List (ℕ × Rational)) → IsFinished columns limit old basis budget new new_basis engine_ends.Weights → AreWeightsOf columns new new_basis ws
-      → (p : FeasibilityProblem Rational) (t : Table Rational) → HasSigns first p → StandsFor p t columns limit old basis → RunsTo (length basis) (length columns) p budget t (Weights ws)
+      → (p : FeasibilityProblem Rational) (t : SimplexTable Rational) → HasSigns first p → StandsFor p t columns limit old basis → RunsTo (length basis) (length columns) p budget t (Weights ws)
   by_weights ws f w p t sg s = let r = f.runs p t s in
       subst (λ (ws : List (ℕ × Rational)). RunsTo (length basis) (length columns) p budget t (Weights ws))
       (sym (w p r.0 limit r.1 ∙ ap (λ m. weights field_ℚ m (length columns) r.0) f.height)) (read_run (length basis) (length columns) p budget t (Weights r.0) r.2)
 
   pub by_point : (q : List Rational) → IsFinished columns limit old basis budget new new_basis engine_ends.Point → IsPointOf first new new_basis q
-      → (p : FeasibilityProblem Rational) (t : Table Rational) → HasSigns first p → StandsFor p t columns limit old basis → RunsTo (length basis) (length columns) p budget t (Point q)
+      → (p : FeasibilityProblem Rational) (t : SimplexTable Rational) → HasSigns first p → StandsFor p t columns limit old basis → RunsTo (length basis) (length columns) p budget t (Point q)
   by_point q f w p t sg s = let r = f.runs p t s in
       subst (λ (q : List Rational). RunsTo (length basis) (length columns) p budget t (Point q))
       (sym (w p r.0 columns limit sg r.1 ∙ ap (λ m. point field_ℚ m (length columns) p r.0) f.height)) (read_run (length basis) (length columns) p budget t (Point r.0) r.2)
 
   pub by_budget : (k : ℕ) → IsFinished columns limit old basis budget new new_basis (engine_ends.Pivots k)
-      → (p : FeasibilityProblem Rational) (t : Table Rational) → HasSigns first p → StandsFor p t columns limit old basis → RunsTo (length basis) (length columns) p budget t (Pivots k)
+      → (p : FeasibilityProblem Rational) (t : SimplexTable Rational) → HasSigns first p → StandsFor p t columns limit old basis → RunsTo (length basis) (length columns) p budget t (Pivots k)
   by_budget k f p t sg s = let r = f.runs p t s in read_run (length basis) (length columns) p budget t (Pivots k) r.2
 
 -- from the start
@@ -49,6 +49,6 @@ pub answer_from_start : (t : TableauView) (columns : List Terms) (norm limit : �
     → (budget : Option ℕ) (solved : RunAnswer) → AnswersQuestion t columns limit rows basis budget solved
     → RunsFrom t budget solved
 answer_from_start t columns norm limit rows basis cs n fit ls bs budget solved a p s =
-    subst (λ (m : ℕ). RunsTo m t.generators p budget (table t) (solved_end solved)) bs.0
-    (subst (λ (n : ℕ). RunsTo (length basis) n p budget (table t) (solved_end solved)) cs.0
+    subst (λ (m : ℕ). RunsTo m t.generators p budget (table t) (end_of_answer solved)) bs.0
+    (subst (λ (n : ℕ). RunsTo (length basis) n p budget (table t) (end_of_answer solved)) cs.0
     (a p (table t) s.signs (stands_start t columns norm limit rows basis cs n fit ls bs p s.table_is)))

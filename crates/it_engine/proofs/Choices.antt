@@ -2,12 +2,11 @@
 use Rattle.std.proofs.Common.{◌≡◌, ℕ, zero, suc, ◌+◌, ◌*◌, ◌<◌, ◌≤◌, Bool, true, false, not, cond, eqb, ltb, ◌&&◌, ℤ, pos, negsuc, ◌+ℤ◌, ◌*ℤ◌, neg_ℤ, Option, Some, None, refl, sym, ap, ap₂, subst, ◌∙◌, arith, mul-pos}
 use Rattle.std.proofs.lemmas.Bool.{true≢false, eq-eqb, ne_eqb}
 use Rattle.it_number.proofs.Integers.{zring}
-use Rattle.it_rational.specs.Rational.{Rational, sign_least, is_at_least_zero}
+use Rattle.it_rational.specs.Rational.{Rational, sign_least, is_at_least_zero, IsRatio}
 use Rattle.it_rational.specs.Rational as Q
 use Rattle.it_rational.proofs.Names.{plus_names}
-use Rattle.it_rational.specs.Rational.{IsRatio}
 use Rattle.it_rational.proofs.Field.{field_ℚ}
-use Rattle.it_tableau.specs.Tables.{Table, ratio}
+use Rattle.it_tableau.specs.SimplexTables.{SimplexTable, ratio}
 use Rattle.it_run.specs.Choice.{is_candidate, precedes, leaving_row_of}
 use Rattle.std.specs.Option.{IfSome}
 use Rattle.it_engine.specs.Choosing.{is_above_zero, comes_first, best_after_row, best_row_below}
@@ -45,11 +44,11 @@ difference_sign a b n k x y hx hy e f =
     turn z k x = omega (arith, zring)
 
 -- the best row so far is that of the run
-abbrev pub IsBestRowBelow : ℕ → ℕ → Table Rational → ℕ → ℕ → Option ℕ → Type 0
+abbrev pub IsBestRowBelow : ℕ → ℕ → SimplexTable Rational → ℕ → ℕ → Option ℕ → Type 0
 IsBestRowBelow m n t c i None = leaving_row_of field_ℚ m n t c i ≡ m
 IsBestRowBelow m n t c i (Some k) = (leaving_row_of field_ℚ m n t c i ≡ k) × (k < i) × (is_candidate field_ℚ t c k ≡ true)
 
-module _ (m n : ℕ) (t : Table Rational) (c : ℕ) (entry right : ℕ → ℤ) (bottom basis : ℕ → ℕ)
+module _ (m n : ℕ) (t : SimplexTable Rational) (c : ℕ) (entry right : ℕ → ℤ) (bottom basis : ℕ → ℕ)
     (some : (i : ℕ) → i < m → 0 < bottom i) (entries : (i : ℕ) → i < m → IsRatio (t.entry i c) (entry i) (bottom i))
     (rights : (i : ℕ) → i < m → IsRatio (t.entry i (n + m)) (right i) (bottom i)) (basis_is : (i : ℕ) → i < m → t.basis i ≡ basis i) where
   pub candidate_is_above : (i : ℕ) → i < m → is_candidate field_ℚ t c i ≡ is_above_zero (entry i)

@@ -1,13 +1,13 @@
 -- The columns while the terms of the start's rows are put into them.
 use Rattle.std.proofs.Common.{◌≡◌, ◌⊎◌, inl, inr, ℕ, ◌+◌, ◌<◌, ◌≤◌, ◌++◌, ◌∷◌, ℤ, List, [], length, slice_index_or, sym, ap, subst, ◌∙◌, arith}
 use Rattle.std.proofs.lemmas.Bool.{cases_eq, cases_lt}
-use Rattle.it_rational.specs.Rational.{whole}
+use Rattle.it_rational.specs.Rational.{integer}
 use Rattle.it_space.specs.Rows.{Terms}
 use Rattle.it_tableau.specs.Merging.{column_at, number_of_term}
 use Rattle.it_tableau.specs.SparseRows.{RowTerms, entry_in, ListsEntries}
 use Rattle.it_tableau.specs.TableauViews.{TableauView, height, table, width}
 use Rattle.it_tableau.proofs.Building.{at_column, before_column, column_from, rest_next, rest_over, IsRest}
-use Rattle.it_tableau.proofs.Zeros.{top_from_null}
+use Rattle.it_fraction.proofs.ZeroLemmas.{top_of_zero}
 use Rattle.it_engine.specs.Loading.{AreReadColumns, IsTermPushed, IsReadColumn, IsRowRead, IsTermRead}
 use Rattle.it_engine.proofs.LoadLemmas.{read_more, read_null}
 
@@ -30,7 +30,7 @@ module _ (k : ℕ) (terms : RowTerms) (old : List Terms) (i : ℕ) (now : List T
         by_next (inl m) = w.done j m
         by_next (inr m) = inl (before_column w.width terms i w.next w.rest h j m l, w.left j m)
 
-    pub term_read : (z : ℤ) (new : List Terms) → number_of_term terms i ≡ whole z → IsTermPushed now (column_at terms i) k z new → IsRowReadUpTo k terms old (i + 1) new
+    pub term_read : (z : ℤ) (new : List Terms) → number_of_term terms i ≡ integer z → IsTermPushed now (column_at terms i) k z new → IsRowReadUpTo k terms old (i + 1) new
     term_read z new e p = record {
       width = w.width;
       next = column_at terms i + 1;
@@ -72,7 +72,7 @@ module _ (t : TableauView) (k : ℕ) (terms : RowTerms) (lists : ListsEntries ((
     where
       one : (j : ℕ) → j < t.generators → IsTermRead k (entry_in terms j) (slice_index_or old j []) (slice_index_or new j []) → IsReadColumn (k + 1) (λ i. (table t).entry i j) (slice_index_or new j [])
       one j l (inl s) = subst (IsReadColumn (k + 1) (λ i. (table t).entry i j)) (sym s.1)
-          (read_null k (λ i. (table t).entry i j) (slice_index_or old j []) (top_from_null ((table t).entry k j) (sym (lists.entries j (omega (arith, l))) ∙ s.0)) (a.each j l))
+          (read_null k (λ i. (table t).entry i j) (slice_index_or old j []) (top_of_zero ((table t).entry k j) (sym (lists.entries j (omega (arith, l))) ∙ s.0)) (a.each j l))
       one j l (inr s) = subst (IsReadColumn (k + 1) (λ i. (table t).entry i j)) (sym s.2)
           (read_more k (λ i. (table t).entry i j) (slice_index_or old j []) s.0 (sym (lists.entries j (omega (arith, l))) ∙ s.1) (a.each j l))
 

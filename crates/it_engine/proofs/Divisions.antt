@@ -10,9 +10,6 @@ use Rattle.it_space.specs.Sums.{number_at}
 use Prim.Native.Nat.{◌∣◌}
 use native.Mathlib.Nat.{pos_of_dvd_of_pos}
 
-pub gcd_some : (a b : ℕ) → 0 < a → 0 < gcd a b
-gcd_some a b h = pos_of_dvd_of_pos (gcd_is a b).0 h
-
 -- shared divides the first k numbers and the denominator
 pub record DividesUpTo (shared bottom : ℕ) (numbers : List ℤ) (k : ℕ) : Type 0 where
   pub some : 0 < shared

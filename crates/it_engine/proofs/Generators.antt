@@ -4,14 +4,13 @@ use Rattle.std.proofs.lemmas.Bool.{cases_lt, lt-ltb, le-ltb}
 use Rattle.std.proofs.lemmas.Int.{ints, unsigned_abs-mul}
 use Rattle.std.proofs.lemmas.Nat.{mul-le}
 use Rattle.it_number.proofs.Integers.{zring}
-use Rattle.it_rational.specs.Rational.{Rational}
+use Rattle.it_rational.specs.Rational.{Rational, IsRatio}
 use Rattle.it_rational.specs.Rational as Q
 use Rattle.it_rational.proofs.Names.{plus_names, times_names, whole_names, quotient_names}
-use Rattle.it_rational.specs.Rational.{IsRatio}
 use Rattle.it_rational.proofs.Field.{field_ℚ}
 use Rattle.it_space.specs.Rows.{Terms, value}
 use Rattle.it_tableau.specs.Invariants.{HasInvariants}
-use Rattle.it_tableau.specs.Tables.{Table, FeasibilityProblem}
+use Rattle.it_tableau.specs.SimplexTables.{SimplexTable, FeasibilityProblem}
 use Rattle.it_run.specs.RowValues.{rational_value}
 use Rattle.it_space.specs.Sums.{number_at}
 use Rattle.it_engine.specs.Whole.{WholeRowView, whole_row_at, weight_of_terms, IsShort, IsOver, AreStartColumns, ShowsTable}
@@ -26,15 +25,15 @@ sum_named x y n k d h e f = reduced_name (Q.plus x y) (n +ℤ k) d d h
     gather n k d = omega (arith, zring)
 
 -- a whole multiple of n / d
-pub multiple_named : (a : ℤ) (x : Rational) (n : ℤ) (d : ℕ) → 0 < d → IsRatio x n d → IsRatio (Q.times (Q.whole a) x) (a *ℤ n) d
-multiple_named a x n d h e = subst (λ (k : ℕ). IsRatio (Q.times (Q.whole a) x) (a *ℤ n) k) (once d)
-    (times_names (Q.whole a) x a n 1 d (omega arith) h (whole_names a) e)
+pub multiple_named : (a : ℤ) (x : Rational) (n : ℤ) (d : ℕ) → 0 < d → IsRatio x n d → IsRatio (Q.times (Q.integer a) x) (a *ℤ n) d
+multiple_named a x n d h e = subst (λ (k : ℕ). IsRatio (Q.times (Q.integer a) x) (a *ℤ n) k) (once d)
+    (times_names (Q.integer a) x a n 1 d (omega arith) h (whole_names a) e)
   where
     once : (d : ℕ) → 1 * d ≡ d
     once d = omega arith
 
-zero_named : (d : ℕ) → IsRatio (Q.whole (pos 0)) (pos 0) d
-zero_named d = by_sign (Q.whole (pos 0)).num (Q.whole (pos 0)).den (quotient_names (pos 0) 1 (omega arith))
+zero_named : (d : ℕ) → IsRatio (Q.integer (pos 0)) (pos 0) d
+zero_named d = by_sign (Q.integer (pos 0)).num (Q.integer (pos 0)).den (quotient_names (pos 0) 1 (omega arith))
   where
     by_sign : (z : ℤ) (k : ℕ) → z *ℤ pos 1 ≡ pos 0 *ℤ pos k → z *ℤ pos d ≡ pos 0 *ℤ pos k
     by_sign z k e = let f : z ≡ pos 0 = omega (arith, ints, e) in ap (λ x. x *ℤ pos d) f ∙ omega (arith, ints)
@@ -43,7 +42,7 @@ zero_named d = by_sign (Q.whole (pos 0)).num (Q.whole (pos 0)).den (quotient_nam
 pub value_named : (terms : Terms) (m : ℕ) (g : ℕ → Rational) (f : ℕ → ℤ) (d : ℕ) → 0 < d → All (λ t. t.0 < m) terms → ((k : ℕ) → k < m → IsRatio (g k) (f k) d)
     → IsRatio (rational_value terms g) (value terms f) d
 value_named [] m g f d h a e = zero_named d
-value_named (t ∷ ts) m g f d h a e = sum_named (Q.times (Q.whole t.1) (g t.0)) (rational_value ts g) (t.1 *ℤ f t.0) (value ts f) d h
+value_named (t ∷ ts) m g f d h a e = sum_named (Q.times (Q.integer t.1) (g t.0)) (rational_value ts g) (t.1 *ℤ f t.0) (value ts f) d h
     (multiple_named t.1 (g t.0) (f t.0) d h (e t.0 (a 0 t (omega arith)))) (value_named ts m g f d h (λ k s l. a (suc k) s (omega (arith, l))) e)
 
 -- is at most the weight of the terms times the bound
@@ -62,7 +61,7 @@ value_bounded (t ∷ ts) m f limit a h =
     both : (x y : ℤ) (a b l : ℕ) → unsigned_abs x ≤ a * l → unsigned_abs y ≤ b * l → unsigned_abs (x +ℤ y) ≤ (a + b) * l
     both x y a b l h k = omega (arith, ints, h, k)
 
-module _ (m n limit norm : ℕ) (p : FeasibilityProblem Rational) (t : Table Rational) (columns : List Terms) (rows : List WholeRowView) (basis : List ℕ)
+module _ (m n limit norm : ℕ) (p : FeasibilityProblem Rational) (t : SimplexTable Rational) (columns : List Terms) (rows : List WholeRowView) (basis : List ℕ)
     (h : HasInvariants field_ℚ m n p t) (s : ShowsTable m n limit t rows basis) (cs : AreStartColumns m n norm p columns) (fit : norm * limit < 2 ^ 63) (some : 1 ≤ norm) where
   -- the terms of column j
   abbrev pub column_terms : ℕ → Terms

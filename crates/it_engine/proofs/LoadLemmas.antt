@@ -3,7 +3,7 @@ use Rattle.std.proofs.Common.{◌≡◌, ◌⊎◌, inl, inr, ℕ, zero, suc, �
 use Rattle.std.specs.Option.{IfSome, SomeIff}
 use Rattle.std.proofs.lemmas.List.Elements.{All-append}
 use Rattle.it_number.proofs.Ring.{ring, v, plus, times, nil}
-use Rattle.it_rational.specs.Rational.{Rational, whole}
+use Rattle.it_rational.specs.Rational.{Rational, integer}
 use Rattle.it_rational.specs.Rational as Q
 use Rattle.it_rational.proofs.Field.{null_from}
 use Rattle.it_rational.proofs.Names.{same_value, whole_names}
@@ -21,7 +21,7 @@ use Rattle.it_engine.specs.Loading.{AreReadRows, IsReadRow, IsReadColumn, IsShor
 pub short_whole : (limit : ℕ) (q : Rational) (o : Option ℤ) → pos q.den ≡ pos 1 → SomeIff o (unsigned_abs q.num ≤ limit) q.num → IfSome o (λ z. IsShortWhole limit q z)
 short_whole limit q None d h = tt
 short_whole limit q (Some z) d h = record {
-  value_is = same_value q (whole z) z z 1 1 (omega arith) (omega arith) (named q.num q.den (ap unsigned_abs d) h.1) (whole_names z) refl;
+  value_is = same_value q (integer z) z z 1 1 (omega arith) (omega arith) (named q.num q.den (ap unsigned_abs d) h.1) (whole_names z) refl;
   small = subst (λ (y : ℤ). unsigned_abs y ≤ limit) (sym h.1) h.0;
 }
   where
@@ -43,12 +43,12 @@ read_null k f terms e r = subst (λ (n : ℕ). IsReadColumn n f terms) (one_more
   within = λ i d l. let w = r.within i d l in omega (arith, w);
 }
 
-value_more : (terms : Terms) (k : ℕ) (z : ℤ) (g : ℕ → Rational) → rational_value (terms ++ (k, z) ∷ []) g ≡ Q.plus (Q.times (g k) (whole z)) (rational_value terms g)
-value_more [] k z g = ring ring_ℚ (whole z ∷ g k ∷ []) (plus (times (v 0) (v 1)) nil) (plus (times (v 1) (v 0)) nil) refl
-value_more (t ∷ ts) k z g = ap (Q.plus (Q.times (whole t.1) (g t.0))) (value_more ts k z g)
-    ∙ ring ring_ℚ (Q.times (whole t.1) (g t.0) ∷ Q.times (g k) (whole z) ∷ rational_value ts g ∷ []) (plus (v 0) (plus (v 1) (v 2))) (plus (v 1) (plus (v 0) (v 2))) refl
+value_more : (terms : Terms) (k : ℕ) (z : ℤ) (g : ℕ → Rational) → rational_value (terms ++ (k, z) ∷ []) g ≡ Q.plus (Q.times (g k) (integer z)) (rational_value terms g)
+value_more [] k z g = ring ring_ℚ (integer z ∷ g k ∷ []) (plus (times (v 0) (v 1)) nil) (plus (times (v 1) (v 0)) nil) refl
+value_more (t ∷ ts) k z g = ap (Q.plus (Q.times (integer t.1) (g t.0))) (value_more ts k z g)
+    ∙ ring ring_ℚ (Q.times (integer t.1) (g t.0) ∷ Q.times (g k) (integer z) ∷ rational_value ts g ∷ []) (plus (v 0) (plus (v 1) (v 2))) (plus (v 1) (plus (v 0) (v 2))) refl
 
-pub read_more : (k : ℕ) (f : ℕ → Rational) (terms : Terms) (z : ℤ) → f k ≡ whole z → IsReadColumn k f terms → IsReadColumn (k + 1) f (terms ++ (k, z) ∷ [])
+pub read_more : (k : ℕ) (f : ℕ → Rational) (terms : Terms) (z : ℤ) → f k ≡ integer z → IsReadColumn k f terms → IsReadColumn (k + 1) f (terms ++ (k, z) ∷ [])
 read_more k f terms z e r = subst (λ (n : ℕ). IsReadColumn n f (terms ++ (k, z) ∷ [])) (one_more k) record {
   value_is = λ g. ap₂ (λ x y. Q.plus (Q.times (g k) x) y) e (r.value_is g) ∙ sym (value_more terms k z g);
   within = All-append (λ (t : ℕ × ℤ). t.0 < suc k) terms ((k, z) ∷ []) (λ i d l. let w = r.within i d l in omega (arith, w)) (All-one k z);

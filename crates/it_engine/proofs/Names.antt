@@ -4,11 +4,10 @@ use Rattle.std.proofs.lemmas.Int.{ints}
 use Rattle.it_number.proofs.Integers.{zring}
 use Rattle.it_number.proofs.Ring.{ring, v, times}
 use Rattle.it_number.proofs.IntegerRing.{ring_ℤ}
-use Rattle.it_rational.specs.Rational.{Rational, sign_least, is_at_least_zero}
+use Rattle.it_rational.specs.Rational.{Rational, sign_least, is_at_least_zero, IsRatio}
 use Rattle.it_rational.specs.Rational as Q
 use Rattle.it_rational.proofs.Field.{null_from, to_sign}
 use Rattle.it_rational.proofs.Names.{cancel, quotient_names, times_names}
-use Rattle.it_rational.specs.Rational.{IsRatio}
 use Rattle.it_rational.proofs.Order.{sign_kept}
 use Rattle.it_rational.proofs.Signs.{below_sign}
 
@@ -98,7 +97,7 @@ product_in_row y x w a b p d e hd he hp f g h =
     assoc a b c = omega (arith, zring)
 
 -- 0 / d is 0
-pub null_named : (q : Rational) (d : ℕ) → 0 < d → IsRatio q (pos 0) d → q ≡ Q.whole (pos 0)
+pub null_named : (q : Rational) (d : ℕ) → 0 < d → IsRatio q (pos 0) d → q ≡ Q.integer (pos 0)
 null_named q d h e = null_from q (cancel q.num (pos 0) d h (e ∙ none q.den d))
   where
     none : (a d : ℕ) → pos 0 *ℤ pos a ≡ pos 0 *ℤ pos d

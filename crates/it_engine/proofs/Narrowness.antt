@@ -9,10 +9,9 @@ use Rattle.it_number.specs.Limit.{IsWithin}
 use Rattle.it_number.specs.Laws.{IsLcm}
 use Rattle.it_number.proofs.Divisors.{euclid, gcd_is, lcm_is, lcm-over}
 use Rattle.it_number.proofs.Integers.{zring}
-use Rattle.it_rational.specs.Rational.{Rational}
+use Rattle.it_rational.specs.Rational.{Rational, IsRatio}
 use Rattle.it_rational.specs.Rational as Q
 use Rattle.it_rational.proofs.Names.{cancel}
-use Rattle.it_rational.specs.Rational.{IsRatio}
 use Rattle.it_engine.proofs.Names.{minus_names}
 use Rattle.it_fraction.specs.Fits.{IsNarrow, PartsFit, DifferenceFits, common_numerator, shared_rest}
 use Prim.Native.Nat.{◌∣◌}

@@ -4,12 +4,11 @@ use Rattle.std.proofs.lemmas.Bool.{true≢false}
 use Rattle.std.proofs.lemmas.Int.{ints, unsigned_abs-mul}
 use Rattle.std.proofs.lemmas.Nat.{mul-lt}
 use Rattle.it_number.specs.Limit.{IsWithin}
-use Rattle.it_rational.specs.Rational.{Rational, sign_least, is_at_least_zero}
+use Rattle.it_rational.specs.Rational.{Rational, sign_least, is_at_least_zero, IsRatio}
 use Rattle.it_rational.specs.Rational as Q
-use Rattle.it_rational.specs.Rational.{IsRatio}
 use Rattle.it_rational.proofs.Field.{field_ℚ}
 use Rattle.it_fraction.specs.Fits.{IsNarrow}
-use Rattle.it_tableau.specs.Tables.{Table, ratio}
+use Rattle.it_tableau.specs.SimplexTables.{SimplexTable, ratio}
 use Rattle.it_tableau.specs.Fits.{QuotientFits, EntryFits, PivotFits}
 use Rattle.it_run.specs.Choice.{entering_column, leaving_row, is_candidate}
 use Rattle.it_run.specs.Solving.{StepFits}
@@ -48,7 +47,7 @@ halves_within x y h k = for_each (unsigned_abs x) (unsigned_abs y) (unsigned_abs
     for_each : (a b c : ℕ) → a < 2 ^ 126 → b < 2 ^ 126 → c ≤ a + b → c < 2 ^ 127
     for_each a b c h k l = omega (arith, h, k, l)
 
-module _ (m n : ℕ) (t : Table Rational) (number : ℕ → ℕ → ℤ) (bottom : ℕ → ℕ) (o : IsOver m n t number bottom) where
+module _ (m n : ℕ) (t : SimplexTable Rational) (number : ℕ → ℕ → ℤ) (bottom : ℕ → ℕ) (o : IsOver m n t number bottom) where
   -- the ratio of a row with an entry above 0
   ratio_fits : (i c p : ℕ) → i ≤ m → c ≤ n + m → 0 < p → number i c ≡ pos p → IsNarrow (ratio field_ℚ m n t c i)
   ratio_fits i c p hi hc hp e = narrow_by (ratio field_ℚ m n t c i) (number i (n + m)) p hp

@@ -3,14 +3,13 @@ use Rattle.std.proofs.Common.{◌≡◌, ◌≢◌, ℕ, suc, ◌+◌, ◌-◌, 
 use Rattle.std.proofs.lemmas.List.{append_assoc, append-nil}
 use Rattle.it_number.proofs.Ring.{ring, v, one}
 use Rattle.it_number.proofs.Ring as R
-use Rattle.it_rational.specs.Rational.{Rational, quotient, whole, minus, times}
+use Rattle.it_rational.specs.Rational.{Rational, quotient, integer, minus, times, IsRatio}
 use Rattle.it_rational.proofs.Names.{quotient_names, same_value}
-use Rattle.it_rational.specs.Rational.{IsRatio}
 use Rattle.it_rational.proofs.RationalLaws.{ring_ℚ}
 use Rattle.it_rational.proofs.Field.{field_ℚ}
 use Rattle.it_space.specs.Rows.{Terms}
 use Rattle.it_tableau.specs.TableauViews.{TableauView, height}
-use Rattle.it_tableau.specs.Tables.{Table, FeasibilityProblem}
+use Rattle.it_tableau.specs.SimplexTables.{SimplexTable, FeasibilityProblem}
 use Rattle.it_run.specs.Readings.{weight, weights, weights_from_column, point_value, point_from_row, point}
 use Rattle.it_run.specs.Answers.{HasSigns, sign_number}
 use Rattle.it_run.proofs.FillingLemmas.{AreWeightsSoFar, weights_skip_null, weights_with_next}
@@ -23,7 +22,7 @@ use Rattle.it_engine.specs.Whole.{whole_row_at, WholeRowView}
 pub quotient_named : (q : Rational) (n : ℤ) (d : ℕ) → 0 < d → IsRatio q n d → quotient n d ≡ q
 quotient_named q n d h e = same_value (quotient n d) q n n d d h h (quotient_names n d h) e refl
 
-module _ (p : FeasibilityProblem Rational) (t : Table Rational) (columns : List Terms) (limit : ℕ) (rows : List WholeRowView) (basis : List ℕ) (s : StandsFor p t columns limit rows basis) where
+module _ (p : FeasibilityProblem Rational) (t : SimplexTable Rational) (columns : List Terms) (limit : ℕ) (rows : List WholeRowView) (basis : List ℕ) (s : StandsFor p t columns limit rows basis) where
   weight_is : (j : ℕ) (w : Rational) → IsWeightOf rows basis j w → w ≡ weight field_ℚ (length basis) (length columns) t j
   weight_is j w i = i.value_is
       ∙ (let r = s.shows.row i.row (omega (arith, i.within)) in
@@ -32,13 +31,13 @@ module _ (p : FeasibilityProblem Rational) (t : Table Rational) (columns : List 
 
 -- the weights so far, for whichever table the engine shows
 abbrev pub WeightsSoFar : List Terms → List WholeRowView → List ℕ → List (ℕ × Rational) → ℕ → Type 0
-WeightsSoFar columns rows basis out j = (p : FeasibilityProblem Rational) (t : Table Rational) (limit : ℕ) → StandsFor p t columns limit rows basis → AreWeightsSoFar (length basis) (length columns) t out j
+WeightsSoFar columns rows basis out j = (p : FeasibilityProblem Rational) (t : SimplexTable Rational) (limit : ℕ) → StandsFor p t columns limit rows basis → AreWeightsSoFar (length basis) (length columns) t out j
 
-pub weights_more : (columns : List Terms) (rows : List WholeRowView) (basis : List ℕ) (out : List (ℕ × Rational)) (j : ℕ) (w : Rational) → j < length columns → IsWeightOf rows basis j w → ¬ (w ≡ whole (pos 0))
+pub weights_more : (columns : List Terms) (rows : List WholeRowView) (basis : List ℕ) (out : List (ℕ × Rational)) (j : ℕ) (w : Rational) → j < length columns → IsWeightOf rows basis j w → ¬ (w ≡ integer (pos 0))
     → WeightsSoFar columns rows basis out j → WeightsSoFar columns rows basis (out ++ (j, w) ∷ []) (j + 1)
 weights_more columns rows basis out j w l i n h = λ p t limit s. weights_with_next (length basis) (length columns) t out j w l (weight_is p t columns limit rows basis s j w i) n (h p t limit s)
 
-pub weights_null : (columns : List Terms) (rows : List WholeRowView) (basis : List ℕ) (out : List (ℕ × Rational)) (j : ℕ) (w : Rational) → j < length columns → IsWeightOf rows basis j w → w ≡ whole (pos 0)
+pub weights_null : (columns : List Terms) (rows : List WholeRowView) (basis : List ℕ) (out : List (ℕ × Rational)) (j : ℕ) (w : Rational) → j < length columns → IsWeightOf rows basis j w → w ≡ integer (pos 0)
     → WeightsSoFar columns rows basis out j → WeightsSoFar columns rows basis out (j + 1)
 weights_null columns rows basis out j w l i n h = λ p t limit s. weights_skip_null (length basis) (length columns) t out j l (sym (weight_is p t columns limit rows basis s j w i) ∙ n) (h p t limit s)
 
@@ -49,7 +48,7 @@ weights_none columns rows basis out j l n h = λ p t limit s. weights_skip_null 
 
 -- the point's values so far
 abbrev pub PointSoFar : TableauView → List WholeRowView → List ℕ → List Rational → ℕ → Type 0
-PointSoFar first rows basis out k = (p : FeasibilityProblem Rational) (t : Table Rational) (columns : List Terms) (limit : ℕ) → HasSigns first p → StandsFor p t columns limit rows basis
+PointSoFar first rows basis out k = (p : FeasibilityProblem Rational) (t : SimplexTable Rational) (columns : List Terms) (limit : ℕ) → HasSigns first p → StandsFor p t columns limit rows basis
     → out ++ point_from_row field_ℚ (length basis) (length columns) p t k (length basis - k) ≡ point field_ℚ (length basis) (length columns) p t
 
 pub point_more : (first : TableauView) (rows : List WholeRowView) (basis : List ℕ) (out : List Rational) (k : ℕ) (x : Rational) → k < length basis → length basis ≡ height first
@@ -66,13 +65,13 @@ point_more first rows basis out k x l m e h = λ p t columns limit sg s.
     ∙ ap (λ i. point_value field_ℚ (length basis) (length columns) p t k ∷ point_from_row field_ℚ (length basis) (length columns) p t i (length basis - (k + 1))) there))
     ∙ h p t columns limit sg s
 
-pub signed_is : (b : Bool) (x : Rational) → cond b (minus x) x ≡ times (cond b (minus (whole (pos 1))) (whole (pos 1))) x
+pub signed_is : (b : Bool) (x : Rational) → cond b (minus x) x ≡ times (cond b (minus (integer (pos 1))) (integer (pos 1))) x
 signed_is true x = ring ring_ℚ (x ∷ []) (R.minus (v 0)) (R.times (R.minus one) (v 0)) refl
 signed_is false x = ring ring_ℚ (x ∷ []) (v 0) (R.times one (v 0)) refl
 
 -- all weights, all values
 pub weights_all : (columns : List Terms) (rows : List WholeRowView) (basis : List ℕ) (out : List (ℕ × Rational)) (j : ℕ) → length columns ≤ j → WeightsSoFar columns rows basis out j
-    → (p : FeasibilityProblem Rational) (t : Table Rational) (limit : ℕ) → StandsFor p t columns limit rows basis → out ≡ weights field_ℚ (length basis) (length columns) t
+    → (p : FeasibilityProblem Rational) (t : SimplexTable Rational) (limit : ℕ) → StandsFor p t columns limit rows basis → out ≡ weights field_ℚ (length basis) (length columns) t
 weights_all columns rows basis out j l h p t limit s = let none : length columns - j ≡ 0 = omega (arith, l) in
     sym (append-nil out) ∙ ap (λ k. out ++ weights_from_column field_ℚ (length basis) (length columns) t j k) (sym none) ∙ h p t limit s
 

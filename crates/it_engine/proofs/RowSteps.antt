@@ -9,12 +9,11 @@ use Rattle.it_number.specs.Gcd.{gcd}
 use Rattle.it_number.specs.Division.{int_quotient}
 use Rattle.it_number.proofs.Divisors.{gcd_is}
 use Rattle.it_number.proofs.SignedDivisors.{over_back}
-use Rattle.it_rational.specs.Rational.{Rational}
+use Rattle.it_rational.specs.Rational.{Rational, IsRatio}
 use Rattle.it_rational.specs.Rational as Q
-use Rattle.it_rational.specs.Rational.{IsRatio}
 use Rattle.it_rational.proofs.Names.{same_value, whole_names}
 use Rattle.it_rational.proofs.RationalLaws.{ring_ℚ}
-use Rattle.it_tableau.specs.Tables.{difference}
+use Rattle.it_tableau.specs.SimplexTables.{difference}
 use Rattle.it_engine.specs.Updates.{IsCombined, IsWholeRowDivided, IsWholeRowReduced, IsShortened}
 use Rattle.it_space.specs.Sums.{number_at}
 use Rattle.it_engine.specs.Whole.{WholeRowView, IsRow}
@@ -60,7 +59,7 @@ row_stepped width limit f g row by new d e x w z b p a h rf rg ex ew hh ha ea eb
             product a h = omega (arith, zring)
 
 -- a row whose entry at the column is 0 stays
-pub row_stays : (width limit : ℕ) (f g : ℕ → Rational) (row : List ℤ) (d : ℕ) (x w : Rational) → x ≡ Q.whole (pos 0) → IsRow width limit f row d
+pub row_stays : (width limit : ℕ) (f g : ℕ → Rational) (row : List ℤ) (d : ℕ) (x w : Rational) → x ≡ Q.integer (pos 0) → IsRow width limit f row d
     → IsRow width limit (λ k. difference ring_ℚ (f k) (Q.times (g k) (Q.times x (Q.inverse w)))) row d
 row_stays width limit f g row d x w e r = record {
   length_is = r.length_is;
@@ -154,9 +153,9 @@ divided_row width limit old new (pos p) h k e d = λ g w r ew.
 -- as much of the leaving row as makes an entry 0 may be taken from that row when it is divided by its entry, where it has 1
 pub less_divided : (width limit : ℕ) (old own mid new : WholeRowView) (z p : ℤ) → IsWholeRowDivided width limit own p mid → IsWholeRowReduced width limit old mid z (pos mid.bottom) new → IsWholeRowReduced width limit old own z p new
 less_divided width limit old own mid new z p d l = λ f g x w rf rg ex ew.
-    same_row (λ k. difference ring_ℚ (f k) (Q.times (Q.times (g k) (Q.inverse w)) (Q.times x (Q.inverse (Q.whole (pos 1)))))) (λ k. difference ring_ℚ (f k) (Q.times (g k) (Q.times x (Q.inverse w))))
+    same_row (λ k. difference ring_ℚ (f k) (Q.times (Q.times (g k) (Q.inverse w)) (Q.times x (Q.inverse (Q.integer (pos 1)))))) (λ k. difference ring_ℚ (f k) (Q.times (g k) (Q.times x (Q.inverse w))))
     (λ k. same (f k) (g k) x (Q.inverse w))
-    (l f (λ k. Q.times (g k) (Q.inverse w)) x (Q.whole (pos 1)) rf (d g w rg ew) ex (one_named (Q.whole (pos 1)).num (Q.whole (pos 1)).den mid.bottom (whole_names (pos 1))))
+    (l f (λ k. Q.times (g k) (Q.inverse w)) x (Q.integer (pos 1)) rf (d g w rg ew) ex (one_named (Q.integer (pos 1)).num (Q.integer (pos 1)).den mid.bottom (whole_names (pos 1))))
   where
     same_row : (f g : ℕ → Rational) → ((k : ℕ) → f k ≡ g k) → IsRow width limit f new.numbers new.bottom → IsRow width limit g new.numbers new.bottom
     same_row f g e r = record {
@@ -173,11 +172,11 @@ less_divided width limit old own mid new z p d l = λ f g x w rf rg ex ew.
         is : x ≡ pos b
         is = omega (arith, ints, e)
 
-    inverse_one : Q.inverse (Q.whole (pos 1)) ≡ Q.whole (pos 1)
-    inverse_one = same_value (Q.inverse (Q.whole (pos 1))) (Q.whole (pos 1)) (pos 1) (pos 1) 1 1 (omega arith) (omega arith)
-        (inverse_names (Q.whole (pos 1)) 1 1 (omega arith) (omega arith) (whole_names (pos 1))) (whole_names (pos 1)) refl
+    inverse_one : Q.inverse (Q.integer (pos 1)) ≡ Q.integer (pos 1)
+    inverse_one = same_value (Q.inverse (Q.integer (pos 1))) (Q.integer (pos 1)) (pos 1) (pos 1) 1 1 (omega arith) (omega arith)
+        (inverse_names (Q.integer (pos 1)) 1 1 (omega arith) (omega arith) (whole_names (pos 1))) (whole_names (pos 1)) refl
 
-    same : (a b x i : Rational) → difference ring_ℚ a (Q.times (Q.times b i) (Q.times x (Q.inverse (Q.whole (pos 1))))) ≡ difference ring_ℚ a (Q.times b (Q.times x i))
+    same : (a b x i : Rational) → difference ring_ℚ a (Q.times (Q.times b i) (Q.times x (Q.inverse (Q.integer (pos 1))))) ≡ difference ring_ℚ a (Q.times b (Q.times x i))
     same a b x i = ap (λ y. difference ring_ℚ a (Q.times (Q.times b i) (Q.times x y))) inverse_one
         ∙ ring ring_ℚ (a ∷ b ∷ x ∷ i ∷ []) (plus (v 0) (minus (times (times (v 1) (v 3)) (times (v 2) one)))) (plus (v 0) (minus (times (v 1) (times (v 2) (v 3))))) refl
 

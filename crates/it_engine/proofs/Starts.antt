@@ -1,16 +1,15 @@
 -- The engine of the start.
 use Rattle.std.proofs.Common.{◌≡◌, ℕ, ◌+◌, ◌*◌, ◌/◌, ◌<◌, ◌≤◌, ◌^◌, List, [], length, slice_index_or, sym, ap, subst, ◌∙◌, arith}
 use Rattle.std.proofs.lemmas.Nat.{mul-le}
-use Rattle.it_rational.specs.Rational.{Rational}
+use Rattle.it_rational.specs.Rational.{Rational, IsRatio}
 use Rattle.it_rational.specs.Rational as Q
 use Rattle.it_rational.proofs.Names.{whole_names}
-use Rattle.it_rational.specs.Rational.{IsRatio}
 use Rattle.it_rational.proofs.RationalLaws.{ring_ℚ}
 use Rattle.it_rational.proofs.Field.{field_ℚ}
 use Rattle.it_space.specs.Rows.{Terms}
 use Rattle.it_tableau.specs.Invariants.{HasInvariants}
 use Rattle.it_tableau.specs.TableauViews.{TableauView, height, table}
-use Rattle.it_tableau.specs.Tables.{Table, FeasibilityProblem, start, start_row}
+use Rattle.it_tableau.specs.SimplexTables.{SimplexTable, FeasibilityProblem, start, start_row}
 use Rattle.it_tableau.proofs.StartLemmas.{start_has_invariants, start_entry}
 use Rattle.it_tableau.proofs.Sums.{sum_same}
 use Rattle.it_engine.specs.Engine.{IsSafe, StandsFor}
@@ -61,7 +60,7 @@ module _ (t : TableauView) (columns : List Terms) (norm limit : ℕ) (rows : Lis
       count = cs.0;
       column = λ j l. let c = cs.1 j l in record {
         value_is = λ g. sym (sum_same ring_ℚ (height t) (λ k. Q.times (g k) ((table t).entry k j)) (λ k. Q.times (g k) (start_row field_ℚ (height t) t.generators p k j))
-            (λ k h. ap (Q.times (g k)) (ap (λ (x : Table Rational). x.entry k j) e ∙ start_entry field_ℚ (height t) t.generators p k j h))) ∙ c.value_is g;
+            (λ k h. ap (Q.times (g k)) (ap (λ (x : SimplexTable Rational). x.entry k j) e ∙ start_entry field_ℚ (height t) t.generators p k j h))) ∙ c.value_is g;
         within = c.within;
         bounded = n.bounds j (omega (arith, l, cs.0));
       };

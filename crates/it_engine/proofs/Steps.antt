@@ -3,14 +3,13 @@ use Rattle.std.proofs.Common.{◌≡◌, ◌⊎◌, inl, inr, ℕ, zero, suc, �
 use Rattle.std.proofs.lemmas.Bool.{cases_eq, eq-eqb, ne_eqb, true≢false}
 use Rattle.std.proofs.lemmas.Int.{ints}
 use Rattle.std.proofs.lemmas.List.{get_or-set_same, get_or-set_other, length-set}
-use Rattle.it_rational.specs.Rational.{Rational, sign_least, is_at_least_zero}
+use Rattle.it_rational.specs.Rational.{Rational, sign_least, is_at_least_zero, IsRatio}
 use Rattle.it_rational.specs.Rational as Q
-use Rattle.it_rational.specs.Rational.{IsRatio}
 use Rattle.it_rational.proofs.RationalLaws.{ring_ℚ}
 use Rattle.it_rational.proofs.Field.{field_ℚ}
 use Rattle.it_space.specs.Rows.{Terms, value}
 use Rattle.it_tableau.specs.Invariants.{HasInvariants}
-use Rattle.it_tableau.specs.Tables.{Table, FeasibilityProblem, difference, pivot}
+use Rattle.it_tableau.specs.SimplexTables.{SimplexTable, FeasibilityProblem, difference, pivot}
 use Rattle.it_run.specs.Choice.{entering_column, leaving_row, is_candidate, next, IsStuck}
 use Rattle.it_run.specs.Solving.{StepFits}
 use Rattle.it_run.proofs.RunLemmas.{next_holds}
@@ -55,7 +54,7 @@ above_one (pos zero) e = absurd (true≢false (sym e))
 above_one (pos (suc n)) e = omega (arith, ints)
 above_one (negsuc n) e = absurd (true≢false (sym e))
 
-module _ (p : FeasibilityProblem Rational) (t : Table Rational) (columns : List Terms) (limit : ℕ) (rows : List WholeRowView) (basis : List ℕ) (s : StandsFor p t columns limit rows basis) where
+module _ (p : FeasibilityProblem Rational) (t : SimplexTable Rational) (columns : List Terms) (limit : ℕ) (rows : List WholeRowView) (basis : List ℕ) (s : StandsFor p t columns limit rows basis) where
   cost_sign : (j : ℕ) → j < length columns → is_at_least_zero (t.entry (length basis) j) ≡ sign_least (value (slice_index_or columns j []) (number_at (whole_row_at rows (length basis)).numbers))
   cost_sign j l = sign_named (t.entry (length basis) j) (value (slice_index_or columns j []) (number_at (whole_row_at rows (length basis)).numbers)) (whole_row_at rows (length basis)).bottom (s.shows.row (length basis) (omega arith)).some
       (price_named (length basis) (length columns) limit s.norm p t columns rows basis s.holds s.shows s.columns_are s.fit s.some (length basis) j (omega arith) l)
@@ -155,7 +154,7 @@ module _ (p : FeasibilityProblem Rational) (t : Table Rational) (columns : List 
         fit = s.fit;
         holds = subst (λ (m : ℕ). HasInvariants field_ℚ m (length columns) p (next field_ℚ (length basis) (length columns) t)) (sym same) (next_holds field_ℚ (length basis) (length columns) p t s.holds moves_here);
         shows = subst (λ (m : ℕ). ShowsTable m (length columns) limit (next field_ℚ (length basis) (length columns) t) new (slice_set basis r c)) (sym same)
-            (subst (λ (t : Table Rational). ShowsTable (length basis) (length columns) limit t new (slice_set basis r c)) next_is (shows_pivot new a));
+            (subst (λ (t : SimplexTable Rational). ShowsTable (length basis) (length columns) limit t new (slice_set basis r c)) next_is (shows_pivot new a));
         columns_are = subst (λ (m : ℕ). AreStartColumns m (length columns) s.norm p columns) (sym same) s.columns_are;
       };
     }

@@ -3,7 +3,7 @@ use Rattle.std.proofs.Common.{◌≡◌, ℕ, ◌-◌, ◌<◌, cond, ltb, List,
 use Rattle.it_rational.specs.Rational.{Rational, quotient}
 use Rattle.it_rational.proofs.Field.{field_ℚ}
 use Rattle.it_space.specs.Rows.{Terms, value}
-use Rattle.it_tableau.specs.Tables.{Table, FeasibilityProblem}
+use Rattle.it_tableau.specs.SimplexTables.{SimplexTable, FeasibilityProblem}
 use Rattle.it_run.specs.Choice.{next}
 use Rattle.it_run.proofs.Agreeing.{Agree, steps_left_agrees}
 use Rattle.it_run.proofs.StepsLeft.{steps_left, steps_fall}
@@ -14,7 +14,7 @@ use Rattle.it_engine.proofs.Generators.{table_is_over}
 use Rattle.it_engine.proofs.Readings.{quotient_named}
 
 -- the table that an engine shows, as a function of the engine
-abbrev pub shown_table : List Terms → List WholeRowView → List ℕ → Table Rational
+abbrev pub shown_table : List Terms → List WholeRowView → List ℕ → SimplexTable Rational
 shown_table columns rows basis = record {
   entry = λ i j. quotient (cond (ltb j (length columns)) (value (slice_index_or columns j []) (number_at (whole_row_at rows i).numbers)) (number_at (whole_row_at rows i).numbers (j - length columns))) (whole_row_at rows i).bottom;
   basis = λ i. slice_index_or basis i 0;
@@ -25,7 +25,7 @@ unfoldable pub steps_left_to : List Terms → List WholeRowView → List ℕ →
 steps_left_to columns rows basis = steps_left field_ℚ (length basis) (length columns) (shown_table columns rows basis)
 
 -- any table that it shows agrees with it
-shown_table_agrees : (p : FeasibilityProblem Rational) (t : Table Rational) (columns : List Terms) (limit : ℕ) (rows : List WholeRowView) (basis : List ℕ) → StandsFor p t columns limit rows basis
+shown_table_agrees : (p : FeasibilityProblem Rational) (t : SimplexTable Rational) (columns : List Terms) (limit : ℕ) (rows : List WholeRowView) (basis : List ℕ) → StandsFor p t columns limit rows basis
     → Agree field_ℚ (length basis) (length columns) t (shown_table columns rows basis)
 shown_table_agrees p t columns limit rows basis s = record {
   entries = λ i j hi hj.
@@ -35,13 +35,13 @@ shown_table_agrees p t columns limit rows basis s = record {
   basics = s.shows.basis_is;
 }
 
-steps_left_is : (p : FeasibilityProblem Rational) (t : Table Rational) (columns : List Terms) (limit : ℕ) (rows : List WholeRowView) (basis : List ℕ) → StandsFor p t columns limit rows basis
+steps_left_is : (p : FeasibilityProblem Rational) (t : SimplexTable Rational) (columns : List Terms) (limit : ℕ) (rows : List WholeRowView) (basis : List ℕ) → StandsFor p t columns limit rows basis
     → steps_left_to columns rows basis ≡ steps_left field_ℚ (length basis) (length columns) t
 unfolding steps_left_to
 steps_left_is p t columns limit rows basis s = sym (steps_left_agrees field_ℚ (length basis) (length columns) t (shown_table columns rows basis) (shown_table_agrees p t columns limit rows basis s))
 
 -- a step lowers it
-pub steps_left_falls : (p : FeasibilityProblem Rational) (t : Table Rational) (columns : List Terms) (limit : ℕ) (old : List WholeRowView) (basis : List ℕ) (new : List WholeRowView) (new_basis : List ℕ)
+pub steps_left_falls : (p : FeasibilityProblem Rational) (t : SimplexTable Rational) (columns : List Terms) (limit : ℕ) (old : List WholeRowView) (basis : List ℕ) (new : List WholeRowView) (new_basis : List ℕ)
     → StandsFor p t columns limit old basis → IsEngineStep columns limit old basis new new_basis → steps_left_to columns new new_basis < steps_left_to columns old basis
 steps_left_falls p t columns limit old basis new new_basis s g =
     let m = g.made p t s in

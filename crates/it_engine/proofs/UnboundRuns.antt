@@ -3,7 +3,7 @@ use Rattle.std.proofs.Common.{◌≡◌, ℕ, suc, ◌+◌, ◌-◌, ◌<◌, po
 use Rattle.it_rational.specs.Rational.{Rational}
 use Rattle.it_rational.proofs.Field.{field_ℚ}
 use Rattle.it_space.specs.Rows.{Terms}
-use Rattle.it_tableau.specs.Tables.{Table, FeasibilityProblem}
+use Rattle.it_tableau.specs.SimplexTables.{SimplexTable, FeasibilityProblem}
 use Rattle.it_run.specs.Choice.{next, IsDone, IsStuck}
 use Rattle.it_run.specs.Runs.{RunEndView, IsWithinBudget, clip_end}
 use Rattle.it_run.specs.Runs.RunEndView.{Weights, Point}
@@ -18,12 +18,12 @@ use Rattle.it_engine.proofs.StepsLeft.{steps_left_to, steps_left_falls}
 use Rattle.it_engine.proofs.Runs.{done_here, not_done_here}
 
 -- what the run from s does after so many steps it does from t, with some budget
-abbrev RunsOnFrom : ℕ → ℕ → Table Rational → ℕ → Table Rational → Type 0
-RunsOnFrom m n t made s = (left : ℕ) (e : RunEndView (Table Rational) (Table Rational)) → Reaches m n left made s e → (budget : ℕ) × Reaches m n budget 0 t e
+abbrev RunsOnFrom : ℕ → ℕ → SimplexTable Rational → ℕ → SimplexTable Rational → Type 0
+RunsOnFrom m n t made s = (left : ℕ) (e : RunEndView (SimplexTable Rational) (SimplexTable Rational)) → Reaches m n left made s e → (budget : ℕ) × Reaches m n budget 0 t e
 
 -- the run from a table has come to one that the engine shows
-pub record ComesTo (p : FeasibilityProblem Rational) (columns : List Terms) (limit height : ℕ) (t : Table Rational) (now : List WholeRowView) (now_basis : List ℕ) : Type 0 where
-  pub last : Table Rational
+pub record ComesTo (p : FeasibilityProblem Rational) (columns : List Terms) (limit height : ℕ) (t : SimplexTable Rational) (now : List WholeRowView) (now_basis : List ℕ) : Type 0 where
+  pub last : SimplexTable Rational
   pub stands : StandsFor p last columns limit now now_basis
   pub made : ℕ
   pub serves : RunsOnFrom height (length columns) t made last
@@ -33,7 +33,7 @@ pub record IsRunUnderWay (columns : List Terms) (limit : ℕ) (old : List WholeR
   pub engine : IsSafe columns limit now now_basis
   pub height : length now_basis ≡ length basis
   pub some : StandsForSome columns limit now now_basis
-  pub runs : (p : FeasibilityProblem Rational) (t : Table Rational) → StandsFor p t columns limit old basis → ComesTo p columns limit (length basis) t now now_basis
+  pub runs : (p : FeasibilityProblem Rational) (t : SimplexTable Rational) → StandsFor p t columns limit old basis → ComesTo p columns limit (length basis) t now now_basis
 
 pub run_begins : (columns : List Terms) (limit : ℕ) (old : List WholeRowView) (basis : List ℕ) → IsSafe columns limit old basis → StandsForSome columns limit old basis → IsRunUnderWay columns limit old basis old basis
 run_begins columns limit old basis h i = record { engine = h; height = refl; some = i; runs = λ p t s. record { last = t; stands = s; made = 0; serves = λ left e r. (left, r) } }
@@ -43,7 +43,7 @@ module _ (columns : List Terms) (limit : ℕ) (old : List WholeRowView) (basis :
   by_same_height : (P : ℕ → Type 0) → P (length now_basis) → P (length basis)
   by_same_height P x = subst P w.height x
 
-  run_ends : (t s : Table Rational) (made left : ℕ) (e : RunEndView (Table Rational) (Table Rational)) → RunsOnFrom (length basis) (length columns) t made s → Reaches (length basis) (length columns) left made s e → IsWithinBudget e
+  run_ends : (t s : SimplexTable Rational) (made left : ℕ) (e : RunEndView (SimplexTable Rational) (SimplexTable Rational)) → RunsOnFrom (length basis) (length columns) t made s → Reaches (length basis) (length columns) left made s e → IsWithinBudget e
       → ReachesBy (length basis) (length columns) None t (clip_end e)
   run_ends t s made left e f r i = let b = f left e r in record { budget = b.0; end = e; runs = b.1; within = i; is_clipped = refl }
 
@@ -60,7 +60,7 @@ module _ (columns : List Terms) (limit : ℕ) (old : List WholeRowView) (basis :
   }
 
   pub unbound_stuck : ¬ (right_side_of (length now_basis) now (length now_basis) ≡ pos 0)
-      → ((p : FeasibilityProblem Rational) (t : Table Rational) → StandsFor p t columns limit now now_basis → IsStuck field_ℚ (length now_basis) (length columns) t)
+      → ((p : FeasibilityProblem Rational) (t : SimplexTable Rational) → StandsFor p t columns limit now now_basis → IsStuck field_ℚ (length now_basis) (length columns) t)
       → IsFinished columns limit old basis None now now_basis engine_ends.Point
   unbound_stuck n u = record {
     engine = w.engine;

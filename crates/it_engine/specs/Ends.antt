@@ -4,9 +4,9 @@ use Rattle.it_rational.specs.Rational.{Rational, quotient}
 use Rattle.it_rational.proofs.Field.{field_ℚ}
 use Rattle.it_space.specs.Rows.{Terms}
 use Rattle.it_tableau.specs.TableauViews.{TableauView}
-use Rattle.it_tableau.specs.Tables.{Table, FeasibilityProblem}
+use Rattle.it_tableau.specs.SimplexTables.{SimplexTable, FeasibilityProblem}
 use Rattle.it_run.specs.Readings.{weights, point}
-use Rattle.it_run.specs.Answers.{solved_end, HasSigns}
+use Rattle.it_run.specs.Answers.{end_of_answer, HasSigns}
 use Rattle.it_run.specs.Solving.{RunsTo}
 use Rattle.it_run.specs.declared.answering.RunAnswer.{RunAnswer}
 use Rattle.it_engine.specs.Choosing.{right_side_of}
@@ -22,13 +22,13 @@ pub record IsWeightOf (rows : List WholeRowView) (basis : List ℕ) (j : ℕ) (w
 
 -- the weights of whichever table the engine shows
 abbrev pub AreWeightsOf : List Terms → List WholeRowView → List ℕ → List (ℕ × Rational) → Type 0
-AreWeightsOf columns rows basis ws = (p : FeasibilityProblem Rational) (t : Table Rational) (limit : ℕ) → StandsFor p t columns limit rows basis → ws ≡ weights field_ℚ (length basis) (length columns) t
+AreWeightsOf columns rows basis ws = (p : FeasibilityProblem Rational) (t : SimplexTable Rational) (limit : ℕ) → StandsFor p t columns limit rows basis → ws ≡ weights field_ℚ (length basis) (length columns) t
 
 -- and its point, with the signs of the start
 abbrev pub IsPointOf : TableauView → List WholeRowView → List ℕ → List Rational → Type 0
-IsPointOf first rows basis q = (p : FeasibilityProblem Rational) (t : Table Rational) (columns : List Terms) (limit : ℕ) → HasSigns first p → StandsFor p t columns limit rows basis → q ≡ point field_ℚ (length basis) (length columns) p t
+IsPointOf first rows basis q = (p : FeasibilityProblem Rational) (t : SimplexTable Rational) (columns : List Terms) (limit : ℕ) → HasSigns first p → StandsFor p t columns limit rows basis → q ≡ point field_ℚ (length basis) (length columns) p t
 
 -- the answer to the question whose start the engine shows
 abbrev pub AnswersQuestion : TableauView → List Terms → ℕ → List WholeRowView → List ℕ → Option ℕ → RunAnswer → Type 0
-AnswersQuestion first columns limit rows basis budget solved = (p : FeasibilityProblem Rational) (t : Table Rational) → HasSigns first p → StandsFor p t columns limit rows basis
-    → RunsTo (length basis) (length columns) p budget t (solved_end solved)
+AnswersQuestion first columns limit rows basis budget answer = (p : FeasibilityProblem Rational) (t : SimplexTable Rational) → HasSigns first p → StandsFor p t columns limit rows basis
+    → RunsTo (length basis) (length columns) p budget t (end_of_answer answer)

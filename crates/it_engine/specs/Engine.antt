@@ -5,7 +5,7 @@ use Rattle.it_rational.specs.Rational.{Rational}
 use Rattle.it_rational.proofs.Field.{field_ℚ}
 use Rattle.it_space.specs.Rows.{Terms}
 use Rattle.it_tableau.specs.Invariants.{HasInvariants}
-use Rattle.it_tableau.specs.Tables.{Table, FeasibilityProblem}
+use Rattle.it_tableau.specs.SimplexTables.{SimplexTable, FeasibilityProblem}
 use Rattle.it_run.specs.Choice.{next, IsStuck}
 use Rattle.it_run.specs.Solving.{StepFits}
 use Rattle.it_run.specs.Runs.{RunEndView}
@@ -29,7 +29,7 @@ pub record IsSafe (columns : List Terms) (limit : ℕ) (rows : List WholeRowView
   pub limit_is : limit < 2 ^ 63
 
 -- the engine shows a table of the problem that has the invariants, and no column weighs more than a norm that keeps all prices short
-pub record StandsFor (p : FeasibilityProblem Rational) (t : Table Rational) (columns : List Terms) (limit : ℕ) (rows : List WholeRowView) (basis : List ℕ) : Type 0 where
+pub record StandsFor (p : FeasibilityProblem Rational) (t : SimplexTable Rational) (columns : List Terms) (limit : ℕ) (rows : List WholeRowView) (basis : List ℕ) : Type 0 where
   pub norm : ℕ
   pub some : 1 ≤ norm
   pub fit : norm * limit < 2 ^ 63
@@ -38,7 +38,7 @@ pub record StandsFor (p : FeasibilityProblem Rational) (t : Table Rational) (col
   pub columns_are : AreStartColumns (length basis) (length columns) norm p columns
 
 -- the step of the run that is made on the table, whichever it shows
-pub record IsStepMade (p : FeasibilityProblem Rational) (t : Table Rational) (columns : List Terms) (limit : ℕ) (basis : List ℕ) (new : List WholeRowView) (new_basis : List ℕ) : Type 0 where
+pub record IsStepMade (p : FeasibilityProblem Rational) (t : SimplexTable Rational) (columns : List Terms) (limit : ℕ) (basis : List ℕ) (new : List WholeRowView) (new_basis : List ℕ) : Type 0 where
   pub moves : ¬ (IsStuck field_ℚ (length basis) (length columns) t)
   pub fits : StepFits (length basis) (length columns) t
   pub stands : StandsFor p (next field_ℚ (length basis) (length columns) t) columns limit new new_basis
@@ -47,20 +47,20 @@ pub record IsStepMade (p : FeasibilityProblem Rational) (t : Table Rational) (co
 pub record IsEngineStep (columns : List Terms) (limit : ℕ) (old : List WholeRowView) (basis : List ℕ) (new : List WholeRowView) (new_basis : List ℕ) : Type 0 where
   pub engine : IsSafe columns limit new new_basis
   pub height : length new_basis ≡ length basis
-  pub made : (p : FeasibilityProblem Rational) (t : Table Rational) → StandsFor p t columns limit old basis → IsStepMade p t columns limit basis new new_basis
+  pub made : (p : FeasibilityProblem Rational) (t : SimplexTable Rational) → StandsFor p t columns limit old basis → IsStepMade p t columns limit basis new new_basis
 
 -- the engine shows some table of some problem
 abbrev pub StandsForSome : List Terms → ℕ → List WholeRowView → List ℕ → Type 0
-StandsForSome columns limit rows basis = (p : FeasibilityProblem Rational) × (t : Table Rational) × StandsFor p t columns limit rows basis
+StandsForSome columns limit rows basis = (p : FeasibilityProblem Rational) × (t : SimplexTable Rational) × StandsFor p t columns limit rows basis
 
 -- no step is left to make, or one is made
 abbrev pub IsEngineStepOrStuck : List Terms → ℕ → List WholeRowView → List ℕ → List WholeRowView → List ℕ → Bool → Type 0
 IsEngineStepOrStuck columns limit old basis new new_basis false = (new ≡ old) × (new_basis ≡ basis)
-    × ((p : FeasibilityProblem Rational) (t : Table Rational) → StandsFor p t columns limit old basis → IsStuck field_ℚ (length basis) (length columns) t)
+    × ((p : FeasibilityProblem Rational) (t : SimplexTable Rational) → StandsFor p t columns limit old basis → IsStuck field_ℚ (length basis) (length columns) t)
 IsEngineStepOrStuck columns limit old basis new new_basis true = IsEngineStep columns limit old basis new new_basis
 
 -- the end of the run that it tells
-abbrev pub engine_end_view : EngineEnd → Table Rational → RunEndView (Table Rational) (Table Rational)
+abbrev pub engine_end_view : EngineEnd → SimplexTable Rational → RunEndView (SimplexTable Rational) (SimplexTable Rational)
 engine_end_view engine_ends.Weights t = Weights t
 engine_end_view engine_ends.Point t = Point t
 engine_end_view (engine_ends.Pivots k) t = Pivots k
@@ -69,5 +69,5 @@ engine_end_view (engine_ends.Pivots k) t = Pivots k
 pub record IsFinished (columns : List Terms) (limit : ℕ) (old : List WholeRowView) (basis : List ℕ) (budget : Option ℕ) (new : List WholeRowView) (new_basis : List ℕ) (finish : EngineEnd) : Type 0 where
   pub engine : IsSafe columns limit new new_basis
   pub height : length new_basis ≡ length basis
-  pub runs : (p : FeasibilityProblem Rational) (t : Table Rational) → StandsFor p t columns limit old basis
-      → (s : Table Rational) × StandsFor p s columns limit new new_basis × ReachesBy (length basis) (length columns) budget t (engine_end_view finish s)
+  pub runs : (p : FeasibilityProblem Rational) (t : SimplexTable Rational) → StandsFor p t columns limit old basis
+      → (s : SimplexTable Rational) × StandsFor p s columns limit new new_basis × ReachesBy (length basis) (length columns) budget t (engine_end_view finish s)

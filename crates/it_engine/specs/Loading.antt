@@ -1,6 +1,6 @@
 -- No public clause cites this module: what the engine reads off the start of a run.
 use Rattle.std.specs.Prelude.{◌≡◌, ◌≢◌, ◌⊎◌, ℕ, ◌+◌, ◌<◌, ◌≤◌, ◌^◌, ◌++◌, ◌∷◌, ℤ, pos, unsigned_abs, List, [], length, slice_index_or, All}
-use Rattle.it_rational.specs.Rational.{Rational, times, whole}
+use Rattle.it_rational.specs.Rational.{Rational, times, integer}
 use Rattle.it_rational.proofs.RationalLaws.{ring_ℚ}
 use Rattle.it_space.specs.Rows.{Terms}
 use Rattle.it_tableau.specs.SparseRows.{RowTerms}
@@ -13,7 +13,7 @@ use Rattle.it_engine.specs.Whole.{whole_row_at, weight_of_terms, WholeRowView}
 
 -- a whole number within a bound
 pub record IsShortWhole (limit : ℕ) (q : Rational) (z : ℤ) : Type 0 where
-  pub value_is : q ≡ whole z
+  pub value_is : q ≡ integer z
   pub small : unsigned_abs z ≤ limit
 
 -- the terms of a column whose first m entries are f
@@ -33,7 +33,7 @@ pub record IsTermPushed (old : List Terms) (c k : ℕ) (z : ℤ) (new : List Ter
 
 -- the number of row k is put behind a column's terms, unless it is 0
 abbrev pub IsTermRead : ℕ → Rational → Terms → Terms → Type 0
-IsTermRead k q old new = ((q ≡ whole (pos 0)) × (new ≡ old)) ⊎ ((z : ℤ) × (q ≡ whole z) × (new ≡ old ++ (k, z) ∷ []))
+IsTermRead k q old new = ((q ≡ integer (pos 0)) × (new ≡ old)) ⊎ ((z : ℤ) × (q ≡ integer z) × (new ≡ old ++ (k, z) ∷ []))
 
 -- the numbers of row k are put behind their columns' terms
 pub record IsRowRead (k : ℕ) (terms : RowTerms) (old new : List Terms) : Type 0 where

@@ -1,10 +1,9 @@
 -- No public clause cites this module: what the engine makes of a row, said of the rational numbers that it shows.
 use Rattle.std.specs.Prelude.{◌≡◌, ◌≢◌, ℕ, ◌+◌, ◌*◌, ◌+ℤ◌, ◌*ℤ◌, neg_ℤ, drop, All, [], slice_index_or, ◌<◌, ◌≤◌, ◌^◌, ℤ, pos, unsigned_abs, List, length}
-use Rattle.it_rational.specs.Rational.{Rational, times, inverse}
-use Rattle.it_rational.specs.Rational.{IsRatio}
+use Rattle.it_rational.specs.Rational.{Rational, times, inverse, IsRatio}
 use Rattle.it_rational.proofs.RationalLaws.{ring_ℚ}
 use Rattle.it_space.specs.Rows.{Terms, value}
-use Rattle.it_tableau.specs.Tables.{difference}
+use Rattle.it_tableau.specs.SimplexTables.{difference}
 use Rattle.it_space.specs.Sums.{number_at}
 use Rattle.it_engine.specs.Whole.{AreAtMost, IsShort, whole_row_at, weight_of_terms, WholeRowView, IsRow}
 use Prim.Native.Nat.{◌∣◌}

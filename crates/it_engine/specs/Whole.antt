@@ -1,13 +1,12 @@
 -- No public clause cites this module: tables of whole numbers over one denominator a row.
 use Rattle.std.specs.Prelude.{◌≡◌, ℕ, ◌+◌, ◌<◌, ◌≤◌, ◌^◌, ℤ, unsigned_abs, List, [], ◌∷◌, length, slice_index_or, All}
-use Rattle.it_rational.specs.Rational.{Rational, times}
-use Rattle.it_rational.specs.Rational.{IsRatio}
+use Rattle.it_rational.specs.Rational.{Rational, times, IsRatio}
 use Rattle.it_rational.proofs.RationalLaws.{ring_ℚ}
 use Rattle.it_rational.proofs.Field.{field_ℚ}
 use Rattle.it_space.specs.Rows.{Terms}
 use Rattle.it_space.specs.Sums.{number_at}
 use Rattle.it_tableau.specs.Sums.{sum_to}
-use Rattle.it_tableau.specs.Tables.{Table, FeasibilityProblem, start_row}
+use Rattle.it_tableau.specs.SimplexTables.{SimplexTable, FeasibilityProblem, start_row}
 use Rattle.it_run.specs.RowValues.{rational_value}
 
 -- at most 2 ^ 63 - 1 in absolute value
@@ -16,7 +15,7 @@ IsShort z = unsigned_abs z < 2 ^ 63
 
 -- each number of the table, its right sides and its cost row too, is a whole number over the denominator of its row, and all
 -- of these are short
-pub record IsOver (m n : ℕ) (t : Table Rational) (number : ℕ → ℕ → ℤ) (bottom : ℕ → ℕ) : Type 0 where
+pub record IsOver (m n : ℕ) (t : SimplexTable Rational) (number : ℕ → ℕ → ℤ) (bottom : ℕ → ℕ) : Type 0 where
   pub some : (i : ℕ) → i ≤ m → 0 < bottom i
   pub low : (i : ℕ) → i ≤ m → bottom i < 2 ^ 63
   pub named : (i j : ℕ) → i ≤ m → j ≤ n + m → IsRatio (t.entry i j) (number i j) (bottom i)
@@ -60,7 +59,7 @@ pub record AreStartColumns (m n norm : ℕ) (p : FeasibilityProblem Rational) (c
   pub column : (j : ℕ) → j < n → IsStartColumn m norm (λ k. start_row field_ℚ m n p k j) (slice_index_or columns j [])
 
 -- what is kept of a table: of each row its entries at the artificial columns and its right side
-pub record ShowsTable (m n limit : ℕ) (t : Table Rational) (rows : List WholeRowView) (basis : List ℕ) : Type 0 where
+pub record ShowsTable (m n limit : ℕ) (t : SimplexTable Rational) (rows : List WholeRowView) (basis : List ℕ) : Type 0 where
   pub rows_are : length rows ≡ m + 1
   pub basis_are : length basis ≡ m
   pub row : (i : ℕ) → i < m + 1 → IsRow (m + 1) limit (λ k. t.entry i (n + k)) (whole_row_at rows i).numbers (whole_row_at rows i).bottom

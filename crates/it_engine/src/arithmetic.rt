@@ -49,6 +49,7 @@ pub fn product(x: i64, y: i64) -> i128
     i128::from(x) * i128::from(y)
 }
 
+/// One number less another.
 #[inline]
 fn difference(x: i128, y: i128) -> i128
     requires x { unsigned_abs x < 2 ^ 126 }

@@ -43,12 +43,14 @@ impl Column {
         Ok(())
     }
 
+    /// How many entries it has.
     fn size(&self) -> usize
         ensures { result ≡ length self.now }
     {
         self.terms.len()
     }
 
+    /// The row of entry i.
     #[inline]
     fn place(&self, i: usize) -> usize
         requires { i < length self.now }
@@ -57,6 +59,7 @@ impl Column {
         self.terms[i].0
     }
 
+    /// The number of entry i.
     #[inline]
     fn factor(&self, i: usize) -> i64
         requires { i < length self.now }

@@ -61,6 +61,7 @@ impl Engine {
         }
     }
 
+    /// The rows, the cost row last.
     pub fn rows(&self) -> &[WholeRow]
         ensures { result.now ≡ self.now.rows }
     {
@@ -74,6 +75,7 @@ impl Engine {
         self.basis.as_slice()
     }
 
+    /// The cost row.
     fn cost_row(&self) -> &WholeRow
         requires { length self.now.basis < length self.now.rows }
         ensures { result.now ≡ whole_row_at self.now.rows (length self.now.basis) }
@@ -88,7 +90,7 @@ impl Engine {
         ensures yes { OnTrue result (right_side_of (length self.now.basis) self.now.rows (length self.now.basis) ≡ pos 0) }
         ensures no { OnFalse result (¬ (right_side_of (length self.now.basis) self.now.rows (length self.now.basis) ≡ pos 0)) }
     {
-        is_null(self.cost_row().number(self.basis.len()))
+        is_zero(self.cost_row().number(self.basis.len()))
     }
 
     /// The column that enters.
@@ -177,6 +179,7 @@ impl Engine {
     }
 }
 
+/// The row of this number, which is the last one.
 #[tactic(auto, using(crate::proofs::Items::item_by_default))]
 fn last_row(rows: &[WholeRow], last: usize) -> &WholeRow
     requires { last < length rows.now }
@@ -185,9 +188,11 @@ fn last_row(rows: &[WholeRow], last: usize) -> &WholeRow
     &rows[last]
 }
 
-fn is_null(z: i64) -> bool
+/// Whether a number is 0.
+fn is_zero(z: i64) -> bool
     ensures yes { OnTrue result (z ≡ pos 0) }
     ensures no { OnFalse result (¬ (z ≡ pos 0)) }
 {
+    // written out, so that the prover has each case with its test
     if z == 0 { true } else { false }
 }

@@ -29,6 +29,7 @@ fn whole_number(value: Fraction, limit: u64) -> Option<i64>
     }
 }
 
+/// The column of term i.
 fn column_of(terms: &[(usize, Fraction)], i: usize) -> usize
     requires { i < length terms.now }
     ensures { result ≡ column_at terms.now i }
@@ -36,6 +37,7 @@ fn column_of(terms: &[(usize, Fraction)], i: usize) -> usize
     terms[i].0
 }
 
+/// The number of term i.
 fn value_of(terms: &[(usize, Fraction)], i: usize) -> Fraction
     requires { i < length terms.now }
     ensures { result ≡ number_of_term terms.now i }
@@ -43,6 +45,7 @@ fn value_of(terms: &[(usize, Fraction)], i: usize) -> Fraction
     terms[i].1
 }
 
+/// Puts an entry behind those of a column.
 fn push_entry(
     columns: &mut Vec<Column>,
     column: usize,
@@ -79,6 +82,7 @@ fn read_terms(
     Ok(true)
 }
 
+/// So many columns without entries.
 fn empty_columns(alloc: Global, count: usize) -> Result<Vec<Column>, AllocError>
     ensures { IfOk result (λ columns. AreEmpty count columns.items) }
 {
@@ -142,6 +146,7 @@ fn kept_entry(tableau: &Tableau, i: usize, k: usize) -> Fraction
     }
 }
 
+/// Puts a number behind the others.
 fn push_number(numbers: &mut Vec<i64>, number: i64) -> Result<(), AllocError>
     ensures { OnOk result (numbers.new.items ≡ numbers.old.items ++ number ∷ []) }
 {

@@ -9,6 +9,7 @@ ghost use Rattle.it_engine.specs.Whole.{AreAtMost};
 
 use crate::arithmetic::{common_divisor, narrow_difference, quotient};
 
+/// The number at place k.
 #[inline]
 fn read(row: &[i64], k: usize) -> i64
     requires { k < length row.now }
@@ -86,6 +87,7 @@ fn bound(row: &[i64], most: u64, a: u64, y: u64, b: u64, limit: u64) -> Option<u
     }
 }
 
+/// A product that is short.
 #[inline]
 fn times(x: i64, a: i64) -> i64
     requires { unsigned_abs (x *ℤ a) < 2 ^ 63 }
@@ -94,6 +96,7 @@ fn times(x: i64, a: i64) -> i64
     x * a
 }
 
+/// A difference that is short.
 #[inline]
 fn minus(x: i64, y: i64) -> i64
     requires { unsigned_abs x + unsigned_abs y < 2 ^ 63 }
@@ -102,6 +105,7 @@ fn minus(x: i64, y: i64) -> i64
     x - y
 }
 
+/// x a - y b, where no part needs a test.
 #[inline]
 fn plain_difference(x: i64, a: i64, y: i64, b: i64) -> i64
     requires { unsigned_abs (x *ℤ a) + unsigned_abs (y *ℤ b) < 2 ^ 63 }
@@ -110,6 +114,7 @@ fn plain_difference(x: i64, a: i64, y: i64, b: i64) -> i64
     minus(times(x, a), times(y, b))
 }
 
+/// The next number at place k, where no part needs a test.
 #[inline]
 fn plain_number(row: &[i64], by: &[i64], k: usize, a: i64, b: i64) -> i64
     requires k_row { k < length row.now }
@@ -120,6 +125,7 @@ fn plain_number(row: &[i64], by: &[i64], k: usize, a: i64, b: i64) -> i64
     plain_difference(read(row, k), a, read(by, k), b)
 }
 
+/// The next number at place k where the row's own factor is 1 and no part needs a test.
 #[inline]
 fn less_product(row: &[i64], by: &[i64], k: usize, b: i64) -> i64
     requires k_row { k < length row.now }
@@ -153,6 +159,7 @@ pub fn note_places(row: &[i64], next: &mut Vec<usize>)
     }
 }
 
+/// As combine, where no number needs a test.
 fn multiply_and_subtract(row: &mut Vec<i64>, by: &[i64], a: i64, b: i64)
     requires even { length row.old.items ≡ length by.now }
     requires bound { (k : ℕ) → k < length by.now → unsigned_abs (number_at row.old.items k *ℤ a) + unsigned_abs (number_at by.now k *ℤ b) < 2 ^ 63 }

@@ -1,8 +1,7 @@
 //! What is read off the engine at the end of a run.
-ghost use Rattle.std.specs.Prelude.{◌≡◌, ◌≢◌, ◌+◌, ◌<◌, ◌++◌, ◌∷◌, [], ℕ, false, pos, cond, length, slice_index_or, IfOk, OnOk};
-ghost use Rattle.std.specs.Bool.{OnFalse, OnTrue};
+ghost use Rattle.std.specs.Prelude.{◌≡◌, ◌≢◌, ◌<◌, [], ℕ, false, pos, cond, length, slice_index_or, IfOk};
 ghost use Rattle.std.specs.Option.{IfNone, IfSome};
-ghost use Rattle.it_rational.specs.Rational.{minus, quotient, times, whole};
+ghost use Rattle.it_rational.specs.Rational.{minus, quotient, times, integer};
 ghost use Rattle.it_tableau.specs.TableauViews.{height};
 ghost use Rattle.it_engine.specs.Choosing.{right_side_of};
 ghost use Rattle.it_engine.specs.Engine.{IsSafe};
@@ -16,6 +15,7 @@ use it_fraction::Fraction;
 use it_tableau::Tableau;
 use std::alloc::{AllocError, Global};
 
+/// The number at place k over the row's denominator.
 fn fraction(row: &WholeRow, k: usize) -> Fraction
     requires place { k < length row.now.numbers }
     requires some { 0 < row.now.bottom }
@@ -24,6 +24,7 @@ fn fraction(row: &WholeRow, k: usize) -> Fraction
     Fraction::quotient(i128::from(row.number(k)), i128::from(row.bottom()))
 }
 
+/// The same of row i.
 fn fraction_at(rows: &[WholeRow], i: usize, k: usize) -> Fraction
     requires row { i < length rows.now }
     requires place { k < length (whole_row_at rows.now i).numbers }
@@ -47,25 +48,6 @@ fn weight_of(rows: &[WholeRow], basis: &[usize], j: usize) -> Option<Fraction>
     None
 }
 
-fn push_weight(
-    weights: &mut Vec<(usize, Fraction)>,
-    j: usize,
-    weight: Fraction,
-) -> Result<(), AllocError>
-    ensures { OnOk result (weights.new.items ≡ weights.old.items ++ (j, weight) ∷ []) }
-{
-    weights.push((j, weight))?;
-    Ok(())
-}
-
-#[tactic(auto, using(it_tableau::proofs::Zeros::null_from_top, it_tableau::proofs::Zeros::top_from_null))]
-fn is_null(value: Fraction) -> bool
-    ensures yes { OnTrue result (value ≡ whole (pos 0)) }
-    ensures no { OnFalse result (¬ (value ≡ whole (pos 0))) }
-{
-    if value.is_zero() { true } else { false }
-}
-
 /// The weights other than 0, by column.
 pub fn weights(
     alloc: Global,
@@ -79,16 +61,17 @@ pub fn weights(
     let mut out = Vec::new(alloc);
     for j in 0..columns.len() {
         if let Some(weight) = weight_of(rows, basis, j) {
-            if !is_null(weight) {
-                push_weight(&mut out, j, weight)?;
+            if !weight.is_zero() {
+                out.push((j, weight))?;
             }
         }
     }
     Ok(out)
 }
 
+/// The value, or its negation.
 fn signed_value(value: Fraction, negated: bool) -> Fraction
-    ensures { result ≡ times (cond negated (minus (whole (pos 1))) (whole (pos 1))) value }
+    ensures { result ≡ times (cond negated (minus (integer (pos 1))) (integer (pos 1))) value }
 {
     if negated { value.neg() } else { value }
 }

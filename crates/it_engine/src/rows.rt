@@ -55,6 +55,7 @@ impl WholeRow {
         }
     }
 
+    /// The number at place k, before it is divided.
     #[inline]
     pub fn number(&self, k: usize) -> i64
         requires { k < length self.now.numbers }

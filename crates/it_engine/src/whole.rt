@@ -1,5 +1,5 @@
 //! The run from a start.
-ghost use Rattle.std.specs.Prelude.{◌≡◌, ◌<◌, ◌^◌, false, length, IfOk};
+ghost use Rattle.std.specs.Prelude.{◌≡◌, ◌<◌, false, length, IfOk};
 ghost use Rattle.std.specs.Option.{IfSome};
 ghost use Rattle.it_run.specs.Answers.{HasProblem, RunsFrom};
 ghost use Rattle.it_tableau.specs.TableauViews.{height};

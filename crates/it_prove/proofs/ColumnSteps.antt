@@ -92,12 +92,6 @@ module _ (n : ℕ) (ds : List Dependence) (gs : List Generator) where
     λ j d l. subst (λ (g : Generator). CollapseFits n ds g.row) (get_or_default gs j (record { kind = Inequality; row = [] }) d l) (a.fits j (omega arith)),
   )
 
-  pub columns_whole : (i : ℕ) (rows : List Terms) → i ≡ length gs → SameRows rows (columns (collapsed_generators n ds gs)) → All (λ g. CollapseFits n ds g.row) gs → AreColumns n ds gs i rows
-  columns_whole i rows e same fits = record {
-    same = subst (λ hs. SameRows rows (columns (collapsed_generators n ds hs))) (sym (take_all i gs (omega (arith, e)))) same;
-    fits = λ j h. fits j (record { kind = Inequality; row = [] }) (omega (arith, e));
-  }
-
   -- the same where the dependences are those of a problem
   pub columns_more_by : (es : List Dependence) (i : ℕ) (old new : List Terms) → es ≡ ds → i < length gs
       → ((xs : List Terms) → SameRows old xs → SameRows new (xs ++ columns_of (collapsed_generator n es (generator_at gs i))))

@@ -23,7 +23,7 @@ use Rattle.it_closure.specs.Collapse.{AreDependences, spread_out}
 use Rattle.it_closure.specs.DependencesViews.{DependencesView}
 use Rattle.it_closure.specs.Reading.{dependences_of}
 use Rattle.it_closure.proofs.ClosingLoop.{of_space}
-use Rattle.it_lift.specs.Lifted.{WeightsAscend, AreDependencesOf, IsCertificateOverClosed, IsLiftOf, FitsLift}
+use Rattle.it_lift.specs.LiftedCertificates.{WeightsAscend, AreDependencesOf, IsCertificateOverClosed, IsLiftOf, FitsLift}
 use Rattle.it_lift.specs.Lifts.{lifted_weights}
 use Rattle.it_lift.proofs.ReadOf.{reading_gives_dependences}
 use Rattle.it_lift.proofs.Whole.{canonical_lift, canonical_weights_ascend}
@@ -62,9 +62,9 @@ ordered_so n ds gs ws a = subst (λ (m : ℕ). AreWeights field_ℚ m 0 ws) (col
 
 -- ---- they ascend, none is 0, and all are within the limit
 
-pub coefficient_within : (from : ℕ) (ts : Terms) → Ascends from ts → (c : ℕ) → IsWithin (coefficient ts c)
-coefficient_within from [] a c = omega arith
-coefficient_within from (t ∷ ts) a c = by_test (nat_eq t.0 c) refl (coefficient_within (t.0 + 1) ts a.3 c)
+pub coefficients_within : (from : ℕ) (ts : Terms) → Ascends from ts → (c : ℕ) → IsWithin (coefficient ts c)
+coefficients_within from [] a c = omega arith
+coefficients_within from (t ∷ ts) a c = by_test (nat_eq t.0 c) refl (coefficients_within (t.0 + 1) ts a.3 c)
   where
     apart : false ≡ true → ⊥
     apart e = cc
@@ -160,7 +160,7 @@ module _ (q : ProblemView) (target : Terms) (k : IsProblem q) (u : IsUpTo (size_
   module _ (fit : NumbersFit (numbers_of ws)) where
     pub parts_canonical : Ascends 0 (closed_weights q ws).parts
     parts_canonical = weights_ascend (generators q) 0 0 (coefficient (scaled_weights ws)) (scaled_positive (closed_generators q) (closed_places q) (closed_target q target) ws a)
-        (coefficient_within 0 (scaled_weights ws) (scaled_canonical (closed_generators q) (closed_places q) (closed_target q target) ws a fit.numbers))
+        (coefficients_within 0 (scaled_weights ws) (scaled_canonical (closed_generators q) (closed_places q) (closed_target q target) ws a fit.numbers))
 
     given : IsCertificateOverClosed q (read_of q) target (closed_weights q ws)
     given = record {

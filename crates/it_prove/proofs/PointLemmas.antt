@@ -8,7 +8,7 @@ use Rattle.it_number.proofs.Ring.{ring, v, nil}
 use Rattle.it_number.proofs.Ring as S
 use Rattle.std.proofs.lemmas.Int.{ints}
 use Rattle.std.proofs.lemmas.List.{get_or-map, get_or_default, length-map}
-use Rattle.it_rational.specs.Rational.{Rational, whole, times, is_at_least_zero}
+use Rattle.it_rational.specs.Rational.{Rational, integer, times, is_at_least_zero}
 use Rattle.it_rational.proofs.RationalLaws.{ring_ℚ}
 use Rattle.it_rational.proofs.Field.{field_ℚ}
 use Rattle.it_space.specs.declared.problems.Kind.{Kind}
@@ -19,7 +19,7 @@ use Rattle.it_space.specs.Rows.{Terms, Ascends, IsUpTo, coefficient, map_of, val
 use Rattle.it_space.specs.Spaces.{size_of}
 use Rattle.it_space.proofs.EveryLemmas.{every_of, all_of, every-flat_map, every_flat_mapped, every-same, every-map, every_mapped, every_all}
 use Rattle.it_polymatroid.specs.Elementals.{span}
-use Rattle.it_elemental.proofs.Spans.{get_or-span, length-span}
+use Rattle.it_polymatroid.proofs.Spans.{get_or-span, length-span}
 use Rattle.it_tableau.specs.Problems.{feasibility_problem}
 use Rattle.it_run.specs.Readings.{Separates}
 use Rattle.it_run.specs.RowValues.{rational_value}
@@ -38,7 +38,7 @@ use Rattle.it_prove.specs.Steps.{terms_of_places}
 use Rattle.it_prove.specs.Scaling.{scale_of, scaled_number, scaled_point}
 use Rattle.it_prove.proofs.Scales.{scale_pos, divides}
 use Rattle.it_prove.proofs.ClosedRows.{In, rise_low, rise_apart, coords_rise, collapsed_over, collapsed_value}
-use Rattle.it_prove.proofs.LiftLemmas.{coefficient_within, dependences_sound, below_size}
+use Rattle.it_prove.proofs.LiftLemmas.{coefficients_within, dependences_sound, below_size}
 use Rattle.it_prove.proofs.Wholes.{whole_scaled, least_scaled, below_scaled}
 use Prim.Native.Nat.{◌∣◌}
 use Rattle.it_space.proofs.TermLemmas.{ascends-single_term, ascends_lower, value-negated_terms, coefficient-append, coefficient-single_term}
@@ -98,7 +98,7 @@ pub spread_length : (n : ℕ) (ds : List Dependence) (size : ℕ) (row : Terms) 
 spread_length n ds size row = length-map (span 1 size) (λ c. coefficient row (place n ds c)) ∙ length-span 1 size
 
 pub spread_within : (n : ℕ) (ds : List Dependence) (size : ℕ) (row : Terms) → Ascends 0 row → All IsWithin (spread_values n ds size row)
-spread_within n ds size row a = all_of IsWithin (spread_values n ds size row) (every-map IsWithin (λ c. coefficient row (place n ds c)) (span 1 size) (every_all (λ c. IsWithin (coefficient row (place n ds c))) (span 1 size) (λ c. coefficient_within 0 row a (place n ds c))))
+spread_within n ds size row a = all_of IsWithin (spread_values n ds size row) (every-map IsWithin (λ c. coefficient row (place n ds c)) (span 1 size) (every_all (λ c. IsWithin (coefficient row (place n ds c))) (span 1 size) (λ c. coefficients_within 0 row a (place n ds c))))
 
 -- zeros left in or out, the values at the places are the same
 pairs_same : (cs : List ℕ) (vs : List ℤ) (c : ℕ) → coefficient (terms_of_places cs vs) c ≡ coefficient (zip cs vs) c
@@ -118,18 +118,18 @@ point_spread q s ds cs qs row values space list places is e =
     ∙ spread_same q.space.variables (dependences_of q) (size_of q.space) (closed_places q) (scaled_point qs)
 
 abbrev found : List ℕ → List Rational → ℕ → Rational
-found [] qs c = whole (pos 0)
-found (x ∷ xs) [] c = whole (pos 0)
+found [] qs c = integer (pos 0)
+found (x ∷ xs) [] c = integer (pos 0)
 found (x ∷ xs) (q ∷ qs) c = cond (nat_eq x c) q (found xs qs c)
 
-nothing : (l : ℕ) → whole (pos 0) ≡ times (whole (pos l)) (whole (pos 0))
-nothing l = sym (ring ring_ℚ (whole (pos l) ∷ []) (S.times (v 0) nil) nil refl)
+nothing : (l : ℕ) → integer (pos 0) ≡ times (integer (pos l)) (integer (pos 0))
+nothing l = sym (ring ring_ℚ (integer (pos l) ∷ []) (S.times (v 0) nil) nil refl)
 
 whole_found : (l from to : ℕ) (cs : List ℕ) (qs : List Rational) → RiseTo from to cs → Every (λ q. q.den ∣ l) qs → (c : ℕ)
-    → whole (coefficient (terms_of_places cs (map (scaled_number l) qs)) c) ≡ times (whole (pos l)) (found cs qs c)
+    → integer (coefficient (terms_of_places cs (map (scaled_number l) qs)) c) ≡ times (integer (pos l)) (found cs qs c)
 whole_found l from to [] qs r d c = nothing l
 whole_found l from to (x ∷ xs) [] r d c = nothing l
-whole_found l from to (x ∷ xs) (q ∷ qs) r d c = ap whole (coefficient_some x (scaled_number l q) (terms_of_places xs (map (scaled_number l) qs)) c) ∙ by_test (nat_eq x c) refl (whole_found l (x + 1) to xs qs r.1 d.1 c)
+whole_found l from to (x ∷ xs) (q ∷ qs) r d c = ap integer (coefficient_some x (scaled_number l q) (terms_of_places xs (map (scaled_number l) qs)) c) ∙ by_test (nat_eq x c) refl (whole_found l (x + 1) to xs qs r.1 d.1 c)
   where
     right : (y : ℤ) → y +ℤ pos 0 ≡ y
     right y = omega (arith, ints)
@@ -137,14 +137,14 @@ whole_found l from to (x ∷ xs) (q ∷ qs) r d c = ap whole (coefficient_some x
     left : (y : ℤ) → pos 0 +ℤ y ≡ y
     left y = omega (arith, ints)
 
-    by_test : (b : Bool) → nat_eq x c ≡ b → whole (coefficient (terms_of_places xs (map (scaled_number l) qs)) c) ≡ times (whole (pos l)) (found xs qs c)
-        → whole (cond b (scaled_number l q) (pos 0) +ℤ coefficient (terms_of_places xs (map (scaled_number l) qs)) c) ≡ times (whole (pos l)) (cond b q (found xs qs c))
+    by_test : (b : Bool) → nat_eq x c ≡ b → integer (coefficient (terms_of_places xs (map (scaled_number l) qs)) c) ≡ times (integer (pos l)) (found xs qs c)
+        → integer (cond b (scaled_number l q) (pos 0) +ℤ coefficient (terms_of_places xs (map (scaled_number l) qs)) c) ≡ times (integer (pos l)) (cond b q (found xs qs c))
     by_test true e ih =
         let past : coefficient (terms_of_places xs (map (scaled_number l) qs)) c ≡ pos 0 = pairs_below (x + 1) to xs (map (scaled_number l) qs) c r.1 (omega (arith, eqb-true x c e)) in
-        ap (λ y. whole (scaled_number l q +ℤ y)) past ∙ ap whole (right (scaled_number l q)) ∙ whole_scaled l q d.0
-    by_test false e ih = ap whole (left (coefficient (terms_of_places xs (map (scaled_number l) qs)) c)) ∙ ih
+        ap (λ y. integer (scaled_number l q +ℤ y)) past ∙ ap integer (right (scaled_number l q)) ∙ whole_scaled l q d.0
+    by_test false e ih = ap integer (left (coefficient (terms_of_places xs (map (scaled_number l) qs)) c)) ∙ ih
 
-found_at : (from to : ℕ) (cs : List ℕ) (qs : List Rational) → RiseTo from to cs → length qs ≡ length cs → (k : ℕ) → k < length cs → found cs qs (get_or cs k 0) ≡ get_or qs k (whole (pos 0))
+found_at : (from to : ℕ) (cs : List ℕ) (qs : List Rational) → RiseTo from to cs → length qs ≡ length cs → (k : ℕ) → k < length cs → found cs qs (get_or cs k 0) ≡ get_or qs k (integer (pos 0))
 found_at from to [] qs r e k h = absurd (omega arith)
 found_at from to (x ∷ xs) [] r e k h = absurd (omega (arith, e))
 found_at from to (x ∷ xs) (q ∷ qs) r e zero h = ap (λ b. cond b q (found xs qs x)) (eq-eqb x x refl)
@@ -193,7 +193,7 @@ module _ (q : ProblemView) (target : Terms) (qs : List Rational) (k : IsProblem 
   rise : RiseTo 1 (2 ^ q.space.variables + q.space.rates) (closed_places q)
   rise = coords_rise q.space.variables q.space.rates (dependences_of q) (dependences_sound q k)
 
-  whole_at : (c : ℕ) → whole (coefficient values c) ≡ times (whole (pos (scale_of qs))) (found (closed_places q) qs c)
+  whole_at : (c : ℕ) → integer (coefficient values c) ≡ times (integer (pos (scale_of qs))) (found (closed_places q) qs c)
   whole_at = whole_found (scale_of qs) 1 (2 ^ q.space.variables + q.space.rates) (closed_places q) qs rise (divides 1 qs)
 
   rows : Every (λ g. IsUpTo (size_of q.space) g.row) (generators q)
@@ -215,8 +215,8 @@ module _ (q : ProblemView) (target : Terms) (qs : List Rational) (k : IsProblem 
       (all_of (λ (t : ℕ × ℤ). In (closed_places q) t.0) (closed_target q target) (over target u))
       (λ j l. found_at 1 (2 ^ q.space.variables + q.space.rates) (closed_places q) qs rise s.complete j l) s
 
-  scaled_row : (row : Terms) → Every (λ (t : ℕ × ℤ). whole (coefficient values t.0) ≡ times (whole (pos (scale_of qs))) (found (closed_places q) qs t.0)) row
-  scaled_row row = every_all (λ (t : ℕ × ℤ). whole (coefficient values t.0) ≡ times (whole (pos (scale_of qs))) (found (closed_places q) qs t.0)) row (λ t. whole_at t.0)
+  scaled_row : (row : Terms) → Every (λ (t : ℕ × ℤ). integer (coefficient values t.0) ≡ times (integer (pos (scale_of qs))) (found (closed_places q) qs t.0)) row
+  scaled_row row = every_all (λ (t : ℕ × ℤ). integer (coefficient values t.0) ≡ times (integer (pos (scale_of qs))) (found (closed_places q) qs t.0)) row (λ t. whole_at t.0)
 
   none : coefficient values 0 ≡ pos 0
   none = pairs_below 1 (2 ^ q.space.variables + q.space.rates) (closed_places q) (scaled_point qs) 0 rise (omega arith)

@@ -1,9 +1,9 @@
 -- From the ends of the run and the checker's verdict to the outcome.
-use Rattle.std.proofs.Common.{◌≡◌, ◌≢◌, ◌⊎◌, inl, inr, ℕ, zero, suc, ◌≤◌, ℤ, List, [], ◌∷◌, map, length, get_or, All, Option, Some, None, Result, Ok, Err, refl, sym, ap, subst, subst₂, ◌∙◌}
+use Rattle.std.proofs.Common.{◌≡◌, ◌≢◌, ◌⊎◌, inl, inr, ℕ, zero, suc, ℤ, List, [], ◌∷◌, map, length, get_or, All, Option, Some, None, Result, Ok, Err, refl, sym, ap, subst, subst₂, ◌∙◌}
 use Rattle.std.specs.Option.{IfNone}
 use Rattle.std.specs.Result.{IfOk}
 use Rattle.it_number.specs.Limit.{IsWithin}
-use Rattle.it_rational.specs.Rational.{Rational, whole}
+use Rattle.it_rational.specs.Rational.{Rational, integer}
 use Rattle.it_rational.proofs.Field.{field_ℚ}
 use Rattle.it_space.specs.declared.answers.Cause.{Cause}
 use Rattle.it_space.specs.declared.answers.Cause.TheVariants.{Scale}
@@ -22,12 +22,11 @@ use Rattle.it_run.specs.Runs.RunEndView.{Weights, Point, Pivots, Width}
 use Rattle.it_run.specs.Solving.{RunsTo}
 use Rattle.it_run.proofs.RunLemmas.{EndIsRight}
 use Rattle.it_simplex.specs.Answers.{Solves, IsRightRunAnswer as IsRightAnswer}
-use Rattle.it_run.specs.Answers.{solved_end}
+use Rattle.it_run.specs.Answers.{end_of_answer}
 use Rattle.it_run.specs.declared.answering.RunAnswer.{RunAnswer}
 use Rattle.it_run.specs.declared.answering.RunAnswer.TheVariants.{Weights as OfWeights, Point as OfPoint, Pivots as OfPivots, Width as OfWidth}
-use Rattle.it_closure.specs.Reading.{dependences_of}
-use Rattle.it_tableau.specs.Tables as Table
-use Rattle.it_tableau.specs.Tables.{start}
+use Rattle.it_tableau.specs.SimplexTables as simplex
+use Rattle.it_tableau.specs.SimplexTables.{start}
 use Rattle.it_tableau.specs.Fits.{StartFits}
 use Rattle.it_simplex.proofs.AnswerLemmas.{ends_within_budget, ends_once as run_ends_once}
 use Rattle.it_elemental.specs.Generators.{generators}
@@ -36,8 +35,7 @@ use Rattle.it_check.specs.Verdicts.{yes_verdict, no_verdict}
 use Rattle.it_check.specs.declared.verdicts.Verdict.TheVariants.{Valid}
 use Rattle.it_check.proofs.Truth.{valid_yes_is, valid_no_is}
 use Rattle.it_prove.specs.Columns.{columns}
-use Rattle.it_prove.specs.ClosedProblems.{AreColumns, IsClosedProblem, SameRows}
-use Rattle.it_prove.specs.declared.closed.ClosedProblem.{ClosedProblem}
+use Rattle.it_prove.specs.ClosedProblems.{SameRows}
 use Rattle.it_prove.specs.Closed.{closed_places, closed_generators, closed_target, CollapsesFit, spread_point}
 use Rattle.it_prove.specs.Scaling.{EachFits, NumbersFit, scaled_number}
 use Rattle.it_prove.specs.ProofViews.{ProofView, Yes, No, Undecided, IsLifted, LiftedFit, Follows, Runs, EndsWith, NeverOutOfSteps, OneProofView, ProvenAscends, proof_view}
@@ -101,21 +99,21 @@ same_at (r ∷ rs) (x ∷ xs) s (suc j) c = same_at rs xs s.1 j c
 module _ (coords : List ℕ) (rs ss : List Terms) (s : SameRows rs ss) (r t : Terms) (e : (c : ℕ) → coefficient r c ≡ coefficient t c) where
   same_problem : feasibility_problem coords rs r ≡ feasibility_problem coords ss t
   same_problem i = record {
-    column = λ j k. whole (same_at rs ss s j (get_or coords k 0) i);
-    target = λ k. whole (e (get_or coords k 0) i);
+    column = λ j k. integer (same_at rs ss s j (get_or coords k 0) i);
+    target = λ k. integer (e (get_or coords k 0) i);
   }
 
-  abbrev run_by : Option ℕ → RunEndView (List (ℕ × Rational)) (List Rational) → ℕ → Table.FeasibilityProblem Rational → Type 0
+  abbrev run_by : Option ℕ → RunEndView (List (ℕ × Rational)) (List Rational) → ℕ → simplex.FeasibilityProblem Rational → Type 0
   run_by budget end n p = (¬ (StartFits (length coords) n p) × (end ≡ Width zero)) ⊎ (StartFits (length coords) n p × RunsTo (length coords) n p budget (start field_ℚ (length coords) n p) end)
 
   pub same_run : (budget : Option ℕ) (end : RunEndView (List (ℕ × Rational)) (List Rational)) → Solves coords rs r budget end → Solves coords ss t budget end
   same_run budget end h = subst₂ (run_by budget end) (same_length rs ss s) same_problem h
 
   pub same_sums : (ws : List (ℕ × Rational)) → SumsUp field_ℚ (length coords) (length rs) (feasibility_problem coords rs r) ws → SumsUp field_ℚ (length coords) (length ss) (feasibility_problem coords ss t) ws
-  same_sums ws h = subst₂ (λ (n : ℕ) (p : Table.FeasibilityProblem Rational). SumsUp field_ℚ (length coords) n p ws) (same_length rs ss s) same_problem h
+  same_sums ws h = subst₂ (λ (n : ℕ) (p : simplex.FeasibilityProblem Rational). SumsUp field_ℚ (length coords) n p ws) (same_length rs ss s) same_problem h
 
   pub same_separates : (qs : List Rational) → Separates field_ℚ (length coords) (length rs) (feasibility_problem coords rs r) qs → Separates field_ℚ (length coords) (length ss) (feasibility_problem coords ss t) qs
-  same_separates qs h = subst₂ (λ (n : ℕ) (p : Table.FeasibilityProblem Rational). Separates field_ℚ (length coords) n p qs) (same_length rs ss s) same_problem h
+  same_separates qs h = subst₂ (λ (n : ℕ) (p : simplex.FeasibilityProblem Rational). Separates field_ℚ (length coords) n p qs) (same_length rs ss s) same_problem h
 
 -- the run of the code's rows is that of the problem
 module _ (q : ProblemView) (target : Terms) (coords : List ℕ) (at : coords ≡ closed_places q) (rs : List Terms) (s : SameRows rs (columns (closed_generators q)))
@@ -142,7 +140,7 @@ wide_start q target budget n = record { end = Width 0; run = inl (n, refl); foll
 abbrev IsRightEnd : List ℕ → List Terms → Terms → RunEndView (List (ℕ × Rational)) (List Rational) → Type 0
 IsRightEnd coords rs r end = EndIsRight field_ℚ (length coords) (length rs) (feasibility_problem coords rs r) end
 
-right_end : (coords : List ℕ) (rs : List Terms) (r : Terms) (x : RunAnswer) → IsRightAnswer coords rs r x → IsRightEnd coords rs r (solved_end x)
+right_end : (coords : List ℕ) (rs : List Terms) (r : Terms) (x : RunAnswer) → IsRightAnswer coords rs r x → IsRightEnd coords rs r (end_of_answer x)
 right_end coords rs r (OfWeights ws) h = h
 right_end coords rs r (OfPoint qs) h = h
 right_end coords rs r (OfPivots k) h = tt
@@ -157,28 +155,17 @@ module _ (q : ProblemView) (target : Terms) (coords items : List ℕ) (slice : c
   rows_are : SameRows rs (columns (closed_generators q))
   rows_are = subst (λ (xs : List Terms). SameRows xs (columns (closed_generators q))) (sym same) s
 
-  pub answered : CollapsesFit q target → (budget : Option ℕ) → Solves coords rs r budget (solved_end x) → (end : RunEndView (List (ℕ × Rational)) (List Rational)) (o : ProofView) → solved_end x ≡ end → Follows q target end o
+  pub answered : CollapsesFit q target → (budget : Option ℕ) → Solves coords rs r budget (end_of_answer x) → (end : RunEndView (List (ℕ × Rational)) (List Rational)) (o : ProofView) → end_of_answer x ≡ end → Follows q target end o
       → EndsWith q target budget o
   answered fit budget h end o is f = ends_so q target coords places_are rs rows_are r e fit budget end o (subst (Solves coords rs r budget) is h) f
 
-  pub summed : IsRightAnswer coords rs r x → (part : List (ℕ × Rational)) → solved_end x ≡ Weights part
+  pub summed : IsRightAnswer coords rs r x → (part : List (ℕ × Rational)) → end_of_answer x ≡ Weights part
       → SumsUp field_ℚ (length (closed_places q)) (length (columns (closed_generators q))) (feasibility_problem (closed_places q) (columns (closed_generators q)) (closed_target q target)) part
   summed h part is = sums_so q target coords places_are rs rows_are r e part (subst (IsRightEnd coords rs r) is (right_end coords rs r x h))
 
-  pub separated : IsRightAnswer coords rs r x → (part : List Rational) → solved_end x ≡ Point part
+  pub separated : IsRightAnswer coords rs r x → (part : List Rational) → end_of_answer x ≡ Point part
       → Separates field_ℚ (length (closed_places q)) (length (columns (closed_generators q))) (feasibility_problem (closed_places q) (columns (closed_generators q)) (closed_target q target)) part
   separated h part is = separates_so q target coords places_are rs rows_are r e part (subst (IsRightEnd coords rs r) is (right_end coords rs r x h))
-
--- what was made of a problem, with the same parts again
-pub closed_again : (c d : ClosedProblem) → d.dependences ≡ c.dependences → d.coordinates ≡ c.coordinates → d.count ≡ c.count → d.columns.items ≡ c.columns.items
-    → (q : ProblemView) → IsClosedProblem q c → IsClosedProblem q d
-closed_again c d ds cs n rows q h = record {
-  space = ap (λ x. x.space) ds ∙ h.space;
-  list = ap (λ x. x.list) ds ∙ h.list;
-  coordinates = ap (λ x. x.items) cs ∙ h.coordinates;
-  few = subst (λ i. i ≤ length (generators q)) (sym n) h.few;
-  columns = subst₂ (AreColumns q.space.variables (dependences_of q) (generators q)) (sym n) (sym rows) h.columns;
-}
 
 -- ---- one outcome
 

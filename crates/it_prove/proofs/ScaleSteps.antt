@@ -1,9 +1,10 @@
 -- Scales and scaled numbers, step by step as the code forms them.
-use Rattle.std.proofs.Common.{◌≡◌, ◌↔◌, ℕ, ◌+◌, ◌<◌, ◌≤◌, ◌^◌, ℤ, pos, List, ◌∷◌, ◌++◌, map, length, drop, get_or, sym, ap, subst, ◌∙◌, arith}
-use Rattle.std.proofs.lemmas.List.{drop_more, drop_all}
+use Rattle.std.proofs.Common.{◌≡◌, ◌↔◌, ℕ, ◌+◌, ◌<◌, ◌≤◌, ◌^◌, ℤ, pos, List, ◌++◌, map, length, drop, get_or, sym, ap, subst, ◌∙◌, arith}
+use Rattle.std.proofs.lemmas.List.{drop_all}
 use Rattle.it_number.specs.Gcd.{lcm}
 use Rattle.it_number.specs.Limit.{IsWithin}
 use Rattle.it_rational.specs.Rational.{Rational}
+use Rattle.it_space.proofs.ListLemmas.{drop_item}
 use Rattle.it_space.specs.Rows.{Terms}
 use Rattle.it_prove.proofs.Scales.{lcm_pos, scale_least}
 use Rattle.it_prove.specs.Scaling.{EachFits, numbers_of, scale_from, scale_of, scaled_number, scaled_by}
@@ -23,13 +24,10 @@ pub record AreTerms (l : ℕ) (ws : List (ℕ × Rational)) (i : ℕ) (out : Ter
   pub fits : EachFits l (numbers_of (drop i ws)) ↔ EachFits l (numbers_of ws)
   pub same : out ++ scaled_by l (drop i ws) ≡ scaled_by l ws
 
-split : {X : Type 0} (xs : List X) (i : ℕ) (x : X) → i < length xs → x ≡ get_or xs i x → drop i xs ≡ x ∷ drop (i + 1) xs
-split xs i x h is = drop_more xs i x h ∙ ap (λ y. y ∷ drop (i + 1) xs) (sym is)
-
 pub scale_more : (qs : List Rational) (i scale next : ℕ) (q : Rational) → i < length qs → q ≡ get_or qs i q → IsWithin (pos (lcm scale q.den)) × (next ≡ lcm scale q.den) → IsScale qs i scale → IsScale qs (i + 1) next
 unfolding scale_from
 scale_more qs i scale next q h is w s = subst (IsScale qs (i + 1)) (sym w.1) (record {
-  same = subst (λ xs. scale_from scale xs ≡ scale_of qs) (split qs i q h is) s.same;
+  same = subst (λ xs. scale_from scale xs ≡ scale_of qs) (drop_item qs i q h is) s.same;
   some = lcm_pos scale q.den s.some q.positive;
   within = w.0;
 })
@@ -44,7 +42,7 @@ scale_done qs i scale h s =
 pub scale_wide : (qs : List Rational) (i scale : ℕ) (q : Rational) → i < length qs → q ≡ get_or qs i q → ¬ (IsWithin (pos (lcm scale q.den))) → IsScale qs i scale → ¬ (IsWithin (pos (scale_of qs)))
 unfolding scale_from
 scale_wide qs i scale q h is n s w =
-    let e : scale_from (lcm scale q.den) (drop (i + 1) qs) ≡ scale_of qs = subst (λ xs. scale_from scale xs ≡ scale_of qs) (split qs i q h is) s.same in
+    let e : scale_from (lcm scale q.den) (drop (i + 1) qs) ≡ scale_of qs = subst (λ xs. scale_from scale xs ≡ scale_of qs) (drop_item qs i q h is) s.same in
     let least : lcm scale q.den ≤ scale_from (lcm scale q.den) (drop (i + 1) qs) = scale_least (lcm scale q.den) (drop (i + 1) qs) (lcm_pos scale q.den s.some q.positive) in
     n (below (lcm scale q.den) (scale_of qs) (omega (arith, e, least)) w)
   where

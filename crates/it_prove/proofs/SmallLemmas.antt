@@ -5,7 +5,7 @@ use Rattle.std.proofs.Math.Pow.{pow_mono}
 use Rattle.it_number.specs.Limit.{IsWithin}
 use Rattle.it_number.proofs.Ring.{ring}
 use Rattle.it_number.proofs.Ring as S
-use Rattle.it_rational.specs.Rational.{Rational, whole, plus, times, minus}
+use Rattle.it_rational.specs.Rational.{Rational, integer, plus, times, minus}
 use Rattle.it_rational.proofs.RationalLaws.{ring_ℚ}
 use Rattle.it_rational.proofs.Field.{field_ℚ}
 use Rattle.it_fraction.specs.Fits.{IsNarrow}
@@ -22,12 +22,12 @@ use Rattle.it_closure.specs.Coordinates.{RiseTo}
 use Rattle.it_closure.specs.Reading.{dependences_of}
 use Rattle.it_tableau.specs.Fits.{StartFits}
 use Rattle.it_tableau.specs.Problems.{feasibility_problem, start_of}
-use Rattle.it_tableau.specs.Tables as Tables
+use Rattle.it_tableau.specs.SimplexTables as simplex
 use Rattle.it_run.specs.Choice.{IsDone, IsStuck, next}
 use Rattle.it_run.specs.Readings.{weights, point}
 use Rattle.it_run.specs.Solving.{StepFits, RunsTo}
 use Rattle.it_tableau.specs.Sums.{sum_to}
-use Rattle.it_tableau.specs.Tables.{Table, start_row, sign}
+use Rattle.it_tableau.specs.SimplexTables.{SimplexTable, start_row, sign}
 use Rattle.it_run.specs.Runs.{RunEndView, EndsAs, clip_end}
 use Rattle.it_run.specs.Runs.RunEndView.{Weights, Point, Pivots, Width}
 use Rattle.it_run.proofs.RowValues.{whole_plus}
@@ -42,22 +42,22 @@ use Rattle.it_prove.proofs.Wholes.{whole_parts, whole_minus}
 -- ---- whole numbers up to a bound
 
 abbrev IsBelow : ℕ → Rational → Type 0
-IsBelow b x = (z : ℤ) × (x ≡ whole z) × (unsigned_abs z ≤ b)
+IsBelow b x = (z : ℤ) × (x ≡ integer z) × (unsigned_abs z ≤ b)
 
-below_null : (b : ℕ) → IsBelow b (whole (pos 0))
+below_null : (b : ℕ) → IsBelow b (integer (pos 0))
 below_null b = (pos 0, refl, omega arith)
 
-below_one : (b : ℕ) → 1 ≤ b → IsBelow b (whole (pos 1))
+below_one : (b : ℕ) → 1 ≤ b → IsBelow b (integer (pos 1))
 below_one b h = (pos 1, refl, h)
 
 below_add : (a b : ℕ) (x y : Rational) → IsBelow a x → IsBelow b y → IsBelow (a + b) (plus x y)
 below_add a b x y h k = (h.0 +ℤ k.0, ap₂ plus h.1 k.1 ∙ sym (whole_plus h.0 k.0), abs_add h.0 k.0 a b h.2 k.2)
 
-below_sign : (b : ℕ) (s : Bool) (x : Rational) → IsBelow b x → IsBelow b (times (cond s (whole (pos 1)) (minus (whole (pos 1)))) x)
+below_sign : (b : ℕ) (s : Bool) (x : Rational) → IsBelow b x → IsBelow b (times (cond s (integer (pos 1)) (minus (integer (pos 1)))) x)
 below_sign b true x h = (h.0, ring_ℚ.unit-mul x ∙ h.1, h.2)
 below_sign b false x h = (
   neg_ℤ h.0,
-  ring ring_ℚ (whole (pos 1) ∷ x ∷ []) (S.times (S.minus (S.v 0)) (S.v 1)) (S.minus (S.times (S.v 0) (S.v 1))) refl ∙ ap minus (ring_ℚ.unit-mul x ∙ h.1) ∙ sym (whole_minus h.0),
+  ring ring_ℚ (integer (pos 1) ∷ x ∷ []) (S.times (S.minus (S.v 0)) (S.v 1)) (S.minus (S.times (S.v 0) (S.v 1))) refl ∙ ap minus (ring_ℚ.unit-mul x ∙ h.1) ∙ sym (whole_minus h.0),
   abs_neg h.0 b h.2,
 )
 
@@ -91,16 +91,16 @@ module _ (coords : List ℕ) (cols : List Terms) (t : Terms) (few : length coord
   entry_below : (k j : ℕ) → IsBelow (2 ^ 85) (start_row field_ℚ (length coords) (length cols) (feasibility_problem coords cols t) k j)
   entry_below k j = by_test (ltb j (length cols)) (eqb j (length cols + length coords)) (eqb j (length cols + k))
     where
-      column : IsBelow (2 ^ 85) (whole (coefficient (get_or cols j []) (get_or coords k 0)))
+      column : IsBelow (2 ^ 85) (integer (coefficient (get_or cols j []) (get_or coords k 0)))
       column = (coefficient (get_or cols j []) (get_or coords k 0), refl, every_or SmallRow cols j [] cs (λ c. omega arith) (get_or coords k 0))
 
-      right : IsBelow (2 ^ 85) (whole (coefficient t (get_or coords k 0)))
+      right : IsBelow (2 ^ 85) (integer (coefficient t (get_or coords k 0)))
       right = (coefficient t (get_or coords k 0), refl, ts (get_or coords k 0))
 
-      by_test : (a b c : Bool) → IsBelow (2 ^ 85) (cond a (times (sign field_ℚ (feasibility_problem coords cols t) k) (whole (coefficient (get_or cols j []) (get_or coords k 0))))
-          (cond b (times (sign field_ℚ (feasibility_problem coords cols t) k) (whole (coefficient t (get_or coords k 0)))) (cond c (whole (pos 1)) (whole (pos 0)))))
-      by_test true b c = below_sign (2 ^ 85) (field_ℚ.order.is_least (whole (coefficient t (get_or coords k 0)))) (whole (coefficient (get_or cols j []) (get_or coords k 0))) column
-      by_test false true c = below_sign (2 ^ 85) (field_ℚ.order.is_least (whole (coefficient t (get_or coords k 0)))) (whole (coefficient t (get_or coords k 0))) right
+      by_test : (a b c : Bool) → IsBelow (2 ^ 85) (cond a (times (sign field_ℚ (feasibility_problem coords cols t) k) (integer (coefficient (get_or cols j []) (get_or coords k 0))))
+          (cond b (times (sign field_ℚ (feasibility_problem coords cols t) k) (integer (coefficient t (get_or coords k 0)))) (cond c (integer (pos 1)) (integer (pos 0)))))
+      by_test true b c = below_sign (2 ^ 85) (field_ℚ.order.is_least (integer (coefficient t (get_or coords k 0)))) (integer (coefficient (get_or cols j []) (get_or coords k 0))) column
+      by_test false true c = below_sign (2 ^ 85) (field_ℚ.order.is_least (integer (coefficient t (get_or coords k 0)))) (integer (coefficient t (get_or coords k 0))) right
       by_test false false true = below_one (2 ^ 85) (omega arith)
       by_test false false false = below_null (2 ^ 85)
 
@@ -132,7 +132,7 @@ zero_before_clip (Width k) q = by_number k (inside (min k 4294967295) q)
     by_number : (k : ℕ) → zero ≡ min k 4294967295 → (let x : RunEndView (List (ℕ × Rational)) (List Rational) = Width k in x) ≡ Width zero
     by_number k q = let s : k ≡ zero = omega arith in ap (λ x. let r : RunEndView (List (ℕ × Rational)) (List Rational) = Width x in r) s
 
-never_run : (m n : ℕ) (p : Tables.FeasibilityProblem Rational) (budget : Option ℕ) (t : Table Rational) (e : RunEndView (List (ℕ × Rational)) (List Rational)) → e ≡ Width zero → RunsTo m n p budget t e → ⊥
+never_run : (m n : ℕ) (p : simplex.FeasibilityProblem Rational) (budget : Option ℕ) (t : SimplexTable Rational) (e : RunEndView (List (ℕ × Rational)) (List Rational)) → e ≡ Width zero → RunsTo m n p budget t e → ⊥
 never_run m n p (Some steps) t e z r =
     never_zero (IsDone field_ℚ m n) (IsStuck field_ℚ m n) (StepFits m n) (next field_ℚ m n) (weights field_ℚ m n) (point field_ℚ m n p) steps zero t (subst (RunsTo m n p (Some steps) t) z r)
 never_run m n p None t e z r =

@@ -21,28 +21,28 @@ use Rattle.it_prove.specs.Scaling.{scaled_number, scaled_by}
 use Prim.Native.Nat.{◌∣◌}
 use native.Mathlib.Nat.{div-mul_cancel, one-dvd}
 
-pub whole_parts : (z : ℤ) → ((Q.whole z).num ≡ z) × ((Q.whole z).den ≡ 1)
+pub whole_parts : (z : ℤ) → ((Q.integer z).num ≡ z) × ((Q.integer z).den ≡ 1)
 whole_parts z = own_parts z 1 one_pos (one-dvd (unsigned_abs z), one-dvd 1, λ d p q. q)
 
-pub whole_same : (a b : ℤ) → Q.whole a ≡ Q.whole b → a ≡ b
+pub whole_same : (a b : ℤ) → Q.integer a ≡ Q.integer b → a ≡ b
 whole_same a b e = sym (whole_parts a).0 ∙ ap (λ (q : Rational). q.num) e ∙ (whole_parts b).0
 
-pub whole_times : (a b : ℤ) → Q.whole (a *ℤ b) ≡ Q.times (Q.whole a) (Q.whole b)
-whole_times a b = same_value (Q.whole (a *ℤ b)) (Q.times (Q.whole a) (Q.whole b)) (a *ℤ b) (a *ℤ b) 1 (1 * 1) (omega arith) (omega arith)
+pub whole_times : (a b : ℤ) → Q.integer (a *ℤ b) ≡ Q.times (Q.integer a) (Q.integer b)
+whole_times a b = same_value (Q.integer (a *ℤ b)) (Q.times (Q.integer a) (Q.integer b)) (a *ℤ b) (a *ℤ b) 1 (1 * 1) (omega arith) (omega arith)
     (quotient_names (a *ℤ b) 1 (omega arith))
-    (times_names (Q.whole a) (Q.whole b) a b 1 1 (omega arith) (omega arith) (quotient_names a 1 (omega arith)) (quotient_names b 1 (omega arith)))
+    (times_names (Q.integer a) (Q.integer b) a b 1 1 (omega arith) (omega arith) (quotient_names a 1 (omega arith)) (quotient_names b 1 (omega arith)))
     (omega (arith, zring))
 
-pub whole_minus : (a : ℤ) → Q.whole (neg_ℤ a) ≡ Q.minus (Q.whole a)
+pub whole_minus : (a : ℤ) → Q.integer (neg_ℤ a) ≡ Q.minus (Q.integer a)
 whole_minus a = ap₂ Q.quotient (ap neg_ℤ (sym (whole_parts a).0)) (sym (whole_parts a).1)
 
 -- a number times a multiple of its denominator
-pub whole_scaled : (l : ℕ) (q : Rational) → q.den ∣ l → Q.whole (scaled_number l q) ≡ Q.times (Q.whole (pos l)) q
+pub whole_scaled : (l : ℕ) (q : Rational) → q.den ∣ l → Q.integer (scaled_number l q) ≡ Q.times (Q.integer (pos l)) q
 unfolding scaled_number
 whole_scaled l q h =
-    same_value (Q.whole (q.num *ℤ pos (l / q.den))) (Q.times (Q.whole (pos l)) q) (q.num *ℤ pos (l / q.den)) (pos l *ℤ q.num) 1 (1 * q.den) (omega arith) (omega (arith, q.positive))
+    same_value (Q.integer (q.num *ℤ pos (l / q.den))) (Q.times (Q.integer (pos l)) q) (q.num *ℤ pos (l / q.den)) (pos l *ℤ q.num) 1 (1 * q.den) (omega arith) (omega (arith, q.positive))
     (quotient_names (q.num *ℤ pos (l / q.den)) 1 (omega arith))
-    (times_names (Q.whole (pos l)) q (pos l) q.num 1 q.den (omega arith) q.positive (quotient_names (pos l) 1 (omega arith)) (own_name q))
+    (times_names (Q.integer (pos l)) q (pos l) q.num 1 q.den (omega arith) q.positive (quotient_names (pos l) 1 (omega arith)) (own_name q))
     (across q.num (l / q.den) q.den l (div-mul_cancel q.den h))
   where
     across : (n : ℤ) (k d l : ℕ) → k * d ≡ l → (n *ℤ pos k) *ℤ pos (1 * d) ≡ (pos l *ℤ n) *ℤ pos 1
@@ -54,19 +54,19 @@ whole_scaled l q h =
 -- ---- sums of weights
 
 pub weighted_scaled : (l : ℕ) (ws : List (ℕ × Rational)) (f : ℕ → ℤ) → Every (λ q. q.den ∣ l) (map (λ w. w.1) ws)
-    → Q.whole (value (scaled_by l ws) f) ≡ Q.times (Q.whole (pos l)) (ring_combination field_ℚ ws (λ j. Q.whole (f j)))
-weighted_scaled l [] f d = sym (ring ring_ℚ (Q.whole (pos l) ∷ []) (times (v 0) nil) nil refl)
+    → Q.integer (value (scaled_by l ws) f) ≡ Q.times (Q.integer (pos l)) (ring_combination field_ℚ ws (λ j. Q.integer (f j)))
+weighted_scaled l [] f d = sym (ring ring_ℚ (Q.integer (pos l) ∷ []) (times (v 0) nil) nil refl)
 weighted_scaled l (w ∷ ws) f d =
     whole_plus (scaled_number l w.1 *ℤ f w.0) (value (scaled_by l ws) f)
-    ∙ ap₂ Q.plus (whole_times (scaled_number l w.1) (f w.0) ∙ ap (λ x. Q.times x (Q.whole (f w.0))) (whole_scaled l w.1 d.0)) (weighted_scaled l ws f d.1)
-    ∙ ring ring_ℚ (Q.whole (pos l) ∷ w.1 ∷ Q.whole (f w.0) ∷ ring_combination field_ℚ ws (λ j. Q.whole (f j)) ∷ [])
+    ∙ ap₂ Q.plus (whole_times (scaled_number l w.1) (f w.0) ∙ ap (λ x. Q.times x (Q.integer (f w.0))) (whole_scaled l w.1 d.0)) (weighted_scaled l ws f d.1)
+    ∙ ring ring_ℚ (Q.integer (pos l) ∷ w.1 ∷ Q.integer (f w.0) ∷ ring_combination field_ℚ ws (λ j. Q.integer (f j)) ∷ [])
     (plus (times (times (v 0) (v 1)) (v 2)) (times (v 0) (v 3))) (times (v 0) (plus (times (v 1) (v 2)) (v 3))) refl
 
 -- weights that sum to a whole number, times the scale
 pub scaled_sum : (l : ℕ) (ws : List (ℕ × Rational)) (f : ℕ → ℤ) (t : ℤ) → Every (λ q. q.den ∣ l) (map (λ w. w.1) ws)
-    → ring_combination field_ℚ ws (λ j. Q.whole (f j)) ≡ Q.whole t → value (scaled_by l ws) f ≡ pos l *ℤ t
+    → ring_combination field_ℚ ws (λ j. Q.integer (f j)) ≡ Q.integer t → value (scaled_by l ws) f ≡ pos l *ℤ t
 scaled_sum l ws f t d e = whole_same (value (scaled_by l ws) f) (pos l *ℤ t)
-    (weighted_scaled l ws f d ∙ ap (Q.times (Q.whole (pos l))) e ∙ sym (whole_times (pos l) t))
+    (weighted_scaled l ws f d ∙ ap (Q.times (Q.integer (pos l))) e ∙ sym (whole_times (pos l) t))
 
 -- ---- signs
 
@@ -97,31 +97,31 @@ scaled_above l q h d a = product q.num (l / q.den) (above_num q a) (some (l / q.
 -- ---- values at a point times the scale
 
 module _ (l : ℕ) (p : ℕ → ℤ) (h : ℕ → Rational) where
-  pub value_scaled : (row : Terms) → Every (λ t. Q.whole (p t.0) ≡ Q.times (Q.whole (pos l)) (h t.0)) row → Q.whole (value row p) ≡ Q.times (Q.whole (pos l)) (rational_value row h)
-  value_scaled [] e = sym (ring ring_ℚ (Q.whole (pos l) ∷ []) (times (v 0) nil) nil refl)
+  pub value_scaled : (row : Terms) → Every (λ t. Q.integer (p t.0) ≡ Q.times (Q.integer (pos l)) (h t.0)) row → Q.integer (value row p) ≡ Q.times (Q.integer (pos l)) (rational_value row h)
+  value_scaled [] e = sym (ring ring_ℚ (Q.integer (pos l) ∷ []) (times (v 0) nil) nil refl)
   value_scaled (t ∷ ts) e =
       whole_plus (t.1 *ℤ p t.0) (value ts p)
-      ∙ ap₂ Q.plus (whole_times t.1 (p t.0) ∙ ap (Q.times (Q.whole t.1)) e.0) (value_scaled ts e.1)
-      ∙ ring ring_ℚ (Q.whole (pos l) ∷ Q.whole t.1 ∷ h t.0 ∷ rational_value ts h ∷ [])
+      ∙ ap₂ Q.plus (whole_times t.1 (p t.0) ∙ ap (Q.times (Q.integer t.1)) e.0) (value_scaled ts e.1)
+      ∙ ring ring_ℚ (Q.integer (pos l) ∷ Q.integer t.1 ∷ h t.0 ∷ rational_value ts h ∷ [])
       (plus (times (v 1) (times (v 0) (v 2))) (times (v 0) (v 3))) (times (v 0) (plus (times (v 1) (v 2)) (v 3))) refl
 
-  module _ (some : 0 < l) (row : Terms) (e : Every (λ t. Q.whole (p t.0) ≡ Q.times (Q.whole (pos l)) (h t.0)) row) where
-    scale_above : IsAboveZero field_ℚ (Q.whole (pos l))
-    scale_above = minus_below (Q.whole (pos l)) (subst (λ (z : ℤ). pos 0 <ℤ z) (sym (whole_parts (pos l)).0) (omega (arith, ints)))
+  module _ (some : 0 < l) (row : Terms) (e : Every (λ t. Q.integer (p t.0) ≡ Q.times (Q.integer (pos l)) (h t.0)) row) where
+    scale_above : IsAboveZero field_ℚ (Q.integer (pos l))
+    scale_above = minus_below (Q.integer (pos l)) (subst (λ (z : ℤ). pos 0 <ℤ z) (sym (whole_parts (pos l)).0) (omega (arith, ints)))
 
     pub least_scaled : is_at_least_zero (rational_value row h) ≡ true → pos 0 ≤ℤ value row p
     least_scaled a =
-        let scale_least : is_at_least_zero (Q.whole (pos l)) ≡ true = to_sign (Q.whole (pos l)).num (subst (λ (z : ℤ). pos 0 ≤ℤ z) (sym (whole_parts (pos l)).0) (omega (arith, ints))) in
+        let scale_least : is_at_least_zero (Q.integer (pos l)) ≡ true = to_sign (Q.integer (pos l)).num (subst (λ (z : ℤ). pos 0 ≤ℤ z) (sym (whole_parts (pos l)).0) (omega (arith, ints))) in
         subst (λ (z : ℤ). pos 0 ≤ℤ z) (whole_parts (value row p)).0
-        (from_sign (Q.whole (value row p)).num (ap is_at_least_zero (value_scaled row e) ∙ field_ℚ.order.mul-least (Q.whole (pos l)) (rational_value row h) scale_least a))
+        (from_sign (Q.integer (value row p)).num (ap is_at_least_zero (value_scaled row e) ∙ field_ℚ.order.mul-least (Q.integer (pos l)) (rational_value row h) scale_least a))
 
     pub below_scaled : is_at_least_zero (rational_value row h) ≡ false → value row p ≤ℤ neg_ℤ (pos 1)
     below_scaled b =
-        let above : IsAboveZero field_ℚ (Q.times (Q.whole (pos l)) (Q.minus (rational_value row h))) =
-        mul-above field_ℚ (Q.whole (pos l)) (Q.minus (rational_value row h)) scale_above (neg-above field_ℚ (rational_value row h) b) in
-        let is : Q.times (Q.whole (pos l)) (Q.minus (rational_value row h)) ≡ Q.whole (neg_ℤ (value row p)) =
-        ring ring_ℚ (Q.whole (pos l) ∷ rational_value row h ∷ []) (times (v 0) (minus (v 1))) (minus (times (v 0) (v 1))) refl ∙ ap Q.minus (sym (value_scaled row e)) ∙ sym (whole_minus (value row p)) in
-        under (value row p) (subst (λ (z : ℤ). pos 0 <ℤ z) (ap (λ (q : Rational). q.num) is ∙ (whole_parts (neg_ℤ (value row p))).0) (above_num (Q.times (Q.whole (pos l)) (Q.minus (rational_value row h))) above))
+        let above : IsAboveZero field_ℚ (Q.times (Q.integer (pos l)) (Q.minus (rational_value row h))) =
+        mul-above field_ℚ (Q.integer (pos l)) (Q.minus (rational_value row h)) scale_above (neg-above field_ℚ (rational_value row h) b) in
+        let is : Q.times (Q.integer (pos l)) (Q.minus (rational_value row h)) ≡ Q.integer (neg_ℤ (value row p)) =
+        ring ring_ℚ (Q.integer (pos l) ∷ rational_value row h ∷ []) (times (v 0) (minus (v 1))) (minus (times (v 0) (v 1))) refl ∙ ap Q.minus (sym (value_scaled row e)) ∙ sym (whole_minus (value row p)) in
+        under (value row p) (subst (λ (z : ℤ). pos 0 <ℤ z) (ap (λ (q : Rational). q.num) is ∙ (whole_parts (neg_ℤ (value row p))).0) (above_num (Q.times (Q.integer (pos l)) (Q.minus (rational_value row h))) above))
       where
         under : (x : ℤ) → pos 0 <ℤ neg_ℤ x → x ≤ℤ neg_ℤ (pos 1)
         under x h = omega (arith, ints)

@@ -43,7 +43,7 @@ pub fn opposite_row(alloc: Global, row: &Row) -> Result<Row, AllocError>
 }
 
 /// The row of a generator by its number: an elemental inequality, or from their count on a constraint.
-fn row_at(alloc: Global, problem: &Problem, index: u32) -> Result<Row, AllocError>
+fn generator_row(alloc: Global, problem: &Problem, index: u32) -> Result<Row, AllocError>
     requires problem { IsProblem (problem_view problem.now) }
     requires listed { index < length (generators (problem_view problem.now)) }
     ensures { IfOk result (λ r. r ≡ (generator_at (generators (problem_view problem.now)) index).row) }
@@ -58,7 +58,7 @@ fn row_at(alloc: Global, problem: &Problem, index: u32) -> Result<Row, AllocErro
         .copy(alloc)
 }
 
-/// The row of a generator over closed sets. `Wide` where a partial sum of its coefficients passes the limit.
+/// The row of a generator over closed sets. `WideNumber` where a partial sum of its coefficients passes the limit.
 fn collapsed_row(
     alloc: Global,
     problem: &Problem,
@@ -72,7 +72,7 @@ fn collapsed_row(
     ensures fits { OnOk result (CollapseFits problem.now.space.variables dependences.now.list (generator_at (generators (problem_view problem.now)) index).row) }
     ensures wide { IfErr result (λ f. f ≡ RowFault.Wide → ¬ (CollapseFits problem.now.space.variables dependences.now.list (generator_at (generators (problem_view problem.now)) index).row)) }
 {
-    let row = row_at(alloc, problem, index)?;
+    let row = generator_row(alloc, problem, index)?;
     let closed = dependences.collapse(alloc, &row)?;
     Ok(closed)
 }

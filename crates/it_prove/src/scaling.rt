@@ -1,15 +1,15 @@
 //! Fractions made whole by the least common multiple of their denominators.
-ghost use Rattle.std.specs.Prelude.{◌≡◌, ◌<◌, ◌^◌, ◌++◌, ◌∷◌, [], ℤ, pos, ◌*ℤ◌, map, All, IfErr, IfOk, OkIff, OnErr, OnOk};
+ghost use Rattle.std.specs.Prelude.{◌≡◌, ◌<◌, ◌^◌, ◌++◌, ◌∷◌, [], ℤ, pos, ◌*ℤ◌, map, All, IfErr, IfOk, OkIff, OnOk};
 ghost use Rattle.it_number.specs.Gcd.{lcm};
 ghost use Rattle.it_number.specs.Limit.{IsWithin};
 ghost use Rattle.it_prove.specs.Scaling.{EachFits, numbers_of, scale_of, scaled_number, scaled_by};
 
-use it_fraction::{Fraction, Wide, lcm};
+use it_fraction::{Fraction, WideNumber, lcm};
 use it_space::RowFault;
 use std::alloc::{AllocError, Global};
 
 /// The least common multiple of the scale and a number's denominator.
-fn with_denominator(scale: u128, number: &Fraction) -> Result<u128, Wide>
+fn with_denominator(scale: u128, number: &Fraction) -> Result<u128, WideNumber>
     requires some { 0 < scale }
     requires within { scale < 2 ^ 127 }
     ensures { OkIff result (IsWithin (pos (lcm scale number.now.den))) (lcm scale number.now.den) }
@@ -18,8 +18,8 @@ fn with_denominator(scale: u128, number: &Fraction) -> Result<u128, Wide>
     Ok(multiple as u128)
 }
 
-/// The least common multiple of the denominators. `Wide` where it passes the limit.
-pub fn common_scale(numbers: &[Fraction]) -> Result<u128, Wide>
+/// The least common multiple of the denominators. `WideNumber` where it passes the limit.
+pub fn common_scale(numbers: &[Fraction]) -> Result<u128, WideNumber>
     ensures value { OkIff result (IsWithin (pos (scale_of numbers.now))) (scale_of numbers.now) }
     ensures some { IfOk result (λ l. 0 < l) }
     ensures within { IfOk result (λ l. l < 2 ^ 127) }
@@ -31,19 +31,19 @@ pub fn common_scale(numbers: &[Fraction]) -> Result<u128, Wide>
     Ok(scale)
 }
 
-/// The product, or `Wide` where it passes the limit.
-fn product(a: i128, b: i128) -> Result<i128, Wide>
+/// The product, or `WideNumber` where it passes the limit.
+fn product(a: i128, b: i128) -> Result<i128, WideNumber>
     ensures { OkIff result (IsWithin (a *ℤ b)) (a *ℤ b) }
 {
     match a.checked_mul(b) {
         Some(product) if product != i128::MIN => Ok(product),
-        _ => Err(Wide),
+        _ => Err(WideNumber),
     }
 }
 
 /// The scale times a number whose denominator divides it.
 #[tactic(auto, unfolding(crate::specs::Scaling::scaled_number))]
-fn scaled_number(number: &Fraction, scale: u128) -> Result<i128, Wide>
+fn scaled_number(number: &Fraction, scale: u128) -> Result<i128, WideNumber>
     requires { scale < 2 ^ 127 }
     ensures { OkIff result (IsWithin (scaled_number scale number.now)) (scaled_number scale number.now) }
 {
@@ -65,7 +65,7 @@ fn put_value(values: &mut Vec<i128>, number: &Fraction, scale: u128) -> Result<(
     }
 }
 
-/// The scale times each number, in order. `Wide` where one of these passes the limit.
+/// The scale times each number, in order. `WideNumber` where one of these passes the limit.
 pub fn values(alloc: Global, numbers: &[Fraction], scale: u128) -> Result<Vec<i128>, RowFault>
     requires { scale < 2 ^ 127 }
     ensures value { IfOk result (λ v. v.items ≡ map (scaled_number scale) numbers.now) }
@@ -98,7 +98,7 @@ fn put_term(
     }
 }
 
-/// The scale times each weight, after its column. `Wide` where one of these passes the limit.
+/// The scale times each weight, after its column. `WideNumber` where one of these passes the limit.
 pub fn terms(
     alloc: Global,
     weights: &[(usize, Fraction)],

@@ -3,7 +3,7 @@
 use Rattle.std.proofs.Common.{◌≡◌, ℕ, zero, suc, ◌+◌, ◌<◌, ◌≤◌, Bool, true, false, cond, eqb, ltb, ◌&&◌, refl, sym, ap, ap₂, subst, ◌∙◌, ◌⊎◌, inl, inr, arith, not}
 use Rattle.std.proofs.lemmas.Bool.{cases_eq, eq-eqb}
 use Rattle.it_rational.specs.OrderedFields.{OrderedField}
-use Rattle.it_tableau.specs.Tables.{Table, difference, pivot, ratio}
+use Rattle.it_tableau.specs.SimplexTables.{SimplexTable, difference, pivot, ratio}
 use Rattle.it_tableau.proofs.ViewLemmas.{same_functions}
 use Rattle.it_run.specs.Choice.{first_false, entering_column, is_candidate, precedes, leaving_row_of, leaving_row, next}
 use Rattle.it_run.specs.Meetings.{table_after}
@@ -12,14 +12,14 @@ use Rattle.it_run.proofs.StepsLeft.{most, steps_left}
 
 module _ {A : Type 0} (F : OrderedField A) (m n : ℕ) where
   -- the tables have the same entries and the same basic columns
-  pub record Agree (t s : Table A) : Type 0 where
+  pub record Agree (t s : SimplexTable A) : Type 0 where
     pub entries : (i j : ℕ) → i ≤ m → j ≤ n + m → t.entry i j ≡ s.entry i j
     pub basics : (i : ℕ) → i < m → t.basis i ≡ s.basis i
 
-  entering_most : (t : Table A) → entering_column F m n t ≤ n
+  entering_most : (t : SimplexTable A) → entering_column F m n t ≤ n
   entering_most t = let l = first_false_at_most (λ j. F.order.is_least (t.entry m j)) 0 n in omega (arith, l)
 
-  leaving_most : (t : Table A) (c i : ℕ) → i ≤ m → leaving_row_of F m n t c i ≤ m
+  leaving_most : (t : SimplexTable A) (c i : ℕ) → i ≤ m → leaving_row_of F m n t c i ≤ m
   leaving_most t c zero h = omega arith
   leaving_most t c (suc i) h = by_cases (leaving_most t c i (omega arith))
     where
@@ -33,7 +33,7 @@ module _ {A : Type 0} (F : OrderedField A) (m n : ℕ) where
       by_cases : leaving_row_of F m n t c i ≤ m → leaving_row_of F m n t c (suc i) ≤ m
       by_cases up = two (is_candidate F t c i) (two (eqb best m) (omega arith) (two (precedes F m n t c i best) (omega arith) up)) up
 
-  module _ (t s : Table A) (a : Agree t s) where
+  module _ (t s : SimplexTable A) (a : Agree t s) where
     entering_agrees : entering_column F m n t ≡ entering_column F m n s
     entering_agrees = first_false_agrees (λ j. F.order.is_least (t.entry m j)) (λ j. F.order.is_least (s.entry m j)) 0 n (λ j _ l. ap F.order.is_least (a.entries m j (omega arith) (omega arith)))
 
@@ -79,10 +79,10 @@ module _ {A : Type 0} (F : OrderedField A) (m n : ℕ) where
         (subst (λ (y : ℕ). Agree (next F m n t) (pivot F s (leaving_row F m n t (entering_column F m n t)) y)) entering_agrees
         (pivot_agrees (leaving_row F m n t (entering_column F m n t)) (entering_column F m n t) (leaving_most t (entering_column F m n t) m (omega arith)) (entering_most t)))
 
-  after_agrees : (t s : Table A) → Agree t s → (k : ℕ) → Agree (table_after F m n t k) (table_after F m n s k)
+  after_agrees : (t s : SimplexTable A) → Agree t s → (k : ℕ) → Agree (table_after F m n t k) (table_after F m n s k)
   after_agrees t s a zero = a
   after_agrees t s a (suc k) = next_agrees (table_after F m n t k) (table_after F m n s k) (after_agrees t s a k)
 
-  pub steps_left_agrees : (t s : Table A) → Agree t s → steps_left F m n t ≡ steps_left F m n s
+  pub steps_left_agrees : (t s : SimplexTable A) → Agree t s → steps_left F m n t ≡ steps_left F m n s
   steps_left_agrees t s a = ap (λ (f : ℕ → Bool). first_false f 0 (suc (most F m n)))
       (same_functions (λ k. ap (λ c. ltb c n) (entering_agrees (table_after F m n t k) (table_after F m n s k) (after_agrees t s a k))))

@@ -1,11 +1,11 @@
 -- From a run on a tableau to its answer.
 use Rattle.std.proofs.Common.{◌≡◌, ℕ, pos, Bool, false, cond, List, slice_index_or, Option, Result, Ok, Err, sym, ap, ap₂, subst, ◌∙◌, arith}
 use Rattle.std.specs.Result.{IfOk}
-use Rattle.it_rational.specs.Rational.{Rational, whole, minus}
+use Rattle.it_rational.specs.Rational.{Rational, integer, minus}
 use Rattle.it_rational.proofs.Field.{field_ℚ}
 use Rattle.it_tableau.specs.Invariants.{HasInvariants}
 use Rattle.it_tableau.specs.TableauViews.{TableauView, height, table, KeepsFrame}
-use Rattle.it_tableau.specs.Tables.{Table, FeasibilityProblem}
+use Rattle.it_tableau.specs.SimplexTables.{SimplexTable, FeasibilityProblem}
 use Rattle.it_tableau.proofs.StartLemmas.{start_has_invariants}
 use Rattle.it_run.specs.Answers.{HasProblem, HasSigns}
 use Rattle.it_run.specs.Choice.{next, IsDone, IsStuck}
@@ -18,7 +18,7 @@ use Rattle.it_run.proofs.BudgetLemmas.{read_by}
 use Rattle.it_run.proofs.RunLemmas.{with_readings}
 
 -- the run with what is read off its last table
-pub read_run : (m n : ℕ) (p : FeasibilityProblem Rational) (budget : Option ℕ) (t : Table Rational) (e : RunEndView (Table Rational) (Table Rational)) → ReachesBy m n budget t e
+pub read_run : (m n : ℕ) (p : FeasibilityProblem Rational) (budget : Option ℕ) (t : SimplexTable Rational) (e : RunEndView (SimplexTable Rational) (SimplexTable Rational)) → ReachesBy m n budget t e
     → RunsTo m n p budget t (with_readings (IsDone field_ℚ m n) (IsStuck field_ℚ m n) (StepFits m n) (next field_ℚ m n) (weights field_ℚ m n) (point field_ℚ m n p) e)
 read_run m n p budget t e r = read_by (IsDone field_ℚ m n) (IsStuck field_ℚ m n) (StepFits m n) (next field_ℚ m n) (weights field_ℚ m n) (point field_ℚ m n p) budget t e r
 
@@ -31,12 +31,12 @@ module _ (old new : TableauView) (p : FeasibilityProblem Rational) (budget : Opt
   pub by_point : (q : List Rational) → KeepsFrame old new → HasSigns old p → ReachesBy (height old) old.generators budget (table old) (Point (table new))
       → (HasSigns new p → q ≡ point field_ℚ (height new) new.generators p (table new)) → RunsTo (height old) old.generators p budget (table old) (Point q)
   by_point q f s r e = subst (λ (q : List Rational). RunsTo (height old) old.generators p budget (table old) (Point q))
-      (sym (e (λ k l. ap (λ (b : List Bool). cond (slice_index_or b k false) (minus (whole (pos 1))) (whole (pos 1))) f.negated ∙ s k (omega (arith, f.height, l)))
+      (sym (e (λ k l. ap (λ (b : List Bool). cond (slice_index_or b k false) (minus (integer (pos 1))) (integer (pos 1))) f.negated ∙ s k (omega (arith, f.height, l)))
       ∙ ap₂ (λ m n. point field_ℚ m n p (table new)) f.height f.generators)) (read_run (height old) old.generators p budget (table old) (Point (table new)) r)
 
 -- a start has the invariants
 pub holds_start : (t : TableauView) → HasProblem t → HasInvariantsForSome t
-holds_start t s = (s.0, subst (λ (x : Table Rational). HasInvariants field_ℚ (height t) t.generators s.0 x) (sym s.1.table_is) (start_has_invariants field_ℚ (height t) t.generators s.0))
+holds_start t s = (s.0, subst (λ (x : SimplexTable Rational). HasInvariants field_ℚ (height t) t.generators s.0 x) (sym s.1.table_is) (start_has_invariants field_ℚ (height t) t.generators s.0))
 
 pub if_ok : {X E : Type 0} (r : Result X E) (P Q : X → Type 0) → IfOk r P → ((x : X) → P x → Q x) → IfOk r Q
 if_ok (Ok x) P Q h f = f x h

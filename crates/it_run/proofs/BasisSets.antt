@@ -2,7 +2,7 @@
 use Rattle.std.proofs.Common.{◌≡◌, ℕ, zero, suc, ◌+◌, ◌-◌, ◌<◌, ◌≤◌, Bool, true, false, cond, eqb, ltb, refl, sym, ap, ap₂, subst, ◌∙◌, ◌⊎◌, inl, inr, arith}
 use Rattle.std.proofs.lemmas.Bool.{eq-eqb, ne_eqb, cases_eq, cases_lt}
 use Rattle.it_rational.specs.OrderedFields.{OrderedField, IsAtLeastZero, IsAboveZero}
-use Rattle.it_tableau.specs.Tables.{Table, FeasibilityProblem, difference, ratio}
+use Rattle.it_tableau.specs.SimplexTables.{SimplexTable, FeasibilityProblem, difference, ratio}
 use Rattle.it_tableau.specs.Invariants.{cost_of, HasInvariants}
 use Rattle.it_run.specs.Choice.{first_false, entering_column, leaving_row, next, IsStuck}
 use Rattle.it_run.specs.Meetings.{table_after, IsBasisWithin}
@@ -17,7 +17,7 @@ use Rattle.it_run.proofs.StepsLeft.{is_moving, steps_left, steps_fall, most, fir
 
 module _ {A : Type 0} (F : OrderedField A) (m n : ℕ) where
   -- rows of one basic column are equal
-  same_row : (p : FeasibilityProblem A) (t s : Table A) → HasInvariants F m n p t → HasInvariants F m n p s → IsBasisWithin m s t → (i k j : ℕ) → i < m → k < m → t.basis i ≡ s.basis k → t.entry i j ≡ s.entry k j
+  same_row : (p : FeasibilityProblem A) (t s : SimplexTable A) → HasInvariants F m n p t → HasInvariants F m n p s → IsBasisWithin m s t → (i k j : ℕ) → i < m → k < m → t.basis i ≡ s.basis k → t.entry i j ≡ s.entry k j
   same_row p t s h g w i k j hi hk e =
       row_by_basis F m n p s t g h i j (omega arith)
       ∙ sum_same F.ring m (λ l. F.ring.mul (t.entry i (s.basis l)) (s.entry l j)) (λ l. F.ring.mul (s.entry l j) (cond (eqb l k) F.ring.unit F.ring.null))
@@ -29,7 +29,7 @@ module _ {A : Type 0} (F : OrderedField A) (m n : ℕ) where
       by_cases l q x (inr d) = ap (t.entry i) x.2 ∙ h.units i x.0 hi x.1
           ∙ ap (λ b. cond b F.ring.unit F.ring.null) (ne_eqb i x.0 (λ y. d (basic_columns_differ F m n p s g l k q hk (x.2 ∙ ap t.basis (sym y) ∙ e))) ∙ sym (ne_eqb l k d))
 
-  same_cost_row : (p : FeasibilityProblem A) (t s : Table A) → HasInvariants F m n p t → HasInvariants F m n p s → IsBasisWithin m s t → (j : ℕ) → t.entry m j ≡ s.entry m j
+  same_cost_row : (p : FeasibilityProblem A) (t s : SimplexTable A) → HasInvariants F m n p t → HasInvariants F m n p s → IsBasisWithin m s t → (j : ℕ) → t.entry m j ≡ s.entry m j
   same_cost_row p t s h g w j =
       row_by_basis F m n p s t g h m j (omega arith)
       ∙ sum_same F.ring m (λ l. F.ring.mul (t.entry m (s.basis l)) (s.entry l j)) (λ l. F.ring.mul (cost_of F m n (s.basis l)) (s.entry l j)) (λ l q. ap (λ x. F.ring.mul x (s.entry l j)) (by_cases l (w l q)))
@@ -38,11 +38,11 @@ module _ {A : Type 0} (F : OrderedField A) (m n : ℕ) where
       by_cases : (l : ℕ) → (x : ℕ) × (x < m) × (s.basis l ≡ t.basis x) → t.entry m (s.basis l) ≡ cost_of F m n (s.basis l)
       by_cases l x = ap (t.entry m) x.2 ∙ basic_cost F m n p t h x.0 x.1 ∙ ap (cost_of F m n) (sym x.2)
 
-  same_entering : (p : FeasibilityProblem A) (t s : Table A) → HasInvariants F m n p t → HasInvariants F m n p s → IsBasisWithin m s t → entering_column F m n t ≡ entering_column F m n s
+  same_entering : (p : FeasibilityProblem A) (t s : SimplexTable A) → HasInvariants F m n p t → HasInvariants F m n p s → IsBasisWithin m s t → entering_column F m n t ≡ entering_column F m n s
   same_entering p t s h g w = ap (λ (f : ℕ → Bool). first_false f 0 n) (same_functions (λ j. ap F.order.is_least (same_cost_row p t s h g w j)))
 
   -- the same column leaves
-  same_leaving : (p : FeasibilityProblem A) (t s : Table A) (c r x : ℕ) → HasInvariants F m n p t → HasInvariants F m n p s → IsBasisWithin m t s → IsBasisWithin m s t → Leaves F m n t c r → Leaves F m n s c x → t.basis r ≡ s.basis x
+  same_leaving : (p : FeasibilityProblem A) (t s : SimplexTable A) (c r x : ℕ) → HasInvariants F m n p t → HasInvariants F m n p s → IsBasisWithin m t s → IsBasisWithin m s t → Leaves F m n t c r → Leaves F m n s c x → t.basis r ≡ s.basis x
   same_leaving p t s c r x h g w v l q =
       let k = w r l.row in let i = v x q.row in
       let row : (j : ℕ) → t.entry r j ≡ s.entry k.0 j = λ j. same_row p t s h g v r k.0 j l.row k.1 k.2 in
@@ -60,7 +60,7 @@ module _ {A : Type 0} (F : OrderedField A) (m n : ℕ) where
       both a b h k = omega arith
 
   -- and the tables after the step have the same basic columns
-  next_within : (p : FeasibilityProblem A) (t s : Table A) → HasInvariants F m n p t → HasInvariants F m n p s → ¬ (IsStuck F m n t) → ¬ (IsStuck F m n s) → IsBasisWithin m t s → IsBasisWithin m s t → IsBasisWithin m (next F m n t) (next F m n s)
+  next_within : (p : FeasibilityProblem A) (t s : SimplexTable A) → HasInvariants F m n p t → HasInvariants F m n p s → ¬ (IsStuck F m n t) → ¬ (IsStuck F m n s) → IsBasisWithin m t s → IsBasisWithin m s t → IsBasisWithin m (next F m n t) (next F m n s)
   next_within p t s h g u z w v i hi = by_cases (cases_eq i r)
     where
       c : ℕ
@@ -103,16 +103,16 @@ module _ {A : Type 0} (F : OrderedField A) (m n : ℕ) where
       )
 
   -- two tables of the problem with the same set of basic columns
-  pub record HaveSameBasis (p : FeasibilityProblem A) (t s : Table A) : Type 0 where
+  pub record HaveSameBasis (p : FeasibilityProblem A) (t s : SimplexTable A) : Type 0 where
     pub one : HasInvariants F m n p t
     pub two : HasInvariants F m n p s
     pub there : IsBasisWithin m t s
     pub back : IsBasisWithin m s t
 
-  same_moving : (p : FeasibilityProblem A) (t s : Table A) → HaveSameBasis p t s → is_moving F m n t ≡ is_moving F m n s
+  same_moving : (p : FeasibilityProblem A) (t s : SimplexTable A) → HaveSameBasis p t s → is_moving F m n t ≡ is_moving F m n s
   same_moving p t s a = ap (λ c. ltb c n) (same_entering p t s a.one a.two a.back)
 
-  same_basis_next : (p : FeasibilityProblem A) (t s : Table A) → HaveSameBasis p t s → is_moving F m n s ≡ true → HaveSameBasis p (next F m n t) (next F m n s)
+  same_basis_next : (p : FeasibilityProblem A) (t s : SimplexTable A) → HaveSameBasis p t s → is_moving F m n s ≡ true → HaveSameBasis p (next F m n t) (next F m n s)
   same_basis_next p t s a e =
       let z = not_stuck_if F m n s e in let u = not_stuck_if F m n t (same_moving p t s a ∙ e) in record {
         one = next_holds F m n p t a.one u;
@@ -121,17 +121,17 @@ module _ {A : Type 0} (F : OrderedField A) (m n : ℕ) where
         back = next_within p s t a.two a.one z u a.back a.there;
       }
 
-  same_basis_after : (p : FeasibilityProblem A) (t s : Table A) → HaveSameBasis p t s → (k : ℕ) → ((j : ℕ) → j < k → is_moving F m n (table_after F m n s j) ≡ true) → HaveSameBasis p (table_after F m n t k) (table_after F m n s k)
+  same_basis_after : (p : FeasibilityProblem A) (t s : SimplexTable A) → HaveSameBasis p t s → (k : ℕ) → ((j : ℕ) → j < k → is_moving F m n (table_after F m n s j) ≡ true) → HaveSameBasis p (table_after F m n t k) (table_after F m n s k)
   same_basis_after p t s a zero h = a
   same_basis_after p t s a (suc k) h = same_basis_next p (table_after F m n t k) (table_after F m n s k) (same_basis_after p t s a k (λ j l. h j (omega arith))) (h k (omega arith))
 
   -- so as many steps are left
-  steps_left_with_same_basis : (p : FeasibilityProblem A) (t s : Table A) → HaveSameBasis p t s → is_moving F m n (table_after F m n s (steps_left F m n s)) ≡ false → steps_left F m n t ≤ steps_left F m n s
+  steps_left_with_same_basis : (p : FeasibilityProblem A) (t s : SimplexTable A) → HaveSameBasis p t s → is_moving F m n (table_after F m n s (steps_left F m n s)) ≡ false → steps_left F m n t ≤ steps_left F m n s
   steps_left_with_same_basis p t s a e = first_at_most F m n (λ k. is_moving F m n (table_after F m n t k)) 0 (suc (most F m n)) (steps_left F m n s) (omega arith)
       (same_moving p (table_after F m n t (steps_left F m n s)) (table_after F m n s (steps_left F m n s))
       (same_basis_after p t s a (steps_left F m n s) (λ j l. first_before (λ k. is_moving F m n (table_after F m n s k)) 0 (suc (most F m n)) j (omega arith) l)) ∙ e)
 
-  steps_left_at_most : (p : FeasibilityProblem A) (t : Table A) → HasInvariants F m n p t → steps_left F m n t ≤ most F m n
+  steps_left_at_most : (p : FeasibilityProblem A) (t : SimplexTable A) → HasInvariants F m n p t → steps_left F m n t ≤ most F m n
   steps_left_at_most p t h = by_cases (cases_lt (steps_left F m n t) (suc (most F m n)))
     where
       by_cases : (steps_left F m n t < suc (most F m n)) ⊎ (suc (most F m n) ≤ steps_left F m n t) → steps_left F m n t ≤ most F m n
@@ -139,13 +139,13 @@ module _ {A : Type 0} (F : OrderedField A) (m n : ℕ) where
       by_cases (inr l) = absurd (not_always F m n p t h (λ k q. not_stuck_if F m n (table_after F m n t k) (first_before (λ k. is_moving F m n (table_after F m n t k)) 0 (suc (most F m n)) k (omega arith) (omega arith))))
 
   -- a run comes to a table with no column to enter
-  pub is_stuck_after_steps_left : (p : FeasibilityProblem A) (t : Table A) → HasInvariants F m n p t → is_moving F m n (table_after F m n t (steps_left F m n t)) ≡ false
+  pub is_stuck_after_steps_left : (p : FeasibilityProblem A) (t : SimplexTable A) → HasInvariants F m n p t → is_moving F m n (table_after F m n t (steps_left F m n t)) ≡ false
   is_stuck_after_steps_left p t h = first_at (λ k. is_moving F m n (table_after F m n t k)) 0 (suc (most F m n)) (let l = steps_left_at_most p t h in omega (arith, l))
 
-  pub runs_end : (p : FeasibilityProblem A) (t : Table A) → HasInvariants F m n p t → (k : ℕ) × (k ≤ most F m n) × IsStuck F m n (table_after F m n t k)
+  pub runs_end : (p : FeasibilityProblem A) (t : SimplexTable A) → HasInvariants F m n p t → (k : ℕ) × (k ≤ most F m n) × IsStuck F m n (table_after F m n t k)
   runs_end p t h = (steps_left F m n t, steps_left_at_most p t h, stuck_if F m n (table_after F m n t (steps_left F m n t)) (is_stuck_after_steps_left p t h))
 
-  module _ (p : FeasibilityProblem A) (t : Table A) (h : HasInvariants F m n p t) (N : ℕ) (go : (k : ℕ) → k < N → ¬ (IsStuck F m n (table_after F m n t k))) where
+  module _ (p : FeasibilityProblem A) (t : SimplexTable A) (h : HasInvariants F m n p t) (N : ℕ) (go : (k : ℕ) → k < N → ¬ (IsStuck F m n (table_after F m n t k))) where
     invariants_after : (k : ℕ) → k ≤ N → HasInvariants F m n p (table_after F m n t k)
     invariants_after zero l = h
     invariants_after (suc k) l = next_holds F m n p (table_after F m n t k) (invariants_after k (omega arith)) (go k (omega arith))

@@ -5,7 +5,7 @@ use Rattle.std.proofs.lemmas.Bool.{eq-eqb, ne_eqb, cases_eq, cases_lt, ltb-true,
 use Rattle.it_number.proofs.Ring.{ring, mul-null, v, plus, times, minus, one}
 use Rattle.it_rational.proofs.Ordered.{null-least, not_both, below-neg, below-apart}
 use Rattle.it_rational.specs.OrderedFields.{OrderedField, IsAtLeastZero, IsBelowZero, IsAboveZero}
-use Rattle.it_tableau.specs.Tables.{Table, FeasibilityProblem, difference, ratio}
+use Rattle.it_tableau.specs.SimplexTables.{SimplexTable, FeasibilityProblem, difference, ratio}
 use Rattle.it_tableau.specs.Invariants.{cost_of, HasInvariants, MayEnter}
 use Rattle.it_run.specs.Choice.{first_false, entering_column, is_candidate, precedes, leaving_row_of, leaving_row, IsStuck}
 use Rattle.it_tableau.proofs.Sums.{some_below}
@@ -33,30 +33,30 @@ first_at f k (suc left) l = by_test (f k) refl l (λ a. first_at f (suc k) left 
 
 module _ {A : Type 0} (F : OrderedField A) (m n : ℕ) where
   -- column c enters: it is no artificial, has a cost below 0 and is the first such
-  pub record Enters (t : Table A) (c : ℕ) : Type 0 where
+  pub record Enters (t : SimplexTable A) (c : ℕ) : Type 0 where
     pub column : c < n
     pub below : IsBelowZero F (t.entry m c)
     pub first : (j : ℕ) → j < c → IsAtLeastZero F (t.entry m j)
 
   -- row r leaves at column c: of the rows with an entry above 0 it has the least ratio, and the least basic column of those
-  pub record Leaves (t : Table A) (c r : ℕ) : Type 0 where
+  pub record Leaves (t : SimplexTable A) (c r : ℕ) : Type 0 where
     pub row : r < m
     pub above : IsAboveZero F (t.entry r c)
     pub least : (i : ℕ) → i < m → IsAboveZero F (t.entry i c) → IsAtLeastZero F (difference F.ring (ratio F m n t c i) (ratio F m n t c r))
     pub first : (i : ℕ) → i < m → IsAboveZero F (t.entry i c) → ratio F m n t c i ≡ ratio F m n t c r → t.basis r ≤ t.basis i
 
   -- they may make a step
-  pub may_enter : (t : Table A) (c r : ℕ) → Enters t c → Leaves t c r → MayEnter F m n t r c
+  pub may_enter : (t : SimplexTable A) (c r : ℕ) → Enters t c → Leaves t c r → MayEnter F m n t r c
   may_enter t c r e l = record { column = e.column; row = l.row; above = l.above; least = l.least }
 
-  pub entering_is : (t : Table A) → entering_column F m n t < n → Enters t (entering_column F m n t)
+  pub entering_is : (t : SimplexTable A) → entering_column F m n t < n → Enters t (entering_column F m n t)
   entering_is t h = record {
     column = h;
     below = first_at (λ j. F.order.is_least (t.entry m j)) 0 n (omega arith);
     first = λ j l. first_before (λ j. F.order.is_least (t.entry m j)) 0 n j (omega arith) l;
   }
 
-  pub some_column : (t : Table A) → ¬ (IsStuck F m n t) → entering_column F m n t < n
+  pub some_column : (t : SimplexTable A) → ¬ (IsStuck F m n t) → entering_column F m n t < n
   some_column t s = by_cases (cases_lt (entering_column F m n t) n)
     where
       by_cases : (entering_column F m n t < n) ⊎ (n ≤ entering_column F m n t) → entering_column F m n t < n
@@ -64,7 +64,7 @@ module _ {A : Type 0} (F : OrderedField A) (m n : ℕ) where
       by_cases (inr h) = absurd (s (λ j l. first_before (λ j. F.order.is_least (t.entry m j)) 0 n j (omega arith) (omega arith)))
 
   -- an entering column has a row with a positive entry
-  pub some_row : (p : FeasibilityProblem A) (t : Table A) (c : ℕ) → HasInvariants F m n p t → IsBelowZero F (t.entry m c) → (i : ℕ) × (i < m) × IsAboveZero F (t.entry i c)
+  pub some_row : (p : FeasibilityProblem A) (t : SimplexTable A) (c : ℕ) → HasInvariants F m n p t → IsBelowZero F (t.entry m c) → (i : ℕ) × (i < m) × IsAboveZero F (t.entry i c)
   some_row p t c h b =
       let s = some_below F m (λ i. F.ring.mul (cost_of F m n (t.basis i)) (t.entry i c)) (subst (IsBelowZero F) (h.costs c) b) in
       (s.0, s.1, by_test (ltb (t.basis s.0) n) (t.entry s.0 c) s.2)
@@ -74,14 +74,14 @@ module _ {A : Type 0} (F : OrderedField A) (m n : ℕ) where
       by_test false x k = subst (IsBelowZero F) (ring F.ring (x ∷ []) (times (minus one) (v 0)) (minus (v 0)) refl) k
 
   -- the best row below a number of rows
-  pub record IsBestBelow (t : Table A) (c bound best : ℕ) : Type 0 where
+  pub record IsBestBelow (t : SimplexTable A) (c bound best : ℕ) : Type 0 where
     pub row : best < bound
     pub above : is_candidate F t c best ≡ true
     pub least : (i : ℕ) → i < bound → is_candidate F t c i ≡ true → IsAtLeastZero F (difference F.ring (ratio F m n t c i) (ratio F m n t c best))
     pub first : (i : ℕ) → i < bound → is_candidate F t c i ≡ true → ratio F m n t c i ≡ ratio F m n t c best → t.basis best ≤ t.basis i
 
   -- it is m where no row below the number has an entry above 0, else the best of them
-  abbrev IsBestOrNone : Table A → ℕ → ℕ → ℕ → Type 0
+  abbrev IsBestOrNone : SimplexTable A → ℕ → ℕ → ℕ → Type 0
   IsBestOrNone t c bound best = ((best ≡ m) × ((i : ℕ) → i < bound → is_candidate F t c i ≡ false)) ⊎ IsBestBelow t c bound best
 
   opposite_of_below : (a b : A) → IsBelowZero F (difference F.ring a b) → IsAtLeastZero F (difference F.ring b a)
@@ -99,7 +99,7 @@ module _ {A : Type 0} (F : OrderedField A) (m n : ℕ) where
   same-least : (a b : A) → a ≡ b → IsAtLeastZero F (difference F.ring a b)
   same-least a b e = subst (λ (x : A). IsAtLeastZero F (difference F.ring a x)) e (subst (IsAtLeastZero F) (sym (F.ring.add-neg a)) (null-least F))
 
-  leaving_best : (t : Table A) (c i : ℕ) → i ≤ m → IsBestOrNone t c i (leaving_row_of F m n t c i)
+  leaving_best : (t : SimplexTable A) (c i : ℕ) → i ≤ m → IsBestOrNone t c i (leaving_row_of F m n t c i)
   leaving_best t c zero h = inl (refl, λ i l. absurd (omega arith))
   leaving_best t c (suc i) h = by_test (is_candidate F t c i) refl (leaving_best t c i (omega arith))
     where
@@ -184,10 +184,10 @@ module _ {A : Type 0} (F : OrderedField A) (m n : ℕ) where
           pick true e = inr (better o s (F.order.is_least (difference F.ring (q i) (q best))) (F.order.is_least (difference F.ring (q best) (q i))) refl refl e)
           pick false e = inr (stays o s (F.order.is_least (difference F.ring (q i) (q best))) (F.order.is_least (difference F.ring (q best) (q i))) refl refl e)
 
-  above_is_candidate : (t : Table A) (c i : ℕ) → IsAboveZero F (t.entry i c) → is_candidate F t c i ≡ true
+  above_is_candidate : (t : SimplexTable A) (c i : ℕ) → IsAboveZero F (t.entry i c) → is_candidate F t c i ≡ true
   above_is_candidate t c i h = ap not h
 
-  pub leaving_is : (p : FeasibilityProblem A) (t : Table A) (c : ℕ) → HasInvariants F m n p t → IsBelowZero F (t.entry m c) → Leaves t c (leaving_row F m n t c)
+  pub leaving_is : (p : FeasibilityProblem A) (t : SimplexTable A) (c : ℕ) → HasInvariants F m n p t → IsBelowZero F (t.entry m c) → Leaves t c (leaving_row F m n t c)
   leaving_is p t c h b = by_cases (leaving_best t c m (omega arith)) (some_row p t c h b)
     where
       by_cases : IsBestOrNone t c m (leaving_row F m n t c) → ((i : ℕ) × (i < m) × IsAboveZero F (t.entry i c)) → Leaves t c (leaving_row F m n t c)

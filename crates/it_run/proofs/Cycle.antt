@@ -5,7 +5,7 @@ use Rattle.it_number.proofs.Ring.{ring, mul-null, v, plus, times, minus, nil, on
 use Rattle.it_rational.proofs.Ordered.{null-least, not_both, below-neg, neg-above, above-least, above-apart, below-apart, add-above, mul-above, inv-above, inv-least, above-from}
 use Rattle.it_rational.specs.OrderedFields.{OrderedField, IsAtLeastZero, IsBelowZero, IsAboveZero}
 use Rattle.it_tableau.specs.Sums.{sum_to}
-use Rattle.it_tableau.specs.Tables.{Table, FeasibilityProblem, difference, ratio}
+use Rattle.it_tableau.specs.SimplexTables.{SimplexTable, FeasibilityProblem, difference, ratio}
 use Rattle.it_tableau.specs.Invariants.{cost_of, HasInvariants}
 use Rattle.it_run.specs.Choice.{entering_column, leaving_row, IsStuck}
 use Rattle.it_run.specs.Meetings.{table_after}
@@ -17,7 +17,7 @@ use Rattle.it_run.proofs.RunLemmas.{next_holds}
 use Rattle.it_run.proofs.RowsByBasis.{basic_cost, row_by_basis, same_right}
 
 module _ {A : Type 0} (F : OrderedField A) (m n : ℕ) where
-  module _ (p : FeasibilityProblem A) (t : Table A) (h : HasInvariants F m n p t) (N : ℕ) (moving : (k : ℕ) → k < N → ¬ (IsStuck F m n (table_after F m n t k))) where
+  module _ (p : FeasibilityProblem A) (t : SimplexTable A) (h : HasInvariants F m n p t) (N : ℕ) (moving : (k : ℕ) → k < N → ¬ (IsStuck F m n (table_after F m n t k))) where
     -- the entering column, the leaving row, the basic columns and the right sides of the table after k steps
     abbrev col : ℕ → ℕ
     col k = entering_column F m n (table_after F m n t k)

@@ -5,7 +5,7 @@ use Rattle.it_number.proofs.Ring.{ring, mul-null, v, plus, times, minus, nil, on
 use Rattle.it_rational.proofs.Ordered.{null-least, not_both, below-from}
 use Rattle.it_rational.specs.OrderedFields.{OrderedField, IsAtLeastZero, IsBelowZero}
 use Rattle.it_tableau.specs.Sums.{sum_to}
-use Rattle.it_tableau.specs.Tables.{Table, FeasibilityProblem, sign, start_row}
+use Rattle.it_tableau.specs.SimplexTables.{SimplexTable, FeasibilityProblem, sign, start_row}
 use Rattle.it_tableau.specs.Invariants.{cost_of, HasInvariants}
 use Rattle.it_run.specs.Choice.{IsDone, IsStuck}
 use Rattle.it_run.specs.Readings.{weight, weights_from_column, weights, point_value, point_from_row, point, ring_combination, AreWeights, SumsUp, value_at_point, Separates}
@@ -21,10 +21,10 @@ module _ {A : Type 0} (F : OrderedField A) (m n : ℕ) where
       by_test false = ring F.ring [] (times (minus one) (minus one)) one refl
 
   -- the right side of a row whose basic column is an artificial, else 0
-  abbrev artificial_right : Table A → ℕ → A
+  abbrev artificial_right : SimplexTable A → ℕ → A
   artificial_right t i = cond (ltb (t.basis i) n) F.ring.null (t.entry i (n + m))
 
-  right_cost : (p : FeasibilityProblem A) (t : Table A) → HasInvariants F m n p t → t.entry m (n + m) ≡ F.ring.neg (sum_to F.ring m (artificial_right t))
+  right_cost : (p : FeasibilityProblem A) (t : SimplexTable A) → HasInvariants F m n p t → t.entry m (n + m) ≡ F.ring.neg (sum_to F.ring m (artificial_right t))
   right_cost p t h = h.costs (n + m)
       ∙ sum_same F.ring m (λ i. F.ring.mul (cost_of F m n (t.basis i)) (t.entry i (n + m))) (λ i. F.ring.mul (F.ring.neg F.ring.unit) (artificial_right t i)) (λ i l. by_test (ltb (t.basis i) n) (t.entry i (n + m)))
       ∙ sum_times_left F.ring m (artificial_right t) (F.ring.neg F.ring.unit)
@@ -34,7 +34,7 @@ module _ {A : Type 0} (F : OrderedField A) (m n : ℕ) where
       by_test true x = ring F.ring (x ∷ []) (times nil (v 0)) (times (minus one) nil) refl
       by_test false x = refl
 
-  artificial_least : (p : FeasibilityProblem A) (t : Table A) → HasInvariants F m n p t → (i : ℕ) → i < m → IsAtLeastZero F (artificial_right t i)
+  artificial_least : (p : FeasibilityProblem A) (t : SimplexTable A) → HasInvariants F m n p t → (i : ℕ) → i < m → IsAtLeastZero F (artificial_right t i)
   artificial_least p t h i l = by_test (ltb (t.basis i) n)
     where
       by_test : (b : Bool) → IsAtLeastZero F (cond b F.ring.null (t.entry i (n + m)))
@@ -42,20 +42,20 @@ module _ {A : Type 0} (F : OrderedField A) (m n : ℕ) where
       by_test false = h.rights i l
 
   -- the cost row's right side is at most 0
-  pub right_at_most : (p : FeasibilityProblem A) (t : Table A) → HasInvariants F m n p t → IsAtLeastZero F (F.ring.neg (t.entry m (n + m)))
+  pub right_at_most : (p : FeasibilityProblem A) (t : SimplexTable A) → HasInvariants F m n p t → IsAtLeastZero F (F.ring.neg (t.entry m (n + m)))
   right_at_most p t h = subst (IsAtLeastZero F) (ring F.ring (sum_to F.ring m (artificial_right t) ∷ []) (v 0) (minus (minus (v 0))) refl ∙ ap F.ring.neg (sym (right_cost p t h)))
       (sum_least F m (artificial_right t) (artificial_least p t h))
 
   -- at an end by weights each basic artificial has the right side 0
-  done_null : (p : FeasibilityProblem A) (t : Table A) → HasInvariants F m n p t → IsDone F m n t → (i : ℕ) → i < m → artificial_right t i ≡ F.ring.null
+  done_null : (p : FeasibilityProblem A) (t : SimplexTable A) → HasInvariants F m n p t → IsDone F m n t → (i : ℕ) → i < m → artificial_right t i ≡ F.ring.null
   done_null p t h d i l = all_null F m (artificial_right t) (artificial_least p t h)
       (ring F.ring (sum_to F.ring m (artificial_right t) ∷ []) (v 0) (minus (minus (v 0))) refl ∙ ap F.ring.neg (sym (right_cost p t h) ∙ d) ∙ ring F.ring [] (minus nil) nil refl) i l
 
   -- a row's part in the sum at coordinate k
-  abbrev part : FeasibilityProblem A → Table A → ℕ → ℕ → A
+  abbrev part : FeasibilityProblem A → SimplexTable A → ℕ → ℕ → A
   part p t k i = cond (ltb (t.basis i) n) (F.ring.mul (t.entry i (n + m)) (p.column (t.basis i) k)) F.ring.null
 
-  target_is : (p : FeasibilityProblem A) (t : Table A) → HasInvariants F m n p t → IsDone F m n t → (k : ℕ) → k < m → p.target k ≡ sum_to F.ring m (part p t k)
+  target_is : (p : FeasibilityProblem A) (t : SimplexTable A) → HasInvariants F m n p t → IsDone F m n t → (k : ℕ) → k < m → p.target k ≡ sum_to F.ring m (part p t k)
   target_is p t h d k hk =
       ring F.ring (p.target k ∷ []) (v 0) (times one (v 0)) refl
       ∙ ap (λ x. F.ring.mul x (p.target k)) (sym (sign_twice p k))
@@ -74,7 +74,7 @@ module _ {A : Type 0} (F : OrderedField A) (m n : ℕ) where
       for_each i false e z = ap (F.ring.mul (start_row F m n p k (t.basis i))) z ∙ mul-null F.ring (start_row F m n p k (t.basis i)) ∙ sym (mul-null F.ring (sign F p k))
 
   -- the same sum over the columns
-  by_columns : (p : FeasibilityProblem A) (t : Table A) (k : ℕ) → sum_to F.ring n (λ j. F.ring.mul (weight F m n t j) (p.column j k)) ≡ sum_to F.ring m (part p t k)
+  by_columns : (p : FeasibilityProblem A) (t : SimplexTable A) (k : ℕ) → sum_to F.ring n (λ j. F.ring.mul (weight F m n t j) (p.column j k)) ≡ sum_to F.ring m (part p t k)
   by_columns p t k =
       sum_same F.ring n (λ j. F.ring.mul (weight F m n t j) (p.column j k)) (λ j. sum_to F.ring m (λ i. F.ring.mul (cond (eqb (t.basis i) j) (x i) F.ring.null) (p.column j k)))
       (λ j l. sym (sum_times F.ring m (λ i. cond (eqb (t.basis i) j) (x i) F.ring.null) (p.column j k)))
@@ -101,7 +101,7 @@ module _ {A : Type 0} (F : OrderedField A) (m n : ℕ) where
           ∙ ap (λ b. cond b (F.ring.mul (x i) (p.column (t.basis i) k)) F.ring.null) (sym (le-ltb (t.basis i) n h))
 
   -- the list of the weights
-  combination_of_weights : (t : Table A) (f : ℕ → A) (j left : ℕ) → F.ring.add (ring_combination F (weights_from_column F m n t j left) f) (sum_to F.ring j (λ i. F.ring.mul (weight F m n t i) (f i))) ≡ sum_to F.ring (j + left) (λ i. F.ring.mul (weight F m n t i) (f i))
+  combination_of_weights : (t : SimplexTable A) (f : ℕ → A) (j left : ℕ) → F.ring.add (ring_combination F (weights_from_column F m n t j left) f) (sum_to F.ring j (λ i. F.ring.mul (weight F m n t i) (f i))) ≡ sum_to F.ring (j + left) (λ i. F.ring.mul (weight F m n t i) (f i))
   combination_of_weights t f j zero = F.ring.null-add (sum_to F.ring j g) ∙ ap (λ i. sum_to F.ring i g) here
     where
       g : ℕ → A
@@ -133,7 +133,7 @@ module _ {A : Type 0} (F : OrderedField A) (m n : ℕ) where
       by_test false b e d ih = moved ih
 
   -- the weights sum to the target
-  pub weights_sum : (p : FeasibilityProblem A) (t : Table A) → HasInvariants F m n p t → IsDone F m n t → (k : ℕ) → k < m → ring_combination F (weights F m n t) (λ j. p.column j k) ≡ p.target k
+  pub weights_sum : (p : FeasibilityProblem A) (t : SimplexTable A) → HasInvariants F m n p t → IsDone F m n t → (k : ℕ) → k < m → ring_combination F (weights F m n t) (λ j. p.column j k) ≡ p.target k
   weights_sum p t h d k hk =
       ring F.ring (ring_combination F (weights F m n t) (λ j. p.column j k) ∷ []) (v 0) (plus (v 0) nil) refl
       ∙ combination_of_weights t (λ j. p.column j k) 0 n ∙ ap (λ i. sum_to F.ring i (λ j. F.ring.mul (weight F m n t j) (p.column j k))) here ∙ by_columns p t k ∙ sym (target_is p t h d k hk)
@@ -141,7 +141,7 @@ module _ {A : Type 0} (F : OrderedField A) (m n : ℕ) where
       here : 0 + n ≡ n
       here = omega arith
 
-  weight_least : (p : FeasibilityProblem A) (t : Table A) → HasInvariants F m n p t → (j : ℕ) → IsAtLeastZero F (weight F m n t j)
+  weight_least : (p : FeasibilityProblem A) (t : SimplexTable A) → HasInvariants F m n p t → (j : ℕ) → IsAtLeastZero F (weight F m n t j)
   weight_least p t h j = sum_least F m (λ i. cond (eqb (t.basis i) j) (t.entry i (n + m)) F.ring.null) (λ i l. for_each i l (eqb (t.basis i) j))
     where
       for_each : (i : ℕ) → i < m → (b : Bool) → IsAtLeastZero F (cond b (t.entry i (n + m)) F.ring.null)
@@ -152,7 +152,7 @@ module _ {A : Type 0} (F : OrderedField A) (m n : ℕ) where
   weights_from_less from to [] h a = tt
   weights_from_less from to (w ∷ ws) h a = (omega (arith, a.0), a.1, a.2, a.3)
 
-  pub weights_are : (p : FeasibilityProblem A) (t : Table A) → HasInvariants F m n p t → AreWeights F n 0 (weights F m n t)
+  pub weights_are : (p : FeasibilityProblem A) (t : SimplexTable A) → HasInvariants F m n p t → AreWeights F n 0 (weights F m n t)
   weights_are p t h = all 0 n (omega arith)
     where
       all : (j left : ℕ) → j + left ≡ n → AreWeights F n j (weights_from_column F m n t j left)
@@ -166,17 +166,17 @@ module _ {A : Type 0} (F : OrderedField A) (m n : ℕ) where
           by_test false d f g ih = absurd (not_both F (weight F m n t j) f (weight_least p t h j))
 
   -- the list of the point's values
-  point_length : (p : FeasibilityProblem A) (t : Table A) (k left : ℕ) → length (point_from_row F m n p t k left) ≡ left
+  point_length : (p : FeasibilityProblem A) (t : SimplexTable A) (k left : ℕ) → length (point_from_row F m n p t k left) ≡ left
   point_length p t k zero = refl
   point_length p t k (suc left) = let e = point_length p t (suc k) left in omega (arith, e)
 
-  point_entry_is : (p : FeasibilityProblem A) (t : Table A) (k left i : ℕ) → i < left → get_or (point_from_row F m n p t k left) i F.ring.null ≡ point_value F m n p t (k + i)
+  point_entry_is : (p : FeasibilityProblem A) (t : SimplexTable A) (k left i : ℕ) → i < left → get_or (point_from_row F m n p t k left) i F.ring.null ≡ point_value F m n p t (k + i)
   point_entry_is p t k zero i l = absurd (omega arith)
   point_entry_is p t k (suc left) zero l = let e : k ≡ k + 0 = omega arith in ap (point_value F m n p t) e
   point_entry_is p t k (suc left) (suc i) l = let e : suc k + i ≡ k + suc i = omega arith in point_entry_is p t (suc k) left i (omega arith) ∙ ap (point_value F m n p t) e
 
   -- the value of a row that is f at each coordinate is its cost
-  point_value_of_column : (p : FeasibilityProblem A) (t : Table A) (f : ℕ → A) (j : ℕ) → HasInvariants F m n p t → ((k : ℕ) → k < m → start_row F m n p k j ≡ F.ring.mul (sign F p k) (f k))
+  point_value_of_column : (p : FeasibilityProblem A) (t : SimplexTable A) (f : ℕ → A) (j : ℕ) → HasInvariants F m n p t → ((k : ℕ) → k < m → start_row F m n p k j ≡ F.ring.mul (sign F p k) (f k))
       → value_at_point F m n (point F m n p t) f ≡ t.entry m j
   point_value_of_column p t f j h e =
       sum_same F.ring m (λ k. F.ring.mul (f k) (get_or (point F m n p t) k F.ring.null)) (λ k. F.ring.mul (t.entry m (n + k)) (start_row F m n p k j))
@@ -188,11 +188,11 @@ module _ {A : Type 0} (F : OrderedField A) (m n : ℕ) where
       from_zero k = omega arith
 
   -- at an end by weights they are right
-  pub weights_right : (p : FeasibilityProblem A) (t : Table A) → HasInvariants F m n p t → IsDone F m n t → SumsUp F m n p (weights F m n t)
+  pub weights_right : (p : FeasibilityProblem A) (t : SimplexTable A) → HasInvariants F m n p t → IsDone F m n t → SumsUp F m n p (weights F m n t)
   weights_right p t h d = record { ordered = weights_are p t h; sum_is = λ k l. weights_sum p t h d k l }
 
   -- at an end by a point each column has a value of at least 0, and the target a value below 0
-  pub point_right : (p : FeasibilityProblem A) (t : Table A) → HasInvariants F m n p t → ¬ (IsDone F m n t) → IsStuck F m n t → Separates F m n p (point F m n p t)
+  pub point_right : (p : FeasibilityProblem A) (t : SimplexTable A) → HasInvariants F m n p t → ¬ (IsDone F m n t) → IsStuck F m n t → Separates F m n p (point F m n p t)
   point_right p t h d s = record {
     complete = point_length p t 0 m;
     columns = λ j l. subst (IsAtLeastZero F) (sym (point_value_of_column p t (p.column j) j h (λ k _. row_column F m n p k j l))) (s j l);

@@ -4,18 +4,18 @@ use Rattle.std.proofs.Common.{◌≡◌, ℕ, pos, negsuc, [], ◌∷◌, refl, 
 use Rattle.it_number.specs.Gcd.{gcd, gcd_within}
 use Rattle.it_rational.specs.Rational.{Rational, quotient}
 use Rattle.it_rational.proofs.Field.{field_ℚ}
-use Rattle.it_tableau.specs.Tables.{Table}
+use Rattle.it_tableau.specs.SimplexTables.{SimplexTable}
 use Rattle.it_tableau.specs.Problems.{feasibility_problem}
 use Rattle.it_tableau.proofs.Example.{coordinates, elementals, first, target}
 use Rattle.it_run.specs.Choice.{entering_column, leaving_row, next}
 use Rattle.it_run.specs.Readings.{point}
 
 -- the column that enters and the row that leaves
-abbrev choice : Table Rational → ℕ × ℕ
+abbrev choice : SimplexTable Rational → ℕ × ℕ
 choice t = (entering_column field_ℚ 3 3 t, leaving_row field_ℚ 3 3 t (entering_column field_ℚ 3 3 t))
 
 -- the table after the step
-abbrev after : Table Rational → Table Rational
+abbrev after : SimplexTable Rational → SimplexTable Rational
 after = next field_ℚ 3 3
 
 first_choice : choice first ≡ (2, 1)

@@ -1,17 +1,17 @@
 -- The lists of weights and of a point's values as they are filled, one after another.
 use Rattle.std.proofs.Common.{◌≡◌, ℕ, suc, ◌+◌, ◌-◌, ◌<◌, ◌++◌, pos, true, false, cond, ◌&&◌, Bool, List, [], ◌∷◌, refl, sym, ap, ap₂, ◌∙◌, arith}
 use Rattle.std.proofs.lemmas.List.{append_assoc}
-use Rattle.it_rational.specs.Rational.{Rational, whole, minus, times, is_at_least_zero}
+use Rattle.it_rational.specs.Rational.{Rational, integer, minus, times, is_at_least_zero}
 use Rattle.it_rational.proofs.RationalLaws.{ring_ℚ}
 use Rattle.it_rational.proofs.Field.{rational_strict, field_ℚ}
 use Rattle.it_rational.proofs.Ordered.{null-least}
 use Rattle.it_number.proofs.Ring.{neg-null}
-use Rattle.it_tableau.specs.Tables.{Table, FeasibilityProblem}
+use Rattle.it_tableau.specs.SimplexTables.{SimplexTable, FeasibilityProblem}
 use Rattle.it_tableau.specs.TableauViews.{TableauView, height, table}
 use Rattle.it_run.specs.Readings.{weight, weights_from_column, weights, point_value, point_from_row, point}
 use Rattle.it_run.specs.Answers.{sign_number, HasSigns}
 
-module _ (m n : ℕ) (t : Table Rational) where
+module _ (m n : ℕ) (t : SimplexTable Rational) where
   -- the weight of a column
   abbrev W : ℕ → Rational
   W j = weight field_ℚ m n t j
@@ -33,11 +33,11 @@ module _ (m n : ℕ) (t : Table Rational) where
       there : suc j ≡ j + 1
       there = omega arith
 
-  pub weights_skip_null : (out : List (ℕ × Rational)) (j : ℕ) → j < n → W j ≡ whole (pos 0) → AreWeightsSoFar out j → AreWeightsSoFar out (j + 1)
+  pub weights_skip_null : (out : List (ℕ × Rational)) (j : ℕ) → j < n → W j ≡ integer (pos 0) → AreWeightsSoFar out j → AreWeightsSoFar out (j + 1)
   weights_skip_null out j l e h = ap (λ xs. out ++ xs) (sym (split_off j l ∙ ap₂ (λ b d. cond (b && d) (From (j + 1) (n - (j + 1))) ((j, W j) ∷ From (j + 1) (n - (j + 1))))
       (ap is_at_least_zero e ∙ null-least field_ℚ) (ap (λ x. is_at_least_zero (minus x)) e ∙ ap is_at_least_zero (neg-null ring_ℚ) ∙ null-least field_ℚ))) ∙ h
 
-  pub weights_with_next : (out : List (ℕ × Rational)) (j : ℕ) (w : Rational) → j < n → w ≡ W j → ¬ (w ≡ whole (pos 0)) → AreWeightsSoFar out j → AreWeightsSoFar (out ++ ((j, w) ∷ [])) (j + 1)
+  pub weights_with_next : (out : List (ℕ × Rational)) (j : ℕ) (w : Rational) → j < n → w ≡ W j → ¬ (w ≡ integer (pos 0)) → AreWeightsSoFar out j → AreWeightsSoFar (out ++ ((j, w) ∷ [])) (j + 1)
   weights_with_next out j w l e d h =
       append_assoc out ((j, w) ∷ []) (From (j + 1) (n - (j + 1)))
       ∙ ap (λ x. out ++ ((j, x) ∷ From (j + 1) (n - (j + 1)))) e

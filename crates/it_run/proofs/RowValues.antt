@@ -23,52 +23,52 @@ IsOnCoordinates coordinates row = All (λ t. (k : ℕ) × (k < length coordinate
 abbrev pub AreApart : List ℕ → Type 0
 AreApart coordinates = (i k : ℕ) → i < length coordinates → k < length coordinates → get_or coordinates i 0 ≡ get_or coordinates k 0 → i ≡ k
 
-pub whole_plus : (a b : ℤ) → Q.whole (a +ℤ b) ≡ Q.plus (Q.whole a) (Q.whole b)
-whole_plus a b = same_value (Q.whole (a +ℤ b)) (Q.plus (Q.whole a) (Q.whole b)) (a +ℤ b) (a *ℤ pos 1 +ℤ b *ℤ pos 1) 1 (1 * 1) (omega arith) (omega arith)
+pub whole_plus : (a b : ℤ) → Q.integer (a +ℤ b) ≡ Q.plus (Q.integer a) (Q.integer b)
+whole_plus a b = same_value (Q.integer (a +ℤ b)) (Q.plus (Q.integer a) (Q.integer b)) (a +ℤ b) (a *ℤ pos 1 +ℤ b *ℤ pos 1) 1 (1 * 1) (omega arith) (omega arith)
     (quotient_names (a +ℤ b) 1 (omega arith))
-    (plus_names (Q.whole a) (Q.whole b) a b 1 1 (omega arith) (omega arith) (quotient_names a 1 (omega arith)) (quotient_names b 1 (omega arith)))
+    (plus_names (Q.integer a) (Q.integer b) a b 1 1 (omega arith) (omega arith) (quotient_names a 1 (omega arith)) (quotient_names b 1 (omega arith)))
     (omega (arith, zring))
 
 module _ (coordinates : List ℕ) (apart : AreApart coordinates) where
   -- a row's value is the sum over the coordinates
   pub value_is : (row : Terms) (h : ℕ → Rational) → IsOnCoordinates coordinates row
-      → rational_value row h ≡ sum_to ring_ℚ (length coordinates) (λ k. Q.times (Q.whole (coefficient row (get_or coordinates k 0))) (h (get_or coordinates k 0)))
-  value_is [] h o = sym (sum_same ring_ℚ (length coordinates) (λ k. Q.times (Q.whole (pos 0)) (h (get_or coordinates k 0))) (λ k. Q.whole (pos 0))
+      → rational_value row h ≡ sum_to ring_ℚ (length coordinates) (λ k. Q.times (Q.integer (coefficient row (get_or coordinates k 0))) (h (get_or coordinates k 0)))
+  value_is [] h o = sym (sum_same ring_ℚ (length coordinates) (λ k. Q.times (Q.integer (pos 0)) (h (get_or coordinates k 0))) (λ k. Q.integer (pos 0))
       (λ k l. ring ring_ℚ (h (get_or coordinates k 0) ∷ []) (times nil (v 0)) nil refl) ∙ sum_null ring_ℚ (length coordinates))
   value_is (t ∷ ts) h o = ap₂ Q.plus here (value_is ts h (λ k d l. o (suc k) d (omega (arith, l)))) ∙ sym split
     where
-      split : sum_to ring_ℚ (length coordinates) (λ k. Q.times (Q.whole (cond (eqb t.0 (get_or coordinates k 0)) t.1 (pos 0) +ℤ coefficient ts (get_or coordinates k 0))) (h (get_or coordinates k 0)))
-          ≡ Q.plus (sum_to ring_ℚ (length coordinates) (λ k. Q.times (Q.whole (cond (eqb t.0 (get_or coordinates k 0)) t.1 (pos 0))) (h (get_or coordinates k 0))))
-          (sum_to ring_ℚ (length coordinates) (λ k. Q.times (Q.whole (coefficient ts (get_or coordinates k 0))) (h (get_or coordinates k 0))))
-      split = sum_same ring_ℚ (length coordinates) (λ k. Q.times (Q.whole (cond (eqb t.0 (get_or coordinates k 0)) t.1 (pos 0) +ℤ coefficient ts (get_or coordinates k 0))) (h (get_or coordinates k 0)))
-          (λ k. Q.plus (Q.times (Q.whole (cond (eqb t.0 (get_or coordinates k 0)) t.1 (pos 0))) (h (get_or coordinates k 0))) (Q.times (Q.whole (coefficient ts (get_or coordinates k 0))) (h (get_or coordinates k 0))))
+      split : sum_to ring_ℚ (length coordinates) (λ k. Q.times (Q.integer (cond (eqb t.0 (get_or coordinates k 0)) t.1 (pos 0) +ℤ coefficient ts (get_or coordinates k 0))) (h (get_or coordinates k 0)))
+          ≡ Q.plus (sum_to ring_ℚ (length coordinates) (λ k. Q.times (Q.integer (cond (eqb t.0 (get_or coordinates k 0)) t.1 (pos 0))) (h (get_or coordinates k 0))))
+          (sum_to ring_ℚ (length coordinates) (λ k. Q.times (Q.integer (coefficient ts (get_or coordinates k 0))) (h (get_or coordinates k 0))))
+      split = sum_same ring_ℚ (length coordinates) (λ k. Q.times (Q.integer (cond (eqb t.0 (get_or coordinates k 0)) t.1 (pos 0) +ℤ coefficient ts (get_or coordinates k 0))) (h (get_or coordinates k 0)))
+          (λ k. Q.plus (Q.times (Q.integer (cond (eqb t.0 (get_or coordinates k 0)) t.1 (pos 0))) (h (get_or coordinates k 0))) (Q.times (Q.integer (coefficient ts (get_or coordinates k 0))) (h (get_or coordinates k 0))))
           (λ k l. ap (λ x. Q.times x (h (get_or coordinates k 0))) (whole_plus (cond (eqb t.0 (get_or coordinates k 0)) t.1 (pos 0)) (coefficient ts (get_or coordinates k 0)))
-          ∙ ring ring_ℚ (Q.whole (cond (eqb t.0 (get_or coordinates k 0)) t.1 (pos 0)) ∷ Q.whole (coefficient ts (get_or coordinates k 0)) ∷ h (get_or coordinates k 0) ∷ [])
+          ∙ ring ring_ℚ (Q.integer (cond (eqb t.0 (get_or coordinates k 0)) t.1 (pos 0)) ∷ Q.integer (coefficient ts (get_or coordinates k 0)) ∷ h (get_or coordinates k 0) ∷ [])
           (times (plus (v 0) (v 1)) (v 2)) (plus (times (v 0) (v 2)) (times (v 1) (v 2))) refl)
-          ∙ sum_add ring_ℚ (length coordinates) (λ k. Q.times (Q.whole (cond (eqb t.0 (get_or coordinates k 0)) t.1 (pos 0))) (h (get_or coordinates k 0)))
-          (λ k. Q.times (Q.whole (coefficient ts (get_or coordinates k 0))) (h (get_or coordinates k 0)))
+          ∙ sum_add ring_ℚ (length coordinates) (λ k. Q.times (Q.integer (cond (eqb t.0 (get_or coordinates k 0)) t.1 (pos 0))) (h (get_or coordinates k 0)))
+          (λ k. Q.times (Q.integer (coefficient ts (get_or coordinates k 0))) (h (get_or coordinates k 0)))
 
       only : (i : ℕ) → (k : ℕ) → k < length coordinates → get_or coordinates k 0 ≡ t.0 → i < length coordinates → (i ≡ k) ⊎ (i ≡ k → ⊥)
-          → Q.times (Q.whole (cond (eqb t.0 (get_or coordinates i 0)) t.1 (pos 0))) (h (get_or coordinates i 0)) ≡ cond (eqb i k) (Q.times (Q.whole t.1) (h (get_or coordinates i 0))) (Q.whole (pos 0))
-      only i k hk e hi (inl q) = ap (λ b. Q.times (Q.whole (cond b t.1 (pos 0))) (h (get_or coordinates i 0))) (eq-eqb t.0 (get_or coordinates i 0) (sym e ∙ ap (λ x. get_or coordinates x 0) (sym q)))
-          ∙ ap (λ b. cond b (Q.times (Q.whole t.1) (h (get_or coordinates i 0))) (Q.whole (pos 0))) (sym (eq-eqb i k q))
-      only i k hk e hi (inr d) = ap (λ b. Q.times (Q.whole (cond b t.1 (pos 0))) (h (get_or coordinates i 0))) (ne_eqb t.0 (get_or coordinates i 0) (λ z. d (apart i k hi hk (sym z ∙ sym e))))
+          → Q.times (Q.integer (cond (eqb t.0 (get_or coordinates i 0)) t.1 (pos 0))) (h (get_or coordinates i 0)) ≡ cond (eqb i k) (Q.times (Q.integer t.1) (h (get_or coordinates i 0))) (Q.integer (pos 0))
+      only i k hk e hi (inl q) = ap (λ b. Q.times (Q.integer (cond b t.1 (pos 0))) (h (get_or coordinates i 0))) (eq-eqb t.0 (get_or coordinates i 0) (sym e ∙ ap (λ x. get_or coordinates x 0) (sym q)))
+          ∙ ap (λ b. cond b (Q.times (Q.integer t.1) (h (get_or coordinates i 0))) (Q.integer (pos 0))) (sym (eq-eqb i k q))
+      only i k hk e hi (inr d) = ap (λ b. Q.times (Q.integer (cond b t.1 (pos 0))) (h (get_or coordinates i 0))) (ne_eqb t.0 (get_or coordinates i 0) (λ z. d (apart i k hi hk (sym z ∙ sym e))))
           ∙ ring ring_ℚ (h (get_or coordinates i 0) ∷ []) (times nil (v 0)) nil refl
-          ∙ ap (λ b. cond b (Q.times (Q.whole t.1) (h (get_or coordinates i 0))) (Q.whole (pos 0))) (sym (ne_eqb i k d))
+          ∙ ap (λ b. cond b (Q.times (Q.integer t.1) (h (get_or coordinates i 0))) (Q.integer (pos 0))) (sym (ne_eqb i k d))
 
-      here : Q.times (Q.whole t.1) (h t.0) ≡ sum_to ring_ℚ (length coordinates) (λ k. Q.times (Q.whole (cond (eqb t.0 (get_or coordinates k 0)) t.1 (pos 0))) (h (get_or coordinates k 0)))
+      here : Q.times (Q.integer t.1) (h t.0) ≡ sum_to ring_ℚ (length coordinates) (λ k. Q.times (Q.integer (cond (eqb t.0 (get_or coordinates k 0)) t.1 (pos 0))) (h (get_or coordinates k 0)))
       here = for_each (o 0 t (omega arith))
         where
           for_each : (k : ℕ) × (k < length coordinates) × (get_or coordinates k 0 ≡ t.0)
-              → Q.times (Q.whole t.1) (h t.0) ≡ sum_to ring_ℚ (length coordinates) (λ k. Q.times (Q.whole (cond (eqb t.0 (get_or coordinates k 0)) t.1 (pos 0))) (h (get_or coordinates k 0)))
-          for_each s = sym (sum_same ring_ℚ (length coordinates) (λ i. Q.times (Q.whole (cond (eqb t.0 (get_or coordinates i 0)) t.1 (pos 0))) (h (get_or coordinates i 0)))
-              (λ i. cond (eqb i s.0) (Q.times (Q.whole t.1) (h (get_or coordinates i 0))) (Q.whole (pos 0))) (λ i l. only i s.0 s.1 s.2 l (cases_eq i s.0))
-              ∙ sum_one ring_ℚ (length coordinates) (λ i. Q.times (Q.whole t.1) (h (get_or coordinates i 0))) s.0 s.1
-              ∙ ap (λ c. Q.times (Q.whole t.1) (h c)) s.2)
+              → Q.times (Q.integer t.1) (h t.0) ≡ sum_to ring_ℚ (length coordinates) (λ k. Q.times (Q.integer (cond (eqb t.0 (get_or coordinates k 0)) t.1 (pos 0))) (h (get_or coordinates k 0)))
+          for_each s = sym (sum_same ring_ℚ (length coordinates) (λ i. Q.times (Q.integer (cond (eqb t.0 (get_or coordinates i 0)) t.1 (pos 0))) (h (get_or coordinates i 0)))
+              (λ i. cond (eqb i s.0) (Q.times (Q.integer t.1) (h (get_or coordinates i 0))) (Q.integer (pos 0))) (λ i l. only i s.0 s.1 s.2 l (cases_eq i s.0))
+              ∙ sum_one ring_ℚ (length coordinates) (λ i. Q.times (Q.integer t.1) (h (get_or coordinates i 0))) s.0 s.1
+              ∙ ap (λ c. Q.times (Q.integer t.1) (h c)) s.2)
 
   -- at an end by a point q, any map h that is q at the coordinates is at least 0 on each column and below 0 on the target
   pub separates : (columns : List Terms) (target : Terms) (q : List Rational) (h : ℕ → Rational) → ((j : ℕ) → j < length columns → IsOnCoordinates coordinates (get_or columns j [])) → IsOnCoordinates coordinates target
-      → ((k : ℕ) → k < length coordinates → h (get_or coordinates k 0) ≡ get_or q k (Q.whole (pos 0)))
+      → ((k : ℕ) → k < length coordinates → h (get_or coordinates k 0) ≡ get_or q k (Q.integer (pos 0)))
       → Separates field_ℚ (length coordinates) (length columns) (feasibility_problem coordinates columns target) q
       → ((j : ℕ) → j < length columns → is_at_least_zero (rational_value (get_or columns j []) h) ≡ true) × (is_at_least_zero (rational_value target h) ≡ false)
   separates columns target q h oc ot e s = (
@@ -76,15 +76,15 @@ module _ (coordinates : List ℕ) (apart : AreApart coordinates) where
     subst (λ (x : Rational). is_at_least_zero x ≡ false) (sym (value_is target h ot ∙ same target)) s.below,
   )
     where
-      same : (row : Terms) → sum_to ring_ℚ (length coordinates) (λ k. Q.times (Q.whole (coefficient row (get_or coordinates k 0))) (h (get_or coordinates k 0)))
-          ≡ sum_to ring_ℚ (length coordinates) (λ k. Q.times (Q.whole (coefficient row (get_or coordinates k 0))) (get_or q k (Q.whole (pos 0))))
-      same row = sum_same ring_ℚ (length coordinates) (λ k. Q.times (Q.whole (coefficient row (get_or coordinates k 0))) (h (get_or coordinates k 0)))
-          (λ k. Q.times (Q.whole (coefficient row (get_or coordinates k 0))) (get_or q k (Q.whole (pos 0)))) (λ k l. ap (Q.times (Q.whole (coefficient row (get_or coordinates k 0)))) (e k l))
+      same : (row : Terms) → sum_to ring_ℚ (length coordinates) (λ k. Q.times (Q.integer (coefficient row (get_or coordinates k 0))) (h (get_or coordinates k 0)))
+          ≡ sum_to ring_ℚ (length coordinates) (λ k. Q.times (Q.integer (coefficient row (get_or coordinates k 0))) (get_or q k (Q.integer (pos 0))))
+      same row = sum_same ring_ℚ (length coordinates) (λ k. Q.times (Q.integer (coefficient row (get_or coordinates k 0))) (h (get_or coordinates k 0)))
+          (λ k. Q.times (Q.integer (coefficient row (get_or coordinates k 0))) (get_or q k (Q.integer (pos 0)))) (λ k l. ap (Q.times (Q.integer (coefficient row (get_or coordinates k 0)))) (e k l))
 
 -- at an end by weights they sum to the target at each coordinate of the list
 pub sums_up : (coordinates : List ℕ) (columns : List Terms) (target : Terms) (ws : List (ℕ × Rational))
     → SumsUp field_ℚ (length coordinates) (length columns) (feasibility_problem coordinates columns target) ws
     → (c : ℕ) → ((k : ℕ) × (k < length coordinates) × (get_or coordinates k 0 ≡ c))
-    → ring_combination field_ℚ ws (λ j. Q.whole (coefficient (get_or columns j []) c)) ≡ Q.whole (coefficient target c)
+    → ring_combination field_ℚ ws (λ j. Q.integer (coefficient (get_or columns j []) c)) ≡ Q.integer (coefficient target c)
 sums_up coordinates columns target ws a c s =
-    subst (λ (x : ℕ). ring_combination field_ℚ ws (λ j. Q.whole (coefficient (get_or columns j []) x)) ≡ Q.whole (coefficient target x)) s.2 (a.sum_is s.0 s.1)
+    subst (λ (x : ℕ). ring_combination field_ℚ ws (λ j. Q.integer (coefficient (get_or columns j []) x)) ≡ Q.integer (coefficient target x)) s.2 (a.sum_is s.0 s.1)

@@ -1,7 +1,7 @@
 -- A run has one end, and what its steps keep holds there.
 use Rattle.std.proofs.Common.{ap, List, ◌≡◌, ◌⊎◌, inl, inr, ℕ, zero, suc, ◌+◌, ◌<◌, ◌≤◌, refl, sym, ◌∙◌, subst, arith}
 use Rattle.it_rational.specs.OrderedFields.{OrderedField}
-use Rattle.it_tableau.specs.Tables.{Table, FeasibilityProblem, start}
+use Rattle.it_tableau.specs.SimplexTables.{SimplexTable, FeasibilityProblem, start}
 use Rattle.it_tableau.specs.Invariants.{HasInvariants}
 use Rattle.it_tableau.proofs.Kept.{pivot_keeps_invariants}
 use Rattle.it_tableau.proofs.StartLemmas.{start_has_invariants}
@@ -78,7 +78,7 @@ module _ {S W P : Type 0} (IsDone IsStuck Fits : S → Type 0) (next : S → S) 
 
 module _ {A : Type 0} (F : OrderedField A) (m n : ℕ) where
   -- a step of the run keeps what every table keeps
-  pub next_holds : (p : FeasibilityProblem A) (t : Table A) → HasInvariants F m n p t → ¬ (IsStuck F m n t) → HasInvariants F m n p (next F m n t)
+  pub next_holds : (p : FeasibilityProblem A) (t : SimplexTable A) → HasInvariants F m n p t → ¬ (IsStuck F m n t) → HasInvariants F m n p (next F m n t)
   next_holds p t h s =
       let e = entering_is F m n t (some_column F m n t s) in
       let l = leaving_is F m n p t (entering_column F m n t) h e.below in
@@ -116,7 +116,7 @@ module _ {A : Type 0} (F : OrderedField A) (m n : ℕ) where
   EndIsRight p (Width j) = Unit {0}
 
   -- the end of a run from the start is right
-  pub run_right : (Fits : Table A → Type 0) (p : FeasibilityProblem A) (budget : ℕ) (e : RunEndView (List (ℕ × A)) (List A))
+  pub run_right : (Fits : SimplexTable A → Type 0) (p : FeasibilityProblem A) (budget : ℕ) (e : RunEndView (List (ℕ × A)) (List A))
       → EndsAs (IsDone F m n) (IsStuck F m n) Fits (next F m n) (weights F m n) (point F m n p) budget zero (start F m n p) e → EndIsRight p e
   run_right Fits p budget e r = for_each e
       (end_comes_from (IsDone F m n) (IsStuck F m n) Fits (next F m n) (weights F m n) (point F m n p) (HasInvariants F m n p)

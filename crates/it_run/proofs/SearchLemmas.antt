@@ -4,7 +4,7 @@ use Rattle.std.proofs.lemmas.Bool.{cases_lt, true≢false, eq-eqb, ne_eqb}
 use Rattle.it_rational.specs.Rational.{Rational, plus, minus, rational_cmp, is_at_least_zero}
 use Rattle.it_rational.proofs.Field.{field_ℚ}
 use Rattle.it_rational.proofs.Signs.{cmp_less, cmp_greater, cmp_equal}
-use Rattle.it_tableau.specs.Tables.{Table, ratio}
+use Rattle.it_tableau.specs.SimplexTables.{SimplexTable, ratio}
 use Rattle.it_run.specs.Choice.{first_false, leaving_row_of, is_candidate, precedes}
 use Rattle.it_run.specs.Steps.{ratio_precedes, best_after, IsBestOf}
 use Rattle.it_run.proofs.BlandRule.{first_before, first_at}
@@ -46,7 +46,7 @@ before_greater q best b d e = let g = cmp_greater q best e in ap₂ (λ x y. con
 pub before_equal : (q best : Rational) (b d : ℕ) → rational_cmp q best ≡ Equal → ratio_precedes q b best d ≡ ltb b d
 before_equal q best b d e = let g = cmp_equal q best e in ap₂ (λ x y. cond x (y && ltb b d) true) g.0 g.1
 
-pub best_skips : (m n : ℕ) (t : Table Rational) (c i : ℕ) (best : Option (ℕ × Rational)) → is_candidate field_ℚ t c i ≡ false → IsBestOf m n t c i best → IsBestOf m n t c (i + 1) best
+pub best_skips : (m n : ℕ) (t : SimplexTable Rational) (c i : ℕ) (best : Option (ℕ × Rational)) → is_candidate field_ℚ t c i ≡ false → IsBestOf m n t c i best → IsBestOf m n t c (i + 1) best
 best_skips m n t c i best o h = subst (λ (k : ℕ). IsBestOf m n t c k best) here (by_option best h)
   where
     here : suc i ≡ i + 1
@@ -59,7 +59,7 @@ best_skips m n t c i best o h = subst (λ (k : ℕ). IsBestOf m n t c k best) he
     by_option None h = same ∙ h
     by_option (Some b) h = (same ∙ h.0, omega (arith, h.1), h.2, h.3)
 
-pub best_takes : (m n : ℕ) (t : Table Rational) (c i : ℕ) (q : Rational) (best : Option (ℕ × Rational)) → i < m
+pub best_takes : (m n : ℕ) (t : SimplexTable Rational) (c i : ℕ) (q : Rational) (best : Option (ℕ × Rational)) → i < m
     → is_candidate field_ℚ t c i ≡ true → q ≡ ratio field_ℚ m n t c i
     → IsBestOf m n t c i best → IsBestOf m n t c (i + 1) (best_after best i q t.basis)
 best_takes m n t c i q best hi o e h = subst (λ (k : ℕ). IsBestOf m n t c k (best_after best i q t.basis)) here (by_option best h)

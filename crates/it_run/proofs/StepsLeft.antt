@@ -3,7 +3,7 @@ use Rattle.std.proofs.Common.{◌≡◌, ℕ, zero, suc, ◌+◌, ◌^◌, ◌<�
 use Rattle.std.proofs.lemmas.Bool.{cases_lt, cases_eq, cases_Bool, ltb-true, ltb-false, true≢false}
 use Rattle.it_rational.proofs.Ordered.{not_both}
 use Rattle.it_rational.specs.OrderedFields.{OrderedField}
-use Rattle.it_tableau.specs.Tables.{Table, FeasibilityProblem}
+use Rattle.it_tableau.specs.SimplexTables.{SimplexTable, FeasibilityProblem}
 use Rattle.it_tableau.specs.Invariants.{HasInvariants}
 use Rattle.it_run.specs.Choice.{first_false, entering_column, next, IsStuck}
 use Rattle.it_run.specs.Meetings.{table_after}
@@ -17,7 +17,7 @@ module _ {A : Type 0} (F : OrderedField A) (m n : ℕ) where
   abbrev pub most : ℕ
   most = (n + m) ^ m
 
-  basis_below : (p : FeasibilityProblem A) (t : Table A) → HasInvariants F m n p t → (i : ℕ) → i < m → t.basis i < n + m
+  basis_below : (p : FeasibilityProblem A) (t : SimplexTable A) → HasInvariants F m n p t → (i : ℕ) → i < m → t.basis i < n + m
   basis_below p t h i l = by_cases (h.own i l)
     where
       by_cases : (t.basis i < n) ⊎ (t.basis i ≡ n + i) → t.basis i < n + m
@@ -25,7 +25,7 @@ module _ {A : Type 0} (F : OrderedField A) (m n : ℕ) where
       by_cases (inr q) = omega arith
 
   -- some table within so many steps has no column to enter
-  pub not_always : (p : FeasibilityProblem A) (t : Table A) → HasInvariants F m n p t → ((k : ℕ) → k ≤ most → ¬ (IsStuck F m n (table_after F m n t k))) → ⊥
+  pub not_always : (p : FeasibilityProblem A) (t : SimplexTable A) → HasInvariants F m n p t → ((k : ℕ) → k ≤ most → ¬ (IsStuck F m n (table_after F m n t k))) → ⊥
   not_always p t h s =
       let q = pigeonhole most (λ k. digits (n + m) m (table_after F m n t k).basis) (λ k l. digits_below (n + m) m (table_after F m n t k).basis (basis_below p (table_after F m n t k) (holds k l))) in
       never_again F m n p t h most (λ k l. s k (omega arith)) q.0 q.1 q.2 q.3
@@ -37,28 +37,28 @@ module _ {A : Type 0} (F : OrderedField A) (m n : ℕ) where
       holds (suc k) l = next_holds F m n p (table_after F m n t k) (holds k (omega arith)) (s k (omega arith))
 
   -- how many steps are left to a table with no column to enter
-  abbrev pub is_moving : Table A → Bool
+  abbrev pub is_moving : SimplexTable A → Bool
   is_moving t = ltb (entering_column F m n t) n
 
   -- the number of steps to the first table with no column to enter
-  abbrev pub steps_left : Table A → ℕ
+  abbrev pub steps_left : SimplexTable A → ℕ
   steps_left t = first_false (λ k. is_moving (table_after F m n t k)) 0 (suc most)
 
-  after_next : (t : Table A) (k : ℕ) → table_after F m n (next F m n t) k ≡ table_after F m n t (suc k)
+  after_next : (t : SimplexTable A) (k : ℕ) → table_after F m n (next F m n t) k ≡ table_after F m n t (suc k)
   after_next t zero = refl
   after_next t (suc k) = ap (next F m n) (after_next t k)
 
-  pub stuck_if : (t : Table A) → is_moving t ≡ false → IsStuck F m n t
+  pub stuck_if : (t : SimplexTable A) → is_moving t ≡ false → IsStuck F m n t
   stuck_if t e j l = first_before (λ j. F.order.is_least (t.entry m j)) 0 n j (omega arith) (let q : n ≤ entering_column F m n t = ltb-false (entering_column F m n t) n e in omega arith)
 
-  pub moving_if : (t : Table A) → ¬ (IsStuck F m n t) → is_moving t ≡ true
+  pub moving_if : (t : SimplexTable A) → ¬ (IsStuck F m n t) → is_moving t ≡ true
   moving_if t s = by_cases (cases_Bool (is_moving t))
     where
       by_cases : (is_moving t ≡ true) ⊎ (is_moving t ≡ false) → is_moving t ≡ true
       by_cases (inl e) = e
       by_cases (inr e) = absurd (s (stuck_if t e))
 
-  pub not_stuck_if : (t : Table A) → is_moving t ≡ true → ¬ (IsStuck F m n t)
+  pub not_stuck_if : (t : SimplexTable A) → is_moving t ≡ true → ¬ (IsStuck F m n t)
   not_stuck_if t e s = by_cases (entering_is F m n t (ltb-true (entering_column F m n t) n e))
     where
       by_cases : Enters F m n t (entering_column F m n t) → ⊥
@@ -75,7 +75,7 @@ module _ {A : Type 0} (F : OrderedField A) (m n : ℕ) where
       by_cases true q (inr c) ih = ih (omega arith)
 
   -- each step lowers it
-  pub steps_fall : (p : FeasibilityProblem A) (t : Table A) → HasInvariants F m n p t → ¬ (IsStuck F m n t) → steps_left (next F m n t) < steps_left t
+  pub steps_fall : (p : FeasibilityProblem A) (t : SimplexTable A) → HasInvariants F m n p t → ¬ (IsStuck F m n t) → steps_left (next F m n t) < steps_left t
   steps_fall p t h s = by_cases (cases_lt (steps_left t) (suc most))
     where
       f : ℕ → Bool

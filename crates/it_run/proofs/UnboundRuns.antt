@@ -3,7 +3,7 @@ use Rattle.std.proofs.Common.{◌≡◌, ℕ, suc, ◌+◌, ◌-◌, ◌<◌, No
 use Rattle.it_rational.specs.Rational.{Rational}
 use Rattle.it_rational.proofs.Field.{field_ℚ}
 use Rattle.it_tableau.specs.TableauViews.{TableauView, height, table}
-use Rattle.it_tableau.specs.Tables.{Table}
+use Rattle.it_tableau.specs.SimplexTables.{SimplexTable}
 use Rattle.it_run.specs.Choice.{IsDone, IsStuck}
 use Rattle.it_run.specs.Runs.{RunEndView, clip_end, clip_number, IsWithinBudget}
 use Rattle.it_run.specs.Runs.RunEndView.{Weights, Point, Width}
@@ -12,7 +12,7 @@ use Rattle.it_run.proofs.RunSteps.{run_done, run_stuck, run_wide, step_on}
 use Rattle.it_run.proofs.StepsLeft.{steps_left, steps_fall}
 
 -- the run from a tableau without a budget ends so
-abbrev EndsWithoutBudget : TableauView → RunEndView (Table Rational) (Table Rational) → Type 0
+abbrev EndsWithoutBudget : TableauView → RunEndView (SimplexTable Rational) (SimplexTable Rational) → Type 0
 EndsWithoutBudget t e = ReachesBy (height t) t.generators None (table t) e
 
 -- so many steps are left to a tableau whose table has the invariants
@@ -24,7 +24,7 @@ unfolding steps_left_to
 steps_left_falls old new s h =
     subst (λ (m : ℕ). steps_left field_ℚ m new.generators (table new) < steps_left_to old) (sym s.frame.height)
     (subst (λ (n : ℕ). steps_left field_ℚ (height old) n (table new) < steps_left_to old) (sym s.frame.generators)
-    (subst (λ (t : Table Rational). steps_left field_ℚ (height old) old.generators t < steps_left_to old) (sym s.table_is)
+    (subst (λ (t : SimplexTable Rational). steps_left field_ℚ (height old) old.generators t < steps_left_to old) (sym s.table_is)
     (steps_fall field_ℚ (height old) old.generators h.0 (table old) h.1 s.moves)))
 
 -- the run has come from one tableau to another, and the next step has this number
@@ -32,20 +32,20 @@ pub record IsRunUnderWay (from now : TableauView) (number : ℕ) : Type 0 where
   pub made : ℕ
   pub number_is : number ≡ clip_number (suc made)
   -- what the rest of the run does from here it does from the start, with some budget
-  pub back : (left : ℕ) (e : RunEndView (Table Rational) (Table Rational)) → ReachesFrom now left made e → (budget : ℕ) × ReachesFrom from budget 0 e
+  pub back : (left : ℕ) (e : RunEndView (SimplexTable Rational) (SimplexTable Rational)) → ReachesFrom now left made e → (budget : ℕ) × ReachesFrom from budget 0 e
 
 pub run_begins : (t : TableauView) → IsRunUnderWay t t 1
 run_begins t = record { made = 0; number_is = refl; back = λ left e r. (left, r) }
 
 module _ (from now : TableauView) (number : ℕ) (w : IsRunUnderWay from now number) where
   -- it ends so
-  run_ends : (left : ℕ) (e : RunEndView (Table Rational) (Table Rational)) → ReachesFrom now left w.made e → IsWithinBudget e → EndsWithoutBudget from (clip_end e)
+  run_ends : (left : ℕ) (e : RunEndView (SimplexTable Rational) (SimplexTable Rational)) → ReachesFrom now left w.made e → IsWithinBudget e → EndsWithoutBudget from (clip_end e)
   run_ends left e r i = let b = w.back left e r in record { budget = b.0; end = e; runs = b.1; within = i; is_clipped = refl }
 
   pub unbound_done : IsDone field_ℚ (height now) now.generators (table now) → EndsWithoutBudget from (Weights (table now))
   unbound_done d = run_ends 0 (Weights (table now)) (run_done (height now) now.generators 0 w.made (table now) d) tt
 
-  pub unbound_stuck : (s : Table Rational) → ¬ (IsDone field_ℚ (height now) now.generators (table now)) → IsStuck field_ℚ (height now) now.generators (table now) → s ≡ table now → EndsWithoutBudget from (Point s)
+  pub unbound_stuck : (s : SimplexTable Rational) → ¬ (IsDone field_ℚ (height now) now.generators (table now)) → IsStuck field_ℚ (height now) now.generators (table now) → s ≡ table now → EndsWithoutBudget from (Point s)
   unbound_stuck s d u e = run_ends 0 (Point s) (run_stuck (height now) now.generators 0 w.made (table now) s d u e) tt
 
   pub unbound_wide : ¬ (IsDone field_ℚ (height now) now.generators (table now)) → IsWide (height now) now.generators (table now) → EndsWithoutBudget from (Width number)
@@ -60,7 +60,7 @@ module _ (from now : TableauView) (number : ℕ) (w : IsRunUnderWay from now num
     back = λ left e r. w.back (suc left) e (step_on now new (suc left) w.made e (omega arith) d s (back left e r));
   }
     where
-      back : (left : ℕ) (e : RunEndView (Table Rational) (Table Rational)) → ReachesFrom new left (suc w.made) e → ReachesFrom new (suc left - 1) (w.made + 1) e
+      back : (left : ℕ) (e : RunEndView (SimplexTable Rational) (SimplexTable Rational)) → ReachesFrom new left (suc w.made) e → ReachesFrom new (suc left - 1) (w.made + 1) e
       back left e r =
           let a : left ≡ suc left - 1 = omega arith in
           let b : suc w.made ≡ w.made + 1 = omega arith in

@@ -1,25 +1,25 @@
 -- What the answer of a run from a start says.
 use Rattle.std.specs.Prelude.{◌≡◌, ℕ, ◌<◌, false, cond, pos, List, slice_index_or, Option}
-use Rattle.it_rational.specs.Rational.{Rational, whole, minus}
+use Rattle.it_rational.specs.Rational.{Rational, integer, minus}
 use Rattle.it_rational.proofs.Field.{field_ℚ}
 use Rattle.it_tableau.specs.TableauViews.{TableauView, height, table}
-use Rattle.it_tableau.specs.Tables.{FeasibilityProblem, sign, start}
+use Rattle.it_tableau.specs.SimplexTables.{FeasibilityProblem, sign, start}
 use Rattle.it_run.specs.Runs.{RunEndView}
 use Rattle.it_run.specs.Runs.RunEndView.{Weights, Point, Pivots, Width}
 use Rattle.it_run.specs.Solving.{RunsTo}
 use Rattle.it_run.specs.declared.answering.RunAnswer.{RunAnswer}
-use Rattle.it_run.specs.declared.answering.RunAnswer.TheVariants as solved
+use Rattle.it_run.specs.declared.answering.RunAnswer.TheVariants as answers
 
 -- the end of the run that it tells
-abbrev pub solved_end : RunAnswer → RunEndView (List (ℕ × Rational)) (List Rational)
-solved_end (solved.Weights ws) = Weights ws.items
-solved_end (solved.Point q) = Point q.items
-solved_end (solved.Pivots k) = Pivots k
-solved_end (solved.Width k) = Width k
+abbrev pub end_of_answer : RunAnswer → RunEndView (List (ℕ × Rational)) (List Rational)
+end_of_answer (answers.Weights ws) = Weights ws.items
+end_of_answer (answers.Point q) = Point q.items
+end_of_answer (answers.Pivots k) = Pivots k
+end_of_answer (answers.Width k) = Width k
 
 -- the sign of a row as a number
 abbrev pub sign_number : TableauView → ℕ → Rational
-sign_number t k = cond (slice_index_or t.negated k false) (minus (whole (pos 1))) (whole (pos 1))
+sign_number t k = cond (slice_index_or t.negated k false) (minus (integer (pos 1))) (integer (pos 1))
 
 -- a problem whose rows were negated as the tableau's
 abbrev pub HasSigns : TableauView → FeasibilityProblem Rational → Type 0
@@ -36,4 +36,4 @@ HasProblem t = (p : FeasibilityProblem Rational) × IsStartOf p t
 
 -- the answer tells the end of the run from the tableau with a budget or without one, whichever problem it is the start of
 abbrev pub RunsFrom : TableauView → Option ℕ → RunAnswer → Type 0
-RunsFrom t budget solved = (p : FeasibilityProblem Rational) → IsStartOf p t → RunsTo (height t) t.generators p budget (table t) (solved_end solved)
+RunsFrom t budget answer = (p : FeasibilityProblem Rational) → IsStartOf p t → RunsTo (height t) t.generators p budget (table t) (end_of_answer answer)

@@ -2,7 +2,7 @@
 use Rattle.std.specs.Prelude.{◌≡◌, ◌≢◌, ◌⊎◌, ℕ, suc, ◌<◌, ◌≤◌, Option, Some, None, List}
 use Rattle.it_rational.specs.Rational.{Rational}
 use Rattle.it_rational.proofs.Field.{field_ℚ}
-use Rattle.it_tableau.specs.Tables.{Table, FeasibilityProblem}
+use Rattle.it_tableau.specs.SimplexTables.{SimplexTable, FeasibilityProblem}
 use Rattle.it_run.specs.Choice.{next, IsDone, IsStuck}
 use Rattle.it_run.specs.Readings.{weights, point}
 use Rattle.it_run.specs.Runs.{RunEndView, state_after_steps, clip_number}
@@ -32,11 +32,11 @@ IsBudget (Some budget) = budget ≤ 4294967295
 IsBudget None = Unit {0}
 
 -- how the run from table t ends
-abbrev pub RunsFirst : (m n : ℕ) → FeasibilityProblem Rational → Option ℕ → Table Rational → RunEndView (List (ℕ × Rational)) (List Rational) → Type 0
+abbrev pub RunsFirst : (m n : ℕ) → FeasibilityProblem Rational → Option ℕ → SimplexTable Rational → RunEndView (List (ℕ × Rational)) (List Rational) → Type 0
 RunsFirst m n p = EndsFirst (IsDone field_ℚ m n) (IsStuck field_ℚ m n) (StepFits m n) (next field_ℚ m n)
     (weights field_ℚ m n) (point field_ℚ m n p)
 
 -- both ways to say it say the same
 abbrev pub EndsAreFirst : Type 0
-EndsAreFirst = (m n : ℕ) (p : FeasibilityProblem Rational) (budget : Option ℕ) (t : Table Rational) (e : RunEndView (List (ℕ × Rational)) (List Rational)) → IsBudget budget
+EndsAreFirst = (m n : ℕ) (p : FeasibilityProblem Rational) (budget : Option ℕ) (t : SimplexTable Rational) (e : RunEndView (List (ℕ × Rational)) (List Rational)) → IsBudget budget
     → (RunsTo m n p budget t e → RunsFirst m n p budget t e) × (RunsFirst m n p budget t e → RunsTo m n p budget t e)

@@ -3,18 +3,18 @@ use Rattle.std.specs.Prelude.{◌≡◌, ℕ, ◌+◌, ◌^◌, ◌<◌, ◌≤�
 use Rattle.it_rational.specs.Rational.{Rational}
 use Rattle.it_rational.specs.OrderedFields.{OrderedField}
 use Rattle.it_rational.proofs.Field.{field_ℚ}
-use Rattle.it_tableau.specs.Tables.{Table, FeasibilityProblem, start}
+use Rattle.it_tableau.specs.SimplexTables.{SimplexTable, FeasibilityProblem, start}
 use Rattle.it_run.specs.Choice.{next, IsStuck}
 use Rattle.it_run.specs.Runs.{state_after_steps}
 
 module _ {A : Type 0} (F : OrderedField A) (m n : ℕ) where
   -- the table after k steps
-  abbrev pub table_after : Table A → ℕ → Table A
+  abbrev pub table_after : SimplexTable A → ℕ → SimplexTable A
   table_after = state_after_steps (next F m n)
 
 module _ {A : Type 0} (m : ℕ) where
   -- each basic column of t is one of s
-  abbrev pub IsBasisWithin : Table A → Table A → Type 0
+  abbrev pub IsBasisWithin : SimplexTable A → SimplexTable A → Type 0
   IsBasisWithin t s = (i : ℕ) → i < m → (k : ℕ) × (k < m) × (t.basis i ≡ s.basis k)
 
 -- while a column can enter, no table of the run has the set of basic columns of an earlier one

@@ -2,33 +2,33 @@
 use Rattle.std.specs.Prelude.{◌≡◌, ℕ, zero, suc, ◌+◌, ◌<◌, ◌≤◌, cond, eqb, ◌&&◌, List, [], ◌∷◌, length, slice_index_or}
 use Rattle.it_rational.specs.OrderedFields.{OrderedField, IsAtLeastZero, IsBelowZero, IsAboveZero}
 use Rattle.it_tableau.specs.Sums.{sum_to}
-use Rattle.it_tableau.specs.Tables.{Table, FeasibilityProblem, sign}
+use Rattle.it_tableau.specs.SimplexTables.{SimplexTable, FeasibilityProblem, sign}
 
 module _ {A : Type 0} (F : OrderedField A) (m n : ℕ) where
   -- the right side of the row whose basic column is j, as a sum over the rows; 0 where j isn't basic
-  abbrev pub weight : Table A → ℕ → A
+  abbrev pub weight : SimplexTable A → ℕ → A
   weight t j = sum_to F.ring m (λ i. cond (eqb (t.basis i) j) (t.entry i (n + m)) F.ring.null)
 
   -- the weights other than 0 of so many columns from column j on, by column
-  abbrev pub weights_from_column : Table A → ℕ → ℕ → List (ℕ × A)
+  abbrev pub weights_from_column : SimplexTable A → ℕ → ℕ → List (ℕ × A)
   weights_from_column t j zero = []
   weights_from_column t j (suc left) = cond (F.order.is_least (weight t j) && F.order.is_least (F.ring.neg (weight t j))) (weights_from_column t (suc j) left) ((j, weight t j) ∷ weights_from_column t (suc j) left)
 
   -- the weights other than 0 of all columns but the artificial ones
-  abbrev pub weights : Table A → List (ℕ × A)
+  abbrev pub weights : SimplexTable A → List (ℕ × A)
   weights t = weights_from_column t 0 n
 
   -- the point at row k: the row's sign times the cost of its artificial column
-  abbrev pub point_value : FeasibilityProblem A → Table A → ℕ → A
+  abbrev pub point_value : FeasibilityProblem A → SimplexTable A → ℕ → A
   point_value p t k = F.ring.mul (sign F p k) (t.entry m (n + k))
 
   -- its values at so many rows from row k on
-  abbrev pub point_from_row : FeasibilityProblem A → Table A → ℕ → ℕ → List A
+  abbrev pub point_from_row : FeasibilityProblem A → SimplexTable A → ℕ → ℕ → List A
   point_from_row p t k zero = []
   point_from_row p t k (suc left) = point_value p t k ∷ point_from_row p t (suc k) left
 
   -- its values at all rows
-  abbrev pub point : FeasibilityProblem A → Table A → List A
+  abbrev pub point : FeasibilityProblem A → SimplexTable A → List A
   point p t = point_from_row p t 0 m
 
 module _ {A : Type 0} (F : OrderedField A) where

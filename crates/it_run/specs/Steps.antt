@@ -2,7 +2,7 @@
 use Rattle.std.specs.Prelude.{◌≡◌, ℕ, ◌<◌, Bool, true, false, cond, ltb, ◌&&◌, Option, Some, None}
 use Rattle.it_rational.specs.Rational.{Rational, plus, minus, is_at_least_zero}
 use Rattle.it_rational.proofs.Field.{field_ℚ}
-use Rattle.it_tableau.specs.Tables.{Table, FeasibilityProblem, ratio}
+use Rattle.it_tableau.specs.SimplexTables.{SimplexTable, FeasibilityProblem, ratio}
 use Rattle.it_tableau.specs.Invariants.{HasInvariants}
 use Rattle.it_tableau.specs.TableauViews.{TableauView, height, table, IsPositive, KeepsFrame}
 use Rattle.it_run.specs.Choice.{entering_column, is_candidate, leaving_row, leaving_row_of, next, IsDone, IsStuck}
@@ -22,17 +22,17 @@ best_after None i q basis = Some (i, q)
 best_after (Some b) i q basis = cond (ratio_precedes q (basis i) b.1 (basis b.0)) (Some (i, q)) (Some b)
 
 -- it is the best of the rows below i
-abbrev pub IsBestOf : ℕ → ℕ → Table Rational → ℕ → ℕ → Option (ℕ × Rational) → Type 0
+abbrev pub IsBestOf : ℕ → ℕ → SimplexTable Rational → ℕ → ℕ → Option (ℕ × Rational) → Type 0
 IsBestOf m n t c i None = leaving_row_of field_ℚ m n t c i ≡ m
 IsBestOf m n t c i (Some b) = (leaving_row_of field_ℚ m n t c i ≡ b.0) × (b.0 < i) × (b.1 ≡ ratio field_ℚ m n t c b.0) × (is_candidate field_ℚ t c b.0 ≡ true)
 
 -- the row that leaves, or none
-abbrev pub IsLeaving : ℕ → ℕ → Table Rational → ℕ → Option ℕ → Type 0
+abbrev pub IsLeaving : ℕ → ℕ → SimplexTable Rational → ℕ → Option ℕ → Type 0
 IsLeaving m n t c None = leaving_row field_ℚ m n t c ≡ m
 IsLeaving m n t c (Some r) = (leaving_row field_ℚ m n t c ≡ r) × (r < m) × IsPositive (t.entry r c)
 
 -- where some column enters, some row leaves
-abbrev pub IsReady : ℕ → ℕ → Table Rational → Type 0
+abbrev pub IsReady : ℕ → ℕ → SimplexTable Rational → Type 0
 IsReady m n t = ¬ (IsStuck field_ℚ m n t) → leaving_row field_ℚ m n t (entering_column field_ℚ m n t) < m
 
 -- a step was made
@@ -49,23 +49,23 @@ IsStepOrStuck old new false = IsStuck field_ℚ (height old) old.generators (tab
 IsStepOrStuck old new true = IsStep old new
 
 -- a step is left to make, and a number of it doesn't fit
-abbrev pub IsWide : ℕ → ℕ → Table Rational → Type 0
+abbrev pub IsWide : ℕ → ℕ → SimplexTable Rational → Type 0
 IsWide m n t = ¬ (IsStuck field_ℚ m n t) × ¬ (StepFits m n t)
 
 -- the run whose end has its last table
-abbrev pub Reaches : ℕ → ℕ → ℕ → ℕ → Table Rational → RunEndView (Table Rational) (Table Rational) → Type 0
+abbrev pub Reaches : ℕ → ℕ → ℕ → ℕ → SimplexTable Rational → RunEndView (SimplexTable Rational) (SimplexTable Rational) → Type 0
 Reaches m n = EndsAs (IsDone field_ℚ m n) (IsStuck field_ℚ m n) (StepFits m n) (next field_ℚ m n) (λ t. t) (λ t. t)
 
 -- it from a tableau
-abbrev pub ReachesFrom : TableauView → ℕ → ℕ → RunEndView (Table Rational) (Table Rational) → Type 0
+abbrev pub ReachesFrom : TableauView → ℕ → ℕ → RunEndView (SimplexTable Rational) (SimplexTable Rational) → Type 0
 ReachesFrom t left k = Reaches (height t) t.generators left k (table t)
 
 -- the same with a budget or without one
-abbrev pub ReachesBy : ℕ → ℕ → Option ℕ → Table Rational → RunEndView (Table Rational) (Table Rational) → Type 0
+abbrev pub ReachesBy : ℕ → ℕ → Option ℕ → SimplexTable Rational → RunEndView (SimplexTable Rational) (SimplexTable Rational) → Type 0
 ReachesBy m n = EndsBy (IsDone field_ℚ m n) (IsStuck field_ℚ m n) (StepFits m n) (next field_ℚ m n) (λ t. t) (λ t. t)
 
 -- the end that the code tells, with the last table
-abbrev pub run_end_view : RunEnd → Table Rational → RunEndView (Table Rational) (Table Rational)
+abbrev pub run_end_view : RunEnd → SimplexTable Rational → RunEndView (SimplexTable Rational) (SimplexTable Rational)
 run_end_view run_ends.Weights t = Weights t
 run_end_view run_ends.Point t = Point t
 run_end_view (run_ends.Pivots k) t = Pivots k

@@ -7,7 +7,7 @@ ghost use Rattle.it_run.specs.Choice.{entering_column as entering_of};
 ghost use Rattle.it_run.specs.Solving.{RatiosFit};
 ghost use Rattle.it_run.specs.Steps.{best_after, ratio_precedes, IsLeaving};
 
-use it_fraction::{Fraction, Wide};
+use it_fraction::{Fraction, WideNumber};
 use it_tableau::Tableau;
 use std::cmp::Ordering;
 
@@ -69,7 +69,7 @@ fn best_after(
 }
 
 /// The row with the least ratio of those with an entry above 0, of several the one with the least basic column.
-pub fn leaving_row(tableau: &Tableau, column: usize) -> Result<Option<usize>, Wide>
+pub fn leaving_row(tableau: &Tableau, column: usize) -> Result<Option<usize>, WideNumber>
     requires usable { tableau.now.spent ≡ false }
     requires column { column < tableau.now.generators }
     ensures ok { OnOk result (RatiosFit (height tableau.now) tableau.now.generators (table tableau.now) column) }

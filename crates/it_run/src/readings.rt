@@ -1,11 +1,10 @@
 //! What is read off the last table of a run.
-ghost use Rattle.std.specs.Prelude.{◌≡◌, ◌<◌, ◌+◌, ◌++◌, ◌∷◌, [], false, pos, IfOk, OnOk};
-ghost use Rattle.std.specs.Bool.{OnFalse, OnTrue};
+ghost use Rattle.std.specs.Prelude.{◌≡◌, ◌<◌, ◌+◌, false, pos, IfOk};
 ghost use Rattle.std.specs.Option.{IfNone, IfSome};
 ghost use Rattle.it_rational.proofs.Field.{field_ℚ};
-ghost use Rattle.it_rational.specs.Rational.{Rational, times, whole};
+ghost use Rattle.it_rational.specs.Rational.{Rational, times, integer};
 ghost use Rattle.it_tableau.specs.TableauViews.{height, table};
-ghost use Rattle.it_tableau.specs.Tables.{FeasibilityProblem};
+ghost use Rattle.it_tableau.specs.SimplexTables.{FeasibilityProblem};
 ghost use Rattle.it_run.specs.Readings.{point as point_of, weight, weights as weights_of};
 ghost use Rattle.it_run.specs.Answers.{sign_number, HasSigns};
 ghost use Rattle.it_run.specs.Steps.{HasInvariantsForSome};
@@ -19,7 +18,7 @@ fn weight_of(tableau: &Tableau, j: usize) -> Option<Fraction>
     requires usable { tableau.now.spent ≡ false }
     requires holds { HasInvariantsForSome tableau.now }
     ensures some { IfSome result (λ w. w ≡ weight field_ℚ (height tableau.now) tableau.now.generators (table tableau.now) j) }
-    ensures none { IfNone result (weight field_ℚ (height tableau.now) tableau.now.generators (table tableau.now) j ≡ whole (pos 0)) }
+    ensures none { IfNone result (weight field_ℚ (height tableau.now) tableau.now.generators (table tableau.now) j ≡ integer (pos 0)) }
 {
     for i in 0..tableau.rows() {
         if tableau.basic_column(i) == j {
@@ -27,27 +26,6 @@ fn weight_of(tableau: &Tableau, j: usize) -> Option<Fraction>
         }
     }
     None
-}
-
-/// Whether a number is 0.
-#[tactic(auto, using(it_tableau::proofs::Zeros::null_from_top, it_tableau::proofs::Zeros::top_from_null))]
-fn is_null(value: Fraction) -> bool
-    ensures yes { OnTrue result (value ≡ whole (pos 0)) }
-    ensures no { OnFalse result (¬ (value ≡ whole (pos 0))) }
-{
-    if value.is_zero() { true } else { false }
-}
-
-/// Puts a column's weight behind the others.
-fn append(
-    weights: &mut Vec<(usize, Fraction)>,
-    j: usize,
-    weight: Fraction,
-) -> Result<(), AllocError>
-    ensures { OnOk result (weights.new.items ≡ weights.old.items ++ (j, weight) ∷ []) }
-{
-    weights.push((j, weight))?;
-    Ok(())
 }
 
 /// The weights other than 0, by column.
@@ -59,8 +37,8 @@ pub fn weights(alloc: Global, tableau: &Tableau) -> Result<Vec<(usize, Fraction)
     let mut out = Vec::new(alloc);
     for j in 0..tableau.generators() {
         if let Some(weight) = weight_of(tableau, j) {
-            if !is_null(weight) {
-                append(&mut out, j, weight)?;
+            if !weight.is_zero() {
+                out.push((j, weight))?;
             }
         }
     }

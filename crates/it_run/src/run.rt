@@ -42,17 +42,12 @@ fn step(tableau: &mut Tableau) -> Result<bool, RowFault>
 }
 
 /// Whether the target is reached: the cost row's right side is 0.
-#[tactic(auto, using(it_tableau::proofs::Zeros::null_from_top, it_tableau::proofs::Zeros::top_from_null))]
 fn is_done(tableau: &Tableau) -> bool
     requires { tableau.now.spent ≡ false }
     ensures yes { OnTrue result (IsDone field_ℚ (height tableau.now) tableau.now.generators (table tableau.now)) }
     ensures no { OnFalse result (¬ (IsDone field_ℚ (height tableau.now) tableau.now.generators (table tableau.now))) }
 {
-    if tableau.cost_rhs().is_zero() {
-        true
-    } else {
-        false
-    }
+    tableau.cost_rhs().is_zero()
 }
 
 /// Makes the run with a budget of steps.

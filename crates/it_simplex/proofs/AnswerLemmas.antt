@@ -1,14 +1,14 @@
 -- From a run on a tableau to the answer of a question.
 use Rattle.std.proofs.Common.{◌≡◌, inl, inr, ℕ, pos, Bool, true, false, not, cond, List, length, slice_index_or, Option, Some, None, refl, sym, ap, ap₂, subst, ◌∙◌, arith}
 use Rattle.std.specs.Option.{IfNone}
-use Rattle.it_rational.specs.Rational.{Rational, whole, minus, is_at_least_zero}
+use Rattle.it_rational.specs.Rational.{Rational, integer, minus, is_at_least_zero}
 use Rattle.it_rational.proofs.Field.{field_ℚ}
 use Rattle.it_space.specs.Rows.{Terms, coefficient}
 use Rattle.it_tableau.specs.Fits.{StartFits}
 use Rattle.it_tableau.specs.Problems.{feasibility_problem, start_of}
 use Rattle.it_tableau.specs.TableauViews.{TableauView, height, table, IsStart}
-use Rattle.it_tableau.specs.Tables.{Table, start}
-use Rattle.it_run.specs.Answers.{solved_end, HasSigns, IsStartOf, RunsFrom}
+use Rattle.it_tableau.specs.SimplexTables.{SimplexTable, start}
+use Rattle.it_run.specs.Answers.{end_of_answer, HasSigns, IsStartOf, RunsFrom}
 use Rattle.it_run.specs.Choice.{next, IsDone, IsStuck}
 use Rattle.it_run.specs.Readings.{weights, point}
 use Rattle.it_run.specs.Runs.{RunEndView, IsWithinBudget}
@@ -21,7 +21,7 @@ use Rattle.it_simplex.specs.Answers.{IsRightRunAnswer, Solves}
 
 module _ (cs : List ℕ) (columns : List Terms) (target : Terms) (t : TableauView) (s : IsStart cs columns target t) where
   -- what is said of the start's sizes and table, and of the tableau's
-  by_start : (P : ℕ → ℕ → Table Rational → Type 0) → P (height t) t.generators (table t) → P (length cs) (length columns) (start_of cs columns target)
+  by_start : (P : ℕ → ℕ → SimplexTable Rational → Type 0) → P (height t) t.generators (table t) → P (length cs) (length columns) (start_of cs columns target)
   by_start P x = subst (P (length cs) (length columns)) s.table_is (subst (λ (n : ℕ). P (length cs) n (table t)) s.generators_are (subst (λ (m : ℕ). P m t.generators (table t)) s.height_is x))
 
   cond_of_not : (b : Bool) (x y : Rational) → cond (not b) x y ≡ cond b y x
@@ -29,8 +29,8 @@ module _ (cs : List ℕ) (columns : List Terms) (target : Terms) (t : TableauVie
   cond_of_not false x y = refl
 
   start_signs : HasSigns t (feasibility_problem cs columns target)
-  start_signs k l = ap (λ b. cond b (minus (whole (pos 1))) (whole (pos 1))) (s.signs_are k (omega (arith, s.height_is)))
-      ∙ cond_of_not (is_at_least_zero (whole (coefficient target (slice_index_or cs k 0)))) (minus (whole (pos 1))) (whole (pos 1))
+  start_signs k l = ap (λ b. cond b (minus (integer (pos 1))) (integer (pos 1))) (s.signs_are k (omega (arith, s.height_is)))
+      ∙ cond_of_not (is_at_least_zero (integer (coefficient target (slice_index_or cs k 0)))) (minus (integer (pos 1))) (integer (pos 1))
 
   -- the tableau is the start of the question's problem
   pub start_is_of_problem : IsStartOf (feasibility_problem cs columns target) t
@@ -40,16 +40,16 @@ module _ (cs : List ℕ) (columns : List Terms) (target : Terms) (t : TableauVie
   }
 
   -- the run from the tableau is that from the start
-  run_from_start : (budget : Option ℕ) (a : RunAnswer) → RunsFrom t budget a → RunsTo (length cs) (length columns) (feasibility_problem cs columns target) budget (start_of cs columns target) (solved_end a)
-  run_from_start budget a r = by_start (λ m n t. RunsTo m n (feasibility_problem cs columns target) budget t (solved_end a)) (r (feasibility_problem cs columns target) start_is_of_problem)
+  run_from_start : (budget : Option ℕ) (a : RunAnswer) → RunsFrom t budget a → RunsTo (length cs) (length columns) (feasibility_problem cs columns target) budget (start_of cs columns target) (end_of_answer a)
+  run_from_start budget a r = by_start (λ m n t. RunsTo m n (feasibility_problem cs columns target) budget t (end_of_answer a)) (r (feasibility_problem cs columns target) start_is_of_problem)
 
-  pub run_solves : (budget : Option ℕ) (a : RunAnswer) → StartFits (length cs) (length columns) (feasibility_problem cs columns target) → RunsFrom t budget a → Solves cs columns target budget (solved_end a)
+  pub run_solves : (budget : Option ℕ) (a : RunAnswer) → StartFits (length cs) (length columns) (feasibility_problem cs columns target) → RunsFrom t budget a → Solves cs columns target budget (end_of_answer a)
   run_solves budget a f r = inr (f, run_from_start budget a r)
 
   pub answer_is_right : (budget : Option ℕ) (a : RunAnswer) → RunsFrom t budget a → IsRightRunAnswer cs columns target a
-  answer_is_right budget a r = from_end a (right_by field_ℚ (length cs) (length columns) (StepFits (length cs) (length columns)) (feasibility_problem cs columns target) budget (solved_end a) (run_from_start budget a r))
+  answer_is_right budget a r = from_end a (right_by field_ℚ (length cs) (length columns) (StepFits (length cs) (length columns)) (feasibility_problem cs columns target) budget (end_of_answer a) (run_from_start budget a r))
     where
-      from_end : (a : RunAnswer) → EndIsRight field_ℚ (length cs) (length columns) (feasibility_problem cs columns target) (solved_end a) → IsRightRunAnswer cs columns target a
+      from_end : (a : RunAnswer) → EndIsRight field_ℚ (length cs) (length columns) (feasibility_problem cs columns target) (end_of_answer a) → IsRightRunAnswer cs columns target a
       from_end (Weights ws) x = x
       from_end (Point q) x = x
       from_end (Pivots k) x = tt

@@ -10,8 +10,8 @@ use Rattle.it_run.specs.Runs.{RunEndView}
 use Rattle.it_run.specs.Runs.RunEndView.{Width}
 use Rattle.it_run.specs.Solving.{RunsTo}
 use Rattle.it_run.specs.declared.answering.RunAnswer.{RunAnswer}
+use Rattle.it_run.specs.declared.answering.RunAnswer.TheVariants as answers
 use Rattle.it_run.specs.declared.answering.RunAnswer.TheVariants.{Weights, Point, Pivots}
-use Rattle.it_run.specs.declared.answering.RunAnswer.TheVariants as solved
 
 -- the run from the start of a question with a budget of steps or without one ends so; a start that doesn't fit is before step 0
 abbrev pub Solves : List ℕ → List Terms → Terms → Option ℕ → RunEndView (List (ℕ × Rational)) (List Rational) → Type 0
@@ -26,7 +26,7 @@ abbrev pub IsRightRunAnswer : List ℕ → List Terms → Terms → RunAnswer �
 IsRightRunAnswer coordinates columns target (Weights ws) = SumsUp field_ℚ (length coordinates) (length columns) (feasibility_problem coordinates columns target) ws.items
 IsRightRunAnswer coordinates columns target (Point q) = Separates field_ℚ (length coordinates) (length columns) (feasibility_problem coordinates columns target) q.items
 IsRightRunAnswer coordinates columns target (Pivots k) = Unit {0}
-IsRightRunAnswer coordinates columns target (solved.Width k) = Unit {0}
+IsRightRunAnswer coordinates columns target (answers.Width k) = Unit {0}
 
 -- a run has one end: what `Solves` says of an answer it says of no other
 abbrev pub EndsOnce : Type 0

@@ -1,7 +1,7 @@
 //! The answer to a question.
 ghost use Rattle.std.specs.Prelude.{◌≡◌, false, IfOk};
 ghost use Rattle.std.specs.Option.{IfNone};
-ghost use Rattle.it_run.specs.Answers.{solved_end, HasProblem, RunsFrom};
+ghost use Rattle.it_run.specs.Answers.{end_of_answer, HasProblem, RunsFrom};
 ghost use Rattle.it_run.specs.Runs.{IsWithinBudget};
 ghost use Rattle.it_simplex.specs.Answers.{IsRightRunAnswer, Solves};
 
@@ -34,8 +34,8 @@ pub fn solve(
     target: &Row,
     budget: Budget,
 ) -> Result<RunAnswer, AllocError>
-    ensures end { IfOk result (λ solved. Solves coordinates.now columns.now target.now budget (solved_end solved)) }
-    ensures unbound { IfNone budget (IfOk result (λ solved. IsWithinBudget (solved_end solved))) }
+    ensures end { IfOk result (λ solved. Solves coordinates.now columns.now target.now budget (end_of_answer solved)) }
+    ensures unbound { IfNone budget (IfOk result (λ solved. IsWithinBudget (end_of_answer solved))) }
     ensures right { IfOk result (λ solved. IsRightRunAnswer coordinates.now columns.now target.now solved) }
 {
     match Tableau::start(alloc, coordinates, columns, target) {

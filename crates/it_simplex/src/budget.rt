@@ -34,6 +34,7 @@ impl Budget {
         Budget { steps: None }
     }
 
+    /// The most steps, if there is a bound.
     pub(crate) fn steps(self) -> Option<u32>
         ensures { self ≡ result }
     {

@@ -1,4 +1,4 @@
-ghost use Rattle.std.specs.Prelude.{◌≡◌, ◌≢◌, ◌+◌, ◌++◌, ◌∷◌, [], length, pos, IfOk, OnOk};
+ghost use Rattle.std.specs.Prelude.{◌≡◌, ◌≢◌, ◌+◌, ◌++◌, ◌∷◌, [], pos, OnOk};
 ghost use Rattle.std.specs.Bool.{OnTrue};
 ghost use Rattle.it_number.specs.Limit.{IsWithin};
 

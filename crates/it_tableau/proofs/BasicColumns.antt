@@ -4,13 +4,13 @@ use Rattle.std.proofs.lemmas.Bool.{eq-eqb, ne_eqb, cases_eq}
 use Rattle.it_number.proofs.Ring.{ring, v, plus, times, minus, nil, one}
 use Rattle.it_rational.specs.OrderedFields.{OrderedField}
 use Rattle.it_tableau.specs.Sums.{sum_to}
-use Rattle.it_tableau.specs.Tables.{Table, FeasibilityProblem, difference, pivot}
+use Rattle.it_tableau.specs.SimplexTables.{SimplexTable, FeasibilityProblem, difference, pivot}
 use Rattle.it_tableau.specs.Invariants.{HasInvariants}
 use Rattle.it_tableau.proofs.Sums.{sum_same, sum_changed}
 
 module _ {A : Type 0} (F : OrderedField A) (m n : ℕ) where
   -- no two rows have one basic column
-  pub basic_columns_differ : (p : FeasibilityProblem A) (t : Table A) → HasInvariants F m n p t → (i k : ℕ) → i < m → k < m → t.basis i ≡ t.basis k → i ≡ k
+  pub basic_columns_differ : (p : FeasibilityProblem A) (t : SimplexTable A) → HasInvariants F m n p t → (i k : ℕ) → i < m → k < m → t.basis i ≡ t.basis k → i ≡ k
   basic_columns_differ p t h i k hi hk e = by_cases (cases_eq i k)
     where
       by_cases : (i ≡ k) ⊎ (i ≡ k → ⊥) → i ≡ k
@@ -19,7 +19,7 @@ module _ {A : Type 0} (F : OrderedField A) (m n : ℕ) where
           (ap (λ b. cond b F.ring.unit F.ring.null) (sym (eq-eqb i i refl)) ∙ sym (h.units i i hi hi) ∙ ap (t.entry i) e ∙ h.units i k hi hk ∙ ap (λ b. cond b F.ring.unit F.ring.null) (ne_eqb i k d)))
 
   -- a sum of the rows through a pivot
-  pub pivot_sum : (t : Table A) (r c : ℕ) (f S : ℕ → A) → r < m → F.ring.mul (t.entry r c) (F.order.inv (t.entry r c)) ≡ F.ring.unit
+  pub pivot_sum : (t : SimplexTable A) (r c : ℕ) (f S : ℕ → A) → r < m → F.ring.mul (t.entry r c) (F.order.inv (t.entry r c)) ≡ F.ring.unit
       → ((j : ℕ) → S j ≡ sum_to F.ring m (λ i. F.ring.mul (f i) (t.entry i j)))
       → (j : ℕ) → S j ≡ sum_to F.ring m (λ i. F.ring.mul (cond (eqb i r) (S c) (f i)) ((pivot F t r c).entry i j))
   pivot_sum t r c f S h inverse s j =

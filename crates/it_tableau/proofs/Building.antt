@@ -3,7 +3,7 @@ use Rattle.std.proofs.Common.{◌≡◌, ◌⊎◌, inl, inr, ℕ, suc, ◌+◌,
 use Rattle.std.proofs.lemmas.Bool.{cases_eq, cases_lt, eq-eqb, ne_eqb}
 use Rattle.std.proofs.lemmas.List.{drop_all}
 use Rattle.std.proofs.Math.Seq.{drop-cons}
-use Rattle.it_rational.specs.Rational.{Rational, whole}
+use Rattle.it_rational.specs.Rational.{Rational, integer}
 use Rattle.it_tableau.specs.SparseRows.{RowTerms, entry_in, Climbs}
 use Rattle.it_tableau.specs.Merging.{column_at, number_of_term, IsAppended}
 use Rattle.it_tableau.proofs.Climbing.{climbs_below, climbs_more, climbs_none, climbs_upto, climbs_weaker, number_more}
@@ -18,7 +18,7 @@ pub nothing_is_built : (f : ℕ → Rational) (F : ℕ → Type 0) → IsBuilt f
 nothing_is_built f F = record { entries = λ k l. absurd (omega arith); climbs = omega arith; fits = λ k l. absurd (omega arith) }
 
 -- columns without a number
-pub built_skip : (f : ℕ → Rational) (F : ℕ → Type 0) (next c : ℕ) (out : RowTerms) → next ≤ c → ((k : ℕ) → next ≤ k → k < c → F k × (f k ≡ whole (pos 0))) → IsBuilt f F next out → IsBuilt f F c out
+pub built_skip : (f : ℕ → Rational) (F : ℕ → Type 0) (next c : ℕ) (out : RowTerms) → next ≤ c → ((k : ℕ) → next ≤ k → k < c → F k × (f k ≡ integer (pos 0))) → IsBuilt f F next out → IsBuilt f F c out
 built_skip f F next c out h none m = record {
   entries = λ k l. entry k l (cases_lt k next);
   climbs = climbs_weaker 0 next c out h m.climbs;
@@ -63,7 +63,7 @@ pub record IsRest (width : ℕ) (terms : RowTerms) (i next : ℕ) : Type 0 where
 pub rest_is_all : (width : ℕ) (terms : RowTerms) → Climbs 0 width terms → IsRest width terms 0 0
 rest_is_all width terms a = record { same = λ k l. refl; ascends = a }
 
-ascends_from : (from new to : ℕ) (ts : RowTerms) → new ≤ to → Climbs from to ts → ((k : ℕ) → from ≤ k → k < new → entry_in ts k ≡ whole (pos 0)) → Climbs new to ts
+ascends_from : (from new to : ℕ) (ts : RowTerms) → new ≤ to → Climbs from to ts → ((k : ℕ) → from ≤ k → k < new → entry_in ts k ≡ integer (pos 0)) → Climbs new to ts
 ascends_from from new to [] u a h = u
 ascends_from from new to (t ∷ ts) u a h = split (cases_lt t.0 new)
   where
@@ -72,24 +72,24 @@ ascends_from from new to (t ∷ ts) u a h = split (cases_lt t.0 new)
     split (inr l) = (l, a.1, a.2, a.3)
 
 module _ (width : ℕ) (terms : RowTerms) (i next : ℕ) (r : IsRest width terms i next) where
-  pub rest_over : length terms ≤ i → (k : ℕ) → next ≤ k → entry_in terms k ≡ whole (pos 0)
+  pub rest_over : length terms ≤ i → (k : ℕ) → next ≤ k → entry_in terms k ≡ integer (pos 0)
   rest_over h k l = r.same k l ∙ ap (λ ts. entry_in ts k) (drop_all i terms h)
 
   pub rest_upto : next ≤ width
   rest_upto = climbs_upto next width (drop i terms) r.ascends
 
   -- where no term stands before c the rest is that from c on
-  pub rest_later : (c : ℕ) → next ≤ c → c ≤ width → ((k : ℕ) → next ≤ k → k < c → entry_in terms k ≡ whole (pos 0)) → IsRest width terms i c
+  pub rest_later : (c : ℕ) → next ≤ c → c ≤ width → ((k : ℕ) → next ≤ k → k < c → entry_in terms k ≡ integer (pos 0)) → IsRest width terms i c
   rest_later c l u h = record {
     same = λ k m. r.same k (omega arith);
     ascends = ascends_from next c width (drop i terms) u r.ascends (λ k a b. sym (r.same k a) ∙ h k a b);
   }
 
   module _ (h : i < length terms) where
-    split : drop i terms ≡ slice_index_or terms i (0, whole (pos 0)) ∷ drop (suc i) terms
-    split = drop-cons terms i (0, whole (pos 0)) h
+    split : drop i terms ≡ slice_index_or terms i (0, integer (pos 0)) ∷ drop (suc i) terms
+    split = drop-cons terms i (0, integer (pos 0)) h
 
-    here : Climbs next width (slice_index_or terms i (0, whole (pos 0)) ∷ drop (suc i) terms)
+    here : Climbs next width (slice_index_or terms i (0, integer (pos 0)) ∷ drop (suc i) terms)
     here = subst (Climbs next width) split r.ascends
 
     pub column_from : next ≤ column_at terms i
@@ -98,7 +98,7 @@ module _ (width : ℕ) (terms : RowTerms) (i next : ℕ) (r : IsRest width terms
     pub column_within : column_at terms i + 1 ≤ width
     column_within = let u = climbs_upto (suc (column_at terms i)) width (drop (suc i) terms) here.3 in omega (arith, u)
 
-    pub before_column : (k : ℕ) → next ≤ k → k < column_at terms i → entry_in terms k ≡ whole (pos 0)
+    pub before_column : (k : ℕ) → next ≤ k → k < column_at terms i → entry_in terms k ≡ integer (pos 0)
     before_column k a l = r.same k a ∙ ap (λ ts. entry_in ts k) split
         ∙ ap (λ b. cond b (number_of_term terms i) (entry_in (drop (suc i) terms) k)) (ne_eqb (column_at terms i) k (λ e. omega (arith, e, l)))
         ∙ climbs_below (suc (column_at terms i)) width (drop (suc i) terms) k here.3 (omega (arith, l))

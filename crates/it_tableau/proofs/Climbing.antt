@@ -1,7 +1,7 @@
 -- Terms by ascending column.
 use Rattle.std.proofs.Common.{◌≡◌, ◌≢◌, ◌⊎◌, inl, inr, Bool, true, false, ℕ, suc, ◌+◌, ◌<◌, ◌≤◌, ◌++◌, cond, eqb, pos, [], ◌∷◌, refl, sym, ap, ap₂, ◌∙◌, arith}
 use Rattle.std.proofs.lemmas.Bool.{cases_eq, eq-eqb, ne_eqb}
-use Rattle.it_rational.specs.Rational.{Rational, whole}
+use Rattle.it_rational.specs.Rational.{Rational, integer}
 use Rattle.it_fraction.specs.Fits.{IsNarrow}
 use Rattle.it_fraction.proofs.ZeroLemmas.{zero_narrow}
 use Rattle.it_tableau.specs.SparseRows.{RowTerms, entry_in, Climbs}
@@ -11,7 +11,7 @@ climbs_upto from to [] h = h
 climbs_upto from to (t ∷ ts) h = let u = climbs_upto (suc t.0) to ts h.3 in omega (arith, u, h.0)
 
 -- past its columns a row has no number
-pub climbs_none : (from to : ℕ) (out : RowTerms) (k : ℕ) → Climbs from to out → to ≤ k → entry_in out k ≡ whole (pos 0)
+pub climbs_none : (from to : ℕ) (out : RowTerms) (k : ℕ) → Climbs from to out → to ≤ k → entry_in out k ≡ integer (pos 0)
 climbs_none from to [] k h l = refl
 climbs_none from to (t ∷ ts) k h l = ap (λ b. cond b t.1 (entry_in ts k)) (ne_eqb t.0 k (λ e. let u = climbs_upto (suc t.0) to ts h.3 in omega (arith, u, e, l))) ∙ climbs_none (suc t.0) to ts k h.3 l
 
@@ -21,7 +21,7 @@ climbs_weaker from to new [] l h = omega (arith, l, h)
 climbs_weaker from to new (t ∷ ts) l h = (h.0, h.1, h.2, climbs_weaker (suc t.0) to new ts l h.3)
 
 -- one term more
-pub climbs_more : (from c : ℕ) (out : RowTerms) (v : Rational) → v ≢ whole (pos 0) → IsNarrow v → Climbs from c out → Climbs from (c + 1) (out ++ (c, v) ∷ [])
+pub climbs_more : (from c : ℕ) (out : RowTerms) (v : Rational) → v ≢ integer (pos 0) → IsNarrow v → Climbs from c out → Climbs from (c + 1) (out ++ (c, v) ∷ [])
 climbs_more from c [] v n w h = (h, n, w, omega arith)
 climbs_more from c (t ∷ ts) v n w h = (h.0, h.1, h.2, climbs_more (suc t.0) c ts v n w h.3)
 
@@ -38,7 +38,7 @@ number_more from c (t ∷ ts) x k h = split (cases_eq t.0 k) (number_more (suc t
         ∙ ap (λ d. cond (eqb c k) x (cond d t.1 (entry_in ts k))) (sym (ne_eqb t.0 k b))
 
 -- below its first column a row has no number
-pub climbs_below : (from to : ℕ) (ts : RowTerms) (k : ℕ) → Climbs from to ts → k < from → entry_in ts k ≡ whole (pos 0)
+pub climbs_below : (from to : ℕ) (ts : RowTerms) (k : ℕ) → Climbs from to ts → k < from → entry_in ts k ≡ integer (pos 0)
 climbs_below from to [] k a l = refl
 climbs_below from to (t ∷ ts) k a l = ap (λ b. cond b t.1 (entry_in ts k)) (ne_eqb t.0 k (λ e. let h = a.0 in omega (arith, h, e, l))) ∙ climbs_below (suc t.0) to ts k a.3 (let h = a.0 in omega (arith, h, l))
 

@@ -3,7 +3,7 @@ use Rattle.std.proofs.Common.{◌≡◌, ◌⊎◌, inl, inr, ℕ, zero, suc, �
 use Rattle.std.proofs.lemmas.Bool.{cases_lt}
 use Rattle.std.proofs.lemmas.List.{get_or_append_left}
 use Rattle.std.proofs.Math.Seq.{get_or-append_seam}
-use Rattle.it_rational.specs.Rational.{Rational, whole, plus, minus, times, inverse}
+use Rattle.it_rational.specs.Rational.{Rational, integer, plus, minus, times, inverse}
 use Rattle.it_fraction.specs.Fits.{IsNarrow}
 use Rattle.it_fraction.proofs.ZeroLemmas.{zero_narrow}
 use Rattle.it_tableau.specs.Fits.{EntryFits, QuotientFits}
@@ -98,7 +98,7 @@ module _ (w : ℕ) (ts : RowTerms) (right : Rational) (a : Climbs 0 w ts) (n : I
       split (inl h) = subst IsNarrow (sym (row_entry w ts right j h)) (climbs_narrow 0 w ts j a)
       split (inr h) = subst IsNarrow (sym (row_end w ts right j (let n = row_length w ts right in omega (arith, l, h, n)))) n
 
-  module _ (by : List Rational) (c : ℕ) (p : Rational) (none : entry_at (dense_row w ts right) c ≡ whole (pos 0)) where
+  module _ (by : List Rational) (c : ℕ) (p : Rational) (none : entry_at (dense_row w ts right) c ≡ integer (pos 0)) where
     pub row_without_entry_fits : RowStepFits (dense_row w ts right) by c p
     row_without_entry_fits = record {
       quotient = (quotient_of_null (entry_at (dense_row w ts right) c) p none).0;

@@ -5,7 +5,7 @@ use Rattle.it_number.specs.Gcd.{gcd, gcd_within}
 use Rattle.it_rational.specs.Rational.{Rational, quotient}
 use Rattle.it_rational.proofs.Field.{field_ℚ}
 use Rattle.it_space.specs.Rows.{Terms}
-use Rattle.it_tableau.specs.Tables.{Table, pivot}
+use Rattle.it_tableau.specs.SimplexTables.{SimplexTable, pivot}
 use Rattle.it_tableau.specs.Problems.{start_of}
 
 -- the coordinates, the columns and the target
@@ -19,17 +19,17 @@ abbrev pub target : Terms
 target = (1, pos 1) ∷ (3, negsuc 0) ∷ []
 
 -- the start, and the tables after one step and after two
-abbrev pub first : Table Rational
+abbrev pub first : SimplexTable Rational
 first = start_of coordinates elementals target
 
-abbrev second : Table Rational
+abbrev second : SimplexTable Rational
 second = pivot field_ℚ first 1 2
 
-abbrev third : Table Rational
+abbrev third : SimplexTable Rational
 third = pivot field_ℚ second 0 0
 
 -- the numerators of a row at the three columns and the right side
-abbrev tops : Table Rational → ℕ → List ℤ
+abbrev tops : SimplexTable Rational → ℕ → List ℤ
 tops t i = (t.entry i 0).num ∷ (t.entry i 1).num ∷ (t.entry i 2).num ∷ (t.entry i 6).num ∷ []
 
 first_rows : (tops first 0 ≡ pos 0 ∷ negsuc 0 ∷ pos 1 ∷ pos 1 ∷ []) × (tops first 1 ≡ negsuc 0 ∷ pos 0 ∷ pos 1 ∷ pos 0 ∷ [])

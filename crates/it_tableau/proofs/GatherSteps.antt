@@ -7,26 +7,24 @@ use Rattle.std.proofs.lemmas.List.Sorted.{searched}
 use Rattle.std.specs.List.Sorted.{IsBinarySearchResult}
 use Rattle.std.specs.Ordering.{nat_cmp}
 use Rattle.std.proofs.Math.Seq.{drop-cons}
-use Rattle.it_rational.specs.Rational.{Rational, whole}
+use Rattle.it_rational.specs.Rational.{Rational, integer}
 use Rattle.it_rational.proofs.Field.{field_ℚ}
 use Rattle.it_fraction.specs.Fits.{IsNarrow}
-use Rattle.it_fraction.proofs.ZeroLemmas.{product-zero}
+use Rattle.it_fraction.proofs.ZeroLemmas.{product-zero, top_of_zero}
 use Rattle.it_space.specs.Rows.{Terms, coefficient, Ascends}
 use Rattle.it_space.proofs.CanonicalRows.{here_is, none_below, other_is}
 use Rattle.it_tableau.specs.Gathering.{row_terms_at, start_number, AreAppended, AreGathered, IsAscending, IsEntryPut, IsListTaken}
 use Rattle.it_tableau.specs.Merging.{IsAppended}
 use Rattle.it_tableau.specs.Problems.{feasibility_problem}
-use Rattle.it_tableau.specs.Rows.{IsWholeNumber, ListsValues}
-use Rattle.it_tableau.specs.Rows.{dense_row}
+use Rattle.it_tableau.specs.Rows.{IsWholeNumber, ListsValues, dense_row}
 use Rattle.it_tableau.specs.SparseRows.{RowTerms, Climbs, ListsEntries}
 use Rattle.it_tableau.specs.StartRows.{AreStartRows}
-use Rattle.it_tableau.specs.Tables.{sign}
+use Rattle.it_tableau.specs.SimplexTables.{sign}
 use Rattle.it_tableau.proofs.Building.{built_more, built_skip, IsBuilt}
 use Rattle.it_tableau.proofs.Climbing.{climbs_narrow}
 use Rattle.it_tableau.proofs.DenseRows.{row_shows}
 use Rattle.it_tableau.proofs.StartLemmas.{row_artificial, row_column}
 use Rattle.it_tableau.proofs.WholeNumbers.{signed_den, zero_number}
-use Rattle.it_tableau.proofs.Zeros.{top_from_null}
 
 -- what a search doesn't find isn't there
 pub coordinate_is_absent : (cs : List ℕ) (x i : ℕ) → IsAscending cs → IsBinarySearchResult (λ y. nat_cmp y x) cs (Err i) → (k : ℕ) → k < length cs → slice_index_or cs k 0 ≢ x
@@ -42,15 +40,6 @@ coordinate_is_absent cs x i up h k l e = let s = searched cs x (Err i) h rises i
     by_side : (k < i → slice_index_or cs k 0 < x) → (i ≤ k → x < slice_index_or cs k 0) → (k < i) ⊎ (i ≤ k) → ⊥
     by_side below above (inl m) = let b = below m in omega (arith, b, e)
     by_side below above (inr m) = let a = above m in omega (arith, a, e)
-
--- one coordinate has one row
-pub row_is_unique : (cs : List ℕ) (i k : ℕ) → IsAscending cs → i < length cs → k < length cs → slice_index_or cs i 0 ≡ slice_index_or cs k 0 → i ≡ k
-row_is_unique cs i k up l m e = by_order (cases_lt i k) (cases_lt k i)
-  where
-    by_order : (i < k) ⊎ (k ≤ i) → (k < i) ⊎ (i ≤ k) → i ≡ k
-    by_order (inl a) b = absurd (let u = up i k a m in omega (arith, u, e))
-    by_order (inr a) (inl b) = absurd (let u = up k i b l in omega (arith, u, e))
-    by_order (inr a) (inr b) = omega (arith, a, b)
 
 -- a row whose coefficients in a column are those that are left has no term yet, and else it has it
 abbrev pub IsRowUnderWay : ℤ → ℤ → ℕ → Rational → RowTerms → RowTerms → Type 0
@@ -119,7 +108,7 @@ module _ (cs : List ℕ) (f : ℕ → Rational) (terms : Terms) (j : ℕ) (old :
       rows = λ k l. row_put k l (cases_eq (slice_index_or cs k 0) term.0);
     }
 
-  pub column_put : length terms ≤ i → ((k : ℕ) → k < length cs → coefficient terms (slice_index_or cs k 0) ≡ pos 0 → f k ≡ whole (pos 0)) → AreAppended cs f j old now
+  pub column_put : length terms ≤ i → ((k : ℕ) → k < length cs → coefficient terms (slice_index_or cs k 0) ≡ pos 0 → f k ≡ integer (pos 0)) → AreAppended cs f j old now
   column_put over none = record { count = w.count; rows = λ k l. by_state k l (w.rows k l) }
     where
       by_state : (k : ℕ) → k < length cs → IsRowUnderWay (coefficient (drop i terms) (slice_index_or cs k 0)) (coefficient terms (slice_index_or cs k 0)) j (f k) (row_terms_at old k) (row_terms_at now k)
@@ -129,9 +118,9 @@ module _ (cs : List ℕ) (f : ℕ → Rational) (terms : Terms) (j : ℕ) (old :
 
 module _ (cs : List ℕ) (columns : List Terms) (target : Terms) where
   -- a column without a term at a coordinate has the entry 0 in its row
-  pub no_entry : (j k : ℕ) → j < length columns → coefficient (slice_index_or columns j []) (slice_index_or cs k 0) ≡ pos 0 → start_number cs columns target k j ≡ whole (pos 0)
+  pub no_entry : (j k : ℕ) → j < length columns → coefficient (slice_index_or columns j []) (slice_index_or cs k 0) ≡ pos 0 → start_number cs columns target k j ≡ integer (pos 0)
   no_entry j k h e = row_column field_ℚ (length cs) (length columns) (feasibility_problem cs columns target) k j h
-      ∙ product-zero (sign field_ℚ (feasibility_problem cs columns target) k) (whole (coefficient (slice_index_or columns j []) (slice_index_or cs k 0))) (top_from_null (whole (coefficient (slice_index_or columns j []) (slice_index_or cs k 0))) (ap whole e))
+      ∙ product-zero (sign field_ℚ (feasibility_problem cs columns target) k) (integer (coefficient (slice_index_or columns j []) (slice_index_or cs k 0))) (top_of_zero (integer (coefficient (slice_index_or columns j []) (slice_index_or cs k 0))) (ap integer e))
 
   pub column_is_gathered : (j : ℕ) (old new : List RowTerms) → AreAppended cs (λ k. start_number cs columns target k j) j old new → AreGathered cs columns target j old → AreGathered cs columns target (j + 1) new
   column_is_gathered j old new a g = record { count = a.count ∙ g.count; rows = λ k l. lists k (one k l) }
@@ -156,18 +145,18 @@ module _ (cs : List ℕ) (columns : List Terms) (target : Terms) where
     whole_entry : (j : ℕ) → j < length columns → F j
     whole_entry j h = record {
       whole_is = ap (λ (q : Rational). q.den) (row_column field_ℚ (length cs) (length columns) (feasibility_problem cs columns target) k j h)
-          ∙ signed_den (field_ℚ.order.is_least (whole (coefficient target (slice_index_or cs k 0)))) (coefficient (slice_index_or columns j []) (slice_index_or cs k 0));
+          ∙ signed_den (field_ℚ.order.is_least (integer (coefficient target (slice_index_or cs k 0)))) (coefficient (slice_index_or columns j []) (slice_index_or cs k 0));
       narrow = subst IsNarrow (lists.entries j h) (climbs_narrow 0 (length columns) terms j lists.ascend);
     }
 
-    no_unit : (j : ℕ) → length columns ≤ j → j < length columns + length cs → j ≢ length columns + k → F j × (f j ≡ whole (pos 0))
+    no_unit : (j : ℕ) → length columns ≤ j → j < length columns + length cs → j ≢ length columns + k → F j × (f j ≡ integer (pos 0))
     no_unit j l h d = (subst IsWholeNumber (sym null) zero_number, null)
       where
-        apart : (i : ℕ) → j ≡ length columns + i → i < length cs → f j ≡ whole (pos 0)
+        apart : (i : ℕ) → j ≡ length columns + i → i < length cs → f j ≡ integer (pos 0)
         apart i e m = ap f e ∙ row_artificial field_ℚ (length cs) (length columns) (feasibility_problem cs columns target) k i m
-            ∙ ap (λ b. cond b (whole (pos 1)) (whole (pos 0))) (ne_eqb i k (λ s. d (e ∙ ap (λ x. length columns + x) s)))
+            ∙ ap (λ b. cond b (integer (pos 1)) (integer (pos 0))) (ne_eqb i k (λ s. d (e ∙ ap (λ x. length columns + x) s)))
 
-        null : f j ≡ whole (pos 0)
+        null : f j ≡ integer (pos 0)
         null = apart (j - length columns) (omega (arith, l)) (omega (arith, l, h))
 
     built : IsBuilt f F (length columns + length cs) out

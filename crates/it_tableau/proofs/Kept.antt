@@ -5,27 +5,27 @@ use Rattle.it_number.proofs.Ring.{ring, mul-null, v, plus, times, minus, nil, on
 use Rattle.it_rational.proofs.Ordered.{inv-least, inv-above, above-least}
 use Rattle.it_rational.specs.OrderedFields.{OrderedField, IsAtLeastZero, IsAboveZero}
 use Rattle.it_tableau.specs.Sums.{sum_to}
-use Rattle.it_tableau.specs.Tables.{Table, FeasibilityProblem, difference, start_row, pivot}
+use Rattle.it_tableau.specs.SimplexTables.{SimplexTable, FeasibilityProblem, difference, start_row, pivot}
 use Rattle.it_tableau.specs.Invariants.{cost_of, CombinesStart, HasInvariants, MayEnter}
 use Rattle.it_tableau.proofs.Sums.{sum_same, sum_times, sum_changed}
 use Rattle.it_tableau.proofs.BasicColumns.{pivot_sum}
 
 module _ {A : Type 0} (F : OrderedField A) (m n : ℕ) where
   -- the pivot row and the others
-  pub pivot_row : (t : Table A) (r c j : ℕ) → (pivot F t r c).entry r j ≡ F.ring.mul (t.entry r j) (F.order.inv (t.entry r c))
+  pub pivot_row : (t : SimplexTable A) (r c j : ℕ) → (pivot F t r c).entry r j ≡ F.ring.mul (t.entry r j) (F.order.inv (t.entry r c))
   pivot_row t r c j = ap (λ b. cond b (F.ring.mul (t.entry r j) (F.order.inv (t.entry r c))) (difference F.ring (t.entry r j) (F.ring.mul (t.entry r j) (F.ring.mul (t.entry r c) (F.order.inv (t.entry r c)))))) (eq-eqb r r refl)
 
-  pub other_row : (t : Table A) (r c i j : ℕ) → i ≢ r → (pivot F t r c).entry i j ≡ difference F.ring (t.entry i j) (F.ring.mul (t.entry r j) (F.ring.mul (t.entry i c) (F.order.inv (t.entry r c))))
+  pub other_row : (t : SimplexTable A) (r c i j : ℕ) → i ≢ r → (pivot F t r c).entry i j ≡ difference F.ring (t.entry i j) (F.ring.mul (t.entry r j) (F.ring.mul (t.entry i c) (F.order.inv (t.entry r c))))
   other_row t r c i j h = ap (λ b. cond b (F.ring.mul (t.entry r j) (F.order.inv (t.entry r c))) (difference F.ring (t.entry i j) (F.ring.mul (t.entry r j) (F.ring.mul (t.entry i c) (F.order.inv (t.entry r c)))))) (ne_eqb i r h)
 
-  pub new_basis : (t : Table A) (r c : ℕ) → (pivot F t r c).basis r ≡ c
+  pub new_basis : (t : SimplexTable A) (r c : ℕ) → (pivot F t r c).basis r ≡ c
   new_basis t r c = ap (λ b. cond b c (t.basis r)) (eq-eqb r r refl)
 
-  pub old_basis : (t : Table A) (r c i : ℕ) → i ≢ r → (pivot F t r c).basis i ≡ t.basis i
+  pub old_basis : (t : SimplexTable A) (r c i : ℕ) → i ≢ r → (pivot F t r c).basis i ≡ t.basis i
   old_basis t r c i h = ap (λ b. cond b c (t.basis i)) (ne_eqb i r h)
 
   -- any pivot keeps each row a sum of start rows
-  pub kept_combines : (p : FeasibilityProblem A) (t : Table A) (r c : ℕ) → r < m → CombinesStart F m n p t → (i j : ℕ) → i ≤ m
+  pub kept_combines : (p : FeasibilityProblem A) (t : SimplexTable A) (r c : ℕ) → r < m → CombinesStart F m n p t → (i j : ℕ) → i ≤ m
       → (pivot F t r c).entry i j ≡ sum_to F.ring m (λ k. F.ring.mul ((pivot F t r c).entry i (n + k)) (start_row F m n p k j))
   kept_combines p t r c hr h i j hi = by_test (eqb i r)
     where
@@ -53,7 +53,7 @@ module _ {A : Type 0} (F : OrderedField A) (m n : ℕ) where
       by_test true = ap (λ x. F.ring.mul x u) (h r j (omega arith)) ∙ sym (scaled m)
       by_test false = ap₂ (λ x y. F.ring.add x (F.ring.neg (F.ring.mul y (F.ring.mul (t.entry i c) u)))) (h i j hi) (h r j (omega arith)) ∙ sym (lessened m (F.ring.mul (t.entry i c) u))
 
-  kept_spans : (p : FeasibilityProblem A) (t : Table A) (r c : ℕ) → r < m → F.ring.mul (t.entry r c) (F.order.inv (t.entry r c)) ≡ F.ring.unit → HasInvariants F m n p t → (k j : ℕ) → k < m
+  kept_spans : (p : FeasibilityProblem A) (t : SimplexTable A) (r c : ℕ) → r < m → F.ring.mul (t.entry r c) (F.order.inv (t.entry r c)) ≡ F.ring.unit → HasInvariants F m n p t → (k j : ℕ) → k < m
       → start_row F m n p k j ≡ sum_to F.ring m (λ i. F.ring.mul (start_row F m n p k ((pivot F t r c).basis i)) ((pivot F t r c).entry i j))
   kept_spans p t r c hr inverse h k j hk =
       pivot_sum F m n t r c (λ i. start_row F m n p k (t.basis i)) (λ j. start_row F m n p k j) hr inverse (λ j. h.spans k j hk) j
@@ -65,7 +65,7 @@ module _ {A : Type 0} (F : OrderedField A) (m n : ℕ) where
       by_test true i = refl
       by_test false i = refl
 
-  kept_costs : (p : FeasibilityProblem A) (t : Table A) (r c : ℕ) → r < m → c < n → F.ring.mul (t.entry r c) (F.order.inv (t.entry r c)) ≡ F.ring.unit → HasInvariants F m n p t → (j : ℕ)
+  kept_costs : (p : FeasibilityProblem A) (t : SimplexTable A) (r c : ℕ) → r < m → c < n → F.ring.mul (t.entry r c) (F.order.inv (t.entry r c)) ≡ F.ring.unit → HasInvariants F m n p t → (j : ℕ)
       → (pivot F t r c).entry m j ≡ sum_to F.ring m (λ i. F.ring.mul (cost_of F m n ((pivot F t r c).basis i)) ((pivot F t r c).entry i j))
   kept_costs p t r c hr hc inverse h j =
       other_row t r c m j (λ e. omega arith)
@@ -111,7 +111,7 @@ module _ {A : Type 0} (F : OrderedField A) (m n : ℕ) where
       ∙ ring F.ring (b ∷ r ∷ t ∷ u ∷ []) (plus (times (v 0) one) (minus (times (v 1) (times (v 2) (v 3))))) (plus (v 0) (minus (times (v 1) (times (v 2) (v 3))))) refl)
       (F.order.mul-least t (F.ring.add (F.ring.mul b w) (F.ring.neg (F.ring.mul r u))) ht h)
 
-  kept_rights : (p : FeasibilityProblem A) (t : Table A) (r c : ℕ) → HasInvariants F m n p t → MayEnter F m n t r c → (i : ℕ) → i < m → IsAtLeastZero F ((pivot F t r c).entry i (n + m))
+  kept_rights : (p : FeasibilityProblem A) (t : SimplexTable A) (r c : ℕ) → HasInvariants F m n p t → MayEnter F m n t r c → (i : ℕ) → i < m → IsAtLeastZero F ((pivot F t r c).entry i (n + m))
   kept_rights p t r c h l i hi = by_cases (cases_eq i r) (cases_Bool (F.order.is_least (F.ring.neg (t.entry i c))))
     where
       small : IsAtLeastZero F (F.order.inv (t.entry r c))
@@ -125,11 +125,11 @@ module _ {A : Type 0} (F : OrderedField A) (m n : ℕ) where
       by_cases (inr e) (inr q) = subst (IsAtLeastZero F) (sym (other_row t r c i (n + m) e))
           (kept_high (t.entry i (n + m)) (t.entry r (n + m)) (t.entry i c) (F.order.inv (t.entry r c)) (F.order.inv (t.entry i c)) (above-least F (t.entry i c) q) (inv-above F (t.entry i c) q) (l.least i hi q))
 
-  kept_units : (p : FeasibilityProblem A) (t : Table A) (r c : ℕ) → r < m → F.ring.mul (t.entry r c) (F.order.inv (t.entry r c)) ≡ F.ring.unit → HasInvariants F m n p t → (i k : ℕ) → i < m → k < m
+  kept_units : (p : FeasibilityProblem A) (t : SimplexTable A) (r c : ℕ) → r < m → F.ring.mul (t.entry r c) (F.order.inv (t.entry r c)) ≡ F.ring.unit → HasInvariants F m n p t → (i k : ℕ) → i < m → k < m
       → (pivot F t r c).entry i ((pivot F t r c).basis k) ≡ cond (eqb i k) F.ring.unit F.ring.null
   kept_units p t r c hr inverse h i k hi hk = by_cases (cases_eq k r) (cases_eq i r)
     where
-      to : Table A
+      to : SimplexTable A
       to = pivot F t r c
 
       is_null : (k ≡ r → ⊥) → t.entry r (t.basis k) ≡ F.ring.null
@@ -151,7 +151,7 @@ module _ {A : Type 0} (F : OrderedField A) (m n : ℕ) where
           ∙ ap₂ (λ x y. F.ring.add x (F.ring.neg (F.ring.mul y (F.ring.mul (t.entry i c) (F.order.inv (t.entry r c)))))) (h.units i k hi hk) (is_null d)
           ∙ ring F.ring (cond (eqb i k) F.ring.unit F.ring.null ∷ F.ring.mul (t.entry i c) (F.order.inv (t.entry r c)) ∷ []) (plus (v 0) (minus (times nil (v 1)))) (v 0) refl
 
-  pub pivot_keeps_invariants : (p : FeasibilityProblem A) (t : Table A) (r c : ℕ) → HasInvariants F m n p t → MayEnter F m n t r c → HasInvariants F m n p (pivot F t r c)
+  pub pivot_keeps_invariants : (p : FeasibilityProblem A) (t : SimplexTable A) (r c : ℕ) → HasInvariants F m n p t → MayEnter F m n t r c → HasInvariants F m n p (pivot F t r c)
   pivot_keeps_invariants p t r c h l = record {
     combines = kept_combines p t r c l.row h.combines;
     spans = kept_spans p t r c l.row inverse h;

@@ -1,7 +1,7 @@
 -- The merge of two rows under way.
 use Rattle.std.proofs.Common.{◌≡◌, ◌⊎◌, inl, inr, ℕ, ◌+◌, ◌<◌, ◌≤◌, pos, [], length, sym, ap, ap₂, subst, ◌∙◌, arith}
 use Rattle.std.proofs.lemmas.Bool.{cases_lt}
-use Rattle.it_rational.specs.Rational.{Rational, whole, plus, minus, times}
+use Rattle.it_rational.specs.Rational.{Rational, integer, plus, minus, times}
 use Rattle.it_fraction.specs.Fits.{IsNarrow}
 use Rattle.it_fraction.proofs.ZeroLemmas.{zero_narrow}
 use Rattle.it_tableau.specs.Fits.{EntryFits}
@@ -28,7 +28,7 @@ merge_begins width old by q a b = record {
 
 module _ (width : ℕ) (old by : RowTerms) (q : Rational) (i j : ℕ) (out : RowTerms) (m : IsMerging width old by q i j out) where
   -- columns at which neither row has a term
-  merge_skips : (c : ℕ) → m.next ≤ c → ((k : ℕ) → m.next ≤ k → k < c → entry_in old k ≡ whole (pos 0)) → ((k : ℕ) → m.next ≤ k → k < c → entry_in by k ≡ whole (pos 0))
+  merge_skips : (c : ℕ) → m.next ≤ c → ((k : ℕ) → m.next ≤ k → k < c → entry_in old k ≡ integer (pos 0)) → ((k : ℕ) → m.next ≤ k → k < c → entry_in by k ≡ integer (pos 0))
       → IsBuilt (less_at old by q) (λ k. EntryFits (entry_in old k) (entry_in by k) q) c out
   merge_skips c h ho hb = built_skip (less_at old by q) (λ k. EntryFits (entry_in old k) (entry_in by k) q) m.next c out h (λ k a l.
       let w = difference_of_null_entry (entry_in old k) (entry_in by k) q (subst IsNarrow (sym (ho k a l)) zero_narrow) (hb k a l) in (w.0, w.1 ∙ ho k a l)) m.merged
@@ -38,17 +38,17 @@ module _ (width : ℕ) (old by : RowTerms) (q : Rational) (i j : ℕ) (out : Row
   merge_adds c new v a e f b = built_more (less_at old by q) (λ k. EntryFits (entry_in old k) (entry_in by k) q) c out new v a e f b
 
   -- no term of a row before a column that the row's next term comes after
-  old_none : (c : ℕ) → (i < length old → c < column_at old i) → (k : ℕ) → m.next ≤ k → k < c + 1 → entry_in old k ≡ whole (pos 0)
+  old_none : (c : ℕ) → (i < length old → c < column_at old i) → (k : ℕ) → m.next ≤ k → k < c + 1 → entry_in old k ≡ integer (pos 0)
   old_none c h k a l = split (cases_lt i (length old))
     where
-      split : (i < length old) ⊎ (length old ≤ i) → entry_in old k ≡ whole (pos 0)
+      split : (i < length old) ⊎ (length old ≤ i) → entry_in old k ≡ integer (pos 0)
       split (inl x) = before_column width old i m.next m.old_rest x k a (let y = h x in omega (arith, y, l))
       split (inr x) = rest_over width old i m.next m.old_rest x k a
 
-  by_none : (c : ℕ) → (j < length by → c < column_at by j) → (k : ℕ) → m.next ≤ k → k < c + 1 → entry_in by k ≡ whole (pos 0)
+  by_none : (c : ℕ) → (j < length by → c < column_at by j) → (k : ℕ) → m.next ≤ k → k < c + 1 → entry_in by k ≡ integer (pos 0)
   by_none c h k a l = split (cases_lt j (length by))
     where
-      split : (j < length by) ⊎ (length by ≤ j) → entry_in by k ≡ whole (pos 0)
+      split : (j < length by) ⊎ (length by ≤ j) → entry_in by k ≡ integer (pos 0)
       split (inl x) = before_column width by j m.next m.by_rest x k a (let y = h x in omega (arith, y, l))
       split (inr x) = rest_over width by j m.next m.by_rest x k a
 

@@ -3,7 +3,7 @@ use Rattle.std.proofs.Common.{◌≡◌, ◌≢◌, ◌⊎◌, inl, inr, ℕ, ze
 use Rattle.std.proofs.lemmas.Bool.{cases_lt, eq-eqb, ne_eqb}
 use Rattle.std.specs.List.Sorted.{IsNonDecreasingBy, IsPartitionPoint}
 use Rattle.std.specs.Ordering.{ordering_index, nat_cmp}
-use Rattle.it_rational.specs.Rational.{Rational, whole}
+use Rattle.it_rational.specs.Rational.{Rational, integer}
 use Rattle.it_tableau.specs.SparseRows.{RowTerms, entry_in, Climbs}
 use Rattle.it_space.proofs.CanonicalRows.{rank_rises, ordered_apart}
 
@@ -24,7 +24,7 @@ entry_of_term from to (t ∷ ts) (suc i) d a h =
     let beyond = (climbs_far (suc t.0) to ts i i d a.3 (omega arith) later).0 in
     ap (λ b. cond b t.1 (entry_in ts (get_or ts i d).0)) (ne_eqb t.0 (get_or ts i d).0 (λ e. omega (arith, beyond, e))) ∙ entry_of_term (suc t.0) to ts i d a.3 later
 
-entry_without_term : (ts : RowTerms) (c : ℕ) → ((i : ℕ) (d : ℕ × Rational) → i < length ts → (get_or ts i d).0 ≢ c) → entry_in ts c ≡ whole (pos 0)
+entry_without_term : (ts : RowTerms) (c : ℕ) → ((i : ℕ) (d : ℕ × Rational) → i < length ts → (get_or ts i d).0 ≢ c) → entry_in ts c ≡ integer (pos 0)
 entry_without_term [] c h = refl
 entry_without_term (t ∷ ts) c h = ap (λ b. cond b t.1 (entry_in ts c)) (ne_eqb t.0 c (h 0 t (omega arith))) ∙ entry_without_term ts c (λ i d l. h (suc i) d (omega arith))
 
@@ -33,7 +33,7 @@ pub ranks_rise : (to : ℕ) (ts : RowTerms) (c : ℕ) → Climbs 0 to ts → IsN
 ranks_rise to ts c a = λ i j d h l. rank_rises (get_or ts i d).0 (get_or ts j d).0 c (climbs_far 0 to ts i j d a h l).1
 
 -- where each term lies before or behind a column, its number is 0
-pub entry_where_search_fails : (ts : RowTerms) (c i : ℕ) → IsPartitionPoint (λ (t : ℕ × Rational). nat_cmp t.0 c ≡ Less) (λ (t : ℕ × Rational). nat_cmp t.0 c ≡ Greater) ts i → entry_in ts c ≡ whole (pos 0)
+pub entry_where_search_fails : (ts : RowTerms) (c i : ℕ) → IsPartitionPoint (λ (t : ℕ × Rational). nat_cmp t.0 c ≡ Less) (λ (t : ℕ × Rational). nat_cmp t.0 c ≡ Greater) ts i → entry_in ts c ≡ integer (pos 0)
 entry_where_search_fails ts c i p = entry_without_term ts c (λ k d l. by_cases k d l (cases_lt k i))
   where
     by_cases : (k : ℕ) (d : ℕ × Rational) → k < length ts → (k < i) ⊎ (i ≤ k) → (get_or ts k d).0 ≢ c

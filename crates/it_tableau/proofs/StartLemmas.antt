@@ -5,7 +5,7 @@ use Rattle.it_number.proofs.Ring.{ring, v, times, minus, one}
 use Rattle.it_rational.proofs.Ordered.{below-neg}
 use Rattle.it_rational.specs.OrderedFields.{OrderedField, IsAtLeastZero}
 use Rattle.it_tableau.specs.Sums.{sum_to}
-use Rattle.it_tableau.specs.Tables.{FeasibilityProblem, sign, start_row, start}
+use Rattle.it_tableau.specs.SimplexTables.{FeasibilityProblem, sign, start_row, start}
 use Rattle.it_tableau.specs.Invariants.{cost_of, HasInvariants}
 use Rattle.it_tableau.proofs.Sums.{sum_same, sum_times_left, sum_one, sum_unit, eqb_comm}
 

@@ -10,7 +10,7 @@ use Rattle.it_tableau.specs.Problems.{feasibility_problem}
 use Rattle.it_tableau.specs.Entries.{row_at}
 use Rattle.it_tableau.specs.Rows.{IsWholeNumber, ListsValues}
 use Rattle.it_tableau.specs.StartRows.{AreStartRows}
-use Rattle.it_tableau.specs.Tables.{start_row}
+use Rattle.it_tableau.specs.SimplexTables.{start_row}
 
 -- one row more
 pub start_rows_more : (cs : List ℕ) (columns : List Terms) (target : Terms) (k : ℕ) (rows : List (List Rational)) (x : List Rational) → AreStartRows cs columns target k rows

@@ -17,7 +17,7 @@ use Rattle.it_tableau.specs.Entries.{entry_at, row_at}
 use Rattle.it_tableau.specs.Rows.{column_sum, ColumnsFit, ListsValues}
 use Rattle.it_tableau.specs.StartRows.{AreStartRows}
 use Rattle.it_tableau.specs.TableauViews.{table_of}
-use Rattle.it_tableau.specs.Tables.{FeasibilityProblem, Table, sign, start_row}
+use Rattle.it_tableau.specs.SimplexTables.{FeasibilityProblem, SimplexTable, sign, start_row}
 use Rattle.it_tableau.proofs.Sums.{sum_same, sum_null}
 use Rattle.it_tableau.proofs.ViewLemmas.{entry_past_end, entry_past_rows, same_functions}
 use Rattle.it_tableau.proofs.WholeNumbers.{sums_narrow, sums_fit}
@@ -35,11 +35,11 @@ module _ (cs : List ℕ) (columns : List Terms) (target : Terms) where
   entry k j = start_row field_ℚ (length cs) (length columns) (feasibility_problem cs columns target) k j
 
   -- past the right side a row of the start has nothing
-  entry_past : (k j : ℕ) → k < length cs → length columns + length cs + 1 ≤ j → entry k j ≡ Q.whole (pos 0)
+  entry_past : (k j : ℕ) → k < length cs → length columns + length cs + 1 ≤ j → entry k j ≡ Q.integer (pos 0)
   entry_past k j h l =
       let p : FeasibilityProblem Rational = feasibility_problem cs columns target in
-      ap (λ b. cond b (Q.times (sign field_ℚ p k) (p.column j k)) (cond (eqb j (n + m)) (Q.times (sign field_ℚ p k) (p.target k)) (cond (eqb j (n + k)) (Q.whole (pos 1)) (Q.whole (pos 0))))) (le-ltb j n (omega arith))
-      ∙ ap₂ (λ b d. cond b (Q.times (sign field_ℚ p k) (p.target k)) (cond d (Q.whole (pos 1)) (Q.whole (pos 0)))) (ne_eqb j (n + m) (λ e. omega arith)) (ne_eqb j (n + k) (λ e. omega arith))
+      ap (λ b. cond b (Q.times (sign field_ℚ p k) (p.column j k)) (cond (eqb j (n + m)) (Q.times (sign field_ℚ p k) (p.target k)) (cond (eqb j (n + k)) (Q.integer (pos 1)) (Q.integer (pos 0))))) (le-ltb j n (omega arith))
+      ∙ ap₂ (λ b d. cond b (Q.times (sign field_ℚ p k) (p.target k)) (cond d (Q.integer (pos 1)) (Q.integer (pos 0)))) (ne_eqb j (n + m) (λ e. omega arith)) (ne_eqb j (n + k) (λ e. omega arith))
 
   module _ (rows : List (List Rational)) (a : AreStartRows cs columns target (length cs) rows) where
     sum_is : (k j : ℕ) → k ≤ length cs → j < length columns + length cs + 1 → column_sum rows j k ≡ sum_to ring_ℚ k (λ i. entry i j)
@@ -61,8 +61,8 @@ module _ (cs : List ℕ) (columns : List Terms) (target : Terms) where
       cost_is : (j : ℕ) → j < length columns + length cs + 1 → entry_at cost j ≡ Q.minus (sum_to ring_ℚ (length cs) (λ i. entry i j))
       cost_is j l = s.entries j l ∙ ap (λ k. Q.minus (column_sum rows j k)) a.rows_are ∙ ap Q.minus (sum_is m j (omega arith) l)
 
-      cost_past : (j : ℕ) → length columns + length cs + 1 ≤ j → Q.minus (sum_to ring_ℚ (length cs) (λ i. entry i j)) ≡ Q.whole (pos 0)
-      cost_past j l = ap Q.minus (sum_same ring_ℚ m (λ i. entry i j) (λ i. Q.whole (pos 0)) (λ i q. entry_past i j q l) ∙ sum_null ring_ℚ m) ∙ ring ring_ℚ [] (minus nil) nil refl
+      cost_past : (j : ℕ) → length columns + length cs + 1 ≤ j → Q.minus (sum_to ring_ℚ (length cs) (λ i. entry i j)) ≡ Q.integer (pos 0)
+      cost_past j l = ap Q.minus (sum_same ring_ℚ m (λ i. entry i j) (λ i. Q.integer (pos 0)) (λ i q. entry_past i j q l) ∙ sum_null ring_ℚ m) ∙ ring ring_ℚ [] (minus nil) nil refl
 
       all : List (List Rational)
       all = rows ++ cost ∷ []
@@ -76,25 +76,25 @@ module _ (cs : List ℕ) (columns : List Terms) (target : Terms) where
       all_length : length (rows ++ cost ∷ []) ≡ length cs + 1
       all_length = length-append rows (cost ∷ []) ∙ (let l = a.rows_are in omega (arith, l))
 
-      opened : (i j : ℕ) → (start_of cs columns target).entry i j ≡ cond (ltb i (length cs)) (entry i j) (cond (eqb i (length cs)) (Q.minus (sum_to ring_ℚ (length cs) (λ k. entry k j))) (Q.whole (pos 0)))
+      opened : (i j : ℕ) → (start_of cs columns target).entry i j ≡ cond (ltb i (length cs)) (entry i j) (cond (eqb i (length cs)) (Q.minus (sum_to ring_ℚ (length cs) (λ k. entry k j))) (Q.integer (pos 0)))
       opened i j = refl
 
       entries : (i j : ℕ) → (i < length cs) ⊎ (length cs ≤ i) → (i ≡ length cs) ⊎ (i ≡ length cs → ⊥) → (j < length columns + length cs + 1) ⊎ (length columns + length cs + 1 ≤ j)
           → entry_at (row_at (rows ++ cost ∷ []) i) j ≡ (start_of cs columns target).entry i j
       entries i j (inl h) e w = ap (λ r. entry_at r j) (upper i h) ∙ split w
-          ∙ ap (λ b. cond b (entry i j) (cond (eqb i m) (Q.minus (sum_to ring_ℚ m (λ k. entry k j))) (Q.whole (pos 0)))) (sym (lt-ltb i m h))
+          ∙ ap (λ b. cond b (entry i j) (cond (eqb i m) (Q.minus (sum_to ring_ℚ m (λ k. entry k j))) (Q.integer (pos 0)))) (sym (lt-ltb i m h))
         where
           split : (j < length columns + length cs + 1) ⊎ (length columns + length cs + 1 ≤ j) → entry_at (row_at rows i) j ≡ entry i j
           split (inl l) = (a.entries_are i h).entries j l
           split (inr l) = entry_past_end (row_at rows i) j (omega (arith, (a.entries_are i h).length_is)) ∙ sym (entry_past i j h l)
       entries i j (inr h) (inl e) w = ap (λ r. entry_at r j) (last i e) ∙ split w
-          ∙ ap₂ (λ b d. cond b (entry i j) (cond d (Q.minus (sum_to ring_ℚ m (λ k. entry k j))) (Q.whole (pos 0)))) (sym (le-ltb i m h)) (sym (eq-eqb i m e))
+          ∙ ap₂ (λ b d. cond b (entry i j) (cond d (Q.minus (sum_to ring_ℚ m (λ k. entry k j))) (Q.integer (pos 0)))) (sym (le-ltb i m h)) (sym (eq-eqb i m e))
         where
           split : (j < length columns + length cs + 1) ⊎ (length columns + length cs + 1 ≤ j) → entry_at cost j ≡ Q.minus (sum_to ring_ℚ (length cs) (λ k. entry k j))
           split (inl l) = cost_is j l
           split (inr l) = entry_past_end cost j (omega (arith, s.length_is)) ∙ sym (cost_past j l)
       entries i j (inr h) (inr d) w = entry_past_rows (rows ++ cost ∷ []) i j (omega (arith, all_length))
-          ∙ ap₂ (λ b d. cond b (entry i j) (cond d (Q.minus (sum_to ring_ℚ m (λ k. entry k j))) (Q.whole (pos 0)))) (sym (le-ltb i m h)) (sym (ne_eqb i m d))
+          ∙ ap₂ (λ b d. cond b (entry i j) (cond d (Q.minus (sum_to ring_ℚ m (λ k. entry k j))) (Q.integer (pos 0)))) (sym (le-ltb i m h)) (sym (ne_eqb i m d))
 
       module _ (basis : List ℕ) (count : length basis ≡ length cs) (value : (i : ℕ) → i < length cs → slice_index_or basis i 0 ≡ length columns + i) where
         basic : (i : ℕ) → (i < length cs) ⊎ (length cs ≤ i) → slice_index_or basis i 0 ≡ (start_of cs columns target).basis i
@@ -102,6 +102,6 @@ module _ (cs : List ℕ) (columns : List Terms) (target : Terms) where
         basic i (inr h) = get_or_past basis i 0 (omega (arith, count)) ∙ ap (λ b. cond b (n + i) 0) (sym (le-ltb i m h))
 
         pub start_shown : table_of (rows ++ cost ∷ []) basis ≡ start_of cs columns target
-        start_shown = ap₂ (λ (e : ℕ → ℕ → Rational) (b : ℕ → ℕ). let t : Table Rational = record { entry = e; basis = b } in t)
+        start_shown = ap₂ (λ (e : ℕ → ℕ → Rational) (b : ℕ → ℕ). let t : SimplexTable Rational = record { entry = e; basis = b } in t)
             (same_functions (λ i. same_functions (λ j. entries i j (cases_lt i m) (cases_eq i m) (cases_lt j (n + m + 1)))))
             (same_functions (λ i. basic i (cases_lt i m)))

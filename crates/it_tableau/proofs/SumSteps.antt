@@ -1,9 +1,9 @@
 -- The sums of the columns while a row is added, and row after row.
 use Rattle.std.proofs.Common.{◌≡◌, ◌⊎◌, inl, inr, ℕ, suc, ◌+◌, ◌<◌, ◌≤◌, List, pos, length, sym, ap, subst, ◌∙◌, arith}
 use Rattle.std.proofs.lemmas.Bool.{cases_eq, cases_lt}
-use Rattle.it_rational.specs.Rational.{Rational, whole, plus}
+use Rattle.it_rational.specs.Rational.{Rational, integer, plus}
 use Rattle.it_fraction.specs.Fits.{IsNarrow, SumFits}
-use Rattle.it_fraction.proofs.ZeroLemmas.{zero-sum, zero-sum-fits}
+use Rattle.it_fraction.proofs.ZeroLemmas.{zero-sum, zero-sum-fits, top_of_zero}
 use Rattle.it_tableau.specs.Merging.{column_at, number_of_term}
 use Rattle.it_tableau.specs.Entries.{entry_at, row_at}
 use Rattle.it_tableau.specs.Rows.{column_sum, ColumnFits}
@@ -11,7 +11,6 @@ use Rattle.it_tableau.specs.SparseRows.{RowTerms, entry_in, Climbs, ListsEntries
 use Rattle.it_tableau.specs.Summing.{IsRowAdded, AreColumnSums, AreNarrow, IsNumberAdded, SumsFit}
 use Rattle.it_tableau.proofs.Building.{at_column, before_column, column_from, column_within, rest_next, rest_over, IsRest}
 use Rattle.it_tableau.proofs.RowsLemmas.{fits_more}
-use Rattle.it_tableau.proofs.Zeros.{top_from_null}
 
 -- the terms of the columns below next are added, and the other sums stay
 pub record IsRowAdditionUnderWay (terms : RowTerms) (old : List Rational) (i : ℕ) (now : List Rational) : Type 0 where
@@ -22,12 +21,12 @@ pub record IsRowAdditionUnderWay (terms : RowTerms) (old : List Rational) (i : �
   pub rest : IsRest (length old) terms i next
 
 -- where a row has no number the sum stays
-null_is_added : (x s : Rational) → x ≡ whole (pos 0) → IsNarrow s → SumFits x s × (s ≡ plus x s)
-null_is_added x s e n = (zero-sum-fits x s (top_from_null x e) n, sym (zero-sum x s (top_from_null x e)))
+null_is_added : (x s : Rational) → x ≡ integer (pos 0) → IsNarrow s → SumFits x s × (s ≡ plus x s)
+null_is_added x s e n = (zero-sum-fits x s (top_of_zero x e) n, sym (zero-sum x s (top_of_zero x e)))
 
 module _ (terms : RowTerms) (old : List Rational) (narrow : AreNarrow old) (i : ℕ) (now : List Rational) (w : IsRowAdditionUnderWay terms old i now) where
   -- a column of which no term is left
-  null_column_is_done : (j : ℕ) → w.next ≤ j → j < length old → entry_in terms j ≡ whole (pos 0)
+  null_column_is_done : (j : ℕ) → w.next ≤ j → j < length old → entry_in terms j ≡ integer (pos 0)
       → SumFits (entry_in terms j) (entry_at old j) × (entry_at now j ≡ plus (entry_in terms j) (entry_at old j)) × IsNarrow (entry_at now j)
   null_column_is_done j l h e = let a = null_is_added (entry_in terms j) (entry_at old j) e (narrow j h) in (a.0, w.left j l ∙ a.1, subst IsNarrow (sym (w.left j l)) (narrow j h))
 

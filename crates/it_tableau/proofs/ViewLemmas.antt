@@ -7,7 +7,7 @@ use Rattle.it_rational.specs.Rational.{Rational}
 use Rattle.it_rational.specs.Rational as Q
 use Rattle.it_rational.proofs.RationalLaws.{ring_ℚ}
 use Rattle.it_rational.proofs.Field.{field_ℚ}
-use Rattle.it_tableau.specs.Tables.{Table, pivot}
+use Rattle.it_tableau.specs.SimplexTables.{SimplexTable, pivot}
 use Rattle.it_tableau.specs.Entries.{entry_at, row_at, zero_rational}
 use Rattle.it_tableau.specs.Rows.{RowsPivotFits, ArePivoted}
 use Rattle.it_tableau.specs.Fits.{PivotFits}
@@ -16,15 +16,15 @@ use Rattle.it_tableau.specs.TableauViews.{table_of, HasShape, IsSound}
 pub same_functions : {X : Type 0} {f g : ℕ → X} → ((k : ℕ) → f k ≡ g k) → f ≡ g
 same_functions h = λ i x. h x i
 
-zero_is : zero_rational ≡ Q.whole (pos 0)
+zero_is : zero_rational ≡ Q.integer (pos 0)
 unfolding zero_rational
 zero_is = refl
 
 -- past the end a list reads 0
-pub entry_past_end : (row : List Rational) (j : ℕ) → length row ≤ j → entry_at row j ≡ Q.whole (pos 0)
+pub entry_past_end : (row : List Rational) (j : ℕ) → length row ≤ j → entry_at row j ≡ Q.integer (pos 0)
 entry_past_end row j h = get_or_past row j zero_rational h ∙ zero_is
 
-pub entry_past_rows : (rows : List (List Rational)) (i j : ℕ) → length rows ≤ i → entry_at (row_at rows i) j ≡ Q.whole (pos 0)
+pub entry_past_rows : (rows : List (List Rational)) (i j : ℕ) → length rows ≤ i → entry_at (row_at rows i) j ≡ Q.integer (pos 0)
 entry_past_rows rows i j h = ap (λ r. entry_at r j) (get_or_past rows i [] h) ∙ entry_past_end [] j (omega arith)
 
 pub new_shape : (m n : ℕ) (old new : List (List Rational)) (basis : List ℕ) (r c : ℕ) → r < m → HasShape m n old basis → ArePivoted old r c new → HasShape m n new (slice_set basis r c)
@@ -40,7 +40,7 @@ new_shape m n old new basis r c hr s p = record {
 
 pub pivot_is_shown : (m n : ℕ) (old new : List (List Rational)) (basis : List ℕ) (r c : ℕ) → r < m → c < n + m → HasShape m n old basis → ArePivoted old r c new
     → table_of new (slice_set basis r c) ≡ pivot field_ℚ (table_of old basis) r c
-pivot_is_shown m n old new basis r c hr hc s p = ap₂ (λ (e : ℕ → ℕ → Rational) (b : ℕ → ℕ). let t : Table Rational = record { entry = e; basis = b } in t)
+pivot_is_shown m n old new basis r c hr hc s p = ap₂ (λ (e : ℕ → ℕ → Rational) (b : ℕ → ℕ). let t : SimplexTable Rational = record { entry = e; basis = b } in t)
     (same_functions (λ i. same_functions (λ j. entry i j (cases_lt i (m + 1)) (cases_lt j (n + m + 1)) (cases_eq i r))))
     (same_functions (λ i. column i (cases_eq i r)))
   where
@@ -59,13 +59,13 @@ pivot_is_shown m n old new basis r c hr hc s p = ap₂ (λ (e : ℕ → ℕ → 
     other i j d = ap (λ b. cond b (Q.times (entry_at (row_at old r) j) (Q.inverse (entry_at (row_at old r) c)))
         (Q.plus (entry_at (row_at old i) j) (Q.minus (Q.times (entry_at (row_at old r) j) (Q.times (entry_at (row_at old i) c) (Q.inverse (entry_at (row_at old r) c))))))) (ne_eqb i r d)
 
-    zero_times : (x y : Rational) → x ≡ Q.whole (pos 0) → Q.times x y ≡ Q.whole (pos 0)
+    zero_times : (x y : Rational) → x ≡ Q.integer (pos 0) → Q.times x y ≡ Q.integer (pos 0)
     zero_times x y e = ap (λ z. Q.times z y) e ∙ ring ring_ℚ (y ∷ []) (times nil (v 0)) nil refl
 
-    zero_less : (a x q : Rational) → a ≡ Q.whole (pos 0) → x ≡ Q.whole (pos 0) → Q.plus a (Q.minus (Q.times x q)) ≡ Q.whole (pos 0)
+    zero_less : (a x q : Rational) → a ≡ Q.integer (pos 0) → x ≡ Q.integer (pos 0) → Q.plus a (Q.minus (Q.times x q)) ≡ Q.integer (pos 0)
     zero_less a x q e f = ap₂ (λ y z. Q.plus y (Q.minus (Q.times z q))) e f ∙ ring ring_ℚ (q ∷ []) (plus nil (minus (times nil (v 0)))) nil refl
 
-    zero_quotient : (a x y u : Rational) → a ≡ Q.whole (pos 0) → y ≡ Q.whole (pos 0) → Q.plus a (Q.minus (Q.times x (Q.times y u))) ≡ Q.whole (pos 0)
+    zero_quotient : (a x y u : Rational) → a ≡ Q.integer (pos 0) → y ≡ Q.integer (pos 0) → Q.plus a (Q.minus (Q.times x (Q.times y u))) ≡ Q.integer (pos 0)
     zero_quotient a x y u e f = ap₂ (λ b z. Q.plus b (Q.minus (Q.times x (Q.times z u)))) e f ∙ ring ring_ℚ (x ∷ u ∷ []) (plus nil (minus (times (v 0) (times nil (v 1))))) nil refl
 
     entry : (i j : ℕ) → (i < m + 1) ⊎ (m + 1 ≤ i) → (j < n + m + 1) ⊎ (n + m + 1 ≤ j) → (i ≡ r) ⊎ (i ≡ r → ⊥) → entry_at (row_at new i) j ≡ (pivot field_ℚ (table_of old basis) r c).entry i j

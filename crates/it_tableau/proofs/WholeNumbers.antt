@@ -3,7 +3,7 @@ use Rattle.std.proofs.Common.{◌≡◌, Bool, true, false, cond, ℕ, zero, suc
 use Rattle.std.proofs.lemmas.Int.{ints}
 use Rattle.it_number.specs.Limit.{IsWithin}
 use Rattle.it_number.proofs.Quotients.{one_pos}
-use Rattle.it_rational.specs.Rational.{Rational, whole, minus, times}
+use Rattle.it_rational.specs.Rational.{Rational, integer, minus, times}
 use Rattle.it_rational.proofs.Names.{own_parts}
 use Rattle.it_rational.proofs.RationalLaws.{ring_ℚ}
 use Rattle.it_fraction.specs.Fits.{IsNarrow, SumFits}
@@ -12,10 +12,10 @@ use Rattle.it_tableau.specs.Rows.{IsWholeNumber}
 use Rattle.it_tableau.specs.Sums.{sum_to}
 use native.Mathlib.Nat.{one-dvd}
 
-whole_parts : (z : ℤ) → ((whole z).num ≡ z) × ((whole z).den ≡ 1)
+whole_parts : (z : ℤ) → ((integer z).num ≡ z) × ((integer z).den ≡ 1)
 whole_parts z = own_parts z 1 one_pos (one-dvd (unsigned_abs z), one-dvd 1, λ d p q. q)
 
-pub whole_number : (z : ℤ) → IsWithin z → IsWholeNumber (whole z)
+pub whole_number : (z : ℤ) → IsWithin z → IsWholeNumber (integer z)
 whole_number z h = record { whole_is = (whole_parts z).1; narrow = (whole-narrow z).0 h }
 
 pub minus_number : (q : Rational) → IsWholeNumber q → IsWholeNumber (minus q)
@@ -24,10 +24,10 @@ minus_number q w = record { whole_is = (own_parts (neg_ℤ q.num) q.den q.positi
     size : (z : ℤ) → unsigned_abs (neg_ℤ z) ≡ unsigned_abs z
     size z = omega (arith, ints)
 
-pub zero_number : IsWholeNumber (whole (pos 0))
+pub zero_number : IsWholeNumber (integer (pos 0))
 zero_number = whole_number (pos 0) (lit< tt)
 
-pub one_number : IsWholeNumber (whole (pos 1))
+pub one_number : IsWholeNumber (integer (pos 1))
 one_number = whole_number (pos 1) (lit< tt)
 
 -- the sum of f k for k below a number, where these are whole numbers within the limit
@@ -54,12 +54,12 @@ module _ (m : ℕ) (f : ℕ → Rational) (wholes : (k : ℕ) → k < m → IsWh
       ((whole-narrow ((f k).num +ℤ (sum_to ring_ℚ k f).num)).1 (subst IsNarrow (sym (whole-sum (f k) (sum_to ring_ℚ k f) w.whole_is d)) (narrow (suc k) (omega arith))))
 
 -- a whole number with a sign is whole
-pub signed_den : (kept : Bool) (z : ℤ) → (times (cond kept (whole (pos 1)) (minus (whole (pos 1)))) (whole z)).den ≡ 1
-signed_den kept z = product_den (cond kept (whole (pos 1)) (minus (whole (pos 1)))) (whole z) (sign_den kept) (whole_parts z).1
+pub signed_den : (kept : Bool) (z : ℤ) → (times (cond kept (integer (pos 1)) (minus (integer (pos 1)))) (integer z)).den ≡ 1
+signed_den kept z = product_den (cond kept (integer (pos 1)) (minus (integer (pos 1)))) (integer z) (sign_den kept) (whole_parts z).1
   where
     product_den : (x y : Rational) → x.den ≡ 1 → y.den ≡ 1 → (times x y).den ≡ 1
     product_den x y d e = ap (λ (q : Rational). q.den) (sym (whole-product x y d e)) ∙ (whole_parts (x.num *ℤ y.num)).1
 
-    sign_den : (b : Bool) → (cond b (whole (pos 1)) (minus (whole (pos 1)))).den ≡ 1
+    sign_den : (b : Bool) → (cond b (integer (pos 1)) (minus (integer (pos 1)))).den ≡ 1
     sign_den true = one_number.whole_is
-    sign_den false = (minus_number (whole (pos 1)) one_number).whole_is
+    sign_den false = (minus_number (integer (pos 1)) one_number).whole_is

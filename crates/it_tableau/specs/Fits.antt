@@ -6,7 +6,7 @@ use Rattle.it_rational.proofs.RationalLaws.{ring_ℚ}
 use Rattle.it_rational.proofs.Field.{field_ℚ}
 use Rattle.it_fraction.specs.Fits.{IsNarrow, DifferenceFits}
 use Rattle.it_tableau.specs.Sums.{sum_to}
-use Rattle.it_tableau.specs.Tables.{Table, FeasibilityProblem, start_row}
+use Rattle.it_tableau.specs.SimplexTables.{SimplexTable, FeasibilityProblem, start_row}
 
 -- each partial sum of the cost row, in the order of the rows
 abbrev pub StartFits : ℕ → ℕ → FeasibilityProblem Rational → Type 0
@@ -23,7 +23,7 @@ pub record EntryFits (x y q : Rational) : Type 0 where
 
 -- the numbers of the pivot at row r and column c: for each other row, the cost row too, its quotient and what its entries and
 -- its right side become; and the quotients that row r becomes
-pub record PivotFits (m n : ℕ) (t : Table Rational) (r c : ℕ) : Type 0 where
+pub record PivotFits (m n : ℕ) (t : SimplexTable Rational) (r c : ℕ) : Type 0 where
   pub quotients : (i : ℕ) → i < m + 1 → i ≢ r → QuotientFits (t.entry i c) (t.entry r c)
   pub entries : (i j : ℕ) → i < m + 1 → i ≢ r → j < n + m + 1 → EntryFits (t.entry i j) (t.entry r j) (times (t.entry i c) (inverse (t.entry r c)))
   pub own : (j : ℕ) → j < n + m + 1 → QuotientFits (t.entry r j) (t.entry r c)

@@ -6,7 +6,7 @@ use Rattle.it_space.specs.Rows.{Terms}
 use Rattle.it_tableau.specs.Merging.{IsAppended}
 use Rattle.it_tableau.specs.Problems.{feasibility_problem}
 use Rattle.it_tableau.specs.SparseRows.{RowTerms, ListsEntries}
-use Rattle.it_tableau.specs.Tables.{start_row}
+use Rattle.it_tableau.specs.SimplexTables.{start_row}
 
 -- each coordinate is below all later ones
 abbrev pub IsAscending : List ℕ → Type 0

@@ -2,7 +2,7 @@
 use Rattle.std.specs.Prelude.{◌≡◌, ◌⊎◌, ℕ, ◌+◌, ◌<◌, ◌≤◌, cond, eqb, ltb}
 use Rattle.it_rational.specs.OrderedFields.{OrderedField, IsAtLeastZero, IsAboveZero}
 use Rattle.it_tableau.specs.Sums.{sum_to}
-use Rattle.it_tableau.specs.Tables.{Table, FeasibilityProblem, difference, start_row, ratio}
+use Rattle.it_tableau.specs.SimplexTables.{SimplexTable, FeasibilityProblem, difference, start_row, ratio}
 
 module _ {A : Type 0} (F : OrderedField A) (m n : ℕ) where
   -- the cost of a basic column: 0, and -1 where it is an artificial
@@ -10,11 +10,11 @@ module _ {A : Type 0} (F : OrderedField A) (m n : ℕ) where
   cost_of j = cond (ltb j n) F.ring.null (F.ring.neg F.ring.unit)
 
   -- each row, the cost row too, is the sum of its entries at the artificials times the start rows
-  abbrev pub CombinesStart : FeasibilityProblem A → Table A → Type 0
+  abbrev pub CombinesStart : FeasibilityProblem A → SimplexTable A → Type 0
   CombinesStart p t = (i j : ℕ) → i ≤ m → t.entry i j ≡ sum_to F.ring m (λ k. F.ring.mul (t.entry i (n + k)) (start_row F m n p k j))
 
   -- what every table of a run from the start of p keeps
-  pub record HasInvariants (p : FeasibilityProblem A) (t : Table A) : Type 0 where
+  pub record HasInvariants (p : FeasibilityProblem A) (t : SimplexTable A) : Type 0 where
     pub combines : CombinesStart p t
     -- each start row is the sum of its entries at the basic columns times the rows
     pub spans : (k j : ℕ) → k < m → start_row F m n p k j ≡ sum_to F.ring m (λ i. F.ring.mul (start_row F m n p k (t.basis i)) (t.entry i j))
@@ -28,7 +28,7 @@ module _ {A : Type 0} (F : OrderedField A) (m n : ℕ) where
     pub own : (k : ℕ) → k < m → (t.basis k < n) ⊎ (t.basis k ≡ n + k)
 
   -- column c may become basic in row r: it is no artificial, its entry is above 0, and no row with such an entry has a smaller ratio
-  pub record MayEnter (t : Table A) (r c : ℕ) : Type 0 where
+  pub record MayEnter (t : SimplexTable A) (r c : ℕ) : Type 0 where
     pub column : c < n
     pub row : r < m
     pub above : IsAboveZero F (t.entry r c)

@@ -1,7 +1,7 @@
 pub mod Summing
 pub mod Gathering
 pub mod Sums
-pub mod Tables
+pub mod SimplexTables
 pub mod Invariants
 pub mod Problems
 pub mod Fits

@@ -1,6 +1,6 @@
 -- No public clause cites this module: what the merge and the division make of terms.
 use Rattle.std.specs.Prelude.{◌≡◌, ◌≢◌, ◌⊎◌, ◌++◌, length, slice_index_or, ℕ, ◌<◌, pos, [], ◌∷◌}
-use Rattle.it_rational.specs.Rational.{Rational, whole, plus, minus, times, inverse}
+use Rattle.it_rational.specs.Rational.{Rational, integer, plus, minus, times, inverse}
 use Rattle.it_fraction.specs.Fits.{IsNarrow}
 use Rattle.it_tableau.specs.Fits.{EntryFits, QuotientFits}
 use Rattle.it_tableau.specs.SparseRows.{RowTerms, entry_in, Climbs}
@@ -31,15 +31,15 @@ pub record AreDivided (old : RowTerms) (p : Rational) (width : ℕ) (out : RowTe
 
 -- a term is put behind, unless its number is 0
 abbrev pub IsAppended : RowTerms → ℕ → Rational → RowTerms → Type 0
-IsAppended out c v new = ((v ≡ whole (pos 0)) × (new ≡ out)) ⊎ ((v ≢ whole (pos 0)) × IsNarrow v × (new ≡ out ++ (c, v) ∷ []))
+IsAppended out c v new = ((v ≡ integer (pos 0)) × (new ≡ out)) ⊎ ((v ≢ integer (pos 0)) × IsNarrow v × (new ≡ out ++ (c, v) ∷ []))
 
 -- the column of term i
 abbrev pub column_at : RowTerms → ℕ → ℕ
-column_at terms i = (slice_index_or terms i (0, whole (pos 0))).0
+column_at terms i = (slice_index_or terms i (0, integer (pos 0))).0
 
 -- the number of term i
 abbrev pub number_of_term : RowTerms → ℕ → Rational
-number_of_term terms i = (slice_index_or terms i (0, whole (pos 0))).1
+number_of_term terms i = (slice_index_or terms i (0, integer (pos 0))).1
 
 -- which of the rows has the next term
 abbrev pub IsSide : RowTerms → RowTerms → ℕ → ℕ → Side → Type 0

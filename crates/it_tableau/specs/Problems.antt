@@ -1,17 +1,17 @@
 -- The problem of sparse rows: the coordinates are the table's rows, each row of the list is a column.
 use Rattle.std.specs.Prelude.{ℕ, List, [], length, slice_index_or}
-use Rattle.it_rational.specs.Rational.{Rational, whole}
+use Rattle.it_rational.specs.Rational.{Rational, integer}
 use Rattle.it_rational.proofs.Field.{field_ℚ}
 use Rattle.it_space.specs.Rows.{Terms, coefficient}
-use Rattle.it_tableau.specs.Tables.{FeasibilityProblem, Table, start}
+use Rattle.it_tableau.specs.SimplexTables.{FeasibilityProblem, SimplexTable, start}
 
 -- the coefficients of the rows at the coordinates, as rational numbers
 abbrev pub feasibility_problem : List ℕ → List Terms → Terms → FeasibilityProblem Rational
 feasibility_problem coordinates columns target = record {
-  column = λ j k. whole (coefficient (slice_index_or columns j []) (slice_index_or coordinates k 0));
-  target = λ k. whole (coefficient target (slice_index_or coordinates k 0));
+  column = λ j k. integer (coefficient (slice_index_or columns j []) (slice_index_or coordinates k 0));
+  target = λ k. integer (coefficient target (slice_index_or coordinates k 0));
 }
 
 -- the start of its first phase
-abbrev pub start_of : List ℕ → List Terms → Terms → Table Rational
+abbrev pub start_of : List ℕ → List Terms → Terms → SimplexTable Rational
 start_of coordinates columns target = start field_ℚ (length coordinates) (length columns) (feasibility_problem coordinates columns target)

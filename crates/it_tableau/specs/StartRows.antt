@@ -3,7 +3,7 @@ use Rattle.std.specs.Prelude.{◌≡◌, ℕ, ◌+◌, ◌<◌, List, [], ◌∷
 use Rattle.it_rational.specs.Rational.{Rational, minus}
 use Rattle.it_space.specs.Rows.{Terms}
 use Rattle.it_rational.proofs.Field.{field_ℚ}
-use Rattle.it_tableau.specs.Tables.{start_row}
+use Rattle.it_tableau.specs.SimplexTables.{start_row}
 use Rattle.it_tableau.specs.Entries.{row_at}
 use Rattle.it_tableau.specs.Rows.{column_sum, IsWholeNumber, ListsValues}
 use Rattle.it_tableau.specs.Problems.{feasibility_problem}

@@ -1,8 +1,8 @@
 -- What contracts see of a tableau.
 use Rattle.std.specs.Prelude.{◌≡◌, ℕ, ◌+◌, ◌<◌, Bool, false, not, List, length, slice_index_or}
-use Rattle.it_rational.specs.Rational.{Rational, minus, whole, is_at_least_zero}
+use Rattle.it_rational.specs.Rational.{Rational, minus, integer, is_at_least_zero}
 use Rattle.it_space.specs.Rows.{Terms, coefficient}
-use Rattle.it_tableau.specs.Tables.{Table}
+use Rattle.it_tableau.specs.SimplexTables.{SimplexTable}
 use Rattle.it_tableau.specs.Entries.{entry_at, row_at}
 use Rattle.it_tableau.specs.Problems.{start_of}
 
@@ -28,11 +28,11 @@ abbrev pub width : TableauView → ℕ
 width t = t.generators + height t
 
 -- the table of lists of numbers, 0 where they have none
-abbrev pub table_of : List (List Rational) → List ℕ → Table Rational
+abbrev pub table_of : List (List Rational) → List ℕ → SimplexTable Rational
 table_of rows basis = record { entry = λ i j. entry_at (row_at rows i) j; basis = λ i. slice_index_or basis i 0 }
 
 -- the table that it shows
-abbrev pub table : TableauView → Table Rational
+abbrev pub table : TableauView → SimplexTable Rational
 table t = table_of t.rows t.basis
 
 -- q is above 0
@@ -57,7 +57,7 @@ pub record IsStart (coordinates : List ℕ) (columns : List Terms) (target : Ter
   pub generators_are : t.generators ≡ length columns
   pub height_is : height t ≡ length coordinates
   pub table_is : table t ≡ start_of coordinates columns target
-  pub signs_are : (k : ℕ) → k < length coordinates → slice_index_or t.negated k false ≡ not (is_at_least_zero (whole (coefficient target (slice_index_or coordinates k 0))))
+  pub signs_are : (k : ℕ) → k < length coordinates → slice_index_or t.negated k false ≡ not (is_at_least_zero (integer (coefficient target (slice_index_or coordinates k 0))))
 
 -- what a pivot leaves as it is
 pub record KeepsFrame (old new : TableauView) : Type 0 where

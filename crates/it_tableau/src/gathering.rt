@@ -32,6 +32,7 @@ impl Model for TermList {
 }
 
 impl TermList {
+    /// No terms yet.
     fn empty(alloc: Global) -> TermList
         ensures { result ≡ [] }
     {
@@ -81,6 +82,7 @@ fn place_of(coordinates: &[u32], coordinate: u32) -> Option<usize>
     }
 }
 
+/// The terms of column j.
 fn terms_of_column(columns: &[Row], j: usize) -> &[(u32, i128)]
     requires { j < length columns.now }
     ensures value { result.now ≡ slice_index_or columns.now j [] }
@@ -89,6 +91,7 @@ fn terms_of_column(columns: &[Row], j: usize) -> &[(u32, i128)]
     columns[j].terms()
 }
 
+/// The coordinate of term i.
 fn coordinate_at(terms: &[(u32, i128)], i: usize) -> u32
     requires { i < length terms.now }
     ensures { result ≡ (slice_index_or terms.now i (0, pos 0)).0 }
@@ -96,6 +99,7 @@ fn coordinate_at(terms: &[(u32, i128)], i: usize) -> u32
     terms[i].0
 }
 
+/// Puts a term behind those of row k, unless its number is 0.
 fn put_in(
     lists: &mut Vec<TermList>,
     k: usize,
@@ -157,6 +161,7 @@ fn put_column(
     Ok(())
 }
 
+/// So many lists without terms.
 fn empty_lists(alloc: Global, count: usize) -> Result<Vec<TermList>, AllocError>
     ensures { IfOk result (λ lists. AreEmpty count lists.items) }
 {
@@ -206,6 +211,7 @@ fn finished_row(
     Ok(SparseRow::new(width, terms, right))
 }
 
+/// The terms of row k, which are taken away.
 fn take_list(alloc: Global, lists: &mut Vec<TermList>, k: usize) -> TermList
     requires { k < length lists.old.items }
     ensures own { result ≡ row_terms_at lists.old.items k }

@@ -1,13 +1,12 @@
 //! The merge of the terms of two rows.
-ghost use Rattle.std.specs.Prelude.{◌≡◌, ◌≢◌, ◌<◌, ◌⊎◌, length, pos, IfErr, IfOk, OnErr, OnOk, OkIff};
-ghost use Rattle.std.specs.Bool.{OnFalse, OnTrue};
-ghost use Rattle.it_rational.specs.Rational.{minus, plus, times, whole};
+ghost use Rattle.std.specs.Prelude.{◌≡◌, ◌<◌, ◌⊎◌, length, IfErr, IfOk, OnErr, OnOk, OkIff};
+ghost use Rattle.it_rational.specs.Rational.{minus, plus, times};
 ghost use Rattle.it_fraction.specs.Fits.{IsNarrow};
 ghost use Rattle.it_tableau.specs.Fits.{EntryFits};
 ghost use Rattle.it_tableau.specs.Merging.{column_at, number_of_term, AreMerged, IsAppended, IsSide, MergeFits};
 ghost use Rattle.it_tableau.specs.SparseRows.{Climbs};
 
-use it_fraction::{Fraction, Wide};
+use it_fraction::{Fraction, WideNumber};
 use it_space::RowFault;
 use std::alloc::AllocError;
 
@@ -69,28 +68,19 @@ fn next_side(old: &[(usize, Fraction)], by: &[(usize, Fraction)], i: usize, j: u
 }
 
 /// What a product leaves of 0.
-fn negated_product(by: Fraction, q: Fraction) -> Result<Fraction, Wide>
+fn negated_product(by: Fraction, q: Fraction) -> Result<Fraction, WideNumber>
     ensures { OkIff result (IsNarrow (times by q)) (minus (times by q)) }
 {
     Ok(by.mul(q)?.neg())
 }
 
 /// What a product leaves of an entry.
-pub fn reduced_entry(entry: Fraction, by: Fraction, q: Fraction) -> Result<Fraction, Wide>
+pub fn reduced_entry(entry: Fraction, by: Fraction, q: Fraction) -> Result<Fraction, WideNumber>
     ensures ok { OnOk result (EntryFits entry by q) }
     ensures value { IfOk result (λ v. v ≡ plus entry (minus (times by q))) }
     ensures err { OnErr result (¬ (EntryFits entry by q)) }
 {
     entry.sub(by.mul(q)?)
-}
-
-/// Whether a number is 0.
-#[tactic(auto, using(crate::proofs::Zeros::null_from_top, crate::proofs::Zeros::top_from_null))]
-pub fn is_null(value: Fraction) -> bool
-    ensures yes { OnTrue result (value ≡ whole (pos 0)) }
-    ensures no { OnFalse result (value ≢ whole (pos 0)) }
-{
-    if value.is_zero() { true } else { false }
 }
 
 /// Puts a term behind the others, unless its number is 0.
@@ -101,7 +91,7 @@ pub fn append(
 ) -> Result<(), AllocError>
     ensures { OnOk result (IsAppended terms.old.items column value terms.new.items) }
 {
-    if !is_null(value) {
+    if !value.is_zero() {
         terms.push((column, narrow_number(value)))?;
     }
     Ok(())

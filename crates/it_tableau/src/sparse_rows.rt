@@ -1,12 +1,12 @@
 //! Rows of the table without their zeros.
 ghost use Rattle.std.specs.Prelude.{◌≡◌, ◌≢◌, ◌-◌, ◌<◌, [], length, pos, slice_index_or, IfErr, OnOk};
-ghost use Rattle.it_rational.specs.Rational.{inverse, times, whole};
+ghost use Rattle.it_rational.specs.Rational.{inverse, times, integer};
 ghost use Rattle.it_tableau.specs.Merging.{AreDivided, TermQuotientsFit};
 ghost use Rattle.it_tableau.specs.Entries.{entry_at, zero_rational};
 ghost use Rattle.it_tableau.specs.Rows.{RowQuotientsFit, IsDivided, IsReduced, RowStepFits, dense_row};
 ghost use Rattle.it_tableau.specs.SparseRows.{entry_in, Climbs, ListsEntries};
 
-use crate::merging::{append, column, is_null, merge, narrow_number, reduced_entry, term};
+use crate::merging::{append, column, merge, narrow_number, reduced_entry, term};
 use it_fraction::Fraction;
 use it_space::RowFault;
 use std::alloc::Global;
@@ -49,9 +49,9 @@ impl SparseRow {
 
     /// A row without columns, whose right side is 0: it stands in where another row is taken out.
     pub fn placeholder(alloc: Global) -> SparseRow
-        ensures { result ≡ dense_row 0 [] (whole (pos 0)) }
+        ensures { result ≡ dense_row 0 [] (integer (pos 0)) }
     {
-        SparseRow::new(0, Vec::new(alloc), Fraction::whole(0))
+        SparseRow::new(0, Vec::new(alloc), Fraction::integer(0))
     }
 
     /// The entries other than 0, without the right side.
@@ -89,7 +89,8 @@ impl SparseRow {
         ensures wide { IfErr result (λ fault. fault ≡ RowFault.Wide → ¬ (RowStepFits self.old by.now column pivot)) }
     {
         let entry = self.entry(column);
-        if is_null(entry) {
+        if entry.is_zero() {
+            // asked for its clause, that the right side is within the limit
             let _right = narrow_number(self.right);
             return Ok(());
         }
@@ -133,7 +134,7 @@ fn number_in(terms: &[(usize, Fraction)], at: usize, width: usize) -> Fraction
 {
     match terms.binary_search_by_key(&at, |term| term.0) {
         Ok(i) => terms[i].1,
-        Err(_) => Fraction::whole(0),
+        Err(_) => Fraction::integer(0),
     }
 }
 

@@ -1,35 +1,33 @@
 //! The rows of the start.
-ghost use Rattle.std.specs.Prelude.{◌≡◌, ◌+◌, ◌<◌, length, map, pos, slice_index_or, cond, not, IfOk, IfErr, OnErr, OnOk, ℕ, ◌^◌, ◌++◌, ◌∷◌, [], false};
-ghost use Rattle.it_number.specs.Limit.{IsWithin};
-ghost use Rattle.it_rational.specs.Rational.{is_at_least_zero, minus, times, whole};
+ghost use Rattle.std.specs.Prelude.{◌≡◌, ◌+◌, ◌<◌, length, pos, slice_index_or, cond, not, IfOk, IfErr, OnOk, ℕ, ◌^◌, ◌++◌, ◌∷◌, [], false};
+ghost use Rattle.it_rational.specs.Rational.{is_at_least_zero, minus, times, integer};
 ghost use Rattle.it_rational.proofs.Field.{field_ℚ};
 ghost use Rattle.it_space.specs.Rows.{coefficient};
 ghost use Rattle.it_tableau.specs.Fits.{StartFits};
 ghost use Rattle.it_tableau.specs.Problems.{feasibility_problem};
-ghost use Rattle.it_tableau.specs.Entries.{entry_at, row_at};
-ghost use Rattle.it_tableau.specs.Rows.{column_sum, AreEven, ColumnFits, ColumnsFit, IsWholeNumber, ListsValues};
+ghost use Rattle.it_tableau.specs.Rows.{IsWholeNumber, ListsValues};
 ghost use Rattle.it_tableau.specs.StartRows.{AreAllRows, AreStartRows};
-ghost use Rattle.it_tableau.specs.Tables.{start_row as entry_of_start};
+ghost use Rattle.it_tableau.specs.SimplexTables.{start_row as entry_of_start};
 
 use crate::costs::cost_row;
 use crate::gathering::{ascends, gathered_rows};
 use crate::merging::append;
 use crate::sparse_rows::SparseRow;
-use it_fraction::{Fraction, Wide};
+use it_fraction::{Fraction, WideNumber};
 use it_space::{Row, RowFault};
 use std::alloc::{AllocError, Global};
 
 /// The coefficient of a row at a coordinate, as a fraction.
 fn number(row: &Row, coordinate: u32) -> Fraction
-    ensures value { result ≡ whole (coefficient row.now coordinate) }
+    ensures value { result ≡ integer (coefficient row.now coordinate) }
     ensures whole_number { IsWholeNumber result }
 {
-    Fraction::whole(row.coefficient(coordinate))
+    Fraction::integer(row.coefficient(coordinate))
 }
 
 /// Whether the start's row of a coordinate keeps its sign: the target's coefficient isn't below 0.
 pub fn keeps_sign(target: &Row, coordinate: u32) -> bool
-    ensures { result ≡ is_at_least_zero (whole (coefficient target.now coordinate)) }
+    ensures { result ≡ is_at_least_zero (integer (coefficient target.now coordinate)) }
 {
     if number(target, coordinate).is_negative() {
         false
@@ -40,7 +38,7 @@ pub fn keeps_sign(target: &Row, coordinate: u32) -> bool
 
 /// The coefficient of a row at a coordinate, negated unless the sign is kept.
 fn signed_coefficient(row: &Row, coordinate: u32, kept: bool) -> Fraction
-    ensures value { result ≡ times (cond kept (whole (pos 1)) (minus (whole (pos 1)))) (whole (coefficient row.now coordinate)) }
+    ensures value { result ≡ times (cond kept (integer (pos 1)) (minus (integer (pos 1)))) (integer (coefficient row.now coordinate)) }
     ensures whole_number { IsWholeNumber result }
 {
     let value = number(row, coordinate);
@@ -66,9 +64,9 @@ pub fn start_entry(
     } else if j == columns.len() + coordinates.len() {
         signed_coefficient(target, coordinates[k], kept)
     } else if j == columns.len() + k {
-        Fraction::whole(1)
+        Fraction::integer(1)
     } else {
-        Fraction::whole(0)
+        Fraction::integer(0)
     }
 }
 
@@ -145,7 +143,7 @@ pub fn artificials(alloc: Global, first: usize, count: usize) -> Result<Vec<usiz
 /// Whether each row of the start is negated.
 pub fn negations(alloc: Global, coordinates: &[u32], target: &Row) -> Result<Vec<bool>, AllocError>
     ensures count { IfOk result (λ negated. length negated.items ≡ length coordinates.now) }
-    ensures value { IfOk result (λ negated. (k : ℕ) → k < length coordinates.now → slice_index_or negated.items k false ≡ not (is_at_least_zero (whole (coefficient target.now (slice_index_or coordinates.now k 0))))) }
+    ensures value { IfOk result (λ negated. (k : ℕ) → k < length coordinates.now → slice_index_or negated.items k false ≡ not (is_at_least_zero (integer (coefficient target.now (slice_index_or coordinates.now k 0))))) }
 {
     let mut negated = Vec::with_capacity(alloc, coordinates.len())?;
     for k in 0..coordinates.len() {

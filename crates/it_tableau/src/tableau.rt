@@ -6,12 +6,12 @@ ghost use Rattle.it_tableau.specs.Fits.{PivotFits, StartFits};
 ghost use Rattle.it_tableau.specs.Problems.{feasibility_problem};
 ghost use Rattle.it_tableau.specs.SparseRows.{ListsEntries};
 ghost use Rattle.it_tableau.specs.TableauViews.{height, table, width, IsPositive, IsStart, KeepsFrame};
-ghost use Rattle.it_tableau.specs.Tables.{pivot, ratio};
+ghost use Rattle.it_tableau.specs.SimplexTables.{pivot, ratio};
 
 use crate::rows::{pivot_rows, read};
 use crate::sparse_rows::SparseRow;
 use crate::start::{artificials, negations, start_table};
-use it_fraction::{Fraction, Wide};
+use it_fraction::{Fraction, WideNumber};
 use it_space::{Row, RowFault};
 use std::alloc::Global;
 use std::marker::Model;
@@ -156,7 +156,7 @@ impl Tableau {
 
     /// The right side of a row divided by its entry in a column.
     #[tactic(auto, using(crate::proofs::Positive::positive_some))]
-    pub fn ratio(&self, row: usize, column: usize) -> Result<Fraction, Wide>
+    pub fn ratio(&self, row: usize, column: usize) -> Result<Fraction, WideNumber>
         requires usable { self.now.spent ≡ false }
         requires row { row < height self.now }
         requires column { column < width self.now }

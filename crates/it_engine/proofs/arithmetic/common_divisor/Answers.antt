@@ -1,7 +1,6 @@
 use Rattle.std.proofs.Common.{arith, ◌∙◌, ap, sym}
 use Rattle.it_number.specs.Gcd.{gcd}
-use Rattle.it_number.proofs.Divisors.{gcd-step, gcd-zero, one-gcd}
-use Rattle.it_engine.proofs.Divisions.{gcd_some}
+use Rattle.it_number.proofs.Divisors.{gcd-step, gcd-zero, one-gcd, gcd_some}
 use Rattle.it_engine.proofs.arithmetic.common_divisor.Goals as goal
 
 pub returns-then-a-eq1-clause-value : goal.returns-then-a-eq1-clause-value

@@ -4,7 +4,7 @@ use Rattle.it_rational.proofs.Field.{field_ℚ}
 use Rattle.it_rational.specs.Rational.{minus, is_at_least_zero}
 use Rattle.it_fraction.specs.Fits.{IsNarrow}
 use Rattle.it_tableau.specs.TableauViews.{height, table}
-use Rattle.it_tableau.specs.Tables.{ratio}
+use Rattle.it_tableau.specs.SimplexTables.{ratio}
 use Rattle.it_tableau.proofs.RowsLemmas.{fits_more}
 use Rattle.it_run.specs.Choice.{is_candidate}
 use Rattle.it_run.specs.Steps.{IsBestOf}

@@ -2,7 +2,7 @@ use Rattle.std.proofs.Common.{◌≡◌, ℕ, ◌<◌, true}
 use Rattle.it_rational.proofs.Field.{field_ℚ}
 use Rattle.it_fraction.specs.Fits.{IsNarrow}
 use Rattle.it_tableau.specs.TableauViews.{height, table}
-use Rattle.it_tableau.specs.Tables.{ratio}
+use Rattle.it_tableau.specs.SimplexTables.{ratio}
 use Rattle.it_run.specs.Choice.{is_candidate}
 use Rattle.it_run.specs.Steps.{IsBestOf}
 use Rattle.it_run.proofs.choice.leaving_row.Given as goal

@@ -1,6 +1,6 @@
 use Rattle.std.proofs.Common.{ℕ, ◌≤◌, arith}
 use Rattle.it_rational.proofs.Field.{field_ℚ}
-use Rattle.it_tableau.specs.Tables.{start}
+use Rattle.it_tableau.specs.SimplexTables.{start}
 use Rattle.it_tableau.proofs.StartLemmas.{start_has_invariants}
 use Rattle.it_run.proofs.BasisSets.{never_set_again}
 use Rattle.it_simplex.proofs.laws.meets_no_basis_twice.Goals as goal

@@ -1,5 +1,5 @@
 use Rattle.it_rational.proofs.Field.{field_ℚ}
-use Rattle.it_tableau.specs.Tables.{start}
+use Rattle.it_tableau.specs.SimplexTables.{start}
 use Rattle.it_tableau.proofs.StartLemmas.{start_has_invariants}
 use Rattle.it_run.proofs.BasisSets.{runs_end}
 use Rattle.it_simplex.proofs.laws.runs_end.Goals as goal

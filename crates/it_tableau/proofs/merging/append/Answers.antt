@@ -5,10 +5,10 @@ use Rattle.it_tableau.proofs.merging.append.Goals as goal
 
 pub returns-in_ok-push : goal.returns-in_ok-push
 returns-in_ok-push c = inr (
-  c.if-not-is_null.ensures.no,
+  c.if-not-is_zero.ensures.no,
   subst IsNarrow c.narrow_number.ensures.value c.narrow_number.ensures.narrow,
   c.in_ok-push.ensures.items ∙ ap (λ (v : Rational). c.args.terms.now.items ++ (c.args.column, v) ∷ []) c.narrow_number.ensures.value,
 )
 
-pub returns-else-not-is_null : goal.returns-else-not-is_null
-returns-else-not-is_null c = inl (c.if-not-is_null.ensures.yes, refl)
+pub returns-else-not-is_zero : goal.returns-else-not-is_zero
+returns-else-not-is_zero c = inl (c.if-not-is_zero.ensures.yes, refl)

@@ -2,7 +2,7 @@ use Rattle.std.proofs.Common.{◌≡◌, ◌+◌, ℕ, length, arith, subst, sym
 use Rattle.it_rational.proofs.Field.{field_ℚ}
 use Rattle.it_tableau.specs.Problems.{feasibility_problem}
 use Rattle.it_tableau.specs.Rows.{IsWholeNumber, ListsValues}
-use Rattle.it_tableau.specs.Tables.{start_row}
+use Rattle.it_tableau.specs.SimplexTables.{start_row}
 use Rattle.it_tableau.proofs.Building.{IsBuilt, built_more}
 use Rattle.it_tableau.proofs.DenseRows.{row_shows}
 use Rattle.it_tableau.proofs.start.start_row.Goals as goal

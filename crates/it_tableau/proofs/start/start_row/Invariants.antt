@@ -2,7 +2,7 @@ use Rattle.std.proofs.Common.{length}
 use Rattle.it_rational.proofs.Field.{field_ℚ}
 use Rattle.it_tableau.specs.Problems.{feasibility_problem}
 use Rattle.it_tableau.specs.Rows.{IsWholeNumber}
-use Rattle.it_tableau.specs.Tables.{start_row}
+use Rattle.it_tableau.specs.SimplexTables.{start_row}
 use Rattle.it_tableau.proofs.Building.{IsBuilt}
 use Rattle.it_tableau.proofs.start.start_row.Given as goal
 

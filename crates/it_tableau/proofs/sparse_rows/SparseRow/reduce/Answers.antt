@@ -1,6 +1,6 @@
 use Rattle.std.proofs.Common.{◌≡◌, ℕ, List, pos, sym, ap, subst, ◌∙◌}
 use Rattle.it_fraction.specs.Fits.{IsNarrow}
-use Rattle.it_rational.specs.Rational.{Rational, whole, times, inverse}
+use Rattle.it_rational.specs.Rational.{Rational, integer, times, inverse}
 use Rattle.it_space.specs.declared.faults.RowFault.TheVariants.{Wide}
 use Rattle.it_tableau.specs.Fits.{QuotientFits}
 use Rattle.it_tableau.specs.Merging.{AreMerged, MergeFits}
@@ -14,19 +14,19 @@ use Rattle.it_tableau.proofs.sparse_rows.SparseRow.reduce.Goals as goal
 use Rattle.it_tableau.proofs.sparse_rows.SparseRow.reduce.Goals.{After-narrow_number-right, After-reduced_entry}
 
 -- the row's own list, in which the entry is 0
-no_entry : (c : After-narrow_number-right) → entry_at (dense_row c.self.inside.width c.self.inside.terms.items c.self.inside.right) c.args.column ≡ whole (pos 0)
-no_entry c = ap (λ (row : List Rational). entry_at row c.args.column) c.self.view_is ∙ sym c.entry-entry.ensures ∙ c.if-is_null.ensures.yes
+no_entry : (c : After-narrow_number-right) → entry_at (dense_row c.self.inside.width c.self.inside.terms.items c.self.inside.right) c.args.column ≡ integer (pos 0)
+no_entry c = ap (λ (row : List Rational). entry_at row c.args.column) c.self.view_is ∙ sym c.entry-entry.ensures ∙ c.if-is_zero.ensures.yes
 
 right_narrow : (c : After-narrow_number-right) → IsNarrow c.self.inside.right
 right_narrow c = subst IsNarrow c.narrow_number-right.ensures.value c.narrow_number-right.ensures.narrow
 
-pub returns-then-is_null-clause-ok : goal.returns-then-is_null-clause-ok
-returns-then-is_null-clause-ok c =
+pub returns-then-is_zero-clause-ok : goal.returns-then-is_zero-clause-ok
+returns-then-is_zero-clause-ok c =
     subst (λ (row : List Rational). RowStepFits row c.args.by.now c.args.column c.args.pivot) c.self.view_is
     (row_without_entry_fits c.self.inside.width c.self.inside.terms.items c.self.inside.right c.self.invariant (right_narrow c) c.args.by.now c.args.column c.args.pivot (no_entry c))
 
-pub returns-then-is_null-clause-value : goal.returns-then-is_null-clause-value
-returns-then-is_null-clause-value c =
+pub returns-then-is_zero-clause-value : goal.returns-then-is_zero-clause-value
+returns-then-is_zero-clause-value c =
     subst (λ (row : List Rational). IsReduced row c.args.by.now (times (entry_at row c.args.column) (inverse c.args.pivot)) row) c.self.view_is
     (row_without_entry_stays c.self.inside.width c.self.inside.terms.items c.self.inside.right c.self.invariant (right_narrow c) c.args.by.now c.args.column c.args.pivot (no_entry c))
 

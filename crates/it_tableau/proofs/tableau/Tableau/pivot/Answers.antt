@@ -7,7 +7,7 @@ use Rattle.it_tableau.specs.Fits.{PivotFits}
 use Rattle.it_tableau.specs.Entries.{entry_at, row_at}
 use Rattle.it_tableau.specs.Rows.{ArePivoted, RowsPivotFits}
 use Rattle.it_tableau.specs.TableauViews.{TableauView, IsSound, table, height}
-use Rattle.it_tableau.specs.Tables.{pivot}
+use Rattle.it_tableau.specs.SimplexTables.{pivot}
 use Rattle.it_tableau.proofs.Positive.{positive_some}
 use Rattle.it_tableau.proofs.ViewLemmas.{pivot_sound, pivot_is_shown, pivot_numbers_fit}
 use Rattle.it_tableau.proofs.tableau.Tableau.pivot.Goals as goal

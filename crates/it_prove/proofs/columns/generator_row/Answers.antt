@@ -6,7 +6,7 @@ use Rattle.it_elemental.specs.Rows.{elemental_row}
 use Rattle.it_run.proofs.AnswerLemmas.{if_ok}
 use Rattle.it_elemental.specs.Generators.{generators, generator_at}
 use Rattle.it_elemental.proofs.GeneratorLemmas.{length-listed, front_is, behind_is}
-use Rattle.it_prove.proofs.columns.row_at.Goals as goal
+use Rattle.it_prove.proofs.columns.generator_row.Goals as goal
 
 pub returns-then-index-elementals : goal.returns-then-index-elementals
 returns-then-index-elementals c =

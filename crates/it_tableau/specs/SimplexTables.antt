@@ -13,7 +13,7 @@ pub record FeasibilityProblem (A : Type 0) : Type 0 where
 
 -- A table of m rows over n columns: entry i j stands in row i and column j, and row i has the basic column basis i.
 -- Row m is the cost row. Columns n to n + m - 1 are the artificial ones, and column n + m is the right side. All else is 0.
-pub record Table (A : Type 0) : Type 0 where
+pub record SimplexTable (A : Type 0) : Type 0 where
   pub entry : ℕ → ℕ → A
   pub basis : ℕ → ℕ
 
@@ -29,7 +29,7 @@ module _ {A : Type 0} (F : OrderedField A) where
 
   -- the table after column c has become basic in row r: row r is divided by its entry at c, and every other row has as much of
   -- row r taken off as makes its entry at c 0
-  abbrev pub pivot : Table A → ℕ → ℕ → Table A
+  abbrev pub pivot : SimplexTable A → ℕ → ℕ → SimplexTable A
   pivot t r c = record {
     entry = λ i j. cond (eqb i r) (F.ring.mul (t.entry r j) (F.order.inv (t.entry r c)))
         (difference F.ring (t.entry i j) (F.ring.mul (t.entry r j) (F.ring.mul (t.entry i c) (F.order.inv (t.entry r c)))));
@@ -43,12 +43,12 @@ module _ {A : Type 0} (F : OrderedField A) where
         (cond (eqb j (n + m)) (F.ring.mul (sign p k) (p.target k)) (cond (eqb j (n + k)) F.ring.unit F.ring.null))
 
     -- the start: the artificial columns are basic, and the cost row is the negated sum of the rows
-    abbrev pub start : FeasibilityProblem A → Table A
+    abbrev pub start : FeasibilityProblem A → SimplexTable A
     start p = record {
       entry = λ i j. cond (ltb i m) (start_row p i j) (cond (eqb i m) (F.ring.neg (sum_to F.ring m (λ k. start_row p k j))) F.ring.null);
       basis = λ i. cond (ltb i m) (n + i) 0;
     }
 
     -- the right side of a row divided by its entry at c
-    abbrev pub ratio : Table A → ℕ → ℕ → A
+    abbrev pub ratio : SimplexTable A → ℕ → ℕ → A
     ratio t c i = F.ring.mul (t.entry i (n + m)) (F.order.inv (t.entry i c))
