@@ -33,7 +33,7 @@ module _ (s : Space) (k : IsSpace s) where
   constraints_there (d ∷ ds) h =
       let one = row_there s k d.demand.form h.0 in
       let rest = constraints_there ds h.1 in
-      let c : Constraint = record { row = one.0; kind = d.demand.kind; origin = d.place } in
+      let c : Constraint = record { row = one.0; kind = d.demand.kind; origin = d.origin } in
       (c ∷ rest.0, (record { row = one.1; kind = refl; origin = refl }, rest.1))
 
   pub rows_there : (fs : List Form) → Every (IsFormUpTo (size_of s) (2 ^ 74)) fs → (ts : List Terms) × AreRowsOf s fs ts

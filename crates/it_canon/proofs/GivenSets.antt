@@ -119,5 +119,5 @@ lines_of_sets n line (g ∷ gs) a =
 -- the rows of the constraints of `given` lines have no coordinate past the sets
 pub given_sets : (s : Space) (line : ℕ) (cs : List GivenView) (constraints : List Constraint) → All (IsGivenOf s.variables) cs → AreStated s (given_demands s.variables line cs) constraints
     → All (λ c. IsUpTo (2 ^ s.variables - 1) c.row) constraints
-given_sets s line cs constraints a h = zip-passes (λ (d : LineDemand) (c : Constraint). States s d.place d.demand c) (λ d. IsOfSets s.variables d.demand.form) (λ c. IsUpTo (2 ^ s.variables - 1) c.row)
+given_sets s line cs constraints a h = zip-passes (λ (d : LineDemand) (c : Constraint). States s d.origin d.demand c) (λ d. IsOfSets s.variables d.demand.form) (λ c. IsUpTo (2 ^ s.variables - 1) c.row)
     (λ d c t f. row_of_sets s d.demand.form c.row f t.row) (given_demands s.variables line cs) constraints h (lines_of_sets s.variables line cs a)

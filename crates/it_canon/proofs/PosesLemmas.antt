@@ -1,10 +1,8 @@
 -- The problem and the rows that a question poses: there is one of each, and the rows are of the problem's space.
-use Rattle.std.proofs.Common.{◌≡◌, suc, List, [], ◌∷◌, length, All, refl, sym, ap, ap₂, subst, ◌∙◌}
-use Rattle.std.proofs.lemmas.List.Elements.{All-nil, All-cons}
+use Rattle.std.proofs.Common.{◌≡◌, suc, List, [], ◌∷◌, length, refl, sym, ap, ap₂, subst, ◌∙◌}
 use Rattle.it_space.specs.declared.problems.Constraint.{Constraint}
 use Rattle.it_space.specs.declared.spaces.Space.{Space}
-use Rattle.it_space.specs.Rows.{Terms, IsUpTo}
-use Rattle.it_space.specs.Spaces.{size_of}
+use Rattle.it_space.specs.Rows.{Terms}
 use Rattle.it_polymatroid.specs.Certificates.{Form}
 use Rattle.it_syntax.specs.Meaning.{RelationView}
 use Rattle.it_question.specs.Questions.{BodyView}
@@ -27,13 +25,6 @@ same_problem q r a b = one_problem q a.problem b.problem a.is_problem b.is_probl
 pub same_rows : (q : BodyView) (r : RelationView) (a b : Poses q r) → a.rows ≡ b.rows
 same_rows q r a b = one_row_list b.problem.space (targets (variables_of q) r) a.rows b.rows
     (subst (λ (s : Space). AreRowsOf s (targets (variables_of q) r) a.rows) (a.is_problem.space ∙ sym b.is_problem.space) a.targets_are) b.targets_are
-
--- the coordinates of rows are of their space
-pub rows_up_to : (s : Space) (fs : List Form) (ts : List Terms) → AreRowsOf s fs ts → All (IsUpTo (size_of s)) ts
-rows_up_to s [] [] h = All-nil (IsUpTo (size_of s))
-rows_up_to s [] (t ∷ ts) h = absurd h
-rows_up_to s (f ∷ fs) [] h = absurd h
-rows_up_to s (f ∷ fs) (t ∷ ts) h = All-cons (IsUpTo (size_of s)) t ts h.0.coordinates (rows_up_to s fs ts h.1)
 
 -- there is one for each form
 pub as_many_rows : (s : Space) (fs : List Form) (ts : List Terms) → AreRowsOf s fs ts → length ts ≡ length fs

@@ -14,6 +14,7 @@ use Rattle.it_space.proofs.TermLemmas.{value-append, value-negated_terms}
 use Rattle.it_polymatroid.specs.Certificates.{Form, dot, IsLinear}
 use Rattle.it_polymatroid.specs.Elementals.{span}
 use Rattle.it_polymatroid.proofs.Forms.{linear_at, linear_zero, linear-add, linear-scale}
+use Rattle.it_polymatroid.proofs.Spans.{length-map-span}
 use Rattle.it_canon.specs.Canonical.{IsRowOf, row_mass}
 use Rattle.it_canon.specs.Coefficients.{dense_form_from, largest, IsNoLarger}
 use Rattle.it_canon.specs.Targets.{negation}
@@ -104,10 +105,6 @@ largest_below : (f : ℕ → ℤ) (m : ℕ) → ((c : ℕ) → unsigned_abs (f c
 largest_below f m h [] = omega arith
 largest_below f m h (c ∷ cs) = omega (arith, h c, largest_below f m h cs)
 
-length-span : (f : ℕ → ℤ) (first count : ℕ) → length (map f (span first count)) ≡ count
-length-span f first zero = refl
-length-span f first (suc count) = ap suc (length-span f (first + 1) count)
-
 module _ (s : Space) (k : IsSpace s) (form : Form) (x : IsFormUpTo (size_of s) (2 ^ 74) form) where
   -- its value at the map that is 1 at a coordinate
   abbrev coefficient_at : ℕ → ℤ
@@ -132,7 +129,7 @@ module _ (s : Space) (k : IsSpace s) (form : Form) (x : IsFormUpTo (size_of s) (
       zero_plus y = omega (arith, ints)
 
   row_coordinates : IsUpTo (size_of s) row
-  row_coordinates = let e : length coefficients - 1 ≡ size_of s = omega (arith, length-span coefficient_at 0 (suc (size_of s))) in subst (λ (n : ℕ). IsUpTo n row) e (row_up_to coefficients row refl)
+  row_coordinates = let e : length coefficients - 1 ≡ size_of s = omega (arith, length-map-span coefficient_at 0 (suc (size_of s))) in subst (λ (n : ℕ). IsUpTo n row) e (row_up_to coefficients row refl)
 
   row_is_canonical : IsCanonical row
   row_is_canonical = row_canonical coefficients row refl (omega (arith, all_small))
@@ -147,7 +144,7 @@ module _ (s : Space) (k : IsSpace s) (form : Form) (x : IsFormUpTo (size_of s) (
   row_is_small =
       let fit : IsNoLarger coefficients row = row_no_larger coefficients row refl in
       record {
-        few = omega (arith, fit.few, length-span coefficient_at 0 (suc (size_of s)), size_few);
+        few = omega (arith, fit.few, length-map-span coefficient_at 0 (suc (size_of s)), size_few);
         each = All-weaker (λ (t : ℕ × ℤ). unsigned_abs t.1 ≤ largest coefficients) (λ (t : ℕ × ℤ). unsigned_abs t.1 ≤ 2 ^ 74) (λ t h. omega (arith, h, all_small)) row fit.each;
       }
 

@@ -52,5 +52,5 @@ same_constraint : (r t : Terms) (j k : Kind) (o p : Origin) → r ≡ t → j �
 same_constraint r t j k o p e f g = ap₂ (λ x y. constraint x y o) e f ∙ ap (constraint t k) g
 
 pub one_constraint_list : OneConstraintList
-one_constraint_list s demanded cs ds a b = zip-told (λ (d : LineDemand) (c : Constraint). States s d.place d.demand c)
+one_constraint_list s demanded cs ds a b = zip-told (λ (d : LineDemand) (c : Constraint). States s d.origin d.demand c)
     (λ d x y h k. same_constraint x.row y.row x.kind y.kind x.origin y.origin (one_row s d.demand.form x.row y.row h.row k.row) (h.kind ∙ sym k.kind) (h.origin ∙ sym k.origin)) demanded cs ds a b

@@ -26,7 +26,7 @@ given_demands n line (c ∷ cs) = parts_of line (demands n c) ++ given_demands n
 -- what `row` lines demand, from line number `line` on
 abbrev pub row_demands : ℕ → ℕ → List RelationView → List LineDemand
 row_demands n line [] = []
-row_demands n line (r ∷ rs) = record { place = Rate line; demand = demand_of n r } ∷ row_demands n (line + 1) rs
+row_demands n line (r ∷ rs) = record { origin = Rate line; demand = demand_of n r } ∷ row_demands n (line + 1) rs
 
 -- what lines of n variables demand: the givens before the rows
 abbrev pub line_demands : ℕ → OwnLinesView → List LineDemand

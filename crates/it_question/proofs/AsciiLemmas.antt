@@ -12,7 +12,7 @@ use Rattle.it_syntax.specs.declared.types.Symbol.TheVariants.{LeftParen, RightPa
 use Rattle.it_syntax.specs.declared.types.Token.{Token}
 use Rattle.it_syntax.specs.declared.types.TokenKind.{TokenKind}
 use Rattle.it_syntax.specs.declared.types.TokenKind.TheVariants as kinds
-use Rattle.it_syntax.specs.Letters.{Letter, Word, Number, Sym, End, Bad, MarkedLetters, unmarked, letters, unmarked_all}
+use Rattle.it_syntax.specs.Letters.{Letter, Word, Number, Sym, End, Bad, MarkedLetters, without_mark, letters, without_marks}
 use Rattle.it_syntax.specs.Misspellings.{SpellsUntil}
 use Rattle.it_syntax.specs.NamesViews.{NamesView}
 use Rattle.it_syntax.specs.Spans.{letter_of, letters_until, last_letter}
@@ -20,7 +20,7 @@ use Rattle.it_syntax.specs.Spelling.{is_word_byte, is_space, symbol_text, AreAll
 use Rattle.it_syntax.specs.WrittenAtoms.{WrittenList}
 use Rattle.it_syntax.proofs.RunLemmas.{value_digits}
 use Rattle.it_question.specs.AsciiTexts.{IsAsciiQuestion, TextsAreAscii}
-use Rattle.it_question.specs.Keywords.{vars_text, rates_text}
+use Rattle.it_question.specs.Keywords.{vars_keyword, rates_keyword}
 use Rattle.it_question.specs.Lines.{TokenLine, split_lines, file_end, line_letters, letters_of_lines}
 use Rattle.it_question.specs.NewNames.{Sort, Variable, Rate, with_name, no_names, spell_new_more, spell_new_names, with_names, new_names_of, spell_names_line, names_line_of}
 use Rattle.it_question.specs.Questions.{QuestionView}
@@ -171,7 +171,7 @@ new_spelled sort n v l k a h = more_spelled sort (n - 1) (with_name sort v l.fir
 
 line_spelled : (sort : Sort) (n : ℕ) (keyword : List ℕ) (v : NamesView) (o : Option WrittenList) (k : MarkedLetters) → AsciiNames v → AsciiWords (letters (spell_names_line sort n keyword v o k)) → AsciiNames (names_line_of sort v o)
 line_spelled sort n keyword v None k a h = a
-line_spelled sort n keyword v (Some l) k a h = (new_spelled sort n v l (unmarked End ∷ k) a h.1).0
+line_spelled sort n keyword v (Some l) k a h = (new_spelled sort n v l (without_mark End ∷ k) a h.1).0
 
 no_names_ascii : AsciiNames no_names
 no_names_ascii = record { variables = All-nil IsAscii; rates = All-nil IsAscii }
@@ -179,25 +179,25 @@ no_names_ascii = record { variables = All-nil IsAscii; rates = All-nil IsAscii }
 names_ascii : (x : WrittenQuestion) (k : MarkedLetters) → AsciiWords (letters (spell_question x k)) → AsciiNames (names_of x)
 names_ascii x k h =
     let first = new_spelled Variable most_variables no_names x.variables _ no_names_ascii h in
-    line_spelled Rate most_rates rates_text (new_names_of Variable no_names x.variables) x.rates _ first.0 first.1
+    line_spelled Rate most_rates rates_keyword (new_names_of Variable no_names x.variables) x.rates _ first.0 first.1
 
 -- ---- files
 
-all_questions : (n : ℕ) (xs : List WrittenQuestion) (lines : List TokenLine) → spell_questions n xs (unmarked file_end ∷ []) ≡ unmarked_all (letters_of_lines lines) → AreSound lines → All IsAsciiQuestion (with_texts lines (questions_of xs))
+all_questions : (n : ℕ) (xs : List WrittenQuestion) (lines : List TokenLine) → spell_questions n xs (without_mark file_end ∷ []) ≡ without_marks (letters_of_lines lines) → AreSound lines → All IsAsciiQuestion (with_texts lines (questions_of xs))
 all_questions n [] lines e s = All-nil IsAsciiQuestion
 all_questions n (x ∷ xs) lines e s =
     let i = question_line_count (question_of x) in
-    let k = spell_questions (n - 1) xs (unmarked file_end ∷ []) in
+    let k = spell_questions (n - 1) xs (without_mark file_end ∷ []) in
     let p = question_puts (limit_mark n) x in
     let c = clean_parts p.front k (letters_of_lines lines) (sym (p.is k) ∙ e) in
     let d = letters_of_first_lines i lines (letters p.front) (letters k) p.kind c.all s in
-    let same : letters_of_lines (take i lines) ≡ letters ((Word vars_text, limit_mark n) ∷ spell_question x []) = d.front ∙ ap letters (sym (append-nil p.front) ∙ sym (p.is [])) in
-    let words : AsciiWords (letters ((Word vars_text, limit_mark n) ∷ spell_question x [])) = subst AsciiWords same (lines_words (take i lines) d.whole) in
+    let same : letters_of_lines (take i lines) ≡ letters ((Word vars_keyword, limit_mark n) ∷ spell_question x []) = d.front ∙ ap letters (sym (append-nil p.front) ∙ sym (p.is [])) in
+    let words : AsciiWords (letters ((Word vars_keyword, limit_mark n) ∷ spell_question x [])) = subst AsciiWords same (lines_words (take i lines) d.whole) in
     let names = names_ascii x [] words.1 in
     let q : QuestionView = record { body = question_of x; text = text_of_lines (take i lines) } in
     let first : IsAsciiQuestion q = record { text = lines_ascii (take i lines) d.whole; variables = names.variables; rates = names.rates } in
     All-cons IsAsciiQuestion q (with_texts (drop i lines) (questions_of xs)) first
-    (all_questions (n - 1) xs (drop i lines) (c.behind ∙ ap unmarked_all (sym d.behind)) d.sound)
+    (all_questions (n - 1) xs (drop i lines) (c.behind ∙ ap without_marks (sym d.behind)) d.sound)
 
 pub texts_are_ascii : TextsAreAscii
 texts_are_ascii bytes qs f = subst (All IsAsciiQuestion) f.are (all_questions most_questions f.trees f.lines f.spelled (lines_sound 1 (split_lines bytes) f.lines f.cut))

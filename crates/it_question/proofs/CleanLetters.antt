@@ -1,39 +1,39 @@
 -- Letters that nothing is said against, and their parts.
 use Rattle.std.proofs.Common.{◌≡◌, List, [], ◌∷◌, ◌++◌, Option, None, refl, sym, ap, ◌∙◌}
 use Rattle.it_syntax.specs.declared.types.Code.{Code}
-use Rattle.it_syntax.specs.Letters.{Letter, MarkedLetters, unmarked, letters, unmarked_all}
+use Rattle.it_syntax.specs.Letters.{Letter, MarkedLetters, without_mark, letters, without_marks}
 
 -- both parts of such letters
 pub record CleanParts (p k : MarkedLetters) (ls : List Letter) : Type 0 where
-  pub front : p ≡ unmarked_all (letters p)
-  pub behind : k ≡ unmarked_all (letters k)
+  pub front : p ≡ without_marks (letters p)
+  pub behind : k ≡ without_marks (letters k)
   pub all : ls ≡ letters p ++ letters k
 
-clean_itself : (m : MarkedLetters) (ls : List Letter) → m ≡ unmarked_all ls → (m ≡ unmarked_all (letters m)) × (ls ≡ letters m)
+clean_itself : (m : MarkedLetters) (ls : List Letter) → m ≡ without_marks ls → (m ≡ without_marks (letters m)) × (ls ≡ letters m)
 clean_itself [] [] e = (refl, refl)
 clean_itself [] (l ∷ ls) e = absurd cc
 clean_itself (x ∷ m) [] e = absurd cc
 clean_itself (x ∷ m) (l ∷ ls) e =
-    let first : x ≡ unmarked l = cc in
-    let tails : m ≡ unmarked_all ls = cc in
+    let first : x ≡ without_mark l = cc in
+    let tails : m ≡ without_marks ls = cc in
     let k = clean_itself m ls tails in
     let letter : x.0 ≡ l = ap (λ (y : Letter × Option Code). y.0) first in
-    (ap (λ (y : Letter × Option Code). y ∷ m) (first ∙ ap unmarked (sym letter)) ∙ ap (λ (q : MarkedLetters). unmarked x.0 ∷ q) k.0, ap (λ (y : Letter). y ∷ ls) (sym letter) ∙ ap (λ (q : List Letter). x.0 ∷ q) k.1)
+    (ap (λ (y : Letter × Option Code). y ∷ m) (first ∙ ap without_mark (sym letter)) ∙ ap (λ (q : MarkedLetters). without_mark x.0 ∷ q) k.0, ap (λ (y : Letter). y ∷ ls) (sym letter) ∙ ap (λ (q : List Letter). x.0 ∷ q) k.1)
 
-pub clean_parts : (p k : MarkedLetters) (ls : List Letter) → p ++ k ≡ unmarked_all ls → CleanParts p k ls
+pub clean_parts : (p k : MarkedLetters) (ls : List Letter) → p ++ k ≡ without_marks ls → CleanParts p k ls
 clean_parts [] k ls e = let c = clean_itself k ls e in record { front = refl; behind = c.0; all = c.1 }
 clean_parts (x ∷ p) k [] e = absurd cc
 clean_parts (x ∷ p) k (l ∷ ls) e =
-    let first : x ≡ unmarked l = cc in
-    let tails : p ++ k ≡ unmarked_all ls = cc in
+    let first : x ≡ without_mark l = cc in
+    let tails : p ++ k ≡ without_marks ls = cc in
     let c = clean_parts p k ls tails in
     let letter : x.0 ≡ l = ap (λ (y : Letter × Option Code). y.0) first in
     record {
-      front = ap (λ (y : Letter × Option Code). y ∷ p) (first ∙ ap unmarked (sym letter)) ∙ ap (λ (q : MarkedLetters). unmarked x.0 ∷ q) c.front;
+      front = ap (λ (y : Letter × Option Code). y ∷ p) (first ∙ ap without_mark (sym letter)) ∙ ap (λ (q : MarkedLetters). without_mark x.0 ∷ q) c.front;
       behind = c.behind;
       all = ap (λ (y : Letter). y ∷ ls) (sym letter) ∙ ap (λ (q : List Letter). x.0 ∷ q) c.all;
     }
 
-pub no_mark : (l : Letter) (mark : Option Code) (m : MarkedLetters) (ls : List Letter) → (l, mark) ∷ m ≡ unmarked_all ls → mark ≡ None
+pub no_mark : (l : Letter) (mark : Option Code) (m : MarkedLetters) (ls : List Letter) → (l, mark) ∷ m ≡ without_marks ls → mark ≡ None
 no_mark l mark m [] e = absurd cc
-no_mark l mark m (x ∷ ls) e = let first : (l, mark) ≡ unmarked x = cc in ap (λ (y : Letter × Option Code). y.1) first
+no_mark l mark m (x ∷ ls) e = let first : (l, mark) ≡ without_mark x = cc in ap (λ (y : Letter × Option Code). y.1) first

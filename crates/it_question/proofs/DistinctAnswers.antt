@@ -8,15 +8,15 @@ use Rattle.it_syntax.specs.WrittenAtoms.{Environment, WrittenList, is_measure, i
 use Rattle.it_question.specs.WrittenLines.{is_among, once_mark, spell_once, spell_once_more, spell_distinct, indexes_of, distinct_of}
 use Rattle.it_question.specs.Reading.{if_unseen, rate_once, read_once, read_once_more, read_distinct}
 use Rattle.it_syntax.proofs.SpelledIsRead.{Answers, answers_ok, answers_cons, answers_bind, NoComma}
-use Rattle.it_question.proofs.NameAnswers.{marked_answers}
+use Rattle.it_question.proofs.NameAnswers.{answers_at_mark}
 
 unseen_answers : (i : ℕ) (w : List ℕ) (b : Bool) (k : MarkedLetters) → Answers (if_unseen i w b (letters k) (Word w ∷ letters k)) ((Word w, cond b (Some codes.Twice) None) ∷ k) i k
-unseen_answers i w true k = marked_answers codes.Twice (Word w) k _ _
+unseen_answers i w true k = answers_at_mark codes.Twice (Word w) k _ _
 unseen_answers i w false k = inl (refl, record { front = Word w ∷ []; is = refl })
 
 once_answers : (measure : Bool) (seen : List ℕ) (o : Option ℕ) (w : List ℕ) (k : MarkedLetters) → Answers (rate_once measure seen o w (letters k)) ((Word w, once_mark measure seen o) ∷ k) (index_or o) k
-once_answers true seen o w k = marked_answers codes.Word (Word w) k _ _
-once_answers false seen None w k = marked_answers codes.Name (Word w) k _ _
+once_answers true seen o w k = answers_at_mark codes.Word (Word w) k _ _
+once_answers false seen None w k = answers_at_mark codes.Name (Word w) k _ _
 once_answers false seen (Some i) w k = unseen_answers i w (is_among seen i) k
 
 first_answers : (env : Environment) (seen : List ℕ) (w : List ℕ) (k : MarkedLetters) → Answers (read_once env seen (letters (spell_once env seen w k))) (spell_once env seen w k) (index_or (env w)) k

@@ -3,7 +3,7 @@ use Rattle.std.proofs.Common.{◌≡◌, ℕ, Bool, true, false, cond, List, [],
 use Rattle.it_syntax.specs.declared.types.Symbol.TheVariants.{Comma}
 use Rattle.it_syntax.specs.declared.types.Code.{Code}
 use Rattle.it_syntax.specs.declared.types.Code.TheVariants as codes
-use Rattle.it_syntax.specs.Letters.{Letter, Word, Sym, MarkedLetters, unmarked}
+use Rattle.it_syntax.specs.Letters.{Letter, Word, Sym, MarkedLetters, without_mark}
 use Rattle.it_syntax.specs.FirstFault.{own_code}
 use Rattle.it_syntax.specs.AtomReading.{Reads, ◌>>=◌}
 use Rattle.it_syntax.specs.WrittenAtoms.{Environment, WrittenList, is_measure, index_or}
@@ -82,14 +82,14 @@ more_known env seen w ls i e eb (Ok x) b = record {
   front = Sym Comma ∷ Word w ∷ b.front;
   value = ap (λ (p : Option ℕ). index_or p ∷ indexes_of env b.tree) e.1 ∙ ap (λ (more : List ℕ). i ∷ more) b.value;
   parts = ap (λ (s : List Letter). Sym Comma ∷ Word w ∷ s) b.parts;
-  spells = λ k. ap (λ (q : MarkedLetters). unmarked (Sym Comma) ∷ q) (known_mark env seen w i false e eb (spell_once_more env (seen ++ index_or (env w) ∷ []) b.tree k)) ∙ ap (λ (p : Option ℕ). unmarked (Sym Comma) ∷ unmarked (Word w) ∷ spell_once_more env (seen ++ index_or p ∷ []) b.tree k) e.1 ∙ ap (λ (q : MarkedLetters). unmarked (Sym Comma) ∷ unmarked (Word w) ∷ q) (b.spells k);
+  spells = λ k. ap (λ (q : MarkedLetters). without_mark (Sym Comma) ∷ q) (known_mark env seen w i false e eb (spell_once_more env (seen ++ index_or (env w) ∷ []) b.tree k)) ∙ ap (λ (p : Option ℕ). without_mark (Sym Comma) ∷ without_mark (Word w) ∷ spell_once_more env (seen ++ index_or p ∷ []) b.tree k) e.1 ∙ ap (λ (q : MarkedLetters). without_mark (Sym Comma) ∷ without_mark (Word w) ∷ q) (b.spells k);
   stays = λ s h. more_is env seen w (b.front ++ s) (Ok (i, b.front ++ s)) (known_is env seen w i false e eb (b.front ++ s)) ∙ ap (behind_rate i) (b.stays s h);
 }
 more_known env seen w ls i e eb (Err x) b = record {
   tree = w ∷ b.tree;
   front = Sym Comma ∷ Word w ∷ b.front;
   parts = ap (λ (s : List Letter). Sym Comma ∷ Word w ∷ s) b.parts;
-  spells = λ k. let q = b.spells k in (q.0, (ap (λ (q : MarkedLetters). unmarked (Sym Comma) ∷ q) (known_mark env seen w i false e eb (spell_once_more env (seen ++ index_or (env w) ∷ []) b.tree k)) ∙ ap (λ (p : Option ℕ). unmarked (Sym Comma) ∷ unmarked (Word w) ∷ spell_once_more env (seen ++ index_or p ∷ []) b.tree k) e.1 ∙ ap (λ (q : MarkedLetters). unmarked (Sym Comma) ∷ unmarked (Word w) ∷ q) q.1.0, q.1.1));
+  spells = λ k. let q = b.spells k in (q.0, (ap (λ (q : MarkedLetters). without_mark (Sym Comma) ∷ q) (known_mark env seen w i false e eb (spell_once_more env (seen ++ index_or (env w) ∷ []) b.tree k)) ∙ ap (λ (p : Option ℕ). without_mark (Sym Comma) ∷ without_mark (Word w) ∷ spell_once_more env (seen ++ index_or p ∷ []) b.tree k) e.1 ∙ ap (λ (q : MarkedLetters). without_mark (Sym Comma) ∷ without_mark (Word w) ∷ q) q.1.0, q.1.1));
   stays = λ s h. more_is env seen w (b.front ++ s) (Ok (i, b.front ++ s)) (known_is env seen w i false e eb (b.front ++ s)) ∙ ap (behind_rate i) (b.stays s h);
 }
 

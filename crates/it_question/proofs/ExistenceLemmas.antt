@@ -6,7 +6,7 @@ use Rattle.std.proofs.lemmas.Option.{slice_get-get_or}
 use Rattle.it_syntax.specs.declared.types.Code.{Code}
 use Rattle.it_syntax.specs.declared.types.Misspelling.{Misspelling}
 use Rattle.it_syntax.specs.declared.types.Token.{Token}
-use Rattle.it_syntax.specs.Letters.{Letter, End, Bad, MarkedLetters, unmarked, letters, unmarked_all}
+use Rattle.it_syntax.specs.Letters.{Letter, End, Bad, MarkedLetters, without_mark, letters, without_marks}
 use Rattle.it_syntax.specs.FirstFault.{FirstFault}
 use Rattle.it_syntax.specs.Misspellings.{SpellsUntil}
 use Rattle.it_syntax.specs.AtomReading.{Reads}
@@ -66,10 +66,10 @@ letters_left bytes lines c cut e =
     let p = questions_put most_questions f.tree in
     let front : f.front ≡ end.0 ++ file_end ∷ [] = sym (append-nil f.front) ∙ sym f.parts ∙ end.1 in
     let spelled : letters p.front ++ file_end ∷ [] ≡ end.0 ++ file_end ∷ letters f.more =
-    sym (letters_append p.front (unmarked file_end ∷ [])) ∙ ap letters (sym (p.is (unmarked file_end ∷ [])) ∙ f.viable) ∙ letters_behind f.front f.more ∙ ap (λ (t : List Letter). t ++ letters f.more) front ∙ append_assoc end.0 (file_end ∷ []) (letters f.more) in
+    sym (letters_append p.front (without_mark file_end ∷ [])) ∙ ap letters (sym (p.is (without_mark file_end ∷ [])) ∙ f.viable) ∙ letters_behind f.front f.more ∙ ap (λ (t : List Letter). t ++ letters f.more) front ∙ append_assoc end.0 (file_end ∷ []) (letters f.more) in
     let none : f.more ≡ [] = no_letters f.more (lines_then_end _ (letters p.front) p.kind end.0 (letters f.more) spelled) in
-    let whole : spell_file f.tree ≡ unmarked_all ls = f.viable ∙ ap (λ (m : MarkedLetters). unmarked_all f.front ++ m) none ∙ append-nil (unmarked_all f.front) ∙ ap unmarked_all (sym (append-nil f.front) ∙ sym f.parts) in
-    let read : read_file ls ≡ Ok (questions_of f.tree, []) = reads_only read_file (λ xs k. spell_questions most_questions xs (unmarked file_end ∷ k)) questions_of (λ xs. file_answers xs []) f.tree ls whole in
+    let whole : spell_file f.tree ≡ without_marks ls = f.viable ∙ ap (λ (m : MarkedLetters). without_marks f.front ++ m) none ∙ append-nil (without_marks f.front) ∙ ap without_marks (sym (append-nil f.front) ∙ sym f.parts) in
+    let read : read_file ls ≡ Ok (questions_of f.tree, []) = reads_only read_file (λ xs k. spell_questions most_questions xs (without_mark file_end ∷ k)) questions_of (λ xs. file_answers xs []) f.tree ls whole in
     absurd cc
 
 -- ---- one of the two

@@ -2,7 +2,7 @@
 use Rattle.std.proofs.Common.{◌≡◌, ℕ, zero, suc, ◌-◌, true, List, [], ◌∷◌, None, Ok, refl, arith}
 use Rattle.it_syntax.specs.declared.types.Code.TheVariants as codes
 use Rattle.it_syntax.specs.NamesViews.{NamesView}
-use Rattle.it_syntax.specs.Letters.{Word, End, MarkedLetters, unmarked, letters}
+use Rattle.it_syntax.specs.Letters.{Word, End, MarkedLetters, without_mark, letters}
 use Rattle.it_syntax.specs.Lines.{to_end}
 use Rattle.it_syntax.specs.AtomReading.{◌>>=◌}
 use Rattle.it_syntax.specs.WrittenAtoms.{WrittenList}
@@ -10,7 +10,7 @@ use Rattle.it_syntax.specs.WrittenRelations.{WrittenRelation, spell_relation, re
 use Rattle.it_syntax.specs.Scopes.{scope_of}
 use Rattle.it_syntax.specs.RelationReading.{read_relation}
 use Rattle.it_question.specs.Lines.{file_end}
-use Rattle.it_question.specs.Keywords.{vars_text, rates_text, prove_text, eliminate_text, region_text}
+use Rattle.it_question.specs.Keywords.{vars_keyword, rates_keyword, prove_keyword, eliminate_keyword, region_keyword}
 use Rattle.it_question.specs.Questions as views
 use Rattle.it_question.specs.WrittenQuestions.{WrittenVerb, Prove, Eliminate, Contain, WrittenQuestion, most_questions, most_variables, most_rates, most_lines}
 use Rattle.it_question.specs.NewNames.{Variable, Rate, no_names, spell_new_names, new_names_of, spell_names_line}
@@ -20,34 +20,34 @@ use Rattle.it_question.specs.WrittenFiles.{spell_verb, verb_of, names_of, spell_
 use Rattle.it_question.specs.Reading.{behind_word, read_new_names, read_names_line, read_lines, read_distinct, read_proof, read_elimination, read_verb, read_question, read_end, read_questions, read_file}
 use Rattle.it_syntax.proofs.SpelledIsRead.{Answers, answers_ok, answers_cons, answers_bind}
 use Rattle.it_syntax.proofs.LineEnd.{to_end_answers}
-use Rattle.it_question.proofs.NameAnswers.{marked_answers, names_to_end_answers, names_line_answers}
+use Rattle.it_question.proofs.NameAnswers.{answers_at_mark, names_to_end_answers, names_line_answers}
 use Rattle.it_question.proofs.LineAnswers.{NoOwn, relation_to_end_answers, lines_answers, own_no_word}
 use Rattle.it_question.proofs.DistinctAnswers.{distinct_answers}
 use Rattle.it_question.proofs.RegionAnswers.{spell_contained, containment_answers}
 
 -- ---- what a question wants
 
-proof_answers : (v : NamesView) (x : WrittenRelation) (k : MarkedLetters) → Answers (read_proof v (letters (spell_relation (scope_of v true) x (unmarked End ∷ k)))) (spell_relation (scope_of v true) x (unmarked End ∷ k)) (views.Prove (relation_of (scope_of v true) x)) k
+proof_answers : (v : NamesView) (x : WrittenRelation) (k : MarkedLetters) → Answers (read_proof v (letters (spell_relation (scope_of v true) x (without_mark End ∷ k)))) (spell_relation (scope_of v true) x (without_mark End ∷ k)) (views.Prove (relation_of (scope_of v true) x)) k
 unfolding read_proof
 proof_answers v x k =
     let s = scope_of v true in
-    let m = spell_relation s x (unmarked End ∷ k) in
+    let m = spell_relation s x (without_mark End ∷ k) in
     let c = relation_of s x in
     answers_bind (to_end (read_relation s) (letters m)) (λ x. Ok (views.Prove x.0, x.1)) m k k c (views.Prove c) (relation_to_end_answers v x k) (answers_ok (views.Prove c) k)
 
-elimination_answers : (v : NamesView) (l : WrittenList) (k : MarkedLetters) → Answers (read_elimination v (letters (spell_distinct (rates_env v) l (unmarked End ∷ k)))) (spell_distinct (rates_env v) l (unmarked End ∷ k)) (views.Eliminate (distinct_of (rates_env v) l)) k
+elimination_answers : (v : NamesView) (l : WrittenList) (k : MarkedLetters) → Answers (read_elimination v (letters (spell_distinct (rates_env v) l (without_mark End ∷ k)))) (spell_distinct (rates_env v) l (without_mark End ∷ k)) (views.Eliminate (distinct_of (rates_env v) l)) k
 unfolding read_elimination
 elimination_answers v l k =
     let env = rates_env v in
-    let m = spell_distinct env l (unmarked End ∷ k) in
+    let m = spell_distinct env l (without_mark End ∷ k) in
     let rates = distinct_of env l in
-    answers_bind (to_end (read_distinct env) (letters m)) (λ x. Ok (views.Eliminate x.0, x.1)) m k k rates (views.Eliminate rates) (to_end_answers (read_distinct env) m k rates (distinct_answers env l (unmarked End ∷ k) tt)) (answers_ok (views.Eliminate rates) k)
+    answers_bind (to_end (read_distinct env) (letters m)) (λ x. Ok (views.Eliminate x.0, x.1)) m k k rates (views.Eliminate rates) (to_end_answers (read_distinct env) m k rates (distinct_answers env l (without_mark End ∷ k) tt)) (answers_ok (views.Eliminate rates) k)
 
 verb_answers : (g r : ℕ) (v : NamesView) (x : WrittenVerb) (k : MarkedLetters) → Answers (read_verb g r v (letters (spell_verb g r v x k))) (spell_verb g r v x k) (verb_of v x) k
 unfolding read_verb
-verb_answers g r v (Prove x) k = answers_cons (Word prove_text) _ (spell_relation (scope_of v true) x (unmarked End ∷ k)) (verb_of v (Prove x)) k (proof_answers v x k)
-verb_answers g r v (Eliminate l) k = answers_cons (Word eliminate_text) _ (spell_distinct (rates_env v) l (unmarked End ∷ k)) (verb_of v (Eliminate l)) k (elimination_answers v l k)
-verb_answers g r v (Contain x) k = answers_cons (Word region_text) _ (spell_contained g r v x k) (verb_of v (Contain x)) k (containment_answers g r v x k)
+verb_answers g r v (Prove x) k = answers_cons (Word prove_keyword) _ (spell_relation (scope_of v true) x (without_mark End ∷ k)) (verb_of v (Prove x)) k (proof_answers v x k)
+verb_answers g r v (Eliminate l) k = answers_cons (Word eliminate_keyword) _ (spell_distinct (rates_env v) l (without_mark End ∷ k)) (verb_of v (Eliminate l)) k (elimination_answers v l k)
+verb_answers g r v (Contain x) k = answers_cons (Word region_keyword) _ (spell_contained g r v x k) (verb_of v (Contain x)) k (containment_answers g r v x k)
 
 -- it begins with a word that begins no line before it
 verb_no_own : (g r : ℕ) (v : NamesView) (x : WrittenVerb) (k : MarkedLetters) → NoOwn (spell_verb g r v x k)
@@ -56,7 +56,7 @@ verb_no_own g r v (Prove x) k = record { no_given = refl; no_row = refl }
 verb_no_own g r v (Eliminate l) k = record { no_given = refl; no_row = refl }
 verb_no_own g r v (Contain x) k = record { no_given = refl; no_row = refl }
 
-verb_no_rates : (g r : ℕ) (v : NamesView) (x : WrittenVerb) (k : MarkedLetters) → behind_word rates_text (letters (spell_verb g r v x k)) ≡ None
+verb_no_rates : (g r : ℕ) (v : NamesView) (x : WrittenVerb) (k : MarkedLetters) → behind_word rates_keyword (letters (spell_verb g r v x k)) ≡ None
 unfolding behind_word
 verb_no_rates g r v (Prove x) k = refl
 verb_no_rates g r v (Eliminate l) k = refl
@@ -75,38 +75,38 @@ question_answers x k =
     let rows = rows_left most_lines own in
     let verb = spell_verb givens rows names x.verb k in
     let lines = spell_own most_lines most_lines names x.own verb in
-    let rates = spell_names_line Rate most_rates rates_text variables x.rates lines in
-    let all = spell_new_names Variable most_variables no_names x.variables (unmarked End ∷ rates) in
+    let rates = spell_names_line Rate most_rates rates_keyword variables x.rates lines in
+    let all = spell_new_names Variable most_variables no_names x.variables (without_mark End ∷ rates) in
     let aim = verb_of names x.verb in
     let y = question_of x in
-    answers_bind (to_end (read_new_names Variable most_variables no_names) (letters all)) (λ variables. read_names_line Rate most_rates rates_text variables.0 variables.1 >>= λ names. read_lines most_lines most_lines names.0 names.1 >>= λ own. read_verb (givens_left most_lines own.0) (rows_left most_lines own.0) names.0 own.1 >>= λ aim. Ok (record { names = names.0; lines = own.0; verb = aim.0 }, aim.1)) all rates k variables y
+    answers_bind (to_end (read_new_names Variable most_variables no_names) (letters all)) (λ variables. read_names_line Rate most_rates rates_keyword variables.0 variables.1 >>= λ names. read_lines most_lines most_lines names.0 names.1 >>= λ own. read_verb (givens_left most_lines own.0) (rows_left most_lines own.0) names.0 own.1 >>= λ aim. Ok (record { names = names.0; lines = own.0; verb = aim.0 }, aim.1)) all rates k variables y
     (names_to_end_answers Variable most_variables no_names x.variables rates)
-    (answers_bind (read_names_line Rate most_rates rates_text variables (letters rates)) (λ names. read_lines most_lines most_lines names.0 names.1 >>= λ own. read_verb (givens_left most_lines own.0) (rows_left most_lines own.0) names.0 own.1 >>= λ aim. Ok (record { names = names.0; lines = own.0; verb = aim.0 }, aim.1)) rates lines k names y
-    (names_line_answers Rate most_rates rates_text variables x.rates lines refl (own_no_word rates_text most_lines most_lines names x.own verb refl refl (verb_no_rates givens rows names x.verb k)))
+    (answers_bind (read_names_line Rate most_rates rates_keyword variables (letters rates)) (λ names. read_lines most_lines most_lines names.0 names.1 >>= λ own. read_verb (givens_left most_lines own.0) (rows_left most_lines own.0) names.0 own.1 >>= λ aim. Ok (record { names = names.0; lines = own.0; verb = aim.0 }, aim.1)) rates lines k names y
+    (names_line_answers Rate most_rates rates_keyword variables x.rates lines refl (own_no_word rates_keyword most_lines most_lines names x.own verb refl refl (verb_no_rates givens rows names x.verb k)))
     (answers_bind (read_lines most_lines most_lines names (letters lines)) (λ own. read_verb (givens_left most_lines own.0) (rows_left most_lines own.0) names own.1 >>= λ aim. Ok (record { names = names; lines = own.0; verb = aim.0 }, aim.1)) lines verb k own y
     (lines_answers most_lines most_lines names x.own verb (verb_no_own givens rows names x.verb k))
     (answers_bind (read_verb givens rows names (letters verb)) (λ aim. Ok (record { names = names; lines = own; verb = aim.0 }, aim.1)) verb k k aim y (verb_answers givens rows names x.verb k) (answers_ok y k))))
 
 -- questions up to the file's end, of which n are allowed
-pub questions_answers : (n : ℕ) (xs : List WrittenQuestion) (k : MarkedLetters) → Answers (read_questions n (letters (spell_questions n xs (unmarked file_end ∷ k)))) (spell_questions n xs (unmarked file_end ∷ k)) (questions_of xs) k
+pub questions_answers : (n : ℕ) (xs : List WrittenQuestion) (k : MarkedLetters) → Answers (read_questions n (letters (spell_questions n xs (without_mark file_end ∷ k)))) (spell_questions n xs (without_mark file_end ∷ k)) (questions_of xs) k
 unfolding read_questions read_end behind_word
 questions_answers zero [] k = answers_cons file_end _ k [] k (answers_ok [] k)
 questions_answers (suc n) [] k = answers_cons file_end _ k [] k (answers_ok [] k)
 questions_answers zero (x ∷ xs) k =
-    let m = spell_question x (spell_questions (0 - 1) xs (unmarked file_end ∷ k)) in
-    marked_answers codes.Many (Word vars_text) m _ _
+    let m = spell_question x (spell_questions (0 - 1) xs (without_mark file_end ∷ k)) in
+    answers_at_mark codes.Many (Word vars_keyword) m _ _
 questions_answers (suc n) (x ∷ xs) k =
     let e : (suc n - 1) ≡ n = omega arith in
-    let m = spell_questions n xs (unmarked file_end ∷ k) in
+    let m = spell_questions n xs (without_mark file_end ∷ k) in
     let y = question_of x in
     let ys = questions_of xs in
     let all = spell_question x m in
     rw e
-    (answers_cons (Word vars_text) _ all (y ∷ ys) k
+    (answers_cons (Word vars_keyword) _ all (y ∷ ys) k
     (answers_bind (read_question (letters all)) (λ q. read_questions n q.1 >>= λ qs. Ok (q.0 ∷ qs.0, qs.1)) all m k y (y ∷ ys) (question_answers x m)
     (answers_bind (read_questions n (letters m)) (λ qs. Ok (y ∷ qs.0, qs.1)) m k k ys (y ∷ ys) (questions_answers n xs k) (answers_ok (y ∷ ys) k))))
 
 -- a file up to its end
-pub file_answers : (xs : List WrittenQuestion) (k : MarkedLetters) → Answers (read_file (letters (spell_questions most_questions xs (unmarked file_end ∷ k)))) (spell_questions most_questions xs (unmarked file_end ∷ k)) (questions_of xs) k
+pub file_answers : (xs : List WrittenQuestion) (k : MarkedLetters) → Answers (read_file (letters (spell_questions most_questions xs (without_mark file_end ∷ k)))) (spell_questions most_questions xs (without_mark file_end ∷ k)) (questions_of xs) k
 unfolding read_file
 file_answers xs k = questions_answers most_questions xs k

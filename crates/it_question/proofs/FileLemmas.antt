@@ -5,7 +5,7 @@ use Rattle.std.proofs.lemmas.List.{append-nil}
 use Rattle.it_syntax.specs.declared.types.Code.{Code}
 use Rattle.it_syntax.specs.declared.types.Misspelling.{Misspelling}
 use Rattle.it_syntax.specs.declared.types.Token.{Token}
-use Rattle.it_syntax.specs.Letters.{Letter, MarkedLetters, unmarked, letters, unmarked_all}
+use Rattle.it_syntax.specs.Letters.{Letter, MarkedLetters, without_mark, letters, without_marks}
 use Rattle.it_syntax.specs.FirstFault.{FirstFault}
 use Rattle.it_syntax.specs.Misspellings.{SpellsUntil}
 use Rattle.it_syntax.specs.AtomReading.{Reads}
@@ -54,7 +54,7 @@ lines_are_one n (bytes ∷ split) lines more (inr h) (inr g) =
 -- ---- the file's end is read last
 
 abbrev spell_to_end : List WrittenQuestion → MarkedLetters → MarkedLetters
-spell_to_end xs k = spell_questions most_questions xs (unmarked file_end ∷ k)
+spell_to_end xs k = spell_questions most_questions xs (without_mark file_end ∷ k)
 
 -- nothing is left of the letters of a file that is read
 pub nothing_left_of_file : (bytes : List ℕ) (lines : List TokenLine) (ys : List BodyView) (r : List Letter) → AreLinesOf bytes lines → read_file (letters_of_lines lines) ≡ Ok (ys, r) → r ≡ []
@@ -63,19 +63,19 @@ nothing_left_of_file bytes lines ys r cut e =
     let w : Went read_file spell_to_end questions_of ls ys r = subst (λ (t : Reads (List BodyView)). By read_file spell_to_end questions_of ls t) e (file_traces ls) in
     let p = questions_put most_questions w.tree in
     let front : w.front ≡ letters p.front ++ file_end ∷ [] =
-    sym (append-nil w.front) ∙ sym (letters_behind w.front []) ∙ ap letters (sym (w.spells []) ∙ p.is (unmarked file_end ∷ [])) ∙ letters_append p.front (unmarked file_end ∷ []) in
+    sym (append-nil w.front) ∙ sym (letters_behind w.front []) ∙ ap letters (sym (w.spells []) ∙ p.is (without_mark file_end ∷ [])) ∙ letters_append p.front (without_mark file_end ∷ []) in
     lines_once 1 (split_lines bytes) lines cut (letters p.front) r (w.parts ∙ ap (λ (t : List Letter). t ++ r) front ∙ append_assoc (letters p.front) (file_end ∷ []) r)
 
 -- ---- what reading tells
 
 -- what is read is what the file asks
-pub read_asks : (bytes : List ℕ) (lines : List TokenLine) (ys : List BodyView) (r : List Letter) → AreLinesOf bytes lines → read_file (letters_of_lines lines) ≡ Ok (ys, r) → (trees : List WrittenQuestion) × ((spell_file trees ≡ unmarked_all (letters_of_lines lines)) × (questions_of trees ≡ ys))
+pub read_asks : (bytes : List ℕ) (lines : List TokenLine) (ys : List BodyView) (r : List Letter) → AreLinesOf bytes lines → read_file (letters_of_lines lines) ≡ Ok (ys, r) → (trees : List WrittenQuestion) × ((spell_file trees ≡ without_marks (letters_of_lines lines)) × (questions_of trees ≡ ys))
 read_asks bytes lines ys r cut e =
     let whole : read_file (letters_of_lines lines) ≡ Ok (ys, []) = e ∙ ap (λ (s : List Letter). Ok (ys, s)) (nothing_left_of_file bytes lines ys r cut e) in
     reads_found read_file spell_to_end questions_of file_traces (letters_of_lines lines) ys whole
 
 -- and what the file asks is read
-pub asks_read : (ls : List Letter) (xs : List WrittenQuestion) → spell_file xs ≡ unmarked_all ls → read_file ls ≡ Ok (questions_of xs, [])
+pub asks_read : (ls : List Letter) (xs : List WrittenQuestion) → spell_file xs ≡ without_marks ls → read_file ls ≡ Ok (questions_of xs, [])
 asks_read ls xs h = reads_only read_file spell_to_end questions_of (λ xs. file_answers xs []) xs ls h
 
 -- where reading stops is the first fault
@@ -84,7 +84,7 @@ read_stops lines c r e = first_fault read_file spell_to_end questions_of file_tr
 
 -- ---- one reading, or one fault
 
-asks_one : (ls : List Letter) (xs ys : List WrittenQuestion) → spell_file xs ≡ unmarked_all ls → spell_file ys ≡ unmarked_all ls → questions_of xs ≡ questions_of ys
+asks_one : (ls : List Letter) (xs ys : List WrittenQuestion) → spell_file xs ≡ without_marks ls → spell_file ys ≡ without_marks ls → questions_of xs ≡ questions_of ys
 asks_one ls xs ys h g =
     let x = asks_read ls xs h in
     let y = asks_read ls ys g in
@@ -94,7 +94,7 @@ asks_one ls xs ys h g =
 pub file_is_one : FileIsOne
 file_is_one bytes qs rs f g =
     let lines : f.lines ≡ g.lines = lines_are_one 1 (split_lines bytes) f.lines g.lines f.cut g.cut in
-    let spelled : spell_file f.trees ≡ unmarked_all (letters_of_lines g.lines) = f.spelled ∙ ap (λ (ls : List TokenLine). unmarked_all (letters_of_lines ls)) lines in
+    let spelled : spell_file f.trees ≡ without_marks (letters_of_lines g.lines) = f.spelled ∙ ap (λ (ls : List TokenLine). without_marks (letters_of_lines ls)) lines in
     let same = asks_one (letters_of_lines g.lines) f.trees g.trees spelled g.spelled in
     sym f.are ∙ ap (λ (ls : List TokenLine). with_texts ls (questions_of f.trees)) lines ∙ ap (with_texts g.lines) same ∙ g.are
 
@@ -115,6 +115,6 @@ pub file_or_fault : FileOrFault
 file_or_fault bytes qs line column c f g =
     let lines : f.lines ≡ g.lines = lines_are_one 1 (split_lines bytes) f.lines g.lines f.cut g.cut in
     let ls = letters_of_lines g.lines in
-    let spelled : spell_file f.trees ≡ unmarked_all ls = f.spelled ∙ ap (λ (ls : List TokenLine). unmarked_all (letters_of_lines ls)) lines in
+    let spelled : spell_file f.trees ≡ without_marks ls = f.spelled ∙ ap (λ (ls : List TokenLine). without_marks (letters_of_lines ls)) lines in
     let k = g.first.each f.trees g.left refl (ap letters spelled ∙ letters_cleaned ls ∙ g.first.parts) in
     clean_is_clean ls g.first.front c (k.0, k.1, sym spelled ∙ k.2)

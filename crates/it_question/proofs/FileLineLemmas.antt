@@ -4,7 +4,7 @@ use Rattle.std.proofs.lemmas.List.{length-map}
 use Rattle.it_question.specs.Lines.{TokenLine, AreLines, without_return, before_comment, without_tab, plain_text}
 use Rattle.it_question.specs.ReaderSteps.{IsLineAdded}
 
-return_shorter : (line : List ℕ) → length (without_return line) ≤ length line
+pub return_shorter : (line : List ℕ) → length (without_return line) ≤ length line
 return_shorter [] = omega arith
 return_shorter (b ∷ []) = by (b == 13)
   where
@@ -13,7 +13,7 @@ return_shorter (b ∷ []) = by (b == 13)
     by false = omega arith
 return_shorter (b ∷ c ∷ line) = omega (arith, return_shorter (c ∷ line))
 
-comment_shorter : (line : List ℕ) → length (before_comment line) ≤ length line
+pub comment_shorter : (line : List ℕ) → length (before_comment line) ≤ length line
 comment_shorter [] = omega arith
 comment_shorter (b ∷ line) = by (b == 35) (comment_shorter line)
   where

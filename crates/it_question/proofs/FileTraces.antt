@@ -4,7 +4,7 @@ use Rattle.std.specs.Prelude.{bytes_eq}
 use Rattle.std.proofs.lemmas.Slice.Eq.{bytes_eq-Decides}
 use Rattle.it_syntax.specs.declared.types.Code.TheVariants as codes
 use Rattle.it_syntax.specs.NamesViews.{NamesView}
-use Rattle.it_syntax.specs.Letters.{Letter, Word, End, Bad, MarkedLetters, unmarked}
+use Rattle.it_syntax.specs.Letters.{Letter, Word, End, Bad, MarkedLetters, without_mark}
 use Rattle.it_syntax.specs.FirstFault.{head}
 use Rattle.it_syntax.specs.Lines.{to_end}
 use Rattle.it_syntax.specs.AtomReading.{Reads, ◌>>=◌}
@@ -17,7 +17,7 @@ use Rattle.it_syntax.proofs.AtomTraces.{stuck_here, stuck_none}
 use Rattle.it_syntax.proofs.RelationTraces.{relation_traces}
 use Rattle.it_syntax.proofs.LineEnd.{to_end_traces}
 use Rattle.it_question.specs.Lines.{file_end}
-use Rattle.it_question.specs.Keywords.{vars_text, rates_text, region_text, prove_text, eliminate_text}
+use Rattle.it_question.specs.Keywords.{vars_keyword, rates_keyword, region_keyword, prove_keyword, eliminate_keyword}
 use Rattle.it_question.specs.Questions.{OwnLinesView, VerbView, BodyView}
 use Rattle.it_question.specs.Questions as views
 use Rattle.it_question.specs.WrittenQuestions.{WrittenLine, WrittenVerb, Prove, Eliminate, Contain, WrittenQuestion, most_questions, most_variables, most_rates, most_lines}
@@ -35,7 +35,7 @@ use Rattle.it_question.proofs.RegionTraces.{containment_traces}
 -- ---- aims
 
 abbrev pub spell_proof : NamesView → WrittenRelation → MarkedLetters → MarkedLetters
-spell_proof v x k = spell_relation (scope_of v true) x (unmarked End ∷ k)
+spell_proof v x k = spell_relation (scope_of v true) x (without_mark End ∷ k)
 
 -- behind `prove`
 pub proof_traces : (v : NamesView) → Traces (read_proof v) (spell_proof v) (λ x. views.Prove (relation_of (scope_of v true) x))
@@ -43,7 +43,7 @@ unfolding read_proof
 proof_traces v = traces_map (to_end (read_relation (scope_of v true))) views.Prove (spell_proof v) (relation_of (scope_of v true)) (to_end_traces (read_relation (scope_of v true)) (spell_relation (scope_of v true)) (relation_of (scope_of v true)) (relation_traces (scope_of v true)))
 
 abbrev pub spell_elimination : NamesView → WrittenList → MarkedLetters → MarkedLetters
-spell_elimination v l k = spell_distinct (rates_env v) l (unmarked End ∷ k)
+spell_elimination v l k = spell_distinct (rates_env v) l (without_mark End ∷ k)
 
 -- behind `eliminate`
 pub elimination_traces : (v : NamesView) → Traces (read_elimination v) (spell_elimination v) (λ l. views.Eliminate (distinct_of (rates_env v) l))
@@ -53,26 +53,26 @@ elimination_traces v = traces_map (to_end (read_distinct (rates_env v))) views.E
 abbrev verb_by_word : ℕ → ℕ → NamesView → List ℕ → List Letter → Bool → Bool → Bool → Reads VerbView
 verb_by_word g r v w ls h i j = cond h (read_proof v ls) (cond i (read_elimination v ls) (cond j (read_containment g r v ls) (Err (codes.Word, Word w ∷ ls))))
 
-verb_is : (g r : ℕ) (v : NamesView) (w : List ℕ) (h i j : Bool) → bytes_eq w prove_text ≡ h → bytes_eq w eliminate_text ≡ i → bytes_eq w region_text ≡ j → (ls : List Letter) → read_verb g r v (Word w ∷ ls) ≡ verb_by_word g r v w ls h i j
+verb_is : (g r : ℕ) (v : NamesView) (w : List ℕ) (h i j : Bool) → bytes_eq w prove_keyword ≡ h → bytes_eq w eliminate_keyword ≡ i → bytes_eq w region_keyword ≡ j → (ls : List Letter) → read_verb g r v (Word w ∷ ls) ≡ verb_by_word g r v w ls h i j
 unfolding read_verb
-verb_is g r v w h i j eh ei ej ls = ap (λ (b : Bool). verb_by_word g r v w ls b (bytes_eq w eliminate_text) (bytes_eq w region_text)) eh ∙ ap (λ (b : Bool). verb_by_word g r v w ls h b (bytes_eq w region_text)) ei ∙ ap (λ (b : Bool). verb_by_word g r v w ls h i b) ej
+verb_is g r v w h i j eh ei ej ls = ap (λ (b : Bool). verb_by_word g r v w ls b (bytes_eq w eliminate_keyword) (bytes_eq w region_keyword)) eh ∙ ap (λ (b : Bool). verb_by_word g r v w ls h b (bytes_eq w region_keyword)) ei ∙ ap (λ (b : Bool). verb_by_word g r v w ls h i b) ej
 
 some_verb : WrittenVerb
 some_verb = Prove some_relation
 
-verb_by : (g r : ℕ) (v : NamesView) (w : List ℕ) (ls : List Letter) (h i j : Bool) → bytes_eq w prove_text ≡ h → bytes_eq w eliminate_text ≡ i → bytes_eq w region_text ≡ j → By (read_verb g r v) (spell_verb g r v) (verb_of v) (Word w ∷ ls) (verb_by_word g r v w ls h i j)
+verb_by : (g r : ℕ) (v : NamesView) (w : List ℕ) (ls : List Letter) (h i j : Bool) → bytes_eq w prove_keyword ≡ h → bytes_eq w eliminate_keyword ≡ i → bytes_eq w region_keyword ≡ j → By (read_verb g r v) (spell_verb g r v) (verb_of v) (Word w ∷ ls) (verb_by_word g r v w ls h i j)
 verb_by g r v w ls true i j eh ei ej = letter_then (read_verb g r v) (read_proof v) (Word w) (spell_proof v) (spell_verb g r v) (λ x. views.Prove (relation_of (scope_of v true) x)) (verb_of v) Prove ls (verb_is g r v w true i j eh ei ej)
-    (λ z k. ap (λ (t : List ℕ). unmarked (Word t) ∷ spell_proof v z k) (sym ((bytes_eq-Decides w prove_text).0 eh))) (λ z. refl) (read_proof v ls) (proof_traces v ls)
+    (λ z k. ap (λ (t : List ℕ). without_mark (Word t) ∷ spell_proof v z k) (sym ((bytes_eq-Decides w prove_keyword).0 eh))) (λ z. refl) (read_proof v ls) (proof_traces v ls)
 verb_by g r v w ls false true j eh ei ej = letter_then (read_verb g r v) (read_elimination v) (Word w) (spell_elimination v) (spell_verb g r v) (λ l. views.Eliminate (distinct_of (rates_env v) l)) (verb_of v) Eliminate ls (verb_is g r v w false true j eh ei ej)
-    (λ z k. ap (λ (t : List ℕ). unmarked (Word t) ∷ spell_elimination v z k) (sym ((bytes_eq-Decides w eliminate_text).0 ei))) (λ z. refl) (read_elimination v ls) (elimination_traces v ls)
+    (λ z k. ap (λ (t : List ℕ). without_mark (Word t) ∷ spell_elimination v z k) (sym ((bytes_eq-Decides w eliminate_keyword).0 ei))) (λ z. refl) (read_elimination v ls) (elimination_traces v ls)
 verb_by g r v w ls false false true eh ei ej = letter_then (read_verb g r v) (read_containment g r v) (Word w) (spell_contained g r v) (spell_verb g r v) (containment_of v) (verb_of v) Contain ls (verb_is g r v w false false true eh ei ej)
-    (λ z k. ap (λ (t : List ℕ). unmarked (Word t) ∷ spell_contained g r v z k) (sym ((bytes_eq-Decides w region_text).0 ej))) (λ z. refl) (read_containment g r v ls) (containment_traces g r v ls)
+    (λ z k. ap (λ (t : List ℕ). without_mark (Word t) ∷ spell_contained g r v z k) (sym ((bytes_eq-Decides w region_keyword).0 ej))) (λ z. refl) (read_containment g r v ls) (containment_traces g r v ls)
 verb_by g r v w ls false false false eh ei ej = stuck_here (read_verb g r v) (spell_verb g r v) some_verb (Word w) ls codes.Word (verb_is g r v w false false false eh ei ej) refl
 
 -- what a question wants, where g and r lines may still stand in its regions
 pub verb_traces : (g r : ℕ) (v : NamesView) → Traces (read_verb g r v) (spell_verb g r v) (verb_of v)
 unfolding read_verb
-verb_traces g r v (Word w ∷ ls) = verb_by g r v w ls (bytes_eq w prove_text) (bytes_eq w eliminate_text) (bytes_eq w region_text) refl refl refl
+verb_traces g r v (Word w ∷ ls) = verb_by g r v w ls (bytes_eq w prove_keyword) (bytes_eq w eliminate_keyword) (bytes_eq w region_keyword) refl refl refl
 verb_traces g r v [] = stuck_none (read_verb g r v) (spell_verb g r v) some_verb refl
 verb_traces g r v (l ∷ ls) = stuck_here (read_verb g r v) (spell_verb g r v) some_verb l ls _ (λ s. refl) refl
 
@@ -112,17 +112,17 @@ abbrev Rest : Type 0
 Rest = Option WrittenList × Body
 
 abbrev read_rest : NamesView → List Letter → Reads BodyView
-read_rest v ls = read_names_line Rate most_rates rates_text v ls >>= λ names. read_body names.0 names.1
+read_rest v ls = read_names_line Rate most_rates rates_keyword v ls >>= λ names. read_body names.0 names.1
 
 abbrev spell_rest : NamesView → Rest → MarkedLetters → MarkedLetters
-spell_rest v x k = spell_names_line Rate most_rates rates_text v x.0 (spell_body (names_line_of Rate v x.0) x.1 k)
+spell_rest v x k = spell_names_line Rate most_rates rates_keyword v x.0 (spell_body (names_line_of Rate v x.0) x.1 k)
 
 abbrev rest_of : NamesView → Rest → BodyView
 rest_of v x = body_of (names_line_of Rate v x.0) x.1
 
 rest_traces : (v : NamesView) → Traces (read_rest v) (spell_rest v) (rest_of v)
-rest_traces v = traces_bind (read_names_line Rate most_rates rates_text v) read_body (read_rest v) (spell_names_line Rate most_rates rates_text v) spell_body (spell_rest v) (names_line_of Rate v) body_of (rest_of v) (λ x y. (x, y))
-    (record { is = λ ls. refl; spells = λ y z k. refl; value = λ y z. refl; some = some_body; first = names_line_traces Rate most_rates rates_text v; second = body_traces })
+rest_traces v = traces_bind (read_names_line Rate most_rates rates_keyword v) read_body (read_rest v) (spell_names_line Rate most_rates rates_keyword v) spell_body (spell_rest v) (names_line_of Rate v) body_of (rest_of v) (λ x y. (x, y))
+    (record { is = λ ls. refl; spells = λ y z k. refl; value = λ y z. refl; some = some_body; first = names_line_traces Rate most_rates rates_keyword v; second = body_traces })
 
 abbrev question_made : WrittenList → Rest → WrittenQuestion
 question_made l x = record { variables = l; rates = x.0; own = x.1.0; verb = x.1.1 }
@@ -130,7 +130,7 @@ question_made l x = record { variables = l; rates = x.0; own = x.1.0; verb = x.1
 -- a question behind its word `vars`
 pub question_traces : Traces read_question spell_question question_of
 unfolding read_question
-question_traces = traces_bind (to_end (read_new_names Variable most_variables no_names)) read_rest read_question (λ l k. spell_new_names Variable most_variables no_names l (unmarked End ∷ k)) spell_rest spell_question (new_names_of Variable no_names) rest_of question_of question_made
+question_traces = traces_bind (to_end (read_new_names Variable most_variables no_names)) read_rest read_question (λ l k. spell_new_names Variable most_variables no_names l (without_mark End ∷ k)) spell_rest spell_question (new_names_of Variable no_names) rest_of question_of question_made
     (record { is = λ ls. refl; spells = λ y z k. refl; value = λ y z. refl; some = (None, some_body); first = to_end_traces (read_new_names Variable most_variables no_names) (spell_new_names Variable most_variables no_names) (new_names_of Variable no_names) (new_names_traces Variable most_variables no_names); second = rest_traces })
 
 some_question : WrittenQuestion
@@ -140,20 +140,20 @@ some_question = record { variables = record { first = 88 ∷ []; more = [] }; ra
 
 -- questions, of which n are allowed, and the file's end
 abbrev pub spell_to_end : ℕ → List WrittenQuestion → MarkedLetters → MarkedLetters
-spell_to_end n xs k = spell_questions n xs (unmarked file_end ∷ k)
+spell_to_end n xs k = spell_questions n xs (without_mark file_end ∷ k)
 
 -- the file's end
-pub file_end_traces : Traces read_end (λ (u : Unit {0}) k. unmarked file_end ∷ k) (λ u. [])
+pub file_end_traces : Traces read_end (λ (u : Unit {0}) k. without_mark file_end ∷ k) (λ u. [])
 unfolding read_end
 file_end_traces (Bad codes.Unfinished ∷ ls) = record { tree = tt; front = file_end ∷ []; value = refl; parts = refl; spells = λ k. refl; stays = λ s e. refl }
-file_end_traces [] = stuck_none read_end (λ (u : Unit {0}) k. unmarked file_end ∷ k) tt refl
-file_end_traces (l ∷ ls) = stuck_here read_end (λ (u : Unit {0}) k. unmarked file_end ∷ k) tt l ls _ (λ s. refl) refl
+file_end_traces [] = stuck_none read_end (λ (u : Unit {0}) k. without_mark file_end ∷ k) tt refl
+file_end_traces (l ∷ ls) = stuck_here read_end (λ (u : Unit {0}) k. without_mark file_end ∷ k) tt l ls _ (λ s. refl) refl
 
 -- no further question stands there
 no_question_left : (n : ℕ) (ls : List Letter) → ((s : List Letter) → head s ≡ head ls → read_questions n s ≡ read_end s) → By (read_questions n) (spell_to_end n) questions_of ls (read_questions n ls)
 no_question_left n ls h = subst (λ (t : Reads (List BodyView)). By (read_questions n) (spell_to_end n) questions_of ls t) (sym (h ls refl))
     (switch read_end (read_questions n) (spell_to_end n) questions_of ls h (read_end ls)
-    (by_renaming read_end (λ (u : Unit {0}) k. unmarked file_end ∷ k) (spell_to_end n) (λ u. []) questions_of (λ u. []) ls (λ z k. refl) (λ z. refl) (read_end ls) (file_end_traces ls)))
+    (by_renaming read_end (λ (u : Unit {0}) k. without_mark file_end ∷ k) (spell_to_end n) (λ u. []) questions_of (λ u. []) ls (λ z k. refl) (λ z. refl) (read_end ls) (file_end_traces ls)))
 
 -- a question, and those behind it
 abbrev Questions : Type 0
@@ -172,22 +172,22 @@ question_then_traces n h = traces_bind read_question (λ q ls. read_questions n 
 abbrev questions_made : Questions → List WrittenQuestion
 questions_made x = x.0 ∷ x.1
 
-questions_spelled : (n : ℕ) (x : Questions) (k : MarkedLetters) → spell_to_end (suc n) (questions_made x) k ≡ unmarked (Word vars_text) ∷ spell_question_then n x k
+questions_spelled : (n : ℕ) (x : Questions) (k : MarkedLetters) → spell_to_end (suc n) (questions_made x) k ≡ without_mark (Word vars_keyword) ∷ spell_question_then n x k
 questions_spelled n x k =
     let e : suc n - 1 ≡ n = omega arith in
-    ap (λ (m : ℕ). unmarked (Word vars_text) ∷ spell_question_then m x k) e
+    ap (λ (m : ℕ). without_mark (Word vars_keyword) ∷ spell_question_then m x k) e
 
 -- questions up to the file's end, of which n are allowed
-pub questions_traces : (n : ℕ) → Traces (read_questions n) (λ xs k. spell_questions n xs (unmarked file_end ∷ k)) questions_of
+pub questions_traces : (n : ℕ) → Traces (read_questions n) (λ xs k. spell_questions n xs (without_mark file_end ∷ k)) questions_of
 unfolding read_questions behind_word
-questions_traces zero ls = at_word vars_text (read_questions zero) (spell_to_end zero) questions_of ls
-    (λ behind. marked_here (read_questions zero) (spell_to_end zero) (some_question ∷ []) (Word vars_text) behind codes.Many (λ k. spell_question some_question (unmarked file_end ∷ k)) (λ k. refl) (λ s. refl))
+questions_traces zero ls = at_word vars_keyword (read_questions zero) (spell_to_end zero) questions_of ls
+    (λ behind. marked_here (read_questions zero) (spell_to_end zero) (some_question ∷ []) (Word vars_keyword) behind codes.Many (λ k. spell_question some_question (without_mark file_end ∷ k)) (λ k. refl) (λ s. refl))
     (λ h. no_question_left zero ls (λ s e. ap (λ (o : Option (List Letter)). if_question (λ behind. Err (codes.Many, s)) o s) (h s e)))
-questions_traces (suc n) ls = at_word vars_text (read_questions (suc n)) (spell_to_end (suc n)) questions_of ls
-    (λ behind. behind_traced vars_text (read_questions (suc n)) (question_then (read_questions n)) (spell_question_then n) (spell_to_end (suc n)) question_then_of questions_of questions_made behind (λ s. refl) (questions_spelled n) (λ z. refl) (question_then_traces n (questions_traces n)))
+questions_traces (suc n) ls = at_word vars_keyword (read_questions (suc n)) (spell_to_end (suc n)) questions_of ls
+    (λ behind. behind_traced vars_keyword (read_questions (suc n)) (question_then (read_questions n)) (spell_question_then n) (spell_to_end (suc n)) question_then_of questions_of questions_made behind (λ s. refl) (questions_spelled n) (λ z. refl) (question_then_traces n (questions_traces n)))
     (λ h. no_question_left (suc n) ls (λ s e. ap (λ (o : Option (List Letter)). if_question (question_then (read_questions n)) o s) (h s e)))
 
 -- a whole file
-pub file_traces : Traces read_file (λ xs k. spell_questions most_questions xs (unmarked file_end ∷ k)) questions_of
+pub file_traces : Traces read_file (λ xs k. spell_questions most_questions xs (without_mark file_end ∷ k)) questions_of
 unfolding read_file
 file_traces = questions_traces most_questions

@@ -9,10 +9,9 @@ use Rattle.it_syntax.specs.Letters.{Letter, Word, Bad}
 use Rattle.it_syntax.specs.Lines.{to_end}
 use Rattle.it_syntax.specs.Meaning.{RelationView}
 use Rattle.it_syntax.specs.AtomReading.{Reads, ◌>>=◌, no_rule, line_end}
-use Rattle.it_syntax.specs.Scopes.{env_of}
-use Rattle.it_syntax.specs.Scopes.{scope_of}
+use Rattle.it_syntax.specs.Scopes.{env_of, scope_of}
 use Rattle.it_syntax.specs.RelationReading.{read_relation}
-use Rattle.it_question.specs.Keywords.{vars_text, rates_text, region_text, aux_text, prove_text, eliminate_text, contain_text}
+use Rattle.it_question.specs.Keywords.{vars_keyword, rates_keyword, region_keyword, aux_keyword, prove_keyword, eliminate_keyword, contain_keyword}
 use Rattle.it_question.specs.Limits.{AreRatesOf, AreLinesOver, IsRegionOf, IsVerbOver, IsQuestion}
 use Rattle.it_question.specs.Questions.{OwnLinesView, RegionView, VerbView, Prove, Eliminate, Contain, BodyView}
 use Rattle.it_question.specs.NewNames.{Variable, Rate, no_names}
@@ -57,8 +56,8 @@ Region v x = IsRegionOf v x.0
 region_sure : (g r : ℕ) (v : NamesView) → g ≤ 64 → r ≤ 64 → length v.variables ≤ 8 → (ls : List Letter) → Sure (Region v) (read_region g r v ls)
 unfolding read_region
 region_sure g r v few_g few_r few ls =
-    sure_bind Any (Region v) (line_end ls) (λ e. read_names_line Variable (auxiliaries_left v) aux_text v e.1 >>= λ names. read_lines g r names.0 names.1 >>= λ own. Ok (bounds v names.0 own.0, own.1)) (sure_any (line_end ls))
-    (λ e u. sure_bind (Grows Variable 0 (auxiliaries_left v) v) (Region v) (read_names_line Variable (auxiliaries_left v) aux_text v e.1) (λ names. read_lines g r names.0 names.1 >>= λ own. Ok (bounds v names.0 own.0, own.1)) (names_line_sure Variable (auxiliaries_left v) aux_text v e.1)
+    sure_bind Any (Region v) (line_end ls) (λ e. read_names_line Variable (auxiliaries_left v) aux_keyword v e.1 >>= λ names. read_lines g r names.0 names.1 >>= λ own. Ok (bounds v names.0 own.0, own.1)) (sure_any (line_end ls))
+    (λ e u. sure_bind (Grows Variable 0 (auxiliaries_left v) v) (Region v) (read_names_line Variable (auxiliaries_left v) aux_keyword v e.1) (λ names. read_lines g r names.0 names.1 >>= λ own. Ok (bounds v names.0 own.0, own.1)) (names_line_sure Variable (auxiliaries_left v) aux_keyword v e.1)
     (λ names hn. sure_bind (Own g r names.0) (Region v) (read_lines g r names.0 names.1) (λ own. Ok (bounds v names.0 own.0, own.1)) (lines_sure g r names.0 names.1)
     (λ own ho. region_of_own v names.0 own.0 few hn (lines_over g r names.0 own.0 few_g few_r ho))))
 
@@ -70,16 +69,16 @@ Over v x = IsVerbOver v x.0
 containment_sure : (g r : ℕ) (v : NamesView) → g ≤ 64 → r ≤ 64 → length v.variables ≤ 8 → (ls : List Letter) → Sure (Over v) (read_containment g r v ls)
 unfolding read_containment
 containment_sure g r v few_g few_r few ls =
-    sure_bind (Region v) (Over v) (read_region g r v ls) (λ first. read_word region_text first.1 >>= λ x. read_region (givens_left g first.0.lines) (rows_left r first.0.lines) v x.1 >>= λ second. read_tries most_lines (auxiliary_env v second.0.names) (env_of first.0.names) (unnamed_sets second.0.auxiliaries) second.1 >>= λ tries. read_word_line contain_text tries.1 >>= λ e. Ok (Contain first.0 second.0 tries.0, e.1)) (region_sure g r v few_g few_r few ls)
+    sure_bind (Region v) (Over v) (read_region g r v ls) (λ first. read_word region_keyword first.1 >>= λ x. read_region (givens_left g first.0.lines) (rows_left r first.0.lines) v x.1 >>= λ second. read_tries most_lines (auxiliary_env v second.0.names) (env_of first.0.names) (unnamed_sets second.0.auxiliaries) second.1 >>= λ tries. read_word_line contain_keyword tries.1 >>= λ e. Ok (Contain first.0 second.0 tries.0, e.1)) (region_sure g r v few_g few_r few ls)
     (λ first hf.
     let givens = givens_left g first.0.lines in
     let rows = rows_left r first.0.lines in
     let env = env_of first.0.names in
     let n = length first.0.names.variables in
-    sure_bind Any (Over v) (read_word region_text first.1) (λ x. read_region givens rows v x.1 >>= λ second. read_tries most_lines (auxiliary_env v second.0.names) env (unnamed_sets second.0.auxiliaries) second.1 >>= λ tries. read_word_line contain_text tries.1 >>= λ e. Ok (Contain first.0 second.0 tries.0, e.1)) (sure_any (read_word region_text first.1))
-    (λ x u. sure_bind (Region v) (Over v) (read_region givens rows v x.1) (λ second. read_tries most_lines (auxiliary_env v second.0.names) env (unnamed_sets second.0.auxiliaries) second.1 >>= λ tries. read_word_line contain_text tries.1 >>= λ e. Ok (Contain first.0 second.0 tries.0, e.1)) (region_sure givens rows v (omega (arith, few_g)) (omega (arith, few_r)) few x.1)
-    (λ second hs. sure_bind (AreTries n most_lines) (Over v) (read_tries most_lines (auxiliary_env v second.0.names) env (unnamed_sets second.0.auxiliaries) second.1) (λ tries. read_word_line contain_text tries.1 >>= λ e. Ok (Contain first.0 second.0 tries.0, e.1)) (tries_sure most_lines (auxiliary_env v second.0.names) env n (knows_names first.0.names) second.0.auxiliaries second.1)
-    (λ tries ht. sure_bind Any (Over v) (read_word_line contain_text tries.1) (λ e. Ok (Contain first.0 second.0 tries.0, e.1)) (sure_any (read_word_line contain_text tries.1)) (λ e w. (hf, hs, ht.0, ht.1))))))
+    sure_bind Any (Over v) (read_word region_keyword first.1) (λ x. read_region givens rows v x.1 >>= λ second. read_tries most_lines (auxiliary_env v second.0.names) env (unnamed_sets second.0.auxiliaries) second.1 >>= λ tries. read_word_line contain_keyword tries.1 >>= λ e. Ok (Contain first.0 second.0 tries.0, e.1)) (sure_any (read_word region_keyword first.1))
+    (λ x u. sure_bind (Region v) (Over v) (read_region givens rows v x.1) (λ second. read_tries most_lines (auxiliary_env v second.0.names) env (unnamed_sets second.0.auxiliaries) second.1 >>= λ tries. read_word_line contain_keyword tries.1 >>= λ e. Ok (Contain first.0 second.0 tries.0, e.1)) (region_sure givens rows v (omega (arith, few_g)) (omega (arith, few_r)) few x.1)
+    (λ second hs. sure_bind (AreTries n most_lines) (Over v) (read_tries most_lines (auxiliary_env v second.0.names) env (unnamed_sets second.0.auxiliaries) second.1) (λ tries. read_word_line contain_keyword tries.1 >>= λ e. Ok (Contain first.0 second.0 tries.0, e.1)) (tries_sure most_lines (auxiliary_env v second.0.names) env n (knows_names first.0.names) second.0.auxiliaries second.1)
+    (λ tries ht. sure_bind Any (Over v) (read_word_line contain_keyword tries.1) (λ e. Ok (Contain first.0 second.0 tries.0, e.1)) (sure_any (read_word_line contain_keyword tries.1)) (λ e w. (hf, hs, ht.0, ht.1))))))
 
 proof_sure : (v : NamesView) (ls : List Letter) → Sure (Over v) (read_proof v ls)
 unfolding read_proof
@@ -94,7 +93,7 @@ elimination_sure v ls =
 
 verb_sure : (g r : ℕ) (v : NamesView) → g ≤ 64 → r ≤ 64 → length v.variables ≤ 8 → (ls : List Letter) → Sure (Over v) (read_verb g r v ls)
 unfolding read_verb
-verb_sure g r v few_g few_r few (Word w ∷ ls) = chosen (bytes_eq w prove_text) (bytes_eq w eliminate_text) (bytes_eq w region_text)
+verb_sure g r v few_g few_r few (Word w ∷ ls) = chosen (bytes_eq w prove_keyword) (bytes_eq w eliminate_keyword) (bytes_eq w region_keyword)
   where
     chosen : (a b c : Bool) → Sure (Over v) (cond a (read_proof v ls) (cond b (read_elimination v ls) (cond c (read_containment g r v ls) (no_rule (Word w ∷ ls)))))
     chosen true b c = proof_sure v ls
@@ -132,8 +131,8 @@ question_sure : (ls : List Letter) → Sure Asks (read_question ls)
 unfolding read_question
 question_sure ls =
     let f = read_new_names Variable most_variables no_names in
-    sure_bind (Grows Variable 1 8 no_names) Asks (to_end f ls) (λ variables. read_names_line Rate most_rates rates_text variables.0 variables.1 >>= λ names. read_lines most_lines most_lines names.0 names.1 >>= λ own. read_verb (givens_left most_lines own.0) (rows_left most_lines own.0) names.0 own.1 >>= λ aim. Ok (record { names = names.0; lines = own.0; verb = aim.0 }, aim.1)) (ended_sure (IsGrown Variable 1 8 no_names) f (new_names_sure Variable most_variables no_names) ls)
-    (λ variables hv. sure_bind (Grows Rate 0 16 variables.0) Asks (read_names_line Rate most_rates rates_text variables.0 variables.1) (λ names. read_lines most_lines most_lines names.0 names.1 >>= λ own. read_verb (givens_left most_lines own.0) (rows_left most_lines own.0) names.0 own.1 >>= λ aim. Ok (record { names = names.0; lines = own.0; verb = aim.0 }, aim.1)) (names_line_sure Rate most_rates rates_text variables.0 variables.1)
+    sure_bind (Grows Variable 1 8 no_names) Asks (to_end f ls) (λ variables. read_names_line Rate most_rates rates_keyword variables.0 variables.1 >>= λ names. read_lines most_lines most_lines names.0 names.1 >>= λ own. read_verb (givens_left most_lines own.0) (rows_left most_lines own.0) names.0 own.1 >>= λ aim. Ok (record { names = names.0; lines = own.0; verb = aim.0 }, aim.1)) (ended_sure (IsGrown Variable 1 8 no_names) f (new_names_sure Variable most_variables no_names) ls)
+    (λ variables hv. sure_bind (Grows Rate 0 16 variables.0) Asks (read_names_line Rate most_rates rates_keyword variables.0 variables.1) (λ names. read_lines most_lines most_lines names.0 names.1 >>= λ own. read_verb (givens_left most_lines own.0) (rows_left most_lines own.0) names.0 own.1 >>= λ aim. Ok (record { names = names.0; lines = own.0; verb = aim.0 }, aim.1)) (names_line_sure Rate most_rates rates_keyword variables.0 variables.1)
     (λ names hn. sure_bind (Own 64 64 names.0) Asks (read_lines most_lines most_lines names.0 names.1) (λ own. read_verb (givens_left most_lines own.0) (rows_left most_lines own.0) names.0 own.1 >>= λ aim. Ok (record { names = names.0; lines = own.0; verb = aim.0 }, aim.1)) (lines_sure most_lines most_lines names.0 names.1)
     (λ own ho. sure_bind (Over names.0) Asks (read_verb (givens_left most_lines own.0) (rows_left most_lines own.0) names.0 own.1) (λ aim. Ok (record { names = names.0; lines = own.0; verb = aim.0 }, aim.1)) (verb_sure (givens_left most_lines own.0) (rows_left most_lines own.0) names.0 (omega arith) (omega arith) (few_variables variables.0 names.0 hv hn) own.1)
     (λ aim ha. question_over variables.0 names.0 own.0 aim.0 hv hn (lines_over 64 64 names.0 own.0 (omega arith) (omega arith) ho) ha))))
@@ -160,8 +159,8 @@ question_then_sure f h ls =
 -- of questions that are read, if they are
 pub questions_sure : (n : ℕ) (ls : List Letter) → Sure AreQuestions (read_questions n ls)
 unfolding read_questions
-questions_sure zero ls = question_list_sure (λ behind. Err (codes.Many, ls)) (λ behind. tt) (behind_word vars_text ls) ls
-questions_sure (suc n) ls = question_list_sure (question_then (read_questions n)) (question_then_sure (read_questions n) (questions_sure n)) (behind_word vars_text ls) ls
+questions_sure zero ls = question_list_sure (λ behind. Err (codes.Many, ls)) (λ behind. tt) (behind_word vars_keyword ls) ls
+questions_sure (suc n) ls = question_list_sure (question_then (read_questions n)) (question_then_sure (read_questions n) (questions_sure n)) (behind_word vars_keyword ls) ls
 
 -- a file that is read
 pub file_limited : (ls r : List Letter) (qs : List BodyView) → read_file ls ≡ Ok (qs, r) → All IsQuestion qs

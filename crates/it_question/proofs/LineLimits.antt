@@ -12,7 +12,7 @@ use Rattle.it_syntax.specs.Givens.{GivenView, IsRelationOf, IsGivenOf}
 use Rattle.it_syntax.specs.Scopes.{scope_of}
 use Rattle.it_syntax.specs.RelationReading.{read_relation}
 use Rattle.it_syntax.specs.GivenReading.{read_given}
-use Rattle.it_question.specs.Keywords.{given_text, row_text}
+use Rattle.it_question.specs.Keywords.{given_keyword, row_keyword}
 use Rattle.it_question.specs.Questions.{OwnLinesView}
 use Rattle.it_question.specs.WrittenLines.{no_lines}
 use Rattle.it_question.specs.Reading.{behind_word, within_limit, given_then, row_then, by_keyword, read_own, read_lines}
@@ -70,9 +70,9 @@ keyword_sure g r v f h None None ls of_f of_h = no_own g r v
 
 own_sure : (n g r : ℕ) (v : NamesView) (ls : List Letter) → Sure (Own g r v) (read_own n g r v ls)
 unfolding read_own
-own_sure zero g r v ls = keyword_sure g r v (λ behind. Err (codes.Many, ls)) (λ behind. Err (codes.Many, ls)) (behind_word given_text ls) (behind_word row_text ls) ls (λ behind. tt) (λ behind. tt)
+own_sure zero g r v ls = keyword_sure g r v (λ behind. Err (codes.Many, ls)) (λ behind. Err (codes.Many, ls)) (behind_word given_keyword ls) (behind_word row_keyword ls) ls (λ behind. tt) (λ behind. tt)
 own_sure (suc n) g r v ls =
-    keyword_sure g r v (λ behind. within_limit g (given_then (read_own n (g - 1) r v) v) behind ls) (λ behind. within_limit r (row_then (read_own n g (r - 1) v) v) behind ls) (behind_word given_text ls) (behind_word row_text ls) ls
+    keyword_sure g r v (λ behind. within_limit g (given_then (read_own n (g - 1) r v) v) behind ls) (λ behind. within_limit r (row_then (read_own n g (r - 1) v) v) behind ls) (behind_word given_keyword ls) (behind_word row_keyword ls) ls
     (λ behind. givens g (own_sure n (g - 1) r v) behind) (λ behind. rows r (own_sure n g (r - 1) v) behind)
   where
     givens : (a : ℕ) → ((ls : List Letter) → Sure (Own (a - 1) r v) (read_own n (a - 1) r v ls)) → (behind : List Letter) → Sure (Own a r v) (within_limit a (given_then (read_own n (a - 1) r v) v) behind ls)

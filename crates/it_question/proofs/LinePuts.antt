@@ -3,12 +3,11 @@ use Rattle.std.proofs.Common.{◌≡◌, ℕ, suc, ◌+◌, ◌-◌, ◌==◌, B
 use Rattle.std.proofs.lemmas.Bool.Decides.{eqb_tells}
 use Rattle.it_syntax.specs.declared.types.Code.{Code}
 use Rattle.it_syntax.specs.declared.types.Symbol.TheVariants as symbols
-use Rattle.it_syntax.specs.Letters.{Word, Number, Sym, unmarked}
+use Rattle.it_syntax.specs.Letters.{Word, Number, Sym, without_mark}
 use Rattle.it_syntax.specs.WrittenAtoms.{Environment, WrittenList, is_measure, index_or}
 use Rattle.it_syntax.specs.NamesViews.{NamesView}
-use Rattle.it_syntax.specs.Scopes.{scope_of}
-use Rattle.it_syntax.specs.Scopes.{env_of}
-use Rattle.it_question.specs.Keywords.{vars_text, rates_text, given_text, row_text, region_text, aux_text, try_text, prove_text, eliminate_text, contain_text}
+use Rattle.it_syntax.specs.Scopes.{scope_of, env_of}
+use Rattle.it_question.specs.Keywords.{vars_keyword, rates_keyword, given_keyword, row_keyword, region_keyword, aux_keyword, try_keyword, prove_keyword, eliminate_keyword, contain_keyword}
 use Rattle.it_question.specs.Texts.{one_if_some, own_line_count, one_unless_zero, region_line_count, verb_line_count, question_line_count}
 use Rattle.it_question.specs.WrittenQuestions.{WrittenLine, GivenLine, RowLine, WrittenRegion, WrittenSet, Empty, Listed, WrittenPart, WrittenTry, WrittenVerb, Prove, Eliminate, Contain, WrittenQuestion, most_variables, most_rates, most_lines}
 use Rattle.it_question.specs.NewNames.{Sort, Variable, Rate, with_name, no_names, is_taken, new_mark, spell_new, spell_new_more, spell_new_names, with_names, new_names_of, spell_names_line, names_line_of}
@@ -26,7 +25,7 @@ new_puts sort n v w = one_token (Word w, new_mark (is_measure w) (is_taken v w) 
 
 new_more_puts : (sort : Sort) (n : ℕ) (v : NamesView) (ws : List (List ℕ)) → Puts AreTokens (spell_new_more sort n v ws)
 new_more_puts sort n v [] = no_tokens
-new_more_puts sort n v (w ∷ ws) = token_then (unmarked (Sym symbols.Comma)) tt (tokens_then (new_puts sort n v w) (new_more_puts sort (n - 1) (with_name sort v w) ws))
+new_more_puts sort n v (w ∷ ws) = token_then (without_mark (Sym symbols.Comma)) tt (tokens_then (new_puts sort n v w) (new_more_puts sort (n - 1) (with_name sort v w) ws))
 
 new_names_puts : (sort : Sort) (n : ℕ) (v : NamesView) (l : WrittenList) → Puts AreTokens (spell_new_names sort n v l)
 new_names_puts sort n v l = tokens_then (new_puts sort n v l.first) (new_more_puts sort (n - 1) (with_name sort v l.first) l.more)
@@ -38,14 +37,14 @@ one_if (Some l) = 1
 names_line_puts : (sort : Sort) (n : ℕ) (keyword : List ℕ) (v : NamesView) (o : Option WrittenList) → Puts (HasLines (one_if o)) (spell_names_line sort n keyword v o)
 unfolding one_if
 names_line_puts sort n keyword v None = no_lines
-names_line_puts sort n keyword v (Some l) = line_of_tokens None (token_then (unmarked (Word keyword)) tt (new_names_puts sort n v l))
+names_line_puts sort n keyword v (Some l) = line_of_tokens None (token_then (without_mark (Word keyword)) tt (new_names_puts sort n v l))
 
 -- ---- `given` and `row` lines
 
 own_puts : (g r : ℕ) (v : NamesView) (ls : List WrittenLine) → Puts (HasLines (own_line_count (own_of v ls))) (spell_own g r v ls)
 own_puts g r v [] = no_lines
-own_puts g r v (GivenLine x ∷ ls) = line_then (own_line_count (own_of v ls)) (own_line_count (own_of v (GivenLine x ∷ ls))) (line_of_tokens None (token_then (Word given_text, limit_mark g) tt (given_puts (scope_of v false) x))) (own_puts (g - 1) r v ls) (omega arith)
-own_puts g r v (RowLine x ∷ ls) = line_then (own_line_count (own_of v ls)) (own_line_count (own_of v (RowLine x ∷ ls))) (line_of_tokens None (token_then (Word row_text, limit_mark r) tt (relation_puts (scope_of v true) x))) (own_puts g (r - 1) v ls) (omega arith)
+own_puts g r v (GivenLine x ∷ ls) = line_then (own_line_count (own_of v ls)) (own_line_count (own_of v (GivenLine x ∷ ls))) (line_of_tokens None (token_then (Word given_keyword, limit_mark g) tt (given_puts (scope_of v false) x))) (own_puts (g - 1) r v ls) (omega arith)
+own_puts g r v (RowLine x ∷ ls) = line_then (own_line_count (own_of v ls)) (own_line_count (own_of v (RowLine x ∷ ls))) (line_of_tokens None (token_then (Word row_keyword, limit_mark r) tt (relation_puts (scope_of v true) x))) (own_puts g (r - 1) v ls) (omega arith)
 
 -- ---- the rates of an `eliminate` line
 
@@ -54,7 +53,7 @@ once_puts env seen w = one_token (Word w, once_mark (is_measure w) seen (env w))
 
 once_more_puts : (env : Environment) (seen : List ℕ) (ws : List (List ℕ)) → Puts AreTokens (spell_once_more env seen ws)
 once_more_puts env seen [] = no_tokens
-once_more_puts env seen (w ∷ ws) = token_then (unmarked (Sym symbols.Comma)) tt (tokens_then (once_puts env seen w) (once_more_puts env (seen ++ index_or (env w) ∷ []) ws))
+once_more_puts env seen (w ∷ ws) = token_then (without_mark (Sym symbols.Comma)) tt (tokens_then (once_puts env seen w) (once_more_puts env (seen ++ index_or (env w) ∷ []) ws))
 
 distinct_puts : (env : Environment) (l : WrittenList) → Puts AreTokens (spell_distinct env l)
 distinct_puts env l = tokens_then (once_puts env [] l.first) (once_more_puts env (index_or (env l.first) ∷ []) l.more)
@@ -62,22 +61,22 @@ distinct_puts env l = tokens_then (once_puts env [] l.first) (once_more_puts env
 -- ---- `try` lines
 
 set_puts : (env : Environment) (s : WrittenSet) → Puts AreTokens (spell_set env s)
-set_puts env Empty = one_token (unmarked (Number 0)) tt
+set_puts env Empty = one_token (without_mark (Number 0)) tt
 set_puts env (Listed l) = list_puts env l
 
 part_puts : (aux env : Environment) (sets : Sets) (x : WrittenPart) → Puts AreTokens (spell_part aux env sets x)
-part_puts aux env sets x = token_then (Word x.name, part_mark (is_measure x.name) sets (aux x.name)) tt (token_then (unmarked (Sym symbols.Assign)) tt (set_puts env x.set))
+part_puts aux env sets x = token_then (Word x.name, part_mark (is_measure x.name) sets (aux x.name)) tt (token_then (without_mark (Sym symbols.Assign)) tt (set_puts env x.set))
 
 parts_puts : (aux env : Environment) (sets : Sets) (xs : List WrittenPart) → Puts AreTokens (spell_parts aux env sets xs)
 parts_puts aux env sets [] = no_tokens
-parts_puts aux env sets (x ∷ xs) = token_then (unmarked (Sym symbols.Semicolon)) tt (tokens_then (part_puts aux env sets x) (parts_puts aux env (with_part aux env sets x) xs))
+parts_puts aux env sets (x ∷ xs) = token_then (without_mark (Sym symbols.Semicolon)) tt (tokens_then (part_puts aux env sets x) (parts_puts aux env (with_part aux env sets x) xs))
 
 tries_puts : (n : ℕ) (aux env : Environment) (sets : Sets) (xs : List WrittenTry) → Puts (HasLines (length (tries_of aux env sets xs))) (spell_tries n aux env sets xs)
 tries_puts n aux env sets [] = no_lines
 tries_puts n aux env sets (x ∷ xs) =
     let first = with_part aux env sets x.first in
     line_then (length (tries_of aux env sets xs)) (length (tries_of aux env sets (x ∷ xs)))
-    (line_of_tokens (try_end_mark (is_whole (with_parts aux env first x.more))) (token_then (Word try_text, try_mark (is_whole sets) n) tt (tokens_then (part_puts aux env sets x.first) (parts_puts aux env first x.more))))
+    (line_of_tokens (try_end_mark (is_whole (with_parts aux env first x.more))) (token_then (Word try_keyword, try_mark (is_whole sets) n) tt (tokens_then (part_puts aux env sets x.first) (parts_puts aux env first x.more))))
     (tries_puts (n - 1) aux env sets xs) (omega arith)
 
 -- ---- regions
@@ -106,14 +105,14 @@ region_puts : (g r : ℕ) (v : NamesView) (x : WrittenRegion) → Puts (HasLines
 region_puts g r v x =
     let names = names_line_of Variable v x.auxiliaries in
     let own = own_line_count (own_of names x.own) in
-    line_then (one_if x.auxiliaries + own) (region_line_count (region_of v x)) (line_of_tokens None (one_token (unmarked (Word region_text)) tt))
-    (lines_then (one_if x.auxiliaries) own (names_line_puts Variable (auxiliaries_left v) aux_text v x.auxiliaries) (own_puts g r names x.own)) (omega (arith, aux_lines v x.auxiliaries))
+    line_then (one_if x.auxiliaries + own) (region_line_count (region_of v x)) (line_of_tokens None (one_token (without_mark (Word region_keyword)) tt))
+    (lines_then (one_if x.auxiliaries) own (names_line_puts Variable (auxiliaries_left v) aux_keyword v x.auxiliaries) (own_puts g r names x.own)) (omega (arith, aux_lines v x.auxiliaries))
 
 -- ---- questions
 
 verb_puts : (g r : ℕ) (v : NamesView) (x : WrittenVerb) → Puts (HasLines (verb_line_count (verb_of v x))) (spell_verb g r v x)
-verb_puts g r v (Prove x) = line_of_tokens None (token_then (unmarked (Word prove_text)) tt (relation_puts (scope_of v true) x))
-verb_puts g r v (Eliminate l) = line_of_tokens None (token_then (unmarked (Word eliminate_text)) tt (distinct_puts (rates_env v) l))
+verb_puts g r v (Prove x) = line_of_tokens None (token_then (without_mark (Word prove_keyword)) tt (relation_puts (scope_of v true) x))
+verb_puts g r v (Eliminate l) = line_of_tokens None (token_then (without_mark (Word eliminate_keyword)) tt (distinct_puts (rates_env v) l))
 verb_puts g r v (Contain x) =
     let first = region_of v x.first in
     let second = region_of v x.second in
@@ -124,7 +123,7 @@ verb_puts g r v (Contain x) =
     lines_as (region_line_count first + (region_line_count second + (tries + 1))) (verb_line_count (verb_of v (Contain x)))
     (lines_then (region_line_count first) (region_line_count second + (tries + 1)) (region_puts g r v x.first)
     (lines_then (region_line_count second) (tries + 1) (region_puts (givens_left g first.lines) (rows_left r first.lines) v x.second)
-    (lines_then tries 1 (tries_puts most_lines aux env sets x.tries) (line_of_tokens None (one_token (unmarked (Word contain_text)) tt)))))
+    (lines_then tries 1 (tries_puts most_lines aux env sets x.tries) (line_of_tokens None (one_token (without_mark (Word contain_keyword)) tt)))))
     (omega arith)
 
 kept_rates : (v : NamesView) (ws : List (List ℕ)) → (with_names Variable v ws).rates ≡ v.rates
@@ -149,14 +148,14 @@ rates_lines x = by x.rates
     by (Some l) = let v = new_names_of Variable no_names x.variables in sym (some_rates (with_name Rate v l.first) l.more (some_behind v.rates l.first))
 
 -- A question, with its word `vars`, is as many lines as are counted of it.
-pub question_puts : (mark : Option Code) (x : WrittenQuestion) → Puts (HasLines (question_line_count (question_of x))) (λ k. (Word vars_text, mark) ∷ spell_question x k)
+pub question_puts : (mark : Option Code) (x : WrittenQuestion) → Puts (HasLines (question_line_count (question_of x))) (λ k. (Word vars_keyword, mark) ∷ spell_question x k)
 question_puts mark x =
     let variables = new_names_of Variable no_names x.variables in
     let names = names_of x in
     let own = own_of names x.own in
     let verb = verb_line_count (verb_of names x.verb) in
-    line_then (one_if x.rates + (own_line_count own + verb)) (question_line_count (question_of x)) (line_of_tokens None (token_then (Word vars_text, mark) tt (new_names_puts Variable most_variables no_names x.variables)))
-    (lines_then (one_if x.rates) (own_line_count own + verb) (names_line_puts Rate most_rates rates_text variables x.rates)
+    line_then (one_if x.rates + (own_line_count own + verb)) (question_line_count (question_of x)) (line_of_tokens None (token_then (Word vars_keyword, mark) tt (new_names_puts Variable most_variables no_names x.variables)))
+    (lines_then (one_if x.rates) (own_line_count own + verb) (names_line_puts Rate most_rates rates_keyword variables x.rates)
     (lines_then (own_line_count own) verb (own_puts most_lines most_lines names x.own)
     (verb_puts (givens_left most_lines own) (rows_left most_lines own) names x.verb)))
     (omega (arith, rates_lines x))

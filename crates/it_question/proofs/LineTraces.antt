@@ -4,7 +4,7 @@ use Rattle.it_syntax.specs.declared.types.Code.TheVariants as codes
 use Rattle.it_syntax.specs.declared.types.Sign.TheVariants as signs
 use Rattle.it_syntax.specs.NamesViews.{NamesView}
 use Rattle.it_syntax.specs.Meaning.{RelationView}
-use Rattle.it_syntax.specs.Letters.{Letter, Word, End, MarkedLetters, unmarked}
+use Rattle.it_syntax.specs.Letters.{Letter, Word, End, MarkedLetters, without_mark}
 use Rattle.it_syntax.specs.Lines.{to_end}
 use Rattle.it_syntax.specs.AtomReading.{Reads, ◌>>=◌}
 use Rattle.it_syntax.specs.WrittenRelations.{WrittenSum, WrittenRelation, Zero, spell_relation, relation_of}
@@ -17,7 +17,7 @@ use Rattle.it_syntax.proofs.Traces.{By, Traces, traces_bind, traces_map}
 use Rattle.it_syntax.proofs.RelationTraces.{relation_traces}
 use Rattle.it_syntax.proofs.GivenTraces.{given_line_traces}
 use Rattle.it_syntax.proofs.LineEnd.{to_end_traces}
-use Rattle.it_question.specs.Keywords.{given_text, row_text}
+use Rattle.it_question.specs.Keywords.{given_keyword, row_keyword}
 use Rattle.it_question.specs.Questions.{OwnLinesView}
 use Rattle.it_question.specs.WrittenQuestions.{WrittenLine, GivenLine, RowLine}
 use Rattle.it_question.specs.WrittenLines.{spell_own, no_lines, own_of}
@@ -40,7 +40,7 @@ abbrev GivenMore : Type 0
 GivenMore = WrittenGiven × List WrittenLine
 
 abbrev spell_given_more : ℕ → ℕ → NamesView → GivenMore → MarkedLetters → MarkedLetters
-spell_given_more g r v x k = spell_given (scope_of v false) x.0 (unmarked End ∷ spell_own (g - 1) r v x.1 k)
+spell_given_more g r v x k = spell_given (scope_of v false) x.0 (without_mark End ∷ spell_own (g - 1) r v x.1 k)
 
 abbrev with_given : GivenView → OwnLinesView → OwnLinesView
 with_given x own = record { givens = x ∷ own.givens; rows = own.rows }
@@ -52,14 +52,14 @@ abbrev given_made : GivenMore → List WrittenLine
 given_made x = GivenLine x.0 ∷ x.1
 
 given_then_traces : (f : List Letter → Reads OwnLinesView) (g r : ℕ) (v : NamesView) → Traces f (spell_own (g - 1) r v) (own_of v) → Traces (given_then f v) (spell_given_more g r v) (given_more_of v)
-given_then_traces f g r v h = traces_bind (to_end (read_given (scope_of v false))) (λ x ls. f ls >>= λ own. Ok (with_given x own.0, own.1)) (given_then f v) (λ x k. spell_given (scope_of v false) x (unmarked End ∷ k)) (λ x. spell_own (g - 1) r v) (spell_given_more g r v) (given_of (scope_of v false)) (λ x own. with_given x (own_of v own)) (given_more_of v) (λ x own. (x, own))
+given_then_traces f g r v h = traces_bind (to_end (read_given (scope_of v false))) (λ x ls. f ls >>= λ own. Ok (with_given x own.0, own.1)) (given_then f v) (λ x k. spell_given (scope_of v false) x (without_mark End ∷ k)) (λ x. spell_own (g - 1) r v) (spell_given_more g r v) (given_of (scope_of v false)) (λ x own. with_given x (own_of v own)) (given_more_of v) (λ x own. (x, own))
     (record { is = λ ls. refl; spells = λ y z k. refl; value = λ y z. refl; some = []; first = to_end_traces (read_given (scope_of v false)) (spell_given (scope_of v false)) (given_of (scope_of v false)) (given_line_traces (scope_of v false)); second = λ x. traces_map f (with_given x) (spell_own (g - 1) r v) (own_of v) h })
 
 abbrev RowMore : Type 0
 RowMore = WrittenRelation × List WrittenLine
 
 abbrev spell_row_more : ℕ → ℕ → NamesView → RowMore → MarkedLetters → MarkedLetters
-spell_row_more g r v x k = spell_relation (scope_of v true) x.0 (unmarked End ∷ spell_own g (r - 1) v x.1 k)
+spell_row_more g r v x k = spell_relation (scope_of v true) x.0 (without_mark End ∷ spell_own g (r - 1) v x.1 k)
 
 abbrev with_row : RelationView → OwnLinesView → OwnLinesView
 with_row x own = record { givens = own.givens; rows = x ∷ own.rows }
@@ -71,32 +71,32 @@ abbrev row_made : RowMore → List WrittenLine
 row_made x = RowLine x.0 ∷ x.1
 
 row_then_traces : (f : List Letter → Reads OwnLinesView) (g r : ℕ) (v : NamesView) → Traces f (spell_own g (r - 1) v) (own_of v) → Traces (row_then f v) (spell_row_more g r v) (row_more_of v)
-row_then_traces f g r v h = traces_bind (to_end (read_relation (scope_of v true))) (λ x ls. f ls >>= λ own. Ok (with_row x own.0, own.1)) (row_then f v) (λ x k. spell_relation (scope_of v true) x (unmarked End ∷ k)) (λ x. spell_own g (r - 1) v) (spell_row_more g r v) (relation_of (scope_of v true)) (λ x own. with_row x (own_of v own)) (row_more_of v) (λ x own. (x, own))
+row_then_traces f g r v h = traces_bind (to_end (read_relation (scope_of v true))) (λ x ls. f ls >>= λ own. Ok (with_row x own.0, own.1)) (row_then f v) (λ x k. spell_relation (scope_of v true) x (without_mark End ∷ k)) (λ x. spell_own g (r - 1) v) (spell_row_more g r v) (relation_of (scope_of v true)) (λ x own. with_row x (own_of v own)) (row_more_of v) (λ x own. (x, own))
     (record { is = λ ls. refl; spells = λ y z k. refl; value = λ y z. refl; some = []; first = to_end_traces (read_relation (scope_of v true)) (spell_relation (scope_of v true)) (relation_of (scope_of v true)) (relation_traces (scope_of v true)); second = λ x. traces_map f (with_row x) (spell_own g (r - 1) v) (own_of v) h })
 
 -- ---- a reader by the keyword that stands there
 
 -- reads by f behind `given`, by h behind `row`, and else nothing
 abbrev by_words : (f h : List Letter → List Letter → Reads OwnLinesView) → List Letter → Reads OwnLinesView
-by_words f h ls = by_keyword (λ behind. f behind ls) (λ behind. h behind ls) (behind_word given_text ls) (behind_word row_text ls) ls
+by_words f h ls = by_keyword (λ behind. f behind ls) (λ behind. h behind ls) (behind_word given_keyword ls) (behind_word row_keyword ls) ls
 
-given_stands : (f h : List Letter → List Letter → Reads OwnLinesView) (s : List Letter) → by_words f h (Word given_text ∷ s) ≡ f s (Word given_text ∷ s)
-given_stands f h s = ap (λ (o : Option (List Letter)). by_keyword (λ behind. f behind (Word given_text ∷ s)) (λ behind. h behind (Word given_text ∷ s)) o (behind_word row_text (Word given_text ∷ s)) (Word given_text ∷ s)) (word_behind given_text s)
+given_stands : (f h : List Letter → List Letter → Reads OwnLinesView) (s : List Letter) → by_words f h (Word given_keyword ∷ s) ≡ f s (Word given_keyword ∷ s)
+given_stands f h s = ap (λ (o : Option (List Letter)). by_keyword (λ behind. f behind (Word given_keyword ∷ s)) (λ behind. h behind (Word given_keyword ∷ s)) o (behind_word row_keyword (Word given_keyword ∷ s)) (Word given_keyword ∷ s)) (word_behind given_keyword s)
 
-row_stands : (f h : List Letter → List Letter → Reads OwnLinesView) (s : List Letter) → by_words f h (Word row_text ∷ s) ≡ h s (Word row_text ∷ s)
+row_stands : (f h : List Letter → List Letter → Reads OwnLinesView) (s : List Letter) → by_words f h (Word row_keyword ∷ s) ≡ h s (Word row_keyword ∷ s)
 unfolding behind_word
 row_stands f h s = refl
 
-none_stands : (f h : List Letter → List Letter → Reads OwnLinesView) (s : List Letter) → behind_word given_text s ≡ None → behind_word row_text s ≡ None → by_words f h s ≡ Ok (no_lines, s)
-none_stands f h s a b = ap (λ (o : Option (List Letter)). by_keyword (λ behind. f behind s) (λ behind. h behind s) o (behind_word row_text s) s) a ∙ ap (λ (o : Option (List Letter)). by_keyword (λ behind. f behind s) (λ behind. h behind s) None o s) b
+none_stands : (f h : List Letter → List Letter → Reads OwnLinesView) (s : List Letter) → behind_word given_keyword s ≡ None → behind_word row_keyword s ≡ None → by_words f h s ≡ Ok (no_lines, s)
+none_stands f h s a b = ap (λ (o : Option (List Letter)). by_keyword (λ behind. f behind s) (λ behind. h behind s) o (behind_word row_keyword s) s) a ∙ ap (λ (o : Option (List Letter)). by_keyword (λ behind. f behind s) (λ behind. h behind s) None o s) b
 
 -- what such a reader tells, by what it tells at each keyword
 at_keywords : (f h : List Letter → List Letter → Reads OwnLinesView) (g r : ℕ) (v : NamesView) (ls : List Letter)
-    → ((behind : List Letter) → By (by_words f h) (spell_own g r v) (own_of v) (Word given_text ∷ behind) (by_words f h (Word given_text ∷ behind)))
-    → ((behind : List Letter) → By (by_words f h) (spell_own g r v) (own_of v) (Word row_text ∷ behind) (by_words f h (Word row_text ∷ behind)))
+    → ((behind : List Letter) → By (by_words f h) (spell_own g r v) (own_of v) (Word given_keyword ∷ behind) (by_words f h (Word given_keyword ∷ behind)))
+    → ((behind : List Letter) → By (by_words f h) (spell_own g r v) (own_of v) (Word row_keyword ∷ behind) (by_words f h (Word row_keyword ∷ behind)))
     → By (by_words f h) (spell_own g r v) (own_of v) ls (by_words f h ls)
-at_keywords f h g r v ls given row = at_word given_text (by_words f h) (spell_own g r v) (own_of v) ls given
-    (λ a. at_word row_text (by_words f h) (spell_own g r v) (own_of v) ls row
+at_keywords f h g r v ls given row = at_word given_keyword (by_words f h) (spell_own g r v) (own_of v) ls given
+    (λ a. at_word row_keyword (by_words f h) (spell_own g r v) (own_of v) ls row
     (λ b. nothing_read (by_words f h) (spell_own g r v) (own_of v) [] ls (λ k. refl) (λ s e. none_stands f h s (a s e) (b s e))))
 
 -- ---- lines one after the other
@@ -111,29 +111,29 @@ too_many : List Letter → List Letter → Reads OwnLinesView
 too_many behind ls = Err (codes.Many, ls)
 
 -- past the limit `given` is marked
-given_over : (f h : List Letter → List Letter → Reads OwnLinesView) (r : ℕ) (v : NamesView) (behind : List Letter) → ((b s : List Letter) → f b s ≡ Err (codes.Many, s)) → By (by_words f h) (spell_own zero r v) (own_of v) (Word given_text ∷ behind) (by_words f h (Word given_text ∷ behind))
+given_over : (f h : List Letter → List Letter → Reads OwnLinesView) (r : ℕ) (v : NamesView) (behind : List Letter) → ((b s : List Letter) → f b s ≡ Err (codes.Many, s)) → By (by_words f h) (spell_own zero r v) (own_of v) (Word given_keyword ∷ behind) (by_words f h (Word given_keyword ∷ behind))
 given_over f h r v behind e =
-    let stays : (s : List Letter) → by_words f h (Word given_text ∷ s) ≡ Err (codes.Many, Word given_text ∷ s) = λ s. given_stands f h s ∙ e s (Word given_text ∷ s) in
-    subst (λ (t : Reads OwnLinesView). By (by_words f h) (spell_own zero r v) (own_of v) (Word given_text ∷ behind) t) (sym (stays behind))
-    (marked_here (by_words f h) (spell_own zero r v) (GivenLine some_given ∷ []) (Word given_text) behind codes.Many (λ k. spell_given (scope_of v false) some_given (unmarked End ∷ k)) (λ k. refl) stays)
+    let stays : (s : List Letter) → by_words f h (Word given_keyword ∷ s) ≡ Err (codes.Many, Word given_keyword ∷ s) = λ s. given_stands f h s ∙ e s (Word given_keyword ∷ s) in
+    subst (λ (t : Reads OwnLinesView). By (by_words f h) (spell_own zero r v) (own_of v) (Word given_keyword ∷ behind) t) (sym (stays behind))
+    (marked_here (by_words f h) (spell_own zero r v) (GivenLine some_given ∷ []) (Word given_keyword) behind codes.Many (λ k. spell_given (scope_of v false) some_given (without_mark End ∷ k)) (λ k. refl) stays)
 
 -- and `row`
-row_over : (f h : List Letter → List Letter → Reads OwnLinesView) (g : ℕ) (v : NamesView) (behind : List Letter) → ((b s : List Letter) → h b s ≡ Err (codes.Many, s)) → By (by_words f h) (spell_own g zero v) (own_of v) (Word row_text ∷ behind) (by_words f h (Word row_text ∷ behind))
+row_over : (f h : List Letter → List Letter → Reads OwnLinesView) (g : ℕ) (v : NamesView) (behind : List Letter) → ((b s : List Letter) → h b s ≡ Err (codes.Many, s)) → By (by_words f h) (spell_own g zero v) (own_of v) (Word row_keyword ∷ behind) (by_words f h (Word row_keyword ∷ behind))
 row_over f h g v behind e =
-    let stays : (s : List Letter) → by_words f h (Word row_text ∷ s) ≡ Err (codes.Many, Word row_text ∷ s) = λ s. row_stands f h s ∙ e s (Word row_text ∷ s) in
-    subst (λ (t : Reads OwnLinesView). By (by_words f h) (spell_own g zero v) (own_of v) (Word row_text ∷ behind) t) (sym (stays behind))
-    (marked_here (by_words f h) (spell_own g zero v) (RowLine some_relation ∷ []) (Word row_text) behind codes.Many (λ k. spell_relation (scope_of v true) some_relation (unmarked End ∷ k)) (λ k. refl) stays)
+    let stays : (s : List Letter) → by_words f h (Word row_keyword ∷ s) ≡ Err (codes.Many, Word row_keyword ∷ s) = λ s. row_stands f h s ∙ e s (Word row_keyword ∷ s) in
+    subst (λ (t : Reads OwnLinesView). By (by_words f h) (spell_own g zero v) (own_of v) (Word row_keyword ∷ behind) t) (sym (stays behind))
+    (marked_here (by_words f h) (spell_own g zero v) (RowLine some_relation ∷ []) (Word row_keyword) behind codes.Many (λ k. spell_relation (scope_of v true) some_relation (without_mark End ∷ k)) (λ k. refl) stays)
 
 given_by : (n g r : ℕ) (v : NamesView) (behind : List Letter) → (1 ≤ g → Traces (read_own n (g - 1) r v) (spell_own (g - 1) r v) (own_of v))
-    → By (by_words (givens_by n g r v) (rows_by n g r v)) (spell_own g r v) (own_of v) (Word given_text ∷ behind) (by_words (givens_by n g r v) (rows_by n g r v) (Word given_text ∷ behind))
+    → By (by_words (givens_by n g r v) (rows_by n g r v)) (spell_own g r v) (own_of v) (Word given_keyword ∷ behind) (by_words (givens_by n g r v) (rows_by n g r v) (Word given_keyword ∷ behind))
 given_by n zero r v behind h = given_over (givens_by n zero r v) (rows_by n zero r v) r v behind (λ b s. refl)
-given_by n (suc g) r v behind h = behind_traced given_text (by_words (givens_by n (suc g) r v) (rows_by n (suc g) r v)) (given_then (read_own n (suc g - 1) r v) v) (spell_given_more (suc g) r v) (spell_own (suc g) r v) (given_more_of v) (own_of v) given_made behind
+given_by n (suc g) r v behind h = behind_traced given_keyword (by_words (givens_by n (suc g) r v) (rows_by n (suc g) r v)) (given_then (read_own n (suc g - 1) r v) v) (spell_given_more (suc g) r v) (spell_own (suc g) r v) (given_more_of v) (own_of v) given_made behind
     (given_stands (givens_by n (suc g) r v) (rows_by n (suc g) r v)) (λ z k. refl) (λ z. refl) (given_then_traces (read_own n (suc g - 1) r v) (suc g) r v (h (omega arith)))
 
 row_by : (n g r : ℕ) (v : NamesView) (behind : List Letter) → (1 ≤ r → Traces (read_own n g (r - 1) v) (spell_own g (r - 1) v) (own_of v))
-    → By (by_words (givens_by n g r v) (rows_by n g r v)) (spell_own g r v) (own_of v) (Word row_text ∷ behind) (by_words (givens_by n g r v) (rows_by n g r v) (Word row_text ∷ behind))
+    → By (by_words (givens_by n g r v) (rows_by n g r v)) (spell_own g r v) (own_of v) (Word row_keyword ∷ behind) (by_words (givens_by n g r v) (rows_by n g r v) (Word row_keyword ∷ behind))
 row_by n g zero v behind h = row_over (givens_by n g zero v) (rows_by n g zero v) g v behind (λ b s. refl)
-row_by n g (suc r) v behind h = behind_traced row_text (by_words (givens_by n g (suc r) v) (rows_by n g (suc r) v)) (row_then (read_own n g (suc r - 1) v) v) (spell_row_more g (suc r) v) (spell_own g (suc r) v) (row_more_of v) (own_of v) row_made behind
+row_by n g (suc r) v behind h = behind_traced row_keyword (by_words (givens_by n g (suc r) v) (rows_by n g (suc r) v)) (row_then (read_own n g (suc r - 1) v) v) (spell_row_more g (suc r) v) (spell_own g (suc r) v) (row_more_of v) (own_of v) row_made behind
     (row_stands (givens_by n g (suc r) v) (rows_by n g (suc r) v)) (λ z k. refl) (λ z. refl) (row_then_traces (read_own n g (suc r - 1) v) g (suc r) v (h (omega arith)))
 
 -- `given` and `row` lines, of which g and r are allowed

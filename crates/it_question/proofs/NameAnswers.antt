@@ -1,13 +1,12 @@
 -- New names that are spelled so are read, up to the first mark.
-use Rattle.std.proofs.Common.{◌≡◌, ℕ, zero, suc, ◌-◌, Bool, true, false, List, [], ◌∷◌, Option, Some, None, Ok, Err, refl, subst, sym, arith, inl, inr}
+use Rattle.std.proofs.Common.{◌≡◌, ℕ, zero, suc, ◌-◌, Bool, true, false, List, [], ◌∷◌, Option, Some, None, Err, refl, subst, sym, arith, inl, inr}
 use Rattle.std.specs.Prelude.{bytes_eq}
 use Rattle.it_syntax.specs.declared.types.Symbol.TheVariants.{Comma}
 use Rattle.it_syntax.specs.declared.types.Code.{Code}
 use Rattle.it_syntax.specs.declared.types.Code.TheVariants as codes
 use Rattle.it_syntax.specs.NamesViews.{NamesView}
-use Rattle.it_syntax.specs.Letters.{Letter, Word, Sym, End, MarkedLetters, unmarked, letters}
+use Rattle.it_syntax.specs.Letters.{Letter, Word, Sym, End, MarkedLetters, without_mark, letters}
 use Rattle.it_syntax.specs.Lines.{to_end}
-use Rattle.it_syntax.specs.AtomReading.{Reads, ◌>>=◌, line_end}
 use Rattle.it_syntax.specs.WrittenAtoms.{WrittenList, is_measure}
 use Rattle.it_question.specs.NewNames.{Sort, with_name, is_taken, new_mark, spell_new, spell_new_more, spell_new_names, with_names, new_names_of, spell_names_line, names_line_of}
 use Rattle.it_question.specs.Reading.{behind_word, new_name_or_fault, read_new, read_new_more, read_new_names, if_behind, read_names_line}
@@ -15,30 +14,30 @@ use Rattle.it_syntax.proofs.SpelledIsRead.{Answers, answers_ok, answers_cons, an
 use Rattle.it_syntax.proofs.LineEnd.{to_end_answers}
 
 -- a letter that is marked is a fault
-pub marked_answers : {A : Type 0} (c : Code) (l : Letter) (m : MarkedLetters) (x : A) (k : MarkedLetters) → Answers (Err (c, l ∷ letters m)) ((l, Some c) ∷ m) x k
-marked_answers c l m x k = inr ((c, l ∷ letters m), (refl, record { front = []; letter = l; rest = m; is = refl; left = refl }))
+pub answers_at_mark : {A : Type 0} (c : Code) (l : Letter) (m : MarkedLetters) (x : A) (k : MarkedLetters) → Answers (Err (c, l ∷ letters m)) ((l, Some c) ∷ m) x k
+answers_at_mark c l m x k = inr ((c, l ∷ letters m), (refl, record { front = []; letter = l; rest = m; is = refl; left = refl }))
 
 -- ---- new names
 
-newly_answers : (sort : Sort) (n : ℕ) (v : NamesView) (w : List ℕ) (measure taken : Bool) (k : MarkedLetters) → Answers (new_name_or_fault sort n v w measure taken (letters k)) ((Word w, new_mark measure taken n) ∷ k) (with_name sort v w) k
-newly_answers sort n v w true taken k = marked_answers codes.Word (Word w) k _ _
-newly_answers sort n v w false true k = marked_answers codes.Twice (Word w) k _ _
-newly_answers sort zero v w false false k = marked_answers codes.Many (Word w) k _ _
-newly_answers sort (suc n) v w false false k = inl (refl, record { front = Word w ∷ []; is = refl })
+answers_new_name : (sort : Sort) (n : ℕ) (v : NamesView) (w : List ℕ) (measure taken : Bool) (k : MarkedLetters) → Answers (new_name_or_fault sort n v w measure taken (letters k)) ((Word w, new_mark measure taken n) ∷ k) (with_name sort v w) k
+answers_new_name sort n v w true taken k = answers_at_mark codes.Word (Word w) k _ _
+answers_new_name sort n v w false true k = answers_at_mark codes.Twice (Word w) k _ _
+answers_new_name sort zero v w false false k = answers_at_mark codes.Many (Word w) k _ _
+answers_new_name sort (suc n) v w false false k = inl (refl, record { front = Word w ∷ []; is = refl })
 
 new_answers : (sort : Sort) (n : ℕ) (v : NamesView) (w : List ℕ) (k : MarkedLetters) → Answers (read_new sort n v (letters (spell_new sort n v w k))) (spell_new sort n v w k) (with_name sort v w) k
 unfolding read_new
-new_answers sort n v w k = newly_answers sort n v w (is_measure w) (is_taken v w) k
+new_answers sort n v w k = answers_new_name sort n v w (is_measure w) (is_taken v w) k
 
 -- where none is allowed nothing behind the name is read
-newly_stops : (sort : Sort) (v : NamesView) (w : List ℕ) (measure taken : Bool) (m : MarkedLetters) (x : NamesView) (k : MarkedLetters) → Answers (new_name_or_fault sort 0 v w measure taken (letters m)) ((Word w, new_mark measure taken 0) ∷ m) x k
-newly_stops sort v w true taken m x k = marked_answers codes.Word (Word w) m _ _
-newly_stops sort v w false true m x k = marked_answers codes.Twice (Word w) m _ _
-newly_stops sort v w false false m x k = marked_answers codes.Many (Word w) m _ _
+stops_new_name : (sort : Sort) (v : NamesView) (w : List ℕ) (measure taken : Bool) (m : MarkedLetters) (x : NamesView) (k : MarkedLetters) → Answers (new_name_or_fault sort 0 v w measure taken (letters m)) ((Word w, new_mark measure taken 0) ∷ m) x k
+stops_new_name sort v w true taken m x k = answers_at_mark codes.Word (Word w) m _ _
+stops_new_name sort v w false true m x k = answers_at_mark codes.Twice (Word w) m _ _
+stops_new_name sort v w false false m x k = answers_at_mark codes.Many (Word w) m _ _
 
 new_stops : (sort : Sort) (v : NamesView) (w : List ℕ) (m : MarkedLetters) (x : NamesView) (k : MarkedLetters) → Answers (read_new sort 0 v (letters (spell_new sort 0 v w m))) (spell_new sort 0 v w m) x k
 unfolding read_new
-new_stops sort v w m x k = newly_stops sort v w (is_measure w) (is_taken v w) m x k
+new_stops sort v w m x k = stops_new_name sort v w (is_measure w) (is_taken v w) m x k
 
 no_more : (sort : Sort) (n : ℕ) (v : NamesView) (k : MarkedLetters) → NoComma k → Answers (read_new_more sort n v (letters k)) k v k
 unfolding read_new_more
@@ -74,8 +73,8 @@ new_names_answers sort n v l k free =
     answers_bind (read_new sort n v (letters first)) (λ x. read_new_more sort (n - 1) x.0 x.1) first m k named (new_names_of sort v l) (new_answers sort n v l.first m) (new_more_answers sort (n - 1) named l.more k free)
 
 -- and their line
-pub names_to_end_answers : (sort : Sort) (n : ℕ) (v : NamesView) (l : WrittenList) (k : MarkedLetters) → Answers (to_end (read_new_names sort n v) (letters (spell_new_names sort n v l (unmarked End ∷ k)))) (spell_new_names sort n v l (unmarked End ∷ k)) (new_names_of sort v l) k
-names_to_end_answers sort n v l k = to_end_answers (read_new_names sort n v) (spell_new_names sort n v l (unmarked End ∷ k)) k (new_names_of sort v l) (new_names_answers sort n v l (unmarked End ∷ k) tt)
+pub names_to_end_answers : (sort : Sort) (n : ℕ) (v : NamesView) (l : WrittenList) (k : MarkedLetters) → Answers (to_end (read_new_names sort n v) (letters (spell_new_names sort n v l (without_mark End ∷ k)))) (spell_new_names sort n v l (without_mark End ∷ k)) (new_names_of sort v l) k
+names_to_end_answers sort n v l k = to_end_answers (read_new_names sort n v) (spell_new_names sort n v l (without_mark End ∷ k)) k (new_names_of sort v l) (new_names_answers sort n v l (without_mark End ∷ k) tt)
 
 -- a word that stands there is found
 pub word_found : (text : List ℕ) (ls : List Letter) → bytes_eq text text ≡ true → behind_word text (Word text ∷ ls) ≡ Some ls
@@ -87,7 +86,7 @@ pub names_line_answers : (sort : Sort) (n : ℕ) (keyword : List ℕ) (v : Names
 unfolding read_names_line
 names_line_answers sort n keyword v None k same none = subst (λ (o : Option (List Letter)). Answers (if_behind sort n v o (letters k)) k v k) (sym none) (answers_ok v k)
 names_line_answers sort n keyword v (Some l) k same none =
-    let m = spell_new_names sort n v l (unmarked End ∷ k) in
+    let m = spell_new_names sort n v l (without_mark End ∷ k) in
     let x = new_names_of sort v l in
-    subst (λ (o : Option (List Letter)). Answers (if_behind sort n v o (Word keyword ∷ letters m)) (unmarked (Word keyword) ∷ m) x k) (sym (word_found keyword (letters m) same))
+    subst (λ (o : Option (List Letter)). Answers (if_behind sort n v o (Word keyword ∷ letters m)) (without_mark (Word keyword) ∷ m) x k) (sym (word_found keyword (letters m) same))
     (answers_cons (Word keyword) _ m x k (names_to_end_answers sort n v l k))

@@ -6,12 +6,12 @@ use Rattle.it_syntax.specs.declared.types.Symbol.TheVariants.{Comma}
 use Rattle.it_syntax.specs.declared.types.Code.{Code}
 use Rattle.it_syntax.specs.declared.types.Code.TheVariants as codes
 use Rattle.it_syntax.specs.NamesViews.{NamesView}
-use Rattle.it_syntax.specs.Letters.{Letter, Word, Sym, End, MarkedLetters, unmarked}
+use Rattle.it_syntax.specs.Letters.{Letter, Word, Sym, End, MarkedLetters, without_mark}
 use Rattle.it_syntax.specs.FirstFault.{head}
 use Rattle.it_syntax.specs.Lines.{to_end}
-use Rattle.it_syntax.specs.AtomReading.{Reads, ◌>>=◌, line_end}
+use Rattle.it_syntax.specs.AtomReading.{Reads, ◌>>=◌}
 use Rattle.it_syntax.specs.WrittenAtoms.{Environment, WrittenList, is_measure, index_or}
-use Rattle.it_syntax.proofs.Traces.{Stuck, By, Traces, traces_bind, traces_map, letter_then}
+use Rattle.it_syntax.proofs.Traces.{Stuck, By, Traces, traces_bind, letter_then}
 use Rattle.it_syntax.proofs.AtomTraces.{for_same_head, for_no_head, stuck_here, stuck_none}
 use Rattle.it_syntax.proofs.LineEnd.{to_end_traces}
 use Rattle.it_question.specs.NewNames.{Sort, with_name, is_taken, new_mark, spell_new, spell_new_more, spell_new_names, with_names, new_names_of, spell_names_line, names_line_of}
@@ -53,7 +53,7 @@ IsJudged env w h o = (is_measure w ≡ h) × (env w ≡ o)
 -- ---- words
 
 abbrev pub spell_word : List ℕ → Unit {0} → MarkedLetters → MarkedLetters
-spell_word text u k = unmarked (Word text) ∷ k
+spell_word text u k = without_mark (Word text) ∷ k
 
 word_by : (text w : List ℕ) (ls : List Letter) (b : Bool) → bytes_eq w text ≡ b → By (read_word text) (spell_word text) (λ u. tt) (Word w ∷ ls) (cond b (Ok (tt, ls)) (Err (codes.Word, Word w ∷ ls)))
 unfolding read_word
@@ -62,7 +62,7 @@ word_by text w ls true e = record {
   front = Word w ∷ [];
   value = refl;
   parts = refl;
-  spells = λ k. ap (λ (t : List ℕ). unmarked (Word t) ∷ k) (sym ((bytes_eq-Decides w text).0 e));
+  spells = λ k. ap (λ (t : List ℕ). without_mark (Word t) ∷ k) (sym ((bytes_eq-Decides w text).0 e));
   stays = λ s h. ap (λ (b : Bool). cond b (Ok (tt, s)) (Err (codes.Word, Word w ∷ s))) e;
 }
 word_by text w ls false e = stuck_here (read_word text) (spell_word text) tt (Word w) ls codes.Word (λ s. ap (λ (b : Bool). cond b (Ok (tt, s)) (Err (codes.Word, Word w ∷ s))) e) refl
@@ -103,7 +103,7 @@ at_word text f spell value ls stands absent = elim (stands_first text ls) [
 
 -- behind the word another reader reads
 pub behind_traced : {A X Z : Type 0} (text : List ℕ) (f g : List Letter → Reads A) (spell_z : Z → MarkedLetters → MarkedLetters) (spell_x : X → MarkedLetters → MarkedLetters) (value_z : Z → A) (value_x : X → A) (make : Z → X) (behind : List Letter)
-    → ((s : List Letter) → f (Word text ∷ s) ≡ g s) → ((z : Z) (k : MarkedLetters) → spell_x (make z) k ≡ unmarked (Word text) ∷ spell_z z k) → ((z : Z) → value_x (make z) ≡ value_z z) → Traces g spell_z value_z
+    → ((s : List Letter) → f (Word text ∷ s) ≡ g s) → ((z : Z) (k : MarkedLetters) → spell_x (make z) k ≡ without_mark (Word text) ∷ spell_z z k) → ((z : Z) → value_x (make z) ≡ value_z z) → Traces g spell_z value_z
     → By f spell_x value_x (Word text ∷ behind) (f (Word text ∷ behind))
 behind_traced {A} text f g spell_z spell_x value_z value_x make behind is spells values traces = subst (λ (t : Reads A). By f spell_x value_x (Word text ∷ behind) t) (sym (is behind))
     (letter_then f g (Word text) spell_z spell_x value_z value_x make behind is spells values (g behind) (traces behind))
@@ -160,10 +160,10 @@ then_traces sort m n v h = traces_bind (read_new sort m v) (read_new_more sort n
 abbrev more_made : Names → List (List ℕ)
 more_made x = x.0 ∷ x.1
 
-more_spelled : (sort : Sort) (n : ℕ) (v : NamesView) (x : Names) (k : MarkedLetters) → spell_new_more sort (suc n) v (more_made x) k ≡ unmarked (Sym Comma) ∷ spell_then sort (suc n) n v x k
+more_spelled : (sort : Sort) (n : ℕ) (v : NamesView) (x : Names) (k : MarkedLetters) → spell_new_more sort (suc n) v (more_made x) k ≡ without_mark (Sym Comma) ∷ spell_then sort (suc n) n v x k
 more_spelled sort n v x k =
     let e : suc n - 1 ≡ n = omega arith in
-    ap (λ (m : ℕ). unmarked (Sym Comma) ∷ spell_then sort (suc n) m v x k) e
+    ap (λ (m : ℕ). without_mark (Sym Comma) ∷ spell_then sort (suc n) m v x k) e
 
 -- further new names
 pub new_more_traces : (sort : Sort) (n : ℕ) (v : NamesView) → Traces (read_new_more sort n v) (spell_new_more sort n v) (with_names sort v)
@@ -190,7 +190,7 @@ new_names_traces sort n v = traces_bind (read_new sort n v) (read_new_more sort 
 pub names_line_traces : (sort : Sort) (n : ℕ) (keyword : List ℕ) (v : NamesView) → Traces (read_names_line sort n keyword v) (spell_names_line sort n keyword v) (names_line_of sort v)
 unfolding read_names_line
 names_line_traces sort n keyword v ls = at_word keyword (read_names_line sort n keyword v) (spell_names_line sort n keyword v) (names_line_of sort v) ls
-    (λ behind. behind_traced keyword (read_names_line sort n keyword v) (to_end (read_new_names sort n v)) (λ l k. spell_new_names sort n v l (unmarked End ∷ k)) (spell_names_line sort n keyword v) (new_names_of sort v) (names_line_of sort v) Some behind
+    (λ behind. behind_traced keyword (read_names_line sort n keyword v) (to_end (read_new_names sort n v)) (λ l k. spell_new_names sort n v l (without_mark End ∷ k)) (spell_names_line sort n keyword v) (new_names_of sort v) (names_line_of sort v) Some behind
     (λ s. ap (λ (o : Option (List Letter)). if_behind sort n v o (Word keyword ∷ s)) (word_behind keyword s)) (λ z k. refl) (λ z. refl)
     (to_end_traces (read_new_names sort n v) (spell_new_names sort n v) (new_names_of sort v) (new_names_traces sort n v)))
     (λ h. nothing_read (read_names_line sort n keyword v) (spell_names_line sort n keyword v) (names_line_of sort v) None ls (λ k. refl)

@@ -12,7 +12,7 @@ use Rattle.it_syntax.specs.declared.types.TokenKind.{TokenKind}
 use Rattle.it_syntax.specs.declared.types.TokenKind.TheVariants as kinds
 use Rattle.it_syntax.specs.Givens.{GivenView}
 use Rattle.it_syntax.specs.Givens as given_views
-use Rattle.it_syntax.specs.Letters.{Letter, Number, End, MarkedLetters, unmarked, unmarked_all}
+use Rattle.it_syntax.specs.Letters.{Letter, Number, End, MarkedLetters, without_mark, without_marks}
 use Rattle.it_syntax.specs.Meaning.{RelationView}
 use Rattle.it_syntax.specs.Misspellings.{SpellsUntil}
 use Rattle.it_syntax.specs.NamesViews.{NamesView}
@@ -31,7 +31,7 @@ use Rattle.it_question.specs.Texts.{question_line_count, with_texts}
 use Rattle.it_question.specs.WrittenFiles.{spell_verb, verb_of, names_of, spell_question, question_of, spell_questions, questions_of}
 use Rattle.it_question.specs.WrittenLines.{spell_own, own_of, spell_once_more, rates_env}
 use Rattle.it_question.specs.WrittenQuestions.{WrittenLine, GivenLine, RowLine, WrittenRegion, WrittenSet, Empty, Listed, WrittenPart, WrittenTry, WrittenVerb, Prove, Eliminate, Contain, WrittenQuestion, most_questions, most_rates, most_lines, most_variables}
-use Rattle.it_question.specs.Keywords.{aux_text, rates_text}
+use Rattle.it_question.specs.Keywords.{aux_keyword, rates_keyword}
 use Rattle.it_question.specs.WrittenRegions.{auxiliaries_left, auxiliary_env, spell_region, region_of, givens_left, rows_left}
 use Rattle.it_question.specs.WrittenTries.{Sets, unnamed_sets, spell_set, spell_part, with_part, spell_parts, spell_try, spell_tries}
 
@@ -94,7 +94,7 @@ behind_mark ((Number n, None) ∷ m) h = h
 behind_mark ((l, None) ∷ m) h = h
 behind_mark ((l, Some c) ∷ m) h = h
 
-behind_sign : (s : TermSign) (k : MarkedLetters) → AreSmall (unmarked (sign_letter s) ∷ k) → AreSmall k
+behind_sign : (s : TermSign) (k : MarkedLetters) → AreSmall (without_mark (sign_letter s) ∷ k) → AreSmall k
 behind_sign Positive k h = h
 behind_sign Negative k h = h
 
@@ -127,20 +127,20 @@ behind_first_sign (Some s) k h = behind_sign s k h
 behind_sum : (n : ℕ) (s : Scope) (e : WrittenSum) (k : MarkedLetters) → AreSmall (spell_sum n s e k) → Every (λ (t : Term). t.number < 2 ^ 64) (sum_of s e) × AreSmall k
 behind_sum n s e k h = behind_counted n s (is_minus e.sign) e.first e.more k (behind_first_sign e.sign (spell_counted n s e.first e.more k) h)
 
-behind_compare : (s : Sign) (k : MarkedLetters) → AreSmall (unmarked (compare_letter s) ∷ k) → AreSmall k
+behind_compare : (s : Sign) (k : MarkedLetters) → AreSmall (without_mark (compare_letter s) ∷ k) → AreSmall k
 behind_compare AtLeast k h = h
 behind_compare AtMost k h = h
 behind_compare Equal k h = h
 
 behind_relation : (s : Scope) (x : WrittenRelation) (k : MarkedLetters) → AreSmall (spell_relation s x k) → HasSmallNumbers (relation_of s x) × AreSmall k
 behind_relation s x k h =
-    let left = behind_sum most_terms s x.left (unmarked (compare_letter x.sign) ∷ spell_sum (most_terms - number_of_terms x.left) s x.right k) h in
+    let left = behind_sum most_terms s x.left (without_mark (compare_letter x.sign) ∷ spell_sum (most_terms - number_of_terms x.left) s x.right k) h in
     let right = behind_sum (most_terms - number_of_terms x.left) s x.right k (behind_compare x.sign _ left.1) in
     ((left.0, right.0), right.1)
 
 -- ---- `given` and `row` lines
 
-behind_divider : (d : Divider) (k : MarkedLetters) → AreSmall (unmarked (divider_letter d) ∷ k) → AreSmall k
+behind_divider : (d : Divider) (k : MarkedLetters) → AreSmall (without_mark (divider_letter d) ∷ k) → AreSmall k
 behind_divider Arrows k h = h
 behind_divider Semicolons k h = h
 
@@ -206,13 +206,13 @@ behind_tries n aux env sets (x ∷ xs) k h = behind_tries (n - 1) aux env sets x
 -- ---- questions
 
 behind_region : (g r : ℕ) (v : NamesView) (x : WrittenRegion) (k : MarkedLetters) → AreSmall (spell_region g r v x k) → LinesHaveSmallNumbers (region_of v x).lines × AreSmall k
-behind_region g r v x k h = behind_own g r (names_line_of Variable v x.auxiliaries) x.own k (behind_names_line Variable (auxiliaries_left v) aux_text v x.auxiliaries _ h)
+behind_region g r v x k h = behind_own g r (names_line_of Variable v x.auxiliaries) x.own k (behind_names_line Variable (auxiliaries_left v) aux_keyword v x.auxiliaries _ h)
 
 verb_small : (g r : ℕ) (v : NamesView) (x : WrittenVerb) (k : MarkedLetters) → AreSmall (spell_verb g r v x k) → VerbHasSmallNumbers (verb_of v x) × AreSmall k
-verb_small g r v (Prove x) k h = behind_relation (scope_of v true) x (unmarked End ∷ k) h
+verb_small g r v (Prove x) k h = behind_relation (scope_of v true) x (without_mark End ∷ k) h
 verb_small g r v (Eliminate l) k h = (tt, behind_rates (index_or (rates_env v l.first) ∷ []) l.more h)
   where
-    behind_rates : (seen : List ℕ) (ws : List (List ℕ)) → AreSmall (spell_once_more (rates_env v) seen ws (unmarked End ∷ k)) → AreSmall k
+    behind_rates : (seen : List ℕ) (ws : List (List ℕ)) → AreSmall (spell_once_more (rates_env v) seen ws (without_mark End ∷ k)) → AreSmall k
     behind_rates seen [] h = h
     behind_rates seen (w ∷ ws) h = behind_rates (seen ++ index_or (rates_env v w) ∷ []) ws h
 verb_small g r v (Contain x) k h =
@@ -227,7 +227,7 @@ behind_question x k h =
     let variables = new_names_of Variable no_names x.variables in
     let names = names_of x in
     let own = own_of names x.own in
-    let lines = behind_own most_lines most_lines names x.own _ (behind_names_line Rate most_rates rates_text variables x.rates _ (behind_new_names Variable most_variables no_names x.variables _ h)) in
+    let lines = behind_own most_lines most_lines names x.own _ (behind_names_line Rate most_rates rates_keyword variables x.rates _ (behind_new_names Variable most_variables no_names x.variables _ h)) in
     let verb = verb_small (givens_left most_lines own) (rows_left most_lines own) names x.verb k lines.1 in
     ((lines.0, verb.0), verb.1)
 
@@ -237,28 +237,28 @@ questions_small n (x ∷ xs) k h = let one = behind_question x (spell_questions 
 
 -- ---- the letters of lines
 
-before_small : (ls : List Letter) (more : List Letter) → AreSmall (unmarked_all ls) → AreSmall (unmarked_all more) → AreSmall (unmarked_all (ls ++ more))
+before_small : (ls : List Letter) (more : List Letter) → AreSmall (without_marks ls) → AreSmall (without_marks more) → AreSmall (without_marks (ls ++ more))
 before_small [] more h k = k
 before_small (Number n ∷ ls) more h k = (h.0, before_small ls more h.1 k)
 before_small (l ∷ ls) more h k = before_small ls more h k
 
-token_small : (line : List ℕ) (start end : ℕ) (kind : TokenKind) (text : List ℕ) (ls : List Letter) → IsText kind text → AreSmall (unmarked_all ls) → AreSmall (unmarked_all (letter_of line start end kind ∷ ls))
+token_small : (line : List ℕ) (start end : ℕ) (kind : TokenKind) (text : List ℕ) (ls : List Letter) → IsText kind text → AreSmall (without_marks ls) → AreSmall (without_marks (letter_of line start end kind ∷ ls))
 token_small line start end kinds.Word text ls h k = k
 token_small line start end (kinds.Number n) text ls h k = (h.2, k)
 token_small line start end (kinds.Symbol s) text ls h k = k
 
-end_small : (m : Option Misspelling) → AreSmall (unmarked_all (last_letter m ∷ []))
+end_small : (m : Option Misspelling) → AreSmall (without_marks (last_letter m ∷ []))
 end_small None = tt
 end_small (Some m) = tt
 
-line_small : (line : List ℕ) (at : ℕ) (bytes : List ℕ) (ts : List Token) (m : Option Misspelling) → SpellsUntil at bytes ts m → AreSmall (unmarked_all (letters_until line ts (last_letter m)))
+line_small : (line : List ℕ) (at : ℕ) (bytes : List ℕ) (ts : List Token) (m : Option Misspelling) → SpellsUntil at bytes ts m → AreSmall (without_marks (letters_until line ts (last_letter m)))
 line_small line at bytes [] m h = end_small m
 line_small line at bytes (t ∷ ts) m h = token_small line t.start t.end t.kind h.1.text (letters_until line ts (last_letter m)) h.1.spelled (line_small line t.end h.0 ts m h.2)
 
-lines_small : (n : ℕ) (split : List (List ℕ)) (lines : List TokenLine) → AreLines n split lines → AreSmall (unmarked_all (letters_of_lines lines))
-lines_small n [] lines h = subst (λ (ls : List TokenLine). AreSmall (unmarked_all (letters_of_lines ls))) (sym h) tt
+lines_small : (n : ℕ) (split : List (List ℕ)) (lines : List TokenLine) → AreLines n split lines → AreSmall (without_marks (letters_of_lines lines))
+lines_small n [] lines h = subst (λ (ls : List TokenLine). AreSmall (without_marks (letters_of_lines ls))) (sym h) tt
 lines_small n (bytes ∷ more) lines (inl h) = lines_small (n + 1) more lines h.1
-lines_small n (bytes ∷ more) lines (inr h) = subst (λ (ls : List TokenLine). AreSmall (unmarked_all (letters_of_lines ls))) (sym h.2)
+lines_small n (bytes ∷ more) lines (inr h) = subst (λ (ls : List TokenLine). AreSmall (without_marks (letters_of_lines ls))) (sym h.2)
     (before_small (letters_until h.0.text h.0.tokens (last_letter h.0.misspelling)) (letters_of_lines h.1) (line_small h.0.text 0 h.0.text h.0.tokens h.0.misspelling h.3.spelled) (lines_small (n + 1) more h.1 h.5))
 
 -- ---- files

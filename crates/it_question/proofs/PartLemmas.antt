@@ -31,20 +31,20 @@ head_same : (r more : List Letter) → HasLetters r → head (r ++ more) ≡ hea
 head_same [] more h = absurd h
 head_same (l ∷ r) more h = refl
 
-regroup : (front r more : List Letter) (ls : List Letter) → ls ≡ front ++ r → ls ++ more ≡ front ++ (r ++ more)
-regroup front r more ls e = ap (λ (t : List Letter). t ++ more) e ∙ append_assoc front r more
+append_to_rest : (front r more : List Letter) (ls : List Letter) → ls ≡ front ++ r → ls ++ more ≡ front ++ (r ++ more)
+append_to_rest front r more ls e = ap (λ (t : List Letter). t ++ more) e ∙ append_assoc front r more
 
 -- a value
 pub part_ok : {A X : Type 0} (f : List Letter → Reads A) (spell : X → MarkedLetters → MarkedLetters) (value : X → A) → Traces f spell value → (ls r more : List Letter) (x : A) → f ls ≡ Ok (x, r) → HasLetters r → f (ls ++ more) ≡ Ok (x, r ++ more)
 part_ok {A} f spell value h ls r more x e some =
     let w : Went f spell value ls x r = subst (λ (t : Reads A). By f spell value ls t) e (h ls) in
-    ap f (regroup w.front r more ls w.parts) ∙ w.stays (r ++ more) (head_same r more some)
+    ap f (append_to_rest w.front r more ls w.parts) ∙ w.stays (r ++ more) (head_same r more some)
 
 -- a fault
 pub part_err : {A X : Type 0} (f : List Letter → Reads A) (spell : X → MarkedLetters → MarkedLetters) (value : X → A) → Traces f spell value → (ls r more : List Letter) (c : Code) → f ls ≡ Err (c, r) → HasLetters r → f (ls ++ more) ≡ Err (c, r ++ more)
 part_err {A} f spell value h ls r more c e some =
     let w : Stuck f spell ls c r = subst (λ (t : Reads A). By f spell value ls t) e (h ls) in
-    ap f (regroup w.front r more ls w.parts) ∙ w.stays (r ++ more) (head_same r more some)
+    ap f (append_to_rest w.front r more ls w.parts) ∙ w.stays (r ++ more) (head_same r more some)
 
 pub part_stops : {A X : Type 0} (f : List Letter → Reads A) (spell : X → MarkedLetters → MarkedLetters) (value : X → A) → Traces f spell value → (e : Stop) (ls r more : List Letter) → StopsAs e r (f ls) → HasLetters r → StopsAs e (r ++ more) (f (ls ++ more))
 part_stops f spell value h stops.Memory ls r more e some = tt

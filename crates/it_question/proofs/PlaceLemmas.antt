@@ -11,7 +11,7 @@ use Rattle.it_syntax.specs.Lines.{column_of, column_behind}
 use Rattle.it_syntax.proofs.LineLemmas.{until_length}
 use Rattle.it_question.specs.declared.cursor.Line.{Line}
 use Rattle.it_question.specs.declared.cursor.Cursor.{Cursor}
-use Rattle.it_question.specs.Cursors.{token_line, left, left_of}
+use Rattle.it_question.specs.Cursors.{token_line, letters_left, left_of}
 use Rattle.it_question.specs.Lines.{TokenLine, line_letters, letters_of_lines, line_places, places_of_lines}
 
 pub line_letters_length : (l : TokenLine) → length (line_letters l) ≡ suc (length l.tokens)
@@ -76,10 +76,10 @@ place_is l n le = by l.tokens n le
     by (t ∷ ts) (suc n) le = by ts n (omega arith)
 
 -- what is left of a line, and behind it
-pub left_length : (c : Cursor) (rest : Rest) → c.rest ≡ Some rest → length (left c) ≡ length rest.tokens.now + 1 + length (letters_of_lines (map token_line c.behind.now))
-unfolding left
+pub left_length : (c : Cursor) (rest : Rest) → c.rest ≡ Some rest → length (letters_left c) ≡ length rest.tokens.now + 1 + length (letters_of_lines (map token_line c.behind.now))
+unfolding letters_left
 left_length c rest e =
-    ap (λ (r : Option Rest). length (left_of r c.behind.now)) e ∙ length-append (gives.left rest) (letters_of_lines (map token_line c.behind.now))
+    ap (λ (r : Option Rest). length (left_of r c.behind.now)) e ∙ length-append (gives.letters_left rest) (letters_of_lines (map token_line c.behind.now))
     ∙ omega (arith, until_length rest.line.now rest.tokens.now (last_letter rest.misspelling))
 
 pub column_is : (ts us : List Token) (m : Option Misspelling) (n at : ℕ) → us ≡ ts → n ≡ length ts → at ≤ length ts → column_of (drop (length us - (n - at)) us) (column_behind us m) ≡ column_of (drop at ts) (column_behind ts m)

@@ -1,5 +1,5 @@
 -- The rates of an `eliminate` line one after the other, as a loop reads them.
-use Rattle.std.proofs.Common.{◌≡◌, ℕ, Bool, true, false, List, [], ◌∷◌, ◌++◌, Option, Some, None, Ok, Err, refl, sym, ap, ◌∙◌, append_assoc}
+use Rattle.std.proofs.Common.{◌≡◌, ℕ, Bool, true, false, List, [], ◌∷◌, ◌++◌, Option, Some, None, Ok, refl, sym, ap, ◌∙◌}
 use Rattle.std.proofs.lemmas.List.{append-nil}
 use Rattle.it_syntax.specs.declared.rest.Stop.{Stop}
 use Rattle.it_syntax.specs.declared.rest.Stop.TheVariants as stops
@@ -11,6 +11,7 @@ use Rattle.it_syntax.specs.AtomReading.{Reads, ◌>>=◌}
 use Rattle.it_syntax.specs.ReaderSteps.{after_comma}
 use Rattle.it_syntax.specs.WrittenAtoms.{Environment, is_measure}
 use Rattle.it_syntax.proofs.ListLemmas.{comma_is}
+use Rattle.it_syntax.proofs.MemberLemmas.{with_sets_append}
 use Rattle.it_question.specs.Reading.{if_unseen, rate_once, read_once, read_once_more}
 use Rattle.it_question.specs.WrittenLines.{is_among}
 
@@ -35,15 +36,11 @@ comma_more env seen (Sym s ∷ ls) = refl
 comma_more env seen (End ∷ ls) = refl
 comma_more env seen (Bad c ∷ ls) = refl
 
-regroup : (front : List ℕ) (a : ℕ) (r : Reads (List ℕ)) → with_sets front (r >>= λ more. Ok (a ∷ more.0, more.1)) ≡ with_sets (front ++ a ∷ []) r
-regroup front a (Ok x) = ap (λ (sets : List ℕ). Ok (sets, x.1)) (sym (append_assoc front (a ∷ []) x.0))
-regroup front a (Err e) = refl
-
 -- one more rate
 pub goes_on : (seen : List ℕ) (env : Environment) (ls tail after : List Letter) (i : ℕ) (total : Reads (List ℕ)) → after_comma ls ≡ Some tail → read_once env seen tail ≡ Ok (i, after)
     → with_sets seen (read_once_more env seen ls) ≡ total → with_sets (seen ++ i ∷ []) (read_once_more env (seen ++ i ∷ []) after) ≡ total
 goes_on seen env ls tail after i total e h so_far =
-    sym (ap (with_sets seen) (ap (read_once_more env seen) (comma_is ls tail e) ∙ comma_more env seen tail ∙ ap (then_more env seen) h) ∙ regroup seen i (read_once_more env (seen ++ i ∷ []) after)) ∙ so_far
+    sym (ap (with_sets seen) (ap (read_once_more env seen) (comma_is ls tail e) ∙ comma_more env seen tail ∙ ap (then_more env seen) h) ∙ with_sets_append seen i (read_once_more env (seen ++ i ∷ []) after)) ∙ so_far
 
 -- the loop stops at a fault
 pub stops_at_fault : (e : Stop) (seen : List ℕ) (env : Environment) (ls tail rest : List Letter) (total : Reads (List ℕ)) → after_comma ls ≡ Some tail → StopsAs e rest (read_once env seen tail)

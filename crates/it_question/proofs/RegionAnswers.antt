@@ -1,11 +1,11 @@
 -- Regions, and a containment of two, that are spelled so are read, up to the first mark.
 use Rattle.std.proofs.Common.{◌≡◌, ℕ, ◌-◌, List, [], ◌∷◌, length, Option, None, Ok, refl}
 use Rattle.it_syntax.specs.NamesViews.{NamesView}
-use Rattle.it_syntax.specs.Letters.{Word, End, MarkedLetters, unmarked, letters}
+use Rattle.it_syntax.specs.Letters.{Word, End, MarkedLetters, without_mark, letters}
 use Rattle.it_syntax.specs.AtomReading.{◌>>=◌, line_end}
 use Rattle.it_syntax.specs.Scopes.{env_of}
 use Rattle.it_syntax.specs.WrittenAtoms.{Environment}
-use Rattle.it_question.specs.Keywords.{region_text, aux_text, contain_text}
+use Rattle.it_question.specs.Keywords.{region_keyword, aux_keyword, contain_keyword}
 use Rattle.it_question.specs.Questions.{RegionView, Contain}
 use Rattle.it_question.specs.WrittenQuestions.{WrittenRegion, WrittenTry, WrittenContainment, most_lines}
 use Rattle.it_question.specs.NewNames.{Variable, spell_names_line, names_line_of}
@@ -21,11 +21,11 @@ use Rattle.it_question.proofs.TryAnswers.{tries_answers}
 -- what may follow a region: neither a line of its own nor its `aux` line
 pub record EndsRegion (k : MarkedLetters) : Type 0 where
   pub no_own : NoOwn k
-  pub no_aux : behind_word aux_text (letters k) ≡ None
+  pub no_aux : behind_word aux_keyword (letters k) ≡ None
 
 -- a region behind its word
 abbrev pub spell_bounds : ℕ → ℕ → NamesView → WrittenRegion → MarkedLetters → MarkedLetters
-spell_bounds g r v x k = unmarked End ∷ spell_names_line Variable (auxiliaries_left v) aux_text v x.auxiliaries (spell_own g r (names_line_of Variable v x.auxiliaries) x.own k)
+spell_bounds g r v x k = without_mark End ∷ spell_names_line Variable (auxiliaries_left v) aux_keyword v x.auxiliaries (spell_own g r (names_line_of Variable v x.auxiliaries) x.own k)
 
 pub region_answers : (g r : ℕ) (v : NamesView) (x : WrittenRegion) (k : MarkedLetters) → EndsRegion k → Answers (read_region g r v (letters (spell_bounds g r v x k))) (spell_bounds g r v x k) (region_of v x) k
 unfolding read_region line_end
@@ -33,27 +33,27 @@ region_answers g r v x k ends =
     let names = names_line_of Variable v x.auxiliaries in
     let own = own_of names x.own in
     let n = spell_own g r names x.own k in
-    let m = spell_names_line Variable (auxiliaries_left v) aux_text v x.auxiliaries n in
+    let m = spell_names_line Variable (auxiliaries_left v) aux_keyword v x.auxiliaries n in
     let y = region_of v x in
     answers_cons End _ m y k
-    (answers_bind (read_names_line Variable (auxiliaries_left v) aux_text v (letters m)) (λ names. read_lines g r names.0 names.1 >>= λ own. Ok (record { names = names.0; auxiliaries = length names.0.variables - length v.variables; lines = own.0 }, own.1)) m n k names y
-    (names_line_answers Variable (auxiliaries_left v) aux_text v x.auxiliaries n refl (own_no_word aux_text g r names x.own k refl refl ends.no_aux))
+    (answers_bind (read_names_line Variable (auxiliaries_left v) aux_keyword v (letters m)) (λ names. read_lines g r names.0 names.1 >>= λ own. Ok (record { names = names.0; auxiliaries = length names.0.variables - length v.variables; lines = own.0 }, own.1)) m n k names y
+    (names_line_answers Variable (auxiliaries_left v) aux_keyword v x.auxiliaries n refl (own_no_word aux_keyword g r names x.own k refl refl ends.no_aux))
     (answers_bind (read_lines g r names (letters n)) (λ own. Ok (record { names = names; auxiliaries = length names.variables - length v.variables; lines = own.0 }, own.1)) n k k own y (lines_answers g r names x.own k ends.no_own) (answers_ok y k)))
 
 -- the second region, the tries and the verb
 abbrev spell_rest : ℕ → ℕ → NamesView → RegionView → WrittenContainment → MarkedLetters → MarkedLetters
 spell_rest g r v first x k =
     let second = region_of v x.second in
-    spell_region g r v x.second (spell_tries most_lines (auxiliary_env v second.names) (env_of first.names) (unnamed_sets second.auxiliaries) x.tries (unmarked (Word contain_text) ∷ unmarked End ∷ k))
+    spell_region g r v x.second (spell_tries most_lines (auxiliary_env v second.names) (env_of first.names) (unnamed_sets second.auxiliaries) x.tries (without_mark (Word contain_keyword) ∷ without_mark End ∷ k))
 
-tries_end : (n : ℕ) (aux env : Environment) (sets : List (Option ℕ)) (xs : List WrittenTry) (k : MarkedLetters) → EndsRegion (spell_tries n aux env sets xs (unmarked (Word contain_text) ∷ unmarked End ∷ k))
+tries_end : (n : ℕ) (aux env : Environment) (sets : List (Option ℕ)) (xs : List WrittenTry) (k : MarkedLetters) → EndsRegion (spell_tries n aux env sets xs (without_mark (Word contain_keyword) ∷ without_mark End ∷ k))
 unfolding behind_word
 tries_end n aux env sets [] k = record { no_own = record { no_given = refl; no_row = refl }; no_aux = refl }
 tries_end n aux env sets (x ∷ xs) k = record { no_own = record { no_given = refl; no_row = refl }; no_aux = refl }
 
-contain_answers : (k : MarkedLetters) → Answers (read_word_line contain_text (letters (unmarked (Word contain_text) ∷ unmarked End ∷ k))) (unmarked (Word contain_text) ∷ unmarked End ∷ k) tt k
+contain_answers : (k : MarkedLetters) → Answers (read_word_line contain_keyword (letters (without_mark (Word contain_keyword) ∷ without_mark End ∷ k))) (without_mark (Word contain_keyword) ∷ without_mark End ∷ k) tt k
 unfolding read_word_line read_word line_end
-contain_answers k = answers_cons (Word contain_text) _ (unmarked End ∷ k) tt k (answers_cons End _ k tt k (answers_ok tt k))
+contain_answers k = answers_cons (Word contain_keyword) _ (without_mark End ∷ k) tt k (answers_cons End _ k tt k (answers_ok tt k))
 
 -- a containment behind its first word
 abbrev pub spell_contained : ℕ → ℕ → NamesView → WrittenContainment → MarkedLetters → MarkedLetters
@@ -71,18 +71,18 @@ containment_answers g r v x k =
     let sets = unnamed_sets second.auxiliaries in
     let givens = givens_left g first.lines in
     let rows = rows_left r first.lines in
-    let verb : MarkedLetters = unmarked (Word contain_text) ∷ unmarked End ∷ k in
+    let verb : MarkedLetters = without_mark (Word contain_keyword) ∷ without_mark End ∷ k in
     let lines = spell_tries most_lines aux env sets x.tries verb in
     let bounds = spell_bounds givens rows v x.second lines in
-    let rest : MarkedLetters = unmarked (Word region_text) ∷ bounds in
+    let rest : MarkedLetters = without_mark (Word region_keyword) ∷ bounds in
     let tries = tries_of aux env sets x.tries in
     let y = containment_of v x in
     let all = spell_bounds g r v x.first rest in
-    answers_bind (read_region g r v (letters all)) (λ first. read_word region_text first.1 >>= λ x. read_region (givens_left g first.0.lines) (rows_left r first.0.lines) v x.1 >>= λ second. read_tries most_lines (auxiliary_env v second.0.names) (env_of first.0.names) (unnamed_sets second.0.auxiliaries) second.1 >>= λ tries. read_word_line contain_text tries.1 >>= λ e. Ok (Contain first.0 second.0 tries.0, e.1)) all rest k first y
+    answers_bind (read_region g r v (letters all)) (λ first. read_word region_keyword first.1 >>= λ x. read_region (givens_left g first.0.lines) (rows_left r first.0.lines) v x.1 >>= λ second. read_tries most_lines (auxiliary_env v second.0.names) (env_of first.0.names) (unnamed_sets second.0.auxiliaries) second.1 >>= λ tries. read_word_line contain_keyword tries.1 >>= λ e. Ok (Contain first.0 second.0 tries.0, e.1)) all rest k first y
     (region_answers g r v x.first rest (record { no_own = record { no_given = refl; no_row = refl }; no_aux = refl }))
-    (answers_cons (Word region_text) _ bounds y k
-    (answers_bind (read_region givens rows v (letters bounds)) (λ second. read_tries most_lines (auxiliary_env v second.0.names) env (unnamed_sets second.0.auxiliaries) second.1 >>= λ tries. read_word_line contain_text tries.1 >>= λ e. Ok (Contain first second.0 tries.0, e.1)) bounds lines k second y
+    (answers_cons (Word region_keyword) _ bounds y k
+    (answers_bind (read_region givens rows v (letters bounds)) (λ second. read_tries most_lines (auxiliary_env v second.0.names) env (unnamed_sets second.0.auxiliaries) second.1 >>= λ tries. read_word_line contain_keyword tries.1 >>= λ e. Ok (Contain first second.0 tries.0, e.1)) bounds lines k second y
     (region_answers givens rows v x.second lines (tries_end most_lines aux env sets x.tries k))
-    (answers_bind (read_tries most_lines aux env sets (letters lines)) (λ tries. read_word_line contain_text tries.1 >>= λ e. Ok (Contain first second tries.0, e.1)) lines verb k tries y
+    (answers_bind (read_tries most_lines aux env sets (letters lines)) (λ tries. read_word_line contain_keyword tries.1 >>= λ e. Ok (Contain first second tries.0, e.1)) lines verb k tries y
     (tries_answers most_lines aux env second.auxiliaries x.tries verb refl)
-    (answers_bind (read_word_line contain_text (letters verb)) (λ e. Ok (Contain first second tries, e.1)) verb k k tt y (contain_answers k) (answers_ok y k)))))
+    (answers_bind (read_word_line contain_keyword (letters verb)) (λ e. Ok (Contain first second tries, e.1)) verb k k tt y (contain_answers k) (answers_ok y k)))))

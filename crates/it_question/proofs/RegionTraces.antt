@@ -1,13 +1,13 @@
 -- Regions and containment questions are traced.
 use Rattle.std.proofs.Common.{ℕ, ◌-◌, List, [], ◌∷◌, length, Option, None, Ok, refl}
 use Rattle.it_syntax.specs.NamesViews.{NamesView}
-use Rattle.it_syntax.specs.Letters.{Letter, Word, End, MarkedLetters, unmarked}
+use Rattle.it_syntax.specs.Letters.{Letter, Word, End, MarkedLetters, without_mark}
 use Rattle.it_syntax.specs.AtomReading.{Reads, ◌>>=◌, line_end}
 use Rattle.it_syntax.specs.Scopes.{env_of}
 use Rattle.it_syntax.specs.WrittenAtoms.{WrittenList}
 use Rattle.it_syntax.proofs.Traces.{Traces, traces_bind, traces_map}
 use Rattle.it_syntax.proofs.LineEnd.{spell_end, end_value, end_traces}
-use Rattle.it_question.specs.Keywords.{region_text, aux_text, contain_text}
+use Rattle.it_question.specs.Keywords.{region_keyword, aux_keyword, contain_keyword}
 use Rattle.it_question.specs.Questions.{OwnLinesView, RegionView, VerbView, Contain}
 use Rattle.it_question.specs.WrittenQuestions.{WrittenLine, WrittenRegion, WrittenTry, WrittenContainment, most_lines}
 use Rattle.it_question.specs.NewNames.{Variable, spell_names_line, names_line_of}
@@ -33,17 +33,17 @@ abbrev own_then : ℕ → ℕ → NamesView → NamesView → List Letter → Re
 own_then g r v names ls = read_lines g r names ls >>= λ own. Ok (bounded_by v names own.0, own.1)
 
 abbrev read_parts : ℕ → ℕ → NamesView → List Letter → Reads RegionView
-read_parts g r v ls = read_names_line Variable (auxiliaries_left v) aux_text v ls >>= λ names. own_then g r v names.0 names.1
+read_parts g r v ls = read_names_line Variable (auxiliaries_left v) aux_keyword v ls >>= λ names. own_then g r v names.0 names.1
 
 abbrev spell_parts : ℕ → ℕ → NamesView → Parts → MarkedLetters → MarkedLetters
-spell_parts g r v x k = spell_names_line Variable (auxiliaries_left v) aux_text v x.0 (spell_own g r (names_line_of Variable v x.0) x.1 k)
+spell_parts g r v x k = spell_names_line Variable (auxiliaries_left v) aux_keyword v x.0 (spell_own g r (names_line_of Variable v x.0) x.1 k)
 
 abbrev parts_of : NamesView → Parts → RegionView
 parts_of v x = bounded_by v (names_line_of Variable v x.0) (own_of (names_line_of Variable v x.0) x.1)
 
 parts_traces : (g r : ℕ) (v : NamesView) → Traces (read_parts g r v) (spell_parts g r v) (parts_of v)
-parts_traces g r v = traces_bind (read_names_line Variable (auxiliaries_left v) aux_text v) (own_then g r v) (read_parts g r v) (spell_names_line Variable (auxiliaries_left v) aux_text v) (spell_own g r) (spell_parts g r v) (names_line_of Variable v) (λ names own. bounded_by v names (own_of names own)) (parts_of v) (λ x own. (x, own))
-    (record { is = λ ls. refl; spells = λ y z k. refl; value = λ y z. refl; some = []; first = names_line_traces Variable (auxiliaries_left v) aux_text v; second = λ names. traces_map (read_lines g r names) (bounded_by v names) (spell_own g r names) (own_of names) (lines_traces g r names) })
+parts_traces g r v = traces_bind (read_names_line Variable (auxiliaries_left v) aux_keyword v) (own_then g r v) (read_parts g r v) (spell_names_line Variable (auxiliaries_left v) aux_keyword v) (spell_own g r) (spell_parts g r v) (names_line_of Variable v) (λ names own. bounded_by v names (own_of names own)) (parts_of v) (λ x own. (x, own))
+    (record { is = λ ls. refl; spells = λ y z k. refl; value = λ y z. refl; some = []; first = names_line_traces Variable (auxiliaries_left v) aux_keyword v; second = λ names. traces_map (read_lines g r names) (bounded_by v names) (spell_own g r names) (own_of names) (lines_traces g r names) })
 
 -- a region behind its word `region`
 abbrev region_made : Unit {0} → Parts → WrittenRegion
@@ -57,7 +57,7 @@ region_traces g r v = traces_bind line_end (λ u. read_parts g r v) (read_region
 -- ---- a line of one word
 
 abbrev pub spell_word_line : List ℕ → Unit {0} → MarkedLetters → MarkedLetters
-spell_word_line text u k = unmarked (Word text) ∷ unmarked End ∷ k
+spell_word_line text u k = without_mark (Word text) ∷ without_mark End ∷ k
 
 pub word_line_traces : (text : List ℕ) → Traces (read_word_line text) (spell_word_line text) (λ u. tt)
 unfolding read_word_line spell_end end_value
@@ -67,14 +67,14 @@ word_line_traces text = traces_bind (read_word text) (λ u. line_end) (read_word
 -- ---- containment questions
 
 abbrev contain_then : RegionView → RegionView → List (List ℕ) → List Letter → Reads VerbView
-contain_then first second tries ls = read_word_line contain_text ls >>= λ e. Ok (Contain first second tries, e.1)
+contain_then first second tries ls = read_word_line contain_keyword ls >>= λ e. Ok (Contain first second tries, e.1)
 
 -- what follows two regions
 abbrev behind_second : NamesView → RegionView → RegionView → List Letter → Reads VerbView
 behind_second v first second ls = read_tries most_lines (auxiliary_env v second.names) (env_of first.names) (unnamed_sets second.auxiliaries) ls >>= λ tries. contain_then first second tries.0 tries.1
 
 abbrev spell_behind_second : NamesView → RegionView → RegionView → List WrittenTry → MarkedLetters → MarkedLetters
-spell_behind_second v first second xs k = spell_tries most_lines (auxiliary_env v second.names) (env_of first.names) (unnamed_sets second.auxiliaries) xs (unmarked (Word contain_text) ∷ unmarked End ∷ k)
+spell_behind_second v first second xs k = spell_tries most_lines (auxiliary_env v second.names) (env_of first.names) (unnamed_sets second.auxiliaries) xs (without_mark (Word contain_keyword) ∷ without_mark End ∷ k)
 
 abbrev behind_second_of : NamesView → RegionView → RegionView → List WrittenTry → VerbView
 behind_second_of v first second xs = Contain first second (tries_of (auxiliary_env v second.names) (env_of first.names) (unnamed_sets second.auxiliaries) xs)
@@ -84,8 +84,8 @@ behind_second_traces v first second =
     let aux = auxiliary_env v second.names in
     let env = env_of first.names in
     let sets = unnamed_sets second.auxiliaries in
-    traces_bind (read_tries most_lines aux env sets) (contain_then first second) (behind_second v first second) (spell_tries most_lines aux env sets) (λ tries. spell_word_line contain_text) (spell_behind_second v first second) (tries_of aux env sets) (λ tries u. Contain first second tries) (behind_second_of v first second) (λ xs u. xs)
-    (record { is = λ ls. refl; spells = λ y z k. refl; value = λ y z. refl; some = tt; first = tries_traces most_lines aux env sets; second = λ tries. traces_map (read_word_line contain_text) (λ u. Contain first second tries) (spell_word_line contain_text) (λ u. tt) (word_line_traces contain_text) })
+    traces_bind (read_tries most_lines aux env sets) (contain_then first second) (behind_second v first second) (spell_tries most_lines aux env sets) (λ tries. spell_word_line contain_keyword) (spell_behind_second v first second) (tries_of aux env sets) (λ tries u. Contain first second tries) (behind_second_of v first second) (λ xs u. xs)
+    (record { is = λ ls. refl; spells = λ y z k. refl; value = λ y z. refl; some = tt; first = tries_traces most_lines aux env sets; second = λ tries. traces_map (read_word_line contain_keyword) (λ u. Contain first second tries) (spell_word_line contain_keyword) (λ u. tt) (word_line_traces contain_keyword) })
 
 -- the second region, and what follows it
 abbrev Second : Type 0
@@ -109,17 +109,17 @@ some_second = (record { auxiliaries = None; own = [] }, [])
 
 -- the limits that the first region leaves
 abbrev behind_first : ℕ → ℕ → NamesView → RegionView → List Letter → Reads VerbView
-behind_first g r v first ls = read_word region_text ls >>= λ x. from_second (givens_left g first.lines) (rows_left r first.lines) v first x.1
+behind_first g r v first ls = read_word region_keyword ls >>= λ x. from_second (givens_left g first.lines) (rows_left r first.lines) v first x.1
 
 abbrev spell_behind_first : ℕ → ℕ → NamesView → RegionView → Second → MarkedLetters → MarkedLetters
-spell_behind_first g r v first x k = unmarked (Word region_text) ∷ spell_second (givens_left g first.lines) (rows_left r first.lines) v first x k
+spell_behind_first g r v first x k = without_mark (Word region_keyword) ∷ spell_second (givens_left g first.lines) (rows_left r first.lines) v first x k
 
 behind_first_traces : (g r : ℕ) (v : NamesView) (first : RegionView) → Traces (behind_first g r v first) (spell_behind_first g r v first) (second_of v first)
 behind_first_traces g r v first =
     let h = givens_left g first.lines in
     let s = rows_left r first.lines in
-    traces_bind (read_word region_text) (λ u. from_second h s v first) (behind_first g r v first) (spell_word region_text) (λ u. spell_second h s v first) (spell_behind_first g r v first) (λ u. tt) (λ u. second_of v first) (second_of v first) (λ u x. x)
-    (record { is = λ ls. refl; spells = λ y z k. refl; value = λ y z. refl; some = some_second; first = word_traces region_text; second = λ u. from_second_traces h s v first })
+    traces_bind (read_word region_keyword) (λ u. from_second h s v first) (behind_first g r v first) (spell_word region_keyword) (λ u. spell_second h s v first) (spell_behind_first g r v first) (λ u. tt) (λ u. second_of v first) (second_of v first) (λ u x. x)
+    (record { is = λ ls. refl; spells = λ y z k. refl; value = λ y z. refl; some = some_second; first = word_traces region_keyword; second = λ u. from_second_traces h s v first })
 
 -- a containment question behind its first word `region`
 abbrev containment_made : WrittenRegion → Second → WrittenContainment

@@ -5,7 +5,7 @@ use Rattle.it_syntax.specs.declared.rest.Divider.TheVariants.{Arrows, Semicolons
 use Rattle.it_syntax.specs.declared.types.Sign.{Sign}
 use Rattle.it_syntax.specs.declared.types.Sign.TheVariants.{AtLeast, AtMost, Equal}
 use Rattle.it_syntax.specs.declared.types.Symbol.TheVariants as symbols
-use Rattle.it_syntax.specs.Letters.{Word, Number, Sym, MarkedLetters, unmarked}
+use Rattle.it_syntax.specs.Letters.{Word, Number, Sym, MarkedLetters, without_mark}
 use Rattle.it_syntax.specs.WrittenAtoms.{Environment, WrittenList, WrittenAtom, Entropy, EntropyGiven, Mutual, MutualGiven, TermSign, Positive, Negative, entropy_text, mutual_text, name_mark, unknown_mark, sign_letter, spell_name, spell_more, spell_list, spell_atom, spell_sign}
 use Rattle.it_syntax.specs.WrittenRelations.{Scope, WrittenQuantity, Measure, RateOf, WrittenTerm, Zero, Once, Times, WrittenSum, WrittenRelation, most_terms, number_of_terms, spell_quantity, spell_term, spell_terms, spell_counted, spell_sum, compare_letter, spell_relation}
 use Rattle.it_syntax.specs.WrittenGivens.{WrittenChain, WrittenIndependence, WrittenFunction, WrittenGiven, Relation, Markov, Independent, Function, markov_text, indep_text, func_text, of_text, divider_letter, spell_members, spell_chain, spell_bar, spell_independence, spell_function, spell_given}
@@ -18,33 +18,33 @@ name_puts env w = one_token (Word w, name_mark env w) tt
 
 more_puts : (env : Environment) (ws : List (List ℕ)) → Puts AreTokens (spell_more env ws)
 more_puts env [] = no_tokens
-more_puts env (w ∷ ws) = token_then (unmarked (Sym symbols.Comma)) tt (tokens_then (name_puts env w) (more_puts env ws))
+more_puts env (w ∷ ws) = token_then (without_mark (Sym symbols.Comma)) tt (tokens_then (name_puts env w) (more_puts env ws))
 
 pub list_puts : (env : Environment) (l : WrittenList) → Puts AreTokens (spell_list env l)
 list_puts env l = tokens_then (name_puts env l.first) (more_puts env l.more)
 
 -- ---- sums
 
-close_puts : Puts AreTokens (λ k. unmarked (Sym symbols.RightParen) ∷ k)
-close_puts = one_token (unmarked (Sym symbols.RightParen)) tt
+close_puts : Puts AreTokens (λ k. without_mark (Sym symbols.RightParen) ∷ k)
+close_puts = one_token (without_mark (Sym symbols.RightParen)) tt
 
-open_puts : {s : MarkedLetters → MarkedLetters} (w : List ℕ) → Puts AreTokens s → Puts AreTokens (λ k. unmarked (Word w) ∷ unmarked (Sym symbols.LeftParen) ∷ s k)
-open_puts w p = token_then (unmarked (Word w)) tt (token_then (unmarked (Sym symbols.LeftParen)) tt p)
+open_puts : {s : MarkedLetters → MarkedLetters} (w : List ℕ) → Puts AreTokens s → Puts AreTokens (λ k. without_mark (Word w) ∷ without_mark (Sym symbols.LeftParen) ∷ s k)
+open_puts w p = token_then (without_mark (Word w)) tt (token_then (without_mark (Sym symbols.LeftParen)) tt p)
 
 atom_puts : (env : Environment) (x : WrittenAtom) → Puts AreTokens (spell_atom env x)
 atom_puts env (Entropy a) = open_puts entropy_text (tokens_then (list_puts env a) close_puts)
-atom_puts env (EntropyGiven a c) = open_puts entropy_text (tokens_then (list_puts env a) (token_then (unmarked (Sym symbols.Bar)) tt (tokens_then (list_puts env c) close_puts)))
-atom_puts env (Mutual a b) = open_puts mutual_text (tokens_then (list_puts env a) (token_then (unmarked (Sym symbols.Semicolon)) tt (tokens_then (list_puts env b) close_puts)))
-atom_puts env (MutualGiven a b c) = open_puts mutual_text (tokens_then (list_puts env a) (token_then (unmarked (Sym symbols.Semicolon)) tt (tokens_then (list_puts env b) (token_then (unmarked (Sym symbols.Bar)) tt (tokens_then (list_puts env c) close_puts)))))
+atom_puts env (EntropyGiven a c) = open_puts entropy_text (tokens_then (list_puts env a) (token_then (without_mark (Sym symbols.Bar)) tt (tokens_then (list_puts env c) close_puts)))
+atom_puts env (Mutual a b) = open_puts mutual_text (tokens_then (list_puts env a) (token_then (without_mark (Sym symbols.Semicolon)) tt (tokens_then (list_puts env b) close_puts)))
+atom_puts env (MutualGiven a b c) = open_puts mutual_text (tokens_then (list_puts env a) (token_then (without_mark (Sym symbols.Semicolon)) tt (tokens_then (list_puts env b) (token_then (without_mark (Sym symbols.Bar)) tt (tokens_then (list_puts env c) close_puts)))))
 
 quantity_puts : (s : Scope) (q : WrittenQuantity) → Puts AreTokens (spell_quantity s q)
 quantity_puts s (Measure a) = atom_puts s.variables a
 quantity_puts s (RateOf r) = one_token (Word r.text, unknown_mark (s.rates r.text)) tt
 
 term_puts : (s : Scope) (t : WrittenTerm) → Puts AreTokens (spell_term s t)
-term_puts s Zero = one_token (unmarked (Number 0)) tt
+term_puts s Zero = one_token (without_mark (Number 0)) tt
 term_puts s (Once q) = quantity_puts s q
-term_puts s (Times n q) = token_then (unmarked (Number n)) tt (quantity_puts s q)
+term_puts s (Times n q) = token_then (without_mark (Number n)) tt (quantity_puts s q)
 
 quantity_some : (s : Scope) (q : WrittenQuantity) (k : MarkedLetters) → spell_quantity s q k ≡ [] → ⊥
 quantity_some s (Measure (Entropy a)) k e = absurd cc
@@ -64,8 +64,8 @@ sign_token Negative = tt
 
 terms_puts : (n : ℕ) (s : Scope) (ts : List (TermSign × WrittenTerm)) → Puts AreTokens (spell_terms n s ts)
 terms_puts n s [] = no_tokens
-terms_puts zero s (t ∷ ts) = token_then (unmarked (sign_letter t.0)) (sign_token t.0) (tokens_over (tokens_then (term_puts s t.1) (terms_puts zero s ts)) (term_some s t.1 (spell_terms zero s ts [])))
-terms_puts (suc n) s (t ∷ ts) = token_then (unmarked (sign_letter t.0)) (sign_token t.0) (tokens_then (term_puts s t.1) (terms_puts n s ts))
+terms_puts zero s (t ∷ ts) = token_then (without_mark (sign_letter t.0)) (sign_token t.0) (tokens_over (tokens_then (term_puts s t.1) (terms_puts zero s ts)) (term_some s t.1 (spell_terms zero s ts [])))
+terms_puts (suc n) s (t ∷ ts) = token_then (without_mark (sign_letter t.0)) (sign_token t.0) (tokens_then (term_puts s t.1) (terms_puts n s ts))
 
 counted_puts : (n : ℕ) (s : Scope) (t : WrittenTerm) (ts : List (TermSign × WrittenTerm)) → Puts AreTokens (spell_counted n s t ts)
 counted_puts zero s t ts = tokens_over (tokens_then (term_puts s t) (terms_puts zero s ts)) (term_some s t (spell_terms zero s ts []))
@@ -73,7 +73,7 @@ counted_puts (suc n) s t ts = tokens_then (term_puts s t) (terms_puts n s ts)
 
 signed_puts : {s : MarkedLetters → MarkedLetters} (o : Option TermSign) → Puts AreTokens s → Puts AreTokens (λ k. spell_sign o (s k))
 signed_puts None p = p
-signed_puts (Some s) p = token_then (unmarked (sign_letter s)) (sign_token s) p
+signed_puts (Some s) p = token_then (without_mark (sign_letter s)) (sign_token s) p
 
 sum_puts : (n : ℕ) (s : Scope) (e : WrittenSum) → Puts AreTokens (spell_sum n s e)
 sum_puts n s e = signed_puts e.sign (counted_puts n s e.first e.more)
@@ -84,7 +84,7 @@ compare_token AtMost = tt
 compare_token Equal = tt
 
 pub relation_puts : (s : Scope) (x : WrittenRelation) → Puts AreTokens (spell_relation s x)
-relation_puts s x = tokens_then (sum_puts most_terms s x.left) (token_then (unmarked (compare_letter x.sign)) (compare_token x.sign) (sum_puts (most_terms - number_of_terms x.left) s x.right))
+relation_puts s x = tokens_then (sum_puts most_terms s x.left) (token_then (without_mark (compare_letter x.sign)) (compare_token x.sign) (sum_puts (most_terms - number_of_terms x.left) s x.right))
 
 -- ---- constraints
 
@@ -94,24 +94,24 @@ divider_token Semicolons = tt
 
 members_puts : (n : ℕ) (d : Divider) (env : Environment) (ls : List WrittenList) → Puts AreTokens (spell_members n d env ls)
 members_puts n d env [] = no_tokens
-members_puts zero d env (l ∷ ls) = token_then (unmarked (divider_letter d)) (divider_token d) (tokens_over (tokens_then (list_puts env l) (members_puts zero d env ls)) (λ e. absurd cc))
-members_puts (suc n) d env (l ∷ ls) = token_then (unmarked (divider_letter d)) (divider_token d) (tokens_then (list_puts env l) (members_puts n d env ls))
+members_puts zero d env (l ∷ ls) = token_then (without_mark (divider_letter d)) (divider_token d) (tokens_over (tokens_then (list_puts env l) (members_puts zero d env ls)) (λ e. absurd cc))
+members_puts (suc n) d env (l ∷ ls) = token_then (without_mark (divider_letter d)) (divider_token d) (tokens_then (list_puts env l) (members_puts n d env ls))
 
 chain_puts : (env : Environment) (x : WrittenChain) → Puts AreTokens (spell_chain env x)
-chain_puts env x = tokens_then (list_puts env x.first) (token_then (unmarked (Sym symbols.Arrow)) tt (tokens_then (list_puts env x.second) (token_then (unmarked (Sym symbols.Arrow)) tt (tokens_then (list_puts env x.third) (members_puts 13 Arrows env x.more)))))
+chain_puts env x = tokens_then (list_puts env x.first) (token_then (without_mark (Sym symbols.Arrow)) tt (tokens_then (list_puts env x.second) (token_then (without_mark (Sym symbols.Arrow)) tt (tokens_then (list_puts env x.third) (members_puts 13 Arrows env x.more)))))
 
 bar_puts : (env : Environment) (o : Option WrittenList) → Puts AreTokens (spell_bar env o)
 bar_puts env None = no_tokens
-bar_puts env (Some c) = token_then (unmarked (Sym symbols.Bar)) tt (list_puts env c)
+bar_puts env (Some c) = token_then (without_mark (Sym symbols.Bar)) tt (list_puts env c)
 
 independence_puts : (env : Environment) (x : WrittenIndependence) → Puts AreTokens (spell_independence env x)
-independence_puts env x = tokens_then (list_puts env x.first) (token_then (unmarked (Sym symbols.Semicolon)) tt (tokens_then (list_puts env x.second) (tokens_then (members_puts 14 Semicolons env x.more) (bar_puts env x.given))))
+independence_puts env x = tokens_then (list_puts env x.first) (token_then (without_mark (Sym symbols.Semicolon)) tt (tokens_then (list_puts env x.second) (tokens_then (members_puts 14 Semicolons env x.more) (bar_puts env x.given))))
 
 function_puts : (env : Environment) (x : WrittenFunction) → Puts AreTokens (spell_function env x)
-function_puts env x = tokens_then (list_puts env x.value) (token_then (unmarked (Word of_text)) tt (list_puts env x.argument))
+function_puts env x = tokens_then (list_puts env x.value) (token_then (without_mark (Word of_text)) tt (list_puts env x.argument))
 
 pub given_puts : (s : Scope) (x : WrittenGiven) → Puts AreTokens (spell_given s x)
 given_puts s (Relation x) = relation_puts s x.relation
-given_puts s (Markov x) = token_then (unmarked (Word markov_text)) tt (chain_puts s.variables x)
-given_puts s (Independent x) = token_then (unmarked (Word indep_text)) tt (independence_puts s.variables x)
-given_puts s (Function x) = token_then (unmarked (Word func_text)) tt (function_puts s.variables x)
+given_puts s (Markov x) = token_then (without_mark (Word markov_text)) tt (chain_puts s.variables x)
+given_puts s (Independent x) = token_then (without_mark (Word indep_text)) tt (independence_puts s.variables x)
+given_puts s (Function x) = token_then (without_mark (Word func_text)) tt (function_puts s.variables x)

@@ -2,15 +2,15 @@
 use Rattle.std.proofs.Common.{◌≡◌, ℕ, zero, suc, ◌-◌, ◌≤◌, Bool, true, false, cond, List, [], ◌∷◌, Option, Some, None, Ok, Err, refl, sym, ap, subst, arith, inl}
 use Rattle.it_syntax.specs.declared.types.Symbol.TheVariants.{Semicolon, Assign}
 use Rattle.it_syntax.specs.declared.types.Code.TheVariants as codes
-use Rattle.it_syntax.specs.Letters.{Letter, Word, Number, Sym, End, MarkedLetters, unmarked, letters}
+use Rattle.it_syntax.specs.Letters.{Letter, Word, Number, Sym, End, MarkedLetters, without_mark, letters}
 use Rattle.it_syntax.specs.AtomReading.{Reads, ◌>>=◌, line_end}
 use Rattle.it_syntax.specs.WrittenAtoms.{Environment, is_measure, index_or}
-use Rattle.it_question.specs.Keywords.{try_text}
+use Rattle.it_question.specs.Keywords.{try_keyword}
 use Rattle.it_question.specs.WrittenQuestions.{WrittenSet, Empty, Listed, WrittenPart, WrittenTry}
 use Rattle.it_question.specs.WrittenTries.{Sets, unnamed_sets, is_named, with_set, is_whole, sets_view, part_mark, spell_set, set_of, spell_part, with_part, spell_parts, with_parts, try_end_mark, spell_try, try_of, try_mark, spell_tries, tries_of}
 use Rattle.it_question.specs.Reading.{behind_word, read_assign, read_set, if_unnamed, auxiliary, read_auxiliary, read_part, read_parts, read_try_end, read_try, if_allowed, try_then, if_tried, read_tries}
 use Rattle.it_syntax.proofs.SpelledIsRead.{Answers, answers_ok, answers_cons, answers_bind, NoComma, list_answers}
-use Rattle.it_question.proofs.NameAnswers.{marked_answers}
+use Rattle.it_question.proofs.NameAnswers.{answers_at_mark}
 
 -- ---- how many auxiliaries have no set yet
 
@@ -51,20 +51,20 @@ set_answers env (Listed l) k free = list_answers env l k free
 -- the name of a part, and what is read behind it if the auxiliary has no set yet
 unnamed_then : {A : Type 0} (i : ℕ) (w : List ℕ) (b : Bool) (f : ℕ × List Letter → Reads A) (n : MarkedLetters) (y : A) (k : MarkedLetters) → (b ≡ false → Answers (f (i, letters n)) n y k)
     → Answers (if_unnamed i b (letters n) (Word w ∷ letters n) >>= f) ((Word w, cond b (Some codes.Twice) None) ∷ n) y k
-unnamed_then i w true f n y k h = marked_answers codes.Twice (Word w) n y k
+unnamed_then i w true f n y k h = answers_at_mark codes.Twice (Word w) n y k
 unnamed_then i w false f n y k h = answers_cons (Word w) _ n y k (h refl)
 
 auxiliary_then : {A : Type 0} (measure : Bool) (sets : Sets) (o : Option ℕ) (w : List ℕ) (f : ℕ × List Letter → Reads A) (n : MarkedLetters) (y : A) (k : MarkedLetters) → (is_named sets (index_or o) ≡ false → Answers (f (index_or o, letters n)) n y k)
     → Answers (auxiliary measure sets o w (letters n) >>= f) ((Word w, part_mark measure sets o) ∷ n) y k
-auxiliary_then true sets o w f n y k h = marked_answers codes.Word (Word w) n y k
-auxiliary_then false sets None w f n y k h = marked_answers codes.Name (Word w) n y k
+auxiliary_then true sets o w f n y k h = answers_at_mark codes.Word (Word w) n y k
+auxiliary_then false sets None w f n y k h = answers_at_mark codes.Name (Word w) n y k
 auxiliary_then false sets (Some i) w f n y k h = unnamed_then i w (is_named sets i) f n y k h
 
 -- behind the name
 abbrev set_behind : Environment → Sets → ℕ × List Letter → Reads Sets
 set_behind env sets i = read_assign i.1 >>= λ behind. read_set env behind >>= λ set. Ok (with_set sets i.0 set.0, set.1)
 
-set_behind_answers : (env : Environment) (sets : Sets) (i : ℕ) (x : WrittenSet) (k : MarkedLetters) → NoComma k → Answers (set_behind env sets (i, Sym Assign ∷ letters (spell_set env x k))) (unmarked (Sym Assign) ∷ spell_set env x k) (with_set sets i (set_of env x)) k
+set_behind_answers : (env : Environment) (sets : Sets) (i : ℕ) (x : WrittenSet) (k : MarkedLetters) → NoComma k → Answers (set_behind env sets (i, Sym Assign ∷ letters (spell_set env x k))) (without_mark (Sym Assign) ∷ spell_set env x k) (with_set sets i (set_of env x)) k
 unfolding read_assign
 set_behind_answers env sets i x k free =
     let m = spell_set env x k in
@@ -85,7 +85,7 @@ part_then aux env sets x f n y k free h =
     let w = x.name in
     let i = index_or (aux w) in
     let set = set_of env x.set in
-    let m : MarkedLetters = unmarked (Sym Assign) ∷ spell_set env x.set n in
+    let m : MarkedLetters = without_mark (Sym Assign) ∷ spell_set env x.set n in
     let sets_then = with_part aux env sets x in
     subst (λ (r : Reads _). Answers r (spell_part aux env sets x n) y k) (sym (bind_assoc (read_auxiliary aux sets (letters (spell_part aux env sets x n))) (set_behind env sets) f))
     (auxiliary_then (is_measure w) sets (aux w) w (λ i. set_behind env sets i >>= f) m y k
@@ -96,7 +96,7 @@ part_stops : (aux env : Environment) (sets : Sets) (x : WrittenPart) (n : Marked
 unfolding read_part read_auxiliary
 part_stops aux env sets x n y k none =
     let w = x.name in
-    auxiliary_then (is_measure w) sets (aux w) w (set_behind env sets) (unmarked (Sym Assign) ∷ spell_set env x.set n) y k
+    auxiliary_then (is_measure w) sets (aux w) w (set_behind env sets) (without_mark (Sym Assign) ∷ spell_set env x.set n) y k
     (λ e. let named = none_left sets (index_or (aux w)) none in absurd cc)
 
 -- ---- further parts
@@ -138,7 +138,7 @@ parts_answers (suc n) aux env sets (x ∷ xs) k few free single =
 try_end_answers : (b : Bool) (k : MarkedLetters) → Answers (read_try_end b (End ∷ letters k)) ((End, try_end_mark b) ∷ k) tt k
 unfolding read_try_end line_end
 try_end_answers true k = inl (refl, record { front = End ∷ []; is = refl })
-try_end_answers false k = marked_answers codes.Word End k _ _
+try_end_answers false k = answers_at_mark codes.Word End k _ _
 
 try_answers : (aux env : Environment) (sets : Sets) (x : WrittenTry) (k : MarkedLetters) → count sets ≤ 4 → Answers (read_try aux env sets (letters (spell_try aux env sets x k))) (spell_try aux env sets x k) (try_of aux env sets x) k
 unfolding read_try
@@ -154,11 +154,11 @@ try_answers aux env sets x k few =
 
 -- a line that may not stand there, or is one too many
 allowed_stops : {A : Type 0} (b : Bool) (w : List ℕ) (f : List Letter → Reads A) (m : MarkedLetters) (y : A) (k : MarkedLetters) → Answers (if_allowed b 0 f (letters m) (Word w ∷ letters m)) ((Word w, try_mark b 0) ∷ m) y k
-allowed_stops true w f m y k = marked_answers codes.Word (Word w) m _ _
-allowed_stops false w f m y k = marked_answers codes.Many (Word w) m _ _
+allowed_stops true w f m y k = answers_at_mark codes.Word (Word w) m _ _
+allowed_stops false w f m y k = answers_at_mark codes.Many (Word w) m _ _
 
 allowed_then : {A : Type 0} (b : Bool) (n : ℕ) (w : List ℕ) (f : List Letter → Reads A) (m : MarkedLetters) (y : A) (k : MarkedLetters) → Answers (f (letters m)) m y k → Answers (if_allowed b (suc n) f (letters m) (Word w ∷ letters m)) ((Word w, try_mark b (suc n)) ∷ m) y k
-allowed_then true n w f m y k h = marked_answers codes.Word (Word w) m _ _
+allowed_then true n w f m y k h = answers_at_mark codes.Word (Word w) m _ _
 allowed_then false n w f m y k h = answers_cons (Word w) _ m y k h
 
 try_then_answers : (f : List Letter → Reads (List (List ℕ))) (aux env : Environment) (sets : Sets) (x : WrittenTry) (m : MarkedLetters) (ys : List (List ℕ)) (k : MarkedLetters) → count sets ≤ 4 → Answers (f (letters m)) m ys k → Answers (try_then f aux env sets (letters (spell_try aux env sets x m))) (spell_try aux env sets x m) (try_of aux env sets x ∷ ys) k
@@ -168,21 +168,21 @@ try_then_answers f aux env sets x m ys k few h =
     answers_bind (read_try aux env sets (letters first)) (λ x. f x.1 >>= λ more. Ok (x.0 ∷ more.0, more.1)) first m k y (y ∷ ys) (try_answers aux env sets x m few)
     (answers_bind (f (letters m)) (λ more. Ok (y ∷ more.0, more.1)) m k k ys (y ∷ ys) h (answers_ok (y ∷ ys) k))
 
-no_tries : (f : List Letter → Reads (List (List ℕ))) (k : MarkedLetters) → behind_word try_text (letters k) ≡ None → Answers (if_tried f (behind_word try_text (letters k)) (letters k)) k [] k
+no_tries : (f : List Letter → Reads (List (List ℕ))) (k : MarkedLetters) → behind_word try_keyword (letters k) ≡ None → Answers (if_tried f (behind_word try_keyword (letters k)) (letters k)) k [] k
 no_tries f k none = subst (λ (o : Option (List Letter)). Answers (if_tried f o (letters k)) k [] k) (sym none) (answers_ok [] k)
 
-counted_tries : (n : ℕ) (aux env : Environment) (sets : Sets) (xs : List WrittenTry) (k : MarkedLetters) → count sets ≤ 4 → behind_word try_text (letters k) ≡ None → Answers (read_tries n aux env sets (letters (spell_tries n aux env sets xs k))) (spell_tries n aux env sets xs k) (tries_of aux env sets xs) k
+counted_tries : (n : ℕ) (aux env : Environment) (sets : Sets) (xs : List WrittenTry) (k : MarkedLetters) → count sets ≤ 4 → behind_word try_keyword (letters k) ≡ None → Answers (read_tries n aux env sets (letters (spell_tries n aux env sets xs k))) (spell_tries n aux env sets xs k) (tries_of aux env sets xs) k
 unfolding read_tries behind_word
 counted_tries zero aux env sets [] k few none = no_tries (λ behind. if_allowed (is_whole sets) 0 (try_then (λ more. Ok ([], more)) aux env sets) behind (letters k)) k none
 counted_tries (suc n) aux env sets [] k few none = no_tries (λ behind. if_allowed (is_whole sets) (suc n) (try_then (read_tries n aux env sets) aux env sets) behind (letters k)) k none
-counted_tries zero aux env sets (x ∷ xs) k few none = allowed_stops (is_whole sets) try_text (try_then (λ more. Ok ([], more)) aux env sets) (spell_try aux env sets x (spell_tries (0 - 1) aux env sets xs k)) (tries_of aux env sets (x ∷ xs)) k
+counted_tries zero aux env sets (x ∷ xs) k few none = allowed_stops (is_whole sets) try_keyword (try_then (λ more. Ok ([], more)) aux env sets) (spell_try aux env sets x (spell_tries (0 - 1) aux env sets xs k)) (tries_of aux env sets (x ∷ xs)) k
 counted_tries (suc n) aux env sets (x ∷ xs) k few none =
     let e : (suc n - 1) ≡ n = omega arith in
     let m = spell_tries n aux env sets xs k in
     rw e
-    (allowed_then (is_whole sets) n try_text (try_then (read_tries n aux env sets) aux env sets) (spell_try aux env sets x m) (tries_of aux env sets (x ∷ xs)) k
+    (allowed_then (is_whole sets) n try_keyword (try_then (read_tries n aux env sets) aux env sets) (spell_try aux env sets x m) (tries_of aux env sets (x ∷ xs)) k
     (try_then_answers (read_tries n aux env sets) aux env sets x m (tries_of aux env sets xs) k few (counted_tries n aux env sets xs k few none)))
 
 -- `try` lines for the auxiliaries of a region, of which n are allowed
-pub tries_answers : (n : ℕ) (aux env : Environment) (auxiliaries : ℕ) (xs : List WrittenTry) (k : MarkedLetters) → behind_word try_text (letters k) ≡ None → Answers (read_tries n aux env (unnamed_sets auxiliaries) (letters (spell_tries n aux env (unnamed_sets auxiliaries) xs k))) (spell_tries n aux env (unnamed_sets auxiliaries) xs k) (tries_of aux env (unnamed_sets auxiliaries) xs) k
+pub tries_answers : (n : ℕ) (aux env : Environment) (auxiliaries : ℕ) (xs : List WrittenTry) (k : MarkedLetters) → behind_word try_keyword (letters k) ≡ None → Answers (read_tries n aux env (unnamed_sets auxiliaries) (letters (spell_tries n aux env (unnamed_sets auxiliaries) xs k))) (spell_tries n aux env (unnamed_sets auxiliaries) xs k) (tries_of aux env (unnamed_sets auxiliaries) xs) k
 tries_answers n aux env auxiliaries xs k none = counted_tries n aux env (unnamed_sets auxiliaries) xs k (few_unnamed auxiliaries) none

@@ -7,7 +7,7 @@ use Rattle.it_syntax.specs.Letters.{Letter, Number, Sym}
 use Rattle.it_syntax.specs.declared.types.Symbol.TheVariants.{Semicolon}
 use Rattle.it_syntax.specs.AtomReading.{Reads, ◌>>=◌}
 use Rattle.it_syntax.specs.WrittenAtoms.{Environment}
-use Rattle.it_question.specs.Keywords.{try_text}
+use Rattle.it_question.specs.Keywords.{try_keyword}
 use Rattle.it_question.specs.Limits.{IsTryOf}
 use Rattle.it_question.specs.WrittenTries.{Sets, unnamed_sets, with_set, is_whole, set_or, sets_view}
 use Rattle.it_question.specs.Reading.{behind_word, within_limit, read_assign, read_set, read_auxiliary, read_part, read_parts, read_try_end, read_try, if_allowed, try_then, if_tried, read_tries}
@@ -110,11 +110,11 @@ counted_tries : (most : ℕ) (aux env : Environment) (n : ℕ) → Knows env n �
 unfolding read_tries
 counted_tries zero aux env n k sets h ls =
     let f = try_then (λ more. Ok ([], more)) aux env sets in
-    tried_sure n zero (λ behind. if_allowed (is_whole sets) 0 f behind ls) (λ behind. allowed_sure (AreTries n zero) (is_whole sets) 0 f behind ls tt) (behind_word try_text ls) ls
+    tried_sure n zero (λ behind. if_allowed (is_whole sets) 0 f behind ls) (λ behind. allowed_sure (AreTries n zero) (is_whole sets) 0 f behind ls tt) (behind_word try_keyword ls) ls
 counted_tries (suc most) aux env n k sets h ls =
     let f = try_then (read_tries most aux env sets) aux env sets in
     tried_sure n (suc most) (λ behind. if_allowed (is_whole sets) (suc most) f behind ls)
-    (λ behind. allowed_sure (AreTries n (suc most)) (is_whole sets) (suc most) f behind ls (try_then_sure aux env n most k sets h (read_tries most aux env sets) (counted_tries most aux env n k sets h) behind)) (behind_word try_text ls) ls
+    (λ behind. allowed_sure (AreTries n (suc most)) (is_whole sets) (suc most) f behind ls (try_then_sure aux env n most k sets h (read_tries most aux env sets) (counted_tries most aux env n k sets h) behind)) (behind_word try_keyword ls) ls
 
 -- sets of n variables for the auxiliaries of a region
 pub tries_sure : (most : ℕ) (aux env : Environment) (n : ℕ) → Knows env n → (auxiliaries : ℕ) (ls : List Letter) → Sure (AreTries n most) (read_tries most aux env (unnamed_sets auxiliaries) ls)

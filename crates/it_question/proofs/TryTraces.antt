@@ -3,14 +3,14 @@ use Rattle.std.proofs.Common.{◌≡◌, ℕ, zero, suc, ◌-◌, Bool, true, fa
 use Rattle.it_syntax.specs.declared.types.Symbol.TheVariants.{Semicolon, Assign}
 use Rattle.it_syntax.specs.declared.types.Code.{Code}
 use Rattle.it_syntax.specs.declared.types.Code.TheVariants as codes
-use Rattle.it_syntax.specs.Letters.{Letter, Word, Number, Sym, End, MarkedLetters, unmarked}
+use Rattle.it_syntax.specs.Letters.{Letter, Word, Number, Sym, End, MarkedLetters, without_mark}
 use Rattle.it_syntax.specs.FirstFault.{head, own_code}
 use Rattle.it_syntax.specs.AtomReading.{Reads, ◌>>=◌, read_list, line_end}
 use Rattle.it_syntax.specs.WrittenAtoms.{Environment, is_measure, index_or, spell_list, list_set}
 use Rattle.it_syntax.proofs.Traces.{By, Traces, traces_bind, traces_map, letter_then, switch, by_renaming}
 use Rattle.it_syntax.proofs.AtomTraces.{for_same_head, for_no_head, stuck_here, stuck_none, list_traces}
 use Rattle.it_syntax.proofs.LetterReaders.{TakesLetter, behind_traces}
-use Rattle.it_question.specs.Keywords.{try_text}
+use Rattle.it_question.specs.Keywords.{try_keyword}
 use Rattle.it_question.specs.WrittenQuestions.{WrittenSet, Empty, Listed, WrittenPart, WrittenTry}
 use Rattle.it_question.specs.WrittenTries.{Sets, is_named, with_set, is_whole, sets_view, part_mark, spell_set, set_of, spell_part, with_part, spell_parts, with_parts, try_end_mark, spell_try, try_of, try_mark, spell_tries, tries_of}
 use Rattle.it_question.specs.Reading.{behind_word, read_assign, read_set, if_unnamed, auxiliary, read_auxiliary, read_part, read_parts, read_try_end, read_try, if_allowed, try_then, if_tried, read_tries}
@@ -88,7 +88,7 @@ abbrev from_set : Environment → Sets → ℕ → List Letter → Reads Sets
 from_set env sets i ls = read_set env ls >>= λ set. Ok (with_set sets i set.0, set.1)
 
 abbrev spell_assigned : Environment → WrittenSet → MarkedLetters → MarkedLetters
-spell_assigned env x k = unmarked (Sym Assign) ∷ spell_set env x k
+spell_assigned env x k = without_mark (Sym Assign) ∷ spell_set env x k
 
 abbrev part_made : List ℕ → WrittenSet → WrittenPart
 part_made w x = record { name = w; set = x }
@@ -198,33 +198,33 @@ some_try = record { first = record { name = 88 ∷ []; set = Empty }; more = [] 
 abbrev behind_try : ℕ → Environment → Environment → Sets → MarkedLetters → MarkedLetters
 behind_try n aux env sets k = spell_try aux env sets some_try (spell_tries (n - 1) aux env sets [] k)
 
-tries_spelled : (n : ℕ) (aux env : Environment) (sets : Sets) → is_whole sets ≡ false → (x : Tries) (k : MarkedLetters) → spell_tries (suc n) aux env sets (tries_made x) k ≡ unmarked (Word try_text) ∷ spell_try_then n aux env sets x k
+tries_spelled : (n : ℕ) (aux env : Environment) (sets : Sets) → is_whole sets ≡ false → (x : Tries) (k : MarkedLetters) → spell_tries (suc n) aux env sets (tries_made x) k ≡ without_mark (Word try_keyword) ∷ spell_try_then n aux env sets x k
 tries_spelled n aux env sets eb x k =
     let e : suc n - 1 ≡ n = omega arith in
-    ap (λ (b : Bool). (Word try_text, try_mark b (suc n)) ∷ spell_try_then (suc n - 1) aux env sets x k) eb ∙ ap (λ (m : ℕ). unmarked (Word try_text) ∷ spell_try_then m aux env sets x k) e
+    ap (λ (b : Bool). (Word try_keyword, try_mark b (suc n)) ∷ spell_try_then (suc n - 1) aux env sets x k) eb ∙ ap (λ (m : ℕ). without_mark (Word try_keyword) ∷ spell_try_then m aux env sets x k) e
 
 -- what stands behind `try`, where f reads it if it may stand there
 abbrev behind_word_of : Bool → ℕ → (List Letter → Reads (List (List ℕ))) → List Letter → Reads (List (List ℕ))
-behind_word_of b n f s = if_allowed b n f s (Word try_text ∷ s)
+behind_word_of b n f s = if_allowed b n f s (Word try_keyword ∷ s)
 
 -- `try` is marked
-try_marked : (n : ℕ) (aux env : Environment) (sets : Sets) (c : Code) (behind : List Letter) → try_mark (is_whole sets) n ≡ Some c → ((s : List Letter) → read_tries n aux env sets (Word try_text ∷ s) ≡ Err (c, Word try_text ∷ s))
-    → By (read_tries n aux env sets) (spell_tries n aux env sets) (tries_of aux env sets) (Word try_text ∷ behind) (read_tries n aux env sets (Word try_text ∷ behind))
-try_marked n aux env sets c behind h e = subst (λ (t : Reads (List (List ℕ))). By (read_tries n aux env sets) (spell_tries n aux env sets) (tries_of aux env sets) (Word try_text ∷ behind) t) (sym (e behind))
-    (marked_here (read_tries n aux env sets) (spell_tries n aux env sets) (some_try ∷ []) (Word try_text) behind c (behind_try n aux env sets) (λ k. ap (λ (m : Option Code). (Word try_text, m) ∷ behind_try n aux env sets k) h) e)
+try_marked : (n : ℕ) (aux env : Environment) (sets : Sets) (c : Code) (behind : List Letter) → try_mark (is_whole sets) n ≡ Some c → ((s : List Letter) → read_tries n aux env sets (Word try_keyword ∷ s) ≡ Err (c, Word try_keyword ∷ s))
+    → By (read_tries n aux env sets) (spell_tries n aux env sets) (tries_of aux env sets) (Word try_keyword ∷ behind) (read_tries n aux env sets (Word try_keyword ∷ behind))
+try_marked n aux env sets c behind h e = subst (λ (t : Reads (List (List ℕ))). By (read_tries n aux env sets) (spell_tries n aux env sets) (tries_of aux env sets) (Word try_keyword ∷ behind) t) (sym (e behind))
+    (marked_here (read_tries n aux env sets) (spell_tries n aux env sets) (some_try ∷ []) (Word try_keyword) behind c (behind_try n aux env sets) (λ k. ap (λ (m : Option Code). (Word try_keyword, m) ∷ behind_try n aux env sets k) h) e)
 
-try_by : (n : ℕ) (aux env : Environment) (sets : Sets) (f : List Letter → Reads (List (List ℕ))) (behind : List Letter) (b : Bool) → is_whole sets ≡ b → ((s : List Letter) → read_tries (suc n) aux env sets (Word try_text ∷ s) ≡ behind_word_of (is_whole sets) (suc n) f s) → Traces f (spell_try_then n aux env sets) (try_then_of aux env sets)
-    → By (read_tries (suc n) aux env sets) (spell_tries (suc n) aux env sets) (tries_of aux env sets) (Word try_text ∷ behind) (read_tries (suc n) aux env sets (Word try_text ∷ behind))
+try_by : (n : ℕ) (aux env : Environment) (sets : Sets) (f : List Letter → Reads (List (List ℕ))) (behind : List Letter) (b : Bool) → is_whole sets ≡ b → ((s : List Letter) → read_tries (suc n) aux env sets (Word try_keyword ∷ s) ≡ behind_word_of (is_whole sets) (suc n) f s) → Traces f (spell_try_then n aux env sets) (try_then_of aux env sets)
+    → By (read_tries (suc n) aux env sets) (spell_tries (suc n) aux env sets) (tries_of aux env sets) (Word try_keyword ∷ behind) (read_tries (suc n) aux env sets (Word try_keyword ∷ behind))
 try_by n aux env sets f behind true eb is h = try_marked (suc n) aux env sets codes.Word behind (ap (λ (b : Bool). try_mark b (suc n)) eb) (λ s. is s ∙ ap (λ (b : Bool). behind_word_of b (suc n) f s) eb)
-try_by n aux env sets f behind false eb is h = behind_traced try_text (read_tries (suc n) aux env sets) f (spell_try_then n aux env sets) (spell_tries (suc n) aux env sets) (try_then_of aux env sets) (tries_of aux env sets) tries_made behind
+try_by n aux env sets f behind false eb is h = behind_traced try_keyword (read_tries (suc n) aux env sets) f (spell_try_then n aux env sets) (spell_tries (suc n) aux env sets) (try_then_of aux env sets) (tries_of aux env sets) tries_made behind
     (λ s. is s ∙ ap (λ (b : Bool). behind_word_of b (suc n) f s) eb) (tries_spelled n aux env sets eb) (λ z. refl) h
 
-try_over : (aux env : Environment) (sets : Sets) (f : List Letter → Reads (List (List ℕ))) (behind : List Letter) (b : Bool) → is_whole sets ≡ b → ((s : List Letter) → read_tries zero aux env sets (Word try_text ∷ s) ≡ behind_word_of (is_whole sets) zero f s)
-    → By (read_tries zero aux env sets) (spell_tries zero aux env sets) (tries_of aux env sets) (Word try_text ∷ behind) (read_tries zero aux env sets (Word try_text ∷ behind))
+try_over : (aux env : Environment) (sets : Sets) (f : List Letter → Reads (List (List ℕ))) (behind : List Letter) (b : Bool) → is_whole sets ≡ b → ((s : List Letter) → read_tries zero aux env sets (Word try_keyword ∷ s) ≡ behind_word_of (is_whole sets) zero f s)
+    → By (read_tries zero aux env sets) (spell_tries zero aux env sets) (tries_of aux env sets) (Word try_keyword ∷ behind) (read_tries zero aux env sets (Word try_keyword ∷ behind))
 try_over aux env sets f behind true eb is = try_marked zero aux env sets codes.Word behind (ap (λ (b : Bool). try_mark b zero) eb) (λ s. is s ∙ ap (λ (b : Bool). behind_word_of b zero f s) eb)
 try_over aux env sets f behind false eb is = try_marked zero aux env sets codes.Many behind (ap (λ (b : Bool). try_mark b zero) eb) (λ s. is s ∙ ap (λ (b : Bool). behind_word_of b zero f s) eb)
 
-no_try : (n : ℕ) (aux env : Environment) (sets : Sets) (ls : List Letter) → IsAbsent try_text ls → By (read_tries n aux env sets) (spell_tries n aux env sets) (tries_of aux env sets) ls (read_tries n aux env sets ls)
+no_try : (n : ℕ) (aux env : Environment) (sets : Sets) (ls : List Letter) → IsAbsent try_keyword ls → By (read_tries n aux env sets) (spell_tries n aux env sets) (tries_of aux env sets) ls (read_tries n aux env sets ls)
 unfolding read_tries
 no_try zero aux env sets ls h = nothing_read (read_tries zero aux env sets) (spell_tries zero aux env sets) (tries_of aux env sets) [] ls (λ k. refl)
     (λ s e. ap (λ (o : Option (List Letter)). if_tried (λ behind. if_allowed (is_whole sets) 0 (try_then (λ more. Ok ([], more)) aux env sets) behind s) o s) (h s e))
@@ -234,9 +234,9 @@ no_try (suc n) aux env sets ls h = nothing_read (read_tries (suc n) aux env sets
 -- `try` lines, of which n are allowed
 pub tries_traces : (n : ℕ) (aux env : Environment) (sets : Sets) → Traces (read_tries n aux env sets) (spell_tries n aux env sets) (tries_of aux env sets)
 unfolding read_tries behind_word
-tries_traces zero aux env sets ls = at_word try_text (read_tries zero aux env sets) (spell_tries zero aux env sets) (tries_of aux env sets) ls
+tries_traces zero aux env sets ls = at_word try_keyword (read_tries zero aux env sets) (spell_tries zero aux env sets) (tries_of aux env sets) ls
     (λ behind. try_over aux env sets (try_then (λ more. Ok ([], more)) aux env sets) behind (is_whole sets) refl (λ s. refl))
     (no_try zero aux env sets ls)
-tries_traces (suc n) aux env sets ls = at_word try_text (read_tries (suc n) aux env sets) (spell_tries (suc n) aux env sets) (tries_of aux env sets) ls
+tries_traces (suc n) aux env sets ls = at_word try_keyword (read_tries (suc n) aux env sets) (spell_tries (suc n) aux env sets) (tries_of aux env sets) ls
     (λ behind. try_by n aux env sets (try_then (read_tries n aux env sets) aux env sets) behind (is_whole sets) refl (λ s. refl) (try_then_traces (read_tries n aux env sets) n aux env sets (tries_traces n aux env sets)))
     (no_try (suc n) aux env sets ls)

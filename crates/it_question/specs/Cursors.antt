@@ -15,10 +15,10 @@ token_line l = record { number = l.number; text = l.text.items; tokens = l.token
 -- what is left of a line, and the lines behind it
 abbrev pub left_of : Option Rest → List Line → List Letter
 left_of None behind = []
-left_of (Some rest) behind = gives.left rest ++ letters_of_lines (map token_line behind)
+left_of (Some rest) behind = gives.letters_left rest ++ letters_of_lines (map token_line behind)
 
-unfoldable pub left : Cursor → List Letter
-left c = left_of c.rest c.behind.now
+unfoldable pub letters_left : Cursor → List Letter
+letters_left c = left_of c.rest c.behind.now
 
 -- behind a line's end stands the next line
 abbrev pub with_letter : Piece → List Letter → List Letter

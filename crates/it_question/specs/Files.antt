@@ -1,7 +1,7 @@
 -- What a file asks, and the first fault of one that has no reading.
 use Rattle.std.specs.Prelude.{◌≡◌, ℕ, ◌-◌, List, [], ◌∷◌, ◌++◌, length, Option, Some, slice_get, ◌⊎◌}
 use Rattle.it_syntax.specs.declared.types.Code.{Code}
-use Rattle.it_syntax.specs.Letters.{Letter, unmarked_all}
+use Rattle.it_syntax.specs.Letters.{Letter, without_marks}
 use Rattle.it_syntax.specs.FirstFault.{FirstFault}
 use Rattle.it_question.specs.declared.types.FileFault.{FileFault}
 use Rattle.it_question.specs.declared.types.FileFault.TheVariants.{Memory, Fault}
@@ -16,7 +16,7 @@ pub record IsFile (bytes : List ℕ) (qs : List QuestionView) : Type 0 where
   pub lines : List TokenLine
   pub cut : AreLinesOf bytes lines
   pub trees : List WrittenQuestion
-  pub spelled : spell_file trees ≡ unmarked_all (letters_of_lines lines)
+  pub spelled : spell_file trees ≡ without_marks (letters_of_lines lines)
   pub are : with_texts lines (questions_of trees) ≡ qs
 
 -- where the first of the letters that are left of these lines stands

@@ -4,7 +4,7 @@ use Rattle.std.specs.Prelude.{ℕ, zero, suc, ◌-◌, Bool, true, false, ◌||�
 use Rattle.it_syntax.specs.declared.types.Symbol.TheVariants.{Comma}
 use Rattle.it_syntax.specs.declared.types.Code.{Code}
 use Rattle.it_syntax.specs.NamesViews.{NamesView, index_of}
-use Rattle.it_syntax.specs.Letters.{Word, Sym, End, MarkedLetters, unmarked}
+use Rattle.it_syntax.specs.Letters.{Word, Sym, End, MarkedLetters, without_mark}
 use Rattle.it_syntax.specs.WrittenAtoms.{WrittenList, is_measure}
 use Rattle.it_syntax.specs.declared.types.Code.TheVariants as codes
 
@@ -36,7 +36,7 @@ spell_new sort n v w k = (Word w, new_mark (is_measure w) (is_taken v w) n) ∷ 
 -- Each spelling takes the letters that follow.
 abbrev pub spell_new_more : Sort → ℕ → NamesView → List (List ℕ) → MarkedLetters → MarkedLetters
 spell_new_more sort n v [] k = k
-spell_new_more sort n v (w ∷ ws) k = unmarked (Sym Comma) ∷ spell_new sort n v w (spell_new_more sort (n - 1) (with_name sort v w) ws k)
+spell_new_more sort n v (w ∷ ws) k = without_mark (Sym Comma) ∷ spell_new sort n v w (spell_new_more sort (n - 1) (with_name sort v w) ws k)
 
 abbrev pub spell_new_names : Sort → ℕ → NamesView → WrittenList → MarkedLetters → MarkedLetters
 spell_new_names sort n v l k = spell_new sort n v l.first (spell_new_more sort (n - 1) (with_name sort v l.first) l.more k)
@@ -51,7 +51,7 @@ new_names_of sort v l = with_names sort (with_name sort v l.first) l.more
 -- an optional line behind its keyword
 abbrev pub spell_names_line : Sort → ℕ → List ℕ → NamesView → Option WrittenList → MarkedLetters → MarkedLetters
 spell_names_line sort n keyword v None k = k
-spell_names_line sort n keyword v (Some l) k = unmarked (Word keyword) ∷ spell_new_names sort n v l (unmarked End ∷ k)
+spell_names_line sort n keyword v (Some l) k = without_mark (Word keyword) ∷ spell_new_names sort n v l (without_mark End ∷ k)
 
 abbrev pub names_line_of : Sort → NamesView → Option WrittenList → NamesView
 names_line_of sort v None = v

@@ -8,11 +8,10 @@ use Rattle.it_syntax.specs.Letters.{Letter, Word, Number, Sym, End, Bad}
 use Rattle.it_syntax.specs.Lines.{to_end}
 use Rattle.it_syntax.specs.AtomReading.{Fault, Reads, ◌>>=◌, no_rule, read_list, line_end}
 use Rattle.it_syntax.specs.WrittenAtoms.{Environment, is_measure}
-use Rattle.it_syntax.specs.Scopes.{env_of}
-use Rattle.it_syntax.specs.Scopes.{scope_of}
+use Rattle.it_syntax.specs.Scopes.{env_of, scope_of}
 use Rattle.it_syntax.specs.RelationReading.{read_relation}
 use Rattle.it_syntax.specs.GivenReading.{read_given}
-use Rattle.it_question.specs.Keywords.{vars_text, rates_text, given_text, row_text, region_text, aux_text, try_text, prove_text, eliminate_text, contain_text}
+use Rattle.it_question.specs.Keywords.{vars_keyword, rates_keyword, given_keyword, row_keyword, region_keyword, aux_keyword, try_keyword, prove_keyword, eliminate_keyword, contain_keyword}
 use Rattle.it_question.specs.Questions.{OwnLinesView, RegionView, VerbView, Prove, Eliminate, Contain, BodyView}
 use Rattle.it_question.specs.NewNames.{Sort, Variable, Rate, with_name, no_names, is_taken}
 use Rattle.it_question.specs.WrittenTries.{Sets, unnamed_sets, is_named, with_set, is_whole, sets_view}
@@ -90,8 +89,8 @@ by_keyword f h None None ls = Ok (no_lines, ls)
 
 -- n is g + r
 unfoldable pub read_own : ℕ → ℕ → ℕ → NamesView → List Letter → Reads OwnLinesView
-read_own zero g r v ls = by_keyword (λ behind. Err (codes.Many, ls)) (λ behind. Err (codes.Many, ls)) (behind_word given_text ls) (behind_word row_text ls) ls
-read_own (suc n) g r v ls = by_keyword (λ behind. within_limit g (given_then (read_own n (g - 1) r v) v) behind ls) (λ behind. within_limit r (row_then (read_own n g (r - 1) v) v) behind ls) (behind_word given_text ls) (behind_word row_text ls) ls
+read_own zero g r v ls = by_keyword (λ behind. Err (codes.Many, ls)) (λ behind. Err (codes.Many, ls)) (behind_word given_keyword ls) (behind_word row_keyword ls) ls
+read_own (suc n) g r v ls = by_keyword (λ behind. within_limit g (given_then (read_own n (g - 1) r v) v) behind ls) (λ behind. within_limit r (row_then (read_own n g (r - 1) v) v) behind ls) (behind_word given_keyword ls) (behind_word row_keyword ls) ls
 
 -- lines read before, and those still read
 abbrev pub with_lines : OwnLinesView → Reads OwnLinesView → Reads OwnLinesView
@@ -205,8 +204,8 @@ if_tried f (Some behind) ls = f behind
 if_tried f None ls = Ok ([], ls)
 
 unfoldable pub read_tries : ℕ → Environment → Environment → Sets → List Letter → Reads (List (List ℕ))
-read_tries zero aux env sets ls = if_tried (λ behind. if_allowed (is_whole sets) 0 (try_then (λ more. Ok ([], more)) aux env sets) behind ls) (behind_word try_text ls) ls
-read_tries (suc n) aux env sets ls = if_tried (λ behind. if_allowed (is_whole sets) (suc n) (try_then (read_tries n aux env sets) aux env sets) behind ls) (behind_word try_text ls) ls
+read_tries zero aux env sets ls = if_tried (λ behind. if_allowed (is_whole sets) 0 (try_then (λ more. Ok ([], more)) aux env sets) behind ls) (behind_word try_keyword ls) ls
+read_tries (suc n) aux env sets ls = if_tried (λ behind. if_allowed (is_whole sets) (suc n) (try_then (read_tries n aux env sets) aux env sets) behind ls) (behind_word try_keyword ls) ls
 
 -- ---- regions
 
@@ -214,7 +213,7 @@ read_tries (suc n) aux env sets ls = if_tried (λ behind. if_allowed (is_whole s
 unfoldable pub read_region : ℕ → ℕ → NamesView → List Letter → Reads RegionView
 read_region g r v ls = do
   e ← line_end ls
-  names ← read_names_line Variable (auxiliaries_left v) aux_text v e.1
+  names ← read_names_line Variable (auxiliaries_left v) aux_keyword v e.1
   own ← read_lines g r names.0 names.1
   Ok (record { names = names.0; auxiliaries = length names.0.variables - length v.variables; lines = own.0 }, own.1)
 
@@ -228,10 +227,10 @@ read_word_line text ls = do
 unfoldable pub read_containment : ℕ → ℕ → NamesView → List Letter → Reads VerbView
 read_containment g r v ls = do
   first ← read_region g r v ls
-  x ← read_word region_text first.1
+  x ← read_word region_keyword first.1
   second ← read_region (givens_left g first.0.lines) (rows_left r first.0.lines) v x.1
   tries ← read_tries most_lines (auxiliary_env v second.0.names) (env_of first.0.names) (unnamed_sets second.0.auxiliaries) second.1
-  e ← read_word_line contain_text tries.1
+  e ← read_word_line contain_keyword tries.1
   Ok (Contain first.0 second.0 tries.0, e.1)
 
 -- ---- questions and files
@@ -247,14 +246,14 @@ read_elimination v ls = do
   Ok (Eliminate x.0, x.1)
 
 unfoldable pub read_verb : ℕ → ℕ → NamesView → List Letter → Reads VerbView
-read_verb g r v (Word w ∷ ls) = if bytes_eq w prove_text then read_proof v ls else (if bytes_eq w eliminate_text then read_elimination v ls else (if bytes_eq w region_text then read_containment g r v ls else no_rule (Word w ∷ ls)))
+read_verb g r v (Word w ∷ ls) = if bytes_eq w prove_keyword then read_proof v ls else (if bytes_eq w eliminate_keyword then read_elimination v ls else (if bytes_eq w region_keyword then read_containment g r v ls else no_rule (Word w ∷ ls)))
 read_verb g r v ls = no_rule ls
 
 -- behind `vars`
 unfoldable pub read_question : List Letter → Reads BodyView
 read_question ls = do
   variables ← to_end (read_new_names Variable most_variables no_names) ls
-  names ← read_names_line Rate most_rates rates_text variables.0 variables.1
+  names ← read_names_line Rate most_rates rates_keyword variables.0 variables.1
   own ← read_lines most_lines most_lines names.0 names.1
   aim ← read_verb (givens_left most_lines own.0) (rows_left most_lines own.0) names.0 own.1
   Ok (record { names = names.0; lines = own.0; verb = aim.0 }, aim.1)
@@ -276,8 +275,8 @@ if_question f None ls = read_end ls
 
 -- questions up to the file's end, of which n are allowed
 unfoldable pub read_questions : ℕ → List Letter → Reads (List BodyView)
-read_questions zero ls = if_question (λ behind. Err (codes.Many, ls)) (behind_word vars_text ls) ls
-read_questions (suc n) ls = if_question (question_then (read_questions n)) (behind_word vars_text ls) ls
+read_questions zero ls = if_question (λ behind. Err (codes.Many, ls)) (behind_word vars_keyword ls) ls
+read_questions (suc n) ls = if_question (question_then (read_questions n)) (behind_word vars_keyword ls) ls
 
 unfoldable pub read_file : List Letter → Reads (List BodyView)
 read_file ls = read_questions most_questions ls

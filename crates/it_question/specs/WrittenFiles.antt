@@ -1,11 +1,11 @@
 -- How the verb's lines, questions and whole files are spelled, and what they ask.
 use Rattle.std.specs.Prelude.{ℕ, ◌-◌, true, List, [], ◌∷◌, map}
 use Rattle.it_syntax.specs.NamesViews.{NamesView}
-use Rattle.it_syntax.specs.Letters.{Word, End, MarkedLetters, unmarked}
+use Rattle.it_syntax.specs.Letters.{Word, End, MarkedLetters, without_mark}
 use Rattle.it_syntax.specs.WrittenRelations.{spell_relation, relation_of}
 use Rattle.it_syntax.specs.Scopes.{scope_of}
 use Rattle.it_question.specs.Lines.{file_end}
-use Rattle.it_question.specs.Keywords.{vars_text, rates_text, prove_text, eliminate_text}
+use Rattle.it_question.specs.Keywords.{vars_keyword, rates_keyword, prove_keyword, eliminate_keyword}
 use Rattle.it_question.specs.Questions.{VerbView, BodyView}
 use Rattle.it_question.specs.WrittenQuestions.{most_questions, most_variables, most_rates, most_lines, WrittenVerb, Eliminate, Contain, Prove, WrittenQuestion}
 use Rattle.it_question.specs.NewNames.{Rate, Variable, no_names, spell_new_names, new_names_of, spell_names_line, names_line_of}
@@ -14,8 +14,8 @@ use Rattle.it_question.specs.WrittenRegions.{givens_left, rows_left, spell_conta
 use Rattle.it_question.specs.Questions as views
 
 abbrev pub spell_verb : ℕ → ℕ → NamesView → WrittenVerb → MarkedLetters → MarkedLetters
-spell_verb g r v (Prove x) k = unmarked (Word prove_text) ∷ spell_relation (scope_of v true) x (unmarked End ∷ k)
-spell_verb g r v (Eliminate l) k = unmarked (Word eliminate_text) ∷ spell_distinct (rates_env v) l (unmarked End ∷ k)
+spell_verb g r v (Prove x) k = without_mark (Word prove_keyword) ∷ spell_relation (scope_of v true) x (without_mark End ∷ k)
+spell_verb g r v (Eliminate l) k = without_mark (Word eliminate_keyword) ∷ spell_distinct (rates_env v) l (without_mark End ∷ k)
 spell_verb g r v (Contain x) k = spell_containment g r v x k
 
 abbrev pub verb_of : NamesView → WrittenVerb → VerbView
@@ -33,7 +33,7 @@ spell_question x k =
     let names = names_of x in
     let own = own_of names x.own in
     spell_new_names Variable most_variables no_names x.variables
-    (unmarked End ∷ spell_names_line Rate most_rates rates_text variables x.rates
+    (without_mark End ∷ spell_names_line Rate most_rates rates_keyword variables x.rates
     (spell_own most_lines most_lines names x.own
     (spell_verb (givens_left most_lines own) (rows_left most_lines own) names x.verb k)))
 
@@ -43,11 +43,11 @@ question_of x = let names = names_of x in record { names = names; lines = own_of
 -- questions, of which n are allowed
 abbrev pub spell_questions : ℕ → List WrittenQuestion → MarkedLetters → MarkedLetters
 spell_questions n [] k = k
-spell_questions n (x ∷ xs) k = (Word vars_text, limit_mark n) ∷ spell_question x (spell_questions (n - 1) xs k)
+spell_questions n (x ∷ xs) k = (Word vars_keyword, limit_mark n) ∷ spell_question x (spell_questions (n - 1) xs k)
 
 abbrev pub questions_of : List WrittenQuestion → List BodyView
 questions_of xs = map question_of xs
 
 -- a whole file, up to its end
 abbrev pub spell_file : List WrittenQuestion → MarkedLetters
-spell_file xs = spell_questions most_questions xs (unmarked file_end ∷ [])
+spell_file xs = spell_questions most_questions xs (without_mark file_end ∷ [])

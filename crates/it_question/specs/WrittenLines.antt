@@ -5,12 +5,12 @@ use Rattle.std.specs.List.{list_any}
 use Rattle.it_syntax.specs.declared.types.Symbol.TheVariants.{Comma}
 use Rattle.it_syntax.specs.declared.types.Code.{Code}
 use Rattle.it_syntax.specs.NamesViews.{NamesView, index_of}
-use Rattle.it_syntax.specs.Letters.{Word, Sym, End, MarkedLetters, unmarked}
+use Rattle.it_syntax.specs.Letters.{Word, Sym, End, MarkedLetters, without_mark}
 use Rattle.it_syntax.specs.WrittenAtoms.{Environment, WrittenList, is_measure, index_or}
 use Rattle.it_syntax.specs.WrittenRelations.{spell_relation, relation_of}
 use Rattle.it_syntax.specs.Scopes.{scope_of}
 use Rattle.it_syntax.specs.WrittenGivens.{spell_given, given_of}
-use Rattle.it_question.specs.Keywords.{given_text, row_text}
+use Rattle.it_question.specs.Keywords.{given_keyword, row_keyword}
 use Rattle.it_question.specs.Questions.{OwnLinesView}
 use Rattle.it_question.specs.WrittenQuestions.{RowLine, GivenLine, WrittenLine}
 use Rattle.it_syntax.specs.declared.types.Code.TheVariants as codes
@@ -21,8 +21,8 @@ limit_mark (suc n) = None
 
 abbrev pub spell_own : ℕ → ℕ → NamesView → List WrittenLine → MarkedLetters → MarkedLetters
 spell_own g r v [] k = k
-spell_own g r v (GivenLine x ∷ ls) k = (Word given_text, limit_mark g) ∷ spell_given (scope_of v false) x (unmarked End ∷ spell_own (g - 1) r v ls k)
-spell_own g r v (RowLine x ∷ ls) k = (Word row_text, limit_mark r) ∷ spell_relation (scope_of v true) x (unmarked End ∷ spell_own g (r - 1) v ls k)
+spell_own g r v (GivenLine x ∷ ls) k = (Word given_keyword, limit_mark g) ∷ spell_given (scope_of v false) x (without_mark End ∷ spell_own (g - 1) r v ls k)
+spell_own g r v (RowLine x ∷ ls) k = (Word row_keyword, limit_mark r) ∷ spell_relation (scope_of v true) x (without_mark End ∷ spell_own g (r - 1) v ls k)
 
 abbrev pub no_lines : OwnLinesView
 no_lines = record { givens = []; rows = [] }
@@ -46,7 +46,7 @@ spell_once env seen w k = (Word w, once_mark (is_measure w) seen (env w)) ∷ k
 
 abbrev pub spell_once_more : Environment → List ℕ → List (List ℕ) → MarkedLetters → MarkedLetters
 spell_once_more env seen [] k = k
-spell_once_more env seen (w ∷ ws) k = unmarked (Sym Comma) ∷ spell_once env seen w (spell_once_more env (seen ++ index_or (env w) ∷ []) ws k)
+spell_once_more env seen (w ∷ ws) k = without_mark (Sym Comma) ∷ spell_once env seen w (spell_once_more env (seen ++ index_or (env w) ∷ []) ws k)
 
 abbrev pub spell_distinct : Environment → WrittenList → MarkedLetters → MarkedLetters
 spell_distinct env l k = spell_once env [] l.first (spell_once_more env (index_or (env l.first) ∷ []) l.more k)

@@ -1,10 +1,10 @@
 -- How the regions of a containment are spelled, and what they say.
 use Rattle.std.specs.Prelude.{ℕ, ◌-◌, min, nat_lt, ◌∷◌, length, Option, Some, None, if◌then◌else◌}
 use Rattle.it_syntax.specs.NamesViews.{NamesView, index_of}
-use Rattle.it_syntax.specs.Letters.{Word, End, MarkedLetters, unmarked}
+use Rattle.it_syntax.specs.Letters.{Word, End, MarkedLetters, without_mark}
 use Rattle.it_syntax.specs.WrittenAtoms.{Environment}
 use Rattle.it_syntax.specs.Scopes.{env_of}
-use Rattle.it_question.specs.Keywords.{region_text, aux_text, contain_text}
+use Rattle.it_question.specs.Keywords.{region_keyword, aux_keyword, contain_keyword}
 use Rattle.it_question.specs.Questions.{OwnLinesView, RegionView, VerbView}
 use Rattle.it_question.specs.WrittenQuestions.{most_variables, most_auxiliaries, most_lines, WrittenRegion, WrittenContainment}
 use Rattle.it_question.specs.NewNames.{Variable, spell_names_line, names_line_of}
@@ -17,7 +17,7 @@ abbrev pub auxiliaries_left : NamesView → ℕ
 auxiliaries_left v = min most_auxiliaries (most_variables - length v.variables)
 
 abbrev pub spell_region : ℕ → ℕ → NamesView → WrittenRegion → MarkedLetters → MarkedLetters
-spell_region g r v x k = unmarked (Word region_text) ∷ unmarked End ∷ spell_names_line Variable (auxiliaries_left v) aux_text v x.auxiliaries (spell_own g r (names_line_of Variable v x.auxiliaries) x.own k)
+spell_region g r v x k = without_mark (Word region_keyword) ∷ without_mark End ∷ spell_names_line Variable (auxiliaries_left v) aux_keyword v x.auxiliaries (spell_own g r (names_line_of Variable v x.auxiliaries) x.own k)
 
 abbrev pub region_of : NamesView → WrittenRegion → RegionView
 region_of v x = let names = names_line_of Variable v x.auxiliaries in record { names = names; auxiliaries = length names.variables - length v.variables; lines = own_of names x.own }
@@ -44,7 +44,7 @@ spell_containment g r v x k =
     spell_region g r v x.first
     (spell_region (givens_left g first.lines) (rows_left r first.lines) v x.second
     (spell_tries most_lines (auxiliary_env v second.names) (env_of first.names) (unnamed_sets second.auxiliaries) x.tries
-    (unmarked (Word contain_text) ∷ unmarked End ∷ k)))
+    (without_mark (Word contain_keyword) ∷ without_mark End ∷ k)))
 
 abbrev pub containment_of : NamesView → WrittenContainment → VerbView
 containment_of v x =

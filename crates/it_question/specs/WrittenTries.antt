@@ -2,9 +2,9 @@
 use Rattle.std.specs.Prelude.{ℕ, zero, suc, ◌-◌, Bool, true, false, List, [], ◌∷◌, map, is_some, Option, Some, None, if◌then◌else◌}
 use Rattle.it_syntax.specs.declared.types.Symbol.TheVariants.{Semicolon, Assign}
 use Rattle.it_syntax.specs.declared.types.Code.{Code}
-use Rattle.it_syntax.specs.Letters.{Word, Number, Sym, End, MarkedLetters, unmarked}
+use Rattle.it_syntax.specs.Letters.{Word, Number, Sym, End, MarkedLetters, without_mark}
 use Rattle.it_syntax.specs.WrittenAtoms.{Environment, is_measure, index_or, spell_list, list_set}
-use Rattle.it_question.specs.Keywords.{try_text}
+use Rattle.it_question.specs.Keywords.{try_keyword}
 use Rattle.it_question.specs.WrittenQuestions.{Empty, Listed, WrittenSet, WrittenPart, WrittenTry}
 use Rattle.it_question.specs.WrittenLines.{limit_mark}
 use Rattle.it_syntax.specs.declared.types.Code.TheVariants as codes
@@ -50,7 +50,7 @@ part_mark false sets None = Some codes.Name
 part_mark false sets (Some i) = if is_named sets i then Some codes.Twice else None
 
 abbrev pub spell_set : Environment → WrittenSet → MarkedLetters → MarkedLetters
-spell_set env Empty k = unmarked (Number 0) ∷ k
+spell_set env Empty k = without_mark (Number 0) ∷ k
 spell_set env (Listed l) k = spell_list env l k
 
 abbrev pub set_of : Environment → WrittenSet → ℕ
@@ -59,14 +59,14 @@ set_of env (Listed l) = list_set env l
 
 -- `aux` tells the auxiliaries of the second region, `env` the variables of the first
 abbrev pub spell_part : Environment → Environment → Sets → WrittenPart → MarkedLetters → MarkedLetters
-spell_part aux env sets x k = (Word x.name, part_mark (is_measure x.name) sets (aux x.name)) ∷ unmarked (Sym Assign) ∷ spell_set env x.set k
+spell_part aux env sets x k = (Word x.name, part_mark (is_measure x.name) sets (aux x.name)) ∷ without_mark (Sym Assign) ∷ spell_set env x.set k
 
 abbrev pub with_part : Environment → Environment → Sets → WrittenPart → Sets
 with_part aux env sets x = with_set sets (index_or (aux x.name)) (set_of env x.set)
 
 abbrev pub spell_parts : Environment → Environment → Sets → List WrittenPart → MarkedLetters → MarkedLetters
 spell_parts aux env sets [] k = k
-spell_parts aux env sets (x ∷ xs) k = unmarked (Sym Semicolon) ∷ spell_part aux env sets x (spell_parts aux env (with_part aux env sets x) xs k)
+spell_parts aux env sets (x ∷ xs) k = without_mark (Sym Semicolon) ∷ spell_part aux env sets x (spell_parts aux env (with_part aux env sets x) xs k)
 
 abbrev pub with_parts : Environment → Environment → Sets → List WrittenPart → Sets
 with_parts aux env sets [] = sets
@@ -93,7 +93,7 @@ try_mark false n = limit_mark n
 
 abbrev pub spell_tries : ℕ → Environment → Environment → Sets → List WrittenTry → MarkedLetters → MarkedLetters
 spell_tries n aux env sets [] k = k
-spell_tries n aux env sets (x ∷ xs) k = (Word try_text, try_mark (is_whole sets) n) ∷ spell_try aux env sets x (spell_tries (n - 1) aux env sets xs k)
+spell_tries n aux env sets (x ∷ xs) k = (Word try_keyword, try_mark (is_whole sets) n) ∷ spell_try aux env sets x (spell_tries (n - 1) aux env sets xs k)
 
 abbrev pub tries_of : Environment → Environment → Sets → List WrittenTry → List (List ℕ)
 tries_of aux env sets [] = []

@@ -3,7 +3,7 @@ ghost use Rattle.std.specs.Prelude.{◌≡◌, ◌++◌, [], ◌∷◌, map, OnO
 ghost use Rattle.it_syntax.specs.declared.rest.Stop.TheVariants.{Memory};
 ghost use Rattle.it_syntax.specs.Gives.{GivesBy};
 ghost use Rattle.it_question.specs.Bodies.{body_view};
-ghost use Rattle.it_question.specs.Cursors.{left};
+ghost use Rattle.it_question.specs.Cursors.{letters_left};
 ghost use Rattle.it_question.specs.Questions.{verb_view};
 ghost use Rattle.it_question.specs.Reading.{read_proof, read_elimination, read_verb, read_question, read_end, read_file};
 
@@ -32,7 +32,7 @@ const MOST_LINES: usize = 64;
 /// What is to be proved, behind its `prove`.
 #[tactic(auto, unfolding(crate::specs::Reading::read_proof))]
 fn proof(alloc: Global, cursor: &mut Cursor<'_>, names: &Names) -> Result<Verb, Stop>
-    ensures { GivesBy verb_view result (left cursor.new) (read_proof names.now (left cursor.old)) }
+    ensures { GivesBy verb_view result (letters_left cursor.new) (read_proof names.now (letters_left cursor.old)) }
 {
     let relation = relation(alloc, cursor, names)?;
     Ok(Verb::Prove(relation))
@@ -41,7 +41,7 @@ fn proof(alloc: Global, cursor: &mut Cursor<'_>, names: &Names) -> Result<Verb, 
 /// The rates to be eliminated, behind `eliminate`.
 #[tactic(auto, unfolding(crate::specs::Reading::read_elimination))]
 fn elimination(alloc: Global, cursor: &mut Cursor<'_>, names: &Names) -> Result<Verb, Stop>
-    ensures { GivesBy verb_view result (left cursor.new) (read_elimination names.now (left cursor.old)) }
+    ensures { GivesBy verb_view result (letters_left cursor.new) (read_elimination names.now (letters_left cursor.old)) }
 {
     let rates = rates(alloc, cursor, names)?;
     Ok(Verb::Eliminate(rates))
@@ -56,7 +56,7 @@ fn verb(
     givens: usize,
     rows: usize,
 ) -> Result<Verb, Stop>
-    ensures { GivesBy verb_view result (left cursor.new) (read_verb givens rows names.now (left cursor.old)) }
+    ensures { GivesBy verb_view result (letters_left cursor.new) (read_verb givens rows names.now (letters_left cursor.old)) }
 {
     match cursor.front() {
         Some((Piece::Word(word), behind)) => {
@@ -80,7 +80,7 @@ fn verb(
 /// A question, behind its `vars`.
 #[tactic(auto, unfolding(crate::specs::Reading::read_question))]
 fn question(alloc: Global, cursor: &mut Cursor<'_>) -> Result<Body, Stop>
-    ensures { GivesBy body_view result (left cursor.new) (read_question (left cursor.old)) }
+    ensures { GivesBy body_view result (letters_left cursor.new) (read_question (letters_left cursor.old)) }
 {
     let mut names = Names::new(alloc);
     names_to_end(cursor, &mut names, NameSort::Variable, MOST_VARIABLES)?;
@@ -95,7 +95,7 @@ fn question(alloc: Global, cursor: &mut Cursor<'_>) -> Result<Body, Stop>
 /// The end of the file.
 #[tactic(auto, unfolding(crate::specs::Reading::read_end))]
 fn file_end(cursor: &mut Cursor<'_>) -> Result<(), Stop>
-    ensures { GivesBy (λ x. []) result (left cursor.new) (read_end (left cursor.old)) }
+    ensures { GivesBy (λ x. []) result (letters_left cursor.new) (read_end (letters_left cursor.old)) }
 {
     match cursor.front() {
         Some((Piece::Bad(Code::Unfinished), behind)) => {
@@ -120,7 +120,7 @@ fn add(bodies: &mut Vec<Body>, next: Body) -> Result<(), Stop>
 /// The questions up to the end of the file.
 #[tactic(auto, unfolding(crate::specs::Reading::read_file))]
 pub fn bodies(alloc: Global, cursor: &mut Cursor<'_>) -> Result<Vec<Body>, Stop>
-    ensures { GivesBy (λ x. map body_view x.items) result (left cursor.new) (read_file (left cursor.old)) }
+    ensures { GivesBy (λ x. map body_view x.items) result (letters_left cursor.new) (read_file (letters_left cursor.old)) }
 {
     let mut found = Vec::new(alloc);
     let mut allowed = MOST_QUESTIONS;

@@ -1,6 +1,6 @@
 //! The questions of a file.
 ghost use Rattle.std.specs.Prelude.{◌≤◌, ◌^◌, length, map, All, IfOk, IfErr};
-ghost use Rattle.it_question.specs.Cursors.{token_line, left};
+ghost use Rattle.it_question.specs.Cursors.{token_line, letters_left};
 ghost use Rattle.it_question.specs.Files.{place_of, IsFile, IsFirstFileFault};
 ghost use Rattle.it_question.specs.Stops.{IsLeft, IfFault, IsFaultAt, IsStopAt};
 ghost use Rattle.it_question.specs.Limits.{IsQuestion};
@@ -20,8 +20,8 @@ use std::alloc::Global;
 /// The fault at what is left of these lines.
 fn fault(lines: &[Line], cursor: Cursor<'_>, code: Code) -> FileFault
     requires few { length (letters_of_lines (map token_line lines.now)) ≤ 2 ^ 32 }
-    requires there { IsLeft (map token_line lines.now) (left cursor) }
-    ensures { IsFaultAt (place_of (map token_line lines.now) (left cursor.entry)) code result }
+    requires there { IsLeft (map token_line lines.now) (letters_left cursor) }
+    ensures { IsFaultAt (place_of (map token_line lines.now) (letters_left cursor.entry)) code result }
 {
     let at = count(lines) - letters_left(&cursor);
     let (line, column) = place(lines, at).unwrap();
@@ -31,8 +31,8 @@ fn fault(lines: &[Line], cursor: Cursor<'_>, code: Code) -> FileFault
 /// Why reading stopped at what is left of these lines.
 fn stop_fault(lines: &[Line], cursor: Cursor<'_>, stop: Stop) -> FileFault
     requires few { length (letters_of_lines (map token_line lines.now)) ≤ 2 ^ 32 }
-    requires there { IfFault stop (IsLeft (map token_line lines.now) (left cursor)) }
-    ensures { IsStopAt (place_of (map token_line lines.now) (left cursor.entry)) stop result }
+    requires there { IfFault stop (IsLeft (map token_line lines.now) (letters_left cursor)) }
+    ensures { IsStopAt (place_of (map token_line lines.now) (letters_left cursor.entry)) stop result }
 {
     match stop {
         Stop::Memory => FileFault::Memory,

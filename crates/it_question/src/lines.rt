@@ -1,6 +1,6 @@
 //! The lines of a file that have tokens, and its end.
 ghost use Rattle.std.specs.Bool.{OnTrue, OnFalse};
-ghost use Rattle.std.specs.Prelude.{◌≡◌, ◌≤◌, ◌++◌, [], ◌∷◌, length, map, None, IfOk, OnOk};
+ghost use Rattle.std.specs.Prelude.{◌≡◌, ◌≤◌, [], length, map, None, IfOk, OnOk};
 ghost use Rattle.it_question.specs.Cursors.{token_line};
 ghost use Rattle.it_question.specs.Lines.{AreLinesOf, IsLine, HasTokens, end_line};
 ghost use Rattle.it_question.specs.ReaderSteps.{IsLineAdded};

@@ -1,9 +1,9 @@
 //! Readers of new names.
-ghost use Rattle.std.specs.Prelude.{◌≡◌, ◌-◌, ◌≤◌, true, false, length, IsTrue, OnOk, IfErr};
+ghost use Rattle.std.specs.Prelude.{◌≡◌, ◌-◌, ◌≤◌, false, length, OnOk, IfErr};
 ghost use Rattle.it_syntax.specs.declared.rest.Stop.TheVariants.{Memory};
 ghost use Rattle.it_syntax.specs.Gives.{GivesBy};
 ghost use Rattle.it_syntax.specs.Lines.{to_end};
-ghost use Rattle.it_question.specs.Cursors.{left};
+ghost use Rattle.it_question.specs.Cursors.{letters_left};
 ghost use Rattle.it_question.specs.Reading.{read_new, read_new_more, read_new_names, read_names_line};
 ghost use Rattle.it_question.specs.Sorts.{sort_of, HasRoom, KeepsRates};
 ghost use Rattle.it_question.specs.NewNames.{with_name, is_taken};
@@ -51,7 +51,7 @@ fn new_name(
     most: usize,
 ) -> Result<(), Stop>
     requires { HasRoom sort most names.old }
-    ensures gives { GivesBy (λ x. names.new) result (left cursor.new) (read_new (sort_of sort) most names.old (left cursor.old)) }
+    ensures gives { GivesBy (λ x. names.new) result (letters_left cursor.new) (read_new (sort_of sort) most names.old (letters_left cursor.old)) }
     ensures some { OnOk result (1 ≤ most) }
     ensures room { OnOk result (HasRoom sort (most - 1) names.new) }
     ensures rates { OnOk result (KeepsRates sort names.old names.new) }
@@ -83,7 +83,7 @@ fn more_names(
     most: usize,
 ) -> Result<(), Stop>
     requires { HasRoom sort most names.old }
-    ensures gives { GivesBy (λ x. names.new) result (left cursor.new) (read_new_more (sort_of sort) most names.old (left cursor.old)) }
+    ensures gives { GivesBy (λ x. names.new) result (letters_left cursor.new) (read_new_more (sort_of sort) most names.old (letters_left cursor.old)) }
     ensures rates { OnOk result (KeepsRates sort names.old names.new) }
 {
     let mut allowed = most;
@@ -106,7 +106,7 @@ fn new_names(
     most: usize,
 ) -> Result<(), Stop>
     requires { HasRoom sort most names.old }
-    ensures gives { GivesBy (λ x. names.new) result (left cursor.new) (read_new_names (sort_of sort) most names.old (left cursor.old)) }
+    ensures gives { GivesBy (λ x. names.new) result (letters_left cursor.new) (read_new_names (sort_of sort) most names.old (letters_left cursor.old)) }
     ensures rates { OnOk result (KeepsRates sort names.old names.new) }
 {
     new_name(cursor, names, sort, most)?;
@@ -121,7 +121,7 @@ pub fn names_to_end(
     most: usize,
 ) -> Result<(), Stop>
     requires { HasRoom sort most names.old }
-    ensures gives { GivesBy (λ x. names.new) result (left cursor.new) (to_end (read_new_names (sort_of sort) most names.old) (left cursor.old)) }
+    ensures gives { GivesBy (λ x. names.new) result (letters_left cursor.new) (to_end (read_new_names (sort_of sort) most names.old) (letters_left cursor.old)) }
     ensures rates { OnOk result (KeepsRates sort names.old names.new) }
 {
     new_names(cursor, names, sort, most)?;
@@ -138,7 +138,7 @@ pub fn names_line(
     keyword: &[u8],
 ) -> Result<(), Stop>
     requires { HasRoom sort most names.old }
-    ensures { GivesBy (λ x. names.new) result (left cursor.new) (read_names_line (sort_of sort) most keyword.now names.old (left cursor.old)) }
+    ensures { GivesBy (λ x. names.new) result (letters_left cursor.new) (read_names_line (sort_of sort) most keyword.now names.old (letters_left cursor.old)) }
 {
     match behind_word(*cursor, keyword) {
         Some(behind) => {

@@ -1,11 +1,11 @@
 //! The reader of `given` and `row` lines.
-ghost use Rattle.std.specs.Prelude.{◌≡◌, ◌+◌, OnOk, IfErr};
+ghost use Rattle.std.specs.Prelude.{◌≡◌, OnOk, IfErr};
 ghost use Rattle.it_syntax.specs.declared.rest.Stop.TheVariants.{Memory};
 ghost use Rattle.it_syntax.specs.Givens.{given_view};
 ghost use Rattle.it_syntax.specs.Gives.{GivesBy};
 ghost use Rattle.it_syntax.specs.Meaning.{relation_view};
 ghost use Rattle.it_question.specs.Bodies.{with_given_line, with_row_line};
-ghost use Rattle.it_question.specs.Cursors.{left};
+ghost use Rattle.it_question.specs.Cursors.{letters_left};
 ghost use Rattle.it_question.specs.Questions.{own_lines_view};
 ghost use Rattle.it_question.specs.Reading.{read_lines};
 ghost use Rattle.it_question.specs.WrittenRegions.{givens_left, rows_left};
@@ -66,7 +66,7 @@ pub fn own_lines(
     most_givens: usize,
     most_rows: usize,
 ) -> Result<OwnLines, Stop>
-    ensures { GivesBy own_lines_view result (left cursor.new) (read_lines most_givens most_rows names.now (left cursor.old)) }
+    ensures { GivesBy own_lines_view result (letters_left cursor.new) (read_lines most_givens most_rows names.now (letters_left cursor.old)) }
 {
     let mut own = OwnLines {
         givens: Vec::new(alloc),

@@ -9,7 +9,7 @@ ghost use Rattle.it_syntax.specs.Lines.{to_end};
 ghost use Rattle.it_syntax.specs.Meaning.{relation_view};
 ghost use Rattle.it_syntax.specs.AtomReading.{read_list};
 ghost use Rattle.it_syntax.specs.Scopes.{env_of};
-ghost use Rattle.it_question.specs.Cursors.{left};
+ghost use Rattle.it_question.specs.Cursors.{letters_left};
 
 use crate::cursor::Cursor;
 use it_space::VarSet;
@@ -21,7 +21,7 @@ use std::alloc::Global;
 
 /// A relation, with the line's end.
 pub fn relation(alloc: Global, cursor: &mut Cursor<'_>, names: &Names) -> Result<Relation, Stop>
-    ensures { GivesBy relation_view result (left cursor.new) (to_end (read_relation (scope_of names.now true)) (left cursor.old)) }
+    ensures { GivesBy relation_view result (letters_left cursor.new) (to_end (read_relation (scope_of names.now true)) (letters_left cursor.old)) }
 {
     match cursor.rest {
         Some(mut rest) => match relation_to_end(alloc, &mut rest, names, true) {
@@ -40,7 +40,7 @@ pub fn relation(alloc: Global, cursor: &mut Cursor<'_>, names: &Names) -> Result
 
 /// A constraint, with the line's end.
 pub fn given(alloc: Global, cursor: &mut Cursor<'_>, names: &Names) -> Result<Given, Stop>
-    ensures { GivesBy given_view result (left cursor.new) (to_end (read_given (scope_of names.now false)) (left cursor.old)) }
+    ensures { GivesBy given_view result (letters_left cursor.new) (to_end (read_given (scope_of names.now false)) (letters_left cursor.old)) }
 {
     match cursor.rest {
         Some(mut rest) => match given_to_end(alloc, &mut rest, names) {
@@ -59,7 +59,7 @@ pub fn given(alloc: Global, cursor: &mut Cursor<'_>, names: &Names) -> Result<Gi
 
 /// The set of a list of names.
 pub fn names_set(cursor: &mut Cursor<'_>, names: &Names) -> Result<VarSet, Stop>
-    ensures { Gives result (left cursor.new) (read_list (env_of names.now) (left cursor.old)) }
+    ensures { Gives result (letters_left cursor.new) (read_list (env_of names.now) (letters_left cursor.old)) }
 {
     match cursor.rest {
         Some(mut rest) => match list(&mut rest, names) {

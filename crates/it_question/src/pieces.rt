@@ -3,7 +3,7 @@ ghost use Rattle.std.specs.Prelude.{◌≡◌, [], map, IfSome, IfNone};
 ghost use Rattle.it_syntax.specs.declared.rest.Stop.TheVariants.{Fault};
 ghost use Rattle.it_syntax.specs.FirstFault.{own_code};
 ghost use Rattle.it_syntax.specs.ReaderSteps.{HasLength};
-ghost use Rattle.it_question.specs.Cursors.{token_line, left, with_letter};
+ghost use Rattle.it_question.specs.Cursors.{token_line, letters_left, with_letter};
 ghost use Rattle.it_question.specs.Lines.{letters_of_lines};
 
 use crate::cursor::{Cursor, Line};
@@ -12,9 +12,9 @@ use it_syntax::types::Code;
 
 impl<'a> Cursor<'a> {
     /// At the first of some lines.
-    #[tactic(auto, unfolding(crate::specs::Cursors::left))]
+    #[tactic(auto, unfolding(crate::specs::Cursors::letters_left))]
     pub fn at(lines: &'a [Line]) -> Cursor<'a>
-        ensures { left result ≡ letters_of_lines (map token_line lines.entry.now) }
+        ensures { letters_left result ≡ letters_of_lines (map token_line lines.entry.now) }
     {
         match lines {
             [first, behind @ ..] => Cursor {
@@ -33,11 +33,11 @@ impl<'a> Cursor<'a> {
     }
 
     /// The first piece and what is behind it, if anything is left.
-    #[tactic(auto, unfolding(crate::specs::Cursors::left))]
+    #[tactic(auto, unfolding(crate::specs::Cursors::letters_left))]
     pub fn front(self) -> Option<(Piece<'a>, Cursor<'a>)>
-        ensures front { IfSome result (λ x. left self.entry ≡ with_letter x.0 (left x.1)) }
+        ensures front { IfSome result (λ x. letters_left self.entry ≡ with_letter x.0 (letters_left x.1)) }
         ensures length { IfSome result (λ x. HasLength x.0) }
-        ensures none { IfNone result (left self.entry ≡ []) }
+        ensures none { IfNone result (letters_left self.entry ≡ []) }
     {
         let rest = self.rest?;
         let (piece, tail) = rest.front();
@@ -53,7 +53,7 @@ impl<'a> Cursor<'a> {
 
     /// The fault at the first piece where no rule goes on: its own, if it is a misspelling or the file's end.
     pub fn fault(self) -> Stop
-        ensures { result ≡ Fault (own_code (left self.entry)) }
+        ensures { result ≡ Fault (own_code (letters_left self.entry)) }
     {
         match self.rest {
             Some(rest) => rest.fault(),

@@ -1,6 +1,6 @@
 //! Where the letters of a file stand.
 ghost use Rattle.std.specs.Prelude.{◌≡◌, ◌≤◌, ◌^◌, length, map, slice_get, Some};
-ghost use Rattle.it_question.specs.Cursors.{token_line, left};
+ghost use Rattle.it_question.specs.Cursors.{token_line, letters_left};
 ghost use Rattle.it_question.specs.Lines.{letters_of_lines, line_places, places_of_lines};
 
 use crate::cursor::{Cursor, Line};
@@ -19,10 +19,10 @@ pub fn count(lines: &[Line]) -> usize
 }
 
 /// How many letters are left.
-#[tactic(auto, unfolding(crate::specs::Cursors::left))]
+#[tactic(auto, unfolding(crate::specs::Cursors::letters_left))]
 pub fn letters_left(cursor: &Cursor<'_>) -> usize
-    requires { length (left cursor.now) ≤ 2 ^ 32 }
-    ensures { result ≡ length (left cursor.now) }
+    requires { length (letters_left cursor.now) ≤ 2 ^ 32 }
+    ensures { result ≡ length (letters_left cursor.now) }
 {
     match cursor.rest {
         Some(rest) => rest.tokens.len() + 1 + count(cursor.behind),

@@ -4,7 +4,7 @@ ghost use Rattle.it_syntax.specs.declared.rest.Stop.TheVariants.{Memory};
 ghost use Rattle.it_syntax.specs.GivenReading.{with_sets};
 ghost use Rattle.it_syntax.specs.Gives.{Gives, GivesBy};
 ghost use Rattle.it_syntax.specs.Lines.{to_end};
-ghost use Rattle.it_question.specs.Cursors.{left};
+ghost use Rattle.it_question.specs.Cursors.{letters_left};
 ghost use Rattle.it_question.specs.Reading.{read_once, read_once_more, read_distinct};
 ghost use Rattle.it_question.specs.WrittenLines.{rates_env};
 
@@ -26,8 +26,8 @@ fn rate(names: &Names, name: &[u8]) -> Option<u8>
 /// A rate that isn't among these.
 #[tactic(auto, unfolding(crate::specs::Reading::read_once))]
 fn new_rate(cursor: &mut Cursor<'_>, names: &Names, seen: &[u8]) -> Result<u8, Stop>
-    ensures gives { Gives result (left cursor.new) (read_once (rates_env names.now) seen.now (left cursor.old)) }
-    ensures shorter { OnOk result (length (left cursor.new) < length (left cursor.old)) }
+    ensures gives { Gives result (letters_left cursor.new) (read_once (rates_env names.now) seen.now (letters_left cursor.old)) }
+    ensures shorter { OnOk result (length (letters_left cursor.new) < length (letters_left cursor.old)) }
 {
     match cursor.front() {
         Some((Piece::Word(word), behind)) => {
@@ -62,7 +62,7 @@ fn add(rates: &mut Vec<u8>, rate: u8) -> Result<(), Stop>
 
 /// The first rates and further ones, each behind a comma.
 fn more_rates(first: Vec<u8>, cursor: &mut Cursor<'_>, names: &Names) -> Result<Vec<u8>, Stop>
-    ensures { GivesBy (λ x. x.items) result (left cursor.new) (with_sets first.items (read_once_more (rates_env names.now) first.items (left cursor.old))) }
+    ensures { GivesBy (λ x. x.items) result (letters_left cursor.new) (with_sets first.items (read_once_more (rates_env names.now) first.items (letters_left cursor.old))) }
 {
     let mut found = first;
     while comma(cursor) {
@@ -77,7 +77,7 @@ fn more_rates(first: Vec<u8>, cursor: &mut Cursor<'_>, names: &Names) -> Result<
 /// One rate or more, none twice.
 #[tactic(auto, unfolding(crate::specs::Reading::read_distinct))]
 fn distinct_rates(alloc: Global, cursor: &mut Cursor<'_>, names: &Names) -> Result<Vec<u8>, Stop>
-    ensures { GivesBy (λ x. x.items) result (left cursor.new) (read_distinct (rates_env names.now) (left cursor.old)) }
+    ensures { GivesBy (λ x. x.items) result (letters_left cursor.new) (read_distinct (rates_env names.now) (letters_left cursor.old)) }
 {
     let first = new_rate(cursor, names, &[])?;
     match Vec::from_slice(alloc, &[first]) {
@@ -88,7 +88,7 @@ fn distinct_rates(alloc: Global, cursor: &mut Cursor<'_>, names: &Names) -> Resu
 
 /// The rates, each once, with the line's end.
 pub fn rates(alloc: Global, cursor: &mut Cursor<'_>, names: &Names) -> Result<Vec<u8>, Stop>
-    ensures { GivesBy (λ x. x.items) result (left cursor.new) (to_end (read_distinct (rates_env names.now)) (left cursor.old)) }
+    ensures { GivesBy (λ x. x.items) result (letters_left cursor.new) (to_end (read_distinct (rates_env names.now)) (letters_left cursor.old)) }
 {
     let rates = distinct_rates(alloc, cursor, names)?;
     line_end(cursor)?;

@@ -3,8 +3,8 @@ ghost use Rattle.std.specs.Prelude.{◌≡◌, ◌-◌, length, IfOk, IfErr};
 ghost use Rattle.it_syntax.specs.declared.rest.Stop.TheVariants.{Memory};
 ghost use Rattle.it_syntax.specs.Gives.{Gives, GivesBy};
 ghost use Rattle.it_question.specs.declared.sorts.NameSort.TheVariants as sorts;
-ghost use Rattle.it_question.specs.Keywords.{aux_text};
-ghost use Rattle.it_question.specs.Cursors.{left};
+ghost use Rattle.it_question.specs.Keywords.{aux_keyword};
+ghost use Rattle.it_question.specs.Cursors.{letters_left};
 ghost use Rattle.it_question.specs.Questions.{verb_view, region_view};
 ghost use Rattle.it_question.specs.Reading.{read_names_line, read_region, read_word_line, read_containment};
 ghost use Rattle.it_question.specs.Sorts.{HasRoom};
@@ -63,7 +63,7 @@ fn copy_of(names: &Names) -> Result<Names, Stop>
 
 /// The variables of a region of a question with these names.
 fn region_names(cursor: &mut Cursor<'_>, names: &Names) -> Result<Names, Stop>
-    ensures { GivesBy (λ x. x) result (left cursor.new) (read_names_line Variable (auxiliaries_left names.now) aux_text names.now (left cursor.old)) }
+    ensures { GivesBy (λ x. x) result (letters_left cursor.new) (read_names_line Variable (auxiliaries_left names.now) aux_keyword names.now (letters_left cursor.old)) }
 {
     let mut inside = copy_of(names)?;
     names_line(
@@ -85,7 +85,7 @@ fn region(
     givens: usize,
     rows: usize,
 ) -> Result<Region, Stop>
-    ensures { GivesBy region_view result (left cursor.new) (read_region givens rows names.now (left cursor.old)) }
+    ensures { GivesBy region_view result (letters_left cursor.new) (read_region givens rows names.now (letters_left cursor.old)) }
 {
     line_end(cursor)?;
     let inside = region_names(cursor, names)?;
@@ -101,7 +101,7 @@ fn region(
 /// A line that is this word alone.
 #[tactic(auto, unfolding(crate::specs::Reading::read_word_line))]
 fn word_line(cursor: &mut Cursor<'_>, text: &[u8]) -> Result<(), Stop>
-    ensures { Gives result (left cursor.new) (read_word_line text.now (left cursor.old)) }
+    ensures { Gives result (letters_left cursor.new) (read_word_line text.now (letters_left cursor.old)) }
 {
     word(cursor, text)?;
     line_end(cursor)
@@ -116,7 +116,7 @@ pub fn containment(
     givens: usize,
     rows: usize,
 ) -> Result<Verb, Stop>
-    ensures { GivesBy verb_view result (left cursor.new) (read_containment givens rows names.now (left cursor.old)) }
+    ensures { GivesBy verb_view result (letters_left cursor.new) (read_containment givens rows names.now (letters_left cursor.old)) }
 {
     let first = region(alloc, cursor, names, givens, rows)?;
     word(cursor, REGION)?;

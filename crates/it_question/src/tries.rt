@@ -1,12 +1,11 @@
 //! Readers of `try` lines.
 ghost use Rattle.std.specs.Bool.{OnTrue, OnFalse};
-ghost use Rattle.std.specs.Prelude.{◌≡◌, ◌<◌, ◌++◌, [], ◌∷◌, Some, None, IfOk, IfSome, OnOk, IfErr, length};
+ghost use Rattle.std.specs.Prelude.{◌≡◌, ◌<◌, ◌++◌, [], ◌∷◌, Some, None, OnOk, IfErr};
 ghost use Rattle.it_syntax.specs.declared.rest.Stop.TheVariants.{Memory};
 ghost use Rattle.it_syntax.specs.Gives.{Gives, GivesBy};
 ghost use Rattle.it_syntax.specs.ReaderSteps.{Passes};
-ghost use Rattle.it_syntax.specs.AtomReading.{read_list};
 ghost use Rattle.it_syntax.specs.Scopes.{env_of};
-ghost use Rattle.it_question.specs.Cursors.{left};
+ghost use Rattle.it_question.specs.Cursors.{letters_left};
 ghost use Rattle.it_question.specs.Reading.{after_semicolon, read_auxiliary, read_assign, read_set, read_part, read_parts, read_try_end, read_try, read_tries};
 ghost use Rattle.it_question.specs.WrittenRegions.{auxiliary_env};
 ghost use Rattle.it_question.specs.WrittenTries.{is_named, with_set, is_whole, set_or, sets_view, unnamed_sets};
@@ -82,7 +81,7 @@ fn put(sets: &mut Sets, i: u8, set: VarSet)
 /// The auxiliary that is named, if it has no set yet.
 #[tactic(auto, unfolding(crate::specs::Reading::read_auxiliary))]
 fn auxiliary(cursor: &mut Cursor<'_>, regions: Regions<'_>, sets: &Sets) -> Result<u8, Stop>
-    ensures { Gives result (left cursor.new) (read_auxiliary (auxiliary_env regions.entry.question.now regions.entry.second.now) sets.now (left cursor.old)) }
+    ensures { Gives result (letters_left cursor.new) (read_auxiliary (auxiliary_env regions.entry.question.now regions.entry.second.now) sets.now (letters_left cursor.old)) }
 {
     match cursor.front() {
         Some((Piece::Word(word), behind)) => {
@@ -107,7 +106,7 @@ fn auxiliary(cursor: &mut Cursor<'_>, regions: Regions<'_>, sets: &Sets) -> Resu
 /// A `:=` that must stand there.
 #[tactic(auto, unfolding(crate::specs::Reading::read_assign))]
 fn assign(cursor: &mut Cursor<'_>) -> Result<(), Stop>
-    ensures { Passes result (left cursor.new) (read_assign (left cursor.old)) }
+    ensures { Passes result (letters_left cursor.new) (read_assign (letters_left cursor.old)) }
 {
     match cursor.front() {
         Some((Piece::Symbol(Symbol::Assign), behind)) => {
@@ -121,7 +120,7 @@ fn assign(cursor: &mut Cursor<'_>) -> Result<(), Stop>
 /// `0`, or a list of names.
 #[tactic(auto, unfolding(crate::specs::Reading::read_set))]
 fn set(cursor: &mut Cursor<'_>, names: &Names) -> Result<VarSet, Stop>
-    ensures { Gives result (left cursor.new) (read_set (env_of names.now) (left cursor.old)) }
+    ensures { Gives result (letters_left cursor.new) (read_set (env_of names.now) (letters_left cursor.old)) }
 {
     match cursor.front() {
         Some((Piece::Number(number), behind)) => {
@@ -139,7 +138,7 @@ fn set(cursor: &mut Cursor<'_>, names: &Names) -> Result<VarSet, Stop>
 /// `name := set`.
 #[tactic(auto, unfolding(crate::specs::Reading::read_part))]
 fn part(cursor: &mut Cursor<'_>, regions: Regions<'_>, sets: &mut Sets) -> Result<(), Stop>
-    ensures { GivesBy (λ x. sets.new) result (left cursor.new) (read_part (auxiliary_env regions.entry.question.now regions.entry.second.now) (env_of regions.entry.first.now) sets.old (left cursor.old)) }
+    ensures { GivesBy (λ x. sets.new) result (letters_left cursor.new) (read_part (auxiliary_env regions.entry.question.now regions.entry.second.now) (env_of regions.entry.first.now) sets.old (letters_left cursor.old)) }
 {
     let i = auxiliary(cursor, regions, sets)?;
     assign(cursor)?;
@@ -150,9 +149,9 @@ fn part(cursor: &mut Cursor<'_>, regions: Regions<'_>, sets: &mut Sets) -> Resul
 
 /// Takes a `;`, if one stands there, and says whether.
 fn semicolon(cursor: &mut Cursor<'_>) -> bool
-    ensures taken { OnTrue result (after_semicolon (left cursor.old) ≡ Some (left cursor.new)) }
-    ensures none { OnFalse result (after_semicolon (left cursor.old) ≡ None) }
-    ensures same { OnFalse result (left cursor.new ≡ left cursor.old) }
+    ensures taken { OnTrue result (after_semicolon (letters_left cursor.old) ≡ Some (letters_left cursor.new)) }
+    ensures none { OnFalse result (after_semicolon (letters_left cursor.old) ≡ None) }
+    ensures same { OnFalse result (letters_left cursor.new ≡ letters_left cursor.old) }
 {
     match cursor.front() {
         Some((Piece::Symbol(Symbol::Semicolon), behind)) => {
@@ -165,7 +164,7 @@ fn semicolon(cursor: &mut Cursor<'_>) -> bool
 
 /// Further parts, each behind a `;`.
 fn parts(cursor: &mut Cursor<'_>, regions: Regions<'_>, sets: &mut Sets) -> Result<(), Stop>
-    ensures { GivesBy (λ x. sets.new) result (left cursor.new) (read_parts 4 (auxiliary_env regions.entry.question.now regions.entry.second.now) (env_of regions.entry.first.now) sets.old (left cursor.old)) }
+    ensures { GivesBy (λ x. sets.new) result (letters_left cursor.new) (read_parts 4 (auxiliary_env regions.entry.question.now regions.entry.second.now) (env_of regions.entry.first.now) sets.old (letters_left cursor.old)) }
 {
     let mut allowed: u8 = 4;
     while semicolon(cursor) {
@@ -184,7 +183,7 @@ fn parts(cursor: &mut Cursor<'_>, regions: Regions<'_>, sets: &mut Sets) -> Resu
 /// The line's end, if each auxiliary has its set.
 #[tactic(auto, unfolding(crate::specs::Reading::read_try_end))]
 fn try_end(cursor: &mut Cursor<'_>, sets: &Sets) -> Result<(), Stop>
-    ensures { Gives result (left cursor.new) (read_try_end (is_whole sets.now) (left cursor.old)) }
+    ensures { Gives result (letters_left cursor.new) (read_try_end (is_whole sets.now) (letters_left cursor.old)) }
 {
     if is_whole(sets) {
         return line_end(cursor);
@@ -193,7 +192,7 @@ fn try_end(cursor: &mut Cursor<'_>, sets: &Sets) -> Result<(), Stop>
 }
 
 /// The set of an auxiliary, empty where it has none.
-fn set_of(set: &Option<VarSet>) -> VarSet
+fn set_or_empty(set: &Option<VarSet>) -> VarSet
     ensures { result ≡ set_or set.now }
 {
     match set {
@@ -207,10 +206,10 @@ fn sets_of(sets: &Sets) -> [VarSet; 4]
     ensures { result ≡ sets_view sets.now }
 {
     [
-        set_of(&sets[0]),
-        set_of(&sets[1]),
-        set_of(&sets[2]),
-        set_of(&sets[3]),
+        set_or_empty(&sets[0]),
+        set_or_empty(&sets[1]),
+        set_or_empty(&sets[2]),
+        set_or_empty(&sets[3]),
     ]
 }
 
@@ -246,7 +245,7 @@ fn substitution(
     regions: Regions<'_>,
     auxiliaries: u8,
 ) -> Result<[VarSet; 4], Stop>
-    ensures { Gives result (left cursor.new) (read_try (auxiliary_env regions.entry.question.now regions.entry.second.now) (env_of regions.entry.first.now) (unnamed_sets auxiliaries) (left cursor.old)) }
+    ensures { Gives result (letters_left cursor.new) (read_try (auxiliary_env regions.entry.question.now regions.entry.second.now) (env_of regions.entry.first.now) (unnamed_sets auxiliaries) (letters_left cursor.old)) }
 {
     let mut sets = unnamed_sets(auxiliaries);
     part(cursor, regions, &mut sets)?;
@@ -274,7 +273,7 @@ pub fn tries(
     auxiliaries: u8,
     most: usize,
 ) -> Result<Vec<[VarSet; 4]>, Stop>
-    ensures { GivesBy (λ x. x.items) result (left cursor.new) (read_tries most (auxiliary_env regions.entry.question.now regions.entry.second.now) (env_of regions.entry.first.now) (unnamed_sets auxiliaries) (left cursor.old)) }
+    ensures { GivesBy (λ x. x.items) result (letters_left cursor.new) (read_tries most (auxiliary_env regions.entry.question.now regions.entry.second.now) (env_of regions.entry.first.now) (unnamed_sets auxiliaries) (letters_left cursor.old)) }
 {
     let mut found = Vec::new(alloc);
     let mut allowed = most;

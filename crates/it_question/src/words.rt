@@ -4,7 +4,7 @@ ghost use Rattle.std.specs.Prelude.{◌≡◌, Some, None, IfSome, IfNone};
 ghost use Rattle.it_syntax.specs.Gives.{Gives};
 ghost use Rattle.it_syntax.specs.AtomReading.{line_end};
 ghost use Rattle.it_syntax.specs.ReaderSteps.{after_comma};
-ghost use Rattle.it_question.specs.Cursors.{left};
+ghost use Rattle.it_question.specs.Cursors.{letters_left};
 ghost use Rattle.it_question.specs.Reading.{behind_word, read_word};
 
 use crate::cursor::Cursor;
@@ -44,8 +44,8 @@ pub const CONTAIN: &[u8] = b"contain";
 /// What is behind this word, if it stands there.
 #[tactic(auto, unfolding(crate::specs::Reading::behind_word))]
 pub fn behind_word<'a>(cursor: Cursor<'a>, text: &[u8]) -> Option<Cursor<'a>>
-    ensures found { IfSome result (λ behind. behind_word text.now (left cursor.entry) ≡ Some (left behind)) }
-    ensures none { IfNone result (behind_word text.now (left cursor.entry) ≡ None) }
+    ensures found { IfSome result (λ behind. behind_word text.now (letters_left cursor.entry) ≡ Some (letters_left behind)) }
+    ensures none { IfNone result (behind_word text.now (letters_left cursor.entry) ≡ None) }
 {
     match cursor.front() {
         Some((Piece::Word(word), behind)) => { if word == text { Some(behind) } else { None } }
@@ -56,7 +56,7 @@ pub fn behind_word<'a>(cursor: Cursor<'a>, text: &[u8]) -> Option<Cursor<'a>>
 /// A word that must stand there.
 #[tactic(auto, unfolding(crate::specs::Reading::read_word))]
 pub fn word(cursor: &mut Cursor<'_>, text: &[u8]) -> Result<(), Stop>
-    ensures { Gives result (left cursor.new) (read_word text.now (left cursor.old)) }
+    ensures { Gives result (letters_left cursor.new) (read_word text.now (letters_left cursor.old)) }
 {
     match cursor.front() {
         Some((Piece::Word(word), behind)) => {
@@ -74,7 +74,7 @@ pub fn word(cursor: &mut Cursor<'_>, text: &[u8]) -> Result<(), Stop>
 /// The end of a line.
 #[tactic(auto, unfolding(it_syntax::specs::AtomReading::line_end))]
 pub fn line_end(cursor: &mut Cursor<'_>) -> Result<(), Stop>
-    ensures { Gives result (left cursor.new) (line_end (left cursor.old)) }
+    ensures { Gives result (letters_left cursor.new) (line_end (letters_left cursor.old)) }
 {
     match cursor.front() {
         Some((Piece::End, behind)) => {
@@ -87,9 +87,9 @@ pub fn line_end(cursor: &mut Cursor<'_>) -> Result<(), Stop>
 
 /// Takes a comma, if one stands there, and says whether.
 pub fn comma(cursor: &mut Cursor<'_>) -> bool
-    ensures taken { OnTrue result (after_comma (left cursor.old) ≡ Some (left cursor.new)) }
-    ensures none { OnFalse result (after_comma (left cursor.old) ≡ None) }
-    ensures same { OnFalse result (left cursor.new ≡ left cursor.old) }
+    ensures taken { OnTrue result (after_comma (letters_left cursor.old) ≡ Some (letters_left cursor.new)) }
+    ensures none { OnFalse result (after_comma (letters_left cursor.old) ≡ None) }
+    ensures same { OnFalse result (letters_left cursor.new ≡ letters_left cursor.old) }
 {
     match cursor.front() {
         Some((Piece::Symbol(Symbol::Comma), behind)) => {

@@ -6,7 +6,7 @@ use Rattle.it_syntax.specs.declared.types.Code.{Code}
 use Rattle.it_syntax.specs.declared.types.Code.TheVariants as codes
 use Rattle.it_syntax.specs.declared.types.Atom.{Atom}
 use Rattle.it_syntax.specs.declared.types.Atom.TheVariants.{Entropy}
-use Rattle.it_syntax.specs.Letters.{Letter, Word, Sym, MarkedLetters, unmarked}
+use Rattle.it_syntax.specs.Letters.{Letter, Word, Sym, MarkedLetters, without_mark}
 use Rattle.it_syntax.specs.WrittenAtoms.{Environment, WrittenList, is_measure, unknown_mark, index_or, more_set, list_set, name_mark, spell_name, spell_more, spell_list}
 use Rattle.it_syntax.specs.FirstFault.{head, own_code}
 use Rattle.it_syntax.specs.AtomReading.{Reads, ◌>>=◌, variable_or_fault, read_name, read_more, read_list, close_paren, open_paren, bar_or_close, read_given_set, read_entropy}
@@ -75,11 +75,11 @@ name_traces env (Word w ∷ ls) = named_by env w ls (is_measure w) (env w) refl 
 name_traces env [] = stuck_none (read_name env) (spell_name env) some_name refl
 name_traces env (l ∷ ls) = stuck_here (read_name env) (spell_name env) some_name l ls _ (λ s. refl) refl
 
-closed_traces : (x : ℕ) → Traces (close_paren x) (λ (u : Unit {0}) k. unmarked (Sym RightParen) ∷ k) (λ u. x)
+closed_traces : (x : ℕ) → Traces (close_paren x) (λ (u : Unit {0}) k. without_mark (Sym RightParen) ∷ k) (λ u. x)
 unfolding close_paren
 closed_traces x (Sym RightParen ∷ ls) = record { tree = tt; front = Sym RightParen ∷ []; value = refl; parts = refl; spells = λ k. refl; stays = λ s e. refl }
-closed_traces x [] = stuck_none (close_paren x) (λ (u : Unit {0}) k. unmarked (Sym RightParen) ∷ k) tt refl
-closed_traces x (l ∷ ls) = stuck_here (close_paren x) (λ (u : Unit {0}) k. unmarked (Sym RightParen) ∷ k) tt l ls _ (λ s. refl) refl
+closed_traces x [] = stuck_none (close_paren x) (λ (u : Unit {0}) k. without_mark (Sym RightParen) ∷ k) tt refl
+closed_traces x (l ∷ ls) = stuck_here (close_paren x) (λ (u : Unit {0}) k. without_mark (Sym RightParen) ∷ k) tt l ls _ (λ s. refl) refl
 
 -- ---- further names
 
@@ -115,14 +115,14 @@ more_by env w ls false (Some i) eh eo (Ok x) b = record {
   front = Sym Comma ∷ Word w ∷ b.front;
   value = ap (λ (j : ℕ). bit_or (2 ^ j) (more_set env b.tree)) (ap index_or eo) ∙ ap (bit_or (2 ^ i)) b.value;
   parts = ap (λ (s : List Letter). Sym Comma ∷ Word w ∷ s) b.parts;
-  spells = λ k. ap (λ (m : Option Code). unmarked (Sym Comma) ∷ (Word w, m) ∷ spell_more env b.tree k) (mark_is env w false (Some i) eh eo) ∙ ap (λ (q : MarkedLetters). unmarked (Sym Comma) ∷ unmarked (Word w) ∷ q) (b.spells k);
+  spells = λ k. ap (λ (m : Option Code). without_mark (Sym Comma) ∷ (Word w, m) ∷ spell_more env b.tree k) (mark_is env w false (Some i) eh eo) ∙ ap (λ (q : MarkedLetters). without_mark (Sym Comma) ∷ without_mark (Word w) ∷ q) (b.spells k);
   stays = λ s e. more_behind_comma env w (b.front ++ s) false (Some i) eh eo ∙ ap (with_further i) (b.stays s e);
 }
 more_by env w ls false (Some i) eh eo (Err x) b = record {
   tree = w ∷ b.tree;
   front = Sym Comma ∷ Word w ∷ b.front;
   parts = ap (λ (s : List Letter). Sym Comma ∷ Word w ∷ s) b.parts;
-  spells = λ k. let q = b.spells k in (q.0, (ap (λ (m : Option Code). unmarked (Sym Comma) ∷ (Word w, m) ∷ spell_more env b.tree k) (mark_is env w false (Some i) eh eo) ∙ ap (λ (r : MarkedLetters). unmarked (Sym Comma) ∷ unmarked (Word w) ∷ r) q.1.0, q.1.1));
+  spells = λ k. let q = b.spells k in (q.0, (ap (λ (m : Option Code). without_mark (Sym Comma) ∷ (Word w, m) ∷ spell_more env b.tree k) (mark_is env w false (Some i) eh eo) ∙ ap (λ (r : MarkedLetters). without_mark (Sym Comma) ∷ without_mark (Word w) ∷ r) q.1.0, q.1.1));
   stays = λ s e. more_behind_comma env w (b.front ++ s) false (Some i) eh eo ∙ ap (with_further i) (b.stays s e);
 }
 
@@ -167,18 +167,18 @@ list_traces env = traces_bind (read_name env) (λ i ls. with_further i (read_mor
 -- ---- what stands behind `|`, up to `)`
 
 abbrev pub spell_inner : Environment → WrittenList → MarkedLetters → MarkedLetters
-spell_inner env c k = spell_list env c (unmarked (Sym RightParen) ∷ k)
+spell_inner env c k = spell_list env c (without_mark (Sym RightParen) ∷ k)
 
 abbrev inner_list : Environment → List Letter → Reads ℕ
 inner_list env ls = read_list env ls >>= λ c. close_paren c.0 c.1
 
 inner_traces : (env : Environment) → Traces (inner_list env) (spell_inner env) (list_set env)
-inner_traces env = traces_bind (read_list env) close_paren (inner_list env) (spell_list env) (λ x (u : Unit {0}) k. unmarked (Sym RightParen) ∷ k) (spell_inner env) (list_set env) (λ x u. x) (list_set env) (λ c u. c)
+inner_traces env = traces_bind (read_list env) close_paren (inner_list env) (spell_list env) (λ x (u : Unit {0}) k. without_mark (Sym RightParen) ∷ k) (spell_inner env) (list_set env) (λ x u. x) (list_set env) (λ c u. c)
     (record { is = λ ls. refl; spells = λ y z k. refl; value = λ y z. refl; some = tt; first = list_traces env; second = closed_traces })
 
 abbrev pub spell_given : Environment → Option WrittenList → MarkedLetters → MarkedLetters
-spell_given env None k = unmarked (Sym RightParen) ∷ k
-spell_given env (Some c) k = unmarked (Sym Bar) ∷ spell_inner env c k
+spell_given env None k = without_mark (Sym RightParen) ∷ k
+spell_given env (Some c) k = without_mark (Sym Bar) ∷ spell_inner env c k
 
 abbrev pub given_set : Environment → Option WrittenList → ℕ
 given_set env None = 0
@@ -216,8 +216,8 @@ entropy_inner_traces env = traces_bind (read_list env) (λ a ls. read_given_set 
     (record { is = λ ls. refl; spells = λ y z k. refl; value = λ y z. refl; some = None; first = list_traces env; second = λ a. traces_map (read_given_set env) (Entropy a) (spell_given env) (given_set env) (given_traces env) })
 
 -- an entropy behind its `H`
-pub entropy_traces : (env : Environment) → Traces (read_entropy env) (λ p k. unmarked (Sym LeftParen) ∷ spell_pair env p k) (entropy_of env)
+pub entropy_traces : (env : Environment) → Traces (read_entropy env) (λ p k. without_mark (Sym LeftParen) ∷ spell_pair env p k) (entropy_of env)
 unfolding read_entropy open_paren some_list
-entropy_traces env (Sym LeftParen ∷ ls) = letter_then (read_entropy env) (entropy_inner env) (Sym LeftParen) (spell_pair env) (λ p k. unmarked (Sym LeftParen) ∷ spell_pair env p k) (entropy_of env) (entropy_of env) (λ p. p) ls (λ s. refl) (λ z k. refl) (λ z. refl) (entropy_inner env ls) (entropy_inner_traces env ls)
-entropy_traces env [] = stuck_none (read_entropy env) (λ p k. unmarked (Sym LeftParen) ∷ spell_pair env p k) (some_list, None) refl
-entropy_traces env (l ∷ ls) = stuck_here (read_entropy env) (λ p k. unmarked (Sym LeftParen) ∷ spell_pair env p k) (some_list, None) l ls _ (λ s. refl) refl
+entropy_traces env (Sym LeftParen ∷ ls) = letter_then (read_entropy env) (entropy_inner env) (Sym LeftParen) (spell_pair env) (λ p k. without_mark (Sym LeftParen) ∷ spell_pair env p k) (entropy_of env) (entropy_of env) (λ p. p) ls (λ s. refl) (λ z k. refl) (λ z. refl) (entropy_inner env ls) (entropy_inner_traces env ls)
+entropy_traces env [] = stuck_none (read_entropy env) (λ p k. without_mark (Sym LeftParen) ∷ spell_pair env p k) (some_list, None) refl
+entropy_traces env (l ∷ ls) = stuck_here (read_entropy env) (λ p k. without_mark (Sym LeftParen) ∷ spell_pair env p k) (some_list, None) l ls _ (λ s. refl) refl

@@ -2,7 +2,7 @@
 use Rattle.std.proofs.Common.{◌≡◌, List, [], ◌∷◌, ◌++◌, Option, Some, None, Ok, Err, refl, sym, ap, ◌∙◌, subst, inl, inr, ◌⊎◌, append_assoc}
 use Rattle.std.proofs.lemmas.List.{append_cancel_right}
 use Rattle.it_syntax.specs.declared.types.Code.{Code}
-use Rattle.it_syntax.specs.Letters.{Letter, MarkedLetters, unmarked, letters, unmarked_all}
+use Rattle.it_syntax.specs.Letters.{Letter, MarkedLetters, without_mark, letters, without_marks}
 use Rattle.it_syntax.specs.FirstFault.{head, own_code, MarkedAt, FirstFault}
 use Rattle.it_syntax.specs.AtomReading.{Fault, Reads}
 use Rattle.it_syntax.proofs.Traces.{Why, Went, Stuck, By, Traces, cleaned_append}
@@ -12,13 +12,13 @@ pub letters_append : (m n : MarkedLetters) → letters (m ++ n) ≡ letters m ++
 letters_append [] n = refl
 letters_append (x ∷ m) n = ap (λ (t : List Letter). x.0 ∷ t) (letters_append m n)
 
-pub letters_cleaned : (p : List Letter) → letters (unmarked_all p) ≡ p
+pub letters_cleaned : (p : List Letter) → letters (without_marks p) ≡ p
 letters_cleaned [] = refl
 letters_cleaned (l ∷ p) = ap (λ (t : List Letter). l ∷ t) (letters_cleaned p)
 
 -- the letters of a spelling behind letters that nothing is said against
-pub letters_behind : (p : List Letter) (m : MarkedLetters) → letters (unmarked_all p ++ m) ≡ p ++ letters m
-letters_behind p m = letters_append (unmarked_all p) m ∙ ap (λ (t : List Letter). t ++ letters m) (letters_cleaned p)
+pub letters_behind : (p : List Letter) (m : MarkedLetters) → letters (without_marks p ++ m) ≡ p ++ letters m
+letters_behind p m = letters_append (without_marks p) m ∙ ap (λ (t : List Letter). t ++ letters m) (letters_cleaned p)
 
 abbrev err_of : {A : Type 0} → Fault → Reads A
 err_of f = Err f
@@ -32,7 +32,7 @@ mark_place m f front q c k e h =
     let q-is : q ≡ k.letter ∷ letters k.rest = sym (ap (λ (t : Fault). t.1) e) ∙ k.left in
     let same : k.front ++ q ≡ front ++ q = ap (λ (t : List Letter). k.front ++ t) q-is ∙ sym (letters_behind k.front ((k.letter, Some f.0) ∷ k.rest)) ∙ sym (ap letters k.is) ∙ h in
     let front-is : k.front ≡ front = append_cancel_right k.front front q same in
-    (k.letter, k.rest, k.is ∙ ap (λ (t : List Letter). unmarked_all t ++ ((k.letter, Some f.0) ∷ k.rest)) front-is ∙ ap (λ (t : Fault). unmarked_all front ++ ((k.letter, Some t.0) ∷ k.rest)) e)
+    (k.letter, k.rest, k.is ∙ ap (λ (t : List Letter). without_marks t ++ ((k.letter, Some f.0) ∷ k.rest)) front-is ∙ ap (λ (t : Fault). without_marks front ++ ((k.letter, Some t.0) ∷ k.rest)) e)
 
 each_marked : {A X : Type 0} (f : List Letter → Reads A) (spell : X → MarkedLetters) (value : X → A) → ((x : X) → Answers (f (letters (spell x))) (spell x) (value x) [])
     → (front : List Letter) (c : Code) (q : List Letter) → f (front ++ q) ≡ Err (c, q) → (x : X) → letters (spell x) ≡ front ++ q → MarkedAt (spell x) front c
@@ -46,7 +46,7 @@ each_marked {A} f spell value complete front c q e x h =
 by_at : {A X : Type 0} (f : List Letter → Reads A) (spell : X → MarkedLetters → MarkedLetters) (res : X → A) (ls : List Letter) (t : Reads A) → f ls ≡ t → By f spell res ls (f ls) → By f spell res ls t
 by_at f spell res ls t e b = subst (λ (u : Reads _). By f spell res ls u) e b
 
-why_code : {X : Type 0} (spell : X → MarkedLetters) (x : X) (q : MarkedLetters) (c : Code) (front r : List Letter) → spell x ≡ unmarked_all front ++ q → Why q c r
+why_code : {X : Type 0} (spell : X → MarkedLetters) (x : X) (q : MarkedLetters) (c : Code) (front r : List Letter) → spell x ≡ without_marks front ++ q → Why q c r
     → (own_code r ≡ c) ⊎ ((x : X) × (q : List Letter) × ((head q ≡ head r) × (letters (spell x) ≡ front ++ q)))
 why_code spell x q c front r h (inl o) = inl o
 why_code spell x q c front r h (inr w) = inr (x, letters q, (ap head (ap letters w.2.0) ∙ sym w.2.1, ap letters h ∙ letters_behind front q))
@@ -89,9 +89,9 @@ second_is : (x y : Letter × Option Code) (a b : MarkedLetters) → x ∷ a ≡ 
 second_is x y a b e = let h : x ≡ y = cc in ap (λ (p : Letter × Option Code). p.1) h
 
 -- what nothing is said against isn't marked
-clean_not_marked : (front d : List Letter) (l : Letter) (more : MarkedLetters) (c : Code) → MarkedAt (unmarked_all (front ++ (l ∷ d)) ++ more) front c → ⊥
-clean_not_marked [] d l more c k = let e : None ≡ Some c = second_is (l, None) (k.0, Some c) (unmarked_all d ++ more) k.1 k.2 in absurd cc
-clean_not_marked (x ∷ front) d l more c k = clean_not_marked front d l more c (k.0, k.1, tail_is (x, None) (x, None) (unmarked_all (front ++ (l ∷ d)) ++ more) (unmarked_all front ++ ((k.0, Some c) ∷ k.1)) k.2)
+clean_not_marked : (front d : List Letter) (l : Letter) (more : MarkedLetters) (c : Code) → MarkedAt (without_marks (front ++ (l ∷ d)) ++ more) front c → ⊥
+clean_not_marked [] d l more c k = let e : None ≡ Some c = second_is (l, None) (k.0, Some c) (without_marks d ++ more) k.1 k.2 in absurd cc
+clean_not_marked (x ∷ front) d l more c k = clean_not_marked front d l more c (k.0, k.1, tail_is (x, None) (x, None) (without_marks (front ++ (l ∷ d)) ++ more) (without_marks front ++ ((k.0, Some c) ∷ k.1)) k.2)
   where
     tail_is : (x y : Letter × Option Code) (a b : MarkedLetters) → x ∷ a ≡ y ∷ b → a ≡ b
     tail_is x y a b e = cc
@@ -99,7 +99,7 @@ clean_not_marked (x ∷ front) d l more c k = clean_not_marked front d l more c 
 -- a fault that stands before another's place contradicts it
 no_earlier_fault : {X : Type 0} (spell : X → MarkedLetters) (ls : List Letter) (c e : Code) (r s : List Letter) (f : FirstFault spell ls c r) (g : FirstFault spell ls e s) (l : Letter) (d : List Letter) → g.front ≡ f.front ++ (l ∷ d) → r ≡ l ∷ (d ++ s) → ⊥
 no_earlier_fault spell ls c e r s f g l d front-is r-is =
-    let spelled : spell g.tree ≡ unmarked_all (f.front ++ (l ∷ d)) ++ g.more = g.viable ∙ ap (λ (t : List Letter). unmarked_all t ++ g.more) front-is in
+    let spelled : spell g.tree ≡ without_marks (f.front ++ (l ∷ d)) ++ g.more = g.viable ∙ ap (λ (t : List Letter). without_marks t ++ g.more) front-is in
     let here : letters (spell g.tree) ≡ f.front ++ (l ∷ (d ++ letters g.more)) = ap letters spelled ∙ letters_behind (f.front ++ (l ∷ d)) g.more ∙ append_assoc f.front (l ∷ d) (letters g.more) in
     let k = f.each g.tree (l ∷ (d ++ letters g.more)) (sym (ap head r-is)) here in
     clean_not_marked f.front d l g.more c (k.0, k.1, sym spelled ∙ k.2)
@@ -108,7 +108,7 @@ marks_same : (m : MarkedLetters) (front : List Letter) (c e : Code) → MarkedAt
 marks_same m [] c e j k = let p : Some c ≡ Some e = second_is (j.0, Some c) (k.0, Some e) j.1 k.1 (sym j.2 ∙ k.2) in cc
 marks_same [] (x ∷ front) c e j k = let p = j.2 in absurd cc
 marks_same (y ∷ m) (x ∷ front) c e j k =
-    marks_same m front c e (j.0, j.1, rest_is y (x, None) m (unmarked_all front ++ ((j.0, Some c) ∷ j.1)) j.2) (k.0, k.1, rest_is y (x, None) m (unmarked_all front ++ ((k.0, Some e) ∷ k.1)) k.2)
+    marks_same m front c e (j.0, j.1, rest_is y (x, None) m (without_marks front ++ ((j.0, Some c) ∷ j.1)) j.2) (k.0, k.1, rest_is y (x, None) m (without_marks front ++ ((k.0, Some e) ∷ k.1)) k.2)
   where
     rest_is : (x y : Letter × Option Code) (a b : MarkedLetters) → x ∷ a ≡ y ∷ b → a ≡ b
     rest_is x y a b e = cc
@@ -137,24 +137,24 @@ one_fault spell ls c e r s f g =
 -- ---- what is read is a line without marks, and each such line is read
 
 -- what is read is spelled so
-pub reads_found : {A X : Type 0} (f : List Letter → Reads A) (spell : X → MarkedLetters → MarkedLetters) (res : X → A) → Traces f spell res → (ls : List Letter) (y : A) → f ls ≡ Ok (y, []) → (x : X) × ((spell x [] ≡ unmarked_all ls) × (res x ≡ y))
+pub reads_found : {A X : Type 0} (f : List Letter → Reads A) (spell : X → MarkedLetters → MarkedLetters) (res : X → A) → Traces f spell res → (ls : List Letter) (y : A) → f ls ≡ Ok (y, []) → (x : X) × ((spell x [] ≡ without_marks ls) × (res x ≡ y))
 reads_found f spell res traces ls y e =
     let w : Went f spell res ls y [] = by_at f spell res ls (Ok (y, [])) e (traces ls) in
-    (w.tree, (w.spells [] ∙ sym (cleaned_append w.front []) ∙ ap unmarked_all (sym w.parts), w.value))
+    (w.tree, (w.spells [] ∙ sym (cleaned_append w.front []) ∙ ap without_marks (sym w.parts), w.value))
 
 -- in letters that nothing is said against is no mark
-pub clean_is_clean : (ls front : List Letter) (c : Code) → MarkedAt (unmarked_all ls) front c → ⊥
+pub clean_is_clean : (ls front : List Letter) (c : Code) → MarkedAt (without_marks ls) front c → ⊥
 clean_is_clean [] [] c k = let e = k.2 in absurd cc
-clean_is_clean (l ∷ ls) [] c k = let e : None ≡ Some c = second_is (l, None) (k.0, Some c) (unmarked_all ls) k.1 k.2 in absurd cc
+clean_is_clean (l ∷ ls) [] c k = let e : None ≡ Some c = second_is (l, None) (k.0, Some c) (without_marks ls) k.1 k.2 in absurd cc
 clean_is_clean [] (x ∷ front) c k = let e = k.2 in absurd cc
-clean_is_clean (l ∷ ls) (x ∷ front) c k = clean_is_clean ls front c (k.0, k.1, tail (unmarked l) (unmarked x) (unmarked_all ls) (unmarked_all front ++ ((k.0, Some c) ∷ k.1)) k.2)
+clean_is_clean (l ∷ ls) (x ∷ front) c k = clean_is_clean ls front c (k.0, k.1, tail (without_mark l) (without_mark x) (without_marks ls) (without_marks front ++ ((k.0, Some c) ∷ k.1)) k.2)
   where
     tail : (x y : Letter × Option Code) (a b : MarkedLetters) → x ∷ a ≡ y ∷ b → a ≡ b
     tail x y a b e = cc
 
 -- what is spelled so is read
 pub reads_only : {A X : Type 0} (f : List Letter → Reads A) (spell : X → MarkedLetters → MarkedLetters) (res : X → A) → ((x : X) → Answers (f (letters (spell x []))) (spell x []) (res x) [])
-    → (x : X) (ls : List Letter) → spell x [] ≡ unmarked_all ls → f ls ≡ Ok (res x, [])
+    → (x : X) (ls : List Letter) → spell x [] ≡ without_marks ls → f ls ≡ Ok (res x, [])
 reads_only f spell res complete x ls e =
     let same : letters (spell x []) ≡ ls = ap letters e ∙ letters_cleaned ls in
     elim (complete x) [

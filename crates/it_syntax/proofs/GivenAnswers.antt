@@ -6,7 +6,7 @@ use Rattle.it_syntax.specs.declared.rest.Divider.TheVariants.{Arrows, Semicolons
 use Rattle.it_syntax.specs.declared.types.Symbol.TheVariants.{Arrow, Semicolon, Bar}
 use Rattle.it_syntax.specs.declared.types.Code.{Code}
 use Rattle.it_syntax.specs.declared.types.Code.TheVariants as codes
-use Rattle.it_syntax.specs.Letters.{Letter, Word, Sym, MarkedLetters, unmarked, letters}
+use Rattle.it_syntax.specs.Letters.{Letter, Word, Sym, MarkedLetters, without_mark, letters}
 use Rattle.it_syntax.specs.WrittenAtoms.{Environment, WrittenList, is_measure, unknown_mark, name_mark, spell_more, spell_list, list_set, mark_surplus}
 use Rattle.it_syntax.specs.WrittenRelations.{Scope, spell_relation, relation_of}
 use Rattle.it_syntax.specs.WrittenGivens.{markov_text, indep_text, func_text, of_text, PlainRelation, WrittenChain, WrittenIndependence, WrittenFunction, WrittenGiven, Relation, Markov, Independent, Function, divider_letter, spell_members, spell_chain, spell_bar, spell_independence, spell_function, spell_given, sets_of, bar_set, chain_of, independence_of, function_of, given_of}
@@ -63,13 +63,13 @@ members_answers n d env [] k none free = no_members n d env k none
 members_answers zero d env (x ∷ xs) k none free =
     let m = mark_surplus (spell_list env x (spell_members zero d env xs k)) in
     let y = sets_of env (x ∷ xs) in
-    subst (λ (o : Option (List Letter)). Answers (if_divided (read_surplus_member env) o (divider_letter d ∷ letters m)) (unmarked (divider_letter d) ∷ m) y k) (sym (behind_is d (letters m)))
+    subst (λ (o : Option (List Letter)). Answers (if_divided (read_surplus_member env) o (divider_letter d ∷ letters m)) (without_mark (divider_letter d) ∷ m) y k) (sym (behind_is d (letters m)))
     (answers_cons (divider_letter d) _ m y k (list_over env x (spell_members zero d env xs k) k y))
 members_answers (suc n) d env (x ∷ xs) k none free =
     let rest = spell_members n d env xs k in
     let m = spell_list env x rest in
     let y = sets_of env (x ∷ xs) in
-    subst (λ (o : Option (List Letter)). Answers (if_divided (member_then (read_members n d env) env) o (divider_letter d ∷ letters m)) (unmarked (divider_letter d) ∷ m) y k) (sym (behind_is d (letters m)))
+    subst (λ (o : Option (List Letter)). Answers (if_divided (member_then (read_members n d env) env) o (divider_letter d ∷ letters m)) (without_mark (divider_letter d) ∷ m) y k) (sym (behind_is d (letters m)))
     (answers_cons (divider_letter d) _ m y k
     (list_then env x (λ a ls. read_members n d env ls >>= λ more. Ok (a ∷ more.0, more.1)) rest k y (no_comma n d env xs k free)
     (answers_bind (read_members n d env (letters rest)) (λ more. Ok (list_set env x ∷ more.0, more.1)) rest k k (sets_of env xs) y (members_answers n d env xs k none free) (answers_ok y k))))
@@ -86,14 +86,14 @@ unfolding read_chain arrow
 chain_answers env x k none free =
     let more = spell_members 13 Arrows env x.more k in
     let third = spell_list env x.third more in
-    let second : MarkedLetters = spell_list env x.second (unmarked (Sym Arrow) ∷ third) in
+    let second : MarkedLetters = spell_list env x.second (without_mark (Sym Arrow) ∷ third) in
     let a = list_set env x.first in
     let b = list_set env x.second in
     let c = list_set env x.third in
     let y = chain_of env x in
-    list_then env x.first (λ a ls. arrow ls >>= λ first. read_list env first >>= λ b. arrow b.1 >>= λ second. read_list env second >>= λ c. with_sets (a ∷ b.0 ∷ c.0 ∷ []) (read_members 13 Arrows env c.1) >>= λ sets. Ok (given_views.Markov sets.0, sets.1)) (unmarked (Sym Arrow) ∷ second) k y tt
+    list_then env x.first (λ a ls. arrow ls >>= λ first. read_list env first >>= λ b. arrow b.1 >>= λ second. read_list env second >>= λ c. with_sets (a ∷ b.0 ∷ c.0 ∷ []) (read_members 13 Arrows env c.1) >>= λ sets. Ok (given_views.Markov sets.0, sets.1)) (without_mark (Sym Arrow) ∷ second) k y tt
     (answers_cons (Sym Arrow) _ second y k
-    (list_then env x.second (λ b ls. arrow ls >>= λ second. read_list env second >>= λ c. with_sets (a ∷ b ∷ c.0 ∷ []) (read_members 13 Arrows env c.1) >>= λ sets. Ok (given_views.Markov sets.0, sets.1)) (unmarked (Sym Arrow) ∷ third) k y tt
+    (list_then env x.second (λ b ls. arrow ls >>= λ second. read_list env second >>= λ c. with_sets (a ∷ b ∷ c.0 ∷ []) (read_members 13 Arrows env c.1) >>= λ sets. Ok (given_views.Markov sets.0, sets.1)) (without_mark (Sym Arrow) ∷ third) k y tt
     (answers_cons (Sym Arrow) _ third y k
     (list_then env x.third (λ c ls. with_sets (a ∷ b ∷ c ∷ []) (read_members 13 Arrows env ls) >>= λ sets. Ok (given_views.Markov sets.0, sets.1)) more k y (no_comma 13 Arrows env x.more k free)
     (answers_bind (with_sets (a ∷ b ∷ c ∷ []) (read_members 13 Arrows env (letters more))) (λ sets. Ok (given_views.Markov sets.0, sets.1)) more k k (a ∷ b ∷ c ∷ sets_of env x.more) y (sets_answers 13 Arrows env (a ∷ b ∷ c ∷ []) x.more k none free) (answers_ok y k))))))
@@ -131,7 +131,7 @@ independence_answers env x k none unbarred free =
     let b = list_set env x.second in
     let cs = a ∷ b ∷ sets_of env x.more in
     let y = independence_of env x in
-    list_then env x.first (λ a ls. semicolon ls >>= λ first. read_list env first >>= λ b. with_sets (a ∷ b.0 ∷ []) (read_members 14 Semicolons env b.1) >>= λ sets. read_bar env sets.1 >>= λ w. Ok (given_views.Independent sets.0 w.0, w.1)) (unmarked (Sym Semicolon) ∷ second) k y tt
+    list_then env x.first (λ a ls. semicolon ls >>= λ first. read_list env first >>= λ b. with_sets (a ∷ b.0 ∷ []) (read_members 14 Semicolons env b.1) >>= λ sets. read_bar env sets.1 >>= λ w. Ok (given_views.Independent sets.0 w.0, w.1)) (without_mark (Sym Semicolon) ∷ second) k y tt
     (answers_cons (Sym Semicolon) _ second y k
     (list_then env x.second (λ b ls. with_sets (a ∷ b ∷ []) (read_members 14 Semicolons env ls) >>= λ sets. read_bar env sets.1 >>= λ w. Ok (given_views.Independent sets.0 w.0, w.1)) more k y (no_comma 14 Semicolons env x.more given (bar_no_comma env x.given k free))
     (answers_bind (with_sets (a ∷ b ∷ []) (read_members 14 Semicolons env (letters more))) (λ sets. read_bar env sets.1 >>= λ w. Ok (given_views.Independent sets.0 w.0, w.1)) more given k cs y (sets_answers 14 Semicolons env (a ∷ b ∷ []) x.more given (bar_no_divider env x.given k none) (bar_no_comma env x.given k free))
@@ -143,7 +143,7 @@ function_answers env x k free =
     let argument = spell_list env x.argument k in
     let z = list_set env x.value in
     let y = function_of env x in
-    list_then env x.value (λ z ls. read_of ls >>= λ behind. read_list env behind >>= λ x. Ok (given_views.Function z x.0, x.1)) (unmarked (Word of_text) ∷ argument) k y tt
+    list_then env x.value (λ z ls. read_of ls >>= λ behind. read_list env behind >>= λ x. Ok (given_views.Function z x.0, x.1)) (without_mark (Word of_text) ∷ argument) k y tt
     (answers_cons (Word of_text) _ argument y k
     (list_then env x.argument (λ x ls. Ok (given_views.Function z x, ls)) k k y free (answers_ok y k)))
 

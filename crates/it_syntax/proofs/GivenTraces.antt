@@ -8,7 +8,7 @@ use Rattle.it_syntax.specs.declared.types.Symbol.TheVariants.{Arrow, Semicolon, 
 use Rattle.it_syntax.specs.declared.types.Code.{Code}
 use Rattle.it_syntax.specs.declared.types.Code.TheVariants as codes
 use Rattle.it_syntax.specs.declared.types.Sign.TheVariants as signs
-use Rattle.it_syntax.specs.Letters.{Letter, Word, Sym, MarkedLetters, unmarked, letters}
+use Rattle.it_syntax.specs.Letters.{Letter, Word, Sym, MarkedLetters, without_mark, letters}
 use Rattle.it_syntax.specs.FirstFault.{head, own_code}
 use Rattle.it_syntax.specs.WrittenAtoms.{Environment, WrittenList, Entropy, EntropyGiven, Mutual, MutualGiven, TermSign, Positive, Negative, is_measure, unknown_mark, name_mark, spell_list, list_set, mark_surplus}
 use Rattle.it_syntax.specs.WrittenRelations.{Scope, Measure, RateOf, WrittenTerm, Zero, Once, Times, WrittenRelation, spell_sum, spell_relation, relation_of}
@@ -145,7 +145,7 @@ abbrev Seconds : Type 0
 Seconds = WrittenList × Members
 
 abbrev spell_third : Environment → Members → MarkedLetters → MarkedLetters
-spell_third env m k = unmarked (Sym Arrow) ∷ spell_member 13 Arrows env m k
+spell_third env m k = without_mark (Sym Arrow) ∷ spell_member 13 Arrows env m k
 
 abbrev spell_second : Environment → Seconds → MarkedLetters → MarkedLetters
 spell_second env m k = spell_list env m.0 (spell_third env m.1 k)
@@ -164,7 +164,7 @@ second_traces env a = traces_bind (read_list env) (λ b ls. arrow ls >>= from_th
     (record { is = λ ls. refl; spells = λ y z k. refl; value = λ y z. refl; some = some_members; first = list_traces env; second = λ b. behind_traces arrow (Sym Arrow) (from_third env a b) (spell_member 13 Arrows env) (third_of env a b) some_members pointed_takes (third_traces env a b) })
 
 abbrev spell_seconds : Environment → Seconds → MarkedLetters → MarkedLetters
-spell_seconds env m k = unmarked (Sym Arrow) ∷ spell_second env m k
+spell_seconds env m k = without_mark (Sym Arrow) ∷ spell_second env m k
 
 chain_made : WrittenList → Seconds → WrittenChain
 chain_made a m = record { first = a; second = m.0; third = m.1.0; more = m.1.1 }
@@ -216,7 +216,7 @@ partner_traces env a = traces_bind (read_list env) (from_others env a) (from_par
     (record { is = λ ls. refl; spells = λ y z k. refl; value = λ y z. refl; some = ([], None); first = list_traces env; second = others_traces env a })
 
 abbrev spell_behind_first : Environment → Partners → MarkedLetters → MarkedLetters
-spell_behind_first env p k = unmarked (Sym Semicolon) ∷ spell_partners env p k
+spell_behind_first env p k = without_mark (Sym Semicolon) ∷ spell_partners env p k
 
 independence_made : WrittenList → Partners → WrittenIndependence
 independence_made a p = record { first = a; second = p.0; more = p.1.0; given = p.1.1 }
@@ -235,7 +235,7 @@ abbrev from_argument : Environment → ℕ → List Letter → Reads GivenView
 from_argument env z ls = read_list env ls >>= λ x. Ok (given_views.Function z x.0, x.1)
 
 abbrev spell_argument : Environment → WrittenList → MarkedLetters → MarkedLetters
-spell_argument env x k = unmarked (Word of_text) ∷ spell_list env x k
+spell_argument env x k = without_mark (Word of_text) ∷ spell_list env x k
 
 function_made : WrittenList → WrittenList → WrittenFunction
 function_made z x = record { value = z; argument = x }
@@ -306,11 +306,11 @@ word_is s w h i j eh ei ej ls = ap (λ (b : Bool). given_by_word s w ls b (bytes
 
 given_line_by : (s : Scope) (w : List ℕ) (ls : List Letter) (h i j : Bool) → bytes_eq w markov_text ≡ h → bytes_eq w indep_text ≡ i → bytes_eq w func_text ≡ j → By (read_given s) (spell_given s) (given_of s) (Word w ∷ ls) (given_by_word s w ls h i j)
 given_line_by s w ls true i j eh ei ej = letter_then (read_given s) (read_chain s.variables) (Word w) (spell_chain s.variables) (spell_given s) (chain_of s.variables) (given_of s) Markov ls (word_is s w true i j eh ei ej)
-    (λ z k. ap (λ (t : List ℕ). unmarked (Word t) ∷ spell_chain s.variables z k) (sym ((bytes_eq-Decides w markov_text).0 eh))) (λ z. refl) (read_chain s.variables ls) (chain_traces s.variables ls)
+    (λ z k. ap (λ (t : List ℕ). without_mark (Word t) ∷ spell_chain s.variables z k) (sym ((bytes_eq-Decides w markov_text).0 eh))) (λ z. refl) (read_chain s.variables ls) (chain_traces s.variables ls)
 given_line_by s w ls false true j eh ei ej = letter_then (read_given s) (read_independence s.variables) (Word w) (spell_independence s.variables) (spell_given s) (independence_of s.variables) (given_of s) Independent ls (word_is s w false true j eh ei ej)
-    (λ z k. ap (λ (t : List ℕ). unmarked (Word t) ∷ spell_independence s.variables z k) (sym ((bytes_eq-Decides w indep_text).0 ei))) (λ z. refl) (read_independence s.variables ls) (independence_traces s.variables ls)
+    (λ z k. ap (λ (t : List ℕ). without_mark (Word t) ∷ spell_independence s.variables z k) (sym ((bytes_eq-Decides w indep_text).0 ei))) (λ z. refl) (read_independence s.variables ls) (independence_traces s.variables ls)
 given_line_by s w ls false false true eh ei ej = letter_then (read_given s) (read_function s.variables) (Word w) (spell_function s.variables) (spell_given s) (function_of s.variables) (given_of s) Function ls (word_is s w false false true eh ei ej)
-    (λ z k. ap (λ (t : List ℕ). unmarked (Word t) ∷ spell_function s.variables z k) (sym ((bytes_eq-Decides w func_text).0 ej))) (λ z. refl) (read_function s.variables ls) (function_traces s.variables ls)
+    (λ z k. ap (λ (t : List ℕ). without_mark (Word t) ∷ spell_function s.variables z k) (sym ((bytes_eq-Decides w func_text).0 ej))) (λ z. refl) (read_function s.variables ls) (function_traces s.variables ls)
 given_line_by s w ls false false false eh ei ej = switch (read_plain s) (read_given s) (spell_given s) (given_of s) (Word w ∷ ls) (for_same_head (λ t. read_given s t ≡ read_plain s t) (Word w) (word_is s w false false false eh ei ej)) (read_plain s (Word w ∷ ls))
     (plain_traces s (Word w ∷ ls) (ap (λ (b : Bool). b || (bytes_eq w indep_text || bytes_eq w func_text)) eh ∙ ap (λ (b : Bool). b || bytes_eq w func_text) ei ∙ ej))
 

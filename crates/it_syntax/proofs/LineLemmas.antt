@@ -3,10 +3,10 @@ use Rattle.std.proofs.Common.{◌≡◌, ℕ, ◌-◌, ◌≤◌, suc, zero, Lis
 use Rattle.it_syntax.specs.declared.types.Token.{Token}
 use Rattle.it_syntax.specs.declared.types.Code.{Code}
 use Rattle.it_syntax.specs.declared.types.LineTokens.{LineTokens}
-use Rattle.it_syntax.specs.Letters.{Letter, End, MarkedLetters, unmarked, letters}
+use Rattle.it_syntax.specs.Letters.{Letter, End, MarkedLetters, without_mark, letters}
 use Rattle.it_syntax.specs.Spans.{letter_of, letters_until, last_letter}
 use Rattle.it_syntax.specs.FirstFault.{FirstFault}
-use Rattle.it_syntax.specs.Lines.{spell_ended, SaysAs, to_end, letters_from, column_of, column_behind, FaultAt}
+use Rattle.it_syntax.specs.Lines.{spell_with_end, SaysAs, to_end, letters_from, column_of, column_behind, FaultAt}
 use Rattle.it_syntax.specs.AtomReading.{Reads}
 use Rattle.it_syntax.proofs.Traces.{Traces}
 use Rattle.it_syntax.proofs.SpelledIsRead.{Answers}
@@ -16,10 +16,10 @@ use Rattle.it_syntax.proofs.FirstFaults.{first_fault, one_fault, reads_found, re
 -- A reader of a language, with what its laws are. `Answers` is asked at the line's end alone.
 pub record IsReader {A X : Type 0} (f : List Letter → Reads A) (spell : X → MarkedLetters → MarkedLetters) (value : X → A) : Type 0 where
   pub traces : Traces f spell value
-  pub answers : (x : X) → Answers (f (letters (spell_ended spell x))) (spell_ended spell x) (value x) (unmarked End ∷ [])
+  pub answers : (x : X) → Answers (f (letters (spell_with_end spell x))) (spell_with_end spell x) (value x) (without_mark End ∷ [])
 
 spell_to_end : {X : Type 0} → (X → MarkedLetters → MarkedLetters) → X → MarkedLetters → MarkedLetters
-spell_to_end spell x k = spell x (unmarked End ∷ k)
+spell_to_end spell x k = spell x (without_mark End ∷ k)
 
 -- what is read is a line
 pub read_says : {A X : Type 0} (f : List Letter → Reads A) (spell : X → MarkedLetters → MarkedLetters) (value : X → A) → IsReader f spell value → (ls : List Letter) (y : A) → to_end f ls ≡ Ok (y, []) → SaysAs spell value ls y
@@ -29,12 +29,12 @@ read_says f spell value h ls y e = reads_found (to_end f) (spell_to_end spell) v
 -- a line is read
 pub says_read : {A X : Type 0} (f : List Letter → Reads A) (spell : X → MarkedLetters → MarkedLetters) (value : X → A) → IsReader f spell value → (ls : List Letter) (y : A) → SaysAs spell value ls y → to_end f ls ≡ Ok (y, [])
 unfolding spell_to_end
-says_read {A} f spell value h ls y s = subst (λ (z : A). to_end f ls ≡ Ok (z, [])) s.1.1 (reads_only (to_end f) (spell_to_end spell) value (λ x. to_end_answers f (spell_ended spell x) [] (value x) (h.answers x)) s.0 ls s.1.0)
+says_read {A} f spell value h ls y s = subst (λ (z : A). to_end f ls ≡ Ok (z, [])) s.1.1 (reads_only (to_end f) (spell_to_end spell) value (λ x. to_end_answers f (spell_with_end spell x) [] (value x) (h.answers x)) s.0 ls s.1.0)
 
 -- where reading stops is the first fault
-pub stops_first : {A X : Type 0} (f : List Letter → Reads A) (spell : X → MarkedLetters → MarkedLetters) (value : X → A) → IsReader f spell value → (ls : List Letter) (c : Code) (r : List Letter) → to_end f ls ≡ Err (c, r) → FirstFault (spell_ended spell) ls c r
+pub stops_first : {A X : Type 0} (f : List Letter → Reads A) (spell : X → MarkedLetters → MarkedLetters) (value : X → A) → IsReader f spell value → (ls : List Letter) (c : Code) (r : List Letter) → to_end f ls ≡ Err (c, r) → FirstFault (spell_with_end spell) ls c r
 unfolding spell_to_end
-stops_first f spell value h ls c r e = first_fault (to_end f) (spell_to_end spell) value (to_end_traces f spell value h.traces) (λ x. to_end_answers f (spell_ended spell x) [] (value x) (h.answers x)) ls c r e
+stops_first f spell value h ls c r e = first_fault (to_end f) (spell_to_end spell) value (to_end_traces f spell value h.traces) (λ x. to_end_answers f (spell_with_end spell x) [] (value x) (h.answers x)) ls c r e
 
 -- ---- one reading, or one fault
 
@@ -52,7 +52,7 @@ pub says_one : {A X : Type 0} (f : List Letter → Reads A) (spell : X → Marke
 says_one f spell value h ls y z s t = same_value y z (sym (says_read f spell value h ls y s) ∙ says_read f spell value h ls z t)
 
 -- what says something has no fault
-pub says_or_faulty : {A X : Type 0} (spell : X → MarkedLetters → MarkedLetters) (value : X → A) (ls r : List Letter) (c : Code) (y : A) → SaysAs spell value ls y → FirstFault (spell_ended spell) ls c r → ⊥
+pub says_or_faulty : {A X : Type 0} (spell : X → MarkedLetters → MarkedLetters) (value : X → A) (ls r : List Letter) (c : Code) (y : A) → SaysAs spell value ls y → FirstFault (spell_with_end spell) ls c r → ⊥
 says_or_faulty spell value ls r c y s f =
     let k = f.each s.0 r refl (ap letters s.1.0 ∙ letters_cleaned ls ∙ f.parts) in
     clean_is_clean ls f.front c (k.0, k.1, sym s.1.0 ∙ k.2)
@@ -95,7 +95,7 @@ left_is line ts from n front r e h =
     suffix_is_of_tokens line ts.tokens.items last (k.0 ++ front) r n (k.1 ∙ ap (λ (q : List Letter). k.0 ++ q) e ∙ sym (append_assoc k.0 front r)) h
 
 -- the fault at the letters r has the place of the token from which they come
-pub fault_at : {X : Type 0} (spell : X → MarkedLetters → MarkedLetters) (line : List ℕ) (ts : LineTokens) (from n : ℕ) (c : Code) (r : List Letter) → FirstFault (spell_ended spell) (letters_from line ts from) c r → length r ≡ suc n
+pub fault_at : {X : Type 0} (spell : X → MarkedLetters → MarkedLetters) (line : List ℕ) (ts : LineTokens) (from n : ℕ) (c : Code) (r : List Letter) → FirstFault (spell_with_end spell) (letters_from line ts from) c r → length r ≡ suc n
     → (n ≤ length ts.tokens.items) × FaultAt spell line ts from (column_of (drop (length ts.tokens.items - n) ts.tokens.items) (column_behind ts.tokens.items ts.misspelling)) c
 fault_at spell line ts from n c r f h =
     let k = left_is line ts from n f.front r f.parts h in (
@@ -103,7 +103,7 @@ fault_at spell line ts from n c r f h =
       record {
         at = length ts.tokens.items - n;
         within = omega arith;
-        first = subst (λ (q : List Letter). FirstFault (spell_ended spell) (letters_from line ts from) c q) k.1 f;
+        first = subst (λ (q : List Letter). FirstFault (spell_with_end spell) (letters_from line ts from) c q) k.1 f;
         place = refl;
       },
     )
@@ -120,7 +120,7 @@ from_length line ts n = until_length line (drop n ts.tokens.items) (last_letter 
 -- two first faults are one
 pub fault_at_one : {X : Type 0} (spell : X → MarkedLetters → MarkedLetters) (line : List ℕ) (ts : LineTokens) (from a b : ℕ) (c d : Code) → FaultAt spell line ts from a c → FaultAt spell line ts from b d → (a ≡ b) × (c ≡ d)
 fault_at_one spell line ts from a b c d f g =
-    let k = one_fault (spell_ended spell) (letters_from line ts from) c d (letters_from line ts f.at) (letters_from line ts g.at) f.first g.first in
+    let k = one_fault (spell_with_end spell) (letters_from line ts from) c d (letters_from line ts f.at) (letters_from line ts g.at) f.first g.first in
     let lengths = sym (from_length line ts f.at) ∙ ap length k.1 ∙ from_length line ts g.at in
     let same : f.at ≡ g.at = omega (arith, lengths, f.within, g.within) in
     (f.place ∙ ap (λ (i : ℕ). column_of (drop i ts.tokens.items) (column_behind ts.tokens.items ts.misspelling)) same ∙ sym g.place, k.0)

@@ -23,7 +23,7 @@ unfolding read_members
 divider_none zero d env ls e = ap (λ (o : Option (List Letter)). if_divided (read_surplus_member env) o ls) e
 divider_none (suc n) d env ls e = ap (λ (o : Option (List Letter)). if_divided (member_then (read_members n d env) env) o ls) e
 
-with_sets_append : (front : List ℕ) (a : ℕ) (r : Reads (List ℕ)) → with_sets front (r >>= λ more. Ok (a ∷ more.0, more.1)) ≡ with_sets (front ++ a ∷ []) r
+pub with_sets_append : (front : List ℕ) (a : ℕ) (r : Reads (List ℕ)) → with_sets front (r >>= λ more. Ok (a ∷ more.0, more.1)) ≡ with_sets (front ++ a ∷ []) r
 with_sets_append front a (Ok x) = ap (λ (sets : List ℕ). Ok (sets, x.1)) (simp append_assoc)
 with_sets_append front a (Err e) = refl
 

@@ -9,7 +9,7 @@ use Rattle.it_syntax.specs.declared.types.TokenKind.{TokenKind}
 use Rattle.it_syntax.specs.declared.types.TokenKind.TheVariants as kinds
 use Rattle.it_syntax.specs.Fronts.{IsLongestRun}
 use Rattle.it_syntax.specs.ReaderSteps.{IsTokenFront}
-use Rattle.it_syntax.specs.Misspellings.{BeginsNothing, IsWrong, Misspelled, SpellsUntil, LineTokensAreOne}
+use Rattle.it_syntax.specs.Misspellings.{BeginsNothing, IsWrong, IsMisspellingAt, SpellsUntil, LineTokensAreOne}
 use Rattle.it_syntax.specs.Spans.{InLine}
 use Rattle.std.specs.Char.{is_ascii_alphabetic, is_ascii_digit}
 use Rattle.it_syntax.specs.Spelling.{is_space, AreAll, StartsWith, Stops, Cut}
@@ -73,20 +73,20 @@ wrong_one codes.Many d body h k = absurd k
 wrong_one codes.Number d body h k = absurd k
 wrong_one c d body h k = absurd h
 
-wrong_run : (at : ℕ) (bytes : List ℕ) (m : Misspelling) (h : Misspelled at bytes m) → IsLongestRun is_space bytes (length h.gap)
+wrong_run : (at : ℕ) (bytes : List ℕ) (m : Misspelling) (h : IsMisspellingAt at bytes m) → IsLongestRun is_space bytes (length h.gap)
 wrong_run at bytes m h = subst (λ (b : List ℕ). IsLongestRun is_space b (length h.gap)) (sym h.whole) (run_of_text is_space h.gap h.body h.blank (wrong_stops m.code h.body h.wrong))
 
-wrong_body : (at : ℕ) (bytes : List ℕ) (m : Misspelling) (h : Misspelled at bytes m) → drop (length h.gap) bytes ≡ h.body
+wrong_body : (at : ℕ) (bytes : List ℕ) (m : Misspelling) (h : IsMisspellingAt at bytes m) → drop (length h.gap) bytes ≡ h.body
 wrong_body at bytes m h = ap (λ (b : List ℕ). drop (length h.gap) b) h.whole ∙ drop_at h.gap h.body (length h.gap) refl
 
-blank_or_wrong : (at : ℕ) (bytes : List ℕ) (m : Misspelling) → Misspelled at bytes m → AreAll is_space bytes → ⊥
+blank_or_wrong : (at : ℕ) (bytes : List ℕ) (m : Misspelling) → IsMisspellingAt at bytes m → AreAll is_space bytes → ⊥
 blank_or_wrong at bytes m h k = none h.body (omega (arith, run_once is_space bytes (length h.gap) (length bytes) (wrong_run at bytes m h) (blank_run is_space bytes k), ap length h.whole, length-append h.gap h.body)) h.wrong
   where
     none : (body : List ℕ) → length body ≡ 0 → IsWrong m.code body → ⊥
     none [] e w = wrong_some m.code w
     none (b ∷ body) e w = omega (arith, e)
 
-token_or_wrong : (at : ℕ) (bytes : List ℕ) (m : Misspelling) (t : Token) (rest : List ℕ) → Misspelled at bytes m → Cut at bytes t rest → ⊥
+token_or_wrong : (at : ℕ) (bytes : List ℕ) (m : Misspelling) (t : Token) (rest : List ℕ) → IsMisspellingAt at bytes m → Cut at bytes t rest → ⊥
 token_or_wrong at bytes m t rest h c =
     let f = found_of at (length h.gap) bytes t rest (wrong_run at bytes m h) c in
     wrong_front m.code t.kind (t.end - t.start) h.body h.wrong (subst (λ (b : List ℕ). IsTokenFront t.kind (t.end - t.start) b) (wrong_body at bytes m h) f.shape)
@@ -94,7 +94,7 @@ token_or_wrong at bytes m t rest h c =
 misspelling_at : ℕ → Code → Misspelling
 misspelling_at column code = record { column = column; code = code }
 
-same_misspelling : (at : ℕ) (bytes : List ℕ) (m k : Misspelling) → Misspelled at bytes m → Misspelled at bytes k → m ≡ k
+same_misspelling : (at : ℕ) (bytes : List ℕ) (m k : Misspelling) → IsMisspellingAt at bytes m → IsMisspellingAt at bytes k → m ≡ k
 unfolding misspelling_at
 same_misspelling at bytes m k h g =
     let gaps : length h.gap ≡ length g.gap = run_once is_space bytes (length h.gap) (length g.gap) (wrong_run at bytes m h) (wrong_run at bytes k g) in

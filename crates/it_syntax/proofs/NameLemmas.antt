@@ -29,7 +29,7 @@ all_fail p (x ∷ xs) h = (h 0 (omega arith), all_fail p xs (λ k lt. h (suc k) 
 pub nowhere_all : (name : List ℕ) (xs : List (List ℕ)) → index_of xs name ≡ None → AllByRecursion (λ y. bytes_eq name y ≡ false) xs
 nowhere_all name xs none = all_fail (bytes_eq name) xs (nowhere_fails (bytes_eq name) xs [] none)
 
-differs_both_ways : (xs ys : List ℕ) → bytes_eq xs ys ≡ false → bytes_eq ys xs ≡ false
+pub differs_both_ways : (xs ys : List ℕ) → bytes_eq xs ys ≡ false → bytes_eq ys xs ≡ false
 differs_both_ways xs ys e = by_test (bytes_eq ys xs) refl
   where
     by_test : (b : Bool) → bytes_eq ys xs ≡ b → b ≡ false

@@ -8,7 +8,7 @@ use Rattle.it_syntax.specs.declared.types.Atom.TheVariants.{Rate}
 use Rattle.it_syntax.specs.declared.types.Term.{Term}
 use Rattle.it_syntax.specs.declared.types.Sign.{Sign}
 use Rattle.it_syntax.specs.declared.types.Sign.TheVariants.{AtLeast, AtMost, Equal}
-use Rattle.it_syntax.specs.Letters.{Letter, Word, Number, Sym, MarkedLetters, unmarked, letters}
+use Rattle.it_syntax.specs.Letters.{Letter, Word, Number, Sym, MarkedLetters, without_mark, letters}
 use Rattle.it_syntax.specs.WrittenAtoms.{Entropy, EntropyGiven, Mutual, MutualGiven, TermSign, Positive, Negative, entropy_text, mutual_text, unknown_mark, index_or, spell_sign, mark_surplus, is_minus}
 use Rattle.it_syntax.specs.WrittenRelations.{Scope, WrittenQuantity, Measure, RateOf, WrittenTerm, Zero, Once, Times, WrittenSum, WrittenRelation, spell_quantity, spell_term, spell_terms, spell_counted, spell_sum, compare_letter, most_terms, number_of_terms, spell_relation, quantity_of, term_of, terms_of, sum_of, relation_of}
 use Rattle.it_syntax.specs.AtomReading.{Reads, ◌>>=◌, read_atom, read_sign}
@@ -177,18 +177,18 @@ sum_answers n s x k free w =
 
 -- ---- relations
 
-compare_answers : (sign : Sign) (k : MarkedLetters) → Answers (read_compare (letters (unmarked (compare_letter sign) ∷ k))) (unmarked (compare_letter sign) ∷ k) sign k
+compare_answers : (sign : Sign) (k : MarkedLetters) → Answers (read_compare (letters (without_mark (compare_letter sign) ∷ k))) (without_mark (compare_letter sign) ∷ k) sign k
 unfolding read_compare
 compare_answers AtLeast k = answers_cons (compare_letter AtLeast) _ k AtLeast k (answers_ok AtLeast k)
 compare_answers AtMost k = answers_cons (compare_letter AtMost) _ k AtMost k (answers_ok AtMost k)
 compare_answers Equal k = answers_cons (compare_letter Equal) _ k Equal k (answers_ok Equal k)
 
-compare_no_sign : (sign : Sign) (k : MarkedLetters) → NoSign (unmarked (compare_letter sign) ∷ k)
+compare_no_sign : (sign : Sign) (k : MarkedLetters) → NoSign (without_mark (compare_letter sign) ∷ k)
 compare_no_sign AtLeast k = tt
 compare_no_sign AtMost k = tt
 compare_no_sign Equal k = tt
 
-compare_no_word : (sign : Sign) (k : MarkedLetters) → NoWord (unmarked (compare_letter sign) ∷ k)
+compare_no_word : (sign : Sign) (k : MarkedLetters) → NoWord (without_mark (compare_letter sign) ∷ k)
 compare_no_word AtLeast k = tt
 compare_no_word AtMost k = tt
 compare_no_word Equal k = tt
@@ -199,7 +199,7 @@ unfolding read_relation
 relation_answers s x k free w =
     let n = most_terms - number_of_terms x.left in
     let r = spell_sum n s x.right k in
-    let m : MarkedLetters = unmarked (compare_letter x.sign) ∷ r in
+    let m : MarkedLetters = without_mark (compare_letter x.sign) ∷ r in
     let left = sum_of s x.left in
     let y = relation_of s x in
     answers_bind (read_sum most_terms s (letters (spell_sum most_terms s x.left m))) (λ left. read_compare left.1 >>= λ sign. read_sum (most_terms - length left.0) s sign.1 >>= λ right. Ok (record { left = left.0; sign = sign.0; right = right.0 }, right.1)) (spell_sum most_terms s x.left m) m k left y

@@ -11,7 +11,7 @@ use Rattle.it_syntax.specs.declared.types.Atom.TheVariants.{Rate}
 use Rattle.it_syntax.specs.declared.types.Term.{Term}
 use Rattle.it_syntax.specs.declared.types.Sign.{Sign}
 use Rattle.it_syntax.specs.declared.types.Sign.TheVariants.{AtLeast, AtMost, Equal}
-use Rattle.it_syntax.specs.Letters.{Letter, Word, Number, Sym, MarkedLetters, unmarked}
+use Rattle.it_syntax.specs.Letters.{Letter, Word, Number, Sym, MarkedLetters, without_mark}
 use Rattle.it_syntax.specs.Meaning.{RelationView}
 use Rattle.it_syntax.specs.FirstFault.{head, own_code}
 use Rattle.it_syntax.specs.WrittenAtoms.{Entropy, Mutual, TermSign, Positive, Negative, entropy_text, mutual_text, is_measure, unknown_mark, index_or, atom_of, spell_list, spell_atom, mark_surplus}
@@ -156,10 +156,10 @@ surplus_term_marked s b l ls t c rest h e = record {
 }
 
 abbrev behind_entropy : Scope → MarkedLetters → MarkedLetters
-behind_entropy s k = unmarked (Sym LeftParen) ∷ spell_list s.variables some_list (unmarked (Sym RightParen) ∷ k)
+behind_entropy s k = without_mark (Sym LeftParen) ∷ spell_list s.variables some_list (without_mark (Sym RightParen) ∷ k)
 
 abbrev behind_mutual : Scope → MarkedLetters → MarkedLetters
-behind_mutual s k = unmarked (Sym LeftParen) ∷ spell_list s.variables some_list (unmarked (Sym Semicolon) ∷ spell_list s.variables some_list (unmarked (Sym RightParen) ∷ k))
+behind_mutual s k = without_mark (Sym LeftParen) ∷ spell_list s.variables some_list (without_mark (Sym Semicolon) ∷ spell_list s.variables some_list (without_mark (Sym RightParen) ∷ k))
 
 surplus_term_by : (s : Scope) (b : Bool) (w : List ℕ) (ls : List Letter) (h i : Bool) (o : Option ℕ) → bytes_eq w entropy_text ≡ h → bytes_eq w mutual_text ≡ i → s.rates w ≡ o → By (read_surplus_term s) (spell_surplus_term s) (term_more_of s b) (Word w ∷ ls) (surplus_term_word w (h || i) o ls)
 surplus_term_by s b w ls true i o eh ei eo =
@@ -230,7 +230,7 @@ sum_traces n s (l ∷ ls) = sum_without_sign n s (l ∷ ls) (for_same_head (λ t
 -- ---- relations
 
 abbrev spell_compare : Sign → MarkedLetters → MarkedLetters
-spell_compare sign k = unmarked (compare_letter sign) ∷ k
+spell_compare sign k = without_mark (compare_letter sign) ∷ k
 
 compare_traces : Traces read_compare spell_compare (λ sign. sign)
 unfolding read_compare

@@ -6,7 +6,7 @@ use Rattle.it_syntax.specs.declared.types.Symbol.TheVariants.{LeftParen, Semicol
 use Rattle.it_syntax.specs.declared.types.Code.TheVariants as codes
 use Rattle.it_syntax.specs.declared.types.Atom.{Atom}
 use Rattle.it_syntax.specs.declared.types.Atom.TheVariants as atoms
-use Rattle.it_syntax.specs.Letters.{Letter, Word, Sym, MarkedLetters, unmarked}
+use Rattle.it_syntax.specs.Letters.{Letter, Word, Sym, MarkedLetters, without_mark}
 use Rattle.it_syntax.specs.WrittenAtoms.{Environment, WrittenList, WrittenAtom, Entropy, EntropyGiven, Mutual, MutualGiven, entropy_text, mutual_text, list_set, atom_of, spell_list, spell_atom}
 use Rattle.it_syntax.specs.AtomReading.{Reads, ◌>>=◌, no_rule, read_list, semicolon, open_paren, read_given_set, read_entropy, read_mutual_information, read_atom}
 use Rattle.it_syntax.proofs.Traces.{By, Traces, traces_bind, traces_map, letter_then}
@@ -18,7 +18,7 @@ abbrev Triple : Type 0
 Triple = WrittenList × Pair
 
 abbrev spell_behind : Environment → Pair → MarkedLetters → MarkedLetters
-spell_behind env p k = unmarked (Sym Semicolon) ∷ spell_pair env p k
+spell_behind env p k = without_mark (Sym Semicolon) ∷ spell_pair env p k
 
 abbrev behind_of : Environment → ℕ → Pair → Atom
 behind_of env a p = atoms.Mutual a (list_set env p.0) (given_set env p.1)
@@ -53,7 +53,7 @@ triple_traces env = traces_bind (read_list env) (behind_first env) (triple_inner
     (record { is = λ ls. refl; spells = λ y z k. refl; value = λ y z. refl; some = (some_list, None); first = list_traces env; second = behind_traces env })
 
 abbrev spell_opened : Environment → Triple → MarkedLetters → MarkedLetters
-spell_opened env t k = unmarked (Sym LeftParen) ∷ spell_triple env t k
+spell_opened env t k = without_mark (Sym LeftParen) ∷ spell_triple env t k
 
 mutual_information_traces : (env : Environment) → Traces (read_mutual_information env) (spell_opened env) (triple_of env)
 unfolding read_mutual_information open_paren
@@ -71,17 +71,17 @@ abbrev mutual_written : Triple → WrittenAtom
 mutual_written (a, (b, None)) = Mutual a b
 mutual_written (a, (b, Some c)) = MutualGiven a b c
 
-entropy_spelled : (env : Environment) (w : List ℕ) → entropy_text ≡ w → (z : Pair) (k : MarkedLetters) → spell_atom env (entropy_written z) k ≡ unmarked (Word w) ∷ unmarked (Sym LeftParen) ∷ spell_pair env z k
-entropy_spelled env w e (a, None) k = ap (λ (t : List ℕ). unmarked (Word t) ∷ unmarked (Sym LeftParen) ∷ spell_pair env (a, None) k) e
-entropy_spelled env w e (a, Some c) k = ap (λ (t : List ℕ). unmarked (Word t) ∷ unmarked (Sym LeftParen) ∷ spell_pair env (a, Some c) k) e
+entropy_spelled : (env : Environment) (w : List ℕ) → entropy_text ≡ w → (z : Pair) (k : MarkedLetters) → spell_atom env (entropy_written z) k ≡ without_mark (Word w) ∷ without_mark (Sym LeftParen) ∷ spell_pair env z k
+entropy_spelled env w e (a, None) k = ap (λ (t : List ℕ). without_mark (Word t) ∷ without_mark (Sym LeftParen) ∷ spell_pair env (a, None) k) e
+entropy_spelled env w e (a, Some c) k = ap (λ (t : List ℕ). without_mark (Word t) ∷ without_mark (Sym LeftParen) ∷ spell_pair env (a, Some c) k) e
 
 entropy_value : (env : Environment) (z : Pair) → atom_of env (entropy_written z) ≡ entropy_of env z
 entropy_value env (a, None) = refl
 entropy_value env (a, Some c) = refl
 
-mutual_spelled : (env : Environment) (w : List ℕ) → mutual_text ≡ w → (z : Triple) (k : MarkedLetters) → spell_atom env (mutual_written z) k ≡ unmarked (Word w) ∷ spell_opened env z k
-mutual_spelled env w e (a, (b, None)) k = ap (λ (t : List ℕ). unmarked (Word t) ∷ spell_opened env (a, (b, None)) k) e
-mutual_spelled env w e (a, (b, Some c)) k = ap (λ (t : List ℕ). unmarked (Word t) ∷ spell_opened env (a, (b, Some c)) k) e
+mutual_spelled : (env : Environment) (w : List ℕ) → mutual_text ≡ w → (z : Triple) (k : MarkedLetters) → spell_atom env (mutual_written z) k ≡ without_mark (Word w) ∷ spell_opened env z k
+mutual_spelled env w e (a, (b, None)) k = ap (λ (t : List ℕ). without_mark (Word t) ∷ spell_opened env (a, (b, None)) k) e
+mutual_spelled env w e (a, (b, Some c)) k = ap (λ (t : List ℕ). without_mark (Word t) ∷ spell_opened env (a, (b, Some c)) k) e
 
 mutual_value : (env : Environment) (z : Triple) → atom_of env (mutual_written z) ≡ triple_of env z
 mutual_value env (a, (b, None)) = refl
@@ -99,7 +99,7 @@ word_is env w s h i eh ei = ap (λ (b : Bool). chosen_atom env w s b (bytes_eq w
 
 atom_by : (env : Environment) (w : List ℕ) (ls : List Letter) (h i : Bool) → bytes_eq w entropy_text ≡ h → bytes_eq w mutual_text ≡ i → By (read_atom env) (spell_atom env) (atom_of env) (Word w ∷ ls) (chosen_atom env w ls h i)
 atom_by env w ls true i eh ei =
-    letter_then (read_atom env) (read_entropy env) (Word w) (λ p k. unmarked (Sym LeftParen) ∷ spell_pair env p k) (spell_atom env) (entropy_of env) (atom_of env) entropy_written ls
+    letter_then (read_atom env) (read_entropy env) (Word w) (λ p k. without_mark (Sym LeftParen) ∷ spell_pair env p k) (spell_atom env) (entropy_of env) (atom_of env) entropy_written ls
     (λ s. word_is env w s true i eh ei) (entropy_spelled env w (sym ((bytes_eq-Decides w entropy_text).0 eh))) (entropy_value env) (read_entropy env ls) (entropy_traces env ls)
 atom_by env w ls false true eh ei =
     letter_then (read_atom env) (read_mutual_information env) (Word w) (spell_opened env) (spell_atom env) (triple_of env) (atom_of env) mutual_written ls

@@ -4,7 +4,7 @@ use Rattle.std.specs.Prelude.{bit_or}
 use Rattle.it_syntax.specs.declared.types.Symbol.TheVariants.{LeftParen, RightParen, Comma, Semicolon, Bar, Plus, Minus}
 use Rattle.it_syntax.specs.declared.types.Code.TheVariants as codes
 use Rattle.it_syntax.specs.declared.types.Atom.TheVariants as atoms
-use Rattle.it_syntax.specs.Letters.{Letter, Word, Sym, MarkedLetters, unmarked, letters, unmarked_all}
+use Rattle.it_syntax.specs.Letters.{Letter, Word, Sym, MarkedLetters, without_mark, letters, without_marks}
 use Rattle.it_syntax.specs.WrittenAtoms.{Environment, WrittenList, WrittenAtom, Entropy, EntropyGiven, Mutual, MutualGiven, TermSign, entropy_text, mutual_text, is_measure, unknown_mark, index_or, more_set, list_set, atom_of, sign_letter, spell_name, spell_more, spell_list, spell_atom, spell_sign}
 use Rattle.it_syntax.proofs.Traces.{cleaned_append}
 use Rattle.it_syntax.specs.AtomReading.{Fault, Reads, ◌>>=◌, variable_or_fault, read_name, read_more, read_list, close_paren, open_paren, semicolon, bar_or_close, read_given_set, read_entropy, read_mutual_information, read_atom}
@@ -12,14 +12,14 @@ use Rattle.it_syntax.specs.AtomReading.{Fault, Reads, ◌>>=◌, variable_or_fau
 -- m is k behind letters that nothing is said against
 pub record Clears (m k : MarkedLetters) : Type 0 where
   pub front : List Letter
-  pub is : m ≡ unmarked_all front ++ k
+  pub is : m ≡ without_marks front ++ k
 
 -- m has its first mark at a place whose fault is f
 pub record Marks (m : MarkedLetters) (f : Fault) : Type 0 where
   pub front : List Letter
   pub letter : Letter
   pub rest : MarkedLetters
-  pub is : m ≡ unmarked_all front ++ ((letter, Some f.0) ∷ rest)
+  pub is : m ≡ without_marks front ++ ((letter, Some f.0) ∷ rest)
   pub left : f.1 ≡ letter ∷ letters rest
 
 -- a reading of m, which spells x and then k: x, or the fault at the first mark before k
@@ -29,14 +29,14 @@ Answers r m x k = ((r ≡ Ok (x, letters k)) × Clears m k) ⊎ ((f : Fault) × 
 passes_none : (k : MarkedLetters) → Clears k k
 passes_none k = record { front = []; is = refl }
 
-passes_cons : (l : Letter) (m k : MarkedLetters) → Clears m k → Clears (unmarked l ∷ m) k
-passes_cons l m k p = record { front = l ∷ p.front; is = ap (λ (q : MarkedLetters). unmarked l ∷ q) p.is }
+passes_cons : (l : Letter) (m k : MarkedLetters) → Clears m k → Clears (without_mark l ∷ m) k
+passes_cons l m k p = record { front = l ∷ p.front; is = ap (λ (q : MarkedLetters). without_mark l ∷ q) p.is }
 
-marks_cons : (l : Letter) (m : MarkedLetters) (f : Fault) → Marks m f → Marks (unmarked l ∷ m) f
-marks_cons l m f p = record { front = l ∷ p.front; letter = p.letter; rest = p.rest; is = ap (λ (q : MarkedLetters). unmarked l ∷ q) p.is; left = p.left }
+marks_cons : (l : Letter) (m : MarkedLetters) (f : Fault) → Marks m f → Marks (without_mark l ∷ m) f
+marks_cons l m f p = record { front = l ∷ p.front; letter = p.letter; rest = p.rest; is = ap (λ (q : MarkedLetters). without_mark l ∷ q) p.is; left = p.left }
 
-append_cleaned : (p q : List Letter) (m n k : MarkedLetters) → m ≡ unmarked_all p ++ n → n ≡ unmarked_all q ++ k → m ≡ unmarked_all (p ++ q) ++ k
-append_cleaned p q m n k g h = g ∙ ap (λ (t : MarkedLetters). unmarked_all p ++ t) h ∙ rw (cleaned_append p q, append_assoc) refl
+append_cleaned : (p q : List Letter) (m n k : MarkedLetters) → m ≡ without_marks p ++ n → n ≡ without_marks q ++ k → m ≡ without_marks (p ++ q) ++ k
+append_cleaned p q m n k g h = g ∙ ap (λ (t : MarkedLetters). without_marks p ++ t) h ∙ rw (cleaned_append p q, append_assoc) refl
 
 passes_then : (m n k : MarkedLetters) → Clears m n → Clears n k → Clears m k
 passes_then m n k p q = record { front = p.front ++ q.front; is = append_cleaned p.front q.front m n k p.is q.is }
@@ -49,7 +49,7 @@ pub answers_ok : {A : Type 0} (x : A) (k : MarkedLetters) → Answers (Ok (x, le
 answers_ok x k = inl (refl, passes_none k)
 
 -- a letter that nothing is said against stands in front
-pub answers_cons : {A : Type 0} (l : Letter) (r : Reads A) (m : MarkedLetters) (x : A) (k : MarkedLetters) → Answers r m x k → Answers r (unmarked l ∷ m) x k
+pub answers_cons : {A : Type 0} (l : Letter) (r : Reads A) (m : MarkedLetters) (x : A) (k : MarkedLetters) → Answers r m x k → Answers r (without_mark l ∷ m) x k
 answers_cons l r m x k (inl a) = inl (a.0, passes_cons l m k a.1)
 answers_cons l r m x k (inr b) = inr (b.0, (b.1.0, marks_cons l m b.0 b.1.1))
 
@@ -109,7 +109,7 @@ list_answers env x k s =
     (name_answers env x.first n)
     (answers_bind (read_more env (letters n)) (λ m. Ok (bit_or (2 ^ index_or (env x.first)) m.0, m.1)) n k k (more_set env x.more) y (more_answers env x.more k s) (answers_ok y k))
 
-close_answers : {A : Type 0} (x : A) (k : MarkedLetters) → Answers (close_paren x (letters (unmarked (Sym RightParen) ∷ k))) (unmarked (Sym RightParen) ∷ k) x k
+close_answers : {A : Type 0} (x : A) (k : MarkedLetters) → Answers (close_paren x (letters (without_mark (Sym RightParen) ∷ k))) (without_mark (Sym RightParen) ∷ k) x k
 unfolding close_paren
 close_answers x k = answers_cons (Sym RightParen) (Ok (x, letters k)) k x k (answers_ok x k)
 
@@ -117,14 +117,14 @@ close_answers x k = answers_cons (Sym RightParen) (Ok (x, letters k)) k x k (ans
 pub list_then : {A : Type 0} (env : Environment) (a : WrittenList) (f : ℕ → List Letter → Reads A) (n k : MarkedLetters) (y : A) → NoComma n → Answers (f (list_set env a) (letters n)) n y k → Answers (read_list env (letters (spell_list env a n)) >>= λ x. f x.0 x.1) (spell_list env a n) y k
 list_then env a f n k y s h = answers_bind (read_list env (letters (spell_list env a n))) (λ x. f x.0 x.1) (spell_list env a n) n k (list_set env a) y (list_answers env a n s) h
 
-given_none : (env : Environment) (k : MarkedLetters) → Answers (read_given_set env (letters (unmarked (Sym RightParen) ∷ k))) (unmarked (Sym RightParen) ∷ k) 0 k
+given_none : (env : Environment) (k : MarkedLetters) → Answers (read_given_set env (letters (without_mark (Sym RightParen) ∷ k))) (without_mark (Sym RightParen) ∷ k) 0 k
 unfolding read_given_set bar_or_close
 given_none env k = answers_cons (Sym RightParen) (Ok (0, letters k)) k 0 k (answers_ok 0 k)
 
-given_some : (env : Environment) (c : WrittenList) (k : MarkedLetters) → Answers (read_given_set env (letters (unmarked (Sym Bar) ∷ spell_list env c (unmarked (Sym RightParen) ∷ k)))) (unmarked (Sym Bar) ∷ spell_list env c (unmarked (Sym RightParen) ∷ k)) (list_set env c) k
+given_some : (env : Environment) (c : WrittenList) (k : MarkedLetters) → Answers (read_given_set env (letters (without_mark (Sym Bar) ∷ spell_list env c (without_mark (Sym RightParen) ∷ k)))) (without_mark (Sym Bar) ∷ spell_list env c (without_mark (Sym RightParen) ∷ k)) (list_set env c) k
 unfolding read_given_set bar_or_close
 given_some env c k =
-    let o : MarkedLetters = unmarked (Sym RightParen) ∷ k in
+    let o : MarkedLetters = without_mark (Sym RightParen) ∷ k in
     answers_cons (Sym Bar) _ (spell_list env c o) (list_set env c) k
     (list_then env c close_paren o k (list_set env c) tt (close_answers (list_set env c) k))
 
@@ -136,28 +136,28 @@ entropy_then env a s n k free g =
     list_then env a (λ z r. read_given_set env r >>= λ c. Ok (atoms.Entropy z c.0, c.1)) n k y free
     (answers_bind (read_given_set env (letters n)) (λ c. Ok (atoms.Entropy (list_set env a) c.0, c.1)) n k k s y g (answers_ok y k))
 
-mutual_information_then : (env : Environment) (a b : WrittenList) (s : ℕ) (n k : MarkedLetters) → NoComma n → Answers (read_given_set env (letters n)) n s k → Answers (read_mutual_information env (Sym LeftParen ∷ letters (spell_list env a (unmarked (Sym Semicolon) ∷ spell_list env b n)))) (spell_list env a (unmarked (Sym Semicolon) ∷ spell_list env b n)) (atoms.Mutual (list_set env a) (list_set env b) s) k
+mutual_information_then : (env : Environment) (a b : WrittenList) (s : ℕ) (n k : MarkedLetters) → NoComma n → Answers (read_given_set env (letters n)) n s k → Answers (read_mutual_information env (Sym LeftParen ∷ letters (spell_list env a (without_mark (Sym Semicolon) ∷ spell_list env b n)))) (spell_list env a (without_mark (Sym Semicolon) ∷ spell_list env b n)) (atoms.Mutual (list_set env a) (list_set env b) s) k
 unfolding read_mutual_information open_paren semicolon
 mutual_information_then env a b s n k free g =
     let x = list_set env a in
     let y = atoms.Mutual x (list_set env b) s in
     let m = spell_list env b n in
-    list_then env a (λ z r. semicolon r >>= λ d. read_list env d >>= λ e. read_given_set env e.1 >>= λ c. Ok (atoms.Mutual z e.0 c.0, c.1)) (unmarked (Sym Semicolon) ∷ m) k y tt
+    list_then env a (λ z r. semicolon r >>= λ d. read_list env d >>= λ e. read_given_set env e.1 >>= λ c. Ok (atoms.Mutual z e.0 c.0, c.1)) (without_mark (Sym Semicolon) ∷ m) k y tt
     (answers_cons (Sym Semicolon) _ m y k
     (list_then env b (λ z r. read_given_set env r >>= λ c. Ok (atoms.Mutual x z c.0, c.1)) n k y free
     (answers_bind (read_given_set env (letters n)) (λ c. Ok (atoms.Mutual x (list_set env b) c.0, c.1)) n k k s y g (answers_ok y k))))
 
 -- behind `H (` and `I (`
-behind : {A : Type 0} (w l : Letter) (r : Reads A) (m : MarkedLetters) (x : A) (k : MarkedLetters) → Answers r m x k → Answers r (unmarked w ∷ unmarked l ∷ m) x k
-behind w l r m x k a = answers_cons w r (unmarked l ∷ m) x k (answers_cons l r m x k a)
+behind : {A : Type 0} (w l : Letter) (r : Reads A) (m : MarkedLetters) (x : A) (k : MarkedLetters) → Answers r m x k → Answers r (without_mark w ∷ without_mark l ∷ m) x k
+behind w l r m x k a = answers_cons w r (without_mark l ∷ m) x k (answers_cons l r m x k a)
 
 -- an entropy or a mutual information
 pub atom_answers : (env : Environment) (x : WrittenAtom) (k : MarkedLetters) → Answers (read_atom env (letters (spell_atom env x k))) (spell_atom env x k) (atom_of env x) k
 unfolding read_atom
-atom_answers env (Entropy a) k = behind (Word entropy_text) (Sym LeftParen) _ _ _ k (entropy_then env a 0 (unmarked (Sym RightParen) ∷ k) k tt (given_none env k))
-atom_answers env (EntropyGiven a c) k = behind (Word entropy_text) (Sym LeftParen) _ _ _ k (entropy_then env a (list_set env c) (unmarked (Sym Bar) ∷ spell_list env c (unmarked (Sym RightParen) ∷ k)) k tt (given_some env c k))
-atom_answers env (Mutual a b) k = behind (Word mutual_text) (Sym LeftParen) _ _ _ k (mutual_information_then env a b 0 (unmarked (Sym RightParen) ∷ k) k tt (given_none env k))
-atom_answers env (MutualGiven a b c) k = behind (Word mutual_text) (Sym LeftParen) _ _ _ k (mutual_information_then env a b (list_set env c) (unmarked (Sym Bar) ∷ spell_list env c (unmarked (Sym RightParen) ∷ k)) k tt (given_some env c k))
+atom_answers env (Entropy a) k = behind (Word entropy_text) (Sym LeftParen) _ _ _ k (entropy_then env a 0 (without_mark (Sym RightParen) ∷ k) k tt (given_none env k))
+atom_answers env (EntropyGiven a c) k = behind (Word entropy_text) (Sym LeftParen) _ _ _ k (entropy_then env a (list_set env c) (without_mark (Sym Bar) ∷ spell_list env c (without_mark (Sym RightParen) ∷ k)) k tt (given_some env c k))
+atom_answers env (Mutual a b) k = behind (Word mutual_text) (Sym LeftParen) _ _ _ k (mutual_information_then env a b 0 (without_mark (Sym RightParen) ∷ k) k tt (given_none env k))
+atom_answers env (MutualGiven a b c) k = behind (Word mutual_text) (Sym LeftParen) _ _ _ k (mutual_information_then env a b (list_set env c) (without_mark (Sym Bar) ∷ spell_list env c (without_mark (Sym RightParen) ∷ k)) k tt (given_some env c k))
 
 -- behind an optional sign
 pub sign_answers : {A : Type 0} (o : Option TermSign) (r : Reads A) (m : MarkedLetters) (x : A) (k : MarkedLetters) → Answers r m x k → Answers r (spell_sign o m) x k

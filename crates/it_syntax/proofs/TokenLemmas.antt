@@ -10,6 +10,7 @@ use Rattle.it_syntax.specs.declared.types.TokenKind.{TokenKind}
 use Rattle.it_syntax.specs.declared.types.TokenKind.TheVariants as kinds
 use Rattle.it_syntax.specs.declared.types.Token.{Token}
 use Rattle.std.specs.Char.{is_ascii_alphabetic, is_ascii_digit}
+use Rattle.it_space.proofs.BoolLemmas.{both_true}
 use Rattle.it_syntax.specs.Spelling.{is_word_byte, is_space, is_greater, AreAll, StartsWith, Stops, IsText, EndsToken, Cut, symbol_text}
 use Rattle.it_syntax.specs.Fronts.{IsLongestRun, symbol_of, starts_with, find_symbol}
 use Rattle.it_syntax.specs.ReaderSteps.{IsTokenFront}
@@ -80,15 +81,11 @@ no_both b h k = grind (arith, nat_tests)
 
 -- ---- symbols
 
-and_both : (a b : Bool) → (a && b) ≡ true → (a ≡ true) × (b ≡ true)
-and_both true b e = (refl, e)
-and_both false b e = absurd cc
-
 starts_is : (text bytes : List ℕ) → starts_with text bytes ≡ true → bytes ≡ text ++ drop (length text) bytes
 starts_is [] bytes e = refl
 starts_is (b ∷ text) [] e = absurd cc
 starts_is (b ∷ text) (c ∷ bytes) e =
-    let both = and_both (b == c) (starts_with text bytes) e in
+    let both = both_true (b == c) (starts_with text bytes) e in
     let same : b ≡ c = (Decides-eqb b c).0 both.0 in
     let rest = starts_is text bytes both.1 in
     rw same (ap (λ (t : List ℕ). c ∷ t) rest)

@@ -1,7 +1,7 @@
 -- What a reading tells of the letters that it looked at: a tree that begins so, and that no letter further on was looked at.
 use Rattle.std.proofs.Common.{◌≡◌, List, [], ◌∷◌, ◌++◌, Some, Ok, Err, refl, sym, ap, ◌∙◌, subst, ◌⊎◌, append_assoc}
 use Rattle.it_syntax.specs.declared.types.Code.{Code}
-use Rattle.it_syntax.specs.Letters.{Letter, MarkedLetters, unmarked, unmarked_all}
+use Rattle.it_syntax.specs.Letters.{Letter, MarkedLetters, without_mark, without_marks}
 use Rattle.it_syntax.specs.FirstFault.{head, own_code}
 use Rattle.it_syntax.specs.AtomReading.{Reads, ◌>>=◌}
 
@@ -16,7 +16,7 @@ pub record Went {A X : Type 0} (f : List Letter → Reads A) (spell : X → Mark
   pub front : List Letter
   pub value : res tree ≡ y
   pub parts : ls ≡ front ++ r
-  pub spells : (k : MarkedLetters) → spell tree k ≡ unmarked_all front ++ k
+  pub spells : (k : MarkedLetters) → spell tree k ≡ without_marks front ++ k
   pub stays : (s : List Letter) → head s ≡ head r → f (front ++ s) ≡ Ok (y, s)
 
 -- It stopped with code c at r: a tree is spelled so up to r, and the same letters stop it whatever follows r's first letter.
@@ -24,7 +24,7 @@ pub record Stuck {A X : Type 0} (f : List Letter → Reads A) (spell : X → Mar
   pub tree : X
   pub front : List Letter
   pub parts : ls ≡ front ++ r
-  pub spells : (k : MarkedLetters) → (q : MarkedLetters) × ((spell tree k ≡ unmarked_all front ++ q) × Why q c r)
+  pub spells : (k : MarkedLetters) → (q : MarkedLetters) × ((spell tree k ≡ without_marks front ++ q) × Why q c r)
   pub stays : (s : List Letter) → head s ≡ head r → f (front ++ s) ≡ Err (c, s)
 
 -- what a result tells
@@ -36,11 +36,11 @@ By f spell res ls (Err e) = Stuck f spell ls e.0 e.1
 abbrev pub Traces : {A X : Type 0} → (List Letter → Reads A) → (X → MarkedLetters → MarkedLetters) → (X → A) → Type 0
 Traces f spell res = (ls : List Letter) → By f spell res ls (f ls)
 
-pub cleaned_append : (p q : List Letter) → unmarked_all (p ++ q) ≡ unmarked_all p ++ unmarked_all q
+pub cleaned_append : (p q : List Letter) → without_marks (p ++ q) ≡ without_marks p ++ without_marks q
 cleaned_append [] q = refl
-cleaned_append (l ∷ p) q = ap (λ (m : MarkedLetters). unmarked l ∷ m) (cleaned_append p q)
+cleaned_append (l ∷ p) q = ap (λ (m : MarkedLetters). without_mark l ∷ m) (cleaned_append p q)
 
-unmarked_all_append : (p q : List Letter) (k : MarkedLetters) → unmarked_all p ++ (unmarked_all q ++ k) ≡ unmarked_all (p ++ q) ++ k
+unmarked_all_append : (p q : List Letter) (k : MarkedLetters) → without_marks p ++ (without_marks q ++ k) ≡ without_marks (p ++ q) ++ k
 unmarked_all_append p q k = rw (cleaned_append p q, append_assoc) refl
 
 head_same : (p s r : List Letter) → head s ≡ head r → head (p ++ s) ≡ head (p ++ r)
@@ -68,14 +68,14 @@ second_then {A} {B} f g h spell_y spell_z spell_x res_y res_z res_x make c ls a 
   front = w.front ++ v.front;
   value = c.value w.tree v.tree ∙ ap (λ (t : A). res_z t v.tree) w.value ∙ v.value;
   parts = w.parts ∙ ap (λ (t : List Letter). w.front ++ t) v.parts ∙ sym (append_assoc w.front v.front x.1);
-  spells = λ k. c.spells w.tree v.tree k ∙ w.spells (spell_z (res_y w.tree) v.tree k) ∙ ap (λ (t : A). unmarked_all w.front ++ spell_z t v.tree k) w.value ∙ ap (λ (t : MarkedLetters). unmarked_all w.front ++ t) (v.spells k) ∙ unmarked_all_append w.front v.front k;
+  spells = λ k. c.spells w.tree v.tree k ∙ w.spells (spell_z (res_y w.tree) v.tree k) ∙ ap (λ (t : A). without_marks w.front ++ spell_z t v.tree k) w.value ∙ ap (λ (t : MarkedLetters). without_marks w.front ++ t) (v.spells k) ∙ unmarked_all_append w.front v.front k;
   stays = λ s e. ap h (append_assoc w.front v.front s) ∙ c.is (w.front ++ (v.front ++ s)) ∙ bind_ok f g w.front a (v.front ++ s) (Ok (x.0, s)) (w.stays (v.front ++ s) (head_same v.front s x.1 e ∙ ap head (sym v.parts))) (v.stays s e);
 }
 second_then {A} {B} f g h spell_y spell_z spell_x res_y res_z res_x make c ls a r w (Err x) v = record {
   tree = make w.tree v.tree;
   front = w.front ++ v.front;
   parts = w.parts ∙ ap (λ (t : List Letter). w.front ++ t) v.parts ∙ sym (append_assoc w.front v.front x.1);
-  spells = λ k. let q = v.spells k in (q.0, (c.spells w.tree v.tree k ∙ w.spells (spell_z (res_y w.tree) v.tree k) ∙ ap (λ (t : A). unmarked_all w.front ++ spell_z t v.tree k) w.value ∙ ap (λ (t : MarkedLetters). unmarked_all w.front ++ t) q.1.0 ∙ unmarked_all_append w.front v.front q.0, q.1.1));
+  spells = λ k. let q = v.spells k in (q.0, (c.spells w.tree v.tree k ∙ w.spells (spell_z (res_y w.tree) v.tree k) ∙ ap (λ (t : A). without_marks w.front ++ spell_z t v.tree k) w.value ∙ ap (λ (t : MarkedLetters). without_marks w.front ++ t) q.1.0 ∙ unmarked_all_append w.front v.front q.0, q.1.1));
   stays = λ s e. ap h (append_assoc w.front v.front s) ∙ c.is (w.front ++ (v.front ++ s)) ∙ bind_ok f g w.front a (v.front ++ s) (Err (x.0, s)) (w.stays (v.front ++ s) (head_same v.front s x.1 e ∙ ap head (sym v.parts))) (v.stays s e);
 }
 
@@ -107,20 +107,20 @@ traces_map f m spell res h ls = map_then f m spell res ls (f ls) (h ls)
 
 -- A clean letter, and then what another reader reads.
 pub letter_then : {A X Z : Type 0} (f g : List Letter → Reads A) (l : Letter) (spell_z : Z → MarkedLetters → MarkedLetters) (spell_x : X → MarkedLetters → MarkedLetters) (res_z : Z → A) (res_x : X → A) (make : Z → X) (ls : List Letter)
-    → ((s : List Letter) → f (l ∷ s) ≡ g s) → ((z : Z) (k : MarkedLetters) → spell_x (make z) k ≡ unmarked l ∷ spell_z z k) → ((z : Z) → res_x (make z) ≡ res_z z) → (t : Reads A) → By g spell_z res_z ls t → By f spell_x res_x (l ∷ ls) t
+    → ((s : List Letter) → f (l ∷ s) ≡ g s) → ((z : Z) (k : MarkedLetters) → spell_x (make z) k ≡ without_mark l ∷ spell_z z k) → ((z : Z) → res_x (make z) ≡ res_z z) → (t : Reads A) → By g spell_z res_z ls t → By f spell_x res_x (l ∷ ls) t
 letter_then f g l spell_z spell_x res_z res_x make ls is spells value (Ok x) w = record {
   tree = make w.tree;
   front = l ∷ w.front;
   value = value w.tree ∙ w.value;
   parts = ap (λ (s : List Letter). l ∷ s) w.parts;
-  spells = λ k. spells w.tree k ∙ ap (λ (q : MarkedLetters). unmarked l ∷ q) (w.spells k);
+  spells = λ k. spells w.tree k ∙ ap (λ (q : MarkedLetters). without_mark l ∷ q) (w.spells k);
   stays = λ s e. is (w.front ++ s) ∙ w.stays s e;
 }
 letter_then f g l spell_z spell_x res_z res_x make ls is spells value (Err x) w = record {
   tree = make w.tree;
   front = l ∷ w.front;
   parts = ap (λ (s : List Letter). l ∷ s) w.parts;
-  spells = λ k. let q = w.spells k in (q.0, (spells w.tree k ∙ ap (λ (q : MarkedLetters). unmarked l ∷ q) q.1.0, q.1.1));
+  spells = λ k. let q = w.spells k in (q.0, (spells w.tree k ∙ ap (λ (q : MarkedLetters). without_mark l ∷ q) q.1.0, q.1.1));
   stays = λ s e. is (w.front ++ s) ∙ w.stays s e;
 }
 

@@ -2,7 +2,7 @@
 use Rattle.std.specs.Prelude.{◌≡◌, ◌⊎◌, List, [], ◌∷◌, ◌++◌, Option, Some, None}
 use Rattle.it_syntax.specs.declared.types.Code.{Code}
 use Rattle.it_syntax.specs.declared.types.Code.TheVariants as codes
-use Rattle.it_syntax.specs.Letters.{Letter, Bad, MarkedLetters, letters, unmarked_all}
+use Rattle.it_syntax.specs.Letters.{Letter, Bad, MarkedLetters, letters, without_marks}
 
 abbrev pub head : List Letter → Option Letter
 head [] = None
@@ -15,7 +15,7 @@ own_code ls = codes.Word
 
 -- the tree's spelling begins with these letters, nothing is said against them, and the next is marked by c
 abbrev pub MarkedAt : MarkedLetters → List Letter → Code → Type 0
-MarkedAt m front c = (l : Letter) × (more : MarkedLetters) × (m ≡ unmarked_all front ++ ((l, Some c) ∷ more))
+MarkedAt m front c = (l : Letter) × (more : MarkedLetters) × (m ≡ without_marks front ++ ((l, Some c) ∷ more))
 
 -- Fault c comes where r is left.
 pub record FirstFault {X : Type 0} (spell : X → MarkedLetters) (ls : List Letter) (c : Code) (r : List Letter) : Type 0 where
@@ -24,7 +24,7 @@ pub record FirstFault {X : Type 0} (spell : X → MarkedLetters) (ls : List Lett
   -- what stands before can go on to a line
   pub tree : X
   pub more : MarkedLetters
-  pub viable : spell tree ≡ unmarked_all front ++ more
+  pub viable : spell tree ≡ without_marks front ++ more
   -- with the letter that stands there no line goes on that the rules don't mark there
   pub each : (x : X) (q : List Letter) → head q ≡ head r → letters (spell x) ≡ front ++ q → MarkedAt (spell x) front c
   -- the code is that mark, or where no line goes on the letter's own

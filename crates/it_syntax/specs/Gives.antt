@@ -7,8 +7,8 @@ use Rattle.it_syntax.specs.AtomReading.{Reads, Fault}
 use Rattle.it_syntax.specs.Spans.{letters_until, last_letter}
 use Rattle.it_syntax.specs.declared.rest.Stop.TheVariants as stops
 
-abbrev pub left : Rest → List Letter
-left r = letters_until r.line.now r.tokens.now (last_letter r.misspelling)
+abbrev pub letters_left : Rest → List Letter
+letters_left r = letters_until r.line.now r.tokens.now (last_letter r.misspelling)
 
 -- the code's reader stopped as reading stops, with `rest` left, unless memory ran out
 abbrev pub StopsAs : {A : Type 0} → Stop → List Letter → Result A Fault → Type 0

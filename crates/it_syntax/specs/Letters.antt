@@ -16,11 +16,11 @@ abbrev pub MarkedLetters : Type 0
 MarkedLetters = List (Letter × Option Code)
 
 -- nothing is said against it
-abbrev pub unmarked : Letter → Letter × Option Code
-unmarked l = (l, None)
+abbrev pub without_mark : Letter → Letter × Option Code
+without_mark l = (l, None)
 
 abbrev pub letters : MarkedLetters → List Letter
 letters m = map (λ (x : Letter × Option Code). x.0) m
 
-abbrev pub unmarked_all : List Letter → MarkedLetters
-unmarked_all ls = map unmarked ls
+abbrev pub without_marks : List Letter → MarkedLetters
+without_marks ls = map without_mark ls

@@ -6,18 +6,18 @@ use Rattle.it_syntax.specs.declared.types.Misspelling.{Misspelling}
 use Rattle.it_syntax.specs.declared.types.LineTokens.{LineTokens}
 use Rattle.it_syntax.specs.declared.types.SyntaxFault.{SyntaxFault}
 use Rattle.it_syntax.specs.declared.types.SyntaxFault.TheVariants.{Memory, Fault}
-use Rattle.it_syntax.specs.Letters.{Letter, End, MarkedLetters, unmarked, unmarked_all}
+use Rattle.it_syntax.specs.Letters.{Letter, End, MarkedLetters, without_mark, without_marks}
 use Rattle.it_syntax.specs.Spans.{letters_until, last_letter}
 use Rattle.it_syntax.specs.FirstFault.{FirstFault}
 use Rattle.it_syntax.specs.AtomReading.{Reads, ◌>>=◌, line_end}
 
 -- the tree, and then the line's end
-abbrev pub spell_ended : {X : Type 0} → (X → MarkedLetters → MarkedLetters) → X → MarkedLetters
-spell_ended spell x = spell x (unmarked End ∷ [])
+abbrev pub spell_with_end : {X : Type 0} → (X → MarkedLetters → MarkedLetters) → X → MarkedLetters
+spell_with_end spell x = spell x (without_mark End ∷ [])
 
 -- these letters are a line that says y, and nothing is said against one
 abbrev pub SaysAs : {X Y : Type 0} → (X → MarkedLetters → MarkedLetters) → (X → Y) → List Letter → Y → Type 0
-SaysAs spell value ls y = (x : _) × ((spell_ended spell x ≡ unmarked_all ls) × (value x ≡ y))
+SaysAs spell value ls y = (x : _) × ((spell_with_end spell x ≡ without_marks ls) × (value x ≡ y))
 
 -- a reader up to the line's end
 unfoldable pub to_end : {A : Type 0} → (List Letter → Reads A) → List Letter → Reads A
@@ -49,7 +49,7 @@ pub record FaultAt {X : Type 0} (spell : X → MarkedLetters → MarkedLetters) 
   -- the number of the token that it comes at, or the number of tokens
   pub at : ℕ
   pub within : at ≤ length ts.tokens.items
-  pub first : FirstFault (spell_ended spell) (letters_from line ts from) code (letters_from line ts at)
+  pub first : FirstFault (spell_with_end spell) (letters_from line ts from) code (letters_from line ts at)
   pub place : column ≡ column_of (drop at ts.tokens.items) (column_behind ts.tokens.items ts.misspelling)
 
 -- of an error: memory ran out, or it is the first fault

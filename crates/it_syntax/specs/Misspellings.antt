@@ -25,7 +25,7 @@ IsWrong codes.Number body = StartsWith is_ascii_digit body × ((n : ℕ) × (IsL
 IsWrong c body = ⊥
 
 -- Behind spaces, a misspelling stands in the bytes from column `at` on.
-pub record Misspelled (at : ℕ) (bytes : List ℕ) (m : Misspelling) : Type 0 where
+pub record IsMisspellingAt (at : ℕ) (bytes : List ℕ) (m : Misspelling) : Type 0 where
   pub gap : List ℕ
   pub body : List ℕ
   pub whole : bytes ≡ gap ++ body
@@ -36,7 +36,7 @@ pub record Misspelled (at : ℕ) (bytes : List ℕ) (m : Misspelling) : Type 0 w
 -- The bytes from column `at` on are these tokens, and then spaces alone or a misspelling.
 abbrev pub SpellsUntil : ℕ → List ℕ → List Token → Option Misspelling → Type 0
 SpellsUntil at bytes [] None = AreAll is_space bytes
-SpellsUntil at bytes [] (Some m) = Misspelled at bytes m
+SpellsUntil at bytes [] (Some m) = IsMisspellingAt at bytes m
 SpellsUntil at bytes (t ∷ ts) m = (rest : List ℕ) × Cut at bytes t rest × SpellsUntil t.end rest ts m
 
 -- a line is one list of tokens with at most one misspelling

@@ -6,7 +6,7 @@ use Rattle.it_syntax.specs.declared.types.Code.{Code}
 use Rattle.it_syntax.specs.declared.types.Code.TheVariants as codes
 use Rattle.it_syntax.specs.declared.types.Atom.{Atom}
 use Rattle.it_syntax.specs.declared.types.Atom.TheVariants as atoms
-use Rattle.it_syntax.specs.Letters.{Letter, Word, Sym, MarkedLetters, unmarked}
+use Rattle.it_syntax.specs.Letters.{Letter, Word, Sym, MarkedLetters, without_mark}
 
 -- which variable a name is
 abbrev pub Environment : Type 0
@@ -53,16 +53,16 @@ spell_name env w k = (Word w, name_mark env w) ∷ k
 
 abbrev pub spell_more : Environment → List (List ℕ) → MarkedLetters → MarkedLetters
 spell_more env [] k = k
-spell_more env (w ∷ ws) k = unmarked (Sym Comma) ∷ spell_name env w (spell_more env ws k)
+spell_more env (w ∷ ws) k = without_mark (Sym Comma) ∷ spell_name env w (spell_more env ws k)
 
 abbrev pub spell_list : Environment → WrittenList → MarkedLetters → MarkedLetters
 spell_list env l k = spell_name env l.first (spell_more env l.more k)
 
 abbrev pub spell_atom : Environment → WrittenAtom → MarkedLetters → MarkedLetters
-spell_atom env (Entropy a) k = unmarked (Word entropy_text) ∷ unmarked (Sym LeftParen) ∷ spell_list env a (unmarked (Sym RightParen) ∷ k)
-spell_atom env (EntropyGiven a c) k = unmarked (Word entropy_text) ∷ unmarked (Sym LeftParen) ∷ spell_list env a (unmarked (Sym Bar) ∷ spell_list env c (unmarked (Sym RightParen) ∷ k))
-spell_atom env (Mutual a b) k = unmarked (Word mutual_text) ∷ unmarked (Sym LeftParen) ∷ spell_list env a (unmarked (Sym Semicolon) ∷ spell_list env b (unmarked (Sym RightParen) ∷ k))
-spell_atom env (MutualGiven a b c) k = unmarked (Word mutual_text) ∷ unmarked (Sym LeftParen) ∷ spell_list env a (unmarked (Sym Semicolon) ∷ spell_list env b (unmarked (Sym Bar) ∷ spell_list env c (unmarked (Sym RightParen) ∷ k)))
+spell_atom env (Entropy a) k = without_mark (Word entropy_text) ∷ without_mark (Sym LeftParen) ∷ spell_list env a (without_mark (Sym RightParen) ∷ k)
+spell_atom env (EntropyGiven a c) k = without_mark (Word entropy_text) ∷ without_mark (Sym LeftParen) ∷ spell_list env a (without_mark (Sym Bar) ∷ spell_list env c (without_mark (Sym RightParen) ∷ k))
+spell_atom env (Mutual a b) k = without_mark (Word mutual_text) ∷ without_mark (Sym LeftParen) ∷ spell_list env a (without_mark (Sym Semicolon) ∷ spell_list env b (without_mark (Sym RightParen) ∷ k))
+spell_atom env (MutualGiven a b c) k = without_mark (Word mutual_text) ∷ without_mark (Sym LeftParen) ∷ spell_list env a (without_mark (Sym Semicolon) ∷ spell_list env b (without_mark (Sym Bar) ∷ spell_list env c (without_mark (Sym RightParen) ∷ k)))
 
 abbrev pub sign_letter : TermSign → Letter
 sign_letter Positive = Sym Plus
@@ -70,7 +70,7 @@ sign_letter Negative = Sym Minus
 
 abbrev pub spell_sign : Option TermSign → MarkedLetters → MarkedLetters
 spell_sign None k = k
-spell_sign (Some s) k = unmarked (sign_letter s) ∷ k
+spell_sign (Some s) k = without_mark (sign_letter s) ∷ k
 
 -- the first letter is one too many, if nothing else is said against it
 abbrev pub mark_surplus : MarkedLetters → MarkedLetters

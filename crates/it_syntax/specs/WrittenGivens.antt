@@ -5,7 +5,7 @@ use Rattle.std.specs.Prelude.{◌≡◌, ℕ, zero, suc, Bool, false, List, [], 
 use Rattle.it_syntax.specs.declared.rest.Divider.{Divider}
 use Rattle.it_syntax.specs.declared.rest.Divider.TheVariants.{Arrows, Semicolons}
 use Rattle.it_syntax.specs.declared.types.Symbol.TheVariants.{Arrow, Semicolon, Bar}
-use Rattle.it_syntax.specs.Letters.{Letter, Word, Sym, MarkedLetters, unmarked}
+use Rattle.it_syntax.specs.Letters.{Letter, Word, Sym, MarkedLetters, without_mark}
 use Rattle.it_syntax.specs.WrittenAtoms.{Environment, WrittenList, TermSign, spell_list, list_set, mark_surplus}
 use Rattle.it_syntax.specs.WrittenRelations.{Scope, WrittenTerm, Once, RateOf, WrittenRelation, spell_relation, relation_of}
 use Rattle.it_syntax.specs.Givens.{GivenView}
@@ -67,29 +67,29 @@ divider_letter Semicolons = Sym Semicolon
 -- further members, of which n are allowed: 16 members in all
 abbrev pub spell_members : ℕ → Divider → Environment → List WrittenList → MarkedLetters → MarkedLetters
 spell_members n d env [] k = k
-spell_members zero d env (l ∷ ls) k = unmarked (divider_letter d) ∷ mark_surplus (spell_list env l (spell_members zero d env ls k))
-spell_members (suc n) d env (l ∷ ls) k = unmarked (divider_letter d) ∷ spell_list env l (spell_members n d env ls k)
+spell_members zero d env (l ∷ ls) k = without_mark (divider_letter d) ∷ mark_surplus (spell_list env l (spell_members zero d env ls k))
+spell_members (suc n) d env (l ∷ ls) k = without_mark (divider_letter d) ∷ spell_list env l (spell_members n d env ls k)
 
 -- three members stand before the further ones
 abbrev pub spell_chain : Environment → WrittenChain → MarkedLetters → MarkedLetters
-spell_chain env x k = spell_list env x.first (unmarked (Sym Arrow) ∷ spell_list env x.second (unmarked (Sym Arrow) ∷ spell_list env x.third (spell_members 13 Arrows env x.more k)))
+spell_chain env x k = spell_list env x.first (without_mark (Sym Arrow) ∷ spell_list env x.second (without_mark (Sym Arrow) ∷ spell_list env x.third (spell_members 13 Arrows env x.more k)))
 
 abbrev pub spell_bar : Environment → Option WrittenList → MarkedLetters → MarkedLetters
 spell_bar env None k = k
-spell_bar env (Some c) k = unmarked (Sym Bar) ∷ spell_list env c k
+spell_bar env (Some c) k = without_mark (Sym Bar) ∷ spell_list env c k
 
 -- and two here
 abbrev pub spell_independence : Environment → WrittenIndependence → MarkedLetters → MarkedLetters
-spell_independence env x k = spell_list env x.first (unmarked (Sym Semicolon) ∷ spell_list env x.second (spell_members 14 Semicolons env x.more (spell_bar env x.given k)))
+spell_independence env x k = spell_list env x.first (without_mark (Sym Semicolon) ∷ spell_list env x.second (spell_members 14 Semicolons env x.more (spell_bar env x.given k)))
 
 abbrev pub spell_function : Environment → WrittenFunction → MarkedLetters → MarkedLetters
-spell_function env x k = spell_list env x.value (unmarked (Word of_text) ∷ spell_list env x.argument k)
+spell_function env x k = spell_list env x.value (without_mark (Word of_text) ∷ spell_list env x.argument k)
 
 abbrev pub spell_given : Scope → WrittenGiven → MarkedLetters → MarkedLetters
 spell_given s (Relation x) k = spell_relation s x.relation k
-spell_given s (Markov x) k = unmarked (Word markov_text) ∷ spell_chain s.variables x k
-spell_given s (Independent x) k = unmarked (Word indep_text) ∷ spell_independence s.variables x k
-spell_given s (Function x) k = unmarked (Word func_text) ∷ spell_function s.variables x k
+spell_given s (Markov x) k = without_mark (Word markov_text) ∷ spell_chain s.variables x k
+spell_given s (Independent x) k = without_mark (Word indep_text) ∷ spell_independence s.variables x k
+spell_given s (Function x) k = without_mark (Word func_text) ∷ spell_function s.variables x k
 
 -- ---- what a tree says
 abbrev pub sets_of : Environment → List WrittenList → List ℕ

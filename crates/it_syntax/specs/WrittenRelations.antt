@@ -9,7 +9,7 @@ use Rattle.it_syntax.specs.declared.types.Term.{Term}
 use Rattle.it_syntax.specs.declared.types.Sign.{Sign}
 use Rattle.it_syntax.specs.declared.types.Sign.TheVariants.{AtLeast, AtMost, Equal}
 use Rattle.it_syntax.specs.Meaning.{RelationView}
-use Rattle.it_syntax.specs.Letters.{Letter, Word, Number, Sym, MarkedLetters, unmarked}
+use Rattle.it_syntax.specs.Letters.{Letter, Word, Number, Sym, MarkedLetters, without_mark}
 use Rattle.it_syntax.specs.WrittenAtoms.{Environment, WrittenAtom, TermSign, is_measure, unknown_mark, spell_atom, sign_letter, spell_sign, mark_surplus, index_or, atom_of, is_negative, is_minus}
 
 -- which variable a name is, and which rate, where rates may stand
@@ -49,15 +49,15 @@ spell_quantity s (Measure a) k = spell_atom s.variables a k
 spell_quantity s (RateOf r) k = (Word r.text, unknown_mark (s.rates r.text)) ∷ k
 
 abbrev pub spell_term : Scope → WrittenTerm → MarkedLetters → MarkedLetters
-spell_term s Zero k = unmarked (Number 0) ∷ k
+spell_term s Zero k = without_mark (Number 0) ∷ k
 spell_term s (Once q) k = spell_quantity s q k
-spell_term s (Times n q) k = unmarked (Number n) ∷ spell_quantity s q k
+spell_term s (Times n q) k = without_mark (Number n) ∷ spell_quantity s q k
 
 -- further terms, of which n are allowed
 abbrev pub spell_terms : ℕ → Scope → List (TermSign × WrittenTerm) → MarkedLetters → MarkedLetters
 spell_terms n s [] k = k
-spell_terms zero s (t ∷ ts) k = unmarked (sign_letter t.0) ∷ mark_surplus (spell_term s t.1 (spell_terms zero s ts k))
-spell_terms (suc n) s (t ∷ ts) k = unmarked (sign_letter t.0) ∷ spell_term s t.1 (spell_terms n s ts k)
+spell_terms zero s (t ∷ ts) k = without_mark (sign_letter t.0) ∷ mark_surplus (spell_term s t.1 (spell_terms zero s ts k))
+spell_terms (suc n) s (t ∷ ts) k = without_mark (sign_letter t.0) ∷ spell_term s t.1 (spell_terms n s ts k)
 
 -- a first term and further ones, n in all
 abbrev pub spell_counted : ℕ → Scope → WrittenTerm → List (TermSign × WrittenTerm) → MarkedLetters → MarkedLetters
@@ -80,7 +80,7 @@ abbrev pub number_of_terms : WrittenSum → ℕ
 number_of_terms e = suc (length e.more)
 
 abbrev pub spell_relation : Scope → WrittenRelation → MarkedLetters → MarkedLetters
-spell_relation s x k = spell_sum most_terms s x.left (unmarked (compare_letter x.sign) ∷ spell_sum (most_terms - number_of_terms x.left) s x.right k)
+spell_relation s x k = spell_sum most_terms s x.left (without_mark (compare_letter x.sign) ∷ spell_sum (most_terms - number_of_terms x.left) s x.right k)
 
 -- ---- what a tree says; 0 stands in for a name that is unknown, which is marked
 abbrev pub quantity_of : Scope → WrittenQuantity → Atom

@@ -1,5 +1,5 @@
 //! Readers of entropies and mutual informations.
-ghost use Rattle.it_syntax.specs.Gives.{Gives, left};
+ghost use Rattle.it_syntax.specs.Gives.{Gives, letters_left};
 ghost use Rattle.it_syntax.specs.ReaderSteps.{Passes};
 ghost use Rattle.it_syntax.specs.AtomReading.{close_paren, open_paren, semicolon, bar_or_close, read_given_set, read_entropy, read_mutual_information, read_atom};
 ghost use Rattle.it_syntax.specs.Scopes.{env_of};
@@ -13,7 +13,7 @@ use it_space::VarSet;
 /// The set, behind which `)` must stand.
 #[tactic(auto, unfolding(crate::specs::AtomReading::close_paren))]
 fn close_paren(set: VarSet, rest: &mut Rest<'_>) -> Result<VarSet, Stop>
-    ensures { Gives result (left rest.new) (close_paren set (left rest.old)) }
+    ensures { Gives result (letters_left rest.new) (close_paren set (letters_left rest.old)) }
 {
     match rest.front() {
         (Piece::Symbol(Symbol::RightParen), behind) => {
@@ -27,7 +27,7 @@ fn close_paren(set: VarSet, rest: &mut Rest<'_>) -> Result<VarSet, Stop>
 /// A `(` that must stand there.
 #[tactic(auto, unfolding(crate::specs::AtomReading::open_paren))]
 fn open_paren(rest: &mut Rest<'_>) -> Result<(), Stop>
-    ensures { Passes result (left rest.new) (open_paren (left rest.old)) }
+    ensures { Passes result (letters_left rest.new) (open_paren (letters_left rest.old)) }
 {
     match rest.front() {
         (Piece::Symbol(Symbol::LeftParen), behind) => {
@@ -41,7 +41,7 @@ fn open_paren(rest: &mut Rest<'_>) -> Result<(), Stop>
 /// A `;` that must stand there.
 #[tactic(auto, unfolding(crate::specs::AtomReading::semicolon))]
 pub fn semicolon(rest: &mut Rest<'_>) -> Result<(), Stop>
-    ensures { Passes result (left rest.new) (semicolon (left rest.old)) }
+    ensures { Passes result (letters_left rest.new) (semicolon (letters_left rest.old)) }
 {
     match rest.front() {
         (Piece::Symbol(Symbol::Semicolon), behind) => {
@@ -55,7 +55,7 @@ pub fn semicolon(rest: &mut Rest<'_>) -> Result<(), Stop>
 /// Whether `|` stands there, and not `)`.
 #[tactic(auto, unfolding(crate::specs::AtomReading::bar_or_close))]
 fn bar_or_close(rest: &mut Rest<'_>) -> Result<bool, Stop>
-    ensures { Gives result (left rest.new) (bar_or_close (left rest.old)) }
+    ensures { Gives result (letters_left rest.new) (bar_or_close (letters_left rest.old)) }
 {
     match rest.front() {
         (Piece::Symbol(Symbol::Bar), behind) => {
@@ -73,7 +73,7 @@ fn bar_or_close(rest: &mut Rest<'_>) -> Result<bool, Stop>
 /// What is given, up to `)`.
 #[tactic(auto, unfolding(crate::specs::AtomReading::read_given_set))]
 fn given_set(rest: &mut Rest<'_>, names: &Names) -> Result<VarSet, Stop>
-    ensures { Gives result (left rest.new) (read_given_set (env_of names.now) (left rest.old)) }
+    ensures { Gives result (letters_left rest.new) (read_given_set (env_of names.now) (letters_left rest.old)) }
 {
     if bar_or_close(rest)? {
         let set = list(rest, names)?;
@@ -86,7 +86,7 @@ fn given_set(rest: &mut Rest<'_>, names: &Names) -> Result<VarSet, Stop>
 /// An entropy, behind its `H`.
 #[tactic(auto, unfolding(crate::specs::AtomReading::read_entropy))]
 fn entropy(rest: &mut Rest<'_>, names: &Names) -> Result<Atom, Stop>
-    ensures { Gives result (left rest.new) (read_entropy (env_of names.now) (left rest.old)) }
+    ensures { Gives result (letters_left rest.new) (read_entropy (env_of names.now) (letters_left rest.old)) }
 {
     open_paren(rest)?;
     let of = list(rest, names)?;
@@ -97,7 +97,7 @@ fn entropy(rest: &mut Rest<'_>, names: &Names) -> Result<Atom, Stop>
 /// A mutual information, behind its `I`.
 #[tactic(auto, unfolding(crate::specs::AtomReading::read_mutual_information))]
 fn mutual_information(rest: &mut Rest<'_>, names: &Names) -> Result<Atom, Stop>
-    ensures { Gives result (left rest.new) (read_mutual_information (env_of names.now) (left rest.old)) }
+    ensures { Gives result (letters_left rest.new) (read_mutual_information (env_of names.now) (letters_left rest.old)) }
 {
     open_paren(rest)?;
     let left = list(rest, names)?;
@@ -110,7 +110,7 @@ fn mutual_information(rest: &mut Rest<'_>, names: &Names) -> Result<Atom, Stop>
 /// An entropy or a mutual information.
 #[tactic(auto, unfolding(crate::specs::AtomReading::read_atom))]
 pub fn atom(rest: &mut Rest<'_>, names: &Names) -> Result<Atom, Stop>
-    ensures { Gives result (left rest.new) (read_atom (env_of names.now) (left rest.old)) }
+    ensures { Gives result (letters_left rest.new) (read_atom (env_of names.now) (letters_left rest.old)) }
 {
     match rest.front() {
         (Piece::Word(word), behind) => {

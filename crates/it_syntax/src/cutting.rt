@@ -1,5 +1,5 @@
 //! The tokens of a line.
-ghost use Rattle.std.specs.Prelude.{◌≡◌, ◌≤◌, ◌<◌, ◌^◌, ℕ, length, drop, Some, None, IfOk, IfErr, IfSome, IfNone, IsSomeAnd};
+ghost use Rattle.std.specs.Prelude.{◌≡◌, ◌≤◌, ◌<◌, ◌^◌, length, drop, Some, None, IfOk, IfErr, IfSome, IfNone, IsSomeAnd};
 ghost use Rattle.it_number.specs.Decimals.{value_from};
 ghost use Rattle.it_syntax.specs.ReaderSteps.{IsTokenFront};
 ghost use Rattle.it_syntax.specs.Misspellings.{IsWrong, SpellsUntil, IsMisspelled};

@@ -5,7 +5,7 @@ ghost use Rattle.it_syntax.specs.Scopes.{scope_of};
 ghost use Rattle.it_syntax.specs.WrittenGivens.{spell_given};
 ghost use Rattle.it_syntax.specs.GivenLines.{IsGiven};
 ghost use Rattle.it_syntax.specs.GivenReading.{arrow, read_of, read_bar, read_chain, read_independence, read_function, read_plain, read_given};
-ghost use Rattle.it_syntax.specs.Gives.{Gives, GivesBy, GivesAll, left};
+ghost use Rattle.it_syntax.specs.Gives.{Gives, GivesBy, GivesAll, letters_left};
 ghost use Rattle.it_syntax.specs.ReaderSteps.{Passes};
 ghost use Rattle.it_syntax.specs.Givens.{given_view, IsGivenOf};
 ghost use Rattle.it_syntax.specs.Lines.{IsFirstFault, to_end};
@@ -39,7 +39,7 @@ const FURTHER_MEMBERS: usize = 14;
 /// A `->` that must stand there.
 #[tactic(auto, unfolding(crate::specs::GivenReading::arrow))]
 fn arrow(rest: &mut Rest<'_>) -> Result<(), Stop>
-    ensures { Passes result (left rest.new) (arrow (left rest.old)) }
+    ensures { Passes result (letters_left rest.new) (arrow (letters_left rest.old)) }
 {
     match rest.front() {
         (Piece::Symbol(Symbol::Arrow), behind) => {
@@ -53,7 +53,7 @@ fn arrow(rest: &mut Rest<'_>) -> Result<(), Stop>
 /// An `of` that must stand there.
 #[tactic(auto, unfolding(crate::specs::GivenReading::read_of))]
 fn word_of(rest: &mut Rest<'_>) -> Result<(), Stop>
-    ensures { Passes result (left rest.new) (read_of (left rest.old)) }
+    ensures { Passes result (letters_left rest.new) (read_of (letters_left rest.old)) }
 {
     match rest.front() {
         (Piece::Word(word), behind) => {
@@ -71,7 +71,7 @@ fn word_of(rest: &mut Rest<'_>) -> Result<(), Stop>
 /// The set behind `|`; the empty set where none stands there.
 #[tactic(auto, unfolding(crate::specs::GivenReading::read_bar))]
 fn bar(rest: &mut Rest<'_>, names: &Names) -> Result<VarSet, Stop>
-    ensures { Gives result (left rest.new) (read_bar (env_of names.now) (left rest.old)) }
+    ensures { Gives result (letters_left rest.new) (read_bar (env_of names.now) (letters_left rest.old)) }
 {
     match rest.front() {
         (Piece::Symbol(Symbol::Bar), behind) => {
@@ -113,7 +113,7 @@ fn two_sets(alloc: Global, first: VarSet, second: VarSet) -> Result<Vec<VarSet>,
 /// A chain, behind its `markov`.
 #[tactic(auto, unfolding(crate::specs::GivenReading::read_chain))]
 fn chain(alloc: Global, rest: &mut Rest<'_>, names: &Names) -> Result<Given, Stop>
-    ensures { GivesBy given_view result (left rest.new) (read_chain (env_of names.now) (left rest.old)) }
+    ensures { GivesBy given_view result (letters_left rest.new) (read_chain (env_of names.now) (letters_left rest.old)) }
 {
     let first = list(rest, names)?;
     arrow(rest)?;
@@ -132,7 +132,7 @@ fn chain(alloc: Global, rest: &mut Rest<'_>, names: &Names) -> Result<Given, Sto
 /// An independence, behind its `indep`.
 #[tactic(auto, unfolding(crate::specs::GivenReading::read_independence))]
 fn independence(alloc: Global, rest: &mut Rest<'_>, names: &Names) -> Result<Given, Stop>
-    ensures { GivesBy given_view result (left rest.new) (read_independence (env_of names.now) (left rest.old)) }
+    ensures { GivesBy given_view result (letters_left rest.new) (read_independence (env_of names.now) (letters_left rest.old)) }
 {
     let first = list(rest, names)?;
     semicolon(rest)?;
@@ -150,7 +150,7 @@ fn independence(alloc: Global, rest: &mut Rest<'_>, names: &Names) -> Result<Giv
 /// A function, behind its `func`.
 #[tactic(auto, unfolding(crate::specs::GivenReading::read_function))]
 fn function(rest: &mut Rest<'_>, names: &Names) -> Result<Given, Stop>
-    ensures { GivesBy given_view result (left rest.new) (read_function (env_of names.now) (left rest.old)) }
+    ensures { GivesBy given_view result (letters_left rest.new) (read_function (env_of names.now) (letters_left rest.old)) }
 {
     let value = list(rest, names)?;
     word_of(rest)?;
@@ -161,7 +161,7 @@ fn function(rest: &mut Rest<'_>, names: &Names) -> Result<Given, Stop>
 /// A relation without rates.
 #[tactic(auto, unfolding(crate::specs::GivenReading::read_plain))]
 fn plain_relation(alloc: Global, rest: &mut Rest<'_>, names: &Names) -> Result<Given, Stop>
-    ensures { GivesBy given_view result (left rest.new) (read_plain (scope_of names.now false) (left rest.old)) }
+    ensures { GivesBy given_view result (letters_left rest.new) (read_plain (scope_of names.now false) (letters_left rest.old)) }
 {
     let relation = relation_part(alloc, rest, names, false)?;
     Ok(Given::Relation(relation))
@@ -170,7 +170,7 @@ fn plain_relation(alloc: Global, rest: &mut Rest<'_>, names: &Names) -> Result<G
 /// A constraint, without the line's end.
 #[tactic(auto, unfolding(crate::specs::GivenReading::read_given, crate::specs::Scopes::scope_of))]
 pub fn given_part(alloc: Global, rest: &mut Rest<'_>, names: &Names) -> Result<Given, Stop>
-    ensures { GivesBy given_view result (left rest.new) (read_given (scope_of names.now false) (left rest.old)) }
+    ensures { GivesBy given_view result (letters_left rest.new) (read_given (scope_of names.now false) (letters_left rest.old)) }
 {
     match rest.front() {
         (Piece::Word(word), behind) => {
@@ -194,7 +194,7 @@ pub fn given_part(alloc: Global, rest: &mut Rest<'_>, names: &Names) -> Result<G
 /// A constraint, up to the line's end.
 #[tactic(auto, unfolding(crate::specs::Lines::to_end))]
 pub fn given_to_end(alloc: Global, rest: &mut Rest<'_>, names: &Names) -> Result<Given, Stop>
-    ensures { GivesAll given_view result (left rest.new) (to_end (read_given (scope_of names.now false)) (left rest.old)) }
+    ensures { GivesAll given_view result (letters_left rest.new) (to_end (read_given (scope_of names.now false)) (letters_left rest.old)) }
 {
     let given = given_part(alloc, rest, names)?;
     line_end(rest)?;

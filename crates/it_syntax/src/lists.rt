@@ -1,7 +1,7 @@
 //! Readers of names and lists of names.
 ghost use Rattle.std.specs.Bool.{OnTrue, OnFalse};
 ghost use Rattle.std.specs.Prelude.{◌≡◌, ◌<◌, IfSome, OnOk, IfOk, Some, None, length};
-ghost use Rattle.it_syntax.specs.Gives.{Gives, left};
+ghost use Rattle.it_syntax.specs.Gives.{Gives, letters_left};
 ghost use Rattle.it_syntax.specs.AtomReading.{read_name, read_more, read_list};
 ghost use Rattle.it_syntax.specs.ReaderSteps.{after_comma};
 ghost use Rattle.it_syntax.specs.WrittenAtoms.{is_measure};
@@ -37,8 +37,8 @@ pub fn variable(names: &Names, name: &[u8]) -> Option<u8>
 /// The name of a variable, which must stand there, by the variable's number.
 #[tactic(auto, unfolding(crate::specs::AtomReading::read_name))]
 fn name(rest: &mut Rest<'_>, names: &Names) -> Result<u8, Stop>
-    ensures gives { Gives result (left rest.new) (read_name (env_of names.now) (left rest.old)) }
-    ensures shorter { OnOk result (length (left rest.new) < length (left rest.old)) }
+    ensures gives { Gives result (letters_left rest.new) (read_name (env_of names.now) (letters_left rest.old)) }
+    ensures shorter { OnOk result (length (letters_left rest.new) < length (letters_left rest.old)) }
     ensures small { IfOk result (λ i. i < 16) }
 {
     match rest.front() {
@@ -60,9 +60,9 @@ fn name(rest: &mut Rest<'_>, names: &Names) -> Result<u8, Stop>
 
 /// Takes a comma, if one stands there, and says whether.
 fn comma(rest: &mut Rest<'_>) -> bool
-    ensures taken { OnTrue result (after_comma (left rest.old) ≡ Some (left rest.new)) }
-    ensures none { OnFalse result (after_comma (left rest.old) ≡ None) }
-    ensures same { OnFalse result (left rest.new ≡ left rest.old) }
+    ensures taken { OnTrue result (after_comma (letters_left rest.old) ≡ Some (letters_left rest.new)) }
+    ensures none { OnFalse result (after_comma (letters_left rest.old) ≡ None) }
+    ensures same { OnFalse result (letters_left rest.new ≡ letters_left rest.old) }
 {
     match rest.front() {
         (Piece::Symbol(Symbol::Comma), behind) => {
@@ -76,7 +76,7 @@ fn comma(rest: &mut Rest<'_>) -> bool
 /// The set of further names, each behind a comma.
 #[tactic(auto, unfolding(crate::specs::AtomReading::read_more))]
 fn more(rest: &mut Rest<'_>, names: &Names) -> Result<VarSet, Stop>
-    ensures { Gives result (left rest.new) (read_more (env_of names.now) (left rest.old)) }
+    ensures { Gives result (letters_left rest.new) (read_more (env_of names.now) (letters_left rest.old)) }
 {
     let mut set = VarSet::empty();
     while comma(rest) {
@@ -89,7 +89,7 @@ fn more(rest: &mut Rest<'_>, names: &Names) -> Result<VarSet, Stop>
 /// The set of a list of names.
 #[tactic(auto, unfolding(crate::specs::AtomReading::read_list))]
 pub fn list(rest: &mut Rest<'_>, names: &Names) -> Result<VarSet, Stop>
-    ensures { Gives result (left rest.new) (read_list (env_of names.now) (left rest.old)) }
+    ensures { Gives result (letters_left rest.new) (read_list (env_of names.now) (letters_left rest.old)) }
 {
     let first = name(rest, names)?;
     let others = more(rest, names)?;

@@ -3,7 +3,7 @@ ghost use Rattle.std.specs.Bool.{OnTrue, OnFalse};
 ghost use Rattle.std.specs.Prelude.{◌≡◌, ◌++◌, [], ◌∷◌, Some, None, OnOk, IfErr};
 ghost use Rattle.it_syntax.specs.declared.rest.Stop.TheVariants.{Memory};
 ghost use Rattle.it_syntax.specs.GivenReading.{behind_divider, read_surplus_member, read_members, with_sets};
-ghost use Rattle.it_syntax.specs.Gives.{GivesBy, StopsAs, left};
+ghost use Rattle.it_syntax.specs.Gives.{GivesBy, StopsAs, letters_left};
 ghost use Rattle.it_syntax.specs.Scopes.{env_of};
 
 use crate::lists::{is_measure, list, variable};
@@ -14,9 +14,9 @@ use it_space::VarSet;
 
 /// Takes a divider, if one stands there, and says whether.
 fn is_divided(rest: &mut Rest<'_>, divider: Divider) -> bool
-    ensures taken { OnTrue result (behind_divider divider (left rest.old) ≡ Some (left rest.new)) }
-    ensures none { OnFalse result (behind_divider divider (left rest.old) ≡ None) }
-    ensures same { OnFalse result (left rest.new ≡ left rest.old) }
+    ensures taken { OnTrue result (behind_divider divider (letters_left rest.old) ≡ Some (letters_left rest.new)) }
+    ensures none { OnFalse result (behind_divider divider (letters_left rest.old) ≡ None) }
+    ensures same { OnFalse result (letters_left rest.new ≡ letters_left rest.old) }
 {
     match divider {
         Divider::Arrows => match rest.front() {
@@ -39,7 +39,7 @@ fn is_divided(rest: &mut Rest<'_>, divider: Divider) -> bool
 /// The fault of a member too many.
 #[tactic(auto, unfolding(crate::specs::GivenReading::read_surplus_member))]
 fn surplus_member_fault(rest: &Rest<'_>, names: &Names) -> Stop
-    ensures { StopsAs result (left rest.now) (read_surplus_member (env_of names.now) (left rest.now)) }
+    ensures { StopsAs result (letters_left rest.now) (read_surplus_member (env_of names.now) (letters_left rest.now)) }
 {
     match rest.front() {
         (Piece::Word(word), _) => {
@@ -74,7 +74,7 @@ pub fn members(
     rest: &mut Rest<'_>,
     names: &Names,
 ) -> Result<Vec<VarSet>, Stop>
-    ensures { GivesBy (λ x. x.items) result (left rest.new) (with_sets first.items (read_members most divider (env_of names.now) (left rest.old))) }
+    ensures { GivesBy (λ x. x.items) result (letters_left rest.new) (with_sets first.items (read_members most divider (env_of names.now) (letters_left rest.old))) }
 {
     let mut found = first;
     let mut allowed = most;

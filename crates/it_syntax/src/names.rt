@@ -1,5 +1,5 @@
 //! The names of variables and rates.
-ghost use Rattle.std.specs.Prelude.{◌≡◌, ℕ, ◌<◌, ◌≤◌, ◌++◌, [], ◌∷◌, length, Some, slice_get, OnOk, OnErr, IfOk, IfSome, map};
+ghost use Rattle.std.specs.Prelude.{◌≡◌, ◌<◌, ◌≤◌, ◌++◌, [], ◌∷◌, length, Some, slice_get, OnOk, OnErr, IfOk, IfSome, map};
 ghost use Rattle.it_syntax.specs.NamesViews.{index_of, IsNew, AreNames};
 
 use indexmap::IndexSet;

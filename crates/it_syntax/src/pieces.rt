@@ -2,7 +2,7 @@
 ghost use Rattle.std.specs.Prelude.{◌≡◌, ◌≤◌, length};
 ghost use Rattle.it_syntax.specs.declared.rest.Stop.TheVariants.{Fault};
 ghost use Rattle.it_syntax.specs.FirstFault.{own_code};
-ghost use Rattle.it_syntax.specs.Gives.{left};
+ghost use Rattle.it_syntax.specs.Gives.{letters_left};
 ghost use Rattle.it_syntax.specs.ReaderSteps.{HasLength, with_front};
 ghost use Rattle.it_syntax.specs.ReaderSteps.{token_text};
 
@@ -21,7 +21,7 @@ fn text<'a>(line: &'a [u8], token: &Token) -> &'a [u8]
 impl<'a> Rest<'a> {
     /// The first piece, and what is behind it; nothing is behind the end or a misspelling. A word has 1 to 16 bytes.
     pub fn front(self) -> (Piece<'a>, Rest<'a>)
-        ensures front { left self.entry ≡ with_front result.0 (left result.1) }
+        ensures front { letters_left self.entry ≡ with_front result.0 (letters_left result.1) }
         ensures length { HasLength result.0 }
     {
         match self.tokens {
@@ -49,7 +49,7 @@ impl<'a> Rest<'a> {
 
     /// The fault at the first piece where no rule goes on: its own, if it is a misspelling.
     pub fn fault(self) -> Stop
-        ensures { result ≡ Fault (own_code (left self.entry)) }
+        ensures { result ≡ Fault (own_code (letters_left self.entry)) }
     {
         match self.front() {
             (Piece::Bad(code), _) => Stop::Fault(code),

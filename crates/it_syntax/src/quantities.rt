@@ -3,7 +3,7 @@ ghost use Rattle.std.specs.Prelude.{◌≡◌};
 ghost use Rattle.it_syntax.specs.AtomReading.{read_atom};
 ghost use Rattle.it_syntax.specs.Scopes.{scope_of};
 ghost use Rattle.it_syntax.specs.RelationReading.{read_quantity, after_number, read_term, read_surplus_term};
-ghost use Rattle.it_syntax.specs.Gives.{Gives, StopsAs, left};
+ghost use Rattle.it_syntax.specs.Gives.{Gives, StopsAs, letters_left};
 
 use crate::atoms::atom;
 use crate::lists::is_measure;
@@ -22,7 +22,7 @@ fn rate(names: &Names, rates: bool, name: &[u8]) -> Option<u8>
 /// An entropy or a mutual information.
 #[tactic(auto, unfolding(crate::specs::Scopes::scope_of))]
 fn measure(rest: &mut Rest<'_>, names: &Names, rates: bool) -> Result<Atom, Stop>
-    ensures { Gives result (left rest.new) (read_atom (scope_of names.now rates).variables (left rest.old)) }
+    ensures { Gives result (letters_left rest.new) (read_atom (scope_of names.now rates).variables (letters_left rest.old)) }
 {
     let _ = rates;
     atom(rest, names)
@@ -31,7 +31,7 @@ fn measure(rest: &mut Rest<'_>, names: &Names, rates: bool) -> Result<Atom, Stop
 /// An entropy, a mutual information or a rate.
 #[tactic(auto, unfolding(crate::specs::RelationReading::read_quantity))]
 fn quantity(rest: &mut Rest<'_>, names: &Names, rates: bool) -> Result<Atom, Stop>
-    ensures { Gives result (left rest.new) (read_quantity (scope_of names.now rates) (left rest.old)) }
+    ensures { Gives result (letters_left rest.new) (read_quantity (scope_of names.now rates) (letters_left rest.old)) }
 {
     match rest.front() {
         (Piece::Word(word), behind) => {
@@ -59,7 +59,7 @@ fn after_number(
     names: &Names,
     rates: bool,
 ) -> Result<Term, Stop>
-    ensures { Gives result (left rest.new) (after_number (scope_of names.now rates) negative number (left rest.old)) }
+    ensures { Gives result (letters_left rest.new) (after_number (scope_of names.now rates) negative number (letters_left rest.old)) }
 {
     match rest.front() {
         (Piece::Word(_), _) => {
@@ -87,7 +87,7 @@ fn after_number(
 /// A term, behind its sign.
 #[tactic(auto, unfolding(crate::specs::RelationReading::read_term))]
 pub fn term(negative: bool, rest: &mut Rest<'_>, names: &Names, rates: bool) -> Result<Term, Stop>
-    ensures { Gives result (left rest.new) (read_term (scope_of names.now rates) negative (left rest.old)) }
+    ensures { Gives result (letters_left rest.new) (read_term (scope_of names.now rates) negative (letters_left rest.old)) }
 {
     match rest.front() {
         (Piece::Number(number), behind) => {
@@ -108,7 +108,7 @@ pub fn term(negative: bool, rest: &mut Rest<'_>, names: &Names, rates: bool) -> 
 /// The fault of a term too many.
 #[tactic(auto, unfolding(crate::specs::RelationReading::read_surplus_term))]
 pub fn surplus_term_fault(rest: &Rest<'_>, names: &Names, rates: bool) -> Stop
-    ensures { StopsAs result (left rest.now) (read_surplus_term (scope_of names.now rates) (left rest.now)) }
+    ensures { StopsAs result (letters_left rest.now) (read_surplus_term (scope_of names.now rates) (letters_left rest.now)) }
 {
     match rest.front() {
         (Piece::Number(_), _) => Stop::Fault(Code::Many),

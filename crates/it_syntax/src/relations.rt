@@ -1,11 +1,11 @@
 //! The reader of a relation between two sums.
-ghost use Rattle.std.specs.Prelude.{◌≡◌, ◌≤◌, length, IfOk, IfErr};
+ghost use Rattle.std.specs.Prelude.{◌≤◌, length, IfOk, IfErr};
 ghost use Rattle.it_syntax.specs.WrittenRelations.{spell_relation};
 ghost use Rattle.it_syntax.specs.RelationLines.{IsRelation};
 ghost use Rattle.it_syntax.specs.Scopes.{scope_of};
 ghost use Rattle.it_syntax.specs.RelationReading.{read_compare, read_relation};
 ghost use Rattle.it_syntax.specs.Givens.{IsRelationOf};
-ghost use Rattle.it_syntax.specs.Gives.{Gives, GivesBy, GivesAll, left};
+ghost use Rattle.it_syntax.specs.Gives.{Gives, GivesBy, GivesAll, letters_left};
 ghost use Rattle.it_syntax.specs.Lines.{IsFirstFault, to_end};
 ghost use Rattle.it_syntax.specs.Meaning.{relation_view};
 ghost use Rattle.it_syntax.specs.AtomReading.{line_end};
@@ -23,7 +23,7 @@ const MOST_TERMS: usize = 256;
 /// A `>=`, `<=` or `=`, which must stand there.
 #[tactic(auto, unfolding(crate::specs::RelationReading::read_compare))]
 fn compare(rest: &mut Rest<'_>) -> Result<Sign, Stop>
-    ensures { Gives result (left rest.new) (read_compare (left rest.old)) }
+    ensures { Gives result (letters_left rest.new) (read_compare (letters_left rest.old)) }
 {
     match rest.front() {
         (Piece::Symbol(Symbol::AtLeast), behind) => {
@@ -50,7 +50,7 @@ pub fn relation_part(
     names: &Names,
     rates: bool,
 ) -> Result<Relation, Stop>
-    ensures { GivesBy relation_view result (left rest.new) (read_relation (scope_of names.now rates) (left rest.old)) }
+    ensures { GivesBy relation_view result (letters_left rest.new) (read_relation (scope_of names.now rates) (letters_left rest.old)) }
 {
     let left = sum(alloc, MOST_TERMS, rest, names, rates)?;
     let sign = compare(rest)?;
@@ -65,7 +65,7 @@ pub fn relation_part(
 /// Whether the line ends there.
 #[tactic(auto, unfolding(crate::specs::AtomReading::line_end))]
 pub fn line_end(rest: &Rest<'_>) -> Result<(), Stop>
-    ensures { GivesAll (λ x. x) result (left rest.now) (line_end (left rest.now)) }
+    ensures { GivesAll (λ x. x) result (letters_left rest.now) (line_end (letters_left rest.now)) }
 {
     match rest.front() {
         (Piece::End, _) => Ok(()),
@@ -81,7 +81,7 @@ pub fn relation_to_end(
     names: &Names,
     rates: bool,
 ) -> Result<Relation, Stop>
-    ensures { GivesAll relation_view result (left rest.new) (to_end (read_relation (scope_of names.now rates)) (left rest.old)) }
+    ensures { GivesAll relation_view result (letters_left rest.new) (to_end (read_relation (scope_of names.now rates)) (letters_left rest.old)) }
 {
     let relation = relation_part(alloc, rest, names, rates)?;
     line_end(rest)?;

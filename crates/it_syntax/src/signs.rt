@@ -1,7 +1,7 @@
 //! Readers of signs, and the terms behind them.
 ghost use Rattle.std.specs.Prelude.{◌≡◌, ◌++◌, [], ◌∷◌, Some, None, MatchOption, OnOk, IfErr};
 ghost use Rattle.it_syntax.specs.declared.rest.Stop.TheVariants.{Memory};
-ghost use Rattle.it_syntax.specs.Gives.{left};
+ghost use Rattle.it_syntax.specs.Gives.{letters_left};
 ghost use Rattle.it_syntax.specs.AtomReading.{read_sign};
 ghost use Rattle.it_syntax.specs.ReaderSteps.{after_sign};
 
@@ -10,7 +10,7 @@ use crate::types::{Symbol, Term};
 
 /// Takes the sign that stands there, and says whether it is `-`; None where none stands there.
 pub fn sign(rest: &mut Rest<'_>) -> Option<bool>
-    ensures { MatchOption result ((after_sign (left rest.old) ≡ None) × (left rest.new ≡ left rest.old)) (λ negative. after_sign (left rest.old) ≡ Some (negative, left rest.new)) }
+    ensures { MatchOption result ((after_sign (letters_left rest.old) ≡ None) × (letters_left rest.new ≡ letters_left rest.old)) (λ negative. after_sign (letters_left rest.old) ≡ Some (negative, letters_left rest.new)) }
 {
     match rest.front() {
         (Piece::Symbol(Symbol::Plus), behind) => {
@@ -28,7 +28,7 @@ pub fn sign(rest: &mut Rest<'_>) -> Option<bool>
 /// Takes a sign, if one stands there, and says whether it is `-`.
 #[tactic(auto, unfolding(crate::specs::AtomReading::read_sign))]
 pub fn first_sign(rest: &mut Rest<'_>) -> bool
-    ensures { (result, left rest.new) ≡ read_sign (left rest.old) }
+    ensures { (result, letters_left rest.new) ≡ read_sign (letters_left rest.old) }
 {
     sign(rest).unwrap_or(false)
 }

@@ -1,8 +1,8 @@
 //! Readers of sums of terms.
-ghost use Rattle.std.specs.Prelude.{◌≡◌, [], ◌∷◌};
+ghost use Rattle.std.specs.Prelude.{[], ◌∷◌};
 ghost use Rattle.it_syntax.specs.Scopes.{scope_of};
 ghost use Rattle.it_syntax.specs.RelationReading.{read_terms, read_counted, read_sum};
-ghost use Rattle.it_syntax.specs.Gives.{GivesBy, left};
+ghost use Rattle.it_syntax.specs.Gives.{GivesBy, letters_left};
 ghost use Rattle.it_syntax.specs.ReaderSteps.{with_terms};
 
 use crate::names::Names;
@@ -21,7 +21,7 @@ fn terms(
     names: &Names,
     rates: bool,
 ) -> Result<Vec<Term>, Stop>
-    ensures { GivesBy (λ x. x.items) result (left rest.new) (with_terms (first ∷ []) (read_terms most (scope_of names.now rates) (left rest.old))) }
+    ensures { GivesBy (λ x. x.items) result (letters_left rest.new) (with_terms (first ∷ []) (read_terms most (scope_of names.now rates) (letters_left rest.old))) }
 {
     let mut found = Vec::new(alloc);
     add(&mut found, first)?;
@@ -49,7 +49,7 @@ fn counted_terms(
     names: &Names,
     rates: bool,
 ) -> Result<Vec<Term>, Stop>
-    ensures { GivesBy (λ x. x.items) result (left rest.new) (read_counted most (scope_of names.now rates) negative (left rest.old)) }
+    ensures { GivesBy (λ x. x.items) result (letters_left rest.new) (read_counted most (scope_of names.now rates) negative (letters_left rest.old)) }
 {
     if most == 0 {
         return Err(surplus_term_fault(rest, names, rates));
@@ -69,7 +69,7 @@ pub fn sum(
     names: &Names,
     rates: bool,
 ) -> Result<Vec<Term>, Stop>
-    ensures { GivesBy (λ x. x.items) result (left rest.new) (read_sum most (scope_of names.now rates) (left rest.old)) }
+    ensures { GivesBy (λ x. x.items) result (letters_left rest.new) (read_sum most (scope_of names.now rates) (letters_left rest.old)) }
 {
     let negative = first_sign(rest);
     counted_terms(alloc, most, negative, rest, names, rates)

@@ -101,7 +101,7 @@ fn a_line_with_anything_else_is_refused_at_its_first_misspelling(rt: HostRuntime
 }
 
 /// The variables X, Y, Z and the rate R.
-pub fn some_names(alloc: Global) -> Result<Names, AllocError> {
+fn some_names(alloc: Global) -> Result<Names, AllocError> {
     let mut names = Names::new(alloc);
     let variables: [&[u8]; 3] = [b"X", b"Y", b"Z"];
     for name in variables {
@@ -137,7 +137,7 @@ fn names_are_found_in_order(rt: HostRuntime) -> Result<(), Fail> {
 }
 
 /// The terms in a line: sign, number, and H or I with the numbers of its sets.
-pub fn text_of(alloc: Global, terms: &[Term]) -> Result<String, Fail> {
+fn text_of(alloc: Global, terms: &[Term]) -> Result<String, Fail> {
     let mut out = String::new(alloc);
     for term in terms {
         let sign = if term.negative { '-' } else { '+' };

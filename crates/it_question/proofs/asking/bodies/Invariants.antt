@@ -1,6 +1,6 @@
 use Rattle.std.proofs.Common.{◌≡◌, map}
 use Rattle.it_question.specs.Bodies.{body_view}
-use Rattle.it_question.specs.Cursors.{left}
+use Rattle.it_question.specs.Cursors.{letters_left}
 use Rattle.it_question.specs.Reading.{read_questions}
 use Rattle.it_question.specs.WrittenQuestions.{most_questions}
 use Rattle.it_question.proofs.QuestionLemmas.{with_questions}
@@ -8,7 +8,7 @@ use Rattle.it_question.proofs.asking.bodies.Given as goal
 
 -- the questions so far with those still read are the whole
 abbrev pub invariant-loop-behind : goal.invariant-loop-behind
-invariant-loop-behind l = with_questions (map body_view l.found.items) (read_questions l.allowed (left l.cursor)) ≡ read_questions most_questions (left l.initial.cursor)
+invariant-loop-behind l = with_questions (map body_view l.found.items) (read_questions l.allowed (letters_left l.cursor)) ≡ read_questions most_questions (letters_left l.initial.cursor)
 
 abbrev pub decreases-loop-behind : goal.decreases-loop-behind
 decreases-loop-behind l = l.allowed

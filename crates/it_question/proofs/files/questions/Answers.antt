@@ -4,7 +4,7 @@ use Rattle.it_syntax.specs.Gives.{StopsAs}
 use Rattle.it_syntax.specs.Letters.{Letter}
 use Rattle.it_syntax.specs.AtomReading.{Reads}
 use Rattle.it_question.specs.Bodies.{body_view}
-use Rattle.it_question.specs.Cursors.{token_line, left}
+use Rattle.it_question.specs.Cursors.{token_line, letters_left}
 use Rattle.it_question.specs.Files.{place_of}
 use Rattle.it_question.specs.Stops.{IsLeft, IfFault, IsStopAt}
 use Rattle.it_question.specs.Lines.{TokenLine, letters_of_lines}
@@ -26,16 +26,16 @@ same_lines : (P : List TokenLine → Type 0) (items lines : List Line) → lines
 same_lines P items lines e h = subst (λ (ls : List Line). P (map token_line ls)) (sym e) h
 
 pub with_texts-requires : goal.with_texts-requires
-with_texts-requires c = bodies_limited c.in-Ok.bodies.items (map token_line c.in_ok-lines.lines.items) (left c.bodies.new.cursor) (begun _ _ _ _ c.at-cursor.ensures c.as_slice.ensures.value c.in-Ok.ensures)
+with_texts-requires c = bodies_limited c.in-Ok.bodies.items (map token_line c.in_ok-lines.lines.items) (letters_left c.bodies.new.cursor) (begun _ _ _ _ c.at-cursor.ensures c.as_slice.ensures.value c.in-Ok.ensures)
 
 pub returns-in-Ok-clause-read : goal.returns-in-Ok-clause-read
 returns-in-Ok-clause-read c =
-    file_read c.args.bytes.now (map token_line c.in_ok-lines.lines.items) (map body_view c.in-Ok.bodies.items) (left c.bodies.new.cursor) _ c.in_ok-lines.ensures (begun _ _ _ _ c.at-cursor.ensures c.as_slice.ensures.value c.in-Ok.ensures)
+    file_read c.args.bytes.now (map token_line c.in_ok-lines.lines.items) (map body_view c.in-Ok.bodies.items) (letters_left c.bodies.new.cursor) _ c.in_ok-lines.ensures (begun _ _ _ _ c.at-cursor.ensures c.as_slice.ensures.value c.in-Ok.ensures)
     (c.in_ok-questions-in-Ok.ensures ∙ ap (λ (ls : List Line). with_texts (map token_line ls) (map body_view c.in-Ok.bodies.items)) c.as_slice-in-Ok.ensures.value)
 
 pub returns-in-Ok-clause-limits : goal.returns-in-Ok-clause-limits
 returns-in-Ok-clause-limits c =
-    questions_limited c.in_ok-questions-in-Ok.questions.items (map token_line c.in_ok-lines.lines.items) (map body_view c.in-Ok.bodies.items) (left c.bodies.new.cursor) (begun _ _ _ _ c.at-cursor.ensures c.as_slice.ensures.value c.in-Ok.ensures)
+    questions_limited c.in_ok-questions-in-Ok.questions.items (map token_line c.in_ok-lines.lines.items) (map body_view c.in-Ok.bodies.items) (letters_left c.bodies.new.cursor) (begun _ _ _ _ c.at-cursor.ensures c.as_slice.ensures.value c.in-Ok.ensures)
     (c.in_ok-questions-in-Ok.ensures ∙ ap (λ (ls : List Line). with_texts (map token_line ls) (map body_view c.in-Ok.bodies.items)) c.as_slice-in-Ok.ensures.value)
 
 pub stop_fault-requires-clause-few : goal.stop_fault-requires-clause-few
@@ -43,10 +43,10 @@ stop_fault-requires-clause-few c = same_lines (λ ls. length (letters_of_lines l
     (few_letters c.args.bytes.now (map token_line c.in_ok-lines.lines.items) c.in_ok-lines.ensures c.requires)
 
 pub stop_fault-requires-clause-there : goal.stop_fault-requires-clause-there
-stop_fault-requires-clause-there c = same_lines (λ ls. IfFault c.in-Err.stop (IsLeft ls (left c.bodies.new.cursor))) c.in_ok-lines.lines.items c.as_slice-in-Err.result.now c.as_slice-in-Err.ensures.value
-    (some_left c.args.bytes.now (map token_line c.in_ok-lines.lines.items) c.in-Err.stop (left c.bodies.new.cursor) c.in_ok-lines.ensures (begun_stop c.in_ok-lines.lines.items _ _ c.in-Err.stop (left c.bodies.new.cursor) c.at-cursor.ensures c.as_slice.ensures.value c.in-Err.ensures))
+stop_fault-requires-clause-there c = same_lines (λ ls. IfFault c.in-Err.stop (IsLeft ls (letters_left c.bodies.new.cursor))) c.in_ok-lines.lines.items c.as_slice-in-Err.result.now c.as_slice-in-Err.ensures.value
+    (some_left c.args.bytes.now (map token_line c.in_ok-lines.lines.items) c.in-Err.stop (letters_left c.bodies.new.cursor) c.in_ok-lines.ensures (begun_stop c.in_ok-lines.lines.items _ _ c.in-Err.stop (letters_left c.bodies.new.cursor) c.at-cursor.ensures c.as_slice.ensures.value c.in-Err.ensures))
 
 pub returns-clause-fault : goal.returns-clause-fault
 returns-clause-fault c =
-    first_file_fault c.args.bytes.now (map token_line c.in_ok-lines.lines.items) c.in-Err.stop (left c.bodies.new.cursor) c.stop_fault.result c.in_ok-lines.ensures (begun_stop c.in_ok-lines.lines.items _ _ c.in-Err.stop (left c.bodies.new.cursor) c.at-cursor.ensures c.as_slice.ensures.value c.in-Err.ensures)
-    (subst (λ (ls : List Line). IsStopAt (place_of (map token_line ls) (left c.bodies.new.cursor)) c.in-Err.stop c.stop_fault.result) c.as_slice-in-Err.ensures.value c.stop_fault.ensures)
+    first_file_fault c.args.bytes.now (map token_line c.in_ok-lines.lines.items) c.in-Err.stop (letters_left c.bodies.new.cursor) c.stop_fault.result c.in_ok-lines.ensures (begun_stop c.in_ok-lines.lines.items _ _ c.in-Err.stop (letters_left c.bodies.new.cursor) c.at-cursor.ensures c.as_slice.ensures.value c.in-Err.ensures)
+    (subst (λ (ls : List Line). IsStopAt (place_of (map token_line ls) (letters_left c.bodies.new.cursor)) c.in-Err.stop c.stop_fault.result) c.as_slice-in-Err.ensures.value c.stop_fault.ensures)

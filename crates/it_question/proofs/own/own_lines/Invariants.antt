@@ -1,12 +1,12 @@
 use Rattle.std.proofs.Common.{◌≡◌, ◌+◌}
-use Rattle.it_question.specs.Cursors.{left}
+use Rattle.it_question.specs.Cursors.{letters_left}
 use Rattle.it_question.specs.Reading.{with_lines, read_own, read_lines}
 use Rattle.it_question.proofs.own.own_lines.Given as goal
 use Rattle.it_question.specs.Questions.{own_lines_view}
 
 -- the lines so far with those still read are the whole
 abbrev pub invariant-loop-behind : goal.invariant-loop-behind
-invariant-loop-behind l = with_lines (own_lines_view l.own) (read_own (l.givens + l.rows) l.givens l.rows l.names (left l.cursor)) ≡ read_lines l.fn.most_givens l.fn.most_rows l.names (left l.initial.cursor)
+invariant-loop-behind l = with_lines (own_lines_view l.own) (read_own (l.givens + l.rows) l.givens l.rows l.names (letters_left l.cursor)) ≡ read_lines l.fn.most_givens l.fn.most_rows l.names (letters_left l.initial.cursor)
 
 abbrev pub decreases-loop-behind : goal.decreases-loop-behind
 decreases-loop-behind l = l.givens + l.rows

@@ -1,6 +1,6 @@
 use Rattle.std.proofs.Common.{◌≡◌}
 use Rattle.it_syntax.specs.Scopes.{env_of}
-use Rattle.it_question.specs.Cursors.{left}
+use Rattle.it_question.specs.Cursors.{letters_left}
 use Rattle.it_question.specs.Reading.{read_tries}
 use Rattle.it_question.specs.WrittenRegions.{auxiliary_env}
 use Rattle.it_question.specs.WrittenTries.{unnamed_sets}
@@ -11,7 +11,7 @@ abbrev pub invariant-loop-behind : goal.invariant-loop-behind
 invariant-loop-behind l =
     let aux = auxiliary_env l.regions.question.now l.regions.second.now in
     let env = env_of l.regions.first.now in
-    with_tries l.found.items (read_tries l.allowed aux env (unnamed_sets l.auxiliaries) (left l.cursor)) ≡ read_tries l.most aux env (unnamed_sets l.auxiliaries) (left l.fn.cursor)
+    with_tries l.found.items (read_tries l.allowed aux env (unnamed_sets l.auxiliaries) (letters_left l.cursor)) ≡ read_tries l.most aux env (unnamed_sets l.auxiliaries) (letters_left l.fn.cursor)
 
 abbrev pub decreases-loop-behind : goal.decreases-loop-behind
 decreases-loop-behind l = l.allowed
