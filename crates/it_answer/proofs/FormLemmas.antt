@@ -42,7 +42,7 @@ pub spoken : (s : Space) (ds : List LineDemand) (cs : List Constraint) → AreSt
 unfolding all_demands generator_list
 spoken s ds cs h = zip-append Speaks (map (demand_of_elemental s.variables) (elementals s.variables)) (map demand_of_line ds) (map (of_elemental s.variables) (elementals s.variables)) (map of_constraint cs)
     (zip-maps Speaks (demand_of_elemental s.variables) (of_elemental s.variables) (elementals s.variables) (λ e. record { kind = refl; same = λ p z. value-row s.variables e p z }))
-    (zip-both (λ (d : LineDemand) (c : Constraint). States s d.place d.demand c) Speaks demand_of_line of_constraint (λ d c t. record { kind = t.kind; same = t.row.same }) ds cs h)
+    (zip-both (λ (d : LineDemand) (c : Constraint). States s d.origin d.demand c) Speaks demand_of_line of_constraint (λ d c t. record { kind = t.kind; same = t.row.same }) ds cs h)
 
 module _ (ds : List Demand) (gs : List Generator) (z : AllZip Speaks ds gs) where
   same_count : length gs ≡ length ds

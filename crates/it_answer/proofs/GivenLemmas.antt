@@ -46,7 +46,7 @@ module _ (q : BodyView) (rates : List ℕ) (givens : ProblemView) (is : q.verb �
     pub few_constraints : length givens.constraints ≤ 65535
     few_constraints =
         let demands = given_demands givens.space.variables 1 q.lines.givens in
-        omega (arith, zip-length (λ (d : LineDemand) (c : Constraint). States givens.space d.place d.demand c) demands givens.constraints givens_stated, givens-few givens.space.variables 1 q.lines.givens are_givens, limits.lines.few_givens)
+        omega (arith, zip-length (λ (d : LineDemand) (c : Constraint). States givens.space d.origin d.demand c) demands givens.constraints givens_stated, givens-few givens.space.variables 1 q.lines.givens are_givens, limits.lines.few_givens)
 
     pub constraints_of_sets : SpeakOfSets givens
     constraints_of_sets = given_sets givens.space 1 q.lines.givens givens.constraints are_givens givens_stated

@@ -21,7 +21,7 @@ use Rattle.it_answer.proofs.RegionLemmas.{not_width}
 use Rattle.it_answer.specs.RightAnswers.{CauseIsDue, IsRightAnswerBy, NoStepIsZero}
 
 small_constraints : (q : BodyView) (r : RelationView) (b : Poses q r) → All (λ (c : Constraint). IsSmall c.row) b.problem.constraints
-small_constraints q r b = zip-right (λ (d : LineDemand) (c : Constraint). States b.problem.space d.place d.demand c) (λ (c : Constraint). IsSmall c.row) (λ d c s. s.row.small) (question_demands q) b.problem.constraints b.is_problem.constraints
+small_constraints q r b = zip-right (λ (d : LineDemand) (c : Constraint). States b.problem.space d.origin d.demand c) (λ (c : Constraint). IsSmall c.row) (λ d c s. s.row.small) (question_demands q) b.problem.constraints b.is_problem.constraints
 
 not_before_start : (p : ProblemView) (budget : Option ℕ) (fs : List Form) (ts : List Terms) → IsProblem p → All (λ (c : Constraint). IsSmall c.row) p.constraints → AreRowsOf p.space fs ts → CauseIsDue p budget ts (Width 0) → ⊥
 not_before_start p budget [] [] k small a c = absurd c

@@ -1,5 +1,5 @@
 -- The rows of which an answer has certificates are the terms of its forms.
-use Rattle.std.proofs.Common.{◌≡◌, ℕ, List, [], ◌∷◌, map, refl, sym, ap, ap₂, subst, ◌∙◌, Result, Ok, Err, IfOk, Vec}
+use Rattle.std.proofs.Common.{◌≡◌, ℕ, List, [], ◌∷◌, map, refl, sym, ap, ap₂, ◌∙◌, Result, Ok, Err, IfOk, Vec}
 use Rattle.std.specs.Global.{Global}
 use Rattle.it_space.specs.declared.answers.Answer.{Answer}
 use Rattle.it_space.specs.declared.answers.Certificate.{Certificate}
@@ -17,10 +17,10 @@ use Rattle.it_canon.specs.Targets.{targets}
 use Rattle.it_canon.proofs.FormRows.{rows_are_terms_of_forms, told_by_form}
 use Rattle.it_region.specs.declared.types.Candidate.{Candidate}
 use Rattle.it_region.specs.declared.types.Pair.{Pair}
-use Rattle.it_region.specs.Obligations.{ArePartsOf, ArePulledRows, obligations}
+use Rattle.it_region.specs.Obligations.{ArePulledRows, obligations}
 use Rattle.it_region.specs.Pairs.{IsPairOf, pair_obligations}
 use Rattle.it_region.proofs.TextLemmas.{candidate_parts, text_rows}
-use Rattle.it_answer.specs.AnswerForms.{IsAnswerBy, IsAnswerTo, answer_forms, answer_forms_by}
+use Rattle.it_answer.specs.AnswerForms.{answer_forms, answer_forms_by}
 
 -- ---- of a yes
 
@@ -67,9 +67,6 @@ module _ (q : BodyView) (a b : RegionView) (tries : List (List ℕ)) (is : q.ver
       → IfOk rows (λ v. v.items ≡ map (terms_of_form (size_of (space_of (problem_names q)))) (answer_forms q (answer_view answer)))
   contained_rows answer parts proofs (Err e) answer_is h = tt
   contained_rows answer parts proofs (Ok v) answer_is h = h ∙ sym (ap₂ (λ m x. map (terms_of_form (size_of (space_of (problem_names q)))) (answer_forms_by q m x)) is (ap answer_view answer_is))
-
-  pub parts_of_answer : (answer : Answer) (parts : Vec ℕ Global) (proofs : Vec Certificate Global) → answer ≡ answers.Contained parts proofs → IsAnswerTo q (answer_view answer) → ArePartsOf a b parts.items
-  parts_of_answer answer parts proofs answer_is h = subst (λ x. IsAnswerBy (Contain a b tries) x) (ap answer_view answer_is) (subst (λ m. IsAnswerBy m (answer_view answer)) is h)
 
   pub no_obligations : (answer : Answer) → ((parts : Vec ℕ Global) (proofs : Vec Certificate Global) → answer ≡ answers.Contained parts proofs → ⊥) → answer_forms q (answer_view answer) ≡ []
   no_obligations answer not = ap (λ m. answer_forms_by q m (answer_view answer)) is ∙ by_answer answer not

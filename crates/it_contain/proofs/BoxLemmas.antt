@@ -2,7 +2,7 @@
 use Rattle.std.proofs.Common.{◌≡◌, ℕ, ◌+◌, ◌<◌, List, [], ◌∷◌, ◌++◌, length, ◌≤◌, get_or, take, drop, map, ap, sym, subst, ◌∙◌, arith}
 use Rattle.std.proofs.Math.ListN.{set}
 use Rattle.std.proofs.Math.Seq.{map-set_same}
-use Rattle.std.proofs.lemmas.List.{map-set, take_more_set, take_more, length-map, get_or-map, get_or-drop, drop-drop, drop_more, drop-set-lt, take_all, get_or-set_same}
+use Rattle.std.proofs.lemmas.List.{map-set, take_more_set, take_more, length-map, get_or-map, get_or-drop, drop-drop, drop-set-lt, take_all, get_or-set_same}
 use Rattle.std.specs.Prelude.{Option}
 use Rattle.it_region.specs.declared.types.Candidate.{Candidate}
 use Rattle.it_contain.specs.Proposals.{Takes}
@@ -70,7 +70,3 @@ own_takes pending xs i b d r lt at takes =
 
 pub same_length : {B C P : Type 0} (f : B → P) (g : C → P) (xs : List B) (ys : List C) → map f xs ≡ map g ys → length xs ≡ length ys
 same_length f g xs ys same = sym (length-map xs f) ∙ ap length same ∙ length-map ys g
-
--- the item at i is the first of what is left
-pub item_first : {A : Type 0} (xs : List A) (i : ℕ) (x : A) → i < length xs → x ≡ get_or xs i x → drop i xs ≡ x ∷ drop (i + 1) xs
-item_first xs i x lt is = drop_more xs i x lt ∙ ap (λ z. z ∷ drop (i + 1) xs) (sym is)

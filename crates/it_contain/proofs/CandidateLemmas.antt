@@ -2,6 +2,7 @@
 use Rattle.std.proofs.Common.{◌≡◌, ℕ, ◌+◌, ◌^◌, ◌<◌, ◌≤◌, List, [], ◌∷◌, ◌++◌, length, get_or, take, drop, map, refl, ap, sym, ◌∙◌, arith, length-append}
 use Rattle.std.proofs.lemmas.List.{map-append, take-map, length-map, length-take-le, get_or-map, drop_more, drop_all}
 use Rattle.std.proofs.Math.Nat.{pow-zero}
+use Rattle.it_contain.specs.declared.types.Shape.{Shape}
 use Rattle.it_contain.specs.Shapes.{tuples, candidate_of, tuple_candidates}
 use Rattle.it_contain.specs.Digits.{digits, tuple_at}
 use Rattle.it_contain.proofs.TupleLemmas.{at_tuples, length_tuples}
@@ -37,23 +38,24 @@ candidate_made xs m a at r s t u v n none is es et eu ev =
 
 -- ---- the candidates from number k on
 
-pub candidates_more : (xs : List ℕ) (a k : ℕ) → 0 < length xs → k < length xs ^ a
-    → drop k (tuple_candidates xs a) ≡ candidate_of a (tuple_at xs a k) ∷ drop (k + 1) (tuple_candidates xs a)
+pub candidates_more : (sets : ℕ → List ℕ) (s : Shape) (k : ℕ) → 0 < length (sets s.variables) → k < length (sets s.variables) ^ s.parts
+    → drop k (tuple_candidates sets s) ≡ candidate_of s.parts (tuple_at (sets s.variables) s.parts k) ∷ drop (k + 1) (tuple_candidates sets s)
 unfolding tuple_candidates
-candidates_more xs a k some lt =
-    let n = length_tuples xs a in
-    let inside : k < length (tuples xs a) = omega (arith, n) in
-    let far : k < length (map (candidate_of a) (tuples xs a)) = omega (arith, length-map (tuples xs a) (candidate_of a)) in
-    let it : get_or (map (candidate_of a) (tuples xs a)) k (candidate_of a []) ≡ candidate_of a (tuple_at xs a k) =
-    get_or-map (candidate_of a) (tuples xs a) k [] (candidate_of a []) inside ∙ ap (candidate_of a) (at_tuples xs a k some lt) in
-    drop_more (map (candidate_of a) (tuples xs a)) k (candidate_of a []) far ∙ ap (λ c. c ∷ drop (k + 1) (map (candidate_of a) (tuples xs a))) it
+candidates_more sets s k some lt =
+    let n = length_tuples (sets s.variables) s.parts in
+    let all = length-map (tuples (sets s.variables) s.parts) (candidate_of s.parts) in
+    let it = get_or-map (candidate_of s.parts) (tuples (sets s.variables) s.parts) k [] (candidate_of s.parts []) (omega (arith, n))
+    ∙ ap (candidate_of s.parts) (at_tuples (sets s.variables) s.parts k some lt) in
+    drop_more (map (candidate_of s.parts) (tuples (sets s.variables) s.parts)) k (candidate_of s.parts []) (omega (arith, n, all))
+    ∙ ap (λ c. c ∷ drop (k + 1) (map (candidate_of s.parts) (tuples (sets s.variables) s.parts))) it
 
-pub candidates_end : (xs : List ℕ) (a k : ℕ) → length xs ^ a ≤ k → drop k (tuple_candidates xs a) ≡ []
+pub candidates_end : (sets : ℕ → List ℕ) (s : Shape) (k : ℕ) → length (sets s.variables) ^ s.parts ≤ k → drop k (tuple_candidates sets s) ≡ []
 unfolding tuple_candidates
-candidates_end xs a k le =
-    let n = length_tuples xs a in
-    drop_all k (map (candidate_of a) (tuples xs a)) (omega (arith, n, length-map (tuples xs a) (candidate_of a)))
+candidates_end sets s k le =
+    let n = length_tuples (sets s.variables) s.parts in
+    let all = length-map (tuples (sets s.variables) s.parts) (candidate_of s.parts) in
+    drop_all k (map (candidate_of s.parts) (tuples (sets s.variables) s.parts)) (omega (arith, n, all))
 
 -- without parts there is one candidate
-pub none_without_parts : (xs : List ℕ) → drop 1 (tuple_candidates xs 0) ≡ []
-none_without_parts xs = candidates_end xs 0 1 (omega (arith, pow-zero (length xs)))
+pub none_without_parts : (sets : ℕ → List ℕ) (n : ℕ) → drop 1 (tuple_candidates sets (record { variables = n; parts = 0 })) ≡ []
+none_without_parts sets n = candidates_end sets (record { variables = n; parts = 0 }) 1 (omega (arith, pow-zero (length (sets n))))

@@ -17,7 +17,7 @@ use Rattle.it_prove.proofs.ProofLemmas.{one_outcome}
 use Rattle.it_region.specs.declared.types.Candidate.{Candidate}
 use Rattle.it_region.specs.declared.types.Pair.{Pair}
 use Rattle.it_region.specs.Obligations.{own_demands, constraint_obligations, ArePulledRows}
-use Rattle.it_region.specs.Pairs.{IsPairOf, Fits, pair_obligations}
+use Rattle.it_region.specs.Pairs.{IsPairOf, FitsPair, pair_obligations}
 use Rattle.it_region.specs.Pulling.{substituted_sets, pulled_coordinate}
 use Rattle.it_region.proofs.TextLemmas.{pulled_rows_told}
 use Rattle.it_contain.specs.Search.{Goal, goal_of, IsProofBy, IsProved, IsUnproved, IsFirstProved, IsOpen}
@@ -99,7 +99,7 @@ module _ (q : BodyView) (a b : RegionView) (p r : Pair) (o : IsPairOf q a b p) (
       ∙ ap (λ k. obligations_by r.first.space.variables r.space.variables k (take c.count c.parts) p.own.items) (o.common ∙ sym s.common)
       ∙ ap (λ cs. obligations_by r.first.space.variables r.space.variables r.common (take c.count c.parts) cs) own
 
-  same_fit : (c : Candidate) → Fits p c → Fits r c
+  same_fit : (c : Candidate) → FitsPair p c → FitsPair r c
   same_fit c f = record {
     complete = f.complete;
     count = f.count ∙ parts;

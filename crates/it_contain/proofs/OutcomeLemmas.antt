@@ -11,6 +11,7 @@ use Rattle.it_space.specs.declared.answers.Certificate.{Certificate}
 use Rattle.it_space.specs.Answers.{CertificateView, certificate_view}
 use Rattle.it_space.specs.Problems.{ProblemView}
 use Rattle.it_space.specs.Rows.{Terms}
+use Rattle.it_space.proofs.BoolLemmas.{both_true}
 use Rattle.it_prove.specs.ProofViews.{Yes, EndsWith}
 use Rattle.it_contain.specs.declared.outcomes.Outcomes.{Outcomes}
 use Rattle.it_contain.specs.SearchSteps.{ProvesOne, AreOutcomes}
@@ -31,14 +32,9 @@ same_outcome q budget t (Some c) (Some d) e h = subst (λ (w : CertificateView).
 abbrev pub ComparesTerms : (ℕ × ℤ → ℕ × ℤ → Bool) → Type 0
 ComparesTerms eq = (s t : ℕ × ℤ) → eq s t ≡ (nat_eq s.0 t.0 && int_eq s.1 t.1)
 
-both : (a b : Bool) → (a && b) ≡ true → (a ≡ true) × (b ≡ true)
-both true true e = (refl, refl)
-both true false e = absurd (cc)
-both false b e = absurd (cc)
-
 same_term : (s t : ℕ × ℤ) → (nat_eq s.0 t.0 && int_eq s.1 t.1) ≡ true → s ≡ t
 same_term s t e =
-    let h = both (nat_eq s.0 t.0) (int_eq s.1 t.1) e in
+    let h = both_true (nat_eq s.0 t.0) (int_eq s.1 t.1) e in
     ap₂ (λ c x. (c, x)) ((Decides-eqb s.0 t.0).0 h.0) ((Decides-int_eq s.1 t.1).0 h.1)
 
 same_terms : (eq : ℕ × ℤ → ℕ × ℤ → Bool) → ComparesTerms eq → (xs ys : Terms) → pointwise eq xs ys ≡ true → xs ≡ ys
@@ -46,7 +42,7 @@ same_terms eq is [] [] e = refl
 same_terms eq is [] (y ∷ ys) e = absurd (cc)
 same_terms eq is (x ∷ xs) [] e = absurd (cc)
 same_terms eq is (x ∷ xs) (y ∷ ys) e =
-    let h = both (eq x y) (pointwise eq xs ys) e in
+    let h = both_true (eq x y) (pointwise eq xs ys) e in
     ap₂ (λ t ts. t ∷ ts) (same_term x y (sym (is x y) ∙ h.0)) (same_terms eq is xs ys h.1)
 
 -- ---- what is kept

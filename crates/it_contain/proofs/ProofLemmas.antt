@@ -1,6 +1,7 @@
 -- Proofs of obligations: of one target, of all, and of a candidate.
-use Rattle.std.proofs.Common.{◌≡◌, ℕ, zero, suc, ◌+◌, ◌<◌, ◌≤◌, ℤ, List, [], ◌∷◌, ◌++◌, length, map, drop, get_or, refl, sym, ap, subst, ◌∙◌, arith, Option, Some, None, Result, Ok, Err, IfOk, append-nil, append_assoc}
-use Rattle.std.proofs.lemmas.List.{drop_more, drop_all}
+use Rattle.std.proofs.Common.{◌≡◌, ℕ, zero, suc, ◌+◌, ◌<◌, ◌≤◌, ℤ, List, [], ◌∷◌, ◌++◌, length, map, drop, get_or, refl, sym, ap, subst, ◌∙◌, arith, Option, Some, None, append-nil, append_assoc}
+use Rattle.std.proofs.lemmas.List.{drop_all}
+use Rattle.it_space.proofs.ListLemmas.{drop_item}
 use Rattle.it_space.specs.declared.answers.Cause.{Cause}
 use Rattle.it_space.specs.declared.answers.Certificate.{Certificate}
 use Rattle.it_space.specs.Answers.{CertificateView, certificate_view}
@@ -12,7 +13,7 @@ use Rattle.it_prove.specs.ProofViews.{ProofView, Yes, No, Undecided, proof_view,
 use Rattle.it_prove.proofs.ProofLemmas.{one_outcome}
 use Rattle.it_region.specs.declared.types.Candidate.{Candidate}
 use Rattle.it_region.specs.Obligations.{ArePulledRows}
-use Rattle.it_region.specs.Pairs.{Fits, pair_obligations}
+use Rattle.it_region.specs.Pairs.{FitsPair, pair_obligations}
 use Rattle.it_region.proofs.TextLemmas.{pulled_rows_told}
 use Rattle.it_contain.specs.Search.{Goal, IsProof, IsProved, Proofs, proof_views}
 use Rattle.it_contain.specs.SearchSteps.{ProvesOne, ProvesAll, Judges}
@@ -45,7 +46,7 @@ pub proofs_more : (q : ProblemView) (budget : Option ℕ) (ts : List Terms) (old
     → new.items ≡ old.items ++ c ∷ [] → AreUnderWay q budget ts (proof_views old) i → AreUnderWay q budget ts (proof_views new) (i + 1)
 proofs_more q budget ts old new i t c l is p e u = record {
   all = λ more a.
-      let here : drop i ts ≡ t ∷ drop (i + 1) ts = drop_more ts i t l ∙ ap (λ (x : Terms). x ∷ drop (i + 1) ts) (sym is) in
+      let here : drop i ts ≡ t ∷ drop (i + 1) ts = drop_item ts i t l is in
       let pushed : proof_views new ≡ proof_views old ++ certificate_view c ∷ [] = ap (λ (cs : List Certificate). map certificate_view cs) e ∙ mapped old.items in
       subst (λ (ws : List CertificateView). AreProofsOf q budget ts ws) (sym (ap (λ (ws : List CertificateView). ws ++ more) pushed ∙ append_assoc (proof_views old) (certificate_view c ∷ []) more))
       (u.all (certificate_view c ∷ more) (subst (λ (xs : List Terms). AreProofsOf q budget xs (certificate_view c ∷ more)) (sym here) (p, a)));
@@ -70,11 +71,11 @@ none_at q budget ts i t l is n ws a = let p = each_proof q budget ts ws i t l is
 
 -- ---- a candidate
 
-pub not_fitting : (goal : Goal) (c : Candidate) → (Fits goal.pair c → ⊥) → Judges goal c None
+pub not_fitting : (goal : Goal) (c : Candidate) → (FitsPair goal.pair c → ⊥) → Judges goal c None
 unfolding IsProved
 not_fitting goal c n p = n p.1.fits
 
-pub judges : (goal : Goal) (c : Candidate) (rows : List Terms) (o : Option Proofs) → Fits goal.pair c → ArePulledRows goal.pair.first.space (pair_obligations goal.pair c) rows → ProvesAll (problem_view goal.pair.first) goal.budget rows o → Judges goal c o
+pub judges : (goal : Goal) (c : Candidate) (rows : List Terms) (o : Option Proofs) → FitsPair goal.pair c → ArePulledRows goal.pair.first.space (pair_obligations goal.pair c) rows → ProvesAll (problem_view goal.pair.first) goal.budget rows o → Judges goal c o
 unfolding IsProved IsProof
 judges goal c rows (Some w) f a p = record { fits = f; rows = rows; are = a; proofs = p }
 judges goal c rows None f a n = λ x.

@@ -1,15 +1,11 @@
 -- A list that is searched from its front.
-use Rattle.std.proofs.Common.{◌≡◌, ℕ, ◌+◌, ◌-◌, ◌<◌, ◌≤◌, List, [], ◌∷◌, ◌++◌, length, take, refl, ap, sym, ◌∙◌, arith, append_assoc, append-nil, length-append}
+use Rattle.std.proofs.Common.{◌≡◌, ℕ, ◌+◌, ◌-◌, ◌<◌, ◌≤◌, List, [], ◌∷◌, ◌++◌, length, ap, sym, ◌∙◌, arith, append_assoc, length-append}
 use Rattle.std.specs.List.{All}
-use Rattle.std.proofs.Math.Seq.{take-append_seam}
 use Rattle.std.proofs.lemmas.List.{take_all}
-use Rattle.std.proofs.lemmas.List.Elements.{All-nil, All-append, All-push, All-same}
+use Rattle.std.proofs.lemmas.List.Elements.{All-append, All-push, All-same}
 use Rattle.it_region.specs.declared.types.Candidate.{Candidate}
 use Rattle.it_contain.specs.Search.{Goal, Proofs, proof_views, IsProof, IsProved, IsUnproved, IsFirstProved, IsOpen}
 use Rattle.it_contain.specs.SearchSteps.{IsPast}
-
-pub passed_first : (goal : Goal) (xs : List Candidate) → IsPast goal xs xs 0
-passed_first goal xs = record { passed = []; parts = refl; unproved = All-nil _; count = refl }
 
 pub passed_more : (goal : Goal) (whole rest rest_after : List Candidate) (c : Candidate) (t : ℕ)
     → IsPast goal whole rest t → rest ≡ c ∷ rest_after → IsUnproved goal c → IsPast goal whole rest_after (t + 1)
@@ -31,26 +27,6 @@ passed_found goal tries whole rest rest_after c t w p is proof lt = record {
   unproved = p.unproved;
   proved = (proof_views w, proof);
 }
-
-pub passed_end : (goal : Goal) (tries : ℕ) (whole rest : List Candidate) (t : ℕ)
-    → IsPast goal whole rest t → rest ≡ [] → t ≤ tries → IsOpen goal tries whole t
-passed_end goal tries whole rest t p is le =
-    let e : whole ≡ p.passed = p.parts ∙ ap (λ zs. p.passed ++ zs) is ∙ append-nil p.passed in
-    let n = ap length e in
-    let long : length whole ≤ tries = omega (arith, n, p.count) in
-    record {
-      unproved = All-same (IsUnproved goal) _ _ (take_all tries whole long ∙ e) p.unproved;
-      tried_is = omega (arith, n, p.count);
-    }
-
-pub passed_all : (goal : Goal) (whole rest : List Candidate) (t : ℕ)
-    → IsPast goal whole rest t → IsOpen goal t whole t
-passed_all goal whole rest t p =
-    let n = ap length p.parts in
-    record {
-      unproved = All-same (IsUnproved goal) _ _ (ap (take t) p.parts ∙ ap (λ k. take k (p.passed ++ rest)) (sym p.count) ∙ take-append_seam p.passed rest) p.unproved;
-      tried_is = omega (arith, n, p.count, length-append p.passed rest);
-    }
 
 -- what was found in a front is found in the whole
 pub first_front : (goal : Goal) (tries : ℕ) (xs ys : List Candidate) (c : Candidate) → IsFirstProved goal tries xs c → IsFirstProved goal tries (xs ++ ys) c

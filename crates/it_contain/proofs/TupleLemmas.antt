@@ -8,7 +8,7 @@ use Rattle.std.proofs.lemmas.List.Concat.{get_or-flat_map}
 use Rattle.std.proofs.lemmas.Grind.{flat_map-append}
 use Rattle.std.proofs.lemmas.Simd.{map-map}
 use Rattle.it_polymatroid.specs.Elementals.{span}
-use Rattle.it_elemental.proofs.Spans.{length-span, get_or-span}
+use Rattle.it_polymatroid.proofs.Spans.{length-span, get_or-span, length-map-span}
 use Rattle.it_contain.specs.Shapes.{tuples, small_sets, all_sets}
 use Rattle.it_contain.specs.Digits.{digits, tuple_at}
 
@@ -78,9 +78,7 @@ at_tuples xs (suc a) k some lt =
 
 pub length_small_sets : (n : ℕ) → length (small_sets n) ≡ n + 1
 unfolding small_sets
-length_small_sets n = let e = length-map-span n in omega (arith, e) where
-  length-map-span : (n : ℕ) → length (map (λ i. 2 ^ i) (span 0 n)) ≡ n
-  length-map-span n = length-map (span 0 n) (λ i. 2 ^ i) ∙ length-span 0 n
+length_small_sets n = let e = length-map-span (λ i. 2 ^ i) 0 n in omega (arith, e)
 
 pub length_all_sets : (n : ℕ) → length (all_sets n) ≡ 2 ^ n
 unfolding all_sets

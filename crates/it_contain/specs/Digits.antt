@@ -1,4 +1,4 @@
--- Tuples by their number. No public clause cites this module: it serves the proofs of `Singles` and `Subsets`.
+-- Tuples by their number. No public clause cites this module: it serves the proofs of `Tuples`.
 use Rattle.std.specs.Prelude.{ℕ, suc, zero, ◌≤◌, ◌<◌, ◌/◌, ◌%◌, List, [], ◌∷◌, ◌++◌, map, length, get_or}
 use Rattle.it_contain.specs.declared.types.Shape.{Shape}
 

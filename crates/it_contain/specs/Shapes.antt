@@ -1,4 +1,4 @@
--- The lists of candidates that `Singles` and `Subsets` propose.
+-- The lists of sets of `Singles` and `Subsets`, and the candidates that are proposed out of such a list.
 use Rattle.std.specs.Prelude.{ℕ, suc, zero, ◌^◌, ◌≤◌, List, [], ◌∷◌, ◌++◌, map, take}
 use Rattle.std.specs.List.{flat_map}
 use Rattle.it_polymatroid.specs.Elementals.{span}
@@ -34,14 +34,6 @@ all_sets n = span 0 (2 ^ n)
 unfoldable pub candidate_of : ℕ → List ℕ → Candidate
 candidate_of parts tuple = record { count = parts; parts = take 4 (tuple ++ (0 ∷ 0 ∷ 0 ∷ 0 ∷ [])) }
 
--- the candidates of all tuples of so many sets out of a list
-unfoldable pub tuple_candidates : List ℕ → ℕ → List Candidate
-tuple_candidates sets parts = map (candidate_of parts) (tuples sets parts)
-
--- what `Singles` proposes: all tuples of sets of at most one variable
-abbrev pub single_candidates : Shape → List Candidate
-single_candidates s = tuple_candidates (small_sets s.variables) s.parts
-
--- what `Subsets` proposes: all tuples of sets
-abbrev pub subset_candidates : Shape → List Candidate
-subset_candidates s = tuple_candidates (all_sets s.variables) s.parts
+-- the candidates of all tuples for a shape, of sets out of a list for each number of variables
+unfoldable pub tuple_candidates : (ℕ → List ℕ) → Shape → List Candidate
+tuple_candidates sets s = map (candidate_of s.parts) (tuples (sets s.variables) s.parts)

@@ -1,5 +1,5 @@
 //! What is done with each box of a list: a box is a proposer whose kind isn't known here.
-ghost use Rattle.std.specs.Prelude.{◌≡◌, ◌<◌, ◌+◌, List, [], map, drop, get_or, vec_len};
+ghost use Rattle.std.specs.Prelude.{◌≡◌, ◌<◌, ◌+◌, [], map, drop, get_or, vec_len};
 ghost use Rattle.it_contain.specs.Shapes.{IsShape};
 ghost use Rattle.it_contain.specs.Proposals.{Takes, plan_after};
 ghost use Rattle.it_contain.specs.Search.{lists_of};

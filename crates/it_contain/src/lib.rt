@@ -17,8 +17,8 @@ pub mod types;
 
 pub use it_region::{Candidate, Pair, fits, obligations, pair};
 pub use proposer::Proposer;
-pub use recent::Recent;
+pub use recent::RecentCandidates;
 pub use search::contain;
 pub use singles::Singles;
 pub use subsets::Subsets;
-pub use types::{Contained, Shape};
+pub use types::{SearchEnd, Shape};

@@ -39,26 +39,26 @@ fn of_shape(shape: Shape, kept: &Option<Candidate>) -> Option<Candidate>
 /// Proposes the candidate that was proved last, whoever proposed it, to each question whose shape it has. It takes no
 /// memory.
 #[derive(Drop)]
-pub struct Recent {
+pub struct RecentCandidates {
     kept: Option<Candidate>,
     /// What is still to come.
     left: Option<Candidate>,
 }
 
-impl Recent {
+impl RecentCandidates {
     /// With nothing kept, and no candidate to come.
-    pub fn new() -> Recent
-        ensures pending { ⟦<Recent as Proposer>⟧.pending result ≡ [] }
-        ensures plan { ⟦<Recent as Proposer>⟧.plan result ≡ (λ shape proved. recent_candidates shape (last_of None proved)) }
+    pub fn new() -> RecentCandidates
+        ensures pending { ⟦<RecentCandidates as Proposer>⟧.pending result ≡ [] }
+        ensures plan { ⟦<RecentCandidates as Proposer>⟧.plan result ≡ (λ shape proved. recent_candidates shape (last_of None proved)) }
     {
-        Recent {
+        RecentCandidates {
             kept: None,
             left: None,
         }
     }
 }
 
-impl Proposer for Recent {
+impl Proposer for RecentCandidates {
     ghost pending = { λ r. option_to_list r.left };
 
     ghost plan = { λ r shape proved. recent_candidates shape (last_of r.kept proved) };

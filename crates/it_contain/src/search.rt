@@ -1,16 +1,16 @@
 //! The search for a candidate that is proved.
-ghost use Rattle.std.specs.Prelude.{◌≡◌, ◌<◌, ◌+◌, List, [], map, drop, get_or, vec_len, IfOk, OnOk};
+ghost use Rattle.std.specs.Prelude.{◌<◌, ◌+◌, [], map, drop, get_or, vec_len, IfOk, OnOk};
 ghost use Rattle.it_space.specs.Problems.{problem_view};
 ghost use Rattle.it_region.specs.Pairs.{IsPair};
 ghost use Rattle.it_contain.specs.Shapes.{IsShape, shape_of};
-ghost use Rattle.it_contain.specs.Search.{lists_of, plan_of, SearchEnds, goal_of};
+ghost use Rattle.it_contain.specs.Search.{plan_of, SearchEnds, goal_of};
 ghost use Rattle.it_contain.specs.SearchSteps.{Tries, KeepsLater, AreOutcomes};
 
 use crate::boxes::{begin_all, next_at, teach_all, tell_all};
 use crate::judging::proofs_of_candidate;
 use crate::outcomes::Outcomes;
 use crate::proposer::Proposer;
-use crate::types::{Contained, Shape};
+use crate::types::{SearchEnd, Shape};
 use it_region::{Candidate, Pair};
 use it_simplex::Budget;
 use it_space::Certificate;
@@ -27,7 +27,7 @@ pub fn contain(
     boxes: &mut Vec<Box<dyn Proposer>>,
     tries: u32,
     budget: Budget,
-) -> Result<Contained, AllocError>
+) -> Result<SearchEnd, AllocError>
     requires pair { IsPair pair.now }
     ensures { IfOk result (λ r. SearchEnds (goal_of pair.now budget) tries (plan_of first.now (map plan boxes.old.items) (shape_of pair.now)) (map plan boxes.old.items) r (map plan boxes.new.items)) }
 {
@@ -84,7 +84,7 @@ fn try_list(
     tries: u32,
     budget: Budget,
     outcomes: &mut Outcomes,
-) -> Result<Contained, AllocError>
+) -> Result<SearchEnd, AllocError>
     requires pair { IsPair pair.now }
     requires outcomes { AreOutcomes (problem_view pair.now.first) budget outcomes.old }
     ensures ends { IfOk result (λ r. SearchEnds (goal_of pair.now budget) tries first.now (map plan boxes.old.items) r (map plan boxes.new.items)) }
@@ -94,14 +94,14 @@ fn try_list(
     let mut count: u32 = 0;
     for candidate in first {
         if count == tries {
-            return Ok(Contained::Open { tried: count });
+            return Ok(SearchEnd::Open { tried: count });
         }
         match try_one(alloc, pair, candidate, boxes, budget, outcomes)? {
-            Some(proof) => return Ok(Contained::Found(*candidate, proof)),
+            Some(proof) => return Ok(SearchEnd::Found(*candidate, proof)),
             None => count += 1,
         }
     }
-    Ok(Contained::Open { tried: count })
+    Ok(SearchEnd::Open { tried: count })
 }
 
 /// Tries the first `tries` candidates of the box at a place.
@@ -113,7 +113,7 @@ fn try_box(
     tries: u32,
     budget: Budget,
     outcomes: &mut Outcomes,
-) -> Result<Contained, AllocError>
+) -> Result<SearchEnd, AllocError>
     requires pair { IsPair pair.now }
     requires outcomes { AreOutcomes (problem_view pair.now.first) budget outcomes.old }
     requires box_is { i < vec_len boxes.old }
@@ -123,14 +123,14 @@ fn try_box(
 {
     for count in 0..tries {
         let Some(candidate) = next_at(boxes, i) else {
-            return Ok(Contained::Open { tried: count });
+            return Ok(SearchEnd::Open { tried: count });
         };
         match try_one(alloc, pair, &candidate, boxes, budget, outcomes)? {
-            Some(proof) => return Ok(Contained::Found(candidate, proof)),
+            Some(proof) => return Ok(SearchEnd::Found(candidate, proof)),
             None => {}
         }
     }
-    Ok(Contained::Open { tried: tries })
+    Ok(SearchEnd::Open { tried: tries })
 }
 
 /// Tries the first `tries` candidates of the plan for a shape.
@@ -143,7 +143,7 @@ fn try_all(
     tries: u32,
     budget: Budget,
     outcomes: &mut Outcomes,
-) -> Result<Contained, AllocError>
+) -> Result<SearchEnd, AllocError>
     requires pair { IsPair pair.now }
     requires outcomes { AreOutcomes (problem_view pair.now.first) budget outcomes.old }
     requires shape { IsShape shape }
@@ -151,14 +151,14 @@ fn try_all(
 {
     begin_all(boxes, shape);
     let mut count = match try_list(alloc, pair, first, boxes, tries, budget, outcomes)? {
-        Contained::Found(candidate, proof) => return Ok(Contained::Found(candidate, proof)),
-        Contained::Open { tried } => tried,
+        SearchEnd::Found(candidate, proof) => return Ok(SearchEnd::Found(candidate, proof)),
+        SearchEnd::Open { tried } => tried,
     };
     for i in 0..boxes.len() {
         match try_box(alloc, pair, boxes, i, tries - count, budget, outcomes)? {
-            Contained::Found(candidate, proof) => return Ok(Contained::Found(candidate, proof)),
-            Contained::Open { tried: more } => count += more,
+            SearchEnd::Found(candidate, proof) => return Ok(SearchEnd::Found(candidate, proof)),
+            SearchEnd::Open { tried: more } => count += more,
         }
     }
-    Ok(Contained::Open { tried: count })
+    Ok(SearchEnd::Open { tried: count })
 }

@@ -1,42 +1,15 @@
 //! All tuples of sets of at most one variable.
-ghost use Rattle.std.specs.Prelude.{◌≡◌, [], drop};
-ghost use Rattle.it_contain.specs.Shapes.{small_sets, single_candidates};
-ghost use Rattle.it_contain.specs.Digits.{IsShapeWithin};
+ghost use Rattle.std.specs.Prelude.{◌≡◌, []};
+ghost use Rattle.it_contain.specs.Shapes.{small_sets, tuple_candidates};
 
 use crate::proposer::Proposer;
-use crate::tuples::{PartSets, next_candidate};
-use crate::types::Shape;
-use it_region::Candidate;
+use crate::tuples::{PartSets, Tuples};
 use it_space::VarSet;
 
-/// Proposes all tuples of sets of at most one variable in lexicographic order: the empty set first, then the variables in
-/// order of declaration, and the last part changes fastest. It learns nothing.
-#[derive(Drop)]
-pub struct Singles {
-    shape: Shape,
-    /// The number of the next candidate.
-    number: u64,
-    ghost within: { IsShapeWithin shape },
-}
+/// The sets of at most one variable: the empty set first, then the variables in order of declaration.
+pub struct SmallSets;
 
-impl Singles {
-    /// With no candidate to come until it is begun.
-    #[tactic(auto, using(crate::proofs::CandidateLemmas::none_without_parts))]
-    pub fn new() -> Singles
-        ensures pending { ⟦<Singles as Proposer>⟧.pending result ≡ [] }
-        ensures plan { ⟦<Singles as Proposer>⟧.plan result ≡ (λ shape proved. single_candidates shape) }
-    {
-        Singles {
-            shape: Shape {
-                variables: 0,
-                parts: 0,
-            },
-            number: 1,
-        }
-    }
-}
-
-impl PartSets for Singles {
+impl PartSets for SmallSets {
     ghost sets = { small_sets };
 
     #[tactic(auto, using(crate::proofs::TupleLemmas::length_small_sets, crate::proofs::TupleLemmas::first_small_set))]
@@ -54,18 +27,15 @@ impl PartSets for Singles {
     }
 }
 
-impl Proposer for Singles {
-    ghost pending = { λ s. drop s.number (single_candidates s.shape) };
+/// Proposes all tuples of sets of at most one variable.
+pub type Singles = Tuples<SmallSets>;
 
-    ghost plan = { λ s shape proved. single_candidates shape };
-
-    fn begin(&mut self, shape: Shape) {
-        *self = Singles { shape, number: 0 };
+impl Singles {
+    /// With no candidate to come until it is begun.
+    pub fn new() -> Singles
+        ensures pending { ⟦<Singles as Proposer>⟧.pending result ≡ [] }
+        ensures plan { ⟦<Singles as Proposer>⟧.plan result ≡ (λ shape proved. tuple_candidates small_sets shape) }
+    {
+        Tuples::with_none_to_come()
     }
-
-    fn next(&mut self) -> Option<Candidate> {
-        next_candidate::<Singles>(self.shape, &mut self.number)
-    }
-
-    fn learn(&mut self, _candidate: &Candidate, _proved: bool) {}
 }

@@ -1,42 +1,15 @@
 //! All tuples of sets.
-ghost use Rattle.std.specs.Prelude.{◌≡◌, [], drop};
-ghost use Rattle.it_contain.specs.Shapes.{all_sets, subset_candidates};
-ghost use Rattle.it_contain.specs.Digits.{IsShapeWithin};
+ghost use Rattle.std.specs.Prelude.{◌≡◌, []};
+ghost use Rattle.it_contain.specs.Shapes.{all_sets, tuple_candidates};
 
 use crate::proposer::Proposer;
-use crate::tuples::{PartSets, next_candidate};
-use crate::types::Shape;
-use it_region::Candidate;
+use crate::tuples::{PartSets, Tuples};
 use it_space::VarSet;
 
-/// Proposes all tuples of sets in lexicographic order: sets by number, the empty set first, and the last part changes
-/// fastest. It learns nothing.
-#[derive(Drop)]
-pub struct Subsets {
-    shape: Shape,
-    /// The number of the next candidate.
-    number: u64,
-    ghost within: { IsShapeWithin shape },
-}
+/// All sets, by number: the empty set first.
+pub struct AllSets;
 
-impl Subsets {
-    /// With no candidate to come until it is begun.
-    #[tactic(auto, using(crate::proofs::CandidateLemmas::none_without_parts))]
-    pub fn new() -> Subsets
-        ensures pending { ⟦<Subsets as Proposer>⟧.pending result ≡ [] }
-        ensures plan { ⟦<Subsets as Proposer>⟧.plan result ≡ (λ shape proved. subset_candidates shape) }
-    {
-        Subsets {
-            shape: Shape {
-                variables: 0,
-                parts: 0,
-            },
-            number: 1,
-        }
-    }
-}
-
-impl PartSets for Subsets {
+impl PartSets for AllSets {
     ghost sets = { all_sets };
 
     #[tactic(auto, using(crate::proofs::TupleLemmas::length_all_sets, crate::proofs::TupleLemmas::first_set, crate::proofs::TupleLemmas::few_sets))]
@@ -50,18 +23,15 @@ impl PartSets for Subsets {
     }
 }
 
-impl Proposer for Subsets {
-    ghost pending = { λ s. drop s.number (subset_candidates s.shape) };
+/// Proposes all tuples of sets.
+pub type Subsets = Tuples<AllSets>;
 
-    ghost plan = { λ s shape proved. subset_candidates shape };
-
-    fn begin(&mut self, shape: Shape) {
-        *self = Subsets { shape, number: 0 };
+impl Subsets {
+    /// With no candidate to come until it is begun.
+    pub fn new() -> Subsets
+        ensures pending { ⟦<Subsets as Proposer>⟧.pending result ≡ [] }
+        ensures plan { ⟦<Subsets as Proposer>⟧.plan result ≡ (λ shape proved. tuple_candidates all_sets shape) }
+    {
+        Tuples::with_none_to_come()
     }
-
-    fn next(&mut self) -> Option<Candidate> {
-        next_candidate::<Subsets>(self.shape, &mut self.number)
-    }
-
-    fn learn(&mut self, _candidate: &Candidate, _proved: bool) {}
 }

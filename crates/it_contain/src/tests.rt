@@ -1,8 +1,10 @@
-ghost use Rattle.std.specs.Prelude.{◌≡◌, ◌∷◌, [], IsTrue, replicate};
+ghost use Rattle.std.specs.Prelude.{[], IsTrue, replicate};
 ghost use Rattle.it_question.specs.Questions.{verb_view};
 ghost use Rattle.it_region.specs.Pairs.{IsPair, IsContainment};
 
-use crate::{Candidate, Contained, Pair, Proposer, Recent, Shape, Singles, Subsets, contain, pair};
+use crate::{
+    Candidate, Pair, Proposer, RecentCandidates, SearchEnd, Shape, Singles, Subsets, contain, pair,
+};
 use it_question::questions;
 use it_question::types::Verb;
 use it_simplex::Budget;
@@ -13,13 +15,13 @@ use std::process::Abort;
 /// A proposer of one candidate, so many times, whatever it is begun with. It learns nothing. One that lies in `learn`, so that a
 /// failure changes what it proposes or a proof changes it otherwise than its plan says, can't be written: it has no proof.
 #[derive(Drop)]
-struct Stubborn {
+struct StubbornProposer {
     candidate: Candidate,
     times: u64,
     left: u64,
 }
 
-impl Proposer for Stubborn {
+impl Proposer for StubbornProposer {
     ghost pending = { λ s. replicate s.left s.candidate };
 
     ghost plan = { λ s shape proved. replicate s.times s.candidate };
@@ -55,7 +57,7 @@ fn boxes_with(
     times: u64,
 ) -> Vec<Box<dyn Proposer>> {
     let mut boxes: Vec<Box<dyn Proposer>> = Vec::new(alloc);
-    let one = Stubborn {
+    let one = StubbornProposer {
         candidate,
         times,
         left: 0,
@@ -90,18 +92,18 @@ fn free_pair(alloc: Global) -> Pair
 }
 
 /// Whether a search tried so many candidates in vain.
-fn is_open(end: &Contained, count: u32) -> bool {
+fn is_open(end: &SearchEnd, count: u32) -> bool {
     match end {
-        Contained::Open { tried } => *tried == count,
-        Contained::Found(..) => false,
+        SearchEnd::Open { tried } => *tried == count,
+        SearchEnd::Found(..) => false,
     }
 }
 
 /// Whether a search found a candidate with this first part.
-fn is_found(end: &Contained, part: VarSet) -> bool {
+fn is_found(end: &SearchEnd, part: VarSet) -> bool {
     match end {
-        Contained::Open { .. } => false,
-        Contained::Found(candidate, _) => candidate.parts[0] == part,
+        SearchEnd::Open { .. } => false,
+        SearchEnd::Found(candidate, _) => candidate.parts[0] == part,
     }
 }
 
@@ -157,7 +159,7 @@ fn pair_of_regions(rt: &impl Abort, alloc: Global) -> Pair
 }
 
 /// How the search ends with three candidates of a set that there isn't, and behind them all sets of at most one variable.
-fn end_behind_strangers(rt: &impl Abort, alloc: Global, tries: u32) -> Contained {
+fn end_behind_strangers(rt: &impl Abort, alloc: Global, tries: u32) -> SearchEnd {
     let pair = pair_of_regions(rt, alloc);
     let mut boxes = boxes_with(rt, alloc, candidate(1, VarSet::single(2)), 3);
     boxes
@@ -195,7 +197,7 @@ fn what_worked_last(rt: HostRuntime) {
     let pair = pair_of_regions(&rt, alloc);
     let mut boxes: Vec<Box<dyn Proposer>> = Vec::new(alloc);
     boxes
-        .push(Box::new(alloc, Recent::new()).expect(&rt, "memory"))
+        .push(Box::new(alloc, RecentCandidates::new()).expect(&rt, "memory"))
         .expect(&rt, "memory");
     let known = [candidate(1, VarSet::single(0))];
     let end = contain(alloc, &pair, &known, &mut boxes, 1, Budget::none()).expect(&rt, "memory");

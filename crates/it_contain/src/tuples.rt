@@ -1,15 +1,16 @@
-//! Candidates by their number among the tuples of sets.
-ghost use Rattle.std.specs.Prelude.{◌≡◌, ℕ, ◌<◌, ◌≤◌, ◌++◌, ◌∷◌, List, [], length, get_or, take, drop};
+//! The proposers of all tuples of sets, which come by their number.
+ghost use Rattle.std.specs.Prelude.{◌≡◌, ◌<◌, ◌≤◌, ◌++◌, ◌∷◌, ℕ, List, [], length, get_or, take, drop};
 ghost use Rattle.it_contain.specs.Digits.{digits, tuple_at, AreBelow, IsShapeWithin};
-ghost use Rattle.it_contain.specs.Proposals.{Takes};
 ghost use Rattle.it_contain.specs.Shapes.{candidate_of, tuple_candidates};
 
+use crate::proposer::Proposer;
 use crate::types::Shape;
 use it_region::Candidate;
 use it_space::VarSet;
+use std::marker::PhantomData;
 
 /// A list of the sets that each part of a candidate may be.
-pub(crate) trait PartSets {
+pub trait PartSets {
     /// The list, for so many variables.
     ghost sets: { ℕ → List ℕ };
 
@@ -67,15 +68,51 @@ fn candidate_at<S: PartSets>(shape: Shape, number: u64) -> Candidate
     }
 }
 
-/// The candidate of a number, which becomes that of the next one; none behind the last.
-pub(crate) fn next_candidate<S: PartSets>(shape: Shape, number: &mut u64) -> Option<Candidate>
-    requires { IsShapeWithin shape }
-    ensures { Takes (drop number.old (tuple_candidates (S.sets shape.variables) shape.parts)) result (drop number.new (tuple_candidates (S.sets shape.variables) shape.parts)) }
-{
-    if *number >= S::count(shape.variables).pow(shape.parts as u32) {
-        return None;
+/// Proposes all tuples of sets out of a list in lexicographic order: the last part changes fastest. It learns nothing.
+#[derive(Drop)]
+pub struct Tuples<S> {
+    shape: Shape,
+    /// The number of the next candidate.
+    number: u64,
+    sets: PhantomData<S>,
+    ghost within: { IsShapeWithin shape },
+}
+
+impl<S: PartSets> Tuples<S> {
+    /// With no candidate to come until it is begun.
+    #[tactic(auto, using(crate::proofs::CandidateLemmas::none_without_parts))]
+    pub(crate) fn with_none_to_come() -> Tuples<S>
+        ensures { ⟦<Tuples<S> as Proposer>⟧.pending result ≡ [] }
+    {
+        Tuples {
+            shape: Shape {
+                variables: 0,
+                parts: 0,
+            },
+            number: 1,
+            sets: PhantomData,
+        }
     }
-    let candidate = candidate_at::<S>(shape, *number);
-    *number += 1;
-    Some(candidate)
+}
+
+impl<S: PartSets> Proposer for Tuples<S> {
+    ghost pending = { λ s. drop s.number (tuple_candidates S.sets s.shape) };
+
+    ghost plan = { λ s shape proved. tuple_candidates S.sets shape };
+
+    fn begin(&mut self, shape: Shape) {
+        self.shape = shape;
+        self.number = 0;
+    }
+
+    fn next(&mut self) -> Option<Candidate> {
+        if self.number >= S::count(self.shape.variables).pow(self.shape.parts as u32) {
+            return None;
+        }
+        let candidate = candidate_at::<S>(self.shape, self.number);
+        self.number += 1;
+        Some(candidate)
+    }
+
+    fn learn(&mut self, _candidate: &Candidate, _proved: bool) {}
 }

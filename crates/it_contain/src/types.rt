@@ -11,7 +11,7 @@ pub struct Shape {
 
 /// What a search ends with.
 #[derive(Debug, Drop)]
-pub enum Contained {
+pub enum SearchEnd {
     /// The first candidate of the plan that is proved, with a certificate for each obligation in order.
     Found(Candidate, Vec<Certificate>),
     /// None of those that were tried is proved; how many they are.

@@ -1,13 +1,13 @@
 -- Rows behind the givens leave the dependences as they are, and the generators of the givens before all others: what was made of the
 -- givens over closed sets serves the problem with the rows.
-use Rattle.std.proofs.Common.{◌≡◌, ℕ, zero, suc, ◌+◌, ◌<◌, ◌≤◌, List, [], ◌∷◌, ◌++◌, length, map, take, refl, sym, ap, subst, ◌∙◌, arith, append_assoc, append-nil, length-append, All}
+use Rattle.std.proofs.Common.{◌≡◌, ℕ, zero, suc, ◌+◌, ◌≤◌, List, [], ◌∷◌, ◌++◌, length, map, take, refl, sym, ap, subst, ◌∙◌, arith, append_assoc, length-append}
 use Rattle.std.proofs.lemmas.List.{map-append, get_or_append_left}
 use Rattle.it_space.specs.declared.problems.Constraint.{Constraint}
 use Rattle.it_space.specs.declared.problems.Kind.TheVariants.{Inequality}
 use Rattle.it_space.specs.Problems.{ProblemView}
 use Rattle.it_space.specs.Rows.{Terms}
 use Rattle.it_polymatroid.specs.Elementals.{elementals}
-use Rattle.it_elemental.specs.Generators.{Generator, of_elemental, of_constraint, generator_list, generators, generator_at}
+use Rattle.it_elemental.specs.Generators.{Generator, of_elemental, of_constraint, generator_list, generators}
 use Rattle.it_closure.specs.declared.dependences.Dependence.{Dependence}
 use Rattle.it_closure.specs.Collapse.{CollapseFits}
 use Rattle.it_closure.specs.Coordinates.{closed_coordinates}

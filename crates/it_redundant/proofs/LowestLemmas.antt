@@ -8,7 +8,7 @@ use Rattle.it_space.specs.Rows.{Terms}
 use Rattle.it_space.specs.Divisors.{content, divided_terms, lowest_terms}
 use Rattle.it_space.proofs.Contents.{DividesAll, content_divides, content_greatest, times_divides, divided-one}
 use Prim.Native.Nat.{◌∣◌}
-use native.Mathlib.Nat.{dvd-zero, one-dvd, div-mul_cancel, dvd_of_mul-dvd-mul_right, mul-dvd-mul_right, eq-one_of_dvd-one}
+use native.Mathlib.Nat.{dvd-zero, dvd_of_mul-dvd-mul_right, eq-one_of_dvd-one}
 
 -- a row without values, divided by 0, is itself
 divided_zero : (ts : Terms) → DividesAll 0 ts → divided_terms 0 ts ≡ ts

@@ -47,9 +47,6 @@ module _ (n k : ℕ) (p q : ℕ → ℤ) (same : (c : ℕ) → c < 2 ^ n → q c
 
   -- ---- rows over sets
 
-  InSets : ℕ × ℤ → Type 0
-  InSets t = (1 ≤ t.0) × (t.0 ≤ 2 ^ n - 1)
-
   term_multiple : (a x y v w : ℤ) → y ≡ pos k *ℤ x → w ≡ pos k *ℤ v → a *ℤ y +ℤ w ≡ pos k *ℤ (a *ℤ x +ℤ v)
   term_multiple a x y v w e f = ap (λ z. a *ℤ z +ℤ w) e ∙ ap (λ z. a *ℤ (pos k *ℤ x) +ℤ z) f ∙ omega (arith, zring)
 

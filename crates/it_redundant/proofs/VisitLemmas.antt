@@ -1,7 +1,7 @@
 -- Rows visited one after the other.
-use Rattle.std.proofs.Common.{◌≡◌, ℕ, suc, ◌+◌, ◌<◌, ◌≤◌, List, [], ◌∷◌, ◌++◌, map, length, drop, Option, refl, sym, ap, subst, ◌∙◌, arith, append_assoc, append-nil, length-append}
+use Rattle.std.proofs.Common.{◌≡◌, ℕ, ◌+◌, ◌<◌, ◌≤◌, List, [], ◌∷◌, ◌++◌, map, length, drop, Option, refl, sym, ap, subst, ◌∙◌, arith, append_assoc, append-nil, length-append}
 use Rattle.std.proofs.lemmas.List.{length-map}
-use Rattle.std.proofs.lemmas.List.Elements.{All-nil, All-append}
+use Rattle.std.proofs.lemmas.List.Elements.{All-append}
 use Rattle.it_space.specs.Answers.{CertificateView}
 use Rattle.it_space.specs.Problems.{ProblemView, IsProblem}
 use Rattle.it_space.specs.Rows.{Terms, IsUpTo}
@@ -25,10 +25,6 @@ rows_of_parts : (ks ls : List (Terms × NeedView)) → kept_rows (ks ++ ls) ≡ 
 rows_of_parts [] ls = refl
 rows_of_parts (k ∷ ks) ls = ap (λ xs. k.0 ∷ xs) (rows_of_parts ks ls)
 
-count_of_rows : (ks : List (Terms × NeedView)) → length (kept_rows ks) ≡ length ks
-count_of_rows [] = refl
-count_of_rows (k ∷ ks) = ap suc (count_of_rows ks)
-
 -- The first i rows were visited: whatever the others end with, stands behind what is there.
 pub record IsUnderWay (givens : ProblemView) (budget : Option ℕ) (size : ℕ) (rows : List Terms) (kept : List (Terms × NeedView)) (dropped : List (Terms × CertificateView)) (i : ℕ) : Type 0 where
   pub more : (k : List (Terms × NeedView)) (d : List (Terms × CertificateView)) → Reduces givens budget (kept_rows kept) (drop i rows) k d → Reduces givens budget [] rows (kept ++ k) (dropped ++ d)
@@ -36,9 +32,6 @@ pub record IsUnderWay (givens : ProblemView) (budget : Option ℕ) (size : ℕ) 
   pub up : AreRowsUpTo size (kept_rows kept)
 
 module _ (givens : ProblemView) (budget : Option ℕ) (size : ℕ) (rows : List Terms) where
-  pub under_way_start : IsUnderWay givens budget size rows [] [] 0
-  under_way_start = record { more = λ k d r. r; few = omega arith; up = All-nil (IsUpTo size) }
-
   pub under_way_more : (kept new_kept : List (Terms × NeedView)) (dropped new_dropped : List (Terms × CertificateView)) (i : ℕ) (row : Terms) (o : ProofView) → i < length rows
       → drop i rows ≡ row ∷ drop (i + 1) rows → IsUpTo size row → EndsWith (with_rows givens (kept_rows kept ++ drop (i + 1) rows)) row budget o
       → new_kept ≡ kept ++ kept_by row o → new_dropped ≡ dropped ++ dropped_by row o

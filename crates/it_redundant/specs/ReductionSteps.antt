@@ -3,14 +3,14 @@ use Rattle.std.specs.Prelude.{◌≡◌, ℕ, List, ◌++◌, All, Option}
 use Rattle.it_space.specs.Problems.{ProblemView}
 use Rattle.it_space.specs.Rows.{Terms, IsUpTo}
 use Rattle.it_prove.specs.ProofViews.{ProofView, EndsWith}
-use Rattle.it_redundant.specs.declared.types.Reduced.{Reduced}
+use Rattle.it_redundant.specs.declared.types.Reduction.{Reduction}
 use Rattle.it_redundant.specs.Reduction.{with_rows, kept_by, dropped_by, kept_rows, kept_view, dropped_view}
 
 abbrev pub AreRowsUpTo : ℕ → List Terms → Type 0
 AreRowsUpTo size rows = All (IsUpTo size) rows
 
 -- a row was visited between the rows that stay so far and those after it
-pub record IsVisited (givens : ProblemView) (budget : Option ℕ) (row : Terms) (after : List Terms) (old new : Reduced) : Type 0 where
+pub record IsVisited (givens : ProblemView) (budget : Option ℕ) (row : Terms) (after : List Terms) (old new : Reduction) : Type 0 where
   pub outcome : ProofView
   pub ends : EndsWith (with_rows givens (kept_rows (kept_view old) ++ after)) row budget outcome
   pub kept : kept_view new ≡ kept_view old ++ kept_by row outcome

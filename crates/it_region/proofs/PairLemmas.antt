@@ -17,7 +17,7 @@ use Rattle.it_canon.specs.QuestionDemands.{space_of}
 use Rattle.it_canon.proofs.ZipLemmas.{zip-right}
 use Rattle.it_region.specs.declared.types.Pair.{Pair}
 use Rattle.it_region.specs.Obligations.{own_demands}
-use Rattle.it_region.specs.Pairs.{IsPair, IsPairOf, PairsBy, Pairs, Fits, candidate_sets}
+use Rattle.it_region.specs.Pairs.{IsPair, IsPairOf, PairsBy, Pairs, FitsPair, candidate_sets}
 use Rattle.it_region.specs.PairSteps.{AreSetsFor}
 use Rattle.it_region.specs.declared.types.Candidate.{Candidate}
 use Rattle.it_region.proofs.PullingLemmas.{sets_within, length-sets}
@@ -35,10 +35,10 @@ small_mass : (ts : Terms) → IsSmall ts → row_mass ts < 2 ^ 127
 small_mass ts k = let m = mass_within ts k.each in let few = k.few in omega (arith, m, few)
 
 pub stated_small : (s : Space) (ds : List LineDemand) (cs : List Constraint) → AreStated s ds cs → All (λ c. row_mass c.row < 2 ^ 127) cs
-stated_small s ds cs a = zip-right (λ (d : LineDemand) (c : Constraint). States s d.place d.demand c) (λ c. row_mass c.row < 2 ^ 127) (λ d c t. small_mass c.row t.row.small) ds cs a
+stated_small s ds cs a = zip-right (λ (d : LineDemand) (c : Constraint). States s d.origin d.demand c) (λ c. row_mass c.row < 2 ^ 127) (λ d c t. small_mass c.row t.row.small) ds cs a
 
 pub stated_rows : (s : Space) (ds : List LineDemand) (cs : List Constraint) → AreStated s ds cs → All (λ c. IsUpTo (size_of s) c.row) cs
-stated_rows s ds cs a = zip-right (λ (d : LineDemand) (c : Constraint). States s d.place d.demand c) (λ c. IsUpTo (size_of s) c.row) (λ d c t. t.row.coordinates) ds cs a
+stated_rows s ds cs a = zip-right (λ (d : LineDemand) (c : Constraint). States s d.origin d.demand c) (λ c. IsUpTo (size_of s) c.row) (λ d c t. t.row.coordinates) ds cs a
 
 pub region_wider : (q : BodyView) (r : RegionView) → IsRegionOf q.names r → length r.names.variables ≡ length q.names.variables + r.auxiliaries
 region_wider q r k = omega (arith, ap length k.variables, length-append q.names.variables k.own, k.counted)
@@ -74,7 +74,7 @@ limits_of q (Err e) k a b = tt
 limits_of q (Ok p) k a b = limits_by q q.verb p k k.verb b a
 
 -- what the variables stand for
-pub sets_for : (p : Pair) (c : Candidate) (sets : List ℕ) → sets ≡ candidate_sets p c → IsPair p → Fits p c → AreSetsFor p sets
+pub sets_for : (p : Pair) (c : Candidate) (sets : List ℕ) → sets ≡ candidate_sets p c → IsPair p → FitsPair p c → AreSetsFor p sets
 sets_for p c sets e k f = record {
   complete = ap length e ∙ length-sets p.common (take c.count c.parts) ∙ ap (λ n. p.common + n) (length-take-le c.count c.parts (omega (arith, f.complete, f.count, k.few_parts)) ∙ f.count) ∙ k.variables;
   within = subst (All (λ s. s < 2 ^ p.first.space.variables)) (sym e) (sets_within p.first.space.variables p.common (take c.count c.parts) k.common_first f.within);
@@ -87,3 +87,7 @@ all_below k xs = (
   λ e. All-weaker (λ s. nat_lt s k ≡ true) (λ s. s < k) (λ s e. search (rules, e)) xs (AllPass-from_list_all (λ s. nat_lt s k) xs e),
   λ a. list_all-from_AllPass (λ s. nat_lt s k) xs (All-weaker (λ s. s < k) (λ s. nat_lt s k ≡ true) (λ s l. search (rules, l)) xs a),
 )
+
+-- the pair of a verb's two regions
+pub pair_of_verb : (q : BodyView) (first second : RegionView) (tries : List (List ℕ)) (p : Pair) → q.verb ≡ Contain first second tries → Pairs q p → IsPairOf q first second p
+pair_of_verb q first second tries p is h = subst (λ (m : VerbView). PairsBy q m p) is h

@@ -1,6 +1,5 @@
 -- Where the obligations hold at a point of the first region, the pulled-back point is one of the second.
-use Rattle.std.proofs.Common.{◌≡◌, ℕ, ◌+◌, ◌<◌, ◌≤◌, ◌^◌, ℤ, pos, ◌≤ℤ◌, List, [], ◌∷◌, length, ap, subst, ◌∙◌, arith, All, lit<}
-use Rattle.std.proofs.Math.Nat.{pow-le-pow_right}
+use Rattle.std.proofs.Common.{◌≡◌, ℕ, ◌+◌, ◌≤◌, ℤ, pos, ◌≤ℤ◌, List, [], ◌∷◌, length, ap, subst, ◌∙◌, arith, All}
 use Rattle.std.proofs.lemmas.List.Elements.{All-nil, All-cons, All-append}
 use Rattle.it_polymatroid.specs.Certificates.{Form}
 use Rattle.it_polymatroid.proofs.Images.{pulled_polymatroid}
@@ -12,6 +11,7 @@ use Rattle.it_canon.specs.Demands.{LineDemand}
 use Rattle.it_canon.specs.QuestionDemands.{given_demands, row_demands}
 use Rattle.it_canon.proofs.MetLemmas.{IsSatisfied, givens_satisfied, rows_satisfied}
 use Rattle.it_canon.proofs.ZipLemmas.{All-parts}
+use Rattle.it_canon.proofs.QuestionLemmas.{wider_set}
 use Rattle.it_region.specs.Pulling.{substituted_sets, pulled_coordinate, pulled_map}
 use Rattle.it_region.specs.Regions.{AgreeOnCommon}
 use Rattle.it_region.specs.Obligations.{halves, pulled_form, demand_obligations, own_demands, AreFormsAtLeastZero}
@@ -44,7 +44,7 @@ pulled_point_is_in q a b tries parts k is s p inside owe =
     let fewer : common ≤ m = omega (arith, region_wider q b both.1) in
     let image : ℕ → ℤ = pulled_map n m sets p in
     let agree : AgreeOnCommon common rates n m p image = record {
-      on_sets = λ t l. ap p (coordinate_of_set n m sets t (below_power common m t fewer l) ∙ common_stay common parts t l);
+      on_sets = λ t l. ap p (coordinate_of_set n m sets t (wider_set common m t fewer l) ∙ common_stay common parts t l);
       on_rates = λ r l. ap p (coordinate_of_rate n m sets r);
     } in
     let shared_givens = All-parts (IsTrueAt n p) q.lines.givens a.lines.givens inside.lines_hold.givens in
@@ -65,9 +65,6 @@ pulled_point_is_in q a b tries parts k is s p inside owe =
       };
       agree = agree;
     }
-  where
-    below_power : (i j t : ℕ) → i ≤ j → t < 2 ^ i → t < 2 ^ j
-    below_power i j t h l = let e : 2 ^ i ≤ 2 ^ j = pow-le-pow_right (lit< tt) h in omega (arith, e)
 
 pub obligations_contain : ObligationsContain
 obligations_contain q a b tries parts k is s owe p inside =

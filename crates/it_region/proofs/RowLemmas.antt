@@ -1,9 +1,10 @@
 -- The rows of obligations, and loops that make them.
 use Rattle.std.proofs.Common.{◌≡◌, ◌↔◌, ℕ, ◌+◌, ◌-◌, ◌<◌, ◌≤◌, ◌^◌, ℤ, pos, neg_ℤ, ◌+ℤ◌, ◌*ℤ◌, ◌≤ℤ◌, unsigned_abs, Bool, true, false, List, [], ◌∷◌, length, drop, get_or, refl, sym, ap, subst, ◌∙◌, arith, All, Result, Ok, Err, IfOk, Vec, Global}
 use Rattle.std.proofs.lemmas.Int.{ints}
-use Rattle.std.proofs.lemmas.List.{drop_more, drop_all}
+use Rattle.std.proofs.lemmas.List.{drop_all}
 use Rattle.std.proofs.lemmas.List.Elements.{All-nil, All-cons, All-head, All-tail, All-append}
 use Rattle.it_number.proofs.Integers.{zring}
+use Rattle.it_space.proofs.ListLemmas.{drop_item}
 use Rattle.it_space.specs.declared.spaces.Space.{Space}
 use Rattle.it_space.specs.declared.problems.Kind.{Kind}
 use Rattle.it_space.specs.declared.problems.Kind.TheVariants.{Inequality, Equation}
@@ -30,13 +31,6 @@ pub record IsUnderWay (f : ℕ → ℕ) (turned : Bool) (whole : Terms) (size : 
   pub small : largest now + row_mass (drop i whole) ≤ row_mass whole
   pub sum : (p : ℕ → ℤ) → dense_form now p +ℤ signed_form f turned (drop i whole) p ≡ signed_form f turned whole p
 
-pub begins : (f : ℕ → ℕ) (turned : Bool) (whole : Terms) (size : ℕ) (now : List ℤ) → length now ≡ size + 1 → largest now ≡ 0 → ((p : ℕ → ℤ) → dense_form now p ≡ pos 0) → IsUnderWay f turned whole size now 0
-begins f turned whole size now l m z = record {
-  complete = l;
-  small = omega (arith, m);
-  sum = λ p. ap (λ x. x +ℤ signed_form f turned whole p) (z p) ∙ omega (arith, ints);
-}
-
 signed_form-cons : (f : ℕ → ℕ) (turned : Bool) (t : ℕ × ℤ) (ts : Terms) (p : ℕ → ℤ) → signed_form f turned (t ∷ ts) p ≡ signed_by turned t.1 *ℤ p (f t.0) +ℤ signed_form f turned ts p
 signed_form-cons f true t ts p = step t.1 (p (f t.0)) (value ts (λ c. p (f c)))
   where
@@ -44,28 +38,22 @@ signed_form-cons f true t ts p = step t.1 (p (f t.0)) (value ts (λ c. p (f c)))
     step x y z = omega (arith, zring)
 signed_form-cons f false t ts p = refl
 
-drop_term : (whole : Terms) (i : ℕ) (t : ℕ × ℤ) → i < length whole → t ≡ get_or whole i t → drop i whole ≡ t ∷ drop (i + 1) whole
-drop_term whole i t l is = drop_more whole i t l ∙ ap (λ (y : ℕ × ℤ). y ∷ drop (i + 1) whole) (sym is)
-
 -- a term has room
 pub room : (f : ℕ → ℕ) (turned : Bool) (whole : Terms) (size : ℕ) (now : List ℤ) (i : ℕ) (t : ℕ × ℤ) → i < length whole → t ≡ get_or whole i t → row_mass whole < 2 ^ 127 → IsUnderWay f turned whole size now i
     → largest now + unsigned_abs t.1 < 2 ^ 127
-room f turned whole size now i t l is few u = omega (arith, u.small, ap row_mass (drop_term whole i t l is), few)
+room f turned whole size now i t l is few u = omega (arith, u.small, ap row_mass (drop_item whole i t l is), few)
 
 pub goes_on : (f : ℕ → ℕ) (turned : Bool) (whole : Terms) (size : ℕ) (now new : List ℤ) (i : ℕ) (t : ℕ × ℤ) → i < length whole → t ≡ get_or whole i t
     → IsFormAdded now new (unsigned_abs t.1) (λ p. signed_by turned t.1 *ℤ p (f t.0)) → IsUnderWay f turned whole size now i → IsUnderWay f turned whole size new (i + 1)
 goes_on f turned whole size now new i t l is a u = record {
   complete = a.complete ∙ u.complete;
-  small = omega (arith, a.small, u.small, ap row_mass (drop_term whole i t l is));
+  small = omega (arith, a.small, u.small, ap row_mass (drop_item whole i t l is));
   sum = λ p. step (dense_form new p) (dense_form now p) (signed_by turned t.1 *ℤ p (f t.0)) (signed_form f turned (drop (i + 1) whole) p) (signed_form f turned whole p) (a.sum p)
-      (ap (λ x. dense_form now p +ℤ x) (sym (ap (λ (ts : Terms). signed_form f turned ts p) (drop_term whole i t l is) ∙ signed_form-cons f turned t (drop (i + 1) whole) p)) ∙ u.sum p);
+      (ap (λ x. dense_form now p +ℤ x) (sym (ap (λ (ts : Terms). signed_form f turned ts p) (drop_item whole i t l is) ∙ signed_form-cons f turned t (drop (i + 1) whole) p)) ∙ u.sum p);
 }
   where
     step : (new now x rest all : ℤ) → new ≡ now +ℤ x → now +ℤ (x +ℤ rest) ≡ all → new +ℤ rest ≡ all
     step new now x rest all e h = omega (arith, ints, e, h)
-
-pub few_at_end : (f : ℕ → ℕ) (turned : Bool) (whole : Terms) (size : ℕ) (now : List ℤ) (i : ℕ) → IsUnderWay f turned whole size now i → largest now ≤ row_mass whole
-few_at_end f turned whole size now i u = omega (arith, u.small)
 
 signed_form-nil : (f : ℕ → ℕ) (turned : Bool) (p : ℕ → ℤ) → signed_form f turned [] p ≡ pos 0
 signed_form-nil f true p = refl

@@ -18,7 +18,7 @@ use Rattle.it_canon.proofs.ZipLemmas.{zip-append}
 use Rattle.it_region.specs.declared.types.Candidate.{Candidate}
 use Rattle.it_region.specs.declared.types.Pair.{Pair}
 use Rattle.it_region.specs.Obligations.{halves, pulled_form, demand_obligations, constraint_obligations, own_demands, obligations, ArePartsOf, IsPulledRow, ArePulledRows}
-use Rattle.it_region.specs.Pairs.{IsPair, IsPairOf, Fits, candidate_coordinate, pair_obligations}
+use Rattle.it_region.specs.Pairs.{IsPair, IsPairOf, FitsPair, candidate_coordinate, pair_obligations}
 use Rattle.it_region.specs.Pulling.{substituted_sets, pulled_coordinate}
 use Rattle.it_region.proofs.PullingLemmas.{coordinate_of_empty_set}
 
@@ -88,14 +88,14 @@ module _ (q : BodyView) (a b : RegionView) (p : Pair) (o : IsPairOf q a b p) whe
       (forms_same p.space (candidate_coordinate p c) (own_demands q b) p.own.items (coordinate_of_empty_set p.first.space.variables p.space.variables p.common (candidate_parts c)) o.own) r)
 
   -- the parts of a candidate that fits
-  pub parts_are : (c : Candidate) → IsPair p → Fits p c → ArePartsOf a b (candidate_parts c)
+  pub parts_are : (c : Candidate) → IsPair p → FitsPair p c → ArePartsOf a b (candidate_parts c)
   parts_are c l f = record {
     count = length-take-le c.count c.parts (omega (arith, f.complete, f.count, l.few_parts)) ∙ f.count ∙ o.parts;
     within = subst (λ (n : ℕ). All (λ s. s < 2 ^ n) (candidate_parts c)) first_variables f.within;
   }
 
   -- and a candidate of parts does
-  pub parts_fit : (c : Candidate) (parts : List ℕ) → length c.parts ≡ 4 → c.count ≡ length parts → candidate_parts c ≡ parts → ArePartsOf a b parts → Fits p c
+  pub parts_fit : (c : Candidate) (parts : List ℕ) → length c.parts ≡ 4 → c.count ≡ length parts → candidate_parts c ≡ parts → ArePartsOf a b parts → FitsPair p c
   parts_fit c parts four count same h = record {
     complete = four;
     count = count ∙ h.count ∙ sym o.parts;

@@ -50,7 +50,7 @@ IsContainment (Eliminate rates) = ⊥
 IsContainment (Contain a b tries) = Unit {0}
 
 -- a set of the first region's variables for each part
-pub record Fits (p : Pair) (c : Candidate) : Type 0 where
+pub record FitsPair (p : Pair) (c : Candidate) : Type 0 where
   pub complete : length c.parts ≡ 4
   pub count : c.count ≡ p.parts
   pub within : All (λ s. s < 2 ^ p.first.space.variables) (take c.count c.parts)

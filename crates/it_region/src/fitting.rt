@@ -1,7 +1,7 @@
 //! Candidates that fit a pair.
 ghost use Rattle.std.specs.Prelude.{◌↔◌, ◌<◌, ◌≤◌, ◌^◌, nat_lt, take, All, IsTrue, ◌≡◌};
 ghost use Rattle.std.specs.List.{list_all};
-ghost use Rattle.it_region.specs.Pairs.{IsPair, Fits};
+ghost use Rattle.it_region.specs.Pairs.{IsPair, FitsPair};
 
 use crate::types::{Candidate, Pair};
 use it_space::VarSet;
@@ -9,7 +9,7 @@ use it_space::VarSet;
 /// Whether the candidate has as many parts as the pair, each a set of the first region's variables.
 pub fn fits(pair: &Pair, candidate: &Candidate) -> bool
     requires { IsPair pair.now }
-    ensures { IsTrue result ↔ Fits pair.now candidate.now }
+    ensures { IsTrue result ↔ FitsPair pair.now candidate.now }
 {
     if candidate.count == pair.parts {
         are_within(candidate, pair.first.space.variables)

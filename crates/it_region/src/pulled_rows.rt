@@ -9,7 +9,7 @@ ghost use Rattle.it_canon.specs.Coefficients.{largest, signed_by, IsFormAdded};
 ghost use Rattle.it_region.specs.Obligations.{halves, pulled_form, constraint_obligations, ArePulledRows, IsPulledRow};
 ghost use Rattle.it_region.specs.Pulling.{singles};
 ghost use Rattle.it_region.specs.PairSteps.{AreSetsFor};
-ghost use Rattle.it_region.specs.Pairs.{Fits, IsPair, pair_obligations, candidate_coordinate, pair_coordinate, candidate_sets};
+ghost use Rattle.it_region.specs.Pairs.{FitsPair, IsPair, pair_obligations, candidate_coordinate, pair_coordinate, candidate_sets};
 
 use crate::types::{Candidate, Pair};
 use it_canon::Coefficients;
@@ -24,7 +24,7 @@ fn candidate_sets(
     candidate: &Candidate,
 ) -> Result<Vec<VarSet>, AllocError>
     requires pair { IsPair pair.now }
-    requires fits { Fits pair.now candidate.now }
+    requires fits { FitsPair pair.now candidate.now }
     ensures { IfOk result (λ v. v.items ≡ candidate_sets pair.now candidate.now) }
 {
     let mut sets = singles(alloc, pair.common)?;
@@ -150,7 +150,7 @@ pub fn obligations(
     candidate: &Candidate,
 ) -> Result<Vec<Row>, AllocError>
     requires pair { IsPair pair.now }
-    requires fits { Fits pair.now candidate.now }
+    requires fits { FitsPair pair.now candidate.now }
     ensures rows { IfOk result (λ v. ArePulledRows pair.now.first.space (pair_obligations pair.now candidate.now) v.items) }
     ensures met { IfOk result (λ v. (p : ℕ → ℤ) → p 0 ≡ pos 0 → AreAtLeastZero p v.items ↔ AreMet (λ c. p (candidate_coordinate pair.now candidate.now c)) pair.now.own.items) }
     ensures limits { IfOk result (λ v. All (IsUpTo (size_of pair.now.first.space)) v.items) }

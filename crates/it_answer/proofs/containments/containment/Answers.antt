@@ -1,7 +1,8 @@
 use Rattle.std.proofs.Common.{◌∙◌}
 use Rattle.it_space.specs.Answers.{answer_view}
 use Rattle.it_question.specs.Questions.{question_body, region_view}
-use Rattle.it_answer.proofs.ContainmentLemmas.{answered, is_containment, pair_of_verb}
+use Rattle.it_region.proofs.PairLemmas.{pair_of_verb}
+use Rattle.it_answer.proofs.ContainmentLemmas.{answered, is_containment}
 use Rattle.it_answer.proofs.containments.containment.Goals as goal
 
 pub pair-requires-clause-contains : goal.pair-requires-clause-contains

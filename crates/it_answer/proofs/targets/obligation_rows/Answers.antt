@@ -1,7 +1,8 @@
 use Rattle.std.proofs.Common.{rules}
 use Rattle.it_question.specs.Questions.{question_body, region_view}
 use Rattle.it_region.proofs.TextLemmas.{parts_fit}
-use Rattle.it_answer.proofs.ContainmentLemmas.{is_containment, pair_of_verb}
+use Rattle.it_region.proofs.PairLemmas.{pair_of_verb}
+use Rattle.it_answer.proofs.ContainmentLemmas.{is_containment}
 use Rattle.it_answer.proofs.TargetLemmas.{obligation_rows}
 use Rattle.it_answer.proofs.targets.obligation_rows.Goals as goal
 

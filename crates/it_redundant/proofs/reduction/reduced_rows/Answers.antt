@@ -1,5 +1,6 @@
-use Rattle.std.proofs.Common.{◌<◌, ◌≤◌, ◌+◌, ◌++◌, ◌∷◌, ◌∙◌, ap, sym, subst, arith, rules, drop, length}
-use Rattle.std.proofs.lemmas.List.{drop_all, drop_more, length-drop, take_all}
+use Rattle.std.proofs.Common.{◌<◌, ◌≤◌, ◌+◌, ◌++◌, sym, subst, arith, rules, length}
+use Rattle.std.proofs.lemmas.List.{drop_all, length-drop, take_all}
+use Rattle.it_space.proofs.ListLemmas.{drop_item}
 use Rattle.it_space.specs.Problems.{problem_view}
 use Rattle.it_space.specs.Rows.{IsUpTo}
 use Rattle.it_space.specs.Spaces.{size_of}
@@ -21,7 +22,7 @@ loop-i-preserved c =
     let row = c.index-rows-i.result in
     let below : i < length rows = search rules in (
       under_way_more q c.args.budget size rows (kept_view c.loop-i.reduced) (kept_view c.visit.new.reduced) (dropped_view c.loop-i.reduced) (dropped_view c.visit.new.reduced) i row c.in_ok-visit.ensures.visited.outcome below
-          (drop_more rows i row below ∙ ap (λ x. x ∷ drop (i + 1) rows) (sym c.index-rows-i.is)) (subst (IsUpTo size) (sym c.index-rows-i.is) (c.requires.rows i row below))
+          (drop_item rows i row below c.index-rows-i.is) (subst (IsUpTo size) (sym c.index-rows-i.is) (c.requires.rows i row below))
           (subst (λ xs. EndsWith (with_rows q (kept_rows (kept_view c.loop-i.reduced) ++ xs)) row c.args.budget c.in_ok-visit.ensures.visited.outcome) (take_all _ _ (simp length-drop (omega arith))) c.in_ok-visit.ensures.visited.ends)
           c.in_ok-visit.ensures.visited.kept c.in_ok-visit.ensures.visited.dropped c.loop-i.invariant.0,
       c.in_ok-visit.ensures.closed,

@@ -1,7 +1,7 @@
 use Rattle.std.proofs.Common.{◌≡◌, ◌+◌, ◌-◌, ◌<◌, sym, ap, get_or, ◌∙◌, arith}
 use Rattle.it_contain.specs.Shapes.{small_sets}
 use Rattle.it_contain.proofs.TupleLemmas.{at_small_sets, length_small_sets}
-use Rattle.it_contain.proofs.singles.SinglesPartSets.set_at.Goals as goal
+use Rattle.it_contain.proofs.singles.SmallSetsPartSets.set_at.Goals as goal
 
 pub returns-else-number-eq0 : goal.returns-else-number-eq0
 returns-else-number-eq0 c =
