@@ -15,6 +15,7 @@ use Rattle.it_space.specs.Answers.AnswerView.{Yes, No, Undecided, Region, Contai
 use Rattle.it_space.specs.declared.answers.Mark.{Mark}
 use Rattle.it_space.specs.declared.answers.Cause.{Cause}
 use Rattle.it_space.specs.declared.answers.Cause.TheVariants.{Pivots, Width, Scale, Rows, WideRate}
+use Rattle.it_space.proofs.BoolLemmas.{both_true}
 use Rattle.it_syntax.specs.NamesViews.{NamesView, index_of}
 use Rattle.it_syntax.specs.declared.types.Sign.{Sign}
 use Rattle.it_question.specs.Questions.{QuestionView, RegionView, VerbView, Prove, Eliminate, Contain}
@@ -28,13 +29,13 @@ use Rattle.it_certificate.specs.declared.kinds.CauseKind.TheVariants as causes
 use Rattle.it_certificate.specs.Numerals.{count_of, count_of_integer, step_of, integer_of}
 use Rattle.it_certificate.specs.Values.{rate_name}
 use Rattle.it_certificate.specs.Kinds.{back_of}
-use Rattle.it_certificate.specs.Parts.{text_of, items_of_array, integer_at, count_at, both, two_of, pair_at, all_of, list_at, of_length, certificate_at, proofs_at, point_at, back_at, cause_kind_at, cause_of, cause_at, step_or_rate, is_row_between, is_term_between, row_of, mark_at, terms_at, row_at, rows_at, set_of, set_at, parts_at, tried_at}
+use Rattle.it_certificate.specs.Parts.{text_of, items_of_array, integer_at, count_at, both, two_of, pair_at, all_of, list_at, of_length, certificate_at, proofs_at, point_at, back_at, cause_kind_at, cause_of, cause_at, step_or_rate, is_row_between, is_term_between, row_of, mark_at, terms_at, marked_row_at, rows_at, set_of_number, set_at, parts_at, tried_at}
 use Rattle.it_certificate.specs.AnswerReading.{and_then, is_equality, yes_at, no_at, undecided_at, region_at, contained_at, open_at}
 use Rattle.it_certificate.specs.Obligations.{obligation_count, target_count}
 use Rattle.it_certificate.specs.Reports.{prove_answer, eliminate_answer, contain_answer, verb_answer, question_answer}
-use Rattle.it_certificate.specs.Fits.{IsNumberedAmount, IsNumbered, IsRowIn, IsFoundIn, IsCauseFor, FitsProve, FitsEliminate, FitsContain, FitsVerb, FitsQuestion}
+use Rattle.it_certificate.specs.AnswerShapes.{IsNumberedAmount, IsNumbered, IsRowIn, IsFoundIn, IsCauseFor, HasProveShape, HasEliminateShape, HasContainShape, HasVerbShape, HasQuestionShape}
 use Rattle.it_certificate.proofs.WithinLemmas.{and_then_some, map_some, cond_some, both_some, all_of_holds, integer_at_within, point_within, point_length}
-use Rattle.it_certificate.proofs.RowLemmas.{both_true, canonical}
+use Rattle.it_certificate.proofs.RowLemmas.{canonical}
 
 key_ok : {A : Type 0} (k : Key) (o : Option A) (a : A) → ok_or o k ≡ Ok a → o ≡ Some a
 key_ok k None a is = absurd (cc)
@@ -96,11 +97,11 @@ proofs_fit n d ps is = counted_numbers IsNumbered certificate_at certificate_num
 
 -- ---- yes, no
 
-yes_fits : (v : NamesView) (sign : Sign) (d : Data) (a : AnswerView) → yes_at sign d ≡ Ok a → FitsProve v sign a
+yes_fits : (v : NamesView) (sign : Sign) (d : Data) (a : AnswerView) → yes_at sign d ≡ Ok a → HasProveShape v sign a
 unfolding yes_at
 yes_fits v sign d a is =
     let h = then_ok (ok_or (proofs_at (target_count sign) d) keys.Proofs) (λ ps. Ok (Yes ps)) a is in
-    subst (FitsProve v sign) (ok_same (Yes h.0) a h.1.1) (proofs_fit (target_count sign) d h.0 (key_ok keys.Proofs (proofs_at (target_count sign) d) h.0 h.1.0))
+    subst (HasProveShape v sign) (ok_same (Yes h.0) a h.1.1) (proofs_fit (target_count sign) d h.0 (key_ok keys.Proofs (proofs_at (target_count sign) d) h.0 h.1.0))
 
 back_only : (equality back : Bool) (text : List ℕ) → back_of equality text ≡ Some back → back ≡ true → equality ≡ true
 back_only true back text is at = refl
@@ -115,7 +116,7 @@ back_fits : (equality back : Bool) (d : Data) → back_at equality d ≡ Some ba
 unfolding back_at
 back_fits equality back d is at = let h = and_then_some (text_of (get (codes "side") d)) (back_of equality) back is in back_only equality back h.0 h.1.1 at
 
-no_fits : (v : NamesView) (sign : Sign) (d : Data) (a : AnswerView) → no_at (size_of (space_of v)) sign d ≡ Ok a → FitsProve v sign a
+no_fits : (v : NamesView) (sign : Sign) (d : Data) (a : AnswerView) → no_at (size_of (space_of v)) sign d ≡ Ok a → HasProveShape v sign a
 unfolding no_at
 no_fits v sign d a is =
     let size = size_of (space_of v) in
@@ -123,7 +124,7 @@ no_fits v sign d a is =
     let k = then_ok (ok_or (back_at (is_equality sign) d) keys.Side) (λ back. Ok (No back h.0)) a h.1.1 in
     let p = key_ok keys.Point (point_at (size_of (space_of v)) d) h.0 h.1.0 in
     let b = key_ok keys.Side (back_at (is_equality sign) d) k.0 k.1.0 in
-    subst (FitsProve v sign) (ok_same (No k.0 h.0) a k.1.1) (point_length (size_of (space_of v)) d h.0 p, point_within (size_of (space_of v)) d h.0 p, back_fits (is_equality sign) k.0 d b)
+    subst (HasProveShape v sign) (ok_same (No k.0 h.0) a k.1.1) (point_length (size_of (space_of v)) d h.0 p, point_within (size_of (space_of v)) d h.0 p, back_fits (is_equality sign) k.0 d b)
 
 -- ---- undecided
 
@@ -189,8 +190,8 @@ terms_numbers : (d : Data) (ts : Terms) → terms_at d ≡ Some ts → All IsNum
 unfolding terms_at
 terms_numbers d ts is = list_numbers IsNumberedAmount pair_at pair_numbers (get (codes "row") d) ts is
 
-row_fits : (size : ℕ) (d : Data) (r : Mark × Terms) → row_at size d ≡ Some r → IsRowIn size r
-unfolding row_at
+row_fits : (size : ℕ) (d : Data) (r : Mark × Terms) → marked_row_at size d ≡ Some r → IsRowIn size r
+unfolding marked_row_at
 row_fits size d r is =
     let h = both_some (mark_at d) (option_and_then (row_of size) (terms_at d)) r is in
     let k = and_then_some (terms_at d) (row_of size) r.1 h.1 in
@@ -200,12 +201,12 @@ row_fits size d r is =
     let row : is_row_between 1 size r.1 ≡ true = subst (λ ts. is_row_between 1 size ts ≡ true) e m.0 in
     record { terms = terms; canonical = canonical size r.1 row (all_second r.1 terms); coordinates = up_to 1 size r.1 (omega arith) row }
 
-region_fits : (v : NamesView) (d : Data) (a : AnswerView) → region_at (size_of (space_of v)) d ≡ Ok a → FitsEliminate v a
+region_fits : (v : NamesView) (d : Data) (a : AnswerView) → region_at (size_of (space_of v)) d ≡ Ok a → HasEliminateShape v a
 unfolding region_at rows_at
 region_fits v d a is =
-    let h = then_ok (ok_or (list_at (row_at (size_of (space_of v))) (get (codes "rows") d)) keys.Rows) (λ rows. Ok (Region rows)) a is in
-    subst (FitsEliminate v) (ok_same (Region h.0) a h.1.1)
-    (list_numbers (IsRowIn (size_of (space_of v))) (row_at (size_of (space_of v))) (row_fits (size_of (space_of v))) (get (codes "rows") d) h.0 (key_ok keys.Rows (list_at (row_at (size_of (space_of v))) (get (codes "rows") d)) h.0 h.1.0))
+    let h = then_ok (ok_or (list_at (marked_row_at (size_of (space_of v))) (get (codes "rows") d)) keys.Rows) (λ rows. Ok (Region rows)) a is in
+    subst (HasEliminateShape v) (ok_same (Region h.0) a h.1.1)
+    (list_numbers (IsRowIn (size_of (space_of v))) (marked_row_at (size_of (space_of v))) (row_fits (size_of (space_of v))) (get (codes "rows") d) h.0 (key_ok keys.Rows (list_at (marked_row_at (size_of (space_of v))) (get (codes "rows") d)) h.0 h.1.0))
 
 -- ---- containments
 
@@ -215,7 +216,7 @@ IsSetIn n s = (s < 2 ^ 32) × (s < 2 ^ n)
 set_fits : (n : ℕ) (d : Data) (s : ℕ) → set_at n d ≡ Some s → IsSetIn n s
 unfolding set_at
 set_fits n d s is =
-    let h = and_then_some (count_at d) (set_of n) s is in
+    let h = and_then_some (count_at d) (set_of_number n) s is in
     let m = cond_some (nat_lt h.0 (2 ^ n)) (Some h.0) s h.1.1 in
     let e : h.0 ≡ s = let t = m.1 in cc in
     let lt : h.0 < 2 ^ n = let t = m.0 in search (rules, t) in
@@ -225,43 +226,43 @@ parts_fit : (count n : ℕ) (d : Data) (ss : List ℕ) → parts_at count n d �
 unfolding parts_at
 parts_fit count n d ss is = counted_numbers (IsSetIn n) (set_at n) (set_fits n) count (get (codes "parts") d) ss is
 
-contained_fits : (first second : RegionView) (d : Data) (a : AnswerView) → contained_at second.auxiliaries (length first.names.variables) (obligation_count second) d ≡ Ok a → FitsContain first second a
+contained_fits : (first second : RegionView) (d : Data) (a : AnswerView) → contained_at second.auxiliaries (length first.names.variables) (obligation_count second) d ≡ Ok a → HasContainShape first second a
 unfolding contained_at
 contained_fits first second d a is =
     let h = then_ok (ok_or (parts_at second.auxiliaries (length first.names.variables) d) keys.Parts) (λ parts. and_then (ok_or (proofs_at (obligation_count second) d) keys.Proofs) (λ proofs. Ok (Contained parts proofs))) a is in
     let k = then_ok (ok_or (proofs_at (obligation_count second) d) keys.Proofs) (λ proofs. Ok (Contained h.0 proofs)) a h.1.1 in
     let p = parts_fit second.auxiliaries (length first.names.variables) d h.0 (key_ok keys.Parts (parts_at second.auxiliaries (length first.names.variables) d) h.0 h.1.0) in
     let w = proofs_fit (obligation_count second) d k.0 (key_ok keys.Proofs (proofs_at (obligation_count second) d) k.0 k.1.0) in
-    subst (FitsContain first second) (ok_same (Contained h.0 k.0) a k.1.1) (record { each = p.0; sets = p.1; obligations = w.0; numbers = w.1 })
+    subst (HasContainShape first second) (ok_same (Contained h.0 k.0) a k.1.1) (record { each = p.0; sets = p.1; obligations = w.0; numbers = w.1 })
 
-open_fits : (first second : RegionView) (d : Data) (a : AnswerView) → open_at d ≡ Ok a → FitsContain first second a
+open_fits : (first second : RegionView) (d : Data) (a : AnswerView) → open_at d ≡ Ok a → HasContainShape first second a
 unfolding open_at tried_at
 open_fits first second d a is =
     let h = then_ok (ok_or (option_and_then count_at (get (codes "tried") d)) keys.Tried) (λ tried. Ok (Open tried)) a is in
     let k = and_then_some (get (codes "tried") d) count_at h.0 (key_ok keys.Tried (option_and_then count_at (get (codes "tried") d)) h.0 h.1.0) in
-    subst (FitsContain first second) (ok_same (Open h.0) a h.1.1) (count_at_below k.0 h.0 k.1.1)
+    subst (HasContainShape first second) (ok_same (Open h.0) a h.1.1) (count_at_below k.0 h.0 k.1.1)
 
 -- ---- by the verb
 
-prove_fits : (v : NamesView) (sign : Sign) (kind : AnswerKind) (d : Data) (a : AnswerView) → prove_answer v sign kind d ≡ Ok a → FitsProve v sign a
+prove_fits : (v : NamesView) (sign : Sign) (kind : AnswerKind) (d : Data) (a : AnswerView) → prove_answer v sign kind d ≡ Ok a → HasProveShape v sign a
 unfolding prove_answer
 prove_fits v sign kinds.Yes d a is = yes_fits v sign d a is
 prove_fits v sign kinds.No d a is = no_fits v sign d a is
-prove_fits v sign kinds.Undecided d a is = let h = undecided_fits v d a is in subst (FitsProve v sign) h.1.0 h.1.1
+prove_fits v sign kinds.Undecided d a is = let h = undecided_fits v d a is in subst (HasProveShape v sign) h.1.0 h.1.1
 prove_fits v sign kinds.Region d a is = absurd (cc)
 prove_fits v sign kinds.Contained d a is = absurd (cc)
 prove_fits v sign kinds.Open d a is = absurd (cc)
 
-eliminate_fits : (v : NamesView) (kind : AnswerKind) (d : Data) (a : AnswerView) → eliminate_answer v kind d ≡ Ok a → FitsEliminate v a
+eliminate_fits : (v : NamesView) (kind : AnswerKind) (d : Data) (a : AnswerView) → eliminate_answer v kind d ≡ Ok a → HasEliminateShape v a
 unfolding eliminate_answer
 eliminate_fits v kinds.Yes d a is = absurd (cc)
 eliminate_fits v kinds.No d a is = absurd (cc)
-eliminate_fits v kinds.Undecided d a is = let h = undecided_fits v d a is in subst (FitsEliminate v) h.1.0 h.1.1
+eliminate_fits v kinds.Undecided d a is = let h = undecided_fits v d a is in subst (HasEliminateShape v) h.1.0 h.1.1
 eliminate_fits v kinds.Region d a is = region_fits v d a is
 eliminate_fits v kinds.Contained d a is = absurd (cc)
 eliminate_fits v kinds.Open d a is = absurd (cc)
 
-contain_fits : (first second : RegionView) (kind : AnswerKind) (d : Data) (a : AnswerView) → contain_answer first second kind d ≡ Ok a → FitsContain first second a
+contain_fits : (first second : RegionView) (kind : AnswerKind) (d : Data) (a : AnswerView) → contain_answer first second kind d ≡ Ok a → HasContainShape first second a
 unfolding contain_answer
 contain_fits first second kinds.Yes d a is = absurd (cc)
 contain_fits first second kinds.No d a is = absurd (cc)
@@ -270,11 +271,11 @@ contain_fits first second kinds.Region d a is = absurd (cc)
 contain_fits first second kinds.Contained d a is = contained_fits first second d a is
 contain_fits first second kinds.Open d a is = open_fits first second d a is
 
-pub answer_fits : (q : QuestionView) (kind : AnswerKind) (d : Data) (a : AnswerView) → question_answer q kind d ≡ Ok a → FitsQuestion q.body a
-unfolding question_answer FitsQuestion
+pub answer_fits : (q : QuestionView) (kind : AnswerKind) (d : Data) (a : AnswerView) → question_answer q kind d ≡ Ok a → HasQuestionShape q.body a
+unfolding question_answer HasQuestionShape
 answer_fits q kind d a is = by q.body.verb is
   where
-    by : (verb : VerbView) → verb_answer q.body.names verb kind d ≡ Ok a → FitsVerb q.body.names verb a
+    by : (verb : VerbView) → verb_answer q.body.names verb kind d ≡ Ok a → HasVerbShape q.body.names verb a
     by (Prove r) e = prove_fits q.body.names r.sign kind d a e
     by (Eliminate rates) e = eliminate_fits q.body.names kind d a e
     by (Contain first second tries) e = contain_fits first second kind d a e

@@ -1,14 +1,15 @@
 -- How many forms lines say to be at least 0, line by line.
-use Rattle.std.proofs.Common.{◌≡◌, ℕ, ◌+◌, ◌*◌, ◌-◌, ◌<◌, List, [], ◌∷◌, ◌++◌, length, map, drop, get_or, refl, ap, sym, ◌∙◌, arith, bit_or}
-use Rattle.std.proofs.lemmas.List.{drop_more}
+use Rattle.std.proofs.Common.{◌≡◌, ℕ, ◌+◌, ◌*◌, ◌-◌, ◌<◌, List, [], ◌∷◌, ◌++◌, length, map, drop, get_or, refl, ap, sym, ◌∙◌, arith}
 use Rattle.it_syntax.specs.declared.types.Given.{Given}
 use Rattle.std.specs.List.{fold, sum_by}
+use Rattle.it_space.proofs.ListLemmas.{drop_item}
 use Rattle.it_syntax.specs.declared.types.Atom.{Atom}
 use Rattle.it_syntax.specs.Meaning.{RelationView}
-use Rattle.it_syntax.specs.Givens.{GivenView, Relation, Markov, Independent, Function, given_view, links, links_from}
+use Rattle.it_syntax.specs.Givens.{GivenView, Relation, Markov, Independent, Function, given_view, links}
 use Rattle.it_question.specs.Questions.{RegionView}
 use Rattle.it_canon.specs.Demands.{Demand, LineDemand, demands, equations, parts_from, parts_of}
 use Rattle.it_canon.specs.QuestionDemands.{given_demands, row_demands}
+use Rattle.it_canon.proofs.ChainLemmas.{links-length}
 use Rattle.it_certificate.specs.Obligations.{form_count, obligation_count}
 use Rattle.it_certificate.specs.ReportSteps.{given_form_count, relation_form_count}
 
@@ -30,14 +31,9 @@ of_equations : (n a : ℕ) (atoms : List Atom) → total (λ d. form_count d.kin
 of_equations n a [] = omega arith
 of_equations n a (x ∷ xs) = of_equations n (a + 2) xs ∙ omega arith
 
-links_length : (past : ℕ) (sets : List ℕ) → length (links_from past sets) ≡ length sets - 1
-links_length past [] = refl
-links_length past (here ∷ []) = refl
-links_length past (here ∷ next ∷ sets) = let e = links_length (bit_or past here) (next ∷ sets) in omega (arith, e)
-
 chain_length : (sets : List ℕ) → length (links sets) ≡ length sets - 2
 chain_length [] = refl
-chain_length (first ∷ sets) = let e = links_length first sets in omega (arith, e)
+chain_length (first ∷ sets) = let e = links-length first sets in omega (arith, e)
 
 of_given : (n a : ℕ) (g : GivenView) → total (λ d. form_count d.kind) a (demands n g) ≡ a + given_form_count g
 of_given n a (Relation r) = refl
@@ -80,5 +76,5 @@ pub given_more : (gs : List Given) (i a k whole : ℕ) (g : Given) → i < lengt
     → fold (λ s x. s + given_form_count x) a (map given_view (drop i gs)) ≡ whole → fold (λ s x. s + given_form_count x) (a + k) (map given_view (drop (i + 1) gs)) ≡ whole
 given_more gs i a k whole g lt at forms rest =
     ap (λ n. fold (λ s x. s + given_form_count x) (a + n) (map given_view (drop (i + 1) gs))) forms
-    ∙ sym (ap (λ zs. fold (λ s x. s + given_form_count x) a (map given_view zs)) (drop_more gs i g lt ∙ ap (λ z. z ∷ drop (i + 1) gs) (sym at)))
+    ∙ sym (ap (λ zs. fold (λ s x. s + given_form_count x) a (map given_view zs)) (drop_item gs i g lt at))
     ∙ rest

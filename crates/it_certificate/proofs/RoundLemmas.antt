@@ -25,11 +25,11 @@ use Rattle.it_certificate.specs.declared.kinds.AnswerKind.TheVariants as kinds
 use Rattle.it_certificate.specs.declared.kinds.CauseKind.{CauseKind}
 use Rattle.it_certificate.specs.declared.kinds.CauseKind.TheVariants as causes
 use Rattle.it_certificate.specs.Values.{integer_value, count_value, pair_value, proof_value, row_value, rate_name, place_word, answer_value}
-use Rattle.it_certificate.specs.Parts.{text_of, integer_at, count_at, both, pair_at, all_of, of_length, certificate_by, certificate_at, answer_kind_at, proofs_at, point_at, back_at, cause_kind_at, cause_of, cause_at, step_or_rate, is_term_between, is_row_between, row_of, mark_at, terms_at, row_at, rows_at, set_of, set_at, parts_at, tried_at}
+use Rattle.it_certificate.specs.Parts.{text_of, integer_at, count_at, both, pair_at, all_of, of_length, certificate_by, certificate_at, answer_kind_at, proofs_at, point_at, back_at, cause_kind_at, cause_of, cause_at, step_or_rate, is_term_between, is_row_between, row_of, mark_at, terms_at, marked_row_at, rows_at, set_of_number, set_at, parts_at, tried_at}
 use Rattle.it_certificate.specs.AnswerReading.{and_then, is_equality, yes_at, no_at, undecided_at, region_at, contained_at, open_at}
 use Rattle.it_certificate.specs.Obligations.{obligation_count, target_count}
 use Rattle.it_certificate.specs.Reports.{prove_answer, eliminate_answer, contain_answer, verb_answer, question_answer, report_of}
-use Rattle.it_certificate.specs.Fits.{IsNumberedAmount, IsNumbered, IsRowIn, IsCauseFor, FitsProve, FitsEliminate, FitsContainment, FitsContain, FitsVerb, FitsQuestion}
+use Rattle.it_certificate.specs.AnswerShapes.{IsNumberedAmount, IsNumbered, IsRowIn, IsCauseFor, HasProveShape, HasEliminateShape, HasContainmentShape, HasContainShape, HasVerbShape, HasQuestionShape}
 use Rattle.it_certificate.specs.Laws.{without_zeros, written_answer, ReadsBack}
 use Rattle.it_certificate.proofs.BackLemmas.{integer_back, count_back, step_back}
 use Rattle.it_certificate.proofs.QuestionLemmas.{found_text}
@@ -81,7 +81,7 @@ certificates_back n ws is all =
 
 -- ---- yes and no
 
-yes_back : (text : List ℕ) (v : NamesView) (sign : Sign) (ws : List CertificateView) → FitsProve v sign (Yes ws) → yes_at sign (answer_value text v (Yes ws)) ≡ Ok (Yes (map without_zeros ws))
+yes_back : (text : List ℕ) (v : NamesView) (sign : Sign) (ws : List CertificateView) → HasProveShape v sign (Yes ws) → yes_at sign (answer_value text v (Yes ws)) ≡ Ok (Yes (map without_zeros ws))
 unfolding yes_at proofs_at answer_value
 yes_back text v sign ws fits = ap (λ o. and_then (ok_or o keys.Proofs) (λ ps. Ok (Yes ps))) (certificates_back (target_count sign) ws fits.0 fits.1)
 
@@ -94,7 +94,7 @@ unfolding back_at answer_value
 side_back text v equality true vs is = ap (λ b. cond b (Some true) None) (is refl)
 side_back text v equality false vs is = refl
 
-no_back : (text : List ℕ) (v : NamesView) (sign : Sign) (back : Bool) (vs : List ℤ) → FitsProve v sign (No back vs) → no_at (size_of (space_of v)) sign (answer_value text v (No back vs)) ≡ Ok (No back vs)
+no_back : (text : List ℕ) (v : NamesView) (sign : Sign) (back : Bool) (vs : List ℤ) → HasProveShape v sign (No back vs) → no_at (size_of (space_of v)) sign (answer_value text v (No back vs)) ≡ Ok (No back vs)
 unfolding no_at
 no_back text v sign back vs fits =
     ap (λ o. and_then (ok_or o keys.Point) (λ values. and_then (ok_or (back_at (is_equality sign) (answer_value text v (No back vs))) keys.Side) (λ b. Ok (No b values))))
@@ -167,8 +167,8 @@ terms_back : (r : Mark × Terms) → All IsNumberedAmount r.1 → terms_at (row_
 unfolding terms_at row_value
 terms_back r all = same_back IsNumberedAmount pair_at pair_value pair_back r.1 all
 
-row_back : (size : ℕ) (r : Mark × Terms) → IsRowIn size r → row_at size (row_value r) ≡ Some r
-unfolding row_at
+row_back : (size : ℕ) (r : Mark × Terms) → IsRowIn size r → marked_row_at size (row_value r) ≡ Some r
+unfolding marked_row_at
 row_back size r fits =
     ap (λ o. both o (option_and_then (row_of size) (terms_at (row_value r)))) (mark_back r.0 r.1)
     ∙ ap (λ o. both (Some r.0) (option_and_then (row_of size) o)) (terms_back r fits.terms)
@@ -176,15 +176,15 @@ row_back size r fits =
 
 region_back : (text : List ℕ) (v : NamesView) (rows : List (Mark × Terms)) (size : ℕ) → All (IsRowIn size) rows → region_at size (answer_value text v (Region rows)) ≡ Ok (Region rows)
 unfolding region_at rows_at answer_value
-region_back text v rows size all = ap (λ o. and_then (ok_or o keys.Rows) (λ rs. Ok (Region rs))) (same_back (IsRowIn size) (row_at size) row_value (row_back size) rows all)
+region_back text v rows size all = ap (λ o. and_then (ok_or o keys.Rows) (λ rs. Ok (Region rs))) (same_back (IsRowIn size) (marked_row_at size) row_value (row_back size) rows all)
 
 -- ---- containments
 
 set_back : (n s : ℕ) → (s < 2 ^ 32) × (s < 2 ^ n) → set_at n (count_value s) ≡ Some s
 unfolding set_at
-set_back n s h = ap (option_and_then (set_of n)) (count_read s h.0) ∙ (let lt = h.1 in let e : nat_lt s (2 ^ n) ≡ true = search (rules, lt) in ap (λ b. cond b (Some s) None) e)
+set_back n s h = ap (option_and_then (set_of_number n)) (count_read s h.0) ∙ (let lt = h.1 in let e : nat_lt s (2 ^ n) ≡ true = search (rules, lt) in ap (λ b. cond b (Some s) None) e)
 
-contained_back : (text : List ℕ) (v : NamesView) (first second : RegionView) (parts : List ℕ) (ws : List CertificateView) → FitsContainment first second parts ws
+contained_back : (text : List ℕ) (v : NamesView) (first second : RegionView) (parts : List ℕ) (ws : List CertificateView) → HasContainmentShape first second parts ws
     → contained_at second.auxiliaries (length first.names.variables) (obligation_count second) (answer_value text v (Contained parts ws)) ≡ Ok (Contained parts (map without_zeros ws))
 unfolding contained_at parts_at proofs_at answer_value
 contained_back text v first second parts ws fits =
@@ -226,7 +226,7 @@ text_back text v (Region rows) = refl
 text_back text v (Contained parts proofs) = refl
 text_back text v (Open tried) = refl
 
-prove_back : (text : List ℕ) (v : NamesView) (sign : Sign) (a : AnswerView) → FitsProve v sign a → prove_answer v sign (kind_of_answer a) (answer_value text v a) ≡ Ok (written_answer a)
+prove_back : (text : List ℕ) (v : NamesView) (sign : Sign) (a : AnswerView) → HasProveShape v sign a → prove_answer v sign (kind_of_answer a) (answer_value text v a) ≡ Ok (written_answer a)
 unfolding prove_answer
 prove_back text v sign (Yes proofs) fits = yes_back text v sign proofs fits
 prove_back text v sign (No back values) fits = no_back text v sign back values fits
@@ -235,7 +235,7 @@ prove_back text v sign (Region rows) fits = absurd fits
 prove_back text v sign (Contained parts proofs) fits = absurd fits
 prove_back text v sign (Open tried) fits = absurd fits
 
-eliminate_back : (text : List ℕ) (v : NamesView) (a : AnswerView) → FitsEliminate v a → eliminate_answer v (kind_of_answer a) (answer_value text v a) ≡ Ok (written_answer a)
+eliminate_back : (text : List ℕ) (v : NamesView) (a : AnswerView) → HasEliminateShape v a → eliminate_answer v (kind_of_answer a) (answer_value text v a) ≡ Ok (written_answer a)
 unfolding eliminate_answer
 eliminate_back text v (Yes proofs) fits = absurd fits
 eliminate_back text v (No back values) fits = absurd fits
@@ -244,7 +244,7 @@ eliminate_back text v (Region rows) fits = region_back text v rows (size_of (spa
 eliminate_back text v (Contained parts proofs) fits = absurd fits
 eliminate_back text v (Open tried) fits = absurd fits
 
-contain_back : (text : List ℕ) (v : NamesView) (first second : RegionView) (a : AnswerView) → FitsContain first second a → contain_answer first second (kind_of_answer a) (answer_value text v a) ≡ Ok (written_answer a)
+contain_back : (text : List ℕ) (v : NamesView) (first second : RegionView) (a : AnswerView) → HasContainShape first second a → contain_answer first second (kind_of_answer a) (answer_value text v a) ≡ Ok (written_answer a)
 unfolding contain_answer
 contain_back text v first second (Yes proofs) fits = absurd fits
 contain_back text v first second (No back values) fits = absurd fits
@@ -253,13 +253,13 @@ contain_back text v first second (Region rows) fits = absurd fits
 contain_back text v first second (Contained parts proofs) fits = contained_back text v first second parts proofs fits
 contain_back text v first second (Open tried) fits = open_back text v tried fits
 
-verb_back : (text : List ℕ) (v : NamesView) (verb : VerbView) (a : AnswerView) → FitsVerb v verb a → verb_answer v verb (kind_of_answer a) (answer_value text v a) ≡ Ok (written_answer a)
+verb_back : (text : List ℕ) (v : NamesView) (verb : VerbView) (a : AnswerView) → HasVerbShape v verb a → verb_answer v verb (kind_of_answer a) (answer_value text v a) ≡ Ok (written_answer a)
 verb_back text v (Prove r) a fits = prove_back text v r.sign a fits
 verb_back text v (Eliminate rates) a fits = eliminate_back text v a fits
 verb_back text v (Contain first second tries) a fits = contain_back text v first second a fits
 
-answer_back : (q : QuestionView) (a : AnswerView) → FitsQuestion q.body a → question_answer q (kind_of_answer a) (answer_value q.text q.body.names a) ≡ Ok (written_answer a)
-unfolding question_answer FitsQuestion
+answer_back : (q : QuestionView) (a : AnswerView) → HasQuestionShape q.body a → question_answer q (kind_of_answer a) (answer_value q.text q.body.names a) ≡ Ok (written_answer a)
+unfolding question_answer HasQuestionShape
 answer_back q a fits = verb_back q.text q.body.names q.body.verb a fits
 
 pub reads_back : ReadsBack

@@ -1,14 +1,11 @@
 -- Rows as they are read are canonical.
-use Rattle.std.proofs.Common.{◌≡◌, ◌≢◌, ℕ, zero, suc, ◌+◌, ◌≤◌, ◌==◌, ◌&&◌, ℤ, pos, negsuc, not, unsigned_abs, [], ◌∷◌, refl, ap, true, false, Bool, nat_le, arith, rules}
+use Rattle.std.proofs.Common.{◌≡◌, ◌≢◌, ℕ, zero, suc, ◌+◌, ◌≤◌, ◌==◌, ◌&&◌, ℤ, pos, negsuc, not, unsigned_abs, [], ◌∷◌, refl, ap, true, false, nat_le, arith, rules}
 use Rattle.std.specs.Prelude.{All}
 use Rattle.std.proofs.lemmas.List.Elements.{All-head, All-tail}
 use Rattle.it_number.specs.Limit.{IsWithin}
 use Rattle.it_space.specs.Rows.{Ascends, IsCanonical, Terms}
+use Rattle.it_space.proofs.BoolLemmas.{both_true}
 use Rattle.it_certificate.specs.Parts.{is_term_between, is_row_between}
-
-pub both_true : (a b : Bool) → (a && b) ≡ true → (a ≡ true) × (b ≡ true)
-both_true true b is = (refl, is)
-both_true false b is = absurd (cc)
 
 -- a number other than 0 passes the test for it
 pub nonzero_passes : (z : ℤ) → (z ≡ pos 0 → ⊥) → not (unsigned_abs z == 0) ≡ true

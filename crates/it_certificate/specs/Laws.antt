@@ -7,7 +7,7 @@ use Rattle.it_question.specs.Files.{IsFile}
 use Rattle.it_certificate.specs.declared.keys.Key.{Key}
 use Rattle.it_certificate.specs.Values.{answer_value}
 use Rattle.it_certificate.specs.Reports.{ReadsAs, ReadsReport}
-use Rattle.it_certificate.specs.Fits.{FitsQuestion}
+use Rattle.it_certificate.specs.AnswerShapes.{HasQuestionShape}
 
 -- a certificate without its weights of 0
 abbrev pub without_zeros : CertificateView → CertificateView
@@ -24,7 +24,7 @@ written_answer (Open tried) = Open tried
 
 -- The value of an answer that fits a question reads as that question with that answer.
 abbrev pub ReadsBack : Type 0
-ReadsBack = (q : QuestionView) (answer : AnswerView) → length q.text ≤ 1048577 → IsFile q.text (q ∷ []) → FitsQuestion q.body answer
+ReadsBack = (q : QuestionView) (answer : AnswerView) → length q.text ≤ 1048577 → IsFile q.text (q ∷ []) → HasQuestionShape q.body answer
     → ReadsAs (answer_value q.text q.body.names answer) (Ok (q, written_answer answer))
 
 -- A line has at most one reading.

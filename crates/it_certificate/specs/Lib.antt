@@ -5,7 +5,7 @@ pub mod Parts
 pub mod Obligations
 pub mod AnswerReading
 pub mod Reports
-pub mod Fits
+pub mod AnswerShapes
 pub mod Laws
 pub mod Rows
 pub mod Steps

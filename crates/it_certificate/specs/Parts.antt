@@ -124,20 +124,20 @@ unfoldable pub terms_at : Data → Option Terms
 terms_at d = list_at pair_at (get (codes "row") d)
 
 -- a row with its mark
-unfoldable pub row_at : ℕ → Data → Option (Mark × Terms)
-row_at size d = both (mark_at d) (option_and_then (row_of size) (terms_at d))
+unfoldable pub marked_row_at : ℕ → Data → Option (Mark × Terms)
+marked_row_at size d = both (mark_at d) (option_and_then (row_of size) (terms_at d))
 
 -- the rows of a region
 unfoldable pub rows_at : ℕ → Data → Option (List (Mark × Terms))
-rows_at size d = list_at (row_at size) (get (codes "rows") d)
+rows_at size d = list_at (marked_row_at size) (get (codes "rows") d)
 
 -- a set of n variables by its number
-abbrev pub set_of : ℕ → ℕ → Option ℕ
-set_of n s = if nat_lt s (2 ^ n) then Some s else None
+abbrev pub set_of_number : ℕ → ℕ → Option ℕ
+set_of_number n s = if nat_lt s (2 ^ n) then Some s else None
 
 -- a set of n variables
 unfoldable pub set_at : ℕ → Data → Option ℕ
-set_at n d = option_and_then (set_of n) (count_at d)
+set_at n d = option_and_then (set_of_number n) (count_at d)
 
 -- so many sets of n variables
 unfoldable pub parts_at : ℕ → ℕ → Data → Option (List ℕ)

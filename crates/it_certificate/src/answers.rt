@@ -1,5 +1,5 @@
 //! The answer of a report, by its kind.
-ghost use Rattle.std.specs.Prelude.{◌≡◌, ◌≤◌, All};
+ghost use Rattle.std.specs.Prelude.{◌≡◌, ◌≤◌};
 ghost use Rattle.serde_json.specs.View.{view};
 ghost use Rattle.it_space.specs.Answers.{answer_view};
 ghost use Rattle.it_space.specs.Spaces.{IsSpace, size_of};

@@ -3,7 +3,7 @@ ghost use Rattle.std.specs.Prelude.{◌≡◌, All, IfOk};
 ghost use Rattle.serde_json.specs.View.{view, items_view};
 ghost use Rattle.serde_json.specs.Find.{get};
 ghost use Rattle.it_number.specs.Limit.{IsWithin};
-ghost use Rattle.it_certificate.specs.Parts.{all_of, is_row_between, is_term_between, mark_at, row_at, row_of, rows_at, terms_at};
+ghost use Rattle.it_certificate.specs.Parts.{all_of, is_row_between, is_term_between, mark_at, marked_row_at, row_of, rows_at, terms_at};
 ghost use Rattle.it_certificate.specs.Steps.{Yields};
 
 use crate::keys::Refusal;
@@ -66,9 +66,9 @@ fn terms_at(alloc: Global, value: &Value) -> Result<Vec<(u32, i128)>, Refusal>
 }
 
 /// A row with its mark.
-#[tactic(auto, unfolding(crate::specs::Parts::row_at))]
-fn row_at(alloc: Global, value: &Value, size: u32) -> Result<(Mark, Row), Refusal>
-    ensures { Yields (λ r. r) result (row_at size (view value.now)) }
+#[tactic(auto, unfolding(crate::specs::Parts::marked_row_at))]
+fn marked_row_at(alloc: Global, value: &Value, size: u32) -> Result<(Mark, Row), Refusal>
+    ensures { Yields (λ r. r) result (marked_row_at size (view value.now)) }
 {
     let Some(mark) = mark_at(value) else {
         return Err(Refusal::Shape);
@@ -82,11 +82,11 @@ fn row_at(alloc: Global, value: &Value, size: u32) -> Result<(Mark, Row), Refusa
 
 /// Rows in order.
 fn rows(alloc: Global, values: &[Value], size: u32) -> Result<Vec<(Mark, Row)>, Refusal>
-    ensures { Yields (λ v. v.items) result (all_of (row_at size) (items_view values.now)) }
+    ensures { Yields (λ v. v.items) result (all_of (marked_row_at size) (items_view values.now)) }
 {
     let mut out = Vec::new(alloc);
     for value in values {
-        let row = row_at(alloc, value, size)?;
+        let row = marked_row_at(alloc, value, size)?;
         match out.push(row) {
             Ok(()) => {}
             Err(_) => return Err(Refusal::Memory),

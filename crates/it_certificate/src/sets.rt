@@ -1,7 +1,7 @@
 //! The sets of a containment in a report.
 ghost use Rattle.std.specs.Prelude.{◌≡◌, ◌≤◌};
 ghost use Rattle.serde_json.specs.View.{view, items_view};
-ghost use Rattle.it_certificate.specs.Parts.{all_of, parts_at, set_at, set_of};
+ghost use Rattle.it_certificate.specs.Parts.{all_of, parts_at, set_at, set_of_number};
 ghost use Rattle.it_certificate.specs.Steps.{Yields};
 
 use crate::keys::Refusal;
@@ -12,9 +12,9 @@ use serde_json::Value;
 use std::alloc::Global;
 
 /// The set of this number, if it is one of so many variables.
-fn set_of(variables: u8, number: u32) -> Option<VarSet>
+fn set_of_number(variables: u8, number: u32) -> Option<VarSet>
     requires { variables ≤ 10 }
-    ensures { result ≡ set_of variables number }
+    ensures { result ≡ set_of_number variables number }
 {
     if number < 1u32 << variables {
         Some(VarSet::from_number(number as u16))
@@ -29,7 +29,7 @@ fn set_at(variables: u8, value: &Value) -> Option<VarSet>
     requires { variables ≤ 10 }
     ensures { result ≡ set_at variables (view value.now) }
 {
-    set_of(variables, count_at(value)?)
+    set_of_number(variables, count_at(value)?)
 }
 
 /// Sets in order.

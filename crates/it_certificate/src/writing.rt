@@ -146,6 +146,7 @@ pub fn answer_json(
     ensures utf8 { IfOk result (λ out. IsUtf8 out.items) }
 {
     let line = answer_string(alloc, ascii_text(text), names, answer)?;
+    // asked for its clause, that the bytes are UTF-8
     let _text = line.as_str();
     Ok(line.into_bytes())
 }

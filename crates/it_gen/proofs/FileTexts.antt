@@ -6,7 +6,7 @@ use Rattle.it_syntax.specs.declared.types.Sign.TheVariants.{AtLeast}
 use Rattle.it_syntax.specs.declared.types.Symbol.TheVariants as symbols
 use Rattle.it_syntax.specs.declared.types.Token.{Token}
 use Rattle.it_syntax.specs.declared.types.TokenKind.TheVariants as kinds
-use Rattle.it_syntax.specs.Letters.{Word, Sym, End, MarkedLetters, unmarked, letters, unmarked_all}
+use Rattle.it_syntax.specs.Letters.{Word, Sym, End, MarkedLetters, without_mark, letters, without_marks}
 use Rattle.it_syntax.specs.Scopes.{scope_of}
 use Rattle.it_syntax.specs.Spans.{letters_until}
 use Rattle.it_syntax.specs.Spelling.{is_word_byte, Stops, IsText}
@@ -14,7 +14,7 @@ use Rattle.it_syntax.specs.WrittenAtoms.{Positive}
 use Rattle.it_syntax.specs.WrittenRelations.{WrittenRelation, spell_relation}
 use Rattle.it_syntax.proofs.Traces.{cleaned_append}
 use Rattle.it_question.specs.Files.{IsFile}
-use Rattle.it_question.specs.Keywords.{vars_text, prove_text}
+use Rattle.it_question.specs.Keywords.{vars_keyword, prove_keyword}
 use Rattle.it_question.specs.Lines.{TokenLine, AreLines, IsFilled, split_lines, file_end, end_line, letters_of_lines}
 use Rattle.it_question.specs.NewNames.{Variable, no_names, is_taken, spell_new_names}
 use Rattle.it_question.specs.Texts.{with_texts}
@@ -39,19 +39,19 @@ relation_tree x = record {
 question_tree : ℕ → WrittenQuestion
 question_tree x = record { variables = record { first = codes "A"; more = codes "B" ∷ codes "C" ∷ codes "D" ∷ [] }; rates = None; own = []; verb = Prove (relation_tree x) }
 
-keyword : (w : List ℕ) → IsText kinds.Word w → Writes Anything (w ++ 32 ∷ []) (λ k. unmarked (Word w) ∷ k)
+keyword : (w : List ℕ) → IsText kinds.Word w → Writes Anything (w ++ 32 ∷ []) (λ k. without_mark (Word w) ∷ k)
 unfolding is_word_byte
 keyword w h = writes_then (writes_word w h) writes_space (λ rest d. refl)
 
 -- a name, and `, ` behind it
-name_and_comma : (w : List ℕ) → IsText kinds.Word w → Writes Anything (w ++ codes ", ") (λ k. unmarked (Word w) ∷ unmarked (Sym symbols.Comma) ∷ k)
+name_and_comma : (w : List ℕ) → IsText kinds.Word w → Writes Anything (w ++ codes ", ") (λ k. without_mark (Word w) ∷ without_mark (Sym symbols.Comma) ∷ k)
 unfolding is_word_byte
 name_and_comma w h = writes_then (writes_word w h) (writes_then (writes_symbol symbols.Comma) writes_space (λ rest d. tt)) (λ rest d. refl)
 
 vars_line : List ℕ
 vars_line = codes "vars A, B, C, D"
 
-vars_writes : Writes (Stops is_word_byte) vars_line (λ k. unmarked (Word vars_text) ∷ spell_new_names Variable most_variables no_names (question_tree 0).variables k)
+vars_writes : Writes (Stops is_word_byte) vars_line (λ k. without_mark (Word vars_keyword) ∷ spell_new_names Variable most_variables no_names (question_tree 0).variables k)
 unfolding vars_line is_word_byte is_taken question_tree
 vars_writes =
     let short : 1 ≤ 16 = omega arith in
@@ -64,17 +64,17 @@ vars_writes =
 prove_line : ℕ → List ℕ
 prove_line x = codes "prove " ++ generated_term_text x ++ codes " + " ++ generated_term_text (state_after 2 x) ++ codes " + " ++ generated_term_text (state_after 4 x) ++ codes " >= " ++ bound_text (state_after 6 x)
 
-plus_writes : Writes Anything (codes " + ") (λ k. unmarked (Sym symbols.Plus) ∷ k)
+plus_writes : Writes Anything (codes " + ") (λ k. without_mark (Sym symbols.Plus) ∷ k)
 plus_writes = writes_then writes_space (writes_then (writes_symbol symbols.Plus) writes_space (λ rest d. tt)) (λ rest d. tt)
 
-at_least_writes : Writes Anything (codes " >= ") (λ k. unmarked (Sym symbols.AtLeast) ∷ k)
+at_least_writes : Writes Anything (codes " >= ") (λ k. without_mark (Sym symbols.AtLeast) ∷ k)
 at_least_writes = writes_then writes_space (writes_then (writes_symbol symbols.AtLeast) writes_space (λ rest d. tt)) (λ rest d. tt)
 
 -- whatever follows each of these parts
 then : {a b : List ℕ} {s t : MarkedLetters → MarkedLetters} → Writes Anything a s → Writes Anything b t → Writes Anything (a ++ b) (λ k. s (t k))
 then p q = writes_then p q (λ rest d. tt)
 
-prove_writes : (x : ℕ) → Writes Anything (prove_line x) (λ k. unmarked (Word prove_text) ∷ spell_relation (scope_of four_variables true) (relation_tree x) k)
+prove_writes : (x : ℕ) → Writes Anything (prove_line x) (λ k. without_mark (Word prove_keyword) ∷ spell_relation (scope_of four_variables true) (relation_tree x) k)
 unfolding prove_line relation_tree is_word_byte
 prove_writes x =
     let short : 5 ≤ 16 = omega arith in
@@ -89,13 +89,13 @@ prove_writes x =
 record AreRead (n : ℕ) (bytes : List ℕ) (m : MarkedLetters) : Type 0 where
   lines : List TokenLine
   cut : AreLines n (split_lines bytes) lines
-  same : m ≡ unmarked_all (letters_of_lines lines)
+  same : m ≡ without_marks (letters_of_lines lines)
 
-filled : (line : List ℕ) (ts : List Token) (tail k : MarkedLetters) (w : List ℕ) → unmarked_all (letters_until line ts End) ++ tail ≡ unmarked (Word w) ∷ k → IsFilled ts None
+filled : (line : List ℕ) (ts : List Token) (tail k : MarkedLetters) (w : List ℕ) → without_marks (letters_until line ts End) ++ tail ≡ without_mark (Word w) ∷ k → IsFilled ts None
 filled line [] tail k w e = let clash : End ∷ letters tail ≡ Word w ∷ letters k = ap letters e in absurd cc
 filled line (t ∷ ts) tail k w e = tt
 
-line_read : (n : ℕ) (line more : List ℕ) (w : List ℕ) (k tail : MarkedLetters) → IsSpelled tail [] line (unmarked (Word w) ∷ k) → AreRead (n + 1) more tail → AreRead n (line ++ 10 ∷ more) (unmarked (Word w) ∷ k)
+line_read : (n : ℕ) (line more : List ℕ) (w : List ℕ) (k tail : MarkedLetters) → IsSpelled tail [] line (without_mark (Word w) ∷ k) → AreRead (n + 1) more tail → AreRead n (line ++ 10 ∷ more) (without_mark (Word w) ∷ k)
 line_read n line more w k tail h r =
     let l : TokenLine = record { number = n; text = line; tokens = h.tokens; misspelling = None } in
     let plain = spelled_plain 0 line h.tokens h.spelled in
@@ -103,22 +103,22 @@ line_read n line more w k tail h r =
       lines = l ∷ r.lines;
       cut = subst (λ (split : List (List ℕ)). AreLines n split (l ∷ r.lines)) (sym (plain_first line more plain))
           (inr (l, r.lines, refl, record { number = refl; text = sym (plain_same line plain); spelled = h.spelled }, filled line h.tokens tail k w h.same, r.cut));
-      same = sym h.same ∙ ap (λ (t : MarkedLetters). unmarked_all (letters_until line h.tokens End) ++ t) r.same ∙ sym (cleaned_append (letters_until line h.tokens End) (letters_of_lines r.lines));
+      same = sym h.same ∙ ap (λ (t : MarkedLetters). without_marks (letters_until line h.tokens End) ++ t) r.same ∙ sym (cleaned_append (letters_until line h.tokens End) (letters_of_lines r.lines));
     }
 
 -- a whole line
-whole : {C : List ℕ → Type 0} {text : List ℕ} {s : MarkedLetters → MarkedLetters} → Writes C text s → C [] → (tail : MarkedLetters) → IsSpelled tail [] text (s (unmarked End ∷ tail))
-whole {C} {text} {s} p c tail = subst (λ (bytes : List ℕ). IsSpelled tail [] bytes (s (unmarked End ∷ tail))) (append-nil text) (p.go tail [] [] (unmarked End ∷ tail) c (line_end tail text))
+whole : {C : List ℕ → Type 0} {text : List ℕ} {s : MarkedLetters → MarkedLetters} → Writes C text s → C [] → (tail : MarkedLetters) → IsSpelled tail [] text (s (without_mark End ∷ tail))
+whole {C} {text} {s} p c tail = subst (λ (bytes : List ℕ). IsSpelled tail [] bytes (s (without_mark End ∷ tail))) (append-nil text) (p.go tail [] [] (without_mark End ∷ tail) c (line_end tail text))
 
 question_lines_are : (x : ℕ) (more : List ℕ) → question_text x ++ more ≡ vars_line ++ 10 ∷ (prove_line x ++ 10 ∷ more)
 unfolding question_text vars_line prove_line
 question_lines_are x more = simp append_assoc
 
-question_read : (n : ℕ) (x : ℕ) (more : List ℕ) (k : MarkedLetters) → AreRead (n + 1 + 1) more k → AreRead n (question_text x ++ more) (unmarked (Word vars_text) ∷ spell_question (question_tree x) k)
+question_read : (n : ℕ) (x : ℕ) (more : List ℕ) (k : MarkedLetters) → AreRead (n + 1 + 1) more k → AreRead n (question_text x ++ more) (without_mark (Word vars_keyword) ∷ spell_question (question_tree x) k)
 unfolding question_tree is_taken
-question_read n x more k h = subst (λ (bytes : List ℕ). AreRead n bytes (unmarked (Word vars_text) ∷ spell_question (question_tree x) k)) (sym (question_lines_are x more))
-    (line_read n vars_line (prove_line x ++ 10 ∷ more) vars_text _ (unmarked (Word prove_text) ∷ spell_relation (scope_of four_variables true) (relation_tree x) (unmarked End ∷ k)) (whole vars_writes tt _)
-    (line_read (n + 1) (prove_line x) more prove_text (spell_relation (scope_of four_variables true) (relation_tree x) (unmarked End ∷ k)) k (whole (prove_writes x) tt k) h))
+question_read n x more k h = subst (λ (bytes : List ℕ). AreRead n bytes (without_mark (Word vars_keyword) ∷ spell_question (question_tree x) k)) (sym (question_lines_are x more))
+    (line_read n vars_line (prove_line x ++ 10 ∷ more) vars_keyword _ (without_mark (Word prove_keyword) ∷ spell_relation (scope_of four_variables true) (relation_tree x) (without_mark End ∷ k)) (whole vars_writes tt _)
+    (line_read (n + 1) (prove_line x) more prove_keyword (spell_relation (scope_of four_variables true) (relation_tree x) (without_mark End ∷ k)) k (whole (prove_writes x) tt k) h))
 
 -- ---- the file
 
@@ -126,14 +126,14 @@ trees : ℕ → ℕ → List WrittenQuestion
 trees seed zero = []
 trees seed (suc count) = question_tree seed ∷ trees (state_after 8 seed) count
 
-file_read : (seed count n limit : ℕ) → count ≤ limit → AreRead n (generated_file seed count) (spell_questions limit (trees seed count) (unmarked file_end ∷ []))
+file_read : (seed count n limit : ℕ) → count ≤ limit → AreRead n (generated_file seed count) (spell_questions limit (trees seed count) (without_mark file_end ∷ []))
 unfolding trees
 file_read seed zero n limit le = record { lines = end_line n ∷ []; cut = refl; same = refl }
 file_read seed (suc count) n zero le = absurd (omega (arith, le))
 file_read seed (suc count) n (suc limit) le =
     let less : suc limit - 1 ≡ limit = omega arith in
-    subst (λ (i : ℕ). AreRead n (generated_file seed (suc count)) (unmarked (Word vars_text) ∷ spell_question (question_tree seed) (spell_questions i (trees (state_after 8 seed) count) (unmarked file_end ∷ [])))) (sym less)
-    (question_read n seed (generated_file (state_after 8 seed) count) (spell_questions limit (trees (state_after 8 seed) count) (unmarked file_end ∷ [])) (file_read (state_after 8 seed) count (n + 1 + 1) limit (omega (arith, le))))
+    subst (λ (i : ℕ). AreRead n (generated_file seed (suc count)) (without_mark (Word vars_keyword) ∷ spell_question (question_tree seed) (spell_questions i (trees (state_after 8 seed) count) (without_mark file_end ∷ [])))) (sym less)
+    (question_read n seed (generated_file (state_after 8 seed) count) (spell_questions limit (trees (state_after 8 seed) count) (without_mark file_end ∷ [])) (file_read (state_after 8 seed) count (n + 1 + 1) limit (omega (arith, le))))
 
 counted : (seed count : ℕ) (lines : List TokenLine) → length (with_texts lines (questions_of (trees seed count))) ≡ count
 unfolding trees

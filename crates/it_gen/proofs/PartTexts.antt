@@ -14,7 +14,7 @@ use Rattle.it_elemental.proofs.PlaceLemmas.{is_elemental}
 use Rattle.it_syntax.specs.declared.types.Code.{Code}
 use Rattle.it_syntax.specs.declared.types.Symbol.TheVariants as symbols
 use Rattle.it_syntax.specs.declared.types.TokenKind.TheVariants as kinds
-use Rattle.it_syntax.specs.Letters.{Word, Number, Sym, unmarked}
+use Rattle.it_syntax.specs.Letters.{Word, Number, Sym, without_mark}
 use Rattle.it_syntax.specs.NamesViews.{NamesView}
 use Rattle.it_syntax.specs.Scopes.{env_of, scope_of}
 use Rattle.it_syntax.specs.Spelling.{is_word_byte, Stops, IsText}
@@ -60,7 +60,7 @@ members_known i (w ∷ ws) set h = by (has_member set i) (members_known (i + 1) 
 name_writes : (w : List ℕ) → IsKnown w → Writes (Stops is_word_byte) w (spell_name env w)
 name_writes w h = subst (λ (mark : Option Code). Writes (Stops is_word_byte) w (λ k. (Word w, mark) ∷ k)) (sym h.1) (writes_word w h.0)
 
-comma_writes : Writes Anything (codes ",") (λ k. unmarked (Sym symbols.Comma) ∷ k)
+comma_writes : Writes Anything (codes ",") (λ k. without_mark (Sym symbols.Comma) ∷ k)
 comma_writes = writes_symbol symbols.Comma
 
 -- what follows a name is a comma, or follows the last name
@@ -135,27 +135,23 @@ abbrev pub elemental_tree : Elemental → WrittenAtom
 elemental_tree (Conditional i) = written.EntropyGiven (set_tree (2 ^ i)) (set_tree (2 ^ 4 - 1 - 2 ^ i))
 elemental_tree (Mutual i j k) = mutual_tree (k == 0) (2 ^ i) (2 ^ j) k
 
-closing : Writes Anything (codes ")") (λ k. unmarked (Sym symbols.RightParen) ∷ k)
+closing : Writes Anything (codes ")") (λ k. without_mark (Sym symbols.RightParen) ∷ k)
 closing = writes_symbol symbols.RightParen
 
-opening : (w : List ℕ) → IsText kinds.Word w → Writes Anything (w ++ codes "(") (λ k. unmarked (Word w) ∷ unmarked (Sym symbols.LeftParen) ∷ k)
+opening : (w : List ℕ) → IsText kinds.Word w → Writes Anything (w ++ codes "(") (λ k. without_mark (Word w) ∷ without_mark (Sym symbols.LeftParen) ∷ k)
 unfolding is_word_byte
 opening w h = writes_then (writes_word w h) (writes_symbol symbols.LeftParen) (λ rest d. refl)
 
-entropy_opening : Writes Anything (codes "H(") (λ k. unmarked (Word entropy_text) ∷ unmarked (Sym symbols.LeftParen) ∷ k)
+entropy_opening : Writes Anything (codes "H(") (λ k. without_mark (Word entropy_text) ∷ without_mark (Sym symbols.LeftParen) ∷ k)
 unfolding is_word_byte
 entropy_opening = let short : 1 ≤ 16 = omega arith in opening (codes "H") (refl, (refl, tt), short)
 
-mutual_opening : Writes Anything (codes "I(") (λ k. unmarked (Word mutual_text) ∷ unmarked (Sym symbols.LeftParen) ∷ k)
+mutual_opening : Writes Anything (codes "I(") (λ k. without_mark (Word mutual_text) ∷ without_mark (Sym symbols.LeftParen) ∷ k)
 unfolding is_word_byte
 mutual_opening = let short : 1 ≤ 16 = omega arith in opening (codes "I") (refl, (refl, tt), short)
 
-entropy_writes : (s : ℕ) → IsSome s → Writes Anything (codes "H(" ++ set_text four_names s ++ codes ")") (spell_atom env (written.Entropy (set_tree s)))
-unfolding is_word_byte
-entropy_writes s h = writes_then (writes_then entropy_opening (set_writes s h) (λ rest d. tt)) closing (λ rest d. refl)
-
 -- behind `|`
-bar_writes : (s : ℕ) → IsSome s → Writes (Stops is_word_byte) (codes "|" ++ set_text four_names s) (λ k. unmarked (Sym symbols.Bar) ∷ spell_list env (set_tree s) k)
+bar_writes : (s : ℕ) → IsSome s → Writes (Stops is_word_byte) (codes "|" ++ set_text four_names s) (λ k. without_mark (Sym symbols.Bar) ∷ spell_list env (set_tree s) k)
 bar_writes s h = writes_then (writes_symbol symbols.Bar) (set_writes s h) (λ rest d. tt)
 
 given_text : (s : ℕ) → IsSome s → given_set_text four_names s ≡ codes "|" ++ set_text four_names s
@@ -170,7 +166,7 @@ unfolding is_word_byte
 conditional_writes a c h g = subst (λ (t : List ℕ). Writes Anything (codes "H(" ++ set_text four_names a ++ t ++ codes ")") (spell_atom env (written.EntropyGiven (set_tree a) (set_tree c)))) (sym (given_text c g))
     (writes_then (writes_then (writes_then entropy_opening (set_writes a h) (λ rest d. tt)) (bar_writes c g) (λ rest d. refl)) closing (λ rest d. refl))
 
-pair_writes : (a b : ℕ) → IsSome a → IsSome b → Writes (Stops is_word_byte) (codes "I(" ++ set_text four_names a ++ codes ";" ++ set_text four_names b) (λ k. unmarked (Word mutual_text) ∷ unmarked (Sym symbols.LeftParen) ∷ spell_list env (set_tree a) (unmarked (Sym symbols.Semicolon) ∷ spell_list env (set_tree b) k))
+pair_writes : (a b : ℕ) → IsSome a → IsSome b → Writes (Stops is_word_byte) (codes "I(" ++ set_text four_names a ++ codes ";" ++ set_text four_names b) (λ k. without_mark (Word mutual_text) ∷ without_mark (Sym symbols.LeftParen) ∷ spell_list env (set_tree a) (without_mark (Sym symbols.Semicolon) ∷ spell_list env (set_tree b) k))
 unfolding is_word_byte
 pair_writes a b h g = writes_then (writes_then (writes_then mutual_opening (set_writes a h) (λ rest d. tt)) (writes_symbol symbols.Semicolon) (λ rest d. refl)) (set_writes b g) (λ rest d. tt)
 
@@ -208,7 +204,7 @@ digit_text c h = subst (IsText (kinds.Number c)) (sym (decimal_digit c (omega (a
     digit (suc (suc (suc (suc (suc c))))) h = absurd (omega (arith, h))
 
 -- a digit and a space
-digit_writes : (c : ℕ) → c < 5 → Writes Anything (decimal c ++ codes " ") (λ k. unmarked (Number c) ∷ k)
+digit_writes : (c : ℕ) → c < 5 → Writes Anything (decimal c ++ codes " ") (λ k. without_mark (Number c) ∷ k)
 digit_writes c h = writes_then (writes_number c (decimal c) (digit_text c h)) writes_space (λ rest d. refl)
 
 abbrev pub term_tree : ℕ → WrittenTerm
@@ -236,5 +232,5 @@ bound_writes x =
     let s = 1 + draw 2 15 x in
     let some : IsSome s = (omega arith, omega (arith, drawn_below 2 15 x (omega arith))) in
     let number = writes_number (draw 1 3 x) (decimal (draw 1 3 x)) (digit_text (draw 1 3 x) (omega (arith, drawn_below 1 3 x (omega arith)))) in
-    let open_entropy : Writes Anything (codes " H(") (λ k. unmarked (Word entropy_text) ∷ unmarked (Sym symbols.LeftParen) ∷ k) = writes_then writes_space entropy_opening (λ rest d. tt) in
+    let open_entropy : Writes Anything (codes " H(") (λ k. without_mark (Word entropy_text) ∷ without_mark (Sym symbols.LeftParen) ∷ k) = writes_then writes_space entropy_opening (λ rest d. tt) in
     writes_then (writes_then (writes_then number open_entropy (λ rest d. refl)) (set_writes s some) (λ rest d. tt)) closing (λ rest d. refl)

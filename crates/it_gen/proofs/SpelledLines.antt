@@ -6,7 +6,7 @@ use Rattle.it_syntax.specs.declared.types.Symbol.{Symbol}
 use Rattle.it_syntax.specs.declared.types.Token.{Token}
 use Rattle.it_syntax.specs.declared.types.TokenKind.{TokenKind}
 use Rattle.it_syntax.specs.declared.types.TokenKind.TheVariants as kinds
-use Rattle.it_syntax.specs.Letters.{Letter, Word, Number, Sym, End, MarkedLetters, unmarked, unmarked_all}
+use Rattle.it_syntax.specs.Letters.{Letter, Word, Number, Sym, End, MarkedLetters, without_mark, without_marks}
 use Rattle.it_syntax.specs.Misspellings.{SpellsUntil}
 use Rattle.it_syntax.specs.Spans.{letter_of, letters_until}
 use Rattle.it_syntax.specs.Spelling.{is_word_byte, symbol_text, Stops, IsText, EndsToken, Cut}
@@ -15,9 +15,9 @@ use Rattle.it_syntax.specs.Spelling.{is_word_byte, symbol_text, Stops, IsText, E
 pub record IsSpelled (tail : MarkedLetters) (front bytes : List ℕ) (m : MarkedLetters) : Type 0 where
   pub tokens : List Token
   pub spelled : SpellsUntil (length front) bytes tokens None
-  pub same : unmarked_all (letters_until (front ++ bytes) tokens End) ++ tail ≡ m
+  pub same : without_marks (letters_until (front ++ bytes) tokens End) ++ tail ≡ m
 
-pub line_end : (tail : MarkedLetters) (front : List ℕ) → IsSpelled tail front [] (unmarked End ∷ tail)
+pub line_end : (tail : MarkedLetters) (front : List ℕ) → IsSpelled tail front [] (without_mark End ∷ tail)
 line_end tail front = record { tokens = []; spelled = tt; same = refl }
 
 -- Where what follows is as C says, the text spells what s puts before the letters that follow.
@@ -64,7 +64,7 @@ writes_space = record {
   go = λ tail front rest m c h. record {
     tokens = h.tokens;
     spelled = spaced front rest h.tokens h.spelled;
-    same = ap (λ (line : List ℕ). unmarked_all (letters_until line h.tokens End) ++ tail) (sym (append_assoc front (32 ∷ []) rest)) ∙ h.same;
+    same = ap (λ (line : List ℕ). without_marks (letters_until line h.tokens End) ++ tail) (sym (append_assoc front (32 ∷ []) rest)) ∙ h.same;
   };
 }
 
@@ -73,7 +73,7 @@ writes_space = record {
 token_text : (front text rest : List ℕ) → take (length front + length text - length front) (drop (length front) (front ++ (text ++ rest))) ≡ text
 token_text front text rest = ap (take (length front + length text - length front)) (drop_at front (text ++ rest) (length front) refl) ∙ take_at text rest (length front + length text - length front) (omega arith)
 
-writes_token : (kind : TokenKind) (text : List ℕ) (l : Letter) → IsText kind text → ((line : List ℕ) (start end : ℕ) → take (end - start) (drop start line) ≡ text → letter_of line start end kind ≡ l) → Writes (EndsToken kind) text (λ k. unmarked l ∷ k)
+writes_token : (kind : TokenKind) (text : List ℕ) (l : Letter) → IsText kind text → ((line : List ℕ) (start end : ℕ) → take (end - start) (drop start line) ≡ text → letter_of line start end kind ≡ l) → Writes (EndsToken kind) text (λ k. without_mark l ∷ k)
 writes_token kind text l is letter = record {
   go = λ tail front rest m ends h.
       let start = length front in
@@ -83,16 +83,16 @@ writes_token kind text l is letter = record {
       record {
         tokens = record { kind = kind; start = start; end = end } ∷ h.tokens;
         spelled = (rest, cut, subst (λ (i : ℕ). SpellsUntil i rest h.tokens None) (length-append front text) h.spelled);
-        same = ap (λ (x : Letter). unmarked x ∷ (unmarked_all (letters_until (front ++ (text ++ rest)) h.tokens End) ++ tail)) (letter (front ++ (text ++ rest)) start end (token_text front text rest))
-            ∙ ap (λ (b : List ℕ). unmarked l ∷ (unmarked_all (letters_until b h.tokens End) ++ tail)) (sym line) ∙ ap (λ (k : MarkedLetters). unmarked l ∷ k) h.same;
+        same = ap (λ (x : Letter). without_mark x ∷ (without_marks (letters_until (front ++ (text ++ rest)) h.tokens End) ++ tail)) (letter (front ++ (text ++ rest)) start end (token_text front text rest))
+            ∙ ap (λ (b : List ℕ). without_mark l ∷ (without_marks (letters_until b h.tokens End) ++ tail)) (sym line) ∙ ap (λ (k : MarkedLetters). without_mark l ∷ k) h.same;
       };
 }
 
-pub writes_word : (w : List ℕ) → IsText kinds.Word w → Writes (Stops is_word_byte) w (λ k. unmarked (Word w) ∷ k)
+pub writes_word : (w : List ℕ) → IsText kinds.Word w → Writes (Stops is_word_byte) w (λ k. without_mark (Word w) ∷ k)
 writes_word w is = writes_token kinds.Word w (Word w) is (λ line start end e. ap Word e)
 
-pub writes_number : (n : ℕ) (text : List ℕ) → IsText (kinds.Number n) text → Writes (Stops is_ascii_digit) text (λ k. unmarked (Number n) ∷ k)
+pub writes_number : (n : ℕ) (text : List ℕ) → IsText (kinds.Number n) text → Writes (Stops is_ascii_digit) text (λ k. without_mark (Number n) ∷ k)
 writes_number n text is = writes_token (kinds.Number n) text (Number n) is (λ line start end e. refl)
 
-pub writes_symbol : (s : Symbol) → Writes (EndsToken (kinds.Symbol s)) (symbol_text s) (λ k. unmarked (Sym s) ∷ k)
+pub writes_symbol : (s : Symbol) → Writes (EndsToken (kinds.Symbol s)) (symbol_text s) (λ k. without_mark (Sym s) ∷ k)
 writes_symbol s = writes_token (kinds.Symbol s) (symbol_text s) (Sym s) refl (λ line start end e. refl)

@@ -16,7 +16,8 @@ use Rattle.it_elemental.specs.Generators.{Generator, generator_list, of_constrai
 use Rattle.it_elemental.specs.Views.{IsElemental}
 use Rattle.it_elemental.proofs.PlaceLemmas.{is_elemental}
 use Rattle.it_elemental.proofs.RowLemmas.{canonical-row, value-row, within-row}
-use Rattle.it_elemental.proofs.Spans.{length-span, map-map}
+use Rattle.it_polymatroid.proofs.Spans.{length-span}
+use Rattle.it_elemental.proofs.Spans.{map-map}
 use Rattle.it_canon.specs.Demands.{AreStated, LineDemand}
 use Rattle.it_canon.specs.RowsOfForms.{terms_of_form}
 use Rattle.it_canon.proofs.FormRows.{stated_rows, told_by_form}

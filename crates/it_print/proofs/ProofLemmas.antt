@@ -1,6 +1,6 @@
 -- Steps of the lines of certificates.
 use Rattle.std.proofs.Common.{◌≡◌, ℕ, zero, suc, ◌+◌, ◌<◌, ◌≤◌, List, [], ◌∷◌, ◌++◌, length, drop, map, get_or, min, refl, sym, ap, ap₂, ◌∙◌, arith, append_assoc, append-nil}
-use Rattle.std.proofs.lemmas.List.{drop_more}
+use Rattle.it_space.proofs.ListLemmas.{drop_item}
 use Rattle.it_space.specs.declared.answers.Certificate.{Certificate}
 use Rattle.it_space.specs.declared.problems.Origin.{Origin}
 use Rattle.it_space.specs.Answers.{CertificateView, certificate_view}
@@ -17,8 +17,8 @@ module _ (k : ℕ) (v : NamesView) (origins : List Origin) (rows : ℕ → Gener
       → new ++ proof_lines k v origins rows (map certificate_view (drop (i + 1) proofs)) (drop (i + 1) targets) ≡ whole
   proof_step proofs targets i w target old new whole h l is also_is written e =
       let rest = proof_lines k v origins rows (map certificate_view (drop (i + 1) proofs)) (drop (i + 1) targets) in
-      let here : drop i proofs ≡ w ∷ drop (i + 1) proofs = drop_more proofs i w h ∙ ap (λ (x : Certificate). x ∷ drop (i + 1) proofs) (sym is) in
-      let also_here : drop i targets ≡ target ∷ drop (i + 1) targets = drop_more targets i target l ∙ ap (λ (x : Terms). x ∷ drop (i + 1) targets) (sym also_is) in
+      let here : drop i proofs ≡ w ∷ drop (i + 1) proofs = drop_item proofs i w h is in
+      let also_here : drop i targets ≡ target ∷ drop (i + 1) targets = drop_item targets i target l also_is in
       ap (λ (x : List ℕ). x ++ rest) written ∙ append_assoc old (certificate_lines k v origins rows (certificate_view w) target) rest
       ∙ ap (λ (x : List ℕ). old ++ x) (sym (ap₂ (λ (ws : List Certificate) (ts : List Terms). proof_lines k v origins rows (map certificate_view ws) ts) here also_here)) ∙ e
 

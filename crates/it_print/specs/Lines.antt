@@ -163,12 +163,12 @@ kind_text Inequality = codes " >= 0"
 kind_text Equation = codes " = 0"
 
 -- a row that is to be at least 0, or to be 0
-unfoldable pub constraint_text : NamesView → Kind → Terms → List ℕ
-constraint_text v kind terms = form_text v terms ++ kind_text kind
+unfoldable pub row_text : NamesView → Kind → Terms → List ℕ
+row_text v kind terms = form_text v terms ++ kind_text kind
 
 -- the line of a row of the region that answers question k
 unfoldable pub row_line : ℕ → NamesView → Mark × Terms → List ℕ
-row_line k v row = decimal k ++ codes " row " ++ mark_word row.0 ++ codes " " ++ constraint_text v Inequality row.1 ++ codes "\n"
+row_line k v row = decimal k ++ codes " row " ++ mark_word row.0 ++ codes " " ++ row_text v Inequality row.1 ++ codes "\n"
 
 -- a line for each row
 abbrev pub row_lines : ℕ → NamesView → List (Mark × Terms) → List ℕ

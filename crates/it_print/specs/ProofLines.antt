@@ -11,7 +11,7 @@ use Rattle.it_elemental.specs.Generators.{Generator, generator_at, generator_lis
 use Rattle.it_syntax.specs.NamesViews.{NamesView}
 use Rattle.it_question.specs.Questions.{BodyView}
 use Rattle.it_canon.specs.QuestionDemands.{problem_names}
-use Rattle.it_print.specs.Lines.{answer_line, weight_text, constraint_text}
+use Rattle.it_print.specs.Lines.{answer_line, weight_text, row_text}
 
 -- what each generator says, by its number: an elemental inequality, or a constraint
 abbrev pub generator_rows : NamesView → List Constraint → ℕ → Generator
@@ -19,7 +19,7 @@ generator_rows v cs g = generator_at (generator_list (length v.variables) cs) g
 
 -- the row of a generator
 unfoldable pub generator_row_text : NamesView → Generator → List ℕ
-generator_row_text v g = constraint_text v g.kind g.row
+generator_row_text v g = row_text v g.kind g.row
 
 -- a weight before its generator, and the generator's row
 unfoldable pub weight_line : ℕ → NamesView → List Origin → (ℕ → Generator) → ℕ × ℤ → List ℕ
@@ -32,7 +32,7 @@ weight_lines k v origins rows (weight ∷ weights) = (if is_nonzero_weight weigh
 
 -- the scale, and the target's row
 unfoldable pub sum_line : ℕ → NamesView → ℤ → Terms → List ℕ
-sum_line k v scale target = decimal k ++ codes " sum " ++ signed_decimal scale ++ codes " : " ++ constraint_text v Inequality target ++ codes "\n"
+sum_line k v scale target = decimal k ++ codes " sum " ++ signed_decimal scale ++ codes " : " ++ row_text v Inequality target ++ codes "\n"
 
 -- the weights of a certificate, and the multiple of its target that they add up to
 unfoldable pub certificate_lines : ℕ → NamesView → List Origin → (ℕ → Generator) → CertificateView → Terms → List ℕ

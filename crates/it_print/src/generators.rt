@@ -92,6 +92,7 @@ fn variable_set(names: &Names, i: u8) -> VarSet
     requires { i < length names.now.variables }
     ensures { result ≡ 2 ^ i }
 {
+    // asked for its clause, that there are at most ten variables
     let _space = names.space();
     VarSet::single(i)
 }

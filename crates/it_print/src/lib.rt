@@ -17,6 +17,6 @@ pub use generators::write_elemental;
 pub use lines::answer_line;
 pub use pieces::{write_number, write_signed};
 pub use proof_lines::proof_text;
-pub use rows::constraint_text;
+pub use rows::row_text;
 pub use sets::write_set;
 pub use values::write_coordinate;

@@ -6,7 +6,7 @@ ghost use Rattle.it_elemental.specs.Generators.{of_constraint, of_elemental};
 ghost use Rattle.it_question.specs.Questions.{question_body};
 ghost use Rattle.it_canon.specs.QuestionDemands.{problem_names, variables_of};
 ghost use Rattle.it_print.specs.Lines.{AreListed, IsPrintable, IsRowOver, answer_line, origins_of};
-ghost use Rattle.it_print.specs.ProofLines.{certificate_lines, generator_row_text, generator_rows, proof_lines, proof_text, proofs_in, sum_line, weight_line, weight_lines};
+ghost use Rattle.it_print.specs.ProofLines.{certificate_lines, generator_row_text, generator_rows, proof_lines, proof_text, sum_line, weight_line, weight_lines};
 
 use crate::lines::answer_line;
 use crate::pieces::{write_number, write_signed};

@@ -1,6 +1,6 @@
 //! Rows that are to be at least 0 or to be 0, and the lines of those of a region.
-ghost use Rattle.std.specs.Prelude.{◌≡◌, ◌<◌, ◌+◌, ◌^◌, ◌++◌, length, IfOk, OnOk, All, decimal, true, false};
-ghost use Rattle.it_print.specs.Lines.{IsRowOver, factor_text, form_text, is_below_zero, kind_text, row_line, row_lines, constraint_text, sign_text, term_text, terms_text};
+ghost use Rattle.std.specs.Prelude.{◌≡◌, ◌<◌, ◌+◌, ◌^◌, ◌++◌, length, IfOk, OnOk, All, true, false};
+ghost use Rattle.it_print.specs.Lines.{IsRowOver, factor_text, form_text, is_below_zero, kind_text, row_line, row_lines, row_text, sign_text, term_text, terms_text};
 
 use crate::pieces::write_number;
 use crate::values::write_coordinate;
@@ -46,14 +46,9 @@ fn write_row_line(
 
 /// A row by its terms in order of the coordinates, with ` >= 0` or ` = 0` behind them. The row without terms has `0` in
 /// their place.
-pub fn constraint_text(
-    alloc: Global,
-    row: &Row,
-    kind: Kind,
-    names: &Names,
-) -> Result<Vec<u8>, AllocError>
+pub fn row_text(alloc: Global, row: &Row, kind: Kind, names: &Names) -> Result<Vec<u8>, AllocError>
     requires { IsRowOver names.now row.now }
-    ensures { IfOk result (λ t. t.items ≡ constraint_text names.now kind row.now) }
+    ensures { IfOk result (λ t. t.items ≡ row_text names.now kind row.now) }
 {
     let mut out = Vec::new(alloc);
     write_constraint(&mut out, names, kind, row)?;
@@ -61,7 +56,7 @@ pub fn constraint_text(
 }
 
 /// The same behind what stands.
-#[tactic(auto, unfolding(crate::specs::Lines::constraint_text))]
+#[tactic(auto, unfolding(crate::specs::Lines::row_text))]
 pub fn write_constraint(
     out: &mut Vec<u8>,
     names: &Names,
@@ -69,7 +64,7 @@ pub fn write_constraint(
     row: &Row,
 ) -> Result<(), AllocError>
     requires { IsRowOver names.now row.now }
-    ensures { OnOk result (out.new.items ≡ out.old.items ++ constraint_text names.now kind row.now) }
+    ensures { OnOk result (out.new.items ≡ out.old.items ++ row_text names.now kind row.now) }
 {
     write_form(out, names, row.terms())?;
     out.extend_from_slice(kind_text(kind))

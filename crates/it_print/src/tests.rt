@@ -1,4 +1,6 @@
-use crate::{write_number, write_signed};
+use crate::{row_text, write_number, write_signed};
+use it_space::{Kind, Row};
+use it_syntax::Names;
 use std::process::Abort;
 use std::test::Fail;
 
@@ -11,5 +13,15 @@ fn numbers_are_decimal(rt: HostRuntime) -> Result<(), Fail> {
     write_signed(&mut out, -12)?;
     write_signed(&mut out, 0)?;
     assert!(rt; out.as_slice() == b"340-120".as_slice());
+    Ok(())
+}
+
+/// The row without terms is 0.
+#[test]
+fn an_empty_row_is_zero(rt: HostRuntime) -> Result<(), Fail> {
+    let alloc = rt.alloc();
+    let row = Row::new(Vec::new(alloc));
+    let text = row_text(alloc, &row, Kind::Equation, &Names::new(alloc))?;
+    assert!(rt; text.as_slice() == b"0 = 0".as_slice());
     Ok(())
 }

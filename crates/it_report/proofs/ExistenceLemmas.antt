@@ -31,7 +31,7 @@ use Rattle.it_region.specs.Pulling.{substituted_sets, pulled_coordinate}
 use Rattle.it_region.proofs.PullingLemmas.{coordinate_of_set, coordinate_above_sets, sets_within, image_up_to}
 use Rattle.it_region.proofs.TextLemmas.{rows_as_pulled}
 use Rattle.it_certificate.specs.declared.keys.Key.{Key}
-use Rattle.it_certificate.specs.Fits.{FitsQuestion}
+use Rattle.it_certificate.specs.AnswerShapes.{HasQuestionShape}
 use Rattle.it_certificate.specs.Parts.{text_of}
 use Rattle.it_certificate.specs.Reports.{ReadsReport, IsQuestionOf, report_of}
 use Rattle.it_certificate.proofs.ReportLemmas.{question_there}
@@ -97,7 +97,7 @@ module _ (q : BodyView) (k : IsQuestion q) (small : QuestionHasSmallNumbers q) w
       )
 
   -- each answer that fits the question has one
-  answer_verdict_there : (a : AnswerView) → FitsQuestion q a → (v : LineVerdict) × IsAnswerVerdict q a v
+  answer_verdict_there : (a : AnswerView) → HasQuestionShape q a → (v : LineVerdict) × IsAnswerVerdict q a v
   answer_verdict_there (Yes ws) fits = by q.verb refl
     where
       by : (verb : VerbView) → q.verb ≡ verb → (v : LineVerdict) × IsAnswerVerdict q (Yes ws) v

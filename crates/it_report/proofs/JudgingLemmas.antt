@@ -20,14 +20,15 @@ use Rattle.it_canon.specs.QuestionDemands.{space_of, problem_names, problem_name
 use Rattle.it_region.specs.declared.types.Candidate.{Candidate}
 use Rattle.it_region.specs.declared.types.Pair.{Pair}
 use Rattle.it_region.specs.Obligations.{obligations, ArePartsOf, ArePulledRows}
-use Rattle.it_region.specs.Pairs.{IsPair, IsPairOf, PairsBy, Pairs, IsContainment, Fits, pair_obligations}
+use Rattle.it_region.specs.Pairs.{IsPair, IsPairOf, Pairs, IsContainment, FitsPair, pair_obligations}
 use Rattle.it_region.proofs.TextLemmas.{text_rows, parts_fit, rows_as_pulled}
 use Rattle.it_certificate.specs.AnswerReading.{is_equality}
-use Rattle.it_certificate.specs.Fits.{FitsQuestion, FitsVerb, FitsContainment}
+use Rattle.it_certificate.specs.AnswerShapes.{HasQuestionShape, HasVerbShape, HasContainmentShape}
 use Rattle.it_certificate.specs.declared.keys.ReportFault.{ReportFault}
 use Rattle.it_certificate.specs.declared.keys.ReportFault.TheVariants as faults
 use Rattle.it_certificate.specs.Reports.{ReadsReport, Reports}
 use Rattle.it_check.specs.declared.verdicts.Verdict.{Verdict}
+use Rattle.it_region.proofs.PairLemmas.{pair_of_verb}
 use Rattle.it_report.specs.RowVerdicts.{place_named}
 use Rattle.it_report.specs.LineVerdicts.{LineVerdict, NotJson, Shape, Skipped, Judged, IsLineOf}
 use Rattle.it_report.specs.Judging.{judged_forms_by, judged_forms, answer_verdict, IsJudged, IsAnswerVerdict, IsVerdict, IsJudgedLine}
@@ -58,30 +59,30 @@ module _ {L E : Type 0} (text : L → List ℕ) (invalid : L → Bool) (k : ℕ)
 
 -- ---- the question that an answer fits
 
-pub verb_fits : (q : BodyView) (a : AnswerView) (verb : VerbView) → q.verb ≡ verb → FitsQuestion q a → FitsVerb q.names verb a
-unfolding FitsQuestion
-verb_fits q a verb e h = subst (λ v. FitsVerb q.names v a) e h
+pub verb_fits : (q : BodyView) (a : AnswerView) (verb : VerbView) → q.verb ≡ verb → HasQuestionShape q a → HasVerbShape q.names verb a
+unfolding HasQuestionShape
+verb_fits q a verb e h = subst (λ v. HasVerbShape q.names v a) e h
 
-pub yes_is_about_relation : (q : BodyView) (ws : List CertificateView) → FitsQuestion q (Yes ws) → IsAboutRelation q.verb
+pub yes_is_about_relation : (q : BodyView) (ws : List CertificateView) → HasQuestionShape q (Yes ws) → IsAboutRelation q.verb
 yes_is_about_relation q ws h = by q.verb (verb_fits q (Yes ws) q.verb refl h)
   where
-    by : (verb : VerbView) → FitsVerb q.names verb (Yes ws) → IsAboutRelation verb
+    by : (verb : VerbView) → HasVerbShape q.names verb (Yes ws) → IsAboutRelation verb
     by (Prove r) h = tt
     by (Eliminate rates) h = absurd h
     by (Contain first second tries) h = absurd h
 
-pub no_is_about_relation : (q : BodyView) (back : Bool) (values : List ℤ) → FitsQuestion q (No back values) → IsAboutRelation q.verb
+pub no_is_about_relation : (q : BodyView) (back : Bool) (values : List ℤ) → HasQuestionShape q (No back values) → IsAboutRelation q.verb
 no_is_about_relation q back values h = by q.verb (verb_fits q (No back values) q.verb refl h)
   where
-    by : (verb : VerbView) → FitsVerb q.names verb (No back values) → IsAboutRelation verb
+    by : (verb : VerbView) → HasVerbShape q.names verb (No back values) → IsAboutRelation verb
     by (Prove r) h = tt
     by (Eliminate rates) h = absurd h
     by (Contain first second tries) h = absurd h
 
-pub contained_is_about_regions : (q : BodyView) (parts : List ℕ) (ws : List CertificateView) → FitsQuestion q (Contained parts ws) → IsContainment q.verb
+pub contained_is_about_regions : (q : BodyView) (parts : List ℕ) (ws : List CertificateView) → HasQuestionShape q (Contained parts ws) → IsContainment q.verb
 contained_is_about_regions q parts ws h = by q.verb (verb_fits q (Contained parts ws) q.verb refl h)
   where
-    by : (verb : VerbView) → FitsVerb q.names verb (Contained parts ws) → IsContainment verb
+    by : (verb : VerbView) → HasVerbShape q.names verb (Contained parts ws) → IsContainment verb
     by (Prove r) h = absurd h
     by (Eliminate rates) h = absurd h
     by (Contain first second tries) h = tt
@@ -108,7 +109,7 @@ module _ (q : BodyView) (r : RelationView) (about : q.verb ≡ Prove r) where
   target_rows_are a s ts e are = rows_as_pulled s (judged_forms q a) ts
       (subst (λ fs. AreRowsOf s fs ts) (ap (λ n. targets n r) (ap (λ s. s.variables) e) ∙ sym (ap (λ v. judged_forms_by q v a) about)) are)
 
-  pub point_is_complete : (back : Bool) (values : List ℤ) (s : Space) → s ≡ space_of (problem_names q) → FitsQuestion q (No back values) → length values ≡ size_of s
+  pub point_is_complete : (back : Bool) (values : List ℤ) (s : Space) → s ≡ space_of (problem_names q) → HasQuestionShape q (No back values) → length values ≡ size_of s
   point_is_complete back values s e h = (verb_fits q (No back values) (Prove r) about h).0 ∙ sym (ap size_of (e ∙ ap space_of relation_names))
 
   one_target : (n : ℕ) → 0 < length (targets n r)
@@ -127,7 +128,7 @@ module _ (q : BodyView) (r : RelationView) (about : q.verb ≡ Prove r) where
       by AtMost f e = absurd (cc)
       by Equal f e = lit< tt
 
-  pub target_is_there : (back : Bool) (values : List ℤ) (n : ℕ) (ts : List Terms) → length ts ≡ length (targets n r) → FitsQuestion q (No back values) → place_named back < length ts
+  pub target_is_there : (back : Bool) (values : List ℤ) (n : ℕ) (ts : List Terms) → length ts ≡ length (targets n r) → HasQuestionShape q (No back values) → place_named back < length ts
   target_is_there back values n ts as_many h = by back (verb_fits q (No back values) (Prove r) about h).2
     where
       by : (back : Bool) → (back ≡ true → is_equality r.sign ≡ true) → place_named back < length ts
@@ -136,23 +137,20 @@ module _ (q : BodyView) (r : RelationView) (about : q.verb ≡ Prove r) where
 
 -- ---- a containment
 
-pub pair_is_of : (q : BodyView) (first second : RegionView) (tries : List (List ℕ)) (p : Pair) → q.verb ≡ Contain first second tries → Pairs q p → IsPairOf q first second p
-pair_is_of q first second tries p e h = subst (λ v. PairsBy q v p) e h
-
-pub parts_as_named : (first second : RegionView) (parts : List ℕ) (ws : List CertificateView) → FitsContainment first second parts ws → ArePartsOf first second parts
+pub parts_as_named : (first second : RegionView) (parts : List ℕ) (ws : List CertificateView) → HasContainmentShape first second parts ws → ArePartsOf first second parts
 parts_as_named first second parts ws h = record {
   count = h.each;
   within = All-weaker (λ s. (s < 2 ^ 32) × (s < 2 ^ length first.names.variables)) (λ s. s < 2 ^ length first.names.variables) (λ s k. k.1) parts h.sets;
 }
 
-module _ (q : BodyView) (p : Pair) (parts : List ℕ) (ws : List CertificateView) (l : IsPair p) (pairs : Pairs q p) (fits : FitsQuestion q (Contained parts ws)) where
+module _ (q : BodyView) (p : Pair) (parts : List ℕ) (ws : List CertificateView) (l : IsPair p) (pairs : Pairs q p) (fits : HasQuestionShape q (Contained parts ws)) where
   of_pair : (P : Type 0) → ((first second : RegionView) (tries : List (List ℕ)) → q.verb ≡ Contain first second tries → IsPairOf q first second p → ArePartsOf first second parts → P) → P
   of_pair P f = by q.verb refl
     where
       by : (verb : VerbView) → q.verb ≡ verb → P
       by (Prove r) e = absurd (verb_fits q (Contained parts ws) (Prove r) e fits)
       by (Eliminate rates) e = absurd (verb_fits q (Contained parts ws) (Eliminate rates) e fits)
-      by (Contain first second tries) e = f first second tries e (pair_is_of q first second tries p e pairs) (parts_as_named first second parts ws (verb_fits q (Contained parts ws) (Contain first second tries) e fits))
+      by (Contain first second tries) e = f first second tries e (pair_of_verb q first second tries p e pairs) (parts_as_named first second parts ws (verb_fits q (Contained parts ws) (Contain first second tries) e fits))
 
   pub few_parts : length parts ≤ 4
   few_parts = of_pair (length parts ≤ 4) (λ first second tries e o h. omega (arith, h.count, o.parts, l.few_parts))
@@ -163,8 +161,8 @@ module _ (q : BodyView) (p : Pair) (parts : List ℕ) (ws : List CertificateView
   pub pair_problem : IsProblemOf q (problem_view p.first)
   pair_problem = record { space = pair_space; limits = l.problem; constraints = of_pair (AreStated p.first.space (question_demands q) p.first.constraints.items) (λ first second tries e o h. o.first) }
 
-  pub candidate_fits : (c : Candidate) → length c.parts ≡ 4 → c.count ≡ length parts → take c.count c.parts ≡ parts → Fits p c
-  candidate_fits c four count same = of_pair (Fits p c) (λ first second tries e o h. parts_fit q first second p o c parts four count same h)
+  pub candidate_fits : (c : Candidate) → length c.parts ≡ 4 → c.count ≡ length parts → take c.count c.parts ≡ parts → FitsPair p c
+  candidate_fits c four count same = of_pair (FitsPair p c) (λ first second tries e o h. parts_fit q first second p o c parts four count same h)
 
   -- the obligations' rows
   pub obligation_rows_are : (c : Candidate) (ts : List Terms) → take c.count c.parts ≡ parts → ArePulledRows p.first.space (pair_obligations p c) ts → ArePulledRows p.first.space (judged_forms q (Contained parts ws)) ts

@@ -30,7 +30,7 @@ use Rattle.it_certificate.specs.declared.keys.Key.TheVariants as keys
 use Rattle.it_certificate.specs.declared.kinds.AnswerKind.{AnswerKind}
 use Rattle.it_certificate.specs.AnswerReading.{and_then}
 use Rattle.it_certificate.specs.Obligations.{target_count}
-use Rattle.it_certificate.specs.Fits.{FitsQuestion, FitsContainment}
+use Rattle.it_certificate.specs.AnswerShapes.{HasQuestionShape, HasContainmentShape}
 use Rattle.it_certificate.specs.Parts.{answer_kind_at}
 use Rattle.it_certificate.specs.Reports.{ReadsReport, IsQuestionOf, IsQuestionAt, question_answer, report_of}
 use Rattle.it_certificate.proofs.FitLemmas.{answer_fits}
@@ -54,21 +54,21 @@ with_answer p b = Ok (p, b)
 no_answer : (k : Key) (x : Reading) → Err k ≡ as_read x → ⊥
 no_answer k x e = cc
 
-read_is : (own : Option QuestionView) (d : Data) (q : QuestionView) (a : AnswerView) → report_of own d ≡ Ok (q, a) → (own ≡ Some q) × FitsQuestion q.body a
+read_is : (own : Option QuestionView) (d : Data) (q : QuestionView) (a : AnswerView) → report_of own d ≡ Ok (q, a) → (own ≡ Some q) × HasQuestionShape q.body a
 unfolding report_of
 read_is own d q a e = by_kind (answer_kind_at d) own e
   where
-    told : (kind : AnswerKind) (p : QuestionView) (r : Result AnswerView Key) → question_answer p kind d ≡ r → and_then r (with_answer p) ≡ as_read (q, a) → (Some p ≡ Some q) × FitsQuestion q.body a
+    told : (kind : AnswerKind) (p : QuestionView) (r : Result AnswerView Key) → question_answer p kind d ≡ r → and_then r (with_answer p) ≡ as_read (q, a) → (Some p ≡ Some q) × HasQuestionShape q.body a
     told kind p (Err k) is f = absurd (no_answer k (q, a) f)
-    told kind p (Ok b) is f = let same = one_pair (p, b) (q, a) f in (ap (λ x. Some x.0) same, subst (λ x. FitsQuestion x.0.body x.1) same (answer_fits p kind d b is))
+    told kind p (Ok b) is f = let same = one_pair (p, b) (q, a) f in (ap (λ x. Some x.0) same, subst (λ x. HasQuestionShape x.0.body x.1) same (answer_fits p kind d b is))
 
     by_kind : (o : Option AnswerKind) (own : Option QuestionView)
-        → and_then (ok_or o keys.Answer) (λ kind. and_then (ok_or own keys.Question) (λ p. and_then (question_answer p kind d) (with_answer p))) ≡ as_read (q, a) → (own ≡ Some q) × FitsQuestion q.body a
+        → and_then (ok_or o keys.Answer) (λ kind. and_then (ok_or own keys.Question) (λ p. and_then (question_answer p kind d) (with_answer p))) ≡ as_read (q, a) → (own ≡ Some q) × HasQuestionShape q.body a
     by_kind None own f = absurd (no_answer keys.Answer (q, a) f)
     by_kind (Some kind) None f = absurd (no_answer keys.Question (q, a) f)
     by_kind (Some kind) (Some p) f = told kind p (question_answer p kind d) refl f
 
-pub fits_question : (line : List ℕ) (q : QuestionView) (a : AnswerView) → ReadsReport line (Ok (q, a)) → FitsQuestion q.body a
+pub fits_question : (line : List ℕ) (q : QuestionView) (a : AnswerView) → ReadsReport line (Ok (q, a)) → HasQuestionShape q.body a
 fits_question line q a h = (read_is h.reads.own h.value q a h.reads.is).1
 
 -- ---- and its question keeps the limits
@@ -155,7 +155,7 @@ module _ (q : BodyView) (p : ProblemView) (is : IsProblemOf q p) where
 
   -- the first region's points are those of the problem
   contained_true : (first second : RegionView) (tries : List (List ℕ)) (parts : List ℕ) (ts : List Terms) (ws : List CertificateView) → q.verb ≡ Contain first second tries → IsQuestion q
-      → ArePulledRows p.space (obligations q first second parts) ts → FitsContainment first second parts ws → proofs_verdict p ts ws ≡ Valid → LiesIn q first second
+      → ArePulledRows p.space (obligations q first second parts) ts → HasContainmentShape first second parts ws → proofs_verdict p ts ws ≡ Valid → LiesIn q first second
   contained_true first second tries parts ts ws about k are fits e =
       obligations_contain q first second tries parts k about (parts_as_named first second parts ws fits)
       (λ m inside.
@@ -163,10 +163,10 @@ module _ (q : BodyView) (p : ProblemView) (is : IsProblemOf q p) where
       let lines : AreTrueAt n m (problem_lines q) = subst (λ v. AreTrueAt (length (problem_names_by q.names v).variables) m (problem_lines_by q.lines v)) (sym about) inside.lines_hold in
       all_hold m polymatroid lines (obligations q first second parts) ts ws are (fits.obligations ∙ sym (obligations_counted q first second parts)) e)
 
-judged_true : (q : BodyView) (verb : VerbView) (a : AnswerView) (names : NamesView) → q.verb ≡ verb → IsQuestion q → FitsQuestion q a → IsJudged q a names Valid → IsClaimTrueBy q verb a
+judged_true : (q : BodyView) (verb : VerbView) (a : AnswerView) (names : NamesView) → q.verb ≡ verb → IsQuestion q → HasQuestionShape q a → IsJudged q a names Valid → IsClaimTrueBy q verb a
 judged_true q (Prove r) a names about k fits j = by a fits (subst (λ v. ArePulledRows j.problem.space (judged_forms_by q v a) j.rows) about j.are) j.verdict
   where
-    by : (a : AnswerView) → FitsQuestion q a → ArePulledRows j.problem.space (targets (length (problem_names q).variables) r) j.rows → answer_verdict j.problem j.rows a ≡ Some Valid → IsRelationClaim q r a
+    by : (a : AnswerView) → HasQuestionShape q a → ArePulledRows j.problem.space (targets (length (problem_names q).variables) r) j.rows → answer_verdict j.problem j.rows a ≡ Some Valid → IsRelationClaim q r a
     by (Yes ws) fits are e = yes_true q j.problem j.is_problem r j.rows ws are (verb_fits q (Yes ws) (Prove r) about fits).0 (same_some (proofs_verdict j.problem j.rows ws) Valid e)
     by (No back values) fits are e = no_true q j.problem j.is_problem r j.rows back values are
         (point_is_complete q r about back values j.problem.space j.is_problem.space fits)
@@ -179,7 +179,7 @@ judged_true q (Prove r) a names about k fits j = by a fits (subst (λ v. ArePull
 judged_true q (Eliminate rates) a names about k fits j = tt
 judged_true q (Contain first second tries) a names about k fits j = by a fits (subst (λ v. ArePulledRows j.problem.space (judged_forms_by q v a) j.rows) about j.are) j.verdict
   where
-    by : (a : AnswerView) → FitsQuestion q a → ArePulledRows j.problem.space (obligations q first second (judged_parts a)) j.rows → answer_verdict j.problem j.rows a ≡ Some Valid → IsRegionClaim q first second a
+    by : (a : AnswerView) → HasQuestionShape q a → ArePulledRows j.problem.space (obligations q first second (judged_parts a)) j.rows → answer_verdict j.problem j.rows a ≡ Some Valid → IsRegionClaim q first second a
     by (Yes ws) fits are e = tt
     by (No back values) fits are e = tt
     by (Undecided cause) fits are e = tt

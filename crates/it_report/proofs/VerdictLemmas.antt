@@ -1,7 +1,8 @@
 -- The coordinate of a verdict is one of the space, and the verdict on certificates one after the other.
 use Rattle.std.proofs.Common.{◌≡◌, ℕ, zero, suc, ◌+◌, ◌<◌, ◌≤◌, ℤ, pos, nat_lt, int_lt, not, ◌&&◌, List, [], ◌∷◌, Bool, true, false, Option, Some, None, if◌then◌else◌, drop, map, length, get_or, sym, ap, ◌∙◌, refl, arith}
 use Rattle.std.specs.Ordering.{int_eq}
-use Rattle.std.proofs.lemmas.List.{drop_more, at_drop_all}
+use Rattle.std.proofs.lemmas.List.{at_drop_all}
+use Rattle.it_space.proofs.ListLemmas.{drop_item}
 use Rattle.it_space.specs.declared.problems.Kind.{Kind}
 use Rattle.it_space.specs.declared.answers.Certificate.{Certificate}
 use Rattle.it_space.specs.Answers.{CertificateView, certificate_view}
@@ -96,8 +97,8 @@ module _ (p : ProblemView) (ts : List Terms) (cs : List Certificate) (i : ℕ) (
   step : i < length ts → i < length cs → left_verdict p ts cs i ≡ by_valid (is_valid (proof_verdict p t (certificate_view c)))
   unfolding proofs_verdict
   step h k =
-      ap (λ x. proofs_verdict p x (map certificate_view (drop i cs))) (drop_more ts i t h ∙ ap (λ z. z ∷ drop (i + 1) ts) (sym row))
-      ∙ ap (λ y. proofs_verdict p (t ∷ drop (i + 1) ts) (map certificate_view y)) (drop_more cs i c k ∙ ap (λ z. z ∷ drop (i + 1) cs) (sym proof))
+      ap (λ x. proofs_verdict p x (map certificate_view (drop i cs))) (drop_item ts i t h row)
+      ∙ ap (λ y. proofs_verdict p (t ∷ drop (i + 1) ts) (map certificate_view y)) (drop_item cs i c k proof)
 
   pub proofs_found : i < length ts → i < length cs → is_valid (proof_verdict p t (certificate_view c)) ≡ false → left_verdict p ts cs i ≡ proofs_verdict p ts (map certificate_view cs)
       → proof_verdict p t (certificate_view c) ≡ proofs_verdict p ts (map certificate_view cs)

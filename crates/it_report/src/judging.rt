@@ -5,7 +5,7 @@ ghost use Rattle.it_space.specs.Answers.AnswerView.{Yes, No, Contained};
 ghost use Rattle.it_syntax.specs.Meaning.{relation_view};
 ghost use Rattle.it_question.specs.Limits.{IsQuestion};
 ghost use Rattle.it_question.specs.Questions.{Prove, question_body};
-ghost use Rattle.it_certificate.specs.Fits.{FitsQuestion};
+ghost use Rattle.it_certificate.specs.AnswerShapes.{HasQuestionShape};
 ghost use Rattle.it_report.specs.Judging.{IsJudgedLine};
 ghost use Rattle.it_report.specs.Steps.{IsAboutRelation, IsFaultLine, IsJudgedAnswer};
 
@@ -50,7 +50,7 @@ fn answer_line(
     answer: &Answer,
 ) -> Result<JudgedLine, AllocError>
     requires limits { IsQuestion (question_body question.now) }
-    requires fits { FitsQuestion (question_body question.now) (answer_view answer.now) }
+    requires fits { HasQuestionShape (question_body question.now) (answer_view answer.now) }
     ensures { IfOk result (λ j. IsJudgedAnswer k (question_body question.now) (answer_view answer.now) j.text.items j.invalid) }
 {
     match answer {
@@ -84,7 +84,7 @@ fn yes_line(
     proofs: &[Certificate],
 ) -> Result<JudgedLine, AllocError>
     requires limits { IsQuestion (question_body question.now) }
-    requires fits { FitsQuestion (question_body question.now) (Yes (map certificate_view proofs.now)) }
+    requires fits { HasQuestionShape (question_body question.now) (Yes (map certificate_view proofs.now)) }
     ensures { IfOk result (λ j. IsJudgedAnswer k (question_body question.now) (Yes (map certificate_view proofs.now)) j.text.items j.invalid) }
 {
     let problem = problem(alloc, question)?;
@@ -102,7 +102,7 @@ fn no_line(
     point: &Point,
 ) -> Result<JudgedLine, AllocError>
     requires limits { IsQuestion (question_body question.now) }
-    requires fits { FitsQuestion (question_body question.now) (No back point.now) }
+    requires fits { HasQuestionShape (question_body question.now) (No back point.now) }
     ensures { IfOk result (λ j. IsJudgedAnswer k (question_body question.now) (No back point.now) j.text.items j.invalid) }
 {
     let problem = problem(alloc, question)?;
@@ -120,7 +120,7 @@ fn contained_line(
     proofs: &[Certificate],
 ) -> Result<JudgedLine, AllocError>
     requires limits { IsQuestion (question_body question.now) }
-    requires fits { FitsQuestion (question_body question.now) (Contained parts.now (map certificate_view proofs.now)) }
+    requires fits { HasQuestionShape (question_body question.now) (Contained parts.now (map certificate_view proofs.now)) }
     ensures { IfOk result (λ j. IsJudgedAnswer k (question_body question.now) (Contained parts.now (map certificate_view proofs.now)) j.text.items j.invalid) }
 {
     let pair = pair(alloc, question)?;

@@ -1,6 +1,6 @@
 //! The lines of verdicts.
-ghost use Rattle.std.specs.Prelude.{◌≡◌, ◌<◌, ◌+◌, ◌^◌, length, codes, not, true, false, IfOk};
-ghost use Rattle.it_report.specs.LineVerdicts.{key_text, numbered_line, IsLineOf, NotJson, Shape, Skipped, Judged};
+ghost use Rattle.std.specs.Prelude.{◌≡◌, ◌<◌, ◌+◌, ◌^◌, length, true, false, IfOk};
+ghost use Rattle.it_report.specs.LineVerdicts.{numbered_line, IsLineOf, NotJson, Shape, Skipped, Judged};
 ghost use Rattle.it_report.specs.Steps.{IsVerdictOver};
 
 use crate::rows::is_valid;

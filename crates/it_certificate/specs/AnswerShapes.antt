@@ -45,42 +45,42 @@ IsCauseFor v (Rows r) = IsFoundIn v r
 IsCauseFor v (WideRate r) = IsFoundIn v r × (step_of (rate_name v r) ≡ None)
 
 -- a certificate a target; a value a coordinate, and the second target where there are two; a cause
-abbrev pub FitsProve : NamesView → Sign → AnswerView → Type 0
-FitsProve v sign (Yes proofs) = (length proofs ≡ target_count sign) × All IsNumbered proofs
-FitsProve v sign (No back values) = (length values ≡ size_of (space_of v)) × All IsWithin values × (back ≡ true → is_equality sign ≡ true)
-FitsProve v sign (Undecided cause) = IsCauseFor v cause
-FitsProve v sign (Region rows) = ⊥
-FitsProve v sign (Contained parts proofs) = ⊥
-FitsProve v sign (Open tried) = ⊥
+abbrev pub HasProveShape : NamesView → Sign → AnswerView → Type 0
+HasProveShape v sign (Yes proofs) = (length proofs ≡ target_count sign) × All IsNumbered proofs
+HasProveShape v sign (No back values) = (length values ≡ size_of (space_of v)) × All IsWithin values × (back ≡ true → is_equality sign ≡ true)
+HasProveShape v sign (Undecided cause) = IsCauseFor v cause
+HasProveShape v sign (Region rows) = ⊥
+HasProveShape v sign (Contained parts proofs) = ⊥
+HasProveShape v sign (Open tried) = ⊥
 
 -- a cause, or rows
-abbrev pub FitsEliminate : NamesView → AnswerView → Type 0
-FitsEliminate v (Yes proofs) = ⊥
-FitsEliminate v (No back values) = ⊥
-FitsEliminate v (Undecided cause) = IsCauseFor v cause
-FitsEliminate v (Region rows) = All (IsRowIn (size_of (space_of v))) rows
-FitsEliminate v (Contained parts proofs) = ⊥
-FitsEliminate v (Open tried) = ⊥
+abbrev pub HasEliminateShape : NamesView → AnswerView → Type 0
+HasEliminateShape v (Yes proofs) = ⊥
+HasEliminateShape v (No back values) = ⊥
+HasEliminateShape v (Undecided cause) = IsCauseFor v cause
+HasEliminateShape v (Region rows) = All (IsRowIn (size_of (space_of v))) rows
+HasEliminateShape v (Contained parts proofs) = ⊥
+HasEliminateShape v (Open tried) = ⊥
 
 -- a set of the first region's variables for each auxiliary of the second, and a certificate for each of its obligations
-pub record FitsContainment (first second : RegionView) (parts : List ℕ) (proofs : List CertificateView) : Type 0 where
+pub record HasContainmentShape (first second : RegionView) (parts : List ℕ) (proofs : List CertificateView) : Type 0 where
   pub each : length parts ≡ second.auxiliaries
   pub sets : All (λ s. (s < 2 ^ 32) × (s < 2 ^ length first.names.variables)) parts
   pub obligations : length proofs ≡ obligation_count second
   pub numbers : All IsNumbered proofs
 
-abbrev pub FitsContain : RegionView → RegionView → AnswerView → Type 0
-FitsContain first second (Yes proofs) = ⊥
-FitsContain first second (No back values) = ⊥
-FitsContain first second (Undecided cause) = ⊥
-FitsContain first second (Region rows) = ⊥
-FitsContain first second (Contained parts proofs) = FitsContainment first second parts proofs
-FitsContain first second (Open tried) = tried < 2 ^ 32
+abbrev pub HasContainShape : RegionView → RegionView → AnswerView → Type 0
+HasContainShape first second (Yes proofs) = ⊥
+HasContainShape first second (No back values) = ⊥
+HasContainShape first second (Undecided cause) = ⊥
+HasContainShape first second (Region rows) = ⊥
+HasContainShape first second (Contained parts proofs) = HasContainmentShape first second parts proofs
+HasContainShape first second (Open tried) = tried < 2 ^ 32
 
-abbrev pub FitsVerb : NamesView → VerbView → AnswerView → Type 0
-FitsVerb v (Prove r) answer = FitsProve v r.sign answer
-FitsVerb v (Eliminate rates) answer = FitsEliminate v answer
-FitsVerb v (Contain first second tries) answer = FitsContain first second answer
+abbrev pub HasVerbShape : NamesView → VerbView → AnswerView → Type 0
+HasVerbShape v (Prove r) answer = HasProveShape v r.sign answer
+HasVerbShape v (Eliminate rates) answer = HasEliminateShape v answer
+HasVerbShape v (Contain first second tries) answer = HasContainShape first second answer
 
-unfoldable pub FitsQuestion : BodyView → AnswerView → Type 0
-FitsQuestion q answer = FitsVerb q.names q.verb answer
+unfoldable pub HasQuestionShape : BodyView → AnswerView → Type 0
+HasQuestionShape q answer = HasVerbShape q.names q.verb answer
