@@ -10,7 +10,7 @@ ghost use Rattle.it_region.specs.Pairs.{IsPair, IsContainment};
 
 use indexmap::IndexSet;
 use it_contain::{
-    Candidate, Contained, Pair, Proposer, Shape, Singles, Subsets, contain, fits, obligations, pair,
+    Candidate, Pair, Proposer, SearchEnd, Shape, Singles, Subsets, contain, fits, obligations, pair,
 };
 use it_prove::{Proof, prove};
 use it_question::questions;
@@ -58,6 +58,7 @@ struct Calls {
     rows: IndexSet<Vec<(u32, i128)>>,
 }
 
+/// Whether the verb is `contain`.
 fn is_containment(verb: &Verb) -> bool
     ensures { IsTrue result → IsContainment (verb_view verb.now) }
 {
@@ -200,8 +201,8 @@ fn main(rt: HostRuntime) -> io::Result<()> {
     for _ in 0..turns {
         if way.as_str() == "kept" {
             match contain(alloc, &pair, &[], &mut boxes, tries, Budget::none())? {
-                Contained::Found(_, proofs) => println!(rt; "found {} proofs", proofs.len())?,
-                Contained::Open { tried } => println!(rt; "open {tried}")?,
+                SearchEnd::Found(_, proofs) => println!(rt; "found {} proofs", proofs.len())?,
+                SearchEnd::Open { tried } => println!(rt; "open {tried}")?,
             }
         } else {
             let mut calls = Calls {

@@ -1,5 +1,5 @@
 //! The elimination of a question's rates, step by step.
-ghost use Rattle.std.specs.Prelude.{◌≡◌, ◌≤◌, ◌<◌, ◌+◌, length, All, IfOk, IfSome};
+ghost use Rattle.std.specs.Prelude.{◌≤◌, ◌<◌, ◌+◌, length, All, IfOk, IfSome};
 ghost use Rattle.it_space.specs.Problems.{IsProblem, IsSystem, problem_view};
 ghost use Rattle.it_space.specs.Rows.{IsUpTo};
 ghost use Rattle.it_space.specs.Spaces.{size_of};
@@ -7,7 +7,7 @@ ghost use Rattle.bench_eliminate.specs.Tasks.{IsListOf, IsTask};
 
 use crate::lists::{constrain_all, copy_of, keep};
 use it_canon::{problem, system};
-use it_eliminate::{Eliminated, step};
+use it_eliminate::{EliminationEnd, step};
 use it_prove::{Proof, prove};
 use it_question::questions;
 use it_question::types::{Question, Verb};
@@ -81,7 +81,7 @@ fn next(alloc: Global, list: &System, rate: u8) -> Result<Option<System>, AllocE
         return Ok(None);
     }
     match step(alloc, list, rate, 4096)? {
-        Eliminated::Region(next) => {
+        EliminationEnd::Region(next) => {
             if next.rows.len() <= 65535 {
                 Ok(Some(next))
             } else {

@@ -3,8 +3,6 @@
 //! is comments (short questions with a long comment each) or rows (questions of many rows).
 #![tactic(auto)]
 
-ghost use Rattle.std.specs.Prelude.{◌≤◌};
-
 use it_question::questions;
 use std::alloc::{AllocError, Global};
 use std::io;

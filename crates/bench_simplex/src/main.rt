@@ -7,8 +7,6 @@
 //! run, and the system is written: the number of rows, then the target and each column, a line of coordinates and coefficients.
 #![tactic(auto)]
 
-ghost use Rattle.std.specs.Prelude.{◌≤◌};
-
 mod forms;
 mod systems;
 

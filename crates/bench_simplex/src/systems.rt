@@ -1,7 +1,7 @@
 //! The systems that are asked about.
 ghost use Rattle.std.specs.Prelude.{◌≡◌, ◌+◌, ◌≤◌, ◌^◌, Some, length, IfOk};
 ghost use Rattle.it_polymatroid.specs.Elementals.{elementals};
-ghost use Rattle.it_run.specs.Answers.{solved_end};
+ghost use Rattle.it_run.specs.Answers.{end_of_answer};
 ghost use Rattle.it_simplex.specs.Answers.{Solves};
 ghost use Rattle.it_space.specs.Rows.{IsUpTo};
 
@@ -54,7 +54,7 @@ fn exact_end(
     target: &Row,
     steps: u32,
 ) -> Result<RunAnswer, AllocError>
-    ensures { IfOk result (λ solved. Solves coordinates.now columns.now target.now (Some steps) (solved_end solved)) }
+    ensures { IfOk result (λ solved. Solves coordinates.now columns.now target.now (Some steps) (end_of_answer solved)) }
 {
     match Tableau::start(alloc, coordinates, columns, target) {
         Ok(start) => exact_run(alloc, start, Some(steps)),
@@ -81,7 +81,7 @@ impl System {
 
     /// The end of the run with a budget of steps, as the product makes it or by the table of fractions alone.
     pub fn run(&self, alloc: Global, exact: bool, steps: u32) -> Result<RunAnswer, AllocError>
-        ensures { IfOk result (λ solved. Solves self.now.coordinates.items self.now.columns.items self.now.target (Some steps) (solved_end solved)) }
+        ensures { IfOk result (λ solved. Solves self.now.coordinates.items self.now.columns.items self.now.target (Some steps) (end_of_answer solved)) }
     {
         let coordinates = self.coordinates.as_slice();
         let columns = self.columns.as_slice();

@@ -53,7 +53,7 @@ use Rattle.it_eliminate.proofs.MemberLemmas.{every_member}
 use Rattle.it_space.proofs.EveryLemmas.{every_of}
 use Rattle.it_answer.proofs.FormLemmas.{spoken, by_rows}
 use Rattle.it_answer.proofs.UniqueLemmas.{a_yes_ascends}
-use Rattle.it_certificate.specs.Fits.{FitsQuestion, FitsVerb, IsCauseFor}
+use Rattle.it_certificate.specs.AnswerShapes.{HasQuestionShape, HasVerbShape, IsCauseFor}
 use Rattle.it_certificate.specs.Laws.{ReadsBack, written_answer}
 use Rattle.it_certificate.specs.Reports.{ReadsReport}
 use Rattle.it_certificate.specs.Values.{answer_value, answer_text, place_word}
@@ -145,9 +145,9 @@ proofs_by_valid p budget (f ∷ fs) (t ∷ ts) (w ∷ ws) l z d =
 
 -- ---- lines
 
-question_fits : (q : BodyView) (a : AnswerView) (verb : VerbView) → q.verb ≡ verb → FitsVerb q.names verb a → FitsQuestion q a
-unfolding FitsQuestion
-question_fits q a verb e h = subst (λ x. FitsVerb q.names x a) (sym e) h
+question_fits : (q : BodyView) (a : AnswerView) (verb : VerbView) → q.verb ≡ verb → HasVerbShape q.names verb a → HasQuestionShape q a
+unfolding HasQuestionShape
+question_fits q a verb e h = subst (λ x. HasVerbShape q.names x a) (sym e) h
 
 -- no verdict on the line is invalid, and it is one line
 pub record IsAccepted (line : List ℕ) : Type 0 where
@@ -184,7 +184,7 @@ module _ (back : ReadsBack) (q : QuestionView) (short : length q.text ≤ 104857
   text_is : IsUtf8 q.text
   text_is = IsUtf8-from_ascii q.text ascii.text
 
-  line_reads : (a : AnswerView) → FitsQuestion q.body a → IsPlain (answer_value q.text q.body.names a) → depth (answer_value q.text q.body.names a) ≤ 127 → ReadsReport (line_of a) (Ok (q, written_answer a))
+  line_reads : (a : AnswerView) → HasQuestionShape q.body a → IsPlain (answer_value q.text q.body.names a) → depth (answer_value q.text q.body.names a) ≤ 127 → ReadsReport (line_of a) (Ok (q, written_answer a))
   line_reads a fits plain low = record {
     value = answer_value q.text q.body.names a;
     utf8 = answer_text_utf8 q.text q.body.names a plain;
@@ -201,7 +201,7 @@ module _ (back : ReadsBack) (q : QuestionView) (short : length q.text ≤ 104857
   skipped_is_accepted : (a : AnswerView) (line : List ℕ) → Every IsNoFeed line → is_passed_over a ≡ true → ReadsReport line (Ok (q, a)) → IsAccepted line
   skipped_is_accepted a line clear e reads = accepted_by_verdict line Skipped clear (record { question = q; answer = a; reads = reads; verdict = e }) refl
 
-  undecided_accepted : (c : Cause) → FitsQuestion q.body (Undecided c) → IsCauseFor q.body.names c → IsAccepted (line_of (Undecided c))
+  undecided_accepted : (c : Cause) → HasQuestionShape q.body (Undecided c) → IsCauseFor q.body.names c → IsAccepted (line_of (Undecided c))
   undecided_accepted c fits cause =
       let plain = undecided_plain q.text q.body.names text_is c (IsUtf8-from_ascii (place_word q.body.names c) (place_ascii q.body.names c ascii.rates cause)) in
       skipped_is_accepted (Undecided c) (line_of (Undecided c)) (clear_of (Undecided c) plain) refl (line_reads (Undecided c) fits plain (undecided_low q.text q.body.names c))

@@ -4,7 +4,7 @@ use Rattle.std.proofs.lemmas.Bool.{eqb-true}
 use Rattle.std.proofs.lemmas.List.{nil_from_length}
 use Rattle.it_outside.specs.Groups.{GroupsInPart}
 use Rattle.it_outside.specs.Traffic.{Gains, TookFront}
-use Rattle.it_outside.proofs.GroupLemmas.{UnderWay, under_way_first, under_way_more, under_way_done, under_way_stops, under_way_waits}
+use Rattle.it_outside.proofs.GroupLemmas.{UnderWay, under_way_more, under_way_done, under_way_stops, under_way_waits}
 use Rattle.it_settings.specs.declared.types.Settings.TheVariants.{Check}
 use Rattle.it_contain.specs.Proposals.{Plan}
 use Rattle.it_question.specs.Lines.{split_lines}
@@ -32,9 +32,6 @@ pub record IsChecked (old new : Option (List ℕ)) (bytes rest : List ℕ) (k : 
   pub written : UnderWay IsVerdictAfter after_verdict verdict_text_of old new false (split_lines bytes) k some_invalid
   pub rest_is : drop k (split_lines bytes) ≡ split_lines rest
   pub counted : k + length rest ≤ length bytes
-
-pub checked_first : (old : Option (List ℕ)) (bytes : List ℕ) → IsChecked old old bytes bytes 0 false
-checked_first old bytes = record { written = under_way_first IsVerdictAfter after_verdict verdict_text_of old false (split_lines bytes); rest_is = refl; counted = omega arith }
 
 pub checked_more : (a b c : Option (List ℕ)) (bytes rest line behind : List ℕ) (k : ℕ) (some_invalid invalid : Bool) (text piece : List ℕ) → IsChecked a b bytes rest k some_invalid
     → split_lines rest ≡ line ∷ split_lines behind → length behind < length rest → IsJudgedLine (k + 1) line text invalid → piece ≡ text → Gains b c piece → IsChecked a c bytes behind (k + 1) (some_invalid || invalid)

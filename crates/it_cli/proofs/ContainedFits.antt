@@ -10,7 +10,7 @@ use Rattle.it_canon.specs.QuestionDemands.{space_of, problem_names, problem_name
 use Rattle.it_region.specs.declared.types.Candidate.{Candidate}
 use Rattle.it_region.specs.Obligations.{obligations}
 use Rattle.it_contain.specs.Proposals.{Plan}
-use Rattle.it_certificate.specs.Fits.{FitsContainment}
+use Rattle.it_certificate.specs.AnswerShapes.{HasContainmentShape}
 use Rattle.it_answer.specs.declared.types.Budgets.{Budgets}
 use Rattle.it_answer.specs.Replies.{Reply}
 use Rattle.it_answer.specs.RightContainments.{IsRightContainment}
@@ -32,7 +32,7 @@ module _ (budgets : Budgets) (plans : List Plan) (q : BodyView) (first second : 
     few_variables : (right : IsRight) → length first.names.variables ≤ 10
     few_variables right = let few = right.limits.problem.space.few in omega (arith, few, ap (λ (s : Space). s.variables) right.pairs.first_space)
 
-    pub contained_fits : q.verb ≡ Contain first second tries → IsRight → FitsContainment first second parts ws
+    pub contained_fits : q.verb ≡ Contain first second tries → IsRight → HasContainmentShape first second parts ws
     contained_fits about right =
         let p = problem_view right.pair.first in
         let space = pair_space (record { answer = Contained parts ws; found = found }) about right in

@@ -28,7 +28,7 @@ use Rattle.it_space.specs.declared.answers.Cause.TheVariants as causes
 use Rattle.it_space.specs.declared.answers.Mark.{Mark}
 use Rattle.it_space.specs.declared.answers.Mark.TheVariants.{Plain, Needed, Unsettled}
 use Rattle.it_syntax.specs.NamesViews.{NamesView}
-use Rattle.it_certificate.specs.Fits.{IsNumberedAmount, IsNumbered}
+use Rattle.it_certificate.specs.AnswerShapes.{IsNumberedAmount, IsNumbered}
 use Rattle.it_certificate.specs.Values.{integer_value, count_value, pair_value, proof_value, side_word, row_value, cause_word, place_word, answer_value, answer_text}
 
 -- ---- values without floats

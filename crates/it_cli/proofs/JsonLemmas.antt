@@ -1,5 +1,5 @@
 -- A right answer fits its question, so that what is written of it reads back as it.
-use Rattle.std.proofs.Common.{◌≡◌, ◌⊎◌, inl, inr, ℕ, zero, suc, ◌+◌, ◌<◌, ◌≤◌, ◌^◌, min, ℤ, List, [], ◌∷◌, map, filter, length, All, Bool, true, false, Option, Some, None, IfSome, refl, sym, ap, subst, ◌∙◌, arith, lit≤, cond, ◌==◌}
+use Rattle.std.proofs.Common.{◌≡◌, ◌⊎◌, inl, inr, ℕ, zero, suc, ◌+◌, ◌<◌, ◌≤◌, ◌^◌, min, ℤ, List, [], ◌∷◌, map, filter, length, All, Bool, true, false, Option, Some, None, IfSome, refl, sym, ap, subst, ◌∙◌, arith, lit≤, cond}
 use Rattle.std.proofs.lemmas.List.{length-append, length-map}
 use Rattle.std.proofs.lemmas.List.Elements.{All-nil, All-cons, All-head, All-tail}
 use Rattle.it_number.specs.Limit.{IsWithin}
@@ -23,7 +23,7 @@ use Rattle.it_prove.specs.Closed.{closed_places, spread_point, spread_values}
 use Rattle.it_prove.specs.Scaling.{NumbersFit, scale_of, scaled_point}
 use Rattle.it_prove.specs.Steps.{terms_of_places}
 use Rattle.it_prove.specs.ProofViews as proof_views
-use Rattle.it_prove.specs.ProofViews.{ProofView, EndsWith, Follows, Runs, AreProofsOf}
+use Rattle.it_prove.specs.ProofViews.{Follows, Runs, AreProofsOf}
 use Rattle.it_prove.proofs.ProofLemmas.{scaled_within}
 use Rattle.it_prove.proofs.PointLemmas.{places_rise, pairs_canonical, point_spread, spread_within}
 use Rattle.it_syntax.specs.declared.types.Sign.{Sign}
@@ -37,14 +37,14 @@ use Rattle.it_canon.specs.Targets.{targets, targets_by}
 use Rattle.it_canon.specs.QuestionDemands.{space_of, problem_names, problem_names_by, variables_of, question_demands, Poses}
 use Rattle.it_canon.proofs.ZipLemmas.{zip-length}
 use Rattle.it_eliminate.specs.Elimination.{Member}
-use Rattle.it_redundant.specs.ReducedElimination.{ProjectedView}
+use Rattle.it_redundant.specs.ReducedElimination.{ProjectionEndView}
 use Rattle.it_redundant.specs.ReducedElimination as reduced
 use Rattle.it_answer.specs.declared.types.Budgets.{Budgets}
 use Rattle.it_answer.specs.Forms.{all_demands, generators_by, demand_of_elemental, demand_of_line, CertifyAll}
 use Rattle.it_answer.specs.RightAnswers.{ViolatesFirst, PointIsDue, CauseIsDue, IsRightFor}
 use Rattle.it_answer.specs.RightRegions.{answer_of_end, IsRightElimination}
 use Rattle.it_certificate.specs.AnswerReading.{is_equality}
-use Rattle.it_certificate.specs.Fits.{IsNumberedAmount, IsNumbered, IsFoundIn, IsCauseFor, FitsProve}
+use Rattle.it_certificate.specs.AnswerShapes.{IsNumberedAmount, IsNumbered, IsFoundIn, IsCauseFor, HasProveShape}
 use Rattle.it_certificate.specs.Numerals.{step_of}
 use Rattle.it_certificate.proofs.RowLemmas.{nonzero_passes}
 use Rattle.it_certificate.specs.Laws.{without_zeros}
@@ -179,7 +179,7 @@ proofs_scaled p budget (t ∷ ts) (w ∷ ws) d = All-cons IsScaled w ws (scaled_
 module _ (q : BodyView) (p : ProblemView) (space : p.space ≡ space_of (problem_names q)) (limits : IsProblem p) (stated : AreStated p.space (question_demands q) p.constraints) where
   demands_counted : length (question_demands q) ≤ 2 ^ 20
   demands_counted =
-      let same = zip-length (λ d c. States p.space d.place d.demand c) (question_demands q) p.constraints stated in
+      let same = zip-length (λ d c. States p.space d.origin d.demand c) (question_demands q) p.constraints stated in
       omega (arith, same, limits.few)
 
   few_variables : variables_of q ≤ 10
@@ -236,7 +236,7 @@ module _ (q : BodyView) (r : RelationView) (b : Poses q r) where
   cause_due budget few (t ∷ ts) c (inr d) = cause_due budget few ts c d.1
 
 -- a right answer to `prove` fits its question
-pub right_prove_fits : (budget : Option ℕ) (q : BodyView) (r : RelationView) (a : AnswerView) → IfSome budget (λ n. n < 2 ^ 32) → q.verb ≡ Prove r → IsRightFor budget q r a → FitsProve q.names r.sign a
+pub right_prove_fits : (budget : Option ℕ) (q : BodyView) (r : RelationView) (a : AnswerView) → IfSome budget (λ n. n < 2 ^ 32) → q.verb ≡ Prove r → IsRightFor budget q r a → HasProveShape q.names r.sign a
 right_prove_fits budget q r (Yes ws) few verb right =
     let b = right.poses in (
       all_counted q b.problem b.is_problem.space b.is_problem.limits b.is_problem.constraints (targets (variables_of q) r) ws right.shows ∙ targets_counted r.sign (form_of (variables_of q) r),
@@ -264,7 +264,7 @@ pub eliminated_cause_fits : (budgets : Budgets) (q : BodyView) (rates : List ℕ
 eliminated_cause_fits budgets q rates cause named right =
     by right.due.end (end_of_rates right.due.givens budgets.pivots budgets.rows right.due.rows [] rates right.due.end right.due.ends) right.due.is
   where
-    by : (end : ProjectedView) → IsEndOf rates end → Undecided cause ≡ answer_of_end end → IsCauseFor q.names cause
+    by : (end : ProjectionEndView) → IsEndOf rates end → Undecided cause ≡ answer_of_end end → IsCauseFor q.names cause
     by (reduced.Region kept) h is = absurd (cc)
     by (reduced.Rows r) h is = subst (IsCauseFor q.names) (sym (undecided_same cause (causes.Rows r) is)) (named r h).0
     by (reduced.Wide r) h is = subst (IsCauseFor q.names) (sym (undecided_same cause (causes.WideRate r) is)) (named r h)

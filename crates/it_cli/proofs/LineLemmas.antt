@@ -36,7 +36,7 @@ use Rattle.it_run.specs.Runs.{RunEndView}
 use Rattle.it_rational.specs.Rational.{Rational}
 use Rattle.it_prove.specs.ProofViews.{Yes, No, Undecided, Follows}
 use Rattle.it_eliminate.proofs.MemberLemmas.{every_member}
-use Rattle.it_redundant.specs.ReducedElimination.{ProjectedView}
+use Rattle.it_redundant.specs.ReducedElimination.{ProjectionEndView}
 use Rattle.it_redundant.specs.ReducedElimination as reduced
 use Rattle.it_answer.specs.declared.types.Budgets.{Budgets}
 use Rattle.it_answer.specs.RightRegions.{IsRightElimination, answer_of_end, region_rows}
@@ -60,7 +60,7 @@ length-demands : (n : ℕ) (ds : List LineDemand) → length (all_demands n ds) 
 unfolding all_demands
 length-demands n ds = simp (length-append, length-map)
 
-pub origins_same : (s : Space) (ds : List LineDemand) (cs : List Constraint) → AreStated s ds cs → origins_of cs ≡ map (λ d. d.place) ds
+pub origins_same : (s : Space) (ds : List LineDemand) (cs : List Constraint) → AreStated s ds cs → origins_of cs ≡ map (λ d. d.origin) ds
 origins_same s [] [] h = refl
 origins_same s [] (c ∷ cs) h = absurd h
 origins_same s (d ∷ ds) [] h = absurd h
@@ -116,9 +116,6 @@ cause_of_due p budget m (t ∷ ts) cause (inr e) = cause_of_due p budget m ts ca
 
 -- ---- an answer to `prove`
 
-names_of_prove : (q : BodyView) (r : RelationView) → q.verb ≡ Prove r → problem_names q ≡ q.names
-names_of_prove q r e = ap (problem_names_by q.names) e
-
 -- a question of a file has few names, also with those of its first region
 few_names : (q : BodyView) → IsQuestion q → (length (problem_names q).variables ≤ 8) × (length (problem_names q).rates ≤ 16)
 few_names q k = by q.verb k.verb
@@ -161,7 +158,7 @@ abbrev IsCauseIn : ℕ → AnswerView → Type 0
 IsCauseIn m (views.Undecided cause) = IsCauseOf m cause
 IsCauseIn m _ = Unit {0}
 
-cause_of_end : (m : ℕ) (rates : List ℕ) (end : ProjectedView) → All (λ r. r < m) rates → IsEndOf rates end → IsCauseIn m (answer_of_end end)
+cause_of_end : (m : ℕ) (rates : List ℕ) (end : ProjectionEndView) → All (λ r. r < m) rates → IsEndOf rates end → IsCauseIn m (answer_of_end end)
 cause_of_end m rates (reduced.Region kept) within h = tt
 cause_of_end m rates (reduced.Rows rate) within h = every_member (λ r. r < m) rates rate (every_of (λ r. r < m) rates within) h
 cause_of_end m rates (reduced.Wide rate) within h = every_member (λ r. r < m) rates rate (every_of (λ r. r < m) rates within) h
@@ -241,4 +238,4 @@ proof_by_places q k s cs answer bytes space stated is = is ∙ ap₂ (λ xs rows
     (origins_same s (question_demands q.body) cs stated) (generator_rows_are q.body cs (subst (λ (t : Space). AreStated t (question_demands q.body) cs) space stated))
 
 pub few_constraints : (q : BodyView) (s : Space) (cs : List Constraint) → AreStated s (question_demands q) cs → length cs ≡ length (question_demands q)
-few_constraints q s cs h = zip-length (λ (d : LineDemand) (c : Constraint). States s d.place d.demand c) (question_demands q) cs h
+few_constraints q s cs h = zip-length (λ (d : LineDemand) (c : Constraint). States s d.origin d.demand c) (question_demands q) cs h

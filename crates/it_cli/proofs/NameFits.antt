@@ -13,15 +13,15 @@ use Rattle.it_syntax.specs.declared.types.Token.{Token}
 use Rattle.it_syntax.specs.declared.types.TokenKind.{TokenKind}
 use Rattle.it_syntax.specs.declared.types.TokenKind.TheVariants as kinds
 use Rattle.it_syntax.specs.declared.types.Symbol.TheVariants.{Comma}
-use Rattle.it_syntax.specs.Letters.{Letter, Word, Number, Sym, End, Bad, MarkedLetters, unmarked, unmarked_all}
+use Rattle.it_syntax.specs.Letters.{Letter, Word, Number, Sym, End, Bad, MarkedLetters, without_mark, without_marks}
 use Rattle.it_syntax.specs.Misspellings.{SpellsUntil}
 use Rattle.it_syntax.specs.NamesViews.{NamesView, index_of, IsNew}
 use Rattle.it_syntax.specs.Spans.{letter_of, letters_until, last_letter}
 use Rattle.it_syntax.specs.Spelling.{StartsWith, IsText}
 use Rattle.it_syntax.specs.WrittenAtoms.{WrittenList, is_measure}
-use Rattle.it_syntax.proofs.NameLemmas.{nowhere_all, distinct_insert}
+use Rattle.it_syntax.proofs.NameLemmas.{nowhere_all, distinct_insert, differs_both_ways}
 use Rattle.it_question.specs.Files.{IsFile}
-use Rattle.it_question.specs.Keywords.{vars_text, rates_text}
+use Rattle.it_question.specs.Keywords.{vars_keyword, rates_keyword}
 use Rattle.it_question.specs.Lines.{TokenLine, AreLines, split_lines, letters_of_lines}
 use Rattle.it_question.specs.NewNames.{Sort, Variable, Rate, with_name, no_names, is_taken, new_mark, spell_new_more, spell_new_names, with_names, new_names_of, spell_names_line, names_line_of}
 use Rattle.it_question.specs.Questions.{QuestionView}
@@ -30,7 +30,7 @@ use Rattle.it_question.specs.WrittenLines.{limit_mark}
 use Rattle.it_question.specs.WrittenQuestions.{WrittenQuestion, most_questions, most_variables, most_rates}
 use Rattle.it_question.specs.WrittenFiles.{names_of, spell_question, question_of, questions_of, spell_file}
 use Rattle.it_question.proofs.NewNameLemmas.{new_of}
-use Rattle.it_certificate.specs.Fits.{IsFoundIn}
+use Rattle.it_certificate.specs.AnswerShapes.{IsFoundIn}
 use Rattle.it_number.specs.Decimals.{value_from}
 use Rattle.it_certificate.specs.Numerals.{up_to_limit, magnitude_of, negative_of, integer_of, count_of_integer, step_of}
 use Rattle.it_certificate.specs.Values.{rate_name}
@@ -101,15 +101,15 @@ good_name Rate v w g new h = record {
 record First (l : Letter) (mark : Option Code) (m : MarkedLetters) : Type 0 where
   more : List Letter
   sound : Every IsSound more
-  behind : m ≡ unmarked_all more
+  behind : m ≡ without_marks more
   here : IsSound l
   none : mark ≡ None
 
-first_of : (l : Letter) (mark : Option Code) (m : MarkedLetters) (ls : List Letter) → Every IsSound ls → (l, mark) ∷ m ≡ unmarked_all ls → First l mark m
+first_of : (l : Letter) (mark : Option Code) (m : MarkedLetters) (ls : List Letter) → Every IsSound ls → (l, mark) ∷ m ≡ without_marks ls → First l mark m
 first_of l mark m [] a e = absurd cc
 first_of l mark m (x ∷ ls) a e =
-    let first : (l, mark) ≡ unmarked x = cc in
-    let tails : m ≡ unmarked_all ls = cc in
+    let first : (l, mark) ≡ without_mark x = cc in
+    let tails : m ≡ without_marks ls = cc in
     record {
       more = ls;
       sound = a.1;
@@ -128,9 +128,9 @@ record Grown (w : NamesView) (k : MarkedLetters) : Type 0 where
   good : AreGood w
   more : List Letter
   sound : Every IsSound more
-  behind : k ≡ unmarked_all more
+  behind : k ≡ without_marks more
 
-more_good : (sort : Sort) (n : ℕ) (v : NamesView) (ws : List (List ℕ)) (k : MarkedLetters) (ls : List Letter) → AreGood v → Every IsSound ls → spell_new_more sort n v ws k ≡ unmarked_all ls → Grown (with_names sort v ws) k
+more_good : (sort : Sort) (n : ℕ) (v : NamesView) (ws : List (List ℕ)) (k : MarkedLetters) (ls : List Letter) → AreGood v → Every IsSound ls → spell_new_more sort n v ws k ≡ without_marks ls → Grown (with_names sort v ws) k
 more_good sort n v [] k ls g a e = record { good = g; more = ls; sound = a; behind = e }
 more_good sort n v (w ∷ ws) k ls g a e =
     let rest = spell_new_more sort (n - 1) (with_name sort v w) ws k in
@@ -139,7 +139,7 @@ more_good sort n v (w ∷ ws) k ls g a e =
     let new = new_of v w (not_taken (is_measure w) (is_taken v w) n name.none) in
     more_good sort (n - 1) (with_name sort v w) ws k name.more (good_name sort v w g new name.here) name.sound name.behind
 
-new_good : (sort : Sort) (n : ℕ) (v : NamesView) (l : WrittenList) (k : MarkedLetters) (ls : List Letter) → AreGood v → Every IsSound ls → spell_new_names sort n v l k ≡ unmarked_all ls → Grown (new_names_of sort v l) k
+new_good : (sort : Sort) (n : ℕ) (v : NamesView) (l : WrittenList) (k : MarkedLetters) (ls : List Letter) → AreGood v → Every IsSound ls → spell_new_names sort n v l k ≡ without_marks ls → Grown (new_names_of sort v l) k
 new_good sort n v l k ls g a e =
     let w = l.first in
     let rest = spell_new_more sort (n - 1) (with_name sort v w) l.more k in
@@ -147,21 +147,21 @@ new_good sort n v l k ls g a e =
     let new = new_of v w (not_taken (is_measure w) (is_taken v w) n name.none) in
     more_good sort (n - 1) (with_name sort v w) l.more k name.more (good_name sort v w g new name.here) name.sound name.behind
 
-line_good : (sort : Sort) (n : ℕ) (keyword : List ℕ) (v : NamesView) (o : Option WrittenList) (k : MarkedLetters) (ls : List Letter) → AreGood v → Every IsSound ls → spell_names_line sort n keyword v o k ≡ unmarked_all ls
+line_good : (sort : Sort) (n : ℕ) (keyword : List ℕ) (v : NamesView) (o : Option WrittenList) (k : MarkedLetters) (ls : List Letter) → AreGood v → Every IsSound ls → spell_names_line sort n keyword v o k ≡ without_marks ls
     → AreGood (names_line_of sort v o)
 line_good sort n keyword v None k ls g a e = g
 line_good sort n keyword v (Some l) k ls g a e =
-    let word = first_of (Word keyword) None (spell_new_names sort n v l (unmarked End ∷ k)) ls a e in
-    (new_good sort n v l (unmarked End ∷ k) word.more g word.sound word.behind).good
+    let word = first_of (Word keyword) None (spell_new_names sort n v l (without_mark End ∷ k)) ls a e in
+    (new_good sort n v l (without_mark End ∷ k) word.more g word.sound word.behind).good
 
-question_good : (mark : Option Code) (x : WrittenQuestion) (k : MarkedLetters) (ls : List Letter) → Every IsSound ls → (Word vars_text, mark) ∷ spell_question x k ≡ unmarked_all ls → AreGood (names_of x)
+question_good : (mark : Option Code) (x : WrittenQuestion) (k : MarkedLetters) (ls : List Letter) → Every IsSound ls → (Word vars_keyword, mark) ∷ spell_question x k ≡ without_marks ls → AreGood (names_of x)
 question_good mark x k ls a e =
-    let word = first_of (Word vars_text) mark (spell_question x k) ls a e in
+    let word = first_of (Word vars_keyword) mark (spell_question x k) ls a e in
     let variables = new_good Variable most_variables no_names x.variables _ word.more no_names_good word.sound word.behind in
     let end = first_of End None _ variables.more variables.sound variables.behind in
-    line_good Rate most_rates rates_text (new_names_of Variable no_names x.variables) x.rates _ end.more variables.good end.sound end.behind
+    line_good Rate most_rates rates_keyword (new_names_of Variable no_names x.variables) x.rates _ end.more variables.good end.sound end.behind
 
-read_good : (q : QuestionView) (lines : List TokenLine) (trees : List WrittenQuestion) → Every IsSound (letters_of_lines lines) → spell_file trees ≡ unmarked_all (letters_of_lines lines) → with_texts lines (questions_of trees) ≡ q ∷ [] → AreGood q.body.names
+read_good : (q : QuestionView) (lines : List TokenLine) (trees : List WrittenQuestion) → Every IsSound (letters_of_lines lines) → spell_file trees ≡ without_marks (letters_of_lines lines) → with_texts lines (questions_of trees) ≡ q ∷ [] → AreGood q.body.names
 read_good q lines [] a s e = absurd cc
 read_good q lines (x ∷ xs) a s e =
     let p : QuestionView = record { body = question_of x; text = text_of_lines (take (question_line_count (question_of x)) lines) } in
@@ -169,16 +169,6 @@ read_good q lines (x ∷ xs) a s e =
     subst (λ (y : QuestionView). AreGood y.body.names) first (question_good (limit_mark most_questions) x _ (letters_of_lines lines) a s)
 
 -- ---- such names are found, and are no numbers
-
-bytes_eq_turned : (xs ys : List ℕ) → bytes_eq xs ys ≡ false → bytes_eq ys xs ≡ false
-bytes_eq_turned xs ys e = by_test (bytes_eq ys xs) refl
-  where
-    by_test : (b : Bool) → bytes_eq ys xs ≡ b → b ≡ false
-    by_test false h = refl
-    by_test true h =
-        let same : ys ≡ xs = (bytes_eq-Decides ys xs).0 h in
-        let is : bytes_eq xs ys ≡ true = subst (λ (zs : List ℕ). bytes_eq zs ys ≡ true) same (subst (λ (zs : List ℕ). bytes_eq ys zs ≡ true) (sym same) h) in
-        absurd cc
 
 every_at : (P : List ℕ → Type 0) (names : List (List ℕ)) (r : ℕ) → Every P names → r < length names → P (get_or names r [])
 every_at P [] r a h = absurd (omega arith)
@@ -191,7 +181,7 @@ place_is [] r d h = absurd (omega arith)
 place_is (x ∷ names) zero d h = ap (λ b. cond (not b) (1 + position_or_len (bytes_eq x) names) 0) ((bytes_eq-Decides x x).1 refl)
 place_is (x ∷ names) (suc r) d h =
     let name = get_or names r [] in
-    let other = bytes_eq_turned x name (every_at (λ y. bytes_eq x y ≡ false) names r d.0 (omega arith)) in
+    let other = differs_both_ways x name (every_at (λ y. bytes_eq x y ≡ false) names r d.0 (omega arith)) in
     ap (λ b. cond (not b) (1 + position_or_len (bytes_eq name) names) 0) other ∙ ap (λ i. 1 + i) (place_is names r d.1 (omega arith)) ∙ (let e : 1 + r ≡ suc r = omega arith in e)
 
 found_at : (names : List (List ℕ)) (r : ℕ) → IsDistinct bytes_eq names → r < length names → index_of names (get_or names r []) ≡ Some r

@@ -1,5 +1,5 @@
 -- The rows of a right region are canonical, so that the region fits its question.
-use Rattle.std.proofs.Common.{◌≡◌, ◌≢◌, ◌⊎◌, inl, inr, ℕ, zero, suc, ◌+◌, ◌<◌, ◌≤◌, ◌^◌, ℤ, pos, neg_ℤ, ◌+ℤ◌, ◌*ℤ◌, ◌<ℤ◌, List, [], ◌∷◌, length, All, Option, refl, sym, ap, subst, ◌∙◌, arith}
+use Rattle.std.proofs.Common.{◌≡◌, ◌≢◌, ◌⊎◌, inl, inr, ℕ, zero, suc, ◌+◌, ◌<◌, ◌≤◌, ◌^◌, ℤ, pos, neg_ℤ, ◌*ℤ◌, ◌<ℤ◌, List, [], ◌∷◌, length, All, Option, sym, ap, subst, ◌∙◌, arith}
 use Rattle.std.proofs.lemmas.Int.{ints}
 use Rattle.std.proofs.lemmas.Bool.{cases_eq}
 use Rattle.std.proofs.lemmas.List.Elements.{All-nil, All-cons, All-head, All-tail}
@@ -14,35 +14,28 @@ use Rattle.it_space.specs.Divisors.{lowest_terms}
 use Rattle.it_space.specs.Problems.{ProblemView}
 use Rattle.it_space.specs.Rows.{Terms, Ascends, IsCanonical, IsUpTo, coefficient}
 use Rattle.it_space.specs.Spaces.{size_of}
-use Rattle.it_space.proofs.CanonicalRows.{here_is, other_is}
+use Rattle.it_space.proofs.CanonicalRows.{other_is, Rises, none_under, first_is}
 use Rattle.it_space.proofs.Contents.{content_pos, divided_all}
 use Rattle.it_space.proofs.MixLemmas.{factors, cancelled_gone}
-use Rattle.it_space.proofs.TermLemmas.{Rises, rises-cancelled_row, coefficient-cancelled_row}
+use Rattle.it_space.proofs.TermLemmas.{rises-cancelled_row, coefficient-cancelled_row}
 use Rattle.it_polymatroid.specs.Certificates.{Form}
 use Rattle.it_question.specs.Questions.{BodyView}
 use Rattle.it_question.specs.Limits.{IsQuestion}
 use Rattle.it_canon.specs.QuestionDemands.{space_of, AreRowsOf}
-use Rattle.it_eliminate.specs.Elimination.{Member, EliminationEnds, PairsFit, with_row, with_lowest_rows, ordered_rows, results, next_list}
+use Rattle.it_eliminate.specs.Elimination.{EliminationEnds, PairsFit, with_row, with_lowest_rows, ordered_rows, results, next_list}
 use Rattle.it_eliminate.specs.Elimination as elimination
 use Rattle.it_eliminate.proofs.MemberLemmas.{every_member, member_every}
 use Rattle.it_eliminate.proofs.OrderLemmas.{every-with_row}
 use Rattle.it_eliminate.proofs.StepLemmas.{results_all}
 use Rattle.it_redundant.specs.Reduction.{NeedView, kept_rows}
-use Rattle.it_redundant.specs.ReducedElimination.{ProjectedView, ReducedEnds}
+use Rattle.it_redundant.specs.ReducedElimination.{ProjectionEndView, ReducedEnds}
 use Rattle.it_redundant.specs.ReducedElimination as reduced
 use Rattle.it_redundant.proofs.ReductionLemmas.{every_kept}
 use Rattle.it_answer.specs.declared.types.Budgets.{Budgets}
 use Rattle.it_answer.specs.RightRegions.{region_rows, marked_rows, answer_of_end, IsRightElimination}
-use Rattle.it_certificate.specs.Fits.{IsNumberedAmount, IsRowIn}
+use Rattle.it_certificate.specs.AnswerShapes.{IsNumberedAmount, IsRowIn}
 
 -- ---- cancelled rows
-
-none_under : (from : ℕ) (ts : Terms) (c : ℕ) → Rises from ts → c < from → coefficient ts c ≡ pos 0
-none_under from [] c a h = refl
-none_under from (t ∷ ts) c a h = other_is t ts c (λ e. omega (arith, a.0)) ∙ none_under (t.0 + 1) ts c a.2 (omega (arith, a.0))
-
-first_is : (from : ℕ) (t : ℕ × ℤ) (ts : Terms) → Rises from (t ∷ ts) → coefficient (t ∷ ts) t.0 ≡ t.1
-first_is from t ts a = here_is t ts t.0 refl ∙ ap (λ z. t.1 +ℤ z) (none_under (t.0 + 1) ts t.0 a.2 (omega arith)) ∙ omega (arith, ints)
 
 none_within : (z : ℤ) → z ≡ pos 0 → IsWithin z
 none_within z e = omega (arith, ints, e)
@@ -135,7 +128,7 @@ answer_same rows others e = cc
 rows_canonical : (budgets : Budgets) (q : BodyView) (rates : List ℕ) (rows : List (Mark × Terms)) → IsRightElimination budgets q rates (Region rows) → Every IsCanonical (region_rows rows)
 rows_canonical budgets q rates rows right = by right.due.end right.due.ends right.due.is
   where
-    by : (end : ProjectedView) → ReducedEnds right.due.givens budgets.pivots budgets.rows right.due.rows [] rates end → Region rows ≡ answer_of_end end → Every IsCanonical (region_rows rows)
+    by : (end : ProjectionEndView) → ReducedEnds right.due.givens budgets.pivots budgets.rows right.due.rows [] rates end → Region rows ≡ answer_of_end end → Every IsCanonical (region_rows rows)
     by (reduced.Region kept) e is =
         subst (λ (rs : List (Mark × Terms)). Every IsCanonical (region_rows rs)) (sym (answer_same rows (marked_rows kept) is))
         (marked_canonical kept (kept_canonical right.due.givens budgets.pivots budgets.rows right.due.rows [] kept rates (stated_canonical _ _ right.due.rows right.due.are_rows) tt e))

@@ -3,7 +3,7 @@ use Rattle.std.proofs.Common.{◌≡◌, inl, inr, ℕ, zero, suc, ◌+◌, ◌-
 use Rattle.std.proofs.lemmas.List.{length-map}
 use Rattle.std.proofs.lemmas.List.Elements.{All-nil, All-cons}
 use Rattle.it_syntax.specs.declared.types.Misspelling.{Misspelling}
-use Rattle.it_syntax.specs.Letters.{unmarked, letters, unmarked_all}
+use Rattle.it_syntax.specs.Letters.{without_mark, letters, without_marks}
 use Rattle.it_question.specs.Files.{IsFile}
 use Rattle.it_question.specs.Lines.{TokenLine, AreLines, split_lines, in_front, without_return, before_comment, without_tab, plain_text, file_end, letters_of_lines}
 use Rattle.it_question.specs.Questions.{QuestionView}
@@ -14,6 +14,7 @@ use Rattle.it_question.specs.WrittenFiles.{question_of, spell_questions, questio
 use Rattle.it_question.proofs.CleanLetters.{clean_parts}
 use Rattle.it_question.proofs.LineParts.{AreWhole, AreSound, lines_sound, letters_of_first_lines}
 use Rattle.it_question.proofs.LinePuts.{question_puts}
+use Rattle.it_question.proofs.FileLineLemmas.{return_shorter, comment_shorter}
 
 -- ---- lines get no longer
 
@@ -37,30 +38,13 @@ trailing_short : (line : List ℕ) → length (without_trailing line) ≤ length
 trailing_short [] = omega arith
 trailing_short (b ∷ line) = let a = unless_short b (without_trailing line) in let h = trailing_short line in omega (arith, a, h)
 
-return_short : (line : List ℕ) → length (without_return line) ≤ length line
-return_short [] = omega arith
-return_short (b ∷ []) = by (b == 13)
-  where
-    by : (t : Bool) → length (if t then [] else b ∷ []) ≤ 1
-    by true = omega arith
-    by false = omega arith
-return_short (b ∷ c ∷ line) = let h = return_short (c ∷ line) in omega (arith, h)
-
-comment_short : (line : List ℕ) → length (before_comment line) ≤ length line
-comment_short [] = omega arith
-comment_short (b ∷ line) = by (b == 35) (comment_short line)
-  where
-    by : (t : Bool) → length (before_comment line) ≤ length line → length (if t then [] else b ∷ before_comment line) ≤ suc (length line)
-    by true h = omega arith
-    by false h = omega (arith, h)
-
 trimmed_short : (line : List ℕ) → length (trimmed_line (plain_text line)) ≤ length line
 trimmed_short line =
     let a = trailing_short (without_leading (plain_text line)) in
     let b = leading_short (plain_text line) in
     let c = length-map (before_comment (without_return line)) without_tab in
-    let d = comment_short (without_return line) in
-    let e = return_short line in
+    let d = comment_shorter (without_return line) in
+    let e = return_shorter line in
     omega (arith, a, b, c, d, e)
 
 -- ---- what lines take
@@ -126,12 +110,12 @@ taken_given (suc i) (l ∷ lines) = let k = taken_given i lines in omega (arith,
 abbrev IsShortBy : ℕ → QuestionView → Type 0
 IsShortBy most q = length q.text ≤ most
 
-all_short : (most n : ℕ) (xs : List WrittenQuestion) (lines : List TokenLine) → spell_questions n xs (unmarked file_end ∷ []) ≡ unmarked_all (letters_of_lines lines) → AreSound lines → given_all lines ≤ most
+all_short : (most n : ℕ) (xs : List WrittenQuestion) (lines : List TokenLine) → spell_questions n xs (without_mark file_end ∷ []) ≡ without_marks (letters_of_lines lines) → AreSound lines → given_all lines ≤ most
     → All (IsShortBy most) (with_texts lines (questions_of xs))
 all_short most n [] lines e s h = All-nil (IsShortBy most)
 all_short most n (x ∷ xs) lines e s h =
     let i = question_line_count (question_of x) in
-    let k = spell_questions (n - 1) xs (unmarked file_end ∷ []) in
+    let k = spell_questions (n - 1) xs (without_mark file_end ∷ []) in
     let p = question_puts (limit_mark n) x in
     let c = clean_parts p.front k (letters_of_lines lines) (sym (p.is k) ∙ e) in
     let d = letters_of_first_lines i lines (letters p.front) (letters k) p.kind c.all s in
@@ -140,7 +124,7 @@ all_short most n (x ∷ xs) lines e s h =
     let text = whole_text (take i lines) d.whole in
     let short : IsShortBy most q = omega (arith, sum, text, h) in
     All-cons (IsShortBy most) q (with_texts (drop i lines) (questions_of xs)) short
-    (all_short most (n - 1) xs (drop i lines) (c.behind ∙ ap unmarked_all (sym d.behind)) d.sound (omega (arith, sum, h)))
+    (all_short most (n - 1) xs (drop i lines) (c.behind ∙ ap without_marks (sym d.behind)) d.sound (omega (arith, sum, h)))
 
 pub texts_are_short : (bytes : List ℕ) (qs : List QuestionView) → IsFile bytes qs → All (λ q. length q.text ≤ length bytes + 1) qs
 texts_are_short bytes qs f =

@@ -45,7 +45,7 @@ after_answer before q reply = before ++ reply.found
 
 -- where the constraints of a question come from
 abbrev pub places : BodyView → List Origin
-places q = map (λ d. d.place) (question_demands q)
+places q = map (λ d. d.origin) (question_demands q)
 
 -- a form's terms over the coordinates of the question
 abbrev pub terms_in : BodyView → Form → Terms

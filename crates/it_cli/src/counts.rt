@@ -1,5 +1,5 @@
 //! How many answers are of each kind.
-ghost use Rattle.std.specs.Prelude.{◌≡◌, ◌<◌, ◌^◌, ◌++◌, IfOk, OnOk, codes, decimal};
+ghost use Rattle.std.specs.Prelude.{◌≡◌, ◌<◌, ◌^◌, ◌++◌, IfOk, OnOk, decimal};
 ghost use Rattle.it_space.specs.Answers.{answer_view};
 ghost use Rattle.it_cli.specs.Counts.{bench_line, no_counts, total, with_answer};
 

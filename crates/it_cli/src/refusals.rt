@@ -1,5 +1,5 @@
 //! The lines with which an input is refused.
-ghost use Rattle.std.specs.Prelude.{◌≡◌, ◌++◌, IfOk};
+ghost use Rattle.std.specs.Prelude.{◌≡◌, IfOk};
 ghost use Rattle.it_cli.specs.Refusals.{code_word, fault_line};
 
 use it_print::write_number;

@@ -1,7 +1,6 @@
 //! What question files are read as, written by hand: the names, then each constraint and the verb. A term is its sign, its
 //! number and an atom; a set is the sum of 1 for the first variable, 2 for the second, 4 for the third and so on; a
 //! rate is its number from 0.
-ghost use Rattle.std.specs.Prelude.{◌≤◌};
 
 use it_question::questions;
 use it_question::types::{OwnLines, Question, Region, Verb};
@@ -166,6 +165,7 @@ const TEXTS: [(&[u8], &[u8]); 10] = [
     ),
 ];
 
+/// Writes terms behind the text.
 fn with_terms(alloc: Global, out: &mut String, terms: &[Term]) -> Result<(), Fail> {
     for term in terms {
         let sign = if term.negative { '-' } else { '+' };
@@ -187,6 +187,7 @@ fn with_terms(alloc: Global, out: &mut String, terms: &[Term]) -> Result<(), Fai
     Ok(())
 }
 
+/// Writes a relation.
 fn with_relation(alloc: Global, out: &mut String, relation: &Relation) -> Result<(), Fail> {
     let sign = match relation.sign {
         Sign::AtLeast => ">=",
@@ -198,6 +199,7 @@ fn with_relation(alloc: Global, out: &mut String, relation: &Relation) -> Result
     with_terms(alloc, out, relation.right.terms.as_slice())
 }
 
+/// Writes sets.
 fn with_sets(alloc: Global, out: &mut String, sets: &[VarSet]) -> Result<(), Fail> {
     for set in sets {
         out.push_str(format!(in alloc; " {}", set.number())?.as_str())?;
@@ -205,6 +207,7 @@ fn with_sets(alloc: Global, out: &mut String, sets: &[VarSet]) -> Result<(), Fai
     Ok(())
 }
 
+/// Writes the constraint of a `given` line.
 fn with_given(alloc: Global, out: &mut String, given: &Given) -> Result<(), Fail> {
     match given {
         Given::Relation(relation) => {
@@ -229,6 +232,7 @@ fn with_given(alloc: Global, out: &mut String, given: &Given) -> Result<(), Fail
     }
 }
 
+/// Writes those of all `given` lines.
 fn with_givens(alloc: Global, out: &mut String, givens: &[Given]) -> Result<(), Fail> {
     for given in givens {
         with_given(alloc, out, given)?;
@@ -236,6 +240,7 @@ fn with_givens(alloc: Global, out: &mut String, givens: &[Given]) -> Result<(), 
     Ok(())
 }
 
+/// Writes the `row` lines.
 fn with_rows(alloc: Global, out: &mut String, rows: &[Relation]) -> Result<(), Fail> {
     for row in rows {
         out.push_str(" row ")?;
@@ -244,6 +249,7 @@ fn with_rows(alloc: Global, out: &mut String, rows: &[Relation]) -> Result<(), F
     Ok(())
 }
 
+/// Writes the names of variables.
 fn with_variables(out: &mut String, names: &Names) -> Result<(), Fail> {
     for i in 0..names.space().variables {
         if i != 0 {
@@ -254,6 +260,7 @@ fn with_variables(out: &mut String, names: &Names) -> Result<(), Fail> {
     Ok(())
 }
 
+/// Writes the names of variables and of rates.
 fn with_names(out: &mut String, names: &Names) -> Result<(), Fail> {
     with_variables(out, names)?;
     out.push_str(";")?;
@@ -266,11 +273,13 @@ fn with_names(out: &mut String, names: &Names) -> Result<(), Fail> {
     Ok(())
 }
 
+/// Writes the `given` and `row` lines.
 fn with_lines(alloc: Global, out: &mut String, lines: &OwnLines) -> Result<(), Fail> {
     with_givens(alloc, out, lines.givens.as_slice())?;
     with_rows(alloc, out, lines.rows.as_slice())
 }
 
+/// Writes a region.
 fn with_region(alloc: Global, out: &mut String, region: &Region) -> Result<(), Fail> {
     out.push_str(" (")?;
     with_names(out, &region.names)?;
@@ -280,6 +289,7 @@ fn with_region(alloc: Global, out: &mut String, region: &Region) -> Result<(), F
     Ok(())
 }
 
+/// Writes rates by number.
 fn with_rates(alloc: Global, out: &mut String, rates: &[u8]) -> Result<(), Fail> {
     for rate in rates {
         out.push_str(format!(in alloc; " {rate}")?.as_str())?;
@@ -287,6 +297,7 @@ fn with_rates(alloc: Global, out: &mut String, rates: &[u8]) -> Result<(), Fail>
     Ok(())
 }
 
+/// Writes the sets of `try` lines.
 fn with_tries(alloc: Global, out: &mut String, tries: &[[VarSet; 4]]) -> Result<(), Fail> {
     for sets in tries {
         out.push_str(" try")?;
@@ -295,6 +306,7 @@ fn with_tries(alloc: Global, out: &mut String, tries: &[[VarSet; 4]]) -> Result<
     Ok(())
 }
 
+/// Writes a verb.
 fn with_verb(alloc: Global, out: &mut String, verb: &Verb) -> Result<(), Fail> {
     match verb {
         Verb::Prove(relation) => {
@@ -318,6 +330,7 @@ fn with_verb(alloc: Global, out: &mut String, verb: &Verb) -> Result<(), Fail> {
     }
 }
 
+/// The questions as one text.
 fn text_of(alloc: Global, questions: &[Question]) -> Result<String, Fail> {
     let mut out = String::new(alloc);
     for question in questions {
@@ -329,6 +342,7 @@ fn text_of(alloc: Global, questions: &[Question]) -> Result<String, Fail> {
     Ok(out)
 }
 
+/// The texts that the questions keep.
 fn texts(alloc: Global, questions: &[Question]) -> Result<Vec<u8>, Fail> {
     let mut out = Vec::new(alloc);
     for question in questions {

@@ -812,7 +812,7 @@ const CONTAINMENTS: [(&[u8], &[u8]); 51] = [
 ];
 
 #[test]
-fn broken_files_are_refused(rt: HostRuntime) -> Result<(), Fail> {
+fn faulty_files_are_refused(rt: HostRuntime) -> Result<(), Fail> {
     let alloc = rt.alloc();
     let refused = Status::Refused;
     each_gets(&rt, alloc, "files", &FILES, refused)?;

@@ -1,5 +1,5 @@
 use Rattle.std.specs.Prelude.{Some}
-use Rattle.it_run.specs.Answers.{solved_end, RunsFrom}
+use Rattle.it_run.specs.Answers.{end_of_answer, RunsFrom}
 use Rattle.it_run.proofs.AnswerLemmas.{if_ok}
 use Rattle.it_tableau.specs.Problems.{feasibility_problem}
 use Rattle.it_simplex.specs.Answers.{Solves}
@@ -11,5 +11,5 @@ exact_run-requires-clause-start c = (feasibility_problem c.args.coordinates.now 
 
 pub returns-in-Ok : goal.returns-in-Ok
 returns-in-Ok c =
-    if_ok c.exact_run.result (RunsFrom c.in-Ok.start (Some c.args.steps)) (λ a. Solves c.args.coordinates.now c.args.columns.now c.args.target.now (Some c.args.steps) (solved_end a)) c.exact_run.ensures
+    if_ok c.exact_run.result (RunsFrom c.in-Ok.start (Some c.args.steps)) (λ a. Solves c.args.coordinates.now c.args.columns.now c.args.target.now (Some c.args.steps) (end_of_answer a)) c.exact_run.ensures
     (λ a r. run_solves c.args.coordinates.now c.args.columns.now c.args.target.now c.in-Ok.start c.in-Ok.ensures.value (Some c.args.steps) a c.in-Ok.ensures.ok r)
