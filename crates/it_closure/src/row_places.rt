@@ -29,7 +29,7 @@ impl Dependences {
         }
     }
 
-    /// The row over closed sets: each set replaced by its closure, and sets with the closure of the empty set left out. WideNumber
+    /// The row over closed sets: each set replaced by its closure, and sets with the closure of the empty set left out. `Wide`
     /// exactly where a partial sum, by ascending coordinate, is.
     pub fn collapse(&self, alloc: Global, row: &Row) -> Result<Row, RowFault>
         requires { IsUpTo (size_of self.now.space) row.now }

@@ -68,7 +68,7 @@ fn generator_weights(
 }
 
 /// The certificate over the generators by the weights of their columns, which ascend by column: each weight times the
-/// least common multiple of the denominators. `WideNumber` where that multiple or a weight times it passes the limit.
+/// least common multiple of the denominators. `Wide` where that multiple or a weight times it passes the limit.
 pub fn certificate(
     alloc: Global,
     problem: &Problem,

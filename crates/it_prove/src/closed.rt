@@ -59,7 +59,7 @@ fn without_columns(alloc: Global, problem: &Problem) -> Result<ClosedProblem, Al
     })
 }
 
-/// The columns of the problem's generators that aren't there yet, in order. `WideNumber` where a partial sum of a coefficient passes the
+/// The columns of the problem's generators that aren't there yet, in order. `Wide` where a partial sum of a coefficient passes the
 /// limit.
 pub fn other_columns(
     alloc: Global,

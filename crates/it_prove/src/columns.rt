@@ -58,7 +58,7 @@ fn generator_row(alloc: Global, problem: &Problem, index: u32) -> Result<Row, Al
         .copy(alloc)
 }
 
-/// The row of a generator over closed sets. `WideNumber` where a partial sum of its coefficients passes the limit.
+/// The row of a generator over closed sets. `Wide` where a partial sum of its coefficients passes the limit.
 fn collapsed_row(
     alloc: Global,
     problem: &Problem,

@@ -76,7 +76,7 @@ fn spread_values(
     Ok(values)
 }
 
-/// The point over closed sets times its scale, as a row. `WideNumber` where the scale or a value passes the limit.
+/// The point over closed sets times its scale, as a row. `Wide` where the scale or a value passes the limit.
 fn whole_row(alloc: Global, coordinates: &[u32], point: &[Fraction]) -> Result<Row, RowFault>
     requires rise { (to : ℕ) × RiseTo 1 to coordinates.now }
     requires complete { length point.now ≡ length coordinates.now }
@@ -92,7 +92,7 @@ fn whole_row(alloc: Global, coordinates: &[u32], point: &[Fraction]) -> Result<R
 }
 
 /// The point over all coordinates by the run's point, which has one value for each coordinate of the run: the values are
-/// made whole and spread out. `WideNumber` where the scale or a value passes the limit.
+/// made whole and spread out. `Wide` where the scale or a value passes the limit.
 pub fn whole_point(
     alloc: Global,
     problem: &Problem,

@@ -29,7 +29,7 @@ use it_simplex::{Budget, RunAnswer, solve};
 use it_space::{Cause, Certificate, Problem, Row, RowFault};
 use std::alloc::{AllocError, Global};
 
-/// The certificate that weights of the columns over closed sets make, lifted to all sets. `WideNumber` where a number of the
+/// The certificate that weights of the columns over closed sets make, lifted to all sets. `Wide` where a number of the
 /// scaled weights or of the lift passes the limit.
 fn lifted_certificate(
     alloc: Global,
@@ -112,7 +112,7 @@ struct ClosedRows {
     target: Row,
 }
 
-/// The columns that aren't there yet, and the target, over closed sets. `WideNumber` where a partial sum of a coefficient passes the limit.
+/// The columns that aren't there yet, and the target, over closed sets. `Wide` where a partial sum of a coefficient passes the limit.
 fn collapse_rows(
     alloc: Global,
     problem: &Problem,

@@ -65,7 +65,7 @@ fn put_value(values: &mut Vec<i128>, number: &Fraction, scale: u128) -> Result<(
     }
 }
 
-/// The scale times each number, in order. `WideNumber` where one of these passes the limit.
+/// The scale times each number, in order. `Wide` where one of these passes the limit.
 pub fn values(alloc: Global, numbers: &[Fraction], scale: u128) -> Result<Vec<i128>, RowFault>
     requires { scale < 2 ^ 127 }
     ensures value { IfOk result (λ v. v.items ≡ map (scaled_number scale) numbers.now) }
@@ -98,7 +98,7 @@ fn put_term(
     }
 }
 
-/// The scale times each weight, after its column. `WideNumber` where one of these passes the limit.
+/// The scale times each weight, after its column. `Wide` where one of these passes the limit.
 pub fn terms(
     alloc: Global,
     weights: &[(usize, Fraction)],
