@@ -30,7 +30,7 @@ use Rattle.it_answer.specs.Forms.{CertifiesForm, CertifyAll, all_demands, genera
 use Rattle.it_answer.specs.RightAnswers.{IsCounterexample, ViolatesFirst, ShowsTargets, IsRightAnswer, IsRightAnswerBy, IsAnswered}
 use Rattle.it_answer.specs.RightRegions.{IsRightElimination}
 use Rattle.it_answer.specs.RowAnswers.{CertifyRows, RefutesFirst, ShowsRows, AnswersRows, AnswersForms, answer_after_one, answer_after_two}
-use Rattle.it_answer.proofs.FormLemmas.{spoken, by_forms}
+use Rattle.it_answer.proofs.FormLemmas.{generators_speak, by_forms}
 
 -- ---- one target, or two
 
@@ -89,18 +89,18 @@ left_of_rows budgets plans q rates answer is x = nothing_found budgets plans q a
 -- ---- from rows to the meaning of the text
 
 module _ (q : BodyView) (p : ProblemView) (e : p.space ≡ space_of (problem_names q)) (st : AreStated p.space (demanded q) p.constraints) (k : IsProblem p) where
-  moved : (P : Space → Type 0) → P p.space → P (space_of (problem_names q))
-  moved P x = subst P e x
+  to_question_space : (P : Space → Type 0) → P p.space → P (space_of (problem_names q))
+  to_question_space P x = subst P e x
 
   pub show_certificate : (f : Form) (t : Terms) (w : CertificateView) → ((x : ℕ → ℤ) → x 0 ≡ pos 0 → value t x ≡ f x) → CertifiesRow p t w → CertifiesForm q f w
-  show_certificate f t w same c = moved (λ s. IsCertificate (size_of s + 1) (generators_by (all_demands s.variables (demanded q))) f w)
-      (by_forms (all_demands p.space.variables (demanded q)) (generators p) (spoken p.space (demanded q) p.constraints st) (size_of p.space + 1) (value t) f same w c)
+  show_certificate f t w same c = to_question_space (λ s. IsCertificate (size_of s + 1) (generators_by (all_demands s.variables (demanded q))) f w)
+      (by_forms (all_demands p.space.variables (demanded q)) (generators p) (generators_speak p.space (demanded q) p.constraints st) (size_of p.space + 1) (value t) f same w c)
 
   show_point : (f : Form) (t : Terms) (values : List ℤ) → IsRowOf p.space f t → RefutesRow p t values → IsCounterexample q f values
   show_point f t values r c = record {
-    complete = moved (λ s. length values ≡ size_of s) c.complete;
-    polymatroid = moved (λ s. IsPolymatroid s.variables (map_of values)) c.polymatroid;
-    lines_hold = moved (λ s. AreTrueAt s.variables (map_of values) (problem_lines q)) ((question_met q p.space p.constraints e st (map_of values) refl).0 c.met);
+    complete = to_question_space (λ s. length values ≡ size_of s) c.complete;
+    polymatroid = to_question_space (λ s. IsPolymatroid s.variables (map_of values)) c.polymatroid;
+    lines_hold = to_question_space (λ s. AreTrueAt s.variables (map_of values) (problem_lines q)) ((question_met q p.space p.constraints e st (map_of values) refl).0 c.met);
     violated = subst (λ (x : ℤ). x ≤ℤ neg_ℤ (pos 1)) (r.same (map_of values) refl) c.violated;
   }
 
@@ -122,19 +122,19 @@ module _ (q : BodyView) (p : ProblemView) (e : p.space ≡ space_of (problem_nam
   show_first (f ∷ g ∷ fs) (t ∷ []) true values z c = absurd z.1
   show_first (f ∷ g ∷ fs) (t ∷ u ∷ ts) true values z c = ((c.0.0, show_certificate f t c.0.0 z.0.same c.0.1), show_point g u values z.1.0 c.1)
 
-  show : (fs : List Form) (ts : List Terms) (answer : AnswerView) → AreRowsOf p.space fs ts → ShowsRows p ts answer → ShowsTargets q fs answer
-  show fs ts (answer_views.Yes ws) z c = show_all fs ts ws z c
-  show fs ts (answer_views.No is_back values) z c = show_first fs ts is_back values z c
-  show fs ts (answer_views.Undecided cause) z c = tt
-  show fs ts (answer_views.Region rows) z c = absurd c
-  show fs ts (answer_views.Contained parts proofs) z c = absurd c
-  show fs ts (answer_views.Open tried) z c = absurd c
+  show_targets : (fs : List Form) (ts : List Terms) (answer : AnswerView) → AreRowsOf p.space fs ts → ShowsRows p ts answer → ShowsTargets q fs answer
+  show_targets fs ts (answer_views.Yes ws) z c = show_all fs ts ws z c
+  show_targets fs ts (answer_views.No is_back values) z c = show_first fs ts is_back values z c
+  show_targets fs ts (answer_views.Undecided cause) z c = tt
+  show_targets fs ts (answer_views.Region rows) z c = absurd c
+  show_targets fs ts (answer_views.Contained parts proofs) z c = absurd c
+  show_targets fs ts (answer_views.Open tried) z c = absurd c
 
-  pub right : (budgets : Budgets) (plans : List Plan) (r : RelationView) (answer : AnswerView) → q.verb ≡ Prove r → AnswersForms p (targets p.space.variables r) answer budgets.pivots
+  pub answers_relation : (budgets : Budgets) (plans : List Plan) (r : RelationView) (answer : AnswerView) → q.verb ≡ Prove r → AnswersForms p (targets p.space.variables r) answer budgets.pivots
       → IsAnswered budgets plans q answer plans
-  right budgets plans r answer is a = nothing_found budgets plans q answer (subst (λ m. IsRightAnswerBy budgets plans q m (record { answer = answer; found = [] })) (sym is) (
+  answers_relation budgets plans r answer is a = nothing_found budgets plans q answer (subst (λ m. IsRightAnswerBy budgets plans q m (record { answer = answer; found = [] })) (sym is) (
     record {
-      shows = moved (λ s. ShowsTargets q (targets s.variables r) answer) (show (targets p.space.variables r) a.rows answer a.are a.answered.shows);
+      shows = to_question_space (λ s. ShowsTargets q (targets s.variables r) answer) (show_targets (targets p.space.variables r) a.rows answer a.are a.answered.shows);
       poses = record { problem = p; is_problem = record { space = e; limits = k; constraints = st }; rows = a.rows; targets_are = subst (λ n. AreRowsOf p.space (targets n r) a.rows) (ap (λ (s : Space). s.variables) e) a.are };
       due = a.answered.due;
     },

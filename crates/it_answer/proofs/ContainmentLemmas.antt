@@ -58,8 +58,8 @@ module _ (q : BodyView) (a b : RegionView) (tries : List (List ℕ)) (p : Pair) 
   -- ---- and so the obligations hold
 
   module _ (h : ℕ → ℤ) (inside : IsIn q.lines a h) where
-    met : AreMet h p.first.constraints.items
-    met =
+    constraints_met : AreMet h p.first.constraints.items
+    constraints_met =
         let lines : AreTrueAt (length a.names.variables) h (problem_lines q) = subst (λ (own : OwnLinesView). AreTrueAt (length a.names.variables) h own) (sym (ap (problem_lines_by q.lines) is)) inside.lines_hold in
         (question_met q p.first.space p.first.constraints.items first_is o.first h inside.polymatroid.empty).1 (subst (λ (n : ℕ). AreTrueAt n h (problem_lines q)) (sym n_is) lines)
 
@@ -69,10 +69,10 @@ module _ (q : BodyView) (a b : RegionView) (tries : List (List ℕ)) (p : Pair) 
     rows_hold budget (f ∷ fs) [] ws r c = absurd r
     rows_hold budget (f ∷ fs) (t ∷ ts) [] r c = absurd c
     rows_hold budget (f ∷ fs) (t ∷ ts) (w ∷ ws) r c = All-cons (λ (row : Terms). pos 0 ≤ℤ value row h) t ts
-        (yes_is_true (problem_view p.first) t w l.problem r.0.coordinates (ends_are_right (problem_view p.first) t budget (Yes w) l.problem r.0.coordinates c.0).0 h (subst (λ (n : ℕ). IsPolymatroid n h) (sym n_is) inside.polymatroid) met) (rows_hold budget fs ts ws r.1 c.1)
+        (yes_is_true (problem_view p.first) t w l.problem r.0.coordinates (ends_are_right (problem_view p.first) t budget (Yes w) l.problem r.0.coordinates c.0).0 h (subst (λ (n : ℕ). IsPolymatroid n h) (sym n_is) inside.polymatroid) constraints_met) (rows_hold budget fs ts ws r.1 c.1)
 
-  shows : (budget : Option ℕ) (c : Candidate) (ws : List CertificateView) → IsProofBy (goal_of p budget) c ws → ShowsContained q a b (candidate_parts c) ws
-  shows budget c ws g =
+  proofs_show_containment : (budget : Option ℕ) (c : Candidate) (ws : List CertificateView) → IsProofBy (goal_of p budget) c ws → ShowsContained q a b (candidate_parts c) ws
+  proofs_show_containment budget c ws g =
       let fs : List Form = obligations q a b (candidate_parts c) in
       let rows = text_rows q a b p o c g.rows g.are in
       let parts = parts_are q a b p o c l g.fits in
@@ -94,7 +94,7 @@ module _ (q : BodyView) (a b : RegionView) (tries : List (List ℕ)) (p : Pair) 
     right_search (Found c w) e =
         let proofs = proof_by budgets.pivots c w e.1 in
         record {
-          shows = shows budgets.pivots c (proof_views w) proofs;
+          shows = proofs_show_containment budgets.pivots c (proof_views w) proofs;
           pair = p;
           limits = l;
           pairs = o;
@@ -106,9 +106,9 @@ module _ (q : BodyView) (a b : RegionView) (tries : List (List ℕ)) (p : Pair) 
     learned_search (Found c w) plan e = e.2
     learned_search (Open t) plan e = e.1 ∙ sym (after_none plans)
 
-    pub answered : (end : SearchEnd) (budget : Option ℕ) (first : List Candidate) (answer : AnswerView) → budget ≡ budgets.pivots → first ≡ tried_of b tries → answer ≡ answer_of_search end
+    pub question_is_answered : (end : SearchEnd) (budget : Option ℕ) (first : List Candidate) (answer : AnswerView) → budget ≡ budgets.pivots → first ≡ tried_of b tries → answer ≡ answer_of_search end
         → SearchEnds (goal_of p budget) budgets.tries (plan_of first plans (shape_of p)) plans end plans_after → IsAnswered budgets plans q answer plans_after
-    answered end budget first answer budget_is first_are answer_is e =
+    question_is_answered end budget first answer budget_is first_are answer_is e =
         let bounded : SearchEnds (goal_of p budgets.pivots) budgets.tries (plan_of first plans (shape_of p)) plans end plans_after =
         subst (λ (n : Option ℕ). SearchEnds (goal_of p n) budgets.tries (plan_of first plans (shape_of p)) plans end plans_after) budget_is e in
         let ends : SearchEnds (goal_of p budgets.pivots) budgets.tries (plan_of (tried_of b tries) plans (shape_of p)) plans end plans_after =

@@ -38,9 +38,9 @@ zip-at R (x ∷ xs) [] i a b z h = absurd z
 zip-at R (x ∷ xs) (y ∷ ys) zero a b z h = z.0
 zip-at R (x ∷ xs) (y ∷ ys) (suc i) a b z h = zip-at R xs ys i a b z.1 (omega arith)
 
-pub spoken : (s : Space) (ds : List LineDemand) (cs : List Constraint) → AreStated s ds cs → AllZip Speaks (all_demands s.variables ds) (generator_list s.variables cs)
+pub generators_speak : (s : Space) (ds : List LineDemand) (cs : List Constraint) → AreStated s ds cs → AllZip Speaks (all_demands s.variables ds) (generator_list s.variables cs)
 unfolding all_demands generator_list
-spoken s ds cs h = zip-append Speaks (map (demand_of_elemental s.variables) (elementals s.variables)) (map demand_of_line ds) (map (of_elemental s.variables) (elementals s.variables)) (map of_constraint cs)
+generators_speak s ds cs h = zip-append Speaks (map (demand_of_elemental s.variables) (elementals s.variables)) (map demand_of_line ds) (map (of_elemental s.variables) (elementals s.variables)) (map of_constraint cs)
     (zip-maps Speaks (demand_of_elemental s.variables) (of_elemental s.variables) (elementals s.variables) (λ e. record { kind = refl; same = λ p z. value-row s.variables e p z }))
     (zip-both (λ (d : LineDemand) (c : Constraint). States s d.origin d.demand c) Speaks demand_of_line of_constraint (λ d c t. record { kind = t.kind; same = t.row.same }) ds cs h)
 

@@ -24,7 +24,7 @@ use Rattle.it_eliminate.specs.Elimination.{Member}
 use Rattle.it_eliminate.specs.Projections.{In, Lacks, Extends}
 use Rattle.it_redundant.specs.Reduction.{NeedView, Needed, Unsettled, kept_rows}
 use Rattle.it_redundant.specs.ReducedElimination.{ProjectionEndView, ReducedEnds}
-use Rattle.it_redundant.specs.ReducedElimination as reduced
+use Rattle.it_redundant.specs.ReducedElimination as projections
 use Rattle.it_redundant.specs.Theorems as theorems
 use Rattle.it_redundant.specs.Theorems.{IsReducedRegion, RegionIsReduced}
 use Rattle.it_redundant.proofs.ProjectionLemmas.{one_reduced_end}
@@ -121,8 +121,8 @@ module _ (q : BodyView) (rates : List ℕ) (givens : ProblemView) (rows : List T
     (true_at p h.empty).1 (subst (λ (s : Space). All (IsTrueAt s.variables p) q.lines.givens) (sym same) g),
   )
 
-  separates : (others other_rows : List Terms) (row : Terms) (values : List ℤ) → others ≡ other_rows → theorems.SeparatesRow givens others row values → DoesNotFollow q other_rows row
-  separates others other_rows row values e x = record {
+  row_does_not_follow : (others other_rows : List Terms) (row : Terms) (values : List ℤ) → others ≡ other_rows → theorems.SeparatesRow givens others row values → DoesNotFollow q other_rows row
+  row_does_not_follow others other_rows row values e x = record {
     point = map_of values;
     polymatroid = subst (λ (s : Space). IsPolymatroid s.variables (map_of values)) same x.meets.0;
     givens_true = subst (λ (s : Space). All (IsTrueAt s.variables (map_of values)) q.lines.givens) same ((true_at (map_of values) refl).0 x.meets.1);
@@ -135,7 +135,7 @@ module _ (q : BodyView) (rates : List ℕ) (givens : ProblemView) (rows : List T
       let b = stands_between kept before after row e in
       let others : kept_rows b.kept_before ++ kept_rows b.kept_after ≡ region_rows before ++ region_rows after =
       ap₂ (λ (xs ys : List Terms). xs ++ ys) (sym (rows_again b.kept_before) ∙ ap region_rows (sym b.before_is)) (sym (rows_again b.kept_after) ∙ ap region_rows (sym b.after_is)) in
-      separates (kept_rows b.kept_before ++ kept_rows b.kept_after) (region_rows before ++ region_rows after) row b.values others (need b.kept_before b.kept_after (row, Needed b.values) b.is)
+      row_does_not_follow (kept_rows b.kept_before ++ kept_rows b.kept_after) (region_rows before ++ region_rows after) row b.values others (need b.kept_before b.kept_after (row, Needed b.values) b.is)
 
   right_region : (kept : List (Terms × NeedView)) → IsReducedRegion givens rates rows kept → IsRightRegion q rates (marked_rows kept)
   right_region kept x = record {
@@ -150,9 +150,9 @@ module _ (q : BodyView) (rates : List ℕ) (givens : ProblemView) (rows : List T
   }
 
   shows_end : (end : ProjectionEndView) → RegionIsReduced givens rates rows end → ShowsRegion q rates (answer_of_end end)
-  shows_end (reduced.Region kept) x = right_region kept x
-  shows_end (reduced.Rows rate) x = tt
-  shows_end (reduced.Wide rate) x = tt
+  shows_end (projections.Region kept) x = right_region kept x
+  shows_end (projections.Rows rate) x = tt
+  shows_end (projections.Wide rate) x = tt
 
   pub right_answer : (budgets : Budgets) (end : ProjectionEndView) (answer : AnswerView) → AreStated givens.space (given_demands givens.space.variables 1 q.lines.givens) givens.constraints
       → AreRowsOf givens.space (system_forms givens.space.variables q.lines.rows) rows → ReducedEnds givens budgets.pivots budgets.rows rows [] rates end → RegionIsReduced givens rates rows end
@@ -190,9 +190,9 @@ one_elimination budgets q rates a b x y =
 -- ---- what follows
 
 pub not_width : (step : ℕ) (end : ProjectionEndView) → Undecided (Width step) ≡ answer_of_end end → ⊥
-not_width step (reduced.Region kept) e = cc
-not_width step (reduced.Rows rate) e = cc
-not_width step (reduced.Wide rate) e = cc
+not_width step (projections.Region kept) e = cc
+not_width step (projections.Rows rate) e = cc
+not_width step (projections.Wide rate) e = cc
 
 pub a_region_is_true : ARegionIsTrue
 a_region_is_true budgets plans q rates rows found is right p h lines =

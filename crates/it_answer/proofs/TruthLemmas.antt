@@ -25,17 +25,17 @@ use Rattle.it_answer.specs.declared.types.Budgets.{Budgets}
 use Rattle.it_answer.specs.Forms.{CertifiesForm, CertifyAll, all_demands, generators_by}
 use Rattle.it_answer.specs.Replies.{Reply}
 use Rattle.it_answer.specs.RightAnswers.{ViolatesFirst, IsRightFor, IsRightAnswer, IsRightAnswerBy, AYesIsTrue, ANoIsTrue, AContainmentIsTrue}
-use Rattle.it_answer.proofs.FormLemmas.{spoken, by_rows}
+use Rattle.it_answer.proofs.FormLemmas.{generators_speak, by_rows}
 
 module _ (q : BodyView) (r : RelationView) (b : Poses q r) (m : ℕ → ℤ) (h : IsPolymatroid (variables_of q) m) (lines_true : AreTrueAt (variables_of q) m (problem_lines q)) where
   back_to : (P : Space → Type 0) → P (space_of (problem_names q)) → P b.problem.space
   back_to P x = subst P (sym b.is_problem.space) x
 
   -- a certified target is at least 0
-  valid : (f : Form) (t : Terms) (w : CertificateView) → IsRowOf b.problem.space f t → CertifiesForm q f w → pos 0 ≤ℤ f m
-  valid f t w row c =
+  target_at_least_zero : (f : Form) (t : Terms) (w : CertificateView) → IsRowOf b.problem.space f t → CertifiesForm q f w → pos 0 ≤ℤ f m
+  target_at_least_zero f t w row c =
       let p = b.problem in
-      let by : CertifiesRow p t w = by_rows (all_demands p.space.variables (demanded q)) (generators p) (spoken p.space (demanded q) p.constraints b.is_problem.constraints) (size_of p.space + 1) (value t) f row.same w
+      let by : CertifiesRow p t w = by_rows (all_demands p.space.variables (demanded q)) (generators p) (generators_speak p.space (demanded q) p.constraints b.is_problem.constraints) (size_of p.space + 1) (value t) f row.same w
       (back_to (λ s. IsCertificate (size_of s + 1) (generators_by (all_demands s.variables (demanded q))) f w) c) in
       let met : AreMet m p.constraints = (question_met q p.space p.constraints b.is_problem.space b.is_problem.constraints m h.empty).1 (back_to (λ s. AreTrueAt s.variables m (problem_lines q)) lines_true) in
       subst (λ (x : ℤ). pos 0 ≤ℤ x) (row.same m h.empty) (yes_is_true p t w b.is_problem.limits row.coordinates by m (back_to (λ s. IsPolymatroid s.variables m) h) met)
@@ -46,7 +46,7 @@ module _ (q : BodyView) (r : RelationView) (b : Poses q r) (m : ℕ → ℤ) (h 
   all_valid [] (t ∷ ts) ws z c = absurd z
   all_valid (f ∷ fs) [] ws z c = absurd z
   all_valid (f ∷ fs) (t ∷ ts) [] z c = absurd c
-  all_valid (f ∷ fs) (t ∷ ts) (w ∷ ws) z c = All-cons (λ (f : Form). pos 0 ≤ℤ f m) f fs (valid f t w z.0 c.0) (all_valid fs ts ws z.1 c.1)
+  all_valid (f ∷ fs) (t ∷ ts) (w ∷ ws) z c = All-cons (λ (f : Form). pos 0 ≤ℤ f m) f fs (target_at_least_zero f t w z.0 c.0) (all_valid fs ts ws z.1 c.1)
 
 right_to_prove : (budgets : Budgets) (plans : List Plan) (q : BodyView) (r : RelationView) (reply : Reply) → q.verb ≡ Prove r → IsRightAnswer budgets plans q reply → IsRightAnswerBy budgets plans q (Prove r) reply
 right_to_prove budgets plans q r reply is right = subst (λ aim. IsRightAnswerBy budgets plans q aim reply) is right
@@ -57,18 +57,18 @@ a_yes_is_true budgets plans q r ws found is right m h l =
     (targets_met r.sign (side_at (variables_of q) m r.left) (side_at (variables_of q) m r.right) (form_of (variables_of q) r) m refl).0
     (all_valid q r a.poses m h l (targets (variables_of q) r) a.poses.rows ws a.poses.targets_are a.shows)
 
-below : (x : ℤ) → x ≤ℤ neg_ℤ (pos 1) → pos 0 ≤ℤ x → ⊥
-below x h k = omega (arith, ints)
+not_at_least_zero : (x : ℤ) → x ≤ℤ neg_ℤ (pos 1) → pos 0 ≤ℤ x → ⊥
+not_at_least_zero x h k = omega (arith, ints)
 
 -- the values are a polymatroid and rates at which the lines are true and some target is below 0
 violates : (q : BodyView) (fs : List Form) (is_back : Bool) (values : List ℤ) → ViolatesFirst q fs is_back values
     → IsPolymatroid (variables_of q) (map_of values) × AreTrueAt (variables_of q) (map_of values) (problem_lines q) × (All (λ (f : Form). pos 0 ≤ℤ f (map_of values)) fs → ⊥)
 violates q [] is_back values c = absurd c
 violates q (f ∷ fs) false values c =
-    (c.polymatroid, c.lines_hold, λ all. below (f (map_of values)) c.violated (All-head (λ (f : Form). pos 0 ≤ℤ f (map_of values)) f fs all))
+    (c.polymatroid, c.lines_hold, λ all. not_at_least_zero (f (map_of values)) c.violated (All-head (λ (f : Form). pos 0 ≤ℤ f (map_of values)) f fs all))
 violates q (f ∷ []) true values c = absurd c
 violates q (f ∷ g ∷ fs) true values c =
-    (c.1.polymatroid, c.1.lines_hold, λ all. below (g (map_of values)) c.1.violated (All-head (λ (f : Form). pos 0 ≤ℤ f (map_of values)) g fs (All-tail (λ (f : Form). pos 0 ≤ℤ f (map_of values)) f (g ∷ fs) all)))
+    (c.1.polymatroid, c.1.lines_hold, λ all. not_at_least_zero (g (map_of values)) c.1.violated (All-head (λ (f : Form). pos 0 ≤ℤ f (map_of values)) g fs (All-tail (λ (f : Form). pos 0 ≤ℤ f (map_of values)) f (g ∷ fs) all)))
 
 pub a_no_is_true : ANoIsTrue
 a_no_is_true budgets plans q r is_back values found is right =

@@ -34,8 +34,8 @@ proven_is w v e = cc
 refuted_is : (xs ys : List ℤ) → No xs ≡ No ys → xs ≡ ys
 refuted_is xs ys e = cc
 
-open_is : (c d : Cause) → Undecided c ≡ Undecided d → c ≡ d
-open_is c d e = cc
+pub undecided_same : (c d : Cause) → Undecided c ≡ Undecided d → c ≡ d
+undecided_same c d e = cc
 
 proven_not_refuted : (w : CertificateView) (xs : List ℤ) → Yes w ≡ No xs → ⊥
 proven_not_refuted w xs e = cc
@@ -88,7 +88,7 @@ module _ (p : ProblemView) (budget : Option ℕ) where
 
   one_cause : (ts : List Terms) (c d : Cause) → CauseIsDue p budget ts c → CauseIsDue p budget ts d → c ≡ d
   one_cause [] c d a b = absurd a
-  one_cause (t ∷ ts) c d (inl a) (inl b) = open_is c d (one_outcome p t budget (Undecided c) (Undecided d) a b)
+  one_cause (t ∷ ts) c d (inl a) (inl b) = undecided_same c d (one_outcome p t budget (Undecided c) (Undecided d) a b)
   one_cause (t ∷ ts) c d (inl a) (inr b) = absurd (proven_not_open b.0.0 c (one_outcome p t budget (Yes b.0.0) (Undecided c) b.0.1 a))
   one_cause (t ∷ ts) c d (inr a) (inl b) = absurd (proven_not_open a.0.0 d (one_outcome p t budget (Yes a.0.0) (Undecided d) a.0.1 b))
   one_cause (t ∷ ts) c d (inr a) (inr b) = one_cause ts c d a.1 b.1

@@ -18,7 +18,7 @@ use Rattle.it_eliminate.specs.Elimination.{Member}
 use Rattle.it_eliminate.specs.Projections.{In, Lacks}
 use Rattle.it_redundant.specs.Reduction.{NeedView, Needed, Unsettled}
 use Rattle.it_redundant.specs.ReducedElimination.{ProjectionEndView, ReducedEnds}
-use Rattle.it_redundant.specs.ReducedElimination as reduced
+use Rattle.it_redundant.specs.ReducedElimination as projections
 use Rattle.it_answer.specs.declared.types.Budgets.{Budgets}
 
 -- the rows of a region without their marks
@@ -77,9 +77,9 @@ marked_rows kept = map (λ k. (mark_of_need k.1, k.0)) kept
 
 -- a region with its rows in order; or the cause that there is none, with its rate
 abbrev pub answer_of_end : ProjectionEndView → AnswerView
-answer_of_end (reduced.Region kept) = Region (marked_rows kept)
-answer_of_end (reduced.Rows rate) = Undecided (causes.Rows rate)
-answer_of_end (reduced.Wide rate) = Undecided (causes.WideRate rate)
+answer_of_end (projections.Region kept) = Region (marked_rows kept)
+answer_of_end (projections.Rows rate) = Undecided (causes.Rows rate)
+answer_of_end (projections.Wide rate) = Undecided (causes.WideRate rate)
 
 -- What reduced elimination of the listed rates, in their order, from the rows of the `row` lines ends with: an equation's row and the
 -- row turned; each reduction under the constraints of the `given` lines.

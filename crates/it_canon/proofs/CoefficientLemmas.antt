@@ -102,9 +102,9 @@ pub added_mutual : (vs ws xs ys zs : List ℤ) (t : ℤ) (a b s given : ℕ)
 added_mutual vs ws xs ys zs t a b s given f g h k =
     let m : ℕ = unsigned_abs t in
     added-same vs zs (m + m + m + m) (4 * m) (λ p. ((t *ℤ p a +ℤ t *ℤ p b) +ℤ neg_ℤ t *ℤ p s) +ℤ neg_ℤ t *ℤ p given) (λ p. t *ℤ ((p a +ℤ p b) -ℤ (p s +ℤ p given)))
-    (omega arith) (λ p. step t (p a) (p b) (p s) (p given))
+    (omega arith) (λ p. times_mutual t (p a) (p b) (p s) (p given))
     (added-trans vs ys zs (m + m + m) m (λ p. (t *ℤ p a +ℤ t *ℤ p b) +ℤ neg_ℤ t *ℤ p s) (λ p. neg_ℤ t *ℤ p given)
     (added-trans vs xs ys (m + m) m (λ p. t *ℤ p a +ℤ t *ℤ p b) (λ p. neg_ℤ t *ℤ p s) (added-trans vs ws xs m m (λ p. t *ℤ p a) (λ p. t *ℤ p b) f g) h) k)
   where
-    step : (t x y z w : ℤ) → ((t *ℤ x +ℤ t *ℤ y) +ℤ neg_ℤ t *ℤ z) +ℤ neg_ℤ t *ℤ w ≡ t *ℤ ((x +ℤ y) -ℤ (z +ℤ w))
-    step t x y z w = omega (arith, zring)
+    times_mutual : (t x y z w : ℤ) → ((t *ℤ x +ℤ t *ℤ y) +ℤ neg_ℤ t *ℤ z) +ℤ neg_ℤ t *ℤ w ≡ t *ℤ ((x +ℤ y) -ℤ (z +ℤ w))
+    times_mutual t x y z w = omega (arith, zring)

@@ -26,14 +26,14 @@ use Rattle.it_canon.proofs.SmallForms.{IsFormUpTo, form_zero, form-add, form-neg
 -- ---- one atom
 
 module _ (n m : ℕ) where
-  abbrev last : ℕ
-  last = 2 ^ n - 1 + m
+  abbrev last_coordinate : ℕ
+  last_coordinate = 2 ^ n - 1 + m
 
-  set_within : (s : ℕ) → s < 2 ^ n → s ≤ last
+  set_within : (s : ℕ) → s < 2 ^ n → s ≤ last_coordinate
   set_within s h = omega (arith, h)
 
   -- so many times its value
-  atom_up_to : (x : ℤ) (a : Atom) → IsAtomOf n m a → IsFormUpTo last (4 * unsigned_abs x) (λ p. x *ℤ atom_at n p a)
+  atom_up_to : (x : ℤ) (a : Atom) → IsAtomOf n m a → IsFormUpTo last_coordinate (4 * unsigned_abs x) (λ p. x *ℤ atom_at n p a)
   atom_up_to x Nothing h = record { terms = []; same = λ p. times_zero x; coordinates = tt; small = omega arith }
     where
       times_zero : (x : ℤ) → pos 0 ≡ x *ℤ pos 0
@@ -79,8 +79,8 @@ module _ (n m : ℕ) where
       rate_times x y = omega (arith, zring)
 
   -- once
-  once_up_to : (a : Atom) → IsAtomOf n m a → IsFormUpTo last 4 (λ p. atom_at n p a)
-  once_up_to a h = form_same last (4 * unsigned_abs (pos 1)) 4 (λ p. pos 1 *ℤ atom_at n p a) (λ p. atom_at n p a) (omega (arith, ints)) (λ p. times_one (atom_at n p a)) (atom_up_to (pos 1) a h)
+  once_up_to : (a : Atom) → IsAtomOf n m a → IsFormUpTo last_coordinate 4 (λ p. atom_at n p a)
+  once_up_to a h = form_same last_coordinate (4 * unsigned_abs (pos 1)) 4 (λ p. pos 1 *ℤ atom_at n p a) (λ p. atom_at n p a) (omega (arith, ints)) (λ p. times_one (atom_at n p a)) (atom_up_to (pos 1) a h)
     where
       times_one : (y : ℤ) → pos 1 *ℤ y ≡ y
       times_one y = omega (arith, ints)
@@ -91,50 +91,50 @@ module _ (n m : ℕ) where
   signed-small true k h = omega (arith, ints, h)
   signed-small false k h = omega (arith, ints, h)
 
-  side_up_to : (ts : List Term) → Every (λ (t : Term). IsAtomOf n m t.atom) ts → Every (λ (t : Term). t.number < 2 ^ 64) ts → IsFormUpTo last (length ts * 2 ^ 66) (λ p. side_at n p ts)
-  side_up_to [] a k = form_same last 0 (0 * 2 ^ 66) (λ p. pos 0) (λ p. pos 0) (omega arith) (λ p. refl) (form_zero last)
+  side_up_to : (ts : List Term) → Every (λ (t : Term). IsAtomOf n m t.atom) ts → Every (λ (t : Term). t.number < 2 ^ 64) ts → IsFormUpTo last_coordinate (length ts * 2 ^ 66) (λ p. side_at n p ts)
+  side_up_to [] a k = form_same last_coordinate 0 (0 * 2 ^ 66) (λ p. pos 0) (λ p. pos 0) (omega arith) (λ p. refl) (form_zero last_coordinate)
   side_up_to (t ∷ ts) a k =
       let x : ℤ = cond t.negative (neg_ℤ (pos t.number)) (pos t.number) in
-      form_same last (4 * unsigned_abs x + length ts * 2 ^ 66) (length (t ∷ ts) * 2 ^ 66) (λ p. x *ℤ atom_at n p t.atom +ℤ side_at n p ts) (λ p. side_at n p (t ∷ ts)) (omega (arith, signed-small t.negative t.number k.0)) (λ p. refl)
-      (form-add last (4 * unsigned_abs x) (length ts * 2 ^ 66) (λ p. x *ℤ atom_at n p t.atom) (λ p. side_at n p ts) (atom_up_to x t.atom a.0) (side_up_to ts a.1 k.1))
+      form_same last_coordinate (4 * unsigned_abs x + length ts * 2 ^ 66) (length (t ∷ ts) * 2 ^ 66) (λ p. x *ℤ atom_at n p t.atom +ℤ side_at n p ts) (λ p. side_at n p (t ∷ ts)) (omega (arith, signed-small t.negative t.number k.0)) (λ p. refl)
+      (form-add last_coordinate (4 * unsigned_abs x) (length ts * 2 ^ 66) (λ p. x *ℤ atom_at n p t.atom) (λ p. side_at n p ts) (atom_up_to x t.atom a.0) (side_up_to ts a.1 k.1))
 
   plus_negation : (x y : ℤ) → x +ℤ neg_ℤ y ≡ x -ℤ y
   plus_negation x y = omega (arith, ints)
 
-  difference_up_to : (r : RelationView) → IsRelationOf n m r → HasSmallNumbers r → IsFormUpTo last (2 ^ 74) (λ p. difference_at n p r)
+  difference_up_to : (r : RelationView) → IsRelationOf n m r → HasSmallNumbers r → IsFormUpTo last_coordinate (2 ^ 74) (λ p. difference_at n p r)
   difference_up_to r h k =
-      form_same last (length r.left * 2 ^ 66 + length r.right * 2 ^ 66) (2 ^ 74) (λ p. side_at n p r.left +ℤ neg_ℤ (side_at n p r.right)) (λ p. difference_at n p r) (omega (arith, h.few)) (λ p. plus_negation (side_at n p r.left) (side_at n p r.right))
-      (form-add last (length r.left * 2 ^ 66) (length r.right * 2 ^ 66) (λ p. side_at n p r.left) (negation (λ p. side_at n p r.right))
+      form_same last_coordinate (length r.left * 2 ^ 66 + length r.right * 2 ^ 66) (2 ^ 74) (λ p. side_at n p r.left +ℤ neg_ℤ (side_at n p r.right)) (λ p. difference_at n p r) (omega (arith, h.few)) (λ p. plus_negation (side_at n p r.left) (side_at n p r.right))
+      (form-add last_coordinate (length r.left * 2 ^ 66) (length r.right * 2 ^ 66) (λ p. side_at n p r.left) (negation (λ p. side_at n p r.right))
       (side_up_to r.left (every_of (λ (t : Term). IsAtomOf n m t.atom) r.left h.left) k.0)
-      (form-negation last (length r.right * 2 ^ 66) (λ p. side_at n p r.right) (side_up_to r.right (every_of (λ (t : Term). IsAtomOf n m t.atom) r.right h.right) k.1)))
+      (form-negation last_coordinate (length r.right * 2 ^ 66) (λ p. side_at n p r.right) (side_up_to r.right (every_of (λ (t : Term). IsAtomOf n m t.atom) r.right h.right) k.1)))
 
-  relation_up_to : (r : RelationView) → IsRelationOf n m r → HasSmallNumbers r → IsFormUpTo last (2 ^ 74) (form_of n r)
-  relation_up_to r h k = by r.sign (difference_up_to r h k)
+  relation_up_to : (r : RelationView) → IsRelationOf n m r → HasSmallNumbers r → IsFormUpTo last_coordinate (2 ^ 74) (form_of n r)
+  relation_up_to r h k = by_sign r.sign (difference_up_to r h k)
     where
-      by : (sign : Sign) → IsFormUpTo last (2 ^ 74) (λ p. difference_at n p r) → IsFormUpTo last (2 ^ 74) (λ p. signed_difference sign (difference_at n p r))
-      by AtLeast x = x
-      by AtMost x = form-negation last (2 ^ 74) (λ p. difference_at n p r) x
-      by Equal x = x
+      by_sign : (sign : Sign) → IsFormUpTo last_coordinate (2 ^ 74) (λ p. difference_at n p r) → IsFormUpTo last_coordinate (2 ^ 74) (λ p. signed_difference sign (difference_at n p r))
+      by_sign AtLeast x = x
+      by_sign AtMost x = form-negation last_coordinate (2 ^ 74) (λ p. difference_at n p r) x
+      by_sign Equal x = x
 
   -- and so of its targets
-  pub targets_up_to : (r : RelationView) → IsRelationOf n m r → HasSmallNumbers r → Every (IsFormUpTo last (2 ^ 74)) (targets n r)
-  targets_up_to r h k = by r.sign (form_of n r) (relation_up_to r h k)
+  pub targets_up_to : (r : RelationView) → IsRelationOf n m r → HasSmallNumbers r → Every (IsFormUpTo last_coordinate (2 ^ 74)) (targets n r)
+  targets_up_to r h k = by_sign r.sign (form_of n r) (relation_up_to r h k)
     where
-      by : (sign : Sign) (f : Form) → IsFormUpTo last (2 ^ 74) f → Every (IsFormUpTo last (2 ^ 74)) (targets_by sign f)
-      by AtLeast f x = (x, tt)
-      by AtMost f x = (x, tt)
-      by Equal f x = (x, (form-negation last (2 ^ 74) f x, tt))
+      by_sign : (sign : Sign) (f : Form) → IsFormUpTo last_coordinate (2 ^ 74) f → Every (IsFormUpTo last_coordinate (2 ^ 74)) (targets_by sign f)
+      by_sign AtLeast f x = (x, tt)
+      by_sign AtMost f x = (x, tt)
+      by_sign Equal f x = (x, (form-negation last_coordinate (2 ^ 74) f x, tt))
 
   -- ---- givens
 
   abbrev pub AreDemandsUpTo : List Demand → Type 0
-  AreDemandsUpTo ds = Every (λ (d : Demand). IsFormUpTo last (2 ^ 74) d.form) ds
+  AreDemandsUpTo ds = Every (λ (d : Demand). IsFormUpTo last_coordinate (2 ^ 74) d.form) ds
 
   links_up_to : (past : ℕ) (sets : List ℕ) → past < 2 ^ n → Every (λ (s : ℕ). s < 2 ^ n) sets → AreDemandsUpTo (equations n (links_from past sets))
   links_up_to past [] h a = tt
   links_up_to past (here ∷ []) h a = tt
   links_up_to past (here ∷ next ∷ sets) h a = (
-    form_same last 4 (2 ^ 74) (λ p. atom_at n p (Mutual past next here)) (λ p. atom_at n p (Mutual past next here)) (omega arith) (λ p. refl) (once_up_to (Mutual past next here) (h, a.1.0, a.0)),
+    form_same last_coordinate 4 (2 ^ 74) (λ p. atom_at n p (Mutual past next here)) (λ p. atom_at n p (Mutual past next here)) (omega arith) (λ p. refl) (once_up_to (Mutual past next here) (h, a.1.0, a.0)),
     links_up_to (bit_or past here) (next ∷ sets) (or_lt n past here h a.0) a.1,
   )
 
@@ -142,29 +142,29 @@ module _ (n m : ℕ) where
   chain_up_to [] a = tt
   chain_up_to (first ∷ sets) a = links_up_to first sets a.0 a.1
 
-  sum_up_to : (members : List ℕ) (given : ℕ) → given < 2 ^ n → Every (λ (s : ℕ). s < 2 ^ n) members → IsFormUpTo last (length members * 4) (λ p. sum_given n p members given)
-  sum_up_to [] given h a = form_same last 0 (0 * 4) (λ p. pos 0) (λ p. pos 0) (omega arith) (λ p. refl) (form_zero last)
-  sum_up_to (x ∷ xs) given h a = form_same last (4 + length xs * 4) (length (x ∷ xs) * 4) (λ p. atom_at n p (Entropy x given) +ℤ sum_given n p xs given) (λ p. sum_given n p (x ∷ xs) given) (omega arith) (λ p. refl)
-      (form-add last 4 (length xs * 4) (λ p. atom_at n p (Entropy x given)) (λ p. sum_given n p xs given) (once_up_to (Entropy x given) (a.0, h)) (sum_up_to xs given h a.1))
+  sum_up_to : (members : List ℕ) (given : ℕ) → given < 2 ^ n → Every (λ (s : ℕ). s < 2 ^ n) members → IsFormUpTo last_coordinate (length members * 4) (λ p. sum_given n p members given)
+  sum_up_to [] given h a = form_same last_coordinate 0 (0 * 4) (λ p. pos 0) (λ p. pos 0) (omega arith) (λ p. refl) (form_zero last_coordinate)
+  sum_up_to (x ∷ xs) given h a = form_same last_coordinate (4 + length xs * 4) (length (x ∷ xs) * 4) (λ p. atom_at n p (Entropy x given) +ℤ sum_given n p xs given) (λ p. sum_given n p (x ∷ xs) given) (omega arith) (λ p. refl)
+      (form-add last_coordinate 4 (length xs * 4) (λ p. atom_at n p (Entropy x given)) (λ p. sum_given n p xs given) (once_up_to (Entropy x given) (a.0, h)) (sum_up_to xs given h a.1))
 
-  independence_up_to : (members : List ℕ) (given : ℕ) → AreSetsOf n 2 16 members → given < 2 ^ n → IsFormUpTo last (2 ^ 74) (independence_form n members given)
+  independence_up_to : (members : List ℕ) (given : ℕ) → AreSetsOf n 2 16 members → given < 2 ^ n → IsFormUpTo last_coordinate (2 ^ 74) (independence_form n members given)
   independence_up_to members given h k =
       let all = every_of (λ (s : ℕ). s < 2 ^ n) members h.within in
       let joint : Atom = Entropy (union_of members) given in
-      form_same last (length members * 4 + 4) (2 ^ 74) (λ p. sum_given n p members given +ℤ neg_ℤ (atom_at n p joint)) (independence_form n members given) (omega (arith, h.few)) (λ p. plus_negation (sum_given n p members given) (atom_at n p joint))
-      (form-add last (length members * 4) 4 (λ p. sum_given n p members given) (negation (λ p. atom_at n p joint)) (sum_up_to members given k all)
-      (form-negation last 4 (λ p. atom_at n p joint) (once_up_to joint (union_below n members h.within, k))))
+      form_same last_coordinate (length members * 4 + 4) (2 ^ 74) (λ p. sum_given n p members given +ℤ neg_ℤ (atom_at n p joint)) (independence_form n members given) (omega (arith, h.few)) (λ p. plus_negation (sum_given n p members given) (atom_at n p joint))
+      (form-add last_coordinate (length members * 4) 4 (λ p. sum_given n p members given) (negation (λ p. atom_at n p joint)) (sum_up_to members given k all)
+      (form-negation last_coordinate 4 (λ p. atom_at n p joint) (once_up_to joint (union_below n members h.within, k))))
 
   given_up_to : (g : GivenView) → IsGivenOf n g → GivenHasSmallNumbers g → AreDemandsUpTo (demands n g)
   given_up_to (Relation r) h k = (relation_up_to r (more_rates n m r h) k, tt)
   given_up_to (Markov sets) h k = chain_up_to sets (every_of (λ (s : ℕ). s < 2 ^ n) sets h.within)
   given_up_to (Independent members given) h k = (independence_up_to members given h.0 h.1, tt)
-  given_up_to (Function value argument) h k = (form_same last 4 (2 ^ 74) (λ p. atom_at n p (Entropy value argument)) (λ p. atom_at n p (Entropy value argument)) (omega arith) (λ p. refl) (once_up_to (Entropy value argument) h), tt)
+  given_up_to (Function value argument) h k = (form_same last_coordinate 4 (2 ^ 74) (λ p. atom_at n p (Entropy value argument)) (λ p. atom_at n p (Entropy value argument)) (omega arith) (λ p. refl) (once_up_to (Entropy value argument) h), tt)
 
   -- ---- lines
 
   abbrev pub AreLineDemandsUpTo : List LineDemand → Type 0
-  AreLineDemandsUpTo ds = Every (λ (d : LineDemand). IsFormUpTo last (2 ^ 74) d.demand.form) ds
+  AreLineDemandsUpTo ds = Every (λ (d : LineDemand). IsFormUpTo last_coordinate (2 ^ 74) d.demand.form) ds
 
   parts_up_to : (part line parts : ℕ) (ds : List Demand) → AreDemandsUpTo ds → AreLineDemandsUpTo (parts_from part line parts ds)
   parts_up_to part line parts [] h = tt
@@ -172,7 +172,7 @@ module _ (n m : ℕ) where
 
   pub given_lines_up_to : (line : ℕ) (gs : List GivenView) → Every (IsGivenOf n) gs → Every GivenHasSmallNumbers gs → AreLineDemandsUpTo (given_demands n line gs)
   given_lines_up_to line [] h k = tt
-  given_lines_up_to line (g ∷ gs) h k = every-append (λ (d : LineDemand). IsFormUpTo last (2 ^ 74) d.demand.form) (parts_of line (demands n g)) (given_demands n (line + 1) gs)
+  given_lines_up_to line (g ∷ gs) h k = every-append (λ (d : LineDemand). IsFormUpTo last_coordinate (2 ^ 74) d.demand.form) (parts_of line (demands n g)) (given_demands n (line + 1) gs)
       (parts_up_to 1 line (length (demands n g)) (demands n g) (given_up_to g h.0 k.0)) (given_lines_up_to (line + 1) gs h.1 k.1)
 
   pub row_lines_up_to : (line : ℕ) (rs : List RelationView) → Every (IsRelationOf n m) rs → Every HasSmallNumbers rs → AreLineDemandsUpTo (row_demands n line rs)
@@ -180,5 +180,5 @@ module _ (n m : ℕ) where
   row_lines_up_to line (r ∷ rs) h k = (relation_up_to r h.0 k.0, row_lines_up_to (line + 1) rs h.1 k.1)
 
   pub lines_up_to : (own : OwnLinesView) → Every (IsGivenOf n) own.givens → Every (IsRelationOf n m) own.rows → LinesHaveSmallNumbers own → AreLineDemandsUpTo (line_demands n own)
-  lines_up_to own givens rows small = every-append (λ (d : LineDemand). IsFormUpTo last (2 ^ 74) d.demand.form) (given_demands n 1 own.givens) (row_demands n 1 own.rows)
+  lines_up_to own givens rows small = every-append (λ (d : LineDemand). IsFormUpTo last_coordinate (2 ^ 74) d.demand.form) (given_demands n 1 own.givens) (row_demands n 1 own.rows)
       (given_lines_up_to 1 own.givens givens small.0) (row_lines_up_to 1 own.rows rows small.1)

@@ -50,14 +50,14 @@ module _ (q : BodyView) (k : IsQuestion q) (small : QuestionHasSmallNumbers q) w
   own_space = space_of (problem_names q)
 
   problem_up_to : AreLineDemandsUpTo own_space.variables own_space.rates (question_demands q)
-  problem_up_to = by q.verb k.verb small.1 (shared_givens q own_space k refl) (shared_rows q own_space k refl)
+  problem_up_to = by_verb q.verb k.verb small.1 (shared_givens q own_space k refl) (shared_rows q own_space k refl)
     where
-      by : (verb : VerbView) → IsVerbOver q.names verb → VerbHasSmallNumbers verb → All (IsGivenOf (length (problem_names_by q.names verb).variables)) q.lines.givens
+      by_verb : (verb : VerbView) → IsVerbOver q.names verb → VerbHasSmallNumbers verb → All (IsGivenOf (length (problem_names_by q.names verb).variables)) q.lines.givens
           → All (IsRelationOf (length (problem_names_by q.names verb).variables) (length (problem_names_by q.names verb).rates)) q.lines.rows
           → AreLineDemandsUpTo (length (problem_names_by q.names verb).variables) (length (problem_names_by q.names verb).rates) (line_demands (length (problem_names_by q.names verb).variables) (problem_lines_by q.lines verb))
-      by (Prove r) over counts givens rows = lines_up_to _ _ q.lines (every_of _ q.lines.givens givens) (every_of _ q.lines.rows rows) small.0
-      by (Eliminate rates) over counts givens rows = lines_up_to _ _ (record { givens = q.lines.givens; rows = [] }) (every_of _ q.lines.givens givens) tt (small.0.0, tt)
-      by (Contain first second tries) over counts givens rows =
+      by_verb (Prove r) over counts givens rows = lines_up_to _ _ q.lines (every_of _ q.lines.givens givens) (every_of _ q.lines.rows rows) small.0
+      by_verb (Eliminate rates) over counts givens rows = lines_up_to _ _ (record { givens = q.lines.givens; rows = [] }) (every_of _ q.lines.givens givens) tt (small.0.0, tt)
+      by_verb (Contain first second tries) over counts givens rows =
           let n = length first.names.variables in
           let m = length first.names.rates in
           lines_up_to n m (record { givens = q.lines.givens ++ first.lines.givens; rows = q.lines.rows ++ first.lines.rows })
@@ -85,11 +85,11 @@ module _ (q : BodyView) (k : IsQuestion q) (small : QuestionHasSmallNumbers q) w
 
 -- what follows from the limits and from small numbers
 each_question : (P : QuestionView → Type 0) → ((q : QuestionView) → IsQuestion q.body → QuestionHasSmallNumbers q.body → P q) → (bytes : List ℕ) (qs : List QuestionView) → IsFile bytes qs → All P qs
-each_question P f bytes qs file = all_of P qs (both qs (every_of (λ (q : QuestionView). IsQuestion q.body) qs (file_limits bytes qs file)) (file_has_small_numbers bytes qs file))
+each_question P f bytes qs file = all_of P qs (every_from_both qs (every_of (λ (q : QuestionView). IsQuestion q.body) qs (file_limits bytes qs file)) (file_has_small_numbers bytes qs file))
   where
-    both : (qs : List QuestionView) → Every (λ (q : QuestionView). IsQuestion q.body) qs → Every (λ (q : QuestionView). QuestionHasSmallNumbers q.body) qs → Every P qs
-    both [] h k = tt
-    both (q ∷ qs) h k = (f q h.0 k.0, both qs h.1 k.1)
+    every_from_both : (qs : List QuestionView) → Every (λ (q : QuestionView). IsQuestion q.body) qs → Every (λ (q : QuestionView). QuestionHasSmallNumbers q.body) qs → Every P qs
+    every_from_both [] h k = tt
+    every_from_both (q ∷ qs) h k = (f q h.0 k.0, every_from_both qs h.1 k.1)
 
 pub file_has_problems : QuestionHasProblem
 file_has_problems = each_question (λ q. (p : ProblemView) × IsProblemOf q.body p) (λ q k small. question_has_problem q.body k small)

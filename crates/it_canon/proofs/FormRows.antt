@@ -33,16 +33,16 @@ told_from limit first (suc count) (t ∷ ts) f l a u h = by_order (cases_order t
     rest : Terms
     rest = terms_from (first + 1) (map f (span (first + 1) count))
 
-    some : (x : ℤ) → (x ≡ pos 0 → ⊥) → single_term first x ≡ (first, x) ∷ []
-    some (pos zero) n = absurd (n refl)
-    some (pos (suc x)) n = refl
-    some (negsuc x) n = refl
+    single_term_stays : (x : ℤ) → (x ≡ pos 0 → ⊥) → single_term first x ≡ (first, x) ∷ []
+    single_term_stays (pos zero) n = absurd (n refl)
+    single_term_stays (pos (suc x)) n = refl
+    single_term_stays (negsuc x) n = refl
 
-    here : t.0 ≡ first → f first ≡ t.1
-    here e = sym (h first (omega arith)) ∙ ap (coefficient (t ∷ ts)) (sym e) ∙ head_is first t ts a
+    first_coefficient : t.0 ≡ first → f first ≡ t.1
+    first_coefficient e = sym (h first (omega arith)) ∙ ap (coefficient (t ∷ ts)) (sym e) ∙ head_is first t ts a
 
     by_order : (t.0 ≡ first) ⊎ ((t.0 < first) ⊎ (first < t.0)) → (t.0 ≡ first → ts ≡ rest) → (first < t.0 → t ∷ ts ≡ rest) → t ∷ ts ≡ single_term first (f first) ++ rest
-    by_order (inl e) same later = ap₂ (λ (n : ℕ) (xs : Terms). (n, t.1) ∷ xs) e (same e) ∙ ap (λ (xs : Terms). xs ++ rest) (sym (ap (single_term first) (here e) ∙ some t.1 a.1))
+    by_order (inl e) same later = ap₂ (λ (n : ℕ) (xs : Terms). (n, t.1) ∷ xs) e (same e) ∙ ap (λ (xs : Terms). xs ++ rest) (sym (ap (single_term first) (first_coefficient e) ∙ single_term_stays t.1 a.1))
     by_order (inr (inl k)) same later = absurd (omega (arith, k, a.0))
     by_order (inr (inr k)) same later = later k ∙ ap (λ (x : ℤ). single_term first x ++ rest) (sym (none_below t.0 (t ∷ ts) first (omega arith, a.1, a.2, a.3) k) ∙ h first (omega arith))
 
@@ -51,15 +51,15 @@ pub told_by_form : (size : ℕ) (form : Form) (row : Terms) → IsCanonical row 
 unfolding terms_of_form
 told_by_form size form row a up same =
     let each = every_of (λ (t : ℕ × ℤ). (1 ≤ t.0) × (t.0 ≤ size)) row up in
-    told_from (size + 1) 1 size row (λ c. form (one_at c)) (omega arith) (from_one row a each) (below row each) (λ c h. sym (value-one_at row c) ∙ same (one_at c) (one_at-zero c h))
+    told_from (size + 1) 1 size row (λ c. form (one_at c)) (omega arith) (from_one row a each) (row_below_limit row each) (λ c h. sym (value-one_at row c) ∙ same (one_at c) (one_at-zero c h))
   where
     from_one : (row : Terms) → Ascends 0 row → Every (λ (t : ℕ × ℤ). (1 ≤ t.0) × (t.0 ≤ size)) row → Ascends 1 row
     from_one [] a u = tt
     from_one (t ∷ ts) a u = (u.0.0, a.1, a.2, a.3)
 
-    below : (row : Terms) → Every (λ (t : ℕ × ℤ). (1 ≤ t.0) × (t.0 ≤ size)) row → Every (λ (t : ℕ × ℤ). t.0 < size + 1) row
-    below [] u = tt
-    below (t ∷ ts) u = (omega (arith, u.0.1), below ts u.1)
+    row_below_limit : (row : Terms) → Every (λ (t : ℕ × ℤ). (1 ≤ t.0) × (t.0 ≤ size)) row → Every (λ (t : ℕ × ℤ). t.0 < size + 1) row
+    row_below_limit [] u = tt
+    row_below_limit (t ∷ ts) u = (omega (arith, u.0.1), row_below_limit ts u.1)
 
 pub row_is_terms_of_form : (s : Space) (form : Form) (row : Terms) → IsRowOf s form row → row ≡ terms_of_form (size_of s) form
 row_is_terms_of_form s form row r = told_by_form (size_of s) form row r.canonical r.coordinates r.same

@@ -35,20 +35,20 @@ IsOfSets n form = (c : ℕ) → 2 ^ n ≤ c → form (one_at c) ≡ pos 0
 -- a row without coefficients from a coordinate on has no terms there
 terms_below : (size bound from : ℕ) (ts : Terms) → Ascends from ts → ((c : ℕ) → bound ≤ c → coefficient ts c ≡ pos 0) → IsUpTo size ts → IsUpTo (bound - 1) ts
 terms_below size bound from [] a z u = All-nil (λ (t : ℕ × ℤ). (1 ≤ t.0) × (t.0 ≤ bound - 1))
-terms_below size bound from (t ∷ ts) a z u = All-cons (λ (x : ℕ × ℤ). (1 ≤ x.0) × (x.0 ≤ bound - 1)) t ts (one.0, omega (arith, below)) (terms_below size bound (t.0 + 1) ts a.3 later (All-tail (λ (x : ℕ × ℤ). (1 ≤ x.0) × (x.0 ≤ size)) t ts u))
+terms_below size bound from (t ∷ ts) a z u = All-cons (λ (x : ℕ × ℤ). (1 ≤ x.0) × (x.0 ≤ bound - 1)) t ts (term_in_range.0, omega (arith, term_below_bound)) (terms_below size bound (t.0 + 1) ts a.3 no_later_coefficient (All-tail (λ (x : ℕ × ℤ). (1 ≤ x.0) × (x.0 ≤ size)) t ts u))
   where
-    one : (1 ≤ t.0) × (t.0 ≤ size)
-    one = All-head (λ (x : ℕ × ℤ). (1 ≤ x.0) × (x.0 ≤ size)) t ts u
+    term_in_range : (1 ≤ t.0) × (t.0 ≤ size)
+    term_in_range = All-head (λ (x : ℕ × ℤ). (1 ≤ x.0) × (x.0 ≤ size)) t ts u
 
-    below : t.0 < bound
-    below = by_cases (cases_lt t.0 bound)
+    term_below_bound : t.0 < bound
+    term_below_bound = by_cases (cases_lt t.0 bound)
       where
         by_cases : (t.0 < bound) ⊎ (bound ≤ t.0) → t.0 < bound
         by_cases (inl l) = l
         by_cases (inr g) = absurd (a.1 (sym (head_is from t ts a) ∙ z t.0 g))
 
-    later : (c : ℕ) → bound ≤ c → coefficient ts c ≡ pos 0
-    later c l = sym (other_is t ts c (λ e. omega (arith, below, l, e))) ∙ z c l
+    no_later_coefficient : (c : ℕ) → bound ≤ c → coefficient ts c ≡ pos 0
+    no_later_coefficient c l = sym (other_is t ts c (λ e. omega (arith, term_below_bound, l, e))) ∙ z c l
 
 row_of_sets : (s : Space) (form : Form) (row : Terms) → IsOfSets s.variables form → IsRowOf s form row → IsUpTo (2 ^ s.variables - 1) row
 row_of_sets s form row f r = terms_below (size_of s) (2 ^ s.variables) 0 row r.canonical
@@ -73,12 +73,12 @@ side_of_sets n (t ∷ ts) a c h = ap₂ (λ x y. cond t.negative (neg_ℤ (pos t
     (atom_of_sets n t.atom (All-head (λ (t : Term). IsAtomOf n 0 t.atom) t ts a) c h) (side_of_sets n ts (All-tail (λ (t : Term). IsAtomOf n 0 t.atom) t ts a) c h) ∙ omega (arith, ints)
 
 relation_of_sets : (n : ℕ) (r : RelationView) → IsRelationOf n 0 r → IsOfSets n (form_of n r)
-relation_of_sets n r k c h = ap₂ (λ x y. signed_difference r.sign (x -ℤ y)) (side_of_sets n r.left k.left c h) (side_of_sets n r.right k.right c h) ∙ none r.sign
+relation_of_sets n r k c h = ap₂ (λ x y. signed_difference r.sign (x -ℤ y)) (side_of_sets n r.left k.left c h) (side_of_sets n r.right k.right c h) ∙ zero_difference r.sign
   where
-    none : (s : Sign) → signed_difference s (pos 0 -ℤ pos 0) ≡ pos 0
-    none AtLeast = refl
-    none AtMost = refl
-    none Equal = refl
+    zero_difference : (s : Sign) → signed_difference s (pos 0 -ℤ pos 0) ≡ pos 0
+    zero_difference AtLeast = refl
+    zero_difference AtMost = refl
+    zero_difference Equal = refl
 
 sum_of_sets : (n : ℕ) (members : List ℕ) (given : ℕ) → All (λ s. s < 2 ^ n) members → given < 2 ^ n → IsOfSets n (λ p. sum_given n p members given)
 sum_of_sets n [] given a l c h = refl

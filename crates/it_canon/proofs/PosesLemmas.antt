@@ -13,11 +13,11 @@ use Rattle.it_canon.specs.Theorems.{OneProblem}
 use Rattle.it_canon.proofs.UniqueRows.{one_constraint_list, one_row_list}
 
 pub one_problem : OneProblem
-one_problem q p r a b = ap₂ (λ (s : Space) (cs : List Constraint). record { space = s; constraints = cs }) same (one_constraint_list r.space (question_demands q) p.constraints r.constraints
-    (subst (λ (s : Space). AreStated s (question_demands q) p.constraints) same a.constraints) b.constraints)
+one_problem q p r a b = ap₂ (λ (s : Space) (cs : List Constraint). record { space = s; constraints = cs }) same_space (one_constraint_list r.space (question_demands q) p.constraints r.constraints
+    (subst (λ (s : Space). AreStated s (question_demands q) p.constraints) same_space a.constraints) b.constraints)
   where
-    same : p.space ≡ r.space
-    same = a.space ∙ sym b.space
+    same_space : p.space ≡ r.space
+    same_space = a.space ∙ sym b.space
 
 pub same_problem : (q : BodyView) (r : RelationView) (a b : Poses q r) → a.problem ≡ b.problem
 same_problem q r a b = one_problem q a.problem b.problem a.is_problem b.is_problem

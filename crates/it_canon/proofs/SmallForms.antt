@@ -4,6 +4,8 @@ use Rattle.std.specs.List.{AllByRecursion as Every}
 use Rattle.std.proofs.Math.Nat.{pow-le-pow_right}
 use Rattle.std.proofs.lemmas.Int.{ints}
 use Rattle.std.proofs.lemmas.List.Elements.{All-weaker}
+use Rattle.std.proofs.Math.IntN.{+ℤ_idr, +ℤ_idl}
+use Rattle.it_number.proofs.SignLemmas.{size_negated}
 use Rattle.it_space.specs.declared.spaces.Space.{Space}
 use Rattle.it_space.specs.Bounds.{IsSmall}
 use Rattle.it_space.specs.Rows.{Terms, IsCanonical, IsUpTo, one_at, value, negated_terms}
@@ -35,10 +37,7 @@ mass-append (x ∷ xs) ys = omega (arith, mass-append xs ys)
 
 mass-negated : (xs : Terms) → row_mass (negated_terms xs) ≡ row_mass xs
 mass-negated [] = refl
-mass-negated (x ∷ xs) = ap₂ (λ (a b : ℕ). a + b) (abs-negated x.1) (mass-negated xs)
-  where
-    abs-negated : (z : ℤ) → unsigned_abs (neg_ℤ z) ≡ unsigned_abs z
-    abs-negated z = omega (arith, ints)
+mass-negated (x ∷ xs) = ap₂ (λ (a b : ℕ). a + b) (size_negated x.1) (mass-negated xs)
 
 every-negated : (size : ℕ) (xs : Terms) → Every (λ (t : ℕ × ℤ). t.0 ≤ size) xs → Every (λ (t : ℕ × ℤ). t.0 ≤ size) (negated_terms xs)
 every-negated size [] e = tt
@@ -88,10 +87,7 @@ value-small (t ∷ ts) c = sum-small (t.1 *ℤ one_at c t.0) t.1 (value ts (one_
 
 -- the coefficients from a coordinate on
 dense_is : (first count : ℕ) (f p : ℕ → ℤ) → dot first f p +ℤ dense_form_from first (map f (span first count)) p ≡ dot (first + count) f p
-dense_is first zero f p = let e : first ≡ first + 0 = omega arith in plus_zero (dot first f p) ∙ ap (λ (n : ℕ). dot n f p) e
-  where
-    plus_zero : (x : ℤ) → x +ℤ pos 0 ≡ x
-    plus_zero x = omega (arith, ints)
+dense_is first zero f p = let e : first ≡ first + 0 = omega arith in +ℤ_idr (dot first f p) ∙ ap (λ (n : ℕ). dot n f p) e
 dense_is first (suc count) f p =
     let e : first + 1 + count ≡ first + suc count = omega arith in
     let next : suc first ≡ first + 1 = omega arith in
@@ -122,11 +118,8 @@ module _ (s : Space) (k : IsSpace s) (form : Form) (x : IsFormUpTo (size_of s) (
   row_same : (p : ℕ → ℤ) → p 0 ≡ pos 0 → value row p ≡ form p
   row_same p z =
       let e : 0 + suc (size_of s) ≡ size_of s + 1 = omega arith in
-      row-value coefficients row p refl z ∙ zero_plus (dense_form_from 0 coefficients p) ∙ dense_is 0 (suc (size_of s)) coefficient_at p
+      row-value coefficients row p refl z ∙ sym (+ℤ_idl (dense_form_from 0 coefficients p)) ∙ dense_is 0 (suc (size_of s)) coefficient_at p
       ∙ ap (λ (n : ℕ). dot n coefficient_at p) e ∙ sym ((value_linear (size_of s) x.terms x.coordinates).sum p z) ∙ x.same p
-    where
-      zero_plus : (y : ℤ) → y ≡ pos 0 +ℤ y
-      zero_plus y = omega (arith, ints)
 
   row_coordinates : IsUpTo (size_of s) row
   row_coordinates = let e : length coefficients - 1 ≡ size_of s = omega (arith, length-map-span coefficient_at 0 (suc (size_of s))) in subst (λ (n : ℕ). IsUpTo n row) e (row_up_to coefficients row refl)

@@ -6,7 +6,7 @@ use Rattle.it_space.specs.declared.problems.Origin.{Origin}
 use Rattle.it_space.specs.declared.problems.Constraint.{Constraint}
 use Rattle.it_space.specs.Rows.{Terms, IsCanonical, IsUpTo, coefficient, one_at, value}
 use Rattle.it_space.specs.Spaces.{size_of}
-use Rattle.it_space.proofs.CanonicalRows.{told, other_is}
+use Rattle.it_space.proofs.CanonicalRows.{rows_by_coefficients, other_is}
 use Rattle.it_space.proofs.TermLemmas.{value-one_at}
 use Rattle.it_space.proofs.EveryLemmas.{every_of}
 use Rattle.it_polymatroid.proofs.Forms.{one_at-zero}
@@ -20,14 +20,14 @@ none_at_zero size (t ∷ ts) u = other_is t ts 0 (λ e. omega (arith, u.0.0, e))
 
 -- two canonical rows over the coordinates with one value at every map that is 0 at the empty set
 pub told_by_values : (size : ℕ) (r t : Terms) → IsUpTo size r → IsUpTo size t → IsCanonical r → IsCanonical t → ((p : ℕ → ℤ) → p 0 ≡ pos 0 → value r p ≡ value t p) → r ≡ t
-told_by_values size r t up up_also canonical also_canonical values = told 0 r t canonical also_canonical same
+told_by_values size r t up up_also canonical also_canonical values = rows_by_coefficients 0 r t canonical also_canonical same_coefficients
   where
     zero_at : (x : Terms) → IsUpTo size x → coefficient x 0 ≡ pos 0
     zero_at x i = none_at_zero size x (every_of (λ (t : ℕ × ℤ). (1 ≤ t.0) × (t.0 ≤ size)) x i)
 
-    same : (c : ℕ) → coefficient r c ≡ coefficient t c
-    same zero = zero_at r up ∙ sym (zero_at t up_also)
-    same (suc c) = sym (value-one_at r (suc c)) ∙ values (one_at (suc c)) (one_at-zero (suc c) (omega arith)) ∙ value-one_at t (suc c)
+    same_coefficients : (c : ℕ) → coefficient r c ≡ coefficient t c
+    same_coefficients zero = zero_at r up ∙ sym (zero_at t up_also)
+    same_coefficients (suc c) = sym (value-one_at r (suc c)) ∙ values (one_at (suc c)) (one_at-zero (suc c) (omega arith)) ∙ value-one_at t (suc c)
 
 pub one_row : OneRow
 one_row s form r t a b = told_by_values (size_of s) r t a.coordinates b.coordinates a.canonical b.canonical (λ p z. a.same p z ∙ sym (b.same p z))

@@ -10,11 +10,11 @@ not_within n le = search (rules)
 
 pub too_large : (n : ℕ) (ds : List ℕ) → 2 ^ 127 ≤ n → option_and_then up_to_limit (value_from n ds) ≡ None
 too_large n [] le = not_within n le
-too_large n (d ∷ ds) le = by (is_ascii_digit d) (too_large (10 * n + (d - 48)) ds (omega arith))
+too_large n (d ∷ ds) le = by_test (is_ascii_digit d) (too_large (10 * n + (d - 48)) ds (omega arith))
   where
-    by : (b : Bool) → option_and_then up_to_limit (value_from (10 * n + (d - 48)) ds) ≡ None → option_and_then up_to_limit (cond b (value_from (10 * n + (d - 48)) ds) None) ≡ None
-    by true none = none
-    by false none = refl
+    by_test : (b : Bool) → option_and_then up_to_limit (value_from (10 * n + (d - 48)) ds) ≡ None → option_and_then up_to_limit (cond b (value_from (10 * n + (d - 48)) ds) None) ≡ None
+    by_test true none = none
+    by_test false none = refl
 
 digit_passes : (d : ℕ) → 48 ≤ d → d ≤ 57 → is_ascii_digit d ≡ true
 digit_passes d low high = search (rules)

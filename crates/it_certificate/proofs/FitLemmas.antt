@@ -35,7 +35,7 @@ use Rattle.it_certificate.specs.Obligations.{obligation_count, target_count}
 use Rattle.it_certificate.specs.Reports.{prove_answer, eliminate_answer, contain_answer, verb_answer, question_answer}
 use Rattle.it_certificate.specs.AnswerShapes.{IsNumberedAmount, IsNumbered, IsRowIn, IsFoundIn, IsCauseFor, HasProveShape, HasEliminateShape, HasContainShape, HasVerbShape, HasQuestionShape}
 use Rattle.it_certificate.proofs.WithinLemmas.{and_then_some, map_some, cond_some, both_some, all_of_holds, integer_at_within, point_within, point_length}
-use Rattle.it_certificate.proofs.RowLemmas.{canonical}
+use Rattle.it_certificate.proofs.RowLemmas.{row_is_canonical}
 
 key_ok : {A : Type 0} (k : Key) (o : Option A) (a : A) → ok_or o k ≡ Ok a → o ≡ Some a
 key_ok k None a is = absurd (cc)
@@ -105,12 +105,12 @@ yes_fits v sign d a is =
 
 back_only : (equality back : Bool) (text : List ℕ) → back_of equality text ≡ Some back → back ≡ true → equality ≡ true
 back_only true back text is at = refl
-back_only false back text is at = absurd (by (bytes_eq text (codes "forward")) (bytes_eq text (codes "back")) (is ∙ ap Some at))
+back_only false back text is at = absurd (by_test (bytes_eq text (codes "forward")) (bytes_eq text (codes "back")) (is ∙ ap Some at))
   where
-    by : (s t : Bool) → cond s (Some false) (cond t None None) ≡ Some true → ⊥
-    by true t e = cc
-    by false true e = cc
-    by false false e = cc
+    by_test : (s t : Bool) → cond s (Some false) (cond t None None) ≡ Some true → ⊥
+    by_test true t e = cc
+    by_test false true e = cc
+    by_test false false e = cc
 
 back_fits : (equality back : Bool) (d : Data) → back_at equality d ≡ Some back → back ≡ true → equality ≡ true
 unfolding back_at
@@ -199,7 +199,7 @@ row_fits size d r is =
     let e : k.0 ≡ r.1 = let s = m.1 in cc in
     let terms : All IsNumberedAmount r.1 = subst (λ ts. All IsNumberedAmount ts) e (terms_numbers d k.0 k.1.0) in
     let row : is_row_between 1 size r.1 ≡ true = subst (λ ts. is_row_between 1 size ts ≡ true) e m.0 in
-    record { terms = terms; canonical = canonical size r.1 row (all_second r.1 terms); coordinates = up_to 1 size r.1 (omega arith) row }
+    record { terms = terms; canonical = row_is_canonical size r.1 row (all_second r.1 terms); coordinates = up_to 1 size r.1 (omega arith) row }
 
 region_fits : (v : NamesView) (d : Data) (a : AnswerView) → region_at (size_of (space_of v)) d ≡ Ok a → HasEliminateShape v a
 unfolding region_at rows_at
@@ -273,9 +273,9 @@ contain_fits first second kinds.Open d a is = open_fits first second d a is
 
 pub answer_fits : (q : QuestionView) (kind : AnswerKind) (d : Data) (a : AnswerView) → question_answer q kind d ≡ Ok a → HasQuestionShape q.body a
 unfolding question_answer HasQuestionShape
-answer_fits q kind d a is = by q.body.verb is
+answer_fits q kind d a is = by_verb q.body.verb is
   where
-    by : (verb : VerbView) → verb_answer q.body.names verb kind d ≡ Ok a → HasVerbShape q.body.names verb a
-    by (Prove r) e = prove_fits q.body.names r.sign kind d a e
-    by (Eliminate rates) e = eliminate_fits q.body.names kind d a e
-    by (Contain first second tries) e = contain_fits first second kind d a e
+    by_verb : (verb : VerbView) → verb_answer q.body.names verb kind d ≡ Ok a → HasVerbShape q.body.names verb a
+    by_verb (Prove r) e = prove_fits q.body.names r.sign kind d a e
+    by_verb (Eliminate rates) e = eliminate_fits q.body.names kind d a e
+    by_verb (Contain first second tries) e = contain_fits first second kind d a e

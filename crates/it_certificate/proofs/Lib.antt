@@ -3,7 +3,7 @@ mod PairLemmas
 mod WithinLemmas
 pub mod RowLemmas
 mod BackLemmas
-mod ValueLemmas
+pub mod ValueLemmas
 mod ObligationLemmas
 mod QuestionLemmas
 pub mod ReportLemmas

@@ -2,13 +2,13 @@
 use Rattle.std.proofs.Common.{◌≡◌, [], ◌∷◌, refl, ap, sym, subst, ◌∙◌, Option, Some, None, Result}
 use Rattle.serde_json.specs.Data.{Data}
 use Rattle.it_space.specs.Answers.{AnswerView}
+use Rattle.it_space.proofs.OptionLemmas.{some_same}
 use Rattle.it_question.specs.Questions.{QuestionView}
 use Rattle.it_question.specs.Files.{IsFile}
 use Rattle.it_question.proofs.FileLemmas.{file_is_one}
 use Rattle.it_certificate.specs.declared.keys.Key.{Key}
 use Rattle.it_certificate.specs.Reports.{IsQuestionOf, IsQuestionAt, ReadsAs, report_of}
 use Rattle.it_certificate.specs.Laws.{OneReading}
-use Rattle.it_certificate.proofs.QuestionLemmas.{some_same}
 
 first_of : {A : Type 0} (a b : A) → a ∷ [] ≡ b ∷ [] → a ≡ b
 first_of a b e = cc

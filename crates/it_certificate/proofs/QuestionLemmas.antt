@@ -1,6 +1,7 @@
 -- Texts that read as one question.
 use Rattle.std.proofs.Common.{◌≡◌, ℕ, ◌≤◌, List, [], ◌∷◌, map, length, ap, sym, subst, ◌∙◌, Some, None, Result, Ok, Err, codes}
 use Rattle.std.proofs.lemmas.List.{length-map}
+use Rattle.it_space.proofs.OptionLemmas.{some_same}
 use Rattle.serde_json.specs.Data.{Data}
 use Rattle.serde_json.specs.Find.{get}
 use Rattle.it_syntax.specs.declared.types.Code.{Code}
@@ -34,9 +35,6 @@ found_text d text q is both = (text, (is, both))
 pub no_text : (d : Data) → text_of (get (codes "question") d) ≡ None → (q : QuestionView) → IsQuestionOf d q → ⊥
 unfolding IsQuestionOf
 no_text d none q h = let e : None ≡ Some h.0 = sym none ∙ h.1.0 in cc
-
-pub some_same : {A : Type 0} (a b : A) → Some a ≡ Some b → a ≡ b
-some_same a b e = cc
 
 pub other_text : (d : Data) (text : List ℕ) → text_of (get (codes "question") d) ≡ Some text
     → ((q : QuestionView) → length text ≤ 1048577 → IsFile text (q ∷ []) → ⊥) → (q : QuestionView) → IsQuestionOf d q → ⊥

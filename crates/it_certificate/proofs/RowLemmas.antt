@@ -17,14 +17,14 @@ nonzero_passes (negsuc n) other = search (rules)
 not_zero : (z : ℤ) → not (unsigned_abs z == 0) ≡ true → z ≢ pos 0
 not_zero z is e = let f : not (unsigned_abs z == 0) ≡ false = ap (λ x. not (unsigned_abs x == 0)) e in cc
 
-ascends : (from low size : ℕ) (ts : Terms) → low ≤ from → is_row_between from size ts ≡ true → All (λ t. IsWithin t.1) ts → Ascends low ts
-ascends from low size [] le is all = tt
-ascends from low size (t ∷ ts) le is all =
+row_ascends : (from low size : ℕ) (ts : Terms) → low ≤ from → is_row_between from size ts ≡ true → All (λ t. IsWithin t.1) ts → Ascends low ts
+row_ascends from low size [] le is all = tt
+row_ascends from low size (t ∷ ts) le is all =
     let h = both_true (is_term_between from size t) (is_row_between (t.0 + 1) size ts) is in
     let k = both_true (nat_le from t.0) (nat_le t.0 size && not (unsigned_abs t.1 == 0)) h.0 in
     let m = both_true (nat_le t.0 size) (not (unsigned_abs t.1 == 0)) k.1 in
     let there : from ≤ t.0 = let e = k.0 in search (rules, e) in
-    (omega (arith, there, le), not_zero t.1 m.1, All-head (λ t. IsWithin t.1) t ts all, ascends (t.0 + 1) (t.0 + 1) size ts (omega arith) h.1 (All-tail (λ t. IsWithin t.1) t ts all))
+    (omega (arith, there, le), not_zero t.1 m.1, All-head (λ t. IsWithin t.1) t ts all, row_ascends (t.0 + 1) (t.0 + 1) size ts (omega arith) h.1 (All-tail (λ t. IsWithin t.1) t ts all))
 
-pub canonical : (size : ℕ) (ts : Terms) → is_row_between 1 size ts ≡ true → All (λ t. IsWithin t.1) ts → IsCanonical ts
-canonical size ts is all = ascends 1 0 size ts (omega arith) is all
+pub row_is_canonical : (size : ℕ) (ts : Terms) → is_row_between 1 size ts ≡ true → All (λ t. IsWithin t.1) ts → IsCanonical ts
+row_is_canonical size ts is all = row_ascends 1 0 size ts (omega arith) is all

@@ -55,16 +55,16 @@ row_shallow : (r : Mark × Terms) → depth (row_value r) ≤ 3
 unfolding row_value
 row_shallow r = let e = items_shallow pair_value 1 pair_shallow r.1 in omega (arith, e)
 
-pub shallow : (text : List ℕ) (v : NamesView) (a : AnswerView) → depth (answer_value text v a) ≤ 127
+pub answer_shallow : (text : List ℕ) (v : NamesView) (a : AnswerView) → depth (answer_value text v a) ≤ 127
 unfolding answer_value
-shallow text v (Yes proofs) = let e = items_shallow proof_value 3 proof_shallow proofs in omega (arith, e)
-shallow text v (No back values) = let e = items_shallow integer_value 0 (λ z. omega arith) values in omega (arith, e)
-shallow text v (Undecided cause) = omega arith
-shallow text v (Region rows) = let e = items_shallow row_value 3 row_shallow rows in omega (arith, e)
-shallow text v (Contained parts proofs) =
+answer_shallow text v (Yes proofs) = let e = items_shallow proof_value 3 proof_shallow proofs in omega (arith, e)
+answer_shallow text v (No back values) = let e = items_shallow integer_value 0 (λ z. omega arith) values in omega (arith, e)
+answer_shallow text v (Undecided cause) = omega arith
+answer_shallow text v (Region rows) = let e = items_shallow row_value 3 row_shallow rows in omega (arith, e)
+answer_shallow text v (Contained parts proofs) =
     let e = items_shallow count_value 0 (λ n. omega arith) parts in
     let f = items_shallow proof_value 3 proof_shallow proofs in omega (arith, e, f)
-shallow text v (Open tried) = omega arith
+answer_shallow text v (Open tried) = omega arith
 
 pub text_is : {E : Type 0} {S : Type 0} (bytes : S → List ℕ) (text : List ℕ) (v : NamesView) (a : AnswerView) (d : Data) (out : Result S E) → d ≡ answer_value text v a
     → IfOk out (λ s. has_float d ≡ false → bytes s ≡ compact_text d) → IfOk out (λ s. bytes s ≡ answer_text text v a)
@@ -74,5 +74,5 @@ text_is bytes text v a d (Err e) is h = tt
 
 pub back_is : {E : Type 0} {S : Type 0} (bytes : S → List ℕ) (text : List ℕ) (v : NamesView) (a : AnswerView) (d : Data) (out : Result S E) → d ≡ answer_value text v a
     → IfOk out (λ s. depth d ≤ 127 → read (bytes s) ≡ Some d) → IfOk out (λ s. read (bytes s) ≡ Some (answer_value text v a))
-back_is bytes text v a d (Ok s) is h = h (subst (λ (e : Data). depth e ≤ 127) (sym is) (shallow text v a)) ∙ ap Some is
+back_is bytes text v a d (Ok s) is h = h (subst (λ (e : Data). depth e ≤ 127) (sym is) (answer_shallow text v a)) ∙ ap Some is
 back_is bytes text v a d (Err e) is h = tt

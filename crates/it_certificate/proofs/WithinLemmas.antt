@@ -49,11 +49,11 @@ negative_within (suc m) lt = lt
 integer_within : (cs : List ℕ) (z : ℤ) → integer_of cs ≡ Some z → IsWithin z
 unfolding integer_of
 integer_within [] z is = absurd (cc)
-integer_within (c ∷ cs) z is = by (c == 45) is
+integer_within (c ∷ cs) z is = by_test (c == 45) is
   where
-    by : (t : Bool) → cond t (option_map negative_of (magnitude_of cs)) (option_map pos (magnitude_of (c ∷ cs))) ≡ Some z → IsWithin z
-    by true e = let h = map_some (magnitude_of cs) negative_of z e in subst IsWithin h.1.1 (negative_within h.0 (magnitude_within cs h.0 h.1.0))
-    by false e = let h = map_some (magnitude_of (c ∷ cs)) pos z e in subst IsWithin h.1.1 (magnitude_within (c ∷ cs) h.0 h.1.0)
+    by_test : (t : Bool) → cond t (option_map negative_of (magnitude_of cs)) (option_map pos (magnitude_of (c ∷ cs))) ≡ Some z → IsWithin z
+    by_test true e = let h = map_some (magnitude_of cs) negative_of z e in subst IsWithin h.1.1 (negative_within h.0 (magnitude_within cs h.0 h.1.0))
+    by_test false e = let h = map_some (magnitude_of (c ∷ cs)) pos z e in subst IsWithin h.1.1 (magnitude_within (c ∷ cs) h.0 h.1.0)
 
 pub integer_at_within : (d : Data) (z : ℤ) → integer_at d ≡ Some z → IsWithin z
 unfolding integer_at

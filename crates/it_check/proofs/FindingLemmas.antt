@@ -22,8 +22,8 @@ pub none_both : (a b : Option Verdict) → or_else a b ≡ None → (a ≡ None)
 none_both (Some v) b e = absurd (cc)
 none_both None b e = (refl, e)
 
-pub least : (x : ℤ) → lt_z x (pos 0) ≡ false → pos 0 ≤ℤ x
-least x e = grind (arith, ints)
+pub least_by_test : (x : ℤ) → lt_z x (pos 0) ≡ false → pos 0 ≤ℤ x
+least_by_test x e = grind (arith, ints)
 
 pub not_below : (x : ℤ) → pos 0 ≤ℤ x → lt_z x (pos 0) ≡ false
 not_below x e = grind (arith, ints)

@@ -13,6 +13,7 @@ use Rattle.it_space.specs.Rows.{Terms, ValueFits, value}
 use Rattle.it_polymatroid.specs.Polymatroid.{IsPolymatroid}
 use Rattle.it_polymatroid.specs.Elementals.{elementals, elemental_value}
 use Rattle.std.specs.List.{AllByRecursion as Every}
+use Rattle.std.proofs.Math.IntN.{+ℤ_idl}
 use Rattle.it_space.proofs.EveryLemmas.{every_of, all_of, every-append, every_front, every_back, every-map, every_mapped, every-same}
 use Rattle.it_polymatroid.proofs.Generate.{elementals_generate}
 use Rattle.it_elemental.specs.Rows.{elemental_row}
@@ -23,15 +24,12 @@ use Rattle.it_check.specs.Verdicts.{or_else, valid_unless, violates, violation, 
 use Rattle.it_check.specs.declared.verdicts.Verdict.{Verdict}
 use Rattle.it_check.specs.declared.verdicts.Verdict.TheVariants.{Valid, BrokenElemental, UnmetConstraint, NotViolated}
 use Rattle.it_check.proofs.SumLemmas.{sum_told, sum_fits}
-use Rattle.it_check.proofs.FindingLemmas.{first_part, last_part, clean_or, none_both, least, not_below}
-
-plain : (x : ℤ) → pos 0 +ℤ x ≡ x
-plain x = omega (arith, ints)
+use Rattle.it_check.proofs.FindingLemmas.{first_part, last_part, clean_or, none_both, least_by_test, not_below}
 
 -- ---- one generator
 
 meets_unless_violated : (k : Kind) (x : ℤ) → violates k x ≡ false → Meets k x
-meets_unless_violated Inequality x e = least x e
+meets_unless_violated Inequality x e = least_by_test x e
 meets_unless_violated Equation x e = by_test (int_eq x (pos 0)) (Decides-int_eq x (pos 0)) e
   where
     by_test : (b : Bool) → Decides b (x ≡ pos 0) → not b ≡ false → x ≡ pos 0
@@ -58,10 +56,10 @@ value_clean count i k None q = cc
 value_clean count i k (Some x) q = by_test (violates k x) q
   where
     by_test : (b : Bool) → cond b (Some (violation count i x)) None ≡ Some Valid → ⊥
-    by_test true q = violation_not_valid count i x (inside (violation count i x) q)
+    by_test true q = violation_not_valid count i x (inside_is_valid (violation count i x) q)
       where
-        inside : (v : Verdict) → Some v ≡ Some Valid → v ≡ Valid
-        inside v q = cc
+        inside_is_valid : (v : Verdict) → Some v ≡ Some Valid → v ≡ Valid
+        inside_is_valid v q = cc
     by_test false q = cc
 
 generator_none : (count i : ℕ) (g : Generator) (p : ℕ → ℤ) → of_generator count i g p ≡ None → IsRight p g
@@ -69,14 +67,14 @@ generator_none count i g p q = by_option (sum_within (pos 0) g.row p) (λ x e. s
   where
     by_option : (o : Option ℤ) → ((x : ℤ) → o ≡ Some x → ValueFits g.row p × (x ≡ pos 0 +ℤ value g.row p)) → of_value count i g.kind o ≡ None → IsRight p g
     by_option None f q = absurd (cc)
-    by_option (Some x) f q = ((f x refl).0, subst (Meets g.kind) ((f x refl).1 ∙ plain (value g.row p)) (meets_unless_violated g.kind x (tested (violates g.kind x) q)))
+    by_option (Some x) f q = ((f x refl).0, subst (Meets g.kind) ((f x refl).1 ∙ +ℤ_idl (value g.row p)) (meets_unless_violated g.kind x (test_is_false (violates g.kind x) q)))
       where
-        tested : (b : Bool) → cond b (Some (violation count i x)) None ≡ None → b ≡ false
-        tested true q = absurd (cc)
-        tested false q = refl
+        test_is_false : (b : Bool) → cond b (Some (violation count i x)) None ≡ None → b ≡ false
+        test_is_false true q = absurd (cc)
+        test_is_false false q = refl
 
 none_generator : (count i : ℕ) (g : Generator) (p : ℕ → ℤ) → IsRight p g → of_generator count i g p ≡ None
-none_generator count i g p h = ap (of_value count i g.kind) (sum_fits (pos 0) g.row p h.0 ∙ ap Some (plain (value g.row p)))
+none_generator count i g p h = ap (of_value count i g.kind) (sum_fits (pos 0) g.row p h.0 ∙ ap Some (+ℤ_idl (value g.row p)))
     ∙ ap (λ b. cond b (Some (violation count i (value g.row p))) None) (meets_not_violated g.kind (value g.row p) h.1)
 
 -- ---- all generators
@@ -106,8 +104,8 @@ target_clean place (Some x) q = by_test (lt_z x (pos 0)) q
     by_test true q = cc
     by_test false q = cc
 
-below : (x : ℤ) → lt_z x (pos 0) ≡ true → x ≤ℤ neg_ℤ (pos 1)
-below x e = grind (arith, ints)
+at_most_minus_one : (x : ℤ) → lt_z x (pos 0) ≡ true → x ≤ℤ neg_ℤ (pos 1)
+at_most_minus_one x e = grind (arith, ints)
 
 is_below : (x : ℤ) → x ≤ℤ neg_ℤ (pos 1) → lt_z x (pos 0) ≡ true
 is_below x e = grind (arith, ints)
@@ -117,14 +115,14 @@ target_none place row p q = by_option (sum_within (pos 0) row p) (λ x e. sum_to
   where
     by_option : (o : Option ℤ) → ((x : ℤ) → o ≡ Some x → ValueFits row p × (x ≡ pos 0 +ℤ value row p)) → of_target place o ≡ None → ValueFits row p × (value row p ≤ℤ neg_ℤ (pos 1))
     by_option None f q = absurd (cc)
-    by_option (Some x) f q = ((f x refl).0, subst (λ (y : ℤ). y ≤ℤ neg_ℤ (pos 1)) ((f x refl).1 ∙ plain (value row p)) (below x (tested (lt_z x (pos 0)) q)))
+    by_option (Some x) f q = ((f x refl).0, subst (λ (y : ℤ). y ≤ℤ neg_ℤ (pos 1)) ((f x refl).1 ∙ +ℤ_idl (value row p)) (at_most_minus_one x (test_is_true (lt_z x (pos 0)) q)))
       where
-        tested : (b : Bool) → cond b None (Some (NotViolated x)) ≡ None → b ≡ true
-        tested true q = refl
-        tested false q = absurd (cc)
+        test_is_true : (b : Bool) → cond b None (Some (NotViolated x)) ≡ None → b ≡ true
+        test_is_true true q = refl
+        test_is_true false q = absurd (cc)
 
 none_target : (place : ℕ) (row : Terms) (p : ℕ → ℤ) → ValueFits row p → value row p ≤ℤ neg_ℤ (pos 1) → of_target place (sum_within (pos 0) row p) ≡ None
-none_target place row p f h = ap (of_target place) (sum_fits (pos 0) row p f ∙ ap Some (plain (value row p)))
+none_target place row p f h = ap (of_target place) (sum_fits (pos 0) row p f ∙ ap Some (+ℤ_idl (value row p)))
     ∙ ap (λ b. cond b None (Some (NotViolated (value row p)))) (is_below (value row p) h)
 
 -- ---- all of it

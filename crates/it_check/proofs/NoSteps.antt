@@ -17,21 +17,21 @@ use Rattle.it_check.proofs.SumLemmas.{sum_is}
 -- ---- one generator
 
 module _ (count i : ℕ) (g : Generator) (p : ℕ → ℤ) (r : Result ℤ WideNumber) (o : OkIff r (ValueFits g.row p) (value g.row p)) where
-  is : of_generator count i g p ≡ of_value count i g.kind (result_ok r)
-  is = ap (of_value count i g.kind) (sum_is r g.row p o)
+  generator_is : of_generator count i g p ≡ of_value count i g.kind (result_ok r)
+  generator_is = ap (of_value count i g.kind) (sum_is r g.row p o)
 
-  pub wide : (e : WideNumber) → r ≡ Err e → Some (Width i) ≡ of_generator count i g p
-  wide e q = sym (is ∙ ap (λ x. of_value count i g.kind (result_ok x)) q)
+  pub generator_wide : (e : WideNumber) → r ≡ Err e → Some (Width i) ≡ of_generator count i g p
+  generator_wide e q = sym (generator_is ∙ ap (λ x. of_value count i g.kind (result_ok x)) q)
 
   module _ (x : ℤ) (q : r ≡ Ok x) (k : Kind) (same : k ≡ g.kind) where
-    tested : of_generator count i g p ≡ cond (violates k x) (Some (violation count i x)) None
-    tested = is ∙ ap (λ x. of_value count i g.kind (result_ok x)) q ∙ ap (λ k. cond (violates k x) (Some (violation count i x)) None) (sym same)
+    tested_generator : of_generator count i g p ≡ cond (violates k x) (Some (violation count i x)) None
+    tested_generator = generator_is ∙ ap (λ x. of_value count i g.kind (result_ok x)) q ∙ ap (λ k. cond (violates k x) (Some (violation count i x)) None) (sym same)
 
-    pub unmet : (v : Verdict) → true ≡ violates k x → v ≡ violation count i x → Some v ≡ of_generator count i g p
-    unmet v b e = ap Some e ∙ ap (λ b. cond b (Some (violation count i x)) None) b ∙ sym tested
+    pub generator_unmet : (v : Verdict) → true ≡ violates k x → v ≡ violation count i x → Some v ≡ of_generator count i g p
+    generator_unmet v b e = ap Some e ∙ ap (λ b. cond b (Some (violation count i x)) None) b ∙ sym tested_generator
 
-    pub met : false ≡ violates k x → None ≡ of_generator count i g p
-    met b = ap (λ b. cond b (Some (violation count i x)) None) b ∙ sym tested
+    pub generator_met : false ≡ violates k x → None ≡ of_generator count i g p
+    generator_met b = ap (λ b. cond b (Some (violation count i x)) None) b ∙ sym tested_generator
 
 -- ---- all generators
 
@@ -63,8 +63,8 @@ module _ (place : ℕ) (row : Terms) (p : ℕ → ℤ) (r : Result ℤ WideNumbe
   tested_target : (x : ℤ) → r ≡ Ok x → of_target place (sum_within (pos 0) row p) ≡ cond (lt_z x (pos 0)) None (Some (NotViolated x))
   tested_target x q = target_is ∙ ap (λ x. of_target place (result_ok x)) q
 
-  pub violated : (x : ℤ) → r ≡ Ok x → x <ℤ pos 0 → None ≡ of_target place (sum_within (pos 0) row p)
-  violated x q b = let t : lt_z x (pos 0) ≡ true = grind (arith, ints) in sym (tested_target x q ∙ ap (λ b. cond b None (Some (NotViolated x))) t)
+  pub target_violated : (x : ℤ) → r ≡ Ok x → x <ℤ pos 0 → None ≡ of_target place (sum_within (pos 0) row p)
+  target_violated x q b = let t : lt_z x (pos 0) ≡ true = grind (arith, ints) in sym (tested_target x q ∙ ap (λ b. cond b None (Some (NotViolated x))) t)
 
   pub not_violated : (x : ℤ) → r ≡ Ok x → pos 0 ≤ℤ x → Some (NotViolated x) ≡ of_target place (sum_within (pos 0) row p)
   not_violated x q b = let t : lt_z x (pos 0) ≡ false = grind (arith, ints) in sym (tested_target x q ∙ ap (λ b. cond b None (Some (NotViolated x))) t)

@@ -4,6 +4,8 @@ use Rattle.std.specs.Bool.{Decides}
 use Rattle.std.specs.Result.{result_ok}
 use Rattle.std.proofs.lemmas.Int.{ints}
 use Rattle.std.proofs.lemmas.Bool.Decides.{Decides-ltb}
+use Rattle.std.proofs.Math.IntN.{+ℤ_idl}
+use Rattle.std.proofs.lemmas.Bool.{false≢true}
 use Rattle.it_number.specs.Limit.{IsWithin}
 use Rattle.it_fraction.specs.declared.fraction.WideNumber.{WideNumber}
 use Rattle.it_space.specs.Rows.{Terms, FitsOnTop, ValueFits, value}
@@ -20,10 +22,7 @@ product_is r a b o = by_result r (is_within (a *ℤ b)) (decides_within (a *ℤ 
   where
     by_result : (r : Result ℤ WideNumber) (t : Bool) → Decides t (IsWithin (a *ℤ b)) → OkIff r (IsWithin (a *ℤ b)) (a *ℤ b) → cond t (Some (a *ℤ b)) None ≡ result_ok r
     by_result (Ok x) true d o = ap Some (sym o.1)
-    by_result (Ok x) false d o = absurd (differ (d.1 o.0))
-      where
-        differ : false ≡ true → ⊥
-        differ e = cc
+    by_result (Ok x) false d o = absurd (false≢true (d.1 o.0))
     by_result (Err e) true d o = absurd (o (d.0 refl))
     by_result (Err e) false d o = refl
 
@@ -47,10 +46,10 @@ sum_fits sum (t ∷ ts) p f =
     ∙ sum_fits (sum +ℤ t.1 *ℤ p t.0) ts p f.2 ∙ ap Some (omega (arith, ints))
 
 pub sum_told : (sum : ℤ) (ts : Terms) (p : ℕ → ℤ) (x : ℤ) → sum_within sum ts p ≡ Some x → FitsOnTop sum ts p × (x ≡ sum +ℤ value ts p)
-sum_told sum [] p x e = (tt, same sum x e)
+sum_told sum [] p x e = (tt, sum_plus_zero sum x e)
   where
-    same : (sum x : ℤ) → Some sum ≡ Some x → x ≡ sum +ℤ pos 0
-    same sum x e = let q : sum ≡ x = cc in omega (arith, ints, q)
+    sum_plus_zero : (sum x : ℤ) → Some sum ≡ Some x → x ≡ sum +ℤ pos 0
+    sum_plus_zero sum x e = let q : sum ≡ x = cc in omega (arith, ints, q)
 sum_told sum (t ∷ ts) p x e = by_test (is_within (t.1 *ℤ p t.0)) (is_within (sum +ℤ t.1 *ℤ p t.0)) (decides_within (t.1 *ℤ p t.0)) (decides_within (sum +ℤ t.1 *ℤ p t.0)) e (sum_told (sum +ℤ t.1 *ℤ p t.0) ts p x)
   where
     by_test : (a b : Bool) → Decides a (IsWithin (t.1 *ℤ p t.0)) → Decides b (IsWithin (sum +ℤ t.1 *ℤ p t.0)) → cond (a && b) (sum_within (sum +ℤ t.1 *ℤ p t.0) ts p) None ≡ Some x
@@ -61,10 +60,7 @@ sum_told sum (t ∷ ts) p x e = by_test (is_within (t.1 *ℤ p t.0)) (is_within 
     by_test false b d f e back = absurd (cc)
 
 pub sum_is : (r : Result ℤ WideNumber) (ts : Terms) (p : ℕ → ℤ) → OkIff r (ValueFits ts p) (value ts p) → sum_within (pos 0) ts p ≡ result_ok r
-sum_is (Ok x) ts p o = sum_fits (pos 0) ts p o.0 ∙ ap Some (none (value ts p) ∙ sym o.1)
-  where
-    none : (y : ℤ) → pos 0 +ℤ y ≡ y
-    none y = omega (arith, ints)
+sum_is (Ok x) ts p o = sum_fits (pos 0) ts p o.0 ∙ ap Some (+ℤ_idl (value ts p) ∙ sym o.1)
 sum_is (Err e) ts p o = by_option (sum_within (pos 0) ts p) (λ x q. o (sum_told (pos 0) ts p x q).0)
   where
     by_option : (r : Option ℤ) → ((x : ℤ) → r ≡ Some x → ⊥) → r ≡ None

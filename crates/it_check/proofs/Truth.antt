@@ -1,5 +1,5 @@
 -- What valid certificates and counterexamples say of the problem.
-use Rattle.std.proofs.Common.{◌≡◌, ◌+◌, ◌≤◌, ℤ, pos, ◌≤ℤ◌, List, [], ◌∷◌, length, true, All, refl, arith}
+use Rattle.std.proofs.Common.{◌≡◌, ◌+◌, ℤ, pos, ◌≤ℤ◌, List, [], ◌∷◌, length, true, All, refl, arith}
 use Rattle.std.proofs.lemmas.Int.{ints}
 use Rattle.it_space.specs.declared.problems.Kind.{Kind}
 use Rattle.it_space.specs.declared.problems.Kind.TheVariants.{Inequality, Equation}
@@ -32,12 +32,12 @@ valid_no_is q target values k u e = (
         record { each = all_of (λ g. ValueFits g.row (map_of values)) (generators q) (every-same (IsRight (map_of values)) (λ g. ValueFits g.row (map_of values)) (generators q) (λ g h. h.0) told.0); own = told.1.0 },
       ),
   λ h. no_valid (length (elementals q.space.variables)) (generators q) target (map_of values)
-      (zipped (generators q) (every_of (λ g. ValueFits g.row (map_of values)) (generators q) h.1.each) (met_listed q.space.variables q.constraints (map_of values) refl h.0.polymatroid h.0.met)) h.1.own h.0.violated,
+      (each_is_right (generators q) (every_of (λ g. ValueFits g.row (map_of values)) (generators q) h.1.each) (met_listed q.space.variables q.constraints (map_of values) refl h.0.polymatroid h.0.met)) h.1.own h.0.violated,
 )
   where
-    zipped : (gs : List Generator) → Every (λ g. ValueFits g.row (map_of values)) gs → Every (λ g. Meets g.kind (value g.row (map_of values))) gs → Every (IsRight (map_of values)) gs
-    zipped [] a b = tt
-    zipped (g ∷ gs) a b = ((a.0, b.0), zipped gs a.1 b.1)
+    each_is_right : (gs : List Generator) → Every (λ g. ValueFits g.row (map_of values)) gs → Every (λ g. Meets g.kind (value g.row (map_of values))) gs → Every (IsRight (map_of values)) gs
+    each_is_right [] a b = tt
+    each_is_right (g ∷ gs) a b = ((a.0, b.0), each_is_right gs a.1 b.1)
 
 -- ---- a certified target is at least 0
 

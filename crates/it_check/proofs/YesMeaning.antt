@@ -9,7 +9,9 @@ use Rattle.it_number.specs.Limit.{IsWithin}
 use Rattle.it_space.specs.Answers.{CertificateView}
 use Rattle.it_space.specs.Rows.{Terms, ValueFits, coefficient, value, one_at}
 use Rattle.it_polymatroid.specs.Certificates.{IsAllowed, IsCertificate, combination}
+use Rattle.it_polymatroid.proofs.Spans.{same_or_more}
 use Rattle.std.specs.List.{AllByRecursion as Every}
+use Rattle.std.proofs.Math.IntN.{+ℤ_idl}
 use Rattle.it_space.proofs.EveryLemmas.{every_of, all_of}
 use Rattle.it_space.proofs.TermLemmas.{value-one_at}
 use Rattle.it_elemental.specs.Generators.{Generator, generator_at, forms_of, is_equation}
@@ -18,7 +20,7 @@ use Rattle.it_check.specs.Verdicts.{column, or_else, valid_unless, of_scale, of_
 use Rattle.it_check.specs.declared.verdicts.Verdict.{Verdict}
 use Rattle.it_check.specs.declared.verdicts.Verdict.TheVariants.{Valid, BadScale, UnknownGenerator, NegativeWeight, Mismatch}
 use Rattle.it_check.proofs.SumLemmas.{product_told, product_fits, sum_told, sum_fits}
-use Rattle.it_check.proofs.FindingLemmas.{first_part, last_part, clean_or, none_both, least, not_below}
+use Rattle.it_check.proofs.FindingLemmas.{first_part, last_part, clean_or, none_both, least_by_test, not_below}
 
 -- ---- the scale
 
@@ -48,8 +50,8 @@ none_scale s h = ap (λ b. cond b (Some (BadScale s)) None) (from_one s h)
 -- ---- weights
 
 module _ (gs : List Generator) where
-  abbrev tested : ℕ × ℤ → Bool → Bool → Bool → Option Verdict
-  tested w a b e = cond a (cond (b && not e) (Some (NegativeWeight w.0)) None) (Some (UnknownGenerator w.0))
+  abbrev finding_by_tests : ℕ × ℤ → Bool → Bool → Bool → Option Verdict
+  finding_by_tests w a b e = cond a (cond (b && not e) (Some (NegativeWeight w.0)) None) (Some (UnknownGenerator w.0))
 
   weight_clean : (w : ℕ × ℤ) → of_weight gs w ≡ Some Valid → ⊥
   weight_clean w q = by_test (ltb w.0 (length gs)) (lt_z w.1 (pos 0) && not (is_equation (generator_at gs w.0).kind)) q
@@ -60,25 +62,25 @@ module _ (gs : List Generator) where
       by_test false b q = cc
 
   weight_none : (w : ℕ × ℤ) → of_weight gs w ≡ None → IsAllowed (forms_of gs) w
-  weight_none w q = by_test (ltb w.0 (length gs)) (lt_z w.1 (pos 0)) (is_equation (generator_at gs w.0).kind) (Decides-ltb w.0 (length gs)) (λ f. least w.1 f) q
+  weight_none w q = by_test (ltb w.0 (length gs)) (lt_z w.1 (pos 0)) (is_equation (generator_at gs w.0).kind) (Decides-ltb w.0 (length gs)) (λ f. least_by_test w.1 f) q
     where
-      by_test : (a b e : Bool) → Decides a (w.0 < length gs) → (b ≡ false → pos 0 ≤ℤ w.1) → tested w a b e ≡ None → (w.0 < length gs) × (e ≡ false → pos 0 ≤ℤ w.1)
+      by_test : (a b e : Bool) → Decides a (w.0 < length gs) → (b ≡ false → pos 0 ≤ℤ w.1) → finding_by_tests w a b e ≡ None → (w.0 < length gs) × (e ≡ false → pos 0 ≤ℤ w.1)
       by_test true true true d f q = (d.0 refl, λ r. absurd (cc))
       by_test true true false d f q = absurd (cc)
       by_test true false e d f q = (d.0 refl, λ r. f refl)
       by_test false b e d f q = absurd (cc)
 
   none_weight : (w : ℕ × ℤ) → IsAllowed (forms_of gs) w → of_weight gs w ≡ None
-  none_weight w h = ap (λ a. tested w a (lt_z w.1 (pos 0)) (is_equation (generator_at gs w.0).kind)) ((Decides-ltb w.0 (length gs)).1 h.0)
+  none_weight w h = ap (λ a. finding_by_tests w a (lt_z w.1 (pos 0)) (is_equation (generator_at gs w.0).kind)) ((Decides-ltb w.0 (length gs)).1 h.0)
       ∙ by_test (is_equation (generator_at gs w.0).kind) h.1
     where
-      by_test : (e : Bool) → (e ≡ false → pos 0 ≤ℤ w.1) → tested w true (lt_z w.1 (pos 0)) e ≡ None
-      by_test true f = both (lt_z w.1 (pos 0))
+      by_test : (e : Bool) → (e ≡ false → pos 0 ≤ℤ w.1) → finding_by_tests w true (lt_z w.1 (pos 0)) e ≡ None
+      by_test true f = by_sign_test (lt_z w.1 (pos 0))
         where
-          both : (b : Bool) → tested w true b true ≡ None
-          both true = refl
-          both false = refl
-      by_test false f = ap (λ b. tested w true b false) (not_below w.1 (f refl))
+          by_sign_test : (b : Bool) → finding_by_tests w true b true ≡ None
+          by_sign_test true = refl
+          by_sign_test false = refl
+      by_test false f = ap (λ b. finding_by_tests w true b false) (not_below w.1 (f refl))
 
   weights_clean : (ws : List (ℕ × ℤ)) → of_weights gs ws ≡ Some Valid → ⊥
   unfolding of_weights
@@ -116,12 +118,12 @@ module _ (gs : List Generator) (target : Terms) (w : CertificateView) where
   coordinate_none : (c : ℕ) → of_coordinate gs target w c ≡ None → Agrees gs target w c
   coordinate_none c q = by_option (product_within w.scale (coefficient target c)) (sum_within (pos 0) w.parts (column gs c)) (λ x e. product_told w.scale (coefficient target c) x e) (λ y e. sum_told (pos 0) w.parts (column gs c) y e) q
     where
-      met : (x y : ℤ) (b : Bool) → Decides b (x ≡ y) → cond b None (Some (Mismatch c x y)) ≡ None → x ≡ y
-      met x y true d q = d.0 refl
-      met x y false d q = absurd (cc)
+      numbers_agree : (x y : ℤ) (b : Bool) → Decides b (x ≡ y) → cond b None (Some (Mismatch c x y)) ≡ None → x ≡ y
+      numbers_agree x y true d q = d.0 refl
+      numbers_agree x y false d q = absurd (cc)
 
-      joined : (x y v u : ℤ) → x ≡ u → y ≡ pos 0 +ℤ v → x ≡ y → u ≡ v
-      joined x y v u p q r = omega (arith, ints, p, q, r)
+      sides_are_equal : (x y v u : ℤ) → x ≡ u → y ≡ pos 0 +ℤ v → x ≡ y → u ≡ v
+      sides_are_equal x y v u p q r = omega (arith, ints, p, q, r)
 
       by_option : (l r : Option ℤ) → ((x : ℤ) → l ≡ Some x → IsWithin (w.scale *ℤ coefficient target c) × (x ≡ w.scale *ℤ coefficient target c))
           → ((y : ℤ) → r ≡ Some y → ValueFits w.parts (column gs c) × (y ≡ pos 0 +ℤ value w.parts (column gs c))) → of_numbers c l r ≡ None → Agrees gs target w c
@@ -130,7 +132,7 @@ module _ (gs : List Generator) (target : Terms) (w : CertificateView) where
       by_option (Some x) (Some y) f g q = record {
         left = (f x refl).0;
         right = (g y refl).0;
-        same = joined x y (value w.parts (column gs c)) (w.scale *ℤ coefficient target c) (f x refl).1 (g y refl).1 (met x y (int_eq x y) (Decides-int_eq x y) q);
+        same = sides_are_equal x y (value w.parts (column gs c)) (w.scale *ℤ coefficient target c) (f x refl).1 (g y refl).1 (numbers_agree x y (int_eq x y) (Decides-int_eq x y) q);
       }
 
   none_coordinate : (c : ℕ) → Agrees gs target w c → of_coordinate gs target w c ≡ None
@@ -138,10 +140,7 @@ module _ (gs : List Generator) (target : Terms) (w : CertificateView) where
       ap (λ l. of_numbers c l (sum_within (pos 0) w.parts (column gs c))) (product_fits w.scale (coefficient target c) a.left)
       ∙ ap (of_numbers c (Some (w.scale *ℤ coefficient target c))) (sum_fits (pos 0) w.parts (column gs c) a.right)
       ∙ ap (λ b. cond b None (Some (Mismatch c (w.scale *ℤ coefficient target c) (pos 0 +ℤ value w.parts (column gs c)))))
-      ((Decides-int_eq (w.scale *ℤ coefficient target c) (pos 0 +ℤ value w.parts (column gs c))).1 (a.same ∙ plain (value w.parts (column gs c))))
-    where
-      plain : (x : ℤ) → x ≡ pos 0 +ℤ x
-      plain x = omega (arith, ints)
+      ((Decides-int_eq (w.scale *ℤ coefficient target c) (pos 0 +ℤ value w.parts (column gs c))).1 (a.same ∙ sym (+ℤ_idl (value w.parts (column gs c)))))
 
   coordinates_clean : (c left : ℕ) → of_coordinates gs target w c left ≡ Some Valid → ⊥
   unfolding of_coordinates
@@ -156,9 +155,6 @@ module _ (gs : List Generator) (target : Terms) (w : CertificateView) where
       let both = none_both (of_coordinate gs target w c) (of_coordinates gs target w (c + 1) left) q in
       by_cases (same_or_more c k h) both.0 (λ m. coordinates_none (c + 1) left both.1 k m (omega arith))
     where
-      same_or_more : (a b : ℕ) → a ≤ b → (a ≡ b) ⊎ (a + 1 ≤ b)
-      same_or_more a b h = grind arith
-
       by_cases : (c ≡ k) ⊎ (c + 1 ≤ k) → of_coordinate gs target w c ≡ None → (c + 1 ≤ k → Agrees gs target w k) → Agrees gs target w k
       by_cases (inl e) q f = subst (Agrees gs target w) e (coordinate_none c q)
       by_cases (inr m) q f = f m

@@ -38,23 +38,23 @@ unfolding of_weights
 weights_done gs ws i h inv = sym (at_drop_all (of_weights gs) ws i h) ∙ inv
 
 -- where nothing is found, each weight's generator is there
-known : (gs : List Generator) (ws : List (ℕ × ℤ)) → of_weights gs ws ≡ None → Every (λ (w : ℕ × ℤ). w.0 < length gs) ws
+each_generator_known : (gs : List Generator) (ws : List (ℕ × ℤ)) → of_weights gs ws ≡ None → Every (λ (w : ℕ × ℤ). w.0 < length gs) ws
 unfolding of_weights
-known gs [] e = tt
-known gs (w ∷ ws) e = by_test (ltb w.0 (length gs)) (Decides-ltb w.0 (length gs)) (λ f. known gs ws f) e
+each_generator_known gs [] e = tt
+each_generator_known gs (w ∷ ws) e = by_test (ltb w.0 (length gs)) (Decides-ltb w.0 (length gs)) (λ f. each_generator_known gs ws f) e
   where
-    none : (a b : Option Verdict) → or_else a b ≡ None → b ≡ None
-    none (Some v) b e = absurd (cc)
-    none None b e = e
+    second_is_none : (a b : Option Verdict) → or_else a b ≡ None → b ≡ None
+    second_is_none (Some v) b e = absurd (cc)
+    second_is_none None b e = e
 
     by_test : (b : Bool) → Decides b (w.0 < length gs) → (of_weights gs ws ≡ None → Every (λ (w : ℕ × ℤ). w.0 < length gs) ws)
         → or_else (cond b (cond (lt_z w.1 (pos 0) && not (is_equation (generator_at gs w.0).kind)) (Some (NegativeWeight w.0)) None) (Some (UnknownGenerator w.0))) (of_weights gs ws) ≡ None
         → (w.0 < length gs) × Every (λ (w : ℕ × ℤ). w.0 < length gs) ws
-    by_test true d back e = (d.0 refl, back (none (cond (lt_z w.1 (pos 0) && not (is_equation (generator_at gs w.0).kind)) (Some (NegativeWeight w.0)) None) (of_weights gs ws) e))
+    by_test true d back e = (d.0 refl, back (second_is_none (cond (lt_z w.1 (pos 0) && not (is_equation (generator_at gs w.0).kind)) (Some (NegativeWeight w.0)) None) (of_weights gs ws) e))
     by_test false d back e = absurd (cc)
 
 pub all_known : (gs : List Generator) (ws : List (ℕ × ℤ)) → None ≡ of_weights gs ws → All (λ (w : ℕ × ℤ). w.0 < length gs) ws
-all_known gs ws e = all_of (λ (w : ℕ × ℤ). w.0 < length gs) ws (known gs ws (sym e))
+all_known gs ws e = all_of (λ (w : ℕ × ℤ). w.0 < length gs) ws (each_generator_known gs ws (sym e))
 
 -- ---- coordinates
 
@@ -70,14 +70,14 @@ module _ (gs : List Generator) (target : Terms) (w : CertificateView) (c : ℕ) 
     pub right_wide : (x : ℤ) (e : WideNumber) → l ≡ Ok x → r ≡ Err e → Some (Width c) ≡ of_coordinate gs target w c
     right_wide x e p q = sym (coordinate_is ∙ ap (λ o. of_numbers c (result_ok o) (result_ok r)) p ∙ ap (λ o. of_numbers c (Some x) (result_ok o)) q)
 
-    compared : (x y : ℤ) → l ≡ Ok x → r ≡ Ok y → of_coordinate gs target w c ≡ cond (int_eq x y) None (Some (Mismatch c x y))
-    compared x y p q = coordinate_is ∙ ap (λ o. of_numbers c (result_ok o) (result_ok r)) p ∙ ap (λ o. of_numbers c (Some x) (result_ok o)) q
+    compared_coordinate : (x y : ℤ) → l ≡ Ok x → r ≡ Ok y → of_coordinate gs target w c ≡ cond (int_eq x y) None (Some (Mismatch c x y))
+    compared_coordinate x y p q = coordinate_is ∙ ap (λ o. of_numbers c (result_ok o) (result_ok r)) p ∙ ap (λ o. of_numbers c (Some x) (result_ok o)) q
 
     pub sides_agree : (x y : ℤ) → l ≡ Ok x → r ≡ Ok y → x ≡ y → None ≡ of_coordinate gs target w c
-    sides_agree x y p q e = sym (compared x y p q ∙ ap (λ b. cond b None (Some (Mismatch c x y))) ((Decides-int_eq x y).1 e))
+    sides_agree x y p q e = sym (compared_coordinate x y p q ∙ ap (λ b. cond b None (Some (Mismatch c x y))) ((Decides-int_eq x y).1 e))
 
     pub sides_differ : (x y : ℤ) → l ≡ Ok x → r ≡ Ok y → (x ≡ y → ⊥) → Some (Mismatch c x y) ≡ of_coordinate gs target w c
-    sides_differ x y p q n = sym (compared x y p q ∙ by_test (int_eq x y) (Decides-int_eq x y).0)
+    sides_differ x y p q n = sym (compared_coordinate x y p q ∙ by_test (int_eq x y) (Decides-int_eq x y).0)
       where
         by_test : (b : Bool) → (b ≡ true → x ≡ y) → cond b None (Some (Mismatch c x y)) ≡ Some (Mismatch c x y)
         by_test true d = absurd (n (d refl))

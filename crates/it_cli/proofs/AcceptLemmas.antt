@@ -5,7 +5,6 @@ use Rattle.std.proofs.lemmas.Fmt.{IsAscii-decimal_wide}
 use Rattle.std.proofs.lemmas.List.Elements.{All-head, All-tail, All-weaker}
 use Rattle.std.proofs.lemmas.Str.{IsUtf8-from_ascii}
 use Rattle.std.proofs.lemmas.Str.Ascii.{IsAscii-nil, IsAscii-cons}
-use Rattle.serde_json.specs.Data.{depth}
 use Rattle.it_rational.specs.Rational.{Rational}
 use Rattle.it_space.specs.declared.spaces.Space.{Space}
 use Rattle.it_space.specs.declared.answers.Cause.{Cause}
@@ -51,7 +50,7 @@ use Rattle.it_answer.specs.RightContainments.{IsRightContainment}
 use Rattle.it_answer.specs.RightRegions.{IsRightElimination}
 use Rattle.it_eliminate.proofs.MemberLemmas.{every_member}
 use Rattle.it_space.proofs.EveryLemmas.{every_of}
-use Rattle.it_answer.proofs.FormLemmas.{spoken, by_rows}
+use Rattle.it_answer.proofs.FormLemmas.{generators_speak, by_rows}
 use Rattle.it_answer.proofs.UniqueLemmas.{a_yes_ascends}
 use Rattle.it_certificate.specs.AnswerShapes.{HasQuestionShape, HasVerbShape, IsCauseFor}
 use Rattle.it_certificate.specs.Laws.{ReadsBack, written_answer}
@@ -62,7 +61,7 @@ use Rattle.it_report.specs.LineVerdicts.{LineVerdict, Skipped, Judged, is_invali
 use Rattle.it_report.specs.Judging.{judged_forms_by, is_passed_over, IsJudged, IsVerdict}
 use Rattle.it_report.proofs.JudgingLemmas.{has_verdict, judged_by_targets}
 use Rattle.it_report.proofs.OneLemmas.{one_verdict}
-use Rattle.it_cli.proofs.DataLemmas.{IsPlain, yes_plain, no_plain, undecided_plain, region_plain, contained_plain, open_plain, yes_low, no_low, undecided_low, region_low, contained_low, open_low, answer_text_utf8, answer_text_back}
+use Rattle.it_cli.proofs.DataLemmas.{IsPlain, yes_plain, no_plain, undecided_plain, region_plain, contained_plain, open_plain, answer_text_utf8, answer_text_back}
 use Rattle.it_cli.proofs.RegionFits.{right_region_fits}
 use Rattle.it_cli.proofs.FeedLemmas.{IsNoFeed, answer_text_clear}
 use Rattle.it_cli.proofs.JsonLemmas.{right_prove_fits, eliminated_cause_fits, all_weights_written, yes_same, no_same}
@@ -92,14 +91,14 @@ module _ (q : BodyView) (r : RelationView) (b : Poses q r) (budget : Option ℕ)
   to_problem : (P : Space → Type 0) → P (space_of (problem_names q)) → P b.problem.space
   to_problem P x = subst P (sym b.is_problem.space) x
 
-  certifies : (f : Form) (t : Terms) (w : CertificateView) → IsRowOf b.problem.space f t → CertifiesForm q f w → CertifiesRow b.problem t w
-  certifies f t w row c =
+  certifies_row : (f : Form) (t : Terms) (w : CertificateView) → IsRowOf b.problem.space f t → CertifiesForm q f w → CertifiesRow b.problem t w
+  certifies_row f t w row c =
       let p = b.problem in
-      by_rows (all_demands p.space.variables (question_demands q)) (generators p) (spoken p.space (question_demands q) p.constraints b.is_problem.constraints) (size_of p.space + 1) (value t) f row.same w
+      by_rows (all_demands p.space.variables (question_demands q)) (generators p) (generators_speak p.space (question_demands q) p.constraints b.is_problem.constraints) (size_of p.space + 1) (value t) f row.same w
       (to_problem (λ s. IsCertificate (size_of s + 1) (generators_by (all_demands s.variables (question_demands q))) f w) c)
 
-  refutes : (f : Form) (t : Terms) (values : List ℤ) → IsRowOf b.problem.space f t → IsCounterexample q f values → RefutesRow b.problem t values
-  refutes f t values row c = record {
+  refutes_row : (f : Form) (t : Terms) (values : List ℤ) → IsRowOf b.problem.space f t → IsCounterexample q f values → RefutesRow b.problem t values
+  refutes_row f t values row c = record {
     complete = to_problem (λ s. length values ≡ size_of s) c.complete;
     polymatroid = to_problem (λ s. IsPolymatroid s.variables (map_of values)) c.polymatroid;
     met = (question_met q b.problem.space b.problem.constraints b.is_problem.space b.is_problem.constraints (map_of values) refl).1 (to_problem (λ s. AreTrueAt s.variables (map_of values) (problem_lines q)) c.lines_hold);
@@ -107,7 +106,7 @@ module _ (q : BodyView) (r : RelationView) (b : Poses q r) (budget : Option ℕ)
   }
 
   proof_valid : (f : Form) (t : Terms) (w : CertificateView) → IsRowOf b.problem.space f t → CertifiesForm q f w → EndsWith b.problem t budget (proof_views.Yes w) → proof_verdict b.problem t w ≡ Valid
-  proof_valid f t w row c d = (valid_yes_is b.problem t w b.is_problem.limits row.coordinates).1 (certifies f t w row c, certificate_fits b.problem t w d.end d.follows)
+  proof_valid f t w row c d = (valid_yes_is b.problem t w b.is_problem.limits row.coordinates).1 (certifies_row f t w row c, certificate_fits b.problem t w d.end d.follows)
 
   proofs_valid : (fs : List Form) (ts : List Terms) (ws : List CertificateView) → AreRowsOf b.problem.space fs ts → CertifyAll q fs ws → AreProofsOf b.problem budget ts ws → proofs_verdict b.problem ts ws ≡ Valid
   unfolding proofs_verdict
@@ -124,12 +123,12 @@ module _ (q : BodyView) (r : RelationView) (b : Poses q r) (budget : Option ℕ)
   point_valid [] ts back values z c d = absurd c
   point_valid (f ∷ fs) [] back values z c d = absurd z
   point_valid (f ∷ fs) (t ∷ ts) false values z c d =
-      let refuted = refutes f t values z.0 c in
+      let refuted = refutes_row f t values z.0 c in
       (valid_no_is b.problem t values b.is_problem.limits z.0.coordinates refuted.complete).1 (refuted, point_fits b.problem t values d.end d.follows)
   point_valid (f ∷ []) (t ∷ ts) true values z c d = absurd c
   point_valid (f ∷ g ∷ fs) (t ∷ []) true values z c d = absurd d
   point_valid (f ∷ g ∷ fs) (t ∷ u ∷ ts) true values z c d =
-      let refuted = refutes g u values z.1.0 c.1 in
+      let refuted = refutes_row g u values z.1.0 c.1 in
       (valid_no_is b.problem u values b.is_problem.limits z.1.0.coordinates refuted.complete).1 (refuted, point_fits b.problem u values d.1.end d.1.follows)
 
 -- ---- the proofs of a candidate are valid
@@ -178,17 +177,17 @@ module _ (back : ReadsBack) (q : QuestionView) (short : length q.text ≤ 104857
   abbrev line_of : AnswerView → List ℕ
   line_of a = answer_text q.text q.body.names a
 
-  ascii : IsAsciiQuestion q
-  ascii = All-head IsAsciiQuestion q [] (texts_are_ascii q.text (q ∷ []) file)
+  question_ascii : IsAsciiQuestion q
+  question_ascii = All-head IsAsciiQuestion q [] (texts_are_ascii q.text (q ∷ []) file)
 
   text_is : IsUtf8 q.text
-  text_is = IsUtf8-from_ascii q.text ascii.text
+  text_is = IsUtf8-from_ascii q.text question_ascii.text
 
-  line_reads : (a : AnswerView) → HasQuestionShape q.body a → IsPlain (answer_value q.text q.body.names a) → depth (answer_value q.text q.body.names a) ≤ 127 → ReadsReport (line_of a) (Ok (q, written_answer a))
-  line_reads a fits plain low = record {
+  line_reads : (a : AnswerView) → HasQuestionShape q.body a → IsPlain (answer_value q.text q.body.names a) → ReadsReport (line_of a) (Ok (q, written_answer a))
+  line_reads a fits plain = record {
     value = answer_value q.text q.body.names a;
     utf8 = answer_text_utf8 q.text q.body.names a plain;
-    is_json = answer_text_back q.text q.body.names a plain low;
+    is_json = answer_text_back q.text q.body.names a plain;
     reads = back q a short file fits;
   }
 
@@ -203,15 +202,15 @@ module _ (back : ReadsBack) (q : QuestionView) (short : length q.text ≤ 104857
 
   undecided_accepted : (c : Cause) → HasQuestionShape q.body (Undecided c) → IsCauseFor q.body.names c → IsAccepted (line_of (Undecided c))
   undecided_accepted c fits cause =
-      let plain = undecided_plain q.text q.body.names text_is c (IsUtf8-from_ascii (place_word q.body.names c) (place_ascii q.body.names c ascii.rates cause)) in
-      skipped_is_accepted (Undecided c) (line_of (Undecided c)) (clear_of (Undecided c) plain) refl (line_reads (Undecided c) fits plain (undecided_low q.text q.body.names c))
+      let plain = undecided_plain q.text q.body.names text_is c (IsUtf8-from_ascii (place_word q.body.names c) (place_ascii q.body.names c question_ascii.rates cause)) in
+      skipped_is_accepted (Undecided c) (line_of (Undecided c)) (clear_of (Undecided c) plain) refl (line_reads (Undecided c) fits plain)
 
   region_accepted : (budgets : Budgets) (rates : List ℕ) (rows : List (Mark × Terms)) → IsQuestion q.body → q.body.verb ≡ Eliminate rates → IsRightElimination budgets q.body rates (Region rows) → IsAccepted (line_of (Region rows))
   region_accepted budgets rates rows k about right =
       let fits = right_region_fits budgets q.body rates rows k right in
       let plain = region_plain q.text q.body.names text_is rows (λ i d l. (fits i d l).terms) in
       skipped_is_accepted (Region rows) (line_of (Region rows)) (clear_of (Region rows) plain) refl
-      (line_reads (Region rows) (question_fits q.body (Region rows) (Eliminate rates) about fits) plain (region_low q.text q.body.names rows))
+      (line_reads (Region rows) (question_fits q.body (Region rows) (Eliminate rates) about fits) plain)
 
   module _ (budgets : Budgets) (few : IfSome budgets.pivots (λ n. n < 2 ^ 32)) where
     yes_accepted : (r : RelationView) (ws : List CertificateView) → q.body.verb ≡ Prove r → ProofsAscend (Yes ws) → IsRightFor budgets.pivots q.body r (Yes ws) → IsAccepted (line_of (Yes ws))
@@ -219,7 +218,7 @@ module _ (back : ReadsBack) (q : QuestionView) (short : length q.text ≤ 104857
         let fits = right_prove_fits budgets.pivots q.body r (Yes ws) few about right in
         let e = proofs_valid q.body r right.poses budgets.pivots (targets (variables_of q.body) r) right.poses.rows ws right.poses.targets_are right.shows right.due in
         let plain = yes_plain q.text q.body.names text_is ws fits.1 in
-        let reads = line_reads (Yes ws) (question_fits q.body (Yes ws) (Prove r) about fits) plain (yes_low q.text q.body.names ws) in
+        let reads = line_reads (Yes ws) (question_fits q.body (Yes ws) (Prove r) about fits) plain in
         judged_is_accepted (Yes ws) (line_of (Yes ws)) (clear_of (Yes ws) plain) (judged_by_targets q.body r about right.poses (Yes ws) Valid (ap Some e))
         (subst (λ us. ReadsReport (line_of (Yes ws)) (Ok (q, Yes us))) (all_weights_written ws ascend) reads)
 
@@ -229,7 +228,7 @@ module _ (back : ReadsBack) (q : QuestionView) (short : length q.text ≤ 104857
         let e = point_valid q.body r right.poses budgets.pivots (targets (variables_of q.body) r) right.poses.rows is_back values right.poses.targets_are right.shows right.due in
         let plain = no_plain q.text q.body.names text_is is_back values fits.1 in
         judged_is_accepted (No is_back values) (line_of (No is_back values)) (clear_of (No is_back values) plain) (judged_by_targets q.body r about right.poses (No is_back values) Valid (ap Some e))
-        (line_reads (No is_back values) (question_fits q.body (No is_back values) (Prove r) about fits) plain (no_low q.text q.body.names is_back values))
+        (line_reads (No is_back values) (question_fits q.body (No is_back values) (Prove r) about fits) plain)
 
     prove_accepted : (r : RelationView) (a : AnswerView) → q.body.verb ≡ Prove r → ProofsAscend a → IsRightFor budgets.pivots q.body r a → IsAccepted (line_of a)
     prove_accepted r (Yes ws) about ascend right = yes_accepted r ws about ascend right
@@ -261,7 +260,7 @@ module _ (back : ReadsBack) (q : QuestionView) (short : length q.text ≤ 104857
         let proofs = right.due.proofs in
         let fits = contained_fits budgets plans q.body first second tries parts ws found about right in
         let plain = contained_plain q.text q.body.names text_is parts ws (All-weaker (λ s. (s < 2 ^ 32) × (s < 2 ^ length first.names.variables)) (λ s. s < 2 ^ 32) (λ s h. h.0) parts fits.sets) fits.numbers in
-        let reads = line_reads a (question_fits q.body a (Contain first second tries) about fits) plain (contained_low q.text q.body.names parts ws) in
+        let reads = line_reads a (question_fits q.body a (Contain first second tries) about fits) plain in
         let rows : ArePulledRows p.space (obligations q.body first second parts) proofs.rows =
         subst (λ ps. ArePulledRows p.space (obligations q.body first second ps) proofs.rows) (sym right.due.parts_are) (text_rows q.body first second right.pair right.pairs c proofs.rows proofs.are) in
         let e = proofs_by_valid p budgets.pivots (obligations q.body first second parts) proofs.rows ws right.limits.problem rows proofs.proofs in
@@ -276,7 +275,7 @@ module _ (back : ReadsBack) (q : QuestionView) (short : length q.text ≤ 104857
         let l : tried < 2 ^ 32 = let is = right.due.0.tried_is in omega (arith, is, short) in
         let plain = open_plain q.text q.body.names text_is tried l in
         skipped_is_accepted (Open tried) (line_of (Open tried)) (clear_of (Open tried) plain) refl
-        (line_reads (Open tried) (question_fits q.body (Open tried) (Contain first second tries) about l) plain (open_low q.text q.body.names tried))
+        (line_reads (Open tried) (question_fits q.body (Open tried) (Contain first second tries) about l) plain)
 
     contain_accepted : (plans : List Plan) (first second : RegionView) (tries : List (List ℕ)) (a : AnswerView) (found : List Candidate) → budgets.tries < 2 ^ 32 → q.body.verb ≡ Contain first second tries
         → ProofsAscend a → IsRightContainment budgets plans q.body first second tries (record { answer = a; found = found }) → IsAccepted (line_of a)

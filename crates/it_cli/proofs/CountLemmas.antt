@@ -45,7 +45,7 @@ pub counting_more : (budgets : Budgets) (plans plans_now plans_next : List Plan)
     → IsCounting budgets plans (map question_view qs) (i + 1) (with_answer counts answer) plans_next
 counting_more budgets plans plans_now plans_next qs i r counts answer c h e a = record {
   found = c.found ++ a.found;
-  counted = λ end rest. c.counted end (subst (λ (ys : List QuestionView). AreCounted budgets plans c.found counts ys end) (sym next) (reply, right, rest));
+  counted = λ end rest. c.counted end (subst (λ (ys : List QuestionView). AreCounted budgets plans c.found counts ys end) (sym question_is_first) (reply, reply_is_right, rest));
   learned = a.learned ∙ ap (map (plan_after_all a.found)) c.learned ∙ after_more c.found a.found plans;
   few = total_more counts answer ∙ ap (λ n. n + 1) c.few;
 }
@@ -53,11 +53,11 @@ counting_more budgets plans plans_now plans_next qs i r counts answer c h e a = 
     reply : Reply
     reply = record { answer = answer; found = a.found }
 
-    right : IsRightAfter budgets plans c.found (question_view r) reply
-    right = subst (λ (ps : List Plan). IsRightAnswer budgets ps (question_body r) reply) c.learned a.right
+    reply_is_right : IsRightAfter budgets plans c.found (question_view r) reply
+    reply_is_right = subst (λ (ps : List Plan). IsRightAnswer budgets ps (question_body r) reply) c.learned a.right
 
-    next : drop i (map question_view qs) ≡ question_view r ∷ drop (i + 1) (map question_view qs)
-    next = drop_more (map question_view qs) i (question_view r) (simp length-map h)
+    question_is_first : drop i (map question_view qs) ≡ question_view r ∷ drop (i + 1) (map question_view qs)
+    question_is_first = drop_more (map question_view qs) i (question_view r) (simp length-map h)
         ∙ ap (λ y. y ∷ drop (i + 1) (map question_view qs)) (get_or-map question_view qs i r (question_view r) h ∙ ap question_view (sym e))
 
 nothing_left : (i : ℕ) (qs : List QuestionView) → length qs ≤ i → drop i qs ≡ []

@@ -30,6 +30,7 @@ use Rattle.it_space.specs.declared.answers.Mark.TheVariants.{Plain, Needed, Unse
 use Rattle.it_syntax.specs.NamesViews.{NamesView}
 use Rattle.it_certificate.specs.AnswerShapes.{IsNumberedAmount, IsNumbered}
 use Rattle.it_certificate.specs.Values.{integer_value, count_value, pair_value, proof_value, side_word, row_value, cause_word, place_word, answer_value, answer_text}
+use Rattle.it_certificate.proofs.ValueLemmas.{answer_shallow}
 
 -- ---- values without floats
 
@@ -295,48 +296,6 @@ pub answer_text_utf8 : (text : List ℕ) (v : NamesView) (a : AnswerView) → Is
 unfolding answer_text
 answer_text_utf8 text v a h = text_utf8 (answer_value text v a) h
 
-pub answer_text_back : (text : List ℕ) (v : NamesView) (a : AnswerView) → IsPlain (answer_value text v a) → depth (answer_value text v a) ≤ 127 → read (answer_text text v a) ≡ Some (answer_value text v a)
+pub answer_text_back : (text : List ℕ) (v : NamesView) (a : AnswerView) → IsPlain (answer_value text v a) → read (answer_text text v a) ≡ Some (answer_value text v a)
 unfolding answer_text
-answer_text_back text v a h low = read_text (answer_value text v a) h low
-
--- ---- answers aren't deep
-
-items_low : {A : Type 0} (f : A → Data) (k : ℕ) → ((a : A) → depth (f a) ≤ k) → (xs : List A) → items_depth (items_of (map f xs)) ≤ k
-items_low f k low [] = omega arith
-items_low f k low (x ∷ xs) = let a = low x in let b = items_low f k low xs in omega (arith, a, b)
-
-pair_low : (w : ℕ × ℤ) → depth (pair_value w) ≤ 1
-unfolding pair_value
-pair_low w = omega arith
-
-proof_low : (c : CertificateView) → depth (proof_value c) ≤ 3
-unfolding proof_value
-proof_low c = let e = items_low pair_value 1 pair_low (filter is_nonzero_weight c.parts) in omega (arith, e)
-
-row_low : (r : Mark × Terms) → depth (row_value r) ≤ 3
-unfolding row_value
-row_low r = let e = items_low pair_value 1 pair_low r.1 in omega (arith, e)
-
-pub yes_low : (text : List ℕ) (v : NamesView) (ws : List CertificateView) → depth (answer_value text v (Yes ws)) ≤ 127
-unfolding answer_value
-yes_low text v ws = let e = items_low proof_value 3 proof_low ws in omega (arith, e)
-
-pub no_low : (text : List ℕ) (v : NamesView) (back : Bool) (values : List ℤ) → depth (answer_value text v (No back values)) ≤ 127
-unfolding answer_value
-no_low text v back values = let e = items_low integer_value 0 (λ z. omega arith) values in omega (arith, e)
-
-pub undecided_low : (text : List ℕ) (v : NamesView) (c : Cause) → depth (answer_value text v (Undecided c)) ≤ 127
-unfolding answer_value
-undecided_low text v c = omega arith
-
-pub region_low : (text : List ℕ) (v : NamesView) (rows : List (Mark × Terms)) → depth (answer_value text v (Region rows)) ≤ 127
-unfolding answer_value
-region_low text v rows = let e = items_low row_value 3 row_low rows in omega (arith, e)
-
-pub contained_low : (text : List ℕ) (v : NamesView) (parts : List ℕ) (proofs : List CertificateView) → depth (answer_value text v (Contained parts proofs)) ≤ 127
-unfolding answer_value
-contained_low text v parts proofs = let e = items_low count_value 0 (λ n. omega arith) parts in let f = items_low proof_value 3 proof_low proofs in omega (arith, e, f)
-
-pub open_low : (text : List ℕ) (v : NamesView) (tried : ℕ) → depth (answer_value text v (Open tried)) ≤ 127
-unfolding answer_value
-open_low text v tried = omega arith
+answer_text_back text v a h = read_text (answer_value text v a) h (answer_shallow text v a)

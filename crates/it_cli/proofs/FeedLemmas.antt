@@ -36,13 +36,13 @@ abbrev are_clear : List ℕ → Bool
 are_clear [] = true
 are_clear (x ∷ xs) = not (x == 10) && are_clear xs
 
-unlike : (b : Bool) → not b ≡ true → b ≡ false
-unlike true e = absurd cc
-unlike false e = refl
+false_from_not : (b : Bool) → not b ≡ true → b ≡ false
+false_from_not true e = absurd cc
+false_from_not false e = refl
 
 every_clear : (xs : List ℕ) → are_clear xs ≡ true → Every IsNoFeed xs
 every_clear [] e = tt
-every_clear (x ∷ xs) e = let p = and_parts (not (x == 10)) (are_clear xs) e in (unlike (x == 10) p.0, every_clear xs p.1)
+every_clear (x ∷ xs) e = let p = and_parts (not (x == 10)) (are_clear xs) e in (false_from_not (x == 10) p.0, every_clear xs p.1)
 
 -- the escapes of the bytes below n
 abbrev clear_below : ℕ → Bool

@@ -38,11 +38,12 @@ use Rattle.it_canon.specs.QuestionDemands.{space_of, problem_names, problem_name
 use Rattle.it_canon.proofs.ZipLemmas.{zip-length}
 use Rattle.it_eliminate.specs.Elimination.{Member}
 use Rattle.it_redundant.specs.ReducedElimination.{ProjectionEndView}
-use Rattle.it_redundant.specs.ReducedElimination as reduced
+use Rattle.it_redundant.specs.ReducedElimination as projections
 use Rattle.it_answer.specs.declared.types.Budgets.{Budgets}
 use Rattle.it_answer.specs.Forms.{all_demands, generators_by, demand_of_elemental, demand_of_line, CertifyAll}
 use Rattle.it_answer.specs.RightAnswers.{ViolatesFirst, PointIsDue, CauseIsDue, IsRightFor}
 use Rattle.it_answer.specs.RightRegions.{answer_of_end, IsRightElimination}
+use Rattle.it_answer.proofs.UniqueLemmas.{undecided_same}
 use Rattle.it_certificate.specs.AnswerReading.{is_equality}
 use Rattle.it_certificate.specs.AnswerShapes.{IsNumberedAmount, IsNumbered, IsFoundIn, IsCauseFor, HasProveShape}
 use Rattle.it_certificate.specs.Numerals.{step_of}
@@ -60,9 +61,6 @@ yes_same v w e = cc
 
 pub no_same : (u v : List ℤ) → proof_views.No u ≡ proof_views.No v → u ≡ v
 no_same u v e = cc
-
-cause_same : (c d : Cause) → proof_views.Undecided c ≡ proof_views.Undecided d → c ≡ d
-cause_same c d e = cc
 
 -- a proof's scale is within the limit, and its weights ascend
 pub record IsScaled (w : CertificateView) : Type 0 where
@@ -154,11 +152,11 @@ run_end_up_to q target budget e few (inr h) = solve_end_up_to _ _ _ budget e few
 cause_by_end : (v : NamesView) (q : ProblemView) (target : Terms) (c : Cause) (e : RunEndView (List (ℕ × Rational)) (List Rational)) → IsUpToStep last_step e
     → Follows q target e (proof_views.Undecided c) → IsCauseFor v c
 cause_by_end v q target c (Weights ws) b (inl h) = let e = h.3 in absurd (cc)
-cause_by_end v q target c (Weights ws) b (inr h) = subst (IsCauseFor v) (cause_same causes.Scale c (sym h.1)) tt
+cause_by_end v q target c (Weights ws) b (inr h) = subst (IsCauseFor v) (undecided_same causes.Scale c (sym h.1)) tt
 cause_by_end v q target c (Point qs) b (inl h) = let e = h.1 in absurd (cc)
-cause_by_end v q target c (Point qs) b (inr h) = subst (IsCauseFor v) (cause_same causes.Scale c (sym h.1)) tt
-cause_by_end v q target c (Pivots k) b e = subst (IsCauseFor v) (cause_same (causes.Pivots k) c (sym e)) (let l : k < 2 ^ 32 = omega (arith, b) in l)
-cause_by_end v q target c (Width k) b e = subst (IsCauseFor v) (cause_same (causes.Width k) c (sym e)) (let l : k < 2 ^ 32 = omega (arith, b) in l)
+cause_by_end v q target c (Point qs) b (inr h) = subst (IsCauseFor v) (undecided_same causes.Scale c (sym h.1)) tt
+cause_by_end v q target c (Pivots k) b e = subst (IsCauseFor v) (undecided_same (causes.Pivots k) c (sym e)) (let l : k < 2 ^ 32 = omega (arith, b) in l)
+cause_by_end v q target c (Width k) b e = subst (IsCauseFor v) (undecided_same (causes.Width k) c (sym e)) (let l : k < 2 ^ 32 = omega (arith, b) in l)
 
 -- ---- certificates
 
@@ -255,19 +253,19 @@ right_prove_fits budget q r (Open tried) few verb right = absurd right.shows
 
 -- ---- eliminations that end with a cause
 
-undecided_same : (c d : Cause) → Undecided c ≡ Undecided d → c ≡ d
-undecided_same c d e = cc
+answer_cause_same : (c d : Cause) → Undecided c ≡ Undecided d → c ≡ d
+answer_cause_same c d e = cc
 
 -- A cause of an elimination fits, where each listed rate is found by its name, and the name is no number.
 pub eliminated_cause_fits : (budgets : Budgets) (q : BodyView) (rates : List ℕ) (cause : Cause) → ((r : ℕ) → Member r rates → IsFoundIn q.names r × (step_of (rate_name q.names r) ≡ None))
     → IsRightElimination budgets q rates (Undecided cause) → IsCauseFor q.names cause
 eliminated_cause_fits budgets q rates cause named right =
-    by right.due.end (end_of_rates right.due.givens budgets.pivots budgets.rows right.due.rows [] rates right.due.end right.due.ends) right.due.is
+    by_end right.due.end (end_of_rates right.due.givens budgets.pivots budgets.rows right.due.rows [] rates right.due.end right.due.ends) right.due.is
   where
-    by : (end : ProjectionEndView) → IsEndOf rates end → Undecided cause ≡ answer_of_end end → IsCauseFor q.names cause
-    by (reduced.Region kept) h is = absurd (cc)
-    by (reduced.Rows r) h is = subst (IsCauseFor q.names) (sym (undecided_same cause (causes.Rows r) is)) (named r h).0
-    by (reduced.Wide r) h is = subst (IsCauseFor q.names) (sym (undecided_same cause (causes.WideRate r) is)) (named r h)
+    by_end : (end : ProjectionEndView) → IsEndOf rates end → Undecided cause ≡ answer_of_end end → IsCauseFor q.names cause
+    by_end (projections.Region kept) h is = absurd (cc)
+    by_end (projections.Rows r) h is = subst (IsCauseFor q.names) (sym (answer_cause_same cause (causes.Rows r) is)) (named r h).0
+    by_end (projections.Wide r) h is = subst (IsCauseFor q.names) (sym (answer_cause_same cause (causes.WideRate r) is)) (named r h)
 
 -- ---- weights other than 0
 

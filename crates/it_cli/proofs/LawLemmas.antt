@@ -1,5 +1,6 @@
 -- What follows for the status of a call.
 use Rattle.std.proofs.Common.{◌≡◌, ℕ, ◌≤◌, ◌<◌, inl, inr, List, ◌++◌, length, Bool, Option, Some, None, refl, sym, ap, subst, ◌∙◌, arith}
+use Rattle.it_space.proofs.OptionLemmas.{some_same}
 use Rattle.it_outside.specs.Causes.{Rose}
 use Rattle.it_outside.specs.Traffic.{Gains, Gave, GaveMore}
 use Rattle.it_outside.proofs.LawLemmas.{end_comes_last, more_was_there}
@@ -21,14 +22,11 @@ use Rattle.it_cli.specs.declared.status.Status.TheVariants.{Done, Invalid, Usage
 has_one_or_none : (r : Call) (settings : Settings) → IsReading r settings → HasNone r → ⊥
 has_one_or_none r settings reading none = cc
 
-same_some : {X : Type 0} (a b : X) → Some a ≡ Some b → a ≡ b
-same_some a b e = cc
-
 one_reading : (r : Call) (a b : Settings) → IsReading r a → IsReading r b → a ≡ b
-one_reading r a b first second = same_some a b (sym first ∙ second)
+one_reading r a b first second = some_same a b (sym first ∙ second)
 
 one_limit : (r : Call) (settings : Settings) (most limit : ℕ) → IsReading r settings → most_bytes settings ≡ Some most → HasLimit r limit → limit ≡ most
-one_limit r settings most limit reading is h = same_some limit most (sym h.limit ∙ ap most_bytes (one_reading r h.settings settings h.reading reading) ∙ is)
+one_limit r settings most limit reading is h = some_same limit most (sym h.limit ∙ ap most_bytes (one_reading r h.settings settings h.reading reading) ∙ is)
 
 -- what was given is what was left
 same_bytes : (r : Call) (bytes given : List ℕ) → r.left ≡ Some bytes → Gave r.left r.left_after given → given ≡ bytes
@@ -133,10 +131,10 @@ unread_input r settings s bytes reading none input =
     taken.0
 
 no_limit : (r : Call) (settings : Settings) (most : ℕ) → IsReading r settings → most_bytes settings ≡ None → HasLimit r most → ⊥
-no_limit r settings most reading none h = unlike (sym h.limit ∙ ap most_bytes (one_reading r h.settings settings h.reading reading) ∙ none)
+no_limit r settings most reading none h = some_not_none (sym h.limit ∙ ap most_bytes (one_reading r h.settings settings h.reading reading) ∙ none)
   where
-    unlike : Some most ≡ None → ⊥
-    unlike e = cc
+    some_not_none : Some most ≡ None → ⊥
+    some_not_none e = cc
 
 answer_mode_of : (r : Call) (settings : Settings) (u : IsUnread r) → IsReading r settings → IsAnswerMode settings
 answer_mode_of r settings u reading = subst IsAnswerMode (one_reading r u.settings settings u.input.reading reading) u.mode
@@ -151,10 +149,10 @@ never_invalid : (r : Call) (seed count : ℕ) (pivots : Option ℕ) (rows tries 
 never_invalid r seed count pivots rows tries reading h =
     let output : IsOutput r.plans (Bench seed count pivots rows tries) h.bytes h.out Invalid =
     subst (λ (x : Settings). IsOutput r.plans x h.bytes h.out Invalid) (one_reading r h.settings (Bench seed count pivots rows tries) h.input.reading reading) h.output in
-    unlike output.1
+    invalid_not_done output.1
   where
-    unlike : Invalid ≡ Done → ⊥
-    unlike e = cc
+    invalid_not_done : Invalid ≡ Done → ⊥
+    invalid_not_done e = cc
 
 pub bench_reads_nothing : BenchReadsNothing
 bench_reads_nothing r Done seed count pivots rows tries ends reading = (unread_input r (Bench seed count pivots rows tries) ends.settings ends.bytes reading refl ends.input, inl refl)

@@ -37,7 +37,7 @@ use Rattle.it_rational.specs.Rational.{Rational}
 use Rattle.it_prove.specs.ProofViews.{Yes, No, Undecided, Follows}
 use Rattle.it_eliminate.proofs.MemberLemmas.{every_member}
 use Rattle.it_redundant.specs.ReducedElimination.{ProjectionEndView}
-use Rattle.it_redundant.specs.ReducedElimination as reduced
+use Rattle.it_redundant.specs.ReducedElimination as projections
 use Rattle.it_answer.specs.declared.types.Budgets.{Budgets}
 use Rattle.it_answer.specs.RightRegions.{IsRightElimination, answer_of_end, region_rows}
 use Rattle.it_answer.specs.Forms.{CertifyAll, all_demands, generators_by}
@@ -47,6 +47,7 @@ use Rattle.it_print.specs.Lines.{IsCauseOf, IsPrintable, IsRowOver, answer_line,
 use Rattle.it_print.specs.ProofLines.{generator_rows, proof_text}
 use Rattle.it_answer.specs.AnswerForms.{answer_forms}
 use Rattle.it_answer.specs.RightContainments.{IsRightContainment}
+use Rattle.it_answer.proofs.UniqueLemmas.{undecided_same}
 use Rattle.it_region.specs.declared.types.Candidate.{Candidate}
 use Rattle.it_region.specs.Obligations.{ArePartsOf, obligations}
 use Rattle.it_contain.specs.Proposals.{Plan}
@@ -84,30 +85,18 @@ point_size q (f ∷ []) true values c = absurd c
 point_size q (f ∷ g ∷ fs) true values c = c.1.complete
 
 cause_of_run_end : (p : ProblemView) (t : Terms) (m : ℕ) (cause : Cause) (e : RunEndView (List (ℕ × Rational)) (List Rational)) → Follows p t e (Undecided cause) → IsCauseOf m cause
-cause_of_run_end p t m cause (Weights ws) (inl a) = absurd (unlike a.3)
+cause_of_run_end p t m cause (Weights ws) (inl a) = absurd (undecided_not_yes a.3)
   where
-    unlike : {w : CertificateView} → Undecided cause ≡ Yes w → ⊥
-    unlike e = cc
-cause_of_run_end p t m cause (Weights ws) (inr a) = subst (IsCauseOf m) (sym (inside a.1)) tt
+    undecided_not_yes : {w : CertificateView} → Undecided cause ≡ Yes w → ⊥
+    undecided_not_yes e = cc
+cause_of_run_end p t m cause (Weights ws) (inr a) = subst (IsCauseOf m) (sym (undecided_same cause Scale a.1)) tt
+cause_of_run_end p t m cause (Point qs) (inl a) = absurd (undecided_not_no a.1)
   where
-    inside : Undecided cause ≡ Undecided Scale → cause ≡ Scale
-    inside e = cc
-cause_of_run_end p t m cause (Point qs) (inl a) = absurd (unlike a.1)
-  where
-    unlike : {values : List ℤ} → Undecided cause ≡ No values → ⊥
-    unlike e = cc
-cause_of_run_end p t m cause (Point qs) (inr a) = subst (IsCauseOf m) (sym (inside a.1)) tt
-  where
-    inside : Undecided cause ≡ Undecided Scale → cause ≡ Scale
-    inside e = cc
-cause_of_run_end p t m cause (Pivots k) a = subst (IsCauseOf m) (sym (inside a)) tt
-  where
-    inside : Undecided cause ≡ Undecided (causes.Pivots k) → cause ≡ causes.Pivots k
-    inside e = cc
-cause_of_run_end p t m cause (Width k) a = subst (IsCauseOf m) (sym (inside a)) tt
-  where
-    inside : Undecided cause ≡ Undecided (causes.Width k) → cause ≡ causes.Width k
-    inside e = cc
+    undecided_not_no : {values : List ℤ} → Undecided cause ≡ No values → ⊥
+    undecided_not_no e = cc
+cause_of_run_end p t m cause (Point qs) (inr a) = subst (IsCauseOf m) (sym (undecided_same cause Scale a.1)) tt
+cause_of_run_end p t m cause (Pivots k) a = subst (IsCauseOf m) (sym (undecided_same cause (causes.Pivots k) a)) tt
+cause_of_run_end p t m cause (Width k) a = subst (IsCauseOf m) (sym (undecided_same cause (causes.Width k) a)) tt
 
 cause_of_due : (p : ProblemView) (budget : Option ℕ) (m : ℕ) (ts : List Terms) (cause : Cause) → CauseIsDue p budget ts cause → IsCauseOf m cause
 cause_of_due p budget m [] cause c = absurd c
@@ -118,21 +107,21 @@ cause_of_due p budget m (t ∷ ts) cause (inr e) = cause_of_due p budget m ts ca
 
 -- a question of a file has few names, also with those of its first region
 few_names : (q : BodyView) → IsQuestion q → (length (problem_names q).variables ≤ 8) × (length (problem_names q).rates ≤ 16)
-few_names q k = by q.verb k.verb
+few_names q k = by_verb q.verb k.verb
   where
-    by : (verb : VerbView) → IsVerbOver q.names verb → (length (problem_names_by q.names verb).variables ≤ 8) × (length (problem_names_by q.names verb).rates ≤ 16)
-    by (Prove r) over = (k.few, k.few_rates)
-    by (Eliminate rates) over = (k.few, k.few_rates)
-    by (Contain a b tries) over = (over.0.few_variables, subst (λ (rs : List (List ℕ)). length rs ≤ 16) (sym over.0.rates) k.few_rates)
+    by_verb : (verb : VerbView) → IsVerbOver q.names verb → (length (problem_names_by q.names verb).variables ≤ 8) × (length (problem_names_by q.names verb).rates ≤ 16)
+    by_verb (Prove r) over = (k.few, k.few_rates)
+    by_verb (Eliminate rates) over = (k.few, k.few_rates)
+    by_verb (Contain a b tries) over = (over.0.few_variables, subst (λ (rs : List (List ℕ)). length rs ≤ 16) (sym over.0.rates) k.few_rates)
 
 -- and at least one variable
 pub some_names : (q : BodyView) → IsQuestion q → 1 ≤ variables_of q
-some_names q k = by q.verb k.verb
+some_names q k = by_verb q.verb k.verb
   where
-    by : (verb : VerbView) → IsVerbOver q.names verb → 1 ≤ length (problem_names_by q.names verb).variables
-    by (Prove r) over = k.some
-    by (Eliminate rates) over = k.some
-    by (Contain a b tries) over = omega (arith, k.some, ap length over.0.variables, length-append q.names.variables over.0.own)
+    by_verb : (verb : VerbView) → IsVerbOver q.names verb → 1 ≤ length (problem_names_by q.names verb).variables
+    by_verb (Prove r) over = k.some
+    by_verb (Eliminate rates) over = k.some
+    by_verb (Contain a b tries) over = omega (arith, k.some, ap length over.0.variables, length-append q.names.variables over.0.own)
 
 printable_proof : (budget : Option ℕ) (q : BodyView) (r : RelationView) (m : ℕ) (answer : Answer) → IsQuestion q → m ≡ length (question_demands q) → IsRightFor budget q r (answer_view answer)
     → IsPrintable q m answer
@@ -159,9 +148,9 @@ IsCauseIn m (views.Undecided cause) = IsCauseOf m cause
 IsCauseIn m _ = Unit {0}
 
 cause_of_end : (m : ℕ) (rates : List ℕ) (end : ProjectionEndView) → All (λ r. r < m) rates → IsEndOf rates end → IsCauseIn m (answer_of_end end)
-cause_of_end m rates (reduced.Region kept) within h = tt
-cause_of_end m rates (reduced.Rows rate) within h = every_member (λ r. r < m) rates rate (every_of (λ r. r < m) rates within) h
-cause_of_end m rates (reduced.Wide rate) within h = every_member (λ r. r < m) rates rate (every_of (λ r. r < m) rates within) h
+cause_of_end m rates (projections.Region kept) within h = tt
+cause_of_end m rates (projections.Rows rate) within h = every_member (λ r. r < m) rates rate (every_of (λ r. r < m) rates within) h
+cause_of_end m rates (projections.Wide rate) within h = every_member (λ r. r < m) rates rate (every_of (λ r. r < m) rates within) h
 
 printable_region : (budgets : Budgets) (q : BodyView) (rates : List ℕ) (m : ℕ) (answer : Answer) → problem_names q ≡ q.names → All (λ r. r < length q.names.rates) rates → IsRightElimination budgets q rates (answer_view answer) → IsPrintable q m answer
 printable_region budgets q rates m (answers.Yes proofs) names within a = absurd a.shows
@@ -196,23 +185,23 @@ printable_containment budgets plans q a b tries m (answers.Open tried) found is 
 
 pub right_is_printable : (budgets : Budgets) (plans : List Plan) (q : BodyView) (m : ℕ) (answer : Answer) (found : List Candidate) → IsQuestion q → m ≡ length (question_demands q)
     → IsRightAnswer budgets plans q (record { answer = answer_view answer; found = found }) → IsPrintable q m answer
-right_is_printable budgets plans q m answer found k few right = by q.verb refl right
+right_is_printable budgets plans q m answer found k few right = by_verb q.verb refl right
   where
-    by : (verb : VerbView) → q.verb ≡ verb → IsRightAnswerBy budgets plans q verb (record { answer = answer_view answer; found = found }) → IsPrintable q m answer
-    by (Prove r) is x = printable_proof budgets.pivots q r m answer k few x.0
-    by (Eliminate rates) is x = printable_region budgets q rates m answer (ap (problem_names_by q.names) is) (subst (IsVerbOver q.names) is k.verb).within x.0
-    by (Contain a b tries) is x = printable_containment budgets plans q a b tries m answer found is k few x
+    by_verb : (verb : VerbView) → q.verb ≡ verb → IsRightAnswerBy budgets plans q verb (record { answer = answer_view answer; found = found }) → IsPrintable q m answer
+    by_verb (Prove r) is x = printable_proof budgets.pivots q r m answer k few x.0
+    by_verb (Eliminate rates) is x = printable_region budgets q rates m answer (ap (problem_names_by q.names) is) (subst (IsVerbOver q.names) is k.verb).within x.0
+    by_verb (Contain a b tries) is x = printable_containment budgets plans q a b tries m answer found is k few x
 
 -- ---- its texts
 
 -- the rates of the problem are the question's
 rates_of_problem : (q : BodyView) → IsQuestion q → (problem_names q).rates ≡ q.names.rates
-rates_of_problem q k = by q.verb k.verb
+rates_of_problem q k = by_verb q.verb k.verb
   where
-    by : (verb : VerbView) → IsVerbOver q.names verb → (problem_names_by q.names verb).rates ≡ q.names.rates
-    by (Prove r) over = refl
-    by (Eliminate rates) over = refl
-    by (Contain a b tries) over = over.0.rates
+    by_verb : (verb : VerbView) → IsVerbOver q.names verb → (problem_names_by q.names verb).rates ≡ q.names.rates
+    by_verb (Prove r) over = refl
+    by_verb (Eliminate rates) over = refl
+    by_verb (Contain a b tries) over = over.0.rates
 
 -- an answer with a line of text has one of JSON
 pub printable_is_writable : (q : QuestionView) (m : ℕ) (answer : Answer) → IsQuestion q.body → IsAsciiQuestion q → IsPrintable q.body m answer → IsWritable q.body.names (answer_view answer)

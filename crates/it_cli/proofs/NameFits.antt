@@ -196,11 +196,11 @@ magnitude_none : (c : ℕ) (cs : List ℕ) → is_ascii_digit c ≡ false → ma
 unfolding magnitude_of
 magnitude_none c cs e =
     let test = nat_le 1 (length (c ∷ cs)) && nat_le (length (c ∷ cs)) 39 in
-    ap (λ b. cond test (option_and_then up_to_limit (cond b (value_from (10 * 0 + (c - 48)) cs) None)) None) e ∙ either test
+    ap (λ b. cond test (option_and_then up_to_limit (cond b (value_from (10 * 0 + (c - 48)) cs) None)) None) e ∙ by_test test
   where
-    either : (b : Bool) → cond b (option_and_then up_to_limit None) None ≡ None
-    either true = refl
-    either false = refl
+    by_test : (b : Bool) → cond b (option_and_then up_to_limit None) None ≡ None
+    by_test true = refl
+    by_test false = refl
 
 no_number : (w : List ℕ) → IsLettered w → step_of w ≡ None
 unfolding step_of integer_of

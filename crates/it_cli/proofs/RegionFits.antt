@@ -1,11 +1,12 @@
 -- The rows of a right region are canonical, so that the region fits its question.
-use Rattle.std.proofs.Common.{◌≡◌, ◌≢◌, ◌⊎◌, inl, inr, ℕ, zero, suc, ◌+◌, ◌<◌, ◌≤◌, ◌^◌, ℤ, pos, neg_ℤ, ◌*ℤ◌, ◌<ℤ◌, List, [], ◌∷◌, length, All, Option, sym, ap, subst, ◌∙◌, arith}
+use Rattle.std.proofs.Common.{◌≡◌, ◌≢◌, ◌⊎◌, inl, inr, ℕ, ◌+◌, ◌<◌, ◌≤◌, ◌^◌, ℤ, pos, neg_ℤ, ◌<ℤ◌, List, [], ◌∷◌, length, All, Option, sym, ap, subst, ◌∙◌, arith}
 use Rattle.std.proofs.lemmas.Int.{ints}
 use Rattle.std.proofs.lemmas.Bool.{cases_eq}
 use Rattle.std.proofs.lemmas.List.Elements.{All-nil, All-cons, All-head, All-tail}
 use Rattle.std.proofs.Math.Pow.{pow_mono}
 use Rattle.std.specs.List.{AllByRecursion as Every}
 use Rattle.it_number.specs.Limit.{IsWithin}
+use Rattle.it_number.proofs.SignLemmas.{factor_above}
 use Rattle.it_space.specs.declared.answers.Mark.{Mark}
 use Rattle.it_space.specs.declared.spaces.Space.{Space}
 use Rattle.it_space.specs.Answers.AnswerView.{Region}
@@ -29,8 +30,9 @@ use Rattle.it_eliminate.proofs.OrderLemmas.{every-with_row}
 use Rattle.it_eliminate.proofs.StepLemmas.{results_all}
 use Rattle.it_redundant.specs.Reduction.{NeedView, kept_rows}
 use Rattle.it_redundant.specs.ReducedElimination.{ProjectionEndView, ReducedEnds}
-use Rattle.it_redundant.specs.ReducedElimination as reduced
+use Rattle.it_redundant.specs.ReducedElimination as projections
 use Rattle.it_redundant.proofs.ReductionLemmas.{every_kept}
+use Rattle.it_redundant.proofs.ProjectionLemmas.{same_list}
 use Rattle.it_answer.specs.declared.types.Budgets.{Budgets}
 use Rattle.it_answer.specs.RightRegions.{region_rows, marked_rows, answer_of_end, IsRightElimination}
 use Rattle.it_certificate.specs.AnswerShapes.{IsNumberedAmount, IsRowIn}
@@ -45,30 +47,23 @@ ascends_within : (from : ℕ) (ts : Terms) → Rises from ts → ((c : ℕ) → 
 ascends_within from [] a h = tt
 ascends_within from (t ∷ ts) a h = (a.0, a.1, subst IsWithin (first_is from t ts a) (h t.0), ascends_within (t.0 + 1) ts a.2 rest)
   where
-    by : (c : ℕ) → (c ≡ t.0) ⊎ (c ≢ t.0) → IsWithin (coefficient ts c)
-    by c (inl e) = none_within (coefficient ts c) (none_under (t.0 + 1) ts c a.2 (omega (arith, e)))
-    by c (inr n) = subst IsWithin (other_is t ts c (λ e. n (sym e))) (h c)
+    by_cases : (c : ℕ) → (c ≡ t.0) ⊎ (c ≢ t.0) → IsWithin (coefficient ts c)
+    by_cases c (inl e) = none_within (coefficient ts c) (none_under (t.0 + 1) ts c a.2 (omega (arith, e)))
+    by_cases c (inr n) = subst IsWithin (other_is t ts c (λ e. n (sym e))) (h c)
 
     rest : (c : ℕ) → IsWithin (coefficient ts c)
-    rest c = by c (cases_eq c t.0)
-
-factor_is_some : (g n : ℕ) (z : ℤ) → pos g *ℤ pos n ≡ z → pos 0 <ℤ z → 0 < n
-factor_is_some g zero z e h = absurd (none e h)
-  where
-    none : pos g *ℤ pos 0 ≡ z → pos 0 <ℤ z → ⊥
-    none e h = omega (arith, ints)
-factor_is_some g (suc n) z e h = omega arith
+    rest c = by_cases c (cases_eq c t.0)
 
 cancelled_canonical : (at : ℕ) (up down : Terms) → pos 0 <ℤ coefficient up at → coefficient down at <ℤ pos 0 → IsCanonical up → IsCanonical down → CancelFits at up down → IsCanonical (cancelled_row at up down)
 cancelled_canonical at up down h k a b fits =
     let f = factors at up down h k in
     ascends_within 0 (cancelled_row at up down)
-    (rises-cancelled_row at up down (factor_is_some f.common (times_up at up down) (neg_ℤ (coefficient down at)) f.up_is (omega (arith, ints))) (factor_is_some f.common (times_down at up down) (coefficient up at) f.down_is h) a b)
-    (λ c. by c (cases_eq c at))
+    (rises-cancelled_row at up down (factor_above f.common (times_up at up down) (neg_ℤ (coefficient down at)) f.up_is (omega (arith, ints))) (factor_above f.common (times_down at up down) (coefficient up at) f.down_is h) a b)
+    (λ c. by_cases c (cases_eq c at))
   where
-    by : (c : ℕ) → (c ≡ at) ⊎ (c ≢ at) → IsWithin (coefficient (cancelled_row at up down) c)
-    by c (inl e) = none_within (coefficient (cancelled_row at up down) c) (ap (coefficient (cancelled_row at up down)) e ∙ coefficient-cancelled_row at up down at ∙ cancelled_gone at up down h k)
-    by c (inr n) = subst IsWithin (sym (coefficient-cancelled_row at up down c)) (fits c n).sum
+    by_cases : (c : ℕ) → (c ≡ at) ⊎ (c ≢ at) → IsWithin (coefficient (cancelled_row at up down) c)
+    by_cases c (inl e) = none_within (coefficient (cancelled_row at up down) c) (ap (coefficient (cancelled_row at up down)) e ∙ coefficient-cancelled_row at up down at ∙ cancelled_gone at up down h k)
+    by_cases c (inr n) = subst IsWithin (sym (coefficient-cancelled_row at up down c)) (fits c n).sum
 
 -- ---- rows in order
 
@@ -86,21 +81,18 @@ next_canonical at rows h fit = with_rows_canonical [] (results at rows) tt (memb
     (λ row m e. every_member IsCanonical rows row h m)
     (λ up down m n p k. cancelled_canonical at up down p k (every_member IsCanonical rows up h m) (every_member IsCanonical rows down h n) (fit up down m n p k))))
 
-list_same : (xs ys : List Terms) → elimination.Region xs ≡ elimination.Region ys → xs ≡ ys
-list_same xs ys e = cc
-
 -- the list that the step of a rate leaves
 step_canonical : (base most : ℕ) (rows : List Terms) (r : ℕ) (next : List Terms) → Every IsCanonical rows → EliminationEnds base most rows (r ∷ []) (elimination.Region next) → Every IsCanonical next
 step_canonical base most rows r next h (inl e) = let f = e.1 in absurd (cc)
 step_canonical base most rows r next h (inr (inl e)) = let f = e.2 in absurd (cc)
-step_canonical base most rows r next h (inr (inr e)) = subst (Every IsCanonical) (sym (list_same next (next_list (base + r) rows) e.2)) (next_canonical (base + r) rows h e.0)
+step_canonical base most rows r next h (inr (inr e)) = subst (Every IsCanonical) (sym (same_list next (next_list (base + r) rows) e.2)) (next_canonical (base + r) rows h e.0)
 
-kept_same : (xs ys : List (Terms × NeedView)) → reduced.Region xs ≡ reduced.Region ys → xs ≡ ys
+kept_same : (xs ys : List (Terms × NeedView)) → projections.Region xs ≡ projections.Region ys → xs ≡ ys
 kept_same xs ys e = cc
 
 -- the rows that stay
 module _ (givens : ProblemView) (budget : Option ℕ) (most : ℕ) where
-  kept_canonical : (rows : List Terms) (last kept : List (Terms × NeedView)) (rates : List ℕ) → Every IsCanonical rows → Every IsCanonical (kept_rows last) → ReducedEnds givens budget most rows last rates (reduced.Region kept)
+  kept_canonical : (rows : List Terms) (last kept : List (Terms × NeedView)) (rates : List ℕ) → Every IsCanonical rows → Every IsCanonical (kept_rows last) → ReducedEnds givens budget most rows last rates (projections.Region kept)
       → Every IsCanonical (kept_rows kept)
   kept_canonical rows last kept [] h l is = subst (λ (ks : List (Terms × NeedView)). Every IsCanonical (kept_rows ks)) (sym (kept_same kept last is)) l
   kept_canonical rows last kept (r ∷ rates) h l (elimination.Region next, e, g) =
@@ -126,14 +118,14 @@ answer_same : (rows others : List (Mark × Terms)) → Region rows ≡ Region ot
 answer_same rows others e = cc
 
 rows_canonical : (budgets : Budgets) (q : BodyView) (rates : List ℕ) (rows : List (Mark × Terms)) → IsRightElimination budgets q rates (Region rows) → Every IsCanonical (region_rows rows)
-rows_canonical budgets q rates rows right = by right.due.end right.due.ends right.due.is
+rows_canonical budgets q rates rows right = by_end right.due.end right.due.ends right.due.is
   where
-    by : (end : ProjectionEndView) → ReducedEnds right.due.givens budgets.pivots budgets.rows right.due.rows [] rates end → Region rows ≡ answer_of_end end → Every IsCanonical (region_rows rows)
-    by (reduced.Region kept) e is =
+    by_end : (end : ProjectionEndView) → ReducedEnds right.due.givens budgets.pivots budgets.rows right.due.rows [] rates end → Region rows ≡ answer_of_end end → Every IsCanonical (region_rows rows)
+    by_end (projections.Region kept) e is =
         subst (λ (rs : List (Mark × Terms)). Every IsCanonical (region_rows rs)) (sym (answer_same rows (marked_rows kept) is))
         (marked_canonical kept (kept_canonical right.due.givens budgets.pivots budgets.rows right.due.rows [] kept rates (stated_canonical _ _ right.due.rows right.due.are_rows) tt e))
-    by (reduced.Rows r) e is = absurd (cc)
-    by (reduced.Wide r) e is = absurd (cc)
+    by_end (projections.Rows r) e is = absurd (cc)
+    by_end (projections.Wide r) e is = absurd (cc)
 
 pairs_of_row : (size from : ℕ) (ts : Terms) → size < 2 ^ 32 → Ascends from ts → IsUpTo size ts → All IsNumberedAmount ts
 pairs_of_row size from [] few a up = All-nil IsNumberedAmount

@@ -20,18 +20,18 @@ use Rattle.it_question.proofs.FileLineLemmas.{return_shorter, comment_shorter}
 
 leading_short : (line : List ℕ) → length (without_leading line) ≤ length line
 leading_short [] = omega arith
-leading_short (b ∷ line) = by (b == 32) (leading_short line)
+leading_short (b ∷ line) = by_test (b == 32) (leading_short line)
   where
-    by : (t : Bool) → length (without_leading line) ≤ length line → length (if t then without_leading line else b ∷ line) ≤ suc (length line)
-    by true h = omega (arith, h)
-    by false h = omega arith
+    by_test : (t : Bool) → length (without_leading line) ≤ length line → length (if t then without_leading line else b ∷ line) ≤ suc (length line)
+    by_test true h = omega (arith, h)
+    by_test false h = omega arith
 
 unless_short : (b : ℕ) (line : List ℕ) → length (unless_blank b line) ≤ suc (length line)
-unless_short b [] = by (b == 32)
+unless_short b [] = by_test (b == 32)
   where
-    by : (t : Bool) → length (if t then [] else b ∷ []) ≤ 1
-    by true = omega arith
-    by false = omega arith
+    by_test : (t : Bool) → length (if t then [] else b ∷ []) ≤ 1
+    by_test true = omega arith
+    by_test false = omega arith
 unless_short b (c ∷ line) = omega arith
 
 trailing_short : (line : List ℕ) → length (without_trailing line) ≤ length line
@@ -60,11 +60,11 @@ front_short b k (line ∷ lines) h = omega (arith, h)
 
 split_short : (bytes : List ℕ) → with_ends (split_lines bytes) ≤ length bytes + 1
 split_short [] = omega arith
-split_short (b ∷ bytes) = by (b == 10) (split_short bytes)
+split_short (b ∷ bytes) = by_test (b == 10) (split_short bytes)
   where
-    by : (t : Bool) → with_ends (split_lines bytes) ≤ length bytes + 1 → with_ends (if t then [] ∷ split_lines bytes else in_front b (split_lines bytes)) ≤ suc (length bytes) + 1
-    by true h = omega (arith, h)
-    by false h = front_short b (length bytes) (split_lines bytes) h
+    by_test : (t : Bool) → with_ends (split_lines bytes) ≤ length bytes + 1 → with_ends (if t then [] ∷ split_lines bytes else in_front b (split_lines bytes)) ≤ suc (length bytes) + 1
+    by_test true h = omega (arith, h)
+    by_test false h = front_short b (length bytes) (split_lines bytes) h
 
 -- what a line gives to a text, where it has no misspelling
 abbrev given_by : Option Misspelling → ℕ → ℕ

@@ -1,6 +1,6 @@
 -- Places over closed sets, and maps spread out from them.
-use Rattle.std.proofs.Common.{◌≡◌, ◌≢◌, ℕ, ◌^◌, ◌<◌, ◌≤◌, ◌⊎◌, inl, inr, List, [], ◌∷◌, Bool, true, false, cond, nat_eq, nat_lt, ℤ, ◌+ℤ◌, ◌*ℤ◌, refl, sym, ap, ap₂, ◌∙◌, arith, eq-eqb, ne_eqb, get_or}
-use Rattle.std.proofs.lemmas.Bool.{cases_lt, eqb-true}
+use Rattle.std.proofs.Common.{◌≡◌, ◌≢◌, ℕ, ◌^◌, ◌<◌, ◌≤◌, ◌⊎◌, inl, inr, List, [], ◌∷◌, Bool, true, false, cond, nat_eq, ℤ, ◌+ℤ◌, ◌*ℤ◌, refl, sym, ap, ap₂, ◌∙◌, arith, eq-eqb, ne_eqb, get_or}
+use Rattle.std.proofs.lemmas.Bool.{cases_lt, eqb-true, true≢false, le-ltb, lt-ltb}
 use Rattle.std.proofs.lemmas.Nat.{pow_pos}
 use Rattle.it_space.specs.Rows.{Terms, value}
 use Rattle.it_space.specs.Sets.{IsInside}
@@ -13,25 +13,19 @@ use Rattle.it_closure.proofs.Insides.{inside-trans, inside_le}
 use Rattle.it_closure.proofs.Meets.{closure_is, closure_told}
 use Rattle.it_closure.proofs.Values.{one_value}
 
-lt_test : (a b : ℕ) → a < b → nat_lt a b ≡ true
-lt_test a b h = grind (arith, Rattle.std.proofs.lemmas.Bool.Decides.nat_tests)
-
-not_lt_test : (a b : ℕ) → b ≤ a → nat_lt a b ≡ false
-not_lt_test a b h = grind (arith, Rattle.std.proofs.lemmas.Bool.Decides.nat_tests)
-
 -- the three cases
 pub place-rate : (n : ℕ) (ds : List Dependence) (c : ℕ) → 2 ^ n ≤ c → place n ds c ≡ c
 unfolding place
-place-rate n ds c h = ap (λ b. cond b (cond (nat_eq (closure n ds c) (closure n ds 0)) 0 (closure n ds c)) c) (not_lt_test c (2 ^ n) h)
+place-rate n ds c h = ap (λ b. cond b (cond (nat_eq (closure n ds c) (closure n ds 0)) 0 (closure n ds c)) c) (le-ltb c (2 ^ n) h)
 
 pub place-null : (n : ℕ) (ds : List Dependence) (c : ℕ) → c < 2 ^ n → closure n ds c ≡ closure n ds 0 → place n ds c ≡ 0
 unfolding place
-place-null n ds c h e = ap (λ b. cond b (cond (nat_eq (closure n ds c) (closure n ds 0)) 0 (closure n ds c)) c) (lt_test c (2 ^ n) h)
+place-null n ds c h e = ap (λ b. cond b (cond (nat_eq (closure n ds c) (closure n ds 0)) 0 (closure n ds c)) c) (lt-ltb c (2 ^ n) h)
     ∙ ap (λ b. cond b 0 (closure n ds c)) (eq-eqb (closure n ds c) (closure n ds 0) e)
 
 pub place-set : (n : ℕ) (ds : List Dependence) (c : ℕ) → c < 2 ^ n → closure n ds c ≢ closure n ds 0 → place n ds c ≡ closure n ds c
 unfolding place
-place-set n ds c h e = ap (λ b. cond b (cond (nat_eq (closure n ds c) (closure n ds 0)) 0 (closure n ds c)) c) (lt_test c (2 ^ n) h)
+place-set n ds c h e = ap (λ b. cond b (cond (nat_eq (closure n ds c) (closure n ds 0)) 0 (closure n ds c)) c) (lt-ltb c (2 ^ n) h)
     ∙ ap (λ b. cond b 0 (closure n ds c)) (ne_eqb (closure n ds c) (closure n ds 0) e)
 
 pub place-zero : (n : ℕ) (ds : List Dependence) → place n ds 0 ≡ 0
@@ -41,12 +35,9 @@ place-zero n ds = place-null n ds 0 (pow_pos n) refl
 pub null_or_not : (n : ℕ) (ds : List Dependence) (c : ℕ) → (closure n ds c ≡ closure n ds 0) ⊎ (closure n ds c ≢ closure n ds 0)
 null_or_not n ds c = by_test (nat_eq (closure n ds c) (closure n ds 0)) refl
   where
-    apart : true ≡ false → ⊥
-    apart e = cc
-
     by_test : (b : Bool) → nat_eq (closure n ds c) (closure n ds 0) ≡ b → (closure n ds c ≡ closure n ds 0) ⊎ (closure n ds c ≢ closure n ds 0)
     by_test true e = inl (eqb-true (closure n ds c) (closure n ds 0) e)
-    by_test false e = inr (λ f. apart (sym (eq-eqb (closure n ds c) (closure n ds 0) f) ∙ e))
+    by_test false e = inr (λ f. true≢false (sym (eq-eqb (closure n ds c) (closure n ds 0) f) ∙ e))
 
 pub closures_keep : ClosuresKeep
 closures_keep n ds h a p m s l = one_value n ds h a.below a.inside p m s l

@@ -1,11 +1,12 @@
 -- Places as the code finds them, and terms put at their places.
 use Rattle.std.proofs.Common.{◌≡◌, ◌≢◌, ◌↔◌, ℕ, zero, suc, ◌+◌, ◌*◌, ◌%◌, ◌^◌, ◌<◌, ◌≤◌, ◌⊎◌, inl, inr, ℤ, pos, ◌+ℤ◌, List, [], ◌∷◌, length, drop, get_or, true, false, cond, nat_eq, refl, sym, ap, ap₂, subst, ◌∙◌, arith, eq-eqb, All, lit<, replicate, Result, Ok, Err, OnOk}
 use Rattle.std.proofs.lemmas.Int.{ints}
-use Rattle.std.proofs.lemmas.Bool.{eqb-true, cases_lt}
+use Rattle.std.proofs.lemmas.Bool.{eqb-true, cases_lt, true≢false}
 use Rattle.std.proofs.lemmas.Nat.{pow_pos}
 use Rattle.std.proofs.Math.Pow.{pow_mono}
 use Rattle.std.proofs.lemmas.List.{length-replicate}
 use Rattle.std.proofs.lemmas.List.Elements.{All-replicate}
+use Rattle.std.proofs.Math.IntN.{+ℤ_assoc}
 use Rattle.it_number.specs.Limit.{IsWithin}
 use Rattle.it_space.proofs.ListLemmas.{drop_item}
 use Rattle.it_space.specs.declared.spaces.Space.{Space}
@@ -38,9 +39,9 @@ record Compared (d : DependencesView) (m x y : ℕ) : Type 0 where
   left : x ≡ closure d.space.variables d.list m
   right : y ≡ closure d.space.variables d.list 0
 
-compared : (d : DependencesView) (m : ℕ) (sp : Space) (s x z y : ℕ) → AreOfSpace d → sp ≡ d.space → m < 1 * 2 ^ sp.variables % 4294967296 → s ≡ m
+compared_closures : (d : DependencesView) (m : ℕ) (sp : Space) (s x z y : ℕ) → AreOfSpace d → sp ≡ d.space → m < 1 * 2 ^ sp.variables % 4294967296 → s ≡ m
     → (s < 2 ^ d.space.variables → x ≡ closure d.space.variables d.list s) → z ≡ 0 → (z < 2 ^ d.space.variables → y ≡ closure d.space.variables d.list z) → Compared d m x y
-compared d m sp s x z y a e h f g i k =
+compared_closures d m sp s x z y a e h f g i k =
     let v : sp.variables ≡ d.space.variables = ap (λ s. s.variables) e in
     let l : m < 2 ^ d.space.variables = subst (λ (k : ℕ). m < 2 ^ k) v (below_shift m sp.variables h (omega (arith, v, a.space.few))) in
     let same : s ≡ m = f in
@@ -54,18 +55,15 @@ pub place_null_found : (d : DependencesView) (m : ℕ) (sp : Space) (s x z y : �
     → (s < 2 ^ d.space.variables → x ≡ closure d.space.variables d.list s) → z ≡ 0 → (z < 2 ^ d.space.variables → y ≡ closure d.space.variables d.list z) → nat_eq x y ≡ true
     → 0 ≡ place d.space.variables d.list m
 place_null_found d m sp s x z y a e h f g i k t =
-    let c : Compared d m x y = compared d m sp s x z y a e h f g i k in
+    let c : Compared d m x y = compared_closures d m sp s x z y a e h f g i k in
     sym (place-null d.space.variables d.list m c.below (sym c.left ∙ eqb-true x y t ∙ c.right))
 
 pub place_set_found : (d : DependencesView) (m : ℕ) (sp : Space) (s x z y : ℕ) → AreOfSpace d → sp ≡ d.space → m < 1 * 2 ^ sp.variables % 4294967296 → s ≡ m
     → (s < 2 ^ d.space.variables → x ≡ closure d.space.variables d.list s) → z ≡ 0 → (z < 2 ^ d.space.variables → y ≡ closure d.space.variables d.list z) → nat_eq x y ≡ false
     → x ≡ place d.space.variables d.list m
 place_set_found d m sp s x z y a e h f g i k t =
-    let c : Compared d m x y = compared d m sp s x z y a e h f g i k in
-    c.left ∙ sym (place-set d.space.variables d.list m c.below (λ q. apart (sym (eq-eqb x y (c.left ∙ q ∙ sym c.right)) ∙ t)))
-  where
-    apart : true ≡ false → ⊥
-    apart e = cc
+    let c : Compared d m x y = compared_closures d m sp s x z y a e h f g i k in
+    c.left ∙ sym (place-set d.space.variables d.list m c.below (λ q. true≢false (sym (eq-eqb x y (c.left ∙ q ∙ sym c.right)) ∙ t)))
 
 pub place_rate_found : (d : DependencesView) (m : ℕ) (sp : Space) → AreOfSpace d → sp ≡ d.space → 1 * 2 ^ sp.variables % 4294967296 ≤ m → m ≡ place d.space.variables d.list m
 place_rate_found d m sp a e h =
@@ -120,12 +118,9 @@ placing-more n ds terms size values new i p t h is e put u =
       sofar = plus_at u.sofar q;
       same = λ c k. put.same c k ∙ ap₂ (λ y m. y +ℤ cond (nat_eq m c) t.1 (pos 0)) (u.same c k) e;
       fits = ((λ k. f.0 (here, k)), (λ k. (f.1 k).1));
-      total = λ c. assoc (u.sofar c) (cond (nat_eq (place n ds t.0) c) t.1 (pos 0)) (coefficient (placed_terms n ds (drop (i + 1) terms)) c)
+      total = λ c. +ℤ_assoc (u.sofar c) (cond (nat_eq (place n ds t.0) c) t.1 (pos 0)) (coefficient (placed_terms n ds (drop (i + 1) terms)) c)
           ∙ subst (λ (r : Terms). u.sofar c +ℤ coefficient (placed_terms n ds r) c ≡ coefficient (placed_terms n ds terms) c) split (u.total c);
     }
-  where
-    assoc : (a b c : ℤ) → (a +ℤ b) +ℤ c ≡ a +ℤ (b +ℤ c)
-    assoc a b c = omega (arith, ints)
 
 pub placing-stops : (n : ℕ) (ds : List Dependence) (terms : Terms) (size : ℕ) (values : List ℤ) (i p : ℕ) (t : ℕ × ℤ) → i < length terms → t ≡ get_or terms i t → p ≡ place n ds t.0
     → ¬ (0 < p → IsWithin (number_at values p +ℤ t.1)) → IsPlacing n ds terms size values i → ¬ (CollapseFits n ds terms)
@@ -152,12 +147,12 @@ placing-end n ds terms size values i h u =
 pub place_in : (d : DependencesView) (c size : ℕ) → AreOfSpace d → 2 ^ d.space.variables ≤ size → c < size → place d.space.variables d.list c < size
 place_in d c size a k l = by_case (cases_lt c (2 ^ d.space.variables))
   where
-    set' : c < 2 ^ d.space.variables → (closure d.space.variables d.list c ≡ closure d.space.variables d.list 0) ⊎ (closure d.space.variables d.list c ≢ closure d.space.variables d.list 0) → place d.space.variables d.list c < size
-    set' m (inl e) = rw (place-null d.space.variables d.list c m e) (omega arith)
-    set' m (inr e) = rw (place-set d.space.variables d.list c m e) (omega (arith, (closure_is d.space.variables d.list c (of_space d a).below m).below))
+    by_closure : c < 2 ^ d.space.variables → (closure d.space.variables d.list c ≡ closure d.space.variables d.list 0) ⊎ (closure d.space.variables d.list c ≢ closure d.space.variables d.list 0) → place d.space.variables d.list c < size
+    by_closure m (inl e) = rw (place-null d.space.variables d.list c m e) (omega arith)
+    by_closure m (inr e) = rw (place-set d.space.variables d.list c m e) (omega (arith, (closure_is d.space.variables d.list c (of_space d a).below m).below))
 
     by_case : (c < 2 ^ d.space.variables) ⊎ (2 ^ d.space.variables ≤ c) → place d.space.variables d.list c < size
-    by_case (inl m) = set' m (null_or_not d.space.variables d.list c)
+    by_case (inl m) = by_closure m (null_or_not d.space.variables d.list c)
     by_case (inr m) = rw (place-rate d.space.variables d.list c m) l
 
 pub sets_in : (s : Space) → 2 ^ s.variables ≤ size_of s + 1
@@ -169,7 +164,7 @@ pub went_on : (n : ℕ) (ds : List Dependence) (terms items : Terms) (size : ℕ
 went_on n ds terms items size values new i p t e h is k put u =
     placing-more n ds terms size values new i p t (subst (λ (ts : Terms). i < length ts) e h) (subst (λ (ts : Terms). t ≡ get_or ts i t) e is) k put u
 
-pub stopped : (n : ℕ) (ds : List Dependence) (terms items : Terms) (size : ℕ) (values : List ℤ) (i p : ℕ) (t : ℕ × ℤ) → items ≡ terms → i < length items → t ≡ get_or items i t → p ≡ place n ds t.0
+pub collapse_is_wide : (n : ℕ) (ds : List Dependence) (terms items : Terms) (size : ℕ) (values : List ℤ) (i p : ℕ) (t : ℕ × ℤ) → items ≡ terms → i < length items → t ≡ get_or items i t → p ≡ place n ds t.0
     → ¬ (0 < p → IsWithin (number_at values p +ℤ t.1)) → IsPlacing n ds terms size values i → ¬ (CollapseFits n ds terms)
-stopped n ds terms items size values i p t e h is k wide u =
+collapse_is_wide n ds terms items size values i p t e h is k wide u =
     placing-stops n ds terms size values i p t (subst (λ (ts : Terms). i < length ts) e h) (subst (λ (ts : Terms). t ≡ get_or ts i t) e is) k wide u

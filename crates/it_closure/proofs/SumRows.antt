@@ -18,10 +18,10 @@ pub record IsRowOfSums (n : ℕ) (ds : List Dependence) (terms : Terms) (size : 
 pub row_of_sums : (n : ℕ) (ds : List Dependence) (terms new : Terms) (size : ℕ) (values : List ℤ) → new ≡ terms_from 1 (drop 1 values) → ArePlaced n ds terms (size + 1) values → IsRowOfSums n ds terms size new
 row_of_sums n ds terms new size values e a = rw e (record {
   canonical = row_ascends values a.within;
-  coefficients = same;
-  collapse = λ p z. value_told (terms_from 1 (drop 1 values)) (placed_terms n ds terms) p z same ∙ value-placed n ds terms p;
+  coefficients = same_coefficients;
+  collapse = λ p z. value_told (terms_from 1 (drop 1 values)) (placed_terms n ds terms) p z same_coefficients ∙ value-placed n ds terms p;
   coordinates = row_up_to values size a.complete;
 })
   where
-    same : (c : ℕ) → 0 < c → coefficient (terms_from 1 (drop 1 values)) c ≡ coefficient (placed_terms n ds terms) c
-    same c h = terms_from_one values c h ∙ a.sums c h
+    same_coefficients : (c : ℕ) → 0 < c → coefficient (terms_from 1 (drop 1 values)) c ≡ coefficient (placed_terms n ds terms) c
+    same_coefficients c h = terms_from_one values c h ∙ a.sums c h

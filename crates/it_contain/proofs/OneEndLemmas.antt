@@ -25,18 +25,18 @@ use Rattle.it_contain.specs.Shapes.{shape_of}
 
 -- ---- one goal
 
-heads : (c d : Candidate) (us vs : List Candidate) → c ∷ us ≡ d ∷ vs → c ≡ d
-heads c d us vs e = cc
+same_heads : (c d : Candidate) (us vs : List Candidate) → c ∷ us ≡ d ∷ vs → c ≡ d
+same_heads c d us vs e = cc
 
-tails : (c d : Candidate) (us vs : List Candidate) → c ∷ us ≡ d ∷ vs → us ≡ vs
-tails c d us vs e = cc
+same_tails : (c d : Candidate) (us vs : List Candidate) → c ∷ us ≡ d ∷ vs → us ≡ vs
+same_tails c d us vs e = cc
 
 one_of_list : (goal : Goal) (xs ys us vs : List Candidate) (c d : Candidate) → xs ++ c ∷ us ≡ ys ++ d ∷ vs → All (IsUnproved goal) xs → All (IsUnproved goal) ys → IsProved goal c → IsProved goal d → c ≡ d
-one_of_list goal [] [] us vs c d e a b p q = heads c d us vs e
-one_of_list goal [] (y ∷ ys) us vs c d e a b p q = absurd (All-head (IsUnproved goal) y ys b (subst (IsProved goal) (heads c y us (ys ++ d ∷ vs) e) p))
-one_of_list goal (x ∷ xs) [] us vs c d e a b p q = absurd (All-head (IsUnproved goal) x xs a (subst (IsProved goal) (sym (heads x d (xs ++ c ∷ us) vs e)) q))
+one_of_list goal [] [] us vs c d e a b p q = same_heads c d us vs e
+one_of_list goal [] (y ∷ ys) us vs c d e a b p q = absurd (All-head (IsUnproved goal) y ys b (subst (IsProved goal) (same_heads c y us (ys ++ d ∷ vs) e) p))
+one_of_list goal (x ∷ xs) [] us vs c d e a b p q = absurd (All-head (IsUnproved goal) x xs a (subst (IsProved goal) (sym (same_heads x d (xs ++ c ∷ us) vs e)) q))
 one_of_list goal (x ∷ xs) (y ∷ ys) us vs c d e a b p q =
-    one_of_list goal xs ys us vs c d (tails x y (xs ++ c ∷ us) (ys ++ d ∷ vs) e) (All-tail (IsUnproved goal) x xs a) (All-tail (IsUnproved goal) y ys b) p q
+    one_of_list goal xs ys us vs c d (same_tails x y (xs ++ c ∷ us) (ys ++ d ∷ vs) e) (All-tail (IsUnproved goal) x xs a) (All-tail (IsUnproved goal) y ys b) p q
 
 pub one_first : (goal : Goal) (tries : ℕ) (plan : List Candidate) (c d : Candidate) → IsFirstProved goal tries plan c → IsFirstProved goal tries plan d → c ≡ d
 one_first goal tries plan c d f g = one_of_list goal f.before g.before f.after g.after c d (sym f.parts ∙ g.parts) f.unproved g.unproved f.proved g.proved
@@ -53,10 +53,10 @@ pub one_open : (goal : Goal) (tries : ℕ) (plan : List Candidate) (t u : ℕ) �
 one_open goal tries plan t u o p = o.tried_is ∙ sym p.tried_is
 
 one_proof : (q : ProblemView) (budget : Option ℕ) (target : Terms) (w v : CertificateView) → EndsWith q target budget (Yes w) → EndsWith q target budget (Yes v) → w ≡ v
-one_proof q budget target w v a b = inside (one_outcome q target budget (Yes w) (Yes v) a b)
+one_proof q budget target w v a b = same_certificate (one_outcome q target budget (Yes w) (Yes v) a b)
   where
-    inside : Yes w ≡ Yes v → w ≡ v
-    inside e = cc
+    same_certificate : Yes w ≡ Yes v → w ≡ v
+    same_certificate e = cc
 
 pub one_proof_list : (goal : Goal) (c : Candidate) (ws vs : List CertificateView) → IsProofBy goal c ws → IsProofBy goal c vs → ws ≡ vs
 one_proof_list goal c ws vs a b =
@@ -86,8 +86,8 @@ module _ (q : BodyView) (a b : RegionView) (p r : Pair) (o : IsPairOf q a b p) (
   first_constraints = one_constraint_list r.first.space (question_demands q) p.first.constraints.items r.first.constraints.items
       (subst (λ (x : Space). AreStated x (question_demands q) p.first.constraints.items) first_space o.first) s.first
 
-  own : p.own.items ≡ r.own.items
-  own = one_constraint_list r.space (own_demands q b) p.own.items r.own.items (subst (λ (x : Space). AreStated x (own_demands q b) p.own.items) space o.own) s.own
+  own_constraints : p.own.items ≡ r.own.items
+  own_constraints = one_constraint_list r.space (own_demands q b) p.own.items r.own.items (subst (λ (x : Space). AreStated x (own_demands q b) p.own.items) space o.own) s.own
 
   first_problem : problem_view p.first ≡ problem_view r.first
   first_problem = ap₂ (λ (x : Space) (cs : List Constraint). record { space = x; constraints = cs }) first_space first_constraints
@@ -97,7 +97,7 @@ module _ (q : BodyView) (a b : RegionView) (p r : Pair) (o : IsPairOf q a b p) (
       ap (λ n. obligations_by n p.space.variables p.common (take c.count c.parts) p.own.items) first_variables
       ∙ ap (λ (x : Space). obligations_by r.first.space.variables x.variables p.common (take c.count c.parts) p.own.items) space
       ∙ ap (λ k. obligations_by r.first.space.variables r.space.variables k (take c.count c.parts) p.own.items) (o.common ∙ sym s.common)
-      ∙ ap (λ cs. obligations_by r.first.space.variables r.space.variables r.common (take c.count c.parts) cs) own
+      ∙ ap (λ cs. obligations_by r.first.space.variables r.space.variables r.common (take c.count c.parts) cs) own_constraints
 
   same_fit : (c : Candidate) → FitsPair p c → FitsPair r c
   same_fit c f = record {

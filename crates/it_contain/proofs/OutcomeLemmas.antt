@@ -12,6 +12,7 @@ use Rattle.it_space.specs.Answers.{CertificateView, certificate_view}
 use Rattle.it_space.specs.Problems.{ProblemView}
 use Rattle.it_space.specs.Rows.{Terms}
 use Rattle.it_space.proofs.BoolLemmas.{both_true}
+use Rattle.it_space.proofs.OptionLemmas.{some_same}
 use Rattle.it_prove.specs.ProofViews.{Yes, EndsWith}
 use Rattle.it_contain.specs.declared.outcomes.Outcomes.{Outcomes}
 use Rattle.it_contain.specs.SearchSteps.{ProvesOne, AreOutcomes}
@@ -21,10 +22,10 @@ pub same_outcome : (q : ProblemView) (budget : Option ℕ) (t : Terms) (o p : Op
 same_outcome q budget t None None e h = h
 same_outcome q budget t None (Some c) e h = absurd (cc)
 same_outcome q budget t (Some c) None e h = absurd (cc)
-same_outcome q budget t (Some c) (Some d) e h = subst (λ (w : CertificateView). EndsWith q t budget (Yes w)) (sym (inside e)) h
+same_outcome q budget t (Some c) (Some d) e h = subst (λ (w : CertificateView). EndsWith q t budget (Yes w)) (sym (same_certificate e)) h
   where
-    inside : Some (certificate_view c) ≡ Some (certificate_view d) → certificate_view c ≡ certificate_view d
-    inside e = cc
+    same_certificate : Some (certificate_view c) ≡ Some (certificate_view d) → certificate_view c ≡ certificate_view d
+    same_certificate e = cc
 
 -- ---- equal rows
 
@@ -57,24 +58,21 @@ module _ (q : ProblemView) (budget : Option ℕ) where
   abbrev pub IsKept : Entry → Type 0
   IsKept e = ProvesOne q budget e.0.items e.1
 
-  pub found : (test : Row → Bool) (t : Terms) → ((v : Row) → test v ≡ true → t ≡ v.items) → (es : List Entry) (o : Option Certificate) → All IsKept es → lookup test es ≡ Some o → ProvesOne q budget t o
-  found test t same [] o a e = absurd (cc)
-  found test t same (x ∷ es) o a e = by (λ rest. found test t same es o (All-tail IsKept x es a) rest) (test x.0) refl
+  pub lookup_proves : (test : Row → Bool) (t : Terms) → ((v : Row) → test v ≡ true → t ≡ v.items) → (es : List Entry) (o : Option Certificate) → All IsKept es → lookup test es ≡ Some o → ProvesOne q budget t o
+  lookup_proves test t same [] o a e = absurd (cc)
+  lookup_proves test t same (x ∷ es) o a e = by_test (λ rest. lookup_proves test t same es o (All-tail IsKept x es a) rest) (test x.0) refl
     where
-      by : (lookup test es ≡ Some o → ProvesOne q budget t o) → (b : Bool) → test x.0 ≡ b → ProvesOne q budget t o
-      by later true is = subst (λ (p : Option Certificate). ProvesOne q budget t p) (here (sym (ap (λ b. cond b (Some x.1) (lookup test es)) is) ∙ e)) (subst (λ (u : Terms). ProvesOne q budget u x.1) (sym (same x.0 is)) (All-head IsKept x es a))
-        where
-          here : Some x.1 ≡ Some o → x.1 ≡ o
-          here f = cc
-      by later false is = later (sym (ap (λ b. cond b (Some x.1) (lookup test es)) is) ∙ e)
+      by_test : (lookup test es ≡ Some o → ProvesOne q budget t o) → (b : Bool) → test x.0 ≡ b → ProvesOne q budget t o
+      by_test later true is = subst (λ (p : Option Certificate). ProvesOne q budget t p) (some_same x.1 o (sym (ap (λ b. cond b (Some x.1) (lookup test es)) is) ∙ e)) (subst (λ (u : Terms). ProvesOne q budget u x.1) (sym (same x.0 is)) (All-head IsKept x es a))
+      by_test later false is = later (sym (ap (λ b. cond b (Some x.1) (lookup test es)) is) ∙ e)
 
-  pub kept : (eq : Row → Row → Bool) (v : Row) → ((w : Row) → eq v w ≡ true → v.items ≡ w.items) → (o : Option Certificate) (es : List Entry) → All IsKept es → ProvesOne q budget v.items o → All IsKept (insert_entry eq es v o)
-  kept eq v same o [] a h = All-cons IsKept (v, o) [] h (All-nil IsKept)
-  kept eq v same o (x ∷ es) a h = by (kept eq v same o es (All-tail IsKept x es a) h) (eq v x.0) refl
+  pub entries_stay_kept : (eq : Row → Row → Bool) (v : Row) → ((w : Row) → eq v w ≡ true → v.items ≡ w.items) → (o : Option Certificate) (es : List Entry) → All IsKept es → ProvesOne q budget v.items o → All IsKept (insert_entry eq es v o)
+  entries_stay_kept eq v same o [] a h = All-cons IsKept (v, o) [] h (All-nil IsKept)
+  entries_stay_kept eq v same o (x ∷ es) a h = by_test (entries_stay_kept eq v same o es (All-tail IsKept x es a) h) (eq v x.0) refl
     where
-      by : All IsKept (insert_entry eq es v o) → (b : Bool) → eq v x.0 ≡ b → All IsKept (if eq v x.0 then (x.0, o) ∷ es else x ∷ insert_entry eq es v o)
-      by later true is = subst (λ (b : Bool). All IsKept (if b then (x.0, o) ∷ es else x ∷ insert_entry eq es v o)) (sym is) (All-cons IsKept (x.0, o) es (subst (λ (u : Terms). ProvesOne q budget u o) (same x.0 is) h) (All-tail IsKept x es a))
-      by later false is = subst (λ (b : Bool). All IsKept (if b then (x.0, o) ∷ es else x ∷ insert_entry eq es v o)) (sym is) (All-cons IsKept x (insert_entry eq es v o) (All-head IsKept x es a) later)
+      by_test : All IsKept (insert_entry eq es v o) → (b : Bool) → eq v x.0 ≡ b → All IsKept (if eq v x.0 then (x.0, o) ∷ es else x ∷ insert_entry eq es v o)
+      by_test later true is = subst (λ (b : Bool). All IsKept (if b then (x.0, o) ∷ es else x ∷ insert_entry eq es v o)) (sym is) (All-cons IsKept (x.0, o) es (subst (λ (u : Terms). ProvesOne q budget u o) (same x.0 is) h) (All-tail IsKept x es a))
+      by_test later false is = subst (λ (b : Bool). All IsKept (if b then (x.0, o) ∷ es else x ∷ insert_entry eq es v o)) (sym is) (All-cons IsKept x (insert_entry eq es v o) (All-head IsKept x es a) later)
 
 -- ---- of all outcomes
 
@@ -86,9 +84,9 @@ pub one_outcome_more : (q : ProblemView) (budget : Option ℕ) (eq : ℕ × ℤ 
     → n.by_row.entries ≡ insert_entry (λ x y. pointwise eq x.items y.items) m.by_row.entries v o → AreOutcomes q budget m → ProvesOne q budget v.items o → AreOutcomes q budget n
 unfolding AreOutcomes
 one_outcome_more q budget eq is m n v o e r h =
-    subst (λ (es : List Entry). All (λ x. ProvesOne q budget x.0.items x.1) es) (sym e) (kept q budget (λ x y. pointwise eq x.items y.items) v (λ w t. same_terms eq is v.items w.items t) o m.by_row.entries r h)
+    subst (λ (es : List Entry). All (λ x. ProvesOne q budget x.0.items x.1) es) (sym e) (entries_stay_kept q budget (λ x y. pointwise eq x.items y.items) v (λ w t. same_terms eq is v.items w.items t) o m.by_row.entries r h)
 
 pub outcome_of_row : (q : ProblemView) (budget : Option ℕ) (eq : ℕ × ℤ → ℕ × ℤ → Bool) → ComparesTerms eq → (m : Outcomes) (t : Terms) (o : Option Certificate)
     → Some o ≡ lookup (λ v. pointwise eq t v.items) m.by_row.entries → AreOutcomes q budget m → ProvesOne q budget t o
 unfolding AreOutcomes
-outcome_of_row q budget eq is m t o e r = found q budget (λ v. pointwise eq t v.items) t (λ v h. same_terms eq is t v.items h) m.by_row.entries o r (sym e)
+outcome_of_row q budget eq is m t o e r = lookup_proves q budget (λ v. pointwise eq t v.items) t (λ v h. same_terms eq is t v.items h) m.by_row.entries o r (sym e)

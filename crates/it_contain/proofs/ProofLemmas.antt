@@ -25,16 +25,16 @@ not_due q t budget o e n w p = n w (one_outcome q t budget o (Yes w) e p)
 
 module _ (q : ProblemView) (t : Terms) (budget : Option ℕ) (p : Proof) (end : EndsWith q t budget (proof_view p)) where
   pub no_proves : (values : List ℤ) → p ≡ proofs.No values → ProvesOne q budget t None
-  no_proves values is = not_due q t budget (proof_view p) end (λ v e. apart v (sym (ap proof_view is) ∙ e))
+  no_proves values is = not_due q t budget (proof_view p) end (λ v e. no_not_yes v (sym (ap proof_view is) ∙ e))
     where
-      apart : (v : CertificateView) → No values ≡ Yes v → ⊥
-      apart v e = absurd (cc)
+      no_not_yes : (v : CertificateView) → No values ≡ Yes v → ⊥
+      no_not_yes v e = absurd (cc)
 
   pub undecided_proves : (cause : Cause) → p ≡ proofs.Undecided cause → ProvesOne q budget t None
-  undecided_proves cause is = not_due q t budget (proof_view p) end (λ v e. apart v (sym (ap proof_view is) ∙ e))
+  undecided_proves cause is = not_due q t budget (proof_view p) end (λ v e. undecided_not_yes v (sym (ap proof_view is) ∙ e))
     where
-      apart : (v : CertificateView) → Undecided cause ≡ Yes v → ⊥
-      apart v e = absurd (cc)
+      undecided_not_yes : (v : CertificateView) → Undecided cause ≡ Yes v → ⊥
+      undecided_not_yes v e = absurd (cc)
 
 -- ---- all targets
 
@@ -47,14 +47,14 @@ pub proofs_more : (q : ProblemView) (budget : Option ℕ) (ts : List Terms) (old
 proofs_more q budget ts old new i t c l is p e u = record {
   all = λ more a.
       let here : drop i ts ≡ t ∷ drop (i + 1) ts = drop_item ts i t l is in
-      let pushed : proof_views new ≡ proof_views old ++ certificate_view c ∷ [] = ap (λ (cs : List Certificate). map certificate_view cs) e ∙ mapped old.items in
+      let pushed : proof_views new ≡ proof_views old ++ certificate_view c ∷ [] = ap (λ (cs : List Certificate). map certificate_view cs) e ∙ views_with_last old.items in
       subst (λ (ws : List CertificateView). AreProofsOf q budget ts ws) (sym (ap (λ (ws : List CertificateView). ws ++ more) pushed ∙ append_assoc (proof_views old) (certificate_view c ∷ []) more))
       (u.all (certificate_view c ∷ more) (subst (λ (xs : List Terms). AreProofsOf q budget xs (certificate_view c ∷ more)) (sym here) (p, a)));
 }
   where
-    mapped : (cs : List Certificate) → map certificate_view (cs ++ c ∷ []) ≡ map certificate_view cs ++ certificate_view c ∷ []
-    mapped [] = refl
-    mapped (x ∷ xs) = ap (λ (ws : List CertificateView). certificate_view x ∷ ws) (mapped xs)
+    views_with_last : (cs : List Certificate) → map certificate_view (cs ++ c ∷ []) ≡ map certificate_view cs ++ certificate_view c ∷ []
+    views_with_last [] = refl
+    views_with_last (x ∷ xs) = ap (λ (ws : List CertificateView). certificate_view x ∷ ws) (views_with_last xs)
 
 pub proofs_end : (q : ProblemView) (budget : Option ℕ) (ts : List Terms) (found : List CertificateView) (i : ℕ) → length ts ≤ i → AreUnderWay q budget ts found i → AreProofsOf q budget ts found
 proofs_end q budget ts found i l u = subst (λ (ws : List CertificateView). AreProofsOf q budget ts ws) (append-nil found) (u.all [] (subst (λ (xs : List Terms). AreProofsOf q budget xs []) (sym (drop_all i ts l)) tt))
@@ -75,8 +75,8 @@ pub not_fitting : (goal : Goal) (c : Candidate) → (FitsPair goal.pair c → �
 unfolding IsProved
 not_fitting goal c n p = n p.1.fits
 
-pub judges : (goal : Goal) (c : Candidate) (rows : List Terms) (o : Option Proofs) → FitsPair goal.pair c → ArePulledRows goal.pair.first.space (pair_obligations goal.pair c) rows → ProvesAll (problem_view goal.pair.first) goal.budget rows o → Judges goal c o
+pub proofs_judge : (goal : Goal) (c : Candidate) (rows : List Terms) (o : Option Proofs) → FitsPair goal.pair c → ArePulledRows goal.pair.first.space (pair_obligations goal.pair c) rows → ProvesAll (problem_view goal.pair.first) goal.budget rows o → Judges goal c o
 unfolding IsProved IsProof
-judges goal c rows (Some w) f a p = record { fits = f; rows = rows; are = a; proofs = p }
-judges goal c rows None f a n = λ x.
+proofs_judge goal c rows (Some w) f a p = record { fits = f; rows = rows; are = a; proofs = p }
+proofs_judge goal c rows None f a n = λ x.
     n x.0 (subst (λ (ts : List Terms). AreProofsOf (problem_view goal.pair.first) goal.budget ts x.0) (pulled_rows_told goal.pair.first.space (pair_obligations goal.pair c) x.1.rows rows x.1.are a) x.1.proofs)

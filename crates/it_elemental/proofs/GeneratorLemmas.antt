@@ -17,23 +17,20 @@ use Rattle.it_elemental.proofs.PlaceLemmas.{length-elementals, is_elemental}
 use Rattle.it_elemental.proofs.RowLemmas.{within-row}
 use Rattle.it_elemental.specs.Generators.{Generator, of_elemental, of_constraint, generator_list, generator_at}
 
-none : Generator
-none = record { kind = Inequality; row = [] }
-
 pub length-listed : (n : ℕ) (cs : List Constraint) → length (generator_list n cs) ≡ length (elementals n) + length cs
 unfolding generator_list
 length-listed n cs = simp (length-append, length-map)
 
-pub front : (n : ℕ) (cs : List Constraint) (i : ℕ) → i < length (elementals n) → generator_at (generator_list n cs) i ≡ of_elemental n (elemental_at n i)
+pub front_is_elemental : (n : ℕ) (cs : List Constraint) (i : ℕ) → i < length (elementals n) → generator_at (generator_list n cs) i ≡ of_elemental n (elemental_at n i)
 unfolding generator_list
-front n cs i h =
+front_is_elemental n cs i h =
     get_or_append_left (map (of_elemental n) (elementals n)) (map of_constraint cs) (record { kind = Inequality; row = [] }) i (simp length-map h)
     ∙ get_or-map (of_elemental n) (elementals n) i (Conditional 0) (record { kind = Inequality; row = [] }) h
 
-pub behind : (n : ℕ) (cs : List Constraint) (i : ℕ) (d : Constraint) → length (elementals n) ≤ i → i < length (generator_list n cs)
+pub behind_is_constraint : (n : ℕ) (cs : List Constraint) (i : ℕ) (d : Constraint) → length (elementals n) ≤ i → i < length (generator_list n cs)
     → generator_at (generator_list n cs) i ≡ of_constraint (get_or cs (i - length (elementals n)) d)
 unfolding generator_list
-behind n cs i d h l =
+behind_is_constraint n cs i d h l =
     get_or-append_right (map (of_elemental n) (elementals n)) (map of_constraint cs) (length (elementals n)) i (record { kind = Inequality; row = [] }) (simp length-map) h
     ∙ get_or-map of_constraint cs (i - length (elementals n)) d (record { kind = Inequality; row = [] }) (omega (arith, length-listed n cs, l))
 
@@ -49,21 +46,21 @@ few_elementals n h =
     product a b c d h k = native.Mathlib.Nat.mul-le-mul h k
 
 -- past the last coordinate a row has no coefficient
-pub beyond : (size : ℕ) (ts : Terms) (c : ℕ) → IsUpTo size ts → size < c → coefficient ts c ≡ pos 0
-beyond size [] c u h = refl
-beyond size (t ∷ ts) c u h =
-    other_is t ts c (λ e. omega (arith, (All-head (λ (t : ℕ × ℤ). (1 ≤ t.0) × (t.0 ≤ size)) t ts u).1)) ∙ beyond size ts c (All-tail (λ (t : ℕ × ℤ). (1 ≤ t.0) × (t.0 ≤ size)) t ts u) h
+pub no_coefficient_beyond : (size : ℕ) (ts : Terms) (c : ℕ) → IsUpTo size ts → size < c → coefficient ts c ≡ pos 0
+no_coefficient_beyond size [] c u h = refl
+no_coefficient_beyond size (t ∷ ts) c u h =
+    other_is t ts c (λ e. omega (arith, (All-head (λ (t : ℕ × ℤ). (1 ≤ t.0) × (t.0 ≤ size)) t ts u).1)) ∙ no_coefficient_beyond size ts c (All-tail (λ (t : ℕ × ℤ). (1 ≤ t.0) × (t.0 ≤ size)) t ts u) h
 
 -- the same as code reads them, with the count of the elemental inequalities and the constraint that it found
 pub front_is : (n : ℕ) (cs : List Constraint) (i k : ℕ) → k ≡ length (elementals n) → i < k → generator_at (generator_list n cs) i ≡ of_elemental n (elemental_at n i)
-front_is n cs i k e h = front n cs i (omega (arith, e))
+front_is n cs i k e h = front_is_elemental n cs i (omega (arith, e))
 
 pub behind_is : (n : ℕ) (cs : List Constraint) (i k : ℕ) (d : Constraint) → k ≡ length (elementals n) → k ≤ i → i < length (generator_list n cs)
     → d ≡ get_or cs (i - k) d → generator_at (generator_list n cs) i ≡ of_constraint d
-behind_is n cs i k d e h l is = behind n cs i d (omega (arith, e)) l ∙ ap of_constraint (ap (λ k. get_or cs (i - k) d) (sym e) ∙ sym is)
+behind_is n cs i k d e h l is = behind_is_constraint n cs i d (omega (arith, e)) l ∙ ap of_constraint (ap (λ k. get_or cs (i - k) d) (sym e) ∙ sym is)
 
-wider : (n m : ℕ) (row : Terms) → n ≤ m → IsUpTo n row → IsUpTo m row
-wider n m row h u i d l = let k = u i d l in (k.0, omega (arith, k.1))
+up_to_greater : (n m : ℕ) (row : Terms) → n ≤ m → IsUpTo n row → IsUpTo m row
+up_to_greater n m row h u i d l = let k = u i d l in (k.0, omega (arith, k.1))
 
 -- the rows of the generators are of the space
 pub rows_of_space : (n : ℕ) (size : ℕ) (cs : List Constraint) → 2 ^ n ≤ size + 1 → All (λ c. IsUpTo size c.row) cs → Every (λ g. IsUpTo size g.row) (generator_list n cs)
@@ -71,7 +68,7 @@ unfolding generator_list
 rows_of_space n size cs h a = every-append (λ (g : Generator). IsUpTo size g.row) (map (of_elemental n) (elementals n)) (map of_constraint cs)
     (every-map (λ (g : Generator). IsUpTo size g.row) (of_elemental n) (elementals n) (every_of (λ e. IsUpTo size (elemental_row n e)) (elementals n)
     (λ i d l. let same : get_or (elementals n) i (Conditional 0) ≡ get_or (elementals n) i d = get_or_default (elementals n) i (Conditional 0) d l in
-    wider (2 ^ n - 1) size (elemental_row n (get_or (elementals n) i d)) (omega arith) (subst (λ e. IsUpTo (2 ^ n - 1) (elemental_row n e)) same (within-row n (get_or (elementals n) i (Conditional 0)) (is_elemental n i l))))))
+    up_to_greater (2 ^ n - 1) size (elemental_row n (get_or (elementals n) i d)) (omega arith) (subst (λ e. IsUpTo (2 ^ n - 1) (elemental_row n e)) same (within-row n (get_or (elementals n) i (Conditional 0)) (is_elemental n i l))))))
     (every-map (λ (g : Generator). IsUpTo size g.row) of_constraint cs (every_of (λ (c : Constraint). IsUpTo size c.row) cs a))
 
 -- what holds of each item holds at each place, where it holds of what is read past the end

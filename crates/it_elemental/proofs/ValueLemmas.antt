@@ -32,8 +32,8 @@ pub mutual_value : (values : List ℤ) (n i j k : ℕ) (r : Result ℤ WideNumbe
     → OkIff r (AlternatingFits a b c d) (((b -ℤ a) +ℤ c) -ℤ d) → OkIff r (ValueFits (elemental_row n (Mutual i j k)) (map_of values)) (value (elemental_row n (Mutual i j k)) (map_of values))
 mutual_value values n i j k r a b c d w p q s u o =
     ok_iff-same r (ValueFits (elemental_row n (Mutual i j k)) (map_of values)) (AlternatingFits a b c d) _ _
-    (rw (p, q, s, u) (mutual_fits n i j k (map_of values) refl (point_within values w))) (sym (value-row n (Mutual i j k) (map_of values) refl ∙ turned a b c d p q s u)) o
+    (rw (p, q, s, u) (mutual_fits n i j k (map_of values) refl (point_within values w))) (sym (value-row n (Mutual i j k) (map_of values) refl ∙ alternating_value a b c d p q s u)) o
   where
-    turned : (a b c d : ℤ) → a ≡ map_of values k → b ≡ map_of values (k + 2 ^ i) → c ≡ map_of values (k + 2 ^ j) → d ≡ map_of values (k + 2 ^ i + 2 ^ j)
+    alternating_value : (a b c d : ℤ) → a ≡ map_of values k → b ≡ map_of values (k + 2 ^ i) → c ≡ map_of values (k + 2 ^ j) → d ≡ map_of values (k + 2 ^ i + 2 ^ j)
         → elemental_value n (map_of values) (Mutual i j k) ≡ ((b -ℤ a) +ℤ c) -ℤ d
-    turned a b c d p q s u = omega (arith, ints, p, q, s, u)
+    alternating_value a b c d p q s u = omega (arith, ints, p, q, s, u)

@@ -12,20 +12,20 @@ unfolding cancelled_row times_up times_down gcd gcd_within
 cancelled_rows = refl
 
 -- U, X, Y are 1, 2, 4; R, Rc, Rp are at 8, 9, 10
-m : ℤ
-m = negsuc 0
+minus_one : ℤ
+minus_one = negsuc 0
 
-o : ℤ
-o = pos 1
+plus_one : ℤ
+plus_one = pos 1
 
 start : List Terms
-start = ((9, o) ∷ []) ∷ ((10, o) ∷ []) ∷ ((1, o) ∷ (4, o) ∷ (5, m) ∷ (9, m) ∷ []) ∷ ((1, m) ∷ (3, o) ∷ (5, o) ∷ (7, m) ∷ (10, m) ∷ [])
-    ∷ ((8, o) ∷ (9, m) ∷ (10, m) ∷ []) ∷ ((8, m) ∷ (9, o) ∷ (10, o) ∷ []) ∷ []
+start = ((9, plus_one) ∷ []) ∷ ((10, plus_one) ∷ []) ∷ ((1, plus_one) ∷ (4, plus_one) ∷ (5, minus_one) ∷ (9, minus_one) ∷ []) ∷ ((1, minus_one) ∷ (3, plus_one) ∷ (5, plus_one) ∷ (7, minus_one) ∷ (10, minus_one) ∷ [])
+    ∷ ((8, plus_one) ∷ (9, minus_one) ∷ (10, minus_one) ∷ []) ∷ ((8, minus_one) ∷ (9, plus_one) ∷ (10, plus_one) ∷ []) ∷ []
 
 -- I(U;Y), I(X;Y|U), R, I(X;Y|U) + I(U;Y) - R
 region : List Terms
-region = ((1, o) ∷ (4, o) ∷ (5, m) ∷ []) ∷ ((1, m) ∷ (3, o) ∷ (5, o) ∷ (7, m) ∷ []) ∷ ((8, o) ∷ []) ∷ ((3, o) ∷ (4, o) ∷ (7, m) ∷ (8, m) ∷ []) ∷ []
+region = ((1, plus_one) ∷ (4, plus_one) ∷ (5, minus_one) ∷ []) ∷ ((1, minus_one) ∷ (3, plus_one) ∷ (5, plus_one) ∷ (7, minus_one) ∷ []) ∷ ((8, plus_one) ∷ []) ∷ ((3, plus_one) ∷ (4, plus_one) ∷ (7, minus_one) ∷ (8, minus_one) ∷ []) ∷ []
 
-eliminated : next_list 10 (next_list 9 (ordered_rows start)) ≡ region
-unfolding results cancelled_row lowest_terms times_up times_down gcd gcd_within start region m o
-eliminated = refl
+elimination_is : next_list 10 (next_list 9 (ordered_rows start)) ≡ region
+unfolding results cancelled_row lowest_terms times_up times_down gcd gcd_within start region minus_one plus_one
+elimination_is = refl

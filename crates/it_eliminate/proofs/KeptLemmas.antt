@@ -1,26 +1,17 @@
 -- Rows kept up to a number of them, row after row.
-use Rattle.std.proofs.Common.{◌≡◌, inl, ◌↔◌, ℕ, ◌+◌, ◌<◌, ◌≤◌, pos, refl, sym, ap, ap₂, subst, arith, List, [], ◌∷◌, ◌++◌, map, length, drop, get_or, Bool, true, false, cond, if◌then◌else◌}
-use Rattle.std.specs.List.{list_any, flat_map, AllByRecursion as Every}
+use Rattle.std.proofs.Common.{◌≡◌, inl, ◌↔◌, ℕ, ◌+◌, ◌<◌, pos, refl, sym, ap, ap₂, subst, List, [], ◌∷◌, ◌++◌, map, length, drop, get_or, Bool, true, false, cond, if◌then◌else◌}
+use Rattle.std.specs.List.{flat_map, AllByRecursion as Every}
 use Rattle.std.specs.Prelude.{filter}
-use Rattle.std.proofs.lemmas.List.{length-append}
 use Rattle.it_space.proofs.ListLemmas.{drop_item}
 use Rattle.it_space.specs.Rows.{Terms, IsCanonical, coefficient}
 use Rattle.it_space.specs.Divisors.{lowest_terms}
 use Rattle.it_space.specs.Cancelling.{cancelled_row}
 use Rattle.it_eliminate.proofs.MemberLemmas.{every_member, member_every}
 use Rattle.it_eliminate.proofs.StepLemmas.{test_from_zero}
-use Rattle.it_eliminate.specs.Elimination.{is_same, with_row, with_lowest_rows, is_positive_at, is_negative_at, is_zero_at, pairs_of, results, next_list, PairsFit}
+use Rattle.it_eliminate.specs.Elimination.{with_row, with_lowest_rows, is_positive_at, is_negative_at, is_zero_at, pairs_of, results, next_list, PairsFit}
 use Rattle.it_eliminate.specs.Gathering.{flat_of, pair_of, up_pairs, DownFits, UpFits, IsKeptList, Gathers}
 
 -- ---- one row
-
-longer : (rows : List Terms) (row : Terms) → length rows ≤ length (with_row rows row)
-longer rows [] = omega arith
-longer rows (t ∷ ts) = by_test (list_any (is_same (t ∷ ts)) rows)
-  where
-    by_test : (b : Bool) → length rows ≤ length (if b then rows else rows ++ (t ∷ ts) ∷ [])
-    by_test true = omega arith
-    by_test false = omega (arith, length-append rows ((t ∷ ts) ∷ []))
 
 -- ---- many rows
 
@@ -47,11 +38,11 @@ abbrev pub Rests : (Terms → Type 0) → List Terms → ℕ → Type 0
 Rests P rows i = Every P (drop i rows) ↔ Every P rows
 
 module _ (P : Terms → Type 0) (rows : List Terms) (i : ℕ) (row : Terms) (h : i < length rows) (e : row ≡ get_or rows i row) where
-  here : drop i rows ≡ row ∷ drop (i + 1) rows
-  here = drop_item rows i row h e
+  row_is_first : drop i rows ≡ row ∷ drop (i + 1) rows
+  row_is_first = drop_item rows i row h e
 
   pub rests_more : P row → Rests P rows i → Rests P rows (i + 1)
-  rests_more p r = (λ a. r.0 (subst (λ (rs : List Terms). Every P rs) (sym here) (p, a)), λ a. (subst (λ (rs : List Terms). Every P rs) here (r.1 a)).1)
+  rests_more p r = (λ a. r.0 (subst (λ (rs : List Terms). Every P rs) (sym row_is_first) (p, a)), λ a. (subst (λ (rs : List Terms). Every P rs) row_is_first (r.1 a)).1)
 
 -- ---- the list of results, row by row
 

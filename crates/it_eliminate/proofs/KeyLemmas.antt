@@ -1,5 +1,5 @@
 -- The keys of an index set of rows: what inserting a row makes of them.
-use Rattle.std.proofs.Common.{◌≡◌, ◌≢◌, ℕ, ◌+◌, ℤ, refl, sym, ap, ap₂, ◌∙◌, List, [], ◌∷◌, ◌++◌, Bool, true, false, ◌&&◌, ◌||◌, nat_eq, Vec, Global, if◌then◌else◌}
+use Rattle.std.proofs.Common.{◌≡◌, ◌≢◌, ℕ, ℤ, refl, sym, ap, ap₂, ◌∙◌, List, [], ◌∷◌, ◌++◌, Bool, true, false, ◌&&◌, ◌||◌, nat_eq, Vec, Global, if◌then◌else◌}
 use Rattle.std.specs.List.{list_any}
 use Rattle.std.specs.Ordering.{int_eq}
 use Rattle.std.specs.Cmp.Lexicographic.{pointwise}
@@ -22,14 +22,14 @@ any_by eq h row [] = refl
 any_by eq h row (v ∷ vs) = ap₂ (λ a b. a || b) (same_by eq h row v.items) (any_by eq h row vs)
 
 -- what inserting a row that isn't zero makes of the keys
-pub inserted : (eq : ℕ × ℤ → ℕ × ℤ → Bool) → ComparesTerms eq → (old new : List (Vec (ℕ × ℤ) Global)) (v : Vec (ℕ × ℤ) Global) → v.items ≢ []
+pub keys_with_row : (eq : ℕ × ℤ → ℕ × ℤ → Bool) → ComparesTerms eq → (old new : List (Vec (ℕ × ℤ) Global)) (v : Vec (ℕ × ℤ) Global) → v.items ≢ []
     → new ≡ (if list_any (λ w. pointwise eq v.items w.items) old then old else old ++ v ∷ []) → rows_of new ≡ with_row (rows_of old) v.items
-inserted eq h old new v n e = ap rows_of e ∙ ap (λ b. rows_of (if b then old else old ++ v ∷ [])) (any_by eq h v.items old) ∙ by v.items n refl
+keys_with_row eq h old new v n e = ap rows_of e ∙ ap (λ b. rows_of (if b then old else old ++ v ∷ [])) (any_by eq h v.items old) ∙ by_list v.items n refl
   where
     by_test : (b : Bool) → rows_of (if b then old else old ++ v ∷ []) ≡ (if b then rows_of old else rows_of old ++ v.items ∷ [])
     by_test true = refl
     by_test false = map-append (λ (w : Vec (ℕ × ℤ) Global). w.items) old (v ∷ [])
 
-    by : (row : Terms) → row ≢ [] → row ≡ v.items → rows_of (if list_any (is_same v.items) (rows_of old) then old else old ++ v ∷ []) ≡ with_row (rows_of old) row
-    by [] n e = absurd (n refl)
-    by (t ∷ ts) n e = by_test (list_any (is_same v.items) (rows_of old)) ∙ ap (λ r. if list_any (is_same r) (rows_of old) then rows_of old else rows_of old ++ r ∷ []) (sym e)
+    by_list : (row : Terms) → row ≢ [] → row ≡ v.items → rows_of (if list_any (is_same v.items) (rows_of old) then old else old ++ v ∷ []) ≡ with_row (rows_of old) row
+    by_list [] n e = absurd (n refl)
+    by_list (t ∷ ts) n e = by_test (list_any (is_same v.items) (rows_of old)) ∙ ap (λ r. if list_any (is_same r) (rows_of old) then rows_of old else rows_of old ++ r ∷ []) (sym e)

@@ -1,11 +1,9 @@
 -- Members of lists, and what holds of each item.
-use Rattle.std.proofs.Common.{◌≡◌, ◌⊎◌, inl, inr, ⊎_elim, refl, sym, ap, subst, ◌∙◌, arith, List, [], ◌∷◌, ◌++◌, Bool, true, false, cond}
+use Rattle.std.proofs.Common.{◌≡◌, ◌⊎◌, inl, inr, ⊎_elim, refl, sym, ap, subst, ◌∙◌, List, [], ◌∷◌, ◌++◌, Bool, true, false, cond}
 use Rattle.std.specs.List.{flat_map, AllByRecursion as Every}
 use Rattle.std.specs.Prelude.{filter, map}
+use Rattle.std.proofs.lemmas.Bool.{false≢true}
 use Rattle.it_eliminate.specs.Elimination.{Member}
-
-pub not_true : false ≡ true → ⊥
-not_true e = grind arith
 
 -- ---- what holds of each item
 
@@ -50,7 +48,7 @@ member-filter test x (z ∷ xs) (inl e) t = by_test (test z) (ap test (sym e) �
   where
     by_test : (b : Bool) → b ≡ true → Member x (cond b (z ∷ filter test xs) (filter test xs))
     by_test true r = inl e
-    by_test false r = absurd (not_true r)
+    by_test false r = absurd (false≢true r)
 member-filter test x (z ∷ xs) (inr m) t = by_test (test z) (member-filter test x xs m t)
   where
     by_test : (b : Bool) → Member x (filter test xs) → Member x (cond b (z ∷ filter test xs) (filter test xs))

@@ -3,14 +3,15 @@ use Rattle.std.proofs.Common.{◌≡◌, ◌⊎◌, inl, inr, ◌↔◌, ℕ, ze
 use Rattle.std.specs.List.{list_any, AllByRecursion as Every}
 use Rattle.std.specs.Ordering.{int_eq}
 use Rattle.std.proofs.lemmas.Int.{ints}
+use Rattle.std.proofs.lemmas.Bool.{false≢true, eqb-true}
 use Rattle.it_number.specs.Division.{int_quotient}
 use Rattle.it_space.specs.Rows.{Terms, coefficient, value, HaveOneSign, one_at}
 use Rattle.it_space.specs.Divisors.{content, divided_terms, lowest_terms}
 use Rattle.it_space.proofs.Contents.{DividesAll, content_divides, divided_value, one_sign}
-use Rattle.it_space.proofs.TermLemmas.{value-one_at, same_number}
+use Rattle.it_space.proofs.TermLemmas.{value-one_at}
 use Rattle.it_eliminate.specs.Elimination.{is_same, with_row, with_lowest_rows, ordered_rows, Member}
 use Rattle.it_eliminate.specs.Projections.{In, Lacks}
-use Rattle.it_eliminate.proofs.MemberLemmas.{not_true, every_member}
+use Rattle.it_eliminate.proofs.MemberLemmas.{every_member}
 use Rattle.it_space.proofs.EveryLemmas.{every-append, every_front, every_back}
 
 -- ---- lowest terms
@@ -55,22 +56,22 @@ every-with_row P rows (t ∷ ts) h a = by_test (list_any (is_same (t ∷ ts)) ro
 
 pub same_rows : (xs ys : Terms) → is_same xs ys ≡ true → xs ≡ ys
 same_rows [] [] e = refl
-same_rows [] (y ∷ ys) e = absurd (not_true e)
-same_rows (x ∷ xs) [] e = absurd (not_true e)
-same_rows (x ∷ xs) (y ∷ ys) e = by_test (nat_eq x.0 y.0) (int_eq x.1 y.1) (is_same xs ys) e (same_number x.0 y.0) (int_same x.1 y.1) (same_rows xs ys)
+same_rows [] (y ∷ ys) e = absurd (false≢true e)
+same_rows (x ∷ xs) [] e = absurd (false≢true e)
+same_rows (x ∷ xs) (y ∷ ys) e = by_test (nat_eq x.0 y.0) (int_eq x.1 y.1) (is_same xs ys) e (eqb-true x.0 y.0) (int_same x.1 y.1) (same_rows xs ys)
   where
     int_same : (a b : ℤ) → int_eq a b ≡ true → a ≡ b
     int_same a b h = grind (arith, ints)
 
     by_test : (a b c : Bool) → ((a && b) && c) ≡ true → (a ≡ true → x.0 ≡ y.0) → (b ≡ true → x.1 ≡ y.1) → (c ≡ true → xs ≡ ys) → x ∷ xs ≡ y ∷ ys
     by_test true true true h f g k = ap₂ (λ (t : ℕ × ℤ) (ts : Terms). t ∷ ts) (ap₂ (λ (n : ℕ) (z : ℤ). let q : ℕ × ℤ = (n, z) in q) (f refl) (g refl)) (k refl)
-    by_test true true false h f g k = absurd (not_true h)
-    by_test true false c h f g k = absurd (not_true h)
-    by_test false b c h f g k = absurd (not_true h)
+    by_test true true false h f g k = absurd (false≢true h)
+    by_test true false c h f g k = absurd (false≢true h)
+    by_test false b c h f g k = absurd (false≢true h)
 
 -- where a test finds one of the rows, it is there
 pub found_member : (row : Terms) (rows : List Terms) → list_any (is_same row) rows ≡ true → Member row rows
-found_member row [] e = absurd (not_true e)
+found_member row [] e = absurd (false≢true e)
 found_member row (r ∷ rows) e = by_test (is_same row r) e (same_rows row r) (found_member row rows)
   where
     by_test : (b : Bool) → (b || list_any (is_same row) rows) ≡ true → (b ≡ true → row ≡ r) → (list_any (is_same row) rows ≡ true → Member row rows) → (row ≡ r) ⊎ Member row rows
@@ -107,10 +108,10 @@ pub lacks_lowest : (at : ℕ) (row : Terms) → coefficient row at ≡ pos 0 →
 lacks_lowest at row e =
     let signs = lowest_signs row (one_at at) in
     let is : value row (one_at at) ≡ pos 0 = value-one_at row at ∙ e in
-    sym (value-one_at (lowest_terms row) at) ∙ both (value (lowest_terms row) (one_at at)) (signs.positive.0 (omega (arith, ints, is))) (signs.negative.0 (omega (arith, ints, is)))
+    sym (value-one_at (lowest_terms row) at) ∙ number_is_zero (value (lowest_terms row) (one_at at)) (signs.positive.0 (omega (arith, ints, is))) (signs.negative.0 (omega (arith, ints, is)))
   where
-    both : (z : ℤ) → pos 0 ≤ℤ z → z ≤ℤ pos 0 → z ≡ pos 0
-    both z a b = omega (arith, ints)
+    number_is_zero : (z : ℤ) → pos 0 ≤ℤ z → z ≤ℤ pos 0 → z ≡ pos 0
+    number_is_zero z a b = omega (arith, ints)
 
 pub lacks-with_lowest_rows : (at : ℕ) (before rows : List Terms) → Lacks at before → Lacks at rows → Lacks at (with_lowest_rows before rows)
 lacks-with_lowest_rows at before [] a b = a

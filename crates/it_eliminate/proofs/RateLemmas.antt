@@ -1,12 +1,12 @@
 -- All listed rates: no row has one of them, and a point is kept exactly where it extends to them.
-use Rattle.std.proofs.Common.{◌≡◌, ◌≢◌, ◌⊎◌, inl, inr, ⊎_elim, ◌↔◌, ℕ, zero, suc, ◌*◌, ◌≤◌, ℤ, pos, ◌+ℤ◌, ◌*ℤ◌, ◌≤ℤ◌, refl, sym, ap, subst, ◌∙◌, arith, List, [], ◌∷◌, Bool, true, false, cond, nat_eq}
+use Rattle.std.proofs.Common.{◌≡◌, ◌≢◌, ◌⊎◌, inl, inr, ⊎_elim, ◌↔◌, ℕ, zero, suc, ◌*◌, ◌≤◌, ℤ, pos, ◌+ℤ◌, ◌*ℤ◌, ◌≤ℤ◌, refl, sym, ap, subst, ◌∙◌, arith, List, [], ◌∷◌, Bool, true, false, cond, nat_eq, ne_eqb}
 use Rattle.std.proofs.lemmas.Int.{ints}
-use Rattle.std.proofs.lemmas.Bool.Decides.{nat_tests}
+use Rattle.std.proofs.lemmas.Bool.{eqb-false, eqb-true}
 use Rattle.it_number.proofs.Integers.{mul_assoc, zring}
-use Rattle.it_eliminate.proofs.FurthestBounds.{uncancel}
+use Rattle.it_number.proofs.SignLemmas.{least_by_multiple}
 use Rattle.it_space.specs.Rows.{Terms, coefficient, value}
 use Rattle.it_space.specs.Cancelling.{times_up, times_down}
-use Rattle.it_space.proofs.TermLemmas.{coefficient-cancelled_row, same_number}
+use Rattle.it_space.proofs.TermLemmas.{coefficient-cancelled_row}
 use Rattle.it_eliminate.proofs.OrderLemmas.{in-ordered_rows, lacks-with_lowest_rows}
 use Rattle.it_eliminate.proofs.MemberLemmas.{every_member, member_every}
 use Rattle.it_eliminate.proofs.StepLemmas.{results_all, next_lacks, step_exact}
@@ -41,39 +41,39 @@ none_extended rows p a = record { factor = 1; some = omega arith; point = p; kep
 
 same_values : (ts : Terms) (p q : ℕ → ℤ) (k : ℕ) → ((c : ℕ) → q c ≡ pos k *ℤ p c) → value ts q ≡ pos k *ℤ value ts p
 same_values [] p q k f = omega (arith, ints)
-same_values (t ∷ ts) p q k f = step t.1 (p t.0) (q t.0) (value ts p) (value ts q) (f t.0) (same_values ts p q k f)
+same_values (t ∷ ts) p q k f = sum_of_multiples t.1 (p t.0) (q t.0) (value ts p) (value ts q) (f t.0) (same_values ts p q k f)
   where
-    step : (a x y v w : ℤ) → y ≡ pos k *ℤ x → w ≡ pos k *ℤ v → a *ℤ y +ℤ w ≡ pos k *ℤ (a *ℤ x +ℤ v)
-    step a x y v w e f = ap (λ z. a *ℤ z +ℤ w) e ∙ ap (λ z. a *ℤ (pos k *ℤ x) +ℤ z) f ∙ omega (arith, zring)
+    sum_of_multiples : (a x y v w : ℤ) → y ≡ pos k *ℤ x → w ≡ pos k *ℤ v → a *ℤ y +ℤ w ≡ pos k *ℤ (a *ℤ x +ℤ v)
+    sum_of_multiples a x y v w e f = ap (λ z. a *ℤ z +ℤ w) e ∙ ap (λ z. a *ℤ (pos k *ℤ x) +ℤ z) f ∙ omega (arith, zring)
 
 extended_none : (rows : List Terms) (p : ℕ → ℤ) → Extends [] rows p → In rows p
-extended_none rows p x = each rows x.meets
+extended_none rows p x = each_row_holds rows x.meets
   where
-    each : (rows : List Terms) → In rows x.point → In rows p
-    each [] a = tt
-    each (row ∷ rows) a = (
-      uncancel (pos x.factor) (value row p) (omega (arith, ints, x.some))
+    each_row_holds : (rows : List Terms) → In rows x.point → In rows p
+    each_row_holds [] a = tt
+    each_row_holds (row ∷ rows) a = (
+      least_by_multiple (pos x.factor) (value row p) (omega (arith, ints, x.some))
           (subst (λ (z : ℤ). pos 0 ≤ℤ z) (same_values row p x.point x.factor (λ c. x.kept c (λ m. m))) a.0),
-      each rows a.1,
+      each_row_holds rows a.1,
     )
 
 -- two extensions, one after the other
 join_extensions : (at : ℕ) (ats : List ℕ) (rows : List Terms) (p : ℕ → ℤ) (y : Extends ats [] p) → Extends (at ∷ []) rows y.point → Extends (at ∷ ats) rows p
 join_extensions at ats rows p y x = record {
   factor = x.factor * y.factor;
-  some = more x.factor y.factor x.some y.some;
+  some = product_is_positive x.factor y.factor x.some y.some;
   point = x.point;
-  kept = λ c n. x.kept c (λ m. n (⊎_elim (λ e. inl e) (λ k. absurd k) m)) ∙ ap (λ z. pos x.factor *ℤ z) (y.kept c (λ m. n (inr m))) ∙ both x.factor y.factor (p c);
+  kept = λ c n. x.kept c (λ m. n (⊎_elim (λ e. inl e) (λ k. absurd k) m)) ∙ ap (λ z. pos x.factor *ℤ z) (y.kept c (λ m. n (inr m))) ∙ multiple_of_multiple x.factor y.factor (p c);
   meets = x.meets;
 }
   where
-    more : (a b : ℕ) → 1 ≤ a → 1 ≤ b → 1 ≤ a * b
-    more (suc a) (suc b) h k = omega arith
-    more zero b h k = absurd (omega arith)
-    more (suc a) zero h k = absurd (omega arith)
+    product_is_positive : (a b : ℕ) → 1 ≤ a → 1 ≤ b → 1 ≤ a * b
+    product_is_positive (suc a) (suc b) h k = omega arith
+    product_is_positive zero b h k = absurd (omega arith)
+    product_is_positive (suc a) zero h k = absurd (omega arith)
 
-    both : (a b : ℕ) (z : ℤ) → pos a *ℤ (pos b *ℤ z) ≡ pos (a * b) *ℤ z
-    both a b z = sym (mul_assoc (pos a) (pos b) z)
+    multiple_of_multiple : (a b : ℕ) (z : ℤ) → pos a *ℤ (pos b *ℤ z) ≡ pos (a * b) *ℤ z
+    multiple_of_multiple a b z = sym (mul_assoc (pos a) (pos b) z)
 
 -- an extension to all, taken apart: first to the later ones, with the multiple at the first one
 record Parts (at : ℕ) (ats : List ℕ) (rows : List Terms) (p : ℕ → ℤ) : Type 0 where
@@ -85,51 +85,42 @@ record Parts (at : ℕ) (ats : List ℕ) (rows : List Terms) (p : ℕ → ℤ) :
 
 member_number : (c : ℕ) (ats : List ℕ) → Member c ats ⊎ ¬ (Member c ats)
 member_number c [] = inr (λ m. m)
-member_number c (a ∷ ats) = by (nat_eq c a) refl (member_number c ats)
+member_number c (a ∷ ats) = by_test (nat_eq c a) refl (member_number c ats)
   where
-    other : (a b : ℕ) → nat_eq a b ≡ false → a ≢ b
-    other a b h e = grind (arith, nat_tests)
-
-    by : (b : Bool) → nat_eq c a ≡ b → Member c ats ⊎ ¬ (Member c ats) → Member c (a ∷ ats) ⊎ ¬ (Member c (a ∷ ats))
-    by true e m = inl (inl (same_number c a e))
-    by false e (inl m) = inl (inr m)
-    by false e (inr n) = inr (λ m. ⊎_elim (λ k. other c a e k) n m)
+    by_test : (b : Bool) → nat_eq c a ≡ b → Member c ats ⊎ ¬ (Member c ats) → Member c (a ∷ ats) ⊎ ¬ (Member c (a ∷ ats))
+    by_test true e m = inl (inl (eqb-true c a e))
+    by_test false e (inl m) = inl (inr m)
+    by_test false e (inr n) = inr (λ m. ⊎_elim (λ k. eqb-false c a e k) n m)
 
 split_extension : (at : ℕ) (ats : List ℕ) (rows : List Terms) (p : ℕ → ℤ) → Extends (at ∷ ats) rows p → Parts at ats rows p
-split_extension at ats rows p x = by (member_number at ats)
+split_extension at ats rows p x = by_cases (member_number at ats)
   where
     -- the rate is eliminated later once more: the point itself serves
-    by : Member at ats ⊎ ¬ (Member at ats) → Parts at ats rows p
-    by (inl m) = record {
+    by_cases : Member at ats ⊎ ¬ (Member at ats) → Parts at ats rows p
+    by_cases (inl m) = record {
       factor = x.factor;
       some = x.some;
       point = x.point;
       kept = λ c n. x.kept c (λ k. ⊎_elim (λ e. n (subst (λ (d : ℕ). Member d ats) (sym e) m)) n k);
       first = record { factor = 1; some = omega arith; point = x.point; kept = λ c n. omega (arith, ints); meets = x.meets };
     }
-    by (inr away) = record {
+    by_cases (inr away) = record {
       factor = x.factor;
       some = x.some;
-      point = q;
-      kept = λ c n. kept c n (nat_eq c at) refl;
-      first = record { factor = 1; some = omega arith; point = x.point; kept = λ c n. off c (λ e. n (inl e)) ∙ omega (arith, ints); meets = x.meets };
+      point = later_point;
+      kept = λ c n. by_test c n (nat_eq c at) refl;
+      first = record { factor = 1; some = omega arith; point = x.point; kept = λ c n. points_agree c (λ e. n (inl e)) ∙ omega (arith, ints); meets = x.meets };
     }
       where
-        q : ℕ → ℤ
-        q c = cond (nat_eq c at) (pos x.factor *ℤ p c) (x.point c)
+        later_point : ℕ → ℤ
+        later_point c = cond (nat_eq c at) (pos x.factor *ℤ p c) (x.point c)
 
-        kept : (c : ℕ) → ¬ (Member c ats) → (b : Bool) → nat_eq c at ≡ b → cond b (pos x.factor *ℤ p c) (x.point c) ≡ pos x.factor *ℤ p c
-        kept c n true e = refl
-        kept c n false e = x.kept c (λ m. ⊎_elim (λ k. other c at e k) n m)
-          where
-            other : (a b : ℕ) → nat_eq a b ≡ false → a ≢ b
-            other a b h e = grind (arith, nat_tests)
+        by_test : (c : ℕ) → ¬ (Member c ats) → (b : Bool) → nat_eq c at ≡ b → cond b (pos x.factor *ℤ p c) (x.point c) ≡ pos x.factor *ℤ p c
+        by_test c n true e = refl
+        by_test c n false e = x.kept c (λ m. ⊎_elim (λ k. eqb-false c at e k) n m)
 
-        differ : (c d : ℕ) → c ≢ d → nat_eq c d ≡ false
-        differ c d n = grind (arith, nat_tests)
-
-        off : (c : ℕ) → c ≢ at → x.point c ≡ q c
-        off c n = sym (ap (λ b. cond b (pos x.factor *ℤ p c) (x.point c)) (differ c at n))
+        points_agree : (c : ℕ) → c ≢ at → x.point c ≡ later_point c
+        points_agree c n = sym (ap (λ b. cond b (pos x.factor *ℤ p c) (x.point c)) (ne_eqb c at n))
 
 pub rates_exact : (ats : List ℕ) (rows : List Terms) (p : ℕ → ℤ) → In (list_after ats rows) p ↔ Extends ats rows p
 rates_exact [] rows p = (none_extended rows p, extended_none rows p)

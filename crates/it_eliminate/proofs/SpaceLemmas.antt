@@ -26,12 +26,12 @@ module _ (size : ℕ) where
   up_to-with_term c (pos zero) [] h a = tt
   up_to-with_term c (pos (suc n)) [] h a = (h, tt)
   up_to-with_term c (negsuc n) [] h a = (h, tt)
-  up_to-with_term c x (t ∷ ts) h a = by (nat_lt c t.0) (nat_eq c t.0) (up_to-with_term c x ts h a.1)
+  up_to-with_term c x (t ∷ ts) h a = by_test (nat_lt c t.0) (nat_eq c t.0) (up_to-with_term c x ts h a.1)
     where
-      by : (p q : Bool) → UpTo (with_term c x ts) → UpTo (if p then single_term c x ++ t ∷ ts else if q then single_term c (x +ℤ t.1) ++ ts else t ∷ with_term c x ts)
-      by true q ih = up_to-single_term c x (t ∷ ts) h a
-      by false true ih = up_to-single_term c (x +ℤ t.1) ts h a.1
-      by false false ih = (a.0, ih)
+      by_test : (p q : Bool) → UpTo (with_term c x ts) → UpTo (if p then single_term c x ++ t ∷ ts else if q then single_term c (x +ℤ t.1) ++ ts else t ∷ with_term c x ts)
+      by_test true q ih = up_to-single_term c x (t ∷ ts) h a
+      by_test false true ih = up_to-single_term c (x +ℤ t.1) ts h a.1
+      by_test false false ih = (a.0, ih)
 
   up_to-row_sum : (xs ys : Terms) → UpTo xs → UpTo ys → UpTo (row_sum xs ys)
   up_to-row_sum [] ys a b = b
@@ -47,11 +47,11 @@ module _ (size : ℕ) where
 
   up_to-lowest_terms : (ts : Terms) → UpTo ts → UpTo (lowest_terms ts)
   unfolding lowest_terms
-  up_to-lowest_terms ts a = by (content 0 ts) ts a
+  up_to-lowest_terms ts a = divided_up_to (content 0 ts) ts a
     where
-      by : (k : ℕ) (ts : Terms) → UpTo ts → UpTo (divided_terms k ts)
-      by k [] a = tt
-      by k (t ∷ ts) a = (a.0, by k ts a.1)
+      divided_up_to : (k : ℕ) (ts : Terms) → UpTo ts → UpTo (divided_terms k ts)
+      divided_up_to k [] a = tt
+      divided_up_to k (t ∷ ts) a = (a.0, divided_up_to k ts a.1)
 
   up_to-with_lowest_rows : (before rows : List Terms) → Every UpTo before → Every UpTo rows → Every UpTo (with_lowest_rows before rows)
   up_to-with_lowest_rows before [] a b = a
@@ -66,18 +66,18 @@ module _ (size : ℕ) where
   up_to-after (at ∷ ats) rows a = up_to-after ats (next_list at rows) (up_to-next at rows a)
 
   to_each : (rows : List Terms) → All (IsUpTo size) rows → Every UpTo rows
-  to_each rows a = deep rows (every_of (IsUpTo size) rows a)
+  to_each rows a = each_row_up_to rows (every_of (IsUpTo size) rows a)
     where
-      deep : (rows : List Terms) → Every (IsUpTo size) rows → Every UpTo rows
-      deep [] a = tt
-      deep (r ∷ rows) a = (every_of Has r a.0, deep rows a.1)
+      each_row_up_to : (rows : List Terms) → Every (IsUpTo size) rows → Every UpTo rows
+      each_row_up_to [] a = tt
+      each_row_up_to (r ∷ rows) a = (every_of Has r a.0, each_row_up_to rows a.1)
 
   to_all : (rows : List Terms) → Every UpTo rows → All (IsUpTo size) rows
-  to_all rows a = all_of (IsUpTo size) rows (deep rows a)
+  to_all rows a = all_of (IsUpTo size) rows (all_rows_up_to rows a)
     where
-      deep : (rows : List Terms) → Every UpTo rows → Every (IsUpTo size) rows
-      deep [] a = tt
-      deep (r ∷ rows) a = (all_of Has r a.0, deep rows a.1)
+      all_rows_up_to : (rows : List Terms) → Every UpTo rows → Every (IsUpTo size) rows
+      all_rows_up_to [] a = tt
+      all_rows_up_to (r ∷ rows) a = (all_of Has r a.0, all_rows_up_to rows a.1)
 
   pub projection_up_to : (ats : List ℕ) (rows : List Terms) → All (IsUpTo size) rows → All (IsUpTo size) (list_after ats (ordered_rows rows))
   projection_up_to ats rows a = to_all (list_after ats (ordered_rows rows)) (up_to-after ats (ordered_rows rows) (up_to-with_lowest_rows [] rows tt (to_each rows a)))

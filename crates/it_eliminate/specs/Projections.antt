@@ -5,7 +5,7 @@ use Rattle.it_space.specs.declared.problems.System.{System}
 use Rattle.it_space.specs.Problems.{IsSystem}
 use Rattle.it_space.specs.Rows.{Terms, value, coefficient}
 use Rattle.it_eliminate.specs.declared.types.EliminationEnd.{EliminationEnd}
-use Rattle.it_eliminate.specs.declared.types.EliminationEnd.TheVariants as eliminated
+use Rattle.it_eliminate.specs.declared.types.EliminationEnd.TheVariants as elimination_ends
 use Rattle.it_eliminate.specs.Elimination.{Member}
 
 -- every row is at least 0 at the point
@@ -33,6 +33,6 @@ pub record IsProjection (old : System) (rates : List ℕ) (new : System) : Type 
 
 -- where elimination ends with a region, that is the projection
 abbrev pub RegionIsProjection : System → List ℕ → EliminationEnd → Type 0
-RegionIsProjection system rates (eliminated.Region region) = IsProjection system rates region
-RegionIsProjection system rates (eliminated.Rows rate) = Unit {0}
-RegionIsProjection system rates (eliminated.Wide rate) = Unit {0}
+RegionIsProjection system rates (elimination_ends.Region region) = IsProjection system rates region
+RegionIsProjection system rates (elimination_ends.Rows rate) = Unit {0}
+RegionIsProjection system rates (elimination_ends.Wide rate) = Unit {0}

@@ -18,17 +18,17 @@ best_within entry right basis zero m o e h = subst (λ (o : Option ℕ). IfSome 
 best_within entry right basis (suc i) m o e h = subst (λ (o : Option ℕ). IfSome o (λ k. k < m)) (sym e) (by_option (best_row_below entry right basis i) (best_within entry right basis i m (best_row_below entry right basis i) refl (omega arith)))
   where
     by_option : (o : Option ℕ) → IfSome o (λ k. k < m) → IfSome (best_after_row entry right basis i o) (λ k. k < m)
-    by_option None a = one (is_above_zero (entry i))
+    by_option None a = by_entry_test (is_above_zero (entry i))
       where
-        one : (b : Bool) → IfSome (cond b (Some i) None) (λ k. k < m)
-        one true = omega arith
-        one false = tt
-    by_option (Some k) a = two (is_above_zero (entry i)) (comes_first (right i) (entry i) (basis i) (right k) (entry k) (basis k))
+        by_entry_test : (b : Bool) → IfSome (cond b (Some i) None) (λ k. k < m)
+        by_entry_test true = omega arith
+        by_entry_test false = tt
+    by_option (Some k) a = by_both_tests (is_above_zero (entry i)) (comes_first (right i) (entry i) (basis i) (right k) (entry k) (basis k))
       where
-        two : (b d : Bool) → IfSome (cond b (cond d (Some i) (Some k)) (Some k)) (λ k. k < m)
-        two true true = omega arith
-        two true false = a
-        two false d = a
+        by_both_tests : (b d : Bool) → IfSome (cond b (cond d (Some i) (Some k)) (Some k)) (λ k. k < m)
+        by_both_tests true true = omega arith
+        by_both_tests true false = a
+        by_both_tests false d = a
 
 pub best_more : (entry right : ℕ → ℤ) (basis : ℕ → ℕ) (i : ℕ) → best_row_below entry right basis (i + 1) ≡ best_after_row entry right basis i (best_row_below entry right basis i)
 best_more entry right basis i = let e : i + 1 ≡ suc i = omega arith in ap (best_row_below entry right basis) e
@@ -38,10 +38,10 @@ difference_sign : (a b : Rational) (n k : ℤ) (x y : ℕ) → 0 < x → 0 < y �
     → is_at_least_zero (Q.plus a (Q.minus b)) ≡ sign_least (n *ℤ pos y +ℤ neg_ℤ (k *ℤ pos x))
 difference_sign a b n k x y hx hy e f =
     sign_named (Q.plus a (Q.minus b)) (n *ℤ pos y +ℤ neg_ℤ k *ℤ pos x) (x * y) (mul-pos hx hy) (plus_names a (Q.minus b) n (neg_ℤ k) x y hx hy e (minus_names b k y f))
-    ∙ ap sign_least (turn (n *ℤ pos y) k (pos x))
+    ∙ ap sign_least (sign_moves_out (n *ℤ pos y) k (pos x))
   where
-    turn : (z k x : ℤ) → z +ℤ neg_ℤ k *ℤ x ≡ z +ℤ neg_ℤ (k *ℤ x)
-    turn z k x = omega (arith, zring)
+    sign_moves_out : (z k x : ℤ) → z +ℤ neg_ℤ k *ℤ x ≡ z +ℤ neg_ℤ (k *ℤ x)
+    sign_moves_out z k x = omega (arith, zring)
 
 -- the best row so far is that of the run
 abbrev pub IsBestRowBelow : ℕ → ℕ → SimplexTable Rational → ℕ → ℕ → Option ℕ → Type 0
@@ -81,32 +81,32 @@ module _ (m n : ℕ) (t : SimplexTable Rational) (c : ℕ) (entry right : ℕ �
   best_row_agrees zero h = refl
   best_row_agrees (suc i) h = by_option (best_row_below entry right basis i) (is_above_zero (entry i)) refl (best_row_agrees i (omega arith))
     where
-      now : (b : Bool) → is_above_zero (entry i) ≡ b → leaving_row_of field_ℚ m n t c (suc i) ≡ cond b (cond (eqb (leaving_row_of field_ℚ m n t c i) m) i (cond (precedes field_ℚ m n t c i (leaving_row_of field_ℚ m n t c i)) i (leaving_row_of field_ℚ m n t c i))) (leaving_row_of field_ℚ m n t c i)
-      now b e = ap (λ b. cond b (cond (eqb (leaving_row_of field_ℚ m n t c i) m) i (cond (precedes field_ℚ m n t c i (leaving_row_of field_ℚ m n t c i)) i (leaving_row_of field_ℚ m n t c i))) (leaving_row_of field_ℚ m n t c i))
+      leaving_row_step : (b : Bool) → is_above_zero (entry i) ≡ b → leaving_row_of field_ℚ m n t c (suc i) ≡ cond b (cond (eqb (leaving_row_of field_ℚ m n t c i) m) i (cond (precedes field_ℚ m n t c i (leaving_row_of field_ℚ m n t c i)) i (leaving_row_of field_ℚ m n t c i))) (leaving_row_of field_ℚ m n t c i)
+      leaving_row_step b e = ap (λ b. cond b (cond (eqb (leaving_row_of field_ℚ m n t c i) m) i (cond (precedes field_ℚ m n t c i (leaving_row_of field_ℚ m n t c i)) i (leaving_row_of field_ℚ m n t c i))) (leaving_row_of field_ℚ m n t c i))
           (candidate_is_above i (omega arith) ∙ e)
 
       by_option : (o : Option ℕ) (b : Bool) → is_above_zero (entry i) ≡ b → IsBestRowBelow m n t c i o → IsBestRowBelow m n t c (suc i) (best_after_row entry right basis i o)
-      by_option None false e a = subst (λ (x : Bool). IsBestRowBelow m n t c (suc i) (cond x (Some i) None)) (sym e) (now false e ∙ a)
+      by_option None false e a = subst (λ (x : Bool). IsBestRowBelow m n t c (suc i) (cond x (Some i) None)) (sym e) (leaving_row_step false e ∙ a)
       by_option None true e a = subst (λ (x : Bool). IsBestRowBelow m n t c (suc i) (cond x (Some i) None)) (sym e)
-          (now true e ∙ ap (λ x. cond x i (cond (precedes field_ℚ m n t c i (leaving_row_of field_ℚ m n t c i)) i (leaving_row_of field_ℚ m n t c i))) (eq-eqb (leaving_row_of field_ℚ m n t c i) m a), omega arith, candidate_is_above i (omega arith) ∙ e)
+          (leaving_row_step true e ∙ ap (λ x. cond x i (cond (precedes field_ℚ m n t c i (leaving_row_of field_ℚ m n t c i)) i (leaving_row_of field_ℚ m n t c i))) (eq-eqb (leaving_row_of field_ℚ m n t c i) m a), omega arith, candidate_is_above i (omega arith) ∙ e)
       by_option (Some k) false e a = subst (λ (x : Bool). IsBestRowBelow m n t c (suc i) (cond x (cond (comes_first (right i) (entry i) (basis i) (right k) (entry k) (basis k)) (Some i) (Some k)) (Some k))) (sym e)
-          (now false e ∙ a.0, omega (arith, a.1), a.2)
+          (leaving_row_step false e ∙ a.0, omega (arith, a.1), a.2)
       by_option (Some k) true e a = subst (λ (x : Bool). IsBestRowBelow m n t c (suc i) (cond x (cond (comes_first (right i) (entry i) (basis i) (right k) (entry k) (basis k)) (Some i) (Some k)) (Some k))) (sym e)
-          (pick (comes_first (right i) (entry i) (basis i) (right k) (entry k) (basis k)) refl)
+          (by_order_test (comes_first (right i) (entry i) (basis i) (right k) (entry k) (basis k)) refl)
         where
-          same : precedes field_ℚ m n t c i k ≡ comes_first (right i) (entry i) (basis i) (right k) (entry k) (basis k)
-          same = precedes_is i k (omega arith) (omega (arith, a.1)) e (sym (candidate_is_above k (omega (arith, a.1))) ∙ a.2)
+          same_order : precedes field_ℚ m n t c i k ≡ comes_first (right i) (entry i) (basis i) (right k) (entry k) (basis k)
+          same_order = precedes_is i k (omega arith) (omega (arith, a.1)) e (sym (candidate_is_above k (omega (arith, a.1))) ∙ a.2)
 
-          stepped : leaving_row_of field_ℚ m n t c (suc i) ≡ cond (comes_first (right i) (entry i) (basis i) (right k) (entry k) (basis k)) i k
-          stepped = now true e
+          earlier_row_leaves : leaving_row_of field_ℚ m n t c (suc i) ≡ cond (comes_first (right i) (entry i) (basis i) (right k) (entry k) (basis k)) i k
+          earlier_row_leaves = leaving_row_step true e
               ∙ ap (λ x. cond x i (cond (precedes field_ℚ m n t c i (leaving_row_of field_ℚ m n t c i)) i (leaving_row_of field_ℚ m n t c i)))
               (ne_eqb (leaving_row_of field_ℚ m n t c i) m (λ z. omega (arith, a.0, a.1, z)))
               ∙ ap (λ l. cond (precedes field_ℚ m n t c i l) i l) a.0
-              ∙ ap (λ b. cond b i k) same
+              ∙ ap (λ b. cond b i k) same_order
 
-          pick : (d : Bool) → comes_first (right i) (entry i) (basis i) (right k) (entry k) (basis k) ≡ d → IsBestRowBelow m n t c (suc i) (cond d (Some i) (Some k))
-          pick true f = (stepped ∙ ap (λ b. cond b i k) f, omega arith, candidate_is_above i (omega arith) ∙ e)
-          pick false f = (stepped ∙ ap (λ b. cond b i k) f, omega (arith, a.1), a.2)
+          by_order_test : (d : Bool) → comes_first (right i) (entry i) (basis i) (right k) (entry k) (basis k) ≡ d → IsBestRowBelow m n t c (suc i) (cond d (Some i) (Some k))
+          by_order_test true f = (earlier_row_leaves ∙ ap (λ b. cond b i k) f, omega arith, candidate_is_above i (omega arith) ∙ e)
+          by_order_test false f = (earlier_row_leaves ∙ ap (λ b. cond b i k) f, omega (arith, a.1), a.2)
 
   pub best_row_leaves : IsBestRowBelow m n t c m (best_row_below entry right basis m)
   best_row_leaves = best_row_agrees m (omega arith)

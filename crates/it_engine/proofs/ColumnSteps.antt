@@ -23,8 +23,8 @@ pub record IsRowReadUpTo (k : ℕ) (terms : RowTerms) (old : List Terms) (i : �
 module _ (k : ℕ) (terms : RowTerms) (old : List Terms) (i : ℕ) (now : List Terms) (w : IsRowReadUpTo k terms old i now) where
   module _ (h : i < length terms) where
     -- the columns up to that of the next term
-    before : (j : ℕ) → j < column_at terms i → IsTermRead k (entry_in terms j) (slice_index_or old j []) (slice_index_or now j [])
-    before j l = by_next (cases_lt j w.next)
+    earlier_columns_read : (j : ℕ) → j < column_at terms i → IsTermRead k (entry_in terms j) (slice_index_or old j []) (slice_index_or now j [])
+    earlier_columns_read j l = by_next (cases_lt j w.next)
       where
         by_next : (j < w.next) ⊎ (w.next ≤ j) → IsTermRead k (entry_in terms j) (slice_index_or old j []) (slice_index_or now j [])
         by_next (inl m) = w.done j m
@@ -40,19 +40,19 @@ module _ (k : ℕ) (terms : RowTerms) (old : List Terms) (i : ℕ) (now : List T
       rest = rest_next w.width terms i w.next w.rest h;
     }
       where
-        own : IsTermRead k (entry_in terms (column_at terms i)) (slice_index_or old (column_at terms i) []) (slice_index_or new (column_at terms i) [])
-        own = inr (
+        own_column_read : IsTermRead k (entry_in terms (column_at terms i)) (slice_index_or old (column_at terms i) []) (slice_index_or new (column_at terms i) [])
+        own_column_read = inr (
           z,
           at_column w.width terms i w.next w.rest h ∙ e,
           p.own ∙ ap (λ (ts : Terms). ts ++ (k, z) ∷ []) (w.left (column_at terms i) (column_from w.width terms i w.next w.rest h)),
         )
 
         by_column : (j : ℕ) → j < column_at terms i + 1 → (j ≡ column_at terms i) ⊎ (j ≡ column_at terms i → ⊥) → IsTermRead k (entry_in terms j) (slice_index_or old j []) (slice_index_or new j [])
-        by_column j l (inl s) = subst (λ (c : ℕ). IsTermRead k (entry_in terms c) (slice_index_or old c []) (slice_index_or new c [])) (sym s) own
-        by_column j l (inr d) = subst (IsTermRead k (entry_in terms j) (slice_index_or old j [])) (sym (p.others j d)) (before j (omega (arith, l, d)))
+        by_column j l (inl s) = subst (λ (c : ℕ). IsTermRead k (entry_in terms c) (slice_index_or old c []) (slice_index_or new c [])) (sym s) own_column_read
+        by_column j l (inr d) = subst (IsTermRead k (entry_in terms j) (slice_index_or old j [])) (sym (p.others j d)) (earlier_columns_read j (omega (arith, l, d)))
 
     pub row_is_read_to_artificials : length now ≤ column_at terms i → IsRowRead k terms old now
-    row_is_read_to_artificials b = record { same_length = w.count; each = λ j l. before j (let e = w.count in omega (arith, b, e, l)) }
+    row_is_read_to_artificials b = record { same_length = w.count; each = λ j l. earlier_columns_read j (let e = w.count in omega (arith, b, e, l)) }
 
   pub row_is_read_to_end : length terms ≤ i → IsRowRead k terms old now
   row_is_read_to_end over = record { same_length = w.count; each = λ j l. by_next j (cases_lt j w.next) }
@@ -68,12 +68,12 @@ pub record AreReadUpTo (t : TableauView) (k : ℕ) (columns : List Terms) : Type
 
 module _ (t : TableauView) (k : ℕ) (terms : RowTerms) (lists : ListsEntries ((table t).entry k) (width t) terms) (old new : List Terms) where
   pub row_read : IsRowRead k terms old new → AreReadUpTo t k old → AreReadUpTo t (k + 1) new
-  row_read r a = record { count = r.same_length ∙ a.count; each = λ j l. one j l (r.each j (let e = a.count in omega (arith, e, l))) }
+  row_read r a = record { count = r.same_length ∙ a.count; each = λ j l. by_cases j l (r.each j (let e = a.count in omega (arith, e, l))) }
     where
-      one : (j : ℕ) → j < t.generators → IsTermRead k (entry_in terms j) (slice_index_or old j []) (slice_index_or new j []) → IsReadColumn (k + 1) (λ i. (table t).entry i j) (slice_index_or new j [])
-      one j l (inl s) = subst (IsReadColumn (k + 1) (λ i. (table t).entry i j)) (sym s.1)
+      by_cases : (j : ℕ) → j < t.generators → IsTermRead k (entry_in terms j) (slice_index_or old j []) (slice_index_or new j []) → IsReadColumn (k + 1) (λ i. (table t).entry i j) (slice_index_or new j [])
+      by_cases j l (inl s) = subst (IsReadColumn (k + 1) (λ i. (table t).entry i j)) (sym s.1)
           (read_null k (λ i. (table t).entry i j) (slice_index_or old j []) (top_of_zero ((table t).entry k j) (sym (lists.entries j (omega (arith, l))) ∙ s.0)) (a.each j l))
-      one j l (inr s) = subst (IsReadColumn (k + 1) (λ i. (table t).entry i j)) (sym s.2)
+      by_cases j l (inr s) = subst (IsReadColumn (k + 1) (λ i. (table t).entry i j)) (sym s.2)
           (read_more k (λ i. (table t).entry i j) (slice_index_or old j []) s.0 (sym (lists.entries j (omega (arith, l))) ∙ s.1) (a.each j l))
 
 pub columns_are_read : (t : TableauView) (k : ℕ) (columns : List Terms) → k ≡ height t → AreReadUpTo t k columns → AreReadColumns t t.generators columns

@@ -21,12 +21,12 @@ pub divides_more : (numbers : List ℤ) (bottom shared next : ℕ) (z : ℤ) (k 
 divides_more numbers bottom shared next z k e f d = subst (λ (n : ℕ). DividesUpTo n bottom numbers (k + 1)) (sym e) record {
   some = pos_of_dvd_of_pos (gcd_is (unsigned_abs z) shared).1 d.some;
   bottom_is = dvd_trans (gcd (unsigned_abs z) shared) (gcd_is (unsigned_abs z) shared).1 d.bottom_is;
-  numbers_are = λ j l. each j l (cases_eq j k);
+  numbers_are = λ j l. by_cases j l (cases_eq j k);
 }
   where
-    each : (j : ℕ) → j < k + 1 → (j ≡ k) ⊎ (j ≡ k → ⊥) → gcd (unsigned_abs z) shared ∣ unsigned_abs (number_at numbers j)
-    each j l (inl q) = subst (λ (y : ℤ). gcd (unsigned_abs z) shared ∣ unsigned_abs y) (f ∙ ap (number_at numbers) (sym q)) (gcd_is (unsigned_abs z) shared).0
-    each j l (inr n) = dvd_trans (gcd (unsigned_abs z) shared) (gcd_is (unsigned_abs z) shared).1 (d.numbers_are j (omega arith))
+    by_cases : (j : ℕ) → j < k + 1 → (j ≡ k) ⊎ (j ≡ k → ⊥) → gcd (unsigned_abs z) shared ∣ unsigned_abs (number_at numbers j)
+    by_cases j l (inl q) = subst (λ (y : ℤ). gcd (unsigned_abs z) shared ∣ unsigned_abs y) (f ∙ ap (number_at numbers) (sym q)) (gcd_is (unsigned_abs z) shared).0
+    by_cases j l (inr n) = dvd_trans (gcd (unsigned_abs z) shared) (gcd_is (unsigned_abs z) shared).1 (d.numbers_are j (omega arith))
 
 pub whole_over : (z y : ℤ) (k : ℕ) → k ∣ unsigned_abs z → y ≡ int_quotient z k → y *ℤ pos k ≡ z
 whole_over z y k h e = ap (λ x. x *ℤ pos k) e ∙ over_back z k h

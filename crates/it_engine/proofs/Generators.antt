@@ -19,18 +19,18 @@ use Rattle.it_engine.proofs.Names.{reduced_name}
 -- n / d plus k / d
 pub sum_named : (x y : Rational) (n k : ℤ) (d : ℕ) → 0 < d → IsRatio x n d → IsRatio y k d → IsRatio (Q.plus x y) (n +ℤ k) d
 sum_named x y n k d h e f = reduced_name (Q.plus x y) (n +ℤ k) d d h
-    (subst (λ (z : ℤ). IsRatio (Q.plus x y) z (d * d)) (gather n k d) (plus_names x y n k d d h h e f))
+    (subst (λ (z : ℤ). IsRatio (Q.plus x y) z (d * d)) (factor_moves_out n k d) (plus_names x y n k d d h h e f))
   where
-    gather : (n k : ℤ) (d : ℕ) → n *ℤ pos d +ℤ k *ℤ pos d ≡ (n +ℤ k) *ℤ pos d
-    gather n k d = omega (arith, zring)
+    factor_moves_out : (n k : ℤ) (d : ℕ) → n *ℤ pos d +ℤ k *ℤ pos d ≡ (n +ℤ k) *ℤ pos d
+    factor_moves_out n k d = omega (arith, zring)
 
 -- a whole multiple of n / d
 pub multiple_named : (a : ℤ) (x : Rational) (n : ℤ) (d : ℕ) → 0 < d → IsRatio x n d → IsRatio (Q.times (Q.integer a) x) (a *ℤ n) d
-multiple_named a x n d h e = subst (λ (k : ℕ). IsRatio (Q.times (Q.integer a) x) (a *ℤ n) k) (once d)
+multiple_named a x n d h e = subst (λ (k : ℕ). IsRatio (Q.times (Q.integer a) x) (a *ℤ n) k) (product_with_one d)
     (times_names (Q.integer a) x a n 1 d (omega arith) h (whole_names a) e)
   where
-    once : (d : ℕ) → 1 * d ≡ d
-    once d = omega arith
+    product_with_one : (d : ℕ) → 1 * d ≡ d
+    product_with_one d = omega arith
 
 zero_named : (d : ℕ) → IsRatio (Q.integer (pos 0)) (pos 0) d
 zero_named d = by_sign (Q.integer (pos 0)).num (Q.integer (pos 0)).den (quotient_names (pos 0) 1 (omega arith))
@@ -51,15 +51,15 @@ pub value_bounded : (terms : Terms) (m : ℕ) (f : ℕ → ℤ) (limit : ℕ) �
 value_bounded [] m f limit a h = omega arith
 value_bounded (t ∷ ts) m f limit a h =
     let one : unsigned_abs (t.1 *ℤ f t.0) ≤ unsigned_abs t.1 * limit =
-    subst (λ k. k ≤ unsigned_abs t.1 * limit) (sym (unsigned_abs-mul t.1 (f t.0))) (mul-le (unsigned_abs t.1) (unsigned_abs (f t.0)) (unsigned_abs t.1) limit (same (unsigned_abs t.1)) (h t.0 (a 0 t (omega arith)))) in
+    subst (λ k. k ≤ unsigned_abs t.1 * limit) (sym (unsigned_abs-mul t.1 (f t.0))) (mul-le (unsigned_abs t.1) (unsigned_abs (f t.0)) (unsigned_abs t.1) limit (at_most_itself (unsigned_abs t.1)) (h t.0 (a 0 t (omega arith)))) in
     let rest : unsigned_abs (value ts f) ≤ weight_of_terms ts * limit = value_bounded ts m f limit (λ k s l. a (suc k) s (omega (arith, l))) h in
-    both (t.1 *ℤ f t.0) (value ts f) (unsigned_abs t.1) (weight_of_terms ts) limit one rest
+    sum_at_most (t.1 *ℤ f t.0) (value ts f) (unsigned_abs t.1) (weight_of_terms ts) limit one rest
   where
-    same : (k : ℕ) → k ≤ k
-    same k = omega arith
+    at_most_itself : (k : ℕ) → k ≤ k
+    at_most_itself k = omega arith
 
-    both : (x y : ℤ) (a b l : ℕ) → unsigned_abs x ≤ a * l → unsigned_abs y ≤ b * l → unsigned_abs (x +ℤ y) ≤ (a + b) * l
-    both x y a b l h k = omega (arith, ints, h, k)
+    sum_at_most : (x y : ℤ) (a b l : ℕ) → unsigned_abs x ≤ a * l → unsigned_abs y ≤ b * l → unsigned_abs (x +ℤ y) ≤ (a + b) * l
+    sum_at_most x y a b l h k = omega (arith, ints, h, k)
 
 module _ (m n limit norm : ℕ) (p : FeasibilityProblem Rational) (t : SimplexTable Rational) (columns : List Terms) (rows : List WholeRowView) (basis : List ℕ)
     (h : HasInvariants field_ℚ m n p t) (s : ShowsTable m n limit t rows basis) (cs : AreStartColumns m n norm p columns) (fit : norm * limit < 2 ^ 63) (some : 1 ≤ norm) where
@@ -102,7 +102,7 @@ module _ (m n limit norm : ℕ) (p : FeasibilityProblem Rational) (t : SimplexTa
     some = λ i hi. (s.row i (omega (arith, hi))).some;
     low = λ i hi. (s.row i (omega (arith, hi))).low;
     named = λ i j hi hj. name i j hi hj (cases_lt j n);
-    short = λ i j hi hj. short i j hi hj (cases_lt j n);
+    short = λ i j hi hj. number_is_short i j hi hj (cases_lt j n);
   }
     where
       name : (i j : ℕ) → i ≤ m → j ≤ n + m → (j < n) ⊎ (n ≤ j) → IsRatio (t.entry i j) (number i j) (bottom i)
@@ -111,7 +111,7 @@ module _ (m n limit norm : ℕ) (p : FeasibilityProblem Rational) (t : SimplexTa
           (let back : n + (j - n) ≡ j = omega (arith, l) in
           subst (λ (k : ℕ). IsRatio (t.entry i k) (number_at (whole_row_at rows i).numbers (j - n)) (bottom i)) back ((s.row i (omega (arith, hi))).named (j - n) (omega (arith, hj, l))))
 
-      short : (i j : ℕ) → i ≤ m → j ≤ n + m → (j < n) ⊎ (n ≤ j) → IsShort (number i j)
-      short i j hi hj (inl l) = subst (λ (b : Bool). IsShort (cond b (price i j) (number_at (whole_row_at rows i).numbers (j - n)))) (sym (lt-ltb j n l)) (price_short i j hi l)
-      short i j hi hj (inr l) = subst (λ (b : Bool). IsShort (cond b (price i j) (number_at (whole_row_at rows i).numbers (j - n)))) (sym (le-ltb j n l))
+      number_is_short : (i j : ℕ) → i ≤ m → j ≤ n + m → (j < n) ⊎ (n ≤ j) → IsShort (number i j)
+      number_is_short i j hi hj (inl l) = subst (λ (b : Bool). IsShort (cond b (price i j) (number_at (whole_row_at rows i).numbers (j - n)))) (sym (lt-ltb j n l)) (price_short i j hi l)
+      number_is_short i j hi hj (inr l) = subst (λ (b : Bool). IsShort (cond b (price i j) (number_at (whole_row_at rows i).numbers (j - n)))) (sym (le-ltb j n l))
           (let b = (s.row i (omega (arith, hi))).small (j - n) (omega (arith, hj, l)) in omega (arith, b, limit_short))

@@ -21,12 +21,12 @@ use Rattle.it_engine.specs.Loading.{AreReadRows, IsReadRow, IsReadColumn, IsShor
 pub short_whole : (limit : ℕ) (q : Rational) (o : Option ℤ) → pos q.den ≡ pos 1 → SomeIff o (unsigned_abs q.num ≤ limit) q.num → IfSome o (λ z. IsShortWhole limit q z)
 short_whole limit q None d h = tt
 short_whole limit q (Some z) d h = record {
-  value_is = same_value q (integer z) z z 1 1 (omega arith) (omega arith) (named q.num q.den (ap unsigned_abs d) h.1) (whole_names z) refl;
+  value_is = same_value q (integer z) z z 1 1 (omega arith) (omega arith) (whole_is_named q.num q.den (ap unsigned_abs d) h.1) (whole_names z) refl;
   small = subst (λ (y : ℤ). unsigned_abs y ≤ limit) (sym h.1) h.0;
 }
   where
-    named : (n : ℤ) (d : ℕ) → d ≡ 1 → z ≡ n → n *ℤ pos 1 ≡ z *ℤ pos d
-    named n d f g = ap₂ (λ (x : ℤ) (k : ℕ). x *ℤ pos k) (sym g) (sym f)
+    whole_is_named : (n : ℤ) (d : ℕ) → d ≡ 1 → z ≡ n → n *ℤ pos 1 ≡ z *ℤ pos d
+    whole_is_named n d f g = ap₂ (λ (x : ℤ) (k : ℕ). x *ℤ pos k) (sym g) (sym f)
 
 one_more : (k : ℕ) → suc k ≡ k + 1
 one_more k = omega arith
@@ -57,12 +57,12 @@ read_more k f terms z e r = subst (λ (n : ℕ). IsReadColumn n f (terms ++ (k, 
 -- a list with one item more
 pub item_more : {X : Type 0} (P : ℕ → X → Type 0) (k : ℕ) (xs : List X) (x d : X) → length xs ≡ k → ((i : ℕ) → i < k → P i (slice_index_or xs i d)) → P k x
     → (i : ℕ) → i < k + 1 → P i (slice_index_or (xs ++ x ∷ []) i d)
-item_more P k xs x d e h p i l = split (cases_eq i k)
+item_more P k xs x d e h p i l = by_cases (cases_eq i k)
   where
-    split : (i ≡ k) ⊎ (i ≡ k → ⊥) → P i (slice_index_or (xs ++ x ∷ []) i d)
-    split (inl q) = subst (λ (n : ℕ). P n (slice_index_or (xs ++ x ∷ []) n d)) (sym q)
+    by_cases : (i ≡ k) ⊎ (i ≡ k → ⊥) → P i (slice_index_or (xs ++ x ∷ []) i d)
+    by_cases (inl q) = subst (λ (n : ℕ). P n (slice_index_or (xs ++ x ∷ []) n d)) (sym q)
         (subst (P k) (sym (ap (λ n. slice_index_or (xs ++ x ∷ []) n d) (sym e) ∙ get_or-append_seam xs x [] d)) p)
-    split (inr n) = subst (P i) (sym (get_or_append_left xs (x ∷ []) d i (omega (arith, e)))) (h i (omega arith))
+    by_cases (inr n) = subst (P i) (sym (get_or_append_left xs (x ∷ []) d i (omega (arith, e)))) (h i (omega arith))
 
 -- no column of the first j weighs more
 pub record IsNormUpTo (columns : List Terms) (norm j : ℕ) : Type 0 where

@@ -4,6 +4,7 @@ use Rattle.std.proofs.lemmas.Int.{unsigned_abs-mul}
 use Rattle.std.proofs.lemmas.Nat.{mul-le}
 use Rattle.std.proofs.lemmas.Nat.Gcd.{IsGcd-swap}
 use Rattle.std.specs.Int.{IsGcd}
+use Rattle.std.proofs.Math.Nat.{le-mul_of_pos_right, mul_comm, mul_assoc}
 use Rattle.it_number.specs.Gcd.{gcd, lcm}
 use Rattle.it_number.specs.Limit.{IsWithin}
 use Rattle.it_number.specs.Laws.{IsLcm}
@@ -11,21 +12,21 @@ use Rattle.it_number.proofs.Divisors.{euclid, gcd_is, lcm_is, lcm-over}
 use Rattle.it_number.proofs.Integers.{zring}
 use Rattle.it_rational.specs.Rational.{Rational, IsRatio}
 use Rattle.it_rational.specs.Rational as Q
-use Rattle.it_rational.proofs.Names.{cancel}
-use Rattle.it_engine.proofs.Names.{minus_names}
+use Rattle.it_rational.proofs.Names.{cancel_factor}
+use Rattle.it_engine.proofs.Names.{minus_names, factors_join}
 use Rattle.it_fraction.specs.Fits.{IsNarrow, PartsFit, DifferenceFits, common_numerator, shared_rest}
 use Prim.Native.Nat.{◌∣◌}
 use native.Mathlib.Nat.{dvd-mul_left, le_of_dvd, div-mul_cancel, mul-div_cancel', le_of_mul-le-mul_right, eq_of_mul-eq-mul_left, div-le_self}
+
+at_most_itself : (k : ℕ) → k ≤ k
+at_most_itself k = omega arith
 
 pub parts_below : (q : Rational) (n : ℤ) (d : ℕ) → 0 < d → IsRatio q n d → (unsigned_abs q.num ≤ unsigned_abs n) × (q.den ∣ d)
 parts_below q n d h e =
     let x : unsigned_abs q.num * d ≡ unsigned_abs n * q.den = sym (unsigned_abs-mul q.num (pos d)) ∙ ap unsigned_abs e ∙ unsigned_abs-mul n (pos q.den) in
     let div : q.den ∣ d = euclid q.den (unsigned_abs q.num) d (IsGcd-swap (unsigned_abs q.num) q.den 1 q.lowest) (subst (λ k. q.den ∣ k) (sym x) (dvd-mul_left q.den (unsigned_abs n))) in
-    let y : unsigned_abs q.num * d ≤ unsigned_abs n * d = subst (λ k. k ≤ unsigned_abs n * d) (sym x) (mul-le (unsigned_abs n) q.den (unsigned_abs n) d (same (unsigned_abs n)) (le_of_dvd h div)) in
+    let y : unsigned_abs q.num * d ≤ unsigned_abs n * d = subst (λ k. k ≤ unsigned_abs n * d) (sym x) (mul-le (unsigned_abs n) q.den (unsigned_abs n) d (at_most_itself (unsigned_abs n)) (le_of_dvd h div)) in
     (le_of_mul-le-mul_right y h, div)
-  where
-    same : (k : ℕ) → k ≤ k
-    same k = omega arith
 
 pub narrow_by : (q : Rational) (n : ℤ) (d : ℕ) → 0 < d → IsRatio q n d → IsWithin n → IsWithin (pos d) → IsNarrow q
 narrow_by q n d h e wn wd = let p = parts_below q n d h e in (omega (arith, p.0, wn), omega (arith, le_of_dvd h p.1, wd))
@@ -34,94 +35,72 @@ narrow_by q n d h e wn wd = let p = parts_below q n d h e in (omega (arith, p.0,
 pub within_part : (x y : ℤ) (k : ℕ) → 0 < k → x *ℤ pos k ≡ y → IsWithin y → IsWithin x
 within_part x y k h e w =
     let a : unsigned_abs x * k ≡ unsigned_abs y = sym (unsigned_abs-mul x (pos k)) ∙ ap unsigned_abs e in
-    omega (arith, a, w, grown (unsigned_abs x) k h)
-  where
-    grown : (a k : ℕ) → 0 < k → a ≤ a * k
-    grown a zero h = absurd (omega arith)
-    grown a (suc k) h = omega arith
+    omega (arith, a, w, le-mul_of_pos_right (unsigned_abs x) h)
 
 -- the sum of a / b and c / d, where l is a multiple of both denominators and within the limit, and what stands over it is too
 pub parts_fit : (a c : ℤ) (b d u w l : ℕ) → 0 < b → 0 < d → 0 < l → b * u ≡ l → d * w ≡ l
     → IsWithin (pos l) → IsWithin (a *ℤ pos u) → IsWithin (c *ℤ pos w) → IsWithin (a *ℤ pos u +ℤ c *ℤ pos w) → PartsFit a b c d
 parts_fit a c b d u w l hb hd hl eu ew wl wa wc wt = record {
-  left = within_part (a *ℤ pos (d / g)) (a *ℤ pos u) z hz (assoc a (d / g) z ∙ ap (λ k. a *ℤ pos k) u_is) wa;
-  right = within_part (c *ℤ pos (b / g)) (c *ℤ pos w) z hz (assoc c (b / g) z ∙ ap (λ k. c *ℤ pos k) w_is) wc;
-  total = within_part (common_numerator a b c d) (a *ℤ pos u +ℤ c *ℤ pos w) z hz
-      (both a c (d / g) (b / g) z ∙ ap (λ k. a *ℤ pos k +ℤ c *ℤ pos (b / g * z)) u_is ∙ ap (λ k. a *ℤ pos u +ℤ c *ℤ pos k) w_is) wt;
-  bottom = bounded (b / g * (d / shared_rest a b c d)) (mul-le (b / g) (d / shared_rest a b c d) (b / g) d (same (b / g)) (div-le_self d (shared_rest a b c d)));
+  left = within_part (a *ℤ pos (d / shared_divisor)) (a *ℤ pos u) other_factor other_factor_some (factors_join a (d / shared_divisor) other_factor ∙ ap (λ k. a *ℤ pos k) u_is) wa;
+  right = within_part (c *ℤ pos (b / shared_divisor)) (c *ℤ pos w) other_factor other_factor_some (factors_join c (b / shared_divisor) other_factor ∙ ap (λ k. c *ℤ pos k) w_is) wc;
+  total = within_part (common_numerator a b c d) (a *ℤ pos u +ℤ c *ℤ pos w) other_factor other_factor_some
+      (factor_moves_in a c (d / shared_divisor) (b / shared_divisor) other_factor ∙ ap (λ k. a *ℤ pos k +ℤ c *ℤ pos (b / shared_divisor * other_factor)) u_is ∙ ap (λ k. a *ℤ pos u +ℤ c *ℤ pos k) w_is) wt;
+  bottom = bottom_is_within (b / shared_divisor * (d / shared_rest a b c d)) (mul-le (b / shared_divisor) (d / shared_rest a b c d) (b / shared_divisor) d (at_most_itself (b / shared_divisor)) (div-le_self d (shared_rest a b c d)));
 }
   where
-    g : ℕ
-    g = gcd b d
+    shared_divisor : ℕ
+    shared_divisor = gcd b d
 
-    is : IsGcd b d (gcd b d)
-    is = gcd_is b d
+    divisor_is_greatest : IsGcd b d (gcd b d)
+    divisor_is_greatest = gcd_is b d
 
     common : IsLcm b d (lcm b d)
     common = lcm_is b d
 
-    z : ℕ
-    z = l / lcm b d
+    other_factor : ℕ
+    other_factor = l / lcm b d
 
-    divides : lcm b d ∣ l
-    divides = common.2 l (subst (λ k. b ∣ k) (mul_comm b u ∙ eu) (dvd-mul_left b u)) (subst (λ k. d ∣ k) (mul_comm d w ∙ ew) (dvd-mul_left d w))
+    multiple_divides : lcm b d ∣ l
+    multiple_divides = common.2 l (subst (λ k. b ∣ k) (mul_comm u b ∙ eu) (dvd-mul_left b u)) (subst (λ k. d ∣ k) (mul_comm w d ∙ ew) (dvd-mul_left d w))
+
+    product_is_whole : lcm b d * other_factor ≡ l
+    product_is_whole = mul-div_cancel' (lcm b d) multiple_divides
+
+    other_factor_some : 0 < other_factor
+    other_factor_some = factor_some other_factor product_is_whole
       where
-        mul_comm : (x y : ℕ) → y * x ≡ x * y
-        mul_comm x y = omega arith
+        factor_some : (other_factor : ℕ) → lcm b d * other_factor ≡ l → 0 < other_factor
+        factor_some zero e = omega (arith, e, hl)
+        factor_some (suc other_factor) e = omega arith
 
-    whole : lcm b d * z ≡ l
-    whole = mul-div_cancel' (lcm b d) divides
-
-    hz : 0 < z
-    hz = some z whole
-      where
-        some : (z : ℕ) → lcm b d * z ≡ l → 0 < z
-        some zero e = omega (arith, e, hl)
-        some (suc z) e = omega arith
-
-    same : (k : ℕ) → k ≤ k
-    same k = omega arith
-
-    assoc : (x : ℤ) (m k : ℕ) → (x *ℤ pos m) *ℤ pos k ≡ x *ℤ pos (m * k)
-    assoc x m k = omega (arith, zring)
-
-    both : (x y : ℤ) (m n k : ℕ) → (x *ℤ pos m +ℤ y *ℤ pos n) *ℤ pos k ≡ x *ℤ pos (m * k) +ℤ y *ℤ pos (n * k)
-    both x y m n k = omega (arith, zring)
+    factor_moves_in : (x y : ℤ) (m n k : ℕ) → (x *ℤ pos m +ℤ y *ℤ pos n) *ℤ pos k ≡ x *ℤ pos (m * k) +ℤ y *ℤ pos (n * k)
+    factor_moves_in x y m n k = omega (arith, zring)
 
     -- b (d / g) is the least common multiple
-    over_left : b * (d / g) ≡ lcm b d
+    over_left : b * (d / shared_divisor) ≡ lcm b d
     over_left = lcm-over b d
 
-    over_right : d * (b / g) ≡ lcm b d
-    over_right = cross b d (b / g) (d / g) g (div-mul_cancel g is.0) (div-mul_cancel g is.1) ∙ over_left
+    over_right : d * (b / shared_divisor) ≡ lcm b d
+    over_right = products_agree b d (b / shared_divisor) (d / shared_divisor) shared_divisor (div-mul_cancel shared_divisor divisor_is_greatest.0) (div-mul_cancel shared_divisor divisor_is_greatest.1) ∙ over_left
       where
-        cross : (b d x y g : ℕ) → x * g ≡ b → y * g ≡ d → d * x ≡ b * y
-        cross b d x y g e f = rw (← e, ← f) (omega arith)
+        products_agree : (b d x y shared_divisor : ℕ) → x * shared_divisor ≡ b → y * shared_divisor ≡ d → d * x ≡ b * y
+        products_agree b d x y shared_divisor e f = rw (← e, ← f) (omega arith)
 
-    u_is : d / g * z ≡ u
-    u_is = eq_of_mul-eq-mul_left b hb (d / g * z) u (turn b (d / g) z ∙ ap (λ k. k * z) over_left ∙ whole ∙ sym eu)
-      where
-        turn : (x y k : ℕ) → x * (y * k) ≡ x * y * k
-        turn x y k = omega arith
+    u_is : d / shared_divisor * other_factor ≡ u
+    u_is = eq_of_mul-eq-mul_left b hb (d / shared_divisor * other_factor) u (sym (mul_assoc b (d / shared_divisor) other_factor) ∙ ap (λ k. k * other_factor) over_left ∙ product_is_whole ∙ sym eu)
 
-    w_is : b / g * z ≡ w
-    w_is = eq_of_mul-eq-mul_left d hd (b / g * z) w (turn d (b / g) z ∙ ap (λ k. k * z) over_right ∙ whole ∙ sym ew)
-      where
-        turn : (x y k : ℕ) → x * (y * k) ≡ x * y * k
-        turn x y k = omega arith
+    w_is : b / shared_divisor * other_factor ≡ w
+    w_is = eq_of_mul-eq-mul_left d hd (b / shared_divisor * other_factor) w (sym (mul_assoc d (b / shared_divisor) other_factor) ∙ ap (λ k. k * other_factor) over_right ∙ product_is_whole ∙ sym ew)
 
-    bounded : (k : ℕ) → k ≤ b / g * d → IsWithin (pos k)
-    bounded k h = omega (arith, h, swap (b / g) d ∙ over_right, le_of_dvd hl divides, wl)
-      where
-        swap : (x y : ℕ) → x * y ≡ y * x
-        swap x y = omega arith
+    bottom_is_within : (k : ℕ) → k ≤ b / shared_divisor * d → IsWithin (pos k)
+    bottom_is_within k h = omega (arith, h, mul_comm (b / shared_divisor) d ∙ over_right, le_of_dvd hl multiple_divides, wl)
 
 -- a number that is n / l over its own denominator
 own_over : (q : Rational) (n : ℤ) (u l : ℕ) → IsRatio q n l → q.den * u ≡ l → q.num *ℤ pos u ≡ n
-own_over q n u l e f = cancel (q.num *ℤ pos u) n q.den q.positive (turn q.num u q.den ∙ ap (λ k. q.num *ℤ pos k) f ∙ e)
+own_over q n u l e f = cancel_factor (q.num *ℤ pos u) n q.den q.positive (product_regroups q.num u q.den ∙ ap (λ k. q.num *ℤ pos k) f ∙ e)
   where
-    turn : (x : ℤ) (u d : ℕ) → (x *ℤ pos u) *ℤ pos d ≡ x *ℤ pos (d * u)
-    turn x u d = omega (arith, zring)
+    product_regroups : (x : ℤ) (u d : ℕ) → (x *ℤ pos u) *ℤ pos d ≡ x *ℤ pos (d * u)
+    product_regroups x u d = omega (arith, zring)
 
 -- the difference of n / l and k / l
 pub difference_fits : (x y : Rational) (n k : ℤ) (l : ℕ) → 0 < l → IsRatio x n l → IsRatio y k l

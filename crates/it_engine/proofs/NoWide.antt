@@ -4,6 +4,7 @@ use Rattle.std.proofs.lemmas.Bool.{true≢false}
 use Rattle.std.proofs.lemmas.Int.{ints, unsigned_abs-mul}
 use Rattle.std.proofs.lemmas.Nat.{mul-lt}
 use Rattle.it_number.specs.Limit.{IsWithin}
+use Rattle.it_number.proofs.SignLemmas.{size_negated}
 use Rattle.it_rational.specs.Rational.{Rational, sign_least, is_at_least_zero, IsRatio}
 use Rattle.it_rational.specs.Rational as Q
 use Rattle.it_rational.proofs.Field.{field_ℚ}
@@ -18,10 +19,10 @@ use Rattle.it_engine.proofs.Names.{minus_names, sign_named, scaled_name, quotien
 
 -- what short numbers form
 pub half_product : (a b : ℤ) → IsShort a → IsShort b → unsigned_abs (a *ℤ b) < 2 ^ 126
-half_product a b h k = subst (λ n. n < 2 ^ 126) (sym (unsigned_abs-mul a b)) (below (unsigned_abs a) (unsigned_abs b) h k)
+half_product a b h k = subst (λ n. n < 2 ^ 126) (sym (unsigned_abs-mul a b)) (product_below_limit (unsigned_abs a) (unsigned_abs b) h k)
   where
-    below : (x y : ℕ) → x < 2 ^ 63 → y < 2 ^ 63 → x * y < 2 ^ 126
-    below x y h k = mul-lt x y (2 ^ 63) (2 ^ 63) h k
+    product_below_limit : (x y : ℕ) → x < 2 ^ 63 → y < 2 ^ 63 → x * y < 2 ^ 126
+    product_below_limit x y h k = mul-lt x y (2 ^ 63) (2 ^ 63) h k
 
 pub half_within : (z : ℤ) → unsigned_abs z < 2 ^ 126 → IsWithin z
 half_within z h = for_each (unsigned_abs z) h
@@ -35,14 +36,11 @@ short_within z h = for_each (unsigned_abs z) h
     for_each : (k : ℕ) → k < 2 ^ 63 → k < 2 ^ 127
     for_each k h = omega (arith, h)
 
-turned_size : (z : ℤ) → unsigned_abs (neg_ℤ z) ≡ unsigned_abs z
-turned_size z = omega (arith, ints)
-
 pub halves_within : (x y : ℤ) → unsigned_abs x < 2 ^ 126 → unsigned_abs y < 2 ^ 126 → IsWithin (x +ℤ neg_ℤ y)
-halves_within x y h k = for_each (unsigned_abs x) (unsigned_abs y) (unsigned_abs (x +ℤ neg_ℤ y)) h k (grown x y)
+halves_within x y h k = for_each (unsigned_abs x) (unsigned_abs y) (unsigned_abs (x +ℤ neg_ℤ y)) h k (difference_at_most x y)
   where
-    grown : (x y : ℤ) → unsigned_abs (x +ℤ neg_ℤ y) ≤ unsigned_abs x + unsigned_abs y
-    grown x y = omega (arith, ints)
+    difference_at_most : (x y : ℤ) → unsigned_abs (x +ℤ neg_ℤ y) ≤ unsigned_abs x + unsigned_abs y
+    difference_at_most x y = omega (arith, ints)
 
     for_each : (a b c : ℕ) → a < 2 ^ 126 → b < 2 ^ 126 → c ≤ a + b → c < 2 ^ 127
     for_each a b c h k l = omega (arith, h, k, l)
@@ -72,14 +70,14 @@ module _ (m n : ℕ) (t : SimplexTable Rational) (number : ℕ → ℕ → ℤ) 
       p_short : IsShort (pos p)
       p_short = subst IsShort e (o.short r c hr hc)
 
-      over : (i : ℕ) → i ≤ m → 0 < bottom i * p
-      over i hi = mul-pos (o.some i hi) hp
+      product_above_zero : (i : ℕ) → i ≤ m → 0 < bottom i * p
+      product_above_zero i hi = mul-pos (o.some i hi) hp
 
       over_within : (i : ℕ) → i ≤ m → IsWithin (pos (bottom i * p))
       over_within i hi = half_within (pos (bottom i * p)) (half_product (pos (bottom i)) (pos p) (o.low i hi) p_short)
 
       quotient_fits : (i : ℕ) → i ≤ m → QuotientFits (t.entry i c) (t.entry r c)
-      quotient_fits i hi = narrow_by (Q.times (t.entry i c) (Q.inverse (t.entry r c))) (number i c *ℤ pos (bottom r)) (bottom i * p) (over i hi)
+      quotient_fits i hi = narrow_by (Q.times (t.entry i c) (Q.inverse (t.entry r c))) (number i c *ℤ pos (bottom r)) (bottom i * p) (product_above_zero i hi)
           (quotient_of_names (t.entry i c) (t.entry r c) (number i c) p (bottom i) (bottom r) (o.some i hi) (o.some r hr) hp (o.named i c hi hc) own_entry)
           (half_within (number i c *ℤ pos (bottom r)) (half_product (number i c) (pos (bottom r)) (o.short i c hi hc) (o.low r hr)))
           (over_within i hi)
@@ -91,12 +89,12 @@ module _ (m n : ℕ) (t : SimplexTable Rational) (number : ℕ → ℕ → ℤ) 
           let first = half_product (number i j) (pos p) (o.short i j hi hj) p_short in
           let second = half_product (number r j) (number i c) (o.short r j hr hj) (o.short i c hi hc) in
           record {
-            product = narrow_by (Q.times (t.entry r j) (Q.times (t.entry i c) (Q.inverse (t.entry r c)))) (number r j *ℤ number i c) (bottom i * p) (over i hi) product
+            product = narrow_by (Q.times (t.entry r j) (Q.times (t.entry i c) (Q.inverse (t.entry r c)))) (number r j *ℤ number i c) (bottom i * p) (product_above_zero i hi) product
                 (half_within (number r j *ℤ number i c) second) (over_within i hi);
             difference = difference_fits (t.entry i j) (Q.times (t.entry r j) (Q.times (t.entry i c) (Q.inverse (t.entry r c)))) (number i j *ℤ pos p) (number r j *ℤ number i c) (bottom i * p)
-                (over i hi) (scaled_name (t.entry i j) (number i j) (bottom i) p (o.named i j hi hj)) product
+                (product_above_zero i hi) (scaled_name (t.entry i j) (number i j) (bottom i) p (o.named i j hi hj)) product
                 (over_within i hi) (half_within (number i j *ℤ pos p) first)
-                (half_within (neg_ℤ (number r j *ℤ number i c)) (subst (λ k. k < 2 ^ 126) (sym (turned_size (number r j *ℤ number i c))) second))
+                (half_within (neg_ℤ (number r j *ℤ number i c)) (subst (λ k. k < 2 ^ 126) (sym (size_negated (number r j *ℤ number i c))) second))
                 (halves_within (number i j *ℤ pos p) (number r j *ℤ number i c) first second);
           }
 

@@ -37,13 +37,13 @@ module _ (old : List WholeRowView) (r : ℕ) (Done : ℕ → WholeRowView → Ty
   pub row_is_updated : (now : List WholeRowView) (i : ℕ) (y : WholeRowView) → i < length now → Done i y → IsPivotUnderWay old now r i Done → IsPivotUnderWay old (slice_set now i y) r (i + 1) Done
   row_is_updated now i y h p u = record {
     same_length = length-set now i y ∙ u.same_length;
-    done = λ k l d. split k l d (cases_eq k i);
+    done = λ k l d. by_cases k l d (cases_eq k i);
     rest = λ k l d. get_or-set_other now i k y absent_row (λ e. omega arith) ∙ u.rest k (omega arith) d;
   }
     where
-      split : (k : ℕ) → k < i + 1 → k ≢ r → (k ≡ i) ⊎ (k ≡ i → ⊥) → Done k (whole_row_at (slice_set now i y) k)
-      split k l d (inl e) = subst (λ (x : ℕ). Done x (whole_row_at (slice_set now i y) x)) (sym e) (subst (Done i) (sym (get_or-set_same now i y absent_row h)) p)
-      split k l d (inr n) = subst (Done k) (sym (get_or-set_other now i k y absent_row n)) (u.done k (omega arith) d)
+      by_cases : (k : ℕ) → k < i + 1 → k ≢ r → (k ≡ i) ⊎ (k ≡ i → ⊥) → Done k (whole_row_at (slice_set now i y) k)
+      by_cases k l d (inl e) = subst (λ (x : ℕ). Done x (whole_row_at (slice_set now i y) x)) (sym e) (subst (Done i) (sym (get_or-set_same now i y absent_row h)) p)
+      by_cases k l d (inr n) = subst (Done k) (sym (get_or-set_other now i k y absent_row n)) (u.done k (omega arith) d)
 
   pub other_rows_are_done : (now : List WholeRowView) (i : ℕ) (y : WholeRowView) → length old ≤ i → IsPivotUnderWay old now r i Done → (k : ℕ) → k < length old → k ≢ r → Done k (whole_row_at (slice_set now r y) k)
   other_rows_are_done now i y h u k l d = subst (Done k) (sym (get_or-set_other now r k y absent_row d)) (u.done k (omega arith) d)
@@ -56,19 +56,19 @@ pivot_ends old r width limit terms p now i y hr usable hi ep hp small u q = reco
   same_length = length-set now r y ∙ u.same_length;
   others = λ k l d. subst (λ (z : ℤ). IsUpdated width limit (whole_row_at old k) (whole_row_at old r) terms z (whole_row_at (slice_set now r y) k)) ep
       (by_own k (whole_row_at (slice_set now r y) k) (other_rows_are_done old r (λ k row. IsUpdated width limit (whole_row_at old k) y terms (pos y.bottom) row) now i y hi u k l d));
-  own = subst (IsWholeRowDivided width limit (whole_row_at old r) (value terms (number_at (whole_row_at old r).numbers))) here (subst (λ (z : ℤ). IsWholeRowDivided width limit (whole_row_at old r) z y) ep divided);
-  own_usable = subst (IsUsable width limit) here (quotient_usable width limit (whole_row_at old r) p y usable hp q);
+  own = subst (IsWholeRowDivided width limit (whole_row_at old r) (value terms (number_at (whole_row_at old r).numbers))) row_is_set (subst (λ (z : ℤ). IsWholeRowDivided width limit (whole_row_at old r) z y) ep own_row_divided);
+  own_usable = subst (IsUsable width limit) row_is_set (quotient_usable width limit (whole_row_at old r) p y usable hp q);
 }
   where
-    here : y ≡ whole_row_at (slice_set now r y) r
-    here = sym (get_or-set_same now r y absent_row (omega (arith, u.same_length, hr)))
+    row_is_set : y ≡ whole_row_at (slice_set now r y) r
+    row_is_set = sym (get_or-set_same now r y absent_row (omega (arith, u.same_length, hr)))
 
-    divided : IsWholeRowDivided width limit (whole_row_at old r) p y
-    divided = shortened_divided width limit (whole_row_at old r) record { numbers = (whole_row_at old r).numbers; bottom = unsigned_abs p } y p
+    own_row_divided : IsWholeRowDivided width limit (whole_row_at old r) p y
+    own_row_divided = shortened_divided width limit (whole_row_at old r) record { numbers = (whole_row_at old r).numbers; bottom = unsigned_abs p } y p
         (divided_row width limit (whole_row_at old r) record { numbers = (whole_row_at old r).numbers; bottom = unsigned_abs p } p hp small refl refl) q
 
     by_own : (k : ℕ) (new : WholeRowView) → IsUpdated width limit (whole_row_at old k) y terms (pos y.bottom) new → IsUpdated width limit (whole_row_at old k) (whole_row_at old r) terms p new
     by_own k new w = record {
-      less = less_divided width limit (whole_row_at old k) (whole_row_at old r) y new (value terms (number_at (whole_row_at old k).numbers)) p divided w.less;
+      less = less_divided width limit (whole_row_at old k) (whole_row_at old r) y new (value terms (number_at (whole_row_at old k).numbers)) p own_row_divided w.less;
       usable = w.usable;
     }

@@ -3,63 +3,58 @@ use Rattle.std.proofs.Common.{◌≡◌, ℕ, suc, ◌+◌, ◌*◌, ◌<◌, �
 use Rattle.std.proofs.lemmas.Int.{ints, unsigned_abs-mul}
 use Rattle.std.proofs.lemmas.Nat.{mul-le}
 use Rattle.std.proofs.Math.Seq.{drop-cons}
+use Rattle.std.proofs.Math.IntN.{+ℤ_assoc}
 use Rattle.it_space.specs.Rows.{Terms, value}
 use Rattle.it_space.specs.Sums.{number_at}
 use Rattle.it_engine.specs.Whole.{weight_of_terms}
 use Rattle.it_engine.specs.Updates.{IsPriceable, IsPriced}
 
 module _ (terms : Terms) (numbers : List ℤ) (i : ℕ) (h : i < length terms) (w : All (λ t. t.0 < length numbers) terms) where
-  term : ℕ × ℤ
-  term = slice_index_or terms i (0, pos 0)
-
-  split : drop i terms ≡ slice_index_or terms i (0, pos 0) ∷ drop (suc i) terms
-  split = drop-cons terms i (0, pos 0) h
+  term_is_first : drop i terms ≡ slice_index_or terms i (0, pos 0) ∷ drop (suc i) terms
+  term_is_first = drop-cons terms i (0, pos 0) h
 
   step_small : (limit : ℕ) → ((k : ℕ) → k < length numbers → unsigned_abs (number_at numbers k) ≤ limit)
       → unsigned_abs ((slice_index_or terms i (0, pos 0)).1 *ℤ number_at numbers (slice_index_or terms i (0, pos 0)).0) ≤ unsigned_abs (slice_index_or terms i (0, pos 0)).1 * limit
   step_small limit l =
       let t = slice_index_or terms i (0, pos 0) in
       subst (λ k. k ≤ unsigned_abs t.1 * limit) (sym (unsigned_abs-mul t.1 (number_at numbers t.0)))
-      (mul-le (unsigned_abs t.1) (unsigned_abs (number_at numbers t.0)) (unsigned_abs t.1) limit (same (unsigned_abs t.1)) (l t.0 (w i (0, pos 0) h)))
+      (mul-le (unsigned_abs t.1) (unsigned_abs (number_at numbers t.0)) (unsigned_abs t.1) limit (at_most_itself (unsigned_abs t.1)) (l t.0 (w i (0, pos 0) h)))
     where
-      same : (k : ℕ) → k ≤ k
-      same k = omega arith
+      at_most_itself : (k : ℕ) → k ≤ k
+      at_most_itself k = omega arith
 
   pub priced_more : (sum : ℤ) → IsPriced terms numbers i sum → IsPriced terms numbers (i + 1) (sum +ℤ (slice_index_or terms i (0, pos 0)).1 *ℤ number_at numbers (slice_index_or terms i (0, pos 0)).0)
-  priced_more sum p = subst (λ (k : ℕ). IsPriced terms numbers k (sum +ℤ (slice_index_or terms i (0, pos 0)).1 *ℤ number_at numbers (slice_index_or terms i (0, pos 0)).0)) here record {
-    value_is = let t = slice_index_or terms i (0, pos 0) in assoc sum (t.1 *ℤ number_at numbers t.0) (value (drop (suc i) terms) (number_at numbers)) ∙ ap (λ ts. sum +ℤ value ts (number_at numbers)) (sym split) ∙ p.value_is;
+  priced_more sum p = subst (λ (k : ℕ). IsPriced terms numbers k (sum +ℤ (slice_index_or terms i (0, pos 0)).1 *ℤ number_at numbers (slice_index_or terms i (0, pos 0)).0)) next_index record {
+    value_is = let t = slice_index_or terms i (0, pos 0) in +ℤ_assoc sum (t.1 *ℤ number_at numbers t.0) (value (drop (suc i) terms) (number_at numbers)) ∙ ap (λ ts. sum +ℤ value ts (number_at numbers)) (sym term_is_first) ∙ p.value_is;
     small = λ limit l. let t = slice_index_or terms i (0, pos 0) in
-        grown sum (t.1 *ℤ number_at numbers t.0) (unsigned_abs t.1) (weight_of_terms (drop (suc i) terms)) limit (weight_of_terms terms * limit) (step_small limit l)
-        (subst (λ (ts : Terms). unsigned_abs sum + weight_of_terms ts * limit ≤ weight_of_terms terms * limit) split (p.small limit l));
+        sum_stays_within sum (t.1 *ℤ number_at numbers t.0) (unsigned_abs t.1) (weight_of_terms (drop (suc i) terms)) limit (weight_of_terms terms * limit) (step_small limit l)
+        (subst (λ (ts : Terms). unsigned_abs sum + weight_of_terms ts * limit ≤ weight_of_terms terms * limit) term_is_first (p.small limit l));
   }
     where
-      here : suc i ≡ i + 1
-      here = omega arith
+      next_index : suc i ≡ i + 1
+      next_index = omega arith
 
-      assoc : (x y z : ℤ) → (x +ℤ y) +ℤ z ≡ x +ℤ (y +ℤ z)
-      assoc x y z = omega (arith, ints)
-
-      grown : (x y : ℤ) (a b l top : ℕ) → unsigned_abs y ≤ a * l → unsigned_abs x + (a + b) * l ≤ top → unsigned_abs (x +ℤ y) + b * l ≤ top
-      grown x y a b l top h k = omega (arith, ints, h, k)
+      sum_stays_within : (x y : ℤ) (a b l top : ℕ) → unsigned_abs y ≤ a * l → unsigned_abs x + (a + b) * l ≤ top → unsigned_abs (x +ℤ y) + b * l ≤ top
+      sum_stays_within x y a b l top h k = omega (arith, ints, h, k)
 
   pub priced_small : (sum : ℤ) → IsPriceable terms numbers → IsPriced terms numbers i sum
       → unsigned_abs sum + unsigned_abs ((slice_index_or terms i (0, pos 0)).1 *ℤ number_at numbers (slice_index_or terms i (0, pos 0)).0) < 2 ^ 63
   priced_small sum f p =
       let t = slice_index_or terms i (0, pos 0) in
-      within (unsigned_abs sum) (unsigned_abs (t.1 *ℤ number_at numbers t.0)) (unsigned_abs t.1) (weight_of_terms (drop (suc i) terms)) f.0 (weight_of_terms terms * f.0) (step_small f.0 f.1)
-      (subst (λ (ts : Terms). unsigned_abs sum + weight_of_terms ts * f.0 ≤ weight_of_terms terms * f.0) split (p.small f.0 f.1)) f.2
+      sum_is_short (unsigned_abs sum) (unsigned_abs (t.1 *ℤ number_at numbers t.0)) (unsigned_abs t.1) (weight_of_terms (drop (suc i) terms)) f.0 (weight_of_terms terms * f.0) (step_small f.0 f.1)
+      (subst (λ (ts : Terms). unsigned_abs sum + weight_of_terms ts * f.0 ≤ weight_of_terms terms * f.0) term_is_first (p.small f.0 f.1)) f.2
     where
-      within : (x y a b l top : ℕ) → y ≤ a * l → x + (a + b) * l ≤ top → top < 2 ^ 63 → x + y < 2 ^ 63
-      within x y a b l top h k m = omega (arith, h, k, m)
+      sum_is_short : (x y a b l top : ℕ) → y ≤ a * l → x + (a + b) * l ≤ top → top < 2 ^ 63 → x + y < 2 ^ 63
+      sum_is_short x y a b l top h k m = omega (arith, h, k, m)
 
 pub priced_none : (terms : Terms) (numbers : List ℤ) → IsPriced terms numbers 0 (pos 0)
 priced_none terms numbers = record { value_is = omega (arith, ints); small = λ limit l. omega arith }
 
 pub priced_all : (terms : Terms) (numbers : List ℤ) (i : ℕ) (sum : ℤ) → i ≡ length terms → IsPriced terms numbers i sum → sum ≡ value terms (number_at numbers)
-priced_all terms numbers i sum e p = none sum (drop i terms) (past terms i e) ∙ p.value_is
+priced_all terms numbers i sum e p = empty_value sum (drop i terms) (no_terms_left terms i e) ∙ p.value_is
   where
-    past : (ts : Terms) (i : ℕ) → i ≡ length ts → drop i ts ≡ []
-    past ts i e = grind (arith, Rattle.std.proofs.lemmas.Grind.common_steps)
+    no_terms_left : (ts : Terms) (i : ℕ) → i ≡ length ts → drop i ts ≡ []
+    no_terms_left ts i e = grind (arith, Rattle.std.proofs.lemmas.Grind.common_steps)
 
-    none : (x : ℤ) (ts : Terms) → ts ≡ [] → x ≡ x +ℤ value ts (number_at numbers)
-    none x ts e = subst (λ (ts : Terms). x ≡ x +ℤ value ts (number_at numbers)) (sym e) (omega (arith, ints))
+    empty_value : (x : ℤ) (ts : Terms) → ts ≡ [] → x ≡ x +ℤ value ts (number_at numbers)
+    empty_value x ts e = subst (λ (ts : Terms). x ≡ x +ℤ value ts (number_at numbers)) (sym e) (omega (arith, ints))

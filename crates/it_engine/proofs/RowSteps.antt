@@ -1,13 +1,14 @@
 -- What a step makes of a row.
-use Rattle.std.proofs.Common.{◌≡◌, ℕ, zero, suc, ◌*◌, ◌<◌, ◌≤◌, ◌^◌, ℤ, pos, negsuc, ◌/◌, ◌≤ℤ◌, ◌+ℤ◌, ◌*ℤ◌, neg_ℤ, unsigned_abs, List, [], ◌∷◌, refl, sym, ap, ap₂, subst, ◌∙◌, arith, mul-pos}
+use Rattle.std.proofs.Common.{◌≡◌, ℕ, ◌*◌, ◌<◌, ◌^◌, ℤ, pos, negsuc, ◌/◌, ◌≤ℤ◌, ◌+ℤ◌, ◌*ℤ◌, neg_ℤ, unsigned_abs, List, [], ◌∷◌, refl, sym, ap, ap₂, subst, ◌∙◌, arith, mul-pos}
 use Rattle.std.proofs.lemmas.Int.{ints, unsigned_abs-mul}
-use Rattle.it_number.proofs.Integers.{zring}
+use Rattle.it_number.proofs.Integers.{zring, times_one}
 use Rattle.it_number.proofs.Ring.{ring, v, plus, times, minus, nil, one}
 use Rattle.it_number.proofs.IntegerRing.{ring_ℤ}
 use Rattle.std.specs.Int.{IsGcd}
+use Rattle.std.proofs.Math.Nat.{le-mul_of_pos_right}
 use Rattle.it_number.specs.Gcd.{gcd}
 use Rattle.it_number.specs.Division.{int_quotient}
-use Rattle.it_number.proofs.Divisors.{gcd_is}
+use Rattle.it_number.proofs.Divisors.{gcd_is, quotient_some, quotient_at_most}
 use Rattle.it_number.proofs.SignedDivisors.{over_back}
 use Rattle.it_rational.specs.Rational.{Rational, IsRatio}
 use Rattle.it_rational.specs.Rational as Q
@@ -30,28 +31,28 @@ row_stepped width limit f g row by new d e x w z b p a h rf rg ex ew hh ha ea eb
   length_is = c.length_is;
   some = mul-pos rf.some ha;
   low = low;
-  named = λ k l. subst (λ (y : ℤ). IsRatio (difference ring_ℚ (f k) (Q.times (g k) (Q.times x (Q.inverse w)))) y (d * a)) (sym (c.entries k l)) (each k l);
+  named = λ k l. subst (λ (y : ℤ). IsRatio (difference ring_ℚ (f k) (Q.times (g k) (Q.times x (Q.inverse w)))) y (d * a)) (sym (c.entries k l)) (numbers_are_named k l);
   small = c.small;
 }
   where
-    hp : 0 < p
-    hp = subst (λ k. 0 < k) ea (mul-pos ha hh)
+    entry_some : 0 < p
+    entry_some = subst (λ k. 0 < k) ea (mul-pos ha hh)
 
-    each : (k : ℕ) → k < width → IsRatio (difference ring_ℚ (f k) (Q.times (g k) (Q.times x (Q.inverse w)))) (number_at row k *ℤ pos a +ℤ neg_ℤ (number_at by k *ℤ b)) (d * a)
-    each k l =
+    numbers_are_named : (k : ℕ) → k < width → IsRatio (difference ring_ℚ (f k) (Q.times (g k) (Q.times x (Q.inverse w)))) (number_at row k *ℤ pos a +ℤ neg_ℤ (number_at by k *ℤ b)) (d * a)
+    numbers_are_named k l =
         let left : IsRatio (f k) (number_at row k *ℤ pos p) (d * p) = scaled_name (f k) (number_at row k) d p (rf.named k l) in
-        let right : IsRatio (Q.times (g k) (Q.times x (Q.inverse w))) (number_at by k *ℤ z) (d * p) = product_in_row (g k) x w (number_at by k) z p e d rg.some rf.some hp (rg.named k l) ex ew in
-        let both = sum_named (f k) (Q.minus (Q.times (g k) (Q.times x (Q.inverse w)))) (number_at row k *ℤ pos p) (neg_ℤ (number_at by k *ℤ z)) (d * p) (mul-pos rf.some hp) left
+        let right : IsRatio (Q.times (g k) (Q.times x (Q.inverse w))) (number_at by k *ℤ z) (d * p) = product_in_row (g k) x w (number_at by k) z p e d rg.some rf.some entry_some (rg.named k l) ex ew in
+        let both = sum_named (f k) (Q.minus (Q.times (g k) (Q.times x (Q.inverse w)))) (number_at row k *ℤ pos p) (neg_ℤ (number_at by k *ℤ z)) (d * p) (mul-pos rf.some entry_some) left
         (minus_names (Q.times (g k) (Q.times x (Q.inverse w))) (number_at by k *ℤ z) (d * p) right) in
         reduced_name (difference ring_ℚ (f k) (Q.times (g k) (Q.times x (Q.inverse w)))) (number_at row k *ℤ pos a +ℤ neg_ℤ (number_at by k *ℤ b)) (d * a) h hh
-        (subst (λ (y : ℤ). IsRatio (difference ring_ℚ (f k) (Q.times (g k) (Q.times x (Q.inverse w)))) y (d * a * h)) (gather (number_at row k) (number_at by k) a b h p z ea eb)
+        (subst (λ (y : ℤ). IsRatio (difference ring_ℚ (f k) (Q.times (g k) (Q.times x (Q.inverse w)))) y (d * a * h)) (factor_moves_out (number_at row k) (number_at by k) a b h p z ea eb)
         (subst (λ (q : ℕ). IsRatio (difference ring_ℚ (f k) (Q.times (g k) (Q.times x (Q.inverse w)))) (number_at row k *ℤ pos p +ℤ neg_ℤ (number_at by k *ℤ z)) q) (int_quotient d a h p ea) both))
       where
         int_quotient : (d a h p : ℕ) → a * h ≡ p → d * p ≡ d * a * h
         int_quotient d a h p e = rw (← e) (omega arith)
 
-        gather : (r y : ℤ) (a : ℕ) (b : ℤ) (h p : ℕ) (z : ℤ) → a * h ≡ p → b *ℤ pos h ≡ z → r *ℤ pos p +ℤ neg_ℤ (y *ℤ z) ≡ (r *ℤ pos a +ℤ neg_ℤ (y *ℤ b)) *ℤ pos h
-        gather r y a b h p z e f = ap₂ (λ (u : ℤ) (s : ℤ). r *ℤ u +ℤ neg_ℤ (y *ℤ s)) (ap pos (sym e) ∙ product a h) (sym f)
+        factor_moves_out : (r y : ℤ) (a : ℕ) (b : ℤ) (h p : ℕ) (z : ℤ) → a * h ≡ p → b *ℤ pos h ≡ z → r *ℤ pos p +ℤ neg_ℤ (y *ℤ z) ≡ (r *ℤ pos a +ℤ neg_ℤ (y *ℤ b)) *ℤ pos h
+        factor_moves_out r y a b h p z e f = ap₂ (λ (u : ℤ) (s : ℤ). r *ℤ u +ℤ neg_ℤ (y *ℤ s)) (ap pos (sym e) ∙ product a h) (sym f)
             ∙ ring ring_ℤ (r ∷ y ∷ pos a ∷ b ∷ pos h ∷ []) (plus (times (v 0) (times (v 2) (v 4))) (minus (times (v 1) (times (v 3) (v 4)))))
             (times (plus (times (v 0) (v 2)) (minus (times (v 1) (v 3)))) (v 4)) refl
           where
@@ -65,12 +66,12 @@ row_stays width limit f g row d x w e r = record {
   length_is = r.length_is;
   some = r.some;
   low = r.low;
-  named = λ k l. subst (λ (q : Rational). IsRatio q (number_at row k) d) (stays (f k) (g k)) (r.named k l);
+  named = λ k l. subst (λ (q : Rational). IsRatio q (number_at row k) d) (number_stays (f k) (g k)) (r.named k l);
   small = r.small;
 }
   where
-    stays : (a b : Rational) → a ≡ difference ring_ℚ a (Q.times b (Q.times x (Q.inverse w)))
-    stays a b = ring ring_ℚ (a ∷ b ∷ Q.inverse w ∷ []) (v 0) (plus (v 0) (minus (times (v 1) (times nil (v 2))))) refl
+    number_stays : (a b : Rational) → a ≡ difference ring_ℚ a (Q.times b (Q.times x (Q.inverse w)))
+    number_stays a b = ring ring_ℚ (a ∷ b ∷ Q.inverse w ∷ []) (v 0) (plus (v 0) (minus (times (v 1) (times nil (v 2))))) refl
         ∙ ap (λ y. difference ring_ℚ a (Q.times b (Q.times y (Q.inverse w)))) (sym e)
 
 -- the leaving row keeps its numbers: their new denominator is its entry
@@ -88,28 +89,17 @@ row_divided width limit g by e w p r ew hp low = record {
 pub row_shortened : (width limit : ℕ) (f : ℕ → Rational) (old new : WholeRowView) → IsShortened old new → IsRow width limit f old.numbers old.bottom → IsRow width limit f new.numbers new.bottom
 row_shortened width limit f old new s r = let h = s.shared in record {
   length_is = s.length_is ∙ r.length_is;
-  some = some new.bottom s.bottom_is;
-  low = difference new.bottom h old.bottom s.some s.bottom_is r.low;
+  some = quotient_some new.bottom s.shared old.bottom s.bottom_is r.some;
+  low = quotient_below new.bottom h old.bottom s.some s.bottom_is r.low;
   named = λ k l. reduced_name (f k) (number_at new.numbers k) new.bottom h s.some
       (subst (λ (d : ℕ). IsRatio (f k) (number_at new.numbers k *ℤ pos h) d) (sym s.bottom_is)
       (subst (λ (z : ℤ). IsRatio (f k) z old.bottom) (sym (s.entries k (omega (arith, l, r.length_is)))) (r.named k l)));
-  small = λ k l. fewer (unsigned_abs (number_at new.numbers k)) h (unsigned_abs (number_at old.numbers k)) limit s.some
+  small = λ k l. quotient_at_most (unsigned_abs (number_at new.numbers k)) h (unsigned_abs (number_at old.numbers k)) limit s.some
       (sym (unsigned_abs-mul (number_at new.numbers k) (pos h)) ∙ ap unsigned_abs (s.entries k (omega (arith, l, r.length_is)))) (r.small k l);
 }
   where
-    some : (k : ℕ) → k * s.shared ≡ old.bottom → 0 < k
-    some zero e = absurd (omega (arith, e, r.some))
-    some (suc k) e = omega arith
-
-    grown : (a h : ℕ) → 0 < h → a ≤ a * h
-    grown a zero l = absurd (omega arith)
-    grown a (suc h) l = omega arith
-
-    difference : (a h b : ℕ) → 0 < h → a * h ≡ b → b < 2 ^ 63 → a < 2 ^ 63
-    difference a h b l e k = omega (arith, e, k, grown a h l)
-
-    fewer : (a h b c : ℕ) → 0 < h → a * h ≡ b → b ≤ c → a ≤ c
-    fewer a h b c l e k = omega (arith, e, k, grown a h l)
+    quotient_below : (a h b : ℕ) → 0 < h → a * h ≡ b → b < 2 ^ 63 → a < 2 ^ 63
+    quotient_below a h b l e k = omega (arith, e, k, le-mul_of_pos_right a l)
 
 -- the row less as much of the leaving row as makes its entry 0, from the factors left after their common divisor
 pub less_row : (width limit : ℕ) (old own new : WholeRowView) (z p a b : ℤ) → pos 1 ≤ℤ p
@@ -120,24 +110,20 @@ less_row width limit old own new z (negsuc p) a b hp ea eb c d l = absurd (omega
 less_row width limit old own new z (pos p) a b hp ea eb c d l = λ f g x w rf rg ex ew.
     subst (λ (k : ℕ). IsRow width limit (λ k. difference ring_ℚ (f k) (Q.times (g k) (Q.times x (Q.inverse w)))) new.numbers k) (sym (d ∙ ap (λ a. old.bottom * unsigned_abs a) ea))
     (row_stepped width limit f g old.numbers own.numbers new.numbers old.bottom own.bottom x w z b p (p / gcd p (unsigned_abs z)) (gcd p (unsigned_abs z)) rf rg ex ew some_gcd
-    (some (p / gcd p (unsigned_abs z)) whole) whole (ap (λ b. b *ℤ pos (gcd p (unsigned_abs z))) eb ∙ over_back z (gcd p (unsigned_abs z)) is.1)
+    (quotient_some (p / gcd p (unsigned_abs z)) (gcd p (unsigned_abs z)) p product_is_whole entry_some) product_is_whole (ap (λ b. b *ℤ pos (gcd p (unsigned_abs z))) eb ∙ over_back z (gcd p (unsigned_abs z)) divisor_is_greatest.1)
     (subst (λ (a : ℤ). IsCombined width limit old.numbers own.numbers a b new.numbers) ea c) (subst (λ (a : ℤ). old.bottom * unsigned_abs a < 2 ^ 63) ea l))
   where
-    hp' : 0 < p
-    hp' = omega (arith, ints, hp)
+    entry_some : 0 < p
+    entry_some = omega (arith, ints, hp)
 
-    is : IsGcd p (unsigned_abs z) (gcd p (unsigned_abs z))
-    is = gcd_is p (unsigned_abs z)
+    divisor_is_greatest : IsGcd p (unsigned_abs z) (gcd p (unsigned_abs z))
+    divisor_is_greatest = gcd_is p (unsigned_abs z)
 
     some_gcd : 0 < gcd p (unsigned_abs z)
-    some_gcd = pos_of_dvd_of_pos is.0 hp'
+    some_gcd = pos_of_dvd_of_pos divisor_is_greatest.0 entry_some
 
-    whole : p / gcd p (unsigned_abs z) * gcd p (unsigned_abs z) ≡ p
-    whole = div-mul_cancel (gcd p (unsigned_abs z)) is.0
-
-    some : (k : ℕ) → k * gcd p (unsigned_abs z) ≡ p → 0 < k
-    some zero e = absurd (omega (arith, e, hp'))
-    some (suc k) e = omega arith
+    product_is_whole : p / gcd p (unsigned_abs z) * gcd p (unsigned_abs z) ≡ p
+    product_is_whole = div-mul_cancel (gcd p (unsigned_abs z)) divisor_is_greatest.0
 
 -- and where the entry is 0 already
 pub kept_row : (width limit : ℕ) (old own : WholeRowView) (p : ℤ) → IsWholeRowReduced width limit old own (pos 0) p old
@@ -154,7 +140,7 @@ divided_row width limit old new (pos p) h k e d = λ g w r ew.
 pub less_divided : (width limit : ℕ) (old own mid new : WholeRowView) (z p : ℤ) → IsWholeRowDivided width limit own p mid → IsWholeRowReduced width limit old mid z (pos mid.bottom) new → IsWholeRowReduced width limit old own z p new
 less_divided width limit old own mid new z p d l = λ f g x w rf rg ex ew.
     same_row (λ k. difference ring_ℚ (f k) (Q.times (Q.times (g k) (Q.inverse w)) (Q.times x (Q.inverse (Q.integer (pos 1)))))) (λ k. difference ring_ℚ (f k) (Q.times (g k) (Q.times x (Q.inverse w))))
-    (λ k. same (f k) (g k) x (Q.inverse w))
+    (λ k. same_difference (f k) (g k) x (Q.inverse w))
     (l f (λ k. Q.times (g k) (Q.inverse w)) x (Q.integer (pos 1)) rf (d g w rg ew) ex (one_named (Q.integer (pos 1)).num (Q.integer (pos 1)).den mid.bottom (whole_names (pos 1))))
   where
     same_row : (f g : ℕ → Rational) → ((k : ℕ) → f k ≡ g k) → IsRow width limit f new.numbers new.bottom → IsRow width limit g new.numbers new.bottom
@@ -167,22 +153,19 @@ less_divided width limit old own mid new z p d l = λ f g x w rf rg ex ew.
     }
 
     one_named : (x : ℤ) (b d : ℕ) → x *ℤ pos 1 ≡ pos 1 *ℤ pos b → x *ℤ pos d ≡ pos d *ℤ pos b
-    one_named x b d e = ap (λ z. z *ℤ pos d) is ∙ omega (arith, zring)
+    one_named x b d e = ap (λ z. z *ℤ pos d) number_is_bottom ∙ omega (arith, zring)
       where
-        is : x ≡ pos b
-        is = omega (arith, ints, e)
+        number_is_bottom : x ≡ pos b
+        number_is_bottom = omega (arith, ints, e)
 
     inverse_one : Q.inverse (Q.integer (pos 1)) ≡ Q.integer (pos 1)
     inverse_one = same_value (Q.inverse (Q.integer (pos 1))) (Q.integer (pos 1)) (pos 1) (pos 1) 1 1 (omega arith) (omega arith)
         (inverse_names (Q.integer (pos 1)) 1 1 (omega arith) (omega arith) (whole_names (pos 1))) (whole_names (pos 1)) refl
 
-    same : (a b x i : Rational) → difference ring_ℚ a (Q.times (Q.times b i) (Q.times x (Q.inverse (Q.integer (pos 1))))) ≡ difference ring_ℚ a (Q.times b (Q.times x i))
-    same a b x i = ap (λ y. difference ring_ℚ a (Q.times (Q.times b i) (Q.times x y))) inverse_one
+    same_difference : (a b x i : Rational) → difference ring_ℚ a (Q.times (Q.times b i) (Q.times x (Q.inverse (Q.integer (pos 1))))) ≡ difference ring_ℚ a (Q.times b (Q.times x i))
+    same_difference a b x i = ap (λ y. difference ring_ℚ a (Q.times (Q.times b i) (Q.times x y))) inverse_one
         ∙ ring ring_ℚ (a ∷ b ∷ x ∷ i ∷ []) (plus (v 0) (minus (times (times (v 1) (v 3)) (times (v 2) one)))) (plus (v 0) (minus (times (v 1) (times (v 2) (v 3))))) refl
 
 -- a row is itself over the same denominator
 pub same_shortened : (row : WholeRowView) → IsShortened row row
-same_shortened row = record { shared = 1; some = omega arith; length_is = refl; entries = λ k l. once (number_at row.numbers k); bottom_is = omega arith }
-  where
-    once : (z : ℤ) → z *ℤ pos 1 ≡ z
-    once z = omega (arith, ints)
+same_shortened row = record { shared = 1; some = omega arith; length_is = refl; entries = λ k l. times_one (number_at row.numbers k); bottom_is = omega arith }

@@ -2,7 +2,7 @@
 use Rattle.std.proofs.Common.{◌≡◌, ℕ, ◌+◌, ◌-◌, ◌<◌, ℤ, pos, ◌*ℤ◌, List, length, Some, refl, sym, ap, subst, ◌∙◌, arith}
 use Rattle.std.proofs.lemmas.Int.{ints}
 use Rattle.it_rational.specs.Rational.{Rational, IsRatio}
-use Rattle.it_rational.proofs.Names.{cancel}
+use Rattle.it_rational.proofs.Names.{cancel_factor}
 use Rattle.it_rational.proofs.Field.{field_ℚ}
 use Rattle.it_fraction.proofs.ZeroLemmas.{zero_parts}
 use Rattle.it_space.specs.Rows.{Terms}
@@ -27,10 +27,10 @@ pub record IsRunUnderWay (columns : List Terms) (limit : ℕ) (old : List WholeR
       × ((e : RunEndView (SimplexTable Rational) (SimplexTable Rational)) → Reaches (length basis) (length columns) (budget - k) k s e → Reaches (length basis) (length columns) budget 0 t e)
 
 pub run_begins : (columns : List Terms) (limit : ℕ) (old : List WholeRowView) (basis : List ℕ) (budget : ℕ) → IsSafe columns limit old basis → IsRunUnderWay columns limit old basis budget old basis 0
-run_begins columns limit old basis budget h = record { engine = h; height = refl; runs = λ p t s. (t, s, λ e r. subst (λ (x : ℕ). Reaches (length basis) (length columns) x 0 t e) (all budget) r) }
+run_begins columns limit old basis budget h = record { engine = h; height = refl; runs = λ p t s. (t, s, λ e r. subst (λ (x : ℕ). Reaches (length basis) (length columns) x 0 t e) (whole_budget_left budget) r) }
   where
-    all : (b : ℕ) → b - 0 ≡ b
-    all b = omega arith
+    whole_budget_left : (b : ℕ) → b - 0 ≡ b
+    whole_budget_left b = omega arith
 
 -- the cost row's right side
 module _ (p : FeasibilityProblem Rational) (t : SimplexTable Rational) (columns : List Terms) (limit : ℕ) (rows : List WholeRowView) (basis : List ℕ) (s : StandsFor p t columns limit rows basis) where
@@ -45,10 +45,10 @@ module _ (p : FeasibilityProblem Rational) (t : SimplexTable Rational) (columns 
   not_done_here n d = n (number_null (right_side_of (length basis) rows (length basis)) (t.entry (length basis) (length columns + length basis)) (whole_row_at rows (length basis)).bottom cost_named (ap (λ (q : Rational). q.num) d ∙ zero_parts.0))
     where
       number_null : (z : ℤ) (q : Rational) (d : ℕ) → IsRatio q z d → q.num ≡ pos 0 → z ≡ pos 0
-      number_null z q d e f = cancel z (pos 0) q.den q.positive (sym e ∙ ap (λ x. x *ℤ pos d) f ∙ none d q.den)
+      number_null z q d e f = cancel_factor z (pos 0) q.den q.positive (sym e ∙ ap (λ x. x *ℤ pos d) f ∙ zero_products d q.den)
         where
-          none : (a b : ℕ) → pos 0 *ℤ pos a ≡ pos 0 *ℤ pos b
-          none a b = omega (arith, ints)
+          zero_products : (a b : ℕ) → pos 0 *ℤ pos a ≡ pos 0 *ℤ pos b
+          zero_products a b = omega (arith, ints)
 
 module _ (columns : List Terms) (limit : ℕ) (old : List WholeRowView) (basis : List ℕ) (budget : ℕ) (now : List WholeRowView) (now_basis : List ℕ) (k : ℕ)
     (w : IsRunUnderWay columns limit old basis budget now now_basis k) where
@@ -115,12 +115,12 @@ module _ (columns : List Terms) (limit : ℕ) (old : List WholeRowView) (basis :
               (by_same_height (λ m. ¬ (IsStuck field_ℚ m (length columns) r.0)) made.moves)
               (by_same_height (λ m. Rattle.it_run.specs.Solving.StepFits m (length columns) r.0) made.fits)
               (ap (λ m. next field_ℚ m (length columns) r.0) w.height)
-              (subst (λ (x : ℕ). Reaches (length basis) (length columns) x (k + 1) (next field_ℚ (length now_basis) (length columns) r.0) e) (fewer budget k) q)),
+              (subst (λ (x : ℕ). Reaches (length basis) (length columns) x (k + 1) (next field_ℚ (length now_basis) (length columns) r.0) e) (one_step_less budget k) q)),
         );
   }
     where
-      fewer : (b k : ℕ) → b - (k + 1) ≡ b - k - 1
-      fewer b k = omega arith
+      one_step_less : (b k : ℕ) → b - (k + 1) ≡ b - k - 1
+      one_step_less b k = omega arith
 
 -- where a column has a cost below 0 the run isn't stuck
 pub not_stuck_here : (p : FeasibilityProblem Rational) (t : SimplexTable Rational) (columns : List Terms) (limit : ℕ) (rows : List WholeRowView) (basis : List ℕ) (c : ℕ) → StandsFor p t columns limit rows basis

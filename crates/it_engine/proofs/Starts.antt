@@ -71,13 +71,13 @@ module _ (t : TableauView) (columns : List Terms) (norm limit : ℕ) (rows : Lis
       norm = norm;
       some = n.some;
       fit = fit;
-      holds = moved (λ m n. HasInvariants field_ℚ m n p (table t)) (subst (HasInvariants field_ℚ (height t) t.generators p) (sym e) (start_has_invariants field_ℚ (height t) t.generators p));
-      shows = moved (λ m n. ShowsTable m n limit (table t) rows basis) start_is_shown;
-      columns_are = moved (λ m n. AreStartColumns m n norm p columns) columns_are;
+      holds = by_same_sizes (λ m n. HasInvariants field_ℚ m n p (table t)) (subst (HasInvariants field_ℚ (height t) t.generators p) (sym e) (start_has_invariants field_ℚ (height t) t.generators p));
+      shows = by_same_sizes (λ m n. ShowsTable m n limit (table t) rows basis) start_is_shown;
+      columns_are = by_same_sizes (λ m n. AreStartColumns m n norm p columns) columns_are;
     }
       where
-        moved : (P : ℕ → ℕ → Type 0) → P (height t) t.generators → P (length basis) (length columns)
-        moved P x = subst (λ (m : ℕ). P m (length columns)) (sym bs.0) (subst (P (height t)) (sym cs.0) x)
+        by_same_sizes : (P : ℕ → ℕ → Type 0) → P (height t) t.generators → P (length basis) (length columns)
+        by_same_sizes P x = subst (λ (m : ℕ). P m (length columns)) (sym bs.0) (subst (P (height t)) (sym cs.0) x)
 
 -- the limit that a norm leaves
 pub limit_fits : (norm : ℕ) → norm * (9223372036854775807 / norm) < 2 ^ 63

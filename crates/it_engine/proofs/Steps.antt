@@ -32,22 +32,22 @@ IfAbove entry (Some k) = is_above_zero (entry k) ≡ true
 
 -- the best row has an entry above 0
 pub best_above : (entry right : ℕ → ℤ) (basis : ℕ → ℕ) (i r : ℕ) → best_row_below entry right basis i ≡ Some r → is_above_zero (entry r) ≡ true
-best_above entry right basis i r e = subst (λ (o : Option ℕ). IfAbove entry o) e (up i)
+best_above entry right basis i r e = subst (λ (o : Option ℕ). IfAbove entry o) e (best_is_above i)
   where
-    up : (i : ℕ) → IfAbove entry (best_row_below entry right basis i)
-    up zero = tt
-    up (suc i) = by_option (best_row_below entry right basis i) (is_above_zero (entry i)) refl (up i)
+    best_is_above : (i : ℕ) → IfAbove entry (best_row_below entry right basis i)
+    best_is_above zero = tt
+    best_is_above (suc i) = by_option (best_row_below entry right basis i) (is_above_zero (entry i)) refl (best_is_above i)
       where
         by_option : (o : Option ℕ) (b : Bool) → is_above_zero (entry i) ≡ b → IfAbove entry o → IfAbove entry (best_after_row entry right basis i o)
         by_option None false f a = subst (λ (b : Bool). IfAbove entry (cond b (Some i) None)) (sym f) tt
         by_option None true f a = subst (λ (b : Bool). IfAbove entry (cond b (Some i) None)) (sym f) f
         by_option (Some k) false f a = subst (λ (b : Bool). IfAbove entry (cond b (cond (comes_first (right i) (entry i) (basis i) (right k) (entry k) (basis k)) (Some i) (Some k)) (Some k))) (sym f) a
         by_option (Some k) true f a = subst (λ (b : Bool). IfAbove entry (cond b (cond (comes_first (right i) (entry i) (basis i) (right k) (entry k) (basis k)) (Some i) (Some k)) (Some k))) (sym f)
-            (two (comes_first (right i) (entry i) (basis i) (right k) (entry k) (basis k)))
+            (by_order_test (comes_first (right i) (entry i) (basis i) (right k) (entry k) (basis k)))
           where
-            two : (d : Bool) → IfAbove entry (cond d (Some i) (Some k))
-            two true = f
-            two false = a
+            by_order_test : (d : Bool) → IfAbove entry (cond d (Some i) (Some k))
+            by_order_test true = f
+            by_order_test false = a
 
 pub above_one : (z : ℤ) → is_above_zero z ≡ true → pos 1 ≤ℤ z
 above_one (pos zero) e = absurd (true≢false (sym e))
@@ -81,25 +81,25 @@ module _ (p : FeasibilityProblem Rational) (t : SimplexTable Rational) (columns 
       (λ i l. s.shows.basis_is i l))
 
   module _ (c r : ℕ) (hc : c < length columns) (ec : first_negative_cost columns (whole_row_at rows (length basis)).numbers ≡ c) (er : best_row (slice_index_or columns c []) rows basis (length basis) ≡ Some r) where
-    enters : entering_column field_ℚ (length basis) (length columns) t ≡ c
-    enters = entering_same ∙ ec
+    column_enters : entering_column field_ℚ (length basis) (length columns) t ≡ c
+    column_enters = entering_same ∙ ec
 
-    lv : (leaving_row field_ℚ (length basis) (length columns) t c ≡ r) × (r < length basis) × (is_candidate field_ℚ t c r ≡ true)
-    lv = leaving_same c r hc er
+    row_leaves : (leaving_row field_ℚ (length basis) (length columns) t c ≡ r) × (r < length basis) × (is_candidate field_ℚ t c r ≡ true)
+    row_leaves = leaving_same c r hc er
 
     -- what is said of the row and the column is said of the step's
     to_step : (P : ℕ → ℕ → Type 0) → P r c → P (leaving_row field_ℚ (length basis) (length columns) t (entering_column field_ℚ (length basis) (length columns) t)) (entering_column field_ℚ (length basis) (length columns) t)
-    to_step P x = subst (λ (y : ℕ). P (leaving_row field_ℚ (length basis) (length columns) t y) y) (sym enters) (subst (λ (x : ℕ). P x c) (sym lv.0) x)
+    to_step P x = subst (λ (y : ℕ). P (leaving_row field_ℚ (length basis) (length columns) t y) y) (sym column_enters) (subst (λ (x : ℕ). P x c) (sym row_leaves.0) x)
 
     pub moves_here : ¬ (IsStuck field_ℚ (length basis) (length columns) t)
-    moves_here = not_stuck_with_entering (length basis) (length columns) t c record { within = hc; is = enters }
+    moves_here = not_stuck_with_entering (length basis) (length columns) t c record { within = hc; is = column_enters }
 
     pub fits_here : StepFits (length basis) (length columns) t
     fits_here = W.step_fits (length basis) (length columns) t
         (number (length basis) (length columns) limit s.norm p t columns rows basis s.holds s.shows s.columns_are s.fit s.some)
         (bottom (length basis) (length columns) limit s.norm p t columns rows basis s.holds s.shows s.columns_are s.fit s.some)
         (table_is_over (length basis) (length columns) limit s.norm p t columns rows basis s.holds s.shows s.columns_are s.fit s.some)
-        (to_step (λ r c. r < length basis) lv.1) (to_step (λ r c. c < length columns) hc) (to_step (λ r c. is_candidate field_ℚ t c r ≡ true) lv.2)
+        (to_step (λ r c. r < length basis) row_leaves.1) (to_step (λ r c. c < length columns) hc) (to_step (λ r c. is_candidate field_ℚ t c r ≡ true) row_leaves.2)
 
     pub next_is : pivot field_ℚ t r c ≡ next field_ℚ (length basis) (length columns) t
     next_is = to_step (λ r' c'. pivot field_ℚ t r c ≡ pivot field_ℚ t r' c') refl
@@ -111,14 +111,11 @@ module _ (p : FeasibilityProblem Rational) (t : SimplexTable Rational) (columns 
       rows_are = a.same_length ∙ s.shows.rows_are;
       basis_are = length-set basis r c;
       row = λ i l. row_shown i l (cases_eq i r);
-      basis_is = λ i l. basic i l (cases_eq i r);
+      basis_is = λ i l. basis_after i l (cases_eq i r);
     }
       where
-        width : ℕ
-        width = length basis + 1
-
-        rg : IsRow (length basis + 1) limit (λ k. t.entry r (length columns + k)) (whole_row_at rows r).numbers (whole_row_at rows r).bottom
-        rg = s.shows.row r (omega (arith, lv.1))
+        leaving_row_is : IsRow (length basis + 1) limit (λ k. t.entry r (length columns + k)) (whole_row_at rows r).numbers (whole_row_at rows r).bottom
+        leaving_row_is = s.shows.row r (omega (arith, row_leaves.1))
 
         row_shown : (i : ℕ) → i < length basis + 1 → (i ≡ r) ⊎ (i ≡ r → ⊥)
             → IsRow (length basis + 1) limit (λ k. (pivot field_ℚ t r c).entry i (length columns + k)) (whole_row_at new i).numbers (whole_row_at new i).bottom
@@ -128,8 +125,8 @@ module _ (p : FeasibilityProblem Rational) (t : SimplexTable Rational) (columns 
             (whole_row_at new r).numbers (whole_row_at new r).bottom) (sym (eq-eqb r r refl))
             (subst (λ (w : ℕ). IsRow w limit (λ k. Q.times (t.entry r (length columns + k)) (Q.inverse (t.entry r c))) (whole_row_at new r).numbers (whole_row_at new r).bottom) s.shows.rows_are
             (a.own (λ k. t.entry r (length columns + k)) (t.entry r c)
-            (subst (λ (w : ℕ). IsRow w limit (λ k. t.entry r (length columns + k)) (whole_row_at rows r).numbers (whole_row_at rows r).bottom) (sym s.shows.rows_are) rg)
-            (entry_named r c (omega (arith, lv.1)) hc))))
+            (subst (λ (w : ℕ). IsRow w limit (λ k. t.entry r (length columns + k)) (whole_row_at rows r).numbers (whole_row_at rows r).bottom) (sym s.shows.rows_are) leaving_row_is)
+            (entry_named r c (omega (arith, row_leaves.1)) hc))))
         row_shown i l (inr d) =
             (subst (λ (b : Bool). IsRow (length basis + 1) limit
             (λ k. cond b (Q.times (t.entry r (length columns + k)) (Q.inverse (t.entry r c))) (difference ring_ℚ (t.entry i (length columns + k)) (Q.times (t.entry r (length columns + k)) (Q.times (t.entry i c) (Q.inverse (t.entry r c))))))
@@ -137,12 +134,12 @@ module _ (p : FeasibilityProblem Rational) (t : SimplexTable Rational) (columns 
             (subst (λ (w : ℕ). IsRow w limit (λ k. difference ring_ℚ (t.entry i (length columns + k)) (Q.times (t.entry r (length columns + k)) (Q.times (t.entry i c) (Q.inverse (t.entry r c))))) (whole_row_at new i).numbers (whole_row_at new i).bottom) s.shows.rows_are
             ((a.others i (omega (arith, l, s.shows.rows_are)) d).less (λ k. t.entry i (length columns + k)) (λ k. t.entry r (length columns + k)) (t.entry i c) (t.entry r c)
             (subst (λ (w : ℕ). IsRow w limit (λ k. t.entry i (length columns + k)) (whole_row_at rows i).numbers (whole_row_at rows i).bottom) (sym s.shows.rows_are) (s.shows.row i l))
-            (subst (λ (w : ℕ). IsRow w limit (λ k. t.entry r (length columns + k)) (whole_row_at rows r).numbers (whole_row_at rows r).bottom) (sym s.shows.rows_are) rg)
-            (entry_named i c (omega (arith, l)) hc) (entry_named r c (omega (arith, lv.1)) hc))))
+            (subst (λ (w : ℕ). IsRow w limit (λ k. t.entry r (length columns + k)) (whole_row_at rows r).numbers (whole_row_at rows r).bottom) (sym s.shows.rows_are) leaving_row_is)
+            (entry_named i c (omega (arith, l)) hc) (entry_named r c (omega (arith, row_leaves.1)) hc))))
 
-        basic : (i : ℕ) → i < length basis → (i ≡ r) ⊎ (i ≡ r → ⊥) → (pivot field_ℚ t r c).basis i ≡ slice_index_or (slice_set basis r c) i 0
-        basic i l (inl e) = ap (λ b. cond b c (t.basis i)) (eq-eqb i r e) ∙ sym (get_or-set_same basis r c 0 lv.1) ∙ ap (λ x. slice_index_or (slice_set basis r c) x 0) (sym e)
-        basic i l (inr d) = ap (λ b. cond b c (t.basis i)) (ne_eqb i r d) ∙ s.shows.basis_is i l ∙ sym (get_or-set_other basis r i c 0 d)
+        basis_after : (i : ℕ) → i < length basis → (i ≡ r) ⊎ (i ≡ r → ⊥) → (pivot field_ℚ t r c).basis i ≡ slice_index_or (slice_set basis r c) i 0
+        basis_after i l (inl e) = ap (λ b. cond b c (t.basis i)) (eq-eqb i r e) ∙ sym (get_or-set_same basis r c 0 row_leaves.1) ∙ ap (λ x. slice_index_or (slice_set basis r c) x 0) (sym e)
+        basis_after i l (inr d) = ap (λ b. cond b c (t.basis i)) (ne_eqb i r d) ∙ s.shows.basis_is i l ∙ sym (get_or-set_other basis r i c 0 d)
 
     pub step_is_made : (new : List WholeRowView) → AreWholeRowsPivoted (length rows) limit rows (slice_index_or columns c []) r new → IsStepMade p t columns limit basis new (slice_set basis r c)
     step_is_made new a = record {
@@ -152,26 +149,26 @@ module _ (p : FeasibilityProblem Rational) (t : SimplexTable Rational) (columns 
         norm = s.norm;
         some = s.some;
         fit = s.fit;
-        holds = subst (λ (m : ℕ). HasInvariants field_ℚ m (length columns) p (next field_ℚ (length basis) (length columns) t)) (sym same) (next_holds field_ℚ (length basis) (length columns) p t s.holds moves_here);
-        shows = subst (λ (m : ℕ). ShowsTable m (length columns) limit (next field_ℚ (length basis) (length columns) t) new (slice_set basis r c)) (sym same)
+        holds = subst (λ (m : ℕ). HasInvariants field_ℚ m (length columns) p (next field_ℚ (length basis) (length columns) t)) (sym same_length) (next_holds field_ℚ (length basis) (length columns) p t s.holds moves_here);
+        shows = subst (λ (m : ℕ). ShowsTable m (length columns) limit (next field_ℚ (length basis) (length columns) t) new (slice_set basis r c)) (sym same_length)
             (subst (λ (t : SimplexTable Rational). ShowsTable (length basis) (length columns) limit t new (slice_set basis r c)) next_is (shows_pivot new a));
-        columns_are = subst (λ (m : ℕ). AreStartColumns m (length columns) s.norm p columns) (sym same) s.columns_are;
+        columns_are = subst (λ (m : ℕ). AreStartColumns m (length columns) s.norm p columns) (sym same_length) s.columns_are;
       };
     }
       where
-        same : length (slice_set basis r c) ≡ length basis
-        same = length-set basis r c
+        same_length : length (slice_set basis r c) ≡ length basis
+        same_length = length-set basis r c
 
 -- the step keeps the engine's parts in agreement
 pub engine_kept : (columns : List Terms) (limit : ℕ) (rows new : List WholeRowView) (basis : List ℕ) (terms : Terms) (r c : ℕ) → r < length basis → IsSafe columns limit rows basis
     → AreWholeRowsPivoted (length rows) limit rows terms r new → IsSafe columns limit new (slice_set basis r c)
 engine_kept columns limit rows new basis terms r c h e a = record {
   rows_are = a.same_length ∙ e.rows_are ∙ ap (λ k. k + 1) (sym (length-set basis r c));
-  usable = λ i l. subst (λ (w : ℕ). IsUsable w limit (whole_row_at new i)) (sym a.same_length) (usable i (omega (arith, l, a.same_length)) (cases_eq i r));
+  usable = λ i l. subst (λ (w : ℕ). IsUsable w limit (whole_row_at new i)) (sym a.same_length) (by_cases i (omega (arith, l, a.same_length)) (cases_eq i r));
   fitting = λ j l. subst (λ (w : ℕ). IsFitting w limit (slice_index_or columns j [])) (sym a.same_length) (e.fitting j l);
   limit_is = e.limit_is;
 }
   where
-    usable : (i : ℕ) → i < length rows → (i ≡ r) ⊎ (i ≡ r → ⊥) → IsUsable (length rows) limit (whole_row_at new i)
-    usable i l (inl q) = subst (λ (x : ℕ). IsUsable (length rows) limit (whole_row_at new x)) (sym q) a.own_usable
-    usable i l (inr d) = (a.others i l d).usable
+    by_cases : (i : ℕ) → i < length rows → (i ≡ r) ⊎ (i ≡ r → ⊥) → IsUsable (length rows) limit (whole_row_at new i)
+    by_cases i l (inl q) = subst (λ (x : ℕ). IsUsable (length rows) limit (whole_row_at new x)) (sym q) a.own_usable
+    by_cases i l (inr d) = (a.others i l d).usable

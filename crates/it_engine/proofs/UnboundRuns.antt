@@ -92,12 +92,12 @@ module _ (columns : List Terms) (limit : ℕ) (old : List WholeRowView) (basis :
               (by_same_height (λ m. ¬ (IsStuck field_ℚ m (length columns) r.last)) made.moves)
               (by_same_height (λ m. StepFits m (length columns) r.last) made.fits)
               (ap (λ m. next field_ℚ m (length columns) r.last) w.height)
-              (subst (λ (x : ℕ). Reaches (length basis) (length columns) x (r.made + 1) (next field_ℚ (length now_basis) (length columns) r.last) e) (fewer left) q));
+              (subst (λ (x : ℕ). Reaches (length basis) (length columns) x (r.made + 1) (next field_ℚ (length now_basis) (length columns) r.last) e) (one_step_less left) q));
         };
   }
     where
-      fewer : (left : ℕ) → left ≡ suc left - 1
-      fewer left = omega arith
+      one_step_less : (left : ℕ) → left ≡ suc left - 1
+      one_step_less left = omega arith
 
   pub step_lowers_steps_left : (new : List WholeRowView) (new_basis : List ℕ) → IsEngineStep columns limit now now_basis new new_basis → steps_left_to columns new new_basis < steps_left_to columns now now_basis
   step_lowers_steps_left new new_basis g = let i = w.some in steps_left_falls i.0 i.1 columns limit now now_basis new new_basis i.2 g

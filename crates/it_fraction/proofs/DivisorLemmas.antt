@@ -27,25 +27,25 @@ gcd-within a b h k = gcd_below (unsigned_abs a) (unsigned_abs b) (2 ^ 127) h k
 
 -- n / d over their greatest common divisor g
 module _ (n : ℤ) (d g : ℕ) (h : 0 < d) (e : g ≡ gcd (unsigned_abs n) d) where
-  is : IsGcd (unsigned_abs n) d g
-  is = rw e (gcd_is (unsigned_abs n) d)
+  gcd_law : IsGcd (unsigned_abs n) d g
+  gcd_law = rw e (gcd_is (unsigned_abs n) d)
 
   pub reduced-some : 0 < d / g
-  reduced-some = rest_pos d g is.1 h
+  reduced-some = rest_pos d g gcd_law.1 h
 
   pub reduced-lowest : IsGcd (unsigned_abs (int_quotient n g)) (d / g) 1
-  reduced-lowest = rw (abs-over n g) (coprime_rest (unsigned_abs n) d g (rw e (gcd-pos (unsigned_abs n) d h)) is)
+  reduced-lowest = rw (abs-over n g) (coprime_rest (unsigned_abs n) d g (rw e (gcd-pos (unsigned_abs n) d h)) gcd_law)
 
   pub reduced-is : quotient (int_quotient n g) (d / g) ≡ quotient n d
   reduced-is =
       quotient_is (int_quotient n g) (int_quotient n g) (d / g) (d / g) reduced-some reduced-some reduced-lowest refl
-      ∙ sym (quotient_is (int_quotient n g) n (d / g) d h reduced-some reduced-lowest across)
+      ∙ sym (quotient_is (int_quotient n g) n (d / g) d h reduced-some reduced-lowest cross_products)
     where
       law : (x p g : ℤ) → x *ℤ (p *ℤ g) ≡ (x *ℤ g) *ℤ p
       law x p g = ring ring_ℤ (x ∷ p ∷ g ∷ []) (times (v 0) (times (v 1) (v 2))) (times (times (v 0) (v 2)) (v 1)) refl
 
-      across : int_quotient n g *ℤ pos d ≡ n *ℤ pos (d / g)
-      across = ap (λ (m : ℕ). int_quotient n g *ℤ pos m) (sym (div-mul_cancel g is.1)) ∙ law (int_quotient n g) (pos (d / g)) (pos g) ∙ ap (λ z. z *ℤ pos (d / g)) (over_back n g is.0)
+      cross_products : int_quotient n g *ℤ pos d ≡ n *ℤ pos (d / g)
+      cross_products = ap (λ (m : ℕ). int_quotient n g *ℤ pos m) (sym (div-mul_cancel g gcd_law.1)) ∙ law (int_quotient n g) (pos (d / g)) (pos g) ∙ ap (λ z. z *ℤ pos (d / g)) (over_back n g gcd_law.0)
 
 -- a least common multiple as it is formed
 pub lcm-formed : (a b left right shared rest : ℕ) → left ≡ a → right ≡ b → shared ≡ gcd left right → rest ≡ right / shared → left * rest ≡ lcm a b

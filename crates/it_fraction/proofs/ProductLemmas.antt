@@ -23,11 +23,11 @@ rest_divides a g h = subst (λ n. a / g ∣ n) (div-mul_cancel g h) (dvd-mul_rig
 
 -- what is left of a number above 0 is above 0
 pub rest_pos : (a g : ℕ) → g ∣ a → 0 < a → 0 < a / g
-rest_pos a g h p = some (a / g) (div-mul_cancel g h)
+rest_pos a g h p = quotient_some (a / g) (div-mul_cancel g h)
   where
-    some : (k : ℕ) → k * g ≡ a → 0 < k
-    some zero e = omega arith
-    some (suc k) e = omega arith
+    quotient_some : (k : ℕ) → k * g ≡ a → 0 < k
+    quotient_some zero e = omega arith
+    quotient_some (suc k) e = omega arith
 
 -- the numerator and the denominator of the product
 abbrev pub product_top : ℤ → ℕ → ℤ → ℕ → ℤ
@@ -63,13 +63,13 @@ module _ (a : ℤ) (b : ℕ) (c : ℤ) (d : ℕ) (hb : 0 < b) (hd : 0 < d) (la :
       let xd : IsGcd x (d / g) 1 = coprime_rest (unsigned_abs a) d g (IsGcd-pos (unsigned_abs a) d g hd g_is) g_is in
       let yb : IsGcd y (b / h) 1 = coprime_rest (unsigned_abs c) b h (IsGcd-pos (unsigned_abs c) b h hb h_is) h_is in
       rw (unsigned_abs-mul (int_quotient a g) (int_quotient c h), abs-over a g, abs-over c h)
-      (coprime_product x y ((b / h) * (d / g)) (both x (b / h) (d / g) xb xd) (both y (b / h) (d / g) yb yd))
+      (coprime_product x y ((b / h) * (d / g)) (product_coprime x (b / h) (d / g) xb xd) (product_coprime y (b / h) (d / g) yb yd))
     where
-      both : (x p q : ℕ) → IsGcd x p 1 → IsGcd x q 1 → IsGcd x (p * q) 1
-      both x p q e f = IsGcd-swap (p * q) x 1 (coprime_product p q x (IsGcd-swap x p 1 e) (IsGcd-swap x q 1 f))
+      product_coprime : (x p q : ℕ) → IsGcd x p 1 → IsGcd x q 1 → IsGcd x (p * q) 1
+      product_coprime x p q e f = IsGcd-swap (p * q) x 1 (coprime_product p q x (IsGcd-swap x p 1 e) (IsGcd-swap x q 1 f))
 
-  across : product_top a b c d *ℤ pos (b * d) ≡ (a *ℤ c) *ℤ pos (product_bottom a b c d)
-  across =
+  cross_products : product_top a b c d *ℤ pos (b * d) ≡ (a *ℤ c) *ℤ pos (product_bottom a b c d)
+  cross_products =
       ap₂ (λ (m n : ℕ). product_top a b c d *ℤ pos (m * n)) (sym (div-mul_cancel h h_is.1)) (sym (div-mul_cancel g g_is.1))
       ∙ law (int_quotient a g) (int_quotient c h) (pos (b / h)) (pos (d / g)) (pos g) (pos h)
       ∙ ap₂ (λ (x y : ℤ). (x *ℤ y) *ℤ pos (product_bottom a b c d)) (over_back a g g_is.0) (over_back c h h_is.0)
@@ -82,9 +82,9 @@ module _ (a : ℤ) (b : ℕ) (c : ℤ) (d : ℕ) (hb : 0 < b) (hd : 0 < d) (la :
   pub product-is : quotient (product_top a b c d) (product_bottom a b c d) ≡ quotient (a *ℤ c) (b * d)
   product-is =
       quotient_is (product_top a b c d) (product_top a b c d) (product_bottom a b c d) (product_bottom a b c d) product-some product-some product-lowest refl
-      ∙ sym (quotient_is (product_top a b c d) (a *ℤ c) (product_bottom a b c d) (b * d) (mul-pos hb hd) product-some product-lowest across)
+      ∙ sym (quotient_is (product_top a b c d) (a *ℤ c) (product_bottom a b c d) (b * d) (mul-pos hb hd) product-some product-lowest cross_products)
 
   pub product-narrow : IsNarrow (quotient (a *ℤ c) (b * d)) ↔ (IsWithin (product_top a b c d) × IsWithin (pos (product_bottom a b c d)))
   product-narrow =
-      let parts = quotient_parts (product_top a b c d) (a *ℤ c) (product_bottom a b c d) (b * d) (mul-pos hb hd) product-some product-lowest across in
+      let parts = quotient_parts (product_top a b c d) (a *ℤ c) (product_bottom a b c d) (b * d) (mul-pos hb hd) product-some product-lowest cross_products in
       rw (parts.0, parts.1) (λ p. p, λ p. p)

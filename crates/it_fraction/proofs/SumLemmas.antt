@@ -9,7 +9,7 @@ use Rattle.it_number.proofs.Divisors.{gcd_is, IsGcd-pos}
 use Rattle.it_number.proofs.SignedDivisors.{sum_lowest, over_back}
 use Rattle.std.proofs.lemmas.Nat.Gcd.{dvd_trans}
 use Rattle.it_number.specs.Division.{int_quotient}
-use Rattle.it_rational.proofs.Names.{cancel, quotient_is}
+use Rattle.it_rational.proofs.Names.{cancel_factor, quotient_is}
 use Rattle.it_fraction.specs.Fits.{PartsFit, common_numerator, shared_rest}
 use Rattle.it_number.specs.Limit.{IsWithin}
 use Rattle.it_number.proofs.Quotients.{abs-over}
@@ -19,20 +19,20 @@ use native.Mathlib.Nat.{div-le_self}
 -- the parts that the sum over the shared divisor forms are those of the sum
 sum_across : (a c : ℤ) (b d g b' d' g' : ℕ) → 0 < g → 0 < g' → b' * g ≡ b → d' * g ≡ d → (d / g') * g' ≡ d → (t : ℤ) → t ≡ a *ℤ pos d' +ℤ c *ℤ pos b' → int_quotient t g' *ℤ pos g' ≡ t
     → int_quotient t g' *ℤ pos (b * d) ≡ (a *ℤ pos d +ℤ c *ℤ pos b) *ℤ pos (b' * (d / g'))
-sum_across a c b d g b' d' g' some some' eb ed e t et back = cancel (int_quotient t g' *ℤ pos (b * d)) ((a *ℤ pos d +ℤ c *ℤ pos b) *ℤ pos (b' * (d / g'))) g' some'
-    (law1 (int_quotient t g') (pos b) (pos d) (pos g') ∙ ap (λ x. x *ℤ (pos b *ℤ pos d)) (back ∙ et) ∙ ap (λ n. (a *ℤ pos d' +ℤ c *ℤ pos b') *ℤ (pos n *ℤ pos d)) (sym eb)
-    ∙ law2 a c (pos b') (pos d') (pos g) (pos d)
+sum_across a c b d g b' d' g' some some' eb ed e t et back = cancel_factor (int_quotient t g' *ℤ pos (b * d)) ((a *ℤ pos d +ℤ c *ℤ pos b) *ℤ pos (b' * (d / g'))) g' some'
+    (factors_swap (int_quotient t g') (pos b) (pos d) (pos g') ∙ ap (λ x. x *ℤ (pos b *ℤ pos d)) (back ∙ et) ∙ ap (λ n. (a *ℤ pos d' +ℤ c *ℤ pos b') *ℤ (pos n *ℤ pos d)) (sym eb)
+    ∙ sums_cross a c (pos b') (pos d') (pos g) (pos d)
     ∙ ap (λ n. (a *ℤ pos n +ℤ c *ℤ (pos b' *ℤ pos g)) *ℤ (pos b' *ℤ pos d)) ed ∙ ap₂ (λ n m. (a *ℤ pos d +ℤ c *ℤ pos n) *ℤ (pos b' *ℤ pos m)) eb (sym e)
-    ∙ law3 (a *ℤ pos d +ℤ c *ℤ pos b) (pos b') (pos (d / g')) (pos g'))
+    ∙ factors_join (a *ℤ pos d +ℤ c *ℤ pos b) (pos b') (pos (d / g')) (pos g'))
   where
-    law1 : (n b d g : ℤ) → (n *ℤ (b *ℤ d)) *ℤ g ≡ (n *ℤ g) *ℤ (b *ℤ d)
-    law1 n b d g = ring ring_ℤ (n ∷ b ∷ d ∷ g ∷ []) (times (times (v 0) (times (v 1) (v 2))) (v 3)) (times (times (v 0) (v 3)) (times (v 1) (v 2))) refl
+    factors_swap : (n b d g : ℤ) → (n *ℤ (b *ℤ d)) *ℤ g ≡ (n *ℤ g) *ℤ (b *ℤ d)
+    factors_swap n b d g = ring ring_ℤ (n ∷ b ∷ d ∷ g ∷ []) (times (times (v 0) (times (v 1) (v 2))) (v 3)) (times (times (v 0) (v 3)) (times (v 1) (v 2))) refl
 
-    law2 : (a c b' d' g d : ℤ) → (a *ℤ d' +ℤ c *ℤ b') *ℤ ((b' *ℤ g) *ℤ d) ≡ (a *ℤ (d' *ℤ g) +ℤ c *ℤ (b' *ℤ g)) *ℤ (b' *ℤ d)
-    law2 a c b' d' g d = ring ring_ℤ (a ∷ c ∷ b' ∷ d' ∷ g ∷ d ∷ []) (times (plus (times (v 0) (v 3)) (times (v 1) (v 2))) (times (times (v 2) (v 4)) (v 5))) (times (plus (times (v 0) (times (v 3) (v 4))) (times (v 1) (times (v 2) (v 4)))) (times (v 2) (v 5))) refl
+    sums_cross : (a c b' d' g d : ℤ) → (a *ℤ d' +ℤ c *ℤ b') *ℤ ((b' *ℤ g) *ℤ d) ≡ (a *ℤ (d' *ℤ g) +ℤ c *ℤ (b' *ℤ g)) *ℤ (b' *ℤ d)
+    sums_cross a c b' d' g d = ring ring_ℤ (a ∷ c ∷ b' ∷ d' ∷ g ∷ d ∷ []) (times (plus (times (v 0) (v 3)) (times (v 1) (v 2))) (times (times (v 2) (v 4)) (v 5))) (times (plus (times (v 0) (times (v 3) (v 4))) (times (v 1) (times (v 2) (v 4)))) (times (v 2) (v 5))) refl
 
-    law3 : (s b' e g : ℤ) → s *ℤ (b' *ℤ (e *ℤ g)) ≡ (s *ℤ (b' *ℤ e)) *ℤ g
-    law3 s b' e g = ring ring_ℤ (s ∷ b' ∷ e ∷ g ∷ []) (times (v 0) (times (v 1) (times (v 2) (v 3)))) (times (times (v 0) (times (v 1) (v 2))) (v 3)) refl
+    factors_join : (s b' e g : ℤ) → s *ℤ (b' *ℤ (e *ℤ g)) ≡ (s *ℤ (b' *ℤ e)) *ℤ g
+    factors_join s b' e g = ring ring_ℤ (s ∷ b' ∷ e ∷ g ∷ []) (times (v 0) (times (v 1) (times (v 2) (v 3)))) (times (times (v 0) (times (v 1) (v 2))) (v 3)) refl
 
 -- n / e are the parts of the sum of a / b and c / d: above 0, in lowest terms, and equal to it
 pub record AreParts (a : ℤ) (b : ℕ) (c : ℤ) (d : ℕ) (n : ℤ) (e : ℕ) : Type 0 where

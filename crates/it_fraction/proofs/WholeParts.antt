@@ -20,35 +20,35 @@ pub same_shift : (x y k : ℕ) → nat_cmp (x + k) (y + k) ≡ nat_cmp x y
 same_shift x y k = grind arith
 
 -- a smaller whole part
-pub below : (a b c d : ℕ) → 0 < b → 0 < d → a / b < c / d → a * d < c * b
-below a b c d hb hd h =
+pub less_by_whole_parts : (a b c d : ℕ) → 0 < b → 0 < d → a / b < c / d → a * d < c * b
+less_by_whole_parts a b c d hb hd h =
     let p : a < (c / d) * b = omega (arith, mul-le-mul_right b h, mod-lt a hb) in
-    omega (arith, mul-lt-mul_of_pos_right p hd, mul-le-mul_right b (whole c d))
+    omega (arith, mul-lt-mul_of_pos_right p hd, mul-le-mul_right b (whole_part_at_most c d))
   where
-    whole : (c d : ℕ) → (c / d) * d ≤ c
-    whole c d = omega arith
+    whole_part_at_most : (c d : ℕ) → (c / d) * d ≤ c
+    whole_part_at_most c d = omega arith
 
 -- equal whole parts: the rests compare the same
-pub rests : (a b c d : ℕ) → a / b ≡ c / d → nat_cmp (a * d) (c * b) ≡ nat_cmp ((a % b) * d) ((c % d) * b)
-rests a b c d e = ap₂ nat_cmp (law a b d) (law c d b ∙ ap (λ n. (c % d) * b + n) (turn e)) ∙ same_shift ((a % b) * d) ((c % d) * b) ((a / b) * b * d)
+pub compare_by_rests : (a b c d : ℕ) → a / b ≡ c / d → nat_cmp (a * d) (c * b) ≡ nat_cmp ((a % b) * d) ((c % d) * b)
+compare_by_rests a b c d e = ap₂ nat_cmp (law a b d) (law c d b ∙ ap (λ n. (c % d) * b + n) (same_whole_parts e)) ∙ same_shift ((a % b) * d) ((c % d) * b) ((a / b) * b * d)
   where
     law : (x y z : ℕ) → x * z ≡ (x % y) * z + (x / y) * y * z
-    law x y z = omega (arith, ap (λ n. n * z) (split x y))
+    law x y z = omega (arith, ap (λ n. n * z) (rest_and_whole x y))
       where
-        split : (x y : ℕ) → x ≡ x % y + (x / y) * y
-        split x y = omega arith
+        rest_and_whole : (x y : ℕ) → x ≡ x % y + (x / y) * y
+        rest_and_whole x y = omega arith
 
-    turn : a / b ≡ c / d → (c / d) * d * b ≡ (a / b) * b * d
-    turn e = omega (arith, ap (λ n. n * (d * b)) e)
+    same_whole_parts : a / b ≡ c / d → (c / d) * d * b ≡ (a / b) * b * d
+    same_whole_parts e = omega (arith, ap (λ n. n * (d * b)) e)
 
 -- whole parts that differ decide
-pub apart : (a b c d : ℕ) → 0 < b → 0 < d → (a / b ≡ c / d → ⊥) → nat_cmp (a / b) (c / d) ≡ nat_cmp (a * d) (c * b)
-apart a b c d hb hd n = by_cases (cases_order (a / b) (c / d))
+pub compare_by_whole_parts : (a b c d : ℕ) → 0 < b → 0 < d → (a / b ≡ c / d → ⊥) → nat_cmp (a / b) (c / d) ≡ nat_cmp (a * d) (c * b)
+compare_by_whole_parts a b c d hb hd n = by_cases (cases_order (a / b) (c / d))
   where
     by_cases : (a / b ≡ c / d) ⊎ ((a / b < c / d) ⊎ (c / d < a / b)) → nat_cmp (a / b) (c / d) ≡ nat_cmp (a * d) (c * b)
     by_cases (inl e) = absurd (n e)
-    by_cases (inr (inl l)) = less_is (a / b) (c / d) l ∙ sym (less_is (a * d) (c * b) (below a b c d hb hd l))
-    by_cases (inr (inr g)) = greater_is (a / b) (c / d) g ∙ sym (greater_is (a * d) (c * b) (below c d a b hd hb g))
+    by_cases (inr (inl l)) = less_is (a / b) (c / d) l ∙ sym (less_is (a * d) (c * b) (less_by_whole_parts a b c d hb hd l))
+    by_cases (inr (inr g)) = greater_is (a / b) (c / d) g ∙ sym (greater_is (a * d) (c * b) (less_by_whole_parts c d a b hd hb g))
 
 -- 0 and a number compare as their multiples do
 pub zero_first : (y k n : ℕ) → 0 < k → nat_cmp 0 y ≡ nat_cmp (0 * n) (y * k)
@@ -60,13 +60,13 @@ zero_second zero k n h = simp zero-mul
 zero_second (suc x) k n h = let p : 0 < suc x * n = mul-pos (omega arith) h in grind arith
 
 -- a rest of 0 decides
-pub ended : (a b c d : ℕ) → 0 < b → 0 < d → a / b ≡ c / d → (a % b ≡ 0) ⊎ (c % d ≡ 0) → nat_cmp (a % b) (c % d) ≡ nat_cmp (a * d) (c * b)
-ended a b c d hb hd e z = by_cases z ∙ sym (rests a b c d e)
+pub compare_without_rest : (a b c d : ℕ) → 0 < b → 0 < d → a / b ≡ c / d → (a % b ≡ 0) ⊎ (c % d ≡ 0) → nat_cmp (a % b) (c % d) ≡ nat_cmp (a * d) (c * b)
+compare_without_rest a b c d hb hd e z = by_cases z ∙ sym (compare_by_rests a b c d e)
   where
     by_cases : (a % b ≡ 0) ⊎ (c % d ≡ 0) → nat_cmp (a % b) (c % d) ≡ nat_cmp ((a % b) * d) ((c % d) * b)
     by_cases (inl x) = rw x (zero_first (c % d) b d hb)
     by_cases (inr y) = rw y (zero_second (a % b) b d hd)
 
 -- the rests turned over
-pub turned : (a b c d : ℕ) → a / b ≡ c / d → nat_cmp (d * (a % b)) (b * (c % d)) ≡ nat_cmp (a * d) (c * b)
-turned a b c d e = ap₂ nat_cmp (mul_comm d (a % b)) (mul_comm b (c % d)) ∙ sym (rests a b c d e)
+pub compare_by_inverse_rests : (a b c d : ℕ) → a / b ≡ c / d → nat_cmp (d * (a % b)) (b * (c % d)) ≡ nat_cmp (a * d) (c * b)
+compare_by_inverse_rests a b c d e = ap₂ nat_cmp (mul_comm d (a % b)) (mul_comm b (c % d)) ∙ sym (compare_by_rests a b c d e)

@@ -1,6 +1,7 @@
 -- Sums and products with a zero, and of whole numbers. With a zero nothing is ever too large.
 use Rattle.std.proofs.Common.{◌≡◌, ℕ, ℤ, pos, neg_ℤ, ◌+ℤ◌, ◌*ℤ◌, unsigned_abs, ◌↔◌, refl, sym, ap, subst, ◌∙◌, arith, lit<}
 use Rattle.std.proofs.lemmas.Int.{ints}
+use Rattle.std.proofs.Math.IntN.{zero-*ℤ}
 use Rattle.it_number.specs.Limit.{IsWithin}
 use Rattle.it_number.proofs.Divisors.{gcd-one, one-gcd}
 use Rattle.it_number.proofs.Quotients.{one_pos, one_lowest}
@@ -9,6 +10,8 @@ use Rattle.it_rational.proofs.Field.{null_from}
 use Rattle.it_rational.proofs.Names.{own_parts}
 use Rattle.it_rational.proofs.RationalLaws.{ring_ℚ, zero-plus, plus_comm, times_comm}
 use Rattle.it_number.proofs.Ring.{mul-null, neg-null}
+use Rattle.it_number.proofs.SignLemmas.{size_negated, none_plus, plus_none}
+use Rattle.it_number.proofs.Integers.{times_one}
 use Rattle.it_fraction.specs.Fits.{IsNarrow, PartsFit, common_numerator, SumFits, DifferenceFits}
 use native.Mathlib.Nat.{div-one, one-dvd}
 
@@ -52,16 +55,7 @@ fits_one a b c wl wr wt wb =
     }
 
 no_product : (a b : ℤ) → a ≡ pos 0 → a *ℤ b ≡ pos 0
-no_product a b e = ap (λ z. z *ℤ b) e ∙ none b
-  where
-    none : (z : ℤ) → pos 0 *ℤ z ≡ pos 0
-    none z = omega (arith, ints)
-
-no_sum : (a b : ℤ) → a ≡ pos 0 → a +ℤ b ≡ b
-no_sum a b e = omega (arith, ints, e)
-
-no_sum_right : (a b : ℤ) → b ≡ pos 0 → a +ℤ b ≡ a
-no_sum_right a b e = omega (arith, ints, e)
+no_product a b e = ap (λ z. z *ℤ b) e ∙ zero-*ℤ b
 
 -- the sum of x and y where x is whole
 whole_left_fits : (x y : Rational) → x.den ≡ 1 → IsWithin (x.num *ℤ pos y.den) → IsWithin y.num → IsWithin (x.num *ℤ pos y.den +ℤ y.num) → IsWithin (pos y.den) → SumFits x y
@@ -69,24 +63,21 @@ whole_left_fits x y e wl wr wt wb = subst (λ (d : ℕ). PartsFit x.num d y.num 
 
 -- sums of whole numbers
 pub whole-sum-fits : (x y : Rational) → x.den ≡ 1 → y.den ≡ 1 → IsNarrow x → IsNarrow y → IsWithin (x.num +ℤ y.num) ↔ SumFits x y
-whole-sum-fits x y e f nx ny = (to, from)
+whole-sum-fits x y e f nx ny = (sum_fits, sum_within)
   where
-    once : (z : ℤ) → z *ℤ pos 1 ≡ z
-    once z = omega (arith, ints)
+    sum_fits : IsWithin (x.num +ℤ y.num) → SumFits x y
+    sum_fits h = whole_left_fits x y e (rw (f, times_one x.num) nx.0) ny.0 (rw (f, times_one x.num) h) ny.1
 
-    to : IsWithin (x.num +ℤ y.num) → SumFits x y
-    to h = whole_left_fits x y e (rw (f, once x.num) nx.0) ny.0 (rw (f, once x.num) h) ny.1
-
-    from : SumFits x y → IsWithin (x.num +ℤ y.num)
-    from s =
+    sum_within : SumFits x y → IsWithin (x.num +ℤ y.num)
+    sum_within s =
         let t = subst (λ (d : ℕ). PartsFit x.num 1 y.num d) f (subst (λ (b : ℕ). PartsFit x.num b y.num y.den) e s) in
-        subst IsWithin (one_numerator x.num y.num 1 ∙ ap (λ z. z +ℤ y.num) (once x.num)) t.total
+        subst IsWithin (one_numerator x.num y.num 1 ∙ ap (λ z. z +ℤ y.num) (times_one x.num)) t.total
 
 pub whole-sum : (x y : Rational) → x.den ≡ 1 → y.den ≡ 1 → integer (x.num +ℤ y.num) ≡ plus x y
-whole-sum x y e f = rw (e, f) (ap (λ (z : ℤ). quotient z 1) (once x.num y.num))
+whole-sum x y e f = rw (e, f) (ap (λ (z : ℤ). quotient z 1) (sum_over_one x.num y.num))
   where
-    once : (m n : ℤ) → m +ℤ n ≡ m *ℤ pos 1 +ℤ n *ℤ pos 1
-    once m n = omega (arith, ints)
+    sum_over_one : (m n : ℤ) → m +ℤ n ≡ m *ℤ pos 1 +ℤ n *ℤ pos 1
+    sum_over_one m n = omega (arith, ints)
 
 -- products of whole numbers
 pub whole-product : (x y : Rational) → x.den ≡ 1 → y.den ≡ 1 → integer (x.num *ℤ y.num) ≡ times x y
@@ -99,7 +90,7 @@ whole-narrow z = let p = own_parts z 1 one_pos (one-dvd (unsigned_abs z), one-dv
 pub zero-sum-fits : (x y : Rational) → x.num ≡ pos 0 → IsNarrow y → SumFits x y
 zero-sum-fits x y e n =
     let none : x.num *ℤ pos y.den ≡ pos 0 = no_product x.num (pos y.den) e in
-    let rest : x.num *ℤ pos y.den +ℤ y.num ≡ y.num = no_sum (x.num *ℤ pos y.den) y.num none in
+    let rest : x.num *ℤ pos y.den +ℤ y.num ≡ y.num = none_plus (x.num *ℤ pos y.den) y.num none in
     whole_left_fits x y (zero_den x e) (rw none (lit< tt)) n.0 (rw rest n.0) n.1
 
 pub zero-sum : (x y : Rational) → x.num ≡ pos 0 → plus x y ≡ y
@@ -108,7 +99,7 @@ zero-sum x y e = ap (λ (q : Rational). plus q y) (null_from x e) ∙ zero-plus 
 pub sum-zero-fits : (x y : Rational) → y.num ≡ pos 0 → IsNarrow x → SumFits x y
 sum-zero-fits x y e n =
     let none : y.num *ℤ pos x.den ≡ pos 0 = no_product y.num (pos x.den) e in
-    let rest : x.num +ℤ y.num *ℤ pos x.den ≡ x.num = no_sum_right x.num (y.num *ℤ pos x.den) none in
+    let rest : x.num +ℤ y.num *ℤ pos x.den ≡ x.num = plus_none x.num (y.num *ℤ pos x.den) none in
     subst (λ (d : ℕ). PartsFit x.num x.den y.num d) (sym (zero_den y e)) (fits_one x.num x.den y.num n.0 (rw none (lit< tt)) (rw rest n.0) n.1)
 
 pub sum-zero : (x y : Rational) → y.num ≡ pos 0 → plus x y ≡ x
@@ -150,9 +141,6 @@ zero-quotient-narrow x y e = zero-product-narrow x (inverse y) e
 -- a negation is no wider
 pub minus-narrow : (x : Rational) → IsNarrow x → IsNarrow (minus x)
 minus-narrow x n =
-    let size : unsigned_abs (neg_ℤ x.num) ≡ unsigned_abs x.num = size_of x.num in
+    let size : unsigned_abs (neg_ℤ x.num) ≡ unsigned_abs x.num = size_negated x.num in
     let parts = own_parts (neg_ℤ x.num) x.den x.positive (rw size x.lowest) in
     rw (parts.0, parts.1, size) n
-  where
-    size_of : (z : ℤ) → unsigned_abs (neg_ℤ z) ≡ unsigned_abs z
-    size_of z = omega (arith, ints)

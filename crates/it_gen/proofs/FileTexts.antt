@@ -71,17 +71,17 @@ at_least_writes : Writes Anything (codes " >= ") (λ k. without_mark (Sym symbol
 at_least_writes = writes_then writes_space (writes_then (writes_symbol symbols.AtLeast) writes_space (λ rest d. tt)) (λ rest d. tt)
 
 -- whatever follows each of these parts
-then : {a b : List ℕ} {s t : MarkedLetters → MarkedLetters} → Writes Anything a s → Writes Anything b t → Writes Anything (a ++ b) (λ k. s (t k))
-then p q = writes_then p q (λ rest d. tt)
+writes_both : {a b : List ℕ} {s t : MarkedLetters → MarkedLetters} → Writes Anything a s → Writes Anything b t → Writes Anything (a ++ b) (λ k. s (t k))
+writes_both p q = writes_then p q (λ rest d. tt)
 
 prove_writes : (x : ℕ) → Writes Anything (prove_line x) (λ k. without_mark (Word prove_keyword) ∷ spell_relation (scope_of four_variables true) (relation_tree x) k)
 unfolding prove_line relation_tree is_word_byte
 prove_writes x =
     let short : 5 ≤ 16 = omega arith in
-    let first = then (keyword (codes "prove") (refl, (refl, (refl, (refl, (refl, (refl, tt))))), short)) (term_writes x) in
-    let second = then (then first plus_writes) (term_writes (state_after 2 x)) in
-    let third = then (then second plus_writes) (term_writes (state_after 4 x)) in
-    then (then third at_least_writes) (bound_writes (state_after 6 x))
+    let first = writes_both (keyword (codes "prove") (refl, (refl, (refl, (refl, (refl, (refl, tt))))), short)) (term_writes x) in
+    let second = writes_both (writes_both first plus_writes) (term_writes (state_after 2 x)) in
+    let third = writes_both (writes_both second plus_writes) (term_writes (state_after 4 x)) in
+    writes_both (writes_both third at_least_writes) (bound_writes (state_after 6 x))
 
 -- ---- lines
 
@@ -91,9 +91,9 @@ record AreRead (n : ℕ) (bytes : List ℕ) (m : MarkedLetters) : Type 0 where
   cut : AreLines n (split_lines bytes) lines
   same : m ≡ without_marks (letters_of_lines lines)
 
-filled : (line : List ℕ) (ts : List Token) (tail k : MarkedLetters) (w : List ℕ) → without_marks (letters_until line ts End) ++ tail ≡ without_mark (Word w) ∷ k → IsFilled ts None
-filled line [] tail k w e = let clash : End ∷ letters tail ≡ Word w ∷ letters k = ap letters e in absurd cc
-filled line (t ∷ ts) tail k w e = tt
+line_is_filled : (line : List ℕ) (ts : List Token) (tail k : MarkedLetters) (w : List ℕ) → without_marks (letters_until line ts End) ++ tail ≡ without_mark (Word w) ∷ k → IsFilled ts None
+line_is_filled line [] tail k w e = let clash : End ∷ letters tail ≡ Word w ∷ letters k = ap letters e in absurd cc
+line_is_filled line (t ∷ ts) tail k w e = tt
 
 line_read : (n : ℕ) (line more : List ℕ) (w : List ℕ) (k tail : MarkedLetters) → IsSpelled tail [] line (without_mark (Word w) ∷ k) → AreRead (n + 1) more tail → AreRead n (line ++ 10 ∷ more) (without_mark (Word w) ∷ k)
 line_read n line more w k tail h r =
@@ -102,13 +102,13 @@ line_read n line more w k tail h r =
     record {
       lines = l ∷ r.lines;
       cut = subst (λ (split : List (List ℕ)). AreLines n split (l ∷ r.lines)) (sym (plain_first line more plain))
-          (inr (l, r.lines, refl, record { number = refl; text = sym (plain_same line plain); spelled = h.spelled }, filled line h.tokens tail k w h.same, r.cut));
+          (inr (l, r.lines, refl, record { number = refl; text = sym (plain_same line plain); spelled = h.spelled }, line_is_filled line h.tokens tail k w h.same, r.cut));
       same = sym h.same ∙ ap (λ (t : MarkedLetters). without_marks (letters_until line h.tokens End) ++ t) r.same ∙ sym (cleaned_append (letters_until line h.tokens End) (letters_of_lines r.lines));
     }
 
 -- a whole line
-whole : {C : List ℕ → Type 0} {text : List ℕ} {s : MarkedLetters → MarkedLetters} → Writes C text s → C [] → (tail : MarkedLetters) → IsSpelled tail [] text (s (without_mark End ∷ tail))
-whole {C} {text} {s} p c tail = subst (λ (bytes : List ℕ). IsSpelled tail [] bytes (s (without_mark End ∷ tail))) (append-nil text) (p.go tail [] [] (without_mark End ∷ tail) c (line_end tail text))
+line_is_spelled : {C : List ℕ → Type 0} {text : List ℕ} {s : MarkedLetters → MarkedLetters} → Writes C text s → C [] → (tail : MarkedLetters) → IsSpelled tail [] text (s (without_mark End ∷ tail))
+line_is_spelled {C} {text} {s} p c tail = subst (λ (bytes : List ℕ). IsSpelled tail [] bytes (s (without_mark End ∷ tail))) (append-nil text) (p.go tail [] [] (without_mark End ∷ tail) c (line_end tail text))
 
 question_lines_are : (x : ℕ) (more : List ℕ) → question_text x ++ more ≡ vars_line ++ 10 ∷ (prove_line x ++ 10 ∷ more)
 unfolding question_text vars_line prove_line
@@ -117,8 +117,8 @@ question_lines_are x more = simp append_assoc
 question_read : (n : ℕ) (x : ℕ) (more : List ℕ) (k : MarkedLetters) → AreRead (n + 1 + 1) more k → AreRead n (question_text x ++ more) (without_mark (Word vars_keyword) ∷ spell_question (question_tree x) k)
 unfolding question_tree is_taken
 question_read n x more k h = subst (λ (bytes : List ℕ). AreRead n bytes (without_mark (Word vars_keyword) ∷ spell_question (question_tree x) k)) (sym (question_lines_are x more))
-    (line_read n vars_line (prove_line x ++ 10 ∷ more) vars_keyword _ (without_mark (Word prove_keyword) ∷ spell_relation (scope_of four_variables true) (relation_tree x) (without_mark End ∷ k)) (whole vars_writes tt _)
-    (line_read (n + 1) (prove_line x) more prove_keyword (spell_relation (scope_of four_variables true) (relation_tree x) (without_mark End ∷ k)) k (whole (prove_writes x) tt k) h))
+    (line_read n vars_line (prove_line x ++ 10 ∷ more) vars_keyword _ (without_mark (Word prove_keyword) ∷ spell_relation (scope_of four_variables true) (relation_tree x) (without_mark End ∷ k)) (line_is_spelled vars_writes tt _)
+    (line_read (n + 1) (prove_line x) more prove_keyword (spell_relation (scope_of four_variables true) (relation_tree x) (without_mark End ∷ k)) k (line_is_spelled (prove_writes x) tt k) h))
 
 -- ---- the file
 
@@ -135,10 +135,10 @@ file_read seed (suc count) n (suc limit) le =
     subst (λ (i : ℕ). AreRead n (generated_file seed (suc count)) (without_mark (Word vars_keyword) ∷ spell_question (question_tree seed) (spell_questions i (trees (state_after 8 seed) count) (without_mark file_end ∷ [])))) (sym less)
     (question_read n seed (generated_file (state_after 8 seed) count) (spell_questions limit (trees (state_after 8 seed) count) (without_mark file_end ∷ [])) (file_read (state_after 8 seed) count (n + 1 + 1) limit (omega (arith, le))))
 
-counted : (seed count : ℕ) (lines : List TokenLine) → length (with_texts lines (questions_of (trees seed count))) ≡ count
+question_count : (seed count : ℕ) (lines : List TokenLine) → length (with_texts lines (questions_of (trees seed count))) ≡ count
 unfolding trees
-counted seed zero lines = refl
-counted seed (suc count) lines = ap suc (counted (state_after 8 seed) count _)
+question_count seed zero lines = refl
+question_count seed (suc count) lines = ap suc (question_count (state_after 8 seed) count _)
 
 all_prove : (seed count : ℕ) (lines : List TokenLine) → All IsProve (with_texts lines (questions_of (trees seed count)))
 unfolding trees question_tree
@@ -149,4 +149,4 @@ pub generated_is_file : GeneratedIsFile
 generated_is_file seed count few =
     let r = file_read seed count 1 1000 few in
     let asked : IsFile (generated_file seed count) (with_texts r.lines (questions_of (trees seed count))) = record { lines = r.lines; cut = r.cut; trees = trees seed count; spelled = r.same; are = refl } in
-    record { questions = _; asked = asked; counted = counted seed count r.lines; prove = all_prove seed count r.lines; short = generated_short seed count few }
+    record { questions = _; asked = asked; counted = question_count seed count r.lines; prove = all_prove seed count r.lines; short = generated_short seed count few }

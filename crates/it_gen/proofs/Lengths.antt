@@ -23,22 +23,22 @@ joined_short false (w ∷ ws) = omega (arith, length-append w (joined_texts (cod
 members_fewer : (i : ℕ) (names : List (List ℕ)) (set : ℕ) → commas (members_from i names set) ≤ commas names
 unfolding commas
 members_fewer i [] set = omega arith
-members_fewer i (w ∷ ws) set = by (has_member set i) (members_fewer (i + 1) ws set)
+members_fewer i (w ∷ ws) set = by_test (has_member set i) (members_fewer (i + 1) ws set)
   where
-    by : (b : Bool) → commas (members_from (i + 1) ws set) ≤ commas ws → commas (one_if b w ++ members_from (i + 1) ws set) ≤ 1 + length w + commas ws
-    by true h = omega (arith, h)
-    by false h = omega (arith, h)
+    by_test : (b : Bool) → commas (members_from (i + 1) ws set) ≤ commas ws → commas (one_if b w ++ members_from (i + 1) ws set) ≤ 1 + length w + commas ws
+    by_test true h = omega (arith, h)
+    by_test false h = omega (arith, h)
 
 set_short : (s : ℕ) → length (set_text four_names s) ≤ 8
 unfolding set_text commas
 set_short s = omega (arith, joined_short false (members_from 0 four_names s), members_fewer 0 four_names s)
 
 given_short : (s : ℕ) → length (given_set_text four_names s) ≤ 9
-given_short s = by (s == 0)
+given_short s = by_test (s == 0)
   where
-    by : (b : Bool) → length (cond b [] (codes "|" ++ set_text four_names s)) ≤ 9
-    by true = omega arith
-    by false = omega (arith, set_short s)
+    by_test : (b : Bool) → length (cond b [] (codes "|" ++ set_text four_names s)) ≤ 9
+    by_test true = omega arith
+    by_test false = omega (arith, set_short s)
 
 elemental_short : (e : Elemental) → length (elemental_text four_names e) ≤ 29
 unfolding elemental_text

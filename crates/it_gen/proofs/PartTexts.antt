@@ -51,11 +51,11 @@ names_known =
 
 members_known : (i : ℕ) (names : List (List ℕ)) (set : ℕ) → AreKnown names → AreKnown (members_from i names set)
 members_known i [] set h = tt
-members_known i (w ∷ ws) set h = by (has_member set i) (members_known (i + 1) ws set h.1)
+members_known i (w ∷ ws) set h = by_test (has_member set i) (members_known (i + 1) ws set h.1)
   where
-    by : (b : Bool) → AreKnown (members_from (i + 1) ws set) → AreKnown (one_if b w ++ members_from (i + 1) ws set)
-    by true more = (h.0, more)
-    by false more = more
+    by_test : (b : Bool) → AreKnown (members_from (i + 1) ws set) → AreKnown (one_if b w ++ members_from (i + 1) ws set)
+    by_test true more = (h.0, more)
+    by_test false more = more
 
 name_writes : (w : List ℕ) → IsKnown w → Writes (Stops is_word_byte) w (spell_name env w)
 name_writes w h = subst (λ (mark : Option Code). Writes (Stops is_word_byte) w (λ k. (Word w, mark) ∷ k)) (sym h.1) (writes_word w h.0)
@@ -93,37 +93,37 @@ abbrev HasFirst : List (List ℕ) → Type 0
 HasFirst ws = (first : List ℕ) × (more : List (List ℕ)) × (ws ≡ first ∷ more)
 
 no_bit : (s i : ℕ) → has_member s i ≡ false → bit_at s i ≡ 0
-no_bit s i e = by (bit_at s i) (bit_at-lt s i) e
+no_bit s i e = by_bit (bit_at s i) (bit_at-lt s i) e
   where
-    by : (n : ℕ) → n < 2 → nat_eq n 1 ≡ false → n ≡ 0
-    by zero h e = refl
-    by (suc zero) h e = absurd cc
-    by (suc (suc n)) h e = absurd (omega (arith, h))
+    by_bit : (n : ℕ) → n < 2 → nat_eq n 1 ≡ false → n ≡ 0
+    by_bit zero h e = refl
+    by_bit (suc zero) h e = absurd cc
+    by_bit (suc (suc n)) h e = absurd (omega (arith, h))
 
 has_first : (s : ℕ) → IsSome s → HasFirst (members_from 0 four_names s)
-has_first s h = by (has_member s 0) (has_member s 1) (has_member s 2) (has_member s 3) refl refl refl refl
+has_first s h = by_test (has_member s 0) (has_member s 1) (has_member s 2) (has_member s 3) refl refl refl refl
   where
-    none : bit_at s 0 ≡ 0 → bit_at s 1 ≡ 0 → bit_at s 2 ≡ 0 → bit_at s 3 ≡ 0 → ⊥
-    none a b c d = omega (arith, a, b, c, d, h.0, h.1)
+    not_all_absent : bit_at s 0 ≡ 0 → bit_at s 1 ≡ 0 → bit_at s 2 ≡ 0 → bit_at s 3 ≡ 0 → ⊥
+    not_all_absent a b c d = omega (arith, a, b, c, d, h.0, h.1)
 
-    by : (a b c d : Bool) → has_member s 0 ≡ a → has_member s 1 ≡ b → has_member s 2 ≡ c → has_member s 3 ≡ d
+    by_test : (a b c d : Bool) → has_member s 0 ≡ a → has_member s 1 ≡ b → has_member s 2 ≡ c → has_member s 3 ≡ d
         → HasFirst (one_if a (codes "A") ++ (one_if b (codes "B") ++ (one_if c (codes "C") ++ (one_if d (codes "D") ++ []))))
-    by true b c d e f g i = (codes "A", one_if b (codes "B") ++ (one_if c (codes "C") ++ (one_if d (codes "D") ++ [])), refl)
-    by false true c d e f g i = (codes "B", one_if c (codes "C") ++ (one_if d (codes "D") ++ []), refl)
-    by false false true d e f g i = (codes "C", one_if d (codes "D") ++ [], refl)
-    by false false false true e f g i = (codes "D", [], refl)
-    by false false false false e f g i = absurd (none (no_bit s 0 e) (no_bit s 1 f) (no_bit s 2 g) (no_bit s 3 i))
+    by_test true b c d e f g i = (codes "A", one_if b (codes "B") ++ (one_if c (codes "C") ++ (one_if d (codes "D") ++ [])), refl)
+    by_test false true c d e f g i = (codes "B", one_if c (codes "C") ++ (one_if d (codes "D") ++ []), refl)
+    by_test false false true d e f g i = (codes "C", one_if d (codes "D") ++ [], refl)
+    by_test false false false true e f g i = (codes "D", [], refl)
+    by_test false false false false e f g i = absurd (not_all_absent (no_bit s 0 e) (no_bit s 1 f) (no_bit s 2 g) (no_bit s 3 i))
 
 set_writes : (s : ℕ) → IsSome s → Writes (Stops is_word_byte) (set_text four_names s) (spell_list env (set_tree s))
 unfolding set_text
-set_writes s h = by (members_from 0 four_names s) (has_first s h) (members_known 0 four_names s names_known)
+set_writes s h = by_list (members_from 0 four_names s) (has_first s h) (members_known 0 four_names s names_known)
   where
-    by : (ws : List (List ℕ)) → HasFirst ws → AreKnown ws → Writes (Stops is_word_byte) (joined_texts (codes ",") false ws) (spell_list env (names_list ws))
-    by [] f k = absurd (elim_none f.0 f.1 f.2)
+    by_list : (ws : List (List ℕ)) → HasFirst ws → AreKnown ws → Writes (Stops is_word_byte) (joined_texts (codes ",") false ws) (spell_list env (names_list ws))
+    by_list [] f k = absurd (elim_none f.0 f.1 f.2)
       where
         elim_none : (first : List ℕ) (more : List (List ℕ)) → [] ≡ first ∷ more → ⊥
         elim_none first more e = absurd cc
-    by (w ∷ ws) f k = list_writes w ws k
+    by_list (w ∷ ws) f k = list_writes w ws k
 
 -- ---- elemental inequalities
 
@@ -135,36 +135,36 @@ abbrev pub elemental_tree : Elemental → WrittenAtom
 elemental_tree (Conditional i) = written.EntropyGiven (set_tree (2 ^ i)) (set_tree (2 ^ 4 - 1 - 2 ^ i))
 elemental_tree (Mutual i j k) = mutual_tree (k == 0) (2 ^ i) (2 ^ j) k
 
-closing : Writes Anything (codes ")") (λ k. without_mark (Sym symbols.RightParen) ∷ k)
-closing = writes_symbol symbols.RightParen
+right_paren_writes : Writes Anything (codes ")") (λ k. without_mark (Sym symbols.RightParen) ∷ k)
+right_paren_writes = writes_symbol symbols.RightParen
 
-opening : (w : List ℕ) → IsText kinds.Word w → Writes Anything (w ++ codes "(") (λ k. without_mark (Word w) ∷ without_mark (Sym symbols.LeftParen) ∷ k)
+word_opening : (w : List ℕ) → IsText kinds.Word w → Writes Anything (w ++ codes "(") (λ k. without_mark (Word w) ∷ without_mark (Sym symbols.LeftParen) ∷ k)
 unfolding is_word_byte
-opening w h = writes_then (writes_word w h) (writes_symbol symbols.LeftParen) (λ rest d. refl)
+word_opening w h = writes_then (writes_word w h) (writes_symbol symbols.LeftParen) (λ rest d. refl)
 
 entropy_opening : Writes Anything (codes "H(") (λ k. without_mark (Word entropy_text) ∷ without_mark (Sym symbols.LeftParen) ∷ k)
 unfolding is_word_byte
-entropy_opening = let short : 1 ≤ 16 = omega arith in opening (codes "H") (refl, (refl, tt), short)
+entropy_opening = let short : 1 ≤ 16 = omega arith in word_opening (codes "H") (refl, (refl, tt), short)
 
 mutual_opening : Writes Anything (codes "I(") (λ k. without_mark (Word mutual_text) ∷ without_mark (Sym symbols.LeftParen) ∷ k)
 unfolding is_word_byte
-mutual_opening = let short : 1 ≤ 16 = omega arith in opening (codes "I") (refl, (refl, tt), short)
+mutual_opening = let short : 1 ≤ 16 = omega arith in word_opening (codes "I") (refl, (refl, tt), short)
 
 -- behind `|`
 bar_writes : (s : ℕ) → IsSome s → Writes (Stops is_word_byte) (codes "|" ++ set_text four_names s) (λ k. without_mark (Sym symbols.Bar) ∷ spell_list env (set_tree s) k)
 bar_writes s h = writes_then (writes_symbol symbols.Bar) (set_writes s h) (λ rest d. tt)
 
 given_text : (s : ℕ) → IsSome s → given_set_text four_names s ≡ codes "|" ++ set_text four_names s
-given_text s h = by (s == 0) refl
+given_text s h = by_test (s == 0) refl
   where
-    by : (z : Bool) → (s == 0) ≡ z → cond z [] (codes "|" ++ set_text four_names s) ≡ codes "|" ++ set_text four_names s
-    by true e = absurd (omega (arith, h.0, empty_len s (sym e)))
-    by false e = refl
+    by_test : (z : Bool) → (s == 0) ≡ z → cond z [] (codes "|" ++ set_text four_names s) ≡ codes "|" ++ set_text four_names s
+    by_test true e = absurd (omega (arith, h.0, empty_len s (sym e)))
+    by_test false e = refl
 
 conditional_writes : (a c : ℕ) → IsSome a → IsSome c → Writes Anything (codes "H(" ++ set_text four_names a ++ given_set_text four_names c ++ codes ")") (spell_atom env (written.EntropyGiven (set_tree a) (set_tree c)))
 unfolding is_word_byte
 conditional_writes a c h g = subst (λ (t : List ℕ). Writes Anything (codes "H(" ++ set_text four_names a ++ t ++ codes ")") (spell_atom env (written.EntropyGiven (set_tree a) (set_tree c)))) (sym (given_text c g))
-    (writes_then (writes_then (writes_then entropy_opening (set_writes a h) (λ rest d. tt)) (bar_writes c g) (λ rest d. refl)) closing (λ rest d. refl))
+    (writes_then (writes_then (writes_then entropy_opening (set_writes a h) (λ rest d. tt)) (bar_writes c g) (λ rest d. refl)) right_paren_writes (λ rest d. refl))
 
 pair_writes : (a b : ℕ) → IsSome a → IsSome b → Writes (Stops is_word_byte) (codes "I(" ++ set_text four_names a ++ codes ";" ++ set_text four_names b) (λ k. without_mark (Word mutual_text) ∷ without_mark (Sym symbols.LeftParen) ∷ spell_list env (set_tree a) (without_mark (Sym symbols.Semicolon) ∷ spell_list env (set_tree b) k))
 unfolding is_word_byte
@@ -172,12 +172,12 @@ pair_writes a b h g = writes_then (writes_then (writes_then mutual_opening (set_
 
 mutual_writes : (a b c : ℕ) → IsSome a → IsSome b → c < 16 → (z : Bool) → (c == 0) ≡ z → Writes Anything (codes "I(" ++ set_text four_names a ++ codes ";" ++ set_text four_names b ++ cond z [] (codes "|" ++ set_text four_names c) ++ codes ")") (spell_atom env (mutual_tree z a b c))
 unfolding is_word_byte
-mutual_writes a b c h g l true e = writes_then (writes_then (pair_writes a b h g) writes_nothing (λ rest d. d)) closing (λ rest d. refl)
-mutual_writes a b c h g l false e = writes_then (writes_then (pair_writes a b h g) (bar_writes c (some c e, l)) (λ rest d. refl)) closing (λ rest d. refl)
+mutual_writes a b c h g l true e = writes_then (writes_then (pair_writes a b h g) writes_nothing (λ rest d. d)) right_paren_writes (λ rest d. refl)
+mutual_writes a b c h g l false e = writes_then (writes_then (pair_writes a b h g) (bar_writes c (not_zero c e, l)) (λ rest d. refl)) right_paren_writes (λ rest d. refl)
   where
-    some : (c : ℕ) → (c == 0) ≡ false → 1 ≤ c
-    some zero e = absurd cc
-    some (suc c) e = omega arith
+    not_zero : (c : ℕ) → (c == 0) ≡ false → 1 ≤ c
+    not_zero zero e = absurd cc
+    not_zero (suc c) e = omega arith
 
 power_some : (i : ℕ) → i < 4 → IsSome (2 ^ i)
 power_some i h = (pow_mono {i = 0} {j = i} (omega arith), pow_below i 4 h)
@@ -193,15 +193,15 @@ elemental_writes (Mutual i j k) h = mutual_writes (2 ^ i) (2 ^ j) k (power_some 
 -- ---- terms
 
 digit_text : (c : ℕ) → c < 5 → IsText (kinds.Number c) (decimal c)
-digit_text c h = subst (IsText (kinds.Number c)) (sym (decimal_digit c (omega (arith, h)))) (digit c h)
+digit_text c h = subst (IsText (kinds.Number c)) (sym (decimal_digit c (omega (arith, h)))) (by_digit c h)
   where
-    digit : (c : ℕ) → c < 5 → IsText (kinds.Number c) ((48 + c) ∷ [])
-    digit zero h = (refl, refl, lit< tt)
-    digit (suc zero) h = (refl, refl, lit< tt)
-    digit (suc (suc zero)) h = (refl, refl, lit< tt)
-    digit (suc (suc (suc zero))) h = (refl, refl, lit< tt)
-    digit (suc (suc (suc (suc zero)))) h = (refl, refl, lit< tt)
-    digit (suc (suc (suc (suc (suc c))))) h = absurd (omega (arith, h))
+    by_digit : (c : ℕ) → c < 5 → IsText (kinds.Number c) ((48 + c) ∷ [])
+    by_digit zero h = (refl, refl, lit< tt)
+    by_digit (suc zero) h = (refl, refl, lit< tt)
+    by_digit (suc (suc zero)) h = (refl, refl, lit< tt)
+    by_digit (suc (suc (suc zero))) h = (refl, refl, lit< tt)
+    by_digit (suc (suc (suc (suc zero)))) h = (refl, refl, lit< tt)
+    by_digit (suc (suc (suc (suc (suc c))))) h = absurd (omega (arith, h))
 
 -- a digit and a space
 digit_writes : (c : ℕ) → c < 5 → Writes Anything (decimal c ++ codes " ") (λ k. without_mark (Number c) ∷ k)
@@ -233,4 +233,4 @@ bound_writes x =
     let some : IsSome s = (omega arith, omega (arith, drawn_below 2 15 x (omega arith))) in
     let number = writes_number (draw 1 3 x) (decimal (draw 1 3 x)) (digit_text (draw 1 3 x) (omega (arith, drawn_below 1 3 x (omega arith)))) in
     let open_entropy : Writes Anything (codes " H(") (λ k. without_mark (Word entropy_text) ∷ without_mark (Sym symbols.LeftParen) ∷ k) = writes_then writes_space entropy_opening (λ rest d. tt) in
-    writes_then (writes_then (writes_then number open_entropy (λ rest d. refl)) (set_writes s some) (λ rest d. tt)) closing (λ rest d. refl)
+    writes_then (writes_then (writes_then number open_entropy (λ rest d. refl)) (set_writes s some) (λ rest d. tt)) right_paren_writes (λ rest d. refl)

@@ -41,9 +41,9 @@ writes_nothing = record { go = λ tail front rest m c h. subst (λ (f : List ℕ
 
 -- ---- a space
 
-spaced : (front rest : List ℕ) (ts : List Token) → SpellsUntil (length (front ++ 32 ∷ [])) rest ts None → SpellsUntil (length front) (32 ∷ rest) ts None
-spaced front rest [] h = (refl, h)
-spaced front rest (t ∷ ts) h =
+space_keeps_spelling : (front rest : List ℕ) (ts : List Token) → SpellsUntil (length (front ++ 32 ∷ [])) rest ts None → SpellsUntil (length front) (32 ∷ rest) ts None
+space_keeps_spelling front rest [] h = (refl, h)
+space_keeps_spelling front rest (t ∷ ts) h =
     let c = h.1 in (
       h.0,
       record {
@@ -63,7 +63,7 @@ pub writes_space : Writes Anything (32 ∷ []) (λ k. k)
 writes_space = record {
   go = λ tail front rest m c h. record {
     tokens = h.tokens;
-    spelled = spaced front rest h.tokens h.spelled;
+    spelled = space_keeps_spelling front rest h.tokens h.spelled;
     same = ap (λ (line : List ℕ). without_marks (letters_until line h.tokens End) ++ tail) (sym (append_assoc front (32 ∷ []) rest)) ∙ h.same;
   };
 }

@@ -2,10 +2,11 @@
 use Rattle.std.proofs.Common.{◌≡◌, ◌≢◌, ◌⊎◌, inl, inr, ℕ, zero, suc, ◌+◌, ◌-◌, ◌^◌, ◌<◌, ◌≤◌, ℤ, pos, neg_ℤ, ◌+ℤ◌, ◌-ℤ◌, ◌*ℤ◌, List, [], ◌∷◌, ◌++◌, Bool, true, false, cond, nat_eq, refl, sym, ap, ap₂, subst, ◌∙◌, arith, All, eq-eqb}
 use Rattle.std.specs.List.{filter, flat_map}
 use Rattle.std.proofs.lemmas.Int.{ints}
-use Rattle.std.proofs.lemmas.Bool.{cases_lt}
+use Rattle.std.proofs.lemmas.Bool.{cases_lt, true≢false}
 use Rattle.std.proofs.lemmas.Nat.{pow_pos}
 use Rattle.std.proofs.lemmas.List.Elements.{filter-append, All-head, All-tail}
 use Rattle.std.proofs.lemmas.List.Concat.{flat_map-append}
+use Rattle.std.proofs.Math.IntN.{+ℤ_idr, *ℤ-zero, zero-*ℤ}
 use Rattle.it_number.proofs.Integers.{zring}
 use Rattle.it_space.specs.Answers.{CertificateView}
 use Rattle.it_polymatroid.specs.Certificates.{Form, Generators, dot, IsLinear, combination}
@@ -69,81 +70,69 @@ moves-value n ds h v e r w (suc m) l =
     ∙ ap (λ xs. combination xs v) (flat_map-append (λ s. moves_at n ds s (e s)) (span 0 m) (m ∷ []))
     ∙ weighted-append (flat_map (λ s. moves_at n ds s (e s)) (span 0 m)) (last ++ []) v
     ∙ ap₂ (λ x y. x +ℤ y) (moves-value n ds h v e r w m (omega arith)) (weighted-append last [] v ∙ ap (λ x. x +ℤ pos 0) (at-value n ds h v m (e m) r w (omega arith)))
-    ∙ swap (dot m e (λ s. h s -ℤ h (closure n ds s))) (e m *ℤ (h m -ℤ h (closure n ds m)))
+    ∙ sum_commutes (dot m e (λ s. h s -ℤ h (closure n ds s))) (e m *ℤ (h m -ℤ h (closure n ds m)))
   where
-    swap : (x y : ℤ) → x +ℤ (y +ℤ pos 0) ≡ y +ℤ x
-    swap x y = omega (arith, ints)
+    sum_commutes : (x y : ℤ) → x +ℤ (y +ℤ pos 0) ≡ y +ℤ x
+    sum_commutes x y = omega (arith, ints)
 
 -- the sets with the closure of the empty set below a number
 abbrev nulls : ℕ → List Dependence → ℕ → List ℕ
 nulls n ds m = filter (λ s. nat_eq (closure n ds s) (closure n ds 0)) (span 1 m)
 
 -- the sum by places, and the sum by closures
-evened : (n : ℕ) (ds : List Dependence) (e h : ℕ → ℤ) → h 0 ≡ pos 0 → (m : ℕ) → suc m ≤ 2 ^ n
+sums_even_out : (n : ℕ) (ds : List Dependence) (e h : ℕ → ℤ) → h 0 ≡ pos 0 → (m : ℕ) → suc m ≤ 2 ^ n
     → dot (suc m) e (λ c. h c -ℤ h (place n ds c)) +ℤ sum_over e (null_sets n ds) *ℤ h (closure n ds 0)
     ≡ dot (suc m) (with_empty n ds e) (λ c. h c -ℤ h (closure n ds c)) +ℤ sum_over e (nulls n ds m) *ℤ h (closure n ds 0)
-evened n ds e h z zero l =
+sums_even_out n ds e h z zero l =
     ap (λ y. (e 0 *ℤ (h 0 -ℤ h y) +ℤ pos 0) +ℤ sum_over e (null_sets n ds) *ℤ h (closure n ds 0)) (place-zero n ds)
     ∙ ap (λ y. (e 0 *ℤ (y -ℤ y) +ℤ pos 0) +ℤ sum_over e (null_sets n ds) *ℤ h (closure n ds 0)) z
-    ∙ first (e 0) (sum_over e (null_sets n ds)) (h (closure n ds 0))
+    ∙ empty_set_sums (e 0) (sum_over e (null_sets n ds)) (h (closure n ds 0))
     ∙ sym (ap (λ y. (neg_ℤ (sum_over e (null_sets n ds)) *ℤ (y -ℤ h (closure n ds 0)) +ℤ pos 0) +ℤ pos 0 *ℤ h (closure n ds 0)) z)
   where
-    zero_times : (k : ℤ) → pos 0 *ℤ k ≡ pos 0
-    zero_times k = omega (arith, ints)
-
-    times_zero : (k : ℤ) → k *ℤ pos 0 ≡ pos 0
-    times_zero k = omega (arith, ints)
-
-    first : (x s k : ℤ) → (x *ℤ (pos 0 -ℤ pos 0) +ℤ pos 0) +ℤ s *ℤ k ≡ (neg_ℤ s *ℤ (pos 0 -ℤ k) +ℤ pos 0) +ℤ pos 0 *ℤ k
-    first x s k = omega (arith, zring, zero_times k, times_zero x, times_zero s)
-evened n ds e h z (suc m) l = by_test (nat_eq (closure n ds (suc m)) (closure n ds 0)) refl (evened n ds e h z m (omega arith))
+    empty_set_sums : (x s k : ℤ) → (x *ℤ (pos 0 -ℤ pos 0) +ℤ pos 0) +ℤ s *ℤ k ≡ (neg_ℤ s *ℤ (pos 0 -ℤ k) +ℤ pos 0) +ℤ pos 0 *ℤ k
+    empty_set_sums x s k = omega (arith, zring, zero-*ℤ k, *ℤ-zero x, *ℤ-zero s)
+sums_even_out n ds e h z (suc m) l = by_test (nat_eq (closure n ds (suc m)) (closure n ds 0)) refl (sums_even_out n ds e h z m (omega arith))
   where
     K : ℤ
     K = h (closure n ds 0)
 
-    old : ℤ
-    old = dot (suc m) e (λ c. h c -ℤ h (place n ds c))
+    place_sum : ℤ
+    place_sum = dot (suc m) e (λ c. h c -ℤ h (place n ds c))
 
-    new : ℤ
-    new = dot (suc m) (with_empty n ds e) (λ c. h c -ℤ h (closure n ds c))
+    closure_sum : ℤ
+    closure_sum = dot (suc m) (with_empty n ds e) (λ c. h c -ℤ h (closure n ds c))
 
     S : ℤ
     S = sum_over e (null_sets n ds)
 
-    more : nulls n ds (suc m) ≡ nulls n ds m ++ filter (λ s. nat_eq (closure n ds s) (closure n ds 0)) (suc m ∷ [])
-    more = let s : 1 + m ≡ suc m = omega arith in
+    nulls_with_next : nulls n ds (suc m) ≡ nulls n ds m ++ filter (λ s. nat_eq (closure n ds s) (closure n ds 0)) (suc m ∷ [])
+    nulls_with_next = let s : 1 + m ≡ suc m = omega arith in
         ap (filter (λ s. nat_eq (closure n ds s) (closure n ds 0))) (span-last 1 m ∙ ap (λ k. span 1 m ++ k ∷ []) s)
         ∙ filter-append (λ s. nat_eq (closure n ds s) (closure n ds 0)) (span 1 m) (suc m ∷ [])
 
-    same : (o w s T x y c k t : ℤ) → o +ℤ s *ℤ k ≡ w +ℤ T *ℤ k → t ≡ T → (x *ℤ (y -ℤ c) +ℤ o) +ℤ s *ℤ k ≡ (x *ℤ (y -ℤ c) +ℤ w) +ℤ t *ℤ k
-    same o w s T x y c k t ih e = rw e (omega (arith, ints, ih))
+    same_terms : (o w s T x y c k t : ℤ) → o +ℤ s *ℤ k ≡ w +ℤ T *ℤ k → t ≡ T → (x *ℤ (y -ℤ c) +ℤ o) +ℤ s *ℤ k ≡ (x *ℤ (y -ℤ c) +ℤ w) +ℤ t *ℤ k
+    same_terms o w s T x y c k t ih e = rw e (omega (arith, ints, ih))
 
     null : (o w s T x y k t : ℤ) → o +ℤ s *ℤ k ≡ w +ℤ T *ℤ k → t ≡ T +ℤ x → (x *ℤ (y -ℤ pos 0) +ℤ o) +ℤ s *ℤ k ≡ (x *ℤ (y -ℤ k) +ℤ w) +ℤ t *ℤ k
     null o w s T x y k t ih e = rw e (omega (arith, zring, ih))
 
-    none : (x : ℤ) → x +ℤ pos 0 ≡ x
-    none x = omega (arith, ints)
-
-    apart : true ≡ false → ⊥
-    apart e = cc
-
-    by_test : (b : Bool) → nat_eq (closure n ds (suc m)) (closure n ds 0) ≡ b → old +ℤ S *ℤ K ≡ new +ℤ sum_over e (nulls n ds m) *ℤ K
-        → (e (suc m) *ℤ (h (suc m) -ℤ h (place n ds (suc m))) +ℤ old) +ℤ S *ℤ K ≡ (e (suc m) *ℤ (h (suc m) -ℤ h (closure n ds (suc m))) +ℤ new) +ℤ sum_over e (nulls n ds (suc m)) *ℤ K
+    by_test : (b : Bool) → nat_eq (closure n ds (suc m)) (closure n ds 0) ≡ b → place_sum +ℤ S *ℤ K ≡ closure_sum +ℤ sum_over e (nulls n ds m) *ℤ K
+        → (e (suc m) *ℤ (h (suc m) -ℤ h (place n ds (suc m))) +ℤ place_sum) +ℤ S *ℤ K ≡ (e (suc m) *ℤ (h (suc m) -ℤ h (closure n ds (suc m))) +ℤ closure_sum) +ℤ sum_over e (nulls n ds (suc m)) *ℤ K
     by_test true f ih =
         let c : closure n ds (suc m) ≡ closure n ds 0 = Rattle.std.proofs.lemmas.Bool.eqb-true (closure n ds (suc m)) (closure n ds 0) f in
         let sums : sum_over e (nulls n ds (suc m)) ≡ sum_over e (nulls n ds m) +ℤ e (suc m) =
-        ap (sum_over e) more ∙ sum_over-append e (nulls n ds m) (filter (λ s. nat_eq (closure n ds s) (closure n ds 0)) (suc m ∷ []))
-        ∙ ap (λ b. sum_over e (nulls n ds m) +ℤ sum_over e (cond b (suc m ∷ []) [])) f ∙ ap (λ y. sum_over e (nulls n ds m) +ℤ y) (none (e (suc m))) in
-        ap (λ y. (e (suc m) *ℤ (h (suc m) -ℤ y) +ℤ old) +ℤ S *ℤ K) (ap h (place-null n ds (suc m) (omega arith) c) ∙ z)
-        ∙ null old new S (sum_over e (nulls n ds m)) (e (suc m)) (h (suc m)) K (sum_over e (nulls n ds (suc m))) ih sums
-        ∙ sym (ap (λ y. (e (suc m) *ℤ (h (suc m) -ℤ y) +ℤ new) +ℤ sum_over e (nulls n ds (suc m)) *ℤ K) (ap h c))
+        ap (sum_over e) nulls_with_next ∙ sum_over-append e (nulls n ds m) (filter (λ s. nat_eq (closure n ds s) (closure n ds 0)) (suc m ∷ []))
+        ∙ ap (λ b. sum_over e (nulls n ds m) +ℤ sum_over e (cond b (suc m ∷ []) [])) f ∙ ap (λ y. sum_over e (nulls n ds m) +ℤ y) (+ℤ_idr (e (suc m))) in
+        ap (λ y. (e (suc m) *ℤ (h (suc m) -ℤ y) +ℤ place_sum) +ℤ S *ℤ K) (ap h (place-null n ds (suc m) (omega arith) c) ∙ z)
+        ∙ null place_sum closure_sum S (sum_over e (nulls n ds m)) (e (suc m)) (h (suc m)) K (sum_over e (nulls n ds (suc m))) ih sums
+        ∙ sym (ap (λ y. (e (suc m) *ℤ (h (suc m) -ℤ y) +ℤ closure_sum) +ℤ sum_over e (nulls n ds (suc m)) *ℤ K) (ap h c))
     by_test false f ih =
-        let c : closure n ds (suc m) ≢ closure n ds 0 = (λ q. apart (sym (eq-eqb (closure n ds (suc m)) (closure n ds 0) q) ∙ f)) in
+        let c : closure n ds (suc m) ≢ closure n ds 0 = (λ q. true≢false (sym (eq-eqb (closure n ds (suc m)) (closure n ds 0) q) ∙ f)) in
         let sums : sum_over e (nulls n ds (suc m)) ≡ sum_over e (nulls n ds m) =
-        ap (sum_over e) more ∙ sum_over-append e (nulls n ds m) (filter (λ s. nat_eq (closure n ds s) (closure n ds 0)) (suc m ∷ []))
-        ∙ ap (λ b. sum_over e (nulls n ds m) +ℤ sum_over e (cond b (suc m ∷ []) [])) f ∙ none (sum_over e (nulls n ds m)) in
-        ap (λ y. (e (suc m) *ℤ (h (suc m) -ℤ h y) +ℤ old) +ℤ S *ℤ K) (place-set n ds (suc m) (omega arith) c)
-        ∙ same old new S (sum_over e (nulls n ds m)) (e (suc m)) (h (suc m)) (h (closure n ds (suc m))) K (sum_over e (nulls n ds (suc m))) ih sums
+        ap (sum_over e) nulls_with_next ∙ sum_over-append e (nulls n ds m) (filter (λ s. nat_eq (closure n ds s) (closure n ds 0)) (suc m ∷ []))
+        ∙ ap (λ b. sum_over e (nulls n ds m) +ℤ sum_over e (cond b (suc m ∷ []) [])) f ∙ +ℤ_idr (sum_over e (nulls n ds m)) in
+        ap (λ y. (e (suc m) *ℤ (h (suc m) -ℤ h y) +ℤ place_sum) +ℤ S *ℤ K) (place-set n ds (suc m) (omega arith) c)
+        ∙ same_terms place_sum closure_sum S (sum_over e (nulls n ds m)) (e (suc m)) (h (suc m)) (h (closure n ds (suc m))) K (sum_over e (nulls n ds (suc m))) ih sums
 
 -- at the end all are evened out
 all_evened : (n : ℕ) (ds : List Dependence) (e h : ℕ → ℤ) → h 0 ≡ pos 0
@@ -151,11 +140,11 @@ all_evened : (n : ℕ) (ds : List Dependence) (e h : ℕ → ℤ) → h 0 ≡ po
 all_evened n ds e h z =
     let s : suc (2 ^ n - 1) ≡ 2 ^ n = omega (arith, pow_pos n) in
     subst (λ (k : ℕ). dot k e (λ c. h c -ℤ h (place n ds c)) ≡ dot k (with_empty n ds e) (λ c. h c -ℤ h (closure n ds c))) s
-    (cancel (dot (suc (2 ^ n - 1)) e (λ c. h c -ℤ h (place n ds c))) (dot (suc (2 ^ n - 1)) (with_empty n ds e) (λ c. h c -ℤ h (closure n ds c)))
-    (sum_over e (null_sets n ds) *ℤ h (closure n ds 0)) (evened n ds e h z (2 ^ n - 1) (omega arith)))
+    (summand_cancels (dot (suc (2 ^ n - 1)) e (λ c. h c -ℤ h (place n ds c))) (dot (suc (2 ^ n - 1)) (with_empty n ds e) (λ c. h c -ℤ h (closure n ds c)))
+    (sum_over e (null_sets n ds) *ℤ h (closure n ds 0)) (sums_even_out n ds e h z (2 ^ n - 1) (omega arith)))
   where
-    cancel : (x y s : ℤ) → x +ℤ s ≡ y +ℤ s → x ≡ y
-    cancel x y s e = omega (arith, ints, e)
+    summand_cancels : (x y s : ℤ) → x +ℤ s ≡ y +ℤ s → x ≡ y
+    summand_cancels x y s e = omega (arith, ints, e)
 
 -- a linear form of a map spread out is linear in the map
 place_below : (size n : ℕ) (ds : List Dependence) → 2 ^ n ≤ size → AreDependences n ds → (c : ℕ) → c < size → place n ds c < size
@@ -180,6 +169,9 @@ linear_spread size n ds f k r l =
         linear-add size (λ h. f (one_at m) *ℤ h (place n ds m)) (λ h. dot m (λ c. f (one_at c)) (spread_out n ds h))
         (linear-scale size (f (one_at m)) (λ h. h (place n ds m)) (linear_at size (place n ds m) (place_below size n ds k r m (omega arith)))) (sums m (omega arith))
 
+no_difference : (x y : ℤ) → x ≡ y → x -ℤ y ≡ pos 0
+no_difference x y e = omega (arith, ints, e)
+
 -- over closed sets nothing is left over
 none_left : (size n : ℕ) (ds : List Dependence) (target : Form) (g : Generators) (w : CertificateView) → 2 ^ n ≤ size → AreDependences n ds
     → IsLinear size target → ((i : ℕ) → i < g.count → IsLinear size (g.form i)) → All (λ p. p.0 < g.count) w.parts → AddsUpOverClosed size n ds target g w
@@ -189,10 +181,7 @@ none_left size n ds target g w k r l m a up h z =
     let B : Form = λ h. combination w.parts (λ i. g.form i (spread_out n ds h)) in
     let la : IsLinear size A = linear-scale size w.scale (λ h. target (spread_out n ds h)) (linear_spread size n ds target k r l) in
     let lb : IsLinear size B = linear_spread size n ds (λ h. combination w.parts (λ i. g.form i h)) k r (weighted_linear size g m w.parts a) in
-    null (A h) (B h) (la.sum h z ∙ dot_from_one size (λ c. A (one_at c)) (λ c. B (one_at c)) h z up ∙ sym (lb.sum h z))
-  where
-    null : (x y : ℤ) → x ≡ y → x -ℤ y ≡ pos 0
-    null x y e = omega (arith, ints, e)
+    no_difference (A h) (B h) (la.sum h z ∙ dot_from_one size (λ c. A (one_at c)) (λ c. B (one_at c)) h z up ∙ sym (lb.sum h z))
 
 pub lift_adds_up : LiftAddsUp
 lift_adds_up size n ds target g w k r d l m a up h z =
@@ -205,7 +194,7 @@ lift_adds_up size n ds target g w k r d l m a up h z =
     let apart : dot size e (λ c. h c -ℤ h (place n ds c)) ≡ dot size e h -ℤ dot size e h' = dot-less size e h h' in
     let size_is : (size - 2 ^ n) + 2 ^ n ≡ size = omega arith in
     let short : dot size e (λ c. h c -ℤ h (place n ds c)) ≡ dot (2 ^ n) e (λ c. h c -ℤ h (place n ds c)) =
-    ap (λ s. dot s e (λ c. h c -ℤ h (place n ds c))) (sym size_is) ∙ dot_short (2 ^ n) (size - 2 ^ n) e (λ c. h c -ℤ h (place n ds c)) (λ c q. null (h c) (h (place n ds c)) (ap h (sym (place-rate n ds c q)))) in
+    ap (λ s. dot s e (λ c. h c -ℤ h (place n ds c))) (sym size_is) ∙ dot_short (2 ^ n) (size - 2 ^ n) e (λ c. h c -ℤ h (place n ds c)) (λ c q. no_difference (h c) (h (place n ds c)) (ap h (sym (place-rate n ds c q)))) in
     let elemental_value : combination (moves n ds e) v ≡ dot (2 ^ n) (with_empty n ds e) (λ c. h c -ℤ h (closure n ds c)) =
     moves-value n ds h v (with_empty n ds e) r (record { elemental = λ i q. d.elemental i q h z; equation = λ i x q. d.equation i x q h z }) (2 ^ n) (omega arith) in
     let even = all_evened n ds e h z in
@@ -213,8 +202,5 @@ lift_adds_up size n ds target g w k r d l m a up h z =
     whole_is (w.scale *ℤ target h) (combination w.parts v) (combination (moves n ds e) v) (combination (w.parts ++ moves n ds e) v) (dot size e h)
     here (elemental_value ∙ sym even ∙ sym short ∙ apart ∙ ap (λ y. dot size e h -ℤ y) closed) whole
   where
-    null : (x y : ℤ) → x ≡ y → x -ℤ y ≡ pos 0
-    null x y e = omega (arith, ints, e)
-
     whole_is : (x y m s d : ℤ) → x -ℤ y ≡ d → m ≡ d -ℤ pos 0 → s ≡ y +ℤ m → x ≡ s
     whole_is x y m s d a b c = omega (arith, ints, a, b, c)

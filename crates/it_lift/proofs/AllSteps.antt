@@ -46,11 +46,11 @@ later-stops F n a b E k h w = stops-after a b (F 0) (flat_map F (span 1 (2 ^ n -
 
 -- what the code adds at a set
 pub moves_found : (n : ℕ) (ds : List Dependence) (e : ℕ → ℤ) (m s : ℕ) (x : ℤ) → 1 ≤ m → s ≡ m → x ≡ e s → moves_at n ds s x ≡ moves_of n ds e m
-moves_found n ds e m s x h i k = ap₂ (moves_at n ds) i (k ∙ ap e i) ∙ ap (moves_at n ds m) (sym (some m h))
+moves_found n ds e m s x h i k = ap₂ (moves_at n ds) i (k ∙ ap e i) ∙ ap (moves_at n ds m) (sym (value_stays m h))
   where
-    some : (m : ℕ) → 1 ≤ m → with_empty n ds e m ≡ e m
-    some zero h = absurd (omega arith)
-    some (suc m) h = refl
+    value_stays : (m : ℕ) → 1 ≤ m → with_empty n ds e m ≡ e m
+    value_stays zero h = absurd (omega arith)
+    value_stays (suc m) h = refl
 
 pub first_found : (n : ℕ) (ds : List Dependence) (e : ℕ → ℤ) (s : ℕ) (x : ℤ) → s ≡ 0 → x ≡ with_empty n ds e 0 → moves_at n ds s x ≡ moves_of n ds e 0
 first_found n ds e s x i k = ap₂ (moves_at n ds) i k

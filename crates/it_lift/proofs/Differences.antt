@@ -21,19 +21,19 @@ bit-less n s t i hs ht =
     let none : min (bit_at (2 ^ n - 1 - t) i) (bit_at t i) ≡ 0 = sym (bit_at_and (2 ^ n - 1 - t) t i) ∙ ap (λ m. bit_at m i) (rest_apart n t ht) ∙ bit_at-zero i in
     let low : bit_at rest i ≡ min (bit_at (2 ^ n - 1 - t) i) (bit_at s i) = bit_at_and (2 ^ n - 1 - t) s i in
     let split : max (bit_at rest i) (min (bit_at t i) (bit_at s i)) ≡ bit_at s i =
-    ap (λ m. max (bit_at rest i) m) (sym (bit_at_and t s i)) ∙ sym (bit_at_or rest (bit_and t s) i) ∙ ap (λ m. bit_at m i) whole in
-    ap (λ m. bit_at m i) (less_is n s t hs ht) ∙ step (bit_at (2 ^ n - 1 - t) i) (bit_at s i) (bit_at t i) (bit_at rest i) (bit_at-lt s i) (bit_at-lt t i) none low split
+    ap (λ m. max (bit_at rest i) m) (sym (bit_at_and t s i)) ∙ sym (bit_at_or rest (bit_and t s) i) ∙ ap (λ m. bit_at m i) union_of_parts in
+    ap (λ m. bit_at m i) (less_is n s t hs ht) ∙ bit_difference (bit_at (2 ^ n - 1 - t) i) (bit_at s i) (bit_at t i) (bit_at rest i) (bit_at-lt s i) (bit_at-lt t i) none low split
   where
-    step : (o s t r : ℕ) → s < 2 → t < 2 → min o t ≡ 0 → r ≡ min o s → max r (min t s) ≡ s → r ≡ s - t
-    step o s t r hs ht a b c = omega arith
+    bit_difference : (o s t r : ℕ) → s < 2 → t < 2 → min o t ≡ 0 → r ≡ min o s → max r (min t s) ≡ s → r ≡ s - t
+    bit_difference o s t r hs ht a b c = omega arith
 
-    disjoint : bit_and (bit_and (2 ^ n - 1 - t) s) (bit_and t s) ≡ 0
-    disjoint = same_from_bits (bit_and (bit_and (2 ^ n - 1 - t) s) (bit_and t s)) 0 (λ i.
+    parts_disjoint : bit_and (bit_and (2 ^ n - 1 - t) s) (bit_and t s) ≡ 0
+    parts_disjoint = same_from_bits (bit_and (bit_and (2 ^ n - 1 - t) s) (bit_and t s)) 0 (λ i.
         let none : min (bit_at (2 ^ n - 1 - t) i) (bit_at t i) ≡ 0 = sym (bit_at_and (2 ^ n - 1 - t) t i) ∙ ap (λ m. bit_at m i) (rest_apart n t ht) ∙ bit_at-zero i in
         omega (arith, bit_at_and (bit_and (2 ^ n - 1 - t) s) (bit_and t s) i, bit_at_and (2 ^ n - 1 - t) s i, bit_at_and t s i, bit_at-zero i, none))
 
-    whole : bit_or (bit_and (2 ^ n - 1 - t) s) (bit_and t s) ≡ s
-    whole = or_disjoint (bit_and (2 ^ n - 1 - t) s) (bit_and t s) disjoint ∙ and-not n t s ht hs
+    union_of_parts : bit_or (bit_and (2 ^ n - 1 - t) s) (bit_and t s) ≡ s
+    union_of_parts = or_disjoint (bit_and (2 ^ n - 1 - t) s) (bit_and t s) parts_disjoint ∙ and-not n t s ht hs
 
 pub less_below : (n s t : ℕ) → s < 2 ^ n → set_difference s t < 2 ^ n
 less_below n s t h = omega arith

@@ -4,6 +4,7 @@ use Rattle.std.specs.List.{flat_map, AllByRecursion as Every}
 use Rattle.std.proofs.lemmas.Int.{ints}
 use Rattle.std.proofs.lemmas.Bool.{eqb-true}
 use Rattle.std.proofs.lemmas.Nat.{or_lt, and_le_r}
+use Rattle.std.proofs.Math.IntN.{+ℤ_idr}
 use Rattle.it_number.specs.Limit.{IsWithin}
 use Rattle.it_space.specs.Rows.{coefficient}
 use Rattle.it_space.specs.Sets.{IsInside}
@@ -33,9 +34,9 @@ abbrev pub Goes : Bool → ℤ → Type 0
 Goes true x = pos 0 ≤ℤ x
 Goes false x = x ≤ℤ pos 0
 
-between : (b : Bool) (x y z : ℤ) → Goes b y → Goes b z → IsWithin x → IsWithin ((x +ℤ y) +ℤ z) → IsWithin (x +ℤ y)
-between true x y z h k w v = omega (arith, ints)
-between false x y z h k w v = omega (arith, ints)
+middle_sum_within : (b : Bool) (x y z : ℤ) → Goes b y → Goes b z → IsWithin x → IsWithin ((x +ℤ y) +ℤ z) → IsWithin (x +ℤ y)
+middle_sum_within true x y z h k w v = omega (arith, ints)
+middle_sum_within false x y z h k w v = omega (arith, ints)
 
 goes-sum : (b : Bool) (x y : ℤ) → Goes b x → Goes b y → Goes b (x +ℤ y)
 goes-sum true x y h k = omega (arith, ints)
@@ -67,19 +68,16 @@ plus-total f m ms i = omega (arith, ints)
 within-more : (f : ℕ → ℤ) (m : ℕ × ℤ) → ((i : ℕ) → IsWithin (f i)) → IsWithin (f m.0 +ℤ m.1) → (i : ℕ) → IsWithin (plus_at f m i)
 within-more f m w v i = by_test (nat_eq m.0 i) refl
   where
-    none : (x : ℤ) → x +ℤ pos 0 ≡ x
-    none x = omega (arith, ints)
-
     by_test : (b : Bool) → nat_eq m.0 i ≡ b → IsWithin (f i +ℤ cond b m.1 (pos 0))
     by_test true e = subst (λ (k : ℕ). IsWithin (f k +ℤ m.1)) (eqb-true m.0 i e) v
-    by_test false e = subst IsWithin (sym (none (f i))) (w i)
+    by_test false e = subst IsWithin (sym (+ℤ_idr (f i))) (w i)
 
 pub way_from_end : (up : ℕ → Bool) (f : ℕ → ℤ) (ms : List (ℕ × ℤ)) → GoTheirWay up ms → ((i : ℕ) → IsWithin (f i)) → ((i : ℕ) → IsWithin (f i +ℤ coefficient ms i)) → WeightSumsFit f ms
 way_from_end up f [] g w e = tt
 way_from_end up f (m ∷ ms) g w e =
     let total : plus_at f m m.0 +ℤ coefficient ms m.0 ≡ f m.0 +ℤ coefficient (m ∷ ms) m.0 = plus-total f m ms m.0 in
     let end : IsWithin ((f m.0 +ℤ m.1) +ℤ coefficient ms m.0) = subst IsWithin (sym total ∙ ap (λ y. y +ℤ coefficient ms m.0) (plus-here f m)) (e m.0) in
-    let here : IsWithin (f m.0 +ℤ m.1) = between (up m.0) (f m.0) m.1 (coefficient ms m.0) g.0 (goes-total up ms g.1 m.0) (w m.0) end in
+    let here : IsWithin (f m.0 +ℤ m.1) = middle_sum_within (up m.0) (f m.0) m.1 (coefficient ms m.0) g.0 (goes-total up ms g.1 m.0) (w m.0) end in
     (here, way_from_end up (plus_at f m) ms g.1 (within-more f m w here) (λ i. subst IsWithin (sym (plus-total f m ms i)) (e i)))
 
 pub end_from_way : (f : ℕ → ℤ) (ms : List (ℕ × ℤ)) → ((i : ℕ) → IsWithin (f i)) → WeightSumsFit f ms → (i : ℕ) → IsWithin (f i +ℤ coefficient ms i)
@@ -100,12 +98,12 @@ own_way : (from : ℕ) (ds : List Dependence) → GeneratorsAscend from ds → E
 own_way from [] a = tt
 own_way from (d ∷ ds) a = (
   ap (λ b. cond b d.negated (goes_up ds d.generator)) (eq-eqb d.generator d.generator refl),
-  later (d.generator + 1) ds a.1 (omega arith) (own_way (d.generator + 1) ds a.1),
+  later_ways_stay (d.generator + 1) ds a.1 (omega arith) (own_way (d.generator + 1) ds a.1),
 )
   where
-    later : (from : ℕ) (es : List Dependence) → GeneratorsAscend from es → d.generator < from → Every (λ e. goes_up ds e.generator ≡ e.negated) es → Every (λ e. goes_up (d ∷ ds) e.generator ≡ e.negated) es
-    later from [] a h v = tt
-    later from (e ∷ es) a h v = (ap (λ b. cond b d.negated (goes_up ds e.generator)) (ne_eqb d.generator e.generator (λ q. omega (arith, a.0))) ∙ v.0, later (e.generator + 1) es a.1 (omega (arith, a.0)) v.1)
+    later_ways_stay : (from : ℕ) (es : List Dependence) → GeneratorsAscend from es → d.generator < from → Every (λ e. goes_up ds e.generator ≡ e.negated) es → Every (λ e. goes_up (d ∷ ds) e.generator ≡ e.negated) es
+    later_ways_stay from [] a h v = tt
+    later_ways_stay from (e ∷ es) a h v = (ap (λ b. cond b d.negated (goes_up ds e.generator)) (ne_eqb d.generator e.generator (λ q. omega (arith, a.0))) ∙ v.0, later_ways_stay (e.generator + 1) es a.1 (omega (arith, a.0)) v.1)
 
 -- ---- what holds of each weight that is moved: of weights of inequalities that aren't below 0, and of the dependences' own
 
@@ -159,21 +157,21 @@ module _ (n : ℕ) (P : ℕ × ℤ → Type 0) (low : (i : ℕ) (x : ℤ) → i 
         (every-span (λ s. Every P (moves_at n ds s (with_empty n ds e s))) 0 (2 ^ n) (λ s a b. at-have s (with_empty n ds e s) (omega arith)))
 
 have_moves : (P : ℕ × ℤ → Type 0) (n : ℕ) (ds : List Dependence) → AreDependences n ds → Every (λ d. (x : ℤ) → pos 0 ≤ℤ x → P (d.generator, cond d.negated x (neg_ℤ x))) ds → Every (HasMove P) ds
-have_moves P n ds r o = both ds (every_of (λ d. IsInside d.from d.to) ds r.inside) o
+have_moves P n ds r o = each_has_move ds (every_of (λ d. IsInside d.from d.to) ds r.inside) o
   where
-    both : (es : List Dependence) → Every (λ d. IsInside d.from d.to) es → Every (λ d. (x : ℤ) → pos 0 ≤ℤ x → P (d.generator, cond d.negated x (neg_ℤ x))) es → Every (HasMove P) es
-    both [] a b = tt
-    both (e ∷ es) a b = (record { inside = a.0; own = b.0 }, both es a.1 b.1)
+    each_has_move : (es : List Dependence) → Every (λ d. IsInside d.from d.to) es → Every (λ d. (x : ℤ) → pos 0 ≤ℤ x → P (d.generator, cond d.negated x (neg_ℤ x))) es → Every (HasMove P) es
+    each_has_move [] a b = tt
+    each_has_move (e ∷ es) a b = (record { inside = a.0; own = b.0 }, each_has_move es a.1 b.1)
 
 -- each goes its way
 pub moves_go : (n : ℕ) (ds : List Dependence) (e : ℕ → ℤ) → AreDependences n ds → AreNumbered n ds → GoTheirWay (goes_up ds) (moves n ds e)
 moves_go n ds e r o = moves_have n (λ m. Goes (goes_up ds m.0) m.1) (λ i x l p. subst (λ (b : Bool). Goes b x) (sym (up_before (length (elementals n)) ds i o l)) p) ds r
     (have_moves (λ m. Goes (goes_up ds m.0) m.1) n ds r (every-same (λ d. goes_up ds d.generator ≡ d.negated) (λ d. (x : ℤ) → pos 0 ≤ℤ x → Goes (goes_up ds d.generator) (cond d.negated x (neg_ℤ x))) ds
-    (λ d is x p. subst (λ (b : Bool). Goes b (cond d.negated x (neg_ℤ x))) (sym is) (own d.negated x p)) (own_way (length (elementals n)) ds o))) e
+    (λ d is x p. subst (λ (b : Bool). Goes b (cond d.negated x (neg_ℤ x))) (sym is) (signed_value_goes d.negated x p)) (own_way (length (elementals n)) ds o))) e
   where
-    own : (b : Bool) (x : ℤ) → pos 0 ≤ℤ x → Goes b (cond b x (neg_ℤ x))
-    own true x p = p
-    own false x p = omega (arith, ints, p)
+    signed_value_goes : (b : Bool) (x : ℤ) → pos 0 ≤ℤ x → Goes b (cond b x (neg_ℤ x))
+    signed_value_goes true x p = p
+    signed_value_goes false x p = omega (arith, ints, p)
 
 -- each is of a generator that is there
 pub moves_placed : (n count : ℕ) (ds : List Dependence) (e : ℕ → ℤ) → AreDependences n ds → length (elementals n) ≤ count → Every (λ d. d.generator < count) ds → Every (λ m. m.0 < count) (moves n ds e)

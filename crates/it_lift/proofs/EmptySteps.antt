@@ -4,6 +4,7 @@ use Rattle.std.specs.List.{filter}
 use Rattle.std.proofs.lemmas.Int.{ints}
 use Rattle.std.proofs.lemmas.Bool.{cases_order}
 use Rattle.std.proofs.Math.Pow.{pow_mono}
+use Rattle.std.proofs.Math.IntN.{+ℤ_idr, +ℤ_assoc}
 use Rattle.it_number.specs.Limit.{IsWithin}
 use Rattle.it_space.specs.Answers.{CertificateView}
 use Rattle.it_polymatroid.specs.Certificates.{Form, Generators, combination}
@@ -25,8 +26,8 @@ pub record IsEvening (n : ℕ) (ds : List Dependence) (target : Form) (g : Gener
   pub fits : PartialSumsFit sum (excess w target g) (nulls_from n ds m) ↔ PartialSumsFit (pos 0) (excess w target g) (null_sets n ds)
   pub total : sum +ℤ sum_over (excess w target g) (nulls_from n ds m) ≡ sum_over (excess w target g) (null_sets n ds)
 
-next : (n : ℕ) (ds : List Dependence) (m : ℕ) (b : Bool) → m < 2 ^ n → nat_eq (closure n ds m) (closure n ds 0) ≡ b → nulls_from n ds m ≡ cond b (m ∷ nulls_from n ds (m + 1)) (nulls_from n ds (m + 1))
-next n ds m b h e =
+nulls_from_next : (n : ℕ) (ds : List Dependence) (m : ℕ) (b : Bool) → m < 2 ^ n → nat_eq (closure n ds m) (closure n ds 0) ≡ b → nulls_from n ds m ≡ cond b (m ∷ nulls_from n ds (m + 1)) (nulls_from n ds (m + 1))
+nulls_from_next n ds m b h e =
     let c : 2 ^ n - m ≡ suc (2 ^ n - (m + 1)) = omega arith in
     ap (λ k. filter (λ s. nat_eq (closure n ds s) (closure n ds 0)) (span m k)) c ∙ ap (λ t. cond t (m ∷ nulls_from n ds (m + 1)) (nulls_from n ds (m + 1))) e
 
@@ -42,7 +43,7 @@ pub evening-more : (n : ℕ) (ds : List Dependence) (target : Form) (g : Generat
     → ExcessFits w target g m → x ≡ excess w target g m → IsWithin (sum +ℤ cond b x (pos 0)) → next' ≡ sum +ℤ cond b x (pos 0)
     → IsEvening n ds target g w m sum → IsEvening n ds target g w (m + 1) next'
 evening-more n ds target g w m sum x next' true h t e is v k u =
-    let split : nulls_from n ds m ≡ m ∷ nulls_from n ds (m + 1) = next n ds m true h t in
+    let split : nulls_from n ds m ≡ m ∷ nulls_from n ds (m + 1) = nulls_from_next n ds m true h t in
     let f = subst (λ (r : List ℕ). PartialSumsFit sum (excess w target g) r ↔ PartialSumsFit (pos 0) (excess w target g) (null_sets n ds)) split u.fits in
     let s = subst (λ (r : List ℕ). sum +ℤ sum_over (excess w target g) r ≡ sum_over (excess w target g) (null_sets n ds)) split u.total in
     let k' : next' ≡ sum +ℤ excess w target g m = k ∙ ap (λ y. sum +ℤ y) is in
@@ -51,53 +52,44 @@ evening-more n ds target g w m sum x next' true h t e is v k u =
       within = rw k' v';
       excesses = more-excesses w target g m u.excesses e;
       fits = rw k' ((λ q. f.0 (v', q)), (λ q. (f.1 q).1));
-      total = rw k' (assoc sum (excess w target g m) (sum_over (excess w target g) (nulls_from n ds (m + 1))) ∙ s);
+      total = rw k' (+ℤ_assoc sum (excess w target g m) (sum_over (excess w target g) (nulls_from n ds (m + 1))) ∙ s);
     }
-  where
-    assoc : (a b c : ℤ) → (a +ℤ b) +ℤ c ≡ a +ℤ (b +ℤ c)
-    assoc a b c = omega (arith, ints)
 evening-more n ds target g w m sum x next' false h t e is v k u =
-    let split : nulls_from n ds m ≡ nulls_from n ds (m + 1) = next n ds m false h t in
-    let k' : next' ≡ sum = k ∙ none sum in
+    let split : nulls_from n ds m ≡ nulls_from n ds (m + 1) = nulls_from_next n ds m false h t in
+    let k' : next' ≡ sum = k ∙ +ℤ_idr sum in
     record {
       within = rw k' u.within;
       excesses = more-excesses w target g m u.excesses e;
       fits = rw k' (subst (λ (r : List ℕ). PartialSumsFit sum (excess w target g) r ↔ PartialSumsFit (pos 0) (excess w target g) (null_sets n ds)) split u.fits);
       total = rw k' (subst (λ (r : List ℕ). sum +ℤ sum_over (excess w target g) r ≡ sum_over (excess w target g) (null_sets n ds)) split u.total);
     }
-  where
-    none : (a : ℤ) → a +ℤ pos 0 ≡ a
-    none a = omega (arith, ints)
 
 -- where a sum doesn't fit
 pub evening-stops : (n : ℕ) (ds : List Dependence) (target : Form) (g : Generators) (w : CertificateView) (m : ℕ) (sum x : ℤ) (b : Bool) → m < 2 ^ n → nat_eq (closure n ds m) (closure n ds 0) ≡ b
     → x ≡ excess w target g m → ¬ (IsWithin (sum +ℤ cond b x (pos 0))) → IsEvening n ds target g w m sum → ¬ (EmptyFits n ds target g w)
 evening-stops n ds target g w m sum x true h t is v u all =
-    let split : nulls_from n ds m ≡ m ∷ nulls_from n ds (m + 1) = next n ds m true h t in
+    let split : nulls_from n ds m ≡ m ∷ nulls_from n ds (m + 1) = nulls_from_next n ds m true h t in
     let f = subst (λ (r : List ℕ). PartialSumsFit sum (excess w target g) r) split (u.fits.1 all.empty) in
     v (subst (λ (y : ℤ). IsWithin (sum +ℤ y)) (sym is) f.0)
-evening-stops n ds target g w m sum x false h t is v u all = v (let e : sum +ℤ pos 0 ≡ sum = none sum in rw e u.within)
-  where
-    none : (a : ℤ) → a +ℤ pos 0 ≡ a
-    none a = omega (arith, ints)
+evening-stops n ds target g w m sum x false h t is v u all = v (let e : sum +ℤ pos 0 ≡ sum = +ℤ_idr sum in rw e u.within)
 
 -- an excess that fits is within the limit
 pub excess_within : (w : CertificateView) (target : Form) (g : Generators) (s : ℕ) → ExcessFits w target g s → IsWithin (excess w target g s)
-excess_within w target g s e = falls (w.scale *ℤ target (one_at s)) w.parts (λ i. g.form i (one_at s)) e.0 e.1
+excess_within w target g s e = fall_ends_within (w.scale *ℤ target (one_at s)) w.parts (λ i. g.form i (one_at s)) e.0 e.1
   where
     rest : (a b c : ℤ) → (a -ℤ b) -ℤ c ≡ a -ℤ (b +ℤ c)
     rest a b c = omega (arith, ints)
 
-    plain : (a : ℤ) → a ≡ a -ℤ pos 0
-    plain a = omega (arith, ints)
+    minus_zero : (a : ℤ) → a ≡ a -ℤ pos 0
+    minus_zero a = omega (arith, ints)
 
-    falls : (sum : ℤ) (ws : List (ℕ × ℤ)) (f : ℕ → ℤ) → IsWithin sum → FallFits sum ws f → IsWithin (sum -ℤ combination ws f)
-    falls sum [] f h k = subst IsWithin (plain sum) h
-    falls sum (v ∷ vs) f h k = subst IsWithin (rest sum (v.1 *ℤ f v.0) (combination vs f)) (falls (sum -ℤ v.1 *ℤ f v.0) vs f k.1 k.2)
+    fall_ends_within : (sum : ℤ) (ws : List (ℕ × ℤ)) (f : ℕ → ℤ) → IsWithin sum → FallFits sum ws f → IsWithin (sum -ℤ combination ws f)
+    fall_ends_within sum [] f h k = subst IsWithin (minus_zero sum) h
+    fall_ends_within sum (v ∷ vs) f h k = subst IsWithin (rest sum (v.1 *ℤ f v.0) (combination vs f)) (fall_ends_within (sum -ℤ v.1 *ℤ f v.0) vs f k.1 k.2)
 
 -- the number of sets, as the code counts them
-pub shifted : (n : ℕ) → n ≤ 10 → 1 * 2 ^ n % 65536 ≡ 2 ^ n
-shifted n h = let e : 1 * 2 ^ n ≡ 2 ^ n = omega arith in ap (λ m. m % 65536) e ∙ mod-eq_of_lt (omega (arith, pow_mono {i = n} {j = 10} h))
+pub shift_is_power : (n : ℕ) → n ≤ 10 → 1 * 2 ^ n % 65536 ≡ 2 ^ n
+shift_is_power n h = let e : 1 * 2 ^ n ≡ 2 ^ n = omega arith in ap (λ m. m % 65536) e ∙ mod-eq_of_lt (omega (arith, pow_mono {i = n} {j = 10} h))
 
 pub number_below : (m v n : ℕ) → m < 1 * 2 ^ v % 65536 → v ≤ 10 → n ≡ v → m < 2 ^ n
-number_below m v n h f e = rw e (omega (arith, shifted v f))
+number_below m v n h f e = rw e (omega (arith, shift_is_power v f))

@@ -15,9 +15,9 @@ closes : closure 3 givens 1 ≡ 7
 unfolding closure givens
 closes = refl
 
-moved : moves 3 givens left ≡ (9, negsuc 0) ∷ (6, pos 1) ∷ (10, negsuc 0) ∷ (1, pos 1) ∷ []
+example_moves : moves 3 givens left ≡ (9, negsuc 0) ∷ (6, pos 1) ∷ (10, negsuc 0) ∷ (1, pos 1) ∷ []
 unfolding closure way elemental_index givens left
-moved = refl
+example_moves = refl
 
 -- H(X) = 0: e({X}) is 1
 null : List Dependence

@@ -33,8 +33,8 @@ falling-stops ws f whole i left x w h is at wide u all =
 -- the whole excess, from its first product and what is taken off
 pub excess_is : {E : Type 0} (r : Result ℤ E) (x y : ℤ) (us ws : List (ℕ × ℤ)) (f : ℕ → ℤ) → x ≡ y → IsWithin y → us ≡ ws → OkIff r (FallFits x us f) (x -ℤ combination us f)
     → OkIff r (IsWithin y × FallFits y ws f) (y -ℤ combination ws f)
-excess_is {E = E} r x y us ws f e w s k = more r (subst₂ (λ (z : ℤ) (vs : List (ℕ × ℤ)). OkIff r (FallFits z vs f) (z -ℤ combination vs f)) e s k)
+excess_is {E = E} r x y us ws f e w s k = by_result r (subst₂ (λ (z : ℤ) (vs : List (ℕ × ℤ)). OkIff r (FallFits z vs f) (z -ℤ combination vs f)) e s k)
   where
-    more : (r : Result ℤ E) → OkIff r (FallFits y ws f) (y -ℤ combination ws f) → OkIff r (IsWithin y × FallFits y ws f) (y -ℤ combination ws f)
-    more (Ok z) k = ((w, k.0), k.1)
-    more (Err z) k = λ b. k b.1
+    by_result : (r : Result ℤ E) → OkIff r (FallFits y ws f) (y -ℤ combination ws f) → OkIff r (IsWithin y × FallFits y ws f) (y -ℤ combination ws f)
+    by_result (Ok z) k = ((w, k.0), k.1)
+    by_result (Err z) k = λ b. k b.1

@@ -7,7 +7,7 @@ use Rattle.it_space.specs.Rows.{value, IsUpTo}
 use Rattle.it_space.specs.Spaces.{size_of}
 use Rattle.it_polymatroid.specs.Elementals.{elementals, elemental_at, elemental_value}
 use Rattle.it_elemental.specs.Generators.{Generator, generators, generator_at, generators_of}
-use Rattle.it_elemental.proofs.GeneratorLemmas.{length-listed, front, behind_is, rows_of_space, every_or}
+use Rattle.it_elemental.proofs.GeneratorLemmas.{length-listed, front_is_elemental, behind_is, rows_of_space, every_or}
 use Rattle.it_elemental.proofs.GeneratorLemmas as G
 use Rattle.it_elemental.proofs.RowLemmas.{value-row}
 
@@ -16,7 +16,7 @@ total_is q = omega (arith, length-listed q.space.variables q.constraints)
 
 pub form_own : (q : ProblemView) (i : ℕ) (h : ℕ → ℤ) → h 0 ≡ pos 0 → i < length (elementals q.space.variables) → (generators_of q).form i h ≡ elemental_value q.space.variables h (elemental_at q.space.variables i)
 form_own q i h z l =
-    ap (λ (g : Generator). value g.row h) (front q.space.variables q.constraints i (omega arith)) ∙ value-row q.space.variables (elemental_at q.space.variables i) h z
+    ap (λ (g : Generator). value g.row h) (front_is_elemental q.space.variables q.constraints i (omega arith)) ∙ value-row q.space.variables (elemental_at q.space.variables i) h z
 
 -- the generator of a constraint
 pub constraint_is : (q : ProblemView) (i own : ℕ) (c : Constraint) → own ≡ length (elementals q.space.variables) → own ≤ i → i - own < length q.constraints → c ≡ get_or q.constraints (i - own) c

@@ -19,7 +19,7 @@ use Rattle.it_closure.proofs.Meets.{closure_is}
 use Rattle.it_closure.proofs.Ways.{IsOpenOf, open_where, closed_where, way-end, way-more, some_open}
 use Rattle.it_elemental.specs.Indexes.{elemental_index}
 use Rattle.it_lift.specs.Lifts.{set_difference, each_weight, turn_moves, moves_at, signed_value}
-use Rattle.it_lift.proofs.Validity.{mutual_valid, conditional_valid, back_listed, listed}
+use Rattle.it_lift.proofs.Validity.{mutual_valid, conditional_valid, back_listed, numbers_in_list}
 use Rattle.it_lift.proofs.Differences.{less_below, less_apart, less_less, less_meet, less_meet_right, less_joined, less_joined_right, less_all, less_inner}
 use Rattle.it_polymatroid.proofs.Images.{inside_meet}
 
@@ -35,11 +35,11 @@ pub record AreGeneratorValues (n : ℕ) (ds : List Dependence) (h v : ℕ → �
 -- one weight for each of some inequalities
 each-value : (n : ℕ) (ds : List Dependence) (h v : ℕ → ℤ) (x : ℤ) (es : List Elemental) → AreGeneratorValues n ds h v → Every (IsElemental n) es
     → combination (each_weight n x es) v ≡ x *ℤ sum_of_values n h (map (elemental_index n) es)
-each-value n ds h v x es w e = over es (listed n es e)
+each-value n ds h v x es w e = by_list es (numbers_in_list n es e)
   where
-    over : (es : List Elemental) → Every (λ i. i < length (elementals n)) (map (elemental_index n) es) → combination (each_weight n x es) v ≡ x *ℤ sum_of_values n h (map (elemental_index n) es)
-    over [] l = omega (arith, ints)
-    over (e ∷ es) l = ap₂ (λ a b. x *ℤ a +ℤ b) (w.elemental (elemental_index n e) l.0) (over es l.1) ∙ omega (arith, zring)
+    by_list : (es : List Elemental) → Every (λ i. i < length (elementals n)) (map (elemental_index n) es) → combination (each_weight n x es) v ≡ x *ℤ sum_of_values n h (map (elemental_index n) es)
+    by_list [] l = omega (arith, ints)
+    by_list (e ∷ es) l = ap₂ (λ a b. x *ℤ a +ℤ b) (w.elemental (elemental_index n e) l.0) (by_list es l.1) ∙ omega (arith, zring)
 
 -- H(t - s|s)
 conditional-value : (n : ℕ) (ds : List Dependence) (h v : ℕ → ℤ) (x : ℤ) (s t : ℕ) → AreGeneratorValues n ds h v → s < 2 ^ n → t < 2 ^ n → IsInside s t
@@ -113,8 +113,8 @@ way-value : (n : ℕ) (ds : List Dependence) (h v : ℕ → ℤ) (x : ℤ) → A
 way-value n ds h v x r w zero a k l = absurd (omega arith)
 way-value n ds h v x r w (suc turns) a k l = by_option (first_open ds a) refl (λ c. way-value n ds h v x r w turns c)
   where
-    none : (y : ℤ) → pos 0 ≡ x *ℤ (y -ℤ y)
-    none y = omega (arith, zring)
+    no_difference : (y : ℤ) → pos 0 ≡ x *ℤ (y -ℤ y)
+    no_difference y = omega (arith, zring)
 
     sum : (p q u : ℤ) → x *ℤ (p -ℤ q) +ℤ x *ℤ (q -ℤ u) ≡ x *ℤ (p -ℤ u)
     sum p q u = omega (arith, zring)
@@ -122,7 +122,7 @@ way-value n ds h v x r w (suc turns) a k l = by_option (first_open ds a) refl (�
     by_option : (o : Option Dependence) → first_open ds a ≡ o
         → ((c : ℕ) → 2 ^ n ≤ c + turns → c < 2 ^ n → combination (flat_map (turn_moves n x) (way n ds c)) v ≡ x *ℤ (h c -ℤ h (closure n ds c)))
         → combination (flat_map (turn_moves n x) (way n ds a)) v ≡ x *ℤ (h a -ℤ h (closure n ds a))
-    by_option None e ih = ap (λ ts. combination (flat_map (turn_moves n x) ts) v) (way-end n ds a l e) ∙ none (h a) ∙ ap (λ c. x *ℤ (h a -ℤ h c)) (sym (own_closure n ds a r.below l e))
+    by_option None e ih = ap (λ ts. combination (flat_map (turn_moves n x) ts) v) (way-end n ds a l e) ∙ no_difference (h a) ∙ ap (λ c. x *ℤ (h a -ℤ h c)) (sym (own_closure n ds a r.below l e))
     by_option (Some d) e ih =
         let o : IsOpenOf n ds a d = open_where n ds a d r.below e in
         let more : a < bit_or a d.to = grows a d.to o.new in
@@ -138,12 +138,12 @@ way-value n ds h v x r w (suc turns) a k l = by_option (first_open ds a) refl (�
 pub at-value : (n : ℕ) (ds : List Dependence) (h v : ℕ → ℤ) (s : ℕ) (x : ℤ) → AreDependences n ds → AreGeneratorValues n ds h v → s < 2 ^ n → combination (moves_at n ds s x) v ≡ x *ℤ (h s -ℤ h (closure n ds s))
 at-value n ds h v s (negsuc k) r w l =
     let i : IsClosureOf n ds s (closure n ds s) = closure_is n ds s r.below l in
-    conditional-value n ds h v (pos (suc k)) s (closure n ds s) w l i.below i.holds ∙ turned (h s) (h (closure n ds s))
+    conditional-value n ds h v (pos (suc k)) s (closure n ds s) w l i.below i.holds ∙ turned_difference (h s) (h (closure n ds s))
   where
-    turned : (a b : ℤ) → pos (suc k) *ℤ (b -ℤ a) ≡ negsuc k *ℤ (a -ℤ b)
-    turned a b = other (pos (suc k)) (negsuc k) (omega (arith, ints))
+    turned_difference : (a b : ℤ) → pos (suc k) *ℤ (b -ℤ a) ≡ negsuc k *ℤ (a -ℤ b)
+    turned_difference a b = negated_factor (pos (suc k)) (negsuc k) (omega (arith, ints))
       where
-        other : (x y : ℤ) → y ≡ neg_ℤ x → x *ℤ (b -ℤ a) ≡ y *ℤ (a -ℤ b)
-        other x y e = rw e (omega (arith, zring))
+        negated_factor : (x y : ℤ) → y ≡ neg_ℤ x → x *ℤ (b -ℤ a) ≡ y *ℤ (a -ℤ b)
+        negated_factor x y e = rw e (omega (arith, zring))
 at-value n ds h v s (pos zero) r w l = omega (arith, ints)
 at-value n ds h v s (pos (suc k)) r w l = way-value n ds h v (pos (suc k)) r w (2 ^ n) s (omega arith) l

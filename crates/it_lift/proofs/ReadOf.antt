@@ -19,32 +19,30 @@ use Rattle.it_lift.specs.Lifts.{signed_value}
 use Rattle.it_lift.specs.OfProblems.{ReadingGivesDependences}
 use Rattle.it_lift.proofs.GeneratorLemmas.{total_is, constraint_is}
 use Rattle.std.proofs.lemmas.List.{get_or_default}
+use Rattle.std.proofs.Math.IntN.{+ℤ_idr}
 
 -- the numbers ascend
-lower : (from to : ℕ) (ds : List Dependence) → from ≤ to → GeneratorsAscend to ds → GeneratorsAscend from ds
-lower from to [] h a = tt
-lower from to (d ∷ ds) h a = (omega (arith, a.0), a.1)
+ascend_from_lower : (from to : ℕ) (ds : List Dependence) → from ≤ to → GeneratorsAscend to ds → GeneratorsAscend from ds
+ascend_from_lower from to [] h a = tt
+ascend_from_lower from to (d ∷ ds) h a = (omega (arith, a.0), a.1)
 
 ascend_read : (s : Rattle.it_space.specs.declared.spaces.Space.Space) (size g : ℕ) (cs : List Constraint) → All (λ c. IsUpTo size c.row) cs → GeneratorsAscend g (read_from s.variables g cs)
 ascend_read s size g [] u = tt
 ascend_read s size g (c ∷ cs) u = by_option (read_one s.variables g c) refl (ascend_read s size (g + 1) cs (Rattle.std.proofs.lemmas.List.Elements.All-tail (λ c. IsUpTo size c.row) c cs u))
   where
     by_option : (o : Option Dependence) → read_one s.variables g c ≡ o → GeneratorsAscend (g + 1) (read_from s.variables (g + 1) cs) → GeneratorsAscend g (dependence_list o ++ read_from s.variables (g + 1) cs)
-    by_option None e a = lower g (g + 1) (read_from s.variables (g + 1) cs) (omega arith) a
+    by_option None e a = ascend_from_lower g (g + 1) (read_from s.variables (g + 1) cs) (omega arith) a
     by_option (Some d) e a =
         let r = (reads_exactly s size g c d (Rattle.std.proofs.lemmas.List.Elements.All-head (λ c. IsUpTo size c.row) c cs u)).0 e in
         let k : d.generator ≡ g = r.1 in
-        (omega arith, lower (d.generator + 1) (g + 1) (read_from s.variables (g + 1) cs) (omega arith) a)
+        (omega arith, ascend_from_lower (d.generator + 1) (g + 1) (read_from s.variables (g + 1) cs) (omega arith) a)
 
 -- the value of the row
 value-two : (f t : ℕ) (a b : ℤ) (h : ℕ → ℤ) → h 0 ≡ pos 0 → value (set_term f a ++ set_term t b) h ≡ a *ℤ h f +ℤ b *ℤ h t
 value-two zero zero a b h z = rw z (omega (arith, ints))
 value-two zero (suc t) a b h z = rw z (omega (arith, ints))
 value-two (suc f) zero a b h z = rw z (omega (arith, ints))
-value-two (suc f) (suc t) a b h z = ap (λ y. a *ℤ h (suc f) +ℤ y) (plain (b *ℤ h (suc t)))
-  where
-    plain : (x : ℤ) → x +ℤ pos 0 ≡ x
-    plain x = omega (arith, ints)
+value-two (suc f) (suc t) a b h z = ap (λ y. a *ℤ h (suc f) +ℤ y) (+ℤ_idr (b *ℤ h (suc t)))
 
 value-row : (b : Bool) (f t : ℕ) (h : ℕ → ℤ) → h 0 ≡ pos 0 → value (dependence_row b f t) h ≡ signed_value b (h t -ℤ h f)
 value-row true f t h z = value-two f t (pos 1) (negsuc 0) h z ∙ omega (arith, ints)

@@ -72,12 +72,12 @@ each-stops x is k i a b h e u n = subst (λ (ms : List (ℕ × ℤ)). ¬ (Weight
     (stops-after a b (for_each x (take k is)) ((i, x) ∷ for_each x (drop (k + 1) is)) u (λ w. n (w.0, tt)))
 
 -- the numbers of some inequalities
-pub expanded : (n : ℕ) (x : ℤ) (is : List ℕ) (es : List Elemental) → All (λ i. i < length (elementals n)) is → map (elemental_at n) is ≡ es → for_each x is ≡ each_weight n x es
-expanded n x is es a e = over is (every_of (λ i. i < length (elementals n)) is a) ∙ ap (each_weight n x) e
+pub weights_by_number : (n : ℕ) (x : ℤ) (is : List ℕ) (es : List Elemental) → All (λ i. i < length (elementals n)) is → map (elemental_at n) is ≡ es → for_each x is ≡ each_weight n x es
+weights_by_number n x is es a e = by_list is (every_of (λ i. i < length (elementals n)) is a) ∙ ap (each_weight n x) e
   where
-    over : (is : List ℕ) → Every (λ i. i < length (elementals n)) is → for_each x is ≡ each_weight n x (map (elemental_at n) is)
-    over [] v = refl
-    over (i ∷ is) v = ap₂ (λ (k : ℕ) (ms : List (ℕ × ℤ)). let p : ℕ × ℤ = (k, x) in p ∷ ms) (sym (index_back n i v.0)) (over is v.1)
+    by_list : (is : List ℕ) → Every (λ i. i < length (elementals n)) is → for_each x is ≡ each_weight n x (map (elemental_at n) is)
+    by_list [] v = refl
+    by_list (i ∷ is) v = ap₂ (λ (k : ℕ) (ms : List (ℕ × ℤ)). let p : ℕ × ℤ = (k, x) in p ∷ ms) (sym (index_back n i v.0)) (by_list is v.1)
 
 pub listed_here : (len n : ℕ) (is : List ℕ) → length (elementals n) ≤ len → All (λ i. i < length (elementals n)) is → All (λ i. i < len) is
 listed_here len n is h a = λ i d l. omega (arith, a i d l)
@@ -90,11 +90,11 @@ less_found s t r e = omega arith
 pub turn_parts : (n : ℕ) (x : ℤ) (a : ℕ) (d : Dependence) (u v w z : ℕ) → u ≡ set_difference d.to a → v ≡ set_difference a d.to → w ≡ bit_and a d.to → z ≡ set_difference w d.from
     → (each_weight n x (mutual_expansion (members n u) (members n v) w) ++ each_weight n x (conditional_expansion n (members n z) d.from)) ++ (d.generator, signed_value (not d.negated) x) ∷ [] ≡ turn_moves n x (a, d)
 turn_parts n x a d u v w z eu ev ew ez = rw (ez, ew, eu, ev) (ap (λ y. (each_weight n x (mutual_expansion (members n (set_difference d.to a)) (members n (set_difference a d.to)) (bit_and a d.to))
-    ++ each_weight n x (conditional_expansion n (members n (set_difference (bit_and a d.to) d.from)) d.from)) ++ (d.generator, y) ∷ []) (turned d.negated))
+    ++ each_weight n x (conditional_expansion n (members n (set_difference (bit_and a d.to) d.from)) d.from)) ++ (d.generator, y) ∷ []) (by_test d.negated))
   where
-    turned : (b : Bool) → signed_value (not b) x ≡ cond b x (neg_ℤ x)
-    turned true = refl
-    turned false = refl
+    by_test : (b : Bool) → signed_value (not b) x ≡ cond b x (neg_ℤ x)
+    by_test true = refl
+    by_test false = refl
 
 -- where a first, a second or a third part doesn't fit
 pub first_stops : (a : List ℤ) (xs ys zs ms : List (ℕ × ℤ)) → (xs ++ ys) ++ zs ≡ ms → ¬ (WeightSumsFit (number_at a) xs) → ¬ (WeightSumsFit (number_at a) ms)

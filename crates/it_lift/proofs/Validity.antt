@@ -16,8 +16,8 @@ use Rattle.it_elemental.proofs.IndexLemmas.{at_index}
 use Rattle.it_lift.proofs.Differences.{rest_apart}
 
 -- two variables and a set without them, in either order
-between : (n x y c : ℕ) → x < n → y < n → c < 2 ^ n → bit_at c x ≡ 0 → bit_at c y ≡ 0 → x ≢ y → IsElemental n (mutual_between x y c)
-between n x y c hx hy hc zx zy d = by_cases (cases_order x y)
+mutual_is_elemental : (n x y c : ℕ) → x < n → y < n → c < 2 ^ n → bit_at c x ≡ 0 → bit_at c y ≡ 0 → x ≢ y → IsElemental n (mutual_between x y c)
+mutual_is_elemental n x y c hx hy hc zx zy d = by_cases (cases_order x y)
   where
     by_cases : (x ≡ y) ⊎ ((x < y) ⊎ (y < x)) → IsElemental n (cond (nat_lt x y) (Mutual x y c) (Mutual y x c))
     by_cases (inl e) = absurd (d e)
@@ -26,11 +26,11 @@ between n x y c hx hy hc zx zy d = by_cases (cases_order x y)
     by_cases (inr (inr l)) = let t : nat_lt x y ≡ false = grind (arith, Rattle.std.proofs.lemmas.Bool.Decides.nat_tests) in
         subst (λ (b : Bool). IsElemental n (cond b (Mutual x y c) (Mutual y x c))) (sym t) (l, hx, hc, zy, zx)
 
-other : (b x i : ℕ) → bit_at b x ≡ 0 → bit_at b i ≡ 1 → i ≢ x
-other b x i z o e = absurd (clash (bit_at b x) (bit_at b i) z o (ap (bit_at b) e))
+member_differs : (b x i : ℕ) → bit_at b x ≡ 0 → bit_at b i ≡ 1 → i ≢ x
+member_differs b x i z o e = absurd (zero_is_not_one (bit_at b x) (bit_at b i) z o (ap (bit_at b) e))
   where
-    clash : (u v : ℕ) → u ≡ 0 → v ≡ 1 → v ≡ u → ⊥
-    clash u v p q r = omega arith
+    zero_is_not_one : (u v : ℕ) → u ≡ 0 → v ≡ 1 → v ≡ u → ⊥
+    zero_is_not_one u v p q r = omega arith
 
 variable_expansion_valid : (n x b count i c : ℕ) → i + count ≡ n → x < n → IsFilling n b i c → bit_at b x ≡ 0 → bit_at c x ≡ 0 → Every (IsElemental n) (variable_expansion x (filter (has_member b) (span i count)) c)
 variable_expansion_valid n x b zero i c e h f bx cx = tt
@@ -44,9 +44,9 @@ variable_expansion_valid n x b (suc count) i c e h f bx cx = by_test (has_member
     by_test true m ih =
         let one : bit_at b i ≡ 1 = member_bit b i m in
         let lacks : bit_at c i ≡ 0 = f.without_later i (omega arith) one in
-        let diff : i ≢ x = other b x i bx one in
+        let diff : i ≢ x = member_differs b x i bx one in
         subst (λ (t : Bool). Every (IsElemental n) (variable_expansion x (cond t (i ∷ rest) rest) c)) (sym m)
-        (between n x i c h (omega arith) f.below cx lacks (λ q. diff (sym q)), ih (c + 2 ^ i) (filling-with n b i c (omega arith) one f) (with_other c i x lacks diff ∙ cx))
+        (mutual_is_elemental n x i c h (omega arith) f.below cx lacks (λ q. diff (sym q)), ih (c + 2 ^ i) (filling-with n b i c (omega arith) one f) (with_other c i x lacks diff ∙ cx))
     by_test false m ih = subst (λ (t : Bool). Every (IsElemental n) (variable_expansion x (cond t (i ∷ rest) rest) c)) (sym m) (ih c (filling-without n b i c f) cx)
 
 mutual_valid_from : (n a b count i c : ℕ) → i + count ≡ n → IsFilling n a i c → bit_and b c ≡ 0 → bit_and a b ≡ 0
@@ -103,5 +103,5 @@ pub back_listed : (n : ℕ) (es : List Elemental) → Every (IsElemental n) es �
 back_listed n [] v = refl
 back_listed n (e ∷ es) v = Rattle.std.proofs.Common.ap₂ (λ x xs. x ∷ xs) (at_index n e v.0).1 (back_listed n es v.1)
 
-pub listed : (n : ℕ) (es : List Elemental) → Every (IsElemental n) es → Every (λ i. i < length (elementals n)) (map (elemental_index n) es)
-listed n es v = every-map (λ i. i < length (elementals n)) (elemental_index n) es (every-same (IsElemental n) (λ e. elemental_index n e < length (elementals n)) es (λ e w. (at_index n e w).0) v)
+pub numbers_in_list : (n : ℕ) (es : List Elemental) → Every (IsElemental n) es → Every (λ i. i < length (elementals n)) (map (elemental_index n) es)
+numbers_in_list n es v = every-map (λ i. i < length (elementals n)) (elemental_index n) es (every-same (IsElemental n) (λ e. elemental_index n e < length (elementals n)) es (λ e w. (at_index n e w).0) v)

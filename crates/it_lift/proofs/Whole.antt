@@ -4,7 +4,7 @@ use Rattle.it_space.specs.Rows.{single_term, Terms, Ascends, coefficient, value,
 use Rattle.it_space.specs.Sums.{number_at, terms_from}
 use Rattle.it_polymatroid.specs.Certificates.{IsAllowed, IsLinear, combination}
 use Rattle.std.proofs.lemmas.Int.{ints}
-use Rattle.std.proofs.lemmas.Bool.{cases_lt, eqb-true}
+use Rattle.std.proofs.lemmas.Bool.{cases_lt, eqb-true, false≢true}
 use Rattle.std.proofs.lemmas.Nat.{pow_pos}
 use Rattle.it_space.specs.Problems.{ProblemView, IsProblem}
 use Rattle.it_space.specs.Answers.{CertificateView}
@@ -12,6 +12,7 @@ use Rattle.it_space.specs.Spaces.{size_of}
 use Rattle.it_polymatroid.specs.Elementals.{elementals, elemental_at, elemental_value}
 use Rattle.it_polymatroid.proofs.Forms.{value_linear}
 use Rattle.std.specs.List.{AllByRecursion as Every}
+use Rattle.it_number.proofs.SignLemmas.{sum_least}
 use Rattle.it_space.proofs.EveryLemmas.{every_of, all_of, every-append, every-same}
 use Rattle.it_closure.specs.declared.dependences.Dependence.{Dependence}
 use Rattle.it_closure.specs.DependencesViews.{DependencesView, AreOfSpace}
@@ -37,18 +38,14 @@ sets_of q p = omega (arith, pow_pos q.space.variables)
 pub form_linear : (q : ProblemView) (i : ℕ) → IsProblem q → IsLinear (size_of q.space + 1) ((generators_of q).form i)
 form_linear q i p = value_linear (size_of q.space) (generator_at (generators q) i).row (row_of_space q i p (sets_of q p))
 
-pub have : (q : ProblemView) (d : DependencesView) → AreDependencesOf q d → HaveDependences d.space.variables d.list (generators_of q)
-have q d a = record {
+pub have_dependences : (q : ProblemView) (d : DependencesView) → AreDependencesOf q d → HaveDependences d.space.variables d.list (generators_of q)
+have_dependences q d a = record {
   elemental = λ i l h z.
       let n : q.space.variables ≡ d.space.variables = ap (λ s. s.variables) (sym a.space) in
       let l' : i < length (elementals q.space.variables) = omega (arith, ap (λ m. length (elementals m)) n) in
       form_own q i h z l' ∙ ap (λ m. elemental_value m h (elemental_at m i)) n;
   equation = a.equations;
 }
-
--- sums of what is at least 0
-sum_least : (x y : ℤ) → pos 0 ≤ℤ x → pos 0 ≤ℤ y → pos 0 ≤ℤ (x +ℤ y)
-sum_least x y h k = omega (arith, ints)
 
 parts_least : (i : ℕ) (ws : List (ℕ × ℤ)) → Every (λ w. w.0 ≡ i → pos 0 ≤ℤ w.1) ws → pos 0 ≤ℤ coefficient ws i
 parts_least i [] e = omega (arith, ints)
@@ -66,12 +63,12 @@ weights_parts : (first : ℕ) (xs : List ℤ) (P : ℕ → ℤ → Type 0) → (
 weights_parts first [] P f = tt
 weights_parts first (x ∷ xs) P f =
     let z : first + 0 ≡ first = omega arith in
-    here x (subst (λ (m : ℕ). P m x) z (f 0 (omega arith))) (weights_parts (first + 1) xs P (λ k l. let e : first + suc k ≡ first + 1 + k = omega arith in subst (λ (m : ℕ). P m (number_at xs k)) e (f (suc k) (omega arith))))
+    first_and_rest x (subst (λ (m : ℕ). P m x) z (f 0 (omega arith))) (weights_parts (first + 1) xs P (λ k l. let e : first + suc k ≡ first + 1 + k = omega arith in subst (λ (m : ℕ). P m (number_at xs k)) e (f (suc k) (omega arith))))
   where
-    here : (y : ℤ) → P first y → Every (λ w. P w.0 w.1) (terms_from (first + 1) xs) → Every (λ w. P w.0 w.1) (single_term first y ++ terms_from (first + 1) xs)
-    here (pos zero) p e = e
-    here (pos (suc y)) p e = (p, e)
-    here (negsuc y) p e = (p, e)
+    first_and_rest : (y : ℤ) → P first y → Every (λ w. P w.0 w.1) (terms_from (first + 1) xs) → Every (λ w. P w.0 w.1) (single_term first y ++ terms_from (first + 1) xs)
+    first_and_rest (pos zero) p e = e
+    first_and_rest (pos (suc y)) p e = (p, e)
+    first_and_rest (negsuc y) p e = (p, e)
 
 pub sets_here : (q : ProblemView) (d : DependencesView) → IsProblem q → AreDependencesOf q d → 2 ^ d.space.variables ≤ size_of q.space + 1
 sets_here q d p a = subst (λ (m : ℕ). 2 ^ m ≤ size_of q.space + 1) (ap (λ s. s.variables) (sym a.space)) (sets_of q p)
@@ -84,34 +81,31 @@ canonical_weights_ascend from (t ∷ ts) a = (a.0, canonical_weights_ascend (t.0
 -- ---- what is lifted may stand in a certificate, and adds up
 
 module _ (q : ProblemView) (d : DependencesView) (target : Terms) (old : CertificateView) (p : IsProblem q) (a : AreDependencesOf q d) (t : IsUpTo (size_of q.space) target) (c : IsCertificateOverClosed q d target old) where
-  abbrev lifted : List (ℕ × ℤ)
-  lifted = lifted_weights d.space.variables d.list (value target) (generators_of q) old
+  abbrev lifted_parts : List (ℕ × ℤ)
+  lifted_parts = lifted_weights d.space.variables d.list (value target) (generators_of q) old
 
-  abbrev moved : List (ℕ × ℤ)
-  moved = moves d.space.variables d.list (excess old (value target) (generators_of q))
+  abbrev moved_parts : List (ℕ × ℤ)
+  moved_parts = moves d.space.variables d.list (excess old (value target) (generators_of q))
 
-  pub lifted_least : (i : ℕ) → (generators_of q).is_equation i ≡ false → pos 0 ≤ℤ coefficient lifted i
-  lifted_least i e = subst (λ (x : ℤ). pos 0 ≤ℤ x) (sym (coefficient-append old.parts moved i))
-      (sum_least (coefficient old.parts i) (coefficient moved i)
+  pub lifted_least : (i : ℕ) → (generators_of q).is_equation i ≡ false → pos 0 ≤ℤ coefficient lifted_parts i
+  lifted_least i e = subst (λ (x : ℤ). pos 0 ≤ℤ x) (sym (coefficient-append old.parts moved_parts i))
+      (sum_least (coefficient old.parts i) (coefficient moved_parts i)
       (parts_least i old.parts (every-same (IsAllowed (generators_of q)) (λ w. w.0 ≡ i → pos 0 ≤ℤ w.1) old.parts (λ w v q'. v.1 (ap (generators_of q).is_equation q' ∙ e)) (every_of (IsAllowed (generators_of q)) old.parts c.allowed)))
-      (subst (λ (b : Bool). Goes b (coefficient moved i))
-      (none_goes i d.list (every-same (λ x. (generators_of q).is_equation x.generator ≡ true) (λ x. x.generator ≢ i) d.list (λ x v q'. clash (sym e ∙ ap (generators_of q).is_equation (sym q') ∙ v)) (every_of (λ x. (generators_of q).is_equation x.generator ≡ true) d.list a.kinds)))
-      (goes-total (goes_up d.list) moved (moves_go d.space.variables d.list (excess old (value target) (generators_of q)) (of_space d a.shape) a.numbered) i)))
-    where
-      clash : false ≡ true → ⊥
-      clash e = cc
+      (subst (λ (b : Bool). Goes b (coefficient moved_parts i))
+      (none_goes i d.list (every-same (λ x. (generators_of q).is_equation x.generator ≡ true) (λ x. x.generator ≢ i) d.list (λ x v q'. false≢true (sym e ∙ ap (generators_of q).is_equation (sym q') ∙ v)) (every_of (λ x. (generators_of q).is_equation x.generator ≡ true) d.list a.kinds)))
+      (goes-total (goes_up d.list) moved_parts (moves_go d.space.variables d.list (excess old (value target) (generators_of q)) (of_space d a.shape) a.numbered) i)))
 
-  pub lifted_adds_up : (ws : List (ℕ × ℤ)) → ((i : ℕ) → coefficient ws i ≡ coefficient lifted i) → (h : ℕ → ℤ) → h 0 ≡ pos 0 → old.scale *ℤ value target h ≡ combination ws (λ i. (generators_of q).form i h)
+  pub lifted_adds_up : (ws : List (ℕ × ℤ)) → ((i : ℕ) → coefficient ws i ≡ coefficient lifted_parts i) → (h : ℕ → ℤ) → h 0 ≡ pos 0 → old.scale *ℤ value target h ≡ combination ws (λ i. (generators_of q).form i h)
   lifted_adds_up ws same h z =
-      lift_adds_up (size_of q.space + 1) d.space.variables d.list (value target) (generators_of q) old (sets_here q d p a) (of_space d a.shape) (have q d a) (value_linear (size_of q.space) target t)
-      (λ i l. form_linear q i p) (λ i x l. (c.allowed i x l).0) c.sums h z ∙ weighted_same lifted ws (λ i. (generators_of q).form i h) (λ i. sym (same i))
+      lift_adds_up (size_of q.space + 1) d.space.variables d.list (value target) (generators_of q) old (sets_here q d p a) (of_space d a.shape) (have_dependences q d a) (value_linear (size_of q.space) target t)
+      (λ i l. form_linear q i p) (λ i x l. (c.allowed i x l).0) c.sums h z ∙ weighted_same lifted_parts ws (λ i. (generators_of q).form i h) (λ i. sym (same i))
 
   -- so canonical weights that have the coefficients of the lifted ones are a lift
-  pub canonical_lift : (new : CertificateView) → new.scale ≡ old.scale → Ascends 0 new.parts → ((i : ℕ) → coefficient new.parts i ≡ coefficient lifted i) → IsLiftOf q d target old new
+  pub canonical_lift : (new : CertificateView) → new.scale ≡ old.scale → Ascends 0 new.parts → ((i : ℕ) → coefficient new.parts i ≡ coefficient lifted_parts i) → IsLiftOf q d target old new
   canonical_lift new scale up same = record {
     scale = scale;
     order = canonical_weights_ascend 0 new.parts up;
-    allowed = all_of (IsAllowed (generators_of q)) new.parts (each 0 new.parts up (λ i h. refl));
+    allowed = all_of (IsAllowed (generators_of q)) new.parts (each_is_allowed 0 new.parts up (λ i h. refl));
     weights = same;
     adds_up = λ h z. ap (λ x. x *ℤ value target h) scale ∙ lifted_adds_up new.parts same h z;
   }
@@ -120,25 +114,25 @@ module _ (q : ProblemView) (d : DependencesView) (target : Terms) (old : Certifi
       none_from i [] e h = refl
       none_from i (w ∷ ws) e h = other_is w ws i (λ is. omega (arith, e.0, is)) ∙ none_from i ws e.1 h
 
-      placed : Every (λ w. w.0 < (generators_of q).count) lifted
-      placed = every-append (λ w. w.0 < (generators_of q).count) old.parts moved
+      lifted_below_count : Every (λ w. w.0 < (generators_of q).count) lifted_parts
+      lifted_below_count = every-append (λ w. w.0 < (generators_of q).count) old.parts moved_parts
           (every-same (IsAllowed (generators_of q)) (λ w. w.0 < (generators_of q).count) old.parts (λ w v. v.0) (every_of (IsAllowed (generators_of q)) old.parts c.allowed))
           (moves_placed d.space.variables (generators_of q).count d.list (excess old (value target) (generators_of q)) (of_space d a.shape)
           (omega (arith, total_is q, ap (λ s. length (elementals s.variables)) a.space)) (every_of (λ x. x.generator < (generators_of q).count) d.list a.placed))
 
-      some_allowed : (i : ℕ) (x : ℤ) → x ≢ pos 0 → coefficient lifted i ≡ x → IsAllowed (generators_of q) (i, x)
+      some_allowed : (i : ℕ) (x : ℤ) → x ≢ pos 0 → coefficient lifted_parts i ≡ x → IsAllowed (generators_of q) (i, x)
       some_allowed i x some is = (by_cases (cases_lt i (generators_of q).count), λ e. subst (λ (y : ℤ). pos 0 ≤ℤ y) is (lifted_least i e))
         where
           by_cases : (i < (generators_of q).count) ⊎ ((generators_of q).count ≤ i) → i < (generators_of q).count
           by_cases (inl l) = l
-          by_cases (inr l) = absurd (some (sym is ∙ none_from i lifted placed l))
+          by_cases (inr l) = absurd (some (sym is ∙ none_from i lifted_parts lifted_below_count l))
 
       -- the first term's coefficient is that of the whole
-      each : (from : ℕ) (ws : List (ℕ × ℤ)) → Ascends from ws → ((i : ℕ) → from ≤ i → coefficient ws i ≡ coefficient new.parts i) → Every (IsAllowed (generators_of q)) ws
-      each from [] u is = tt
-      each from (w ∷ ws) u is = (
+      each_is_allowed : (from : ℕ) (ws : List (ℕ × ℤ)) → Ascends from ws → ((i : ℕ) → from ≤ i → coefficient ws i ≡ coefficient new.parts i) → Every (IsAllowed (generators_of q)) ws
+      each_is_allowed from [] u is = tt
+      each_is_allowed from (w ∷ ws) u is = (
         some_allowed w.0 w.1 u.1 (sym (same w.0) ∙ sym (is w.0 u.0) ∙ head_is from w ws u),
-        each (w.0 + 1) ws u.3 (λ i h. sym (other_is w ws i (λ e. omega (arith, e))) ∙ is i (omega (arith, u.0))),
+        each_is_allowed (w.0 + 1) ws u.3 (λ i h. sym (other_is w ws i (λ e. omega (arith, e))) ∙ is i (omega (arith, u.0))),
       )
 
 -- what the code gives
@@ -149,12 +143,12 @@ is_lift q d target old start end p a t c len is added = record {
   scale = refl;
   order = weights_order 0 end;
   allowed = all_of (IsAllowed (generators_of q)) (terms_from 0 end) (weights_parts 0 end (λ i x. IsAllowed (generators_of q) (i, x)) (λ k l. allowed_at k l));
-  weights = same;
-  adds_up = lifted_adds_up q d target old p a t c (terms_from 0 end) same;
+  weights = same_coefficients;
+  adds_up = lifted_adds_up q d target old p a t c (terms_from 0 end) same_coefficients;
 }
   where
-    same : (i : ℕ) → coefficient (terms_from 0 end) i ≡ coefficient (lifted_weights d.space.variables d.list (value target) (generators_of q) old) i
-    same i = terms_from_zero end i ∙ ap (λ (f : ℕ → ℤ). f i) added.same ∙ after-total (number_at start) (moves d.space.variables d.list (excess old (value target) (generators_of q))) i
+    same_coefficients : (i : ℕ) → coefficient (terms_from 0 end) i ≡ coefficient (lifted_weights d.space.variables d.list (value target) (generators_of q) old) i
+    same_coefficients i = terms_from_zero end i ∙ ap (λ (f : ℕ → ℤ). f i) added.same ∙ after-total (number_at start) (moves d.space.variables d.list (excess old (value target) (generators_of q))) i
         ∙ ap (λ (f : ℕ → ℤ). f i +ℤ coefficient (moves d.space.variables d.list (excess old (value target) (generators_of q))) i) is
         ∙ sym (coefficient-append old.parts (moves d.space.variables d.list (excess old (value target) (generators_of q))) i)
 
@@ -162,7 +156,7 @@ is_lift q d target old start end p a t c len is added = record {
     allowed_at k l =
         let z : 0 + k ≡ k = omega arith in
         subst (λ (m : ℕ). IsAllowed (generators_of q) (m, number_at end k)) (sym z)
-        (omega (arith, len, added.complete), λ e. subst (λ (x : ℤ). pos 0 ≤ℤ x) (sym (same k) ∙ terms_from_zero end k) (lifted_least q d target old p a t c k e))
+        (omega (arith, len, added.complete), λ e. subst (λ (x : ℤ). pos 0 ≤ℤ x) (sym (same_coefficients k) ∙ terms_from_zero end k) (lifted_least q d target old p a t c k e))
 
 -- where all numbers are within the limit, and where they aren't
 pub lift_fits : (q : ProblemView) (d : DependencesView) (target : Terms) (old : CertificateView) (start : List ℤ) → AreOfSpace d → AreDependencesOf q d → IsCertificateOverClosed q d target old → number_at start ≡ coefficient old.parts
@@ -175,13 +169,13 @@ lift_fits q d target old start s a c is =
 
 -- none of the weights is 0
 pub weights_some : (first : ℕ) (xs : List ℤ) → All (λ (w : ℕ × ℤ). w.1 ≢ pos 0) (terms_from first xs)
-weights_some first xs = all_of (λ (w : ℕ × ℤ). w.1 ≢ pos 0) (terms_from first xs) (each first xs)
+weights_some first xs = all_of (λ (w : ℕ × ℤ). w.1 ≢ pos 0) (terms_from first xs) (none_is_zero first xs)
   where
-    here : (first : ℕ) (y : ℤ) (rest : List (ℕ × ℤ)) → Every (λ (w : ℕ × ℤ). w.1 ≢ pos 0) rest → Every (λ (w : ℕ × ℤ). w.1 ≢ pos 0) (single_term first y ++ rest)
-    here first (pos zero) rest e = e
-    here first (pos (suc y)) rest e = (λ z. omega (arith, ints, z), e)
-    here first (negsuc y) rest e = (λ z. omega (arith, ints, z), e)
+    first_and_rest : (first : ℕ) (y : ℤ) (rest : List (ℕ × ℤ)) → Every (λ (w : ℕ × ℤ). w.1 ≢ pos 0) rest → Every (λ (w : ℕ × ℤ). w.1 ≢ pos 0) (single_term first y ++ rest)
+    first_and_rest first (pos zero) rest e = e
+    first_and_rest first (pos (suc y)) rest e = (λ z. omega (arith, ints, z), e)
+    first_and_rest first (negsuc y) rest e = (λ z. omega (arith, ints, z), e)
 
-    each : (first : ℕ) (xs : List ℤ) → Every (λ (w : ℕ × ℤ). w.1 ≢ pos 0) (terms_from first xs)
-    each first [] = tt
-    each first (x ∷ xs) = here first x (terms_from (first + 1) xs) (each (first + 1) xs)
+    none_is_zero : (first : ℕ) (xs : List ℤ) → Every (λ (w : ℕ × ℤ). w.1 ≢ pos 0) (terms_from first xs)
+    none_is_zero first [] = tt
+    none_is_zero first (x ∷ xs) = first_and_rest first x (terms_from (first + 1) xs) (none_is_zero (first + 1) xs)

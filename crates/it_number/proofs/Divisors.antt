@@ -4,6 +4,7 @@ use Prim.Native.Nat.{◌∣◌}
 use native.Mathlib.Nat.{eq-zero-or-pos, dvd-mod_iff, dvd-mul_left, dvd-mul_right, dvd_of_mul-dvd-mul_right, one-dvd, mul-dvd-mul_right, eq-zero_of_zero-dvd, mul-div_cancel', div-mul_cancel, pos_of_dvd_of_pos, le_of_dvd, div-add-mod', add-mul-mod_self_right, mod-eq_of_lt, mul-lt-mul_of_pos_right, mul-div_assoc, mul-dvd-mul_left, zero-div}
 use Rattle.std.proofs.lemmas.Nat.Gcd.{IsGcd-from_zero, IsGcd-from_mod, IsGcd-swap, same_from_IsGcd, dvd_refl, dvd-zero, dvd_trans, dvd_antisymm}
 use Rattle.std.specs.Int.{IsGcd}
+use Rattle.std.proofs.Math.Nat.{le-mul_of_pos_right}
 use Rattle.it_number.specs.Gcd.{gcd, gcd_within, lcm}
 use Rattle.it_number.specs.Laws.{IsLcm}
 
@@ -50,12 +51,12 @@ pub coprime_rest : (a b g : ℕ) → 0 < g → IsGcd a b g → IsGcd (a / g) (b 
 coprime_rest a b g pos_g e = (
   one-dvd (a / g),
   one-dvd (b / g),
-  λ d p q. below d
+  λ d p q. divides_one d
       (e.2 (d * g) (subst (λ n. d * g ∣ n) (div-mul_cancel g e.0) (mul-dvd-mul_right d p g)) (subst (λ n. d * g ∣ n) (div-mul_cancel g e.1) (mul-dvd-mul_right d q g))),
 )
   where
-    below : (d : ℕ) → d * g ∣ g → d ∣ 1
-    below d h = dvd_of_mul-dvd-mul_right {k = g} d pos_g (subst (λ n. d * g ∣ n) (sym (one-mul g)) h)
+    divides_one : (d : ℕ) → d * g ∣ g → d ∣ 1
+    divides_one d h = dvd_of_mul-dvd-mul_right {k = g} d pos_g (subst (λ n. d * g ∣ n) (sym (one-mul g)) h)
 
 -- fractions in lowest terms that are equal across have the same parts
 pub lowest_unique : (a b c d : ℕ) → 0 < b → 0 < d → IsGcd a b 1 → IsGcd c d 1 → a * d ≡ c * b → b ≡ d
@@ -64,6 +65,14 @@ lowest_unique a b c d hb hd g h e =
 
 pub IsGcd-pos : (a b g : ℕ) → 0 < b → IsGcd a b g → 0 < g
 IsGcd-pos a b g h e = pos_of_dvd_of_pos e.1 h
+
+-- what is multiplied to a number above 0 is above 0, and to one that is at most a number is at most that
+pub quotient_some : (k s b : ℕ) → k * s ≡ b → 0 < b → 0 < k
+quotient_some zero s b e h = absurd (omega (arith, e, h))
+quotient_some (suc k) s b e h = omega arith
+
+pub quotient_at_most : (k s b c : ℕ) → 0 < s → k * s ≡ b → b ≤ c → k ≤ c
+quotient_at_most k s b c h e l = omega (arith, e, l, le-mul_of_pos_right k h)
 
 -- one step of the algorithm, and its end
 pub gcd_some : (a b : ℕ) → 0 < a → 0 < gcd a b
@@ -117,20 +126,20 @@ pub lcm_is : (a b : ℕ) → IsLcm a b (lcm a b)
 unfolding lcm
 lcm_is a b = by_cases (eq-zero-or-pos (gcd a b))
   where
-    is : IsGcd a b (gcd a b)
-    is = gcd_is a b
+    gcd_law : IsGcd a b (gcd a b)
+    gcd_law = gcd_is a b
 
-    none : gcd a b ≡ 0 → a ≡ 0
-    none e = eq-zero_of_zero-dvd (subst (λ n. n ∣ a) e is.0)
+    zero_divisor : gcd a b ≡ 0 → a ≡ 0
+    zero_divisor e = eq-zero_of_zero-dvd (subst (λ n. n ∣ a) e gcd_law.0)
 
     by_cases : (gcd a b ≡ 0) ⊎ (0 < gcd a b) → IsLcm a b (a * b / gcd a b)
     by_cases (inl e) =
-        let z : a * b / gcd a b ≡ 0 = ap (λ n. n * b / gcd a b) (none e) ∙ ap (λ n. n / gcd a b) (zero-mul b) ∙ zero-div (gcd a b) in
-        rw z (dvd-zero a, dvd-zero b, λ n p q. subst (λ m. m ∣ n) (none e) p)
+        let z : a * b / gcd a b ≡ 0 = ap (λ n. n * b / gcd a b) (zero_divisor e) ∙ ap (λ n. n / gcd a b) (zero-mul b) ∙ zero-div (gcd a b) in
+        rw z (dvd-zero a, dvd-zero b, λ n p q. subst (λ m. m ∣ n) (zero_divisor e) p)
     by_cases (inr h) = (
-      subst (λ n. a ∣ n) (sym (product_over a b (gcd a b) is.1)) (dvd-mul_right a (b / gcd a b)),
-      subst (λ n. b ∣ n) (sym (product_over_left a b (gcd a b) is.0)) (dvd-mul_right b (a / gcd a b)),
-      λ n p q. lcm-least a b (gcd a b) n h is p q,
+      subst (λ n. a ∣ n) (sym (product_over a b (gcd a b) gcd_law.1)) (dvd-mul_right a (b / gcd a b)),
+      subst (λ n. b ∣ n) (sym (product_over_left a b (gcd a b) gcd_law.0)) (dvd-mul_right b (a / gcd a b)),
+      λ n p q. lcm-least a b (gcd a b) n h gcd_law p q,
     )
 
 pub lcm-over : (a b : ℕ) → a * (b / gcd a b) ≡ lcm a b

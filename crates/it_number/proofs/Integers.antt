@@ -1,5 +1,5 @@
 -- The ring laws of ℤ, and two rulesets for omega over ℤ: zlin for linear goals, zring multiplies products out (degree 2 and 3).
-use Rattle.std.proofs.Common.{◌≡◌, ◌+◌, ◌*◌, ℤ, ◌+ℤ◌, ◌*ℤ◌, neg_ℤ, arith, ap, sym, ◌∙◌}
+use Rattle.std.proofs.Common.{◌≡◌, ◌+◌, ◌*◌, ℤ, pos, ◌+ℤ◌, ◌*ℤ◌, neg_ℤ, arith, ap, sym, ◌∙◌}
 use Rattle.std.proofs.lemmas.Int.{ints}
 use borrow.Author.Differences.{up, down, product_is, sum_is_lem, neg_is, same_out, same_in, Apart-out, lt_out, le_out, below_in, at_most_in, fits_out, fits_in, lt-true, lt-false, le-true, le-false, true-lt, false-lt, true-le, false-le, lt_T, le_T, lt_not, le_not}
 
@@ -22,6 +22,9 @@ mul_assoc a b c = omega (
   ap (λ n. up a * n) (product_is b c).1,
   ap (λ n. down a * n) (product_is b c).1,
 )
+
+pub times_one : (a : ℤ) → a *ℤ pos 1 ≡ a
+times_one a = omega (arith, ints)
 
 pub add-mul : (a b c : ℤ) → (a +ℤ b) *ℤ c ≡ a *ℤ c +ℤ b *ℤ c
 add-mul a b c = omega (arith, ints, ap (λ n. n * up c) (sum_is_lem a b), ap (λ n. n * down c) (sum_is_lem a b))

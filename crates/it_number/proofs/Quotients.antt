@@ -23,11 +23,11 @@ abs-over (negsuc n) g = abs_neg (suc n / g)
 pub rest_pos : (n : ℤ) (d : ℕ) → 0 < suc d / gcd (unsigned_abs n) (suc d)
 rest_pos n d =
     let g : IsGcd (unsigned_abs n) (suc d) (gcd (unsigned_abs n) (suc d)) = gcd_is (unsigned_abs n) (suc d) in
-    some (suc d / gcd (unsigned_abs n) (suc d)) (div-mul_cancel (gcd (unsigned_abs n) (suc d)) g.1)
+    rest_some (suc d / gcd (unsigned_abs n) (suc d)) (div-mul_cancel (gcd (unsigned_abs n) (suc d)) g.1)
   where
-    some : (k : ℕ) → k * gcd (unsigned_abs n) (suc d) ≡ suc d → 0 < k
-    some zero e = omega arith
-    some (suc k) e = omega arith
+    rest_some : (k : ℕ) → k * gcd (unsigned_abs n) (suc d) ≡ suc d → 0 < k
+    rest_some zero e = omega arith
+    rest_some (suc k) e = omega arith
 
 pub rest_lowest : (n : ℤ) (d : ℕ) → IsGcd (unsigned_abs (int_quotient n (gcd (unsigned_abs n) (suc d)))) (suc d / gcd (unsigned_abs n) (suc d)) 1
 rest_lowest n d = rw (abs-over n (gcd (unsigned_abs n) (suc d)))

@@ -72,16 +72,16 @@ same [] (y ∷ ys) = false
 same (x ∷ xs) [] = false
 same (x ∷ xs) (y ∷ ys) = eqb x y && same xs ys
 
-abbrev pub before : List ℕ → List ℕ → Bool
-before [] ys = true
-before (x ∷ xs) [] = false
-before (x ∷ xs) (y ∷ ys) = cond (eqb x y) (before xs ys) (ltb x y)
+abbrev pub is_before : List ℕ → List ℕ → Bool
+is_before [] ys = true
+is_before (x ∷ xs) [] = false
+is_before (x ∷ xs) (y ∷ ys) = cond (eqb x y) (is_before xs ys) (ltb x y)
 
-abbrev pub differ : Bool → Bool → Bool
-differ true true = false
-differ true false = true
-differ false true = true
-differ false false = false
+abbrev pub signs_differ : Bool → Bool → Bool
+signs_differ true true = false
+signs_differ true false = true
+signs_differ false true = true
+signs_differ false false = false
 
 abbrev pub put : ℕ → List ℕ → List ℕ
 put i [] = i ∷ []
@@ -94,24 +94,24 @@ product (i ∷ m) n = put i (product m n)
 abbrev pub insert : Bool → List ℕ → List Term → List Term
 insert s m [] = term s m ∷ []
 insert s m (term t n ∷ p) =
-    cond (same m n && differ s t) p
-    (cond (before m n) (term s m ∷ term t n ∷ p) (term t n ∷ insert s m p))
+    cond (same m n && signs_differ s t) p
+    (cond (is_before m n) (term s m ∷ term t n ∷ p) (term t n ∷ insert s m p))
 
 abbrev pub sum_of : List Term → List Term → List Term
 sum_of [] q = q
 sum_of (term s m ∷ p) q = insert s m (sum_of p q)
 
-abbrev pub scaled : Bool → List ℕ → List Term → List Term
-scaled s m [] = []
-scaled s m (term t n ∷ p) = insert (differ s t) (product m n) (scaled s m p)
+abbrev pub times_term : Bool → List ℕ → List Term → List Term
+times_term s m [] = []
+times_term s m (term t n ∷ p) = insert (signs_differ s t) (product m n) (times_term s m p)
 
 abbrev pub product_of : List Term → List Term → List Term
 product_of [] q = []
-product_of (term s m ∷ p) q = sum_of (scaled s m q) (product_of p q)
+product_of (term s m ∷ p) q = sum_of (times_term s m q) (product_of p q)
 
-abbrev pub negated : List Term → List Term
-negated [] = []
-negated (term s m ∷ p) = term (not s) m ∷ negated p
+abbrev pub negation_of : List Term → List Term
+negation_of [] = []
+negation_of (term s m ∷ p) = term (not s) m ∷ negation_of p
 
 abbrev pub norm : Ex → List Term
 norm (v i) = term false (i ∷ []) ∷ []
@@ -119,12 +119,12 @@ norm nil = []
 norm one = term false [] ∷ []
 norm (plus a b) = sum_of (norm a) (norm b)
 norm (times a b) = product_of (norm a) (norm b)
-norm (minus a) = negated (norm a)
+norm (minus a) = negation_of (norm a)
 
 -- what they mean
-abbrev pub signed : {A : Type 0} → Ring A → Bool → A → A
-signed R true x = R.neg x
-signed R false x = x
+abbrev pub with_sign : {A : Type 0} → Ring A → Bool → A → A
+with_sign R true x = R.neg x
+with_sign R false x = x
 
 abbrev pub mono : {A : Type 0} → Ring A → List A → List ℕ → A
 mono R ρ [] = R.unit
@@ -132,18 +132,18 @@ mono R ρ (i ∷ m) = R.mul (get_or ρ i R.null) (mono R ρ m)
 
 abbrev pub poly : {A : Type 0} → Ring A → List A → List Term → A
 poly R ρ [] = R.null
-poly R ρ (term s m ∷ p) = R.add (signed R s (mono R ρ m)) (poly R ρ p)
+poly R ρ (term s m ∷ p) = R.add (with_sign R s (mono R ρ m)) (poly R ρ p)
 
 same_is : (m n : List ℕ) → T (same m n) → m ≡ n
 same_is [] [] h = refl
 same_is [] (y ∷ ys) h = elim h [ ]
 same_is (x ∷ xs) [] h = elim h [ ]
-same_is (x ∷ xs) (y ∷ ys) h = both (eqb x y) (same xs ys) h (λ e. eqb→eq x y e) (λ e. same_is xs ys e)
+same_is (x ∷ xs) (y ∷ ys) h = same_items (eqb x y) (same xs ys) h (λ e. eqb→eq x y e) (λ e. same_is xs ys e)
   where
-    both : (a b : Bool) → T (a && b) → (T a → x ≡ y) → (T b → xs ≡ ys) → x ∷ xs ≡ y ∷ ys
-    both true true h f g = ap₂ (λ a rest. a ∷ rest) (f tt) (g tt)
-    both true false h f g = elim h [ ]
-    both false b h f g = elim h [ ]
+    same_items : (a b : Bool) → T (a && b) → (T a → x ≡ y) → (T b → xs ≡ ys) → x ∷ xs ≡ y ∷ ys
+    same_items true true h f g = ap₂ (λ a rest. a ∷ rest) (f tt) (g tt)
+    same_items true false h f g = elim h [ ]
+    same_items false b h f g = elim h [ ]
 
 put_is : {A : Type 0} (R : Ring A) (ρ : List A) (i : ℕ) (m : List ℕ) → mono R ρ (put i m) ≡ R.mul (get_or ρ i R.null) (mono R ρ m)
 put_is R ρ i [] = refl
@@ -157,57 +157,57 @@ product_is : {A : Type 0} (R : Ring A) (ρ : List A) (m n : List ℕ) → mono R
 product_is R ρ [] n = sym (R.unit-mul (mono R ρ n))
 product_is R ρ (i ∷ m) n = put_is R ρ i (product m n) ∙ ap (R.mul (get_or ρ i R.null)) (product_is R ρ m n) ∙ sym (R.mul_assoc (get_or ρ i R.null) (mono R ρ m) (mono R ρ n))
 
-apart : {A : Type 0} (R : Ring A) (s t : Bool) (x y : A) → T (differ s t) → x ≡ R.add (signed R s y) (R.add (signed R t y) x)
-apart R true true x y h = elim h [ ]
-apart R false false x y h = elim h [ ]
-apart R true false x y h = sym (sym (R.add_assoc (R.neg y) y x) ∙ ap (λ z. R.add z x) (R.add_comm (R.neg y) y ∙ R.add-neg y) ∙ R.null-add x)
-apart R false true x y h = sym (sym (R.add_assoc y (R.neg y) x) ∙ ap (λ z. R.add z x) (R.add-neg y) ∙ R.null-add x)
+opposites_cancel : {A : Type 0} (R : Ring A) (s t : Bool) (x y : A) → T (signs_differ s t) → x ≡ R.add (with_sign R s y) (R.add (with_sign R t y) x)
+opposites_cancel R true true x y h = elim h [ ]
+opposites_cancel R false false x y h = elim h [ ]
+opposites_cancel R true false x y h = sym (sym (R.add_assoc (R.neg y) y x) ∙ ap (λ z. R.add z x) (R.add_comm (R.neg y) y ∙ R.add-neg y) ∙ R.null-add x)
+opposites_cancel R false true x y h = sym (sym (R.add_assoc y (R.neg y) x) ∙ ap (λ z. R.add z x) (R.add-neg y) ∙ R.null-add x)
 
-insert_is : {A : Type 0} (R : Ring A) (ρ : List A) (s : Bool) (m : List ℕ) (p : List Term) → poly R ρ (insert s m p) ≡ R.add (signed R s (mono R ρ m)) (poly R ρ p)
+insert_is : {A : Type 0} (R : Ring A) (ρ : List A) (s : Bool) (m : List ℕ) (p : List Term) → poly R ρ (insert s m p) ≡ R.add (with_sign R s (mono R ρ m)) (poly R ρ p)
 insert_is R ρ s m [] = refl
-insert_is R ρ s m (term t n ∷ p) = by_test (same m n) (differ s t) (before m n) (λ h. same_is m n h) (λ h. h)
-    (ap (R.add (signed R t (mono R ρ n))) (insert_is R ρ s m p) ∙ add_left_comm R (signed R t (mono R ρ n)) (signed R s (mono R ρ m)) (poly R ρ p))
+insert_is R ρ s m (term t n ∷ p) = by_test (same m n) (signs_differ s t) (is_before m n) (λ h. same_is m n h) (λ h. h)
+    (ap (R.add (with_sign R t (mono R ρ n))) (insert_is R ρ s m p) ∙ add_left_comm R (with_sign R t (mono R ρ n)) (with_sign R s (mono R ρ m)) (poly R ρ p))
   where
-    later : (b : Bool) → R.add (signed R t (mono R ρ n)) (poly R ρ (insert s m p)) ≡ R.add (signed R s (mono R ρ m)) (R.add (signed R t (mono R ρ n)) (poly R ρ p)) → poly R ρ (cond b (term s m ∷ term t n ∷ p) (term t n ∷ insert s m p)) ≡ R.add (signed R s (mono R ρ m)) (R.add (signed R t (mono R ρ n)) (poly R ρ p))
-    later true ih = refl
-    later false ih = ih
+    by_order : (b : Bool) → R.add (with_sign R t (mono R ρ n)) (poly R ρ (insert s m p)) ≡ R.add (with_sign R s (mono R ρ m)) (R.add (with_sign R t (mono R ρ n)) (poly R ρ p)) → poly R ρ (cond b (term s m ∷ term t n ∷ p) (term t n ∷ insert s m p)) ≡ R.add (with_sign R s (mono R ρ m)) (R.add (with_sign R t (mono R ρ n)) (poly R ρ p))
+    by_order true ih = refl
+    by_order false ih = ih
 
-    by_test : (a d b : Bool) → (T a → m ≡ n) → (T d → T (differ s t)) → R.add (signed R t (mono R ρ n)) (poly R ρ (insert s m p)) ≡ R.add (signed R s (mono R ρ m)) (R.add (signed R t (mono R ρ n)) (poly R ρ p)) → poly R ρ (cond (a && d) p (cond b (term s m ∷ term t n ∷ p) (term t n ∷ insert s m p))) ≡ R.add (signed R s (mono R ρ m)) (R.add (signed R t (mono R ρ n)) (poly R ρ p))
-    by_test true true b e f ih = subst (λ (k : List ℕ). poly R ρ p ≡ R.add (signed R s (mono R ρ m)) (R.add (signed R t (mono R ρ k)) (poly R ρ p))) (e tt) (apart R s t (poly R ρ p) (mono R ρ m) (f tt))
-    by_test true false b e f ih = later b ih
-    by_test false d b e f ih = later b ih
+    by_test : (a d b : Bool) → (T a → m ≡ n) → (T d → T (signs_differ s t)) → R.add (with_sign R t (mono R ρ n)) (poly R ρ (insert s m p)) ≡ R.add (with_sign R s (mono R ρ m)) (R.add (with_sign R t (mono R ρ n)) (poly R ρ p)) → poly R ρ (cond (a && d) p (cond b (term s m ∷ term t n ∷ p) (term t n ∷ insert s m p))) ≡ R.add (with_sign R s (mono R ρ m)) (R.add (with_sign R t (mono R ρ n)) (poly R ρ p))
+    by_test true true b e f ih = subst (λ (k : List ℕ). poly R ρ p ≡ R.add (with_sign R s (mono R ρ m)) (R.add (with_sign R t (mono R ρ k)) (poly R ρ p))) (e tt) (opposites_cancel R s t (poly R ρ p) (mono R ρ m) (f tt))
+    by_test true false b e f ih = by_order b ih
+    by_test false d b e f ih = by_order b ih
 
 sum_is : {A : Type 0} (R : Ring A) (ρ : List A) (p q : List Term) → poly R ρ (sum_of p q) ≡ R.add (poly R ρ p) (poly R ρ q)
 sum_is R ρ [] q = sym (R.null-add (poly R ρ q))
-sum_is R ρ (term s m ∷ p) q = insert_is R ρ s m (sum_of p q) ∙ ap (R.add (signed R s (mono R ρ m))) (sum_is R ρ p q) ∙ sym (R.add_assoc (signed R s (mono R ρ m)) (poly R ρ p) (poly R ρ q))
+sum_is R ρ (term s m ∷ p) q = insert_is R ρ s m (sum_of p q) ∙ ap (R.add (with_sign R s (mono R ρ m))) (sum_is R ρ p q) ∙ sym (R.add_assoc (with_sign R s (mono R ρ m)) (poly R ρ p) (poly R ρ q))
 
-signs : {A : Type 0} (R : Ring A) (s t : Bool) (x y : A) → signed R (differ s t) (R.mul x y) ≡ R.mul (signed R s x) (signed R t y)
+signs : {A : Type 0} (R : Ring A) (s t : Bool) (x y : A) → with_sign R (signs_differ s t) (R.mul x y) ≡ R.mul (with_sign R s x) (with_sign R t y)
 signs R true true x y = sym (neg-mul R x (R.neg y) ∙ ap R.neg (mul-neg R x y) ∙ neg-neg R (R.mul x y))
 signs R true false x y = sym (neg-mul R x y)
 signs R false true x y = sym (mul-neg R x y)
 signs R false false x y = refl
 
-scaled_is : {A : Type 0} (R : Ring A) (ρ : List A) (s : Bool) (m : List ℕ) (p : List Term) → poly R ρ (scaled s m p) ≡ R.mul (signed R s (mono R ρ m)) (poly R ρ p)
-scaled_is R ρ s m [] = sym (mul-null R (signed R s (mono R ρ m)))
+scaled_is : {A : Type 0} (R : Ring A) (ρ : List A) (s : Bool) (m : List ℕ) (p : List Term) → poly R ρ (times_term s m p) ≡ R.mul (with_sign R s (mono R ρ m)) (poly R ρ p)
+scaled_is R ρ s m [] = sym (mul-null R (with_sign R s (mono R ρ m)))
 scaled_is R ρ s m (term t n ∷ p) =
-    insert_is R ρ (differ s t) (product m n) (scaled s m p)
-    ∙ ap₂ R.add (ap (signed R (differ s t)) (product_is R ρ m n) ∙ signs R s t (mono R ρ m) (mono R ρ n)) (scaled_is R ρ s m p)
-    ∙ sym (R.mul-add (signed R s (mono R ρ m)) (signed R t (mono R ρ n)) (poly R ρ p))
+    insert_is R ρ (signs_differ s t) (product m n) (times_term s m p)
+    ∙ ap₂ R.add (ap (with_sign R (signs_differ s t)) (product_is R ρ m n) ∙ signs R s t (mono R ρ m) (mono R ρ n)) (scaled_is R ρ s m p)
+    ∙ sym (R.mul-add (with_sign R s (mono R ρ m)) (with_sign R t (mono R ρ n)) (poly R ρ p))
 
 product_of_is : {A : Type 0} (R : Ring A) (ρ : List A) (p q : List Term) → poly R ρ (product_of p q) ≡ R.mul (poly R ρ p) (poly R ρ q)
 product_of_is R ρ [] q = sym (R.mul_comm R.null (poly R ρ q) ∙ mul-null R (poly R ρ q))
 product_of_is R ρ (term s m ∷ p) q =
-    sum_is R ρ (scaled s m q) (product_of p q)
+    sum_is R ρ (times_term s m q) (product_of p q)
     ∙ ap₂ R.add (scaled_is R ρ s m q) (product_of_is R ρ p q)
-    ∙ sym (add-mul R (signed R s (mono R ρ m)) (poly R ρ p) (poly R ρ q))
+    ∙ sym (add-mul R (with_sign R s (mono R ρ m)) (poly R ρ p) (poly R ρ q))
 
-negated_is : {A : Type 0} (R : Ring A) (ρ : List A) (p : List Term) → poly R ρ (negated p) ≡ R.neg (poly R ρ p)
+negated_is : {A : Type 0} (R : Ring A) (ρ : List A) (p : List Term) → poly R ρ (negation_of p) ≡ R.neg (poly R ρ p)
 negated_is R ρ [] = sym (neg-null R)
-negated_is R ρ (term s m ∷ p) = ap₂ R.add (turned s) (negated_is R ρ p) ∙ sym (neg-add R (signed R s (mono R ρ m)) (poly R ρ p))
+negated_is R ρ (term s m ∷ p) = ap₂ R.add (by_sign s) (negated_is R ρ p) ∙ sym (neg-add R (with_sign R s (mono R ρ m)) (poly R ρ p))
   where
-    turned : (b : Bool) → signed R (not b) (mono R ρ m) ≡ R.neg (signed R b (mono R ρ m))
-    turned true = sym (neg-neg R (mono R ρ m))
-    turned false = refl
+    by_sign : (b : Bool) → with_sign R (not b) (mono R ρ m) ≡ R.neg (with_sign R b (mono R ρ m))
+    by_sign true = sym (neg-neg R (mono R ρ m))
+    by_sign false = refl
 
 pub norm_is : {A : Type 0} (R : Ring A) (ρ : List A) (e : Ex) → poly R ρ (norm e) ≡ value R ρ e
 norm_is R ρ (v i) = add-null R (R.mul (get_or ρ i R.null) R.unit) ∙ R.mul_comm (get_or ρ i R.null) R.unit ∙ R.unit-mul (get_or ρ i R.null)

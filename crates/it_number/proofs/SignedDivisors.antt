@@ -48,7 +48,7 @@ sum_lowest a c b d g b' d' g' hd ab cd is eb ed t et it =
     let r : ℕ = unsigned_abs t / g' in
     let rt : r ∣ unsigned_abs t = subst (λ n. r ∣ n) (div-mul_cancel g' it.0) (dvd-mul_right_of_dvd r (dvd_refl r) g') in
     let rg : IsGcd r (g / g') 1 = coprime_rest (unsigned_abs t) g g' some' it in
-    let split : d / g' ≡ (g / g') * d' = splits (g / g') (div-mul_cancel g' it.1) some' (ap (λ n. n * g) ed ∙ div-mul_cancel g is.1) in
+    let split : d / g' ≡ (g / g') * d' = rest_divides (g / g') (div-mul_cancel g' it.1) some' (ap (λ n. n * g) ed ∙ div-mul_cancel g is.1) in
     rw (abs-over t g', split) (IsGcd-swap (b' * ((g / g') * d')) r 1 (coprime_product b' ((g / g') * d') r
     (IsGcd-swap r b' 1 (coprime_below (unsigned_abs t) b' r b' tb rt (dvd_refl b')))
     (coprime_product (g / g') d' r (IsGcd-swap r (g / g') 1 rg) (IsGcd-swap r d' 1 (coprime_below (unsigned_abs t) d' r d' td rt (dvd_refl d'))))))
@@ -56,8 +56,8 @@ sum_lowest a c b d g b' d' g' hd ab cd is eb ed t et it =
     swap : (x y : ℤ) → x +ℤ y ≡ y +ℤ x
     swap x y = omega (arith, ints)
 
-    splits : (h : ℕ) → h * g' ≡ g → 0 < g' → d' * g ≡ d → d / g' ≡ h * d'
-    splits h e s f = native.Mathlib.Nat.div-eq_of_eq-mul_left s (sym f ∙ ap (λ n. d' * n) (sym e) ∙ swap_first_factors d' h g')
+    rest_divides : (h : ℕ) → h * g' ≡ g → 0 < g' → d' * g ≡ d → d / g' ≡ h * d'
+    rest_divides h e s f = native.Mathlib.Nat.div-eq_of_eq-mul_left s (sym f ∙ ap (λ n. d' * n) (sym e) ∙ swap_first_factors d' h g')
       where
         swap_first_factors : (x y z : ℕ) → x * (y * z) ≡ y * x * z
         swap_first_factors x y z = omega arith

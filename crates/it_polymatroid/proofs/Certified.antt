@@ -1,7 +1,8 @@
 -- Weak duality: a certificate makes its target at least 0.
-use Rattle.std.proofs.Common.{◌≡◌, ℕ, zero, suc, ◌+◌, ◌-◌, ◌<◌, ◌≤◌, ℤ, pos, negsuc, ◌+ℤ◌, ◌*ℤ◌, ◌≤ℤ◌, refl, sym, ap, ap₂, subst, ◌∙◌, arith, List, [], ◌∷◌, Bool, true, false, All}
+use Rattle.std.proofs.Common.{◌≡◌, ℕ, ◌<◌, ℤ, pos, ◌+ℤ◌, ◌*ℤ◌, ◌≤ℤ◌, refl, sym, ap, ap₂, subst, ◌∙◌, arith, List, [], ◌∷◌, Bool, true, false, All}
 use Rattle.std.proofs.lemmas.Int.{ints}
 use Rattle.std.proofs.lemmas.List.Elements.{All-head, All-tail}
+use Rattle.it_number.proofs.SignLemmas.{sum_least, product_least, least_by_multiple}
 use Rattle.it_space.specs.Answers.{CertificateView}
 use Rattle.it_polymatroid.specs.Certificates.{Form, dot, IsLinear, combination, Generators, IsAllowed, IsCertificate, CertificatesProve}
 use Rattle.it_space.specs.Rows.{one_at}
@@ -14,24 +15,11 @@ weighted_least g v least zeros [] a = omega (arith, ints)
 weighted_least g v least zeros (w ∷ ws) a =
     let here : IsAllowed g w = All-head (IsAllowed g) w ws a in
     let rest : pos 0 ≤ℤ combination ws v = weighted_least g v least zeros ws (All-tail (IsAllowed g) w ws a) in
-    both (w.1 *ℤ v w.0) (combination ws v) (term w.1 (v w.0) (g.is_equation w.0) here.1 (least w.0 here.0) (zeros w.0 here.0)) rest
+    sum_least (w.1 *ℤ v w.0) (combination ws v) (term w.1 (v w.0) (g.is_equation w.0) here.1 (least w.0 here.0) (zeros w.0 here.0)) rest
   where
-    both : (x y : ℤ) → pos 0 ≤ℤ x → pos 0 ≤ℤ y → pos 0 ≤ℤ (x +ℤ y)
-    both x y h k = omega (arith, ints)
-
-    product : (x y : ℤ) → pos 0 ≤ℤ x → pos 0 ≤ℤ y → pos 0 ≤ℤ (x *ℤ y)
-    product x y h k = grind (arith, ints)
-
     term : (x y : ℤ) (b : Bool) → (b ≡ false → pos 0 ≤ℤ x) → pos 0 ≤ℤ y → (b ≡ true → y ≡ pos 0) → pos 0 ≤ℤ (x *ℤ y)
     term x y true h k e = subst (λ (z : ℤ). pos 0 ≤ℤ (x *ℤ z)) (sym (e refl)) (omega (arith, ints))
-    term x y false h k e = product x y (h refl) k
-
--- where a multiple of at least 1 is at least 0, so is the number
-unscaled : (k x : ℤ) → pos 1 ≤ℤ k → pos 0 ≤ℤ (k *ℤ x) → pos 0 ≤ℤ x
-unscaled (pos k) (pos x) h g = omega (arith, ints)
-unscaled (pos zero) (negsuc x) h g = absurd (omega (arith, ints))
-unscaled (pos (suc k)) (negsuc x) h g = absurd (omega (arith, ints))
-unscaled (negsuc k) x h g = absurd (omega (arith, ints))
+    term x y false h k e = product_least x y (h refl) k
 
 -- the weights that stand name generators, so their sum is linear
 weighted_is : (size : ℕ) (g : Generators) → ((i : ℕ) → i < g.count → IsLinear size (g.form i)) → (ws : List (ℕ × ℤ)) → All (IsAllowed g) ws
@@ -52,5 +40,5 @@ adds_up_everywhere size g target w l m c p e =
 
 pub certificates_prove : CertificatesProve
 certificates_prove size g target w l m c p e least zeros =
-    unscaled w.scale (target p) c.scale_from_one
+    least_by_multiple w.scale (target p) (omega (arith, ints, c.scale_from_one))
     (subst (λ (x : ℤ). pos 0 ≤ℤ x) (sym (adds_up_everywhere size g target w l m c p e)) (weighted_least g (λ i. g.form i p) least zeros w.parts c.allowed))

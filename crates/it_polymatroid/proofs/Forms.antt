@@ -64,11 +64,11 @@ pub linear_same : (size : ℕ) (f g : Form) → ((p : ℕ → ℤ) → p 0 ≡ p
 linear_same size f g same l = record { sum = λ p e. sym (same p e) ∙ l.sum p e ∙ dot_from_one size (λ c. f (one_at c)) (λ c. g (one_at c)) p e (λ c h k. same (one_at c) (one_at-zero c h)) }
 
 pub linear-sub : (size : ℕ) (f g : Form) → IsLinear size f → IsLinear size g → IsLinear size (λ p. f p -ℤ g p)
-linear-sub size f g l m = linear_same size (λ p. f p +ℤ neg_ℤ (pos 1) *ℤ g p) (λ p. f p -ℤ g p) (λ p e. turned (f p) (g p))
+linear-sub size f g l m = linear_same size (λ p. f p +ℤ neg_ℤ (pos 1) *ℤ g p) (λ p. f p -ℤ g p) (λ p e. minus_as_negation (f p) (g p))
     (linear-add size f (λ p. neg_ℤ (pos 1) *ℤ g p) l (linear-scale size (neg_ℤ (pos 1)) g m))
   where
-    turned : (x y : ℤ) → x +ℤ neg_ℤ (pos 1) *ℤ y ≡ x -ℤ y
-    turned x y = omega (arith, ints)
+    minus_as_negation : (x y : ℤ) → x +ℤ neg_ℤ (pos 1) *ℤ y ≡ x -ℤ y
+    minus_as_negation x y = omega (arith, ints)
 
 -- and so is the value of a row
 pub value_linear : (size : ℕ) (row : Terms) → IsUpTo size row → IsLinear (size + 1) (value row)

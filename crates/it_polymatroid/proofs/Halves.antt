@@ -1,5 +1,5 @@
 -- From the elemental inequalities to all pairs of sets, by the lowest binary digit: a function on the sets of n + 1 variables is two functions on the sets of n.
-use Rattle.std.proofs.Common.{◌≡◌, ℕ, zero, suc, ◌+◌, ◌-◌, ◌*◌, ◌/◌, ◌%◌, ◌^◌, ◌<◌, ◌≤◌, ◌⊎◌, inl, inr, ℤ, pos, neg_ℤ, ◌+ℤ◌, ◌-ℤ◌, ◌≤ℤ◌, bit_and, bit_or, refl, sym, ap, ap₂, subst, subst₂, ◌∙◌, arith, lit<, add-zero}
+use Rattle.std.proofs.Common.{◌≡◌, ℕ, zero, suc, ◌+◌, ◌-◌, ◌*◌, ◌/◌, ◌%◌, ◌^◌, ◌<◌, ◌⊎◌, inl, inr, ℤ, pos, neg_ℤ, ◌+ℤ◌, ◌-ℤ◌, ◌≤ℤ◌, bit_and, bit_or, refl, sym, ap, ap₂, subst, subst₂, ◌∙◌, arith, lit<, add-zero}
 use Rattle.std.proofs.lemmas.Int.{ints}
 use Rattle.std.proofs.lemmas.Nat.{and_block, or_block, and_le_r, or_lt, and_or_self, and_comm, or_comm, and_mask, pow_pos, pow_below}
 use Rattle.std.proofs.lemmas.Nat.Bits.{bit_at_lowest, bit_at-suc}
@@ -13,11 +13,11 @@ pub record ElementalsHold (n : ℕ) (h : ℕ → ℤ) : Type 0 where
   pub mutual_of : (i j k : ℕ) → i < j → j < n → k < 2 ^ n → bit_at k i ≡ 0 → bit_at k j ≡ 0
       → (h (k + 2 ^ i + 2 ^ j) +ℤ h k) ≤ℤ (h (k + 2 ^ i) +ℤ h (k + 2 ^ j))
 
-abbrev even : (ℕ → ℤ) → ℕ → ℤ
-even f s = f (s * 2)
+abbrev even_half : (ℕ → ℤ) → ℕ → ℤ
+even_half f s = f (s * 2)
 
-abbrev odd : (ℕ → ℤ) → ℕ → ℤ
-odd f s = f (s * 2 + 1)
+abbrev odd_half : (ℕ → ℤ) → ℕ → ℤ
+odd_half f s = f (s * 2 + 1)
 
 -- what the lowest variable adds to a set of the others
 abbrev gain : (ℕ → ℤ) → ℕ → ℤ
@@ -26,12 +26,12 @@ gain f s = f (s * 2 + 1) -ℤ f (s * 2)
 -- one more member makes f no larger
 abbrev Falls : ℕ → (ℕ → ℤ) → Type 0
 Falls zero f = Unit {0}
-Falls (suc n) f = ((k : ℕ) → k < 2 ^ n → odd f k ≤ℤ even f k) × (Falls n (even f) × Falls n (odd f))
+Falls (suc n) f = ((k : ℕ) → k < 2 ^ n → odd_half f k ≤ℤ even_half f k) × (Falls n (even_half f) × Falls n (odd_half f))
 
 -- what a member adds falls
 abbrev Bends : ℕ → (ℕ → ℤ) → Type 0
 Bends zero f = Unit {0}
-Bends (suc n) f = Falls n (gain f) × (Bends n (even f) × Bends n (odd f))
+Bends (suc n) f = Falls n (gain f) × (Bends n (even_half f) × Bends n (odd_half f))
 
 -- a number is twice its half, or one more
 halves : (s : ℕ) → (s ≡ (s / 2) * 2) ⊎ (s ≡ (s / 2) * 2 + 1)
@@ -88,17 +88,17 @@ falls_inside zero f e s t h i =
     let t_0 : t ≡ 0 = omega arith in
     let s_0 : s ≡ 0 = sym i ∙ ap (bit_and s) t_0 ∙ omega (arith, and_le_r s 0) in
     subst₂ (λ (x y : ℕ). f y ≤ℤ f x) (sym s_0) (sym t_0) (omega (arith, ints))
-falls_inside (suc n) f e s t h i = step n f e.0 (falls_inside n (even f) e.1.0) (falls_inside n (odd f) e.1.1) s t h i
+falls_inside (suc n) f e s t h i = step n f e.0 (falls_inside n (even_half f) e.1.0) (falls_inside n (odd_half f) e.1.1) s t h i
   where
-    step : (n : ℕ) (f : ℕ → ℤ) → ((k : ℕ) → k < 2 ^ n → odd f k ≤ℤ even f k)
-        → ((s t : ℕ) → t < 2 ^ n → bit_and s t ≡ s → even f t ≤ℤ even f s)
-        → ((s t : ℕ) → t < 2 ^ n → bit_and s t ≡ s → odd f t ≤ℤ odd f s)
+    step : (n : ℕ) (f : ℕ → ℤ) → ((k : ℕ) → k < 2 ^ n → odd_half f k ≤ℤ even_half f k)
+        → ((s t : ℕ) → t < 2 ^ n → bit_and s t ≡ s → even_half f t ≤ℤ even_half f s)
+        → ((s t : ℕ) → t < 2 ^ n → bit_and s t ≡ s → odd_half f t ≤ℤ odd_half f s)
         → (s t : ℕ) → t < 2 ^ suc n → bit_and s t ≡ s → f t ≤ℤ f s
     step n f here ev od = by_halves (λ s. (t : ℕ) → t < 2 ^ suc n → bit_and s t ≡ s → f t ≤ℤ f s)
         (λ a. by_halves (λ t. t < 2 ^ suc n → bit_and (a * 2) t ≡ a * 2 → f t ≤ℤ f (a * 2))
         (λ b h i. ev a b (omega (arith, two-pow-succ n)) (omega (arith, and_ee a b)))
         (λ b h i. let k : b < 2 ^ n = omega (arith, two-pow-succ n) in
-        let x : even f b ≤ℤ even f a = ev a b k (omega (arith, and_eo a b)) in omega (arith, ints, here b k, x)))
+        let x : even_half f b ≤ℤ even_half f a = ev a b k (omega (arith, and_eo a b)) in omega (arith, ints, here b k, x)))
         (λ a. by_halves (λ t. t < 2 ^ suc n → bit_and (a * 2 + 1) t ≡ a * 2 + 1 → f t ≤ℤ f (a * 2 + 1))
         (λ b h i. absurd (omega (arith, and_oe a b)))
         (λ b h i. od a b (omega (arith, two-pow-succ n)) (omega (arith, and_oo a b))))
@@ -108,11 +108,11 @@ all_pairs : (n : ℕ) (f : ℕ → ℤ) → Bends n f → (s t : ℕ) → s < 2 
 all_pairs zero f e s t hs ht =
     let s_0 : s ≡ 0 = omega arith in let t_0 : t ≡ 0 = omega arith in
     subst₂ (λ (x y : ℕ). (f (bit_or x y) +ℤ f (bit_and x y)) ≤ℤ (f x +ℤ f y)) (sym s_0) (sym t_0) (omega (arith, ints))
-all_pairs (suc n) f e s t hs ht = step n f (falls_inside n (gain f) e.0) (all_pairs n (even f) e.1.0) (all_pairs n (odd f) e.1.1) s t hs ht
+all_pairs (suc n) f e s t hs ht = step n f (falls_inside n (gain f) e.0) (all_pairs n (even_half f) e.1.0) (all_pairs n (odd_half f) e.1.1) s t hs ht
   where
     step : (n : ℕ) (f : ℕ → ℤ) → ((s t : ℕ) → t < 2 ^ n → bit_and s t ≡ s → gain f t ≤ℤ gain f s)
-        → ((s t : ℕ) → s < 2 ^ n → t < 2 ^ n → (even f (bit_or s t) +ℤ even f (bit_and s t)) ≤ℤ (even f s +ℤ even f t))
-        → ((s t : ℕ) → s < 2 ^ n → t < 2 ^ n → (odd f (bit_or s t) +ℤ odd f (bit_and s t)) ≤ℤ (odd f s +ℤ odd f t))
+        → ((s t : ℕ) → s < 2 ^ n → t < 2 ^ n → (even_half f (bit_or s t) +ℤ even_half f (bit_and s t)) ≤ℤ (even_half f s +ℤ even_half f t))
+        → ((s t : ℕ) → s < 2 ^ n → t < 2 ^ n → (odd_half f (bit_or s t) +ℤ odd_half f (bit_and s t)) ≤ℤ (odd_half f s +ℤ odd_half f t))
         → (s t : ℕ) → s < 2 ^ suc n → t < 2 ^ suc n → (f (bit_or s t) +ℤ f (bit_and s t)) ≤ℤ (f s +ℤ f t)
     step n f falls ev od = by_halves (λ s. (t : ℕ) → s < 2 ^ suc n → t < 2 ^ suc n → (f (bit_or s t) +ℤ f (bit_and s t)) ≤ℤ (f s +ℤ f t))
         (λ a. by_halves (λ t. a * 2 < 2 ^ suc n → t < 2 ^ suc n → (f (bit_or (a * 2) t) +ℤ f (bit_and (a * 2) t)) ≤ℤ (f (a * 2) +ℤ f t))
@@ -148,8 +148,8 @@ falls_of zero f e = tt
 falls_of (suc n) f e = (
   (λ k h. e 0 (k * 2) (omega arith) (omega (arith, two-pow-succ n)) (bit_low k)),
   (
-    falls_of n (even f) (λ j k hj hk z. subst (λ (m : ℕ). f m ≤ℤ f (k * 2)) (double_even k j) (e (suc j) (k * 2) (omega arith) (omega (arith, two-pow-succ n)) (bit_even k j ∙ z))),
-    falls_of n (odd f) (λ j k hj hk z. subst (λ (m : ℕ). f m ≤ℤ f (k * 2 + 1)) (double_odd k j) (e (suc j) (k * 2 + 1) (omega arith) (omega (arith, two-pow-succ n)) (bit_odd k j ∙ z))),
+    falls_of n (even_half f) (λ j k hj hk z. subst (λ (m : ℕ). f m ≤ℤ f (k * 2)) (double_even k j) (e (suc j) (k * 2) (omega arith) (omega (arith, two-pow-succ n)) (bit_even k j ∙ z))),
+    falls_of n (odd_half f) (λ j k hj hk z. subst (λ (m : ℕ). f m ≤ℤ f (k * 2 + 1)) (double_odd k j) (e (suc j) (k * 2 + 1) (omega arith) (omega (arith, two-pow-succ n)) (bit_odd k j ∙ z))),
   ),
 )
 
@@ -167,9 +167,9 @@ bends_of zero f e = tt
 bends_of (suc n) f e = (
   falls_of n (gain f) (λ j k hj hk z. gains j k (e 0 (suc j) (k * 2) (omega arith) (omega arith) (omega (arith, two-pow-succ n)) (bit_low k) (bit_even k j ∙ z))),
   (
-    bends_of n (even f) (λ i j k hi hj hk zi zj. rw (← double_even k i, ← double_even k j, ← two_even k i j)
+    bends_of n (even_half f) (λ i j k hi hj hk zi zj. rw (← double_even k i, ← double_even k j, ← two_even k i j)
         (e (suc i) (suc j) (k * 2) (omega arith) (omega arith) (omega (arith, two-pow-succ n)) (bit_even k i ∙ zi) (bit_even k j ∙ zj))),
-    bends_of n (odd f) (λ i j k hi hj hk zi zj. rw (← double_odd k i, ← double_odd k j, ← two_odd k i j)
+    bends_of n (odd_half f) (λ i j k hi hj hk zi zj. rw (← double_odd k i, ← double_odd k j, ← two_odd k i j)
         (e (suc i) (suc j) (k * 2 + 1) (omega arith) (omega arith) (omega (arith, two-pow-succ n)) (bit_odd k i ∙ zi) (bit_odd k j ∙ zj))),
   ),
 )
@@ -190,25 +190,25 @@ inside_full n s h = and_mask s n ∙ mod-eq_of_lt h
 climbs_of : (n : ℕ) (f : ℕ → ℤ) → Bends n f → FlatEnds n f → Falls n (λ s. neg_ℤ (f s))
 climbs_of zero f b e = tt
 climbs_of (suc n) f b e =
-    ((λ k h. here k h), (climbs_of n (even f) b.1.0 (λ i h. evens i h), climbs_of n (odd f) b.1.1 (λ i h. odds i h)))
+    ((λ k h. negations_fall k h), (climbs_of n (even_half f) b.1.0 (λ i h. even_climbs i h), climbs_of n (odd_half f) b.1.1 (λ i h. odd_climbs i h)))
   where
-    full : 2 ^ suc n - 1 ≡ (2 ^ n - 1) * 2 + 1
-    full = omega (arith, two-pow-succ n, pow_pos n)
+    full_set_is_odd : 2 ^ suc n - 1 ≡ (2 ^ n - 1) * 2 + 1
+    full_set_is_odd = omega (arith, two-pow-succ n, pow_pos n)
 
-    falls : (k : ℕ) → k < 2 ^ n → gain f (2 ^ n - 1) ≤ℤ gain f k
-    falls k h = falls_inside n (gain f) b.0 k (2 ^ n - 1) (omega (arith, pow_pos n)) (inside_full n k h)
+    gain_falls : (k : ℕ) → k < 2 ^ n → gain f (2 ^ n - 1) ≤ℤ gain f k
+    gain_falls k h = falls_inside n (gain f) b.0 k (2 ^ n - 1) (omega (arith, pow_pos n)) (inside_full n k h)
 
-    last : even f (2 ^ n - 1) ≤ℤ odd f (2 ^ n - 1)
-    last = subst₂ (λ (x y : ℕ). f x ≤ℤ f y) (omega (arith, two-pow-succ n, pow_pos n)) full (e 0 (omega arith))
+    full_set_climbs : even_half f (2 ^ n - 1) ≤ℤ odd_half f (2 ^ n - 1)
+    full_set_climbs = subst₂ (λ (x y : ℕ). f x ≤ℤ f y) (omega (arith, two-pow-succ n, pow_pos n)) full_set_is_odd (e 0 (omega arith))
 
-    here : (k : ℕ) → k < 2 ^ n → neg_ℤ (odd f k) ≤ℤ neg_ℤ (even f k)
-    here k h = omega (arith, ints, falls k h, last)
+    negations_fall : (k : ℕ) → k < 2 ^ n → neg_ℤ (odd_half f k) ≤ℤ neg_ℤ (even_half f k)
+    negations_fall k h = omega (arith, ints, gain_falls k h, full_set_climbs)
 
-    odds : (i : ℕ) → i < n → odd f (2 ^ n - 1 - 2 ^ i) ≤ℤ odd f (2 ^ n - 1)
-    odds i h = subst₂ (λ (x y : ℕ). f x ≤ℤ f y) (omega (arith, two-pow-succ n, two-pow-succ i, pow_below i n h, pow_pos n)) full (e (suc i) (omega arith))
+    odd_climbs : (i : ℕ) → i < n → odd_half f (2 ^ n - 1 - 2 ^ i) ≤ℤ odd_half f (2 ^ n - 1)
+    odd_climbs i h = subst₂ (λ (x y : ℕ). f x ≤ℤ f y) (omega (arith, two-pow-succ n, two-pow-succ i, pow_below i n h, pow_pos n)) full_set_is_odd (e (suc i) (omega arith))
 
-    evens : (i : ℕ) → i < n → even f (2 ^ n - 1 - 2 ^ i) ≤ℤ even f (2 ^ n - 1)
-    evens i h = omega (arith, ints, odds i h, falls (2 ^ n - 1 - 2 ^ i) (omega (arith, pow_pos n)))
+    even_climbs : (i : ℕ) → i < n → even_half f (2 ^ n - 1 - 2 ^ i) ≤ℤ even_half f (2 ^ n - 1)
+    even_climbs i h = omega (arith, ints, odd_climbs i h, gain_falls (2 ^ n - 1 - 2 ^ i) (omega (arith, pow_pos n)))
 
 -- the elemental inequalities give the axioms over all pairs
 pub polymatroid_of : (n : ℕ) (h : ℕ → ℤ) → h 0 ≡ pos 0 → ElementalsHold n h → IsPolymatroid n h

@@ -12,11 +12,9 @@ use Rattle.std.specs.Int.{bit_at}
 use Rattle.std.specs.Int.Bits.{or_self, or_zero_l, or_zero_r}
 use Rattle.it_space.proofs.ListLemmas.{drop_item}
 use Rattle.it_space.specs.Sets.{has_member, IsInside}
+use Rattle.it_space.proofs.SetLemmas.{or_assoc}
 use Rattle.it_polymatroid.specs.Polymatroid.{IsPolymatroid}
 use Rattle.it_polymatroid.specs.Substitutions.{union_from, image}
-
-or_assoc : (a b c : ℕ) → bit_or (bit_or a b) c ≡ bit_or a (bit_or b c)
-or_assoc a b c = same_from_bits _ _ (λ i. let p = bit_at_or (bit_or a b) c i in let q = bit_at_or a b i in let r = bit_at_or a (bit_or b c) i in let s = bit_at_or b c i in omega arith)
 
 or_swap : (a b c d : ℕ) → bit_or (bit_or a b) (bit_or c d) ≡ bit_or (bit_or a c) (bit_or b d)
 or_swap a b c d = same_from_bits _ _ (λ i.
@@ -106,11 +104,11 @@ meet_lt n s t h = omega (arith, and_le_r s t)
 pub pulled_polymatroid : (n m : ℕ) (h g : ℕ → ℤ) (sets : List ℕ) → All (λ x. x < 2 ^ n) sets → ((s : ℕ) → s < 2 ^ m → g s ≡ h (image sets s)) → IsPolymatroid n h → IsPolymatroid m g
 pulled_polymatroid n m h g sets a is p = record {
   empty = is 0 (pow_pos m) ∙ ap h (union-empty 0 sets) ∙ p.empty;
-  rises = λ s t l i. subst₂ (λ (x y : ℤ). x ≤ℤ y) (sym (is s (omega (arith, i, and_le_r s t)))) (sym (is t l)) (p.rises (image sets s) (image sets t) (below t) (image_inside sets s t i));
+  rises = λ s t l i. subst₂ (λ (x y : ℤ). x ≤ℤ y) (sym (is s (omega (arith, i, and_le_r s t)))) (sym (is t l)) (p.rises (image sets s) (image sets t) (image_below t) (image_inside sets s t i));
   submodular = λ s t k l.
-      let low : h (image sets (bit_and s t)) ≤ℤ h (bit_and (image sets s) (image sets t)) = p.rises (image sets (bit_and s t)) (bit_and (image sets s) (image sets t)) (meet_lt n (image sets s) (image sets t) (below t))
+      let low : h (image sets (bit_and s t)) ≤ℤ h (bit_and (image sets s) (image sets t)) = p.rises (image sets (bit_and s t)) (bit_and (image sets s) (image sets t)) (meet_lt n (image sets s) (image sets t) (image_below t))
       (inside_meet (image sets (bit_and s t)) (image sets s) (image sets t) (image_inside sets (bit_and s t) s (meet_left s t)) (image_inside sets (bit_and s t) t (meet_right s t))) in
-      let both = p.submodular (image sets s) (image sets t) (below s) (below t) in
+      let both = p.submodular (image sets s) (image sets t) (image_below s) (image_below t) in
       let u : g (bit_or s t) ≡ h (bit_or (image sets s) (image sets t)) = is (bit_or s t) (or_lt m s t k l) ∙ ap h (union-or 0 sets s t) in
       let v : g (bit_and s t) ≡ h (image sets (bit_and s t)) = is (bit_and s t) (meet_lt m s t l) in
       let x : g s ≡ h (image sets s) = is s k in
@@ -118,8 +116,8 @@ pulled_polymatroid n m h g sets a is p = record {
       omega (arith, ints, low, both, u, v, x, y);
 }
   where
-    below : (s : ℕ) → image sets s < 2 ^ n
-    below s = union_below n 0 sets s a
+    image_below : (s : ℕ) → image sets s < 2 ^ n
+    image_below s = union_below n 0 sets s a
 
 -- values pushed in order of the sets
 pub values-push : (values : List ℤ) (f : ℕ → ℤ) (n : ℕ) (v : ℤ) → length values ≡ n → ((s : ℕ) → s < n → get_or values s (pos 0) ≡ f s) → v ≡ f n

@@ -23,7 +23,7 @@ get_or-span a (suc n) (suc i) d h = get_or-span (a + 1) n i d (omega arith) ∙ 
 pub length-map-span : {A : Type 0} (f : ℕ → A) (a n : ℕ) → length (map f (span a n)) ≡ n
 length-map-span f a n = length-map (span a n) f ∙ length-span a n
 
-same_or_more : (a b : ℕ) → a ≤ b → (a ≡ b) ⊎ (a + 1 ≤ b)
+pub same_or_more : (a b : ℕ) → a ≤ b → (a ≡ b) ⊎ (a + 1 ≤ b)
 same_or_more a b h = grind arith
 
 pub every-span : (P : ℕ → Type 0) (from count : ℕ) → ((i : ℕ) → from ≤ i → i < from + count → P i) → Every P (span from count)

@@ -4,7 +4,7 @@ use Rattle.std.proofs.lemmas.Bool.{cases_lt}
 use Rattle.std.proofs.lemmas.List.{get_or_past}
 use Rattle.it_number.specs.Limit.{IsWithin}
 use Rattle.std.proofs.lemmas.Nat.{or_lt, and_le_r}
-use Rattle.it_space.specs.Sets.{IsInside}
+use Rattle.it_space.proofs.SetLemmas.{inside_below}
 use Rattle.it_polymatroid.specs.Polymatroid.{IsPolymatroid}
 use Rattle.it_polymatroid.specs.Tables.{SetFunction, IsTable, value_at}
 use Rattle.it_polymatroid.specs.TablePairs.{PairsHoldAt}
@@ -19,12 +19,9 @@ meet_below n s t h k = omega (arith, and_le_r s t)
 pub by_pairs : (n : ℕ) (h : ℕ → ℤ) → h 0 ≡ pos 0 → ((s : ℕ) → s < 2 ^ n → PairsHoldAt n h s) → IsPolymatroid n h
 by_pairs n h z f = record {
   empty = z;
-  rises = λ s t l i. (f s (inside_below s t l i) t l).rises i;
+  rises = λ s t l i. (f s (inside_below n s t l i) t l).rises i;
   submodular = λ s t k l. (f s k t l).submodular;
 }
-  where
-    inside_below : (s t : ℕ) → t < 2 ^ n → IsInside s t → s < 2 ^ n
-    inside_below s t l i = omega (arith, i, and_le_r s t)
 
 -- all values of a table are within the limit
 pub table_within : (f : SetFunction) → IsTable f → (s : ℕ) → IsWithin (value_at f s)

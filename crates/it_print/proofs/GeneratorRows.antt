@@ -50,10 +50,10 @@ pub generators_are : (s : Space) (ds : List LineDemand) (cs : List Constraint) �
     → generator_list s.variables cs
     ≡ map (λ (e : Elemental). generator_of (size_of s) Inequality (λ p. elemental_value s.variables p e)) (elementals s.variables) ++ map (λ (d : LineDemand). generator_of (size_of s) d.demand.kind d.demand.form) ds
 unfolding generator_list
-generators_are s ds cs a = ap₂ (λ (xs ys : List Generator). xs ++ ys) (elementals_are s (elementals s.variables) (every_of (IsElemental s.variables) (elementals s.variables) each)) (constraints_are s ds cs a)
+generators_are s ds cs a = ap₂ (λ (xs ys : List Generator). xs ++ ys) (elementals_are s (elementals s.variables) (every_of (IsElemental s.variables) (elementals s.variables) each_is_elemental)) (constraints_are s ds cs a)
   where
-    each : (i : ℕ) (d : Elemental) → i < length (elementals s.variables) → IsElemental s.variables (get_or (elementals s.variables) i d)
-    each i d l = subst (IsElemental s.variables) (get_or_default (elementals s.variables) i (Conditional 0) d l) (is_elemental s.variables i l)
+    each_is_elemental : (i : ℕ) (d : Elemental) → i < length (elementals s.variables) → IsElemental s.variables (get_or (elementals s.variables) i d)
+    each_is_elemental i d l = subst (IsElemental s.variables) (get_or_default (elementals s.variables) i (Conditional 0) d l) (is_elemental s.variables i l)
 
 -- the terms of a form are over the coordinates
 pub form_up_to : (size : ℕ) (form : Form) → IsUpTo size (terms_of_form size form)

@@ -35,7 +35,7 @@ pub set_step : (names : List (List ℕ)) (i set : ℕ) (name : List ℕ) (some :
     ≡ out ++ joined_texts (codes ",") some (members_from i (drop i names) set)
 set_step names i set name some out e =
     joined_step (codes ",") some (has_member set i) name (members_from (i + 1) (drop (i + 1) names) set) out
-    ∙ ap (λ ns. out ++ joined_texts (codes ",") some (members_from i ns set)) (sym (split names i e))
+    ∙ ap (λ ns. out ++ joined_texts (codes ",") some (members_from i ns set)) (sym (name_is_first names i e))
   where
-    split : (names : List (List ℕ)) (i : ℕ) → slice_get names i ≡ Some name → drop i names ≡ name ∷ drop (i + 1) names
-    split names i e = drop_more names i name (slice_get_within names i name e) ∙ ap (λ n. n ∷ drop (i + 1) names) (get_or_from_slice_get names i name name e)
+    name_is_first : (names : List (List ℕ)) (i : ℕ) → slice_get names i ≡ Some name → drop i names ≡ name ∷ drop (i + 1) names
+    name_is_first names i e = drop_more names i name (slice_get_within names i name e) ∙ ap (λ n. n ∷ drop (i + 1) names) (get_or_from_slice_get names i name name e)

@@ -2,7 +2,8 @@
 use Rattle.std.proofs.Common.{◌≡◌, ◌≢◌, ◌⊎◌, inl, inr, ℕ, zero, suc, ◌+◌, ◌^◌, ◌<◌, ◌≤◌, ℤ, pos, ◌+ℤ◌, ◌*ℤ◌, List, [], ◌∷◌, length, get_or, Bool, true, false, not, cond, nat_eq, nat_lt, eq-eqb, ne_eqb, refl, sym, ap, ◌∙◌, arith}
 use Rattle.std.specs.List.{filter, AllByRecursion as Every}
 use Rattle.std.proofs.lemmas.Int.{ints}
-use Rattle.std.proofs.lemmas.Bool.{eqb-true}
+use Rattle.std.proofs.lemmas.Bool.{eqb-true, false≢true, true≢false}
+use Rattle.std.proofs.Math.IntN.{+ℤ_idl}
 use Rattle.it_space.specs.Rows.{Terms, coefficient, value, IsUpTo, one_at}
 use Rattle.it_space.proofs.CanonicalRows.{other_is}
 use Rattle.it_space.proofs.EveryLemmas.{every_of, all_of, every-same, every-filter}
@@ -24,46 +25,43 @@ some_test x = grind (arith, Rattle.std.proofs.lemmas.Bool.Decides.nat_tests)
 
 coefficient_kept : (ts : Terms) (c : ℕ) → 0 < c → coefficient (filter (λ t. nat_lt 0 t.0) ts) c ≡ coefficient ts c
 coefficient_kept [] c h = refl
-coefficient_kept (t ∷ ts) c h = here t.0 t.1 (coefficient_kept ts c h)
+coefficient_kept (t ∷ ts) c h = by_place t.0 t.1 (coefficient_kept ts c h)
   where
-    none : (c : ℕ) → 0 < c → (v x : ℤ) → cond (nat_eq 0 c) v (pos 0) +ℤ x ≡ x
-    none c h v x = ap (λ b. cond b v (pos 0) +ℤ x) (ne_eqb 0 c (λ e. omega (arith, e))) ∙ plain x
-      where
-        plain : (x : ℤ) → pos 0 +ℤ x ≡ x
-        plain x = omega (arith, ints)
+    other_coefficient : (c : ℕ) → 0 < c → (v x : ℤ) → cond (nat_eq 0 c) v (pos 0) +ℤ x ≡ x
+    other_coefficient c h v x = ap (λ b. cond b v (pos 0) +ℤ x) (ne_eqb 0 c (λ e. omega (arith, e))) ∙ +ℤ_idl x
 
-    here : (x : ℕ) (v : ℤ) → coefficient (filter (λ t. nat_lt 0 t.0) ts) c ≡ coefficient ts c
+    by_place : (x : ℕ) (v : ℤ) → coefficient (filter (λ t. nat_lt 0 t.0) ts) c ≡ coefficient ts c
         → coefficient (cond (nat_lt 0 x) ((x, v) ∷ filter (λ t. nat_lt 0 t.0) ts) (filter (λ t. nat_lt 0 t.0) ts)) c ≡ cond (nat_eq x c) v (pos 0) +ℤ coefficient ts c
-    here zero v e = e ∙ sym (none c h v (coefficient ts c))
-    here (suc x) v e = ap (λ b. coefficient (cond b ((suc x, v) ∷ filter (λ t. nat_lt 0 t.0) ts) (filter (λ t. nat_lt 0 t.0) ts)) c) (some_test x) ∙ ap (λ y. cond (nat_eq (suc x) c) v (pos 0) +ℤ y) e
+    by_place zero v e = e ∙ sym (other_coefficient c h v (coefficient ts c))
+    by_place (suc x) v e = ap (λ b. coefficient (cond b ((suc x, v) ∷ filter (λ t. nat_lt 0 t.0) ts) (filter (λ t. nat_lt 0 t.0) ts)) c) (some_test x) ∙ ap (λ y. cond (nat_eq (suc x) c) v (pos 0) +ℤ y) e
 
 value_kept : (ts : Terms) (p : ℕ → ℤ) → p 0 ≡ pos 0 → value (filter (λ t. nat_lt 0 t.0) ts) p ≡ value ts p
 value_kept [] p z = refl
-value_kept (t ∷ ts) p z = here t.0 t.1 (value_kept ts p z)
+value_kept (t ∷ ts) p z = by_place t.0 t.1 (value_kept ts p z)
   where
-    here : (x : ℕ) (v : ℤ) → value (filter (λ t. nat_lt 0 t.0) ts) p ≡ value ts p
+    by_place : (x : ℕ) (v : ℤ) → value (filter (λ t. nat_lt 0 t.0) ts) p ≡ value ts p
         → value (cond (nat_lt 0 x) ((x, v) ∷ filter (λ t. nat_lt 0 t.0) ts) (filter (λ t. nat_lt 0 t.0) ts)) p ≡ v *ℤ p x +ℤ value ts p
-    here zero v e = e ∙ plain v (value ts p) ∙ ap (λ y. v *ℤ y +ℤ value ts p) (sym z)
+    by_place zero v e = e ∙ zero_term v (value ts p) ∙ ap (λ y. v *ℤ y +ℤ value ts p) (sym z)
       where
-        plain : (v x : ℤ) → x ≡ v *ℤ pos 0 +ℤ x
-        plain v x = omega (arith, ints)
-    here (suc x) v e = ap (λ b. value (cond b ((suc x, v) ∷ filter (λ t. nat_lt 0 t.0) ts) (filter (λ t. nat_lt 0 t.0) ts)) p) (some_test x) ∙ ap (λ y. v *ℤ p (suc x) +ℤ y) e
+        zero_term : (v x : ℤ) → x ≡ v *ℤ pos 0 +ℤ x
+        zero_term v x = omega (arith, ints)
+    by_place (suc x) v e = ap (λ b. value (cond b ((suc x, v) ∷ filter (λ t. nat_lt 0 t.0) ts) (filter (λ t. nat_lt 0 t.0) ts)) p) (some_test x) ∙ ap (λ y. v *ℤ p (suc x) +ℤ y) e
 
 -- no coefficient where no term has the coordinate
 pub coefficient_absent : (ts : Terms) (c : ℕ) → Every (λ t. t.0 ≢ c) ts → coefficient ts c ≡ pos 0
 coefficient_absent [] c e = refl
 coefficient_absent (t ∷ ts) c e = other_is t ts c e.0 ∙ coefficient_absent ts c e.1
 
-kept_some : (ts : Terms) → Every (λ t. t.0 ≢ 0) (filter (λ t. nat_lt 0 t.0) ts)
-kept_some ts = every-filter (λ t. t.0 ≢ 0) (λ t. nat_lt 0 t.0) ts (each ts)
-  where
-    apart : (x : ℕ) → nat_lt 0 x ≡ true → x ≢ 0
-    apart zero e = absurd (cc)
-    apart (suc x) e = λ z. omega (arith, z)
+not_zero : (x : ℕ) → nat_lt 0 x ≡ true → x ≢ 0
+not_zero zero e = absurd (cc)
+not_zero (suc x) e = λ z. omega (arith, z)
 
-    each : (ts : Terms) → Every (λ t. nat_lt 0 t.0 ≡ true → t.0 ≢ 0) ts
-    each [] = tt
-    each (t ∷ ts) = (apart t.0, each ts)
+kept_some : (ts : Terms) → Every (λ t. t.0 ≢ 0) (filter (λ t. nat_lt 0 t.0) ts)
+kept_some ts = every-filter (λ t. t.0 ≢ 0) (λ t. nat_lt 0 t.0) ts (coordinates_not_zero ts)
+  where
+    coordinates_not_zero : (ts : Terms) → Every (λ t. nat_lt 0 t.0 ≡ true → t.0 ≢ 0) ts
+    coordinates_not_zero [] = tt
+    coordinates_not_zero (t ∷ ts) = (not_zero t.0, coordinates_not_zero ts)
 
 -- ---- rows over closed sets
 
@@ -104,17 +102,14 @@ rise_apart from to (x ∷ xs) r zero (suc k) h l e = absurd (omega (arith, rise_
 rise_apart from to (x ∷ xs) r (suc i) zero h l e = absurd (omega (arith, rise_low (x + 1) to xs r.1 i (omega arith), e))
 rise_apart from to (x ∷ xs) r (suc i) (suc k) h l e = ap suc (rise_apart (x + 1) to xs r.1 i k (omega arith) (omega arith) e)
 
-pub find : (xs : List ℕ) (c : ℕ) → In xs c ⊎ Every (λ x. x ≢ c) xs
-find [] c = inr tt
-find (x ∷ xs) c = by_test (nat_eq x c) refl (find xs c)
+pub listed_or_absent : (xs : List ℕ) (c : ℕ) → In xs c ⊎ Every (λ x. x ≢ c) xs
+listed_or_absent [] c = inr tt
+listed_or_absent (x ∷ xs) c = by_test (nat_eq x c) refl (listed_or_absent xs c)
   where
-    apart : true ≡ false → ⊥
-    apart e = cc
-
     by_test : (b : Bool) → nat_eq x c ≡ b → In xs c ⊎ Every (λ x. x ≢ c) xs → In (x ∷ xs) c ⊎ Every (λ x. x ≢ c) (x ∷ xs)
     by_test true e f = inl (zero, omega arith, eqb-true x c e)
     by_test false e (inl f) = inl (suc f.0, omega (arith, f.1), f.2)
-    by_test false e (inr f) = inr ((λ q. apart (sym (eq-eqb x c q) ∙ e)), f)
+    by_test false e (inr f) = inr ((λ q. true≢false (sym (eq-eqb x c q) ∙ e)), f)
 
 -- the places are among them
 module _ (n rates : ℕ) (ds : List Dependence) (a : AreDependences n ds) where
@@ -124,31 +119,24 @@ module _ (n rates : ℕ) (ds : List Dependence) (a : AreDependences n ds) where
   pub coords_rise : RiseTo 1 (2 ^ n + rates) coords
   coords_rise = (coordinates_serve n rates ds a).0
 
-  avoided : (c : ℕ) → Every (λ x. x ≢ c) coords → (x : ℕ) → x < 2 ^ n + rates → place n ds x ≢ 0 → place n ds x ≢ c
-  avoided c e x h some q = apart (sym (ap not (eq-eqb (place n ds x) c q)) ∙ (coordinates_serve n rates ds a).1 x h some (λ y. not (nat_eq y c))
+  place_differs : (c : ℕ) → Every (λ x. x ≢ c) coords → (x : ℕ) → x < 2 ^ n + rates → place n ds x ≢ 0 → place n ds x ≢ c
+  place_differs c e x h some q = false≢true (sym (ap not (eq-eqb (place n ds x) c q)) ∙ (coordinates_serve n rates ds a).1 x h some (λ y. not (nat_eq y c))
       (all_of (λ y. not (nat_eq y c) ≡ true) coords (every-same (λ y. y ≢ c) (λ y. not (nat_eq y c) ≡ true) coords (λ y d. ap not (ne_eqb y c d)) e)))
-    where
-      apart : false ≡ true → ⊥
-      apart e = cc
 
   pub place_listed : (x : ℕ) → x < 2 ^ n + rates → place n ds x ≢ 0 → In coords (place n ds x)
-  place_listed x h some = by_cases (find coords (place n ds x))
+  place_listed x h some = by_cases (listed_or_absent coords (place n ds x))
     where
       by_cases : In coords (place n ds x) ⊎ Every (λ y. y ≢ place n ds x) coords → In coords (place n ds x)
       by_cases (inl f) = f
-      by_cases (inr f) = absurd (avoided (place n ds x) f x h some refl)
+      by_cases (inr f) = absurd (place_differs (place n ds x) f x h some refl)
 
   -- a row over closed sets has its terms at these coordinates, and no coefficient elsewhere
   pub collapsed_over : (row : Terms) → Every (λ t. t.0 < 2 ^ n + rates) row → Every (λ (t : ℕ × ℤ). In coords t.0) (collapsed_row n ds row)
-  collapsed_over row u = every-filter (λ (t : ℕ × ℤ). In coords t.0) (λ t. nat_lt 0 t.0) (placed_terms n ds row) (each row u)
+  collapsed_over row u = every-filter (λ (t : ℕ × ℤ). In coords t.0) (λ t. nat_lt 0 t.0) (placed_terms n ds row) (places_listed row u)
     where
-      apart : (x : ℕ) → nat_lt 0 x ≡ true → x ≢ 0
-      apart zero e = absurd (cc)
-      apart (suc x) e = λ z. omega (arith, z)
-
-      each : (ts : Terms) → Every (λ t. t.0 < 2 ^ n + rates) ts → Every (λ (t : ℕ × ℤ). nat_lt 0 t.0 ≡ true → In coords t.0) (placed_terms n ds ts)
-      each [] u = tt
-      each (t ∷ ts) u = ((λ e. place_listed t.0 u.0 (apart (place n ds t.0) e)), each ts u.1)
+      places_listed : (ts : Terms) → Every (λ t. t.0 < 2 ^ n + rates) ts → Every (λ (t : ℕ × ℤ). nat_lt 0 t.0 ≡ true → In coords t.0) (placed_terms n ds ts)
+      places_listed [] u = tt
+      places_listed (t ∷ ts) u = ((λ e. place_listed t.0 u.0 (not_zero (place n ds t.0) e)), places_listed ts u.1)
 
   pub collapsed_none : (row : Terms) (c : ℕ) → Every (λ t. t.0 < 2 ^ n + rates) row → Every (λ x. x ≢ c) coords → coefficient (collapsed_row n ds row) c ≡ pos 0
   collapsed_none row c u e = coefficient_absent (collapsed_row n ds row) c (every-same (λ (t : ℕ × ℤ). In coords t.0) (λ t. t.0 ≢ c) (collapsed_row n ds row)

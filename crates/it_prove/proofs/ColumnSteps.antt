@@ -39,9 +39,9 @@ same_columns : (k : Kind) (r t : Terms) → ((c : ℕ) → coefficient r c ≡ c
 same_columns Inequality r t e = (e, tt)
 same_columns Equation r t e = (e, ((λ c. coefficient-negated_terms c r ∙ ap neg_ℤ (e c) ∙ sym (coefficient-negated_terms c t)), tt))
 
-pub pushed : (old new : List Terms) (k l : Kind) (r t : Terms) → new ≡ old ++ columns_by k r → k ≡ l → ((c : ℕ) → coefficient r c ≡ coefficient t c)
+pub same_after_push : (old new : List Terms) (k l : Kind) (r t : Terms) → new ≡ old ++ columns_by k r → k ≡ l → ((c : ℕ) → coefficient r c ≡ coefficient t c)
     → (front xs : List Terms) → SameRows (front ++ old) xs → SameRows (front ++ new) (xs ++ columns_by l t)
-pushed old new k l r t is kind e front xs s =
+same_after_push old new k l r t is kind e front xs s =
     subst (λ (ys : List Terms). SameRows ys (xs ++ columns_by l t)) (append_assoc front old (columns_by k r) ∙ ap (λ ys. front ++ ys) (sym is))
     (subst (λ (m : Kind). SameRows ((front ++ old) ++ columns_by k r) (xs ++ columns_by m t)) kind (same-append (front ++ old) xs (columns_by k r) (columns_by k t) s (same_columns k r t e)))
 
@@ -69,15 +69,15 @@ module _ (n : ℕ) (ds : List Dependence) (gs : List Generator) where
       → ((xs : List Terms) → SameRows old xs → SameRows new (xs ++ columns_of (collapsed_generator n ds (generator_at gs i))))
       → CollapseFits n ds (generator_at gs i).row → AreColumns n ds gs i old → AreColumns n ds gs (i + 1) new
   columns_more i old new h add fit a = record {
-    same = subst (SameRows new) (sym all) (add (columns (collapsed_generators n ds (take i gs))) a.same);
+    same = subst (SameRows new) (sym columns_with_next) (add (columns (collapsed_generators n ds (take i gs))) a.same);
     fits = λ j l. by_cases j l (cases_lt j i);
   }
     where
-      one : i + 1 ≡ suc i
-      one = omega arith
+      plus_one : i + 1 ≡ suc i
+      plus_one = omega arith
 
-      all : columns (collapsed_generators n ds (take (i + 1) gs)) ≡ columns (collapsed_generators n ds (take i gs)) ++ columns_of (collapsed_generator n ds (generator_at gs i))
-      all = ap (λ k. columns (collapsed_generators n ds (take k gs))) one ∙ ap (λ hs. columns (collapsed_generators n ds hs)) (take_more gs i h)
+      columns_with_next : columns (collapsed_generators n ds (take (i + 1) gs)) ≡ columns (collapsed_generators n ds (take i gs)) ++ columns_of (collapsed_generator n ds (generator_at gs i))
+      columns_with_next = ap (λ k. columns (collapsed_generators n ds (take k gs))) plus_one ∙ ap (λ hs. columns (collapsed_generators n ds hs)) (take_more gs i h)
           ∙ ap columns (map-append (collapsed_generator n ds) (take i gs) (generator_at gs i ∷ []))
           ∙ columns-append (collapsed_generators n ds (take i gs)) (collapsed_generator n ds (generator_at gs i) ∷ [])
           ∙ ap (λ xs. columns (collapsed_generators n ds (take i gs)) ++ xs) (columns-one (collapsed_generator n ds (generator_at gs i)))

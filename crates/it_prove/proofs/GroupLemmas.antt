@@ -8,12 +8,19 @@ use Rattle.it_space.specs.Rows.{Terms, coefficient, value, single_term}
 use Rattle.it_space.proofs.TermLemmas.{coefficient-negated_terms, value-single_term}
 use Rattle.it_polymatroid.specs.Certificates.{IsAllowed}
 use Rattle.std.specs.List.{AllByRecursion as Every}
+use Rattle.std.proofs.Math.IntN.{+ℤ_idr}
 use Rattle.it_space.proofs.EveryLemmas.{every-append}
 use Rattle.it_elemental.specs.Generators.{Generator, generator_at, forms_of, is_equation}
 use Rattle.it_check.specs.Verdicts.{column}
 use Rattle.it_prove.specs.Columns.{columns_by, columns, column_count, weight_by, weights_from}
 
 -- ---- the sum over columns from number j on of f of the number times the coefficient at a coordinate
+
+same_index : (i : ℕ) → i ≡ i + zero
+same_index i = omega arith
+
+next_index : (i k : ℕ) → i + 1 + k ≡ i + suc k
+next_index i k = omega arith
 
 module _ (c : ℕ) where
   abbrev total : ℕ → List Terms → (ℕ → ℤ) → ℤ
@@ -35,15 +42,12 @@ module _ (c : ℕ) where
   total-one : (i j k : ℕ) (x : ℤ) (cols : List Terms) → i < length cols → k ≡ j + i → total j cols (λ n. cond (eqb k n) x (pos 0)) ≡ x *ℤ coefficient (get_or cols i []) c
   total-one i j k x [] h e = absurd (omega arith)
   total-one zero j k x (r ∷ rs) h e =
-      ap₂ (λ b y. cond b x (pos 0) *ℤ coefficient r c +ℤ y) (eq-eqb k j (omega arith)) (total-past k (j + 1) x rs (omega arith)) ∙ plain (x *ℤ coefficient r c)
-    where
-      plain : (y : ℤ) → y +ℤ pos 0 ≡ y
-      plain y = omega (arith, ints)
+      ap₂ (λ b y. cond b x (pos 0) *ℤ coefficient r c +ℤ y) (eq-eqb k j (omega arith)) (total-past k (j + 1) x rs (omega arith)) ∙ +ℤ_idr (x *ℤ coefficient r c)
   total-one (suc i) j k x (r ∷ rs) h e =
-      ap₂ (λ b y. cond b x (pos 0) *ℤ coefficient r c +ℤ y) (ne_eqb k j (λ q. omega arith)) (total-one i (j + 1) k x rs (omega arith) (omega arith)) ∙ plain (coefficient r c) (x *ℤ coefficient (get_or rs i []) c)
+      ap₂ (λ b y. cond b x (pos 0) *ℤ coefficient r c +ℤ y) (ne_eqb k j (λ q. omega arith)) (total-one i (j + 1) k x rs (omega arith) (omega arith)) ∙ zero_term (coefficient r c) (x *ℤ coefficient (get_or rs i []) c)
     where
-      plain : (z y : ℤ) → pos 0 *ℤ z +ℤ y ≡ y
-      plain z y = omega (arith, ints)
+      zero_term : (z y : ℤ) → pos 0 *ℤ z +ℤ y ≡ y
+      zero_term z y = omega (arith, ints)
 
   -- a sum over weights is one over all columns
   pub value_total : (cols : List Terms) (ts : Terms) → Every (λ t. t.0 < length cols) ts → value ts (λ j. coefficient (get_or cols j []) c) ≡ total 0 cols (coefficient ts)
@@ -57,31 +61,25 @@ module _ (c : ℕ) where
       → total j (columns_by k r ++ cols) f ≡ weight_by k f j *ℤ coefficient r c +ℤ total (j + column_count k) cols f
   one_generator Inequality r j cols f = refl
   one_generator Equation r j cols f =
-      ap₂ (λ x y. f j *ℤ coefficient r c +ℤ (f (j + 1) *ℤ x +ℤ y)) (coefficient-negated_terms c r) (ap (λ m. total m cols f) two)
-      ∙ both (f j) (f (j + 1)) (coefficient r c) (total (j + 2) cols f)
+      ap₂ (λ x y. f j *ℤ coefficient r c +ℤ (f (j + 1) *ℤ x +ℤ y)) (coefficient-negated_terms c r) (ap (λ m. total m cols f) plus_two)
+      ∙ weight_difference (f j) (f (j + 1)) (coefficient r c) (total (j + 2) cols f)
     where
-      two : j + 1 + 1 ≡ j + 2
-      two = omega arith
+      plus_two : j + 1 + 1 ≡ j + 2
+      plus_two = omega arith
 
-      both : (x y z s : ℤ) → x *ℤ z +ℤ (y *ℤ neg_ℤ z +ℤ s) ≡ (x -ℤ y) *ℤ z +ℤ s
-      both x y z s = omega (arith, zring)
+      weight_difference : (x y z s : ℤ) → x *ℤ z +ℤ (y *ℤ neg_ℤ z +ℤ s) ≡ (x -ℤ y) *ℤ z +ℤ s
+      weight_difference x y z s = omega (arith, zring)
 
   -- the sum over the columns is that over the generators with their weights
-  pub regrouped : (all gs : List Generator) (i j : ℕ) (f : ℕ → ℤ) → ((k : ℕ) → k < length gs → generator_at all (i + k) ≡ generator_at gs k)
+  pub total_by_generators : (all gs : List Generator) (i j : ℕ) (f : ℕ → ℤ) → ((k : ℕ) → k < length gs → generator_at all (i + k) ≡ generator_at gs k)
       → total j (columns gs) f ≡ value (weights_from i j gs f) (column all c)
   unfolding columns weights_from
-  regrouped all [] i j f h = refl
-  regrouped all (g ∷ gs) i j f h =
-      let here : generator_at all i ≡ g = ap (generator_at all) (same i) ∙ h zero (omega arith) in
+  total_by_generators all [] i j f h = refl
+  total_by_generators all (g ∷ gs) i j f h =
+      let here : generator_at all i ≡ g = ap (generator_at all) (same_index i) ∙ h zero (omega arith) in
       one_generator g.kind g.row j (columns gs) f
-      ∙ ap₂ (λ x y. weight_by g.kind f j *ℤ x +ℤ y) (sym (ap (λ (g : Generator). coefficient g.row c) here)) (regrouped all gs (i + 1) (j + column_count g.kind) f (λ k l. ap (generator_at all) (next i k) ∙ h (suc k) (omega arith)))
+      ∙ ap₂ (λ x y. weight_by g.kind f j *ℤ x +ℤ y) (sym (ap (λ (g : Generator). coefficient g.row c) here)) (total_by_generators all gs (i + 1) (j + column_count g.kind) f (λ k l. ap (generator_at all) (next_index i k) ∙ h (suc k) (omega arith)))
       ∙ sym (value-single_term i (weight_by g.kind f j) (weights_from (i + 1) (j + column_count g.kind) gs f) (column all c))
-    where
-      same : (i : ℕ) → i ≡ i + zero
-      same i = omega arith
-
-      next : (i k : ℕ) → i + 1 + k ≡ i + suc k
-      next i k = omega arith
 
 -- ---- the weights that stand in the certificate may stand there
 
@@ -99,13 +97,7 @@ pub weights_allowed : (all gs : List Generator) (i j : ℕ) (f : ℕ → ℤ) �
 unfolding weights_from
 weights_allowed all [] i j f p b h = tt
 weights_allowed all (g ∷ gs) i j f p b h =
-    let here : generator_at all i ≡ g = ap (generator_at all) (same i) ∙ h zero (omega arith) in
+    let here : generator_at all i ≡ g = ap (generator_at all) (same_index i) ∙ h zero (omega arith) in
     every-append (IsAllowed (forms_of all)) (single_term i (weight_by g.kind f j)) (weights_from (i + 1) (j + column_count g.kind) gs f)
     (every-single_term (IsAllowed (forms_of all)) i (weight_by g.kind f j) (omega arith, λ e. least_weight g.kind f j p (sym (ap (λ (g : Generator). is_equation g.kind) here) ∙ e)))
-    (weights_allowed all gs (i + 1) (j + column_count g.kind) f p (omega arith) (λ k l. ap (generator_at all) (next i k) ∙ h (suc k) (omega arith)))
-  where
-    same : (i : ℕ) → i ≡ i + zero
-    same i = omega arith
-
-    next : (i k : ℕ) → i + 1 + k ≡ i + suc k
-    next i k = omega arith
+    (weights_allowed all gs (i + 1) (j + column_count g.kind) f p (omega arith) (λ k l. ap (generator_at all) (next_index i k) ∙ h (suc k) (omega arith)))

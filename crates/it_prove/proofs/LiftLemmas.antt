@@ -1,7 +1,7 @@
 -- Weights over closed sets that sum to the collapsed target are what a lift is given, and what it gives certifies the target.
-use Rattle.std.proofs.Common.{◌≡◌, ◌≢◌, ◌⊎◌, inl, inr, ℕ, suc, ◌+◌, ◌-◌, ◌^◌, ◌<◌, ◌≤◌, ℤ, pos, ◌+ℤ◌, ◌-ℤ◌, ◌*ℤ◌, ◌≤ℤ◌, List, [], ◌∷◌, ◌++◌, length, Bool, true, false, cond, nat_eq, refl, sym, ap, ap₂, subst, ◌∙◌, arith, All}
+use Rattle.std.proofs.Common.{◌≡◌, ◌≢◌, ◌⊎◌, inl, inr, ℕ, suc, ◌+◌, ◌^◌, ◌<◌, ◌≤◌, ℤ, pos, ◌+ℤ◌, ◌-ℤ◌, ◌*ℤ◌, ◌≤ℤ◌, List, [], ◌∷◌, ◌++◌, length, Bool, true, false, cond, nat_eq, refl, sym, ap, ap₂, subst, ◌∙◌, arith, All}
 use Rattle.std.proofs.lemmas.Int.{ints}
-use Rattle.std.proofs.lemmas.Bool.{eqb-true}
+use Rattle.std.proofs.lemmas.Bool.{eqb-true, false≢true}
 use Rattle.it_number.specs.Limit.{IsWithin}
 use Rattle.it_rational.specs.Rational.{Rational}
 use Rattle.it_rational.proofs.Field.{field_ℚ}
@@ -11,9 +11,10 @@ use Rattle.it_space.specs.Problems.{ProblemView, IsProblem}
 use Rattle.it_space.specs.Answers.{CertificateView}
 use Rattle.it_space.specs.Rows.{Terms, Ascends, coefficient, value, IsUpTo, one_at, single_term}
 use Rattle.it_space.specs.Spaces.{size_of}
-use Rattle.it_space.proofs.CanonicalRows.{head_is, other_is, told}
+use Rattle.it_space.proofs.CanonicalRows.{head_is, other_is, rows_by_coefficients}
 use Rattle.it_polymatroid.specs.Certificates.{IsAllowed, combination}
 use Rattle.std.specs.List.{AllByRecursion as Every, flat_map}
+use Rattle.std.proofs.Math.IntN.{+ℤ_idr, *ℤ-zero}
 use Rattle.it_space.proofs.EveryLemmas.{every_of, all_of, every-same}
 use Rattle.it_polymatroid.proofs.Forms.{one_at-zero}
 use Rattle.it_elemental.specs.Generators.{Generator, generators, generator_at, generators_of}
@@ -35,7 +36,7 @@ use Rattle.it_prove.specs.Closed.{collapsed_row, collapsed_generators, closed_pl
 use Rattle.it_prove.specs.Columns.{columns, columns_by, columns_of, column_count, weight_by, weights_from}
 use Rattle.it_prove.specs.Scaling.{NumbersFit, numbers_of, scale_of, scaled_weights}
 use Rattle.it_prove.specs.ProofViews.{IsLifted, closed_weights}
-use Rattle.it_prove.proofs.ClosedRows.{In, find, collapsed_at, collapsed_generator_at, collapsed_none}
+use Rattle.it_prove.proofs.ClosedRows.{In, listed_or_absent, collapsed_at, collapsed_generator_at, collapsed_none}
 use Rattle.it_prove.proofs.GroupLemmas.{weights_allowed}
 use Rattle.it_prove.proofs.WeightLemmas.{adds_up, scale_least, scaled_positive, scaled_canonical}
 use Rattle.it_space.proofs.TermLemmas.{ascends-single_term}
@@ -66,19 +67,16 @@ pub coefficients_within : (from : ℕ) (ts : Terms) → Ascends from ts → (c :
 coefficients_within from [] a c = omega arith
 coefficients_within from (t ∷ ts) a c = by_test (nat_eq t.0 c) refl (coefficients_within (t.0 + 1) ts a.3 c)
   where
-    apart : false ≡ true → ⊥
-    apart e = cc
-
     by_test : (b : Bool) → nat_eq t.0 c ≡ b → IsWithin (coefficient ts c) → IsWithin (coefficient (t ∷ ts) c)
     by_test true e w = subst (λ (k : ℕ). IsWithin (coefficient (t ∷ ts) k)) (eqb-true t.0 c e) (subst IsWithin (sym (head_is from t ts a)) a.2)
-    by_test false e w = subst IsWithin (sym (other_is t ts c (λ q. apart (sym e ∙ Rattle.std.proofs.Common.eq-eqb t.0 c q)))) w
+    by_test false e w = subst IsWithin (sym (other_is t ts c (λ q. false≢true (sym e ∙ Rattle.std.proofs.Common.eq-eqb t.0 c q)))) w
 
 weight_within : (k : Kind) (f : ℕ → ℤ) (j : ℕ) → ((n : ℕ) → pos 0 ≤ℤ f n) → ((n : ℕ) → IsWithin (f n)) → IsWithin (weight_by k f j)
 weight_within Inequality f j p w = w j
-weight_within Equation f j p w = between (f j) (f (j + 1)) (p j) (p (j + 1)) (w j) (w (j + 1))
+weight_within Equation f j p w = difference_within (f j) (f (j + 1)) (p j) (p (j + 1)) (w j) (w (j + 1))
   where
-    between : (x y : ℤ) → pos 0 ≤ℤ x → pos 0 ≤ℤ y → IsWithin x → IsWithin y → IsWithin (x -ℤ y)
-    between x y h k u v = omega (arith, ints, h, k, u, v)
+    difference_within : (x y : ℤ) → pos 0 ≤ℤ x → pos 0 ≤ℤ y → IsWithin x → IsWithin y → IsWithin (x -ℤ y)
+    difference_within x y h k u v = omega (arith, ints, h, k, u, v)
 
 weights_ascend : (gs : List Generator) (i j : ℕ) (f : ℕ → ℤ) → ((n : ℕ) → pos 0 ≤ℤ f n) → ((n : ℕ) → IsWithin (f n)) → Ascends i (weights_from i j gs f)
 unfolding weights_from
@@ -97,10 +95,10 @@ weighted_value gs (w ∷ ws) p f e = ap₂ (λ x y. w.1 *ℤ x +ℤ y) (e w.0) (
 
 value_null : (ws : Terms) (f : ℕ → ℤ) → ((i : ℕ) → f i ≡ pos 0) → value ws f ≡ pos 0
 value_null [] f e = refl
-value_null (w ∷ ws) f e = ap₂ (λ x y. w.1 *ℤ x +ℤ y) (e w.0) (value_null ws f e) ∙ none w.1
+value_null (w ∷ ws) f e = ap₂ (λ x y. w.1 *ℤ x +ℤ y) (e w.0) (value_null ws f e) ∙ zero_value w.1
   where
-    none : (x : ℤ) → x *ℤ pos 0 +ℤ pos 0 ≡ pos 0
-    none x = omega (arith, ints)
+    zero_value : (x : ℤ) → x *ℤ pos 0 +ℤ pos 0 ≡ pos 0
+    zero_value x = omega (arith, ints)
 
 pub below_size : (size m : ℕ) (row : Terms) → size < m → IsUpTo size row → Every (λ (t : ℕ × ℤ). t.0 < m) row
 below_size size m row h u = every-same (λ (t : ℕ × ℤ). (1 ≤ t.0) × (t.0 ≤ size)) (λ (t : ℕ × ℤ). t.0 < m) row (λ t b. omega (arith, b.1)) (every_of (λ (t : ℕ × ℤ). (1 ≤ t.0) × (t.0 ≤ size)) row u)
@@ -122,9 +120,6 @@ read_is q d s l = ap₂ (λ x y. record { space = x; list = y }) (sym s) (sym l)
 
 module _ (q : ProblemView) (target : Terms) (k : IsProblem q) (u : IsUpTo (size_of q.space) target) (ws : List (ℕ × Rational))
     (a : SumsUp field_ℚ (length (closed_places q)) (length (columns (closed_generators q))) (feasibility_problem (closed_places q) (columns (closed_generators q)) (closed_target q target)) ws) where
-  n : ℕ
-  n = q.space.variables
-
   sizes : size_of q.space < 2 ^ q.space.variables + q.space.rates
   sizes = omega (arith, Rattle.std.proofs.lemmas.Nat.pow_pos q.space.variables)
 
@@ -139,20 +134,17 @@ module _ (q : ProblemView) (target : Terms) (k : IsProblem q) (u : IsUpTo (size_
   closed_sum c (inl i) = adds_up (closed_generators q) (closed_places q) (closed_target q target) ws a c i
   closed_sum c (inr e) =
       ap (λ x. pos (scale_of (numbers_of ws)) *ℤ x) (collapsed_none q.space.variables q.space.rates (dependences_of q) (dependences_sound q k) target c (below_size (size_of q.space) (2 ^ q.space.variables + q.space.rates) target sizes u) e)
-      ∙ none (pos (scale_of (numbers_of ws)))
+      ∙ *ℤ-zero (pos (scale_of (numbers_of ws)))
       ∙ sym (value_null (weights_from 0 0 (closed_generators q) (coefficient (scaled_weights ws))) (column (closed_generators q) c)
       (λ i. ap (λ (g : Generator). coefficient g.row c) (collapsed_generator_at q.space.variables (dependences_of q) (generators q) i)
       ∙ collapsed_none q.space.variables q.space.rates (dependences_of q) (dependences_sound q k) (generator_at (generators q) i).row c (row_up_to i) e))
-    where
-      none : (x : ℤ) → x *ℤ pos 0 ≡ pos 0
-      none x = omega (arith, ints)
 
   spread_sum : (c : ℕ) → 0 < c → c < size_of q.space + 1
       → pos (scale_of (numbers_of ws)) *ℤ value target (spread_out q.space.variables (dependences_of q) (one_at c))
       ≡ combination (weights_from 0 0 (generators q) (coefficient (scaled_weights ws))) (λ i. value (generator_at (generators q) i).row (spread_out q.space.variables (dependences_of q) (one_at c)))
   spread_sum c h l =
       ap (λ x. pos (scale_of (numbers_of ws)) *ℤ x) (collapsed_at q.space.variables (dependences_of q) target c h)
-      ∙ closed_sum c (find (closed_places q) c)
+      ∙ closed_sum c (listed_or_absent (closed_places q) c)
       ∙ ap (λ ts. value ts (column (closed_generators q) c)) (weights_same q.space.variables (dependences_of q) (generators q) 0 0 (coefficient (scaled_weights ws)))
       ∙ sym (weighted_value (generators q) (weights_from 0 0 (generators q) (coefficient (scaled_weights ws))) (spread_out q.space.variables (dependences_of q) (one_at c)) (column (closed_generators q) c)
       (λ i. collapsed_at q.space.variables (dependences_of q) (generator_at (generators q) i).row c h ∙ sym (ap (λ (g : Generator). coefficient g.row c) (collapsed_generator_at q.space.variables (dependences_of q) (generators q) i))))
@@ -162,21 +154,21 @@ module _ (q : ProblemView) (target : Terms) (k : IsProblem q) (u : IsUpTo (size_
     parts_canonical = weights_ascend (generators q) 0 0 (coefficient (scaled_weights ws)) (scaled_positive (closed_generators q) (closed_places q) (closed_target q target) ws a)
         (coefficients_within 0 (scaled_weights ws) (scaled_canonical (closed_generators q) (closed_places q) (closed_target q target) ws a fit.numbers))
 
-    given : IsCertificateOverClosed q (read_of q) target (closed_weights q ws)
-    given = record {
+    closed_certificate : IsCertificateOverClosed q (read_of q) target (closed_weights q ws)
+    closed_certificate = record {
       order = canonical_weights_ascend 0 (closed_weights q ws).parts parts_canonical;
       allowed = all_of (IsAllowed (generators_of q)) (closed_weights q ws).parts
-          (weights_allowed (generators q) (generators q) 0 0 (coefficient (scaled_weights ws)) (scaled_positive (closed_generators q) (closed_places q) (closed_target q target) ws a) (omega arith) (λ i l. ap (generator_at (generators q)) (plain i)));
+          (weights_allowed (generators q) (generators q) 0 0 (coefficient (scaled_weights ws)) (scaled_positive (closed_generators q) (closed_places q) (closed_target q target) ws a) (omega arith) (λ i l. ap (generator_at (generators q)) (zero_plus i)));
       within = all_of (λ (t : ℕ × ℤ). IsWithin t.1) (closed_weights q ws).parts (each_within 0 (closed_weights q ws).parts parts_canonical);
       sums = spread_sum;
     }
       where
-        plain : (i : ℕ) → 0 + i ≡ i
-        plain i = omega arith
+        zero_plus : (i : ℕ) → 0 + i ≡ i
+        zero_plus i = omega arith
 
     -- as the code has it
     pub lift_given : (d : DependencesView) (w : CertificateView) → read_of q ≡ d → w ≡ closed_weights q ws → IsCertificateOverClosed q d target w
-    lift_given d w e s = subst (λ (x : DependencesView). IsCertificateOverClosed q x target w) e (subst (IsCertificateOverClosed q (read_of q) target) (sym s) given)
+    lift_given d w e s = subst (λ (x : DependencesView). IsCertificateOverClosed q x target w) e (subst (IsCertificateOverClosed q (read_of q) target) (sym s) closed_certificate)
 
     -- what it gives certifies the target
     pub lift_certifies : (d : DependencesView) (w new : CertificateView) → w ≡ closed_weights q ws → IsLiftOf q d target w new → CertifiesRow q target new
@@ -188,7 +180,7 @@ module _ (q : ProblemView) (target : Terms) (k : IsProblem q) (u : IsUpTo (size_
 
     -- so does whatever is the lift by its coefficients
     pub lifted_certifies : (w : CertificateView) → IsLifted q target ws w → CertifiesRow q target w
-    lifted_certifies w l = lift_certifies (read_of q) (closed_weights q ws) w refl (canonical_lift q (read_of q) target (closed_weights q ws) k (are_dependences_of q k) u given w l.scale l.parts l.weights)
+    lifted_certifies w l = lift_certifies (read_of q) (closed_weights q ws) w refl (canonical_lift q (read_of q) target (closed_weights q ws) k (are_dependences_of q k) u closed_certificate w l.scale l.parts l.weights)
 
 -- ---- what it gives is the lift
 
@@ -201,25 +193,19 @@ ascends_of from [] a e w = tt
 ascends_of from (t ∷ ts) a e w = (
   a.0,
   e.0,
-  subst IsWithin own (w t.0),
+  subst IsWithin own_coefficient (w t.0),
   ascends_of (t.0 + 1) ts a.1 e.1 (λ c. rest c (nat_eq t.0 c) refl),
 )
   where
-    apart : false ≡ true → ⊥
-    apart e = cc
+    no_later_coefficient : coefficient ts t.0 ≡ pos 0
+    no_later_coefficient = none_before (t.0 + 1) ts t.0 a.1 (omega arith)
 
-    past : coefficient ts t.0 ≡ pos 0
-    past = none_before (t.0 + 1) ts t.0 a.1 (omega arith)
-
-    plain : (x : ℤ) → x +ℤ pos 0 ≡ x
-    plain x = omega (arith, ints)
-
-    own : coefficient (t ∷ ts) t.0 ≡ t.1
-    own = ap₂ (λ b y. cond b t.1 (pos 0) +ℤ y) (Rattle.std.proofs.Common.eq-eqb t.0 t.0 refl) past ∙ plain t.1
+    own_coefficient : coefficient (t ∷ ts) t.0 ≡ t.1
+    own_coefficient = ap₂ (λ b y. cond b t.1 (pos 0) +ℤ y) (Rattle.std.proofs.Common.eq-eqb t.0 t.0 refl) no_later_coefficient ∙ +ℤ_idr t.1
 
     rest : (c : ℕ) (b : Bool) → nat_eq t.0 c ≡ b → IsWithin (coefficient ts c)
-    rest c true q = subst (λ (m : ℕ). IsWithin (coefficient ts m)) (eqb-true t.0 c q) (subst IsWithin (sym past) (omega arith))
-    rest c false q = subst IsWithin (other_is t ts c (λ r. apart (sym q ∙ Rattle.std.proofs.Common.eq-eqb t.0 c r))) (w c)
+    rest c true q = subst (λ (m : ℕ). IsWithin (coefficient ts m)) (eqb-true t.0 c q) (subst IsWithin (sym no_later_coefficient) (omega arith))
+    rest c false q = subst IsWithin (other_is t ts c (λ r. false≢true (sym q ∙ Rattle.std.proofs.Common.eq-eqb t.0 c r))) (w c)
 
 module _ (q : ProblemView) (target : Terms) (k : IsProblem q) (u : IsUpTo (size_of q.space) target) (ws : List (ℕ × Rational))
     (a : SumsUp field_ℚ (length (closed_places q)) (length (columns (closed_generators q))) (feasibility_problem (closed_places q) (columns (closed_generators q)) (closed_target q target)) ws)
@@ -232,13 +218,13 @@ module _ (q : ProblemView) (target : Terms) (k : IsProblem q) (u : IsUpTo (size_
     weights = λ j. i.weights j ∙ ap (λ (x : CertificateView). coefficient (lifted_weights q.space.variables (dependences_of q) (value target) (generators_of q) x) j) s;
   }
     where
-      apart : (d : Dependence) (ds : List Dependence) → (d ∷ ds) ≡ [] → ⊥
-      apart d ds e = cc
+      list_not_empty : (d : Dependence) (ds : List Dependence) → (d ∷ ds) ≡ [] → ⊥
+      list_not_empty d ds e = cc
 
       for_each : (ds : List Dependence) → dependences_of q ≡ ds → Ascends 0 new.parts
       for_each [] e = subst (Ascends 0) (sym (ap (λ (x : CertificateView). x.parts) (same e ∙ s))) (parts_canonical q target k u ws a fit)
       for_each (d ∷ ds) e =
-          let more : dependences_of q ≢ [] = λ f. apart d ds (sym e ∙ f) in
+          let more : dependences_of q ≢ [] = λ f. list_not_empty d ds (sym e ∙ f) in
           ascends_of 0 new.parts i.order (every_of (λ (p : ℕ × ℤ). p.1 ≢ pos 0) new.parts (some more)) (λ c. subst IsWithin (sym (i.weights c)) ((fits more).weights c))
 
   pub lift_is : (d : DependencesView) (w new : CertificateView) → read_of q ≡ d → w ≡ closed_weights q ws → IsLiftOf q d target w new → (d.list ≡ [] → new ≡ w) → (d.list ≢ [] → All (λ (p : ℕ × ℤ). p.1 ≢ pos 0) new.parts)
@@ -247,7 +233,7 @@ module _ (q : ProblemView) (target : Terms) (k : IsProblem q) (u : IsUpTo (size_
 
 -- a lift is one alone
 pub one_lift : (q : ProblemView) (target : Terms) (ws : List (ℕ × Rational)) (v w : CertificateView) → IsLifted q target ws v → IsLifted q target ws w → v ≡ w
-one_lift q target ws v w a b = ap₂ (λ x y. record { scale = x; parts = y }) (a.scale ∙ sym b.scale) (told 0 v.parts w.parts a.parts b.parts (λ i. a.weights i ∙ sym (b.weights i)))
+one_lift q target ws v w a b = ap₂ (λ x y. record { scale = x; parts = y }) (a.scale ∙ sym b.scale) (rows_by_coefficients 0 v.parts w.parts a.parts b.parts (λ i. a.weights i ∙ sym (b.weights i)))
 
 pub are_dependences_of_so : (q : ProblemView) (d : DependencesView) → IsProblem q → read_of q ≡ d → AreDependencesOf q d
 are_dependences_of_so q d k e = subst (AreDependencesOf q) e (are_dependences_of q k)

@@ -8,6 +8,7 @@ use Rattle.it_number.proofs.Ring.{ring, v, nil}
 use Rattle.it_number.proofs.Ring as S
 use Rattle.std.proofs.lemmas.Int.{ints}
 use Rattle.std.proofs.lemmas.List.{get_or-map, get_or_default, length-map}
+use Rattle.std.proofs.Math.IntN.{+ℤ_idl, +ℤ_idr}
 use Rattle.it_rational.specs.Rational.{Rational, integer, times, is_at_least_zero}
 use Rattle.it_rational.proofs.RationalLaws.{ring_ℚ}
 use Rattle.it_rational.proofs.Field.{field_ℚ}
@@ -23,7 +24,7 @@ use Rattle.it_polymatroid.proofs.Spans.{get_or-span, length-span}
 use Rattle.it_tableau.specs.Problems.{feasibility_problem}
 use Rattle.it_run.specs.Readings.{Separates}
 use Rattle.it_run.specs.RowValues.{rational_value}
-use Rattle.it_run.proofs.RowValues.{separates}
+use Rattle.it_run.proofs.RowValues.{point_separates}
 use Rattle.it_elemental.specs.Generators.{Generator, generators}
 use Rattle.it_check.specs.Meaning.{RefutesRow}
 use Rattle.it_check.proofs.NoMeaning.{listed_met}
@@ -36,7 +37,7 @@ use Rattle.it_prove.specs.Columns.{columns_by, columns_of, columns}
 use Rattle.it_prove.specs.Closed.{collapsed_row, collapsed_generator, closed_places, closed_generators, closed_target, spread_values, spread_point}
 use Rattle.it_prove.specs.Steps.{terms_of_places}
 use Rattle.it_prove.specs.Scaling.{scale_of, scaled_number, scaled_point}
-use Rattle.it_prove.proofs.Scales.{scale_pos, divides}
+use Rattle.it_prove.proofs.Scales.{scale_pos, denominators_divide}
 use Rattle.it_prove.proofs.ClosedRows.{In, rise_low, rise_apart, coords_rise, collapsed_over, collapsed_value}
 use Rattle.it_prove.proofs.LiftLemmas.{coefficients_within, dependences_sound, below_size}
 use Rattle.it_prove.proofs.Wholes.{whole_scaled, least_scaled, below_scaled}
@@ -60,10 +61,10 @@ columns_keep P gs u = every-flat_map (λ (r : Terms). Every (λ t. P t.0) r) col
 -- where each column is at least 0 the generators are met
 met_by_kind : (k : Kind) (row : Terms) (p : ℕ → ℤ) → Every (λ r. pos 0 ≤ℤ value r p) (columns_by k row) → Meets k (value row p)
 met_by_kind Inequality row p e = e.0
-met_by_kind Equation row p e = squeezed (value row p) (value (negated_terms row) p) e.0 e.1.0 (value-negated_terms row p)
+met_by_kind Equation row p e = opposites_are_zero (value row p) (value (negated_terms row) p) e.0 e.1.0 (value-negated_terms row p)
   where
-    squeezed : (x y : ℤ) → pos 0 ≤ℤ x → pos 0 ≤ℤ y → y ≡ neg_ℤ x → x ≡ pos 0
-    squeezed x y h k e = omega (arith, ints, e)
+    opposites_are_zero : (x y : ℤ) → pos 0 ≤ℤ x → pos 0 ≤ℤ y → y ≡ neg_ℤ x → x ≡ pos 0
+    opposites_are_zero x y h k e = omega (arith, ints, e)
 
 pub columns_met : (gs : List Generator) (p : ℕ → ℤ) → Every (λ r. pos 0 ≤ℤ value r p) (columns gs) → Every (λ g. Meets g.kind (value g.row p)) gs
 unfolding columns
@@ -117,39 +118,33 @@ point_spread q s ds cs qs row values space list places is e =
     ∙ ap (spread_values q.space.variables (dependences_of q) (size_of q.space)) (is ∙ ap (λ (xs : List ℕ). terms_of_places xs (scaled_point qs)) places)
     ∙ spread_same q.space.variables (dependences_of q) (size_of q.space) (closed_places q) (scaled_point qs)
 
-abbrev found : List ℕ → List Rational → ℕ → Rational
-found [] qs c = integer (pos 0)
-found (x ∷ xs) [] c = integer (pos 0)
-found (x ∷ xs) (q ∷ qs) c = cond (nat_eq x c) q (found xs qs c)
+abbrev rational_at : List ℕ → List Rational → ℕ → Rational
+rational_at [] qs c = integer (pos 0)
+rational_at (x ∷ xs) [] c = integer (pos 0)
+rational_at (x ∷ xs) (q ∷ qs) c = cond (nat_eq x c) q (rational_at xs qs c)
 
-nothing : (l : ℕ) → integer (pos 0) ≡ times (integer (pos l)) (integer (pos 0))
-nothing l = sym (ring ring_ℚ (integer (pos l) ∷ []) (S.times (v 0) nil) nil refl)
+times_zero : (l : ℕ) → integer (pos 0) ≡ times (integer (pos l)) (integer (pos 0))
+times_zero l = sym (ring ring_ℚ (integer (pos l) ∷ []) (S.times (v 0) nil) nil refl)
 
 whole_found : (l from to : ℕ) (cs : List ℕ) (qs : List Rational) → RiseTo from to cs → Every (λ q. q.den ∣ l) qs → (c : ℕ)
-    → integer (coefficient (terms_of_places cs (map (scaled_number l) qs)) c) ≡ times (integer (pos l)) (found cs qs c)
-whole_found l from to [] qs r d c = nothing l
-whole_found l from to (x ∷ xs) [] r d c = nothing l
+    → integer (coefficient (terms_of_places cs (map (scaled_number l) qs)) c) ≡ times (integer (pos l)) (rational_at cs qs c)
+whole_found l from to [] qs r d c = times_zero l
+whole_found l from to (x ∷ xs) [] r d c = times_zero l
 whole_found l from to (x ∷ xs) (q ∷ qs) r d c = ap integer (coefficient_some x (scaled_number l q) (terms_of_places xs (map (scaled_number l) qs)) c) ∙ by_test (nat_eq x c) refl (whole_found l (x + 1) to xs qs r.1 d.1 c)
   where
-    right : (y : ℤ) → y +ℤ pos 0 ≡ y
-    right y = omega (arith, ints)
-
-    left : (y : ℤ) → pos 0 +ℤ y ≡ y
-    left y = omega (arith, ints)
-
-    by_test : (b : Bool) → nat_eq x c ≡ b → integer (coefficient (terms_of_places xs (map (scaled_number l) qs)) c) ≡ times (integer (pos l)) (found xs qs c)
-        → integer (cond b (scaled_number l q) (pos 0) +ℤ coefficient (terms_of_places xs (map (scaled_number l) qs)) c) ≡ times (integer (pos l)) (cond b q (found xs qs c))
+    by_test : (b : Bool) → nat_eq x c ≡ b → integer (coefficient (terms_of_places xs (map (scaled_number l) qs)) c) ≡ times (integer (pos l)) (rational_at xs qs c)
+        → integer (cond b (scaled_number l q) (pos 0) +ℤ coefficient (terms_of_places xs (map (scaled_number l) qs)) c) ≡ times (integer (pos l)) (cond b q (rational_at xs qs c))
     by_test true e ih =
         let past : coefficient (terms_of_places xs (map (scaled_number l) qs)) c ≡ pos 0 = pairs_below (x + 1) to xs (map (scaled_number l) qs) c r.1 (omega (arith, eqb-true x c e)) in
-        ap (λ y. integer (scaled_number l q +ℤ y)) past ∙ ap integer (right (scaled_number l q)) ∙ whole_scaled l q d.0
-    by_test false e ih = ap integer (left (coefficient (terms_of_places xs (map (scaled_number l) qs)) c)) ∙ ih
+        ap (λ y. integer (scaled_number l q +ℤ y)) past ∙ ap integer (+ℤ_idr (scaled_number l q)) ∙ whole_scaled l q d.0
+    by_test false e ih = ap integer (+ℤ_idl (coefficient (terms_of_places xs (map (scaled_number l) qs)) c)) ∙ ih
 
-found_at : (from to : ℕ) (cs : List ℕ) (qs : List Rational) → RiseTo from to cs → length qs ≡ length cs → (k : ℕ) → k < length cs → found cs qs (get_or cs k 0) ≡ get_or qs k (integer (pos 0))
+found_at : (from to : ℕ) (cs : List ℕ) (qs : List Rational) → RiseTo from to cs → length qs ≡ length cs → (k : ℕ) → k < length cs → rational_at cs qs (get_or cs k 0) ≡ get_or qs k (integer (pos 0))
 found_at from to [] qs r e k h = absurd (omega arith)
 found_at from to (x ∷ xs) [] r e k h = absurd (omega (arith, e))
-found_at from to (x ∷ xs) (q ∷ qs) r e zero h = ap (λ b. cond b q (found xs qs x)) (eq-eqb x x refl)
+found_at from to (x ∷ xs) (q ∷ qs) r e zero h = ap (λ b. cond b q (rational_at xs qs x)) (eq-eqb x x refl)
 found_at from to (x ∷ xs) (q ∷ qs) r e (suc k) h =
-    ap (λ b. cond b q (found xs qs (get_or xs k 0))) (ne_eqb x (get_or xs k 0) (λ f. omega (arith, rise_low (x + 1) to xs r.1 k (omega arith), f)))
+    ap (λ b. cond b q (rational_at xs qs (get_or xs k 0))) (ne_eqb x (get_or xs k 0) (λ f. omega (arith, rise_low (x + 1) to xs r.1 k (omega arith), f)))
     ∙ found_at (x + 1) to xs qs r.1 (omega (arith, e)) k (omega arith)
 
 every_both : {X : Type 0} (P Q R : X → Type 0) (xs : List X) → ((x : X) → P x → Q x → R x) → Every P xs → Every Q xs → Every R xs
@@ -161,90 +156,84 @@ every_at P xs i d e h = all_of P xs e i d h
 
 -- the values at all coordinates are those at their places
 value_spread : (n : ℕ) (ds : List Dependence) (size : ℕ) (at : Terms) (row : Terms) → IsUpTo size row → value row (map_of (spread_values n ds size at)) ≡ value row (spread_out n ds (coefficient at))
-value_spread n ds size at row u = each row (every_of (λ (t : ℕ × ℤ). (1 ≤ t.0) × (t.0 ≤ size)) row u)
+value_spread n ds size at row u = value_of_terms row (every_of (λ (t : ℕ × ℤ). (1 ≤ t.0) × (t.0 ≤ size)) row u)
   where
-    here : (c : ℕ) → 1 ≤ c → c ≤ size → map_of (spread_values n ds size at) c ≡ coefficient at (place n ds c)
-    here zero h l = absurd (omega arith)
-    here (suc c) h l =
+    value_of_place : (c : ℕ) → 1 ≤ c → c ≤ size → map_of (spread_values n ds size at) c ≡ coefficient at (place n ds c)
+    value_of_place zero h l = absurd (omega arith)
+    value_of_place (suc c) h l =
         get_or-map (λ c. coefficient at (place n ds c)) (span 1 size) c 0 (pos 0) (omega (arith, length-span 1 size))
-        ∙ ap (λ c. coefficient at (place n ds c)) (get_or-span 1 size c 0 (omega arith) ∙ next c)
+        ∙ ap (λ c. coefficient at (place n ds c)) (get_or-span 1 size c 0 (omega arith) ∙ one_plus c)
       where
-        next : (c : ℕ) → 1 + c ≡ suc c
-        next c = omega arith
+        one_plus : (c : ℕ) → 1 + c ≡ suc c
+        one_plus c = omega arith
 
-    each : (ts : Terms) → Every (λ (t : ℕ × ℤ). (1 ≤ t.0) × (t.0 ≤ size)) ts → value ts (map_of (spread_values n ds size at)) ≡ value ts (spread_out n ds (coefficient at))
-    each [] b = refl
-    each (t ∷ ts) b = ap₂ (λ x y. t.1 *ℤ x +ℤ y) (here t.0 b.0.0 b.0.1) (each ts b.1)
+    value_of_terms : (ts : Terms) → Every (λ (t : ℕ × ℤ). (1 ≤ t.0) × (t.0 ≤ size)) ts → value ts (map_of (spread_values n ds size at)) ≡ value ts (spread_out n ds (coefficient at))
+    value_of_terms [] b = refl
+    value_of_terms (t ∷ ts) b = ap₂ (λ x y. t.1 *ℤ x +ℤ y) (value_of_place t.0 b.0.0 b.0.1) (value_of_terms ts b.1)
 
 module _ (q : ProblemView) (target : Terms) (qs : List Rational) (k : IsProblem q) (u : IsUpTo (size_of q.space) target)
     (s : Separates field_ℚ (length (closed_places q)) (length (columns (closed_generators q))) (feasibility_problem (closed_places q) (columns (closed_generators q)) (closed_target q target)) qs) where
-  n : ℕ
-  n = q.space.variables
-
-  abbrev ds : List Dependence
-  ds = dependences_of q
-
   abbrev values : Terms
   values = terms_of_places (closed_places q) (scaled_point qs)
 
   sizes : size_of q.space < 2 ^ q.space.variables + q.space.rates
   sizes = omega (arith, pow_pos q.space.variables)
 
-  rise : RiseTo 1 (2 ^ q.space.variables + q.space.rates) (closed_places q)
-  rise = coords_rise q.space.variables q.space.rates (dependences_of q) (dependences_sound q k)
+  closed_places_rise : RiseTo 1 (2 ^ q.space.variables + q.space.rates) (closed_places q)
+  closed_places_rise = coords_rise q.space.variables q.space.rates (dependences_of q) (dependences_sound q k)
 
-  whole_at : (c : ℕ) → integer (coefficient values c) ≡ times (integer (pos (scale_of qs))) (found (closed_places q) qs c)
-  whole_at = whole_found (scale_of qs) 1 (2 ^ q.space.variables + q.space.rates) (closed_places q) qs rise (divides 1 qs)
+  whole_at : (c : ℕ) → integer (coefficient values c) ≡ times (integer (pos (scale_of qs))) (rational_at (closed_places q) qs c)
+  whole_at = whole_found (scale_of qs) 1 (2 ^ q.space.variables + q.space.rates) (closed_places q) qs closed_places_rise (denominators_divide 1 qs)
 
   rows : Every (λ g. IsUpTo (size_of q.space) g.row) (generators q)
   rows = rows_of_space q.space.variables (size_of q.space) q.constraints (omega arith) k.rows
 
-  over : (row : Terms) → IsUpTo (size_of q.space) row → Every (λ (t : ℕ × ℤ). In (closed_places q) t.0) (collapsed_row q.space.variables (dependences_of q) row)
-  over row b = collapsed_over q.space.variables q.space.rates (dependences_of q) (dependences_sound q k) row (below_size (size_of q.space) (2 ^ q.space.variables + q.space.rates) row sizes b)
+  row_over_places : (row : Terms) → IsUpTo (size_of q.space) row → Every (λ (t : ℕ × ℤ). In (closed_places q) t.0) (collapsed_row q.space.variables (dependences_of q) row)
+  row_over_places row b = collapsed_over q.space.variables q.space.rates (dependences_of q) (dependences_sound q k) row (below_size (size_of q.space) (2 ^ q.space.variables + q.space.rates) row sizes b)
 
   columns_over : Every (λ (r : Terms). Every (λ (t : ℕ × ℤ). In (closed_places q) t.0) r) (columns (closed_generators q))
   columns_over = columns_keep (In (closed_places q)) (closed_generators q)
       (every-map (λ g. Every (λ (t : ℕ × ℤ). In (closed_places q) t.0) g.row) (collapsed_generator q.space.variables (dependences_of q)) (generators q)
-      (every-same (λ g. IsUpTo (size_of q.space) g.row) (λ g. Every (λ (t : ℕ × ℤ). In (closed_places q) t.0) (collapsed_row q.space.variables (dependences_of q) g.row)) (generators q) (λ g b. over g.row b) rows))
+      (every-same (λ g. IsUpTo (size_of q.space) g.row) (λ g. Every (λ (t : ℕ × ℤ). In (closed_places q) t.0) (collapsed_row q.space.variables (dependences_of q) g.row)) (generators q) (λ g b. row_over_places g.row b) rows))
 
-  apart : ((j : ℕ) → j < length (columns (closed_generators q)) → is_at_least_zero (rational_value (get_or (columns (closed_generators q)) j []) (found (closed_places q) qs)) ≡ true)
-      × (is_at_least_zero (rational_value (closed_target q target) (found (closed_places q) qs)) ≡ false)
-  apart = separates (closed_places q) (rise_apart 1 (2 ^ q.space.variables + q.space.rates) (closed_places q) rise) (columns (closed_generators q)) (closed_target q target) qs (found (closed_places q) qs)
+  values_separate : ((j : ℕ) → j < length (columns (closed_generators q)) → is_at_least_zero (rational_value (get_or (columns (closed_generators q)) j []) (rational_at (closed_places q) qs)) ≡ true)
+      × (is_at_least_zero (rational_value (closed_target q target) (rational_at (closed_places q) qs)) ≡ false)
+  values_separate = point_separates (closed_places q) (rise_apart 1 (2 ^ q.space.variables + q.space.rates) (closed_places q) closed_places_rise) (columns (closed_generators q)) (closed_target q target) qs (rational_at (closed_places q) qs)
       (λ j l. all_of (λ (t : ℕ × ℤ). In (closed_places q) t.0) (get_or (columns (closed_generators q)) j [])
       (every_at (λ (r : Terms). Every (λ (t : ℕ × ℤ). In (closed_places q) t.0) r) (columns (closed_generators q)) j [] columns_over l))
-      (all_of (λ (t : ℕ × ℤ). In (closed_places q) t.0) (closed_target q target) (over target u))
-      (λ j l. found_at 1 (2 ^ q.space.variables + q.space.rates) (closed_places q) qs rise s.complete j l) s
+      (all_of (λ (t : ℕ × ℤ). In (closed_places q) t.0) (closed_target q target) (row_over_places target u))
+      (λ j l. found_at 1 (2 ^ q.space.variables + q.space.rates) (closed_places q) qs closed_places_rise s.complete j l) s
 
-  scaled_row : (row : Terms) → Every (λ (t : ℕ × ℤ). integer (coefficient values t.0) ≡ times (integer (pos (scale_of qs))) (found (closed_places q) qs t.0)) row
-  scaled_row row = every_all (λ (t : ℕ × ℤ). integer (coefficient values t.0) ≡ times (integer (pos (scale_of qs))) (found (closed_places q) qs t.0)) row (λ t. whole_at t.0)
+  scaled_row : (row : Terms) → Every (λ (t : ℕ × ℤ). integer (coefficient values t.0) ≡ times (integer (pos (scale_of qs))) (rational_at (closed_places q) qs t.0)) row
+  scaled_row row = every_all (λ (t : ℕ × ℤ). integer (coefficient values t.0) ≡ times (integer (pos (scale_of qs))) (rational_at (closed_places q) qs t.0)) row (λ t. whole_at t.0)
 
-  none : coefficient values 0 ≡ pos 0
-  none = pairs_below 1 (2 ^ q.space.variables + q.space.rates) (closed_places q) (scaled_point qs) 0 rise (omega arith)
+  no_value_at_zero : coefficient values 0 ≡ pos 0
+  no_value_at_zero = pairs_below 1 (2 ^ q.space.variables + q.space.rates) (closed_places q) (scaled_point qs) 0 closed_places_rise (omega arith)
 
   closed_met : Every (λ g. Meets g.kind (value g.row (coefficient values))) (closed_generators q)
   closed_met = columns_met (closed_generators q) (coefficient values) (every_of (λ r. pos 0 ≤ℤ value r (coefficient values)) (columns (closed_generators q))
       (λ j d l. subst (λ r. pos 0 ≤ℤ value r (coefficient values)) (get_or_default (columns (closed_generators q)) j [] d l)
-      (least_scaled (scale_of qs) (coefficient values) (found (closed_places q) qs) (scale_pos 1 qs (omega arith)) (get_or (columns (closed_generators q)) j [])
-      (scaled_row (get_or (columns (closed_generators q)) j [])) (apart.0 j l))))
+      (least_scaled (scale_of qs) (coefficient values) (rational_at (closed_places q) qs) (scale_pos 1 qs (omega arith)) (get_or (columns (closed_generators q)) j [])
+      (scaled_row (get_or (columns (closed_generators q)) j [])) (values_separate.0 j l))))
 
   value_same : (row : Terms) → IsUpTo (size_of q.space) row → value (collapsed_row q.space.variables (dependences_of q) row) (coefficient values) ≡ value row (map_of (spread_point q qs))
-  value_same row b = collapsed_value q.space.variables (dependences_of q) row (coefficient values) none ∙ sym (value_spread q.space.variables (dependences_of q) (size_of q.space) values row b)
+  value_same row b = collapsed_value q.space.variables (dependences_of q) row (coefficient values) no_value_at_zero ∙ sym (value_spread q.space.variables (dependences_of q) (size_of q.space) values row b)
       ∙ ap (λ (vs : List ℤ). value row (map_of vs)) (spread_same q.space.variables (dependences_of q) (size_of q.space) (closed_places q) (scaled_point qs))
 
-  met : Every (λ g. Meets g.kind (value g.row (map_of (spread_point q qs)))) (generators q)
-  met = every_both (λ g. IsUpTo (size_of q.space) g.row) (λ g. Meets g.kind (value (collapsed_row q.space.variables (dependences_of q) g.row) (coefficient values))) (λ g. Meets g.kind (value g.row (map_of (spread_point q qs)))) (generators q)
+  generators_met : Every (λ g. Meets g.kind (value g.row (map_of (spread_point q qs)))) (generators q)
+  generators_met = every_both (λ g. IsUpTo (size_of q.space) g.row) (λ g. Meets g.kind (value (collapsed_row q.space.variables (dependences_of q) g.row) (coefficient values))) (λ g. Meets g.kind (value g.row (map_of (spread_point q qs)))) (generators q)
       (λ g b m. subst (Meets g.kind) (value_same g.row b) m) rows
       (every_mapped (λ g. Meets g.kind (value g.row (coefficient values))) (collapsed_generator q.space.variables (dependences_of q)) (generators q) closed_met)
 
   pub point_right : RefutesRow q target (spread_point q qs)
   point_right =
-      let both = listed_met q.space.variables q.constraints (map_of (spread_point q qs)) refl met in
+      let both = listed_met q.space.variables q.constraints (map_of (spread_point q qs)) refl generators_met in
       record {
         complete = spread_length q.space.variables (dependences_of q) (size_of q.space) (zip (closed_places q) (scaled_point qs));
         polymatroid = both.0;
         met = both.1;
         violated = subst (λ (z : ℤ). z ≤ℤ neg_ℤ (pos 1)) (value_same target u)
-            (below_scaled (scale_of qs) (coefficient values) (found (closed_places q) qs) (scale_pos 1 qs (omega arith)) (closed_target q target) (scaled_row (closed_target q target)) apart.1);
+            (below_scaled (scale_of qs) (coefficient values) (rational_at (closed_places q) qs) (scale_pos 1 qs (omega arith)) (closed_target q target) (scaled_row (closed_target q target)) values_separate.1);
       }
 
 -- the coordinates as the code has them

@@ -60,25 +60,25 @@ module _ (q : ProblemView) (target : Terms) (k : IsProblem q) (u : IsUpTo (size_
 
   module _ (qs : List Rational) (values : List ℤ) (same : values ≡ spread_point q qs) (fit : NumbersFit qs)
       (s : Separates field_ℚ (length (closed_places q)) (length (columns (closed_generators q))) (feasibility_problem (closed_places q) (columns (closed_generators q)) (closed_target q target)) qs) where
-    refutes : RefutesRow q target values
-    refutes = subst (RefutesRow q target) (sym same) (point_right q target qs k u s)
+    values_refute : RefutesRow q target values
+    values_refute = subst (RefutesRow q target) (sym same) (point_right q target qs k u s)
 
     pub refuted_follows : Valid ≡ no_verdict (length (elementals q.space.variables)) (generators q) target (map_of values) → Follows q target (Point qs) (No values)
-    refuted_follows e = inl (record { numbers = fit; check = subst (PointFits q target) same ((valid_no_is q target values k u refutes.complete).0 (sym e)).1 }, ap No same)
+    refuted_follows e = inl (record { numbers = fit; check = subst (PointFits q target) same ((valid_no_is q target values k u values_refute.complete).0 (sym e)).1 }, ap No same)
 
     pub wide_point : (no_verdict (length (elementals q.space.variables)) (generators q) target (map_of values) ≡ Valid → ⊥) → Follows q target (Point qs) (Undecided Scale)
-    wide_point n = inr ((λ f. n ((valid_no_is q target values k u refutes.complete).1 (refutes, subst (PointFits q target) (sym same) f.check))), refl)
+    wide_point n = inr ((λ f. n ((valid_no_is q target values k u values_refute.complete).1 (values_refute, subst (PointFits q target) (sym same) f.check))), refl)
 
     pub point_size : length values ≡ size_of q.space
-    point_size = refutes.complete
+    point_size = values_refute.complete
 
 -- scaled numbers that fit are within the limit
 pub scaled_within : (l : ℕ) (qs : List Rational) (values : List ℤ) → values ≡ map (scaled_number l) qs → EachFits l qs → All IsWithin values
-scaled_within l qs values e f = subst (All IsWithin) (sym e) (all_of IsWithin (map (scaled_number l) qs) (every-map IsWithin (scaled_number l) qs (each qs f)))
+scaled_within l qs values e f = subst (All IsWithin) (sym e) (all_of IsWithin (map (scaled_number l) qs) (every-map IsWithin (scaled_number l) qs (numbers_within qs f)))
   where
-    each : (qs : List Rational) → EachFits l qs → Every (λ q. IsWithin (scaled_number l q)) qs
-    each [] f = tt
-    each (q ∷ qs) f = (f.0, each qs f.1)
+    numbers_within : (qs : List Rational) → EachFits l qs → Every (λ q. IsWithin (scaled_number l q)) qs
+    numbers_within [] f = tt
+    numbers_within (q ∷ qs) f = (f.0, numbers_within qs f.1)
 
 -- ---- the run
 
@@ -155,17 +155,17 @@ module _ (q : ProblemView) (target : Terms) (coords items : List ℕ) (slice : c
   rows_are : SameRows rs (columns (closed_generators q))
   rows_are = subst (λ (xs : List Terms). SameRows xs (columns (closed_generators q))) (sym same) s
 
-  pub answered : CollapsesFit q target → (budget : Option ℕ) → Solves coords rs r budget (end_of_answer x) → (end : RunEndView (List (ℕ × Rational)) (List Rational)) (o : ProofView) → end_of_answer x ≡ end → Follows q target end o
+  pub answer_ends : CollapsesFit q target → (budget : Option ℕ) → Solves coords rs r budget (end_of_answer x) → (end : RunEndView (List (ℕ × Rational)) (List Rational)) (o : ProofView) → end_of_answer x ≡ end → Follows q target end o
       → EndsWith q target budget o
-  answered fit budget h end o is f = ends_so q target coords places_are rs rows_are r e fit budget end o (subst (Solves coords rs r budget) is h) f
+  answer_ends fit budget h end o is f = ends_so q target coords places_are rs rows_are r e fit budget end o (subst (Solves coords rs r budget) is h) f
 
-  pub summed : IsRightAnswer coords rs r x → (part : List (ℕ × Rational)) → end_of_answer x ≡ Weights part
+  pub answer_sums : IsRightAnswer coords rs r x → (part : List (ℕ × Rational)) → end_of_answer x ≡ Weights part
       → SumsUp field_ℚ (length (closed_places q)) (length (columns (closed_generators q))) (feasibility_problem (closed_places q) (columns (closed_generators q)) (closed_target q target)) part
-  summed h part is = sums_so q target coords places_are rs rows_are r e part (subst (IsRightEnd coords rs r) is (right_end coords rs r x h))
+  answer_sums h part is = sums_so q target coords places_are rs rows_are r e part (subst (IsRightEnd coords rs r) is (right_end coords rs r x h))
 
-  pub separated : IsRightAnswer coords rs r x → (part : List Rational) → end_of_answer x ≡ Point part
+  pub answer_separates : IsRightAnswer coords rs r x → (part : List Rational) → end_of_answer x ≡ Point part
       → Separates field_ℚ (length (closed_places q)) (length (columns (closed_generators q))) (feasibility_problem (closed_places q) (columns (closed_generators q)) (closed_target q target)) part
-  separated h part is = separates_so q target coords places_are rs rows_are r e part (subst (IsRightEnd coords rs r) is (right_end coords rs r x h))
+  answer_separates h part is = separates_so q target coords places_are rs rows_are r e part (subst (IsRightEnd coords rs r) is (right_end coords rs r x h))
 
 -- ---- one outcome
 
@@ -195,63 +195,51 @@ one_outcome q target budget o p a b =
 pub proven_ascends : ProvenAscends
 proven_ascends q target budget w e = for_each e.end e.follows
   where
+    same_certificate : (v : CertificateView) → Yes w ≡ Yes v → w ≡ v
+    same_certificate v e = cc
+
+    yes_not_no : {values : List ℤ} → Yes w ≡ No values → ⊥
+    yes_not_no e = cc
+
+    yes_not_undecided : {c : Cause} → Yes w ≡ Undecided c → ⊥
+    yes_not_undecided e = cc
+
     for_each : (end : RunEndView (List (ℕ × Rational)) (List Rational)) → Follows q target end (Yes w) → IsCanonical w.parts
-    for_each (Weights ws) (inl a) = subst (λ (x : CertificateView). IsCanonical x.parts) (sym (inside a.0 a.3)) a.1.parts
-      where
-        inside : (v : CertificateView) → Yes w ≡ Yes v → w ≡ v
-        inside v e = cc
-    for_each (Weights ws) (inr a) = absurd (unlike a.1)
-      where
-        unlike : {c : Cause} → Yes w ≡ Undecided c → ⊥
-        unlike e = cc
-    for_each (Point qs) (inl a) = absurd (unlike a.1)
-      where
-        unlike : {values : List ℤ} → Yes w ≡ No values → ⊥
-        unlike e = cc
-    for_each (Point qs) (inr a) = absurd (unlike a.1)
-      where
-        unlike : {c : Cause} → Yes w ≡ Undecided c → ⊥
-        unlike e = cc
-    for_each (Pivots k) a = absurd (unlike a)
-      where
-        unlike : {c : Cause} → Yes w ≡ Undecided c → ⊥
-        unlike e = cc
-    for_each (Width k) a = absurd (unlike a)
-      where
-        unlike : {c : Cause} → Yes w ≡ Undecided c → ⊥
-        unlike e = cc
+    for_each (Weights ws) (inl a) = subst (λ (x : CertificateView). IsCanonical x.parts) (sym (same_certificate a.0 a.3)) a.1.parts
+    for_each (Weights ws) (inr a) = absurd (yes_not_undecided a.1)
+    for_each (Point qs) (inl a) = absurd (yes_not_no a.1)
+    for_each (Point qs) (inr a) = absurd (yes_not_undecided a.1)
+    for_each (Pivots k) a = absurd (yes_not_undecided a)
+    for_each (Width k) a = absurd (yes_not_undecided a)
 
 -- ---- without a budget
 
-within : (q : ProblemView) (target : Terms) (e : RunEndView (List (ℕ × Rational)) (List Rational)) → Runs q target None e → IsWithinBudget e
-within q target e (inl a) = subst IsWithinBudget (sym a.1) tt
-within q target e (inr a) = ends_within_budget (closed_places q) (columns (closed_generators q)) (closed_target q target) e a.1
+run_within_budget : (q : ProblemView) (target : Terms) (e : RunEndView (List (ℕ × Rational)) (List Rational)) → Runs q target None e → IsWithinBudget e
+run_within_budget q target e (inl a) = subst IsWithinBudget (sym a.1) tt
+run_within_budget q target e (inr a) = ends_within_budget (closed_places q) (columns (closed_generators q)) (closed_target q target) e a.1
 
 pub never_out_of_steps : NeverOutOfSteps
-never_out_of_steps q target k e = for_each e.end e.follows (within q target e.end e.run)
+never_out_of_steps q target k e = for_each e.end e.follows (run_within_budget q target e.end e.run)
   where
+    pivots_not_yes : {w : CertificateView} → Undecided (causes.Pivots k) ≡ Yes w → ⊥
+    pivots_not_yes e = cc
+
+    pivots_not_no : {values : List ℤ} → Undecided (causes.Pivots k) ≡ No values → ⊥
+    pivots_not_no e = cc
+
+    pivots_not_scale : Undecided (causes.Pivots k) ≡ Undecided Scale → ⊥
+    pivots_not_scale e = cc
+
+    pivots_not_width : {j : ℕ} → Undecided (causes.Pivots k) ≡ Undecided (causes.Width j) → ⊥
+    pivots_not_width e = cc
+
     for_each : (end : RunEndView (List (ℕ × Rational)) (List Rational)) → Follows q target end (Undecided (causes.Pivots k)) → IsWithinBudget end → ⊥
-    for_each (Weights ws) (inl a) i = unlike a.3
-      where
-        unlike : {w : CertificateView} → Undecided (causes.Pivots k) ≡ Yes w → ⊥
-        unlike e = cc
-    for_each (Weights ws) (inr a) i = unlike a.1
-      where
-        unlike : Undecided (causes.Pivots k) ≡ Undecided Scale → ⊥
-        unlike e = cc
-    for_each (Point qs) (inl a) i = unlike a.1
-      where
-        unlike : {values : List ℤ} → Undecided (causes.Pivots k) ≡ No values → ⊥
-        unlike e = cc
-    for_each (Point qs) (inr a) i = unlike a.1
-      where
-        unlike : Undecided (causes.Pivots k) ≡ Undecided Scale → ⊥
-        unlike e = cc
+    for_each (Weights ws) (inl a) i = pivots_not_yes a.3
+    for_each (Weights ws) (inr a) i = pivots_not_scale a.1
+    for_each (Point qs) (inl a) i = pivots_not_no a.1
+    for_each (Point qs) (inr a) i = pivots_not_scale a.1
     for_each (Pivots j) a i = i
-    for_each (Width j) a i = unlike a
-      where
-        unlike : Undecided (causes.Pivots k) ≡ Undecided (causes.Width j) → ⊥
-        unlike e = cc
+    for_each (Width j) a i = pivots_not_width a
 
 pub never_pivots : {E : Type 0} (q : ProblemView) (target : Terms) (budget : Option ℕ) (r : Result Proof E) → IfOk r (λ proof. EndsWith q target budget (proof_view proof))
     → IfNone budget (IfOk r (λ proof. (k : ℕ) → proof_view proof ≢ Undecided (causes.Pivots k)))

@@ -44,7 +44,7 @@ unfolding scale_from
 scale_wide qs i scale q h is n s w =
     let e : scale_from (lcm scale q.den) (drop (i + 1) qs) ≡ scale_of qs = subst (λ xs. scale_from scale xs ≡ scale_of qs) (drop_item qs i q h is) s.same in
     let least : lcm scale q.den ≤ scale_from (lcm scale q.den) (drop (i + 1) qs) = scale_least (lcm scale q.den) (drop (i + 1) qs) (lcm_pos scale q.den s.some q.positive) in
-    n (below (lcm scale q.den) (scale_of qs) (omega (arith, e, least)) w)
+    n (smaller_within (lcm scale q.den) (scale_of qs) (omega (arith, e, least)) w)
   where
-    below : (m l : ℕ) → m ≤ l → IsWithin (pos l) → IsWithin (pos m)
-    below m l h w = omega (arith, h, w)
+    smaller_within : (m l : ℕ) → m ≤ l → IsWithin (pos l) → IsWithin (pos m)
+    smaller_within m l h w = omega (arith, h, w)

@@ -23,10 +23,10 @@ start_divides k [] = dvd_refl k
 start_divides k (q ∷ qs) = dvd_trans k {b = lcm k q.den} {c = scale_from (lcm k q.den) qs} (lcm_is k q.den).0 (start_divides (lcm k q.den) qs)
 
 -- each denominator divides the scale
-pub divides : (k : ℕ) (qs : List Rational) → Every (λ q. q.den ∣ scale_from k qs) qs
+pub denominators_divide : (k : ℕ) (qs : List Rational) → Every (λ q. q.den ∣ scale_from k qs) qs
 unfolding scale_from
-divides k [] = tt
-divides k (q ∷ qs) = (dvd_trans q.den {b = lcm k q.den} {c = scale_from (lcm k q.den) qs} (lcm_is k q.den).1 (start_divides (lcm k q.den) qs), divides (lcm k q.den) qs)
+denominators_divide k [] = tt
+denominators_divide k (q ∷ qs) = (dvd_trans q.den {b = lcm k q.den} {c = scale_from (lcm k q.den) qs} (lcm_is k q.den).1 (start_divides (lcm k q.den) qs), denominators_divide (lcm k q.den) qs)
 
 pub scale_least : (k : ℕ) (qs : List Rational) → 0 < k → k ≤ scale_from k qs
 scale_least k qs h = le_of_dvd (scale_pos k qs h) (start_divides k qs)

@@ -61,8 +61,8 @@ below_sign b false x h = (
   abs_neg h.0 b h.2,
 )
 
-narrow : (b : ℕ) (x : Rational) → b < 2 ^ 127 → IsBelow b x → IsNarrow x
-narrow b x l h = subst IsNarrow (sym h.1) (
+below_is_narrow : (b : ℕ) (x : Rational) → b < 2 ^ 127 → IsBelow b x → IsNarrow x
+below_is_narrow b x l h = subst IsNarrow (sym h.1) (
   subst IsWithin (sym (whole_parts h.0).0) (omega (arith, h.2)),
   subst (λ (d : ℕ). IsWithin (pos d)) (sym (whole_parts h.0).1) (omega (arith, ints)),
 )
@@ -94,18 +94,18 @@ module _ (coords : List ℕ) (cols : List Terms) (t : Terms) (few : length coord
       column : IsBelow (2 ^ 85) (integer (coefficient (get_or cols j []) (get_or coords k 0)))
       column = (coefficient (get_or cols j []) (get_or coords k 0), refl, every_or SmallRow cols j [] cs (λ c. omega arith) (get_or coords k 0))
 
-      right : IsBelow (2 ^ 85) (integer (coefficient t (get_or coords k 0)))
-      right = (coefficient t (get_or coords k 0), refl, ts (get_or coords k 0))
+      target_is_small : IsBelow (2 ^ 85) (integer (coefficient t (get_or coords k 0)))
+      target_is_small = (coefficient t (get_or coords k 0), refl, ts (get_or coords k 0))
 
       by_test : (a b c : Bool) → IsBelow (2 ^ 85) (cond a (times (sign field_ℚ (feasibility_problem coords cols t) k) (integer (coefficient (get_or cols j []) (get_or coords k 0))))
           (cond b (times (sign field_ℚ (feasibility_problem coords cols t) k) (integer (coefficient t (get_or coords k 0)))) (cond c (integer (pos 1)) (integer (pos 0)))))
       by_test true b c = below_sign (2 ^ 85) (field_ℚ.order.is_least (integer (coefficient t (get_or coords k 0)))) (integer (coefficient (get_or cols j []) (get_or coords k 0))) column
-      by_test false true c = below_sign (2 ^ 85) (field_ℚ.order.is_least (integer (coefficient t (get_or coords k 0)))) (integer (coefficient t (get_or coords k 0))) right
+      by_test false true c = below_sign (2 ^ 85) (field_ℚ.order.is_least (integer (coefficient t (get_or coords k 0)))) (integer (coefficient t (get_or coords k 0))) target_is_small
       by_test false false true = below_one (2 ^ 85) (omega arith)
       by_test false false false = below_null (2 ^ 85)
 
   start_fits : StartFits (length coords) (length cols) (feasibility_problem coords cols t)
-  start_fits k j h l = narrow (pile k) (sum_to ring_ℚ k (λ i. start_row field_ℚ (length coords) (length cols) (feasibility_problem coords cols t) i j)) (omega (arith, pile_is k, h, few))
+  start_fits k j h l = below_is_narrow (pile k) (sum_to ring_ℚ k (λ i. start_row field_ℚ (length coords) (length cols) (feasibility_problem coords cols t) i j)) (omega (arith, pile_is k, h, few))
       (sum_below k (λ i. start_row field_ℚ (length coords) (length cols) (feasibility_problem coords cols t) i j) (λ i. entry_below i j))
 
 -- ---- the run
@@ -124,10 +124,10 @@ zero_before_clip : (e : RunEndView (List (ℕ × Rational)) (List Rational)) →
 zero_before_clip (Weights w) q = absurd (cc)
 zero_before_clip (Point w) q = absurd (cc)
 zero_before_clip (Pivots k) q = absurd (cc)
-zero_before_clip (Width k) q = by_number k (inside (min k 4294967295) q)
+zero_before_clip (Width k) q = by_number k (same_step (min k 4294967295) q)
   where
-    inside : (j : ℕ) → (let x : RunEndView (List (ℕ × Rational)) (List Rational) = Width zero in x) ≡ Width j → zero ≡ j
-    inside j q = cc
+    same_step : (j : ℕ) → (let x : RunEndView (List (ℕ × Rational)) (List Rational) = Width zero in x) ≡ Width j → zero ≡ j
+    same_step j q = cc
 
     by_number : (k : ℕ) → zero ≡ min k 4294967295 → (let x : RunEndView (List (ℕ × Rational)) (List Rational) = Width k in x) ≡ Width zero
     by_number k q = let s : k ≡ zero = omega arith in ap (λ x. let r : RunEndView (List (ℕ × Rational)) (List Rational) = Width x in r) s
@@ -145,52 +145,49 @@ never_at_start q target budget k s e = by_cases e.run (zero_end e.end e.follows)
     all_small : Every (λ g. IsSmall g.row) (generators q)
     all_small = generators_small q.space.variables q.constraints s.constraints
 
-    zero_end : (x : RunEndView (List (ℕ × Rational)) (List Rational)) → Follows q target x (Undecided (causes.Width 0)) → x ≡ Width 0
-    zero_end (Weights ws) (inl a) = absurd (unlike a.3)
-      where
-        unlike : {w : Rattle.it_space.specs.Answers.CertificateView} → Undecided (causes.Width 0) ≡ Rattle.it_prove.specs.ProofViews.Yes w → ⊥
-        unlike e = cc
-    zero_end (Weights ws) (inr a) = absurd (unlike a.1)
-      where
-        unlike : Undecided (causes.Width 0) ≡ Undecided Scale → ⊥
-        unlike e = cc
-    zero_end (Point qs) (inl a) = absurd (unlike a.1)
-      where
-        unlike : {v : List ℤ} → Undecided (causes.Width 0) ≡ Rattle.it_prove.specs.ProofViews.No v → ⊥
-        unlike e = cc
-    zero_end (Point qs) (inr a) = absurd (unlike a.1)
-      where
-        unlike : Undecided (causes.Width 0) ≡ Undecided Scale → ⊥
-        unlike e = cc
-    zero_end (Pivots j) a = absurd (unlike a)
-      where
-        unlike : Undecided (causes.Width 0) ≡ Undecided (causes.Pivots j) → ⊥
-        unlike e = cc
-    zero_end (Width j) a = ap Width (sym (inside a))
-      where
-        inside : Undecided (causes.Width 0) ≡ Undecided (causes.Width j) → 0 ≡ j
-        inside e = cc
+    width_not_yes : {w : Rattle.it_space.specs.Answers.CertificateView} → Undecided (causes.Width 0) ≡ Rattle.it_prove.specs.ProofViews.Yes w → ⊥
+    width_not_yes e = cc
 
-    fits : CollapsesFit q target
-    fits = record {
+    width_not_no : {v : List ℤ} → Undecided (causes.Width 0) ≡ Rattle.it_prove.specs.ProofViews.No v → ⊥
+    width_not_no e = cc
+
+    width_not_scale : Undecided (causes.Width 0) ≡ Undecided Scale → ⊥
+    width_not_scale e = cc
+
+    width_not_pivots : {j : ℕ} → Undecided (causes.Width 0) ≡ Undecided (causes.Pivots j) → ⊥
+    width_not_pivots e = cc
+
+    same_step : {j : ℕ} → Undecided (causes.Width 0) ≡ Undecided (causes.Width j) → 0 ≡ j
+    same_step e = cc
+
+    zero_end : (x : RunEndView (List (ℕ × Rational)) (List Rational)) → Follows q target x (Undecided (causes.Width 0)) → x ≡ Width 0
+    zero_end (Weights ws) (inl a) = absurd (width_not_yes a.3)
+    zero_end (Weights ws) (inr a) = absurd (width_not_scale a.1)
+    zero_end (Point qs) (inl a) = absurd (width_not_no a.1)
+    zero_end (Point qs) (inr a) = absurd (width_not_scale a.1)
+    zero_end (Pivots j) a = absurd (width_not_pivots a)
+    zero_end (Width j) a = ap Width (sym (same_step a))
+
+    all_collapses_fit : CollapsesFit q target
+    all_collapses_fit = record {
       each = all_of (λ g. CollapseFits q.space.variables (dependences_of q) g.row) (generators q)
           (every-same (λ g. IsSmall g.row) (λ g. CollapseFits q.space.variables (dependences_of q) g.row) (generators q) (λ g b. collapse_fits q.space.variables (dependences_of q) g.row b) all_small);
       own = collapse_fits q.space.variables (dependences_of q) target s.own;
     }
 
-    few : length (closed_places q) ≤ 2 ^ 11
-    few =
+    few_places : length (closed_places q) ≤ 2 ^ 11
+    few_places =
         let power : 2 ^ q.space.variables ≤ 2 ^ 10 = pow_mono {i = q.space.variables} {j = 10} k.space.few in
         omega (arith, power, k.space.few_rates, rise_length 1 (2 ^ q.space.variables + q.space.rates) (closed_places q) (coords_rise q.space.variables q.space.rates (dependences_of q) (dependences_sound q k)))
 
     start : StartFits (length (closed_places q)) (length (columns (closed_generators q))) (feasibility_problem (closed_places q) (columns (closed_generators q)) (closed_target q target))
-    start = start_fits (closed_places q) (columns (closed_generators q)) (closed_target q target) few
+    start = start_fits (closed_places q) (columns (closed_generators q)) (closed_target q target) few_places
         (columns_small (closed_generators q) (every-map (λ g. SmallRow g.row) (collapsed_generator q.space.variables (dependences_of q)) (generators q)
         (every-same (λ g. IsSmall g.row) (λ g. SmallRow (collapsed_row q.space.variables (dependences_of q) g.row)) (generators q) (λ g b. small_row q.space.variables (dependences_of q) g.row b) all_small)))
         (small_row q.space.variables (dependences_of q) target s.own)
 
     by_cases : Runs q target budget e.end → e.end ≡ Width 0 → ⊥
-    by_cases (inl a) z = a.0 fits
+    by_cases (inl a) z = a.0 all_collapses_fit
     by_cases (inr (f, inl a)) z = a.0 start
     by_cases (inr (f, inr a)) z = never_run (length (closed_places q)) (length (columns (closed_generators q))) (feasibility_problem (closed_places q) (columns (closed_generators q)) (closed_target q target)) budget
         (start_of (closed_places q) (columns (closed_generators q)) (closed_target q target)) e.end z a.1

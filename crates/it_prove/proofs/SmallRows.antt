@@ -1,6 +1,6 @@
 -- Small rows: those of the generators are, and over closed sets small rows stay so.
 use Rattle.std.proofs.Common.{ℕ, zero, suc, ◌+◌, ◌-◌, ◌*◌, ◌^◌, ◌≤◌, ℤ, pos, negsuc, neg_ℤ, ◌+ℤ◌, unsigned_abs, List, [], ◌∷◌, ◌++◌, map, length, get_or, Bool, true, false, cond, nat_lt, nat_eq, All, sym, subst, arith, length-append}
-use Rattle.std.specs.List.{filter, AllByRecursion as Every}
+use Rattle.std.specs.List.{AllByRecursion as Every}
 use Rattle.std.proofs.lemmas.Int.{ints}
 use Rattle.std.proofs.lemmas.List.{length-map}
 use Rattle.it_space.specs.declared.problems.Constraint.{Constraint}
@@ -45,24 +45,21 @@ both_small m n xs ys a b = (omega (arith, length-append xs ys, a.0, b.0), every-
 small_of : (m : ℕ) (row : Terms) → m ≤ 4 → (length row ≤ m) × Every Small row → IsSmall row
 small_of m row h a = record { few = omega (arith, a.0); each = all_of Small row a.1 }
 
+one_small_term : (s : ℕ) (a : ℤ) → unsigned_abs a ≤ 1 → (length (set_term s a) ≤ 1) × Every Small (set_term s a)
+one_small_term s a h = (term_few s a, term_each s a h)
+
 elemental_small : (n : ℕ) (e : Elemental) → IsSmall (elemental_row n e)
 elemental_small n (Conditional i) =
     let all_but : Terms = set_term (2 ^ n - 1 - 2 ^ i) (negsuc 0) in
     let all : Terms = set_term (2 ^ n - 1) (pos 1) in
-    small_of 2 (all_but ++ all) (omega arith) (both_small 1 1 all_but all (one (2 ^ n - 1 - 2 ^ i) (negsuc 0) (omega arith)) (one (2 ^ n - 1) (pos 1) (omega arith)))
-  where
-    one : (s : ℕ) (a : ℤ) → unsigned_abs a ≤ 1 → (length (set_term s a) ≤ 1) × Every Small (set_term s a)
-    one s a h = (term_few s a, term_each s a h)
+    small_of 2 (all_but ++ all) (omega arith) (both_small 1 1 all_but all (one_small_term (2 ^ n - 1 - 2 ^ i) (negsuc 0) (omega arith)) (one_small_term (2 ^ n - 1) (pos 1) (omega arith)))
 elemental_small n (Mutual i j k) =
     let a : Terms = set_term k (negsuc 0) in
     let b : Terms = set_term (k + 2 ^ i) (pos 1) in
     let c : Terms = set_term (k + 2 ^ j) (pos 1) in
     let d : Terms = set_term (k + 2 ^ i + 2 ^ j) (negsuc 0) in
-    small_of 4 (a ++ b ++ c ++ d) (omega arith) (both_small 3 1 (a ++ b ++ c) d (both_small 2 1 (a ++ b) c (both_small 1 1 a b (one k (negsuc 0) (omega arith)) (one (k + 2 ^ i) (pos 1) (omega arith)))
-    (one (k + 2 ^ j) (pos 1) (omega arith))) (one (k + 2 ^ i + 2 ^ j) (negsuc 0) (omega arith)))
-  where
-    one : (s : ℕ) (a : ℤ) → unsigned_abs a ≤ 1 → (length (set_term s a) ≤ 1) × Every Small (set_term s a)
-    one s a h = (term_few s a, term_each s a h)
+    small_of 4 (a ++ b ++ c ++ d) (omega arith) (both_small 3 1 (a ++ b ++ c) d (both_small 2 1 (a ++ b) c (both_small 1 1 a b (one_small_term k (negsuc 0) (omega arith)) (one_small_term (k + 2 ^ i) (pos 1) (omega arith)))
+    (one_small_term (k + 2 ^ j) (pos 1) (omega arith))) (one_small_term (k + 2 ^ i + 2 ^ j) (negsuc 0) (omega arith)))
 
 pub generators_small : (n : ℕ) (cs : List Constraint) → All (λ c. IsSmall c.row) cs → Every (λ g. IsSmall g.row) (generator_list n cs)
 unfolding generator_list
@@ -77,12 +74,12 @@ module _ (n : ℕ) (ds : List Dependence) where
   parts_fit f [] m b l e = tt
   parts_fit f (t ∷ ts) m b l e = (
     (λ h. omega (arith, l, abs_add (f (place n ds t.0)) t.1 (m * 2 ^ 74) (2 ^ 74) (b (place n ds t.0)) (omega (arith, e.0)))),
-    parts_fit (plus_at f (place n ds t.0, t.1)) ts (suc m) (λ c. more c (nat_eq (place n ds t.0) c)) (omega (arith, l)) e.1,
+    parts_fit (plus_at f (place n ds t.0, t.1)) ts (suc m) (λ c. sum_stays_small c (nat_eq (place n ds t.0) c)) (omega (arith, l)) e.1,
   )
     where
-      more : (c : ℕ) (s : Bool) → unsigned_abs (f c +ℤ cond s t.1 (pos 0)) ≤ suc m * 2 ^ 74
-      more c true = omega (arith, abs_add (f c) t.1 (m * 2 ^ 74) (2 ^ 74) (b c) (omega (arith, e.0)))
-      more c false = omega (arith, abs_add (f c) (pos 0) (m * 2 ^ 74) 0 (b c) (omega arith))
+      sum_stays_small : (c : ℕ) (s : Bool) → unsigned_abs (f c +ℤ cond s t.1 (pos 0)) ≤ suc m * 2 ^ 74
+      sum_stays_small c true = omega (arith, abs_add (f c) t.1 (m * 2 ^ 74) (2 ^ 74) (b c) (omega (arith, e.0)))
+      sum_stays_small c false = omega (arith, abs_add (f c) (pos 0) (m * 2 ^ 74) 0 (b c) (omega arith))
 
   pub collapse_fits : (row : Terms) → IsSmall row → CollapseFits n ds row
   collapse_fits row s = parts_fit (λ c. pos 0) row 0 (λ c. omega arith) (omega (arith, s.few)) (every_of Small row s.each)
@@ -91,16 +88,13 @@ module _ (n : ℕ) (ds : List Dependence) where
   coefficient_small [] c e = omega arith
   coefficient_small (t ∷ ts) c e = by_test (nat_lt 0 (place n ds t.0)) (coefficient_small ts c e.1)
     where
-      rest : Terms
-      rest = filter (λ t. nat_lt 0 t.0) (placed_terms n ds ts)
-
-      one : (s : Bool) → unsigned_abs (coefficient (collapsed_row n ds ts) c) ≤ length ts * 2 ^ 74 → unsigned_abs (cond s t.1 (pos 0) +ℤ coefficient (collapsed_row n ds ts) c) ≤ suc (length ts) * 2 ^ 74
-      one true h = omega (arith, abs_add t.1 (coefficient (collapsed_row n ds ts) c) (2 ^ 74) (length ts * 2 ^ 74) (omega (arith, e.0)) h)
-      one false h = omega (arith, abs_add (pos 0) (coefficient (collapsed_row n ds ts) c) 0 (length ts * 2 ^ 74) (omega arith) h)
+      sum_stays_small : (s : Bool) → unsigned_abs (coefficient (collapsed_row n ds ts) c) ≤ length ts * 2 ^ 74 → unsigned_abs (cond s t.1 (pos 0) +ℤ coefficient (collapsed_row n ds ts) c) ≤ suc (length ts) * 2 ^ 74
+      sum_stays_small true h = omega (arith, abs_add t.1 (coefficient (collapsed_row n ds ts) c) (2 ^ 74) (length ts * 2 ^ 74) (omega (arith, e.0)) h)
+      sum_stays_small false h = omega (arith, abs_add (pos 0) (coefficient (collapsed_row n ds ts) c) 0 (length ts * 2 ^ 74) (omega arith) h)
 
       by_test : (s : Bool) → unsigned_abs (coefficient (collapsed_row n ds ts) c) ≤ length ts * 2 ^ 74
           → unsigned_abs (coefficient (cond s ((place n ds t.0, t.1) ∷ collapsed_row n ds ts) (collapsed_row n ds ts)) c) ≤ suc (length ts) * 2 ^ 74
-      by_test true h = one (nat_eq (place n ds t.0) c) h
+      by_test true h = sum_stays_small (nat_eq (place n ds t.0) c) h
       by_test false h = omega (arith, h)
 
 -- no coefficient is large

@@ -13,72 +13,72 @@ use Rattle.it_elemental.specs.Generators.{Generator, generator_at}
 use Rattle.it_check.specs.Verdicts.{column}
 use Rattle.it_prove.specs.Columns.{columns, weights_from}
 use Rattle.it_prove.specs.Scaling.{EachFits, scale_of, scaled_number, scaled_by, scaled_weights, numbers_of}
-use Rattle.it_prove.proofs.Scales.{scale_pos, divides}
+use Rattle.it_prove.proofs.Scales.{scale_pos, denominators_divide}
 use Rattle.it_prove.proofs.Wholes.{scaled_sum, scaled_above}
-use Rattle.it_prove.proofs.GroupLemmas.{value_total, regrouped}
+use Rattle.it_prove.proofs.GroupLemmas.{value_total, total_by_generators}
 use Prim.Native.Nat.{◌∣◌}
 
 -- each scaled weight is of a column and above 0
-known : (l n from : ℕ) (ws : List (ℕ × Rational)) → AreWeights field_ℚ n from ws → Every (λ (t : ℕ × ℤ). t.0 < n) (scaled_by l ws)
-known l n from [] a = tt
-known l n from (w ∷ ws) a = (a.1, known l n (suc w.0) ws a.3)
+terms_of_columns : (l n from : ℕ) (ws : List (ℕ × Rational)) → AreWeights field_ℚ n from ws → Every (λ (t : ℕ × ℤ). t.0 < n) (scaled_by l ws)
+terms_of_columns l n from [] a = tt
+terms_of_columns l n from (w ∷ ws) a = (a.1, terms_of_columns l n (suc w.0) ws a.3)
 
-positive : (l n from : ℕ) (ws : List (ℕ × Rational)) → 0 < l → Every (λ q. q.den ∣ l) (numbers_of ws) → AreWeights field_ℚ n from ws → (j : ℕ) → pos 0 ≤ℤ coefficient (scaled_by l ws) j
-positive l n from [] h d a j = omega (arith, ints)
-positive l n from (w ∷ ws) h d a j = by_test (eqb w.0 j) (scaled_above l w.1 h d.0 a.2) (positive l n (suc w.0) ws h d.1 a.3 j)
+coefficient_not_negative : (l n from : ℕ) (ws : List (ℕ × Rational)) → 0 < l → Every (λ q. q.den ∣ l) (numbers_of ws) → AreWeights field_ℚ n from ws → (j : ℕ) → pos 0 ≤ℤ coefficient (scaled_by l ws) j
+coefficient_not_negative l n from [] h d a j = omega (arith, ints)
+coefficient_not_negative l n from (w ∷ ws) h d a j = by_test (eqb w.0 j) (scaled_above l w.1 h d.0 a.2) (coefficient_not_negative l n (suc w.0) ws h d.1 a.3 j)
   where
     by_test : (b : Bool) → pos 0 <ℤ scaled_number l w.1 → pos 0 ≤ℤ coefficient (scaled_by l ws) j → pos 0 ≤ℤ (cond b (scaled_number l w.1) (pos 0) +ℤ coefficient (scaled_by l ws) j)
     by_test true g k = omega (arith, ints)
     by_test false g k = omega (arith, ints)
 
 -- as a row over the columns they are canonical
-pub canonical : (l n from : ℕ) (ws : List (ℕ × Rational)) → 0 < l → Every (λ q. q.den ∣ l) (numbers_of ws) → EachFits l (numbers_of ws) → AreWeights field_ℚ n from ws → Ascends from (scaled_by l ws)
-canonical l n from [] h d f a = tt
-canonical l n from (w ∷ ws) h d f a = (a.0, apart (scaled_number l w.1) (scaled_above l w.1 h d.0 a.2), f.0, lower (canonical l n (suc w.0) ws h d.1 f.1 a.3))
+pub scaled_terms_ascend : (l n from : ℕ) (ws : List (ℕ × Rational)) → 0 < l → Every (λ q. q.den ∣ l) (numbers_of ws) → EachFits l (numbers_of ws) → AreWeights field_ℚ n from ws → Ascends from (scaled_by l ws)
+scaled_terms_ascend l n from [] h d f a = tt
+scaled_terms_ascend l n from (w ∷ ws) h d f a = (a.0, not_zero (scaled_number l w.1) (scaled_above l w.1 h d.0 a.2), f.0, ascends_from_next (scaled_terms_ascend l n (suc w.0) ws h d.1 f.1 a.3))
   where
-    apart : (x : ℤ) → pos 0 <ℤ x → x ≢ pos 0
-    apart x h e = omega (arith, ints, e)
+    not_zero : (x : ℤ) → pos 0 <ℤ x → x ≢ pos 0
+    not_zero x h e = omega (arith, ints, e)
 
-    lower : Ascends (suc w.0) (scaled_by l ws) → Ascends (w.0 + 1) (scaled_by l ws)
-    lower h = subst (λ m. Ascends m (scaled_by l ws)) (one w.0) h
+    ascends_from_next : Ascends (suc w.0) (scaled_by l ws) → Ascends (w.0 + 1) (scaled_by l ws)
+    ascends_from_next h = subst (λ m. Ascends m (scaled_by l ws)) (plus_one w.0) h
       where
-        one : (m : ℕ) → suc m ≡ m + 1
-        one m = omega arith
+        plus_one : (m : ℕ) → suc m ≡ m + 1
+        plus_one m = omega arith
 
 -- as the code has them, with the scale that it found
 pub columns_below : (m n from : ℕ) (ws : List (ℕ × Rational)) → n ≤ m → AreWeights field_ℚ n from ws → All (λ (w : ℕ × Rational). w.0 < m) ws
-columns_below m n from ws h a = all_of (λ (w : ℕ × Rational). w.0 < m) ws (each from ws a)
+columns_below m n from ws h a = all_of (λ (w : ℕ × Rational). w.0 < m) ws (every_column_below from ws a)
   where
-    below : (x : ℕ) → x < n → x < m
-    below x l = omega arith
+    column_below_limit : (x : ℕ) → x < n → x < m
+    column_below_limit x l = omega arith
 
-    each : (from : ℕ) (ws : List (ℕ × Rational)) → AreWeights field_ℚ n from ws → Every (λ (w : ℕ × Rational). w.0 < m) ws
-    each from [] a = tt
-    each from (w ∷ ws) a = (below w.0 a.1, each (suc w.0) ws a.3)
+    every_column_below : (from : ℕ) (ws : List (ℕ × Rational)) → AreWeights field_ℚ n from ws → Every (λ (w : ℕ × Rational). w.0 < m) ws
+    every_column_below from [] a = tt
+    every_column_below from (w ∷ ws) a = (column_below_limit w.0 a.1, every_column_below (suc w.0) ws a.3)
 
 module _ (n l : ℕ) (ws : List (ℕ × Rational)) (e : l ≡ scale_of (numbers_of ws)) (a : AreWeights field_ℚ n 0 ws) where
   found_divides : Every (λ q. q.den ∣ l) (numbers_of ws)
-  found_divides = subst (λ l. Every (λ q. q.den ∣ l) (numbers_of ws)) (sym e) (divides 1 (numbers_of ws))
+  found_divides = subst (λ l. Every (λ q. q.den ∣ l) (numbers_of ws)) (sym e) (denominators_divide 1 (numbers_of ws))
 
   found_some : 0 < l
   found_some = subst (λ l. 0 < l) (sym e) (scale_pos 1 (numbers_of ws) (omega arith))
 
   pub terms_canonical : (ts : Terms) → ts ≡ scaled_by l ws → EachFits l (numbers_of ws) → Ascends 0 ts
-  terms_canonical ts s f = subst (Ascends 0) (sym s) (canonical l n 0 ws found_some found_divides f a)
+  terms_canonical ts s f = subst (Ascends 0) (sym s) (scaled_terms_ascend l n 0 ws found_some found_divides f a)
 
   pub terms_positive : (ts : Terms) → ts ≡ scaled_by l ws → (j : ℕ) → pos 0 ≤ℤ coefficient ts j
-  terms_positive ts s j = subst (λ ts. pos 0 ≤ℤ coefficient ts j) (sym s) (positive l n 0 ws found_some found_divides a j)
+  terms_positive ts s j = subst (λ ts. pos 0 ≤ℤ coefficient ts j) (sym s) (coefficient_not_negative l n 0 ws found_some found_divides a j)
 
 module _ (gs : List Generator) (coords : List ℕ) (target : Terms) (ws : List (ℕ × Rational))
     (a : SumsUp field_ℚ (length coords) (length (columns gs)) (feasibility_problem coords (columns gs) target) ws) where
   scaled_divide : Every (λ q. q.den ∣ scale_of (numbers_of ws)) (numbers_of ws)
-  scaled_divide = divides 1 (numbers_of ws)
+  scaled_divide = denominators_divide 1 (numbers_of ws)
 
-  some : 0 < scale_of (numbers_of ws)
-  some = scale_pos 1 (numbers_of ws) (omega arith)
+  scale_some : 0 < scale_of (numbers_of ws)
+  scale_some = scale_pos 1 (numbers_of ws) (omega arith)
 
-  plain : (k : ℕ) → 0 + k ≡ k
-  plain k = omega arith
+  zero_plus : (k : ℕ) → 0 + k ≡ k
+  zero_plus k = omega arith
 
   -- at each coordinate of the list
   pub adds_up : (c : ℕ) → ((k : ℕ) × (k < length coords) × (get_or coords k 0 ≡ c))
@@ -86,17 +86,17 @@ module _ (gs : List Generator) (coords : List ℕ) (target : Terms) (ws : List (
   adds_up c i =
       sym (scaled_sum (scale_of (numbers_of ws)) ws (λ j. coefficient (get_or (columns gs) j []) c) (coefficient target c) scaled_divide
       (sums_up coords (columns gs) target ws a c i))
-      ∙ value_total c (columns gs) (scaled_weights ws) (known (scale_of (numbers_of ws)) (length (columns gs)) 0 ws a.ordered)
-      ∙ regrouped c gs gs 0 0 (coefficient (scaled_weights ws)) (λ k l. ap (generator_at gs) (plain k))
+      ∙ value_total c (columns gs) (scaled_weights ws) (terms_of_columns (scale_of (numbers_of ws)) (length (columns gs)) 0 ws a.ordered)
+      ∙ total_by_generators c gs gs 0 0 (coefficient (scaled_weights ws)) (λ k l. ap (generator_at gs) (zero_plus k))
 
   pub scale_least : pos 1 ≤ℤ pos (scale_of (numbers_of ws))
-  scale_least = least (scale_of (numbers_of ws)) some
+  scale_least = least (scale_of (numbers_of ws)) scale_some
     where
       least : (l : ℕ) → 0 < l → pos 1 ≤ℤ pos l
       least l h = omega (arith, ints)
 
   pub scaled_positive : (j : ℕ) → pos 0 ≤ℤ coefficient (scaled_weights ws) j
-  scaled_positive = positive (scale_of (numbers_of ws)) (length (columns gs)) 0 ws some scaled_divide a.ordered
+  scaled_positive = coefficient_not_negative (scale_of (numbers_of ws)) (length (columns gs)) 0 ws scale_some scaled_divide a.ordered
 
   pub scaled_canonical : EachFits (scale_of (numbers_of ws)) (numbers_of ws) → Ascends 0 (scaled_weights ws)
-  scaled_canonical f = canonical (scale_of (numbers_of ws)) (length (columns gs)) 0 ws some scaled_divide f a.ordered
+  scaled_canonical f = scaled_terms_ascend (scale_of (numbers_of ws)) (length (columns gs)) 0 ws scale_some scaled_divide f a.ordered

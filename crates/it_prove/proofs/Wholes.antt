@@ -7,7 +7,7 @@ use Rattle.it_number.proofs.Quotients.{one_pos}
 use Rattle.it_rational.specs.Rational.{Rational, is_at_least_zero}
 use Rattle.it_rational.specs.Rational as Q
 use Rattle.it_rational.proofs.RationalLaws.{ring_ℚ}
-use Rattle.it_rational.proofs.Field.{from_sign, to_sign, field_ℚ}
+use Rattle.it_rational.proofs.Field.{least_by_sign, sign_of_least, field_ℚ}
 use Rattle.it_rational.proofs.Names.{same_value, quotient_names, times_names, own_name, own_parts}
 use Rattle.it_rational.proofs.Signs.{minus_below, minus_least}
 use Rattle.it_rational.proofs.Ordered.{neg-above, mul-above}
@@ -43,10 +43,10 @@ whole_scaled l q h =
     same_value (Q.integer (q.num *ℤ pos (l / q.den))) (Q.times (Q.integer (pos l)) q) (q.num *ℤ pos (l / q.den)) (pos l *ℤ q.num) 1 (1 * q.den) (omega arith) (omega (arith, q.positive))
     (quotient_names (q.num *ℤ pos (l / q.den)) 1 (omega arith))
     (times_names (Q.integer (pos l)) q (pos l) q.num 1 q.den (omega arith) q.positive (quotient_names (pos l) 1 (omega arith)) (own_name q))
-    (across q.num (l / q.den) q.den l (div-mul_cancel q.den h))
+    (cross_products q.num (l / q.den) q.den l (div-mul_cancel q.den h))
   where
-    across : (n : ℤ) (k d l : ℕ) → k * d ≡ l → (n *ℤ pos k) *ℤ pos (1 * d) ≡ (pos l *ℤ n) *ℤ pos 1
-    across n k d l e = ap (λ m. (n *ℤ pos k) *ℤ pos m) (one-mul d) ∙ mul_assoc n (pos k) (pos d) ∙ mul_comm n (pos (k * d)) ∙ ap (λ m. pos m *ℤ n) e ∙ times_one (pos l *ℤ n)
+    cross_products : (n : ℤ) (k d l : ℕ) → k * d ≡ l → (n *ℤ pos k) *ℤ pos (1 * d) ≡ (pos l *ℤ n) *ℤ pos 1
+    cross_products n k d l e = ap (λ m. (n *ℤ pos k) *ℤ pos m) (one-mul d) ∙ mul_assoc n (pos k) (pos d) ∙ mul_comm n (pos (k * d)) ∙ ap (λ m. pos m *ℤ n) e ∙ times_one (pos l *ℤ n)
       where
         times_one : (x : ℤ) → x ≡ x *ℤ pos 1
         times_one x = omega (arith, ints)
@@ -72,10 +72,10 @@ scaled_sum l ws f t d e = whole_same (value (scaled_by l ws) f) (pos l *ℤ t)
 
 -- a number above 0 has a numerator above 0
 pub above_num : (q : Rational) → IsAboveZero field_ℚ q → pos 0 <ℤ q.num
-above_num q h = by_sign q.num (λ n. apart (is_at_least_zero (Q.minus q)) (minus_least q n) h)
+above_num q h = by_sign q.num (λ n. not_both (is_at_least_zero (Q.minus q)) (minus_least q n) h)
   where
-    apart : (b : Bool) → b ≡ true → b ≡ false → ⊥
-    apart b e f = cc
+    not_both : (b : Bool) → b ≡ true → b ≡ false → ⊥
+    not_both b e f = cc
 
     by_sign : (z : ℤ) → (¬ (pos 0 <ℤ z) → ⊥) → pos 0 <ℤ z
     by_sign (pos zero) f = absurd (f (λ h. omega (arith, ints)))
@@ -84,11 +84,11 @@ above_num q h = by_sign q.num (λ n. apart (is_at_least_zero (Q.minus q)) (minus
 
 pub scaled_above : (l : ℕ) (q : Rational) → 0 < l → q.den ∣ l → IsAboveZero field_ℚ q → pos 0 <ℤ scaled_number l q
 unfolding scaled_number
-scaled_above l q h d a = product q.num (l / q.den) (above_num q a) (some (l / q.den) (div-mul_cancel q.den d))
+scaled_above l q h d a = product q.num (l / q.den) (above_num q a) (factor_some (l / q.den) (div-mul_cancel q.den d))
   where
-    some : (k : ℕ) → k * q.den ≡ l → 0 < k
-    some zero e = absurd (omega (arith, native.Mathlib.Nat.zero-mul q.den))
-    some (suc k) e = omega arith
+    factor_some : (k : ℕ) → k * q.den ≡ l → 0 < k
+    factor_some zero e = absurd (omega (arith, native.Mathlib.Nat.zero-mul q.den))
+    factor_some (suc k) e = omega arith
 
     product : (z : ℤ) (k : ℕ) → pos 0 <ℤ z → 0 < k → pos 0 <ℤ (z *ℤ pos k)
     product (pos n) k h g = let m : 0 < n * k = mul-pos (omega (arith, ints)) g in omega (arith, ints)
@@ -111,9 +111,9 @@ module _ (l : ℕ) (p : ℕ → ℤ) (h : ℕ → Rational) where
 
     pub least_scaled : is_at_least_zero (rational_value row h) ≡ true → pos 0 ≤ℤ value row p
     least_scaled a =
-        let scale_least : is_at_least_zero (Q.integer (pos l)) ≡ true = to_sign (Q.integer (pos l)).num (subst (λ (z : ℤ). pos 0 ≤ℤ z) (sym (whole_parts (pos l)).0) (omega (arith, ints))) in
+        let scale_least : is_at_least_zero (Q.integer (pos l)) ≡ true = sign_of_least (Q.integer (pos l)).num (subst (λ (z : ℤ). pos 0 ≤ℤ z) (sym (whole_parts (pos l)).0) (omega (arith, ints))) in
         subst (λ (z : ℤ). pos 0 ≤ℤ z) (whole_parts (value row p)).0
-        (from_sign (Q.integer (value row p)).num (ap is_at_least_zero (value_scaled row e) ∙ field_ℚ.order.mul-least (Q.integer (pos l)) (rational_value row h) scale_least a))
+        (least_by_sign (Q.integer (value row p)).num (ap is_at_least_zero (value_scaled row e) ∙ field_ℚ.order.mul-least (Q.integer (pos l)) (rational_value row h) scale_least a))
 
     pub below_scaled : is_at_least_zero (rational_value row h) ≡ false → value row p ≤ℤ neg_ℤ (pos 1)
     below_scaled b =
@@ -121,7 +121,7 @@ module _ (l : ℕ) (p : ℕ → ℤ) (h : ℕ → Rational) where
         mul-above field_ℚ (Q.integer (pos l)) (Q.minus (rational_value row h)) scale_above (neg-above field_ℚ (rational_value row h) b) in
         let is : Q.times (Q.integer (pos l)) (Q.minus (rational_value row h)) ≡ Q.integer (neg_ℤ (value row p)) =
         ring ring_ℚ (Q.integer (pos l) ∷ rational_value row h ∷ []) (times (v 0) (minus (v 1))) (minus (times (v 0) (v 1))) refl ∙ ap Q.minus (sym (value_scaled row e)) ∙ sym (whole_minus (value row p)) in
-        under (value row p) (subst (λ (z : ℤ). pos 0 <ℤ z) (ap (λ (q : Rational). q.num) is ∙ (whole_parts (neg_ℤ (value row p))).0) (above_num (Q.times (Q.integer (pos l)) (Q.minus (rational_value row h))) above))
+        at_most_minus_one (value row p) (subst (λ (z : ℤ). pos 0 <ℤ z) (ap (λ (q : Rational). q.num) is ∙ (whole_parts (neg_ℤ (value row p))).0) (above_num (Q.times (Q.integer (pos l)) (Q.minus (rational_value row h))) above))
       where
-        under : (x : ℤ) → pos 0 <ℤ neg_ℤ x → x ≤ℤ neg_ℤ (pos 1)
-        under x h = omega (arith, ints)
+        at_most_minus_one : (x : ℤ) → pos 0 <ℤ neg_ℤ x → x ≤ℤ neg_ℤ (pos 1)
+        at_most_minus_one x h = omega (arith, ints)

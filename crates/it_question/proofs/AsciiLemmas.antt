@@ -89,18 +89,18 @@ behind_first b bytes h = IsAscii-drop (b ∷ bytes) 1 h
 
 leading_ascii : (line : List ℕ) → IsAscii line → IsAscii (without_leading line)
 leading_ascii [] h = h
-leading_ascii (b ∷ line) h = by (b == 32) (leading_ascii line (behind_first b line h))
+leading_ascii (b ∷ line) h = by_test (b == 32) (leading_ascii line (behind_first b line h))
   where
-    by : (t : Bool) → IsAscii (without_leading line) → IsAscii (cond t (without_leading line) (b ∷ line))
-    by true g = g
-    by false g = h
+    by_test : (t : Bool) → IsAscii (without_leading line) → IsAscii (cond t (without_leading line) (b ∷ line))
+    by_test true g = g
+    by_test false g = h
 
 unless_ascii : (b : ℕ) (line : List ℕ) → b < 128 → IsAscii line → IsAscii (unless_blank b line)
-unless_ascii b [] l h = by (b == 32)
+unless_ascii b [] l h = by_test (b == 32)
   where
-    by : (t : Bool) → IsAscii (cond t [] (b ∷ []))
-    by true = IsAscii-nil
-    by false = one_ascii b l
+    by_test : (t : Bool) → IsAscii (cond t [] (b ∷ []))
+    by_test true = IsAscii-nil
+    by_test false = one_ascii b l
 unless_ascii b (c ∷ line) l h = IsAscii-cons b (c ∷ line) l h
 
 trailing_ascii : (line : List ℕ) → IsAscii line → IsAscii (without_trailing line)

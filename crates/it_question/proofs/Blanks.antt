@@ -15,20 +15,20 @@ leading_behind (b ∷ gap) line h s = ap (λ (t : Bool). cond t (without_leading
 
 leading_stops : (line : List ℕ) → Stops is_space (without_leading line)
 leading_stops [] = tt
-leading_stops (b ∷ line) = by (b == 32) refl (leading_stops line)
+leading_stops (b ∷ line) = by_test (b == 32) refl (leading_stops line)
   where
-    by : (t : Bool) → (b == 32) ≡ t → Stops is_space (without_leading line) → Stops is_space (cond t (without_leading line) (b ∷ line))
-    by true e h = h
-    by false e h = e
+    by_test : (t : Bool) → (b == 32) ≡ t → Stops is_space (without_leading line) → Stops is_space (cond t (without_leading line) (b ∷ line))
+    by_test true e h = h
+    by_test false e h = e
 
 -- ---- behind
 
 blank_tail : (b : ℕ) (f : ℕ → Bool) (line : List ℕ) → f b ≡ false → Stops f (unless_blank b line)
-blank_tail b f [] e = by (b == 32)
+blank_tail b f [] e = by_test (b == 32)
   where
-    by : (t : Bool) → Stops f (cond t [] (b ∷ []))
-    by true = tt
-    by false = e
+    by_test : (t : Bool) → Stops f (cond t [] (b ∷ []))
+    by_test true = tt
+    by_test false = e
 blank_tail b f (c ∷ line) e = e
 
 -- what stops before a line stops before what is left of it
@@ -47,31 +47,31 @@ AreSolid (b ∷ line) = (is_space b ≡ false) × AreSolid line
 
 pub solid_kept : (text rest : List ℕ) → AreSolid text → without_trailing (text ++ rest) ≡ text ++ without_trailing rest
 solid_kept [] rest h = refl
-solid_kept (b ∷ text) rest h = ap (unless_blank b) (solid_kept text rest h.1) ∙ by (text ++ without_trailing rest)
+solid_kept (b ∷ text) rest h = ap (unless_blank b) (solid_kept text rest h.1) ∙ by_list (text ++ without_trailing rest)
   where
-    by : (line : List ℕ) → unless_blank b line ≡ b ∷ line
-    by [] = ap (λ (t : Bool). cond t [] (b ∷ [])) h.0
-    by (c ∷ line) = refl
+    by_list : (line : List ℕ) → unless_blank b line ≡ b ∷ line
+    by_list [] = ap (λ (t : Bool). cond t [] (b ∷ [])) h.0
+    by_list (c ∷ line) = refl
 
 pub some_kept : (gap line : List ℕ) (c : ℕ) (more : List ℕ) → without_trailing line ≡ c ∷ more → without_trailing (gap ++ line) ≡ gap ++ without_trailing line
 some_kept [] line c more e = refl
-some_kept (b ∷ gap) line c more e = ap (unless_blank b) (some_kept gap line c more e) ∙ ap (λ (t : List ℕ). unless_blank b (gap ++ t)) e ∙ by gap ∙ ap (λ (t : List ℕ). b ∷ (gap ++ t)) (sym e)
+some_kept (b ∷ gap) line c more e = ap (unless_blank b) (some_kept gap line c more e) ∙ ap (λ (t : List ℕ). unless_blank b (gap ++ t)) e ∙ by_list gap ∙ ap (λ (t : List ℕ). b ∷ (gap ++ t)) (sym e)
   where
-    by : (gap : List ℕ) → unless_blank b (gap ++ c ∷ more) ≡ b ∷ (gap ++ c ∷ more)
-    by [] = refl
-    by (d ∷ gap) = refl
+    by_list : (gap : List ℕ) → unless_blank b (gap ++ c ∷ more) ≡ b ∷ (gap ++ c ∷ more)
+    by_list [] = refl
+    by_list (d ∷ gap) = refl
 
 trailing_once : (line : List ℕ) → without_trailing (without_trailing line) ≡ without_trailing line
 trailing_once [] = refl
-trailing_once (b ∷ line) = by (without_trailing line) (trailing_once line)
+trailing_once (b ∷ line) = by_list (without_trailing line) (trailing_once line)
   where
-    alone : (t : Bool) → (b == 32) ≡ t → without_trailing (cond t [] (b ∷ [])) ≡ cond t [] (b ∷ [])
-    alone true e = refl
-    alone false e = ap (λ (t : Bool). cond t [] (b ∷ [])) e
+    by_test : (t : Bool) → (b == 32) ≡ t → without_trailing (cond t [] (b ∷ [])) ≡ cond t [] (b ∷ [])
+    by_test true e = refl
+    by_test false e = ap (λ (t : Bool). cond t [] (b ∷ [])) e
 
-    by : (rest : List ℕ) → without_trailing rest ≡ rest → without_trailing (unless_blank b rest) ≡ unless_blank b rest
-    by [] e = alone (b == 32) refl
-    by (c ∷ rest) e = ap (unless_blank b) e
+    by_list : (rest : List ℕ) → without_trailing rest ≡ rest → without_trailing (unless_blank b rest) ≡ unless_blank b rest
+    by_list [] e = by_test (b == 32) refl
+    by_list (c ∷ rest) e = ap (unless_blank b) e
 
 -- what is trimmed stays so
 pub trimmed_once : (line : List ℕ) → trimmed_line (trimmed_line line) ≡ trimmed_line line

@@ -11,14 +11,14 @@ use Rattle.it_question.specs.Cursors.{token_line, left_of, letters_left}
 use Rattle.it_question.specs.Lines.{letters_of_lines}
 
 -- the letters of the lines behind
-abbrev pub behind : Cursor → List Letter
-behind c = letters_of_lines (map token_line c.behind.now)
+abbrev pub later_letters : Cursor → List Letter
+later_letters c = letters_of_lines (map token_line c.behind.now)
 
 pub left_none : (c : Cursor) → c.rest ≡ None → letters_left c ≡ []
 unfolding letters_left
 left_none c e = ap (λ (o : Option Rest). left_of o c.behind.now) e
 
-pub left_some : (c : Cursor) (r : Rest) → c.rest ≡ Some r → letters_left c ≡ gives.letters_left r ++ behind c
+pub left_some : (c : Cursor) (r : Rest) → c.rest ≡ Some r → letters_left c ≡ gives.letters_left r ++ later_letters c
 unfolding letters_left
 left_some c r e = ap (λ (o : Option Rest). left_of o c.behind.now) e
 
@@ -34,9 +34,9 @@ own_code-first (Bad c) xs ys = refl
 pub own_code-line : (r : Rest) (more : List Letter) → own_code (gives.letters_left r ++ more) ≡ own_code (gives.letters_left r)
 own_code-line r more = by_tokens r.tokens.now
   where
-    last : Letter
-    last = last_letter r.misspelling
+    end_letter : Letter
+    end_letter = last_letter r.misspelling
 
-    by_tokens : (ts : List Token) → own_code (letters_until r.line.now ts last ++ more) ≡ own_code (letters_until r.line.now ts last)
-    by_tokens [] = own_code-first last more []
-    by_tokens (t ∷ ts) = own_code-first (letter_of r.line.now t.start t.end t.kind) (letters_until r.line.now ts last ++ more) (letters_until r.line.now ts last)
+    by_tokens : (ts : List Token) → own_code (letters_until r.line.now ts end_letter ++ more) ≡ own_code (letters_until r.line.now ts end_letter)
+    by_tokens [] = own_code-first end_letter more []
+    by_tokens (t ∷ ts) = own_code-first (letter_of r.line.now t.start t.end t.kind) (letters_until r.line.now ts end_letter ++ more) (letters_until r.line.now ts end_letter)

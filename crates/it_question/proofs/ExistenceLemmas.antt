@@ -87,12 +87,12 @@ fault_exists bytes lines c (l ∷ r) cut e =
     inr (place.0, place.1, c, record { lines = lines; cut = cut; left = l ∷ r; first = f; place = slice_get-get_or (places_of_lines lines) i (0, 0) within })
 
 pub file_has_one : FileHasOne
-file_has_one bytes = by (read_file (letters_of_lines cut.0)) refl
+file_has_one bytes = by_result (read_file (letters_of_lines cut.0)) refl
   where
     cut : LinesFrom 1 (split_lines bytes)
     cut = lines_there 1 (split_lines bytes)
 
-    by : (r : Reads (List BodyView)) → read_file (letters_of_lines cut.0) ≡ r → HasOne bytes
-    by (Ok x) e = let k = read_asks bytes cut.0 x.0 x.1 cut.1 e in
+    by_result : (r : Reads (List BodyView)) → read_file (letters_of_lines cut.0) ≡ r → HasOne bytes
+    by_result (Ok x) e = let k = read_asks bytes cut.0 x.0 x.1 cut.1 e in
         inl (with_texts cut.0 x.0, record { lines = cut.0; cut = cut.1; trees = k.0; spelled = k.1.0; are = ap (with_texts cut.0) k.1.1 })
-    by (Err x) e = fault_exists bytes cut.0 x.0 x.1 cut.1 e
+    by_result (Err x) e = fault_exists bytes cut.0 x.0 x.1 cut.1 e

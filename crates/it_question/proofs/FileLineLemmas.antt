@@ -6,20 +6,20 @@ use Rattle.it_question.specs.ReaderSteps.{IsLineAdded}
 
 pub return_shorter : (line : List ℕ) → length (without_return line) ≤ length line
 return_shorter [] = omega arith
-return_shorter (b ∷ []) = by (b == 13)
+return_shorter (b ∷ []) = by_test (b == 13)
   where
-    by : (t : Bool) → length (cond t [] (b ∷ [])) ≤ 1
-    by true = omega arith
-    by false = omega arith
+    by_test : (t : Bool) → length (cond t [] (b ∷ [])) ≤ 1
+    by_test true = omega arith
+    by_test false = omega arith
 return_shorter (b ∷ c ∷ line) = omega (arith, return_shorter (c ∷ line))
 
 pub comment_shorter : (line : List ℕ) → length (before_comment line) ≤ length line
 comment_shorter [] = omega arith
-comment_shorter (b ∷ line) = by (b == 35) (comment_shorter line)
+comment_shorter (b ∷ line) = by_test (b == 35) (comment_shorter line)
   where
-    by : (t : Bool) → length (before_comment line) ≤ length line → length (cond t [] (b ∷ before_comment line)) ≤ suc (length line)
-    by true h = omega arith
-    by false h = omega (arith, h)
+    by_test : (t : Bool) → length (before_comment line) ≤ length line → length (cond t [] (b ∷ before_comment line)) ≤ suc (length line)
+    by_test true h = omega arith
+    by_test false h = omega (arith, h)
 
 -- what is read of a line is no longer
 pub plain_shorter : (line : List ℕ) → length (plain_text line) ≤ length line

@@ -12,7 +12,7 @@ use Rattle.it_syntax.specs.WrittenAtoms.{WrittenList}
 use Rattle.it_syntax.specs.WrittenRelations.{WrittenRelation, spell_relation, relation_of}
 use Rattle.it_syntax.specs.Scopes.{scope_of}
 use Rattle.it_syntax.specs.RelationReading.{read_relation}
-use Rattle.it_syntax.proofs.Traces.{By, Traces, traces_bind, traces_map, letter_then, switch, by_renaming}
+use Rattle.it_syntax.proofs.Traces.{By, Traces, traces_bind, traces_map, letter_then, by_equal_reader, by_renaming}
 use Rattle.it_syntax.proofs.AtomTraces.{stuck_here, stuck_none}
 use Rattle.it_syntax.proofs.RelationTraces.{relation_traces}
 use Rattle.it_syntax.proofs.LineEnd.{to_end_traces}
@@ -152,7 +152,7 @@ file_end_traces (l ∷ ls) = stuck_here read_end (λ (u : Unit {0}) k. without_m
 -- no further question stands there
 no_question_left : (n : ℕ) (ls : List Letter) → ((s : List Letter) → head s ≡ head ls → read_questions n s ≡ read_end s) → By (read_questions n) (spell_to_end n) questions_of ls (read_questions n ls)
 no_question_left n ls h = subst (λ (t : Reads (List BodyView)). By (read_questions n) (spell_to_end n) questions_of ls t) (sym (h ls refl))
-    (switch read_end (read_questions n) (spell_to_end n) questions_of ls h (read_end ls)
+    (by_equal_reader read_end (read_questions n) (spell_to_end n) questions_of ls h (read_end ls)
     (by_renaming read_end (λ (u : Unit {0}) k. without_mark file_end ∷ k) (spell_to_end n) (λ u. []) questions_of (λ u. []) ls (λ z k. refl) (λ z. refl) (read_end ls) (file_end_traces ls)))
 
 -- a question, and those behind it

@@ -54,11 +54,11 @@ room_in_front b n (line ∷ split) h = omega (arith, h)
 split_room : (bytes : List ℕ) → room (split_lines bytes) ≤ length bytes + 1
 unfolding room
 split_room [] = omega arith
-split_room (b ∷ bytes) = by (b == 10) (split_room bytes)
+split_room (b ∷ bytes) = by_test (b == 10) (split_room bytes)
   where
-    by : (t : Bool) → room (split_lines bytes) ≤ length bytes + 1 → room (cond t ([] ∷ split_lines bytes) (in_front b (split_lines bytes))) ≤ suc (length bytes) + 1
-    by true h = omega (arith, h)
-    by false h = omega (arith, room_in_front b (length bytes) (split_lines bytes) h)
+    by_test : (t : Bool) → room (split_lines bytes) ≤ length bytes + 1 → room (cond t ([] ∷ split_lines bytes) (in_front b (split_lines bytes))) ≤ suc (length bytes) + 1
+    by_test true h = omega (arith, h)
+    by_test false h = omega (arith, room_in_front b (length bytes) (split_lines bytes) h)
 
 -- A file has at most two letters more than bytes.
 pub letters_bound : (bytes : List ℕ) (lines : List TokenLine) → AreLinesOf bytes lines → length (letters_of_lines lines) ≤ length bytes + 2

@@ -25,16 +25,14 @@ use Rattle.it_question.proofs.NameLimits.{ended_sure, IsGrown, Grows, new_names_
 use Rattle.it_question.proofs.LineLimits.{OverRelation, relation_sure, AreOwn, Own, lines_sure}
 use Rattle.it_question.proofs.RateLimits.{knows_rates, Rates, distinct_sure}
 use Rattle.it_question.proofs.TryLimits.{AreTries, tries_sure}
+use Rattle.it_question.proofs.RegionTraces.{region_of_lines}
 
 -- ---- regions
 
 lines_over : (g r : ℕ) (v : NamesView) (own : OwnLinesView) → g ≤ 64 → r ≤ 64 → AreOwn g r v own → AreLinesOver v own
 lines_over g r v own few_g few_r h = record { few_givens = omega (arith, few_g, h.few_givens); few_rows = omega (arith, few_r, h.few_rows); givens = h.givens; rows = h.rows }
 
-abbrev bounds : NamesView → NamesView → OwnLinesView → RegionView
-bounds v names own = record { names = names; auxiliaries = length names.variables - length v.variables; lines = own }
-
-region_of_own : (v : NamesView) (names : NamesView) (own : OwnLinesView) → length v.variables ≤ 8 → IsGrown Variable 0 (auxiliaries_left v) v names → AreLinesOver names own → IsRegionOf v (bounds v names own)
+region_of_own : (v : NamesView) (names : NamesView) (own : OwnLinesView) → length v.variables ≤ 8 → IsGrown Variable 0 (auxiliaries_left v) v names → AreLinesOver names own → IsRegionOf v (region_of_lines v names own)
 region_of_own v names own few h lines =
     let variables : names.variables ≡ v.variables ++ h.own = ap (λ (w : NamesView). w.variables) h.is in
     let total : length names.variables ≡ length v.variables + length h.own = ap (λ (ws : List (List ℕ)). length ws) variables ∙ length-append v.variables h.own in
@@ -56,9 +54,9 @@ Region v x = IsRegionOf v x.0
 region_sure : (g r : ℕ) (v : NamesView) → g ≤ 64 → r ≤ 64 → length v.variables ≤ 8 → (ls : List Letter) → Sure (Region v) (read_region g r v ls)
 unfolding read_region
 region_sure g r v few_g few_r few ls =
-    sure_bind Any (Region v) (line_end ls) (λ e. read_names_line Variable (auxiliaries_left v) aux_keyword v e.1 >>= λ names. read_lines g r names.0 names.1 >>= λ own. Ok (bounds v names.0 own.0, own.1)) (sure_any (line_end ls))
-    (λ e u. sure_bind (Grows Variable 0 (auxiliaries_left v) v) (Region v) (read_names_line Variable (auxiliaries_left v) aux_keyword v e.1) (λ names. read_lines g r names.0 names.1 >>= λ own. Ok (bounds v names.0 own.0, own.1)) (names_line_sure Variable (auxiliaries_left v) aux_keyword v e.1)
-    (λ names hn. sure_bind (Own g r names.0) (Region v) (read_lines g r names.0 names.1) (λ own. Ok (bounds v names.0 own.0, own.1)) (lines_sure g r names.0 names.1)
+    sure_bind Any (Region v) (line_end ls) (λ e. read_names_line Variable (auxiliaries_left v) aux_keyword v e.1 >>= λ names. read_lines g r names.0 names.1 >>= λ own. Ok (region_of_lines v names.0 own.0, own.1)) (sure_any (line_end ls))
+    (λ e u. sure_bind (Grows Variable 0 (auxiliaries_left v) v) (Region v) (read_names_line Variable (auxiliaries_left v) aux_keyword v e.1) (λ names. read_lines g r names.0 names.1 >>= λ own. Ok (region_of_lines v names.0 own.0, own.1)) (names_line_sure Variable (auxiliaries_left v) aux_keyword v e.1)
+    (λ names hn. sure_bind (Own g r names.0) (Region v) (read_lines g r names.0 names.1) (λ own. Ok (region_of_lines v names.0 own.0, own.1)) (lines_sure g r names.0 names.1)
     (λ own ho. region_of_own v names.0 own.0 few hn (lines_over g r names.0 own.0 few_g few_r ho))))
 
 -- ---- what a question wants
@@ -93,13 +91,13 @@ elimination_sure v ls =
 
 verb_sure : (g r : ℕ) (v : NamesView) → g ≤ 64 → r ≤ 64 → length v.variables ≤ 8 → (ls : List Letter) → Sure (Over v) (read_verb g r v ls)
 unfolding read_verb
-verb_sure g r v few_g few_r few (Word w ∷ ls) = chosen (bytes_eq w prove_keyword) (bytes_eq w eliminate_keyword) (bytes_eq w region_keyword)
+verb_sure g r v few_g few_r few (Word w ∷ ls) = by_tests (bytes_eq w prove_keyword) (bytes_eq w eliminate_keyword) (bytes_eq w region_keyword)
   where
-    chosen : (a b c : Bool) → Sure (Over v) (cond a (read_proof v ls) (cond b (read_elimination v ls) (cond c (read_containment g r v ls) (no_rule (Word w ∷ ls)))))
-    chosen true b c = proof_sure v ls
-    chosen false true c = elimination_sure v ls
-    chosen false false true = containment_sure g r v few_g few_r few ls
-    chosen false false false = tt
+    by_tests : (a b c : Bool) → Sure (Over v) (cond a (read_proof v ls) (cond b (read_elimination v ls) (cond c (read_containment g r v ls) (no_rule (Word w ∷ ls)))))
+    by_tests true b c = proof_sure v ls
+    by_tests false true c = elimination_sure v ls
+    by_tests false false true = containment_sure g r v few_g few_r few ls
+    by_tests false false false = tt
 verb_sure g r v few_g few_r few [] = tt
 verb_sure g r v few_g few_r few (Bad c ∷ ls) = tt
 verb_sure g r v few_g few_r few (l ∷ ls) = tt

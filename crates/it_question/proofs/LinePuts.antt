@@ -141,11 +141,11 @@ some_rates v (w ∷ ws) e = some_rates (with_name Rate v w) ws (some_behind v.ra
 -- a `rates` line stands there where there are rates
 rates_lines : (x : WrittenQuestion) → one_if x.rates ≡ one_if_some (names_of x).rates
 unfolding one_if
-rates_lines x = by x.rates
+rates_lines x = by_option x.rates
   where
-    by : (o : Option WrittenList) → one_if o ≡ one_if_some (names_line_of Rate (new_names_of Variable no_names x.variables) o).rates
-    by None = sym (ap one_if_some (kept_rates (with_name Variable no_names x.variables.first) x.variables.more))
-    by (Some l) = let v = new_names_of Variable no_names x.variables in sym (some_rates (with_name Rate v l.first) l.more (some_behind v.rates l.first))
+    by_option : (o : Option WrittenList) → one_if o ≡ one_if_some (names_line_of Rate (new_names_of Variable no_names x.variables) o).rates
+    by_option None = sym (ap one_if_some (kept_rates (with_name Variable no_names x.variables.first) x.variables.more))
+    by_option (Some l) = let v = new_names_of Variable no_names x.variables in sym (some_rates (with_name Rate v l.first) l.more (some_behind v.rates l.first))
 
 -- A question, with its word `vars`, is as many lines as are counted of it.
 pub question_puts : (mark : Option Code) (x : WrittenQuestion) → Puts (HasLines (question_line_count (question_of x))) (λ k. (Word vars_keyword, mark) ∷ spell_question x k)

@@ -80,11 +80,11 @@ IsAbsent text ls = (s : List Letter) → head s ≡ head ls → behind_word text
 
 stands_first : (text : List ℕ) (ls : List Letter) → ((behind : List Letter) × (ls ≡ Word text ∷ behind)) ⊎ IsAbsent text ls
 unfolding behind_word
-stands_first text (Word w ∷ ls) = by (bytes_eq w text) refl
+stands_first text (Word w ∷ ls) = by_test (bytes_eq w text) refl
   where
-    by : (b : Bool) → bytes_eq w text ≡ b → ((behind : List Letter) × (Word w ∷ ls ≡ Word text ∷ behind)) ⊎ IsAbsent text (Word w ∷ ls)
-    by true e = inl (ls, ap (λ (t : List ℕ). Word t ∷ ls) ((bytes_eq-Decides w text).0 e))
-    by false e = inr (for_same_head (λ s. behind_word text s ≡ None) (Word w) (λ s. ap (λ (b : Bool). cond b (Some s) None) e))
+    by_test : (b : Bool) → bytes_eq w text ≡ b → ((behind : List Letter) × (Word w ∷ ls ≡ Word text ∷ behind)) ⊎ IsAbsent text (Word w ∷ ls)
+    by_test true e = inl (ls, ap (λ (t : List ℕ). Word t ∷ ls) ((bytes_eq-Decides w text).0 e))
+    by_test false e = inr (for_same_head (λ s. behind_word text s ≡ None) (Word w) (λ s. ap (λ (b : Bool). cond b (Some s) None) e))
 stands_first text [] = inr (for_no_head (λ s. behind_word text s ≡ None) refl)
 stands_first text (l ∷ ls) = inr (for_same_head (λ s. behind_word text s ≡ None) l (λ s. refl))
 

@@ -19,12 +19,12 @@ use Rattle.it_question.specs.NewNames.{Sort, is_taken}
 -- a name that isn't taken is new
 pub new_of : (v : NamesView) (w : List ℕ) → is_taken v w ≡ false → IsNew v w
 unfolding is_taken
-new_of v w e = both (index_of v.variables w) (index_of v.rates w) e
+new_of v w e = by_options (index_of v.variables w) (index_of v.rates w) e
   where
-    both : (x y : Option ℕ) → (is_some x || is_some y) ≡ false → (x ≡ None) × (y ≡ None)
-    both None None h = (refl, refl)
-    both None (Some j) h = absurd cc
-    both (Some i) y h = absurd cc
+    by_options : (x y : Option ℕ) → (is_some x || is_some y) ≡ false → (x ≡ None) × (y ≡ None)
+    by_options None None h = (refl, refl)
+    by_options None (Some j) h = absurd cc
+    by_options (Some i) y h = absurd cc
 
 -- one more name
 pub goes_on : (sort : Sort) (n : ℕ) (v w : NamesView) (ls tail after : List Letter) → after_comma ls ≡ Some tail → read_new sort n v tail ≡ Ok (w, after) → 1 ≤ n → read_new_more sort n v ls ≡ read_new_more sort (n - 1) w after

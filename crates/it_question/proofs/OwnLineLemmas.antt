@@ -71,18 +71,18 @@ no_line (suc n) g r v ls e h = ap (λ (o : Option (List Letter)). by_keyword (λ
     ∙ ap (λ (o : Option (List Letter)). by_keyword (λ behind. within_limit g (given_then (read_own n (g - 1) r v) v) behind ls) (λ behind. within_limit r (row_then (read_own n g (r - 1) v) v) behind ls) None o ls) h
 
 with_lines-given : (front : OwnLinesView) (x : GivenView) (ls : List Letter) (f : List Letter → Reads OwnLinesView) → with_lines front (given_behind f (Ok (x, ls))) ≡ with_lines (with_given_line front x) (f ls)
-with_lines-given front x ls f = go (f ls)
+with_lines-given front x ls f = by_result (f ls)
   where
-    go : (t : Reads OwnLinesView) → with_lines front (t >>= λ own. Ok (record { givens = x ∷ own.0.givens; rows = own.0.rows }, own.1)) ≡ with_lines (with_given_line front x) t
-    go (Err e) = refl
-    go (Ok own) = rw (append_assoc front.givens (x ∷ []) own.0.givens) refl
+    by_result : (t : Reads OwnLinesView) → with_lines front (t >>= λ own. Ok (record { givens = x ∷ own.0.givens; rows = own.0.rows }, own.1)) ≡ with_lines (with_given_line front x) t
+    by_result (Err e) = refl
+    by_result (Ok own) = rw (append_assoc front.givens (x ∷ []) own.0.givens) refl
 
 with_lines-row : (front : OwnLinesView) (x : RelationView) (ls : List Letter) (f : List Letter → Reads OwnLinesView) → with_lines front (row_behind f (Ok (x, ls))) ≡ with_lines (with_row_line front x) (f ls)
-with_lines-row front x ls f = go (f ls)
+with_lines-row front x ls f = by_result (f ls)
   where
-    go : (t : Reads OwnLinesView) → with_lines front (t >>= λ own. Ok (record { givens = own.0.givens; rows = x ∷ own.0.rows }, own.1)) ≡ with_lines (with_row_line front x) t
-    go (Err e) = refl
-    go (Ok own) = rw (append_assoc front.rows (x ∷ []) own.0.rows) refl
+    by_result : (t : Reads OwnLinesView) → with_lines front (t >>= λ own. Ok (record { givens = own.0.givens; rows = x ∷ own.0.rows }, own.1)) ≡ with_lines (with_row_line front x) t
+    by_result (Err e) = refl
+    by_result (Ok own) = rw (append_assoc front.rows (x ∷ []) own.0.rows) refl
 
 -- ---- one more line
 

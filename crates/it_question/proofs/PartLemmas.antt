@@ -83,11 +83,11 @@ at_end {A} (End ∷ ls) y x h = (ap (λ (t : List Letter). End ∷ t) (ap left_b
 -- a value, and then the line's end
 pub whole_ok : {A X : Type 0} (f : List Letter → Reads A) (spell : X → MarkedLetters → MarkedLetters) (value : X → A) → Traces f spell value → (ls more : List Letter) (x : A) → to_end f ls ≡ Ok (x, []) → to_end f (ls ++ more) ≡ Ok (x, more)
 unfolding to_end line_end
-whole_ok {A} f spell value h ls more x e = go (f ls) refl e
+whole_ok {A} f spell value h ls more x e = by_result (f ls) refl e
   where
-    go : (t : Reads A) → f ls ≡ t → then_end t ≡ Ok (x, []) → then_end (f (ls ++ more)) ≡ Ok (x, more)
-    go (Err g) is k = absurd cc
-    go (Ok y) is k =
+    by_result : (t : Reads A) → f ls ≡ t → then_end t ≡ Ok (x, []) → then_end (f (ls ++ more)) ≡ Ok (x, more)
+    by_result (Err g) is k = absurd cc
+    by_result (Ok y) is k =
         let ends = at_end y.1 y.0 x k in
         let read : f ls ≡ Ok (x, End ∷ []) = is ∙ ap (λ (p : A × List Letter). Ok p) (ap (λ (r : List Letter). (y.0, r)) ends.0 ∙ ap (λ (z : A). (z, End ∷ [])) ends.1) in
         let k2 = part_ok f spell value h ls (End ∷ []) more x read tt in
@@ -106,11 +106,11 @@ some_first c (l ∷ r) rest h some = tt
 -- a fault up to the line's end
 pub whole_err : {A X : Type 0} (f : List Letter → Reads A) (spell : X → MarkedLetters → MarkedLetters) (value : X → A) → Traces f spell value → (ls r more : List Letter) (c : Code) → to_end f ls ≡ Err (c, r) → HasLetters r → to_end f (ls ++ more) ≡ Err (c, r ++ more)
 unfolding to_end fault_or
-whole_err {A} f spell value h ls r more c e some = go (f ls) refl e
+whole_err {A} f spell value h ls r more c e some = by_result (f ls) refl e
   where
-    go : (t : Reads A) → f ls ≡ t → then_end t ≡ Err (c, r) → then_end (f (ls ++ more)) ≡ Err (c, r ++ more)
-    go (Err g) is k = ap (λ (t : Reads A). then_end t) (part_err f spell value h ls r more c (is ∙ k) some)
-    go (Ok y) is k =
+    by_result : (t : Reads A) → f ls ≡ t → then_end t ≡ Err (c, r) → then_end (f (ls ++ more)) ≡ Err (c, r ++ more)
+    by_result (Err g) is k = ap (λ (t : Reads A). then_end t) (part_err f spell value h ls r more c (is ∙ k) some)
+    by_result (Ok y) is k =
         let ends = stuck_first (line_end y.1) y.0 c r k in
         let read = part_ok f spell value h ls y.1 more y.0 is (some_first c y.1 r ends some) in
         let stuck = part_err line_end _ _ end_traces y.1 r more c ends some in

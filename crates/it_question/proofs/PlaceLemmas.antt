@@ -67,13 +67,13 @@ place_behind lines i n k l lt e same le =
 
 -- the place of a letter of a line, by its column
 pub place_is : (l : TokenLine) (n : ℕ) → n ≤ length l.tokens → slice_get (line_places l) n ≡ Some (l.number, column_of (drop n l.tokens) (column_behind l.tokens l.misspelling))
-place_is l n le = by l.tokens n le
+place_is l n le = by_list l.tokens n le
   where
-    by : (ts : List Token) (n : ℕ) → n ≤ length ts → slice_get {X = ℕ × ℕ} (map (λ (t : Token). (l.number, t.start + 1)) ts ++ ((l.number, column_behind l.tokens l.misspelling) ∷ [])) n ≡ Some (l.number, column_of (drop n ts) (column_behind l.tokens l.misspelling))
-    by [] zero le = refl
-    by [] (suc n) le = absurd (omega arith)
-    by (t ∷ ts) zero le = refl
-    by (t ∷ ts) (suc n) le = by ts n (omega arith)
+    by_list : (ts : List Token) (n : ℕ) → n ≤ length ts → slice_get {X = ℕ × ℕ} (map (λ (t : Token). (l.number, t.start + 1)) ts ++ ((l.number, column_behind l.tokens l.misspelling) ∷ [])) n ≡ Some (l.number, column_of (drop n ts) (column_behind l.tokens l.misspelling))
+    by_list [] zero le = refl
+    by_list [] (suc n) le = absurd (omega arith)
+    by_list (t ∷ ts) zero le = refl
+    by_list (t ∷ ts) (suc n) le = by_list ts n (omega arith)
 
 -- what is left of a line, and behind it
 pub left_length : (c : Cursor) (rest : Rest) → c.rest ≡ Some rest → length (letters_left c) ≡ length rest.tokens.now + 1 + length (letters_of_lines (map token_line c.behind.now))

@@ -17,13 +17,13 @@ is_same false false e = absurd cc
 -- what stands before the first comment
 pub before_comment_is : (line : List ℕ) (n : ℕ) → IsLongestRun (is_other 35) line n → before_comment line ≡ take n line
 unfolding is_other
-before_comment_is line n r = by line n r.all r.stops
+before_comment_is line n r = by_list line n r.all r.stops
   where
-    by : (line : List ℕ) (n : ℕ) → AreAll (is_other 35) (take n line) → Stops (is_other 35) (drop n line) → before_comment line ≡ take n line
-    by [] zero all stops = refl
-    by [] (suc n) all stops = refl
-    by (b ∷ line) zero all stops = ap (λ (t : Bool). cond t [] (b ∷ before_comment line)) (is_same (b == 35) false stops)
-    by (b ∷ line) (suc n) all stops = ap (λ (t : Bool). cond t [] (b ∷ before_comment line)) (is_same (b == 35) true all.0) ∙ ap (λ (t : List ℕ). b ∷ t) (by line n all.1 stops)
+    by_list : (line : List ℕ) (n : ℕ) → AreAll (is_other 35) (take n line) → Stops (is_other 35) (drop n line) → before_comment line ≡ take n line
+    by_list [] zero all stops = refl
+    by_list [] (suc n) all stops = refl
+    by_list (b ∷ line) zero all stops = ap (λ (t : Bool). cond t [] (b ∷ before_comment line)) (is_same (b == 35) false stops)
+    by_list (b ∷ line) (suc n) all stops = ap (λ (t : Bool). cond t [] (b ∷ before_comment line)) (is_same (b == 35) true all.0) ∙ ap (λ (t : List ℕ). b ∷ t) (by_list line n all.1 stops)
 
 -- a line with its line feed, and the bytes behind it
 pub split_at_feed : (bytes : List ℕ) (n : ℕ) (b : ℕ) (behind : List ℕ) → AreAll (is_other 10) (take n bytes) → Stops (is_other 10) (drop n bytes) → drop n bytes ≡ b ∷ behind → split_lines bytes ≡ take n bytes ∷ split_lines behind

@@ -23,14 +23,14 @@ record IsPlain (b : ℕ) : Type 0 where
   no_comment : (b == 35) ≡ false
 
 is_so : (b : ℕ) → is_plain b ≡ true → IsPlain b
-is_so b e = let k = by (b == 9) (b == 10) (b == 13) (b == 35) e in record { no_tab = k.0; no_feed = k.1; no_return = k.2; no_comment = k.3 }
+is_so b e = let k = by_tests (b == 9) (b == 10) (b == 13) (b == 35) e in record { no_tab = k.0; no_feed = k.1; no_return = k.2; no_comment = k.3 }
   where
-    by : (a b c d : Bool) → (not a && (not b && (not c && not d))) ≡ true → (a ≡ false) × (b ≡ false) × (c ≡ false) × (d ≡ false)
-    by true b c d e = absurd cc
-    by false true c d e = absurd cc
-    by false false true d e = absurd cc
-    by false false false true e = absurd cc
-    by false false false false e = (refl, refl, refl, refl)
+    by_tests : (a b c d : Bool) → (not a && (not b && (not c && not d))) ≡ true → (a ≡ false) × (b ≡ false) × (c ≡ false) × (d ≡ false)
+    by_tests true b c d e = absurd cc
+    by_tests false true c d e = absurd cc
+    by_tests false false true d e = absurd cc
+    by_tests false false false true e = absurd cc
+    by_tests false false false false e = (refl, refl, refl, refl)
 
 -- ---- bytes of tokens
 

@@ -21,16 +21,16 @@ then_more env seen r = r >>= λ i. read_once_more env (seen ++ i.0 ∷ []) i.1 >
 comma_more : (env : Environment) (seen : List ℕ) (ls : List Letter) → read_once_more env seen (Sym Comma ∷ ls) ≡ then_more env seen (read_once env seen ls)
 unfolding read_once_more read_once
 comma_more env seen [] = refl
-comma_more env seen (Word w ∷ ls) = one (is_measure w) (env w)
+comma_more env seen (Word w ∷ ls) = by_name (is_measure w) (env w)
   where
-    unseen : (i : ℕ) (b : Bool) → (if_unseen i w b ls (Word w ∷ ls) >>= λ i. read_once_more env (seen ++ i.0 ∷ []) ls >>= λ more. Ok (i.0 ∷ more.0, more.1)) ≡ then_more env seen (if_unseen i w b ls (Word w ∷ ls))
-    unseen i true = refl
-    unseen i false = refl
+    by_test : (i : ℕ) (b : Bool) → (if_unseen i w b ls (Word w ∷ ls) >>= λ i. read_once_more env (seen ++ i.0 ∷ []) ls >>= λ more. Ok (i.0 ∷ more.0, more.1)) ≡ then_more env seen (if_unseen i w b ls (Word w ∷ ls))
+    by_test i true = refl
+    by_test i false = refl
 
-    one : (h : Bool) (o : Option ℕ) → (rate_once h seen o w ls >>= λ i. read_once_more env (seen ++ i.0 ∷ []) ls >>= λ more. Ok (i.0 ∷ more.0, more.1)) ≡ then_more env seen (rate_once h seen o w ls)
-    one true o = refl
-    one false None = refl
-    one false (Some i) = unseen i (is_among seen i)
+    by_name : (h : Bool) (o : Option ℕ) → (rate_once h seen o w ls >>= λ i. read_once_more env (seen ++ i.0 ∷ []) ls >>= λ more. Ok (i.0 ∷ more.0, more.1)) ≡ then_more env seen (rate_once h seen o w ls)
+    by_name true o = refl
+    by_name false None = refl
+    by_name false (Some i) = by_test i (is_among seen i)
 comma_more env seen (Number n ∷ ls) = refl
 comma_more env seen (Sym s ∷ ls) = refl
 comma_more env seen (End ∷ ls) = refl

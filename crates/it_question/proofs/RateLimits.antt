@@ -27,11 +27,11 @@ IsUnseen m seen x = (x.0 < m) × (is_among seen x.0 ≡ false)
 once_sure : (m : ℕ) (measure : Bool) (seen : List ℕ) (o : Option ℕ) (w : List ℕ) (ls : List Letter) → ((i : ℕ) → o ≡ Some i → i < m) → Sure (IsUnseen m seen) (rate_once measure seen o w ls)
 once_sure m true seen o w ls k = tt
 once_sure m false seen None w ls k = tt
-once_sure m false seen (Some i) w ls k = unseen (is_among seen i) refl
+once_sure m false seen (Some i) w ls k = by_test (is_among seen i) refl
   where
-    unseen : (b : Bool) → is_among seen i ≡ b → Sure (IsUnseen m seen) (if_unseen i w b ls (Word w ∷ ls))
-    unseen true e = tt
-    unseen false e = (k i refl, e)
+    by_test : (b : Bool) → is_among seen i ≡ b → Sure (IsUnseen m seen) (if_unseen i w b ls (Word w ∷ ls))
+    by_test true e = tt
+    by_test false e = (k i refl, e)
 
 first_sure : (env : Environment) (m : ℕ) → Knows env m → (seen : List ℕ) (ls : List Letter) → Sure (IsUnseen m seen) (read_once env seen ls)
 unfolding read_once
@@ -53,16 +53,16 @@ none_unseen : (m : ℕ) (seen : List ℕ) → AreUnseen m seen []
 unfolding IsDistinct
 none_unseen m seen = record { within = All-nil (λ (i : ℕ). i < m); distinct = tt; unseen = tt }
 
-neither : (a b : Bool) → (a || (b || false)) ≡ false → (a ≡ false) × (b ≡ false)
-neither true b e = absurd cc
-neither false true e = absurd cc
-neither false false e = (refl, refl)
+both_are_false : (a b : Bool) → (a || (b || false)) ≡ false → (a ≡ false) × (b ≡ false)
+both_are_false true b e = absurd cc
+both_are_false false true e = absurd cc
+both_are_false false false e = (refl, refl)
 
 -- what wasn't seen before or as i
 split_unseen : (seen : List ℕ) (i : ℕ) (is : List ℕ) → AllByRecursion (λ j. is_among (seen ++ i ∷ []) j ≡ false) is → AllByRecursion (λ j. is_among seen j ≡ false) is × AllByRecursion (λ j. eqb i j ≡ false) is
 split_unseen seen i [] h = (tt, tt)
 split_unseen seen i (j ∷ is) h =
-    let e = neither (is_among seen j) (eqb i j) (sym (list_any-append (λ (k : ℕ). k == j) seen (i ∷ [])) ∙ h.0) in
+    let e = both_are_false (is_among seen j) (eqb i j) (sym (list_any-append (λ (k : ℕ). k == j) seen (i ∷ [])) ∙ h.0) in
     let more = split_unseen seen i is h.1 in
     ((e.0, more.0), (e.1, more.1))
 

@@ -26,11 +26,11 @@ use Rattle.it_question.proofs.TryTraces.{tries_traces}
 abbrev Parts : Type 0
 Parts = Option WrittenList × List WrittenLine
 
-abbrev bounded_by : NamesView → NamesView → OwnLinesView → RegionView
-bounded_by v names own = record { names = names; auxiliaries = length names.variables - length v.variables; lines = own }
+abbrev pub region_of_lines : NamesView → NamesView → OwnLinesView → RegionView
+region_of_lines v names own = record { names = names; auxiliaries = length names.variables - length v.variables; lines = own }
 
 abbrev own_then : ℕ → ℕ → NamesView → NamesView → List Letter → Reads RegionView
-own_then g r v names ls = read_lines g r names ls >>= λ own. Ok (bounded_by v names own.0, own.1)
+own_then g r v names ls = read_lines g r names ls >>= λ own. Ok (region_of_lines v names own.0, own.1)
 
 abbrev read_parts : ℕ → ℕ → NamesView → List Letter → Reads RegionView
 read_parts g r v ls = read_names_line Variable (auxiliaries_left v) aux_keyword v ls >>= λ names. own_then g r v names.0 names.1
@@ -39,11 +39,11 @@ abbrev spell_parts : ℕ → ℕ → NamesView → Parts → MarkedLetters → M
 spell_parts g r v x k = spell_names_line Variable (auxiliaries_left v) aux_keyword v x.0 (spell_own g r (names_line_of Variable v x.0) x.1 k)
 
 abbrev parts_of : NamesView → Parts → RegionView
-parts_of v x = bounded_by v (names_line_of Variable v x.0) (own_of (names_line_of Variable v x.0) x.1)
+parts_of v x = region_of_lines v (names_line_of Variable v x.0) (own_of (names_line_of Variable v x.0) x.1)
 
 parts_traces : (g r : ℕ) (v : NamesView) → Traces (read_parts g r v) (spell_parts g r v) (parts_of v)
-parts_traces g r v = traces_bind (read_names_line Variable (auxiliaries_left v) aux_keyword v) (own_then g r v) (read_parts g r v) (spell_names_line Variable (auxiliaries_left v) aux_keyword v) (spell_own g r) (spell_parts g r v) (names_line_of Variable v) (λ names own. bounded_by v names (own_of names own)) (parts_of v) (λ x own. (x, own))
-    (record { is = λ ls. refl; spells = λ y z k. refl; value = λ y z. refl; some = []; first = names_line_traces Variable (auxiliaries_left v) aux_keyword v; second = λ names. traces_map (read_lines g r names) (bounded_by v names) (spell_own g r names) (own_of names) (lines_traces g r names) })
+parts_traces g r v = traces_bind (read_names_line Variable (auxiliaries_left v) aux_keyword v) (own_then g r v) (read_parts g r v) (spell_names_line Variable (auxiliaries_left v) aux_keyword v) (spell_own g r) (spell_parts g r v) (names_line_of Variable v) (λ names own. region_of_lines v names (own_of names own)) (parts_of v) (λ x own. (x, own))
+    (record { is = λ ls. refl; spells = λ y z k. refl; value = λ y z. refl; some = []; first = names_line_traces Variable (auxiliaries_left v) aux_keyword v; second = λ names. traces_map (read_lines g r names) (region_of_lines v names) (spell_own g r names) (own_of names) (lines_traces g r names) })
 
 -- a region behind its word `region`
 abbrev region_made : Unit {0} → Parts → WrittenRegion

@@ -20,30 +20,30 @@ use Rattle.it_syntax.proofs.TokenLemmas.{run_all, cut_made, shape_some}
 -- how many bytes of a kind stand in front
 pub run_there : (f : ℕ → Bool) (bytes : List ℕ) → (n : ℕ) × IsLongestRun f bytes n
 run_there f [] = (0, record { within = omega arith; all = tt; stops = tt })
-run_there f (b ∷ bytes) = by (f b) refl (run_there f bytes)
+run_there f (b ∷ bytes) = by_test (f b) refl (run_there f bytes)
   where
-    by : (t : Bool) → f b ≡ t → (n : ℕ) × IsLongestRun f bytes n → (n : ℕ) × IsLongestRun f (b ∷ bytes) n
-    by true e r = (suc r.0, record { within = omega (arith, r.1.within); all = (e, r.1.all); stops = r.1.stops })
-    by false e r = (0, record { within = omega arith; all = tt; stops = e })
+    by_test : (t : Bool) → f b ≡ t → (n : ℕ) × IsLongestRun f bytes n → (n : ℕ) × IsLongestRun f (b ∷ bytes) n
+    by_test true e r = (suc r.0, record { within = omega (arith, r.1.within); all = (e, r.1.all); stops = r.1.stops })
+    by_test false e r = (0, record { within = omega arith; all = tt; stops = e })
 
 -- a token stands in front, or something wrong
 abbrev Front : List ℕ → Type 0
 Front body = ((k : TokenKind) × (n : ℕ) × IsTokenFront k n body) ⊎ ((c : Code) × IsWrong c body)
 
 word_front : (b : ℕ) (bytes : List ℕ) → is_ascii_alphabetic b ≡ true → Front (b ∷ bytes)
-word_front b bytes e = by (run_there is_word_byte (b ∷ bytes))
+word_front b bytes e = by_run (run_there is_word_byte (b ∷ bytes))
   where
-    by : (n : ℕ) × IsLongestRun is_word_byte (b ∷ bytes) n → Front (b ∷ bytes)
-    by r = elim (cases_lt 16 r.0) [
+    by_run : (n : ℕ) × IsLongestRun is_word_byte (b ∷ bytes) n → Front (b ∷ bytes)
+    by_run r = elim (cases_lt 16 r.0) [
       | inl h ↦ inr (codes.Many, (e, (r.0, (r.1, h))))
       | inr h ↦ inl (kinds.Word, r.0, (e, r.1, h))
     ]
 
 number_front : (b : ℕ) (bytes : List ℕ) → is_ascii_digit b ≡ true → Front (b ∷ bytes)
-number_front b bytes e = by (run_there is_ascii_digit (b ∷ bytes))
+number_front b bytes e = by_run (run_there is_ascii_digit (b ∷ bytes))
   where
-    by : (n : ℕ) × IsLongestRun is_ascii_digit (b ∷ bytes) n → Front (b ∷ bytes)
-    by r = let v = digits_value 0 (take r.0 (b ∷ bytes)) r.1.all in elim (cases_lt v.0 (2 ^ 64)) [
+    by_run : (n : ℕ) × IsLongestRun is_ascii_digit (b ∷ bytes) n → Front (b ∷ bytes)
+    by_run r = let v = digits_value 0 (take r.0 (b ∷ bytes)) r.1.all in elim (cases_lt v.0 (2 ^ 64)) [
       | inl h ↦ inl (kinds.Number v.0, r.0, (e, r.1, v.1, h))
       | inr h ↦ inr (codes.Number, (e, (r.0, (r.1, rw v.1 h))))
     ]
@@ -53,12 +53,12 @@ other_front b bytes l d s (Some x) e = inl (kinds.Symbol x, length (symbol_text 
 other_front b bytes l d s None e = inr (codes.Byte, (l, d, s, e))
 
 front_there : (b : ℕ) (bytes : List ℕ) → is_space b ≡ false → Front (b ∷ bytes)
-front_there b bytes s = by (is_ascii_alphabetic b) (is_ascii_digit b) refl refl
+front_there b bytes s = by_tests (is_ascii_alphabetic b) (is_ascii_digit b) refl refl
   where
-    by : (l d : Bool) → is_ascii_alphabetic b ≡ l → is_ascii_digit b ≡ d → Front (b ∷ bytes)
-    by true d e h = word_front b bytes e
-    by false true e h = number_front b bytes h
-    by false false e h = other_front b bytes e h s (symbol_of (b ∷ bytes)) refl
+    by_tests : (l d : Bool) → is_ascii_alphabetic b ≡ l → is_ascii_digit b ≡ d → Front (b ∷ bytes)
+    by_tests true d e h = word_front b bytes e
+    by_tests false true e h = number_front b bytes h
+    by_tests false false e h = other_front b bytes e h s (symbol_of (b ∷ bytes)) refl
 
 -- the bytes from column `at` on are tokens, up to a misspelling
 abbrev pub AreThere : ℕ → List ℕ → Type 0
@@ -87,19 +87,19 @@ token_there at bytes g k n run shape more =
     (t ∷ more.0, more.1, (drop n (drop g bytes), cut_made at g n bytes t run shape refl refl, more.2))
 
 tokens_step : (at : ℕ) (bytes : List ℕ) → ((at : ℕ) (rest : List ℕ) → length rest < length bytes → AreThere at rest) → AreThere at bytes
-tokens_step at bytes more = by (run_there is_space bytes)
+tokens_step at bytes more = by_run (run_there is_space bytes)
   where
-    behind : (g : ℕ) → IsLongestRun is_space bytes g → (body : List ℕ) → drop g bytes ≡ body → Stops is_space body → AreThere at bytes
-    behind g run [] e s = blank_there at bytes g run e
-    behind g run (b ∷ body) e s = elim (front_there b body s) [
+    by_list : (g : ℕ) → IsLongestRun is_space bytes g → (body : List ℕ) → drop g bytes ≡ body → Stops is_space body → AreThere at bytes
+    by_list g run [] e s = blank_there at bytes g run e
+    by_list g run (b ∷ body) e s = elim (front_there b body s) [
       | inl f ↦
           let shape : IsTokenFront f.0 f.1 (drop g bytes) = subst (λ (t : List ℕ). IsTokenFront f.0 f.1 t) (sym e) f.2 in
           token_there at bytes g f.0 f.1 run shape (more (at + g + f.1) (drop f.1 (drop g bytes)) (omega (arith, length-drop g bytes, length-drop f.1 (drop g bytes), ap length e, shape_some f.0 f.1 (drop g bytes) shape)))
       | inr f ↦ wrong_there at bytes g f.0 run (subst (λ (t : List ℕ). IsWrong f.0 t) (sym e) f.1)
     ]
 
-    by : (g : ℕ) × IsLongestRun is_space bytes g → AreThere at bytes
-    by r = behind r.0 r.1 (drop r.0 bytes) refl r.1.stops
+    by_run : (g : ℕ) × IsLongestRun is_space bytes g → AreThere at bytes
+    by_run r = by_list r.0 r.1 (drop r.0 bytes) refl r.1.stops
 
 tokens_there_within : (fuel : ℕ) (at : ℕ) (bytes : List ℕ) → length bytes ≤ fuel → AreThere at bytes
 tokens_there_within zero at bytes le = tokens_step at bytes (λ a rest lt. absurd (omega arith))

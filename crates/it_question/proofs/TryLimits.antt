@@ -22,10 +22,10 @@ record AreWithin (n : ℕ) (sets : Sets) : Type 0 where
   pub within : All (IsWithin n) sets
 
 unnamed_within : (n k : ℕ) → AreWithin n (unnamed_sets k)
-unnamed_within n k = four k
+unnamed_within n k = by_count k
   where
-    none : IsWithin n None
-    none = some_sets n
+    none_within : IsWithin n None
+    none_within = some_sets n
 
     empty : IsWithin n (Some 0)
     empty = some_sets n
@@ -33,12 +33,12 @@ unnamed_within n k = four k
     of_four : (a b c d : Option ℕ) → IsWithin n a → IsWithin n b → IsWithin n c → IsWithin n d → AreWithin n (a ∷ b ∷ c ∷ d ∷ [])
     of_four a b c d ha hb hc hd = record { four = refl; within = All-cons (IsWithin n) a (b ∷ c ∷ d ∷ []) ha (All-cons (IsWithin n) b (c ∷ d ∷ []) hb (All-cons (IsWithin n) c (d ∷ []) hc (All-cons (IsWithin n) d [] hd (All-nil (IsWithin n))))) }
 
-    four : (k : ℕ) → AreWithin n (unnamed_sets k)
-    four zero = of_four (Some 0) (Some 0) (Some 0) (Some 0) empty empty empty empty
-    four (suc zero) = of_four None (Some 0) (Some 0) (Some 0) none empty empty empty
-    four (suc (suc zero)) = of_four None None (Some 0) (Some 0) none none empty empty
-    four (suc (suc (suc zero))) = of_four None None None (Some 0) none none none empty
-    four (suc (suc (suc (suc k)))) = of_four None None None None none none none none
+    by_count : (k : ℕ) → AreWithin n (unnamed_sets k)
+    by_count zero = of_four (Some 0) (Some 0) (Some 0) (Some 0) empty empty empty empty
+    by_count (suc zero) = of_four None (Some 0) (Some 0) (Some 0) none_within empty empty empty
+    by_count (suc (suc zero)) = of_four None None (Some 0) (Some 0) none_within none_within empty empty
+    by_count (suc (suc (suc zero))) = of_four None None None (Some 0) none_within none_within none_within empty
+    by_count (suc (suc (suc (suc k)))) = of_four None None None None none_within none_within none_within none_within
 
 with_set_length : (sets : Sets) (i set : ℕ) → length (with_set sets i set) ≡ length sets
 with_set_length [] i set = refl

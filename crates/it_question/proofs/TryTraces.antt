@@ -7,7 +7,7 @@ use Rattle.it_syntax.specs.Letters.{Letter, Word, Number, Sym, End, MarkedLetter
 use Rattle.it_syntax.specs.FirstFault.{head, own_code}
 use Rattle.it_syntax.specs.AtomReading.{Reads, ◌>>=◌, read_list, line_end}
 use Rattle.it_syntax.specs.WrittenAtoms.{Environment, is_measure, index_or, spell_list, list_set}
-use Rattle.it_syntax.proofs.Traces.{By, Traces, traces_bind, traces_map, letter_then, switch, by_renaming}
+use Rattle.it_syntax.proofs.Traces.{By, Traces, traces_bind, traces_map, letter_then, by_equal_reader, by_renaming}
 use Rattle.it_syntax.proofs.AtomTraces.{for_same_head, for_no_head, stuck_here, stuck_none, list_traces}
 use Rattle.it_syntax.proofs.LetterReaders.{TakesLetter, behind_traces}
 use Rattle.it_question.specs.Keywords.{try_keyword}
@@ -62,16 +62,16 @@ auxiliary_traces aux sets (l ∷ ls) = stuck_here (read_auxiliary aux sets) (spe
 -- `:=` must stand there
 pub assign_takes : TakesLetter read_assign (Sym Assign)
 unfolding read_assign
-assign_takes = record { takes = λ s. refl; refuses = refuses }
+assign_takes = record { takes = λ s. refl; refuses = other_is_refused }
   where
-    refuses : (ls : List Letter) → (head ls ≡ Some (Sym Assign)) ⊎ ((c : Code) × (own_code ls ≡ c) × ((s : List Letter) → head s ≡ head ls → read_assign s ≡ Err (c, s)))
-    refuses (Sym Assign ∷ ls) = inl refl
-    refuses [] = inr (codes.Word, refl, for_no_head (λ s. read_assign s ≡ Err (codes.Word, s)) refl)
-    refuses (l ∷ ls) = inr (own_code (l ∷ ls), refl, for_same_head (λ s. read_assign s ≡ Err (own_code (l ∷ ls), s)) l (λ s. refl))
+    other_is_refused : (ls : List Letter) → (head ls ≡ Some (Sym Assign)) ⊎ ((c : Code) × (own_code ls ≡ c) × ((s : List Letter) → head s ≡ head ls → read_assign s ≡ Err (c, s)))
+    other_is_refused (Sym Assign ∷ ls) = inl refl
+    other_is_refused [] = inr (codes.Word, refl, for_no_head (λ s. read_assign s ≡ Err (codes.Word, s)) refl)
+    other_is_refused (l ∷ ls) = inr (own_code (l ∷ ls), refl, for_same_head (λ s. read_assign s ≡ Err (own_code (l ∷ ls), s)) l (λ s. refl))
 
 -- no number stands there
 set_by_names : (env : Environment) (ls : List Letter) → ((s : List Letter) → head s ≡ head ls → read_set env s ≡ read_list env s) → By (read_set env) (spell_set env) (set_of env) ls (read_list env ls)
-set_by_names env ls h = switch (read_list env) (read_set env) (spell_set env) (set_of env) ls h (read_list env ls)
+set_by_names env ls h = by_equal_reader (read_list env) (read_set env) (spell_set env) (set_of env) ls h (read_list env ls)
     (by_renaming (read_list env) (spell_list env) (spell_set env) (list_set env) (set_of env) Listed ls (λ z k. refl) (λ z. refl) (read_list env ls) (list_traces env ls))
 
 -- `0`, or names

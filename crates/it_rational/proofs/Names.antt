@@ -15,8 +15,8 @@ use native.Mathlib.Bridge.{le_prop}
 use native.Mathlib.Nat.{div-mul_cancel, ∣_prop, eq_of_mul-eq-mul_right}
 use borrow.Author.Differences.{up, down, same_in}
 
-across : (N n : ℤ) (D g d : ℕ) → N *ℤ pos g ≡ n → D * g ≡ d → N *ℤ pos d ≡ n *ℤ pos D
-across N n D g d e f = rw (← e, ← f) (omega (arith, zring))
+cross_products : (N n : ℤ) (D g d : ℕ) → N *ℤ pos g ≡ n → D * g ≡ d → N *ℤ pos d ≡ n *ℤ pos D
+cross_products N n D g d e f = rw (← e, ← f) (omega (arith, zring))
 
 pub quotient_names : (n : ℤ) (d : ℕ) → 0 < d → IsRatio (quotient n d) n d
 unfolding quotient
@@ -24,23 +24,23 @@ quotient_names n zero h = absurd (omega arith)
 quotient_names n (suc d) h =
     let g : ℕ = gcd (unsigned_abs n) (suc d) in
     let is : IsGcd (unsigned_abs n) (suc d) g = gcd_is (unsigned_abs n) (suc d) in
-    across (int_quotient n g) n (suc d / g) g (suc d) (over_back n g is.0) (div-mul_cancel g is.1)
+    cross_products (int_quotient n g) n (suc d / g) g (suc d) (over_back n g is.0) (div-mul_cancel g is.1)
 
 -- a factor above 0 cancels
-pub cancel : (a b : ℤ) (d : ℕ) → 0 < d → a *ℤ pos d ≡ b *ℤ pos d → a ≡ b
-cancel a b d h e = same_in a b (eq_of_mul-eq-mul_right d h (up a + down b) (up b + down a) (omega (arith, ints, e)))
+pub cancel_factor : (a b : ℤ) (d : ℕ) → 0 < d → a *ℤ pos d ≡ b *ℤ pos d → a ≡ b
+cancel_factor a b d h e = same_in a b (eq_of_mul-eq-mul_right d h (up a + down b) (up b + down a) (omega (arith, ints, e)))
 
 -- the parts decide
-abbrev made : (n : ℤ) (d : ℕ) → 0 < d → IsGcd (unsigned_abs n) d 1 → Rational
-made n d p l = record { num = n; den = d; positive = p; lowest = l }
+abbrev rational_of : (n : ℤ) (d : ℕ) → 0 < d → IsGcd (unsigned_abs n) d 1 → Rational
+rational_of n d p l = record { num = n; den = d; positive = p; lowest = l }
 
 gcd_prop : (a b g : ℕ) → IsProp (IsGcd a b g)
 gcd_prop a b g = hlevel ∣_prop
 
-same_made : (n m : ℤ) (d k : ℕ) → n ≡ m → d ≡ k → (p : 0 < d) (l : IsGcd (unsigned_abs n) d 1) (r : 0 < k) (s : IsGcd (unsigned_abs m) k 1) → made n d p l ≡ made m k r s
+same_made : (n m : ℤ) (d k : ℕ) → n ≡ m → d ≡ k → (p : 0 < d) (l : IsGcd (unsigned_abs n) d 1) (r : 0 < k) (s : IsGcd (unsigned_abs m) k 1) → rational_of n d p l ≡ rational_of m k r s
 same_made n m d k e f p l =
-    let P : ℤ → ℕ → Type 0 = λ m k. (r : 0 < k) (s : IsGcd (unsigned_abs m) k 1) → made n d p l ≡ made m k r s in
-    subst (λ (k : ℕ). P m k) f (subst (λ (m : ℤ). P m d) e (λ r s. ap₂ (made n d) (le_prop p r) (gcd_prop (unsigned_abs n) d 1 l s)))
+    let P : ℤ → ℕ → Type 0 = λ m k. (r : 0 < k) (s : IsGcd (unsigned_abs m) k 1) → rational_of n d p l ≡ rational_of m k r s in
+    subst (λ (k : ℕ). P m k) f (subst (λ (m : ℤ). P m d) e (λ r s. ap₂ (rational_of n d) (le_prop p r) (gcd_prop (unsigned_abs n) d 1 l s)))
 
 pub same_parts : (a b : Rational) → a.num ≡ b.num → a.den ≡ b.den → a ≡ b
 same_parts a b e f = same_made a.num b.num a.den b.den e f a.positive a.lowest b.positive b.lowest
@@ -52,11 +52,11 @@ abs_cross a b x y e = sym (unsigned_abs-mul a (pos x)) ∙ ap unsigned_abs e ∙
 pub same_across : (a b : Rational) → a.num *ℤ pos b.den ≡ b.num *ℤ pos a.den → a ≡ b
 same_across a b e =
     let d : a.den ≡ b.den = lowest_unique (unsigned_abs a.num) a.den (unsigned_abs b.num) b.den a.positive b.positive a.lowest b.lowest (abs_cross a.num b.num b.den a.den e) in
-    same_parts a b (cancel a.num b.num b.den b.positive (e ∙ ap (λ n. b.num *ℤ pos n) d)) d
+    same_parts a b (cancel_factor a.num b.num b.den b.positive (e ∙ ap (λ n. b.num *ℤ pos n) d)) d
 
 -- the same value by two names
 pub same_value : (q r : Rational) (n m : ℤ) (d e : ℕ) → 0 < d → 0 < e → IsRatio q n d → IsRatio r m e → n *ℤ pos e ≡ m *ℤ pos d → q ≡ r
-same_value q r n m d e hd he f g h = same_across q r (cancel (q.num *ℤ pos r.den) (r.num *ℤ pos q.den) (d * e) (mul-pos hd he)
+same_value q r n m d e hd he f g h = same_across q r (cancel_factor (q.num *ℤ pos r.den) (r.num *ℤ pos q.den) (d * e) (mul-pos hd he)
     (cross q.num n r.num m (pos q.den) (pos d) (pos r.den) (pos e) f g h))
   where
     cross : (qn n rn m qd d rd e : ℤ) → qn *ℤ d ≡ n *ℤ qd → rn *ℤ e ≡ m *ℤ rd → n *ℤ e ≡ m *ℤ d → (qn *ℤ rd) *ℤ (d *ℤ e) ≡ (rn *ℤ qd) *ℤ (d *ℤ e)
@@ -76,7 +76,7 @@ own_name a = refl
 
 -- names of sums, products and negations, from names of their parts
 names_of : (q : Rational) (n m : ℤ) (d e : ℕ) → 0 < d → 0 < e → IsRatio q n d → n *ℤ pos e ≡ m *ℤ pos d → IsRatio q m e
-names_of q n m d e hd he f h = cancel (q.num *ℤ pos e) (m *ℤ pos q.den) d hd
+names_of q n m d e hd he f h = cancel_factor (q.num *ℤ pos e) (m *ℤ pos q.den) d hd
     (zswap q.num (pos e) (pos d) ∙ ap (λ x. x *ℤ pos e) f ∙ zswap n (pos q.den) (pos e) ∙ ap (λ x. x *ℤ pos q.den) h ∙ zswap m (pos d) (pos q.den))
   where
     zswap : (a b c : ℤ) → (a *ℤ b) *ℤ c ≡ (a *ℤ c) *ℤ b
@@ -111,8 +111,8 @@ times_names a b n m d e hd he f g =
         ∙ ring ring_ℤ ρ (times (times N AD) (times M BD)) (times (times N M) (times AD BD)) refl
 
 -- parts in lowest terms that are equal across are those of the quotient
-pub quotient_is : (N n : ℤ) (D d : ℕ) → 0 < d → (hD : 0 < D) (is : IsGcd (unsigned_abs N) D 1) → N *ℤ pos d ≡ n *ℤ pos D → quotient n d ≡ made N D hD is
-quotient_is N n D d hd hD is e = same_across (quotient n d) (made N D hD is) (names_of (quotient n d) n N d D hd hD (quotient_names n d hd) (sym e))
+pub quotient_is : (N n : ℤ) (D d : ℕ) → 0 < d → (hD : 0 < D) (is : IsGcd (unsigned_abs N) D 1) → N *ℤ pos d ≡ n *ℤ pos D → quotient n d ≡ rational_of N D hD is
+quotient_is N n D d hd hD is e = same_across (quotient n d) (rational_of N D hD is) (names_of (quotient n d) n N d D hd hD (quotient_names n d hd) (sym e))
 
 pub quotient_parts : (N n : ℤ) (D d : ℕ) → 0 < d → (hD : 0 < D) (is : IsGcd (unsigned_abs N) D 1) → N *ℤ pos d ≡ n *ℤ pos D → ((quotient n d).num ≡ N) × ((quotient n d).den ≡ D)
 quotient_parts N n D d hd hD is e = (ap (λ q. q.num) (quotient_is N n D d hd hD is e), ap (λ q. q.den) (quotient_is N n D d hd hD is e))

@@ -13,10 +13,10 @@ use native.Mathlib.Nat.{dvd-zero, dvd_of_mul-dvd-mul_right, eq-one_of_dvd-one}
 -- a row without values, divided by 0, is itself
 divided_zero : (ts : Terms) → DividesAll 0 ts → divided_terms 0 ts ≡ ts
 divided_zero [] d = refl
-divided_zero (t ∷ ts) d = ap₂ (λ (z : ℤ) (us : Terms). let x : ℕ × ℤ = (t.0, z) in x ∷ us) (same (int_quotient t.1 0) t.1 (abs-over t.1 0) (over_back t.1 0 d.0)) (divided_zero ts d.1)
+divided_zero (t ∷ ts) d = ap₂ (λ (z : ℤ) (us : Terms). let x : ℕ × ℤ = (t.0, z) in x ∷ us) (same_number (int_quotient t.1 0) t.1 (abs-over t.1 0) (over_back t.1 0 d.0)) (divided_zero ts d.1)
   where
-    same : (q z : ℤ) → unsigned_abs q ≡ unsigned_abs z / 0 → q *ℤ pos 0 ≡ z → q ≡ z
-    same q z a e = omega (arith, ints)
+    same_number : (q z : ℤ) → unsigned_abs q ≡ unsigned_abs z / 0 → q *ℤ pos 0 ≡ z → q ≡ z
+    same_number q z a e = omega (arith, ints)
 
 -- a row divided by its common divisor has none above 1
 content_of_divided : (ts : Terms) → 0 < content 0 ts → content 0 (divided_terms (content 0 ts) ts) ≡ 1

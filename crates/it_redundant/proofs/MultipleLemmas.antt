@@ -1,17 +1,17 @@
 -- A whole multiple of a polymatroid is one, and meets the givens that it meets where these speak of entropies alone.
 use Rattle.std.proofs.Common.{◌≡◌, ℕ, ◌-◌, ◌<◌, ◌≤◌, ◌^◌, bit_and, bit_or, ℤ, pos, ◌+ℤ◌, ◌-ℤ◌, ◌*ℤ◌, ◌≤ℤ◌, List, [], ◌∷◌, sym, ap, ap₂, subst, ◌∙◌, arith, All}
 use Rattle.std.proofs.lemmas.Int.{ints}
-use Rattle.std.proofs.lemmas.Nat.{pow_pos, or_lt, and_le_r, and_le_l}
+use Rattle.std.proofs.lemmas.Nat.{pow_pos, or_lt, and_le_l}
 use Rattle.std.proofs.lemmas.List.Elements.{All-nil, All-cons, All-head, All-tail}
 use Rattle.it_number.proofs.Integers.{zring}
+use Rattle.it_number.proofs.SignLemmas.{product_least}
 use Rattle.it_space.specs.declared.problems.Constraint.{Constraint}
 use Rattle.it_space.specs.declared.problems.Kind.{Kind}
 use Rattle.it_space.specs.declared.problems.Kind.TheVariants.{Inequality, Equation}
 use Rattle.it_space.specs.Problems.{ProblemView, Meets, IsMet, AreMet}
 use Rattle.it_space.specs.Rows.{Terms, IsUpTo, value}
-use Rattle.it_space.specs.Sets.{IsInside}
+use Rattle.it_space.proofs.SetLemmas.{inside_below}
 use Rattle.it_polymatroid.specs.Polymatroid.{IsPolymatroid}
-use Rattle.it_eliminate.proofs.FurthestBounds.{product_least}
 use Rattle.it_redundant.specs.Theorems.{MeetsGivens, SpeakOfSets}
 
 -- multiples keep the order
@@ -28,19 +28,16 @@ sum_multiple k x y = omega (arith, zring)
 module _ (n k : ℕ) (p q : ℕ → ℤ) (same : (c : ℕ) → c < 2 ^ n → q c ≡ pos k *ℤ p c) where
   -- ---- a polymatroid
 
-  rise : (a b x y : ℤ) → a ≡ pos k *ℤ x → b ≡ pos k *ℤ y → x ≤ℤ y → a ≤ℤ b
-  rise a b x y e f h = let m : (pos k *ℤ x) ≤ℤ (pos k *ℤ y) = below_multiple k x y h in omega (arith, ints)
-
-  inside_below : (s t : ℕ) → t < 2 ^ n → IsInside s t → s < 2 ^ n
-  inside_below s t h i = let l : bit_and s t ≤ t = and_le_r s t in omega (arith, i)
+  multiples_in_order : (a b x y : ℤ) → a ≡ pos k *ℤ x → b ≡ pos k *ℤ y → x ≤ℤ y → a ≤ℤ b
+  multiples_in_order a b x y e f h = let m : (pos k *ℤ x) ≤ℤ (pos k *ℤ y) = below_multiple k x y h in omega (arith, ints)
 
   pub polymatroid_multiple : IsPolymatroid n p → IsPolymatroid n q
   polymatroid_multiple h = record {
     empty = same 0 (pow_pos n) ∙ ap (λ x. pos k *ℤ x) h.empty ∙ omega (arith, ints);
-    rises = λ s t l i. rise (q s) (q t) (p s) (p t) (same s (inside_below s t l i)) (same t l) (h.rises s t l i);
+    rises = λ s t l i. multiples_in_order (q s) (q t) (p s) (p t) (same s (inside_below n s t l i)) (same t l) (h.rises s t l i);
     submodular = λ s t l m.
         let below : bit_and s t < 2 ^ n = let b : bit_and s t ≤ s = and_le_l s t in omega (arith, b) in
-        rise (q (bit_or s t) +ℤ q (bit_and s t)) (q s +ℤ q t) (p (bit_or s t) +ℤ p (bit_and s t)) (p s +ℤ p t)
+        multiples_in_order (q (bit_or s t) +ℤ q (bit_and s t)) (q s +ℤ q t) (p (bit_or s t) +ℤ p (bit_and s t)) (p s +ℤ p t)
         (ap₂ (λ x y. x +ℤ y) (same (bit_or s t) (or_lt n s t l m)) (same (bit_and s t) below) ∙ sym (sum_multiple k (p (bit_or s t)) (p (bit_and s t))))
         (ap₂ (λ x y. x +ℤ y) (same s l) (same t m) ∙ sym (sum_multiple k (p s) (p t))) (h.submodular s t l m);
   }

@@ -1,14 +1,14 @@
 -- A list of rows whose rows all stand in another is a part of it. Putting in order keeps that, so does the step of a rate, and the part's list
 -- after it isn't longer, since it has no row twice.
-use Rattle.std.proofs.Common.{◌≡◌, ◌≢◌, ◌⊎◌, inl, inr, ⊎_elim, ℕ, suc, ◌≤◌, ℤ, refl, sym, ap, subst, ◌∙◌, arith, List, [], ◌∷◌, ◌++◌, length, Bool, true, false, ◌&&◌, ◌||◌, nat_eq, if◌then◌else◌}
+use Rattle.std.proofs.Common.{◌≡◌, ◌≢◌, ◌⊎◌, inl, inr, ⊎_elim, ℕ, suc, ◌≤◌, ℤ, refl, sym, ap, subst, ◌∙◌, arith, List, [], ◌∷◌, ◌++◌, length, Bool, true, false, ◌&&◌, ◌||◌, nat_eq, if◌then◌else◌, eq-eqb}
 use Rattle.std.specs.List.{list_any}
 use Rattle.std.specs.Ordering.{int_eq}
 use Rattle.std.proofs.lemmas.Int.{ints}
-use Rattle.std.proofs.lemmas.Bool.Decides.{nat_tests}
+use Rattle.std.proofs.lemmas.Bool.{false≢true}
 use Rattle.it_space.specs.Rows.{Terms}
 use Rattle.it_space.specs.Divisors.{lowest_terms}
 use Rattle.it_eliminate.specs.Elimination.{Member, is_same, with_row, with_lowest_rows, ordered_rows, results, next_list, PairsFit}
-use Rattle.it_eliminate.proofs.MemberLemmas.{not_true, member-front, member-back, member_either}
+use Rattle.it_eliminate.proofs.MemberLemmas.{member-front, member-back, member_either}
 use Rattle.it_eliminate.proofs.OrderLemmas.{found_member}
 use Rattle.it_eliminate.proofs.StepLemmas.{results_all, flat_member, pair_member}
 use Rattle.it_redundant.proofs.LowestLemmas.{lowest_again}
@@ -53,11 +53,8 @@ part_no_longer (x ∷ xs) ys d p =
 
 same_row : (xs : Terms) → is_same xs xs ≡ true
 same_row [] = refl
-same_row (x ∷ xs) = by_test (nat_eq x.0 x.0) (int_eq x.1 x.1) (is_same xs xs) (same_nat x.0) (same_int x.1) (same_row xs)
+same_row (x ∷ xs) = by_test (nat_eq x.0 x.0) (int_eq x.1 x.1) (is_same xs xs) (eq-eqb x.0 x.0 refl) (same_int x.1) (same_row xs)
   where
-    same_nat : (n : ℕ) → nat_eq n n ≡ true
-    same_nat n = grind (arith, nat_tests)
-
     same_int : (z : ℤ) → int_eq z z ≡ true
     same_int z = grind (arith, ints)
 
@@ -73,7 +70,7 @@ member_found row (r ∷ rows) (inl e) = by_test (is_same row r) (list_any (is_sa
   where
     by_test : (a b : Bool) → a ≡ true → (a || b) ≡ true
     by_test true b e = refl
-    by_test false b e = absurd (not_true e)
+    by_test false b e = absurd (false≢true e)
 member_found row (r ∷ rows) (inr m) = by_test (is_same row r) (list_any (is_same row) rows) (member_found row rows m)
   where
     by_test : (a b : Bool) → b ≡ true → (a || b) ≡ true
@@ -93,7 +90,7 @@ no_doubles-with_row rows (t ∷ ts) d = by_test (list_any (is_same (t ∷ ts)) r
   where
     by_test : (b : Bool) → (Member (t ∷ ts) rows → b ≡ true) → HasNoDoubles (if b then rows else rows ++ (t ∷ ts) ∷ [])
     by_test true f = d
-    by_test false f = no_doubles_behind rows (t ∷ ts) d (λ m. not_true (f m))
+    by_test false f = no_doubles_behind rows (t ∷ ts) d (λ m. false≢true (f m))
 
 -- what was there stays
 stays-with_row : (rows : List Terms) (row x : Terms) → Member x rows → Member x (with_row rows row)
@@ -118,12 +115,12 @@ source-with_row : (rows : List Terms) (row x : Terms) → Member x (with_row row
 source-with_row rows [] x m = inl m
 source-with_row rows (t ∷ ts) x m = by_test (list_any (is_same (t ∷ ts)) rows) m
   where
-    some : t ∷ ts ≢ []
-    some e = cc
+    row_some : t ∷ ts ≢ []
+    row_some e = cc
 
     by_test : (b : Bool) → Member x (if b then rows else rows ++ (t ∷ ts) ∷ []) → Member x rows ⊎ ((x ≡ t ∷ ts) × (t ∷ ts ≢ []))
     by_test true k = inl k
-    by_test false k = ⊎_elim (λ h. inl h) (λ h. ⊎_elim (λ e. inr (e, some)) (λ f. absurd f) h) (member_either x rows ((t ∷ ts) ∷ []) k)
+    by_test false k = ⊎_elim (λ h. inl h) (λ h. ⊎_elim (λ e. inr (e, row_some)) (λ f. absurd f) h) (member_either x rows ((t ∷ ts) ∷ []) k)
 
 -- ---- rows put in order
 

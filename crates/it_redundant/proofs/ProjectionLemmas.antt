@@ -12,7 +12,7 @@ use Rattle.it_eliminate.specs.Elimination.{Member, EliminationEndView, Eliminati
 use Rattle.it_eliminate.specs.Elimination as elimination
 use Rattle.it_eliminate.specs.Projections.{In, Extends, Lacks}
 use Rattle.it_eliminate.specs.declared.types.EliminationEnd.{EliminationEnd}
-use Rattle.it_eliminate.specs.declared.types.EliminationEnd.TheVariants as eliminated
+use Rattle.it_eliminate.specs.declared.types.EliminationEnd.TheVariants as elimination_ends
 use Rattle.it_eliminate.specs.Views.{elimination_end_view}
 use Rattle.it_eliminate.proofs.LawLemmas.{one_end}
 use Rattle.it_eliminate.proofs.MemberLemmas.{member_mapped}
@@ -21,7 +21,7 @@ use Rattle.it_eliminate.proofs.RateLemmas.{next_keeps_lacking, projection_exact,
 use Rattle.it_eliminate.proofs.SpaceLemmas.{projection_up_to}
 use Rattle.it_eliminate.proofs.StepLemmas.{next_lacks}
 use Rattle.it_redundant.specs.declared.types.ProjectionEnd.{ProjectionEnd}
-use Rattle.it_redundant.specs.declared.types.ProjectionEnd.TheVariants as projected
+use Rattle.it_redundant.specs.declared.types.ProjectionEnd.TheVariants as projection_ends
 use Rattle.it_redundant.specs.declared.types.Reduction.{Reduction}
 use Rattle.it_redundant.specs.Reduction.{NeedView, Reduces, dropped_view, kept_rows, kept_view}
 use Rattle.it_redundant.specs.ReducedElimination.{ProjectionEndView, Region, Rows, Wide, GoesOn, ReducedEnds, projection_end_view}
@@ -29,7 +29,7 @@ use Rattle.it_redundant.specs.ProjectionSteps.{HasRowsUpTo, IsAfterRate, IsNext,
 use Rattle.it_redundant.specs.Theorems.{MeetsGivens, HoldAlike, AreNeeded, SpeakOfSets, IsReducedRegion, RegionIsReduced, OneReducedEnd}
 use Rattle.it_redundant.proofs.MultipleLemmas.{multiple_meets}
 use Rattle.it_redundant.proofs.VisitLemmas.{rows_kept}
-use Rattle.it_redundant.proofs.ReductionLemmas.{every_kept, hold_alike, needed, one_reduction}
+use Rattle.it_redundant.proofs.ReductionLemmas.{every_kept, hold_alike, kept_are_needed, one_reduction}
 
 -- ---- the step of a rate
 
@@ -39,7 +39,7 @@ not_wide next r e = cc
 not_rows : (next : List Terms) (r : ℕ) → elimination.Region next ≡ elimination.Rows r → ⊥
 not_rows next r e = cc
 
-same_list : (xs ys : List Terms) → elimination.Region xs ≡ elimination.Region ys → xs ≡ ys
+pub same_list : (xs ys : List Terms) → elimination.Region xs ≡ elimination.Region ys → xs ≡ ys
 same_list xs ys e = cc
 
 -- a step that ends with a list has the next list, and few rows
@@ -152,24 +152,24 @@ module _ (givens : ProblemView) (budget : Option ℕ) (most : ℕ) (limits : IsP
     mid_lacks c h = every_kept givens budget (λ (row : Terms). coefficient row c ≡ pos 0) [] next mid dropped red h
 
     mid_needed : AreNeeded givens mid
-    mid_needed = needed givens budget limits few next mid dropped (omega (arith, few_next, few_rows)) next_up red
+    mid_needed = kept_are_needed givens budget limits few next mid dropped (omega (arith, few_next, few_rows)) next_up red
 
     one_more : (rs : List ℕ) (kept : List (Terms × NeedView)) → Holds rs (kept_rows mid) kept → Holds (r ∷ rs) rows kept
     one_more rs kept h = record {
       region = record {
         coordinates = h.region.coordinates;
-        free = λ s m. free s m;
+        free = λ s m. kept_lack_rates s m;
         exact = λ p m. (to_rows p m, from_rows p m);
         needed = h.region.needed;
       };
       keeps = λ c l. h.keeps c (mid_lacks c (subst (λ (xs : List Terms). Lacks c xs) (sym next_is) (next_keeps_lacking c (2 ^ givens.space.variables + r) (ordered_rows rows) (lacks-with_lowest_rows c [] rows tt l))));
     }
       where
-        free : (s : ℕ) → Member s (r ∷ rs) → Lacks (2 ^ givens.space.variables + s) (kept_rows kept)
-        free s (inl is) = h.keeps (2 ^ givens.space.variables + s) (mid_lacks (2 ^ givens.space.variables + s)
+        kept_lack_rates : (s : ℕ) → Member s (r ∷ rs) → Lacks (2 ^ givens.space.variables + s) (kept_rows kept)
+        kept_lack_rates s (inl is) = h.keeps (2 ^ givens.space.variables + s) (mid_lacks (2 ^ givens.space.variables + s)
             (subst (λ (xs : List Terms). Lacks (2 ^ givens.space.variables + s) xs) (sym next_is)
             (subst (λ (x : ℕ). Lacks (2 ^ givens.space.variables + x) (next_list (2 ^ givens.space.variables + r) (ordered_rows rows))) (sym is) (next_lacks (2 ^ givens.space.variables + r) (ordered_rows rows)))))
-        free s (inr m) = h.region.free s m
+        kept_lack_rates s (inr m) = h.region.free s m
 
         to_rows : (p : ℕ → ℤ) → MeetsGivens givens p → In (kept_rows kept) p → Extends ((2 ^ givens.space.variables + r) ∷ map (λ s. 2 ^ givens.space.variables + s) rs) rows p
         to_rows p m i =
@@ -193,24 +193,24 @@ module _ (givens : ProblemView) (budget : Option ℕ) (most : ℕ) (limits : IsP
   region_not_wide : (xs : List (Terms × NeedView)) (r : ℕ) → Region xs ≡ Wide r → ⊥
   region_not_wide xs r e = cc
 
-  later : (rs : List ℕ) (mid kept : List (Terms × NeedView)) → All (IsUpTo (size_of givens.space)) (kept_rows mid) → AreNeeded givens mid → ReducedEnds givens budget most (kept_rows mid) mid rs (Region kept)
+  later_region_holds : (rs : List ℕ) (mid kept : List (Terms × NeedView)) → All (IsUpTo (size_of givens.space)) (kept_rows mid) → AreNeeded givens mid → ReducedEnds givens budget most (kept_rows mid) mid rs (Region kept)
       → Holds rs (kept_rows mid) kept
-  later [] mid kept up need is = subst (λ (k : List (Terms × NeedView)). Holds [] (kept_rows mid) k) (sym (same_region kept mid is)) (nothing_gone mid up need)
-  later (r ∷ rs) mid kept up need (elimination.Region next, e, g) =
-      one_more (kept_rows mid) r next g.0 g.1 up e g.2 rs kept (later rs g.0 kept (mid_up (kept_rows mid) r next g.0 g.1 up e g.2) (mid_needed (kept_rows mid) r next g.0 g.1 up e g.2) g.3)
-  later (r ∷ rs) mid kept up need (elimination.Rows rate, e, is) = absurd (region_not_rows kept rate is)
-  later (r ∷ rs) mid kept up need (elimination.Wide rate, e, is) = absurd (region_not_wide kept rate is)
+  later_region_holds [] mid kept up need is = subst (λ (k : List (Terms × NeedView)). Holds [] (kept_rows mid) k) (sym (same_region kept mid is)) (nothing_gone mid up need)
+  later_region_holds (r ∷ rs) mid kept up need (elimination.Region next, e, g) =
+      one_more (kept_rows mid) r next g.0 g.1 up e g.2 rs kept (later_region_holds rs g.0 kept (mid_up (kept_rows mid) r next g.0 g.1 up e g.2) (mid_needed (kept_rows mid) r next g.0 g.1 up e g.2) g.3)
+  later_region_holds (r ∷ rs) mid kept up need (elimination.Rows rate, e, is) = absurd (region_not_rows kept rate is)
+  later_region_holds (r ∷ rs) mid kept up need (elimination.Wide rate, e, is) = absurd (region_not_wide kept rate is)
 
-  first : (r : ℕ) (rs : List ℕ) (rows : List Terms) (kept : List (Terms × NeedView)) → All (IsUpTo (size_of givens.space)) rows → ReducedEnds givens budget most rows [] (r ∷ rs) (Region kept) → Holds (r ∷ rs) rows kept
-  first r rs rows kept up (elimination.Region next, e, g) =
-      one_more rows r next g.0 g.1 up e g.2 rs kept (later rs g.0 kept (mid_up rows r next g.0 g.1 up e g.2) (mid_needed rows r next g.0 g.1 up e g.2) g.3)
-  first r rs rows kept up (elimination.Rows rate, e, is) = absurd (region_not_rows kept rate is)
-  first r rs rows kept up (elimination.Wide rate, e, is) = absurd (region_not_wide kept rate is)
+  first_region_holds : (r : ℕ) (rs : List ℕ) (rows : List Terms) (kept : List (Terms × NeedView)) → All (IsUpTo (size_of givens.space)) rows → ReducedEnds givens budget most rows [] (r ∷ rs) (Region kept) → Holds (r ∷ rs) rows kept
+  first_region_holds r rs rows kept up (elimination.Region next, e, g) =
+      one_more rows r next g.0 g.1 up e g.2 rs kept (later_region_holds rs g.0 kept (mid_up rows r next g.0 g.1 up e g.2) (mid_needed rows r next g.0 g.1 up e g.2) g.3)
+  first_region_holds r rs rows kept up (elimination.Rows rate, e, is) = absurd (region_not_rows kept rate is)
+  first_region_holds r rs rows kept up (elimination.Wide rate, e, is) = absurd (region_not_wide kept rate is)
 
   pub region_reduced : (rates : List ℕ) (rows : List Terms) (end : ProjectionEndView) → 1 ≤ length rates → All (IsUpTo (size_of givens.space)) rows → ReducedEnds givens budget most rows [] rates end
       → RegionIsReduced givens rates rows end
   region_reduced [] rows end some up e = absurd (omega arith)
-  region_reduced (r ∷ rs) rows (Region kept) some up e = (first r rs rows kept up e).region
+  region_reduced (r ∷ rs) rows (Region kept) some up e = (first_region_holds r rs rows kept up e).region
   region_reduced (r ∷ rs) rows (Rows rate) some up e = tt
   region_reduced (r ∷ rs) rows (Wide rate) some up e = tt
 
@@ -222,21 +222,21 @@ module _ (givens : ProblemView) (budget : Option ℕ) (most : ℕ) (system : Sys
   over_givens e is = subst (λ (s : Space). EliminationEnds (2 ^ s.variables) most (ordered_rows system.rows.items) (rate ∷ []) e) space
       (subst (λ (x : EliminationEndView). EliminationEnds (2 ^ system.space.variables) most (ordered_rows system.rows.items) (rate ∷ []) x) is ends)
 
-  module _ (next : System) (is : end ≡ eliminated.Region next) where
+  module _ (next : System) (is : end ≡ elimination_ends.Region next) where
     pub region_up : (reduced : Reduction) → All (IsUpTo (size_of system.space)) system.rows.items → Reduces givens budget [] next.rows.items (kept_view reduced) (dropped_view reduced)
         → All (IsUpTo (size_of givens.space)) (kept_rows (kept_view reduced))
     region_up reduced up red = kept_up givens budget most system.rows.items rate next.rows.items (kept_view reduced) (dropped_view reduced)
         (subst (λ (s : Space). All (IsUpTo (size_of s)) system.rows.items) space up) (over_givens (elimination.Region next.rows.items) (ap elimination_end_view is)) red
 
 -- of rows that stay, a rate leaves what it leaves of them as a system
-pub next_of_region : {E : Type 0} (givens : ProblemView) (budget : Option ℕ) (most rate : ℕ) (end : ProjectionEnd) (reduced : Reduction) (rows : List Terms) (result : Result ProjectionEnd E) → end ≡ projected.Region reduced
+pub next_of_region : {E : Type 0} (givens : ProblemView) (budget : Option ℕ) (most rate : ℕ) (end : ProjectionEnd) (reduced : Reduction) (rows : List Terms) (result : Result ProjectionEnd E) → end ≡ projection_ends.Region reduced
     → rows ≡ map (λ k. k.0) reduced.kept.items → IfOk result (λ e. IsAfterRate givens budget most rows rate (projection_end_view e)) → IfOk result (λ e. IsNext givens budget most rate (projection_end_view end) (projection_end_view e))
 next_of_region givens budget most rate end reduced rows (Err e) is same h = tt
 next_of_region givens budget most rate end reduced rows (Ok e) is same h = subst (λ (x : ProjectionEnd). IsNext givens budget most rate (projection_end_view x) (projection_end_view e)) (sym is)
     (subst (λ (xs : List Terms). IsAfterRate givens budget most xs rate (projection_end_view e)) (same ∙ sym (rows_kept reduced.kept.items)) h)
 
 -- the rows that stay are a system over the givens' space
-pub kept_is_system : (givens : ProblemView) (end : ProjectionEnd) (reduced : Reduction) (system : System) → IsSpace givens.space → end ≡ projected.Region reduced → HasRowsUpTo (size_of givens.space) (projection_end_view end)
+pub kept_is_system : (givens : ProblemView) (end : ProjectionEnd) (reduced : Reduction) (system : System) → IsSpace givens.space → end ≡ projection_ends.Region reduced → HasRowsUpTo (size_of givens.space) (projection_end_view end)
     → system.space ≡ givens.space → system.rows.items ≡ map (λ k. k.0) reduced.kept.items → IsSystem system
 kept_is_system givens end reduced system limits is up space rows =
     let kept : All (IsUpTo (size_of givens.space)) (kept_rows (kept_view reduced)) = subst (λ (x : ProjectionEnd). HasRowsUpTo (size_of givens.space) (projection_end_view x)) is up in

@@ -137,15 +137,15 @@ module _ (givens : ProblemView) (budget : Option ℕ) where
         problem : IsProblem (with_rows givens (before ++ rows))
         problem = taken_problem limits few before rows row t
 
-        own : IsUpTo (size_of givens.space) row
-        own = own_up before rows row t
+        row_up_to : IsUpTo (size_of givens.space) row
+        row_up_to = own_up before rows row t
 
-        stays : (x : Terms × NeedView) → x.0 ≡ row → ((n : Terms × NeedView) → x ∷ [] ≡ n ∷ [] → IsNeeded givens (before ++ kept_rows ks) n)
+        staying_rows_needed : (x : Terms × NeedView) → x.0 ≡ row → ((n : Terms × NeedView) → x ∷ [] ≡ n ∷ [] → IsNeeded givens (before ++ kept_rows ks) n)
             → Reduces givens budget (before ++ row ∷ []) rows ks d → (pre : List (Terms × NeedView)) → x ∷ ks ≡ pre ++ k ∷ post
             → ((pre : List (Terms × NeedView)) → ks ≡ pre ++ k ∷ post → IsNeeded givens ((before ++ row ∷ []) ++ (kept_rows pre ++ kept_rows post)) k)
             → IsNeeded givens (before ++ (kept_rows pre ++ kept_rows post)) k
-        stays x same here r [] e later = subst (λ l. IsNeeded givens (before ++ kept_rows l) k) (ap (λ l. drop 1 l) e) (here k (ap (λ l. take 1 l) e))
-        stays x same here r (y ∷ pre) e later = subst (λ l. IsNeeded givens l k)
+        staying_rows_needed x same here r [] e later = subst (λ l. IsNeeded givens (before ++ kept_rows l) k) (ap (λ l. drop 1 l) e) (here k (ap (λ l. take 1 l) e))
+        staying_rows_needed x same here r (y ∷ pre) e later = subst (λ l. IsNeeded givens l k)
             (append_assoc before (row ∷ []) (kept_rows pre ++ kept_rows post) ∙ ap (λ z. before ++ z ∷ (kept_rows pre ++ kept_rows post)) (sym same ∙ ap (λ l. (get_or l 0 x).0) e))
             (later pre (ap (λ l. drop 1 l) e))
 
@@ -154,12 +154,12 @@ module _ (givens : ProblemView) (budget : Option ℕ) where
             → ((b : List Terms) → AreTaken b rows → Reduces givens budget b rows ks d → (pre : List (Terms × NeedView)) → ks ≡ pre ++ k ∷ post → IsNeeded givens (b ++ (kept_rows pre ++ kept_rows post)) k)
             → IsNeeded givens (before ++ (kept_rows pre ++ kept_rows post)) k
         by_outcome (Yes w) ends e r u later = subst (λ l. IsNeeded givens (l ++ (kept_rows pre ++ kept_rows post)) k) (append-nil before) (later (before ++ []) u r pre e)
-        by_outcome (No values) ends e r u later = stays (row, Needed values) refl (need_at before rows row (No values) ks d problem own ends r) r pre e (later (before ++ row ∷ []) u r)
-        by_outcome (Undecided cause) ends e r u later = stays (row, Unsettled cause) refl (need_at before rows row (Undecided cause) ks d problem own ends r) r pre e (later (before ++ row ∷ []) u r)
+        by_outcome (No values) ends e r u later = staying_rows_needed (row, Needed values) refl (need_at before rows row (No values) ks d problem row_up_to ends r) r pre e (later (before ++ row ∷ []) u r)
+        by_outcome (Undecided cause) ends e r u later = staying_rows_needed (row, Unsettled cause) refl (need_at before rows row (Undecided cause) ks d problem row_up_to ends r) r pre e (later (before ++ row ∷ []) u r)
 
-    pub needed : (rows : List Terms) (kept : List (Terms × NeedView)) (dropped : List (Terms × CertificateView)) → length rows ≤ 65535 → All (IsUpTo (size_of givens.space)) rows
+    pub kept_are_needed : (rows : List Terms) (kept : List (Terms × NeedView)) (dropped : List (Terms × CertificateView)) → length rows ≤ 65535 → All (IsUpTo (size_of givens.space)) rows
         → Reduces givens budget [] rows kept dropped → AreNeeded givens kept
-    needed rows kept dropped count ups r pre post k is = needed_from [] rows kept dropped (taken_first rows count ups) r pre post k is
+    kept_are_needed rows kept dropped count ups r pre post k is = needed_from [] rows kept dropped (taken_first rows count ups) r pre post k is
 
 -- ---- a list has one reduction
 

@@ -1,8 +1,8 @@
 -- Common variables stand for themselves, and pulled coordinates.
-use Rattle.std.proofs.Common.{◌≡◌, ◌≢◌, ℕ, suc, zero, ◌+◌, ◌^◌, ◌<◌, ◌≤◌, List, [], ◌∷◌, ◌++◌, refl, ap, ap₂, sym, subst, ◌∙◌, arith, Bool, true, false, cond, ◌⊎◌, inl, inr, max, bit_or, rules, nat_lt, eqb, lit<, ◌-◌, ◌*◌, ◌%◌, All, length, length-append, append_assoc, append-nil}
+use Rattle.std.proofs.Common.{◌≡◌, ◌≢◌, ℕ, suc, zero, ◌+◌, ◌^◌, ◌<◌, ◌≤◌, List, [], ◌∷◌, ◌++◌, refl, ap, ap₂, sym, subst, ◌∙◌, arith, Bool, true, false, cond, ◌⊎◌, inl, inr, max, bit_or, nat_lt, eqb, lit<, ◌-◌, ◌*◌, ◌%◌, All, length, length-append, append_assoc, append-nil}
 use Rattle.std.specs.Int.{bit_at}
 use Rattle.std.proofs.Math.Nat.{eq-or-lt_of_le, pow-le-pow_right}
-use Rattle.std.proofs.lemmas.Bool.{cases_lt, eqb-true}
+use Rattle.std.proofs.lemmas.Bool.{cases_lt, eqb-true, le-ltb, lt-ltb}
 use Rattle.std.proofs.lemmas.Nat.Bits.{bit_at_or, same_from_bits, bit_at-zero, bit_at-lt, bit_at-pow_same, bit_at-pow_other, bit_at_above}
 use Rattle.it_polymatroid.specs.Substitutions.{union_from, image}
 use Rattle.std.proofs.lemmas.List.Elements.{All-nil, All-cons, All-append}
@@ -36,40 +36,34 @@ term_other : (i j : ℕ) (b : Bool) → j ≢ i → bit_at (cond b (2 ^ i) 0) j 
 term_other i j true not = bit_at-pow_other i j not
 term_other i j false not = bit_at-zero j
 
-is_below : (j i : ℕ) → j < i → nat_lt j i ≡ true
-is_below j i lt = search (rules, lt)
-
-not_below : (j i : ℕ) → i ≤ j → nat_lt j i ≡ false
-not_below j i le = search (rules, le)
-
 bit_from : (i s j : ℕ) → s < 2 ^ i → (j < i) ⊎ (i ≤ j) → 0 ≡ cond (nat_lt j i) 0 (bit_at s j)
-bit_from i s j lt (inl below) = ap (λ b. cond b 0 (bit_at s j)) (sym (is_below j i below))
-bit_from i s j lt (inr above) = sym (bit_at_above s i j lt above) ∙ ap (λ b. cond b 0 (bit_at s j)) (sym (not_below j i above))
+bit_from i s j lt (inl below) = ap (λ b. cond b 0 (bit_at s j)) (sym (lt-ltb j i below))
+bit_from i s j lt (inr above) = sym (bit_at_above s i j lt above) ∙ ap (λ b. cond b 0 (bit_at s j)) (sym (le-ltb j i above))
 
 union_bit : (i s j t u : ℕ) → t ≡ bit_at (cond (eqb (bit_at s i) 1) (2 ^ i) 0) j → u ≡ cond (nat_lt j (i + 1)) 0 (bit_at s j)
     → (j < i) ⊎ ((j ≡ i) ⊎ (i + 1 ≤ j)) → max t u ≡ cond (nat_lt j i) 0 (bit_at s j)
 union_bit i s j t u et eu (inl below) =
     let a : t ≡ 0 = et ∙ term_other i j (eqb (bit_at s i) 1) (λ e. omega (arith, e, below)) in
-    let b : u ≡ 0 = eu ∙ ap (λ z. cond z 0 (bit_at s j)) (is_below j (i + 1) (omega arith)) in
-    ap₂ max a b ∙ ap (λ z. cond z 0 (bit_at s j)) (sym (is_below j i below))
+    let b : u ≡ 0 = eu ∙ ap (λ z. cond z 0 (bit_at s j)) (lt-ltb j (i + 1) (omega arith)) in
+    ap₂ max a b ∙ ap (λ z. cond z 0 (bit_at s j)) (sym (lt-ltb j i below))
 union_bit i s j t u et eu (inr (inl same)) =
     let a : t ≡ bit_at s j = et ∙ ap (λ k. bit_at (cond (eqb (bit_at s i) 1) (2 ^ i) 0) k) same ∙ term_same s i (eqb (bit_at s i) 1) refl ∙ ap (bit_at s) (sym same) in
-    let b : u ≡ 0 = eu ∙ ap (λ z. cond z 0 (bit_at s j)) (is_below j (i + 1) (omega arith)) in
+    let b : u ≡ 0 = eu ∙ ap (λ z. cond z 0 (bit_at s j)) (lt-ltb j (i + 1) (omega arith)) in
     let c : max t u ≡ bit_at s j = omega (arith, a, b) in
-    c ∙ ap (λ z. cond z 0 (bit_at s j)) (sym (not_below j i (omega arith)))
+    c ∙ ap (λ z. cond z 0 (bit_at s j)) (sym (le-ltb j i (omega arith)))
 union_bit i s j t u et eu (inr (inr above)) =
     let a : t ≡ 0 = et ∙ term_other i j (eqb (bit_at s i) 1) (λ e. omega (arith, e, above)) in
-    let b : u ≡ bit_at s j = eu ∙ ap (λ z. cond z 0 (bit_at s j)) (not_below j (i + 1) above) in
+    let b : u ≡ bit_at s j = eu ∙ ap (λ z. cond z 0 (bit_at s j)) (le-ltb j (i + 1) above) in
     let c : max t u ≡ bit_at s j = omega (arith, a, b) in
-    c ∙ ap (λ z. cond z 0 (bit_at s j)) (sym (not_below j i (omega arith)))
+    c ∙ ap (λ z. cond z 0 (bit_at s j)) (sym (le-ltb j i (omega arith)))
 
 below_at_or_above : (j i : ℕ) → (j < i) ⊎ (i ≤ j) → (j < i) ⊎ ((j ≡ i) ⊎ (i + 1 ≤ j))
 below_at_or_above j i (inl lt) = inl lt
-below_at_or_above j i (inr le) = inr (by (eq-or-lt_of_le le))
+below_at_or_above j i (inr le) = inr (by_cases (eq-or-lt_of_le le))
   where
-    by : (i ≡ j) ⊎ (i < j) → (j ≡ i) ⊎ (i + 1 ≤ j)
-    by (inl e) = inl (sym e)
-    by (inr lt) = inr (omega arith)
+    by_cases : (i ≡ j) ⊎ (i < j) → (j ≡ i) ⊎ (i + 1 ≤ j)
+    by_cases (inl e) = inl (sym e)
+    by_cases (inr lt) = inr (omega arith)
 
 union_bits : (k i : ℕ) (parts : List ℕ) (s j : ℕ) → s < 2 ^ (i + k) → bit_at (union_from i (singles i k ++ parts) s) j ≡ cond (nat_lt j i) 0 (bit_at s j)
 union_bits zero i parts s j lt =
@@ -83,7 +77,7 @@ union_bits (suc k) i parts s j lt =
 
 pub common_stay : (common : ℕ) (parts : List ℕ) (s : ℕ) → s < 2 ^ common → image (substituted_sets common parts) s ≡ s
 common_stay common parts s lt = same_from_bits (image (substituted_sets common parts) s) s (λ j.
-    union_bits common 0 parts s j (let e : 0 + common ≡ common = omega arith in subst (λ n. s < 2 ^ n) (sym e) lt) ∙ ap (λ z. cond z 0 (bit_at s j)) (not_below j 0 (omega arith)))
+    union_bits common 0 parts s j (let e : 0 + common ≡ common = omega arith in subst (λ n. s < 2 ^ n) (sym e) lt) ∙ ap (λ z. cond z 0 (bit_at s j)) (le-ltb j 0 (omega arith)))
 
 -- ---- the list of what the variables stand for
 
@@ -105,11 +99,11 @@ length-sets common parts = omega (arith, length-append (singles 0 common) parts,
 
 pub coordinate_of_set : (n m : ℕ) (sets : List ℕ) (c : ℕ) → c < 2 ^ m → pulled_coordinate n m sets c ≡ image sets c
 unfolding pulled_coordinate
-coordinate_of_set n m sets c lt = ap (λ b. cond b (image sets c) (2 ^ n + (c - 2 ^ m))) (is_below c (2 ^ m) lt)
+coordinate_of_set n m sets c lt = ap (λ b. cond b (image sets c) (2 ^ n + (c - 2 ^ m))) (lt-ltb c (2 ^ m) lt)
 
 pub coordinate_above_sets : (n m : ℕ) (sets : List ℕ) (c : ℕ) → 2 ^ m ≤ c → pulled_coordinate n m sets c ≡ 2 ^ n + (c - 2 ^ m)
 unfolding pulled_coordinate
-coordinate_above_sets n m sets c le = ap (λ b. cond b (image sets c) (2 ^ n + (c - 2 ^ m))) (not_below c (2 ^ m) le)
+coordinate_above_sets n m sets c le = ap (λ b. cond b (image sets c) (2 ^ n + (c - 2 ^ m))) (le-ltb c (2 ^ m) le)
 
 pub coordinate_of_rate : (n m : ℕ) (sets : List ℕ) (r : ℕ) → pulled_coordinate n m sets (2 ^ m + r) ≡ 2 ^ n + r
 coordinate_of_rate n m sets r = let le : 2 ^ m ≤ 2 ^ m + r = omega arith in let e : 2 ^ n + ((2 ^ m + r) - 2 ^ m) ≡ 2 ^ n + r = omega arith in coordinate_above_sets n m sets (2 ^ m + r) le ∙ e

@@ -32,10 +32,10 @@ pub record IsUnderWay (f : ℕ → ℕ) (turned : Bool) (whole : Terms) (size : 
   pub sum : (p : ℕ → ℤ) → dense_form now p +ℤ signed_form f turned (drop i whole) p ≡ signed_form f turned whole p
 
 signed_form-cons : (f : ℕ → ℕ) (turned : Bool) (t : ℕ × ℤ) (ts : Terms) (p : ℕ → ℤ) → signed_form f turned (t ∷ ts) p ≡ signed_by turned t.1 *ℤ p (f t.0) +ℤ signed_form f turned ts p
-signed_form-cons f true t ts p = step t.1 (p (f t.0)) (value ts (λ c. p (f c)))
+signed_form-cons f true t ts p = negated_sum t.1 (p (f t.0)) (value ts (λ c. p (f c)))
   where
-    step : (x y z : ℤ) → neg_ℤ (x *ℤ y +ℤ z) ≡ neg_ℤ x *ℤ y +ℤ neg_ℤ z
-    step x y z = omega (arith, zring)
+    negated_sum : (x y z : ℤ) → neg_ℤ (x *ℤ y +ℤ z) ≡ neg_ℤ x *ℤ y +ℤ neg_ℤ z
+    negated_sum x y z = omega (arith, zring)
 signed_form-cons f false t ts p = refl
 
 -- a term has room
@@ -48,12 +48,12 @@ pub goes_on : (f : ℕ → ℕ) (turned : Bool) (whole : Terms) (size : ℕ) (no
 goes_on f turned whole size now new i t l is a u = record {
   complete = a.complete ∙ u.complete;
   small = omega (arith, a.small, u.small, ap row_mass (drop_item whole i t l is));
-  sum = λ p. step (dense_form new p) (dense_form now p) (signed_by turned t.1 *ℤ p (f t.0)) (signed_form f turned (drop (i + 1) whole) p) (signed_form f turned whole p) (a.sum p)
+  sum = λ p. sum_with_rest (dense_form new p) (dense_form now p) (signed_by turned t.1 *ℤ p (f t.0)) (signed_form f turned (drop (i + 1) whole) p) (signed_form f turned whole p) (a.sum p)
       (ap (λ x. dense_form now p +ℤ x) (sym (ap (λ (ts : Terms). signed_form f turned ts p) (drop_item whole i t l is) ∙ signed_form-cons f turned t (drop (i + 1) whole) p)) ∙ u.sum p);
 }
   where
-    step : (new now x rest all : ℤ) → new ≡ now +ℤ x → now +ℤ (x +ℤ rest) ≡ all → new +ℤ rest ≡ all
-    step new now x rest all e h = omega (arith, ints, e, h)
+    sum_with_rest : (new now x rest all : ℤ) → new ≡ now +ℤ x → now +ℤ (x +ℤ rest) ≡ all → new +ℤ rest ≡ all
+    sum_with_rest new now x rest all e h = omega (arith, ints, e, h)
 
 signed_form-nil : (f : ℕ → ℕ) (turned : Bool) (p : ℕ → ℤ) → signed_form f turned [] p ≡ pos 0
 signed_form-nil f true p = refl

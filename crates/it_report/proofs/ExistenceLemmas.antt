@@ -2,7 +2,7 @@
 use Rattle.std.proofs.Common.{◌≡◌, ℕ, ◌+◌, ◌-◌, ◌<◌, ◌≤◌, ◌^◌, ◌⊎◌, inl, inr, Bool, true, false, List, [], ◌∷◌, length, length-append, Option, Some, None, Result, Ok, Err, IsUtf8, codes, refl, sym, ap, subst, ◌∙◌, arith}
 use Rattle.std.specs.Str.{is_utf8}
 use Rattle.std.specs.List.{AllByRecursion as Every}
-use Rattle.std.proofs.lemmas.Bool.{cases_lt}
+use Rattle.std.proofs.lemmas.Bool.{cases_lt, true≢false}
 use Rattle.std.proofs.lemmas.Nat.{pow_pos}
 use Rattle.std.proofs.lemmas.Str.{IsUtf8-from_is_utf8, is_utf8-from_IsUtf8}
 use Rattle.serde_json.specs.Data.{Data}
@@ -57,18 +57,18 @@ module _ (q : BodyView) (k : IsQuestion q) (small : QuestionHasSmallNumbers q) w
 
   places_within : (first second : RegionView) (parts : List ℕ) → IsRegionOf q.names first → IsRegionOf q.names second → ArePartsOf first second parts
       → (c : ℕ) → c ≤ size_of (space_of second.names) → pulled_coordinate (length first.names.variables) (length second.names.variables) (substituted_sets (length q.names.variables) parts) c ≤ size_of (space_of first.names)
-  places_within first second parts l r h c below = by (cases_lt c (2 ^ length second.names.variables))
+  places_within first second parts l r h c below = by_cases (cases_lt c (2 ^ length second.names.variables))
     where
       sets : List ℕ
       sets = substituted_sets (length q.names.variables) parts
 
-      by : (c < 2 ^ length second.names.variables) ⊎ (2 ^ length second.names.variables ≤ c) → pulled_coordinate (length first.names.variables) (length second.names.variables) sets c ≤ size_of (space_of first.names)
-      by (inl less) = omega (
+      by_cases : (c < 2 ^ length second.names.variables) ⊎ (2 ^ length second.names.variables ≤ c) → pulled_coordinate (length first.names.variables) (length second.names.variables) sets c ≤ size_of (space_of first.names)
+      by_cases (inl less) = omega (
         arith,
         coordinate_of_set (length first.names.variables) (length second.names.variables) sets c less,
         image_up_to (space_of first.names) sets c (sets_within (length first.names.variables) (length q.names.variables) parts (omega (arith, ap length l.variables, length-append q.names.variables l.own)) h.within),
       )
-      by (inr more) = omega (arith, coordinate_above_sets (length first.names.variables) (length second.names.variables) sets c more, below, ap length l.rates, ap length r.rates, pow_pos (length first.names.variables), pow_pos (length second.names.variables))
+      by_cases (inr more) = omega (arith, coordinate_above_sets (length first.names.variables) (length second.names.variables) sets c more, below, ap length l.rates, ap length r.rates, pow_pos (length first.names.variables), pow_pos (length second.names.variables))
 
   -- where it is about two regions
   judged_containment : (parts : List ℕ) (ws : List CertificateView) (first second : RegionView) (tries : List (List ℕ)) → q.verb ≡ Contain first second tries → ArePartsOf first second parts
@@ -98,26 +98,26 @@ module _ (q : BodyView) (k : IsQuestion q) (small : QuestionHasSmallNumbers q) w
 
   -- each answer that fits the question has one
   answer_verdict_there : (a : AnswerView) → HasQuestionShape q a → (v : LineVerdict) × IsAnswerVerdict q a v
-  answer_verdict_there (Yes ws) fits = by q.verb refl
+  answer_verdict_there (Yes ws) fits = by_verb q.verb refl
     where
-      by : (verb : VerbView) → q.verb ≡ verb → (v : LineVerdict) × IsAnswerVerdict q (Yes ws) v
-      by (Prove r) about = judged_relation (Yes ws) r about (λ p ts. proofs_verdict p ts ws) (λ p ts. refl)
-      by (Eliminate rates) about = absurd (verb_fits q (Yes ws) (Eliminate rates) about fits)
-      by (Contain first second tries) about = absurd (verb_fits q (Yes ws) (Contain first second tries) about fits)
-  answer_verdict_there (No back values) fits = by q.verb refl
+      by_verb : (verb : VerbView) → q.verb ≡ verb → (v : LineVerdict) × IsAnswerVerdict q (Yes ws) v
+      by_verb (Prove r) about = judged_relation (Yes ws) r about (λ p ts. proofs_verdict p ts ws) (λ p ts. refl)
+      by_verb (Eliminate rates) about = absurd (verb_fits q (Yes ws) (Eliminate rates) about fits)
+      by_verb (Contain first second tries) about = absurd (verb_fits q (Yes ws) (Contain first second tries) about fits)
+  answer_verdict_there (No back values) fits = by_verb q.verb refl
     where
-      by : (verb : VerbView) → q.verb ≡ verb → (v : LineVerdict) × IsAnswerVerdict q (No back values) v
-      by (Prove r) about = judged_relation (No back values) r about (λ p ts. point_verdict p ts back values) (λ p ts. refl)
-      by (Eliminate rates) about = absurd (verb_fits q (No back values) (Eliminate rates) about fits)
-      by (Contain first second tries) about = absurd (verb_fits q (No back values) (Contain first second tries) about fits)
+      by_verb : (verb : VerbView) → q.verb ≡ verb → (v : LineVerdict) × IsAnswerVerdict q (No back values) v
+      by_verb (Prove r) about = judged_relation (No back values) r about (λ p ts. point_verdict p ts back values) (λ p ts. refl)
+      by_verb (Eliminate rates) about = absurd (verb_fits q (No back values) (Eliminate rates) about fits)
+      by_verb (Contain first second tries) about = absurd (verb_fits q (No back values) (Contain first second tries) about fits)
   answer_verdict_there (Undecided cause) fits = (Skipped, refl)
   answer_verdict_there (Region rows) fits = (Skipped, refl)
-  answer_verdict_there (Contained parts ws) fits = by q.verb refl
+  answer_verdict_there (Contained parts ws) fits = by_verb q.verb refl
     where
-      by : (verb : VerbView) → q.verb ≡ verb → (v : LineVerdict) × IsAnswerVerdict q (Contained parts ws) v
-      by (Prove r) about = absurd (verb_fits q (Contained parts ws) (Prove r) about fits)
-      by (Eliminate rates) about = absurd (verb_fits q (Contained parts ws) (Eliminate rates) about fits)
-      by (Contain first second tries) about =
+      by_verb : (verb : VerbView) → q.verb ≡ verb → (v : LineVerdict) × IsAnswerVerdict q (Contained parts ws) v
+      by_verb (Prove r) about = absurd (verb_fits q (Contained parts ws) (Prove r) about fits)
+      by_verb (Eliminate rates) about = absurd (verb_fits q (Contained parts ws) (Eliminate rates) about fits)
+      by_verb (Contain first second tries) about =
           judged_containment parts ws first second tries about (parts_as_named first second parts ws (verb_fits q (Contained parts ws) (Contain first second tries) about fits))
   answer_verdict_there (Open tried) fits = (Skipped, refl)
 
@@ -142,9 +142,6 @@ verdict_there line = by_bytes (is_utf8 line) refl
     none_there : read line ≡ None → VerdictThere line
     none_there e = (NotJson, λ u. e)
 
-    true_is_not_false : true ≡ false → ⊥
-    true_is_not_false e = cc
-
     by_value : IsUtf8 line → (o : Option Data) → read line ≡ o → VerdictThere line
     by_value u None e = none_there e
     by_value u (Some d) e =
@@ -153,7 +150,7 @@ verdict_there line = by_bytes (is_utf8 line) refl
 
     by_bytes : (b : Bool) → is_utf8 line ≡ b → VerdictThere line
     by_bytes true e = by_value (IsUtf8-from_is_utf8 line e) (read line) refl
-    by_bytes false e = (NotJson, λ u. absurd (true_is_not_false (sym (is_utf8-from_IsUtf8 line u) ∙ e)))
+    by_bytes false e = (NotJson, λ u. absurd (true≢false (sym (is_utf8-from_IsUtf8 line u) ∙ e)))
 
 pub each_line_is_judged : EachLineIsJudged
 each_line_is_judged k line = let v = verdict_there line in (verdict_line k v.0, is_invalid v.0, record { verdict = v.0; is = v.1; told = (refl, refl) })

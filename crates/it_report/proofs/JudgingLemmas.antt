@@ -64,28 +64,28 @@ unfolding HasQuestionShape
 verb_fits q a verb e h = subst (λ v. HasVerbShape q.names v a) e h
 
 pub yes_is_about_relation : (q : BodyView) (ws : List CertificateView) → HasQuestionShape q (Yes ws) → IsAboutRelation q.verb
-yes_is_about_relation q ws h = by q.verb (verb_fits q (Yes ws) q.verb refl h)
+yes_is_about_relation q ws h = by_verb q.verb (verb_fits q (Yes ws) q.verb refl h)
   where
-    by : (verb : VerbView) → HasVerbShape q.names verb (Yes ws) → IsAboutRelation verb
-    by (Prove r) h = tt
-    by (Eliminate rates) h = absurd h
-    by (Contain first second tries) h = absurd h
+    by_verb : (verb : VerbView) → HasVerbShape q.names verb (Yes ws) → IsAboutRelation verb
+    by_verb (Prove r) h = tt
+    by_verb (Eliminate rates) h = absurd h
+    by_verb (Contain first second tries) h = absurd h
 
 pub no_is_about_relation : (q : BodyView) (back : Bool) (values : List ℤ) → HasQuestionShape q (No back values) → IsAboutRelation q.verb
-no_is_about_relation q back values h = by q.verb (verb_fits q (No back values) q.verb refl h)
+no_is_about_relation q back values h = by_verb q.verb (verb_fits q (No back values) q.verb refl h)
   where
-    by : (verb : VerbView) → HasVerbShape q.names verb (No back values) → IsAboutRelation verb
-    by (Prove r) h = tt
-    by (Eliminate rates) h = absurd h
-    by (Contain first second tries) h = absurd h
+    by_verb : (verb : VerbView) → HasVerbShape q.names verb (No back values) → IsAboutRelation verb
+    by_verb (Prove r) h = tt
+    by_verb (Eliminate rates) h = absurd h
+    by_verb (Contain first second tries) h = absurd h
 
 pub contained_is_about_regions : (q : BodyView) (parts : List ℕ) (ws : List CertificateView) → HasQuestionShape q (Contained parts ws) → IsContainment q.verb
-contained_is_about_regions q parts ws h = by q.verb (verb_fits q (Contained parts ws) q.verb refl h)
+contained_is_about_regions q parts ws h = by_verb q.verb (verb_fits q (Contained parts ws) q.verb refl h)
   where
-    by : (verb : VerbView) → HasVerbShape q.names verb (Contained parts ws) → IsContainment verb
-    by (Prove r) h = absurd h
-    by (Eliminate rates) h = absurd h
-    by (Contain first second tries) h = tt
+    by_verb : (verb : VerbView) → HasVerbShape q.names verb (Contained parts ws) → IsContainment verb
+    by_verb (Prove r) h = absurd h
+    by_verb (Eliminate rates) h = absurd h
+    by_verb (Contain first second tries) h = tt
 
 -- ---- the problem and the rows
 
@@ -113,27 +113,27 @@ module _ (q : BodyView) (r : RelationView) (about : q.verb ≡ Prove r) where
   point_is_complete back values s e h = (verb_fits q (No back values) (Prove r) about h).0 ∙ sym (ap size_of (e ∙ ap space_of relation_names))
 
   one_target : (n : ℕ) → 0 < length (targets n r)
-  one_target n = by r.sign (form_of n r)
+  one_target n = by_sign r.sign (form_of n r)
     where
-      by : (sign : Sign) (f : Form) → 0 < length (targets_by sign f)
-      by AtLeast f = lit< tt
-      by AtMost f = lit< tt
-      by Equal f = lit< tt
+      by_sign : (sign : Sign) (f : Form) → 0 < length (targets_by sign f)
+      by_sign AtLeast f = lit< tt
+      by_sign AtMost f = lit< tt
+      by_sign Equal f = lit< tt
 
   two_targets : (n : ℕ) → is_equality r.sign ≡ true → 1 < length (targets n r)
-  two_targets n = by r.sign (form_of n r)
+  two_targets n = by_sign r.sign (form_of n r)
     where
-      by : (sign : Sign) (f : Form) → is_equality sign ≡ true → 1 < length (targets_by sign f)
-      by AtLeast f e = absurd (cc)
-      by AtMost f e = absurd (cc)
-      by Equal f e = lit< tt
+      by_sign : (sign : Sign) (f : Form) → is_equality sign ≡ true → 1 < length (targets_by sign f)
+      by_sign AtLeast f e = absurd (cc)
+      by_sign AtMost f e = absurd (cc)
+      by_sign Equal f e = lit< tt
 
   pub target_is_there : (back : Bool) (values : List ℤ) (n : ℕ) (ts : List Terms) → length ts ≡ length (targets n r) → HasQuestionShape q (No back values) → place_named back < length ts
-  target_is_there back values n ts as_many h = by back (verb_fits q (No back values) (Prove r) about h).2
+  target_is_there back values n ts as_many h = by_test back (verb_fits q (No back values) (Prove r) about h).2
     where
-      by : (back : Bool) → (back ≡ true → is_equality r.sign ≡ true) → place_named back < length ts
-      by true equal = omega (arith, as_many, two_targets n (equal refl))
-      by false equal = omega (arith, as_many, one_target n)
+      by_test : (back : Bool) → (back ≡ true → is_equality r.sign ≡ true) → place_named back < length ts
+      by_test true equal = omega (arith, as_many, two_targets n (equal refl))
+      by_test false equal = omega (arith, as_many, one_target n)
 
 -- ---- a containment
 
@@ -145,12 +145,12 @@ parts_as_named first second parts ws h = record {
 
 module _ (q : BodyView) (p : Pair) (parts : List ℕ) (ws : List CertificateView) (l : IsPair p) (pairs : Pairs q p) (fits : HasQuestionShape q (Contained parts ws)) where
   of_pair : (P : Type 0) → ((first second : RegionView) (tries : List (List ℕ)) → q.verb ≡ Contain first second tries → IsPairOf q first second p → ArePartsOf first second parts → P) → P
-  of_pair P f = by q.verb refl
+  of_pair P f = by_verb q.verb refl
     where
-      by : (verb : VerbView) → q.verb ≡ verb → P
-      by (Prove r) e = absurd (verb_fits q (Contained parts ws) (Prove r) e fits)
-      by (Eliminate rates) e = absurd (verb_fits q (Contained parts ws) (Eliminate rates) e fits)
-      by (Contain first second tries) e = f first second tries e (pair_of_verb q first second tries p e pairs) (parts_as_named first second parts ws (verb_fits q (Contained parts ws) (Contain first second tries) e fits))
+      by_verb : (verb : VerbView) → q.verb ≡ verb → P
+      by_verb (Prove r) e = absurd (verb_fits q (Contained parts ws) (Prove r) e fits)
+      by_verb (Eliminate rates) e = absurd (verb_fits q (Contained parts ws) (Eliminate rates) e fits)
+      by_verb (Contain first second tries) e = f first second tries e (pair_of_verb q first second tries p e pairs) (parts_as_named first second parts ws (verb_fits q (Contained parts ws) (Contain first second tries) e fits))
 
   pub few_parts : length parts ≤ 4
   few_parts = of_pair (length parts ≤ 4) (λ first second tries e o h. omega (arith, h.count, o.parts, l.few_parts))

@@ -42,8 +42,8 @@ pub obligations_up_to : (n m : ℕ) (f : ℕ → ℕ) → ((c : ℕ) → c ≤ n
 obligations_up_to n m f within [] h = tt
 obligations_up_to n m f within (d ∷ ds) h =
     every-append (IsFormUpTo m (2 ^ 74)) (halves d.demand.kind (pulled_form f d.demand.form)) (demand_obligations f ds)
-    (by d.demand.kind (pulled_form f d.demand.form) (form_moved n m (2 ^ 74) f d.demand.form within h.0)) (obligations_up_to n m f within ds h.1)
+    (by_kind d.demand.kind (pulled_form f d.demand.form) (form_moved n m (2 ^ 74) f d.demand.form within h.0)) (obligations_up_to n m f within ds h.1)
   where
-    by : (kind : Kind) (g : Form) → IsFormUpTo m (2 ^ 74) g → Every (IsFormUpTo m (2 ^ 74)) (halves kind g)
-    by Inequality g x = (x, tt)
-    by Equation g x = (x, (form-negation m (2 ^ 74) g x, tt))
+    by_kind : (kind : Kind) (g : Form) → IsFormUpTo m (2 ^ 74) g → Every (IsFormUpTo m (2 ^ 74)) (halves kind g)
+    by_kind Inequality g x = (x, tt)
+    by_kind Equation g x = (x, (form-negation m (2 ^ 74) g x, tt))

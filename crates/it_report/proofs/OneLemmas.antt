@@ -7,6 +7,7 @@ use Rattle.it_space.specs.Answers.{AnswerView}
 use Rattle.it_space.specs.Answers.AnswerView.{Yes, No, Undecided, Region, Contained, Open}
 use Rattle.it_space.specs.Problems.{ProblemView}
 use Rattle.it_space.specs.Rows.{Terms}
+use Rattle.it_space.proofs.OptionLemmas.{some_same}
 use Rattle.it_syntax.specs.NamesViews.{NamesView}
 use Rattle.it_question.specs.Questions.{BodyView, QuestionView}
 use Rattle.it_canon.proofs.PosesLemmas.{one_problem}
@@ -44,9 +45,6 @@ no_key k x e = cc
 pub one_pair : (x y : Reading) → as_read x ≡ as_read y → x ≡ y
 one_pair x y e = cc
 
-pub same_some : (v w : Verdict) → Some v ≡ Some w → v ≡ w
-same_some v w e = cc
-
 none_judged : (v : Verdict) → None ≡ Some v → ⊥
 none_judged v e = cc
 
@@ -66,7 +64,7 @@ one_row_list q a m n v w h k =
 same_judged : (q : BodyView) (a : AnswerView) (m n : NamesView) (v w : Verdict) → IsJudged q a m v → IsJudged q a n w → Judged m v ≡ Judged n w
 same_judged q a m n v w h k =
     ap₂ Judged (h.own_names ∙ sym k.own_names)
-    (same_some v w (sym h.verdict ∙ ap₂ (λ p ts. answer_verdict p ts a) (one_problem q h.problem k.problem h.is_problem k.is_problem) (one_row_list q a m n v w h k) ∙ k.verdict))
+    (some_same v w (sym h.verdict ∙ ap₂ (λ p ts. answer_verdict p ts a) (one_problem q h.problem k.problem h.is_problem k.is_problem) (one_row_list q a m n v w h k) ∙ k.verdict))
 
 judged_once : (x y : Reading) → x ≡ y → (m n : NamesView) (v w : Verdict) → IsJudged x.0.body x.1 m v → IsJudged y.0.body y.1 n w → Judged m v ≡ Judged n w
 judged_once x y e m n v w h k = same_judged x.0.body x.1 m n v w h (subst (λ z. IsJudged z.0.body z.1 n w) (sym e) k)

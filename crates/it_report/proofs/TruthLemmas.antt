@@ -9,6 +9,7 @@ use Rattle.it_space.specs.Answers.AnswerView.{Yes, No, Undecided, Region, Contai
 use Rattle.it_space.specs.Problems.{ProblemView, AreMet}
 use Rattle.it_space.specs.Rows.{Terms, map_of}
 use Rattle.it_space.specs.Spaces.{size_of}
+use Rattle.it_space.proofs.OptionLemmas.{some_same}
 use Rattle.it_polymatroid.specs.Certificates.{Form}
 use Rattle.it_polymatroid.specs.Polymatroid.{IsPolymatroid}
 use Rattle.it_syntax.specs.Meaning.{RelationView, side_at}
@@ -44,7 +45,7 @@ use Rattle.it_report.specs.Judging.{judged_parts, judged_forms_by, answer_verdic
 use Rattle.it_report.specs.Meaning.{IsRelationClaim, IsRegionClaim, IsClaimTrueBy, ValidIsTrue}
 use Rattle.it_report.proofs.JudgingLemmas.{verb_fits, target_is_there, point_is_complete, parts_as_named}
 use Rattle.it_report.proofs.CountLemmas.{obligations_counted, targets_counted}
-use Rattle.it_report.proofs.OneLemmas.{Reading, as_read, one_pair, same_some}
+use Rattle.it_report.proofs.OneLemmas.{Reading, as_read, one_pair}
 
 -- ---- what was read fits its question
 
@@ -58,15 +59,15 @@ read_is : (own : Option QuestionView) (d : Data) (q : QuestionView) (a : AnswerV
 unfolding report_of
 read_is own d q a e = by_kind (answer_kind_at d) own e
   where
-    told : (kind : AnswerKind) (p : QuestionView) (r : Result AnswerView Key) → question_answer p kind d ≡ r → and_then r (with_answer p) ≡ as_read (q, a) → (Some p ≡ Some q) × HasQuestionShape q.body a
-    told kind p (Err k) is f = absurd (no_answer k (q, a) f)
-    told kind p (Ok b) is f = let same = one_pair (p, b) (q, a) f in (ap (λ x. Some x.0) same, subst (λ x. HasQuestionShape x.0.body x.1) same (answer_fits p kind d b is))
+    by_result : (kind : AnswerKind) (p : QuestionView) (r : Result AnswerView Key) → question_answer p kind d ≡ r → and_then r (with_answer p) ≡ as_read (q, a) → (Some p ≡ Some q) × HasQuestionShape q.body a
+    by_result kind p (Err k) is f = absurd (no_answer k (q, a) f)
+    by_result kind p (Ok b) is f = let same = one_pair (p, b) (q, a) f in (ap (λ x. Some x.0) same, subst (λ x. HasQuestionShape x.0.body x.1) same (answer_fits p kind d b is))
 
     by_kind : (o : Option AnswerKind) (own : Option QuestionView)
         → and_then (ok_or o keys.Answer) (λ kind. and_then (ok_or own keys.Question) (λ p. and_then (question_answer p kind d) (with_answer p))) ≡ as_read (q, a) → (own ≡ Some q) × HasQuestionShape q.body a
     by_kind None own f = absurd (no_answer keys.Answer (q, a) f)
     by_kind (Some kind) None f = absurd (no_answer keys.Question (q, a) f)
-    by_kind (Some kind) (Some p) f = told kind p (question_answer p kind d) refl f
+    by_kind (Some kind) (Some p) f = by_result kind p (question_answer p kind d) refl f
 
 pub fits_question : (line : List ℕ) (q : QuestionView) (a : AnswerView) → ReadsReport line (Ok (q, a)) → HasQuestionShape q.body a
 fits_question line q a h = (read_is h.reads.own h.value q a h.reads.is).1
@@ -106,8 +107,8 @@ pulled_row_at s (g ∷ fs) (t ∷ ts) zero f h k = h.0
 pulled_row_at s (g ∷ fs) (t ∷ ts) (suc i) f h k = pulled_row_at s fs ts i f h.1 (omega arith)
 
 module _ (q : BodyView) (p : ProblemView) (is : IsProblemOf q p) where
-  abbrev n : ℕ
-  n = length (problem_names q).variables
+  abbrev variable_count : ℕ
+  variable_count = length (problem_names q).variables
 
   to_problem : (P : Space → Type 0) → P (space_of (problem_names q)) → P p.space
   to_problem P x = subst P (sym is.space) x
@@ -115,7 +116,7 @@ module _ (q : BodyView) (p : ProblemView) (is : IsProblemOf q p) where
   from_problem : (P : Space → Type 0) → P p.space → P (space_of (problem_names q))
   from_problem P x = subst P is.space x
 
-  module _ (m : ℕ → ℤ) (h : IsPolymatroid n m) (lines : AreTrueAt n m (problem_lines q)) where
+  module _ (m : ℕ → ℤ) (h : IsPolymatroid variable_count m) (lines : AreTrueAt variable_count m (problem_lines q)) where
     target_holds : (f : Form) (t : Terms) (w : CertificateView) → IsPulledRow p.space f t → proof_verdict p t w ≡ Valid → pos 0 ≤ℤ f m
     target_holds f t w row e =
         let met : AreMet m p.constraints = (question_met q p.space p.constraints is.space is.constraints m h.empty).1 (to_problem (λ s. AreTrueAt s.variables m (problem_lines q)) lines) in
@@ -133,17 +134,17 @@ module _ (q : BodyView) (p : ProblemView) (is : IsProblemOf q p) where
         let c = both_valid (proof_verdict p t w) (proofs_verdict p ts ws) e in
         All-cons (λ (f : Form). pos 0 ≤ℤ f m) f fs (target_holds f t w z.0 c.0) (all_hold fs ts ws z.1 (omega (arith, l)) c.1)
 
-  yes_true : (r : RelationView) (ts : List Terms) (ws : List CertificateView) → ArePulledRows p.space (targets n r) ts → length ws ≡ target_count r.sign → proofs_verdict p ts ws ≡ Valid → IsRelationClaim q r (Yes ws)
+  yes_true : (r : RelationView) (ts : List Terms) (ws : List CertificateView) → ArePulledRows p.space (targets variable_count r) ts → length ws ≡ target_count r.sign → proofs_verdict p ts ws ≡ Valid → IsRelationClaim q r (Yes ws)
   yes_true r ts ws are l e m t =
-      (targets_met r.sign (side_at n m r.left) (side_at n m r.right) (form_of n r) m refl).0
-      (all_hold m t.0 t.1 (targets n r) ts ws are (l ∙ sym (targets_counted r.sign (form_of n r))) e)
+      (targets_met r.sign (side_at variable_count m r.left) (side_at variable_count m r.right) (form_of variable_count r) m refl).0
+      (all_hold m t.0 t.1 (targets variable_count r) ts ws are (l ∙ sym (targets_counted r.sign (form_of variable_count r))) e)
 
-  no_true : (r : RelationView) (ts : List Terms) (back : Bool) (values : List ℤ) → ArePulledRows p.space (targets n r) ts → length values ≡ size_of p.space → place_named back < length ts
+  no_true : (r : RelationView) (ts : List Terms) (back : Bool) (values : List ℤ) → ArePulledRows p.space (targets variable_count r) ts → length values ≡ size_of p.space → place_named back < length ts
       → point_verdict p ts back values ≡ Valid → IsRelationClaim q r (No back values)
   unfolding point_verdict
   no_true r ts back values are l there e =
       let i = place_named back in
-      let row = pulled_row_at p.space (targets n r) ts i (λ m. pos 0) are there in
+      let row = pulled_row_at p.space (targets variable_count r) ts i (λ m. pos 0) are there in
       let t = get_or ts i [] in
       let refuted : RefutesRow p t values = ((valid_no_is p t values is.limits row.coordinates l).0 e).0 in (
         (
@@ -159,34 +160,34 @@ module _ (q : BodyView) (p : ProblemView) (is : IsProblemOf q p) where
   contained_true first second tries parts ts ws about k are fits e =
       obligations_contain q first second tries parts k about (parts_as_named first second parts ws fits)
       (λ m inside.
-      let polymatroid : IsPolymatroid n m = subst (λ v. IsPolymatroid (length (problem_names_by q.names v).variables) m) (sym about) inside.polymatroid in
-      let lines : AreTrueAt n m (problem_lines q) = subst (λ v. AreTrueAt (length (problem_names_by q.names v).variables) m (problem_lines_by q.lines v)) (sym about) inside.lines_hold in
+      let polymatroid : IsPolymatroid variable_count m = subst (λ v. IsPolymatroid (length (problem_names_by q.names v).variables) m) (sym about) inside.polymatroid in
+      let lines : AreTrueAt variable_count m (problem_lines q) = subst (λ v. AreTrueAt (length (problem_names_by q.names v).variables) m (problem_lines_by q.lines v)) (sym about) inside.lines_hold in
       all_hold m polymatroid lines (obligations q first second parts) ts ws are (fits.obligations ∙ sym (obligations_counted q first second parts)) e)
 
 judged_true : (q : BodyView) (verb : VerbView) (a : AnswerView) (names : NamesView) → q.verb ≡ verb → IsQuestion q → HasQuestionShape q a → IsJudged q a names Valid → IsClaimTrueBy q verb a
-judged_true q (Prove r) a names about k fits j = by a fits (subst (λ v. ArePulledRows j.problem.space (judged_forms_by q v a) j.rows) about j.are) j.verdict
+judged_true q (Prove r) a names about k fits j = by_answer a fits (subst (λ v. ArePulledRows j.problem.space (judged_forms_by q v a) j.rows) about j.are) j.verdict
   where
-    by : (a : AnswerView) → HasQuestionShape q a → ArePulledRows j.problem.space (targets (length (problem_names q).variables) r) j.rows → answer_verdict j.problem j.rows a ≡ Some Valid → IsRelationClaim q r a
-    by (Yes ws) fits are e = yes_true q j.problem j.is_problem r j.rows ws are (verb_fits q (Yes ws) (Prove r) about fits).0 (same_some (proofs_verdict j.problem j.rows ws) Valid e)
-    by (No back values) fits are e = no_true q j.problem j.is_problem r j.rows back values are
+    by_answer : (a : AnswerView) → HasQuestionShape q a → ArePulledRows j.problem.space (targets (length (problem_names q).variables) r) j.rows → answer_verdict j.problem j.rows a ≡ Some Valid → IsRelationClaim q r a
+    by_answer (Yes ws) fits are e = yes_true q j.problem j.is_problem r j.rows ws are (verb_fits q (Yes ws) (Prove r) about fits).0 (some_same (proofs_verdict j.problem j.rows ws) Valid e)
+    by_answer (No back values) fits are e = no_true q j.problem j.is_problem r j.rows back values are
         (point_is_complete q r about back values j.problem.space j.is_problem.space fits)
         (target_is_there q r about back values (length (problem_names q).variables) j.rows (zip-length (IsPulledRow j.problem.space) (targets (length (problem_names q).variables) r) j.rows are) fits)
-        (same_some (point_verdict j.problem j.rows back values) Valid e)
-    by (Undecided cause) fits are e = tt
-    by (Region rows) fits are e = tt
-    by (Contained parts proofs) fits are e = tt
-    by (Open tried) fits are e = tt
+        (some_same (point_verdict j.problem j.rows back values) Valid e)
+    by_answer (Undecided cause) fits are e = tt
+    by_answer (Region rows) fits are e = tt
+    by_answer (Contained parts proofs) fits are e = tt
+    by_answer (Open tried) fits are e = tt
 judged_true q (Eliminate rates) a names about k fits j = tt
-judged_true q (Contain first second tries) a names about k fits j = by a fits (subst (λ v. ArePulledRows j.problem.space (judged_forms_by q v a) j.rows) about j.are) j.verdict
+judged_true q (Contain first second tries) a names about k fits j = by_answer a fits (subst (λ v. ArePulledRows j.problem.space (judged_forms_by q v a) j.rows) about j.are) j.verdict
   where
-    by : (a : AnswerView) → HasQuestionShape q a → ArePulledRows j.problem.space (obligations q first second (judged_parts a)) j.rows → answer_verdict j.problem j.rows a ≡ Some Valid → IsRegionClaim q first second a
-    by (Yes ws) fits are e = tt
-    by (No back values) fits are e = tt
-    by (Undecided cause) fits are e = tt
-    by (Region rows) fits are e = tt
-    by (Contained parts ws) fits are e = contained_true q j.problem j.is_problem first second tries parts j.rows ws about k are
-        (verb_fits q (Contained parts ws) (Contain first second tries) about fits) (same_some (proofs_verdict j.problem j.rows ws) Valid e)
-    by (Open tried) fits are e = tt
+    by_answer : (a : AnswerView) → HasQuestionShape q a → ArePulledRows j.problem.space (obligations q first second (judged_parts a)) j.rows → answer_verdict j.problem j.rows a ≡ Some Valid → IsRegionClaim q first second a
+    by_answer (Yes ws) fits are e = tt
+    by_answer (No back values) fits are e = tt
+    by_answer (Undecided cause) fits are e = tt
+    by_answer (Region rows) fits are e = tt
+    by_answer (Contained parts ws) fits are e = contained_true q j.problem j.is_problem first second tries parts j.rows ws about k are
+        (verb_fits q (Contained parts ws) (Contain first second tries) about fits) (some_same (proofs_verdict j.problem j.rows ws) Valid e)
+    by_answer (Open tried) fits are e = tt
 
 pub valid_is_true : ValidIsTrue
 valid_is_true line names q a h reads =

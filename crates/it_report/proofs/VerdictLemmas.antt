@@ -94,19 +94,19 @@ module _ (p : ProblemView) (ts : List Terms) (cs : List Certificate) (i : ℕ) (
   abbrev by_valid : Bool → Verdict
   by_valid b = if b then left_verdict p ts cs (i + 1) else proof_verdict p t (certificate_view c)
 
-  step : i < length ts → i < length cs → left_verdict p ts cs i ≡ by_valid (is_valid (proof_verdict p t (certificate_view c)))
+  verdict_step : i < length ts → i < length cs → left_verdict p ts cs i ≡ by_valid (is_valid (proof_verdict p t (certificate_view c)))
   unfolding proofs_verdict
-  step h k =
+  verdict_step h k =
       ap (λ x. proofs_verdict p x (map certificate_view (drop i cs))) (drop_item ts i t h row)
       ∙ ap (λ y. proofs_verdict p (t ∷ drop (i + 1) ts) (map certificate_view y)) (drop_item cs i c k proof)
 
   pub proofs_found : i < length ts → i < length cs → is_valid (proof_verdict p t (certificate_view c)) ≡ false → left_verdict p ts cs i ≡ proofs_verdict p ts (map certificate_view cs)
       → proof_verdict p t (certificate_view c) ≡ proofs_verdict p ts (map certificate_view cs)
-  proofs_found h k e inv = sym (ap by_valid e) ∙ sym (step h k) ∙ inv
+  proofs_found h k e inv = sym (ap by_valid e) ∙ sym (verdict_step h k) ∙ inv
 
   pub proofs_more : i < length ts → i < length cs → is_valid (proof_verdict p t (certificate_view c)) ≡ true → left_verdict p ts cs i ≡ proofs_verdict p ts (map certificate_view cs)
       → left_verdict p ts cs (i + 1) ≡ proofs_verdict p ts (map certificate_view cs)
-  proofs_more h k e inv = sym (ap by_valid e) ∙ sym (step h k) ∙ inv
+  proofs_more h k e inv = sym (ap by_valid e) ∙ sym (verdict_step h k) ∙ inv
 
 no_more : (p : ProblemView) (ts : List Terms) → proofs_verdict p ts [] ≡ Valid
 unfolding proofs_verdict

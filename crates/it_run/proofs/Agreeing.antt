@@ -8,7 +8,7 @@ use Rattle.it_tableau.proofs.ViewLemmas.{same_functions}
 use Rattle.it_run.specs.Choice.{first_false, entering_column, is_candidate, precedes, leaving_row_of, leaving_row, next}
 use Rattle.it_run.specs.Meetings.{table_after}
 use Rattle.it_run.proofs.SearchLemmas.{first_false_agrees, first_false_at_most}
-use Rattle.it_run.proofs.StepsLeft.{most, steps_left}
+use Rattle.it_run.proofs.StepsLeft.{most_steps, steps_left}
 
 module _ {A : Type 0} (F : OrderedField A) (m n : ℕ) where
   -- the tables have the same entries and the same basic columns
@@ -23,15 +23,15 @@ module _ {A : Type 0} (F : OrderedField A) (m n : ℕ) where
   leaving_most t c zero h = omega arith
   leaving_most t c (suc i) h = by_cases (leaving_most t c i (omega arith))
     where
-      best : ℕ
-      best = leaving_row_of F m n t c i
+      best_row : ℕ
+      best_row = leaving_row_of F m n t c i
 
-      two : (b : Bool) {x y : ℕ} → x ≤ m → y ≤ m → cond b x y ≤ m
-      two true f g = f
-      two false f g = g
+      by_test : (b : Bool) {x y : ℕ} → x ≤ m → y ≤ m → cond b x y ≤ m
+      by_test true f g = f
+      by_test false f g = g
 
       by_cases : leaving_row_of F m n t c i ≤ m → leaving_row_of F m n t c (suc i) ≤ m
-      by_cases up = two (is_candidate F t c i) (two (eqb best m) (omega arith) (two (precedes F m n t c i best) (omega arith) up)) up
+      by_cases up = by_test (is_candidate F t c i) (by_test (eqb best_row m) (omega arith) (by_test (precedes F m n t c i best_row) (omega arith) up)) up
 
   module _ (t s : SimplexTable A) (a : Agree t s) where
     entering_agrees : entering_column F m n t ≡ entering_column F m n s
@@ -84,5 +84,5 @@ module _ {A : Type 0} (F : OrderedField A) (m n : ℕ) where
   after_agrees t s a (suc k) = next_agrees (table_after F m n t k) (table_after F m n s k) (after_agrees t s a k)
 
   pub steps_left_agrees : (t s : SimplexTable A) → Agree t s → steps_left F m n t ≡ steps_left F m n s
-  steps_left_agrees t s a = ap (λ (f : ℕ → Bool). first_false f 0 (suc (most F m n)))
+  steps_left_agrees t s a = ap (λ (f : ℕ → Bool). first_false f 0 (suc (most_steps F m n)))
       (same_functions (λ k. ap (λ c. ltb c n) (entering_agrees (table_after F m n t k) (table_after F m n s k) (after_agrees t s a k))))

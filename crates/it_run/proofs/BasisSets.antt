@@ -13,7 +13,7 @@ use Rattle.it_tableau.proofs.Kept.{new_basis, old_basis}
 use Rattle.it_run.proofs.BlandRule.{Leaves, entering_is, some_column, leaving_is, first_before, first_at, equal_by_order}
 use Rattle.it_run.proofs.RunLemmas.{next_holds}
 use Rattle.it_run.proofs.RowsByBasis.{basic_cost, row_by_basis}
-use Rattle.it_run.proofs.StepsLeft.{is_moving, steps_left, steps_fall, most, first_at_most, not_stuck_if, not_always, stuck_if}
+use Rattle.it_run.proofs.StepsLeft.{is_moving, steps_left, steps_fall, most_steps, first_at_most, not_stuck_if, not_always, stuck_if}
 
 module _ {A : Type 0} (F : OrderedField A) (m n : ℕ) where
   -- rows of one basic column are equal
@@ -54,52 +54,43 @@ module _ {A : Type 0} (F : OrderedField A) (m n : ℕ) where
       let up : IsAtLeastZero F (difference F.ring (ratio F m n s c k.0) (ratio F m n s c x)) = q.least k.0 k.1 open_k in
       let down : IsAtLeastZero F (difference F.ring (ratio F m n s c x) (ratio F m n s c k.0)) = subst (λ (y : A). IsAtLeastZero F (difference F.ring y (ratio F m n s c k.0))) ri (subst (λ (y : A). IsAtLeastZero F (difference F.ring (ratio F m n t c i.0) y)) rk (l.least i.0 i.1 open_i)) in
       let even : ratio F m n s c k.0 ≡ ratio F m n s c x = equal_by_order F m n (ratio F m n s c k.0) (ratio F m n s c x) up down in
-      both (t.basis r) (s.basis x) (subst (λ (y : ℕ). s.basis x ≤ y) (sym k.2) (q.first k.0 k.1 open_k even)) (subst (λ (y : ℕ). t.basis r ≤ y) (sym i.2) (l.first i.0 i.1 open_i (ri ∙ sym even ∙ sym rk)))
+      equal_by_bounds (t.basis r) (s.basis x) (subst (λ (y : ℕ). s.basis x ≤ y) (sym k.2) (q.first k.0 k.1 open_k even)) (subst (λ (y : ℕ). t.basis r ≤ y) (sym i.2) (l.first i.0 i.1 open_i (ri ∙ sym even ∙ sym rk)))
     where
-      both : (a b : ℕ) → b ≤ a → a ≤ b → a ≡ b
-      both a b h k = omega arith
+      equal_by_bounds : (a b : ℕ) → b ≤ a → a ≤ b → a ≡ b
+      equal_by_bounds a b h k = omega arith
 
   -- and the tables after the step have the same basic columns
   next_within : (p : FeasibilityProblem A) (t s : SimplexTable A) → HasInvariants F m n p t → HasInvariants F m n p s → ¬ (IsStuck F m n t) → ¬ (IsStuck F m n s) → IsBasisWithin m t s → IsBasisWithin m s t → IsBasisWithin m (next F m n t) (next F m n s)
-  next_within p t s h g u z w v i hi = by_cases (cases_eq i r)
+  next_within p t s h g u z w v i hi = by_cases (cases_eq i first_row)
     where
-      c : ℕ
-      c = entering_column F m n t
+      first_row : ℕ
+      first_row = leaving_row F m n t (entering_column F m n t)
 
-      r : ℕ
-      r = leaving_row F m n t (entering_column F m n t)
+      first_leaves : Leaves F m n t (entering_column F m n t) (leaving_row F m n t (entering_column F m n t))
+      first_leaves = leaving_is F m n p t (entering_column F m n t) h (entering_is F m n t (some_column F m n t u)).below
 
-      d : ℕ
-      d = entering_column F m n s
+      second_leaves : Leaves F m n s (entering_column F m n s) (leaving_row F m n s (entering_column F m n s))
+      second_leaves = leaving_is F m n p s (entering_column F m n s) g (entering_is F m n s (some_column F m n s z)).below
 
-      x : ℕ
-      x = leaving_row F m n s (entering_column F m n s)
+      entering_agree : entering_column F m n t ≡ entering_column F m n s
+      entering_agree = same_entering p t s h g v
 
-      lt : Leaves F m n t (entering_column F m n t) (leaving_row F m n t (entering_column F m n t))
-      lt = leaving_is F m n p t (entering_column F m n t) h (entering_is F m n t (some_column F m n t u)).below
-
-      ls : Leaves F m n s (entering_column F m n s) (leaving_row F m n s (entering_column F m n s))
-      ls = leaving_is F m n p s (entering_column F m n s) g (entering_is F m n s (some_column F m n s z)).below
-
-      ce : entering_column F m n t ≡ entering_column F m n s
-      ce = same_entering p t s h g v
-
-      le : t.basis (leaving_row F m n t (entering_column F m n t)) ≡ s.basis (leaving_row F m n s (entering_column F m n s))
-      le = same_leaving p t s (entering_column F m n s) (leaving_row F m n t (entering_column F m n t)) (leaving_row F m n s (entering_column F m n s)) h g w v
-          (subst (λ (y : ℕ). Leaves F m n t y (leaving_row F m n t (entering_column F m n t))) ce lt) ls
+      leaving_agree : t.basis (leaving_row F m n t (entering_column F m n t)) ≡ s.basis (leaving_row F m n s (entering_column F m n s))
+      leaving_agree = same_leaving p t s (entering_column F m n s) (leaving_row F m n t (entering_column F m n t)) (leaving_row F m n s (entering_column F m n s)) h g w v
+          (subst (λ (y : ℕ). Leaves F m n t y (leaving_row F m n t (entering_column F m n t))) entering_agree first_leaves) second_leaves
 
       by_cases : (i ≡ leaving_row F m n t (entering_column F m n t)) ⊎ (i ≡ leaving_row F m n t (entering_column F m n t) → ⊥) → (k : ℕ) × (k < m) × ((next F m n t).basis i ≡ (next F m n s).basis k)
       by_cases (inl e) = (
         leaving_row F m n s (entering_column F m n s),
-        ls.row,
-        ap (next F m n t).basis e ∙ new_basis F m n t (leaving_row F m n t (entering_column F m n t)) (entering_column F m n t) ∙ ce ∙ sym (new_basis F m n s (leaving_row F m n s (entering_column F m n s)) (entering_column F m n s)),
+        second_leaves.row,
+        ap (next F m n t).basis e ∙ new_basis F m n t (leaving_row F m n t (entering_column F m n t)) (entering_column F m n t) ∙ entering_agree ∙ sym (new_basis F m n s (leaving_row F m n s (entering_column F m n s)) (entering_column F m n s)),
       )
       by_cases (inr e) = let k = w i hi in (
         k.0,
         k.1,
         old_basis F m n t (leaving_row F m n t (entering_column F m n t)) (entering_column F m n t) i e ∙ k.2
             ∙ sym (old_basis F m n s (leaving_row F m n s (entering_column F m n s)) (entering_column F m n s) k.0
-            (λ y. e (basic_columns_differ F m n p t h i (leaving_row F m n t (entering_column F m n t)) hi lt.row (k.2 ∙ ap s.basis y ∙ sym le)))),
+            (λ y. e (basic_columns_differ F m n p t h i (leaving_row F m n t (entering_column F m n t)) hi first_leaves.row (k.2 ∙ ap s.basis y ∙ sym leaving_agree)))),
       )
 
   -- two tables of the problem with the same set of basic columns
@@ -127,22 +118,22 @@ module _ {A : Type 0} (F : OrderedField A) (m n : ℕ) where
 
   -- so as many steps are left
   steps_left_with_same_basis : (p : FeasibilityProblem A) (t s : SimplexTable A) → HaveSameBasis p t s → is_moving F m n (table_after F m n s (steps_left F m n s)) ≡ false → steps_left F m n t ≤ steps_left F m n s
-  steps_left_with_same_basis p t s a e = first_at_most F m n (λ k. is_moving F m n (table_after F m n t k)) 0 (suc (most F m n)) (steps_left F m n s) (omega arith)
+  steps_left_with_same_basis p t s a e = first_at_most F m n (λ k. is_moving F m n (table_after F m n t k)) 0 (suc (most_steps F m n)) (steps_left F m n s) (omega arith)
       (same_moving p (table_after F m n t (steps_left F m n s)) (table_after F m n s (steps_left F m n s))
-      (same_basis_after p t s a (steps_left F m n s) (λ j l. first_before (λ k. is_moving F m n (table_after F m n s k)) 0 (suc (most F m n)) j (omega arith) l)) ∙ e)
+      (same_basis_after p t s a (steps_left F m n s) (λ j l. first_before (λ k. is_moving F m n (table_after F m n s k)) 0 (suc (most_steps F m n)) j (omega arith) l)) ∙ e)
 
-  steps_left_at_most : (p : FeasibilityProblem A) (t : SimplexTable A) → HasInvariants F m n p t → steps_left F m n t ≤ most F m n
-  steps_left_at_most p t h = by_cases (cases_lt (steps_left F m n t) (suc (most F m n)))
+  steps_left_at_most : (p : FeasibilityProblem A) (t : SimplexTable A) → HasInvariants F m n p t → steps_left F m n t ≤ most_steps F m n
+  steps_left_at_most p t h = by_cases (cases_lt (steps_left F m n t) (suc (most_steps F m n)))
     where
-      by_cases : (steps_left F m n t < suc (most F m n)) ⊎ (suc (most F m n) ≤ steps_left F m n t) → steps_left F m n t ≤ most F m n
+      by_cases : (steps_left F m n t < suc (most_steps F m n)) ⊎ (suc (most_steps F m n) ≤ steps_left F m n t) → steps_left F m n t ≤ most_steps F m n
       by_cases (inl l) = omega arith
-      by_cases (inr l) = absurd (not_always F m n p t h (λ k q. not_stuck_if F m n (table_after F m n t k) (first_before (λ k. is_moving F m n (table_after F m n t k)) 0 (suc (most F m n)) k (omega arith) (omega arith))))
+      by_cases (inr l) = absurd (not_always F m n p t h (λ k q. not_stuck_if F m n (table_after F m n t k) (first_before (λ k. is_moving F m n (table_after F m n t k)) 0 (suc (most_steps F m n)) k (omega arith) (omega arith))))
 
   -- a run comes to a table with no column to enter
   pub is_stuck_after_steps_left : (p : FeasibilityProblem A) (t : SimplexTable A) → HasInvariants F m n p t → is_moving F m n (table_after F m n t (steps_left F m n t)) ≡ false
-  is_stuck_after_steps_left p t h = first_at (λ k. is_moving F m n (table_after F m n t k)) 0 (suc (most F m n)) (let l = steps_left_at_most p t h in omega (arith, l))
+  is_stuck_after_steps_left p t h = first_at (λ k. is_moving F m n (table_after F m n t k)) 0 (suc (most_steps F m n)) (let l = steps_left_at_most p t h in omega (arith, l))
 
-  pub runs_end : (p : FeasibilityProblem A) (t : SimplexTable A) → HasInvariants F m n p t → (k : ℕ) × (k ≤ most F m n) × IsStuck F m n (table_after F m n t k)
+  pub runs_end : (p : FeasibilityProblem A) (t : SimplexTable A) → HasInvariants F m n p t → (k : ℕ) × (k ≤ most_steps F m n) × IsStuck F m n (table_after F m n t k)
   runs_end p t h = (steps_left F m n t, steps_left_at_most p t h, stuck_if F m n (table_after F m n t (steps_left F m n t)) (is_stuck_after_steps_left p t h))
 
   module _ (p : FeasibilityProblem A) (t : SimplexTable A) (h : HasInvariants F m n p t) (N : ℕ) (go : (k : ℕ) → k < N → ¬ (IsStuck F m n (table_after F m n t k))) where
@@ -151,28 +142,28 @@ module _ {A : Type 0} (F : OrderedField A) (m n : ℕ) where
     invariants_after (suc k) l = next_holds F m n p (table_after F m n t k) (invariants_after k (omega arith)) (go k (omega arith))
 
     steps_left_fall : (a d : ℕ) → a + suc d ≤ N → steps_left F m n (table_after F m n t (a + suc d)) < steps_left F m n (table_after F m n t a)
-    steps_left_fall a zero l = subst (λ (x : ℕ). steps_left F m n (table_after F m n t x) < steps_left F m n (table_after F m n t a)) here (steps_fall F m n p (table_after F m n t a) (invariants_after a (omega arith)) (go a (omega arith)))
+    steps_left_fall a zero l = subst (λ (x : ℕ). steps_left F m n (table_after F m n t x) < steps_left F m n (table_after F m n t a)) next_step (steps_fall F m n p (table_after F m n t a) (invariants_after a (omega arith)) (go a (omega arith)))
       where
-        here : suc a ≡ a + suc zero
-        here = omega arith
-    steps_left_fall a (suc d) l = subst (λ (x : ℕ). steps_left F m n (table_after F m n t x) < steps_left F m n (table_after F m n t a)) here
+        next_step : suc a ≡ a + suc zero
+        next_step = omega arith
+    steps_left_fall a (suc d) l = subst (λ (x : ℕ). steps_left F m n (table_after F m n t x) < steps_left F m n (table_after F m n t a)) later_step
         (chain (steps_left F m n (table_after F m n t (suc (a + suc d)))) (steps_left F m n (table_after F m n t (a + suc d))) (steps_left F m n (table_after F m n t a))
         (steps_fall F m n p (table_after F m n t (a + suc d)) (invariants_after (a + suc d) (omega arith)) (go (a + suc d) (omega arith))) (steps_left_fall a d (omega arith)))
       where
-        here : suc (a + suc d) ≡ a + suc (suc d)
-        here = omega arith
+        later_step : suc (a + suc d) ≡ a + suc (suc d)
+        later_step = omega arith
 
         chain : (x y z : ℕ) → x < y → y < z → x < z
         chain x y z f g = omega arith
 
     -- no two tables of the run have the same set of basic columns
     pub never_set_again : (a b : ℕ) → a < b → b ≤ N → IsBasisWithin m (table_after F m n t a) (table_after F m n t b) → IsBasisWithin m (table_after F m n t b) (table_after F m n t a) → ⊥
-    never_set_again a b l q w v = both (steps_left F m n (table_after F m n t a)) (steps_left F m n (table_after F m n t b))
+    never_set_again a b l q w v = bounds_clash (steps_left F m n (table_after F m n t a)) (steps_left F m n (table_after F m n t b))
         (steps_left_with_same_basis p (table_after F m n t a) (table_after F m n t b) (record { one = invariants_after a (omega arith); two = invariants_after b q; there = w; back = v }) (is_stuck_after_steps_left p (table_after F m n t b) (invariants_after b q)))
-        (subst (λ (x : ℕ). steps_left F m n (table_after F m n t x) < steps_left F m n (table_after F m n t a)) here (steps_left_fall a (b - a - 1) (omega arith)))
+        (subst (λ (x : ℕ). steps_left F m n (table_after F m n t x) < steps_left F m n (table_after F m n t a)) steps_reach (steps_left_fall a (b - a - 1) (omega arith)))
       where
-        here : a + suc (b - a - 1) ≡ b
-        here = omega arith
+        steps_reach : a + suc (b - a - 1) ≡ b
+        steps_reach = omega arith
 
-        both : (x y : ℕ) → x ≤ y → y < x → ⊥
-        both x y f g = omega arith
+        bounds_clash : (x y : ℕ) → x ≤ y → y < x → ⊥
+        bounds_clash x y f g = omega arith

@@ -17,11 +17,11 @@ first_before f k (suc left) j h l = by_test (f k) refl l (λ a b. first_before f
   where
     by_test : (b : Bool) → f k ≡ b → j < cond b (first_false f (suc k) left) k → (suc k ≤ j → j < first_false f (suc k) left → f j ≡ true) → f j ≡ true
     by_test false e l ih = absurd (omega arith)
-    by_test true e l ih = split (cases_eq j k)
+    by_test true e l ih = by_cases (cases_eq j k)
       where
-        split : (j ≡ k) ⊎ (j ≡ k → ⊥) → f j ≡ true
-        split (inl q) = ap f q ∙ e
-        split (inr d) = ih (omega arith) l
+        by_cases : (j ≡ k) ⊎ (j ≡ k → ⊥) → f j ≡ true
+        by_cases (inl q) = ap f q ∙ e
+        by_cases (inr d) = ih (omega arith) l
 
 pub first_at : (f : ℕ → Bool) (k left : ℕ) → first_false f k left < k + left → f (first_false f k left) ≡ false
 first_at f k zero l = absurd (omega arith)
@@ -103,86 +103,86 @@ module _ {A : Type 0} (F : OrderedField A) (m n : ℕ) where
   leaving_best t c zero h = inl (refl, λ i l. absurd (omega arith))
   leaving_best t c (suc i) h = by_test (is_candidate F t c i) refl (leaving_best t c i (omega arith))
     where
-      q : ℕ → A
-      q = ratio F m n t c
+      row_ratio : ℕ → A
+      row_ratio = ratio F m n t c
 
-      best : ℕ
-      best = leaving_row_of F m n t c i
+      best_row : ℕ
+      best_row = leaving_row_of F m n t c i
 
       below_suc : (P : ℕ → Type 0) (k : ℕ) → k < suc i → (k < i → P k) → (k ≡ i → P k) → P k
-      below_suc P k l f g = split (eq-or-lt_of_le (le_of_suc-le-suc l))
+      below_suc P k l f g = by_cases (eq-or-lt_of_le (le_of_suc-le-suc l))
         where
-          split : (k ≡ i) ⊎ (k < i) → P k
-          split (inl e) = g e
-          split (inr l) = f l
+          by_cases : (k ≡ i) ⊎ (k < i) → P k
+          by_cases (inl e) = g e
+          by_cases (inr l) = f l
 
-      closed : (k : ℕ) → k ≡ i → is_candidate F t c i ≡ false → is_candidate F t c k ≡ true → ⊥
-      closed k e f g = true≢false (sym g ∙ ap (is_candidate F t c) e ∙ f)
+      no_candidate : (k : ℕ) → k ≡ i → is_candidate F t c i ≡ false → is_candidate F t c k ≡ true → ⊥
+      no_candidate k e f g = true≢false (sym g ∙ ap (is_candidate F t c) e ∙ f)
 
       -- row i is the first open one
-      alone : is_candidate F t c i ≡ true → ((k : ℕ) → k < i → is_candidate F t c k ≡ false) → IsBestBelow t c (suc i) i
-      alone o f = record {
+      first_is_best : is_candidate F t c i ≡ true → ((k : ℕ) → k < i → is_candidate F t c k ≡ false) → IsBestBelow t c (suc i) i
+      first_is_best o f = record {
         row = omega arith;
         above = o;
-        least = λ k l g. below_suc (λ k. IsAtLeastZero F (difference F.ring (q k) (q i))) k l (λ a. absurd (true≢false (sym g ∙ f k a))) (λ e. same-least (q k) (q i) (ap q e));
+        least = λ k l g. below_suc (λ k. IsAtLeastZero F (difference F.ring (row_ratio k) (row_ratio i))) k l (λ a. absurd (true≢false (sym g ∙ f k a))) (λ e. same-least (row_ratio k) (row_ratio i) (ap row_ratio e));
         first = λ k l g _. below_suc (λ k. t.basis i ≤ t.basis k) k l (λ a. absurd (true≢false (sym g ∙ f k a))) (λ e. subst (λ (x : ℕ). t.basis i ≤ t.basis x) (sym e) (omega arith));
       }
 
       -- row i comes before the best so far
-      better : is_candidate F t c i ≡ true → IsBestBelow t c i best → (b d : Bool) → F.order.is_least (difference F.ring (q i) (q best)) ≡ b → F.order.is_least (difference F.ring (q best) (q i)) ≡ d
-          → cond b (d && ltb (t.basis i) (t.basis best)) true ≡ true → IsBestBelow t c (suc i) i
-      better o s false d e f g = record {
+      row_is_best : is_candidate F t c i ≡ true → IsBestBelow t c i best_row → (b d : Bool) → F.order.is_least (difference F.ring (row_ratio i) (row_ratio best_row)) ≡ b → F.order.is_least (difference F.ring (row_ratio best_row) (row_ratio i)) ≡ d
+          → cond b (d && ltb (t.basis i) (t.basis best_row)) true ≡ true → IsBestBelow t c (suc i) i
+      row_is_best o s false d e f g = record {
         row = omega arith;
         above = o;
-        least = λ k l w. below_suc (λ k. IsAtLeastZero F (difference F.ring (q k) (q i))) k l (λ a. at_least_chain (q k) (q best) (q i) (s.least k a w) (opposite_of_below (q i) (q best) e)) (λ x. same-least (q k) (q i) (ap q x));
+        least = λ k l w. below_suc (λ k. IsAtLeastZero F (difference F.ring (row_ratio k) (row_ratio i))) k l (λ a. at_least_chain (row_ratio k) (row_ratio best_row) (row_ratio i) (s.least k a w) (opposite_of_below (row_ratio i) (row_ratio best_row) e)) (λ x. same-least (row_ratio k) (row_ratio i) (ap row_ratio x));
         first = λ k l w x. below_suc (λ k. t.basis i ≤ t.basis k) k l
-            (λ a. absurd (not_both F (difference F.ring (q i) (q best)) e (subst (λ (y : A). IsAtLeastZero F (difference F.ring y (q best))) x (s.least k a w))))
+            (λ a. absurd (not_both F (difference F.ring (row_ratio i) (row_ratio best_row)) e (subst (λ (y : A). IsAtLeastZero F (difference F.ring y (row_ratio best_row))) x (s.least k a w))))
             (λ x. subst (λ (y : ℕ). t.basis i ≤ t.basis y) (sym x) (omega arith));
       }
-      better o s true false e f g = absurd (false≢true g)
-      better o s true true e f g =
-          let y : q i ≡ q best = equal_by_order (q i) (q best) e f in
-          let l : t.basis i < t.basis best = ltb-true (t.basis i) (t.basis best) g in record {
+      row_is_best o s true false e f g = absurd (false≢true g)
+      row_is_best o s true true e f g =
+          let y : row_ratio i ≡ row_ratio best_row = equal_by_order (row_ratio i) (row_ratio best_row) e f in
+          let l : t.basis i < t.basis best_row = ltb-true (t.basis i) (t.basis best_row) g in record {
             row = omega arith;
             above = o;
-            least = λ k l w. below_suc (λ k. IsAtLeastZero F (difference F.ring (q k) (q i))) k l (λ a. subst (λ (z : A). IsAtLeastZero F (difference F.ring (q k) z)) (sym y) (s.least k a w)) (λ x. same-least (q k) (q i) (ap q x));
+            least = λ k l w. below_suc (λ k. IsAtLeastZero F (difference F.ring (row_ratio k) (row_ratio i))) k l (λ a. subst (λ (z : A). IsAtLeastZero F (difference F.ring (row_ratio k) z)) (sym y) (s.least k a w)) (λ x. same-least (row_ratio k) (row_ratio i) (ap row_ratio x));
             first = λ k h w x. below_suc (λ k. t.basis i ≤ t.basis k) k h
-                (λ a. let z : t.basis best ≤ t.basis k = s.first k a w (x ∙ y) in omega arith)
+                (λ a. let z : t.basis best_row ≤ t.basis k = s.first k a w (x ∙ y) in omega arith)
                 (λ x. subst (λ (y : ℕ). t.basis i ≤ t.basis y) (sym x) (omega arith));
           }
 
       -- the best so far stays
-      stays : is_candidate F t c i ≡ true → IsBestBelow t c i best → (b d : Bool) → F.order.is_least (difference F.ring (q i) (q best)) ≡ b → F.order.is_least (difference F.ring (q best) (q i)) ≡ d
-          → cond b (d && ltb (t.basis i) (t.basis best)) true ≡ false → IsBestBelow t c (suc i) best
-      stays o s false d e f g = absurd (true≢false g)
-      stays o s true d e f g = record {
+      best_stays : is_candidate F t c i ≡ true → IsBestBelow t c i best_row → (b d : Bool) → F.order.is_least (difference F.ring (row_ratio i) (row_ratio best_row)) ≡ b → F.order.is_least (difference F.ring (row_ratio best_row) (row_ratio i)) ≡ d
+          → cond b (d && ltb (t.basis i) (t.basis best_row)) true ≡ false → IsBestBelow t c (suc i) best_row
+      best_stays o s false d e f g = absurd (true≢false g)
+      best_stays o s true d e f g = record {
         row = (let r = s.row in omega arith);
         above = s.above;
-        least = λ k l w. below_suc (λ k. IsAtLeastZero F (difference F.ring (q k) (q best))) k l (λ a. s.least k a w) (λ x. subst (λ (y : ℕ). IsAtLeastZero F (difference F.ring (q y) (q best))) (sym x) e);
-        first = λ k l w x. below_suc (λ k. t.basis best ≤ t.basis k) k l (λ a. s.first k a w x)
-            (λ y. subst (λ (z : ℕ). t.basis best ≤ t.basis z) (sym y) (tie d f g (same-least (q best) (q i) (sym x ∙ ap q y))));
+        least = λ k l w. below_suc (λ k. IsAtLeastZero F (difference F.ring (row_ratio k) (row_ratio best_row))) k l (λ a. s.least k a w) (λ x. subst (λ (y : ℕ). IsAtLeastZero F (difference F.ring (row_ratio y) (row_ratio best_row))) (sym x) e);
+        first = λ k l w x. below_suc (λ k. t.basis best_row ≤ t.basis k) k l (λ a. s.first k a w x)
+            (λ y. subst (λ (z : ℕ). t.basis best_row ≤ t.basis z) (sym y) (basis_at_most d f g (same-least (row_ratio best_row) (row_ratio i) (sym x ∙ ap row_ratio y))));
       }
         where
-          tie : (d : Bool) → F.order.is_least (difference F.ring (q best) (q i)) ≡ d → (d && ltb (t.basis i) (t.basis best)) ≡ false → IsAtLeastZero F (difference F.ring (q best) (q i)) → t.basis best ≤ t.basis i
-          tie true f g k = ltb-false (t.basis i) (t.basis best) g
-          tie false f g k = absurd (not_both F (difference F.ring (q best) (q i)) f k)
+          basis_at_most : (d : Bool) → F.order.is_least (difference F.ring (row_ratio best_row) (row_ratio i)) ≡ d → (d && ltb (t.basis i) (t.basis best_row)) ≡ false → IsAtLeastZero F (difference F.ring (row_ratio best_row) (row_ratio i)) → t.basis best_row ≤ t.basis i
+          basis_at_most true f g k = ltb-false (t.basis i) (t.basis best_row) g
+          basis_at_most false f g k = absurd (not_both F (difference F.ring (row_ratio best_row) (row_ratio i)) f k)
 
-      by_test : (b : Bool) → is_candidate F t c i ≡ b → IsBestOrNone t c i best
-          → IsBestOrNone t c (suc i) (cond b (cond (eqb best m) i (cond (precedes F m n t c i best) i best)) best)
+      by_test : (b : Bool) → is_candidate F t c i ≡ b → IsBestOrNone t c i best_row
+          → IsBestOrNone t c (suc i) (cond b (cond (eqb best_row m) i (cond (precedes F m n t c i best_row) i best_row)) best_row)
       by_test false o (inl s) = inl (s.0, λ k l. below_suc (λ k. is_candidate F t c k ≡ false) k l (s.1 k) (λ e. ap (is_candidate F t c) e ∙ o))
       by_test false o (inr s) = inr record {
         row = (let r = s.row in omega arith);
         above = s.above;
-        least = λ k l w. below_suc (λ k. IsAtLeastZero F (difference F.ring (q k) (q best))) k l (λ a. s.least k a w) (λ e. absurd (closed k e o w));
-        first = λ k l w x. below_suc (λ k. t.basis best ≤ t.basis k) k l (λ a. s.first k a w x) (λ e. absurd (closed k e o w));
+        least = λ k l w. below_suc (λ k. IsAtLeastZero F (difference F.ring (row_ratio k) (row_ratio best_row))) k l (λ a. s.least k a w) (λ e. absurd (no_candidate k e o w));
+        first = λ k l w x. below_suc (λ k. t.basis best_row ≤ t.basis k) k l (λ a. s.first k a w x) (λ e. absurd (no_candidate k e o w));
       }
-      by_test true o (inl s) = subst (λ (b : Bool). IsBestOrNone t c (suc i) (cond b i (cond (precedes F m n t c i best) i best))) (sym (eq-eqb best m s.0)) (inr (alone o s.1))
-      by_test true o (inr s) = subst (λ (b : Bool). IsBestOrNone t c (suc i) (cond b i (cond (precedes F m n t c i best) i best))) (sym (ne_eqb best m (λ e. let r = s.row in omega arith)))
-          (pick (precedes F m n t c i best) refl)
+      by_test true o (inl s) = subst (λ (b : Bool). IsBestOrNone t c (suc i) (cond b i (cond (precedes F m n t c i best_row) i best_row))) (sym (eq-eqb best_row m s.0)) (inr (first_is_best o s.1))
+      by_test true o (inr s) = subst (λ (b : Bool). IsBestOrNone t c (suc i) (cond b i (cond (precedes F m n t c i best_row) i best_row))) (sym (ne_eqb best_row m (λ e. let r = s.row in omega arith)))
+          (by_order_test (precedes F m n t c i best_row) refl)
         where
-          pick : (b : Bool) → precedes F m n t c i best ≡ b → IsBestOrNone t c (suc i) (cond b i best)
-          pick true e = inr (better o s (F.order.is_least (difference F.ring (q i) (q best))) (F.order.is_least (difference F.ring (q best) (q i))) refl refl e)
-          pick false e = inr (stays o s (F.order.is_least (difference F.ring (q i) (q best))) (F.order.is_least (difference F.ring (q best) (q i))) refl refl e)
+          by_order_test : (b : Bool) → precedes F m n t c i best_row ≡ b → IsBestOrNone t c (suc i) (cond b i best_row)
+          by_order_test true e = inr (row_is_best o s (F.order.is_least (difference F.ring (row_ratio i) (row_ratio best_row))) (F.order.is_least (difference F.ring (row_ratio best_row) (row_ratio i))) refl refl e)
+          by_order_test false e = inr (best_stays o s (F.order.is_least (difference F.ring (row_ratio i) (row_ratio best_row))) (F.order.is_least (difference F.ring (row_ratio best_row) (row_ratio i))) refl refl e)
 
   above_is_candidate : (t : SimplexTable A) (c i : ℕ) → IsAboveZero F (t.entry i c) → is_candidate F t c i ≡ true
   above_is_candidate t c i h = ap not h

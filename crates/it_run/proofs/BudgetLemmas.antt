@@ -34,26 +34,26 @@ module _ {S W P : Type 0} (IsDone IsStuck Fits : S → Type 0) (next : S → S) 
       by_cases (inr a) ih = inr (a.0, ih a.1)
 
   with_greater_budget : (x left : ℕ) (s : S) (e : RunEndView W P) → IsWithinBudget e → Run left zero s e → Run (x + left) zero s e
-  with_greater_budget zero left s e i r = subst (λ (y : ℕ). Run y zero s e) here r
+  with_greater_budget zero left s e i r = subst (λ (y : ℕ). Run y zero s e) no_steps r
     where
-      here : left ≡ zero + left
-      here = omega arith
-  with_greater_budget (suc x) left s e i r = subst (λ (y : ℕ). Run y zero s e) here (one_step_more (x + left) zero s e i (with_greater_budget x left s e i r))
+      no_steps : left ≡ zero + left
+      no_steps = omega arith
+  with_greater_budget (suc x) left s e i r = subst (λ (y : ℕ). Run y zero s e) step_joins (one_step_more (x + left) zero s e i (with_greater_budget x left s e i r))
     where
-      here : suc (x + left) ≡ suc x + left
-      here = omega arith
+      step_joins : suc (x + left) ≡ suc x + left
+      step_joins = omega arith
 
   -- a run with a budget or none has one end
   pub one_end_by : (budget : Option ℕ) (s : S) (d e : RunEndView W P) → EndsBy IsDone IsStuck Fits next weights point budget s d → EndsBy IsDone IsStuck Fits next weights point budget s e → d ≡ e
   one_end_by (Some budget) s d e a b = one_end IsDone IsStuck Fits next weights point budget zero s d e a b
-  one_end_by None s d e a b = a.is_clipped ∙ ap clip_end same ∙ sym b.is_clipped
+  one_end_by None s d e a b = a.is_clipped ∙ ap clip_end same_end ∙ sym b.is_clipped
     where
-      there : a.budget + b.budget ≡ b.budget + a.budget
-      there = omega arith
+      budgets_commute : a.budget + b.budget ≡ b.budget + a.budget
+      budgets_commute = omega arith
 
-      same : a.end ≡ b.end
-      same = one_end IsDone IsStuck Fits next weights point (b.budget + a.budget) zero s a.end b.end (with_greater_budget b.budget a.budget s a.end a.within a.runs)
-          (subst (λ (y : ℕ). Run y zero s b.end) there (with_greater_budget a.budget b.budget s b.end b.within b.runs))
+      same_end : a.end ≡ b.end
+      same_end = one_end IsDone IsStuck Fits next weights point (b.budget + a.budget) zero s a.end b.end (with_greater_budget b.budget a.budget s a.end a.within a.runs)
+          (subst (λ (y : ℕ). Run y zero s b.end) budgets_commute (with_greater_budget a.budget b.budget s b.end b.within b.runs))
 
   pub within_budget : (s : S) (e : RunEndView W P) → EndsUnbound IsDone IsStuck Fits next weights point s e → IsWithinBudget e
   within_budget s e r = subst IsWithinBudget (sym r.is_clipped) (clip_keeps_within r.end r.within)

@@ -76,70 +76,70 @@ module _ {A : Type 0} (F : OrderedField A) (m n : ℕ) where
   -- the same sum over the columns
   by_columns : (p : FeasibilityProblem A) (t : SimplexTable A) (k : ℕ) → sum_to F.ring n (λ j. F.ring.mul (weight F m n t j) (p.column j k)) ≡ sum_to F.ring m (part p t k)
   by_columns p t k =
-      sum_same F.ring n (λ j. F.ring.mul (weight F m n t j) (p.column j k)) (λ j. sum_to F.ring m (λ i. F.ring.mul (cond (eqb (t.basis i) j) (x i) F.ring.null) (p.column j k)))
-      (λ j l. sym (sum_times F.ring m (λ i. cond (eqb (t.basis i) j) (x i) F.ring.null) (p.column j k)))
-      ∙ sum_swap F.ring n m (λ j i. F.ring.mul (cond (eqb (t.basis i) j) (x i) F.ring.null) (p.column j k))
-      ∙ sum_same F.ring m (λ i. sum_to F.ring n (λ j. F.ring.mul (cond (eqb (t.basis i) j) (x i) F.ring.null) (p.column j k))) (part p t k) (λ i l. inner i (cases_lt (t.basis i) n))
+      sum_same F.ring n (λ j. F.ring.mul (weight F m n t j) (p.column j k)) (λ j. sum_to F.ring m (λ i. F.ring.mul (cond (eqb (t.basis i) j) (right_side i) F.ring.null) (p.column j k)))
+      (λ j l. sym (sum_times F.ring m (λ i. cond (eqb (t.basis i) j) (right_side i) F.ring.null) (p.column j k)))
+      ∙ sum_swap F.ring n m (λ j i. F.ring.mul (cond (eqb (t.basis i) j) (right_side i) F.ring.null) (p.column j k))
+      ∙ sum_same F.ring m (λ i. sum_to F.ring n (λ j. F.ring.mul (cond (eqb (t.basis i) j) (right_side i) F.ring.null) (p.column j k))) (part p t k) (λ i l. inner i (cases_lt (t.basis i) n))
     where
-      x : ℕ → A
-      x i = t.entry i (n + m)
+      right_side : ℕ → A
+      right_side i = t.entry i (n + m)
 
-      each : (b : Bool) (y z : A) → F.ring.mul (cond b y F.ring.null) z ≡ cond b (F.ring.mul y z) F.ring.null
-      each true y z = refl
-      each false y z = F.ring.mul_comm F.ring.null z ∙ mul-null F.ring z
+      by_test : (b : Bool) (y z : A) → F.ring.mul (cond b y F.ring.null) z ≡ cond b (F.ring.mul y z) F.ring.null
+      by_test true y z = refl
+      by_test false y z = F.ring.mul_comm F.ring.null z ∙ mul-null F.ring z
 
-      inner : (i : ℕ) → (t.basis i < n) ⊎ (n ≤ t.basis i) → sum_to F.ring n (λ j. F.ring.mul (cond (eqb (t.basis i) j) (x i) F.ring.null) (p.column j k)) ≡ part p t k i
+      inner : (i : ℕ) → (t.basis i < n) ⊎ (n ≤ t.basis i) → sum_to F.ring n (λ j. F.ring.mul (cond (eqb (t.basis i) j) (right_side i) F.ring.null) (p.column j k)) ≡ part p t k i
       inner i (inl h) =
-          sum_same F.ring n (λ j. F.ring.mul (cond (eqb (t.basis i) j) (x i) F.ring.null) (p.column j k)) (λ j. cond (eqb j (t.basis i)) (F.ring.mul (x i) (p.column j k)) F.ring.null)
-          (λ j l. each (eqb (t.basis i) j) (x i) (p.column j k) ∙ ap (λ b. cond b (F.ring.mul (x i) (p.column j k)) F.ring.null) (eqb_comm (t.basis i) j))
-          ∙ sum_one F.ring n (λ j. F.ring.mul (x i) (p.column j k)) (t.basis i) h
-          ∙ ap (λ b. cond b (F.ring.mul (x i) (p.column (t.basis i) k)) F.ring.null) (sym (lt-ltb (t.basis i) n h))
+          sum_same F.ring n (λ j. F.ring.mul (cond (eqb (t.basis i) j) (right_side i) F.ring.null) (p.column j k)) (λ j. cond (eqb j (t.basis i)) (F.ring.mul (right_side i) (p.column j k)) F.ring.null)
+          (λ j l. by_test (eqb (t.basis i) j) (right_side i) (p.column j k) ∙ ap (λ b. cond b (F.ring.mul (right_side i) (p.column j k)) F.ring.null) (eqb_comm (t.basis i) j))
+          ∙ sum_one F.ring n (λ j. F.ring.mul (right_side i) (p.column j k)) (t.basis i) h
+          ∙ ap (λ b. cond b (F.ring.mul (right_side i) (p.column (t.basis i) k)) F.ring.null) (sym (lt-ltb (t.basis i) n h))
       inner i (inr h) =
-          sum_same F.ring n (λ j. F.ring.mul (cond (eqb (t.basis i) j) (x i) F.ring.null) (p.column j k)) (λ j. F.ring.null)
-          (λ j l. ap (λ b. F.ring.mul (cond b (x i) F.ring.null) (p.column j k)) (ne_eqb (t.basis i) j (λ e. omega arith)) ∙ F.ring.mul_comm F.ring.null (p.column j k) ∙ mul-null F.ring (p.column j k))
+          sum_same F.ring n (λ j. F.ring.mul (cond (eqb (t.basis i) j) (right_side i) F.ring.null) (p.column j k)) (λ j. F.ring.null)
+          (λ j l. ap (λ b. F.ring.mul (cond b (right_side i) F.ring.null) (p.column j k)) (ne_eqb (t.basis i) j (λ e. omega arith)) ∙ F.ring.mul_comm F.ring.null (p.column j k) ∙ mul-null F.ring (p.column j k))
           ∙ sum_null F.ring n
-          ∙ ap (λ b. cond b (F.ring.mul (x i) (p.column (t.basis i) k)) F.ring.null) (sym (le-ltb (t.basis i) n h))
+          ∙ ap (λ b. cond b (F.ring.mul (right_side i) (p.column (t.basis i) k)) F.ring.null) (sym (le-ltb (t.basis i) n h))
 
   -- the list of the weights
   combination_of_weights : (t : SimplexTable A) (f : ℕ → A) (j left : ℕ) → F.ring.add (ring_combination F (weights_from_column F m n t j left) f) (sum_to F.ring j (λ i. F.ring.mul (weight F m n t i) (f i))) ≡ sum_to F.ring (j + left) (λ i. F.ring.mul (weight F m n t i) (f i))
-  combination_of_weights t f j zero = F.ring.null-add (sum_to F.ring j g) ∙ ap (λ i. sum_to F.ring i g) here
+  combination_of_weights t f j zero = F.ring.null-add (sum_to F.ring j weighted_value) ∙ ap (λ i. sum_to F.ring i weighted_value) no_steps
     where
-      g : ℕ → A
-      g i = F.ring.mul (weight F m n t i) (f i)
+      weighted_value : ℕ → A
+      weighted_value i = F.ring.mul (weight F m n t i) (f i)
 
-      here : j ≡ j + zero
-      here = omega arith
-  combination_of_weights t f j (suc left) = by_test (F.order.is_least (weight F m n t j)) (F.order.is_least (F.ring.neg (weight F m n t j))) refl refl (combination_of_weights t f (suc j) left) ∙ ap (λ i. sum_to F.ring i g) here
+      no_steps : j ≡ j + zero
+      no_steps = omega arith
+  combination_of_weights t f j (suc left) = by_test (F.order.is_least (weight F m n t j)) (F.order.is_least (F.ring.neg (weight F m n t j))) refl refl (combination_of_weights t f (suc j) left) ∙ ap (λ i. sum_to F.ring i weighted_value) step_joins
     where
-      g : ℕ → A
-      g i = F.ring.mul (weight F m n t i) (f i)
+      weighted_value : ℕ → A
+      weighted_value i = F.ring.mul (weight F m n t i) (f i)
 
-      here : suc j + left ≡ j + suc left
-      here = omega arith
+      step_joins : suc j + left ≡ j + suc left
+      step_joins = omega arith
 
       rest : A
       rest = ring_combination F (weights_from_column F m n t (suc j) left) f
 
-      dropped : weight F m n t j ≡ F.ring.null → F.ring.add rest (F.ring.add (g j) (sum_to F.ring j g)) ≡ sum_to F.ring (suc j + left) g → F.ring.add rest (sum_to F.ring j g) ≡ sum_to F.ring (suc j + left) g
-      dropped e ih = sym (ap (F.ring.add rest) (ap (λ x. F.ring.add x (sum_to F.ring j g)) (ap (λ x. F.ring.mul x (f j)) e ∙ F.ring.mul_comm F.ring.null (f j) ∙ mul-null F.ring (f j)) ∙ F.ring.null-add (sum_to F.ring j g))) ∙ ih
+      null_weight_drops : weight F m n t j ≡ F.ring.null → F.ring.add rest (F.ring.add (weighted_value j) (sum_to F.ring j weighted_value)) ≡ sum_to F.ring (suc j + left) weighted_value → F.ring.add rest (sum_to F.ring j weighted_value) ≡ sum_to F.ring (suc j + left) weighted_value
+      null_weight_drops e ih = sym (ap (F.ring.add rest) (ap (λ x. F.ring.add x (sum_to F.ring j weighted_value)) (ap (λ x. F.ring.mul x (f j)) e ∙ F.ring.mul_comm F.ring.null (f j) ∙ mul-null F.ring (f j)) ∙ F.ring.null-add (sum_to F.ring j weighted_value))) ∙ ih
 
-      moved : F.ring.add rest (F.ring.add (g j) (sum_to F.ring j g)) ≡ sum_to F.ring (suc j + left) g → F.ring.add (F.ring.add (g j) rest) (sum_to F.ring j g) ≡ sum_to F.ring (suc j + left) g
-      moved ih = ring F.ring (rest ∷ g j ∷ sum_to F.ring j g ∷ []) (plus (plus (v 1) (v 0)) (v 2)) (plus (v 0) (plus (v 1) (v 2))) refl ∙ ih
+      weight_moves : F.ring.add rest (F.ring.add (weighted_value j) (sum_to F.ring j weighted_value)) ≡ sum_to F.ring (suc j + left) weighted_value → F.ring.add (F.ring.add (weighted_value j) rest) (sum_to F.ring j weighted_value) ≡ sum_to F.ring (suc j + left) weighted_value
+      weight_moves ih = ring F.ring (rest ∷ weighted_value j ∷ sum_to F.ring j weighted_value ∷ []) (plus (plus (v 1) (v 0)) (v 2)) (plus (v 0) (plus (v 1) (v 2))) refl ∙ ih
 
-      by_test : (b d : Bool) → F.order.is_least (weight F m n t j) ≡ b → F.order.is_least (F.ring.neg (weight F m n t j)) ≡ d → F.ring.add rest (F.ring.add (g j) (sum_to F.ring j g)) ≡ sum_to F.ring (suc j + left) g
-          → F.ring.add (ring_combination F (cond (b && d) (weights_from_column F m n t (suc j) left) ((j, weight F m n t j) ∷ weights_from_column F m n t (suc j) left)) f) (sum_to F.ring j g) ≡ sum_to F.ring (suc j + left) g
-      by_test true true e d ih = dropped (F.order.strict (weight F m n t j) e d) ih
-      by_test true false e d ih = moved ih
-      by_test false b e d ih = moved ih
+      by_test : (b d : Bool) → F.order.is_least (weight F m n t j) ≡ b → F.order.is_least (F.ring.neg (weight F m n t j)) ≡ d → F.ring.add rest (F.ring.add (weighted_value j) (sum_to F.ring j weighted_value)) ≡ sum_to F.ring (suc j + left) weighted_value
+          → F.ring.add (ring_combination F (cond (b && d) (weights_from_column F m n t (suc j) left) ((j, weight F m n t j) ∷ weights_from_column F m n t (suc j) left)) f) (sum_to F.ring j weighted_value) ≡ sum_to F.ring (suc j + left) weighted_value
+      by_test true true e d ih = null_weight_drops (F.order.strict (weight F m n t j) e d) ih
+      by_test true false e d ih = weight_moves ih
+      by_test false b e d ih = weight_moves ih
 
   -- the weights sum to the target
   pub weights_sum : (p : FeasibilityProblem A) (t : SimplexTable A) → HasInvariants F m n p t → IsDone F m n t → (k : ℕ) → k < m → ring_combination F (weights F m n t) (λ j. p.column j k) ≡ p.target k
   weights_sum p t h d k hk =
       ring F.ring (ring_combination F (weights F m n t) (λ j. p.column j k) ∷ []) (v 0) (plus (v 0) nil) refl
-      ∙ combination_of_weights t (λ j. p.column j k) 0 n ∙ ap (λ i. sum_to F.ring i (λ j. F.ring.mul (weight F m n t j) (p.column j k))) here ∙ by_columns p t k ∙ sym (target_is p t h d k hk)
+      ∙ combination_of_weights t (λ j. p.column j k) 0 n ∙ ap (λ i. sum_to F.ring i (λ j. F.ring.mul (weight F m n t j) (p.column j k))) zero_plus ∙ by_columns p t k ∙ sym (target_is p t h d k hk)
     where
-      here : 0 + n ≡ n
-      here = omega arith
+      zero_plus : 0 + n ≡ n
+      zero_plus = omega arith
 
   weight_least : (p : FeasibilityProblem A) (t : SimplexTable A) → HasInvariants F m n p t → (j : ℕ) → IsAtLeastZero F (weight F m n t j)
   weight_least p t h j = sum_least F m (λ i. cond (eqb (t.basis i) j) (t.entry i (n + m)) F.ring.null) (λ i l. for_each i l (eqb (t.basis i) j))
@@ -153,11 +153,11 @@ module _ {A : Type 0} (F : OrderedField A) (m n : ℕ) where
   weights_from_less from to (w ∷ ws) h a = (omega (arith, a.0), a.1, a.2, a.3)
 
   pub weights_are : (p : FeasibilityProblem A) (t : SimplexTable A) → HasInvariants F m n p t → AreWeights F n 0 (weights F m n t)
-  weights_are p t h = all 0 n (omega arith)
+  weights_are p t h = rest_are_weights 0 n (omega arith)
     where
-      all : (j left : ℕ) → j + left ≡ n → AreWeights F n j (weights_from_column F m n t j left)
-      all j zero e = tt
-      all j (suc left) e = by_test (F.order.is_least (weight F m n t j)) (F.order.is_least (F.ring.neg (weight F m n t j))) refl refl (all (suc j) left (omega arith))
+      rest_are_weights : (j left : ℕ) → j + left ≡ n → AreWeights F n j (weights_from_column F m n t j left)
+      rest_are_weights j zero e = tt
+      rest_are_weights j (suc left) e = by_test (F.order.is_least (weight F m n t j)) (F.order.is_least (F.ring.neg (weight F m n t j))) refl refl (rest_are_weights (suc j) left (omega arith))
         where
           by_test : (b d : Bool) → F.order.is_least (weight F m n t j) ≡ b → F.order.is_least (F.ring.neg (weight F m n t j)) ≡ d → AreWeights F n (suc j) (weights_from_column F m n t (suc j) left)
               → AreWeights F n j (cond (b && d) (weights_from_column F m n t (suc j) left) ((j, weight F m n t j) ∷ weights_from_column F m n t (suc j) left))

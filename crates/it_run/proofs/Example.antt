@@ -6,7 +6,7 @@ use Rattle.it_rational.specs.Rational.{Rational, quotient}
 use Rattle.it_rational.proofs.Field.{field_ℚ}
 use Rattle.it_tableau.specs.SimplexTables.{SimplexTable}
 use Rattle.it_tableau.specs.Problems.{feasibility_problem}
-use Rattle.it_tableau.proofs.Example.{coordinates, elementals, first, target}
+use Rattle.it_tableau.proofs.Example.{coordinates, elementals, first_table, target}
 use Rattle.it_run.specs.Choice.{entering_column, leaving_row, next}
 use Rattle.it_run.specs.Readings.{point}
 
@@ -15,25 +15,25 @@ abbrev choice : SimplexTable Rational → ℕ × ℕ
 choice t = (entering_column field_ℚ 3 3 t, leaving_row field_ℚ 3 3 t (entering_column field_ℚ 3 3 t))
 
 -- the table after the step
-abbrev after : SimplexTable Rational → SimplexTable Rational
-after = next field_ℚ 3 3
+abbrev next_table : SimplexTable Rational → SimplexTable Rational
+next_table = next field_ℚ 3 3
 
-first_choice : choice first ≡ (2, 1)
+first_choice : choice first_table ≡ (2, 1)
 unfolding quotient gcd gcd_within
 first_choice = refl
 
-second_choice : choice (after first) ≡ (0, 0)
+second_choice : choice (next_table first_table) ≡ (0, 0)
 unfolding quotient gcd gcd_within
 second_choice = refl
 
-last_column : entering_column field_ℚ 3 3 (after (after first)) ≡ 3
+last_column : entering_column field_ℚ 3 3 (next_table (next_table first_table)) ≡ 3
 unfolding quotient gcd gcd_within
 last_column = refl
 
-last_right : ((after (after first)).entry 3 6).num ≡ negsuc 0
+last_right : ((next_table (next_table first_table)).entry 3 6).num ≡ negsuc 0
 unfolding quotient gcd gcd_within
 last_right = refl
 
-last_point : map (λ q. q.num) (point field_ℚ 3 3 (feasibility_problem coordinates elementals target) (after (after first))) ≡ pos 0 ∷ pos 1 ∷ pos 1 ∷ []
+last_point : map (λ q. q.num) (point field_ℚ 3 3 (feasibility_problem coordinates elementals target) (next_table (next_table first_table))) ≡ pos 0 ∷ pos 1 ∷ pos 1 ∷ []
 unfolding quotient gcd gcd_within
 last_point = refl

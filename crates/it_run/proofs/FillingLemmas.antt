@@ -25,13 +25,13 @@ module _ (m n : ℕ) (t : SimplexTable Rational) where
   AreWeightsSoFar out j = out ++ weights_from_column field_ℚ m n t j (n - j) ≡ weights field_ℚ m n t
 
   split_off : (j : ℕ) → j < n → From j (n - j) ≡ cond (is_at_least_zero (W j) && is_at_least_zero (minus (W j))) (From (j + 1) (n - (j + 1))) ((j, W j) ∷ From (j + 1) (n - (j + 1)))
-  split_off j l = ap (From j) here ∙ ap (λ (k : ℕ). cond (is_at_least_zero (W j) && is_at_least_zero (minus (W j))) (From k (n - (j + 1))) ((j, W j) ∷ From k (n - (j + 1)))) there
+  split_off j l = ap (From j) rest_is_longer ∙ ap (λ (k : ℕ). cond (is_at_least_zero (W j) && is_at_least_zero (minus (W j))) (From k (n - (j + 1))) ((j, W j) ∷ From k (n - (j + 1)))) successor_is_sum
     where
-      here : n - j ≡ suc (n - (j + 1))
-      here = omega arith
+      rest_is_longer : n - j ≡ suc (n - (j + 1))
+      rest_is_longer = omega arith
 
-      there : suc j ≡ j + 1
-      there = omega arith
+      successor_is_sum : suc j ≡ j + 1
+      successor_is_sum = omega arith
 
   pub weights_skip_null : (out : List (ℕ × Rational)) (j : ℕ) → j < n → W j ≡ integer (pos 0) → AreWeightsSoFar out j → AreWeightsSoFar out (j + 1)
   weights_skip_null out j l e h = ap (λ xs. out ++ xs) (sym (split_off j l ∙ ap₂ (λ b d. cond (b && d) (From (j + 1) (n - (j + 1))) ((j, W j) ∷ From (j + 1) (n - (j + 1))))
@@ -41,13 +41,13 @@ module _ (m n : ℕ) (t : SimplexTable Rational) where
   weights_with_next out j w l e d h =
       append_assoc out ((j, w) ∷ []) (From (j + 1) (n - (j + 1)))
       ∙ ap (λ x. out ++ ((j, x) ∷ From (j + 1) (n - (j + 1)))) e
-      ∙ ap (λ xs. out ++ xs) (sym (split_off j l ∙ ap (λ b. cond b (From (j + 1) (n - (j + 1))) ((j, W j) ∷ From (j + 1) (n - (j + 1)))) (kept (is_at_least_zero (W j)) (is_at_least_zero (minus (W j))) refl refl)))
+      ∙ ap (λ xs. out ++ xs) (sym (split_off j l ∙ ap (λ b. cond b (From (j + 1) (n - (j + 1))) ((j, W j) ∷ From (j + 1) (n - (j + 1)))) (by_test (is_at_least_zero (W j)) (is_at_least_zero (minus (W j))) refl refl)))
       ∙ h
     where
-      kept : (a b : Bool) → is_at_least_zero (W j) ≡ a → is_at_least_zero (minus (W j)) ≡ b → (is_at_least_zero (W j) && is_at_least_zero (minus (W j))) ≡ false
-      kept true true f g = absurd (d (e ∙ rational_strict (W j) f g))
-      kept true false f g = ap₂ (λ x y. x && y) f g
-      kept false b f g = ap₂ (λ x y. x && y) f g
+      by_test : (a b : Bool) → is_at_least_zero (W j) ≡ a → is_at_least_zero (minus (W j)) ≡ b → (is_at_least_zero (W j) && is_at_least_zero (minus (W j))) ≡ false
+      by_test true true f g = absurd (d (e ∙ rational_strict (W j) f g))
+      by_test true false f g = ap₂ (λ x y. x && y) f g
+      by_test false b f g = ap₂ (λ x y. x && y) f g
 
 -- the values so far with those that are still to come are those of the point
 abbrev pub ValuesSoFar : TableauView → List Rational → ℕ → Type 0
@@ -59,14 +59,14 @@ pub values_more : (t : TableauView) (out : List Rational) (k : ℕ) (x : Rationa
 values_more t out k x l e h p s =
     append_assoc out (x ∷ []) (rest (k + 1) (height t - (k + 1)))
     ∙ ap (λ y. out ++ y ∷ rest (k + 1) (height t - (k + 1))) (e ∙ ap (λ z. times z ((table t).entry (height t) (t.generators + k))) (s k l))
-    ∙ ap (λ xs. out ++ xs) (sym (ap (rest k) here ∙ ap (λ i. point_value field_ℚ (height t) t.generators p (table t) k ∷ rest i (height t - (k + 1))) there))
+    ∙ ap (λ xs. out ++ xs) (sym (ap (rest k) rest_is_longer ∙ ap (λ i. point_value field_ℚ (height t) t.generators p (table t) k ∷ rest i (height t - (k + 1))) successor_is_sum))
     ∙ h p s
   where
     rest : ℕ → ℕ → List Rational
     rest = point_from_row field_ℚ (height t) t.generators p (table t)
 
-    here : height t - k ≡ suc (height t - (k + 1))
-    here = omega arith
+    rest_is_longer : height t - k ≡ suc (height t - (k + 1))
+    rest_is_longer = omega arith
 
-    there : suc k ≡ k + 1
-    there = omega arith
+    successor_is_sum : suc k ≡ k + 1
+    successor_is_sum = omega arith

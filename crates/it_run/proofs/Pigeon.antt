@@ -11,11 +11,11 @@ value_is_taken f v (suc N) = by_cases (cases_eq (f N) v) (value_is_taken f v N)
     by_cases : (f N ≡ v) ⊎ (f N ≡ v → ⊥) → ((k : ℕ) × (k < N) × (f k ≡ v)) ⊎ ((k : ℕ) → k < N → f k ≢ v) → ((k : ℕ) × (k < suc N) × (f k ≡ v)) ⊎ ((k : ℕ) → k < suc N → f k ≢ v)
     by_cases (inl e) _ = inl (N, omega arith, e)
     by_cases (inr d) (inl s) = inl (s.0, omega (arith, s.1), s.2)
-    by_cases (inr d) (inr s) = inr (λ k l. split k (eq-or-lt_of_le (le_of_suc-le-suc l)))
+    by_cases (inr d) (inr s) = inr (λ k l. by_index k (eq-or-lt_of_le (le_of_suc-le-suc l)))
       where
-        split : (k : ℕ) → (k ≡ N) ⊎ (k < N) → f k ≢ v
-        split k (inl e) = λ q. d (ap f (sym e) ∙ q)
-        split k (inr l) = s k l
+        by_index : (k : ℕ) → (k ≡ N) ⊎ (k < N) → f k ≢ v
+        by_index k (inl e) = λ q. d (ap f (sym e) ∙ q)
+        by_index k (inr l) = s k l
 
 -- x with the numbers above v moved down by one
 abbrev closed_up : ℕ → ℕ → ℕ
@@ -41,9 +41,6 @@ pub pigeonhole : (N : ℕ) (f : ℕ → ℕ) → ((k : ℕ) → k ≤ N → f k 
 pigeonhole zero f h = absurd (let l : f 0 < 0 = h 0 (omega arith) in omega arith)
 pigeonhole (suc N) f h = by_cases (value_is_taken f (f (suc N)) (suc N)) (λ g. pigeonhole N (λ k. closed_up (f (suc N)) (f k)) g)
   where
-    v : ℕ
-    v = f (suc N)
-
     by_cases : ((k : ℕ) × (k < suc N) × (f k ≡ f (suc N))) ⊎ ((k : ℕ) → k < suc N → f k ≢ f (suc N))
         → (((k : ℕ) → k ≤ N → closed_up (f (suc N)) (f k) < N) → (a b : ℕ) × (a < b) × (b ≤ N) × (closed_up (f (suc N)) (f a) ≡ closed_up (f (suc N)) (f b)))
         → (a b : ℕ) × (a < b) × (b ≤ suc N) × (f a ≡ f b)
@@ -61,10 +58,10 @@ above_step : (C y d : ℕ) → C * y + C ≤ C * (y + 1 + d)
 above_step C y d = omega arith
 
 above_next : (C y z : ℕ) → y < z → C * y + C ≤ C * z
-above_next C y z h = subst (λ (x : ℕ). C * y + C ≤ C * x) here (above_step C y (z - y - 1))
+above_next C y z h = subst (λ (x : ℕ). C * y + C ≤ C * x) gap_closes (above_step C y (z - y - 1))
   where
-    here : y + 1 + (z - y - 1) ≡ z
-    here = omega arith
+    gap_closes : y + 1 + (z - y - 1) ≡ z
+    gap_closes = omega arith
 
 pub digits_below : (C m : ℕ) (b : ℕ → ℕ) → ((i : ℕ) → i < m → b i < C) → digits C m b < C ^ m
 digits_below C zero b h = let e : C ^ 0 ≡ 1 = pow-zero C in subst (λ (y : ℕ). 0 < y) (sym e) (omega arith)
@@ -79,20 +76,20 @@ pub digits_tell : (C m : ℕ) (a b : ℕ → ℕ) → ((i : ℕ) → i < m → a
 digits_tell C zero a b ha hb e i l = absurd (omega arith)
 digits_tell C (suc m) a b ha hb e i l = by_cases (cases_eq (digits C m a) (digits C m b)) (λ q. digits_tell C m a b (λ i l. ha i (omega arith)) (λ i l. hb i (omega arith)) q i)
   where
-    low : (x y p q : ℕ) → x < C → y < C → x + C * p ≡ y + C * q → (p ≡ q → ⊥) → ⊥
-    low x y p q hx hy e d = split (cases_lt p q)
+    higher_digits_agree : (x y p q : ℕ) → x < C → y < C → x + C * p ≡ y + C * q → (p ≡ q → ⊥) → ⊥
+    higher_digits_agree x y p q hx hy e d = by_higher_digits (cases_lt p q)
       where
-        split : (p < q) ⊎ (q ≤ p) → ⊥
-        split (inl k) = let z : C * p + C ≤ C * q = above_next C p q k in omega arith
-        split (inr k) = let z : C * q + C ≤ C * p = above_next C q p (omega arith) in omega arith
+        by_higher_digits : (p < q) ⊎ (q ≤ p) → ⊥
+        by_higher_digits (inl k) = let z : C * p + C ≤ C * q = above_next C p q k in omega arith
+        by_higher_digits (inr k) = let z : C * q + C ≤ C * p = above_next C q p (omega arith) in omega arith
 
     by_cases : (digits C m a ≡ digits C m b) ⊎ (digits C m a ≡ digits C m b → ⊥) → (digits C m a ≡ digits C m b → i < m → a i ≡ b i) → a i ≡ b i
-    by_cases (inr d) ih = absurd (low (a m) (b m) (digits C m a) (digits C m b) (ha m (omega arith)) (hb m (omega arith)) e d)
-    by_cases (inl q) ih = split (eq-or-lt_of_le (le_of_suc-le-suc l))
+    by_cases (inr d) ih = absurd (higher_digits_agree (a m) (b m) (digits C m a) (digits C m b) (ha m (omega arith)) (hb m (omega arith)) e d)
+    by_cases (inl q) ih = by_index (eq-or-lt_of_le (le_of_suc-le-suc l))
       where
-        same : a m ≡ b m
-        same = let z : C * digits C m a ≡ C * digits C m b = ap (λ x. C * x) q in omega arith
+        same_digit : a m ≡ b m
+        same_digit = let z : C * digits C m a ≡ C * digits C m b = ap (λ x. C * x) q in omega arith
 
-        split : (i ≡ m) ⊎ (i < m) → a i ≡ b i
-        split (inl x) = ap a x ∙ same ∙ ap b (sym x)
-        split (inr x) = ih q x
+        by_index : (i ≡ m) ⊎ (i < m) → a i ≡ b i
+        by_index (inl x) = ap a x ∙ same_digit ∙ ap b (sym x)
+        by_index (inr x) = ih q x

@@ -19,16 +19,16 @@ module _ {A : Type 0} (F : OrderedField A) (m n : ℕ) where
       → s.entry i j ≡ sum_to F.ring m (λ k. F.ring.mul (s.entry i (t.basis k)) (t.entry k j))
   row_by_basis p t s h g i j hi =
       g.combines i j hi
-      ∙ sum_same F.ring m (λ l. F.ring.mul (x l) (S l j)) (λ l. sum_to F.ring m (λ k. F.ring.mul (F.ring.mul (x l) (S l (t.basis k))) (t.entry k j)))
-      (λ l q. ap (F.ring.mul (x l)) (h.spans l j q)
-      ∙ sym (sum_same F.ring m (λ k. F.ring.mul (F.ring.mul (x l) (S l (t.basis k))) (t.entry k j)) (λ k. F.ring.mul (x l) (F.ring.mul (S l (t.basis k)) (t.entry k j))) (λ k _. F.ring.mul_assoc (x l) (S l (t.basis k)) (t.entry k j))
-      ∙ sum_times_left F.ring m (λ k. F.ring.mul (S l (t.basis k)) (t.entry k j)) (x l)))
-      ∙ sum_swap F.ring m m (λ l k. F.ring.mul (F.ring.mul (x l) (S l (t.basis k))) (t.entry k j))
-      ∙ sum_same F.ring m (λ k. sum_to F.ring m (λ l. F.ring.mul (F.ring.mul (x l) (S l (t.basis k))) (t.entry k j))) (λ k. F.ring.mul (s.entry i (t.basis k)) (t.entry k j))
-      (λ k q. sum_times F.ring m (λ l. F.ring.mul (x l) (S l (t.basis k))) (t.entry k j) ∙ ap (λ y. F.ring.mul y (t.entry k j)) (sym (g.combines i (t.basis k) hi)))
+      ∙ sum_same F.ring m (λ l. F.ring.mul (row_multiplier l) (S l j)) (λ l. sum_to F.ring m (λ k. F.ring.mul (F.ring.mul (row_multiplier l) (S l (t.basis k))) (t.entry k j)))
+      (λ l q. ap (F.ring.mul (row_multiplier l)) (h.spans l j q)
+      ∙ sym (sum_same F.ring m (λ k. F.ring.mul (F.ring.mul (row_multiplier l) (S l (t.basis k))) (t.entry k j)) (λ k. F.ring.mul (row_multiplier l) (F.ring.mul (S l (t.basis k)) (t.entry k j))) (λ k _. F.ring.mul_assoc (row_multiplier l) (S l (t.basis k)) (t.entry k j))
+      ∙ sum_times_left F.ring m (λ k. F.ring.mul (S l (t.basis k)) (t.entry k j)) (row_multiplier l)))
+      ∙ sum_swap F.ring m m (λ l k. F.ring.mul (F.ring.mul (row_multiplier l) (S l (t.basis k))) (t.entry k j))
+      ∙ sum_same F.ring m (λ k. sum_to F.ring m (λ l. F.ring.mul (F.ring.mul (row_multiplier l) (S l (t.basis k))) (t.entry k j))) (λ k. F.ring.mul (s.entry i (t.basis k)) (t.entry k j))
+      (λ k q. sum_times F.ring m (λ l. F.ring.mul (row_multiplier l) (S l (t.basis k))) (t.entry k j) ∙ ap (λ y. F.ring.mul y (t.entry k j)) (sym (g.combines i (t.basis k) hi)))
     where
-      x : ℕ → A
-      x l = s.entry i (n + l)
+      row_multiplier : ℕ → A
+      row_multiplier l = s.entry i (n + l)
 
       S : ℕ → ℕ → A
       S l j = start_row F m n p l j

@@ -36,15 +36,15 @@ module _ {S W P : Type 0} (IsDone IsStuck Fits : S → Type 0) (next : S → S) 
   one_end (suc left) k s d e (inr (inl p)) (inr (inr q)) = absurd (q.1 p.1)
   one_end (suc left) k s d e (inr (inr p)) (inl q) = absurd (p.0 q.0)
   one_end (suc left) k s d e (inr (inr p)) (inr (inl q)) = absurd (p.1 q.1)
-  one_end (suc left) k s d e (inr (inr p)) (inr (inr q)) = last p.2 q.2 (λ a b. one_end left (suc k) (next s) d e a b)
+  one_end (suc left) k s d e (inr (inr p)) (inr (inr q)) = by_cases p.2 q.2 (λ a b. one_end left (suc k) (next s) d e a b)
     where
-      last : ((¬ (Fits s) × (d ≡ Width (suc k))) ⊎ (Fits s × Run left (suc k) (next s) d))
+      by_cases : ((¬ (Fits s) × (d ≡ Width (suc k))) ⊎ (Fits s × Run left (suc k) (next s) d))
           → ((¬ (Fits s) × (e ≡ Width (suc k))) ⊎ (Fits s × Run left (suc k) (next s) e))
           → (Run left (suc k) (next s) d → Run left (suc k) (next s) e → d ≡ e) → d ≡ e
-      last (inl a) (inl b) ih = a.1 ∙ sym b.1
-      last (inl a) (inr b) ih = absurd (a.0 b.0)
-      last (inr a) (inl b) ih = absurd (b.0 a.0)
-      last (inr a) (inr b) ih = ih a.1 b.1
+      by_cases (inl a) (inl b) ih = a.1 ∙ sym b.1
+      by_cases (inl a) (inr b) ih = absurd (a.0 b.0)
+      by_cases (inr a) (inl b) ih = absurd (b.0 a.0)
+      by_cases (inr a) (inr b) ih = ih a.1 b.1
 
   -- where a run's end comes from, if each step keeps I
   module _ (I : S → Type 0) where
@@ -70,11 +70,11 @@ module _ {S W P : Type 0} (IsDone IsStuck Fits : S → Type 0) (next : S → S) 
     end_comes_from keeps zero k s e i (inr (inr p)) = comes_from_equal zero k s (Pivots k) e p.2 (omega arith)
     end_comes_from keeps (suc left) k s e i (inl p) = comes_from_equal (suc left) k s (Weights (weights s)) e p.1 (s, i, p.0, refl)
     end_comes_from keeps (suc left) k s e i (inr (inl p)) = comes_from_equal (suc left) k s (Point (point s)) e p.2 (s, i, p.0, p.1, refl)
-    end_comes_from keeps (suc left) k s e i (inr (inr p)) = last p.2 (λ r. end_comes_from keeps left (suc k) (next s) e (keeps s i p.0 p.1) r)
+    end_comes_from keeps (suc left) k s e i (inr (inr p)) = by_cases p.2 (λ r. end_comes_from keeps left (suc k) (next s) e (keeps s i p.0 p.1) r)
       where
-        last : ((¬ (Fits s) × (e ≡ Width (suc k))) ⊎ (Fits s × Run left (suc k) (next s) e)) → (Run left (suc k) (next s) e → EndComesFrom left (suc k) e) → EndComesFrom (suc left) k e
-        last (inl a) ih = comes_from_equal (suc left) k s (Width (suc k)) e a.1 (omega arith, omega arith)
-        last (inr a) ih = comes_from_later left k e (ih a.1)
+        by_cases : ((¬ (Fits s) × (e ≡ Width (suc k))) ⊎ (Fits s × Run left (suc k) (next s) e)) → (Run left (suc k) (next s) e → EndComesFrom left (suc k) e) → EndComesFrom (suc left) k e
+        by_cases (inl a) ih = comes_from_equal (suc left) k s (Width (suc k)) e a.1 (omega arith, omega arith)
+        by_cases (inr a) ih = comes_from_later left k e (ih a.1)
 
 module _ {A : Type 0} (F : OrderedField A) (m n : ℕ) where
   -- a step of the run keeps what every table keeps
@@ -99,13 +99,13 @@ module _ {S W P : Type 0} (IsDone IsStuck Fits : S → Type 0) (next : S → S) 
   end_with_readings zero k s e (inr (inr p)) = inr (inr (p.0, p.1, ap with_readings p.2))
   end_with_readings (suc left) k s e (inl p) = inl (p.0, ap with_readings p.1)
   end_with_readings (suc left) k s e (inr (inl p)) = inr (inl (p.0, p.1, ap with_readings p.2))
-  end_with_readings (suc left) k s e (inr (inr p)) = inr (inr (p.0, p.1, last p.2 (λ r. end_with_readings left (suc k) (next s) e r)))
+  end_with_readings (suc left) k s e (inr (inr p)) = inr (inr (p.0, p.1, by_cases p.2 (λ r. end_with_readings left (suc k) (next s) e r)))
     where
-      last : ((¬ (Fits s) × (e ≡ Width (suc k))) ⊎ (Fits s × EndsAs IsDone IsStuck Fits next (λ s. s) (λ s. s) left (suc k) (next s) e))
+      by_cases : ((¬ (Fits s) × (e ≡ Width (suc k))) ⊎ (Fits s × EndsAs IsDone IsStuck Fits next (λ s. s) (λ s. s) left (suc k) (next s) e))
           → (EndsAs IsDone IsStuck Fits next (λ s. s) (λ s. s) left (suc k) (next s) e → EndsAs IsDone IsStuck Fits next weights point left (suc k) (next s) (with_readings e))
           → ((¬ (Fits s) × (with_readings e ≡ Width (suc k))) ⊎ (Fits s × EndsAs IsDone IsStuck Fits next weights point left (suc k) (next s) (with_readings e)))
-      last (inl a) ih = inl (a.0, ap with_readings a.1)
-      last (inr a) ih = inr (a.0, ih a.1)
+      by_cases (inl a) ih = inl (a.0, ap with_readings a.1)
+      by_cases (inr a) ih = inr (a.0, ih a.1)
 
 module _ {A : Type 0} (F : OrderedField A) (m n : ℕ) where
   -- weights sum to the target, and a point separates it from the columns

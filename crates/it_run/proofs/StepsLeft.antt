@@ -14,8 +14,8 @@ use Rattle.it_run.proofs.Pigeon.{pigeonhole, digits, digits_below, digits_tell}
 
 module _ {A : Type 0} (F : OrderedField A) (m n : ℕ) where
   -- there are no more steps than lists of basic columns
-  abbrev pub most : ℕ
-  most = (n + m) ^ m
+  abbrev pub most_steps : ℕ
+  most_steps = (n + m) ^ m
 
   basis_below : (p : FeasibilityProblem A) (t : SimplexTable A) → HasInvariants F m n p t → (i : ℕ) → i < m → t.basis i < n + m
   basis_below p t h i l = by_cases (h.own i l)
@@ -25,16 +25,16 @@ module _ {A : Type 0} (F : OrderedField A) (m n : ℕ) where
       by_cases (inr q) = omega arith
 
   -- some table within so many steps has no column to enter
-  pub not_always : (p : FeasibilityProblem A) (t : SimplexTable A) → HasInvariants F m n p t → ((k : ℕ) → k ≤ most → ¬ (IsStuck F m n (table_after F m n t k))) → ⊥
+  pub not_always : (p : FeasibilityProblem A) (t : SimplexTable A) → HasInvariants F m n p t → ((k : ℕ) → k ≤ most_steps → ¬ (IsStuck F m n (table_after F m n t k))) → ⊥
   not_always p t h s =
-      let q = pigeonhole most (λ k. digits (n + m) m (table_after F m n t k).basis) (λ k l. digits_below (n + m) m (table_after F m n t k).basis (basis_below p (table_after F m n t k) (holds k l))) in
-      never_again F m n p t h most (λ k l. s k (omega arith)) q.0 q.1 q.2 q.3
+      let q = pigeonhole most_steps (λ k. digits (n + m) m (table_after F m n t k).basis) (λ k l. digits_below (n + m) m (table_after F m n t k).basis (basis_below p (table_after F m n t k) (invariants_after k l))) in
+      never_again F m n p t h most_steps (λ k l. s k (omega arith)) q.0 q.1 q.2 q.3
       (digits_tell (n + m) m (table_after F m n t q.0).basis (table_after F m n t q.1).basis
-      (basis_below p (table_after F m n t q.0) (holds q.0 (omega (arith, q.2, q.3)))) (basis_below p (table_after F m n t q.1) (holds q.1 q.3)) q.4)
+      (basis_below p (table_after F m n t q.0) (invariants_after q.0 (omega (arith, q.2, q.3)))) (basis_below p (table_after F m n t q.1) (invariants_after q.1 q.3)) q.4)
     where
-      holds : (k : ℕ) → k ≤ most → HasInvariants F m n p (table_after F m n t k)
-      holds zero l = h
-      holds (suc k) l = next_holds F m n p (table_after F m n t k) (holds k (omega arith)) (s k (omega arith))
+      invariants_after : (k : ℕ) → k ≤ most_steps → HasInvariants F m n p (table_after F m n t k)
+      invariants_after zero l = h
+      invariants_after (suc k) l = next_holds F m n p (table_after F m n t k) (invariants_after k (omega arith)) (s k (omega arith))
 
   -- how many steps are left to a table with no column to enter
   abbrev pub is_moving : SimplexTable A → Bool
@@ -42,7 +42,7 @@ module _ {A : Type 0} (F : OrderedField A) (m n : ℕ) where
 
   -- the number of steps to the first table with no column to enter
   abbrev pub steps_left : SimplexTable A → ℕ
-  steps_left t = first_false (λ k. is_moving (table_after F m n t k)) 0 (suc most)
+  steps_left t = first_false (λ k. is_moving (table_after F m n t k)) 0 (suc most_steps)
 
   after_next : (t : SimplexTable A) (k : ℕ) → table_after F m n (next F m n t) k ≡ table_after F m n t (suc k)
   after_next t zero = refl
@@ -76,20 +76,17 @@ module _ {A : Type 0} (F : OrderedField A) (m n : ℕ) where
 
   -- each step lowers it
   pub steps_fall : (p : FeasibilityProblem A) (t : SimplexTable A) → HasInvariants F m n p t → ¬ (IsStuck F m n t) → steps_left (next F m n t) < steps_left t
-  steps_fall p t h s = by_cases (cases_lt (steps_left t) (suc most))
+  steps_fall p t h s = by_cases (cases_lt (steps_left t) (suc most_steps))
     where
-      f : ℕ → Bool
-      f k = is_moving (table_after F m n t k)
-
-      by_cases : (steps_left t < suc most) ⊎ (suc most ≤ steps_left t) → steps_left (next F m n t) < steps_left t
-      by_cases (inr l) = absurd (not_always p t h (λ k q. not_stuck_if (table_after F m n t k) (first_before (λ k. is_moving (table_after F m n t k)) 0 (suc most) k (omega arith) (omega arith))))
-      by_cases (inl l) = some (steps_left t) refl
+      by_cases : (steps_left t < suc most_steps) ⊎ (suc most_steps ≤ steps_left t) → steps_left (next F m n t) < steps_left t
+      by_cases (inr l) = absurd (not_always p t h (λ k q. not_stuck_if (table_after F m n t k) (first_before (λ k. is_moving (table_after F m n t k)) 0 (suc most_steps) k (omega arith) (omega arith))))
+      by_cases (inl l) = steps_fall_from (steps_left t) refl
         where
-          ends : is_moving (table_after F m n t (steps_left t)) ≡ false
-          ends = first_at (λ k. is_moving (table_after F m n t k)) 0 (suc most) (omega arith)
+          last_is_stuck : is_moving (table_after F m n t (steps_left t)) ≡ false
+          last_is_stuck = first_at (λ k. is_moving (table_after F m n t k)) 0 (suc most_steps) (omega arith)
 
-          some : (x : ℕ) → steps_left t ≡ x → steps_left (next F m n t) < x
-          some zero e = absurd (true≢false (sym (moving_if t s) ∙ ap (λ k. is_moving (table_after F m n t k)) (sym e) ∙ ends))
-          some (suc x) e =
-              let b : steps_left (next F m n t) ≤ x = first_at_most (λ k. is_moving (table_after F m n (next F m n t) k)) 0 (suc most) x (omega arith)
-              (ap is_moving (after_next t x) ∙ ap (λ k. is_moving (table_after F m n t k)) (sym e) ∙ ends) in omega arith
+          steps_fall_from : (x : ℕ) → steps_left t ≡ x → steps_left (next F m n t) < x
+          steps_fall_from zero e = absurd (true≢false (sym (moving_if t s) ∙ ap (λ k. is_moving (table_after F m n t k)) (sym e) ∙ last_is_stuck))
+          steps_fall_from (suc x) e =
+              let b : steps_left (next F m n t) ≤ x = first_at_most (λ k. is_moving (table_after F m n (next F m n t) k)) 0 (suc most_steps) x (omega arith)
+              (ap is_moving (after_next t x) ∙ ap (λ k. is_moving (table_after F m n t k)) (sym e) ∙ last_is_stuck) in omega arith

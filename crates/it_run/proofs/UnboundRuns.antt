@@ -57,11 +57,11 @@ module _ (from now : TableauView) (number : ℕ) (w : IsRunUnderWay from now num
   step_is_made new k q d s = record {
     made = suc w.made;
     number_is = (let n : number ≡ min (suc w.made) 4294967295 = w.number_is in let x : k ≡ min (number + 1) 4294967295 = q in omega arith);
-    back = λ left e r. w.back (suc left) e (step_on now new (suc left) w.made e (omega arith) d s (back left e r));
+    back = λ left e r. w.back (suc left) e (step_on now new (suc left) w.made e (omega arith) d s (one_step_more left e r));
   }
     where
-      back : (left : ℕ) (e : RunEndView (SimplexTable Rational) (SimplexTable Rational)) → ReachesFrom new left (suc w.made) e → ReachesFrom new (suc left - 1) (w.made + 1) e
-      back left e r =
+      one_step_more : (left : ℕ) (e : RunEndView (SimplexTable Rational) (SimplexTable Rational)) → ReachesFrom new left (suc w.made) e → ReachesFrom new (suc left - 1) (w.made + 1) e
+      one_step_more left e r =
           let a : left ≡ suc left - 1 = omega arith in
           let b : suc w.made ≡ w.made + 1 = omega arith in
           subst (λ (x : ℕ). ReachesFrom new x (w.made + 1) e) a (subst (λ (x : ℕ). ReachesFrom new left x e) b r)

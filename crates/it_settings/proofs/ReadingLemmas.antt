@@ -23,12 +23,12 @@ has_reading words f none rows =
     ap (λ ks. unless_fault ks (settings_by (values_by (λ id. first_of id (matches_of itip_app words))))) none
     ∙ ap (λ rs. settings_by (values_by (λ id. first_of id rs))) (sym rows) ∙ ap settings_by (sym (same_values f))
 
-without : (ks : Kinds) (o : Option Settings) → (ks ≡ [] → ⊥) → unless_fault ks o ≡ None
-without [] o some = absurd (some refl)
-without (k ∷ ks) o some = refl
+none_with_fault : (ks : Kinds) (o : Option Settings) → (ks ≡ [] → ⊥) → unless_fault ks o ≡ None
+none_with_fault [] o some = absurd (some refl)
+none_with_fault (k ∷ ks) o some = refl
 
 pub has_no_reading : (words : List Text) (kind : ErrorKind) (fault : WordsFault)
     → (fault_of itip_app words ≡ [] → kind ≡ kinds.OutOfMemory) → IsFaultOf kind fault → TellsReading (settings_of words) (Err fault)
 unfolding settings_of
-has_no_reading words kind Usage none is = without (fault_of itip_app words) _ (λ e. is (none e))
+has_no_reading words kind Usage none is = none_with_fault (fault_of itip_app words) _ (λ e. is (none e))
 has_no_reading words kind Memory none is = tt

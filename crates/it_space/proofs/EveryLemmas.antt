@@ -2,6 +2,7 @@
 use Rattle.std.proofs.Common.{◌≡◌, zero, suc, List, [], ◌∷◌, ◌++◌, map, Bool, true, false, cond, refl, sym, ◌∙◌, arith, All}
 use Rattle.std.specs.List.{filter, flat_map, AllByRecursion as Every}
 use Rattle.std.proofs.lemmas.List.Elements.{All-head, All-tail}
+use Rattle.std.proofs.lemmas.Bool.{false≢true}
 
 pub every_of : {X : Type 0} (P : X → Type 0) (xs : List X) → All P xs → Every P xs
 every_of P [] a = tt
@@ -62,7 +63,4 @@ every_filtered P test (x ∷ xs) e = by_test (test x) refl e (λ r. every_filter
   where
     by_test : (b : Bool) → test x ≡ b → Every P (cond b (x ∷ filter test xs) (filter test xs)) → (Every P (filter test xs) → Every (λ x. test x ≡ true → P x) xs) → (test x ≡ true → P x) × Every (λ x. test x ≡ true → P x) xs
     by_test true f r back = (λ g. r.0, back r.1)
-    by_test false f r back = (λ g. absurd (apart (sym f ∙ g)), back r)
-      where
-        apart : false ≡ true → ⊥
-        apart e = cc
+    by_test false f r back = (λ g. absurd (false≢true (sym f ∙ g)), back r)

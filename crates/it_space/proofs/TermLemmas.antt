@@ -2,15 +2,15 @@
 use Rattle.std.proofs.Common.{◌≡◌, ap₂, ℕ, zero, suc, ◌+◌, ◌<◌, ◌≤◌, ℤ, pos, negsuc, neg_ℤ, ◌+ℤ◌, ◌*ℤ◌, refl, sym, ap, subst, ◌∙◌, arith, [], ◌∷◌, ◌++◌, Bool, true, false, cond, nat_eq, nat_lt, if◌then◌else◌}
 use Rattle.std.proofs.lemmas.Int.{ints}
 use Rattle.std.proofs.lemmas.Bool.Decides.{nat_tests}
+use Rattle.std.proofs.lemmas.Bool.{eqb-true, ltb-true}
+use Rattle.std.proofs.Math.IntN.{+ℤ_idr}
 use Rattle.it_number.proofs.Integers.{zring}
 use Rattle.it_number.specs.Limit.{IsWithin}
+use Rattle.it_number.proofs.SignLemmas.{zero_by_multiple}
 use Rattle.it_space.specs.Rows.{Terms, coefficient, value, Ascends, single_term, negated_terms, one_at}
 use Rattle.it_space.proofs.CanonicalRows.{Rises, ascends_rise}
 use Rattle.it_space.specs.Cancelling.{times_up, times_down, with_term, row_sum, row_multiple, cancelled_row}
 use Rattle.it_space.specs.Mixing.{mix}
-
-pub same_number : (a b : ℕ) → nat_eq a b ≡ true → a ≡ b
-same_number a b h = grind (arith, nat_tests)
 
 -- ---- terms, and rows put together
 
@@ -32,14 +32,8 @@ coefficient-single_term c (pos zero) d = by_test (nat_eq c d)
     by_test : (b : Bool) → pos 0 ≡ cond b (pos 0) (pos 0)
     by_test true = refl
     by_test false = refl
-coefficient-single_term c (pos (suc n)) d = plain (cond (nat_eq c d) (pos (suc n)) (pos 0))
-  where
-    plain : (a : ℤ) → a +ℤ pos 0 ≡ a
-    plain a = omega (arith, ints)
-coefficient-single_term c (negsuc n) d = plain (cond (nat_eq c d) (negsuc n) (pos 0))
-  where
-    plain : (a : ℤ) → a +ℤ pos 0 ≡ a
-    plain a = omega (arith, ints)
+coefficient-single_term c (pos (suc n)) d = +ℤ_idr (cond (nat_eq c d) (pos (suc n)) (pos 0))
+coefficient-single_term c (negsuc n) d = +ℤ_idr (cond (nat_eq c d) (negsuc n) (pos 0))
 
 pub ascends-single_term : (from c : ℕ) (x : ℤ) (ts : Terms) → from ≤ c → IsWithin x → Ascends (c + 1) ts → Ascends from (single_term c x ++ ts)
 ascends-single_term from c (pos zero) ts h w a = ascends_lower from (c + 1) ts (omega arith) a
@@ -55,19 +49,19 @@ pub value-with_term : (c : ℕ) (x : ℤ) (ts : Terms) (p : ℕ → ℤ) → val
 value-with_term c (pos zero) [] p = omega (arith, ints)
 value-with_term c (pos (suc n)) [] p = refl
 value-with_term c (negsuc n) [] p = refl
-value-with_term c x (t ∷ ts) p = by (nat_lt c t.0) (nat_eq c t.0) (same_number c t.0) (value-with_term c x ts p)
+value-with_term c x (t ∷ ts) p = by_test (nat_lt c t.0) (nat_eq c t.0) (eqb-true c t.0) (value-with_term c x ts p)
   where
-    before : value (single_term c x ++ t ∷ ts) p ≡ x *ℤ p c +ℤ value (t ∷ ts) p
-    before = value-single_term c x (t ∷ ts) p
+    value_with_front : value (single_term c x ++ t ∷ ts) p ≡ x *ℤ p c +ℤ value (t ∷ ts) p
+    value_with_front = value-single_term c x (t ∷ ts) p
 
-    here : c ≡ t.0 → value (single_term c (x +ℤ t.1) ++ ts) p ≡ x *ℤ p c +ℤ value (t ∷ ts) p
-    here e = let q : t.1 *ℤ p c ≡ t.1 *ℤ p t.0 = ap (λ n. t.1 *ℤ p n) e in value-single_term c (x +ℤ t.1) ts p ∙ omega (arith, zring, q)
+    value_at_term : c ≡ t.0 → value (single_term c (x +ℤ t.1) ++ ts) p ≡ x *ℤ p c +ℤ value (t ∷ ts) p
+    value_at_term e = let q : t.1 *ℤ p c ≡ t.1 *ℤ p t.0 = ap (λ n. t.1 *ℤ p n) e in value-single_term c (x +ℤ t.1) ts p ∙ omega (arith, zring, q)
 
-    by : (a b : Bool) → (b ≡ true → c ≡ t.0) → value (with_term c x ts) p ≡ x *ℤ p c +ℤ value ts p
+    by_test : (a b : Bool) → (b ≡ true → c ≡ t.0) → value (with_term c x ts) p ≡ x *ℤ p c +ℤ value ts p
         → value (if a then single_term c x ++ t ∷ ts else if b then single_term c (x +ℤ t.1) ++ ts else t ∷ with_term c x ts) p ≡ x *ℤ p c +ℤ value (t ∷ ts) p
-    by true b f ih = before
-    by false true f ih = here (f refl)
-    by false false f ih = omega (arith, ints, ih)
+    by_test true b f ih = value_with_front
+    by_test false true f ih = value_at_term (f refl)
+    by_test false false f ih = omega (arith, ints, ih)
 
 pub value-row_sum : (xs ys : Terms) (p : ℕ → ℤ) → value (row_sum xs ys) p ≡ value xs p +ℤ value ys p
 value-row_sum [] ys p = omega (arith, ints)
@@ -95,23 +89,23 @@ value-one_at (t ∷ ts) c = ap₂ (λ x y. x +ℤ y) (by_test (nat_eq t.0 c)) (v
 
 pub value-negated_terms : (row : Terms) (p : ℕ → ℤ) → value (negated_terms row) p ≡ neg_ℤ (value row p)
 value-negated_terms [] p = refl
-value-negated_terms (t ∷ ts) p = both t.1 (p t.0) (value (negated_terms ts) p) (value ts p) (value-negated_terms ts p)
+value-negated_terms (t ∷ ts) p = negation_of_sum t.1 (p t.0) (value (negated_terms ts) p) (value ts p) (value-negated_terms ts p)
   where
-    both : (x y z s : ℤ) → z ≡ neg_ℤ s → neg_ℤ x *ℤ y +ℤ z ≡ neg_ℤ (x *ℤ y +ℤ s)
-    both x y z s e = omega (arith, zring, e)
+    negation_of_sum : (x y z s : ℤ) → z ≡ neg_ℤ s → neg_ℤ x *ℤ y +ℤ z ≡ neg_ℤ (x *ℤ y +ℤ s)
+    negation_of_sum x y z s e = omega (arith, zring, e)
 
 pub coefficient-negated_terms : (c : ℕ) (row : Terms) → coefficient (negated_terms row) c ≡ neg_ℤ (coefficient row c)
 coefficient-negated_terms c row = sym (value-one_at (negated_terms row) c) ∙ value-negated_terms row (one_at c) ∙ ap neg_ℤ (value-one_at row c)
 
 pub ascends-negated_terms : (from : ℕ) (row : Terms) → Ascends from row → Ascends from (negated_terms row)
 ascends-negated_terms from [] a = tt
-ascends-negated_terms from (t ∷ ts) a = (a.0, λ e. a.1 (back t.1 e), small t.1 a.2, ascends-negated_terms (t.0 + 1) ts a.3)
+ascends-negated_terms from (t ∷ ts) a = (a.0, λ e. a.1 (zero_negation t.1 e), negation_within t.1 a.2, ascends-negated_terms (t.0 + 1) ts a.3)
   where
-    back : (x : ℤ) → neg_ℤ x ≡ pos 0 → x ≡ pos 0
-    back x e = omega (arith, ints, e)
+    zero_negation : (x : ℤ) → neg_ℤ x ≡ pos 0 → x ≡ pos 0
+    zero_negation x e = omega (arith, ints, e)
 
-    small : (x : ℤ) → IsWithin x → IsWithin (neg_ℤ x)
-    small x h = omega (arith, ints, h)
+    negation_within : (x : ℤ) → IsWithin x → IsWithin (neg_ℤ x)
+    negation_within x h = omega (arith, ints, h)
 
 -- ---- cancelled rows
 
@@ -134,19 +128,16 @@ rises-with_term : (lo c : ℕ) (x : ℤ) (ts : Terms) → lo ≤ c → Rises lo 
 rises-with_term lo c (pos zero) [] h a = tt
 rises-with_term lo c (pos (suc n)) [] h a = (h, (λ e. omega (arith, ints, e)), tt)
 rises-with_term lo c (negsuc n) [] h a = (h, (λ e. omega (arith, ints, e)), tt)
-rises-with_term lo c x (t ∷ ts) h a = by (nat_lt c t.0) (nat_eq c t.0) refl refl (λ k. rises-with_term (t.0 + 1) c x ts k a.2)
+rises-with_term lo c x (t ∷ ts) h a = by_test (nat_lt c t.0) (nat_eq c t.0) refl refl (λ k. rises-with_term (t.0 + 1) c x ts k a.2)
   where
-    is_below : (m n : ℕ) → nat_lt m n ≡ true → m < n
-    is_below m n e = grind (arith, nat_tests)
-
     is_above : (m n : ℕ) → nat_lt m n ≡ false → nat_eq m n ≡ false → n < m
     is_above m n e f = grind (arith, nat_tests)
 
-    by : (p q : Bool) → nat_lt c t.0 ≡ p → nat_eq c t.0 ≡ q → (t.0 + 1 ≤ c → Rises (t.0 + 1) (with_term c x ts))
+    by_test : (p q : Bool) → nat_lt c t.0 ≡ p → nat_eq c t.0 ≡ q → (t.0 + 1 ≤ c → Rises (t.0 + 1) (with_term c x ts))
         → Rises lo (if p then single_term c x ++ t ∷ ts else if q then single_term c (x +ℤ t.1) ++ ts else t ∷ with_term c x ts)
-    by true q e f ih = rises-single_term lo c x (t ∷ ts) h (omega (arith, is_below c t.0 e), a.1, a.2)
-    by false true e f ih = rises-single_term lo c (x +ℤ t.1) ts h (subst (λ (n : ℕ). Rises (n + 1) ts) (sym (same_number c t.0 f)) a.2)
-    by false false e f ih = (a.0, a.1, ih (omega (arith, is_above c t.0 e f)))
+    by_test true q e f ih = rises-single_term lo c x (t ∷ ts) h (omega (arith, ltb-true c t.0 e), a.1, a.2)
+    by_test false true e f ih = rises-single_term lo c (x +ℤ t.1) ts h (subst (λ (n : ℕ). Rises (n + 1) ts) (sym (eqb-true c t.0 f)) a.2)
+    by_test false false e f ih = (a.0, a.1, ih (omega (arith, is_above c t.0 e f)))
 
 rises-row_sum : (lo : ℕ) (xs ys : Terms) → Rises lo xs → Rises lo ys → Rises lo (row_sum xs ys)
 rises-row_sum lo [] ys a b = b
@@ -154,13 +145,7 @@ rises-row_sum lo (x ∷ xs) ys a b = rises-with_term lo x.0 x.1 (row_sum xs ys) 
 
 rises-row_multiple : (lo k : ℕ) (ts : Terms) → 0 < k → Rises lo ts → Rises lo (row_multiple k ts)
 rises-row_multiple lo k [] h a = tt
-rises-row_multiple lo k (t ∷ ts) h a = (a.0, (λ e. a.1 (none k t.1 h e)), rises-row_multiple (t.0 + 1) k ts h a.2)
-  where
-    none : (k : ℕ) (z : ℤ) → 0 < k → pos k *ℤ z ≡ pos 0 → z ≡ pos 0
-    none zero z h e = absurd (omega arith)
-    none (suc k) (pos zero) h e = refl
-    none (suc k) (pos (suc n)) h e = absurd (omega (arith, ints))
-    none (suc k) (negsuc n) h e = absurd (omega (arith, ints))
+rises-row_multiple lo k (t ∷ ts) h a = (a.0, (λ e. a.1 (zero_by_multiple k t.1 h e)), rises-row_multiple (t.0 + 1) k ts h a.2)
 
 pub rises-cancelled_row : (at : ℕ) (up down : Terms) → 0 < times_up at up down → 0 < times_down at up down → Ascends 0 up → Ascends 0 down → Rises 0 (cancelled_row at up down)
 unfolding cancelled_row

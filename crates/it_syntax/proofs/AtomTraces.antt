@@ -91,7 +91,7 @@ more_behind_comma : (env : Environment) (w : List ℕ) (s : List Letter) (h : Bo
 unfolding read_more
 more_behind_comma env w s h o eh eo = ap (λ (b : Bool). variable_or_fault w b (env w) s >>= λ n. with_further n.0 (read_more env s)) eh ∙ ap (λ (p : Option ℕ). variable_or_fault w h p s >>= λ n. with_further n.0 (read_more env s)) eo
 
-mark_is : (env : Environment) (w : List ℕ) (h : Bool) (o : Option ℕ) → is_measure w ≡ h → env w ≡ o → name_mark env w ≡ cond h (Some codes.Word) (unknown_mark o)
+pub mark_is : (env : Environment) (w : List ℕ) (h : Bool) (o : Option ℕ) → is_measure w ≡ h → env w ≡ o → name_mark env w ≡ cond h (Some codes.Word) (unknown_mark o)
 mark_is env w h o eh eo = ap (λ (b : Bool). cond b (Some codes.Word) (unknown_mark (env w))) eh ∙ ap (λ (p : Option ℕ). cond h (Some codes.Word) (unknown_mark p)) eo
 
 more_by : (env : Environment) (w : List ℕ) (ls : List Letter) (h : Bool) (o : Option ℕ) → is_measure w ≡ h → env w ≡ o → (t : Reads ℕ) → By (read_more env) (spell_more env) (more_set env) ls t

@@ -88,13 +88,13 @@ one_front_begins_other (l ∷ p) (m ∷ q) a b e =
 second_is : (x y : Letter × Option Code) (a b : MarkedLetters) → x ∷ a ≡ y ∷ b → x.1 ≡ y.1
 second_is x y a b e = let h : x ≡ y = cc in ap (λ (p : Letter × Option Code). p.1) h
 
+same_tails : (x y : Letter × Option Code) (a b : MarkedLetters) → x ∷ a ≡ y ∷ b → a ≡ b
+same_tails x y a b e = cc
+
 -- what nothing is said against isn't marked
 clean_not_marked : (front d : List Letter) (l : Letter) (more : MarkedLetters) (c : Code) → MarkedAt (without_marks (front ++ (l ∷ d)) ++ more) front c → ⊥
 clean_not_marked [] d l more c k = let e : None ≡ Some c = second_is (l, None) (k.0, Some c) (without_marks d ++ more) k.1 k.2 in absurd cc
-clean_not_marked (x ∷ front) d l more c k = clean_not_marked front d l more c (k.0, k.1, tail_is (x, None) (x, None) (without_marks (front ++ (l ∷ d)) ++ more) (without_marks front ++ ((k.0, Some c) ∷ k.1)) k.2)
-  where
-    tail_is : (x y : Letter × Option Code) (a b : MarkedLetters) → x ∷ a ≡ y ∷ b → a ≡ b
-    tail_is x y a b e = cc
+clean_not_marked (x ∷ front) d l more c k = clean_not_marked front d l more c (k.0, k.1, same_tails (x, None) (x, None) (without_marks (front ++ (l ∷ d)) ++ more) (without_marks front ++ ((k.0, Some c) ∷ k.1)) k.2)
 
 -- a fault that stands before another's place contradicts it
 no_earlier_fault : {X : Type 0} (spell : X → MarkedLetters) (ls : List Letter) (c e : Code) (r s : List Letter) (f : FirstFault spell ls c r) (g : FirstFault spell ls e s) (l : Letter) (d : List Letter) → g.front ≡ f.front ++ (l ∷ d) → r ≡ l ∷ (d ++ s) → ⊥
@@ -108,10 +108,7 @@ marks_same : (m : MarkedLetters) (front : List Letter) (c e : Code) → MarkedAt
 marks_same m [] c e j k = let p : Some c ≡ Some e = second_is (j.0, Some c) (k.0, Some e) j.1 k.1 (sym j.2 ∙ k.2) in cc
 marks_same [] (x ∷ front) c e j k = let p = j.2 in absurd cc
 marks_same (y ∷ m) (x ∷ front) c e j k =
-    marks_same m front c e (j.0, j.1, rest_is y (x, None) m (without_marks front ++ ((j.0, Some c) ∷ j.1)) j.2) (k.0, k.1, rest_is y (x, None) m (without_marks front ++ ((k.0, Some e) ∷ k.1)) k.2)
-  where
-    rest_is : (x y : Letter × Option Code) (a b : MarkedLetters) → x ∷ a ≡ y ∷ b → a ≡ b
-    rest_is x y a b e = cc
+    marks_same m front c e (j.0, j.1, same_tails y (x, None) m (without_marks front ++ ((j.0, Some c) ∷ j.1)) j.2) (k.0, k.1, same_tails y (x, None) m (without_marks front ++ ((k.0, Some e) ∷ k.1)) k.2)
 
 one_code : {X : Type 0} (spell : X → MarkedLetters) (ls : List Letter) (c e : Code) (r s : List Letter) (f : FirstFault spell ls c r) (g : FirstFault spell ls e s) → f.front ≡ g.front → r ≡ s → c ≡ e
 one_code spell ls c e r s f g same left =
@@ -147,10 +144,7 @@ pub clean_is_clean : (ls front : List Letter) (c : Code) → MarkedAt (without_m
 clean_is_clean [] [] c k = let e = k.2 in absurd cc
 clean_is_clean (l ∷ ls) [] c k = let e : None ≡ Some c = second_is (l, None) (k.0, Some c) (without_marks ls) k.1 k.2 in absurd cc
 clean_is_clean [] (x ∷ front) c k = let e = k.2 in absurd cc
-clean_is_clean (l ∷ ls) (x ∷ front) c k = clean_is_clean ls front c (k.0, k.1, tail (without_mark l) (without_mark x) (without_marks ls) (without_marks front ++ ((k.0, Some c) ∷ k.1)) k.2)
-  where
-    tail : (x y : Letter × Option Code) (a b : MarkedLetters) → x ∷ a ≡ y ∷ b → a ≡ b
-    tail x y a b e = cc
+clean_is_clean (l ∷ ls) (x ∷ front) c k = clean_is_clean ls front c (k.0, k.1, same_tails (without_mark l) (without_mark x) (without_marks ls) (without_marks front ++ ((k.0, Some c) ∷ k.1)) k.2)
 
 -- what is spelled so is read
 pub reads_only : {A X : Type 0} (f : List Letter → Reads A) (spell : X → MarkedLetters → MarkedLetters) (res : X → A) → ((x : X) → Answers (f (letters (spell x []))) (spell x []) (res x) [])

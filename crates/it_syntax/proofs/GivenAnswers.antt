@@ -4,7 +4,6 @@ use Rattle.std.specs.Prelude.{bytes_eq, ◌||◌}
 use Rattle.it_syntax.specs.declared.rest.Divider.{Divider}
 use Rattle.it_syntax.specs.declared.rest.Divider.TheVariants.{Arrows, Semicolons}
 use Rattle.it_syntax.specs.declared.types.Symbol.TheVariants.{Arrow, Semicolon, Bar}
-use Rattle.it_syntax.specs.declared.types.Code.{Code}
 use Rattle.it_syntax.specs.declared.types.Code.TheVariants as codes
 use Rattle.it_syntax.specs.Letters.{Letter, Word, Sym, MarkedLetters, without_mark, letters}
 use Rattle.it_syntax.specs.WrittenAtoms.{Environment, WrittenList, is_measure, unknown_mark, name_mark, spell_more, spell_list, list_set, mark_surplus}
@@ -16,7 +15,7 @@ use Rattle.it_syntax.specs.AtomReading.{Reads, ◌>>=◌, semicolon, read_list}
 use Rattle.it_syntax.specs.RelationReading.{read_relation}
 use Rattle.it_syntax.specs.GivenReading.{arrow, read_of, behind_divider, surplus_name, read_surplus_member, if_divided, member_then, read_members, with_sets, read_chain, read_bar, read_independence, read_function, read_plain, read_given}
 use Rattle.it_syntax.proofs.SpelledIsRead.{Answers, answers_ok, answers_cons, answers_bind, NoComma, NoWord, NoSign, list_answers, list_then}
-use Rattle.it_syntax.proofs.RelationAnswers.{relation_answers}
+use Rattle.it_syntax.proofs.RelationAnswers.{relation_answers, letters_over}
 use Rattle.it_syntax.proofs.GivenTraces.{opens_form, opens_form_first, given_by_word}
 
 -- ---- further members
@@ -29,10 +28,6 @@ surplus_name_answers : (w : List ℕ) (h : Bool) (o : Option ℕ) (m k : MarkedL
 surplus_name_answers w true o m k y = inr ((codes.Word, Word w ∷ letters m), (refl, record { front = []; letter = Word w; rest = m; is = refl; left = refl }))
 surplus_name_answers w false (Some i) m k y = inr ((codes.Many, Word w ∷ letters m), (refl, record { front = []; letter = Word w; rest = m; is = refl; left = refl }))
 surplus_name_answers w false None m k y = inr ((codes.Name, Word w ∷ letters m), (refl, record { front = []; letter = Word w; rest = m; is = refl; left = refl }))
-
-letters_over : (l : Letter) (c : Option Code) (m : MarkedLetters) → letters (mark_surplus ((l, c) ∷ m)) ≡ l ∷ letters m
-letters_over l None m = refl
-letters_over l (Some c) m = refl
 
 list_over : (env : Environment) (x : WrittenList) (m k : MarkedLetters) (y : List ℕ) → Answers (read_surplus_member env (letters (mark_surplus (spell_list env x m)))) (mark_surplus (spell_list env x m)) y k
 unfolding read_surplus_member

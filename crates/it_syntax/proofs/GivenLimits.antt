@@ -25,12 +25,12 @@ AreFew n most x = (length x.0 ≤ most) × All (λ (s : ℕ). s < 2 ^ n) x.0
 
 surplus_member_sure : (P : List ℕ × List Letter → Type 0) (env : Environment) (ls : List Letter) → Sure P (read_surplus_member env ls)
 unfolding read_surplus_member
-surplus_member_sure P env (Word w ∷ ls) = chosen (is_measure w) (env w)
+surplus_member_sure P env (Word w ∷ ls) = by_name (is_measure w) (env w)
   where
-    chosen : (h : Bool) (o : Option ℕ) → Sure P (surplus_name w h o ls)
-    chosen true o = tt
-    chosen false (Some i) = tt
-    chosen false None = tt
+    by_name : (h : Bool) (o : Option ℕ) → Sure P (surplus_name w h o ls)
+    by_name true o = tt
+    by_name false (Some i) = tt
+    by_name false None = tt
 surplus_member_sure P env [] = tt
 surplus_member_sure P env (Bad c ∷ ls) = tt
 surplus_member_sure P env (l ∷ ls) = tt
@@ -104,13 +104,13 @@ plain_sure s n k ls = sure_bind (IsWithinLimits n 0) (IsMet n) (read_relation s 
 
 given_line_sure : (s : Scope) (n : ℕ) → Covers s n 0 → (ls : List Letter) → Sure (IsMet n) (read_given s ls)
 unfolding read_given
-given_line_sure s n k (Word w ∷ ls) = chosen (bytes_eq w markov_text) (bytes_eq w indep_text) (bytes_eq w func_text)
+given_line_sure s n k (Word w ∷ ls) = by_tests (bytes_eq w markov_text) (bytes_eq w indep_text) (bytes_eq w func_text)
   where
-    chosen : (h i j : Bool) → Sure (IsMet n) (cond h (read_chain s.variables ls) (cond i (read_independence s.variables ls) (cond j (read_function s.variables ls) (read_plain s (Word w ∷ ls)))))
-    chosen true i j = chain_sure s.variables n k.variables ls
-    chosen false true j = independence_sure s.variables n k.variables ls
-    chosen false false true = function_sure s.variables n k.variables ls
-    chosen false false false = plain_sure s n k (Word w ∷ ls)
+    by_tests : (h i j : Bool) → Sure (IsMet n) (cond h (read_chain s.variables ls) (cond i (read_independence s.variables ls) (cond j (read_function s.variables ls) (read_plain s (Word w ∷ ls)))))
+    by_tests true i j = chain_sure s.variables n k.variables ls
+    by_tests false true j = independence_sure s.variables n k.variables ls
+    by_tests false false true = function_sure s.variables n k.variables ls
+    by_tests false false false = plain_sure s n k (Word w ∷ ls)
 given_line_sure s n k [] = plain_sure s n k []
 given_line_sure s n k (l ∷ ls) = plain_sure s n k (l ∷ ls)
 

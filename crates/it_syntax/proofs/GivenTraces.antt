@@ -10,7 +10,7 @@ use Rattle.it_syntax.specs.declared.types.Code.TheVariants as codes
 use Rattle.it_syntax.specs.declared.types.Sign.TheVariants as signs
 use Rattle.it_syntax.specs.Letters.{Letter, Word, Sym, MarkedLetters, without_mark, letters}
 use Rattle.it_syntax.specs.FirstFault.{head, own_code}
-use Rattle.it_syntax.specs.WrittenAtoms.{Environment, WrittenList, Entropy, EntropyGiven, Mutual, MutualGiven, TermSign, Positive, Negative, is_measure, unknown_mark, name_mark, spell_list, list_set, mark_surplus}
+use Rattle.it_syntax.specs.WrittenAtoms.{Environment, WrittenList, Entropy, EntropyGiven, Mutual, MutualGiven, TermSign, Positive, Negative, is_measure, name_mark, spell_list, list_set, mark_surplus}
 use Rattle.it_syntax.specs.WrittenRelations.{Scope, Measure, RateOf, WrittenTerm, Zero, Once, Times, WrittenRelation, spell_sum, spell_relation, relation_of}
 use Rattle.it_syntax.specs.WrittenGivens.{markov_text, indep_text, func_text, of_text, is_form, is_form_first, WrittenChain, WrittenIndependence, WrittenFunction, WrittenGiven, Relation, Markov, Independent, Function, spell_members, spell_chain, spell_bar, spell_independence, spell_function, spell_given, sets_of, bar_set, chain_of, independence_of, function_of, given_of}
 use Rattle.it_syntax.specs.Givens.{GivenView}
@@ -18,8 +18,8 @@ use Rattle.it_syntax.specs.Givens as given_views
 use Rattle.it_syntax.specs.AtomReading.{Reads, ◌>>=◌, semicolon, read_list}
 use Rattle.it_syntax.specs.RelationReading.{read_relation}
 use Rattle.it_syntax.specs.GivenReading.{arrow, read_of, surplus_name, read_surplus_member, member_then, read_members, with_sets, read_chain, read_bar, read_independence, read_function, read_plain, read_given}
-use Rattle.it_syntax.proofs.Traces.{Went, Stuck, By, Traces, traces_bind, traces_map, letter_then, switch}
-use Rattle.it_syntax.proofs.AtomTraces.{for_same_head, for_no_head, stuck_here, stuck_none, some_list, list_traces}
+use Rattle.it_syntax.proofs.Traces.{Went, Stuck, By, Traces, traces_bind, traces_map, letter_then, by_equal_reader}
+use Rattle.it_syntax.proofs.AtomTraces.{for_same_head, for_no_head, stuck_here, stuck_none, some_list, list_traces, mark_is}
 use Rattle.it_syntax.proofs.RelationTraces.{relation_traces}
 use Rattle.it_syntax.proofs.LetterReaders.{TakesLetter, behind_traces, Restricts, by_restriction}
 
@@ -27,34 +27,34 @@ use Rattle.it_syntax.proofs.LetterReaders.{TakesLetter, behind_traces, Restricts
 
 pointed_takes : TakesLetter arrow (Sym Arrow)
 unfolding arrow
-pointed_takes = record { takes = λ s. refl; refuses = refuses }
+pointed_takes = record { takes = λ s. refl; refuses = other_is_refused }
   where
-    refuses : (ls : List Letter) → (head ls ≡ Some (Sym Arrow)) ⊎ ((c : Code) × (own_code ls ≡ c) × ((s : List Letter) → head s ≡ head ls → arrow s ≡ Err (c, s)))
-    refuses (Sym Arrow ∷ ls) = inl refl
-    refuses [] = inr (codes.Word, refl, for_no_head (λ s. arrow s ≡ Err (codes.Word, s)) refl)
-    refuses (l ∷ ls) = inr (own_code (l ∷ ls), refl, for_same_head (λ s. arrow s ≡ Err (own_code (l ∷ ls), s)) l (λ s. refl))
+    other_is_refused : (ls : List Letter) → (head ls ≡ Some (Sym Arrow)) ⊎ ((c : Code) × (own_code ls ≡ c) × ((s : List Letter) → head s ≡ head ls → arrow s ≡ Err (c, s)))
+    other_is_refused (Sym Arrow ∷ ls) = inl refl
+    other_is_refused [] = inr (codes.Word, refl, for_no_head (λ s. arrow s ≡ Err (codes.Word, s)) refl)
+    other_is_refused (l ∷ ls) = inr (own_code (l ∷ ls), refl, for_same_head (λ s. arrow s ≡ Err (own_code (l ∷ ls), s)) l (λ s. refl))
 
 divided_takes : TakesLetter semicolon (Sym Semicolon)
 unfolding semicolon
-divided_takes = record { takes = λ s. refl; refuses = refuses }
+divided_takes = record { takes = λ s. refl; refuses = other_is_refused }
   where
-    refuses : (ls : List Letter) → (head ls ≡ Some (Sym Semicolon)) ⊎ ((c : Code) × (own_code ls ≡ c) × ((s : List Letter) → head s ≡ head ls → semicolon s ≡ Err (c, s)))
-    refuses (Sym Semicolon ∷ ls) = inl refl
-    refuses [] = inr (codes.Word, refl, for_no_head (λ s. semicolon s ≡ Err (codes.Word, s)) refl)
-    refuses (l ∷ ls) = inr (own_code (l ∷ ls), refl, for_same_head (λ s. semicolon s ≡ Err (own_code (l ∷ ls), s)) l (λ s. refl))
+    other_is_refused : (ls : List Letter) → (head ls ≡ Some (Sym Semicolon)) ⊎ ((c : Code) × (own_code ls ≡ c) × ((s : List Letter) → head s ≡ head ls → semicolon s ≡ Err (c, s)))
+    other_is_refused (Sym Semicolon ∷ ls) = inl refl
+    other_is_refused [] = inr (codes.Word, refl, for_no_head (λ s. semicolon s ≡ Err (codes.Word, s)) refl)
+    other_is_refused (l ∷ ls) = inr (own_code (l ∷ ls), refl, for_same_head (λ s. semicolon s ≡ Err (own_code (l ∷ ls), s)) l (λ s. refl))
 
 of_takes : TakesLetter read_of (Word of_text)
 unfolding read_of
-of_takes = record { takes = λ s. refl; refuses = refuses }
+of_takes = record { takes = λ s. refl; refuses = other_is_refused }
   where
-    by : (w : List ℕ) (ls : List Letter) (b : Bool) → bytes_eq w of_text ≡ b → (head (Word w ∷ ls) ≡ Some (Word of_text)) ⊎ ((c : Code) × (own_code (Word w ∷ ls) ≡ c) × ((s : List Letter) → head s ≡ head (Word w ∷ ls) → read_of s ≡ Err (c, s)))
-    by w ls true e = inl (ap (λ (t : List ℕ). Some (Word t)) ((bytes_eq-Decides w of_text).0 e))
-    by w ls false e = inr (codes.Word, refl, for_same_head (λ s. read_of s ≡ Err (codes.Word, s)) (Word w) (λ s. ap (λ (b : Bool). cond b (Ok s) (Err (codes.Word, Word w ∷ s))) e))
+    by_test : (w : List ℕ) (ls : List Letter) (b : Bool) → bytes_eq w of_text ≡ b → (head (Word w ∷ ls) ≡ Some (Word of_text)) ⊎ ((c : Code) × (own_code (Word w ∷ ls) ≡ c) × ((s : List Letter) → head s ≡ head (Word w ∷ ls) → read_of s ≡ Err (c, s)))
+    by_test w ls true e = inl (ap (λ (t : List ℕ). Some (Word t)) ((bytes_eq-Decides w of_text).0 e))
+    by_test w ls false e = inr (codes.Word, refl, for_same_head (λ s. read_of s ≡ Err (codes.Word, s)) (Word w) (λ s. ap (λ (b : Bool). cond b (Ok s) (Err (codes.Word, Word w ∷ s))) e))
 
-    refuses : (ls : List Letter) → (head ls ≡ Some (Word of_text)) ⊎ ((c : Code) × (own_code ls ≡ c) × ((s : List Letter) → head s ≡ head ls → read_of s ≡ Err (c, s)))
-    refuses (Word w ∷ ls) = by w ls (bytes_eq w of_text) refl
-    refuses [] = inr (codes.Word, refl, for_no_head (λ s. read_of s ≡ Err (codes.Word, s)) refl)
-    refuses (l ∷ ls) = inr (own_code (l ∷ ls), refl, for_same_head (λ s. read_of s ≡ Err (own_code (l ∷ ls), s)) l (λ s. refl))
+    other_is_refused : (ls : List Letter) → (head ls ≡ Some (Word of_text)) ⊎ ((c : Code) × (own_code ls ≡ c) × ((s : List Letter) → head s ≡ head ls → read_of s ≡ Err (c, s)))
+    other_is_refused (Word w ∷ ls) = by_test w ls (bytes_eq w of_text) refl
+    other_is_refused [] = inr (codes.Word, refl, for_no_head (λ s. read_of s ≡ Err (codes.Word, s)) refl)
+    other_is_refused (l ∷ ls) = inr (own_code (l ∷ ls), refl, for_same_head (λ s. read_of s ≡ Err (own_code (l ∷ ls), s)) l (λ s. refl))
 
 -- ---- further members
 
@@ -85,9 +85,6 @@ surplus_member_marked d env w ls c h e = record {
 surplus_member_is : (env : Environment) (w : List ℕ) (h : Bool) (o : Option ℕ) → is_measure w ≡ h → env w ≡ o → (ls : List Letter) → read_surplus_member env (Word w ∷ ls) ≡ surplus_name w h o ls
 unfolding read_surplus_member
 surplus_member_is env w h o eh eo ls = ap (λ (b : Bool). surplus_name w b (env w) ls) eh ∙ ap (λ (p : Option ℕ). surplus_name w h p ls) eo
-
-mark_is : (env : Environment) (w : List ℕ) (h : Bool) (o : Option ℕ) → is_measure w ≡ h → env w ≡ o → name_mark env w ≡ cond h (Some codes.Word) (unknown_mark o)
-mark_is env w h o eh eo = ap (λ (b : Bool). cond b (Some codes.Word) (unknown_mark (env w))) eh ∙ ap (λ (p : Option ℕ). cond h (Some codes.Word) (unknown_mark p)) eo
 
 surplus_member_by : (d : Divider) (env : Environment) (w : List ℕ) (ls : List Letter) (h : Bool) (o : Option ℕ) → is_measure w ≡ h → env w ≡ o → By (read_surplus_member env) (spell_surplus_member d env) (members_of env) (Word w ∷ ls) (surplus_name w h o ls)
 surplus_member_by d env w ls true o eh eo = surplus_member_marked d env w ls codes.Word (λ k. ap (λ (m : Option Code). mark_surplus ((Word w, m) ∷ k)) (mark_is env w true o eh eo)) (surplus_member_is env w true o eh eo)
@@ -254,28 +251,28 @@ opens_form ls = false
 
 -- a relation begins as a form where its first letter does
 pub opens_form_first : (s : Scope) (x : WrittenRelation) (k : MarkedLetters) → opens_form (letters (spell_relation s x k)) ≡ is_form_first x.left.sign x.left.first
-opens_form_first s x k = by x.left.sign x.left.first x.left.more _
+opens_form_first s x k = by_sign x.left.sign x.left.first x.left.more _
   where
-    by : (o : Option TermSign) (t : WrittenTerm) (more : List (TermSign × WrittenTerm)) (k : MarkedLetters) → opens_form (letters (spell_sum 256 s (record { sign = o; first = t; more = more }) k)) ≡ is_form_first o t
-    by (Some Positive) t more k = refl
-    by (Some Negative) t more k = refl
-    by None Zero more k = refl
-    by None (Times n q) more k = refl
-    by None (Once (RateOf r)) more k = refl
-    by None (Once (Measure (Entropy a))) more k = refl
-    by None (Once (Measure (EntropyGiven a c))) more k = refl
-    by None (Once (Measure (Mutual a b))) more k = refl
-    by None (Once (Measure (MutualGiven a b c))) more k = refl
+    by_sign : (o : Option TermSign) (t : WrittenTerm) (more : List (TermSign × WrittenTerm)) (k : MarkedLetters) → opens_form (letters (spell_sum 256 s (record { sign = o; first = t; more = more }) k)) ≡ is_form_first o t
+    by_sign (Some Positive) t more k = refl
+    by_sign (Some Negative) t more k = refl
+    by_sign None Zero more k = refl
+    by_sign None (Times n q) more k = refl
+    by_sign None (Once (RateOf r)) more k = refl
+    by_sign None (Once (Measure (Entropy a))) more k = refl
+    by_sign None (Once (Measure (EntropyGiven a c))) more k = refl
+    by_sign None (Once (Measure (Mutual a b))) more k = refl
+    by_sign None (Once (Measure (MutualGiven a b c))) more k = refl
 
 same_opening : (ls ms : List Letter) → head ls ≡ head ms → opens_form ls ≡ opens_form ms
 same_opening [] [] e = refl
 same_opening (l ∷ ls) [] e = absurd cc
 same_opening [] (m ∷ ms) e = absurd cc
-same_opening (l ∷ ls) (m ∷ ms) e = let same : l ≡ m = cc in first l ∙ ap (λ (x : Letter). opens_form (x ∷ ms)) same
+same_opening (l ∷ ls) (m ∷ ms) e = let same : l ≡ m = cc in by_letter l ∙ ap (λ (x : Letter). opens_form (x ∷ ms)) same
   where
-    first : (l : Letter) → opens_form (l ∷ ls) ≡ opens_form (l ∷ ms)
-    first (Word w) = refl
-    first l = refl
+    by_letter : (l : Letter) → opens_form (l ∷ ls) ≡ opens_form (l ∷ ms)
+    by_letter (Word w) = refl
+    by_letter l = refl
 
 abbrev IsPlain : WrittenRelation → Type 0
 IsPlain x = is_form_first x.left.sign x.left.first ≡ false
@@ -311,11 +308,11 @@ given_line_by s w ls false true j eh ei ej = letter_then (read_given s) (read_in
     (λ z k. ap (λ (t : List ℕ). without_mark (Word t) ∷ spell_independence s.variables z k) (sym ((bytes_eq-Decides w indep_text).0 ei))) (λ z. refl) (read_independence s.variables ls) (independence_traces s.variables ls)
 given_line_by s w ls false false true eh ei ej = letter_then (read_given s) (read_function s.variables) (Word w) (spell_function s.variables) (spell_given s) (function_of s.variables) (given_of s) Function ls (word_is s w false false true eh ei ej)
     (λ z k. ap (λ (t : List ℕ). without_mark (Word t) ∷ spell_function s.variables z k) (sym ((bytes_eq-Decides w func_text).0 ej))) (λ z. refl) (read_function s.variables ls) (function_traces s.variables ls)
-given_line_by s w ls false false false eh ei ej = switch (read_plain s) (read_given s) (spell_given s) (given_of s) (Word w ∷ ls) (for_same_head (λ t. read_given s t ≡ read_plain s t) (Word w) (word_is s w false false false eh ei ej)) (read_plain s (Word w ∷ ls))
+given_line_by s w ls false false false eh ei ej = by_equal_reader (read_plain s) (read_given s) (spell_given s) (given_of s) (Word w ∷ ls) (for_same_head (λ t. read_given s t ≡ read_plain s t) (Word w) (word_is s w false false false eh ei ej)) (read_plain s (Word w ∷ ls))
     (plain_traces s (Word w ∷ ls) (ap (λ (b : Bool). b || (bytes_eq w indep_text || bytes_eq w func_text)) eh ∙ ap (λ (b : Bool). b || bytes_eq w func_text) ei ∙ ej))
 
 pub given_line_traces : (s : Scope) → Traces (read_given s) (spell_given s) (given_of s)
 unfolding read_given
 given_line_traces s (Word w ∷ ls) = given_line_by s w ls (bytes_eq w markov_text) (bytes_eq w indep_text) (bytes_eq w func_text) refl refl refl
-given_line_traces s [] = switch (read_plain s) (read_given s) (spell_given s) (given_of s) [] (for_no_head (λ t. read_given s t ≡ read_plain s t) refl) (read_plain s []) (plain_traces s [] refl)
-given_line_traces s (l ∷ ls) = switch (read_plain s) (read_given s) (spell_given s) (given_of s) (l ∷ ls) (for_same_head (λ t. read_given s t ≡ read_plain s t) l (λ t. refl)) (read_plain s (l ∷ ls)) (plain_traces s (l ∷ ls) refl)
+given_line_traces s [] = by_equal_reader (read_plain s) (read_given s) (spell_given s) (given_of s) [] (for_no_head (λ t. read_given s t ≡ read_plain s t) refl) (read_plain s []) (plain_traces s [] refl)
+given_line_traces s (l ∷ ls) = by_equal_reader (read_plain s) (read_given s) (spell_given s) (given_of s) (l ∷ ls) (for_same_head (λ t. read_given s t ≡ read_plain s t) l (λ t. refl)) (read_plain s (l ∷ ls)) (plain_traces s (l ∷ ls) refl)

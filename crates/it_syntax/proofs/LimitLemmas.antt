@@ -90,11 +90,11 @@ closed_sure P x h (l ∷ ls) = tt
 
 given_sure : (env : Environment) (n : ℕ) → Knows env n → (ls : List Letter) → Sure (IsBelow (2 ^ n)) (read_given_set env ls)
 unfolding read_given_set
-given_sure env n k ls = sure_bind Any (IsBelow (2 ^ n)) (bar_or_close ls) (λ bar. cond bar.0 (read_list env bar.1 >>= λ c. close_paren c.0 c.1) (Ok (0, bar.1))) (sure_any (bar_or_close ls)) (λ bar u. chosen bar.0 bar.1)
+given_sure env n k ls = sure_bind Any (IsBelow (2 ^ n)) (bar_or_close ls) (λ bar. cond bar.0 (read_list env bar.1 >>= λ c. close_paren c.0 c.1) (Ok (0, bar.1))) (sure_any (bar_or_close ls)) (λ bar u. by_test bar.0 bar.1)
   where
-    chosen : (b : Bool) (rest : List Letter) → Sure (IsBelow (2 ^ n)) (cond b (read_list env rest >>= λ c. close_paren c.0 c.1) (Ok (0, rest)))
-    chosen true rest = sure_bind (IsBelow (2 ^ n)) (IsBelow (2 ^ n)) (read_list env rest) (λ c. close_paren c.0 c.1) (list_sure env n k rest) (λ c hc. closed_sure (λ (s : ℕ). s < 2 ^ n) c.0 hc c.1)
-    chosen false rest = some_sets n
+    by_test : (b : Bool) (rest : List Letter) → Sure (IsBelow (2 ^ n)) (cond b (read_list env rest >>= λ c. close_paren c.0 c.1) (Ok (0, rest)))
+    by_test true rest = sure_bind (IsBelow (2 ^ n)) (IsBelow (2 ^ n)) (read_list env rest) (λ c. close_paren c.0 c.1) (list_sure env n k rest) (λ c hc. closed_sure (λ (s : ℕ). s < 2 ^ n) c.0 hc c.1)
+    by_test false rest = some_sets n
 
 abbrev pub HasSets : ℕ → ℕ → Atom × List Letter → Type 0
 HasSets n m x = IsAtomOf n m x.0
@@ -118,12 +118,12 @@ mutual_information_sure env n m k ls =
 -- the sets of an atom are of the variables that there are
 pub atom_sure : (env : Environment) (n m : ℕ) → Knows env n → (ls : List Letter) → Sure (HasSets n m) (read_atom env ls)
 unfolding read_atom
-atom_sure env n m k (Word w ∷ ls) = chosen (bytes_eq w entropy_text) (bytes_eq w mutual_text)
+atom_sure env n m k (Word w ∷ ls) = by_tests (bytes_eq w entropy_text) (bytes_eq w mutual_text)
   where
-    chosen : (h i : Bool) → Sure (HasSets n m) (cond h (read_entropy env ls) (cond i (read_mutual_information env ls) (no_rule (Word w ∷ ls))))
-    chosen true i = entropy_sure env n m k ls
-    chosen false true = mutual_information_sure env n m k ls
-    chosen false false = tt
+    by_tests : (h i : Bool) → Sure (HasSets n m) (cond h (read_entropy env ls) (cond i (read_mutual_information env ls) (no_rule (Word w ∷ ls))))
+    by_tests true i = entropy_sure env n m k ls
+    by_tests false true = mutual_information_sure env n m k ls
+    by_tests false false = tt
 atom_sure env n m k [] = tt
 atom_sure env n m k (Bad c ∷ ls) = tt
 atom_sure env n m k (l ∷ ls) = tt

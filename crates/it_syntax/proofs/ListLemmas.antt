@@ -1,8 +1,8 @@
 -- Names one after the other, as a loop reads them.
-use Rattle.std.proofs.Common.{◌≡◌, ℕ, ◌^◌, Bool, true, false, List, [], ◌∷◌, Option, Some, None, Ok, Err, refl, sym, ap, ◌∙◌, arith}
+use Rattle.std.proofs.Common.{◌≡◌, ℕ, ◌^◌, Bool, true, false, List, [], ◌∷◌, Option, Some, None, Ok, Err, refl, sym, ap, ◌∙◌}
 use Rattle.std.specs.Prelude.{bit_or}
 use Rattle.std.specs.Int.Bits.{or_zero_l, or_zero_r}
-use Rattle.std.proofs.lemmas.Nat.Bits.{bit_at_or, same_from_bits}
+use Rattle.it_space.proofs.SetLemmas.{or_assoc}
 use Rattle.it_syntax.specs.declared.types.Symbol.TheVariants.{Comma}
 use Rattle.it_syntax.specs.Letters.{Letter, Word, Number, Sym, End, Bad}
 use Rattle.it_syntax.specs.declared.rest.Stop.{Stop}
@@ -15,9 +15,6 @@ use Rattle.it_syntax.specs.WrittenAtoms.{Environment, is_measure}
 -- what was read before, and what is still read
 abbrev pub with_set : ℕ → Reads ℕ → Reads ℕ
 with_set s r = r >>= λ x. Ok (bit_or s x.0, x.1)
-
-or_assoc : (a b c : ℕ) → bit_or (bit_or a b) c ≡ bit_or a (bit_or b c)
-or_assoc a b c = same_from_bits _ _ (λ i. simp bit_at_or (omega arith))
 
 -- nothing was read before
 pub with_none : (r : Reads ℕ) → with_set 0 r ≡ r
@@ -34,12 +31,12 @@ then_more env n = read_more env n.1 >>= λ m. Ok (bit_or (2 ^ n.0) m.0, m.1)
 comma_more : (env : Environment) (ls : List Letter) → read_more env (Sym Comma ∷ ls) ≡ (read_name env ls >>= then_more env)
 unfolding read_more read_name
 comma_more env [] = refl
-comma_more env (Word w ∷ ls) = one w (is_measure w) (env w) ls
+comma_more env (Word w ∷ ls) = by_name w (is_measure w) (env w) ls
   where
-    one : (w : List ℕ) (h : Bool) (o : Option ℕ) (ls : List Letter) → (variable_or_fault w h o ls >>= λ n. read_more env ls >>= λ m. Ok (bit_or (2 ^ n.0) m.0, m.1)) ≡ (variable_or_fault w h o ls >>= then_more env)
-    one w true o ls = refl
-    one w false None ls = refl
-    one w false (Some i) ls = refl
+    by_name : (w : List ℕ) (h : Bool) (o : Option ℕ) (ls : List Letter) → (variable_or_fault w h o ls >>= λ n. read_more env ls >>= λ m. Ok (bit_or (2 ^ n.0) m.0, m.1)) ≡ (variable_or_fault w h o ls >>= then_more env)
+    by_name w true o ls = refl
+    by_name w false None ls = refl
+    by_name w false (Some i) ls = refl
 comma_more env (Number n ∷ ls) = refl
 comma_more env (Sym s ∷ ls) = refl
 comma_more env (End ∷ ls) = refl

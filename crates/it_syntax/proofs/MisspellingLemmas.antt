@@ -80,11 +80,11 @@ wrong_body : (at : ℕ) (bytes : List ℕ) (m : Misspelling) (h : IsMisspellingA
 wrong_body at bytes m h = ap (λ (b : List ℕ). drop (length h.gap) b) h.whole ∙ drop_at h.gap h.body (length h.gap) refl
 
 blank_or_wrong : (at : ℕ) (bytes : List ℕ) (m : Misspelling) → IsMisspellingAt at bytes m → AreAll is_space bytes → ⊥
-blank_or_wrong at bytes m h k = none h.body (omega (arith, run_once is_space bytes (length h.gap) (length bytes) (wrong_run at bytes m h) (blank_run is_space bytes k), ap length h.whole, length-append h.gap h.body)) h.wrong
+blank_or_wrong at bytes m h k = not_wrong h.body (omega (arith, run_once is_space bytes (length h.gap) (length bytes) (wrong_run at bytes m h) (blank_run is_space bytes k), ap length h.whole, length-append h.gap h.body)) h.wrong
   where
-    none : (body : List ℕ) → length body ≡ 0 → IsWrong m.code body → ⊥
-    none [] e w = wrong_some m.code w
-    none (b ∷ body) e w = omega (arith, e)
+    not_wrong : (body : List ℕ) → length body ≡ 0 → IsWrong m.code body → ⊥
+    not_wrong [] e w = wrong_some m.code w
+    not_wrong (b ∷ body) e w = omega (arith, e)
 
 token_or_wrong : (at : ℕ) (bytes : List ℕ) (m : Misspelling) (t : Token) (rest : List ℕ) → IsMisspellingAt at bytes m → Cut at bytes t rest → ⊥
 token_or_wrong at bytes m t rest h c =
@@ -147,11 +147,11 @@ ends_wrong line so_far at g rest m run wrong column w =
       whole = sym (take-append-drop g rest);
       blank = run.all;
       wrong = wrong;
-      column = omega (arith, column, taken);
+      column = omega (arith, column, gap_length);
     }))
   where
-    taken : length (take g rest) ≡ g
-    taken = omega (arith, length-take g rest, run.within)
+    gap_length : length (take g rest) ≡ g
+    gap_length = omega (arith, length-take g rest, run.within)
 
 -- ---- places
 

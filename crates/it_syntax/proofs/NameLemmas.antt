@@ -15,11 +15,11 @@ place n m = cond (nat_lt n m) (Some n) None
 
 -- where none is found each fails
 pub nowhere_fails : (p : List ℕ → Bool) (xs : List (List ℕ)) (d : List ℕ) → position p xs ≡ None → (k : ℕ) → k < length xs → p (get_or xs k d) ≡ false
-nowhere_fails p xs d none k lt = fails_before_first p xs k d (past (nat_lt (position_or_len p xs) (length xs)) refl none)
+nowhere_fails p xs d none k lt = fails_before_first p xs k d (by_test (nat_lt (position_or_len p xs) (length xs)) refl none)
   where
-    past : (b : Bool) → nat_lt (position_or_len p xs) (length xs) ≡ b → cond b (Some (position_or_len p xs)) None ≡ None → k < position_or_len p xs
-    past true e h = absurd cc
-    past false e h = grind (arith, nat_tests)
+    by_test : (b : Bool) → nat_lt (position_or_len p xs) (length xs) ≡ b → cond b (Some (position_or_len p xs)) None ≡ None → k < position_or_len p xs
+    by_test true e h = absurd cc
+    by_test false e h = grind (arith, nat_tests)
 
 all_fail : (p : List ℕ → Bool) (xs : List (List ℕ)) → ((k : ℕ) → k < length xs → p (get_or xs k []) ≡ false) → AllByRecursion (λ y. p y ≡ false) xs
 all_fail p [] h = tt

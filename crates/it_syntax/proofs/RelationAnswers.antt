@@ -35,10 +35,10 @@ zero_answers s b [] free = answers_ok (term_of s b Zero) []
 zero_answers s b ((Word w, m) ∷ k) free = absurd free
 zero_answers s b (x ∷ k) free = answers_ok (term_of s b Zero) (x ∷ k)
 
-abbrev times : Bool → ℕ → Atom × List Letter → Reads Term
-times b n y = Ok (record { negative = b; number = n; atom = y.0 }, y.1)
+abbrev pub counted_reading : Bool → ℕ → Atom × List Letter → Reads Term
+counted_reading b n y = Ok (record { negative = b; number = n; atom = y.0 }, y.1)
 
-number_first : (s : Scope) (b : Bool) (n : ℕ) (q : WrittenQuantity) (k : MarkedLetters) → after_number s b n (letters (spell_quantity s q k)) ≡ (read_quantity s (letters (spell_quantity s q k)) >>= times b n)
+number_first : (s : Scope) (b : Bool) (n : ℕ) (q : WrittenQuantity) (k : MarkedLetters) → after_number s b n (letters (spell_quantity s q k)) ≡ (read_quantity s (letters (spell_quantity s q k)) >>= counted_reading b n)
 unfolding after_number
 number_first s b n (Measure (Entropy a)) k = refl
 number_first s b n (Measure (EntropyGiven a c)) k = refl
@@ -46,7 +46,7 @@ number_first s b n (Measure (Mutual a d)) k = refl
 number_first s b n (Measure (MutualGiven a d c)) k = refl
 number_first s b n (RateOf r) k = refl
 
-once_first : (s : Scope) (b : Bool) (q : WrittenQuantity) (k : MarkedLetters) → read_term s b (letters (spell_quantity s q k)) ≡ (read_quantity s (letters (spell_quantity s q k)) >>= times b 1)
+once_first : (s : Scope) (b : Bool) (q : WrittenQuantity) (k : MarkedLetters) → read_term s b (letters (spell_quantity s q k)) ≡ (read_quantity s (letters (spell_quantity s q k)) >>= counted_reading b 1)
 unfolding read_term
 once_first s b (Measure (Entropy a)) k = refl
 once_first s b (Measure (EntropyGiven a c)) k = refl
@@ -62,12 +62,12 @@ term_answers s b (Times n q) k free =
     let y = term_of s b (Times n q) in
     answers_cons (Number n) _ m y k
     (subst (λ (r : Reads Term). Answers r m y k) (sym (number_first s b n q k))
-    (answers_bind (read_quantity s (letters m)) (times b n) m k k (quantity_of s q) y (quantity_answers s q k) (answers_ok y k)))
+    (answers_bind (read_quantity s (letters m)) (counted_reading b n) m k k (quantity_of s q) y (quantity_answers s q k) (answers_ok y k)))
 term_answers s b (Once q) k free =
     let m = spell_quantity s q k in
     let y = term_of s b (Once q) in
     subst (λ (r : Reads Term). Answers r m y k) (sym (once_first s b q k))
-    (answers_bind (read_quantity s (letters m)) (times b 1) m k k (quantity_of s q) y (quantity_answers s q k) (answers_ok y k))
+    (answers_bind (read_quantity s (letters m)) (counted_reading b 1) m k k (quantity_of s q) y (quantity_answers s q k) (answers_ok y k))
 
 -- ---- terms one after the other
 
@@ -107,7 +107,7 @@ surplus_rate_answers : (w : List ℕ) (o : Option ℕ) (m k : MarkedLetters) (y 
 surplus_rate_answers w (Some i) m k y = surplus_marked (Word w) codes.Many m k y
 surplus_rate_answers w None m k y = surplus_marked (Word w) codes.Name m k y
 
-letters_over : (l : Letter) (c : Option Code) (m : MarkedLetters) → letters (mark_surplus ((l, c) ∷ m)) ≡ l ∷ letters m
+pub letters_over : (l : Letter) (c : Option Code) (m : MarkedLetters) → letters (mark_surplus ((l, c) ∷ m)) ≡ l ∷ letters m
 letters_over l None m = refl
 letters_over l (Some c) m = refl
 

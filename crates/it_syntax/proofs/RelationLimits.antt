@@ -5,7 +5,6 @@ use Rattle.std.proofs.lemmas.List.Elements.{All-nil, All-cons}
 use Rattle.std.proofs.lemmas.List.Quantifiers.{position-Some}
 use Rattle.it_syntax.specs.declared.types.Symbol.TheVariants.{Plus, Minus}
 use Rattle.it_syntax.specs.declared.types.Code.TheVariants as codes
-use Rattle.it_syntax.specs.declared.types.Atom.{Atom}
 use Rattle.it_syntax.specs.declared.types.Term.{Term}
 use Rattle.it_syntax.specs.Letters.{Letter, Word, Number, Sym, Bad}
 use Rattle.it_syntax.specs.Meaning.{RelationView, IsAtomOf}
@@ -18,6 +17,7 @@ use Rattle.it_syntax.specs.Lines.{to_end}
 use Rattle.it_syntax.specs.AtomReading.{Reads, ◌>>=◌, read_atom, read_sign, line_end}
 use Rattle.it_syntax.specs.RelationReading.{rate_or_fault, read_quantity, after_number, read_term, surplus_rate, read_surplus_term, read_terms, read_counted, read_sum, read_compare, read_relation}
 use Rattle.it_syntax.proofs.LimitLemmas.{Sure, sure_bind, Any, sure_any, Knows, HasSets, TermHasSets, AreFew, atom_sure, knows_names}
+use Rattle.it_syntax.proofs.RelationAnswers.{counted_reading}
 
 -- the names of a scope are those of n variables and m rates
 pub record Covers (s : Scope) (n m : ℕ) : Type 0 where
@@ -26,21 +26,18 @@ pub record Covers (s : Scope) (n m : ℕ) : Type 0 where
 
 quantity_sure : (s : Scope) (n m : ℕ) → Covers s n m → (ls : List Letter) → Sure (HasSets n m) (read_quantity s ls)
 unfolding read_quantity
-quantity_sure s n m k (Word w ∷ ls) = chosen (is_measure w) (s.rates w) (k.rates w)
+quantity_sure s n m k (Word w ∷ ls) = by_name (is_measure w) (s.rates w) (k.rates w)
   where
-    chosen : (b : Bool) (o : Option ℕ) → ((i : ℕ) → o ≡ Some i → i < m) → Sure (HasSets n m) (cond b (read_atom s.variables (Word w ∷ ls)) (rate_or_fault w o ls))
-    chosen true o h = atom_sure s.variables n m k.variables (Word w ∷ ls)
-    chosen false (Some i) h = h i refl
-    chosen false None h = tt
+    by_name : (b : Bool) (o : Option ℕ) → ((i : ℕ) → o ≡ Some i → i < m) → Sure (HasSets n m) (cond b (read_atom s.variables (Word w ∷ ls)) (rate_or_fault w o ls))
+    by_name true o h = atom_sure s.variables n m k.variables (Word w ∷ ls)
+    by_name false (Some i) h = h i refl
+    by_name false None h = tt
 quantity_sure s n m k [] = tt
 quantity_sure s n m k (Bad c ∷ ls) = tt
 quantity_sure s n m k (l ∷ ls) = tt
 
-abbrev counted_term : Bool → ℕ → Atom × List Letter → Reads Term
-counted_term b number a = Ok (record { negative = b; number = number; atom = a.0 }, a.1)
-
-counted_sure : (s : Scope) (n m : ℕ) → Covers s n m → (b : Bool) (number : ℕ) (ls : List Letter) → Sure (TermHasSets n m) (read_quantity s ls >>= counted_term b number)
-counted_sure s n m k b number ls = sure_bind (HasSets n m) (TermHasSets n m) (read_quantity s ls) (counted_term b number) (quantity_sure s n m k ls) (λ a ha. ha)
+counted_sure : (s : Scope) (n m : ℕ) → Covers s n m → (b : Bool) (number : ℕ) (ls : List Letter) → Sure (TermHasSets n m) (read_quantity s ls >>= counted_reading b number)
+counted_sure s n m k b number ls = sure_bind (HasSets n m) (TermHasSets n m) (read_quantity s ls) (counted_reading b number) (quantity_sure s n m k ls) (λ a ha. ha)
 
 after_number_sure : (s : Scope) (n m : ℕ) → Covers s n m → (b : Bool) (number : ℕ) (ls : List Letter) → Sure (TermHasSets n m) (after_number s b number ls)
 unfolding after_number
@@ -60,12 +57,12 @@ term_sure s n m k b (l ∷ ls) = counted_sure s n m k b 1 (l ∷ ls)
 surplus_term_sure : (P : List Term × List Letter → Type 0) (s : Scope) (ls : List Letter) → Sure P (read_surplus_term s ls)
 unfolding read_surplus_term
 surplus_term_sure P s (Number n ∷ ls) = tt
-surplus_term_sure P s (Word w ∷ ls) = chosen (is_measure w) (s.rates w)
+surplus_term_sure P s (Word w ∷ ls) = by_name (is_measure w) (s.rates w)
   where
-    chosen : (b : Bool) (o : Option ℕ) → Sure P (cond b (Err (codes.Many, Word w ∷ ls)) (surplus_rate w o ls))
-    chosen true o = tt
-    chosen false (Some i) = tt
-    chosen false None = tt
+    by_name : (b : Bool) (o : Option ℕ) → Sure P (cond b (Err (codes.Many, Word w ∷ ls)) (surplus_rate w o ls))
+    by_name true o = tt
+    by_name false (Some i) = tt
+    by_name false None = tt
 surplus_term_sure P s [] = tt
 surplus_term_sure P s (Bad c ∷ ls) = tt
 surplus_term_sure P s (l ∷ ls) = tt
@@ -105,11 +102,11 @@ relation_line_sure s n m k ls =
 -- a scope covers the names of its vocabulary
 pub scope_covers : (v : NamesView) (rates : Bool) → Covers (scope_of v rates) (length v.variables) (length v.rates)
 unfolding scope_of
-scope_covers v rates = record { variables = knows_names v; rates = λ w i. known w i rates }
+scope_covers v rates = record { variables = knows_names v; rates = λ w i. by_test w i rates }
   where
-    known : (w : List ℕ) (i : ℕ) (b : Bool) → cond b (index_of v.rates w) None ≡ Some i → i < length v.rates
-    known w i true e = (position-Some (bytes_eq w) v.rates i [] e).0
-    known w i false e = absurd cc
+    by_test : (w : List ℕ) (i : ℕ) (b : Bool) → cond b (index_of v.rates w) None ≡ Some i → i < length v.rates
+    by_test w i true e = (position-Some (bytes_eq w) v.rates i [] e).0
+    by_test w i false e = absurd cc
 
 -- a scope without rates covers none
 pub variables_covered : (v : NamesView) → Covers (scope_of v false) (length v.variables) 0
@@ -124,11 +121,11 @@ abbrev Limited : NamesView → RelationView × List Letter → Type 0
 Limited v y = IsRelationOf (length v.variables) (length v.rates) y.0
 
 relation_within : (v : NamesView) (rates : Bool) (ls : List Letter) → Sure (Limited v) (read_relation (scope_of v rates) ls)
-relation_within v rates ls = weaker (read_relation (scope_of v rates) ls) (relation_line_sure (scope_of v rates) (length v.variables) (length v.rates) (scope_covers v rates) ls)
+relation_within v rates ls = by_result (read_relation (scope_of v rates) ls) (relation_line_sure (scope_of v rates) (length v.variables) (length v.rates) (scope_covers v rates) ls)
   where
-    weaker : (r : Reads RelationView) → Sure (IsWithinLimits (length v.variables) (length v.rates)) r → Sure (Limited v) r
-    weaker (Ok y) h = record { few = h.0; left = h.1; right = h.2 }
-    weaker (Err f) h = tt
+    by_result : (r : Reads RelationView) → Sure (IsWithinLimits (length v.variables) (length v.rates)) r → Sure (Limited v) r
+    by_result (Ok y) h = record { few = h.0; left = h.1; right = h.2 }
+    by_result (Err f) h = tt
 
 -- a relation that is read up to its line's end keeps the limits
 pub relation_limited : (v : NamesView) (rates : Bool) (ls r : List Letter) (y : RelationView) → to_end (read_relation (scope_of v rates)) ls ≡ Ok (y, r) → IsRelationOf (length v.variables) (length v.rates) y

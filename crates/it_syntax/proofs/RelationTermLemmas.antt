@@ -1,6 +1,7 @@
 -- Terms one after the other, as a loop reads them.
 use Rattle.std.proofs.Common.{◌≡◌, ℕ, zero, suc, ◌-◌, ◌<◌, Bool, true, false, List, [], ◌∷◌, ◌++◌, Some, None, Ok, Err, refl, sym, ap, ◌∙◌, append_assoc, arith}
 use Rattle.std.proofs.lemmas.List.{append-nil}
+use Rattle.it_space.proofs.OptionLemmas.{some_same}
 use Rattle.it_syntax.specs.declared.types.Symbol.TheVariants.{Plus, Minus}
 use Rattle.it_syntax.specs.declared.types.Term.{Term}
 use Rattle.it_syntax.specs.declared.rest.Stop.{Stop}
@@ -11,32 +12,18 @@ use Rattle.it_syntax.specs.AtomReading.{Reads, ◌>>=◌}
 use Rattle.it_syntax.specs.ReaderSteps.{after_sign, with_terms}
 use Rattle.it_syntax.specs.RelationReading.{read_term, read_terms, read_surplus_term}
 use Rattle.it_syntax.specs.WrittenRelations.{Scope}
+use Rattle.it_syntax.proofs.RelationTraces.{term_more}
 
-abbrev one_more : ℕ → Scope → Bool → List Letter → Reads (List Term)
-one_more n scope b ls = read_term scope b ls >>= λ t. read_terms n scope t.1 >>= λ ts. Ok (t.0 ∷ ts.0, ts.1)
-
-sign_some : (n : ℕ) (scope : Scope) (ls t : List Letter) (b : Bool) → after_sign ls ≡ Some (b, t) → read_terms (suc n) scope ls ≡ one_more n scope b t
+sign_some : (n : ℕ) (scope : Scope) (ls t : List Letter) (b : Bool) → after_sign ls ≡ Some (b, t) → read_terms (suc n) scope ls ≡ term_more n scope b t
 unfolding read_terms
-sign_some n scope (Sym Plus ∷ ls) t b e = let p : (false, ls) ≡ (b, t) = some_is (false, ls) (b, t) e in ap (λ (x : Bool × List Letter). one_more n scope x.0 x.1) p
-  where
-    some_is : (x y : Bool × List Letter) → Some x ≡ Some y → x ≡ y
-    some_is x y e = cc
-sign_some n scope (Sym Minus ∷ ls) t b e = let p : (true, ls) ≡ (b, t) = some_is (true, ls) (b, t) e in ap (λ (x : Bool × List Letter). one_more n scope x.0 x.1) p
-  where
-    some_is : (x y : Bool × List Letter) → Some x ≡ Some y → x ≡ y
-    some_is x y e = cc
+sign_some n scope (Sym Plus ∷ ls) t b e = let p : (false, ls) ≡ (b, t) = some_same (false, ls) (b, t) e in ap (λ (x : Bool × List Letter). term_more n scope x.0 x.1) p
+sign_some n scope (Sym Minus ∷ ls) t b e = let p : (true, ls) ≡ (b, t) = some_same (true, ls) (b, t) e in ap (λ (x : Bool × List Letter). term_more n scope x.0 x.1) p
 sign_some n scope ls t b e = absurd cc
 
 sign_surplus : (scope : Scope) (ls t : List Letter) (b : Bool) → after_sign ls ≡ Some (b, t) → read_terms 0 scope ls ≡ read_surplus_term scope t
 unfolding read_terms
-sign_surplus scope (Sym Plus ∷ ls) t b e = let p : ls ≡ t = some_is (false, ls) (b, t) e in ap (read_surplus_term scope) p
-  where
-    some_is : (x y : Bool × List Letter) → Some x ≡ Some y → x.1 ≡ y.1
-    some_is x y e = let h : x ≡ y = cc in ap (λ (z : Bool × List Letter). z.1) h
-sign_surplus scope (Sym Minus ∷ ls) t b e = let p : ls ≡ t = some_is (true, ls) (b, t) e in ap (read_surplus_term scope) p
-  where
-    some_is : (x y : Bool × List Letter) → Some x ≡ Some y → x.1 ≡ y.1
-    some_is x y e = let h : x ≡ y = cc in ap (λ (z : Bool × List Letter). z.1) h
+sign_surplus scope (Sym Plus ∷ ls) t b e = let p : ls ≡ t = ap (λ (z : Bool × List Letter). z.1) (some_same (false, ls) (b, t) e) in ap (read_surplus_term scope) p
+sign_surplus scope (Sym Minus ∷ ls) t b e = let p : ls ≡ t = ap (λ (z : Bool × List Letter). z.1) (some_same (true, ls) (b, t) e) in ap (read_surplus_term scope) p
 sign_surplus scope ls t b e = absurd cc
 
 sign_none : (n : ℕ) (scope : Scope) (ls : List Letter) → after_sign ls ≡ None → read_terms n scope ls ≡ Ok ([], ls)

@@ -18,7 +18,7 @@ use Rattle.it_syntax.specs.WrittenAtoms.{Entropy, Mutual, TermSign, Positive, Ne
 use Rattle.it_syntax.specs.WrittenRelations.{Scope, WrittenQuantity, Measure, RateOf, WrittenTerm, Zero, Once, Times, WrittenSum, WrittenRelation, spell_quantity, spell_term, spell_terms, spell_counted, spell_sum, compare_letter, most_terms, spell_relation, quantity_of, term_of, terms_of, sum_of, relation_of}
 use Rattle.it_syntax.specs.AtomReading.{Reads, ◌>>=◌, read_atom, read_sign}
 use Rattle.it_syntax.specs.RelationReading.{rate_or_fault, read_quantity, after_number, read_term, surplus_rate, read_surplus_term, read_terms, read_counted, read_sum, read_compare, read_relation}
-use Rattle.it_syntax.proofs.Traces.{Went, Stuck, By, Traces, traces_bind, traces_map, letter_then, switch, by_renaming}
+use Rattle.it_syntax.proofs.Traces.{Went, Stuck, By, Traces, traces_bind, traces_map, letter_then, by_equal_reader, by_renaming}
 use Rattle.it_syntax.proofs.AtomTraces.{for_same_head, for_no_head, stuck_here, stuck_none, some_list}
 use Rattle.it_syntax.proofs.SideTraces.{atom_traces}
 
@@ -37,7 +37,7 @@ word_is s w h o eh eo ls = ap (λ (b : Bool). word_or_rate s w b (s.rates w) ls)
 quantity_by : (s : Scope) (w : List ℕ) (ls : List Letter) (h : Bool) (o : Option ℕ) → is_measure w ≡ h → s.rates w ≡ o → By (read_quantity s) (spell_quantity s) (quantity_of s) (Word w ∷ ls) (word_or_rate s w h o ls)
 quantity_by s w ls true o eh eo =
     by_renaming (read_quantity s) (spell_atom s.variables) (spell_quantity s) (atom_of s.variables) (quantity_of s) Measure (Word w ∷ ls) (λ z k. refl) (λ z. refl) (read_atom s.variables (Word w ∷ ls))
-    (switch (read_atom s.variables) (read_quantity s) (spell_atom s.variables) (atom_of s.variables) (Word w ∷ ls) (for_same_head (λ t. read_quantity s t ≡ read_atom s.variables t) (Word w) (word_is s w true o eh eo)) (read_atom s.variables (Word w ∷ ls)) (atom_traces s.variables (Word w ∷ ls)))
+    (by_equal_reader (read_atom s.variables) (read_quantity s) (spell_atom s.variables) (atom_of s.variables) (Word w ∷ ls) (for_same_head (λ t. read_quantity s t ≡ read_atom s.variables t) (Word w) (word_is s w true o eh eo)) (read_atom s.variables (Word w ∷ ls)) (atom_traces s.variables (Word w ∷ ls)))
 quantity_by s w ls false (Some i) eh eo = record {
   tree = RateOf (record { text = w; is_name = eh });
   front = Word w ∷ [];
@@ -65,10 +65,10 @@ quantity_traces s (l ∷ ls) = stuck_here (read_quantity s) (spell_quantity s) s
 abbrev counted_term : Bool → ℕ → Atom → Term
 counted_term b n a = record { negative = b; number = n; atom = a }
 
-abbrev times : Scope → Bool → ℕ → List Letter → Reads Term
-times s b n ls = read_quantity s ls >>= λ a. Ok (counted_term b n a.0, a.1)
+abbrev read_times : Scope → Bool → ℕ → List Letter → Reads Term
+read_times s b n ls = read_quantity s ls >>= λ a. Ok (counted_term b n a.0, a.1)
 
-times_traces : (s : Scope) (b : Bool) (n : ℕ) → Traces (times s b n) (spell_quantity s) (λ x. counted_term b n (quantity_of s x))
+times_traces : (s : Scope) (b : Bool) (n : ℕ) → Traces (read_times s b n) (spell_quantity s) (λ x. counted_term b n (quantity_of s x))
 times_traces s b n = traces_map (read_quantity s) (counted_term b n) (spell_quantity s) (quantity_of s) (quantity_traces s)
 
 -- behind a number
@@ -76,9 +76,9 @@ number_then : (s : Scope) (b : Bool) (n : ℕ) (ls : List Letter) → By (after_
 unfolding read_term
 number_then s b n ls h = letter_then (read_term s b) (after_number s b n) (Number n) (spell_quantity s) (spell_term s) (λ x. counted_term b n (quantity_of s x)) (term_of s b) (Times n) ls (λ t. refl) (λ z k. refl) (λ z. refl) (after_number s b n ls) h
 
-number_word : (s : Scope) (b : Bool) (n : ℕ) (w : List ℕ) (ls : List Letter) → By (after_number s b n) (spell_quantity s) (λ x. counted_term b n (quantity_of s x)) (Word w ∷ ls) (times s b n (Word w ∷ ls))
+number_word : (s : Scope) (b : Bool) (n : ℕ) (w : List ℕ) (ls : List Letter) → By (after_number s b n) (spell_quantity s) (λ x. counted_term b n (quantity_of s x)) (Word w ∷ ls) (read_times s b n (Word w ∷ ls))
 unfolding after_number
-number_word s b n w ls = switch (times s b n) (after_number s b n) (spell_quantity s) (λ x. counted_term b n (quantity_of s x)) (Word w ∷ ls) (for_same_head (λ t. after_number s b n t ≡ times s b n t) (Word w) (λ t. refl)) (times s b n (Word w ∷ ls)) (times_traces s b n (Word w ∷ ls))
+number_word s b n w ls = by_equal_reader (read_times s b n) (after_number s b n) (spell_quantity s) (λ x. counted_term b n (quantity_of s x)) (Word w ∷ ls) (for_same_head (λ t. after_number s b n t ≡ read_times s b n t) (Word w) (λ t. refl)) (read_times s b n (Word w ∷ ls)) (times_traces s b n (Word w ∷ ls))
 
 zero_alone : (s : Scope) (b : Bool) (ls : List Letter) → ((t : List Letter) → head t ≡ head ls → read_term s b (Number 0 ∷ t) ≡ Ok (term_of s b Zero, t)) → Went (read_term s b) (spell_term s) (term_of s b) (Number 0 ∷ ls) (term_of s b Zero) ls
 zero_alone s b ls h = record { tree = Zero; front = Number 0 ∷ []; value = refl; parts = refl; spells = λ k. refl; stays = h }
@@ -107,8 +107,8 @@ term_traces s b (Number (suc n) ∷ []) = record {
 term_traces s b (Number (suc n) ∷ l ∷ ls) = no_quantity s b (suc n) l ls _ (λ t. refl) refl
 term_traces s b [] = stuck_none (read_term s b) (spell_term s) Zero refl
 term_traces s b (Word w ∷ ls) =
-    by_renaming (read_term s b) (spell_quantity s) (spell_term s) (λ x. counted_term b 1 (quantity_of s x)) (term_of s b) Once (Word w ∷ ls) (λ z k. refl) (λ z. refl) (times s b 1 (Word w ∷ ls))
-    (switch (times s b 1) (read_term s b) (spell_quantity s) (λ x. counted_term b 1 (quantity_of s x)) (Word w ∷ ls) (for_same_head (λ t. read_term s b t ≡ times s b 1 t) (Word w) (λ t. refl)) (times s b 1 (Word w ∷ ls)) (times_traces s b 1 (Word w ∷ ls)))
+    by_renaming (read_term s b) (spell_quantity s) (spell_term s) (λ x. counted_term b 1 (quantity_of s x)) (term_of s b) Once (Word w ∷ ls) (λ z k. refl) (λ z. refl) (read_times s b 1 (Word w ∷ ls))
+    (by_equal_reader (read_times s b 1) (read_term s b) (spell_quantity s) (λ x. counted_term b 1 (quantity_of s x)) (Word w ∷ ls) (for_same_head (λ t. read_term s b t ≡ read_times s b 1 t) (Word w) (λ t. refl)) (read_times s b 1 (Word w ∷ ls)) (times_traces s b 1 (Word w ∷ ls)))
 term_traces s b (l ∷ ls) = stuck_here (read_term s b) (spell_term s) Zero l ls _ (λ t. refl) refl
 
 -- ---- terms one after the other
@@ -120,7 +120,7 @@ abbrev Terms : Type 0
 Terms = WrittenTerm × Further
 
 -- a term, and the terms behind it
-abbrev term_more : ℕ → Scope → Bool → List Letter → Reads (List Term)
+abbrev pub term_more : ℕ → Scope → Bool → List Letter → Reads (List Term)
 term_more n s b ls = read_term s b ls >>= λ t. read_terms n s t.1 >>= λ ts. Ok (t.0 ∷ ts.0, ts.1)
 
 abbrev spell_term_more : ℕ → Scope → Terms → MarkedLetters → MarkedLetters
@@ -209,15 +209,15 @@ spell_first n s t k = spell_counted n s t.0 t.1 k
 counted_traces : (n : ℕ) (s : Scope) (b : Bool) → Traces (read_counted n s b) (spell_first n s) (term_more_of s b)
 unfolding read_counted
 counted_traces zero s b ls = by_renaming (read_counted zero s b) (spell_surplus_term s) (spell_first zero s) (term_more_of s b) (term_more_of s b) (λ t. t) ls (λ z k. refl) (λ z. refl) (read_surplus_term s ls)
-    (switch (read_surplus_term s) (read_counted zero s b) (spell_surplus_term s) (term_more_of s b) ls (λ t e. refl) (read_surplus_term s ls) (surplus_term_traces s b ls))
+    (by_equal_reader (read_surplus_term s) (read_counted zero s b) (spell_surplus_term s) (term_more_of s b) ls (λ t e. refl) (read_surplus_term s ls) (surplus_term_traces s b ls))
 counted_traces (suc n) s b ls = by_renaming (read_counted (suc n) s b) (spell_term_more n s) (spell_first (suc n) s) (term_more_of s b) (term_more_of s b) (λ t. t) ls (λ z k. refl) (λ z. refl) (term_more n s b ls)
-    (switch (term_more n s b) (read_counted (suc n) s b) (spell_term_more n s) (term_more_of s b) ls (λ t e. refl) (term_more n s b ls) (term_more_traces n s b (terms_traces n s) ls))
+    (by_equal_reader (term_more n s b) (read_counted (suc n) s b) (spell_term_more n s) (term_more_of s b) ls (λ t e. refl) (term_more n s b ls) (term_more_traces n s b (terms_traces n s) ls))
 
 abbrev sum_made : Option TermSign → Terms → WrittenSum
 sum_made o t = record { sign = o; first = t.0; more = t.1 }
 
 sum_without_sign : (n : ℕ) (s : Scope) (ls : List Letter) → ((t : List Letter) → head t ≡ head ls → read_sum n s t ≡ read_counted n s false t) → By (read_sum n s) (spell_sum n s) (sum_of s) ls (read_counted n s false ls)
-sum_without_sign n s ls h = switch (read_counted n s false) (read_sum n s) (spell_sum n s) (sum_of s) ls h (read_counted n s false ls)
+sum_without_sign n s ls h = by_equal_reader (read_counted n s false) (read_sum n s) (spell_sum n s) (sum_of s) ls h (read_counted n s false ls)
     (by_renaming (read_counted n s false) (spell_first n s) (spell_sum n s) (term_more_of s false) (sum_of s) (sum_made None) ls (λ z k. refl) (λ z. refl) (read_counted n s false ls) (counted_traces n s false ls))
 
 sum_traces : (n : ℕ) (s : Scope) → Traces (read_sum n s) (spell_sum n s) (sum_of s)

@@ -55,11 +55,11 @@ value_end n (d ∷ ds) = value_end n ds
 -- only digits have a value
 pub value_digits : (n : ℕ) (ds : List ℕ) (v : ℕ) → value_from n ds ≡ Some v → AreAll is_ascii_digit ds
 value_digits n [] v e = tt
-value_digits n (d ∷ ds) v e = by (is_ascii_digit d) refl e (value_digits (10 * n + (d - 48)) ds v)
+value_digits n (d ∷ ds) v e = by_test (is_ascii_digit d) refl e (value_digits (10 * n + (d - 48)) ds v)
   where
-    by : (b : Bool) → is_ascii_digit d ≡ b → cond b (value_from (10 * n + (d - 48)) ds) None ≡ Some v → (value_from (10 * n + (d - 48)) ds ≡ Some v → AreAll is_ascii_digit ds) → AreAll is_ascii_digit (d ∷ ds)
-    by true is h more = (is, more h)
-    by false is h more = absurd cc
+    by_test : (b : Bool) → is_ascii_digit d ≡ b → cond b (value_from (10 * n + (d - 48)) ds) None ≡ Some v → (value_from (10 * n + (d - 48)) ds ≡ Some v → AreAll is_ascii_digit ds) → AreAll is_ascii_digit (d ∷ ds)
+    by_test true is h more = (is, more h)
+    by_test false is h more = absurd cc
 
 -- digits have a value
 pub digits_value : (n : ℕ) (ds : List ℕ) → AreAll is_ascii_digit ds → (v : ℕ) × (value_from n ds ≡ Some v)

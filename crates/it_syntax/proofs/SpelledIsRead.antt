@@ -148,16 +148,16 @@ mutual_information_then env a b s n k free g =
     (answers_bind (read_given_set env (letters n)) (λ c. Ok (atoms.Mutual x (list_set env b) c.0, c.1)) n k k s y g (answers_ok y k))))
 
 -- behind `H (` and `I (`
-behind : {A : Type 0} (w l : Letter) (r : Reads A) (m : MarkedLetters) (x : A) (k : MarkedLetters) → Answers r m x k → Answers r (without_mark w ∷ without_mark l ∷ m) x k
-behind w l r m x k a = answers_cons w r (without_mark l ∷ m) x k (answers_cons l r m x k a)
+behind_two_letters : {A : Type 0} (w l : Letter) (r : Reads A) (m : MarkedLetters) (x : A) (k : MarkedLetters) → Answers r m x k → Answers r (without_mark w ∷ without_mark l ∷ m) x k
+behind_two_letters w l r m x k a = answers_cons w r (without_mark l ∷ m) x k (answers_cons l r m x k a)
 
 -- an entropy or a mutual information
 pub atom_answers : (env : Environment) (x : WrittenAtom) (k : MarkedLetters) → Answers (read_atom env (letters (spell_atom env x k))) (spell_atom env x k) (atom_of env x) k
 unfolding read_atom
-atom_answers env (Entropy a) k = behind (Word entropy_text) (Sym LeftParen) _ _ _ k (entropy_then env a 0 (without_mark (Sym RightParen) ∷ k) k tt (given_none env k))
-atom_answers env (EntropyGiven a c) k = behind (Word entropy_text) (Sym LeftParen) _ _ _ k (entropy_then env a (list_set env c) (without_mark (Sym Bar) ∷ spell_list env c (without_mark (Sym RightParen) ∷ k)) k tt (given_some env c k))
-atom_answers env (Mutual a b) k = behind (Word mutual_text) (Sym LeftParen) _ _ _ k (mutual_information_then env a b 0 (without_mark (Sym RightParen) ∷ k) k tt (given_none env k))
-atom_answers env (MutualGiven a b c) k = behind (Word mutual_text) (Sym LeftParen) _ _ _ k (mutual_information_then env a b (list_set env c) (without_mark (Sym Bar) ∷ spell_list env c (without_mark (Sym RightParen) ∷ k)) k tt (given_some env c k))
+atom_answers env (Entropy a) k = behind_two_letters (Word entropy_text) (Sym LeftParen) _ _ _ k (entropy_then env a 0 (without_mark (Sym RightParen) ∷ k) k tt (given_none env k))
+atom_answers env (EntropyGiven a c) k = behind_two_letters (Word entropy_text) (Sym LeftParen) _ _ _ k (entropy_then env a (list_set env c) (without_mark (Sym Bar) ∷ spell_list env c (without_mark (Sym RightParen) ∷ k)) k tt (given_some env c k))
+atom_answers env (Mutual a b) k = behind_two_letters (Word mutual_text) (Sym LeftParen) _ _ _ k (mutual_information_then env a b 0 (without_mark (Sym RightParen) ∷ k) k tt (given_none env k))
+atom_answers env (MutualGiven a b c) k = behind_two_letters (Word mutual_text) (Sym LeftParen) _ _ _ k (mutual_information_then env a b (list_set env c) (without_mark (Sym Bar) ∷ spell_list env c (without_mark (Sym RightParen) ∷ k)) k tt (given_some env c k))
 
 -- behind an optional sign
 pub sign_answers : {A : Type 0} (o : Option TermSign) (r : Reads A) (m : MarkedLetters) (x : A) (k : MarkedLetters) → Answers r m x k → Answers r (spell_sign o m) x k

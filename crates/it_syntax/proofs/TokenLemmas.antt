@@ -284,14 +284,14 @@ one_cut at bytes g t u r s run c d =
 
 -- a token has bytes
 pub shape_some : (k : TokenKind) (n : ℕ) (body : List ℕ) → IsTokenFront k n body → 0 < n
-shape_some k n body h = some k n (take n body) (shape_text k n body h).0 (omega (arith, length-take n body, (shape_text k n body h).1.1))
+shape_some k n body h = text_some k n (take n body) (shape_text k n body h).0 (omega (arith, length-take n body, (shape_text k n body h).1.1))
   where
-    some : (k : TokenKind) (n : ℕ) (text : List ℕ) → IsText k text → length text ≡ n → 0 < n
-    some kinds.Word n [] t e = elim (t.0) [ ]
-    some kinds.Word n (b ∷ text) t e = omega (arith, e)
-    some (kinds.Number v) n [] t e = elim (t.0) [ ]
-    some (kinds.Number v) n (b ∷ text) t e = omega (arith, e)
-    some (kinds.Symbol s) n text t e = omega (arith, e, ap length t, symbol_some s)
+    text_some : (k : TokenKind) (n : ℕ) (text : List ℕ) → IsText k text → length text ≡ n → 0 < n
+    text_some kinds.Word n [] t e = elim (t.0) [ ]
+    text_some kinds.Word n (b ∷ text) t e = omega (arith, e)
+    text_some (kinds.Number v) n [] t e = elim (t.0) [ ]
+    text_some (kinds.Number v) n (b ∷ text) t e = omega (arith, e)
+    text_some (kinds.Symbol s) n text t e = omega (arith, e, ap length t, symbol_some s)
       where
         symbol_some : (s : Symbol) → 0 < length (symbol_text s)
         symbol_some LeftParen = omega arith

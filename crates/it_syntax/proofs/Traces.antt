@@ -125,8 +125,8 @@ letter_then f g l spell_z spell_x res_z res_x make ls is spells value (Err x) w 
 }
 
 -- A reader that is another one where the letters begin so.
-pub switch : {A X : Type 0} (f g : List Letter → Reads A) (spell : X → MarkedLetters → MarkedLetters) (res : X → A) (ls : List Letter) → ((s : List Letter) → head s ≡ head ls → g s ≡ f s) → (t : Reads A) → By f spell res ls t → By g spell res ls t
-switch f g spell res ls same (Ok x) w = record {
+pub by_equal_reader : {A X : Type 0} (f g : List Letter → Reads A) (spell : X → MarkedLetters → MarkedLetters) (res : X → A) (ls : List Letter) → ((s : List Letter) → head s ≡ head ls → g s ≡ f s) → (t : Reads A) → By f spell res ls t → By g spell res ls t
+by_equal_reader f g spell res ls same (Ok x) w = record {
   tree = w.tree;
   front = w.front;
   value = w.value;
@@ -134,7 +134,7 @@ switch f g spell res ls same (Ok x) w = record {
   spells = w.spells;
   stays = λ s e. same (w.front ++ s) (head_same w.front s x.1 e ∙ ap head (sym w.parts)) ∙ w.stays s e;
 }
-switch f g spell res ls same (Err x) w = record {
+by_equal_reader f g spell res ls same (Err x) w = record {
   tree = w.tree;
   front = w.front;
   parts = w.parts;

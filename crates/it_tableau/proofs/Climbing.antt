@@ -28,13 +28,13 @@ climbs_more from c (t ∷ ts) v n w h = (h.0, h.1, h.2, climbs_more (suc t.0) c 
 -- the number of a row with one term more
 pub number_more : (from c : ℕ) (out : RowTerms) (x : Rational) (k : ℕ) → Climbs from c out → entry_in (out ++ (c, x) ∷ []) k ≡ cond (eqb c k) x (entry_in out k)
 number_more from c [] x k h = refl
-number_more from c (t ∷ ts) x k h = split (cases_eq t.0 k) (number_more (suc t.0) c ts x k h.3) (climbs_upto (suc t.0) c ts h.3)
+number_more from c (t ∷ ts) x k h = by_cases (cases_eq t.0 k) (number_more (suc t.0) c ts x k h.3) (climbs_upto (suc t.0) c ts h.3)
   where
-    split : (t.0 ≡ k) ⊎ (t.0 ≡ k → ⊥) → entry_in (ts ++ (c, x) ∷ []) k ≡ cond (eqb c k) x (entry_in ts k) → suc t.0 ≤ c
+    by_cases : (t.0 ≡ k) ⊎ (t.0 ≡ k → ⊥) → entry_in (ts ++ (c, x) ∷ []) k ≡ cond (eqb c k) x (entry_in ts k) → suc t.0 ≤ c
         → cond (eqb t.0 k) t.1 (entry_in (ts ++ (c, x) ∷ []) k) ≡ cond (eqb c k) x (cond (eqb t.0 k) t.1 (entry_in ts k))
-    split (inl b) ih l = ap (λ b. cond b t.1 (entry_in (ts ++ (c, x) ∷ []) k)) (eq-eqb t.0 k b)
+    by_cases (inl b) ih l = ap (λ b. cond b t.1 (entry_in (ts ++ (c, x) ∷ []) k)) (eq-eqb t.0 k b)
         ∙ sym (ap₂ (λ b d. cond b x (cond d t.1 (entry_in ts k))) (ne_eqb c k (λ z. omega (arith, b, l, z))) (eq-eqb t.0 k b))
-    split (inr b) ih l = ap (λ b. cond b t.1 (entry_in (ts ++ (c, x) ∷ []) k)) (ne_eqb t.0 k b) ∙ ih
+    by_cases (inr b) ih l = ap (λ b. cond b t.1 (entry_in (ts ++ (c, x) ∷ []) k)) (ne_eqb t.0 k b) ∙ ih
         ∙ ap (λ d. cond (eqb c k) x (cond d t.1 (entry_in ts k))) (sym (ne_eqb t.0 k b))
 
 -- below its first column a row has no number
@@ -45,8 +45,8 @@ climbs_below from to (t ∷ ts) k a l = ap (λ b. cond b t.1 (entry_in ts k)) (n
 -- each number is within the limit
 pub climbs_narrow : (from to : ℕ) (ts : RowTerms) (k : ℕ) → Climbs from to ts → IsNarrow (entry_in ts k)
 climbs_narrow from to [] k a = zero_narrow
-climbs_narrow from to (t ∷ ts) k a = split (eqb t.0 k) (climbs_narrow (suc t.0) to ts k a.3)
+climbs_narrow from to (t ∷ ts) k a = by_test (eqb t.0 k) (climbs_narrow (suc t.0) to ts k a.3)
   where
-    split : (b : Bool) → IsNarrow (entry_in ts k) → IsNarrow (cond b t.1 (entry_in ts k))
-    split true n = a.2
-    split false n = n
+    by_test : (b : Bool) → IsNarrow (entry_in ts k) → IsNarrow (cond b t.1 (entry_in ts k))
+    by_test true n = a.2
+    by_test false n = n

@@ -48,21 +48,21 @@ row_lists w ts right a =
 
 -- a row that was built column by column
 pub row_shows : (f : ℕ → Rational) (F : ℕ → Type 0) (w : ℕ) (ts : RowTerms) (right : Rational) → IsBuilt f F w ts → right ≡ f w → ListsValues f (w + 1) (dense_row w ts right)
-row_shows f F w ts right b e = record { length_is = row_length w ts right; entries = λ j l. split j l (cases_lt j w) }
+row_shows f F w ts right b e = record { length_is = row_length w ts right; entries = λ j l. by_cases j l (cases_lt j w) }
   where
-    split : (j : ℕ) → j < w + 1 → (j < w) ⊎ (w ≤ j) → entry_at (dense_row w ts right) j ≡ f j
-    split j l (inl h) = row_entry w ts right j h ∙ b.entries j h
-    split j l (inr h) = let same : j ≡ w = omega (arith, l, h) in row_end w ts right j same ∙ e ∙ ap f (sym same)
+    by_cases : (j : ℕ) → j < w + 1 → (j < w) ⊎ (w ≤ j) → entry_at (dense_row w ts right) j ≡ f j
+    by_cases j l (inl h) = row_entry w ts right j h ∙ b.entries j h
+    by_cases j l (inr h) = let same : j ≡ w = omega (arith, l, h) in row_end w ts right j same ∙ e ∙ ap f (sym same)
 
 module _ (w : ℕ) (old by : RowTerms) (r s : Rational) where
   -- the entries of both rows in a column
   module _ (q : Rational) where
     pub row_fits : MergeFits old by q → EntryFits r s q → RowFits (dense_row w old r) (dense_row w by s) q
-    row_fits m e j l = split (cases_lt j w)
+    row_fits m e j l = by_cases (cases_lt j w)
       where
-        split : (j < w) ⊎ (w ≤ j) → EntryFits (entry_at (dense_row w old r) j) (entry_at (dense_row w by s) j) q
-        split (inl h) = subst (λ (x : Rational). EntryFits x (entry_at (dense_row w by s) j) q) (sym (row_entry w old r j h)) (subst (λ (y : Rational). EntryFits (entry_in old j) y q) (sym (row_entry w by s j h)) (m j))
-        split (inr h) =
+        by_cases : (j < w) ⊎ (w ≤ j) → EntryFits (entry_at (dense_row w old r) j) (entry_at (dense_row w by s) j) q
+        by_cases (inl h) = subst (λ (x : Rational). EntryFits x (entry_at (dense_row w by s) j) q) (sym (row_entry w old r j h)) (subst (λ (y : Rational). EntryFits (entry_in old j) y q) (sym (row_entry w by s j h)) (m j))
+        by_cases (inr h) =
             let same : j ≡ w = (let n = row_length w old r in omega (arith, l, h, n)) in
             subst (λ (x : Rational). EntryFits x (entry_at (dense_row w by s) j) q) (sym (row_end w old r j same)) (subst (λ (y : Rational). EntryFits r y q) (sym (row_end w by s j same)) e)
 
@@ -71,32 +71,32 @@ module _ (w : ℕ) (old by : RowTerms) (r s : Rational) where
         (f w (let n = row_length w old r in omega (arith, n))))
 
     pub terms_fit : Climbs 0 w old → Climbs 0 w by → RowFits (dense_row w old r) (dense_row w by s) q → MergeFits old by q
-    terms_fit a b f j = split (cases_lt j w)
+    terms_fit a b f j = by_cases (cases_lt j w)
       where
-        split : (j < w) ⊎ (w ≤ j) → EntryFits (entry_in old j) (entry_in by j) q
-        split (inl h) = subst (λ (x : Rational). EntryFits x (entry_in by j) q) (row_entry w old r j h) (subst (λ (y : Rational). EntryFits (entry_at (dense_row w old r) j) y q) (row_entry w by s j h)
+        by_cases : (j < w) ⊎ (w ≤ j) → EntryFits (entry_in old j) (entry_in by j) q
+        by_cases (inl h) = subst (λ (x : Rational). EntryFits x (entry_in by j) q) (row_entry w old r j h) (subst (λ (y : Rational). EntryFits (entry_at (dense_row w old r) j) y q) (row_entry w by s j h)
             (f j (let n = row_length w old r in omega (arith, n, h))))
-        split (inr h) = (difference_of_null_entry (entry_in old j) (entry_in by j) q (subst IsNarrow (sym (climbs_none 0 w old j a h)) zero_narrow) (climbs_none 0 w by j b h)).0
+        by_cases (inr h) = (difference_of_null_entry (entry_in old j) (entry_in by j) q (subst IsNarrow (sym (climbs_none 0 w old j a h)) zero_narrow) (climbs_none 0 w by j b h)).0
 
     pub row_reduced : (out : RowTerms) (right : Rational) → AreMerged old by q w out → right ≡ plus r (minus (times s q)) → IsReduced (dense_row w old r) (dense_row w by s) q (dense_row w out right)
     row_reduced out right m e = record {
       same_length = row_length w out right ∙ sym (row_length w old r);
-      entries = λ j l. split j (let n = row_length w old r in omega (arith, l, n)) (cases_lt j w);
+      entries = λ j l. by_cases j (let n = row_length w old r in omega (arith, l, n)) (cases_lt j w);
     }
       where
-        split : (j : ℕ) → j < w + 1 → (j < w) ⊎ (w ≤ j) → entry_at (dense_row w out right) j ≡ plus (entry_at (dense_row w old r) j) (minus (times (entry_at (dense_row w by s) j) q))
-        split j l (inl h) = row_entry w out right j h ∙ m.entries j ∙ sym (ap₂ (λ x y. plus x (minus (times y q))) (row_entry w old r j h) (row_entry w by s j h))
-        split j l (inr h) = let same : j ≡ w = omega (arith, l, h) in
+        by_cases : (j : ℕ) → j < w + 1 → (j < w) ⊎ (w ≤ j) → entry_at (dense_row w out right) j ≡ plus (entry_at (dense_row w old r) j) (minus (times (entry_at (dense_row w by s) j) q))
+        by_cases j l (inl h) = row_entry w out right j h ∙ m.entries j ∙ sym (ap₂ (λ x y. plus x (minus (times y q))) (row_entry w old r j h) (row_entry w by s j h))
+        by_cases j l (inr h) = let same : j ≡ w = omega (arith, l, h) in
             row_end w out right j same ∙ e ∙ sym (ap₂ (λ x y. plus x (minus (times y q))) (row_end w old r j same) (row_end w by s j same))
 
 -- a row with entry 0 in the column stays as it is
 module _ (w : ℕ) (ts : RowTerms) (right : Rational) (a : Climbs 0 w ts) (n : IsNarrow right) where
   entry_narrow : (j : ℕ) → j < length (dense_row w ts right) → IsNarrow (entry_at (dense_row w ts right) j)
-  entry_narrow j l = split (cases_lt j w)
+  entry_narrow j l = by_cases (cases_lt j w)
     where
-      split : (j < w) ⊎ (w ≤ j) → IsNarrow (entry_at (dense_row w ts right) j)
-      split (inl h) = subst IsNarrow (sym (row_entry w ts right j h)) (climbs_narrow 0 w ts j a)
-      split (inr h) = subst IsNarrow (sym (row_end w ts right j (let n = row_length w ts right in omega (arith, l, h, n)))) n
+      by_cases : (j < w) ⊎ (w ≤ j) → IsNarrow (entry_at (dense_row w ts right) j)
+      by_cases (inl h) = subst IsNarrow (sym (row_entry w ts right j h)) (climbs_narrow 0 w ts j a)
+      by_cases (inr h) = subst IsNarrow (sym (row_end w ts right j (let n = row_length w ts right in omega (arith, l, h, n)))) n
 
   module _ (by : List Rational) (c : ℕ) (p : Rational) (none : entry_at (dense_row w ts right) c ≡ integer (pos 0)) where
     pub row_without_entry_fits : RowStepFits (dense_row w ts right) by c p
@@ -113,31 +113,31 @@ module _ (w : ℕ) (ts : RowTerms) (right : Rational) (a : Climbs 0 w ts) (n : I
 
 module _ (w : ℕ) (old : RowTerms) (r p : Rational) where
   pub row_quotients_fit : TermQuotientsFit old p → QuotientFits r p → RowQuotientsFit (dense_row w old r) p
-  row_quotients_fit m e j l = split (cases_lt j w)
+  row_quotients_fit m e j l = by_cases (cases_lt j w)
     where
-      split : (j < w) ⊎ (w ≤ j) → QuotientFits (entry_at (dense_row w old r) j) p
-      split (inl h) = subst (λ (x : Rational). QuotientFits x p) (sym (row_entry w old r j h)) (m j)
-      split (inr h) = subst (λ (x : Rational). QuotientFits x p) (sym (row_end w old r j (let n = row_length w old r in omega (arith, l, h, n)))) e
+      by_cases : (j < w) ⊎ (w ≤ j) → QuotientFits (entry_at (dense_row w old r) j) p
+      by_cases (inl h) = subst (λ (x : Rational). QuotientFits x p) (sym (row_entry w old r j h)) (m j)
+      by_cases (inr h) = subst (λ (x : Rational). QuotientFits x p) (sym (row_end w old r j (let n = row_length w old r in omega (arith, l, h, n)))) e
 
   pub right_quotient_fits : RowQuotientsFit (dense_row w old r) p → QuotientFits r p
   right_quotient_fits f = subst (λ (x : Rational). QuotientFits x p) (row_end w old r w refl) (f w (let n = row_length w old r in omega (arith, n)))
 
   pub term_quotients_fit : Climbs 0 w old → RowQuotientsFit (dense_row w old r) p → TermQuotientsFit old p
-  term_quotients_fit a f j = split (cases_lt j w)
+  term_quotients_fit a f j = by_cases (cases_lt j w)
     where
-      split : (j < w) ⊎ (w ≤ j) → QuotientFits (entry_in old j) p
-      split (inl h) = subst (λ (x : Rational). QuotientFits x p) (row_entry w old r j h) (f j (let n = row_length w old r in omega (arith, n, h)))
-      split (inr h) = (quotient_of_null (entry_in old j) p (climbs_none 0 w old j a h)).0
+      by_cases : (j < w) ⊎ (w ≤ j) → QuotientFits (entry_in old j) p
+      by_cases (inl h) = subst (λ (x : Rational). QuotientFits x p) (row_entry w old r j h) (f j (let n = row_length w old r in omega (arith, n, h)))
+      by_cases (inr h) = (quotient_of_null (entry_in old j) p (climbs_none 0 w old j a h)).0
 
   pub row_divided : (out : RowTerms) (right : Rational) → AreDivided old p w out → right ≡ times r (inverse p) → IsDivided (dense_row w old r) p (dense_row w out right)
   row_divided out right m e = record {
     same_length = row_length w out right ∙ sym (row_length w old r);
-    entries = λ j l. split j (let n = row_length w old r in omega (arith, l, n)) (cases_lt j w);
+    entries = λ j l. by_cases j (let n = row_length w old r in omega (arith, l, n)) (cases_lt j w);
   }
     where
-      split : (j : ℕ) → j < w + 1 → (j < w) ⊎ (w ≤ j) → entry_at (dense_row w out right) j ≡ times (entry_at (dense_row w old r) j) (inverse p)
-      split j l (inl h) = row_entry w out right j h ∙ m.entries j ∙ ap (λ x. times x (inverse p)) (sym (row_entry w old r j h))
-      split j l (inr h) = let same : j ≡ w = omega (arith, l, h) in row_end w out right j same ∙ e ∙ ap (λ x. times x (inverse p)) (sym (row_end w old r j same))
+      by_cases : (j : ℕ) → j < w + 1 → (j < w) ⊎ (w ≤ j) → entry_at (dense_row w out right) j ≡ times (entry_at (dense_row w old r) j) (inverse p)
+      by_cases j l (inl h) = row_entry w out right j h ∙ m.entries j ∙ ap (λ x. times x (inverse p)) (sym (row_entry w old r j h))
+      by_cases j l (inr h) = let same : j ≡ w = omega (arith, l, h) in row_end w out right j same ∙ e ∙ ap (λ x. times x (inverse p)) (sym (row_end w old r j same))
 
 -- a step on the rows that contracts see
 module _ (w : ℕ) (old by : RowTerms) (r s : Rational) (seen seen_by : List Rational) (f : dense_row w old r ≡ seen) (g : dense_row w by s ≡ seen_by) (c : ℕ) (p q : Rational)

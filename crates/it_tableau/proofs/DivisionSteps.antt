@@ -41,15 +41,15 @@ module _ (width : ℕ) (old : RowTerms) (p : Rational) (i : ℕ) (out : RowTerms
 
   module _ (h : length old ≤ i) where
     pub all_quotients_fit : TermQuotientsFit old p
-    all_quotients_fit k = split (cases_lt k m.next)
+    all_quotients_fit k = by_cases (cases_lt k m.next)
       where
-        split : (k < m.next) ⊎ (m.next ≤ k) → QuotientFits (entry_in old k) p
-        split (inl a) = m.divided.fits k a
-        split (inr a) = (quotient_of_null (entry_in old k) p (rest_over width old i m.next m.rest h k a)).0
+        by_cases : (k < m.next) ⊎ (m.next ≤ k) → QuotientFits (entry_in old k) p
+        by_cases (inl a) = m.divided.fits k a
+        by_cases (inr a) = (quotient_of_null (entry_in old k) p (rest_over width old i m.next m.rest h k a)).0
 
     pub division_ends : AreDivided old p width out
-    division_ends = record { entries = λ k. split k (cases_lt k m.next); ascend = climbs_weaker 0 m.next width out (rest_upto width old i m.next m.rest) m.divided.climbs }
+    division_ends = record { entries = λ k. by_cases k (cases_lt k m.next); ascend = climbs_weaker 0 m.next width out (rest_upto width old i m.next m.rest) m.divided.climbs }
       where
-        split : (k : ℕ) → (k < m.next) ⊎ (m.next ≤ k) → entry_in out k ≡ times (entry_in old k) (inverse p)
-        split k (inl a) = m.divided.entries k a
-        split k (inr a) = climbs_none 0 m.next out k m.divided.climbs a ∙ sym (quotient_of_null (entry_in old k) p (rest_over width old i m.next m.rest h k a)).1
+        by_cases : (k : ℕ) → (k < m.next) ⊎ (m.next ≤ k) → entry_in out k ≡ times (entry_in old k) (inverse p)
+        by_cases k (inl a) = m.divided.entries k a
+        by_cases k (inr a) = climbs_none 0 m.next out k m.divided.climbs a ∙ sym (quotient_of_null (entry_in old k) p (rest_over width old i m.next m.rest h k a)).1

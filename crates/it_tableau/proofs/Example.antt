@@ -19,32 +19,32 @@ abbrev pub target : Terms
 target = (1, pos 1) ∷ (3, negsuc 0) ∷ []
 
 -- the start, and the tables after one step and after two
-abbrev pub first : SimplexTable Rational
-first = start_of coordinates elementals target
+abbrev pub first_table : SimplexTable Rational
+first_table = start_of coordinates elementals target
 
-abbrev second : SimplexTable Rational
-second = pivot field_ℚ first 1 2
+abbrev second_table : SimplexTable Rational
+second_table = pivot field_ℚ first_table 1 2
 
-abbrev third : SimplexTable Rational
-third = pivot field_ℚ second 0 0
+abbrev third_table : SimplexTable Rational
+third_table = pivot field_ℚ second_table 0 0
 
 -- the numerators of a row at the three columns and the right side
 abbrev tops : SimplexTable Rational → ℕ → List ℤ
 tops t i = (t.entry i 0).num ∷ (t.entry i 1).num ∷ (t.entry i 2).num ∷ (t.entry i 6).num ∷ []
 
-first_rows : (tops first 0 ≡ pos 0 ∷ negsuc 0 ∷ pos 1 ∷ pos 1 ∷ []) × (tops first 1 ≡ negsuc 0 ∷ pos 0 ∷ pos 1 ∷ pos 0 ∷ [])
-    × (tops first 2 ≡ negsuc 0 ∷ negsuc 0 ∷ pos 1 ∷ pos 1 ∷ []) × (tops first 3 ≡ pos 2 ∷ pos 2 ∷ negsuc 2 ∷ negsuc 1 ∷ [])
+first_rows : (tops first_table 0 ≡ pos 0 ∷ negsuc 0 ∷ pos 1 ∷ pos 1 ∷ []) × (tops first_table 1 ≡ negsuc 0 ∷ pos 0 ∷ pos 1 ∷ pos 0 ∷ [])
+    × (tops first_table 2 ≡ negsuc 0 ∷ negsuc 0 ∷ pos 1 ∷ pos 1 ∷ []) × (tops first_table 3 ≡ pos 2 ∷ pos 2 ∷ negsuc 2 ∷ negsuc 1 ∷ [])
 unfolding quotient gcd gcd_within
 first_rows = (refl, refl, refl, refl)
 
-second_cost : tops second 3 ≡ negsuc 0 ∷ pos 2 ∷ pos 0 ∷ negsuc 1 ∷ []
+second_cost : tops second_table 3 ≡ negsuc 0 ∷ pos 2 ∷ pos 0 ∷ negsuc 1 ∷ []
 unfolding quotient gcd gcd_within
 second_cost = refl
 
-third_cost : tops third 3 ≡ pos 0 ∷ pos 1 ∷ pos 0 ∷ negsuc 0 ∷ []
+third_cost : tops third_table 3 ≡ pos 0 ∷ pos 1 ∷ pos 0 ∷ negsuc 0 ∷ []
 unfolding quotient gcd gcd_within
 third_cost = refl
 
-third_artificials : ((third.entry 3 3).num ≡ pos 0) × ((third.entry 3 4).num ≡ pos 1) × ((third.entry 3 5).num ≡ negsuc 0)
+third_artificials : ((third_table.entry 3 3).num ≡ pos 0) × ((third_table.entry 3 4).num ≡ pos 1) × ((third_table.entry 3 5).num ≡ negsuc 0)
 unfolding quotient gcd gcd_within
 third_artificials = (refl, refl, refl)

@@ -28,10 +28,10 @@ use Rattle.it_tableau.proofs.WholeNumbers.{signed_den, zero_number}
 
 -- what a search doesn't find isn't there
 pub coordinate_is_absent : (cs : List ℕ) (x i : ℕ) → IsAscending cs → IsBinarySearchResult (λ y. nat_cmp y x) cs (Err i) → (k : ℕ) → k < length cs → slice_index_or cs k 0 ≢ x
-coordinate_is_absent cs x i up h k l e = let s = searched cs x (Err i) h rises in by_side (λ m. s.1 k m) (λ m. s.2 k m l) (cases_lt k i)
+coordinate_is_absent cs x i up h k l e = let s = searched cs x (Err i) h coordinates_rise in by_side (λ m. s.1 k m) (λ m. s.2 k m l) (cases_lt k i)
   where
-    rises : (a b : ℕ) → a ≤ b → b < length cs → slice_index_or cs a 0 ≤ slice_index_or cs b 0
-    rises a b m n = by_case (cases_eq a b)
+    coordinates_rise : (a b : ℕ) → a ≤ b → b < length cs → slice_index_or cs a 0 ≤ slice_index_or cs b 0
+    coordinates_rise a b m n = by_case (cases_eq a b)
       where
         by_case : (a ≡ b) ⊎ (a ≡ b → ⊥) → slice_index_or cs a 0 ≤ slice_index_or cs b 0
         by_case (inl same) = subst (λ (c : ℕ). slice_index_or cs a 0 ≤ slice_index_or cs c 0) same (omega arith)
@@ -59,51 +59,51 @@ module _ (cs : List ℕ) (f : ℕ → Rational) (terms : Terms) (j : ℕ) (old :
     abbrev term : ℕ × ℤ
     term = slice_index_or terms i (0, pos 0)
 
-    split : drop i terms ≡ term ∷ drop (suc i) terms
-    split = drop-cons terms i (0, pos 0) h
+    term_then_rest : drop i terms ≡ term ∷ drop (suc i) terms
+    term_then_rest = drop-cons terms i (0, pos 0) h
 
-    here : Ascends w.from (term ∷ drop (suc i) terms)
-    here = subst (Ascends w.from) split w.ascends
+    rest_ascends : Ascends w.from (term ∷ drop (suc i) terms)
+    rest_ascends = subst (Ascends w.from) term_then_rest w.ascends
 
     module _ (k : ℕ) (l : k < length cs) where
       -- the term's own row
-      own : slice_index_or cs k 0 ≡ term.0 → IsRowUnderWay (coefficient (drop i terms) (slice_index_or cs k 0)) (coefficient terms (slice_index_or cs k 0)) j (f k) (row_terms_at old k) (row_terms_at now k)
+      own_row_takes_term : slice_index_or cs k 0 ≡ term.0 → IsRowUnderWay (coefficient (drop i terms) (slice_index_or cs k 0)) (coefficient terms (slice_index_or cs k 0)) j (f k) (row_terms_at old k) (row_terms_at now k)
           → IsRowUnderWay (coefficient (drop (suc i) terms) (slice_index_or cs k 0)) (coefficient terms (slice_index_or cs k 0)) j (f k) (row_terms_at old k) (row_terms_at new k)
-      own e = by_state
+      own_row_takes_term e = by_state
         where
-          none : coefficient (drop (suc i) terms) (slice_index_or cs k 0) ≡ pos 0
-          none = none_below (term.0 + 1) (drop (suc i) terms) (slice_index_or cs k 0) here.3 (omega (arith, e))
+          rest_has_none : coefficient (drop (suc i) terms) (slice_index_or cs k 0) ≡ pos 0
+          rest_has_none = none_below (term.0 + 1) (drop (suc i) terms) (slice_index_or cs k 0) rest_ascends.3 (omega (arith, e))
 
           value : coefficient (drop i terms) (slice_index_or cs k 0) ≡ term.1
-          value = ap (λ (ts : Terms). coefficient ts (slice_index_or cs k 0)) split ∙ here_is term (drop (suc i) terms) (slice_index_or cs k 0) (sym e)
-              ∙ ap (λ z. term.1 +ℤ z) none ∙ omega (arith, ints)
+          value = ap (λ (ts : Terms). coefficient ts (slice_index_or cs k 0)) term_then_rest ∙ here_is term (drop (suc i) terms) (slice_index_or cs k 0) (sym e)
+              ∙ ap (λ z. term.1 +ℤ z) rest_has_none ∙ omega (arith, ints)
 
           by_state : IsRowUnderWay (coefficient (drop i terms) (slice_index_or cs k 0)) (coefficient terms (slice_index_or cs k 0)) j (f k) (row_terms_at old k) (row_terms_at now k)
               → IsRowUnderWay (coefficient (drop (suc i) terms) (slice_index_or cs k 0)) (coefficient terms (slice_index_or cs k 0)) j (f k) (row_terms_at old k) (row_terms_at new k)
-          by_state (inl s) = inr (subst (λ (o : RowTerms). IsAppended o j (f k) (row_terms_at new k)) s.0 (put.own k l e), none)
-          by_state (inr s) = absurd (here.1 (sym value ∙ s.1))
+          by_state (inl s) = inr (subst (λ (o : RowTerms). IsAppended o j (f k) (row_terms_at new k)) s.0 (put.own k l e), rest_has_none)
+          by_state (inr s) = absurd (rest_ascends.1 (sym value ∙ s.1))
 
-      other : slice_index_or cs k 0 ≢ term.0 → IsRowUnderWay (coefficient (drop i terms) (slice_index_or cs k 0)) (coefficient terms (slice_index_or cs k 0)) j (f k) (row_terms_at old k) (row_terms_at now k)
+      other_row_stays : slice_index_or cs k 0 ≢ term.0 → IsRowUnderWay (coefficient (drop i terms) (slice_index_or cs k 0)) (coefficient terms (slice_index_or cs k 0)) j (f k) (row_terms_at old k) (row_terms_at now k)
           → IsRowUnderWay (coefficient (drop (suc i) terms) (slice_index_or cs k 0)) (coefficient terms (slice_index_or cs k 0)) j (f k) (row_terms_at old k) (row_terms_at new k)
-      other d = by_state
+      other_row_stays d = by_state
         where
-          same : coefficient (drop (suc i) terms) (slice_index_or cs k 0) ≡ coefficient (drop i terms) (slice_index_or cs k 0)
-          same = sym (ap (λ (ts : Terms). coefficient ts (slice_index_or cs k 0)) split ∙ other_is term (drop (suc i) terms) (slice_index_or cs k 0) (λ e. d (sym e)))
+          same_coefficient : coefficient (drop (suc i) terms) (slice_index_or cs k 0) ≡ coefficient (drop i terms) (slice_index_or cs k 0)
+          same_coefficient = sym (ap (λ (ts : Terms). coefficient ts (slice_index_or cs k 0)) term_then_rest ∙ other_is term (drop (suc i) terms) (slice_index_or cs k 0) (λ e. d (sym e)))
 
           by_state : IsRowUnderWay (coefficient (drop i terms) (slice_index_or cs k 0)) (coefficient terms (slice_index_or cs k 0)) j (f k) (row_terms_at old k) (row_terms_at now k)
               → IsRowUnderWay (coefficient (drop (suc i) terms) (slice_index_or cs k 0)) (coefficient terms (slice_index_or cs k 0)) j (f k) (row_terms_at old k) (row_terms_at new k)
-          by_state (inl s) = inl (put.others k l d ∙ s.0, same ∙ s.1)
-          by_state (inr s) = inr (subst (IsAppended (row_terms_at old k) j (f k)) (sym (put.others k l d)) s.0, same ∙ s.1)
+          by_state (inl s) = inl (put.others k l d ∙ s.0, same_coefficient ∙ s.1)
+          by_state (inr s) = inr (subst (IsAppended (row_terms_at old k) j (f k)) (sym (put.others k l d)) s.0, same_coefficient ∙ s.1)
 
       row_put : (slice_index_or cs k 0 ≡ term.0) ⊎ (slice_index_or cs k 0 ≡ term.0 → ⊥)
           → IsRowUnderWay (coefficient (drop (suc i) terms) (slice_index_or cs k 0)) (coefficient terms (slice_index_or cs k 0)) j (f k) (row_terms_at old k) (row_terms_at new k)
-      row_put (inl e) = own e (w.rows k l)
-      row_put (inr d) = other d (w.rows k l)
+      row_put (inl e) = own_row_takes_term e (w.rows k l)
+      row_put (inr d) = other_row_stays d (w.rows k l)
 
     pub term_put : IsColumnUnderWay cs f terms j old (i + 1) new
     term_put = let e : suc i ≡ i + 1 = omega arith in subst (λ (n : ℕ). IsColumnUnderWay cs f terms j old n new) e record {
       from = term.0 + 1;
-      ascends = here.3;
+      ascends = rest_ascends.3;
       count = put.count ∙ w.count;
       rows = λ k l. row_put k l (cases_eq (slice_index_or cs k 0) term.0);
     }
@@ -123,10 +123,10 @@ module _ (cs : List ℕ) (columns : List Terms) (target : Terms) where
       ∙ product-zero (sign field_ℚ (feasibility_problem cs columns target) k) (integer (coefficient (slice_index_or columns j []) (slice_index_or cs k 0))) (top_of_zero (integer (coefficient (slice_index_or columns j []) (slice_index_or cs k 0))) (ap integer e))
 
   pub column_is_gathered : (j : ℕ) (old new : List RowTerms) → AreAppended cs (λ k. start_number cs columns target k j) j old new → AreGathered cs columns target j old → AreGathered cs columns target (j + 1) new
-  column_is_gathered j old new a g = record { count = a.count ∙ g.count; rows = λ k l. lists k (one k l) }
+  column_is_gathered j old new a g = record { count = a.count ∙ g.count; rows = λ k l. lists k (terms_are_built k l) }
     where
-      one : (k : ℕ) → k < length cs → IsBuilt (start_number cs columns target k) (λ i. Unit {0}) (j + 1) (row_terms_at new k)
-      one k l = built_more (start_number cs columns target k) (λ i. Unit {0}) j (row_terms_at old k) (row_terms_at new k) (start_number cs columns target k j) (a.rows k l) refl tt
+      terms_are_built : (k : ℕ) → k < length cs → IsBuilt (start_number cs columns target k) (λ i. Unit {0}) (j + 1) (row_terms_at new k)
+      terms_are_built k l = built_more (start_number cs columns target k) (λ i. Unit {0}) j (row_terms_at old k) (row_terms_at new k) (start_number cs columns target k j) (a.rows k l) refl tt
           record { entries = (g.rows k l).entries; climbs = (g.rows k l).ascend; fits = λ i h. tt }
 
       lists : (k : ℕ) → IsBuilt (start_number cs columns target k) (λ i. Unit {0}) (j + 1) (row_terms_at new k) → ListsEntries (start_number cs columns target k) (j + 1) (row_terms_at new k)
@@ -152,15 +152,15 @@ module _ (cs : List ℕ) (columns : List Terms) (target : Terms) where
     no_unit : (j : ℕ) → length columns ≤ j → j < length columns + length cs → j ≢ length columns + k → F j × (f j ≡ integer (pos 0))
     no_unit j l h d = (subst IsWholeNumber (sym null) zero_number, null)
       where
-        apart : (i : ℕ) → j ≡ length columns + i → i < length cs → f j ≡ integer (pos 0)
-        apart i e m = ap f e ∙ row_artificial field_ℚ (length cs) (length columns) (feasibility_problem cs columns target) k i m
+        artificial_is_zero : (i : ℕ) → j ≡ length columns + i → i < length cs → f j ≡ integer (pos 0)
+        artificial_is_zero i e m = ap f e ∙ row_artificial field_ℚ (length cs) (length columns) (feasibility_problem cs columns target) k i m
             ∙ ap (λ b. cond b (integer (pos 1)) (integer (pos 0))) (ne_eqb i k (λ s. d (e ∙ ap (λ x. length columns + x) s)))
 
         null : f j ≡ integer (pos 0)
-        null = apart (j - length columns) (omega (arith, l)) (omega (arith, l, h))
+        null = artificial_is_zero (j - length columns) (omega (arith, l)) (omega (arith, l, h))
 
-    built : IsBuilt f F (length columns + length cs) out
-    built =
+    row_is_built : IsBuilt f F (length columns + length cs) out
+    row_is_built =
         let n = length columns in
         let start : IsBuilt f F n terms = record { entries = lists.entries; climbs = lists.ascend; fits = whole_entry } in
         let before : IsBuilt f F (n + k) terms = built_skip f F n (n + k) terms (omega arith) (λ j l h. no_unit j l (omega (arith, h, row)) (λ e. omega (arith, e, h))) start in
@@ -168,17 +168,17 @@ module _ (cs : List ℕ) (columns : List Terms) (target : Terms) where
         built_skip f F (n + k + 1) (n + length cs) out (omega (arith, row)) (λ j l h. no_unit j (omega (arith, l)) h (λ e. omega (arith, e, l))) unit
 
     pub row_climbs : Climbs 0 (length columns + length cs) out
-    row_climbs = built.climbs
+    row_climbs = row_is_built.climbs
 
     module _ (right : Rational) (wr : IsWholeNumber right) (er : right ≡ start_number cs columns target k (length columns + length cs)) where
       pub row_finished : ListsValues f (length columns + length cs + 1) (dense_row (length columns + length cs) out right)
-      row_finished = row_shows f F (length columns + length cs) out right built er
+      row_finished = row_shows f F (length columns + length cs) out right row_is_built er
 
       pub row_wholes : (j : ℕ) → j < length columns + length cs + 1 → F j
       row_wholes j l = by_end (cases_lt j (length columns + length cs))
         where
           by_end : (j < length columns + length cs) ⊎ (length columns + length cs ≤ j) → F j
-          by_end (inl h) = built.fits j h
+          by_end (inl h) = row_is_built.fits j h
           by_end (inr h) = subst IsWholeNumber (er ∙ ap f (let e : length columns + length cs ≡ j = omega (arith, l, h) in e)) wr
 
   -- the first k rows are finished, and the lists of the others are gathered

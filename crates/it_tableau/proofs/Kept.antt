@@ -29,29 +29,29 @@ module _ {A : Type 0} (F : OrderedField A) (m n : ℕ) where
       → (pivot F t r c).entry i j ≡ sum_to F.ring m (λ k. F.ring.mul ((pivot F t r c).entry i (n + k)) (start_row F m n p k j))
   kept_combines p t r c hr h i j hi = by_test (eqb i r)
     where
-      u : A
-      u = F.order.inv (t.entry r c)
+      pivot_inverse : A
+      pivot_inverse = F.order.inv (t.entry r c)
 
       S : ℕ → A
       S = λ k. start_row F m n p k j
 
-      scaled : (l : ℕ) → sum_to F.ring l (λ k. F.ring.mul (F.ring.mul (t.entry r (n + k)) u) (S k)) ≡ F.ring.mul (sum_to F.ring l (λ k. F.ring.mul (t.entry r (n + k)) (S k))) u
-      scaled l = sum_same F.ring l (λ k. F.ring.mul (F.ring.mul (t.entry r (n + k)) u) (S k)) (λ k. F.ring.mul (F.ring.mul (t.entry r (n + k)) (S k)) u)
-          (λ k _. ring F.ring (t.entry r (n + k) ∷ u ∷ S k ∷ []) (times (times (v 0) (v 1)) (v 2)) (times (times (v 0) (v 2)) (v 1)) refl)
-          ∙ sum_times F.ring l (λ k. F.ring.mul (t.entry r (n + k)) (S k)) u
+      sum_of_multiples : (l : ℕ) → sum_to F.ring l (λ k. F.ring.mul (F.ring.mul (t.entry r (n + k)) pivot_inverse) (S k)) ≡ F.ring.mul (sum_to F.ring l (λ k. F.ring.mul (t.entry r (n + k)) (S k))) pivot_inverse
+      sum_of_multiples l = sum_same F.ring l (λ k. F.ring.mul (F.ring.mul (t.entry r (n + k)) pivot_inverse) (S k)) (λ k. F.ring.mul (F.ring.mul (t.entry r (n + k)) (S k)) pivot_inverse)
+          (λ k _. ring F.ring (t.entry r (n + k) ∷ pivot_inverse ∷ S k ∷ []) (times (times (v 0) (v 1)) (v 2)) (times (times (v 0) (v 2)) (v 1)) refl)
+          ∙ sum_times F.ring l (λ k. F.ring.mul (t.entry r (n + k)) (S k)) pivot_inverse
 
-      lessened : (l : ℕ) (q : A) → sum_to F.ring l (λ k. F.ring.mul (F.ring.add (t.entry i (n + k)) (F.ring.neg (F.ring.mul (t.entry r (n + k)) q))) (S k))
+      sum_of_differences : (l : ℕ) (q : A) → sum_to F.ring l (λ k. F.ring.mul (F.ring.add (t.entry i (n + k)) (F.ring.neg (F.ring.mul (t.entry r (n + k)) q))) (S k))
           ≡ F.ring.add (sum_to F.ring l (λ k. F.ring.mul (t.entry i (n + k)) (S k))) (F.ring.neg (F.ring.mul (sum_to F.ring l (λ k. F.ring.mul (t.entry r (n + k)) (S k))) q))
-      lessened zero q = ring F.ring (q ∷ []) nil (plus nil (minus (times nil (v 0)))) refl
-      lessened (suc l) q = ap (F.ring.add (F.ring.mul (F.ring.add (t.entry i (n + l)) (F.ring.neg (F.ring.mul (t.entry r (n + l)) q))) (S l))) (lessened l q)
+      sum_of_differences zero q = ring F.ring (q ∷ []) nil (plus nil (minus (times nil (v 0)))) refl
+      sum_of_differences (suc l) q = ap (F.ring.add (F.ring.mul (F.ring.add (t.entry i (n + l)) (F.ring.neg (F.ring.mul (t.entry r (n + l)) q))) (S l))) (sum_of_differences l q)
           ∙ ring F.ring (t.entry i (n + l) ∷ t.entry r (n + l) ∷ S l ∷ q ∷ sum_to F.ring l (λ k. F.ring.mul (t.entry i (n + k)) (S k)) ∷ sum_to F.ring l (λ k. F.ring.mul (t.entry r (n + k)) (S k)) ∷ [])
           (plus (times (plus (v 0) (minus (times (v 1) (v 3)))) (v 2)) (plus (v 4) (minus (times (v 5) (v 3)))))
           (plus (plus (times (v 0) (v 2)) (v 4)) (minus (times (plus (times (v 1) (v 2)) (v 5)) (v 3)))) refl
 
       by_test : (b : Bool) → cond b (F.ring.mul (t.entry r j) (F.order.inv (t.entry r c))) (F.ring.add (t.entry i j) (F.ring.neg (F.ring.mul (t.entry r j) (F.ring.mul (t.entry i c) (F.order.inv (t.entry r c))))))
           ≡ sum_to F.ring m (λ k. F.ring.mul (cond b (F.ring.mul (t.entry r (n + k)) (F.order.inv (t.entry r c))) (F.ring.add (t.entry i (n + k)) (F.ring.neg (F.ring.mul (t.entry r (n + k)) (F.ring.mul (t.entry i c) (F.order.inv (t.entry r c))))))) (start_row F m n p k j))
-      by_test true = ap (λ x. F.ring.mul x u) (h r j (omega arith)) ∙ sym (scaled m)
-      by_test false = ap₂ (λ x y. F.ring.add x (F.ring.neg (F.ring.mul y (F.ring.mul (t.entry i c) u)))) (h i j hi) (h r j (omega arith)) ∙ sym (lessened m (F.ring.mul (t.entry i c) u))
+      by_test true = ap (λ x. F.ring.mul x pivot_inverse) (h r j (omega arith)) ∙ sym (sum_of_multiples m)
+      by_test false = ap₂ (λ x y. F.ring.add x (F.ring.neg (F.ring.mul y (F.ring.mul (t.entry i c) pivot_inverse)))) (h i j hi) (h r j (omega arith)) ∙ sym (sum_of_differences m (F.ring.mul (t.entry i c) pivot_inverse))
 
   kept_spans : (p : FeasibilityProblem A) (t : SimplexTable A) (r c : ℕ) → r < m → F.ring.mul (t.entry r c) (F.order.inv (t.entry r c)) ≡ F.ring.unit → HasInvariants F m n p t → (k j : ℕ) → k < m
       → start_row F m n p k j ≡ sum_to F.ring m (λ i. F.ring.mul (start_row F m n p k ((pivot F t r c).basis i)) ((pivot F t r c).entry i j))
@@ -69,35 +69,35 @@ module _ {A : Type 0} (F : OrderedField A) (m n : ℕ) where
       → (pivot F t r c).entry m j ≡ sum_to F.ring m (λ i. F.ring.mul (cost_of F m n ((pivot F t r c).basis i)) ((pivot F t r c).entry i j))
   kept_costs p t r c hr hc inverse h j =
       other_row t r c m j (λ e. omega arith)
-      ∙ ap₂ (λ x y. F.ring.add x (F.ring.neg y)) before (ring F.ring (t.entry r j ∷ t.entry m c ∷ F.order.inv (t.entry r c) ∷ []) (times (v 0) (times (v 1) (v 2))) (times (v 1) (times (v 0) (v 2))) refl
+      ∙ ap₂ (λ x y. F.ring.add x (F.ring.neg y)) old_cost_sum (ring F.ring (t.entry r j ∷ t.entry m c ∷ F.order.inv (t.entry r c) ∷ []) (times (v 0) (times (v 1) (v 2))) (times (v 1) (times (v 0) (v 2))) refl
       ∙ ap (F.ring.mul (t.entry m c)) (sym (pivot_row t r c j)))
-      ∙ ring F.ring (sum_to F.ring m g ∷ F.ring.mul (t.entry m c) (new r) ∷ g r ∷ [])
+      ∙ ring F.ring (sum_to F.ring m cost_terms ∷ F.ring.mul (t.entry m c) (new_column r) ∷ cost_terms r ∷ [])
       (plus (plus (v 0) (plus (v 1) (minus (v 2)))) (minus (v 1))) (plus (v 0) (plus nil (minus (v 2)))) refl
-      ∙ sym after
+      ∙ sym new_cost_sum
     where
-      new : ℕ → A
-      new = λ i. (pivot F t r c).entry i j
+      new_column : ℕ → A
+      new_column = λ i. (pivot F t r c).entry i j
 
-      g : ℕ → A
-      g = λ i. F.ring.mul (cost_of F m n (t.basis i)) (new i)
+      cost_terms : ℕ → A
+      cost_terms = λ i. F.ring.mul (cost_of F m n (t.basis i)) (new_column i)
 
-      one_of : (b : Bool) (i : ℕ) (x : A) → (b ≡ true → i ≡ r) → F.ring.mul (cond b x (cost_of F m n (t.basis i))) (new i) ≡ cond b (F.ring.mul x (new r)) (g i)
-      one_of true i x e = ap (λ k. F.ring.mul x (new k)) (e refl)
+      one_of : (b : Bool) (i : ℕ) (x : A) → (b ≡ true → i ≡ r) → F.ring.mul (cond b x (cost_of F m n (t.basis i))) (new_column i) ≡ cond b (F.ring.mul x (new_column r)) (cost_terms i)
+      one_of true i x e = ap (λ k. F.ring.mul x (new_column k)) (e refl)
       one_of false i x e = refl
 
-      none_of : (b : Bool) (i : ℕ) → F.ring.mul (cost_of F m n (cond b c (t.basis i))) (new i) ≡ cond b F.ring.null (g i)
-      none_of true i = ap (λ b. F.ring.mul (cond b F.ring.null (F.ring.neg F.ring.unit)) (new i)) (lt-ltb c n hc) ∙ F.ring.mul_comm F.ring.null (new i) ∙ mul-null F.ring (new i)
+      none_of : (b : Bool) (i : ℕ) → F.ring.mul (cost_of F m n (cond b c (t.basis i))) (new_column i) ≡ cond b F.ring.null (cost_terms i)
+      none_of true i = ap (λ b. F.ring.mul (cond b F.ring.null (F.ring.neg F.ring.unit)) (new_column i)) (lt-ltb c n hc) ∙ F.ring.mul_comm F.ring.null (new_column i) ∙ mul-null F.ring (new_column i)
       none_of false i = refl
 
-      before : t.entry m j ≡ F.ring.add (sum_to F.ring m g) (F.ring.add (F.ring.mul (t.entry m c) (new r)) (F.ring.neg (g r)))
-      before = pivot_sum F m n t r c (λ i. cost_of F m n (t.basis i)) (t.entry m) hr inverse h.costs j
-          ∙ sum_same F.ring m (λ i. F.ring.mul (cond (eqb i r) (t.entry m c) (cost_of F m n (t.basis i))) (new i)) (λ i. cond (eqb i r) (F.ring.mul (t.entry m c) (new r)) (g i))
+      old_cost_sum : t.entry m j ≡ F.ring.add (sum_to F.ring m cost_terms) (F.ring.add (F.ring.mul (t.entry m c) (new_column r)) (F.ring.neg (cost_terms r)))
+      old_cost_sum = pivot_sum F m n t r c (λ i. cost_of F m n (t.basis i)) (t.entry m) hr inverse h.costs j
+          ∙ sum_same F.ring m (λ i. F.ring.mul (cond (eqb i r) (t.entry m c) (cost_of F m n (t.basis i))) (new_column i)) (λ i. cond (eqb i r) (F.ring.mul (t.entry m c) (new_column r)) (cost_terms i))
           (λ i l. one_of (eqb i r) i (t.entry m c) (eqb-true i r))
-          ∙ sum_changed F.ring m g r (F.ring.mul (t.entry m c) (new r)) hr
+          ∙ sum_changed F.ring m cost_terms r (F.ring.mul (t.entry m c) (new_column r)) hr
 
-      after : sum_to F.ring m (λ i. F.ring.mul (cost_of F m n ((pivot F t r c).basis i)) (new i)) ≡ F.ring.add (sum_to F.ring m g) (F.ring.add F.ring.null (F.ring.neg (g r)))
-      after = sum_same F.ring m (λ i. F.ring.mul (cost_of F m n ((pivot F t r c).basis i)) (new i)) (λ i. cond (eqb i r) F.ring.null (g i)) (λ i l. none_of (eqb i r) i)
-          ∙ sum_changed F.ring m g r F.ring.null hr
+      new_cost_sum : sum_to F.ring m (λ i. F.ring.mul (cost_of F m n ((pivot F t r c).basis i)) (new_column i)) ≡ F.ring.add (sum_to F.ring m cost_terms) (F.ring.add F.ring.null (F.ring.neg (cost_terms r)))
+      new_cost_sum = sum_same F.ring m (λ i. F.ring.mul (cost_of F m n ((pivot F t r c).basis i)) (new_column i)) (λ i. cond (eqb i r) F.ring.null (cost_terms i)) (λ i l. none_of (eqb i r) i)
+          ∙ sum_changed F.ring m cost_terms r F.ring.null hr
 
   -- right sides: a row with an entry of at most 0, and one whose ratio is no less
   kept_low : (b r t u : A) → IsAtLeastZero F b → IsAtLeastZero F r → IsAtLeastZero F u → IsAtLeastZero F (F.ring.neg t) → IsAtLeastZero F (F.ring.add b (F.ring.neg (F.ring.mul r (F.ring.mul t u))))
@@ -114,14 +114,14 @@ module _ {A : Type 0} (F : OrderedField A) (m n : ℕ) where
   kept_rights : (p : FeasibilityProblem A) (t : SimplexTable A) (r c : ℕ) → HasInvariants F m n p t → MayEnter F m n t r c → (i : ℕ) → i < m → IsAtLeastZero F ((pivot F t r c).entry i (n + m))
   kept_rights p t r c h l i hi = by_cases (cases_eq i r) (cases_Bool (F.order.is_least (F.ring.neg (t.entry i c))))
     where
-      small : IsAtLeastZero F (F.order.inv (t.entry r c))
-      small = inv-least F (t.entry r c) l.above
+      inverse_at_least_zero : IsAtLeastZero F (F.order.inv (t.entry r c))
+      inverse_at_least_zero = inv-least F (t.entry r c) l.above
 
       by_cases : (i ≡ r) ⊎ (i ≡ r → ⊥) → (IsAtLeastZero F (F.ring.neg (t.entry i c))) ⊎ (IsAboveZero F (t.entry i c)) → IsAtLeastZero F ((pivot F t r c).entry i (n + m))
       by_cases (inl e) q = subst (λ (k : ℕ). IsAtLeastZero F ((pivot F t r c).entry k (n + m))) (sym e)
-          (subst (IsAtLeastZero F) (sym (pivot_row t r c (n + m))) (F.order.mul-least (t.entry r (n + m)) (F.order.inv (t.entry r c)) (h.rights r l.row) small))
+          (subst (IsAtLeastZero F) (sym (pivot_row t r c (n + m))) (F.order.mul-least (t.entry r (n + m)) (F.order.inv (t.entry r c)) (h.rights r l.row) inverse_at_least_zero))
       by_cases (inr e) (inl q) = subst (IsAtLeastZero F) (sym (other_row t r c i (n + m) e))
-          (kept_low (t.entry i (n + m)) (t.entry r (n + m)) (t.entry i c) (F.order.inv (t.entry r c)) (h.rights i hi) (h.rights r l.row) small q)
+          (kept_low (t.entry i (n + m)) (t.entry r (n + m)) (t.entry i c) (F.order.inv (t.entry r c)) (h.rights i hi) (h.rights r l.row) inverse_at_least_zero q)
       by_cases (inr e) (inr q) = subst (IsAtLeastZero F) (sym (other_row t r c i (n + m) e))
           (kept_high (t.entry i (n + m)) (t.entry r (n + m)) (t.entry i c) (F.order.inv (t.entry r c)) (F.order.inv (t.entry i c)) (above-least F (t.entry i c) q) (inv-above F (t.entry i c) q) (l.least i hi q))
 
@@ -129,25 +129,25 @@ module _ {A : Type 0} (F : OrderedField A) (m n : ℕ) where
       → (pivot F t r c).entry i ((pivot F t r c).basis k) ≡ cond (eqb i k) F.ring.unit F.ring.null
   kept_units p t r c hr inverse h i k hi hk = by_cases (cases_eq k r) (cases_eq i r)
     where
-      to : SimplexTable A
-      to = pivot F t r c
+      new_table : SimplexTable A
+      new_table = pivot F t r c
 
       is_null : (k ≡ r → ⊥) → t.entry r (t.basis k) ≡ F.ring.null
       is_null d = h.units r k hr hk ∙ ap (λ b. cond b F.ring.unit F.ring.null) (ne_eqb r k (λ e. d (sym e)))
 
-      by_cases : (k ≡ r) ⊎ (k ≡ r → ⊥) → (i ≡ r) ⊎ (i ≡ r → ⊥) → to.entry i (to.basis k) ≡ cond (eqb i k) F.ring.unit F.ring.null
-      by_cases (inl d) (inl e) = ap₂ (λ x y. to.entry x (to.basis y)) e d ∙ ap (to.entry r) (new_basis t r c) ∙ pivot_row t r c c ∙ inverse
+      by_cases : (k ≡ r) ⊎ (k ≡ r → ⊥) → (i ≡ r) ⊎ (i ≡ r → ⊥) → new_table.entry i (new_table.basis k) ≡ cond (eqb i k) F.ring.unit F.ring.null
+      by_cases (inl d) (inl e) = ap₂ (λ x y. new_table.entry x (new_table.basis y)) e d ∙ ap (new_table.entry r) (new_basis t r c) ∙ pivot_row t r c c ∙ inverse
           ∙ ap (λ b. cond b F.ring.unit F.ring.null) (sym (eq-eqb i k (e ∙ sym d)))
-      by_cases (inl d) (inr e) = ap (λ y. to.entry i (to.basis y)) d ∙ ap (to.entry i) (new_basis t r c) ∙ other_row t r c i c e
+      by_cases (inl d) (inr e) = ap (λ y. new_table.entry i (new_table.basis y)) d ∙ ap (new_table.entry i) (new_basis t r c) ∙ other_row t r c i c e
           ∙ ring F.ring (t.entry i c ∷ t.entry r c ∷ F.order.inv (t.entry r c) ∷ []) (plus (v 0) (minus (times (v 1) (times (v 0) (v 2))))) (plus (v 0) (minus (times (v 0) (times (v 1) (v 2))))) refl
           ∙ ap (λ x. F.ring.add (t.entry i c) (F.ring.neg (F.ring.mul (t.entry i c) x))) inverse
           ∙ ring F.ring (t.entry i c ∷ []) (plus (v 0) (minus (times (v 0) one))) nil refl
           ∙ ap (λ b. cond b F.ring.unit F.ring.null) (sym (ne_eqb i k (λ q. e (q ∙ d))))
-      by_cases (inr d) (inl e) = ap (to.entry i) (old_basis t r c k d) ∙ ap (λ x. to.entry x (t.basis k)) e ∙ pivot_row t r c (t.basis k)
+      by_cases (inr d) (inl e) = ap (new_table.entry i) (old_basis t r c k d) ∙ ap (λ x. new_table.entry x (t.basis k)) e ∙ pivot_row t r c (t.basis k)
           ∙ ap (λ x. F.ring.mul x (F.order.inv (t.entry r c))) (is_null d)
           ∙ ring F.ring (F.order.inv (t.entry r c) ∷ []) (times nil (v 0)) nil refl
           ∙ ap (λ b. cond b F.ring.unit F.ring.null) (sym (ne_eqb i k (λ q. d (sym q ∙ e))))
-      by_cases (inr d) (inr e) = ap (to.entry i) (old_basis t r c k d) ∙ other_row t r c i (t.basis k) e
+      by_cases (inr d) (inr e) = ap (new_table.entry i) (old_basis t r c k d) ∙ other_row t r c i (t.basis k) e
           ∙ ap₂ (λ x y. F.ring.add x (F.ring.neg (F.ring.mul y (F.ring.mul (t.entry i c) (F.order.inv (t.entry r c)))))) (h.units i k hi hk) (is_null d)
           ∙ ring F.ring (cond (eqb i k) F.ring.unit F.ring.null ∷ F.ring.mul (t.entry i c) (F.order.inv (t.entry r c)) ∷ []) (plus (v 0) (minus (times nil (v 1)))) (v 0) refl
 

@@ -39,18 +39,18 @@ module _ (width : ℕ) (old by : RowTerms) (q : Rational) (i j : ℕ) (out : Row
 
   -- no term of a row before a column that the row's next term comes after
   old_none : (c : ℕ) → (i < length old → c < column_at old i) → (k : ℕ) → m.next ≤ k → k < c + 1 → entry_in old k ≡ integer (pos 0)
-  old_none c h k a l = split (cases_lt i (length old))
+  old_none c h k a l = by_cases (cases_lt i (length old))
     where
-      split : (i < length old) ⊎ (length old ≤ i) → entry_in old k ≡ integer (pos 0)
-      split (inl x) = before_column width old i m.next m.old_rest x k a (let y = h x in omega (arith, y, l))
-      split (inr x) = rest_over width old i m.next m.old_rest x k a
+      by_cases : (i < length old) ⊎ (length old ≤ i) → entry_in old k ≡ integer (pos 0)
+      by_cases (inl x) = before_column width old i m.next m.old_rest x k a (let y = h x in omega (arith, y, l))
+      by_cases (inr x) = rest_over width old i m.next m.old_rest x k a
 
   by_none : (c : ℕ) → (j < length by → c < column_at by j) → (k : ℕ) → m.next ≤ k → k < c + 1 → entry_in by k ≡ integer (pos 0)
-  by_none c h k a l = split (cases_lt j (length by))
+  by_none c h k a l = by_cases (cases_lt j (length by))
     where
-      split : (j < length by) ⊎ (length by ≤ j) → entry_in by k ≡ integer (pos 0)
-      split (inl x) = before_column width by j m.next m.by_rest x k a (let y = h x in omega (arith, y, l))
-      split (inr x) = rest_over width by j m.next m.by_rest x k a
+      by_cases : (j < length by) ⊎ (length by ≤ j) → entry_in by k ≡ integer (pos 0)
+      by_cases (inl x) = before_column width by j m.next m.by_rest x k a (let y = h x in omega (arith, y, l))
+      by_cases (inr x) = rest_over width by j m.next m.by_rest x k a
 
   pub take_old : (new : RowTerms) → i < length old → (j < length by → column_at old i < column_at by j) → IsNarrow (number_of_term old i) → IsAppended out (column_at old i) (number_of_term old i) new
       → IsMerging width old by q (i + 1) j new
@@ -107,18 +107,18 @@ module _ (width : ℕ) (old by : RowTerms) (q : Rational) (i j : ℕ) (out : Row
 
   module _ (h : length old ≤ i) (l : length by ≤ j) where
     pub all_differences_fit : MergeFits old by q
-    all_differences_fit k = split (cases_lt k m.next)
+    all_differences_fit k = by_cases (cases_lt k m.next)
       where
-        split : (k < m.next) ⊎ (m.next ≤ k) → EntryFits (entry_in old k) (entry_in by k) q
-        split (inl a) = m.merged.fits k a
-        split (inr a) = (difference_of_null_entry (entry_in old k) (entry_in by k) q (subst IsNarrow (sym (rest_over width old i m.next m.old_rest h k a)) zero_narrow) (rest_over width by j m.next m.by_rest l k a)).0
+        by_cases : (k < m.next) ⊎ (m.next ≤ k) → EntryFits (entry_in old k) (entry_in by k) q
+        by_cases (inl a) = m.merged.fits k a
+        by_cases (inr a) = (difference_of_null_entry (entry_in old k) (entry_in by k) q (subst IsNarrow (sym (rest_over width old i m.next m.old_rest h k a)) zero_narrow) (rest_over width by j m.next m.by_rest l k a)).0
 
     pub merge_ends : AreMerged old by q width out
-    merge_ends = record { entries = λ k. split k (cases_lt k m.next); ascend = climbs_weaker 0 m.next width out (rest_upto width old i m.next m.old_rest) m.merged.climbs }
+    merge_ends = record { entries = λ k. by_cases k (cases_lt k m.next); ascend = climbs_weaker 0 m.next width out (rest_upto width old i m.next m.old_rest) m.merged.climbs }
       where
-        split : (k : ℕ) → (k < m.next) ⊎ (m.next ≤ k) → entry_in out k ≡ less_at old by q k
-        split k (inl a) = m.merged.entries k a
-        split k (inr a) =
+        by_cases : (k : ℕ) → (k < m.next) ⊎ (m.next ≤ k) → entry_in out k ≡ less_at old by q k
+        by_cases k (inl a) = m.merged.entries k a
+        by_cases k (inr a) =
             let z = rest_over width old i m.next m.old_rest h k a in
             climbs_none 0 m.next out k m.merged.climbs a ∙ sym z
             ∙ sym (difference_of_null_entry (entry_in old k) (entry_in by k) q (subst IsNarrow (sym z) zero_narrow) (rest_over width by j m.next m.by_rest l k a)).1

@@ -41,15 +41,15 @@ row_is_reduced old now own y r c i p h fit red u = record {
   same = length-set now i y ∙ u.same;
   own_is = u.own_is;
   p_is = u.p_is;
-  done = λ k l d. split k l d (cases_eq k i);
+  done = λ k l d. by_cases k l d (cases_eq k i);
   fits = λ k l d. split_fits k l d (cases_eq k i);
   rest = λ k l d. get_or-set_other now i k y [] (λ e. omega arith) ∙ u.rest k (omega arith) d;
 }
   where
-    split : (k : ℕ) → k < i + 1 → k ≢ r → (k ≡ i) ⊎ (k ≡ i → ⊥) → IsReduced (row_at old k) own (times (entry_at (row_at old k) c) (inverse p)) (row_at (slice_set now i y) k)
-    split k l d (inl e) = subst (λ (x : ℕ). IsReduced (row_at old x) own (times (entry_at (row_at old x) c) (inverse p)) (row_at (slice_set now i y) x)) (sym e)
+    by_cases : (k : ℕ) → k < i + 1 → k ≢ r → (k ≡ i) ⊎ (k ≡ i → ⊥) → IsReduced (row_at old k) own (times (entry_at (row_at old k) c) (inverse p)) (row_at (slice_set now i y) k)
+    by_cases k l d (inl e) = subst (λ (x : ℕ). IsReduced (row_at old x) own (times (entry_at (row_at old x) c) (inverse p)) (row_at (slice_set now i y) x)) (sym e)
         (subst (IsReduced (row_at old i) own (times (entry_at (row_at old i) c) (inverse p))) (sym (get_or-set_same now i y [] h)) red)
-    split k l d (inr n) = subst (IsReduced (row_at old k) own (times (entry_at (row_at old k) c) (inverse p))) (sym (get_or-set_other now i k y [] n)) (u.done k (omega arith) d)
+    by_cases k l d (inr n) = subst (IsReduced (row_at old k) own (times (entry_at (row_at old k) c) (inverse p))) (sym (get_or-set_other now i k y [] n)) (u.done k (omega arith) d)
 
     split_fits : (k : ℕ) → k < i + 1 → k ≢ r → (k ≡ i) ⊎ (k ≡ i → ⊥) → RowStepFits (row_at old k) own c p
     split_fits k l d (inl e) = subst (λ (x : ℕ). RowStepFits (row_at old x) own c p) (sym e) fit

@@ -60,10 +60,10 @@ module _ {A : Type 0} (F : OrderedField A) (m n : ℕ) where
 
   pub start_has_invariants : (p : FeasibilityProblem A) → HasInvariants F m n p (start F m n p)
   start_has_invariants p = record {
-    combines = λ i j h. combined i j (cases_eq i m) h;
+    combines = λ i j h. row_combines_start i j (cases_eq i m) h;
     spans = λ k j h. sym (sum_picks_row p k j (λ i. start_row F m n p k ((start F m n p).basis i)) (λ i. (start F m n p).entry i j) h
         (λ i l. ap (start_row F m n p k) (start_basis p i l) ∙ row_artificial p k i l) (λ i l. start_entry p i j l));
-    rights = λ i h. subst (IsAtLeastZero F) (sym (start_entry p i (n + m) h ∙ row_right p i)) (signed (p.target i) (F.order.is_least (p.target i)) refl);
+    rights = λ i h. subst (IsAtLeastZero F) (sym (start_entry p i (n + m) h ∙ row_right p i)) (signed_at_least_zero (p.target i) (F.order.is_least (p.target i)) refl);
     costs = λ j. cost_is_weighted_sum p j (λ k. cost_of F m n ((start F m n p).basis k))
         (λ k l. ap (cost_of F m n) (start_basis p k l) ∙ ap (λ b. cond b F.ring.null (F.ring.neg F.ring.unit)) (le-ltb (n + k) n (omega arith)))
         ∙ sum_same F.ring m (λ k. F.ring.mul (cost_of F m n ((start F m n p).basis k)) (start_row F m n p k j)) (λ k. F.ring.mul (cost_of F m n ((start F m n p).basis k)) ((start F m n p).entry k j))
@@ -72,12 +72,12 @@ module _ {A : Type 0} (F : OrderedField A) (m n : ℕ) where
     own = λ k h. inr (start_basis p k h);
   }
     where
-      signed : (x : A) (b : Bool) → F.order.is_least x ≡ b → IsAtLeastZero F (F.ring.mul (cond b F.ring.unit (F.ring.neg F.ring.unit)) x)
-      signed x true e = subst (IsAtLeastZero F) (sym (F.ring.unit-mul x)) e
-      signed x false e = subst (IsAtLeastZero F) (ring F.ring (x ∷ []) (minus (v 0)) (times (minus one) (v 0)) refl) (below-neg F x e)
+      signed_at_least_zero : (x : A) (b : Bool) → F.order.is_least x ≡ b → IsAtLeastZero F (F.ring.mul (cond b F.ring.unit (F.ring.neg F.ring.unit)) x)
+      signed_at_least_zero x true e = subst (IsAtLeastZero F) (sym (F.ring.unit-mul x)) e
+      signed_at_least_zero x false e = subst (IsAtLeastZero F) (ring F.ring (x ∷ []) (minus (v 0)) (times (minus one) (v 0)) refl) (below-neg F x e)
 
-      combined : (i j : ℕ) → (i ≡ m) ⊎ (i ≡ m → ⊥) → i ≤ m → (start F m n p).entry i j ≡ sum_to F.ring m (λ k. F.ring.mul ((start F m n p).entry i (n + k)) (start_row F m n p k j))
-      combined i j (inl e) h = subst (λ (x : ℕ). (start F m n p).entry x j ≡ sum_to F.ring m (λ k. F.ring.mul ((start F m n p).entry x (n + k)) (start_row F m n p k j))) (sym e)
+      row_combines_start : (i j : ℕ) → (i ≡ m) ⊎ (i ≡ m → ⊥) → i ≤ m → (start F m n p).entry i j ≡ sum_to F.ring m (λ k. F.ring.mul ((start F m n p).entry i (n + k)) (start_row F m n p k j))
+      row_combines_start i j (inl e) h = subst (λ (x : ℕ). (start F m n p).entry x j ≡ sum_to F.ring m (λ k. F.ring.mul ((start F m n p).entry x (n + k)) (start_row F m n p k j))) (sym e)
           (cost_is_weighted_sum p j (λ k. (start F m n p).entry m (n + k)) (λ k l. artificial_cost p k l))
-      combined i j (inr d) h = let l : i < m = omega arith in start_entry p i j l
+      row_combines_start i j (inr d) h = let l : i < m = omega arith in start_entry p i j l
           ∙ sym (sum_picks_row p i j (λ k. (start F m n p).entry i (n + k)) (λ k. start_row F m n p k j) l (λ k q. start_entry p i (n + k) l ∙ row_artificial p i k q) (λ k q. refl))

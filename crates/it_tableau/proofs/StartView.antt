@@ -1,5 +1,5 @@
 -- The rows of the start with their cost row show the start, and its numbers are theirs.
-use Rattle.std.proofs.Common.{◌≡◌, ℕ, ◌+◌, ◌<◌, ◌≤◌, pos, List, [], ◌∷◌, ◌++◌, length, length-append, slice_index_or, refl, sym, ap, ap₂, subst, ◌∙◌, ◌⊎◌, inl, inr, arith, cond, ltb, eqb}
+use Rattle.std.proofs.Common.{◌≡◌, ℕ, ◌+◌, ◌<◌, ◌≤◌, pos, List, [], ◌∷◌, ◌++◌, length, length-append, slice_index_or, refl, sym, ap, ap₂, subst, ◌∙◌, ◌⊎◌, inl, inr, arith, cond, eqb}
 use Rattle.std.proofs.lemmas.Bool.{cases_lt, cases_eq, lt-ltb, le-ltb, eq-eqb, ne_eqb}
 use Rattle.std.proofs.lemmas.List.{get_or_append_left, get_or_past}
 use Rattle.std.proofs.Math.Seq.{get_or-append_seam}
@@ -64,44 +64,38 @@ module _ (cs : List ℕ) (columns : List Terms) (target : Terms) where
       cost_past : (j : ℕ) → length columns + length cs + 1 ≤ j → Q.minus (sum_to ring_ℚ (length cs) (λ i. entry i j)) ≡ Q.integer (pos 0)
       cost_past j l = ap Q.minus (sum_same ring_ℚ m (λ i. entry i j) (λ i. Q.integer (pos 0)) (λ i q. entry_past i j q l) ∙ sum_null ring_ℚ m) ∙ ring ring_ℚ [] (minus nil) nil refl
 
-      all : List (List Rational)
-      all = rows ++ cost ∷ []
+      upper_rows_stay : (i : ℕ) → i < length cs → row_at (rows ++ cost ∷ []) i ≡ row_at rows i
+      upper_rows_stay i h = get_or_append_left rows (cost ∷ []) [] i (omega (arith, a.rows_are))
 
-      upper : (i : ℕ) → i < length cs → row_at (rows ++ cost ∷ []) i ≡ row_at rows i
-      upper i h = get_or_append_left rows (cost ∷ []) [] i (omega (arith, a.rows_are))
-
-      last : (i : ℕ) → i ≡ length cs → row_at (rows ++ cost ∷ []) i ≡ cost
-      last i e = ap (row_at (rows ++ cost ∷ [])) (e ∙ sym a.rows_are) ∙ get_or-append_seam rows cost [] []
+      last_row_is_cost : (i : ℕ) → i ≡ length cs → row_at (rows ++ cost ∷ []) i ≡ cost
+      last_row_is_cost i e = ap (row_at (rows ++ cost ∷ [])) (e ∙ sym a.rows_are) ∙ get_or-append_seam rows cost [] []
 
       all_length : length (rows ++ cost ∷ []) ≡ length cs + 1
       all_length = length-append rows (cost ∷ []) ∙ (let l = a.rows_are in omega (arith, l))
 
-      opened : (i j : ℕ) → (start_of cs columns target).entry i j ≡ cond (ltb i (length cs)) (entry i j) (cond (eqb i (length cs)) (Q.minus (sum_to ring_ℚ (length cs) (λ k. entry k j))) (Q.integer (pos 0)))
-      opened i j = refl
-
       entries : (i j : ℕ) → (i < length cs) ⊎ (length cs ≤ i) → (i ≡ length cs) ⊎ (i ≡ length cs → ⊥) → (j < length columns + length cs + 1) ⊎ (length columns + length cs + 1 ≤ j)
           → entry_at (row_at (rows ++ cost ∷ []) i) j ≡ (start_of cs columns target).entry i j
-      entries i j (inl h) e w = ap (λ r. entry_at r j) (upper i h) ∙ split w
+      entries i j (inl h) e w = ap (λ r. entry_at r j) (upper_rows_stay i h) ∙ by_cases w
           ∙ ap (λ b. cond b (entry i j) (cond (eqb i m) (Q.minus (sum_to ring_ℚ m (λ k. entry k j))) (Q.integer (pos 0)))) (sym (lt-ltb i m h))
         where
-          split : (j < length columns + length cs + 1) ⊎ (length columns + length cs + 1 ≤ j) → entry_at (row_at rows i) j ≡ entry i j
-          split (inl l) = (a.entries_are i h).entries j l
-          split (inr l) = entry_past_end (row_at rows i) j (omega (arith, (a.entries_are i h).length_is)) ∙ sym (entry_past i j h l)
-      entries i j (inr h) (inl e) w = ap (λ r. entry_at r j) (last i e) ∙ split w
+          by_cases : (j < length columns + length cs + 1) ⊎ (length columns + length cs + 1 ≤ j) → entry_at (row_at rows i) j ≡ entry i j
+          by_cases (inl l) = (a.entries_are i h).entries j l
+          by_cases (inr l) = entry_past_end (row_at rows i) j (omega (arith, (a.entries_are i h).length_is)) ∙ sym (entry_past i j h l)
+      entries i j (inr h) (inl e) w = ap (λ r. entry_at r j) (last_row_is_cost i e) ∙ by_cases w
           ∙ ap₂ (λ b d. cond b (entry i j) (cond d (Q.minus (sum_to ring_ℚ m (λ k. entry k j))) (Q.integer (pos 0)))) (sym (le-ltb i m h)) (sym (eq-eqb i m e))
         where
-          split : (j < length columns + length cs + 1) ⊎ (length columns + length cs + 1 ≤ j) → entry_at cost j ≡ Q.minus (sum_to ring_ℚ (length cs) (λ k. entry k j))
-          split (inl l) = cost_is j l
-          split (inr l) = entry_past_end cost j (omega (arith, s.length_is)) ∙ sym (cost_past j l)
+          by_cases : (j < length columns + length cs + 1) ⊎ (length columns + length cs + 1 ≤ j) → entry_at cost j ≡ Q.minus (sum_to ring_ℚ (length cs) (λ k. entry k j))
+          by_cases (inl l) = cost_is j l
+          by_cases (inr l) = entry_past_end cost j (omega (arith, s.length_is)) ∙ sym (cost_past j l)
       entries i j (inr h) (inr d) w = entry_past_rows (rows ++ cost ∷ []) i j (omega (arith, all_length))
           ∙ ap₂ (λ b d. cond b (entry i j) (cond d (Q.minus (sum_to ring_ℚ m (λ k. entry k j))) (Q.integer (pos 0)))) (sym (le-ltb i m h)) (sym (ne_eqb i m d))
 
       module _ (basis : List ℕ) (count : length basis ≡ length cs) (value : (i : ℕ) → i < length cs → slice_index_or basis i 0 ≡ length columns + i) where
-        basic : (i : ℕ) → (i < length cs) ⊎ (length cs ≤ i) → slice_index_or basis i 0 ≡ (start_of cs columns target).basis i
-        basic i (inl h) = value i h ∙ ap (λ b. cond b (n + i) 0) (sym (lt-ltb i m h))
-        basic i (inr h) = get_or_past basis i 0 (omega (arith, count)) ∙ ap (λ b. cond b (n + i) 0) (sym (le-ltb i m h))
+        basis_is : (i : ℕ) → (i < length cs) ⊎ (length cs ≤ i) → slice_index_or basis i 0 ≡ (start_of cs columns target).basis i
+        basis_is i (inl h) = value i h ∙ ap (λ b. cond b (n + i) 0) (sym (lt-ltb i m h))
+        basis_is i (inr h) = get_or_past basis i 0 (omega (arith, count)) ∙ ap (λ b. cond b (n + i) 0) (sym (le-ltb i m h))
 
         pub start_shown : table_of (rows ++ cost ∷ []) basis ≡ start_of cs columns target
         start_shown = ap₂ (λ (e : ℕ → ℕ → Rational) (b : ℕ → ℕ). let t : SimplexTable Rational = record { entry = e; basis = b } in t)
             (same_functions (λ i. same_functions (λ j. entries i j (cases_lt i m) (cases_eq i m) (cases_lt j (n + m + 1)))))
-            (same_functions (λ i. basic i (cases_lt i m)))
+            (same_functions (λ i. basis_is i (cases_lt i m)))

@@ -54,21 +54,21 @@ module _ (terms : RowTerms) (old : List Rational) (narrow : AreNarrow old) (i : 
         c_in : column_at terms i < length old
         c_in = let c = column_in in let e = w.count in omega (arith, c, e)
 
-        own : SumFits (entry_in terms (column_at terms i)) (entry_at old (column_at terms i)) × (entry_at new (column_at terms i) ≡ plus (entry_in terms (column_at terms i)) (entry_at old (column_at terms i))) × IsNarrow (entry_at new (column_at terms i))
-        own = (
+        own_column_is_done : SumFits (entry_in terms (column_at terms i)) (entry_at old (column_at terms i)) × (entry_at new (column_at terms i) ≡ plus (entry_in terms (column_at terms i)) (entry_at old (column_at terms i))) × IsNarrow (entry_at new (column_at terms i))
+        own_column_is_done = (
           subst (SumFits (entry_in terms (column_at terms i))) sum_is_unchanged (subst (λ (x : Rational). SumFits x (entry_at now (column_at terms i))) (sym (at_column (length old) terms i w.next w.rest h)) fit),
           a.own ∙ ap (λ x. plus x (entry_at now (column_at terms i))) (sym (at_column (length old) terms i w.next w.rest h)) ∙ ap (plus (entry_in terms (column_at terms i))) sum_is_unchanged,
           a.narrow,
         )
 
-        before : (j : ℕ) → j < column_at terms i → (j < w.next) ⊎ (w.next ≤ j) → SumFits (entry_in terms j) (entry_at old j) × (entry_at now j ≡ plus (entry_in terms j) (entry_at old j)) × IsNarrow (entry_at now j)
-        before j l (inl m) = w.done j m
-        before j l (inr m) = null_column_is_done j m (let c = c_in in omega (arith, c, l)) (before_column (length old) terms i w.next w.rest h j m l)
+        earlier_column_is_done : (j : ℕ) → j < column_at terms i → (j < w.next) ⊎ (w.next ≤ j) → SumFits (entry_in terms j) (entry_at old j) × (entry_at now j ≡ plus (entry_in terms j) (entry_at old j)) × IsNarrow (entry_at now j)
+        earlier_column_is_done j l (inl m) = w.done j m
+        earlier_column_is_done j l (inr m) = null_column_is_done j m (let c = c_in in omega (arith, c, l)) (before_column (length old) terms i w.next w.rest h j m l)
 
         by_column : (j : ℕ) → j < column_at terms i + 1 → (j ≡ column_at terms i) ⊎ (j ≡ column_at terms i → ⊥)
             → SumFits (entry_in terms j) (entry_at old j) × (entry_at new j ≡ plus (entry_in terms j) (entry_at old j)) × IsNarrow (entry_at new j)
-        by_column j l (inl e) = subst (λ (k : ℕ). SumFits (entry_in terms k) (entry_at old k) × (entry_at new k ≡ plus (entry_in terms k) (entry_at old k)) × IsNarrow (entry_at new k)) (sym e) own
-        by_column j l (inr d) = let b = before j (omega (arith, l, d)) (cases_lt j w.next) in (b.0, a.others j d ∙ b.1, subst IsNarrow (sym (a.others j d)) b.2)
+        by_column j l (inl e) = subst (λ (k : ℕ). SumFits (entry_in terms k) (entry_at old k) × (entry_at new k ≡ plus (entry_in terms k) (entry_at old k)) × IsNarrow (entry_at new k)) (sym e) own_column_is_done
+        by_column j l (inr d) = let b = earlier_column_is_done j (omega (arith, l, d)) (cases_lt j w.next) in (b.0, a.others j d ∙ b.1, subst IsNarrow (sym (a.others j d)) b.2)
 
   module _ (over : length terms ≤ i) where
     all_columns_are_done : (j : ℕ) → j < length old → SumFits (entry_in terms j) (entry_at old j) × (entry_at now j ≡ plus (entry_in terms j) (entry_at old j)) × IsNarrow (entry_at now j)
@@ -106,16 +106,16 @@ module _ (rows : List (List Rational)) (width k : ℕ) (terms : RowTerms) (lists
   row_is_summed new fits a narrow = record {
     sums_are = record {
       length_is = a.same_length ∙ w.sums_are.length_is;
-      entries = λ j l. a.entries j (inside j l) ∙ ap (λ x. plus x (entry_at sums j)) (lists.entries j l) ∙ ap (plus (entry_at (row_at rows k) j)) (w.sums_are.entries j l)
+      entries = λ j l. a.entries j (column_in_sums j l) ∙ ap (λ x. plus x (entry_at sums j)) (lists.entries j l) ∙ ap (plus (entry_at (row_at rows k) j)) (w.sums_are.entries j l)
           ∙ ap (column_sum rows j) (one_more k);
     };
     narrow = narrow;
     fits = λ j l. fits_more k (λ i. SumFits (entry_at (row_at rows i) j) (column_sum rows j i)) (w.fits j l)
-        (subst (λ (x : Rational). SumFits x (column_sum rows j k)) (lists.entries j l) (subst (SumFits (entry_in terms j)) (w.sums_are.entries j l) (fits j (inside j l))));
+        (subst (λ (x : Rational). SumFits x (column_sum rows j k)) (lists.entries j l) (subst (SumFits (entry_in terms j)) (w.sums_are.entries j l) (fits j (column_in_sums j l))));
   }
     where
       one_more : (n : ℕ) → suc n ≡ n + 1
       one_more n = omega arith
 
-      inside : (j : ℕ) → j < width → j < length sums
-      inside j l = let e = w.sums_are.length_is in omega (arith, e, l)
+      column_in_sums : (j : ℕ) → j < width → j < length sums
+      column_in_sums j l = let e = w.sums_are.length_is in omega (arith, e, l)

@@ -87,11 +87,11 @@ module _ {A : Type 0} (F : OrderedField A) where
   all_null zero f h e k l = absurd (omega arith)
   all_null (suc n) f h e k l = by_cases (eq-or-lt_of_le (le_of_suc-le-suc l)) (all_null n f (λ k l. h k (omega arith)) (sum_is_null (f n) (sum_to F.ring n f) last_null e) k)
     where
-      opposite : (a b : A) → F.ring.add a b ≡ F.ring.null → b ≡ F.ring.neg a
-      opposite a b e = ring F.ring (a ∷ b ∷ []) (v 1) (plus (plus (v 0) (v 1)) (minus (v 0))) refl ∙ ap (λ z. F.ring.add z (F.ring.neg a)) e ∙ F.ring.null-add (F.ring.neg a)
+      second_is_negation : (a b : A) → F.ring.add a b ≡ F.ring.null → b ≡ F.ring.neg a
+      second_is_negation a b e = ring F.ring (a ∷ b ∷ []) (v 1) (plus (plus (v 0) (v 1)) (minus (v 0))) refl ∙ ap (λ z. F.ring.add z (F.ring.neg a)) e ∙ F.ring.null-add (F.ring.neg a)
 
       last_null : f n ≡ F.ring.null
-      last_null = F.order.strict (f n) (h n (omega arith)) (rw (← opposite (f n) (sum_to F.ring n f) e) (sum_least n f (λ k l. h k (omega arith))))
+      last_null = F.order.strict (f n) (h n (omega arith)) (rw (← second_is_negation (f n) (sum_to F.ring n f) e) (sum_least n f (λ k l. h k (omega arith))))
 
       sum_is_null : (a b : A) → a ≡ F.ring.null → F.ring.add a b ≡ F.ring.null → b ≡ F.ring.null
       sum_is_null a b h e = sym (F.ring.null-add b) ∙ ap (λ z. F.ring.add z b) (sym h) ∙ e

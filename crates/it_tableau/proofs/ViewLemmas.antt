@@ -30,13 +30,13 @@ entry_past_rows rows i j h = ap (λ r. entry_at r j) (get_or_past rows i [] h) �
 pub new_shape : (m n : ℕ) (old new : List (List Rational)) (basis : List ℕ) (r c : ℕ) → r < m → HasShape m n old basis → ArePivoted old r c new → HasShape m n new (slice_set basis r c)
 new_shape m n old new basis r c hr s p = record {
   rows_are = p.same_length ∙ s.rows_are;
-  entries_are = λ i l. split i l (cases_eq i r);
+  entries_are = λ i l. by_cases i l (cases_eq i r);
   basis_is = length-set basis r c ∙ s.basis_is;
 }
   where
-    split : (i : ℕ) → i < m + 1 → (i ≡ r) ⊎ (i ≡ r → ⊥) → length (row_at new i) ≡ n + m + 1
-    split i l (inl e) = ap (λ k. length (row_at new k)) e ∙ p.own.same_length ∙ s.entries_are r (omega arith)
-    split i l (inr d) = (p.others i (omega (arith, s.rows_are)) d).same_length ∙ s.entries_are i l
+    by_cases : (i : ℕ) → i < m + 1 → (i ≡ r) ⊎ (i ≡ r → ⊥) → length (row_at new i) ≡ n + m + 1
+    by_cases i l (inl e) = ap (λ k. length (row_at new k)) e ∙ p.own.same_length ∙ s.entries_are r (omega arith)
+    by_cases i l (inr d) = (p.others i (omega (arith, s.rows_are)) d).same_length ∙ s.entries_are i l
 
 pub pivot_is_shown : (m n : ℕ) (old new : List (List Rational)) (basis : List ℕ) (r c : ℕ) → r < m → c < n + m → HasShape m n old basis → ArePivoted old r c new
     → table_of new (slice_set basis r c) ≡ pivot field_ℚ (table_of old basis) r c
@@ -50,13 +50,13 @@ pivot_is_shown m n old new basis r c hr hc s p = ap₂ (λ (e : ℕ → ℕ → 
     new_length : (i : ℕ) → i < m + 1 → length (row_at new i) ≡ n + m + 1
     new_length = (new_shape m n old new basis r c hr s p).entries_are
 
-    own : (i j : ℕ) → i ≡ r → (pivot field_ℚ (table_of old basis) r c).entry i j ≡ Q.times (entry_at (row_at old r) j) (Q.inverse (entry_at (row_at old r) c))
-    own i j e = ap (λ b. cond b (Q.times (entry_at (row_at old r) j) (Q.inverse (entry_at (row_at old r) c)))
+    own_row_entry : (i j : ℕ) → i ≡ r → (pivot field_ℚ (table_of old basis) r c).entry i j ≡ Q.times (entry_at (row_at old r) j) (Q.inverse (entry_at (row_at old r) c))
+    own_row_entry i j e = ap (λ b. cond b (Q.times (entry_at (row_at old r) j) (Q.inverse (entry_at (row_at old r) c)))
         (Q.plus (entry_at (row_at old i) j) (Q.minus (Q.times (entry_at (row_at old r) j) (Q.times (entry_at (row_at old i) c) (Q.inverse (entry_at (row_at old r) c))))))) (eq-eqb i r e)
 
-    other : (i j : ℕ) → (i ≡ r → ⊥) → (pivot field_ℚ (table_of old basis) r c).entry i j
+    other_row_entry : (i j : ℕ) → (i ≡ r → ⊥) → (pivot field_ℚ (table_of old basis) r c).entry i j
         ≡ Q.plus (entry_at (row_at old i) j) (Q.minus (Q.times (entry_at (row_at old r) j) (Q.times (entry_at (row_at old i) c) (Q.inverse (entry_at (row_at old r) c)))))
-    other i j d = ap (λ b. cond b (Q.times (entry_at (row_at old r) j) (Q.inverse (entry_at (row_at old r) c)))
+    other_row_entry i j d = ap (λ b. cond b (Q.times (entry_at (row_at old r) j) (Q.inverse (entry_at (row_at old r) c)))
         (Q.plus (entry_at (row_at old i) j) (Q.minus (Q.times (entry_at (row_at old r) j) (Q.times (entry_at (row_at old i) c) (Q.inverse (entry_at (row_at old r) c))))))) (ne_eqb i r d)
 
     zero_times : (x y : Rational) → x ≡ Q.integer (pos 0) → Q.times x y ≡ Q.integer (pos 0)
@@ -69,16 +69,16 @@ pivot_is_shown m n old new basis r c hr hc s p = ap₂ (λ (e : ℕ → ℕ → 
     zero_quotient a x y u e f = ap₂ (λ b z. Q.plus b (Q.minus (Q.times x (Q.times z u)))) e f ∙ ring ring_ℚ (x ∷ u ∷ []) (plus nil (minus (times (v 0) (times nil (v 1))))) nil refl
 
     entry : (i j : ℕ) → (i < m + 1) ⊎ (m + 1 ≤ i) → (j < n + m + 1) ⊎ (n + m + 1 ≤ j) → (i ≡ r) ⊎ (i ≡ r → ⊥) → entry_at (row_at new i) j ≡ (pivot field_ℚ (table_of old basis) r c).entry i j
-    entry i j (inl l) (inl k) (inl e) = ap (λ x. entry_at (row_at new x) j) e ∙ p.own.entries j (omega (arith, s.entries_are r (omega arith))) ∙ sym (own i j e)
-    entry i j (inl l) (inl k) (inr d) = (p.others i (omega (arith, s.rows_are)) d).entries j (omega (arith, s.entries_are i l)) ∙ sym (other i j d)
+    entry i j (inl l) (inl k) (inl e) = ap (λ x. entry_at (row_at new x) j) e ∙ p.own.entries j (omega (arith, s.entries_are r (omega arith))) ∙ sym (own_row_entry i j e)
+    entry i j (inl l) (inl k) (inr d) = (p.others i (omega (arith, s.rows_are)) d).entries j (omega (arith, s.entries_are i l)) ∙ sym (other_row_entry i j d)
     entry i j (inl l) (inr k) (inl e) = entry_past_end (row_at new i) j (omega (arith, new_length i l))
-        ∙ sym (own i j e ∙ zero_times (entry_at (row_at old r) j) (Q.inverse (entry_at (row_at old r) c)) (entry_past_end (row_at old r) j (omega (arith, s.entries_are r (omega arith)))))
+        ∙ sym (own_row_entry i j e ∙ zero_times (entry_at (row_at old r) j) (Q.inverse (entry_at (row_at old r) c)) (entry_past_end (row_at old r) j (omega (arith, s.entries_are r (omega arith)))))
     entry i j (inl l) (inr k) (inr d) = entry_past_end (row_at new i) j (omega (arith, new_length i l))
-        ∙ sym (other i j d ∙ zero_less (entry_at (row_at old i) j) (entry_at (row_at old r) j) (Q.times (entry_at (row_at old i) c) (Q.inverse (entry_at (row_at old r) c)))
+        ∙ sym (other_row_entry i j d ∙ zero_less (entry_at (row_at old i) j) (entry_at (row_at old r) j) (Q.times (entry_at (row_at old i) c) (Q.inverse (entry_at (row_at old r) c)))
         (entry_past_end (row_at old i) j (omega (arith, s.entries_are i l))) (entry_past_end (row_at old r) j (omega (arith, s.entries_are r (omega arith)))))
     entry i j (inr l) k (inl e) = absurd (omega arith)
     entry i j (inr l) k (inr d) = entry_past_rows new i j (omega (arith, p.same_length, s.rows_are))
-        ∙ sym (other i j d ∙ zero_quotient (entry_at (row_at old i) j) (entry_at (row_at old r) j) (entry_at (row_at old i) c) (Q.inverse (entry_at (row_at old r) c))
+        ∙ sym (other_row_entry i j d ∙ zero_quotient (entry_at (row_at old i) j) (entry_at (row_at old r) j) (entry_at (row_at old i) c) (Q.inverse (entry_at (row_at old r) c))
         (entry_past_rows old i j (omega (arith, s.rows_are))) (entry_past_rows old i c (omega (arith, s.rows_are))))
 
     column : (i : ℕ) → (i ≡ r) ⊎ (i ≡ r → ⊥) → get_or (slice_set basis r c) i 0 ≡ cond (eqb i r) c (get_or basis i 0)

@@ -1,8 +1,8 @@
 -- Sums of whole numbers: an addition fits exactly where its result does.
 use Rattle.std.proofs.Common.{◌≡◌, Bool, true, false, cond, ℕ, zero, suc, ◌<◌, ◌≤◌, ℤ, pos, ◌+ℤ◌, ◌*ℤ◌, neg_ℤ, unsigned_abs, sym, ap, subst, ◌∙◌, arith, lit<}
-use Rattle.std.proofs.lemmas.Int.{ints}
 use Rattle.it_number.specs.Limit.{IsWithin}
 use Rattle.it_number.proofs.Quotients.{one_pos}
+use Rattle.it_number.proofs.SignLemmas.{size_negated}
 use Rattle.it_rational.specs.Rational.{Rational, integer, minus, times}
 use Rattle.it_rational.proofs.Names.{own_parts}
 use Rattle.it_rational.proofs.RationalLaws.{ring_ℚ}
@@ -19,10 +19,7 @@ pub whole_number : (z : ℤ) → IsWithin z → IsWholeNumber (integer z)
 whole_number z h = record { whole_is = (whole_parts z).1; narrow = (whole-narrow z).0 h }
 
 pub minus_number : (q : Rational) → IsWholeNumber q → IsWholeNumber (minus q)
-minus_number q w = record { whole_is = (own_parts (neg_ℤ q.num) q.den q.positive (rw (size q.num) q.lowest)).1 ∙ w.whole_is; narrow = minus-narrow q w.narrow }
-  where
-    size : (z : ℤ) → unsigned_abs (neg_ℤ z) ≡ unsigned_abs z
-    size z = omega (arith, ints)
+minus_number q w = record { whole_is = (own_parts (neg_ℤ q.num) q.den q.positive (rw (size_negated q.num) q.lowest)).1 ∙ w.whole_is; narrow = minus-narrow q w.narrow }
 
 pub zero_number : IsWholeNumber (integer (pos 0))
 zero_number = whole_number (pos 0) (lit< tt)

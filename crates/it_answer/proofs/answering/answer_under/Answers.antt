@@ -8,7 +8,7 @@ use Rattle.it_run.proofs.AnswerLemmas.{if_ok}
 use Rattle.it_answer.specs.RightAnswers.{IsAnswered}
 use Rattle.it_answer.specs.RightRegions.{IsRightElimination}
 use Rattle.it_answer.specs.RowAnswers.{AnswersForms}
-use Rattle.it_answer.proofs.AnswerLemmas.{left_of_rows, right}
+use Rattle.it_answer.proofs.AnswerLemmas.{left_of_rows, answers_relation}
 use Rattle.it_answer.proofs.answering.answer_under.Goals as goal
 
 pub returns-in-Prove : goal.returns-in-Prove
@@ -17,7 +17,7 @@ returns-in-Prove g c =
     let p = problem_view c.args.problem.now in
     let r = relation_view c.in-Prove.relation in
     if_ok c.relation_answer.result (λ a. AnswersForms p (targets p.space.variables r) (answer_view a) c.budget_of.result) (λ a. IsAnswered c.args.budgets _ q (answer_view a) _) c.relation_answer.ensures
-    (λ a answered. right q p c.requires.problem.space c.requires.problem.constraints c.requires.problem.limits c.args.budgets _ r (answer_view a) (ap verb_view c.in-Prove.is)
+    (λ a answered. answers_relation q p c.requires.problem.space c.requires.problem.constraints c.requires.problem.limits c.args.budgets _ r (answer_view a) (ap verb_view c.in-Prove.is)
     (subst (λ (b : Option ℕ). AnswersForms p (targets p.space.variables r) (answer_view a) b) c.budget_of.ensures answered))
 
 pub returns-in-Eliminate : goal.returns-in-Eliminate

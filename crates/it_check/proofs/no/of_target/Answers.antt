@@ -4,7 +4,7 @@ use Rattle.std.proofs.lemmas.Int.{ints}
 use Rattle.it_space.specs.Rows.{map_of}
 use Rattle.it_elemental.specs.Generators.{generators}
 use Rattle.it_check.specs.declared.verdicts.Verdict.TheVariants.{NotViolated}
-use Rattle.it_check.proofs.NoSteps.{target_wide, violated, not_violated}
+use Rattle.it_check.proofs.NoSteps.{target_wide, target_violated, not_violated}
 use Rattle.it_check.proofs.no.of_target.Goals as goal
 use mir.Syntax.{w128}
 
@@ -15,7 +15,7 @@ returns-in_default c =
 pub returns-then-value-lt0 : goal.returns-then-value-lt0
 returns-then-value-lt0 c =
     let fits : FitsSigned w128 c.in-Ok.value = search rules in
-    violated (length (generators (problem_view c.args.problem.now))) c.args.target.now (map_of c.args.point.now) c.value.result c.value.ensures c.in-Ok.value c.in-Ok.is (omega (arith, ints))
+    target_violated (length (generators (problem_view c.args.problem.now))) c.args.target.now (map_of c.args.point.now) c.value.result c.value.ensures c.in-Ok.value c.in-Ok.is (omega (arith, ints))
 
 pub returns-else-value-lt0 : goal.returns-else-value-lt0
 returns-else-value-lt0 c =

@@ -3,7 +3,7 @@ use Rattle.std.proofs.lemmas.List.{get_or_default}
 use Rattle.std.proofs.Math.Pow.{pow_mono}
 use Rattle.it_space.specs.Rows.{Terms, IsUpTo}
 use Rattle.it_space.specs.Spaces.{size_of}
-use Rattle.it_closure.proofs.Placing.{placing-start, stopped, went_on, placing-end, place_in, sets_in}
+use Rattle.it_closure.proofs.Placing.{placing-start, collapse_is_wide, went_on, placing-end, place_in, sets_in}
 use Rattle.it_closure.proofs.row_places.placed_sums.Goals as goal
 use mir.Syntax.{w128}
 
@@ -31,7 +31,7 @@ returns-in_err-put-clause-wide c =
     let below : i < length items = omega arith in
     let f : FitsSigned w128 t.1 = search rules in
     let wide = simp to_z-of_z at c.in_err-put.ensures.wide in
-    let stops = stopped c.args.dependences.now.space.variables c.args.dependences.now.list c.args.row.now items (size_of c.args.dependences.now.space + 1) c.loop-coordinate.sums i c.place.result t
+    let stops = collapse_is_wide c.args.dependences.now.space.variables c.args.dependences.now.list c.args.row.now items (size_of c.args.dependences.now.space + 1) c.loop-coordinate.sums i c.place.result t
     c.terms-coordinate-items.ensures.value below (get_or_default items i (0, pos 0) t below) c.place.ensures wide c.loop-coordinate.invariant in
     search (rules, stops)
 

@@ -4,7 +4,7 @@ use Rattle.it_space.specs.Rows.{one_at}
 use Rattle.it_polymatroid.specs.Elementals.{elemental_at, elemental_value}
 use Rattle.it_elemental.proofs.PlaceLemmas.{is_elemental}
 use Rattle.it_elemental.proofs.RowLemmas.{coefficient-row, within-row}
-use Rattle.it_elemental.proofs.GeneratorLemmas.{beyond}
+use Rattle.it_elemental.proofs.GeneratorLemmas.{no_coefficient_beyond}
 use Rattle.it_elemental.proofs.generators.elemental_coefficient.Goals as goal
 use mir.Syntax.{w128}
 
@@ -16,4 +16,4 @@ returns-then-coordinate-n c =
     ∙ sym (coefficient-row c.args.n c.args.coordinate (elemental_at c.args.n c.args.index) (omega arith))
 
 pub returns-else-coordinate-n : goal.returns-else-coordinate-n
-returns-else-coordinate-n c = sym (beyond (2 ^ c.args.n - 1) _ c.args.coordinate (within-row c.args.n (elemental_at c.args.n c.args.index) (is_elemental c.args.n c.args.index c.requires.listed)) (omega (arith, pow_mono {i = c.args.n} {j = 10} c.requires.few)))
+returns-else-coordinate-n c = sym (no_coefficient_beyond (2 ^ c.args.n - 1) _ c.args.coordinate (within-row c.args.n (elemental_at c.args.n c.args.index) (is_elemental c.args.n c.args.index c.requires.listed)) (omega (arith, pow_mono {i = c.args.n} {j = 10} c.requires.few)))

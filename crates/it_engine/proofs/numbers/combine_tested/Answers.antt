@@ -16,7 +16,7 @@ loop-k-preserved c =
     let l : c.loop-k.k < length c.loop-k.row.items = omega (arith, c.loop-k-test.true, c.loop-k.invariant.same_length) in
     let s0 = simp c.as_slice.ensures.value at c.in-Some.ensures.0 in
     let s1 = simp c.as_slice.ensures.value at c.in-Some.ensures.1 in
-    let f : FitsSigned w64 c.in-Some.number = small c.in-Some.number c.args.limit (ap unsigned_abs s1) s0 c.requires.limit in
+    let f : FitsSigned w64 c.in-Some.number = number_fits c.in-Some.number c.args.limit (ap unsigned_abs s1) s0 c.requires.limit in
     rw (to_z-of_z f) record {
       same_length = search rules;
       done = set_done c.loop-k.row.items c.loop-k.k c.in-Some.number (λ k z. z ≡ number_at c.args.row.now.items k *ℤ to_z w64 (of_z w64 c.args.a) +ℤ neg_ℤ (number_at c.args.by.now k *ℤ to_z w64 (of_z w64 c.args.b))) l c.loop-k.invariant.done
@@ -25,5 +25,5 @@ loop-k-preserved c =
       rest = set_rest c.loop-k.row.items c.args.row.now.items c.loop-k.k c.in-Some.number c.loop-k.invariant.rest;
     }
   where
-    small : (z : ℤ) (l : ℕ) {x : ℕ} → unsigned_abs z ≡ x → x ≤ l → l < 2 ^ 63 → FitsSigned w64 z
-    small z l e h k = let m : unsigned_abs z < 2 ^ 63 = omega (arith, e, h, k) in search (rules, m)
+    number_fits : (z : ℤ) (l : ℕ) {x : ℕ} → unsigned_abs z ≡ x → x ≤ l → l < 2 ^ 63 → FitsSigned w64 z
+    number_fits z l e h k = let m : unsigned_abs z < 2 ^ 63 = omega (arith, e, h, k) in search (rules, m)

@@ -15,8 +15,8 @@ taken_is c = c.replace-taken.ensures.value ∙ get_or_default c.args.rows.now c.
 entry_is : (c : After-price-entry) → c.price-entry.result ≡ value c.args.column.now (number_at (whole_row_at c.args.rows.now c.args.r).numbers)
 entry_is c = c.price-entry.ensures ∙ ap (λ (r : WholeRowView). value c.args.column.now (number_at r.numbers)) (taken_is c)
 
-positive : (c : After-price-entry) → pos 1 ≤ℤ c.price-entry.result
-positive c = subst (λ (z : ℤ). pos 1 ≤ℤ z) (sym (entry_is c)) c.requires.positive
+entry_is_positive : (c : After-price-entry) → pos 1 ≤ℤ c.price-entry.result
+entry_is_positive c = subst (λ (z : ℤ). pos 1 ≤ℤ z) (sym (entry_is c)) c.requires.positive
 
 entry_short : (c : After-price-entry) → unsigned_abs c.price-entry.result < 2 ^ 63
 entry_short c = subst (λ (z : ℤ). unsigned_abs z < 2 ^ 63) (sym (entry_is c)) (fitting_short (length c.args.rows.now) c.args.limit c.args.column.now (whole_row_at c.args.rows.now c.args.r) c.requires.column (c.requires.rows c.args.r c.requires.row))
@@ -28,7 +28,7 @@ quotient_is c =
 
 own_usable : (c : After-unit-p) → IsUsable (length c.args.rows.now) c.args.limit c.divided_by-own.result
 own_usable c = quotient_usable (length c.args.rows.now) c.args.limit (whole_row_at c.args.rows.now c.args.r) c.price-entry.result c.divided_by-own.result
-    (c.requires.rows c.args.r c.requires.row) (positive (goal.at.After-unit-p c).After-price-entry) (quotient_is c)
+    (c.requires.rows c.args.r c.requires.row) (entry_is_positive (goal.at.After-unit-p c).After-price-entry) (quotient_is c)
 
 pub update-requires-clause-row : goal.update-requires-clause-row
 update-requires-clause-row c =
@@ -70,6 +70,6 @@ returns-clause-pivoted c =
     let f : FitsSigned w64 c.unit-p.result = search rules in
     let u = simp to_z-of_z at c.loop-i.invariant in
     pivot_ends c.args.rows.now c.args.r (length c.args.rows.now) c.args.limit c.args.column.now c.price-entry.result c.loop-i.rows c.loop-i.i c.divided_by-own.result
-    c.requires.row (c.requires.rows c.args.r c.requires.row) (omega (arith, c.loop-i-test.false, c.loop-i.invariant.same_length)) (entry_is e) (positive e) (entry_short e)
+    c.requires.row (c.requires.rows c.args.r c.requires.row) (omega (arith, c.loop-i-test.false, c.loop-i.invariant.same_length)) (entry_is e) (entry_is_positive e) (entry_short e)
     (subst (λ (p : ℤ). IsPivotUnderWay c.args.rows.now c.loop-i.rows c.args.r c.loop-i.i
     (λ k row. IsUpdated (length c.args.rows.now) c.args.limit (whole_row_at c.args.rows.now k) c.divided_by-own.result c.args.column.now p row)) c.unit-p.ensures u) (quotient_is d)

@@ -6,12 +6,12 @@ use Rattle.it_fraction.proofs.ZeroLemmas.{zero_parts, minus-narrow, sum-zero-fit
 use Rattle.it_fraction.proofs.laws.zeros_fit.Goals as goal
 use Rattle.it_fraction.proofs.laws.zeros_fit.Goals.{After-den-den}
 
-narrow : (c : After-den-den) → IsNarrow c.args.x
-narrow c = (rw (← c.num-num.ensures.value) c.num-num.ensures.within, subst IsWithin c.den-den.ensures.value c.den-den.ensures.within)
+argument_is_narrow : (c : After-den-den) → IsNarrow c.args.x
+argument_is_narrow c = (rw (← c.num-num.ensures.value) c.num-num.ensures.within, subst IsWithin c.den-den.ensures.value c.den-den.ensures.within)
 
 pub returns : goal.returns
 returns c =
-    let n = narrow (goal.at.returns c).After-den-den in
+    let n = argument_is_narrow (goal.at.returns c).After-den-den in
     let zero = integer (pos 0) in
     let e : zero.num ≡ pos 0 = zero_parts.0 in
     record {

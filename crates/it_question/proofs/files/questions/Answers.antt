@@ -16,26 +16,26 @@ use Rattle.it_question.proofs.FileReadings.{file_read, bodies_limited, questions
 use Rattle.it_question.proofs.files.questions.Goals as goal
 
 -- reading began at the first of the lines
-begun : (items lines : List Line) (start : List Letter) (read : Reads (List BodyView)) → start ≡ letters_of_lines (map token_line lines) → lines ≡ items → read_file start ≡ read → read_file (letters_of_lines (map token_line items)) ≡ read
-begun items lines start read h e r = sym (ap read_file (h ∙ ap (λ (ls : List Line). letters_of_lines (map token_line ls)) e)) ∙ r
+items_are_read : (items lines : List Line) (start : List Letter) (read : Reads (List BodyView)) → start ≡ letters_of_lines (map token_line lines) → lines ≡ items → read_file start ≡ read → read_file (letters_of_lines (map token_line items)) ≡ read
+items_are_read items lines start read h e r = sym (ap read_file (h ∙ ap (λ (ls : List Line). letters_of_lines (map token_line ls)) e)) ∙ r
 
 begun_stop : (items lines : List Line) (start : List Letter) (stop : Stop) (rest : List Letter) → start ≡ letters_of_lines (map token_line lines) → lines ≡ items → StopsAs stop rest (read_file start) → StopsAs stop rest (read_file (letters_of_lines (map token_line items)))
-begun_stop items lines start stop rest h e s = subst (StopsAs stop rest) (sym (begun items lines start (read_file start) h e refl)) s
+begun_stop items lines start stop rest h e s = subst (StopsAs stop rest) (sym (items_are_read items lines start (read_file start) h e refl)) s
 
 same_lines : (P : List TokenLine → Type 0) (items lines : List Line) → lines ≡ items → P (map token_line items) → P (map token_line lines)
 same_lines P items lines e h = subst (λ (ls : List Line). P (map token_line ls)) (sym e) h
 
 pub with_texts-requires : goal.with_texts-requires
-with_texts-requires c = bodies_limited c.in-Ok.bodies.items (map token_line c.in_ok-lines.lines.items) (letters_left c.bodies.new.cursor) (begun _ _ _ _ c.at-cursor.ensures c.as_slice.ensures.value c.in-Ok.ensures)
+with_texts-requires c = bodies_limited c.in-Ok.bodies.items (map token_line c.in_ok-lines.lines.items) (letters_left c.bodies.new.cursor) (items_are_read _ _ _ _ c.at-cursor.ensures c.as_slice.ensures.value c.in-Ok.ensures)
 
 pub returns-in-Ok-clause-read : goal.returns-in-Ok-clause-read
 returns-in-Ok-clause-read c =
-    file_read c.args.bytes.now (map token_line c.in_ok-lines.lines.items) (map body_view c.in-Ok.bodies.items) (letters_left c.bodies.new.cursor) _ c.in_ok-lines.ensures (begun _ _ _ _ c.at-cursor.ensures c.as_slice.ensures.value c.in-Ok.ensures)
+    file_read c.args.bytes.now (map token_line c.in_ok-lines.lines.items) (map body_view c.in-Ok.bodies.items) (letters_left c.bodies.new.cursor) _ c.in_ok-lines.ensures (items_are_read _ _ _ _ c.at-cursor.ensures c.as_slice.ensures.value c.in-Ok.ensures)
     (c.in_ok-questions-in-Ok.ensures ∙ ap (λ (ls : List Line). with_texts (map token_line ls) (map body_view c.in-Ok.bodies.items)) c.as_slice-in-Ok.ensures.value)
 
 pub returns-in-Ok-clause-limits : goal.returns-in-Ok-clause-limits
 returns-in-Ok-clause-limits c =
-    questions_limited c.in_ok-questions-in-Ok.questions.items (map token_line c.in_ok-lines.lines.items) (map body_view c.in-Ok.bodies.items) (letters_left c.bodies.new.cursor) (begun _ _ _ _ c.at-cursor.ensures c.as_slice.ensures.value c.in-Ok.ensures)
+    questions_limited c.in_ok-questions-in-Ok.questions.items (map token_line c.in_ok-lines.lines.items) (map body_view c.in-Ok.bodies.items) (letters_left c.bodies.new.cursor) (items_are_read _ _ _ _ c.at-cursor.ensures c.as_slice.ensures.value c.in-Ok.ensures)
     (c.in_ok-questions-in-Ok.ensures ∙ ap (λ (ls : List Line). with_texts (map token_line ls) (map body_view c.in-Ok.bodies.items)) c.as_slice-in-Ok.ensures.value)
 
 pub stop_fault-requires-clause-few : goal.stop_fault-requires-clause-few

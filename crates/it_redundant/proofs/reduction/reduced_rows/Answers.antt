@@ -1,4 +1,4 @@
-use Rattle.std.proofs.Common.{◌<◌, ◌≤◌, ◌+◌, ◌++◌, sym, subst, arith, rules, length}
+use Rattle.std.proofs.Common.{◌<◌, ◌≤◌, ◌++◌, sym, subst, arith, rules, length}
 use Rattle.std.proofs.lemmas.List.{drop_all, length-drop, take_all}
 use Rattle.it_space.proofs.ListLemmas.{drop_item}
 use Rattle.it_space.specs.Problems.{problem_view}

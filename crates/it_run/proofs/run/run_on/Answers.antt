@@ -21,15 +21,15 @@ pub returns-in-Err-Wide-clause-end : goal.returns-in-Err-Wide-clause-end
 returns-in-Err-Wide-clause-end c = unbound_wide c.args.tableau.now c.steps.tableau c.steps.number c.steps.invariant.way c.if-is_done.ensures.no
     (c.in-Err-Wide.ensures.wide c.in-Err-Wide.field-0-is)
 
-made : (c : In-Ok-true) → IsStep c.steps.tableau c.step.new.tableau
-made c = subst (IsStepOrStuck c.steps.tableau c.step.new.tableau) c.in-Ok-true.field-0-test c.in-Ok-true.ensures.value
+loop_makes_step : (c : In-Ok-true) → IsStep c.steps.tableau c.step.new.tableau
+loop_makes_step c = subst (IsStepOrStuck c.steps.tableau c.step.new.tableau) c.in-Ok-true.field-0-test c.in-Ok-true.ensures.value
 
 pub steps-smaller : goal.steps-smaller
-steps-smaller c = steps_left_falls c.steps.tableau c.step.new.tableau (made (goal.at.steps-smaller c).In-Ok-true) c.steps.invariant.kept.holds
+steps-smaller c = steps_left_falls c.steps.tableau c.step.new.tableau (loop_makes_step (goal.at.steps-smaller c).In-Ok-true) c.steps.invariant.kept.holds
 
 pub steps-preserved : goal.steps-preserved
 steps-preserved c = let t = c.steps.tableau in let s = c.step.new.tableau in
-    let g : IsStep t s = made (goal.at.steps-preserved c).In-Ok-true in
+    let g : IsStep t s = loop_makes_step (goal.at.steps-preserved c).In-Ok-true in
     let f = c.steps.invariant.kept.frame in record {
       kept = record {
         usable = g.usable;

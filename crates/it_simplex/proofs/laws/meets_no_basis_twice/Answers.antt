@@ -5,9 +5,9 @@ use Rattle.it_tableau.proofs.StartLemmas.{start_has_invariants}
 use Rattle.it_run.proofs.BasisSets.{never_set_again}
 use Rattle.it_simplex.proofs.laws.meets_no_basis_twice.Goals as goal
 
-here : (b : ℕ) → b ≤ b
-here b = omega arith
+at_most_itself : (b : ℕ) → b ≤ b
+at_most_itself b = omega arith
 
 pub returns : goal.returns
 returns c = λ m n p a b l go w v.
-    never_set_again field_ℚ m n p (start field_ℚ m n p) (start_has_invariants field_ℚ m n p) b go a b l (here b) w v
+    never_set_again field_ℚ m n p (start field_ℚ m n p) (start_has_invariants field_ℚ m n p) b go a b l (at_most_itself b) w v

@@ -20,12 +20,12 @@ returns-then-not-branch c =
     (subst (λ (b : List ℕ). IsFinished c.args.columns.now c.args.limit c.args.self.now.rows c.args.self.now.basis None c.steps.self.rows b Point) (sym g.1)
     (unbound_stuck c.args.columns.now c.args.limit c.args.self.now.rows c.args.self.now.basis c.steps.self.rows c.steps.self.basis c.steps.invariant c.if-is_done.ensures.no g.2))
 
-made : (c : Else-not-branch) → IsEngineStep c.args.columns.now c.args.limit c.steps.self.rows c.steps.self.basis c.step.new.self.rows c.step.new.self.basis
-made c = subst (IsEngineStepOrStuck c.args.columns.now c.args.limit c.steps.self.rows c.steps.self.basis c.step.new.self.rows c.step.new.self.basis) c.if-not-branch.false c.in_ok-step.ensures
+loop_makes_step : (c : Else-not-branch) → IsEngineStep c.args.columns.now c.args.limit c.steps.self.rows c.steps.self.basis c.step.new.self.rows c.step.new.self.basis
+loop_makes_step c = subst (IsEngineStepOrStuck c.args.columns.now c.args.limit c.steps.self.rows c.steps.self.basis c.step.new.self.rows c.step.new.self.basis) c.if-not-branch.false c.in_ok-step.ensures
 
 pub steps-smaller : goal.steps-smaller
-steps-smaller c = step_lowers_steps_left c.args.columns.now c.args.limit c.args.self.now.rows c.args.self.now.basis c.steps.self.rows c.steps.self.basis c.steps.invariant c.step.new.self.rows c.step.new.self.basis (made (goal.at.steps-smaller c).Else-not-branch)
+steps-smaller c = step_lowers_steps_left c.args.columns.now c.args.limit c.args.self.now.rows c.args.self.now.basis c.steps.self.rows c.steps.self.basis c.steps.invariant c.step.new.self.rows c.step.new.self.basis (loop_makes_step (goal.at.steps-smaller c).Else-not-branch)
 
 pub steps-preserved : goal.steps-preserved
 steps-preserved c = step_is_made c.args.columns.now c.args.limit c.args.self.now.rows c.args.self.now.basis c.steps.self.rows c.steps.self.basis c.steps.invariant c.step.new.self.rows c.step.new.self.basis
-    c.if-is_done.ensures.no (made (goal.at.steps-preserved c).Else-not-branch)
+    c.if-is_done.ensures.no (loop_makes_step (goal.at.steps-preserved c).Else-not-branch)

@@ -26,13 +26,13 @@ leaving_row-requires-clause-suits c = subst (SuitsAll c.index-columns-column.res
     (fitting_suits (length c.args.self.now.rows) c.args.limit (slice_index_or c.args.columns.now c.in-Some.column []) (whole_row_at c.args.self.now.rows i) (c.requires.fitting c.in-Some.column (search rules)) (c.requires.usable i l)))
 
 -- the rows that are lent
-lent : (c : After-as_mut_slice) → c.as_mut_slice.result.now ≡ c.args.self.now.rows
-lent c = c.as_mut_slice.ensures.value ∙ ap (λ (e : EngineView). e.rows) c.self.view_is
+rows_are_lent : (c : After-as_mut_slice) → c.as_mut_slice.result.now ≡ c.args.self.now.rows
+rows_are_lent c = c.as_mut_slice.ensures.value ∙ ap (λ (e : EngineView). e.rows) c.self.view_is
 
 pub pivot-requires-clause-column : goal.pivot-requires-clause-column
 pivot-requires-clause-column c =
     let d = (goal.at.pivot-requires-clause-column c).After-as_mut_slice in
-    subst (λ (rows : List WholeRowView). IsFitting (length rows) c.args.limit c.index-columns-column-2.result) (sym (lent d))
+    subst (λ (rows : List WholeRowView). IsFitting (length rows) c.args.limit c.index-columns-column-2.result) (sym (rows_are_lent d))
     (subst (IsFitting (length c.args.self.now.rows) c.args.limit) (sym (item_by_default c.args.columns.now c.in-Some.column c.index-columns-column-2.result [] (search rules) c.index-columns-column-2.is))
     (c.requires.fitting c.in-Some.column (search rules)))
 
@@ -47,7 +47,7 @@ pivot-requires-clause-positive c =
     let ts = slice_index_or c.args.columns.now c.in-Some.column [] in
     let e = best_of c in
     let d = (goal.at.pivot-requires-clause-positive c).After-as_mut_slice in
-    subst (λ (rows : List WholeRowView). pos 1 ≤ℤ value c.index-columns-column-2.result (number_at (whole_row_at rows c.in_ok-row.row).numbers)) (sym (lent d))
+    subst (λ (rows : List WholeRowView). pos 1 ≤ℤ value c.index-columns-column-2.result (number_at (whole_row_at rows c.in_ok-row.row).numbers)) (sym (rows_are_lent d))
     (subst (λ (x : Terms). pos 1 ≤ℤ value x (number_at (whole_row_at c.args.self.now.rows c.in_ok-row.row).numbers)) (sym (item_by_default c.args.columns.now c.in-Some.column c.index-columns-column-2.result [] (search rules) c.index-columns-column-2.is))
     (above_one (entry_of ts c.args.self.now.rows c.in_ok-row.row)
     (best_above (entry_of ts c.args.self.now.rows) (right_side_of (length c.args.self.now.basis) c.args.self.now.rows) (basic_column_at c.args.self.now.basis) (length c.args.self.now.basis) c.in_ok-row.row e)))
@@ -61,7 +61,7 @@ returns-then-pivot c =
     let ts = slice_index_or c.args.columns.now c.in-Some.column [] in
     let column : c.index-columns-column-2.result ≡ ts = item_by_default c.args.columns.now c.in-Some.column c.index-columns-column-2.result [] (search rules) c.index-columns-column-2.is in
     let pivoted : AreWholeRowsPivoted (length rows) c.args.limit rows ts c.in_ok-row.row c.pivot.new.rows =
-    subst (λ (old : List WholeRowView). AreWholeRowsPivoted (length old) c.args.limit old ts c.in_ok-row.row c.pivot.new.rows) (lent f)
+    subst (λ (old : List WholeRowView). AreWholeRowsPivoted (length old) c.args.limit old ts c.in_ok-row.row c.pivot.new.rows) (rows_are_lent f)
     (subst (λ (x : Terms). AreWholeRowsPivoted (length c.as_mut_slice.result.now) c.args.limit c.as_mut_slice.result.now x c.in_ok-row.row c.pivot.new.rows) column c.if-pivot.ensures.pivoted) in
     let written : (with_items c.self.inside.rows c.pivot.new.rows).items ≡ c.pivot.new.rows =
     with_items_is c.self.inside.rows c.pivot.new.rows (pivoted.same_length ∙ ap (λ (e : EngineView). length e.rows) (sym c.self.view_is) ∙ sym c.self.inside.rows.ok.0) in

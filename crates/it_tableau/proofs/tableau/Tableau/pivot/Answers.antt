@@ -17,44 +17,44 @@ use Rattle.it_tableau.proofs.tableau.Tableau.pivot.Goals.{After-as_mut_slice, Af
 abbrev Old : After-as_mut_slice → List (List Rational)
 Old c = c.self.inside.rows.items
 
-lent : (c : After-as_mut_slice) → c.as_mut_slice.result.now ≡ c.self.inside.rows.items
-lent c = c.as_mut_slice.ensures.value
+lent_rows : (c : After-as_mut_slice) → c.as_mut_slice.result.now ≡ c.self.inside.rows.items
+lent_rows c = c.as_mut_slice.ensures.value
 
 seen_rows : (c : After-as_mut_slice) → c.self.inside.rows.items ≡ c.args.self.now.rows
 seen_rows c = ap (λ (s : TableauView). s.rows) c.self.view_is
 
-usable : (c : After-as_mut_slice) → c.self.inside.spent ≡ false
-usable c = ap (λ (s : TableauView). s.spent) c.self.view_is ∙ c.requires.usable
+table_is_usable : (c : After-as_mut_slice) → c.self.inside.spent ≡ false
+table_is_usable c = ap (λ (s : TableauView). s.spent) c.self.view_is ∙ c.requires.usable
 
-sound : (c : After-as_mut_slice) → IsSound c.self.inside.generators c.self.inside.width c.self.inside.rows.items c.self.inside.basis.items c.self.inside.negated.items
-sound c = c.self.invariant (usable c)
+rows_are_sound : (c : After-as_mut_slice) → IsSound c.self.inside.generators c.self.inside.width c.self.inside.rows.items c.self.inside.basis.items c.self.inside.negated.items
+rows_are_sound c = c.self.invariant (table_is_usable c)
 
 row_within : (c : After-as_mut_slice) → c.args.row < length c.self.inside.basis.items
 row_within c = let e = ap (λ (s : TableauView). length s.basis) c.self.view_is in omega (arith, e, c.requires.row)
 
 pub pivot_rows-requires-clause-some : goal.pivot_rows-requires-clause-some
 pivot_rows-requires-clause-some c =
-    subst (λ (rows : List (List Rational)). (entry_at (row_at rows c.args.row) c.args.column).num ≡ pos 0 → ⊥) (sym (lent c ∙ seen_rows c))
+    subst (λ (rows : List (List Rational)). (entry_at (row_at rows c.args.row) c.args.column).num ≡ pos 0 → ⊥) (sym (lent_rows c ∙ seen_rows c))
     (positive_some (entry_at (row_at c.args.self.now.rows c.args.row) c.args.column) c.requires.positive)
 
 -- the rows that are written back are those that the pivot made
-written : (c : After-pivot_rows) → ArePivoted c.as_mut_slice.result.now c.args.row c.args.column c.pivot_rows.new.rows
+written_rows : (c : After-pivot_rows) → ArePivoted c.as_mut_slice.result.now c.args.row c.args.column c.pivot_rows.new.rows
     → (with_items c.self.inside.rows c.pivot_rows.new.rows).items ≡ c.pivot_rows.new.rows
-written c p = with_items_is c.self.inside.rows c.pivot_rows.new.rows
+written_rows c p = with_items_is c.self.inside.rows c.pivot_rows.new.rows
     (p.same_length ∙ ap length c.as_mut_slice.ensures.value ∙ sym c.self.inside.rows.ok.0)
 
 -- on the rows of the fields
-pivoted : (c : After-pivot_rows) → ArePivoted c.as_mut_slice.result.now c.args.row c.args.column c.pivot_rows.new.rows
+rows_are_pivoted : (c : After-pivot_rows) → ArePivoted c.as_mut_slice.result.now c.args.row c.args.column c.pivot_rows.new.rows
     → ArePivoted c.self.inside.rows.items c.args.row c.args.column (with_items c.self.inside.rows c.pivot_rows.new.rows).items
-pivoted c p =
+rows_are_pivoted c p =
     subst (λ (old : List (List Rational)). ArePivoted old c.args.row c.args.column (with_items c.self.inside.rows c.pivot_rows.new.rows).items) c.as_mut_slice.ensures.value
-    (subst (ArePivoted c.as_mut_slice.result.now c.args.row c.args.column) (sym (written c p)) p)
+    (subst (ArePivoted c.as_mut_slice.result.now c.args.row c.args.column) (sym (written_rows c p)) p)
 
 pub invariant_of-self : goal.invariant_of-self
 invariant_of-self c spent = let d = (goal.at.invariant_of-self c).After-as_mut_slice in
     let e = (goal.at.invariant_of-self c).After-pivot_rows in
     pivot_sound c.self.inside.generators c.self.inside.width c.self.inside.rows.items (with_items c.self.inside.rows c.pivot_rows.new.rows).items c.self.inside.basis.items c.self.inside.negated.items
-    c.args.row c.args.column (row_within d) (sound d) (pivoted e c.in-Ok.ensures.value)
+    c.args.row c.args.column (row_within d) (rows_are_sound d) (rows_are_pivoted e c.in-Ok.ensures.value)
 
 pub returns-in-Ok-clause-value : goal.returns-in-Ok-clause-value
 returns-in-Ok-clause-value c = let d = (goal.at.returns-in-Ok-clause-value c).After-as_mut_slice in
@@ -62,11 +62,11 @@ returns-in-Ok-clause-value c = let d = (goal.at.returns-in-Ok-clause-value c).Af
     let m = length c.self.inside.basis.items in
     let columns : c.args.column < c.self.inside.generators + m = (let w = ap (λ (s : TableauView). s.generators + length s.basis) c.self.view_is in omega (arith, w, c.requires.column)) in
     pivot_is_shown m c.self.inside.generators c.self.inside.rows.items (with_items c.self.inside.rows c.pivot_rows.new.rows).items c.self.inside.basis.items
-    c.args.row c.args.column (row_within d) columns (sound d).shape (pivoted e c.in-Ok.ensures.value)
+    c.args.row c.args.column (row_within d) columns (rows_are_sound d).shape (rows_are_pivoted e c.in-Ok.ensures.value)
     ∙ ap (λ (s : TableauView). pivot field_ℚ (table s) c.args.row c.args.column) c.self.view_is
 
 pub returns-in-Ok-clause-ok : goal.returns-in-Ok-clause-ok
 returns-in-Ok-clause-ok c = let d = (goal.at.returns-in-Ok-clause-ok c).After-as_mut_slice in
     subst (λ (s : TableauView). PivotFits (height s) s.generators (table s) c.args.row c.args.column) c.self.view_is
-    (pivot_numbers_fit (length c.self.inside.basis.items) c.self.inside.generators c.self.inside.rows.items c.self.inside.basis.items c.args.row c.args.column (row_within d) (sound d).shape
-    (subst (λ (old : List (List Rational)). RowsPivotFits old c.args.row c.args.column) (lent d) c.in-Ok.ensures.ok))
+    (pivot_numbers_fit (length c.self.inside.basis.items) c.self.inside.generators c.self.inside.rows.items c.self.inside.basis.items c.args.row c.args.column (row_within d) (rows_are_sound d).shape
+    (subst (λ (old : List (List Rational)). RowsPivotFits old c.args.row c.args.column) (lent_rows d) c.in-Ok.ensures.ok))
