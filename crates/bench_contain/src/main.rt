@@ -19,6 +19,7 @@ use it_simplex::Budget;
 use std::alloc::{AllocError, Global};
 use std::io;
 
+/// The question `broadcast`.
 const BROADCAST: &[u8] = b"vars X, Y, Z
 rates R, S
 given markov X -> Y -> Z
@@ -35,6 +36,7 @@ row R + S <= I(U;Z) + I(V;Y|U)
 contain
 ";
 
+/// The question `open`.
 const OPEN: &[u8] = b"vars X, Y, Z
 rates R, S
 region

@@ -1,4 +1,4 @@
--- What the program eliminates rates from.
+-- What the program eliminates rates from. No public clause cites it.
 use Rattle.std.specs.Prelude.{◌≡◌, ◌≤◌, length}
 use Rattle.it_space.specs.declared.problems.System.{System}
 use Rattle.it_space.specs.declared.spaces.Space.{Space}

@@ -7,7 +7,7 @@ ghost use Rattle.it_space.specs.Spaces.{size_of};
 use it_space::{Constraint, Kind, Origin, Problem, Row, System};
 use std::alloc::{AllocError, Global};
 
-/// Puts a row behind the others.
+/// Puts a row after the others.
 pub fn keep(alloc: Global, system: &mut System, row: &Row) -> Result<(), AllocError>
     requires system { IsSystem system.old }
     requires row { IsUpTo (size_of system.old.space) row.now }
@@ -19,7 +19,7 @@ pub fn keep(alloc: Global, system: &mut System, row: &Row) -> Result<(), AllocEr
     Ok(())
 }
 
-/// Puts a constraint with this row behind the others.
+/// Puts a constraint with this row after the others.
 fn constrain(
     alloc: Global,
     problem: &mut Problem,
@@ -42,7 +42,7 @@ fn constrain(
     Ok(())
 }
 
-/// Puts rows behind the constraints, as those of `row` lines.
+/// Puts rows after the constraints, as those of `row` lines.
 pub fn constrain_all(alloc: Global, problem: &mut Problem, rows: &[Row]) -> Result<(), AllocError>
     requires problem { IsProblem (problem_view problem.old) }
     requires rows { All (IsUpTo (size_of problem.old.space)) rows.now }

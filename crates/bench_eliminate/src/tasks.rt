@@ -147,6 +147,7 @@ fn reduction(alloc: Global, list: System, givens: &Problem, way: Way) -> Result<
     match way {
         Way::Shared => {
             let reduced = reduce(alloc, &list, givens, Budget::none())?;
+            // named before it is answered, so that the contract of the call stands at the answer
             let kept = kept_system(alloc, list.space, &reduced)?;
             Ok(kept)
         }

@@ -4,11 +4,13 @@ ghost use Rattle.std.specs.Prelude.{◌≡◌, length, IfOk};
 use it_fraction::Fraction;
 use std::alloc::{AllocError, Global};
 
+/// How many pairs there are.
 const PAIRS: u32 = 256;
 
 /// What a part must be below.
 const LIMIT: u128 = 1 << 126;
 
+/// The two operands of a call.
 #[derive(Debug, Clone, Copy)]
 pub struct Pair {
     pub left: Fraction,

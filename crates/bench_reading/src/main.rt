@@ -16,10 +16,13 @@ const QUESTION: usize = 1048;
 /// How many of `ROW` fit a question.
 const ROWS: u32 = 23;
 
+/// A `row` line.
 const ROW: &[u8] = b"row 2 H(X,Y|Z) + I(X;Y|Z,W) >= 3 H(W) - R\n";
 
+/// The lines of a question before its `row` lines.
 const FRONT: &[u8] = b"vars X, Y, Z, W\nrates R\ngiven markov X -> Y -> Z\n";
 
+/// The last line of a question, up to its comment.
 const VERB: &[u8] = b"prove I(X;Z) <= I(X;Y) #";
 
 /// A question with so many rows, whose last line has a comment up to its length.

@@ -6,7 +6,7 @@ use it_space::Row;
 use std::alloc::{AllocError, Global};
 
 /// The entropies of the variables less their joint entropy.
-fn parts(alloc: Global, variables: u8) -> Result<Row, AllocError>
+fn parts_less_joint(alloc: Global, variables: u8) -> Result<Row, AllocError>
     ensures { IfOk result (IsUpTo 255) }
 {
     Ok(match variables {
@@ -51,7 +51,7 @@ fn parts(alloc: Global, variables: u8) -> Result<Row, AllocError>
 }
 
 /// The joint entropy less those of the variables.
-fn whole(alloc: Global, variables: u8) -> Result<Row, AllocError>
+fn joint_less_parts(alloc: Global, variables: u8) -> Result<Row, AllocError>
     ensures { IfOk result (IsUpTo 255) }
 {
     Ok(match variables {
@@ -189,9 +189,9 @@ pub fn form(alloc: Global, question: &str, variables: u8) -> Result<Row, AllocEr
     ensures { IfOk result (IsUpTo 255) }
 {
     match question {
-        "whole" => whole(alloc, variables),
+        "whole" => joint_less_parts(alloc, variables),
         "ingleton" if variables >= 4 => ingleton(alloc),
         "chain" if variables >= 6 => chain(alloc, variables),
-        _ => parts(alloc, variables),
+        _ => parts_less_joint(alloc, variables),
     }
 }

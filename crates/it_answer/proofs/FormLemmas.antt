@@ -59,10 +59,10 @@ module _ (ds : List Demand) (gs : List Generator) (z : AllZip Speaks ds gs) wher
     pub by_forms : IsCertificate size (forms_of gs) f w → IsCertificate size (generators_by ds) g w
     by_forms c = record {
       scale_from_one = c.scale_from_one;
-      allowed = all_of (IsAllowed (generators_by ds)) w.parts (every-same (IsAllowed (forms_of gs)) (IsAllowed (generators_by ds)) w.parts
-          (λ x a. (omega (arith, a.0, same_count), λ e. a.1 (ap is_equation (speaks_at x.0 a.0).kind ∙ e))) (every_of (IsAllowed (forms_of gs)) w.parts c.allowed));
+      allowed = all_of (IsAllowed (generators_by ds)) w.weights (every-same (IsAllowed (forms_of gs)) (IsAllowed (generators_by ds)) w.weights
+          (λ x a. (omega (arith, a.0, same_count), λ e. a.1 (ap is_equation (speaks_at x.0 a.0).kind ∙ e))) (every_of (IsAllowed (forms_of gs)) w.weights c.allowed));
       adds_up = λ k h l. ap (λ x. w.scale *ℤ x) (sym (same (one_at k) (one_at-zero k h))) ∙ c.adds_up k h l
-          ∙ weighted_same (one_at k) (one_at-zero k h) w.parts (every-same (IsAllowed (forms_of gs)) (λ (x : ℕ × ℤ). x.0 < length gs) w.parts (λ x a. a.0) (every_of (IsAllowed (forms_of gs)) w.parts c.allowed));
+          ∙ weighted_same (one_at k) (one_at-zero k h) w.weights (every-same (IsAllowed (forms_of gs)) (λ (x : ℕ × ℤ). x.0 < length gs) w.weights (λ x a. a.0) (every_of (IsAllowed (forms_of gs)) w.weights c.allowed));
     }
 
     pub by_rows : IsCertificate size (generators_by ds) g w → IsCertificate size (forms_of gs) f w
@@ -70,8 +70,8 @@ module _ (ds : List Demand) (gs : List Generator) (z : AllZip Speaks ds gs) wher
         let listed_here : (x : ℕ × ℤ) → IsAllowed (generators_by ds) x → x.0 < length gs = λ x a. omega (arith, a.0, same_count) in
         record {
           scale_from_one = c.scale_from_one;
-          allowed = all_of (IsAllowed (forms_of gs)) w.parts (every-same (IsAllowed (generators_by ds)) (IsAllowed (forms_of gs)) w.parts
-              (λ x a. (listed_here x a, λ e. a.1 (sym (ap is_equation (speaks_at x.0 (listed_here x a)).kind) ∙ e))) (every_of (IsAllowed (generators_by ds)) w.parts c.allowed));
+          allowed = all_of (IsAllowed (forms_of gs)) w.weights (every-same (IsAllowed (generators_by ds)) (IsAllowed (forms_of gs)) w.weights
+              (λ x a. (listed_here x a, λ e. a.1 (sym (ap is_equation (speaks_at x.0 (listed_here x a)).kind) ∙ e))) (every_of (IsAllowed (generators_by ds)) w.weights c.allowed));
           adds_up = λ k h l. ap (λ x. w.scale *ℤ x) (same (one_at k) (one_at-zero k h)) ∙ c.adds_up k h l
-              ∙ sym (weighted_same (one_at k) (one_at-zero k h) w.parts (every-same (IsAllowed (generators_by ds)) (λ (x : ℕ × ℤ). x.0 < length gs) w.parts listed_here (every_of (IsAllowed (generators_by ds)) w.parts c.allowed)));
+              ∙ sym (weighted_same (one_at k) (one_at-zero k h) w.weights (every-same (IsAllowed (generators_by ds)) (λ (x : ℕ × ℤ). x.0 < length gs) w.weights listed_here (every_of (IsAllowed (generators_by ds)) w.weights c.allowed)));
         }

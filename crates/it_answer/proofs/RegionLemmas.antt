@@ -21,7 +21,7 @@ use Rattle.it_canon.specs.Demands.{AreStated}
 use Rattle.it_canon.specs.QuestionDemands.{variables_of, space_of, given_demands, problem_names_by, problem_lines, problem_lines_by, system_forms, AreTrueAt, AreRowsOf, AreAtLeastZero}
 use Rattle.it_canon.proofs.UniqueRows.{one_constraint_list, one_row_list}
 use Rattle.it_eliminate.specs.Elimination.{Member}
-use Rattle.it_eliminate.specs.Projections.{In, Lacks, Extends}
+use Rattle.it_eliminate.specs.Projections.{IsPointOf, LacksCoordinate, Extends}
 use Rattle.it_redundant.specs.Reduction.{NeedView, Needed, Unsettled, kept_rows}
 use Rattle.it_redundant.specs.ReducedElimination.{ProjectionEndView, ReducedEnds}
 use Rattle.it_redundant.specs.ReducedElimination as projections
@@ -34,11 +34,11 @@ use Rattle.it_answer.specs.RightAnswers.{IsRightAnswerBy, ARegionIsTrue, NeededR
 
 -- ---- the rows of the text and its lines
 
-in_of : (rows : List Terms) (p : ℕ → ℤ) → AreAtLeastZero p rows → In rows p
+in_of : (rows : List Terms) (p : ℕ → ℤ) → AreAtLeastZero p rows → IsPointOf rows p
 in_of [] p a = tt
 in_of (r ∷ rows) p a = (All-head (λ (row : Terms). pos 0 ≤ℤ value row p) r rows a, in_of rows p (All-tail (λ (row : Terms). pos 0 ≤ℤ value row p) r rows a))
 
-of_in : (rows : List Terms) (p : ℕ → ℤ) → In rows p → AreAtLeastZero p rows
+of_in : (rows : List Terms) (p : ℕ → ℤ) → IsPointOf rows p → AreAtLeastZero p rows
 of_in [] p a = All-nil (λ (row : Terms). pos 0 ≤ℤ value row p)
 of_in (r ∷ rows) p a = All-cons (λ (row : Terms). pos 0 ≤ℤ value row p) r rows a.0 (of_in rows p a.1)
 
@@ -126,7 +126,7 @@ module _ (q : BodyView) (rates : List ℕ) (givens : ProblemView) (rows : List T
     point = map_of values;
     polymatroid = subst (λ (s : Space). IsPolymatroid s.variables (map_of values)) same x.meets.0;
     givens_true = subst (λ (s : Space). All (IsTrueAt s.variables (map_of values)) q.lines.givens) same ((true_at (map_of values) refl).0 x.meets.1);
-    others_hold = subst (λ (rs : List Terms). In rs (map_of values)) e x.others_hold;
+    others_hold = subst (λ (rs : List Terms). IsPointOf rs (map_of values)) e x.others_hold;
     violated = x.violated;
   }
 
@@ -140,9 +140,9 @@ module _ (q : BodyView) (rates : List ℕ) (givens : ProblemView) (rows : List T
   right_region : (kept : List (Terms × NeedView)) → IsReducedRegion givens rates rows kept → IsRightRegion q rates (marked_rows kept)
   right_region kept x = record {
     coordinates = subst (λ (rs : List Terms). All (IsUpTo (size_of (space_of q.names))) rs) (sym (rows_again kept)) (subst (λ (s : Space). All (IsUpTo (size_of s)) (kept_rows kept)) same x.coordinates);
-    free = λ r m. subst (λ (rs : List Terms). Lacks (2 ^ length q.names.variables + r) rs) (sym (rows_again kept)) (subst (λ (s : Space). Lacks (2 ^ s.variables + r) (kept_rows kept)) same (x.free r m));
-    exact = λ p h g. subst (λ (rs : List Terms). In rs p ↔ LinesExtend (length q.names.variables) rates q.lines.rows p) (sym (rows_again kept))
-        (subst (λ (s : Space). In (kept_rows kept) p ↔ LinesExtend s.variables rates q.lines.rows p) same (
+    free = λ r m. subst (λ (rs : List Terms). LacksCoordinate (2 ^ length q.names.variables + r) rs) (sym (rows_again kept)) (subst (λ (s : Space). LacksCoordinate (2 ^ s.variables + r) (kept_rows kept)) same (x.free r m));
+    exact = λ p h g. subst (λ (rs : List Terms). IsPointOf rs p ↔ LinesExtend (length q.names.variables) rates q.lines.rows p) (sym (rows_again kept))
+        (subst (λ (s : Space). IsPointOf (kept_rows kept) p ↔ LinesExtend s.variables rates q.lines.rows p) same (
           λ a. (lines_extend givens.space.variables rates q.lines.rows rows met p h.empty).0 ((x.exact p (meets_givens p h g)).0 a),
           λ e. (x.exact p (meets_givens p h g)).1 ((lines_extend givens.space.variables rates q.lines.rows rows met p h.empty).1 e),
         ));
@@ -198,7 +198,7 @@ pub a_region_is_true : ARegionIsTrue
 a_region_is_true budgets plans q rates rows found is right p h lines =
     let a : IsRightElimination budgets q rates (Region rows) = (subst (λ verb. IsRightAnswerBy budgets plans q verb (record { answer = Region rows; found = found })) is right).0 in
     let n_is : variables_of q ≡ length q.names.variables = ap (λ verb. length (problem_names_by q.names verb).variables) is in
-    subst (λ (n : ℕ). In (region_rows rows) p ↔ LinesExtend n rates q.lines.rows p) (sym n_is)
+    subst (λ (n : ℕ). IsPointOf (region_rows rows) p ↔ LinesExtend n rates q.lines.rows p) (sym n_is)
     (a.shows.exact p (subst (λ (n : ℕ). IsPolymatroid n p) n_is h) (subst (λ (n : ℕ). All (IsTrueAt n p) q.lines.givens) n_is (givens_of_lines lines)))
   where
     givens_of_lines : AreTrueAt (variables_of q) p (problem_lines q) → All (IsTrueAt (variables_of q) p) q.lines.givens

@@ -198,11 +198,11 @@ one_right_answer budgets plans q a b x y = one_by budgets plans q q.verb a b x y
 
 -- ---- the certificates of an answer
 
-each_ascends : (p : ProblemView) (budget : Option ℕ) (ts : List Terms) (ws : List CertificateView) → AreProofsOf p budget ts ws → All (λ (w : CertificateView). IsCanonical w.parts) ws
-each_ascends p budget [] [] a = All-nil (λ (w : CertificateView). IsCanonical w.parts)
+each_ascends : (p : ProblemView) (budget : Option ℕ) (ts : List Terms) (ws : List CertificateView) → AreProofsOf p budget ts ws → All (λ (w : CertificateView). IsCanonical w.weights) ws
+each_ascends p budget [] [] a = All-nil (λ (w : CertificateView). IsCanonical w.weights)
 each_ascends p budget [] (w ∷ ws) a = absurd a
 each_ascends p budget (t ∷ ts) [] a = absurd a
-each_ascends p budget (t ∷ ts) (w ∷ ws) a = All-cons (λ (w : CertificateView). IsCanonical w.parts) w ws (proven_ascends p t budget w a.0) (each_ascends p budget ts ws a.1)
+each_ascends p budget (t ∷ ts) (w ∷ ws) a = All-cons (λ (w : CertificateView). IsCanonical w.weights) w ws (proven_ascends p t budget w a.0) (each_ascends p budget ts ws a.1)
 
 targets_ascend : (p : ProblemView) (budget : Option ℕ) (ts : List Terms) (answer : AnswerView) → IsDue p budget ts answer → ProofsAscend answer
 targets_ascend p budget ts (answer_views.Yes ws) x = each_ascends p budget ts ws x
@@ -226,7 +226,7 @@ search_ascends goal tries plan found (answer_views.No is_back values) x = absurd
 search_ascends goal tries plan found (answer_views.Undecided cause) x = absurd x
 search_ascends goal tries plan found (answer_views.Region rows) x = absurd x
 search_ascends goal tries plan found (answer_views.Contained parts ws) x =
-    zip-right (λ (t : Terms) (w : CertificateView). EndsWith (problem_view goal.pair.first) t goal.budget (Yes w)) (λ (w : CertificateView). IsCanonical w.parts)
+    zip-right (λ (t : Terms) (w : CertificateView). EndsWith (problem_view goal.pair.first) t goal.budget (Yes w)) (λ (w : CertificateView). IsCanonical w.weights)
     (λ t w p. proven_ascends (problem_view goal.pair.first) t goal.budget w p) x.proofs.rows ws x.proofs.proofs
 search_ascends goal tries plan found (answer_views.Open tried) x = tt
 

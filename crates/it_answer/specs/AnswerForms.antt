@@ -20,6 +20,7 @@ IsAnswerBy (Contain a b tries) (Contained parts ws) = ArePartsOf a b parts
 IsAnswerBy (Contain a b tries) (Open tried) = Unit {0}
 IsAnswerBy verb answer = ⊥
 
+-- an answer of a kind that the question's verb gives; the parts of a containment fit its two regions
 abbrev pub IsAnswerTo : BodyView → AnswerView → Type 0
 IsAnswerTo q answer = IsAnswerBy q.verb answer
 
@@ -29,5 +30,6 @@ answer_forms_by q (Prove r) (Yes ws) = targets (variables_of q) r
 answer_forms_by q (Contain a b tries) (Contained parts ws) = obligations q a b parts
 answer_forms_by q verb answer = []
 
+-- the forms of which an answer to the question has certificates
 abbrev pub answer_forms : BodyView → AnswerView → List Form
 answer_forms q answer = answer_forms_by q q.verb answer

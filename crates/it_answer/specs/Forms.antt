@@ -12,18 +12,23 @@ use Rattle.it_canon.specs.Demands.{Demand, LineDemand}
 use Rattle.it_canon.specs.QuestionDemands.{space_of, problem_names, question_demands, variables_of}
 use Rattle.it_elemental.specs.Generators.{is_equation}
 
+-- an elemental inequality of n variables as a demand
 abbrev pub demand_of_elemental : ℕ → Elemental → Demand
 demand_of_elemental n e = record { kind = Inequality; form = λ p. elemental_value n p e }
 
+-- what a line demands, without where it comes from
 abbrev pub demand_of_line : LineDemand → Demand
 demand_of_line d = d.demand
 
+-- the elemental inequalities of n variables as demands, then what the lines demand
 unfoldable pub all_demands : ℕ → List LineDemand → List Demand
 all_demands n ds = map (demand_of_elemental n) (elementals n) ++ map demand_of_line ds
 
+-- the demand of a number, counted from 0
 abbrev pub demand_at : List Demand → ℕ → Demand
 demand_at ds i = slice_index_or ds i (record { kind = Inequality; form = λ p. pos 0 })
 
+-- demands as what certificates are built from
 abbrev pub generators_by : List Demand → Generators
 generators_by ds = record {
   count = length ds;

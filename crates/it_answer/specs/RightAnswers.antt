@@ -15,7 +15,7 @@ use Rattle.it_syntax.specs.Meaning.{RelationView, Holds}
 use Rattle.it_question.specs.Questions.{BodyView, RegionView, VerbView, Prove, Eliminate, Contain}
 use Rattle.it_canon.specs.Targets.{targets}
 use Rattle.it_canon.specs.QuestionDemands.{space_of, problem_names, problem_lines, variables_of, AreTrueAt, Poses}
-use Rattle.it_eliminate.specs.Projections.{In}
+use Rattle.it_eliminate.specs.Projections.{IsPointOf}
 use Rattle.it_region.specs.declared.types.Candidate.{Candidate}
 use Rattle.it_region.specs.Obligations.{ArePartsOf}
 use Rattle.it_region.specs.Regions.{LiesIn}
@@ -44,6 +44,7 @@ ViolatesFirst q (f ∷ fs) false values = IsCounterexample q f values
 ViolatesFirst q (f ∷ []) true values = ⊥
 ViolatesFirst q (f ∷ g ∷ fs) true values = ((w : CertificateView) × CertifiesForm q f w) × IsCounterexample q g values
 
+-- an answer to `prove` shows what it says of the targets: a certificate of each, or a counterexample to one
 abbrev pub ShowsTargets : BodyView → List Form → AnswerView → Type 0
 ShowsTargets q fs (Yes ws) = CertifyAll q fs ws
 ShowsTargets q fs (No is_back values) = ViolatesFirst q fs is_back values
@@ -70,6 +71,7 @@ abbrev pub CauseIsDue : ProblemView → Option ℕ → List Terms → Cause → 
 CauseIsDue p budget [] cause = ⊥
 CauseIsDue p budget (t ∷ ts) cause = EndsWith p t budget (proof_views.Undecided cause) ⊎ (IsProven p budget t × CauseIsDue p budget ts cause)
 
+-- the answer to `prove` that is due, by the runs about the rows of its targets
 abbrev pub IsDue : ProblemView → Option ℕ → List Terms → AnswerView → Type 0
 IsDue p budget ts (Yes ws) = AreProofsOf p budget ts ws
 IsDue p budget ts (No is_back values) = PointIsDue p budget ts is_back values
@@ -86,6 +88,7 @@ pub record IsRightFor (budget : Option ℕ) (q : BodyView) (r : RelationView) (a
 
 -- ---- each verb
 
+-- a right answer to a question of this verb, by boxes with these plans
 abbrev pub IsRightAnswerBy : Budgets → List Plan → BodyView → VerbView → Reply → Type 0
 IsRightAnswerBy budgets plans q (Prove r) reply = IsRightFor budgets.pivots q r reply.answer × (reply.found ≡ [])
 IsRightAnswerBy budgets plans q (Eliminate rates) reply = IsRightElimination budgets q rates reply.answer × (reply.found ≡ [])
@@ -120,7 +123,7 @@ ANoIsTrue = (budgets : Budgets) (plans : List Plan) (q : BodyView) (r : Relation
 abbrev pub ARegionIsTrue : Type 0
 ARegionIsTrue = (budgets : Budgets) (plans : List Plan) (q : BodyView) (rates : List ℕ) (rows : List (Mark × Terms)) (found : List Candidate) → q.verb ≡ Eliminate rates
     → IsRightAnswer budgets plans q (record { answer = Region rows; found = found })
-    → (p : ℕ → ℤ) → IsPolymatroid (variables_of q) p → AreTrueAt (variables_of q) p (problem_lines q) → In (region_rows rows) p ↔ LinesExtend (variables_of q) rates q.lines.rows p
+    → (p : ℕ → ℤ) → IsPolymatroid (variables_of q) p → AreTrueAt (variables_of q) p (problem_lines q) → IsPointOf (region_rows rows) p ↔ LinesExtend (variables_of q) rates q.lines.rows p
 
 -- and no row of it that is marked as needed follows from the others
 abbrev pub NeededRowsAreNeeded : Type 0
@@ -138,8 +141,8 @@ OneRightAnswer = (budgets : Budgets) (plans : List Plan) (q : BodyView) (a b : R
 
 -- the certificates of an answer list their generators in ascending order, each once and with a weight other than 0
 abbrev pub ProofsAscend : AnswerView → Type 0
-ProofsAscend (Yes ws) = All (λ w. IsCanonical w.parts) ws
-ProofsAscend (Contained parts ws) = All (λ w. IsCanonical w.parts) ws
+ProofsAscend (Yes ws) = All (λ w. IsCanonical w.weights) ws
+ProofsAscend (Contained parts ws) = All (λ w. IsCanonical w.weights) ws
 ProofsAscend answer = Unit {0}
 
 -- those of a right answer do

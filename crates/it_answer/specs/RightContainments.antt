@@ -24,6 +24,7 @@ pub record ShowsContained (q : BodyView) (a b : RegionView) (parts : List ℕ) (
   pub certified : CertifyAll q (obligations q a b parts) ws
   pub lies : LiesIn q a b
 
+-- an answer to `contain` shows what it says: that the first region lies in the second, or nothing where it is open
 abbrev pub ShowsContainment : BodyView → RegionView → RegionView → AnswerView → Type 0
 ShowsContainment q a b (Contained parts ws) = ShowsContained q a b parts ws
 ShowsContainment q a b (Open tried) = Unit {0}
@@ -46,6 +47,7 @@ pub record IsFound (goal : Goal) (tries : ℕ) (plan found : List Candidate) (pa
   pub parts_are : parts ≡ take candidate.count candidate.parts
   pub proofs : IsProofBy goal candidate ws
 
+-- the answer to `contain` that is due, with what was found, by the search over the plan
 abbrev pub IsDueSearch : Goal → ℕ → List Candidate → List Candidate → AnswerView → Type 0
 IsDueSearch goal tries plan found (Contained parts ws) = IsFound goal tries plan found parts ws
 IsDueSearch goal tries plan found (Open tried) = IsOpen goal tries plan tried × (found ≡ [])

@@ -15,7 +15,7 @@ use Rattle.it_question.specs.Questions.{BodyView}
 use Rattle.it_canon.specs.Demands.{AreStated}
 use Rattle.it_canon.specs.QuestionDemands.{space_of, given_demands, system_forms, AreRowsOf}
 use Rattle.it_eliminate.specs.Elimination.{Member}
-use Rattle.it_eliminate.specs.Projections.{In, Lacks}
+use Rattle.it_eliminate.specs.Projections.{IsPointOf, LacksCoordinate}
 use Rattle.it_redundant.specs.Reduction.{NeedView, Needed, Unsettled}
 use Rattle.it_redundant.specs.ReducedElimination.{ProjectionEndView, ReducedEnds}
 use Rattle.it_redundant.specs.ReducedElimination as projections
@@ -40,7 +40,7 @@ pub record DoesNotFollow (q : BodyView) (others : List Terms) (row : Terms) : Ty
   pub point : ℕ → ℤ
   pub polymatroid : IsPolymatroid (length q.names.variables) point
   pub givens_true : All (IsTrueAt (length q.names.variables) point) q.lines.givens
-  pub others_hold : In others point
+  pub others_hold : IsPointOf others point
   pub violated : value row point ≤ℤ neg_ℤ (pos 1)
 
 -- each row that is marked as needed is one that the others don't give
@@ -52,11 +52,12 @@ MarkedRowsAreNeeded q rows = (before after : List (Mark × Terms)) (row : Terms)
 -- rates, exactly where this point extends to the eliminated rates; and none that is marked as needed follows from the others
 pub record IsRightRegion (q : BodyView) (rates : List ℕ) (rows : List (Mark × Terms)) : Type 0 where
   pub coordinates : All (IsUpTo (size_of (space_of q.names))) (region_rows rows)
-  pub free : (r : ℕ) → Member r rates → Lacks (2 ^ length q.names.variables + r) (region_rows rows)
+  pub free : (r : ℕ) → Member r rates → LacksCoordinate (2 ^ length q.names.variables + r) (region_rows rows)
   pub exact : (p : ℕ → ℤ) → IsPolymatroid (length q.names.variables) p → All (IsTrueAt (length q.names.variables) p) q.lines.givens
-      → In (region_rows rows) p ↔ LinesExtend (length q.names.variables) rates q.lines.rows p
+      → IsPointOf (region_rows rows) p ↔ LinesExtend (length q.names.variables) rates q.lines.rows p
   pub needed : MarkedRowsAreNeeded q rows
 
+-- an answer to `eliminate` shows what it says: a right region, or nothing where it is undecided
 abbrev pub ShowsRegion : BodyView → List ℕ → AnswerView → Type 0
 ShowsRegion q rates (Region rows) = IsRightRegion q rates rows
 ShowsRegion q rates (Undecided cause) = Unit {0}
@@ -72,6 +73,7 @@ abbrev pub mark_of_need : NeedView → Mark
 mark_of_need (Needed values) = marks.Needed
 mark_of_need (Unsettled cause) = marks.Unsettled
 
+-- the rows that stay, each with its mark
 abbrev pub marked_rows : List (Terms × NeedView) → List (Mark × Terms)
 marked_rows kept = map (λ k. (mark_of_need k.1, k.0)) kept
 

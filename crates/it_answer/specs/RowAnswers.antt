@@ -23,6 +23,7 @@ RefutesFirst p (t ∷ ts) false values = RefutesRow p t values
 RefutesFirst p (t ∷ []) true values = ⊥
 RefutesFirst p (t ∷ u ∷ ts) true values = ((w : CertificateView) × CertifiesRow p t w) × RefutesRow p u values
 
+-- an answer to `prove` shows what it says of these rows: a certificate of each, or values that refute one
 abbrev pub ShowsRows : ProblemView → List Terms → AnswerView → Type 0
 ShowsRows p ts (Yes ws) = CertifyRows p ts ws
 ShowsRows p ts (No is_back values) = RefutesFirst p ts is_back values
@@ -42,12 +43,13 @@ pub record AnswersForms (p : ProblemView) (fs : List Form) (answer : AnswerView)
   pub are : AreRowsOf p.space fs rows
   pub answered : AnswersRows p budget rows answer
 
--- the answer after the first target, and after the second of two whose first is proven
+-- the answer after the first target
 abbrev pub answer_after_one : ProofView → AnswerView
 answer_after_one (proof_views.Yes w) = Yes (w ∷ [])
 answer_after_one (proof_views.No values) = No false values
 answer_after_one (proof_views.Undecided cause) = Undecided cause
 
+-- the answer after the second of two targets, where the first has this certificate
 abbrev pub answer_after_two : CertificateView → ProofView → AnswerView
 answer_after_two w (proof_views.Yes v) = Yes (w ∷ v ∷ [])
 answer_after_two w (proof_views.No values) = No true values

@@ -26,8 +26,8 @@ use it_space::{Answer, Certificate, Problem};
 use it_syntax::types::{Relation, Sign};
 use std::alloc::{AllocError, Global};
 
-/// A right answer to a question, within the budgets. The boxes propose what a containment tries behind its `try` lines, and are
-/// told of each candidate that was tried: of one that was proved they know at later questions.
+/// A right answer to a question, within the budgets. The boxes propose what a containment tries after its `try` lines, and
+/// are told of each candidate that was tried: of one that was proved they know at later questions.
 pub fn answer(
     alloc: Global,
     question: &Question,
@@ -80,8 +80,9 @@ fn answer_under(
     }
 }
 
-/// The answer about a relation under a problem, by runs of at most the budget's steps, if it has some. The two targets of an equality are the left
-/// side less the right one, then the right side less the left one; the second is asked only where the first has a certificate.
+/// The answer about a relation under a problem, by runs of at most the budget's steps, if it has some. The two targets of an
+/// equality are the left side less the right one, then the right side less the left one; the second is asked only where the
+/// first has a certificate.
 fn relation_answer(
     alloc: Global,
     problem: &Problem,

@@ -73,6 +73,7 @@ pub fn containment(
     let tried = tried_of(alloc, second, tries)?;
     let budget = budget_of(budgets.pivots);
     let end = contain(alloc, &pair, tried.as_slice(), boxes, budgets.tries, budget)?;
+    // named before it is answered, so that the contract of the call stands at the answer
     let answer = answer_of_search(alloc, end)?;
     Ok(answer)
 }

@@ -35,6 +35,7 @@ pub fn region(
     let rows = budgets.rows as usize;
     let budget = budget_of(budgets.pivots);
     let end = project(alloc, &system, rates, givens, rows, budget)?;
+    // named before it is answered, so that the contract of the call stands at the answer
     let answer = answer_of_end(alloc, end)?;
     Ok(answer)
 }

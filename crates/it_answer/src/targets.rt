@@ -93,6 +93,7 @@ fn obligation_rows(
 {
     let pair = pair(alloc, question)?;
     let candidate = candidate(parts);
+    // named before it is answered, so that the contract of the call stands at the answer
     let rows = obligations(alloc, &pair, &candidate)?;
     Ok(rows)
 }

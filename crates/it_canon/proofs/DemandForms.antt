@@ -16,9 +16,9 @@ use Rattle.it_syntax.specs.Meaning.{RelationView, IsAtomOf, atom_at, side_at, di
 use Rattle.it_question.specs.Questions.{OwnLinesView}
 use Rattle.it_question.proofs.NumberLemmas.{HasSmallNumbers, GivenHasSmallNumbers, LinesHaveSmallNumbers}
 use Rattle.it_canon.specs.Canonical.{form_of, signed_difference}
-use Rattle.it_canon.specs.Demands.{Demand, LineDemand, demands, equations, independence_form, parts_from, parts_of}
+use Rattle.it_canon.specs.Demands.{Demand, LineDemand, demands, equations, independence_form, parts_from, parts_of, kind_of}
 use Rattle.it_canon.specs.QuestionDemands.{given_demands, row_demands, line_demands}
-use Rattle.it_canon.specs.Targets.{negation, targets, targets_by}
+use Rattle.it_canon.specs.Targets.{negation, targets, demanded_forms}
 use Rattle.it_canon.proofs.ChainLemmas.{union_below}
 use Rattle.it_canon.proofs.QuestionLemmas.{more_rates}
 use Rattle.it_canon.proofs.SmallForms.{IsFormUpTo, form_zero, form-add, form-negation, form_same}
@@ -120,7 +120,7 @@ module _ (n m : ℕ) where
   pub targets_up_to : (r : RelationView) → IsRelationOf n m r → HasSmallNumbers r → Every (IsFormUpTo last_coordinate (2 ^ 74)) (targets n r)
   targets_up_to r h k = by_sign r.sign (form_of n r) (relation_up_to r h k)
     where
-      by_sign : (sign : Sign) (f : Form) → IsFormUpTo last_coordinate (2 ^ 74) f → Every (IsFormUpTo last_coordinate (2 ^ 74)) (targets_by sign f)
+      by_sign : (sign : Sign) (f : Form) → IsFormUpTo last_coordinate (2 ^ 74) f → Every (IsFormUpTo last_coordinate (2 ^ 74)) (demanded_forms (kind_of sign) f)
       by_sign AtLeast f x = (x, tt)
       by_sign AtMost f x = (x, tt)
       by_sign Equal f x = (x, (form-negation last_coordinate (2 ^ 74) f x, tt))

@@ -8,7 +8,7 @@ use Rattle.std.proofs.Math.IntN.{+ℤ_idr, +ℤ_idl}
 use Rattle.it_number.proofs.SignLemmas.{size_negated}
 use Rattle.it_space.specs.declared.spaces.Space.{Space}
 use Rattle.it_space.specs.Bounds.{IsSmall}
-use Rattle.it_space.specs.Rows.{Terms, IsCanonical, IsUpTo, one_at, value, negated_terms}
+use Rattle.it_space.specs.Rows.{Terms, IsCanonical, IsUpTo, one_at, value, negated_terms, row_mass}
 use Rattle.it_space.specs.Spaces.{IsSpace, size_of}
 use Rattle.it_space.specs.Sums.{terms_from}
 use Rattle.it_space.proofs.EveryLemmas.{every-append}
@@ -17,7 +17,7 @@ use Rattle.it_polymatroid.specs.Certificates.{Form, dot, IsLinear}
 use Rattle.it_polymatroid.specs.Elementals.{span}
 use Rattle.it_polymatroid.proofs.Forms.{linear_at, linear_zero, linear-add, linear-scale}
 use Rattle.it_polymatroid.proofs.Spans.{length-map-span}
-use Rattle.it_canon.specs.Canonical.{IsRowOf, row_mass}
+use Rattle.it_canon.specs.Canonical.{IsRowOf}
 use Rattle.it_canon.specs.Coefficients.{dense_form_from, largest, IsNoLarger}
 use Rattle.it_canon.specs.Targets.{negation}
 use Rattle.it_canon.proofs.TermLemmas.{row_canonical, row-value, row_up_to, row_no_larger}

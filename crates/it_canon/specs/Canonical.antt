@@ -17,11 +17,6 @@ pub record IsRowOf (s : Space) (form : Form) (row : Terms) : Type 0 where
   pub canonical : IsCanonical row
   pub small : IsSmall row
 
--- the sum of the absolute values of a row's coefficients
-abbrev pub row_mass : Terms → ℕ
-row_mass [] = 0
-row_mass (t ∷ ts) = unsigned_abs t.1 + row_mass ts
-
 -- the difference of the sides as it is compared with 0 by `>=` or `=`
 abbrev pub signed_difference : Sign → ℤ → ℤ
 signed_difference AtLeast x = x

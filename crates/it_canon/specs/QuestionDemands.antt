@@ -38,6 +38,7 @@ problem_names_by v (Prove r) = v
 problem_names_by v (Eliminate rates) = v
 problem_names_by v (Contain first second tries) = first.names
 
+-- the names of the problem that a question poses
 abbrev pub problem_names : BodyView → NamesView
 problem_names q = problem_names_by q.names q.verb
 
@@ -45,12 +46,13 @@ problem_names q = problem_names_by q.names q.verb
 abbrev pub variables_of : BodyView → ℕ
 variables_of q = length (problem_names q).variables
 
--- the lines of a question's problem: its own, its givens alone, or its own with those of its first region behind them
+-- the lines of a question's problem: its own, its givens alone, or its own with those of its first region after them
 abbrev pub problem_lines_by : OwnLinesView → VerbView → OwnLinesView
 problem_lines_by own (Prove r) = own
 problem_lines_by own (Eliminate rates) = record { givens = own.givens; rows = [] }
 problem_lines_by own (Contain first second tries) = record { givens = own.givens ++ first.lines.givens; rows = own.rows ++ first.lines.rows }
 
+-- the lines of the problem that a question poses
 abbrev pub problem_lines : BodyView → OwnLinesView
 problem_lines q = problem_lines_by q.lines q.verb
 

@@ -1,21 +1,21 @@
 -- The targets of a relation: the forms that it says to be at least 0.
 use Rattle.std.specs.Prelude.{ℕ, neg_ℤ, List, [], ◌∷◌}
+use Rattle.it_space.specs.declared.problems.Kind.{Kind}
+use Rattle.it_space.specs.declared.problems.Kind.TheVariants.{Inequality, Equation}
 use Rattle.it_polymatroid.specs.Certificates.{Form}
-use Rattle.it_syntax.specs.declared.types.Sign.{Sign}
-use Rattle.it_syntax.specs.declared.types.Sign.TheVariants.{AtLeast, AtMost, Equal}
 use Rattle.it_syntax.specs.Meaning.{RelationView}
 use Rattle.it_canon.specs.Canonical.{form_of}
+use Rattle.it_canon.specs.Demands.{kind_of}
 
 -- the form with its sign turned
 abbrev pub negation : Form → Form
 negation form p = neg_ℤ (form p)
 
--- the form of a relation; for an equation its negation as well, after it
-abbrev pub targets_by : Sign → Form → List Form
-targets_by AtLeast form = form ∷ []
-targets_by AtMost form = form ∷ []
-targets_by Equal form = form ∷ negation form ∷ []
+-- the forms that a demand says to be at least 0: its own, and after it the negation of an equation's
+abbrev pub demanded_forms : Kind → Form → List Form
+demanded_forms Inequality form = form ∷ []
+demanded_forms Equation form = form ∷ negation form ∷ []
 
 -- the targets of a relation over n variables
 abbrev pub targets : ℕ → RelationView → List Form
-targets n r = targets_by r.sign (form_of n r)
+targets n r = demanded_forms (kind_of r.sign) (form_of n r)

@@ -59,7 +59,7 @@ impl Coefficients {
         self.add(set.number() as usize, times);
     }
 
-    /// Takes it off.
+    /// Takes the entropy of a set off so many times.
     fn take_set(&mut self, set: VarSet, times: i128)
         requires within { set < length self.old }
         requires room { largest self.old + unsigned_abs times < 2 ^ 127 }
@@ -68,7 +68,7 @@ impl Coefficients {
         self.add_set(set, -times);
     }
 
-    /// Adds an entropy or a rate, so many times.
+    /// Adds an entropy, a mutual information or a rate, so many times.
     pub fn add_atom(&mut self, space: Space, atom: Atom, times: i128)
         requires space { IsSpace space }
         requires atom { IsAtomOf space.variables space.rates atom }
@@ -84,7 +84,7 @@ impl Coefficients {
         }
     }
 
-    /// Adds H(A|B).
+    /// Adds H(A|B) so many times.
     fn add_entropy(&mut self, of: VarSet, given: VarSet, times: i128)
         requires of { bit_or of given < length self.old }
         requires given { given < length self.old }
@@ -95,7 +95,7 @@ impl Coefficients {
         self.take_set(given, times);
     }
 
-    /// Adds I(A;B|C).
+    /// Adds I(A;B|C) so many times.
     fn add_mutual(&mut self, left: VarSet, right: VarSet, given: VarSet, times: i128)
         requires left { bit_or left given < length self.old }
         requires right { bit_or right given < length self.old }

@@ -29,12 +29,12 @@ use Rattle.it_certificate.specs.declared.kinds.CauseKind.TheVariants as causes
 use Rattle.it_certificate.specs.Numerals.{count_of, count_of_integer, step_of, integer_of}
 use Rattle.it_certificate.specs.Values.{rate_name}
 use Rattle.it_certificate.specs.Kinds.{back_of}
-use Rattle.it_certificate.specs.Parts.{text_of, items_of_array, integer_at, count_at, both, two_of, pair_at, all_of, list_at, of_length, certificate_at, proofs_at, point_at, back_at, cause_kind_at, cause_of, cause_at, step_or_rate, is_row_between, is_term_between, row_of, mark_at, terms_at, marked_row_at, rows_at, set_of_number, set_at, parts_at, tried_at}
+use Rattle.it_certificate.specs.Parts.{text_of, items_of_array, integer_at, count_at, pair_of, two_of, pair_at, all_of, list_at, of_length, certificate_at, proofs_at, point_at, back_at, cause_kind_at, cause_of, cause_at, step_or_rate, is_row_between, is_term_between, row_of, mark_at, terms_at, marked_row_at, rows_at, set_of_number, set_at, parts_at, tried_at}
 use Rattle.it_certificate.specs.AnswerReading.{and_then, is_equality, yes_at, no_at, undecided_at, region_at, contained_at, open_at}
 use Rattle.it_certificate.specs.Obligations.{obligation_count, target_count}
 use Rattle.it_certificate.specs.Reports.{prove_answer, eliminate_answer, contain_answer, verb_answer, question_answer}
 use Rattle.it_certificate.specs.AnswerShapes.{IsNumberedAmount, IsNumbered, IsRowIn, IsFoundIn, IsCauseFor, HasProveShape, HasEliminateShape, HasContainShape, HasVerbShape, HasQuestionShape}
-use Rattle.it_certificate.proofs.WithinLemmas.{and_then_some, map_some, cond_some, both_some, all_of_holds, integer_at_within, point_within, point_length}
+use Rattle.it_certificate.proofs.WithinLemmas.{and_then_some, map_some, cond_some, pair_some, all_of_holds, integer_at_within, point_within, point_length}
 use Rattle.it_certificate.proofs.RowLemmas.{row_is_canonical}
 
 key_ok : {A : Type 0} (k : Key) (o : Option A) (a : A) → ok_or o k ≡ Ok a → o ≡ Some a
@@ -67,8 +67,8 @@ count_at_below d n is = let h = and_then_some (option_and_then as_u64 (as_number
 pair_numbers : (d : Data) (t : ℕ × ℤ) → pair_at d ≡ Some t → IsNumberedAmount t
 unfolding pair_at
 pair_numbers d t is =
-    let h = and_then_some (option_and_then two_of (as_array d)) (λ p. both (count_at p.0) (integer_at p.1)) t is in
-    let k = both_some (count_at h.0.0) (integer_at h.0.1) t h.1.1 in
+    let h = and_then_some (option_and_then two_of (as_array d)) (λ p. pair_of (count_at p.0) (integer_at p.1)) t is in
+    let k = pair_some (count_at h.0.0) (integer_at h.0.1) t h.1.1 in
     (count_at_below h.0.0 t.0 k.0, integer_at_within h.0.1 t.1 k.1)
 
 list_numbers : {A : Type 0} (P : A → Type 0) (f : Data → Option A) → ((d : Data) (a : A) → f d ≡ Some a → P a) → (o : Option Data) (xs : List A) → list_at f o ≡ Some xs → All P xs
@@ -86,10 +86,10 @@ counted_numbers P f each n o xs is =
 certificate_numbers : (d : Data) (c : CertificateView) → certificate_at d ≡ Some c → IsNumbered c
 unfolding certificate_at
 certificate_numbers d c is =
-    let h = and_then_some (option_and_then integer_at (get (codes "scale") d)) (λ s. option_map (λ ws. record { scale = s; parts = ws }) (list_at pair_at (get (codes "weights") d))) c is in
-    let k = map_some (list_at pair_at (get (codes "weights") d)) (λ ws. record { scale = h.0; parts = ws }) c h.1.1 in
+    let h = and_then_some (option_and_then integer_at (get (codes "scale") d)) (λ s. option_map (λ ws. record { scale = s; weights = ws }) (list_at pair_at (get (codes "weights") d))) c is in
+    let k = map_some (list_at pair_at (get (codes "weights") d)) (λ ws. record { scale = h.0; weights = ws }) c h.1.1 in
     let s = and_then_some (get (codes "scale") d) integer_at h.0 h.1.0 in
-    subst IsNumbered k.1.1 (record { scale = integer_at_within s.0 h.0 s.1.1; parts = list_numbers IsNumberedAmount pair_at pair_numbers (get (codes "weights") d) k.0 k.1.0 })
+    subst IsNumbered k.1.1 (record { scale = integer_at_within s.0 h.0 s.1.1; weights = list_numbers IsNumberedAmount pair_at pair_numbers (get (codes "weights") d) k.0 k.1.0 })
 
 proofs_fit : (n : ℕ) (d : Data) (ps : List CertificateView) → proofs_at n d ≡ Some ps → (length ps ≡ n) × All IsNumbered ps
 unfolding proofs_at
@@ -193,7 +193,7 @@ terms_numbers d ts is = list_numbers IsNumberedAmount pair_at pair_numbers (get 
 row_fits : (size : ℕ) (d : Data) (r : Mark × Terms) → marked_row_at size d ≡ Some r → IsRowIn size r
 unfolding marked_row_at
 row_fits size d r is =
-    let h = both_some (mark_at d) (option_and_then (row_of size) (terms_at d)) r is in
+    let h = pair_some (mark_at d) (option_and_then (row_of size) (terms_at d)) r is in
     let k = and_then_some (terms_at d) (row_of size) r.1 h.1 in
     let m = cond_some (is_row_between 1 size k.0) (Some k.0) r.1 k.1.1 in
     let e : k.0 ≡ r.1 = let s = m.1 in cc in

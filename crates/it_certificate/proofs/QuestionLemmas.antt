@@ -17,9 +17,6 @@ use Rattle.it_certificate.specs.ReportSteps.{GivesOnly, GivesQuestion}
 use Rattle.it_certificate.specs.declared.keys.Refusal.{Refusal}
 use Rattle.it_certificate.specs.declared.keys.Refusal.TheVariants as refusals
 
-pub one_only : (text : List ℕ) (qs : List Question) (q : Question) → IsFile text (map question_view qs) → qs ≡ q ∷ [] → IsFile text (question_view q ∷ [])
-one_only text qs q file is = subst (λ zs. IsFile text (map question_view zs)) is file
-
 pub none_only : (text : List ℕ) (qs : List Question) → IsFile text (map question_view qs) → (length qs ≡ 1 → ⊥) → (q : QuestionView) → length text ≤ 1048577 → IsFile text (q ∷ []) → ⊥
 none_only text qs file not q fits other =
     let same = ap length (file_is_one text (map question_view qs) (q ∷ []) file other) in

@@ -24,8 +24,8 @@ use Rattle.it_certificate.specs.declared.kinds.AnswerKind.{AnswerKind}
 use Rattle.it_certificate.specs.declared.kinds.AnswerKind.TheVariants as kinds
 use Rattle.it_certificate.specs.declared.kinds.CauseKind.{CauseKind}
 use Rattle.it_certificate.specs.declared.kinds.CauseKind.TheVariants as causes
-use Rattle.it_certificate.specs.Values.{integer_value, count_value, pair_value, proof_value, row_value, rate_name, place_word, answer_value}
-use Rattle.it_certificate.specs.Parts.{text_of, integer_at, count_at, both, pair_at, all_of, of_length, certificate_by, certificate_at, answer_kind_at, proofs_at, point_at, back_at, cause_kind_at, cause_of, cause_at, step_or_rate, is_term_between, is_row_between, row_of, mark_at, terms_at, marked_row_at, rows_at, set_of_number, set_at, parts_at, tried_at}
+use Rattle.it_certificate.specs.Values.{integer_value, count_value, pair_value, proof_value, row_value, rate_name, step_or_rate_word, answer_value}
+use Rattle.it_certificate.specs.Parts.{text_of, integer_at, count_at, pair_of, pair_at, all_of, of_length, certificate_by, certificate_at, answer_kind_at, proofs_at, point_at, back_at, cause_kind_at, cause_of, cause_at, step_or_rate, is_term_between, is_row_between, row_of, mark_at, terms_at, marked_row_at, rows_at, set_of_number, set_at, parts_at, tried_at}
 use Rattle.it_certificate.specs.AnswerReading.{and_then, is_equality, yes_at, no_at, undecided_at, region_at, contained_at, open_at}
 use Rattle.it_certificate.specs.Obligations.{obligation_count, target_count}
 use Rattle.it_certificate.specs.Reports.{prove_answer, eliminate_answer, contain_answer, verb_answer, question_answer, report_of}
@@ -47,7 +47,7 @@ count_read n lt = count_back n lt
 
 pair_back : (t : ℕ × ℤ) → IsNumberedAmount t → pair_at (pair_value t) ≡ Some t
 unfolding pair_at pair_value
-pair_back t p = ap (λ c. both c (integer_at (integer_value t.1))) (count_read t.0 p.0) ∙ ap (λ z. both (Some t.0) z) (number_back t.1 p.1)
+pair_back t p = ap (λ c. pair_of c (integer_at (integer_value t.1))) (count_read t.0 p.0) ∙ ap (λ z. pair_of (Some t.0) z) (number_back t.1 p.1)
 
 all_back : {A B : Type 0} (P : A → Type 0) (f : Data → Option B) (v : A → Data) (g : A → B) → ((a : A) → P a → f (v a) ≡ Some (g a)) → (xs : List A) → All P xs
     → all_of f (items_of (map v xs)) ≡ Some (map g xs)
@@ -67,8 +67,8 @@ same_back P f v each xs all = all_back P f v (λ x. x) each xs all ∙ ap Some (
 certificate_back : (c : CertificateView) → IsNumbered c → certificate_at (proof_value c) ≡ Some (without_zeros c)
 unfolding certificate_at proof_value
 certificate_back c p =
-    ap (λ s. certificate_by s (all_of pair_at (items_of (map pair_value (filter is_nonzero_weight c.parts))))) (number_back c.scale p.scale)
-    ∙ ap (λ ws. certificate_by (Some c.scale) ws) (same_back IsNumberedAmount pair_at pair_value pair_back (filter is_nonzero_weight c.parts) (All-filter is_nonzero_weight IsNumberedAmount c.parts p.parts))
+    ap (λ s. certificate_by s (all_of pair_at (items_of (map pair_value (filter is_nonzero_weight c.weights))))) (number_back c.scale p.scale)
+    ∙ ap (λ ws. certificate_by (Some c.scale) ws) (same_back IsNumberedAmount pair_at pair_value pair_back (filter is_nonzero_weight c.weights) (All-filter is_nonzero_weight IsNumberedAmount c.weights p.weights))
 
 of_length_is : {A : Type 0} (n : ℕ) (xs : List A) → length xs ≡ n → of_length n xs ≡ Some xs
 of_length_is n xs is = ap (λ b. cond b (Some xs) None) (eq-eqb (length xs) n is)
@@ -118,16 +118,16 @@ kind_back text v Scale = refl
 kind_back text v (Rows r) = refl
 kind_back text v (WideRate r) = refl
 
-place_back : (v : NamesView) (c : Cause) → IsCauseFor v c → cause_of v.rates (kind_of_cause c) (place_word v c) ≡ Some c
-place_back v (Pivots steps) fits = ap (option_map Pivots) (step_back steps fits)
-place_back v (Width step) fits = ap (λ o. step_or_rate o (index_of v.rates (decimal step))) (step_back step fits)
-place_back v Scale fits = refl
-place_back v (Rows r) fits = ap (option_map Rows) fits
-place_back v (WideRate r) fits = ap (λ o. step_or_rate o (index_of v.rates (rate_name v r))) fits.1 ∙ ap (option_map WideRate) fits.0
+step_or_rate_back : (v : NamesView) (c : Cause) → IsCauseFor v c → cause_of v.rates (kind_of_cause c) (step_or_rate_word v c) ≡ Some c
+step_or_rate_back v (Pivots steps) fits = ap (option_map Pivots) (step_back steps fits)
+step_or_rate_back v (Width step) fits = ap (λ o. step_or_rate o (index_of v.rates (decimal step))) (step_back step fits)
+step_or_rate_back v Scale fits = refl
+step_or_rate_back v (Rows r) fits = ap (option_map Rows) fits
+step_or_rate_back v (WideRate r) fits = ap (λ o. step_or_rate o (index_of v.rates (rate_name v r))) fits.1 ∙ ap (option_map WideRate) fits.0
 
 cause_back : (text : List ℕ) (v : NamesView) (c : Cause) → IsCauseFor v c → cause_at v.rates (kind_of_cause c) (answer_value text v (Undecided c)) ≡ Some c
 unfolding cause_at answer_value
-cause_back text v c fits = place_back v c fits
+cause_back text v c fits = step_or_rate_back v c fits
 
 undecided_back : (text : List ℕ) (v : NamesView) (c : Cause) → IsCauseFor v c → undecided_at v.rates (answer_value text v (Undecided c)) ≡ Ok (Undecided c)
 unfolding undecided_at
@@ -170,9 +170,9 @@ terms_back r all = same_back IsNumberedAmount pair_at pair_value pair_back r.1 a
 row_back : (size : ℕ) (r : Mark × Terms) → IsRowIn size r → marked_row_at size (row_value r) ≡ Some r
 unfolding marked_row_at
 row_back size r fits =
-    ap (λ o. both o (option_and_then (row_of size) (terms_at (row_value r)))) (mark_back r.0 r.1)
-    ∙ ap (λ o. both (Some r.0) (option_and_then (row_of size) o)) (terms_back r fits.terms)
-    ∙ ap (λ o. both (Some r.0) o) (row_kept size r.1 fits.canonical fits.coordinates)
+    ap (λ o. pair_of o (option_and_then (row_of size) (terms_at (row_value r)))) (mark_back r.0 r.1)
+    ∙ ap (λ o. pair_of (Some r.0) (option_and_then (row_of size) o)) (terms_back r fits.terms)
+    ∙ ap (λ o. pair_of (Some r.0) o) (row_kept size r.1 fits.canonical fits.coordinates)
 
 region_back : (text : List ℕ) (v : NamesView) (rows : List (Mark × Terms)) (size : ℕ) → All (IsRowIn size) rows → region_at size (answer_value text v (Region rows)) ≡ Ok (Region rows)
 unfolding region_at rows_at answer_value

@@ -24,7 +24,7 @@ or_none a b p q = ap (λ c. c || b) p ∙ q
 
 proof_no_float : (c : CertificateView) → has_float (proof_value c) ≡ false
 unfolding proof_value
-proof_no_float c = or_none _ false (items_no_float pair_value pair_no_float (filter is_nonzero_weight c.parts)) refl
+proof_no_float c = or_none _ false (items_no_float pair_value pair_no_float (filter is_nonzero_weight c.weights)) refl
 
 row_no_float : (r : Mark × Terms) → has_float (row_value r) ≡ false
 unfolding row_value
@@ -49,7 +49,7 @@ pair_shallow w = omega arith
 
 proof_shallow : (c : CertificateView) → depth (proof_value c) ≤ 3
 unfolding proof_value
-proof_shallow c = let e = items_shallow pair_value 1 pair_shallow (filter is_nonzero_weight c.parts) in omega (arith, e)
+proof_shallow c = let e = items_shallow pair_value 1 pair_shallow (filter is_nonzero_weight c.weights) in omega (arith, e)
 
 row_shallow : (r : Mark × Terms) → depth (row_value r) ≤ 3
 unfolding row_value

@@ -7,7 +7,7 @@ use Rattle.serde_json.specs.Find.{get, as_str, as_array}
 use Rattle.it_number.specs.Limit.{IsWithin}
 use Rattle.it_number.specs.Decimals.{value_from}
 use Rattle.it_certificate.specs.Numerals.{up_to_limit, integer_of, magnitude_of, negative_of}
-use Rattle.it_certificate.specs.Parts.{integer_at, count_at, both, two_of, all_of, point_at, list_at, of_length, items_of_array, pair_at, terms_at}
+use Rattle.it_certificate.specs.Parts.{integer_at, count_at, pair_of, two_of, all_of, point_at, list_at, of_length, items_of_array, pair_at, terms_at}
 
 pub and_then_some : {A B : Type 0} (o : Option A) (f : A → Option B) (b : B) → option_and_then f o ≡ Some b → (a : A) × ((o ≡ Some a) × (f a ≡ Some b))
 and_then_some None f b is = absurd (cc)
@@ -77,8 +77,8 @@ point_length n d vs is =
     let f : length h.0 ≡ n = let t = m.0 in search (rules, t) in
     sym (ap length e) ∙ f
 
-pub both_some : {A B : Type 0} (o : Option A) (p : Option B) (c : A × B) → both o p ≡ Some c → (o ≡ Some c.0) × (p ≡ Some c.1)
-both_some o p c is =
+pub pair_some : {A B : Type 0} (o : Option A) (p : Option B) (c : A × B) → pair_of o p ≡ Some c → (o ≡ Some c.0) × (p ≡ Some c.1)
+pair_some o p c is =
     let h = and_then_some o (λ x. option_map (λ y. (x, y)) p) c is in
     let k = map_some p (λ y. (h.0, y)) c h.1.1 in
     (h.1.0 ∙ ap (λ d. Some d.0) k.1.1, k.1.0 ∙ ap (λ d. Some d.1) k.1.1)
@@ -86,8 +86,8 @@ both_some o p c is =
 pair_within : (d : Data) (t : ℕ × ℤ) → pair_at d ≡ Some t → IsWithin t.1
 unfolding pair_at
 pair_within d t is =
-    let h = and_then_some (option_and_then two_of (as_array d)) (λ p. both (count_at p.0) (integer_at p.1)) t is in
-    integer_at_within h.0.1 t.1 (both_some (count_at h.0.0) (integer_at h.0.1) t h.1.1).1
+    let h = and_then_some (option_and_then two_of (as_array d)) (λ p. pair_of (count_at p.0) (integer_at p.1)) t is in
+    integer_at_within h.0.1 t.1 (pair_some (count_at h.0.0) (integer_at h.0.1) t h.1.1).1
 
 pub terms_within : (d : Data) (ts : List (ℕ × ℤ)) → terms_at d ≡ Some ts → All (λ t. IsWithin t.1) ts
 unfolding terms_at

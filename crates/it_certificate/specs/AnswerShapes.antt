@@ -24,7 +24,7 @@ IsNumberedAmount t = (t.0 < 2 ^ 32) × IsWithin t.1
 -- the numbers of a certificate
 pub record IsNumbered (c : CertificateView) : Type 0 where
   pub scale : IsWithin c.scale
-  pub parts : All IsNumberedAmount c.parts
+  pub weights : All IsNumberedAmount c.weights
 
 -- a row of a space with so many coordinates
 pub record IsRowIn (size : ℕ) (r : Mark × Terms) : Type 0 where
@@ -69,6 +69,7 @@ pub record HasContainmentShape (first second : RegionView) (parts : List ℕ) (p
   pub obligations : length proofs ≡ obligation_count second
   pub numbers : All IsNumbered proofs
 
+-- sets and certificates of a containment, or how many candidates were tried
 abbrev pub HasContainShape : RegionView → RegionView → AnswerView → Type 0
 HasContainShape first second (Yes proofs) = ⊥
 HasContainShape first second (No back values) = ⊥
@@ -77,10 +78,12 @@ HasContainShape first second (Region rows) = ⊥
 HasContainShape first second (Contained parts proofs) = HasContainmentShape first second parts proofs
 HasContainShape first second (Open tried) = tried < 2 ^ 32
 
+-- the shape of the answers that a question of this verb wants
 abbrev pub HasVerbShape : NamesView → VerbView → AnswerView → Type 0
 HasVerbShape v (Prove r) answer = HasProveShape v r.sign answer
 HasVerbShape v (Eliminate rates) answer = HasEliminateShape v answer
 HasVerbShape v (Contain first second tries) answer = HasContainShape first second answer
 
+-- the shape of the answers that a question wants, right or not
 unfoldable pub HasQuestionShape : BodyView → AnswerView → Type 0
 HasQuestionShape q answer = HasVerbShape q.names q.verb answer

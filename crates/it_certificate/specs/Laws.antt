@@ -11,7 +11,7 @@ use Rattle.it_certificate.specs.AnswerShapes.{HasQuestionShape}
 
 -- a certificate without its weights of 0
 abbrev pub without_zeros : CertificateView → CertificateView
-without_zeros c = record { scale = c.scale; parts = filter is_nonzero_weight c.parts }
+without_zeros c = record { scale = c.scale; weights = filter is_nonzero_weight c.weights }
 
 -- an answer without its weights of 0
 abbrev pub written_answer : AnswerView → AnswerView

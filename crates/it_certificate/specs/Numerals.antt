@@ -14,7 +14,7 @@ magnitude_of ds = if nat_le 1 (length ds) && nat_le (length ds) 39 then option_a
 abbrev pub negative_of : ℕ → ℤ
 negative_of n = neg_ℤ (pos n)
 
--- such digits, or `-` and such digits behind it: the value of a decimal text
+-- such digits, or `-` and such digits after it: the value of a decimal text
 unfoldable pub integer_of : List ℕ → Option ℤ
 integer_of [] = None
 integer_of (c ∷ cs) = if c == 45 then option_map negative_of (magnitude_of cs) else option_map pos (magnitude_of (c ∷ cs))

@@ -31,8 +31,8 @@ unfoldable pub count_at : Data → Option ℕ
 count_at d = option_and_then count_of (option_and_then as_u64 (as_number d))
 
 -- two values, where both are there
-abbrev pub both : {A B : Type 0} → Option A → Option B → Option (A × B)
-both a b = option_and_then (λ x. option_map (λ y. (x, y)) b) a
+abbrev pub pair_of : {A B : Type 0} → Option A → Option B → Option (A × B)
+pair_of a b = option_and_then (λ x. option_map (λ y. (x, y)) b) a
 
 -- the items of a pair
 abbrev pub two_of : Items → Option (Data × Data)
@@ -43,7 +43,7 @@ two_of (item a (item b (item c ds))) = None
 
 -- a term or a weight: a pair of a number and a decimal text
 unfoldable pub pair_at : Data → Option (ℕ × ℤ)
-pair_at d = option_and_then (λ p. both (count_at p.0) (integer_at p.1)) (option_and_then two_of (as_array d))
+pair_at d = option_and_then (λ p. pair_of (count_at p.0) (integer_at p.1)) (option_and_then two_of (as_array d))
 
 -- each item by f, where each has one
 abbrev pub all_of : {A : Type 0} → (Data → Option A) → Items → Option (List A)
@@ -60,7 +60,7 @@ of_length n xs = if length xs == n then Some xs else None
 
 -- a scale and weights
 abbrev pub certificate_by : Option ℤ → Option (List (ℕ × ℤ)) → Option CertificateView
-certificate_by scale parts = option_and_then (λ s. option_map (λ ws. record { scale = s; parts = ws }) parts) scale
+certificate_by scale weights = option_and_then (λ s. option_map (λ ws. record { scale = s; weights = ws }) weights) scale
 
 -- a certificate
 unfoldable pub certificate_at : Data → Option CertificateView
@@ -125,7 +125,7 @@ terms_at d = list_at pair_at (get (codes "row") d)
 
 -- a row with its mark
 unfoldable pub marked_row_at : ℕ → Data → Option (Mark × Terms)
-marked_row_at size d = both (mark_at d) (option_and_then (row_of size) (terms_at d))
+marked_row_at size d = pair_of (mark_at d) (option_and_then (row_of size) (terms_at d))
 
 -- the rows of a region
 unfoldable pub rows_at : ℕ → Data → Option (List (Mark × Terms))

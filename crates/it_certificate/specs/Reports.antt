@@ -23,6 +23,7 @@ use Rattle.it_certificate.specs.Obligations.{obligation_count}
 
 -- ---- the answers that each verb gives
 
+-- the answer to `prove` that a report's JSON value reads as, by its kind; or its first key at fault
 unfoldable pub prove_answer : NamesView → Sign → AnswerKind → Data → Result AnswerView Key
 prove_answer v sign Yes d = yes_at sign d
 prove_answer v sign No d = no_at (size_of (space_of v)) sign d
@@ -31,6 +32,7 @@ prove_answer v sign Region d = Err keys.Answer
 prove_answer v sign Contained d = Err keys.Answer
 prove_answer v sign Open d = Err keys.Answer
 
+-- the answer to `eliminate` that a report's JSON value reads as, by its kind; or its first key at fault
 unfoldable pub eliminate_answer : NamesView → AnswerKind → Data → Result AnswerView Key
 eliminate_answer v Yes d = Err keys.Answer
 eliminate_answer v No d = Err keys.Answer
@@ -48,11 +50,13 @@ contain_answer first second Region d = Err keys.Answer
 contain_answer first second Contained d = contained_at second.auxiliaries (length first.names.variables) (obligation_count second) d
 contain_answer first second Open d = open_at d
 
+-- the answer of this kind to a question of this verb, or the first key at fault
 abbrev pub verb_answer : NamesView → VerbView → AnswerKind → Data → Result AnswerView Key
 verb_answer v (Prove r) kind d = prove_answer v r.sign kind d
 verb_answer v (Eliminate rates) kind d = eliminate_answer v kind d
 verb_answer v (Contain first second tries) kind d = contain_answer first second kind d
 
+-- the answer of this kind to the question, or the first key at fault
 unfoldable pub question_answer : QuestionView → AnswerKind → Data → Result AnswerView Key
 question_answer q kind d = verb_answer q.body.names q.body.verb kind d
 

@@ -47,6 +47,7 @@ pub record NumbersReadAsSaid : Type 0 where
 
 -- ---- JSON
 
+-- whether a text is JSON, and the count that its value is, if it is one
 abbrev pub count_in : List ℕ → Option (Option ℕ)
 count_in text = option_map count_at (read text)
 
@@ -54,6 +55,7 @@ count_in text = option_map count_at (read text)
 abbrev pub nesting : ℕ → List ℕ
 nesting n = replicate n 91 ++ replicate n 93
 
+-- texts that are JSON or not, and values that are a count or not
 pub record TextsReadAsSaid : Type 0 where
   pub word : read (codes "x") ≡ None
   pub blank : read [] ≡ None
@@ -82,19 +84,23 @@ pub record TextsReadAsSaid : Type 0 where
 abbrev pub two_names : NamesView
 two_names = record { variables = codes "X" ∷ codes "Y" ∷ []; rates = codes "R" ∷ [] }
 
+-- the relation of this sign between two empty sums
 abbrev pub relation_by : Sign → RelationView
 relation_by sign = record { left = []; sign = sign; right = [] }
 
+-- the question of this verb with these names, without own lines
 abbrev pub question_by : VerbView → QuestionView
 question_by verb = record { body = record { names = two_names; lines = record { givens = []; rows = [] }; verb = verb }; text = [] }
 
--- an inequality, an equality, an elimination
+-- the question whether an inequality holds: it has one target
 abbrev pub inequality : QuestionView
 inequality = question_by (Prove (relation_by AtLeast))
 
+-- the question whether an equality holds: it has two targets
 abbrev pub equality : QuestionView
 equality = question_by (Prove (relation_by Equal))
 
+-- the question that eliminates the rate R
 abbrev pub elimination : QuestionView
 elimination = question_by (Eliminate (0 ∷ []))
 
@@ -106,6 +112,7 @@ second_region = record {
   lines = record { givens = Function 4 1 ∷ []; rows = relation_by AtLeast ∷ [] };
 }
 
+-- the question whether a region without lines lies in that one
 abbrev pub containment : QuestionView
 containment = question_by (Contain (record { names = two_names; auxiliaries = 0; lines = record { givens = []; rows = [] } }) second_region [])
 
@@ -113,12 +120,15 @@ containment = question_by (Contain (record { names = two_names; auxiliaries = 0;
 abbrev pub report_on : QuestionView → List ℕ → Option (Result (QuestionView × AnswerView) Key)
 report_on q text = option_map (report_of (Some q)) (read text)
 
+-- a line about the question has its first fault at this key
 abbrev pub is_fault : QuestionView → Key → List ℕ → Type 0
 is_fault q key text = report_on q text ≡ Some (Err key)
 
+-- a line about the question reads as this answer to it
 abbrev pub is_answer : QuestionView → AnswerView → List ℕ → Type 0
 is_answer q answer text = report_on q text ≡ Some (Ok (q, answer))
 
+-- lines at fault in the kind of their answer, and one without a question
 pub record KindsReadAsSaid : Type 0 where
   pub no_object : is_fault inequality keys.Answer (codes "[]")
   pub no_key : is_fault inequality keys.Answer (codes "{}")
@@ -130,19 +140,21 @@ pub record KindsReadAsSaid : Type 0 where
   pub yes_of_elimination : is_fault elimination keys.Answer (codes "{\"answer\":\"yes\"}")
   pub undecided_of_containment : is_fault containment keys.Answer (codes "{\"answer\":\"undecided\",\"cause\":\"scale\",\"at\":\"0\"}")
 
+-- how many certificates a yes has, and how their scales and weights are written
 pub record ProofsReadAsSaid : Type 0 where
   pub missing : is_fault inequality keys.Proofs (codes "{\"answer\":\"yes\"}")
   pub none : is_fault inequality keys.Proofs (codes "{\"answer\":\"yes\",\"proofs\":[]}")
-  pub one : is_answer inequality (Yes (record { scale = pos 1; parts = (2, pos 1) ∷ [] } ∷ [])) (codes "{\"answer\":\"yes\",\"proofs\":[{\"scale\":\"1\",\"weights\":[[2,\"1\"]]}]}")
+  pub one : is_answer inequality (Yes (record { scale = pos 1; weights = (2, pos 1) ∷ [] } ∷ [])) (codes "{\"answer\":\"yes\",\"proofs\":[{\"scale\":\"1\",\"weights\":[[2,\"1\"]]}]}")
   pub two : is_fault inequality keys.Proofs (codes "{\"answer\":\"yes\",\"proofs\":[{\"scale\":\"1\",\"weights\":[]},{\"scale\":\"1\",\"weights\":[]}]}")
   pub one_of_two : is_fault equality keys.Proofs (codes "{\"answer\":\"yes\",\"proofs\":[{\"scale\":\"1\",\"weights\":[]}]}")
-  pub zeros_and_again : is_answer inequality (Yes (record { scale = pos 0; parts = (2, pos 0) ∷ (1, negsuc 0) ∷ (2, pos 1) ∷ [] } ∷ []))
+  pub zeros_and_again : is_answer inequality (Yes (record { scale = pos 0; weights = (2, pos 0) ∷ (1, negsuc 0) ∷ (2, pos 1) ∷ [] } ∷ []))
       (codes "{\"proofs\":[{\"weights\":[[2,\"0\"],[1,\"-1\"],[2,\"1\"]],\"more\":[],\"scale\":\"0\"}],\"answer\":\"yes\"}")
   pub no_scale : is_fault inequality keys.Proofs (codes "{\"answer\":\"yes\",\"proofs\":[{\"weights\":[]}]}")
   pub scale_as_number : is_fault inequality keys.Proofs (codes "{\"answer\":\"yes\",\"proofs\":[{\"scale\":1,\"weights\":[]}]}")
   pub point_in_number : is_fault inequality keys.Proofs (codes "{\"answer\":\"yes\",\"proofs\":[{\"scale\":\"1\",\"weights\":[[2.0,\"1\"]]}]}")
   pub triple : is_fault inequality keys.Proofs (codes "{\"answer\":\"yes\",\"proofs\":[{\"scale\":\"1\",\"weights\":[[2,\"1\",0]]}]}")
 
+-- the point of a no, and its side
 pub record PointsReadAsSaid : Type 0 where
   pub missing : is_fault inequality keys.Point (codes "{\"answer\":\"no\",\"side\":\"forward\"}")
   pub short : is_fault inequality keys.Point (codes "{\"answer\":\"no\",\"point\":[\"0\",\"1\",\"1\"],\"side\":\"forward\"}")
@@ -152,6 +164,7 @@ pub record PointsReadAsSaid : Type 0 where
   pub back : is_answer equality (No true (pos 0 ∷ pos 1 ∷ pos 1 ∷ pos 0 ∷ [])) (codes "{\"answer\":\"no\",\"point\":[\"0\",\"1\",\"1\",\"0\"],\"side\":\"back\"}")
   pub number : is_fault inequality keys.Point (codes "{\"answer\":\"no\",\"point\":[0,\"1\",\"1\",\"0\"],\"side\":\"forward\"}")
 
+-- the cause of an undecided answer, and the step or the rate that it has
 pub record CausesReadAsSaid : Type 0 where
   pub missing : is_fault inequality keys.Cause (codes "{\"answer\":\"undecided\",\"at\":\"7\"}")
   pub other : is_fault inequality keys.Cause (codes "{\"answer\":\"undecided\",\"at\":\"7\",\"cause\":\"time\"}")
@@ -168,6 +181,7 @@ pub record CausesReadAsSaid : Type 0 where
   pub rows : is_answer inequality (Undecided (causes.Rows 0)) (codes "{\"answer\":\"undecided\",\"at\":\"R\",\"cause\":\"rows\"}")
   pub rows_of_number : is_fault elimination keys.At (codes "{\"answer\":\"undecided\",\"at\":\"0\",\"cause\":\"rows\"}")
 
+-- the rows of a region, and their marks
 pub record RegionsReadAsSaid : Type 0 where
   pub missing : is_fault elimination keys.Rows (codes "{\"answer\":\"region\"}")
   pub none : is_answer elimination (Region []) (codes "{\"answer\":\"region\",\"rows\":[]}")
@@ -187,7 +201,7 @@ pub record ContainmentsReadAsSaid : Type 0 where
   pub outside : is_fault containment keys.Parts (codes "{\"answer\":\"contained\",\"parts\":[4]}")
   pub no_proof : is_fault containment keys.Proofs (codes "{\"answer\":\"contained\",\"parts\":[3]}")
   pub two_proofs : is_fault containment keys.Proofs (codes "{\"answer\":\"contained\",\"parts\":[3],\"proofs\":[{\"scale\":\"1\",\"weights\":[]},{\"scale\":\"1\",\"weights\":[]}]}")
-  pub three_proofs : is_answer containment (Contained (3 ∷ []) (replicate 3 (record { scale = pos 1; parts = [] })))
+  pub three_proofs : is_answer containment (Contained (3 ∷ []) (replicate 3 (record { scale = pos 1; weights = [] })))
       (codes "{\"answer\":\"contained\",\"parts\":[3],\"proofs\":[{\"scale\":\"1\",\"weights\":[]},{\"scale\":\"1\",\"weights\":[]},{\"scale\":\"1\",\"weights\":[]}]}")
   pub no_count : is_fault containment keys.Tried (codes "{\"answer\":\"open\"}")
   pub count_as_text : is_fault containment keys.Tried (codes "{\"answer\":\"open\",\"tried\":\"1\"}")
@@ -195,14 +209,15 @@ pub record ContainmentsReadAsSaid : Type 0 where
 
 -- ---- lines as they are written
 
+-- the line of an answer of each kind
 pub record LinesWrittenAsSaid : Type 0 where
-  pub yes : answer_text (codes "vars X, Y\nprove I(X;Y) >= 0\n") two_names (Yes (record { scale = pos 1; parts = (0, pos 0) ∷ (2, pos 1) ∷ [] } ∷ []))
+  pub yes : answer_text (codes "vars X, Y\nprove I(X;Y) >= 0\n") two_names (Yes (record { scale = pos 1; weights = (0, pos 0) ∷ (2, pos 1) ∷ [] } ∷ []))
       ≡ codes "{\"answer\":\"yes\",\"proofs\":[{\"scale\":\"1\",\"weights\":[[2,\"1\"]]}],\"question\":\"vars X, Y\\nprove I(X;Y) >= 0\\n\"}"
   pub no : answer_text (codes "q\n") two_names (No true (pos 0 ∷ negsuc 0 ∷ [])) ≡ codes "{\"answer\":\"no\",\"point\":[\"0\",\"-1\"],\"question\":\"q\\n\",\"side\":\"back\"}"
   pub undecided : answer_text (codes "q\n") two_names (Undecided (causes.WideRate 0)) ≡ codes "{\"answer\":\"undecided\",\"at\":\"R\",\"cause\":\"width\",\"question\":\"q\\n\"}"
   pub scale : answer_text (codes "q\n") two_names (Undecided causes.Scale) ≡ codes "{\"answer\":\"undecided\",\"at\":\"0\",\"cause\":\"scale\",\"question\":\"q\\n\"}"
   pub region : answer_text (codes "q\n") two_names (Region ((marks.Plain, (1, pos 1) ∷ (4, negsuc 1) ∷ []) ∷ []))
       ≡ codes "{\"answer\":\"region\",\"question\":\"q\\n\",\"rows\":[{\"mark\":\"plain\",\"row\":[[1,\"1\"],[4,\"-2\"]]}]}"
-  pub contained : answer_text (codes "q\n") two_names (Contained (3 ∷ []) (record { scale = pos 1; parts = [] } ∷ []))
+  pub contained : answer_text (codes "q\n") two_names (Contained (3 ∷ []) (record { scale = pos 1; weights = [] } ∷ []))
       ≡ codes "{\"answer\":\"contained\",\"parts\":[3],\"proofs\":[{\"scale\":\"1\",\"weights\":[]}],\"question\":\"q\\n\"}"
   pub open_search : answer_text (codes "q\n") two_names (Open 256) ≡ codes "{\"answer\":\"open\",\"question\":\"q\\n\",\"tried\":256}"

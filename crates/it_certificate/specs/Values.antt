@@ -32,7 +32,7 @@ pair_value p = array (item (count_value p.0) (item (integer_value p.1) no_items)
 unfoldable pub proof_value : CertificateView → Data
 proof_value c = object
     (member (codes "scale") (integer_value c.scale)
-    (member (codes "weights") (list_value pair_value (filter is_nonzero_weight c.parts)) no_members))
+    (member (codes "weights") (list_value pair_value (filter is_nonzero_weight c.weights)) no_members))
 
 -- the word of a side: whether it is the second target that is violated
 abbrev pub side_word : Bool → List ℕ
@@ -58,12 +58,12 @@ abbrev pub rate_name : NamesView → ℕ → List ℕ
 rate_name v r = slice_index_or v.rates r []
 
 -- at which step, budget or rate a cause came
-abbrev pub place_word : NamesView → Cause → List ℕ
-place_word v (Pivots steps) = decimal steps
-place_word v (Width step) = decimal step
-place_word v Scale = codes "0"
-place_word v (Rows r) = rate_name v r
-place_word v (WideRate r) = rate_name v r
+abbrev pub step_or_rate_word : NamesView → Cause → List ℕ
+step_or_rate_word v (Pivots steps) = decimal steps
+step_or_rate_word v (Width step) = decimal step
+step_or_rate_word v Scale = codes "0"
+step_or_rate_word v (Rows r) = rate_name v r
+step_or_rate_word v (WideRate r) = rate_name v r
 
 -- the answer to the question of a text, with the question's names; the keys in alphabetical order
 unfoldable pub answer_value : List ℕ → NamesView → AnswerView → Data
@@ -78,7 +78,7 @@ answer_value text v (No back values) = object
     (member (codes "side") (string (side_word back)) no_members))))
 answer_value text v (Undecided cause) = object
     (member (codes "answer") (string (codes "undecided"))
-    (member (codes "at") (string (place_word v cause))
+    (member (codes "at") (string (step_or_rate_word v cause))
     (member (codes "cause") (string (cause_word cause))
     (member (codes "question") (string text) no_members))))
 answer_value text v (Region rows) = object

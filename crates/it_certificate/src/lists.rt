@@ -1,4 +1,5 @@
 //! The lists of a report.
+//! The result of `push` is matched where `?` would do: so the proof has the case without memory by its name.
 ghost use Rattle.std.specs.Prelude.{◌≡◌, map, option_and_then, option_map};
 ghost use Rattle.serde_json.specs.View.{view, items_view};
 ghost use Rattle.it_space.specs.Answers.{certificate_view};

@@ -7,6 +7,7 @@ ghost use Rattle.it_certificate.specs.Parts.{count_at, integer_at};
 
 use serde_json::Value;
 
+/// The greatest number, 2^127 - 1.
 const GREATEST: u128 = 170141183460469231731687303715884105727;
 
 /// One digit more, unless the number passes 2^127 - 1.
@@ -29,9 +30,10 @@ fn value_up_to_limit(digits: &[u8]) -> Option<u128>
 {
     let mut n: u128 = 0;
     for d in digits {
-        if *d < 48 || *d > 57 {
+        if !d.is_ascii_digit() {
             return None;
         }
+        // `?` would do; with the match each case is a goal of its own, with the clause of `with_digit` at hand
         match with_digit(n, *d) {
             Some(more) => n = more,
             None => return None,

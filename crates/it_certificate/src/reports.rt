@@ -30,6 +30,7 @@ fn report_of(alloc: Global, value: &Value) -> Result<Report, ReportFault>
         Ok(question) => question,
         Err(refusal) => return Err(fault(refusal, Key::Question)),
     };
+    // `?` would do; with the match each case is a goal of its own, with the reading's equation at hand
     match question_answer(alloc, value, &question, kind) {
         Ok(answer) => Ok(Report { question, answer }),
         Err(fault) => Err(fault),

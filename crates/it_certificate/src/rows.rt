@@ -61,6 +61,7 @@ fn terms_at(alloc: Global, value: &Value) -> Result<Vec<(u32, i128)>, Refusal>
     ensures terms { Yields (λ v. v.items) result (terms_at (view value.now)) }
     ensures within { IfOk result (λ v. All (λ t. IsWithin t.1) v.items) }
 {
+    // named before it is answered, so that the contract of the call stands at the answer
     let terms = pairs_of_member(alloc, value.get("row"))?;
     Ok(terms)
 }
@@ -87,6 +88,7 @@ fn rows(alloc: Global, values: &[Value], size: u32) -> Result<Vec<(Mark, Row)>, 
     let mut out = Vec::new(alloc);
     for value in values {
         let row = marked_row_at(alloc, value, size)?;
+        // `?` would do; with the match the proof has the case without memory by its name
         match out.push(row) {
             Ok(()) => {}
             Err(_) => return Err(Refusal::Memory),

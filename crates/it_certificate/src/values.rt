@@ -3,7 +3,7 @@ ghost use Rattle.std.specs.Prelude.{◌≡◌, IfOk, filter, map, decimal, IsAsc
 ghost use Rattle.serde_json.specs.Data.{string};
 ghost use Rattle.serde_json.specs.View.{view};
 ghost use Rattle.it_space.specs.Answers.{IfRate, certificate_view, is_nonzero_weight};
-ghost use Rattle.it_certificate.specs.Values.{IsAsciiRate, cause_word, count_value, integer_value, list_value, pair_value, place_word, proof_value, rate_name, row_value, side_word};
+ghost use Rattle.it_certificate.specs.Values.{IsAsciiRate, cause_word, count_value, integer_value, list_value, pair_value, step_or_rate_word, proof_value, rate_name, row_value, side_word};
 
 use it_space::{Cause, Certificate, Mark, Row, VarSet, is_nonzero_weight};
 use it_syntax::Names;
@@ -173,9 +173,9 @@ fn rate(alloc: Global, names: &Names, rate: u8) -> Result<Value, AllocError>
 }
 
 /// At which step, budget or rate a cause came.
-pub fn place(alloc: Global, names: &Names, cause: Cause) -> Result<Value, AllocError>
+pub fn step_or_rate_value(alloc: Global, names: &Names, cause: Cause) -> Result<Value, AllocError>
     requires { IfRate (IsAsciiRate names.now) cause }
-    ensures { IfOk result (λ v. view v ≡ string (place_word names.now cause)) }
+    ensures { IfOk result (λ v. view v ≡ string (step_or_rate_word names.now cause)) }
 {
     match cause {
         Cause::Pivots(steps) => step_number(alloc, steps),

@@ -6,7 +6,9 @@ ghost use Rattle.it_space.specs.Answers.{IfRate, answer_view, certificate_view};
 ghost use Rattle.it_space.specs.Answers.AnswerView.{Yes, No, Undecided, Region, Contained, Open};
 ghost use Rattle.it_certificate.specs.Values.{IsAsciiRate, IsWritable, answer_text, answer_value};
 
-use crate::values::{ascii_text, cause_word, integers, place, proofs, rows, sets, side_word};
+use crate::values::{
+    ascii_text, cause_word, integers, proofs, rows, sets, side_word, step_or_rate_value,
+};
 use it_space::{Answer, Cause, Certificate, Mark, Point, Row, VarSet};
 use it_syntax::Names;
 use serde_json::{Value, json};
@@ -52,7 +54,7 @@ fn undecided_value(
     requires { IfRate (IsAsciiRate names.now) cause }
     ensures { IfOk result (λ v. view v ≡ answer_value question.now names.now (Undecided cause)) }
 {
-    let place = place(alloc, names, cause)?;
+    let place = step_or_rate_value(alloc, names, cause)?;
     json!(in alloc; {"answer": "undecided", "at": place, "cause": cause_word(cause), "question": question})
 }
 

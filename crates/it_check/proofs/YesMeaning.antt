@@ -102,8 +102,8 @@ module _ (gs : List Generator) where
 -- the two numbers at a coordinate fit and are one
 pub record Agrees (gs : List Generator) (target : Terms) (w : CertificateView) (c : ℕ) : Type 0 where
   pub left : IsWithin (w.scale *ℤ coefficient target c)
-  pub right : ValueFits w.parts (column gs c)
-  pub same : w.scale *ℤ coefficient target c ≡ value w.parts (column gs c)
+  pub right : ValueFits w.weights (column gs c)
+  pub same : w.scale *ℤ coefficient target c ≡ value w.weights (column gs c)
 
 module _ (gs : List Generator) (target : Terms) (w : CertificateView) where
   numbers_clean : (c : ℕ) (l r : Option ℤ) → of_numbers c l r ≡ Some Valid → ⊥
@@ -116,7 +116,7 @@ module _ (gs : List Generator) (target : Terms) (w : CertificateView) where
       by_test false q = cc
 
   coordinate_none : (c : ℕ) → of_coordinate gs target w c ≡ None → Agrees gs target w c
-  coordinate_none c q = by_option (product_within w.scale (coefficient target c)) (sum_within (pos 0) w.parts (column gs c)) (λ x e. product_told w.scale (coefficient target c) x e) (λ y e. sum_told (pos 0) w.parts (column gs c) y e) q
+  coordinate_none c q = by_option (product_within w.scale (coefficient target c)) (sum_within (pos 0) w.weights (column gs c)) (λ x e. product_told w.scale (coefficient target c) x e) (λ y e. sum_told (pos 0) w.weights (column gs c) y e) q
     where
       numbers_agree : (x y : ℤ) (b : Bool) → Decides b (x ≡ y) → cond b None (Some (Mismatch c x y)) ≡ None → x ≡ y
       numbers_agree x y true d q = d.0 refl
@@ -126,27 +126,27 @@ module _ (gs : List Generator) (target : Terms) (w : CertificateView) where
       sides_are_equal x y v u p q r = omega (arith, ints, p, q, r)
 
       by_option : (l r : Option ℤ) → ((x : ℤ) → l ≡ Some x → IsWithin (w.scale *ℤ coefficient target c) × (x ≡ w.scale *ℤ coefficient target c))
-          → ((y : ℤ) → r ≡ Some y → ValueFits w.parts (column gs c) × (y ≡ pos 0 +ℤ value w.parts (column gs c))) → of_numbers c l r ≡ None → Agrees gs target w c
+          → ((y : ℤ) → r ≡ Some y → ValueFits w.weights (column gs c) × (y ≡ pos 0 +ℤ value w.weights (column gs c))) → of_numbers c l r ≡ None → Agrees gs target w c
       by_option None r f g q = absurd (cc)
       by_option (Some x) None f g q = absurd (cc)
       by_option (Some x) (Some y) f g q = record {
         left = (f x refl).0;
         right = (g y refl).0;
-        same = sides_are_equal x y (value w.parts (column gs c)) (w.scale *ℤ coefficient target c) (f x refl).1 (g y refl).1 (numbers_agree x y (int_eq x y) (Decides-int_eq x y) q);
+        same = sides_are_equal x y (value w.weights (column gs c)) (w.scale *ℤ coefficient target c) (f x refl).1 (g y refl).1 (numbers_agree x y (int_eq x y) (Decides-int_eq x y) q);
       }
 
   none_coordinate : (c : ℕ) → Agrees gs target w c → of_coordinate gs target w c ≡ None
   none_coordinate c a =
-      ap (λ l. of_numbers c l (sum_within (pos 0) w.parts (column gs c))) (product_fits w.scale (coefficient target c) a.left)
-      ∙ ap (of_numbers c (Some (w.scale *ℤ coefficient target c))) (sum_fits (pos 0) w.parts (column gs c) a.right)
-      ∙ ap (λ b. cond b None (Some (Mismatch c (w.scale *ℤ coefficient target c) (pos 0 +ℤ value w.parts (column gs c)))))
-      ((Decides-int_eq (w.scale *ℤ coefficient target c) (pos 0 +ℤ value w.parts (column gs c))).1 (a.same ∙ sym (+ℤ_idl (value w.parts (column gs c)))))
+      ap (λ l. of_numbers c l (sum_within (pos 0) w.weights (column gs c))) (product_fits w.scale (coefficient target c) a.left)
+      ∙ ap (of_numbers c (Some (w.scale *ℤ coefficient target c))) (sum_fits (pos 0) w.weights (column gs c) a.right)
+      ∙ ap (λ b. cond b None (Some (Mismatch c (w.scale *ℤ coefficient target c) (pos 0 +ℤ value w.weights (column gs c)))))
+      ((Decides-int_eq (w.scale *ℤ coefficient target c) (pos 0 +ℤ value w.weights (column gs c))).1 (a.same ∙ sym (+ℤ_idl (value w.weights (column gs c)))))
 
   coordinates_clean : (c left : ℕ) → of_coordinates gs target w c left ≡ Some Valid → ⊥
   unfolding of_coordinates
   coordinates_clean c zero q = cc
   coordinates_clean c (suc left) q = clean_or (of_coordinate gs target w c) (of_coordinates gs target w (c + 1) left)
-      (numbers_clean c (product_within w.scale (coefficient target c)) (sum_within (pos 0) w.parts (column gs c))) (coordinates_clean (c + 1) left) q
+      (numbers_clean c (product_within w.scale (coefficient target c)) (sum_within (pos 0) w.weights (column gs c))) (coordinates_clean (c + 1) left) q
 
   coordinates_none : (c left : ℕ) → of_coordinates gs target w c left ≡ None → (k : ℕ) → c ≤ k → k < c + left → Agrees gs target w k
   unfolding of_coordinates
@@ -172,37 +172,37 @@ weighted_is gs [] c = refl
 weighted_is gs (w ∷ ws) c = ap₂ (λ x y. w.1 *ℤ x +ℤ y) (value-one_at (generator_at gs w.0).row c) (weighted_is gs ws c)
 
 -- what is added up by coefficients is added up at the maps that are 1 at a coordinate
-pub to_certificate : (gs : List Generator) (size : ℕ) (target : Terms) (w : CertificateView) → pos 1 ≤ℤ w.scale → All (IsAllowed (forms_of gs)) w.parts
-    → ((c : ℕ) → 1 ≤ c → c ≤ size → w.scale *ℤ coefficient target c ≡ value w.parts (column gs c)) → IsCertificate (size + 1) (forms_of gs) (value target) w
+pub to_certificate : (gs : List Generator) (size : ℕ) (target : Terms) (w : CertificateView) → pos 1 ≤ℤ w.scale → All (IsAllowed (forms_of gs)) w.weights
+    → ((c : ℕ) → 1 ≤ c → c ≤ size → w.scale *ℤ coefficient target c ≡ value w.weights (column gs c)) → IsCertificate (size + 1) (forms_of gs) (value target) w
 to_certificate gs size target w s a f = record {
   scale_from_one = s;
   allowed = a;
-  adds_up = λ c h l. ap (λ x. w.scale *ℤ x) (value-one_at target c) ∙ f c (omega arith) (omega arith) ∙ sym (weighted_is gs w.parts c);
+  adds_up = λ c h l. ap (λ x. w.scale *ℤ x) (value-one_at target c) ∙ f c (omega arith) (omega arith) ∙ sym (weighted_is gs w.weights c);
 }
 
 pub by_coefficients : (gs : List Generator) (size : ℕ) (target : Terms) (w : CertificateView) → IsCertificate (size + 1) (forms_of gs) (value target) w
-    → (c : ℕ) → 1 ≤ c → c ≤ size → w.scale *ℤ coefficient target c ≡ value w.parts (column gs c)
-by_coefficients gs size target w k c h l = sym (ap (λ x. w.scale *ℤ x) (value-one_at target c)) ∙ k.adds_up c (omega arith) (omega arith) ∙ weighted_is gs w.parts c
+    → (c : ℕ) → 1 ≤ c → c ≤ size → w.scale *ℤ coefficient target c ≡ value w.weights (column gs c)
+by_coefficients gs size target w k c h l = sym (ap (λ x. w.scale *ℤ x) (value-one_at target c)) ∙ k.adds_up c (omega arith) (omega arith) ∙ weighted_is gs w.weights c
 
 -- ---- all of it
 
 module _ (gs : List Generator) (size : ℕ) (target : Terms) (w : CertificateView) where
   abbrev Fits : Type 0
-  Fits = (c : ℕ) → 1 ≤ c → c ≤ size → IsWithin (w.scale *ℤ coefficient target c) × ValueFits w.parts (column gs c)
+  Fits = (c : ℕ) → 1 ≤ c → c ≤ size → IsWithin (w.scale *ℤ coefficient target c) × ValueFits w.weights (column gs c)
 
   pub valid_yes : yes_verdict gs size target w ≡ Valid → IsCertificate (size + 1) (forms_of gs) (value target) w × Fits
   unfolding yes_verdict
   valid_yes e =
-      let one = first_part (of_scale w.scale) (or_else (of_weights gs w.parts) (of_coordinates gs target w 1 size)) (scale_clean w.scale) e in
-      let two = first_part (of_weights gs w.parts) (of_coordinates gs target w 1 size) (weights_clean gs w.parts) one.1 in
+      let one = first_part (of_scale w.scale) (or_else (of_weights gs w.weights) (of_coordinates gs target w 1 size)) (scale_clean w.scale) e in
+      let two = first_part (of_weights gs w.weights) (of_coordinates gs target w 1 size) (weights_clean gs w.weights) one.1 in
       let three = last_part (of_coordinates gs target w 1 size) (coordinates_clean gs target w 1 size) two.1 in (
-        to_certificate gs size target w (scale_none w.scale one.0) (all_of (IsAllowed (forms_of gs)) w.parts (weights_none gs w.parts two.0)) (λ c h l. (coordinates_none gs target w 1 size three c h (omega arith)).same),
+        to_certificate gs size target w (scale_none w.scale one.0) (all_of (IsAllowed (forms_of gs)) w.weights (weights_none gs w.weights two.0)) (λ c h l. (coordinates_none gs target w 1 size three c h (omega arith)).same),
         λ c h l. let a = coordinates_none gs target w 1 size three c h (omega arith) in (a.left, a.right),
       )
 
   pub yes_valid : IsCertificate (size + 1) (forms_of gs) (value target) w → Fits → yes_verdict gs size target w ≡ Valid
   unfolding yes_verdict
   yes_valid k f =
-      ap (λ o. valid_unless (or_else o (or_else (of_weights gs w.parts) (of_coordinates gs target w 1 size)))) (none_scale w.scale k.scale_from_one)
-      ∙ ap (λ o. valid_unless (or_else o (of_coordinates gs target w 1 size))) (none_weights gs w.parts (every_of (IsAllowed (forms_of gs)) w.parts k.allowed))
+      ap (λ o. valid_unless (or_else o (or_else (of_weights gs w.weights) (of_coordinates gs target w 1 size)))) (none_scale w.scale k.scale_from_one)
+      ∙ ap (λ o. valid_unless (or_else o (of_coordinates gs target w 1 size))) (none_weights gs w.weights (every_of (IsAllowed (forms_of gs)) w.weights k.allowed))
       ∙ ap valid_unless (none_coordinates gs target w 1 size (λ c h l. let b = f c h (omega arith) in record { left = b.0; right = b.1; same = by_coefficients gs size target w k c h (omega arith) }))

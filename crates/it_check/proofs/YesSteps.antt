@@ -60,12 +60,12 @@ all_known gs ws e = all_of (λ (w : ℕ × ℤ). w.0 < length gs) ws (each_gener
 
 module _ (gs : List Generator) (target : Terms) (w : CertificateView) (c : ℕ) (l r : Result ℤ WideNumber) (left : OkIff l (IsWithin (w.scale *ℤ coefficient target c)) (w.scale *ℤ coefficient target c)) where
   pub left_wide : (e : WideNumber) → l ≡ Err e → Some (Width c) ≡ of_coordinate gs target w c
-  left_wide e is = sym (ap (λ o. of_numbers c o (sum_within (pos 0) w.parts (column gs c))) (product_is l w.scale (coefficient target c) left ∙ ap result_ok is))
+  left_wide e is = sym (ap (λ o. of_numbers c o (sum_within (pos 0) w.weights (column gs c))) (product_is l w.scale (coefficient target c) left ∙ ap result_ok is))
 
-  module _ (right : OkIff r (ValueFits w.parts (column gs c)) (value w.parts (column gs c))) where
+  module _ (right : OkIff r (ValueFits w.weights (column gs c)) (value w.weights (column gs c))) where
     coordinate_is : of_coordinate gs target w c ≡ of_numbers c (result_ok l) (result_ok r)
-    coordinate_is = ap (λ o. of_numbers c o (sum_within (pos 0) w.parts (column gs c))) (product_is l w.scale (coefficient target c) left)
-        ∙ ap (of_numbers c (result_ok l)) (sum_is r w.parts (column gs c) right)
+    coordinate_is = ap (λ o. of_numbers c o (sum_within (pos 0) w.weights (column gs c))) (product_is l w.scale (coefficient target c) left)
+        ∙ ap (of_numbers c (result_ok l)) (sum_is r w.weights (column gs c) right)
 
     pub right_wide : (x : ℤ) (e : WideNumber) → l ≡ Ok x → r ≡ Err e → Some (Width c) ≡ of_coordinate gs target w c
     right_wide x e p q = sym (coordinate_is ∙ ap (λ o. of_numbers c (result_ok o) (result_ok r)) p ∙ ap (λ o. of_numbers c (Some x) (result_ok o)) q)
@@ -108,13 +108,13 @@ coordinates_done gs target w c size h inv = let e : 0 ≡ size + 1 - c = omega a
 module _ (gs : List Generator) (size : ℕ) (target : Terms) (w : CertificateView) where
   pub by_scale : (v : Verdict) → Some v ≡ of_scale w.scale → v ≡ yes_verdict gs size target w
   unfolding yes_verdict
-  by_scale v e = ap (λ o. valid_unless (or_else o (or_else (of_weights gs w.parts) (of_coordinates gs target w 1 size)))) e
+  by_scale v e = ap (λ o. valid_unless (or_else o (or_else (of_weights gs w.weights) (of_coordinates gs target w 1 size)))) e
 
-  pub by_weights : (v : Verdict) → None ≡ of_scale w.scale → Some v ≡ of_weights gs w.parts → v ≡ yes_verdict gs size target w
+  pub by_weights : (v : Verdict) → None ≡ of_scale w.scale → Some v ≡ of_weights gs w.weights → v ≡ yes_verdict gs size target w
   unfolding yes_verdict
-  by_weights v e f = ap (λ o. valid_unless (or_else o (of_coordinates gs target w 1 size))) f ∙ ap (λ o. valid_unless (or_else o (or_else (of_weights gs w.parts) (of_coordinates gs target w 1 size)))) e
+  by_weights v e f = ap (λ o. valid_unless (or_else o (of_coordinates gs target w 1 size))) f ∙ ap (λ o. valid_unless (or_else o (or_else (of_weights gs w.weights) (of_coordinates gs target w 1 size)))) e
 
-  pub by_coordinates : (o : Option Verdict) → None ≡ of_scale w.scale → None ≡ of_weights gs w.parts → o ≡ of_coordinates gs target w 1 size → valid_unless o ≡ yes_verdict gs size target w
+  pub by_coordinates : (o : Option Verdict) → None ≡ of_scale w.scale → None ≡ of_weights gs w.weights → o ≡ of_coordinates gs target w 1 size → valid_unless o ≡ yes_verdict gs size target w
   unfolding yes_verdict
   by_coordinates o e f g = ap valid_unless g ∙ ap (λ o. valid_unless (or_else o (of_coordinates gs target w 1 size))) f
-      ∙ ap (λ o. valid_unless (or_else o (or_else (of_weights gs w.parts) (of_coordinates gs target w 1 size)))) e
+      ∙ ap (λ o. valid_unless (or_else o (or_else (of_weights gs w.weights) (of_coordinates gs target w 1 size)))) e

@@ -19,7 +19,7 @@ CertifiesRow q target w = IsCertificate (size_of q.space + 1) (forms_of (generat
 -- at each coordinate the left number, each product and each partial sum are within the limit
 abbrev pub CertificateFits : ProblemView → Terms → CertificateView → Type 0
 CertificateFits q target w = (c : ℕ) → 1 ≤ c → c ≤ size_of q.space
-    → IsWithin (w.scale *ℤ coefficient target c) × ValueFits w.parts (column (generators q) c)
+    → IsWithin (w.scale *ℤ coefficient target c) × ValueFits w.weights (column (generators q) c)
 
 -- a point at which a polymatroid and rates meet the constraints and the target is -1 or less
 pub record RefutesRow (q : ProblemView) (target : Terms) (values : List ℤ) : Type 0 where

@@ -57,7 +57,7 @@ of_numbers c (Some left) (Some right) = if int_eq left right then None else Some
 
 -- what is wrong at a coordinate
 abbrev pub of_coordinate : List Generator → Terms → CertificateView → ℕ → Option Verdict
-of_coordinate gs target w c = of_numbers c (left_number target w.scale c) (right_number gs w.parts c)
+of_coordinate gs target w c = of_numbers c (left_number target w.scale c) (right_number gs w.weights c)
 
 -- the first thing that is wrong at so many coordinates from coordinate c on
 unfoldable pub of_coordinates : List Generator → Terms → CertificateView → ℕ → ℕ → Option Verdict
@@ -66,7 +66,7 @@ of_coordinates gs target w c (suc left) = or_else (of_coordinate gs target w c) 
 
 -- the scale, then each weight in order, then each coordinate
 unfoldable pub yes_verdict : List Generator → ℕ → Terms → CertificateView → Verdict
-yes_verdict gs size target w = valid_unless (or_else (of_scale w.scale) (or_else (of_weights gs w.parts) (of_coordinates gs target w 1 size)))
+yes_verdict gs size target w = valid_unless (or_else (of_scale w.scale) (or_else (of_weights gs w.weights) (of_coordinates gs target w 1 size)))
 
 -- ---- counterexamples
 

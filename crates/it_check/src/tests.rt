@@ -1,3 +1,5 @@
+//! Tests: first verdicts of certificates and of points.
+
 use crate::{Verdict, check_no, check_yes};
 use it_space::{Certificate, Point, Problem, Row, Space};
 use std::test::Fail;

@@ -55,7 +55,7 @@ use Rattle.it_answer.proofs.UniqueLemmas.{a_yes_ascends}
 use Rattle.it_certificate.specs.AnswerShapes.{HasQuestionShape, HasVerbShape, IsCauseFor}
 use Rattle.it_certificate.specs.Laws.{ReadsBack, written_answer}
 use Rattle.it_certificate.specs.Reports.{ReadsReport}
-use Rattle.it_certificate.specs.Values.{answer_value, answer_text, place_word}
+use Rattle.it_certificate.specs.Values.{answer_value, answer_text, step_or_rate_word}
 use Rattle.it_report.specs.RowVerdicts.{is_valid, proof_verdict, proofs_verdict, point_verdict}
 use Rattle.it_report.specs.LineVerdicts.{LineVerdict, Skipped, Judged, is_invalid}
 use Rattle.it_report.specs.Judging.{judged_forms_by, is_passed_over, IsJudged, IsVerdict}
@@ -165,12 +165,12 @@ rate_ascii (x ∷ rates) (suc r) all = rate_ascii rates r (All-tail IsAscii x ra
 step_ascii : (n : ℕ) → n < 2 ^ 32 → IsAscii (decimal n)
 step_ascii n h = let e : 2 ^ 32 ≤ 10 ^ 64 = lit≤ tt in IsAscii-decimal_wide n (omega (arith, h, e))
 
-place_ascii : (v : NamesView) (c : Cause) → All IsAscii v.rates → IsCauseFor v c → IsAscii (place_word v c)
-place_ascii v (causes.Pivots k) all h = step_ascii k h
-place_ascii v (causes.Width k) all h = step_ascii k h
-place_ascii v causes.Scale all h = IsAscii-cons 48 [] (omega arith) IsAscii-nil
-place_ascii v (causes.Rows r) all h = rate_ascii v.rates r all
-place_ascii v (causes.WideRate r) all h = rate_ascii v.rates r all
+step_or_rate_ascii : (v : NamesView) (c : Cause) → All IsAscii v.rates → IsCauseFor v c → IsAscii (step_or_rate_word v c)
+step_or_rate_ascii v (causes.Pivots k) all h = step_ascii k h
+step_or_rate_ascii v (causes.Width k) all h = step_ascii k h
+step_or_rate_ascii v causes.Scale all h = IsAscii-cons 48 [] (omega arith) IsAscii-nil
+step_or_rate_ascii v (causes.Rows r) all h = rate_ascii v.rates r all
+step_or_rate_ascii v (causes.WideRate r) all h = rate_ascii v.rates r all
 
 module _ (back : ReadsBack) (q : QuestionView) (short : length q.text ≤ 1048577) (file : IsFile q.text (q ∷ [])) where
   -- the report's line of an answer
@@ -202,7 +202,7 @@ module _ (back : ReadsBack) (q : QuestionView) (short : length q.text ≤ 104857
 
   undecided_accepted : (c : Cause) → HasQuestionShape q.body (Undecided c) → IsCauseFor q.body.names c → IsAccepted (line_of (Undecided c))
   undecided_accepted c fits cause =
-      let plain = undecided_plain q.text q.body.names text_is c (IsUtf8-from_ascii (place_word q.body.names c) (place_ascii q.body.names c question_ascii.rates cause)) in
+      let plain = undecided_plain q.text q.body.names text_is c (IsUtf8-from_ascii (step_or_rate_word q.body.names c) (step_or_rate_ascii q.body.names c question_ascii.rates cause)) in
       skipped_is_accepted (Undecided c) (line_of (Undecided c)) (clear_of (Undecided c) plain) refl (line_reads (Undecided c) fits plain)
 
   region_accepted : (budgets : Budgets) (rates : List ℕ) (rows : List (Mark × Terms)) → IsQuestion q.body → q.body.verb ≡ Eliminate rates → IsRightElimination budgets q.body rates (Region rows) → IsAccepted (line_of (Region rows))

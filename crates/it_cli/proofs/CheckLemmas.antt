@@ -33,10 +33,10 @@ pub record IsChecked (old new : Option (List ℕ)) (bytes rest : List ℕ) (k : 
   pub rest_is : drop k (split_lines bytes) ≡ split_lines rest
   pub counted : k + length rest ≤ length bytes
 
-pub checked_more : (a b c : Option (List ℕ)) (bytes rest line behind : List ℕ) (k : ℕ) (some_invalid invalid : Bool) (text piece : List ℕ) → IsChecked a b bytes rest k some_invalid
-    → split_lines rest ≡ line ∷ split_lines behind → length behind < length rest → IsJudgedLine (k + 1) line text invalid → piece ≡ text → Gains b c piece → IsChecked a c bytes behind (k + 1) (some_invalid || invalid)
-checked_more a b c bytes rest line behind k some_invalid invalid text piece h split shorter judged same wrote =
-    let next = next_item k (split_lines bytes) (split_lines behind) line (h.rest_is ∙ split) in record {
+pub checked_more : (a b c : Option (List ℕ)) (bytes rest line after : List ℕ) (k : ℕ) (some_invalid invalid : Bool) (text piece : List ℕ) → IsChecked a b bytes rest k some_invalid
+    → split_lines rest ≡ line ∷ split_lines after → length after < length rest → IsJudgedLine (k + 1) line text invalid → piece ≡ text → Gains b c piece → IsChecked a c bytes after (k + 1) (some_invalid || invalid)
+checked_more a b c bytes rest line after k some_invalid invalid text piece h split shorter judged same wrote =
+    let next = next_item k (split_lines bytes) (split_lines after) line (h.rest_is ∙ split) in record {
       written = subst (λ (i : Bool). UnderWay IsVerdictAfter after_verdict verdict_text_of a c false (split_lines bytes) (k + 1) (some_invalid || i)) (sym judged.told.1)
           (under_way_more IsVerdictAfter after_verdict verdict_text_of a b c false (split_lines bytes) k some_invalid line judged.verdict text h.written next.0 next.1 judged.is judged.told.0
           (subst (Gains b c) same wrote));
@@ -50,10 +50,10 @@ front_of_output each plans bytes out part =
     let f = part_is_front IsVerdictAfter after_verdict verdict_text_of (λ before line. let judged = (each 1 line).2 in (judged.verdict, judged.is)) 1 false (split_lines bytes) out part in
     (f.whole, verdict_status f.state, (f.state, f.groups, refl), f.front)
 
-pub checked_stops : (plans : List Plan) (a b c : Option (List ℕ)) (bytes rest line behind : List ℕ) (k : ℕ) (some_invalid invalid : Bool) (text piece : List ℕ) → EachLineIsJudged → IsChecked a b bytes rest k some_invalid
-    → split_lines rest ≡ line ∷ split_lines behind → IsJudgedLine (k + 1) line text invalid → piece ≡ text → TookFront b c piece → WroteInPart plans a c Check bytes
-checked_stops plans a b c bytes rest line behind k some_invalid invalid text piece each h split judged same took =
-    let next = next_item k (split_lines bytes) (split_lines behind) line (h.rest_is ∙ split) in
+pub checked_stops : (plans : List Plan) (a b c : Option (List ℕ)) (bytes rest line after : List ℕ) (k : ℕ) (some_invalid invalid : Bool) (text piece : List ℕ) → EachLineIsJudged → IsChecked a b bytes rest k some_invalid
+    → split_lines rest ≡ line ∷ split_lines after → IsJudgedLine (k + 1) line text invalid → piece ≡ text → TookFront b c piece → WroteInPart plans a c Check bytes
+checked_stops plans a b c bytes rest line after k some_invalid invalid text piece each h split judged same took =
+    let next = next_item k (split_lines bytes) (split_lines after) line (h.rest_is ∙ split) in
     let stopped = under_way_stops IsVerdictAfter after_verdict verdict_text_of a b c false (split_lines bytes) k some_invalid line judged.verdict text h.written next.0 next.1 judged.is judged.told.0
     (subst (TookFront b c) same took) in
     record { out = stopped.out; output = front_of_output each plans bytes stopped.out stopped.groups; wrote = stopped.wrote }

@@ -29,7 +29,7 @@ use Rattle.it_space.specs.declared.answers.Mark.{Mark}
 use Rattle.it_space.specs.declared.answers.Mark.TheVariants.{Plain, Needed, Unsettled}
 use Rattle.it_syntax.specs.NamesViews.{NamesView}
 use Rattle.it_certificate.specs.AnswerShapes.{IsNumberedAmount, IsNumbered}
-use Rattle.it_certificate.specs.Values.{integer_value, count_value, pair_value, proof_value, side_word, row_value, cause_word, place_word, answer_value, answer_text}
+use Rattle.it_certificate.specs.Values.{integer_value, count_value, pair_value, proof_value, side_word, row_value, cause_word, step_or_rate_word, answer_value, answer_text}
 use Rattle.it_certificate.proofs.ValueLemmas.{answer_shallow}
 
 -- ---- values without floats
@@ -194,7 +194,7 @@ proof_plain c h = (
       integer_plain c.scale h.scale,
       (
         IsUtf8-are_ascii (codes "weights") refl,
-        (items_plain pair_value IsNumberedAmount pair_plain (filter is_nonzero_weight c.parts) (All-filter is_nonzero_weight IsNumberedAmount c.parts h.parts), tt),
+        (items_plain pair_value IsNumberedAmount pair_plain (filter is_nonzero_weight c.weights) (All-filter is_nonzero_weight IsNumberedAmount c.weights h.weights), tt),
       ),
     ),
   ),
@@ -257,7 +257,7 @@ module _ (text : List ℕ) (v : NamesView) (ok : IsUtf8 text) where
     refl,
   )
 
-  pub undecided_plain : (c : Cause) → IsUtf8 (place_word v c) → IsPlain (answer_value text v (Undecided c))
+  pub undecided_plain : (c : Cause) → IsUtf8 (step_or_rate_word v c) → IsPlain (answer_value text v (Undecided c))
   unfolding answer_value
   undecided_plain c h = ((answer_utf8, (IsUtf8-are_ascii (codes "undecided") refl, (IsUtf8-are_ascii (codes "at") refl, (h, (IsUtf8-are_ascii (codes "cause") refl, (cause_utf8 c, (question_utf8, (ok, tt)))))))), refl)
 

@@ -32,8 +32,8 @@ use Rattle.it_syntax.specs.Meaning.{RelationView}
 use Rattle.it_syntax.specs.NamesViews.{NamesView}
 use Rattle.it_question.specs.Questions.{BodyView, Prove}
 use Rattle.it_canon.specs.Canonical.{form_of}
-use Rattle.it_canon.specs.Demands.{States, AreStated}
-use Rattle.it_canon.specs.Targets.{targets, targets_by}
+use Rattle.it_canon.specs.Demands.{States, AreStated, kind_of}
+use Rattle.it_canon.specs.Targets.{targets, demanded_forms}
 use Rattle.it_canon.specs.QuestionDemands.{space_of, problem_names, problem_names_by, variables_of, question_demands, Poses}
 use Rattle.it_canon.proofs.ZipLemmas.{zip-length}
 use Rattle.it_eliminate.specs.Elimination.{Member}
@@ -65,12 +65,12 @@ no_same u v e = cc
 -- a proof's scale is within the limit, and its weights ascend
 pub record IsScaled (w : CertificateView) : Type 0 where
   pub scale : IsWithin w.scale
-  pub parts : IsCanonical w.parts
+  pub canonical : IsCanonical w.weights
 
 module _ (q : ProblemView) (target : Terms) where
   scaled_by_end : (w : CertificateView) (e : RunEndView (List (ℕ × Rational)) (List Rational)) → Follows q target e (proof_views.Yes w) → IsScaled w
   scaled_by_end w (Weights ws) (inl h) =
-      subst IsScaled (yes_same h.0 w (sym h.3)) (record { scale = subst IsWithin (sym h.1.scale) h.2.lifted.numbers.scale; parts = h.1.parts })
+      subst IsScaled (yes_same h.0 w (sym h.3)) (record { scale = subst IsWithin (sym h.1.scale) h.2.lifted.numbers.scale; canonical = h.1.canonical })
   scaled_by_end w (Weights ws) (inr h) = let e = h.1 in absurd (cc)
   scaled_by_end w (Point qs) (inl h) = let e = h.1 in absurd (cc)
   scaled_by_end w (Point qs) (inr h) = let e = h.1 in absurd (cc)
@@ -201,7 +201,7 @@ module _ (q : BodyView) (p : ProblemView) (space : p.space ≡ space_of (problem
   all_numbered [] (w ∷ ws) c d = absurd c
   all_numbered (f ∷ fs) (w ∷ ws) c d =
       let s = All-head IsScaled w ws d in
-      All-cons IsNumbered w ws (record { scale = s.scale; parts = pairs_below (generators_by (all_demands (variables_of q) (question_demands q))) few_generators 0 w.parts s.parts c.0.allowed })
+      All-cons IsNumbered w ws (record { scale = s.scale; weights = pairs_below (generators_by (all_demands (variables_of q) (question_demands q))) few_generators 0 w.weights s.canonical c.0.allowed })
       (all_numbered fs ws c.1 (All-tail IsScaled w ws d))
 
   pub all_counted : (fs : List Form) (ws : List CertificateView) → CertifyAll q fs ws → length ws ≡ length fs
@@ -219,7 +219,7 @@ module _ (q : BodyView) (r : RelationView) (b : Poses q r) where
   values_due budget (t ∷ []) true values d = absurd d
   values_due budget (t ∷ u ∷ ts) true values d = values_by_end b.problem u b.is_problem.limits values d.1.end d.1.follows
 
-  second_only : (s : Sign) (f : Form) (back : Bool) (values : List ℤ) → ViolatesFirst q (targets_by s f) back values → back ≡ true → is_equality s ≡ true
+  second_only : (s : Sign) (f : Form) (back : Bool) (values : List ℤ) → ViolatesFirst q (demanded_forms (kind_of s) f) back values → back ≡ true → is_equality s ≡ true
   second_only AtLeast f true values c e = absurd c
   second_only AtMost f true values c e = absurd c
   second_only Equal f back values c e = refl
@@ -274,8 +274,8 @@ weights_are_some from [] a = refl
 weights_are_some from (t ∷ ts) a = ap (λ b. cond b (t ∷ filter is_nonzero_weight ts) (filter is_nonzero_weight ts)) (nonzero_passes t.1 a.1) ∙ ap (λ zs. t ∷ zs) (weights_are_some (t.0 + 1) ts a.3)
 
 -- A certificate whose weights ascend is written whole.
-pub all_weights_written : (ws : List CertificateView) → All (λ w. IsCanonical w.parts) ws → map without_zeros ws ≡ ws
+pub all_weights_written : (ws : List CertificateView) → All (λ w. IsCanonical w.weights) ws → map without_zeros ws ≡ ws
 all_weights_written [] all = refl
 all_weights_written (w ∷ ws) all =
-    ap (λ ps. record { scale = w.scale; parts = ps } ∷ map without_zeros ws) (weights_are_some 0 w.parts (All-head (λ (w : CertificateView). IsCanonical w.parts) w ws all))
-    ∙ ap (λ vs. w ∷ vs) (all_weights_written ws (All-tail (λ (w : CertificateView). IsCanonical w.parts) w ws all))
+    ap (λ ps. record { scale = w.scale; weights = ps } ∷ map without_zeros ws) (weights_are_some 0 w.weights (All-head (λ (w : CertificateView). IsCanonical w.weights) w ws all))
+    ∙ ap (λ vs. w ∷ vs) (all_weights_written ws (All-tail (λ (w : CertificateView). IsCanonical w.weights) w ws all))

@@ -18,12 +18,12 @@ use Rattle.it_syntax.specs.Misspellings.{SpellsUntil}
 use Rattle.it_syntax.specs.NamesViews.{NamesView, index_of, IsNew}
 use Rattle.it_syntax.specs.Spans.{letter_of, letters_until, last_letter}
 use Rattle.it_syntax.specs.Spelling.{StartsWith, IsText}
-use Rattle.it_syntax.specs.WrittenAtoms.{WrittenList, is_measure}
+use Rattle.it_syntax.specs.WrittenMeasures.{WrittenList, is_measure}
 use Rattle.it_syntax.proofs.NameLemmas.{nowhere_all, distinct_insert, differs_both_ways}
 use Rattle.it_question.specs.Files.{IsFile}
 use Rattle.it_question.specs.Keywords.{vars_keyword, rates_keyword}
-use Rattle.it_question.specs.Lines.{TokenLine, AreLines, split_lines, letters_of_lines}
-use Rattle.it_question.specs.NewNames.{Sort, Variable, Rate, with_name, no_names, is_taken, new_mark, spell_new_more, spell_new_names, with_names, new_names_of, spell_names_line, names_line_of}
+use Rattle.it_question.specs.Lines.{LineView, AreLines, split_lines, letters_of_lines}
+use Rattle.it_question.specs.NewNames.{NameSortView, Variable, Rate, with_name, no_names, is_taken, new_mark, spell_new_more, spell_new_names, with_names, new_names_of, spell_names_line, names_line_of}
 use Rattle.it_question.specs.Questions.{QuestionView}
 use Rattle.it_question.specs.Texts.{text_of_lines, question_line_count, with_texts}
 use Rattle.it_question.specs.WrittenLines.{limit_mark}
@@ -71,12 +71,12 @@ line_sound line front at bytes (t ∷ ts) m e n h =
     let end : length ((front ++ c.gap) ++ c.text) ≡ t.end = omega (arith, length-append (front ++ c.gap) c.text, start, c.end) in
     (token_sound t.kind line t.start t.end c.text text c.spelled, line_sound line ((front ++ c.gap) ++ c.text) t.end h.0 ts m (whole ∙ sym (append_assoc (front ++ c.gap) c.text h.0)) end h.2)
 
-lines_sound : (n : ℕ) (split : List (List ℕ)) (lines : List TokenLine) → AreLines n split lines → Every IsSound (letters_of_lines lines)
-lines_sound n [] lines h = subst (λ (ls : List TokenLine). Every IsSound (letters_of_lines ls)) (sym h) (tt, tt)
+lines_sound : (n : ℕ) (split : List (List ℕ)) (lines : List LineView) → AreLines n split lines → Every IsSound (letters_of_lines lines)
+lines_sound n [] lines h = subst (λ (ls : List LineView). Every IsSound (letters_of_lines ls)) (sym h) (tt, tt)
 lines_sound n (bytes ∷ more) lines (inl h) = lines_sound (n + 1) more lines h.1
 lines_sound n (bytes ∷ more) lines (inr h) =
     let l = h.0 in
-    subst (λ (ls : List TokenLine). Every IsSound (letters_of_lines ls)) (sym h.2)
+    subst (λ (ls : List LineView). Every IsSound (letters_of_lines ls)) (sym h.2)
     (every-append IsSound (letters_until l.text l.tokens (last_letter l.misspelling)) (letters_of_lines h.1) (line_sound l.text [] 0 l.text l.tokens l.misspelling refl refl h.3.spelled) (lines_sound (n + 1) more h.1 h.5))
 
 -- ---- the names that are declared
@@ -90,7 +90,7 @@ no_names_good : AreGood no_names
 unfolding IsDistinct
 no_names_good = record { distinct = tt; lettered = tt }
 
-good_name : (sort : Sort) (v : NamesView) (w : List ℕ) → AreGood v → IsNew v w → IsLettered w → AreGood (with_name sort v w)
+good_name : (sort : NameSortView) (v : NamesView) (w : List ℕ) → AreGood v → IsNew v w → IsLettered w → AreGood (with_name sort v w)
 good_name Variable v w g new h = record { distinct = g.distinct; lettered = g.lettered }
 good_name Rate v w g new h = record {
   distinct = distinct_insert v.rates [] w (subst (λ (names : List (List ℕ)). IsDistinct bytes_eq names) (sym (append-nil v.rates)) g.distinct) (nowhere_all w v.rates new.1) tt;
@@ -101,7 +101,7 @@ good_name Rate v w g new h = record {
 record First (l : Letter) (mark : Option Code) (m : MarkedLetters) : Type 0 where
   more : List Letter
   sound : Every IsSound more
-  behind : m ≡ without_marks more
+  after : m ≡ without_marks more
   here : IsSound l
   none : mark ≡ None
 
@@ -113,7 +113,7 @@ first_of l mark m (x ∷ ls) a e =
     record {
       more = ls;
       sound = a.1;
-      behind = tails;
+      after = tails;
       here = subst IsSound (sym (ap (λ (y : Letter × Option Code). y.0) first)) a.0;
       none = ap (λ (y : Letter × Option Code). y.1) first;
     }
@@ -128,40 +128,40 @@ record Grown (w : NamesView) (k : MarkedLetters) : Type 0 where
   good : AreGood w
   more : List Letter
   sound : Every IsSound more
-  behind : k ≡ without_marks more
+  after : k ≡ without_marks more
 
-more_good : (sort : Sort) (n : ℕ) (v : NamesView) (ws : List (List ℕ)) (k : MarkedLetters) (ls : List Letter) → AreGood v → Every IsSound ls → spell_new_more sort n v ws k ≡ without_marks ls → Grown (with_names sort v ws) k
-more_good sort n v [] k ls g a e = record { good = g; more = ls; sound = a; behind = e }
+more_good : (sort : NameSortView) (n : ℕ) (v : NamesView) (ws : List (List ℕ)) (k : MarkedLetters) (ls : List Letter) → AreGood v → Every IsSound ls → spell_new_more sort n v ws k ≡ without_marks ls → Grown (with_names sort v ws) k
+more_good sort n v [] k ls g a e = record { good = g; more = ls; sound = a; after = e }
 more_good sort n v (w ∷ ws) k ls g a e =
     let rest = spell_new_more sort (n - 1) (with_name sort v w) ws k in
     let comma = first_of (Sym Comma) None ((Word w, new_mark (is_measure w) (is_taken v w) n) ∷ rest) ls a e in
-    let name = first_of (Word w) (new_mark (is_measure w) (is_taken v w) n) rest comma.more comma.sound comma.behind in
+    let name = first_of (Word w) (new_mark (is_measure w) (is_taken v w) n) rest comma.more comma.sound comma.after in
     let new = new_of v w (not_taken (is_measure w) (is_taken v w) n name.none) in
-    more_good sort (n - 1) (with_name sort v w) ws k name.more (good_name sort v w g new name.here) name.sound name.behind
+    more_good sort (n - 1) (with_name sort v w) ws k name.more (good_name sort v w g new name.here) name.sound name.after
 
-new_good : (sort : Sort) (n : ℕ) (v : NamesView) (l : WrittenList) (k : MarkedLetters) (ls : List Letter) → AreGood v → Every IsSound ls → spell_new_names sort n v l k ≡ without_marks ls → Grown (new_names_of sort v l) k
+new_good : (sort : NameSortView) (n : ℕ) (v : NamesView) (l : WrittenList) (k : MarkedLetters) (ls : List Letter) → AreGood v → Every IsSound ls → spell_new_names sort n v l k ≡ without_marks ls → Grown (new_names_of sort v l) k
 new_good sort n v l k ls g a e =
     let w = l.first in
     let rest = spell_new_more sort (n - 1) (with_name sort v w) l.more k in
     let name = first_of (Word w) (new_mark (is_measure w) (is_taken v w) n) rest ls a e in
     let new = new_of v w (not_taken (is_measure w) (is_taken v w) n name.none) in
-    more_good sort (n - 1) (with_name sort v w) l.more k name.more (good_name sort v w g new name.here) name.sound name.behind
+    more_good sort (n - 1) (with_name sort v w) l.more k name.more (good_name sort v w g new name.here) name.sound name.after
 
-line_good : (sort : Sort) (n : ℕ) (keyword : List ℕ) (v : NamesView) (o : Option WrittenList) (k : MarkedLetters) (ls : List Letter) → AreGood v → Every IsSound ls → spell_names_line sort n keyword v o k ≡ without_marks ls
+line_good : (sort : NameSortView) (n : ℕ) (keyword : List ℕ) (v : NamesView) (o : Option WrittenList) (k : MarkedLetters) (ls : List Letter) → AreGood v → Every IsSound ls → spell_names_line sort n keyword v o k ≡ without_marks ls
     → AreGood (names_line_of sort v o)
 line_good sort n keyword v None k ls g a e = g
 line_good sort n keyword v (Some l) k ls g a e =
     let word = first_of (Word keyword) None (spell_new_names sort n v l (without_mark End ∷ k)) ls a e in
-    (new_good sort n v l (without_mark End ∷ k) word.more g word.sound word.behind).good
+    (new_good sort n v l (without_mark End ∷ k) word.more g word.sound word.after).good
 
 question_good : (mark : Option Code) (x : WrittenQuestion) (k : MarkedLetters) (ls : List Letter) → Every IsSound ls → (Word vars_keyword, mark) ∷ spell_question x k ≡ without_marks ls → AreGood (names_of x)
 question_good mark x k ls a e =
     let word = first_of (Word vars_keyword) mark (spell_question x k) ls a e in
-    let variables = new_good Variable most_variables no_names x.variables _ word.more no_names_good word.sound word.behind in
-    let end = first_of End None _ variables.more variables.sound variables.behind in
-    line_good Rate most_rates rates_keyword (new_names_of Variable no_names x.variables) x.rates _ end.more variables.good end.sound end.behind
+    let variables = new_good Variable most_variables no_names x.variables _ word.more no_names_good word.sound word.after in
+    let end = first_of End None _ variables.more variables.sound variables.after in
+    line_good Rate most_rates rates_keyword (new_names_of Variable no_names x.variables) x.rates _ end.more variables.good end.sound end.after
 
-read_good : (q : QuestionView) (lines : List TokenLine) (trees : List WrittenQuestion) → Every IsSound (letters_of_lines lines) → spell_file trees ≡ without_marks (letters_of_lines lines) → with_texts lines (questions_of trees) ≡ q ∷ [] → AreGood q.body.names
+read_good : (q : QuestionView) (lines : List LineView) (trees : List WrittenQuestion) → Every IsSound (letters_of_lines lines) → spell_file trees ≡ without_marks (letters_of_lines lines) → with_texts lines (questions_of trees) ≡ q ∷ [] → AreGood q.body.names
 read_good q lines [] a s e = absurd cc
 read_good q lines (x ∷ xs) a s e =
     let p : QuestionView = record { body = question_of x; text = text_of_lines (take (question_line_count (question_of x)) lines) } in

@@ -4,8 +4,9 @@ use Rattle.std.proofs.lemmas.List.{length-map}
 use Rattle.std.proofs.lemmas.List.Elements.{All-nil, All-cons}
 use Rattle.it_syntax.specs.declared.types.Misspelling.{Misspelling}
 use Rattle.it_syntax.specs.Letters.{without_mark, letters, without_marks}
+use Rattle.it_question.proofs.LetterLemmas.{length_with_ends, split_length}
 use Rattle.it_question.specs.Files.{IsFile}
-use Rattle.it_question.specs.Lines.{TokenLine, AreLines, split_lines, in_front, without_return, before_comment, without_tab, plain_text, file_end, letters_of_lines}
+use Rattle.it_question.specs.Lines.{LineView, AreLines, split_lines, in_front, without_return, before_comment, without_tab, plain_text, file_end, letters_of_lines}
 use Rattle.it_question.specs.Questions.{QuestionView}
 use Rattle.it_question.specs.Texts.{without_leading, unless_blank, without_trailing, trimmed_line, text_of_lines, question_line_count, with_texts}
 use Rattle.it_question.specs.WrittenLines.{limit_mark}
@@ -49,30 +50,13 @@ trimmed_short line =
 
 -- ---- what lines take
 
--- the bytes of lines, each with an end
-abbrev with_ends : List (List ℕ) → ℕ
-with_ends [] = 0
-with_ends (line ∷ lines) = length line + 1 + with_ends lines
-
-front_short : (b k : ℕ) (lines : List (List ℕ)) → with_ends lines ≤ k + 1 → with_ends (in_front b lines) ≤ suc k + 1
-front_short b k [] h = omega arith
-front_short b k (line ∷ lines) h = omega (arith, h)
-
-split_short : (bytes : List ℕ) → with_ends (split_lines bytes) ≤ length bytes + 1
-split_short [] = omega arith
-split_short (b ∷ bytes) = by_test (b == 10) (split_short bytes)
-  where
-    by_test : (t : Bool) → with_ends (split_lines bytes) ≤ length bytes + 1 → with_ends (if t then [] ∷ split_lines bytes else in_front b (split_lines bytes)) ≤ suc (length bytes) + 1
-    by_test true h = omega (arith, h)
-    by_test false h = front_short b (length bytes) (split_lines bytes) h
-
 -- what a line gives to a text, where it has no misspelling
 abbrev given_by : Option Misspelling → ℕ → ℕ
 given_by None n = n
 given_by (Some m) n = 0
 
 -- what lines give to a text
-abbrev given_all : List TokenLine → ℕ
+abbrev given_all : List LineView → ℕ
 given_all [] = 0
 given_all (l ∷ lines) = given_by l.misspelling (length (trimmed_line l.text) + 1) + given_all lines
 
@@ -80,8 +64,8 @@ given_little : (m : Option Misspelling) (n : ℕ) → given_by m n ≤ n
 given_little None n = omega arith
 given_little (Some m) n = omega arith
 
-lines_short : (n : ℕ) (split : List (List ℕ)) (lines : List TokenLine) → AreLines n split lines → given_all lines ≤ with_ends split
-lines_short n [] lines h = subst (λ (ls : List TokenLine). given_all ls ≤ 0) (sym h) (omega arith)
+lines_short : (n : ℕ) (split : List (List ℕ)) (lines : List LineView) → AreLines n split lines → given_all lines ≤ length_with_ends split
+lines_short n [] lines h = subst (λ (ls : List LineView). given_all ls ≤ 0) (sym h) (omega arith)
 lines_short n (bytes ∷ more) lines (inl h) = let k = lines_short (n + 1) more lines h.1 in omega (arith, k)
 lines_short n (bytes ∷ more) lines (inr h) =
     let l = h.0 in
@@ -89,9 +73,9 @@ lines_short n (bytes ∷ more) lines (inr h) =
     let b = ap (λ (t : List ℕ). length (trimmed_line t)) h.3.text in
     let c = trimmed_short bytes in
     let k = lines_short (n + 1) more h.1 h.5 in
-    subst (λ (ls : List TokenLine). given_all ls ≤ length bytes + 1 + with_ends more) (sym h.2) (omega (arith, a, b, c, k))
+    subst (λ (ls : List LineView). given_all ls ≤ length bytes + 1 + length_with_ends more) (sym h.2) (omega (arith, a, b, c, k))
 
-whole_text : (lines : List TokenLine) → AreWhole lines → length (text_of_lines lines) ≡ given_all lines
+whole_text : (lines : List LineView) → AreWhole lines → length (text_of_lines lines) ≡ given_all lines
 whole_text [] w = refl
 whole_text (l ∷ lines) w =
     let a = ap (λ (m : Option Misspelling). given_by m (length (trimmed_line l.text) + 1)) w.0.misspelling in
@@ -99,7 +83,7 @@ whole_text (l ∷ lines) w =
     let k = whole_text lines w.1 in
     omega (arith, a, b, k)
 
-taken_given : (i : ℕ) (lines : List TokenLine) → given_all (take i lines) + given_all (drop i lines) ≡ given_all lines
+taken_given : (i : ℕ) (lines : List LineView) → given_all (take i lines) + given_all (drop i lines) ≡ given_all lines
 taken_given zero lines = omega arith
 taken_given (suc i) [] = refl
 taken_given (suc i) (l ∷ lines) = let k = taken_given i lines in omega (arith, k)
@@ -110,7 +94,7 @@ taken_given (suc i) (l ∷ lines) = let k = taken_given i lines in omega (arith,
 abbrev IsShortBy : ℕ → QuestionView → Type 0
 IsShortBy most q = length q.text ≤ most
 
-all_short : (most n : ℕ) (xs : List WrittenQuestion) (lines : List TokenLine) → spell_questions n xs (without_mark file_end ∷ []) ≡ without_marks (letters_of_lines lines) → AreSound lines → given_all lines ≤ most
+all_short : (most n : ℕ) (xs : List WrittenQuestion) (lines : List LineView) → spell_questions n xs (without_mark file_end ∷ []) ≡ without_marks (letters_of_lines lines) → AreSound lines → given_all lines ≤ most
     → All (IsShortBy most) (with_texts lines (questions_of xs))
 all_short most n [] lines e s h = All-nil (IsShortBy most)
 all_short most n (x ∷ xs) lines e s h =
@@ -124,10 +108,10 @@ all_short most n (x ∷ xs) lines e s h =
     let text = whole_text (take i lines) d.whole in
     let short : IsShortBy most q = omega (arith, sum, text, h) in
     All-cons (IsShortBy most) q (with_texts (drop i lines) (questions_of xs)) short
-    (all_short most (n - 1) xs (drop i lines) (c.behind ∙ ap without_marks (sym d.behind)) d.sound (omega (arith, sum, h)))
+    (all_short most (n - 1) xs (drop i lines) (c.after ∙ ap without_marks (sym d.after)) d.sound (omega (arith, sum, h)))
 
 pub texts_are_short : (bytes : List ℕ) (qs : List QuestionView) → IsFile bytes qs → All (λ q. length q.text ≤ length bytes + 1) qs
 texts_are_short bytes qs f =
     let a = lines_short 1 (split_lines bytes) f.lines f.cut in
-    let b = split_short bytes in
+    let b = split_length bytes in
     subst (All (IsShortBy (length bytes + 1))) f.are (all_short (length bytes + 1) most_questions f.trees f.lines f.spelled (lines_sound 1 (split_lines bytes) f.lines f.cut) (omega (arith, a, b)))

@@ -44,8 +44,8 @@ after_answer before q reply = before ++ reply.found
 -- ---- the lines of an answer
 
 -- where the constraints of a question come from
-abbrev pub places : BodyView → List Origin
-places q = map (λ d. d.origin) (question_demands q)
+abbrev pub question_origins : BodyView → List Origin
+question_origins q = map (λ d. d.origin) (question_demands q)
 
 -- a form's terms over the coordinates of the question
 abbrev pub terms_in : BodyView → Form → Terms
@@ -65,9 +65,9 @@ json_line q a = answer_text q.text q.body.names a ++ codes "\n"
 
 -- the lines of an answer to question k
 abbrev pub answer_lines : Format → ℕ → QuestionView → AnswerView → List ℕ
-answer_lines Text k q a = answer_line k q.body (places q.body) a
+answer_lines Text k q a = answer_line k q.body (question_origins q.body) a
 answer_lines Json k q a = json_line q a
-answer_lines Proof k q a = proof_text k q.body (places q.body) (question_generators q.body) (map (terms_in q.body) (answer_forms q.body a)) a
+answer_lines Proof k q a = proof_text k q.body (question_origins q.body) (question_generators q.body) (map (terms_in q.body) (answer_forms q.body a)) a
 
 -- the lines of a reply to question k
 abbrev pub answer_text_of : Format → ℕ → QuestionView → Reply → List ℕ

@@ -87,6 +87,7 @@ fn answer_one(
     ensures { IfOk result (λ text. IsAnswerText budgets (map plan boxes.old.items) format k (question_view question.now) (map plan boxes.new.items) text.items) }
 {
     let answered = answer(alloc, question, budgets, boxes)?;
+    // named before it is answered, so that the contract of the call stands at the answer
     let text = lines(alloc, format, k, question, &answered)?;
     Ok(text)
 }

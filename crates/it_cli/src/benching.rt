@@ -54,6 +54,7 @@ fn generated_line(
 {
     let questions = generated_questions(alloc, seed, count)?;
     let counts = counts_of(alloc, budgets, questions.as_slice(), boxes)?;
+    // named before it is answered, so that the contract of the call stands at the answer
     let line = bench_line(alloc, seed, count, counts)?;
     Ok(line)
 }
@@ -86,10 +87,10 @@ fn counts_of(
     requires limits { All (λ q. IsQuestion (question_body q)) questions.now }
     ensures { IfOk result (λ counts. AreCounted budgets (map plan boxes.old.items) [] no_counts (map question_view questions.now) counts) }
 {
-    let mut counts = Counts::none();
+    let mut counts = Counts::new();
     for question in questions {
         let answered = answer(alloc, question, budgets, boxes)?;
-        counts = counts.with(&answered.answer);
+        counts = counts.with_answer(&answered.answer);
     }
     Ok(counts)
 }

@@ -20,7 +20,7 @@ pub fn check_report<K: Sink>(alloc: Global, bytes: &[u8], sink: &mut K) -> Statu
     let mut count: usize = 0;
     let mut some_invalid = false;
     while !rest.is_empty() {
-        let (line, behind) = first_line(rest);
+        let (line, after) = first_line(rest);
         let Ok(judged) = judge(alloc, count + 1, line) else {
             return Status::Memory;
         };
@@ -29,7 +29,7 @@ pub fn check_report<K: Sink>(alloc: Global, bytes: &[u8], sink: &mut K) -> Statu
         };
         some_invalid |= judged.invalid;
         count += 1;
-        rest = behind;
+        rest = after;
     }
     status_after(some_invalid)
 }

@@ -20,7 +20,7 @@ pub struct Counts {
 
 impl Counts {
     /// No answer is counted yet.
-    pub fn none() -> Counts
+    pub fn new() -> Counts
         ensures { result ≡ no_counts }
     {
         Counts {
@@ -34,7 +34,7 @@ impl Counts {
     }
 
     /// The counts with one answer more.
-    pub fn with(self, answer: &Answer) -> Counts
+    pub fn with_answer(self, answer: &Answer) -> Counts
         requires few { total self < 2 ^ 63 }
         ensures { result ≡ with_answer self (answer_view answer.now) }
     {

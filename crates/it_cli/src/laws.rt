@@ -17,8 +17,8 @@ pub fn headline()
     ensures counts { CountsAreWritten }
 {}
 
-/// With a reading, an input that is given whole and read, where the mode has one, and no fault counted, the whole output is
-/// written or memory is wanted.
+/// Where the words have a reading, the input (if the mode has one) is given whole and has a reading, and no fault is
+/// counted, the whole output is written or memory was wanted.
 pub fn is_complete()
     ensures { IsComplete }
 {

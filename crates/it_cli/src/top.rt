@@ -20,6 +20,7 @@ use it_settings::settings;
 use it_settings::types::{Settings, WordsFault};
 use std::alloc::Global;
 
+/// The line that is written where the words have no reading.
 const USAGE: &[u8] =
     b"usage: itip answer|check|bench [--format text|json|proof] [--pivots N] [--rows N] [--tries N] [--seed N] [--count N]\n";
 

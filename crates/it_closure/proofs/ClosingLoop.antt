@@ -1,22 +1,16 @@
 -- The loop that closes a set.
-use Rattle.std.proofs.Common.{◌≡◌, ℕ, ◌+◌, ◌-◌, ◌^◌, ◌<◌, ◌≤◌, List, Some, None, Bool, cond, drop, length, get_or, bit_and, bit_or, ap, ◌∙◌, arith, All}
+use Rattle.std.proofs.Common.{◌≡◌, ℕ, ◌-◌, ◌^◌, ◌<◌, ◌≤◌, List, Some, None, get_or, bit_and, bit_or, arith, All}
 use Rattle.std.proofs.lemmas.Nat.{or_lt, pow_pos, and_le_r}
 use Rattle.it_space.specs.Sets.{IsInside}
 use Rattle.it_closure.specs.declared.dependences.Dependence.{Dependence}
-use Rattle.it_closure.specs.Closures.{is_open, closure, IsClosureOf, first_open}
+use Rattle.it_closure.specs.Closures.{closure, IsClosureOf, first_open}
 use Rattle.std.proofs.Math.Pow.{pow_mono}
-use Rattle.it_space.proofs.ListLemmas.{drop_item}
 use Rattle.it_closure.specs.DependencesViews.{DependencesView, AreOfSpace}
 use Rattle.it_closure.specs.Collapse.{AreDependences}
 use Rattle.it_closure.proofs.Insides.{inside-refl, inside-trans, inside-antisym, or_inside, inside_left, inside_all, grows}
 use Rattle.it_closure.proofs.Meets.{closure_is, closure_told}
 use Rattle.it_closure.proofs.Ways.{IsOpenOf, open_where, closed_where}
 use Rattle.it_polymatroid.proofs.Images.{inside_meet, meet_left}
-
--- one dependence further
-pub next_is : (ds : List Dependence) (i : ℕ) (d : Dependence) (a : ℕ) (b : Bool) → i < length ds → d ≡ get_or ds i d → is_open d a ≡ b
-    → first_open (drop i ds) a ≡ cond b (Some d) (first_open (drop (i + 1) ds) a)
-next_is ds i d a b h e o = ap (λ xs. first_open xs a) (drop_item ds i d h e) ∙ ap (λ b. cond b (Some d) (first_open (drop (i + 1) ds) a)) o
 
 -- a set between s and its closure
 pub record IsOnTheWay (n : ℕ) (ds : List Dependence) (s a : ℕ) : Type 0 where

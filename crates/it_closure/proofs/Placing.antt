@@ -3,11 +3,11 @@ use Rattle.std.proofs.Common.{◌≡◌, ◌≢◌, ◌↔◌, ℕ, zero, suc, �
 use Rattle.std.proofs.lemmas.Int.{ints}
 use Rattle.std.proofs.lemmas.Bool.{eqb-true, cases_lt, true≢false}
 use Rattle.std.proofs.lemmas.Nat.{pow_pos}
-use Rattle.std.proofs.Math.Pow.{pow_mono}
 use Rattle.std.proofs.lemmas.List.{length-replicate}
 use Rattle.std.proofs.lemmas.List.Elements.{All-replicate}
 use Rattle.std.proofs.Math.IntN.{+ℤ_assoc}
 use Rattle.it_number.specs.Limit.{IsWithin}
+use Rattle.it_number.proofs.Shifts.{shift_is_power}
 use Rattle.it_space.proofs.ListLemmas.{drop_item}
 use Rattle.it_space.specs.declared.spaces.Space.{Space}
 use Rattle.it_space.specs.Rows.{Terms, coefficient}
@@ -22,16 +22,12 @@ use Rattle.it_space.proofs.SumLemmas.{at-zeros}
 use Rattle.it_closure.proofs.ClosingLoop.{of_space}
 use Rattle.it_closure.proofs.Meets.{closure_is}
 use Rattle.it_closure.proofs.Places.{place-rate, place-null, place-set, null_or_not}
-use native.Mathlib.Nat.{mod-eq_of_lt}
-
-pub shift : (v : ℕ) → v ≤ 10 → 1 * 2 ^ v % 4294967296 ≡ 2 ^ v
-shift v h = let e : 1 * 2 ^ v ≡ 2 ^ v = omega arith in ap (λ m. m % 4294967296) e ∙ mod-eq_of_lt (omega (arith, pow_mono {i = v} {j = 10} h))
 
 pub below_shift : (m v : ℕ) → m < 1 * 2 ^ v % 4294967296 → v ≤ 10 → m < 2 ^ v
-below_shift m v h f = omega (arith, shift v f)
+below_shift m v h f = omega (arith, shift_is_power v 4294967296 f (lit< tt))
 
 pub above_shift : (m v : ℕ) → 1 * 2 ^ v % 4294967296 ≤ m → v ≤ 10 → 2 ^ v ≤ m
-above_shift m v h f = omega (arith, shift v f)
+above_shift m v h f = omega (arith, shift_is_power v 4294967296 f (lit< tt))
 
 -- the closures that the code compares
 record Compared (d : DependencesView) (m x y : ℕ) : Type 0 where

@@ -48,7 +48,7 @@ fn has_row(dependences: &Dependences, set: VarSet) -> bool
     }
 }
 
-/// Puts an item behind the others, if it is wanted.
+/// Puts an item after the others, if it is wanted.
 fn push_if(list: &mut Vec<u32>, wanted: bool, item: u32) -> Result<(), AllocError>
     ensures { OnOk result (list.new.items ≡ list.old.items ++ cond wanted (item ∷ []) []) }
 {
@@ -58,7 +58,7 @@ fn push_if(list: &mut Vec<u32>, wanted: bool, item: u32) -> Result<(), AllocErro
     Ok(())
 }
 
-/// Puts the coordinates of the rates behind the others, in order.
+/// Puts the coordinates of the rates after the others, in order.
 fn push_rates(list: &mut Vec<u32>, space: Space) -> Result<(), AllocError>
     requires { IsSpace space }
     ensures { OnOk result (list.new.items ≡ list.old.items ++ span (2 ^ space.variables) space.rates) }

@@ -84,6 +84,7 @@ fn closure(list: &[Dependence], set: VarSet) -> VarSet
     ensures { result ≡ closure 16 list.now set }
 {
     let mut all = set;
+    // a `loop` with `match`, since the proof takes the equation of `None` at the return
     loop {
         match first_open(list, all) {
             Some(open) => all = all.union(open.to),

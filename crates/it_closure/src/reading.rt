@@ -28,6 +28,7 @@ pub fn read_all(
     ensures { IfOk result (λ v. v.items ≡ read_from n first constraints.now) }
 {
     let mut list = Vec::new(alloc);
+    // by index, since it counts the generators, and the invariant speaks of the constraints from i on
     for i in 0..constraints.len() {
         if let Some(dependence) = read_one(n, first + i as u32, &constraints[i]) {
             list.push(dependence)?;

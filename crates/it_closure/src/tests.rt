@@ -1,3 +1,5 @@
+//! Tests: closures by functions of functions.
+
 ghost use Rattle.std.specs.Prelude.{◌≡◌};
 
 use crate::Dependences;

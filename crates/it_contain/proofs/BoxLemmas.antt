@@ -26,7 +26,7 @@ begun_more pending plan f xs ps i b d lt is at set_to begun =
     ap (take (i + 1)) (map-set pending xs i b) ∙ take_more_set (map pending xs) i (pending b) long
     ∙ ap (λ zs. zs ++ pending b ∷ []) begun ∙ ap (λ z. take i (map f ps) ++ z ∷ []) (sym its_list) ∙ sym (take_more (map f ps) i (pending b) far)
 
--- box i takes a step, and those behind it are as they were
+-- box i takes a step, and those after it are as they were
 pub later_kept : {B L : Type 0} (pending : B → L) (xs : List B) (i : ℕ) (b : B) → drop (i + 1) (map pending (set xs i b)) ≡ drop (i + 1) (map pending xs)
 later_kept pending xs i b = ap (drop (i + 1)) (map-set pending xs i b) ∙ drop-set-lt (i + 1) (map pending xs) i (pending b) (omega arith)
 

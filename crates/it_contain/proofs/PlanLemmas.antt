@@ -15,7 +15,3 @@ after_more proved more [] = refl
 after_more proved more (p ∷ plans) =
     ap (λ z. z ∷ map (plan_after_all more) (map (plan_after_all proved) plans)) (fun_ext (λ shape. fun_ext (λ later. ap (p shape) (sym (append_assoc proved more later)))))
     ∙ ap (λ zs. plan_after_all (proved ++ more) p ∷ zs) (after_more proved more plans)
-
--- first some are proved, and then one
-pub after_one : (proved : List Candidate) (c : Candidate) (plans : List Plan) → map (plan_after c) (map (plan_after_all proved) plans) ≡ map (plan_after_all (proved ++ c ∷ [])) plans
-after_one proved c plans = after_more proved (c ∷ []) plans

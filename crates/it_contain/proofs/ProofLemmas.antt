@@ -42,20 +42,6 @@ module _ (q : ProblemView) (t : Terms) (budget : Option ℕ) (p : Proof) (end : 
 pub record AreUnderWay (q : ProblemView) (budget : Option ℕ) (ts : List Terms) (found : List CertificateView) (i : ℕ) : Type 0 where
   pub all : (more : List CertificateView) → AreProofsOf q budget (drop i ts) more → AreProofsOf q budget ts (found ++ more)
 
-pub proofs_more : (q : ProblemView) (budget : Option ℕ) (ts : List Terms) (old new : Proofs) (i : ℕ) (t : Terms) (c : Certificate) → i < length ts → t ≡ get_or ts i t → EndsWith q t budget (Yes (certificate_view c))
-    → new.items ≡ old.items ++ c ∷ [] → AreUnderWay q budget ts (proof_views old) i → AreUnderWay q budget ts (proof_views new) (i + 1)
-proofs_more q budget ts old new i t c l is p e u = record {
-  all = λ more a.
-      let here : drop i ts ≡ t ∷ drop (i + 1) ts = drop_item ts i t l is in
-      let pushed : proof_views new ≡ proof_views old ++ certificate_view c ∷ [] = ap (λ (cs : List Certificate). map certificate_view cs) e ∙ views_with_last old.items in
-      subst (λ (ws : List CertificateView). AreProofsOf q budget ts ws) (sym (ap (λ (ws : List CertificateView). ws ++ more) pushed ∙ append_assoc (proof_views old) (certificate_view c ∷ []) more))
-      (u.all (certificate_view c ∷ more) (subst (λ (xs : List Terms). AreProofsOf q budget xs (certificate_view c ∷ more)) (sym here) (p, a)));
-}
-  where
-    views_with_last : (cs : List Certificate) → map certificate_view (cs ++ c ∷ []) ≡ map certificate_view cs ++ certificate_view c ∷ []
-    views_with_last [] = refl
-    views_with_last (x ∷ xs) = ap (λ (ws : List CertificateView). certificate_view x ∷ ws) (views_with_last xs)
-
 pub proofs_end : (q : ProblemView) (budget : Option ℕ) (ts : List Terms) (found : List CertificateView) (i : ℕ) → length ts ≤ i → AreUnderWay q budget ts found i → AreProofsOf q budget ts found
 proofs_end q budget ts found i l u = subst (λ (ws : List CertificateView). AreProofsOf q budget ts ws) (append-nil found) (u.all [] (subst (λ (xs : List Terms). AreProofsOf q budget xs []) (sym (drop_all i ts l)) tt))
 

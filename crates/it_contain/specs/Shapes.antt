@@ -30,7 +30,7 @@ small_sets n = 0 ∷ singles 0 n
 unfoldable pub all_sets : ℕ → List ℕ
 all_sets n = span 0 (2 ^ n)
 
--- the candidate of a tuple: the places behind it hold the empty set
+-- the candidate of a tuple: the places after it hold the empty set
 unfoldable pub candidate_of : ℕ → List ℕ → Candidate
 candidate_of parts tuple = record { count = parts; parts = take 4 (tuple ++ (0 ∷ 0 ∷ 0 ∷ 0 ∷ [])) }
 

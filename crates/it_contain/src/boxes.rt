@@ -1,4 +1,5 @@
 //! What is done with each box of a list: a box is a proposer whose kind isn't known here.
+//! The loops go by index, since their invariants speak of the whole list, with the first i boxes done.
 ghost use Rattle.std.specs.Prelude.{◌≡◌, ◌<◌, ◌+◌, [], map, drop, get_or, vec_len};
 ghost use Rattle.it_contain.specs.Shapes.{IsShape};
 ghost use Rattle.it_contain.specs.Proposals.{Takes, plan_after};

@@ -96,6 +96,7 @@ pub(crate) fn proofs_of_candidate(
         return Ok(None);
     }
     let rows = obligations(alloc, pair, candidate)?;
+    // named before it is answered, so that the contract of the call stands at the answer
     let proofs = proofs_of(alloc, &pair.first, rows.as_slice(), budget, outcomes)?;
     Ok(proofs)
 }

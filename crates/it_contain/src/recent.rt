@@ -40,6 +40,7 @@ fn of_shape(shape: Shape, kept: &Option<Candidate>) -> Option<Candidate>
 /// memory.
 #[derive(Drop)]
 pub struct RecentCandidates {
+    /// The candidate that was proved last.
     kept: Option<Candidate>,
     /// What is still to come.
     left: Option<Candidate>,

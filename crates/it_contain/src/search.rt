@@ -36,6 +36,7 @@ pub fn contain(
         parts: pair.parts,
     };
     let mut outcomes = Outcomes::new(alloc);
+    // named before it is answered, so that the contract of the call stands at the answer
     let end = try_all(
         alloc,
         pair,

@@ -1,3 +1,5 @@
+//! Tests: searches over boxes, with their candidates, limits and outcomes.
+
 ghost use Rattle.std.specs.Prelude.{[], IsTrue, replicate};
 ghost use Rattle.it_question.specs.Questions.{verb_view};
 ghost use Rattle.it_region.specs.Pairs.{IsPair, IsContainment};
@@ -9,7 +11,7 @@ use it_question::questions;
 use it_question::types::Verb;
 use it_simplex::Budget;
 use it_space::{Problem, Space, VarSet};
-use std::alloc::{AllocError, Global};
+use std::alloc::Global;
 use std::process::Abort;
 
 /// A proposer of one candidate, so many times, whatever it is begun with. It learns nothing. One that lies in `learn`, so that a
@@ -158,8 +160,8 @@ fn pair_of_regions(rt: &impl Abort, alloc: Global) -> Pair
     pair(alloc, question).expect(rt, "memory")
 }
 
-/// How the search ends with three candidates of a set that there isn't, and behind them all sets of at most one variable.
-fn end_behind_strangers(rt: &impl Abort, alloc: Global, tries: u32) -> SearchEnd {
+/// How the search ends with three candidates of a set that there isn't, and after them all sets of at most one variable.
+fn end_after_strangers(rt: &impl Abort, alloc: Global, tries: u32) -> SearchEnd {
     let pair = pair_of_regions(rt, alloc);
     let mut boxes = boxes_with(rt, alloc, candidate(1, VarSet::single(2)), 3);
     boxes
@@ -172,9 +174,9 @@ fn end_behind_strangers(rt: &impl Abort, alloc: Global, tries: u32) -> SearchEnd
 #[test]
 fn sets_that_do_not_exist(rt: HostRuntime) {
     let alloc = rt.alloc();
-    assert!(rt; is_open(&end_behind_strangers(&rt, alloc, 3), 3));
-    assert!(rt; is_open(&end_behind_strangers(&rt, alloc, 4), 4));
-    assert!(rt; is_found(&end_behind_strangers(&rt, alloc, 5), VarSet::single(0)));
+    assert!(rt; is_open(&end_after_strangers(&rt, alloc, 3), 3));
+    assert!(rt; is_open(&end_after_strangers(&rt, alloc, 4), 4));
+    assert!(rt; is_found(&end_after_strangers(&rt, alloc, 5), VarSet::single(0)));
 }
 
 /// One box that never ends, with a candidate that fits and isn't proved, takes all tries, and the next box has none.

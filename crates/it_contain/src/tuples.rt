@@ -29,7 +29,7 @@ pub trait PartSets {
         ensures { result ≡ get_or (sets variables) number 0 };
 }
 
-/// The last `parts` digits of a number to a base, the last one at the end, and zeros behind them.
+/// The last `parts` digits of a number to a base, the last one at the end, and zeros after them.
 fn last_digits(base: u64, parts: u8, number: u64) -> [u64; 4]
     requires some { 0 < base }
     requires parts { parts ≤ 4 }

@@ -14,6 +14,6 @@ pub struct Shape {
 pub enum SearchEnd {
     /// The first candidate of the plan that is proved, with a certificate for each obligation in order.
     Found(Candidate, Vec<Certificate>),
-    /// None of those that were tried is proved; how many they are.
+    /// So many candidates were tried, and none is proved.
     Open { tried: u32 },
 }

@@ -27,10 +27,10 @@ front_is_elemental n cs i h =
     get_or_append_left (map (of_elemental n) (elementals n)) (map of_constraint cs) (record { kind = Inequality; row = [] }) i (simp length-map h)
     ∙ get_or-map (of_elemental n) (elementals n) i (Conditional 0) (record { kind = Inequality; row = [] }) h
 
-pub behind_is_constraint : (n : ℕ) (cs : List Constraint) (i : ℕ) (d : Constraint) → length (elementals n) ≤ i → i < length (generator_list n cs)
+pub after_is_constraint : (n : ℕ) (cs : List Constraint) (i : ℕ) (d : Constraint) → length (elementals n) ≤ i → i < length (generator_list n cs)
     → generator_at (generator_list n cs) i ≡ of_constraint (get_or cs (i - length (elementals n)) d)
 unfolding generator_list
-behind_is_constraint n cs i d h l =
+after_is_constraint n cs i d h l =
     get_or-append_right (map (of_elemental n) (elementals n)) (map of_constraint cs) (length (elementals n)) i (record { kind = Inequality; row = [] }) (simp length-map) h
     ∙ get_or-map of_constraint cs (i - length (elementals n)) d (record { kind = Inequality; row = [] }) (omega (arith, length-listed n cs, l))
 
@@ -55,9 +55,9 @@ no_coefficient_beyond size (t ∷ ts) c u h =
 pub front_is : (n : ℕ) (cs : List Constraint) (i k : ℕ) → k ≡ length (elementals n) → i < k → generator_at (generator_list n cs) i ≡ of_elemental n (elemental_at n i)
 front_is n cs i k e h = front_is_elemental n cs i (omega (arith, e))
 
-pub behind_is : (n : ℕ) (cs : List Constraint) (i k : ℕ) (d : Constraint) → k ≡ length (elementals n) → k ≤ i → i < length (generator_list n cs)
+pub after_is : (n : ℕ) (cs : List Constraint) (i k : ℕ) (d : Constraint) → k ≡ length (elementals n) → k ≤ i → i < length (generator_list n cs)
     → d ≡ get_or cs (i - k) d → generator_at (generator_list n cs) i ≡ of_constraint d
-behind_is n cs i k d e h l is = behind_is_constraint n cs i d (omega (arith, e)) l ∙ ap of_constraint (ap (λ k. get_or cs (i - k) d) (sym e) ∙ sym is)
+after_is n cs i k d e h l is = after_is_constraint n cs i d (omega (arith, e)) l ∙ ap of_constraint (ap (λ k. get_or cs (i - k) d) (sym e) ∙ sym is)
 
 up_to_greater : (n m : ℕ) (row : Terms) → n ≤ m → IsUpTo n row → IsUpTo m row
 up_to_greater n m row h u i d l = let k = u i d l in (k.0, omega (arith, k.1))

@@ -8,7 +8,7 @@ ghost use Rattle.it_elemental.specs.Rows.{elemental_row};
 ghost use Rattle.it_elemental.specs.Views.{IsElemental};
 
 use crate::inequalities::{Elemental, parts};
-use crate::sets::{all_but, all_variables, with};
+use crate::sets::{all_but, all_variables, with_variable};
 use it_fraction::{WideNumber, difference, sum};
 use it_space::{Point, VarSet};
 
@@ -77,9 +77,9 @@ fn mutual_information(
     requires complete { 2 ^ n ≤ length point.now + 1 }
     ensures { OkIff result (ValueFits (elemental_row n (Mutual left right given)) (map_of point.now)) (value (elemental_row n (Mutual left right given)) (map_of point.now)) }
 {
-    let with_left = with(given, left);
-    let with_right = with(given, right);
-    let both = with(with_left, right);
+    let with_left = with_variable(given, left);
+    let with_right = with_variable(given, right);
+    let both = with_variable(with_left, right);
     alternating_sum(
         at_set(point, given),
         at_set(point, with_left),

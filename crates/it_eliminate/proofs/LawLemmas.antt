@@ -6,7 +6,7 @@ use Rattle.it_space.specs.Problems.{IsSystem}
 use Rattle.it_space.specs.Rows.{Terms, IsUpTo}
 use Rattle.it_space.specs.Spaces.{IsSpace, size_of}
 use Rattle.it_eliminate.specs.Elimination.{EliminationEndView, Region, Rows, Wide, next_list, EliminationEnds, ordered_rows, list_after}
-use Rattle.it_eliminate.specs.Projections.{In, Extends, Lacks, IsProjection}
+use Rattle.it_eliminate.specs.Projections.{IsPointOf, Extends, LacksCoordinate, IsProjection}
 use Rattle.it_eliminate.specs.Laws.{OneEnd}
 use Rattle.it_eliminate.proofs.MemberLemmas.{member-map}
 use Rattle.it_eliminate.proofs.SpaceLemmas.{projection_up_to}
@@ -53,7 +53,7 @@ is_projection most system region rates h same e =
         space = subst (λ (s : Space). IsSpace s) (sym same) h.space;
         rows = subst (λ (s : Space). All (IsUpTo (size_of s)) region.rows.items) (sym same) fits;
       };
-      free = λ r m. subst (λ (rs : List Terms). Lacks (2 ^ system.space.variables + r) rs) (sym is)
+      free = λ r m. subst (λ (rs : List Terms). LacksCoordinate (2 ^ system.space.variables + r) rs) (sym is)
           (projection_lacks (2 ^ system.space.variables + r) ats system.rows.items (member-map (λ r. 2 ^ system.space.variables + r) r rates m));
-      exact = λ p. subst (λ (rs : List Terms). In rs p ↔ Extends ats system.rows.items p) (sym is) (projection_exact ats system.rows.items p);
+      exact = λ p. subst (λ (rs : List Terms). IsPointOf rs p ↔ Extends ats system.rows.items p) (sym is) (projection_exact ats system.rows.items p);
     }

@@ -10,7 +10,7 @@ use Rattle.it_space.specs.Divisors.{content, divided_terms, lowest_terms}
 use Rattle.it_space.proofs.Contents.{DividesAll, content_divides, divided_value, one_sign}
 use Rattle.it_space.proofs.TermLemmas.{value-one_at}
 use Rattle.it_eliminate.specs.Elimination.{is_same, with_row, with_lowest_rows, ordered_rows, Member}
-use Rattle.it_eliminate.specs.Projections.{In, Lacks}
+use Rattle.it_eliminate.specs.Projections.{IsPointOf, LacksCoordinate}
 use Rattle.it_eliminate.proofs.MemberLemmas.{every_member}
 use Rattle.it_space.proofs.EveryLemmas.{every-append, every_front, every_back}
 
@@ -78,18 +78,18 @@ found_member row (r ∷ rows) e = by_test (is_same row r) e (same_rows row r) (f
     by_test true h f g = inl (f refl)
     by_test false h f g = inr (g h)
 
-pub in-with_row : (rows : List Terms) (row : Terms) (p : ℕ → ℤ) → In (with_row rows row) p ↔ (In rows p × (pos 0 ≤ℤ value row p))
+pub in-with_row : (rows : List Terms) (row : Terms) (p : ℕ → ℤ) → IsPointOf (with_row rows row) p ↔ (IsPointOf rows p × (pos 0 ≤ℤ value row p))
 in-with_row rows [] p = (λ a. (a, omega (arith, ints)), λ a. a.0)
 in-with_row rows (t ∷ ts) p = by_test (list_any (is_same (t ∷ ts)) rows) (found_member (t ∷ ts) rows)
   where
-    by_test : (b : Bool) → (b ≡ true → Member (t ∷ ts) rows) → In (if b then rows else rows ++ (t ∷ ts) ∷ []) p ↔ (In rows p × (pos 0 ≤ℤ value (t ∷ ts) p))
+    by_test : (b : Bool) → (b ≡ true → Member (t ∷ ts) rows) → IsPointOf (if b then rows else rows ++ (t ∷ ts) ∷ []) p ↔ (IsPointOf rows p × (pos 0 ≤ℤ value (t ∷ ts) p))
     by_test true f = (λ a. (a, every_member (λ (row : Terms). pos 0 ≤ℤ value row p) rows (t ∷ ts) a (f refl)), λ a. a.0)
     by_test false f = (
       λ a. (every_front (λ (row : Terms). pos 0 ≤ℤ value row p) rows ((t ∷ ts) ∷ []) a, (every_back (λ (row : Terms). pos 0 ≤ℤ value row p) rows ((t ∷ ts) ∷ []) a).0),
       λ a. every-append (λ (row : Terms). pos 0 ≤ℤ value row p) rows ((t ∷ ts) ∷ []) a.0 (a.1, tt),
     )
 
-pub in-with_lowest_rows : (before rows : List Terms) (p : ℕ → ℤ) → In (with_lowest_rows before rows) p ↔ (In before p × In rows p)
+pub in-with_lowest_rows : (before rows : List Terms) (p : ℕ → ℤ) → IsPointOf (with_lowest_rows before rows) p ↔ (IsPointOf before p × IsPointOf rows p)
 in-with_lowest_rows before [] p = (λ a. (a, tt), λ a. a.0)
 in-with_lowest_rows before (row ∷ rows) p =
     let rest = in-with_lowest_rows (with_row before (lowest_terms row)) rows p in
@@ -99,7 +99,7 @@ in-with_lowest_rows before (row ∷ rows) p =
       λ a. rest.1 (one.1 (a.0, signs.positive.0 a.1.0), a.1.1),
     )
 
-pub in-ordered_rows : (rows : List Terms) (p : ℕ → ℤ) → In (ordered_rows rows) p ↔ In rows p
+pub in-ordered_rows : (rows : List Terms) (p : ℕ → ℤ) → IsPointOf (ordered_rows rows) p ↔ IsPointOf rows p
 in-ordered_rows rows p = let both = in-with_lowest_rows [] rows p in (λ a. (both.0 a).1, λ a. both.1 (tt, a))
 
 -- ---- rows without a coordinate
@@ -113,7 +113,7 @@ lacks_lowest at row e =
     number_is_zero : (z : ℤ) → pos 0 ≤ℤ z → z ≤ℤ pos 0 → z ≡ pos 0
     number_is_zero z a b = omega (arith, ints)
 
-pub lacks-with_lowest_rows : (at : ℕ) (before rows : List Terms) → Lacks at before → Lacks at rows → Lacks at (with_lowest_rows before rows)
+pub lacks-with_lowest_rows : (at : ℕ) (before rows : List Terms) → LacksCoordinate at before → LacksCoordinate at rows → LacksCoordinate at (with_lowest_rows before rows)
 lacks-with_lowest_rows at before [] a b = a
 lacks-with_lowest_rows at before (row ∷ rows) a b = lacks-with_lowest_rows at (with_row before (lowest_terms row)) rows
     (every-with_row (λ r. coefficient r at ≡ pos 0) before (lowest_terms row) (lacks_lowest at row b.0) a) b.1

@@ -2,7 +2,7 @@
 use Rattle.std.proofs.Common.{◌≡◌, ◌≢◌, ◌⊎◌, inl, inr, ⊎_elim, ◌↔◌, ℕ, zero, suc, ◌*◌, ◌≤◌, ℤ, pos, ◌+ℤ◌, ◌*ℤ◌, ◌≤ℤ◌, refl, sym, ap, subst, ◌∙◌, arith, List, [], ◌∷◌, Bool, true, false, cond, nat_eq, ne_eqb}
 use Rattle.std.proofs.lemmas.Int.{ints}
 use Rattle.std.proofs.lemmas.Bool.{eqb-false, eqb-true}
-use Rattle.it_number.proofs.Integers.{mul_assoc, zring}
+use Rattle.it_number.proofs.Integers.{mul_assoc, sum_of_multiples}
 use Rattle.it_number.proofs.SignLemmas.{least_by_multiple}
 use Rattle.it_space.specs.Rows.{Terms, coefficient, value}
 use Rattle.it_space.specs.Cancelling.{times_up, times_down}
@@ -11,45 +11,42 @@ use Rattle.it_eliminate.proofs.OrderLemmas.{in-ordered_rows, lacks-with_lowest_r
 use Rattle.it_eliminate.proofs.MemberLemmas.{every_member, member_every}
 use Rattle.it_eliminate.proofs.StepLemmas.{results_all, next_lacks, step_exact}
 use Rattle.it_eliminate.specs.Elimination.{results, next_list, list_after, ordered_rows, Member}
-use Rattle.it_eliminate.specs.Projections.{In, Extends, Lacks}
+use Rattle.it_eliminate.specs.Projections.{IsPointOf, Extends, LacksCoordinate}
 
 -- ---- eliminated coordinates stay away
 
 mix_none : (a b : ℕ) (x y : ℤ) → x ≡ pos 0 → y ≡ pos 0 → pos a *ℤ x +ℤ pos b *ℤ y ≡ pos 0
 mix_none a b x y e f = ap (λ z. pos a *ℤ z +ℤ pos b *ℤ y) e ∙ ap (λ z. pos a *ℤ pos 0 +ℤ pos b *ℤ z) f ∙ omega (arith, ints)
 
-pub next_keeps_lacking : (c at : ℕ) (rows : List Terms) → Lacks c rows → Lacks c (next_list at rows)
+pub next_keeps_lacking : (c at : ℕ) (rows : List Terms) → LacksCoordinate c rows → LacksCoordinate c (next_list at rows)
 next_keeps_lacking c at rows a = lacks-with_lowest_rows c [] (results at rows) tt (member_every (λ (row : Terms). coefficient row c ≡ pos 0) (results at rows) (results_all (λ row. coefficient row c ≡ pos 0) at rows
     (λ row m e. every_member (λ (r : Terms). coefficient r c ≡ pos 0) rows row a m)
     (λ up down m n h k. coefficient-cancelled_row at up down c
     ∙ mix_none (times_up at up down) (times_down at up down) (coefficient up c) (coefficient down c) (every_member (λ (r : Terms). coefficient r c ≡ pos 0) rows up a m) (every_member (λ (r : Terms). coefficient r c ≡ pos 0) rows down a n))))
 
-pub after_keeps_lacking : (c : ℕ) (ats : List ℕ) (rows : List Terms) → Lacks c rows → Lacks c (list_after ats rows)
+pub after_keeps_lacking : (c : ℕ) (ats : List ℕ) (rows : List Terms) → LacksCoordinate c rows → LacksCoordinate c (list_after ats rows)
 after_keeps_lacking c [] rows a = a
 after_keeps_lacking c (at ∷ ats) rows a = after_keeps_lacking c ats (next_list at rows) (next_keeps_lacking c at rows a)
 
-pub after_lacks : (c : ℕ) (ats : List ℕ) (rows : List Terms) → Member c ats → Lacks c (list_after ats rows)
+pub after_lacks : (c : ℕ) (ats : List ℕ) (rows : List Terms) → Member c ats → LacksCoordinate c (list_after ats rows)
 after_lacks c [] rows m = absurd m
-after_lacks c (at ∷ ats) rows (inl e) = subst (λ (n : ℕ). Lacks n (list_after ats (next_list at rows))) (sym e) (after_keeps_lacking at ats (next_list at rows) (next_lacks at rows))
+after_lacks c (at ∷ ats) rows (inl e) = subst (λ (n : ℕ). LacksCoordinate n (list_after ats (next_list at rows))) (sym e) (after_keeps_lacking at ats (next_list at rows) (next_lacks at rows))
 after_lacks c (at ∷ ats) rows (inr m) = after_lacks c ats (next_list at rows) m
 
 -- ---- points
 
 -- to no coordinate: a multiple of the point itself
-none_extended : (rows : List Terms) (p : ℕ → ℤ) → In rows p → Extends [] rows p
+none_extended : (rows : List Terms) (p : ℕ → ℤ) → IsPointOf rows p → Extends [] rows p
 none_extended rows p a = record { factor = 1; some = omega arith; point = p; kept = λ c n. omega (arith, ints); meets = a }
 
 same_values : (ts : Terms) (p q : ℕ → ℤ) (k : ℕ) → ((c : ℕ) → q c ≡ pos k *ℤ p c) → value ts q ≡ pos k *ℤ value ts p
 same_values [] p q k f = omega (arith, ints)
-same_values (t ∷ ts) p q k f = sum_of_multiples t.1 (p t.0) (q t.0) (value ts p) (value ts q) (f t.0) (same_values ts p q k f)
-  where
-    sum_of_multiples : (a x y v w : ℤ) → y ≡ pos k *ℤ x → w ≡ pos k *ℤ v → a *ℤ y +ℤ w ≡ pos k *ℤ (a *ℤ x +ℤ v)
-    sum_of_multiples a x y v w e f = ap (λ z. a *ℤ z +ℤ w) e ∙ ap (λ z. a *ℤ (pos k *ℤ x) +ℤ z) f ∙ omega (arith, zring)
+same_values (t ∷ ts) p q k f = sum_of_multiples (pos k) t.1 (p t.0) (q t.0) (value ts p) (value ts q) (f t.0) (same_values ts p q k f)
 
-extended_none : (rows : List Terms) (p : ℕ → ℤ) → Extends [] rows p → In rows p
+extended_none : (rows : List Terms) (p : ℕ → ℤ) → Extends [] rows p → IsPointOf rows p
 extended_none rows p x = each_row_holds rows x.meets
   where
-    each_row_holds : (rows : List Terms) → In rows x.point → In rows p
+    each_row_holds : (rows : List Terms) → IsPointOf rows x.point → IsPointOf rows p
     each_row_holds [] a = tt
     each_row_holds (row ∷ rows) a = (
       least_by_multiple (pos x.factor) (value row p) (omega (arith, ints, x.some))
@@ -122,7 +119,7 @@ split_extension at ats rows p x = by_cases (member_number at ats)
         points_agree : (c : ℕ) → c ≢ at → x.point c ≡ later_point c
         points_agree c n = sym (ap (λ b. cond b (pos x.factor *ℤ p c) (x.point c)) (ne_eqb c at n))
 
-pub rates_exact : (ats : List ℕ) (rows : List Terms) (p : ℕ → ℤ) → In (list_after ats rows) p ↔ Extends ats rows p
+pub rates_exact : (ats : List ℕ) (rows : List Terms) (p : ℕ → ℤ) → IsPointOf (list_after ats rows) p ↔ Extends ats rows p
 rates_exact [] rows p = (none_extended rows p, extended_none rows p)
 rates_exact (at ∷ ats) rows p =
     let later = rates_exact ats (next_list at rows) p in (
@@ -131,16 +128,16 @@ rates_exact (at ∷ ats) rows p =
           later.1 (record { factor = s.factor; some = s.some; point = s.point; kept = s.kept; meets = (step_exact at rows s.point).1 s.first }),
     )
 
-extends_same : (ats : List ℕ) (xs ys : List Terms) (p : ℕ → ℤ) → ((q : ℕ → ℤ) → In xs q → In ys q) → Extends ats xs p → Extends ats ys p
+extends_same : (ats : List ℕ) (xs ys : List Terms) (p : ℕ → ℤ) → ((q : ℕ → ℤ) → IsPointOf xs q → IsPointOf ys q) → Extends ats xs p → Extends ats ys p
 extends_same ats xs ys p f x = record { factor = x.factor; some = x.some; point = x.point; kept = x.kept; meets = f x.point x.meets }
 
 -- the region holds exactly the points that extend
-pub projection_exact : (ats : List ℕ) (rows : List Terms) (p : ℕ → ℤ) → In (list_after ats (ordered_rows rows)) p ↔ Extends ats rows p
+pub projection_exact : (ats : List ℕ) (rows : List Terms) (p : ℕ → ℤ) → IsPointOf (list_after ats (ordered_rows rows)) p ↔ Extends ats rows p
 projection_exact ats rows p =
     let r = rates_exact ats (ordered_rows rows) p in (
       λ a. extends_same ats (ordered_rows rows) rows p (λ q. (in-ordered_rows rows q).0) (r.0 a),
       λ x. r.1 (extends_same ats rows (ordered_rows rows) p (λ q. (in-ordered_rows rows q).1) x),
     )
 
-pub projection_lacks : (c : ℕ) (ats : List ℕ) (rows : List Terms) → Member c ats → Lacks c (list_after ats (ordered_rows rows))
+pub projection_lacks : (c : ℕ) (ats : List ℕ) (rows : List Terms) → Member c ats → LacksCoordinate c (list_after ats (ordered_rows rows))
 projection_lacks c ats rows m = after_lacks c ats (ordered_rows rows) m

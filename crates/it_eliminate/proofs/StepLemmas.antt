@@ -18,7 +18,7 @@ use Rattle.it_space.proofs.TermLemmas.{value-cancelled_row, coefficient-cancelle
 use Rattle.it_eliminate.proofs.MemberLemmas.{every_member, member_every, member-front, member-back, member_either, member-map, member_mapped, member-filter, member_filtered, member-flat_map, member_flat_mapped}
 use Rattle.it_eliminate.proofs.OrderLemmas.{in-ordered_rows, lacks-with_lowest_rows}
 use Rattle.it_eliminate.specs.Elimination.{is_positive_at, is_negative_at, is_zero_at, pairs_of, cancelled_pairs, results, next_list, Member}
-use Rattle.it_eliminate.specs.Projections.{In, Extends, Lacks}
+use Rattle.it_eliminate.specs.Projections.{IsPointOf, Extends, LacksCoordinate}
 
 -- ---- the tests
 
@@ -88,11 +88,11 @@ results_all P at rows f g row m = ⊎_elim flat_row (λ k. pair (member_flat_map
         subst (λ (r : Terms). P r) (sym d.2) (g s.0 d.0 u.0 w.0 (positive_from_test at s.0 u.1) (negative_from_test at d.0 w.1))
 
 -- no result has the coordinate
-pub results_lack : (at : ℕ) (rows : List Terms) → Lacks at (results at rows)
+pub results_lack : (at : ℕ) (rows : List Terms) → LacksCoordinate at (results at rows)
 results_lack at rows = member_every (λ (row : Terms). coefficient row at ≡ pos 0) (results at rows) (results_all (λ row. coefficient row at ≡ pos 0) at rows (λ row m e. e)
     (λ up down m n h k. coefficient-cancelled_row at up down at ∙ cancelled_gone at up down h k))
 
-pub next_lacks : (at : ℕ) (rows : List Terms) → Lacks at (next_list at rows)
+pub next_lacks : (at : ℕ) (rows : List Terms) → LacksCoordinate at (next_list at rows)
 next_lacks at rows = lacks-with_lowest_rows at [] (results at rows) tt (results_lack at rows)
 
 -- ---- values with the coordinate apart
@@ -140,7 +140,7 @@ one_only : (c at : ℕ) → c ≢ at → ¬ (Member c (at ∷ []))
 one_only c at n m = ⊎_elim (λ e. n e) (λ k. k) m
 
 -- where a point extends, every row after the rate is at least 0
-pub after_extending : (at : ℕ) (rows : List Terms) (p : ℕ → ℤ) → Extends (at ∷ []) rows p → In (results at rows) p
+pub after_extending : (at : ℕ) (rows : List Terms) (p : ℕ → ℤ) → Extends (at ∷ []) rows p → IsPointOf (results at rows) p
 after_extending at rows p x = member_every (λ (row : Terms). pos 0 ≤ℤ value row p) (results at rows) (λ row m. least_by_multiple (pos x.factor) (value row p) (omega (arith, ints, x.some))
     (subst (λ (z : ℤ). pos 0 ≤ℤ z) (value_kept at (pos x.factor) row p x.point (λ c n. x.kept c (one_only c at n)) (coefficient_is_zero row m)) (least row m)))
   where
@@ -176,7 +176,7 @@ crossed_sum_least at up down p h k l =
         ∙ ap (λ z. neg_ℤ d *ℤ z +ℤ c *ℤ y) i ∙ ap (λ z. neg_ℤ d *ℤ (c *ℤ e +ℤ u) +ℤ c *ℤ z) j ∙ rate_cancels c d e u w
 
 -- where each row after the rate is at least 0, the point extends
-pub point_extends : (at : ℕ) (rows : List Terms) (p : ℕ → ℤ) → In (results at rows) p → Extends (at ∷ []) rows p
+pub point_extends : (at : ℕ) (rows : List Terms) (p : ℕ → ℤ) → IsPointOf (results at rows) p → Extends (at ∷ []) rows p
 point_extends at rows p h = of_pair (extends (map (row_parts at p) rows) flat_row pair)
   where
     flat_row : (t : ℤ × ℤ) → Member t (map (row_parts at p) rows) → t.0 ≡ pos 0 → pos 0 ≤ℤ t.1
@@ -218,5 +218,5 @@ point_extends at rows p h = of_pair (extends (map (row_parts at p) rows) flat_ro
     of_pair : ((k : ℤ) × (x : ℤ) × (pos 1 ≤ℤ k) × ((t : ℤ × ℤ) → Member t (map (row_parts at p) rows) → pos 0 ≤ℤ (t.0 *ℤ x +ℤ k *ℤ t.1))) → Extends (at ∷ []) rows p
     of_pair s = of_factor s.0 s.1 s.2 s.3
 
-pub step_exact : (at : ℕ) (rows : List Terms) (p : ℕ → ℤ) → In (next_list at rows) p ↔ Extends (at ∷ []) rows p
+pub step_exact : (at : ℕ) (rows : List Terms) (p : ℕ → ℤ) → IsPointOf (next_list at rows) p ↔ Extends (at ∷ []) rows p
 step_exact at rows p = let o = in-ordered_rows (results at rows) p in (λ a. point_extends at rows p (o.0 a), λ x. o.1 (after_extending at rows p x))

@@ -18,7 +18,7 @@ Member x (y ∷ ys) = (x ≡ y) ⊎ Member x ys
 abbrev pub is_same : Terms → Terms → Bool
 is_same xs ys = pointwise (λ (s t : ℕ × ℤ). nat_eq s.0 t.0 && int_eq s.1 t.1) xs ys
 
--- a row behind the others, unless it is zero or one of them
+-- a row after the others, unless it is zero or one of them
 abbrev pub with_row : List Terms → Terms → List Terms
 with_row rows [] = rows
 with_row rows (t ∷ ts) = if list_any (is_same (t ∷ ts)) rows then rows else rows ++ (t ∷ ts) ∷ []

@@ -8,7 +8,7 @@ use Rattle.it_eliminate.specs.declared.types.RateEnd.{RateEnd}
 use Rattle.it_eliminate.specs.declared.types.RateEnd.TheVariants as ends
 use Rattle.it_eliminate.specs.Elimination.{with_lowest_rows, is_positive_at, is_negative_at, is_zero_at, next_list, PairsFit}
 
--- the rows of an index set of terms
+-- the terms of each of some vectors, in order
 abbrev pub rows_of : List (Vec (ℕ × ℤ)) → List Terms
 rows_of vs = map (λ v. v.items) vs
 
@@ -37,12 +37,12 @@ pub record IsKeptList (most : ℕ) (exact kept : List Terms) : Type 0 where
   pub is : (kept ≡ exact) ⊎ ((most < length kept) × (most < length exact))
   pub canonical : Every IsCanonical kept
 
--- rows were put in order behind what is kept
+-- rows were put in order after what is kept
 pub record Gathers (most : ℕ) (more old new : List Terms) : Type 0 where
   pub keeps : (exact : List Terms) → IsKeptList most exact old → IsKeptList most (with_lowest_rows exact more) new
 
 -- the list after the rate at a coordinate, or what keeps from it
 abbrev pub IsRateEnd : ℕ → ℕ → List Terms → RateEnd → Type 0
-IsRateEnd at most rows (ends.Rows next) = PairsFit at rows × (length (next_list at rows) ≤ most) × (next.items ≡ next_list at rows)
-IsRateEnd at most rows ends.TooMany = PairsFit at rows × (most < length (next_list at rows))
-IsRateEnd at most rows ends.TooWide = ¬ (PairsFit at rows)
+IsRateEnd at most rows (ends.List next) = PairsFit at rows × (length (next_list at rows) ≤ most) × (next.items ≡ next_list at rows)
+IsRateEnd at most rows ends.Rows = PairsFit at rows × (most < length (next_list at rows))
+IsRateEnd at most rows ends.Wide = ¬ (PairsFit at rows)

@@ -9,12 +9,12 @@ use Rattle.it_eliminate.specs.declared.types.EliminationEnd.TheVariants as elimi
 use Rattle.it_eliminate.specs.Elimination.{Member}
 
 -- every row is at least 0 at the point
-abbrev pub In : List Terms → (ℕ → ℤ) → Type 0
-In rows p = Every (λ row. pos 0 ≤ℤ value row p) rows
+abbrev pub IsPointOf : List Terms → (ℕ → ℤ) → Type 0
+IsPointOf rows p = Every (λ row. pos 0 ≤ℤ value row p) rows
 
 -- no row has the coordinate
-abbrev pub Lacks : ℕ → List Terms → Type 0
-Lacks at rows = Every (λ row. coefficient row at ≡ pos 0) rows
+abbrev pub LacksCoordinate : ℕ → List Terms → Type 0
+LacksCoordinate at rows = Every (λ row. coefficient row at ≡ pos 0) rows
 
 -- some whole multiple of the point, with other values at the eliminated coordinates, is one at which every row is at least 0
 pub record Extends (gone : List ℕ) (rows : List Terms) (p : ℕ → ℤ) : Type 0 where
@@ -22,14 +22,14 @@ pub record Extends (gone : List ℕ) (rows : List Terms) (p : ℕ → ℤ) : Typ
   pub some : 1 ≤ factor
   pub point : ℕ → ℤ
   pub kept : (c : ℕ) → ¬ (Member c gone) → point c ≡ pos factor *ℤ p c
-  pub meets : In rows point
+  pub meets : IsPointOf rows point
 
 -- a system of the same space, without the rates, that holds exactly the points that extend to them
 pub record IsProjection (old : System) (rates : List ℕ) (new : System) : Type 0 where
   pub space : new.space ≡ old.space
   pub system : IsSystem new
-  pub free : (r : ℕ) → Member r rates → Lacks (2 ^ old.space.variables + r) new.rows.items
-  pub exact : (p : ℕ → ℤ) → In new.rows.items p ↔ Extends (map (λ r. 2 ^ old.space.variables + r) rates) old.rows.items p
+  pub free : (r : ℕ) → Member r rates → LacksCoordinate (2 ^ old.space.variables + r) new.rows.items
+  pub exact : (p : ℕ → ℤ) → IsPointOf new.rows.items p ↔ Extends (map (λ r. 2 ^ old.space.variables + r) rates) old.rows.items p
 
 -- where elimination ends with a region, that is the projection
 abbrev pub RegionIsProjection : System → List ℕ → EliminationEnd → Type 0

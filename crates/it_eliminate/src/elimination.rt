@@ -14,7 +14,7 @@ use it_space::{Row, RowFault, Space, System};
 use std::alloc::{AllocError, Global};
 
 /// Eliminates rates, counted from 0, in the order of their list: their projection, or the first rate at which two rows can't be
-/// cancelled, or after which there are more than `rows` rows. At one rate the pairs are judged first.
+/// cancelled, or after which there are more than `rows` rows. At one rate `Wide` comes before `Rows`.
 pub fn eliminate(
     alloc: Global,
     system: &System,
@@ -35,9 +35,9 @@ pub fn eliminate(
             coordinate(system.space, *rate),
             rows,
         )? {
-            RateEnd::Rows(next) => current = next,
-            RateEnd::TooMany => return Ok(EliminationEnd::Rows { rate: *rate }),
-            RateEnd::TooWide => return Ok(EliminationEnd::Wide { rate: *rate }),
+            RateEnd::List(next) => current = next,
+            RateEnd::Rows => return Ok(EliminationEnd::Rows { rate: *rate }),
+            RateEnd::Wide => return Ok(EliminationEnd::Wide { rate: *rate }),
         }
     }
     Ok(EliminationEnd::Region(System {
@@ -76,12 +76,12 @@ fn after_rate(alloc: Global, rows: &[Row], at: u32, most: usize) -> Result<RateE
     match next_list(alloc, rows, at, most) {
         Ok(list) => {
             if list.len() > most {
-                Ok(RateEnd::TooMany)
+                Ok(RateEnd::Rows)
             } else {
-                Ok(RateEnd::Rows(row_list(alloc, &list)?))
+                Ok(RateEnd::List(row_list(alloc, &list)?))
             }
         }
-        Err(RowFault::Wide) => Ok(RateEnd::TooWide),
+        Err(RowFault::Wide) => Ok(RateEnd::Wide),
         Err(RowFault::Memory) => Err(AllocError),
     }
 }

@@ -11,7 +11,7 @@ use indexmap::IndexSet;
 use it_space::{Row, lowest_terms};
 use std::alloc::{AllocError, Global};
 
-/// Puts a row behind the others, unless it is zero or one of them.
+/// Puts a row after the others, unless it is zero or one of them.
 fn put(rows: &mut IndexSet<Vec<(u32, i128)>>, terms: Vec<(u32, i128)>) -> Result<(), AllocError>
     ensures { OnOk result (rows_of rows.new.keys ≡ with_row (rows_of rows.old.keys) terms.items) }
 {
@@ -21,16 +21,17 @@ fn put(rows: &mut IndexSet<Vec<(u32, i128)>>, terms: Vec<(u32, i128)>) -> Result
     Ok(())
 }
 
-/// Puts a row in lowest terms behind the others.
+/// Puts a row in lowest terms after the others, unless it is zero or one of them.
 fn put_lowest(rows: &mut IndexSet<Vec<(u32, i128)>>, row: Row) -> Result<(), AllocError>
     ensures rows { OnOk result (rows_of rows.new.keys ≡ with_row (rows_of rows.old.keys) (lowest_terms row)) }
     ensures canonical { OnOk result (Every IsCanonical (rows_of rows.old.keys) → Every IsCanonical (rows_of rows.new.keys)) }
 {
+    // with `?`, so that the contract of the call stands at the answer
     put(rows, lowest_terms(row).into_terms())?;
     Ok(())
 }
 
-/// The same, as long as there are at most `most` rows.
+/// The same, as long as the others are at most `most`.
 pub fn gather(
     rows: &mut IndexSet<Vec<(u32, i128)>>,
     row: Row,
@@ -65,7 +66,7 @@ fn rows_from(alloc: Global, lists: &[Vec<(u32, i128)>]) -> Result<Vec<Row>, Allo
     Ok(rows)
 }
 
-/// All rows in order.
+/// The rows in order, in lowest terms, without zero rows and doubles.
 pub fn ordered_rows(alloc: Global, rows: &[Row]) -> Result<IndexSet<Vec<(u32, i128)>>, AllocError>
     ensures rows { IfOk result (λ s. rows_of s.keys ≡ ordered_rows rows.now) }
     ensures canonical { IfOk result (λ s. Every IsCanonical (rows_of s.keys)) }

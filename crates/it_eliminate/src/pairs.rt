@@ -84,7 +84,7 @@ fn gather_pairs(
     Ok(())
 }
 
-/// The same of a row that need not be positive.
+/// Gathers what a row gives with each negative one, if it is positive.
 fn gather_up(
     alloc: Global,
     list: &mut IndexSet<Vec<(u32, i128)>>,

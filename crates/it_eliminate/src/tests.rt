@@ -1,3 +1,5 @@
+//! Tests: eliminations of one and of two rates, and products past the limit.
+
 ghost use Rattle.std.specs.Prelude.{◌≡◌, IfOk};
 ghost use Rattle.it_space.specs.Problems.{IsSystem};
 ghost use Rattle.it_space.specs.Rows.{IsUpTo};

@@ -15,7 +15,10 @@ pub enum EliminationEnd {
 /// What one rate ends with.
 #[derive(Debug, Drop)]
 pub enum RateEnd {
-    Rows(Vec<Row>),
-    TooMany,
-    TooWide,
+    /// The rows after the rate, in order.
+    List(Vec<Row>),
+    /// After it there are more rows than are allowed.
+    Rows,
+    /// At it two rows can't be cancelled within 2^127 - 1.
+    Wide,
 }

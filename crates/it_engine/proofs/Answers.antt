@@ -45,10 +45,10 @@ module _ (first : TableauView) (columns : List Terms) (limit : ℕ) (old : List 
 
 -- from the start
 pub answer_from_start : (t : TableauView) (columns : List Terms) (norm limit : ℕ) (rows : List WholeRowView) (basis : List ℕ)
-    → AreReadColumns t t.generators columns → IsNorm columns norm → norm * limit < 2 ^ 63 → AreReadRows t limit (height t + 1) rows → IsReadBasis t (height t) basis
+    → AreReadColumns t t.generator_columns columns → IsNorm columns norm → norm * limit < 2 ^ 63 → AreReadRows t limit (height t + 1) rows → IsReadBasis t (height t) basis
     → (budget : Option ℕ) (solved : RunAnswer) → AnswersQuestion t columns limit rows basis budget solved
     → RunsFrom t budget solved
 answer_from_start t columns norm limit rows basis cs n fit ls bs budget solved a p s =
-    subst (λ (m : ℕ). RunsTo m t.generators p budget (table t) (end_of_answer solved)) bs.0
+    subst (λ (m : ℕ). RunsTo m t.generator_columns p budget (table t) (end_of_answer solved)) bs.0
     (subst (λ (n : ℕ). RunsTo (length basis) n p budget (table t) (end_of_answer solved)) cs.0
     (a p (table t) s.signs (stands_start t columns norm limit rows basis cs n fit ls bs p s.table_is)))

@@ -63,18 +63,18 @@ module _ (k : ℕ) (terms : RowTerms) (old : List Terms) (i : ℕ) (now : List T
 
 -- the first k rows are read
 pub record AreReadUpTo (t : TableauView) (k : ℕ) (columns : List Terms) : Type 0 where
-  pub count : length columns ≡ t.generators
-  pub each : (j : ℕ) → j < t.generators → IsReadColumn k (λ i. (table t).entry i j) (slice_index_or columns j [])
+  pub count : length columns ≡ t.generator_columns
+  pub each : (j : ℕ) → j < t.generator_columns → IsReadColumn k (λ i. (table t).entry i j) (slice_index_or columns j [])
 
 module _ (t : TableauView) (k : ℕ) (terms : RowTerms) (lists : ListsEntries ((table t).entry k) (width t) terms) (old new : List Terms) where
   pub row_read : IsRowRead k terms old new → AreReadUpTo t k old → AreReadUpTo t (k + 1) new
   row_read r a = record { count = r.same_length ∙ a.count; each = λ j l. by_cases j l (r.each j (let e = a.count in omega (arith, e, l))) }
     where
-      by_cases : (j : ℕ) → j < t.generators → IsTermRead k (entry_in terms j) (slice_index_or old j []) (slice_index_or new j []) → IsReadColumn (k + 1) (λ i. (table t).entry i j) (slice_index_or new j [])
+      by_cases : (j : ℕ) → j < t.generator_columns → IsTermRead k (entry_in terms j) (slice_index_or old j []) (slice_index_or new j []) → IsReadColumn (k + 1) (λ i. (table t).entry i j) (slice_index_or new j [])
       by_cases j l (inl s) = subst (IsReadColumn (k + 1) (λ i. (table t).entry i j)) (sym s.1)
           (read_null k (λ i. (table t).entry i j) (slice_index_or old j []) (top_of_zero ((table t).entry k j) (sym (lists.entries j (omega (arith, l))) ∙ s.0)) (a.each j l))
       by_cases j l (inr s) = subst (IsReadColumn (k + 1) (λ i. (table t).entry i j)) (sym s.2)
           (read_more k (λ i. (table t).entry i j) (slice_index_or old j []) s.0 (sym (lists.entries j (omega (arith, l))) ∙ s.1) (a.each j l))
 
-pub columns_are_read : (t : TableauView) (k : ℕ) (columns : List Terms) → k ≡ height t → AreReadUpTo t k columns → AreReadColumns t t.generators columns
+pub columns_are_read : (t : TableauView) (k : ℕ) (columns : List Terms) → k ≡ height t → AreReadUpTo t k columns → AreReadColumns t t.generator_columns columns
 columns_are_read t k columns e a = (a.count, λ j l. subst (λ (n : ℕ). IsReadColumn n (λ i. (table t).entry i j) (slice_index_or columns j [])) e (a.each j l))

@@ -8,12 +8,12 @@ use Rattle.it_rational.specs.Rational.{Rational, IsRatio}
 use Rattle.it_rational.specs.Rational as Q
 use Rattle.it_rational.proofs.Names.{plus_names, times_names, whole_names, quotient_names}
 use Rattle.it_rational.proofs.Field.{field_ℚ}
-use Rattle.it_space.specs.Rows.{Terms, value}
+use Rattle.it_space.specs.Rows.{Terms, value, row_mass}
 use Rattle.it_tableau.specs.Invariants.{HasInvariants}
 use Rattle.it_tableau.specs.SimplexTables.{SimplexTable, FeasibilityProblem}
 use Rattle.it_run.specs.RowValues.{rational_value}
 use Rattle.it_space.specs.Sums.{number_at}
-use Rattle.it_engine.specs.Whole.{WholeRowView, whole_row_at, weight_of_terms, IsShort, IsOver, AreStartColumns, ShowsTable}
+use Rattle.it_engine.specs.Whole.{WholeRowView, whole_row_at, IsShort, IsOver, AreStartColumns, ShowsTable}
 use Rattle.it_engine.proofs.Names.{reduced_name}
 
 -- n / d plus k / d
@@ -47,13 +47,13 @@ value_named (t ∷ ts) m g f d h a e = sum_named (Q.times (Q.integer t.1) (g t.0
 
 -- is at most the weight of the terms times the bound
 pub value_bounded : (terms : Terms) (m : ℕ) (f : ℕ → ℤ) (limit : ℕ) → All (λ t. t.0 < m) terms → ((k : ℕ) → k < m → unsigned_abs (f k) ≤ limit)
-    → unsigned_abs (value terms f) ≤ weight_of_terms terms * limit
+    → unsigned_abs (value terms f) ≤ row_mass terms * limit
 value_bounded [] m f limit a h = omega arith
 value_bounded (t ∷ ts) m f limit a h =
     let one : unsigned_abs (t.1 *ℤ f t.0) ≤ unsigned_abs t.1 * limit =
     subst (λ k. k ≤ unsigned_abs t.1 * limit) (sym (unsigned_abs-mul t.1 (f t.0))) (mul-le (unsigned_abs t.1) (unsigned_abs (f t.0)) (unsigned_abs t.1) limit (at_most_itself (unsigned_abs t.1)) (h t.0 (a 0 t (omega arith)))) in
-    let rest : unsigned_abs (value ts f) ≤ weight_of_terms ts * limit = value_bounded ts m f limit (λ k s l. a (suc k) s (omega (arith, l))) h in
-    sum_at_most (t.1 *ℤ f t.0) (value ts f) (unsigned_abs t.1) (weight_of_terms ts) limit one rest
+    let rest : unsigned_abs (value ts f) ≤ row_mass ts * limit = value_bounded ts m f limit (λ k s l. a (suc k) s (omega (arith, l))) h in
+    sum_at_most (t.1 *ℤ f t.0) (value ts f) (unsigned_abs t.1) (row_mass ts) limit one rest
   where
     at_most_itself : (k : ℕ) → k ≤ k
     at_most_itself k = omega arith
@@ -86,8 +86,8 @@ module _ (m n limit norm : ℕ) (p : FeasibilityProblem Rational) (t : SimplexTa
   price_short i j hi hj =
       let c = cs.column j hj in
       let r = s.row i (omega (arith, hi)) in
-      let b : unsigned_abs (price i j) ≤ weight_of_terms (column_terms j) * limit = value_bounded (column_terms j) m (number_at (whole_row_at rows i).numbers) limit c.within (λ k l. r.small k (omega (arith, l))) in
-      let w : weight_of_terms (column_terms j) * limit ≤ norm * limit = mul-le (weight_of_terms (column_terms j)) limit norm limit c.bounded (omega arith) in
+      let b : unsigned_abs (price i j) ≤ row_mass (column_terms j) * limit = value_bounded (column_terms j) m (number_at (whole_row_at rows i).numbers) limit c.within (λ k l. r.small k (omega (arith, l))) in
+      let w : row_mass (column_terms j) * limit ≤ norm * limit = mul-le (row_mass (column_terms j)) limit norm limit c.bounded (omega arith) in
       omega (arith, b, w, fit)
 
   limit_short : limit < 2 ^ 63

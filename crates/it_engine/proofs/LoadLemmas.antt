@@ -8,14 +8,14 @@ use Rattle.it_rational.specs.Rational as Q
 use Rattle.it_rational.proofs.Field.{null_from}
 use Rattle.it_rational.proofs.Names.{same_value, whole_names}
 use Rattle.it_rational.proofs.RationalLaws.{ring_ℚ}
-use Rattle.it_space.specs.Rows.{Terms}
+use Rattle.it_space.specs.Rows.{Terms, row_mass}
 use Rattle.it_tableau.specs.Sums.{sum_to}
 use Rattle.it_run.specs.RowValues.{rational_value}
 use Rattle.it_tableau.specs.TableauViews.{TableauView, height, table}
 use Rattle.std.proofs.lemmas.Bool.{cases_eq}
 use Rattle.std.proofs.lemmas.List.{get_or_append_left}
 use Rattle.std.proofs.Math.Seq.{get_or-append_seam}
-use Rattle.it_engine.specs.Whole.{weight_of_terms, WholeRowView}
+use Rattle.it_engine.specs.Whole.{WholeRowView}
 use Rattle.it_engine.specs.Loading.{AreReadRows, IsReadRow, IsReadColumn, IsShortWhole}
 
 pub short_whole : (limit : ℕ) (q : Rational) (o : Option ℤ) → pos q.den ≡ pos 1 → SomeIff o (unsigned_abs q.num ≤ limit) q.num → IfSome o (λ z. IsShortWhole limit q z)
@@ -68,12 +68,12 @@ item_more P k xs x d e h p i l = by_cases (cases_eq i k)
 pub record IsNormUpTo (columns : List Terms) (norm j : ℕ) : Type 0 where
   pub some : 1 ≤ norm
   pub short : norm < 2 ^ 63
-  pub bounds : (i : ℕ) → i < j → weight_of_terms (slice_index_or columns i []) ≤ norm
+  pub bounds : (i : ℕ) → i < j → row_mass (slice_index_or columns i []) ≤ norm
 
-pub line_more : (t : TableauView) (limit i k : ℕ) (numbers : List ℤ) (q : Rational) (z : ℤ) → q ≡ (table t).entry i (t.generators + k) → IsShortWhole limit q z → IsReadRow t limit i k numbers → IsReadRow t limit i (k + 1) (numbers ++ z ∷ [])
+pub line_more : (t : TableauView) (limit i k : ℕ) (numbers : List ℤ) (q : Rational) (z : ℤ) → q ≡ (table t).entry i (t.generator_columns + k) → IsShortWhole limit q z → IsReadRow t limit i k numbers → IsReadRow t limit i (k + 1) (numbers ++ z ∷ [])
 line_more t limit i k numbers q z e w r = record {
   length_is = length-append numbers (z ∷ []) ∙ (let l = r.length_is in omega (arith, l));
-  each = item_more (λ k y. IsShortWhole limit ((table t).entry i (t.generators + k)) y) k numbers z (pos 0) r.length_is r.each (subst (λ (x : Rational). IsShortWhole limit x z) e w);
+  each = item_more (λ k y. IsShortWhole limit ((table t).entry i (t.generator_columns + k)) y) k numbers z (pos 0) r.length_is r.each (subst (λ (x : Rational). IsShortWhole limit x z) e w);
 }
 
 pub lines_more : (t : TableauView) (limit i : ℕ) (rows : List WholeRowView) (row : WholeRowView) → AreReadRows t limit i rows

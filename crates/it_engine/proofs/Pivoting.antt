@@ -20,13 +20,6 @@ abbrev absent_row : WholeRowView
 absent_row = record { numbers = []; bottom = 1 }
 
 module _ (old : List WholeRowView) (r : ℕ) (Done : ℕ → WholeRowView → Type 0) where
-  pub pivot_begins : (y : WholeRowView) → IsPivotUnderWay old (slice_set old r y) r 0 Done
-  pivot_begins y = record {
-    same_length = length-set old r y;
-    done = λ k l d. absurd (omega arith);
-    rest = λ k l d. get_or-set_other old r k y absent_row d;
-  }
-
   pub own_row_is_skipped : (now : List WholeRowView) (i : ℕ) → i ≡ r → IsPivotUnderWay old now r i Done → IsPivotUnderWay old now r (i + 1) Done
   own_row_is_skipped now i e u = record {
     same_length = u.same_length;

@@ -4,9 +4,8 @@ use Rattle.std.proofs.lemmas.Int.{ints, unsigned_abs-mul}
 use Rattle.std.proofs.lemmas.Nat.{mul-le}
 use Rattle.std.proofs.Math.Seq.{drop-cons}
 use Rattle.std.proofs.Math.IntN.{+ℤ_assoc}
-use Rattle.it_space.specs.Rows.{Terms, value}
+use Rattle.it_space.specs.Rows.{Terms, value, row_mass}
 use Rattle.it_space.specs.Sums.{number_at}
-use Rattle.it_engine.specs.Whole.{weight_of_terms}
 use Rattle.it_engine.specs.Updates.{IsPriceable, IsPriced}
 
 module _ (terms : Terms) (numbers : List ℤ) (i : ℕ) (h : i < length terms) (w : All (λ t. t.0 < length numbers) terms) where
@@ -27,8 +26,8 @@ module _ (terms : Terms) (numbers : List ℤ) (i : ℕ) (h : i < length terms) (
   priced_more sum p = subst (λ (k : ℕ). IsPriced terms numbers k (sum +ℤ (slice_index_or terms i (0, pos 0)).1 *ℤ number_at numbers (slice_index_or terms i (0, pos 0)).0)) next_index record {
     value_is = let t = slice_index_or terms i (0, pos 0) in +ℤ_assoc sum (t.1 *ℤ number_at numbers t.0) (value (drop (suc i) terms) (number_at numbers)) ∙ ap (λ ts. sum +ℤ value ts (number_at numbers)) (sym term_is_first) ∙ p.value_is;
     small = λ limit l. let t = slice_index_or terms i (0, pos 0) in
-        sum_stays_within sum (t.1 *ℤ number_at numbers t.0) (unsigned_abs t.1) (weight_of_terms (drop (suc i) terms)) limit (weight_of_terms terms * limit) (step_small limit l)
-        (subst (λ (ts : Terms). unsigned_abs sum + weight_of_terms ts * limit ≤ weight_of_terms terms * limit) term_is_first (p.small limit l));
+        sum_stays_within sum (t.1 *ℤ number_at numbers t.0) (unsigned_abs t.1) (row_mass (drop (suc i) terms)) limit (row_mass terms * limit) (step_small limit l)
+        (subst (λ (ts : Terms). unsigned_abs sum + row_mass ts * limit ≤ row_mass terms * limit) term_is_first (p.small limit l));
   }
     where
       next_index : suc i ≡ i + 1
@@ -41,8 +40,8 @@ module _ (terms : Terms) (numbers : List ℤ) (i : ℕ) (h : i < length terms) (
       → unsigned_abs sum + unsigned_abs ((slice_index_or terms i (0, pos 0)).1 *ℤ number_at numbers (slice_index_or terms i (0, pos 0)).0) < 2 ^ 63
   priced_small sum f p =
       let t = slice_index_or terms i (0, pos 0) in
-      sum_is_short (unsigned_abs sum) (unsigned_abs (t.1 *ℤ number_at numbers t.0)) (unsigned_abs t.1) (weight_of_terms (drop (suc i) terms)) f.0 (weight_of_terms terms * f.0) (step_small f.0 f.1)
-      (subst (λ (ts : Terms). unsigned_abs sum + weight_of_terms ts * f.0 ≤ weight_of_terms terms * f.0) term_is_first (p.small f.0 f.1)) f.2
+      sum_is_short (unsigned_abs sum) (unsigned_abs (t.1 *ℤ number_at numbers t.0)) (unsigned_abs t.1) (row_mass (drop (suc i) terms)) f.0 (row_mass terms * f.0) (step_small f.0 f.1)
+      (subst (λ (ts : Terms). unsigned_abs sum + row_mass ts * f.0 ≤ row_mass terms * f.0) term_is_first (p.small f.0 f.1)) f.2
     where
       sum_is_short : (x y a b l top : ℕ) → y ≤ a * l → x + (a + b) * l ≤ top → top < 2 ^ 63 → x + y < 2 ^ 63
       sum_is_short x y a b l top h k m = omega (arith, h, k, m)

@@ -2,14 +2,14 @@
 use Rattle.std.specs.Prelude.{◌≡◌, ◌≢◌, ◌⊎◌, ℕ, ◌+◌, ◌<◌, ◌≤◌, ◌^◌, ◌++◌, ◌∷◌, ℤ, pos, unsigned_abs, List, [], length, slice_index_or, All}
 use Rattle.it_rational.specs.Rational.{Rational, times, integer}
 use Rattle.it_rational.proofs.RationalLaws.{ring_ℚ}
-use Rattle.it_space.specs.Rows.{Terms}
+use Rattle.it_space.specs.Rows.{Terms, row_mass}
 use Rattle.it_tableau.specs.SparseRows.{RowTerms}
 use Rattle.it_tableau.specs.SparseRows as sparse
 use Rattle.it_tableau.specs.TableauViews.{TableauView, height, table}
 use Rattle.it_tableau.specs.Sums.{sum_to}
 use Rattle.it_run.specs.RowValues.{rational_value}
 use Rattle.it_space.specs.Sums.{number_at}
-use Rattle.it_engine.specs.Whole.{whole_row_at, weight_of_terms, WholeRowView}
+use Rattle.it_engine.specs.Whole.{whole_row_at, WholeRowView}
 
 -- a whole number within a bound
 pub record IsShortWhole (limit : ℕ) (q : Rational) (z : ℤ) : Type 0 where
@@ -31,11 +31,11 @@ pub record IsTermPushed (old : List Terms) (c k : ℕ) (z : ℤ) (new : List Ter
   pub own : slice_index_or new c [] ≡ slice_index_or old c [] ++ (k, z) ∷ []
   pub others : (j : ℕ) → j ≢ c → slice_index_or new j [] ≡ slice_index_or old j []
 
--- the number of row k is put behind a column's terms, unless it is 0
+-- the number of row k is put after a column's terms, unless it is 0
 abbrev pub IsTermRead : ℕ → Rational → Terms → Terms → Type 0
 IsTermRead k q old new = ((q ≡ integer (pos 0)) × (new ≡ old)) ⊎ ((z : ℤ) × (q ≡ integer z) × (new ≡ old ++ (k, z) ∷ []))
 
--- the numbers of row k are put behind their columns' terms
+-- the numbers of row k are put after their columns' terms
 pub record IsRowRead (k : ℕ) (terms : RowTerms) (old new : List Terms) : Type 0 where
   pub same_length : length new ≡ length old
   pub each : (j : ℕ) → j < length old → IsTermRead k (sparse.entry_in terms j) (slice_index_or old j []) (slice_index_or new j [])
@@ -44,12 +44,12 @@ pub record IsRowRead (k : ℕ) (terms : RowTerms) (old new : List Terms) : Type 
 pub record IsNorm (columns : List Terms) (norm : ℕ) : Type 0 where
   pub some : 1 ≤ norm
   pub short : norm < 2 ^ 63
-  pub bounds : (j : ℕ) → j < length columns → weight_of_terms (slice_index_or columns j []) ≤ norm
+  pub bounds : (j : ℕ) → j < length columns → row_mass (slice_index_or columns j []) ≤ norm
 
 -- the first count numbers of row i at the artificial columns and the right side
 pub record IsReadRow (t : TableauView) (limit i count : ℕ) (numbers : List ℤ) : Type 0 where
   pub length_is : length numbers ≡ count
-  pub each : (k : ℕ) → k < count → IsShortWhole limit ((table t).entry i (t.generators + k)) (number_at numbers k)
+  pub each : (k : ℕ) → k < count → IsShortWhole limit ((table t).entry i (t.generator_columns + k)) (number_at numbers k)
 
 -- the first count rows, whole numbers within the limit
 abbrev pub AreReadRows : TableauView → ℕ → ℕ → List WholeRowView → Type 0

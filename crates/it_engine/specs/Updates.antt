@@ -2,15 +2,15 @@
 use Rattle.std.specs.Prelude.{◌≡◌, ◌≢◌, ℕ, ◌+◌, ◌*◌, ◌+ℤ◌, ◌*ℤ◌, neg_ℤ, drop, All, [], slice_index_or, ◌<◌, ◌≤◌, ◌^◌, ℤ, pos, unsigned_abs, List, length}
 use Rattle.it_rational.specs.Rational.{Rational, times, inverse, IsRatio}
 use Rattle.it_rational.proofs.RationalLaws.{ring_ℚ}
-use Rattle.it_space.specs.Rows.{Terms, value}
+use Rattle.it_space.specs.Rows.{Terms, value, row_mass}
 use Rattle.it_tableau.specs.SimplexTables.{difference}
 use Rattle.it_space.specs.Sums.{number_at}
-use Rattle.it_engine.specs.Whole.{AreAtMost, IsShort, whole_row_at, weight_of_terms, WholeRowView, IsRow}
+use Rattle.it_engine.specs.Whole.{AreAtMost, IsShort, whole_row_at, WholeRowView, IsRow}
 use Prim.Native.Nat.{◌∣◌}
 
 -- no sum of the column's terms at the row's numbers passes 2 ^ 63 - 1
 abbrev pub IsPriceable : Terms → List ℤ → Type 0
-IsPriceable terms numbers = (limit : ℕ) × ((k : ℕ) → k < length numbers → unsigned_abs (number_at numbers k) ≤ limit) × (weight_of_terms terms * limit < 2 ^ 63)
+IsPriceable terms numbers = (limit : ℕ) × ((k : ℕ) → k < length numbers → unsigned_abs (number_at numbers k) ≤ limit) × (row_mass terms * limit < 2 ^ 63)
 
 -- the column's terms are of the row's places
 pub record Suits (terms : Terms) (numbers : List ℤ) : Type 0 where
@@ -28,7 +28,7 @@ SuitsAll terms rows = (i : ℕ) → i < length rows → Suits terms (whole_row_a
 -- the sum of the first i terms, with the rest, gives the value, and stays small
 pub record IsPriced (terms : Terms) (numbers : List ℤ) (i : ℕ) (sum : ℤ) : Type 0 where
   pub value_is : sum +ℤ value (drop i terms) (number_at numbers) ≡ value terms (number_at numbers)
-  pub small : (limit : ℕ) → ((k : ℕ) → k < length numbers → unsigned_abs (number_at numbers k) ≤ limit) → unsigned_abs sum + weight_of_terms (drop i terms) * limit ≤ weight_of_terms terms * limit
+  pub small : (limit : ℕ) → ((k : ℕ) → k < length numbers → unsigned_abs (number_at numbers k) ≤ limit) → unsigned_abs sum + row_mass (drop i terms) * limit ≤ row_mass terms * limit
 
 -- the row less as much of the leaving row as makes its entry z at the column 0, where the leaving row's entry is p
 abbrev pub IsWholeRowReduced : ℕ → ℕ → WholeRowView → WholeRowView → ℤ → ℤ → WholeRowView → Type 0
@@ -77,7 +77,7 @@ pub record IsUsable (width limit : ℕ) (row : WholeRowView) : Type 0 where
 -- a column whose entries in usable rows are short
 pub record IsFitting (width limit : ℕ) (terms : Terms) : Type 0 where
   pub within : All (λ t. t.0 < width) terms
-  pub fits : weight_of_terms terms * limit < 2 ^ 63
+  pub fits : row_mass terms * limit < 2 ^ 63
 
 -- all rows are such
 abbrev pub AreUsable : ℕ → ℕ → List WholeRowView → Type 0

@@ -3,7 +3,7 @@ use Rattle.std.specs.Prelude.{◌≡◌, ℕ, ◌+◌, ◌<◌, ◌≤◌, ◌^�
 use Rattle.it_rational.specs.Rational.{Rational, times, IsRatio}
 use Rattle.it_rational.proofs.RationalLaws.{ring_ℚ}
 use Rattle.it_rational.proofs.Field.{field_ℚ}
-use Rattle.it_space.specs.Rows.{Terms}
+use Rattle.it_space.specs.Rows.{Terms, row_mass}
 use Rattle.it_space.specs.Sums.{number_at}
 use Rattle.it_tableau.specs.Sums.{sum_to}
 use Rattle.it_tableau.specs.SimplexTables.{SimplexTable, FeasibilityProblem, start_row}
@@ -34,11 +34,6 @@ whole_row_at rows i = slice_index_or rows i record { numbers = []; bottom = 1 }
 abbrev pub AreAtMost : List ℤ → ℕ → Type 0
 AreAtMost numbers most = (k : ℕ) → k < length numbers → unsigned_abs (number_at numbers k) ≤ most
 
--- the sum of the absolute values of the coefficients
-abbrev pub weight_of_terms : Terms → ℕ
-weight_of_terms [] = 0
-weight_of_terms (t ∷ ts) = unsigned_abs t.1 + weight_of_terms ts
-
 -- the first numbers of a row, each a whole number over one denominator, and within a bound
 pub record IsRow (width limit : ℕ) (f : ℕ → Rational) (row : List ℤ) (bottom : ℕ) : Type 0 where
   pub length_is : length row ≡ width
@@ -51,7 +46,7 @@ pub record IsRow (width limit : ℕ) (f : ℕ → Rational) (row : List ℤ) (bo
 pub record IsStartColumn (m norm : ℕ) (f : ℕ → Rational) (terms : Terms) : Type 0 where
   pub value_is : (g : ℕ → Rational) → sum_to ring_ℚ m (λ k. times (g k) (f k)) ≡ rational_value terms g
   pub within : All (λ t. t.0 < m) terms
-  pub bounded : weight_of_terms terms ≤ norm
+  pub bounded : row_mass terms ≤ norm
 
 -- the columns of the start but the artificial ones, none heavier than the norm
 pub record AreStartColumns (m n norm : ℕ) (p : FeasibilityProblem Rational) (columns : List Terms) : Type 0 where

@@ -17,6 +17,7 @@ pub fn entering_column(columns: &[Column], cost: &WholeRow) -> Option<usize>
     ensures some { IfSome result (λ c. first_negative_cost columns.now cost.now.numbers ≡ c) }
     ensures none { IfNone result (first_negative_cost columns.now cost.now.numbers ≡ length columns.now) }
 {
+    // by index, since the invariant speaks of the first j columns
     for j in 0..columns.len() {
         if !is_at_least_zero(columns[j].price(cost)) {
             return Some(j);

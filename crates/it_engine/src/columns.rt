@@ -1,10 +1,9 @@
 //! The columns of the start.
 ghost use Rattle.std.specs.Prelude.{◌≡◌, ◌+◌, ◌<◌, ◌^◌, ◌++◌, ◌∷◌, [], length, pos, slice_index_or, OnOk};
 ghost use Rattle.std.specs.Option.{IfSome};
-ghost use Rattle.it_space.specs.Rows.{value};
+ghost use Rattle.it_space.specs.Rows.{value, row_mass};
 ghost use Rattle.it_engine.specs.Updates.{IsPriced, Suits};
 ghost use Rattle.it_space.specs.Sums.{number_at};
-ghost use Rattle.it_engine.specs.Whole.{weight_of_terms as weight_of};
 
 use crate::arithmetic::{plus_product, short_sum};
 use crate::rows::WholeRow;
@@ -35,7 +34,7 @@ impl Column {
         }
     }
 
-    /// Puts the entry of a row behind those of the rows before.
+    /// Puts the entry of a row after those of the rows before.
     pub fn push_entry(&mut self, row: usize, number: i64) -> Result<(), AllocError>
         ensures { OnOk result (self.new ≡ self.old ++ (row, number) ∷ []) }
     {
@@ -70,7 +69,7 @@ impl Column {
 
     /// The sum of the absolute values of the entries, where it is below 2^63.
     pub fn weight(&self) -> Option<u64>
-        ensures { IfSome result (λ w. (w ≡ weight_of self.now) × (w < 2 ^ 63)) }
+        ensures { IfSome result (λ w. (w ≡ row_mass self.now) × (w < 2 ^ 63)) }
     {
         let mut sum: u64 = 0;
         for i in 0..self.size() {

@@ -1,4 +1,5 @@
 //! The engine of the start of a run.
+//! The loops go by index, since their invariants speak of what the first ones come to.
 ghost use Rattle.std.specs.Prelude.{◌≡◌, ◌+◌, ◌<◌, ◌^◌, ◌++◌, ◌∷◌, ℕ, [], false, length, IfOk, OnOk};
 ghost use Rattle.std.specs.Bool.{OnTrue};
 ghost use Rattle.std.specs.Option.{IfSome};
@@ -15,6 +16,7 @@ use it_fraction::Fraction;
 use it_tableau::Tableau;
 use std::alloc::{AllocError, Global};
 
+/// The largest number of the engine, 2^63 - 1.
 const LARGEST: u64 = i64::MAX as u64;
 
 /// The number where it is whole and within a bound.
@@ -45,7 +47,7 @@ fn value_of(terms: &[(usize, Fraction)], i: usize) -> Fraction
     terms[i].1
 }
 
-/// Puts an entry behind those of a column.
+/// Puts an entry after those of a column.
 fn push_entry(
     columns: &mut Vec<Column>,
     column: usize,
@@ -59,8 +61,8 @@ fn push_entry(
     Ok(())
 }
 
-/// Puts the terms of a row behind those of their columns, up to the first artificial column. False where a number isn't whole or
-/// is too large.
+/// Puts the terms of a row after those of their columns, up to the first artificial column. False where a number isn't
+/// whole or is too large.
 fn read_terms(
     columns: &mut Vec<Column>,
     terms: &[(usize, Fraction)],
@@ -96,9 +98,9 @@ fn empty_columns(alloc: Global, count: usize) -> Result<Vec<Column>, AllocError>
 /// The columns that aren't artificial, row by row. None where a number isn't whole or is too large.
 pub fn columns(alloc: Global, tableau: &Tableau) -> Result<Option<Vec<Column>>, AllocError>
     requires usable { tableau.now.spent ≡ false }
-    ensures { IfOk result (λ o. IfSome o (λ columns. AreReadColumns tableau.now tableau.now.generators columns.items)) }
+    ensures { IfOk result (λ o. IfSome o (λ columns. AreReadColumns tableau.now tableau.now.generator_columns columns.items)) }
 {
-    let mut columns = empty_columns(alloc, tableau.generators())?;
+    let mut columns = empty_columns(alloc, tableau.generator_columns())?;
     for k in 0..tableau.rows() {
         let whole = read_terms(&mut columns, tableau.terms(k), k)?;
         if !whole {
@@ -122,12 +124,12 @@ pub fn norm(columns: &[Column]) -> Option<u64>
     Some(norm)
 }
 
-/// The entry of row i at the artificial column k, or behind these the right side. The cost row is the last row.
+/// The entry of row i at the artificial column k, or after these the right side. The cost row is the last row.
 fn kept_entry(tableau: &Tableau, i: usize, k: usize) -> Fraction
     requires usable { tableau.now.spent ≡ false }
     requires row { i < height tableau.now + 1 }
     requires place { k < height tableau.now + 1 }
-    ensures { result ≡ (table tableau.now).entry i (tableau.now.generators + k) }
+    ensures { result ≡ (table tableau.now).entry i (tableau.now.generator_columns + k) }
 {
     let rows = tableau.rows();
     let artificials = tableau.columns() - rows;
@@ -146,7 +148,7 @@ fn kept_entry(tableau: &Tableau, i: usize, k: usize) -> Fraction
     }
 }
 
-/// Puts a number behind the others.
+/// Puts a number after the others.
 fn push_number(numbers: &mut Vec<i64>, number: i64) -> Result<(), AllocError>
     ensures { OnOk result (numbers.new.items ≡ numbers.old.items ++ number ∷ []) }
 {
@@ -154,7 +156,8 @@ fn push_number(numbers: &mut Vec<i64>, number: i64) -> Result<(), AllocError>
     Ok(())
 }
 
-/// A row's numbers at the artificial columns, and behind them its right side. None where one isn't whole or is above the limit.
+/// A row's numbers at the artificial columns, and after them its right side. None where one isn't whole or is above the
+/// limit.
 fn read_row(
     alloc: Global,
     tableau: &Tableau,

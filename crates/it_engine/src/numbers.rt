@@ -1,4 +1,5 @@
 //! What a step makes of the numbers of a row.
+//! The loops go by index, since their invariants speak of the numbers at the first k places.
 ghost use Rattle.std.specs.Prelude.{◌≡◌, ℕ, ◌+◌, ◌*◌, ◌<◌, ◌≤◌, ◌^◌, ◌+ℤ◌, ◌*ℤ◌, neg_ℤ, pos, length, unsigned_abs, SomeIff};
 ghost use Prim.Native.Nat.{◌∣◌};
 ghost use Rattle.std.specs.Bool.{OnTrue};
@@ -153,6 +154,7 @@ pub fn note_places(row: &[i64], next: &mut Vec<usize>)
 {
     let mut k = row.len();
     next[k] = k;
+    // a `while`, which counts down: the invariant speaks of the places from k on
     while k > 0 {
         k -= 1;
         next[k] = next_place(row, k, next[k + 1]);
@@ -201,8 +203,9 @@ fn combine_plain(row: &mut Vec<i64>, by: &[i64], next: &[usize], a: i64, b: i64)
     }
 }
 
-/// The numbers times a, less those of another row times b, with a bound on them, where most and most_by are bounds on the numbers
-/// of the two, and next has the next places where the other row isn't 0. None where one would be larger than the limit: then nothing is known of them.
+/// The numbers times a, less those of another row times b, with a bound on them, where most and most_by are bounds on the
+/// numbers of the two, and next has the next places where the other row isn't 0. None where one would be larger than the
+/// limit: then nothing is known of them.
 pub fn combine(
     row: &mut Vec<i64>,
     by: &[i64],

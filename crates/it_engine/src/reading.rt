@@ -40,6 +40,7 @@ fn weight_of(rows: &[WholeRow], basis: &[usize], j: usize) -> Option<Fraction>
     ensures some { IfSome result (λ w. IsWeightOf rows.now basis.now j w) }
     ensures none { IfNone result ((i : ℕ) → i < length basis.now → slice_index_or basis.now i 0 ≢ j) }
 {
+    // by index, since it is the row's, and the invariant speaks of the first i
     for i in 0..basis.len() {
         if basis[i] == j {
             return Some(fraction_at(rows, i, basis.len()));

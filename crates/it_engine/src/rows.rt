@@ -201,7 +201,7 @@ impl WholeRow {
     }
 }
 
-// A gcd of a whole row is dear, so that a row gets its least denominator only where the one it has is large.
+/// Whether a denominator is large. A gcd of a whole row is dear, so that a row gets its least one only there.
 fn is_large(bottom: u64) -> bool {
     bottom > 1 << 16
 }

@@ -14,9 +14,11 @@ use it_run::RunAnswer;
 use it_tableau::Tableau;
 use std::alloc::{AllocError, Global};
 
+/// The largest number of the engine, 2^63 - 1.
 const LARGEST: u64 = i64::MAX as u64;
 
-// All rows are full, so that a table with more of them than this would take more memory than the sparse table of fractions.
+/// The most rows of a table, the cost row among them. All are full, so that a table with more of them would take more memory
+/// than the sparse table of fractions.
 const MOST_ROWS: usize = 1 << 12;
 
 /// The run, and what is read off its end.

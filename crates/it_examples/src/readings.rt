@@ -165,7 +165,7 @@ const TEXTS: [(&[u8], &[u8]); 10] = [
     ),
 ];
 
-/// Writes terms behind the text.
+/// Writes terms after the text.
 fn with_terms(alloc: Global, out: &mut String, terms: &[Term]) -> Result<(), Fail> {
     for term in terms {
         let sign = if term.negative { '-' } else { '+' };

@@ -1,4 +1,4 @@
-//! Broken question files, each with the place and the word of its first fault, worked out by hand.
+//! Question files with a fault, each with the place and the word of its first fault, worked out by hand.
 use crate::tests::each_gets;
 use it_cli::Status;
 use std::test::Fail;
@@ -315,7 +315,7 @@ const DECLARATIONS: [(&[u8], &[u8]); 52] = [
     ),
 ];
 
-/// Relations behind `prove`, `row` and `given`.
+/// Relations after `prove`, `row` and `given`.
 const RELATIONS: [(&[u8], &[u8]); 77] = [
     (b"vars X\nprove >= 0\n", b"refused 2:7 word\n"),
     (b"vars X\nprove H\n", b"refused 2:8 word\n"),

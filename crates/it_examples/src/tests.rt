@@ -1,3 +1,5 @@
+//! Tests: the program's calls on whole files, with what is due by hand or by the literature.
+
 ghost use Rattle.std.specs.Prelude.{◌<◌};
 
 use it_answer::{Budgets, answer};

@@ -4,6 +4,7 @@ ghost use Rattle.std.specs.Ordering.{nat_cmp};
 
 use std::cmp::Ordering;
 
+/// The greatest number of 64 bits.
 const SHORT: u128 = u64::MAX as u128;
 
 /// How a / b compares with c / d: by their whole parts, and where these agree by the rests turned over.

@@ -7,6 +7,7 @@ ghost use Rattle.it_number.specs.Limit.{IsWithin};
 
 use crate::fraction::WideNumber;
 
+/// The greatest number within the limit, 2^127 - 1.
 const LARGEST: u128 = i128::MAX as u128;
 
 /// The greatest common divisor.

@@ -10,12 +10,12 @@ use Rattle.it_syntax.specs.Letters.{Word, Sym, End, MarkedLetters, without_mark,
 use Rattle.it_syntax.specs.Scopes.{scope_of}
 use Rattle.it_syntax.specs.Spans.{letters_until}
 use Rattle.it_syntax.specs.Spelling.{is_word_byte, Stops, IsText}
-use Rattle.it_syntax.specs.WrittenAtoms.{Positive}
+use Rattle.it_syntax.specs.WrittenMeasures.{Positive}
 use Rattle.it_syntax.specs.WrittenRelations.{WrittenRelation, spell_relation}
 use Rattle.it_syntax.proofs.Traces.{cleaned_append}
 use Rattle.it_question.specs.Files.{IsFile}
 use Rattle.it_question.specs.Keywords.{vars_keyword, prove_keyword}
-use Rattle.it_question.specs.Lines.{TokenLine, AreLines, IsFilled, split_lines, file_end, end_line, letters_of_lines}
+use Rattle.it_question.specs.Lines.{LineView, AreLines, IsFilled, split_lines, file_end, end_line, letters_of_lines}
 use Rattle.it_question.specs.NewNames.{Variable, no_names, is_taken, spell_new_names}
 use Rattle.it_question.specs.Texts.{with_texts}
 use Rattle.it_question.specs.WrittenFiles.{spell_question, spell_questions, questions_of}
@@ -37,13 +37,13 @@ relation_tree x = record {
 }
 
 question_tree : ℕ → WrittenQuestion
-question_tree x = record { variables = record { first = codes "A"; more = codes "B" ∷ codes "C" ∷ codes "D" ∷ [] }; rates = None; own = []; verb = Prove (relation_tree x) }
+question_tree x = record { variables = record { first = codes "A"; more = codes "B" ∷ codes "C" ∷ codes "D" ∷ [] }; rates = None; lines = []; verb = Prove (relation_tree x) }
 
 keyword : (w : List ℕ) → IsText kinds.Word w → Writes Anything (w ++ 32 ∷ []) (λ k. without_mark (Word w) ∷ k)
 unfolding is_word_byte
 keyword w h = writes_then (writes_word w h) writes_space (λ rest d. refl)
 
--- a name, and `, ` behind it
+-- a name, and `, ` after it
 name_and_comma : (w : List ℕ) → IsText kinds.Word w → Writes Anything (w ++ codes ", ") (λ k. without_mark (Word w) ∷ without_mark (Sym symbols.Comma) ∷ k)
 unfolding is_word_byte
 name_and_comma w h = writes_then (writes_word w h) (writes_then (writes_symbol symbols.Comma) writes_space (λ rest d. tt)) (λ rest d. refl)
@@ -87,7 +87,7 @@ prove_writes x =
 
 -- these bytes are lines from number n on, and their letters are m
 record AreRead (n : ℕ) (bytes : List ℕ) (m : MarkedLetters) : Type 0 where
-  lines : List TokenLine
+  lines : List LineView
   cut : AreLines n (split_lines bytes) lines
   same : m ≡ without_marks (letters_of_lines lines)
 
@@ -97,7 +97,7 @@ line_is_filled line (t ∷ ts) tail k w e = tt
 
 line_read : (n : ℕ) (line more : List ℕ) (w : List ℕ) (k tail : MarkedLetters) → IsSpelled tail [] line (without_mark (Word w) ∷ k) → AreRead (n + 1) more tail → AreRead n (line ++ 10 ∷ more) (without_mark (Word w) ∷ k)
 line_read n line more w k tail h r =
-    let l : TokenLine = record { number = n; text = line; tokens = h.tokens; misspelling = None } in
+    let l : LineView = record { number = n; text = line; tokens = h.tokens; misspelling = None } in
     let plain = spelled_plain 0 line h.tokens h.spelled in
     record {
       lines = l ∷ r.lines;
@@ -135,12 +135,12 @@ file_read seed (suc count) n (suc limit) le =
     subst (λ (i : ℕ). AreRead n (generated_file seed (suc count)) (without_mark (Word vars_keyword) ∷ spell_question (question_tree seed) (spell_questions i (trees (state_after 8 seed) count) (without_mark file_end ∷ [])))) (sym less)
     (question_read n seed (generated_file (state_after 8 seed) count) (spell_questions limit (trees (state_after 8 seed) count) (without_mark file_end ∷ [])) (file_read (state_after 8 seed) count (n + 1 + 1) limit (omega (arith, le))))
 
-question_count : (seed count : ℕ) (lines : List TokenLine) → length (with_texts lines (questions_of (trees seed count))) ≡ count
+question_count : (seed count : ℕ) (lines : List LineView) → length (with_texts lines (questions_of (trees seed count))) ≡ count
 unfolding trees
 question_count seed zero lines = refl
 question_count seed (suc count) lines = ap suc (question_count (state_after 8 seed) count _)
 
-all_prove : (seed count : ℕ) (lines : List TokenLine) → All IsProve (with_texts lines (questions_of (trees seed count)))
+all_prove : (seed count : ℕ) (lines : List LineView) → All IsProve (with_texts lines (questions_of (trees seed count)))
 unfolding trees question_tree
 all_prove seed zero lines = All-nil IsProve
 all_prove seed (suc count) lines = All-cons IsProve _ _ tt (all_prove (state_after 8 seed) count _)

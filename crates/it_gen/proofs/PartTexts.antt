@@ -18,8 +18,8 @@ use Rattle.it_syntax.specs.Letters.{Word, Number, Sym, without_mark}
 use Rattle.it_syntax.specs.NamesViews.{NamesView}
 use Rattle.it_syntax.specs.Scopes.{env_of, scope_of}
 use Rattle.it_syntax.specs.Spelling.{is_word_byte, Stops, IsText}
-use Rattle.it_syntax.specs.WrittenAtoms.{Environment, WrittenList, WrittenAtom, entropy_text, mutual_text, name_mark, spell_name, spell_more, spell_list, spell_atom}
-use Rattle.it_syntax.specs.WrittenAtoms as written
+use Rattle.it_syntax.specs.WrittenMeasures.{Environment, WrittenList, WrittenMeasure, entropy_text, mutual_text, name_mark, spell_name, spell_more, spell_list, spell_measure}
+use Rattle.it_syntax.specs.WrittenMeasures as written
 use Rattle.it_syntax.specs.WrittenRelations.{WrittenTerm, Times, Measure, spell_term}
 use Rattle.it_syntax.proofs.TokenLemmas.{empty_len}
 use Rattle.it_print.specs.Lines.{joined_texts, one_if, members_from, set_text, given_set_text, elemental_text}
@@ -64,17 +64,17 @@ comma_writes : Writes Anything (codes ",") (λ k. without_mark (Sym symbols.Comm
 comma_writes = writes_symbol symbols.Comma
 
 -- what follows a name is a comma, or follows the last name
-behind_name : (ws : List (List ℕ)) (rest : List ℕ) → Stops is_word_byte rest → Stops is_word_byte (joined_texts (codes ",") true ws ++ rest)
+after_name : (ws : List (List ℕ)) (rest : List ℕ) → Stops is_word_byte rest → Stops is_word_byte (joined_texts (codes ",") true ws ++ rest)
 unfolding is_word_byte
-behind_name [] rest h = h
-behind_name (w ∷ ws) rest h = refl
+after_name [] rest h = h
+after_name (w ∷ ws) rest h = refl
 
 more_writes : (ws : List (List ℕ)) → AreKnown ws → Writes (Stops is_word_byte) (joined_texts (codes ",") true ws) (spell_more env ws)
 more_writes [] h = writes_nothing
-more_writes (w ∷ ws) h = writes_then comma_writes (writes_then (name_writes w h.0) (more_writes ws h.1) (behind_name ws)) (λ rest d. tt)
+more_writes (w ∷ ws) h = writes_then comma_writes (writes_then (name_writes w h.0) (more_writes ws h.1) (after_name ws)) (λ rest d. tt)
 
 list_writes : (w : List ℕ) (ws : List (List ℕ)) → AreKnown (w ∷ ws) → Writes (Stops is_word_byte) (joined_texts (codes ",") false (w ∷ ws)) (spell_list env (record { first = w; more = ws }))
-list_writes w ws h = writes_then (name_writes w h.0) (more_writes ws h.1) (behind_name ws)
+list_writes w ws h = writes_then (name_writes w h.0) (more_writes ws h.1) (after_name ws)
 
 -- ---- sets
 
@@ -127,11 +127,11 @@ set_writes s h = by_list (members_from 0 four_names s) (has_first s h) (members_
 
 -- ---- elemental inequalities
 
-abbrev mutual_tree : Bool → ℕ → ℕ → ℕ → WrittenAtom
+abbrev mutual_tree : Bool → ℕ → ℕ → ℕ → WrittenMeasure
 mutual_tree true a b c = written.Mutual (set_tree a) (set_tree b)
 mutual_tree false a b c = written.MutualGiven (set_tree a) (set_tree b) (set_tree c)
 
-abbrev pub elemental_tree : Elemental → WrittenAtom
+abbrev pub elemental_tree : Elemental → WrittenMeasure
 elemental_tree (Conditional i) = written.EntropyGiven (set_tree (2 ^ i)) (set_tree (2 ^ 4 - 1 - 2 ^ i))
 elemental_tree (Mutual i j k) = mutual_tree (k == 0) (2 ^ i) (2 ^ j) k
 
@@ -150,7 +150,7 @@ mutual_opening : Writes Anything (codes "I(") (λ k. without_mark (Word mutual_t
 unfolding is_word_byte
 mutual_opening = let short : 1 ≤ 16 = omega arith in word_opening (codes "I") (refl, (refl, tt), short)
 
--- behind `|`
+-- after `|`
 bar_writes : (s : ℕ) → IsSome s → Writes (Stops is_word_byte) (codes "|" ++ set_text four_names s) (λ k. without_mark (Sym symbols.Bar) ∷ spell_list env (set_tree s) k)
 bar_writes s h = writes_then (writes_symbol symbols.Bar) (set_writes s h) (λ rest d. tt)
 
@@ -161,16 +161,16 @@ given_text s h = by_test (s == 0) refl
     by_test true e = absurd (omega (arith, h.0, empty_len s (sym e)))
     by_test false e = refl
 
-conditional_writes : (a c : ℕ) → IsSome a → IsSome c → Writes Anything (codes "H(" ++ set_text four_names a ++ given_set_text four_names c ++ codes ")") (spell_atom env (written.EntropyGiven (set_tree a) (set_tree c)))
+conditional_writes : (a c : ℕ) → IsSome a → IsSome c → Writes Anything (codes "H(" ++ set_text four_names a ++ given_set_text four_names c ++ codes ")") (spell_measure env (written.EntropyGiven (set_tree a) (set_tree c)))
 unfolding is_word_byte
-conditional_writes a c h g = subst (λ (t : List ℕ). Writes Anything (codes "H(" ++ set_text four_names a ++ t ++ codes ")") (spell_atom env (written.EntropyGiven (set_tree a) (set_tree c)))) (sym (given_text c g))
+conditional_writes a c h g = subst (λ (t : List ℕ). Writes Anything (codes "H(" ++ set_text four_names a ++ t ++ codes ")") (spell_measure env (written.EntropyGiven (set_tree a) (set_tree c)))) (sym (given_text c g))
     (writes_then (writes_then (writes_then entropy_opening (set_writes a h) (λ rest d. tt)) (bar_writes c g) (λ rest d. refl)) right_paren_writes (λ rest d. refl))
 
 pair_writes : (a b : ℕ) → IsSome a → IsSome b → Writes (Stops is_word_byte) (codes "I(" ++ set_text four_names a ++ codes ";" ++ set_text four_names b) (λ k. without_mark (Word mutual_text) ∷ without_mark (Sym symbols.LeftParen) ∷ spell_list env (set_tree a) (without_mark (Sym symbols.Semicolon) ∷ spell_list env (set_tree b) k))
 unfolding is_word_byte
 pair_writes a b h g = writes_then (writes_then (writes_then mutual_opening (set_writes a h) (λ rest d. tt)) (writes_symbol symbols.Semicolon) (λ rest d. refl)) (set_writes b g) (λ rest d. tt)
 
-mutual_writes : (a b c : ℕ) → IsSome a → IsSome b → c < 16 → (z : Bool) → (c == 0) ≡ z → Writes Anything (codes "I(" ++ set_text four_names a ++ codes ";" ++ set_text four_names b ++ cond z [] (codes "|" ++ set_text four_names c) ++ codes ")") (spell_atom env (mutual_tree z a b c))
+mutual_writes : (a b c : ℕ) → IsSome a → IsSome b → c < 16 → (z : Bool) → (c == 0) ≡ z → Writes Anything (codes "I(" ++ set_text four_names a ++ codes ";" ++ set_text four_names b ++ cond z [] (codes "|" ++ set_text four_names c) ++ codes ")") (spell_measure env (mutual_tree z a b c))
 unfolding is_word_byte
 mutual_writes a b c h g l true e = writes_then (writes_then (pair_writes a b h g) writes_nothing (λ rest d. d)) right_paren_writes (λ rest d. refl)
 mutual_writes a b c h g l false e = writes_then (writes_then (pair_writes a b h g) (bar_writes c (not_zero c e, l)) (λ rest d. refl)) right_paren_writes (λ rest d. refl)
@@ -185,7 +185,7 @@ power_some i h = (pow_mono {i = 0} {j = i} (omega arith), pow_below i 4 h)
 others_some : (i : ℕ) → i < 4 → IsSome (2 ^ 4 - 1 - 2 ^ i)
 others_some i h = let most : 2 ^ i ≤ 2 ^ 3 = pow_mono {i = i} {j = 3} (omega (arith, h)) in let some = power_some i h in (omega (arith, most), omega (arith, some.0))
 
-elemental_writes : (e : Elemental) → IsElemental 4 e → Writes Anything (elemental_text four_names e) (spell_atom env (elemental_tree e))
+elemental_writes : (e : Elemental) → IsElemental 4 e → Writes Anything (elemental_text four_names e) (spell_measure env (elemental_tree e))
 unfolding elemental_text
 elemental_writes (Conditional i) h = conditional_writes (2 ^ i) (2 ^ 4 - 1 - 2 ^ i) (power_some i h) (others_some i h)
 elemental_writes (Mutual i j k) h = mutual_writes (2 ^ i) (2 ^ j) k (power_some i (omega (arith, h.0, h.1))) (power_some j h.1) h.2 (k == 0) refl

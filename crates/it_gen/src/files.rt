@@ -29,7 +29,7 @@ pub fn questions_of(alloc: Global, seed: u32, count: u32) -> Result<Vec<u8>, All
     Ok(out)
 }
 
-/// So many questions behind what stands, by draws that begin with the seed.
+/// So many questions after what stands, by draws that begin with the seed.
 fn write_questions(
     out: &mut Vec<u8>,
     names: &Names,

@@ -1,6 +1,7 @@
+//! Tests: the first draws of a seed, and where the second question goes on.
+
 use crate::draws::Draws;
 use crate::questions_of;
-use std::process::Abort;
 use std::test::Fail;
 
 /// The first two questions of seed 1, worked out apart from the program.

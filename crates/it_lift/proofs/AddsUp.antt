@@ -32,12 +32,12 @@ weighted_linear size g l (w ∷ ws) a =
 
 -- what is left over at a map
 abbrev left_over : CertificateView → Form → Generators → Form
-left_over w target g h = w.scale *ℤ target h -ℤ combination w.parts (λ i. g.form i h)
+left_over w target g h = w.scale *ℤ target h -ℤ combination w.weights (λ i. g.form i h)
 
-left_over_linear : (size : ℕ) (target : Form) (g : Generators) (w : CertificateView) → IsLinear size target → ((i : ℕ) → i < g.count → IsLinear size (g.form i)) → All (λ p. p.0 < g.count) w.parts
+left_over_linear : (size : ℕ) (target : Form) (g : Generators) (w : CertificateView) → IsLinear size target → ((i : ℕ) → i < g.count → IsLinear size (g.form i)) → All (λ p. p.0 < g.count) w.weights
     → (h : ℕ → ℤ) → h 0 ≡ pos 0 → left_over w target g h ≡ dot size (excess w target g) h
 left_over_linear size target g w l m a h z =
-    (Rattle.it_polymatroid.proofs.Forms.linear-sub size (λ h. w.scale *ℤ target h) (λ h. combination w.parts (λ i. g.form i h)) (linear-scale size w.scale target l) (weighted_linear size g m w.parts a)).sum h z
+    (Rattle.it_polymatroid.proofs.Forms.linear-sub size (λ h. w.scale *ℤ target h) (λ h. combination w.weights (λ i. g.form i h)) (linear-scale size w.scale target l) (weighted_linear size g m w.weights a)).sum h z
 
 -- a sum of products with differences
 dot-less : (n : ℕ) (f p q : ℕ → ℤ) → dot n f (λ c. p c -ℤ q c) ≡ dot n f p -ℤ dot n f q
@@ -174,13 +174,13 @@ no_difference x y e = omega (arith, ints, e)
 
 -- over closed sets nothing is left over
 none_left : (size n : ℕ) (ds : List Dependence) (target : Form) (g : Generators) (w : CertificateView) → 2 ^ n ≤ size → AreDependences n ds
-    → IsLinear size target → ((i : ℕ) → i < g.count → IsLinear size (g.form i)) → All (λ p. p.0 < g.count) w.parts → AddsUpOverClosed size n ds target g w
+    → IsLinear size target → ((i : ℕ) → i < g.count → IsLinear size (g.form i)) → All (λ p. p.0 < g.count) w.weights → AddsUpOverClosed size n ds target g w
     → (h : ℕ → ℤ) → h 0 ≡ pos 0 → left_over w target g (spread_out n ds h) ≡ pos 0
 none_left size n ds target g w k r l m a up h z =
     let A : Form = λ h. w.scale *ℤ target (spread_out n ds h) in
-    let B : Form = λ h. combination w.parts (λ i. g.form i (spread_out n ds h)) in
+    let B : Form = λ h. combination w.weights (λ i. g.form i (spread_out n ds h)) in
     let la : IsLinear size A = linear-scale size w.scale (λ h. target (spread_out n ds h)) (linear_spread size n ds target k r l) in
-    let lb : IsLinear size B = linear_spread size n ds (λ h. combination w.parts (λ i. g.form i h)) k r (weighted_linear size g m w.parts a) in
+    let lb : IsLinear size B = linear_spread size n ds (λ h. combination w.weights (λ i. g.form i h)) k r (weighted_linear size g m w.weights a) in
     no_difference (A h) (B h) (la.sum h z ∙ dot_from_one size (λ c. A (one_at c)) (λ c. B (one_at c)) h z up ∙ sym (lb.sum h z))
 
 pub lift_adds_up : LiftAddsUp
@@ -198,8 +198,8 @@ lift_adds_up size n ds target g w k r d l m a up h z =
     let elemental_value : combination (moves n ds e) v ≡ dot (2 ^ n) (with_empty n ds e) (λ c. h c -ℤ h (closure n ds c)) =
     moves-value n ds h v (with_empty n ds e) r (record { elemental = λ i q. d.elemental i q h z; equation = λ i x q. d.equation i x q h z }) (2 ^ n) (omega arith) in
     let even = all_evened n ds e h z in
-    let whole = weighted-append w.parts (moves n ds e) v in
-    whole_is (w.scale *ℤ target h) (combination w.parts v) (combination (moves n ds e) v) (combination (w.parts ++ moves n ds e) v) (dot size e h)
+    let whole = weighted-append w.weights (moves n ds e) v in
+    whole_is (w.scale *ℤ target h) (combination w.weights v) (combination (moves n ds e) v) (combination (w.weights ++ moves n ds e) v) (dot size e h)
     here (elemental_value ∙ sym even ∙ sym short ∙ apart ∙ ap (λ y. dot size e h -ℤ y) closed) whole
   where
     whole_is : (x y m s d : ℤ) → x -ℤ y ≡ d → m ≡ d -ℤ pos 0 → s ≡ y +ℤ m → x ≡ s

@@ -181,6 +181,6 @@ moves_placed n count ds e r h o = moves_have n (λ m. m.0 < count) (λ i x l p. 
 pub weight_sums_fit_as_end : WeightSumsFitAsEnd
 weight_sums_fit_as_end n ds target g w r o v =
     let ms : List (ℕ × ℤ) = moves n ds (excess w target g) in (
-      λ f i. subst IsWithin (sym (coefficient-append w.parts ms i)) (end_from_way (coefficient w.parts) ms v f i),
-      λ f. way_from_end (goes_up ds) (coefficient w.parts) ms (moves_go n ds (excess w target g) r o) v (λ i. subst IsWithin (coefficient-append w.parts ms i) (f i)),
+      λ f i. subst IsWithin (sym (coefficient-append w.weights ms i)) (end_from_way (coefficient w.weights) ms v f i),
+      λ f. way_from_end (goes_up ds) (coefficient w.weights) ms (moves_go n ds (excess w target g) r o) v (λ i. subst IsWithin (coefficient-append w.weights ms i) (f i)),
     )

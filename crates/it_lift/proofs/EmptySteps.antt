@@ -1,11 +1,11 @@
 -- The sum of the excesses of the sets that have the closure of the empty set.
-use Rattle.std.proofs.Common.{◌≡◌, ◌↔◌, ℕ, suc, ◌+◌, ◌-◌, ◌*◌, ◌%◌, ◌^◌, ◌<◌, ◌≤◌, ◌⊎◌, inl, inr, ℤ, pos, ◌+ℤ◌, ◌-ℤ◌, ◌*ℤ◌, List, [], ◌∷◌, Bool, true, false, cond, nat_eq, sym, ap, subst, ◌∙◌, arith}
+use Rattle.std.proofs.Common.{◌≡◌, ◌↔◌, ℕ, suc, ◌+◌, ◌-◌, ◌*◌, ◌%◌, ◌^◌, ◌<◌, ◌≤◌, ◌⊎◌, inl, inr, ℤ, pos, ◌+ℤ◌, ◌-ℤ◌, ◌*ℤ◌, List, [], ◌∷◌, Bool, true, false, cond, nat_eq, sym, ap, subst, ◌∙◌, arith, lit<}
 use Rattle.std.specs.List.{filter}
 use Rattle.std.proofs.lemmas.Int.{ints}
 use Rattle.std.proofs.lemmas.Bool.{cases_order}
-use Rattle.std.proofs.Math.Pow.{pow_mono}
 use Rattle.std.proofs.Math.IntN.{+ℤ_idr, +ℤ_assoc}
 use Rattle.it_number.specs.Limit.{IsWithin}
+use Rattle.it_number.proofs.Shifts.{shift_is_power}
 use Rattle.it_space.specs.Answers.{CertificateView}
 use Rattle.it_polymatroid.specs.Certificates.{Form, Generators, combination}
 use Rattle.it_space.specs.Rows.{one_at}
@@ -14,7 +14,6 @@ use Rattle.it_closure.specs.declared.dependences.Dependence.{Dependence}
 use Rattle.it_closure.specs.Closures.{closure}
 use Rattle.it_lift.specs.Fits.{FallFits, ExcessFits, PartialSumsFit, EmptyFits}
 use Rattle.it_lift.specs.Lifts.{excess, null_sets, sum_over}
-use native.Mathlib.Nat.{mod-eq_of_lt}
 
 -- the sets from a number on that have the closure of the empty set
 abbrev pub nulls_from : ℕ → List Dependence → ℕ → List ℕ
@@ -75,7 +74,7 @@ evening-stops n ds target g w m sum x false h t is v u all = v (let e : sum +ℤ
 
 -- an excess that fits is within the limit
 pub excess_within : (w : CertificateView) (target : Form) (g : Generators) (s : ℕ) → ExcessFits w target g s → IsWithin (excess w target g s)
-excess_within w target g s e = fall_ends_within (w.scale *ℤ target (one_at s)) w.parts (λ i. g.form i (one_at s)) e.0 e.1
+excess_within w target g s e = fall_ends_within (w.scale *ℤ target (one_at s)) w.weights (λ i. g.form i (one_at s)) e.0 e.1
   where
     rest : (a b c : ℤ) → (a -ℤ b) -ℤ c ≡ a -ℤ (b +ℤ c)
     rest a b c = omega (arith, ints)
@@ -87,9 +86,6 @@ excess_within w target g s e = fall_ends_within (w.scale *ℤ target (one_at s))
     fall_ends_within sum [] f h k = subst IsWithin (minus_zero sum) h
     fall_ends_within sum (v ∷ vs) f h k = subst IsWithin (rest sum (v.1 *ℤ f v.0) (combination vs f)) (fall_ends_within (sum -ℤ v.1 *ℤ f v.0) vs f k.1 k.2)
 
--- the number of sets, as the code counts them
-pub shift_is_power : (n : ℕ) → n ≤ 10 → 1 * 2 ^ n % 65536 ≡ 2 ^ n
-shift_is_power n h = let e : 1 * 2 ^ n ≡ 2 ^ n = omega arith in ap (λ m. m % 65536) e ∙ mod-eq_of_lt (omega (arith, pow_mono {i = n} {j = 10} h))
-
+-- below the number of sets, as the code counts them
 pub number_below : (m v n : ℕ) → m < 1 * 2 ^ v % 65536 → v ≤ 10 → n ≡ v → m < 2 ^ n
-number_below m v n h f e = rw e (omega (arith, shift_is_power v f))
+number_below m v n h f e = rw e (omega (arith, shift_is_power v 65536 f (lit< tt)))

@@ -8,24 +8,24 @@ use Rattle.it_lift.specs.Lifts.{moves}
 givens : List Dependence
 givens = record { from = 1; to = 3; generator = 9; negated = false } ∷ record { from = 2; to = 6; generator = 10; negated = false } ∷ []
 
-left : ℕ → ℤ
-left s = cond (nat_eq s 1) (pos 1) (cond (nat_eq s 5) (negsuc 0) (pos 0))
+numbers : ℕ → ℤ
+numbers s = cond (nat_eq s 1) (pos 1) (cond (nat_eq s 5) (negsuc 0) (pos 0))
 
 closes : closure 3 givens 1 ≡ 7
 unfolding closure givens
 closes = refl
 
-example_moves : moves 3 givens left ≡ (9, negsuc 0) ∷ (6, pos 1) ∷ (10, negsuc 0) ∷ (1, pos 1) ∷ []
-unfolding closure way elemental_index givens left
+example_moves : moves 3 givens numbers ≡ (9, negsuc 0) ∷ (6, pos 1) ∷ (10, negsuc 0) ∷ (1, pos 1) ∷ []
+unfolding closure way elemental_index givens numbers
 example_moves = refl
 
 -- H(X) = 0: e({X}) is 1
 null : List Dependence
 null = record { from = 0; to = 1; generator = 1; negated = false } ∷ []
 
-null_left : ℕ → ℤ
-null_left s = cond (nat_eq s 1) (pos 1) (pos 0)
+null_numbers : ℕ → ℤ
+null_numbers s = cond (nat_eq s 1) (pos 1) (pos 0)
 
-null_moved : moves 1 null null_left ≡ (0, pos 1) ∷ []
-unfolding closure way elemental_index null null_left
+null_moved : moves 1 null null_numbers ≡ (0, pos 1) ∷ []
+unfolding closure way elemental_index null null_numbers
 null_moved = refl

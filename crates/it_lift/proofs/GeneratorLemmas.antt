@@ -7,7 +7,7 @@ use Rattle.it_space.specs.Rows.{value, IsUpTo}
 use Rattle.it_space.specs.Spaces.{size_of}
 use Rattle.it_polymatroid.specs.Elementals.{elementals, elemental_at, elemental_value}
 use Rattle.it_elemental.specs.Generators.{Generator, generators, generator_at, generators_of}
-use Rattle.it_elemental.proofs.GeneratorLemmas.{length-listed, front_is_elemental, behind_is, rows_of_space, every_or}
+use Rattle.it_elemental.proofs.GeneratorLemmas.{length-listed, front_is_elemental, after_is, rows_of_space, every_or}
 use Rattle.it_elemental.proofs.GeneratorLemmas as G
 use Rattle.it_elemental.proofs.RowLemmas.{value-row}
 
@@ -21,7 +21,7 @@ form_own q i h z l =
 -- the generator of a constraint
 pub constraint_is : (q : ProblemView) (i own : ℕ) (c : Constraint) → own ≡ length (elementals q.space.variables) → own ≤ i → i - own < length q.constraints → c ≡ get_or q.constraints (i - own) c
     → generator_at (generators q) i ≡ record { kind = c.kind; row = c.row }
-constraint_is q i own c e l b is = behind_is q.space.variables q.constraints i own c e l (omega (arith, length-listed q.space.variables q.constraints)) is
+constraint_is q i own c e l b is = after_is q.space.variables q.constraints i own c e l (omega (arith, length-listed q.space.variables q.constraints)) is
 
 -- each row is of the space
 pub row_of_space : (q : ProblemView) (i : ℕ) → IsProblem q → 2 ^ q.space.variables ≤ size_of q.space + 1 → IsUpTo (size_of q.space) (generator_at (generators q) i).row

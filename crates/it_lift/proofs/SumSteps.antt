@@ -79,9 +79,6 @@ weights_by_number n x is es a e = by_list is (every_of (λ i. i < length (elemen
     by_list [] v = refl
     by_list (i ∷ is) v = ap₂ (λ (k : ℕ) (ms : List (ℕ × ℤ)). let p : ℕ × ℤ = (k, x) in p ∷ ms) (sym (index_back n i v.0)) (by_list is v.1)
 
-pub listed_here : (len n : ℕ) (is : List ℕ) → length (elementals n) ≤ len → All (λ i. i < length (elementals n)) is → All (λ i. i < len) is
-listed_here len n is h a = λ i d l. omega (arith, a i d l)
-
 -- the members of one set that aren't in another, as the code finds them
 pub less_found : (s t r : ℕ) → r + bit_and t s ≡ s → r ≡ set_difference s t
 less_found s t r e = omega arith

@@ -39,12 +39,12 @@ moves-none n ds e q = subst (λ (es : List Dependence). moves n es e ≡ []) (sy
 
 pub is_own_lift : (q : ProblemView) (d : DependencesView) (target : Terms) (w : CertificateView) → IsProblem q → AreDependencesOf q d → IsUpTo (size_of q.space) target → IsCertificateOverClosed q d target w → d.list ≡ [] → IsLiftOf q d target w w
 is_own_lift q d target w p a t c none =
-    let same : lifted_weights d.space.variables d.list (value target) (generators_of q) w ≡ w.parts =
-    ap (λ ms. w.parts ++ ms) (moves-none d.space.variables d.list (excess w (value target) (generators_of q)) none) ∙ append-nil w.parts in
+    let same : lifted_weights d.space.variables d.list (value target) (generators_of q) w ≡ w.weights =
+    ap (λ ms. w.weights ++ ms) (moves-none d.space.variables d.list (excess w (value target) (generators_of q)) none) ∙ append-nil w.weights in
     record {
       scale = refl;
       order = c.order;
       allowed = c.allowed;
       weights = λ i. sym (ap (λ ms. coefficient ms i) same);
-      adds_up = lifted_adds_up q d target w p a t c w.parts (λ i. sym (ap (λ ms. coefficient ms i) same));
+      adds_up = lifted_adds_up q d target w p a t c w.weights (λ i. sym (ap (λ ms. coefficient ms i) same));
     }

@@ -88,9 +88,9 @@ module _ (q : ProblemView) (d : DependencesView) (target : Terms) (old : Certifi
   moved_parts = moves d.space.variables d.list (excess old (value target) (generators_of q))
 
   pub lifted_least : (i : ℕ) → (generators_of q).is_equation i ≡ false → pos 0 ≤ℤ coefficient lifted_parts i
-  lifted_least i e = subst (λ (x : ℤ). pos 0 ≤ℤ x) (sym (coefficient-append old.parts moved_parts i))
-      (sum_least (coefficient old.parts i) (coefficient moved_parts i)
-      (parts_least i old.parts (every-same (IsAllowed (generators_of q)) (λ w. w.0 ≡ i → pos 0 ≤ℤ w.1) old.parts (λ w v q'. v.1 (ap (generators_of q).is_equation q' ∙ e)) (every_of (IsAllowed (generators_of q)) old.parts c.allowed)))
+  lifted_least i e = subst (λ (x : ℤ). pos 0 ≤ℤ x) (sym (coefficient-append old.weights moved_parts i))
+      (sum_least (coefficient old.weights i) (coefficient moved_parts i)
+      (parts_least i old.weights (every-same (IsAllowed (generators_of q)) (λ w. w.0 ≡ i → pos 0 ≤ℤ w.1) old.weights (λ w v q'. v.1 (ap (generators_of q).is_equation q' ∙ e)) (every_of (IsAllowed (generators_of q)) old.weights c.allowed)))
       (subst (λ (b : Bool). Goes b (coefficient moved_parts i))
       (none_goes i d.list (every-same (λ x. (generators_of q).is_equation x.generator ≡ true) (λ x. x.generator ≢ i) d.list (λ x v q'. false≢true (sym e ∙ ap (generators_of q).is_equation (sym q') ∙ v)) (every_of (λ x. (generators_of q).is_equation x.generator ≡ true) d.list a.kinds)))
       (goes-total (goes_up d.list) moved_parts (moves_go d.space.variables d.list (excess old (value target) (generators_of q)) (of_space d a.shape) a.numbered) i)))
@@ -101,13 +101,13 @@ module _ (q : ProblemView) (d : DependencesView) (target : Terms) (old : Certifi
       (λ i l. form_linear q i p) (λ i x l. (c.allowed i x l).0) c.sums h z ∙ weighted_same lifted_parts ws (λ i. (generators_of q).form i h) (λ i. sym (same i))
 
   -- so canonical weights that have the coefficients of the lifted ones are a lift
-  pub canonical_lift : (new : CertificateView) → new.scale ≡ old.scale → Ascends 0 new.parts → ((i : ℕ) → coefficient new.parts i ≡ coefficient lifted_parts i) → IsLiftOf q d target old new
+  pub canonical_lift : (new : CertificateView) → new.scale ≡ old.scale → Ascends 0 new.weights → ((i : ℕ) → coefficient new.weights i ≡ coefficient lifted_parts i) → IsLiftOf q d target old new
   canonical_lift new scale up same = record {
     scale = scale;
-    order = canonical_weights_ascend 0 new.parts up;
-    allowed = all_of (IsAllowed (generators_of q)) new.parts (each_is_allowed 0 new.parts up (λ i h. refl));
+    order = canonical_weights_ascend 0 new.weights up;
+    allowed = all_of (IsAllowed (generators_of q)) new.weights (each_is_allowed 0 new.weights up (λ i h. refl));
     weights = same;
-    adds_up = λ h z. ap (λ x. x *ℤ value target h) scale ∙ lifted_adds_up new.parts same h z;
+    adds_up = λ h z. ap (λ x. x *ℤ value target h) scale ∙ lifted_adds_up new.weights same h z;
   }
     where
       none_from : (i : ℕ) (ws : List (ℕ × ℤ)) → Every (λ w. w.0 < (generators_of q).count) ws → (generators_of q).count ≤ i → coefficient ws i ≡ pos 0
@@ -115,8 +115,8 @@ module _ (q : ProblemView) (d : DependencesView) (target : Terms) (old : Certifi
       none_from i (w ∷ ws) e h = other_is w ws i (λ is. omega (arith, e.0, is)) ∙ none_from i ws e.1 h
 
       lifted_below_count : Every (λ w. w.0 < (generators_of q).count) lifted_parts
-      lifted_below_count = every-append (λ w. w.0 < (generators_of q).count) old.parts moved_parts
-          (every-same (IsAllowed (generators_of q)) (λ w. w.0 < (generators_of q).count) old.parts (λ w v. v.0) (every_of (IsAllowed (generators_of q)) old.parts c.allowed))
+      lifted_below_count = every-append (λ w. w.0 < (generators_of q).count) old.weights moved_parts
+          (every-same (IsAllowed (generators_of q)) (λ w. w.0 < (generators_of q).count) old.weights (λ w v. v.0) (every_of (IsAllowed (generators_of q)) old.weights c.allowed))
           (moves_placed d.space.variables (generators_of q).count d.list (excess old (value target) (generators_of q)) (of_space d a.shape)
           (omega (arith, total_is q, ap (λ s. length (elementals s.variables)) a.space)) (every_of (λ x. x.generator < (generators_of q).count) d.list a.placed))
 
@@ -128,7 +128,7 @@ module _ (q : ProblemView) (d : DependencesView) (target : Terms) (old : Certifi
           by_cases (inr l) = absurd (some (sym is ∙ none_from i lifted_parts lifted_below_count l))
 
       -- the first term's coefficient is that of the whole
-      each_is_allowed : (from : ℕ) (ws : List (ℕ × ℤ)) → Ascends from ws → ((i : ℕ) → from ≤ i → coefficient ws i ≡ coefficient new.parts i) → Every (IsAllowed (generators_of q)) ws
+      each_is_allowed : (from : ℕ) (ws : List (ℕ × ℤ)) → Ascends from ws → ((i : ℕ) → from ≤ i → coefficient ws i ≡ coefficient new.weights i) → Every (IsAllowed (generators_of q)) ws
       each_is_allowed from [] u is = tt
       each_is_allowed from (w ∷ ws) u is = (
         some_allowed w.0 w.1 u.1 (sym (same w.0) ∙ sym (is w.0 u.0) ∙ head_is from w ws u),
@@ -137,8 +137,8 @@ module _ (q : ProblemView) (d : DependencesView) (target : Terms) (old : Certifi
 
 -- what the code gives
 pub is_lift : (q : ProblemView) (d : DependencesView) (target : Terms) (old : CertificateView) (start end : List ℤ) → IsProblem q → AreDependencesOf q d → IsUpTo (size_of q.space) target → IsCertificateOverClosed q d target old
-    → length start ≡ (generators_of q).count → number_at start ≡ coefficient old.parts → AreWeightsAdded start end (moves d.space.variables d.list (excess old (value target) (generators_of q)))
-    → IsLiftOf q d target old (record { scale = old.scale; parts = terms_from 0 end })
+    → length start ≡ (generators_of q).count → number_at start ≡ coefficient old.weights → AreWeightsAdded start end (moves d.space.variables d.list (excess old (value target) (generators_of q)))
+    → IsLiftOf q d target old (record { scale = old.scale; weights = terms_from 0 end })
 is_lift q d target old start end p a t c len is added = record {
   scale = refl;
   order = weights_order 0 end;
@@ -150,7 +150,7 @@ is_lift q d target old start end p a t c len is added = record {
     same_coefficients : (i : ℕ) → coefficient (terms_from 0 end) i ≡ coefficient (lifted_weights d.space.variables d.list (value target) (generators_of q) old) i
     same_coefficients i = terms_from_zero end i ∙ ap (λ (f : ℕ → ℤ). f i) added.same ∙ after-total (number_at start) (moves d.space.variables d.list (excess old (value target) (generators_of q))) i
         ∙ ap (λ (f : ℕ → ℤ). f i +ℤ coefficient (moves d.space.variables d.list (excess old (value target) (generators_of q))) i) is
-        ∙ sym (coefficient-append old.parts (moves d.space.variables d.list (excess old (value target) (generators_of q))) i)
+        ∙ sym (coefficient-append old.weights (moves d.space.variables d.list (excess old (value target) (generators_of q))) i)
 
     allowed_at : (k : ℕ) → k < length end → IsAllowed (generators_of q) (0 + k, number_at end k)
     allowed_at k l =
@@ -159,10 +159,10 @@ is_lift q d target old start end p a t c len is added = record {
         (omega (arith, len, added.complete), λ e. subst (λ (x : ℤ). pos 0 ≤ℤ x) (sym (same_coefficients k) ∙ terms_from_zero end k) (lifted_least q d target old p a t c k e))
 
 -- where all numbers are within the limit, and where they aren't
-pub lift_fits : (q : ProblemView) (d : DependencesView) (target : Terms) (old : CertificateView) (start : List ℤ) → AreOfSpace d → AreDependencesOf q d → IsCertificateOverClosed q d target old → number_at start ≡ coefficient old.parts
+pub lift_fits : (q : ProblemView) (d : DependencesView) (target : Terms) (old : CertificateView) (start : List ℤ) → AreOfSpace d → AreDependencesOf q d → IsCertificateOverClosed q d target old → number_at start ≡ coefficient old.weights
     → (EmptyFits d.space.variables d.list (value target) (generators_of q) old × WeightSumsFit (number_at start) (moves d.space.variables d.list (excess old (value target) (generators_of q)))) ↔ FitsLift q d target old
 lift_fits q d target old start s a c is =
-    let both = weight_sums_fit_as_end d.space.variables d.list (value target) (generators_of q) old (of_space d s) a.numbered (parts_within old.parts c.order c.within) in (
+    let both = weight_sums_fit_as_end d.space.variables d.list (value target) (generators_of q) old (of_space d s) a.numbered (parts_within old.weights c.order c.within) in (
       λ e. record { before = e.0; weights = both.0 (subst (λ (f : ℕ → ℤ). WeightSumsFit f (moves d.space.variables d.list (excess old (value target) (generators_of q)))) is e.1) },
       λ l. (l.before, subst (λ (f : ℕ → ℤ). WeightSumsFit f (moves d.space.variables d.list (excess old (value target) (generators_of q)))) (sym is) (both.1 l.weights)),
     )

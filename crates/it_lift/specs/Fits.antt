@@ -17,7 +17,7 @@ FallFits sum (w ∷ ws) f = IsWithin (w.1 *ℤ f w.0) × IsWithin (sum -ℤ w.1 
 
 -- the numbers from which the excess at a nonempty set is formed
 abbrev pub ExcessFits : CertificateView → Form → Generators → ℕ → Type 0
-ExcessFits w target g s = IsWithin (w.scale *ℤ target (one_at s)) × FallFits (w.scale *ℤ target (one_at s)) w.parts (λ i. g.form i (one_at s))
+ExcessFits w target g s = IsWithin (w.scale *ℤ target (one_at s)) × FallFits (w.scale *ℤ target (one_at s)) w.weights (λ i. g.form i (one_at s))
 
 -- each partial sum over some sets, on top of a sum so far
 abbrev pub PartialSumsFit : ℤ → (ℕ → ℤ) → List ℕ → Type 0
@@ -50,5 +50,5 @@ AreNumbered n ds = GeneratorsAscend (length (elementals n)) ds
 
 -- All amounts of one weight have one sign, so its partial sums are within the limit exactly where their end is.
 abbrev pub WeightSumsFitAsEnd : Type 0
-WeightSumsFitAsEnd = (n : ℕ) (ds : List Dependence) (target : Form) (g : Generators) (w : CertificateView) → AreDependences n ds → AreNumbered n ds → ((i : ℕ) → IsWithin (coefficient w.parts i))
-    → WeightSumsFit (coefficient w.parts) (moves n ds (excess w target g)) ↔ ((i : ℕ) → IsWithin (coefficient (lifted_weights n ds target g w) i))
+WeightSumsFitAsEnd = (n : ℕ) (ds : List Dependence) (target : Form) (g : Generators) (w : CertificateView) → AreDependences n ds → AreNumbered n ds → ((i : ℕ) → IsWithin (coefficient w.weights i))
+    → WeightSumsFit (coefficient w.weights) (moves n ds (excess w target g)) ↔ ((i : ℕ) → IsWithin (coefficient (lifted_weights n ds target g w) i))

@@ -27,18 +27,18 @@ WeightsAscend from (w ∷ ws) = (from ≤ w.0) × WeightsAscend (w.0 + 1) ws
 
 -- a certificate over closed sets: ascending weights that may stand in a certificate, and that add up over closed sets
 pub record IsCertificateOverClosed (q : ProblemView) (d : DependencesView) (target : Terms) (w : CertificateView) : Type 0 where
-  pub order : WeightsAscend 0 w.parts
-  pub allowed : All (IsAllowed (generators_of q)) w.parts
-  pub within : All (λ p. IsWithin p.1) w.parts
+  pub order : WeightsAscend 0 w.weights
+  pub allowed : All (IsAllowed (generators_of q)) w.weights
+  pub within : All (λ p. IsWithin p.1) w.weights
   pub sums : AddsUpOverClosed (size_of q.space + 1) d.space.variables d.list (value target) (generators_of q) w
 
 -- the weights with all that is added, in order, and they add up at every map
 pub record IsLiftOf (q : ProblemView) (d : DependencesView) (target : Terms) (old new : CertificateView) : Type 0 where
   pub scale : new.scale ≡ old.scale
-  pub order : WeightsAscend 0 new.parts
-  pub allowed : All (IsAllowed (generators_of q)) new.parts
-  pub weights : (i : ℕ) → coefficient new.parts i ≡ coefficient (lifted_weights d.space.variables d.list (value target) (generators_of q) old) i
-  pub adds_up : (h : ℕ → ℤ) → h 0 ≡ pos 0 → new.scale *ℤ value target h ≡ combination new.parts (λ i. (generators_of q).form i h)
+  pub order : WeightsAscend 0 new.weights
+  pub allowed : All (IsAllowed (generators_of q)) new.weights
+  pub weights : (i : ℕ) → coefficient new.weights i ≡ coefficient (lifted_weights d.space.variables d.list (value target) (generators_of q) old) i
+  pub adds_up : (h : ℕ → ℤ) → h 0 ≡ pos 0 → new.scale *ℤ value target h ≡ combination new.weights (λ i. (generators_of q).form i h)
 
 -- all numbers of the lift are within the limit
 abbrev pub FitsLift : ProblemView → DependencesView → Terms → CertificateView → Type 0

@@ -12,7 +12,7 @@ use Rattle.it_elemental.specs.Indexes.{elemental_index}
 
 -- What is left over at a set: the scale times the target's coefficient, less the weights times the generators' coefficients.
 abbrev pub excess : CertificateView → Form → Generators → ℕ → ℤ
-excess w target g s = w.scale *ℤ target (one_at s) -ℤ combination w.parts (λ i. g.form i (one_at s))
+excess w target g s = w.scale *ℤ target (one_at s) -ℤ combination w.weights (λ i. g.form i (one_at s))
 
 -- the nonempty sets that have the closure of the empty set
 abbrev pub null_sets : ℕ → List Dependence → List ℕ
@@ -60,7 +60,7 @@ moves n ds e = flat_map (moves_of n ds e) (span 0 (2 ^ n))
 
 -- the weights over all sets: those over closed sets with all that is added
 abbrev pub lifted_weights : ℕ → List Dependence → Form → Generators → CertificateView → List (ℕ × ℤ)
-lifted_weights n ds target g w = w.parts ++ moves n ds (excess w target g)
+lifted_weights n ds target g w = w.weights ++ moves n ds (excess w target g)
 
 -- a value, or its negation
 abbrev pub signed_value : Bool → ℤ → ℤ
@@ -74,10 +74,10 @@ pub record HaveDependences (n : ℕ) (ds : List Dependence) (g : Generators) : T
 -- the weights add up over closed sets, at each coordinate
 abbrev pub AddsUpOverClosed : ℕ → ℕ → List Dependence → Form → Generators → CertificateView → Type 0
 AddsUpOverClosed size n ds target g w = (c : ℕ) → 0 < c → c < size
-    → w.scale *ℤ target (spread_out n ds (one_at c)) ≡ combination w.parts (λ i. g.form i (spread_out n ds (one_at c)))
+    → w.scale *ℤ target (spread_out n ds (one_at c)) ≡ combination w.weights (λ i. g.form i (spread_out n ds (one_at c)))
 
 -- The lifted weights add up at every map.
 abbrev pub LiftAddsUp : Type 0
 LiftAddsUp = (size n : ℕ) (ds : List Dependence) (target : Form) (g : Generators) (w : CertificateView) → 2 ^ n ≤ size → AreDependences n ds → HaveDependences n ds g
-    → IsLinear size target → ((i : ℕ) → i < g.count → IsLinear size (g.form i)) → All (λ p. p.0 < g.count) w.parts → AddsUpOverClosed size n ds target g w
+    → IsLinear size target → ((i : ℕ) → i < g.count → IsLinear size (g.form i)) → All (λ p. p.0 < g.count) w.weights → AddsUpOverClosed size n ds target g w
     → (h : ℕ → ℤ) → h 0 ≡ pos 0 → w.scale *ℤ target h ≡ combination (lifted_weights n ds target g w) (λ i. g.form i h)

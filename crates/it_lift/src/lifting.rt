@@ -18,7 +18,7 @@ use crate::sums::WeightSums;
 use it_closure::Dependences;
 use it_elemental::count;
 use it_space::{Certificate, Problem, Row, RowFault, VarSet};
-use std::alloc::{AllocError, Global};
+use std::alloc::Global;
 
 /// The certificate over all sets that a certificate over closed sets stands for: what is left over at a set is moved to
 /// its closure, by the inequalities and equations that hold for the two. Without dependences it is the same certificate.
@@ -35,7 +35,7 @@ pub fn lift(
     requires sums { IsCertificateOverClosed (problem_view problem.now) dependences.now target.now (certificate_view collapsed.now) }
     ensures unchanged { IfOk result (λ c. dependences.now.list ≡ [] → certificate_view c ≡ certificate_view collapsed.now) }
     ensures fits { OnOk result (dependences.now.list ≢ [] → FitsLift (problem_view problem.now) dependences.now target.now (certificate_view collapsed.now)) }
-    ensures nonzero { IfOk result (λ c. dependences.now.list ≢ [] → All (λ p. p.1 ≢ pos 0) (certificate_view c).parts) }
+    ensures nonzero { IfOk result (λ c. dependences.now.list ≢ [] → All (λ p. p.1 ≢ pos 0) (certificate_view c).weights) }
     ensures lifted { IfOk result (λ c. IsLiftOf (problem_view problem.now) dependences.now target.now (certificate_view collapsed.now) (certificate_view c)) }
     ensures wide { IfErr result (λ fault. fault ≡ RowFault.Wide → (dependences.now.list ≢ []) × (¬ (FitsLift (problem_view problem.now) dependences.now target.now (certificate_view collapsed.now)))) }
 {
@@ -58,7 +58,7 @@ fn lift_all(
     requires target { IsUpTo (size_of problem.now.space) target.now }
     requires sums { IsCertificateOverClosed (problem_view problem.now) dependences.now target.now (certificate_view collapsed.now) }
     ensures fits { OnOk result (FitsLift (problem_view problem.now) dependences.now target.now (certificate_view collapsed.now)) }
-    ensures nonzero { IfOk result (λ c. All (λ p. p.1 ≢ pos 0) (certificate_view c).parts) }
+    ensures nonzero { IfOk result (λ c. All (λ p. p.1 ≢ pos 0) (certificate_view c).weights) }
     ensures lifted { IfOk result (λ c. IsLiftOf (problem_view problem.now) dependences.now target.now (certificate_view collapsed.now) (certificate_view c)) }
     ensures wide { IfErr result (λ fault. fault ≡ RowFault.Wide → ¬ (FitsLift (problem_view problem.now) dependences.now target.now (certificate_view collapsed.now))) }
 {

@@ -125,6 +125,7 @@ fn add_way(
     ensures wide { IfErr result (λ fault. fault ≡ RowFault.Wide → ¬ WeightSumsFit (number_at sums.old) (flat_map (turn_moves n (pos amount)) (way n list.now set))) }
 {
     let mut all = set;
+    // a `loop` with `match`, since the proof takes the equation of `None` at the return
     loop {
         match first_open(list, all) {
             Some(open) => {

@@ -54,3 +54,7 @@ left_comm_is a b c = same_out _ _ (sym (mul_assoc a b c) ∙ ap (λ n. n *ℤ c)
 pub ruleset zlin = (fits_out, same_out, Apart-out, lt_out, le_out, lt_T, le_T, lt_not, le_not, lt-true, lt-false, le-true, le-false, true-lt, false-lt, true-le, false-le, fits_in, same_in, below_in, at_most_in, sum_is_lem, neg_is)
 
 pub ruleset zring = (zlin, mul-add_is, add-mul_is, mul-neg_is, neg-mul_is, assoc_is, comm_is, left_comm_is)
+
+-- where two numbers are multiples of two others, so is their sum, the first ones taken a times
+pub sum_of_multiples : (k a x y v w : ℤ) → y ≡ k *ℤ x → w ≡ k *ℤ v → a *ℤ y +ℤ w ≡ k *ℤ (a *ℤ x +ℤ v)
+sum_of_multiples k a x y v w e f = ap (λ z. a *ℤ z +ℤ w) e ∙ ap (λ z. a *ℤ (k *ℤ x) +ℤ z) f ∙ omega (arith, zring)

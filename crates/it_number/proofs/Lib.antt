@@ -4,4 +4,5 @@ pub mod IntegerRing
 pub mod SignLemmas
 pub mod Divisors
 pub mod Quotients
+pub mod Shifts
 pub mod SignedDivisors

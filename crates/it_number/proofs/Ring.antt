@@ -66,11 +66,11 @@ value R ρ (minus a) = R.neg (value R ρ a)
 pub data Term : Type 0 where
   term : Bool → List ℕ → Term
 
-abbrev pub same : List ℕ → List ℕ → Bool
-same [] [] = true
-same [] (y ∷ ys) = false
-same (x ∷ xs) [] = false
-same (x ∷ xs) (y ∷ ys) = eqb x y && same xs ys
+abbrev pub list_eqb : List ℕ → List ℕ → Bool
+list_eqb [] [] = true
+list_eqb [] (y ∷ ys) = false
+list_eqb (x ∷ xs) [] = false
+list_eqb (x ∷ xs) (y ∷ ys) = eqb x y && list_eqb xs ys
 
 abbrev pub is_before : List ℕ → List ℕ → Bool
 is_before [] ys = true
@@ -94,7 +94,7 @@ product (i ∷ m) n = put i (product m n)
 abbrev pub insert : Bool → List ℕ → List Term → List Term
 insert s m [] = term s m ∷ []
 insert s m (term t n ∷ p) =
-    cond (same m n && signs_differ s t) p
+    cond (list_eqb m n && signs_differ s t) p
     (cond (is_before m n) (term s m ∷ term t n ∷ p) (term t n ∷ insert s m p))
 
 abbrev pub sum_of : List Term → List Term → List Term
@@ -134,11 +134,11 @@ abbrev pub poly : {A : Type 0} → Ring A → List A → List Term → A
 poly R ρ [] = R.null
 poly R ρ (term s m ∷ p) = R.add (with_sign R s (mono R ρ m)) (poly R ρ p)
 
-same_is : (m n : List ℕ) → T (same m n) → m ≡ n
-same_is [] [] h = refl
-same_is [] (y ∷ ys) h = elim h [ ]
-same_is (x ∷ xs) [] h = elim h [ ]
-same_is (x ∷ xs) (y ∷ ys) h = same_items (eqb x y) (same xs ys) h (λ e. eqb→eq x y e) (λ e. same_is xs ys e)
+list_eqb_is : (m n : List ℕ) → T (list_eqb m n) → m ≡ n
+list_eqb_is [] [] h = refl
+list_eqb_is [] (y ∷ ys) h = elim h [ ]
+list_eqb_is (x ∷ xs) [] h = elim h [ ]
+list_eqb_is (x ∷ xs) (y ∷ ys) h = same_items (eqb x y) (list_eqb xs ys) h (λ e. eqb→eq x y e) (λ e. list_eqb_is xs ys e)
   where
     same_items : (a b : Bool) → T (a && b) → (T a → x ≡ y) → (T b → xs ≡ ys) → x ∷ xs ≡ y ∷ ys
     same_items true true h f g = ap₂ (λ a rest. a ∷ rest) (f tt) (g tt)
@@ -165,7 +165,7 @@ opposites_cancel R false true x y h = sym (sym (R.add_assoc y (R.neg y) x) ∙ a
 
 insert_is : {A : Type 0} (R : Ring A) (ρ : List A) (s : Bool) (m : List ℕ) (p : List Term) → poly R ρ (insert s m p) ≡ R.add (with_sign R s (mono R ρ m)) (poly R ρ p)
 insert_is R ρ s m [] = refl
-insert_is R ρ s m (term t n ∷ p) = by_test (same m n) (signs_differ s t) (is_before m n) (λ h. same_is m n h) (λ h. h)
+insert_is R ρ s m (term t n ∷ p) = by_test (list_eqb m n) (signs_differ s t) (is_before m n) (λ h. list_eqb_is m n h) (λ h. h)
     (ap (R.add (with_sign R t (mono R ρ n))) (insert_is R ρ s m p) ∙ add_left_comm R (with_sign R t (mono R ρ n)) (with_sign R s (mono R ρ m)) (poly R ρ p))
   where
     by_order : (b : Bool) → R.add (with_sign R t (mono R ρ n)) (poly R ρ (insert s m p)) ≡ R.add (with_sign R s (mono R ρ m)) (R.add (with_sign R t (mono R ρ n)) (poly R ρ p)) → poly R ρ (cond b (term s m ∷ term t n ∷ p) (term t n ∷ insert s m p)) ≡ R.add (with_sign R s (mono R ρ m)) (R.add (with_sign R t (mono R ρ n)) (poly R ρ p))

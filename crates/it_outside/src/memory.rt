@@ -23,9 +23,9 @@ pub struct MemorySource {
 
 impl Model for MemorySource {
     ghost use Rattle.std.specs.Prelude.{◌<◌, ◌≤◌, drop, vec_len};
-    ghost use Rattle.it_outside.specs.Memory.{SourceState};
+    ghost use Rattle.it_outside.specs.Memory.{MemorySourceView};
 
-    ghost Value = { SourceState };
+    ghost Value = { MemorySourceView };
 
     ghost view = { λ s. record {
       left = drop s.at s.bytes.items;
@@ -109,9 +109,9 @@ pub struct MemorySink {
 
 impl Model for MemorySink {
     ghost use Rattle.std.specs.Prelude.{◌+◌, ◌<◌, ◌≤◌, vec_len, vec_capacity};
-    ghost use Rattle.it_outside.specs.Memory.{SinkState};
+    ghost use Rattle.it_outside.specs.Memory.{MemorySinkView};
 
-    ghost Value = { SinkState };
+    ghost Value = { MemorySinkView };
 
     ghost view = { λ s. record {
       bytes = s.bytes.items;

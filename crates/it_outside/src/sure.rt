@@ -71,9 +71,9 @@ pub struct SureSink {
 
 impl Model for SureSink {
     ghost use Rattle.std.specs.Prelude.{◌≡◌, ◌≤◌, IsTrue, vec_len, vec_capacity};
-    ghost use Rattle.it_outside.specs.Sure.{SureSinkState};
+    ghost use Rattle.it_outside.specs.Sure.{SureSinkView};
 
-    ghost Value = { SureSinkState };
+    ghost Value = { SureSinkView };
 
     ghost view = { λ s. record { limit = s.limit; kept = s.room.items; more = s.more } };
 

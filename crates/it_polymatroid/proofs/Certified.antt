@@ -31,14 +31,14 @@ weighted_is size g l (w ∷ ws) a p e =
 
 -- sums that agree at each coordinate agree at every map
 pub adds_up_everywhere : (size : ℕ) (g : Generators) (target : Form) (w : CertificateView) → ((i : ℕ) → i < g.count → IsLinear size (g.form i)) → IsLinear size target
-    → IsCertificate size g target w → (p : ℕ → ℤ) → p 0 ≡ pos 0 → w.scale *ℤ target p ≡ combination w.parts (λ i. g.form i p)
+    → IsCertificate size g target w → (p : ℕ → ℤ) → p 0 ≡ pos 0 → w.scale *ℤ target p ≡ combination w.weights (λ i. g.form i p)
 adds_up_everywhere size g target w l m c p e =
     ap (λ x. w.scale *ℤ x) (m.sum p e)
     ∙ sym (dot-scale size w.scale (λ k. target (one_at k)) p)
-    ∙ dot_from_one size (λ k. w.scale *ℤ target (one_at k)) (λ k. combination w.parts (λ i. g.form i (one_at k))) p e c.adds_up
-    ∙ sym (weighted_is size g l w.parts c.allowed p e)
+    ∙ dot_from_one size (λ k. w.scale *ℤ target (one_at k)) (λ k. combination w.weights (λ i. g.form i (one_at k))) p e c.adds_up
+    ∙ sym (weighted_is size g l w.weights c.allowed p e)
 
 pub certificates_prove : CertificatesProve
 certificates_prove size g target w l m c p e least zeros =
     least_by_multiple w.scale (target p) (omega (arith, ints, c.scale_from_one))
-    (subst (λ (x : ℤ). pos 0 ≤ℤ x) (sym (adds_up_everywhere size g target w l m c p e)) (weighted_least g (λ i. g.form i p) least zeros w.parts c.allowed))
+    (subst (λ (x : ℤ). pos 0 ≤ℤ x) (sym (adds_up_everywhere size g target w l m c p e)) (weighted_least g (λ i. g.form i p) least zeros w.weights c.allowed))

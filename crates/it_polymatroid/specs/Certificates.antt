@@ -25,8 +25,8 @@ IsAllowed g w = (w.0 < g.count) × (g.is_equation w.0 ≡ false → pos 0 ≤ℤ
 -- A certificate (Farkas 1902): weights by which the generators add up to a positive multiple of the target, at each coordinate below `size`.
 pub record IsCertificate (size : ℕ) (g : Generators) (target : Form) (w : CertificateView) : Type 0 where
   pub scale_from_one : pos 1 ≤ℤ w.scale
-  pub allowed : All (IsAllowed g) w.parts
-  pub adds_up : (c : ℕ) → 0 < c → c < size → w.scale *ℤ target (one_at c) ≡ combination w.parts (λ i. g.form i (one_at c))
+  pub allowed : All (IsAllowed g) w.weights
+  pub adds_up : (c : ℕ) → 0 < c → c < size → w.scale *ℤ target (one_at c) ≡ combination w.weights (λ i. g.form i (one_at c))
 
 -- the sum over the coordinates below `size` of value times coefficient
 abbrev pub dot : ℕ → (ℕ → ℤ) → (ℕ → ℤ) → ℤ

@@ -54,6 +54,7 @@ pub fn image(sets: &[VarSet], of: VarSet) -> VarSet
     ensures { result ≡ image sets.now of }
 {
     let mut union = VarSet::empty();
+    // by index, since it is the variable's number, and the invariant speaks of the sets from i on
     for i in 0..sets.len() {
         if of.has(i as u8) {
             union = union.union(sets[i]);

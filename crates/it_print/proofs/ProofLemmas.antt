@@ -35,7 +35,7 @@ module _ (k : ℕ) (v : NamesView) (origins : List Origin) (rows : ℕ → Gener
   none_left (w ∷ proofs) (target ∷ targets) zero h = absurd (omega (arith, h))
   none_left (w ∷ proofs) (target ∷ targets) (suc i) h = none_left proofs targets i (omega (arith, h))
 
-  -- behind the last certificate, or the last target
+  -- after the last certificate, or the last target
   pub proofs_done : (proofs : List Certificate) (targets : List Terms) (i : ℕ) (out whole : List ℕ) → min (length proofs) (length targets) ≤ i
       → out ++ proof_lines k v origins rows (map certificate_view (drop i proofs)) (drop i targets) ≡ whole → out ≡ whole
   proofs_done proofs targets i out whole h e = sym (append-nil out) ∙ ap (λ (x : List ℕ). out ++ x) (sym (none_left proofs targets i h)) ∙ e

@@ -48,7 +48,7 @@ set_text names set = joined_texts (codes ",") false (members_from 0 names set)
 unfoldable pub set_or_zero_text : List (List ℕ) → ℕ → List ℕ
 set_or_zero_text names set = if set == 0 then codes "0" else set_text names set
 
--- what is given, behind a bar, or nothing
+-- what is given, after a bar, or nothing
 abbrev pub given_set_text : List (List ℕ) → ℕ → List ℕ
 given_set_text names set = if set == 0 then [] else codes "|" ++ set_text names set
 
@@ -103,14 +103,14 @@ sum_text names origins weights = joined_texts (codes " + ") false (or_zero false
 
 -- a certificate: the scale, and the sum
 unfoldable pub certificate_text : List (List ℕ) → List Origin → CertificateView → List ℕ
-certificate_text names origins w = signed_decimal w.scale ++ codes " : " ++ sum_text names origins w.parts
+certificate_text names origins w = signed_decimal w.scale ++ codes " : " ++ sum_text names origins w.weights
 
 -- a coordinate as `h(X,Y)`, or as a rate's name
 unfoldable pub coordinate_text : NamesView → ℕ → List ℕ
 coordinate_text v c =
     if nat_lt c (2 ^ length v.variables) then codes "h(" ++ set_text v.variables c ++ codes ")" else slice_index_or v.rates (c - 2 ^ length v.variables) []
 
--- a coordinate with its value, behind a blank
+-- a coordinate with its value, after a blank
 abbrev pub value_text : NamesView → ℕ → ℤ → List ℕ
 value_text v c x = codes " " ++ coordinate_text v c ++ codes "=" ++ signed_decimal x
 
@@ -132,14 +132,14 @@ abbrev pub is_below_zero : ℤ → Bool
 is_below_zero (pos n) = false
 is_below_zero (negsuc n) = true
 
--- the sign of a term that is the first or not, and negative or not: with blanks round it behind another term
+-- the sign of a term that is the first or not, and negative or not: with blanks round it after another term
 abbrev pub sign_text : Bool → Bool → List ℕ
 sign_text true true = codes "-"
 sign_text true false = []
 sign_text false true = codes " - "
 sign_text false false = codes " + "
 
--- a coefficient without its sign and with a blank behind it, and nothing where it is 1
+-- a coefficient without its sign and with a blank after it, and nothing where it is 1
 abbrev pub factor_text : ℕ → List ℕ
 factor_text n = if n == 1 then [] else decimal n ++ codes " "
 

@@ -36,7 +36,7 @@ sum_line k v scale target = decimal k ++ codes " sum " ++ signed_decimal scale +
 
 -- the weights of a certificate, and the multiple of its target that they add up to
 unfoldable pub certificate_lines : ℕ → NamesView → List Origin → (ℕ → Generator) → CertificateView → Terms → List ℕ
-certificate_lines k v origins rows w target = weight_lines k v origins rows w.parts ++ sum_line k v w.scale target
+certificate_lines k v origins rows w target = weight_lines k v origins rows w.weights ++ sum_line k v w.scale target
 
 -- each certificate with its target
 abbrev pub proof_lines : ℕ → NamesView → List Origin → (ℕ → Generator) → List CertificateView → List Terms → List ℕ
@@ -53,6 +53,6 @@ proofs_in (Region rows) = []
 proofs_in (Contained parts ws) = ws
 proofs_in (Open tried) = []
 
--- the lines of an answer, and behind them those of its certificates
+-- the lines of an answer, and after them those of its certificates
 abbrev pub proof_text : ℕ → BodyView → List Origin → (ℕ → Generator) → List Terms → AnswerView → List ℕ
 proof_text k q origins rows targets answer = answer_line k q origins answer ++ proof_lines k (problem_names q) origins rows (proofs_in answer) targets

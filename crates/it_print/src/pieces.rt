@@ -6,7 +6,7 @@ ghost use Rattle.it_print.specs.Lines.{between_if, joined_texts, one_if};
 use itoa::Buffer;
 use std::alloc::AllocError;
 
-/// The decimal digits of a number, behind what stands.
+/// The decimal digits of a number, after what stands.
 pub fn write_number(out: &mut Vec<u8>, number: usize) -> Result<(), AllocError>
     ensures { OnOk result (out.new.items ≡ out.old.items ++ decimal number) }
 {

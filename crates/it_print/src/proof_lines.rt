@@ -19,7 +19,7 @@ use it_space::{Answer, Certificate, Constraint, Kind, Row, is_nonzero_weight};
 use it_syntax::Names;
 use std::alloc::{AllocError, Global};
 
-/// The lines of an answer to question k, as `answer_line` tells them, and behind them what its certificates add up. For
+/// The lines of an answer to question k, as `answer_line` tells them, and after them what its certificates add up. For
 /// each certificate, with the target of its number: a line for each weight other than 0 with its generator's row, and one with
 /// the scale and the target's row.
 pub fn proof_text(

@@ -44,7 +44,7 @@ fn write_row_line(
     out.extend_from_slice(b"\n")
 }
 
-/// A row by its terms in order of the coordinates, with ` >= 0` or ` = 0` behind them. The row without terms has `0` in
+/// A row by its terms in order of the coordinates, with ` >= 0` or ` = 0` after them. The row without terms has `0` in
 /// their place.
 pub fn row_text(alloc: Global, row: &Row, kind: Kind, names: &Names) -> Result<Vec<u8>, AllocError>
     requires { IsRowOver names.now row.now }
@@ -55,7 +55,7 @@ pub fn row_text(alloc: Global, row: &Row, kind: Kind, names: &Names) -> Result<V
     Ok(out)
 }
 
-/// The same behind what stands.
+/// The same after what stands.
 #[tactic(auto, unfolding(crate::specs::Lines::row_text))]
 pub fn write_constraint(
     out: &mut Vec<u8>,
@@ -95,7 +95,7 @@ fn write_form(out: &mut Vec<u8>, names: &Names, terms: &[(u32, i128)]) -> Result
     }
 }
 
-/// Terms behind another one.
+/// Terms after another one.
 fn write_terms(out: &mut Vec<u8>, names: &Names, terms: &[(u32, i128)]) -> Result<(), AllocError>
     requires { IsRowOver names.now terms.now }
     ensures { OnOk result (out.new.items ≡ out.old.items ++ terms_text names.now false terms.now) }

@@ -101,7 +101,7 @@ fn weight_text(
     Ok(out)
 }
 
-/// The same behind what stands.
+/// The same after what stands.
 #[tactic(auto, unfolding(crate::specs::Lines::weight_text))]
 pub fn write_weight(
     out: &mut Vec<u8>,

@@ -1,7 +1,8 @@
+//! Tests: numbers as decimals, and an empty row.
+
 use crate::{row_text, write_number, write_signed};
 use it_space::{Kind, Row};
 use it_syntax::Names;
-use std::process::Abort;
 use std::test::Fail;
 
 /// Numbers are written in decimal, a sign directly before them. The lines of answers and of proofs are tested where the whole

@@ -150,16 +150,16 @@ module _ (q : ProblemView) (target : Terms) (k : IsProblem q) (u : IsUpTo (size_
       (λ i. collapsed_at q.space.variables (dependences_of q) (generator_at (generators q) i).row c h ∙ sym (ap (λ (g : Generator). coefficient g.row c) (collapsed_generator_at q.space.variables (dependences_of q) (generators q) i))))
 
   module _ (fit : NumbersFit (numbers_of ws)) where
-    pub parts_canonical : Ascends 0 (closed_weights q ws).parts
-    parts_canonical = weights_ascend (generators q) 0 0 (coefficient (scaled_weights ws)) (scaled_positive (closed_generators q) (closed_places q) (closed_target q target) ws a)
+    pub weights_canonical : Ascends 0 (closed_weights q ws).weights
+    weights_canonical = weights_ascend (generators q) 0 0 (coefficient (scaled_weights ws)) (scaled_positive (closed_generators q) (closed_places q) (closed_target q target) ws a)
         (coefficients_within 0 (scaled_weights ws) (scaled_canonical (closed_generators q) (closed_places q) (closed_target q target) ws a fit.numbers))
 
     closed_certificate : IsCertificateOverClosed q (read_of q) target (closed_weights q ws)
     closed_certificate = record {
-      order = canonical_weights_ascend 0 (closed_weights q ws).parts parts_canonical;
-      allowed = all_of (IsAllowed (generators_of q)) (closed_weights q ws).parts
+      order = canonical_weights_ascend 0 (closed_weights q ws).weights weights_canonical;
+      allowed = all_of (IsAllowed (generators_of q)) (closed_weights q ws).weights
           (weights_allowed (generators q) (generators q) 0 0 (coefficient (scaled_weights ws)) (scaled_positive (closed_generators q) (closed_places q) (closed_target q target) ws a) (omega arith) (λ i l. ap (generator_at (generators q)) (zero_plus i)));
-      within = all_of (λ (t : ℕ × ℤ). IsWithin t.1) (closed_weights q ws).parts (each_within 0 (closed_weights q ws).parts parts_canonical);
+      within = all_of (λ (t : ℕ × ℤ). IsWithin t.1) (closed_weights q ws).weights (each_within 0 (closed_weights q ws).weights weights_canonical);
       sums = spread_sum;
     }
       where
@@ -180,7 +180,7 @@ module _ (q : ProblemView) (target : Terms) (k : IsProblem q) (u : IsUpTo (size_
 
     -- so does whatever is the lift by its coefficients
     pub lifted_certifies : (w : CertificateView) → IsLifted q target ws w → CertifiesRow q target w
-    lifted_certifies w l = lift_certifies (read_of q) (closed_weights q ws) w refl (canonical_lift q (read_of q) target (closed_weights q ws) k (are_dependences_of q k) u closed_certificate w l.scale l.parts l.weights)
+    lifted_certifies w l = lift_certifies (read_of q) (closed_weights q ws) w refl (canonical_lift q (read_of q) target (closed_weights q ws) k (are_dependences_of q k) u closed_certificate w l.scale l.canonical l.weights)
 
 -- ---- what it gives is the lift
 
@@ -210,30 +210,30 @@ ascends_of from (t ∷ ts) a e w = (
 module _ (q : ProblemView) (target : Terms) (k : IsProblem q) (u : IsUpTo (size_of q.space) target) (ws : List (ℕ × Rational))
     (a : SumsUp field_ℚ (length (closed_places q)) (length (columns (closed_generators q))) (feasibility_problem (closed_places q) (columns (closed_generators q)) (closed_target q target)) ws)
     (fit : NumbersFit (numbers_of ws)) where
-  is_lifted : (w new : CertificateView) → w ≡ closed_weights q ws → IsLiftOf q (read_of q) target w new → (dependences_of q ≡ [] → new ≡ w) → (dependences_of q ≢ [] → All (λ (p : ℕ × ℤ). p.1 ≢ pos 0) new.parts)
+  is_lifted : (w new : CertificateView) → w ≡ closed_weights q ws → IsLiftOf q (read_of q) target w new → (dependences_of q ≡ [] → new ≡ w) → (dependences_of q ≢ [] → All (λ (p : ℕ × ℤ). p.1 ≢ pos 0) new.weights)
       → (dependences_of q ≢ [] → FitsLift q (read_of q) target w) → IsLifted q target ws new
   is_lifted w new s i same some fits = record {
     scale = i.scale ∙ ap (λ (x : CertificateView). x.scale) s;
-    parts = for_each (dependences_of q) refl;
+    canonical = for_each (dependences_of q) refl;
     weights = λ j. i.weights j ∙ ap (λ (x : CertificateView). coefficient (lifted_weights q.space.variables (dependences_of q) (value target) (generators_of q) x) j) s;
   }
     where
       list_not_empty : (d : Dependence) (ds : List Dependence) → (d ∷ ds) ≡ [] → ⊥
       list_not_empty d ds e = cc
 
-      for_each : (ds : List Dependence) → dependences_of q ≡ ds → Ascends 0 new.parts
-      for_each [] e = subst (Ascends 0) (sym (ap (λ (x : CertificateView). x.parts) (same e ∙ s))) (parts_canonical q target k u ws a fit)
+      for_each : (ds : List Dependence) → dependences_of q ≡ ds → Ascends 0 new.weights
+      for_each [] e = subst (Ascends 0) (sym (ap (λ (x : CertificateView). x.weights) (same e ∙ s))) (weights_canonical q target k u ws a fit)
       for_each (d ∷ ds) e =
           let more : dependences_of q ≢ [] = λ f. list_not_empty d ds (sym e ∙ f) in
-          ascends_of 0 new.parts i.order (every_of (λ (p : ℕ × ℤ). p.1 ≢ pos 0) new.parts (some more)) (λ c. subst IsWithin (sym (i.weights c)) ((fits more).weights c))
+          ascends_of 0 new.weights i.order (every_of (λ (p : ℕ × ℤ). p.1 ≢ pos 0) new.weights (some more)) (λ c. subst IsWithin (sym (i.weights c)) ((fits more).weights c))
 
-  pub lift_is : (d : DependencesView) (w new : CertificateView) → read_of q ≡ d → w ≡ closed_weights q ws → IsLiftOf q d target w new → (d.list ≡ [] → new ≡ w) → (d.list ≢ [] → All (λ (p : ℕ × ℤ). p.1 ≢ pos 0) new.parts)
+  pub lift_is : (d : DependencesView) (w new : CertificateView) → read_of q ≡ d → w ≡ closed_weights q ws → IsLiftOf q d target w new → (d.list ≡ [] → new ≡ w) → (d.list ≢ [] → All (λ (p : ℕ × ℤ). p.1 ≢ pos 0) new.weights)
       → (d.list ≢ [] → FitsLift q d target w) → IsLifted q target ws new
-  lift_is d w new e s = subst (λ (x : DependencesView). IsLiftOf q x target w new → (x.list ≡ [] → new ≡ w) → (x.list ≢ [] → All (λ (p : ℕ × ℤ). p.1 ≢ pos 0) new.parts) → (x.list ≢ [] → FitsLift q x target w) → IsLifted q target ws new) e (is_lifted w new s)
+  lift_is d w new e s = subst (λ (x : DependencesView). IsLiftOf q x target w new → (x.list ≡ [] → new ≡ w) → (x.list ≢ [] → All (λ (p : ℕ × ℤ). p.1 ≢ pos 0) new.weights) → (x.list ≢ [] → FitsLift q x target w) → IsLifted q target ws new) e (is_lifted w new s)
 
 -- a lift is one alone
 pub one_lift : (q : ProblemView) (target : Terms) (ws : List (ℕ × Rational)) (v w : CertificateView) → IsLifted q target ws v → IsLifted q target ws w → v ≡ w
-one_lift q target ws v w a b = ap₂ (λ x y. record { scale = x; parts = y }) (a.scale ∙ sym b.scale) (rows_by_coefficients 0 v.parts w.parts a.parts b.parts (λ i. a.weights i ∙ sym (b.weights i)))
+one_lift q target ws v w a b = ap₂ (λ x y. record { scale = x; weights = y }) (a.scale ∙ sym b.scale) (rows_by_coefficients 0 v.weights w.weights a.canonical b.canonical (λ i. a.weights i ∙ sym (b.weights i)))
 
 pub are_dependences_of_so : (q : ProblemView) (d : DependencesView) → IsProblem q → read_of q ≡ d → AreDependencesOf q d
 are_dependences_of_so q d k e = subst (AreDependencesOf q) e (are_dependences_of q k)

@@ -87,7 +87,7 @@ pairs_ascend from to [] vs r w = tt
 pairs_ascend from to (x ∷ xs) [] r w = tt
 pairs_ascend from to (x ∷ xs) (y ∷ vs) r w = ascends-single_term from x y (terms_of_places xs vs) r.0 w.0 (pairs_ascend (x + 1) to xs vs r.1 w.1)
 
--- as the code puts them one behind the other
+-- as the code puts them one after the other
 pub spread_more : (F : ℕ → ℤ) (size c : ℕ) (old new : List ℤ) → c ≤ size → new ≡ old ++ F c ∷ [] → old ++ map F (span c (size + 1 - c)) ≡ map F (span 1 size)
     → new ++ map F (span (c + 1) (size + 1 - (c + 1))) ≡ map F (span 1 size)
 spread_more F size c old new h is inv =

@@ -204,8 +204,8 @@ proven_ascends q target budget w e = for_each e.end e.follows
     yes_not_undecided : {c : Cause} → Yes w ≡ Undecided c → ⊥
     yes_not_undecided e = cc
 
-    for_each : (end : RunEndView (List (ℕ × Rational)) (List Rational)) → Follows q target end (Yes w) → IsCanonical w.parts
-    for_each (Weights ws) (inl a) = subst (λ (x : CertificateView). IsCanonical x.parts) (sym (same_certificate a.0 a.3)) a.1.parts
+    for_each : (end : RunEndView (List (ℕ × Rational)) (List Rational)) → Follows q target end (Yes w) → IsCanonical w.weights
+    for_each (Weights ws) (inl a) = subst (λ (x : CertificateView). IsCanonical x.weights) (sym (same_certificate a.0 a.3)) a.1.canonical
     for_each (Weights ws) (inr a) = absurd (yes_not_undecided a.1)
     for_each (Point qs) (inl a) = absurd (yes_not_no a.1)
     for_each (Point qs) (inr a) = absurd (yes_not_undecided a.1)

@@ -12,6 +12,7 @@ abbrev pub columns_by : Kind → Terms → List Terms
 columns_by Inequality row = row ∷ []
 columns_by Equation row = row ∷ negated_terms row ∷ []
 
+-- the columns of a generator, by its kind
 abbrev pub columns_of : Generator → List Terms
 columns_of g = columns_by g.kind g.row
 

@@ -31,6 +31,7 @@ pub data ProofView : Type 0 where
   No : (values : List ℤ) → ProofView
   Undecided : (cause : Cause) → ProofView
 
+-- a proof as contracts see it
 abbrev pub proof_view : Proof → ProofView
 proof_view (proofs.Yes c) = Yes (certificate_view c)
 proof_view (proofs.No p) = No p
@@ -44,8 +45,8 @@ closed_weights q ws = certificate_of (generators q) ws
 -- none is 0
 pub record IsLifted (q : ProblemView) (target : Terms) (ws : List (ℕ × Rational)) (w : CertificateView) : Type 0 where
   pub scale : w.scale ≡ (closed_weights q ws).scale
-  pub parts : IsCanonical w.parts
-  pub weights : (i : ℕ) → coefficient w.parts i ≡ coefficient (lifted_weights q.space.variables (dependences_of q) (value target) (generators_of q) (closed_weights q ws)) i
+  pub canonical : IsCanonical w.weights
+  pub weights : (i : ℕ) → coefficient w.weights i ≡ coefficient (lifted_weights q.space.variables (dependences_of q) (value target) (generators_of q) (closed_weights q ws)) i
 
 -- the numbers of the scaled weights are within the limit, and so are those of the lift, which has none where no dependence is
 pub record LiftedFit (q : ProblemView) (target : Terms) (ws : List (ℕ × Rational)) : Type 0 where
@@ -98,13 +99,13 @@ IsRightProof q target (Undecided cause) = Unit {0}
 abbrev pub EndsAreRight : Type 0
 EndsAreRight = (q : ProblemView) (target : Terms) (budget : Option ℕ) (o : ProofView) → IsProblem q → IsUpTo (size_of q.space) target → EndsWith q target budget o → IsRightProof q target o
 
--- a question has one outcome
+-- a target under a problem has one outcome for a budget
 abbrev pub OneProofView : Type 0
 OneProofView = (q : ProblemView) (target : Terms) (budget : Option ℕ) (o p : ProofView) → EndsWith q target budget o → EndsWith q target budget p → o ≡ p
 
 -- the weights of a proof ascend by generator, and none is 0
 abbrev pub ProvenAscends : Type 0
-ProvenAscends = (q : ProblemView) (target : Terms) (budget : Option ℕ) (w : CertificateView) → EndsWith q target budget (Yes w) → IsCanonical w.parts
+ProvenAscends = (q : ProblemView) (target : Terms) (budget : Option ℕ) (w : CertificateView) → EndsWith q target budget (Yes w) → IsCanonical w.weights
 
 -- the rows of the constraints and of the target are small
 pub record AreSmall (q : ProblemView) (target : Terms) : Type 0 where

@@ -13,6 +13,7 @@ unfoldable pub scale_from : ℕ → List Rational → ℕ
 scale_from k [] = k
 scale_from k (q ∷ qs) = scale_from (lcm k q.den) qs
 
+-- the least common multiple of the denominators
 abbrev pub scale_of : List Rational → ℕ
 scale_of qs = scale_from 1 qs
 
@@ -38,9 +39,11 @@ scaled_point qs = map (scaled_number (scale_of qs)) qs
 abbrev pub numbers_of : List (ℕ × Rational) → List Rational
 numbers_of ws = map (λ w. w.1) ws
 
+-- the weights of columns, each times L, for a multiple L of the denominators
 abbrev pub scaled_by : ℕ → List (ℕ × Rational) → Terms
 scaled_by l ws = map (λ w. (w.0, scaled_number l w.1)) ws
 
+-- the weights of columns, made whole by the least common multiple of their denominators
 abbrev pub scaled_weights : List (ℕ × Rational) → Terms
 scaled_weights ws = scaled_by (scale_of (numbers_of ws)) ws
 
@@ -48,5 +51,5 @@ scaled_weights ws = scaled_by (scale_of (numbers_of ws)) ws
 abbrev pub certificate_of : List Generator → List (ℕ × Rational) → CertificateView
 certificate_of gs ws = record {
   scale = pos (scale_of (numbers_of ws));
-  parts = weights_from 0 0 gs (coefficient (scaled_weights ws));
+  weights = weights_from 0 0 gs (coefficient (scaled_weights ws));
 }

@@ -37,7 +37,7 @@ fn weight_of(row: &Row, kind: Kind, column: u32) -> i128
     }
 }
 
-/// Puts a weight behind the others, unless it is 0.
+/// Puts a weight after the others, unless it is 0.
 pub fn push_some(weights: &mut Vec<(u32, i128)>, index: u32, weight: i128) -> Result<(), AllocError>
     ensures { OnOk result (weights.new.items ≡ weights.old.items ++ single_term index weight) }
 {

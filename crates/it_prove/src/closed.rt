@@ -1,4 +1,4 @@
-//! What is made once of a problem, for runs about many targets under it and under problems that go on behind its constraints.
+//! What is made once of a problem, for runs about many targets under it and under problems that go on after its constraints.
 ghost use Rattle.std.specs.Prelude.{◌≡◌, [], ◌++◌, All, IfErr, IfOk, OnOk};
 ghost use Rattle.it_space.specs.Problems.{IsProblem, problem_view};
 ghost use Rattle.it_elemental.specs.Generators.{generators};

@@ -42,7 +42,7 @@ pub fn opposite_row(alloc: Global, row: &Row) -> Result<Row, AllocError>
     Ok(Row::new(terms))
 }
 
-/// The row of a generator by its number: an elemental inequality, or from their count on a constraint.
+/// The row of a generator by its number: below their count an elemental inequality, from there on a constraint.
 fn generator_row(alloc: Global, problem: &Problem, index: u32) -> Result<Row, AllocError>
     requires problem { IsProblem (problem_view problem.now) }
     requires listed { index < length (generators (problem_view problem.now)) }
@@ -73,11 +73,12 @@ fn collapsed_row(
     ensures wide { IfErr result (λ f. f ≡ RowFault.Wide → ¬ (CollapseFits problem.now.space.variables dependences.now.list (generator_at (generators (problem_view problem.now)) index).row)) }
 {
     let row = generator_row(alloc, problem, index)?;
+    // named before it is answered, so that the contract of the call stands at the answer
     let closed = dependences.collapse(alloc, &row)?;
     Ok(closed)
 }
 
-/// Puts the columns that a row makes behind the others: an equation's second one is its row turned.
+/// Puts the columns that a row makes after the others: an equation's second one is its row turned.
 fn push_row(columns: &mut Vec<Row>, alloc: Global, kind: Kind, row: Row) -> Result<(), AllocError>
     ensures { OnOk result (columns.new.items ≡ columns.old.items ++ columns_by kind row) }
 {
@@ -95,7 +96,7 @@ fn push_row(columns: &mut Vec<Row>, alloc: Global, kind: Kind, row: Row) -> Resu
     }
 }
 
-/// Puts the columns of a generator over closed sets behind the others.
+/// Puts the columns of a generator over closed sets after the others.
 pub fn push_columns(
     columns: &mut Vec<Row>,
     alloc: Global,

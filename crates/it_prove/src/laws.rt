@@ -6,7 +6,7 @@ pub fn ends_are_right()
     ensures { EndsAreRight }
 {}
 
-/// A question has one outcome.
+/// A target under a problem has one outcome for a budget.
 pub fn one_outcome()
     ensures { OneProofView }
 {}
@@ -17,12 +17,12 @@ pub fn proven_ascends()
     ensures { ProvenAscends }
 {}
 
-/// Where no coefficient is large a run doesn't end before step 0.
+/// Where no coefficient is large no run ends at its start for want of width.
 pub fn never_at_start()
     ensures { NeverAtStart }
 {}
 
-/// Without a budget no question is left open for want of steps.
+/// Without a budget no target is left open for want of steps.
 pub fn never_out_of_steps()
     ensures { NeverOutOfSteps }
 {}

@@ -17,7 +17,7 @@ use it_fraction::Fraction;
 use it_space::{Point, Problem, Row, RowFault};
 use std::alloc::{AllocError, Global};
 
-/// Puts a coordinate with its value behind the others, unless the value is 0.
+/// Puts a coordinate with its value after the others, unless the value is 0.
 fn put_pair(
     terms: &mut Vec<(u32, i128)>,
     coordinates: &[u32],
@@ -41,13 +41,14 @@ fn terms_of_places(
     ensures { IfOk result (λ v. v.items ≡ terms_of_places coordinates.now values.now) }
 {
     let mut terms = Vec::new(alloc);
+    // by index, since the invariant speaks of both lists from k on
     for k in 0..coordinates.len() {
         put_pair(&mut terms, coordinates, values, k)?;
     }
     Ok(terms)
 }
 
-/// Puts the value of a coordinate, which a row over the places has at its place, behind the others.
+/// Puts the value of a coordinate, which a row over the places has at its place, after the others.
 fn put_value(
     values: &mut Vec<i128>,
     dependences: &Dependences,

@@ -1,4 +1,5 @@
 //! The answer about one target: collapse, run, lift or spread out, check.
+//! A last call is named before it is answered, so that its contract stands at the answer.
 ghost use Rattle.std.specs.Prelude.{◌≡◌, ◌≢◌, ◌++◌, ℕ, length, IfErr, IfOk, OnOk};
 ghost use Rattle.std.specs.Option.{IfNone};
 ghost use Rattle.it_rational.proofs.Field.{field_ℚ};
@@ -133,7 +134,7 @@ fn collapse_rows(
 }
 
 /// The answer by the run over closed sets, where all columns are there.
-fn on_closed(
+fn closed_proof(
     alloc: Global,
     problem: &Problem,
     closed: &ClosedProblem,
@@ -178,7 +179,7 @@ fn on_closed(
     }
 }
 
-/// The answer with more columns behind those that are there, which go again after the run.
+/// The answer with more columns put after those that are there; they are taken off once the run is over.
 fn with_columns(
     alloc: Global,
     problem: &Problem,
@@ -198,14 +199,14 @@ fn with_columns(
 {
     let count = closed.columns.len();
     closed.columns.append(&mut rows.columns)?;
-    let proof = on_closed(alloc, problem, closed, target, &rows.target, budget)?;
+    let proof = closed_proof(alloc, problem, closed, target, &rows.target, budget)?;
     closed.columns.truncate(count);
     Ok(proof)
 }
 
 impl ClosedProblem {
-    /// The answer of `prove` for a target under a problem that this one is of, or that goes on behind the constraints of such a
-    /// problem by constraints of `row` lines. It is then of the same problems as before.
+    /// The answer of `prove` for a target under a problem that this one is of, or that goes on after the constraints of
+    /// such a problem by constraints of `row` lines. It is then of the same problems as before.
     pub fn prove(
         &mut self,
         alloc: Global,

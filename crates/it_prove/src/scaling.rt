@@ -1,4 +1,5 @@
 //! Fractions made whole by the least common multiple of their denominators.
+//! The result of `push` is matched, since `?` makes no `RowFault` of its error.
 ghost use Rattle.std.specs.Prelude.{◌≡◌, ◌<◌, ◌^◌, ◌++◌, ◌∷◌, [], ℤ, pos, ◌*ℤ◌, map, All, IfErr, IfOk, OkIff, OnOk};
 ghost use Rattle.it_number.specs.Gcd.{lcm};
 ghost use Rattle.it_number.specs.Limit.{IsWithin};
@@ -51,7 +52,7 @@ fn scaled_number(number: &Fraction, scale: u128) -> Result<i128, WideNumber>
     product(number.num(), times as i128)
 }
 
-/// Puts the scale times a number behind the others.
+/// Puts the scale times a number after the others.
 fn put_value(values: &mut Vec<i128>, number: &Fraction, scale: u128) -> Result<(), RowFault>
     requires { scale < 2 ^ 127 }
     ensures value { OnOk result (values.new.items ≡ values.old.items ++ scaled_number scale number.now ∷ []) }
@@ -79,7 +80,7 @@ pub fn values(alloc: Global, numbers: &[Fraction], scale: u128) -> Result<Vec<i1
     Ok(values)
 }
 
-/// Puts the scale times a weight behind the others, after its column.
+/// Appends a term: the column of a weight with the scale times the weight.
 fn put_term(
     terms: &mut Vec<(u32, i128)>,
     weight: &(usize, Fraction),

@@ -1,3 +1,5 @@
+//! Tests: proofs and counterexamples of small problems, and what stays undecided.
+
 ghost use Rattle.std.specs.Prelude.{◌≡◌};
 ghost use Rattle.it_space.specs.Rows.{IsUpTo};
 

@@ -17,12 +17,12 @@ use Rattle.it_syntax.specs.Misspellings.{SpellsUntil}
 use Rattle.it_syntax.specs.NamesViews.{NamesView}
 use Rattle.it_syntax.specs.Spans.{letter_of, letters_until, last_letter}
 use Rattle.it_syntax.specs.Spelling.{is_word_byte, is_space, symbol_text, AreAll, IsText}
-use Rattle.it_syntax.specs.WrittenAtoms.{WrittenList}
+use Rattle.it_syntax.specs.WrittenMeasures.{WrittenList}
 use Rattle.it_syntax.proofs.RunLemmas.{value_digits}
 use Rattle.it_question.specs.AsciiTexts.{IsAsciiQuestion, TextsAreAscii}
 use Rattle.it_question.specs.Keywords.{vars_keyword, rates_keyword}
-use Rattle.it_question.specs.Lines.{TokenLine, split_lines, file_end, line_letters, letters_of_lines}
-use Rattle.it_question.specs.NewNames.{Sort, Variable, Rate, with_name, no_names, spell_new_more, spell_new_names, with_names, new_names_of, spell_names_line, names_line_of}
+use Rattle.it_question.specs.Lines.{LineView, split_lines, file_end, line_letters, letters_of_lines}
+use Rattle.it_question.specs.NewNames.{NameSortView, Variable, Rate, with_name, no_names, spell_new_more, spell_new_names, with_names, new_names_of, spell_names_line, names_line_of}
 use Rattle.it_question.specs.Questions.{QuestionView}
 use Rattle.it_question.specs.Texts.{without_leading, unless_blank, without_trailing, trimmed_line, text_of_lines, question_line_count, with_texts}
 use Rattle.it_question.specs.WrittenLines.{limit_mark}
@@ -84,12 +84,12 @@ spelled_ascii at bytes (t ∷ ts) h =
 
 -- ---- the text of lines
 
-behind_first : (b : ℕ) (bytes : List ℕ) → IsAscii (b ∷ bytes) → IsAscii bytes
-behind_first b bytes h = IsAscii-drop (b ∷ bytes) 1 h
+after_first : (b : ℕ) (bytes : List ℕ) → IsAscii (b ∷ bytes) → IsAscii bytes
+after_first b bytes h = IsAscii-drop (b ∷ bytes) 1 h
 
 leading_ascii : (line : List ℕ) → IsAscii line → IsAscii (without_leading line)
 leading_ascii [] h = h
-leading_ascii (b ∷ line) h = by_test (b == 32) (leading_ascii line (behind_first b line h))
+leading_ascii (b ∷ line) h = by_test (b == 32) (leading_ascii line (after_first b line h))
   where
     by_test : (t : Bool) → IsAscii (without_leading line) → IsAscii (cond t (without_leading line) (b ∷ line))
     by_test true g = g
@@ -105,9 +105,9 @@ unless_ascii b (c ∷ line) l h = IsAscii-cons b (c ∷ line) l h
 
 trailing_ascii : (line : List ℕ) → IsAscii line → IsAscii (without_trailing line)
 trailing_ascii [] h = h
-trailing_ascii (b ∷ line) h = unless_ascii b (without_trailing line) (h 0) (trailing_ascii line (behind_first b line h))
+trailing_ascii (b ∷ line) h = unless_ascii b (without_trailing line) (h 0) (trailing_ascii line (after_first b line h))
 
-lines_ascii : (lines : List TokenLine) → AreWhole lines → IsAscii (text_of_lines lines)
+lines_ascii : (lines : List LineView) → AreWhole lines → IsAscii (text_of_lines lines)
 lines_ascii [] h = IsAscii-nil
 lines_ascii (l ∷ lines) h =
     let line = trailing_ascii (without_leading l.text) (leading_ascii l.text (spelled_ascii 0 l.text l.tokens h.0.spelled)) in
@@ -138,7 +138,7 @@ until_words : (line : List ℕ) (ts : List Token) → IsAscii line → AsciiWord
 until_words line [] h = tt
 until_words line (t ∷ ts) h = letter_words line t.start t.end t.kind (letters_until line ts End) h (until_words line ts h)
 
-lines_words : (lines : List TokenLine) → AreWhole lines → AsciiWords (letters_of_lines lines)
+lines_words : (lines : List LineView) → AreWhole lines → AsciiWords (letters_of_lines lines)
 lines_words [] h = tt
 lines_words (l ∷ lines) h =
     let words = until_words l.text l.tokens (spelled_ascii 0 l.text l.tokens h.0.spelled) in
@@ -154,7 +154,7 @@ record AsciiNames (v : NamesView) : Type 0 where
 one_name : (w : List ℕ) → IsAscii w → All IsAscii (w ∷ [])
 one_name w h = All-cons IsAscii w [] h (All-nil IsAscii)
 
-name_ascii : (sort : Sort) (v : NamesView) (w : List ℕ) → AsciiNames v → IsAscii w → AsciiNames (with_name sort v w)
+name_ascii : (sort : NameSortView) (v : NamesView) (w : List ℕ) → AsciiNames v → IsAscii w → AsciiNames (with_name sort v w)
 name_ascii Variable v w a h = record { variables = All-append IsAscii v.variables (w ∷ []) a.variables (one_name w h); rates = a.rates }
 name_ascii Rate v w a h = record { variables = a.variables; rates = All-append IsAscii v.rates (w ∷ []) a.rates (one_name w h) }
 
@@ -162,14 +162,14 @@ name_ascii Rate v w a h = record { variables = a.variables; rates = All-append I
 abbrev Spelled : NamesView → MarkedLetters → Type 0
 Spelled v k = AsciiNames v × AsciiWords (letters k)
 
-more_spelled : (sort : Sort) (n : ℕ) (v : NamesView) (ws : List (List ℕ)) (k : MarkedLetters) → AsciiNames v → AsciiWords (letters (spell_new_more sort n v ws k)) → Spelled (with_names sort v ws) k
+more_spelled : (sort : NameSortView) (n : ℕ) (v : NamesView) (ws : List (List ℕ)) (k : MarkedLetters) → AsciiNames v → AsciiWords (letters (spell_new_more sort n v ws k)) → Spelled (with_names sort v ws) k
 more_spelled sort n v [] k a h = (a, h)
 more_spelled sort n v (w ∷ ws) k a h = more_spelled sort (n - 1) (with_name sort v w) ws k (name_ascii sort v w a h.0) h.1
 
-new_spelled : (sort : Sort) (n : ℕ) (v : NamesView) (l : WrittenList) (k : MarkedLetters) → AsciiNames v → AsciiWords (letters (spell_new_names sort n v l k)) → Spelled (new_names_of sort v l) k
+new_spelled : (sort : NameSortView) (n : ℕ) (v : NamesView) (l : WrittenList) (k : MarkedLetters) → AsciiNames v → AsciiWords (letters (spell_new_names sort n v l k)) → Spelled (new_names_of sort v l) k
 new_spelled sort n v l k a h = more_spelled sort (n - 1) (with_name sort v l.first) l.more k (name_ascii sort v l.first a h.0) h.1
 
-line_spelled : (sort : Sort) (n : ℕ) (keyword : List ℕ) (v : NamesView) (o : Option WrittenList) (k : MarkedLetters) → AsciiNames v → AsciiWords (letters (spell_names_line sort n keyword v o k)) → AsciiNames (names_line_of sort v o)
+line_spelled : (sort : NameSortView) (n : ℕ) (keyword : List ℕ) (v : NamesView) (o : Option WrittenList) (k : MarkedLetters) → AsciiNames v → AsciiWords (letters (spell_names_line sort n keyword v o k)) → AsciiNames (names_line_of sort v o)
 line_spelled sort n keyword v None k a h = a
 line_spelled sort n keyword v (Some l) k a h = (new_spelled sort n v l (without_mark End ∷ k) a h.1).0
 
@@ -183,7 +183,7 @@ names_ascii x k h =
 
 -- ---- files
 
-all_questions : (n : ℕ) (xs : List WrittenQuestion) (lines : List TokenLine) → spell_questions n xs (without_mark file_end ∷ []) ≡ without_marks (letters_of_lines lines) → AreSound lines → All IsAsciiQuestion (with_texts lines (questions_of xs))
+all_questions : (n : ℕ) (xs : List WrittenQuestion) (lines : List LineView) → spell_questions n xs (without_mark file_end ∷ []) ≡ without_marks (letters_of_lines lines) → AreSound lines → All IsAsciiQuestion (with_texts lines (questions_of xs))
 all_questions n [] lines e s = All-nil IsAsciiQuestion
 all_questions n (x ∷ xs) lines e s =
     let i = question_line_count (question_of x) in
@@ -197,7 +197,7 @@ all_questions n (x ∷ xs) lines e s =
     let q : QuestionView = record { body = question_of x; text = text_of_lines (take i lines) } in
     let first : IsAsciiQuestion q = record { text = lines_ascii (take i lines) d.whole; variables = names.variables; rates = names.rates } in
     All-cons IsAsciiQuestion q (with_texts (drop i lines) (questions_of xs)) first
-    (all_questions (n - 1) xs (drop i lines) (c.behind ∙ ap without_marks (sym d.behind)) d.sound)
+    (all_questions (n - 1) xs (drop i lines) (c.after ∙ ap without_marks (sym d.after)) d.sound)
 
 pub texts_are_ascii : TextsAreAscii
 texts_are_ascii bytes qs f = subst (All IsAsciiQuestion) f.are (all_questions most_questions f.trees f.lines f.spelled (lines_sound 1 (split_lines bytes) f.lines f.cut))

@@ -9,9 +9,9 @@ pub leading_kept : (line : List ℕ) → Stops is_space line → without_leading
 leading_kept [] s = refl
 leading_kept (b ∷ line) s = ap (λ (t : Bool). cond t (without_leading line) (b ∷ line)) s
 
-pub leading_behind : (gap line : List ℕ) → AreAll is_space gap → Stops is_space line → without_leading (gap ++ line) ≡ line
-leading_behind [] line h s = leading_kept line s
-leading_behind (b ∷ gap) line h s = ap (λ (t : Bool). cond t (without_leading (gap ++ line)) (b ∷ (gap ++ line))) h.0 ∙ leading_behind gap line h.1 s
+pub leading_after : (gap line : List ℕ) → AreAll is_space gap → Stops is_space line → without_leading (gap ++ line) ≡ line
+leading_after [] line h s = leading_kept line s
+leading_after (b ∷ gap) line h s = ap (λ (t : Bool). cond t (without_leading (gap ++ line)) (b ∷ (gap ++ line))) h.0 ∙ leading_after gap line h.1 s
 
 leading_stops : (line : List ℕ) → Stops is_space (without_leading line)
 leading_stops [] = tt
@@ -21,7 +21,7 @@ leading_stops (b ∷ line) = by_test (b == 32) refl (leading_stops line)
     by_test true e h = h
     by_test false e h = e
 
--- ---- behind
+-- ---- at the end
 
 blank_tail : (b : ℕ) (f : ℕ → Bool) (line : List ℕ) → f b ≡ false → Stops f (unless_blank b line)
 blank_tail b f [] e = by_test (b == 32)

@@ -6,7 +6,7 @@ use Rattle.it_syntax.specs.Letters.{Letter, MarkedLetters, without_mark, letters
 -- both parts of such letters
 pub record CleanParts (p k : MarkedLetters) (ls : List Letter) : Type 0 where
   pub front : p ≡ without_marks (letters p)
-  pub behind : k ≡ without_marks (letters k)
+  pub after : k ≡ without_marks (letters k)
   pub all : ls ≡ letters p ++ letters k
 
 clean_itself : (m : MarkedLetters) (ls : List Letter) → m ≡ without_marks ls → (m ≡ without_marks (letters m)) × (ls ≡ letters m)
@@ -21,7 +21,7 @@ clean_itself (x ∷ m) (l ∷ ls) e =
     (ap (λ (y : Letter × Option Code). y ∷ m) (first ∙ ap without_mark (sym letter)) ∙ ap (λ (q : MarkedLetters). without_mark x.0 ∷ q) k.0, ap (λ (y : Letter). y ∷ ls) (sym letter) ∙ ap (λ (q : List Letter). x.0 ∷ q) k.1)
 
 pub clean_parts : (p k : MarkedLetters) (ls : List Letter) → p ++ k ≡ without_marks ls → CleanParts p k ls
-clean_parts [] k ls e = let c = clean_itself k ls e in record { front = refl; behind = c.0; all = c.1 }
+clean_parts [] k ls e = let c = clean_itself k ls e in record { front = refl; after = c.0; all = c.1 }
 clean_parts (x ∷ p) k [] e = absurd cc
 clean_parts (x ∷ p) k (l ∷ ls) e =
     let first : x ≡ without_mark l = cc in
@@ -30,7 +30,7 @@ clean_parts (x ∷ p) k (l ∷ ls) e =
     let letter : x.0 ≡ l = ap (λ (y : Letter × Option Code). y.0) first in
     record {
       front = ap (λ (y : Letter × Option Code). y ∷ p) (first ∙ ap without_mark (sym letter)) ∙ ap (λ (q : MarkedLetters). without_mark x.0 ∷ q) c.front;
-      behind = c.behind;
+      after = c.after;
       all = ap (λ (y : Letter). y ∷ ls) (sym letter) ∙ ap (λ (q : List Letter). x.0 ∷ q) c.all;
     }
 

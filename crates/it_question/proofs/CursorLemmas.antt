@@ -7,20 +7,20 @@ use Rattle.it_syntax.specs.FirstFault.{own_code}
 use Rattle.it_syntax.specs.Spans.{letter_of, letters_until, last_letter}
 use Rattle.it_syntax.specs.Gives as gives
 use Rattle.it_question.specs.declared.cursor.Cursor.{Cursor}
-use Rattle.it_question.specs.Cursors.{token_line, left_of, letters_left}
+use Rattle.it_question.specs.Cursors.{line_view, left_of, letters_left}
 use Rattle.it_question.specs.Lines.{letters_of_lines}
 
--- the letters of the lines behind
+-- the letters of the lines after the cursor's
 abbrev pub later_letters : Cursor → List Letter
-later_letters c = letters_of_lines (map token_line c.behind.now)
+later_letters c = letters_of_lines (map line_view c.after.now)
 
 pub left_none : (c : Cursor) → c.rest ≡ None → letters_left c ≡ []
 unfolding letters_left
-left_none c e = ap (λ (o : Option Rest). left_of o c.behind.now) e
+left_none c e = ap (λ (o : Option Rest). left_of o c.after.now) e
 
 pub left_some : (c : Cursor) (r : Rest) → c.rest ≡ Some r → letters_left c ≡ gives.letters_left r ++ later_letters c
 unfolding letters_left
-left_some c r e = ap (λ (o : Option Rest). left_of o c.behind.now) e
+left_some c r e = ap (λ (o : Option Rest). left_of o c.after.now) e
 
 -- the code at the front of some letters is that of the first
 own_code-first : (l : Letter) (xs ys : List Letter) → own_code (l ∷ xs) ≡ own_code (l ∷ ys)
@@ -30,7 +30,7 @@ own_code-first (Sym s) xs ys = refl
 own_code-first End xs ys = refl
 own_code-first (Bad c) xs ys = refl
 
--- and so what stands behind a line doesn't change the code at its front
+-- and so what stands after a line doesn't change the code at its front
 pub own_code-line : (r : Rest) (more : List Letter) → own_code (gives.letters_left r ++ more) ≡ own_code (gives.letters_left r)
 own_code-line r more = by_tokens r.tokens.now
   where

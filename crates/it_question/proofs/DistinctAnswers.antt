@@ -3,8 +3,8 @@ use Rattle.std.proofs.Common.{ℕ, Bool, true, false, cond, List, [], ◌∷◌,
 use Rattle.it_syntax.specs.declared.types.Symbol.TheVariants.{Comma}
 use Rattle.it_syntax.specs.declared.types.Code.TheVariants as codes
 use Rattle.it_syntax.specs.Letters.{Word, Sym, MarkedLetters, letters}
-use Rattle.it_syntax.specs.AtomReading.{Reads, ◌>>=◌}
-use Rattle.it_syntax.specs.WrittenAtoms.{Environment, WrittenList, is_measure, index_or}
+use Rattle.it_syntax.specs.MeasureReading.{Reads, ◌>>=◌}
+use Rattle.it_syntax.specs.WrittenMeasures.{Environment, WrittenList, is_measure, index_or}
 use Rattle.it_question.specs.WrittenLines.{is_among, once_mark, spell_once, spell_once_more, spell_distinct, indexes_of, distinct_of}
 use Rattle.it_question.specs.Reading.{if_unseen, rate_once, read_once, read_once_more, read_distinct}
 use Rattle.it_syntax.proofs.SpelledIsRead.{Answers, answers_ok, answers_cons, answers_bind, NoComma}
@@ -29,7 +29,7 @@ no_more env seen [] free = answers_ok [] []
 no_more env seen ((Sym Comma, m) ∷ k) free = absurd free
 no_more env seen (x ∷ k) free = answers_ok [] (x ∷ k)
 
--- a rate, and what is read behind it
+-- a rate, and what is read after it
 rate_then : (measure : Bool) (seen : List ℕ) (o : Option ℕ) (w : List ℕ) (f : ℕ → Reads (List ℕ)) (n k : MarkedLetters) (is : List ℕ) → Answers (f (index_or o)) n is k
     → Answers (rate_once measure seen o w (letters n) >>= λ i. f i.0 >>= λ more. Ok (i.0 ∷ more.0, more.1)) ((Word w, once_mark measure seen o) ∷ n) (index_or o ∷ is) k
 rate_then measure seen o w f n k is h =

@@ -9,10 +9,10 @@ use Rattle.it_syntax.specs.declared.types.Token.{Token}
 use Rattle.it_syntax.specs.Letters.{Letter, End, Bad, MarkedLetters, without_mark, letters, without_marks}
 use Rattle.it_syntax.specs.FirstFault.{FirstFault}
 use Rattle.it_syntax.specs.Misspellings.{SpellsUntil}
-use Rattle.it_syntax.specs.AtomReading.{Reads}
-use Rattle.it_syntax.proofs.FirstFaults.{letters_append, letters_behind, reads_only}
+use Rattle.it_syntax.specs.MeasureReading.{Reads}
+use Rattle.it_syntax.proofs.FirstFaults.{letters_append, letters_after, reads_only}
 use Rattle.it_question.specs.Files.{IsFile, FileFaultAt, FileHasOne}
-use Rattle.it_question.specs.Lines.{TokenLine, AreLines, AreLinesOf, split_lines, plain_text, file_end, end_line, letters_of_lines, places_of_lines}
+use Rattle.it_question.specs.Lines.{LineView, AreLines, AreLinesOf, split_lines, plain_text, file_end, end_line, letters_of_lines, places_of_lines}
 use Rattle.it_question.specs.Questions.{BodyView, QuestionView}
 use Rattle.it_question.specs.Reading.{read_file}
 use Rattle.it_question.specs.Texts.{with_texts}
@@ -28,15 +28,15 @@ use Rattle.it_question.proofs.TokensExist.{tokens_there}
 -- ---- its lines
 
 abbrev LinesFrom : ℕ → List (List ℕ) → Type 0
-LinesFrom n split = (lines : List TokenLine) × AreLines n split lines
+LinesFrom n split = (lines : List LineView) × AreLines n split lines
 
 line_there : (n : ℕ) (bytes : List ℕ) (more : List (List ℕ)) (ts : List Token) (m : Option Misspelling) → SpellsUntil 0 (plain_text bytes) ts m → LinesFrom (n + 1) more → LinesFrom n (bytes ∷ more)
 line_there n bytes more [] None h rest = (rest.0, inl (h, rest.1))
 line_there n bytes more [] (Some m) h rest =
-    let l : TokenLine = record { number = n; text = plain_text bytes; tokens = []; misspelling = Some m } in
+    let l : LineView = record { number = n; text = plain_text bytes; tokens = []; misspelling = Some m } in
     (l ∷ rest.0, inr (l, rest.0, refl, record { number = refl; text = refl; spelled = h }, tt, rest.1))
 line_there n bytes more (t ∷ ts) m h rest =
-    let l : TokenLine = record { number = n; text = plain_text bytes; tokens = t ∷ ts; misspelling = m } in
+    let l : LineView = record { number = n; text = plain_text bytes; tokens = t ∷ ts; misspelling = m } in
     (l ∷ rest.0, inr (l, rest.0, refl, record { number = refl; text = refl; spelled = h }, tt, rest.1))
 
 -- each list of lines has its tokens
@@ -58,7 +58,7 @@ no_letters : (m : MarkedLetters) → letters m ≡ [] → m ≡ []
 no_letters [] e = refl
 no_letters (x ∷ m) e = absurd cc
 
-pub letters_left : (bytes : List ℕ) (lines : List TokenLine) (c : Code) → AreLinesOf bytes lines → read_file (letters_of_lines lines) ≡ Err (c, []) → ⊥
+pub letters_left : (bytes : List ℕ) (lines : List LineView) (c : Code) → AreLinesOf bytes lines → read_file (letters_of_lines lines) ≡ Err (c, []) → ⊥
 letters_left bytes lines c cut e =
     let ls = letters_of_lines lines in
     let f : FirstFault spell_file ls c [] = read_stops lines c [] e in
@@ -66,7 +66,7 @@ letters_left bytes lines c cut e =
     let p = questions_put most_questions f.tree in
     let front : f.front ≡ end.0 ++ file_end ∷ [] = sym (append-nil f.front) ∙ sym f.parts ∙ end.1 in
     let spelled : letters p.front ++ file_end ∷ [] ≡ end.0 ++ file_end ∷ letters f.more =
-    sym (letters_append p.front (without_mark file_end ∷ [])) ∙ ap letters (sym (p.is (without_mark file_end ∷ [])) ∙ f.viable) ∙ letters_behind f.front f.more ∙ ap (λ (t : List Letter). t ++ letters f.more) front ∙ append_assoc end.0 (file_end ∷ []) (letters f.more) in
+    sym (letters_append p.front (without_mark file_end ∷ [])) ∙ ap letters (sym (p.is (without_mark file_end ∷ [])) ∙ f.viable) ∙ letters_after f.front f.more ∙ ap (λ (t : List Letter). t ++ letters f.more) front ∙ append_assoc end.0 (file_end ∷ []) (letters f.more) in
     let none : f.more ≡ [] = no_letters f.more (lines_then_end _ (letters p.front) p.kind end.0 (letters f.more) spelled) in
     let whole : spell_file f.tree ≡ without_marks ls = f.viable ∙ ap (λ (m : MarkedLetters). without_marks f.front ++ m) none ∙ append-nil (without_marks f.front) ∙ ap without_marks (sym (append-nil f.front) ∙ sym f.parts) in
     let read : read_file ls ≡ Ok (questions_of f.tree, []) = reads_only read_file (λ xs k. spell_questions most_questions xs (without_mark file_end ∷ k)) questions_of (λ xs. file_answers xs []) f.tree ls whole in
@@ -77,7 +77,7 @@ letters_left bytes lines c cut e =
 abbrev HasOne : List ℕ → Type 0
 HasOne bytes = ((qs : List QuestionView) × IsFile bytes qs) ⊎ ((line : ℕ) × (column : ℕ) × (c : Code) × FileFaultAt bytes line column c)
 
-fault_exists : (bytes : List ℕ) (lines : List TokenLine) (c : Code) (r : List Letter) → AreLinesOf bytes lines → read_file (letters_of_lines lines) ≡ Err (c, r) → HasOne bytes
+fault_exists : (bytes : List ℕ) (lines : List LineView) (c : Code) (r : List Letter) → AreLinesOf bytes lines → read_file (letters_of_lines lines) ≡ Err (c, r) → HasOne bytes
 fault_exists bytes lines c [] cut e = absurd (letters_left bytes lines c cut e)
 fault_exists bytes lines c (l ∷ r) cut e =
     let f = read_stops lines c (l ∷ r) e in

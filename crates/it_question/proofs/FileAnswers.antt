@@ -4,8 +4,8 @@ use Rattle.it_syntax.specs.declared.types.Code.TheVariants as codes
 use Rattle.it_syntax.specs.NamesViews.{NamesView}
 use Rattle.it_syntax.specs.Letters.{Word, End, MarkedLetters, without_mark, letters}
 use Rattle.it_syntax.specs.Lines.{to_end}
-use Rattle.it_syntax.specs.AtomReading.{◌>>=◌}
-use Rattle.it_syntax.specs.WrittenAtoms.{WrittenList}
+use Rattle.it_syntax.specs.MeasureReading.{◌>>=◌}
+use Rattle.it_syntax.specs.WrittenMeasures.{WrittenList}
 use Rattle.it_syntax.specs.WrittenRelations.{WrittenRelation, spell_relation, relation_of}
 use Rattle.it_syntax.specs.Scopes.{scope_of}
 use Rattle.it_syntax.specs.RelationReading.{read_relation}
@@ -17,7 +17,7 @@ use Rattle.it_question.specs.NewNames.{Variable, Rate, no_names, spell_new_names
 use Rattle.it_question.specs.WrittenLines.{spell_own, own_of, rates_env, spell_distinct, distinct_of}
 use Rattle.it_question.specs.WrittenRegions.{givens_left, rows_left}
 use Rattle.it_question.specs.WrittenFiles.{spell_verb, verb_of, names_of, spell_question, question_of, spell_questions, questions_of}
-use Rattle.it_question.specs.Reading.{behind_word, read_new_names, read_names_line, read_lines, read_distinct, read_proof, read_elimination, read_verb, read_question, read_end, read_questions, read_file}
+use Rattle.it_question.specs.Reading.{after_word, read_new_names, read_names_line, read_lines, read_distinct, read_proof, read_elimination, read_verb, read_question, read_end, read_questions, read_file}
 use Rattle.it_syntax.proofs.SpelledIsRead.{Answers, answers_ok, answers_cons, answers_bind}
 use Rattle.it_syntax.proofs.LineEnd.{to_end_answers}
 use Rattle.it_question.proofs.NameAnswers.{answers_at_mark, names_to_end_answers, names_line_answers}
@@ -51,30 +51,30 @@ verb_answers g r v (Contain x) k = answers_cons (Word region_keyword) _ (spell_c
 
 -- it begins with a word that begins no line before it
 verb_no_own : (g r : ℕ) (v : NamesView) (x : WrittenVerb) (k : MarkedLetters) → NoOwn (spell_verb g r v x k)
-unfolding behind_word
+unfolding after_word
 verb_no_own g r v (Prove x) k = record { no_given = refl; no_row = refl }
 verb_no_own g r v (Eliminate l) k = record { no_given = refl; no_row = refl }
 verb_no_own g r v (Contain x) k = record { no_given = refl; no_row = refl }
 
-verb_no_rates : (g r : ℕ) (v : NamesView) (x : WrittenVerb) (k : MarkedLetters) → behind_word rates_keyword (letters (spell_verb g r v x k)) ≡ None
-unfolding behind_word
+verb_no_rates : (g r : ℕ) (v : NamesView) (x : WrittenVerb) (k : MarkedLetters) → after_word rates_keyword (letters (spell_verb g r v x k)) ≡ None
+unfolding after_word
 verb_no_rates g r v (Prove x) k = refl
 verb_no_rates g r v (Eliminate l) k = refl
 verb_no_rates g r v (Contain x) k = refl
 
 -- ---- questions
 
--- a question behind `vars`
+-- a question after `vars`
 pub question_answers : (x : WrittenQuestion) (k : MarkedLetters) → Answers (read_question (letters (spell_question x k))) (spell_question x k) (question_of x) k
 unfolding read_question
 question_answers x k =
     let variables = new_names_of Variable no_names x.variables in
     let names = names_of x in
-    let own = own_of names x.own in
+    let own = own_of names x.lines in
     let givens = givens_left most_lines own in
     let rows = rows_left most_lines own in
     let verb = spell_verb givens rows names x.verb k in
-    let lines = spell_own most_lines most_lines names x.own verb in
+    let lines = spell_own most_lines most_lines names x.lines verb in
     let rates = spell_names_line Rate most_rates rates_keyword variables x.rates lines in
     let all = spell_new_names Variable most_variables no_names x.variables (without_mark End ∷ rates) in
     let aim = verb_of names x.verb in
@@ -82,14 +82,14 @@ question_answers x k =
     answers_bind (to_end (read_new_names Variable most_variables no_names) (letters all)) (λ variables. read_names_line Rate most_rates rates_keyword variables.0 variables.1 >>= λ names. read_lines most_lines most_lines names.0 names.1 >>= λ own. read_verb (givens_left most_lines own.0) (rows_left most_lines own.0) names.0 own.1 >>= λ aim. Ok (record { names = names.0; lines = own.0; verb = aim.0 }, aim.1)) all rates k variables y
     (names_to_end_answers Variable most_variables no_names x.variables rates)
     (answers_bind (read_names_line Rate most_rates rates_keyword variables (letters rates)) (λ names. read_lines most_lines most_lines names.0 names.1 >>= λ own. read_verb (givens_left most_lines own.0) (rows_left most_lines own.0) names.0 own.1 >>= λ aim. Ok (record { names = names.0; lines = own.0; verb = aim.0 }, aim.1)) rates lines k names y
-    (names_line_answers Rate most_rates rates_keyword variables x.rates lines refl (own_no_word rates_keyword most_lines most_lines names x.own verb refl refl (verb_no_rates givens rows names x.verb k)))
+    (names_line_answers Rate most_rates rates_keyword variables x.rates lines refl (own_no_word rates_keyword most_lines most_lines names x.lines verb refl refl (verb_no_rates givens rows names x.verb k)))
     (answers_bind (read_lines most_lines most_lines names (letters lines)) (λ own. read_verb (givens_left most_lines own.0) (rows_left most_lines own.0) names own.1 >>= λ aim. Ok (record { names = names; lines = own.0; verb = aim.0 }, aim.1)) lines verb k own y
-    (lines_answers most_lines most_lines names x.own verb (verb_no_own givens rows names x.verb k))
+    (lines_answers most_lines most_lines names x.lines verb (verb_no_own givens rows names x.verb k))
     (answers_bind (read_verb givens rows names (letters verb)) (λ aim. Ok (record { names = names; lines = own; verb = aim.0 }, aim.1)) verb k k aim y (verb_answers givens rows names x.verb k) (answers_ok y k))))
 
 -- questions up to the file's end, of which n are allowed
 pub questions_answers : (n : ℕ) (xs : List WrittenQuestion) (k : MarkedLetters) → Answers (read_questions n (letters (spell_questions n xs (without_mark file_end ∷ k)))) (spell_questions n xs (without_mark file_end ∷ k)) (questions_of xs) k
-unfolding read_questions read_end behind_word
+unfolding read_questions read_end after_word
 questions_answers zero [] k = answers_cons file_end _ k [] k (answers_ok [] k)
 questions_answers (suc n) [] k = answers_cons file_end _ k [] k (answers_ok [] k)
 questions_answers zero (x ∷ xs) k =

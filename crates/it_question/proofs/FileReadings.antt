@@ -14,7 +14,7 @@ use Rattle.it_question.specs.declared.bodies.Body.{Body}
 use Rattle.it_question.specs.Bodies.{body_view}
 use Rattle.it_question.specs.Files.{place_of, IsFile, IsFirstFileFault}
 use Rattle.it_question.specs.Stops.{IsLeft, IfFault, IsStopAt}
-use Rattle.it_question.specs.Lines.{TokenLine, AreLinesOf, letters_of_lines}
+use Rattle.it_question.specs.Lines.{LineView, AreLinesOf, letters_of_lines}
 use Rattle.it_question.specs.Limits.{IsQuestion}
 use Rattle.it_question.specs.Questions.{BodyView, QuestionView, question_body, question_view}
 use Rattle.it_question.specs.Reading.{read_file}
@@ -26,13 +26,13 @@ use Rattle.it_question.proofs.LetterLemmas.{letters_bound, places_length}
 use Rattle.it_question.proofs.ExistenceLemmas.{letters_left}
 
 -- a file whose letters were read
-pub file_read : (bytes : List ℕ) (lines : List TokenLine) (ys : List BodyView) (r : List Letter) (qs : List QuestionView) → AreLinesOf bytes lines → read_file (letters_of_lines lines) ≡ Ok (ys, r) → qs ≡ with_texts lines ys → IsFile bytes qs
+pub file_read : (bytes : List ℕ) (lines : List LineView) (ys : List BodyView) (r : List Letter) (qs : List QuestionView) → AreLinesOf bytes lines → read_file (letters_of_lines lines) ≡ Ok (ys, r) → qs ≡ with_texts lines ys → IsFile bytes qs
 file_read bytes lines ys r qs cut e are =
     let k = read_asks bytes lines ys r cut e in
     record { lines = lines; cut = cut; trees = k.0; spelled = k.1.0; are = ap (with_texts lines) k.1.1 ∙ sym are }
 
 -- the questions with their texts are those that were read
-body_again : (lines : List TokenLine) (ys : List BodyView) → map (λ (q : QuestionView). q.body) (with_texts lines ys) ≡ ys
+body_again : (lines : List LineView) (ys : List BodyView) → map (λ (q : QuestionView). q.body) (with_texts lines ys) ≡ ys
 body_again lines [] = refl
 body_again lines (y ∷ ys) = ap (λ (qs : List BodyView). y ∷ qs) (body_again (drop (question_line_count y) lines) ys)
 
@@ -41,10 +41,10 @@ from_map : {X Y : Type 0} (P : Y → Type 0) (f : X → Y) (xs : List X) → All
 from_map P f [] h = λ k d lt. absurd (omega (arith, lt))
 from_map P f (x ∷ xs) h = All-cons (λ y. P (f y)) x xs (All-head P (f x) (map f xs) h) (from_map P f xs (All-tail P (f x) (map f xs) h))
 
-pub bodies_limited : (bodies : List Body) (lines : List TokenLine) (r : List Letter) → read_file (letters_of_lines lines) ≡ Ok (map body_view bodies, r) → All (λ b. IsQuestion (body_view b)) bodies
+pub bodies_limited : (bodies : List Body) (lines : List LineView) (r : List Letter) → read_file (letters_of_lines lines) ≡ Ok (map body_view bodies, r) → All (λ b. IsQuestion (body_view b)) bodies
 bodies_limited bodies lines r e = from_map IsQuestion body_view bodies (file_limited (letters_of_lines lines) r (map body_view bodies) e)
 
-pub questions_limited : (qs : List Question) (lines : List TokenLine) (ys : List BodyView) (r : List Letter) → read_file (letters_of_lines lines) ≡ Ok (ys, r) → map question_view qs ≡ with_texts lines ys → All (λ q. IsQuestion (question_body q)) qs
+pub questions_limited : (qs : List Question) (lines : List LineView) (ys : List BodyView) (r : List Letter) → read_file (letters_of_lines lines) ≡ Ok (ys, r) → map question_view qs ≡ with_texts lines ys → All (λ q. IsQuestion (question_body q)) qs
 questions_limited qs lines ys r e are =
     let same : map question_body qs ≡ ys = map_twice qs ∙ ap (map (λ (q : QuestionView). q.body)) are ∙ body_again lines ys in
     from_map IsQuestion question_body qs (subst (All IsQuestion) (sym same) (file_limited (letters_of_lines lines) r ys e))
@@ -62,17 +62,17 @@ file_limits bytes qs f =
 
 -- ---- a fault
 
-pub few_letters : (bytes : List ℕ) (lines : List TokenLine) → AreLinesOf bytes lines → length bytes ≤ 1048577 → length (letters_of_lines lines) ≤ 2 ^ 32
+pub few_letters : (bytes : List ℕ) (lines : List LineView) → AreLinesOf bytes lines → length bytes ≤ 1048577 → length (letters_of_lines lines) ≤ 2 ^ 32
 few_letters bytes lines cut few = omega (arith, letters_bound bytes lines cut, few)
 
-pub some_left : (bytes : List ℕ) (lines : List TokenLine) (stop : Stop) (r : List Letter) → AreLinesOf bytes lines → StopsAs stop r (read_file (letters_of_lines lines)) → IfFault stop (IsLeft lines r)
+pub some_left : (bytes : List ℕ) (lines : List LineView) (stop : Stop) (r : List Letter) → AreLinesOf bytes lines → StopsAs stop r (read_file (letters_of_lines lines)) → IfFault stop (IsLeft lines r)
 some_left bytes lines stops.Memory r cut e = tt
 some_left bytes lines (stops.Fault c) [] cut e = absurd (letters_left bytes lines c cut e)
 some_left bytes lines (stops.Fault c) (l ∷ r) cut e =
     let f = read_stops lines c (l ∷ r) e in
     record { within = omega (arith, ap length f.parts, length-append f.front (l ∷ r)); some = omega (arith, places_length lines, ap length f.parts, length-append f.front (l ∷ r)) }
 
-pub first_file_fault : (bytes : List ℕ) (lines : List TokenLine) (stop : Stop) (r : List Letter) (fault : FileFault) → AreLinesOf bytes lines → StopsAs stop r (read_file (letters_of_lines lines)) → IsStopAt (place_of lines r) stop fault → IsFirstFileFault bytes fault
+pub first_file_fault : (bytes : List ℕ) (lines : List LineView) (stop : Stop) (r : List Letter) (fault : FileFault) → AreLinesOf bytes lines → StopsAs stop r (read_file (letters_of_lines lines)) → IsStopAt (place_of lines r) stop fault → IsFirstFileFault bytes fault
 first_file_fault bytes lines stops.Memory r fault cut e at = subst (IsFirstFileFault bytes) (sym at) tt
 first_file_fault bytes lines (stops.Fault c) r Memory cut e at = absurd at
 first_file_fault bytes lines (stops.Fault c) r (Fault line column code) cut e at =

@@ -7,26 +7,26 @@ use Rattle.it_syntax.specs.NamesViews.{NamesView}
 use Rattle.it_syntax.specs.Letters.{Letter, Word, End, Bad, MarkedLetters, without_mark}
 use Rattle.it_syntax.specs.FirstFault.{head}
 use Rattle.it_syntax.specs.Lines.{to_end}
-use Rattle.it_syntax.specs.AtomReading.{Reads, ◌>>=◌}
-use Rattle.it_syntax.specs.WrittenAtoms.{WrittenList}
+use Rattle.it_syntax.specs.MeasureReading.{Reads, ◌>>=◌}
+use Rattle.it_syntax.specs.WrittenMeasures.{WrittenList}
 use Rattle.it_syntax.specs.WrittenRelations.{WrittenRelation, spell_relation, relation_of}
 use Rattle.it_syntax.specs.Scopes.{scope_of}
 use Rattle.it_syntax.specs.RelationReading.{read_relation}
 use Rattle.it_syntax.proofs.Traces.{By, Traces, traces_bind, traces_map, letter_then, by_equal_reader, by_renaming}
-use Rattle.it_syntax.proofs.AtomTraces.{stuck_here, stuck_none}
+use Rattle.it_syntax.proofs.MeasureTraces.{stuck_here, stuck_none}
 use Rattle.it_syntax.proofs.RelationTraces.{relation_traces}
 use Rattle.it_syntax.proofs.LineEnd.{to_end_traces}
 use Rattle.it_question.specs.Lines.{file_end}
 use Rattle.it_question.specs.Keywords.{vars_keyword, rates_keyword, region_keyword, prove_keyword, eliminate_keyword}
 use Rattle.it_question.specs.Questions.{OwnLinesView, VerbView, BodyView}
 use Rattle.it_question.specs.Questions as views
-use Rattle.it_question.specs.WrittenQuestions.{WrittenLine, WrittenVerb, Prove, Eliminate, Contain, WrittenQuestion, most_questions, most_variables, most_rates, most_lines}
+use Rattle.it_question.specs.WrittenQuestions.{WrittenOwnLine, WrittenVerb, Prove, Eliminate, Contain, WrittenQuestion, most_questions, most_variables, most_rates, most_lines}
 use Rattle.it_question.specs.NewNames.{Variable, Rate, no_names, spell_new_names, new_names_of, spell_names_line, names_line_of}
 use Rattle.it_question.specs.WrittenLines.{spell_own, own_of, spell_distinct, distinct_of, rates_env}
 use Rattle.it_question.specs.WrittenRegions.{givens_left, rows_left, containment_of}
 use Rattle.it_question.specs.WrittenFiles.{spell_verb, verb_of, spell_question, question_of, spell_questions, questions_of}
-use Rattle.it_question.specs.Reading.{behind_word, read_new_names, read_names_line, read_lines, read_distinct, read_containment, read_proof, read_elimination, read_verb, read_question, read_end, question_then, if_question, read_questions, read_file}
-use Rattle.it_question.proofs.NameTraces.{marked_here, at_word, behind_traced, new_names_traces, names_line_traces}
+use Rattle.it_question.specs.Reading.{after_word, read_new_names, read_names_line, read_lines, read_distinct, read_containment, read_proof, read_elimination, read_verb, read_question, read_end, question_then, if_question, read_questions, read_file}
+use Rattle.it_question.proofs.NameTraces.{marked_here, at_word, after_traced, new_names_traces, names_line_traces}
 use Rattle.it_question.proofs.LineTraces.{some_relation, lines_traces}
 use Rattle.it_question.proofs.DistinctTraces.{distinct_traces}
 use Rattle.it_question.proofs.RegionAnswers.{spell_contained}
@@ -37,7 +37,7 @@ use Rattle.it_question.proofs.RegionTraces.{containment_traces}
 abbrev pub spell_proof : NamesView → WrittenRelation → MarkedLetters → MarkedLetters
 spell_proof v x k = spell_relation (scope_of v true) x (without_mark End ∷ k)
 
--- behind `prove`
+-- after `prove`
 pub proof_traces : (v : NamesView) → Traces (read_proof v) (spell_proof v) (λ x. views.Prove (relation_of (scope_of v true) x))
 unfolding read_proof
 proof_traces v = traces_map (to_end (read_relation (scope_of v true))) views.Prove (spell_proof v) (relation_of (scope_of v true)) (to_end_traces (read_relation (scope_of v true)) (spell_relation (scope_of v true)) (relation_of (scope_of v true)) (relation_traces (scope_of v true)))
@@ -45,7 +45,7 @@ proof_traces v = traces_map (to_end (read_relation (scope_of v true))) views.Pro
 abbrev pub spell_elimination : NamesView → WrittenList → MarkedLetters → MarkedLetters
 spell_elimination v l k = spell_distinct (rates_env v) l (without_mark End ∷ k)
 
--- behind `eliminate`
+-- after `eliminate`
 pub elimination_traces : (v : NamesView) → Traces (read_elimination v) (spell_elimination v) (λ l. views.Eliminate (distinct_of (rates_env v) l))
 unfolding read_elimination
 elimination_traces v = traces_map (to_end (read_distinct (rates_env v))) views.Eliminate (spell_elimination v) (distinct_of (rates_env v)) (to_end_traces (read_distinct (rates_env v)) (spell_distinct (rates_env v)) (distinct_of (rates_env v)) (distinct_traces (rates_env v)))
@@ -84,9 +84,9 @@ body_by v own aim = record { names = v; lines = own; verb = aim }
 abbrev verb_then : NamesView → OwnLinesView → List Letter → Reads BodyView
 verb_then v own ls = read_verb (givens_left most_lines own) (rows_left most_lines own) v ls >>= λ aim. Ok (body_by v own aim.0, aim.1)
 
--- behind the names: lines, and what is wanted
+-- after the names: lines, and what is wanted
 abbrev Body : Type 0
-Body = List WrittenLine × WrittenVerb
+Body = List WrittenOwnLine × WrittenVerb
 
 abbrev read_body : NamesView → List Letter → Reads BodyView
 read_body v ls = read_lines most_lines most_lines v ls >>= λ own. verb_then v own.0 own.1
@@ -107,7 +107,7 @@ body_traces v = traces_bind (read_lines most_lines most_lines v) (verb_then v) (
 some_body : Body
 some_body = ([], some_verb)
 
--- behind the line of variables
+-- after the line of variables
 abbrev Rest : Type 0
 Rest = Option WrittenList × Body
 
@@ -125,16 +125,16 @@ rest_traces v = traces_bind (read_names_line Rate most_rates rates_keyword v) re
     (record { is = λ ls. refl; spells = λ y z k. refl; value = λ y z. refl; some = some_body; first = names_line_traces Rate most_rates rates_keyword v; second = body_traces })
 
 abbrev question_made : WrittenList → Rest → WrittenQuestion
-question_made l x = record { variables = l; rates = x.0; own = x.1.0; verb = x.1.1 }
+question_made l x = record { variables = l; rates = x.0; lines = x.1.0; verb = x.1.1 }
 
--- a question behind its word `vars`
+-- a question after its word `vars`
 pub question_traces : Traces read_question spell_question question_of
 unfolding read_question
 question_traces = traces_bind (to_end (read_new_names Variable most_variables no_names)) read_rest read_question (λ l k. spell_new_names Variable most_variables no_names l (without_mark End ∷ k)) spell_rest spell_question (new_names_of Variable no_names) rest_of question_of question_made
     (record { is = λ ls. refl; spells = λ y z k. refl; value = λ y z. refl; some = (None, some_body); first = to_end_traces (read_new_names Variable most_variables no_names) (spell_new_names Variable most_variables no_names) (new_names_of Variable no_names) (new_names_traces Variable most_variables no_names); second = rest_traces })
 
 some_question : WrittenQuestion
-some_question = record { variables = record { first = 88 ∷ []; more = [] }; rates = None; own = []; verb = some_verb }
+some_question = record { variables = record { first = 88 ∷ []; more = [] }; rates = None; lines = []; verb = some_verb }
 
 -- ---- files
 
@@ -155,7 +155,7 @@ no_question_left n ls h = subst (λ (t : Reads (List BodyView)). By (read_questi
     (by_equal_reader read_end (read_questions n) (spell_to_end n) questions_of ls h (read_end ls)
     (by_renaming read_end (λ (u : Unit {0}) k. without_mark file_end ∷ k) (spell_to_end n) (λ u. []) questions_of (λ u. []) ls (λ z k. refl) (λ z. refl) (read_end ls) (file_end_traces ls)))
 
--- a question, and those behind it
+-- a question, and those after it
 abbrev Questions : Type 0
 Questions = WrittenQuestion × List WrittenQuestion
 
@@ -179,12 +179,12 @@ questions_spelled n x k =
 
 -- questions up to the file's end, of which n are allowed
 pub questions_traces : (n : ℕ) → Traces (read_questions n) (λ xs k. spell_questions n xs (without_mark file_end ∷ k)) questions_of
-unfolding read_questions behind_word
+unfolding read_questions after_word
 questions_traces zero ls = at_word vars_keyword (read_questions zero) (spell_to_end zero) questions_of ls
-    (λ behind. marked_here (read_questions zero) (spell_to_end zero) (some_question ∷ []) (Word vars_keyword) behind codes.Many (λ k. spell_question some_question (without_mark file_end ∷ k)) (λ k. refl) (λ s. refl))
-    (λ h. no_question_left zero ls (λ s e. ap (λ (o : Option (List Letter)). if_question (λ behind. Err (codes.Many, s)) o s) (h s e)))
+    (λ after. marked_here (read_questions zero) (spell_to_end zero) (some_question ∷ []) (Word vars_keyword) after codes.Many (λ k. spell_question some_question (without_mark file_end ∷ k)) (λ k. refl) (λ s. refl))
+    (λ h. no_question_left zero ls (λ s e. ap (λ (o : Option (List Letter)). if_question (λ after. Err (codes.Many, s)) o s) (h s e)))
 questions_traces (suc n) ls = at_word vars_keyword (read_questions (suc n)) (spell_to_end (suc n)) questions_of ls
-    (λ behind. behind_traced vars_keyword (read_questions (suc n)) (question_then (read_questions n)) (spell_question_then n) (spell_to_end (suc n)) question_then_of questions_of questions_made behind (λ s. refl) (questions_spelled n) (λ z. refl) (question_then_traces n (questions_traces n)))
+    (λ after. after_traced vars_keyword (read_questions (suc n)) (question_then (read_questions n)) (spell_question_then n) (spell_to_end (suc n)) question_then_of questions_of questions_made after (λ s. refl) (questions_spelled n) (λ z. refl) (question_then_traces n (questions_traces n)))
     (λ h. no_question_left (suc n) ls (λ s e. ap (λ (o : Option (List Letter)). if_question (question_then (read_questions n)) o s) (h s e)))
 
 -- a whole file

@@ -8,7 +8,7 @@ use Rattle.it_syntax.specs.NamesViews.{NamesView}
 use Rattle.it_syntax.specs.Letters.{Letter, Word, Bad}
 use Rattle.it_syntax.specs.Lines.{to_end}
 use Rattle.it_syntax.specs.Meaning.{RelationView}
-use Rattle.it_syntax.specs.AtomReading.{Reads, ◌>>=◌, no_rule, line_end}
+use Rattle.it_syntax.specs.MeasureReading.{Reads, ◌>>=◌, no_rule, line_end}
 use Rattle.it_syntax.specs.Scopes.{env_of, scope_of}
 use Rattle.it_syntax.specs.RelationReading.{read_relation}
 use Rattle.it_question.specs.Keywords.{vars_keyword, rates_keyword, region_keyword, aux_keyword, prove_keyword, eliminate_keyword, contain_keyword}
@@ -19,7 +19,7 @@ use Rattle.it_question.specs.WrittenQuestions.{most_questions, most_variables, m
 use Rattle.it_question.specs.WrittenRegions.{auxiliaries_left, auxiliary_env, givens_left, rows_left}
 use Rattle.it_question.specs.WrittenLines.{rates_env}
 use Rattle.it_question.specs.WrittenTries.{unnamed_sets}
-use Rattle.it_question.specs.Reading.{behind_word, read_word, read_word_line, read_new_names, read_names_line, read_lines, read_distinct, read_tries, read_region, read_containment, read_proof, read_elimination, read_verb, read_question, read_end, question_then, if_question, read_questions, read_file}
+use Rattle.it_question.specs.Reading.{after_word, read_word, read_word_line, read_new_names, read_names_line, read_lines, read_distinct, read_tries, read_region, read_containment, read_proof, read_elimination, read_verb, read_question, read_end, question_then, if_question, read_questions, read_file}
 use Rattle.it_syntax.proofs.LimitLemmas.{Sure, sure_bind, Any, sure_any, knows_names}
 use Rattle.it_question.proofs.NameLimits.{ended_sure, IsGrown, Grows, new_names_sure, names_line_sure}
 use Rattle.it_question.proofs.LineLimits.{OverRelation, relation_sure, AreOwn, Own, lines_sure}
@@ -146,7 +146,7 @@ end_sure (Bad c ∷ ls) = tt
 end_sure (l ∷ ls) = tt
 
 question_list_sure : (f : List Letter → Reads (List BodyView)) → ((ls : List Letter) → Sure AreQuestions (f ls)) → (o : Option (List Letter)) (ls : List Letter) → Sure AreQuestions (if_question f o ls)
-question_list_sure f h (Some behind) ls = h behind
+question_list_sure f h (Some after) ls = h after
 question_list_sure f h None ls = end_sure ls
 
 question_then_sure : (f : List Letter → Reads (List BodyView)) → ((ls : List Letter) → Sure AreQuestions (f ls)) → (ls : List Letter) → Sure AreQuestions (question_then f ls)
@@ -157,8 +157,8 @@ question_then_sure f h ls =
 -- of questions that are read, if they are
 pub questions_sure : (n : ℕ) (ls : List Letter) → Sure AreQuestions (read_questions n ls)
 unfolding read_questions
-questions_sure zero ls = question_list_sure (λ behind. Err (codes.Many, ls)) (λ behind. tt) (behind_word vars_keyword ls) ls
-questions_sure (suc n) ls = question_list_sure (question_then (read_questions n)) (question_then_sure (read_questions n) (questions_sure n)) (behind_word vars_keyword ls) ls
+questions_sure zero ls = question_list_sure (λ after. Err (codes.Many, ls)) (λ after. tt) (after_word vars_keyword ls) ls
+questions_sure (suc n) ls = question_list_sure (question_then (read_questions n)) (question_then_sure (read_questions n) (questions_sure n)) (after_word vars_keyword ls) ls
 
 -- a file that is read
 pub file_limited : (ls r : List Letter) (qs : List BodyView) → read_file ls ≡ Ok (qs, r) → All IsQuestion qs

@@ -5,7 +5,7 @@ use Rattle.it_syntax.specs.declared.types.Code.TheVariants as codes
 use Rattle.it_syntax.specs.NamesViews.{NamesView}
 use Rattle.it_syntax.specs.Letters.{Letter, Word, End, MarkedLetters, without_mark, letters}
 use Rattle.it_syntax.specs.Lines.{to_end}
-use Rattle.it_syntax.specs.AtomReading.{Reads, ◌>>=◌}
+use Rattle.it_syntax.specs.MeasureReading.{Reads, ◌>>=◌}
 use Rattle.it_syntax.specs.WrittenRelations.{WrittenRelation, spell_relation, relation_of}
 use Rattle.it_syntax.specs.Scopes.{scope_of}
 use Rattle.it_syntax.specs.RelationReading.{read_relation}
@@ -13,9 +13,9 @@ use Rattle.it_syntax.specs.WrittenGivens.{WrittenGiven, spell_given, given_of}
 use Rattle.it_syntax.specs.GivenReading.{read_given}
 use Rattle.it_question.specs.Keywords.{given_keyword, row_keyword}
 use Rattle.it_question.specs.Questions.{OwnLinesView}
-use Rattle.it_question.specs.WrittenQuestions.{WrittenLine, GivenLine, RowLine}
+use Rattle.it_question.specs.WrittenQuestions.{WrittenOwnLine, GivenLine, RowLine}
 use Rattle.it_question.specs.WrittenLines.{no_lines, spell_own, own_of}
-use Rattle.it_question.specs.Reading.{behind_word, within_limit, given_then, row_then, by_keyword, read_own, read_lines}
+use Rattle.it_question.specs.Reading.{after_word, within_limit, given_then, row_then, by_keyword, read_own, read_lines}
 use Rattle.it_syntax.proofs.SpelledIsRead.{Answers, answers_ok, answers_cons, answers_bind}
 use Rattle.it_syntax.proofs.RelationAnswers.{relation_answers}
 use Rattle.it_syntax.proofs.GivenAnswers.{given_line_answers}
@@ -24,8 +24,8 @@ use Rattle.it_question.proofs.NameAnswers.{answers_at_mark}
 
 -- neither `given` nor `row` stands there
 pub record NoOwn (k : MarkedLetters) : Type 0 where
-  pub no_given : behind_word given_keyword (letters k) ≡ None
-  pub no_row : behind_word row_keyword (letters k) ≡ None
+  pub no_given : after_word given_keyword (letters k) ≡ None
+  pub no_row : after_word row_keyword (letters k) ≡ None
 
 -- a constraint up to its line's end
 pub given_to_end_answers : (v : NamesView) (x : WrittenGiven) (k : MarkedLetters) → Answers (to_end (read_given (scope_of v false)) (letters (spell_given (scope_of v false) x (without_mark End ∷ k)))) (spell_given (scope_of v false) x (without_mark End ∷ k)) (given_of (scope_of v false) x) k
@@ -64,15 +64,15 @@ row_answers f v x m own k h =
 one_too_many : (w : List ℕ) (m : MarkedLetters) (y : OwnLinesView) (k : MarkedLetters) → Answers (within_limit 0 (λ ls. Ok (y, ls)) (letters m) (Word w ∷ letters m)) ((Word w, Some codes.Many) ∷ m) y k
 one_too_many w m y k = answers_at_mark codes.Many (Word w) m _ _
 
-no_own : (f h : List Letter → Reads OwnLinesView) (k : MarkedLetters) → NoOwn k → Answers (by_keyword f h (behind_word given_keyword (letters k)) (behind_word row_keyword (letters k)) (letters k)) k no_lines k
+no_own : (f h : List Letter → Reads OwnLinesView) (k : MarkedLetters) → NoOwn k → Answers (by_keyword f h (after_word given_keyword (letters k)) (after_word row_keyword (letters k)) (letters k)) k no_lines k
 no_own f h k none =
-    subst (λ (o : Option (List Letter)). Answers (by_keyword f h o (behind_word row_keyword (letters k)) (letters k)) k no_lines k) (sym none.no_given)
+    subst (λ (o : Option (List Letter)). Answers (by_keyword f h o (after_word row_keyword (letters k)) (letters k)) k no_lines k) (sym none.no_given)
     (subst (λ (o : Option (List Letter)). Answers (by_keyword f h None o (letters k)) k no_lines k) (sym none.no_row) (answers_ok no_lines k))
 
-own_answers : (n g r : ℕ) (v : NamesView) (xs : List WrittenLine) (k : MarkedLetters) → g + r ≤ n → NoOwn k → Answers (read_own n g r v (letters (spell_own g r v xs k))) (spell_own g r v xs k) (own_of v xs) k
-unfolding read_own behind_word
-own_answers zero g r v [] k most none = no_own (λ behind. Err (codes.Many, letters k)) (λ behind. Err (codes.Many, letters k)) k none
-own_answers (suc n) g r v [] k most none = no_own (λ behind. within_limit g (given_then (read_own n (g - 1) r v) v) behind (letters k)) (λ behind. within_limit r (row_then (read_own n g (r - 1) v) v) behind (letters k)) k none
+own_answers : (n g r : ℕ) (v : NamesView) (xs : List WrittenOwnLine) (k : MarkedLetters) → g + r ≤ n → NoOwn k → Answers (read_own n g r v (letters (spell_own g r v xs k))) (spell_own g r v xs k) (own_of v xs) k
+unfolding read_own after_word
+own_answers zero g r v [] k most none = no_own (λ after. Err (codes.Many, letters k)) (λ after. Err (codes.Many, letters k)) k none
+own_answers (suc n) g r v [] k most none = no_own (λ after. within_limit g (given_then (read_own n (g - 1) r v) v) after (letters k)) (λ after. within_limit r (row_then (read_own n g (r - 1) v) v) after (letters k)) k none
 own_answers zero zero r v (GivenLine x ∷ xs) k most none = one_too_many given_keyword (spell_given (scope_of v false) x (without_mark End ∷ spell_own (0 - 1) r v xs k)) (own_of v (GivenLine x ∷ xs)) k
 own_answers zero (suc g) r v (GivenLine x ∷ xs) k most none = absurd (omega (arith, most))
 own_answers zero g zero v (RowLine x ∷ xs) k most none = one_too_many row_keyword (spell_relation (scope_of v true) x (without_mark End ∷ spell_own g (0 - 1) v xs k)) (own_of v (RowLine x ∷ xs)) k
@@ -91,13 +91,13 @@ own_answers (suc n) g (suc r) v (RowLine x ∷ xs) k most none =
     (row_answers (read_own n g left v) v x m (own_of v xs) k (own_answers n g left v xs k (omega (arith, most)) none))
 
 -- lines of which g and r are allowed
-pub lines_answers : (g r : ℕ) (v : NamesView) (xs : List WrittenLine) (k : MarkedLetters) → NoOwn k → Answers (read_lines g r v (letters (spell_own g r v xs k))) (spell_own g r v xs k) (own_of v xs) k
+pub lines_answers : (g r : ℕ) (v : NamesView) (xs : List WrittenOwnLine) (k : MarkedLetters) → NoOwn k → Answers (read_lines g r v (letters (spell_own g r v xs k))) (spell_own g r v xs k) (own_of v xs) k
 unfolding read_lines
 lines_answers g r v xs k none = own_answers (g + r) g r v xs k (omega arith) none
 
--- another word that doesn't stand behind the lines doesn't stand in front of them
-pub own_no_word : (text : List ℕ) (g r : ℕ) (v : NamesView) (xs : List WrittenLine) (k : MarkedLetters) → bytes_eq given_keyword text ≡ false → bytes_eq row_keyword text ≡ false → behind_word text (letters k) ≡ None → behind_word text (letters (spell_own g r v xs k)) ≡ None
-unfolding behind_word
+-- another word that doesn't stand after the lines doesn't stand in front of them
+pub own_no_word : (text : List ℕ) (g r : ℕ) (v : NamesView) (xs : List WrittenOwnLine) (k : MarkedLetters) → bytes_eq given_keyword text ≡ false → bytes_eq row_keyword text ≡ false → after_word text (letters k) ≡ None → after_word text (letters (spell_own g r v xs k)) ≡ None
+unfolding after_word
 own_no_word text g r v [] k given row none = none
 own_no_word text g r v (GivenLine x ∷ xs) k given row none = rw given refl
 own_no_word text g r v (RowLine x ∷ xs) k given row none = rw row refl

@@ -9,8 +9,8 @@ use Rattle.it_question.specs.declared.types.Question.{Question}
 use Rattle.it_question.specs.declared.bodies.Body.{Body}
 use Rattle.it_question.specs.declared.cursor.Line.{Line}
 use Rattle.it_question.specs.Bodies.{body_view}
-use Rattle.it_question.specs.Cursors.{token_line}
-use Rattle.it_question.specs.Lines.{TokenLine}
+use Rattle.it_question.specs.Cursors.{line_view}
+use Rattle.it_question.specs.Lines.{LineView}
 use Rattle.it_question.specs.Questions.{region_view, BodyView, QuestionView, question_view}
 use Rattle.it_question.specs.ReaderSteps.{FewLines}
 use Rattle.it_question.specs.Texts.{region_line_count, one_unless_zero, question_line_count, text_of_lines, with_texts}
@@ -35,18 +35,18 @@ next_is P xs ys x h e = All-head P x ys (subst (All P) e h)
 pub others_are : {X : Type 0} (P : X → Type 0) (xs ys : List X) (x : X) → All P xs → xs ≡ x ∷ ys → All P ys
 others_are P xs ys x h e = All-tail P x ys (subst (All P) e h)
 
-pub texts_step : (old new : List Question) (q : Question) (rest own behind : List Line) (xs ys : List Body) (x : Body) (n : ℕ) (whole : List QuestionView)
-    → map question_view old ++ with_texts (map token_line rest) (map body_view xs) ≡ whole → xs ≡ x ∷ ys → new ≡ old ++ q ∷ [] → n ≡ question_line_count (body_view x) → own ≡ take n rest → behind ≡ drop n rest
-    → question_view q ≡ record { body = body_view x; text = text_of_lines (map token_line own) } → map question_view new ++ with_texts (map token_line behind) (map body_view ys) ≡ whole
-texts_step old new q rest own behind xs ys x n whole h e pushed count first last is =
+pub texts_step : (old new : List Question) (q : Question) (rest own after : List Line) (xs ys : List Body) (x : Body) (n : ℕ) (whole : List QuestionView)
+    → map question_view old ++ with_texts (map line_view rest) (map body_view xs) ≡ whole → xs ≡ x ∷ ys → new ≡ old ++ q ∷ [] → n ≡ question_line_count (body_view x) → own ≡ take n rest → after ≡ drop n rest
+    → question_view q ≡ record { body = body_view x; text = text_of_lines (map line_view own) } → map question_view new ++ with_texts (map line_view after) (map body_view ys) ≡ whole
+texts_step old new q rest own after xs ys x n whole h e pushed count first last is =
     let m = question_line_count (body_view x) in
-    let lines = map token_line rest in
-    let own_lines : map token_line own ≡ take m lines = ap (map token_line) (first ∙ ap (λ (k : ℕ). take k rest) count) ∙ sym (take-map token_line m rest) in
-    let behind_lines : map token_line behind ≡ drop m lines = ap (map token_line) (last ∙ ap (λ (k : ℕ). drop k rest) count) ∙ sym (drop-map token_line m rest) in
-    let head : question_view q ≡ record { body = body_view x; text = text_of_lines (take m lines) } = is ∙ ap (λ (ls : List TokenLine). question_with (body_view x) (text_of_lines ls)) own_lines in
-    ap (λ (qs : List Question). map question_view qs ++ with_texts (map token_line behind) (map body_view ys)) pushed
-    ∙ ap (λ (front : List QuestionView). front ++ with_texts (map token_line behind) (map body_view ys)) (map-append question_view old (q ∷ []))
-    ∙ append_assoc (map question_view old) (question_view q ∷ []) (with_texts (map token_line behind) (map body_view ys))
-    ∙ ap (λ (a : QuestionView). map question_view old ++ a ∷ with_texts (map token_line behind) (map body_view ys)) head
-    ∙ ap (λ (ls : List TokenLine). map question_view old ++ question_with (body_view x) (text_of_lines (take m lines)) ∷ with_texts ls (map body_view ys)) behind_lines
+    let lines = map line_view rest in
+    let own_lines : map line_view own ≡ take m lines = ap (map line_view) (first ∙ ap (λ (k : ℕ). take k rest) count) ∙ sym (take-map line_view m rest) in
+    let after_lines : map line_view after ≡ drop m lines = ap (map line_view) (last ∙ ap (λ (k : ℕ). drop k rest) count) ∙ sym (drop-map line_view m rest) in
+    let head : question_view q ≡ record { body = body_view x; text = text_of_lines (take m lines) } = is ∙ ap (λ (ls : List LineView). question_with (body_view x) (text_of_lines ls)) own_lines in
+    ap (λ (qs : List Question). map question_view qs ++ with_texts (map line_view after) (map body_view ys)) pushed
+    ∙ ap (λ (front : List QuestionView). front ++ with_texts (map line_view after) (map body_view ys)) (map-append question_view old (q ∷ []))
+    ∙ append_assoc (map question_view old) (question_view q ∷ []) (with_texts (map line_view after) (map body_view ys))
+    ∙ ap (λ (a : QuestionView). map question_view old ++ a ∷ with_texts (map line_view after) (map body_view ys)) head
+    ∙ ap (λ (ls : List LineView). map question_view old ++ question_with (body_view x) (text_of_lines (take m lines)) ∷ with_texts ls (map body_view ys)) after_lines
     ∙ ap (λ (bs : List Body). map question_view old ++ with_texts lines (map body_view bs)) (sym e) ∙ h

@@ -6,7 +6,7 @@ use Rattle.it_syntax.specs.declared.types.Code.TheVariants as codes
 use Rattle.it_syntax.specs.NamesViews.{NamesView}
 use Rattle.it_syntax.specs.Letters.{Letter}
 use Rattle.it_syntax.specs.Lines.{to_end}
-use Rattle.it_syntax.specs.AtomReading.{Reads, ◌>>=◌}
+use Rattle.it_syntax.specs.MeasureReading.{Reads, ◌>>=◌}
 use Rattle.it_syntax.specs.Meaning.{RelationView}
 use Rattle.it_syntax.specs.Givens.{GivenView, IsRelationOf, IsGivenOf}
 use Rattle.it_syntax.specs.Scopes.{scope_of}
@@ -15,7 +15,7 @@ use Rattle.it_syntax.specs.GivenReading.{read_given}
 use Rattle.it_question.specs.Keywords.{given_keyword, row_keyword}
 use Rattle.it_question.specs.Questions.{OwnLinesView}
 use Rattle.it_question.specs.WrittenLines.{no_lines}
-use Rattle.it_question.specs.Reading.{behind_word, within_limit, given_then, row_then, by_keyword, read_own, read_lines}
+use Rattle.it_question.specs.Reading.{after_word, within_limit, given_then, row_then, by_keyword, read_own, read_lines}
 use Rattle.it_syntax.proofs.LimitLemmas.{Sure, sure_bind}
 use Rattle.it_syntax.proofs.RelationLimits.{relation_limited}
 use Rattle.it_syntax.proofs.GivenLimits.{given_limited}
@@ -63,25 +63,25 @@ row_sure g r v f h ls =
     (λ x hx. sure_bind (Own g (suc r - 1) v) (Own g (suc r) v) (f x.1) (λ own. Ok (record { givens = own.0.givens; rows = x.0 ∷ own.0.rows }, own.1)) (h x.1)
     (λ own ho. record { few_givens = ho.few_givens; few_rows = omega (arith, ho.few_rows); givens = ho.givens; rows = All-cons (OverRelation v) x.0 own.0.rows hx ho.rows }))
 
-keyword_sure : (g r : ℕ) (v : NamesView) (f h : List Letter → Reads OwnLinesView) (o p : Option (List Letter)) (ls : List Letter) → ((behind : List Letter) → Sure (Own g r v) (f behind)) → ((behind : List Letter) → Sure (Own g r v) (h behind)) → Sure (Own g r v) (by_keyword f h o p ls)
-keyword_sure g r v f h (Some behind) p ls of_f of_h = of_f behind
-keyword_sure g r v f h None (Some behind) ls of_f of_h = of_h behind
+keyword_sure : (g r : ℕ) (v : NamesView) (f h : List Letter → Reads OwnLinesView) (o p : Option (List Letter)) (ls : List Letter) → ((after : List Letter) → Sure (Own g r v) (f after)) → ((after : List Letter) → Sure (Own g r v) (h after)) → Sure (Own g r v) (by_keyword f h o p ls)
+keyword_sure g r v f h (Some after) p ls of_f of_h = of_f after
+keyword_sure g r v f h None (Some after) ls of_f of_h = of_h after
 keyword_sure g r v f h None None ls of_f of_h = no_own g r v
 
 own_sure : (n g r : ℕ) (v : NamesView) (ls : List Letter) → Sure (Own g r v) (read_own n g r v ls)
 unfolding read_own
-own_sure zero g r v ls = keyword_sure g r v (λ behind. Err (codes.Many, ls)) (λ behind. Err (codes.Many, ls)) (behind_word given_keyword ls) (behind_word row_keyword ls) ls (λ behind. tt) (λ behind. tt)
+own_sure zero g r v ls = keyword_sure g r v (λ after. Err (codes.Many, ls)) (λ after. Err (codes.Many, ls)) (after_word given_keyword ls) (after_word row_keyword ls) ls (λ after. tt) (λ after. tt)
 own_sure (suc n) g r v ls =
-    keyword_sure g r v (λ behind. within_limit g (given_then (read_own n (g - 1) r v) v) behind ls) (λ behind. within_limit r (row_then (read_own n g (r - 1) v) v) behind ls) (behind_word given_keyword ls) (behind_word row_keyword ls) ls
-    (λ behind. givens g (own_sure n (g - 1) r v) behind) (λ behind. rows r (own_sure n g (r - 1) v) behind)
+    keyword_sure g r v (λ after. within_limit g (given_then (read_own n (g - 1) r v) v) after ls) (λ after. within_limit r (row_then (read_own n g (r - 1) v) v) after ls) (after_word given_keyword ls) (after_word row_keyword ls) ls
+    (λ after. givens g (own_sure n (g - 1) r v) after) (λ after. rows r (own_sure n g (r - 1) v) after)
   where
-    givens : (a : ℕ) → ((ls : List Letter) → Sure (Own (a - 1) r v) (read_own n (a - 1) r v ls)) → (behind : List Letter) → Sure (Own a r v) (within_limit a (given_then (read_own n (a - 1) r v) v) behind ls)
-    givens zero h behind = tt
-    givens (suc a) h behind = given_sure a r v (read_own n (suc a - 1) r v) h behind
+    givens : (a : ℕ) → ((ls : List Letter) → Sure (Own (a - 1) r v) (read_own n (a - 1) r v ls)) → (after : List Letter) → Sure (Own a r v) (within_limit a (given_then (read_own n (a - 1) r v) v) after ls)
+    givens zero h after = tt
+    givens (suc a) h after = given_sure a r v (read_own n (suc a - 1) r v) h after
 
-    rows : (b : ℕ) → ((ls : List Letter) → Sure (Own g (b - 1) v) (read_own n g (b - 1) v ls)) → (behind : List Letter) → Sure (Own g b v) (within_limit b (row_then (read_own n g (b - 1) v) v) behind ls)
-    rows zero h behind = tt
-    rows (suc b) h behind = row_sure g b v (read_own n g (suc b - 1) v) h behind
+    rows : (b : ℕ) → ((ls : List Letter) → Sure (Own g (b - 1) v) (read_own n g (b - 1) v ls)) → (after : List Letter) → Sure (Own g b v) (within_limit b (row_then (read_own n g (b - 1) v) v) after ls)
+    rows zero h after = tt
+    rows (suc b) h after = row_sure g b v (read_own n g (suc b - 1) v) h after
 
 pub lines_sure : (g r : ℕ) (v : NamesView) (ls : List Letter) → Sure (Own g r v) (read_lines g r v ls)
 unfolding read_lines

@@ -4,13 +4,13 @@ use Rattle.std.proofs.lemmas.Bool.Decides.{eqb_tells}
 use Rattle.it_syntax.specs.declared.types.Code.{Code}
 use Rattle.it_syntax.specs.declared.types.Symbol.TheVariants as symbols
 use Rattle.it_syntax.specs.Letters.{Word, Number, Sym, without_mark}
-use Rattle.it_syntax.specs.WrittenAtoms.{Environment, WrittenList, is_measure, index_or}
+use Rattle.it_syntax.specs.WrittenMeasures.{Environment, WrittenList, is_measure, index_or}
 use Rattle.it_syntax.specs.NamesViews.{NamesView}
 use Rattle.it_syntax.specs.Scopes.{scope_of, env_of}
 use Rattle.it_question.specs.Keywords.{vars_keyword, rates_keyword, given_keyword, row_keyword, region_keyword, aux_keyword, try_keyword, prove_keyword, eliminate_keyword, contain_keyword}
 use Rattle.it_question.specs.Texts.{one_if_some, own_line_count, one_unless_zero, region_line_count, verb_line_count, question_line_count}
-use Rattle.it_question.specs.WrittenQuestions.{WrittenLine, GivenLine, RowLine, WrittenRegion, WrittenSet, Empty, Listed, WrittenPart, WrittenTry, WrittenVerb, Prove, Eliminate, Contain, WrittenQuestion, most_variables, most_rates, most_lines}
-use Rattle.it_question.specs.NewNames.{Sort, Variable, Rate, with_name, no_names, is_taken, new_mark, spell_new, spell_new_more, spell_new_names, with_names, new_names_of, spell_names_line, names_line_of}
+use Rattle.it_question.specs.WrittenQuestions.{WrittenOwnLine, GivenLine, RowLine, WrittenRegion, WrittenSet, Empty, Listed, WrittenPart, WrittenTry, WrittenVerb, Prove, Eliminate, Contain, WrittenQuestion, most_variables, most_rates, most_lines}
+use Rattle.it_question.specs.NewNames.{NameSortView, Variable, Rate, with_name, no_names, is_taken, new_mark, spell_new, spell_new_more, spell_new_names, with_names, new_names_of, spell_names_line, names_line_of}
 use Rattle.it_question.specs.WrittenTries.{Sets, unnamed_sets, is_whole, part_mark, spell_set, spell_part, with_part, spell_parts, with_parts, try_end_mark, try_mark, spell_tries, tries_of}
 use Rattle.it_question.specs.WrittenLines.{limit_mark, spell_own, own_of, once_mark, spell_once, spell_once_more, spell_distinct, rates_env}
 use Rattle.it_question.specs.WrittenRegions.{auxiliaries_left, spell_region, region_of, auxiliary_env, givens_left, rows_left}
@@ -20,28 +20,28 @@ use Rattle.it_question.proofs.TokenPuts.{list_puts, relation_puts, given_puts}
 
 -- ---- names
 
-new_puts : (sort : Sort) (n : ℕ) (v : NamesView) (w : List ℕ) → Puts AreTokens (spell_new sort n v w)
+new_puts : (sort : NameSortView) (n : ℕ) (v : NamesView) (w : List ℕ) → Puts AreTokens (spell_new sort n v w)
 new_puts sort n v w = one_token (Word w, new_mark (is_measure w) (is_taken v w) n) tt
 
-new_more_puts : (sort : Sort) (n : ℕ) (v : NamesView) (ws : List (List ℕ)) → Puts AreTokens (spell_new_more sort n v ws)
+new_more_puts : (sort : NameSortView) (n : ℕ) (v : NamesView) (ws : List (List ℕ)) → Puts AreTokens (spell_new_more sort n v ws)
 new_more_puts sort n v [] = no_tokens
 new_more_puts sort n v (w ∷ ws) = token_then (without_mark (Sym symbols.Comma)) tt (tokens_then (new_puts sort n v w) (new_more_puts sort (n - 1) (with_name sort v w) ws))
 
-new_names_puts : (sort : Sort) (n : ℕ) (v : NamesView) (l : WrittenList) → Puts AreTokens (spell_new_names sort n v l)
+new_names_puts : (sort : NameSortView) (n : ℕ) (v : NamesView) (l : WrittenList) → Puts AreTokens (spell_new_names sort n v l)
 new_names_puts sort n v l = tokens_then (new_puts sort n v l.first) (new_more_puts sort (n - 1) (with_name sort v l.first) l.more)
 
 one_if : Option WrittenList → ℕ
 one_if None = 0
 one_if (Some l) = 1
 
-names_line_puts : (sort : Sort) (n : ℕ) (keyword : List ℕ) (v : NamesView) (o : Option WrittenList) → Puts (HasLines (one_if o)) (spell_names_line sort n keyword v o)
+names_line_puts : (sort : NameSortView) (n : ℕ) (keyword : List ℕ) (v : NamesView) (o : Option WrittenList) → Puts (HasLines (one_if o)) (spell_names_line sort n keyword v o)
 unfolding one_if
 names_line_puts sort n keyword v None = no_lines
 names_line_puts sort n keyword v (Some l) = line_of_tokens None (token_then (without_mark (Word keyword)) tt (new_names_puts sort n v l))
 
 -- ---- `given` and `row` lines
 
-own_puts : (g r : ℕ) (v : NamesView) (ls : List WrittenLine) → Puts (HasLines (own_line_count (own_of v ls))) (spell_own g r v ls)
+own_puts : (g r : ℕ) (v : NamesView) (ls : List WrittenOwnLine) → Puts (HasLines (own_line_count (own_of v ls))) (spell_own g r v ls)
 own_puts g r v [] = no_lines
 own_puts g r v (GivenLine x ∷ ls) = line_then (own_line_count (own_of v ls)) (own_line_count (own_of v (GivenLine x ∷ ls))) (line_of_tokens None (token_then (Word given_keyword, limit_mark g) tt (given_puts (scope_of v false) x))) (own_puts (g - 1) r v ls) (omega arith)
 own_puts g r v (RowLine x ∷ ls) = line_then (own_line_count (own_of v ls)) (own_line_count (own_of v (RowLine x ∷ ls))) (line_of_tokens None (token_then (Word row_keyword, limit_mark r) tt (relation_puts (scope_of v true) x))) (own_puts g (r - 1) v ls) (omega arith)
@@ -104,9 +104,9 @@ aux_lines v (Some l) =
 region_puts : (g r : ℕ) (v : NamesView) (x : WrittenRegion) → Puts (HasLines (region_line_count (region_of v x))) (spell_region g r v x)
 region_puts g r v x =
     let names = names_line_of Variable v x.auxiliaries in
-    let own = own_line_count (own_of names x.own) in
+    let own = own_line_count (own_of names x.lines) in
     line_then (one_if x.auxiliaries + own) (region_line_count (region_of v x)) (line_of_tokens None (one_token (without_mark (Word region_keyword)) tt))
-    (lines_then (one_if x.auxiliaries) own (names_line_puts Variable (auxiliaries_left v) aux_keyword v x.auxiliaries) (own_puts g r names x.own)) (omega (arith, aux_lines v x.auxiliaries))
+    (lines_then (one_if x.auxiliaries) own (names_line_puts Variable (auxiliaries_left v) aux_keyword v x.auxiliaries) (own_puts g r names x.lines)) (omega (arith, aux_lines v x.auxiliaries))
 
 -- ---- questions
 
@@ -130,13 +130,13 @@ kept_rates : (v : NamesView) (ws : List (List ℕ)) → (with_names Variable v w
 kept_rates v [] = refl
 kept_rates v (w ∷ ws) = kept_rates (with_name Variable v w) ws
 
-some_behind : {X : Type 0} (xs : List X) (x : X) → one_if_some (xs ++ x ∷ []) ≡ 1
-some_behind [] x = refl
-some_behind (y ∷ xs) x = refl
+some_after : {X : Type 0} (xs : List X) (x : X) → one_if_some (xs ++ x ∷ []) ≡ 1
+some_after [] x = refl
+some_after (y ∷ xs) x = refl
 
 some_rates : (v : NamesView) (ws : List (List ℕ)) → one_if_some v.rates ≡ 1 → one_if_some (with_names Rate v ws).rates ≡ 1
 some_rates v [] e = e
-some_rates v (w ∷ ws) e = some_rates (with_name Rate v w) ws (some_behind v.rates w)
+some_rates v (w ∷ ws) e = some_rates (with_name Rate v w) ws (some_after v.rates w)
 
 -- a `rates` line stands there where there are rates
 rates_lines : (x : WrittenQuestion) → one_if x.rates ≡ one_if_some (names_of x).rates
@@ -145,18 +145,18 @@ rates_lines x = by_option x.rates
   where
     by_option : (o : Option WrittenList) → one_if o ≡ one_if_some (names_line_of Rate (new_names_of Variable no_names x.variables) o).rates
     by_option None = sym (ap one_if_some (kept_rates (with_name Variable no_names x.variables.first) x.variables.more))
-    by_option (Some l) = let v = new_names_of Variable no_names x.variables in sym (some_rates (with_name Rate v l.first) l.more (some_behind v.rates l.first))
+    by_option (Some l) = let v = new_names_of Variable no_names x.variables in sym (some_rates (with_name Rate v l.first) l.more (some_after v.rates l.first))
 
 -- A question, with its word `vars`, is as many lines as are counted of it.
 pub question_puts : (mark : Option Code) (x : WrittenQuestion) → Puts (HasLines (question_line_count (question_of x))) (λ k. (Word vars_keyword, mark) ∷ spell_question x k)
 question_puts mark x =
     let variables = new_names_of Variable no_names x.variables in
     let names = names_of x in
-    let own = own_of names x.own in
+    let own = own_of names x.lines in
     let verb = verb_line_count (verb_of names x.verb) in
     line_then (one_if x.rates + (own_line_count own + verb)) (question_line_count (question_of x)) (line_of_tokens None (token_then (Word vars_keyword, mark) tt (new_names_puts Variable most_variables no_names x.variables)))
     (lines_then (one_if x.rates) (own_line_count own + verb) (names_line_puts Rate most_rates rates_keyword variables x.rates)
-    (lines_then (own_line_count own) verb (own_puts most_lines most_lines names x.own)
+    (lines_then (own_line_count own) verb (own_puts most_lines most_lines names x.lines)
     (verb_puts (givens_left most_lines own) (rows_left most_lines own) names x.verb)))
     (omega (arith, rates_lines x))
 

@@ -6,7 +6,7 @@ use Rattle.it_syntax.specs.NamesViews.{NamesView}
 use Rattle.it_syntax.specs.Meaning.{RelationView}
 use Rattle.it_syntax.specs.Letters.{Letter, Word, End, MarkedLetters, without_mark}
 use Rattle.it_syntax.specs.Lines.{to_end}
-use Rattle.it_syntax.specs.AtomReading.{Reads, ◌>>=◌}
+use Rattle.it_syntax.specs.MeasureReading.{Reads, ◌>>=◌}
 use Rattle.it_syntax.specs.WrittenRelations.{WrittenSum, WrittenRelation, Zero, spell_relation, relation_of}
 use Rattle.it_syntax.specs.Scopes.{scope_of}
 use Rattle.it_syntax.specs.RelationReading.{read_relation}
@@ -19,10 +19,10 @@ use Rattle.it_syntax.proofs.GivenTraces.{given_line_traces}
 use Rattle.it_syntax.proofs.LineEnd.{to_end_traces}
 use Rattle.it_question.specs.Keywords.{given_keyword, row_keyword}
 use Rattle.it_question.specs.Questions.{OwnLinesView}
-use Rattle.it_question.specs.WrittenQuestions.{WrittenLine, GivenLine, RowLine}
+use Rattle.it_question.specs.WrittenQuestions.{WrittenOwnLine, GivenLine, RowLine}
 use Rattle.it_question.specs.WrittenLines.{spell_own, no_lines, own_of}
-use Rattle.it_question.specs.Reading.{behind_word, within_limit, given_then, row_then, by_keyword, read_own, read_lines}
-use Rattle.it_question.proofs.NameTraces.{marked_here, nothing_read, word_behind, at_word, behind_traced}
+use Rattle.it_question.specs.Reading.{after_word, within_limit, given_then, row_then, by_keyword, read_own, read_lines}
+use Rattle.it_question.proofs.NameTraces.{marked_here, nothing_read, word_after, at_word, after_traced}
 
 abbrev zero_sum : WrittenSum
 zero_sum = record { sign = None; first = Zero; more = [] }
@@ -34,10 +34,10 @@ some_relation = record { left = zero_sum; sign = signs.Equal; right = zero_sum }
 some_given : WrittenGiven
 some_given = Relation (record { relation = some_relation; plain = refl })
 
--- ---- a line, and the lines behind it
+-- ---- a line, and the lines after it
 
 abbrev GivenMore : Type 0
-GivenMore = WrittenGiven × List WrittenLine
+GivenMore = WrittenGiven × List WrittenOwnLine
 
 abbrev spell_given_more : ℕ → ℕ → NamesView → GivenMore → MarkedLetters → MarkedLetters
 spell_given_more g r v x k = spell_given (scope_of v false) x.0 (without_mark End ∷ spell_own (g - 1) r v x.1 k)
@@ -48,7 +48,7 @@ with_given x own = record { givens = x ∷ own.givens; rows = own.rows }
 abbrev given_more_of : NamesView → GivenMore → OwnLinesView
 given_more_of v x = with_given (given_of (scope_of v false) x.0) (own_of v x.1)
 
-abbrev given_made : GivenMore → List WrittenLine
+abbrev given_made : GivenMore → List WrittenOwnLine
 given_made x = GivenLine x.0 ∷ x.1
 
 given_then_traces : (f : List Letter → Reads OwnLinesView) (g r : ℕ) (v : NamesView) → Traces f (spell_own (g - 1) r v) (own_of v) → Traces (given_then f v) (spell_given_more g r v) (given_more_of v)
@@ -56,7 +56,7 @@ given_then_traces f g r v h = traces_bind (to_end (read_given (scope_of v false)
     (record { is = λ ls. refl; spells = λ y z k. refl; value = λ y z. refl; some = []; first = to_end_traces (read_given (scope_of v false)) (spell_given (scope_of v false)) (given_of (scope_of v false)) (given_line_traces (scope_of v false)); second = λ x. traces_map f (with_given x) (spell_own (g - 1) r v) (own_of v) h })
 
 abbrev RowMore : Type 0
-RowMore = WrittenRelation × List WrittenLine
+RowMore = WrittenRelation × List WrittenOwnLine
 
 abbrev spell_row_more : ℕ → ℕ → NamesView → RowMore → MarkedLetters → MarkedLetters
 spell_row_more g r v x k = spell_relation (scope_of v true) x.0 (without_mark End ∷ spell_own g (r - 1) v x.1 k)
@@ -67,7 +67,7 @@ with_row x own = record { givens = own.givens; rows = x ∷ own.rows }
 abbrev row_more_of : NamesView → RowMore → OwnLinesView
 row_more_of v x = with_row (relation_of (scope_of v true) x.0) (own_of v x.1)
 
-abbrev row_made : RowMore → List WrittenLine
+abbrev row_made : RowMore → List WrittenOwnLine
 row_made x = RowLine x.0 ∷ x.1
 
 row_then_traces : (f : List Letter → Reads OwnLinesView) (g r : ℕ) (v : NamesView) → Traces f (spell_own g (r - 1) v) (own_of v) → Traces (row_then f v) (spell_row_more g r v) (row_more_of v)
@@ -76,24 +76,24 @@ row_then_traces f g r v h = traces_bind (to_end (read_relation (scope_of v true)
 
 -- ---- a reader by the keyword that stands there
 
--- reads by f behind `given`, by h behind `row`, and else nothing
+-- reads by f after `given`, by h after `row`, and else nothing
 abbrev by_words : (f h : List Letter → List Letter → Reads OwnLinesView) → List Letter → Reads OwnLinesView
-by_words f h ls = by_keyword (λ behind. f behind ls) (λ behind. h behind ls) (behind_word given_keyword ls) (behind_word row_keyword ls) ls
+by_words f h ls = by_keyword (λ after. f after ls) (λ after. h after ls) (after_word given_keyword ls) (after_word row_keyword ls) ls
 
 given_stands : (f h : List Letter → List Letter → Reads OwnLinesView) (s : List Letter) → by_words f h (Word given_keyword ∷ s) ≡ f s (Word given_keyword ∷ s)
-given_stands f h s = ap (λ (o : Option (List Letter)). by_keyword (λ behind. f behind (Word given_keyword ∷ s)) (λ behind. h behind (Word given_keyword ∷ s)) o (behind_word row_keyword (Word given_keyword ∷ s)) (Word given_keyword ∷ s)) (word_behind given_keyword s)
+given_stands f h s = ap (λ (o : Option (List Letter)). by_keyword (λ after. f after (Word given_keyword ∷ s)) (λ after. h after (Word given_keyword ∷ s)) o (after_word row_keyword (Word given_keyword ∷ s)) (Word given_keyword ∷ s)) (word_after given_keyword s)
 
 row_stands : (f h : List Letter → List Letter → Reads OwnLinesView) (s : List Letter) → by_words f h (Word row_keyword ∷ s) ≡ h s (Word row_keyword ∷ s)
-unfolding behind_word
+unfolding after_word
 row_stands f h s = refl
 
-none_stands : (f h : List Letter → List Letter → Reads OwnLinesView) (s : List Letter) → behind_word given_keyword s ≡ None → behind_word row_keyword s ≡ None → by_words f h s ≡ Ok (no_lines, s)
-none_stands f h s a b = ap (λ (o : Option (List Letter)). by_keyword (λ behind. f behind s) (λ behind. h behind s) o (behind_word row_keyword s) s) a ∙ ap (λ (o : Option (List Letter)). by_keyword (λ behind. f behind s) (λ behind. h behind s) None o s) b
+none_stands : (f h : List Letter → List Letter → Reads OwnLinesView) (s : List Letter) → after_word given_keyword s ≡ None → after_word row_keyword s ≡ None → by_words f h s ≡ Ok (no_lines, s)
+none_stands f h s a b = ap (λ (o : Option (List Letter)). by_keyword (λ after. f after s) (λ after. h after s) o (after_word row_keyword s) s) a ∙ ap (λ (o : Option (List Letter)). by_keyword (λ after. f after s) (λ after. h after s) None o s) b
 
 -- what such a reader tells, by what it tells at each keyword
 at_keywords : (f h : List Letter → List Letter → Reads OwnLinesView) (g r : ℕ) (v : NamesView) (ls : List Letter)
-    → ((behind : List Letter) → By (by_words f h) (spell_own g r v) (own_of v) (Word given_keyword ∷ behind) (by_words f h (Word given_keyword ∷ behind)))
-    → ((behind : List Letter) → By (by_words f h) (spell_own g r v) (own_of v) (Word row_keyword ∷ behind) (by_words f h (Word row_keyword ∷ behind)))
+    → ((after : List Letter) → By (by_words f h) (spell_own g r v) (own_of v) (Word given_keyword ∷ after) (by_words f h (Word given_keyword ∷ after)))
+    → ((after : List Letter) → By (by_words f h) (spell_own g r v) (own_of v) (Word row_keyword ∷ after) (by_words f h (Word row_keyword ∷ after)))
     → By (by_words f h) (spell_own g r v) (own_of v) ls (by_words f h ls)
 at_keywords f h g r v ls given row = at_word given_keyword (by_words f h) (spell_own g r v) (own_of v) ls given
     (λ a. at_word row_keyword (by_words f h) (spell_own g r v) (own_of v) ls row
@@ -102,49 +102,49 @@ at_keywords f h g r v ls given row = at_word given_keyword (by_words f h) (spell
 -- ---- lines one after the other
 
 abbrev givens_by : ℕ → ℕ → ℕ → NamesView → List Letter → List Letter → Reads OwnLinesView
-givens_by n g r v behind ls = within_limit g (given_then (read_own n (g - 1) r v) v) behind ls
+givens_by n g r v after ls = within_limit g (given_then (read_own n (g - 1) r v) v) after ls
 
 abbrev rows_by : ℕ → ℕ → ℕ → NamesView → List Letter → List Letter → Reads OwnLinesView
-rows_by n g r v behind ls = within_limit r (row_then (read_own n g (r - 1) v) v) behind ls
+rows_by n g r v after ls = within_limit r (row_then (read_own n g (r - 1) v) v) after ls
 
 too_many : List Letter → List Letter → Reads OwnLinesView
-too_many behind ls = Err (codes.Many, ls)
+too_many after ls = Err (codes.Many, ls)
 
 -- past the limit `given` is marked
-given_over : (f h : List Letter → List Letter → Reads OwnLinesView) (r : ℕ) (v : NamesView) (behind : List Letter) → ((b s : List Letter) → f b s ≡ Err (codes.Many, s)) → By (by_words f h) (spell_own zero r v) (own_of v) (Word given_keyword ∷ behind) (by_words f h (Word given_keyword ∷ behind))
-given_over f h r v behind e =
+given_over : (f h : List Letter → List Letter → Reads OwnLinesView) (r : ℕ) (v : NamesView) (after : List Letter) → ((b s : List Letter) → f b s ≡ Err (codes.Many, s)) → By (by_words f h) (spell_own zero r v) (own_of v) (Word given_keyword ∷ after) (by_words f h (Word given_keyword ∷ after))
+given_over f h r v after e =
     let stays : (s : List Letter) → by_words f h (Word given_keyword ∷ s) ≡ Err (codes.Many, Word given_keyword ∷ s) = λ s. given_stands f h s ∙ e s (Word given_keyword ∷ s) in
-    subst (λ (t : Reads OwnLinesView). By (by_words f h) (spell_own zero r v) (own_of v) (Word given_keyword ∷ behind) t) (sym (stays behind))
-    (marked_here (by_words f h) (spell_own zero r v) (GivenLine some_given ∷ []) (Word given_keyword) behind codes.Many (λ k. spell_given (scope_of v false) some_given (without_mark End ∷ k)) (λ k. refl) stays)
+    subst (λ (t : Reads OwnLinesView). By (by_words f h) (spell_own zero r v) (own_of v) (Word given_keyword ∷ after) t) (sym (stays after))
+    (marked_here (by_words f h) (spell_own zero r v) (GivenLine some_given ∷ []) (Word given_keyword) after codes.Many (λ k. spell_given (scope_of v false) some_given (without_mark End ∷ k)) (λ k. refl) stays)
 
 -- and `row`
-row_over : (f h : List Letter → List Letter → Reads OwnLinesView) (g : ℕ) (v : NamesView) (behind : List Letter) → ((b s : List Letter) → h b s ≡ Err (codes.Many, s)) → By (by_words f h) (spell_own g zero v) (own_of v) (Word row_keyword ∷ behind) (by_words f h (Word row_keyword ∷ behind))
-row_over f h g v behind e =
+row_over : (f h : List Letter → List Letter → Reads OwnLinesView) (g : ℕ) (v : NamesView) (after : List Letter) → ((b s : List Letter) → h b s ≡ Err (codes.Many, s)) → By (by_words f h) (spell_own g zero v) (own_of v) (Word row_keyword ∷ after) (by_words f h (Word row_keyword ∷ after))
+row_over f h g v after e =
     let stays : (s : List Letter) → by_words f h (Word row_keyword ∷ s) ≡ Err (codes.Many, Word row_keyword ∷ s) = λ s. row_stands f h s ∙ e s (Word row_keyword ∷ s) in
-    subst (λ (t : Reads OwnLinesView). By (by_words f h) (spell_own g zero v) (own_of v) (Word row_keyword ∷ behind) t) (sym (stays behind))
-    (marked_here (by_words f h) (spell_own g zero v) (RowLine some_relation ∷ []) (Word row_keyword) behind codes.Many (λ k. spell_relation (scope_of v true) some_relation (without_mark End ∷ k)) (λ k. refl) stays)
+    subst (λ (t : Reads OwnLinesView). By (by_words f h) (spell_own g zero v) (own_of v) (Word row_keyword ∷ after) t) (sym (stays after))
+    (marked_here (by_words f h) (spell_own g zero v) (RowLine some_relation ∷ []) (Word row_keyword) after codes.Many (λ k. spell_relation (scope_of v true) some_relation (without_mark End ∷ k)) (λ k. refl) stays)
 
-given_by : (n g r : ℕ) (v : NamesView) (behind : List Letter) → (1 ≤ g → Traces (read_own n (g - 1) r v) (spell_own (g - 1) r v) (own_of v))
-    → By (by_words (givens_by n g r v) (rows_by n g r v)) (spell_own g r v) (own_of v) (Word given_keyword ∷ behind) (by_words (givens_by n g r v) (rows_by n g r v) (Word given_keyword ∷ behind))
-given_by n zero r v behind h = given_over (givens_by n zero r v) (rows_by n zero r v) r v behind (λ b s. refl)
-given_by n (suc g) r v behind h = behind_traced given_keyword (by_words (givens_by n (suc g) r v) (rows_by n (suc g) r v)) (given_then (read_own n (suc g - 1) r v) v) (spell_given_more (suc g) r v) (spell_own (suc g) r v) (given_more_of v) (own_of v) given_made behind
+given_by : (n g r : ℕ) (v : NamesView) (after : List Letter) → (1 ≤ g → Traces (read_own n (g - 1) r v) (spell_own (g - 1) r v) (own_of v))
+    → By (by_words (givens_by n g r v) (rows_by n g r v)) (spell_own g r v) (own_of v) (Word given_keyword ∷ after) (by_words (givens_by n g r v) (rows_by n g r v) (Word given_keyword ∷ after))
+given_by n zero r v after h = given_over (givens_by n zero r v) (rows_by n zero r v) r v after (λ b s. refl)
+given_by n (suc g) r v after h = after_traced given_keyword (by_words (givens_by n (suc g) r v) (rows_by n (suc g) r v)) (given_then (read_own n (suc g - 1) r v) v) (spell_given_more (suc g) r v) (spell_own (suc g) r v) (given_more_of v) (own_of v) given_made after
     (given_stands (givens_by n (suc g) r v) (rows_by n (suc g) r v)) (λ z k. refl) (λ z. refl) (given_then_traces (read_own n (suc g - 1) r v) (suc g) r v (h (omega arith)))
 
-row_by : (n g r : ℕ) (v : NamesView) (behind : List Letter) → (1 ≤ r → Traces (read_own n g (r - 1) v) (spell_own g (r - 1) v) (own_of v))
-    → By (by_words (givens_by n g r v) (rows_by n g r v)) (spell_own g r v) (own_of v) (Word row_keyword ∷ behind) (by_words (givens_by n g r v) (rows_by n g r v) (Word row_keyword ∷ behind))
-row_by n g zero v behind h = row_over (givens_by n g zero v) (rows_by n g zero v) g v behind (λ b s. refl)
-row_by n g (suc r) v behind h = behind_traced row_keyword (by_words (givens_by n g (suc r) v) (rows_by n g (suc r) v)) (row_then (read_own n g (suc r - 1) v) v) (spell_row_more g (suc r) v) (spell_own g (suc r) v) (row_more_of v) (own_of v) row_made behind
+row_by : (n g r : ℕ) (v : NamesView) (after : List Letter) → (1 ≤ r → Traces (read_own n g (r - 1) v) (spell_own g (r - 1) v) (own_of v))
+    → By (by_words (givens_by n g r v) (rows_by n g r v)) (spell_own g r v) (own_of v) (Word row_keyword ∷ after) (by_words (givens_by n g r v) (rows_by n g r v) (Word row_keyword ∷ after))
+row_by n g zero v after h = row_over (givens_by n g zero v) (rows_by n g zero v) g v after (λ b s. refl)
+row_by n g (suc r) v after h = after_traced row_keyword (by_words (givens_by n g (suc r) v) (rows_by n g (suc r) v)) (row_then (read_own n g (suc r - 1) v) v) (spell_row_more g (suc r) v) (spell_own g (suc r) v) (row_more_of v) (own_of v) row_made after
     (row_stands (givens_by n g (suc r) v) (rows_by n g (suc r) v)) (λ z k. refl) (λ z. refl) (row_then_traces (read_own n g (suc r - 1) v) g (suc r) v (h (omega arith)))
 
 -- `given` and `row` lines, of which g and r are allowed
 pub own_traces : (n g r : ℕ) (v : NamesView) → g + r ≤ n → Traces (read_own n g r v) (spell_own g r v) (own_of v)
 unfolding read_own too_many
-own_traces zero zero zero v h ls = at_keywords too_many too_many zero zero v ls (λ behind. given_over too_many too_many zero v behind (λ b s. refl)) (λ behind. row_over too_many too_many zero v behind (λ b s. refl))
+own_traces zero zero zero v h ls = at_keywords too_many too_many zero zero v ls (λ after. given_over too_many too_many zero v after (λ b s. refl)) (λ after. row_over too_many too_many zero v after (λ b s. refl))
 own_traces zero zero (suc r) v h ls = absurd (omega (arith, h))
 own_traces zero (suc g) r v h ls = absurd (omega (arith, h))
 own_traces (suc n) g r v h ls = at_keywords (givens_by n g r v) (rows_by n g r v) g r v ls
-    (λ behind. given_by n g r v behind (λ (p : 1 ≤ g). own_traces n (g - 1) r v (omega (arith, h, p))))
-    (λ behind. row_by n g r v behind (λ (p : 1 ≤ r). own_traces n g (r - 1) v (omega (arith, h, p))))
+    (λ after. given_by n g r v after (λ (p : 1 ≤ g). own_traces n (g - 1) r v (omega (arith, h, p))))
+    (λ after. row_by n g r v after (λ (p : 1 ≤ r). own_traces n g (r - 1) v (omega (arith, h, p))))
 
 -- and with no more lines than are allowed
 pub lines_traces : (g r : ℕ) (v : NamesView) → Traces (read_lines g r v) (spell_own g r v) (own_of v)

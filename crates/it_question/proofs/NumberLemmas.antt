@@ -19,18 +19,18 @@ use Rattle.it_syntax.specs.NamesViews.{NamesView}
 use Rattle.it_syntax.specs.Scopes.{scope_of, env_of}
 use Rattle.it_syntax.specs.Spans.{letter_of, letters_until, last_letter}
 use Rattle.it_syntax.specs.Spelling.{IsText}
-use Rattle.it_syntax.specs.WrittenAtoms.{Environment, WrittenList, WrittenAtom, Entropy, EntropyGiven, Mutual, MutualGiven, TermSign, Positive, Negative, sign_letter, mark_surplus, index_or, is_negative, is_minus, spell_more, spell_list, spell_atom, spell_sign}
-use Rattle.it_syntax.specs.WrittenRelations.{Scope, WrittenQuantity, Measure, RateOf, WrittenTerm, Zero, Once, Times, WrittenSum, WrittenRelation, most_terms, number_of_terms, spell_quantity, spell_term, spell_terms, spell_counted, spell_sum, compare_letter, spell_relation, term_of, terms_of, sum_of, relation_of}
+use Rattle.it_syntax.specs.WrittenMeasures.{Environment, WrittenList, WrittenMeasure, Entropy, EntropyGiven, Mutual, MutualGiven, TermSign, Positive, Negative, sign_letter, mark_surplus, index_or, is_negative, is_minus, spell_more, spell_list, spell_measure, spell_sign}
+use Rattle.it_syntax.specs.WrittenRelations.{Scope, WrittenAtom, Measure, RateOf, WrittenTerm, Zero, Once, Times, WrittenSum, WrittenRelation, most_terms, number_of_terms, spell_atom, spell_term, spell_terms, spell_counted, spell_sum, compare_letter, spell_relation, term_of, terms_of, sum_of, relation_of}
 use Rattle.it_syntax.specs.WrittenGivens.{WrittenGiven, Relation, Markov, Independent, Function, divider_letter, spell_members, spell_bar, spell_given, given_of}
 use Rattle.it_question.specs.Files.{IsFile}
-use Rattle.it_question.specs.Lines.{TokenLine, AreLines, letters_of_lines, split_lines}
-use Rattle.it_question.specs.NewNames.{Sort, Variable, Rate, with_name, no_names, spell_new_more, spell_new_names, new_names_of, spell_names_line, names_line_of}
+use Rattle.it_question.specs.Lines.{LineView, AreLines, letters_of_lines, split_lines}
+use Rattle.it_question.specs.NewNames.{NameSortView, Variable, Rate, with_name, no_names, spell_new_more, spell_new_names, new_names_of, spell_names_line, names_line_of}
 use Rattle.it_question.specs.Questions.{OwnLinesView, VerbView, BodyView, QuestionView}
 use Rattle.it_question.specs.Questions as views
 use Rattle.it_question.specs.Texts.{question_line_count, with_texts}
 use Rattle.it_question.specs.WrittenFiles.{spell_verb, verb_of, names_of, spell_question, question_of, spell_questions, questions_of}
 use Rattle.it_question.specs.WrittenLines.{spell_own, own_of, spell_once_more, rates_env}
-use Rattle.it_question.specs.WrittenQuestions.{WrittenLine, GivenLine, RowLine, WrittenRegion, WrittenSet, Empty, Listed, WrittenPart, WrittenTry, WrittenVerb, Prove, Eliminate, Contain, WrittenQuestion, most_questions, most_rates, most_lines, most_variables}
+use Rattle.it_question.specs.WrittenQuestions.{WrittenOwnLine, GivenLine, RowLine, WrittenRegion, WrittenSet, Empty, Listed, WrittenPart, WrittenTry, WrittenVerb, Prove, Eliminate, Contain, WrittenQuestion, most_questions, most_rates, most_lines, most_variables}
 use Rattle.it_question.specs.Keywords.{aux_keyword, rates_keyword}
 use Rattle.it_question.specs.WrittenRegions.{auxiliaries_left, auxiliary_env, spell_region, region_of, givens_left, rows_left}
 use Rattle.it_question.specs.WrittenTries.{Sets, unnamed_sets, spell_set, spell_part, with_part, spell_parts, spell_try, spell_tries}
@@ -66,174 +66,174 @@ AreSmall ((l, o) ∷ m) = AreSmall m
 
 -- ---- what is spelled within a line
 
-behind_more : (env : Environment) (ws : List (List ℕ)) (k : MarkedLetters) → AreSmall (spell_more env ws k) → AreSmall k
-behind_more env [] k h = h
-behind_more env (w ∷ ws) k h = behind_more env ws k h
+after_more : (env : Environment) (ws : List (List ℕ)) (k : MarkedLetters) → AreSmall (spell_more env ws k) → AreSmall k
+after_more env [] k h = h
+after_more env (w ∷ ws) k h = after_more env ws k h
 
-behind_list : (env : Environment) (l : WrittenList) (k : MarkedLetters) → AreSmall (spell_list env l k) → AreSmall k
-behind_list env l k h = behind_more env l.more k h
+after_list : (env : Environment) (l : WrittenList) (k : MarkedLetters) → AreSmall (spell_list env l k) → AreSmall k
+after_list env l k h = after_more env l.more k h
 
-behind_atom : (env : Environment) (a : WrittenAtom) (k : MarkedLetters) → AreSmall (spell_atom env a k) → AreSmall k
-behind_atom env (Entropy a) k h = behind_list env a _ h
-behind_atom env (EntropyGiven a c) k h = behind_list env c _ (behind_list env a _ h)
-behind_atom env (Mutual a b) k h = behind_list env b _ (behind_list env a _ h)
-behind_atom env (MutualGiven a b c) k h = behind_list env c _ (behind_list env b _ (behind_list env a _ h))
+after_measure : (env : Environment) (a : WrittenMeasure) (k : MarkedLetters) → AreSmall (spell_measure env a k) → AreSmall k
+after_measure env (Entropy a) k h = after_list env a _ h
+after_measure env (EntropyGiven a c) k h = after_list env c _ (after_list env a _ h)
+after_measure env (Mutual a b) k h = after_list env b _ (after_list env a _ h)
+after_measure env (MutualGiven a b c) k h = after_list env c _ (after_list env b _ (after_list env a _ h))
 
-behind_quantity : (s : Scope) (q : WrittenQuantity) (k : MarkedLetters) → AreSmall (spell_quantity s q k) → AreSmall k
-behind_quantity s (Measure a) k h = behind_atom s.variables a k h
-behind_quantity s (RateOf r) k h = h
+after_atom : (s : Scope) (q : WrittenAtom) (k : MarkedLetters) → AreSmall (spell_atom s q k) → AreSmall k
+after_atom s (Measure a) k h = after_measure s.variables a k h
+after_atom s (RateOf r) k h = h
 
-behind_term : (s : Scope) (minus : Bool) (t : WrittenTerm) (k : MarkedLetters) → AreSmall (spell_term s t k) → ((term_of s minus t).number < 2 ^ 64) × AreSmall k
-behind_term s minus Zero k h = h
-behind_term s minus (Once q) k h = (lit< tt, behind_quantity s q k h)
-behind_term s minus (Times n q) k h = (h.0, behind_quantity s q k h.1)
+after_term : (s : Scope) (minus : Bool) (t : WrittenTerm) (k : MarkedLetters) → AreSmall (spell_term s t k) → ((term_of s minus t).number < 2 ^ 64) × AreSmall k
+after_term s minus Zero k h = h
+after_term s minus (Once q) k h = (lit< tt, after_atom s q k h)
+after_term s minus (Times n q) k h = (h.0, after_atom s q k h.1)
 
-behind_mark : (m : MarkedLetters) → AreSmall (mark_surplus m) → AreSmall m
-behind_mark [] h = h
-behind_mark ((Number n, None) ∷ m) h = h
-behind_mark ((l, None) ∷ m) h = h
-behind_mark ((l, Some c) ∷ m) h = h
+after_mark : (m : MarkedLetters) → AreSmall (mark_surplus m) → AreSmall m
+after_mark [] h = h
+after_mark ((Number n, None) ∷ m) h = h
+after_mark ((l, None) ∷ m) h = h
+after_mark ((l, Some c) ∷ m) h = h
 
-behind_sign : (s : TermSign) (k : MarkedLetters) → AreSmall (without_mark (sign_letter s) ∷ k) → AreSmall k
-behind_sign Positive k h = h
-behind_sign Negative k h = h
+after_sign : (s : TermSign) (k : MarkedLetters) → AreSmall (without_mark (sign_letter s) ∷ k) → AreSmall k
+after_sign Positive k h = h
+after_sign Negative k h = h
 
-behind_terms : (n : ℕ) (s : Scope) (ts : List (TermSign × WrittenTerm)) (k : MarkedLetters) → AreSmall (spell_terms n s ts k) → Every (λ (t : Term). t.number < 2 ^ 64) (terms_of s ts) × AreSmall k
-behind_terms n s [] k h = (tt, h)
-behind_terms zero s (t ∷ ts) k h =
-    let one = behind_term s (is_negative t.0) t.1 (spell_terms zero s ts k) (behind_mark (spell_term s t.1 (spell_terms zero s ts k)) (behind_sign t.0 _ h)) in
-    let rest = behind_terms zero s ts k one.1 in
+after_terms : (n : ℕ) (s : Scope) (ts : List (TermSign × WrittenTerm)) (k : MarkedLetters) → AreSmall (spell_terms n s ts k) → Every (λ (t : Term). t.number < 2 ^ 64) (terms_of s ts) × AreSmall k
+after_terms n s [] k h = (tt, h)
+after_terms zero s (t ∷ ts) k h =
+    let one = after_term s (is_negative t.0) t.1 (spell_terms zero s ts k) (after_mark (spell_term s t.1 (spell_terms zero s ts k)) (after_sign t.0 _ h)) in
+    let rest = after_terms zero s ts k one.1 in
     ((one.0, rest.0), rest.1)
-behind_terms (suc n) s (t ∷ ts) k h =
-    let one = behind_term s (is_negative t.0) t.1 (spell_terms n s ts k) (behind_sign t.0 _ h) in
-    let rest = behind_terms n s ts k one.1 in
+after_terms (suc n) s (t ∷ ts) k h =
+    let one = after_term s (is_negative t.0) t.1 (spell_terms n s ts k) (after_sign t.0 _ h) in
+    let rest = after_terms n s ts k one.1 in
     ((one.0, rest.0), rest.1)
 
-behind_counted : (n : ℕ) (s : Scope) (minus : Bool) (t : WrittenTerm) (ts : List (TermSign × WrittenTerm)) (k : MarkedLetters) → AreSmall (spell_counted n s t ts k)
+after_counted : (n : ℕ) (s : Scope) (minus : Bool) (t : WrittenTerm) (ts : List (TermSign × WrittenTerm)) (k : MarkedLetters) → AreSmall (spell_counted n s t ts k)
     → (((term_of s minus t).number < 2 ^ 64) × Every (λ (t : Term). t.number < 2 ^ 64) (terms_of s ts)) × AreSmall k
-behind_counted zero s minus t ts k h =
-    let one = behind_term s minus t (spell_terms zero s ts k) (behind_mark (spell_term s t (spell_terms zero s ts k)) h) in
-    let rest = behind_terms zero s ts k one.1 in
+after_counted zero s minus t ts k h =
+    let one = after_term s minus t (spell_terms zero s ts k) (after_mark (spell_term s t (spell_terms zero s ts k)) h) in
+    let rest = after_terms zero s ts k one.1 in
     ((one.0, rest.0), rest.1)
-behind_counted (suc n) s minus t ts k h =
-    let one = behind_term s minus t (spell_terms n s ts k) h in
-    let rest = behind_terms n s ts k one.1 in
+after_counted (suc n) s minus t ts k h =
+    let one = after_term s minus t (spell_terms n s ts k) h in
+    let rest = after_terms n s ts k one.1 in
     ((one.0, rest.0), rest.1)
 
-behind_first_sign : (o : Option TermSign) (k : MarkedLetters) → AreSmall (spell_sign o k) → AreSmall k
-behind_first_sign None k h = h
-behind_first_sign (Some s) k h = behind_sign s k h
+after_first_sign : (o : Option TermSign) (k : MarkedLetters) → AreSmall (spell_sign o k) → AreSmall k
+after_first_sign None k h = h
+after_first_sign (Some s) k h = after_sign s k h
 
-behind_sum : (n : ℕ) (s : Scope) (e : WrittenSum) (k : MarkedLetters) → AreSmall (spell_sum n s e k) → Every (λ (t : Term). t.number < 2 ^ 64) (sum_of s e) × AreSmall k
-behind_sum n s e k h = behind_counted n s (is_minus e.sign) e.first e.more k (behind_first_sign e.sign (spell_counted n s e.first e.more k) h)
+after_sum : (n : ℕ) (s : Scope) (e : WrittenSum) (k : MarkedLetters) → AreSmall (spell_sum n s e k) → Every (λ (t : Term). t.number < 2 ^ 64) (sum_of s e) × AreSmall k
+after_sum n s e k h = after_counted n s (is_minus e.sign) e.first e.more k (after_first_sign e.sign (spell_counted n s e.first e.more k) h)
 
-behind_compare : (s : Sign) (k : MarkedLetters) → AreSmall (without_mark (compare_letter s) ∷ k) → AreSmall k
-behind_compare AtLeast k h = h
-behind_compare AtMost k h = h
-behind_compare Equal k h = h
+after_compare : (s : Sign) (k : MarkedLetters) → AreSmall (without_mark (compare_letter s) ∷ k) → AreSmall k
+after_compare AtLeast k h = h
+after_compare AtMost k h = h
+after_compare Equal k h = h
 
-behind_relation : (s : Scope) (x : WrittenRelation) (k : MarkedLetters) → AreSmall (spell_relation s x k) → HasSmallNumbers (relation_of s x) × AreSmall k
-behind_relation s x k h =
-    let left = behind_sum most_terms s x.left (without_mark (compare_letter x.sign) ∷ spell_sum (most_terms - number_of_terms x.left) s x.right k) h in
-    let right = behind_sum (most_terms - number_of_terms x.left) s x.right k (behind_compare x.sign _ left.1) in
+after_relation : (s : Scope) (x : WrittenRelation) (k : MarkedLetters) → AreSmall (spell_relation s x k) → HasSmallNumbers (relation_of s x) × AreSmall k
+after_relation s x k h =
+    let left = after_sum most_terms s x.left (without_mark (compare_letter x.sign) ∷ spell_sum (most_terms - number_of_terms x.left) s x.right k) h in
+    let right = after_sum (most_terms - number_of_terms x.left) s x.right k (after_compare x.sign _ left.1) in
     ((left.0, right.0), right.1)
 
 -- ---- `given` and `row` lines
 
-behind_divider : (d : Divider) (k : MarkedLetters) → AreSmall (without_mark (divider_letter d) ∷ k) → AreSmall k
-behind_divider Arrows k h = h
-behind_divider Semicolons k h = h
+after_divider : (d : Divider) (k : MarkedLetters) → AreSmall (without_mark (divider_letter d) ∷ k) → AreSmall k
+after_divider Arrows k h = h
+after_divider Semicolons k h = h
 
-behind_members : (n : ℕ) (d : Divider) (env : Environment) (ls : List WrittenList) (k : MarkedLetters) → AreSmall (spell_members n d env ls k) → AreSmall k
-behind_members n d env [] k h = h
-behind_members zero d env (l ∷ ls) k h = behind_members zero d env ls k (behind_list env l (spell_members zero d env ls k) (behind_mark (spell_list env l (spell_members zero d env ls k)) (behind_divider d _ h)))
-behind_members (suc n) d env (l ∷ ls) k h = behind_members n d env ls k (behind_list env l (spell_members n d env ls k) (behind_divider d _ h))
+after_members : (n : ℕ) (d : Divider) (env : Environment) (ls : List WrittenList) (k : MarkedLetters) → AreSmall (spell_members n d env ls k) → AreSmall k
+after_members n d env [] k h = h
+after_members zero d env (l ∷ ls) k h = after_members zero d env ls k (after_list env l (spell_members zero d env ls k) (after_mark (spell_list env l (spell_members zero d env ls k)) (after_divider d _ h)))
+after_members (suc n) d env (l ∷ ls) k h = after_members n d env ls k (after_list env l (spell_members n d env ls k) (after_divider d _ h))
 
-behind_bar : (env : Environment) (o : Option WrittenList) (k : MarkedLetters) → AreSmall (spell_bar env o k) → AreSmall k
-behind_bar env None k h = h
-behind_bar env (Some c) k h = behind_list env c k h
+after_bar : (env : Environment) (o : Option WrittenList) (k : MarkedLetters) → AreSmall (spell_bar env o k) → AreSmall k
+after_bar env None k h = h
+after_bar env (Some c) k h = after_list env c k h
 
-behind_given : (s : Scope) (x : WrittenGiven) (k : MarkedLetters) → AreSmall (spell_given s x k) → GivenHasSmallNumbers (given_of s x) × AreSmall k
-behind_given s (Relation x) k h = behind_relation s x.relation k h
-behind_given s (Markov x) k h =
-    (tt, behind_members 13 Arrows s.variables x.more k (behind_list s.variables x.third _ (behind_list s.variables x.second _ (behind_list s.variables x.first _ h))))
-behind_given s (Independent x) k h =
-    (tt, behind_bar s.variables x.given k (behind_members 14 Semicolons s.variables x.more _ (behind_list s.variables x.second _ (behind_list s.variables x.first _ h))))
-behind_given s (Function x) k h = (tt, behind_list s.variables x.argument k (behind_list s.variables x.value _ h))
+after_given : (s : Scope) (x : WrittenGiven) (k : MarkedLetters) → AreSmall (spell_given s x k) → GivenHasSmallNumbers (given_of s x) × AreSmall k
+after_given s (Relation x) k h = after_relation s x.relation k h
+after_given s (Markov x) k h =
+    (tt, after_members 13 Arrows s.variables x.more k (after_list s.variables x.third _ (after_list s.variables x.second _ (after_list s.variables x.first _ h))))
+after_given s (Independent x) k h =
+    (tt, after_bar s.variables x.given k (after_members 14 Semicolons s.variables x.more _ (after_list s.variables x.second _ (after_list s.variables x.first _ h))))
+after_given s (Function x) k h = (tt, after_list s.variables x.argument k (after_list s.variables x.value _ h))
 
-behind_own : (g r : ℕ) (v : NamesView) (ls : List WrittenLine) (k : MarkedLetters) → AreSmall (spell_own g r v ls k) → LinesHaveSmallNumbers (own_of v ls) × AreSmall k
-behind_own g r v [] k h = ((tt, tt), h)
-behind_own g r v (GivenLine x ∷ ls) k h =
-    let one = behind_given (scope_of v false) x _ h in
-    let rest = behind_own (g - 1) r v ls k one.1 in
+after_own : (g r : ℕ) (v : NamesView) (ls : List WrittenOwnLine) (k : MarkedLetters) → AreSmall (spell_own g r v ls k) → LinesHaveSmallNumbers (own_of v ls) × AreSmall k
+after_own g r v [] k h = ((tt, tt), h)
+after_own g r v (GivenLine x ∷ ls) k h =
+    let one = after_given (scope_of v false) x _ h in
+    let rest = after_own (g - 1) r v ls k one.1 in
     (((one.0, rest.0.0), rest.0.1), rest.1)
-behind_own g r v (RowLine x ∷ ls) k h =
-    let one = behind_relation (scope_of v true) x _ h in
-    let rest = behind_own g (r - 1) v ls k one.1 in
+after_own g r v (RowLine x ∷ ls) k h =
+    let one = after_relation (scope_of v true) x _ h in
+    let rest = after_own g (r - 1) v ls k one.1 in
     ((rest.0.0, (one.0, rest.0.1)), rest.1)
 
 -- ---- names, rates and sets
 
-behind_new_more : (sort : Sort) (n : ℕ) (v : NamesView) (ws : List (List ℕ)) (k : MarkedLetters) → AreSmall (spell_new_more sort n v ws k) → AreSmall k
-behind_new_more sort n v [] k h = h
-behind_new_more sort n v (w ∷ ws) k h = behind_new_more sort (n - 1) (with_name sort v w) ws k h
+after_new_more : (sort : NameSortView) (n : ℕ) (v : NamesView) (ws : List (List ℕ)) (k : MarkedLetters) → AreSmall (spell_new_more sort n v ws k) → AreSmall k
+after_new_more sort n v [] k h = h
+after_new_more sort n v (w ∷ ws) k h = after_new_more sort (n - 1) (with_name sort v w) ws k h
 
-behind_new_names : (sort : Sort) (n : ℕ) (v : NamesView) (l : WrittenList) (k : MarkedLetters) → AreSmall (spell_new_names sort n v l k) → AreSmall k
-behind_new_names sort n v l k h = behind_new_more sort (n - 1) (with_name sort v l.first) l.more k h
+after_new_names : (sort : NameSortView) (n : ℕ) (v : NamesView) (l : WrittenList) (k : MarkedLetters) → AreSmall (spell_new_names sort n v l k) → AreSmall k
+after_new_names sort n v l k h = after_new_more sort (n - 1) (with_name sort v l.first) l.more k h
 
-behind_names_line : (sort : Sort) (n : ℕ) (keyword : List ℕ) (v : NamesView) (o : Option WrittenList) (k : MarkedLetters) → AreSmall (spell_names_line sort n keyword v o k) → AreSmall k
-behind_names_line sort n keyword v None k h = h
-behind_names_line sort n keyword v (Some l) k h = behind_new_names sort n v l _ h
+after_names_line : (sort : NameSortView) (n : ℕ) (keyword : List ℕ) (v : NamesView) (o : Option WrittenList) (k : MarkedLetters) → AreSmall (spell_names_line sort n keyword v o k) → AreSmall k
+after_names_line sort n keyword v None k h = h
+after_names_line sort n keyword v (Some l) k h = after_new_names sort n v l _ h
 
-behind_set : (env : Environment) (x : WrittenSet) (k : MarkedLetters) → AreSmall (spell_set env x k) → AreSmall k
-behind_set env Empty k h = h.1
-behind_set env (Listed l) k h = behind_list env l k h
+after_set : (env : Environment) (x : WrittenSet) (k : MarkedLetters) → AreSmall (spell_set env x k) → AreSmall k
+after_set env Empty k h = h.1
+after_set env (Listed l) k h = after_list env l k h
 
-behind_part : (aux env : Environment) (sets : Sets) (x : WrittenPart) (k : MarkedLetters) → AreSmall (spell_part aux env sets x k) → AreSmall k
-behind_part aux env sets x k h = behind_set env x.set k h
+after_part : (aux env : Environment) (sets : Sets) (x : WrittenPart) (k : MarkedLetters) → AreSmall (spell_part aux env sets x k) → AreSmall k
+after_part aux env sets x k h = after_set env x.set k h
 
-behind_parts : (aux env : Environment) (sets : Sets) (xs : List WrittenPart) (k : MarkedLetters) → AreSmall (spell_parts aux env sets xs k) → AreSmall k
-behind_parts aux env sets [] k h = h
-behind_parts aux env sets (x ∷ xs) k h = behind_parts aux env (with_part aux env sets x) xs k (behind_part aux env sets x _ h)
+after_parts : (aux env : Environment) (sets : Sets) (xs : List WrittenPart) (k : MarkedLetters) → AreSmall (spell_parts aux env sets xs k) → AreSmall k
+after_parts aux env sets [] k h = h
+after_parts aux env sets (x ∷ xs) k h = after_parts aux env (with_part aux env sets x) xs k (after_part aux env sets x _ h)
 
-behind_try : (aux env : Environment) (sets : Sets) (x : WrittenTry) (k : MarkedLetters) → AreSmall (spell_try aux env sets x k) → AreSmall k
-behind_try aux env sets x k h = behind_parts aux env (with_part aux env sets x.first) x.more _ (behind_part aux env sets x.first _ h)
+after_try : (aux env : Environment) (sets : Sets) (x : WrittenTry) (k : MarkedLetters) → AreSmall (spell_try aux env sets x k) → AreSmall k
+after_try aux env sets x k h = after_parts aux env (with_part aux env sets x.first) x.more _ (after_part aux env sets x.first _ h)
 
-behind_tries : (n : ℕ) (aux env : Environment) (sets : Sets) (xs : List WrittenTry) (k : MarkedLetters) → AreSmall (spell_tries n aux env sets xs k) → AreSmall k
-behind_tries n aux env sets [] k h = h
-behind_tries n aux env sets (x ∷ xs) k h = behind_tries (n - 1) aux env sets xs k (behind_try aux env sets x _ h)
+after_tries : (n : ℕ) (aux env : Environment) (sets : Sets) (xs : List WrittenTry) (k : MarkedLetters) → AreSmall (spell_tries n aux env sets xs k) → AreSmall k
+after_tries n aux env sets [] k h = h
+after_tries n aux env sets (x ∷ xs) k h = after_tries (n - 1) aux env sets xs k (after_try aux env sets x _ h)
 
 -- ---- questions
 
-behind_region : (g r : ℕ) (v : NamesView) (x : WrittenRegion) (k : MarkedLetters) → AreSmall (spell_region g r v x k) → LinesHaveSmallNumbers (region_of v x).lines × AreSmall k
-behind_region g r v x k h = behind_own g r (names_line_of Variable v x.auxiliaries) x.own k (behind_names_line Variable (auxiliaries_left v) aux_keyword v x.auxiliaries _ h)
+after_region : (g r : ℕ) (v : NamesView) (x : WrittenRegion) (k : MarkedLetters) → AreSmall (spell_region g r v x k) → LinesHaveSmallNumbers (region_of v x).lines × AreSmall k
+after_region g r v x k h = after_own g r (names_line_of Variable v x.auxiliaries) x.lines k (after_names_line Variable (auxiliaries_left v) aux_keyword v x.auxiliaries _ h)
 
 verb_small : (g r : ℕ) (v : NamesView) (x : WrittenVerb) (k : MarkedLetters) → AreSmall (spell_verb g r v x k) → VerbHasSmallNumbers (verb_of v x) × AreSmall k
-verb_small g r v (Prove x) k h = behind_relation (scope_of v true) x (without_mark End ∷ k) h
-verb_small g r v (Eliminate l) k h = (tt, behind_rates (index_or (rates_env v l.first) ∷ []) l.more h)
+verb_small g r v (Prove x) k h = after_relation (scope_of v true) x (without_mark End ∷ k) h
+verb_small g r v (Eliminate l) k h = (tt, after_rates (index_or (rates_env v l.first) ∷ []) l.more h)
   where
-    behind_rates : (seen : List ℕ) (ws : List (List ℕ)) → AreSmall (spell_once_more (rates_env v) seen ws (without_mark End ∷ k)) → AreSmall k
-    behind_rates seen [] h = h
-    behind_rates seen (w ∷ ws) h = behind_rates (seen ++ index_or (rates_env v w) ∷ []) ws h
+    after_rates : (seen : List ℕ) (ws : List (List ℕ)) → AreSmall (spell_once_more (rates_env v) seen ws (without_mark End ∷ k)) → AreSmall k
+    after_rates seen [] h = h
+    after_rates seen (w ∷ ws) h = after_rates (seen ++ index_or (rates_env v w) ∷ []) ws h
 verb_small g r v (Contain x) k h =
     let first = region_of v x.first in
     let second = region_of v x.second in
-    let one = behind_region g r v x.first _ h in
-    let two = behind_region (givens_left g first.lines) (rows_left r first.lines) v x.second _ one.1 in
-    ((one.0, two.0), behind_tries most_lines (auxiliary_env v second.names) (env_of first.names) (unnamed_sets second.auxiliaries) x.tries _ two.1)
+    let one = after_region g r v x.first _ h in
+    let two = after_region (givens_left g first.lines) (rows_left r first.lines) v x.second _ one.1 in
+    ((one.0, two.0), after_tries most_lines (auxiliary_env v second.names) (env_of first.names) (unnamed_sets second.auxiliaries) x.tries _ two.1)
 
-behind_question : (x : WrittenQuestion) (k : MarkedLetters) → AreSmall (spell_question x k) → QuestionHasSmallNumbers (question_of x) × AreSmall k
-behind_question x k h =
+after_question : (x : WrittenQuestion) (k : MarkedLetters) → AreSmall (spell_question x k) → QuestionHasSmallNumbers (question_of x) × AreSmall k
+after_question x k h =
     let variables = new_names_of Variable no_names x.variables in
     let names = names_of x in
-    let own = own_of names x.own in
-    let lines = behind_own most_lines most_lines names x.own _ (behind_names_line Rate most_rates rates_keyword variables x.rates _ (behind_new_names Variable most_variables no_names x.variables _ h)) in
+    let own = own_of names x.lines in
+    let lines = after_own most_lines most_lines names x.lines _ (after_names_line Rate most_rates rates_keyword variables x.rates _ (after_new_names Variable most_variables no_names x.variables _ h)) in
     let verb = verb_small (givens_left most_lines own) (rows_left most_lines own) names x.verb k lines.1 in
     ((lines.0, verb.0), verb.1)
 
 questions_small : (n : ℕ) (xs : List WrittenQuestion) (k : MarkedLetters) → AreSmall (spell_questions n xs k) → Every QuestionHasSmallNumbers (questions_of xs)
 questions_small n [] k h = tt
-questions_small n (x ∷ xs) k h = let one = behind_question x (spell_questions (n - 1) xs k) h in (one.0, questions_small (n - 1) xs k one.1)
+questions_small n (x ∷ xs) k h = let one = after_question x (spell_questions (n - 1) xs k) h in (one.0, questions_small (n - 1) xs k one.1)
 
 -- ---- the letters of lines
 
@@ -255,15 +255,15 @@ line_small : (line : List ℕ) (at : ℕ) (bytes : List ℕ) (ts : List Token) (
 line_small line at bytes [] m h = end_small m
 line_small line at bytes (t ∷ ts) m h = token_small line t.start t.end t.kind h.1.text (letters_until line ts (last_letter m)) h.1.spelled (line_small line t.end h.0 ts m h.2)
 
-lines_small : (n : ℕ) (split : List (List ℕ)) (lines : List TokenLine) → AreLines n split lines → AreSmall (without_marks (letters_of_lines lines))
-lines_small n [] lines h = subst (λ (ls : List TokenLine). AreSmall (without_marks (letters_of_lines ls))) (sym h) tt
+lines_small : (n : ℕ) (split : List (List ℕ)) (lines : List LineView) → AreLines n split lines → AreSmall (without_marks (letters_of_lines lines))
+lines_small n [] lines h = subst (λ (ls : List LineView). AreSmall (without_marks (letters_of_lines ls))) (sym h) tt
 lines_small n (bytes ∷ more) lines (inl h) = lines_small (n + 1) more lines h.1
-lines_small n (bytes ∷ more) lines (inr h) = subst (λ (ls : List TokenLine). AreSmall (without_marks (letters_of_lines ls))) (sym h.2)
+lines_small n (bytes ∷ more) lines (inr h) = subst (λ (ls : List LineView). AreSmall (without_marks (letters_of_lines ls))) (sym h.2)
     (before_small (letters_until h.0.text h.0.tokens (last_letter h.0.misspelling)) (letters_of_lines h.1) (line_small h.0.text 0 h.0.text h.0.tokens h.0.misspelling h.3.spelled) (lines_small (n + 1) more h.1 h.5))
 
 -- ---- files
 
-texts_apart : (lines : List TokenLine) (qs : List BodyView) → Every QuestionHasSmallNumbers qs → Every (λ (q : QuestionView). QuestionHasSmallNumbers q.body) (with_texts lines qs)
+texts_apart : (lines : List LineView) (qs : List BodyView) → Every QuestionHasSmallNumbers qs → Every (λ (q : QuestionView). QuestionHasSmallNumbers q.body) (with_texts lines qs)
 texts_apart lines [] h = tt
 texts_apart lines (q ∷ qs) h = (h.0, texts_apart (drop (question_line_count q) lines) qs h.1)
 

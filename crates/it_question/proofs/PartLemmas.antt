@@ -1,4 +1,4 @@
--- What is read of a line's letters is read of them with the letters of further lines behind them.
+-- What is read of a line's letters is read of them with the letters of further lines after them.
 use Rattle.std.proofs.Common.{◌≡◌, ℕ, List, [], ◌∷◌, ◌++◌, Ok, Err, refl, sym, ap, ◌∙◌, subst, append_assoc}
 use Rattle.it_syntax.specs.declared.types.Code.{Code}
 use Rattle.it_syntax.specs.declared.types.Code.TheVariants as codes
@@ -10,10 +10,10 @@ use Rattle.it_syntax.specs.Spans.{letters_until}
 use Rattle.it_syntax.specs.FirstFault.{head}
 use Rattle.it_syntax.specs.Gives.{StopsAs}
 use Rattle.it_syntax.specs.Lines.{to_end}
-use Rattle.it_syntax.specs.AtomReading.{Fault, Reads, ◌>>=◌, line_end, read_list, read_name, read_sign}
-use Rattle.it_syntax.specs.WrittenAtoms.{Environment}
+use Rattle.it_syntax.specs.MeasureReading.{Fault, Reads, ◌>>=◌, line_end, read_list, read_name, read_sign}
+use Rattle.it_syntax.specs.WrittenMeasures.{Environment}
 use Rattle.it_syntax.specs.WrittenRelations.{Scope}
-use Rattle.it_syntax.specs.RelationReading.{read_relation, read_sum, read_counted, read_term, read_quantity}
+use Rattle.it_syntax.specs.RelationReading.{read_relation, read_sum, read_counted, read_term, read_atom}
 use Rattle.it_syntax.specs.GivenReading.{read_given, read_plain}
 use Rattle.it_syntax.proofs.Traces.{Went, Stuck, By, Traces}
 use Rattle.it_syntax.proofs.LineEnd.{end_traces}
@@ -52,9 +52,9 @@ part_stops f spell value h (stops.Fault c) ls r more e some = part_err f spell v
 
 -- ---- up to the line's end
 
-left_behind : {A : Type 0} → Reads A → List Letter
-left_behind (Ok x) = x.1
-left_behind (Err e) = e.1
+left_after : {A : Type 0} → Reads A → List Letter
+left_after (Ok x) = x.1
+left_after (Err e) = e.1
 
 value_or : {A : Type 0} → A → Reads A → A
 value_or d (Ok x) = x.0
@@ -64,7 +64,7 @@ fault_or : {A : Type 0} → Fault → Reads A → Fault
 fault_or d (Ok x) = d
 fault_or d (Err e) = e
 
--- a value, behind what is read over
+-- a value, after what is read over
 abbrev with_value : {A : Type 0} → A → Reads (Unit {0}) → Reads A
 with_value y t = t >>= λ e. Ok (y, e.1)
 
@@ -72,13 +72,13 @@ abbrev then_end : {A : Type 0} → Reads A → Reads A
 then_end t = t >>= λ y. line_end y.1 >>= λ e. Ok (y.0, e.1)
 
 at_end : {A : Type 0} (r : List Letter) (y x : A) → with_value y (line_end r) ≡ Ok (x, []) → (r ≡ End ∷ []) × (y ≡ x)
-unfolding line_end left_behind value_or
+unfolding line_end left_after value_or
 at_end [] y x h = absurd cc
 at_end (Word w ∷ ls) y x h = absurd cc
 at_end (Number n ∷ ls) y x h = absurd cc
 at_end (Sym s ∷ ls) y x h = absurd cc
 at_end (Bad c ∷ ls) y x h = absurd cc
-at_end {A} (End ∷ ls) y x h = (ap (λ (t : List Letter). End ∷ t) (ap left_behind h), ap (value_or y) h)
+at_end {A} (End ∷ ls) y x h = (ap (λ (t : List Letter). End ∷ t) (ap left_after h), ap (value_or y) h)
 
 -- a value, and then the line's end
 pub whole_ok : {A X : Type 0} (f : List Letter → Reads A) (spell : X → MarkedLetters → MarkedLetters) (value : X → A) → Traces f spell value → (ls more : List Letter) (x : A) → to_end f ls ≡ Ok (x, []) → to_end f (ls ++ more) ≡ Ok (x, more)
@@ -99,8 +99,8 @@ stuck_first (Ok u) y c r h = absurd cc
 stuck_first (Err e) y c r h = ap (λ (g : Fault). Err g) (ap (fault_or (c, r)) h)
 
 some_first : (c : Code) (r rest : List Letter) → line_end r ≡ Err (c, rest) → HasLetters rest → HasLetters r
-unfolding line_end left_behind
-some_first c [] rest h some = subst HasLetters (sym (ap left_behind h)) some
+unfolding line_end left_after
+some_first c [] rest h some = subst HasLetters (sym (ap left_after h)) some
 some_first c (l ∷ r) rest h some = tt
 
 -- a fault up to the line's end
@@ -123,11 +123,11 @@ whole_stops f spell value h (stops.Fault c) ls r more e some = whole_err f spell
 -- ---- where nothing is left
 
 pub no_relation : (s : Scope) → to_end (read_relation s) [] ≡ Err (codes.Word, [])
-unfolding to_end read_relation read_sum read_counted read_sign read_term read_quantity
+unfolding to_end read_relation read_sum read_counted read_sign read_term read_atom
 no_relation s = refl
 
 pub no_given_line : (s : Scope) → to_end (read_given s) [] ≡ Err (codes.Word, [])
-unfolding to_end read_given read_plain read_relation read_sum read_counted read_sign read_term read_quantity
+unfolding to_end read_given read_plain read_relation read_sum read_counted read_sign read_term read_atom
 no_given_line s = refl
 
 pub no_list : (env : Environment) → read_list env [] ≡ Err (codes.Word, [])

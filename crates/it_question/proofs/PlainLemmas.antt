@@ -25,15 +25,15 @@ before_comment_is line n r = by_list line n r.all r.stops
     by_list (b ∷ line) zero all stops = ap (λ (t : Bool). cond t [] (b ∷ before_comment line)) (is_same (b == 35) false stops)
     by_list (b ∷ line) (suc n) all stops = ap (λ (t : Bool). cond t [] (b ∷ before_comment line)) (is_same (b == 35) true all.0) ∙ ap (λ (t : List ℕ). b ∷ t) (by_list line n all.1 stops)
 
--- a line with its line feed, and the bytes behind it
-pub split_at_feed : (bytes : List ℕ) (n : ℕ) (b : ℕ) (behind : List ℕ) → AreAll (is_other 10) (take n bytes) → Stops (is_other 10) (drop n bytes) → drop n bytes ≡ b ∷ behind → split_lines bytes ≡ take n bytes ∷ split_lines behind
+-- a line with its line feed, and the bytes after it
+pub split_at_feed : (bytes : List ℕ) (n : ℕ) (b : ℕ) (after : List ℕ) → AreAll (is_other 10) (take n bytes) → Stops (is_other 10) (drop n bytes) → drop n bytes ≡ b ∷ after → split_lines bytes ≡ take n bytes ∷ split_lines after
 unfolding is_other
-split_at_feed [] zero b behind all stops e = absurd cc
-split_at_feed [] (suc n) b behind all stops e = absurd cc
-split_at_feed (c ∷ bytes) zero b behind all stops e =
+split_at_feed [] zero b after all stops e = absurd cc
+split_at_feed [] (suc n) b after all stops e = absurd cc
+split_at_feed (c ∷ bytes) zero b after all stops e =
     ap (λ (t : Bool). cond t ([] ∷ split_lines bytes) (in_front c (split_lines bytes))) (is_same (c == 10) false stops) ∙ ap (λ (t : List ℕ). [] ∷ split_lines (drop 1 t)) e
-split_at_feed (c ∷ bytes) (suc n) b behind all stops e =
-    ap (λ (t : Bool). cond t ([] ∷ split_lines bytes) (in_front c (split_lines bytes))) (is_same (c == 10) true all.0) ∙ ap (in_front c) (split_at_feed bytes n b behind all.1 stops e)
+split_at_feed (c ∷ bytes) (suc n) b after all stops e =
+    ap (λ (t : Bool). cond t ([] ∷ split_lines bytes) (in_front c (split_lines bytes))) (is_same (c == 10) true all.0) ∙ ap (in_front c) (split_at_feed bytes n b after all.1 stops e)
 
 -- a last line without one
 pub split_at_end : (bytes : List ℕ) (n : ℕ) → AreAll (is_other 10) (take n bytes) → drop n bytes ≡ [] → 1 ≤ length bytes → split_lines bytes ≡ take n bytes ∷ []

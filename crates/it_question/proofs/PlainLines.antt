@@ -91,7 +91,7 @@ no_tab (b ∷ line) h = ap (λ (t : Bool). cond t 32 b ∷ map without_tab line)
 pub plain_same : (line : List ℕ) → AreAll is_plain line → plain_text line ≡ line
 plain_same line h = ap (λ (t : List ℕ). map without_tab (before_comment t)) (no_return line h) ∙ ap (map without_tab) (no_comment line h) ∙ no_tab line h
 
--- with a line feed behind it, it is the first line
+-- with a line feed after it, it is the first line
 pub plain_first : (line rest : List ℕ) → AreAll is_plain line → split_lines (line ++ 10 ∷ rest) ≡ line ∷ split_lines rest
 plain_first [] rest h = refl
 plain_first (b ∷ line) rest h =

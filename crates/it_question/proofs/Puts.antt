@@ -2,7 +2,7 @@
 use Rattle.std.proofs.Common.{◌≡◌, ℕ, zero, suc, ◌+◌, List, [], ◌∷◌, ◌++◌, Option, Some, None, refl, sym, ap, ◌∙◌, subst, append_assoc, arith}
 use Rattle.it_syntax.specs.declared.types.Code.{Code}
 use Rattle.it_syntax.specs.Letters.{Letter, End, Bad, MarkedLetters, letters}
-use Rattle.it_syntax.specs.WrittenAtoms.{mark_surplus}
+use Rattle.it_syntax.specs.WrittenMeasures.{mark_surplus}
 use Rattle.it_syntax.proofs.FirstFaults.{letters_append}
 
 abbrev pub AreTokens : List Letter → Type 0

@@ -7,9 +7,9 @@ use Rattle.it_syntax.specs.declared.types.Symbol.TheVariants.{Comma}
 use Rattle.it_syntax.specs.Letters.{Letter, Word, Number, Sym, End, Bad}
 use Rattle.it_syntax.specs.GivenReading.{with_sets}
 use Rattle.it_syntax.specs.Gives.{StopsAs}
-use Rattle.it_syntax.specs.AtomReading.{Reads, ◌>>=◌}
+use Rattle.it_syntax.specs.MeasureReading.{Reads, ◌>>=◌}
 use Rattle.it_syntax.specs.ReaderSteps.{after_comma}
-use Rattle.it_syntax.specs.WrittenAtoms.{Environment, is_measure}
+use Rattle.it_syntax.specs.WrittenMeasures.{Environment, is_measure}
 use Rattle.it_syntax.proofs.ListLemmas.{comma_is}
 use Rattle.it_syntax.proofs.MemberLemmas.{with_sets_append}
 use Rattle.it_question.specs.Reading.{if_unseen, rate_once, read_once, read_once_more}

@@ -8,8 +8,8 @@ use Rattle.std.proofs.lemmas.List.Quantifiers.{position-Some}
 use Rattle.it_syntax.specs.declared.types.Symbol.TheVariants.{Comma}
 use Rattle.it_syntax.specs.NamesViews.{NamesView}
 use Rattle.it_syntax.specs.Letters.{Letter, Word, Sym, Bad}
-use Rattle.it_syntax.specs.AtomReading.{◌>>=◌}
-use Rattle.it_syntax.specs.WrittenAtoms.{Environment, is_measure}
+use Rattle.it_syntax.specs.MeasureReading.{◌>>=◌}
+use Rattle.it_syntax.specs.WrittenMeasures.{Environment, is_measure}
 use Rattle.it_question.specs.Limits.{AreRatesOf}
 use Rattle.it_question.specs.WrittenLines.{is_among, rates_env}
 use Rattle.it_question.specs.Reading.{if_unseen, rate_once, read_once, read_once_more, read_distinct}

@@ -2,9 +2,9 @@
 use Rattle.std.proofs.Common.{◌≡◌, ℕ, ◌-◌, List, [], ◌∷◌, length, Option, None, Ok, refl}
 use Rattle.it_syntax.specs.NamesViews.{NamesView}
 use Rattle.it_syntax.specs.Letters.{Word, End, MarkedLetters, without_mark, letters}
-use Rattle.it_syntax.specs.AtomReading.{◌>>=◌, line_end}
+use Rattle.it_syntax.specs.MeasureReading.{◌>>=◌, line_end}
 use Rattle.it_syntax.specs.Scopes.{env_of}
-use Rattle.it_syntax.specs.WrittenAtoms.{Environment}
+use Rattle.it_syntax.specs.WrittenMeasures.{Environment}
 use Rattle.it_question.specs.Keywords.{region_keyword, aux_keyword, contain_keyword}
 use Rattle.it_question.specs.Questions.{RegionView, Contain}
 use Rattle.it_question.specs.WrittenQuestions.{WrittenRegion, WrittenTry, WrittenContainment, most_lines}
@@ -12,7 +12,7 @@ use Rattle.it_question.specs.NewNames.{Variable, spell_names_line, names_line_of
 use Rattle.it_question.specs.WrittenRegions.{auxiliaries_left, spell_region, region_of, auxiliary_env, givens_left, rows_left, containment_of}
 use Rattle.it_question.specs.WrittenLines.{spell_own, own_of}
 use Rattle.it_question.specs.WrittenTries.{unnamed_sets, spell_tries, tries_of}
-use Rattle.it_question.specs.Reading.{behind_word, read_word, read_word_line, read_names_line, read_lines, read_tries, read_region, read_containment}
+use Rattle.it_question.specs.Reading.{after_word, read_word, read_word_line, read_names_line, read_lines, read_tries, read_region, read_containment}
 use Rattle.it_syntax.proofs.SpelledIsRead.{Answers, answers_ok, answers_cons, answers_bind}
 use Rattle.it_question.proofs.NameAnswers.{names_line_answers}
 use Rattle.it_question.proofs.LineAnswers.{NoOwn, lines_answers, own_no_word}
@@ -21,24 +21,24 @@ use Rattle.it_question.proofs.TryAnswers.{tries_answers}
 -- what may follow a region: neither a line of its own nor its `aux` line
 pub record EndsRegion (k : MarkedLetters) : Type 0 where
   pub no_own : NoOwn k
-  pub no_aux : behind_word aux_keyword (letters k) ≡ None
+  pub no_aux : after_word aux_keyword (letters k) ≡ None
 
--- a region behind its word
+-- a region after its word
 abbrev pub spell_bounds : ℕ → ℕ → NamesView → WrittenRegion → MarkedLetters → MarkedLetters
-spell_bounds g r v x k = without_mark End ∷ spell_names_line Variable (auxiliaries_left v) aux_keyword v x.auxiliaries (spell_own g r (names_line_of Variable v x.auxiliaries) x.own k)
+spell_bounds g r v x k = without_mark End ∷ spell_names_line Variable (auxiliaries_left v) aux_keyword v x.auxiliaries (spell_own g r (names_line_of Variable v x.auxiliaries) x.lines k)
 
 pub region_answers : (g r : ℕ) (v : NamesView) (x : WrittenRegion) (k : MarkedLetters) → EndsRegion k → Answers (read_region g r v (letters (spell_bounds g r v x k))) (spell_bounds g r v x k) (region_of v x) k
 unfolding read_region line_end
 region_answers g r v x k ends =
     let names = names_line_of Variable v x.auxiliaries in
-    let own = own_of names x.own in
-    let n = spell_own g r names x.own k in
+    let own = own_of names x.lines in
+    let n = spell_own g r names x.lines k in
     let m = spell_names_line Variable (auxiliaries_left v) aux_keyword v x.auxiliaries n in
     let y = region_of v x in
     answers_cons End _ m y k
     (answers_bind (read_names_line Variable (auxiliaries_left v) aux_keyword v (letters m)) (λ names. read_lines g r names.0 names.1 >>= λ own. Ok (record { names = names.0; auxiliaries = length names.0.variables - length v.variables; lines = own.0 }, own.1)) m n k names y
-    (names_line_answers Variable (auxiliaries_left v) aux_keyword v x.auxiliaries n refl (own_no_word aux_keyword g r names x.own k refl refl ends.no_aux))
-    (answers_bind (read_lines g r names (letters n)) (λ own. Ok (record { names = names; auxiliaries = length names.variables - length v.variables; lines = own.0 }, own.1)) n k k own y (lines_answers g r names x.own k ends.no_own) (answers_ok y k)))
+    (names_line_answers Variable (auxiliaries_left v) aux_keyword v x.auxiliaries n refl (own_no_word aux_keyword g r names x.lines k refl refl ends.no_aux))
+    (answers_bind (read_lines g r names (letters n)) (λ own. Ok (record { names = names; auxiliaries = length names.variables - length v.variables; lines = own.0 }, own.1)) n k k own y (lines_answers g r names x.lines k ends.no_own) (answers_ok y k)))
 
 -- the second region, the tries and the verb
 abbrev spell_rest : ℕ → ℕ → NamesView → RegionView → WrittenContainment → MarkedLetters → MarkedLetters
@@ -47,7 +47,7 @@ spell_rest g r v first x k =
     spell_region g r v x.second (spell_tries most_lines (auxiliary_env v second.names) (env_of first.names) (unnamed_sets second.auxiliaries) x.tries (without_mark (Word contain_keyword) ∷ without_mark End ∷ k))
 
 tries_end : (n : ℕ) (aux env : Environment) (sets : List (Option ℕ)) (xs : List WrittenTry) (k : MarkedLetters) → EndsRegion (spell_tries n aux env sets xs (without_mark (Word contain_keyword) ∷ without_mark End ∷ k))
-unfolding behind_word
+unfolding after_word
 tries_end n aux env sets [] k = record { no_own = record { no_given = refl; no_row = refl }; no_aux = refl }
 tries_end n aux env sets (x ∷ xs) k = record { no_own = record { no_given = refl; no_row = refl }; no_aux = refl }
 
@@ -55,14 +55,14 @@ contain_answers : (k : MarkedLetters) → Answers (read_word_line contain_keywor
 unfolding read_word_line read_word line_end
 contain_answers k = answers_cons (Word contain_keyword) _ (without_mark End ∷ k) tt k (answers_cons End _ k tt k (answers_ok tt k))
 
--- a containment behind its first word
+-- a containment after its first word
 abbrev pub spell_contained : ℕ → ℕ → NamesView → WrittenContainment → MarkedLetters → MarkedLetters
 spell_contained g r v x k =
     let first = region_of v x.first in
     spell_bounds g r v x.first (spell_rest (givens_left g first.lines) (rows_left r first.lines) v first x k)
 
 pub containment_answers : (g r : ℕ) (v : NamesView) (x : WrittenContainment) (k : MarkedLetters) → Answers (read_containment g r v (letters (spell_contained g r v x k))) (spell_contained g r v x k) (containment_of v x) k
-unfolding read_containment read_word behind_word
+unfolding read_containment read_word after_word
 containment_answers g r v x k =
     let first = region_of v x.first in
     let second = region_of v x.second in

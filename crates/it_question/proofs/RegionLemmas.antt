@@ -1,11 +1,11 @@
--- Where reading stops behind two regions.
+-- Where reading stops after two regions.
 use Rattle.std.proofs.Common.{◌≡◌, ℕ, List, Ok, refl, ap, ◌∙◌}
 use Rattle.it_syntax.specs.declared.rest.Stop.{Stop}
 use Rattle.it_syntax.specs.declared.rest.Stop.TheVariants as stops
 use Rattle.it_syntax.specs.NamesViews.{NamesView}
 use Rattle.it_syntax.specs.Letters.{Letter}
 use Rattle.it_syntax.specs.Gives.{StopsAs}
-use Rattle.it_syntax.specs.AtomReading.{Reads, ◌>>=◌}
+use Rattle.it_syntax.specs.MeasureReading.{Reads, ◌>>=◌}
 use Rattle.it_syntax.specs.Scopes.{env_of}
 use Rattle.it_question.specs.Keywords.{region_keyword, contain_keyword}
 use Rattle.it_question.specs.Questions.{RegionView, VerbView, Contain}
@@ -42,7 +42,7 @@ stops_then {A} (stops.Fault c) rest t f total is h = is ∙ ap (λ (q : Reads A)
 pub tries_stop : (e : Stop) (g r : ℕ) (v : NamesView) (ls a b d rest : List Letter) (first second : RegionView) (m n : ℕ) → ReadRegions g r v ls a b d first second m n → StopsAs e rest (read_first_tries v first second d) → StopsAs e rest (read_containment g r v ls)
 tries_stop e g r v ls a b d rest first second m n h k = stops_then e rest (read_first_tries v first second d) (then_contain first second) (read_containment g r v ls) (up_to_tries g r v ls a b d first second m n h) k
 
--- at a fault behind them
+-- at a fault after them
 pub contain_stops : (e : Stop) (g r : ℕ) (v : NamesView) (ls a b d after rest : List Letter) (first second : RegionView) (m n : ℕ) (tries : List (List ℕ)) → ReadRegions g r v ls a b d first second m n → read_first_tries v first second d ≡ Ok (tries, after) → StopsAs e rest (read_word_line contain_keyword after) → StopsAs e rest (read_containment g r v ls)
 contain_stops e g r v ls a b d after rest first second m n tries h t k =
     let is : read_containment g r v ls ≡ then_contain first second (tries, after) = up_to_tries g r v ls a b d first second m n h ∙ ap (λ (q : Reads (List (List ℕ))). q >>= then_contain first second) t in

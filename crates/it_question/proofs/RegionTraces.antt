@@ -2,14 +2,14 @@
 use Rattle.std.proofs.Common.{ℕ, ◌-◌, List, [], ◌∷◌, length, Option, None, Ok, refl}
 use Rattle.it_syntax.specs.NamesViews.{NamesView}
 use Rattle.it_syntax.specs.Letters.{Letter, Word, End, MarkedLetters, without_mark}
-use Rattle.it_syntax.specs.AtomReading.{Reads, ◌>>=◌, line_end}
+use Rattle.it_syntax.specs.MeasureReading.{Reads, ◌>>=◌, line_end}
 use Rattle.it_syntax.specs.Scopes.{env_of}
-use Rattle.it_syntax.specs.WrittenAtoms.{WrittenList}
+use Rattle.it_syntax.specs.WrittenMeasures.{WrittenList}
 use Rattle.it_syntax.proofs.Traces.{Traces, traces_bind, traces_map}
 use Rattle.it_syntax.proofs.LineEnd.{spell_end, end_value, end_traces}
 use Rattle.it_question.specs.Keywords.{region_keyword, aux_keyword, contain_keyword}
 use Rattle.it_question.specs.Questions.{OwnLinesView, RegionView, VerbView, Contain}
-use Rattle.it_question.specs.WrittenQuestions.{WrittenLine, WrittenRegion, WrittenTry, WrittenContainment, most_lines}
+use Rattle.it_question.specs.WrittenQuestions.{WrittenOwnLine, WrittenRegion, WrittenTry, WrittenContainment, most_lines}
 use Rattle.it_question.specs.NewNames.{Variable, spell_names_line, names_line_of}
 use Rattle.it_question.specs.WrittenLines.{spell_own, own_of}
 use Rattle.it_question.specs.WrittenTries.{unnamed_sets, spell_tries, tries_of}
@@ -24,7 +24,7 @@ use Rattle.it_question.proofs.TryTraces.{tries_traces}
 
 -- the names of an `aux` line, if there is one, and the region's own lines
 abbrev Parts : Type 0
-Parts = Option WrittenList × List WrittenLine
+Parts = Option WrittenList × List WrittenOwnLine
 
 abbrev pub region_of_lines : NamesView → NamesView → OwnLinesView → RegionView
 region_of_lines v names own = record { names = names; auxiliaries = length names.variables - length v.variables; lines = own }
@@ -45,9 +45,9 @@ parts_traces : (g r : ℕ) (v : NamesView) → Traces (read_parts g r v) (spell_
 parts_traces g r v = traces_bind (read_names_line Variable (auxiliaries_left v) aux_keyword v) (own_then g r v) (read_parts g r v) (spell_names_line Variable (auxiliaries_left v) aux_keyword v) (spell_own g r) (spell_parts g r v) (names_line_of Variable v) (λ names own. region_of_lines v names (own_of names own)) (parts_of v) (λ x own. (x, own))
     (record { is = λ ls. refl; spells = λ y z k. refl; value = λ y z. refl; some = []; first = names_line_traces Variable (auxiliaries_left v) aux_keyword v; second = λ names. traces_map (read_lines g r names) (region_of_lines v names) (spell_own g r names) (own_of names) (lines_traces g r names) })
 
--- a region behind its word `region`
+-- a region after its word `region`
 abbrev region_made : Unit {0} → Parts → WrittenRegion
-region_made u x = record { auxiliaries = x.0; own = x.1 }
+region_made u x = record { auxiliaries = x.0; lines = x.1 }
 
 pub region_traces : (g r : ℕ) (v : NamesView) → Traces (read_region g r v) (spell_bounds g r v) (region_of v)
 unfolding read_region spell_end end_value
@@ -70,21 +70,21 @@ abbrev contain_then : RegionView → RegionView → List (List ℕ) → List Let
 contain_then first second tries ls = read_word_line contain_keyword ls >>= λ e. Ok (Contain first second tries, e.1)
 
 -- what follows two regions
-abbrev behind_second : NamesView → RegionView → RegionView → List Letter → Reads VerbView
-behind_second v first second ls = read_tries most_lines (auxiliary_env v second.names) (env_of first.names) (unnamed_sets second.auxiliaries) ls >>= λ tries. contain_then first second tries.0 tries.1
+abbrev after_second : NamesView → RegionView → RegionView → List Letter → Reads VerbView
+after_second v first second ls = read_tries most_lines (auxiliary_env v second.names) (env_of first.names) (unnamed_sets second.auxiliaries) ls >>= λ tries. contain_then first second tries.0 tries.1
 
-abbrev spell_behind_second : NamesView → RegionView → RegionView → List WrittenTry → MarkedLetters → MarkedLetters
-spell_behind_second v first second xs k = spell_tries most_lines (auxiliary_env v second.names) (env_of first.names) (unnamed_sets second.auxiliaries) xs (without_mark (Word contain_keyword) ∷ without_mark End ∷ k)
+abbrev spell_after_second : NamesView → RegionView → RegionView → List WrittenTry → MarkedLetters → MarkedLetters
+spell_after_second v first second xs k = spell_tries most_lines (auxiliary_env v second.names) (env_of first.names) (unnamed_sets second.auxiliaries) xs (without_mark (Word contain_keyword) ∷ without_mark End ∷ k)
 
-abbrev behind_second_of : NamesView → RegionView → RegionView → List WrittenTry → VerbView
-behind_second_of v first second xs = Contain first second (tries_of (auxiliary_env v second.names) (env_of first.names) (unnamed_sets second.auxiliaries) xs)
+abbrev after_second_of : NamesView → RegionView → RegionView → List WrittenTry → VerbView
+after_second_of v first second xs = Contain first second (tries_of (auxiliary_env v second.names) (env_of first.names) (unnamed_sets second.auxiliaries) xs)
 
-behind_second_traces : (v : NamesView) (first second : RegionView) → Traces (behind_second v first second) (spell_behind_second v first second) (behind_second_of v first second)
-behind_second_traces v first second =
+after_second_traces : (v : NamesView) (first second : RegionView) → Traces (after_second v first second) (spell_after_second v first second) (after_second_of v first second)
+after_second_traces v first second =
     let aux = auxiliary_env v second.names in
     let env = env_of first.names in
     let sets = unnamed_sets second.auxiliaries in
-    traces_bind (read_tries most_lines aux env sets) (contain_then first second) (behind_second v first second) (spell_tries most_lines aux env sets) (λ tries. spell_word_line contain_keyword) (spell_behind_second v first second) (tries_of aux env sets) (λ tries u. Contain first second tries) (behind_second_of v first second) (λ xs u. xs)
+    traces_bind (read_tries most_lines aux env sets) (contain_then first second) (after_second v first second) (spell_tries most_lines aux env sets) (λ tries. spell_word_line contain_keyword) (spell_after_second v first second) (tries_of aux env sets) (λ tries u. Contain first second tries) (after_second_of v first second) (λ xs u. xs)
     (record { is = λ ls. refl; spells = λ y z k. refl; value = λ y z. refl; some = tt; first = tries_traces most_lines aux env sets; second = λ tries. traces_map (read_word_line contain_keyword) (λ u. Contain first second tries) (spell_word_line contain_keyword) (λ u. tt) (word_line_traces contain_keyword) })
 
 -- the second region, and what follows it
@@ -92,40 +92,40 @@ abbrev Second : Type 0
 Second = WrittenRegion × List WrittenTry
 
 abbrev from_second : ℕ → ℕ → NamesView → RegionView → List Letter → Reads VerbView
-from_second g r v first ls = read_region g r v ls >>= λ second. behind_second v first second.0 second.1
+from_second g r v first ls = read_region g r v ls >>= λ second. after_second v first second.0 second.1
 
 abbrev spell_second : ℕ → ℕ → NamesView → RegionView → Second → MarkedLetters → MarkedLetters
-spell_second g r v first x k = spell_bounds g r v x.0 (spell_behind_second v first (region_of v x.0) x.1 k)
+spell_second g r v first x k = spell_bounds g r v x.0 (spell_after_second v first (region_of v x.0) x.1 k)
 
 abbrev second_of : NamesView → RegionView → Second → VerbView
-second_of v first x = behind_second_of v first (region_of v x.0) x.1
+second_of v first x = after_second_of v first (region_of v x.0) x.1
 
 from_second_traces : (g r : ℕ) (v : NamesView) (first : RegionView) → Traces (from_second g r v first) (spell_second g r v first) (second_of v first)
-from_second_traces g r v first = traces_bind (read_region g r v) (behind_second v first) (from_second g r v first) (spell_bounds g r v) (spell_behind_second v first) (spell_second g r v first) (region_of v) (behind_second_of v first) (second_of v first) (λ x xs. (x, xs))
-    (record { is = λ ls. refl; spells = λ y z k. refl; value = λ y z. refl; some = []; first = region_traces g r v; second = behind_second_traces v first })
+from_second_traces g r v first = traces_bind (read_region g r v) (after_second v first) (from_second g r v first) (spell_bounds g r v) (spell_after_second v first) (spell_second g r v first) (region_of v) (after_second_of v first) (second_of v first) (λ x xs. (x, xs))
+    (record { is = λ ls. refl; spells = λ y z k. refl; value = λ y z. refl; some = []; first = region_traces g r v; second = after_second_traces v first })
 
 some_second : Second
-some_second = (record { auxiliaries = None; own = [] }, [])
+some_second = (record { auxiliaries = None; lines = [] }, [])
 
 -- the limits that the first region leaves
-abbrev behind_first : ℕ → ℕ → NamesView → RegionView → List Letter → Reads VerbView
-behind_first g r v first ls = read_word region_keyword ls >>= λ x. from_second (givens_left g first.lines) (rows_left r first.lines) v first x.1
+abbrev after_first : ℕ → ℕ → NamesView → RegionView → List Letter → Reads VerbView
+after_first g r v first ls = read_word region_keyword ls >>= λ x. from_second (givens_left g first.lines) (rows_left r first.lines) v first x.1
 
-abbrev spell_behind_first : ℕ → ℕ → NamesView → RegionView → Second → MarkedLetters → MarkedLetters
-spell_behind_first g r v first x k = without_mark (Word region_keyword) ∷ spell_second (givens_left g first.lines) (rows_left r first.lines) v first x k
+abbrev spell_after_first : ℕ → ℕ → NamesView → RegionView → Second → MarkedLetters → MarkedLetters
+spell_after_first g r v first x k = without_mark (Word region_keyword) ∷ spell_second (givens_left g first.lines) (rows_left r first.lines) v first x k
 
-behind_first_traces : (g r : ℕ) (v : NamesView) (first : RegionView) → Traces (behind_first g r v first) (spell_behind_first g r v first) (second_of v first)
-behind_first_traces g r v first =
+after_first_traces : (g r : ℕ) (v : NamesView) (first : RegionView) → Traces (after_first g r v first) (spell_after_first g r v first) (second_of v first)
+after_first_traces g r v first =
     let h = givens_left g first.lines in
     let s = rows_left r first.lines in
-    traces_bind (read_word region_keyword) (λ u. from_second h s v first) (behind_first g r v first) (spell_word region_keyword) (λ u. spell_second h s v first) (spell_behind_first g r v first) (λ u. tt) (λ u. second_of v first) (second_of v first) (λ u x. x)
+    traces_bind (read_word region_keyword) (λ u. from_second h s v first) (after_first g r v first) (spell_word region_keyword) (λ u. spell_second h s v first) (spell_after_first g r v first) (λ u. tt) (λ u. second_of v first) (second_of v first) (λ u x. x)
     (record { is = λ ls. refl; spells = λ y z k. refl; value = λ y z. refl; some = some_second; first = word_traces region_keyword; second = λ u. from_second_traces h s v first })
 
--- a containment question behind its first word `region`
+-- a containment question after its first word `region`
 abbrev containment_made : WrittenRegion → Second → WrittenContainment
 containment_made x y = record { first = x; second = y.0; tries = y.1 }
 
 pub containment_traces : (g r : ℕ) (v : NamesView) → Traces (read_containment g r v) (spell_contained g r v) (containment_of v)
 unfolding read_containment
-containment_traces g r v = traces_bind (read_region g r v) (behind_first g r v) (read_containment g r v) (spell_bounds g r v) (spell_behind_first g r v) (spell_contained g r v) (region_of v) (second_of v) (containment_of v) containment_made
-    (record { is = λ ls. refl; spells = λ y z k. refl; value = λ y z. refl; some = some_second; first = region_traces g r v; second = behind_first_traces g r v })
+containment_traces g r v = traces_bind (read_region g r v) (after_first g r v) (read_containment g r v) (spell_bounds g r v) (spell_after_first g r v) (spell_contained g r v) (region_of v) (second_of v) (containment_of v) containment_made
+    (record { is = λ ls. refl; spells = λ y z k. refl; value = λ y z. refl; some = some_second; first = region_traces g r v; second = after_first_traces g r v })

@@ -5,7 +5,7 @@ use Rattle.it_syntax.specs.Letters.{Letter, Word, MarkedLetters, without_mark, l
 use Rattle.it_syntax.proofs.Traces.{cleaned_append}
 use Rattle.it_question.specs.Files.{IsFile, TextReadsBack}
 use Rattle.it_question.specs.Keywords.{vars_keyword}
-use Rattle.it_question.specs.Lines.{TokenLine, split_lines, file_end, letters_of_lines}
+use Rattle.it_question.specs.Lines.{LineView, split_lines, file_end, letters_of_lines}
 use Rattle.it_question.specs.Questions.{QuestionView}
 use Rattle.it_question.specs.Texts.{text_of_lines, question_line_count, with_texts}
 use Rattle.it_question.specs.WrittenQuestions.{WrittenQuestion, most_questions}
@@ -20,10 +20,10 @@ abbrev end_mark : MarkedLetters
 end_mark = without_mark file_end ∷ []
 
 -- the first of the questions of these lines, with its text
-first_of : WrittenQuestion → List TokenLine → QuestionView
+first_of : WrittenQuestion → List LineView → QuestionView
 first_of x lines = record { body = question_of x; text = text_of_lines (take (question_line_count (question_of x)) lines) }
 
-first_alone : (mark : Option Code) (x : WrittenQuestion) (k : MarkedLetters) (lines : List TokenLine) → (Word vars_keyword, mark) ∷ spell_question x k ≡ without_marks (letters_of_lines lines) → AreSound lines → IsFile (first_of x lines).text (first_of x lines ∷ [])
+first_alone : (mark : Option Code) (x : WrittenQuestion) (k : MarkedLetters) (lines : List LineView) → (Word vars_keyword, mark) ∷ spell_question x k ≡ without_marks (letters_of_lines lines) → AreSound lines → IsFile (first_of x lines).text (first_of x lines ∷ [])
 unfolding first_of
 first_alone mark x k lines e s =
     let n = question_line_count (question_of x) in
@@ -42,7 +42,7 @@ first_alone mark x k lines e s =
       are = ap (λ (text : List ℕ). record { body = question_of x; text = text } ∷ []) (ap (λ (i : ℕ). text_of_lines (take i t.again)) (sym d.long) ∙ t.text);
     }
 
-one_question_file : (n : ℕ) (xs : List WrittenQuestion) (lines : List TokenLine) (front rs : List QuestionView) (q : QuestionView) → spell_questions n xs end_mark ≡ without_marks (letters_of_lines lines) → AreSound lines → with_texts lines (questions_of xs) ≡ front ++ q ∷ rs → IsFile q.text (q ∷ [])
+one_question_file : (n : ℕ) (xs : List WrittenQuestion) (lines : List LineView) (front rs : List QuestionView) (q : QuestionView) → spell_questions n xs end_mark ≡ without_marks (letters_of_lines lines) → AreSound lines → with_texts lines (questions_of xs) ≡ front ++ q ∷ rs → IsFile q.text (q ∷ [])
 unfolding first_of
 one_question_file n [] lines [] rs q e s h = absurd cc
 one_question_file n [] lines (f ∷ front) rs q e s h = absurd cc
@@ -56,7 +56,7 @@ one_question_file n (x ∷ xs) lines (f ∷ front) rs q e s h =
     let c = clean_parts p.front k (letters_of_lines lines) (sym (p.is k) ∙ e) in
     let d = letters_of_first_lines i lines (letters p.front) (letters k) p.kind c.all s in
     let tails : with_texts (drop i lines) (questions_of xs) ≡ front ++ q ∷ rs = cc in
-    one_question_file (n - 1) xs (drop i lines) front rs q (c.behind ∙ ap without_marks (sym d.behind)) d.sound tails
+    one_question_file (n - 1) xs (drop i lines) front rs q (c.after ∙ ap without_marks (sym d.after)) d.sound tails
 
 pub text_reads_back : TextReadsBack
 text_reads_back bytes qs rs q front f e = one_question_file most_questions f.trees f.lines front rs q f.spelled (lines_sound 1 (split_lines bytes) f.lines f.cut) (f.are ∙ e)

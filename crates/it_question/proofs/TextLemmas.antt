@@ -3,9 +3,9 @@ use Rattle.std.proofs.Common.{◌≡◌, ℕ, ◌==◌, Bool, true, false, cond,
 use Rattle.std.proofs.lemmas.Bool.Decides.{nat_tests}
 use Rattle.it_question.specs.Texts.{unless_blank, without_trailing}
 
-behind_blank : (line : List ℕ) (b : ℕ) → (b == 32) ≡ true → without_trailing (line ++ b ∷ []) ≡ without_trailing line
-behind_blank [] b e = ap (λ (t : Bool). cond t [] (b ∷ [])) e
-behind_blank (c ∷ line) b e = ap (unless_blank c) (behind_blank line b e)
+after_blank : (line : List ℕ) (b : ℕ) → (b == 32) ≡ true → without_trailing (line ++ b ∷ []) ≡ without_trailing line
+after_blank [] b e = ap (λ (t : Bool). cond t [] (b ∷ [])) e
+after_blank (c ∷ line) b e = ap (unless_blank c) (after_blank line b e)
 
 ends_without_blank : (line : List ℕ) (b : ℕ) → (b == 32) ≡ false → without_trailing (line ++ b ∷ []) ≡ line ++ b ∷ []
 ends_without_blank [] b e = ap (λ (t : Bool). cond t [] (b ∷ [])) e
@@ -20,7 +20,7 @@ no_blank b h = grind (arith, nat_tests)
 
 -- a last byte that is a space, and one that is none
 pub last_blank : (line front : List ℕ) (b : ℕ) → line ≡ front ++ b ∷ [] → b ≡ 32 → without_trailing front ≡ without_trailing line
-last_blank line front b h e = sym (behind_blank front b (is_blank b e)) ∙ ap without_trailing (sym h)
+last_blank line front b h e = sym (after_blank front b (is_blank b e)) ∙ ap without_trailing (sym h)
 
 pub last_kept : (line front : List ℕ) (b : ℕ) → line ≡ front ++ b ∷ [] → (b ≡ 32 → ⊥) → line ≡ without_trailing line
 last_kept line front b h e = h ∙ sym (ends_without_blank front b (no_blank b e)) ∙ ap without_trailing (sym h)

@@ -3,7 +3,7 @@ use Rattle.std.proofs.Common.{◌≡◌, ℕ, ◌+◌, List, [], ◌∷◌, ◌+
 use Rattle.it_syntax.specs.declared.types.Misspelling.{Misspelling}
 use Rattle.it_syntax.specs.Letters.{Letter, End}
 use Rattle.it_syntax.specs.Spans.{letters_until, last_letter}
-use Rattle.it_question.specs.Lines.{TokenLine, AreLines, split_lines, file_end, end_line, line_letters, letters_of_lines}
+use Rattle.it_question.specs.Lines.{LineView, AreLines, split_lines, file_end, end_line, line_letters, letters_of_lines}
 use Rattle.it_question.specs.Texts.{trimmed_line, text_of_lines}
 use Rattle.it_question.proofs.Blanks.{trimmed_once}
 use Rattle.it_question.proofs.PlainLines.{spelled_plain, plain_first}
@@ -11,17 +11,17 @@ use Rattle.it_question.proofs.TrimmedLines.{IsWhole, reads_again}
 use Rattle.it_question.proofs.LineParts.{AreWhole}
 
 -- what the text of these lines is read as, from line number n on
-pub record ReadAgain (n : ℕ) (lines : List TokenLine) : Type 0 where
-  pub again : List TokenLine
+pub record ReadAgain (n : ℕ) (lines : List LineView) : Type 0 where
+  pub again : List LineView
   pub cut : AreLines n (split_lines (text_of_lines lines)) again
   pub same : letters_of_lines again ≡ letters_of_lines lines ++ file_end ∷ []
   pub text : text_of_lines (take (length lines) again) ≡ text_of_lines lines
 
-whole_letters : (l : TokenLine) → IsWhole l → line_letters l ≡ letters_until l.text l.tokens End
+whole_letters : (l : LineView) → IsWhole l → line_letters l ≡ letters_until l.text l.tokens End
 whole_letters l h = ap (λ (m : Option Misspelling). letters_until l.text l.tokens (last_letter m)) h.misspelling
 
 -- the text of lines is read as lines of the same letters
-pub read_again : (n : ℕ) (lines : List TokenLine) → AreWhole lines → ReadAgain n lines
+pub read_again : (n : ℕ) (lines : List LineView) → AreWhole lines → ReadAgain n lines
 read_again n [] h = record { again = end_line n ∷ []; cut = refl; same = refl; text = refl }
 read_again n (l ∷ lines) h =
     let a = reads_again n l h.0 in

@@ -6,8 +6,8 @@ use Rattle.it_syntax.specs.declared.types.Sign.{Sign}
 use Rattle.it_syntax.specs.declared.types.Sign.TheVariants.{AtLeast, AtMost, Equal}
 use Rattle.it_syntax.specs.declared.types.Symbol.TheVariants as symbols
 use Rattle.it_syntax.specs.Letters.{Word, Number, Sym, MarkedLetters, without_mark}
-use Rattle.it_syntax.specs.WrittenAtoms.{Environment, WrittenList, WrittenAtom, Entropy, EntropyGiven, Mutual, MutualGiven, TermSign, Positive, Negative, entropy_text, mutual_text, name_mark, unknown_mark, sign_letter, spell_name, spell_more, spell_list, spell_atom, spell_sign}
-use Rattle.it_syntax.specs.WrittenRelations.{Scope, WrittenQuantity, Measure, RateOf, WrittenTerm, Zero, Once, Times, WrittenSum, WrittenRelation, most_terms, number_of_terms, spell_quantity, spell_term, spell_terms, spell_counted, spell_sum, compare_letter, spell_relation}
+use Rattle.it_syntax.specs.WrittenMeasures.{Environment, WrittenList, WrittenMeasure, Entropy, EntropyGiven, Mutual, MutualGiven, TermSign, Positive, Negative, entropy_text, mutual_text, name_mark, unknown_mark, sign_letter, spell_name, spell_more, spell_list, spell_measure, spell_sign}
+use Rattle.it_syntax.specs.WrittenRelations.{Scope, WrittenAtom, Measure, RateOf, WrittenTerm, Zero, Once, Times, WrittenSum, WrittenRelation, most_terms, number_of_terms, spell_atom, spell_term, spell_terms, spell_counted, spell_sum, compare_letter, spell_relation}
 use Rattle.it_syntax.specs.WrittenGivens.{WrittenChain, WrittenIndependence, WrittenFunction, WrittenGiven, Relation, Markov, Independent, Function, markov_text, indep_text, func_text, of_text, divider_letter, spell_members, spell_chain, spell_bar, spell_independence, spell_function, spell_given}
 use Rattle.it_question.proofs.Puts.{AreTokens, Puts, no_tokens, tokens_then, one_token, token_then, tokens_over}
 
@@ -31,31 +31,31 @@ close_puts = one_token (without_mark (Sym symbols.RightParen)) tt
 open_puts : {s : MarkedLetters → MarkedLetters} (w : List ℕ) → Puts AreTokens s → Puts AreTokens (λ k. without_mark (Word w) ∷ without_mark (Sym symbols.LeftParen) ∷ s k)
 open_puts w p = token_then (without_mark (Word w)) tt (token_then (without_mark (Sym symbols.LeftParen)) tt p)
 
-atom_puts : (env : Environment) (x : WrittenAtom) → Puts AreTokens (spell_atom env x)
-atom_puts env (Entropy a) = open_puts entropy_text (tokens_then (list_puts env a) close_puts)
-atom_puts env (EntropyGiven a c) = open_puts entropy_text (tokens_then (list_puts env a) (token_then (without_mark (Sym symbols.Bar)) tt (tokens_then (list_puts env c) close_puts)))
-atom_puts env (Mutual a b) = open_puts mutual_text (tokens_then (list_puts env a) (token_then (without_mark (Sym symbols.Semicolon)) tt (tokens_then (list_puts env b) close_puts)))
-atom_puts env (MutualGiven a b c) = open_puts mutual_text (tokens_then (list_puts env a) (token_then (without_mark (Sym symbols.Semicolon)) tt (tokens_then (list_puts env b) (token_then (without_mark (Sym symbols.Bar)) tt (tokens_then (list_puts env c) close_puts)))))
+measure_puts : (env : Environment) (x : WrittenMeasure) → Puts AreTokens (spell_measure env x)
+measure_puts env (Entropy a) = open_puts entropy_text (tokens_then (list_puts env a) close_puts)
+measure_puts env (EntropyGiven a c) = open_puts entropy_text (tokens_then (list_puts env a) (token_then (without_mark (Sym symbols.Bar)) tt (tokens_then (list_puts env c) close_puts)))
+measure_puts env (Mutual a b) = open_puts mutual_text (tokens_then (list_puts env a) (token_then (without_mark (Sym symbols.Semicolon)) tt (tokens_then (list_puts env b) close_puts)))
+measure_puts env (MutualGiven a b c) = open_puts mutual_text (tokens_then (list_puts env a) (token_then (without_mark (Sym symbols.Semicolon)) tt (tokens_then (list_puts env b) (token_then (without_mark (Sym symbols.Bar)) tt (tokens_then (list_puts env c) close_puts)))))
 
-quantity_puts : (s : Scope) (q : WrittenQuantity) → Puts AreTokens (spell_quantity s q)
-quantity_puts s (Measure a) = atom_puts s.variables a
-quantity_puts s (RateOf r) = one_token (Word r.text, unknown_mark (s.rates r.text)) tt
+atom_puts : (s : Scope) (q : WrittenAtom) → Puts AreTokens (spell_atom s q)
+atom_puts s (Measure a) = measure_puts s.variables a
+atom_puts s (RateOf r) = one_token (Word r.text, unknown_mark (s.rates r.text)) tt
 
 term_puts : (s : Scope) (t : WrittenTerm) → Puts AreTokens (spell_term s t)
 term_puts s Zero = one_token (without_mark (Number 0)) tt
-term_puts s (Once q) = quantity_puts s q
-term_puts s (Times n q) = token_then (without_mark (Number n)) tt (quantity_puts s q)
+term_puts s (Once q) = atom_puts s q
+term_puts s (Times n q) = token_then (without_mark (Number n)) tt (atom_puts s q)
 
-quantity_some : (s : Scope) (q : WrittenQuantity) (k : MarkedLetters) → spell_quantity s q k ≡ [] → ⊥
-quantity_some s (Measure (Entropy a)) k e = absurd cc
-quantity_some s (Measure (EntropyGiven a c)) k e = absurd cc
-quantity_some s (Measure (Mutual a b)) k e = absurd cc
-quantity_some s (Measure (MutualGiven a b c)) k e = absurd cc
-quantity_some s (RateOf r) k e = absurd cc
+atom_some : (s : Scope) (q : WrittenAtom) (k : MarkedLetters) → spell_atom s q k ≡ [] → ⊥
+atom_some s (Measure (Entropy a)) k e = absurd cc
+atom_some s (Measure (EntropyGiven a c)) k e = absurd cc
+atom_some s (Measure (Mutual a b)) k e = absurd cc
+atom_some s (Measure (MutualGiven a b c)) k e = absurd cc
+atom_some s (RateOf r) k e = absurd cc
 
 term_some : (s : Scope) (t : WrittenTerm) (k : MarkedLetters) → spell_term s t k ≡ [] → ⊥
 term_some s Zero k e = absurd cc
-term_some s (Once q) k e = quantity_some s q k e
+term_some s (Once q) k e = atom_some s q k e
 term_some s (Times n q) k e = absurd cc
 
 sign_token : (s : TermSign) → AreTokens (sign_letter s ∷ [])

@@ -13,9 +13,9 @@ use Rattle.std.specs.Char.{is_ascii_digit}
 use Rattle.it_syntax.specs.Spelling.{is_word_byte, is_space, is_greater, symbol_text, AreAll, Stops, IsText, EndsToken, Cut}
 use Rattle.it_syntax.proofs.TokenLemmas.{not_space}
 use Rattle.it_syntax.proofs.RunLemmas.{value_digits}
-use Rattle.it_question.specs.Lines.{TokenLine, IsFilled, IsLine, HasTokens, line_letters}
+use Rattle.it_question.specs.Lines.{LineView, IsFilled, IsLine, HasTokens, line_letters}
 use Rattle.it_question.specs.Texts.{without_leading, without_trailing, trimmed_line}
-use Rattle.it_question.proofs.Blanks.{AreSolid, leading_behind, trailing_stops, trailing_blank, solid_kept, some_kept}
+use Rattle.it_question.proofs.Blanks.{AreSolid, leading_after, trailing_stops, trailing_blank, solid_kept, some_kept}
 use Rattle.it_question.proofs.PlainLines.{spelled_plain, plain_same}
 
 -- ---- the text of a token
@@ -96,7 +96,7 @@ letter_is kinds.Word line start end text e = ap Word e
 letter_is (kinds.Number n) line start end text e = refl
 letter_is (kinds.Symbol s) line start end text e = refl
 
--- the letter of a token that is cut off what stands behind `front`
+-- the letter of a token that is cut off what stands after `front`
 cut_letter : (line front : List ℕ) (at : ℕ) (bytes : List ℕ) (t : Token) (rest : List ℕ) → line ≡ front ++ bytes → length front ≡ at → (c : Cut at bytes t rest) → letter_of line t.start t.end t.kind ≡ letter_by t.kind c.text
 cut_letter line front at bytes t rest e n c =
     let whole : line ≡ (front ++ c.gap) ++ (c.text ++ rest) = e ∙ ap (λ (b : List ℕ). front ++ b) c.whole ∙ sym (append_assoc front c.gap (c.text ++ rest)) in
@@ -156,14 +156,14 @@ move_tokens line front bytes at to (t ∷ ts) e n h =
 -- ---- a line
 
 -- it has tokens and no misspelling
-pub record IsWhole (l : TokenLine) : Type 0 where
+pub record IsWhole (l : LineView) : Type 0 where
   pub misspelling : l.misspelling ≡ None
   pub spelled : SpellsUntil 0 l.text l.tokens None
   pub filled : IsFilled l.tokens None
 
 -- the line that a trimmed line is read as
-pub record ReadsAgain (n : ℕ) (l : TokenLine) : Type 0 where
-  pub line : TokenLine
+pub record ReadsAgain (n : ℕ) (l : LineView) : Type 0 where
+  pub line : LineView
   pub is : IsLine n (trimmed_line l.text) line
   pub spelled : SpellsUntil 0 (trimmed_line l.text) line.tokens None
   pub filled : HasTokens line
@@ -177,11 +177,11 @@ from_first text (t ∷ ts) h f =
     let some = text_bytes t.kind c.text c.spelled in
     let solid : AreSolid (some.0 ∷ some.1) = subst AreSolid some.2 (text_solid t.kind c.text c.spelled) in
     let stops : Stops is_space (c.text ++ h.0) = subst (λ (b : List ℕ). Stops is_space (b ++ h.0)) (sym some.2) solid.0 in
-    let behind : without_leading text ≡ c.text ++ h.0 = ap without_leading c.whole ∙ leading_behind c.gap (c.text ++ h.0) c.blank stops in
-    let cut : Cut (length c.gap) (without_leading text) t h.0 = record { gap = []; text = c.text; whole = behind; blank = tt; spelled = c.spelled; ends = c.ends; start = omega (arith, c.start); end = c.end } in
-    move_tokens text c.gap (without_leading text) (length c.gap) 0 (t ∷ ts) (c.whole ∙ ap (λ (b : List ℕ). c.gap ++ b) (sym behind)) refl (h.0, cut, h.2)
+    let after : without_leading text ≡ c.text ++ h.0 = ap without_leading c.whole ∙ leading_after c.gap (c.text ++ h.0) c.blank stops in
+    let cut : Cut (length c.gap) (without_leading text) t h.0 = record { gap = []; text = c.text; whole = after; blank = tt; spelled = c.spelled; ends = c.ends; start = omega (arith, c.start); end = c.end } in
+    move_tokens text c.gap (without_leading text) (length c.gap) 0 (t ∷ ts) (c.whole ∙ ap (λ (b : List ℕ). c.gap ++ b) (sym after)) refl (h.0, cut, h.2)
 
-pub reads_again : (n : ℕ) (l : TokenLine) → IsWhole l → ReadsAgain n l
+pub reads_again : (n : ℕ) (l : LineView) → IsWhole l → ReadsAgain n l
 reads_again n l h =
     let m = from_first l.text l.tokens h.spelled h.filled in
     record {

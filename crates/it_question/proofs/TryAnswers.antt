@@ -3,12 +3,12 @@ use Rattle.std.proofs.Common.{◌≡◌, ℕ, zero, suc, ◌-◌, ◌≤◌, Boo
 use Rattle.it_syntax.specs.declared.types.Symbol.TheVariants.{Semicolon, Assign}
 use Rattle.it_syntax.specs.declared.types.Code.TheVariants as codes
 use Rattle.it_syntax.specs.Letters.{Letter, Word, Number, Sym, End, MarkedLetters, without_mark, letters}
-use Rattle.it_syntax.specs.AtomReading.{Reads, ◌>>=◌, line_end}
-use Rattle.it_syntax.specs.WrittenAtoms.{Environment, is_measure, index_or}
+use Rattle.it_syntax.specs.MeasureReading.{Reads, ◌>>=◌, line_end}
+use Rattle.it_syntax.specs.WrittenMeasures.{Environment, is_measure, index_or}
 use Rattle.it_question.specs.Keywords.{try_keyword}
 use Rattle.it_question.specs.WrittenQuestions.{WrittenSet, Empty, Listed, WrittenPart, WrittenTry}
 use Rattle.it_question.specs.WrittenTries.{Sets, unnamed_sets, is_named, with_set, is_whole, sets_view, part_mark, spell_set, set_of, spell_part, with_part, spell_parts, with_parts, try_end_mark, spell_try, try_of, try_mark, spell_tries, tries_of}
-use Rattle.it_question.specs.Reading.{behind_word, read_assign, read_set, if_unnamed, auxiliary, read_auxiliary, read_part, read_parts, read_try_end, read_try, if_allowed, try_then, if_tried, read_tries}
+use Rattle.it_question.specs.Reading.{after_word, read_assign, read_set, if_unnamed, auxiliary, read_auxiliary, read_part, read_parts, read_try_end, read_try, if_allowed, try_then, if_tried, read_tries}
 use Rattle.it_syntax.proofs.SpelledIsRead.{Answers, answers_ok, answers_cons, answers_bind, NoComma, list_answers}
 use Rattle.it_question.proofs.NameAnswers.{answers_at_mark}
 
@@ -48,7 +48,7 @@ unfolding read_set
 set_answers env Empty k free = answers_cons (Number 0) _ k 0 k (answers_ok 0 k)
 set_answers env (Listed l) k free = list_answers env l k free
 
--- the name of a part, and what is read behind it if the auxiliary has no set yet
+-- the name of a part, and what is read after it if the auxiliary has no set yet
 unnamed_then : {A : Type 0} (i : ℕ) (w : List ℕ) (b : Bool) (f : ℕ × List Letter → Reads A) (n : MarkedLetters) (y : A) (k : MarkedLetters) → (b ≡ false → Answers (f (i, letters n)) n y k)
     → Answers (if_unnamed i b (letters n) (Word w ∷ letters n) >>= f) ((Word w, cond b (Some codes.Twice) None) ∷ n) y k
 unnamed_then i w true f n y k h = answers_at_mark codes.Twice (Word w) n y k
@@ -60,24 +60,24 @@ auxiliary_then true sets o w f n y k h = answers_at_mark codes.Word (Word w) n y
 auxiliary_then false sets None w f n y k h = answers_at_mark codes.Name (Word w) n y k
 auxiliary_then false sets (Some i) w f n y k h = unnamed_then i w (is_named sets i) f n y k h
 
--- behind the name
-abbrev set_behind : Environment → Sets → ℕ × List Letter → Reads Sets
-set_behind env sets i = read_assign i.1 >>= λ behind. read_set env behind >>= λ set. Ok (with_set sets i.0 set.0, set.1)
+-- after the name
+abbrev set_after : Environment → Sets → ℕ × List Letter → Reads Sets
+set_after env sets i = read_assign i.1 >>= λ after. read_set env after >>= λ set. Ok (with_set sets i.0 set.0, set.1)
 
-set_behind_answers : (env : Environment) (sets : Sets) (i : ℕ) (x : WrittenSet) (k : MarkedLetters) → NoComma k → Answers (set_behind env sets (i, Sym Assign ∷ letters (spell_set env x k))) (without_mark (Sym Assign) ∷ spell_set env x k) (with_set sets i (set_of env x)) k
+set_after_answers : (env : Environment) (sets : Sets) (i : ℕ) (x : WrittenSet) (k : MarkedLetters) → NoComma k → Answers (set_after env sets (i, Sym Assign ∷ letters (spell_set env x k))) (without_mark (Sym Assign) ∷ spell_set env x k) (with_set sets i (set_of env x)) k
 unfolding read_assign
-set_behind_answers env sets i x k free =
+set_after_answers env sets i x k free =
     let m = spell_set env x k in
     let y = with_set sets i (set_of env x) in
     answers_cons (Sym Assign) _ m y k
     (answers_bind (read_set env (letters m)) (λ set. Ok (with_set sets i set.0, set.1)) m k k (set_of env x) y (set_answers env x k free) (answers_ok y k))
 
--- three readings, one behind the other
+-- three readings, one after the other
 bind_assoc : {A B C : Type 0} (r : Reads A) (f : A × List Letter → Reads B) (g : B × List Letter → Reads C) → (r >>= f >>= g) ≡ (r >>= λ x. f x >>= g)
 bind_assoc (Ok x) f g = refl
 bind_assoc (Err e) f g = refl
 
--- a part, and what is read behind it if the auxiliary had no set
+-- a part, and what is read after it if the auxiliary had no set
 part_then : {A : Type 0} (aux env : Environment) (sets : Sets) (x : WrittenPart) (f : Sets × List Letter → Reads A) (n : MarkedLetters) (y : A) (k : MarkedLetters) → NoComma n → (suc (count (with_part aux env sets x)) ≤ count sets → Answers (f (with_part aux env sets x, letters n)) n y k)
     → Answers (read_part aux env sets (letters (spell_part aux env sets x n)) >>= f) (spell_part aux env sets x n) y k
 unfolding read_part read_auxiliary
@@ -87,16 +87,16 @@ part_then aux env sets x f n y k free h =
     let set = set_of env x.set in
     let m : MarkedLetters = without_mark (Sym Assign) ∷ spell_set env x.set n in
     let sets_then = with_part aux env sets x in
-    subst (λ (r : Reads _). Answers r (spell_part aux env sets x n) y k) (sym (bind_assoc (read_auxiliary aux sets (letters (spell_part aux env sets x n))) (set_behind env sets) f))
-    (auxiliary_then (is_measure w) sets (aux w) w (λ i. set_behind env sets i >>= f) m y k
-    (λ e. answers_bind (set_behind env sets (i, letters m)) f m n k sets_then y (set_behind_answers env sets i x.set n free) (h (omega (arith, count_named sets i set e)))))
+    subst (λ (r : Reads _). Answers r (spell_part aux env sets x n) y k) (sym (bind_assoc (read_auxiliary aux sets (letters (spell_part aux env sets x n))) (set_after env sets) f))
+    (auxiliary_then (is_measure w) sets (aux w) w (λ i. set_after env sets i >>= f) m y k
+    (λ e. answers_bind (set_after env sets (i, letters m)) f m n k sets_then y (set_after_answers env sets i x.set n free) (h (omega (arith, count_named sets i set e)))))
 
--- where each has a set nothing behind the name is read
+-- where each has a set nothing after the name is read
 part_stops : (aux env : Environment) (sets : Sets) (x : WrittenPart) (n : MarkedLetters) (y : Sets) (k : MarkedLetters) → count sets ≤ 0 → Answers (read_part aux env sets (letters (spell_part aux env sets x n))) (spell_part aux env sets x n) y k
 unfolding read_part read_auxiliary
 part_stops aux env sets x n y k none =
     let w = x.name in
-    auxiliary_then (is_measure w) sets (aux w) w (set_behind env sets) (without_mark (Sym Assign) ∷ spell_set env x.set n) y k
+    auxiliary_then (is_measure w) sets (aux w) w (set_after env sets) (without_mark (Sym Assign) ∷ spell_set env x.set n) y k
     (λ e. let named = none_left sets (index_or (aux w)) none in absurd cc)
 
 -- ---- further parts
@@ -168,13 +168,13 @@ try_then_answers f aux env sets x m ys k few h =
     answers_bind (read_try aux env sets (letters first)) (λ x. f x.1 >>= λ more. Ok (x.0 ∷ more.0, more.1)) first m k y (y ∷ ys) (try_answers aux env sets x m few)
     (answers_bind (f (letters m)) (λ more. Ok (y ∷ more.0, more.1)) m k k ys (y ∷ ys) h (answers_ok (y ∷ ys) k))
 
-no_tries : (f : List Letter → Reads (List (List ℕ))) (k : MarkedLetters) → behind_word try_keyword (letters k) ≡ None → Answers (if_tried f (behind_word try_keyword (letters k)) (letters k)) k [] k
+no_tries : (f : List Letter → Reads (List (List ℕ))) (k : MarkedLetters) → after_word try_keyword (letters k) ≡ None → Answers (if_tried f (after_word try_keyword (letters k)) (letters k)) k [] k
 no_tries f k none = subst (λ (o : Option (List Letter)). Answers (if_tried f o (letters k)) k [] k) (sym none) (answers_ok [] k)
 
-counted_tries : (n : ℕ) (aux env : Environment) (sets : Sets) (xs : List WrittenTry) (k : MarkedLetters) → count sets ≤ 4 → behind_word try_keyword (letters k) ≡ None → Answers (read_tries n aux env sets (letters (spell_tries n aux env sets xs k))) (spell_tries n aux env sets xs k) (tries_of aux env sets xs) k
-unfolding read_tries behind_word
-counted_tries zero aux env sets [] k few none = no_tries (λ behind. if_allowed (is_whole sets) 0 (try_then (λ more. Ok ([], more)) aux env sets) behind (letters k)) k none
-counted_tries (suc n) aux env sets [] k few none = no_tries (λ behind. if_allowed (is_whole sets) (suc n) (try_then (read_tries n aux env sets) aux env sets) behind (letters k)) k none
+counted_tries : (n : ℕ) (aux env : Environment) (sets : Sets) (xs : List WrittenTry) (k : MarkedLetters) → count sets ≤ 4 → after_word try_keyword (letters k) ≡ None → Answers (read_tries n aux env sets (letters (spell_tries n aux env sets xs k))) (spell_tries n aux env sets xs k) (tries_of aux env sets xs) k
+unfolding read_tries after_word
+counted_tries zero aux env sets [] k few none = no_tries (λ after. if_allowed (is_whole sets) 0 (try_then (λ more. Ok ([], more)) aux env sets) after (letters k)) k none
+counted_tries (suc n) aux env sets [] k few none = no_tries (λ after. if_allowed (is_whole sets) (suc n) (try_then (read_tries n aux env sets) aux env sets) after (letters k)) k none
 counted_tries zero aux env sets (x ∷ xs) k few none = allowed_stops (is_whole sets) try_keyword (try_then (λ more. Ok ([], more)) aux env sets) (spell_try aux env sets x (spell_tries (0 - 1) aux env sets xs k)) (tries_of aux env sets (x ∷ xs)) k
 counted_tries (suc n) aux env sets (x ∷ xs) k few none =
     let e : (suc n - 1) ≡ n = omega arith in
@@ -184,5 +184,5 @@ counted_tries (suc n) aux env sets (x ∷ xs) k few none =
     (try_then_answers (read_tries n aux env sets) aux env sets x m (tries_of aux env sets xs) k few (counted_tries n aux env sets xs k few none)))
 
 -- `try` lines for the auxiliaries of a region, of which n are allowed
-pub tries_answers : (n : ℕ) (aux env : Environment) (auxiliaries : ℕ) (xs : List WrittenTry) (k : MarkedLetters) → behind_word try_keyword (letters k) ≡ None → Answers (read_tries n aux env (unnamed_sets auxiliaries) (letters (spell_tries n aux env (unnamed_sets auxiliaries) xs k))) (spell_tries n aux env (unnamed_sets auxiliaries) xs k) (tries_of aux env (unnamed_sets auxiliaries) xs) k
+pub tries_answers : (n : ℕ) (aux env : Environment) (auxiliaries : ℕ) (xs : List WrittenTry) (k : MarkedLetters) → after_word try_keyword (letters k) ≡ None → Answers (read_tries n aux env (unnamed_sets auxiliaries) (letters (spell_tries n aux env (unnamed_sets auxiliaries) xs k))) (spell_tries n aux env (unnamed_sets auxiliaries) xs k) (tries_of aux env (unnamed_sets auxiliaries) xs) k
 tries_answers n aux env auxiliaries xs k none = counted_tries n aux env (unnamed_sets auxiliaries) xs k (few_unnamed auxiliaries) none

@@ -5,12 +5,12 @@ use Rattle.std.proofs.lemmas.List.{length-map}
 use Rattle.std.proofs.lemmas.List.Elements.{All-nil, All-cons, All-head, All-tail, All-map}
 use Rattle.it_syntax.specs.Letters.{Letter, Number, Sym}
 use Rattle.it_syntax.specs.declared.types.Symbol.TheVariants.{Semicolon}
-use Rattle.it_syntax.specs.AtomReading.{Reads, ◌>>=◌}
-use Rattle.it_syntax.specs.WrittenAtoms.{Environment}
+use Rattle.it_syntax.specs.MeasureReading.{Reads, ◌>>=◌}
+use Rattle.it_syntax.specs.WrittenMeasures.{Environment}
 use Rattle.it_question.specs.Keywords.{try_keyword}
 use Rattle.it_question.specs.Limits.{IsTryOf}
 use Rattle.it_question.specs.WrittenTries.{Sets, unnamed_sets, with_set, is_whole, set_or, sets_view}
-use Rattle.it_question.specs.Reading.{behind_word, within_limit, read_assign, read_set, read_auxiliary, read_part, read_parts, read_try_end, read_try, if_allowed, try_then, if_tried, read_tries}
+use Rattle.it_question.specs.Reading.{after_word, within_limit, read_assign, read_set, read_auxiliary, read_part, read_parts, read_try_end, read_try, if_allowed, try_then, if_tried, read_tries}
 use Rattle.it_syntax.proofs.LimitLemmas.{Sure, sure_bind, Any, sure_any, Knows, IsBelow, some_sets, list_sure}
 
 abbrev IsWithin : ℕ → Option ℕ → Type 0
@@ -63,9 +63,9 @@ Within n x = AreWithin n x.0
 part_sure : (aux env : Environment) (n : ℕ) → Knows env n → (sets : Sets) → AreWithin n sets → (ls : List Letter) → Sure (Within n) (read_part aux env sets ls)
 unfolding read_part
 part_sure aux env n k sets h ls =
-    sure_bind Any (Within n) (read_auxiliary aux sets ls) (λ i. read_assign i.1 >>= λ behind. read_set env behind >>= λ set. Ok (with_set sets i.0 set.0, set.1)) (sure_any (read_auxiliary aux sets ls))
-    (λ i u. sure_bind Any (Within n) (read_assign i.1) (λ behind. read_set env behind >>= λ set. Ok (with_set sets i.0 set.0, set.1)) (sure_any (read_assign i.1))
-    (λ behind w. sure_bind (IsBelow (2 ^ n)) (Within n) (read_set env behind) (λ set. Ok (with_set sets i.0 set.0, set.1)) (set_sure env n k behind)
+    sure_bind Any (Within n) (read_auxiliary aux sets ls) (λ i. read_assign i.1 >>= λ after. read_set env after >>= λ set. Ok (with_set sets i.0 set.0, set.1)) (sure_any (read_auxiliary aux sets ls))
+    (λ i u. sure_bind Any (Within n) (read_assign i.1) (λ after. read_set env after >>= λ set. Ok (with_set sets i.0 set.0, set.1)) (sure_any (read_assign i.1))
+    (λ after w. sure_bind (IsBelow (2 ^ n)) (Within n) (read_set env after) (λ set. Ok (with_set sets i.0 set.0, set.1)) (set_sure env n k after)
     (λ set hs. record { four = with_set_length sets i.0 set.0 ∙ h.four; within = with_set_within n sets i.0 set.0 hs h.within })))
 
 parts_sure : (most : ℕ) (aux env : Environment) (n : ℕ) → Knows env n → (sets : Sets) → AreWithin n sets → (ls : List Letter) → Sure (Within n) (read_parts most aux env sets ls)
@@ -99,22 +99,22 @@ try_then_sure aux env n most k sets h f hf ls =
     (λ x hx. sure_bind (AreTries n most) (AreTries n (suc most)) (f x.1) (λ more. Ok (x.0 ∷ more.0, more.1)) (hf x.1) (λ more hm. (omega (arith, hm.0), All-cons (IsTryOf n) x.0 more.0 hx hm.1)))
 
 tried_sure : (n most : ℕ) (f : List Letter → Reads (List (List ℕ))) → ((ls : List Letter) → Sure (AreTries n most) (f ls)) → (o : Option (List Letter)) (ls : List Letter) → Sure (AreTries n most) (if_tried f o ls)
-tried_sure n most f h (Some behind) ls = h behind
+tried_sure n most f h (Some after) ls = h after
 tried_sure n most f h None ls = (omega arith, All-nil (IsTryOf n))
 
-allowed_sure : {A : Type 0} (P : A × List Letter → Type 0) (b : Bool) (n : ℕ) (f : List Letter → Reads A) (behind ls : List Letter) → Sure P (within_limit n f behind ls) → Sure P (if_allowed b n f behind ls)
-allowed_sure P true n f behind ls h = tt
-allowed_sure P false n f behind ls h = h
+allowed_sure : {A : Type 0} (P : A × List Letter → Type 0) (b : Bool) (n : ℕ) (f : List Letter → Reads A) (after ls : List Letter) → Sure P (within_limit n f after ls) → Sure P (if_allowed b n f after ls)
+allowed_sure P true n f after ls h = tt
+allowed_sure P false n f after ls h = h
 
 counted_tries : (most : ℕ) (aux env : Environment) (n : ℕ) → Knows env n → (sets : Sets) → AreWithin n sets → (ls : List Letter) → Sure (AreTries n most) (read_tries most aux env sets ls)
 unfolding read_tries
 counted_tries zero aux env n k sets h ls =
     let f = try_then (λ more. Ok ([], more)) aux env sets in
-    tried_sure n zero (λ behind. if_allowed (is_whole sets) 0 f behind ls) (λ behind. allowed_sure (AreTries n zero) (is_whole sets) 0 f behind ls tt) (behind_word try_keyword ls) ls
+    tried_sure n zero (λ after. if_allowed (is_whole sets) 0 f after ls) (λ after. allowed_sure (AreTries n zero) (is_whole sets) 0 f after ls tt) (after_word try_keyword ls) ls
 counted_tries (suc most) aux env n k sets h ls =
     let f = try_then (read_tries most aux env sets) aux env sets in
-    tried_sure n (suc most) (λ behind. if_allowed (is_whole sets) (suc most) f behind ls)
-    (λ behind. allowed_sure (AreTries n (suc most)) (is_whole sets) (suc most) f behind ls (try_then_sure aux env n most k sets h (read_tries most aux env sets) (counted_tries most aux env n k sets h) behind)) (behind_word try_keyword ls) ls
+    tried_sure n (suc most) (λ after. if_allowed (is_whole sets) (suc most) f after ls)
+    (λ after. allowed_sure (AreTries n (suc most)) (is_whole sets) (suc most) f after ls (try_then_sure aux env n most k sets h (read_tries most aux env sets) (counted_tries most aux env n k sets h) after)) (after_word try_keyword ls) ls
 
 -- sets of n variables for the auxiliaries of a region
 pub tries_sure : (most : ℕ) (aux env : Environment) (n : ℕ) → Knows env n → (auxiliaries : ℕ) (ls : List Letter) → Sure (AreTries n most) (read_tries most aux env (unnamed_sets auxiliaries) ls)

@@ -6,11 +6,11 @@ use Rattle.it_syntax.specs.declared.types.Code.TheVariants as codes
 use Rattle.it_syntax.specs.declared.types.Symbol.TheVariants as symbols
 use Rattle.it_syntax.specs.Letters.{Letter, Sym}
 use Rattle.it_syntax.specs.Gives.{StopsAs}
-use Rattle.it_syntax.specs.AtomReading.{Reads, ◌>>=◌}
-use Rattle.it_syntax.specs.WrittenAtoms.{Environment}
+use Rattle.it_syntax.specs.MeasureReading.{Reads, ◌>>=◌}
+use Rattle.it_syntax.specs.WrittenMeasures.{Environment}
 use Rattle.it_question.specs.Keywords.{try_keyword}
 use Rattle.it_question.specs.WrittenTries.{Sets, is_whole, unnamed_sets}
-use Rattle.it_question.specs.Reading.{after_semicolon, behind_word, if_allowed, try_then, if_tried, read_part, read_parts, read_try, read_tries}
+use Rattle.it_question.specs.Reading.{after_semicolon, after_word, if_allowed, try_then, if_tried, read_part, read_parts, read_try, read_tries}
 
 is_semicolon : (ls b : List Letter) → after_semicolon ls ≡ Some b → ls ≡ Sym symbols.Semicolon ∷ b
 is_semicolon (Sym symbols.Semicolon ∷ ls) b e = let same : ls ≡ b = cc in ap (λ (t : List Letter). Sym symbols.Semicolon ∷ t) same
@@ -80,19 +80,19 @@ abbrev after_try : ℕ → Environment → Environment → Sets → List Letter 
 after_try zero aux env sets ls = Ok ([], ls)
 after_try (suc n) aux env sets ls = read_tries n aux env sets ls
 
-tries_at : (n : ℕ) (aux env : Environment) (sets : Sets) (ls b : List Letter) → behind_word try_keyword ls ≡ Some b → read_tries n aux env sets ls ≡ if_allowed (is_whole sets) n (try_then (after_try n aux env sets) aux env sets) b ls
+tries_at : (n : ℕ) (aux env : Environment) (sets : Sets) (ls b : List Letter) → after_word try_keyword ls ≡ Some b → read_tries n aux env sets ls ≡ if_allowed (is_whole sets) n (try_then (after_try n aux env sets) aux env sets) b ls
 unfolding read_tries
-tries_at zero aux env sets ls b e = ap (λ (o : Option (List Letter)). if_tried (λ behind. if_allowed (is_whole sets) 0 (try_then (λ more. Ok ([], more)) aux env sets) behind ls) o ls) e
-tries_at (suc n) aux env sets ls b e = ap (λ (o : Option (List Letter)). if_tried (λ behind. if_allowed (is_whole sets) (suc n) (try_then (read_tries n aux env sets) aux env sets) behind ls) o ls) e
+tries_at zero aux env sets ls b e = ap (λ (o : Option (List Letter)). if_tried (λ after. if_allowed (is_whole sets) 0 (try_then (λ more. Ok ([], more)) aux env sets) after ls) o ls) e
+tries_at (suc n) aux env sets ls b e = ap (λ (o : Option (List Letter)). if_tried (λ after. if_allowed (is_whole sets) (suc n) (try_then (read_tries n aux env sets) aux env sets) after ls) o ls) e
 
-pub tries_unmeant : (n : ℕ) (aux env : Environment) (sets : Sets) (front : Tries) (ls b : List Letter) (whole : Reads Tries) → with_tries front (read_tries n aux env sets ls) ≡ whole → behind_word try_keyword ls ≡ Some b → is_whole sets ≡ true → whole ≡ Err (codes.Word, ls)
+pub tries_unmeant : (n : ℕ) (aux env : Environment) (sets : Sets) (front : Tries) (ls b : List Letter) (whole : Reads Tries) → with_tries front (read_tries n aux env sets ls) ≡ whole → after_word try_keyword ls ≡ Some b → is_whole sets ≡ true → whole ≡ Err (codes.Word, ls)
 tries_unmeant n aux env sets front ls b whole h e w = sym h ∙ ap (with_tries front) (tries_at n aux env sets ls b e ∙ ap (λ (t : Bool). if_allowed t n (try_then (after_try n aux env sets) aux env sets) b ls) w)
 
-pub tries_many : (n : ℕ) (aux env : Environment) (sets : Sets) (front : Tries) (ls b : List Letter) (whole : Reads Tries) → with_tries front (read_tries n aux env sets ls) ≡ whole → behind_word try_keyword ls ≡ Some b → is_whole sets ≡ false → n ≡ 0 → whole ≡ Err (codes.Many, ls)
+pub tries_many : (n : ℕ) (aux env : Environment) (sets : Sets) (front : Tries) (ls b : List Letter) (whole : Reads Tries) → with_tries front (read_tries n aux env sets ls) ≡ whole → after_word try_keyword ls ≡ Some b → is_whole sets ≡ false → n ≡ 0 → whole ≡ Err (codes.Many, ls)
 tries_many zero aux env sets front ls b whole h e w none = sym h ∙ ap (with_tries front) (tries_at zero aux env sets ls b e ∙ ap (λ (t : Bool). if_allowed t zero (try_then (after_try zero aux env sets) aux env sets) b ls) w)
 tries_many (suc n) aux env sets front ls b whole h e w none = absurd (omega (arith, none))
 
-some_more : (n : ℕ) (aux env : Environment) (sets : Sets) (ls b : List Letter) → behind_word try_keyword ls ≡ Some b → is_whole sets ≡ false → (n ≡ 0 → ⊥) → read_tries n aux env sets ls ≡ try_then (read_tries (n - 1) aux env sets) aux env sets b
+some_more : (n : ℕ) (aux env : Environment) (sets : Sets) (ls b : List Letter) → after_word try_keyword ls ≡ Some b → is_whole sets ≡ false → (n ≡ 0 → ⊥) → read_tries n aux env sets ls ≡ try_then (read_tries (n - 1) aux env sets) aux env sets b
 some_more zero aux env sets ls b e w some = absurd (some refl)
 some_more (suc n) aux env sets ls b e w some =
     let less : suc n - 1 ≡ n = omega arith in
@@ -102,7 +102,7 @@ then_stops : (f : List Letter → Reads Tries) (front : Tries) (stop : Stop) (re
 then_stops f front stops.Memory rest r e = tt
 then_stops f front (stops.Fault c) rest r e = ap (λ (t : Reads (List ℕ)). with_tries front (t >>= λ x. f x.1 >>= λ more. Ok (x.0 ∷ more.0, more.1))) e
 
-pub tries_stop : (n : ℕ) (aux env : Environment) (sets : Sets) (front : Tries) (ls b : List Letter) (whole : Reads Tries) (stop : Stop) (rest : List Letter) → with_tries front (read_tries n aux env sets ls) ≡ whole → behind_word try_keyword ls ≡ Some b → is_whole sets ≡ false → (n ≡ 0 → ⊥) → StopsAs stop rest (read_try aux env sets b) → StopsAs stop rest whole
+pub tries_stop : (n : ℕ) (aux env : Environment) (sets : Sets) (front : Tries) (ls b : List Letter) (whole : Reads Tries) (stop : Stop) (rest : List Letter) → with_tries front (read_tries n aux env sets ls) ≡ whole → after_word try_keyword ls ≡ Some b → is_whole sets ≡ false → (n ≡ 0 → ⊥) → StopsAs stop rest (read_try aux env sets b) → StopsAs stop rest whole
 tries_stop n aux env sets front ls b whole stop rest h e w some f =
     subst (StopsAs stop rest) (sym (ap (with_tries front) (some_more n aux env sets ls b e w some)) ∙ h) (then_stops (read_tries (n - 1) aux env sets) front stop rest (read_try aux env sets b) f)
 
@@ -113,18 +113,18 @@ with_tries-push front x (Ok y) = ap (λ (t : Tries). ok_tries t y.1) (sym (appen
     ok_tries t ls = Ok (t, ls)
 with_tries-push front x (Err e) = refl
 
-pub tries_more : (n : ℕ) (aux env : Environment) (sets : Sets) (front : Tries) (ls b : List Letter) (whole : Reads Tries) (x : List ℕ × List Letter) → with_tries front (read_tries n aux env sets ls) ≡ whole → behind_word try_keyword ls ≡ Some b → is_whole sets ≡ false → (n ≡ 0 → ⊥) → read_try aux env sets b ≡ Ok x → with_tries (front ++ x.0 ∷ []) (read_tries (n - 1) aux env sets x.1) ≡ whole
+pub tries_more : (n : ℕ) (aux env : Environment) (sets : Sets) (front : Tries) (ls b : List Letter) (whole : Reads Tries) (x : List ℕ × List Letter) → with_tries front (read_tries n aux env sets ls) ≡ whole → after_word try_keyword ls ≡ Some b → is_whole sets ≡ false → (n ≡ 0 → ⊥) → read_try aux env sets b ≡ Ok x → with_tries (front ++ x.0 ∷ []) (read_tries (n - 1) aux env sets x.1) ≡ whole
 tries_more n aux env sets front ls b whole x h e w some f =
     sym (with_tries-push front x.0 (read_tries (n - 1) aux env sets x.1))
     ∙ sym (ap (λ (t : Reads (List ℕ)). with_tries front (t >>= λ y. read_tries (n - 1) aux env sets y.1 >>= λ more. Ok (y.0 ∷ more.0, more.1))) f)
     ∙ sym (ap (with_tries front) (some_more n aux env sets ls b e w some)) ∙ h
 
-tries_none : (n : ℕ) (aux env : Environment) (sets : Sets) (ls : List Letter) → behind_word try_keyword ls ≡ None → read_tries n aux env sets ls ≡ Ok ([], ls)
+tries_none : (n : ℕ) (aux env : Environment) (sets : Sets) (ls : List Letter) → after_word try_keyword ls ≡ None → read_tries n aux env sets ls ≡ Ok ([], ls)
 unfolding read_tries
-tries_none zero aux env sets ls e = ap (λ (o : Option (List Letter)). if_tried (λ behind. if_allowed (is_whole sets) 0 (try_then (λ more. Ok ([], more)) aux env sets) behind ls) o ls) e
-tries_none (suc n) aux env sets ls e = ap (λ (o : Option (List Letter)). if_tried (λ behind. if_allowed (is_whole sets) (suc n) (try_then (read_tries n aux env sets) aux env sets) behind ls) o ls) e
+tries_none zero aux env sets ls e = ap (λ (o : Option (List Letter)). if_tried (λ after. if_allowed (is_whole sets) 0 (try_then (λ more. Ok ([], more)) aux env sets) after ls) o ls) e
+tries_none (suc n) aux env sets ls e = ap (λ (o : Option (List Letter)). if_tried (λ after. if_allowed (is_whole sets) (suc n) (try_then (read_tries n aux env sets) aux env sets) after ls) o ls) e
 
-pub tries_end : (n : ℕ) (aux env : Environment) (sets : Sets) (front : Tries) (ls : List Letter) (whole : Reads Tries) → with_tries front (read_tries n aux env sets ls) ≡ whole → behind_word try_keyword ls ≡ None → whole ≡ Ok (front, ls)
+pub tries_end : (n : ℕ) (aux env : Environment) (sets : Sets) (front : Tries) (ls : List Letter) (whole : Reads Tries) → with_tries front (read_tries n aux env sets ls) ≡ whole → after_word try_keyword ls ≡ None → whole ≡ Ok (front, ls)
 tries_end n aux env sets front ls whole h e = sym h ∙ ap (with_tries front) (tries_none n aux env sets ls e) ∙ ap (λ (t : Tries). ok_tries t ls) (append-nil front)
   where
     ok_tries : Tries → List Letter → Reads Tries

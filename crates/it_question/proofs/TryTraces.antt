@@ -5,16 +5,16 @@ use Rattle.it_syntax.specs.declared.types.Code.{Code}
 use Rattle.it_syntax.specs.declared.types.Code.TheVariants as codes
 use Rattle.it_syntax.specs.Letters.{Letter, Word, Number, Sym, End, MarkedLetters, without_mark}
 use Rattle.it_syntax.specs.FirstFault.{head, own_code}
-use Rattle.it_syntax.specs.AtomReading.{Reads, ◌>>=◌, read_list, line_end}
-use Rattle.it_syntax.specs.WrittenAtoms.{Environment, is_measure, index_or, spell_list, list_set}
+use Rattle.it_syntax.specs.MeasureReading.{Reads, ◌>>=◌, read_list, line_end}
+use Rattle.it_syntax.specs.WrittenMeasures.{Environment, is_measure, index_or, spell_list, list_set}
 use Rattle.it_syntax.proofs.Traces.{By, Traces, traces_bind, traces_map, letter_then, by_equal_reader, by_renaming}
-use Rattle.it_syntax.proofs.AtomTraces.{for_same_head, for_no_head, stuck_here, stuck_none, list_traces}
-use Rattle.it_syntax.proofs.LetterReaders.{TakesLetter, behind_traces}
+use Rattle.it_syntax.proofs.MeasureTraces.{for_same_head, for_no_head, stuck_here, stuck_none, list_traces}
+use Rattle.it_syntax.proofs.LetterReaders.{TakesLetter, after_traces}
 use Rattle.it_question.specs.Keywords.{try_keyword}
 use Rattle.it_question.specs.WrittenQuestions.{WrittenSet, Empty, Listed, WrittenPart, WrittenTry}
 use Rattle.it_question.specs.WrittenTries.{Sets, is_named, with_set, is_whole, sets_view, part_mark, spell_set, set_of, spell_part, with_part, spell_parts, with_parts, try_end_mark, spell_try, try_of, try_mark, spell_tries, tries_of}
-use Rattle.it_question.specs.Reading.{behind_word, read_assign, read_set, if_unnamed, auxiliary, read_auxiliary, read_part, read_parts, read_try_end, read_try, if_allowed, try_then, if_tried, read_tries}
-use Rattle.it_question.proofs.NameTraces.{some_name, number_of, IsJudged, marked_here, nothing_read, IsAbsent, at_word, behind_traced}
+use Rattle.it_question.specs.Reading.{after_word, read_assign, read_set, if_unnamed, auxiliary, read_auxiliary, read_part, read_parts, read_try_end, read_try, if_allowed, try_then, if_tried, read_tries}
+use Rattle.it_question.proofs.NameTraces.{some_name, number_of, IsJudged, marked_here, nothing_read, IsAbsent, at_word, after_traced}
 
 -- ---- the name of an auxiliary
 
@@ -97,9 +97,9 @@ part_made w x = record { name = w; set = x }
 pub part_traces : (aux env : Environment) (sets : Sets) → Traces (read_part aux env sets) (spell_part aux env sets) (with_part aux env sets)
 unfolding read_part
 part_traces aux env sets = traces_bind (read_auxiliary aux sets) (λ i ls. read_assign ls >>= from_set env sets i) (read_part aux env sets) (spell_auxiliary aux sets) (λ i. spell_assigned env) (spell_part aux env sets) (number_of aux) (λ i x. with_set sets i (set_of env x)) (with_part aux env sets) part_made
-    (record { is = λ ls. refl; spells = λ y z k. refl; value = λ y z. refl; some = Empty; first = auxiliary_traces aux sets; second = λ i. behind_traces read_assign (Sym Assign) (from_set env sets i) (spell_set env) (λ x. with_set sets i (set_of env x)) Empty assign_takes (traces_map (read_set env) (with_set sets i) (spell_set env) (set_of env) (set_traces env)) })
+    (record { is = λ ls. refl; spells = λ y z k. refl; value = λ y z. refl; some = Empty; first = auxiliary_traces aux sets; second = λ i. after_traces read_assign (Sym Assign) (from_set env sets i) (spell_set env) (λ x. with_set sets i (set_of env x)) Empty assign_takes (traces_map (read_set env) (with_set sets i) (spell_set env) (set_of env) (set_traces env)) })
 
--- a part, and the parts behind it
+-- a part, and the parts after it
 abbrev Parts : Type 0
 Parts = WrittenPart × List WrittenPart
 
@@ -123,7 +123,7 @@ parts_made x = x.0 ∷ x.1
 no_part : (n : ℕ) (aux env : Environment) (sets : Sets) (ls : List Letter) → ((s : List Letter) → head s ≡ head ls → read_parts n aux env sets s ≡ Ok (sets, s)) → By (read_parts n aux env sets) (spell_parts aux env sets) (with_parts aux env sets) ls (read_parts n aux env sets ls)
 no_part n aux env sets ls h = nothing_read (read_parts n aux env sets) (spell_parts aux env sets) (with_parts aux env sets) [] ls (λ k. refl) h
 
--- further parts, each behind `;`
+-- further parts, each after `;`
 pub parts_traces : (n : ℕ) (aux env : Environment) (sets : Sets) → Traces (read_parts n aux env sets) (spell_parts aux env sets) (with_parts aux env sets)
 unfolding read_parts
 parts_traces zero aux env sets (Sym Semicolon ∷ ls) = letter_then (read_parts zero aux env sets) (read_part aux env sets) (Sym Semicolon) (spell_part aux env sets) (spell_parts aux env sets) (with_part aux env sets) (with_parts aux env sets) (λ x. x ∷ []) ls (λ s. refl) (λ z k. refl) (λ z. refl) (read_part aux env sets ls) (part_traces aux env sets ls)
@@ -167,7 +167,7 @@ rest_traces aux env sets = traces_bind (read_parts 4 aux env sets) try_end_then 
 abbrev try_made : WrittenPart → List WrittenPart → WrittenTry
 try_made x xs = record { first = x; more = xs }
 
--- behind `try`, up to the line's end
+-- after `try`, up to the line's end
 pub try_traces : (aux env : Environment) (sets : Sets) → Traces (read_try aux env sets) (spell_try aux env sets) (try_of aux env sets)
 unfolding read_try
 try_traces aux env sets = traces_bind (read_part aux env sets) (rest_of_try aux env) (read_try aux env sets) (spell_part aux env sets) (spell_rest aux env) (spell_try aux env sets) (with_part aux env sets) (rest_of aux env) (try_of aux env sets) try_made
@@ -175,7 +175,7 @@ try_traces aux env sets = traces_bind (read_part aux env sets) (rest_of_try aux 
 
 -- ---- lines one after the other
 
--- a line, and the lines behind it
+-- a line, and the lines after it
 abbrev Tries : Type 0
 Tries = WrittenTry × List WrittenTry
 
@@ -195,48 +195,48 @@ tries_made x = x.0 ∷ x.1
 some_try : WrittenTry
 some_try = record { first = record { name = 88 ∷ []; set = Empty }; more = [] }
 
-abbrev behind_try : ℕ → Environment → Environment → Sets → MarkedLetters → MarkedLetters
-behind_try n aux env sets k = spell_try aux env sets some_try (spell_tries (n - 1) aux env sets [] k)
+abbrev after_try : ℕ → Environment → Environment → Sets → MarkedLetters → MarkedLetters
+after_try n aux env sets k = spell_try aux env sets some_try (spell_tries (n - 1) aux env sets [] k)
 
 tries_spelled : (n : ℕ) (aux env : Environment) (sets : Sets) → is_whole sets ≡ false → (x : Tries) (k : MarkedLetters) → spell_tries (suc n) aux env sets (tries_made x) k ≡ without_mark (Word try_keyword) ∷ spell_try_then n aux env sets x k
 tries_spelled n aux env sets eb x k =
     let e : suc n - 1 ≡ n = omega arith in
     ap (λ (b : Bool). (Word try_keyword, try_mark b (suc n)) ∷ spell_try_then (suc n - 1) aux env sets x k) eb ∙ ap (λ (m : ℕ). without_mark (Word try_keyword) ∷ spell_try_then m aux env sets x k) e
 
--- what stands behind `try`, where f reads it if it may stand there
-abbrev behind_word_of : Bool → ℕ → (List Letter → Reads (List (List ℕ))) → List Letter → Reads (List (List ℕ))
-behind_word_of b n f s = if_allowed b n f s (Word try_keyword ∷ s)
+-- what stands after `try`, where f reads it if it may stand there
+abbrev after_word_of : Bool → ℕ → (List Letter → Reads (List (List ℕ))) → List Letter → Reads (List (List ℕ))
+after_word_of b n f s = if_allowed b n f s (Word try_keyword ∷ s)
 
 -- `try` is marked
-try_marked : (n : ℕ) (aux env : Environment) (sets : Sets) (c : Code) (behind : List Letter) → try_mark (is_whole sets) n ≡ Some c → ((s : List Letter) → read_tries n aux env sets (Word try_keyword ∷ s) ≡ Err (c, Word try_keyword ∷ s))
-    → By (read_tries n aux env sets) (spell_tries n aux env sets) (tries_of aux env sets) (Word try_keyword ∷ behind) (read_tries n aux env sets (Word try_keyword ∷ behind))
-try_marked n aux env sets c behind h e = subst (λ (t : Reads (List (List ℕ))). By (read_tries n aux env sets) (spell_tries n aux env sets) (tries_of aux env sets) (Word try_keyword ∷ behind) t) (sym (e behind))
-    (marked_here (read_tries n aux env sets) (spell_tries n aux env sets) (some_try ∷ []) (Word try_keyword) behind c (behind_try n aux env sets) (λ k. ap (λ (m : Option Code). (Word try_keyword, m) ∷ behind_try n aux env sets k) h) e)
+try_marked : (n : ℕ) (aux env : Environment) (sets : Sets) (c : Code) (after : List Letter) → try_mark (is_whole sets) n ≡ Some c → ((s : List Letter) → read_tries n aux env sets (Word try_keyword ∷ s) ≡ Err (c, Word try_keyword ∷ s))
+    → By (read_tries n aux env sets) (spell_tries n aux env sets) (tries_of aux env sets) (Word try_keyword ∷ after) (read_tries n aux env sets (Word try_keyword ∷ after))
+try_marked n aux env sets c after h e = subst (λ (t : Reads (List (List ℕ))). By (read_tries n aux env sets) (spell_tries n aux env sets) (tries_of aux env sets) (Word try_keyword ∷ after) t) (sym (e after))
+    (marked_here (read_tries n aux env sets) (spell_tries n aux env sets) (some_try ∷ []) (Word try_keyword) after c (after_try n aux env sets) (λ k. ap (λ (m : Option Code). (Word try_keyword, m) ∷ after_try n aux env sets k) h) e)
 
-try_by : (n : ℕ) (aux env : Environment) (sets : Sets) (f : List Letter → Reads (List (List ℕ))) (behind : List Letter) (b : Bool) → is_whole sets ≡ b → ((s : List Letter) → read_tries (suc n) aux env sets (Word try_keyword ∷ s) ≡ behind_word_of (is_whole sets) (suc n) f s) → Traces f (spell_try_then n aux env sets) (try_then_of aux env sets)
-    → By (read_tries (suc n) aux env sets) (spell_tries (suc n) aux env sets) (tries_of aux env sets) (Word try_keyword ∷ behind) (read_tries (suc n) aux env sets (Word try_keyword ∷ behind))
-try_by n aux env sets f behind true eb is h = try_marked (suc n) aux env sets codes.Word behind (ap (λ (b : Bool). try_mark b (suc n)) eb) (λ s. is s ∙ ap (λ (b : Bool). behind_word_of b (suc n) f s) eb)
-try_by n aux env sets f behind false eb is h = behind_traced try_keyword (read_tries (suc n) aux env sets) f (spell_try_then n aux env sets) (spell_tries (suc n) aux env sets) (try_then_of aux env sets) (tries_of aux env sets) tries_made behind
-    (λ s. is s ∙ ap (λ (b : Bool). behind_word_of b (suc n) f s) eb) (tries_spelled n aux env sets eb) (λ z. refl) h
+try_by : (n : ℕ) (aux env : Environment) (sets : Sets) (f : List Letter → Reads (List (List ℕ))) (after : List Letter) (b : Bool) → is_whole sets ≡ b → ((s : List Letter) → read_tries (suc n) aux env sets (Word try_keyword ∷ s) ≡ after_word_of (is_whole sets) (suc n) f s) → Traces f (spell_try_then n aux env sets) (try_then_of aux env sets)
+    → By (read_tries (suc n) aux env sets) (spell_tries (suc n) aux env sets) (tries_of aux env sets) (Word try_keyword ∷ after) (read_tries (suc n) aux env sets (Word try_keyword ∷ after))
+try_by n aux env sets f after true eb is h = try_marked (suc n) aux env sets codes.Word after (ap (λ (b : Bool). try_mark b (suc n)) eb) (λ s. is s ∙ ap (λ (b : Bool). after_word_of b (suc n) f s) eb)
+try_by n aux env sets f after false eb is h = after_traced try_keyword (read_tries (suc n) aux env sets) f (spell_try_then n aux env sets) (spell_tries (suc n) aux env sets) (try_then_of aux env sets) (tries_of aux env sets) tries_made after
+    (λ s. is s ∙ ap (λ (b : Bool). after_word_of b (suc n) f s) eb) (tries_spelled n aux env sets eb) (λ z. refl) h
 
-try_over : (aux env : Environment) (sets : Sets) (f : List Letter → Reads (List (List ℕ))) (behind : List Letter) (b : Bool) → is_whole sets ≡ b → ((s : List Letter) → read_tries zero aux env sets (Word try_keyword ∷ s) ≡ behind_word_of (is_whole sets) zero f s)
-    → By (read_tries zero aux env sets) (spell_tries zero aux env sets) (tries_of aux env sets) (Word try_keyword ∷ behind) (read_tries zero aux env sets (Word try_keyword ∷ behind))
-try_over aux env sets f behind true eb is = try_marked zero aux env sets codes.Word behind (ap (λ (b : Bool). try_mark b zero) eb) (λ s. is s ∙ ap (λ (b : Bool). behind_word_of b zero f s) eb)
-try_over aux env sets f behind false eb is = try_marked zero aux env sets codes.Many behind (ap (λ (b : Bool). try_mark b zero) eb) (λ s. is s ∙ ap (λ (b : Bool). behind_word_of b zero f s) eb)
+try_over : (aux env : Environment) (sets : Sets) (f : List Letter → Reads (List (List ℕ))) (after : List Letter) (b : Bool) → is_whole sets ≡ b → ((s : List Letter) → read_tries zero aux env sets (Word try_keyword ∷ s) ≡ after_word_of (is_whole sets) zero f s)
+    → By (read_tries zero aux env sets) (spell_tries zero aux env sets) (tries_of aux env sets) (Word try_keyword ∷ after) (read_tries zero aux env sets (Word try_keyword ∷ after))
+try_over aux env sets f after true eb is = try_marked zero aux env sets codes.Word after (ap (λ (b : Bool). try_mark b zero) eb) (λ s. is s ∙ ap (λ (b : Bool). after_word_of b zero f s) eb)
+try_over aux env sets f after false eb is = try_marked zero aux env sets codes.Many after (ap (λ (b : Bool). try_mark b zero) eb) (λ s. is s ∙ ap (λ (b : Bool). after_word_of b zero f s) eb)
 
 no_try : (n : ℕ) (aux env : Environment) (sets : Sets) (ls : List Letter) → IsAbsent try_keyword ls → By (read_tries n aux env sets) (spell_tries n aux env sets) (tries_of aux env sets) ls (read_tries n aux env sets ls)
 unfolding read_tries
 no_try zero aux env sets ls h = nothing_read (read_tries zero aux env sets) (spell_tries zero aux env sets) (tries_of aux env sets) [] ls (λ k. refl)
-    (λ s e. ap (λ (o : Option (List Letter)). if_tried (λ behind. if_allowed (is_whole sets) 0 (try_then (λ more. Ok ([], more)) aux env sets) behind s) o s) (h s e))
+    (λ s e. ap (λ (o : Option (List Letter)). if_tried (λ after. if_allowed (is_whole sets) 0 (try_then (λ more. Ok ([], more)) aux env sets) after s) o s) (h s e))
 no_try (suc n) aux env sets ls h = nothing_read (read_tries (suc n) aux env sets) (spell_tries (suc n) aux env sets) (tries_of aux env sets) [] ls (λ k. refl)
-    (λ s e. ap (λ (o : Option (List Letter)). if_tried (λ behind. if_allowed (is_whole sets) (suc n) (try_then (read_tries n aux env sets) aux env sets) behind s) o s) (h s e))
+    (λ s e. ap (λ (o : Option (List Letter)). if_tried (λ after. if_allowed (is_whole sets) (suc n) (try_then (read_tries n aux env sets) aux env sets) after s) o s) (h s e))
 
 -- `try` lines, of which n are allowed
 pub tries_traces : (n : ℕ) (aux env : Environment) (sets : Sets) → Traces (read_tries n aux env sets) (spell_tries n aux env sets) (tries_of aux env sets)
-unfolding read_tries behind_word
+unfolding read_tries after_word
 tries_traces zero aux env sets ls = at_word try_keyword (read_tries zero aux env sets) (spell_tries zero aux env sets) (tries_of aux env sets) ls
-    (λ behind. try_over aux env sets (try_then (λ more. Ok ([], more)) aux env sets) behind (is_whole sets) refl (λ s. refl))
+    (λ after. try_over aux env sets (try_then (λ more. Ok ([], more)) aux env sets) after (is_whole sets) refl (λ s. refl))
     (no_try zero aux env sets ls)
 tries_traces (suc n) aux env sets ls = at_word try_keyword (read_tries (suc n) aux env sets) (spell_tries (suc n) aux env sets) (tries_of aux env sets) ls
-    (λ behind. try_by n aux env sets (try_then (read_tries n aux env sets) aux env sets) behind (is_whole sets) refl (λ s. refl) (try_then_traces (read_tries n aux env sets) n aux env sets (tries_traces n aux env sets)))
+    (λ after. try_by n aux env sets (try_then (read_tries n aux env sets) aux env sets) after (is_whole sets) refl (λ s. refl) (try_then_traces (read_tries n aux env sets) n aux env sets (tries_traces n aux env sets)))
     (no_try (suc n) aux env sets ls)

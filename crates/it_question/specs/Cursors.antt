@@ -7,20 +7,22 @@ use Rattle.it_syntax.specs.Letters.{Letter, Word, Number, Sym, End, Bad}
 use Rattle.it_syntax.specs.Gives as gives
 use Rattle.it_question.specs.declared.cursor.Cursor.{Cursor}
 use Rattle.it_question.specs.declared.cursor.Line.{Line}
-use Rattle.it_question.specs.Lines.{TokenLine, letters_of_lines}
+use Rattle.it_question.specs.Lines.{LineView, letters_of_lines}
 
-abbrev pub token_line : Line → TokenLine
-token_line l = record { number = l.number; text = l.text.items; tokens = l.tokens.tokens.items; misspelling = l.tokens.misspelling }
+-- what contracts see of a line
+abbrev pub line_view : Line → LineView
+line_view l = record { number = l.number; text = l.text.items; tokens = l.tokens.tokens.items; misspelling = l.tokens.misspelling }
 
--- what is left of a line, and the lines behind it
+-- the letters that are left of a line, and those of the lines after it; none where nothing is left
 abbrev pub left_of : Option Rest → List Line → List Letter
-left_of None behind = []
-left_of (Some rest) behind = gives.letters_left rest ++ letters_of_lines (map token_line behind)
+left_of None after = []
+left_of (Some rest) after = gives.letters_left rest ++ letters_of_lines (map line_view after)
 
+-- the letters that are left at a cursor
 unfoldable pub letters_left : Cursor → List Letter
-letters_left c = left_of c.rest c.behind.now
+letters_left c = left_of c.rest c.after.now
 
--- behind a line's end stands the next line
+-- after a line's end stands the next line
 abbrev pub with_letter : Piece → List Letter → List Letter
 with_letter (pieces.Word w) ls = Word w.now ∷ ls
 with_letter (pieces.Number n) ls = Number n ∷ ls

@@ -12,7 +12,7 @@ pub record AreLinesOver (v : NamesView) (own : OwnLinesView) : Type 0 where
   pub givens : All (IsGivenOf (length v.variables)) own.givens
   pub rows : All (IsRelationOf (length v.variables) (length v.rates)) own.rows
 
--- a region of a question with these names: their variables, and behind them at most 4 auxiliaries, 8 in all
+-- a region of a question with these names: their variables, and after them at most 4 auxiliaries, 8 in all
 pub record IsRegionOf (v : NamesView) (r : RegionView) : Type 0 where
   pub own : List (List ℕ)
   pub variables : r.names.variables ≡ v.variables ++ own
@@ -33,6 +33,7 @@ pub record AreRatesOf (m : ℕ) (rates : List ℕ) : Type 0 where
   pub within : All (λ r. r < m) rates
   pub distinct : IsDistinct eqb rates
 
+-- a verb over these names that is within the limits, with at most 64 `try` lines
 abbrev pub IsVerbOver : NamesView → VerbView → Type 0
 IsVerbOver v (Prove r) = IsRelationOf (length v.variables) (length v.rates) r
 IsVerbOver v (Eliminate rates) = AreRatesOf (length v.rates) rates

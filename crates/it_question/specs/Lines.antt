@@ -8,7 +8,7 @@ use Rattle.it_syntax.specs.declared.types.Misspelling.{Misspelling}
 use Rattle.it_syntax.specs.Letters.{Letter, Bad}
 use Rattle.it_syntax.specs.Spans.{letters_until, last_letter}
 use Rattle.it_syntax.specs.Misspellings.{SpellsUntil}
-use Rattle.it_syntax.specs.Lines.{column_behind}
+use Rattle.it_syntax.specs.Lines.{column_after}
 use Rattle.it_syntax.specs.declared.types.Code.TheVariants as codes
 
 -- a byte in front of the first of these lines
@@ -16,6 +16,7 @@ abbrev pub in_front : ℕ → List (List ℕ) → List (List ℕ)
 in_front b [] = (b ∷ []) ∷ []
 in_front b (line ∷ lines) = (b ∷ line) ∷ lines
 
+-- the lines of a file, without their line feeds
 abbrev pub split_lines : List ℕ → List (List ℕ)
 split_lines [] = []
 split_lines (b ∷ bytes) = if b == 10 then [] ∷ split_lines bytes else in_front b (split_lines bytes)
@@ -26,6 +27,7 @@ without_return [] = []
 without_return (b ∷ []) = if b == 13 then [] else b ∷ []
 without_return (b ∷ c ∷ bytes) = b ∷ without_return (c ∷ bytes)
 
+-- a line up to its first `#`
 abbrev pub before_comment : List ℕ → List ℕ
 before_comment [] = []
 before_comment (b ∷ bytes) = if b == 35 then [] else b ∷ before_comment bytes
@@ -39,55 +41,60 @@ abbrev pub plain_text : List ℕ → List ℕ
 plain_text line = map without_tab (before_comment (without_return line))
 
 -- a line by its number, counted from 1, with its tokens up to the first misspelling, if it has one
-pub record TokenLine : Type 0 where
+pub record LineView : Type 0 where
   pub number : ℕ
   pub text : List ℕ
   pub tokens : List Token
   pub misspelling : Option Misspelling
 
--- Behind the last line stands the file's end, as a line of its own: a letter that no rule goes on at.
+-- After the last line stands the file's end, as a line of its own: a letter that no rule goes on at.
 abbrev pub file_end : Letter
 file_end = Bad codes.Unfinished
 
-abbrev pub end_line : ℕ → TokenLine
+-- the line after the last one, whose only letter is the file's end
+abbrev pub end_line : ℕ → LineView
 end_line n = record { number = n; text = []; tokens = []; misspelling = Some (record { column = 1; code = codes.Unfinished }) }
 
+-- there is a token or a misspelling
 abbrev pub IsFilled : List Token → Option Misspelling → Type 0
 IsFilled [] None = ⊥
 IsFilled ts m = Unit {0}
 
 -- this line, of this number, is that one
-pub record IsLine (n : ℕ) (bytes : List ℕ) (l : TokenLine) : Type 0 where
+pub record IsLine (n : ℕ) (bytes : List ℕ) (l : LineView) : Type 0 where
   pub number : l.number ≡ n
   pub text : l.text ≡ plain_text bytes
   pub spelled : SpellsUntil 0 l.text l.tokens l.misspelling
 
 -- something stands in it: a token or a misspelling
-abbrev pub HasTokens : TokenLine → Type 0
+abbrev pub HasTokens : LineView → Type 0
 HasTokens l = IsFilled l.tokens l.misspelling
 
 -- The lines from number n on that have tokens, and the file's end.
-abbrev pub AreLines : ℕ → List (List ℕ) → List TokenLine → Type 0
+abbrev pub AreLines : ℕ → List (List ℕ) → List LineView → Type 0
 AreLines n [] lines = lines ≡ end_line n ∷ []
 AreLines n (bytes ∷ more) lines =
     (SpellsUntil 0 (plain_text bytes) [] None × AreLines (n + 1) more lines)
-    ⊎ ((l : TokenLine) × (rest : List TokenLine) × (lines ≡ l ∷ rest) × IsLine n bytes l × HasTokens l × AreLines (n + 1) more rest)
+    ⊎ ((l : LineView) × (rest : List LineView) × (lines ≡ l ∷ rest) × IsLine n bytes l × HasTokens l × AreLines (n + 1) more rest)
 
-abbrev pub AreLinesOf : List ℕ → List TokenLine → Type 0
+-- these are the lines of a file that have tokens, and its end
+abbrev pub AreLinesOf : List ℕ → List LineView → Type 0
 AreLinesOf bytes lines = AreLines 1 (split_lines bytes) lines
 
--- the letters of a line, and of lines one after the other
-abbrev pub line_letters : TokenLine → List Letter
+-- the letters of a line
+abbrev pub line_letters : LineView → List Letter
 line_letters l = letters_until l.text l.tokens (last_letter l.misspelling)
 
-abbrev pub letters_of_lines : List TokenLine → List Letter
+-- the letters of lines, one line after the other
+abbrev pub letters_of_lines : List LineView → List Letter
 letters_of_lines [] = []
 letters_of_lines (l ∷ ls) = line_letters l ++ letters_of_lines ls
 
 -- where each letter stands: its line, and its column counted from 1
-abbrev pub line_places : TokenLine → List (ℕ × ℕ)
-line_places l = map (λ (t : Token). (l.number, t.start + 1)) l.tokens ++ ((l.number, column_behind l.tokens l.misspelling) ∷ [])
+abbrev pub line_places : LineView → List (ℕ × ℕ)
+line_places l = map (λ (t : Token). (l.number, t.start + 1)) l.tokens ++ ((l.number, column_after l.tokens l.misspelling) ∷ [])
 
-abbrev pub places_of_lines : List TokenLine → List (ℕ × ℕ)
+-- the places of the letters of lines, one line after the other
+abbrev pub places_of_lines : List LineView → List (ℕ × ℕ)
 places_of_lines [] = []
 places_of_lines (l ∷ ls) = line_places l ++ places_of_lines ls

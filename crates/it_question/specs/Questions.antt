@@ -32,24 +32,29 @@ pub record BodyView : Type 0 where
   pub lines : OwnLinesView
   pub verb : VerbView
 
--- and with it
+-- a question with its text
 pub record QuestionView : Type 0 where
   pub body : BodyView
   pub text : List ℕ
 
+-- what contracts see of own lines
 abbrev pub own_lines_view : OwnLines → OwnLinesView
 own_lines_view own = record { givens = map given_view own.givens.items; rows = map relation_view own.rows.items }
 
+-- what contracts see of a region
 abbrev pub region_view : Region → RegionView
 region_view r = record { names = r.names; auxiliaries = r.auxiliaries; lines = own_lines_view r.lines }
 
+-- what contracts see of a verb
 abbrev pub verb_view : Verb → VerbView
 verb_view (verbs.Prove r) = Prove (relation_view r)
 verb_view (verbs.Eliminate rates) = Eliminate rates.items
 verb_view (verbs.Contain first second tries) = Contain (region_view first) (region_view second) tries.items
 
+-- what contracts see of a whole question, but for its text
 abbrev pub question_body : Question → BodyView
 question_body q = record { names = q.names; lines = own_lines_view q.lines; verb = verb_view q.verb }
 
+-- what contracts see of a question, with its text
 abbrev pub question_view : Question → QuestionView
 question_view q = record { body = question_body q; text = q.text.items }

@@ -2,12 +2,13 @@
 use Rattle.std.specs.Prelude.{◌≡◌, ℕ, ◌≤◌, List, ◌++◌, length, ◌==◌, Bool, not, [], ◌∷◌, None, ◌⊎◌}
 use Rattle.it_question.specs.Questions.{OwnLinesView, VerbView, Prove, Eliminate, Contain}
 use Rattle.it_syntax.specs.Misspellings.{SpellsUntil}
-use Rattle.it_question.specs.Lines.{plain_text, TokenLine, IsLine, HasTokens}
+use Rattle.it_question.specs.Lines.{plain_text, LineView, IsLine, HasTokens}
 
 -- what the number of lines of a question takes
 abbrev pub FewLines : OwnLinesView → Type 0
 FewLines own = (length own.givens ≤ 64) × (length own.rows ≤ 64)
 
+-- what the number of a verb's lines takes
 abbrev pub FewLinesOf : VerbView → Type 0
 FewLinesOf (Prove r) = Unit {0}
 FewLinesOf (Eliminate rates) = Unit {0}
@@ -17,8 +18,8 @@ FewLinesOf (Contain first second tries) = FewLines first.lines × FewLines secon
 unfoldable pub is_other : ℕ → ℕ → Bool
 is_other stop b = not (b == stop)
 
--- a line was put behind others, if it has tokens
-abbrev pub IsLineAdded : ℕ → List ℕ → List TokenLine → List TokenLine → Type 0
+-- a line was put after others, if it has tokens
+abbrev pub IsLineAdded : ℕ → List ℕ → List LineView → List LineView → Type 0
 IsLineAdded n bytes old new =
     (SpellsUntil 0 (plain_text bytes) [] None × (new ≡ old))
-    ⊎ ((l : TokenLine) × (new ≡ old ++ l ∷ []) × IsLine n bytes l × HasTokens l)
+    ⊎ ((l : LineView) × (new ≡ old ++ l ∷ []) × IsLine n bytes l × HasTokens l)

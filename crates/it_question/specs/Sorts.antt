@@ -3,11 +3,12 @@ use Rattle.std.specs.Prelude.{◌≡◌, ℕ, ◌+◌, ◌≤◌, length}
 use Rattle.it_syntax.specs.NamesViews.{NamesView}
 use Rattle.it_question.specs.declared.sorts.NameSort.{NameSort}
 use Rattle.it_question.specs.declared.sorts.NameSort.TheVariants as sorts
-use Rattle.it_question.specs.NewNames.{Sort, Variable, Rate}
+use Rattle.it_question.specs.NewNames.{NameSortView, Variable, Rate}
 
-abbrev pub sort_of : NameSort → Sort
-sort_of sorts.Variable = Variable
-sort_of sorts.Rate = Rate
+-- what contracts see of a sort of names
+abbrev pub name_sort_view : NameSort → NameSortView
+name_sort_view sorts.Variable = Variable
+name_sort_view sorts.Rate = Rate
 
 -- n more names of the sort can be declared
 abbrev pub HasRoom : NameSort → ℕ → NamesView → Type 0

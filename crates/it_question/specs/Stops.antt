@@ -6,13 +6,14 @@ use Rattle.it_syntax.specs.declared.rest.Stop.TheVariants as stops
 use Rattle.it_syntax.specs.Letters.{Letter}
 use Rattle.it_question.specs.declared.types.FileFault.{FileFault}
 use Rattle.it_question.specs.declared.types.FileFault.TheVariants.{Memory, Fault}
-use Rattle.it_question.specs.Lines.{TokenLine, letters_of_lines, places_of_lines}
+use Rattle.it_question.specs.Lines.{LineView, letters_of_lines, places_of_lines}
 
 -- no more letters are left than there are, and at least one
-pub record IsLeft (lines : List TokenLine) (left : List Letter) : Type 0 where
+pub record IsLeft (lines : List LineView) (left : List Letter) : Type 0 where
   pub within : length left ≤ length (letters_of_lines lines)
   pub some : length (letters_of_lines lines) - length left < length (places_of_lines lines)
 
+-- p is so, unless memory ran out
 abbrev pub IfFault : Stop → Type 0 → Type 0
 IfFault stops.Memory p = Unit {0}
 IfFault (stops.Fault code) p = p
@@ -22,6 +23,7 @@ abbrev pub IsFaultAt : Option (ℕ × ℕ) → Code → FileFault → Type 0
 IsFaultAt place code Memory = ⊥
 IsFaultAt place code (Fault line column c) = (c ≡ code) × (place ≡ Some (line, column))
 
+-- the error says why reading stopped: memory ran out, or this code at that place
 abbrev pub IsStopAt : Option (ℕ × ℕ) → Stop → FileFault → Type 0
 IsStopAt place stops.Memory fault = fault ≡ Memory
 IsStopAt place (stops.Fault code) fault = IsFaultAt place code fault

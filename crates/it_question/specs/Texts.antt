@@ -1,24 +1,29 @@
--- The text of a question: its lines from `vars` to the verb, each without blanks at both ends and with a line feed behind it.
+-- The text of a question: its lines from `vars` to the verb, each without blanks at both ends and with a line feed after it.
 use Rattle.std.specs.Prelude.{ℕ, ◌+◌, ◌==◌, List, [], ◌∷◌, ◌++◌, length, take, drop, if◌then◌else◌}
-use Rattle.it_question.specs.Lines.{TokenLine}
+use Rattle.it_question.specs.Lines.{LineView}
 use Rattle.it_question.specs.Questions.{OwnLinesView, RegionView, VerbView, Prove, Eliminate, Contain, BodyView, QuestionView}
 
+-- bytes without the spaces in front
 abbrev pub without_leading : List ℕ → List ℕ
 without_leading [] = []
 without_leading (b ∷ bytes) = if b == 32 then without_leading bytes else b ∷ bytes
 
+-- a byte and those after it, or nothing if it is the last one and a space
 abbrev pub unless_blank : ℕ → List ℕ → List ℕ
 unless_blank b [] = if b == 32 then [] else b ∷ []
 unless_blank b (c ∷ bytes) = b ∷ c ∷ bytes
 
+-- bytes without the spaces at their end
 abbrev pub without_trailing : List ℕ → List ℕ
 without_trailing [] = []
 without_trailing (b ∷ bytes) = unless_blank b (without_trailing bytes)
 
+-- a line without the spaces at both ends
 abbrev pub trimmed_line : List ℕ → List ℕ
 trimmed_line line = without_trailing (without_leading line)
 
-abbrev pub text_of_lines : List TokenLine → List ℕ
+-- the text of lines, each without spaces at both ends and with a line feed after it
+abbrev pub text_of_lines : List LineView → List ℕ
 text_of_lines [] = []
 text_of_lines (l ∷ ls) = trimmed_line l.text ++ 10 ∷ text_of_lines ls
 
@@ -29,9 +34,11 @@ abbrev pub one_if_some : {X : Type 0} → List X → ℕ
 one_if_some [] = 0
 one_if_some (x ∷ xs) = 1
 
+-- how many `given` and `row` lines there are
 abbrev pub own_line_count : OwnLinesView → ℕ
 own_line_count own = length own.givens + length own.rows
 
+-- a line of names stands where their number isn't 0
 abbrev pub one_unless_zero : ℕ → ℕ
 one_unless_zero n = if n == 0 then 0 else 1
 
@@ -45,10 +52,11 @@ verb_line_count (Prove r) = 1
 verb_line_count (Eliminate rates) = 1
 verb_line_count (Contain first second tries) = region_line_count first + region_line_count second + length tries + 1
 
+-- how many lines a question has, from `vars` to the verb
 abbrev pub question_line_count : BodyView → ℕ
 question_line_count q = 1 + one_if_some q.names.rates + own_line_count q.lines + verb_line_count q.verb
 
 -- the questions of these lines, one after the other, with their texts
-abbrev pub with_texts : List TokenLine → List BodyView → List QuestionView
+abbrev pub with_texts : List LineView → List BodyView → List QuestionView
 with_texts lines [] = []
 with_texts lines (q ∷ qs) = record { body = q; text = text_of_lines (take (question_line_count q) lines) } ∷ with_texts (drop (question_line_count q) lines) qs

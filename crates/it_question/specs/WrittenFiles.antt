@@ -13,38 +13,43 @@ use Rattle.it_question.specs.WrittenLines.{limit_mark, spell_own, own_of, spell_
 use Rattle.it_question.specs.WrittenRegions.{givens_left, rows_left, spell_containment, containment_of}
 use Rattle.it_question.specs.Questions as views
 
+-- the lines of a verb, with g `given` and r `row` lines allowed in its regions together
 abbrev pub spell_verb : ℕ → ℕ → NamesView → WrittenVerb → MarkedLetters → MarkedLetters
 spell_verb g r v (Prove x) k = without_mark (Word prove_keyword) ∷ spell_relation (scope_of v true) x (without_mark End ∷ k)
 spell_verb g r v (Eliminate l) k = without_mark (Word eliminate_keyword) ∷ spell_distinct (rates_env v) l (without_mark End ∷ k)
 spell_verb g r v (Contain x) k = spell_containment g r v x k
 
+-- what the lines of a verb say, in a question with these names
 abbrev pub verb_of : NamesView → WrittenVerb → VerbView
 verb_of v (Prove x) = views.Prove (relation_of (scope_of v true) x)
 verb_of v (Eliminate l) = views.Eliminate (distinct_of (rates_env v) l)
 verb_of v (Contain x) = containment_of v x
 
+-- the variables and rates that a question declares
 abbrev pub names_of : WrittenQuestion → NamesView
 names_of x = names_line_of Rate (new_names_of Variable no_names x.variables) x.rates
 
--- behind `vars`
+-- after `vars`
 abbrev pub spell_question : WrittenQuestion → MarkedLetters → MarkedLetters
 spell_question x k =
     let variables = new_names_of Variable no_names x.variables in
     let names = names_of x in
-    let own = own_of names x.own in
+    let own = own_of names x.lines in
     spell_new_names Variable most_variables no_names x.variables
     (without_mark End ∷ spell_names_line Rate most_rates rates_keyword variables x.rates
-    (spell_own most_lines most_lines names x.own
+    (spell_own most_lines most_lines names x.lines
     (spell_verb (givens_left most_lines own) (rows_left most_lines own) names x.verb k)))
 
+-- what a question asks, without its text
 abbrev pub question_of : WrittenQuestion → BodyView
-question_of x = let names = names_of x in record { names = names; lines = own_of names x.own; verb = verb_of names x.verb }
+question_of x = let names = names_of x in record { names = names; lines = own_of names x.lines; verb = verb_of names x.verb }
 
 -- questions, of which n are allowed
 abbrev pub spell_questions : ℕ → List WrittenQuestion → MarkedLetters → MarkedLetters
 spell_questions n [] k = k
 spell_questions n (x ∷ xs) k = (Word vars_keyword, limit_mark n) ∷ spell_question x (spell_questions (n - 1) xs k)
 
+-- what questions ask, one after the other
 abbrev pub questions_of : List WrittenQuestion → List BodyView
 questions_of xs = map question_of xs
 

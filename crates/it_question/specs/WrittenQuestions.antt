@@ -1,18 +1,22 @@
 -- Question files as they are written: the trees, and how many of each thing there may be.
 use Rattle.std.specs.Prelude.{ℕ, List, Option}
-use Rattle.it_syntax.specs.WrittenAtoms.{WrittenList}
+use Rattle.it_syntax.specs.WrittenMeasures.{WrittenList}
 use Rattle.it_syntax.specs.WrittenRelations.{WrittenRelation}
 use Rattle.it_syntax.specs.WrittenGivens.{WrittenGiven}
 
+-- how many questions a file has, at most
 abbrev pub most_questions : ℕ
 most_questions = 1000
 
+-- how many variables a question has, or a region with its auxiliaries, at most
 abbrev pub most_variables : ℕ
 most_variables = 8
 
+-- how many auxiliaries a region has, at most
 abbrev pub most_auxiliaries : ℕ
 most_auxiliaries = 4
 
+-- how many rates a question has, at most
 abbrev pub most_rates : ℕ
 most_rates = 16
 
@@ -21,14 +25,14 @@ abbrev pub most_lines : ℕ
 most_lines = 64
 
 -- a `given` or `row` line
-pub data WrittenLine : Type 0 where
-  GivenLine : (condition : WrittenGiven) → WrittenLine
-  RowLine : (relation : WrittenRelation) → WrittenLine
+pub data WrittenOwnLine : Type 0 where
+  GivenLine : (condition : WrittenGiven) → WrittenOwnLine
+  RowLine : (relation : WrittenRelation) → WrittenOwnLine
 
--- behind `region`: the names of an `aux` line, if there is one, and the region's own lines
+-- after `region`: the names of an `aux` line, if there is one, and the region's own lines
 pub record WrittenRegion : Type 0 where
   pub auxiliaries : Option WrittenList
-  pub own : List WrittenLine
+  pub lines : List WrittenOwnLine
 
 -- `0` for the empty set, or names
 pub data WrittenSet : Type 0 where
@@ -40,22 +44,26 @@ pub record WrittenPart : Type 0 where
   pub name : List ℕ
   pub set : WrittenSet
 
+-- after `try`: one or more parts
 pub record WrittenTry : Type 0 where
   pub first : WrittenPart
   pub more : List WrittenPart
 
+-- the two regions, and the `try` lines after them
 pub record WrittenContainment : Type 0 where
   pub first : WrittenRegion
   pub second : WrittenRegion
   pub tries : List WrittenTry
 
+-- `prove` with a relation, `eliminate` with rates, or two regions up to `contain`
 pub data WrittenVerb : Type 0 where
   Prove : (relation : WrittenRelation) → WrittenVerb
   Eliminate : (rates : WrittenList) → WrittenVerb
   Contain : (containment : WrittenContainment) → WrittenVerb
 
+-- a question, from the line of its variables to its verb
 pub record WrittenQuestion : Type 0 where
   pub variables : WrittenList
   pub rates : Option WrittenList
-  pub own : List WrittenLine
+  pub lines : List WrittenOwnLine
   pub verb : WrittenVerb

@@ -2,7 +2,7 @@
 use Rattle.std.specs.Prelude.{ℕ, ◌-◌, min, nat_lt, ◌∷◌, length, Option, Some, None, if◌then◌else◌}
 use Rattle.it_syntax.specs.NamesViews.{NamesView, index_of}
 use Rattle.it_syntax.specs.Letters.{Word, End, MarkedLetters, without_mark}
-use Rattle.it_syntax.specs.WrittenAtoms.{Environment}
+use Rattle.it_syntax.specs.WrittenMeasures.{Environment}
 use Rattle.it_syntax.specs.Scopes.{env_of}
 use Rattle.it_question.specs.Keywords.{region_keyword, aux_keyword, contain_keyword}
 use Rattle.it_question.specs.Questions.{OwnLinesView, RegionView, VerbView}
@@ -16,27 +16,32 @@ use Rattle.it_question.specs.Questions as views
 abbrev pub auxiliaries_left : NamesView → ℕ
 auxiliaries_left v = min most_auxiliaries (most_variables - length v.variables)
 
+-- a region from its first line on, with g `given` and r `row` lines allowed
 abbrev pub spell_region : ℕ → ℕ → NamesView → WrittenRegion → MarkedLetters → MarkedLetters
-spell_region g r v x k = without_mark (Word region_keyword) ∷ without_mark End ∷ spell_names_line Variable (auxiliaries_left v) aux_keyword v x.auxiliaries (spell_own g r (names_line_of Variable v x.auxiliaries) x.own k)
+spell_region g r v x k = without_mark (Word region_keyword) ∷ without_mark End ∷ spell_names_line Variable (auxiliaries_left v) aux_keyword v x.auxiliaries (spell_own g r (names_line_of Variable v x.auxiliaries) x.lines k)
 
+-- what a region says, in a question with these names
 abbrev pub region_of : NamesView → WrittenRegion → RegionView
-region_of v x = let names = names_line_of Variable v x.auxiliaries in record { names = names; auxiliaries = length names.variables - length v.variables; lines = own_of names x.own }
+region_of v x = let names = names_line_of Variable v x.auxiliaries in record { names = names; auxiliaries = length names.variables - length v.variables; lines = own_of names x.lines }
 
--- a number behind the first n, counted from there
-abbrev pub behind_first : ℕ → Option ℕ → Option ℕ
-behind_first n None = None
-behind_first n (Some i) = if nat_lt i n then None else Some (i - n)
+-- a number after the first n, counted from there
+abbrev pub after_first : ℕ → Option ℕ → Option ℕ
+after_first n None = None
+after_first n (Some i) = if nat_lt i n then None else Some (i - n)
 
--- which of the auxiliaries of a region a name is: they stand behind the question's variables
+-- which of the auxiliaries of a region a name is: they stand after the question's variables
 unfoldable pub auxiliary_env : NamesView → NamesView → Environment
-auxiliary_env v names w = behind_first (length v.variables) (index_of names.variables w)
+auxiliary_env v names w = after_first (length v.variables) (index_of names.variables w)
 
+-- how many of g `given` lines are still allowed after these own lines
 abbrev pub givens_left : ℕ → OwnLinesView → ℕ
 givens_left g own = g - length own.givens
 
+-- how many of r `row` lines are still allowed after these own lines
 abbrev pub rows_left : ℕ → OwnLinesView → ℕ
 rows_left r own = r - length own.rows
 
+-- two regions and the `try` lines, up to `contain`
 abbrev pub spell_containment : ℕ → ℕ → NamesView → WrittenContainment → MarkedLetters → MarkedLetters
 spell_containment g r v x k =
     let first = region_of v x.first in
@@ -46,6 +51,7 @@ spell_containment g r v x k =
     (spell_tries most_lines (auxiliary_env v second.names) (env_of first.names) (unnamed_sets second.auxiliaries) x.tries
     (without_mark (Word contain_keyword) ∷ without_mark End ∷ k)))
 
+-- what two regions and the `try` lines say, in a question with these names
 abbrev pub containment_of : NamesView → WrittenContainment → VerbView
 containment_of v x =
     let first = region_of v x.first in

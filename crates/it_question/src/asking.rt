@@ -1,4 +1,5 @@
 //! Readers of what is asked, of a question, and of the questions of a file.
+//! A reader's result is matched where `?` would do: so each case is a goal of its own, with the reading's equation at hand.
 ghost use Rattle.std.specs.Prelude.{◌≡◌, ◌++◌, [], ◌∷◌, map, OnOk, IfErr};
 ghost use Rattle.it_syntax.specs.declared.rest.Stop.TheVariants.{Memory};
 ghost use Rattle.it_syntax.specs.Gives.{GivesBy};
@@ -16,20 +17,22 @@ use crate::rates::rates;
 use crate::regions::{MOST_VARIABLES, containment};
 use crate::sorts::NameSort;
 use crate::types::Verb;
-use crate::words::{ELIMINATE, PROVE, RATES, REGION, VARS, behind_word};
+use crate::words::{ELIMINATE, PROVE, RATES, REGION, VARS, after_word};
 use it_syntax::Names;
 use it_syntax::rest::{Piece, Stop};
 use it_syntax::types::Code;
 use std::alloc::Global;
 
+/// The most questions of a file.
 const MOST_QUESTIONS: usize = 1000;
 
+/// The most rates of a question.
 const MOST_RATES: usize = 16;
 
 /// The most `given` lines of a question, and the most `row` lines.
 const MOST_LINES: usize = 64;
 
-/// What is to be proved, behind its `prove`.
+/// What is to be proved, after its `prove`.
 #[tactic(auto, unfolding(crate::specs::Reading::read_proof))]
 fn proof(alloc: Global, cursor: &mut Cursor<'_>, names: &Names) -> Result<Verb, Stop>
     ensures { GivesBy verb_view result (letters_left cursor.new) (read_proof names.now (letters_left cursor.old)) }
@@ -38,7 +41,7 @@ fn proof(alloc: Global, cursor: &mut Cursor<'_>, names: &Names) -> Result<Verb, 
     Ok(Verb::Prove(relation))
 }
 
-/// The rates to be eliminated, behind `eliminate`.
+/// The rates to be eliminated, after `eliminate`.
 #[tactic(auto, unfolding(crate::specs::Reading::read_elimination))]
 fn elimination(alloc: Global, cursor: &mut Cursor<'_>, names: &Names) -> Result<Verb, Stop>
     ensures { GivesBy verb_view result (letters_left cursor.new) (read_elimination names.now (letters_left cursor.old)) }
@@ -59,15 +62,15 @@ fn verb(
     ensures { GivesBy verb_view result (letters_left cursor.new) (read_verb givens rows names.now (letters_left cursor.old)) }
 {
     match cursor.front() {
-        Some((Piece::Word(word), behind)) => {
+        Some((Piece::Word(word), after)) => {
             if word == PROVE {
-                *cursor = behind;
+                *cursor = after;
                 proof(alloc, cursor, names)
             } else if word == ELIMINATE {
-                *cursor = behind;
+                *cursor = after;
                 elimination(alloc, cursor, names)
             } else if word == REGION {
-                *cursor = behind;
+                *cursor = after;
                 containment(alloc, cursor, names, givens, rows)
             } else {
                 Err(Stop::Fault(Code::Word))
@@ -77,7 +80,7 @@ fn verb(
     }
 }
 
-/// A question, behind its `vars`.
+/// A question, after its `vars`.
 #[tactic(auto, unfolding(crate::specs::Reading::read_question))]
 fn question(alloc: Global, cursor: &mut Cursor<'_>) -> Result<Body, Stop>
     ensures { GivesBy body_view result (letters_left cursor.new) (read_question (letters_left cursor.old)) }
@@ -98,19 +101,20 @@ fn file_end(cursor: &mut Cursor<'_>) -> Result<(), Stop>
     ensures { GivesBy (λ x. []) result (letters_left cursor.new) (read_end (letters_left cursor.old)) }
 {
     match cursor.front() {
-        Some((Piece::Bad(Code::Unfinished), behind)) => {
-            *cursor = behind;
+        Some((Piece::Bad(Code::Unfinished), after)) => {
+            *cursor = after;
             Ok(())
         }
         _ => Err(cursor.fault()),
     }
 }
 
-/// Puts a question behind the others.
+/// Puts a question after the others.
 fn add(bodies: &mut Vec<Body>, next: Body) -> Result<(), Stop>
     ensures added { OnOk result (map body_view bodies.new.items ≡ map body_view bodies.old.items ++ body_view next ∷ []) }
     ensures memory { IfErr result (λ e. e ≡ Memory) }
 {
+    // a match, since `?` makes no `Stop` of the error of `push`
     match bodies.push(next) {
         Ok(()) => Ok(()),
         Err(_) => Err(Stop::Memory),
@@ -124,11 +128,11 @@ pub fn bodies(alloc: Global, cursor: &mut Cursor<'_>) -> Result<Vec<Body>, Stop>
 {
     let mut found = Vec::new(alloc);
     let mut allowed = MOST_QUESTIONS;
-    while let Some(behind) = behind_word(*cursor, VARS) {
+    while let Some(after) = after_word(*cursor, VARS) {
         if allowed == 0 {
             return Err(Stop::Fault(Code::Many));
         }
-        *cursor = behind;
+        *cursor = after;
         match question(alloc, cursor) {
             Ok(next) => add(&mut found, next)?,
             Err(stop) => return Err(stop),

@@ -16,10 +16,10 @@ pub struct Line {
     pub ghost inside: { InLine text.items tokens.tokens.items } by { InLine-prop text.items tokens.tokens.items },
 }
 
-/// What is left of a line, if anything is left, and the lines behind it. A reader takes from the front what it reads, and at
+/// What is left of a line, if anything is left, and the lines after it. A reader takes from the front what it reads, and at
 /// a fault leaves the cursor at the piece that the fault is at.
 #[derive(Clone, Copy)]
 pub struct Cursor<'a> {
     pub rest: Option<Rest<'a>>,
-    pub behind: &'a [Line],
+    pub after: &'a [Line],
 }

@@ -1,6 +1,6 @@
 //! The questions of a file.
 ghost use Rattle.std.specs.Prelude.{◌≤◌, ◌^◌, length, map, All, IfOk, IfErr};
-ghost use Rattle.it_question.specs.Cursors.{token_line, letters_left};
+ghost use Rattle.it_question.specs.Cursors.{line_view, letters_left};
 ghost use Rattle.it_question.specs.Files.{place_of, IsFile, IsFirstFileFault};
 ghost use Rattle.it_question.specs.Stops.{IsLeft, IfFault, IsFaultAt, IsStopAt};
 ghost use Rattle.it_question.specs.Limits.{IsQuestion};
@@ -19,9 +19,9 @@ use std::alloc::Global;
 
 /// The fault at what is left of these lines.
 fn fault(lines: &[Line], cursor: Cursor<'_>, code: Code) -> FileFault
-    requires few { length (letters_of_lines (map token_line lines.now)) ≤ 2 ^ 32 }
-    requires there { IsLeft (map token_line lines.now) (letters_left cursor) }
-    ensures { IsFaultAt (place_of (map token_line lines.now) (letters_left cursor.entry)) code result }
+    requires few { length (letters_of_lines (map line_view lines.now)) ≤ 2 ^ 32 }
+    requires there { IsLeft (map line_view lines.now) (letters_left cursor) }
+    ensures { IsFaultAt (place_of (map line_view lines.now) (letters_left cursor.entry)) code result }
 {
     let at = count(lines) - letters_left(&cursor);
     let (line, column) = place(lines, at).unwrap();
@@ -30,9 +30,9 @@ fn fault(lines: &[Line], cursor: Cursor<'_>, code: Code) -> FileFault
 
 /// Why reading stopped at what is left of these lines.
 fn stop_fault(lines: &[Line], cursor: Cursor<'_>, stop: Stop) -> FileFault
-    requires few { length (letters_of_lines (map token_line lines.now)) ≤ 2 ^ 32 }
-    requires there { IfFault stop (IsLeft (map token_line lines.now) (letters_left cursor)) }
-    ensures { IsStopAt (place_of (map token_line lines.now) (letters_left cursor.entry)) stop result }
+    requires few { length (letters_of_lines (map line_view lines.now)) ≤ 2 ^ 32 }
+    requires there { IfFault stop (IsLeft (map line_view lines.now) (letters_left cursor)) }
+    ensures { IsStopAt (place_of (map line_view lines.now) (letters_left cursor.entry)) stop result }
 {
     match stop {
         Stop::Memory => FileFault::Memory,
@@ -59,6 +59,7 @@ pub fn questions(alloc: Global, bytes: &[u8]) -> Result<Vec<Question>, FileFault
     let mut cursor = Cursor::at(lines.as_slice());
     match bodies(alloc, &mut cursor) {
         Ok(bodies) => {
+            // named before it is answered, so that the contract of the call stands at the answer
             let questions = with_texts(alloc, lines.as_slice(), bodies)?;
             Ok(questions)
         }

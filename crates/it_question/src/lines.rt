@@ -1,7 +1,8 @@
 //! The lines of a file that have tokens, and its end.
+//! The result of `push` is matched where `?` would do: so each case is a goal of its own.
 ghost use Rattle.std.specs.Bool.{OnTrue, OnFalse};
 ghost use Rattle.std.specs.Prelude.{◌≡◌, ◌≤◌, [], length, map, None, IfOk, OnOk};
-ghost use Rattle.it_question.specs.Cursors.{token_line};
+ghost use Rattle.it_question.specs.Cursors.{line_view};
 ghost use Rattle.it_question.specs.Lines.{AreLinesOf, IsLine, HasTokens, end_line};
 ghost use Rattle.it_question.specs.ReaderSteps.{IsLineAdded};
 
@@ -14,7 +15,7 @@ use std::alloc::{AllocError, Global};
 /// The line of a number with its tokens.
 fn line_of(alloc: Global, number: u32, bytes: &[u8]) -> Result<Line, AllocError>
     requires { length bytes.now ≤ 1048577 }
-    ensures { IfOk result (λ l. IsLine number bytes.now (token_line l)) }
+    ensures { IfOk result (λ l. IsLine number bytes.now (line_view l)) }
 {
     let text = plain_text(alloc, bytes)?;
     let tokens = line_tokens(alloc, text.as_slice())?;
@@ -27,7 +28,7 @@ fn line_of(alloc: Global, number: u32, bytes: &[u8]) -> Result<Line, AllocError>
 
 /// Whether there is a token or a misspelling.
 fn has_tokens(line: &Line) -> bool
-    ensures filled { OnTrue result (HasTokens (token_line line.now)) }
+    ensures filled { OnTrue result (HasTokens (line_view line.now)) }
     ensures no_tokens { OnFalse result (line.now.tokens.tokens.items ≡ []) }
     ensures no_misspelling { OnFalse result (line.now.tokens.misspelling ≡ None) }
 {
@@ -40,10 +41,10 @@ fn has_tokens(line: &Line) -> bool
     }
 }
 
-/// Puts a line behind the others, if it has tokens.
+/// Puts a line after the others, if it has tokens.
 fn add(alloc: Global, lines: &mut Vec<Line>, number: u32, bytes: &[u8]) -> Result<(), AllocError>
     requires { length bytes.now ≤ 1048577 }
-    ensures { OnOk result (IsLineAdded number bytes.now (map token_line lines.old.items) (map token_line lines.new.items)) }
+    ensures { OnOk result (IsLineAdded number bytes.now (map line_view lines.old.items) (map line_view lines.new.items)) }
 {
     let line = line_of(alloc, number, bytes)?;
     if has_tokens(&line) {
@@ -55,9 +56,9 @@ fn add(alloc: Global, lines: &mut Vec<Line>, number: u32, bytes: &[u8]) -> Resul
     Ok(())
 }
 
-/// The end of a file, with the number of the line behind its last.
+/// The end of a file, with the number of the line after its last.
 fn end(alloc: Global, number: u32) -> Line
-    ensures { token_line result ≡ end_line number }
+    ensures { line_view result ≡ end_line number }
 {
     Line {
         number,
@@ -75,16 +76,16 @@ fn end(alloc: Global, number: u32) -> Line
 /// The lines of a file that have tokens, in order, and then the file's end.
 pub fn file_lines(alloc: Global, bytes: &[u8]) -> Result<Vec<Line>, AllocError>
     requires { length bytes.now ≤ 1048577 }
-    ensures { IfOk result (λ lines. AreLinesOf bytes.now (map token_line lines.items)) }
+    ensures { IfOk result (λ lines. AreLinesOf bytes.now (map line_view lines.items)) }
 {
     let mut lines = Vec::new(alloc);
     let mut number: u32 = 1;
     let mut rest = bytes;
     while !rest.is_empty() {
-        let (line, behind) = first_line(rest);
+        let (line, after) = first_line(rest);
         add(alloc, &mut lines, number, line)?;
         number += 1;
-        rest = behind;
+        rest = after;
     }
     match lines.push(end(alloc, number)) {
         Ok(()) => Ok(lines),

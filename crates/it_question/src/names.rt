@@ -5,12 +5,12 @@ ghost use Rattle.it_syntax.specs.Gives.{GivesBy};
 ghost use Rattle.it_syntax.specs.Lines.{to_end};
 ghost use Rattle.it_question.specs.Cursors.{letters_left};
 ghost use Rattle.it_question.specs.Reading.{read_new, read_new_more, read_new_names, read_names_line};
-ghost use Rattle.it_question.specs.Sorts.{sort_of, HasRoom, KeepsRates};
+ghost use Rattle.it_question.specs.Sorts.{name_sort_view, HasRoom, KeepsRates};
 ghost use Rattle.it_question.specs.NewNames.{with_name, is_taken};
 
 use crate::cursor::Cursor;
 use crate::sorts::NameSort;
-use crate::words::{behind_word, comma, line_end};
+use crate::words::{after_word, comma, line_end};
 use it_syntax::rest::{Piece, Stop};
 use it_syntax::types::Code;
 use it_syntax::{Names, is_measure};
@@ -29,13 +29,14 @@ fn declare(names: &mut Names, sort: NameSort, word: &[u8]) -> Result<(), Stop>
     requires some { 1 ≤ length word.now }
     requires short { length word.now ≤ 16 }
     requires room { HasRoom sort 1 names.old }
-    ensures added { OnOk result (names.new ≡ with_name (sort_of sort) names.old word.now) }
+    ensures added { OnOk result (names.new ≡ with_name (name_sort_view sort) names.old word.now) }
     ensures memory { IfErr result (λ e. e ≡ Memory) }
 {
     let added = match sort {
         NameSort::Variable => names.add_variable(word),
         NameSort::Rate => names.add_rate(word),
     };
+    // a match, since `?` makes no `Stop` of an `AllocError`
     match added {
         Ok(()) => Ok(()),
         Err(_) => Err(Stop::Memory),
@@ -51,13 +52,13 @@ fn new_name(
     most: usize,
 ) -> Result<(), Stop>
     requires { HasRoom sort most names.old }
-    ensures gives { GivesBy (λ x. names.new) result (letters_left cursor.new) (read_new (sort_of sort) most names.old (letters_left cursor.old)) }
+    ensures gives { GivesBy (λ x. names.new) result (letters_left cursor.new) (read_new (name_sort_view sort) most names.old (letters_left cursor.old)) }
     ensures some { OnOk result (1 ≤ most) }
     ensures room { OnOk result (HasRoom sort (most - 1) names.new) }
     ensures rates { OnOk result (KeepsRates sort names.old names.new) }
 {
     match cursor.front() {
-        Some((Piece::Word(word), behind)) => {
+        Some((Piece::Word(word), after)) => {
             if is_measure(word) {
                 return Err(Stop::Fault(Code::Word));
             }
@@ -68,14 +69,14 @@ fn new_name(
                 return Err(Stop::Fault(Code::Many));
             }
             declare(names, sort, word)?;
-            *cursor = behind;
+            *cursor = after;
             Ok(())
         }
         _ => Err(cursor.fault()),
     }
 }
 
-/// Further new names, each behind a comma, of which `most` are allowed.
+/// Further new names, each after a comma, of which `most` are allowed.
 fn more_names(
     cursor: &mut Cursor<'_>,
     names: &mut Names,
@@ -83,11 +84,12 @@ fn more_names(
     most: usize,
 ) -> Result<(), Stop>
     requires { HasRoom sort most names.old }
-    ensures gives { GivesBy (λ x. names.new) result (letters_left cursor.new) (read_new_more (sort_of sort) most names.old (letters_left cursor.old)) }
+    ensures gives { GivesBy (λ x. names.new) result (letters_left cursor.new) (read_new_more (name_sort_view sort) most names.old (letters_left cursor.old)) }
     ensures rates { OnOk result (KeepsRates sort names.old names.new) }
 {
     let mut allowed = most;
     while comma(cursor) {
+        // `?` would do; with the match each case is a goal of its own, with the reading's equation at hand
         match new_name(cursor, names, sort, allowed) {
             Ok(()) => {}
             Err(stop) => return Err(stop),
@@ -106,7 +108,7 @@ fn new_names(
     most: usize,
 ) -> Result<(), Stop>
     requires { HasRoom sort most names.old }
-    ensures gives { GivesBy (λ x. names.new) result (letters_left cursor.new) (read_new_names (sort_of sort) most names.old (letters_left cursor.old)) }
+    ensures gives { GivesBy (λ x. names.new) result (letters_left cursor.new) (read_new_names (name_sort_view sort) most names.old (letters_left cursor.old)) }
     ensures rates { OnOk result (KeepsRates sort names.old names.new) }
 {
     new_name(cursor, names, sort, most)?;
@@ -121,14 +123,14 @@ pub fn names_to_end(
     most: usize,
 ) -> Result<(), Stop>
     requires { HasRoom sort most names.old }
-    ensures gives { GivesBy (λ x. names.new) result (letters_left cursor.new) (to_end (read_new_names (sort_of sort) most names.old) (letters_left cursor.old)) }
+    ensures gives { GivesBy (λ x. names.new) result (letters_left cursor.new) (to_end (read_new_names (name_sort_view sort) most names.old) (letters_left cursor.old)) }
     ensures rates { OnOk result (KeepsRates sort names.old names.new) }
 {
     new_names(cursor, names, sort, most)?;
     line_end(cursor)
 }
 
-/// A line of new names behind its keyword, if one stands there.
+/// A line of new names after its keyword, if one stands there.
 #[tactic(auto, unfolding(crate::specs::Reading::read_names_line))]
 pub fn names_line(
     cursor: &mut Cursor<'_>,
@@ -138,11 +140,11 @@ pub fn names_line(
     keyword: &[u8],
 ) -> Result<(), Stop>
     requires { HasRoom sort most names.old }
-    ensures { GivesBy (λ x. names.new) result (letters_left cursor.new) (read_names_line (sort_of sort) most keyword.now names.old (letters_left cursor.old)) }
+    ensures { GivesBy (λ x. names.new) result (letters_left cursor.new) (read_names_line (name_sort_view sort) most keyword.now names.old (letters_left cursor.old)) }
 {
-    match behind_word(*cursor, keyword) {
-        Some(behind) => {
-            *cursor = behind;
+    match after_word(*cursor, keyword) {
+        Some(after) => {
+            *cursor = after;
             names_to_end(cursor, names, sort, most)
         }
         None => Ok(()),

@@ -1,4 +1,6 @@
 //! The reader of `given` and `row` lines.
+//! A reader's result is matched where `?` would do: so each case is a goal of its own, with the reading's equation at hand.
+//! The result of `push` is matched, since `?` makes no `Stop` of its error.
 ghost use Rattle.std.specs.Prelude.{◌≡◌, OnOk, IfErr};
 ghost use Rattle.it_syntax.specs.declared.rest.Stop.TheVariants.{Memory};
 ghost use Rattle.it_syntax.specs.Givens.{given_view};
@@ -13,7 +15,7 @@ ghost use Rattle.it_question.specs.WrittenRegions.{givens_left, rows_left};
 use crate::cursor::Cursor;
 use crate::parts::{given, relation};
 use crate::types::OwnLines;
-use crate::words::{GIVEN, ROW, behind_word};
+use crate::words::{GIVEN, ROW, after_word};
 use it_syntax::Names;
 use it_syntax::rest::Stop;
 use it_syntax::types::{Code, Given, Relation};
@@ -35,7 +37,7 @@ impl OwnLines {
     }
 }
 
-/// Puts the constraint of a `given` line behind the others.
+/// Puts the constraint of a `given` line after the others.
 fn add_given(own: &mut OwnLines, given: Given) -> Result<(), Stop>
     ensures added { OnOk result (own_lines_view own.new ≡ with_given_line (own_lines_view own.old) (given_view given)) }
     ensures memory { IfErr result (λ e. e ≡ Memory) }
@@ -46,7 +48,7 @@ fn add_given(own: &mut OwnLines, given: Given) -> Result<(), Stop>
     }
 }
 
-/// Puts the relation of a `row` line behind the others.
+/// Puts the relation of a `row` line after the others.
 fn add_row(own: &mut OwnLines, row: Relation) -> Result<(), Stop>
     ensures added { OnOk result (own_lines_view own.new ≡ with_row_line (own_lines_view own.old) (relation_view row)) }
     ensures memory { IfErr result (λ e. e ≡ Memory) }
@@ -75,21 +77,21 @@ pub fn own_lines(
     let mut givens = most_givens;
     let mut rows = most_rows;
     loop {
-        if let Some(behind) = behind_word(*cursor, GIVEN) {
+        if let Some(after) = after_word(*cursor, GIVEN) {
             if givens == 0 {
                 return Err(Stop::Fault(Code::Many));
             }
-            *cursor = behind;
+            *cursor = after;
             match given(alloc, cursor, names) {
                 Ok(next) => add_given(&mut own, next)?,
                 Err(stop) => return Err(stop),
             }
             givens -= 1;
-        } else if let Some(behind) = behind_word(*cursor, ROW) {
+        } else if let Some(after) = after_word(*cursor, ROW) {
             if rows == 0 {
                 return Err(Stop::Fault(Code::Many));
             }
-            *cursor = behind;
+            *cursor = after;
             match relation(alloc, cursor, names) {
                 Ok(next) => add_row(&mut own, next)?,
                 Err(stop) => return Err(stop),

@@ -1,4 +1,4 @@
-//! Readers of what a line has behind its first word.
+//! Readers of what a line has after its first word.
 ghost use Rattle.std.specs.Prelude.{false, true};
 ghost use Rattle.it_syntax.specs.Scopes.{scope_of};
 ghost use Rattle.it_syntax.specs.RelationReading.{read_relation};
@@ -7,7 +7,7 @@ ghost use Rattle.it_syntax.specs.Givens.{given_view};
 ghost use Rattle.it_syntax.specs.Gives.{Gives, GivesBy};
 ghost use Rattle.it_syntax.specs.Lines.{to_end};
 ghost use Rattle.it_syntax.specs.Meaning.{relation_view};
-ghost use Rattle.it_syntax.specs.AtomReading.{read_list};
+ghost use Rattle.it_syntax.specs.MeasureReading.{read_list};
 ghost use Rattle.it_syntax.specs.Scopes.{env_of};
 ghost use Rattle.it_question.specs.Cursors.{letters_left};
 
@@ -26,7 +26,7 @@ pub fn relation(alloc: Global, cursor: &mut Cursor<'_>, names: &Names) -> Result
     match cursor.rest {
         Some(mut rest) => match relation_to_end(alloc, &mut rest, names, true) {
             Ok(relation) => {
-                *cursor = Cursor::at(cursor.behind);
+                *cursor = Cursor::at(cursor.after);
                 Ok(relation)
             }
             Err(stop) => {
@@ -45,7 +45,7 @@ pub fn given(alloc: Global, cursor: &mut Cursor<'_>, names: &Names) -> Result<Gi
     match cursor.rest {
         Some(mut rest) => match given_to_end(alloc, &mut rest, names) {
             Ok(given) => {
-                *cursor = Cursor::at(cursor.behind);
+                *cursor = Cursor::at(cursor.after);
                 Ok(given)
             }
             Err(stop) => {

@@ -3,7 +3,7 @@ ghost use Rattle.std.specs.Prelude.{◌≡◌, [], map, IfSome, IfNone};
 ghost use Rattle.it_syntax.specs.declared.rest.Stop.TheVariants.{Fault};
 ghost use Rattle.it_syntax.specs.FirstFault.{own_code};
 ghost use Rattle.it_syntax.specs.ReaderSteps.{HasLength};
-ghost use Rattle.it_question.specs.Cursors.{token_line, letters_left, with_letter};
+ghost use Rattle.it_question.specs.Cursors.{line_view, letters_left, with_letter};
 ghost use Rattle.it_question.specs.Lines.{letters_of_lines};
 
 use crate::cursor::{Cursor, Line};
@@ -14,25 +14,25 @@ impl<'a> Cursor<'a> {
     /// At the first of some lines.
     #[tactic(auto, unfolding(crate::specs::Cursors::letters_left))]
     pub fn at(lines: &'a [Line]) -> Cursor<'a>
-        ensures { letters_left result ≡ letters_of_lines (map token_line lines.entry.now) }
+        ensures { letters_left result ≡ letters_of_lines (map line_view lines.entry.now) }
     {
         match lines {
-            [first, behind @ ..] => Cursor {
+            [first, after @ ..] => Cursor {
                 rest: Some(Rest {
                     line: first.text.as_slice(),
                     tokens: first.tokens.tokens.as_slice(),
                     misspelling: first.tokens.misspelling,
                 }),
-                behind,
+                after,
             },
             [] => Cursor {
                 rest: None,
-                behind: lines,
+                after: lines,
             },
         }
     }
 
-    /// The first piece and what is behind it, if anything is left.
+    /// The first piece and what is after it, if anything is left.
     #[tactic(auto, unfolding(crate::specs::Cursors::letters_left))]
     pub fn front(self) -> Option<(Piece<'a>, Cursor<'a>)>
         ensures front { IfSome result (λ x. letters_left self.entry ≡ with_letter x.0 (letters_left x.1)) }
@@ -41,14 +41,14 @@ impl<'a> Cursor<'a> {
     {
         let rest = self.rest?;
         let (piece, tail) = rest.front();
-        let behind = match piece {
-            Piece::End | Piece::Bad(_) => Cursor::at(self.behind),
+        let after = match piece {
+            Piece::End | Piece::Bad(_) => Cursor::at(self.after),
             _ => Cursor {
                 rest: Some(tail),
-                behind: self.behind,
+                after: self.after,
             },
         };
-        Some((piece, behind))
+        Some((piece, after))
     }
 
     /// The fault at the first piece where no rule goes on: its own, if it is a misspelling or the file's end.

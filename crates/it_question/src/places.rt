@@ -1,6 +1,6 @@
 //! Where the letters of a file stand.
 ghost use Rattle.std.specs.Prelude.{◌≡◌, ◌≤◌, ◌^◌, length, map, slice_get, Some};
-ghost use Rattle.it_question.specs.Cursors.{token_line, letters_left};
+ghost use Rattle.it_question.specs.Cursors.{line_view, letters_left};
 ghost use Rattle.it_question.specs.Lines.{letters_of_lines, line_places, places_of_lines};
 
 use crate::cursor::{Cursor, Line};
@@ -8,8 +8,8 @@ use it_syntax::rest::Rest;
 
 /// How many letters the lines have: their tokens, and one for each line's end.
 pub fn count(lines: &[Line]) -> usize
-    requires { length (letters_of_lines (map token_line lines.now)) ≤ 2 ^ 32 }
-    ensures { result ≡ length (letters_of_lines (map token_line lines.now)) }
+    requires { length (letters_of_lines (map line_view lines.now)) ≤ 2 ^ 32 }
+    ensures { result ≡ length (letters_of_lines (map line_view lines.now)) }
 {
     let mut total = 0;
     for line in lines {
@@ -25,7 +25,7 @@ pub fn letters_left(cursor: &Cursor<'_>) -> usize
     ensures { result ≡ length (letters_left cursor.now) }
 {
     match cursor.rest {
-        Some(rest) => rest.tokens.len() + 1 + count(cursor.behind),
+        Some(rest) => rest.tokens.len() + 1 + count(cursor.after),
         None => 0,
     }
 }
@@ -33,7 +33,7 @@ pub fn letters_left(cursor: &Cursor<'_>) -> usize
 /// The line and the column of a letter of a line.
 fn place_in(line: &Line, at: usize) -> (u32, u32)
     requires { at ≤ length line.now.tokens.tokens.items }
-    ensures { slice_get (line_places (token_line line.now)) at ≡ Some result }
+    ensures { slice_get (line_places (line_view line.now)) at ≡ Some result }
 {
     let whole = Rest {
         line: line.text.as_slice(),
@@ -45,7 +45,7 @@ fn place_in(line: &Line, at: usize) -> (u32, u32)
 
 /// The line and the column, counted from 1, of the letter number `at`; None where there is none.
 pub fn place(lines: &[Line], at: usize) -> Option<(u32, u32)>
-    ensures { result ≡ slice_get (places_of_lines (map token_line lines.now)) at }
+    ensures { result ≡ slice_get (places_of_lines (map line_view lines.now)) at }
 {
     let mut rest = at;
     for line in lines {

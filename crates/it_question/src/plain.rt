@@ -27,17 +27,17 @@ fn count_before(bytes: &[u8], stop: u8) -> usize
     bytes.len()
 }
 
-/// The first line, without its line feed, and the bytes behind that.
+/// The first line, without its line feed, and the bytes after that.
 pub fn first_line(bytes: &[u8]) -> (&[u8], &[u8])
     requires { 1 ≤ length bytes.now }
     ensures split { split_lines bytes.now ≡ result.0.now ∷ split_lines result.1.now }
     ensures shorter { length result.0.now + length result.1.now ≤ length bytes.now }
     ensures progress { length result.1.now < length bytes.now }
 {
-    let (line, behind) = bytes.split_at(count_before(bytes, b'\n'));
-    match behind {
-        [_, behind @ ..] => (line, behind),
-        [] => (line, behind),
+    let (line, after) = bytes.split_at(count_before(bytes, b'\n'));
+    match after {
+        [_, after @ ..] => (line, after),
+        [] => (line, after),
     }
 }
 

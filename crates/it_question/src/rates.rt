@@ -1,4 +1,5 @@
 //! Readers of the rates of an `eliminate` line.
+//! The results of `push` and `from_slice` are matched, since `?` makes no `Stop` of their errors.
 ghost use Rattle.std.specs.Prelude.{◌≡◌, ◌<◌, ◌++◌, [], ◌∷◌, length, OnOk, IfErr};
 ghost use Rattle.it_syntax.specs.declared.rest.Stop.TheVariants.{Memory};
 ghost use Rattle.it_syntax.specs.GivenReading.{with_sets};
@@ -30,7 +31,7 @@ fn new_rate(cursor: &mut Cursor<'_>, names: &Names, seen: &[u8]) -> Result<u8, S
     ensures shorter { OnOk result (length (letters_left cursor.new) < length (letters_left cursor.old)) }
 {
     match cursor.front() {
-        Some((Piece::Word(word), behind)) => {
+        Some((Piece::Word(word), after)) => {
             if is_measure(word) {
                 return Err(Stop::Fault(Code::Word));
             }
@@ -39,7 +40,7 @@ fn new_rate(cursor: &mut Cursor<'_>, names: &Names, seen: &[u8]) -> Result<u8, S
                     if seen.contains(&i) {
                         return Err(Stop::Fault(Code::Twice));
                     }
-                    *cursor = behind;
+                    *cursor = after;
                     Ok(i)
                 }
                 None => Err(Stop::Fault(Code::Name)),
@@ -49,7 +50,7 @@ fn new_rate(cursor: &mut Cursor<'_>, names: &Names, seen: &[u8]) -> Result<u8, S
     }
 }
 
-/// Puts a rate's number behind the others.
+/// Puts a rate's number after the others.
 fn add(rates: &mut Vec<u8>, rate: u8) -> Result<(), Stop>
     ensures added { OnOk result (rates.new.items ≡ rates.old.items ++ rate ∷ []) }
     ensures memory { IfErr result (λ e. e ≡ Memory) }
@@ -60,12 +61,13 @@ fn add(rates: &mut Vec<u8>, rate: u8) -> Result<(), Stop>
     }
 }
 
-/// The first rates and further ones, each behind a comma.
+/// The first rates and further ones, each after a comma.
 fn more_rates(first: Vec<u8>, cursor: &mut Cursor<'_>, names: &Names) -> Result<Vec<u8>, Stop>
     ensures { GivesBy (λ x. x.items) result (letters_left cursor.new) (with_sets first.items (read_once_more (rates_env names.now) first.items (letters_left cursor.old))) }
 {
     let mut found = first;
     while comma(cursor) {
+        // `?` would do; with the match each case is a goal of its own, with the reading's equation at hand
         match new_rate(cursor, names, found.as_slice()) {
             Ok(next) => add(&mut found, next)?,
             Err(stop) => return Err(stop),

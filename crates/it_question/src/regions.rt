@@ -55,6 +55,7 @@ fn copy_of(names: &Names) -> Result<Names, Stop>
     ensures copy { IfOk result (λ n. n ≡ names.now) }
     ensures memory { IfErr result (λ e. e ≡ Memory) }
 {
+    // a match, since `?` makes no `Stop` of an `AllocError`
     match names.copy() {
         Ok(names) => Ok(names),
         Err(_) => Err(Stop::Memory),
@@ -76,7 +77,7 @@ fn region_names(cursor: &mut Cursor<'_>, names: &Names) -> Result<Names, Stop>
     Ok(inside)
 }
 
-/// A region of a question with these names, behind its `region`; so many lines of each kind are allowed.
+/// A region of a question with these names, after its `region`; so many lines of each kind are allowed.
 #[tactic(auto, unfolding(crate::specs::Reading::read_region))]
 fn region(
     alloc: Global,
@@ -107,7 +108,7 @@ fn word_line(cursor: &mut Cursor<'_>, text: &[u8]) -> Result<(), Stop>
     line_end(cursor)
 }
 
-/// Two regions, sets to be tried and `contain`, behind the first `region`.
+/// Two regions, sets to be tried and `contain`, after the first `region`.
 #[tactic(auto, unfolding(crate::specs::Reading::read_containment))]
 pub fn containment(
     alloc: Global,

@@ -1,7 +1,8 @@
 //! The text of a question.
+//! The result of `push` is matched where `?` would do: so each case is a goal of its own.
 ghost use Rattle.std.specs.Prelude.{◌≡◌, ◌≤◌, take, drop, map, All, IfOk};
 ghost use Rattle.it_question.specs.Bodies.{body_view};
-ghost use Rattle.it_question.specs.Cursors.{token_line};
+ghost use Rattle.it_question.specs.Cursors.{line_view};
 ghost use Rattle.it_question.specs.Limits.{IsQuestion};
 ghost use Rattle.it_question.specs.ReaderSteps.{FewLines, FewLinesOf};
 ghost use Rattle.it_question.specs.Questions.{verb_view, question_view, region_view};
@@ -17,11 +18,11 @@ fn without_leading(line: &[u8]) -> &[u8]
     ensures { result.now ≡ without_leading line.now }
 {
     let mut rest = line;
-    while let [first, behind @ ..] = rest {
+    while let [first, after @ ..] = rest {
         if *first != b' ' {
             return rest;
         }
-        rest = behind;
+        rest = after;
     }
     rest
 }
@@ -47,9 +48,9 @@ fn trim(line: &[u8]) -> &[u8]
     without_trailing(without_leading(line))
 }
 
-/// The lines, each without blanks at both ends and with a line feed behind it.
+/// The lines, each without blanks at both ends and with a line feed after it.
 pub fn text_of(alloc: Global, lines: &[Line]) -> Result<Vec<u8>, AllocError>
-    ensures { IfOk result (λ text. text.items ≡ text_of_lines (map token_line lines.now)) }
+    ensures { IfOk result (λ text. text.items ≡ text_of_lines (map line_view lines.now)) }
 {
     let mut text = Vec::new(alloc);
     for line in lines {
@@ -105,17 +106,17 @@ fn question_line_count(question: &Body) -> usize
         + verb_line_count(&question.verb)
 }
 
-/// The first lines, and those behind them.
+/// The first lines, and those after them.
 fn cut(lines: &[Line], n: usize) -> (&[Line], &[Line])
     ensures first { result.0.now ≡ take n lines.now }
-    ensures behind { result.1.now ≡ drop n lines.now }
+    ensures after { result.1.now ≡ drop n lines.now }
 {
     lines.split_at(n.min(lines.len()))
 }
 
 /// The question with the text of these lines.
 fn with_text(alloc: Global, lines: &[Line], body: Body) -> Result<Question, AllocError>
-    ensures { IfOk result (λ q. question_view q ≡ record { body = body_view body; text = text_of_lines (map token_line lines.now) }) }
+    ensures { IfOk result (λ q. question_view q ≡ record { body = body_view body; text = text_of_lines (map line_view lines.now) }) }
 {
     let text = text_of(alloc, lines)?;
     Ok(Question {
@@ -133,19 +134,19 @@ pub fn with_texts(
     bodies: Vec<Body>,
 ) -> Result<Vec<Question>, AllocError>
     requires { All (λ b. IsQuestion (body_view b)) bodies.items }
-    ensures { IfOk result (λ qs. map question_view qs.items ≡ with_texts (map token_line lines.now) (map body_view bodies.items)) }
+    ensures { IfOk result (λ qs. map question_view qs.items ≡ with_texts (map line_view lines.now) (map body_view bodies.items)) }
 {
     let mut rest = lines;
     let mut left = bodies.into_iter();
     let mut questions = Vec::new(alloc);
     while let Some(body) = left.next() {
-        let (own, behind) = cut(rest, question_line_count(&body));
+        let (own, after) = cut(rest, question_line_count(&body));
         let question = with_text(alloc, own, body)?;
         match questions.push(question) {
             Ok(()) => {}
             Err(_) => return Err(AllocError),
         }
-        rest = behind;
+        rest = after;
     }
     Ok(questions)
 }

@@ -1,4 +1,5 @@
 //! Readers of `try` lines.
+//! A reader's result is matched where `?` would do: so each case is a goal of its own, with the reading's equation at hand.
 ghost use Rattle.std.specs.Bool.{OnTrue, OnFalse};
 ghost use Rattle.std.specs.Prelude.{◌≡◌, ◌<◌, ◌++◌, [], ◌∷◌, Some, None, OnOk, IfErr};
 ghost use Rattle.it_syntax.specs.declared.rest.Stop.TheVariants.{Memory};
@@ -12,14 +13,14 @@ ghost use Rattle.it_question.specs.WrittenTries.{is_named, with_set, is_whole, s
 
 use crate::cursor::Cursor;
 use crate::parts::names_set;
-use crate::words::{TRY, behind_word, line_end};
+use crate::words::{TRY, after_word, line_end};
 use it_space::VarSet;
 use it_syntax::rest::{Piece, Stop};
 use it_syntax::types::{Code, Symbol};
 use it_syntax::{Names, is_measure};
 use std::alloc::Global;
 
-/// A set for each auxiliary of the second region, by number, and none where it has none yet. The places behind the
+/// A set for each auxiliary of the second region, by number, and none where it has none yet. The places after the
 /// auxiliaries have the empty set.
 pub type Sets = [Option<VarSet>; 4];
 
@@ -84,7 +85,7 @@ fn auxiliary(cursor: &mut Cursor<'_>, regions: Regions<'_>, sets: &Sets) -> Resu
     ensures { Gives result (letters_left cursor.new) (read_auxiliary (auxiliary_env regions.entry.question.now regions.entry.second.now) sets.now (letters_left cursor.old)) }
 {
     match cursor.front() {
-        Some((Piece::Word(word), behind)) => {
+        Some((Piece::Word(word), after)) => {
             if is_measure(word) {
                 return Err(Stop::Fault(Code::Word));
             }
@@ -93,7 +94,7 @@ fn auxiliary(cursor: &mut Cursor<'_>, regions: Regions<'_>, sets: &Sets) -> Resu
                     if is_named(sets, i) {
                         return Err(Stop::Fault(Code::Twice));
                     }
-                    *cursor = behind;
+                    *cursor = after;
                     Ok(i)
                 }
                 None => Err(Stop::Fault(Code::Name)),
@@ -109,8 +110,8 @@ fn assign(cursor: &mut Cursor<'_>) -> Result<(), Stop>
     ensures { Passes result (letters_left cursor.new) (read_assign (letters_left cursor.old)) }
 {
     match cursor.front() {
-        Some((Piece::Symbol(Symbol::Assign), behind)) => {
-            *cursor = behind;
+        Some((Piece::Symbol(Symbol::Assign), after)) => {
+            *cursor = after;
             Ok(())
         }
         _ => Err(cursor.fault()),
@@ -123,9 +124,9 @@ fn set(cursor: &mut Cursor<'_>, names: &Names) -> Result<VarSet, Stop>
     ensures { Gives result (letters_left cursor.new) (read_set (env_of names.now) (letters_left cursor.old)) }
 {
     match cursor.front() {
-        Some((Piece::Number(number), behind)) => {
+        Some((Piece::Number(number), after)) => {
             if number == 0 {
-                *cursor = behind;
+                *cursor = after;
                 Ok(VarSet::empty())
             } else {
                 Err(Stop::Fault(Code::Word))
@@ -154,15 +155,15 @@ fn semicolon(cursor: &mut Cursor<'_>) -> bool
     ensures same { OnFalse result (letters_left cursor.new ≡ letters_left cursor.old) }
 {
     match cursor.front() {
-        Some((Piece::Symbol(Symbol::Semicolon), behind)) => {
-            *cursor = behind;
+        Some((Piece::Symbol(Symbol::Semicolon), after)) => {
+            *cursor = after;
             true
         }
         _ => false,
     }
 }
 
-/// Further parts, each behind a `;`.
+/// Further parts, each after a `;`.
 fn parts(cursor: &mut Cursor<'_>, regions: Regions<'_>, sets: &mut Sets) -> Result<(), Stop>
     ensures { GivesBy (λ x. sets.new) result (letters_left cursor.new) (read_parts 4 (auxiliary_env regions.entry.question.now regions.entry.second.now) (env_of regions.entry.first.now) sets.old (letters_left cursor.old)) }
 {
@@ -254,11 +255,12 @@ fn substitution(
     Ok(sets_of(&sets))
 }
 
-/// Puts the sets of a `try` line behind the others.
+/// Puts the sets of a `try` line after the others.
 fn add(tries: &mut Vec<[VarSet; 4]>, sets: [VarSet; 4]) -> Result<(), Stop>
     ensures added { OnOk result (tries.new.items ≡ tries.old.items ++ sets ∷ []) }
     ensures memory { IfErr result (λ e. e ≡ Memory) }
 {
+    // a match, since `?` makes no `Stop` of the error of `push`
     match tries.push(sets) {
         Ok(()) => Ok(()),
         Err(_) => Err(Stop::Memory),
@@ -277,14 +279,14 @@ pub fn tries(
 {
     let mut found = Vec::new(alloc);
     let mut allowed = most;
-    while let Some(behind) = behind_word(*cursor, TRY) {
+    while let Some(after) = after_word(*cursor, TRY) {
         if auxiliaries == 0 {
             return Err(Stop::Fault(Code::Word));
         }
         if allowed == 0 {
             return Err(Stop::Fault(Code::Many));
         }
-        *cursor = behind;
+        *cursor = after;
         match substitution(cursor, regions, auxiliaries) {
             Ok(next) => add(&mut found, next)?,
             Err(stop) => return Err(stop),

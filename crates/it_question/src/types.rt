@@ -25,7 +25,7 @@ pub struct Region {
 /// What a question wants: that a relation is proved; that rates are eliminated, by number and in the order in which they
 /// were listed; that the first region lies in the second. Each of `tries` is a substitution to be tried first: a set
 /// of the first region's variables for each auxiliary variable of the second region, in order, and the empty set in the
-/// places behind.
+/// places after those.
 #[derive(Debug, Drop)]
 pub enum Verb {
     Prove(Relation),
@@ -38,7 +38,7 @@ pub enum Verb {
 }
 
 /// A question. `text` holds its lines from `vars` to the verb, each from its first token to its last with tabs as spaces,
-/// and a line feed behind it; lines without tokens are left out. `lines` are those before the verb or the first region.
+/// and a line feed after it; lines without tokens are left out. `lines` are those before the verb or the first region.
 #[derive(Debug, Drop)]
 pub struct Question {
     pub names: Names,

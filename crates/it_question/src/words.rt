@@ -2,10 +2,10 @@
 ghost use Rattle.std.specs.Bool.{OnTrue, OnFalse};
 ghost use Rattle.std.specs.Prelude.{◌≡◌, Some, None, IfSome, IfNone};
 ghost use Rattle.it_syntax.specs.Gives.{Gives};
-ghost use Rattle.it_syntax.specs.AtomReading.{line_end};
+ghost use Rattle.it_syntax.specs.MeasureReading.{line_end};
 ghost use Rattle.it_syntax.specs.ReaderSteps.{after_comma};
 ghost use Rattle.it_question.specs.Cursors.{letters_left};
-ghost use Rattle.it_question.specs.Reading.{behind_word, read_word};
+ghost use Rattle.it_question.specs.Reading.{after_word, read_word};
 
 use crate::cursor::Cursor;
 use it_syntax::rest::{Piece, Stop};
@@ -38,17 +38,17 @@ pub const PROVE: &[u8] = b"prove";
 /// Before the rates to eliminate.
 pub const ELIMINATE: &[u8] = b"eliminate";
 
-/// A line of its own, behind the second region.
+/// A line of its own, after the second region.
 pub const CONTAIN: &[u8] = b"contain";
 
-/// What is behind this word, if it stands there.
-#[tactic(auto, unfolding(crate::specs::Reading::behind_word))]
-pub fn behind_word<'a>(cursor: Cursor<'a>, text: &[u8]) -> Option<Cursor<'a>>
-    ensures found { IfSome result (λ behind. behind_word text.now (letters_left cursor.entry) ≡ Some (letters_left behind)) }
-    ensures none { IfNone result (behind_word text.now (letters_left cursor.entry) ≡ None) }
+/// What is after this word, if it stands there.
+#[tactic(auto, unfolding(crate::specs::Reading::after_word))]
+pub fn after_word<'a>(cursor: Cursor<'a>, text: &[u8]) -> Option<Cursor<'a>>
+    ensures found { IfSome result (λ after. after_word text.now (letters_left cursor.entry) ≡ Some (letters_left after)) }
+    ensures none { IfNone result (after_word text.now (letters_left cursor.entry) ≡ None) }
 {
     match cursor.front() {
-        Some((Piece::Word(word), behind)) => { if word == text { Some(behind) } else { None } }
+        Some((Piece::Word(word), after)) => { if word == text { Some(after) } else { None } }
         _ => None,
     }
 }
@@ -59,9 +59,9 @@ pub fn word(cursor: &mut Cursor<'_>, text: &[u8]) -> Result<(), Stop>
     ensures { Gives result (letters_left cursor.new) (read_word text.now (letters_left cursor.old)) }
 {
     match cursor.front() {
-        Some((Piece::Word(word), behind)) => {
+        Some((Piece::Word(word), after)) => {
             if word == text {
-                *cursor = behind;
+                *cursor = after;
                 Ok(())
             } else {
                 Err(Stop::Fault(Code::Word))
@@ -72,13 +72,13 @@ pub fn word(cursor: &mut Cursor<'_>, text: &[u8]) -> Result<(), Stop>
 }
 
 /// The end of a line.
-#[tactic(auto, unfolding(it_syntax::specs::AtomReading::line_end))]
+#[tactic(auto, unfolding(it_syntax::specs::MeasureReading::line_end))]
 pub fn line_end(cursor: &mut Cursor<'_>) -> Result<(), Stop>
     ensures { Gives result (letters_left cursor.new) (line_end (letters_left cursor.old)) }
 {
     match cursor.front() {
-        Some((Piece::End, behind)) => {
-            *cursor = behind;
+        Some((Piece::End, after)) => {
+            *cursor = after;
             Ok(())
         }
         _ => Err(cursor.fault()),
@@ -92,8 +92,8 @@ pub fn comma(cursor: &mut Cursor<'_>) -> bool
     ensures same { OnFalse result (letters_left cursor.new ≡ letters_left cursor.old) }
 {
     match cursor.front() {
-        Some((Piece::Symbol(Symbol::Comma), behind)) => {
-            *cursor = behind;
+        Some((Piece::Symbol(Symbol::Comma), after)) => {
+            *cursor = after;
             true
         }
         _ => false,

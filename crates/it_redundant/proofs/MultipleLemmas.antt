@@ -3,7 +3,7 @@ use Rattle.std.proofs.Common.{◌≡◌, ℕ, ◌-◌, ◌<◌, ◌≤◌, ◌^�
 use Rattle.std.proofs.lemmas.Int.{ints}
 use Rattle.std.proofs.lemmas.Nat.{pow_pos, or_lt, and_le_l}
 use Rattle.std.proofs.lemmas.List.Elements.{All-nil, All-cons, All-head, All-tail}
-use Rattle.it_number.proofs.Integers.{zring}
+use Rattle.it_number.proofs.Integers.{zring, sum_of_multiples}
 use Rattle.it_number.proofs.SignLemmas.{product_least}
 use Rattle.it_space.specs.declared.problems.Constraint.{Constraint}
 use Rattle.it_space.specs.declared.problems.Kind.{Kind}
@@ -44,14 +44,11 @@ module _ (n k : ℕ) (p q : ℕ → ℤ) (same : (c : ℕ) → c < 2 ^ n → q c
 
   -- ---- rows over sets
 
-  term_multiple : (a x y v w : ℤ) → y ≡ pos k *ℤ x → w ≡ pos k *ℤ v → a *ℤ y +ℤ w ≡ pos k *ℤ (a *ℤ x +ℤ v)
-  term_multiple a x y v w e f = ap (λ z. a *ℤ z +ℤ w) e ∙ ap (λ z. a *ℤ (pos k *ℤ x) +ℤ z) f ∙ omega (arith, zring)
-
   value_multiple : (ts : Terms) → IsUpTo (2 ^ n - 1) ts → value ts q ≡ pos k *ℤ value ts p
   value_multiple [] u = omega (arith, ints)
   value_multiple (t ∷ ts) u =
       let own : (1 ≤ t.0) × (t.0 ≤ 2 ^ n - 1) = All-head (λ (t : ℕ × ℤ). (1 ≤ t.0) × (t.0 ≤ 2 ^ n - 1)) t ts u in
-      term_multiple t.1 (p t.0) (q t.0) (value ts p) (value ts q) (same t.0 (omega (arith, own.0, own.1, pow_pos n))) (value_multiple ts (All-tail (λ (t : ℕ × ℤ). (1 ≤ t.0) × (t.0 ≤ 2 ^ n - 1)) t ts u))
+      sum_of_multiples (pos k) t.1 (p t.0) (q t.0) (value ts p) (value ts q) (same t.0 (omega (arith, own.0, own.1, pow_pos n))) (value_multiple ts (All-tail (λ (t : ℕ × ℤ). (1 ≤ t.0) × (t.0 ≤ 2 ^ n - 1)) t ts u))
 
   met_multiple : (kind : Kind) (x y : ℤ) → y ≡ pos k *ℤ x → Meets kind x → Meets kind y
   met_multiple Inequality x y e h = subst (λ z. pos 0 ≤ℤ z) (sym e) (product_least (pos k) x (omega (arith, ints)) h)

@@ -49,7 +49,7 @@ part_no_longer (x ∷ xs) ys d p =
     let rest = part_no_longer xs (rest_without x ys here) d.1 (λ z k. others_stay x z ys here (λ e. d.0 (subst (λ (w : Terms). Member w xs) e k)) (p z (inr k))) in
     omega (arith, rest, one_fewer x ys here)
 
--- ---- a row behind others
+-- ---- a row after others
 
 same_row : (xs : Terms) → is_same xs xs ≡ true
 same_row [] = refl
@@ -77,11 +77,11 @@ member_found row (r ∷ rows) (inr m) = by_test (is_same row r) (list_any (is_sa
     by_test true b e = refl
     by_test false b e = e
 
-no_doubles_behind : (rows : List Terms) (row : Terms) → HasNoDoubles rows → ¬ (Member row rows) → HasNoDoubles (rows ++ row ∷ [])
-no_doubles_behind [] row d n = (λ m. m, tt)
-no_doubles_behind (r ∷ rows) row d n = (
+no_doubles_after : (rows : List Terms) (row : Terms) → HasNoDoubles rows → ¬ (Member row rows) → HasNoDoubles (rows ++ row ∷ [])
+no_doubles_after [] row d n = (λ m. m, tt)
+no_doubles_after (r ∷ rows) row d n = (
   λ m. ⊎_elim d.0 (λ k. ⊎_elim (λ e. n (inl (sym e))) (λ f. f) k) (member_either r rows (row ∷ []) m),
-  no_doubles_behind rows row d.1 (λ m. n (inr m)),
+  no_doubles_after rows row d.1 (λ m. n (inr m)),
 )
 
 no_doubles-with_row : (rows : List Terms) (row : Terms) → HasNoDoubles rows → HasNoDoubles (with_row rows row)
@@ -90,7 +90,7 @@ no_doubles-with_row rows (t ∷ ts) d = by_test (list_any (is_same (t ∷ ts)) r
   where
     by_test : (b : Bool) → (Member (t ∷ ts) rows → b ≡ true) → HasNoDoubles (if b then rows else rows ++ (t ∷ ts) ∷ [])
     by_test true f = d
-    by_test false f = no_doubles_behind rows (t ∷ ts) d (λ m. false≢true (f m))
+    by_test false f = no_doubles_after rows (t ∷ ts) d (λ m. false≢true (f m))
 
 -- what was there stays
 stays-with_row : (rows : List Terms) (row x : Terms) → Member x rows → Member x (with_row rows row)

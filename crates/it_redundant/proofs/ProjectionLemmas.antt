@@ -10,7 +10,7 @@ use Rattle.it_space.specs.Spaces.{IsSpace, size_of}
 use Rattle.it_space.proofs.EveryLemmas.{every_of, all_of}
 use Rattle.it_eliminate.specs.Elimination.{Member, EliminationEndView, EliminationEnds, ordered_rows, next_list, list_after}
 use Rattle.it_eliminate.specs.Elimination as elimination
-use Rattle.it_eliminate.specs.Projections.{In, Extends, Lacks}
+use Rattle.it_eliminate.specs.Projections.{IsPointOf, Extends, LacksCoordinate}
 use Rattle.it_eliminate.specs.declared.types.EliminationEnd.{EliminationEnd}
 use Rattle.it_eliminate.specs.declared.types.EliminationEnd.TheVariants as elimination_ends
 use Rattle.it_eliminate.specs.Views.{elimination_end_view}
@@ -111,7 +111,7 @@ module _ (givens : ProblemView) (budget : Option ℕ) (most : ℕ) (limits : IsP
   -- a region of rows without rates; and no coordinate comes back
   record Holds (rates : List ℕ) (rows : List Terms) (kept : List (Terms × NeedView)) : Type 0 where
     region : IsReducedRegion givens rates rows kept
-    keeps : (c : ℕ) → Lacks c rows → Lacks c (kept_rows kept)
+    keeps : (c : ℕ) → LacksCoordinate c rows → LacksCoordinate c (kept_rows kept)
 
   nothing_gone : (kept : List (Terms × NeedView)) → All (IsUpTo (size_of givens.space)) (kept_rows kept) → AreNeeded givens kept → Holds [] (kept_rows kept) kept
   nothing_gone kept up need = record {
@@ -127,7 +127,7 @@ module _ (givens : ProblemView) (budget : Option ℕ) (most : ℕ) (limits : IsP
   point_meets rates rows p y m = multiple_meets givens y.factor p y.point sets (λ c below. y.kept c (no_set rates c below)) m
 
   -- points of two lists that hold alike extend alike
-  extends_alike : (rates : List ℕ) (xs ys : List Terms) (p : ℕ → ℤ) → MeetsGivens givens p → ((q : ℕ → ℤ) → MeetsGivens givens q → In xs q → In ys q)
+  extends_alike : (rates : List ℕ) (xs ys : List Terms) (p : ℕ → ℤ) → MeetsGivens givens p → ((q : ℕ → ℤ) → MeetsGivens givens q → IsPointOf xs q → IsPointOf ys q)
       → Extends (map (λ r. 2 ^ givens.space.variables + r) rates) xs p → Extends (map (λ r. 2 ^ givens.space.variables + r) rates) ys p
   extends_alike rates xs ys p m f y = record { factor = y.factor; some = y.some; point = y.point; kept = y.kept; meets = f y.point (point_meets rates xs p y m) y.meets }
 
@@ -148,7 +148,7 @@ module _ (givens : ProblemView) (budget : Option ℕ) (most : ℕ) (limits : IsP
     mid_alike : HoldAlike givens next (kept_rows mid)
     mid_alike = hold_alike givens budget limits few next mid dropped (omega (arith, few_next, few_rows)) next_up red
 
-    mid_lacks : (c : ℕ) → Lacks c next → Lacks c (kept_rows mid)
+    mid_lacks : (c : ℕ) → LacksCoordinate c next → LacksCoordinate c (kept_rows mid)
     mid_lacks c h = every_kept givens budget (λ (row : Terms). coefficient row c ≡ pos 0) [] next mid dropped red h
 
     mid_needed : AreNeeded givens mid
@@ -162,25 +162,25 @@ module _ (givens : ProblemView) (budget : Option ℕ) (most : ℕ) (limits : IsP
         exact = λ p m. (to_rows p m, from_rows p m);
         needed = h.region.needed;
       };
-      keeps = λ c l. h.keeps c (mid_lacks c (subst (λ (xs : List Terms). Lacks c xs) (sym next_is) (next_keeps_lacking c (2 ^ givens.space.variables + r) (ordered_rows rows) (lacks-with_lowest_rows c [] rows tt l))));
+      keeps = λ c l. h.keeps c (mid_lacks c (subst (λ (xs : List Terms). LacksCoordinate c xs) (sym next_is) (next_keeps_lacking c (2 ^ givens.space.variables + r) (ordered_rows rows) (lacks-with_lowest_rows c [] rows tt l))));
     }
       where
-        kept_lack_rates : (s : ℕ) → Member s (r ∷ rs) → Lacks (2 ^ givens.space.variables + s) (kept_rows kept)
+        kept_lack_rates : (s : ℕ) → Member s (r ∷ rs) → LacksCoordinate (2 ^ givens.space.variables + s) (kept_rows kept)
         kept_lack_rates s (inl is) = h.keeps (2 ^ givens.space.variables + s) (mid_lacks (2 ^ givens.space.variables + s)
-            (subst (λ (xs : List Terms). Lacks (2 ^ givens.space.variables + s) xs) (sym next_is)
-            (subst (λ (x : ℕ). Lacks (2 ^ givens.space.variables + x) (next_list (2 ^ givens.space.variables + r) (ordered_rows rows))) (sym is) (next_lacks (2 ^ givens.space.variables + r) (ordered_rows rows)))))
+            (subst (λ (xs : List Terms). LacksCoordinate (2 ^ givens.space.variables + s) xs) (sym next_is)
+            (subst (λ (x : ℕ). LacksCoordinate (2 ^ givens.space.variables + x) (next_list (2 ^ givens.space.variables + r) (ordered_rows rows))) (sym is) (next_lacks (2 ^ givens.space.variables + r) (ordered_rows rows)))))
         kept_lack_rates s (inr m) = h.region.free s m
 
-        to_rows : (p : ℕ → ℤ) → MeetsGivens givens p → In (kept_rows kept) p → Extends ((2 ^ givens.space.variables + r) ∷ map (λ s. 2 ^ givens.space.variables + s) rs) rows p
+        to_rows : (p : ℕ → ℤ) → MeetsGivens givens p → IsPointOf (kept_rows kept) p → Extends ((2 ^ givens.space.variables + r) ∷ map (λ s. 2 ^ givens.space.variables + s) rs) rows p
         to_rows p m i =
             let y = extends_alike rs (kept_rows mid) next p m (λ q n. (mid_alike q n).1) ((h.region.exact p m).0 i) in
-            let there : In (list_after (map (λ s. 2 ^ givens.space.variables + s) rs) next) p = (rates_exact (map (λ s. 2 ^ givens.space.variables + s) rs) next p).1 y in
+            let there : IsPointOf (list_after (map (λ s. 2 ^ givens.space.variables + s) rs) next) p = (rates_exact (map (λ s. 2 ^ givens.space.variables + s) rs) next p).1 y in
             (projection_exact ((2 ^ givens.space.variables + r) ∷ map (λ s. 2 ^ givens.space.variables + s) rs) rows p).0
-            (subst (λ (xs : List Terms). In (list_after (map (λ s. 2 ^ givens.space.variables + s) rs) xs) p) next_is there)
+            (subst (λ (xs : List Terms). IsPointOf (list_after (map (λ s. 2 ^ givens.space.variables + s) rs) xs) p) next_is there)
 
-        from_rows : (p : ℕ → ℤ) → MeetsGivens givens p → Extends ((2 ^ givens.space.variables + r) ∷ map (λ s. 2 ^ givens.space.variables + s) rs) rows p → In (kept_rows kept) p
+        from_rows : (p : ℕ → ℤ) → MeetsGivens givens p → Extends ((2 ^ givens.space.variables + r) ∷ map (λ s. 2 ^ givens.space.variables + s) rs) rows p → IsPointOf (kept_rows kept) p
         from_rows p m x =
-            let there : In (list_after (map (λ s. 2 ^ givens.space.variables + s) rs) next) p = subst (λ (xs : List Terms). In (list_after (map (λ s. 2 ^ givens.space.variables + s) rs) xs) p) (sym next_is)
+            let there : IsPointOf (list_after (map (λ s. 2 ^ givens.space.variables + s) rs) next) p = subst (λ (xs : List Terms). IsPointOf (list_after (map (λ s. 2 ^ givens.space.variables + s) rs) xs) p) (sym next_is)
             ((projection_exact ((2 ^ givens.space.variables + r) ∷ map (λ s. 2 ^ givens.space.variables + s) rs) rows p).1 x) in
             (h.region.exact p m).1 (extends_alike rs next (kept_rows mid) p m (λ q n. (mid_alike q n).0) ((rates_exact (map (λ s. 2 ^ givens.space.variables + s) rs) next p).0 there))
 

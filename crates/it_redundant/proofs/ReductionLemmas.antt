@@ -6,7 +6,7 @@ use Rattle.it_space.specs.Answers.{CertificateView}
 use Rattle.it_space.specs.Problems.{ProblemView, IsProblem}
 use Rattle.it_space.specs.Rows.{Terms, IsUpTo, map_of, value}
 use Rattle.it_space.specs.Spaces.{size_of}
-use Rattle.it_eliminate.specs.Projections.{In}
+use Rattle.it_eliminate.specs.Projections.{IsPointOf}
 use Rattle.it_check.proofs.Truth.{yes_is_true}
 use Rattle.it_prove.specs.ProofViews.{ProofView, Yes, No, Undecided, EndsWith}
 use Rattle.it_prove.proofs.ProofLemmas.{one_outcome}
@@ -34,11 +34,11 @@ module _ (givens : ProblemView) (budget : Option ℕ) where
         subst (λ k. Every P (kept_rows k)) (sym e) (every_part (kept_by row o) k (some_keep row o h.0) (every_kept (before ++ kept_rows (kept_by row o)) rows k d r h.1))
 
   module _ (p : ℕ → ℤ) where
-    parts_of_rows : (ks ls : List (Terms × NeedView)) → In (kept_rows (ks ++ ls)) p → In (kept_rows ks) p × In (kept_rows ls) p
+    parts_of_rows : (ks ls : List (Terms × NeedView)) → IsPointOf (kept_rows (ks ++ ls)) p → IsPointOf (kept_rows ks) p × IsPointOf (kept_rows ls) p
     parts_of_rows [] ls h = (tt, h)
     parts_of_rows (x ∷ ks) ls h = let both = parts_of_rows ks ls h.1 in ((h.0, both.0), both.1)
 
-    pub kept_hold : (before rows : List Terms) (kept : List (Terms × NeedView)) (dropped : List (Terms × CertificateView)) → Reduces givens budget before rows kept dropped → In rows p → In (kept_rows kept) p
+    pub kept_hold : (before rows : List Terms) (kept : List (Terms × NeedView)) (dropped : List (Terms × CertificateView)) → Reduces givens budget before rows kept dropped → IsPointOf rows p → IsPointOf (kept_rows kept) p
     kept_hold before rows kept dropped r h = every_kept (λ row. pos 0 ≤ℤ value row p) before rows kept dropped r h
 
   -- ---- they hold where all do
@@ -80,17 +80,17 @@ module _ (givens : ProblemView) (budget : Option ℕ) where
     module _ (p : ℕ → ℤ) (meets : MeetsGivens givens p) where
       -- a row with an outcome holds: it is proved from the others, or it is one that stays
       row_holds : (others : List Terms) (row : Terms) (o : ProofView) → IsProblem (with_rows givens others) → IsUpTo (size_of givens.space) row
-          → EndsWith (with_rows givens others) row budget o → In others p → In (kept_rows (kept_by row o)) p → pos 0 ≤ℤ value row p
+          → EndsWith (with_rows givens others) row budget o → IsPointOf others p → IsPointOf (kept_rows (kept_by row o)) p → pos 0 ≤ℤ value row p
       row_holds others row (Yes w) problem own ends h k =
           yes_is_true (with_rows givens others) row w problem own (ends_are_right (with_rows givens others) row budget (Yes w) problem own ends).0 p meets.0 (problem_is_met p givens others meets.1 h)
       row_holds others row (No values) problem own ends h k = k.0
       row_holds others row (Undecided cause) problem own ends h k = k.0
 
-      all_hold : (before rows : List Terms) (kept : List (Terms × NeedView)) (dropped : List (Terms × CertificateView)) → AreTaken before rows → Reduces givens budget before rows kept dropped → In before p → In (kept_rows kept) p → In rows p
+      all_hold : (before rows : List Terms) (kept : List (Terms × NeedView)) (dropped : List (Terms × CertificateView)) → AreTaken before rows → Reduces givens budget before rows kept dropped → IsPointOf before p → IsPointOf (kept_rows kept) p → IsPointOf rows p
       all_hold before [] kept dropped t r b h = tt
       all_hold before (row ∷ rows) kept dropped t (o, k, d, ends, e, f, r) b h =
-          let parts = parts_of_rows p (kept_by row o) k (subst (λ k. In (kept_rows k) p) e h) in
-          let hold : In rows p = all_hold (before ++ kept_rows (kept_by row o)) rows k d (taken_next before rows row o t) r (rows_append p before (kept_rows (kept_by row o)) b parts.0) parts.1 in
+          let parts = parts_of_rows p (kept_by row o) k (subst (λ k. IsPointOf (kept_rows k) p) e h) in
+          let hold : IsPointOf rows p = all_hold (before ++ kept_rows (kept_by row o)) rows k d (taken_next before rows row o t) r (rows_append p before (kept_rows (kept_by row o)) b parts.0) parts.1 in
           (row_holds (before ++ rows) row o (taken_problem before rows row t) (own_up before rows row t) ends (rows_append p before rows b hold) parts.0, hold)
 
   taken_first : (rows : List Terms) → length rows ≤ 65535 → All (IsUpTo (size_of givens.space)) rows → AreTaken [] rows

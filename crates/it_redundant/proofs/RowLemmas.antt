@@ -1,4 +1,4 @@
--- Rows as constraints behind the givens.
+-- Rows as constraints after the givens.
 use Rattle.std.proofs.Common.{◌≡◌, ℕ, suc, ◌+◌, ◌≤◌, ℤ, List, [], ◌∷◌, ◌++◌, length, refl, sym, ap, ◌∙◌, arith, append_assoc, length-append, All}
 use Rattle.std.proofs.lemmas.List.Elements.{All-nil, All-cons, All-head, All-tail, All-append}
 use Rattle.it_space.specs.declared.problems.Constraint.{Constraint}
@@ -7,15 +7,15 @@ use Rattle.it_space.specs.declared.problems.Origin.TheVariants.{Rate}
 use Rattle.it_space.specs.Problems.{ProblemView, IsProblem, IsMet, AreMet}
 use Rattle.it_space.specs.Rows.{Terms, IsUpTo}
 use Rattle.it_space.specs.Spaces.{size_of}
-use Rattle.it_eliminate.specs.Projections.{In}
+use Rattle.it_eliminate.specs.Projections.{IsPointOf}
 use Rattle.it_redundant.specs.Reduction.{row_constraints, with_rows}
 
 module _ (p : ℕ → ℤ) where
-  pub rows_are_met : (line : ℕ) (rows : List Terms) → In rows p → AreMet p (row_constraints line rows)
+  pub rows_are_met : (line : ℕ) (rows : List Terms) → IsPointOf rows p → AreMet p (row_constraints line rows)
   rows_are_met line [] h = All-nil (IsMet p)
   rows_are_met line (row ∷ rows) h = All-cons (IsMet p) _ (row_constraints (line + 1) rows) h.0 (rows_are_met (line + 1) rows h.1)
 
-  pub met_rows_hold : (line : ℕ) (rows : List Terms) → AreMet p (row_constraints line rows) → In rows p
+  pub met_rows_hold : (line : ℕ) (rows : List Terms) → AreMet p (row_constraints line rows) → IsPointOf rows p
   met_rows_hold line [] h = tt
   met_rows_hold line (row ∷ rows) h = (All-head (IsMet p) _ (row_constraints (line + 1) rows) h, met_rows_hold (line + 1) rows (All-tail (IsMet p) _ (row_constraints (line + 1) rows) h))
 
@@ -27,20 +27,20 @@ module _ (p : ℕ → ℤ) where
   rest_is_met [] ds h = h
   rest_is_met (c ∷ cs) ds h = rest_is_met cs ds (All-tail (IsMet p) c (cs ++ ds) h)
 
-  pub rows_append : (xs ys : List Terms) → In xs p → In ys p → In (xs ++ ys) p
+  pub rows_append : (xs ys : List Terms) → IsPointOf xs p → IsPointOf ys p → IsPointOf (xs ++ ys) p
   rows_append [] ys h k = k
   rows_append (x ∷ xs) ys h k = (h.0, rows_append xs ys h.1 k)
 
-  pub rows_front : (xs ys : List Terms) → In (xs ++ ys) p → In xs p
+  pub rows_front : (xs ys : List Terms) → IsPointOf (xs ++ ys) p → IsPointOf xs p
   rows_front [] ys h = tt
   rows_front (x ∷ xs) ys h = (h.0, rows_front xs ys h.1)
 
-  pub rows_rest : (xs ys : List Terms) → In (xs ++ ys) p → In ys p
+  pub rows_rest : (xs ys : List Terms) → IsPointOf (xs ++ ys) p → IsPointOf ys p
   rows_rest [] ys h = h
   rows_rest (x ∷ xs) ys h = rows_rest xs ys h.1
 
   -- what meets the givens and the rows meets the problem, and back
-  pub problem_is_met : (givens : ProblemView) (rows : List Terms) → AreMet p givens.constraints → In rows p → AreMet p (with_rows givens rows).constraints
+  pub problem_is_met : (givens : ProblemView) (rows : List Terms) → AreMet p givens.constraints → IsPointOf rows p → AreMet p (with_rows givens rows).constraints
   problem_is_met givens rows h k = All-append (IsMet p) givens.constraints (row_constraints 1 rows) h (rows_are_met 1 rows k)
 
 -- ---- the problem keeps the limits
@@ -68,7 +68,7 @@ pub row_parts : (line : ℕ) (xs ys : List Terms) → row_constraints line (xs +
 row_parts line [] ys = ap (λ n. row_constraints n ys) (let e : line ≡ line + 0 = omega arith in e)
 row_parts line (x ∷ xs) ys = ap (λ (cs : List Constraint). record { row = x; kind = Inequality; origin = Rate line } ∷ cs) (row_parts (line + 1) xs ys ∙ ap (λ n. row_constraints (line + 1) xs ++ row_constraints n ys) (let e : line + 1 + length xs ≡ line + suc (length xs) = omega arith in e))
 
--- the givens with two parts of rows behind them
+-- the givens with two parts of rows after them
 pub with_parts : (givens : ProblemView) (cs : List Constraint) (xs ys : List Terms) (line : ℕ) → line ≡ 1 + length xs → cs ≡ (givens.constraints ++ row_constraints 1 xs) ++ row_constraints line ys
     → record { space = givens.space; constraints = cs } ≡ with_rows givens (xs ++ ys)
 with_parts givens cs xs ys line l e = ap (λ (ds : List Constraint). record { space = givens.space; constraints = ds }) (e

@@ -14,7 +14,7 @@ use Rattle.it_redundant.specs.Reduction.{NeedView, Reduces, kept_by, dropped_by,
 use Rattle.it_redundant.specs.ReductionSteps.{AreRowsUpTo}
 use Rattle.it_redundant.proofs.RowLemmas.{problem_limits}
 use Rattle.it_redundant.proofs.ReductionLemmas.{few_kept, kept_up_to}
-use Rattle.it_redundant.proofs.ClosedLemmas.{closed_behind}
+use Rattle.it_redundant.proofs.ClosedLemmas.{closed_after}
 
 -- the rows of what stays, by its needs as they are kept
 pub rows_kept : (ks : List (Terms × Need)) → kept_rows (map (λ k. (k.0, need_view k.1)) ks) ≡ map (λ k. k.0) ks
@@ -25,7 +25,7 @@ rows_of_parts : (ks ls : List (Terms × NeedView)) → kept_rows (ks ++ ls) ≡ 
 rows_of_parts [] ls = refl
 rows_of_parts (k ∷ ks) ls = ap (λ xs. k.0 ∷ xs) (rows_of_parts ks ls)
 
--- The first i rows were visited: whatever the others end with, stands behind what is there.
+-- The first i rows were visited: whatever the others end with, stands after what is there.
 pub record IsUnderWay (givens : ProblemView) (budget : Option ℕ) (size : ℕ) (rows : List Terms) (kept : List (Terms × NeedView)) (dropped : List (Terms × CertificateView)) (i : ℕ) : Type 0 where
   pub more : (k : List (Terms × NeedView)) (d : List (Terms × CertificateView)) → Reduces givens budget (kept_rows kept) (drop i rows) k d → Reduces givens budget [] rows (kept ++ k) (dropped ++ d)
   pub few : length (kept_rows kept) ≤ i
@@ -64,7 +64,7 @@ module _ (givens p : ProblemView) (budget : Option ℕ) (kept slice : List (Term
 
   -- what was made of the givens serves the problem
   pub visit_closed : (c : ClosedProblem) → IsClosedProblem givens c → IsClosedProblem p c
-  visit_closed c h = subst (λ q. IsClosedProblem q c) (sym kept_is) (closed_behind givens (map (λ k. k.0) kept ++ after) c h)
+  visit_closed c h = subst (λ q. IsClosedProblem q c) (sym kept_is) (closed_after givens (map (λ k. k.0) kept ++ after) c h)
 
   pub visit_ends : (row : Terms) (o : ProofView) → EndsWith p row budget o → EndsWith (with_rows givens (kept_rows (map (λ k. (k.0, need_view k.1)) kept) ++ after)) row budget o
   visit_ends row o e =

@@ -15,6 +15,7 @@ pub data ProjectionEndView : Type 0 where
   Rows : (rate : ℕ) → ProjectionEndView
   Wide : (rate : ℕ) → ProjectionEndView
 
+-- an end of reduced elimination as contracts see it
 abbrev pub projection_end_view : ProjectionEnd → ProjectionEndView
 projection_end_view (ends.Region reduced) = Region (kept_view reduced)
 projection_end_view (ends.Rows rate) = Rows rate

@@ -18,11 +18,11 @@ abbrev pub row_constraints : ℕ → List Terms → List Constraint
 row_constraints line [] = []
 row_constraints line (row ∷ rows) = record { row = row; kind = Inequality; origin = Rate line } ∷ row_constraints (line + 1) rows
 
--- the givens, and rows behind them
+-- the givens, and rows after them
 abbrev pub with_rows : ProblemView → List Terms → ProblemView
 with_rows givens rows = record { space = givens.space; constraints = givens.constraints ++ row_constraints 1 rows }
 
--- a system over the space of some givens, which are few enough that their problem with 65,535 rows behind them is one
+-- a system over the space of some givens, which are few enough that their problem with 65,535 rows after them is one
 pub record IsSystemUnder (q : ProblemView) (s : System) : Type 0 where
   pub system : IsSystem s
   pub givens : IsProblem q
@@ -34,32 +34,36 @@ pub data NeedView : Type 0 where
   Needed : (values : List ℤ) → NeedView
   Unsettled : (cause : Cause) → NeedView
 
+-- a need as contracts see it
 abbrev pub need_view : Need → NeedView
 need_view (needs.Needed point) = Needed point
 need_view (needs.Unsettled cause) = Unsettled cause
 
+-- the rows that stay, each with its need, as contracts see them
 abbrev pub kept_view : Reduction → List (Terms × NeedView)
 kept_view r = map (λ k. (k.0, need_view k.1)) r.kept.items
 
+-- the rows that went, each with its certificate, as contracts see them
 abbrev pub dropped_view : Reduction → List (Terms × CertificateView)
 dropped_view r = map (λ d. (d.0, certificate_view d.1)) r.dropped.items
 
--- what a row leaves behind the rows that stay: nothing where it is proved, itself with its need otherwise
+-- what a row leaves after the rows that stay: nothing where it is proved, itself with its need otherwise
 abbrev pub kept_by : Terms → ProofView → List (Terms × NeedView)
 kept_by row (Yes w) = []
 kept_by row (No values) = (row, Needed values) ∷ []
 kept_by row (Undecided cause) = (row, Unsettled cause) ∷ []
 
--- and behind those that went
+-- and after those that went
 abbrev pub dropped_by : Terms → ProofView → List (Terms × CertificateView)
 dropped_by row (Yes w) = (row, w) ∷ []
 dropped_by row (No values) = []
 dropped_by row (Undecided cause) = []
 
+-- the rows that stay, without their needs
 abbrev pub kept_rows : List (Terms × NeedView) → List Terms
 kept_rows kept = map (λ k. k.0) kept
 
--- Behind the rows `before`, which stay, the rows that are still to be visited end so: the run about each, under the givens, those and
+-- After the rows `before`, which stay, the rows that are still to be visited end so: the run about each, under the givens, those and
 -- the rows after it, has an outcome, by which the row goes or stays.
 abbrev pub Reduces : ProblemView → Option ℕ → List Terms → List Terms → List (Terms × NeedView) → List (Terms × CertificateView) → Type 0
 Reduces givens budget before [] kept dropped = (kept ≡ []) × (dropped ≡ [])

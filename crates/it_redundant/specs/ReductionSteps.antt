@@ -6,6 +6,7 @@ use Rattle.it_prove.specs.ProofViews.{ProofView, EndsWith}
 use Rattle.it_redundant.specs.declared.types.Reduction.{Reduction}
 use Rattle.it_redundant.specs.Reduction.{with_rows, kept_by, dropped_by, kept_rows, kept_view, dropped_view}
 
+-- the coordinates of each row are from 1 to a number
 abbrev pub AreRowsUpTo : ℕ → List Terms → Type 0
 AreRowsUpTo size rows = All (IsUpTo size) rows
 

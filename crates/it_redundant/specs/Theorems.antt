@@ -6,7 +6,7 @@ use Rattle.it_space.specs.Rows.{Terms, IsUpTo, map_of, value}
 use Rattle.it_space.specs.Spaces.{size_of}
 use Rattle.it_polymatroid.specs.Polymatroid.{IsPolymatroid}
 use Rattle.it_eliminate.specs.Elimination.{Member}
-use Rattle.it_eliminate.specs.Projections.{In, Extends, Lacks}
+use Rattle.it_eliminate.specs.Projections.{IsPointOf, Extends, LacksCoordinate}
 use Rattle.it_redundant.specs.Reduction.{NeedView, Needed, Unsettled, Reduces, kept_rows}
 use Rattle.it_redundant.specs.ReducedElimination.{ProjectionEndView, Region, Rows, Wide, ReducedEnds}
 
@@ -16,14 +16,15 @@ MeetsGivens givens p = IsPolymatroid givens.space.variables p × AreMet p givens
 
 -- the rows that stay hold exactly where all do, at every polymatroid that meets the givens
 abbrev pub HoldAlike : ProblemView → List Terms → List Terms → Type 0
-HoldAlike givens rows kept = (p : ℕ → ℤ) → MeetsGivens givens p → In rows p ↔ In kept p
+HoldAlike givens rows kept = (p : ℕ → ℤ) → MeetsGivens givens p → IsPointOf rows p ↔ IsPointOf kept p
 
 -- the point meets the givens and the other rows, and violates this one
 pub record SeparatesRow (givens : ProblemView) (others : List Terms) (row : Terms) (values : List ℤ) : Type 0 where
   pub meets : MeetsGivens givens (map_of values)
-  pub others_hold : In others (map_of values)
+  pub others_hold : IsPointOf others (map_of values)
   pub violated : value row (map_of values) ≤ℤ neg_ℤ (pos 1)
 
+-- the point of a needed row separates it from the others; of an unsettled row nothing is said
 abbrev pub IsNeeded : ProblemView → List Terms → Terms × NeedView → Type 0
 IsNeeded givens others (row, Needed values) = SeparatesRow givens others row values
 IsNeeded givens others (row, Unsettled cause) = Unit {0}
@@ -46,8 +47,8 @@ SpeakOfSets givens = All (λ c. IsUpTo (2 ^ givens.space.variables - 1) c.row) g
 -- point extends to the eliminated rates; and each is needed or unsettled
 pub record IsReducedRegion (givens : ProblemView) (rates : List ℕ) (rows : List Terms) (kept : List (Terms × NeedView)) : Type 0 where
   pub coordinates : All (IsUpTo (size_of givens.space)) (kept_rows kept)
-  pub free : (r : ℕ) → Member r rates → Lacks (2 ^ givens.space.variables + r) (kept_rows kept)
-  pub exact : (p : ℕ → ℤ) → MeetsGivens givens p → In (kept_rows kept) p ↔ Extends (map (λ r. 2 ^ givens.space.variables + r) rates) rows p
+  pub free : (r : ℕ) → Member r rates → LacksCoordinate (2 ^ givens.space.variables + r) (kept_rows kept)
+  pub exact : (p : ℕ → ℤ) → MeetsGivens givens p → IsPointOf (kept_rows kept) p ↔ Extends (map (λ r. 2 ^ givens.space.variables + r) rates) rows p
   pub needed : AreNeeded givens kept
 
 -- where reduced elimination ends with a region, that is one

@@ -18,7 +18,7 @@ fn copy_constraint(alloc: Global, constraint: &Constraint) -> Result<Constraint,
     })
 }
 
-/// Puts a row behind the constraints, as that of a `row` line.
+/// Puts a row after the constraints, as that of a `row` line.
 fn push_row(
     alloc: Global,
     constraints: &mut Vec<Constraint>,
@@ -47,7 +47,7 @@ fn copies(alloc: Global, constraints: &[Constraint]) -> Result<Vec<Constraint>, 
     Ok(copies)
 }
 
-/// Puts the rows that stay behind the constraints.
+/// Puts the rows that stay after the constraints.
 fn push_kept(
     alloc: Global,
     constraints: &mut Vec<Constraint>,
@@ -62,7 +62,7 @@ fn push_kept(
     Ok(())
 }
 
-/// Puts rows behind the constraints, from this line number on.
+/// Puts rows after the constraints, from this line number on.
 fn push_rows(
     alloc: Global,
     constraints: &mut Vec<Constraint>,

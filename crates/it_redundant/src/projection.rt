@@ -33,6 +33,7 @@ pub fn project(
     ensures ends { IfOk result (λ e. ReducedEnds (problem_view givens.now) budget rows system.now.rows.items [] rates.now (projection_end_view e)) }
     ensures region { IfOk result (λ e. RegionIsReduced (problem_view givens.now) rates.now system.now.rows.items (projection_end_view e)) }
 {
+    // named before it is answered, so that the contract of the call stands at the answer
     let end = reduced_elimination(alloc, system, rates, givens, rows, budget)?;
     Ok(end)
 }

@@ -31,6 +31,7 @@ pub fn reduce(
     ensures alike { IfOk result (λ r. HoldAlike (problem_view givens.now) system.now.rows.items (kept_rows (kept_view r))) }
     ensures needed { IfOk result (λ r. AreNeeded (problem_view givens.now) (kept_view r)) }
 {
+    // named before it is answered, so that the contract of the call stands at the answer
     let reduced = reduced_rows(alloc, system.rows.as_slice(), givens, budget)?;
     Ok(reduced)
 }
@@ -93,7 +94,7 @@ fn visit(
     Ok(())
 }
 
-/// Puts a row where its outcome wants it: behind those that went, or behind those that stay.
+/// Puts a row where its outcome wants it: after those that went, or after those that stay.
 fn put(alloc: Global, reduced: &mut Reduction, row: &Row, proof: Proof) -> Result<(), AllocError>
     ensures kept { OnOk result (kept_view reduced.new ≡ kept_view reduced.old ++ kept_by row.now (proof_view proof)) }
     ensures dropped { OnOk result (dropped_view reduced.new ≡ dropped_view reduced.old ++ dropped_by row.now (proof_view proof)) }
@@ -105,7 +106,7 @@ fn put(alloc: Global, reduced: &mut Reduction, row: &Row, proof: Proof) -> Resul
     }
 }
 
-/// Puts a row with its certificate behind those that went.
+/// Puts a row with its certificate after those that went.
 fn drop_row(
     alloc: Global,
     reduced: &mut Reduction,
@@ -119,7 +120,7 @@ fn drop_row(
     Ok(())
 }
 
-/// Puts a row with its need behind those that stay.
+/// Puts a row with its need after those that stay.
 fn keep(alloc: Global, reduced: &mut Reduction, row: &Row, need: Need) -> Result<(), AllocError>
     ensures kept { OnOk result (kept_view reduced.new ≡ kept_view reduced.old ++ (row.now, need_view need) ∷ []) }
     ensures dropped { OnOk result (dropped_view reduced.new ≡ dropped_view reduced.old) }

@@ -1,3 +1,5 @@
+//! Tests: regions without their redundant rows.
+
 ghost use Rattle.std.specs.Prelude.{◌≡◌, ◌≤◌, length, IfOk};
 ghost use Rattle.it_space.specs.Problems.{IsProblem, IsSystem, problem_view};
 ghost use Rattle.it_redundant.specs.Theorems.{SpeakOfSets};

@@ -6,12 +6,11 @@ use Rattle.std.proofs.lemmas.List.Sums.{AllPass-from_list_all, list_all-from_All
 use Rattle.it_space.specs.declared.spaces.Space.{Space}
 use Rattle.it_space.specs.declared.problems.Constraint.{Constraint}
 use Rattle.it_space.specs.Problems.{IsProblem, problem_view}
-use Rattle.it_space.specs.Rows.{Terms, IsUpTo}
+use Rattle.it_space.specs.Rows.{Terms, IsUpTo, row_mass}
 use Rattle.it_space.specs.Spaces.{size_of}
 use Rattle.it_question.specs.Limits.{IsQuestion, IsVerbOver, IsRegionOf}
 use Rattle.it_question.specs.Questions.{RegionView, VerbView, Prove, Eliminate, Contain, BodyView}
 use Rattle.it_space.specs.Bounds.{IsSmall}
-use Rattle.it_canon.specs.Canonical.{row_mass}
 use Rattle.it_canon.specs.Demands.{LineDemand, States, AreStated}
 use Rattle.it_canon.specs.QuestionDemands.{space_of}
 use Rattle.it_canon.proofs.ZipLemmas.{zip-right}

@@ -108,13 +108,6 @@ coordinate_above_sets n m sets c le = ap (λ b. cond b (image sets c) (2 ^ n + (
 pub coordinate_of_rate : (n m : ℕ) (sets : List ℕ) (r : ℕ) → pulled_coordinate n m sets (2 ^ m + r) ≡ 2 ^ n + r
 coordinate_of_rate n m sets r = let le : 2 ^ m ≤ 2 ^ m + r = omega arith in let e : 2 ^ n + ((2 ^ m + r) - 2 ^ m) ≡ 2 ^ n + r = omega arith in coordinate_above_sets n m sets (2 ^ m + r) le ∙ e
 
--- powers as the code forms them
-pub shift_32 : (v : ℕ) → v ≤ 10 → 1 * 2 ^ v % 4294967296 ≡ 2 ^ v
-shift_32 v h = let e : 1 * 2 ^ v ≡ 2 ^ v = omega arith in ap (λ m. m % 4294967296) e ∙ mod-eq_of_lt (omega (arith, pow_mono {i = v} {j = 10} h))
-
-pub shift_64 : (v : ℕ) → v ≤ 10 → 1 * 2 ^ v % 18446744073709551616 ≡ 2 ^ v
-shift_64 v h = let e : 1 * 2 ^ v ≡ 2 ^ v = omega arith in ap (λ m. m % 18446744073709551616) e ∙ mod-eq_of_lt (omega (arith, pow_mono {i = v} {j = 10} h))
-
 pub image_up_to : (s : Space) (sets : List ℕ) (c : ℕ) → All (λ x. x < 2 ^ s.variables) sets → image sets c ≤ size_of s
 image_up_to s sets c a = omega (arith, union_below s.variables 0 sets c a)
 

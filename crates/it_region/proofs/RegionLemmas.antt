@@ -1,6 +1,7 @@
 -- Where the obligations hold at a point of the first region, the pulled-back point is one of the second.
 use Rattle.std.proofs.Common.{◌≡◌, ℕ, ◌+◌, ◌≤◌, ℤ, pos, ◌≤ℤ◌, List, [], ◌∷◌, length, ap, subst, ◌∙◌, arith, All}
 use Rattle.std.proofs.lemmas.List.Elements.{All-nil, All-cons, All-append}
+use Rattle.it_canon.specs.Targets.{demanded_forms}
 use Rattle.it_polymatroid.specs.Certificates.{Form}
 use Rattle.it_polymatroid.proofs.Images.{pulled_polymatroid}
 use Rattle.it_question.specs.Limits.{IsQuestion, IsVerbOver}
@@ -14,19 +15,19 @@ use Rattle.it_canon.proofs.ZipLemmas.{All-parts}
 use Rattle.it_canon.proofs.QuestionLemmas.{wider_set}
 use Rattle.it_region.specs.Pulling.{substituted_sets, pulled_coordinate, pulled_map}
 use Rattle.it_region.specs.Regions.{AgreeOnCommon}
-use Rattle.it_region.specs.Obligations.{halves, pulled_form, demand_obligations, own_demands, AreFormsAtLeastZero}
+use Rattle.it_region.specs.Obligations.{pulled_form, demand_obligations, own_demands, AreFormsAtLeastZero}
 use Rattle.it_region.specs.Theorems.{PulledPointIsIn, ObligationsContain}
 use Rattle.it_region.proofs.PullingLemmas.{common_stay, sets_within, coordinate_of_set, coordinate_of_rate}
 use Rattle.it_region.proofs.AgreeLemmas.{all_true, all_hold}
 use Rattle.it_region.proofs.PairLemmas.{region_wider}
-use Rattle.it_region.proofs.RowLemmas.{half_met}
+use Rattle.it_region.proofs.RowLemmas.{demanded_forms_met}
 
 -- where the obligations of demands hold at a map, the demands are met at the pulled-back one
 pub all_met : (f : ℕ → ℕ) (p : ℕ → ℤ) (ds : List LineDemand) → AreFormsAtLeastZero p (demand_obligations f ds) → All (λ d. IsSatisfied (λ c. p (f c)) d.demand) ds
 all_met f p [] a = All-nil (λ (d : LineDemand). IsSatisfied (λ c. p (f c)) d.demand)
 all_met f p (d ∷ ds) a =
-    let each = All-parts (λ (g : Form). pos 0 ≤ℤ g p) (halves d.demand.kind (pulled_form f d.demand.form)) (demand_obligations f ds) a in
-    All-cons (λ (d : LineDemand). IsSatisfied (λ c. p (f c)) d.demand) d ds ((half_met d.demand.kind (pulled_form f d.demand.form) p).0 each.0) (all_met f p ds each.1)
+    let each = All-parts (λ (g : Form). pos 0 ≤ℤ g p) (demanded_forms d.demand.kind (pulled_form f d.demand.form)) (demand_obligations f ds) a in
+    All-cons (λ (d : LineDemand). IsSatisfied (λ c. p (f c)) d.demand) d ds ((demanded_forms_met d.demand.kind (pulled_form f d.demand.form) p).0 each.0) (all_met f p ds each.1)
 
 -- the limits of a containment
 verb_limits : (q : BodyView) (a b : RegionView) (tries : List (List ℕ)) → IsQuestion q → q.verb ≡ Contain a b tries → IsVerbOver q.names (Contain a b tries)

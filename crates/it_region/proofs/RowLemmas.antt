@@ -3,6 +3,7 @@ use Rattle.std.proofs.Common.{◌≡◌, ◌↔◌, ℕ, ◌+◌, ◌-◌, ◌<�
 use Rattle.std.proofs.lemmas.Int.{ints}
 use Rattle.std.proofs.lemmas.List.{drop_all}
 use Rattle.std.proofs.lemmas.List.Elements.{All-nil, All-cons, All-head, All-tail, All-append}
+use Rattle.it_canon.specs.Targets.{demanded_forms}
 use Rattle.it_number.proofs.Integers.{zring}
 use Rattle.it_space.proofs.ListLemmas.{drop_item}
 use Rattle.it_space.specs.declared.spaces.Space.{Space}
@@ -10,14 +11,13 @@ use Rattle.it_space.specs.declared.problems.Kind.{Kind}
 use Rattle.it_space.specs.declared.problems.Kind.TheVariants.{Inequality, Equation}
 use Rattle.it_space.specs.declared.problems.Constraint.{Constraint}
 use Rattle.it_space.specs.Problems.{Meets, IsMet, AreMet}
-use Rattle.it_space.specs.Rows.{Terms, IsCanonical, IsUpTo, value}
+use Rattle.it_space.specs.Rows.{Terms, IsCanonical, IsUpTo, value, row_mass}
 use Rattle.it_space.specs.Spaces.{size_of}
 use Rattle.it_polymatroid.specs.Certificates.{Form}
-use Rattle.it_canon.specs.Canonical.{row_mass}
 use Rattle.it_canon.specs.QuestionDemands.{AreAtLeastZero}
 use Rattle.it_canon.specs.Coefficients.{dense_form, largest, signed_by, IsFormAdded}
 use Rattle.it_canon.proofs.ZipLemmas.{All-parts, zip-same, zip-right}
-use Rattle.it_region.specs.Obligations.{halves, pulled_form, constraint_obligations, IsPulledRow, ArePulledRows}
+use Rattle.it_region.specs.Obligations.{pulled_form, constraint_obligations, IsPulledRow, ArePulledRows}
 
 -- ---- the terms of one row
 
@@ -37,11 +37,6 @@ signed_form-cons f true t ts p = negated_sum t.1 (p (f t.0)) (value ts (λ c. p 
     negated_sum : (x y z : ℤ) → neg_ℤ (x *ℤ y +ℤ z) ≡ neg_ℤ x *ℤ y +ℤ neg_ℤ z
     negated_sum x y z = omega (arith, zring)
 signed_form-cons f false t ts p = refl
-
--- a term has room
-pub room : (f : ℕ → ℕ) (turned : Bool) (whole : Terms) (size : ℕ) (now : List ℤ) (i : ℕ) (t : ℕ × ℤ) → i < length whole → t ≡ get_or whole i t → row_mass whole < 2 ^ 127 → IsUnderWay f turned whole size now i
-    → largest now + unsigned_abs t.1 < 2 ^ 127
-room f turned whole size now i t l is few u = omega (arith, u.small, ap row_mass (drop_item whole i t l is), few)
 
 pub goes_on : (f : ℕ → ℕ) (turned : Bool) (whole : Terms) (size : ℕ) (now new : List ℤ) (i : ℕ) (t : ℕ × ℤ) → i < length whole → t ≡ get_or whole i t
     → IsFormAdded now new (unsigned_abs t.1) (λ p. signed_by turned t.1 *ℤ p (f t.0)) → IsUnderWay f turned whole size now i → IsUnderWay f turned whole size new (i + 1)
@@ -82,9 +77,9 @@ pub rows_same : (s : Space) (fs : List Form) (rows : List Terms) (p : ℕ → �
 rows_same s fs rows p z a = zip-same (IsPulledRow s) (IsFormAtLeastZero p) (λ (row : Terms). pos 0 ≤ℤ value row p)
     (λ f row r. (λ h. subst (λ (x : ℤ). pos 0 ≤ℤ x) (r.same p z) h, λ h. subst (λ (x : ℤ). pos 0 ≤ℤ x) (sym (r.same p z)) h)) fs rows a
 
-pub half_met : (k : Kind) (form : Form) (p : ℕ → ℤ) → All (IsFormAtLeastZero p) (halves k form) ↔ Meets k (form p)
-half_met Inequality form p = (λ a. All-head (IsFormAtLeastZero p) form [] a, λ h. All-cons (IsFormAtLeastZero p) form [] h (All-nil (IsFormAtLeastZero p)))
-half_met Equation form p =
+pub demanded_forms_met : (k : Kind) (form : Form) (p : ℕ → ℤ) → All (IsFormAtLeastZero p) (demanded_forms k form) ↔ Meets k (form p)
+demanded_forms_met Inequality form p = (λ a. All-head (IsFormAtLeastZero p) form [] a, λ h. All-cons (IsFormAtLeastZero p) form [] h (All-nil (IsFormAtLeastZero p)))
+demanded_forms_met Equation form p =
     let down : Form = λ q. neg_ℤ (form q) in (
       λ a. let up = All-head (IsFormAtLeastZero p) form (down ∷ []) a in let low = All-head (IsFormAtLeastZero p) down [] (All-tail (IsFormAtLeastZero p) form (down ∷ []) a) in omega (arith, ints, up, low),
       λ h. All-cons (IsFormAtLeastZero p) form (down ∷ []) (omega (arith, ints, h)) (All-cons (IsFormAtLeastZero p) down [] (omega (arith, ints, h)) (All-nil (IsFormAtLeastZero p))),
@@ -93,8 +88,8 @@ half_met Equation form p =
 forms_met : (f : ℕ → ℕ) (p : ℕ → ℤ) (cs : List Constraint) → All (IsFormAtLeastZero p) (constraint_obligations f cs) ↔ AreMet (λ c. p (f c)) cs
 forms_met f p [] = (λ a. All-nil (IsMet (λ c. p (f c))), λ a. All-nil (IsFormAtLeastZero p))
 forms_met f p (c ∷ cs) =
-    let first : List Form = halves c.kind (pulled_form f (value c.row)) in
-    let one = half_met c.kind (pulled_form f (value c.row)) p in
+    let first : List Form = demanded_forms c.kind (pulled_form f (value c.row)) in
+    let one = demanded_forms_met c.kind (pulled_form f (value c.row)) p in
     let rest = forms_met f p cs in (
       λ a. let each = All-parts (IsFormAtLeastZero p) first (constraint_obligations f cs) a in All-cons (IsMet (λ c. p (f c))) c cs (one.0 each.0) (rest.0 each.1),
       λ h. All-append (IsFormAtLeastZero p) first (constraint_obligations f cs) (one.1 (All-head (IsMet (λ c. p (f c))) c cs h)) (rest.1 (All-tail (IsMet (λ c. p (f c))) c cs h)),

@@ -3,6 +3,7 @@ use Rattle.std.proofs.Common.{◌≡◌, ℕ, ◌<◌, ◌≤◌, ◌^◌, ℤ, 
 use Rattle.std.specs.List.{AllZip}
 use Rattle.std.proofs.Math.Seq.{take-append_seam}
 use Rattle.std.proofs.lemmas.List.{length-take-le, take-take}
+use Rattle.it_canon.specs.Targets.{demanded_forms}
 use Rattle.it_space.specs.declared.spaces.Space.{Space}
 use Rattle.it_space.specs.declared.problems.Kind.{Kind}
 use Rattle.it_space.specs.declared.problems.Kind.TheVariants.{Inequality, Equation}
@@ -17,7 +18,7 @@ use Rattle.it_canon.proofs.UniqueRows.{told_by_values, zip-told}
 use Rattle.it_canon.proofs.ZipLemmas.{zip-append}
 use Rattle.it_region.specs.declared.types.Candidate.{Candidate}
 use Rattle.it_region.specs.declared.types.Pair.{Pair}
-use Rattle.it_region.specs.Obligations.{halves, pulled_form, demand_obligations, constraint_obligations, own_demands, obligations, ArePartsOf, IsPulledRow, ArePulledRows}
+use Rattle.it_region.specs.Obligations.{pulled_form, demand_obligations, constraint_obligations, own_demands, obligations, ArePartsOf, IsPulledRow, ArePulledRows}
 use Rattle.it_region.specs.Pairs.{IsPair, IsPairOf, FitsPair, candidate_coordinate, pair_obligations}
 use Rattle.it_region.specs.Pulling.{substituted_sets, pulled_coordinate}
 use Rattle.it_region.proofs.PullingLemmas.{coordinate_of_empty_set}
@@ -41,19 +42,19 @@ rows_as_pulled s (f ∷ fs) (t ∷ ts) a = (record { same = a.0.same; coordinate
 abbrev pub AreOne : Form → Form → Type 0
 AreOne f g = (p : ℕ → ℤ) → p 0 ≡ pos 0 → f p ≡ g p
 
-halves_same : (k : Kind) (f g : Form) → AreOne f g → AllZip AreOne (halves k f) (halves k g)
-halves_same Inequality f g h = (h, tt)
-halves_same Equation f g h = (h, (λ p z. ap neg_ℤ (h p z), tt))
+demanded_forms_same : (k : Kind) (f g : Form) → AreOne f g → AllZip AreOne (demanded_forms k f) (demanded_forms k g)
+demanded_forms_same Inequality f g h = (h, tt)
+demanded_forms_same Equation f g h = (h, (λ p z. ap neg_ℤ (h p z), tt))
 
 forms_same : (s : Space) (f : ℕ → ℕ) (ds : List LineDemand) (cs : List Constraint) → f 0 ≡ 0 → AreStated s ds cs → AllZip AreOne (constraint_obligations f cs) (demand_obligations f ds)
 forms_same s f [] [] e a = tt
 forms_same s f [] (c ∷ cs) e a = absurd a
 forms_same s f (d ∷ ds) [] e a = absurd a
 forms_same s f (d ∷ ds) (c ∷ cs) e a =
-    let one : AllZip AreOne (halves d.demand.kind (pulled_form f (value c.row))) (halves d.demand.kind (pulled_form f d.demand.form)) =
-    halves_same d.demand.kind (pulled_form f (value c.row)) (pulled_form f d.demand.form) (λ p z. a.0.row.same (λ x. p (f x)) (ap p e ∙ z)) in
-    zip-append AreOne (halves c.kind (pulled_form f (value c.row))) (constraint_obligations f cs) (halves d.demand.kind (pulled_form f d.demand.form)) (demand_obligations f ds)
-    (subst (λ (k : Kind). AllZip AreOne (halves k (pulled_form f (value c.row))) (halves d.demand.kind (pulled_form f d.demand.form))) (sym a.0.kind) one) (forms_same s f ds cs e a.1)
+    let one : AllZip AreOne (demanded_forms d.demand.kind (pulled_form f (value c.row))) (demanded_forms d.demand.kind (pulled_form f d.demand.form)) =
+    demanded_forms_same d.demand.kind (pulled_form f (value c.row)) (pulled_form f d.demand.form) (λ p z. a.0.row.same (λ x. p (f x)) (ap p e ∙ z)) in
+    zip-append AreOne (demanded_forms c.kind (pulled_form f (value c.row))) (constraint_obligations f cs) (demanded_forms d.demand.kind (pulled_form f d.demand.form)) (demand_obligations f ds)
+    (subst (λ (k : Kind). AllZip AreOne (demanded_forms k (pulled_form f (value c.row))) (demanded_forms d.demand.kind (pulled_form f d.demand.form))) (sym a.0.kind) one) (forms_same s f ds cs e a.1)
 
 rows_of_text : (s : Space) (fs gs : List Form) (rows : List Terms) → AllZip AreOne fs gs → ArePulledRows s fs rows → ArePulledRows s gs rows
 rows_of_text s [] [] [] h a = tt
@@ -104,7 +105,7 @@ module _ (q : BodyView) (a b : RegionView) (p : Pair) (o : IsPairOf q a b p) whe
 
 -- ---- the parts of a candidate
 
--- at most four sets, and the empty set at the places behind them
+-- at most four sets, and the empty set at the places after them
 pub all_places : (parts : List ℕ) → length parts ≤ 4 → get_or parts 0 0 ∷ get_or parts 1 0 ∷ get_or parts 2 0 ∷ get_or parts 3 0 ∷ [] ≡ take 4 (parts ++ (0 ∷ 0 ∷ 0 ∷ 0 ∷ []))
 all_places [] h = refl
 all_places (a ∷ []) h = refl

@@ -2,22 +2,15 @@
 use Rattle.std.specs.Prelude.{◌≡◌, ℕ, ◌+◌, ◌<◌, ◌^◌, ℤ, pos, ◌≤ℤ◌, List, [], ◌∷◌, ◌++◌, length, All}
 use Rattle.std.specs.List.{AllZip}
 use Rattle.it_space.specs.declared.spaces.Space.{Space}
-use Rattle.it_space.specs.declared.problems.Kind.{Kind}
-use Rattle.it_space.specs.declared.problems.Kind.TheVariants.{Inequality, Equation}
 use Rattle.it_space.specs.declared.problems.Constraint.{Constraint}
 use Rattle.it_space.specs.Rows.{Terms, IsCanonical, IsUpTo, value}
 use Rattle.it_space.specs.Spaces.{size_of}
 use Rattle.it_polymatroid.specs.Certificates.{Form}
 use Rattle.it_question.specs.Questions.{RegionView, BodyView}
-use Rattle.it_canon.specs.Targets.{negation}
+use Rattle.it_canon.specs.Targets.{demanded_forms}
 use Rattle.it_canon.specs.Demands.{LineDemand}
 use Rattle.it_canon.specs.QuestionDemands.{given_demands, row_demands}
 use Rattle.it_region.specs.Pulling.{substituted_sets, pulled_coordinate}
-
--- the forms that are at least 0 exactly where a constraint is met: that of an equation, and then its negation
-abbrev pub halves : Kind → Form → List Form
-halves Inequality f = f ∷ []
-halves Equation f = f ∷ negation f ∷ []
 
 -- the form at a map pulled back, which has at each coordinate c the value at f c
 abbrev pub pulled_form : (ℕ → ℕ) → Form → Form
@@ -26,14 +19,14 @@ pulled_form f form p = form (λ c. p (f c))
 -- the obligations that demands give, in order
 abbrev pub demand_obligations : (ℕ → ℕ) → List LineDemand → List Form
 demand_obligations f [] = []
-demand_obligations f (d ∷ ds) = halves d.demand.kind (pulled_form f d.demand.form) ++ demand_obligations f ds
+demand_obligations f (d ∷ ds) = demanded_forms d.demand.kind (pulled_form f d.demand.form) ++ demand_obligations f ds
 
 -- and those that constraints give
 abbrev pub constraint_obligations : (ℕ → ℕ) → List Constraint → List Form
 constraint_obligations f [] = []
-constraint_obligations f (c ∷ cs) = halves c.kind (pulled_form f (value c.row)) ++ constraint_obligations f cs
+constraint_obligations f (c ∷ cs) = demanded_forms c.kind (pulled_form f (value c.row)) ++ constraint_obligations f cs
 
--- what the second region's own lines demand; its lines are counted behind the question's own
+-- what the second region's own lines demand; its lines are counted after the question's own
 abbrev pub own_demands : BodyView → RegionView → List LineDemand
 own_demands q b = given_demands (length b.names.variables) (1 + length q.lines.givens) b.lines.givens
     ++ row_demands (length b.names.variables) (1 + length q.lines.rows) b.lines.rows

@@ -1,11 +1,10 @@
 -- Pairs of regions, and the candidates that fit them.
 use Rattle.std.specs.Prelude.{◌≡◌, ℕ, ◌+◌, ◌<◌, ◌≤◌, ◌^◌, List, take, length, All}
 use Rattle.it_space.specs.Problems.{IsProblem, problem_view}
-use Rattle.it_space.specs.Rows.{IsUpTo}
+use Rattle.it_space.specs.Rows.{IsUpTo, row_mass}
 use Rattle.it_space.specs.Spaces.{IsSpace, size_of}
 use Rattle.it_polymatroid.specs.Certificates.{Form}
 use Rattle.it_question.specs.Questions.{RegionView, VerbView, Prove, Eliminate, Contain, BodyView}
-use Rattle.it_canon.specs.Canonical.{row_mass}
 use Rattle.it_canon.specs.Demands.{AreStated}
 use Rattle.it_canon.specs.QuestionDemands.{space_of, question_demands}
 use Rattle.it_region.specs.declared.types.Pair.{Pair}

@@ -4,7 +4,7 @@ use Rattle.it_polymatroid.specs.Polymatroid.{IsPolymatroid}
 use Rattle.it_question.specs.Questions.{OwnLinesView, RegionView, BodyView}
 use Rattle.it_canon.specs.QuestionDemands.{AreTrueAt}
 
--- the lines before the first region, and behind them a region's own
+-- the lines before the first region, and after them a region's own
 abbrev pub lines_with : OwnLinesView → RegionView → OwnLinesView
 lines_with own r = record { givens = own.givens ++ r.lines.givens; rows = own.rows ++ r.lines.rows }
 

@@ -1,12 +1,12 @@
 //! The obligations of a candidate.
 ghost use Rattle.std.specs.Prelude.{◌≡◌, ℕ, ℤ, pos, ◌+◌, ◌<◌, ◌≤◌, ◌^◌, ◌*ℤ◌, ◌↔◌, unsigned_abs, length, All, IfOk};
 ghost use Rattle.it_space.specs.Problems.{AreMet};
-ghost use Rattle.it_space.specs.Rows.{IsUpTo, value};
+ghost use Rattle.it_space.specs.Rows.{IsUpTo, value, row_mass};
 ghost use Rattle.it_space.specs.Spaces.{size_of};
-ghost use Rattle.it_canon.specs.Canonical.{row_mass};
 ghost use Rattle.it_canon.specs.QuestionDemands.{AreAtLeastZero};
 ghost use Rattle.it_canon.specs.Coefficients.{largest, signed_by, IsFormAdded};
-ghost use Rattle.it_region.specs.Obligations.{halves, pulled_form, constraint_obligations, ArePulledRows, IsPulledRow};
+ghost use Rattle.it_canon.specs.Targets.{demanded_forms};
+ghost use Rattle.it_region.specs.Obligations.{pulled_form, constraint_obligations, ArePulledRows, IsPulledRow};
 ghost use Rattle.it_region.specs.Pulling.{singles};
 ghost use Rattle.it_region.specs.PairSteps.{AreSetsFor};
 ghost use Rattle.it_region.specs.Pairs.{FitsPair, IsPair, pair_obligations, candidate_coordinate, pair_coordinate, candidate_sets};
@@ -107,8 +107,8 @@ fn pulled_row(
     sums.into_row(alloc)
 }
 
-/// The row of a constraint at the pulled-back map, and behind it the row turned where it is an equation.
-fn halves(
+/// The row of a constraint at the pulled-back map, and after it the row turned where it is an equation.
+fn demanded_rows(
     alloc: Global,
     pair: &Pair,
     sets: &[VarSet],
@@ -118,7 +118,7 @@ fn halves(
     requires sets { AreSetsFor pair.now sets.now }
     requires row { IsUpTo (size_of pair.now.space) constraint.now.row }
     requires small { row_mass constraint.now.row < 2 ^ 127 }
-    ensures { IfOk result (λ v. ArePulledRows pair.now.first.space (halves constraint.now.kind (pulled_form (pair_coordinate pair.now sets.now) (value constraint.now.row))) v.items) }
+    ensures { IfOk result (λ v. ArePulledRows pair.now.first.space (demanded_forms constraint.now.kind (pulled_form (pair_coordinate pair.now sets.now) (value constraint.now.row))) v.items) }
 {
     let mut rows = Vec::new(alloc);
     rows.push(pulled_row(alloc, pair, sets, &constraint.row, false)?)?;
@@ -136,7 +136,7 @@ fn rows_of(alloc: Global, pair: &Pair, sets: &[VarSet]) -> Result<Vec<Row>, Allo
 {
     let mut rows = Vec::new(alloc);
     for constraint in pair.own.as_slice() {
-        let mut both = halves(alloc, pair, sets, constraint)?;
+        let mut both = demanded_rows(alloc, pair, sets, constraint)?;
         rows.append(&mut both)?;
     }
     Ok(rows)

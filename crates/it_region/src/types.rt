@@ -9,7 +9,7 @@ pub struct Candidate {
 }
 
 /// The first region's problem with the question's own lines in it; the second region's space, whose variables are the
-/// first `common` ones of the first region and behind them its `parts` auxiliaries; and the second region's own
+/// first `common` ones of the first region and after them its `parts` auxiliaries; and the second region's own
 /// constraints, those of its `given` lines before those of its `row` lines.
 #[derive(Debug, Drop)]
 pub struct Pair {

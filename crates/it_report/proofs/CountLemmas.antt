@@ -9,14 +9,14 @@ use Rattle.it_syntax.specs.declared.types.Sign.TheVariants.{AtLeast, AtMost, Equ
 use Rattle.it_syntax.specs.Meaning.{RelationView}
 use Rattle.it_syntax.specs.Givens.{GivenView}
 use Rattle.it_question.specs.Questions.{BodyView, RegionView}
-use Rattle.it_canon.specs.Demands.{Demand, LineDemand, demands, demand_of, parts_from, parts_of}
+use Rattle.it_canon.specs.Demands.{Demand, LineDemand, demands, demand_of, parts_from, parts_of, kind_of}
 use Rattle.it_canon.specs.QuestionDemands.{given_demands, row_demands, line_demands}
-use Rattle.it_canon.specs.Targets.{targets_by}
-use Rattle.it_region.specs.Obligations.{halves, pulled_form, demand_obligations, obligations}
+use Rattle.it_canon.specs.Targets.{demanded_forms}
+use Rattle.it_region.specs.Obligations.{pulled_form, demand_obligations, obligations}
 use Rattle.it_region.specs.Pulling.{substituted_sets, pulled_coordinate}
 use Rattle.it_certificate.specs.Obligations.{form_count, obligation_count, target_count}
 
-pub targets_counted : (sign : Sign) (f : Form) → length (targets_by sign f) ≡ target_count sign
+pub targets_counted : (sign : Sign) (f : Form) → length (demanded_forms (kind_of sign) f) ≡ target_count sign
 targets_counted AtLeast f = refl
 targets_counted AtMost f = refl
 targets_counted Equal f = refl
@@ -27,14 +27,14 @@ module _ (f : ℕ → ℕ) where
   obligations-append [] es = let e : length (demand_obligations f es) ≡ 0 + length (demand_obligations f es) = omega arith in e
   obligations-append (d ∷ ds) es =
       let rest = obligations-append ds es in
-      let here : List Form = halves d.demand.kind (pulled_form f d.demand.form) in
+      let here : List Form = demanded_forms d.demand.kind (pulled_form f d.demand.form) in
       omega (arith, length-append here (demand_obligations f (ds ++ es)), length-append here (demand_obligations f ds), rest)
 
   parts_counted : (part j line k parts also : ℕ) (ds : List Demand) → length (demand_obligations f (parts_from part line parts ds)) ≡ length (demand_obligations f (parts_from j k also ds))
   parts_counted part j line k parts also [] = refl
   parts_counted part j line k parts also (d ∷ ds) =
       let rest = parts_counted (part + 1) (j + 1) line k parts also ds in
-      let here : List Form = halves d.kind (pulled_form f d.form) in
+      let here : List Form = demanded_forms d.kind (pulled_form f d.form) in
       omega (arith, length-append here (demand_obligations f (parts_from (part + 1) line parts ds)), length-append here (demand_obligations f (parts_from (j + 1) k also ds)), rest)
 
   givens_counted : (n line k : ℕ) (gs : List GivenView) → length (demand_obligations f (given_demands n line gs)) ≡ length (demand_obligations f (given_demands n k gs))
@@ -49,20 +49,20 @@ module _ (f : ℕ → ℕ) where
   rows_counted n line k (r ∷ rs) =
       let rest = rows_counted n (line + 1) (k + 1) rs in
       let d : Demand = demand_of n r in
-      let here : List Form = halves d.kind (pulled_form f d.form) in
+      let here : List Form = demanded_forms d.kind (pulled_form f d.form) in
       omega (arith, length-append here (demand_obligations f (row_demands n (line + 1) rs)), length-append here (demand_obligations f (row_demands n (k + 1) rs)), rest)
 
-  half_count : (k : Kind) (g : Form) → length (halves k g) ≡ form_count k
-  half_count Inequality g = refl
-  half_count Equation g = refl
+  demanded_forms_counted : (k : Kind) (g : Form) → length (demanded_forms k g) ≡ form_count k
+  demanded_forms_counted Inequality g = refl
+  demanded_forms_counted Equation g = refl
 
   -- one for each form
   forms_counted : (a : ℕ) (ds : List LineDemand) → a + length (demand_obligations f ds) ≡ fold (λ s d. s + form_count d.demand.kind) a ds
   forms_counted a [] = omega arith
   forms_counted a (d ∷ ds) =
-      let here : List Form = halves d.demand.kind (pulled_form f d.demand.form) in
+      let here : List Form = demanded_forms d.demand.kind (pulled_form f d.demand.form) in
       let rest = forms_counted (a + form_count d.demand.kind) ds in
-      omega (arith, length-append here (demand_obligations f ds), half_count d.demand.kind (pulled_form f d.demand.form), rest)
+      omega (arith, length-append here (demand_obligations f ds), demanded_forms_counted d.demand.kind (pulled_form f d.demand.form), rest)
 
 pub obligations_counted : (q : BodyView) (a b : RegionView) (parts : List ℕ) → length (obligations q a b parts) ≡ obligation_count b
 unfolding obligation_count

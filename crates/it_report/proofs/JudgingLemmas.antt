@@ -14,8 +14,8 @@ use Rattle.it_syntax.specs.declared.types.Sign.{Sign}
 use Rattle.it_syntax.specs.declared.types.Sign.TheVariants.{AtLeast, AtMost, Equal}
 use Rattle.it_question.specs.Questions.{BodyView, QuestionView, RegionView, VerbView, Prove, Eliminate, Contain}
 use Rattle.it_canon.specs.Canonical.{form_of}
-use Rattle.it_canon.specs.Demands.{AreStated}
-use Rattle.it_canon.specs.Targets.{targets, targets_by}
+use Rattle.it_canon.specs.Demands.{AreStated, kind_of}
+use Rattle.it_canon.specs.Targets.{targets, demanded_forms}
 use Rattle.it_canon.specs.QuestionDemands.{space_of, problem_names, problem_names_by, question_demands, AreRowsOf, IsProblemOf, Poses}
 use Rattle.it_region.specs.declared.types.Candidate.{Candidate}
 use Rattle.it_region.specs.declared.types.Pair.{Pair}
@@ -115,7 +115,7 @@ module _ (q : BodyView) (r : RelationView) (about : q.verb ≡ Prove r) where
   one_target : (n : ℕ) → 0 < length (targets n r)
   one_target n = by_sign r.sign (form_of n r)
     where
-      by_sign : (sign : Sign) (f : Form) → 0 < length (targets_by sign f)
+      by_sign : (sign : Sign) (f : Form) → 0 < length (demanded_forms (kind_of sign) f)
       by_sign AtLeast f = lit< tt
       by_sign AtMost f = lit< tt
       by_sign Equal f = lit< tt
@@ -123,7 +123,7 @@ module _ (q : BodyView) (r : RelationView) (about : q.verb ≡ Prove r) where
   two_targets : (n : ℕ) → is_equality r.sign ≡ true → 1 < length (targets n r)
   two_targets n = by_sign r.sign (form_of n r)
     where
-      by_sign : (sign : Sign) (f : Form) → is_equality sign ≡ true → 1 < length (targets_by sign f)
+      by_sign : (sign : Sign) (f : Form) → is_equality sign ≡ true → 1 < length (demanded_forms (kind_of sign) f)
       by_sign AtLeast f e = absurd (cc)
       by_sign AtMost f e = absurd (cc)
       by_sign Equal f e = lit< tt

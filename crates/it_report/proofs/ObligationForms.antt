@@ -1,15 +1,15 @@
 -- The obligations of a containment are forms of small coefficients, as the demands of its second region are.
 use Rattle.std.proofs.Common.{◌≡◌, ℕ, ◌+◌, ◌≤◌, ◌^◌, ℤ, ◌+ℤ◌, ◌*ℤ◌, unsigned_abs, List, [], ◌∷◌, refl, ap, ◌∙◌, arith}
 use Rattle.std.specs.List.{AllByRecursion as Every}
+use Rattle.it_canon.specs.Targets.{demanded_forms}
 use Rattle.it_space.specs.declared.problems.Kind.{Kind}
 use Rattle.it_space.specs.declared.problems.Kind.TheVariants.{Inequality, Equation}
-use Rattle.it_space.specs.Rows.{Terms, value}
+use Rattle.it_space.specs.Rows.{Terms, value, row_mass}
 use Rattle.it_space.proofs.EveryLemmas.{every-append}
 use Rattle.it_polymatroid.specs.Certificates.{Form}
-use Rattle.it_canon.specs.Canonical.{row_mass}
 use Rattle.it_canon.specs.Demands.{LineDemand}
 use Rattle.it_canon.proofs.SmallForms.{IsFormUpTo, form-negation}
-use Rattle.it_region.specs.Obligations.{halves, pulled_form, demand_obligations}
+use Rattle.it_region.specs.Obligations.{pulled_form, demand_obligations}
 
 -- the terms with their coordinates moved
 abbrev moved_terms : (ℕ → ℕ) → Terms → Terms
@@ -41,9 +41,9 @@ form_moved n m a f g within x = record {
 pub obligations_up_to : (n m : ℕ) (f : ℕ → ℕ) → ((c : ℕ) → c ≤ n → f c ≤ m) → (ds : List LineDemand) → Every (λ (d : LineDemand). IsFormUpTo n (2 ^ 74) d.demand.form) ds → Every (IsFormUpTo m (2 ^ 74)) (demand_obligations f ds)
 obligations_up_to n m f within [] h = tt
 obligations_up_to n m f within (d ∷ ds) h =
-    every-append (IsFormUpTo m (2 ^ 74)) (halves d.demand.kind (pulled_form f d.demand.form)) (demand_obligations f ds)
+    every-append (IsFormUpTo m (2 ^ 74)) (demanded_forms d.demand.kind (pulled_form f d.demand.form)) (demand_obligations f ds)
     (by_kind d.demand.kind (pulled_form f d.demand.form) (form_moved n m (2 ^ 74) f d.demand.form within h.0)) (obligations_up_to n m f within ds h.1)
   where
-    by_kind : (kind : Kind) (g : Form) → IsFormUpTo m (2 ^ 74) g → Every (IsFormUpTo m (2 ^ 74)) (halves kind g)
+    by_kind : (kind : Kind) (g : Form) → IsFormUpTo m (2 ^ 74) g → Every (IsFormUpTo m (2 ^ 74)) (demanded_forms kind g)
     by_kind Inequality g x = (x, tt)
     by_kind Equation g x = (x, (form-negation m (2 ^ 74) g x, tt))

@@ -52,14 +52,14 @@ coordinates_over : (b : ℕ) (gs : List Generator) (t : Terms) (w : CertificateV
 unfolding of_coordinates
 coordinates_over b gs t w c zero h = tt
 coordinates_over b gs t w c (suc left) h =
-    either_over b (of_coordinate gs t w c) (of_coordinates gs t w (c + 1) left) (numbers_over b c (left_number t w.scale c) (right_number gs w.parts c) (omega arith))
+    either_over b (of_coordinate gs t w c) (of_coordinates gs t w (c + 1) left) (numbers_over b c (left_number t w.scale c) (right_number gs w.weights c) (omega arith))
     (coordinates_over b gs t w (c + 1) left (omega arith))
 
 pub yes_over : (gs : List Generator) (size : ℕ) (t : Terms) (w : CertificateView) → IsVerdictOver (size + 1) (yes_verdict gs size t w)
 unfolding yes_verdict
 yes_over gs size t w =
     told_over (size + 1) _ (either_over (size + 1) (of_scale w.scale) _ (chosen_over (size + 1) (int_lt w.scale (pos 1)) (Some (BadScale w.scale)) None tt tt)
-    (either_over (size + 1) (of_weights gs w.parts) (of_coordinates gs t w 1 size) (weights_over (size + 1) gs w.parts) (coordinates_over (size + 1) gs t w 1 size (omega arith))))
+    (either_over (size + 1) (of_weights gs w.weights) (of_coordinates gs t w 1 size) (weights_over (size + 1) gs w.weights) (coordinates_over (size + 1) gs t w 1 size (omega arith))))
 
 two_over : (b : ℕ) (c : Bool) (v u : Verdict) → IsVerdictOver b v → IsVerdictOver b u → IsVerdictOver b (if c then v else u)
 two_over b true v u h k = h

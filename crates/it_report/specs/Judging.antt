@@ -32,6 +32,7 @@ judged_forms_by q (Prove r) answer = targets (variables_of q) r
 judged_forms_by q (Eliminate rates) answer = []
 judged_forms_by q (Contain first second tries) answer = obligations q first second (judged_parts answer)
 
+-- what an answer to the question speaks of
 abbrev pub judged_forms : BodyView → AnswerView → List Form
 judged_forms q answer = judged_forms_by q q.verb answer
 

@@ -48,6 +48,7 @@ IsRegionClaim q first second (Region rows) = Unit {0}
 IsRegionClaim q first second (Contained parts proofs) = LiesIn q first second
 IsRegionClaim q first second (Open tried) = Unit {0}
 
+-- what an answer to a question of this verb claims is true
 abbrev pub IsClaimTrueBy : BodyView → VerbView → AnswerView → Type 0
 IsClaimTrueBy q (Prove r) answer = IsRelationClaim q r answer
 IsClaimTrueBy q (Eliminate rates) answer = Unit {0}

@@ -19,9 +19,10 @@ use it_space::{Answer, Certificate, Point, VarSet};
 use it_syntax::types::Relation;
 use std::alloc::{AllocError, Global};
 
-/// The line about line k of a report, which are counted from 1; `line` comes without its end. A yes and a containment have the
-/// verdict of the first of their certificates that isn't valid, a no that of its point against the target on its side. Answers
-/// that claim nothing of polymatroids, or whose claim isn't judged, are skipped: undecided, regions and open questions.
+/// The line about line k of a report; lines are counted from 1, and `line` comes without its end. A yes and a containment
+/// have the verdict of the first of their certificates that isn't valid, a no that of its point against the target on its
+/// side. Answers that claim nothing of polymatroids, or whose claim isn't judged, are skipped: undecided, regions and open
+/// questions.
 pub fn judge(alloc: Global, k: usize, line: &[u8]) -> Result<JudgedLine, AllocError>
     ensures { IfOk result (λ j. IsJudgedLine k line.now j.text.items j.invalid) }
 {

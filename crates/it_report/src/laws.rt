@@ -12,7 +12,8 @@ pub fn verdict_is_one()
     ensures { OneVerdict }
 {}
 
-/// The claim of a valid line is true: a yes holds everywhere, the point of a no violates the target on its side.
+/// The claim of a valid line is true: a yes holds everywhere, the point of a no violates the target on its side, and of a
+/// containment the first region lies in the second.
 pub fn valid_is_true()
     ensures { ValidIsTrue }
 {}

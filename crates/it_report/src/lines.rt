@@ -31,7 +31,7 @@ fn numbered_line(alloc: Global, k: usize, words: &[u8]) -> Result<Vec<u8>, Alloc
     Ok(out)
 }
 
-/// A line that has no reading as JSON.
+/// The line about a line that has no reading as JSON.
 pub fn not_json_line(alloc: Global, k: usize) -> Result<JudgedLine, AllocError>
     ensures { IfOk result (λ j. IsLineOf k NotJson j.text.items j.invalid) }
 {
@@ -42,7 +42,7 @@ pub fn not_json_line(alloc: Global, k: usize) -> Result<JudgedLine, AllocError>
     })
 }
 
-/// A line with a key that is missing or of another shape.
+/// The line about a line with a key that is missing or of another shape.
 pub fn shape_line(alloc: Global, k: usize, key: Key) -> Result<JudgedLine, AllocError>
     ensures { IfOk result (λ j. IsLineOf k (Shape key) j.text.items j.invalid) }
 {
@@ -56,7 +56,7 @@ pub fn shape_line(alloc: Global, k: usize, key: Key) -> Result<JudgedLine, Alloc
     })
 }
 
-/// A line whose answer isn't judged.
+/// The line about a line whose answer isn't judged.
 pub fn skipped_line(alloc: Global, k: usize) -> Result<JudgedLine, AllocError>
     ensures { IfOk result (λ j. IsLineOf k Skipped j.text.items j.invalid) }
 {
@@ -67,7 +67,7 @@ pub fn skipped_line(alloc: Global, k: usize) -> Result<JudgedLine, AllocError>
     })
 }
 
-/// A line with this verdict on its answer.
+/// The line about a line with this verdict on its answer.
 pub fn verdict_line(
     alloc: Global,
     k: usize,

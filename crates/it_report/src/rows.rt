@@ -21,20 +21,21 @@ fn proof_verdict(problem: &Problem, row: &Row, certificate: &Certificate) -> Ver
     check_yes(problem, row, certificate)
 }
 
-/// Whether nothing is wrong.
+/// Whether a verdict is `Valid`.
 pub fn is_valid(verdict: &Verdict) -> bool
     ensures { result ≡ is_valid verdict.now }
 {
     matches!(verdict, Verdict::Valid)
 }
 
-/// The first verdict that isn't `Valid`, of one certificate for each row in order.
+/// The first verdict that isn't `Valid`, of one certificate for each row in order, or `Valid`.
 pub fn proofs_verdict(problem: &Problem, rows: &[Row], proofs: &[Certificate]) -> Verdict
     requires problem { IsProblem (problem_view problem.now) }
     requires rows { All (IsUpTo (size_of problem.now.space)) rows.now }
     ensures verdict { result ≡ proofs_verdict (problem_view problem.now) rows.now (map certificate_view proofs.now) }
     ensures over { IsVerdictOver (size_of problem.now.space + 1) result }
 {
+    // by index, since the invariant speaks of both lists from i on
     for i in 0..rows.len() {
         if i >= proofs.len() {
             return Verdict::Valid;
@@ -47,7 +48,7 @@ pub fn proofs_verdict(problem: &Problem, rows: &[Row], proofs: &[Certificate]) -
     Verdict::Valid
 }
 
-/// Which row a no is about.
+/// The place of the row that a no is about: 1 where `back` is set, otherwise 0.
 fn place_named(back: bool) -> usize
     ensures { result ≡ place_named back }
 {

@@ -28,7 +28,7 @@ pub fn key_name(key: Key) -> &'static str
     }
 }
 
-/// Words and a generator's number, or that of a place.
+/// Appends words and a generator's number, or that of a place.
 fn write_place(out: &mut Vec<u8>, words: &[u8], place: u32) -> Result<(), AllocError>
     ensures { OnOk result (out.new.items ≡ out.old.items ++ (words.now ++ decimal place)) }
 {
@@ -36,7 +36,7 @@ fn write_place(out: &mut Vec<u8>, words: &[u8], place: u32) -> Result<(), AllocE
     write_number(out, place as usize)
 }
 
-/// Words and a number.
+/// Appends words and a number.
 fn write_value(out: &mut Vec<u8>, words: &[u8], value: &i128) -> Result<(), AllocError>
     ensures { OnOk result (out.new.items ≡ out.old.items ++ (words.now ++ signed_decimal value.now)) }
 {
@@ -44,7 +44,7 @@ fn write_value(out: &mut Vec<u8>, words: &[u8], value: &i128) -> Result<(), Allo
     write_signed(out, *value)
 }
 
-/// Words, a generator's number and its value.
+/// Appends words, a generator's number and its value.
 #[tactic(auto, unfolding(crate::specs::LineVerdicts::generator_value_text))]
 fn write_generator_value(
     out: &mut Vec<u8>,
@@ -58,7 +58,7 @@ fn write_generator_value(
     write_value(out, b" ", value)
 }
 
-/// Words, a coordinate with the numbers of the two sides, where they differ.
+/// Appends words and a coordinate with the numbers of the two sides, where they differ.
 #[tactic(auto, unfolding(crate::specs::LineVerdicts::mismatch_text))]
 fn write_mismatch(
     out: &mut Vec<u8>,
@@ -77,7 +77,7 @@ fn write_mismatch(
     write_value(out, b" ", right)
 }
 
-/// The words of a verdict. A coordinate has the name of its set or rate.
+/// Appends the words of a verdict. A coordinate has the name of its set or rate.
 #[tactic(auto, unfolding(crate::specs::LineVerdicts::verdict_text))]
 pub fn write_verdict(out: &mut Vec<u8>, names: &Names, verdict: &Verdict) -> Result<(), AllocError>
     requires { IsVerdictOver (2 ^ length names.now.variables + length names.now.rates) verdict.now }

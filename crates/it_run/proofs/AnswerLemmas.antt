@@ -23,20 +23,20 @@ pub read_run : (m n : ℕ) (p : FeasibilityProblem Rational) (budget : Option �
 read_run m n p budget t e r = read_by (IsDone field_ℚ m n) (IsStuck field_ℚ m n) (StepFits m n) (next field_ℚ m n) (weights field_ℚ m n) (point field_ℚ m n p) budget t e r
 
 module _ (old new : TableauView) (p : FeasibilityProblem Rational) (budget : Option ℕ) where
-  pub by_weights : (ws : List (ℕ × Rational)) → KeepsFrame old new → ReachesBy (height old) old.generators budget (table old) (Weights (table new))
-      → ws ≡ weights field_ℚ (height new) new.generators (table new) → RunsTo (height old) old.generators p budget (table old) (Weights ws)
-  by_weights ws f r e = subst (λ (ws : List (ℕ × Rational)). RunsTo (height old) old.generators p budget (table old) (Weights ws))
-      (sym (e ∙ ap₂ (λ m n. weights field_ℚ m n (table new)) f.height f.generators)) (read_run (height old) old.generators p budget (table old) (Weights (table new)) r)
+  pub by_weights : (ws : List (ℕ × Rational)) → KeepsFrame old new → ReachesBy (height old) old.generator_columns budget (table old) (Weights (table new))
+      → ws ≡ weights field_ℚ (height new) new.generator_columns (table new) → RunsTo (height old) old.generator_columns p budget (table old) (Weights ws)
+  by_weights ws f r e = subst (λ (ws : List (ℕ × Rational)). RunsTo (height old) old.generator_columns p budget (table old) (Weights ws))
+      (sym (e ∙ ap₂ (λ m n. weights field_ℚ m n (table new)) f.height f.generator_columns)) (read_run (height old) old.generator_columns p budget (table old) (Weights (table new)) r)
 
-  pub by_point : (q : List Rational) → KeepsFrame old new → HasSigns old p → ReachesBy (height old) old.generators budget (table old) (Point (table new))
-      → (HasSigns new p → q ≡ point field_ℚ (height new) new.generators p (table new)) → RunsTo (height old) old.generators p budget (table old) (Point q)
-  by_point q f s r e = subst (λ (q : List Rational). RunsTo (height old) old.generators p budget (table old) (Point q))
+  pub by_point : (q : List Rational) → KeepsFrame old new → HasSigns old p → ReachesBy (height old) old.generator_columns budget (table old) (Point (table new))
+      → (HasSigns new p → q ≡ point field_ℚ (height new) new.generator_columns p (table new)) → RunsTo (height old) old.generator_columns p budget (table old) (Point q)
+  by_point q f s r e = subst (λ (q : List Rational). RunsTo (height old) old.generator_columns p budget (table old) (Point q))
       (sym (e (λ k l. ap (λ (b : List Bool). cond (slice_index_or b k false) (minus (integer (pos 1))) (integer (pos 1))) f.negated ∙ s k (omega (arith, f.height, l)))
-      ∙ ap₂ (λ m n. point field_ℚ m n p (table new)) f.height f.generators)) (read_run (height old) old.generators p budget (table old) (Point (table new)) r)
+      ∙ ap₂ (λ m n. point field_ℚ m n p (table new)) f.height f.generator_columns)) (read_run (height old) old.generator_columns p budget (table old) (Point (table new)) r)
 
 -- a start has the invariants
 pub holds_start : (t : TableauView) → HasProblem t → HasInvariantsForSome t
-holds_start t s = (s.0, subst (λ (x : SimplexTable Rational). HasInvariants field_ℚ (height t) t.generators s.0 x) (sym s.1.table_is) (start_has_invariants field_ℚ (height t) t.generators s.0))
+holds_start t s = (s.0, subst (λ (x : SimplexTable Rational). HasInvariants field_ℚ (height t) t.generator_columns s.0 x) (sym s.1.table_is) (start_has_invariants field_ℚ (height t) t.generator_columns s.0))
 
 pub if_ok : {X E : Type 0} (r : Result X E) (P Q : X → Type 0) → IfOk r P → ((x : X) → P x → Q x) → IfOk r Q
 if_ok (Ok x) P Q h f = f x h

@@ -52,18 +52,18 @@ module _ (m n : ℕ) (t : SimplexTable Rational) where
 -- the values so far with those that are still to come are those of the point
 abbrev pub ValuesSoFar : TableauView → List Rational → ℕ → Type 0
 ValuesSoFar t out k = (p : FeasibilityProblem Rational) → HasSigns t p
-    → out ++ point_from_row field_ℚ (height t) t.generators p (table t) k (height t - k) ≡ point field_ℚ (height t) t.generators p (table t)
+    → out ++ point_from_row field_ℚ (height t) t.generator_columns p (table t) k (height t - k) ≡ point field_ℚ (height t) t.generator_columns p (table t)
 
-pub values_more : (t : TableauView) (out : List Rational) (k : ℕ) (x : Rational) → k < height t → x ≡ times (sign_number t k) ((table t).entry (height t) (t.generators + k))
+pub values_more : (t : TableauView) (out : List Rational) (k : ℕ) (x : Rational) → k < height t → x ≡ times (sign_number t k) ((table t).entry (height t) (t.generator_columns + k))
     → ValuesSoFar t out k → ValuesSoFar t (out ++ x ∷ []) (k + 1)
 values_more t out k x l e h p s =
     append_assoc out (x ∷ []) (rest (k + 1) (height t - (k + 1)))
-    ∙ ap (λ y. out ++ y ∷ rest (k + 1) (height t - (k + 1))) (e ∙ ap (λ z. times z ((table t).entry (height t) (t.generators + k))) (s k l))
-    ∙ ap (λ xs. out ++ xs) (sym (ap (rest k) rest_is_longer ∙ ap (λ i. point_value field_ℚ (height t) t.generators p (table t) k ∷ rest i (height t - (k + 1))) successor_is_sum))
+    ∙ ap (λ y. out ++ y ∷ rest (k + 1) (height t - (k + 1))) (e ∙ ap (λ z. times z ((table t).entry (height t) (t.generator_columns + k))) (s k l))
+    ∙ ap (λ xs. out ++ xs) (sym (ap (rest k) rest_is_longer ∙ ap (λ i. point_value field_ℚ (height t) t.generator_columns p (table t) k ∷ rest i (height t - (k + 1))) successor_is_sum))
     ∙ h p s
   where
     rest : ℕ → ℕ → List Rational
-    rest = point_from_row field_ℚ (height t) t.generators p (table t)
+    rest = point_from_row field_ℚ (height t) t.generator_columns p (table t)
 
     rest_is_longer : height t - k ≡ suc (height t - (k + 1))
     rest_is_longer = omega arith

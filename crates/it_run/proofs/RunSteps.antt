@@ -89,14 +89,14 @@ module _ (m n : ℕ) where
 pub holds_next : (old new : TableauView) → IsStep old new → HasInvariantsForSome old → HasInvariantsForSome new
 holds_next old new s h = (
   h.0,
-  subst (λ (m : ℕ). HasInvariants field_ℚ m new.generators h.0 (table new)) (sym s.frame.height)
-      (subst (λ (n : ℕ). HasInvariants field_ℚ (height old) n h.0 (table new)) (sym s.frame.generators)
-      (subst (HasInvariants field_ℚ (height old) old.generators h.0) (sym s.table_is) (next_holds field_ℚ (height old) old.generators h.0 (table old) h.1 s.moves))),
+  subst (λ (m : ℕ). HasInvariants field_ℚ m new.generator_columns h.0 (table new)) (sym s.frame.height)
+      (subst (λ (n : ℕ). HasInvariants field_ℚ (height old) n h.0 (table new)) (sym s.frame.generator_columns)
+      (subst (HasInvariants field_ℚ (height old) old.generator_columns h.0) (sym s.table_is) (next_holds field_ℚ (height old) old.generator_columns h.0 (table old) h.1 s.moves))),
 )
 
 -- what the rest of the run does after a step it does from before it
-pub step_on : (old new : TableauView) (left k : ℕ) (e : RunEndView (SimplexTable Rational) (SimplexTable Rational)) → 0 < left → ¬ (IsDone field_ℚ (height old) old.generators (table old)) → IsStep old new
+pub step_on : (old new : TableauView) (left k : ℕ) (e : RunEndView (SimplexTable Rational) (SimplexTable Rational)) → 0 < left → ¬ (IsDone field_ℚ (height old) old.generator_columns (table old)) → IsStep old new
     → ReachesFrom new (left - 1) (k + 1) e → ReachesFrom old left k e
-step_on old new left k e h d s r = run_more (height old) old.generators left k (table old) (table new) e h d s.moves s.fits s.table_is
-    (subst (λ (n : ℕ). Reaches (height old) n (left - 1) (k + 1) (table new) e) s.frame.generators
-    (subst (λ (m : ℕ). Reaches m new.generators (left - 1) (k + 1) (table new) e) s.frame.height r))
+step_on old new left k e h d s r = run_more (height old) old.generator_columns left k (table old) (table new) e h d s.moves s.fits s.table_is
+    (subst (λ (n : ℕ). Reaches (height old) n (left - 1) (k + 1) (table new) e) s.frame.generator_columns
+    (subst (λ (m : ℕ). Reaches m new.generator_columns (left - 1) (k + 1) (table new) e) s.frame.height r))

@@ -13,19 +13,19 @@ use Rattle.it_run.proofs.StepsLeft.{steps_left, steps_fall}
 
 -- the run from a tableau without a budget ends so
 abbrev EndsWithoutBudget : TableauView → RunEndView (SimplexTable Rational) (SimplexTable Rational) → Type 0
-EndsWithoutBudget t e = ReachesBy (height t) t.generators None (table t) e
+EndsWithoutBudget t e = ReachesBy (height t) t.generator_columns None (table t) e
 
 -- so many steps are left to a tableau whose table has the invariants
 unfoldable pub steps_left_to : TableauView → ℕ
-steps_left_to t = steps_left field_ℚ (height t) t.generators (table t)
+steps_left_to t = steps_left field_ℚ (height t) t.generator_columns (table t)
 
 pub steps_left_falls : (old new : TableauView) → IsStep old new → HasInvariantsForSome old → steps_left_to new < steps_left_to old
 unfolding steps_left_to
 steps_left_falls old new s h =
-    subst (λ (m : ℕ). steps_left field_ℚ m new.generators (table new) < steps_left_to old) (sym s.frame.height)
-    (subst (λ (n : ℕ). steps_left field_ℚ (height old) n (table new) < steps_left_to old) (sym s.frame.generators)
-    (subst (λ (t : SimplexTable Rational). steps_left field_ℚ (height old) old.generators t < steps_left_to old) (sym s.table_is)
-    (steps_fall field_ℚ (height old) old.generators h.0 (table old) h.1 s.moves)))
+    subst (λ (m : ℕ). steps_left field_ℚ m new.generator_columns (table new) < steps_left_to old) (sym s.frame.height)
+    (subst (λ (n : ℕ). steps_left field_ℚ (height old) n (table new) < steps_left_to old) (sym s.frame.generator_columns)
+    (subst (λ (t : SimplexTable Rational). steps_left field_ℚ (height old) old.generator_columns t < steps_left_to old) (sym s.table_is)
+    (steps_fall field_ℚ (height old) old.generator_columns h.0 (table old) h.1 s.moves)))
 
 -- the run has come from one tableau to another, and the next step has this number
 pub record IsRunUnderWay (from now : TableauView) (number : ℕ) : Type 0 where
@@ -34,26 +34,23 @@ pub record IsRunUnderWay (from now : TableauView) (number : ℕ) : Type 0 where
   -- what the rest of the run does from here it does from the start, with some budget
   pub back : (left : ℕ) (e : RunEndView (SimplexTable Rational) (SimplexTable Rational)) → ReachesFrom now left made e → (budget : ℕ) × ReachesFrom from budget 0 e
 
-pub run_begins : (t : TableauView) → IsRunUnderWay t t 1
-run_begins t = record { made = 0; number_is = refl; back = λ left e r. (left, r) }
-
 module _ (from now : TableauView) (number : ℕ) (w : IsRunUnderWay from now number) where
   -- it ends so
   run_ends : (left : ℕ) (e : RunEndView (SimplexTable Rational) (SimplexTable Rational)) → ReachesFrom now left w.made e → IsWithinBudget e → EndsWithoutBudget from (clip_end e)
   run_ends left e r i = let b = w.back left e r in record { budget = b.0; end = e; runs = b.1; within = i; is_clipped = refl }
 
-  pub unbound_done : IsDone field_ℚ (height now) now.generators (table now) → EndsWithoutBudget from (Weights (table now))
-  unbound_done d = run_ends 0 (Weights (table now)) (run_done (height now) now.generators 0 w.made (table now) d) tt
+  pub unbound_done : IsDone field_ℚ (height now) now.generator_columns (table now) → EndsWithoutBudget from (Weights (table now))
+  unbound_done d = run_ends 0 (Weights (table now)) (run_done (height now) now.generator_columns 0 w.made (table now) d) tt
 
-  pub unbound_stuck : (s : SimplexTable Rational) → ¬ (IsDone field_ℚ (height now) now.generators (table now)) → IsStuck field_ℚ (height now) now.generators (table now) → s ≡ table now → EndsWithoutBudget from (Point s)
-  unbound_stuck s d u e = run_ends 0 (Point s) (run_stuck (height now) now.generators 0 w.made (table now) s d u e) tt
+  pub unbound_stuck : (s : SimplexTable Rational) → ¬ (IsDone field_ℚ (height now) now.generator_columns (table now)) → IsStuck field_ℚ (height now) now.generator_columns (table now) → s ≡ table now → EndsWithoutBudget from (Point s)
+  unbound_stuck s d u e = run_ends 0 (Point s) (run_stuck (height now) now.generator_columns 0 w.made (table now) s d u e) tt
 
-  pub unbound_wide : ¬ (IsDone field_ℚ (height now) now.generators (table now)) → IsWide (height now) now.generators (table now) → EndsWithoutBudget from (Width number)
+  pub unbound_wide : ¬ (IsDone field_ℚ (height now) now.generator_columns (table now)) → IsWide (height now) now.generator_columns (table now) → EndsWithoutBudget from (Width number)
   unbound_wide d u = subst (λ (k : ℕ). EndsWithoutBudget from (Width k)) (sym w.number_is)
-      (run_ends 1 (Width (suc w.made)) (run_wide (height now) now.generators 1 w.made (suc w.made) (table now) (omega arith) d u refl) tt)
+      (run_ends 1 (Width (suc w.made)) (run_wide (height now) now.generator_columns 1 w.made (suc w.made) (table now) (omega arith) d u refl) tt)
 
   -- a step further
-  pub step_is_made : (new : TableauView) (k : ℕ) → k ≡ clip_number (number + 1) → ¬ (IsDone field_ℚ (height now) now.generators (table now)) → IsStep now new → IsRunUnderWay from new k
+  pub step_is_made : (new : TableauView) (k : ℕ) → k ≡ clip_number (number + 1) → ¬ (IsDone field_ℚ (height now) now.generator_columns (table now)) → IsStep now new → IsRunUnderWay from new k
   step_is_made new k q d s = record {
     made = suc w.made;
     number_is = (let n : number ≡ min (suc w.made) 4294967295 = w.number_is in let x : k ≡ min (number + 1) 4294967295 = q in omega arith);

@@ -27,7 +27,7 @@ HasSigns t p = (k : ℕ) → k < height t → sign_number t k ≡ sign field_ℚ
 
 -- the tableau is the start of the problem
 pub record IsStartOf (p : FeasibilityProblem Rational) (t : TableauView) : Type 0 where
-  pub table_is : table t ≡ start field_ℚ (height t) t.generators p
+  pub table_is : table t ≡ start field_ℚ (height t) t.generator_columns p
   pub signs : HasSigns t p
 
 -- it is the start of some problem
@@ -36,4 +36,4 @@ HasProblem t = (p : FeasibilityProblem Rational) × IsStartOf p t
 
 -- the answer tells the end of the run from the tableau with a budget or without one, whichever problem it is the start of
 abbrev pub RunsFrom : TableauView → Option ℕ → RunAnswer → Type 0
-RunsFrom t budget answer = (p : FeasibilityProblem Rational) → IsStartOf p t → RunsTo (height t) t.generators p budget (table t) (end_of_answer answer)
+RunsFrom t budget answer = (p : FeasibilityProblem Rational) → IsStartOf p t → RunsTo (height t) t.generator_columns p budget (table t) (end_of_answer answer)

@@ -37,15 +37,15 @@ IsReady m n t = ¬ (IsStuck field_ℚ m n t) → leaving_row field_ℚ m n t (en
 
 -- a step was made
 pub record IsStep (old new : TableauView) : Type 0 where
-  pub moves : ¬ (IsStuck field_ℚ (height old) old.generators (table old))
-  pub fits : StepFits (height old) old.generators (table old)
+  pub moves : ¬ (IsStuck field_ℚ (height old) old.generator_columns (table old))
+  pub fits : StepFits (height old) old.generator_columns (table old)
   pub usable : new.spent ≡ false
   pub frame : KeepsFrame old new
-  pub table_is : table new ≡ next field_ℚ (height old) old.generators (table old)
+  pub table_is : table new ≡ next field_ℚ (height old) old.generator_columns (table old)
 
 -- no step was made since none is left to make, or one was
 abbrev pub IsStepOrStuck : TableauView → TableauView → Bool → Type 0
-IsStepOrStuck old new false = IsStuck field_ℚ (height old) old.generators (table old) × (new ≡ old)
+IsStepOrStuck old new false = IsStuck field_ℚ (height old) old.generator_columns (table old) × (new ≡ old)
 IsStepOrStuck old new true = IsStep old new
 
 -- a step is left to make, and a number of it doesn't fit
@@ -58,7 +58,7 @@ Reaches m n = EndsAs (IsDone field_ℚ m n) (IsStuck field_ℚ m n) (StepFits m 
 
 -- it from a tableau
 abbrev pub ReachesFrom : TableauView → ℕ → ℕ → RunEndView (SimplexTable Rational) (SimplexTable Rational) → Type 0
-ReachesFrom t left k = Reaches (height t) t.generators left k (table t)
+ReachesFrom t left k = Reaches (height t) t.generator_columns left k (table t)
 
 -- the same with a budget or without one
 abbrev pub ReachesBy : ℕ → ℕ → Option ℕ → SimplexTable Rational → RunEndView (SimplexTable Rational) (SimplexTable Rational) → Type 0
@@ -73,7 +73,7 @@ run_end_view (run_ends.Width k) t = Width k
 
 -- the table has the invariants, for some problem
 abbrev pub HasInvariantsForSome : TableauView → Type 0
-HasInvariantsForSome t = (p : FeasibilityProblem Rational) × HasInvariants field_ℚ (height t) t.generators p (table t)
+HasInvariantsForSome t = (p : FeasibilityProblem Rational) × HasInvariants field_ℚ (height t) t.generator_columns p (table t)
 
 -- it can be read, and has the frame of an earlier one
 pub record IsTableauKept (old new : TableauView) : Type 0 where

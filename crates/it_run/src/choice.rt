@@ -15,11 +15,11 @@ use std::cmp::Ordering;
 #[tactic(auto, using(crate::proofs::SearchLemmas::first_is, crate::proofs::SearchLemmas::first_none))]
 pub fn entering_column(tableau: &Tableau) -> Option<usize>
     requires { tableau.now.spent ≡ false }
-    ensures within { IfSome result (λ c. c < tableau.now.generators) }
-    ensures some { IfSome result (λ c. entering_of field_ℚ (height tableau.now) tableau.now.generators (table tableau.now) ≡ c) }
-    ensures none { IfNone result (entering_of field_ℚ (height tableau.now) tableau.now.generators (table tableau.now) ≡ tableau.now.generators) }
+    ensures within { IfSome result (λ c. c < tableau.now.generator_columns) }
+    ensures some { IfSome result (λ c. entering_of field_ℚ (height tableau.now) tableau.now.generator_columns (table tableau.now) ≡ c) }
+    ensures none { IfNone result (entering_of field_ℚ (height tableau.now) tableau.now.generator_columns (table tableau.now) ≡ tableau.now.generator_columns) }
 {
-    for j in 0..tableau.generators() {
+    for j in 0..tableau.generator_columns() {
         if tableau.cost(j).is_negative() {
             return Some(j);
         }
@@ -71,10 +71,10 @@ fn best_after(
 /// The row with the least ratio of those with an entry above 0, of several the one with the least basic column.
 pub fn leaving_row(tableau: &Tableau, column: usize) -> Result<Option<usize>, WideNumber>
     requires usable { tableau.now.spent ≡ false }
-    requires column { column < tableau.now.generators }
-    ensures ok { OnOk result (RatiosFit (height tableau.now) tableau.now.generators (table tableau.now) column) }
-    ensures value { IfOk result (λ row. IsLeaving (height tableau.now) tableau.now.generators (table tableau.now) column row) }
-    ensures err { OnErr result (¬ (RatiosFit (height tableau.now) tableau.now.generators (table tableau.now) column)) }
+    requires column { column < tableau.now.generator_columns }
+    ensures ok { OnOk result (RatiosFit (height tableau.now) tableau.now.generator_columns (table tableau.now) column) }
+    ensures value { IfOk result (λ row. IsLeaving (height tableau.now) tableau.now.generator_columns (table tableau.now) column row) }
+    ensures err { OnErr result (¬ (RatiosFit (height tableau.now) tableau.now.generator_columns (table tableau.now) column)) }
 {
     let mut best: Option<(usize, Fraction)> = None;
     for i in 0..tableau.rows() {

@@ -17,8 +17,8 @@ use std::alloc::{AllocError, Global};
 fn weight_of(tableau: &Tableau, j: usize) -> Option<Fraction>
     requires usable { tableau.now.spent ≡ false }
     requires holds { HasInvariantsForSome tableau.now }
-    ensures some { IfSome result (λ w. w ≡ weight field_ℚ (height tableau.now) tableau.now.generators (table tableau.now) j) }
-    ensures none { IfNone result (weight field_ℚ (height tableau.now) tableau.now.generators (table tableau.now) j ≡ integer (pos 0)) }
+    ensures some { IfSome result (λ w. w ≡ weight field_ℚ (height tableau.now) tableau.now.generator_columns (table tableau.now) j) }
+    ensures none { IfNone result (weight field_ℚ (height tableau.now) tableau.now.generator_columns (table tableau.now) j ≡ integer (pos 0)) }
 {
     for i in 0..tableau.rows() {
         if tableau.basic_column(i) == j {
@@ -32,10 +32,10 @@ fn weight_of(tableau: &Tableau, j: usize) -> Option<Fraction>
 pub fn weights(alloc: Global, tableau: &Tableau) -> Result<Vec<(usize, Fraction)>, AllocError>
     requires usable { tableau.now.spent ≡ false }
     requires holds { HasInvariantsForSome tableau.now }
-    ensures { IfOk result (λ out. out.items ≡ weights_of field_ℚ (height tableau.now) tableau.now.generators (table tableau.now)) }
+    ensures { IfOk result (λ out. out.items ≡ weights_of field_ℚ (height tableau.now) tableau.now.generator_columns (table tableau.now)) }
 {
     let mut out = Vec::new(alloc);
-    for j in 0..tableau.generators() {
+    for j in 0..tableau.generator_columns() {
         if let Some(weight) = weight_of(tableau, j) {
             if !weight.is_zero() {
                 out.push((j, weight))?;
@@ -49,7 +49,7 @@ pub fn weights(alloc: Global, tableau: &Tableau) -> Result<Vec<(usize, Fraction)
 fn value_at(tableau: &Tableau, k: usize) -> Fraction
     requires usable { tableau.now.spent ≡ false }
     requires row { k < height tableau.now }
-    ensures { result ≡ times (sign_number tableau.now k) ((table tableau.now).entry (height tableau.now) (tableau.now.generators + k)) }
+    ensures { result ≡ times (sign_number tableau.now k) ((table tableau.now).entry (height tableau.now) (tableau.now.generator_columns + k)) }
 {
     let artificials = tableau.columns() - tableau.rows();
     let cost = tableau.cost(artificials + k);
@@ -63,7 +63,7 @@ fn value_at(tableau: &Tableau, k: usize) -> Fraction
 /// The point, by rows.
 pub fn point(alloc: Global, tableau: &Tableau) -> Result<Vec<Fraction>, AllocError>
     requires usable { tableau.now.spent ≡ false }
-    ensures { IfOk result (λ out. (p : FeasibilityProblem Rational) → HasSigns tableau.now p → out.items ≡ point_of field_ℚ (height tableau.now) tableau.now.generators p (table tableau.now)) }
+    ensures { IfOk result (λ out. (p : FeasibilityProblem Rational) → HasSigns tableau.now p → out.items ≡ point_of field_ℚ (height tableau.now) tableau.now.generator_columns p (table tableau.now)) }
 {
     let mut out = Vec::with_capacity(alloc, tableau.rows())?;
     for k in 0..tableau.rows() {

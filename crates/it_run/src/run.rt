@@ -24,9 +24,9 @@ pub enum RunEnd {
 /// Makes one step, if there is one to make.
 fn step(tableau: &mut Tableau) -> Result<bool, RowFault>
     requires usable { tableau.old.spent ≡ false }
-    requires ready { IsReady (height tableau.old) tableau.old.generators (table tableau.old) }
+    requires ready { IsReady (height tableau.old) tableau.old.generator_columns (table tableau.old) }
     ensures value { IfOk result (λ moved. IsStepOrStuck tableau.old tableau.new moved) }
-    ensures wide { IfErr result (λ fault. fault ≡ RowFault.Wide → IsWide (height tableau.old) tableau.old.generators (table tableau.old)) }
+    ensures wide { IfErr result (λ fault. fault ≡ RowFault.Wide → IsWide (height tableau.old) tableau.old.generator_columns (table tableau.old)) }
 {
     let Some(column) = entering_column(tableau) else {
         return Ok(false);
@@ -44,8 +44,8 @@ fn step(tableau: &mut Tableau) -> Result<bool, RowFault>
 /// Whether the target is reached: the cost row's right side is 0.
 fn is_done(tableau: &Tableau) -> bool
     requires { tableau.now.spent ≡ false }
-    ensures yes { OnTrue result (IsDone field_ℚ (height tableau.now) tableau.now.generators (table tableau.now)) }
-    ensures no { OnFalse result (¬ (IsDone field_ℚ (height tableau.now) tableau.now.generators (table tableau.now))) }
+    ensures yes { OnTrue result (IsDone field_ℚ (height tableau.now) tableau.now.generator_columns (table tableau.now)) }
+    ensures no { OnFalse result (¬ (IsDone field_ℚ (height tableau.now) tableau.now.generator_columns (table tableau.now))) }
 {
     tableau.cost_rhs().is_zero()
 }
@@ -54,7 +54,7 @@ fn is_done(tableau: &Tableau) -> bool
 fn run_within(tableau: &mut Tableau, budget: u32) -> Result<RunEnd, AllocError>
     requires usable { tableau.old.spent ≡ false }
     requires holds { HasInvariantsForSome tableau.old }
-    ensures end { IfOk result (λ ending. Reaches (height tableau.old) tableau.old.generators budget 0 (table tableau.old) (run_end_view ending (table tableau.new))) }
+    ensures end { IfOk result (λ ending. Reaches (height tableau.old) tableau.old.generator_columns budget 0 (table tableau.old) (run_end_view ending (table tableau.new))) }
     ensures kept { IfOk result (λ ending. LeavesTableau ending tableau.old tableau.new) }
 {
     for k in 0..budget {
@@ -92,7 +92,7 @@ fn next_number(number: u32) -> u32
 fn run_on(tableau: &mut Tableau) -> Result<RunEnd, AllocError>
     requires usable { tableau.old.spent ≡ false }
     requires holds { HasInvariantsForSome tableau.old }
-    ensures end { IfOk result (λ ending. ReachesBy (height tableau.old) tableau.old.generators None (table tableau.old) (run_end_view ending (table tableau.new))) }
+    ensures end { IfOk result (λ ending. ReachesBy (height tableau.old) tableau.old.generator_columns None (table tableau.old) (run_end_view ending (table tableau.new))) }
     ensures kept { IfOk result (λ ending. LeavesTableau ending tableau.old tableau.new) }
 {
     let mut number: u32 = 1;
@@ -114,7 +114,7 @@ fn run_on(tableau: &mut Tableau) -> Result<RunEnd, AllocError>
 pub fn run(tableau: &mut Tableau, budget: Option<u32>) -> Result<RunEnd, AllocError>
     requires usable { tableau.old.spent ≡ false }
     requires holds { HasInvariantsForSome tableau.old }
-    ensures end { IfOk result (λ ending. ReachesBy (height tableau.old) tableau.old.generators budget (table tableau.old) (run_end_view ending (table tableau.new))) }
+    ensures end { IfOk result (λ ending. ReachesBy (height tableau.old) tableau.old.generator_columns budget (table tableau.old) (run_end_view ending (table tableau.new))) }
     ensures kept { IfOk result (λ ending. LeavesTableau ending tableau.old tableau.new) }
 {
     match budget {

@@ -23,9 +23,9 @@ modes_are_read = record {
   help_word = refl;
   short_help = refl;
   version = refl;
-  behind_hyphens = refl;
-  hyphens_behind = refl;
-  options_behind_hyphens = refl;
+  after_hyphens = refl;
+  hyphens_after = refl;
+  options_after_hyphens = refl;
   only_option = refl;
 }
 

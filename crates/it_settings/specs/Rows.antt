@@ -5,9 +5,11 @@ use Rattle.it_settings.specs.declared.types.Settings.{Settings}
 use Rattle.it_settings.specs.declared.types.Settings.TheVariants as settings
 use Rattle.it_settings.specs.Settings.{settings_of}
 
+-- the words of the command give these settings
 abbrev pub AreReadAs : List (List ℕ) → Settings → Type 0
 AreReadAs words s = settings_of words ≡ Some s
 
+-- the words of the command give no settings
 abbrev pub HaveNoReading : List (List ℕ) → Type 0
 HaveNoReading words = settings_of words ≡ None
 
@@ -28,9 +30,9 @@ pub record ModesAreRead : Type 0 where
   pub help_word : HaveNoReading (codes "help" ∷ [])
   pub short_help : HaveNoReading (codes "-h" ∷ [])
   pub version : HaveNoReading (codes "--version" ∷ [])
-  pub behind_hyphens : AreReadAs (codes "--" ∷ codes "check" ∷ []) settings.Check
-  pub hyphens_behind : AreReadAs (codes "check" ∷ codes "--" ∷ []) settings.Check
-  pub options_behind_hyphens : HaveNoReading (codes "answer" ∷ codes "--" ∷ codes "--pivots" ∷ codes "5" ∷ [])
+  pub after_hyphens : AreReadAs (codes "--" ∷ codes "check" ∷ []) settings.Check
+  pub hyphens_after : AreReadAs (codes "check" ∷ codes "--" ∷ []) settings.Check
+  pub options_after_hyphens : HaveNoReading (codes "answer" ∷ codes "--" ∷ codes "--pivots" ∷ codes "5" ∷ [])
   pub only_option : HaveNoReading (codes "--pivots" ∷ codes "5" ∷ [])
 
 -- how an option is written

@@ -68,6 +68,7 @@ pub record ValuesView : Type 0 where
   pub seed : Option Text
   pub count : Option Text
 
+-- whether no text was given
 abbrev pub is_none : Option Text → Bool
 is_none o = not (is_some o)
 
@@ -104,6 +105,7 @@ settings_in v mode =
     if bytes_eq mode (codes "check") then check_of v else
     if bytes_eq mode (codes "bench") then bench_of v else None
 
+-- the settings by the texts that were given; without a mode there are none
 unfoldable pub settings_by : ValuesView → Option Settings
 settings_by v = option_and_then (settings_in v) v.mode
 

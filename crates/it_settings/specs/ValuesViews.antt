@@ -3,6 +3,7 @@ use Rattle.std.specs.Prelude.{option_map}
 use Rattle.it_settings.specs.declared.reading.Values.{Values}
 use Rattle.it_settings.specs.Settings.{ValuesView}
 
+-- the texts that were given for the mode and for each option, as contracts see them
 abbrev pub values_view : Values → ValuesView
 values_view v = record {
   mode = option_map (λ s. s.now) v.mode;

@@ -1,3 +1,5 @@
+//! Tests: command lines with what they are read as.
+
 use crate::settings;
 use crate::types::{Format, Settings, WordsFault};
 use std::test::Fail;

@@ -21,8 +21,8 @@ use Rattle.it_simplex.specs.Answers.{IsRightRunAnswer, Solves}
 
 module _ (cs : List ℕ) (columns : List Terms) (target : Terms) (t : TableauView) (s : IsStart cs columns target t) where
   -- what is said of the start's sizes and table, and of the tableau's
-  by_start : (P : ℕ → ℕ → SimplexTable Rational → Type 0) → P (height t) t.generators (table t) → P (length cs) (length columns) (start_of cs columns target)
-  by_start P x = subst (P (length cs) (length columns)) s.table_is (subst (λ (n : ℕ). P (length cs) n (table t)) s.generators_are (subst (λ (m : ℕ). P m t.generators (table t)) s.height_is x))
+  by_start : (P : ℕ → ℕ → SimplexTable Rational → Type 0) → P (height t) t.generator_columns (table t) → P (length cs) (length columns) (start_of cs columns target)
+  by_start P x = subst (P (length cs) (length columns)) s.table_is (subst (λ (n : ℕ). P (length cs) n (table t)) s.generator_columns_are (subst (λ (m : ℕ). P m t.generator_columns (table t)) s.height_is x))
 
   cond_of_not : (b : Bool) (x y : Rational) → cond (not b) x y ≡ cond b y x
   cond_of_not true x y = refl
@@ -35,7 +35,7 @@ module _ (cs : List ℕ) (columns : List Terms) (target : Terms) (t : TableauVie
   -- the tableau is the start of the question's problem
   pub start_is_of_problem : IsStartOf (feasibility_problem cs columns target) t
   start_is_of_problem = record {
-    table_is = s.table_is ∙ ap₂ (λ m n. start field_ℚ m n (feasibility_problem cs columns target)) (sym s.height_is) (sym s.generators_are);
+    table_is = s.table_is ∙ ap₂ (λ m n. start field_ℚ m n (feasibility_problem cs columns target)) (sym s.height_is) (sym s.generator_columns_are);
     signs = start_signs;
   }
 

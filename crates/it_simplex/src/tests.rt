@@ -1,3 +1,5 @@
+//! Tests: runs on small systems end as exact arithmetic outside has it.
+
 ghost use Rattle.std.specs.Prelude.{◌≡◌, ◌≢◌, ◌+◌, ◌++◌, ◌∷◌, [], pos, OnOk};
 ghost use Rattle.std.specs.Bool.{OnTrue};
 ghost use Rattle.it_number.specs.Limit.{IsWithin};

@@ -16,7 +16,7 @@ abbrev pub presence : ℕ → Terms → ℕ
 presence c [] = 0
 presence c (t ∷ ts) = cond (nat_eq t.0 c) 1 0
 
--- the terms behind a coordinate that none is before
+-- the terms after a coordinate that none is before
 pub record AreLater (c : ℕ) (old new : Terms) : Type 0 where
   pub ascends : Ascends (c + 1) new
   pub same : (d : ℕ) → d ≢ c → coefficient new d ≡ coefficient old d
@@ -28,7 +28,7 @@ pub record IsFirstCoordinate (left right : Terms) (c : ℕ) : Type 0 where
   pub right_from : Ascends c right
   pub some : 1 ≤ presence c left + presence c right
 
--- the term at a coordinate was put behind the others, unless the coordinate is left out
+-- the term at a coordinate was put after the others, unless the coordinate is left out
 pub record IsTermPut (at c a : ℕ) (left : Terms) (b : ℕ) (right : Terms) (old new : Terms) : Type 0 where
   pub fits : c ≢ at → MixFits (pos a) (coefficient left c) (pos b) (coefficient right c)
   pub is : new ≡ old ++ cond (nat_eq c at) [] (single_term c (mix a left b right c))

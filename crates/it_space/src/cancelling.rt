@@ -12,7 +12,7 @@ use it_fraction::{WideNumber, gcd, signed_product, sum};
 use std::alloc::Global;
 
 /// The row without a coordinate that two rows give: one that is positive there and one that is negative there, each so many
-/// times that their sum has no term there. It is wide where at another coordinate a product or the sum is.
+/// times that their sum has no term there. `Wide` where at another coordinate a product or the sum passes the limit.
 pub fn cancel(alloc: Global, up: &Row, down: &Row, at: u32) -> Result<Row, RowFault>
     requires up { pos 0 <ℤ coefficient up.now at }
     requires down { coefficient down.now at <ℤ pos 0 }
@@ -98,7 +98,7 @@ fn front_coefficient(terms: &[(u32, i128)], coordinate: u32) -> i128
     }
 }
 
-/// The terms behind a coordinate that none is before.
+/// The terms after a coordinate that none is before.
 fn rest_after(terms: &[(u32, i128)], coordinate: u32) -> &[(u32, i128)]
     requires { Ascends coordinate terms.now }
     ensures { AreLater coordinate terms.now result.now }
@@ -109,7 +109,7 @@ fn rest_after(terms: &[(u32, i128)], coordinate: u32) -> &[(u32, i128)]
     }
 }
 
-/// Puts the term of the sum at a coordinate behind the others, unless it is the coordinate that is left out.
+/// Puts the term of the sum at a coordinate after the others, unless it is the coordinate that is left out.
 fn put_term(
     terms: &mut Vec<(u32, i128)>,
     coordinate: u32,
@@ -133,7 +133,7 @@ fn put_term(
     put_nonzero(terms, coordinate, total)
 }
 
-/// Puts a term behind the others, unless its coefficient is 0.
+/// Puts a term after the others, unless its coefficient is 0.
 fn put_nonzero(
     terms: &mut Vec<(u32, i128)>,
     coordinate: u32,
@@ -145,6 +145,7 @@ fn put_nonzero(
     if coefficient == 0 {
         return Ok(());
     }
+    // a match, since `?` makes no `RowFault` of the error of `push`
     match terms.push((coordinate, coefficient)) {
         Ok(()) => Ok(()),
         Err(_) => Err(RowFault::Memory),

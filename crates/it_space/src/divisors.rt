@@ -54,7 +54,7 @@ fn with_coefficient(common: u128, coefficient: i128) -> u128
     gcd(common as i128, coefficient).unsigned_abs()
 }
 
-/// Divides each coefficient by a number that divides it, or rounds towards 0.
+/// Divides each coefficient by a number, rounded towards 0.
 fn divide(terms: &mut [(u32, i128)], by: u128)
     requires within { IsCanonical terms.old }
     requires positive { 0 < by }

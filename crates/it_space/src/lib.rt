@@ -1,4 +1,5 @@
-//! Sets of variables, and the coordinates, rows and points of a space of entropies and rates.
+//! Sets of variables; spaces of entropies and rates with their coordinates, rows and points; and the problems and answers
+//! made of these.
 #![tactic(auto)]
 
 mod answers;

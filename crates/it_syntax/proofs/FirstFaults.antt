@@ -4,7 +4,7 @@ use Rattle.std.proofs.lemmas.List.{append_cancel_right}
 use Rattle.it_syntax.specs.declared.types.Code.{Code}
 use Rattle.it_syntax.specs.Letters.{Letter, MarkedLetters, without_mark, letters, without_marks}
 use Rattle.it_syntax.specs.FirstFault.{head, own_code, MarkedAt, FirstFault}
-use Rattle.it_syntax.specs.AtomReading.{Fault, Reads}
+use Rattle.it_syntax.specs.MeasureReading.{Fault, Reads}
 use Rattle.it_syntax.proofs.Traces.{Why, Went, Stuck, By, Traces, cleaned_append}
 use Rattle.it_syntax.proofs.SpelledIsRead.{Answers, Marks}
 
@@ -16,9 +16,9 @@ pub letters_cleaned : (p : List Letter) → letters (without_marks p) ≡ p
 letters_cleaned [] = refl
 letters_cleaned (l ∷ p) = ap (λ (t : List Letter). l ∷ t) (letters_cleaned p)
 
--- the letters of a spelling behind letters that nothing is said against
-pub letters_behind : (p : List Letter) (m : MarkedLetters) → letters (without_marks p ++ m) ≡ p ++ letters m
-letters_behind p m = letters_append (without_marks p) m ∙ ap (λ (t : List Letter). t ++ letters m) (letters_cleaned p)
+-- the letters of a spelling after letters that nothing is said against
+pub letters_after : (p : List Letter) (m : MarkedLetters) → letters (without_marks p ++ m) ≡ p ++ letters m
+letters_after p m = letters_append (without_marks p) m ∙ ap (λ (t : List Letter). t ++ letters m) (letters_cleaned p)
 
 abbrev err_of : {A : Type 0} → Fault → Reads A
 err_of f = Err f
@@ -26,11 +26,11 @@ err_of f = Err f
 err_is : {A : Type 0} (f g : Fault) → err_of {A = A} f ≡ err_of {A = A} g → f ≡ g
 err_is f g e = cc
 
--- a mark at which q is left stands behind front
+-- a mark at which q is left stands after `front`
 mark_place : (m : MarkedLetters) (f : Fault) (front q : List Letter) (c : Code) → Marks m f → f ≡ (c, q) → letters m ≡ front ++ q → MarkedAt m front c
 mark_place m f front q c k e h =
     let q-is : q ≡ k.letter ∷ letters k.rest = sym (ap (λ (t : Fault). t.1) e) ∙ k.left in
-    let same : k.front ++ q ≡ front ++ q = ap (λ (t : List Letter). k.front ++ t) q-is ∙ sym (letters_behind k.front ((k.letter, Some f.0) ∷ k.rest)) ∙ sym (ap letters k.is) ∙ h in
+    let same : k.front ++ q ≡ front ++ q = ap (λ (t : List Letter). k.front ++ t) q-is ∙ sym (letters_after k.front ((k.letter, Some f.0) ∷ k.rest)) ∙ sym (ap letters k.is) ∙ h in
     let front-is : k.front ≡ front = append_cancel_right k.front front q same in
     (k.letter, k.rest, k.is ∙ ap (λ (t : List Letter). without_marks t ++ ((k.letter, Some f.0) ∷ k.rest)) front-is ∙ ap (λ (t : Fault). without_marks front ++ ((k.letter, Some t.0) ∷ k.rest)) e)
 
@@ -49,7 +49,7 @@ by_at f spell res ls t e b = subst (λ (u : Reads _). By f spell res ls u) e b
 why_code : {X : Type 0} (spell : X → MarkedLetters) (x : X) (q : MarkedLetters) (c : Code) (front r : List Letter) → spell x ≡ without_marks front ++ q → Why q c r
     → (own_code r ≡ c) ⊎ ((x : X) × (q : List Letter) × ((head q ≡ head r) × (letters (spell x) ≡ front ++ q)))
 why_code spell x q c front r h (inl o) = inl o
-why_code spell x q c front r h (inr w) = inr (x, letters q, (ap head (ap letters w.2.0) ∙ sym w.2.1, ap letters h ∙ letters_behind front q))
+why_code spell x q c front r h (inr w) = inr (x, letters q, (ap head (ap letters w.2.0) ∙ sym w.2.1, ap letters h ∙ letters_after front q))
 
 -- where the reading stops is the first fault
 pub first_fault : {A X : Type 0} (f : List Letter → Reads A) (spell : X → MarkedLetters → MarkedLetters) (res : X → A) → Traces f spell res → ((x : X) → Answers (f (letters (spell x []))) (spell x []) (res x) [])
@@ -100,7 +100,7 @@ clean_not_marked (x ∷ front) d l more c k = clean_not_marked front d l more c 
 no_earlier_fault : {X : Type 0} (spell : X → MarkedLetters) (ls : List Letter) (c e : Code) (r s : List Letter) (f : FirstFault spell ls c r) (g : FirstFault spell ls e s) (l : Letter) (d : List Letter) → g.front ≡ f.front ++ (l ∷ d) → r ≡ l ∷ (d ++ s) → ⊥
 no_earlier_fault spell ls c e r s f g l d front-is r-is =
     let spelled : spell g.tree ≡ without_marks (f.front ++ (l ∷ d)) ++ g.more = g.viable ∙ ap (λ (t : List Letter). without_marks t ++ g.more) front-is in
-    let here : letters (spell g.tree) ≡ f.front ++ (l ∷ (d ++ letters g.more)) = ap letters spelled ∙ letters_behind (f.front ++ (l ∷ d)) g.more ∙ append_assoc f.front (l ∷ d) (letters g.more) in
+    let here : letters (spell g.tree) ≡ f.front ++ (l ∷ (d ++ letters g.more)) = ap letters spelled ∙ letters_after (f.front ++ (l ∷ d)) g.more ∙ append_assoc f.front (l ∷ d) (letters g.more) in
     let k = f.each g.tree (l ∷ (d ++ letters g.more)) (sym (ap head r-is)) here in
     clean_not_marked f.front d l g.more c (k.0, k.1, sym spelled ∙ k.2)
 

@@ -6,14 +6,14 @@ use Rattle.it_syntax.specs.declared.rest.Divider.TheVariants.{Arrows, Semicolons
 use Rattle.it_syntax.specs.declared.types.Symbol.TheVariants.{Arrow, Semicolon, Bar}
 use Rattle.it_syntax.specs.declared.types.Code.TheVariants as codes
 use Rattle.it_syntax.specs.Letters.{Letter, Word, Sym, MarkedLetters, without_mark, letters}
-use Rattle.it_syntax.specs.WrittenAtoms.{Environment, WrittenList, is_measure, unknown_mark, name_mark, spell_more, spell_list, list_set, mark_surplus}
+use Rattle.it_syntax.specs.WrittenMeasures.{Environment, WrittenList, is_measure, unknown_mark, name_mark, spell_more, spell_list, list_set, mark_surplus}
 use Rattle.it_syntax.specs.WrittenRelations.{Scope, spell_relation, relation_of}
 use Rattle.it_syntax.specs.WrittenGivens.{markov_text, indep_text, func_text, of_text, PlainRelation, WrittenChain, WrittenIndependence, WrittenFunction, WrittenGiven, Relation, Markov, Independent, Function, divider_letter, spell_members, spell_chain, spell_bar, spell_independence, spell_function, spell_given, sets_of, bar_set, chain_of, independence_of, function_of, given_of}
 use Rattle.it_syntax.specs.Givens.{GivenView}
 use Rattle.it_syntax.specs.Givens as given_views
-use Rattle.it_syntax.specs.AtomReading.{Reads, ◌>>=◌, semicolon, read_list}
+use Rattle.it_syntax.specs.MeasureReading.{Reads, ◌>>=◌, semicolon, read_list}
 use Rattle.it_syntax.specs.RelationReading.{read_relation}
-use Rattle.it_syntax.specs.GivenReading.{arrow, read_of, behind_divider, surplus_name, read_surplus_member, if_divided, member_then, read_members, with_sets, read_chain, read_bar, read_independence, read_function, read_plain, read_given}
+use Rattle.it_syntax.specs.GivenReading.{arrow, read_of, after_divider, surplus_name, read_surplus_member, if_divided, member_then, read_members, with_sets, read_chain, read_bar, read_independence, read_function, read_plain, read_given}
 use Rattle.it_syntax.proofs.SpelledIsRead.{Answers, answers_ok, answers_cons, answers_bind, NoComma, NoWord, NoSign, list_answers, list_then}
 use Rattle.it_syntax.proofs.RelationAnswers.{relation_answers, letters_over}
 use Rattle.it_syntax.proofs.GivenTraces.{opens_form, opens_form_first, given_by_word}
@@ -22,7 +22,7 @@ use Rattle.it_syntax.proofs.GivenTraces.{opens_form, opens_form_first, given_by_
 
 -- no divider stands there
 abbrev NoDivider : Divider → MarkedLetters → Type 0
-NoDivider d k = behind_divider d (letters k) ≡ None
+NoDivider d k = after_divider d (letters k) ≡ None
 
 surplus_name_answers : (w : List ℕ) (h : Bool) (o : Option ℕ) (m k : MarkedLetters) (y : List ℕ) → Answers (surplus_name w h o (letters m)) (mark_surplus ((Word w, cond h (Some codes.Word) (unknown_mark o)) ∷ m)) y k
 surplus_name_answers w true o m k y = inr ((codes.Word, Word w ∷ letters m), (refl, record { front = []; letter = Word w; rest = m; is = refl; left = refl }))
@@ -36,9 +36,9 @@ list_over env x m k y =
     let w = x.first in
     subst (λ (ls : List Letter). Answers (read_surplus_member env ls) (mark_surplus (spell_list env x m)) y k) (sym (letters_over (Word w) (name_mark env w) rest)) (surplus_name_answers w (is_measure w) (env w) rest k y)
 
-behind_is : (d : Divider) (ls : List Letter) → behind_divider d (divider_letter d ∷ ls) ≡ Some ls
-behind_is Arrows ls = refl
-behind_is Semicolons ls = refl
+after_is : (d : Divider) (ls : List Letter) → after_divider d (divider_letter d ∷ ls) ≡ Some ls
+after_is Arrows ls = refl
+after_is Semicolons ls = refl
 
 no_comma : (n : ℕ) (d : Divider) (env : Environment) (xs : List WrittenList) (k : MarkedLetters) → NoComma k → NoComma (spell_members n d env xs k)
 no_comma n d env [] k free = free
@@ -58,13 +58,13 @@ members_answers n d env [] k none free = no_members n d env k none
 members_answers zero d env (x ∷ xs) k none free =
     let m = mark_surplus (spell_list env x (spell_members zero d env xs k)) in
     let y = sets_of env (x ∷ xs) in
-    subst (λ (o : Option (List Letter)). Answers (if_divided (read_surplus_member env) o (divider_letter d ∷ letters m)) (without_mark (divider_letter d) ∷ m) y k) (sym (behind_is d (letters m)))
+    subst (λ (o : Option (List Letter)). Answers (if_divided (read_surplus_member env) o (divider_letter d ∷ letters m)) (without_mark (divider_letter d) ∷ m) y k) (sym (after_is d (letters m)))
     (answers_cons (divider_letter d) _ m y k (list_over env x (spell_members zero d env xs k) k y))
 members_answers (suc n) d env (x ∷ xs) k none free =
     let rest = spell_members n d env xs k in
     let m = spell_list env x rest in
     let y = sets_of env (x ∷ xs) in
-    subst (λ (o : Option (List Letter)). Answers (if_divided (member_then (read_members n d env) env) o (divider_letter d ∷ letters m)) (without_mark (divider_letter d) ∷ m) y k) (sym (behind_is d (letters m)))
+    subst (λ (o : Option (List Letter)). Answers (if_divided (member_then (read_members n d env) env) o (divider_letter d ∷ letters m)) (without_mark (divider_letter d) ∷ m) y k) (sym (after_is d (letters m)))
     (answers_cons (divider_letter d) _ m y k
     (list_then env x (λ a ls. read_members n d env ls >>= λ more. Ok (a ∷ more.0, more.1)) rest k y (no_comma n d env xs k free)
     (answers_bind (read_members n d env (letters rest)) (λ more. Ok (list_set env x ∷ more.0, more.1)) rest k k (sets_of env xs) y (members_answers n d env xs k none free) (answers_ok y k))))
@@ -138,7 +138,7 @@ function_answers env x k free =
     let argument = spell_list env x.argument k in
     let z = list_set env x.value in
     let y = function_of env x in
-    list_then env x.value (λ z ls. read_of ls >>= λ behind. read_list env behind >>= λ x. Ok (given_views.Function z x.0, x.1)) (without_mark (Word of_text) ∷ argument) k y tt
+    list_then env x.value (λ z ls. read_of ls >>= λ after. read_list env after >>= λ x. Ok (given_views.Function z x.0, x.1)) (without_mark (Word of_text) ∷ argument) k y tt
     (answers_cons (Word of_text) _ argument y k
     (list_then env x.argument (λ x ls. Ok (given_views.Function z x, ls)) k k y free (answers_ok y k)))
 

@@ -7,15 +7,15 @@ use Rattle.it_syntax.specs.declared.rest.Divider.TheVariants.{Arrows, Semicolons
 use Rattle.it_syntax.specs.declared.types.Symbol.TheVariants.{Bar}
 use Rattle.it_syntax.specs.Letters.{Letter, Word, Sym, Bad}
 use Rattle.it_syntax.specs.NamesViews.{NamesView}
-use Rattle.it_syntax.specs.WrittenAtoms.{Environment, is_measure}
+use Rattle.it_syntax.specs.WrittenMeasures.{Environment, is_measure}
 use Rattle.it_syntax.specs.WrittenRelations.{Scope}
 use Rattle.it_syntax.specs.Scopes.{scope_of}
 use Rattle.it_syntax.specs.RelationReading.{read_relation}
 use Rattle.it_syntax.specs.WrittenGivens.{markov_text, indep_text, func_text}
-use Rattle.it_syntax.specs.GivenReading.{arrow, read_of, behind_divider, surplus_name, read_surplus_member, if_divided, member_then, read_members, with_sets, read_chain, read_bar, read_independence, read_function, read_plain, read_given}
+use Rattle.it_syntax.specs.GivenReading.{arrow, read_of, after_divider, surplus_name, read_surplus_member, if_divided, member_then, read_members, with_sets, read_chain, read_bar, read_independence, read_function, read_plain, read_given}
 use Rattle.it_syntax.specs.Givens.{GivenView, Relation, Markov, Independent, Function, AreSetsOf, IsGivenOf}
 use Rattle.it_syntax.specs.Lines.{to_end}
-use Rattle.it_syntax.specs.AtomReading.{Reads, ◌>>=◌, read_list, semicolon, line_end}
+use Rattle.it_syntax.specs.MeasureReading.{Reads, ◌>>=◌, read_list, semicolon, line_end}
 use Rattle.it_syntax.proofs.LimitLemmas.{Sure, sure_bind, Any, sure_any, Knows, IsBelow, some_sets, list_sure}
 use Rattle.it_syntax.proofs.RelationLimits.{Covers, variables_covered, IsWithinLimits, relation_line_sure}
 
@@ -36,7 +36,7 @@ surplus_member_sure P env (Bad c ∷ ls) = tt
 surplus_member_sure P env (l ∷ ls) = tt
 
 divided_sure : (n most : ℕ) (f : List Letter → Reads (List ℕ)) → ((ls : List Letter) → Sure (AreFew n most) (f ls)) → (o : Option (List Letter)) (ls : List Letter) → Sure (AreFew n most) (if_divided f o ls)
-divided_sure n most f h (Some behind) ls = h behind
+divided_sure n most f h (Some after) ls = h after
 divided_sure n most f h None ls = (omega arith, All-nil (λ (s : ℕ). s < 2 ^ n))
 
 member_sure : (env : Environment) (n most : ℕ) → Knows env n → (f : List Letter → Reads (List ℕ)) → ((ls : List Letter) → Sure (AreFew n most) (f ls)) → (ls : List Letter) → Sure (AreFew n (suc most)) (member_then f env ls)
@@ -45,8 +45,8 @@ member_sure env n most k f h ls = sure_bind (IsBelow (2 ^ n)) (AreFew n (suc mos
 
 members_sure : (env : Environment) (n most : ℕ) → Knows env n → (d : Divider) (ls : List Letter) → Sure (AreFew n most) (read_members most d env ls)
 unfolding read_members
-members_sure env n zero k d ls = divided_sure n zero (read_surplus_member env) (surplus_member_sure (AreFew n zero) env) (behind_divider d ls) ls
-members_sure env n (suc most) k d ls = divided_sure n (suc most) (member_then (read_members most d env) env) (member_sure env n most k (read_members most d env) (members_sure env n most k d)) (behind_divider d ls) ls
+members_sure env n zero k d ls = divided_sure n zero (read_surplus_member env) (surplus_member_sure (AreFew n zero) env) (after_divider d ls) ls
+members_sure env n (suc most) k d ls = divided_sure n (suc most) (member_then (read_members most d env) env) (member_sure env n most k (read_members most d env) (members_sure env n most k d)) (after_divider d ls) ls
 
 abbrev IsMet : ℕ → GivenView × List Letter → Type 0
 IsMet n y = IsGivenOf n y.0
@@ -62,7 +62,7 @@ two_sets_sure : (env : Environment) (n : ℕ) → Knows env n → (a b : ℕ) �
 two_sets_sure env n k a b ha hb ls = sure_bind (AreFew n 14) (AreBetween n 2) (read_members 14 Semicolons env ls) (λ x. Ok ((a ∷ b ∷ []) ++ x.0, x.1)) (members_sure env n 14 k Semicolons ls)
     (λ x hx. record { some = omega arith; few = omega (arith, hx.0); within = All-cons (λ (s : ℕ). s < 2 ^ n) a (b ∷ x.0) ha (All-cons (λ (s : ℕ). s < 2 ^ n) b x.0 hb hx.1) })
 
--- a list, and what is read behind it
+-- a list, and what is read after it
 list_first : {A : Type 0} (Q : A × List Letter → Type 0) (env : Environment) (n : ℕ) → Knows env n → (f : ℕ × List Letter → Reads A) (ls : List Letter) → ((x : ℕ × List Letter) → x.0 < 2 ^ n → Sure Q (f x)) → Sure Q (read_list env ls >>= f)
 list_first Q env n k f ls h = sure_bind (IsBelow (2 ^ n)) Q (read_list env ls) f (list_sure env n k ls) h
 
@@ -94,9 +94,9 @@ independence_sure env n k ls =
 function_sure : (env : Environment) (n : ℕ) → Knows env n → (ls : List Letter) → Sure (IsMet n) (read_function env ls)
 unfolding read_function
 function_sure env n k ls =
-    list_first (IsMet n) env n k (λ z. read_of z.1 >>= λ behind. read_list env behind >>= λ x. Ok (Function z.0 x.0, x.1)) ls
-    (λ z hz. sure_bind Any (IsMet n) (read_of z.1) (λ behind. read_list env behind >>= λ x. Ok (Function z.0 x.0, x.1)) (sure_any (read_of z.1))
-    (λ behind u. list_first (IsMet n) env n k (λ x. Ok (Function z.0 x.0, x.1)) behind (λ x hx. (hz, hx))))
+    list_first (IsMet n) env n k (λ z. read_of z.1 >>= λ after. read_list env after >>= λ x. Ok (Function z.0 x.0, x.1)) ls
+    (λ z hz. sure_bind Any (IsMet n) (read_of z.1) (λ after. read_list env after >>= λ x. Ok (Function z.0 x.0, x.1)) (sure_any (read_of z.1))
+    (λ after u. list_first (IsMet n) env n k (λ x. Ok (Function z.0 x.0, x.1)) after (λ x hx. (hz, hx))))
 
 plain_sure : (s : Scope) (n : ℕ) → Covers s n 0 → (ls : List Letter) → Sure (IsMet n) (read_plain s ls)
 unfolding read_plain

@@ -10,18 +10,18 @@ use Rattle.it_syntax.specs.declared.types.Code.TheVariants as codes
 use Rattle.it_syntax.specs.declared.types.Sign.TheVariants as signs
 use Rattle.it_syntax.specs.Letters.{Letter, Word, Sym, MarkedLetters, without_mark, letters}
 use Rattle.it_syntax.specs.FirstFault.{head, own_code}
-use Rattle.it_syntax.specs.WrittenAtoms.{Environment, WrittenList, Entropy, EntropyGiven, Mutual, MutualGiven, TermSign, Positive, Negative, is_measure, name_mark, spell_list, list_set, mark_surplus}
+use Rattle.it_syntax.specs.WrittenMeasures.{Environment, WrittenList, Entropy, EntropyGiven, Mutual, MutualGiven, TermSign, Positive, Negative, is_measure, name_mark, spell_list, list_set, mark_surplus}
 use Rattle.it_syntax.specs.WrittenRelations.{Scope, Measure, RateOf, WrittenTerm, Zero, Once, Times, WrittenRelation, spell_sum, spell_relation, relation_of}
 use Rattle.it_syntax.specs.WrittenGivens.{markov_text, indep_text, func_text, of_text, is_form, is_form_first, WrittenChain, WrittenIndependence, WrittenFunction, WrittenGiven, Relation, Markov, Independent, Function, spell_members, spell_chain, spell_bar, spell_independence, spell_function, spell_given, sets_of, bar_set, chain_of, independence_of, function_of, given_of}
 use Rattle.it_syntax.specs.Givens.{GivenView}
 use Rattle.it_syntax.specs.Givens as given_views
-use Rattle.it_syntax.specs.AtomReading.{Reads, ◌>>=◌, semicolon, read_list}
+use Rattle.it_syntax.specs.MeasureReading.{Reads, ◌>>=◌, semicolon, read_list}
 use Rattle.it_syntax.specs.RelationReading.{read_relation}
 use Rattle.it_syntax.specs.GivenReading.{arrow, read_of, surplus_name, read_surplus_member, member_then, read_members, with_sets, read_chain, read_bar, read_independence, read_function, read_plain, read_given}
 use Rattle.it_syntax.proofs.Traces.{Went, Stuck, By, Traces, traces_bind, traces_map, letter_then, by_equal_reader}
-use Rattle.it_syntax.proofs.AtomTraces.{for_same_head, for_no_head, stuck_here, stuck_none, some_list, list_traces, mark_is}
+use Rattle.it_syntax.proofs.MeasureTraces.{for_same_head, for_no_head, stuck_here, stuck_none, some_list, list_traces, mark_is}
 use Rattle.it_syntax.proofs.RelationTraces.{relation_traces}
-use Rattle.it_syntax.proofs.LetterReaders.{TakesLetter, behind_traces, Restricts, by_restriction}
+use Rattle.it_syntax.proofs.LetterReaders.{TakesLetter, after_traces, Restricts, by_restriction}
 
 -- ---- letters that must stand there
 
@@ -58,7 +58,7 @@ of_takes = record { takes = λ s. refl; refuses = other_is_refused }
 
 -- ---- further members
 
--- a member, and the members behind it
+-- a member, and the members after it
 abbrev Members : Type 0
 Members = WrittenList × List WrittenList
 
@@ -158,7 +158,7 @@ some_members = (some_list, [])
 
 second_traces : (env : Environment) (a : ℕ) → Traces (from_second env a) (spell_second env) (second_of env a)
 second_traces env a = traces_bind (read_list env) (λ b ls. arrow ls >>= from_third env a b) (from_second env a) (spell_list env) (λ b. spell_third env) (spell_second env) (list_set env) (third_of env a) (second_of env a) (λ b m. (b, m))
-    (record { is = λ ls. refl; spells = λ y z k. refl; value = λ y z. refl; some = some_members; first = list_traces env; second = λ b. behind_traces arrow (Sym Arrow) (from_third env a b) (spell_member 13 Arrows env) (third_of env a b) some_members pointed_takes (third_traces env a b) })
+    (record { is = λ ls. refl; spells = λ y z k. refl; value = λ y z. refl; some = some_members; first = list_traces env; second = λ b. after_traces arrow (Sym Arrow) (from_third env a b) (spell_member 13 Arrows env) (third_of env a b) some_members pointed_takes (third_traces env a b) })
 
 abbrev spell_seconds : Environment → Seconds → MarkedLetters → MarkedLetters
 spell_seconds env m k = without_mark (Sym Arrow) ∷ spell_second env m k
@@ -169,7 +169,7 @@ chain_made a m = record { first = a; second = m.0; third = m.1.0; more = m.1.1 }
 chain_traces : (env : Environment) → Traces (read_chain env) (spell_chain env) (chain_of env)
 unfolding read_chain chain_made
 chain_traces env = traces_bind (read_list env) (λ a ls. arrow ls >>= from_second env a) (read_chain env) (spell_list env) (λ a. spell_seconds env) (spell_chain env) (list_set env) (second_of env) (chain_of env) chain_made
-    (record { is = λ ls. refl; spells = λ y z k. refl; value = λ y z. refl; some = (some_list, some_members); first = list_traces env; second = λ a. behind_traces arrow (Sym Arrow) (from_second env a) (spell_second env) (second_of env a) (some_list, some_members) pointed_takes (second_traces env a) })
+    (record { is = λ ls. refl; spells = λ y z k. refl; value = λ y z. refl; some = (some_list, some_members); first = list_traces env; second = λ a. after_traces arrow (Sym Arrow) (from_second env a) (spell_second env) (second_of env a) (some_list, some_members) pointed_takes (second_traces env a) })
 
 -- ---- independences
 
@@ -212,8 +212,8 @@ partner_traces : (env : Environment) (a : ℕ) → Traces (from_partner env a) (
 partner_traces env a = traces_bind (read_list env) (from_others env a) (from_partner env a) (spell_list env) (λ b. spell_others env) (spell_partners env) (list_set env) (others_of env a) (partners_of env a) (λ b o. (b, o))
     (record { is = λ ls. refl; spells = λ y z k. refl; value = λ y z. refl; some = ([], None); first = list_traces env; second = others_traces env a })
 
-abbrev spell_behind_first : Environment → Partners → MarkedLetters → MarkedLetters
-spell_behind_first env p k = without_mark (Sym Semicolon) ∷ spell_partners env p k
+abbrev spell_after_first : Environment → Partners → MarkedLetters → MarkedLetters
+spell_after_first env p k = without_mark (Sym Semicolon) ∷ spell_partners env p k
 
 independence_made : WrittenList → Partners → WrittenIndependence
 independence_made a p = record { first = a; second = p.0; more = p.1.0; given = p.1.1 }
@@ -223,8 +223,8 @@ some_partners = (some_list, ([], None))
 
 independence_traces : (env : Environment) → Traces (read_independence env) (spell_independence env) (independence_of env)
 unfolding read_independence independence_made
-independence_traces env = traces_bind (read_list env) (λ a ls. semicolon ls >>= from_partner env a) (read_independence env) (spell_list env) (λ a. spell_behind_first env) (spell_independence env) (list_set env) (partners_of env) (independence_of env) independence_made
-    (record { is = λ ls. refl; spells = λ y z k. refl; value = λ y z. refl; some = some_partners; first = list_traces env; second = λ a. behind_traces semicolon (Sym Semicolon) (from_partner env a) (spell_partners env) (partners_of env a) some_partners divided_takes (partner_traces env a) })
+independence_traces env = traces_bind (read_list env) (λ a ls. semicolon ls >>= from_partner env a) (read_independence env) (spell_list env) (λ a. spell_after_first env) (spell_independence env) (list_set env) (partners_of env) (independence_of env) independence_made
+    (record { is = λ ls. refl; spells = λ y z k. refl; value = λ y z. refl; some = some_partners; first = list_traces env; second = λ a. after_traces semicolon (Sym Semicolon) (from_partner env a) (spell_partners env) (partners_of env a) some_partners divided_takes (partner_traces env a) })
 
 -- ---- functions
 
@@ -240,7 +240,7 @@ function_made z x = record { value = z; argument = x }
 function_traces : (env : Environment) → Traces (read_function env) (spell_function env) (function_of env)
 unfolding read_function function_made
 function_traces env = traces_bind (read_list env) (λ z ls. read_of ls >>= from_argument env z) (read_function env) (spell_list env) (λ z. spell_argument env) (spell_function env) (list_set env) (λ z x. given_views.Function z (list_set env x)) (function_of env) function_made
-    (record { is = λ ls. refl; spells = λ y z k. refl; value = λ y z. refl; some = some_list; first = list_traces env; second = λ z. behind_traces read_of (Word of_text) (from_argument env z) (spell_list env) (λ x. given_views.Function z (list_set env x)) some_list of_takes (traces_map (read_list env) (given_views.Function z) (spell_list env) (list_set env) (list_traces env)) })
+    (record { is = λ ls. refl; spells = λ y z k. refl; value = λ y z. refl; some = some_list; first = list_traces env; second = λ z. after_traces read_of (Word of_text) (from_argument env z) (spell_list env) (λ x. given_views.Function z (list_set env x)) some_list of_takes (traces_map (read_list env) (given_views.Function z) (spell_list env) (list_set env) (list_traces env)) })
 
 -- ---- relations that don't begin as another form
 

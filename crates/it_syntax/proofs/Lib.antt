@@ -4,7 +4,7 @@ pub mod TokenLemmas
 pub mod ListLemmas
 pub mod SpelledIsRead
 pub mod Traces
-pub mod AtomTraces
+pub mod MeasureTraces
 pub mod SideTraces
 pub mod FirstFaults
 pub mod LineEnd

@@ -11,8 +11,8 @@ use Rattle.it_syntax.specs.declared.types.Term.{Term}
 use Rattle.it_syntax.specs.Letters.{Letter, Word, Sym, Bad}
 use Rattle.it_syntax.specs.Meaning.{IsAtomOf}
 use Rattle.it_syntax.specs.NamesViews.{NamesView}
-use Rattle.it_syntax.specs.WrittenAtoms.{Environment, entropy_text, mutual_text, is_measure}
-use Rattle.it_syntax.specs.AtomReading.{Fault, ◌>>=◌, no_rule, variable_or_fault, read_name, read_more, read_list, close_paren, open_paren, semicolon, bar_or_close, read_given_set, read_entropy, read_mutual_information, read_atom}
+use Rattle.it_syntax.specs.WrittenMeasures.{Environment, entropy_text, mutual_text, is_measure}
+use Rattle.it_syntax.specs.MeasureReading.{Fault, ◌>>=◌, no_rule, variable_or_fault, read_name, read_more, read_list, close_paren, open_paren, semicolon, bar_or_close, read_given_set, read_entropy, read_mutual_information, read_measure}
 use Rattle.it_syntax.specs.Scopes.{env_of}
 
 -- of what was read, if it was
@@ -116,17 +116,17 @@ mutual_information_sure env n m k ls =
     (λ b hb. sure_bind (IsBelow (2 ^ n)) (HasSets n m) (read_given_set env b.1) (λ c. Ok (Mutual a.0 b.0 c.0, c.1)) (given_sure env n k b.1) (λ c hc. (ha, hb, hc))))))
 
 -- the sets of an atom are of the variables that there are
-pub atom_sure : (env : Environment) (n m : ℕ) → Knows env n → (ls : List Letter) → Sure (HasSets n m) (read_atom env ls)
-unfolding read_atom
-atom_sure env n m k (Word w ∷ ls) = by_tests (bytes_eq w entropy_text) (bytes_eq w mutual_text)
+pub measure_sure : (env : Environment) (n m : ℕ) → Knows env n → (ls : List Letter) → Sure (HasSets n m) (read_measure env ls)
+unfolding read_measure
+measure_sure env n m k (Word w ∷ ls) = by_tests (bytes_eq w entropy_text) (bytes_eq w mutual_text)
   where
     by_tests : (h i : Bool) → Sure (HasSets n m) (cond h (read_entropy env ls) (cond i (read_mutual_information env ls) (no_rule (Word w ∷ ls))))
     by_tests true i = entropy_sure env n m k ls
     by_tests false true = mutual_information_sure env n m k ls
     by_tests false false = tt
-atom_sure env n m k [] = tt
-atom_sure env n m k (Bad c ∷ ls) = tt
-atom_sure env n m k (l ∷ ls) = tt
+measure_sure env n m k [] = tt
+measure_sure env n m k (Bad c ∷ ls) = tt
+measure_sure env n m k (l ∷ ls) = tt
 
 abbrev pub TermHasSets : ℕ → ℕ → Term × List Letter → Type 0
 TermHasSets n m x = IsAtomOf n m x.0.atom

@@ -6,8 +6,8 @@ use Rattle.it_syntax.specs.declared.types.LineTokens.{LineTokens}
 use Rattle.it_syntax.specs.Letters.{Letter, End, MarkedLetters, without_mark, letters}
 use Rattle.it_syntax.specs.Spans.{letter_of, letters_until, last_letter}
 use Rattle.it_syntax.specs.FirstFault.{FirstFault}
-use Rattle.it_syntax.specs.Lines.{spell_with_end, SaysAs, to_end, letters_from, column_of, column_behind, FaultAt}
-use Rattle.it_syntax.specs.AtomReading.{Reads}
+use Rattle.it_syntax.specs.Lines.{spell_with_end, SaysAs, to_end, letters_from, column_of, column_after, FaultAt}
+use Rattle.it_syntax.specs.MeasureReading.{Reads}
 use Rattle.it_syntax.proofs.Traces.{Traces}
 use Rattle.it_syntax.proofs.SpelledIsRead.{Answers}
 use Rattle.it_syntax.proofs.LineEnd.{to_end_traces, to_end_answers}
@@ -96,7 +96,7 @@ left_is line ts from n front r e h =
 
 -- the fault at the letters r has the place of the token from which they come
 pub fault_at : {X : Type 0} (spell : X → MarkedLetters → MarkedLetters) (line : List ℕ) (ts : LineTokens) (from n : ℕ) (c : Code) (r : List Letter) → FirstFault (spell_with_end spell) (letters_from line ts from) c r → length r ≡ suc n
-    → (n ≤ length ts.tokens.items) × FaultAt spell line ts from (column_of (drop (length ts.tokens.items - n) ts.tokens.items) (column_behind ts.tokens.items ts.misspelling)) c
+    → (n ≤ length ts.tokens.items) × FaultAt spell line ts from (column_of (drop (length ts.tokens.items - n) ts.tokens.items) (column_after ts.tokens.items ts.misspelling)) c
 fault_at spell line ts from n c r f h =
     let k = left_is line ts from n f.front r f.parts h in (
       k.0,
@@ -111,7 +111,7 @@ fault_at spell line ts from n c r f h =
 -- a reader that stopped did so at the first fault, and left tokens of the line
 pub stop_is_fault : {A X : Type 0} (f : List Letter → Reads A) (spell : X → MarkedLetters → MarkedLetters) (value : X → A) → IsReader f spell value → (line : List ℕ) (ts : LineTokens) (from : ℕ) (text : List ℕ) (us : List Token) (last : Letter) (c : Code)
     → to_end f (letters_from line ts from) ≡ Err (c, letters_until text us last)
-    → (length us ≤ length ts.tokens.items) × FaultAt spell line ts from (column_of (drop (length ts.tokens.items - length us) ts.tokens.items) (column_behind ts.tokens.items ts.misspelling)) c
+    → (length us ≤ length ts.tokens.items) × FaultAt spell line ts from (column_of (drop (length ts.tokens.items - length us) ts.tokens.items) (column_after ts.tokens.items ts.misspelling)) c
 stop_is_fault f spell value h line ts from text us last c e = fault_at spell line ts from (length us) c (letters_until text us last) (stops_first f spell value h (letters_from line ts from) c (letters_until text us last) e) (until_length text us last)
 
 from_length : (line : List ℕ) (ts : LineTokens) (n : ℕ) → length (letters_from line ts n) ≡ suc (length ts.tokens.items - n)
@@ -123,4 +123,4 @@ fault_at_one spell line ts from a b c d f g =
     let k = one_fault (spell_with_end spell) (letters_from line ts from) c d (letters_from line ts f.at) (letters_from line ts g.at) f.first g.first in
     let lengths = sym (from_length line ts f.at) ∙ ap length k.1 ∙ from_length line ts g.at in
     let same : f.at ≡ g.at = omega (arith, lengths, f.within, g.within) in
-    (f.place ∙ ap (λ (i : ℕ). column_of (drop i ts.tokens.items) (column_behind ts.tokens.items ts.misspelling)) same ∙ sym g.place, k.0)
+    (f.place ∙ ap (λ (i : ℕ). column_of (drop i ts.tokens.items) (column_after ts.tokens.items ts.misspelling)) same ∙ sym g.place, k.0)

@@ -8,9 +8,9 @@ use Rattle.it_syntax.specs.Letters.{Letter, Word, Number, Sym, End, Bad}
 use Rattle.it_syntax.specs.declared.rest.Stop.{Stop}
 use Rattle.it_syntax.specs.declared.rest.Stop.TheVariants as stops
 use Rattle.it_syntax.specs.Gives.{StopsAs}
-use Rattle.it_syntax.specs.AtomReading.{Reads, Fault, ◌>>=◌, variable_or_fault, read_name, read_more}
+use Rattle.it_syntax.specs.MeasureReading.{Reads, Fault, ◌>>=◌, variable_or_fault, read_name, read_more}
 use Rattle.it_syntax.specs.ReaderSteps.{after_comma}
-use Rattle.it_syntax.specs.WrittenAtoms.{Environment, is_measure}
+use Rattle.it_syntax.specs.WrittenMeasures.{Environment, is_measure}
 
 -- what was read before, and what is still read
 abbrev pub with_set : ℕ → Reads ℕ → Reads ℕ

@@ -9,25 +9,25 @@ use Rattle.it_syntax.specs.declared.types.Term.{Term}
 use Rattle.it_syntax.specs.declared.types.Sign.{Sign}
 use Rattle.it_syntax.specs.declared.types.Sign.TheVariants.{AtLeast, AtMost, Equal}
 use Rattle.it_syntax.specs.Letters.{Letter, Word, Number, Sym, MarkedLetters, without_mark, letters}
-use Rattle.it_syntax.specs.WrittenAtoms.{Entropy, EntropyGiven, Mutual, MutualGiven, TermSign, Positive, Negative, entropy_text, mutual_text, unknown_mark, index_or, spell_sign, mark_surplus, is_minus}
-use Rattle.it_syntax.specs.WrittenRelations.{Scope, WrittenQuantity, Measure, RateOf, WrittenTerm, Zero, Once, Times, WrittenSum, WrittenRelation, spell_quantity, spell_term, spell_terms, spell_counted, spell_sum, compare_letter, most_terms, number_of_terms, spell_relation, quantity_of, term_of, terms_of, sum_of, relation_of}
-use Rattle.it_syntax.specs.AtomReading.{Reads, ◌>>=◌, read_atom, read_sign}
-use Rattle.it_syntax.specs.RelationReading.{rate_or_fault, read_quantity, after_number, read_term, surplus_rate, read_surplus_term, read_terms, read_counted, read_sum, read_compare, read_relation}
-use Rattle.it_syntax.proofs.SpelledIsRead.{Answers, answers_ok, answers_cons, answers_bind, NoWord, NoSign, atom_answers, sign_answers}
+use Rattle.it_syntax.specs.WrittenMeasures.{Entropy, EntropyGiven, Mutual, MutualGiven, TermSign, Positive, Negative, entropy_text, mutual_text, unknown_mark, index_or, spell_sign, mark_surplus, is_minus}
+use Rattle.it_syntax.specs.WrittenRelations.{Scope, WrittenAtom, Measure, RateOf, WrittenTerm, Zero, Once, Times, WrittenSum, WrittenRelation, spell_atom, spell_term, spell_terms, spell_counted, spell_sum, compare_letter, most_terms, number_of_terms, spell_relation, atom_of, term_of, terms_of, sum_of, relation_of}
+use Rattle.it_syntax.specs.MeasureReading.{Reads, ◌>>=◌, read_measure, read_sign}
+use Rattle.it_syntax.specs.RelationReading.{rate_or_fault, read_atom, after_number, read_term, surplus_rate, read_surplus_term, read_terms, read_counted, read_sum, read_compare, read_relation}
+use Rattle.it_syntax.proofs.SpelledIsRead.{Answers, answers_ok, answers_cons, answers_bind, NoWord, NoSign, measure_answers, sign_answers}
 use Rattle.it_syntax.proofs.RelationTraces.{terms_counted}
 
 rated_answers : (w : List ℕ) (o : Option ℕ) (k : MarkedLetters) → Answers (rate_or_fault w o (letters k)) ((Word w, unknown_mark o) ∷ k) (Rate (index_or o)) k
 rated_answers w (Some i) k = inl (refl, record { front = Word w ∷ []; is = refl })
 rated_answers w None k = inr ((codes.Name, Word w ∷ letters k), (refl, record { front = []; letter = Word w; rest = k; is = refl; left = refl }))
 
-quantity_answers : (s : Scope) (q : WrittenQuantity) (k : MarkedLetters) → Answers (read_quantity s (letters (spell_quantity s q k))) (spell_quantity s q k) (quantity_of s q) k
-unfolding read_quantity
-quantity_answers s (Measure (Entropy a)) k = atom_answers s.variables (Entropy a) k
-quantity_answers s (Measure (EntropyGiven a c)) k = atom_answers s.variables (EntropyGiven a c) k
-quantity_answers s (Measure (Mutual a b)) k = atom_answers s.variables (Mutual a b) k
-quantity_answers s (Measure (MutualGiven a b c)) k = atom_answers s.variables (MutualGiven a b c) k
-quantity_answers s (RateOf r) k =
-    subst (λ (b : Bool). Answers (cond b (read_atom s.variables (Word r.text ∷ letters k)) (rate_or_fault r.text (s.rates r.text) (letters k))) (spell_quantity s (RateOf r) k) (quantity_of s (RateOf r)) k) (sym r.is_name) (rated_answers r.text (s.rates r.text) k)
+atom_answers : (s : Scope) (q : WrittenAtom) (k : MarkedLetters) → Answers (read_atom s (letters (spell_atom s q k))) (spell_atom s q k) (atom_of s q) k
+unfolding read_atom
+atom_answers s (Measure (Entropy a)) k = measure_answers s.variables (Entropy a) k
+atom_answers s (Measure (EntropyGiven a c)) k = measure_answers s.variables (EntropyGiven a c) k
+atom_answers s (Measure (Mutual a b)) k = measure_answers s.variables (Mutual a b) k
+atom_answers s (Measure (MutualGiven a b c)) k = measure_answers s.variables (MutualGiven a b c) k
+atom_answers s (RateOf r) k =
+    subst (λ (b : Bool). Answers (cond b (read_measure s.variables (Word r.text ∷ letters k)) (rate_or_fault r.text (s.rates r.text) (letters k))) (spell_atom s (RateOf r) k) (atom_of s (RateOf r)) k) (sym r.is_name) (rated_answers r.text (s.rates r.text) k)
 
 zero_answers : (s : Scope) (b : Bool) (k : MarkedLetters) → NoWord k → Answers (after_number s b 0 (letters k)) k (term_of s b Zero) k
 unfolding after_number
@@ -38,7 +38,7 @@ zero_answers s b (x ∷ k) free = answers_ok (term_of s b Zero) (x ∷ k)
 abbrev pub counted_reading : Bool → ℕ → Atom × List Letter → Reads Term
 counted_reading b n y = Ok (record { negative = b; number = n; atom = y.0 }, y.1)
 
-number_first : (s : Scope) (b : Bool) (n : ℕ) (q : WrittenQuantity) (k : MarkedLetters) → after_number s b n (letters (spell_quantity s q k)) ≡ (read_quantity s (letters (spell_quantity s q k)) >>= counted_reading b n)
+number_first : (s : Scope) (b : Bool) (n : ℕ) (q : WrittenAtom) (k : MarkedLetters) → after_number s b n (letters (spell_atom s q k)) ≡ (read_atom s (letters (spell_atom s q k)) >>= counted_reading b n)
 unfolding after_number
 number_first s b n (Measure (Entropy a)) k = refl
 number_first s b n (Measure (EntropyGiven a c)) k = refl
@@ -46,7 +46,7 @@ number_first s b n (Measure (Mutual a d)) k = refl
 number_first s b n (Measure (MutualGiven a d c)) k = refl
 number_first s b n (RateOf r) k = refl
 
-once_first : (s : Scope) (b : Bool) (q : WrittenQuantity) (k : MarkedLetters) → read_term s b (letters (spell_quantity s q k)) ≡ (read_quantity s (letters (spell_quantity s q k)) >>= counted_reading b 1)
+once_first : (s : Scope) (b : Bool) (q : WrittenAtom) (k : MarkedLetters) → read_term s b (letters (spell_atom s q k)) ≡ (read_atom s (letters (spell_atom s q k)) >>= counted_reading b 1)
 unfolding read_term
 once_first s b (Measure (Entropy a)) k = refl
 once_first s b (Measure (EntropyGiven a c)) k = refl
@@ -58,16 +58,16 @@ term_answers : (s : Scope) (b : Bool) (x : WrittenTerm) (k : MarkedLetters) → 
 unfolding read_term
 term_answers s b Zero k free = answers_cons (Number 0) _ k (term_of s b Zero) k (zero_answers s b k free)
 term_answers s b (Times n q) k free =
-    let m = spell_quantity s q k in
+    let m = spell_atom s q k in
     let y = term_of s b (Times n q) in
     answers_cons (Number n) _ m y k
     (subst (λ (r : Reads Term). Answers r m y k) (sym (number_first s b n q k))
-    (answers_bind (read_quantity s (letters m)) (counted_reading b n) m k k (quantity_of s q) y (quantity_answers s q k) (answers_ok y k)))
+    (answers_bind (read_atom s (letters m)) (counted_reading b n) m k k (atom_of s q) y (atom_answers s q k) (answers_ok y k)))
 term_answers s b (Once q) k free =
-    let m = spell_quantity s q k in
+    let m = spell_atom s q k in
     let y = term_of s b (Once q) in
     subst (λ (r : Reads Term). Answers r m y k) (sym (once_first s b q k))
-    (answers_bind (read_quantity s (letters m)) (counted_reading b 1) m k k (quantity_of s q) y (quantity_answers s q k) (answers_ok y k))
+    (answers_bind (read_atom s (letters m)) (counted_reading b 1) m k k (atom_of s q) y (atom_answers s q k) (answers_ok y k))
 
 -- ---- terms one after the other
 
@@ -89,7 +89,7 @@ no_word zero s ((Negative, t) ∷ ts) k free = tt
 no_word (suc n) s ((Positive, t) ∷ ts) k free = tt
 no_word (suc n) s ((Negative, t) ∷ ts) k free = tt
 
--- a term, and the terms behind it
+-- a term, and the terms after it
 term_then : (s : Scope) (b : Bool) (t : WrittenTerm) (ts : List (TermSign × WrittenTerm)) (n : ℕ) (k : MarkedLetters) → NoWord k → Answers (read_terms n s (letters (spell_terms n s ts k))) (spell_terms n s ts k) (terms_of s ts) k
     → Answers (read_term s b (letters (spell_term s t (spell_terms n s ts k))) >>= λ x. read_terms n s x.1 >>= λ y. Ok (x.0 ∷ y.0, y.1)) (spell_term s t (spell_terms n s ts k)) (term_of s b t ∷ terms_of s ts) k
 term_then s b t ts n k free h =
@@ -114,7 +114,7 @@ letters_over l (Some c) m = refl
 surplus_term_answers : (s : Scope) (t : WrittenTerm) (m k : MarkedLetters) (y : List Term) → Answers (read_surplus_term s (letters (mark_surplus (spell_term s t m)))) (mark_surplus (spell_term s t m)) y k
 unfolding read_surplus_term
 surplus_term_answers s Zero m k y = surplus_marked (Number 0) codes.Many m k y
-surplus_term_answers s (Times n q) m k y = surplus_marked (Number n) codes.Many (spell_quantity s q m) k y
+surplus_term_answers s (Times n q) m k y = surplus_marked (Number n) codes.Many (spell_atom s q m) k y
 surplus_term_answers s (Once (Measure (Entropy a))) m k y = surplus_marked (Word entropy_text) codes.Many _ k y
 surplus_term_answers s (Once (Measure (EntropyGiven a c))) m k y = surplus_marked (Word entropy_text) codes.Many _ k y
 surplus_term_answers s (Once (Measure (Mutual a b))) m k y = surplus_marked (Word mutual_text) codes.Many _ k y

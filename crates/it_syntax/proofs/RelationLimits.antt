@@ -10,13 +10,13 @@ use Rattle.it_syntax.specs.Letters.{Letter, Word, Number, Sym, Bad}
 use Rattle.it_syntax.specs.Meaning.{RelationView, IsAtomOf}
 use Rattle.it_syntax.specs.Givens.{IsRelationOf}
 use Rattle.it_syntax.specs.NamesViews.{NamesView, index_of}
-use Rattle.it_syntax.specs.WrittenAtoms.{is_measure}
+use Rattle.it_syntax.specs.WrittenMeasures.{is_measure}
 use Rattle.it_syntax.specs.WrittenRelations.{Scope, most_terms}
 use Rattle.it_syntax.specs.Scopes.{scope_of}
 use Rattle.it_syntax.specs.Lines.{to_end}
-use Rattle.it_syntax.specs.AtomReading.{Reads, ◌>>=◌, read_atom, read_sign, line_end}
-use Rattle.it_syntax.specs.RelationReading.{rate_or_fault, read_quantity, after_number, read_term, surplus_rate, read_surplus_term, read_terms, read_counted, read_sum, read_compare, read_relation}
-use Rattle.it_syntax.proofs.LimitLemmas.{Sure, sure_bind, Any, sure_any, Knows, HasSets, TermHasSets, AreFew, atom_sure, knows_names}
+use Rattle.it_syntax.specs.MeasureReading.{Reads, ◌>>=◌, read_measure, read_sign, line_end}
+use Rattle.it_syntax.specs.RelationReading.{rate_or_fault, read_atom, after_number, read_term, surplus_rate, read_surplus_term, read_terms, read_counted, read_sum, read_compare, read_relation}
+use Rattle.it_syntax.proofs.LimitLemmas.{Sure, sure_bind, Any, sure_any, Knows, HasSets, TermHasSets, AreFew, measure_sure, knows_names}
 use Rattle.it_syntax.proofs.RelationAnswers.{counted_reading}
 
 -- the names of a scope are those of n variables and m rates
@@ -24,20 +24,20 @@ pub record Covers (s : Scope) (n m : ℕ) : Type 0 where
   pub variables : Knows s.variables n
   pub rates : Knows s.rates m
 
-quantity_sure : (s : Scope) (n m : ℕ) → Covers s n m → (ls : List Letter) → Sure (HasSets n m) (read_quantity s ls)
-unfolding read_quantity
-quantity_sure s n m k (Word w ∷ ls) = by_name (is_measure w) (s.rates w) (k.rates w)
+atom_sure : (s : Scope) (n m : ℕ) → Covers s n m → (ls : List Letter) → Sure (HasSets n m) (read_atom s ls)
+unfolding read_atom
+atom_sure s n m k (Word w ∷ ls) = by_name (is_measure w) (s.rates w) (k.rates w)
   where
-    by_name : (b : Bool) (o : Option ℕ) → ((i : ℕ) → o ≡ Some i → i < m) → Sure (HasSets n m) (cond b (read_atom s.variables (Word w ∷ ls)) (rate_or_fault w o ls))
-    by_name true o h = atom_sure s.variables n m k.variables (Word w ∷ ls)
+    by_name : (b : Bool) (o : Option ℕ) → ((i : ℕ) → o ≡ Some i → i < m) → Sure (HasSets n m) (cond b (read_measure s.variables (Word w ∷ ls)) (rate_or_fault w o ls))
+    by_name true o h = measure_sure s.variables n m k.variables (Word w ∷ ls)
     by_name false (Some i) h = h i refl
     by_name false None h = tt
-quantity_sure s n m k [] = tt
-quantity_sure s n m k (Bad c ∷ ls) = tt
-quantity_sure s n m k (l ∷ ls) = tt
+atom_sure s n m k [] = tt
+atom_sure s n m k (Bad c ∷ ls) = tt
+atom_sure s n m k (l ∷ ls) = tt
 
-counted_sure : (s : Scope) (n m : ℕ) → Covers s n m → (b : Bool) (number : ℕ) (ls : List Letter) → Sure (TermHasSets n m) (read_quantity s ls >>= counted_reading b number)
-counted_sure s n m k b number ls = sure_bind (HasSets n m) (TermHasSets n m) (read_quantity s ls) (counted_reading b number) (quantity_sure s n m k ls) (λ a ha. ha)
+counted_sure : (s : Scope) (n m : ℕ) → Covers s n m → (b : Bool) (number : ℕ) (ls : List Letter) → Sure (TermHasSets n m) (read_atom s ls >>= counted_reading b number)
+counted_sure s n m k b number ls = sure_bind (HasSets n m) (TermHasSets n m) (read_atom s ls) (counted_reading b number) (atom_sure s n m k ls) (λ a ha. ha)
 
 after_number_sure : (s : Scope) (n m : ℕ) → Covers s n m → (b : Bool) (number : ℕ) (ls : List Letter) → Sure (TermHasSets n m) (after_number s b number ls)
 unfolding after_number

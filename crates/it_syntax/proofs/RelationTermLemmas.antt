@@ -8,7 +8,7 @@ use Rattle.it_syntax.specs.declared.rest.Stop.{Stop}
 use Rattle.it_syntax.specs.declared.rest.Stop.TheVariants as stops
 use Rattle.it_syntax.specs.Letters.{Letter, Sym}
 use Rattle.it_syntax.specs.Gives.{StopsAs}
-use Rattle.it_syntax.specs.AtomReading.{Reads, ◌>>=◌}
+use Rattle.it_syntax.specs.MeasureReading.{Reads, ◌>>=◌}
 use Rattle.it_syntax.specs.ReaderSteps.{after_sign, with_terms}
 use Rattle.it_syntax.specs.RelationReading.{read_term, read_terms, read_surplus_term}
 use Rattle.it_syntax.specs.WrittenRelations.{Scope}

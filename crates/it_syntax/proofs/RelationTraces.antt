@@ -14,31 +14,31 @@ use Rattle.it_syntax.specs.declared.types.Sign.TheVariants.{AtLeast, AtMost, Equ
 use Rattle.it_syntax.specs.Letters.{Letter, Word, Number, Sym, MarkedLetters, without_mark}
 use Rattle.it_syntax.specs.Meaning.{RelationView}
 use Rattle.it_syntax.specs.FirstFault.{head, own_code}
-use Rattle.it_syntax.specs.WrittenAtoms.{Entropy, Mutual, TermSign, Positive, Negative, entropy_text, mutual_text, is_measure, unknown_mark, index_or, atom_of, spell_list, spell_atom, mark_surplus}
-use Rattle.it_syntax.specs.WrittenRelations.{Scope, WrittenQuantity, Measure, RateOf, WrittenTerm, Zero, Once, Times, WrittenSum, WrittenRelation, spell_quantity, spell_term, spell_terms, spell_counted, spell_sum, compare_letter, most_terms, spell_relation, quantity_of, term_of, terms_of, sum_of, relation_of}
-use Rattle.it_syntax.specs.AtomReading.{Reads, ◌>>=◌, read_atom, read_sign}
-use Rattle.it_syntax.specs.RelationReading.{rate_or_fault, read_quantity, after_number, read_term, surplus_rate, read_surplus_term, read_terms, read_counted, read_sum, read_compare, read_relation}
+use Rattle.it_syntax.specs.WrittenMeasures.{Entropy, Mutual, TermSign, Positive, Negative, entropy_text, mutual_text, is_measure, unknown_mark, index_or, measure_of, spell_list, spell_measure, mark_surplus}
+use Rattle.it_syntax.specs.WrittenRelations.{Scope, WrittenAtom, Measure, RateOf, WrittenTerm, Zero, Once, Times, WrittenSum, WrittenRelation, spell_atom, spell_term, spell_terms, spell_counted, spell_sum, compare_letter, most_terms, spell_relation, atom_of, term_of, terms_of, sum_of, relation_of}
+use Rattle.it_syntax.specs.MeasureReading.{Reads, ◌>>=◌, read_measure, read_sign}
+use Rattle.it_syntax.specs.RelationReading.{rate_or_fault, read_atom, after_number, read_term, surplus_rate, read_surplus_term, read_terms, read_counted, read_sum, read_compare, read_relation}
 use Rattle.it_syntax.proofs.Traces.{Went, Stuck, By, Traces, traces_bind, traces_map, letter_then, by_equal_reader, by_renaming}
-use Rattle.it_syntax.proofs.AtomTraces.{for_same_head, for_no_head, stuck_here, stuck_none, some_list}
-use Rattle.it_syntax.proofs.SideTraces.{atom_traces}
+use Rattle.it_syntax.proofs.MeasureTraces.{for_same_head, for_no_head, stuck_here, stuck_none, some_list}
+use Rattle.it_syntax.proofs.SideTraces.{measure_traces}
 
--- ---- quantities
+-- ---- atoms
 
-some_quantity : WrittenQuantity
-some_quantity = Measure (Entropy some_list)
+some_atom : WrittenAtom
+some_atom = Measure (Entropy some_list)
 
 abbrev word_or_rate : Scope → List ℕ → Bool → Option ℕ → List Letter → Reads Atom
-word_or_rate s w h o ls = cond h (read_atom s.variables (Word w ∷ ls)) (rate_or_fault w o ls)
+word_or_rate s w h o ls = cond h (read_measure s.variables (Word w ∷ ls)) (rate_or_fault w o ls)
 
-word_is : (s : Scope) (w : List ℕ) (h : Bool) (o : Option ℕ) → is_measure w ≡ h → s.rates w ≡ o → (ls : List Letter) → read_quantity s (Word w ∷ ls) ≡ word_or_rate s w h o ls
-unfolding read_quantity
+word_is : (s : Scope) (w : List ℕ) (h : Bool) (o : Option ℕ) → is_measure w ≡ h → s.rates w ≡ o → (ls : List Letter) → read_atom s (Word w ∷ ls) ≡ word_or_rate s w h o ls
+unfolding read_atom
 word_is s w h o eh eo ls = ap (λ (b : Bool). word_or_rate s w b (s.rates w) ls) eh ∙ ap (λ (p : Option ℕ). word_or_rate s w h p ls) eo
 
-quantity_by : (s : Scope) (w : List ℕ) (ls : List Letter) (h : Bool) (o : Option ℕ) → is_measure w ≡ h → s.rates w ≡ o → By (read_quantity s) (spell_quantity s) (quantity_of s) (Word w ∷ ls) (word_or_rate s w h o ls)
-quantity_by s w ls true o eh eo =
-    by_renaming (read_quantity s) (spell_atom s.variables) (spell_quantity s) (atom_of s.variables) (quantity_of s) Measure (Word w ∷ ls) (λ z k. refl) (λ z. refl) (read_atom s.variables (Word w ∷ ls))
-    (by_equal_reader (read_atom s.variables) (read_quantity s) (spell_atom s.variables) (atom_of s.variables) (Word w ∷ ls) (for_same_head (λ t. read_quantity s t ≡ read_atom s.variables t) (Word w) (word_is s w true o eh eo)) (read_atom s.variables (Word w ∷ ls)) (atom_traces s.variables (Word w ∷ ls)))
-quantity_by s w ls false (Some i) eh eo = record {
+atom_by : (s : Scope) (w : List ℕ) (ls : List Letter) (h : Bool) (o : Option ℕ) → is_measure w ≡ h → s.rates w ≡ o → By (read_atom s) (spell_atom s) (atom_of s) (Word w ∷ ls) (word_or_rate s w h o ls)
+atom_by s w ls true o eh eo =
+    by_renaming (read_atom s) (spell_measure s.variables) (spell_atom s) (measure_of s.variables) (atom_of s) Measure (Word w ∷ ls) (λ z k. refl) (λ z. refl) (read_measure s.variables (Word w ∷ ls))
+    (by_equal_reader (read_measure s.variables) (read_atom s) (spell_measure s.variables) (measure_of s.variables) (Word w ∷ ls) (for_same_head (λ t. read_atom s t ≡ read_measure s.variables t) (Word w) (word_is s w true o eh eo)) (read_measure s.variables (Word w ∷ ls)) (measure_traces s.variables (Word w ∷ ls)))
+atom_by s w ls false (Some i) eh eo = record {
   tree = RateOf (record { text = w; is_name = eh });
   front = Word w ∷ [];
   value = ap (λ (p : Option ℕ). Rate (index_or p)) eo;
@@ -46,19 +46,19 @@ quantity_by s w ls false (Some i) eh eo = record {
   spells = λ k. ap (λ (p : Option ℕ). (Word w, unknown_mark p) ∷ k) eo;
   stays = λ t e. word_is s w false (Some i) eh eo t;
 }
-quantity_by s w ls false None eh eo = record {
+atom_by s w ls false None eh eo = record {
   tree = RateOf (record { text = w; is_name = eh });
   front = [];
   parts = refl;
   spells = λ k. ((Word w, unknown_mark (s.rates w)) ∷ k, (refl, inr (Word w, k, (ap (λ (p : Option ℕ). (Word w, unknown_mark p) ∷ k) eo, refl))));
-  stays = for_same_head (λ t. read_quantity s t ≡ Err (codes.Name, t)) (Word w) (word_is s w false None eh eo);
+  stays = for_same_head (λ t. read_atom s t ≡ Err (codes.Name, t)) (Word w) (word_is s w false None eh eo);
 }
 
-quantity_traces : (s : Scope) → Traces (read_quantity s) (spell_quantity s) (quantity_of s)
-unfolding read_quantity
-quantity_traces s (Word w ∷ ls) = quantity_by s w ls (is_measure w) (s.rates w) refl refl
-quantity_traces s [] = stuck_none (read_quantity s) (spell_quantity s) some_quantity refl
-quantity_traces s (l ∷ ls) = stuck_here (read_quantity s) (spell_quantity s) some_quantity l ls _ (λ t. refl) refl
+atom_traces : (s : Scope) → Traces (read_atom s) (spell_atom s) (atom_of s)
+unfolding read_atom
+atom_traces s (Word w ∷ ls) = atom_by s w ls (is_measure w) (s.rates w) refl refl
+atom_traces s [] = stuck_none (read_atom s) (spell_atom s) some_atom refl
+atom_traces s (l ∷ ls) = stuck_here (read_atom s) (spell_atom s) some_atom l ls _ (λ t. refl) refl
 
 -- ---- terms
 
@@ -66,49 +66,49 @@ abbrev counted_term : Bool → ℕ → Atom → Term
 counted_term b n a = record { negative = b; number = n; atom = a }
 
 abbrev read_times : Scope → Bool → ℕ → List Letter → Reads Term
-read_times s b n ls = read_quantity s ls >>= λ a. Ok (counted_term b n a.0, a.1)
+read_times s b n ls = read_atom s ls >>= λ a. Ok (counted_term b n a.0, a.1)
 
-times_traces : (s : Scope) (b : Bool) (n : ℕ) → Traces (read_times s b n) (spell_quantity s) (λ x. counted_term b n (quantity_of s x))
-times_traces s b n = traces_map (read_quantity s) (counted_term b n) (spell_quantity s) (quantity_of s) (quantity_traces s)
+times_traces : (s : Scope) (b : Bool) (n : ℕ) → Traces (read_times s b n) (spell_atom s) (λ x. counted_term b n (atom_of s x))
+times_traces s b n = traces_map (read_atom s) (counted_term b n) (spell_atom s) (atom_of s) (atom_traces s)
 
--- behind a number
-number_then : (s : Scope) (b : Bool) (n : ℕ) (ls : List Letter) → By (after_number s b n) (spell_quantity s) (λ x. counted_term b n (quantity_of s x)) ls (after_number s b n ls) → By (read_term s b) (spell_term s) (term_of s b) (Number n ∷ ls) (after_number s b n ls)
+-- after a number
+number_then : (s : Scope) (b : Bool) (n : ℕ) (ls : List Letter) → By (after_number s b n) (spell_atom s) (λ x. counted_term b n (atom_of s x)) ls (after_number s b n ls) → By (read_term s b) (spell_term s) (term_of s b) (Number n ∷ ls) (after_number s b n ls)
 unfolding read_term
-number_then s b n ls h = letter_then (read_term s b) (after_number s b n) (Number n) (spell_quantity s) (spell_term s) (λ x. counted_term b n (quantity_of s x)) (term_of s b) (Times n) ls (λ t. refl) (λ z k. refl) (λ z. refl) (after_number s b n ls) h
+number_then s b n ls h = letter_then (read_term s b) (after_number s b n) (Number n) (spell_atom s) (spell_term s) (λ x. counted_term b n (atom_of s x)) (term_of s b) (Times n) ls (λ t. refl) (λ z k. refl) (λ z. refl) (after_number s b n ls) h
 
-number_word : (s : Scope) (b : Bool) (n : ℕ) (w : List ℕ) (ls : List Letter) → By (after_number s b n) (spell_quantity s) (λ x. counted_term b n (quantity_of s x)) (Word w ∷ ls) (read_times s b n (Word w ∷ ls))
+number_word : (s : Scope) (b : Bool) (n : ℕ) (w : List ℕ) (ls : List Letter) → By (after_number s b n) (spell_atom s) (λ x. counted_term b n (atom_of s x)) (Word w ∷ ls) (read_times s b n (Word w ∷ ls))
 unfolding after_number
-number_word s b n w ls = by_equal_reader (read_times s b n) (after_number s b n) (spell_quantity s) (λ x. counted_term b n (quantity_of s x)) (Word w ∷ ls) (for_same_head (λ t. after_number s b n t ≡ read_times s b n t) (Word w) (λ t. refl)) (read_times s b n (Word w ∷ ls)) (times_traces s b n (Word w ∷ ls))
+number_word s b n w ls = by_equal_reader (read_times s b n) (after_number s b n) (spell_atom s) (λ x. counted_term b n (atom_of s x)) (Word w ∷ ls) (for_same_head (λ t. after_number s b n t ≡ read_times s b n t) (Word w) (λ t. refl)) (read_times s b n (Word w ∷ ls)) (times_traces s b n (Word w ∷ ls))
 
 zero_alone : (s : Scope) (b : Bool) (ls : List Letter) → ((t : List Letter) → head t ≡ head ls → read_term s b (Number 0 ∷ t) ≡ Ok (term_of s b Zero, t)) → Went (read_term s b) (spell_term s) (term_of s b) (Number 0 ∷ ls) (term_of s b Zero) ls
 zero_alone s b ls h = record { tree = Zero; front = Number 0 ∷ []; value = refl; parts = refl; spells = λ k. refl; stays = h }
 
-no_quantity : (s : Scope) (b : Bool) (n : ℕ) (l : Letter) (ls : List Letter) (c : Code) → ((t : List Letter) → read_term s b (Number n ∷ l ∷ t) ≡ Err (c, l ∷ t)) → own_code (l ∷ ls) ≡ c → Stuck (read_term s b) (spell_term s) (Number n ∷ l ∷ ls) c (l ∷ ls)
-no_quantity s b n l ls c h o = record {
-  tree = Times n some_quantity;
+no_atom : (s : Scope) (b : Bool) (n : ℕ) (l : Letter) (ls : List Letter) (c : Code) → ((t : List Letter) → read_term s b (Number n ∷ l ∷ t) ≡ Err (c, l ∷ t)) → own_code (l ∷ ls) ≡ c → Stuck (read_term s b) (spell_term s) (Number n ∷ l ∷ ls) c (l ∷ ls)
+no_atom s b n l ls c h o = record {
+  tree = Times n some_atom;
   front = Number n ∷ [];
   parts = refl;
-  spells = λ k. (spell_quantity s some_quantity k, (refl, inl o));
+  spells = λ k. (spell_atom s some_atom k, (refl, inl o));
   stays = for_same_head (λ t. read_term s b (Number n ∷ t) ≡ Err (c, t)) l h;
 }
 
 term_traces : (s : Scope) (b : Bool) → Traces (read_term s b) (spell_term s) (term_of s b)
-unfolding read_term after_number read_quantity
+unfolding read_term after_number read_atom
 term_traces s b (Number n ∷ Word w ∷ ls) = number_then s b n (Word w ∷ ls) (number_word s b n w ls)
 term_traces s b (Number zero ∷ []) = zero_alone s b [] (for_no_head (λ t. read_term s b (Number 0 ∷ t) ≡ Ok (term_of s b Zero, t)) refl)
 term_traces s b (Number zero ∷ l ∷ ls) = zero_alone s b (l ∷ ls) (for_same_head (λ t. read_term s b (Number 0 ∷ t) ≡ Ok (term_of s b Zero, t)) l (λ t. refl))
 term_traces s b (Number (suc n) ∷ []) = record {
-  tree = Times (suc n) some_quantity;
+  tree = Times (suc n) some_atom;
   front = Number (suc n) ∷ [];
   parts = refl;
-  spells = λ k. (spell_quantity s some_quantity k, (refl, inl refl));
+  spells = λ k. (spell_atom s some_atom k, (refl, inl refl));
   stays = for_no_head (λ t. read_term s b (Number (suc n) ∷ t) ≡ Err (codes.Word, t)) refl;
 }
-term_traces s b (Number (suc n) ∷ l ∷ ls) = no_quantity s b (suc n) l ls _ (λ t. refl) refl
+term_traces s b (Number (suc n) ∷ l ∷ ls) = no_atom s b (suc n) l ls _ (λ t. refl) refl
 term_traces s b [] = stuck_none (read_term s b) (spell_term s) Zero refl
 term_traces s b (Word w ∷ ls) =
-    by_renaming (read_term s b) (spell_quantity s) (spell_term s) (λ x. counted_term b 1 (quantity_of s x)) (term_of s b) Once (Word w ∷ ls) (λ z k. refl) (λ z. refl) (read_times s b 1 (Word w ∷ ls))
-    (by_equal_reader (read_times s b 1) (read_term s b) (spell_quantity s) (λ x. counted_term b 1 (quantity_of s x)) (Word w ∷ ls) (for_same_head (λ t. read_term s b t ≡ read_times s b 1 t) (Word w) (λ t. refl)) (read_times s b 1 (Word w ∷ ls)) (times_traces s b 1 (Word w ∷ ls)))
+    by_renaming (read_term s b) (spell_atom s) (spell_term s) (λ x. counted_term b 1 (atom_of s x)) (term_of s b) Once (Word w ∷ ls) (λ z k. refl) (λ z. refl) (read_times s b 1 (Word w ∷ ls))
+    (by_equal_reader (read_times s b 1) (read_term s b) (spell_atom s) (λ x. counted_term b 1 (atom_of s x)) (Word w ∷ ls) (for_same_head (λ t. read_term s b t ≡ read_times s b 1 t) (Word w) (λ t. refl)) (read_times s b 1 (Word w ∷ ls)) (times_traces s b 1 (Word w ∷ ls)))
 term_traces s b (l ∷ ls) = stuck_here (read_term s b) (spell_term s) Zero l ls _ (λ t. refl) refl
 
 -- ---- terms one after the other
@@ -119,7 +119,7 @@ Further = List (TermSign × WrittenTerm)
 abbrev Terms : Type 0
 Terms = WrittenTerm × Further
 
--- a term, and the terms behind it
+-- a term, and the terms after it
 abbrev pub term_more : ℕ → Scope → Bool → List Letter → Reads (List Term)
 term_more n s b ls = read_term s b ls >>= λ t. read_terms n s t.1 >>= λ ts. Ok (t.0 ∷ ts.0, ts.1)
 
@@ -155,17 +155,17 @@ surplus_term_marked s b l ls t c rest h e = record {
   stays = for_same_head (λ r. read_surplus_term s r ≡ Err (c, r)) l e;
 }
 
-abbrev behind_entropy : Scope → MarkedLetters → MarkedLetters
-behind_entropy s k = without_mark (Sym LeftParen) ∷ spell_list s.variables some_list (without_mark (Sym RightParen) ∷ k)
+abbrev after_entropy : Scope → MarkedLetters → MarkedLetters
+after_entropy s k = without_mark (Sym LeftParen) ∷ spell_list s.variables some_list (without_mark (Sym RightParen) ∷ k)
 
-abbrev behind_mutual : Scope → MarkedLetters → MarkedLetters
-behind_mutual s k = without_mark (Sym LeftParen) ∷ spell_list s.variables some_list (without_mark (Sym Semicolon) ∷ spell_list s.variables some_list (without_mark (Sym RightParen) ∷ k))
+abbrev after_mutual : Scope → MarkedLetters → MarkedLetters
+after_mutual s k = without_mark (Sym LeftParen) ∷ spell_list s.variables some_list (without_mark (Sym Semicolon) ∷ spell_list s.variables some_list (without_mark (Sym RightParen) ∷ k))
 
 surplus_term_by : (s : Scope) (b : Bool) (w : List ℕ) (ls : List Letter) (h i : Bool) (o : Option ℕ) → bytes_eq w entropy_text ≡ h → bytes_eq w mutual_text ≡ i → s.rates w ≡ o → By (read_surplus_term s) (spell_surplus_term s) (term_more_of s b) (Word w ∷ ls) (surplus_term_word w (h || i) o ls)
 surplus_term_by s b w ls true i o eh ei eo =
-    surplus_term_marked s b (Word w) ls (Once (Measure (Entropy some_list))) codes.Many (behind_entropy s) (λ k. ap (λ (t : List ℕ). (Word t, Some codes.Many) ∷ behind_entropy s k) (sym ((bytes_eq-Decides w entropy_text).0 eh))) (surplus_term_is s w true i o eh ei eo)
+    surplus_term_marked s b (Word w) ls (Once (Measure (Entropy some_list))) codes.Many (after_entropy s) (λ k. ap (λ (t : List ℕ). (Word t, Some codes.Many) ∷ after_entropy s k) (sym ((bytes_eq-Decides w entropy_text).0 eh))) (surplus_term_is s w true i o eh ei eo)
 surplus_term_by s b w ls false true o eh ei eo =
-    surplus_term_marked s b (Word w) ls (Once (Measure (Mutual some_list some_list))) codes.Many (behind_mutual s) (λ k. ap (λ (t : List ℕ). (Word t, Some codes.Many) ∷ behind_mutual s k) (sym ((bytes_eq-Decides w mutual_text).0 ei))) (surplus_term_is s w false true o eh ei eo)
+    surplus_term_marked s b (Word w) ls (Once (Measure (Mutual some_list some_list))) codes.Many (after_mutual s) (λ k. ap (λ (t : List ℕ). (Word t, Some codes.Many) ∷ after_mutual s k) (sym ((bytes_eq-Decides w mutual_text).0 ei))) (surplus_term_is s w false true o eh ei eo)
 surplus_term_by s b w ls false false (Some i) eh ei eo =
     surplus_term_marked s b (Word w) ls (Once (RateOf (record { text = w; is_name = ap (λ (b : Bool). b || bytes_eq w mutual_text) eh ∙ ei }))) codes.Many (λ k. k) (λ k. ap (λ (p : Option ℕ). mark_surplus ((Word w, unknown_mark p) ∷ k)) eo) (surplus_term_is s w false false (Some i) eh ei eo)
 surplus_term_by s b w ls false false None eh ei eo =
@@ -173,7 +173,7 @@ surplus_term_by s b w ls false false None eh ei eo =
 
 surplus_term_traces : (s : Scope) (b : Bool) → Traces (read_surplus_term s) (spell_surplus_term s) (term_more_of s b)
 unfolding read_surplus_term
-surplus_term_traces s b (Number n ∷ ls) = surplus_term_marked s b (Number n) ls (Times n some_quantity) codes.Many (spell_quantity s some_quantity) (λ k. refl) (λ r. refl)
+surplus_term_traces s b (Number n ∷ ls) = surplus_term_marked s b (Number n) ls (Times n some_atom) codes.Many (spell_atom s some_atom) (λ k. refl) (λ r. refl)
 surplus_term_traces s b (Word w ∷ ls) = surplus_term_by s b w ls (bytes_eq w entropy_text) (bytes_eq w mutual_text) (s.rates w) refl refl refl
 surplus_term_traces s b [] = stuck_none (read_surplus_term s) (spell_surplus_term s) (Zero, []) refl
 surplus_term_traces s b (l ∷ ls) = stuck_here (read_surplus_term s) (spell_surplus_term s) (Zero, []) l ls _ (λ r. refl) refl
@@ -251,37 +251,37 @@ zero_sum = record { sign = None; first = Zero; more = [] }
 abbrev relation_of_sides : List Term → Sign → List Term → RelationView
 relation_of_sides left sign right = record { left = left; sign = sign; right = right }
 
--- what stands behind the left side
-abbrev Behind : Type 0
-Behind = Sign × WrittenSum
+-- what stands after the left side
+abbrev After : Type 0
+After = Sign × WrittenSum
 
-abbrev behind_left : Scope → List Term → List Letter → Reads RelationView
-behind_left s left ls = read_compare ls >>= λ sign. read_sum (most_terms - length left) s sign.1 >>= λ right. Ok (relation_of_sides left sign.0 right.0, right.1)
+abbrev after_left : Scope → List Term → List Letter → Reads RelationView
+after_left s left ls = read_compare ls >>= λ sign. read_sum (most_terms - length left) s sign.1 >>= λ right. Ok (relation_of_sides left sign.0 right.0, right.1)
 
-abbrev spell_behind : Scope → List Term → Behind → MarkedLetters → MarkedLetters
-spell_behind s left p k = spell_compare p.0 (spell_sum (most_terms - length left) s p.1 k)
+abbrev spell_after : Scope → List Term → After → MarkedLetters → MarkedLetters
+spell_after s left p k = spell_compare p.0 (spell_sum (most_terms - length left) s p.1 k)
 
-abbrev behind_of : Scope → List Term → Behind → RelationView
-behind_of s left p = relation_of_sides left p.0 (sum_of s p.1)
+abbrev after_of : Scope → List Term → After → RelationView
+after_of s left p = relation_of_sides left p.0 (sum_of s p.1)
 
-behind_traces : (s : Scope) (left : List Term) → Traces (behind_left s left) (spell_behind s left) (behind_of s left)
-behind_traces s left =
+after_traces : (s : Scope) (left : List Term) → Traces (after_left s left) (spell_after s left) (after_of s left)
+after_traces s left =
     let n = most_terms - length left in
-    traces_bind read_compare (λ sign ls. read_sum n s ls >>= λ right. Ok (relation_of_sides left sign right.0, right.1)) (behind_left s left) spell_compare (λ sign. spell_sum n s) (spell_behind s left) (λ sign. sign) (λ sign e. relation_of_sides left sign (sum_of s e)) (behind_of s left) (λ sign e. (sign, e))
+    traces_bind read_compare (λ sign ls. read_sum n s ls >>= λ right. Ok (relation_of_sides left sign right.0, right.1)) (after_left s left) spell_compare (λ sign. spell_sum n s) (spell_after s left) (λ sign. sign) (λ sign e. relation_of_sides left sign (sum_of s e)) (after_of s left) (λ sign e. (sign, e))
     (record { is = λ ls. refl; spells = λ y z k. refl; value = λ y z. refl; some = zero_sum; first = compare_traces; second = λ sign. traces_map (read_sum n s) (relation_of_sides left sign) (spell_sum n s) (sum_of s) (sum_traces n s) })
 
-relation_made : WrittenSum → Behind → WrittenRelation
+relation_made : WrittenSum → After → WrittenRelation
 relation_made left p = record { left = left; sign = p.0; right = p.1 }
 
 -- a relation
 pub relation_traces : (s : Scope) → Traces (read_relation s) (spell_relation s) (relation_of s)
 unfolding read_relation relation_made
-relation_traces s = traces_bind (read_sum most_terms s) (behind_left s) (read_relation s) (spell_sum most_terms s) (spell_behind s) (spell_relation s) (sum_of s) (behind_of s) (relation_of s) relation_made
+relation_traces s = traces_bind (read_sum most_terms s) (after_left s) (read_relation s) (spell_sum most_terms s) (spell_after s) (spell_relation s) (sum_of s) (after_of s) (relation_of s) relation_made
     (record {
       is = λ ls. refl;
       spells = λ y z k. ap (λ (n : ℕ). spell_sum most_terms s y (spell_compare z.0 (spell_sum (most_terms - suc n) s z.1 k))) (sym (terms_counted s y.more));
       value = λ y z. refl;
       some = (Equal, zero_sum);
       first = sum_traces most_terms s;
-      second = behind_traces s;
+      second = after_traces s;
     })

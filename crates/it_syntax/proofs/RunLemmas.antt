@@ -30,7 +30,7 @@ value_step n [] i lt is = absurd (omega arith)
 value_step n (d ∷ ds) zero lt is = rw is refl
 value_step n (d ∷ ds) (suc i) lt is = value_step n ds i (omega arith) is
 
--- the next digit is one, and so are those behind it
+-- the next digit is one, and so are those after it
 pub digit_step : (ds : List ℕ) (i : ℕ) → i < length ds → AreAll is_ascii_digit (drop i ds) → (is_ascii_digit (get_or ds i 0) ≡ true) × (48 ≤ get_or ds i 0) × (get_or ds i 0 ≤ 57) × AreAll is_ascii_digit (drop (suc i) ds)
 digit_step [] i lt h = absurd (omega arith)
 digit_step (d ∷ ds) zero lt h = let e = h.0 in (e, digit_low d e, digit_high d e, h.1)
@@ -42,7 +42,7 @@ digit_step (d ∷ ds) zero lt h = let e = h.0 in (e, digit_low d e, digit_high d
     digit_high d e = grind (arith, nat_tests)
 digit_step (d ∷ ds) (suc i) lt h = digit_step ds i (omega arith) h
 
--- digits behind a number from `most` on make it no smaller
+-- digits after a number from `most` on make it no smaller
 pub value_large : (most n : ℕ) (ds : List ℕ) → AreAll is_ascii_digit ds → most ≤ n → IsSomeAnd (value_from n ds) (λ v. most ≤ v)
 value_large most n [] h le = le
 value_large most n (d ∷ ds) h le = rw h.0 (value_large most (10 * n + (d - 48)) ds h.1 (omega arith))

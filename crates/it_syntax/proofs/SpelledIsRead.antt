@@ -5,11 +5,11 @@ use Rattle.it_syntax.specs.declared.types.Symbol.TheVariants.{LeftParen, RightPa
 use Rattle.it_syntax.specs.declared.types.Code.TheVariants as codes
 use Rattle.it_syntax.specs.declared.types.Atom.TheVariants as atoms
 use Rattle.it_syntax.specs.Letters.{Letter, Word, Sym, MarkedLetters, without_mark, letters, without_marks}
-use Rattle.it_syntax.specs.WrittenAtoms.{Environment, WrittenList, WrittenAtom, Entropy, EntropyGiven, Mutual, MutualGiven, TermSign, entropy_text, mutual_text, is_measure, unknown_mark, index_or, more_set, list_set, atom_of, sign_letter, spell_name, spell_more, spell_list, spell_atom, spell_sign}
+use Rattle.it_syntax.specs.WrittenMeasures.{Environment, WrittenList, WrittenMeasure, Entropy, EntropyGiven, Mutual, MutualGiven, TermSign, entropy_text, mutual_text, is_measure, unknown_mark, index_or, more_set, list_set, measure_of, sign_letter, spell_name, spell_more, spell_list, spell_measure, spell_sign}
 use Rattle.it_syntax.proofs.Traces.{cleaned_append}
-use Rattle.it_syntax.specs.AtomReading.{Fault, Reads, ◌>>=◌, variable_or_fault, read_name, read_more, read_list, close_paren, open_paren, semicolon, bar_or_close, read_given_set, read_entropy, read_mutual_information, read_atom}
+use Rattle.it_syntax.specs.MeasureReading.{Fault, Reads, ◌>>=◌, variable_or_fault, read_name, read_more, read_list, close_paren, open_paren, semicolon, bar_or_close, read_given_set, read_entropy, read_mutual_information, read_measure}
 
--- m is k behind letters that nothing is said against
+-- m is k after letters that nothing is said against
 pub record Clears (m k : MarkedLetters) : Type 0 where
   pub front : List Letter
   pub is : m ≡ without_marks front ++ k
@@ -113,7 +113,7 @@ close_answers : {A : Type 0} (x : A) (k : MarkedLetters) → Answers (close_pare
 unfolding close_paren
 close_answers x k = answers_cons (Sym RightParen) (Ok (x, letters k)) k x k (answers_ok x k)
 
--- a list of names, and what is read behind it
+-- a list of names, and what is read after it
 pub list_then : {A : Type 0} (env : Environment) (a : WrittenList) (f : ℕ → List Letter → Reads A) (n k : MarkedLetters) (y : A) → NoComma n → Answers (f (list_set env a) (letters n)) n y k → Answers (read_list env (letters (spell_list env a n)) >>= λ x. f x.0 x.1) (spell_list env a n) y k
 list_then env a f n k y s h = answers_bind (read_list env (letters (spell_list env a n))) (λ x. f x.0 x.1) (spell_list env a n) n k (list_set env a) y (list_answers env a n s) h
 
@@ -128,7 +128,7 @@ given_some env c k =
     answers_cons (Sym Bar) _ (spell_list env c o) (list_set env c) k
     (list_then env c close_paren o k (list_set env c) tt (close_answers (list_set env c) k))
 
--- what is behind the first list of H, and behind the second of I
+-- what is after the first list of H, and after the second of I
 entropy_then : (env : Environment) (a : WrittenList) (s : ℕ) (n k : MarkedLetters) → NoComma n → Answers (read_given_set env (letters n)) n s k → Answers (read_entropy env (Sym LeftParen ∷ letters (spell_list env a n))) (spell_list env a n) (atoms.Entropy (list_set env a) s) k
 unfolding read_entropy open_paren
 entropy_then env a s n k free g =
@@ -147,19 +147,19 @@ mutual_information_then env a b s n k free g =
     (list_then env b (λ z r. read_given_set env r >>= λ c. Ok (atoms.Mutual x z c.0, c.1)) n k y free
     (answers_bind (read_given_set env (letters n)) (λ c. Ok (atoms.Mutual x (list_set env b) c.0, c.1)) n k k s y g (answers_ok y k))))
 
--- behind `H (` and `I (`
-behind_two_letters : {A : Type 0} (w l : Letter) (r : Reads A) (m : MarkedLetters) (x : A) (k : MarkedLetters) → Answers r m x k → Answers r (without_mark w ∷ without_mark l ∷ m) x k
-behind_two_letters w l r m x k a = answers_cons w r (without_mark l ∷ m) x k (answers_cons l r m x k a)
+-- after `H (` and `I (`
+after_two_letters : {A : Type 0} (w l : Letter) (r : Reads A) (m : MarkedLetters) (x : A) (k : MarkedLetters) → Answers r m x k → Answers r (without_mark w ∷ without_mark l ∷ m) x k
+after_two_letters w l r m x k a = answers_cons w r (without_mark l ∷ m) x k (answers_cons l r m x k a)
 
 -- an entropy or a mutual information
-pub atom_answers : (env : Environment) (x : WrittenAtom) (k : MarkedLetters) → Answers (read_atom env (letters (spell_atom env x k))) (spell_atom env x k) (atom_of env x) k
-unfolding read_atom
-atom_answers env (Entropy a) k = behind_two_letters (Word entropy_text) (Sym LeftParen) _ _ _ k (entropy_then env a 0 (without_mark (Sym RightParen) ∷ k) k tt (given_none env k))
-atom_answers env (EntropyGiven a c) k = behind_two_letters (Word entropy_text) (Sym LeftParen) _ _ _ k (entropy_then env a (list_set env c) (without_mark (Sym Bar) ∷ spell_list env c (without_mark (Sym RightParen) ∷ k)) k tt (given_some env c k))
-atom_answers env (Mutual a b) k = behind_two_letters (Word mutual_text) (Sym LeftParen) _ _ _ k (mutual_information_then env a b 0 (without_mark (Sym RightParen) ∷ k) k tt (given_none env k))
-atom_answers env (MutualGiven a b c) k = behind_two_letters (Word mutual_text) (Sym LeftParen) _ _ _ k (mutual_information_then env a b (list_set env c) (without_mark (Sym Bar) ∷ spell_list env c (without_mark (Sym RightParen) ∷ k)) k tt (given_some env c k))
+pub measure_answers : (env : Environment) (x : WrittenMeasure) (k : MarkedLetters) → Answers (read_measure env (letters (spell_measure env x k))) (spell_measure env x k) (measure_of env x) k
+unfolding read_measure
+measure_answers env (Entropy a) k = after_two_letters (Word entropy_text) (Sym LeftParen) _ _ _ k (entropy_then env a 0 (without_mark (Sym RightParen) ∷ k) k tt (given_none env k))
+measure_answers env (EntropyGiven a c) k = after_two_letters (Word entropy_text) (Sym LeftParen) _ _ _ k (entropy_then env a (list_set env c) (without_mark (Sym Bar) ∷ spell_list env c (without_mark (Sym RightParen) ∷ k)) k tt (given_some env c k))
+measure_answers env (Mutual a b) k = after_two_letters (Word mutual_text) (Sym LeftParen) _ _ _ k (mutual_information_then env a b 0 (without_mark (Sym RightParen) ∷ k) k tt (given_none env k))
+measure_answers env (MutualGiven a b c) k = after_two_letters (Word mutual_text) (Sym LeftParen) _ _ _ k (mutual_information_then env a b (list_set env c) (without_mark (Sym Bar) ∷ spell_list env c (without_mark (Sym RightParen) ∷ k)) k tt (given_some env c k))
 
--- behind an optional sign
+-- after an optional sign
 pub sign_answers : {A : Type 0} (o : Option TermSign) (r : Reads A) (m : MarkedLetters) (x : A) (k : MarkedLetters) → Answers r m x k → Answers r (spell_sign o m) x k
 sign_answers None r m x k a = a
 sign_answers (Some s) r m x k a = answers_cons (sign_letter s) r m x k a

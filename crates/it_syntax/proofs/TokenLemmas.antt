@@ -228,14 +228,14 @@ text_stops (kinds.Symbol s) text rest t = subst (λ (u : List ℕ). Stops is_spa
     symbol_stops Equal rest = refl
     symbol_stops Assign rest = refl
 
--- what a cut tells of the bytes behind the spaces
+-- what a cut tells of the bytes after the spaces
 pub record Found (at g : ℕ) (body : List ℕ) (t : Token) (rest : List ℕ) : Type 0 where
   pub shape : IsTokenFront t.kind (t.end - t.start) body
   pub start : t.start ≡ at + g
   pub end : t.end ≡ t.start + (t.end - t.start)
   pub rest_is : rest ≡ drop (t.end - t.start) body
 
--- a cut is found behind the spaces
+-- a cut is found after the spaces
 pub found_of : (at g : ℕ) (bytes : List ℕ) (t : Token) (rest : List ℕ) → IsLongestRun is_space bytes g → Cut at bytes t rest → Found at g (drop g bytes) t rest
 found_of at g bytes t rest r c =
     let gap_run : IsLongestRun is_space bytes (length c.gap) = subst (λ (b : List ℕ). IsLongestRun is_space b (length c.gap)) (sym c.whole) (run_of_text is_space c.gap (c.text ++ rest) c.blank (text_stops t.kind c.text rest c.spelled)) in
@@ -250,7 +250,7 @@ found_of at g bytes t rest r c =
       rest_is = sym (ap (λ (b : List ℕ). drop (t.end - t.start) b) body_is ∙ drop_at c.text rest (t.end - t.start) (sym n_is));
     }
 
--- a shape behind the spaces is a cut
+-- a shape after the spaces is a cut
 pub cut_made : (at g n : ℕ) (bytes : List ℕ) (t : Token) → IsLongestRun is_space bytes g → IsTokenFront t.kind n (drop g bytes) → t.start ≡ at + g → t.end ≡ t.start + n → Cut at bytes t (drop n (drop g bytes))
 cut_made at g n bytes t r s start end =
     let x = shape_text t.kind n (drop g bytes) s in

@@ -4,6 +4,7 @@ use Rattle.it_syntax.specs.declared.types.Code.{Code}
 use Rattle.it_syntax.specs.declared.types.Code.TheVariants as codes
 use Rattle.it_syntax.specs.Letters.{Letter, Bad, MarkedLetters, letters, without_marks}
 
+-- the first of these letters, if there is one
 abbrev pub head : List Letter → Option Letter
 head [] = None
 head (l ∷ ls) = Some l

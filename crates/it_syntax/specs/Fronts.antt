@@ -10,11 +10,13 @@ pub record IsLongestRun (f : ℕ → Bool) (bytes : List ℕ) (n : ℕ) : Type 0
   pub all : AreAll f (take n bytes)
   pub stops : Stops f (drop n bytes)
 
+-- whether the second bytes begin with the first
 abbrev pub starts_with : List ℕ → List ℕ → Bool
 starts_with [] bytes = true
 starts_with (b ∷ bs) [] = false
 starts_with (b ∷ bs) (c ∷ cs) = (b == c) && starts_with bs cs
 
+-- the first of these symbols that the bytes begin with, if there is one
 abbrev pub find_symbol : List Symbol → List ℕ → Option Symbol
 find_symbol [] bytes = None
 find_symbol (s ∷ ss) bytes = if starts_with (symbol_text s) bytes then Some s else find_symbol ss bytes

@@ -12,12 +12,14 @@ use Rattle.it_syntax.specs.Lines.{SaysAs, letters_from, FaultAt}
 abbrev pub IsGiven : NamesView → List ℕ → LineTokens → ℕ → GivenView → Type 0
 IsGiven v line ts from y = SaysAs (spell_given (scope_of v false)) (given_of (scope_of v false)) (letters_from line ts from) y
 
--- A line from a token on is at most one constraint, or has at most one first fault, and not both.
+-- a line is at most one constraint from a token on
 abbrev pub GivenIsOne : Type 0
 GivenIsOne = (v : NamesView) (line : List ℕ) (ts : LineTokens) (from : ℕ) (y z : GivenView) → IsGiven v line ts from y → IsGiven v line ts from z → y ≡ z
 
+-- a line has at most one first fault from a token on, with its column and its code
 abbrev pub GivenFaultIsOne : Type 0
 GivenFaultIsOne = (v : NamesView) (line : List ℕ) (ts : LineTokens) (from a b : ℕ) (c d : Code) → FaultAt (spell_given (scope_of v false)) line ts from a c → FaultAt (spell_given (scope_of v false)) line ts from b d → (a ≡ b) × (c ≡ d)
 
+-- no line both is a constraint and has a first fault, from a token on
 abbrev pub GivenOrFault : Type 0
 GivenOrFault = (v : NamesView) (line : List ℕ) (ts : LineTokens) (from a : ℕ) (c : Code) (y : GivenView) → IsGiven v line ts from y → FaultAt (spell_given (scope_of v false)) line ts from a c → ⊥

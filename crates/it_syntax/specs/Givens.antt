@@ -15,12 +15,14 @@ pub data GivenView : Type 0 where
   Independent : (members : List ℕ) (given : ℕ) → GivenView
   Function : (value argument : ℕ) → GivenView
 
+-- what contracts see of a given
 abbrev pub given_view : Given → GivenView
 given_view (givens.Relation r) = Relation (relation_view r)
 given_view (givens.Markov sets) = Markov sets.items
 given_view (givens.Independent members given) = Independent members.items given
 given_view (givens.Function value argument) = Function value argument
 
+-- the union of sets
 abbrev pub union_of : List ℕ → ℕ
 union_of sets = fold bit_or 0 sets
 
@@ -31,6 +33,7 @@ links_from past (here ∷ next ∷ sets) = Mutual past next here ∷ links_from 
 links_from past (here ∷ []) = []
 links_from past [] = []
 
+-- all links of a chain
 abbrev pub links : List ℕ → List Atom
 links [] = []
 links (first ∷ sets) = links_from first sets

@@ -3,10 +3,11 @@ use Rattle.std.specs.Prelude.{◌≡◌, List, [], Result, Ok, Err}
 use Rattle.it_syntax.specs.declared.rest.Stop.{Stop}
 use Rattle.it_syntax.specs.declared.rest.Rest.{Rest}
 use Rattle.it_syntax.specs.Letters.{Letter}
-use Rattle.it_syntax.specs.AtomReading.{Reads, Fault}
+use Rattle.it_syntax.specs.MeasureReading.{Reads, Fault}
 use Rattle.it_syntax.specs.Spans.{letters_until, last_letter}
 use Rattle.it_syntax.specs.declared.rest.Stop.TheVariants as stops
 
+-- the letters of what is left of a line
 abbrev pub letters_left : Rest → List Letter
 letters_left r = letters_until r.line.now r.tokens.now (last_letter r.misspelling)
 
@@ -20,6 +21,7 @@ abbrev pub GivesBy : {X Y : Type 0} → (X → Y) → Result X Stop → List Let
 GivesBy view (Ok x) rest read = read ≡ Ok (view x, rest)
 GivesBy view (Err e) rest read = StopsAs e rest read
 
+-- it gave what reading gives, and left `rest`
 abbrev pub Gives : {X : Type 0} → Result X Stop → List Letter → Reads X → Type 0
 Gives result rest read = GivesBy (λ x. x) result rest read
 

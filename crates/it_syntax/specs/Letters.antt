@@ -19,8 +19,10 @@ MarkedLetters = List (Letter × Option Code)
 abbrev pub without_mark : Letter → Letter × Option Code
 without_mark l = (l, None)
 
+-- the letters without what is said against them
 abbrev pub letters : MarkedLetters → List Letter
 letters m = map (λ (x : Letter × Option Code). x.0) m
 
+-- nothing is said against any of them
 abbrev pub without_marks : List Letter → MarkedLetters
 without_marks ls = map without_mark ls

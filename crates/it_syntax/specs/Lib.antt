@@ -4,8 +4,8 @@ pub mod Spelling
 pub mod Fronts
 pub mod Letters
 pub mod Spans
-pub mod WrittenAtoms
-pub mod AtomReading
+pub mod WrittenMeasures
+pub mod MeasureReading
 pub mod FirstFault
 pub mod Gives
 pub mod WrittenRelations

@@ -9,7 +9,7 @@ use Rattle.it_syntax.specs.declared.types.SyntaxFault.TheVariants.{Memory, Fault
 use Rattle.it_syntax.specs.Letters.{Letter, End, MarkedLetters, without_mark, without_marks}
 use Rattle.it_syntax.specs.Spans.{letters_until, last_letter}
 use Rattle.it_syntax.specs.FirstFault.{FirstFault}
-use Rattle.it_syntax.specs.AtomReading.{Reads, ◌>>=◌, line_end}
+use Rattle.it_syntax.specs.MeasureReading.{Reads, ◌>>=◌, line_end}
 
 -- the tree, and then the line's end
 abbrev pub spell_with_end : {X : Type 0} → (X → MarkedLetters → MarkedLetters) → X → MarkedLetters
@@ -30,19 +30,20 @@ to_end f ls = do
 abbrev pub letters_from : List ℕ → LineTokens → ℕ → List Letter
 letters_from line ts from = letters_until line (drop from ts.tokens.items) (last_letter ts.misspelling)
 
+-- where a token ends, or 0 where there is none
 abbrev pub end_of : Option Token → ℕ
 end_of None = 0
 end_of (Some t) = t.end
 
--- the column of what stands behind the tokens: the misspelling's, or the one after the last token
-abbrev pub column_behind : List Token → Option Misspelling → ℕ
-column_behind ts None = end_of (slice_get ts (length ts - 1)) + 1
-column_behind ts (Some m) = m.column
+-- the column of what stands after the tokens: the misspelling's, or the one after the last token
+abbrev pub column_after : List Token → Option Misspelling → ℕ
+column_after ts None = end_of (slice_get ts (length ts - 1)) + 1
+column_after ts (Some m) = m.column
 
--- the column of the first of these tokens, counted from 1, or where there is none the column behind
+-- the column of the first of these tokens, counted from 1, or where there is none the column `after`
 abbrev pub column_of : List Token → ℕ → ℕ
-column_of [] behind = behind
-column_of (t ∷ ts) behind = t.start + 1
+column_of [] after = after
+column_of (t ∷ ts) after = t.start + 1
 
 -- Of a line from its token number `from` on, the first fault is `code`, at this column.
 pub record FaultAt {X : Type 0} (spell : X → MarkedLetters → MarkedLetters) (line : List ℕ) (ts : LineTokens) (from : ℕ) (column : ℕ) (code : Code) : Type 0 where
@@ -50,7 +51,7 @@ pub record FaultAt {X : Type 0} (spell : X → MarkedLetters → MarkedLetters) 
   pub at : ℕ
   pub within : at ≤ length ts.tokens.items
   pub first : FirstFault (spell_with_end spell) (letters_from line ts from) code (letters_from line ts at)
-  pub place : column ≡ column_of (drop at ts.tokens.items) (column_behind ts.tokens.items ts.misspelling)
+  pub place : column ≡ column_of (drop at ts.tokens.items) (column_after ts.tokens.items ts.misspelling)
 
 -- of an error: memory ran out, or it is the first fault
 abbrev pub IsFirstFault : {X : Type 0} → (X → MarkedLetters → MarkedLetters) → List ℕ → LineTokens → ℕ → SyntaxFault → Type 0

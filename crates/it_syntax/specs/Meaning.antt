@@ -15,6 +15,7 @@ pub record RelationView : Type 0 where
   pub sign : Sign
   pub right : List Term
 
+-- what contracts see of a relation
 abbrev pub relation_view : Relation → RelationView
 relation_view r = record { left = r.left.terms.items; sign = r.sign; right = r.right.terms.items }
 
@@ -26,6 +27,7 @@ atom_at n p (Mutual left right given) =
     (p (bit_or left given) +ℤ p (bit_or right given)) -ℤ (p (bit_or (bit_or left right) given) +ℤ p given)
 atom_at n p (Rate r) = p (2 ^ n + r)
 
+-- the value of a term: its atom's, times its number with its sign
 abbrev pub term_at : ℕ → (ℕ → ℤ) → Term → ℤ
 term_at n p t = (if t.negative then neg_ℤ (pos t.number) else pos t.number) *ℤ atom_at n p t.atom
 
@@ -38,6 +40,7 @@ side_at n p (t ∷ ts) = term_at n p t +ℤ side_at n p ts
 abbrev pub difference_at : ℕ → (ℕ → ℤ) → RelationView → ℤ
 difference_at n p r = side_at n p r.left -ℤ side_at n p r.right
 
+-- two numbers compare as the sign says
 abbrev pub Compares : Sign → ℤ → ℤ → Type 0
 Compares AtLeast x y = y ≤ℤ x
 Compares AtMost x y = x ≤ℤ y

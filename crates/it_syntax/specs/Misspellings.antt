@@ -24,7 +24,7 @@ IsWrong codes.Many body = StartsWith is_ascii_alphabetic body × ((n : ℕ) × (
 IsWrong codes.Number body = StartsWith is_ascii_digit body × ((n : ℕ) × (IsLongestRun is_ascii_digit body n × IsSomeAnd (value_from 0 (take n body)) (λ v. 2 ^ 64 ≤ v)))
 IsWrong c body = ⊥
 
--- Behind spaces, a misspelling stands in the bytes from column `at` on.
+-- After spaces, a misspelling stands in the bytes from column `at` on.
 pub record IsMisspellingAt (at : ℕ) (bytes : List ℕ) (m : Misspelling) : Type 0 where
   pub gap : List ℕ
   pub body : List ℕ

@@ -2,6 +2,7 @@
 use Rattle.std.specs.Prelude.{◌≡◌, ℕ, ◌≤◌, List, ◌++◌, length, Option, None, All, bytes_eq}
 use Rattle.std.specs.List.{position, IsDistinct}
 
+-- the names of a question's variables, and of its rates
 pub record NamesView : Type 0 where
   pub variables : List (List ℕ)
   pub rates : List (List ℕ)

@@ -4,7 +4,7 @@ use Rattle.it_number.specs.Decimals.{value_from}
 use Rattle.it_syntax.specs.declared.rest.Stop.{Stop}
 use Rattle.it_syntax.specs.declared.rest.Piece.{Piece}
 use Rattle.it_syntax.specs.Letters.{Letter, Word, Number, Sym, End, Bad}
-use Rattle.it_syntax.specs.AtomReading.{Reads, Fault, ◌>>=◌}
+use Rattle.it_syntax.specs.MeasureReading.{Reads, Fault, ◌>>=◌}
 use Rattle.it_syntax.specs.declared.types.Symbol.TheVariants.{Comma, Plus, Minus}
 use Rattle.it_syntax.specs.declared.types.Term.{Term}
 use Rattle.it_syntax.specs.declared.types.TokenKind.{TokenKind}
@@ -16,6 +16,7 @@ use Rattle.it_syntax.specs.Fronts.{IsLongestRun, symbol_of}
 use Rattle.it_syntax.specs.declared.rest.Piece.TheVariants as pieces
 use Rattle.it_syntax.specs.declared.types.TokenKind.TheVariants as kinds
 
+-- a piece and the letters after it; after the line's end and after a misspelling there are none
 abbrev pub with_front : Piece → List Letter → List Letter
 with_front (pieces.Word w) ls = Word w.now ∷ ls
 with_front (pieces.Number n) ls = Number n ∷ ls
@@ -33,10 +34,12 @@ abbrev pub Passes : Result (Unit {0}) Stop → List Letter → Result (List Lett
 Passes (Ok x) rest read = read ≡ Ok rest
 Passes (Err e) rest read = StopsAs e rest read
 
+-- what stands after a comma, if one stands there
 abbrev pub after_comma : List Letter → Option (List Letter)
 after_comma (Sym Comma ∷ ls) = Some ls
 after_comma ls = None
 
+-- whether a sign is `-`, and what stands after it, if one stands there
 abbrev pub after_sign : List Letter → Option (Bool × List Letter)
 after_sign (Sym Plus ∷ ls) = Some (false, ls)
 after_sign (Sym Minus ∷ ls) = Some (true, ls)
@@ -52,5 +55,6 @@ IsTokenFront kinds.Word n body = StartsWith is_ascii_alphabetic body × IsLonges
 IsTokenFront (kinds.Number v) n body = StartsWith is_ascii_digit body × IsLongestRun is_ascii_digit body n × (value_from 0 (take n body) ≡ Some v) × (v < 2 ^ 64)
 IsTokenFront (kinds.Symbol s) n body = (symbol_of body ≡ Some s) × (n ≡ length (symbol_text s))
 
+-- the bytes that a token takes
 abbrev pub token_text : List ℕ → Token → List ℕ
 token_text line t = take (t.end - t.start) (drop t.start line)

@@ -12,12 +12,14 @@ use Rattle.it_syntax.specs.Scopes.{scope_of}
 abbrev pub IsRelation : NamesView → Bool → List ℕ → LineTokens → ℕ → RelationView → Type 0
 IsRelation v rates line ts from y = SaysAs (spell_relation (scope_of v rates)) (relation_of (scope_of v rates)) (letters_from line ts from) y
 
--- A line from a token on is at most one relation, or has at most one first fault, and not both.
+-- a line is at most one relation from a token on
 abbrev pub RelationIsOne : Type 0
 RelationIsOne = (v : NamesView) (rates : Bool) (line : List ℕ) (ts : LineTokens) (from : ℕ) (y z : RelationView) → IsRelation v rates line ts from y → IsRelation v rates line ts from z → y ≡ z
 
+-- a line has at most one first fault from a token on, with its column and its code
 abbrev pub RelationFaultIsOne : Type 0
 RelationFaultIsOne = (v : NamesView) (rates : Bool) (line : List ℕ) (ts : LineTokens) (from a b : ℕ) (c d : Code) → FaultAt (spell_relation (scope_of v rates)) line ts from a c → FaultAt (spell_relation (scope_of v rates)) line ts from b d → (a ≡ b) × (c ≡ d)
 
+-- no line both is a relation and has a first fault, from a token on
 abbrev pub RelationOrFault : Type 0
 RelationOrFault = (v : NamesView) (rates : Bool) (line : List ℕ) (ts : LineTokens) (from a : ℕ) (c : Code) (y : RelationView) → IsRelation v rates line ts from y → FaultAt (spell_relation (scope_of v rates)) line ts from a c → ⊥

@@ -10,32 +10,34 @@ use Rattle.it_syntax.specs.declared.types.Sign.{Sign}
 use Rattle.it_syntax.specs.declared.types.Sign.TheVariants.{AtLeast, AtMost, Equal}
 use Rattle.it_syntax.specs.Letters.{Letter, Word, Number, Sym}
 use Rattle.it_syntax.specs.Meaning.{RelationView}
-use Rattle.it_syntax.specs.WrittenAtoms.{is_measure}
+use Rattle.it_syntax.specs.WrittenMeasures.{is_measure}
 use Rattle.it_syntax.specs.WrittenRelations.{Scope, most_terms}
-use Rattle.it_syntax.specs.AtomReading.{Reads, ◌>>=◌, no_rule, read_atom, read_sign}
+use Rattle.it_syntax.specs.MeasureReading.{Reads, ◌>>=◌, no_rule, read_measure, read_sign}
 
 -- a word that may be an unknown rate
 abbrev pub rate_or_fault : List ℕ → Option ℕ → List Letter → Reads Atom
 rate_or_fault w (Some i) ls = Ok (Rate i, ls)
 rate_or_fault w None ls = Err (codes.Name, Word w ∷ ls)
 
-unfoldable pub read_quantity : Scope → List Letter → Reads Atom
-read_quantity s (Word w ∷ ls) = if is_measure w then read_atom s.variables (Word w ∷ ls) else rate_or_fault w (s.rates w) ls
-read_quantity s ls = no_rule ls
+-- an entropy, a mutual information or a rate
+unfoldable pub read_atom : Scope → List Letter → Reads Atom
+read_atom s (Word w ∷ ls) = if is_measure w then read_measure s.variables (Word w ∷ ls) else rate_or_fault w (s.rates w) ls
+read_atom s ls = no_rule ls
 
 -- what is counted by a number, under a sign
 unfoldable pub after_number : Scope → Bool → ℕ → List Letter → Reads Term
 after_number s minus n (Word w ∷ ls) = do
-  q ← read_quantity s (Word w ∷ ls)
-  Ok (record { negative = minus; number = n; atom = q.0 }, q.1)
+  a ← read_atom s (Word w ∷ ls)
+  Ok (record { negative = minus; number = n; atom = a.0 }, a.1)
 after_number s minus zero ls = Ok (record { negative = minus; number = 0; atom = Nothing }, ls)
 after_number s minus (suc n) ls = no_rule ls
 
+-- a term, after its sign
 unfoldable pub read_term : Scope → Bool → List Letter → Reads Term
 read_term s minus (Number n ∷ ls) = after_number s minus n ls
 read_term s minus ls = do
-  q ← read_quantity s ls
-  Ok (record { negative = minus; number = 1; atom = q.0 }, q.1)
+  a ← read_atom s ls
+  Ok (record { negative = minus; number = 1; atom = a.0 }, a.1)
 
 -- a rate too many, if it isn't unknown
 abbrev pub surplus_rate : List ℕ → Option ℕ → List Letter → Reads (List Term)
@@ -70,15 +72,18 @@ read_counted (suc n) s minus ls = do
   ts ← read_terms n s t.1
   Ok (t.0 ∷ ts.0, ts.1)
 
+-- a sum, of which n terms are allowed
 unfoldable pub read_sum : ℕ → Scope → List Letter → Reads (List Term)
 read_sum n s ls = read_counted n s (read_sign ls).0 (read_sign ls).1
 
+-- `>=`, `<=` or `=`, which must stand there
 unfoldable pub read_compare : List Letter → Reads Sign
 read_compare (Sym symbols.AtLeast ∷ ls) = Ok (AtLeast, ls)
 read_compare (Sym symbols.AtMost ∷ ls) = Ok (AtMost, ls)
 read_compare (Sym symbols.Equal ∷ ls) = Ok (Equal, ls)
 read_compare ls = no_rule ls
 
+-- a relation, of at most 256 terms
 unfoldable pub read_relation : Scope → List Letter → Reads RelationView
 read_relation s ls = do
   left ← read_sum most_terms s ls

@@ -1,9 +1,10 @@
 -- The names of a question as the grammar takes them: the variables, and where rates may stand the rates too.
 use Rattle.it_syntax.specs.NamesViews.{NamesView, index_of}
-use Rattle.it_syntax.specs.WrittenAtoms.{Environment}
+use Rattle.it_syntax.specs.WrittenMeasures.{Environment}
 use Rattle.std.specs.Prelude.{Bool, None, if◌then◌else◌}
 use Rattle.it_syntax.specs.WrittenRelations.{Scope}
 
+-- which of the variables a name is
 unfoldable pub env_of : NamesView → Environment
 env_of v = index_of v.variables
 

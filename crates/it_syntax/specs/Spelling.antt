@@ -15,15 +15,19 @@ use Rattle.it_syntax.specs.declared.types.Token.{Token}
 unfoldable pub is_word_byte : ℕ → Bool
 is_word_byte b = is_ascii_alphabetic b || (is_ascii_digit b || b == 95)
 
+-- what may stand between tokens
 abbrev pub is_space : ℕ → Bool
 is_space b = b == 32
 
+-- `>`, which makes an arrow of a minus
 abbrev pub is_greater : ℕ → Bool
 is_greater b = 62 == b
 
+-- each byte is of this kind
 abbrev pub AreAll : (ℕ → Bool) → List ℕ → Type 0
 AreAll f bytes = AllByRecursion (λ b. f b ≡ true) bytes
 
+-- a byte of this kind stands in front
 abbrev pub StartsWith : (ℕ → Bool) → List ℕ → Type 0
 StartsWith f [] = ⊥
 StartsWith f (b ∷ bs) = f b ≡ true
@@ -35,6 +39,7 @@ Stops f (b ∷ bs) = f b ≡ false
 
 -- ---- tokens
 
+-- how a symbol is written
 abbrev pub symbol_text : Symbol → List ℕ
 symbol_text LeftParen = codes "("
 symbol_text RightParen = codes ")"
@@ -62,7 +67,7 @@ EndsToken (kinds.Number n) rest = Stops is_ascii_digit rest
 EndsToken (kinds.Symbol Minus) rest = Stops is_greater rest
 EndsToken (kinds.Symbol s) rest = Unit {0}
 
--- Behind spaces, token t is cut off the bytes from column `at` on, and `rest` is behind it.
+-- After spaces, token t is cut off the bytes from column `at` on, and `rest` is after it.
 pub record Cut (at : ℕ) (bytes : List ℕ) (t : Token) (rest : List ℕ) : Type 0 where
   pub gap : List ℕ
   pub text : List ℕ

@@ -6,20 +6,24 @@ use Rattle.it_syntax.specs.declared.rest.Divider.{Divider}
 use Rattle.it_syntax.specs.declared.rest.Divider.TheVariants.{Arrows, Semicolons}
 use Rattle.it_syntax.specs.declared.types.Symbol.TheVariants.{Arrow, Semicolon, Bar}
 use Rattle.it_syntax.specs.Letters.{Letter, Word, Sym, MarkedLetters, without_mark}
-use Rattle.it_syntax.specs.WrittenAtoms.{Environment, WrittenList, TermSign, spell_list, list_set, mark_surplus}
+use Rattle.it_syntax.specs.WrittenMeasures.{Environment, WrittenList, TermSign, spell_list, list_set, mark_surplus}
 use Rattle.it_syntax.specs.WrittenRelations.{Scope, WrittenTerm, Once, RateOf, WrittenRelation, spell_relation, relation_of}
 use Rattle.it_syntax.specs.Givens.{GivenView}
 use Rattle.it_syntax.specs.Givens as given_views
 
+-- the word before a chain
 abbrev pub markov_text : List ℕ
 markov_text = codes "markov"
 
+-- the word before an independence
 abbrev pub indep_text : List ℕ
 indep_text = codes "indep"
 
+-- the word before a function
 abbrev pub func_text : List ℕ
 func_text = codes "func"
 
+-- the word between a function and its argument
 abbrev pub of_text : List ℕ
 of_text = codes "of"
 
@@ -27,7 +31,7 @@ of_text = codes "of"
 abbrev pub is_form : List ℕ → Bool
 is_form w = bytes_eq w markov_text || (bytes_eq w indep_text || bytes_eq w func_text)
 
--- the first term, behind its sign, is written as one of these words alone
+-- the first term, after its sign, is written as one of these words alone
 abbrev pub is_form_first : Option TermSign → WrittenTerm → Bool
 is_form_first None (Once (RateOf r)) = is_form r.text
 is_form_first o t = false
@@ -37,22 +41,26 @@ pub record PlainRelation : Type 0 where
   pub relation : WrittenRelation
   pub plain : is_form_first relation.left.sign relation.left.first ≡ false
 
+-- after `markov`: three or more lists
 pub record WrittenChain : Type 0 where
   pub first : WrittenList
   pub second : WrittenList
   pub third : WrittenList
   pub more : List WrittenList
 
+-- after `indep`: two or more lists, and what is given, if anything is
 pub record WrittenIndependence : Type 0 where
   pub first : WrittenList
   pub second : WrittenList
   pub more : List WrittenList
   pub given : Option WrittenList
 
+-- after `func`: a list, and the list of its argument
 pub record WrittenFunction : Type 0 where
   pub value : WrittenList
   pub argument : WrittenList
 
+-- the constraint of a `given` line
 pub data WrittenGiven : Type 0 where
   Relation : (relation : PlainRelation) → WrittenGiven
   Markov : (chain : WrittenChain) → WrittenGiven
@@ -74,17 +82,20 @@ spell_members (suc n) d env (l ∷ ls) k = without_mark (divider_letter d) ∷ s
 abbrev pub spell_chain : Environment → WrittenChain → MarkedLetters → MarkedLetters
 spell_chain env x k = spell_list env x.first (without_mark (Sym Arrow) ∷ spell_list env x.second (without_mark (Sym Arrow) ∷ spell_list env x.third (spell_members 13 Arrows env x.more k)))
 
+-- `|` and a list, or nothing
 abbrev pub spell_bar : Environment → Option WrittenList → MarkedLetters → MarkedLetters
 spell_bar env None k = k
 spell_bar env (Some c) k = without_mark (Sym Bar) ∷ spell_list env c k
 
--- and two here
+-- an independence: two members stand before the further ones
 abbrev pub spell_independence : Environment → WrittenIndependence → MarkedLetters → MarkedLetters
 spell_independence env x k = spell_list env x.first (without_mark (Sym Semicolon) ∷ spell_list env x.second (spell_members 14 Semicolons env x.more (spell_bar env x.given k)))
 
+-- a list, `of`, and the list of its argument
 abbrev pub spell_function : Environment → WrittenFunction → MarkedLetters → MarkedLetters
 spell_function env x k = spell_list env x.value (without_mark (Word of_text) ∷ spell_list env x.argument k)
 
+-- the constraint of a `given` line, with its first word
 abbrev pub spell_given : Scope → WrittenGiven → MarkedLetters → MarkedLetters
 spell_given s (Relation x) k = spell_relation s x.relation k
 spell_given s (Markov x) k = without_mark (Word markov_text) ∷ spell_chain s.variables x k
@@ -92,6 +103,8 @@ spell_given s (Independent x) k = without_mark (Word indep_text) ∷ spell_indep
 spell_given s (Function x) k = without_mark (Word func_text) ∷ spell_function s.variables x k
 
 -- ---- what a tree says
+
+-- the sets of lists, in order
 abbrev pub sets_of : Environment → List WrittenList → List ℕ
 sets_of env [] = []
 sets_of env (l ∷ ls) = list_set env l ∷ sets_of env ls
@@ -101,15 +114,19 @@ abbrev pub bar_set : Environment → Option WrittenList → ℕ
 bar_set env None = 0
 bar_set env (Some c) = list_set env c
 
+-- what a chain says: its sets in order
 abbrev pub chain_of : Environment → WrittenChain → GivenView
 chain_of env x = given_views.Markov (list_set env x.first ∷ list_set env x.second ∷ list_set env x.third ∷ sets_of env x.more)
 
+-- what an independence says: its sets in order, and the set that is given
 abbrev pub independence_of : Environment → WrittenIndependence → GivenView
 independence_of env x = given_views.Independent (list_set env x.first ∷ list_set env x.second ∷ sets_of env x.more) (bar_set env x.given)
 
+-- what a function says: its set, and that of its argument
 abbrev pub function_of : Environment → WrittenFunction → GivenView
 function_of env x = given_views.Function (list_set env x.value) (list_set env x.argument)
 
+-- what the constraint of a `given` line says
 abbrev pub given_of : Scope → WrittenGiven → GivenView
 given_of s (Relation x) = given_views.Relation (relation_of s x.relation)
 given_of s (Markov x) = chain_of s.variables x

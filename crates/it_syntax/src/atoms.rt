@@ -1,129 +1,126 @@
-//! Readers of entropies and mutual informations.
-ghost use Rattle.it_syntax.specs.Gives.{Gives, letters_left};
-ghost use Rattle.it_syntax.specs.ReaderSteps.{Passes};
-ghost use Rattle.it_syntax.specs.AtomReading.{close_paren, open_paren, semicolon, bar_or_close, read_given_set, read_entropy, read_mutual_information, read_atom};
-ghost use Rattle.it_syntax.specs.Scopes.{env_of};
+//! Readers of entropies, mutual informations and rates, and of terms that count them.
+ghost use Rattle.std.specs.Prelude.{◌≡◌};
+ghost use Rattle.it_syntax.specs.MeasureReading.{read_measure};
+ghost use Rattle.it_syntax.specs.Scopes.{scope_of};
+ghost use Rattle.it_syntax.specs.RelationReading.{read_atom, after_number, read_term, read_surplus_term};
+ghost use Rattle.it_syntax.specs.Gives.{Gives, StopsAs, letters_left};
 
-use crate::lists::{ENTROPY, MUTUAL, list};
+use crate::lists::is_measure;
+use crate::measures::measure;
 use crate::names::Names;
 use crate::rest::{Piece, Rest, Stop};
-use crate::types::{Atom, Code, Symbol};
-use it_space::VarSet;
+use crate::types::{Atom, Code, Term};
 
-/// The set, behind which `)` must stand.
-#[tactic(auto, unfolding(crate::specs::AtomReading::close_paren))]
-fn close_paren(set: VarSet, rest: &mut Rest<'_>) -> Result<VarSet, Stop>
-    ensures { Gives result (letters_left rest.new) (close_paren set (letters_left rest.old)) }
+/// The rate of this name, if rates may stand there.
+#[tactic(auto, unfolding(crate::specs::Scopes::scope_of))]
+fn rate(names: &Names, rates: bool, name: &[u8]) -> Option<u8>
+    ensures { result ≡ (scope_of names.now rates).rates name.now }
 {
-    match rest.front() {
-        (Piece::Symbol(Symbol::RightParen), behind) => {
-            *rest = behind;
-            Ok(set)
-        }
-        _ => Err(rest.fault()),
-    }
-}
-
-/// A `(` that must stand there.
-#[tactic(auto, unfolding(crate::specs::AtomReading::open_paren))]
-fn open_paren(rest: &mut Rest<'_>) -> Result<(), Stop>
-    ensures { Passes result (letters_left rest.new) (open_paren (letters_left rest.old)) }
-{
-    match rest.front() {
-        (Piece::Symbol(Symbol::LeftParen), behind) => {
-            *rest = behind;
-            Ok(())
-        }
-        _ => Err(rest.fault()),
-    }
-}
-
-/// A `;` that must stand there.
-#[tactic(auto, unfolding(crate::specs::AtomReading::semicolon))]
-pub fn semicolon(rest: &mut Rest<'_>) -> Result<(), Stop>
-    ensures { Passes result (letters_left rest.new) (semicolon (letters_left rest.old)) }
-{
-    match rest.front() {
-        (Piece::Symbol(Symbol::Semicolon), behind) => {
-            *rest = behind;
-            Ok(())
-        }
-        _ => Err(rest.fault()),
-    }
-}
-
-/// Whether `|` stands there, and not `)`.
-#[tactic(auto, unfolding(crate::specs::AtomReading::bar_or_close))]
-fn bar_or_close(rest: &mut Rest<'_>) -> Result<bool, Stop>
-    ensures { Gives result (letters_left rest.new) (bar_or_close (letters_left rest.old)) }
-{
-    match rest.front() {
-        (Piece::Symbol(Symbol::Bar), behind) => {
-            *rest = behind;
-            Ok(true)
-        }
-        (Piece::Symbol(Symbol::RightParen), behind) => {
-            *rest = behind;
-            Ok(false)
-        }
-        _ => Err(rest.fault()),
-    }
-}
-
-/// What is given, up to `)`.
-#[tactic(auto, unfolding(crate::specs::AtomReading::read_given_set))]
-fn given_set(rest: &mut Rest<'_>, names: &Names) -> Result<VarSet, Stop>
-    ensures { Gives result (letters_left rest.new) (read_given_set (env_of names.now) (letters_left rest.old)) }
-{
-    if bar_or_close(rest)? {
-        let set = list(rest, names)?;
-        close_paren(set, rest)
-    } else {
-        Ok(VarSet::empty())
-    }
-}
-
-/// An entropy, behind its `H`.
-#[tactic(auto, unfolding(crate::specs::AtomReading::read_entropy))]
-fn entropy(rest: &mut Rest<'_>, names: &Names) -> Result<Atom, Stop>
-    ensures { Gives result (letters_left rest.new) (read_entropy (env_of names.now) (letters_left rest.old)) }
-{
-    open_paren(rest)?;
-    let of = list(rest, names)?;
-    let given = given_set(rest, names)?;
-    Ok(Atom::Entropy { of, given })
-}
-
-/// A mutual information, behind its `I`.
-#[tactic(auto, unfolding(crate::specs::AtomReading::read_mutual_information))]
-fn mutual_information(rest: &mut Rest<'_>, names: &Names) -> Result<Atom, Stop>
-    ensures { Gives result (letters_left rest.new) (read_mutual_information (env_of names.now) (letters_left rest.old)) }
-{
-    open_paren(rest)?;
-    let left = list(rest, names)?;
-    semicolon(rest)?;
-    let right = list(rest, names)?;
-    let given = given_set(rest, names)?;
-    Ok(Atom::Mutual { left, right, given })
+    if rates { names.rate(name) } else { None }
 }
 
 /// An entropy or a mutual information.
-#[tactic(auto, unfolding(crate::specs::AtomReading::read_atom))]
-pub fn atom(rest: &mut Rest<'_>, names: &Names) -> Result<Atom, Stop>
-    ensures { Gives result (letters_left rest.new) (read_atom (env_of names.now) (letters_left rest.old)) }
+#[tactic(auto, unfolding(crate::specs::Scopes::scope_of))]
+fn measure_in_scope(rest: &mut Rest<'_>, names: &Names, rates: bool) -> Result<Atom, Stop>
+    ensures { Gives result (letters_left rest.new) (read_measure (scope_of names.now rates).variables (letters_left rest.old)) }
+{
+    let _ = rates;
+    measure(rest, names)
+}
+
+/// An entropy, a mutual information or a rate.
+#[tactic(auto, unfolding(crate::specs::RelationReading::read_atom))]
+fn atom(rest: &mut Rest<'_>, names: &Names, rates: bool) -> Result<Atom, Stop>
+    ensures { Gives result (letters_left rest.new) (read_atom (scope_of names.now rates) (letters_left rest.old)) }
 {
     match rest.front() {
-        (Piece::Word(word), behind) => {
-            if word == ENTROPY {
-                *rest = behind;
-                entropy(rest, names)
-            } else if word == MUTUAL {
-                *rest = behind;
-                mutual_information(rest, names)
-            } else {
-                Err(Stop::Fault(Code::Word))
+        (Piece::Word(word), after) => {
+            if is_measure(word) {
+                return measure_in_scope(rest, names, rates);
+            }
+            match rate(names, rates, word) {
+                Some(i) => {
+                    *rest = after;
+                    Ok(Atom::Rate(i))
+                }
+                None => Err(Stop::Fault(Code::Name)),
             }
         }
         _ => Err(rest.fault()),
+    }
+}
+
+/// The term after its number; `0` may stand alone.
+#[tactic(auto, unfolding(crate::specs::RelationReading::after_number))]
+fn after_number(
+    negative: bool,
+    number: u64,
+    rest: &mut Rest<'_>,
+    names: &Names,
+    rates: bool,
+) -> Result<Term, Stop>
+    ensures { Gives result (letters_left rest.new) (after_number (scope_of names.now rates) negative number (letters_left rest.old)) }
+{
+    match rest.front() {
+        (Piece::Word(_), _) => {
+            let atom = atom(rest, names, rates)?;
+            Ok(Term {
+                negative,
+                number,
+                atom,
+            })
+        }
+        _ => {
+            if number == 0 {
+                Ok(Term {
+                    negative,
+                    number,
+                    atom: Atom::Nothing,
+                })
+            } else {
+                Err(rest.fault())
+            }
+        }
+    }
+}
+
+/// A term, after its sign.
+#[tactic(auto, unfolding(crate::specs::RelationReading::read_term))]
+pub fn term(negative: bool, rest: &mut Rest<'_>, names: &Names, rates: bool) -> Result<Term, Stop>
+    ensures { Gives result (letters_left rest.new) (read_term (scope_of names.now rates) negative (letters_left rest.old)) }
+{
+    match rest.front() {
+        (Piece::Number(number), after) => {
+            *rest = after;
+            after_number(negative, number, rest, names, rates)
+        }
+        _ => {
+            let atom = atom(rest, names, rates)?;
+            Ok(Term {
+                negative,
+                number: 1,
+                atom,
+            })
+        }
+    }
+}
+
+/// The fault of a term too many.
+#[tactic(auto, unfolding(crate::specs::RelationReading::read_surplus_term))]
+pub fn surplus_term_fault(rest: &Rest<'_>, names: &Names, rates: bool) -> Stop
+    ensures { StopsAs result (letters_left rest.now) (read_surplus_term (scope_of names.now rates) (letters_left rest.now)) }
+{
+    match rest.front() {
+        (Piece::Number(_), _) => Stop::Fault(Code::Many),
+        (Piece::Word(word), _) => {
+            if is_measure(word) {
+                return Stop::Fault(Code::Many);
+            }
+            match rate(names, rates, word) {
+                Some(_) => Stop::Fault(Code::Many),
+                None => Stop::Fault(Code::Name),
+            }
+        }
+        _ => rest.fault(),
     }
 }

@@ -14,8 +14,8 @@ use std::alloc::{AllocError, Global};
 /// The most bytes that a word has.
 const LONGEST_WORD: usize = 16;
 
-/// The bytes behind the first n.
-fn bytes_behind(bytes: &[u8], n: usize) -> &[u8]
+/// The bytes after the first n.
+fn bytes_after(bytes: &[u8], n: usize) -> &[u8]
     requires { n ≤ length bytes.now }
     ensures { result.now ≡ drop n bytes.now }
 {
@@ -102,7 +102,7 @@ pub fn line_tokens(alloc: Global, line: &[u8]) -> Result<LineTokens, AllocError>
     let mut rest = line;
     loop {
         let gap = spaces(rest);
-        let body = bytes_behind(rest, gap);
+        let body = bytes_after(rest, gap);
         if body.is_empty() {
             return Ok(LineTokens {
                 tokens,
@@ -123,12 +123,13 @@ pub fn line_tokens(alloc: Global, line: &[u8]) -> Result<LineTokens, AllocError>
             }
         };
         let end = start + n as u32;
+        // `?` would do; with the match each case is a goal of its own
         match tokens.push(Token { kind, start, end }) {
             Ok(()) => {}
             Err(_) => return Err(AllocError),
         }
         at = end;
-        rest = bytes_behind(body, n);
+        rest = bytes_after(body, n);
     }
 }
 

@@ -1,4 +1,5 @@
 //! The reader of the constraint of a `given` line.
+//! The lists of first sets are matched where `?` would do: so the proof has the only fault, `Memory`, by its name.
 ghost use Rattle.std.specs.Prelude.{◌≡◌, ◌≤◌, false, [], ◌∷◌, length, IfOk, IfErr};
 ghost use Rattle.it_syntax.specs.declared.rest.Stop.TheVariants.{Memory};
 ghost use Rattle.it_syntax.specs.Scopes.{scope_of};
@@ -12,8 +13,8 @@ ghost use Rattle.it_syntax.specs.Lines.{IsFirstFault, to_end};
 ghost use Rattle.it_syntax.specs.Scopes.{env_of};
 ghost use Rattle.it_syntax.specs.Spans.{InLine};
 
-use crate::atoms::semicolon;
 use crate::lists::list;
+use crate::measures::semicolon;
 use crate::members::{add, members};
 use crate::names::Names;
 use crate::relations::{line_end, relation_part};
@@ -22,18 +23,22 @@ use crate::types::{Code, Given, LineTokens, Symbol, SyntaxFault};
 use it_space::VarSet;
 use std::alloc::Global;
 
+/// The word in front of a chain.
 const MARKOV: &[u8] = b"markov";
 
+/// The word in front of an independence.
 const INDEPENDENT: &[u8] = b"indep";
 
+/// The word in front of a function.
 const FUNCTION: &[u8] = b"func";
 
+/// The word between the two sets of a function.
 const OF: &[u8] = b"of";
 
-/// The most members of a chain, behind its first three: 16 in all.
+/// The most members of a chain, after its first three: 16 in all.
 const FURTHER_LINKS: usize = 13;
 
-/// The most members of an independence, behind its first two: 16 in all.
+/// The most members of an independence, after its first two: 16 in all.
 const FURTHER_MEMBERS: usize = 14;
 
 /// A `->` that must stand there.
@@ -42,8 +47,8 @@ fn arrow(rest: &mut Rest<'_>) -> Result<(), Stop>
     ensures { Passes result (letters_left rest.new) (arrow (letters_left rest.old)) }
 {
     match rest.front() {
-        (Piece::Symbol(Symbol::Arrow), behind) => {
-            *rest = behind;
+        (Piece::Symbol(Symbol::Arrow), after) => {
+            *rest = after;
             Ok(())
         }
         _ => Err(rest.fault()),
@@ -56,9 +61,9 @@ fn word_of(rest: &mut Rest<'_>) -> Result<(), Stop>
     ensures { Passes result (letters_left rest.new) (read_of (letters_left rest.old)) }
 {
     match rest.front() {
-        (Piece::Word(word), behind) => {
+        (Piece::Word(word), after) => {
             if word == OF {
-                *rest = behind;
+                *rest = after;
                 Ok(())
             } else {
                 Err(Stop::Fault(Code::Word))
@@ -68,14 +73,14 @@ fn word_of(rest: &mut Rest<'_>) -> Result<(), Stop>
     }
 }
 
-/// The set behind `|`; the empty set where none stands there.
+/// The set after `|`; the empty set where none stands there.
 #[tactic(auto, unfolding(crate::specs::GivenReading::read_bar))]
 fn bar(rest: &mut Rest<'_>, names: &Names) -> Result<VarSet, Stop>
     ensures { Gives result (letters_left rest.new) (read_bar (env_of names.now) (letters_left rest.old)) }
 {
     match rest.front() {
-        (Piece::Symbol(Symbol::Bar), behind) => {
-            *rest = behind;
+        (Piece::Symbol(Symbol::Bar), after) => {
+            *rest = after;
             list(rest, names)
         }
         _ => Ok(VarSet::empty()),
@@ -110,7 +115,7 @@ fn two_sets(alloc: Global, first: VarSet, second: VarSet) -> Result<Vec<VarSet>,
     Ok(sets)
 }
 
-/// A chain, behind its `markov`.
+/// A chain, after its `markov`.
 #[tactic(auto, unfolding(crate::specs::GivenReading::read_chain))]
 fn chain(alloc: Global, rest: &mut Rest<'_>, names: &Names) -> Result<Given, Stop>
     ensures { GivesBy given_view result (letters_left rest.new) (read_chain (env_of names.now) (letters_left rest.old)) }
@@ -129,7 +134,7 @@ fn chain(alloc: Global, rest: &mut Rest<'_>, names: &Names) -> Result<Given, Sto
     }
 }
 
-/// An independence, behind its `indep`.
+/// An independence, after its `indep`.
 #[tactic(auto, unfolding(crate::specs::GivenReading::read_independence))]
 fn independence(alloc: Global, rest: &mut Rest<'_>, names: &Names) -> Result<Given, Stop>
     ensures { GivesBy given_view result (letters_left rest.new) (read_independence (env_of names.now) (letters_left rest.old)) }
@@ -147,7 +152,7 @@ fn independence(alloc: Global, rest: &mut Rest<'_>, names: &Names) -> Result<Giv
     }
 }
 
-/// A function, behind its `func`.
+/// A function, after its `func`.
 #[tactic(auto, unfolding(crate::specs::GivenReading::read_function))]
 fn function(rest: &mut Rest<'_>, names: &Names) -> Result<Given, Stop>
     ensures { GivesBy given_view result (letters_left rest.new) (read_function (env_of names.now) (letters_left rest.old)) }
@@ -173,15 +178,15 @@ pub fn given_part(alloc: Global, rest: &mut Rest<'_>, names: &Names) -> Result<G
     ensures { GivesBy given_view result (letters_left rest.new) (read_given (scope_of names.now false) (letters_left rest.old)) }
 {
     match rest.front() {
-        (Piece::Word(word), behind) => {
+        (Piece::Word(word), after) => {
             if word == MARKOV {
-                *rest = behind;
+                *rest = after;
                 chain(alloc, rest, names)
             } else if word == INDEPENDENT {
-                *rest = behind;
+                *rest = after;
                 independence(alloc, rest, names)
             } else if word == FUNCTION {
-                *rest = behind;
+                *rest = after;
                 function(rest, names)
             } else {
                 plain_relation(alloc, rest, names)

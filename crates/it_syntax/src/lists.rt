@@ -2,9 +2,9 @@
 ghost use Rattle.std.specs.Bool.{OnTrue, OnFalse};
 ghost use Rattle.std.specs.Prelude.{◌≡◌, ◌<◌, IfSome, OnOk, IfOk, Some, None, length};
 ghost use Rattle.it_syntax.specs.Gives.{Gives, letters_left};
-ghost use Rattle.it_syntax.specs.AtomReading.{read_name, read_more, read_list};
+ghost use Rattle.it_syntax.specs.MeasureReading.{read_name, read_more, read_list};
 ghost use Rattle.it_syntax.specs.ReaderSteps.{after_comma};
-ghost use Rattle.it_syntax.specs.WrittenAtoms.{is_measure};
+ghost use Rattle.it_syntax.specs.WrittenMeasures.{is_measure};
 ghost use Rattle.it_syntax.specs.Scopes.{env_of};
 
 use crate::names::Names;
@@ -35,20 +35,20 @@ pub fn variable(names: &Names, name: &[u8]) -> Option<u8>
 }
 
 /// The name of a variable, which must stand there, by the variable's number.
-#[tactic(auto, unfolding(crate::specs::AtomReading::read_name))]
+#[tactic(auto, unfolding(crate::specs::MeasureReading::read_name))]
 fn name(rest: &mut Rest<'_>, names: &Names) -> Result<u8, Stop>
     ensures gives { Gives result (letters_left rest.new) (read_name (env_of names.now) (letters_left rest.old)) }
     ensures shorter { OnOk result (length (letters_left rest.new) < length (letters_left rest.old)) }
     ensures small { IfOk result (λ i. i < 16) }
 {
     match rest.front() {
-        (Piece::Word(word), behind) => {
+        (Piece::Word(word), after) => {
             if is_measure(word) {
                 return Err(Stop::Fault(Code::Word));
             }
             match variable(names, word) {
                 Some(i) => {
-                    *rest = behind;
+                    *rest = after;
                     Ok(i)
                 }
                 None => Err(Stop::Fault(Code::Name)),
@@ -65,16 +65,16 @@ fn comma(rest: &mut Rest<'_>) -> bool
     ensures same { OnFalse result (letters_left rest.new ≡ letters_left rest.old) }
 {
     match rest.front() {
-        (Piece::Symbol(Symbol::Comma), behind) => {
-            *rest = behind;
+        (Piece::Symbol(Symbol::Comma), after) => {
+            *rest = after;
             true
         }
         _ => false,
     }
 }
 
-/// The set of further names, each behind a comma.
-#[tactic(auto, unfolding(crate::specs::AtomReading::read_more))]
+/// The set of further names, each after a comma.
+#[tactic(auto, unfolding(crate::specs::MeasureReading::read_more))]
 fn more(rest: &mut Rest<'_>, names: &Names) -> Result<VarSet, Stop>
     ensures { Gives result (letters_left rest.new) (read_more (env_of names.now) (letters_left rest.old)) }
 {
@@ -87,7 +87,7 @@ fn more(rest: &mut Rest<'_>, names: &Names) -> Result<VarSet, Stop>
 }
 
 /// The set of a list of names.
-#[tactic(auto, unfolding(crate::specs::AtomReading::read_list))]
+#[tactic(auto, unfolding(crate::specs::MeasureReading::read_list))]
 pub fn list(rest: &mut Rest<'_>, names: &Names) -> Result<VarSet, Stop>
     ensures { Gives result (letters_left rest.new) (read_list (env_of names.now) (letters_left rest.old)) }
 {

@@ -2,7 +2,7 @@
 ghost use Rattle.std.specs.Bool.{OnTrue, OnFalse};
 ghost use Rattle.std.specs.Prelude.{◌≡◌, ◌++◌, [], ◌∷◌, Some, None, OnOk, IfErr};
 ghost use Rattle.it_syntax.specs.declared.rest.Stop.TheVariants.{Memory};
-ghost use Rattle.it_syntax.specs.GivenReading.{behind_divider, read_surplus_member, read_members, with_sets};
+ghost use Rattle.it_syntax.specs.GivenReading.{after_divider, read_surplus_member, read_members, with_sets};
 ghost use Rattle.it_syntax.specs.Gives.{GivesBy, StopsAs, letters_left};
 ghost use Rattle.it_syntax.specs.Scopes.{env_of};
 
@@ -14,21 +14,21 @@ use it_space::VarSet;
 
 /// Takes a divider, if one stands there, and says whether.
 fn is_divided(rest: &mut Rest<'_>, divider: Divider) -> bool
-    ensures taken { OnTrue result (behind_divider divider (letters_left rest.old) ≡ Some (letters_left rest.new)) }
-    ensures none { OnFalse result (behind_divider divider (letters_left rest.old) ≡ None) }
+    ensures taken { OnTrue result (after_divider divider (letters_left rest.old) ≡ Some (letters_left rest.new)) }
+    ensures none { OnFalse result (after_divider divider (letters_left rest.old) ≡ None) }
     ensures same { OnFalse result (letters_left rest.new ≡ letters_left rest.old) }
 {
     match divider {
         Divider::Arrows => match rest.front() {
-            (Piece::Symbol(Symbol::Arrow), behind) => {
-                *rest = behind;
+            (Piece::Symbol(Symbol::Arrow), after) => {
+                *rest = after;
                 true
             }
             _ => false,
         },
         Divider::Semicolons => match rest.front() {
-            (Piece::Symbol(Symbol::Semicolon), behind) => {
-                *rest = behind;
+            (Piece::Symbol(Symbol::Semicolon), after) => {
+                *rest = after;
                 true
             }
             _ => false,
@@ -55,18 +55,19 @@ fn surplus_member_fault(rest: &Rest<'_>, names: &Names) -> Stop
     }
 }
 
-/// Puts a set behind the others.
+/// Puts a set after the others.
 pub fn add(sets: &mut Vec<VarSet>, set: VarSet) -> Result<(), Stop>
     ensures added { OnOk result (sets.new.items ≡ sets.old.items ++ set ∷ []) }
     ensures memory { IfErr result (λ e. e ≡ Memory) }
 {
+    // a match, since `?` makes no `Stop` of the error of `push`
     match sets.push(set) {
         Ok(()) => Ok(()),
         Err(_) => Err(Stop::Memory),
     }
 }
 
-/// The first members and further ones, at most `most` further ones, each behind a divider.
+/// The first members and further ones, at most `most` further ones, each after a divider.
 pub fn members(
     first: Vec<VarSet>,
     most: usize,
@@ -82,6 +83,7 @@ pub fn members(
         if allowed == 0 {
             return Err(surplus_member_fault(rest, names));
         }
+        // `?` would do; with the match each case is a goal of its own, with the reading's equation at hand
         match list(rest, names) {
             Ok(next) => add(&mut found, next)?,
             Err(stop) => return Err(stop),

@@ -19,7 +19,7 @@ fn text<'a>(line: &'a [u8], token: &Token) -> &'a [u8]
 }
 
 impl<'a> Rest<'a> {
-    /// The first piece, and what is behind it; nothing is behind the end or a misspelling. A word has 1 to 16 bytes.
+    /// The first piece, and what is after it; nothing is after the end or a misspelling. A word has 1 to 16 bytes.
     pub fn front(self) -> (Piece<'a>, Rest<'a>)
         ensures front { letters_left self.entry ≡ with_front result.0 (letters_left result.1) }
         ensures length { HasLength result.0 }

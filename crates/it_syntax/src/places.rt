@@ -1,14 +1,14 @@
 //! The columns of faults.
 ghost use Rattle.std.specs.Prelude.{◌≡◌, ◌≤◌, ◌-◌, length, drop};
-ghost use Rattle.it_syntax.specs.Lines.{column_behind, column_of};
+ghost use Rattle.it_syntax.specs.Lines.{column_after, column_of};
 
 use crate::rest::Rest;
 
 impl<'a> Rest<'a> {
-    /// The column of what stands behind the tokens: a misspelling's, or the one after the last token.
-    fn column_behind(self) -> u32
+    /// The column of what stands after the tokens: a misspelling's, or the one after the last token.
+    fn column_after(self) -> u32
         requires { length self.line.now ≤ 1048577 }
-        ensures { result ≡ column_behind self.entry.tokens.now self.entry.misspelling }
+        ensures { result ≡ column_after self.entry.tokens.now self.entry.misspelling }
     {
         match self.misspelling {
             Some(misspelling) => misspelling.column,
@@ -23,12 +23,12 @@ impl<'a> Rest<'a> {
     pub fn column(self, left: usize) -> u32
         requires short { length self.line.now ≤ 1048577 }
         requires within { left ≤ length self.tokens.now }
-        ensures { result ≡ column_of (drop (length self.entry.tokens.now - left) self.entry.tokens.now) (column_behind self.entry.tokens.now self.entry.misspelling) }
+        ensures { result ≡ column_of (drop (length self.entry.tokens.now - left) self.entry.tokens.now) (column_after self.entry.tokens.now self.entry.misspelling) }
     {
-        let behind = self.column_behind();
+        let after = self.column_after();
         match self.tokens.split_at(self.tokens.len() - left).1 {
             [first, ..] => first.start + 1,
-            [] => behind,
+            [] => after,
         }
     }
 }

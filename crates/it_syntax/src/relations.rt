@@ -8,7 +8,7 @@ ghost use Rattle.it_syntax.specs.Givens.{IsRelationOf};
 ghost use Rattle.it_syntax.specs.Gives.{Gives, GivesBy, GivesAll, letters_left};
 ghost use Rattle.it_syntax.specs.Lines.{IsFirstFault, to_end};
 ghost use Rattle.it_syntax.specs.Meaning.{relation_view};
-ghost use Rattle.it_syntax.specs.AtomReading.{line_end};
+ghost use Rattle.it_syntax.specs.MeasureReading.{line_end};
 ghost use Rattle.it_syntax.specs.Spans.{InLine};
 
 use crate::names::Names;
@@ -26,16 +26,16 @@ fn compare(rest: &mut Rest<'_>) -> Result<Sign, Stop>
     ensures { Gives result (letters_left rest.new) (read_compare (letters_left rest.old)) }
 {
     match rest.front() {
-        (Piece::Symbol(Symbol::AtLeast), behind) => {
-            *rest = behind;
+        (Piece::Symbol(Symbol::AtLeast), after) => {
+            *rest = after;
             Ok(Sign::AtLeast)
         }
-        (Piece::Symbol(Symbol::AtMost), behind) => {
-            *rest = behind;
+        (Piece::Symbol(Symbol::AtMost), after) => {
+            *rest = after;
             Ok(Sign::AtMost)
         }
-        (Piece::Symbol(Symbol::Equal), behind) => {
-            *rest = behind;
+        (Piece::Symbol(Symbol::Equal), after) => {
+            *rest = after;
             Ok(Sign::Equal)
         }
         _ => Err(rest.fault()),
@@ -63,7 +63,7 @@ pub fn relation_part(
 }
 
 /// Whether the line ends there.
-#[tactic(auto, unfolding(crate::specs::AtomReading::line_end))]
+#[tactic(auto, unfolding(crate::specs::MeasureReading::line_end))]
 pub fn line_end(rest: &Rest<'_>) -> Result<(), Stop>
     ensures { GivesAll (λ x. x) result (letters_left rest.now) (line_end (letters_left rest.now)) }
 {
@@ -95,7 +95,7 @@ pub fn relation_to_end(
 /// a thing without a number, or 0; A, B and C are names of variables with `,` between them. `rates` says whether rates
 /// may stand there. At most 256 terms are read, both sides together. The fault is the first: `Word` at what no rule
 /// allows there, `Name` at a name that is unknown or at a rate where none may stand, `Many` at the first token of the
-/// term past the limit, behind its sign, and what `tokens` has for a misspelling; the line's end has the column after its
+/// term past the limit, after its sign, and what `tokens` has for a misspelling; the line's end has the column after its
 /// last token.
 pub fn relation(
     alloc: Global,

@@ -13,8 +13,8 @@ pub enum Piece<'a> {
     Bad(Code),
 }
 
-/// The tokens that are left of a line, and what stands behind them if it isn't the line's end. A reader takes from the front what it reads, and at a fault leaves it at the
-/// token that the fault is at.
+/// The tokens that are left of a line, and what stands after them if it isn't the line's end. A reader takes from the front
+/// what it reads, and at a fault leaves it at the token that the fault is at.
 #[derive(Clone, Copy)]
 pub struct Rest<'a> {
     pub line: &'a [u8],

@@ -1,8 +1,8 @@
-//! Readers of signs, and the terms behind them.
+//! Readers of signs, and the terms after them.
 ghost use Rattle.std.specs.Prelude.{◌≡◌, ◌++◌, [], ◌∷◌, Some, None, MatchOption, OnOk, IfErr};
 ghost use Rattle.it_syntax.specs.declared.rest.Stop.TheVariants.{Memory};
 ghost use Rattle.it_syntax.specs.Gives.{letters_left};
-ghost use Rattle.it_syntax.specs.AtomReading.{read_sign};
+ghost use Rattle.it_syntax.specs.MeasureReading.{read_sign};
 ghost use Rattle.it_syntax.specs.ReaderSteps.{after_sign};
 
 use crate::rest::{Piece, Rest, Stop};
@@ -13,12 +13,12 @@ pub fn sign(rest: &mut Rest<'_>) -> Option<bool>
     ensures { MatchOption result ((after_sign (letters_left rest.old) ≡ None) × (letters_left rest.new ≡ letters_left rest.old)) (λ negative. after_sign (letters_left rest.old) ≡ Some (negative, letters_left rest.new)) }
 {
     match rest.front() {
-        (Piece::Symbol(Symbol::Plus), behind) => {
-            *rest = behind;
+        (Piece::Symbol(Symbol::Plus), after) => {
+            *rest = after;
             Some(false)
         }
-        (Piece::Symbol(Symbol::Minus), behind) => {
-            *rest = behind;
+        (Piece::Symbol(Symbol::Minus), after) => {
+            *rest = after;
             Some(true)
         }
         _ => None,
@@ -26,14 +26,14 @@ pub fn sign(rest: &mut Rest<'_>) -> Option<bool>
 }
 
 /// Takes a sign, if one stands there, and says whether it is `-`.
-#[tactic(auto, unfolding(crate::specs::AtomReading::read_sign))]
+#[tactic(auto, unfolding(crate::specs::MeasureReading::read_sign))]
 pub fn first_sign(rest: &mut Rest<'_>) -> bool
     ensures { (result, letters_left rest.new) ≡ read_sign (letters_left rest.old) }
 {
     sign(rest).unwrap_or(false)
 }
 
-/// Puts a term behind the others.
+/// Puts a term after the others.
 pub fn add(terms: &mut Vec<Term>, term: Term) -> Result<(), Stop>
     ensures added { OnOk result (terms.new.items ≡ terms.old.items ++ term ∷ []) }
     ensures memory { IfErr result (λ e. e ≡ Memory) }

@@ -1,12 +1,13 @@
 //! Readers of sums of terms.
+//! A reader's result is matched where `?` would do: so each case is a goal of its own, with the reading's equation at hand.
 ghost use Rattle.std.specs.Prelude.{[], ◌∷◌};
 ghost use Rattle.it_syntax.specs.Scopes.{scope_of};
 ghost use Rattle.it_syntax.specs.RelationReading.{read_terms, read_counted, read_sum};
 ghost use Rattle.it_syntax.specs.Gives.{GivesBy, letters_left};
 ghost use Rattle.it_syntax.specs.ReaderSteps.{with_terms};
 
+use crate::atoms::{surplus_term_fault, term};
 use crate::names::Names;
-use crate::quantities::{surplus_term_fault, term};
 use crate::rest::{Rest, Stop};
 use crate::signs::{add, first_sign, sign};
 use crate::types::Term;

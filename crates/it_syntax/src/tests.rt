@@ -1,3 +1,5 @@
+//! Tests: lines cut into tokens, and what their parts are read as.
+
 use crate::types::{Atom, Code, Relation, Sign, Symbol, SyntaxFault, Term, Token, TokenKind};
 use crate::{Names, is_measure, line_tokens, relation, tokens};
 use std::alloc::{AllocError, Global};

@@ -1,4 +1,4 @@
--- Terms that are put one behind the other, and what is still to come of terms that are read.
+-- Terms that are put one after the other, and what is still to come of terms that are read.
 use Rattle.std.proofs.Common.{◌≡◌, ◌⊎◌, inl, inr, ℕ, suc, ◌+◌, ◌<◌, ◌≤◌, cond, pos, [], ◌∷◌, length, drop, slice_index_or, refl, sym, ap, subst, ◌∙◌, arith}
 use Rattle.std.proofs.lemmas.Bool.{cases_eq, cases_lt, eq-eqb, ne_eqb}
 use Rattle.std.proofs.lemmas.List.{drop_all}
@@ -33,7 +33,7 @@ built_skip f F next c out h none m = record {
     column_fits k l (inl a) = m.fits k a
     column_fits k l (inr a) = (none k a l).0
 
--- the next column, whose number is put behind unless it is 0
+-- the next column, whose number is appended unless it is 0
 pub built_more : (f : ℕ → Rational) (F : ℕ → Type 0) (c : ℕ) (out new : RowTerms) (v : Rational) → IsAppended out c v new → v ≡ f c → F c → IsBuilt f F c out → IsBuilt f F (c + 1) new
 built_more f F c out new v a e here m = record {
   entries = λ k l. entry a k l (cases_eq k c);

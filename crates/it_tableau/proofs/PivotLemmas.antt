@@ -15,16 +15,6 @@ pub record IsPivotUnderWay (old now : List (List Rational)) (own : List Rational
   pub fits : (k : ℕ) → k < i → k ≢ r → RowStepFits (row_at old k) own c p
   pub rest : (k : ℕ) → i ≤ k → k ≢ r → row_at now k ≡ row_at old k
 
-pub pivot_begins : (old : List (List Rational)) (own y : List Rational) (r c : ℕ) (p : Rational) → own ≡ row_at old r → p ≡ entry_at (row_at old r) c → IsPivotUnderWay old (slice_set old r y) own r c 0 p
-pivot_begins old own y r c p e f = record {
-  same = length-set old r y;
-  own_is = e;
-  p_is = f;
-  done = λ k l d. absurd (omega arith);
-  fits = λ k l d. absurd (omega arith);
-  rest = λ k l d. get_or-set_other old r k y [] d;
-}
-
 pub own_row_is_skipped : (old now : List (List Rational)) (own : List Rational) (r c i : ℕ) (p : Rational) → i ≡ r → IsPivotUnderWay old now own r c i p → IsPivotUnderWay old now own r c (i + 1) p
 own_row_is_skipped old now own r c i p e u = record {
   same = u.same;

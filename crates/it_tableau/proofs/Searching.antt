@@ -32,7 +32,7 @@ entry_without_term (t ∷ ts) c h = ap (λ b. cond b t.1 (entry_in ts c)) (ne_eq
 pub ranks_rise : (to : ℕ) (ts : RowTerms) (c : ℕ) → Climbs 0 to ts → IsNonDecreasingBy (λ (t : ℕ × Rational). ordering_index (nat_cmp t.0 c)) ts
 ranks_rise to ts c a = λ i j d h l. rank_rises (get_or ts i d).0 (get_or ts j d).0 c (climbs_far 0 to ts i j d a h l).1
 
--- where each term lies before or behind a column, its number is 0
+-- where each term lies before or after a column, its number is 0
 pub entry_where_search_fails : (ts : RowTerms) (c i : ℕ) → IsPartitionPoint (λ (t : ℕ × Rational). nat_cmp t.0 c ≡ Less) (λ (t : ℕ × Rational). nat_cmp t.0 c ≡ Greater) ts i → entry_in ts c ≡ integer (pos 0)
 entry_where_search_fails ts c i p = entry_without_term ts c (λ k d l. by_cases k d l (cases_lt k i))
   where

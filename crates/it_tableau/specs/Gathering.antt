@@ -25,13 +25,13 @@ pub record IsListTaken (old : List RowTerms) (k : ℕ) (new : List RowTerms) : T
   pub count : length new ≡ length old
   pub others : (i : ℕ) → i ≢ k → row_terms_at new i ≡ row_terms_at old i
 
--- the rows of coordinate c have their number f k in column j put behind
+-- the rows of coordinate c have their number f k in column j appended
 pub record IsEntryPut (coordinates : List ℕ) (f : ℕ → Rational) (c j : ℕ) (old new : List RowTerms) : Type 0 where
   pub count : length new ≡ length old
   pub own : (k : ℕ) → k < length coordinates → slice_index_or coordinates k 0 ≡ c → IsAppended (row_terms_at old k) j (f k) (row_terms_at new k)
   pub others : (k : ℕ) → k < length coordinates → slice_index_or coordinates k 0 ≢ c → row_terms_at new k ≡ row_terms_at old k
 
--- each row has its number f k in column j put behind
+-- each row has its number f k in column j appended
 pub record AreAppended (coordinates : List ℕ) (f : ℕ → Rational) (j : ℕ) (old new : List RowTerms) : Type 0 where
   pub count : length new ≡ length old
   pub rows : (k : ℕ) → k < length coordinates → IsAppended (row_terms_at old k) j (f k) (row_terms_at new k)

@@ -4,8 +4,8 @@ use Rattle.it_rational.specs.Rational.{Rational, integer, plus, minus, times, in
 use Rattle.it_fraction.specs.Fits.{IsNarrow}
 use Rattle.it_tableau.specs.Fits.{EntryFits, QuotientFits}
 use Rattle.it_tableau.specs.SparseRows.{RowTerms, entry_in, Climbs}
-use Rattle.it_tableau.specs.declared.merging.Side.{Side}
-use Rattle.it_tableau.specs.declared.merging.Side.TheVariants.{Old, By, Both}
+use Rattle.it_tableau.specs.declared.merging.TermSource.{TermSource}
+use Rattle.it_tableau.specs.declared.merging.TermSource.TheVariants.{Old, Other, Both}
 
 -- what a pivot makes of the number in a column
 abbrev pub less_at : RowTerms → RowTerms → Rational → ℕ → Rational
@@ -29,7 +29,7 @@ pub record AreDivided (old : RowTerms) (p : Rational) (width : ℕ) (out : RowTe
   pub entries : (k : ℕ) → entry_in out k ≡ times (entry_in old k) (inverse p)
   pub ascend : Climbs 0 width out
 
--- a term is put behind, unless its number is 0
+-- a term is appended, unless its number is 0
 abbrev pub IsAppended : RowTerms → ℕ → Rational → RowTerms → Type 0
 IsAppended out c v new = ((v ≡ integer (pos 0)) × (new ≡ out)) ⊎ ((v ≢ integer (pos 0)) × IsNarrow v × (new ≡ out ++ (c, v) ∷ []))
 
@@ -42,7 +42,7 @@ abbrev pub number_of_term : RowTerms → ℕ → Rational
 number_of_term terms i = (slice_index_or terms i (0, integer (pos 0))).1
 
 -- which of the rows has the next term
-abbrev pub IsSide : RowTerms → RowTerms → ℕ → ℕ → Side → Type 0
-IsSide old by i j Old = (i < length old) × (j < length by → column_at old i < column_at by j)
-IsSide old by i j By = (j < length by) × (i < length old → column_at by j < column_at old i)
-IsSide old by i j Both = (i < length old) × (j < length by) × (column_at old i ≡ column_at by j)
+abbrev pub IsTermSource : RowTerms → RowTerms → ℕ → ℕ → TermSource → Type 0
+IsTermSource old by i j Old = (i < length old) × (j < length by → column_at old i < column_at by j)
+IsTermSource old by i j Other = (j < length by) × (i < length old → column_at by j < column_at old i)
+IsTermSource old by i j Both = (i < length old) × (j < length by) × (column_at old i ≡ column_at by j)

@@ -13,7 +13,7 @@ abbrev pub entries_from : RowTerms → ℕ → ℕ → List Rational
 entries_from terms j zero = []
 entries_from terms j (suc left) = entry_in terms j ∷ entries_from terms (suc j) left
 
--- all numbers of a row of so many columns, and the right side behind them
+-- all numbers of a row of so many columns, and the right side after them
 unfoldable pub dense_row : ℕ → RowTerms → Rational → List Rational
 dense_row width terms right = entries_from terms 0 width ++ right ∷ []
 

@@ -9,7 +9,7 @@ use Rattle.it_tableau.specs.Problems.{start_of}
 -- a table as the code keeps it
 pub record TableauView : Type 0 where
   -- how many columns there are but the artificial ones
-  pub generators : ℕ
+  pub generator_columns : ℕ
   -- the rows with their right sides, and last the cost row
   pub rows : List (List Rational)
   -- the basic column of each row
@@ -25,7 +25,7 @@ height t = length t.basis
 
 -- the number of columns but the right side
 abbrev pub width : TableauView → ℕ
-width t = t.generators + height t
+width t = t.generator_columns + height t
 
 -- the table of lists of numbers, 0 where they have none
 abbrev pub table_of : List (List Rational) → List ℕ → SimplexTable Rational
@@ -54,13 +54,13 @@ pub record IsSound (n width : ℕ) (rows : List (List Rational)) (basis : List �
 -- the start of the run on the rows' coefficients at the coordinates
 pub record IsStart (coordinates : List ℕ) (columns : List Terms) (target : Terms) (t : TableauView) : Type 0 where
   pub usable : t.spent ≡ false
-  pub generators_are : t.generators ≡ length columns
+  pub generator_columns_are : t.generator_columns ≡ length columns
   pub height_is : height t ≡ length coordinates
   pub table_is : table t ≡ start_of coordinates columns target
   pub signs_are : (k : ℕ) → k < length coordinates → slice_index_or t.negated k false ≡ not (is_at_least_zero (integer (coefficient target (slice_index_or coordinates k 0))))
 
 -- what a pivot leaves as it is
 pub record KeepsFrame (old new : TableauView) : Type 0 where
-  pub generators : new.generators ≡ old.generators
+  pub generator_columns : new.generator_columns ≡ old.generator_columns
   pub height : length new.basis ≡ length old.basis
   pub negated : new.negated ≡ old.negated

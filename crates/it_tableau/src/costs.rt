@@ -1,4 +1,5 @@
 //! The cost row of the start.
+//! The loops go by index, since their invariants speak of the sums over the first i.
 ghost use Rattle.std.specs.Prelude.{◌≡◌, ◌+◌, ◌-◌, ◌<◌, ℕ, length, IfErr, IfOk, OnErr, OnOk};
 ghost use Rattle.it_rational.specs.Rational.{minus};
 ghost use Rattle.it_fraction.specs.Fits.{SumFits};

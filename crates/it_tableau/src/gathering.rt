@@ -41,7 +41,7 @@ impl TermList {
         }
     }
 
-    /// Puts a term behind the others, unless its number is 0.
+    /// Puts a term after the others, unless its number is 0.
     fn put(&mut self, column: usize, value: Fraction) -> Result<(), AllocError>
         ensures { OnOk result (IsAppended self.old column value self.new) }
     {
@@ -99,7 +99,7 @@ fn coordinate_at(terms: &[(u32, i128)], i: usize) -> u32
     terms[i].0
 }
 
-/// Puts a term behind those of row k, unless its number is 0.
+/// Puts a term after those of row k, unless its number is 0.
 fn put_in(
     lists: &mut Vec<TermList>,
     k: usize,
@@ -114,7 +114,7 @@ fn put_in(
     Ok(())
 }
 
-/// Puts the entry of column j at a coordinate behind the terms of the coordinate's row, if there is one.
+/// Puts the entry of column j at a coordinate after the terms of the coordinate's row, if there is one.
 fn put_term(
     lists: &mut Vec<TermList>,
     coordinates: &[u32],
@@ -134,7 +134,7 @@ fn put_term(
     Ok(())
 }
 
-/// Puts the entries of column j behind the terms of their rows.
+/// Puts the entries of column j after the terms of their rows.
 fn put_column(
     lists: &mut Vec<TermList>,
     coordinates: &[u32],
@@ -148,6 +148,7 @@ fn put_column(
     ensures { OnOk result (AreAppended coordinates.now (λ k. start_number coordinates.now columns.now target.now k j) j lists.old.items lists.new.items) }
 {
     let terms = terms_of_column(columns, j);
+    // by index, since the invariant speaks of the first i terms
     for i in 0..terms.len() {
         put_term(
             lists,

@@ -3,7 +3,7 @@ ghost use Rattle.std.specs.Prelude.{◌≡◌, ◌<◌, ◌⊎◌, length, IfErr
 ghost use Rattle.it_rational.specs.Rational.{minus, plus, times};
 ghost use Rattle.it_fraction.specs.Fits.{IsNarrow};
 ghost use Rattle.it_tableau.specs.Fits.{EntryFits};
-ghost use Rattle.it_tableau.specs.Merging.{column_at, number_of_term, AreMerged, IsAppended, IsSide, MergeFits};
+ghost use Rattle.it_tableau.specs.Merging.{column_at, number_of_term, AreMerged, IsAppended, IsTermSource, MergeFits};
 ghost use Rattle.it_tableau.specs.SparseRows.{Climbs};
 
 use it_fraction::{Fraction, WideNumber};
@@ -12,9 +12,9 @@ use std::alloc::AllocError;
 
 /// Which of two rows has the next term.
 #[derive(Debug, Drop, Clone, Copy)]
-pub enum Side {
+pub enum TermSource {
     Old,
-    By,
+    Other,
     Both,
 }
 
@@ -46,24 +46,29 @@ pub fn term(terms: &[(usize, Fraction)], i: usize) -> Fraction
 }
 
 /// Which row has the next column: the old one from term i on, the other from term j on, or both.
-fn next_side(old: &[(usize, Fraction)], by: &[(usize, Fraction)], i: usize, j: usize) -> Side
+fn next_source(
+    old: &[(usize, Fraction)],
+    by: &[(usize, Fraction)],
+    i: usize,
+    j: usize,
+) -> TermSource
     requires { (i < length old.now) ⊎ (j < length by.now) }
-    ensures { IsSide old.now by.now i j result }
+    ensures { IsTermSource old.now by.now i j result }
 {
     if i >= old.len() {
-        return Side::By;
+        return TermSource::Other;
     }
     if j >= by.len() {
-        return Side::Old;
+        return TermSource::Old;
     }
     let left = column(old, i);
     let right = column(by, j);
     if left < right {
-        Side::Old
+        TermSource::Old
     } else if right < left {
-        Side::By
+        TermSource::Other
     } else {
-        Side::Both
+        TermSource::Both
     }
 }
 
@@ -83,7 +88,7 @@ pub fn reduced_entry(entry: Fraction, by: Fraction, q: Fraction) -> Result<Fract
     entry.sub(by.mul(q)?)
 }
 
-/// Puts a term behind the others, unless its number is 0.
+/// Puts a term after the others, unless its number is 0.
 pub fn append(
     terms: &mut Vec<(usize, Fraction)>,
     column: usize,
@@ -116,16 +121,16 @@ pub fn merge(
     let mut i = 0;
     let mut j = 0;
     while i < old.len() || j < by.len() {
-        match next_side(old, by, i, j) {
-            Side::Old => {
+        match next_source(old, by, i, j) {
+            TermSource::Old => {
                 append(buffer, column(old, i), term(old, i))?;
                 i += 1;
             }
-            Side::By => {
+            TermSource::Other => {
                 append(buffer, column(by, j), negated_product(term(by, j), q)?)?;
                 j += 1;
             }
-            Side::Both => {
+            TermSource::Both => {
                 let difference = reduced_entry(term(old, i), term(by, j), q)?;
                 append(buffer, column(old, i), difference)?;
                 i += 1;

@@ -13,7 +13,7 @@ use std::alloc::Global;
 use std::marker::Model;
 
 /// A row of the table: each entry other than 0 after its column, by ascending column, and the right side. Contracts see the
-/// list of all entries with the right side behind them.
+/// list of all entries with the right side after them.
 #[derive(Drop)]
 pub struct SparseRow {
     width: usize,
@@ -61,7 +61,7 @@ impl SparseRow {
         self.terms.as_slice()
     }
 
-    /// The entry in a column, or behind the columns the right side.
+    /// The entry in a column, or after the columns the right side.
     pub fn entry(&self, column: usize) -> Fraction
         requires { column < length self.now }
         ensures { result ≡ entry_at self.now column }
@@ -152,6 +152,7 @@ fn divide_terms(
     ensures wide { IfErr result (λ fault. fault ≡ RowFault.Wide → ¬ (TermQuotientsFit terms.now pivot)) }
 {
     buffer.clear();
+    // by index, since the invariant speaks of the first i terms
     for i in 0..terms.len() {
         append(buffer, column(terms, i), term(terms, i).div(pivot)?)?;
     }

@@ -13,7 +13,7 @@ use crate::costs::cost_row;
 use crate::gathering::{ascends, gathered_rows};
 use crate::merging::append;
 use crate::sparse_rows::SparseRow;
-use it_fraction::{Fraction, WideNumber};
+use it_fraction::Fraction;
 use it_space::{Row, RowFault};
 use std::alloc::{AllocError, Global};
 
@@ -146,13 +146,14 @@ pub fn negations(alloc: Global, coordinates: &[u32], target: &Row) -> Result<Vec
     ensures value { IfOk result (λ negated. (k : ℕ) → k < length coordinates.now → slice_index_or negated.items k false ≡ not (is_at_least_zero (integer (coefficient target.now (slice_index_or coordinates.now k 0))))) }
 {
     let mut negated = Vec::with_capacity(alloc, coordinates.len())?;
+    // by index, since the invariant speaks of the first k coordinates
     for k in 0..coordinates.len() {
         negated.push(!keeps_sign(target, coordinates[k]))?;
     }
     Ok(negated)
 }
 
-/// The rows of the start with the cost row behind them.
+/// The rows of the start with the cost row after them.
 pub fn start_table(
     alloc: Global,
     coordinates: &[u32],
@@ -169,7 +170,7 @@ pub fn start_table(
     Ok(rows)
 }
 
-/// Puts a row behind the others.
+/// Puts a row after the others.
 fn append_row(rows: &mut Vec<SparseRow>, row: SparseRow) -> Result<(), AllocError>
     ensures { OnOk result (rows.new.items ≡ rows.old.items ++ row ∷ []) }
 {

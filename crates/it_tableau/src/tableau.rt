@@ -20,7 +20,7 @@ use std::marker::Model;
 #[derive(Drop)]
 pub struct Tableau {
     alloc: Global,
-    generators: usize,
+    generator_columns: usize,
     width: usize,
     rows: Vec<SparseRow>,
     basis: Vec<usize>,
@@ -34,9 +34,9 @@ impl Model for Tableau {
 
     ghost Value = { TableauView };
 
-    ghost view = { λ t. record { generators = t.generators; rows = t.rows.items; basis = t.basis.items; negated = t.negated.items; spent = t.spent } };
+    ghost view = { λ t. record { generator_columns = t.generator_columns; rows = t.rows.items; basis = t.basis.items; negated = t.negated.items; spent = t.spent } };
 
-    ghost invariant = { λ t. t.spent ≡ false → IsSound t.generators t.width t.rows.items t.basis.items t.negated.items };
+    ghost invariant = { λ t. t.spent ≡ false → IsSound t.generator_columns t.width t.rows.items t.basis.items t.negated.items };
 }
 
 impl Tableau {
@@ -58,7 +58,7 @@ impl Tableau {
         let negated = negations(alloc, coordinates, target)?;
         Ok(Tableau {
             alloc,
-            generators: columns.len(),
+            generator_columns: columns.len(),
             width: columns.len() + coordinates.len(),
             rows,
             basis,
@@ -84,11 +84,11 @@ impl Tableau {
     }
 
     /// How many columns there are that aren't artificial. They come first.
-    pub fn generators(&self) -> usize
+    pub fn generator_columns(&self) -> usize
         requires usable { self.now.spent ≡ false }
-        ensures { result ≡ self.now.generators }
+        ensures { result ≡ self.now.generator_columns }
     {
-        self.generators
+        self.generator_columns
     }
 
     /// The column that is basic in a row.
@@ -161,7 +161,7 @@ impl Tableau {
         requires row { row < height self.now }
         requires column { column < width self.now }
         requires positive { IsPositive ((table self.now).entry row column) }
-        ensures { OkIff result (IsNarrow (ratio field_ℚ (height self.now) self.now.generators (table self.now) column row)) (ratio field_ℚ (height self.now) self.now.generators (table self.now) column row) }
+        ensures { OkIff result (IsNarrow (ratio field_ℚ (height self.now) self.now.generator_columns (table self.now) column row)) (ratio field_ℚ (height self.now) self.now.generator_columns (table self.now) column row) }
     {
         self.rhs(row).div(self.entry(row, column))
     }
@@ -172,11 +172,11 @@ impl Tableau {
         requires row { row < height self.old }
         requires column { column < width self.old }
         requires positive { IsPositive ((table self.old).entry row column) }
-        ensures ok { OnOk result (PivotFits (height self.old) self.old.generators (table self.old) row column) }
+        ensures ok { OnOk result (PivotFits (height self.old) self.old.generator_columns (table self.old) row column) }
         ensures value { OnOk result (table self.new ≡ pivot field_ℚ (table self.old) row column) }
         ensures usable { OnOk result (self.new.spent ≡ false) }
         ensures frame { KeepsFrame self.old self.new }
-        ensures wide { IfErr result (λ fault. fault ≡ RowFault.Wide → ¬ (PivotFits (height self.old) self.old.generators (table self.old) row column)) }
+        ensures wide { IfErr result (λ fault. fault ≡ RowFault.Wide → ¬ (PivotFits (height self.old) self.old.generator_columns (table self.old) row column)) }
         ensures spent { OnErr result (self.new.spent ≡ true) }
     {
         match pivot_rows(self.alloc, self.rows.as_mut_slice(), row, column) {

@@ -1,3 +1,5 @@
+//! Tests: the table of an example at its start and after two pivots, and numbers that are too wide.
+
 ghost use Rattle.std.specs.Prelude.{◌≡◌, ◌<◌, false, length, IfOk};
 ghost use Rattle.it_tableau.specs.TableauViews.{height};
 
@@ -63,7 +65,7 @@ fn columns(alloc: Global) -> Result<Vec<Row>, AllocError>
 fn example(alloc: Global) -> Result<Tableau, RowFault>
     ensures usable { IfOk result (λ t. t.spent ≡ false) }
     ensures rows { IfOk result (λ t. height t ≡ 3) }
-    ensures columns { IfOk result (λ t. t.generators ≡ 3) }
+    ensures columns { IfOk result (λ t. t.generator_columns ≡ 3) }
 {
     let columns = columns(alloc)?;
     let target = Row::new(Vec::from_slice(alloc, &[(1, 1), (3, -1)])?);
@@ -74,12 +76,12 @@ fn example(alloc: Global) -> Result<Tableau, RowFault>
 fn pivot_once(start: Tableau, row: usize, column: usize) -> Result<(Fraction, Tableau), RowFault>
     requires usable { start.spent ≡ false }
     requires rows { height start ≡ 3 }
-    requires columns { start.generators ≡ 3 }
+    requires columns { start.generator_columns ≡ 3 }
     requires row { row < 3 }
     requires column { column < 3 }
     ensures usable { IfOk result (λ p. p.1.spent ≡ false) }
     ensures rows { IfOk result (λ p. height p.1 ≡ 3) }
-    ensures columns { IfOk result (λ p. p.1.generators ≡ 3) }
+    ensures columns { IfOk result (λ p. p.1.generator_columns ≡ 3) }
 {
     let mut tableau = start;
     if !tableau.entry(row, column).is_positive() {
@@ -98,7 +100,11 @@ fn a_start_has_the_rows_with_their_signs(rt: HostRuntime) -> Result<(), Fail> {
         return Ok(());
     };
     assert_eq!(rt;
-        (tableau.rows(), tableau.columns(), tableau.generators()),
+        (
+            tableau.rows(),
+            tableau.columns(),
+            tableau.generator_columns()
+        ),
         (3, 6, 3)
     );
     assert_eq!(rt;

@@ -3,7 +3,7 @@ use Rattle.std.proofs.Common.{◌<◌, ◌-◌, sym, ap, subst, arith, length, O
 use Rattle.it_space.specs.Rows.{ValueFits, map_of, value, IsUpTo}
 use Rattle.it_space.specs.Spaces.{size_of}
 use Rattle.it_elemental.specs.Generators.{Generator}
-use Rattle.it_elemental.proofs.GeneratorLemmas.{length-listed, front_is, behind_is}
+use Rattle.it_elemental.proofs.GeneratorLemmas.{length-listed, front_is, after_is}
 use Rattle.it_check.proofs.values.generator_value.Goals as goal
 
 pub index-requires : goal.index-requires
@@ -20,7 +20,7 @@ pub returns-then-index-elementals : goal.returns-then-index-elementals
 returns-then-index-elementals c =
     let q = (problem_view c.args.problem.now) in
     subst (λ (g : Generator). OkIff c.value.result (ValueFits g.row (map_of c.args.point.now)) (value g.row (map_of c.args.point.now)))
-    (sym (behind_is q.space.variables q.constraints c.args.index c.count-elementals.result c.index.result.now c.count-elementals.ensures c.if-index-elementals.true c.requires.listed c.index.ensures)) c.value.ensures
+    (sym (after_is q.space.variables q.constraints c.args.index c.count-elementals.result c.index.result.now c.count-elementals.ensures c.if-index-elementals.true c.requires.listed c.index.ensures)) c.value.ensures
 
 pub returns : goal.returns
 returns c =

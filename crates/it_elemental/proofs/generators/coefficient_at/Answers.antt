@@ -1,7 +1,7 @@
 use Rattle.it_space.specs.Problems.{problem_view}
 use Rattle.std.proofs.Common.{◌∙◌, sym, ap, arith, rules, FitsSigned, to_z-of_z}
 use Rattle.it_space.specs.Rows.{coefficient}
-use Rattle.it_elemental.proofs.GeneratorLemmas.{length-listed, front_is, behind_is}
+use Rattle.it_elemental.proofs.GeneratorLemmas.{length-listed, front_is, after_is}
 use Rattle.it_elemental.proofs.generators.coefficient_at.Goals as goal
 use mir.Syntax.{w128}
 
@@ -13,7 +13,7 @@ returns-then-index-elementals c =
     let q = (problem_view c.args.problem.now) in
     let fits : FitsSigned w128 c.coefficient.result = search rules in
     to_z-of_z fits ∙ c.coefficient.ensures.value
-    ∙ sym (ap (λ g. coefficient g.row c.args.coordinate) (behind_is q.space.variables q.constraints c.args.index c.count-elementals.result c.index.result.now c.count-elementals.ensures c.if-index-elementals.true c.requires.listed c.index.ensures))
+    ∙ sym (ap (λ g. coefficient g.row c.args.coordinate) (after_is q.space.variables q.constraints c.args.index c.count-elementals.result c.index.result.now c.count-elementals.ensures c.if-index-elementals.true c.requires.listed c.index.ensures))
 
 pub returns : goal.returns
 returns c =

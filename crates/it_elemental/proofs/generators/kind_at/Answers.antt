@@ -1,6 +1,6 @@
 use Rattle.it_space.specs.Problems.{problem_view}
 use Rattle.std.proofs.Common.{sym, ap, arith}
-use Rattle.it_elemental.proofs.GeneratorLemmas.{length-listed, front_is, behind_is}
+use Rattle.it_elemental.proofs.GeneratorLemmas.{length-listed, front_is, after_is}
 use Rattle.it_elemental.proofs.generators.kind_at.Goals as goal
 
 pub returns-then-index-elementals : goal.returns-then-index-elementals
@@ -14,4 +14,4 @@ index-requires c = omega (arith, length-listed c.args.problem.now.space.variable
 pub returns : goal.returns
 returns c =
     let q = (problem_view c.args.problem.now) in
-    sym (ap (λ g. g.kind) (behind_is q.space.variables q.constraints c.args.index c.count-elementals.result c.index.result.now c.count-elementals.ensures c.if-index-elementals.false c.requires.listed c.index.ensures))
+    sym (ap (λ g. g.kind) (after_is q.space.variables q.constraints c.args.index c.count-elementals.result c.index.result.now c.count-elementals.ensures c.if-index-elementals.false c.requires.listed c.index.ensures))

@@ -7,16 +7,16 @@ use Rattle.it_eliminate.proofs.EndLemmas.{ends_done, ends_wide, ends_many, leads
 use Rattle.it_eliminate.proofs.LawLemmas.{is_projection}
 use Rattle.it_eliminate.proofs.elimination.eliminate.Goals as goal
 
-pub returns-in-TooWide-clause-ends : goal.returns-in-TooWide-clause-ends
-returns-in-TooWide-clause-ends c =
+pub returns-in-Wide-clause-ends : goal.returns-in-Wide-clause-ends
+returns-in-Wide-clause-ends c =
     let wide : ¬ (PairsFit c.coordinate.result c.as_slice-in-loop-rate.result.now) = search rules in
     let at : c.coordinate.result ≡ 2 ^ c.args.system.now.space.variables + get_or c.args.rates.now c.loop-rate.rate-index 0 = search rules in
     ends_wide (2 ^ c.args.system.now.space.variables) c.args.rows _ c.loop-rate.current.items c.args.rates.now c.loop-rate.rate-index c.loop-rate.invariant
     c.coordinate.result c.as_slice-in-loop-rate.result.now at c.as_slice-in-loop-rate.ensures.value c.loop-rate-test.true wide
 
-pub returns-in-TooMany-clause-ends : goal.returns-in-TooMany-clause-ends
-returns-in-TooMany-clause-ends c =
-    let is : c.in_ok-next.field-0 ≡ ends.TooMany = search rules in
+pub returns-in-Rows-clause-ends : goal.returns-in-Rows-clause-ends
+returns-in-Rows-clause-ends c =
+    let is : c.in_ok-next.field-0 ≡ ends.Rows = search rules in
     let at : c.coordinate.result ≡ 2 ^ c.args.system.now.space.variables + get_or c.args.rates.now c.loop-rate.rate-index 0 = search rules in
     ends_many (2 ^ c.args.system.now.space.variables) c.args.rows _ c.loop-rate.current.items c.args.rates.now c.loop-rate.rate-index c.loop-rate.invariant
     c.coordinate.result c.as_slice-in-loop-rate.result.now at c.as_slice-in-loop-rate.ensures.value c.loop-rate-test.true
@@ -24,10 +24,10 @@ returns-in-TooMany-clause-ends c =
 
 pub loop-rate-preserved : goal.loop-rate-preserved
 loop-rate-preserved c =
-    let is : c.in_ok-next.field-0 ≡ ends.Rows c.in-Rows.next = search rules in
+    let is : c.in_ok-next.field-0 ≡ ends.List c.in-List.next = search rules in
     let at : c.coordinate.result ≡ 2 ^ c.args.system.now.space.variables + get_or c.args.rates.now c.loop-rate.rate-index 0 = search rules in
     leads_on (2 ^ c.args.system.now.space.variables) c.args.rows _ c.loop-rate.current.items c.args.rates.now c.loop-rate.rate-index c.loop-rate.invariant
-    c.coordinate.result c.as_slice-in-loop-rate.result.now at c.as_slice-in-loop-rate.ensures.value c.loop-rate-test.true c.in-Rows.next.items
+    c.coordinate.result c.as_slice-in-loop-rate.result.now at c.as_slice-in-loop-rate.ensures.value c.loop-rate-test.true c.in-List.next.items
     (subst (λ (e : RateEnd). IsRateEnd c.coordinate.result c.args.rows c.as_slice-in-loop-rate.result.now e) is c.in_ok-next.ensures)
 
 pub returns-clause-ends : goal.returns-clause-ends

@@ -13,9 +13,9 @@ use Rattle.it_engine.proofs.Starts.{engine_start, limit_fits, stands_start}
 use Rattle.it_engine.proofs.whole.whole_run.Goals as goal
 use Rattle.it_engine.proofs.whole.whole_run.Goals.{After-as_slice-2}
 
-columns_read : (c : After-as_slice-2) → AreReadColumns c.args.start.now c.args.start.now.generators c.as_slice-2.result.now
-columns_read c = subst (λ (cs : List Terms). AreReadColumns c.args.start.now c.args.start.now.generators cs) (sym c.as_slice-2.ensures.value)
-    (of_some c.in_ok-columns.field-0 c.in-Some.columns (λ cs. AreReadColumns c.args.start.now c.args.start.now.generators cs.items) c.in-Some.is c.in_ok-columns.ensures)
+columns_read : (c : After-as_slice-2) → AreReadColumns c.args.start.now c.args.start.now.generator_columns c.as_slice-2.result.now
+columns_read c = subst (λ (cs : List Terms). AreReadColumns c.args.start.now c.args.start.now.generator_columns cs) (sym c.as_slice-2.ensures.value)
+    (of_some c.in_ok-columns.field-0 c.in-Some.columns (λ cs. AreReadColumns c.args.start.now c.args.start.now.generator_columns cs.items) c.in-Some.is c.in_ok-columns.ensures)
 
 is_norm : (c : After-as_slice-2) → IsNorm c.as_slice-2.result.now c.in-Some-norm.norm
 is_norm c = subst (λ (cs : List Terms). IsNorm cs c.in-Some-norm.norm) (c.as_slice.ensures.value ∙ sym c.as_slice-2.ensures.value) c.in-Some-norm.ensures

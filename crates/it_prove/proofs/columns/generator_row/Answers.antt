@@ -5,7 +5,7 @@ use Rattle.it_polymatroid.specs.Elementals.{elemental_at}
 use Rattle.it_elemental.specs.Rows.{elemental_row}
 use Rattle.it_run.proofs.AnswerLemmas.{if_ok}
 use Rattle.it_elemental.specs.Generators.{generators, generator_at}
-use Rattle.it_elemental.proofs.GeneratorLemmas.{length-listed, front_is, behind_is}
+use Rattle.it_elemental.proofs.GeneratorLemmas.{length-listed, front_is, after_is}
 use Rattle.it_prove.proofs.columns.generator_row.Goals as goal
 
 pub returns-then-index-elementals : goal.returns-then-index-elementals
@@ -21,4 +21,4 @@ pub returns : goal.returns
 returns c =
     let q = (problem_view c.args.problem.now) in
     if_ok c.copy.result (λ (r : Terms). r ≡ c.index.result.now.row) (λ (r : Terms). r ≡ (generator_at (generators q) c.args.index).row) c.copy.ensures
-    (λ r e. e ∙ sym (ap (λ g. g.row) (behind_is q.space.variables q.constraints c.args.index c.count-elementals.result c.index.result.now c.count-elementals.ensures c.if-index-elementals.false c.requires.listed c.index.ensures)))
+    (λ r e. e ∙ sym (ap (λ g. g.row) (after_is q.space.variables q.constraints c.args.index c.count-elementals.result c.index.result.now c.count-elementals.ensures c.if-index-elementals.false c.requires.listed c.index.ensures)))

@@ -2,12 +2,12 @@ use Rattle.std.proofs.Common.{◌≡◌, refl, ◌≤◌, List, length, map, sym
 use Rattle.it_syntax.specs.declared.rest.Stop.{Stop}
 use Rattle.it_syntax.specs.Gives.{StopsAs}
 use Rattle.it_syntax.specs.Letters.{Letter}
-use Rattle.it_syntax.specs.AtomReading.{Reads}
+use Rattle.it_syntax.specs.MeasureReading.{Reads}
 use Rattle.it_question.specs.Bodies.{body_view}
-use Rattle.it_question.specs.Cursors.{token_line, letters_left}
+use Rattle.it_question.specs.Cursors.{line_view, letters_left}
 use Rattle.it_question.specs.Files.{place_of}
 use Rattle.it_question.specs.Stops.{IsLeft, IfFault, IsStopAt}
-use Rattle.it_question.specs.Lines.{TokenLine, letters_of_lines}
+use Rattle.it_question.specs.Lines.{LineView, letters_of_lines}
 use Rattle.it_question.specs.declared.cursor.Line.{Line}
 use Rattle.it_question.specs.Questions.{BodyView}
 use Rattle.it_question.specs.Reading.{read_file}
@@ -16,37 +16,37 @@ use Rattle.it_question.proofs.FileReadings.{file_read, bodies_limited, questions
 use Rattle.it_question.proofs.files.questions.Goals as goal
 
 -- reading began at the first of the lines
-items_are_read : (items lines : List Line) (start : List Letter) (read : Reads (List BodyView)) → start ≡ letters_of_lines (map token_line lines) → lines ≡ items → read_file start ≡ read → read_file (letters_of_lines (map token_line items)) ≡ read
-items_are_read items lines start read h e r = sym (ap read_file (h ∙ ap (λ (ls : List Line). letters_of_lines (map token_line ls)) e)) ∙ r
+items_are_read : (items lines : List Line) (start : List Letter) (read : Reads (List BodyView)) → start ≡ letters_of_lines (map line_view lines) → lines ≡ items → read_file start ≡ read → read_file (letters_of_lines (map line_view items)) ≡ read
+items_are_read items lines start read h e r = sym (ap read_file (h ∙ ap (λ (ls : List Line). letters_of_lines (map line_view ls)) e)) ∙ r
 
-begun_stop : (items lines : List Line) (start : List Letter) (stop : Stop) (rest : List Letter) → start ≡ letters_of_lines (map token_line lines) → lines ≡ items → StopsAs stop rest (read_file start) → StopsAs stop rest (read_file (letters_of_lines (map token_line items)))
+begun_stop : (items lines : List Line) (start : List Letter) (stop : Stop) (rest : List Letter) → start ≡ letters_of_lines (map line_view lines) → lines ≡ items → StopsAs stop rest (read_file start) → StopsAs stop rest (read_file (letters_of_lines (map line_view items)))
 begun_stop items lines start stop rest h e s = subst (StopsAs stop rest) (sym (items_are_read items lines start (read_file start) h e refl)) s
 
-same_lines : (P : List TokenLine → Type 0) (items lines : List Line) → lines ≡ items → P (map token_line items) → P (map token_line lines)
-same_lines P items lines e h = subst (λ (ls : List Line). P (map token_line ls)) (sym e) h
+same_lines : (P : List LineView → Type 0) (items lines : List Line) → lines ≡ items → P (map line_view items) → P (map line_view lines)
+same_lines P items lines e h = subst (λ (ls : List Line). P (map line_view ls)) (sym e) h
 
 pub with_texts-requires : goal.with_texts-requires
-with_texts-requires c = bodies_limited c.in-Ok.bodies.items (map token_line c.in_ok-lines.lines.items) (letters_left c.bodies.new.cursor) (items_are_read _ _ _ _ c.at-cursor.ensures c.as_slice.ensures.value c.in-Ok.ensures)
+with_texts-requires c = bodies_limited c.in-Ok.bodies.items (map line_view c.in_ok-lines.lines.items) (letters_left c.bodies.new.cursor) (items_are_read _ _ _ _ c.at-cursor.ensures c.as_slice.ensures.value c.in-Ok.ensures)
 
 pub returns-in-Ok-clause-read : goal.returns-in-Ok-clause-read
 returns-in-Ok-clause-read c =
-    file_read c.args.bytes.now (map token_line c.in_ok-lines.lines.items) (map body_view c.in-Ok.bodies.items) (letters_left c.bodies.new.cursor) _ c.in_ok-lines.ensures (items_are_read _ _ _ _ c.at-cursor.ensures c.as_slice.ensures.value c.in-Ok.ensures)
-    (c.in_ok-questions-in-Ok.ensures ∙ ap (λ (ls : List Line). with_texts (map token_line ls) (map body_view c.in-Ok.bodies.items)) c.as_slice-in-Ok.ensures.value)
+    file_read c.args.bytes.now (map line_view c.in_ok-lines.lines.items) (map body_view c.in-Ok.bodies.items) (letters_left c.bodies.new.cursor) _ c.in_ok-lines.ensures (items_are_read _ _ _ _ c.at-cursor.ensures c.as_slice.ensures.value c.in-Ok.ensures)
+    (c.in_ok-questions-in-Ok.ensures ∙ ap (λ (ls : List Line). with_texts (map line_view ls) (map body_view c.in-Ok.bodies.items)) c.as_slice-in-Ok.ensures.value)
 
 pub returns-in-Ok-clause-limits : goal.returns-in-Ok-clause-limits
 returns-in-Ok-clause-limits c =
-    questions_limited c.in_ok-questions-in-Ok.questions.items (map token_line c.in_ok-lines.lines.items) (map body_view c.in-Ok.bodies.items) (letters_left c.bodies.new.cursor) (items_are_read _ _ _ _ c.at-cursor.ensures c.as_slice.ensures.value c.in-Ok.ensures)
-    (c.in_ok-questions-in-Ok.ensures ∙ ap (λ (ls : List Line). with_texts (map token_line ls) (map body_view c.in-Ok.bodies.items)) c.as_slice-in-Ok.ensures.value)
+    questions_limited c.in_ok-questions-in-Ok.questions.items (map line_view c.in_ok-lines.lines.items) (map body_view c.in-Ok.bodies.items) (letters_left c.bodies.new.cursor) (items_are_read _ _ _ _ c.at-cursor.ensures c.as_slice.ensures.value c.in-Ok.ensures)
+    (c.in_ok-questions-in-Ok.ensures ∙ ap (λ (ls : List Line). with_texts (map line_view ls) (map body_view c.in-Ok.bodies.items)) c.as_slice-in-Ok.ensures.value)
 
 pub stop_fault-requires-clause-few : goal.stop_fault-requires-clause-few
 stop_fault-requires-clause-few c = same_lines (λ ls. length (letters_of_lines ls) ≤ 4294967296) c.in_ok-lines.lines.items c.as_slice-in-Err.result.now c.as_slice-in-Err.ensures.value
-    (few_letters c.args.bytes.now (map token_line c.in_ok-lines.lines.items) c.in_ok-lines.ensures c.requires)
+    (few_letters c.args.bytes.now (map line_view c.in_ok-lines.lines.items) c.in_ok-lines.ensures c.requires)
 
 pub stop_fault-requires-clause-there : goal.stop_fault-requires-clause-there
 stop_fault-requires-clause-there c = same_lines (λ ls. IfFault c.in-Err.stop (IsLeft ls (letters_left c.bodies.new.cursor))) c.in_ok-lines.lines.items c.as_slice-in-Err.result.now c.as_slice-in-Err.ensures.value
-    (some_left c.args.bytes.now (map token_line c.in_ok-lines.lines.items) c.in-Err.stop (letters_left c.bodies.new.cursor) c.in_ok-lines.ensures (begun_stop c.in_ok-lines.lines.items _ _ c.in-Err.stop (letters_left c.bodies.new.cursor) c.at-cursor.ensures c.as_slice.ensures.value c.in-Err.ensures))
+    (some_left c.args.bytes.now (map line_view c.in_ok-lines.lines.items) c.in-Err.stop (letters_left c.bodies.new.cursor) c.in_ok-lines.ensures (begun_stop c.in_ok-lines.lines.items _ _ c.in-Err.stop (letters_left c.bodies.new.cursor) c.at-cursor.ensures c.as_slice.ensures.value c.in-Err.ensures))
 
 pub returns-clause-fault : goal.returns-clause-fault
 returns-clause-fault c =
-    first_file_fault c.args.bytes.now (map token_line c.in_ok-lines.lines.items) c.in-Err.stop (letters_left c.bodies.new.cursor) c.stop_fault.result c.in_ok-lines.ensures (begun_stop c.in_ok-lines.lines.items _ _ c.in-Err.stop (letters_left c.bodies.new.cursor) c.at-cursor.ensures c.as_slice.ensures.value c.in-Err.ensures)
-    (subst (λ (ls : List Line). IsStopAt (place_of (map token_line ls) (letters_left c.bodies.new.cursor)) c.in-Err.stop c.stop_fault.result) c.as_slice-in-Err.ensures.value c.stop_fault.ensures)
+    first_file_fault c.args.bytes.now (map line_view c.in_ok-lines.lines.items) c.in-Err.stop (letters_left c.bodies.new.cursor) c.stop_fault.result c.in_ok-lines.ensures (begun_stop c.in_ok-lines.lines.items _ _ c.in-Err.stop (letters_left c.bodies.new.cursor) c.at-cursor.ensures c.as_slice.ensures.value c.in-Err.ensures)
+    (subst (λ (ls : List Line). IsStopAt (place_of (map line_view ls) (letters_left c.bodies.new.cursor)) c.in-Err.stop c.stop_fault.result) c.as_slice-in-Err.ensures.value c.stop_fault.ensures)

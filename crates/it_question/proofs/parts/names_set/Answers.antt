@@ -1,8 +1,8 @@
 use Rattle.it_syntax.specs.Gives as gives
-use Rattle.it_syntax.specs.AtomReading.{read_list}
+use Rattle.it_syntax.specs.MeasureReading.{read_list}
 use Rattle.it_syntax.specs.Scopes.{env_of}
-use Rattle.it_syntax.specs.WrittenAtoms.{spell_list, list_set}
-use Rattle.it_syntax.proofs.AtomTraces.{list_traces}
+use Rattle.it_syntax.specs.WrittenMeasures.{spell_list, list_set}
+use Rattle.it_syntax.proofs.MeasureTraces.{list_traces}
 use Rattle.it_question.specs.Cursors.{letters_left}
 use Rattle.it_question.proofs.CursorLemmas.{later_letters, left_none}
 use Rattle.it_question.proofs.PartLemmas.{line_has, part_ok, part_stops, no_list}

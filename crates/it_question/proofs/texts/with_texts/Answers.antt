@@ -15,5 +15,5 @@ pub loop-body-preserved : goal.loop-body-preserved
 loop-body-preserved c = (
   others_are IsLimited (into_iter_items c.loop-body.left) (into_iter_items c.next.new.self) c.in-Some.body c.loop-body.invariant.0 c.in-Some.ensures.items,
   texts_step c.loop-body.questions.items c.push.new.self.items c.in_ok-question.question c.loop-body.rest.now c.cut.result.0.now c.cut.result.1.now (into_iter_items c.loop-body.left) (into_iter_items c.next.new.self) c.in-Some.body c.question_line_count.result _
-      c.loop-body.invariant.1 c.in-Some.ensures.items c.in-Ok.ensures.items c.question_line_count.ensures c.cut.ensures.first c.cut.ensures.behind c.in_ok-question.ensures,
+      c.loop-body.invariant.1 c.in-Some.ensures.items c.in-Ok.ensures.items c.question_line_count.ensures c.cut.ensures.first c.cut.ensures.after c.in_ok-question.ensures,
 )

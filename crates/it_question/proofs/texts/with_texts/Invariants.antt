@@ -1,7 +1,7 @@
 use Rattle.std.proofs.Common.{◌≡◌, ◌++◌, map, All}
 use Rattle.std.specs.Vec.Iter.{into_iter_items, into_iter_len}
 use Rattle.it_question.specs.Bodies.{body_view}
-use Rattle.it_question.specs.Cursors.{token_line}
+use Rattle.it_question.specs.Cursors.{line_view}
 use Rattle.it_question.specs.Limits.{IsQuestion}
 use Rattle.it_question.specs.Questions.{question_view}
 use Rattle.it_question.specs.Texts.{with_texts}
@@ -9,7 +9,7 @@ use Rattle.it_question.proofs.texts.with_texts.Given as goal
 
 abbrev pub invariant-loop-body : goal.invariant-loop-body
 invariant-loop-body l = All (λ b. IsQuestion (body_view b)) (into_iter_items l.left)
-    × (map question_view l.questions.items ++ with_texts (map token_line l.rest) (map body_view (into_iter_items l.left)) ≡ with_texts (map token_line l.lines) (map body_view l.fn.bodies.items))
+    × (map question_view l.questions.items ++ with_texts (map line_view l.rest) (map body_view (into_iter_items l.left)) ≡ with_texts (map line_view l.lines) (map body_view l.fn.bodies.items))
 
 abbrev pub decreases-loop-body : goal.decreases-loop-body
 decreases-loop-body l = into_iter_len l.left

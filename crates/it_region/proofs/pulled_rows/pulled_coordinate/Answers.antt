@@ -1,12 +1,13 @@
-use Rattle.std.proofs.Common.{◌<◌, ◌≤◌, ◌+◌, ◌-◌, ◌^◌, ℕ, arith, sym, ap, ap₂, ◌∙◌}
+use Rattle.std.proofs.Common.{◌<◌, ◌≤◌, ◌+◌, ◌-◌, ◌^◌, ℕ, arith, sym, ap, ap₂, ◌∙◌, lit<}
 use Rattle.it_polymatroid.specs.Substitutions.{image}
-use Rattle.it_region.proofs.PullingLemmas.{coordinate_of_set, coordinate_above_sets, shift_32, shift_64, image_up_to}
+use Rattle.it_number.proofs.Shifts.{shift_is_power}
+use Rattle.it_region.proofs.PullingLemmas.{coordinate_of_set, coordinate_above_sets, image_up_to}
 use Rattle.it_region.proofs.pulled_rows.pulled_coordinate.Goals as goal
 
 pub returns-then-coordinate-count-clause-value : goal.returns-then-coordinate-count-clause-value
 returns-then-coordinate-count-clause-value c =
     let m : ℕ = c.args.pair.now.space.variables in
-    let below : c.args.coordinate < 2 ^ m = omega (arith, c.if-coordinate-count.true, shift_32 m c.requires.pair.space.few) in
+    let below : c.args.coordinate < 2 ^ m = omega (arith, c.if-coordinate-count.true, shift_is_power m 4294967296 c.requires.pair.space.few (lit< tt)) in
     c.number.ensures ∙ c.image.ensures ∙ ap (image c.args.sets.now) c.from_number.ensures ∙ sym (coordinate_of_set c.args.pair.now.first.space.variables m c.args.sets.now c.args.coordinate below)
 
 pub returns-then-coordinate-count-clause-below : goal.returns-then-coordinate-count-clause-below
@@ -16,5 +17,5 @@ pub returns-else-coordinate-count-clause-value : goal.returns-else-coordinate-co
 returns-else-coordinate-count-clause-value c =
     let n : ℕ = c.args.pair.now.first.space.variables in
     let m : ℕ = c.args.pair.now.space.variables in
-    let above : 2 ^ m ≤ c.args.coordinate = omega (arith, c.if-coordinate-count.false, shift_32 m c.requires.pair.space.few) in
-    ap₂ (λ (x y : ℕ). x + (c.args.coordinate - y)) (shift_64 n c.requires.pair.problem.space.few) (shift_32 m c.requires.pair.space.few) ∙ sym (coordinate_above_sets n m c.args.sets.now c.args.coordinate above)
+    let above : 2 ^ m ≤ c.args.coordinate = omega (arith, c.if-coordinate-count.false, shift_is_power m 4294967296 c.requires.pair.space.few (lit< tt)) in
+    ap₂ (λ (x y : ℕ). x + (c.args.coordinate - y)) (shift_is_power n 18446744073709551616 c.requires.pair.problem.space.few (lit< tt)) (shift_is_power m 4294967296 c.requires.pair.space.few (lit< tt)) ∙ sym (coordinate_above_sets n m c.args.sets.now c.args.coordinate above)

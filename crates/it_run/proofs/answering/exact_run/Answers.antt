@@ -10,8 +10,8 @@ use Rattle.it_run.proofs.answering.exact_run.Goals as goal
 use Rattle.it_run.proofs.answering.exact_run.Goals.{In_ok-run}
 
 -- the run's clauses where its ending is known
-run_reaches : (c : In_ok-run) (e : RunEnd) → c.in_ok-run.field-0 ≡ e → ReachesBy (height c.args.start) c.args.start.generators c.args.budget (table c.args.start) (run_end_view e (table c.run.new.tableau))
-run_reaches c e q = subst (λ (x : RunEnd). ReachesBy (height c.args.start) c.args.start.generators c.args.budget (table c.args.start) (run_end_view x (table c.run.new.tableau))) q c.in_ok-run.ensures.end
+run_reaches : (c : In_ok-run) (e : RunEnd) → c.in_ok-run.field-0 ≡ e → ReachesBy (height c.args.start) c.args.start.generator_columns c.args.budget (table c.args.start) (run_end_view e (table c.run.new.tableau))
+run_reaches c e q = subst (λ (x : RunEnd). ReachesBy (height c.args.start) c.args.start.generator_columns c.args.budget (table c.args.start) (run_end_view x (table c.run.new.tableau))) q c.in_ok-run.ensures.end
 
 run_leaves : (c : In_ok-run) (e : RunEnd) → c.in_ok-run.field-0 ≡ e → LeavesTableau e c.args.start c.run.new.tableau
 run_leaves c e q = subst (λ (x : RunEnd). LeavesTableau x c.args.start c.run.new.tableau) q c.in_ok-run.ensures.kept
@@ -29,8 +29,8 @@ returns-in-Point c p s = let d = (goal.at.returns-in-Point c).In_ok-run in let k
 
 pub returns-in-Pivots : goal.returns-in-Pivots
 returns-in-Pivots c p s = let d = (goal.at.returns-in-Pivots c).In_ok-run in
-    read_run (height c.args.start) c.args.start.generators p c.args.budget (table c.args.start) (Pivots c.in-Pivots.steps) (run_reaches d (run_ends.Pivots c.in-Pivots.steps) c.in-Pivots.is)
+    read_run (height c.args.start) c.args.start.generator_columns p c.args.budget (table c.args.start) (Pivots c.in-Pivots.steps) (run_reaches d (run_ends.Pivots c.in-Pivots.steps) c.in-Pivots.is)
 
 pub returns : goal.returns
 returns c p s = let d = (goal.at.returns c).In_ok-run in
-    read_run (height c.args.start) c.args.start.generators p c.args.budget (table c.args.start) (Width c.in-Width.step) (run_reaches d (run_ends.Width c.in-Width.step) c.in-Width.is)
+    read_run (height c.args.start) c.args.start.generator_columns p c.args.budget (table c.args.start) (Width c.in-Width.step) (run_reaches d (run_ends.Width c.in-Width.step) c.in-Width.is)

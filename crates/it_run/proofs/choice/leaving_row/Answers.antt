@@ -18,7 +18,7 @@ Candidate c i = is_candidate field_ℚ (table c.args.tableau.now) c.args.column 
 
 -- its ratio fits
 abbrev Fit : Joined-is_positive → ℕ → Type 0
-Fit c i = IsNarrow (ratio field_ℚ (height c.args.tableau.now) c.args.tableau.now.generators (table c.args.tableau.now) c.args.column i)
+Fit c i = IsNarrow (ratio field_ℚ (height c.args.tableau.now) c.args.tableau.now.generator_columns (table c.args.tableau.now) c.args.column i)
 
 pub loop-i-preserved : goal.loop-i-preserved
 loop-i-preserved c =
@@ -27,14 +27,14 @@ loop-i-preserved c =
     elim c.if-is_positive.branch [
       | then-is_positive+in_ok-ratio w ↦
           let o : Candidate c c.loop-i.i = ap not (ap (λ q. is_at_least_zero (minus q)) (sym c.entry.ensures) ∙ w.if-is_positive.ensures.yes) in record {
-            best = subst (IsBestOf (height t) t.generators (table t) c.args.column (c.loop-i.i + 1)) (sym (w.best-is ∙ w.best_after-best.ensures))
-                (best_takes (height t) t.generators (table t) c.args.column c.loop-i.i w.in_ok-ratio.ratio c.loop-i.best within o w.in_ok-ratio.ensures.1 c.loop-i.invariant.best);
+            best = subst (IsBestOf (height t) t.generator_columns (table t) c.args.column (c.loop-i.i + 1)) (sym (w.best-is ∙ w.best_after-best.ensures))
+                (best_takes (height t) t.generator_columns (table t) c.args.column c.loop-i.i w.in_ok-ratio.ratio c.loop-i.best within o w.in_ok-ratio.ensures.1 c.loop-i.invariant.best);
             fits = fits_more c.loop-i.i (λ i. Candidate c i → Fit c i) c.loop-i.invariant.fits (λ _. w.in_ok-ratio.ensures.0);
           }
       | else-is_positive w ↦
           let o = ap not (ap (λ q. is_at_least_zero (minus q)) (sym c.entry.ensures) ∙ w.if-is_positive.ensures.no) in record {
-            best = subst (IsBestOf (height t) t.generators (table t) c.args.column (c.loop-i.i + 1)) (sym w.best-is)
-                (best_skips (height t) t.generators (table t) c.args.column c.loop-i.i c.loop-i.best o c.loop-i.invariant.best);
+            best = subst (IsBestOf (height t) t.generator_columns (table t) c.args.column (c.loop-i.i + 1)) (sym w.best-is)
+                (best_skips (height t) t.generator_columns (table t) c.args.column c.loop-i.i c.loop-i.best o c.loop-i.invariant.best);
             fits = fits_more c.loop-i.i (λ i. Candidate c i → Fit c i) c.loop-i.invariant.fits (λ a. absurd (true≢false (sym a ∙ o)));
           }
     ]

@@ -9,6 +9,6 @@ use Rattle.it_run.proofs.choice.leaving_row.Given as goal
 
 abbrev pub invariant-loop-i : goal.invariant-loop-i
 invariant-loop-i l = record {
-  best : IsBestOf (height l.tableau) l.tableau.generators (table l.tableau) l.column l.i l.best;
-  fits : (i : ℕ) → i < l.i → is_candidate field_ℚ (table l.tableau) l.column i ≡ true → IsNarrow (ratio field_ℚ (height l.tableau) l.tableau.generators (table l.tableau) l.column i);
+  best : IsBestOf (height l.tableau) l.tableau.generator_columns (table l.tableau) l.column l.i l.best;
+  fits : (i : ℕ) → i < l.i → is_candidate field_ℚ (table l.tableau) l.column i ≡ true → IsNarrow (ratio field_ℚ (height l.tableau) l.tableau.generator_columns (table l.tableau) l.column i);
 }

@@ -8,7 +8,7 @@ use Rattle.it_run.specs.Answers.{sign_number}
 use Rattle.it_run.proofs.readings.value_at.Goals as goal
 use Rattle.it_run.proofs.readings.value_at.Goals.{After-is_negated}
 
-cost_is : (c : After-is_negated) → c.cost-cost.result ≡ (table c.args.tableau.now).entry (height c.args.tableau.now) (c.args.tableau.now.generators + c.args.k)
+cost_is : (c : After-is_negated) → c.cost-cost.result ≡ (table c.args.tableau.now).entry (height c.args.tableau.now) (c.args.tableau.now.generator_columns + c.args.k)
 cost_is c = c.cost-cost.ensures ∙ ap (λ j. (table c.args.tableau.now).entry (height c.args.tableau.now) j) (omega (arith, c.columns.ensures, c.rows.ensures))
 
 pub returns-then-is_negated : goal.returns-then-is_negated

@@ -3,4 +3,4 @@ use Rattle.it_run.proofs.FillingLemmas.{AreWeightsSoFar}
 use Rattle.it_run.proofs.readings.weights.Given as goal
 
 abbrev pub invariant-loop-j : goal.invariant-loop-j
-invariant-loop-j l = AreWeightsSoFar (height l.tableau) l.tableau.generators (table l.tableau) l.out.items l.j
+invariant-loop-j l = AreWeightsSoFar (height l.tableau) l.tableau.generator_columns (table l.tableau) l.out.items l.j

@@ -2,7 +2,7 @@ use Rattle.std.proofs.Common.{◌∙◌}
 use Rattle.std.proofs.lemmas.Result.{err_from_is_err_and}
 use Rattle.it_syntax.specs.Gives.{letters_left}
 use Rattle.it_syntax.specs.Scopes.{env_of}
-use Rattle.it_syntax.specs.AtomReading.{read_more}
+use Rattle.it_syntax.specs.MeasureReading.{read_more}
 use Rattle.it_syntax.proofs.ListLemmas.{with_none, step_ok, stops_at_fault, is_done}
 use Rattle.it_syntax.proofs.lists.more.Goals as goal
 

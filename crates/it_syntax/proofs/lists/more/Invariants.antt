@@ -1,6 +1,6 @@
 use Rattle.std.proofs.Common.{◌≡◌, length}
 use Rattle.it_syntax.specs.Gives.{letters_left}
-use Rattle.it_syntax.specs.AtomReading.{read_more}
+use Rattle.it_syntax.specs.MeasureReading.{read_more}
 use Rattle.it_syntax.specs.Scopes.{env_of}
 use Rattle.it_syntax.proofs.ListLemmas.{with_set}
 use Rattle.it_syntax.proofs.lists.more.Given as goal

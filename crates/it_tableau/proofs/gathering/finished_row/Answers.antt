@@ -7,7 +7,7 @@ use Rattle.it_tableau.proofs.GatherSteps.{row_climbs, row_finished, row_wholes}
 use Rattle.it_tableau.proofs.gathering.finished_row.Goals as goal
 use Rattle.it_tableau.proofs.gathering.finished_row.Goals.{In_ok-append}
 
--- the artificial column is put behind the row's terms
+-- the artificial column is put after the row's terms
 put : (c : In_ok-append) → IsAppended c.args.list (length c.args.columns.now + c.args.k) c.start_entry-unit.result c.append.new.terms.items
 put c = subst (λ (ts : RowTerms). IsAppended ts (length c.args.columns.now + c.args.k) c.start_entry-unit.result c.append.new.terms.items) c.into_terms-terms.ensures c.in_ok-append.ensures
 

@@ -4,8 +4,8 @@ use Rattle.it_rational.specs.Rational as Q
 use Rattle.it_fraction.specs.Fits.{IsNarrow}
 use Rattle.it_space.specs.declared.faults.RowFault.TheVariants.{Wide}
 use Rattle.it_tableau.specs.Fits.{EntryFits}
-use Rattle.it_tableau.specs.Merging.{number_of_term, IsAppended, IsSide, MergeFits}
-use Rattle.it_tableau.specs.declared.merging.Side.TheVariants.{Old, By, Both}
+use Rattle.it_tableau.specs.Merging.{number_of_term, IsAppended, IsTermSource, MergeFits}
+use Rattle.it_tableau.specs.declared.merging.TermSource.TheVariants.{Old, Other, Both}
 use Rattle.it_tableau.proofs.Zeros.{any_err}
 use Rattle.it_tableau.proofs.MergeSteps.{IsMerging, merge_begins, all_differences_fit, merge_ends, refused_both, refused_by, take_both, take_by, take_old}
 use Rattle.it_tableau.proofs.merging.merge.Goals as goal
@@ -16,7 +16,7 @@ loop-i-init c = (subst (IsMerging c.args.width c.args.old.now c.args.by.now c.ar
 pub loop-i-preserved-in-Old : goal.loop-i-preserved-in-Old
 loop-i-preserved-in-Old c =
     let o = c.args.old.now in let b = c.args.by.now in let i = c.loop-i.i in let j = c.loop-i.j in
-    let s : IsSide o b i j Old = subst (IsSide o b i j) c.in-Old.is c.next_side.ensures in (
+    let s : IsTermSource o b i j Old = subst (IsTermSource o b i j) c.in-Old.is c.next_source.ensures in (
       take_old c.args.width o b c.args.q i j c.loop-i.buffer.items c.loop-i.invariant.0 c.append.new.terms.items s.0 s.1 (subst IsNarrow c.term.ensures.value c.term.ensures.narrow)
           (subst (λ (n : ℕ). IsAppended c.loop-i.buffer.items n (number_of_term o i) c.append.new.terms.items) c.column.ensures
           (subst (λ (x : Rational). IsAppended c.loop-i.buffer.items c.column.result x c.append.new.terms.items) c.term.ensures.value c.in_ok-append-in-Old.ensures)),
@@ -24,22 +24,22 @@ loop-i-preserved-in-Old c =
       c.loop-i.invariant.2,
     )
 
-pub returns-in_err-negated_product-in-By-clause-wide : goal.returns-in_err-negated_product-in-By-clause-wide
-returns-in_err-negated_product-in-By-clause-wide c =
+pub returns-in_err-negated_product-in-Other-clause-wide : goal.returns-in_err-negated_product-in-Other-clause-wide
+returns-in_err-negated_product-in-Other-clause-wide c =
     let o = c.args.old.now in let b = c.args.by.now in let i = c.loop-i.i in let j = c.loop-i.j in
-    let s : IsSide o b i j By = subst (IsSide o b i j) c.in-By.is c.next_side.ensures in
-    any_err c.from_residual-in_err-negated_product-in-By.result Wide (¬ (MergeFits o b c.args.q))
-    (refused_by c.args.width o b c.args.q i j c.loop-i.buffer.items c.loop-i.invariant.0 s.0 (subst (λ (y : Rational). ¬ (IsNarrow (Q.times y c.args.q))) c.term-in-By.ensures.value c.in_err-negated_product-in-By.ensures))
+    let s : IsTermSource o b i j Other = subst (IsTermSource o b i j) c.in-Other.is c.next_source.ensures in
+    any_err c.from_residual-in_err-negated_product-in-Other.result Wide (¬ (MergeFits o b c.args.q))
+    (refused_by c.args.width o b c.args.q i j c.loop-i.buffer.items c.loop-i.invariant.0 s.0 (subst (λ (y : Rational). ¬ (IsNarrow (Q.times y c.args.q))) c.term-in-Other.ensures.value c.in_err-negated_product-in-Other.ensures))
 
-pub loop-i-preserved-in-By : goal.loop-i-preserved-in-By
-loop-i-preserved-in-By c =
+pub loop-i-preserved-in-Other : goal.loop-i-preserved-in-Other
+loop-i-preserved-in-Other c =
     let o = c.args.old.now in let b = c.args.by.now in let i = c.loop-i.i in let j = c.loop-i.j in
-    let s : IsSide o b i j By = subst (IsSide o b i j) c.in-By.is c.next_side.ensures in
-    let v = c.in_ok-negated_product-in-By.field-0 in (
-      take_by c.args.width o b c.args.q i j c.loop-i.buffer.items c.loop-i.invariant.0 c.append-in-By.new.terms.items v s.0 s.1
-          (subst (λ (y : Rational). IsNarrow (Q.times y c.args.q)) c.term-in-By.ensures.value c.in_ok-negated_product-in-By.ensures.0)
-          (c.in_ok-negated_product-in-By.ensures.1 ∙ ap (λ (y : Rational). Q.minus (Q.times y c.args.q)) c.term-in-By.ensures.value)
-          (subst (λ (n : ℕ). IsAppended c.loop-i.buffer.items n v c.append-in-By.new.terms.items) c.column-in-By.ensures c.in_ok-append-in-By.ensures),
+    let s : IsTermSource o b i j Other = subst (IsTermSource o b i j) c.in-Other.is c.next_source.ensures in
+    let v = c.in_ok-negated_product-in-Other.field-0 in (
+      take_by c.args.width o b c.args.q i j c.loop-i.buffer.items c.loop-i.invariant.0 c.append-in-Other.new.terms.items v s.0 s.1
+          (subst (λ (y : Rational). IsNarrow (Q.times y c.args.q)) c.term-in-Other.ensures.value c.in_ok-negated_product-in-Other.ensures.0)
+          (c.in_ok-negated_product-in-Other.ensures.1 ∙ ap (λ (y : Rational). Q.minus (Q.times y c.args.q)) c.term-in-Other.ensures.value)
+          (subst (λ (n : ℕ). IsAppended c.loop-i.buffer.items n v c.append-in-Other.new.terms.items) c.column-in-Other.ensures c.in_ok-append-in-Other.ensures),
       c.loop-i.invariant.1,
       (let l = s.0 in omega (arith, l)),
     )
@@ -47,7 +47,7 @@ loop-i-preserved-in-By c =
 pub returns-in_err-difference-in-Both-clause-wide : goal.returns-in_err-difference-in-Both-clause-wide
 returns-in_err-difference-in-Both-clause-wide c =
     let o = c.args.old.now in let b = c.args.by.now in let i = c.loop-i.i in let j = c.loop-i.j in
-    let s : IsSide o b i j Both = subst (IsSide o b i j) c.in-Both.is c.next_side.ensures in
+    let s : IsTermSource o b i j Both = subst (IsTermSource o b i j) c.in-Both.is c.next_source.ensures in
     any_err c.from_residual-in_err-difference-in-Both.result Wide (¬ (MergeFits o b c.args.q))
     (refused_both c.args.width o b c.args.q i j c.loop-i.buffer.items c.loop-i.invariant.0 s.0 s.1 s.2
     (subst (λ (x : Rational). ¬ (EntryFits x (number_of_term b j) c.args.q)) c.term-in-Both.ensures.value
@@ -56,7 +56,7 @@ returns-in_err-difference-in-Both-clause-wide c =
 pub loop-i-preserved : goal.loop-i-preserved
 loop-i-preserved c =
     let o = c.args.old.now in let b = c.args.by.now in let i = c.loop-i.i in let j = c.loop-i.j in
-    let s : IsSide o b i j Both = subst (IsSide o b i j) c.in-Both.is c.next_side.ensures in
+    let s : IsTermSource o b i j Both = subst (IsTermSource o b i j) c.in-Both.is c.next_source.ensures in
     let v = c.in_ok-difference-in-Both.difference in (
       take_both c.args.width o b c.args.q i j c.loop-i.buffer.items c.loop-i.invariant.0 c.append-in-Both.new.terms.items v s.0 s.1 s.2
           (subst (λ (x : Rational). EntryFits x (number_of_term b j) c.args.q) c.term-in-Both.ensures.value

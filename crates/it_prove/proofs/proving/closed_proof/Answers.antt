@@ -6,7 +6,7 @@ use Rattle.it_run.specs.Runs.RunEndView.{Weights, Point, Pivots, Width}
 use Rattle.it_run.proofs.AnswerLemmas.{if_ok}
 use Rattle.it_prove.specs.ProofViews.{EndsWith, Follows, Undecided, proof_view}
 use Rattle.it_prove.proofs.ProofLemmas.{answer_ends, answer_sums, answer_separates}
-use Rattle.it_prove.proofs.proving.on_closed.Goals as goal
+use Rattle.it_prove.proofs.proving.closed_proof.Goals as goal
 
 pub by_weights-requires-clause-sum : goal.by_weights-requires-clause-sum
 by_weights-requires-clause-sum c = answer_sums (problem_view c.args.problem.now) c.args.target.now c.as_slice.result.now c.args.closed.now.coordinates.items c.as_slice.ensures.value c.requires.coordinates

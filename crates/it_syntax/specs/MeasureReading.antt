@@ -7,17 +7,18 @@ use Rattle.it_syntax.specs.declared.types.Atom.{Atom}
 use Rattle.it_syntax.specs.declared.types.Atom.TheVariants.{Entropy, Mutual}
 use Rattle.it_syntax.specs.Letters.{Letter, Word, Sym, End}
 use Rattle.it_syntax.specs.FirstFault.{own_code}
-use Rattle.it_syntax.specs.WrittenAtoms.{Environment, entropy_text, mutual_text, is_measure}
+use Rattle.it_syntax.specs.WrittenMeasures.{Environment, entropy_text, mutual_text, is_measure}
 use Rattle.it_syntax.specs.declared.types.Code.TheVariants as codes
 
 -- a fault and what is left at it
 abbrev pub Fault : Type 0
 Fault = Code × List Letter
 
--- a value and what is left behind it, or a fault
+-- a value and what is left after it, or a fault
 abbrev pub Reads : Type 0 → Type 0
 Reads A = Result (A × List Letter) Fault
 
+-- what is read next by `f`, unless there was a fault
 infixl 10 ◌>>=◌
 abbrev pub ◌>>=◌ : {A B : Type 0} → Result A Fault → (A → Result B Fault) → Result B Fault
 (Ok x) >>= f = f x
@@ -33,6 +34,7 @@ variable_or_fault w true o ls = Err (codes.Word, Word w ∷ ls)
 variable_or_fault w false (Some i) ls = Ok (i, ls)
 variable_or_fault w false None ls = Err (codes.Name, Word w ∷ ls)
 
+-- the variable of a name that must stand there
 unfoldable pub read_name : Environment → List Letter → Reads ℕ
 read_name env (Word w ∷ ls) = variable_or_fault w (is_measure w) (env w) ls
 read_name env ls = no_rule ls
@@ -46,13 +48,14 @@ read_more env (Sym Comma ∷ Word w ∷ ls) = do
 read_more env (Sym Comma ∷ ls) = no_rule ls
 read_more env ls = Ok (0, ls)
 
+-- the set of one or more names
 unfoldable pub read_list : Environment → List Letter → Reads ℕ
 read_list env ls = do
   f ← read_name env ls
   m ← read_more env f.1
   Ok (bit_or (2 ^ f.0) m.0, m.1)
 
--- a value behind which `)` must stand
+-- a value after which `)` must stand
 unfoldable pub close_paren : {A : Type 0} → A → List Letter → Reads A
 close_paren x (Sym RightParen ∷ ls) = Ok (x, ls)
 close_paren x ls = no_rule ls
@@ -62,6 +65,7 @@ unfoldable pub open_paren : List Letter → Result (List Letter) Fault
 open_paren (Sym LeftParen ∷ ls) = Ok ls
 open_paren ls = no_rule ls
 
+-- `;`, which must stand there
 unfoldable pub semicolon : List Letter → Result (List Letter) Fault
 semicolon (Sym Semicolon ∷ ls) = Ok ls
 semicolon ls = no_rule ls
@@ -72,12 +76,13 @@ bar_or_close (Sym Bar ∷ ls) = Ok (true, ls)
 bar_or_close (Sym RightParen ∷ ls) = Ok (false, ls)
 bar_or_close ls = no_rule ls
 
--- the set behind `|`, or nothing, up to `)`
+-- the set after `|`, or nothing, up to `)`
 unfoldable pub read_given_set : Environment → List Letter → Reads ℕ
 read_given_set env ls = do
   bar ← bar_or_close ls
   if bar.0 then (read_list env bar.1 >>= λ c. close_paren c.0 c.1) else Ok (0, bar.1)
 
+-- an entropy after `H`
 unfoldable pub read_entropy : Environment → List Letter → Reads Atom
 read_entropy env ls = do
   inner ← open_paren ls
@@ -85,6 +90,7 @@ read_entropy env ls = do
   c ← read_given_set env a.1
   Ok (Entropy a.0 c.0, c.1)
 
+-- a mutual information after `I`
 unfoldable pub read_mutual_information : Environment → List Letter → Reads Atom
 read_mutual_information env ls = do
   inner ← open_paren ls
@@ -94,10 +100,12 @@ read_mutual_information env ls = do
   c ← read_given_set env b.1
   Ok (Mutual a.0 b.0 c.0, c.1)
 
-unfoldable pub read_atom : Environment → List Letter → Reads Atom
-read_atom env (Word w ∷ ls) = if bytes_eq w entropy_text then read_entropy env ls else (if bytes_eq w mutual_text then read_mutual_information env ls else no_rule (Word w ∷ ls))
-read_atom env ls = no_rule ls
+-- an entropy or a mutual information
+unfoldable pub read_measure : Environment → List Letter → Reads Atom
+read_measure env (Word w ∷ ls) = if bytes_eq w entropy_text then read_entropy env ls else (if bytes_eq w mutual_text then read_mutual_information env ls else no_rule (Word w ∷ ls))
+read_measure env ls = no_rule ls
 
+-- whether `-` stands there, and what is left after a sign, if there is one
 unfoldable pub read_sign : List Letter → Bool × List Letter
 read_sign (Sym Plus ∷ ls) = (false, ls)
 read_sign (Sym Minus ∷ ls) = (true, ls)

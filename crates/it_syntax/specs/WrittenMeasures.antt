@@ -18,21 +18,22 @@ pub record WrittenList : Type 0 where
   pub more : List (List ℕ)
 
 -- `H(A)`, `H(A|C)`, `I(A;B)`, `I(A;B|C)`
-pub data WrittenAtom : Type 0 where
-  Entropy : (of : WrittenList) → WrittenAtom
-  EntropyGiven : (of given : WrittenList) → WrittenAtom
-  Mutual : (left right : WrittenList) → WrittenAtom
-  MutualGiven : (left right given : WrittenList) → WrittenAtom
+pub data WrittenMeasure : Type 0 where
+  Entropy : (of : WrittenList) → WrittenMeasure
+  EntropyGiven : (of given : WrittenList) → WrittenMeasure
+  Mutual : (left right : WrittenList) → WrittenMeasure
+  MutualGiven : (left right given : WrittenList) → WrittenMeasure
 
 -- `+` and `-`
 pub data TermSign : Type 0 where
   Positive : TermSign
   Negative : TermSign
 
--- `H` and `I`, which are no names
+-- the word of an entropy; it and that of a mutual information are no names
 abbrev pub entropy_text : List ℕ
 entropy_text = codes "H"
 
+-- the word of a mutual information
 abbrev pub mutual_text : List ℕ
 mutual_text = codes "I"
 
@@ -40,34 +41,41 @@ mutual_text = codes "I"
 abbrev pub is_measure : List ℕ → Bool
 is_measure w = bytes_eq w entropy_text || bytes_eq w mutual_text
 
+-- against a name that is unknown
 abbrev pub unknown_mark : Option ℕ → Option Code
 unknown_mark (Some i) = None
 unknown_mark None = Some codes.Name
 
+-- against a word in the place of a variable: it may be no name, or be unknown
 abbrev pub name_mark : Environment → List ℕ → Option Code
 name_mark env w = if is_measure w then Some codes.Word else unknown_mark (env w)
 
--- Each spelling takes the letters that follow.
+-- the name of a variable, before the letters that follow
 abbrev pub spell_name : Environment → List ℕ → MarkedLetters → MarkedLetters
 spell_name env w k = (Word w, name_mark env w) ∷ k
 
+-- further names, each after a comma
 abbrev pub spell_more : Environment → List (List ℕ) → MarkedLetters → MarkedLetters
 spell_more env [] k = k
 spell_more env (w ∷ ws) k = without_mark (Sym Comma) ∷ spell_name env w (spell_more env ws k)
 
+-- one or more names with commas between them
 abbrev pub spell_list : Environment → WrittenList → MarkedLetters → MarkedLetters
 spell_list env l k = spell_name env l.first (spell_more env l.more k)
 
-abbrev pub spell_atom : Environment → WrittenAtom → MarkedLetters → MarkedLetters
-spell_atom env (Entropy a) k = without_mark (Word entropy_text) ∷ without_mark (Sym LeftParen) ∷ spell_list env a (without_mark (Sym RightParen) ∷ k)
-spell_atom env (EntropyGiven a c) k = without_mark (Word entropy_text) ∷ without_mark (Sym LeftParen) ∷ spell_list env a (without_mark (Sym Bar) ∷ spell_list env c (without_mark (Sym RightParen) ∷ k))
-spell_atom env (Mutual a b) k = without_mark (Word mutual_text) ∷ without_mark (Sym LeftParen) ∷ spell_list env a (without_mark (Sym Semicolon) ∷ spell_list env b (without_mark (Sym RightParen) ∷ k))
-spell_atom env (MutualGiven a b c) k = without_mark (Word mutual_text) ∷ without_mark (Sym LeftParen) ∷ spell_list env a (without_mark (Sym Semicolon) ∷ spell_list env b (without_mark (Sym Bar) ∷ spell_list env c (without_mark (Sym RightParen) ∷ k)))
+-- an entropy or a mutual information
+abbrev pub spell_measure : Environment → WrittenMeasure → MarkedLetters → MarkedLetters
+spell_measure env (Entropy a) k = without_mark (Word entropy_text) ∷ without_mark (Sym LeftParen) ∷ spell_list env a (without_mark (Sym RightParen) ∷ k)
+spell_measure env (EntropyGiven a c) k = without_mark (Word entropy_text) ∷ without_mark (Sym LeftParen) ∷ spell_list env a (without_mark (Sym Bar) ∷ spell_list env c (without_mark (Sym RightParen) ∷ k))
+spell_measure env (Mutual a b) k = without_mark (Word mutual_text) ∷ without_mark (Sym LeftParen) ∷ spell_list env a (without_mark (Sym Semicolon) ∷ spell_list env b (without_mark (Sym RightParen) ∷ k))
+spell_measure env (MutualGiven a b c) k = without_mark (Word mutual_text) ∷ without_mark (Sym LeftParen) ∷ spell_list env a (without_mark (Sym Semicolon) ∷ spell_list env b (without_mark (Sym Bar) ∷ spell_list env c (without_mark (Sym RightParen) ∷ k)))
 
+-- how a term's sign is written
 abbrev pub sign_letter : TermSign → Letter
 sign_letter Positive = Sym Plus
 sign_letter Negative = Sym Minus
 
+-- a sign, or nothing
 abbrev pub spell_sign : Option TermSign → MarkedLetters → MarkedLetters
 spell_sign None k = k
 spell_sign (Some s) k = without_mark (sign_letter s) ∷ k
@@ -79,27 +87,34 @@ mark_surplus ((l, None) ∷ m) = (l, Some codes.Many) ∷ m
 mark_surplus ((l, Some c) ∷ m) = (l, Some c) ∷ m
 
 -- ---- what a tree names; 0 stands in for a name that is unknown, which is marked
+
+-- the number of a name
 abbrev pub index_or : Option ℕ → ℕ
 index_or (Some i) = i
 index_or None = 0
 
+-- the set of further names
 abbrev pub more_set : Environment → List (List ℕ) → ℕ
 more_set env [] = 0
 more_set env (w ∷ ws) = bit_or (2 ^ index_or (env w)) (more_set env ws)
 
+-- the set of one or more names
 abbrev pub list_set : Environment → WrittenList → ℕ
 list_set env l = bit_or (2 ^ index_or (env l.first)) (more_set env l.more)
 
-abbrev pub atom_of : Environment → WrittenAtom → Atom
-atom_of env (Entropy a) = atoms.Entropy (list_set env a) 0
-atom_of env (EntropyGiven a c) = atoms.Entropy (list_set env a) (list_set env c)
-atom_of env (Mutual a b) = atoms.Mutual (list_set env a) (list_set env b) 0
-atom_of env (MutualGiven a b c) = atoms.Mutual (list_set env a) (list_set env b) (list_set env c)
+-- which entropy or mutual information it is; without `|`, the empty set is given
+abbrev pub measure_of : Environment → WrittenMeasure → Atom
+measure_of env (Entropy a) = atoms.Entropy (list_set env a) 0
+measure_of env (EntropyGiven a c) = atoms.Entropy (list_set env a) (list_set env c)
+measure_of env (Mutual a b) = atoms.Mutual (list_set env a) (list_set env b) 0
+measure_of env (MutualGiven a b c) = atoms.Mutual (list_set env a) (list_set env b) (list_set env c)
 
+-- whether a sign is `-`
 abbrev pub is_negative : TermSign → Bool
 is_negative Positive = false
 is_negative Negative = true
 
+-- whether there is a sign and it is `-`
 abbrev pub is_minus : Option TermSign → Bool
 is_minus None = false
 is_minus (Some s) = is_negative s

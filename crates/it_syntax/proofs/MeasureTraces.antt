@@ -7,9 +7,9 @@ use Rattle.it_syntax.specs.declared.types.Code.TheVariants as codes
 use Rattle.it_syntax.specs.declared.types.Atom.{Atom}
 use Rattle.it_syntax.specs.declared.types.Atom.TheVariants.{Entropy}
 use Rattle.it_syntax.specs.Letters.{Letter, Word, Sym, MarkedLetters, without_mark}
-use Rattle.it_syntax.specs.WrittenAtoms.{Environment, WrittenList, is_measure, unknown_mark, index_or, more_set, list_set, name_mark, spell_name, spell_more, spell_list}
+use Rattle.it_syntax.specs.WrittenMeasures.{Environment, WrittenList, is_measure, unknown_mark, index_or, more_set, list_set, name_mark, spell_name, spell_more, spell_list}
 use Rattle.it_syntax.specs.FirstFault.{head, own_code}
-use Rattle.it_syntax.specs.AtomReading.{Reads, ◌>>=◌, variable_or_fault, read_name, read_more, read_list, close_paren, open_paren, bar_or_close, read_given_set, read_entropy}
+use Rattle.it_syntax.specs.MeasureReading.{Reads, ◌>>=◌, variable_or_fault, read_name, read_more, read_list, close_paren, open_paren, bar_or_close, read_given_set, read_entropy}
 use Rattle.it_syntax.proofs.Traces.{Went, Stuck, By, Traces, traces_bind, traces_map, letter_then}
 
 -- what holds of the letters that begin as r does
@@ -86,10 +86,10 @@ closed_traces x (l ∷ ls) = stuck_here (close_paren x) (λ (u : Unit {0}) k. wi
 abbrev with_further : ℕ → Reads ℕ → Reads ℕ
 with_further i t = t >>= λ m. Ok (bit_or (2 ^ i) m.0, m.1)
 
--- what reading further names does behind a comma and a name
-more_behind_comma : (env : Environment) (w : List ℕ) (s : List Letter) (h : Bool) (o : Option ℕ) → is_measure w ≡ h → env w ≡ o → read_more env (Sym Comma ∷ Word w ∷ s) ≡ (variable_or_fault w h o s >>= λ n. with_further n.0 (read_more env s))
+-- what reading further names does after a comma and a name
+more_after_comma : (env : Environment) (w : List ℕ) (s : List Letter) (h : Bool) (o : Option ℕ) → is_measure w ≡ h → env w ≡ o → read_more env (Sym Comma ∷ Word w ∷ s) ≡ (variable_or_fault w h o s >>= λ n. with_further n.0 (read_more env s))
 unfolding read_more
-more_behind_comma env w s h o eh eo = ap (λ (b : Bool). variable_or_fault w b (env w) s >>= λ n. with_further n.0 (read_more env s)) eh ∙ ap (λ (p : Option ℕ). variable_or_fault w h p s >>= λ n. with_further n.0 (read_more env s)) eo
+more_after_comma env w s h o eh eo = ap (λ (b : Bool). variable_or_fault w b (env w) s >>= λ n. with_further n.0 (read_more env s)) eh ∙ ap (λ (p : Option ℕ). variable_or_fault w h p s >>= λ n. with_further n.0 (read_more env s)) eo
 
 pub mark_is : (env : Environment) (w : List ℕ) (h : Bool) (o : Option ℕ) → is_measure w ≡ h → env w ≡ o → name_mark env w ≡ cond h (Some codes.Word) (unknown_mark o)
 mark_is env w h o eh eo = ap (λ (b : Bool). cond b (Some codes.Word) (unknown_mark (env w))) eh ∙ ap (λ (p : Option ℕ). cond h (Some codes.Word) (unknown_mark p)) eo
@@ -101,14 +101,14 @@ more_by env w ls true o eh eo t b = record {
   front = Sym Comma ∷ [];
   parts = refl;
   spells = λ k. ((Word w, name_mark env w) ∷ k, (refl, inl refl));
-  stays = for_same_head (λ s. read_more env (Sym Comma ∷ s) ≡ Err (codes.Word, s)) (Word w) (λ s. more_behind_comma env w s true o eh eo);
+  stays = for_same_head (λ s. read_more env (Sym Comma ∷ s) ≡ Err (codes.Word, s)) (Word w) (λ s. more_after_comma env w s true o eh eo);
 }
 more_by env w ls false None eh eo t b = record {
   tree = w ∷ [];
   front = Sym Comma ∷ [];
   parts = refl;
   spells = λ k. ((Word w, name_mark env w) ∷ k, (refl, inr (Word w, k, (ap (λ (m : Option Code). (Word w, m) ∷ k) (mark_is env w false None eh eo), refl))));
-  stays = for_same_head (λ s. read_more env (Sym Comma ∷ s) ≡ Err (codes.Name, s)) (Word w) (λ s. more_behind_comma env w s false None eh eo);
+  stays = for_same_head (λ s. read_more env (Sym Comma ∷ s) ≡ Err (codes.Name, s)) (Word w) (λ s. more_after_comma env w s false None eh eo);
 }
 more_by env w ls false (Some i) eh eo (Ok x) b = record {
   tree = w ∷ b.tree;
@@ -116,17 +116,17 @@ more_by env w ls false (Some i) eh eo (Ok x) b = record {
   value = ap (λ (j : ℕ). bit_or (2 ^ j) (more_set env b.tree)) (ap index_or eo) ∙ ap (bit_or (2 ^ i)) b.value;
   parts = ap (λ (s : List Letter). Sym Comma ∷ Word w ∷ s) b.parts;
   spells = λ k. ap (λ (m : Option Code). without_mark (Sym Comma) ∷ (Word w, m) ∷ spell_more env b.tree k) (mark_is env w false (Some i) eh eo) ∙ ap (λ (q : MarkedLetters). without_mark (Sym Comma) ∷ without_mark (Word w) ∷ q) (b.spells k);
-  stays = λ s e. more_behind_comma env w (b.front ++ s) false (Some i) eh eo ∙ ap (with_further i) (b.stays s e);
+  stays = λ s e. more_after_comma env w (b.front ++ s) false (Some i) eh eo ∙ ap (with_further i) (b.stays s e);
 }
 more_by env w ls false (Some i) eh eo (Err x) b = record {
   tree = w ∷ b.tree;
   front = Sym Comma ∷ Word w ∷ b.front;
   parts = ap (λ (s : List Letter). Sym Comma ∷ Word w ∷ s) b.parts;
   spells = λ k. let q = b.spells k in (q.0, (ap (λ (m : Option Code). without_mark (Sym Comma) ∷ (Word w, m) ∷ spell_more env b.tree k) (mark_is env w false (Some i) eh eo) ∙ ap (λ (r : MarkedLetters). without_mark (Sym Comma) ∷ without_mark (Word w) ∷ r) q.1.0, q.1.1));
-  stays = λ s e. more_behind_comma env w (b.front ++ s) false (Some i) eh eo ∙ ap (with_further i) (b.stays s e);
+  stays = λ s e. more_after_comma env w (b.front ++ s) false (Some i) eh eo ∙ ap (with_further i) (b.stays s e);
 }
 
--- behind a comma stands no name
+-- after a comma stands no name
 no_name : (env : Environment) (l : Letter) (ls : List Letter) (c : Code) → ((s : List Letter) → read_more env (Sym Comma ∷ l ∷ s) ≡ Err (c, l ∷ s)) → own_code (l ∷ ls) ≡ c → Stuck (read_more env) (spell_more env) (Sym Comma ∷ l ∷ ls) c (l ∷ ls)
 no_name env l ls c h o = record {
   tree = some_name ∷ [];
@@ -164,7 +164,7 @@ unfolding read_list list_made name_of
 list_traces env = traces_bind (read_name env) (λ i ls. with_further i (read_more env ls)) (read_list env) (spell_name env) (λ i. spell_more env) (spell_list env) (name_of env) (λ i ws. bit_or (2 ^ i) (more_set env ws)) (list_set env) list_made
     (record { is = λ ls. refl; spells = λ y z k. refl; value = λ y z. refl; some = []; first = name_traces env; second = λ i. traces_map (read_more env) (bit_or (2 ^ i)) (spell_more env) (more_set env) (more_traces env) })
 
--- ---- what stands behind `|`, up to `)`
+-- ---- what stands after `|`, up to `)`
 
 abbrev pub spell_inner : Environment → WrittenList → MarkedLetters → MarkedLetters
 spell_inner env c k = spell_list env c (without_mark (Sym RightParen) ∷ k)
@@ -215,7 +215,7 @@ entropy_inner_traces : (env : Environment) → Traces (entropy_inner env) (spell
 entropy_inner_traces env = traces_bind (read_list env) (λ a ls. read_given_set env ls >>= λ c. Ok (Entropy a c.0, c.1)) (entropy_inner env) (spell_list env) (λ a. spell_given env) (spell_pair env) (list_set env) (λ a c. Entropy a (given_set env c)) (entropy_of env) (λ a c. (a, c))
     (record { is = λ ls. refl; spells = λ y z k. refl; value = λ y z. refl; some = None; first = list_traces env; second = λ a. traces_map (read_given_set env) (Entropy a) (spell_given env) (given_set env) (given_traces env) })
 
--- an entropy behind its `H`
+-- an entropy after its `H`
 pub entropy_traces : (env : Environment) → Traces (read_entropy env) (λ p k. without_mark (Sym LeftParen) ∷ spell_pair env p k) (entropy_of env)
 unfolding read_entropy open_paren some_list
 entropy_traces env (Sym LeftParen ∷ ls) = letter_then (read_entropy env) (entropy_inner env) (Sym LeftParen) (spell_pair env) (λ p k. without_mark (Sym LeftParen) ∷ spell_pair env p k) (entropy_of env) (entropy_of env) (λ p. p) ls (λ s. refl) (λ z k. refl) (λ z. refl) (entropy_inner env ls) (entropy_inner_traces env ls)

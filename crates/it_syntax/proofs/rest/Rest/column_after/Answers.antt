@@ -3,7 +3,7 @@ use Rattle.std.proofs.lemmas.Option.{slice_get-get_or}
 use Rattle.it_syntax.specs.declared.types.Token.{Token}
 use Rattle.it_syntax.specs.Lines.{end_of}
 use Rattle.it_syntax.proofs.SpanLemmas.{no_token, in_line_at}
-use Rattle.it_syntax.proofs.rest.Rest.column_behind.Goals as goal
+use Rattle.it_syntax.proofs.rest.Rest.column_after.Goals as goal
 
 pub overflow_add-result : goal.overflow_add-result
 overflow_add-result c =
