@@ -35,6 +35,7 @@ pub fn pivot(
     let own = taken.divided_by(entry);
     let p = own.unit();
     own.note_places(next);
+    // by index, since the invariant speaks of the rows before i and of those from i on
     for i in 0..rows.len() {
         if i != r {
             if !rows[i].update(&own, next.as_slice(), column, p, limit) {

@@ -71,6 +71,7 @@ fn write_proof_lines(
     requires targets { All (IsRowOver names.now) targets.now }
     ensures { OnOk result (out.new.items ≡ out.old.items ++ proof_lines k names.now (origins_of constraints.now) (generator_rows names.now constraints.now) (map certificate_view proofs.now) targets.now) }
 {
+    // by index, since the invariant speaks of both lists from i on
     for i in 0..proofs.len().min(targets.len()) {
         write_certificate_lines(alloc, out, k, names, constraints, &proofs[i], &targets[i])?;
     }

@@ -30,6 +30,7 @@ pub fn pivot_rows(alloc: Global, rows: &mut [SparseRow], r: usize, c: usize) -> 
     let pivot = read(rows, r, c);
     let mut own = std::mem::replace(&mut rows[r], SparseRow::placeholder(alloc));
     let mut buffer = Vec::new(alloc);
+    // by index, since the invariant speaks of the rows before i and of those from i on
     for i in 0..rows.len() {
         if i != r {
             rows[i].reduce(&own, c, pivot, &mut buffer)?;
