@@ -8,7 +8,7 @@ use Rattle.it_space.specs.Problems.{ProblemView}
 use Rattle.it_space.specs.Rows.{Terms, IsUpTo}
 use Rattle.it_space.specs.Spaces.{IsSpace, size_of}
 use Rattle.it_space.proofs.EveryLemmas.{all_of, every_of}
-use Rattle.it_redundant.specs.declared.types.Reduction.{Reduction}
+use Rattle.it_redundant.specs.declared.types.Reduced.{Reduced}
 use Rattle.it_redundant.specs.Reduction.{NeedView, Reduces, kept_by, kept_rows, kept_view, dropped_view}
 use Rattle.it_redundant.proofs.ReductionLemmas.{every_kept, few_kept}
 use Rattle.it_redundant.proofs.VisitLemmas.{rows_kept}
@@ -22,7 +22,7 @@ module _ (givens : ProblemView) (budget : Option ℕ) where
       = ap (λ (ks : List (Terms × NeedView)). length (kept_rows ks)) e ∙ ap length (map-append (λ (x : Terms × NeedView). x.0) (kept_by row o) k) ∙ length-append (kept_rows (kept_by row o)) (kept_rows k) in
       omega (arith, n, few_kept givens budget row o, no_longer (before ++ kept_rows (kept_by row o)) rows k d r)
 
-  pub list_of_kept : (space : Space) (list system : System) (reduced : Reduction) → IsListOf space list → Reduces givens budget [] list.rows.items (kept_view reduced) (dropped_view reduced)
+  pub list_of_kept : (space : Space) (list system : System) (reduced : Reduced) → IsListOf space list → Reduces givens budget [] list.rows.items (kept_view reduced) (dropped_view reduced)
       → system.space ≡ list.space → system.rows.items ≡ map (λ k. k.0) reduced.kept.items → IsListOf space system
   list_of_kept space list system reduced is r same rows =
       let kept : kept_rows (kept_view reduced) ≡ system.rows.items = rows_kept reduced.kept.items ∙ sym rows in

@@ -7,7 +7,7 @@ ghost use Rattle.bench_eliminate.specs.Tasks.{IsListOf, IsTask};
 
 use crate::lists::{constrain_all, copy_of, keep};
 use it_canon::{problem, system};
-use it_eliminate::{EliminationEnd, step};
+use it_eliminate::{Eliminated, step};
 use it_prove::{Proof, prove};
 use it_question::questions;
 use it_question::types::{Question, Verb};
@@ -81,7 +81,7 @@ fn next(alloc: Global, list: &System, rate: u8) -> Result<Option<System>, AllocE
         return Ok(None);
     }
     match step(alloc, list, rate, 4096)? {
-        EliminationEnd::Region(next) => {
+        Eliminated::Region(next) => {
             if next.rows.len() <= 65535 {
                 Ok(Some(next))
             } else {

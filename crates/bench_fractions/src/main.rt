@@ -6,17 +6,17 @@
 mod pairs;
 
 use crate::pairs::{Pair, pairs};
-use it_fraction::{Fraction, WideNumber};
+use it_fraction::{Fraction, Wide};
 use std::cmp::Ordering;
 use std::io;
 
 /// The sum so far with one more result.
-fn add_outcome(sum: i128, outcome: Result<Fraction, WideNumber>) -> i128 {
+fn add_outcome(sum: i128, outcome: Result<Fraction, Wide>) -> i128 {
     match outcome {
         Ok(fraction) => sum
             .wrapping_add(fraction.num())
             .wrapping_add(fraction.den()),
-        Err(WideNumber) => sum.wrapping_sub(1),
+        Err(Wide) => sum.wrapping_sub(1),
     }
 }
 

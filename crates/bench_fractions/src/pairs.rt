@@ -51,7 +51,7 @@ fn product(a: u64, b: u64) -> u128 {
 fn fraction(top: u128, bottom: u128, state: &mut u64) -> Fraction {
     let size = (top % LIMIT) as i128;
     let top = if next(state) % 2 == 0 { size } else { -size };
-    Fraction::quotient(top, (bottom % LIMIT).max(1) as i128)
+    Fraction::lowest(top, (bottom % LIMIT).max(1) as i128)
 }
 
 /// Parts near 2^100 whose sum, product or order takes long, and fits.

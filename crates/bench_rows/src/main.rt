@@ -2,13 +2,13 @@
 //! step. The rows have two terms each, so that it takes little memory; with its zeros the table would take 16 GiB.
 #![tactic(auto)]
 
-use it_simplex::{Budget, RunAnswer, solve};
+use it_simplex::{Budget, Solved, solve};
 use it_space::Row;
 use std::alloc::{AllocError, Global};
 use std::io;
 
 /// The answer with a budget of one step.
-fn answer(alloc: Global) -> Result<RunAnswer, AllocError> {
+fn answer(alloc: Global) -> Result<Solved, AllocError> {
     let mut coordinates = Vec::new(alloc);
     let mut columns = Vec::new(alloc);
     for coordinate in 1..16385u32 {
@@ -27,14 +27,14 @@ fn answer(alloc: Global) -> Result<RunAnswer, AllocError> {
 
 fn main(rt: HostRuntime) -> io::Result<()> {
     match answer(rt.alloc())? {
-        RunAnswer::Weights(weights) => {
+        Solved::Weights(weights) => {
             for (column, weight) in weights.as_slice() {
                 println!(rt; "column {column} weight {}/{}", weight.num(), weight.den())?;
             }
             println!(rt; "weights {}", weights.len())
         }
-        RunAnswer::Point(_) => println!(rt; "point"),
-        RunAnswer::Pivots(steps) => println!(rt; "pivots {steps}"),
-        RunAnswer::Width(step) => println!(rt; "width {step}"),
+        Solved::Point(_) => println!(rt; "point"),
+        Solved::Pivots(steps) => println!(rt; "pivots {steps}"),
+        Solved::Width(step) => println!(rt; "width {step}"),
     }
 }

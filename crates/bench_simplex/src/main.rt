@@ -11,17 +11,17 @@ mod forms;
 mod systems;
 
 use crate::systems::System;
-use it_simplex::RunAnswer;
+use it_simplex::Solved;
 use it_space::Row;
 use std::io;
 
 /// The word for how a run ends.
-fn end_word(solved: &RunAnswer) -> &'static str {
+fn end_word(solved: &Solved) -> &'static str {
     match solved {
-        RunAnswer::Weights(_) => "weights",
-        RunAnswer::Point(_) => "point",
-        RunAnswer::Pivots(_) => "pivots",
-        RunAnswer::Width(_) => "width",
+        Solved::Weights(_) => "weights",
+        Solved::Point(_) => "point",
+        Solved::Pivots(_) => "pivots",
+        Solved::Width(_) => "width",
     }
 }
 

@@ -8,7 +8,7 @@ ghost use Rattle.it_space.specs.Rows.{IsUpTo};
 use crate::forms::form;
 use it_elemental::{count, row};
 use it_run::exact_run;
-use it_simplex::{Budget, RunAnswer, solve};
+use it_simplex::{Budget, Solved, solve};
 use it_space::{Row, RowFault};
 use it_tableau::Tableau;
 use std::alloc::{AllocError, Global};
@@ -53,12 +53,12 @@ fn exact_end(
     columns: &[Row],
     target: &Row,
     steps: u32,
-) -> Result<RunAnswer, AllocError>
+) -> Result<Solved, AllocError>
     ensures { IfOk result (λ solved. Solves coordinates.now columns.now target.now (Some steps) (end_of_answer solved)) }
 {
     match Tableau::start(alloc, coordinates, columns, target) {
         Ok(start) => exact_run(alloc, start, Some(steps)),
-        Err(RowFault::Wide) => Ok(RunAnswer::Width(0)),
+        Err(RowFault::Wide) => Ok(Solved::Width(0)),
         Err(RowFault::Memory) => Err(AllocError),
     }
 }
@@ -80,7 +80,7 @@ impl System {
     }
 
     /// The end of the run with a budget of steps, as the product makes it or by the table of fractions alone.
-    pub fn run(&self, alloc: Global, exact: bool, steps: u32) -> Result<RunAnswer, AllocError>
+    pub fn run(&self, alloc: Global, exact: bool, steps: u32) -> Result<Solved, AllocError>
         ensures { IfOk result (λ solved. Solves self.now.coordinates.items self.now.columns.items self.now.target (Some steps) (end_of_answer solved)) }
     {
         let coordinates = self.coordinates.as_slice();

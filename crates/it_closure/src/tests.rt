@@ -38,7 +38,7 @@ fn functions_of_functions_close(rt: HostRuntime) -> Result<(), Fail> {
     let dependences = Dependences::read(alloc, &problem)?;
     assert!(rt; dependences.close(VarSet::single(0)) == VarSet::from_number(7));
     assert_eq!(rt;
-        dependences.closed_coordinates(alloc, space)?.as_slice(),
+        dependences.closed(alloc, space)?.as_slice(),
         [4, 6, 7].as_slice()
     );
     // h(X,Z) - h(X)

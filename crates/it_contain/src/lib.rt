@@ -17,7 +17,7 @@ pub mod types;
 
 pub use it_region::{Candidate, Pair, fits, obligations, pair};
 pub use proposer::Proposer;
-pub use recent::RecentCandidates;
+pub use recent::Recent;
 pub use search::contain;
 pub use singles::Singles;
 pub use subsets::Subsets;

@@ -4,9 +4,7 @@ ghost use Rattle.std.specs.Prelude.{[], IsTrue, replicate};
 ghost use Rattle.it_question.specs.Questions.{verb_view};
 ghost use Rattle.it_region.specs.Pairs.{IsPair, IsContainment};
 
-use crate::{
-    Candidate, Pair, Proposer, RecentCandidates, SearchEnd, Shape, Singles, Subsets, contain, pair,
-};
+use crate::{Candidate, Pair, Proposer, Recent, SearchEnd, Shape, Singles, Subsets, contain, pair};
 use it_question::questions;
 use it_question::types::Verb;
 use it_simplex::Budget;
@@ -199,7 +197,7 @@ fn what_worked_last(rt: HostRuntime) {
     let pair = pair_of_regions(&rt, alloc);
     let mut boxes: Vec<Box<dyn Proposer>> = Vec::new(alloc);
     boxes
-        .push(Box::new(alloc, RecentCandidates::new()).expect(&rt, "memory"))
+        .push(Box::new(alloc, Recent::new()).expect(&rt, "memory"))
         .expect(&rt, "memory");
     let known = [candidate(1, VarSet::single(0))];
     let end = contain(alloc, &pair, &known, &mut boxes, 1, Budget::none()).expect(&rt, "memory");

@@ -8,7 +8,7 @@ mod pairs;
 mod types;
 
 pub use elimination::{eliminate, step};
-pub use types::EliminationEnd;
+pub use types::Eliminated;
 
 #[cfg(test)]
 mod tests;

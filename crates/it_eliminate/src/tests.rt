@@ -4,15 +4,15 @@ ghost use Rattle.std.specs.Prelude.{◌≡◌, IfOk};
 ghost use Rattle.it_space.specs.Problems.{IsSystem};
 ghost use Rattle.it_space.specs.Rows.{IsUpTo};
 
-use crate::{EliminationEnd, eliminate, step};
+use crate::{Eliminated, eliminate, step};
 use it_space::{Row, Space, System};
 use std::alloc::{AllocError, Global};
 use std::test::Fail;
 
 /// Whether elimination ends with a region of these rows.
-fn is_region(end: &EliminationEnd, rows: &[&[(u32, i128)]]) -> bool {
+fn is_region(end: &Eliminated, rows: &[&[(u32, i128)]]) -> bool {
     match end {
-        EliminationEnd::Region(region) => {
+        Eliminated::Region(region) => {
             if region.rows.len() != rows.len() {
                 return false;
             }
@@ -85,7 +85,7 @@ fn superposition_coding_has_its_rate_region(rt: HostRuntime) -> Result<(), Fail>
     assert!(rt;
         matches!(
             eliminate(alloc, &system, [1, 2].as_slice(), 2)?,
-            EliminationEnd::Rows { rate: 1 }
+            Eliminated::Rows { rate: 1 }
         )
     );
     Ok(())
@@ -102,7 +102,7 @@ fn products_past_the_limit_are_wide(rt: HostRuntime) -> Result<(), Fail> {
     assert!(rt;
         matches!(
             eliminate(alloc, &system, [0].as_slice(), 0)?,
-            EliminationEnd::Wide { rate: 0 }
+            Eliminated::Wide { rate: 0 }
         )
     );
     Ok(())

@@ -4,7 +4,7 @@ ghost use Rattle.std.specs.Prelude.{◌<◌};
 
 use it_answer::{Budgets, answer};
 use it_cli::{Status, itip};
-use it_contain::{Proposer, RecentCandidates, Singles, Subsets};
+use it_contain::{Proposer, Recent, Singles, Subsets};
 use it_outside::{MemorySink, MemorySource, SureSink, SureSource};
 use it_question::questions;
 use it_question::types::Verb;
@@ -637,7 +637,7 @@ fn call(
     sink: &mut MemorySink,
 ) -> Result<Status, AllocError> {
     let mut proposers: Vec<Box<dyn Proposer>> = Vec::new(alloc);
-    proposers.push(Box::new(alloc, RecentCandidates::new())?)?;
+    proposers.push(Box::new(alloc, Recent::new())?)?;
     proposers.push(Box::new(alloc, Singles::new())?)?;
     proposers.push(Box::new(alloc, Subsets::new())?)?;
     Ok(itip(alloc, words, source, sink, proposers))

@@ -1,5 +1,5 @@
 //! Results against exact arithmetic outside this program.
-use super::{Fraction, WideNumber, gcd, lcm};
+use super::{Fraction, Wide, gcd, lcm};
 use std::cmp::Ordering;
 
 type Parts = (i128, i128);
@@ -15,10 +15,10 @@ struct Row {
     order: Ordering,
 }
 
-fn parts(outcome: Result<Fraction, WideNumber>) -> Option<Parts> {
+fn parts(outcome: Result<Fraction, Wide>) -> Option<Parts> {
     match outcome {
         Ok(fraction) => Some((fraction.num(), fraction.den())),
-        Err(WideNumber) => None,
+        Err(Wide) => None,
     }
 }
 
@@ -27,7 +27,7 @@ fn fraction(parts: Parts) -> Option<Fraction> {
     if num == i128::MIN || den == i128::MIN || den == 0 {
         return None;
     }
-    Some(Fraction::quotient(num, den))
+    Some(Fraction::lowest(num, den))
 }
 
 // what the operations give for two numbers

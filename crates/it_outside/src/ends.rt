@@ -7,7 +7,7 @@ ghost use Rattle.it_outside.specs.Causes.{HasCause};
 
 /// A read or a write that failed: nothing of it was taken, and the count of faults tells of it.
 #[derive(Clone, Copy, Debug, PartialEq, Eq)]
-pub struct Failure;
+pub struct Failed;
 
 /// Where bytes come from.
 pub trait Source {
@@ -19,7 +19,7 @@ pub trait Source {
 
     /// Puts the next bytes at the front of `buf` and answers how many they are.
     /// None into a buffer that has room means the end: nothing is left.
-    fn read(&mut self, buf: &mut [u8]) -> Result<usize, Failure>
+    fn read(&mut self, buf: &mut [u8]) -> Result<usize, Failed>
         ensures bound { ReadsAtMost result buf.new }
         ensures bytes { ReadConsumes (left self.old) (left self.new) result buf.new }
         ensures cause { HasCause (faults self.old) (faults self.new) result };
@@ -34,7 +34,7 @@ pub trait Sink {
     ghost faults: { Self → ℕ };
 
     /// Appends the front of `piece` and answers how many bytes that is, at least one of a piece that has one.
-    fn write(&mut self, piece: &[u8]) -> Result<usize, Failure>
+    fn write(&mut self, piece: &[u8]) -> Result<usize, Failed>
         ensures bound { WritesAtMost result piece.now }
         ensures moves { IfOk result (λ n. 0 < length piece.now → 0 < n) }
         ensures bytes { WriteGains (taken self.old) (taken self.new) result piece.now }

@@ -11,7 +11,7 @@ mod sure;
 mod tests;
 mod whole;
 
-pub use ends::{Failure, Sink, Source};
+pub use ends::{Failed, Sink, Source};
 pub use memory::{MemorySink, MemorySource};
 pub use standard::{StdSink, StdSource};
 pub use streams::{Reader, Writer};

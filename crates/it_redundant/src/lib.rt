@@ -12,4 +12,4 @@ mod types;
 pub use laws::{causes_are_plain, reductions_are_determined};
 pub use projection::{kept_system, project};
 pub use reduction::reduce;
-pub use types::{Need, ProjectionEnd, Reduction};
+pub use types::{Need, Projected, Reduced};

@@ -4,14 +4,14 @@ ghost use Rattle.std.specs.Prelude.{◌≡◌, ◌≤◌, length, IfOk};
 ghost use Rattle.it_space.specs.Problems.{IsProblem, IsSystem, problem_view};
 ghost use Rattle.it_redundant.specs.Theorems.{SpeakOfSets};
 
-use crate::{Need, ProjectionEnd, Reduction, project, reduce};
+use crate::{Need, Projected, Reduced, project, reduce};
 use it_simplex::Budget;
 use it_space::{Constraint, Kind, Origin, Problem, Row, Space, System};
 use std::alloc::{AllocError, Global};
 use std::test::Fail;
 
 /// Whether these rows stay, each needed, or each unsettled.
-fn is_kept(reduced: &Reduction, rows: &[&[(u32, i128)]], needed: bool) -> bool {
+fn is_kept(reduced: &Reduced, rows: &[&[(u32, i128)]], needed: bool) -> bool {
     if reduced.kept.len() != rows.len() {
         return false;
     }
@@ -25,9 +25,9 @@ fn is_kept(reduced: &Reduction, rows: &[&[(u32, i128)]], needed: bool) -> bool {
 }
 
 /// Whether reduced elimination ends with such a region.
-fn is_region(end: &ProjectionEnd, rows: &[&[(u32, i128)]], needed: bool) -> bool {
+fn is_region(end: &Projected, rows: &[&[(u32, i128)]], needed: bool) -> bool {
     match end {
-        ProjectionEnd::Region(reduced) => is_kept(reduced, rows, needed),
+        Projected::Region(reduced) => is_kept(reduced, rows, needed),
         _ => false,
     }
 }

@@ -4,7 +4,7 @@ ghost use Rattle.std.specs.Prelude.{◌≡◌, ◌≢◌, ◌+◌, ◌++◌, ◌
 ghost use Rattle.std.specs.Bool.{OnTrue};
 ghost use Rattle.it_number.specs.Limit.{IsWithin};
 
-use crate::{Budget, RunAnswer, solve};
+use crate::{Budget, Solved, solve};
 use it_engine::whole_run;
 use it_fraction::Fraction;
 use it_space::Row;
@@ -100,23 +100,23 @@ fn same_values(values: &[Fraction], wanted: &[(i128, i128)]) -> bool {
     true
 }
 
-fn agrees(solved: &RunAnswer, end: &End) -> bool {
+fn agrees(solved: &Solved, end: &End) -> bool {
     match (solved, end) {
-        (RunAnswer::Weights(weights), End::Weights(wanted)) => same_weights(
+        (Solved::Weights(weights), End::Weights(wanted)) => same_weights(
             weights.as_slice(),
             wanted,
         ),
-        (RunAnswer::Point(values), End::Point(wanted)) => same_values(values.as_slice(), wanted),
-        (RunAnswer::Pivots(steps), End::Pivots(wanted)) => *steps == *wanted,
-        (RunAnswer::Width(step), End::Width(wanted)) => *step == *wanted,
+        (Solved::Point(values), End::Point(wanted)) => same_values(values.as_slice(), wanted),
+        (Solved::Pivots(steps), End::Pivots(wanted)) => *steps == *wanted,
+        (Solved::Width(step), End::Width(wanted)) => *step == *wanted,
         _ => false,
     }
 }
 
 // without a budget a run ends as with one that isn't used up, and never for want of steps
-fn ends_freely(solved: &RunAnswer, end: &End) -> bool {
+fn ends_freely(solved: &Solved, end: &End) -> bool {
     match end {
-        End::Pivots(_) => !matches!(solved, RunAnswer::Pivots(_)),
+        End::Pivots(_) => !matches!(solved, Solved::Pivots(_)),
         end => agrees(solved, end),
     }
 }
@@ -131,7 +131,7 @@ fn columns_of(alloc: Global, system: &System) -> Result<Vec<Row>, AllocError> {
 
 const COORDINATES: [u32; 6] = [1, 2, 3, 4, 5, 6];
 
-fn answer(alloc: Global, system: &System, budget: Budget) -> Result<RunAnswer, AllocError> {
+fn answer(alloc: Global, system: &System, budget: Budget) -> Result<Solved, AllocError> {
     let columns = columns_of(alloc, system)?;
     let target = row_of(alloc, system.target)?;
     let count = system.target.len().min(6);
@@ -151,7 +151,7 @@ fn whole_end(
     columns: &[Row],
     target: &Row,
     budget: Option<u32>,
-) -> Result<Option<RunAnswer>, AllocError> {
+) -> Result<Option<Solved>, AllocError> {
     match Tableau::start(alloc, coordinates, columns, target) {
         Ok(start) => whole_run(alloc, &start, budget),
         Err(_) => Ok(None),
@@ -162,7 +162,7 @@ fn whole_answer(
     alloc: Global,
     system: &System,
     budget: Option<u32>,
-) -> Result<Option<RunAnswer>, AllocError> {
+) -> Result<Option<Solved>, AllocError> {
     let columns = columns_of(alloc, system)?;
     let target = row_of(alloc, system.target)?;
     let count = system.target.len().min(6);
@@ -235,7 +235,7 @@ fn exact_fractions_take_over(rt: HostRuntime) -> Result<(), Fail> {
         let system = &takeover.system;
         let kept = whole_answer(alloc, system, Some(takeover.lost))?;
         assert!(rt;
-            matches!(&kept, Some(RunAnswer::Pivots(steps)) if *steps == takeover.lost),
+            matches!(&kept, Some(Solved::Pivots(steps)) if *steps == takeover.lost),
             "{kept:?}"
         );
         let lost = whole_answer(alloc, system, Some(system.budget))?;
@@ -268,7 +268,7 @@ fn many_steps_are_made(rt: HostRuntime) -> Result<(), Fail> {
             &target,
             budget,
         )? {
-            RunAnswer::Weights(weights) => {
+            Solved::Weights(weights) => {
                 assert_eq!(rt; (steps, weights.len()), (255, 255));
                 for (column, weight) in weights.as_slice() {
                     assert!(rt; weight.num() == weight.den(), "{column} {weight:?}");

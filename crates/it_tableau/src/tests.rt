@@ -164,11 +164,7 @@ fn two_pivots_lead_to_a_point(rt: HostRuntime) -> Result<(), Fail> {
         [0, 1, 0, 0, 1, -1, -1].as_slice()
     );
     assert_eq!(rt;
-        (
-            tableau.basic_column(0),
-            tableau.basic_column(1),
-            tableau.basic_column(2)
-        ),
+        (tableau.basic(0), tableau.basic(1), tableau.basic(2)),
         (0, 2, 5)
     );
     Ok(())
