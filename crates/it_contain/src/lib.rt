@@ -10,8 +10,6 @@ mod recent;
 mod search;
 mod singles;
 mod subsets;
-#[cfg(test)]
-mod tests;
 mod tuples;
 pub mod types;
 

@@ -12,6 +12,3 @@ mod sums;
 pub use divisors::{gcd, lcm};
 pub use fraction::{Fraction, Wide};
 pub use steps::{difference, signed_product, sum};
-
-#[cfg(test)]
-mod tests;

@@ -7,8 +7,6 @@ mod memory;
 mod standard;
 mod streams;
 mod sure;
-#[cfg(test)]
-mod tests;
 mod whole;
 
 pub use ends::{Failed, Sink, Source};

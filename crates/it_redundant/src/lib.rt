@@ -5,8 +5,6 @@ mod laws;
 mod others;
 mod projection;
 mod reduction;
-#[cfg(test)]
-mod tests;
 mod types;
 
 pub use laws::{causes_are_plain, reductions_are_determined};

@@ -4,8 +4,6 @@
 mod answering;
 mod budget;
 mod laws;
-#[cfg(test)]
-mod tests;
 
 pub use answering::solve;
 pub use budget::Budget;

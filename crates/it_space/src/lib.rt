@@ -25,6 +25,3 @@ pub use sets::VarSet;
 pub use spaces::Space;
 pub use sums::Sums;
 pub use values::{value, with_product};
-
-#[cfg(test)]
-mod tests;
