@@ -280,6 +280,29 @@ fn many_steps_are_made(rt: HostRuntime) -> Result<(), Fail> {
     Ok(())
 }
 
+// A table of 16,384 rows and as many columns, each of one coordinate, of which the target is the first. With its zeros it would take
+// 16 GiB.
+#[test]
+fn rows_of_few_terms_take_little_memory(rt: HostRuntime) -> Result<(), Fail> {
+    let alloc = rt.alloc();
+    let mut coordinates = Vec::new(alloc);
+    let mut columns = Vec::new(alloc);
+    for coordinate in 1..16385u32 {
+        coordinates.push(coordinate)?;
+        columns.push(Row::new(Vec::from_slice(alloc, &[(coordinate, 1)])?))?;
+    }
+    let target = Row::new(Vec::from_slice(alloc, &[(1, 1)])?);
+    let solved = solve(
+        alloc,
+        coordinates.as_slice(),
+        columns.as_slice(),
+        &target,
+        Budget::at_most(1),
+    )?;
+    assert!(rt; agrees(&solved, &End::Weights(&[(0, 1, 1)])), "{solved:?}");
+    Ok(())
+}
+
 // Made by bench/simplex_systems.py.
 const SYSTEMS: [System; 50] = [
     System {
