@@ -30,7 +30,8 @@ use Rattle.it_contain.specs.Search.{SearchEnds, IsProof, IsProofBy, Proofs, goal
 use Rattle.it_contain.proofs.PlanLemmas.{after_none}
 use Rattle.it_answer.specs.declared.types.Budgets.{Budgets}
 use Rattle.it_answer.specs.Forms.{CertifyAll}
-use Rattle.it_answer.specs.RightContainments.{ShowsContained, tried_of, IsRightContainment}
+use Rattle.it_answer.specs.Shows.{ShowsContained}
+use Rattle.it_answer.specs.RightContainments.{tried_of, IsRightContainment}
 use Rattle.it_answer.specs.RightAnswers.{IsAnswered, IsRightAnswerBy}
 use Rattle.it_answer.specs.SearchAnswers.{answer_of_search, found_of}
 use Rattle.it_answer.proofs.AnswerLemmas.{show_certificate}
@@ -51,7 +52,7 @@ module _ (q : BodyView) (a b : RegionView) (tries : List (List ℕ)) (p : Pair) 
   all_certified budget (f ∷ fs) [] ws r c = absurd r
   all_certified budget (f ∷ fs) (t ∷ ts) [] r c = absurd c
   all_certified budget (f ∷ fs) (t ∷ ts) (w ∷ ws) r c = (
-    show_certificate q (problem_view p.first) first_is o.first l.problem f t w r.0.same (ends_are_right (problem_view p.first) t budget (Yes w) l.problem r.0.coordinates c.0).0,
+    show_certificate q (problem_view p.first) first_is o.first l.problem f t w r.0.coordinates r.0.same (ends_are_right (problem_view p.first) t budget (Yes w) l.problem r.0.coordinates c.0).0,
     all_certified budget fs ts ws r.1 c.1,
   )
 
@@ -96,11 +97,10 @@ module _ (q : BodyView) (a b : RegionView) (tries : List (List ℕ)) (p : Pair) 
         record {
           shows = proofs_show_containment budgets.pivots c (proof_views w) proofs;
           pair = p;
-          limits = l;
           pairs = o;
           due = record { candidate = c; found_is = refl; first = e.0; parts_are = refl; proofs = proofs };
         }
-    right_search (Open t) e = record { shows = tt; pair = p; limits = l; pairs = o; due = (e.0, refl) }
+    right_search (Open t) e = record { shows = tt; pair = p; pairs = o; due = (e.0, refl) }
 
     learned_search : (end : SearchEnd) (plan : List Candidate) → SearchEnds (goal_of p budgets.pivots) budgets.tries plan plans end plans_after → plans_after ≡ map (plan_after_all (found_of end)) plans
     learned_search (Found c w) plan e = e.2

@@ -16,7 +16,7 @@ use Rattle.it_space.specs.Spaces.{size_of}
 use Rattle.it_polymatroid.specs.Polymatroid.{IsPolymatroid}
 use Rattle.it_syntax.specs.Givens.{IsTrueAt}
 use Rattle.it_syntax.specs.Meaning.{RelationView, Holds}
-use Rattle.it_question.specs.Questions.{BodyView, OwnLinesView}
+use Rattle.it_question.specs.Questions.{BodyView, OwnLinesView, VerbView, Eliminate}
 use Rattle.it_canon.specs.Demands.{AreStated}
 use Rattle.it_canon.specs.QuestionDemands.{variables_of, space_of, given_demands, problem_names_by, problem_lines, problem_lines_by, system_forms, AreTrueAt, AreRowsOf, AreAtLeastZero}
 use Rattle.it_canon.proofs.UniqueRows.{one_constraint_list, one_row_list}
@@ -29,8 +29,9 @@ use Rattle.it_redundant.specs.Theorems as theorems
 use Rattle.it_redundant.specs.Theorems.{IsReducedRegion, RegionIsReduced}
 use Rattle.it_redundant.proofs.ProjectionLemmas.{one_reduced_end}
 use Rattle.it_answer.specs.declared.types.Budgets.{Budgets}
-use Rattle.it_answer.specs.RightRegions.{region_rows, marked_rows, LinesExtend, DoesNotFollow, MarkedRowsAreNeeded, IsRightRegion, ShowsRegion, answer_of_end, IsRightElimination}
-use Rattle.it_answer.specs.RightAnswers.{IsRightAnswerBy, ARegionIsTrue, NeededRowsAreNeeded}
+use Rattle.it_answer.specs.Shows.{ARegionIsTrue, DoesNotFollow, IsRightRegion, LinesExtend, MarkedRowsAreNeeded, NeededRowsAreNeeded, ShowsBy, region_rows}
+use Rattle.it_answer.specs.RightRegions.{marked_rows, answer_of_end, IsRightElimination}
+use Rattle.it_answer.specs.RightAnswers.{IsRightAnswerBy}
 
 -- ---- the rows of the text and its lines
 
@@ -149,7 +150,7 @@ module _ (q : BodyView) (rates : List ℕ) (givens : ProblemView) (rows : List T
     needed = are_needed kept x.needed;
   }
 
-  shows_end : (end : ProjectedView) → RegionIsReduced givens rates rows end → ShowsRegion q rates (answer_of_end end)
+  shows_end : (end : ProjectedView) → RegionIsReduced givens rates rows end → ShowsBy q (Eliminate rates) (answer_of_end end)
   shows_end (projections.Region kept) x = right_region kept x
   shows_end (projections.Rows rate) x = tt
   shows_end (projections.Wide rate) x = tt
@@ -158,7 +159,7 @@ module _ (q : BodyView) (rates : List ℕ) (givens : ProblemView) (rows : List T
       → AreRowsOf givens.space (system_forms givens.space.variables q.lines.rows) rows → ReducedEnds givens budgets.pivots budgets.rows rows [] rates end → RegionIsReduced givens rates rows end
       → answer ≡ answer_of_end end → IsRightElimination budgets q rates answer
   right_answer budgets end answer stated are ends x is = record {
-    shows = subst (ShowsRegion q rates) (sym is) (shows_end end x);
+    shows = subst (ShowsBy q (Eliminate rates)) (sym is) (shows_end end x);
     due = record {
       givens = givens;
       space = same;
@@ -195,15 +196,15 @@ not_width step (projections.Rows rate) e = cc
 not_width step (projections.Wide rate) e = cc
 
 pub a_region_is_true : ARegionIsTrue
-a_region_is_true budgets plans q rates rows found is right p h lines =
-    let a : IsRightElimination budgets q rates (Region rows) = (subst (λ verb. IsRightAnswerBy budgets plans q verb (record { answer = Region rows; found = found })) is right).0 in
+a_region_is_true q rates rows is x p together =
+    let a : IsRightRegion q rates rows = subst (λ (v : VerbView). ShowsBy q v (Region rows)) is x in
     let n_is : variables_of q ≡ length q.names.variables = ap (λ verb. length (problem_names_by q.names verb).variables) is in
     subst (λ (n : ℕ). IsPointOf (region_rows rows) p ↔ LinesExtend n rates q.lines.rows p) (sym n_is)
-    (a.shows.exact p (subst (λ (n : ℕ). IsPolymatroid n p) n_is h) (subst (λ (n : ℕ). All (IsTrueAt n p) q.lines.givens) n_is (givens_of_lines lines)))
+    (a.exact p (subst (λ (n : ℕ). IsPolymatroid n p) n_is together.0) (subst (λ (n : ℕ). All (IsTrueAt n p) q.lines.givens) n_is (givens_of_lines together.1)))
   where
     givens_of_lines : AreTrueAt (variables_of q) p (problem_lines q) → All (IsTrueAt (variables_of q) p) q.lines.givens
     givens_of_lines l = subst (λ (own : OwnLinesView). All (IsTrueAt (variables_of q) p) own.givens) (ap (problem_lines_by q.lines) is) l.givens
 
 pub needed_rows_are_needed : NeededRowsAreNeeded
-needed_rows_are_needed budgets plans q rates rows found is right =
-    let a : IsRightElimination budgets q rates (Region rows) = (subst (λ verb. IsRightAnswerBy budgets plans q verb (record { answer = Region rows; found = found })) is right).0 in a.shows.needed
+needed_rows_are_needed q rates rows is x =
+    let a : IsRightRegion q rates rows = subst (λ (v : VerbView). ShowsBy q v (Region rows)) is x in a.needed

@@ -22,7 +22,7 @@ use Rattle.it_contain.proofs.OneEndLemmas.{one_first, first_not_open, one_open, 
 use Rattle.it_answer.specs.declared.types.Budgets.{Budgets}
 use Rattle.it_answer.proofs.RegionLemmas.{one_elimination}
 use Rattle.it_answer.specs.Replies.{Reply}
-use Rattle.it_answer.specs.RightRegions.{ShowsRegion}
+use Rattle.it_answer.specs.Shows.{ShowsBy}
 use Rattle.it_answer.specs.RightContainments.{tried_of, IsFound, IsDueSearch, IsRightContainment}
 use Rattle.it_answer.specs.RightAnswers.{PointIsDue, CauseIsDue, IsDue, IsRightFor, IsRightAnswerBy, OneRightAnswer, ProofsAscend, AYesAscends}
 
@@ -212,7 +212,7 @@ targets_ascend p budget ts (answer_views.Region rows) x = absurd x
 targets_ascend p budget ts (answer_views.Contained parts proofs) x = absurd x
 targets_ascend p budget ts (answer_views.Open tried) x = absurd x
 
-region_ascends : (q : BodyView) (rates : List ℕ) (answer : AnswerView) → ShowsRegion q rates answer → ProofsAscend answer
+region_ascends : (q : BodyView) (rates : List ℕ) (answer : AnswerView) → ShowsBy q (Eliminate rates) answer → ProofsAscend answer
 region_ascends q rates (answer_views.Yes ws) x = absurd x
 region_ascends q rates (answer_views.No is_back values) x = absurd x
 region_ascends q rates (answer_views.Undecided cause) x = tt

@@ -1,4 +1,5 @@
 pub mod Forms
+pub mod Shows
 pub mod AnswerForms
 pub mod Replies
 pub mod RightRegions

@@ -11,7 +11,7 @@ use Rattle.it_space.specs.Spaces.{size_of}
 use Rattle.it_polymatroid.specs.Polymatroid.{IsPolymatroid}
 use Rattle.it_syntax.specs.Givens.{IsTrueAt}
 use Rattle.it_syntax.specs.Meaning.{RelationView, Holds}
-use Rattle.it_question.specs.Questions.{BodyView}
+use Rattle.it_question.specs.Questions.{BodyView, Eliminate}
 use Rattle.it_canon.specs.Demands.{AreStated}
 use Rattle.it_canon.specs.QuestionDemands.{space_of, given_demands, system_forms, AreRowsOf}
 use Rattle.it_eliminate.specs.Elimination.{Member}
@@ -20,51 +20,7 @@ use Rattle.it_redundant.specs.Reduction.{NeedView, Needed, Unsettled}
 use Rattle.it_redundant.specs.ReducedElimination.{ProjectedView, ReducedEnds}
 use Rattle.it_redundant.specs.ReducedElimination as projections
 use Rattle.it_answer.specs.declared.types.Budgets.{Budgets}
-
--- the rows of a region without their marks
-abbrev pub region_rows : List (Mark × Terms) → List Terms
-region_rows rows = map (λ row. row.1) rows
-
--- ---- what the answer shows, by the meaning of the text
-
--- some whole multiple of the point, with other values of the eliminated rates, is one at which the `row` lines hold; n variables
-pub record LinesExtend (n : ℕ) (rates : List ℕ) (lines : List RelationView) (p : ℕ → ℤ) : Type 0 where
-  pub factor : ℕ
-  pub some : 1 ≤ factor
-  pub point : ℕ → ℤ
-  pub kept : (c : ℕ) → ¬ (Member c (map (λ r. 2 ^ n + r) rates)) → point c ≡ pos factor *ℤ p c
-  pub meets : All (Holds n point) lines
-
--- a polymatroid and rates that make the givens true, at which the other rows hold and this one is -1 or less
-pub record DoesNotFollow (q : BodyView) (others : List Terms) (row : Terms) : Type 0 where
-  pub point : ℕ → ℤ
-  pub polymatroid : IsPolymatroid (length q.names.variables) point
-  pub givens_true : All (IsTrueAt (length q.names.variables) point) q.lines.givens
-  pub others_hold : IsPointOf others point
-  pub violated : value row point ≤ℤ neg_ℤ (pos 1)
-
--- each row that is marked as needed is one that the others don't give
-abbrev pub MarkedRowsAreNeeded : BodyView → List (Mark × Terms) → Type 0
-MarkedRowsAreNeeded q rows = (before after : List (Mark × Terms)) (row : Terms) → rows ≡ before ++ (marks.Needed, row) ∷ after
-    → DoesNotFollow q (region_rows before ++ region_rows after) row
-
--- rows over the question's coordinates, without the eliminated rates, that hold at a polymatroid which makes the givens true, and
--- rates, exactly where this point extends to the eliminated rates; and none that is marked as needed follows from the others
-pub record IsRightRegion (q : BodyView) (rates : List ℕ) (rows : List (Mark × Terms)) : Type 0 where
-  pub coordinates : All (IsUpTo (size_of (space_of q.names))) (region_rows rows)
-  pub free : (r : ℕ) → Member r rates → LacksCoordinate (2 ^ length q.names.variables + r) (region_rows rows)
-  pub exact : (p : ℕ → ℤ) → IsPolymatroid (length q.names.variables) p → All (IsTrueAt (length q.names.variables) p) q.lines.givens
-      → IsPointOf (region_rows rows) p ↔ LinesExtend (length q.names.variables) rates q.lines.rows p
-  pub needed : MarkedRowsAreNeeded q rows
-
--- an answer to `eliminate` shows what it says: a right region, or nothing where it is undecided
-abbrev pub ShowsRegion : BodyView → List ℕ → AnswerView → Type 0
-ShowsRegion q rates (Region rows) = IsRightRegion q rates rows
-ShowsRegion q rates (Undecided cause) = Unit {0}
-ShowsRegion q rates (Yes ws) = ⊥
-ShowsRegion q rates (No is_back values) = ⊥
-ShowsRegion q rates (Contained parts proofs) = ⊥
-ShowsRegion q rates (Open tried) = ⊥
+use Rattle.it_answer.specs.Shows.{ShowsBy}
 
 -- ---- which answer is due, by reduced elimination of the rows of the text
 
@@ -97,5 +53,5 @@ pub record IsDueElimination (budgets : Budgets) (q : BodyView) (rates : List ℕ
 
 -- a right answer: it shows what it says, and reduced elimination says that it is due
 pub record IsRightElimination (budgets : Budgets) (q : BodyView) (rates : List ℕ) (answer : AnswerView) : Type 0 where
-  pub shows : ShowsRegion q rates answer
+  pub shows : ShowsBy q (Eliminate rates) answer
   pub due : IsDueElimination budgets q rates answer

@@ -16,6 +16,7 @@ use Rattle.it_space.specs.declared.answers.Mark.{Mark}
 use Rattle.it_space.specs.declared.answers.Cause.{Cause}
 use Rattle.it_space.specs.declared.answers.Cause.TheVariants.{Pivots, Width, Scale, Rows, WideRate}
 use Rattle.it_space.proofs.BoolLemmas.{both_true}
+use Rattle.it_syntax.specs.Meaning.{RelationView}
 use Rattle.it_syntax.specs.NamesViews.{NamesView, index_of}
 use Rattle.it_syntax.specs.declared.types.Sign.{Sign}
 use Rattle.it_question.specs.Questions.{QuestionView, RegionView, VerbView, Prove, Eliminate, Contain}
@@ -32,7 +33,7 @@ use Rattle.it_certificate.specs.Kinds.{back_of}
 use Rattle.it_certificate.specs.Parts.{text_of, items_of_array, integer_at, count_at, pair_of, two_of, pair_at, all_of, list_at, of_length, certificate_at, proofs_at, point_at, back_at, cause_kind_at, cause_of, cause_at, step_or_rate, is_row_between, is_term_between, row_of, mark_at, terms_at, marked_row_at, rows_at, set_of_number, set_at, parts_at, tried_at}
 use Rattle.it_certificate.specs.AnswerReading.{and_then, is_equality, yes_at, no_at, undecided_at, region_at, contained_at, open_at}
 use Rattle.it_certificate.specs.Obligations.{obligation_count, target_count}
-use Rattle.it_certificate.specs.Reports.{prove_answer, eliminate_answer, contain_answer, verb_answer, question_answer}
+use Rattle.it_certificate.specs.Reports.{verb_answer, question_answer}
 use Rattle.it_certificate.specs.AnswerShapes.{IsNumberedAmount, IsNumbered, IsRowIn, IsFoundIn, IsCauseFor, HasProveShape, HasEliminateShape, HasContainShape, HasVerbShape, HasQuestionShape}
 use Rattle.it_certificate.proofs.WithinLemmas.{and_then_some, map_some, cond_some, pair_some, all_of_holds, integer_at_within, point_within, point_length}
 use Rattle.it_certificate.proofs.RowLemmas.{row_is_canonical}
@@ -244,38 +245,35 @@ open_fits first second d a is =
 
 -- ---- by the verb
 
-prove_fits : (v : NamesView) (sign : Sign) (kind : AnswerKind) (d : Data) (a : AnswerView) → prove_answer v sign kind d ≡ Ok a → HasProveShape v sign a
-unfolding prove_answer
-prove_fits v sign kinds.Yes d a is = yes_fits v sign d a is
-prove_fits v sign kinds.No d a is = no_fits v sign d a is
-prove_fits v sign kinds.Undecided d a is = let h = undecided_fits v d a is in subst (HasProveShape v sign) h.1.0 h.1.1
-prove_fits v sign kinds.Region d a is = absurd (cc)
-prove_fits v sign kinds.Contained d a is = absurd (cc)
-prove_fits v sign kinds.Open d a is = absurd (cc)
+prove_fits : (v : NamesView) (r : RelationView) (kind : AnswerKind) (d : Data) (a : AnswerView) → verb_answer v (Prove r) kind d ≡ Ok a → HasProveShape v r.sign a
+prove_fits v r kinds.Yes d a is = yes_fits v r.sign d a is
+prove_fits v r kinds.No d a is = no_fits v r.sign d a is
+prove_fits v r kinds.Undecided d a is = let h = undecided_fits v d a is in subst (HasProveShape v r.sign) h.1.0 h.1.1
+prove_fits v r kinds.Region d a is = absurd (cc)
+prove_fits v r kinds.Contained d a is = absurd (cc)
+prove_fits v r kinds.Open d a is = absurd (cc)
 
-eliminate_fits : (v : NamesView) (kind : AnswerKind) (d : Data) (a : AnswerView) → eliminate_answer v kind d ≡ Ok a → HasEliminateShape v a
-unfolding eliminate_answer
-eliminate_fits v kinds.Yes d a is = absurd (cc)
-eliminate_fits v kinds.No d a is = absurd (cc)
-eliminate_fits v kinds.Undecided d a is = let h = undecided_fits v d a is in subst (HasEliminateShape v) h.1.0 h.1.1
-eliminate_fits v kinds.Region d a is = region_fits v d a is
-eliminate_fits v kinds.Contained d a is = absurd (cc)
-eliminate_fits v kinds.Open d a is = absurd (cc)
+eliminate_fits : (v : NamesView) (rates : List ℕ) (kind : AnswerKind) (d : Data) (a : AnswerView) → verb_answer v (Eliminate rates) kind d ≡ Ok a → HasEliminateShape v a
+eliminate_fits v rates kinds.Yes d a is = absurd (cc)
+eliminate_fits v rates kinds.No d a is = absurd (cc)
+eliminate_fits v rates kinds.Undecided d a is = let h = undecided_fits v d a is in subst (HasEliminateShape v) h.1.0 h.1.1
+eliminate_fits v rates kinds.Region d a is = region_fits v d a is
+eliminate_fits v rates kinds.Contained d a is = absurd (cc)
+eliminate_fits v rates kinds.Open d a is = absurd (cc)
 
-contain_fits : (first second : RegionView) (kind : AnswerKind) (d : Data) (a : AnswerView) → contain_answer first second kind d ≡ Ok a → HasContainShape first second a
-unfolding contain_answer
-contain_fits first second kinds.Yes d a is = absurd (cc)
-contain_fits first second kinds.No d a is = absurd (cc)
-contain_fits first second kinds.Undecided d a is = absurd (cc)
-contain_fits first second kinds.Region d a is = absurd (cc)
-contain_fits first second kinds.Contained d a is = contained_fits first second d a is
-contain_fits first second kinds.Open d a is = open_fits first second d a is
+contain_fits : (v : NamesView) (first second : RegionView) (tries : List (List ℕ)) (kind : AnswerKind) (d : Data) (a : AnswerView) → verb_answer v (Contain first second tries) kind d ≡ Ok a → HasContainShape first second a
+contain_fits v first second tries kinds.Yes d a is = absurd (cc)
+contain_fits v first second tries kinds.No d a is = absurd (cc)
+contain_fits v first second tries kinds.Undecided d a is = absurd (cc)
+contain_fits v first second tries kinds.Region d a is = absurd (cc)
+contain_fits v first second tries kinds.Contained d a is = contained_fits first second d a is
+contain_fits v first second tries kinds.Open d a is = open_fits first second d a is
 
 pub answer_fits : (q : QuestionView) (kind : AnswerKind) (d : Data) (a : AnswerView) → question_answer q kind d ≡ Ok a → HasQuestionShape q.body a
 unfolding question_answer HasQuestionShape
 answer_fits q kind d a is = by_verb q.body.verb is
   where
     by_verb : (verb : VerbView) → verb_answer q.body.names verb kind d ≡ Ok a → HasVerbShape q.body.names verb a
-    by_verb (Prove r) e = prove_fits q.body.names r.sign kind d a e
-    by_verb (Eliminate rates) e = eliminate_fits q.body.names kind d a e
-    by_verb (Contain first second tries) e = contain_fits first second kind d a e
+    by_verb (Prove r) e = prove_fits q.body.names r kind d a e
+    by_verb (Eliminate rates) e = eliminate_fits q.body.names rates kind d a e
+    by_verb (Contain first second tries) e = contain_fits q.body.names first second tries kind d a e

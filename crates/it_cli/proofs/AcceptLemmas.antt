@@ -43,9 +43,10 @@ use Rattle.it_region.specs.Obligations.{obligations, ArePulledRows}
 use Rattle.it_region.proofs.TextLemmas.{text_rows}
 use Rattle.it_contain.specs.Proposals.{Plan}
 use Rattle.it_answer.specs.declared.types.Budgets.{Budgets}
-use Rattle.it_answer.specs.Forms.{all_demands, generators_by, CertifiesForm, CertifyAll}
+use Rattle.it_answer.specs.Forms.{all_demands, CertifiesForm, CertifyAll, Certifies}
 use Rattle.it_answer.specs.Replies.{Reply}
-use Rattle.it_answer.specs.RightAnswers.{IsCounterexample, ViolatesFirst, PointIsDue, IsRightFor, IsRightAnswer, IsRightAnswerBy, ProofsAscend}
+use Rattle.it_answer.specs.Shows.{IsCounterexample, ViolatesFirst}
+use Rattle.it_answer.specs.RightAnswers.{PointIsDue, IsRightFor, IsRightAnswer, IsRightAnswerBy, ProofsAscend}
 use Rattle.it_answer.specs.RightContainments.{IsRightContainment}
 use Rattle.it_answer.specs.RightRegions.{IsRightElimination}
 use Rattle.it_eliminate.proofs.MemberLemmas.{every_member}
@@ -65,7 +66,7 @@ use Rattle.it_cli.proofs.DataLemmas.{IsPlain, yes_plain, no_plain, undecided_pla
 use Rattle.it_cli.proofs.RegionFits.{right_region_fits}
 use Rattle.it_cli.proofs.FeedLemmas.{IsNoFeed, answer_text_clear}
 use Rattle.it_cli.proofs.JsonLemmas.{right_prove_fits, eliminated_cause_fits, all_weights_written, yes_same, no_same}
-use Rattle.it_cli.proofs.ContainedFits.{pair_space, contained_fits}
+use Rattle.it_cli.proofs.ContainedFits.{pair_space, pair_problem, contained_fits}
 use Rattle.it_cli.proofs.NameFits.{rates_found}
 use Rattle.it_cli.specs.Accepted.{ReportsAreAccepted}
 
@@ -95,7 +96,7 @@ module _ (q : BodyView) (r : RelationView) (b : Poses q r) (budget : Option ℕ)
   certifies_row f t w row c =
       let p = b.problem in
       by_rows (all_demands p.space.variables (question_demands q)) (generators p) (generators_speak p.space (question_demands q) p.constraints b.is_problem.constraints) (size_of p.space + 1) (value t) f row.same w
-      (to_problem (λ s. IsCertificate (size_of s + 1) (generators_by (all_demands s.variables (question_demands q))) f w) c)
+      (to_problem (λ s. Certifies (all_demands s.variables (question_demands q)) f w) c)
 
   refutes_row : (f : Form) (t : Terms) (values : List ℤ) → IsRowOf b.problem.space f t → IsCounterexample q f values → RefutesRow b.problem t values
   refutes_row f t values row c = record {
@@ -251,20 +252,20 @@ module _ (back : ReadsBack) (q : QuestionView) (short : length q.text ≤ 104857
     eliminate_accepted rates (Contained parts proofs) about k right = absurd right.shows
     eliminate_accepted rates (Open tried) about k right = absurd right.shows
 
-    contained_accepted : (plans : List Plan) (first second : RegionView) (tries : List (List ℕ)) (parts : List ℕ) (ws : List CertificateView) (found : List Candidate) → q.body.verb ≡ Contain first second tries
+    contained_accepted : (plans : List Plan) (first second : RegionView) (tries : List (List ℕ)) (parts : List ℕ) (ws : List CertificateView) (found : List Candidate) → q.body.verb ≡ Contain first second tries → IsQuestion q.body
         → ProofsAscend (Contained parts ws) → IsRightContainment budgets plans q.body first second tries (record { answer = Contained parts ws; found = found }) → IsAccepted (line_of (Contained parts ws))
-    contained_accepted plans first second tries parts ws found about ascend right =
+    contained_accepted plans first second tries parts ws found about k ascend right =
         let a = Contained parts ws in
         let p = problem_view right.pair.first in
         let c = right.due.candidate in
         let proofs = right.due.proofs in
-        let fits = contained_fits budgets plans q.body first second tries parts ws found about right in
+        let fits = contained_fits budgets plans q.body k first second tries parts ws found about right in
         let plain = contained_plain q.text q.body.names text_is parts ws (All-weaker (λ s. (s < 2 ^ 32) × (s < 2 ^ length first.names.variables)) (λ s. s < 2 ^ 32) (λ s h. h.0) parts fits.sets) fits.numbers in
         let reads = line_reads a (question_fits q.body a (Contain first second tries) about fits) plain in
         let rows : ArePulledRows p.space (obligations q.body first second parts) proofs.rows =
         subst (λ ps. ArePulledRows p.space (obligations q.body first second ps) proofs.rows) (sym right.due.parts_are) (text_rows q.body first second right.pair right.pairs c proofs.rows proofs.are) in
-        let e = proofs_by_valid p budgets.pivots (obligations q.body first second parts) proofs.rows ws right.limits.problem rows proofs.proofs in
-        let verdict = has_verdict q.body p (record { space = pair_space budgets plans q.body first second tries (record { answer = a; found = found }) about right; limits = right.limits.problem; constraints = right.pairs.first }) a proofs.rows (problem_names q.body) Valid
+        let e = proofs_by_valid p budgets.pivots (obligations q.body first second parts) proofs.rows ws (pair_problem budgets plans q.body k first second tries (record { answer = a; found = found }) about right) rows proofs.proofs in
+        let verdict = has_verdict q.body p (record { space = pair_space budgets plans q.body k first second tries (record { answer = a; found = found }) about right; limits = (pair_problem budgets plans q.body k first second tries (record { answer = a; found = found }) about right); constraints = right.pairs.first }) a proofs.rows (problem_names q.body) Valid
         (subst (λ fs. ArePulledRows p.space fs proofs.rows) (sym (ap (λ v. judged_forms_by q.body v a) about)) rows) refl (ap Some e) in
         judged_is_accepted a (line_of a) (clear_of a plain) verdict
         (subst (λ us. ReadsReport (line_of a) (Ok (q, Contained parts us))) (all_weights_written ws ascend) reads)
@@ -277,19 +278,19 @@ module _ (back : ReadsBack) (q : QuestionView) (short : length q.text ≤ 104857
         skipped_is_accepted (Open tried) (line_of (Open tried)) (clear_of (Open tried) plain) refl
         (line_reads (Open tried) (question_fits q.body (Open tried) (Contain first second tries) about l) plain)
 
-    contain_accepted : (plans : List Plan) (first second : RegionView) (tries : List (List ℕ)) (a : AnswerView) (found : List Candidate) → budgets.tries < 2 ^ 32 → q.body.verb ≡ Contain first second tries
+    contain_accepted : (plans : List Plan) (first second : RegionView) (tries : List (List ℕ)) (a : AnswerView) (found : List Candidate) → budgets.tries < 2 ^ 32 → q.body.verb ≡ Contain first second tries → IsQuestion q.body
         → ProofsAscend a → IsRightContainment budgets plans q.body first second tries (record { answer = a; found = found }) → IsAccepted (line_of a)
-    contain_accepted plans first second tries (Yes ws) found short about ascend right = absurd right.shows
-    contain_accepted plans first second tries (No is_back values) found short about ascend right = absurd right.shows
-    contain_accepted plans first second tries (Undecided c) found short about ascend right = absurd right.shows
-    contain_accepted plans first second tries (Region rows) found short about ascend right = absurd right.shows
-    contain_accepted plans first second tries (Contained parts proofs) found short about ascend right = contained_accepted plans first second tries parts proofs found about ascend right
-    contain_accepted plans first second tries (Open tried) found short about ascend right = open_accepted plans first second tries tried found short about right
+    contain_accepted plans first second tries (Yes ws) found short about k ascend right = absurd right.shows
+    contain_accepted plans first second tries (No is_back values) found short about k ascend right = absurd right.shows
+    contain_accepted plans first second tries (Undecided c) found short about k ascend right = absurd right.shows
+    contain_accepted plans first second tries (Region rows) found short about k ascend right = absurd right.shows
+    contain_accepted plans first second tries (Contained parts proofs) found short about k ascend right = contained_accepted plans first second tries parts proofs found about k ascend right
+    contain_accepted plans first second tries (Open tried) found short about k ascend right = open_accepted plans first second tries tried found short about right
 
     verb_accepted : (plans : List Plan) (verb : VerbView) (reply : Reply) → q.body.verb ≡ verb → budgets.tries < 2 ^ 32 → IsQuestion q.body → ProofsAscend reply.answer → IsRightAnswerBy budgets plans q.body verb reply → IsAccepted (line_of reply.answer)
     verb_accepted plans (Prove r) reply about short k ascend right = prove_accepted r reply.answer about ascend right.0
     verb_accepted plans (Eliminate rates) reply about short k ascend right = eliminate_accepted rates reply.answer about k right.0
-    verb_accepted plans (Contain first second tries) reply about short k ascend right = contain_accepted plans first second tries reply.answer reply.found short about ascend right
+    verb_accepted plans (Contain first second tries) reply about short k ascend right = contain_accepted plans first second tries reply.answer reply.found short about k ascend right
 
 pub right_accepted : ReadsBack → (budgets : Budgets) (plans : List Plan) (q : QuestionView) (reply : Reply) → IfSome budgets.pivots (λ n. n < 2 ^ 32) → budgets.tries < 2 ^ 32 → length q.text ≤ 1048577 → IsFile q.text (q ∷ [])
     → IsQuestion q.body → IsRightAnswer budgets plans q.body reply → IsAccepted (answer_text q.text q.body.names reply.answer)

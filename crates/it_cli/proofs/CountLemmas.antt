@@ -115,7 +115,7 @@ answers_add_up budgets plans before counts (q ∷ qs) end all (reply, right, res
 pub counts_add_up : GeneratedIsFile → FileIsOne → CountsAddUp
 counts_add_up generated one_reading budgets plans seed count questions counts few asked counted =
     let file = generated seed count few in
-    let same : file.questions ≡ questions = one_reading (generated_file seed count) file.questions questions file.asked asked.read in
+    let same : file.questions ≡ questions = one_reading (generated_file seed count) file.questions questions file.asked asked in
     let all : All IsProve questions = subst (λ (qs : List QuestionView). All IsProve qs) same file.prove in
     let sum = answers_add_up budgets plans [] no_counts questions counts all counted in
     (sum.0 ∙ (let n : length questions ≡ count = ap length (sym same) ∙ file.counted in omega (arith, n)), sum.1, sum.2, sum.3)

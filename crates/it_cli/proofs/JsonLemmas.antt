@@ -40,8 +40,10 @@ use Rattle.it_eliminate.specs.Elimination.{Member}
 use Rattle.it_redundant.specs.ReducedElimination.{ProjectedView}
 use Rattle.it_redundant.specs.ReducedElimination as projections
 use Rattle.it_answer.specs.declared.types.Budgets.{Budgets}
-use Rattle.it_answer.specs.Forms.{all_demands, generators_by, demand_of_elemental, demand_of_line, CertifyAll}
-use Rattle.it_answer.specs.RightAnswers.{ViolatesFirst, PointIsDue, CauseIsDue, IsRightFor}
+use Rattle.it_answer.specs.Forms.{all_demands, demand_of_elemental, demand_of_line, CertifyAll}
+use Rattle.it_answer.proofs.FormLemmas.{generators_by}
+use Rattle.it_answer.specs.Shows.{ViolatesFirst}
+use Rattle.it_answer.specs.RightAnswers.{PointIsDue, CauseIsDue, IsRightFor}
 use Rattle.it_answer.specs.RightRegions.{answer_of_end, IsRightElimination}
 use Rattle.it_answer.proofs.UniqueLemmas.{undecided_same}
 use Rattle.it_certificate.specs.AnswerReading.{is_equality}

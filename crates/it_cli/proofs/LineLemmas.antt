@@ -39,10 +39,12 @@ use Rattle.it_eliminate.proofs.MemberLemmas.{every_member}
 use Rattle.it_redundant.specs.ReducedElimination.{ProjectedView}
 use Rattle.it_redundant.specs.ReducedElimination as projections
 use Rattle.it_answer.specs.declared.types.Budgets.{Budgets}
-use Rattle.it_answer.specs.RightRegions.{IsRightElimination, answer_of_end, region_rows}
-use Rattle.it_answer.specs.Forms.{CertifyAll, all_demands, generators_by}
+use Rattle.it_answer.specs.Shows.{ViolatesFirst, region_rows}
+use Rattle.it_answer.specs.RightRegions.{IsRightElimination, answer_of_end}
+use Rattle.it_answer.specs.Forms.{CertifyAll, all_demands}
+use Rattle.it_answer.proofs.FormLemmas.{generators_by}
 use Rattle.it_canon.specs.Targets.{targets}
-use Rattle.it_answer.specs.RightAnswers.{ViolatesFirst, CauseIsDue, IsRightFor, IsRightAnswer, IsRightAnswerBy}
+use Rattle.it_answer.specs.RightAnswers.{CauseIsDue, IsRightFor, IsRightAnswer, IsRightAnswerBy}
 use Rattle.it_print.specs.Lines.{IsCauseOf, IsPrintable, IsRowOver, answer_line, auxiliary_names, auxiliary_names_by, origins_of}
 use Rattle.it_print.specs.ProofLines.{generator_rows, proof_text}
 use Rattle.it_answer.specs.AnswerForms.{answer_forms}

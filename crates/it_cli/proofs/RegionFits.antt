@@ -34,7 +34,8 @@ use Rattle.it_redundant.specs.ReducedElimination as projections
 use Rattle.it_redundant.proofs.ReductionLemmas.{every_kept}
 use Rattle.it_redundant.proofs.ProjectionLemmas.{same_list}
 use Rattle.it_answer.specs.declared.types.Budgets.{Budgets}
-use Rattle.it_answer.specs.RightRegions.{region_rows, marked_rows, answer_of_end, IsRightElimination}
+use Rattle.it_answer.specs.Shows.{region_rows}
+use Rattle.it_answer.specs.RightRegions.{marked_rows, answer_of_end, IsRightElimination}
 use Rattle.it_certificate.specs.AnswerShapes.{IsNumberedAmount, IsRowIn}
 
 -- ---- cancelled rows
