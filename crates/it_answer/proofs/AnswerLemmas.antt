@@ -10,7 +10,7 @@ use Rattle.it_space.specs.Spaces.{size_of}
 use Rattle.it_polymatroid.specs.Certificates.{Form}
 use Rattle.it_polymatroid.specs.Polymatroid.{IsPolymatroid}
 use Rattle.it_syntax.specs.Meaning.{RelationView}
-use Rattle.it_question.specs.Questions.{BodyView, Prove, Eliminate}
+use Rattle.it_question.specs.Questions.{BodyView, VerbView, Prove, Eliminate}
 use Rattle.it_canon.specs.Canonical.{IsRowOf}
 use Rattle.it_canon.specs.Demands.{AreStated}
 use Rattle.it_canon.specs.Targets.{negation, targets}
@@ -28,8 +28,10 @@ use Rattle.it_contain.specs.Proposals.{Plan}
 use Rattle.it_contain.proofs.PlanLemmas.{after_none}
 use Rattle.it_answer.specs.Forms.{Certifies, CertifiesForm, CertifyAll, all_demands}
 use Rattle.it_answer.specs.Shows.{IsCounterexample, ShowsBy, ViolatesFirst}
-use Rattle.it_answer.specs.RightAnswers.{IsRightAnswer, IsRightAnswerBy, IsAnswered}
-use Rattle.it_answer.specs.RightRegions.{IsRightElimination}
+use Rattle.it_answer.specs.DueEliminations.{IsDueElimination}
+use Rattle.it_answer.specs.DueRelations.{IsDueRelation}
+use Rattle.it_answer.specs.Replies.{Reply}
+use Rattle.it_answer.specs.RightAnswers.{IsDueBy, IsRightAnswer, IsAnswered}
 use Rattle.it_answer.specs.RowAnswers.{CertifyRows, RefutesFirst, ShowsRows, AnswersRows, AnswersForms, answer_after_one, answer_after_two}
 use Rattle.it_answer.proofs.FormLemmas.{generators_speak, by_forms, rows_add_up}
 
@@ -78,14 +80,22 @@ row_negation s f t u e h = subst (IsRowOf s (negation f)) (sym e) (record {
   small = small-negated_terms t h.small;
 })
 
--- ---- where nothing was found, the boxes keep their plans
+-- ---- a right answer by the question's verb
+
+pub right_by_verb : (budgets : Budgets) (plans : List Plan) (q : BodyView) (verb : VerbView) (reply : Reply) → q.verb ≡ verb → ShowsBy q verb reply.answer → IsDueBy budgets plans q verb reply → IsRightAnswer budgets plans q reply
+right_by_verb budgets plans q verb reply is x d = record {
+  shows = subst (λ (v : VerbView). ShowsBy q v reply.answer) (sym is) x;
+  due = subst (λ (v : VerbView). IsDueBy budgets plans q v reply) (sym is) d;
+}
+
+-- where nothing was found, the boxes keep their plans
 
 pub nothing_found : (budgets : Budgets) (plans : List Plan) (q : BodyView) (answer : AnswerView) → IsRightAnswer budgets plans q (record { answer = answer; found = [] }) → IsAnswered budgets plans q answer plans
 nothing_found budgets plans q answer x = record { found = []; right = x; learned = sym (after_none plans) }
 
-pub left_of_rows : (budgets : Budgets) (plans : List Plan) (q : BodyView) (rates : List ℕ) (answer : AnswerView) → q.verb ≡ Eliminate rates → IsRightElimination budgets q rates answer
+pub left_of_rows : (budgets : Budgets) (plans : List Plan) (q : BodyView) (rates : List ℕ) (answer : AnswerView) → q.verb ≡ Eliminate rates → ShowsBy q (Eliminate rates) answer → IsDueElimination budgets q rates answer
     → IsAnswered budgets plans q answer plans
-left_of_rows budgets plans q rates answer is x = nothing_found budgets plans q answer (subst (λ m. IsRightAnswerBy budgets plans q m (record { answer = answer; found = [] })) (sym is) (x, refl))
+left_of_rows budgets plans q rates answer is x d = nothing_found budgets plans q answer (right_by_verb budgets plans q (Eliminate rates) (record { answer = answer; found = [] }) is x (d, refl))
 
 -- ---- from rows to the meaning of the text
 
@@ -148,11 +158,11 @@ module _ (q : BodyView) (p : ProblemView) (e : p.space ≡ space_of (problem_nam
 
   pub answers_relation : (budgets : Budgets) (plans : List Plan) (r : RelationView) (answer : AnswerView) → q.verb ≡ Prove r → AnswersForms p (targets p.space.variables r) answer budgets.pivots
       → IsAnswered budgets plans q answer plans
-  answers_relation budgets plans r answer is a = nothing_found budgets plans q answer (subst (λ m. IsRightAnswerBy budgets plans q m (record { answer = answer; found = [] })) (sym is) (
-    record {
-      shows = shown_targets q r answer (to_question_space (λ s. ShowsTargets q (targets s.variables r) answer) (show_targets (targets p.space.variables r) a.rows answer a.are a.answered.shows));
-      poses = record { problem = p; is_problem = record { space = e; limits = k; constraints = st }; rows = a.rows; targets_are = subst (λ n. AreRowsOf p.space (targets n r) a.rows) (ap (λ (s : Space). s.variables) e) a.are };
-      due = a.answered.due;
-    },
-    refl,
-  ))
+  answers_relation budgets plans r answer is a =
+      let shown = shown_targets q r answer (to_question_space (λ s. ShowsTargets q (targets s.variables r) answer) (show_targets (targets p.space.variables r) a.rows answer a.are a.answered.shows)) in
+      let due : IsDueRelation budgets.pivots q r answer =
+      record {
+        poses = record { problem = p; is_problem = record { space = e; limits = k; constraints = st }; rows = a.rows; targets_are = subst (λ n. AreRowsOf p.space (targets n r) a.rows) (ap (λ (s : Space). s.variables) e) a.are };
+        due = a.answered.due;
+      } in
+      nothing_found budgets plans q answer (right_by_verb budgets plans q (Prove r) (record { answer = answer; found = [] }) is shown (due, refl))

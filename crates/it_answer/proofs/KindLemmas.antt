@@ -10,7 +10,7 @@ use Rattle.it_answer.specs.declared.types.Budgets.{Budgets}
 use Rattle.it_answer.specs.AnswerForms.{IsAnswerBy, IsAnswerTo}
 use Rattle.it_answer.specs.Replies.{Reply}
 use Rattle.it_answer.specs.Shows.{ShowsBy}
-use Rattle.it_answer.specs.RightAnswers.{IsRightAnswer, IsRightAnswerBy}
+use Rattle.it_answer.specs.RightAnswers.{IsRightAnswer}
 
 of_targets : (q : BodyView) (r : RelationView) (answer : AnswerView) → ShowsBy q (Prove r) answer → IsAnswerBy (Prove r) answer
 of_targets q r (Yes ws) x = tt
@@ -36,10 +36,10 @@ of_search q a b tries (Region rows) x = absurd x
 of_search q a b tries (Contained parts proofs) x = x.are_parts
 of_search q a b tries (Open tried) x = tt
 
-by_verb : (budgets : Budgets) (plans : List Plan) (q : BodyView) (verb : VerbView) (reply : Reply) → IsRightAnswerBy budgets plans q verb reply → IsAnswerBy verb reply.answer
-by_verb budgets plans q (Prove r) reply x = of_targets q r reply.answer x.0.shows
-by_verb budgets plans q (Eliminate rates) reply x = of_region q rates reply.answer x.0.shows
-by_verb budgets plans q (Contain a b tries) reply x = of_search q a b tries reply.answer x.shows
+by_verb : (q : BodyView) (verb : VerbView) (answer : AnswerView) → ShowsBy q verb answer → IsAnswerBy verb answer
+by_verb q (Prove r) answer x = of_targets q r answer x
+by_verb q (Eliminate rates) answer x = of_region q rates answer x
+by_verb q (Contain a b tries) answer x = of_search q a b tries answer x
 
 pub is_answer_to : (budgets : Budgets) (plans : List Plan) (q : BodyView) (reply : Reply) → IsRightAnswer budgets plans q reply → IsAnswerTo q reply.answer
-is_answer_to budgets plans q reply x = by_verb budgets plans q q.verb reply x
+is_answer_to budgets plans q reply x = by_verb q q.verb reply.answer x.shows

@@ -1,68 +1,41 @@
 -- What it means that an answer shows what it says.
-use Rattle.std.proofs.Common.{◌≡◌, ℕ, zero, ◌<◌, ◌≤◌, ℤ, pos, neg_ℤ, ◌≤ℤ◌, ◌*ℤ◌, List, [], ◌∷◌, ◌++◌, map, length, Bool, true, false, All, refl, sym, subst, arith}
+use Rattle.std.proofs.Common.{◌≡◌, ℕ, ℤ, pos, neg_ℤ, ◌≤ℤ◌, List, [], ◌∷◌, map, length, Bool, true, false, All, refl, sym, subst, arith}
 use Rattle.std.specs.List.{AllByRecursion as Every}
 use Rattle.std.proofs.lemmas.Int.{ints}
-use Rattle.std.proofs.lemmas.List.Elements.{All-nil, All-cons, All-head, All-tail, All-append}
-use Rattle.it_number.proofs.SignLemmas.{sum_least, product_least, least_by_multiple}
-use Rattle.it_space.specs.declared.problems.Kind.{Kind}
-use Rattle.it_space.specs.declared.problems.Kind.TheVariants.{Inequality, Equation}
+use Rattle.std.proofs.lemmas.List.Elements.{All-nil, All-cons, All-head, All-tail, All-append, All-weaker}
+use Rattle.it_number.proofs.SignLemmas.{least_by_multiple}
+use Rattle.it_space.specs.declared.problems.Kind.TheVariants.{Inequality}
 use Rattle.it_space.specs.Answers.{AnswerView, CertificateView}
 use Rattle.it_space.specs.Answers.AnswerView.{Yes, No, Region, Contained}
-use Rattle.it_space.specs.Problems.{Meets}
 use Rattle.it_space.specs.Rows.{map_of}
 use Rattle.it_space.proofs.EveryLemmas.{every_of, every-append, every-map}
-use Rattle.it_polymatroid.specs.Certificates.{Form, Generators, IsAllowed, combination}
+use Rattle.it_polymatroid.specs.Certificates.{Form, Generators, IsAllowed}
 use Rattle.it_polymatroid.specs.Elementals.{elementals, elemental_value}
+use Rattle.it_polymatroid.proofs.Certified.{weighted_least}
 use Rattle.it_polymatroid.proofs.Generate.{elementals_generate}
 use Rattle.it_syntax.specs.Meaning.{Holds, RelationView, side_at}
 use Rattle.it_question.specs.Questions.{BodyView, RegionView, VerbView, Prove, Eliminate, Contain}
 use Rattle.it_canon.specs.Canonical.{form_of}
 use Rattle.it_canon.specs.Demands.{Demand, LineDemand}
 use Rattle.it_canon.specs.Targets.{targets}
-use Rattle.it_canon.specs.QuestionDemands.{problem_lines, question_demands, given_demands, row_demands, variables_of, AreTrueAt}
+use Rattle.it_canon.specs.QuestionDemands.{problem_lines, question_demands, given_demands, row_demands, variables_of, AreTrueTogether}
 use Rattle.it_canon.proofs.MetLemmas.{IsSatisfied, givens_satisfied, rows_satisfied, targets_met}
 use Rattle.it_elemental.specs.Generators.{is_equation}
 use Rattle.it_elemental.proofs.GeneratorLemmas.{every_or}
-use Rattle.it_contain.specs.Proposals.{Plan}
-use Rattle.it_answer.specs.declared.types.Budgets.{Budgets}
-use Rattle.it_answer.specs.Forms.{Certifies, CertifiesForm, CertifyAll, all_demands, demand_at, demand_of_elemental, demand_of_line}
-use Rattle.it_answer.proofs.FormLemmas.{generators_by}
-use Rattle.it_answer.specs.Replies.{Reply}
-use Rattle.it_answer.specs.Shows.{AContainmentIsTrue, ANoIsTrue, AYesIsTrue, AreTrueTogether, NeverYesAndNo, Shows, ShowsBy, ViolatesFirst}
-use Rattle.it_answer.specs.RightAnswers.{IsRightAnswerBy, RightAnswersShow}
-
--- ---- a right answer shows what it says
-
-by_verb : (budgets : Budgets) (plans : List Plan) (q : BodyView) (verb : VerbView) (reply : Reply) → IsRightAnswerBy budgets plans q verb reply → ShowsBy q verb reply.answer
-by_verb budgets plans q (Prove r) reply x = x.0.shows
-by_verb budgets plans q (Eliminate rates) reply x = x.0.shows
-by_verb budgets plans q (Contain a b tries) reply x = x.shows
-
-pub right_answers_show : RightAnswersShow
-right_answers_show budgets plans q reply x = by_verb budgets plans q q.verb reply x
+use Rattle.it_check.proofs.Truth.{at_least, is_zero}
+use Rattle.it_answer.specs.Forms.{Certifies, CertifiesForm, CertifyAll, all_demands, demand_at, demand_of_elemental, demand_of_line, MayStand}
+use Rattle.it_answer.proofs.FormLemmas.{inequality_unless_equation}
+use Rattle.it_answer.specs.Shows.{AContainmentIsTrue, ANoIsTrue, AYesIsTrue, NeverYesAndNo, Shows, ShowsBy, ViolatesFirst}
 
 -- ---- a certified form is at least 0
 
--- a sum of weights that may stand, at values that meet the generators, is at least 0
-weighted_least : (g : Generators) (v : ℕ → ℤ) → ((i : ℕ) → pos 0 ≤ℤ v i) → ((i : ℕ) → g.is_equation i ≡ true → v i ≡ pos 0)
-    → (ws : List (ℕ × ℤ)) → All (IsAllowed g) ws → pos 0 ≤ℤ combination ws v
-weighted_least g v least zeros [] a = omega (arith, ints)
-weighted_least g v least zeros (w ∷ ws) a =
-    let here : IsAllowed g w = All-head (IsAllowed g) w ws a in
-    let rest : pos 0 ≤ℤ combination ws v = weighted_least g v least zeros ws (All-tail (IsAllowed g) w ws a) in
-    sum_least (w.1 *ℤ v w.0) (combination ws v) (term w.1 (v w.0) (g.is_equation w.0) here.1 (least w.0) (zeros w.0)) rest
-  where
-    term : (x y : ℤ) (b : Bool) → (b ≡ false → pos 0 ≤ℤ x) → pos 0 ≤ℤ y → (b ≡ true → y ≡ pos 0) → pos 0 ≤ℤ (x *ℤ y)
-    term x y true h k e = subst (λ (z : ℤ). pos 0 ≤ℤ (x *ℤ z)) (sym (e refl)) (omega (arith, ints))
-    term x y false h k e = product_least x y (h refl) k
-
-at_least : (k : Kind) (x : ℤ) → Meets k x → pos 0 ≤ℤ x
-at_least Inequality x h = h
-at_least Equation x h = omega (arith, ints, h)
-
-is_zero : (k : Kind) (x : ℤ) → Meets k x → is_equation k ≡ true → x ≡ pos 0
-is_zero Inequality x h e = absurd (cc)
-is_zero Equation x h e = h
+-- demands as what certificates are built from
+abbrev generators_by : List Demand → Generators
+generators_by ds = record {
+  count = length ds;
+  form = λ i p. (demand_at ds i).form p;
+  is_equation = λ i. is_equation (demand_at ds i).kind;
+}
 
 module _ (q : BodyView) (m : ℕ → ℤ) (together : AreTrueTogether q m) where
   abbrev ds : List Demand
@@ -90,8 +63,9 @@ module _ (q : BodyView) (m : ℕ → ℤ) (together : AreTrueTogether q m) where
   form_at_least_zero : (f : Form) (w : CertificateView) → CertifiesForm q f w → pos 0 ≤ℤ f m
   form_at_least_zero f w c = least_by_multiple w.scale (f m) (omega (arith, ints, c.scale_from_one))
       (subst (λ (x : ℤ). pos 0 ≤ℤ x) (sym (c.adds_up m together.0.empty))
-      (weighted_least (generators_by ds) (λ i. (demand_at ds i).form m) (λ i. at_least (demand_at ds i).kind ((demand_at ds i).form m) (satisfied_at i))
-      (λ i e. is_zero (demand_at ds i).kind ((demand_at ds i).form m) (satisfied_at i) e) w.weights c.allowed))
+      (weighted_least (generators_by ds) (λ i. (demand_at ds i).form m) (λ i l. at_least (demand_at ds i).kind ((demand_at ds i).form m) (satisfied_at i))
+      (λ i l e. is_zero (demand_at ds i).kind ((demand_at ds i).form m) (satisfied_at i) e) w.weights
+      (All-weaker (MayStand ds) (IsAllowed (generators_by ds)) (λ x a. (a.0, λ e. a.1 (inequality_unless_equation (demand_at ds x.0).kind e))) w.weights c.allowed)))
 
   all_valid : (fs : List Form) (ws : List CertificateView) → CertifyAll q fs ws → All (λ f. pos 0 ≤ℤ f m) fs
   all_valid [] [] c = All-nil (λ (f : Form). pos 0 ≤ℤ f m)

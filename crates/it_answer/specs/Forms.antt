@@ -1,6 +1,6 @@
--- The generators of a question by the meaning of its text: the elemental inequalities, then what its lines demand; and
--- certificates over these generators.
-use Rattle.std.specs.Prelude.{◌≡◌, ℕ, ◌<◌, ℤ, pos, ◌*ℤ◌, ◌≤ℤ◌, List, ◌++◌, length, map, slice_index_or, false, All}
+-- What certificates of a question are built from, by the meaning of its text: the elemental inequalities, then what its lines
+-- demand; and certificates over these.
+use Rattle.std.specs.Prelude.{◌≡◌, ℕ, ◌<◌, ℤ, pos, ◌*ℤ◌, ◌≤ℤ◌, List, ◌++◌, length, map, slice_index_or, All}
 use Rattle.std.specs.List.{AllZip}
 use Rattle.it_space.specs.declared.problems.Kind.TheVariants.{Inequality}
 use Rattle.it_space.specs.Answers.{CertificateView}
@@ -9,7 +9,6 @@ use Rattle.it_polymatroid.specs.Elementals.{Elemental, elementals, elemental_val
 use Rattle.it_question.specs.Questions.{BodyView}
 use Rattle.it_canon.specs.Demands.{Demand, LineDemand}
 use Rattle.it_canon.specs.QuestionDemands.{question_demands, variables_of}
-use Rattle.it_elemental.specs.Generators.{is_equation}
 
 -- an elemental inequality of n variables as a demand
 abbrev pub demand_of_elemental : ℕ → Elemental → Demand
@@ -27,9 +26,9 @@ all_demands n ds = map (demand_of_elemental n) (elementals n) ++ map demand_of_l
 abbrev pub demand_at : List Demand → ℕ → Demand
 demand_at ds i = slice_index_or ds i (record { kind = Inequality; form = λ p. pos 0 })
 
--- a weight that may stand in a certificate: of a demand that is there, and not negative unless that is an equation
+-- a weight that may stand in a certificate: of a demand that is there, and at least 0 where that is an inequality
 abbrev pub MayStand : List Demand → ℕ × ℤ → Type 0
-MayStand ds w = (w.0 < length ds) × (is_equation (demand_at ds w.0).kind ≡ false → pos 0 ≤ℤ w.1)
+MayStand ds w = (w.0 < length ds) × ((demand_at ds w.0).kind ≡ Inequality → pos 0 ≤ℤ w.1)
 
 -- A certificate of a form (Farkas 1902): weights by which the demands add up to a positive multiple of it, at every map that is 0 at
 -- the empty set.

@@ -13,7 +13,7 @@ use Rattle.it_syntax.specs.Givens.{IsTrueAt}
 use Rattle.it_syntax.specs.Meaning.{RelationView, Holds}
 use Rattle.it_question.specs.Questions.{BodyView, RegionView, VerbView, Prove, Eliminate, Contain}
 use Rattle.it_canon.specs.Targets.{targets}
-use Rattle.it_canon.specs.QuestionDemands.{space_of, problem_names, problem_lines, variables_of, AreTrueAt}
+use Rattle.it_canon.specs.QuestionDemands.{space_of, problem_names, problem_lines, variables_of, AreTrueAt, AreTrueTogether}
 use Rattle.it_eliminate.specs.Elimination.{Member}
 use Rattle.it_eliminate.specs.Projections.{IsPointOf, LacksCoordinate}
 use Rattle.it_region.specs.Obligations.{ArePartsOf, obligations}
@@ -64,7 +64,7 @@ MarkedRowsAreNeeded q rows = (before after : List (Mark × Terms)) (row : Terms)
 
 -- rows over the question's coordinates, without the eliminated rates, that hold at a polymatroid which makes the givens true, and
 -- rates, exactly where this point extends to the eliminated rates; and none that is marked as needed follows from the others
-pub record IsRightRegion (q : BodyView) (rates : List ℕ) (rows : List (Mark × Terms)) : Type 0 where
+pub record ShowsRegion (q : BodyView) (rates : List ℕ) (rows : List (Mark × Terms)) : Type 0 where
   pub coordinates : All (IsUpTo (size_of (space_of q.names))) (region_rows rows)
   pub free : (r : ℕ) → Member r rates → LacksCoordinate (2 ^ length q.names.variables + r) (region_rows rows)
   pub exact : (p : ℕ → ℤ) → IsPolymatroid (length q.names.variables) p → All (IsTrueAt (length q.names.variables) p) q.lines.givens
@@ -88,7 +88,7 @@ abbrev pub ShowsBy : BodyView → VerbView → AnswerView → Type 0
 ShowsBy q (Prove r) (Yes ws) = CertifyAll q (targets (variables_of q) r) ws
 ShowsBy q (Prove r) (No is_back values) = ViolatesFirst q (targets (variables_of q) r) is_back values
 ShowsBy q (Prove r) (Undecided cause) = Unit {0}
-ShowsBy q (Eliminate rates) (Region rows) = IsRightRegion q rates rows
+ShowsBy q (Eliminate rates) (Region rows) = ShowsRegion q rates rows
 ShowsBy q (Eliminate rates) (Undecided cause) = Unit {0}
 ShowsBy q (Contain a b tries) (Contained parts ws) = ShowsContained q a b parts ws
 ShowsBy q (Contain a b tries) (Open tried) = Unit {0}
@@ -99,10 +99,6 @@ abbrev pub Shows : BodyView → AnswerView → Type 0
 Shows q answer = ShowsBy q q.verb answer
 
 -- ---- what it means
-
--- a polymatroid and rates that make the lines of the question's problem true
-abbrev pub AreTrueTogether : BodyView → (ℕ → ℤ) → Type 0
-AreTrueTogether q p = IsPolymatroid (variables_of q) p × AreTrueAt (variables_of q) p (problem_lines q)
 
 -- where a yes is shown, the relation holds wherever a polymatroid and rates make the question's lines true
 abbrev pub AYesIsTrue : Type 0

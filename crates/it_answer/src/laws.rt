@@ -1,11 +1,6 @@
 //! What right answers say, each theorem as the contract of a function.
-ghost use Rattle.it_answer.specs.RightAnswers.{AYesAscends, NoStepIsZero, OneRightAnswer, RightAnswersShow};
+ghost use Rattle.it_answer.specs.RightAnswers.{AYesAscends, NoStepIsZero, OneRightAnswer};
 ghost use Rattle.it_answer.specs.Shows.{AContainmentIsTrue, ANoIsTrue, ARegionIsTrue, AYesIsTrue, NeededRowsAreNeeded, NeverYesAndNo};
-
-/// A right answer shows what it says.
-pub fn right_answers_show()
-    ensures { RightAnswersShow }
-{}
 
 /// Where a yes is shown the relation holds wherever the question's lines are true, where a no is shown its values are a
 /// polymatroid and rates at which the lines are true and the relation isn't; so no question has both. Where a region is shown, its

@@ -5,7 +5,7 @@ ghost use Rattle.it_cli.specs.Accepted.{OutputIsAccepted, ReportsAreAccepted};
 ghost use Rattle.it_cli.specs.Laws.{BenchReadsNothing, CountsAddUp, CountsAreWritten, FaultIsDue, Headline, IsComplete, LongIsDue, NoLineIsOutOfSteps, OneOutput, SureEnds, UsageIsDue, VerdictsAreWritten};
 ghost use Rattle.it_cli.specs.Shown.{AnswersShow};
 
-use it_answer::{answers_are_determined, right_answers_show};
+use it_answer::answers_are_determined;
 use it_certificate::answers_read_back;
 use it_gen::generated_is_file;
 use it_question::file_is_one;
@@ -47,9 +47,7 @@ pub fn are_due()
 /// Each answer whose lines are written after `Done` in mode `answer` shows what it says.
 pub fn answers_show()
     ensures { AnswersShow }
-{
-    right_answers_show();
-}
+{}
 
 /// What an answer means that shows what it says. A yes: the relation holds at every polymatroid and rates that make the lines true.
 /// A no: its values are ones at which it doesn't; so no question has both. A region: its rows hold exactly at the points that extend

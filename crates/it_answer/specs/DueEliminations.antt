@@ -1,28 +1,19 @@
--- Right answers to `eliminate`: what a region shows by the meaning of the text, and which answer is due by reduced elimination.
-use Rattle.std.specs.Prelude.{◌≡◌, ◌↔◌, ℕ, ◌+◌, ◌≤◌, ◌^◌, ℤ, neg_ℤ, pos, ◌≤ℤ◌, ◌*ℤ◌, List, [], ◌∷◌, ◌++◌, length, map, All}
+-- Which answer to `eliminate` is due, by reduced elimination of the rows of the text.
+use Rattle.std.specs.Prelude.{◌≡◌, ℕ, List, [], length, map}
 use Rattle.it_space.specs.declared.answers.Cause.TheVariants as causes
 use Rattle.it_space.specs.declared.answers.Mark.{Mark}
 use Rattle.it_space.specs.declared.answers.Mark.TheVariants as marks
 use Rattle.it_space.specs.Answers.{AnswerView}
-use Rattle.it_space.specs.Answers.AnswerView.{Yes, No, Undecided, Region, Contained, Open}
+use Rattle.it_space.specs.Answers.AnswerView.{Undecided, Region}
 use Rattle.it_space.specs.Problems.{ProblemView}
-use Rattle.it_space.specs.Rows.{Terms, IsUpTo, value}
-use Rattle.it_space.specs.Spaces.{size_of}
-use Rattle.it_polymatroid.specs.Polymatroid.{IsPolymatroid}
-use Rattle.it_syntax.specs.Givens.{IsTrueAt}
-use Rattle.it_syntax.specs.Meaning.{RelationView, Holds}
-use Rattle.it_question.specs.Questions.{BodyView, Eliminate}
+use Rattle.it_space.specs.Rows.{Terms}
+use Rattle.it_question.specs.Questions.{BodyView}
 use Rattle.it_canon.specs.Demands.{AreStated}
 use Rattle.it_canon.specs.QuestionDemands.{space_of, given_demands, system_forms, AreRowsOf}
-use Rattle.it_eliminate.specs.Elimination.{Member}
-use Rattle.it_eliminate.specs.Projections.{IsPointOf, LacksCoordinate}
 use Rattle.it_redundant.specs.Reduction.{NeedView, Needed, Unsettled}
 use Rattle.it_redundant.specs.ReducedElimination.{ProjectedView, ReducedEnds}
 use Rattle.it_redundant.specs.ReducedElimination as projections
 use Rattle.it_answer.specs.declared.types.Budgets.{Budgets}
-use Rattle.it_answer.specs.Shows.{ShowsBy}
-
--- ---- which answer is due, by reduced elimination of the rows of the text
 
 -- why a row stays, as its mark
 abbrev pub mark_of_need : NeedView → Mark
@@ -50,8 +41,3 @@ pub record IsDueElimination (budgets : Budgets) (q : BodyView) (rates : List ℕ
   pub end : ProjectedView
   pub ends : ReducedEnds givens budgets.pivots budgets.rows rows [] rates end
   pub is : answer ≡ answer_of_end end
-
--- a right answer: it shows what it says, and reduced elimination says that it is due
-pub record IsRightElimination (budgets : Budgets) (q : BodyView) (rates : List ℕ) (answer : AnswerView) : Type 0 where
-  pub shows : ShowsBy q (Eliminate rates) answer
-  pub due : IsDueElimination budgets q rates answer
