@@ -7,14 +7,14 @@ use Rattle.it_space.specs.Answers.{AnswerView, CertificateView}
 use Rattle.it_space.specs.Answers as answer_views
 use Rattle.it_space.specs.Rows.{Terms, IsUpTo, value, map_of, negated_terms}
 use Rattle.it_space.specs.Spaces.{size_of}
-use Rattle.it_polymatroid.specs.Certificates.{Form, IsCertificate}
+use Rattle.it_polymatroid.specs.Certificates.{Form}
 use Rattle.it_polymatroid.specs.Polymatroid.{IsPolymatroid}
 use Rattle.it_syntax.specs.Meaning.{RelationView}
-use Rattle.it_question.specs.Questions.{BodyView, Prove, Eliminate}
+use Rattle.it_question.specs.Questions.{BodyView, VerbView, Prove, Eliminate}
 use Rattle.it_canon.specs.Canonical.{IsRowOf}
 use Rattle.it_canon.specs.Demands.{AreStated}
 use Rattle.it_canon.specs.Targets.{negation, targets}
-use Rattle.it_canon.specs.QuestionDemands.{space_of, problem_names, problem_lines, question_demands as demanded, AreTrueAt, AreRowsOf}
+use Rattle.it_canon.specs.QuestionDemands.{space_of, variables_of, problem_names, problem_lines, question_demands as demanded, AreTrueAt, AreRowsOf}
 use Rattle.it_canon.proofs.ProblemLemmas.{question_met}
 use Rattle.it_elemental.specs.Generators.{generators}
 use Rattle.it_check.specs.Meaning.{CertifiesRow, RefutesRow}
@@ -26,11 +26,14 @@ use Rattle.it_prove.proofs.SmallRows.{small-negated_terms}
 use Rattle.it_answer.specs.declared.types.Budgets.{Budgets}
 use Rattle.it_contain.specs.Proposals.{Plan}
 use Rattle.it_contain.proofs.PlanLemmas.{after_none}
-use Rattle.it_answer.specs.Forms.{CertifiesForm, CertifyAll, all_demands, generators_by}
-use Rattle.it_answer.specs.RightAnswers.{IsCounterexample, ViolatesFirst, ShowsTargets, IsRightAnswer, IsRightAnswerBy, IsAnswered}
-use Rattle.it_answer.specs.RightRegions.{IsRightElimination}
+use Rattle.it_answer.specs.Forms.{Certifies, CertifiesForm, CertifyAll, all_demands}
+use Rattle.it_answer.specs.Shows.{IsCounterexample, ShowsBy, ViolatesFirst}
+use Rattle.it_answer.specs.DueEliminations.{IsDueElimination}
+use Rattle.it_answer.specs.DueRelations.{IsDueRelation}
+use Rattle.it_answer.specs.Replies.{Reply}
+use Rattle.it_answer.specs.RightAnswers.{IsDueBy, IsRightAnswer, IsAnswered}
 use Rattle.it_answer.specs.RowAnswers.{CertifyRows, RefutesFirst, ShowsRows, AnswersRows, AnswersForms, answer_after_one, answer_after_two}
-use Rattle.it_answer.proofs.FormLemmas.{generators_speak, by_forms}
+use Rattle.it_answer.proofs.FormLemmas.{generators_speak, by_forms, rows_add_up}
 
 -- ---- one target, or two
 
@@ -77,24 +80,47 @@ row_negation s f t u e h = subst (IsRowOf s (negation f)) (sym e) (record {
   small = small-negated_terms t h.small;
 })
 
--- ---- where nothing was found, the boxes keep their plans
+-- ---- a right answer by the question's verb
+
+pub right_by_verb : (budgets : Budgets) (plans : List Plan) (q : BodyView) (verb : VerbView) (reply : Reply) → q.verb ≡ verb → ShowsBy q verb reply.answer → IsDueBy budgets plans q verb reply → IsRightAnswer budgets plans q reply
+right_by_verb budgets plans q verb reply is x d = record {
+  shows = subst (λ (v : VerbView). ShowsBy q v reply.answer) (sym is) x;
+  due = subst (λ (v : VerbView). IsDueBy budgets plans q v reply) (sym is) d;
+}
+
+-- where nothing was found, the boxes keep their plans
 
 pub nothing_found : (budgets : Budgets) (plans : List Plan) (q : BodyView) (answer : AnswerView) → IsRightAnswer budgets plans q (record { answer = answer; found = [] }) → IsAnswered budgets plans q answer plans
 nothing_found budgets plans q answer x = record { found = []; right = x; learned = sym (after_none plans) }
 
-pub left_of_rows : (budgets : Budgets) (plans : List Plan) (q : BodyView) (rates : List ℕ) (answer : AnswerView) → q.verb ≡ Eliminate rates → IsRightElimination budgets q rates answer
+pub left_of_rows : (budgets : Budgets) (plans : List Plan) (q : BodyView) (rates : List ℕ) (answer : AnswerView) → q.verb ≡ Eliminate rates → ShowsBy q (Eliminate rates) answer → IsDueElimination budgets q rates answer
     → IsAnswered budgets plans q answer plans
-left_of_rows budgets plans q rates answer is x = nothing_found budgets plans q answer (subst (λ m. IsRightAnswerBy budgets plans q m (record { answer = answer; found = [] })) (sym is) (x, refl))
+left_of_rows budgets plans q rates answer is x d = nothing_found budgets plans q answer (right_by_verb budgets plans q (Eliminate rates) (record { answer = answer; found = [] }) is x (d, refl))
 
 -- ---- from rows to the meaning of the text
+
+-- what an answer to `prove` shows of any targets
+abbrev ShowsTargets : BodyView → List Form → AnswerView → Type 0
+ShowsTargets q fs (answer_views.Yes ws) = CertifyAll q fs ws
+ShowsTargets q fs (answer_views.No is_back values) = ViolatesFirst q fs is_back values
+ShowsTargets q fs (answer_views.Undecided cause) = Unit {0}
+ShowsTargets q fs answer = ⊥
+
+shown_targets : (q : BodyView) (r : RelationView) (answer : AnswerView) → ShowsTargets q (targets (variables_of q) r) answer → ShowsBy q (Prove r) answer
+shown_targets q r (answer_views.Yes ws) x = x
+shown_targets q r (answer_views.No is_back values) x = x
+shown_targets q r (answer_views.Undecided cause) x = tt
+shown_targets q r (answer_views.Region rows) x = absurd x
+shown_targets q r (answer_views.Contained parts proofs) x = absurd x
+shown_targets q r (answer_views.Open tried) x = absurd x
 
 module _ (q : BodyView) (p : ProblemView) (e : p.space ≡ space_of (problem_names q)) (st : AreStated p.space (demanded q) p.constraints) (k : IsProblem p) where
   to_question_space : (P : Space → Type 0) → P p.space → P (space_of (problem_names q))
   to_question_space P x = subst P e x
 
-  pub show_certificate : (f : Form) (t : Terms) (w : CertificateView) → ((x : ℕ → ℤ) → x 0 ≡ pos 0 → value t x ≡ f x) → CertifiesRow p t w → CertifiesForm q f w
-  show_certificate f t w same c = to_question_space (λ s. IsCertificate (size_of s + 1) (generators_by (all_demands s.variables (demanded q))) f w)
-      (by_forms (all_demands p.space.variables (demanded q)) (generators p) (generators_speak p.space (demanded q) p.constraints st) (size_of p.space + 1) (value t) f same w c)
+  pub show_certificate : (f : Form) (t : Terms) (w : CertificateView) → IsUpTo (size_of p.space) t → ((x : ℕ → ℤ) → x 0 ≡ pos 0 → value t x ≡ f x) → CertifiesRow p t w → CertifiesForm q f w
+  show_certificate f t w up same c = to_question_space (λ s. Certifies (all_demands s.variables (demanded q)) f w)
+      (by_forms (all_demands p.space.variables (demanded q)) (generators p) (generators_speak p.space (demanded q) p.constraints st) (size_of p.space + 1) (value t) f same w c (rows_add_up p t w k up c))
 
   show_point : (f : Form) (t : Terms) (values : List ℤ) → IsRowOf p.space f t → RefutesRow p t values → IsCounterexample q f values
   show_point f t values r c = record {
@@ -110,7 +136,7 @@ module _ (q : BodyView) (p : ProblemView) (e : p.space ≡ space_of (problem_nam
   show_all [] (t ∷ ts) ws z c = absurd z
   show_all (f ∷ fs) [] ws z c = absurd z
   show_all (f ∷ fs) (t ∷ ts) [] z c = absurd c
-  show_all (f ∷ fs) (t ∷ ts) (w ∷ ws) z c = (show_certificate f t w z.0.same c.0, show_all fs ts ws z.1 c.1)
+  show_all (f ∷ fs) (t ∷ ts) (w ∷ ws) z c = (show_certificate f t w z.0.coordinates z.0.same c.0, show_all fs ts ws z.1 c.1)
 
   show_first : (fs : List Form) (ts : List Terms) (is_back : Bool) (values : List ℤ) → AreRowsOf p.space fs ts → RefutesFirst p ts is_back values → ViolatesFirst q fs is_back values
   show_first [] [] is_back values z c = absurd c
@@ -120,7 +146,7 @@ module _ (q : BodyView) (p : ProblemView) (e : p.space ≡ space_of (problem_nam
   show_first (f ∷ []) (t ∷ []) true values z c = absurd c
   show_first (f ∷ []) (t ∷ u ∷ ts) true values z c = absurd z.1
   show_first (f ∷ g ∷ fs) (t ∷ []) true values z c = absurd z.1
-  show_first (f ∷ g ∷ fs) (t ∷ u ∷ ts) true values z c = ((c.0.0, show_certificate f t c.0.0 z.0.same c.0.1), show_point g u values z.1.0 c.1)
+  show_first (f ∷ g ∷ fs) (t ∷ u ∷ ts) true values z c = ((c.0.0, show_certificate f t c.0.0 z.0.coordinates z.0.same c.0.1), show_point g u values z.1.0 c.1)
 
   show_targets : (fs : List Form) (ts : List Terms) (answer : AnswerView) → AreRowsOf p.space fs ts → ShowsRows p ts answer → ShowsTargets q fs answer
   show_targets fs ts (answer_views.Yes ws) z c = show_all fs ts ws z c
@@ -132,11 +158,11 @@ module _ (q : BodyView) (p : ProblemView) (e : p.space ≡ space_of (problem_nam
 
   pub answers_relation : (budgets : Budgets) (plans : List Plan) (r : RelationView) (answer : AnswerView) → q.verb ≡ Prove r → AnswersForms p (targets p.space.variables r) answer budgets.pivots
       → IsAnswered budgets plans q answer plans
-  answers_relation budgets plans r answer is a = nothing_found budgets plans q answer (subst (λ m. IsRightAnswerBy budgets plans q m (record { answer = answer; found = [] })) (sym is) (
-    record {
-      shows = to_question_space (λ s. ShowsTargets q (targets s.variables r) answer) (show_targets (targets p.space.variables r) a.rows answer a.are a.answered.shows);
-      poses = record { problem = p; is_problem = record { space = e; limits = k; constraints = st }; rows = a.rows; targets_are = subst (λ n. AreRowsOf p.space (targets n r) a.rows) (ap (λ (s : Space). s.variables) e) a.are };
-      due = a.answered.due;
-    },
-    refl,
-  ))
+  answers_relation budgets plans r answer is a =
+      let shown = shown_targets q r answer (to_question_space (λ s. ShowsTargets q (targets s.variables r) answer) (show_targets (targets p.space.variables r) a.rows answer a.are a.answered.shows)) in
+      let due : IsDueRelation budgets.pivots q r answer =
+      record {
+        poses = record { problem = p; is_problem = record { space = e; limits = k; constraints = st }; rows = a.rows; targets_are = subst (λ n. AreRowsOf p.space (targets n r) a.rows) (ap (λ (s : Space). s.variables) e) a.are };
+        due = a.answered.due;
+      } in
+      nothing_found budgets plans q answer (right_by_verb budgets plans q (Prove r) (record { answer = answer; found = [] }) is shown (due, refl))

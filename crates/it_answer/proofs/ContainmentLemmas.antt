@@ -30,10 +30,11 @@ use Rattle.it_contain.specs.Search.{SearchEnds, IsProof, IsProofBy, Proofs, goal
 use Rattle.it_contain.proofs.PlanLemmas.{after_none}
 use Rattle.it_answer.specs.declared.types.Budgets.{Budgets}
 use Rattle.it_answer.specs.Forms.{CertifyAll}
-use Rattle.it_answer.specs.RightContainments.{ShowsContained, tried_of, IsRightContainment}
-use Rattle.it_answer.specs.RightAnswers.{IsAnswered, IsRightAnswerBy}
+use Rattle.it_answer.specs.Shows.{ShowsBy, ShowsContained}
+use Rattle.it_answer.specs.DueContainments.{tried_of, IsDueContainment}
+use Rattle.it_answer.specs.RightAnswers.{IsAnswered, IsRightAnswer}
 use Rattle.it_answer.specs.SearchAnswers.{answer_of_search, found_of}
-use Rattle.it_answer.proofs.AnswerLemmas.{show_certificate}
+use Rattle.it_answer.proofs.AnswerLemmas.{right_by_verb, show_certificate}
 
 module _ (q : BodyView) (a b : RegionView) (tries : List (List ℕ)) (p : Pair) (k : IsQuestion q) (is : q.verb ≡ Contain a b tries) (l : IsPair p) (o : IsPairOf q a b p) where
   first_is : p.first.space ≡ space_of (problem_names q)
@@ -51,7 +52,7 @@ module _ (q : BodyView) (a b : RegionView) (tries : List (List ℕ)) (p : Pair) 
   all_certified budget (f ∷ fs) [] ws r c = absurd r
   all_certified budget (f ∷ fs) (t ∷ ts) [] r c = absurd c
   all_certified budget (f ∷ fs) (t ∷ ts) (w ∷ ws) r c = (
-    show_certificate q (problem_view p.first) first_is o.first l.problem f t w r.0.same (ends_are_right (problem_view p.first) t budget (Yes w) l.problem r.0.coordinates c.0).0,
+    show_certificate q (problem_view p.first) first_is o.first l.problem f t w r.0.coordinates r.0.same (ends_are_right (problem_view p.first) t budget (Yes w) l.problem r.0.coordinates c.0).0,
     all_certified budget fs ts ws r.1 c.1,
   )
 
@@ -90,17 +91,13 @@ module _ (q : BodyView) (a b : RegionView) (tries : List (List ℕ)) (p : Pair) 
 
   module _ (budgets : Budgets) (plans plans_after : List Plan) where
     right_search : (end : SearchEnd) → SearchEnds (goal_of p budgets.pivots) budgets.tries (plan_of (tried_of b tries) plans (shape_of p)) plans end plans_after
-        → IsRightContainment budgets plans q a b tries (record { answer = answer_of_search end; found = found_of end })
+        → ShowsBy q (Contain a b tries) (answer_of_search end) × IsDueContainment budgets plans q a b tries (record { answer = answer_of_search end; found = found_of end })
     right_search (Found c w) e =
-        let proofs = proof_by budgets.pivots c w e.1 in
-        record {
-          shows = proofs_show_containment budgets.pivots c (proof_views w) proofs;
-          pair = p;
-          limits = l;
-          pairs = o;
-          due = record { candidate = c; found_is = refl; first = e.0; parts_are = refl; proofs = proofs };
-        }
-    right_search (Open t) e = record { shows = tt; pair = p; limits = l; pairs = o; due = (e.0, refl) }
+        let proofs = proof_by budgets.pivots c w e.1 in (
+          proofs_show_containment budgets.pivots c (proof_views w) proofs,
+          record { pair = p; pairs = o; due = record { candidate = c; found_is = refl; first = e.0; parts_are = refl; proofs = proofs } },
+        )
+    right_search (Open t) e = (tt, record { pair = p; pairs = o; due = (e.0, refl) })
 
     learned_search : (end : SearchEnd) (plan : List Candidate) → SearchEnds (goal_of p budgets.pivots) budgets.tries plan plans end plans_after → plans_after ≡ map (plan_after_all (found_of end)) plans
     learned_search (Found c w) plan e = e.2
@@ -113,10 +110,11 @@ module _ (q : BodyView) (a b : RegionView) (tries : List (List ℕ)) (p : Pair) 
         subst (λ (n : Option ℕ). SearchEnds (goal_of p n) budgets.tries (plan_of first plans (shape_of p)) plans end plans_after) budget_is e in
         let ends : SearchEnds (goal_of p budgets.pivots) budgets.tries (plan_of (tried_of b tries) plans (shape_of p)) plans end plans_after =
         subst (λ (cs : List Candidate). SearchEnds (goal_of p budgets.pivots) budgets.tries (plan_of cs plans (shape_of p)) plans end plans_after) first_are bounded in
+        let right = right_search end ends in
         record {
           found = found_of end;
-          right = subst (λ (m : VerbView). IsRightAnswerBy budgets plans q m (record { answer = answer; found = found_of end })) (sym is)
-              (subst (λ (x : AnswerView). IsRightContainment budgets plans q a b tries (record { answer = x; found = found_of end })) (sym answer_is) (right_search end ends));
+          right = subst (λ (x : AnswerView). IsRightAnswer budgets plans q (record { answer = x; found = found_of end })) (sym answer_is)
+              (right_by_verb budgets plans q (Contain a b tries) (record { answer = answer_of_search end; found = found_of end }) is right.0 right.1);
           learned = learned_search end (plan_of (tried_of b tries) plans (shape_of p)) ends;
         }
 

@@ -1,20 +1,32 @@
 -- What is shown by rows is shown by the forms that they are rows of.
-use Rattle.std.proofs.Common.{◌≡◌, ℕ, zero, suc, ◌<◌, ℤ, pos, ◌+ℤ◌, ◌*ℤ◌, List, [], ◌∷◌, map, length, get_or, refl, sym, ap, ap₂, ◌∙◌, arith}
+use Rattle.std.proofs.Common.{◌≡◌, ℕ, zero, suc, ◌+◌, ◌<◌, ℤ, pos, ◌+ℤ◌, ◌*ℤ◌, List, [], ◌∷◌, map, length, get_or, Bool, false, All, refl, sym, ap, ap₂, ◌∙◌, arith}
+use Rattle.std.proofs.lemmas.List.Elements.{All-weaker}
 use Rattle.std.specs.List.{AllZip, AllByRecursion as Every}
 use Rattle.it_space.specs.declared.spaces.Space.{Space}
 use Rattle.it_space.specs.declared.problems.Constraint.{Constraint}
-use Rattle.it_space.specs.declared.problems.Kind.TheVariants.{Inequality}
+use Rattle.it_space.specs.declared.problems.Kind.{Kind}
+use Rattle.it_space.specs.declared.problems.Kind.TheVariants.{Inequality, Equation}
 use Rattle.it_space.specs.Answers.{CertificateView}
-use Rattle.it_space.specs.Rows.{value, one_at}
+use Rattle.it_space.specs.Problems.{ProblemView, IsProblem}
+use Rattle.it_space.specs.Rows.{Terms, IsUpTo, value, one_at}
+use Rattle.it_space.specs.Spaces.{size_of}
 use Rattle.it_polymatroid.specs.Certificates.{Form, IsAllowed, IsCertificate, combination}
 use Rattle.it_polymatroid.specs.Elementals.{elementals}
-use Rattle.it_space.proofs.EveryLemmas.{every_of, all_of, every-same}
-use Rattle.it_polymatroid.proofs.Forms.{one_at-zero}
+use Rattle.it_space.proofs.EveryLemmas.{every_of, all_of}
+use Rattle.it_polymatroid.proofs.Certified.{adds_up_everywhere}
+use Rattle.it_polymatroid.proofs.Forms.{one_at-zero, value_linear}
+use Rattle.it_elemental.proofs.GeneratorLemmas.{rows_of_space}
+use Rattle.it_check.specs.Meaning.{CertifiesRow}
 use Rattle.it_elemental.proofs.RowLemmas.{value-row}
 use Rattle.it_canon.specs.Demands.{Demand, LineDemand, States, AreStated}
 use Rattle.it_canon.proofs.ZipLemmas.{zip-append, zip-length}
-use Rattle.it_elemental.specs.Generators.{Generator, of_elemental, of_constraint, generator_list, generator_at, forms_of, is_equation}
-use Rattle.it_answer.specs.Forms.{demand_of_elemental, demand_of_line, all_demands, demand_at, generators_by}
+use Rattle.it_elemental.specs.Generators.{Generator, of_elemental, of_constraint, generator_list, generators, generator_at, forms_of, is_equation}
+use Rattle.it_answer.specs.Forms.{demand_of_elemental, demand_of_line, all_demands, demand_at, Certifies, MayStand}
+
+-- what isn't an equation is an inequality
+pub inequality_unless_equation : (k : Kind) → is_equation k ≡ false → k ≡ Inequality
+inequality_unless_equation Inequality e = refl
+inequality_unless_equation Equation e = absurd (cc)
 
 -- a generator's row has the values of a demand's form
 pub record Speaks (d : Demand) (g : Generator) : Type 0 where
@@ -56,22 +68,29 @@ module _ (ds : List Demand) (gs : List Generator) (z : AllZip Speaks ds gs) wher
   weighted_same p e (w ∷ ws) h = ap₂ (λ x y. w.1 *ℤ x +ℤ y) ((speaks_at w.0 h.0).same p e) (weighted_same p e ws h.1)
 
   module _ (size : ℕ) (f g : Form) (same : (p : ℕ → ℤ) → p 0 ≡ pos 0 → f p ≡ g p) (w : CertificateView) where
-    pub by_forms : IsCertificate size (forms_of gs) f w → IsCertificate size (generators_by ds) g w
-    by_forms c = record {
+    pub by_forms : IsCertificate size (forms_of gs) f w → ((p : ℕ → ℤ) → p 0 ≡ pos 0 → w.scale *ℤ f p ≡ combination w.weights (λ i. (forms_of gs).form i p)) → Certifies ds g w
+    by_forms c everywhere = record {
       scale_from_one = c.scale_from_one;
-      allowed = all_of (IsAllowed (generators_by ds)) w.weights (every-same (IsAllowed (forms_of gs)) (IsAllowed (generators_by ds)) w.weights
-          (λ x a. (omega (arith, a.0, same_count), λ e. a.1 (ap is_equation (speaks_at x.0 a.0).kind ∙ e))) (every_of (IsAllowed (forms_of gs)) w.weights c.allowed));
-      adds_up = λ k h l. ap (λ x. w.scale *ℤ x) (sym (same (one_at k) (one_at-zero k h))) ∙ c.adds_up k h l
-          ∙ weighted_same (one_at k) (one_at-zero k h) w.weights (every-same (IsAllowed (forms_of gs)) (λ (x : ℕ × ℤ). x.0 < length gs) w.weights (λ x a. a.0) (every_of (IsAllowed (forms_of gs)) w.weights c.allowed));
+      allowed = All-weaker (IsAllowed (forms_of gs)) (MayStand ds) (λ x a. (omega (arith, a.0, same_count), λ e. a.1 (ap is_equation ((speaks_at x.0 a.0).kind ∙ e)))) w.weights c.allowed;
+      adds_up = λ p e. ap (λ x. w.scale *ℤ x) (sym (same p e)) ∙ everywhere p e
+          ∙ weighted_same p e w.weights (every_of (λ (x : ℕ × ℤ). x.0 < length gs) w.weights (All-weaker (IsAllowed (forms_of gs)) (λ (x : ℕ × ℤ). x.0 < length gs) (λ x a. a.0) w.weights c.allowed));
     }
 
-    pub by_rows : IsCertificate size (generators_by ds) g w → IsCertificate size (forms_of gs) f w
+    pub by_rows : Certifies ds g w → IsCertificate size (forms_of gs) f w
     by_rows c =
-        let listed_here : (x : ℕ × ℤ) → IsAllowed (generators_by ds) x → x.0 < length gs = λ x a. omega (arith, a.0, same_count) in
+        let listed_here : (x : ℕ × ℤ) → MayStand ds x → x.0 < length gs = λ x a. omega (arith, a.0, same_count) in
         record {
           scale_from_one = c.scale_from_one;
-          allowed = all_of (IsAllowed (forms_of gs)) w.weights (every-same (IsAllowed (generators_by ds)) (IsAllowed (forms_of gs)) w.weights
-              (λ x a. (listed_here x a, λ e. a.1 (sym (ap is_equation (speaks_at x.0 (listed_here x a)).kind) ∙ e))) (every_of (IsAllowed (generators_by ds)) w.weights c.allowed));
-          adds_up = λ k h l. ap (λ x. w.scale *ℤ x) (same (one_at k) (one_at-zero k h)) ∙ c.adds_up k h l
-              ∙ sym (weighted_same (one_at k) (one_at-zero k h) w.weights (every-same (IsAllowed (generators_by ds)) (λ (x : ℕ × ℤ). x.0 < length gs) w.weights listed_here (every_of (IsAllowed (generators_by ds)) w.weights c.allowed)));
+          allowed = All-weaker (MayStand ds) (IsAllowed (forms_of gs)) (λ x a. (listed_here x a, λ e. a.1 (sym (speaks_at x.0 (listed_here x a)).kind ∙ inequality_unless_equation (generator_at gs x.0).kind e))) w.weights c.allowed;
+          adds_up = λ k h l. ap (λ x. w.scale *ℤ x) (same (one_at k) (one_at-zero k h)) ∙ c.adds_up (one_at k) (one_at-zero k h)
+              ∙ sym (weighted_same (one_at k) (one_at-zero k h) w.weights (every_of (λ (x : ℕ × ℤ). x.0 < length gs) w.weights (All-weaker (MayStand ds) (λ (x : ℕ × ℤ). x.0 < length gs) listed_here w.weights c.allowed)));
         }
+
+-- rows that add up at each coordinate of a problem's space add up at every map
+pub rows_add_up : (q : ProblemView) (target : Terms) (w : CertificateView) → IsProblem q → IsUpTo (size_of q.space) target → CertifiesRow q target w
+    → (p : ℕ → ℤ) → p 0 ≡ pos 0 → w.scale *ℤ value target p ≡ combination w.weights (λ i. (forms_of (generators q)).form i p)
+rows_add_up q target w k u c p e =
+    let size = size_of q.space in
+    let gs = generators q in
+    let rows : All (λ g. IsUpTo size g.row) gs = all_of (λ g. IsUpTo size g.row) gs (rows_of_space q.space.variables size q.constraints (omega arith) k.rows) in
+    adds_up_everywhere (size + 1) (forms_of gs) (value target) w (λ i l. value_linear size (generator_at gs i).row (rows i (record { kind = Inequality; row = [] }) l)) (value_linear size target u) c p e

@@ -16,7 +16,7 @@ use Rattle.it_space.specs.Spaces.{size_of}
 use Rattle.it_polymatroid.specs.Polymatroid.{IsPolymatroid}
 use Rattle.it_syntax.specs.Givens.{IsTrueAt}
 use Rattle.it_syntax.specs.Meaning.{RelationView, Holds}
-use Rattle.it_question.specs.Questions.{BodyView, OwnLinesView}
+use Rattle.it_question.specs.Questions.{BodyView, OwnLinesView, VerbView, Eliminate}
 use Rattle.it_canon.specs.Demands.{AreStated}
 use Rattle.it_canon.specs.QuestionDemands.{variables_of, space_of, given_demands, problem_names_by, problem_lines, problem_lines_by, system_forms, AreTrueAt, AreRowsOf, AreAtLeastZero}
 use Rattle.it_canon.proofs.UniqueRows.{one_constraint_list, one_row_list}
@@ -29,8 +29,8 @@ use Rattle.it_redundant.specs.Theorems as theorems
 use Rattle.it_redundant.specs.Theorems.{IsReducedRegion, RegionIsReduced}
 use Rattle.it_redundant.proofs.ProjectionLemmas.{one_reduced_end}
 use Rattle.it_answer.specs.declared.types.Budgets.{Budgets}
-use Rattle.it_answer.specs.RightRegions.{region_rows, marked_rows, LinesExtend, DoesNotFollow, MarkedRowsAreNeeded, IsRightRegion, ShowsRegion, answer_of_end, IsRightElimination}
-use Rattle.it_answer.specs.RightAnswers.{IsRightAnswerBy, ARegionIsTrue, NeededRowsAreNeeded}
+use Rattle.it_answer.specs.Shows.{ARegionIsTrue, DoesNotFollow, ShowsRegion, LinesExtend, MarkedRowsAreNeeded, NeededRowsAreNeeded, ShowsBy, region_rows}
+use Rattle.it_answer.specs.DueEliminations.{marked_rows, answer_of_end, IsDueElimination}
 
 -- ---- the rows of the text and its lines
 
@@ -137,8 +137,8 @@ module _ (q : BodyView) (rates : List ℕ) (givens : ProblemView) (rows : List T
       ap₂ (λ (xs ys : List Terms). xs ++ ys) (sym (rows_again b.kept_before) ∙ ap region_rows (sym b.before_is)) (sym (rows_again b.kept_after) ∙ ap region_rows (sym b.after_is)) in
       row_does_not_follow (kept_rows b.kept_before ++ kept_rows b.kept_after) (region_rows before ++ region_rows after) row b.values others (need b.kept_before b.kept_after (row, Needed b.values) b.is)
 
-  right_region : (kept : List (Terms × NeedView)) → IsReducedRegion givens rates rows kept → IsRightRegion q rates (marked_rows kept)
-  right_region kept x = record {
+  region_shown : (kept : List (Terms × NeedView)) → IsReducedRegion givens rates rows kept → ShowsRegion q rates (marked_rows kept)
+  region_shown kept x = record {
     coordinates = subst (λ (rs : List Terms). All (IsUpTo (size_of (space_of q.names))) rs) (sym (rows_again kept)) (subst (λ (s : Space). All (IsUpTo (size_of s)) (kept_rows kept)) same x.coordinates);
     free = λ r m. subst (λ (rs : List Terms). LacksCoordinate (2 ^ length q.names.variables + r) rs) (sym (rows_again kept)) (subst (λ (s : Space). LacksCoordinate (2 ^ s.variables + r) (kept_rows kept)) same (x.free r m));
     exact = λ p h g. subst (λ (rs : List Terms). IsPointOf rs p ↔ LinesExtend (length q.names.variables) rates q.lines.rows p) (sym (rows_again kept))
@@ -149,43 +149,42 @@ module _ (q : BodyView) (rates : List ℕ) (givens : ProblemView) (rows : List T
     needed = are_needed kept x.needed;
   }
 
-  shows_end : (end : ProjectedView) → RegionIsReduced givens rates rows end → ShowsRegion q rates (answer_of_end end)
-  shows_end (projections.Region kept) x = right_region kept x
+  shows_end : (end : ProjectedView) → RegionIsReduced givens rates rows end → ShowsBy q (Eliminate rates) (answer_of_end end)
+  shows_end (projections.Region kept) x = region_shown kept x
   shows_end (projections.Rows rate) x = tt
   shows_end (projections.Wide rate) x = tt
 
-  pub right_answer : (budgets : Budgets) (end : ProjectedView) (answer : AnswerView) → AreStated givens.space (given_demands givens.space.variables 1 q.lines.givens) givens.constraints
-      → AreRowsOf givens.space (system_forms givens.space.variables q.lines.rows) rows → ReducedEnds givens budgets.pivots budgets.rows rows [] rates end → RegionIsReduced givens rates rows end
-      → answer ≡ answer_of_end end → IsRightElimination budgets q rates answer
-  right_answer budgets end answer stated are ends x is = record {
-    shows = subst (ShowsRegion q rates) (sym is) (shows_end end x);
-    due = record {
-      givens = givens;
-      space = same;
-      constraints = subst (λ (s : Space). AreStated givens.space (given_demands s.variables 1 q.lines.givens) givens.constraints) same stated;
-      rows = rows;
-      are_rows = subst (λ (s : Space). AreRowsOf s (system_forms s.variables q.lines.rows) rows) same are;
-      end = end;
-      ends = ends;
-      is = is;
-    };
+  pub region_shows : (end : ProjectedView) (answer : AnswerView) → RegionIsReduced givens rates rows end → answer ≡ answer_of_end end → ShowsBy q (Eliminate rates) answer
+  region_shows end answer x is = subst (ShowsBy q (Eliminate rates)) (sym is) (shows_end end x)
+
+  pub region_is_due : (budgets : Budgets) (end : ProjectedView) (answer : AnswerView) → AreStated givens.space (given_demands givens.space.variables 1 q.lines.givens) givens.constraints
+      → AreRowsOf givens.space (system_forms givens.space.variables q.lines.rows) rows → ReducedEnds givens budgets.pivots budgets.rows rows [] rates end → answer ≡ answer_of_end end → IsDueElimination budgets q rates answer
+  region_is_due budgets end answer stated are ends is = record {
+    givens = givens;
+    space = same;
+    constraints = subst (λ (s : Space). AreStated givens.space (given_demands s.variables 1 q.lines.givens) givens.constraints) same stated;
+    rows = rows;
+    are_rows = subst (λ (s : Space). AreRowsOf s (system_forms s.variables q.lines.rows) rows) same are;
+    end = end;
+    ends = ends;
+    is = is;
   }
 
 -- ---- there is one right answer
 
-pub one_elimination : (budgets : Budgets) (q : BodyView) (rates : List ℕ) (a b : AnswerView) → IsRightElimination budgets q rates a → IsRightElimination budgets q rates b → a ≡ b
+pub one_elimination : (budgets : Budgets) (q : BodyView) (rates : List ℕ) (a b : AnswerView) → IsDueElimination budgets q rates a → IsDueElimination budgets q rates b → a ≡ b
 one_elimination budgets q rates a b x y =
     let n = length q.names.variables in
     let demands = given_demands n 1 q.lines.givens in
-    let same_space : x.due.givens.space ≡ y.due.givens.space = x.due.space ∙ sym y.due.space in
-    let same_givens : x.due.givens ≡ y.due.givens = ap₂ (λ (s : Space) (cs : List Constraint). record { space = s; constraints = cs }) same_space
-    (one_constraint_list y.due.givens.space demands x.due.givens.constraints y.due.givens.constraints
-    (subst (λ (s : Space). AreStated s demands x.due.givens.constraints) same_space x.due.constraints) y.due.constraints) in
-    let same_rows : x.due.rows ≡ y.due.rows = one_row_list (space_of q.names) (system_forms n q.lines.rows) x.due.rows y.due.rows x.due.are_rows y.due.are_rows in
-    let ends : ReducedEnds y.due.givens budgets.pivots budgets.rows y.due.rows [] rates x.due.end =
-    subst (λ (g : ProblemView). ReducedEnds g budgets.pivots budgets.rows y.due.rows [] rates x.due.end) same_givens
-    (subst (λ (rs : List Terms). ReducedEnds x.due.givens budgets.pivots budgets.rows rs [] rates x.due.end) same_rows x.due.ends) in
-    x.due.is ∙ ap answer_of_end (one_reduced_end y.due.givens budgets.pivots budgets.rows y.due.rows [] rates x.due.end y.due.end ends y.due.ends) ∙ sym y.due.is
+    let same_space : x.givens.space ≡ y.givens.space = x.space ∙ sym y.space in
+    let same_givens : x.givens ≡ y.givens = ap₂ (λ (s : Space) (cs : List Constraint). record { space = s; constraints = cs }) same_space
+    (one_constraint_list y.givens.space demands x.givens.constraints y.givens.constraints
+    (subst (λ (s : Space). AreStated s demands x.givens.constraints) same_space x.constraints) y.constraints) in
+    let same_rows : x.rows ≡ y.rows = one_row_list (space_of q.names) (system_forms n q.lines.rows) x.rows y.rows x.are_rows y.are_rows in
+    let ends : ReducedEnds y.givens budgets.pivots budgets.rows y.rows [] rates x.end =
+    subst (λ (g : ProblemView). ReducedEnds g budgets.pivots budgets.rows y.rows [] rates x.end) same_givens
+    (subst (λ (rs : List Terms). ReducedEnds x.givens budgets.pivots budgets.rows rs [] rates x.end) same_rows x.ends) in
+    x.is ∙ ap answer_of_end (one_reduced_end y.givens budgets.pivots budgets.rows y.rows [] rates x.end y.end ends y.ends) ∙ sym y.is
 
 -- ---- what follows
 
@@ -195,15 +194,15 @@ not_width step (projections.Rows rate) e = cc
 not_width step (projections.Wide rate) e = cc
 
 pub a_region_is_true : ARegionIsTrue
-a_region_is_true budgets plans q rates rows found is right p h lines =
-    let a : IsRightElimination budgets q rates (Region rows) = (subst (λ verb. IsRightAnswerBy budgets plans q verb (record { answer = Region rows; found = found })) is right).0 in
+a_region_is_true q rates rows is x p together =
+    let a : ShowsRegion q rates rows = subst (λ (v : VerbView). ShowsBy q v (Region rows)) is x in
     let n_is : variables_of q ≡ length q.names.variables = ap (λ verb. length (problem_names_by q.names verb).variables) is in
     subst (λ (n : ℕ). IsPointOf (region_rows rows) p ↔ LinesExtend n rates q.lines.rows p) (sym n_is)
-    (a.shows.exact p (subst (λ (n : ℕ). IsPolymatroid n p) n_is h) (subst (λ (n : ℕ). All (IsTrueAt n p) q.lines.givens) n_is (givens_of_lines lines)))
+    (a.exact p (subst (λ (n : ℕ). IsPolymatroid n p) n_is together.0) (subst (λ (n : ℕ). All (IsTrueAt n p) q.lines.givens) n_is (givens_of_lines together.1)))
   where
     givens_of_lines : AreTrueAt (variables_of q) p (problem_lines q) → All (IsTrueAt (variables_of q) p) q.lines.givens
     givens_of_lines l = subst (λ (own : OwnLinesView). All (IsTrueAt (variables_of q) p) own.givens) (ap (problem_lines_by q.lines) is) l.givens
 
 pub needed_rows_are_needed : NeededRowsAreNeeded
-needed_rows_are_needed budgets plans q rates rows found is right =
-    let a : IsRightElimination budgets q rates (Region rows) = (subst (λ verb. IsRightAnswerBy budgets plans q verb (record { answer = Region rows; found = found })) is right).0 in a.shows.needed
+needed_rows_are_needed q rates rows is x =
+    let a : ShowsRegion q rates rows = subst (λ (v : VerbView). ShowsBy q v (Region rows)) is x in a.needed

@@ -18,7 +18,8 @@ use Rattle.it_region.specs.declared.types.Candidate.{Candidate}
 use Rattle.it_contain.specs.Proposals.{Plan}
 use Rattle.it_answer.specs.declared.types.Budgets.{Budgets}
 use Rattle.it_answer.proofs.RegionLemmas.{not_width}
-use Rattle.it_answer.specs.RightAnswers.{CauseIsDue, IsRightAnswerBy, NoStepIsZero}
+use Rattle.it_answer.specs.DueRelations.{CauseIsDue}
+use Rattle.it_answer.specs.RightAnswers.{IsDueBy, NoStepIsZero}
 
 small_constraints : (q : BodyView) (r : RelationView) (b : Poses q r) → All (λ (c : Constraint). IsSmall c.row) b.problem.constraints
 small_constraints q r b = zip-right (λ (d : LineDemand) (c : Constraint). States b.problem.space d.origin d.demand c) (λ (c : Constraint). IsSmall c.row) (λ d c s. s.row.small) (question_demands q) b.problem.constraints b.is_problem.constraints
@@ -30,10 +31,11 @@ not_before_start p budget (f ∷ fs) [] k small a c = absurd a
 not_before_start p budget (f ∷ fs) (t ∷ ts) k small a (inl e) = never_at_start p t budget k (record { constraints = small; own = a.0.small }) e
 not_before_start p budget (f ∷ fs) (t ∷ ts) k small a (inr c) = not_before_start p budget fs ts k small a.1 c.1
 
-by_verb : (budgets : Budgets) (plans : List Plan) (q : BodyView) (aim : VerbView) (found : List Candidate) → IsRightAnswerBy budgets plans q aim (record { answer = answer_views.Undecided (Width 0); found = found }) → ⊥
-by_verb budgets plans q (Prove r) found a = not_before_start a.0.poses.problem budgets.pivots (targets (variables_of q) r) a.0.poses.rows a.0.poses.is_problem.limits (small_constraints q r a.0.poses) a.0.poses.targets_are a.0.due
-by_verb budgets plans q (Eliminate rates) found a = not_width 0 a.0.due.end a.0.due.is
-by_verb budgets plans q (Contain first second tries) found a = a.shows
+by_verb : (budgets : Budgets) (plans : List Plan) (q : BodyView) (verb : VerbView) (found : List Candidate) → IsDueBy budgets plans q verb (record { answer = answer_views.Undecided (Width 0); found = found }) → ⊥
+by_verb budgets plans q (Prove r) found d =
+    let b = d.0.poses in not_before_start b.problem budgets.pivots (targets (variables_of q) r) b.rows b.is_problem.limits (small_constraints q r b) b.targets_are d.0.due
+by_verb budgets plans q (Eliminate rates) found d = not_width 0 d.0.end d.0.is
+by_verb budgets plans q (Contain first second tries) found d = d.due
 
 pub no_step_is_zero : NoStepIsZero
-no_step_is_zero budgets plans q found a = by_verb budgets plans q q.verb found a
+no_step_is_zero budgets plans q found a = by_verb budgets plans q q.verb found a.due

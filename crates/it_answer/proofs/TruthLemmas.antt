@@ -1,83 +1,115 @@
--- What right answers say of the relation that is asked for.
-use Rattle.std.proofs.Common.{◌≡◌, ℕ, ◌+◌, ℤ, pos, neg_ℤ, ◌≤ℤ◌, List, [], ◌∷◌, Bool, true, false, All, refl, sym, subst, arith}
+-- What it means that an answer shows what it says.
+use Rattle.std.proofs.Common.{◌≡◌, ℕ, ℤ, pos, neg_ℤ, ◌≤ℤ◌, List, [], ◌∷◌, map, length, Bool, true, false, All, refl, sym, subst, arith}
+use Rattle.std.specs.List.{AllByRecursion as Every}
 use Rattle.std.proofs.lemmas.Int.{ints}
-use Rattle.std.proofs.lemmas.List.Elements.{All-nil, All-cons, All-head, All-tail}
-use Rattle.it_space.specs.declared.spaces.Space.{Space}
-use Rattle.it_space.specs.Answers.{CertificateView}
-use Rattle.it_space.specs.Answers.AnswerView.{Yes, No, Contained}
-use Rattle.it_space.specs.Problems.{AreMet}
-use Rattle.it_space.specs.Rows.{Terms, value, map_of}
-use Rattle.it_space.specs.Spaces.{size_of}
-use Rattle.it_polymatroid.specs.Certificates.{Form, IsCertificate}
-use Rattle.it_polymatroid.specs.Polymatroid.{IsPolymatroid}
-use Rattle.it_syntax.specs.Meaning.{RelationView, side_at}
-use Rattle.it_question.specs.Questions.{BodyView, Prove}
-use Rattle.it_canon.specs.Canonical.{IsRowOf, form_of}
+use Rattle.std.proofs.lemmas.List.Elements.{All-nil, All-cons, All-head, All-tail, All-append, All-weaker}
+use Rattle.it_number.proofs.SignLemmas.{least_by_multiple}
+use Rattle.it_space.specs.declared.problems.Kind.TheVariants.{Inequality}
+use Rattle.it_space.specs.Answers.{AnswerView, CertificateView}
+use Rattle.it_space.specs.Answers.AnswerView.{Yes, No, Region, Contained}
+use Rattle.it_space.specs.Rows.{map_of}
+use Rattle.it_space.proofs.EveryLemmas.{every_of, every-append, every-map}
+use Rattle.it_polymatroid.specs.Certificates.{Form, Generators, IsAllowed}
+use Rattle.it_polymatroid.specs.Elementals.{elementals, elemental_value}
+use Rattle.it_polymatroid.proofs.Certified.{weighted_least}
+use Rattle.it_polymatroid.proofs.Generate.{elementals_generate}
+use Rattle.it_syntax.specs.Meaning.{Holds, RelationView, side_at}
+use Rattle.it_question.specs.Questions.{BodyView, RegionView, VerbView, Prove, Eliminate, Contain}
+use Rattle.it_canon.specs.Canonical.{form_of}
+use Rattle.it_canon.specs.Demands.{Demand, LineDemand}
 use Rattle.it_canon.specs.Targets.{targets}
-use Rattle.it_canon.specs.QuestionDemands.{space_of, problem_names, problem_lines, question_demands as demanded, variables_of, AreTrueAt, AreRowsOf, Poses}
-use Rattle.it_canon.proofs.MetLemmas.{targets_met}
-use Rattle.it_canon.proofs.ProblemLemmas.{question_met}
-use Rattle.it_elemental.specs.Generators.{generators}
-use Rattle.it_check.specs.Meaning.{CertifiesRow}
-use Rattle.it_check.proofs.Truth.{yes_is_true}
-use Rattle.it_contain.specs.Proposals.{Plan}
-use Rattle.it_answer.specs.declared.types.Budgets.{Budgets}
-use Rattle.it_answer.specs.Forms.{CertifiesForm, CertifyAll, all_demands, generators_by}
-use Rattle.it_answer.specs.Replies.{Reply}
-use Rattle.it_answer.specs.RightAnswers.{ViolatesFirst, IsRightFor, IsRightAnswer, IsRightAnswerBy, AYesIsTrue, ANoIsTrue, AContainmentIsTrue}
-use Rattle.it_answer.proofs.FormLemmas.{generators_speak, by_rows}
+use Rattle.it_canon.specs.QuestionDemands.{problem_lines, question_demands, given_demands, row_demands, variables_of, AreTrueTogether}
+use Rattle.it_canon.proofs.MetLemmas.{IsSatisfied, givens_satisfied, rows_satisfied, targets_met}
+use Rattle.it_elemental.specs.Generators.{is_equation}
+use Rattle.it_elemental.proofs.GeneratorLemmas.{every_or}
+use Rattle.it_check.proofs.Truth.{at_least, is_zero}
+use Rattle.it_answer.specs.Forms.{Certifies, CertifiesForm, CertifyAll, all_demands, demand_at, demand_of_elemental, demand_of_line, MayStand}
+use Rattle.it_answer.proofs.FormLemmas.{inequality_unless_equation}
+use Rattle.it_answer.specs.Shows.{AContainmentIsTrue, ANoIsTrue, AYesIsTrue, NeverYesAndNo, Shows, ShowsBy, ViolatesFirst}
 
-module _ (q : BodyView) (r : RelationView) (b : Poses q r) (m : ℕ → ℤ) (h : IsPolymatroid (variables_of q) m) (lines_true : AreTrueAt (variables_of q) m (problem_lines q)) where
-  back_to : (P : Space → Type 0) → P (space_of (problem_names q)) → P b.problem.space
-  back_to P x = subst P (sym b.is_problem.space) x
+-- ---- a certified form is at least 0
 
-  -- a certified target is at least 0
-  target_at_least_zero : (f : Form) (t : Terms) (w : CertificateView) → IsRowOf b.problem.space f t → CertifiesForm q f w → pos 0 ≤ℤ f m
-  target_at_least_zero f t w row c =
-      let p = b.problem in
-      let by : CertifiesRow p t w = by_rows (all_demands p.space.variables (demanded q)) (generators p) (generators_speak p.space (demanded q) p.constraints b.is_problem.constraints) (size_of p.space + 1) (value t) f row.same w
-      (back_to (λ s. IsCertificate (size_of s + 1) (generators_by (all_demands s.variables (demanded q))) f w) c) in
-      let met : AreMet m p.constraints = (question_met q p.space p.constraints b.is_problem.space b.is_problem.constraints m h.empty).1 (back_to (λ s. AreTrueAt s.variables m (problem_lines q)) lines_true) in
-      subst (λ (x : ℤ). pos 0 ≤ℤ x) (row.same m h.empty) (yes_is_true p t w b.is_problem.limits row.coordinates by m (back_to (λ s. IsPolymatroid s.variables m) h) met)
+-- demands as what certificates are built from
+abbrev generators_by : List Demand → Generators
+generators_by ds = record {
+  count = length ds;
+  form = λ i p. (demand_at ds i).form p;
+  is_equation = λ i. is_equation (demand_at ds i).kind;
+}
 
-  all_valid : (fs : List Form) (ts : List Terms) (ws : List CertificateView) → AreRowsOf b.problem.space fs ts → CertifyAll q fs ws → All (λ f. pos 0 ≤ℤ f m) fs
-  all_valid [] [] [] z c = All-nil (λ (f : Form). pos 0 ≤ℤ f m)
-  all_valid [] [] (w ∷ ws) z c = absurd c
-  all_valid [] (t ∷ ts) ws z c = absurd z
-  all_valid (f ∷ fs) [] ws z c = absurd z
-  all_valid (f ∷ fs) (t ∷ ts) [] z c = absurd c
-  all_valid (f ∷ fs) (t ∷ ts) (w ∷ ws) z c = All-cons (λ (f : Form). pos 0 ≤ℤ f m) f fs (target_at_least_zero f t w z.0 c.0) (all_valid fs ts ws z.1 c.1)
+module _ (q : BodyView) (m : ℕ → ℤ) (together : AreTrueTogether q m) where
+  abbrev ds : List Demand
+  ds = all_demands (variables_of q) (question_demands q)
 
-right_to_prove : (budgets : Budgets) (plans : List Plan) (q : BodyView) (r : RelationView) (reply : Reply) → q.verb ≡ Prove r → IsRightAnswer budgets plans q reply → IsRightAnswerBy budgets plans q (Prove r) reply
-right_to_prove budgets plans q r reply is right = subst (λ aim. IsRightAnswerBy budgets plans q aim reply) is right
+  -- what the lines demand is met
+  lines_satisfied : All (λ d. IsSatisfied m d.demand) (question_demands q)
+  lines_satisfied =
+      let n : ℕ = variables_of q in
+      let own = problem_lines q in
+      All-append (λ (d : LineDemand). IsSatisfied m d.demand) (given_demands n 1 own.givens) (row_demands n 1 own.rows)
+      ((givens_satisfied n 1 own.givens m).1 together.1.givens) ((rows_satisfied n 1 own.rows m).1 together.1.rows)
+
+  all_satisfied : Every (IsSatisfied m) (all_demands (variables_of q) (question_demands q))
+  unfolding all_demands
+  all_satisfied =
+      let n : ℕ = variables_of q in
+      every-append (IsSatisfied m) (map (demand_of_elemental n) (elementals n)) (map demand_of_line (question_demands q))
+      (every-map (IsSatisfied m) (demand_of_elemental n) (elementals n) (every_of (λ e. pos 0 ≤ℤ elemental_value n m e) (elementals n) ((elementals_generate n m together.0.empty).1 together.0)))
+      (every-map (IsSatisfied m) demand_of_line (question_demands q) (every_of (λ (d : LineDemand). IsSatisfied m d.demand) (question_demands q) lines_satisfied))
+
+  satisfied_at : (i : ℕ) → IsSatisfied m (demand_at ds i)
+  satisfied_at i = every_or (IsSatisfied m) ds i (record { kind = Inequality; form = λ p. pos 0 }) all_satisfied (omega (arith, ints))
+
+  form_at_least_zero : (f : Form) (w : CertificateView) → CertifiesForm q f w → pos 0 ≤ℤ f m
+  form_at_least_zero f w c = least_by_multiple w.scale (f m) (omega (arith, ints, c.scale_from_one))
+      (subst (λ (x : ℤ). pos 0 ≤ℤ x) (sym (c.adds_up m together.0.empty))
+      (weighted_least (generators_by ds) (λ i. (demand_at ds i).form m) (λ i l. at_least (demand_at ds i).kind ((demand_at ds i).form m) (satisfied_at i))
+      (λ i l e. is_zero (demand_at ds i).kind ((demand_at ds i).form m) (satisfied_at i) e) w.weights
+      (All-weaker (MayStand ds) (IsAllowed (generators_by ds)) (λ x a. (a.0, λ e. a.1 (inequality_unless_equation (demand_at ds x.0).kind e))) w.weights c.allowed)))
+
+  all_valid : (fs : List Form) (ws : List CertificateView) → CertifyAll q fs ws → All (λ f. pos 0 ≤ℤ f m) fs
+  all_valid [] [] c = All-nil (λ (f : Form). pos 0 ≤ℤ f m)
+  all_valid [] (w ∷ ws) c = absurd c
+  all_valid (f ∷ fs) [] c = absurd c
+  all_valid (f ∷ fs) (w ∷ ws) c = All-cons (λ (f : Form). pos 0 ≤ℤ f m) f fs (form_at_least_zero f w c.0) (all_valid fs ws c.1)
+
+-- ---- what each answer means
+
+shown_by : (q : BodyView) (verb : VerbView) (answer : AnswerView) → q.verb ≡ verb → Shows q answer → ShowsBy q verb answer
+shown_by q verb answer is x = subst (λ (v : VerbView). ShowsBy q v answer) is x
 
 pub a_yes_is_true : AYesIsTrue
-a_yes_is_true budgets plans q r ws found is right m h l =
-    let a : IsRightFor budgets.pivots q r (Yes ws) = (right_to_prove budgets plans q r (record { answer = Yes ws; found = found }) is right).0 in
+a_yes_is_true q r ws is x m together =
     (targets_met r.sign (side_at (variables_of q) m r.left) (side_at (variables_of q) m r.right) (form_of (variables_of q) r) m refl).0
-    (all_valid q r a.poses m h l (targets (variables_of q) r) a.poses.rows ws a.poses.targets_are a.shows)
+    (all_valid q m together (targets (variables_of q) r) ws (shown_by q (Prove r) (Yes ws) is x))
 
 not_at_least_zero : (x : ℤ) → x ≤ℤ neg_ℤ (pos 1) → pos 0 ≤ℤ x → ⊥
 not_at_least_zero x h k = omega (arith, ints)
 
 -- the values are a polymatroid and rates at which the lines are true and some target is below 0
 violates : (q : BodyView) (fs : List Form) (is_back : Bool) (values : List ℤ) → ViolatesFirst q fs is_back values
-    → IsPolymatroid (variables_of q) (map_of values) × AreTrueAt (variables_of q) (map_of values) (problem_lines q) × (All (λ (f : Form). pos 0 ≤ℤ f (map_of values)) fs → ⊥)
+    → AreTrueTogether q (map_of values) × (All (λ (f : Form). pos 0 ≤ℤ f (map_of values)) fs → ⊥)
 violates q [] is_back values c = absurd c
 violates q (f ∷ fs) false values c =
-    (c.polymatroid, c.lines_hold, λ all. not_at_least_zero (f (map_of values)) c.violated (All-head (λ (f : Form). pos 0 ≤ℤ f (map_of values)) f fs all))
+    ((c.polymatroid, c.lines_hold), λ all. not_at_least_zero (f (map_of values)) c.violated (All-head (λ (f : Form). pos 0 ≤ℤ f (map_of values)) f fs all))
 violates q (f ∷ []) true values c = absurd c
 violates q (f ∷ g ∷ fs) true values c =
-    (c.1.polymatroid, c.1.lines_hold, λ all. not_at_least_zero (g (map_of values)) c.1.violated (All-head (λ (f : Form). pos 0 ≤ℤ f (map_of values)) g fs (All-tail (λ (f : Form). pos 0 ≤ℤ f (map_of values)) f (g ∷ fs) all)))
+    ((c.1.polymatroid, c.1.lines_hold), λ all. not_at_least_zero (g (map_of values)) c.1.violated (All-head (λ (f : Form). pos 0 ≤ℤ f (map_of values)) g fs (All-tail (λ (f : Form). pos 0 ≤ℤ f (map_of values)) f (g ∷ fs) all)))
 
 pub a_no_is_true : ANoIsTrue
-a_no_is_true budgets plans q r is_back values found is right =
-    let a : IsRightFor budgets.pivots q r (No is_back values) = (right_to_prove budgets plans q r (record { answer = No is_back values; found = found }) is right).0 in
-    let v = violates q (targets (variables_of q) r) is_back values a.shows in
+a_no_is_true q r is_back values is x =
+    let v = violates q (targets (variables_of q) r) is_back values (shown_by q (Prove r) (No is_back values) is x) in
     let p = map_of values in
-    (v.0, v.1, λ holds. v.2 ((targets_met r.sign (side_at (variables_of q) p r.left) (side_at (variables_of q) p r.right) (form_of (variables_of q) r) p refl).1 holds))
+    (v.0, λ holds. v.1 ((targets_met r.sign (side_at (variables_of q) p r.left) (side_at (variables_of q) p r.right) (form_of (variables_of q) r) p refl).1 holds))
+
+both_by_verb : (q : BodyView) (verb : VerbView) (ws : List CertificateView) (is_back : Bool) (values : List ℤ) → q.verb ≡ verb → Shows q (Yes ws) → Shows q (No is_back values) → ⊥
+both_by_verb q (Prove r) ws is_back values is x y =
+    let refuted = a_no_is_true q r is_back values is y in refuted.1 (a_yes_is_true q r ws is x (map_of values) refuted.0)
+both_by_verb q (Eliminate rates) ws is_back values is x y = shown_by q (Eliminate rates) (Yes ws) is x
+both_by_verb q (Contain a b tries) ws is_back values is x y = shown_by q (Contain a b tries) (Yes ws) is x
+
+pub never_yes_and_no : NeverYesAndNo
+never_yes_and_no q ws is_back values x y = both_by_verb q q.verb ws is_back values refl x y
 
 pub a_containment_is_true : AContainmentIsTrue
-a_containment_is_true budgets plans q a b tries parts ws found is right =
-    let x = subst (λ aim. IsRightAnswerBy budgets plans q aim (record { answer = Contained parts ws; found = found })) is right in
-    (x.shows.lies, x.shows.are_parts)
+a_containment_is_true q a b tries parts ws is x = let s = shown_by q (Contain a b tries) (Contained parts ws) is x in (s.lies, s.are_parts)

@@ -10,6 +10,8 @@ use Rattle.it_syntax.specs.Meaning.{RelationView}
 use Rattle.it_question.specs.Questions.{BodyView, RegionView, VerbView, Prove, Eliminate, Contain}
 use Rattle.it_canon.proofs.ZipLemmas.{zip-right}
 use Rattle.it_canon.proofs.PosesLemmas.{same_problem, same_rows}
+use Rattle.it_redundant.specs.ReducedElimination.{ProjectedView}
+use Rattle.it_redundant.specs.ReducedElimination as projections
 use Rattle.it_prove.specs.ProofViews.{Yes, No, Undecided, EndsWith, AreProofsOf}
 use Rattle.it_prove.proofs.ProofLemmas.{one_outcome, proven_ascends}
 use Rattle.it_region.specs.declared.types.Candidate.{Candidate}
@@ -22,9 +24,10 @@ use Rattle.it_contain.proofs.OneEndLemmas.{one_first, first_not_open, one_open, 
 use Rattle.it_answer.specs.declared.types.Budgets.{Budgets}
 use Rattle.it_answer.proofs.RegionLemmas.{one_elimination}
 use Rattle.it_answer.specs.Replies.{Reply}
-use Rattle.it_answer.specs.RightRegions.{ShowsRegion}
-use Rattle.it_answer.specs.RightContainments.{tried_of, IsFound, IsDueSearch, IsRightContainment}
-use Rattle.it_answer.specs.RightAnswers.{PointIsDue, CauseIsDue, IsDue, IsRightFor, IsRightAnswerBy, OneRightAnswer, ProofsAscend, AYesAscends}
+use Rattle.it_answer.specs.DueEliminations.{answer_of_end}
+use Rattle.it_answer.specs.DueContainments.{tried_of, IsFound, IsDueBySearch, IsDueContainment}
+use Rattle.it_answer.specs.DueRelations.{PointIsDue, CauseIsDue, IsDueByRuns, IsDueRelation}
+use Rattle.it_answer.specs.RightAnswers.{IsDueBy, OneRightAnswer, ProofsAscend, AYesAscends}
 
 -- ---- the answer that is due
 
@@ -93,7 +96,7 @@ module _ (p : ProblemView) (budget : Option ℕ) where
   one_cause (t ∷ ts) c d (inr a) (inl b) = absurd (proven_not_open a.0.0 d (one_outcome p t budget (Yes a.0.0) (Undecided d) a.0.1 b))
   one_cause (t ∷ ts) c d (inr a) (inr b) = one_cause ts c d a.1 b.1
 
-  yes_is : (ts : List Terms) (ws : List CertificateView) (b : AnswerView) → AreProofsOf p budget ts ws → IsDue p budget ts b → answer_views.Yes ws ≡ b
+  yes_is : (ts : List Terms) (ws : List CertificateView) (b : AnswerView) → AreProofsOf p budget ts ws → IsDueByRuns p budget ts b → answer_views.Yes ws ≡ b
   yes_is ts ws (answer_views.Yes vs) x y = ap answer_views.Yes (one_yes ts ws vs x y)
   yes_is ts ws (answer_views.No is_back values) x y = absurd (yes_not_no ts ws is_back values x y)
   yes_is ts ws (answer_views.Undecided cause) x y = absurd (yes_not_undecided ts ws cause x y)
@@ -101,7 +104,7 @@ module _ (p : ProblemView) (budget : Option ℕ) where
   yes_is ts ws (answer_views.Contained parts proofs) x y = absurd y
   yes_is ts ws (answer_views.Open tried) x y = absurd y
 
-  no_is : (ts : List Terms) (is_back : Bool) (values : List ℤ) (b : AnswerView) → PointIsDue p budget ts is_back values → IsDue p budget ts b → answer_views.No is_back values ≡ b
+  no_is : (ts : List Terms) (is_back : Bool) (values : List ℤ) (b : AnswerView) → PointIsDue p budget ts is_back values → IsDueByRuns p budget ts b → answer_views.No is_back values ≡ b
   no_is ts is_back values (answer_views.Yes ws) x y = absurd (yes_not_no ts ws is_back values y x)
   no_is ts is_back values (answer_views.No is_other others) x y = one_no ts is_back is_other values others x y
   no_is ts is_back values (answer_views.Undecided cause) x y = absurd (no_not_undecided ts is_back values cause x y)
@@ -109,7 +112,7 @@ module _ (p : ProblemView) (budget : Option ℕ) where
   no_is ts is_back values (answer_views.Contained parts proofs) x y = absurd y
   no_is ts is_back values (answer_views.Open tried) x y = absurd y
 
-  undecided_is : (ts : List Terms) (cause : Cause) (b : AnswerView) → CauseIsDue p budget ts cause → IsDue p budget ts b → answer_views.Undecided cause ≡ b
+  undecided_is : (ts : List Terms) (cause : Cause) (b : AnswerView) → CauseIsDue p budget ts cause → IsDueByRuns p budget ts b → answer_views.Undecided cause ≡ b
   undecided_is ts cause (answer_views.Yes ws) x y = absurd (yes_not_undecided ts ws cause y x)
   undecided_is ts cause (answer_views.No is_back values) x y = absurd (no_not_undecided ts is_back values cause y x)
   undecided_is ts cause (answer_views.Undecided other) x y = ap answer_views.Undecided (one_cause ts cause other x y)
@@ -117,7 +120,7 @@ module _ (p : ProblemView) (budget : Option ℕ) where
   undecided_is ts cause (answer_views.Contained parts proofs) x y = absurd y
   undecided_is ts cause (answer_views.Open tried) x y = absurd y
 
-  one_due : (ts : List Terms) (a b : AnswerView) → IsDue p budget ts a → IsDue p budget ts b → a ≡ b
+  one_due : (ts : List Terms) (a b : AnswerView) → IsDueByRuns p budget ts a → IsDueByRuns p budget ts b → a ≡ b
   one_due ts (answer_views.Yes ws) b x y = yes_is ts ws b x y
   one_due ts (answer_views.No is_back values) b x y = no_is ts is_back values b x y
   one_due ts (answer_views.Undecided cause) b x y = undecided_is ts cause b x y
@@ -125,9 +128,9 @@ module _ (p : ProblemView) (budget : Option ℕ) where
   one_due ts (answer_views.Contained parts proofs) b x y = absurd x
   one_due ts (answer_views.Open tried) b x y = absurd x
 
-one_for : (budget : Option ℕ) (q : BodyView) (r : RelationView) (a b : AnswerView) → IsRightFor budget q r a → IsRightFor budget q r b → a ≡ b
+one_for : (budget : Option ℕ) (q : BodyView) (r : RelationView) (a b : AnswerView) → IsDueRelation budget q r a → IsDueRelation budget q r b → a ≡ b
 one_for budget q r a b x y = one_due y.poses.problem budget y.poses.rows a b
-    (subst (λ (p : ProblemView). IsDue p budget y.poses.rows a) (same_problem q r x.poses y.poses) (subst (λ (ts : List Terms). IsDue x.poses.problem budget ts a) (same_rows q r x.poses y.poses) x.due)) y.due
+    (subst (λ (p : ProblemView). IsDueByRuns p budget y.poses.rows a) (same_problem q r x.poses y.poses) (subst (λ (ts : List Terms). IsDueByRuns x.poses.problem budget ts a) (same_rows q r x.poses y.poses) x.due)) y.due
 
 -- ---- what a search finds
 
@@ -151,7 +154,7 @@ module _ (budget : Option ℕ) (tries : ℕ) (q : BodyView) (a b : RegionView) (
   open_is_one xs ys t s x y e f = ap₂ (λ n cs. reply_of (answer_views.Open n) cs) (one_open (goal_of r budget) tries plan t s (open_of_other q a b p r o u budget tries plan t x) y) (e ∙ sym f)
 
 module _ (budget : Option ℕ) (tries : ℕ) (q : BodyView) (a b : RegionView) (p r : Pair) (o : IsPairOf q a b p) (u : IsPairOf q a b r) (plan : List Candidate) (xs ys : List Candidate) where
-  found_then : (parts : List ℕ) (ws : List CertificateView) (other : AnswerView) → IsFound (goal_of p budget) tries plan xs parts ws → IsDueSearch (goal_of r budget) tries plan ys other
+  found_then : (parts : List ℕ) (ws : List CertificateView) (other : AnswerView) → IsFound (goal_of p budget) tries plan xs parts ws → IsDueBySearch (goal_of r budget) tries plan ys other
       → reply_of (answer_views.Contained parts ws) xs ≡ reply_of other ys
   found_then parts ws (answer_views.Contained others vs) x y = one_found budget tries q a b p r o u plan xs ys parts others ws vs x y
   found_then parts ws (answer_views.Open t) x y = absurd (found_not_open budget tries q a b p r o u plan xs parts ws t x y.0)
@@ -160,7 +163,7 @@ module _ (budget : Option ℕ) (tries : ℕ) (q : BodyView) (a b : RegionView) (
   found_then parts ws (answer_views.Undecided cause) x y = absurd y
   found_then parts ws (answer_views.Region rows) x y = absurd y
 
-  open_then : (t : ℕ) (other : AnswerView) → IsOpen (goal_of p budget) tries plan t → xs ≡ [] → IsDueSearch (goal_of r budget) tries plan ys other → reply_of (answer_views.Open t) xs ≡ reply_of other ys
+  open_then : (t : ℕ) (other : AnswerView) → IsOpen (goal_of p budget) tries plan t → xs ≡ [] → IsDueBySearch (goal_of r budget) tries plan ys other → reply_of (answer_views.Open t) xs ≡ reply_of other ys
   open_then t (answer_views.Contained others vs) x e y = absurd (found_not_open budget tries q a b r p u o plan ys others vs t y x)
   open_then t (answer_views.Open s) x e y = open_is_one budget tries q a b p r o u plan xs ys t s x y.0 e y.1
   open_then t (answer_views.Yes vs) x e y = absurd y
@@ -168,7 +171,7 @@ module _ (budget : Option ℕ) (tries : ℕ) (q : BodyView) (a b : RegionView) (
   open_then t (answer_views.Undecided cause) x e y = absurd y
   open_then t (answer_views.Region rows) x e y = absurd y
 
-  one_search : (one other : AnswerView) → IsDueSearch (goal_of p budget) tries plan xs one → IsDueSearch (goal_of r budget) tries plan ys other → reply_of one xs ≡ reply_of other ys
+  one_search : (one other : AnswerView) → IsDueBySearch (goal_of p budget) tries plan xs one → IsDueBySearch (goal_of r budget) tries plan ys other → reply_of one xs ≡ reply_of other ys
   one_search (answer_views.Contained parts ws) other x y = found_then parts ws other x y
   one_search (answer_views.Open t) other x y = open_then t other x.0 x.1 y
   one_search (answer_views.Yes ws) other x y = absurd x
@@ -177,24 +180,24 @@ module _ (budget : Option ℕ) (tries : ℕ) (q : BodyView) (a b : RegionView) (
   one_search (answer_views.Region rows) other x y = absurd x
 
 one_containment : (budgets : Budgets) (plans : List Plan) (q : BodyView) (a b : RegionView) (tries : List (List ℕ)) (one other : Reply)
-    → IsRightContainment budgets plans q a b tries one → IsRightContainment budgets plans q a b tries other → one ≡ other
+    → IsDueContainment budgets plans q a b tries one → IsDueContainment budgets plans q a b tries other → one ≡ other
 one_containment budgets plans q a b tries one other x y =
     let plan = plan_of (tried_of b tries) plans (shape_of y.pair) in
     one_search budgets.pivots budgets.tries q a b x.pair y.pair x.pairs y.pairs plan one.found other.found one.answer other.answer
-    (subst (λ s. IsDueSearch (goal_of x.pair budgets.pivots) budgets.tries (plan_of (tried_of b tries) plans s) one.found one.answer) (same_shape q a b x.pair y.pair x.pairs y.pairs) x.due) y.due
+    (subst (λ s. IsDueBySearch (goal_of x.pair budgets.pivots) budgets.tries (plan_of (tried_of b tries) plans s) one.found one.answer) (same_shape q a b x.pair y.pair x.pairs y.pairs) x.due) y.due
 
 -- ---- each verb
 
 without_found : (one other : AnswerView) (xs ys : List Candidate) → one ≡ other → xs ≡ [] → ys ≡ [] → reply_of one xs ≡ reply_of other ys
 without_found one other xs ys same e f = ap₂ reply_of same (e ∙ sym f)
 
-one_by : (budgets : Budgets) (plans : List Plan) (q : BodyView) (aim : VerbView) (a b : Reply) → IsRightAnswerBy budgets plans q aim a → IsRightAnswerBy budgets plans q aim b → a ≡ b
+one_by : (budgets : Budgets) (plans : List Plan) (q : BodyView) (verb : VerbView) (a b : Reply) → IsDueBy budgets plans q verb a → IsDueBy budgets plans q verb b → a ≡ b
 one_by budgets plans q (Prove r) a b x y = without_found a.answer b.answer a.found b.found (one_for budgets.pivots q r a.answer b.answer x.0 y.0) x.1 y.1
 one_by budgets plans q (Eliminate rates) a b x y = without_found a.answer b.answer a.found b.found (one_elimination budgets q rates a.answer b.answer x.0 y.0) x.1 y.1
 one_by budgets plans q (Contain first second tries) a b x y = one_containment budgets plans q first second tries a b x y
 
 pub one_right_answer : OneRightAnswer
-one_right_answer budgets plans q a b x y = one_by budgets plans q q.verb a b x y
+one_right_answer budgets plans q a b x y = one_by budgets plans q q.verb a b x.due y.due
 
 -- ---- the certificates of an answer
 
@@ -204,7 +207,7 @@ each_ascends p budget [] (w ∷ ws) a = absurd a
 each_ascends p budget (t ∷ ts) [] a = absurd a
 each_ascends p budget (t ∷ ts) (w ∷ ws) a = All-cons (λ (w : CertificateView). IsCanonical w.weights) w ws (proven_ascends p t budget w a.0) (each_ascends p budget ts ws a.1)
 
-targets_ascend : (p : ProblemView) (budget : Option ℕ) (ts : List Terms) (answer : AnswerView) → IsDue p budget ts answer → ProofsAscend answer
+targets_ascend : (p : ProblemView) (budget : Option ℕ) (ts : List Terms) (answer : AnswerView) → IsDueByRuns p budget ts answer → ProofsAscend answer
 targets_ascend p budget ts (answer_views.Yes ws) x = each_ascends p budget ts ws x
 targets_ascend p budget ts (answer_views.No is_back values) x = tt
 targets_ascend p budget ts (answer_views.Undecided cause) x = tt
@@ -212,15 +215,12 @@ targets_ascend p budget ts (answer_views.Region rows) x = absurd x
 targets_ascend p budget ts (answer_views.Contained parts proofs) x = absurd x
 targets_ascend p budget ts (answer_views.Open tried) x = absurd x
 
-region_ascends : (q : BodyView) (rates : List ℕ) (answer : AnswerView) → ShowsRegion q rates answer → ProofsAscend answer
-region_ascends q rates (answer_views.Yes ws) x = absurd x
-region_ascends q rates (answer_views.No is_back values) x = absurd x
-region_ascends q rates (answer_views.Undecided cause) x = tt
-region_ascends q rates (answer_views.Region rows) x = tt
-region_ascends q rates (answer_views.Contained parts proofs) x = absurd x
-region_ascends q rates (answer_views.Open tried) x = absurd x
+region_ascends : (answer : AnswerView) (end : ProjectedView) → answer ≡ answer_of_end end → ProofsAscend answer
+region_ascends answer (projections.Region kept) is = subst ProofsAscend (sym is) tt
+region_ascends answer (projections.Rows rate) is = subst ProofsAscend (sym is) tt
+region_ascends answer (projections.Wide rate) is = subst ProofsAscend (sym is) tt
 
-search_ascends : (goal : Goal) (tries : ℕ) (plan found : List Candidate) (answer : AnswerView) → IsDueSearch goal tries plan found answer → ProofsAscend answer
+search_ascends : (goal : Goal) (tries : ℕ) (plan found : List Candidate) (answer : AnswerView) → IsDueBySearch goal tries plan found answer → ProofsAscend answer
 search_ascends goal tries plan found (answer_views.Yes ws) x = absurd x
 search_ascends goal tries plan found (answer_views.No is_back values) x = absurd x
 search_ascends goal tries plan found (answer_views.Undecided cause) x = absurd x
@@ -230,10 +230,10 @@ search_ascends goal tries plan found (answer_views.Contained parts ws) x =
     (λ t w p. proven_ascends (problem_view goal.pair.first) t goal.budget w p) x.proofs.rows ws x.proofs.proofs
 search_ascends goal tries plan found (answer_views.Open tried) x = tt
 
-ascends_by : (budgets : Budgets) (plans : List Plan) (q : BodyView) (aim : VerbView) (reply : Reply) → IsRightAnswerBy budgets plans q aim reply → ProofsAscend reply.answer
-ascends_by budgets plans q (Prove r) reply x = targets_ascend x.0.poses.problem budgets.pivots x.0.poses.rows reply.answer x.0.due
-ascends_by budgets plans q (Eliminate rates) reply x = region_ascends q rates reply.answer x.0.shows
-ascends_by budgets plans q (Contain a b tries) reply x = search_ascends (goal_of x.pair budgets.pivots) budgets.tries (plan_of (tried_of b tries) plans (shape_of x.pair)) reply.found reply.answer x.due
+ascends_by : (budgets : Budgets) (plans : List Plan) (q : BodyView) (verb : VerbView) (reply : Reply) → IsDueBy budgets plans q verb reply → ProofsAscend reply.answer
+ascends_by budgets plans q (Prove r) reply d = targets_ascend d.0.poses.problem budgets.pivots d.0.poses.rows reply.answer d.0.due
+ascends_by budgets plans q (Eliminate rates) reply d = region_ascends reply.answer d.0.end d.0.is
+ascends_by budgets plans q (Contain a b tries) reply d = search_ascends (goal_of d.pair budgets.pivots) budgets.tries (plan_of (tried_of b tries) plans (shape_of d.pair)) reply.found reply.answer d.due
 
 pub a_yes_ascends : AYesAscends
-a_yes_ascends budgets plans q reply x = ascends_by budgets plans q q.verb reply x
+a_yes_ascends budgets plans q reply x = ascends_by budgets plans q q.verb reply x.due

@@ -1,8 +1,10 @@
 pub mod Forms
+pub mod Shows
 pub mod AnswerForms
 pub mod Replies
-pub mod RightRegions
-pub mod RightContainments
+pub mod DueRelations
+pub mod DueEliminations
+pub mod DueContainments
 pub mod RightAnswers
 pub mod RowAnswers
 pub mod SearchAnswers

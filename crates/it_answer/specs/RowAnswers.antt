@@ -10,7 +10,7 @@ use Rattle.it_canon.specs.QuestionDemands.{AreRowsOf}
 use Rattle.it_check.specs.Meaning.{CertifiesRow, RefutesRow}
 use Rattle.it_prove.specs.ProofViews.{ProofView}
 use Rattle.it_prove.specs.ProofViews as proof_views
-use Rattle.it_answer.specs.RightAnswers.{IsDue}
+use Rattle.it_answer.specs.DueRelations.{IsDueByRuns}
 
 -- one certificate of each row, in order
 abbrev pub CertifyRows : ProblemView → List Terms → List CertificateView → Type 0
@@ -35,7 +35,7 @@ ShowsRows p ts (Open tried) = ⊥
 -- the answer shows what it says of the rows, and the run says that it is due
 pub record AnswersRows (p : ProblemView) (budget : Option ℕ) (ts : List Terms) (answer : AnswerView) : Type 0 where
   pub shows : ShowsRows p ts answer
-  pub due : IsDue p budget ts answer
+  pub due : IsDueByRuns p budget ts answer
 
 -- the same for targets with these forms
 pub record AnswersForms (p : ProblemView) (fs : List Form) (answer : AnswerView) (budget : Option ℕ) : Type 0 where

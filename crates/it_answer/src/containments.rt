@@ -4,7 +4,7 @@ ghost use Rattle.it_space.specs.Answers.{answer_view};
 ghost use Rattle.it_question.specs.Limits.{IsQuestion};
 ghost use Rattle.it_question.specs.Questions.{Contain, question_body, region_view};
 ghost use Rattle.it_answer.specs.RightAnswers.{IsAnswered};
-ghost use Rattle.it_answer.specs.RightContainments.{tried_of};
+ghost use Rattle.it_answer.specs.DueContainments.{tried_of};
 ghost use Rattle.it_answer.specs.SearchAnswers.{answer_of_search};
 
 use crate::types::{Budgets, budget_of};

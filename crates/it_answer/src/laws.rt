@@ -1,14 +1,15 @@
 //! What right answers say, each theorem as the contract of a function.
-ghost use Rattle.it_answer.specs.RightAnswers.{AContainmentIsTrue, ANoIsTrue, ARegionIsTrue, AYesAscends, AYesIsTrue, NeededRowsAreNeeded, NoStepIsZero, OneRightAnswer};
+ghost use Rattle.it_answer.specs.RightAnswers.{AYesAscends, NoStepIsZero, OneRightAnswer};
+ghost use Rattle.it_answer.specs.Shows.{AContainmentIsTrue, ANoIsTrue, ARegionIsTrue, AYesIsTrue, NeededRowsAreNeeded, NeverYesAndNo};
 
-/// Where a yes is right the relation holds wherever the question's lines are true, where a no is right its values are a
-/// polymatroid and rates at which the lines are true and the relation isn't. Where a region is right, its rows hold exactly at the
-/// points that extend to the eliminated rates, and none that is marked as needed follows from the others. Where a containment is
-/// right, the first region lies in the second.
-#[tactic(auto, using(crate::proofs::TruthLemmas::a_yes_is_true, crate::proofs::TruthLemmas::a_no_is_true))]
+/// Where a yes is shown the relation holds wherever the question's lines are true, where a no is shown its values are a
+/// polymatroid and rates at which the lines are true and the relation isn't; so no question has both. Where a region is shown, its
+/// rows hold exactly at the points that extend to the eliminated rates, and none that is marked as needed follows from the others.
+/// Where a containment is shown, the first region lies in the second.
 pub fn verdicts_are_true()
     ensures yes { AYesIsTrue }
     ensures no { ANoIsTrue }
+    ensures one { NeverYesAndNo }
     ensures region { ARegionIsTrue }
     ensures needed { NeededRowsAreNeeded }
     ensures containment { AContainmentIsTrue }

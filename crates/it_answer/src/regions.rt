@@ -1,5 +1,5 @@
 //! The answer to a question that eliminates rates.
-ghost use Rattle.std.specs.Prelude.{◌≡◌, map, IfOk};
+ghost use Rattle.std.specs.Prelude.{◌≡◌, List, map, IfOk};
 ghost use Rattle.it_space.specs.Answers.{answer_view};
 ghost use Rattle.it_space.specs.Problems.{problem_view};
 ghost use Rattle.it_question.specs.Limits.{IsQuestion};
@@ -7,7 +7,9 @@ ghost use Rattle.it_question.specs.Questions.{Eliminate, question_body};
 ghost use Rattle.it_canon.specs.QuestionDemands.{IsProblemOf};
 ghost use Rattle.it_redundant.specs.ReducedElimination.{projected_view};
 ghost use Rattle.it_redundant.specs.Reduction.{need_view};
-ghost use Rattle.it_answer.specs.RightRegions.{IsRightElimination, answer_of_end, mark_of_need, marked_rows};
+ghost use Rattle.it_contain.specs.Proposals.{Plan};
+ghost use Rattle.it_answer.specs.DueEliminations.{answer_of_end, mark_of_need, marked_rows};
+ghost use Rattle.it_answer.specs.RightAnswers.{IsAnswered};
 
 use crate::types::{Budgets, budget_of};
 use it_canon::system;
@@ -18,7 +20,7 @@ use std::alloc::{AllocError, Global};
 
 /// The region that is left of the question's `row` lines without the rates. These are eliminated in the order of their list, and
 /// after each the rows go that the givens and the other rows give. Or why there is none: a rate leaves more rows than the budget
-/// has, or a row of it passes the limit.
+/// has, or a row of it passes the limit. It finds nothing that boxes learn of.
 pub fn region(
     alloc: Global,
     question: &Question,
@@ -29,7 +31,7 @@ pub fn region(
     requires question { IsQuestion (question_body question.now) }
     requires eliminates { (question_body question.now).verb ≡ Eliminate rates.now }
     requires givens { IsProblemOf (question_body question.now) (problem_view givens.now) }
-    ensures { IfOk result (λ a. IsRightElimination budgets (question_body question.now) rates.now (answer_view a)) }
+    ensures { IfOk result (λ a. (plans : List Plan) → IsAnswered budgets plans (question_body question.now) (answer_view a) plans) }
 {
     let system = system(alloc, question)?;
     let rows = budgets.rows as usize;

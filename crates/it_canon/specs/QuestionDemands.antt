@@ -6,10 +6,11 @@ use Rattle.it_space.specs.declared.problems.Origin.TheVariants.{Rate}
 use Rattle.it_space.specs.Problems.{ProblemView, IsProblem}
 use Rattle.it_space.specs.Rows.{Terms, value}
 use Rattle.it_polymatroid.specs.Certificates.{Form}
+use Rattle.it_polymatroid.specs.Polymatroid.{IsPolymatroid}
 use Rattle.it_syntax.specs.NamesViews.{NamesView}
 use Rattle.it_syntax.specs.Meaning.{RelationView, Holds}
 use Rattle.it_syntax.specs.Givens.{GivenView, IsTrueAt}
-use Rattle.it_question.specs.Questions.{OwnLinesView, VerbView, Prove, Eliminate, Contain, BodyView}
+use Rattle.it_question.specs.Questions.{OwnLinesView, RegionView, VerbView, Prove, Eliminate, Contain, BodyView}
 use Rattle.it_canon.specs.Canonical.{IsRowOf}
 use Rattle.it_canon.specs.Targets.{targets}
 use Rattle.it_canon.specs.Demands.{LineDemand, AreStated, demands, demand_of, parts_of}
@@ -46,11 +47,15 @@ problem_names q = problem_names_by q.names q.verb
 abbrev pub variables_of : BodyView → ℕ
 variables_of q = length (problem_names q).variables
 
--- the lines of a question's problem: its own, its givens alone, or its own with those of its first region after them
+-- a question's own lines, and after them a region's
+abbrev pub lines_with : OwnLinesView → RegionView → OwnLinesView
+lines_with own r = record { givens = own.givens ++ r.lines.givens; rows = own.rows ++ r.lines.rows }
+
+-- the lines of a question's problem: its own, its givens alone, or its own with those of its first region
 abbrev pub problem_lines_by : OwnLinesView → VerbView → OwnLinesView
 problem_lines_by own (Prove r) = own
 problem_lines_by own (Eliminate rates) = record { givens = own.givens; rows = [] }
-problem_lines_by own (Contain first second tries) = record { givens = own.givens ++ first.lines.givens; rows = own.rows ++ first.lines.rows }
+problem_lines_by own (Contain first second tries) = lines_with own first
 
 -- the lines of the problem that a question poses
 abbrev pub problem_lines : BodyView → OwnLinesView
@@ -64,6 +69,10 @@ question_demands q = line_demands (variables_of q) (problem_lines q)
 pub record AreTrueAt (n : ℕ) (p : ℕ → ℤ) (own : OwnLinesView) : Type 0 where
   pub givens : All (IsTrueAt n p) own.givens
   pub rows : All (Holds n p) own.rows
+
+-- a polymatroid and rates that make the lines of a question's problem true
+abbrev pub AreTrueTogether : BodyView → (ℕ → ℤ) → Type 0
+AreTrueTogether q p = IsPolymatroid (variables_of q) p × AreTrueAt (variables_of q) p (problem_lines q)
 
 -- the targets of a question's `row` lines
 abbrev pub system_forms : ℕ → List RelationView → List Form

@@ -16,8 +16,8 @@ use Rattle.it_space.specs.declared.answers.Mark.{Mark}
 use Rattle.it_space.specs.declared.answers.Cause.{Cause}
 use Rattle.it_space.specs.declared.answers.Cause.TheVariants.{Pivots, Width, Scale, Rows, WideRate}
 use Rattle.it_space.proofs.BoolLemmas.{both_true}
+use Rattle.it_syntax.specs.Meaning.{RelationView}
 use Rattle.it_syntax.specs.NamesViews.{NamesView, index_of}
-use Rattle.it_syntax.specs.declared.types.Sign.{Sign}
 use Rattle.it_question.specs.Questions.{QuestionView, RegionView, VerbView, Prove, Eliminate, Contain}
 use Rattle.it_canon.specs.QuestionDemands.{space_of}
 use Rattle.it_certificate.specs.declared.keys.Key.{Key}
@@ -32,8 +32,8 @@ use Rattle.it_certificate.specs.Kinds.{back_of}
 use Rattle.it_certificate.specs.Parts.{text_of, items_of_array, integer_at, count_at, pair_of, two_of, pair_at, all_of, list_at, of_length, certificate_at, proofs_at, point_at, back_at, cause_kind_at, cause_of, cause_at, step_or_rate, is_row_between, is_term_between, row_of, mark_at, terms_at, marked_row_at, rows_at, set_of_number, set_at, parts_at, tried_at}
 use Rattle.it_certificate.specs.AnswerReading.{and_then, is_equality, yes_at, no_at, undecided_at, region_at, contained_at, open_at}
 use Rattle.it_certificate.specs.Obligations.{obligation_count, target_count}
-use Rattle.it_certificate.specs.Reports.{prove_answer, eliminate_answer, contain_answer, verb_answer, question_answer}
-use Rattle.it_certificate.specs.AnswerShapes.{IsNumberedAmount, IsNumbered, IsRowIn, IsFoundIn, IsCauseFor, HasProveShape, HasEliminateShape, HasContainShape, HasVerbShape, HasQuestionShape}
+use Rattle.it_certificate.specs.Reports.{verb_answer, question_answer}
+use Rattle.it_certificate.specs.AnswerShapes.{IsNumberedAmount, IsNumbered, IsRowIn, IsFoundIn, IsCauseFor, HasVerbShape, HasQuestionShape}
 use Rattle.it_certificate.proofs.WithinLemmas.{and_then_some, map_some, cond_some, pair_some, all_of_holds, integer_at_within, point_within, point_length}
 use Rattle.it_certificate.proofs.RowLemmas.{row_is_canonical}
 
@@ -97,11 +97,11 @@ proofs_fit n d ps is = counted_numbers IsNumbered certificate_at certificate_num
 
 -- ---- yes, no
 
-yes_fits : (v : NamesView) (sign : Sign) (d : Data) (a : AnswerView) → yes_at sign d ≡ Ok a → HasProveShape v sign a
+yes_fits : (v : NamesView) (r : RelationView) (d : Data) (a : AnswerView) → yes_at r.sign d ≡ Ok a → HasVerbShape v (Prove r) a
 unfolding yes_at
-yes_fits v sign d a is =
-    let h = then_ok (ok_or (proofs_at (target_count sign) d) keys.Proofs) (λ ps. Ok (Yes ps)) a is in
-    subst (HasProveShape v sign) (ok_same (Yes h.0) a h.1.1) (proofs_fit (target_count sign) d h.0 (key_ok keys.Proofs (proofs_at (target_count sign) d) h.0 h.1.0))
+yes_fits v r d a is =
+    let h = then_ok (ok_or (proofs_at (target_count r.sign) d) keys.Proofs) (λ ps. Ok (Yes ps)) a is in
+    subst (HasVerbShape v (Prove r)) (ok_same (Yes h.0) a h.1.1) (proofs_fit (target_count r.sign) d h.0 (key_ok keys.Proofs (proofs_at (target_count r.sign) d) h.0 h.1.0))
 
 back_only : (equality back : Bool) (text : List ℕ) → back_of equality text ≡ Some back → back ≡ true → equality ≡ true
 back_only true back text is at = refl
@@ -116,15 +116,15 @@ back_fits : (equality back : Bool) (d : Data) → back_at equality d ≡ Some ba
 unfolding back_at
 back_fits equality back d is at = let h = and_then_some (text_of (get (codes "side") d)) (back_of equality) back is in back_only equality back h.0 h.1.1 at
 
-no_fits : (v : NamesView) (sign : Sign) (d : Data) (a : AnswerView) → no_at (size_of (space_of v)) sign d ≡ Ok a → HasProveShape v sign a
+no_fits : (v : NamesView) (r : RelationView) (d : Data) (a : AnswerView) → no_at (size_of (space_of v)) r.sign d ≡ Ok a → HasVerbShape v (Prove r) a
 unfolding no_at
-no_fits v sign d a is =
+no_fits v r d a is =
     let size = size_of (space_of v) in
-    let h = then_ok (ok_or (point_at (size_of (space_of v)) d) keys.Point) (λ values. and_then (ok_or (back_at (is_equality sign) d) keys.Side) (λ back. Ok (No back values))) a is in
-    let k = then_ok (ok_or (back_at (is_equality sign) d) keys.Side) (λ back. Ok (No back h.0)) a h.1.1 in
+    let h = then_ok (ok_or (point_at (size_of (space_of v)) d) keys.Point) (λ values. and_then (ok_or (back_at (is_equality r.sign) d) keys.Side) (λ back. Ok (No back values))) a is in
+    let k = then_ok (ok_or (back_at (is_equality r.sign) d) keys.Side) (λ back. Ok (No back h.0)) a h.1.1 in
     let p = key_ok keys.Point (point_at (size_of (space_of v)) d) h.0 h.1.0 in
-    let b = key_ok keys.Side (back_at (is_equality sign) d) k.0 k.1.0 in
-    subst (HasProveShape v sign) (ok_same (No k.0 h.0) a k.1.1) (point_length (size_of (space_of v)) d h.0 p, point_within (size_of (space_of v)) d h.0 p, back_fits (is_equality sign) k.0 d b)
+    let b = key_ok keys.Side (back_at (is_equality r.sign) d) k.0 k.1.0 in
+    subst (HasVerbShape v (Prove r)) (ok_same (No k.0 h.0) a k.1.1) (point_length (size_of (space_of v)) d h.0 p, point_within (size_of (space_of v)) d h.0 p, back_fits (is_equality r.sign) k.0 d b)
 
 -- ---- undecided
 
@@ -201,11 +201,11 @@ row_fits size d r is =
     let row : is_row_between 1 size r.1 ≡ true = subst (λ ts. is_row_between 1 size ts ≡ true) e m.0 in
     record { terms = terms; canonical = row_is_canonical size r.1 row (all_second r.1 terms); coordinates = up_to 1 size r.1 (omega arith) row }
 
-region_fits : (v : NamesView) (d : Data) (a : AnswerView) → region_at (size_of (space_of v)) d ≡ Ok a → HasEliminateShape v a
+region_fits : (v : NamesView) (rates : List ℕ) (d : Data) (a : AnswerView) → region_at (size_of (space_of v)) d ≡ Ok a → HasVerbShape v (Eliminate rates) a
 unfolding region_at rows_at
-region_fits v d a is =
+region_fits v rates d a is =
     let h = then_ok (ok_or (list_at (marked_row_at (size_of (space_of v))) (get (codes "rows") d)) keys.Rows) (λ rows. Ok (Region rows)) a is in
-    subst (HasEliminateShape v) (ok_same (Region h.0) a h.1.1)
+    subst (HasVerbShape v (Eliminate rates)) (ok_same (Region h.0) a h.1.1)
     (list_numbers (IsRowIn (size_of (space_of v))) (marked_row_at (size_of (space_of v))) (row_fits (size_of (space_of v))) (get (codes "rows") d) h.0 (key_ok keys.Rows (list_at (marked_row_at (size_of (space_of v))) (get (codes "rows") d)) h.0 h.1.0))
 
 -- ---- containments
@@ -226,56 +226,53 @@ parts_fit : (count n : ℕ) (d : Data) (ss : List ℕ) → parts_at count n d �
 unfolding parts_at
 parts_fit count n d ss is = counted_numbers (IsSetIn n) (set_at n) (set_fits n) count (get (codes "parts") d) ss is
 
-contained_fits : (first second : RegionView) (d : Data) (a : AnswerView) → contained_at second.auxiliaries (length first.names.variables) (obligation_count second) d ≡ Ok a → HasContainShape first second a
+contained_fits : (v : NamesView) (first second : RegionView) (tries : List (List ℕ)) (d : Data) (a : AnswerView) → contained_at second.auxiliaries (length first.names.variables) (obligation_count second) d ≡ Ok a → HasVerbShape v (Contain first second tries) a
 unfolding contained_at
-contained_fits first second d a is =
+contained_fits v first second tries d a is =
     let h = then_ok (ok_or (parts_at second.auxiliaries (length first.names.variables) d) keys.Parts) (λ parts. and_then (ok_or (proofs_at (obligation_count second) d) keys.Proofs) (λ proofs. Ok (Contained parts proofs))) a is in
     let k = then_ok (ok_or (proofs_at (obligation_count second) d) keys.Proofs) (λ proofs. Ok (Contained h.0 proofs)) a h.1.1 in
     let p = parts_fit second.auxiliaries (length first.names.variables) d h.0 (key_ok keys.Parts (parts_at second.auxiliaries (length first.names.variables) d) h.0 h.1.0) in
     let w = proofs_fit (obligation_count second) d k.0 (key_ok keys.Proofs (proofs_at (obligation_count second) d) k.0 k.1.0) in
-    subst (HasContainShape first second) (ok_same (Contained h.0 k.0) a k.1.1) (record { each = p.0; sets = p.1; obligations = w.0; numbers = w.1 })
+    subst (HasVerbShape v (Contain first second tries)) (ok_same (Contained h.0 k.0) a k.1.1) (record { each = p.0; sets = p.1; obligations = w.0; numbers = w.1 })
 
-open_fits : (first second : RegionView) (d : Data) (a : AnswerView) → open_at d ≡ Ok a → HasContainShape first second a
+open_fits : (v : NamesView) (first second : RegionView) (tries : List (List ℕ)) (d : Data) (a : AnswerView) → open_at d ≡ Ok a → HasVerbShape v (Contain first second tries) a
 unfolding open_at tried_at
-open_fits first second d a is =
+open_fits v first second tries d a is =
     let h = then_ok (ok_or (option_and_then count_at (get (codes "tried") d)) keys.Tried) (λ tried. Ok (Open tried)) a is in
     let k = and_then_some (get (codes "tried") d) count_at h.0 (key_ok keys.Tried (option_and_then count_at (get (codes "tried") d)) h.0 h.1.0) in
-    subst (HasContainShape first second) (ok_same (Open h.0) a h.1.1) (count_at_below k.0 h.0 k.1.1)
+    subst (HasVerbShape v (Contain first second tries)) (ok_same (Open h.0) a h.1.1) (count_at_below k.0 h.0 k.1.1)
 
 -- ---- by the verb
 
-prove_fits : (v : NamesView) (sign : Sign) (kind : AnswerKind) (d : Data) (a : AnswerView) → prove_answer v sign kind d ≡ Ok a → HasProveShape v sign a
-unfolding prove_answer
-prove_fits v sign kinds.Yes d a is = yes_fits v sign d a is
-prove_fits v sign kinds.No d a is = no_fits v sign d a is
-prove_fits v sign kinds.Undecided d a is = let h = undecided_fits v d a is in subst (HasProveShape v sign) h.1.0 h.1.1
-prove_fits v sign kinds.Region d a is = absurd (cc)
-prove_fits v sign kinds.Contained d a is = absurd (cc)
-prove_fits v sign kinds.Open d a is = absurd (cc)
+prove_fits : (v : NamesView) (r : RelationView) (kind : AnswerKind) (d : Data) (a : AnswerView) → verb_answer v (Prove r) kind d ≡ Ok a → HasVerbShape v (Prove r) a
+prove_fits v r kinds.Yes d a is = yes_fits v r d a is
+prove_fits v r kinds.No d a is = no_fits v r d a is
+prove_fits v r kinds.Undecided d a is = let h = undecided_fits v d a is in subst (HasVerbShape v (Prove r)) h.1.0 h.1.1
+prove_fits v r kinds.Region d a is = absurd (cc)
+prove_fits v r kinds.Contained d a is = absurd (cc)
+prove_fits v r kinds.Open d a is = absurd (cc)
 
-eliminate_fits : (v : NamesView) (kind : AnswerKind) (d : Data) (a : AnswerView) → eliminate_answer v kind d ≡ Ok a → HasEliminateShape v a
-unfolding eliminate_answer
-eliminate_fits v kinds.Yes d a is = absurd (cc)
-eliminate_fits v kinds.No d a is = absurd (cc)
-eliminate_fits v kinds.Undecided d a is = let h = undecided_fits v d a is in subst (HasEliminateShape v) h.1.0 h.1.1
-eliminate_fits v kinds.Region d a is = region_fits v d a is
-eliminate_fits v kinds.Contained d a is = absurd (cc)
-eliminate_fits v kinds.Open d a is = absurd (cc)
+eliminate_fits : (v : NamesView) (rates : List ℕ) (kind : AnswerKind) (d : Data) (a : AnswerView) → verb_answer v (Eliminate rates) kind d ≡ Ok a → HasVerbShape v (Eliminate rates) a
+eliminate_fits v rates kinds.Yes d a is = absurd (cc)
+eliminate_fits v rates kinds.No d a is = absurd (cc)
+eliminate_fits v rates kinds.Undecided d a is = let h = undecided_fits v d a is in subst (HasVerbShape v (Eliminate rates)) h.1.0 h.1.1
+eliminate_fits v rates kinds.Region d a is = region_fits v rates d a is
+eliminate_fits v rates kinds.Contained d a is = absurd (cc)
+eliminate_fits v rates kinds.Open d a is = absurd (cc)
 
-contain_fits : (first second : RegionView) (kind : AnswerKind) (d : Data) (a : AnswerView) → contain_answer first second kind d ≡ Ok a → HasContainShape first second a
-unfolding contain_answer
-contain_fits first second kinds.Yes d a is = absurd (cc)
-contain_fits first second kinds.No d a is = absurd (cc)
-contain_fits first second kinds.Undecided d a is = absurd (cc)
-contain_fits first second kinds.Region d a is = absurd (cc)
-contain_fits first second kinds.Contained d a is = contained_fits first second d a is
-contain_fits first second kinds.Open d a is = open_fits first second d a is
+contain_fits : (v : NamesView) (first second : RegionView) (tries : List (List ℕ)) (kind : AnswerKind) (d : Data) (a : AnswerView) → verb_answer v (Contain first second tries) kind d ≡ Ok a → HasVerbShape v (Contain first second tries) a
+contain_fits v first second tries kinds.Yes d a is = absurd (cc)
+contain_fits v first second tries kinds.No d a is = absurd (cc)
+contain_fits v first second tries kinds.Undecided d a is = absurd (cc)
+contain_fits v first second tries kinds.Region d a is = absurd (cc)
+contain_fits v first second tries kinds.Contained d a is = contained_fits v first second tries d a is
+contain_fits v first second tries kinds.Open d a is = open_fits v first second tries d a is
 
 pub answer_fits : (q : QuestionView) (kind : AnswerKind) (d : Data) (a : AnswerView) → question_answer q kind d ≡ Ok a → HasQuestionShape q.body a
 unfolding question_answer HasQuestionShape
 answer_fits q kind d a is = by_verb q.body.verb is
   where
     by_verb : (verb : VerbView) → verb_answer q.body.names verb kind d ≡ Ok a → HasVerbShape q.body.names verb a
-    by_verb (Prove r) e = prove_fits q.body.names r.sign kind d a e
-    by_verb (Eliminate rates) e = eliminate_fits q.body.names kind d a e
-    by_verb (Contain first second tries) e = contain_fits first second kind d a e
+    by_verb (Prove r) e = prove_fits q.body.names r kind d a e
+    by_verb (Eliminate rates) e = eliminate_fits q.body.names rates kind d a e
+    by_verb (Contain first second tries) e = contain_fits q.body.names first second tries kind d a e

@@ -15,8 +15,8 @@ use Rattle.it_space.specs.declared.answers.Mark.{Mark}
 use Rattle.it_space.specs.declared.answers.Mark.TheVariants.{Plain, Needed, Unsettled}
 use Rattle.it_space.specs.declared.answers.Cause.{Cause}
 use Rattle.it_space.specs.declared.answers.Cause.TheVariants.{Pivots, Width, Scale, Rows, WideRate}
+use Rattle.it_syntax.specs.Meaning.{RelationView}
 use Rattle.it_syntax.specs.NamesViews.{NamesView, index_of}
-use Rattle.it_syntax.specs.declared.types.Sign.{Sign}
 use Rattle.it_question.specs.Questions.{QuestionView, RegionView, VerbView, Prove, Eliminate, Contain}
 use Rattle.it_canon.specs.QuestionDemands.{space_of}
 use Rattle.it_certificate.specs.declared.keys.Key.TheVariants as keys
@@ -28,8 +28,8 @@ use Rattle.it_certificate.specs.Values.{integer_value, count_value, pair_value, 
 use Rattle.it_certificate.specs.Parts.{text_of, integer_at, count_at, pair_of, pair_at, all_of, of_length, certificate_by, certificate_at, answer_kind_at, proofs_at, point_at, back_at, cause_kind_at, cause_of, cause_at, step_or_rate, is_term_between, is_row_between, row_of, mark_at, terms_at, marked_row_at, rows_at, set_of_number, set_at, parts_at, tried_at}
 use Rattle.it_certificate.specs.AnswerReading.{and_then, is_equality, yes_at, no_at, undecided_at, region_at, contained_at, open_at}
 use Rattle.it_certificate.specs.Obligations.{obligation_count, target_count}
-use Rattle.it_certificate.specs.Reports.{prove_answer, eliminate_answer, contain_answer, verb_answer, question_answer, report_of}
-use Rattle.it_certificate.specs.AnswerShapes.{IsNumberedAmount, IsNumbered, IsRowIn, IsCauseFor, HasProveShape, HasEliminateShape, HasContainmentShape, HasContainShape, HasVerbShape, HasQuestionShape}
+use Rattle.it_certificate.specs.Reports.{verb_answer, question_answer, report_of}
+use Rattle.it_certificate.specs.AnswerShapes.{IsNumberedAmount, IsNumbered, IsRowIn, IsCauseFor, HasContainmentShape, HasVerbShape, HasQuestionShape}
 use Rattle.it_certificate.specs.Laws.{without_zeros, written_answer, ReadsBack}
 use Rattle.it_certificate.proofs.BackLemmas.{integer_back, count_back, step_back}
 use Rattle.it_certificate.proofs.QuestionLemmas.{found_text}
@@ -81,9 +81,9 @@ certificates_back n ws is all =
 
 -- ---- yes and no
 
-yes_back : (text : List ℕ) (v : NamesView) (sign : Sign) (ws : List CertificateView) → HasProveShape v sign (Yes ws) → yes_at sign (answer_value text v (Yes ws)) ≡ Ok (Yes (map without_zeros ws))
+yes_back : (text : List ℕ) (v : NamesView) (r : RelationView) (ws : List CertificateView) → HasVerbShape v (Prove r) (Yes ws) → yes_at r.sign (answer_value text v (Yes ws)) ≡ Ok (Yes (map without_zeros ws))
 unfolding yes_at proofs_at answer_value
-yes_back text v sign ws fits = ap (λ o. and_then (ok_or o keys.Proofs) (λ ps. Ok (Yes ps))) (certificates_back (target_count sign) ws fits.0 fits.1)
+yes_back text v r ws fits = ap (λ o. and_then (ok_or o keys.Proofs) (λ ps. Ok (Yes ps))) (certificates_back (target_count r.sign) ws fits.0 fits.1)
 
 point_back : (text : List ℕ) (v : NamesView) (n : ℕ) (back : Bool) (vs : List ℤ) → length vs ≡ n → All IsWithin vs → point_at n (answer_value text v (No back vs)) ≡ Some vs
 unfolding point_at answer_value
@@ -94,12 +94,12 @@ unfolding back_at answer_value
 side_back text v equality true vs is = ap (λ b. cond b (Some true) None) (is refl)
 side_back text v equality false vs is = refl
 
-no_back : (text : List ℕ) (v : NamesView) (sign : Sign) (back : Bool) (vs : List ℤ) → HasProveShape v sign (No back vs) → no_at (size_of (space_of v)) sign (answer_value text v (No back vs)) ≡ Ok (No back vs)
+no_back : (text : List ℕ) (v : NamesView) (r : RelationView) (back : Bool) (vs : List ℤ) → HasVerbShape v (Prove r) (No back vs) → no_at (size_of (space_of v)) r.sign (answer_value text v (No back vs)) ≡ Ok (No back vs)
 unfolding no_at
-no_back text v sign back vs fits =
-    ap (λ o. and_then (ok_or o keys.Point) (λ values. and_then (ok_or (back_at (is_equality sign) (answer_value text v (No back vs))) keys.Side) (λ b. Ok (No b values))))
+no_back text v r back vs fits =
+    ap (λ o. and_then (ok_or o keys.Point) (λ values. and_then (ok_or (back_at (is_equality r.sign) (answer_value text v (No back vs))) keys.Side) (λ b. Ok (No b values))))
     (point_back text v (size_of (space_of v)) back vs fits.0 fits.1)
-    ∙ ap (λ o. and_then (ok_or o keys.Side) (λ b. Ok (No b vs))) (side_back text v (is_equality sign) back vs fits.2)
+    ∙ ap (λ o. and_then (ok_or o keys.Side) (λ b. Ok (No b vs))) (side_back text v (is_equality r.sign) back vs fits.2)
 
 -- ---- undecided
 
@@ -226,37 +226,34 @@ text_back text v (Region rows) = refl
 text_back text v (Contained parts proofs) = refl
 text_back text v (Open tried) = refl
 
-prove_back : (text : List ℕ) (v : NamesView) (sign : Sign) (a : AnswerView) → HasProveShape v sign a → prove_answer v sign (kind_of_answer a) (answer_value text v a) ≡ Ok (written_answer a)
-unfolding prove_answer
-prove_back text v sign (Yes proofs) fits = yes_back text v sign proofs fits
-prove_back text v sign (No back values) fits = no_back text v sign back values fits
-prove_back text v sign (Undecided cause) fits = undecided_back text v cause fits
-prove_back text v sign (Region rows) fits = absurd fits
-prove_back text v sign (Contained parts proofs) fits = absurd fits
-prove_back text v sign (Open tried) fits = absurd fits
+prove_back : (text : List ℕ) (v : NamesView) (r : RelationView) (a : AnswerView) → HasVerbShape v (Prove r) a → verb_answer v (Prove r) (kind_of_answer a) (answer_value text v a) ≡ Ok (written_answer a)
+prove_back text v r (Yes proofs) fits = yes_back text v r proofs fits
+prove_back text v r (No back values) fits = no_back text v r back values fits
+prove_back text v r (Undecided cause) fits = undecided_back text v cause fits
+prove_back text v r (Region rows) fits = absurd fits
+prove_back text v r (Contained parts proofs) fits = absurd fits
+prove_back text v r (Open tried) fits = absurd fits
 
-eliminate_back : (text : List ℕ) (v : NamesView) (a : AnswerView) → HasEliminateShape v a → eliminate_answer v (kind_of_answer a) (answer_value text v a) ≡ Ok (written_answer a)
-unfolding eliminate_answer
-eliminate_back text v (Yes proofs) fits = absurd fits
-eliminate_back text v (No back values) fits = absurd fits
-eliminate_back text v (Undecided cause) fits = undecided_back text v cause fits
-eliminate_back text v (Region rows) fits = region_back text v rows (size_of (space_of v)) fits
-eliminate_back text v (Contained parts proofs) fits = absurd fits
-eliminate_back text v (Open tried) fits = absurd fits
+eliminate_back : (text : List ℕ) (v : NamesView) (rates : List ℕ) (a : AnswerView) → HasVerbShape v (Eliminate rates) a → verb_answer v (Eliminate rates) (kind_of_answer a) (answer_value text v a) ≡ Ok (written_answer a)
+eliminate_back text v rates (Yes proofs) fits = absurd fits
+eliminate_back text v rates (No back values) fits = absurd fits
+eliminate_back text v rates (Undecided cause) fits = undecided_back text v cause fits
+eliminate_back text v rates (Region rows) fits = region_back text v rows (size_of (space_of v)) fits
+eliminate_back text v rates (Contained parts proofs) fits = absurd fits
+eliminate_back text v rates (Open tried) fits = absurd fits
 
-contain_back : (text : List ℕ) (v : NamesView) (first second : RegionView) (a : AnswerView) → HasContainShape first second a → contain_answer first second (kind_of_answer a) (answer_value text v a) ≡ Ok (written_answer a)
-unfolding contain_answer
-contain_back text v first second (Yes proofs) fits = absurd fits
-contain_back text v first second (No back values) fits = absurd fits
-contain_back text v first second (Undecided cause) fits = absurd fits
-contain_back text v first second (Region rows) fits = absurd fits
-contain_back text v first second (Contained parts proofs) fits = contained_back text v first second parts proofs fits
-contain_back text v first second (Open tried) fits = open_back text v tried fits
+contain_back : (text : List ℕ) (v : NamesView) (first second : RegionView) (tries : List (List ℕ)) (a : AnswerView) → HasVerbShape v (Contain first second tries) a → verb_answer v (Contain first second tries) (kind_of_answer a) (answer_value text v a) ≡ Ok (written_answer a)
+contain_back text v first second tries (Yes proofs) fits = absurd fits
+contain_back text v first second tries (No back values) fits = absurd fits
+contain_back text v first second tries (Undecided cause) fits = absurd fits
+contain_back text v first second tries (Region rows) fits = absurd fits
+contain_back text v first second tries (Contained parts proofs) fits = contained_back text v first second parts proofs fits
+contain_back text v first second tries (Open tried) fits = open_back text v tried fits
 
 verb_back : (text : List ℕ) (v : NamesView) (verb : VerbView) (a : AnswerView) → HasVerbShape v verb a → verb_answer v verb (kind_of_answer a) (answer_value text v a) ≡ Ok (written_answer a)
-verb_back text v (Prove r) a fits = prove_back text v r.sign a fits
-verb_back text v (Eliminate rates) a fits = eliminate_back text v a fits
-verb_back text v (Contain first second tries) a fits = contain_back text v first second a fits
+verb_back text v (Prove r) a fits = prove_back text v r a fits
+verb_back text v (Eliminate rates) a fits = eliminate_back text v rates a fits
+verb_back text v (Contain first second tries) a fits = contain_back text v first second tries a fits
 
 answer_back : (q : QuestionView) (a : AnswerView) → HasQuestionShape q.body a → question_answer q (kind_of_answer a) (answer_value q.text q.body.names a) ≡ Ok (written_answer a)
 unfolding question_answer HasQuestionShape

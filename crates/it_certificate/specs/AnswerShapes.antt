@@ -9,7 +9,6 @@ use Rattle.it_space.specs.declared.answers.Mark.{Mark}
 use Rattle.it_space.specs.declared.answers.Cause.{Cause}
 use Rattle.it_space.specs.declared.answers.Cause.TheVariants.{Pivots, Width, Scale, Rows, WideRate}
 use Rattle.it_syntax.specs.NamesViews.{NamesView, index_of}
-use Rattle.it_syntax.specs.declared.types.Sign.{Sign}
 use Rattle.it_question.specs.Questions.{BodyView, RegionView, VerbView, Prove, Eliminate, Contain}
 use Rattle.it_canon.specs.QuestionDemands.{space_of}
 use Rattle.it_certificate.specs.Numerals.{step_of}
@@ -44,24 +43,6 @@ IsCauseFor v Scale = Unit {0}
 IsCauseFor v (Rows r) = IsFoundIn v r
 IsCauseFor v (WideRate r) = IsFoundIn v r × (step_of (rate_name v r) ≡ None)
 
--- a certificate a target; a value a coordinate, and the second target where there are two; a cause
-abbrev pub HasProveShape : NamesView → Sign → AnswerView → Type 0
-HasProveShape v sign (Yes proofs) = (length proofs ≡ target_count sign) × All IsNumbered proofs
-HasProveShape v sign (No back values) = (length values ≡ size_of (space_of v)) × All IsWithin values × (back ≡ true → is_equality sign ≡ true)
-HasProveShape v sign (Undecided cause) = IsCauseFor v cause
-HasProveShape v sign (Region rows) = ⊥
-HasProveShape v sign (Contained parts proofs) = ⊥
-HasProveShape v sign (Open tried) = ⊥
-
--- a cause, or rows
-abbrev pub HasEliminateShape : NamesView → AnswerView → Type 0
-HasEliminateShape v (Yes proofs) = ⊥
-HasEliminateShape v (No back values) = ⊥
-HasEliminateShape v (Undecided cause) = IsCauseFor v cause
-HasEliminateShape v (Region rows) = All (IsRowIn (size_of (space_of v))) rows
-HasEliminateShape v (Contained parts proofs) = ⊥
-HasEliminateShape v (Open tried) = ⊥
-
 -- a set of the first region's variables for each auxiliary of the second, and a certificate for each of its obligations
 pub record HasContainmentShape (first second : RegionView) (parts : List ℕ) (proofs : List CertificateView) : Type 0 where
   pub each : length parts ≡ second.auxiliaries
@@ -69,20 +50,17 @@ pub record HasContainmentShape (first second : RegionView) (parts : List ℕ) (p
   pub obligations : length proofs ≡ obligation_count second
   pub numbers : All IsNumbered proofs
 
--- sets and certificates of a containment, or how many candidates were tried
-abbrev pub HasContainShape : RegionView → RegionView → AnswerView → Type 0
-HasContainShape first second (Yes proofs) = ⊥
-HasContainShape first second (No back values) = ⊥
-HasContainShape first second (Undecided cause) = ⊥
-HasContainShape first second (Region rows) = ⊥
-HasContainShape first second (Contained parts proofs) = HasContainmentShape first second parts proofs
-HasContainShape first second (Open tried) = tried < 2 ^ 32
-
--- the shape of the answers that a question of this verb wants
+-- The shape of the answers that a question of this verb wants: a certificate a target; a value a coordinate, and the second target
+-- where there are two; rows; sets and certificates; a cause; how many candidates were tried.
 abbrev pub HasVerbShape : NamesView → VerbView → AnswerView → Type 0
-HasVerbShape v (Prove r) answer = HasProveShape v r.sign answer
-HasVerbShape v (Eliminate rates) answer = HasEliminateShape v answer
-HasVerbShape v (Contain first second tries) answer = HasContainShape first second answer
+HasVerbShape v (Prove r) (Yes proofs) = (length proofs ≡ target_count r.sign) × All IsNumbered proofs
+HasVerbShape v (Prove r) (No back values) = (length values ≡ size_of (space_of v)) × All IsWithin values × (back ≡ true → is_equality r.sign ≡ true)
+HasVerbShape v (Prove r) (Undecided cause) = IsCauseFor v cause
+HasVerbShape v (Eliminate rates) (Region rows) = All (IsRowIn (size_of (space_of v))) rows
+HasVerbShape v (Eliminate rates) (Undecided cause) = IsCauseFor v cause
+HasVerbShape v (Contain first second tries) (Contained parts proofs) = HasContainmentShape first second parts proofs
+HasVerbShape v (Contain first second tries) (Open tried) = tried < 2 ^ 32
+HasVerbShape v verb answer = ⊥
 
 -- the shape of the answers that a question wants, right or not
 unfoldable pub HasQuestionShape : BodyView → AnswerView → Type 0

@@ -23,38 +23,17 @@ use Rattle.it_certificate.specs.Obligations.{obligation_count}
 
 -- ---- the answers that each verb gives
 
--- the answer to `prove` that a report's JSON value reads as, by its kind; or its first key at fault
-unfoldable pub prove_answer : NamesView → Sign → AnswerKind → Data → Result AnswerView Key
-prove_answer v sign Yes d = yes_at sign d
-prove_answer v sign No d = no_at (size_of (space_of v)) sign d
-prove_answer v sign Undecided d = undecided_at v.rates d
-prove_answer v sign Region d = Err keys.Answer
-prove_answer v sign Contained d = Err keys.Answer
-prove_answer v sign Open d = Err keys.Answer
-
--- the answer to `eliminate` that a report's JSON value reads as, by its kind; or its first key at fault
-unfoldable pub eliminate_answer : NamesView → AnswerKind → Data → Result AnswerView Key
-eliminate_answer v Yes d = Err keys.Answer
-eliminate_answer v No d = Err keys.Answer
-eliminate_answer v Undecided d = undecided_at v.rates d
-eliminate_answer v Region d = region_at (size_of (space_of v)) d
-eliminate_answer v Contained d = Err keys.Answer
-eliminate_answer v Open d = Err keys.Answer
-
--- The sets are over the variables of the first region, one for each auxiliary of the second.
-unfoldable pub contain_answer : RegionView → RegionView → AnswerKind → Data → Result AnswerView Key
-contain_answer first second Yes d = Err keys.Answer
-contain_answer first second No d = Err keys.Answer
-contain_answer first second Undecided d = Err keys.Answer
-contain_answer first second Region d = Err keys.Answer
-contain_answer first second Contained d = contained_at second.auxiliaries (length first.names.variables) (obligation_count second) d
-contain_answer first second Open d = open_at d
-
--- the answer of this kind to a question of this verb, or the first key at fault
+-- The answer of this kind to a question of this verb, or the first key at fault. The sets of a containment are over the variables of
+-- the first region, one for each auxiliary of the second.
 abbrev pub verb_answer : NamesView → VerbView → AnswerKind → Data → Result AnswerView Key
-verb_answer v (Prove r) kind d = prove_answer v r.sign kind d
-verb_answer v (Eliminate rates) kind d = eliminate_answer v kind d
-verb_answer v (Contain first second tries) kind d = contain_answer first second kind d
+verb_answer v (Prove r) Yes d = yes_at r.sign d
+verb_answer v (Prove r) No d = no_at (size_of (space_of v)) r.sign d
+verb_answer v (Prove r) Undecided d = undecided_at v.rates d
+verb_answer v (Eliminate rates) Undecided d = undecided_at v.rates d
+verb_answer v (Eliminate rates) Region d = region_at (size_of (space_of v)) d
+verb_answer v (Contain first second tries) Contained d = contained_at second.auxiliaries (length first.names.variables) (obligation_count second) d
+verb_answer v (Contain first second tries) Open d = open_at d
+verb_answer v verb kind d = Err keys.Answer
 
 -- the answer of this kind to the question, or the first key at fault
 unfoldable pub question_answer : QuestionView → AnswerKind → Data → Result AnswerView Key

@@ -41,11 +41,11 @@ valid_no_is q target values k u e = (
 
 -- ---- a certified target is at least 0
 
-at_least : (k : Kind) (x : ℤ) → Meets k x → pos 0 ≤ℤ x
+pub at_least : (k : Kind) (x : ℤ) → Meets k x → pos 0 ≤ℤ x
 at_least Inequality x h = h
 at_least Equation x h = omega (arith, ints, h)
 
-is_zero : (k : Kind) (x : ℤ) → Meets k x → is_equation k ≡ true → x ≡ pos 0
+pub is_zero : (k : Kind) (x : ℤ) → Meets k x → is_equation k ≡ true → x ≡ pos 0
 is_zero Inequality x h e = absurd (cc)
 is_zero Equation x h e = h
 

@@ -43,11 +43,13 @@ use Rattle.it_region.specs.Obligations.{obligations, ArePulledRows}
 use Rattle.it_region.proofs.TextLemmas.{text_rows}
 use Rattle.it_contain.specs.Proposals.{Plan}
 use Rattle.it_answer.specs.declared.types.Budgets.{Budgets}
-use Rattle.it_answer.specs.Forms.{all_demands, generators_by, CertifiesForm, CertifyAll}
+use Rattle.it_answer.specs.Forms.{all_demands, CertifiesForm, CertifyAll, Certifies}
 use Rattle.it_answer.specs.Replies.{Reply}
-use Rattle.it_answer.specs.RightAnswers.{IsCounterexample, ViolatesFirst, PointIsDue, IsRightFor, IsRightAnswer, IsRightAnswerBy, ProofsAscend}
-use Rattle.it_answer.specs.RightContainments.{IsRightContainment}
-use Rattle.it_answer.specs.RightRegions.{IsRightElimination}
+use Rattle.it_answer.specs.Shows.{IsCounterexample, ShowsRegion, ShowsBy, ShowsContained, ViolatesFirst}
+use Rattle.it_answer.specs.DueContainments.{IsDueContainment}
+use Rattle.it_answer.specs.DueEliminations.{IsDueElimination}
+use Rattle.it_answer.specs.DueRelations.{IsDueRelation, PointIsDue}
+use Rattle.it_answer.specs.RightAnswers.{IsDueBy, IsRightAnswer, ProofsAscend}
 use Rattle.it_eliminate.proofs.MemberLemmas.{every_member}
 use Rattle.it_space.proofs.EveryLemmas.{every_of}
 use Rattle.it_answer.proofs.FormLemmas.{generators_speak, by_rows}
@@ -65,7 +67,7 @@ use Rattle.it_cli.proofs.DataLemmas.{IsPlain, yes_plain, no_plain, undecided_pla
 use Rattle.it_cli.proofs.RegionFits.{right_region_fits}
 use Rattle.it_cli.proofs.FeedLemmas.{IsNoFeed, answer_text_clear}
 use Rattle.it_cli.proofs.JsonLemmas.{right_prove_fits, eliminated_cause_fits, all_weights_written, yes_same, no_same}
-use Rattle.it_cli.proofs.ContainedFits.{pair_space, contained_fits}
+use Rattle.it_cli.proofs.ContainedFits.{pair_is_problem, contained_fits}
 use Rattle.it_cli.proofs.NameFits.{rates_found}
 use Rattle.it_cli.specs.Accepted.{ReportsAreAccepted}
 
@@ -95,7 +97,7 @@ module _ (q : BodyView) (r : RelationView) (b : Poses q r) (budget : Option ℕ)
   certifies_row f t w row c =
       let p = b.problem in
       by_rows (all_demands p.space.variables (question_demands q)) (generators p) (generators_speak p.space (question_demands q) p.constraints b.is_problem.constraints) (size_of p.space + 1) (value t) f row.same w
-      (to_problem (λ s. IsCertificate (size_of s + 1) (generators_by (all_demands s.variables (question_demands q))) f w) c)
+      (to_problem (λ s. Certifies (all_demands s.variables (question_demands q)) f w) c)
 
   refutes_row : (f : Form) (t : Terms) (values : List ℤ) → IsRowOf b.problem.space f t → IsCounterexample q f values → RefutesRow b.problem t values
   refutes_row f t values row c = record {
@@ -205,95 +207,99 @@ module _ (back : ReadsBack) (q : QuestionView) (short : length q.text ≤ 104857
       let plain = undecided_plain q.text q.body.names text_is c (IsUtf8-from_ascii (step_or_rate_word q.body.names c) (step_or_rate_ascii q.body.names c question_ascii.rates cause)) in
       skipped_is_accepted (Undecided c) (line_of (Undecided c)) (clear_of (Undecided c) plain) refl (line_reads (Undecided c) fits plain)
 
-  region_accepted : (budgets : Budgets) (rates : List ℕ) (rows : List (Mark × Terms)) → IsQuestion q.body → q.body.verb ≡ Eliminate rates → IsRightElimination budgets q.body rates (Region rows) → IsAccepted (line_of (Region rows))
-  region_accepted budgets rates rows k about right =
-      let fits = right_region_fits budgets q.body rates rows k right in
+  region_accepted : (budgets : Budgets) (rates : List ℕ) (rows : List (Mark × Terms)) → IsQuestion q.body → q.body.verb ≡ Eliminate rates → ShowsRegion q.body rates rows → IsDueElimination budgets q.body rates (Region rows)
+      → IsAccepted (line_of (Region rows))
+  region_accepted budgets rates rows k about shown due =
+      let fits = right_region_fits budgets q.body rates rows k shown due in
       let plain = region_plain q.text q.body.names text_is rows (λ i d l. (fits i d l).terms) in
       skipped_is_accepted (Region rows) (line_of (Region rows)) (clear_of (Region rows) plain) refl
       (line_reads (Region rows) (question_fits q.body (Region rows) (Eliminate rates) about fits) plain)
 
   module _ (budgets : Budgets) (few : IfSome budgets.pivots (λ n. n < 2 ^ 32)) where
-    yes_accepted : (r : RelationView) (ws : List CertificateView) → q.body.verb ≡ Prove r → ProofsAscend (Yes ws) → IsRightFor budgets.pivots q.body r (Yes ws) → IsAccepted (line_of (Yes ws))
-    yes_accepted r ws about ascend right =
-        let fits = right_prove_fits budgets.pivots q.body r (Yes ws) few about right in
-        let e = proofs_valid q.body r right.poses budgets.pivots (targets (variables_of q.body) r) right.poses.rows ws right.poses.targets_are right.shows right.due in
+    yes_accepted : (r : RelationView) (ws : List CertificateView) → q.body.verb ≡ Prove r → ProofsAscend (Yes ws) → ShowsBy q.body (Prove r) (Yes ws) → IsDueRelation budgets.pivots q.body r (Yes ws) → IsAccepted (line_of (Yes ws))
+    yes_accepted r ws about ascend shown due =
+        let fits = right_prove_fits budgets.pivots q.body r (Yes ws) few about shown due in
+        let e = proofs_valid q.body r due.poses budgets.pivots (targets (variables_of q.body) r) due.poses.rows ws due.poses.targets_are shown due.due in
         let plain = yes_plain q.text q.body.names text_is ws fits.1 in
         let reads = line_reads (Yes ws) (question_fits q.body (Yes ws) (Prove r) about fits) plain in
-        judged_is_accepted (Yes ws) (line_of (Yes ws)) (clear_of (Yes ws) plain) (judged_by_targets q.body r about right.poses (Yes ws) Valid (ap Some e))
+        judged_is_accepted (Yes ws) (line_of (Yes ws)) (clear_of (Yes ws) plain) (judged_by_targets q.body r about due.poses (Yes ws) Valid (ap Some e))
         (subst (λ us. ReadsReport (line_of (Yes ws)) (Ok (q, Yes us))) (all_weights_written ws ascend) reads)
 
-    no_accepted : (r : RelationView) (is_back : Bool) (values : List ℤ) → q.body.verb ≡ Prove r → IsRightFor budgets.pivots q.body r (No is_back values) → IsAccepted (line_of (No is_back values))
-    no_accepted r is_back values about right =
-        let fits = right_prove_fits budgets.pivots q.body r (No is_back values) few about right in
-        let e = point_valid q.body r right.poses budgets.pivots (targets (variables_of q.body) r) right.poses.rows is_back values right.poses.targets_are right.shows right.due in
+    no_accepted : (r : RelationView) (is_back : Bool) (values : List ℤ) → q.body.verb ≡ Prove r → ShowsBy q.body (Prove r) (No is_back values) → IsDueRelation budgets.pivots q.body r (No is_back values)
+        → IsAccepted (line_of (No is_back values))
+    no_accepted r is_back values about shown due =
+        let fits = right_prove_fits budgets.pivots q.body r (No is_back values) few about shown due in
+        let e = point_valid q.body r due.poses budgets.pivots (targets (variables_of q.body) r) due.poses.rows is_back values due.poses.targets_are shown due.due in
         let plain = no_plain q.text q.body.names text_is is_back values fits.1 in
-        judged_is_accepted (No is_back values) (line_of (No is_back values)) (clear_of (No is_back values) plain) (judged_by_targets q.body r about right.poses (No is_back values) Valid (ap Some e))
+        judged_is_accepted (No is_back values) (line_of (No is_back values)) (clear_of (No is_back values) plain) (judged_by_targets q.body r about due.poses (No is_back values) Valid (ap Some e))
         (line_reads (No is_back values) (question_fits q.body (No is_back values) (Prove r) about fits) plain)
 
-    prove_accepted : (r : RelationView) (a : AnswerView) → q.body.verb ≡ Prove r → ProofsAscend a → IsRightFor budgets.pivots q.body r a → IsAccepted (line_of a)
-    prove_accepted r (Yes ws) about ascend right = yes_accepted r ws about ascend right
-    prove_accepted r (No is_back values) about ascend right = no_accepted r is_back values about right
-    prove_accepted r (Undecided c) about ascend right =
-        let fits = right_prove_fits budgets.pivots q.body r (Undecided c) few about right in
+    prove_accepted : (r : RelationView) (a : AnswerView) → q.body.verb ≡ Prove r → ProofsAscend a → ShowsBy q.body (Prove r) a → IsDueRelation budgets.pivots q.body r a → IsAccepted (line_of a)
+    prove_accepted r (Yes ws) about ascend shown due = yes_accepted r ws about ascend shown due
+    prove_accepted r (No is_back values) about ascend shown due = no_accepted r is_back values about shown due
+    prove_accepted r (Undecided c) about ascend shown due =
+        let fits = right_prove_fits budgets.pivots q.body r (Undecided c) few about shown due in
         undecided_accepted c (question_fits q.body (Undecided c) (Prove r) about fits) fits
-    prove_accepted r (Region rows) about ascend right = absurd right.shows
-    prove_accepted r (Contained parts proofs) about ascend right = absurd right.shows
-    prove_accepted r (Open tried) about ascend right = absurd right.shows
+    prove_accepted r (Region rows) about ascend shown due = absurd shown
+    prove_accepted r (Contained parts proofs) about ascend shown due = absurd shown
+    prove_accepted r (Open tried) about ascend shown due = absurd shown
 
-    eliminate_accepted : (rates : List ℕ) (a : AnswerView) → q.body.verb ≡ Eliminate rates → IsQuestion q.body → IsRightElimination budgets q.body rates a → IsAccepted (line_of a)
-    eliminate_accepted rates (Yes ws) about k right = absurd right.shows
-    eliminate_accepted rates (No is_back values) about k right = absurd right.shows
-    eliminate_accepted rates (Undecided c) about k right =
+    eliminate_accepted : (rates : List ℕ) (a : AnswerView) → q.body.verb ≡ Eliminate rates → IsQuestion q.body → ShowsBy q.body (Eliminate rates) a → IsDueElimination budgets q.body rates a → IsAccepted (line_of a)
+    eliminate_accepted rates (Yes ws) about k shown due = absurd shown
+    eliminate_accepted rates (No is_back values) about k shown due = absurd shown
+    eliminate_accepted rates (Undecided c) about k shown due =
         let within = (subst (IsVerbOver q.body.names) about k.verb).within in
-        let fits = eliminated_cause_fits budgets q.body rates c (λ r m. rates_found q r file (every_member (λ i. i < length q.body.names.rates) rates r (every_of (λ i. i < length q.body.names.rates) rates within) m)) right in
+        let fits = eliminated_cause_fits budgets q.body rates c (λ r m. rates_found q r file (every_member (λ i. i < length q.body.names.rates) rates r (every_of (λ i. i < length q.body.names.rates) rates within) m)) due in
         undecided_accepted c (question_fits q.body (Undecided c) (Eliminate rates) about fits) fits
-    eliminate_accepted rates (Region rows) about k right = region_accepted budgets rates rows k about right
-    eliminate_accepted rates (Contained parts proofs) about k right = absurd right.shows
-    eliminate_accepted rates (Open tried) about k right = absurd right.shows
+    eliminate_accepted rates (Region rows) about k shown due = region_accepted budgets rates rows k about shown due
+    eliminate_accepted rates (Contained parts proofs) about k shown due = absurd shown
+    eliminate_accepted rates (Open tried) about k shown due = absurd shown
 
-    contained_accepted : (plans : List Plan) (first second : RegionView) (tries : List (List ℕ)) (parts : List ℕ) (ws : List CertificateView) (found : List Candidate) → q.body.verb ≡ Contain first second tries
-        → ProofsAscend (Contained parts ws) → IsRightContainment budgets plans q.body first second tries (record { answer = Contained parts ws; found = found }) → IsAccepted (line_of (Contained parts ws))
-    contained_accepted plans first second tries parts ws found about ascend right =
+    contained_accepted : (plans : List Plan) (first second : RegionView) (tries : List (List ℕ)) (parts : List ℕ) (ws : List CertificateView) (found : List Candidate) → q.body.verb ≡ Contain first second tries → IsQuestion q.body
+        → ProofsAscend (Contained parts ws) → ShowsContained q.body first second parts ws → IsDueContainment budgets plans q.body first second tries (record { answer = Contained parts ws; found = found })
+        → IsAccepted (line_of (Contained parts ws))
+    contained_accepted plans first second tries parts ws found about k ascend shown due =
         let a = Contained parts ws in
-        let p = problem_view right.pair.first in
-        let c = right.due.candidate in
-        let proofs = right.due.proofs in
-        let fits = contained_fits budgets plans q.body first second tries parts ws found about right in
+        let p = problem_view due.pair.first in
+        let is = pair_is_problem q.body k first second tries about due.pair due.pairs in
+        let c = due.due.candidate in
+        let proofs = due.due.proofs in
+        let fits = contained_fits q.body k first second tries about budgets plans parts ws found shown due in
         let plain = contained_plain q.text q.body.names text_is parts ws (All-weaker (λ s. (s < 2 ^ 32) × (s < 2 ^ length first.names.variables)) (λ s. s < 2 ^ 32) (λ s h. h.0) parts fits.sets) fits.numbers in
         let reads = line_reads a (question_fits q.body a (Contain first second tries) about fits) plain in
         let rows : ArePulledRows p.space (obligations q.body first second parts) proofs.rows =
-        subst (λ ps. ArePulledRows p.space (obligations q.body first second ps) proofs.rows) (sym right.due.parts_are) (text_rows q.body first second right.pair right.pairs c proofs.rows proofs.are) in
-        let e = proofs_by_valid p budgets.pivots (obligations q.body first second parts) proofs.rows ws right.limits.problem rows proofs.proofs in
-        let verdict = has_verdict q.body p (record { space = pair_space budgets plans q.body first second tries (record { answer = a; found = found }) about right; limits = right.limits.problem; constraints = right.pairs.first }) a proofs.rows (problem_names q.body) Valid
-        (subst (λ fs. ArePulledRows p.space fs proofs.rows) (sym (ap (λ v. judged_forms_by q.body v a) about)) rows) refl (ap Some e) in
+        subst (λ ps. ArePulledRows p.space (obligations q.body first second ps) proofs.rows) (sym due.due.parts_are) (text_rows q.body first second due.pair due.pairs c proofs.rows proofs.are) in
+        let e = proofs_by_valid p budgets.pivots (obligations q.body first second parts) proofs.rows ws is.limits rows proofs.proofs in
+        let verdict = has_verdict q.body p is a proofs.rows (problem_names q.body) Valid (subst (λ fs. ArePulledRows p.space fs proofs.rows) (sym (ap (λ v. judged_forms_by q.body v a) about)) rows) refl (ap Some e) in
         judged_is_accepted a (line_of a) (clear_of a plain) verdict
         (subst (λ us. ReadsReport (line_of a) (Ok (q, Contained parts us))) (all_weights_written ws ascend) reads)
 
     open_accepted : (plans : List Plan) (first second : RegionView) (tries : List (List ℕ)) (tried : ℕ) (found : List Candidate) → budgets.tries < 2 ^ 32 → q.body.verb ≡ Contain first second tries
-        → IsRightContainment budgets plans q.body first second tries (record { answer = Open tried; found = found }) → IsAccepted (line_of (Open tried))
-    open_accepted plans first second tries tried found short about right =
-        let l : tried < 2 ^ 32 = let is = right.due.0.tried_is in omega (arith, is, short) in
+        → IsDueContainment budgets plans q.body first second tries (record { answer = Open tried; found = found }) → IsAccepted (line_of (Open tried))
+    open_accepted plans first second tries tried found short about due =
+        let l : tried < 2 ^ 32 = let is = due.due.0.tried_is in omega (arith, is, short) in
         let plain = open_plain q.text q.body.names text_is tried l in
         skipped_is_accepted (Open tried) (line_of (Open tried)) (clear_of (Open tried) plain) refl
         (line_reads (Open tried) (question_fits q.body (Open tried) (Contain first second tries) about l) plain)
 
-    contain_accepted : (plans : List Plan) (first second : RegionView) (tries : List (List ℕ)) (a : AnswerView) (found : List Candidate) → budgets.tries < 2 ^ 32 → q.body.verb ≡ Contain first second tries
-        → ProofsAscend a → IsRightContainment budgets plans q.body first second tries (record { answer = a; found = found }) → IsAccepted (line_of a)
-    contain_accepted plans first second tries (Yes ws) found short about ascend right = absurd right.shows
-    contain_accepted plans first second tries (No is_back values) found short about ascend right = absurd right.shows
-    contain_accepted plans first second tries (Undecided c) found short about ascend right = absurd right.shows
-    contain_accepted plans first second tries (Region rows) found short about ascend right = absurd right.shows
-    contain_accepted plans first second tries (Contained parts proofs) found short about ascend right = contained_accepted plans first second tries parts proofs found about ascend right
-    contain_accepted plans first second tries (Open tried) found short about ascend right = open_accepted plans first second tries tried found short about right
+    contain_accepted : (plans : List Plan) (first second : RegionView) (tries : List (List ℕ)) (a : AnswerView) (found : List Candidate) → budgets.tries < 2 ^ 32 → q.body.verb ≡ Contain first second tries → IsQuestion q.body
+        → ProofsAscend a → ShowsBy q.body (Contain first second tries) a → IsDueContainment budgets plans q.body first second tries (record { answer = a; found = found }) → IsAccepted (line_of a)
+    contain_accepted plans first second tries (Yes ws) found short about k ascend shown due = absurd shown
+    contain_accepted plans first second tries (No is_back values) found short about k ascend shown due = absurd shown
+    contain_accepted plans first second tries (Undecided c) found short about k ascend shown due = absurd shown
+    contain_accepted plans first second tries (Region rows) found short about k ascend shown due = absurd shown
+    contain_accepted plans first second tries (Contained parts proofs) found short about k ascend shown due = contained_accepted plans first second tries parts proofs found about k ascend shown due
+    contain_accepted plans first second tries (Open tried) found short about k ascend shown due = open_accepted plans first second tries tried found short about due
 
-    verb_accepted : (plans : List Plan) (verb : VerbView) (reply : Reply) → q.body.verb ≡ verb → budgets.tries < 2 ^ 32 → IsQuestion q.body → ProofsAscend reply.answer → IsRightAnswerBy budgets plans q.body verb reply → IsAccepted (line_of reply.answer)
-    verb_accepted plans (Prove r) reply about short k ascend right = prove_accepted r reply.answer about ascend right.0
-    verb_accepted plans (Eliminate rates) reply about short k ascend right = eliminate_accepted rates reply.answer about k right.0
-    verb_accepted plans (Contain first second tries) reply about short k ascend right = contain_accepted plans first second tries reply.answer reply.found short about ascend right
+    verb_accepted : (plans : List Plan) (verb : VerbView) (reply : Reply) → q.body.verb ≡ verb → budgets.tries < 2 ^ 32 → IsQuestion q.body → ProofsAscend reply.answer → ShowsBy q.body verb reply.answer
+        → IsDueBy budgets plans q.body verb reply → IsAccepted (line_of reply.answer)
+    verb_accepted plans (Prove r) reply about short k ascend shown due = prove_accepted r reply.answer about ascend shown due.0
+    verb_accepted plans (Eliminate rates) reply about short k ascend shown due = eliminate_accepted rates reply.answer about k shown due.0
+    verb_accepted plans (Contain first second tries) reply about short k ascend shown due = contain_accepted plans first second tries reply.answer reply.found short about k ascend shown due
 
 pub right_accepted : ReadsBack → (budgets : Budgets) (plans : List Plan) (q : QuestionView) (reply : Reply) → IfSome budgets.pivots (λ n. n < 2 ^ 32) → budgets.tries < 2 ^ 32 → length q.text ≤ 1048577 → IsFile q.text (q ∷ [])
     → IsQuestion q.body → IsRightAnswer budgets plans q.body reply → IsAccepted (answer_text q.text q.body.names reply.answer)
-right_accepted back budgets plans q reply few tries short file k right = verb_accepted back q short file budgets few plans q.body.verb reply refl tries k (a_yes_ascends budgets plans q.body reply right) right
+right_accepted back budgets plans q reply few tries short file k right = verb_accepted back q short file budgets few plans q.body.verb reply refl tries k (a_yes_ascends budgets plans q.body reply right) right.shows right.due
 
 pub reports_are_accepted : ReadsBack → ReportsAreAccepted
 reports_are_accepted back budgets plans q reply few tries short file k right = (right_accepted back budgets plans q reply few tries short file k right).verdicts

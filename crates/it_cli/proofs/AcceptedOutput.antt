@@ -7,6 +7,7 @@ use Rattle.it_question.specs.Files.{IsFile}
 use Rattle.it_question.specs.Limits.{IsQuestion}
 use Rattle.it_question.specs.Lines.{split_lines}
 use Rattle.it_question.specs.Questions.{QuestionView}
+use Rattle.it_question.proofs.FileReadings.{file_limits}
 use Rattle.it_question.proofs.TextLaws.{text_reads_back}
 use Rattle.it_certificate.specs.Laws.{ReadsBack}
 use Rattle.it_certificate.specs.Values.{answer_text}
@@ -41,6 +42,6 @@ module _ (back : ReadsBack) (budgets : Budgets) (plans : List Plan) (few : IfSom
 
 pub output_is_accepted : ReadsBack → OutputIsAccepted
 output_is_accepted back plans pivots rows tries bytes out told answered checked few few_tries short a c =
-    let file = a.0.asked.read in
-    let none = none_invalid back (budgets_of pivots rows tries) plans few few_tries bytes short a.0.questions file 1 1 [] a.0.questions [] a.0.answered.0 c.0 out told refl a.0.asked.limits (texts_are_short bytes a.0.questions file) a.0.answered.1 c.1 in
+    let file = a.0.asked in
+    let none = none_invalid back (budgets_of pivots rows tries) plans few few_tries bytes short a.0.questions file 1 1 [] a.0.questions [] a.0.answered.0 c.0 out told refl (file_limits bytes a.0.questions file) (texts_are_short bytes a.0.questions file) a.0.answered.1 c.1 in
     c.2 ∙ ap verdict_status none

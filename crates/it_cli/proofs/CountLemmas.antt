@@ -14,7 +14,8 @@ use Rattle.it_contain.specs.Proposals.{Plan, plan_after_all}
 use Rattle.it_contain.proofs.PlanLemmas.{after_none, after_more}
 use Rattle.it_answer.specs.declared.types.Budgets.{Budgets}
 use Rattle.it_answer.specs.Replies.{Reply}
-use Rattle.it_answer.specs.RightAnswers.{OneRightAnswer, IsRightAnswer, IsRightAnswerBy, IsRightFor, IsAnswered}
+use Rattle.it_answer.specs.Shows.{ShowsBy}
+use Rattle.it_answer.specs.RightAnswers.{OneRightAnswer, IsRightAnswer, IsAnswered}
 use Rattle.it_cli.specs.Counts.{AreCounted, no_counts, total, with_answer}
 use Rattle.it_cli.specs.Laws.{CountsAddUp}
 use Rattle.it_cli.specs.Right.{Context, IsRightAfter, after_answer}
@@ -84,23 +85,22 @@ one_count one_answer budgets plans before counts (q ∷ qs) c d (reply, right, r
 abbrev IsOneMore : Counts → Counts → Type 0
 IsOneMore c d = (d.yes + d.no + d.undecided ≡ c.yes + c.no + c.undecided + 1) × (d.regions ≡ c.regions) × (d.contained ≡ c.contained) × (d.left_open ≡ c.left_open)
 
-counted_answer : (budget : Option ℕ) (q : BodyView) (r : RelationView) (c : Counts) (answer : AnswerView) → IsRightFor budget q r answer → IsOneMore c (with_answer c answer)
-counted_answer budget q r c (Yes ws) a = (omega arith, refl, refl, refl)
-counted_answer budget q r c (No is_back values) a = (omega arith, refl, refl, refl)
-counted_answer budget q r c (Undecided cause) a = (omega arith, refl, refl, refl)
-counted_answer budget q r c (Region rows) a = absurd a.shows
-counted_answer budget q r c (Contained parts proofs) a = absurd a.shows
-counted_answer budget q r c (Open tried) a = absurd a.shows
+counted_answer : (q : BodyView) (r : RelationView) (c : Counts) (answer : AnswerView) → ShowsBy q (Prove r) answer → IsOneMore c (with_answer c answer)
+counted_answer q r c (Yes ws) x = (omega arith, refl, refl, refl)
+counted_answer q r c (No is_back values) x = (omega arith, refl, refl, refl)
+counted_answer q r c (Undecided cause) x = (omega arith, refl, refl, refl)
+counted_answer q r c (Region rows) x = absurd x
+counted_answer q r c (Contained parts proofs) x = absurd x
+counted_answer q r c (Open tried) x = absurd x
 
 with_verb_is_prove : (q : QuestionView) (verb : VerbView) → q.body.verb ≡ verb → IsProve q → IsProve (record q { body = record q.body { verb = verb } })
 with_verb_is_prove q verb is proof = subst (λ (v : VerbView). IsProve (record q { body = record q.body { verb = v } })) is proof
 
 -- where the verb is `prove`
-counted_reply : (budgets : Budgets) (plans : List Plan) (q : QuestionView) (verb : VerbView) (reply : Reply) (c : Counts) → q.body.verb ≡ verb → IsProve q → IsRightAnswerBy budgets plans q.body verb reply
-    → IsOneMore c (with_answer c reply.answer)
-counted_reply budgets plans q (Prove r) reply c is proof right = counted_answer budgets.pivots q.body r c reply.answer right.0
-counted_reply budgets plans q (Eliminate rates) reply c is proof right = absurd (with_verb_is_prove q (Eliminate rates) is proof)
-counted_reply budgets plans q (Contain a b tries) reply c is proof right = absurd (with_verb_is_prove q (Contain a b tries) is proof)
+counted_shown : (q : QuestionView) (verb : VerbView) (answer : AnswerView) (c : Counts) → q.body.verb ≡ verb → IsProve q → ShowsBy q.body verb answer → IsOneMore c (with_answer c answer)
+counted_shown q (Prove r) answer c is proof x = counted_answer q.body r c answer x
+counted_shown q (Eliminate rates) answer c is proof x = absurd (with_verb_is_prove q (Eliminate rates) is proof)
+counted_shown q (Contain a b tries) answer c is proof x = absurd (with_verb_is_prove q (Contain a b tries) is proof)
 
 answers_add_up : (budgets : Budgets) (plans : List Plan) (before : Context) (counts : Counts) (qs : List QuestionView) (end : Counts) → All IsProve qs → AreCounted budgets plans before counts qs end
     → (end.yes + end.no + end.undecided ≡ counts.yes + counts.no + counts.undecided + length qs) × (end.regions ≡ counts.regions) × (end.contained ≡ counts.contained) × (end.left_open ≡ counts.left_open)
@@ -108,14 +108,14 @@ answers_add_up budgets plans before counts [] end all is =
     subst (λ (e : Counts). (e.yes + e.no + e.undecided ≡ counts.yes + counts.no + counts.undecided + 0) × (e.regions ≡ counts.regions) × (e.contained ≡ counts.contained) × (e.left_open ≡ counts.left_open))
     (sym is) (omega arith, refl, refl, refl)
 answers_add_up budgets plans before counts (q ∷ qs) end all (reply, right, rest) =
-    let one = counted_reply budgets (map (plan_after_all before) plans) q q.body.verb reply counts refl (All-head IsProve q qs all) right in
+    let one = counted_shown q q.body.verb reply.answer counts refl (All-head IsProve q qs all) right.shows in
     let more = answers_add_up budgets plans (after_answer before q reply) (with_answer counts reply.answer) qs end (All-tail IsProve q qs all) rest in
     (omega (arith, one.0, more.0), more.1 ∙ one.1, more.2 ∙ one.2, more.3 ∙ one.3)
 
 pub counts_add_up : GeneratedIsFile → FileIsOne → CountsAddUp
 counts_add_up generated one_reading budgets plans seed count questions counts few asked counted =
     let file = generated seed count few in
-    let same : file.questions ≡ questions = one_reading (generated_file seed count) file.questions questions file.asked asked.read in
+    let same : file.questions ≡ questions = one_reading (generated_file seed count) file.questions questions file.asked asked in
     let all : All IsProve questions = subst (λ (qs : List QuestionView). All IsProve qs) same file.prove in
     let sum = answers_add_up budgets plans [] no_counts questions counts all counted in
     (sum.0 ∙ (let n : length questions ≡ count = ap length (sym same) ∙ file.counted in omega (arith, n)), sum.1, sum.2, sum.3)

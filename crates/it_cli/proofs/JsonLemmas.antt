@@ -12,7 +12,7 @@ use Rattle.it_space.specs.Answers.AnswerView.{Yes, No, Undecided, Region, Contai
 use Rattle.it_space.specs.Problems.{ProblemView, IsProblem}
 use Rattle.it_space.specs.Rows.{Terms, Ascends, IsCanonical}
 use Rattle.it_space.specs.Spaces.{size_of}
-use Rattle.it_polymatroid.specs.Certificates.{Form, Generators, IsAllowed}
+use Rattle.it_polymatroid.specs.Certificates.{Form}
 use Rattle.it_polymatroid.specs.Elementals.{elementals}
 use Rattle.it_elemental.proofs.GeneratorLemmas.{few_elementals}
 use Rattle.it_closure.specs.Reading.{dependences_of}
@@ -32,7 +32,7 @@ use Rattle.it_syntax.specs.Meaning.{RelationView}
 use Rattle.it_syntax.specs.NamesViews.{NamesView}
 use Rattle.it_question.specs.Questions.{BodyView, Prove}
 use Rattle.it_canon.specs.Canonical.{form_of}
-use Rattle.it_canon.specs.Demands.{States, AreStated, kind_of}
+use Rattle.it_canon.specs.Demands.{Demand, States, AreStated, kind_of}
 use Rattle.it_canon.specs.Targets.{targets, demanded_forms}
 use Rattle.it_canon.specs.QuestionDemands.{space_of, problem_names, problem_names_by, variables_of, question_demands, Poses}
 use Rattle.it_canon.proofs.ZipLemmas.{zip-length}
@@ -40,12 +40,13 @@ use Rattle.it_eliminate.specs.Elimination.{Member}
 use Rattle.it_redundant.specs.ReducedElimination.{ProjectedView}
 use Rattle.it_redundant.specs.ReducedElimination as projections
 use Rattle.it_answer.specs.declared.types.Budgets.{Budgets}
-use Rattle.it_answer.specs.Forms.{all_demands, generators_by, demand_of_elemental, demand_of_line, CertifyAll}
-use Rattle.it_answer.specs.RightAnswers.{ViolatesFirst, PointIsDue, CauseIsDue, IsRightFor}
-use Rattle.it_answer.specs.RightRegions.{answer_of_end, IsRightElimination}
+use Rattle.it_answer.specs.Forms.{all_demands, demand_of_elemental, demand_of_line, CertifyAll, MayStand}
+use Rattle.it_answer.specs.Shows.{ShowsBy, ViolatesFirst}
+use Rattle.it_answer.specs.DueEliminations.{answer_of_end, IsDueElimination}
+use Rattle.it_answer.specs.DueRelations.{PointIsDue, CauseIsDue, IsDueRelation}
 use Rattle.it_answer.proofs.UniqueLemmas.{undecided_same}
 use Rattle.it_certificate.specs.AnswerReading.{is_equality}
-use Rattle.it_certificate.specs.AnswerShapes.{IsNumberedAmount, IsNumbered, IsFoundIn, IsCauseFor, HasProveShape}
+use Rattle.it_certificate.specs.AnswerShapes.{IsNumberedAmount, IsNumbered, IsFoundIn, IsCauseFor, HasVerbShape}
 use Rattle.it_certificate.specs.Numerals.{step_of}
 use Rattle.it_certificate.proofs.RowLemmas.{nonzero_passes}
 use Rattle.it_certificate.specs.Laws.{without_zeros}
@@ -160,12 +161,12 @@ cause_by_end v q target c (Width k) b e = subst (IsCauseFor v) (undecided_same (
 
 -- ---- certificates
 
-pairs_below : (g : Generators) → g.count ≤ 2 ^ 32 → (from : ℕ) (ts : Terms) → Ascends from ts → All (IsAllowed g) ts → All IsNumberedAmount ts
-pairs_below g few from [] a all = All-nil IsNumberedAmount
-pairs_below g few from (t ∷ ts) a all =
-    let h = All-head (IsAllowed g) t ts all in
+pairs_below : (ds : List Demand) → length ds ≤ 2 ^ 32 → (from : ℕ) (ts : Terms) → Ascends from ts → All (MayStand ds) ts → All IsNumberedAmount ts
+pairs_below ds few from [] a all = All-nil IsNumberedAmount
+pairs_below ds few from (t ∷ ts) a all =
+    let h = All-head (MayStand ds) t ts all in
     let l : t.0 < 2 ^ 32 = let below = h.0 in omega (arith, below, few) in
-    All-cons IsNumberedAmount t ts (l, a.2) (pairs_below g few (t.0 + 1) ts a.3 (All-tail (IsAllowed g) t ts all))
+    All-cons IsNumberedAmount t ts (l, a.2) (pairs_below ds few (t.0 + 1) ts a.3 (All-tail (MayStand ds) t ts all))
 
 -- the run's proofs of targets and of obligations
 pub proofs_scaled : (p : ProblemView) (budget : Option ℕ) (ts : List Terms) (ws : List CertificateView) → AreProofsOf p budget ts ws → All IsScaled ws
@@ -183,7 +184,7 @@ module _ (q : BodyView) (p : ProblemView) (space : p.space ≡ space_of (problem
   few_variables : variables_of q ≤ 10
   few_variables = subst (λ (s : Space). s.variables ≤ 10) space limits.space.few
 
-  few_generators : (generators_by (all_demands (variables_of q) (question_demands q))).count ≤ 2 ^ 32
+  few_generators : length (all_demands (variables_of q) (question_demands q)) ≤ 2 ^ 32
   unfolding all_demands
   few_generators =
       let n = variables_of q in
@@ -201,7 +202,7 @@ module _ (q : BodyView) (p : ProblemView) (space : p.space ≡ space_of (problem
   all_numbered [] (w ∷ ws) c d = absurd c
   all_numbered (f ∷ fs) (w ∷ ws) c d =
       let s = All-head IsScaled w ws d in
-      All-cons IsNumbered w ws (record { scale = s.scale; weights = pairs_below (generators_by (all_demands (variables_of q) (question_demands q))) few_generators 0 w.weights s.canonical c.0.allowed })
+      All-cons IsNumbered w ws (record { scale = s.scale; weights = pairs_below (all_demands (variables_of q) (question_demands q)) few_generators 0 w.weights s.canonical c.0.allowed })
       (all_numbered fs ws c.1 (All-tail IsScaled w ws d))
 
   pub all_counted : (fs : List Form) (ws : List CertificateView) → CertifyAll q fs ws → length ws ≡ length fs
@@ -234,22 +235,22 @@ module _ (q : BodyView) (r : RelationView) (b : Poses q r) where
   cause_due budget few (t ∷ ts) c (inr d) = cause_due budget few ts c d.1
 
 -- a right answer to `prove` fits its question
-pub right_prove_fits : (budget : Option ℕ) (q : BodyView) (r : RelationView) (a : AnswerView) → IfSome budget (λ n. n < 2 ^ 32) → q.verb ≡ Prove r → IsRightFor budget q r a → HasProveShape q.names r.sign a
-right_prove_fits budget q r (Yes ws) few verb right =
-    let b = right.poses in (
-      all_counted q b.problem b.is_problem.space b.is_problem.limits b.is_problem.constraints (targets (variables_of q) r) ws right.shows ∙ targets_counted r.sign (form_of (variables_of q) r),
-      all_numbered q b.problem b.is_problem.space b.is_problem.limits b.is_problem.constraints (targets (variables_of q) r) ws right.shows (proofs_scaled b.problem budget b.rows ws right.due),
+pub right_prove_fits : (budget : Option ℕ) (q : BodyView) (r : RelationView) (a : AnswerView) → IfSome budget (λ n. n < 2 ^ 32) → q.verb ≡ Prove r → ShowsBy q (Prove r) a → IsDueRelation budget q r a → HasVerbShape q.names (Prove r) a
+right_prove_fits budget q r (Yes ws) few verb shown due =
+    let b = due.poses in (
+      all_counted q b.problem b.is_problem.space b.is_problem.limits b.is_problem.constraints (targets (variables_of q) r) ws shown ∙ targets_counted r.sign (form_of (variables_of q) r),
+      all_numbered q b.problem b.is_problem.space b.is_problem.limits b.is_problem.constraints (targets (variables_of q) r) ws shown (proofs_scaled b.problem budget b.rows ws due.due),
     )
-right_prove_fits budget q r (No back values) few verb right =
+right_prove_fits budget q r (No back values) few verb shown due =
     let own : space_of (problem_names q) ≡ space_of q.names = ap (λ (v : _). space_of (problem_names_by q.names v)) verb in (
-      point_size q (targets (variables_of q) r) back values right.shows ∙ ap size_of own,
-      values_due q r right.poses budget right.poses.rows back values right.due,
-      second_only q r right.poses r.sign (form_of (variables_of q) r) back values right.shows,
+      point_size q (targets (variables_of q) r) back values shown ∙ ap size_of own,
+      values_due q r due.poses budget due.poses.rows back values due.due,
+      second_only q r due.poses r.sign (form_of (variables_of q) r) back values shown,
     )
-right_prove_fits budget q r (Undecided cause) few verb right = cause_due q r right.poses budget few right.poses.rows cause right.due
-right_prove_fits budget q r (Region rows) few verb right = absurd right.shows
-right_prove_fits budget q r (Contained parts proofs) few verb right = absurd right.shows
-right_prove_fits budget q r (Open tried) few verb right = absurd right.shows
+right_prove_fits budget q r (Undecided cause) few verb shown due = cause_due q r due.poses budget few due.poses.rows cause due.due
+right_prove_fits budget q r (Region rows) few verb shown due = absurd shown
+right_prove_fits budget q r (Contained parts proofs) few verb shown due = absurd shown
+right_prove_fits budget q r (Open tried) few verb shown due = absurd shown
 
 -- ---- eliminations that end with a cause
 
@@ -258,9 +259,9 @@ answer_cause_same c d e = cc
 
 -- A cause of an elimination fits, where each listed rate is found by its name, and the name is no number.
 pub eliminated_cause_fits : (budgets : Budgets) (q : BodyView) (rates : List ℕ) (cause : Cause) → ((r : ℕ) → Member r rates → IsFoundIn q.names r × (step_of (rate_name q.names r) ≡ None))
-    → IsRightElimination budgets q rates (Undecided cause) → IsCauseFor q.names cause
-eliminated_cause_fits budgets q rates cause named right =
-    by_end right.due.end (end_of_rates right.due.givens budgets.pivots budgets.rows right.due.rows [] rates right.due.end right.due.ends) right.due.is
+    → IsDueElimination budgets q rates (Undecided cause) → IsCauseFor q.names cause
+eliminated_cause_fits budgets q rates cause named due =
+    by_end due.end (end_of_rates due.givens budgets.pivots budgets.rows due.rows [] rates due.end due.ends) due.is
   where
     by_end : (end : ProjectedView) → IsEndOf rates end → Undecided cause ≡ answer_of_end end → IsCauseFor q.names cause
     by_end (projections.Region kept) h is = absurd (cc)

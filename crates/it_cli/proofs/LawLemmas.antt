@@ -89,7 +89,7 @@ answer_limit (Bench seed count pivots rows tries) mode = absurd mode
 
 -- what mode `answer` has written is of a file that has a reading
 output_has_reading : (plans : List Plan) (settings : Settings) (given out : List ℕ) (s : Status) → IsAnswerMode settings → IsOutput plans settings given out s → (qs : List QuestionView) × IsFile given qs
-output_has_reading plans (Answer format pivots rows tries) given out s mode (answers, is) = (answers.questions, answers.asked.read)
+output_has_reading plans (Answer format pivots rows tries) given out s mode (answers, is) = (answers.questions, answers.asked)
 output_has_reading plans Check given out s mode output = absurd mode
 output_has_reading plans (Bench seed count pivots rows tries) given out s mode output = absurd mode
 

@@ -1,12 +1,12 @@
 pub mod RateLemmas
 pub mod LineLemmas
-pub mod VerdictLemmas
 pub mod RightLemmas
 pub mod CountLemmas
 pub mod StepLemmas
 pub mod ProofLemmas
 pub mod EndLemmas
 pub mod LawLemmas
+pub mod ShownLemmas
 pub mod OutputLemmas
 pub mod FrontLemmas
 pub mod CheckLemmas

@@ -2,7 +2,7 @@
 use Rattle.std.proofs.Common.{◌≡◌, inl, inr, ℕ, ◌+◌, ◌<◌, ◌≤◌, ℤ, List, [], ◌∷◌, map, length, drop, All, Bool, true, false, Option, refl, sym, ap, ap₂, subst, ◌∙◌, arith, length-append}
 use Rattle.std.proofs.lemmas.List.{length-map}
 use Rattle.std.proofs.Math.Seq.{drop-append_seam}
-use Rattle.std.proofs.lemmas.List.Elements.{All-nil, All-cons, All-head, All-tail}
+use Rattle.std.proofs.lemmas.List.Elements.{All-nil, All-cons, All-head, All-tail, All-weaker}
 use Rattle.std.proofs.lemmas.Nat.{pow_pos}
 use Rattle.std.proofs.Math.Pow.{pow_mono}
 use Rattle.it_space.specs.declared.answers.Certificate.{Certificate}
@@ -19,7 +19,7 @@ use Rattle.it_space.specs.declared.answers.Mark.{Mark}
 use Rattle.it_space.specs.Answers as views
 use Rattle.it_space.specs.Rows.{Terms, IsUpTo}
 use Rattle.it_space.specs.Spaces.{size_of}
-use Rattle.it_polymatroid.specs.Certificates.{Form, IsAllowed}
+use Rattle.it_polymatroid.specs.Certificates.{Form}
 use Rattle.it_polymatroid.specs.Elementals.{elementals}
 use Rattle.it_space.proofs.EveryLemmas.{every_of, all_of, every-same}
 use Rattle.it_syntax.specs.Meaning.{RelationView}
@@ -39,14 +39,15 @@ use Rattle.it_eliminate.proofs.MemberLemmas.{every_member}
 use Rattle.it_redundant.specs.ReducedElimination.{ProjectedView}
 use Rattle.it_redundant.specs.ReducedElimination as projections
 use Rattle.it_answer.specs.declared.types.Budgets.{Budgets}
-use Rattle.it_answer.specs.RightRegions.{IsRightElimination, answer_of_end, region_rows}
-use Rattle.it_answer.specs.Forms.{CertifyAll, all_demands, generators_by}
+use Rattle.it_answer.specs.Shows.{ShowsBy, ViolatesFirst, region_rows}
+use Rattle.it_answer.specs.DueEliminations.{IsDueElimination, answer_of_end}
+use Rattle.it_answer.specs.DueRelations.{CauseIsDue, IsDueRelation}
+use Rattle.it_answer.specs.Forms.{CertifyAll, MayStand, all_demands}
 use Rattle.it_canon.specs.Targets.{targets}
-use Rattle.it_answer.specs.RightAnswers.{ViolatesFirst, CauseIsDue, IsRightFor, IsRightAnswer, IsRightAnswerBy}
+use Rattle.it_answer.specs.RightAnswers.{IsDueBy, IsRightAnswer}
 use Rattle.it_print.specs.Lines.{IsCauseOf, IsPrintable, IsRowOver, answer_line, auxiliary_names, auxiliary_names_by, origins_of}
 use Rattle.it_print.specs.ProofLines.{generator_rows, proof_text}
 use Rattle.it_answer.specs.AnswerForms.{answer_forms}
-use Rattle.it_answer.specs.RightContainments.{IsRightContainment}
 use Rattle.it_answer.proofs.UniqueLemmas.{undecided_same}
 use Rattle.it_region.specs.declared.types.Candidate.{Candidate}
 use Rattle.it_region.specs.Obligations.{ArePartsOf, obligations}
@@ -73,8 +74,8 @@ certificates q n m [] [] e f c = All-nil (λ (c : Certificate). All (λ (w : ℕ
 certificates q n m [] (k ∷ ks) e f c = absurd c
 certificates q n m (g ∷ fs) [] e f c = absurd c
 certificates q n m (g ∷ fs) (k ∷ ks) e f c = All-cons (λ (c : Certificate). All (λ (w : ℕ × ℤ). w.0 < length (elementals n) + m) c.weights.items) k ks
-    (all_of (λ (w : ℕ × ℤ). w.0 < length (elementals n) + m) k.weights.items (every-same (IsAllowed (generators_by (all_demands (variables_of q) (question_demands q)))) (λ (w : ℕ × ℤ). w.0 < length (elementals n) + m) k.weights.items
-    (λ w a. omega (arith, a.0, length-demands (variables_of q) (question_demands q), ap (λ i. length (elementals i)) e, f)) (every_of (IsAllowed (generators_by (all_demands (variables_of q) (question_demands q)))) k.weights.items c.0.allowed)))
+    (All-weaker (MayStand (all_demands (variables_of q) (question_demands q))) (λ (w : ℕ × ℤ). w.0 < length (elementals n) + m)
+    (λ w a. omega (arith, a.0, length-demands (variables_of q) (question_demands q), ap (λ i. length (elementals i)) e, f)) k.weights.items c.0.allowed)
     (certificates q n m fs ks e f c.1)
 
 -- a counterexample has a value for each coordinate
@@ -123,17 +124,17 @@ some_names q k = by_verb q.verb k.verb
     by_verb (Eliminate rates) over = k.some
     by_verb (Contain a b tries) over = omega (arith, k.some, ap length over.0.variables, length-append q.names.variables over.0.own)
 
-printable_proof : (budget : Option ℕ) (q : BodyView) (r : RelationView) (m : ℕ) (answer : Answer) → IsQuestion q → m ≡ length (question_demands q) → IsRightFor budget q r (answer_view answer)
-    → IsPrintable q m answer
-printable_proof budget q r m (answers.Yes proofs) k few a = certificates q (variables_of q) m (targets (variables_of q) r) proofs.items refl few a.shows
-printable_proof budget q r m (answers.No is_back point) k few a =
-    let size : length point ≡ size_of (space_of (problem_names q)) = point_size q (targets (variables_of q) r) is_back point a.shows in
+printable_proof : (budget : Option ℕ) (q : BodyView) (r : RelationView) (m : ℕ) (answer : Answer) → IsQuestion q → m ≡ length (question_demands q) → ShowsBy q (Prove r) (answer_view answer)
+    → IsDueRelation budget q r (answer_view answer) → IsPrintable q m answer
+printable_proof budget q r m (answers.Yes proofs) k few shown due = certificates q (variables_of q) m (targets (variables_of q) r) proofs.items refl few shown
+printable_proof budget q r m (answers.No is_back point) k few shown due =
+    let size : length point ≡ size_of (space_of (problem_names q)) = point_size q (targets (variables_of q) r) is_back point shown in
     let names = few_names q k in
     (omega (arith, size, pow_pos (variables_of q)), omega (arith, size, pow_mono {i = variables_of q} {j = 8} names.0, names.1))
-printable_proof budget q r m (answers.Undecided cause) k few a = cause_of_due a.poses.problem budget (length (problem_names q).rates) a.poses.rows cause a.due
-printable_proof budget q r m (answers.Region rows) k few a = absurd a.shows
-printable_proof budget q r m (answers.Contained parts proofs) k few a = absurd a.shows
-printable_proof budget q r m (answers.Open tried) k few a = absurd a.shows
+printable_proof budget q r m (answers.Undecided cause) k few shown due = cause_of_due due.poses.problem budget (length (problem_names q).rates) due.poses.rows cause due.due
+printable_proof budget q r m (answers.Region rows) k few shown due = absurd shown
+printable_proof budget q r m (answers.Contained parts proofs) k few shown due = absurd shown
+printable_proof budget q r m (answers.Open tried) k few shown due = absurd shown
 
 -- ---- an answer to `eliminate`
 
@@ -152,15 +153,16 @@ cause_of_end m rates (projections.Region kept) within h = tt
 cause_of_end m rates (projections.Rows rate) within h = every_member (λ r. r < m) rates rate (every_of (λ r. r < m) rates within) h
 cause_of_end m rates (projections.Wide rate) within h = every_member (λ r. r < m) rates rate (every_of (λ r. r < m) rates within) h
 
-printable_region : (budgets : Budgets) (q : BodyView) (rates : List ℕ) (m : ℕ) (answer : Answer) → problem_names q ≡ q.names → All (λ r. r < length q.names.rates) rates → IsRightElimination budgets q rates (answer_view answer) → IsPrintable q m answer
-printable_region budgets q rates m (answers.Yes proofs) names within a = absurd a.shows
-printable_region budgets q rates m (answers.No is_back point) names within a = absurd a.shows
-printable_region budgets q rates m (answers.Undecided cause) names within a =
-    subst (λ (v : NamesView). IsCauseOf (length v.rates) cause) (sym names) (subst (IsCauseIn (length q.names.rates)) (sym a.due.is)
-    (cause_of_end (length q.names.rates) rates a.due.end within (end_of_rates a.due.givens budgets.pivots budgets.rows a.due.rows [] rates a.due.end a.due.ends)))
-printable_region budgets q rates m (answers.Region rows) names within a = subst (λ (v : NamesView). All (λ (row : Mark × Terms). IsRowOver v row.1) rows.items) (sym names) (region_rows_over q.names rows.items a.shows.coordinates)
-printable_region budgets q rates m (answers.Contained parts proofs) names within a = absurd a.shows
-printable_region budgets q rates m (answers.Open tried) names within a = absurd a.shows
+printable_region : (budgets : Budgets) (q : BodyView) (rates : List ℕ) (m : ℕ) (answer : Answer) → problem_names q ≡ q.names → All (λ r. r < length q.names.rates) rates → ShowsBy q (Eliminate rates) (answer_view answer)
+    → IsDueElimination budgets q rates (answer_view answer) → IsPrintable q m answer
+printable_region budgets q rates m (answers.Yes proofs) names within shown due = absurd shown
+printable_region budgets q rates m (answers.No is_back point) names within shown due = absurd shown
+printable_region budgets q rates m (answers.Undecided cause) names within shown due =
+    subst (λ (v : NamesView). IsCauseOf (length v.rates) cause) (sym names) (subst (IsCauseIn (length q.names.rates)) (sym due.is)
+    (cause_of_end (length q.names.rates) rates due.end within (end_of_rates due.givens budgets.pivots budgets.rows due.rows [] rates due.end due.ends)))
+printable_region budgets q rates m (answers.Region rows) names within shown due = subst (λ (v : NamesView). All (λ (row : Mark × Terms). IsRowOver v row.1) rows.items) (sym names) (region_rows_over q.names rows.items shown.coordinates)
+printable_region budgets q rates m (answers.Contained parts proofs) names within shown due = absurd shown
+printable_region budgets q rates m (answers.Open tried) names within shown due = absurd shown
 
 -- ---- an answer to `contain`
 
@@ -169,28 +171,28 @@ as_many_parts : (q : BodyView) (a b : RegionView) (tries : List (List ℕ)) (par
 as_many_parts q a b tries parts is region are = are.count ∙ region.counted
     ∙ ap length (sym (ap (auxiliary_names_by q.names) is ∙ ap (drop (length q.names.variables)) region.variables ∙ drop-append_seam q.names.variables region.own))
 
-printable_containment : (budgets : Budgets) (plans : List Plan) (q : BodyView) (a b : RegionView) (tries : List (List ℕ)) (m : ℕ) (answer : Answer) (found : List Candidate) → q.verb ≡ Contain a b tries → IsQuestion q
-    → m ≡ length (question_demands q) → IsRightContainment budgets plans q a b tries (record { answer = answer_view answer; found = found }) → IsPrintable q m answer
-printable_containment budgets plans q a b tries m (answers.Yes proofs) found is k few c = absurd c.shows
-printable_containment budgets plans q a b tries m (answers.No is_back point) found is k few c = absurd c.shows
-printable_containment budgets plans q a b tries m (answers.Undecided cause) found is k few c = absurd c.shows
-printable_containment budgets plans q a b tries m (answers.Region rows) found is k few c = absurd c.shows
-printable_containment budgets plans q a b tries m (answers.Contained parts proofs) found is k few c = (
-  as_many_parts q a b tries parts.items is (subst (IsVerbOver q.names) is k.verb).1 c.shows.are_parts,
-  certificates q (variables_of q) m (obligations q a b parts.items) proofs.items refl few c.shows.certified,
+printable_containment : (q : BodyView) (a b : RegionView) (tries : List (List ℕ)) (m : ℕ) (answer : Answer) → q.verb ≡ Contain a b tries → IsQuestion q → m ≡ length (question_demands q)
+    → ShowsBy q (Contain a b tries) (answer_view answer) → IsPrintable q m answer
+printable_containment q a b tries m (answers.Yes proofs) is k few shown = absurd shown
+printable_containment q a b tries m (answers.No is_back point) is k few shown = absurd shown
+printable_containment q a b tries m (answers.Undecided cause) is k few shown = absurd shown
+printable_containment q a b tries m (answers.Region rows) is k few shown = absurd shown
+printable_containment q a b tries m (answers.Contained parts proofs) is k few shown = (
+  as_many_parts q a b tries parts.items is (subst (IsVerbOver q.names) is k.verb).1 shown.are_parts,
+  certificates q (variables_of q) m (obligations q a b parts.items) proofs.items refl few shown.certified,
 )
-printable_containment budgets plans q a b tries m (answers.Open tried) found is k few c = tt
+printable_containment q a b tries m (answers.Open tried) is k few shown = tt
 
 -- ---- each verb
 
 pub right_is_printable : (budgets : Budgets) (plans : List Plan) (q : BodyView) (m : ℕ) (answer : Answer) (found : List Candidate) → IsQuestion q → m ≡ length (question_demands q)
     → IsRightAnswer budgets plans q (record { answer = answer_view answer; found = found }) → IsPrintable q m answer
-right_is_printable budgets plans q m answer found k few right = by_verb q.verb refl right
+right_is_printable budgets plans q m answer found k few right = by_verb q.verb refl right.shows right.due
   where
-    by_verb : (verb : VerbView) → q.verb ≡ verb → IsRightAnswerBy budgets plans q verb (record { answer = answer_view answer; found = found }) → IsPrintable q m answer
-    by_verb (Prove r) is x = printable_proof budgets.pivots q r m answer k few x.0
-    by_verb (Eliminate rates) is x = printable_region budgets q rates m answer (ap (problem_names_by q.names) is) (subst (IsVerbOver q.names) is k.verb).within x.0
-    by_verb (Contain a b tries) is x = printable_containment budgets plans q a b tries m answer found is k few x
+    by_verb : (verb : VerbView) → q.verb ≡ verb → ShowsBy q verb (answer_view answer) → IsDueBy budgets plans q verb (record { answer = answer_view answer; found = found }) → IsPrintable q m answer
+    by_verb (Prove r) is shown due = printable_proof budgets.pivots q r m answer k few shown due.0
+    by_verb (Eliminate rates) is shown due = printable_region budgets q rates m answer (ap (problem_names_by q.names) is) (subst (IsVerbOver q.names) is k.verb).within shown due.0
+    by_verb (Contain a b tries) is shown due = printable_containment q a b tries m answer is k few shown
 
 -- ---- its texts
 

@@ -32,7 +32,7 @@ module _ (one_answer : OneRightAnswer) (one_reading : FileIsOne) (one_verdict : 
 
   one_file : (budgets : Budgets) (plans : List Plan) (format : Format) (bytes out other : List ℕ) → Answers budgets plans format bytes out → Answers budgets plans format bytes other → out ≡ other
   one_file budgets plans format bytes out other a b =
-      let same = one_reading bytes a.questions b.questions a.asked.read b.asked.read in
+      let same = one_reading bytes a.questions b.questions a.asked b.asked in
       let moved : AreAnswered budgets plans format b.questions out = subst (λ (qs : List QuestionView). AreAnswered budgets plans format qs out) same a.answered in
       one_text budgets plans format 1 b.questions [] moved.0 b.answered.0 out other moved.1 b.answered.1
 
@@ -51,7 +51,7 @@ module _ (one_answer : OneRightAnswer) (one_reading : FileIsOne) (one_verdict : 
 
   one_line : (budgets : Budgets) (plans : List Plan) (seed count : ℕ) (line other : List ℕ) → IsBenchLine budgets plans seed count line → IsBenchLine budgets plans seed count other → line ≡ other
   one_line budgets plans seed count line other a b =
-      let same = one_reading (generated_file seed count) a.questions b.questions a.asked.read b.asked.read in
+      let same = one_reading (generated_file seed count) a.questions b.questions a.asked b.asked in
       let moved : AreCounted budgets plans [] no_counts b.questions a.counts = subst (λ (qs : List QuestionView). AreCounted budgets plans [] no_counts qs a.counts) same a.counted in
       a.is ∙ ap (bench_line seed count) (one_count one_answer budgets plans [] no_counts b.questions a.counts b.counts moved b.counted) ∙ sym b.is
 

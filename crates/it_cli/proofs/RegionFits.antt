@@ -34,7 +34,8 @@ use Rattle.it_redundant.specs.ReducedElimination as projections
 use Rattle.it_redundant.proofs.ReductionLemmas.{every_kept}
 use Rattle.it_redundant.proofs.ProjectionLemmas.{same_list}
 use Rattle.it_answer.specs.declared.types.Budgets.{Budgets}
-use Rattle.it_answer.specs.RightRegions.{region_rows, marked_rows, answer_of_end, IsRightElimination}
+use Rattle.it_answer.specs.Shows.{ShowsRegion, region_rows}
+use Rattle.it_answer.specs.DueEliminations.{marked_rows, answer_of_end, IsDueElimination}
 use Rattle.it_certificate.specs.AnswerShapes.{IsNumberedAmount, IsRowIn}
 
 -- ---- cancelled rows
@@ -117,13 +118,13 @@ marked_canonical (k ∷ kept) h = (h.0, marked_canonical kept h.1)
 answer_same : (rows others : List (Mark × Terms)) → Region rows ≡ Region others → rows ≡ others
 answer_same rows others e = cc
 
-rows_canonical : (budgets : Budgets) (q : BodyView) (rates : List ℕ) (rows : List (Mark × Terms)) → IsRightElimination budgets q rates (Region rows) → Every IsCanonical (region_rows rows)
-rows_canonical budgets q rates rows right = by_end right.due.end right.due.ends right.due.is
+rows_canonical : (budgets : Budgets) (q : BodyView) (rates : List ℕ) (rows : List (Mark × Terms)) → IsDueElimination budgets q rates (Region rows) → Every IsCanonical (region_rows rows)
+rows_canonical budgets q rates rows due = by_end due.end due.ends due.is
   where
-    by_end : (end : ProjectedView) → ReducedEnds right.due.givens budgets.pivots budgets.rows right.due.rows [] rates end → Region rows ≡ answer_of_end end → Every IsCanonical (region_rows rows)
+    by_end : (end : ProjectedView) → ReducedEnds due.givens budgets.pivots budgets.rows due.rows [] rates end → Region rows ≡ answer_of_end end → Every IsCanonical (region_rows rows)
     by_end (projections.Region kept) e is =
         subst (λ (rs : List (Mark × Terms)). Every IsCanonical (region_rows rs)) (sym (answer_same rows (marked_rows kept) is))
-        (marked_canonical kept (kept_canonical right.due.givens budgets.pivots budgets.rows right.due.rows [] kept rates (stated_canonical _ _ right.due.rows right.due.are_rows) tt e))
+        (marked_canonical kept (kept_canonical due.givens budgets.pivots budgets.rows due.rows [] kept rates (stated_canonical _ _ due.rows due.are_rows) tt e))
     by_end (projections.Rows r) e is = absurd (cc)
     by_end (projections.Wide r) e is = absurd (cc)
 
@@ -142,5 +143,6 @@ rows_fit size (r ∷ rows) few up canonical =
 few_coordinates : (q : BodyView) → IsQuestion q → size_of (space_of q.names) < 2 ^ 32
 few_coordinates q k = omega (arith, pow_mono {i = length q.names.variables} {j = 8} k.few, k.few_rates)
 
-pub right_region_fits : (budgets : Budgets) (q : BodyView) (rates : List ℕ) (rows : List (Mark × Terms)) → IsQuestion q → IsRightElimination budgets q rates (Region rows) → All (IsRowIn (size_of (space_of q.names))) rows
-right_region_fits budgets q rates rows k right = rows_fit (size_of (space_of q.names)) rows (few_coordinates q k) right.shows.coordinates (rows_canonical budgets q rates rows right)
+pub right_region_fits : (budgets : Budgets) (q : BodyView) (rates : List ℕ) (rows : List (Mark × Terms)) → IsQuestion q → ShowsRegion q rates rows → IsDueElimination budgets q rates (Region rows)
+    → All (IsRowIn (size_of (space_of q.names))) rows
+right_region_fits budgets q rates rows k shown due = rows_fit (size_of (space_of q.names)) rows (few_coordinates q k) shown.coordinates (rows_canonical budgets q rates rows due)

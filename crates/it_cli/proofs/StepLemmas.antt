@@ -11,8 +11,9 @@ use Rattle.it_region.specs.declared.types.Candidate.{Candidate}
 use Rattle.it_prove.specs.ProofViews as proofs
 use Rattle.it_contain.specs.Proposals.{Plan}
 use Rattle.it_answer.specs.declared.types.Budgets.{Budgets}
-use Rattle.it_answer.specs.RightAnswers.{CauseIsDue, IsRightAnswerBy}
-use Rattle.it_answer.specs.RightRegions.{answer_of_end}
+use Rattle.it_answer.specs.DueEliminations.{answer_of_end}
+use Rattle.it_answer.specs.DueRelations.{CauseIsDue}
+use Rattle.it_answer.specs.RightAnswers.{IsDueBy}
 use Rattle.it_cli.specs.Laws.{NoLineIsOutOfSteps}
 
 no_steps_at_region_end : (steps : ℕ) (end : ProjectedView) → Undecided (causes.Pivots steps) ≡ answer_of_end end → ⊥
@@ -27,11 +28,11 @@ module _ (never : proofs.NeverOutOfSteps) where
   no_cause p steps (t ∷ ts) (inr (proven, rest)) = no_cause p steps ts rest
 
   by_verb : (budgets : Budgets) (plans : List Plan) (q : BodyView) (verb : VerbView) (steps : ℕ) (found : List Candidate) → budgets.pivots ≡ None
-      → IsRightAnswerBy budgets plans q verb (record { answer = Undecided (causes.Pivots steps); found = found }) → ⊥
-  by_verb budgets plans q (Prove r) steps found none right =
-      no_cause right.0.poses.problem steps right.0.poses.rows (subst (λ (o : Option ℕ). CauseIsDue right.0.poses.problem o right.0.poses.rows (causes.Pivots steps)) none right.0.due)
-  by_verb budgets plans q (Eliminate rates) steps found none right = no_steps_at_region_end steps right.0.due.end right.0.due.is
-  by_verb budgets plans q (Contain a b tries) steps found none right = absurd right.shows
+      → IsDueBy budgets plans q verb (record { answer = Undecided (causes.Pivots steps); found = found }) → ⊥
+  by_verb budgets plans q (Prove r) steps found none due =
+      let b = due.0.poses in no_cause b.problem steps b.rows (subst (λ (o : Option ℕ). CauseIsDue b.problem o b.rows (causes.Pivots steps)) none due.0.due)
+  by_verb budgets plans q (Eliminate rates) steps found none due = no_steps_at_region_end steps due.0.end due.0.is
+  by_verb budgets plans q (Contain a b tries) steps found none due = absurd due.due
 
   pub never_out_of_steps : NoLineIsOutOfSteps
-  never_out_of_steps budgets plans q steps found none right = by_verb budgets plans q q.verb steps found none right
+  never_out_of_steps budgets plans q steps found none right = by_verb budgets plans q q.verb steps found none right.due

@@ -7,7 +7,7 @@ use Rattle.it_gen.specs.GeneratedFiles.{generated_file}
 use Rattle.it_contain.specs.Proposals.{Plan}
 use Rattle.it_answer.specs.declared.types.Budgets.{Budgets}
 use Rattle.it_answer.specs.Replies.{Reply}
-use Rattle.it_cli.specs.Questions.{IsQuestionFile}
+use Rattle.it_question.specs.Files.{IsFile}
 use Rattle.it_cli.specs.Right.{Context, IsRightAfter, after_answer}
 use Rattle.it_cli.specs.declared.counts.Counts.{Counts}
 
@@ -43,7 +43,7 @@ bench_line seed count c = codes "bench seed " ++ decimal seed ++ codes " count "
 -- the line for the generated file of this seed and count
 pub record IsBenchLine (budgets : Budgets) (plans : List Plan) (seed count : ℕ) (line : List ℕ) : Type 0 where
   pub questions : List QuestionView
-  pub asked : IsQuestionFile (generated_file seed count) questions
+  pub asked : IsFile (generated_file seed count) questions
   pub counts : Counts
   pub counted : AreCounted budgets plans [] no_counts questions counts
   pub is : line ≡ bench_line seed count counts

@@ -16,7 +16,6 @@ use Rattle.it_answer.specs.declared.types.Budgets.{Budgets}
 use Rattle.it_answer.specs.RightAnswers.{IsRightAnswer}
 use Rattle.it_cli.specs.Right.{Answers, budgets_of}
 use Rattle.it_gen.specs.GeneratedFiles.{generated_file}
-use Rattle.it_cli.specs.Questions.{IsQuestionFile}
 use Rattle.it_cli.specs.Counts.{AreCounted, IsBenchLine, no_counts}
 use Rattle.it_cli.specs.declared.counts.Counts.{Counts}
 use Rattle.it_cli.specs.Outputs.{IsAnswerMode, IsOutput, Verdicts, most_bytes, verdict_status}
@@ -91,13 +90,8 @@ BenchReadsNothing = (r : Call) (s : Status) (seed count : ℕ) (pivots : Option 
 -- A generated file asks about relations alone, so its answers are yes, no and undecided, and these are as many as its questions.
 abbrev pub CountsAddUp : Type 0
 CountsAddUp = (budgets : Budgets) (plans : List Plan) (seed count : ℕ) (questions : List QuestionView) (counts : Counts) → count ≤ 1000
-    → IsQuestionFile (generated_file seed count) questions → AreCounted budgets plans [] no_counts questions counts
+    → IsFile (generated_file seed count) questions → AreCounted budgets plans [] no_counts questions counts
     → (counts.yes + counts.no + counts.undecided ≡ count) × (counts.regions ≡ 0) × (counts.contained ≡ 0) × (counts.left_open ≡ 0)
-
--- no question has both a right yes and a right no, whatever the budgets and the boxes
-abbrev pub NeverYesAndNo : Type 0
-NeverYesAndNo = (budgets others : Budgets) (plans more : List Plan) (q : BodyView) (ws : List CertificateView) (is_back : Bool) (values : List ℤ) (found other : List Candidate)
-    → IsRightAnswer budgets plans q (record { answer = Yes ws; found = found }) → IsRightAnswer others more q (record { answer = No is_back values; found = other }) → ⊥
 
 -- an input has one output, and one status after it
 abbrev pub OneOutput : Type 0

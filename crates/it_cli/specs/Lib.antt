@@ -1,9 +1,9 @@
-pub mod Questions
 pub mod Refusals
 pub mod Right
 pub mod Counts
 pub mod Outputs
 pub mod Ends
+pub mod Shown
 pub mod InnerEnds
 pub mod Laws
 pub mod Numbers

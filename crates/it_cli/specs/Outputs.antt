@@ -9,7 +9,7 @@ use Rattle.it_question.specs.Questions.{QuestionView}
 use Rattle.it_contain.specs.Proposals.{Plan}
 use Rattle.it_report.specs.Judging.{IsVerdict}
 use Rattle.it_report.specs.LineVerdicts.{LineVerdict, is_invalid, verdict_line}
-use Rattle.it_cli.specs.Questions.{IsQuestionFile}
+use Rattle.it_question.specs.Files.{IsFile}
 use Rattle.it_cli.specs.Right.{AreAnsweredInPart, Answers, budgets_of}
 use Rattle.it_cli.specs.Counts.{IsBenchLine}
 use Rattle.it_cli.specs.declared.status.Status.{Status}
@@ -24,8 +24,7 @@ most_bytes (Bench seed count pivots rows tries) = None
 -- the input is a question file
 abbrev pub IsAnswerMode : Settings → Type 0
 IsAnswerMode (Answer format pivots rows tries) = Unit {0}
-IsAnswerMode Check = ⊥
-IsAnswerMode (Bench seed count pivots rows tries) = ⊥
+IsAnswerMode settings = ⊥
 
 -- ---- the verdicts on a report
 
@@ -64,6 +63,6 @@ IsFrontOfOutput plans settings bytes out = (whole : List ℕ) × (status : Statu
 
 -- what is written of it where a call is cut off: the first groups, and then a front of the next one; in the other modes a front of it
 abbrev pub IsOutputInPart : List Plan → Settings → List ℕ → List ℕ → Type 0
-IsOutputInPart plans (Answer format pivots rows tries) bytes out = (qs : List QuestionView) × IsQuestionFile bytes qs × AreAnsweredInPart (budgets_of pivots rows tries) plans format qs out
+IsOutputInPart plans (Answer format pivots rows tries) bytes out = (qs : List QuestionView) × IsFile bytes qs × AreAnsweredInPart (budgets_of pivots rows tries) plans format qs out
 IsOutputInPart plans Check bytes out = IsFrontOfOutput plans Check bytes out
 IsOutputInPart plans (Bench seed count pivots rows tries) bytes out = IsFrontOfOutput plans (Bench seed count pivots rows tries) bytes out

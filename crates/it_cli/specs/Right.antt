@@ -23,7 +23,7 @@ use Rattle.it_answer.specs.Forms.{all_demands, demand_at}
 use Rattle.it_answer.specs.AnswerForms.{answer_forms}
 use Rattle.it_answer.specs.Replies.{Reply}
 use Rattle.it_answer.specs.RightAnswers.{IsRightAnswer}
-use Rattle.it_cli.specs.Questions.{IsQuestionFile}
+use Rattle.it_question.specs.Files.{IsFile}
 
 -- how much an answer may cost: the steps of a run, if they are bounded, the rows after a rate and the candidates that are tried
 abbrev pub budgets_of : Option ℕ → ℕ → ℕ → Budgets
@@ -86,5 +86,5 @@ AreAnsweredInPart budgets plans format qs out = GroupsInPart (IsRightAfter budge
 -- the lines of one right answer for each of the file's questions
 pub record Answers (budgets : Budgets) (plans : List Plan) (format : Format) (bytes out : List ℕ) : Type 0 where
   pub questions : List QuestionView
-  pub asked : IsQuestionFile bytes questions
+  pub asked : IsFile bytes questions
   pub answered : AreAnswered budgets plans format questions out

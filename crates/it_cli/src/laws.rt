@@ -1,7 +1,9 @@
 //! Theorems on how a call ends and on what it writes, each as the contract of a function.
-ghost use Rattle.it_answer.specs.RightAnswers.{AContainmentIsTrue, ANoIsTrue, ARegionIsTrue, AYesAscends, AYesIsTrue, NeededRowsAreNeeded, NoStepIsZero, OneRightAnswer};
+ghost use Rattle.it_answer.specs.Shows.{AContainmentIsTrue, ANoIsTrue, ARegionIsTrue, AYesIsTrue, NeededRowsAreNeeded, NeverYesAndNo};
+ghost use Rattle.it_answer.specs.RightAnswers.{AYesAscends, NoStepIsZero, OneRightAnswer};
 ghost use Rattle.it_cli.specs.Accepted.{OutputIsAccepted, ReportsAreAccepted};
-ghost use Rattle.it_cli.specs.Laws.{BenchReadsNothing, CountsAddUp, CountsAreWritten, FaultIsDue, Headline, IsComplete, LongIsDue, NoLineIsOutOfSteps, NeverYesAndNo, OneOutput, SureEnds, UsageIsDue, VerdictsAreWritten};
+ghost use Rattle.it_cli.specs.Laws.{BenchReadsNothing, CountsAddUp, CountsAreWritten, FaultIsDue, Headline, IsComplete, LongIsDue, NoLineIsOutOfSteps, OneOutput, SureEnds, UsageIsDue, VerdictsAreWritten};
+ghost use Rattle.it_cli.specs.Shown.{AnswersShow};
 
 use it_answer::answers_are_determined;
 use it_certificate::answers_read_back;
@@ -42,17 +44,22 @@ pub fn are_due()
     file_is_one();
 }
 
-/// Where a yes is right the relation holds at every polymatroid and rates that make the lines true; where a no is right its
-/// values are ones at which it doesn't. So no question has both. Where a region is right its rows hold exactly at the points that
-/// extend to the eliminated rates, and no row that is marked as needed follows from the others. Where a containment is right the
-/// first region lies in the second.
+/// Each answer whose lines are written after `Done` in mode `answer` shows what it says.
+pub fn answers_show()
+    ensures { AnswersShow }
+{}
+
+/// What an answer means that shows what it says. A yes: the relation holds at every polymatroid and rates that make the lines true.
+/// A no: its values are ones at which it doesn't; so no question has both. A region: its rows hold exactly at the points that extend
+/// to the eliminated rates, and no row that is marked as needed follows from the others. A containment: the first region lies in the
+/// second.
 pub fn verdicts_are_true()
     ensures yes { AYesIsTrue }
     ensures no { ANoIsTrue }
+    ensures one { NeverYesAndNo }
     ensures region { ARegionIsTrue }
     ensures needed { NeededRowsAreNeeded }
     ensures contained { AContainmentIsTrue }
-    ensures one { NeverYesAndNo }
 {
     it_answer::verdicts_are_true();
 }

@@ -9,7 +9,7 @@ use Rattle.it_space.specs.Rows.{one_at}
 use Rattle.it_polymatroid.proofs.Forms.{dot_from_one, dot-scale, dot-add, linear-scale, linear_zero}
 
 -- a sum of weights that may stand, at values that meet the generators, is at least 0
-weighted_least : (g : Generators) (v : ℕ → ℤ) → ((i : ℕ) → i < g.count → pos 0 ≤ℤ v i) → ((i : ℕ) → i < g.count → g.is_equation i ≡ true → v i ≡ pos 0)
+pub weighted_least : (g : Generators) (v : ℕ → ℤ) → ((i : ℕ) → i < g.count → pos 0 ≤ℤ v i) → ((i : ℕ) → i < g.count → g.is_equation i ≡ true → v i ≡ pos 0)
     → (ws : List (ℕ × ℤ)) → All (IsAllowed g) ws → pos 0 ≤ℤ combination ws v
 weighted_least g v least zeros [] a = omega (arith, ints)
 weighted_least g v least zeros (w ∷ ws) a =

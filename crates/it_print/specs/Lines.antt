@@ -193,9 +193,8 @@ region_lines k v rows = decimal k ++ codes " region " ++ decimal (length rows) +
 
 -- the names of the auxiliary variables that a containment asks for
 abbrev pub auxiliary_names_by : NamesView → VerbView → List (List ℕ)
-auxiliary_names_by v (Prove r) = []
-auxiliary_names_by v (Eliminate rates) = []
 auxiliary_names_by v (Contain first second tries) = drop (length v.variables) second.names.variables
+auxiliary_names_by v verb = []
 
 -- those of a question
 abbrev pub auxiliary_names : BodyView → List (List ℕ)
@@ -207,9 +206,8 @@ part_for variables name set = codes " " ++ name ++ codes ":=" ++ set_or_zero_tex
 
 -- the sets of the auxiliary variables, in order
 abbrev pub parts_for : List (List ℕ) → List (List ℕ) → List ℕ → List ℕ
-parts_for variables [] sets = []
-parts_for variables (name ∷ names) [] = []
 parts_for variables (name ∷ names) (set ∷ sets) = part_for variables name set ++ parts_for variables names sets
+parts_for variables names sets = []
 
 -- `contained`, and the substitution
 unfoldable pub contained_line : ℕ → List (List ℕ) → List (List ℕ) → List ℕ → List ℕ

@@ -40,18 +40,14 @@ certificate_lines k v origins rows w target = weight_lines k v origins rows w.we
 
 -- each certificate with its target
 abbrev pub proof_lines : ℕ → NamesView → List Origin → (ℕ → Generator) → List CertificateView → List Terms → List ℕ
-proof_lines k v origins rows [] targets = []
-proof_lines k v origins rows (w ∷ ws) [] = []
 proof_lines k v origins rows (w ∷ ws) (target ∷ targets) = certificate_lines k v origins rows w target ++ proof_lines k v origins rows ws targets
+proof_lines k v origins rows ws targets = []
 
 -- the certificates of a yes and of a containment
 abbrev pub proofs_in : AnswerView → List CertificateView
 proofs_in (Yes ws) = ws
-proofs_in (No is_back values) = []
-proofs_in (Undecided cause) = []
-proofs_in (Region rows) = []
 proofs_in (Contained parts ws) = ws
-proofs_in (Open tried) = []
+proofs_in answer = []
 
 -- the lines of an answer, and after them those of its certificates
 abbrev pub proof_text : ℕ → BodyView → List Origin → (ℕ → Generator) → List Terms → AnswerView → List ℕ

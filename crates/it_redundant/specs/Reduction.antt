@@ -56,8 +56,7 @@ kept_by row (Undecided cause) = (row, Unsettled cause) ∷ []
 -- and after those that went
 abbrev pub dropped_by : Terms → ProofView → List (Terms × CertificateView)
 dropped_by row (Yes w) = (row, w) ∷ []
-dropped_by row (No values) = []
-dropped_by row (Undecided cause) = []
+dropped_by row proof = []
 
 -- the rows that stay, without their needs
 abbrev pub kept_rows : List (Terms × NeedView) → List Terms

@@ -4,7 +4,7 @@ use Rattle.it_space.specs.Problems.{IsProblem, problem_view}
 use Rattle.it_space.specs.Rows.{IsUpTo, row_mass}
 use Rattle.it_space.specs.Spaces.{IsSpace, size_of}
 use Rattle.it_polymatroid.specs.Certificates.{Form}
-use Rattle.it_question.specs.Questions.{RegionView, VerbView, Prove, Eliminate, Contain, BodyView}
+use Rattle.it_question.specs.Questions.{RegionView, VerbView, Contain, BodyView}
 use Rattle.it_canon.specs.Demands.{AreStated}
 use Rattle.it_canon.specs.QuestionDemands.{space_of, question_demands}
 use Rattle.it_region.specs.declared.types.Pair.{Pair}
@@ -34,9 +34,8 @@ pub record IsPairOf (q : BodyView) (a b : RegionView) (p : Pair) : Type 0 where
 
 -- the pair is that of a verb's two regions, where the verb is `contain`
 abbrev pub PairsBy : BodyView → VerbView → Pair → Type 0
-PairsBy q (Prove r) p = ⊥
-PairsBy q (Eliminate rates) p = ⊥
 PairsBy q (Contain a b tries) p = IsPairOf q a b p
+PairsBy q verb p = ⊥
 
 -- the pair is that of a question's regions
 abbrev pub Pairs : BodyView → Pair → Type 0
@@ -44,9 +43,8 @@ Pairs q p = PairsBy q q.verb p
 
 -- the verb is `contain`
 abbrev pub IsContainment : VerbView → Type 0
-IsContainment (Prove r) = ⊥
-IsContainment (Eliminate rates) = ⊥
 IsContainment (Contain a b tries) = Unit {0}
+IsContainment verb = ⊥
 
 -- a set of the first region's variables for each part
 pub record FitsPair (p : Pair) (c : Candidate) : Type 0 where

@@ -42,7 +42,7 @@ use Rattle.it_check.specs.declared.verdicts.Verdict.TheVariants.{Valid, BadScale
 use Rattle.it_check.proofs.Truth.{valid_yes_is, valid_no_is, yes_is_true}
 use Rattle.it_report.specs.RowVerdicts.{is_valid, proof_verdict, proofs_verdict, point_verdict, place_named}
 use Rattle.it_report.specs.Judging.{judged_parts, judged_forms_by, answer_verdict, IsJudged}
-use Rattle.it_report.specs.Meaning.{IsRelationClaim, IsRegionClaim, IsClaimTrueBy, ValidIsTrue}
+use Rattle.it_report.specs.Meaning.{IsClaimTrueBy, ValidIsTrue}
 use Rattle.it_report.proofs.JudgingLemmas.{verb_fits, target_is_there, point_is_complete, parts_as_named}
 use Rattle.it_report.proofs.CountLemmas.{obligations_counted, targets_counted}
 use Rattle.it_report.proofs.OneLemmas.{Reading, as_read, one_pair}
@@ -134,13 +134,13 @@ module _ (q : BodyView) (p : ProblemView) (is : IsProblemOf q p) where
         let c = both_valid (proof_verdict p t w) (proofs_verdict p ts ws) e in
         All-cons (λ (f : Form). pos 0 ≤ℤ f m) f fs (target_holds f t w z.0 c.0) (all_hold fs ts ws z.1 (omega (arith, l)) c.1)
 
-  yes_true : (r : RelationView) (ts : List Terms) (ws : List CertificateView) → ArePulledRows p.space (targets variable_count r) ts → length ws ≡ target_count r.sign → proofs_verdict p ts ws ≡ Valid → IsRelationClaim q r (Yes ws)
+  yes_true : (r : RelationView) (ts : List Terms) (ws : List CertificateView) → ArePulledRows p.space (targets variable_count r) ts → length ws ≡ target_count r.sign → proofs_verdict p ts ws ≡ Valid → IsClaimTrueBy q (Prove r) (Yes ws)
   yes_true r ts ws are l e m t =
       (targets_met r.sign (side_at variable_count m r.left) (side_at variable_count m r.right) (form_of variable_count r) m refl).0
       (all_hold m t.0 t.1 (targets variable_count r) ts ws are (l ∙ sym (targets_counted r.sign (form_of variable_count r))) e)
 
   no_true : (r : RelationView) (ts : List Terms) (back : Bool) (values : List ℤ) → ArePulledRows p.space (targets variable_count r) ts → length values ≡ size_of p.space → place_named back < length ts
-      → point_verdict p ts back values ≡ Valid → IsRelationClaim q r (No back values)
+      → point_verdict p ts back values ≡ Valid → IsClaimTrueBy q (Prove r) (No back values)
   unfolding point_verdict
   no_true r ts back values are l there e =
       let i = place_named back in
@@ -167,7 +167,7 @@ module _ (q : BodyView) (p : ProblemView) (is : IsProblemOf q p) where
 judged_true : (q : BodyView) (verb : VerbView) (a : AnswerView) (names : NamesView) → q.verb ≡ verb → IsQuestion q → HasQuestionShape q a → IsJudged q a names Valid → IsClaimTrueBy q verb a
 judged_true q (Prove r) a names about k fits j = by_answer a fits (subst (λ v. ArePulledRows j.problem.space (judged_forms_by q v a) j.rows) about j.are) j.verdict
   where
-    by_answer : (a : AnswerView) → HasQuestionShape q a → ArePulledRows j.problem.space (targets (length (problem_names q).variables) r) j.rows → answer_verdict j.problem j.rows a ≡ Some Valid → IsRelationClaim q r a
+    by_answer : (a : AnswerView) → HasQuestionShape q a → ArePulledRows j.problem.space (targets (length (problem_names q).variables) r) j.rows → answer_verdict j.problem j.rows a ≡ Some Valid → IsClaimTrueBy q (Prove r) a
     by_answer (Yes ws) fits are e = yes_true q j.problem j.is_problem r j.rows ws are (verb_fits q (Yes ws) (Prove r) about fits).0 (some_same (proofs_verdict j.problem j.rows ws) Valid e)
     by_answer (No back values) fits are e = no_true q j.problem j.is_problem r j.rows back values are
         (point_is_complete q r about back values j.problem.space j.is_problem.space fits)
@@ -180,7 +180,7 @@ judged_true q (Prove r) a names about k fits j = by_answer a fits (subst (λ v. 
 judged_true q (Eliminate rates) a names about k fits j = tt
 judged_true q (Contain first second tries) a names about k fits j = by_answer a fits (subst (λ v. ArePulledRows j.problem.space (judged_forms_by q v a) j.rows) about j.are) j.verdict
   where
-    by_answer : (a : AnswerView) → HasQuestionShape q a → ArePulledRows j.problem.space (obligations q first second (judged_parts a)) j.rows → answer_verdict j.problem j.rows a ≡ Some Valid → IsRegionClaim q first second a
+    by_answer : (a : AnswerView) → HasQuestionShape q a → ArePulledRows j.problem.space (obligations q first second (judged_parts a)) j.rows → answer_verdict j.problem j.rows a ≡ Some Valid → IsClaimTrueBy q (Contain first second tries) a
     by_answer (Yes ws) fits are e = tt
     by_answer (No back values) fits are e = tt
     by_answer (Undecided cause) fits are e = tt

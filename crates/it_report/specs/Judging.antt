@@ -19,12 +19,8 @@ use Rattle.it_report.specs.LineVerdicts.{LineVerdict, NotJson, Shape, Skipped, J
 
 -- the sets that an answer names
 abbrev pub judged_parts : AnswerView → List ℕ
-judged_parts (Yes ws) = []
-judged_parts (No back values) = []
-judged_parts (Undecided cause) = []
-judged_parts (Region rows) = []
 judged_parts (Contained parts proofs) = parts
-judged_parts (Open tried) = []
+judged_parts answer = []
 
 -- what an answer speaks of: the targets of the relation, or the obligations of the parts that it names
 abbrev pub judged_forms_by : BodyView → VerbView → AnswerView → List Form
@@ -40,19 +36,15 @@ judged_forms q answer = judged_forms_by q q.verb answer
 abbrev pub answer_verdict : ProblemView → List Terms → AnswerView → Option Verdict
 answer_verdict p ts (Yes ws) = Some (proofs_verdict p ts ws)
 answer_verdict p ts (No back values) = Some (point_verdict p ts back values)
-answer_verdict p ts (Undecided cause) = None
-answer_verdict p ts (Region rows) = None
 answer_verdict p ts (Contained parts proofs) = Some (proofs_verdict p ts proofs)
-answer_verdict p ts (Open tried) = None
+answer_verdict p ts answer = None
 
 -- an answer that isn't judged
 abbrev pub is_passed_over : AnswerView → Bool
-is_passed_over (Yes ws) = false
-is_passed_over (No back values) = false
 is_passed_over (Undecided cause) = true
 is_passed_over (Region rows) = true
-is_passed_over (Contained parts proofs) = false
 is_passed_over (Open tried) = true
+is_passed_over answer = false
 
 -- the answer to the question has this verdict; the names are those of the problem, so of a containment its first region's
 pub record IsJudged (q : BodyView) (answer : AnswerView) (names : NamesView) (v : Verdict) : Type 0 where
@@ -65,10 +57,9 @@ pub record IsJudged (q : BodyView) (answer : AnswerView) (names : NamesView) (v 
 
 -- the verdict on an answer to a question
 abbrev pub IsAnswerVerdict : BodyView → AnswerView → LineVerdict → Type 0
-IsAnswerVerdict q answer NotJson = ⊥
-IsAnswerVerdict q answer (Shape key) = ⊥
 IsAnswerVerdict q answer Skipped = is_passed_over answer ≡ true
 IsAnswerVerdict q answer (Judged names v) = IsJudged q answer names v
+IsAnswerVerdict q answer verdict = ⊥
 
 -- the line reads as a question with an answer, which has this verdict
 pub record HasAnswer (line : List ℕ) (v : LineVerdict) : Type 0 where

@@ -1,13 +1,12 @@
 -- What the verdicts mean: each line has one and no other, and the claim of a valid one is true.
 use Rattle.std.specs.Prelude.{◌≡◌, ℕ, ℤ, pos, neg_ℤ, ◌≤ℤ◌, List, Bool, get_or, Ok}
 use Rattle.it_space.specs.Answers.{AnswerView}
-use Rattle.it_space.specs.Answers.AnswerView.{Yes, No, Undecided, Region, Contained, Open}
+use Rattle.it_space.specs.Answers.AnswerView.{Yes, No, Contained}
 use Rattle.it_space.specs.Rows.{map_of}
-use Rattle.it_polymatroid.specs.Polymatroid.{IsPolymatroid}
-use Rattle.it_syntax.specs.Meaning.{RelationView, Holds}
+use Rattle.it_syntax.specs.Meaning.{Holds}
 use Rattle.it_syntax.specs.NamesViews.{NamesView}
-use Rattle.it_question.specs.Questions.{BodyView, QuestionView, RegionView, VerbView, Prove, Eliminate, Contain}
-use Rattle.it_canon.specs.QuestionDemands.{variables_of, problem_lines, AreTrueAt}
+use Rattle.it_question.specs.Questions.{BodyView, QuestionView, VerbView, Prove, Contain}
+use Rattle.it_canon.specs.QuestionDemands.{variables_of, AreTrueTogether}
 use Rattle.it_canon.specs.Targets.{targets}
 use Rattle.it_region.specs.Regions.{LiesIn}
 use Rattle.it_certificate.specs.Reports.{ReadsReport}
@@ -24,35 +23,15 @@ EachLineIsJudged = (k : ℕ) (line : List ℕ) → (text : List ℕ) × (invalid
 abbrev pub OneVerdict : Type 0
 OneVerdict = (line : List ℕ) (v w : LineVerdict) → IsVerdict line v → IsVerdict line w → v ≡ w
 
--- a polymatroid and rates at which the question's lines are true
-abbrev pub AreTrueTogether : BodyView → (ℕ → ℤ) → Type 0
-AreTrueTogether q p = IsPolymatroid (variables_of q) p × AreTrueAt (variables_of q) p (problem_lines q)
-
--- What an answer claims of a relation. A yes: it holds wherever a polymatroid and rates make the question's lines true. A no: the
--- point is such a place, and the target on its side is -1 or less there.
-abbrev pub IsRelationClaim : BodyView → RelationView → AnswerView → Type 0
-IsRelationClaim q r (Yes ws) = (p : ℕ → ℤ) → AreTrueTogether q p → Holds (variables_of q) p r
-IsRelationClaim q r (No back values) =
-    AreTrueTogether q (map_of values) × (get_or (targets (variables_of q) r) (place_named back) (λ p. pos 0) (map_of values) ≤ℤ neg_ℤ (pos 1))
-IsRelationClaim q r (Undecided cause) = Unit {0}
-IsRelationClaim q r (Region rows) = Unit {0}
-IsRelationClaim q r (Contained parts proofs) = Unit {0}
-IsRelationClaim q r (Open tried) = Unit {0}
-
--- And of two regions: that the first lies in the second.
-abbrev pub IsRegionClaim : BodyView → RegionView → RegionView → AnswerView → Type 0
-IsRegionClaim q first second (Yes ws) = Unit {0}
-IsRegionClaim q first second (No back values) = Unit {0}
-IsRegionClaim q first second (Undecided cause) = Unit {0}
-IsRegionClaim q first second (Region rows) = Unit {0}
-IsRegionClaim q first second (Contained parts proofs) = LiesIn q first second
-IsRegionClaim q first second (Open tried) = Unit {0}
-
--- what an answer to a question of this verb claims is true
+-- What an answer to a question of this verb claims is true. A yes: the relation holds wherever a polymatroid and rates make the
+-- question's lines true. A no: the values are such a place, and the target on its side is -1 or less there. A containment: the
+-- first region lies in the second. Other answers claim nothing.
 abbrev pub IsClaimTrueBy : BodyView → VerbView → AnswerView → Type 0
-IsClaimTrueBy q (Prove r) answer = IsRelationClaim q r answer
-IsClaimTrueBy q (Eliminate rates) answer = Unit {0}
-IsClaimTrueBy q (Contain first second tries) answer = IsRegionClaim q first second answer
+IsClaimTrueBy q (Prove r) (Yes ws) = (p : ℕ → ℤ) → AreTrueTogether q p → Holds (variables_of q) p r
+IsClaimTrueBy q (Prove r) (No back values) =
+    AreTrueTogether q (map_of values) × (get_or (targets (variables_of q) r) (place_named back) (λ p. pos 0) (map_of values) ≤ℤ neg_ℤ (pos 1))
+IsClaimTrueBy q (Contain first second tries) (Contained parts proofs) = LiesIn q first second
+IsClaimTrueBy q verb answer = Unit {0}
 
 -- what an answer claims is true
 abbrev pub IsClaimTrue : BodyView → AnswerView → Type 0

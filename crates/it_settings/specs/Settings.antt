@@ -13,27 +13,15 @@ use Rattle.it_settings.specs.declared.types.WordsFault.TheVariants.{Usage, Memor
 
 -- ---- the value of an option
 
--- a number in its range
-abbrev pub number_within : ℕ → ℕ → ℕ → Option ℕ
-number_within least most n = if nat_le least n && nat_le n most then Some n else None
-
 -- one to ten decimal digits with a value from `least` to `most`
 unfoldable pub number_of : ℕ → ℕ → Text → Option ℕ
 number_of least most text =
-    if nat_le 1 (length text) && nat_le (length text) 10 then option_and_then (number_within least most) (value_from 0 text) else None
+    if nat_le 1 (length text) && nat_le (length text) 10 then option_and_then (λ n. if nat_le least n && nat_le n most then Some n else None) (value_from 0 text) else None
 
 -- the default where nothing was given
 abbrev pub number_or : ℕ → ℕ → ℕ → Option Text → Option ℕ
 number_or least most default None = Some default
 number_or least most default (Some text) = number_of least most text
-
--- 512 rows where nothing was given
-abbrev pub rows_or : Option Text → Option ℕ
-rows_or text = number_or 1 4096 512 text
-
--- 256 candidates where nothing was given
-abbrev pub tries_or : Option Text → Option ℕ
-tries_or text = number_or 1 4096 256 text
 
 -- a budget of steps: a number from 1 to 1,000,000, or no budget by the word `none`
 unfoldable pub pivots_of : Text → Option (Option ℕ)
@@ -80,7 +68,7 @@ answer_by format pivots rows tries =
 -- no option of another mode, and each value in its range
 unfoldable pub answer_of : ValuesView → Option Settings
 answer_of v = if is_none v.seed && is_none v.count
-    then answer_by (format_or v.format) (pivots_or v.pivots) (rows_or v.rows) (tries_or v.tries)
+    then answer_by (format_or v.format) (pivots_or v.pivots) (number_or 1 4096 512 v.rows) (number_or 1 4096 256 v.tries)
     else None
 
 -- no option at all
@@ -95,7 +83,7 @@ bench_by seed count pivots rows tries =
 -- no format, and each value in its range
 unfoldable pub bench_of : ValuesView → Option Settings
 bench_of v = if is_none v.format
-    then bench_by (number_or 0 2147483647 1 v.seed) (number_or 1 1000 100 v.count) (pivots_or v.pivots) (rows_or v.rows) (tries_or v.tries)
+    then bench_by (number_or 0 2147483647 1 v.seed) (number_or 1 1000 100 v.count) (pivots_or v.pivots) (number_or 1 4096 512 v.rows) (number_or 1 4096 256 v.tries)
     else None
 
 -- by the mode's word; the modes not named have no reading

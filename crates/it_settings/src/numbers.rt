@@ -1,7 +1,7 @@
 //! The values of options.
-ghost use Rattle.std.specs.Prelude.{◌≡◌, ◌≤◌, ◌<◌, ◌+◌, ◌*◌, ◌-◌, option_map, IfSome, length};
+ghost use Rattle.std.specs.Prelude.{◌≡◌, ◌≤◌, ◌<◌, ◌+◌, ◌*◌, ◌-◌, ◌&&◌, if◌then◌else◌, nat_le, None, Some, option_map, IfSome, length};
 ghost use Rattle.it_number.specs.Decimals.{value_from};
-ghost use Rattle.it_settings.specs.Settings.{number_of, number_or, rows_or, tries_or, pivots_of, pivots_or, format_of, format_or, number_within};
+ghost use Rattle.it_settings.specs.Settings.{number_of, number_or, pivots_of, pivots_or, format_of, format_or};
 
 use crate::types::Format;
 
@@ -22,7 +22,7 @@ fn value(bytes: &[u8]) -> Option<u64>
 
 /// A number that is in its range.
 fn number_within(least: u32, most: u32, n: u64) -> Option<u32>
-    ensures reads { result ≡ number_within least most n }
+    ensures reads { result ≡ (if nat_le least n && nat_le n most then Some n else None) }
     ensures range { IfSome result (λ m. (least ≤ m) × (m ≤ most)) }
 {
     if least as u64 <= n && n <= most as u64 {
@@ -60,7 +60,7 @@ pub fn number_or(text: Option<&str>, least: u32, most: u32, default: u32) -> Opt
 
 /// The most rows that were given, or the default where none was.
 pub fn rows_or(text: Option<&str>) -> Option<u32>
-    ensures reads { result ≡ rows_or (option_map (λ s. s.now) text.entry) }
+    ensures reads { result ≡ number_or 1 4096 512 (option_map (λ s. s.now) text.entry) }
     ensures range { IfSome result (λ n. (1 ≤ n) × (n ≤ 4096)) }
 {
     number_or(text, 1, 4096, 512)
@@ -68,7 +68,7 @@ pub fn rows_or(text: Option<&str>) -> Option<u32>
 
 /// The most candidates that were given, or the default where none was.
 pub fn tries_or(text: Option<&str>) -> Option<u32>
-    ensures reads { result ≡ tries_or (option_map (λ s. s.now) text.entry) }
+    ensures reads { result ≡ number_or 1 4096 256 (option_map (λ s. s.now) text.entry) }
     ensures range { IfSome result (λ n. (1 ≤ n) × (n ≤ 4096)) }
 {
     number_or(text, 1, 4096, 256)

@@ -1,14 +1,14 @@
-use Rattle.std.proofs.Common.{Option, ℕ, ap, subst}
+use Rattle.std.proofs.Common.{List, Option, ℕ, ap, subst}
 use Rattle.it_space.specs.Answers.{answer_view}
 use Rattle.it_space.specs.Problems.{problem_view}
 use Rattle.it_syntax.specs.Meaning.{relation_view}
 use Rattle.it_question.specs.Questions.{question_body, verb_view}
 use Rattle.it_canon.specs.Targets.{targets}
 use Rattle.it_run.proofs.AnswerLemmas.{if_ok}
+use Rattle.it_contain.specs.Proposals.{Plan}
 use Rattle.it_answer.specs.RightAnswers.{IsAnswered}
-use Rattle.it_answer.specs.RightRegions.{IsRightElimination}
 use Rattle.it_answer.specs.RowAnswers.{AnswersForms}
-use Rattle.it_answer.proofs.AnswerLemmas.{left_of_rows, answers_relation}
+use Rattle.it_answer.proofs.AnswerLemmas.{answers_relation}
 use Rattle.it_answer.proofs.answering.answer_under.Goals as goal
 
 pub returns-in-Prove : goal.returns-in-Prove
@@ -23,6 +23,4 @@ returns-in-Prove g c =
 pub returns-in-Eliminate : goal.returns-in-Eliminate
 returns-in-Eliminate g c =
     let q = question_body c.args.question.now in
-    if_ok c.region.result (λ a. IsRightElimination c.args.budgets q c.in-Eliminate.rates.items (answer_view a)) (λ a. IsAnswered c.args.budgets _ q (answer_view a) _)
-    (rw (← c.as_slice.ensures.value) c.region.ensures)
-    (λ a x. left_of_rows c.args.budgets _ q c.in-Eliminate.rates.items (answer_view a) (ap verb_view c.in-Eliminate.is) x)
+    if_ok c.region.result (λ a. (plans : List Plan) → IsAnswered c.args.budgets plans q (answer_view a) plans) (λ a. IsAnswered c.args.budgets _ q (answer_view a) _) c.region.ensures (λ a x. x _)

@@ -1,6 +1,6 @@
 use Rattle.std.proofs.Common.{◌≡◌, ◌++◌, drop}
 use Rattle.it_question.specs.Questions.{region_view}
-use Rattle.it_answer.specs.RightContainments.{tried_of}
+use Rattle.it_answer.specs.DueContainments.{tried_of}
 use Rattle.it_answer.proofs.containments.tried_of.Given as goal
 
 abbrev pub invariant-loop-parts : goal.invariant-loop-parts

@@ -1,6 +1,6 @@
 use Rattle.std.proofs.Common.{◌≡◌, ◌++◌, map}
 use Rattle.it_redundant.specs.Reduction.{need_view}
-use Rattle.it_answer.specs.RightRegions.{marked_rows}
+use Rattle.it_answer.specs.DueEliminations.{marked_rows}
 use Rattle.it_answer.proofs.regions.marked_rows.Given as goal
 
 abbrev pub invariant-loop-row : goal.invariant-loop-row

@@ -7,7 +7,8 @@ use Rattle.it_question.specs.Questions.{question_body}
 use Rattle.it_canon.specs.QuestionDemands.{system_forms, AreAtLeastZero, AreRowsOf}
 use Rattle.it_redundant.specs.ReducedElimination.{ReducedEnds, projected_view}
 use Rattle.it_answer.proofs.GivenLemmas.{space_of_names, givens_stated, met_where_true, few_constraints, constraints_of_sets, rates_of_question}
-use Rattle.it_answer.proofs.RegionLemmas.{right_answer}
+use Rattle.it_answer.proofs.AnswerLemmas.{left_of_rows}
+use Rattle.it_answer.proofs.RegionLemmas.{region_is_due, region_shows}
 use Rattle.it_answer.proofs.regions.region.Goals as goal
 
 pub project-requires-clause-rates : goal.project-requires-clause-rates
@@ -38,8 +39,11 @@ returns c =
     let end = projected_view c.in_ok-end.end in
     let same = space_of_names q rates givens c.requires.eliminates c.requires.givens in
     let of_system = c.in_ok-system.ensures.space ∙ sym same in
-    right_answer q rates givens rows same (met_where_true q rates givens c.requires.eliminates c.requires.givens)
-    (subst (λ (s : Space). (p : ℕ → ℤ) → p 0 ≡ pos 0 → AreAtLeastZero p rows ↔ All (Holds s.variables p) q.lines.rows) of_system c.in_ok-system.ensures.met)
-    c.args.budgets end (answer_view c.in_ok-answer.answer) (givens_stated q rates givens c.requires.eliminates c.requires.givens)
+    let met = met_where_true q rates givens c.requires.eliminates c.requires.givens in
+    let rows_met = subst (λ (s : Space). (p : ℕ → ℤ) → p 0 ≡ pos 0 → AreAtLeastZero p rows ↔ All (Holds s.variables p) q.lines.rows) of_system c.in_ok-system.ensures.met in
+    let shown = region_shows q rates givens rows same met rows_met end (answer_view c.in_ok-answer.answer) c.in_ok-end.ensures.region c.in_ok-answer.ensures in
+    let due =
+    region_is_due q rates givens rows same met rows_met c.args.budgets end (answer_view c.in_ok-answer.answer) (givens_stated q rates givens c.requires.eliminates c.requires.givens)
     (subst (λ (s : Space). AreRowsOf s (system_forms s.variables q.lines.rows) rows) of_system c.in_ok-system.ensures.rows)
-    (subst (λ (b : Option ℕ). ReducedEnds givens b c.args.budgets.rows rows [] rates end) c.budget_of-budget.ensures c.in_ok-end.ensures.ends) c.in_ok-end.ensures.region c.in_ok-answer.ensures
+    (subst (λ (b : Option ℕ). ReducedEnds givens b c.args.budgets.rows rows [] rates end) c.budget_of-budget.ensures c.in_ok-end.ensures.ends) c.in_ok-answer.ensures in
+    λ plans. left_of_rows c.args.budgets plans q rates (answer_view c.in_ok-answer.answer) c.requires.eliminates shown due

@@ -1,0 +1,43 @@
+-- Which answer to `eliminate` is due, by reduced elimination of the rows of the text.
+use Rattle.std.specs.Prelude.{◌≡◌, ℕ, List, [], length, map}
+use Rattle.it_space.specs.declared.answers.Cause.TheVariants as causes
+use Rattle.it_space.specs.declared.answers.Mark.{Mark}
+use Rattle.it_space.specs.declared.answers.Mark.TheVariants as marks
+use Rattle.it_space.specs.Answers.{AnswerView}
+use Rattle.it_space.specs.Answers.AnswerView.{Undecided, Region}
+use Rattle.it_space.specs.Problems.{ProblemView}
+use Rattle.it_space.specs.Rows.{Terms}
+use Rattle.it_question.specs.Questions.{BodyView}
+use Rattle.it_canon.specs.Demands.{AreStated}
+use Rattle.it_canon.specs.QuestionDemands.{space_of, given_demands, system_forms, AreRowsOf}
+use Rattle.it_redundant.specs.Reduction.{NeedView, Needed, Unsettled}
+use Rattle.it_redundant.specs.ReducedElimination.{ProjectedView, ReducedEnds}
+use Rattle.it_redundant.specs.ReducedElimination as projections
+use Rattle.it_answer.specs.declared.types.Budgets.{Budgets}
+
+-- why a row stays, as its mark
+abbrev pub mark_of_need : NeedView → Mark
+mark_of_need (Needed values) = marks.Needed
+mark_of_need (Unsettled cause) = marks.Unsettled
+
+-- the rows that stay, each with its mark
+abbrev pub marked_rows : List (Terms × NeedView) → List (Mark × Terms)
+marked_rows kept = map (λ k. (mark_of_need k.1, k.0)) kept
+
+-- a region with its rows in order; or the cause that there is none, with its rate
+abbrev pub answer_of_end : ProjectedView → AnswerView
+answer_of_end (projections.Region kept) = Region (marked_rows kept)
+answer_of_end (projections.Rows rate) = Undecided (causes.Rows rate)
+answer_of_end (projections.Wide rate) = Undecided (causes.WideRate rate)
+
+-- What reduced elimination of the listed rates, in their order, from the rows of the `row` lines ends with: an equation's row and the
+-- row turned; each reduction under the constraints of the `given` lines.
+pub record IsDueElimination (budgets : Budgets) (q : BodyView) (rates : List ℕ) (answer : AnswerView) : Type 0 where
+  pub givens : ProblemView
+  pub space : givens.space ≡ space_of q.names
+  pub constraints : AreStated givens.space (given_demands (length q.names.variables) 1 q.lines.givens) givens.constraints
+  pub rows : List Terms
+  pub are_rows : AreRowsOf (space_of q.names) (system_forms (length q.names.variables) q.lines.rows) rows
+  pub end : ProjectedView
+  pub ends : ReducedEnds givens budgets.pivots budgets.rows rows [] rates end
+  pub is : answer ≡ answer_of_end end

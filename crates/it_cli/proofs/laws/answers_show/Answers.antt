@@ -1,0 +1,5 @@
+use Rattle.it_cli.proofs.ShownLemmas as proof
+use Rattle.it_cli.proofs.laws.answers_show.Goals as goal
+
+pub returns : goal.returns
+returns c = proof.answers_show
