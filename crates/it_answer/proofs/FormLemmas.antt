@@ -11,8 +11,8 @@ use Rattle.it_polymatroid.specs.Elementals.{elementals}
 use Rattle.it_space.proofs.EveryLemmas.{every_of, all_of, every-same}
 use Rattle.it_polymatroid.proofs.Forms.{one_at-zero}
 use Rattle.it_elemental.proofs.RowLemmas.{value-row}
-use Rattle.it_canon.specs.Demands.{Demand, LineDemand, States, AreStated}
-use Rattle.it_canon.proofs.ZipLemmas.{zip-append, zip-length}
+use Rattle.it_demand.specs.Demands.{Demand, LineDemand, States, AreStated}
+use Rattle.it_demand.proofs.ZipLemmas.{zip-append, zip-length}
 use Rattle.it_elemental.specs.Generators.{Generator, of_elemental, of_constraint, generator_list, generator_at, forms_of, is_equation}
 use Rattle.it_answer.specs.Forms.{demand_of_elemental, demand_of_line, all_demands, demand_at, generators_by}
 

@@ -10,12 +10,14 @@ use Rattle.it_space.specs.Rows.{Terms, value, map_of}
 use Rattle.it_space.specs.Spaces.{size_of}
 use Rattle.it_polymatroid.specs.Certificates.{Form, IsCertificate}
 use Rattle.it_polymatroid.specs.Polymatroid.{IsPolymatroid}
-use Rattle.it_syntax.specs.Meaning.{RelationView, side_at}
+use Rattle.it_syntax.specs.Meaning.{RelationView, multiple_of, side_at}
 use Rattle.it_question.specs.Questions.{BodyView, Prove}
-use Rattle.it_canon.specs.Canonical.{IsRowOf, form_of}
-use Rattle.it_canon.specs.Targets.{targets}
-use Rattle.it_canon.specs.QuestionDemands.{space_of, problem_names, problem_lines, question_demands as demanded, variables_of, AreTrueAt, AreRowsOf, Poses}
-use Rattle.it_canon.proofs.MetLemmas.{targets_met}
+use Rattle.it_demand.specs.Canonical.{IsRowOf, form_of}
+use Rattle.it_demand.specs.Targets.{targets}
+use Rattle.it_demand.specs.LineDemands.{AreRowsOf}
+use Rattle.it_demand.specs.LineDemands.{space_of}
+use Rattle.it_canon.specs.QuestionDemands.{problem_names, problem_lines, question_demands as demanded, variables_of, AreTrueAt, Poses}
+use Rattle.it_demand.proofs.MetLemmas.{targets_met}
 use Rattle.it_canon.proofs.ProblemLemmas.{question_met}
 use Rattle.it_elemental.specs.Generators.{generators}
 use Rattle.it_check.specs.Meaning.{CertifiesRow}
@@ -54,7 +56,7 @@ right_to_prove budgets plans q r reply is right = subst (λ aim. IsRightAnswerBy
 pub a_yes_is_true : AYesIsTrue
 a_yes_is_true budgets plans q r ws found is right m h l =
     let a : IsRightFor budgets.pivots q r (Yes ws) = (right_to_prove budgets plans q r (record { answer = Yes ws; found = found }) is right).0 in
-    (targets_met r.sign (side_at (variables_of q) m r.left) (side_at (variables_of q) m r.right) (form_of (variables_of q) r) m refl).0
+    (targets_met r.sign (side_at (variables_of q) m (multiple_of r) r.left) (side_at (variables_of q) m (multiple_of r) r.right) (form_of (variables_of q) r) m refl).0
     (all_valid q r a.poses m h l (targets (variables_of q) r) a.poses.rows ws a.poses.targets_are a.shows)
 
 not_at_least_zero : (x : ℤ) → x ≤ℤ neg_ℤ (pos 1) → pos 0 ≤ℤ x → ⊥
@@ -75,7 +77,7 @@ a_no_is_true budgets plans q r is_back values found is right =
     let a : IsRightFor budgets.pivots q r (No is_back values) = (right_to_prove budgets plans q r (record { answer = No is_back values; found = found }) is right).0 in
     let v = violates q (targets (variables_of q) r) is_back values a.shows in
     let p = map_of values in
-    (v.0, v.1, λ holds. v.2 ((targets_met r.sign (side_at (variables_of q) p r.left) (side_at (variables_of q) p r.right) (form_of (variables_of q) r) p refl).1 holds))
+    (v.0, v.1, λ holds. v.2 ((targets_met r.sign (side_at (variables_of q) p (multiple_of r) r.left) (side_at (variables_of q) p (multiple_of r) r.right) (form_of (variables_of q) r) p refl).1 holds))
 
 pub a_containment_is_true : AContainmentIsTrue
 a_containment_is_true budgets plans q a b tries parts ws found is right =

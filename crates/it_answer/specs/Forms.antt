@@ -8,8 +8,9 @@ use Rattle.it_space.specs.Spaces.{size_of}
 use Rattle.it_polymatroid.specs.Certificates.{Form, Generators, IsCertificate}
 use Rattle.it_polymatroid.specs.Elementals.{Elemental, elementals, elemental_value}
 use Rattle.it_question.specs.Questions.{BodyView}
-use Rattle.it_canon.specs.Demands.{Demand, LineDemand}
-use Rattle.it_canon.specs.QuestionDemands.{space_of, problem_names, question_demands, variables_of}
+use Rattle.it_demand.specs.Demands.{Demand, LineDemand}
+use Rattle.it_demand.specs.LineDemands.{space_of}
+use Rattle.it_canon.specs.QuestionDemands.{problem_names, question_demands, variables_of}
 use Rattle.it_elemental.specs.Generators.{is_equation}
 
 -- an elemental inequality of n variables as a demand

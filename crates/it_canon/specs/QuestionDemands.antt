@@ -6,31 +6,15 @@ use Rattle.it_space.specs.declared.problems.Origin.TheVariants.{Rate}
 use Rattle.it_space.specs.Problems.{ProblemView, IsProblem}
 use Rattle.it_space.specs.Rows.{Terms, value}
 use Rattle.it_polymatroid.specs.Certificates.{Form}
+use Rattle.it_demand.specs.LineDemands.{space_of, AreRowsOf}
+use Rattle.it_question.specs.Tables.{line_demands}
 use Rattle.it_syntax.specs.NamesViews.{NamesView}
 use Rattle.it_syntax.specs.Meaning.{RelationView, Holds}
 use Rattle.it_syntax.specs.Givens.{GivenView, IsTrueAt}
 use Rattle.it_question.specs.Questions.{OwnLinesView, VerbView, Prove, Eliminate, Contain, BodyView}
-use Rattle.it_canon.specs.Canonical.{IsRowOf}
-use Rattle.it_canon.specs.Targets.{targets}
-use Rattle.it_canon.specs.Demands.{LineDemand, AreStated, demands, demand_of, parts_of}
-
--- the space of as many variables and rates
-abbrev pub space_of : NamesView → Space
-space_of v = record { variables = length v.variables; rates = length v.rates }
-
--- what `given` lines demand, from line number `line` on
-abbrev pub given_demands : ℕ → ℕ → List GivenView → List LineDemand
-given_demands n line [] = []
-given_demands n line (c ∷ cs) = parts_of line (demands n c) ++ given_demands n (line + 1) cs
-
--- what `row` lines demand, from line number `line` on
-abbrev pub row_demands : ℕ → ℕ → List RelationView → List LineDemand
-row_demands n line [] = []
-row_demands n line (r ∷ rs) = record { origin = Rate line; demand = demand_of n r } ∷ row_demands n (line + 1) rs
-
--- what lines of n variables demand: the givens before the rows
-abbrev pub line_demands : ℕ → OwnLinesView → List LineDemand
-line_demands n own = given_demands n 1 own.givens ++ row_demands n 1 own.rows
+use Rattle.it_demand.specs.Canonical.{IsRowOf}
+use Rattle.it_demand.specs.Targets.{targets}
+use Rattle.it_demand.specs.Demands.{LineDemand, AreStated, demands, demand_of, parts_of}
 
 -- the names of a question's problem: its own, or those of its first region
 abbrev pub problem_names_by : NamesView → VerbView → NamesView
@@ -64,18 +48,6 @@ question_demands q = line_demands (variables_of q) (problem_lines q)
 pub record AreTrueAt (n : ℕ) (p : ℕ → ℤ) (own : OwnLinesView) : Type 0 where
   pub givens : All (IsTrueAt n p) own.givens
   pub rows : All (Holds n p) own.rows
-
--- the targets of a question's `row` lines
-abbrev pub system_forms : ℕ → List RelationView → List Form
-system_forms n rows = flat_map (targets n) rows
-
--- one row for each form, in order
-abbrev pub AreRowsOf : Space → List Form → List Terms → Type 0
-AreRowsOf s forms rows = AllZip (IsRowOf s) forms rows
-
--- the rows are at least 0 at the map
-abbrev pub AreAtLeastZero : (ℕ → ℤ) → List Terms → Type 0
-AreAtLeastZero p rows = All (λ row. pos 0 ≤ℤ value row p) rows
 
 -- the problem that a question poses
 pub record IsProblemOf (q : BodyView) (p : ProblemView) : Type 0 where

@@ -9,21 +9,10 @@ use Rattle.it_polymatroid.specs.Certificates.{Form}
 use Rattle.it_syntax.specs.Meaning.{RelationView}
 use Rattle.it_question.specs.Files.{IsFile}
 use Rattle.it_question.specs.Questions.{BodyView, QuestionView, Prove}
-use Rattle.it_canon.specs.Canonical.{IsRowOf}
-use Rattle.it_canon.specs.Demands.{LineDemand, AreStated}
-use Rattle.it_canon.specs.QuestionDemands.{AreRowsOf, IsProblemOf, Poses}
-
--- a form has one row
-abbrev pub OneRow : Type 0
-OneRow = (s : Space) (form : Form) (r t : Terms) → IsRowOf s form r → IsRowOf s form t → r ≡ t
-
--- forms have one list of rows
-abbrev pub OneRowList : Type 0
-OneRowList = (s : Space) (forms : List Form) (rs ts : List Terms) → AreRowsOf s forms rs → AreRowsOf s forms ts → rs ≡ ts
-
--- demands have one list of constraints that states them
-abbrev pub OneConstraintList : Type 0
-OneConstraintList = (s : Space) (demanded : List LineDemand) (cs ds : List Constraint) → AreStated s demanded cs → AreStated s demanded ds → cs ≡ ds
+use Rattle.it_demand.specs.Canonical.{IsRowOf}
+use Rattle.it_demand.specs.Demands.{LineDemand, AreStated}
+use Rattle.it_demand.specs.LineDemands.{AreRowsOf}
+use Rattle.it_canon.specs.QuestionDemands.{IsProblemOf, Poses}
 
 -- each question of a file poses a problem
 abbrev pub QuestionHasProblem : Type 0

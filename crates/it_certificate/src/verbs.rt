@@ -3,7 +3,7 @@ ghost use Rattle.std.specs.Prelude.{◌≤◌, length};
 ghost use Rattle.serde_json.specs.View.{view};
 ghost use Rattle.it_space.specs.Answers.{answer_view};
 ghost use Rattle.it_space.specs.Spaces.{IsSpace};
-ghost use Rattle.it_canon.specs.QuestionDemands.{space_of};
+ghost use Rattle.it_demand.specs.LineDemands.{space_of};
 ghost use Rattle.it_question.specs.Questions.{question_body, question_view, region_view, verb_view};
 ghost use Rattle.it_question.specs.Limits.{AreLinesOver, IsQuestion, IsVerbOver};
 ghost use Rattle.it_certificate.specs.Reports.{contain_answer, eliminate_answer, prove_answer, question_answer, verb_answer};
@@ -71,7 +71,7 @@ fn contain_answer(
     second: &Region,
     kind: AnswerKind,
 ) -> Result<Answer, ReportFault>
-    requires few { length first.now.names.variables ≤ 8 }
+    requires few { length first.now.names.variables ≤ 10 }
     requires lines { AreLinesOver second.now.names (region_view second.now).lines }
     ensures { GivesKeyed answer_view result (contain_answer (region_view first.now) (region_view second.now) kind (view value.now)) }
 {

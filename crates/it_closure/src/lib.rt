@@ -6,12 +6,14 @@ mod dependences;
 mod laws;
 mod reading;
 mod row_places;
+mod sizes;
 
 pub use dependences::{Dependence, Dependences, first_open};
 pub use laws::{
     closure_is_least, closures_keep, collapse_keeps, coordinates_serve, reads_exactly,
     spread_out_holds,
 };
+pub use sizes::size;
 
 #[cfg(test)]
 mod tests;

@@ -46,3 +46,5 @@ pub mod FileReadings
 pub mod NumberLemmas
 pub mod QuestionLemmas
 pub mod RegionLemmas
+pub mod StatedLines
+pub mod TableLemmas

@@ -3,6 +3,7 @@
 
 mod atoms;
 mod cutting;
+mod denominators;
 mod givens;
 mod laws;
 mod lists;
@@ -22,6 +23,7 @@ mod tests;
 pub mod types;
 
 pub use cutting::{line_tokens, tokens};
+pub use denominators::multiple_of;
 pub use givens::given;
 pub use laws::{given_is_one, line_tokens_are_one, relation_is_one};
 pub use lists::is_measure;
