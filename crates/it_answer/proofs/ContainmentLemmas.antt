@@ -11,7 +11,8 @@ use Rattle.it_question.specs.Limits.{IsQuestion}
 use Rattle.it_question.specs.Questions.{OwnLinesView, RegionView, VerbView, BodyView, Contain}
 use Rattle.it_demand.specs.LineDemands.{AreAtLeastZero}
 use Rattle.it_demand.specs.LineDemands.{space_of}
-use Rattle.it_canon.specs.QuestionDemands.{problem_names, problem_names_by, problem_lines, problem_lines_by, AreTrueAt}
+use Rattle.it_question.specs.Tables.{problem_names, problem_names_by, problem_lines, problem_lines_by}
+use Rattle.it_canon.specs.QuestionDemands.{AreTrueAt}
 use Rattle.it_canon.proofs.ProblemLemmas.{question_met}
 use Rattle.it_check.proofs.Truth.{yes_is_true}
 use Rattle.it_prove.specs.ProofViews.{Yes, AreProofsOf}

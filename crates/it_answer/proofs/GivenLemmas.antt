@@ -12,8 +12,8 @@ use Rattle.it_question.specs.Limits.{AreRatesOf, IsQuestion, IsVerbOver}
 use Rattle.it_demand.specs.Demands.{AreStated, LineDemand, States}
 use Rattle.it_demand.specs.LineDemands.{given_demands}
 use Rattle.it_demand.specs.LineDemands.{space_of}
-use Rattle.it_question.specs.Tables.{line_demands}
-use Rattle.it_canon.specs.QuestionDemands.{problem_names_by, problem_lines_by, IsProblemOf}
+use Rattle.it_question.specs.Tables.{line_demands, problem_names_by, problem_lines_by}
+use Rattle.it_canon.specs.QuestionDemands.{IsProblemOf}
 use Rattle.it_canon.proofs.GivenSets.{given_sets}
 use Rattle.it_canon.proofs.LinesMet.{lines_met}
 use Rattle.it_demand.proofs.LimitLemmas.{givens-few}

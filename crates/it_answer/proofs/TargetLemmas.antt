@@ -13,7 +13,7 @@ use Rattle.it_syntax.specs.Meaning.{RelationView}
 use Rattle.it_question.specs.Questions.{BodyView, RegionView, Prove, Contain}
 use Rattle.it_demand.specs.LineDemands.{AreRowsOf}
 use Rattle.it_demand.specs.LineDemands.{space_of}
-use Rattle.it_canon.specs.QuestionDemands.{problem_names, problem_names_by}
+use Rattle.it_question.specs.Tables.{problem_names, problem_names_by}
 use Rattle.it_demand.specs.RowsOfForms.{terms_of_form}
 use Rattle.it_demand.specs.Targets.{targets}
 use Rattle.it_demand.proofs.FormRows.{rows_are_terms_of_forms, told_by_form}

@@ -10,7 +10,8 @@ use Rattle.it_polymatroid.specs.Elementals.{Elemental, elementals, elemental_val
 use Rattle.it_question.specs.Questions.{BodyView}
 use Rattle.it_demand.specs.Demands.{Demand, LineDemand}
 use Rattle.it_demand.specs.LineDemands.{space_of}
-use Rattle.it_canon.specs.QuestionDemands.{problem_names, question_demands, variables_of}
+use Rattle.it_question.specs.Tables.{problem_names}
+use Rattle.it_canon.specs.QuestionDemands.{question_demands, variables_of}
 use Rattle.it_elemental.specs.Generators.{is_equation}
 
 -- an elemental inequality of n variables as a demand

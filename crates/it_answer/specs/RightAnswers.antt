@@ -15,7 +15,8 @@ use Rattle.it_syntax.specs.Meaning.{RelationView, Holds}
 use Rattle.it_question.specs.Questions.{BodyView, RegionView, VerbView, Prove, Eliminate, Contain}
 use Rattle.it_demand.specs.Targets.{targets}
 use Rattle.it_demand.specs.LineDemands.{space_of}
-use Rattle.it_canon.specs.QuestionDemands.{problem_names, problem_lines, variables_of, AreTrueAt, Poses}
+use Rattle.it_question.specs.Tables.{problem_names, problem_lines}
+use Rattle.it_canon.specs.QuestionDemands.{variables_of, AreTrueAt, Poses}
 use Rattle.it_eliminate.specs.Projections.{IsPointOf}
 use Rattle.it_region.specs.declared.types.Candidate.{Candidate}
 use Rattle.it_region.specs.Obligations.{ArePartsOf}

@@ -19,8 +19,8 @@ use Rattle.it_question.proofs.NumberLemmas.{HasSmallNumbers, GivenHasSmallNumber
 use Rattle.it_demand.specs.Demands.{LineDemand, AreStated}
 use Rattle.it_demand.specs.LineDemands.{AreRowsOf}
 use Rattle.it_demand.specs.LineDemands.{space_of}
-use Rattle.it_question.specs.Tables.{line_demands}
-use Rattle.it_canon.specs.QuestionDemands.{problem_names, problem_names_by, problem_lines_by, variables_of, question_demands, IsProblemOf, Poses}
+use Rattle.it_question.specs.Tables.{line_demands, givens_alone, lines_with, problem_names, problem_names_by, problem_lines_by}
+use Rattle.it_canon.specs.QuestionDemands.{variables_of, question_demands, IsProblemOf, Poses}
 use Rattle.it_demand.specs.Targets.{targets}
 use Rattle.it_canon.specs.Theorems.{QuestionHasProblem, RelationHasRows}
 use Rattle.it_canon.proofs.DemandForms.{AreLineDemandsUpTo, lines_up_to, targets_up_to}
@@ -59,11 +59,11 @@ module _ (q : BodyView) (k : IsQuestion q) (small : QuestionHasSmallNumbers q) w
           → All (IsRelationOf (length (problem_names_by q.names verb).variables) (length (problem_names_by q.names verb).rates)) q.lines.rows
           → AreLineDemandsUpTo (length (problem_names_by q.names verb).variables) (length (problem_names_by q.names verb).rates) (line_demands (length (problem_names_by q.names verb).variables) (problem_lines_by q.lines verb))
       by_verb (Prove r) over counts givens rows = lines_up_to _ _ q.lines (every_of _ q.lines.givens givens) (every_of _ q.lines.rows rows) small.0
-      by_verb (Eliminate rates) over counts givens rows = lines_up_to _ _ (record { givens = q.lines.givens; rows = [] }) (every_of _ q.lines.givens givens) tt (small.0.0, tt)
+      by_verb (Eliminate rates) over counts givens rows = lines_up_to _ _ (givens_alone q.lines) (every_of _ q.lines.givens givens) tt (small.0.0, tt)
       by_verb (Contain first second tries) over counts givens rows =
           let n = length first.names.variables in
           let m = length first.names.rates in
-          lines_up_to n m (record { givens = q.lines.givens ++ first.lines.givens; rows = q.lines.rows ++ first.lines.rows })
+          lines_up_to n m (lines_with q.lines first)
           (every-append (IsGivenOf n) q.lines.givens first.lines.givens (every_of (IsGivenOf n) q.lines.givens givens) (every_of (IsGivenOf n) first.lines.givens over.0.lines.givens))
           (every-append (IsRelationOf n m) q.lines.rows first.lines.rows (every_of (IsRelationOf n m) q.lines.rows rows) (every_of (IsRelationOf n m) first.lines.rows over.0.lines.rows))
           (every-append GivenHasSmallNumbers q.lines.givens first.lines.givens small.0.0 counts.0.0, every-append HasSmallNumbers q.lines.rows first.lines.rows small.0.1 counts.0.1)

@@ -7,7 +7,7 @@ use Rattle.it_space.specs.Problems.{ProblemView, IsProblem}
 use Rattle.it_space.specs.Rows.{Terms, value}
 use Rattle.it_polymatroid.specs.Certificates.{Form}
 use Rattle.it_demand.specs.LineDemands.{space_of, AreRowsOf}
-use Rattle.it_question.specs.Tables.{line_demands}
+use Rattle.it_question.specs.Tables.{line_demands, problem_names, problem_lines}
 use Rattle.it_syntax.specs.NamesViews.{NamesView}
 use Rattle.it_syntax.specs.Meaning.{RelationView, Holds}
 use Rattle.it_syntax.specs.Givens.{GivenView, IsTrueAt}
@@ -16,29 +16,9 @@ use Rattle.it_demand.specs.Canonical.{IsRowOf}
 use Rattle.it_demand.specs.Targets.{targets}
 use Rattle.it_demand.specs.Demands.{LineDemand, AreStated, demands, demand_of, parts_of}
 
--- the names of a question's problem: its own, or those of its first region
-abbrev pub problem_names_by : NamesView → VerbView → NamesView
-problem_names_by v (Prove r) = v
-problem_names_by v (Eliminate rates) = v
-problem_names_by v (Contain first second tries) = first.names
-
--- the names of the problem that a question poses
-abbrev pub problem_names : BodyView → NamesView
-problem_names q = problem_names_by q.names q.verb
-
 -- how many variables the problem has
 abbrev pub variables_of : BodyView → ℕ
 variables_of q = length (problem_names q).variables
-
--- the lines of a question's problem: its own, its givens alone, or its own with those of its first region after them
-abbrev pub problem_lines_by : OwnLinesView → VerbView → OwnLinesView
-problem_lines_by own (Prove r) = own
-problem_lines_by own (Eliminate rates) = record { givens = own.givens; rows = [] }
-problem_lines_by own (Contain first second tries) = record { givens = own.givens ++ first.lines.givens; rows = own.rows ++ first.lines.rows }
-
--- the lines of the problem that a question poses
-abbrev pub problem_lines : BodyView → OwnLinesView
-problem_lines q = problem_lines_by q.lines q.verb
 
 -- the demands of a question in generator order
 abbrev pub question_demands : BodyView → List LineDemand

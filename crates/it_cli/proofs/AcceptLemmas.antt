@@ -38,7 +38,8 @@ use Rattle.it_demand.specs.Canonical.{IsRowOf}
 use Rattle.it_demand.specs.Targets.{targets}
 use Rattle.it_demand.specs.LineDemands.{AreRowsOf}
 use Rattle.it_demand.specs.LineDemands.{space_of}
-use Rattle.it_canon.specs.QuestionDemands.{problem_names, variables_of, problem_lines, question_demands, AreTrueAt, Poses}
+use Rattle.it_question.specs.Tables.{problem_names, problem_lines}
+use Rattle.it_canon.specs.QuestionDemands.{variables_of, question_demands, AreTrueAt, Poses}
 use Rattle.it_canon.proofs.ProblemLemmas.{question_met}
 use Rattle.it_region.specs.declared.types.Candidate.{Candidate}
 use Rattle.it_region.specs.Obligations.{obligations, ArePulledRows}

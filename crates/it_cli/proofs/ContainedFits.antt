@@ -7,7 +7,7 @@ use Rattle.it_space.specs.Answers.AnswerView.{Contained}
 use Rattle.it_space.specs.Problems.{problem_view}
 use Rattle.it_question.specs.Questions.{BodyView, RegionView, Contain}
 use Rattle.it_demand.specs.LineDemands.{space_of}
-use Rattle.it_canon.specs.QuestionDemands.{problem_names, problem_names_by}
+use Rattle.it_question.specs.Tables.{problem_names, problem_names_by}
 use Rattle.it_region.specs.declared.types.Candidate.{Candidate}
 use Rattle.it_region.specs.Obligations.{obligations}
 use Rattle.it_contain.specs.Proposals.{Plan}

@@ -35,7 +35,8 @@ use Rattle.it_demand.specs.Canonical.{form_of}
 use Rattle.it_demand.specs.Demands.{States, AreStated, kind_of}
 use Rattle.it_demand.specs.Targets.{targets, demanded_forms}
 use Rattle.it_demand.specs.LineDemands.{space_of}
-use Rattle.it_canon.specs.QuestionDemands.{problem_names, problem_names_by, variables_of, question_demands, Poses}
+use Rattle.it_question.specs.Tables.{problem_names, problem_names_by}
+use Rattle.it_canon.specs.QuestionDemands.{variables_of, question_demands, Poses}
 use Rattle.it_demand.proofs.ZipLemmas.{zip-length}
 use Rattle.it_eliminate.specs.Elimination.{Member}
 use Rattle.it_redundant.specs.ReducedElimination.{ProjectedView}

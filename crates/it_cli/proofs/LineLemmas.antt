@@ -30,7 +30,8 @@ use Rattle.it_question.specs.Limits.{IsQuestion, IsRegionOf, IsVerbOver}
 use Rattle.it_question.specs.Questions.{BodyView, QuestionView, RegionView, VerbView, Prove, Eliminate, Contain}
 use Rattle.it_demand.specs.Demands.{LineDemand, States, AreStated}
 use Rattle.it_demand.specs.LineDemands.{space_of}
-use Rattle.it_canon.specs.QuestionDemands.{question_demands, problem_names, problem_names_by, variables_of}
+use Rattle.it_question.specs.Tables.{problem_names, problem_names_by}
+use Rattle.it_canon.specs.QuestionDemands.{question_demands, variables_of}
 use Rattle.it_demand.proofs.ZipLemmas.{zip-length}
 use Rattle.it_run.specs.Runs.RunEndView.{Weights, Point, Pivots, Width}
 use Rattle.it_run.specs.Runs.{RunEndView}

@@ -15,7 +15,8 @@ use Rattle.it_elemental.specs.Generators.{Generator, generator_at, generator_lis
 use Rattle.it_question.specs.Questions.{BodyView}
 use Rattle.it_demand.specs.Demands.{AreStated, LineDemand}
 use Rattle.it_demand.specs.LineDemands.{space_of}
-use Rattle.it_canon.specs.QuestionDemands.{problem_names, question_demands, variables_of}
+use Rattle.it_question.specs.Tables.{problem_names}
+use Rattle.it_canon.specs.QuestionDemands.{question_demands, variables_of}
 use Rattle.it_demand.proofs.FormRows.{no_terms}
 use Rattle.it_print.specs.Lines.{IsRowOver}
 use Rattle.it_print.specs.ProofLines.{generator_rows}

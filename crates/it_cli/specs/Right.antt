@@ -12,7 +12,8 @@ use Rattle.it_elemental.specs.Generators.{Generator}
 use Rattle.it_question.specs.Questions.{BodyView, QuestionView}
 use Rattle.it_demand.specs.Demands.{Demand}
 use Rattle.it_demand.specs.LineDemands.{space_of}
-use Rattle.it_canon.specs.QuestionDemands.{problem_names, question_demands, variables_of}
+use Rattle.it_question.specs.Tables.{problem_names}
+use Rattle.it_canon.specs.QuestionDemands.{question_demands, variables_of}
 use Rattle.it_demand.specs.RowsOfForms.{terms_of_form}
 use Rattle.it_region.specs.declared.types.Candidate.{Candidate}
 use Rattle.it_contain.specs.Proposals.{Plan, plan_after_all}

@@ -8,15 +8,15 @@ use Rattle.it_polymatroid.specs.Elementals.{elementals}
 use Rattle.it_closure.specs.Coordinates.{closed_coordinates}
 use Rattle.it_closure.specs.Reading.{dependences_of}
 
--- an equation has two columns, one for each sign of its weight
-abbrev pub kind_columns : Kind → ℕ
-kind_columns Inequality = 1
-kind_columns Equation = 2
+-- how many columns a constraint of this kind has: an equation has two, one for each sign of its weight
+abbrev pub column_count : Kind → ℕ
+column_count Inequality = 1
+column_count Equation = 2
 
 -- how many columns constraints have
 abbrev pub constraint_columns : List Constraint → ℕ
 constraint_columns [] = 0
-constraint_columns (c ∷ cs) = kind_columns c.kind + constraint_columns cs
+constraint_columns (c ∷ cs) = column_count c.kind + constraint_columns cs
 
 -- a row for each closed set but the closure of the empty set, and for each rate
 abbrev pub table_rows : ProblemView → ℕ
@@ -26,6 +26,6 @@ table_rows q = length (closed_coordinates q.space.variables q.space.rates (depen
 abbrev pub table_columns : ProblemView → ℕ
 table_columns q = length (elementals q.space.variables) + constraint_columns q.constraints + table_rows q
 
--- rows times columns
+-- how many entries the table has: rows times columns
 unfoldable pub table_size : ProblemView → ℕ
 table_size q = table_rows q * table_columns q

@@ -13,7 +13,7 @@ pub use laws::{
     closure_is_least, closures_keep, collapse_keeps, coordinates_serve, reads_exactly,
     spread_out_holds,
 };
-pub use sizes::size;
+pub use sizes::{column_count, size};
 
 #[cfg(test)]
 mod tests;

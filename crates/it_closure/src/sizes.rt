@@ -1,15 +1,16 @@
 //! How large the table is with which the run about a problem begins.
 ghost use Rattle.std.specs.Prelude.{◌≡◌, ◌≤◌, ◌*◌, length, IfOk};
 ghost use Rattle.it_space.specs.Problems.{IsProblem, problem_view};
-ghost use Rattle.it_closure.specs.Sizes.{constraint_columns, kind_columns, table_size};
+ghost use Rattle.it_closure.specs.Sizes.{column_count, constraint_columns, table_size};
 
 use crate::dependences::Dependences;
 use it_elemental::count;
 use it_space::{Constraint, Kind, Problem};
 use std::alloc::{AllocError, Global};
 
-/// The number of entries of a problem's first table over closed sets: rows times columns, where each row has an artificial column,
-/// and an equation two columns.
+/// How many entries the table has with which the run about a problem begins, rows times columns. A row is a closed set other than
+/// the closure of the empty set, or a rate. Each elemental inequality has a column, each inequality among the constraints one and
+/// each equation two, and each row an artificial one.
 #[tactic(auto, unfolding(crate::specs::Sizes::table_size))]
 pub fn size(alloc: Global, problem: &Problem) -> Result<u64, AllocError>
     requires { IsProblem (problem_view problem.now) }
@@ -31,14 +32,14 @@ fn constraint_columns(constraints: &[Constraint]) -> u64
 {
     let mut columns = 0;
     for constraint in constraints {
-        columns += kind_columns(constraint.kind);
+        columns += column_count(constraint.kind) as u64;
     }
     columns
 }
 
-/// How many columns a constraint of this kind has.
-fn kind_columns(kind: Kind) -> u64
-    ensures value { result ≡ kind_columns kind }
+/// How many columns a constraint, or a generator, of this kind has.
+pub fn column_count(kind: Kind) -> u32
+    ensures value { result ≡ column_count kind }
     ensures few { result ≤ 2 }
 {
     match kind {

@@ -20,7 +20,7 @@ use Rattle.it_question.specs.Lines.{LineView, AreLines, IsFilled, split_lines, f
 use Rattle.it_question.specs.NewNames.{Variable, no_names, is_taken, spell_new_names, new_names_of}
 use Rattle.it_question.specs.Tables.{size_mark}
 use Rattle.it_question.specs.WrittenLines.{no_lines}
-use Rattle.it_question.proofs.TableLemmas.{few_columns}
+use Rattle.it_question.proofs.TableLemmas.{few_variables}
 use Rattle.it_question.specs.Texts.{with_texts}
 use Rattle.it_question.specs.WrittenFiles.{spell_question, spell_questions, questions_of}
 use Rattle.it_question.specs.WrittenQuestions.{WrittenQuestion, Prove, most_variables}
@@ -121,7 +121,7 @@ question_lines_are x more = simp append_assoc
 -- four variables without lines have a small table
 four_small : size_mark (new_names_of Variable no_names (question_tree 0).variables) no_lines ≡ None
 unfolding question_tree
-four_small = few_columns (new_names_of Variable no_names (question_tree 0).variables) no_lines (record { some = omega arith; few = omega arith; few_rates = omega arith }) (lit≤ tt)
+four_small = few_variables (new_names_of Variable no_names (question_tree 0).variables) no_lines (omega arith) (omega arith) (All-nil (IsGivenOf 4)) (omega arith) (omega arith)
 
 question_read : (n : ℕ) (x : ℕ) (more : List ℕ) (k : MarkedLetters) → AreRead (n + 1 + 1) more k → AreRead n (question_text x ++ more) (without_mark (Word vars_keyword) ∷ spell_question (question_tree x) k)
 unfolding question_tree is_taken

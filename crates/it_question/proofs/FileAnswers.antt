@@ -46,14 +46,14 @@ elimination_answers v l k =
     answers_bind (to_end (read_distinct env) (letters m)) (λ x. Ok (views.Eliminate x.0, x.1)) m k k rates (views.Eliminate rates) (to_end_answers (read_distinct env) m k rates (distinct_answers env l (without_mark End ∷ k) tt)) (answers_ok (views.Eliminate rates) k)
 
 -- a keyword that may be marked, and what is read after it
-marked_answers : {A : Type 0} (c : Option Code) (keyword : List ℕ) (f : List Letter → Reads A) (m : MarkedLetters) (y : A) (k : MarkedLetters) → Answers (f (letters m)) m y k → Answers (unless_marked c f (letters m) (Word keyword ∷ letters m)) ((Word keyword, c) ∷ m) y k
-marked_answers None keyword f m y k h = answers_cons (Word keyword) _ m y k h
-marked_answers (Some c) keyword f m y k h = answers_at_mark c (Word keyword) m _ _
+keyword_answers : {A : Type 0} (c : Option Code) (keyword : List ℕ) (f : List Letter → Reads A) (m : MarkedLetters) (y : A) (k : MarkedLetters) → Answers (f (letters m)) m y k → Answers (unless_marked c f (letters m) (Word keyword ∷ letters m)) ((Word keyword, c) ∷ m) y k
+keyword_answers None keyword f m y k h = answers_cons (Word keyword) _ m y k h
+keyword_answers (Some c) keyword f m y k h = answers_at_mark c (Word keyword) m _ _
 
 verb_answers : (own : OwnLinesView) (v : NamesView) (x : WrittenVerb) (k : MarkedLetters) → Answers (read_verb own v (letters (spell_verb own v x k))) (spell_verb own v x k) (verb_of v x) k
 unfolding read_verb
-verb_answers own v (Prove x) k = marked_answers (size_mark v own) prove_keyword (read_proof v) (spell_relation (scope_of v true) x (without_mark End ∷ k)) (verb_of v (Prove x)) k (proof_answers v x k)
-verb_answers own v (Eliminate l) k = marked_answers (size_mark v (givens_alone own)) eliminate_keyword (read_elimination v) (spell_distinct (rates_env v) l (without_mark End ∷ k)) (verb_of v (Eliminate l)) k (elimination_answers v l k)
+verb_answers own v (Prove x) k = keyword_answers (size_mark v own) prove_keyword (read_proof v) (spell_relation (scope_of v true) x (without_mark End ∷ k)) (verb_of v (Prove x)) k (proof_answers v x k)
+verb_answers own v (Eliminate l) k = keyword_answers (size_mark v (givens_alone own)) eliminate_keyword (read_elimination v) (spell_distinct (rates_env v) l (without_mark End ∷ k)) (verb_of v (Eliminate l)) k (elimination_answers v l k)
 verb_answers own v (Contain x) k = answers_cons (Word region_keyword) _ (spell_contained own v x k) (verb_of v (Contain x)) k (containment_answers own v x k)
 
 -- it begins with a word that begins no line before it

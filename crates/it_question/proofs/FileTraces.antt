@@ -67,12 +67,12 @@ some_verb : WrittenVerb
 some_verb = Prove some_relation
 
 -- a keyword that may be marked, and what is traced after it
-marked_then : {Z : Type 0} (own : OwnLinesView) (v : NamesView) (w keyword : List ℕ) (ls : List Letter) (c : Option Code) (f : List Letter → Reads VerbView) (spell : Z → MarkedLetters → MarkedLetters) (res : Z → VerbView) (make : Z → WrittenVerb) (z : Z)
+keyword_by_mark : {Z : Type 0} (own : OwnLinesView) (v : NamesView) (w keyword : List ℕ) (ls : List Letter) (c : Option Code) (f : List Letter → Reads VerbView) (spell : Z → MarkedLetters → MarkedLetters) (res : Z → VerbView) (make : Z → WrittenVerb) (z : Z)
     → keyword ≡ w → ((s : List Letter) → read_verb own v (Word w ∷ s) ≡ marked_verb c f w s) → ((x : Z) (k : MarkedLetters) → spell_verb own v (make x) k ≡ (Word keyword, c) ∷ spell x k) → ((x : Z) → verb_of v (make x) ≡ res x)
     → Traces f spell res → By (read_verb own v) (spell_verb own v) (verb_of v) (Word w ∷ ls) (marked_verb c f w ls)
-marked_then own v w keyword ls None f spell res make z e is spells value traces = letter_then (read_verb own v) f (Word w) spell (spell_verb own v) res (verb_of v) make ls is
+keyword_by_mark own v w keyword ls None f spell res make z e is spells value traces = letter_then (read_verb own v) f (Word w) spell (spell_verb own v) res (verb_of v) make ls is
     (λ x k. spells x k ∙ ap (λ (t : List ℕ). without_mark (Word t) ∷ spell x k) e) value (f ls) (traces ls)
-marked_then own v w keyword ls (Some c) f spell res make z e is spells value traces = record {
+keyword_by_mark own v w keyword ls (Some c) f spell res make z e is spells value traces = record {
   tree = make z;
   front = [];
   parts = refl;
@@ -81,9 +81,9 @@ marked_then own v w keyword ls (Some c) f spell res make z e is spells value tra
 }
 
 verb_by : (own : OwnLinesView) (v : NamesView) (w : List ℕ) (ls : List Letter) (h i j : Bool) → bytes_eq w prove_keyword ≡ h → bytes_eq w eliminate_keyword ≡ i → bytes_eq w region_keyword ≡ j → By (read_verb own v) (spell_verb own v) (verb_of v) (Word w ∷ ls) (verb_by_word own v w ls h i j)
-verb_by own v w ls true i j eh ei ej = marked_then own v w prove_keyword ls (size_mark v own) (read_proof v) (spell_proof v) (λ x. views.Prove (relation_of (scope_of v true) x)) Prove some_relation (sym ((bytes_eq-Decides w prove_keyword).0 eh)) (verb_is own v w true i j eh ei ej)
+verb_by own v w ls true i j eh ei ej = keyword_by_mark own v w prove_keyword ls (size_mark v own) (read_proof v) (spell_proof v) (λ x. views.Prove (relation_of (scope_of v true) x)) Prove some_relation (sym ((bytes_eq-Decides w prove_keyword).0 eh)) (verb_is own v w true i j eh ei ej)
     (λ x k. refl) (λ x. refl) (proof_traces v)
-verb_by own v w ls false true j eh ei ej = marked_then own v w eliminate_keyword ls (size_mark v (givens_alone own)) (read_elimination v) (spell_elimination v) (λ l. views.Eliminate (distinct_of (rates_env v) l)) Eliminate some_list (sym ((bytes_eq-Decides w eliminate_keyword).0 ei)) (verb_is own v w false true j eh ei ej)
+verb_by own v w ls false true j eh ei ej = keyword_by_mark own v w eliminate_keyword ls (size_mark v (givens_alone own)) (read_elimination v) (spell_elimination v) (λ l. views.Eliminate (distinct_of (rates_env v) l)) Eliminate some_list (sym ((bytes_eq-Decides w eliminate_keyword).0 ei)) (verb_is own v w false true j eh ei ej)
     (λ x k. refl) (λ x. refl) (elimination_traces v)
 verb_by own v w ls false false true eh ei ej = letter_then (read_verb own v) (read_containment own v) (Word w) (spell_contained own v) (spell_verb own v) (containment_of v) (verb_of v) Contain ls (verb_is own v w false false true eh ei ej)
     (λ z k. ap (λ (t : List ℕ). without_mark (Word t) ∷ spell_contained own v z k) (sym ((bytes_eq-Decides w region_keyword).0 ej))) (λ z. refl) (read_containment own v ls) (containment_traces own v ls)

@@ -15,7 +15,7 @@ use Rattle.it_question.specs.Keywords.{vars_keyword, rates_keyword, region_keywo
 use Rattle.it_syntax.specs.declared.types.Code.{Code}
 use Rattle.it_space.specs.Spaces.{IsSpace}
 use Rattle.it_demand.specs.LineDemands.{space_of}
-use Rattle.it_question.specs.Tables.{givens_alone, joined_lines, size_mark}
+use Rattle.it_question.specs.Tables.{givens_alone, size_mark, contain_mark}
 use Rattle.it_question.specs.Limits.{AreRatesOf, AreLinesOver, IsRegionOf, IsVerbOver, IsQuestion}
 use Rattle.it_question.specs.Questions.{OwnLinesView, RegionView, VerbView, Prove, Eliminate, Contain, BodyView}
 use Rattle.it_question.specs.NewNames.{Variable, Rate, no_names}
@@ -75,16 +75,16 @@ containment_sure lines v few ls =
     let r = rows_left most_lines lines in
     let few_g : g ≤ 64 = omega arith in
     let few_r : r ≤ 64 = omega arith in
-    sure_bind (Region v) (Over v) (read_region g r v ls) (λ first. read_word region_keyword first.1 >>= λ x. read_region (givens_left g first.0.lines) (rows_left r first.0.lines) v x.1 >>= λ second. read_tries most_lines (auxiliary_env v second.0.names) (env_of first.0.names) (unnamed_sets second.0.auxiliaries) second.1 >>= λ tries. read_contain (size_mark first.0.names (joined_lines lines first.0.lines)) tries.1 >>= λ e. Ok (Contain first.0 second.0 tries.0, e.1)) (region_sure g r v few_g few_r few ls)
+    sure_bind (Region v) (Over v) (read_region g r v ls) (λ first. read_word region_keyword first.1 >>= λ x. read_region (givens_left g first.0.lines) (rows_left r first.0.lines) v x.1 >>= λ second. read_tries most_lines (auxiliary_env v second.0.names) (env_of first.0.names) (unnamed_sets second.0.auxiliaries) second.1 >>= λ tries. read_contain (contain_mark lines first.0) tries.1 >>= λ e. Ok (Contain first.0 second.0 tries.0, e.1)) (region_sure g r v few_g few_r few ls)
     (λ first hf.
     let givens = givens_left g first.0.lines in
     let rows = rows_left r first.0.lines in
     let env = env_of first.0.names in
     let n = length first.0.names.variables in
-    sure_bind Any (Over v) (read_word region_keyword first.1) (λ x. read_region givens rows v x.1 >>= λ second. read_tries most_lines (auxiliary_env v second.0.names) env (unnamed_sets second.0.auxiliaries) second.1 >>= λ tries. read_contain (size_mark first.0.names (joined_lines lines first.0.lines)) tries.1 >>= λ e. Ok (Contain first.0 second.0 tries.0, e.1)) (sure_any (read_word region_keyword first.1))
-    (λ x u. sure_bind (Region v) (Over v) (read_region givens rows v x.1) (λ second. read_tries most_lines (auxiliary_env v second.0.names) env (unnamed_sets second.0.auxiliaries) second.1 >>= λ tries. read_contain (size_mark first.0.names (joined_lines lines first.0.lines)) tries.1 >>= λ e. Ok (Contain first.0 second.0 tries.0, e.1)) (region_sure givens rows v (omega (arith, few_g)) (omega (arith, few_r)) few x.1)
-    (λ second hs. sure_bind (AreTries n most_lines) (Over v) (read_tries most_lines (auxiliary_env v second.0.names) env (unnamed_sets second.0.auxiliaries) second.1) (λ tries. read_contain (size_mark first.0.names (joined_lines lines first.0.lines)) tries.1 >>= λ e. Ok (Contain first.0 second.0 tries.0, e.1)) (tries_sure most_lines (auxiliary_env v second.0.names) env n (knows_names first.0.names) second.0.auxiliaries second.1)
-    (λ tries ht. sure_bind Any (Over v) (read_contain (size_mark first.0.names (joined_lines lines first.0.lines)) tries.1) (λ e. Ok (Contain first.0 second.0 tries.0, e.1)) (sure_any (read_contain (size_mark first.0.names (joined_lines lines first.0.lines)) tries.1)) (λ e w. (hf, hs, ht.0, ht.1))))))
+    sure_bind Any (Over v) (read_word region_keyword first.1) (λ x. read_region givens rows v x.1 >>= λ second. read_tries most_lines (auxiliary_env v second.0.names) env (unnamed_sets second.0.auxiliaries) second.1 >>= λ tries. read_contain (contain_mark lines first.0) tries.1 >>= λ e. Ok (Contain first.0 second.0 tries.0, e.1)) (sure_any (read_word region_keyword first.1))
+    (λ x u. sure_bind (Region v) (Over v) (read_region givens rows v x.1) (λ second. read_tries most_lines (auxiliary_env v second.0.names) env (unnamed_sets second.0.auxiliaries) second.1 >>= λ tries. read_contain (contain_mark lines first.0) tries.1 >>= λ e. Ok (Contain first.0 second.0 tries.0, e.1)) (region_sure givens rows v (omega (arith, few_g)) (omega (arith, few_r)) few x.1)
+    (λ second hs. sure_bind (AreTries n most_lines) (Over v) (read_tries most_lines (auxiliary_env v second.0.names) env (unnamed_sets second.0.auxiliaries) second.1) (λ tries. read_contain (contain_mark lines first.0) tries.1 >>= λ e. Ok (Contain first.0 second.0 tries.0, e.1)) (tries_sure most_lines (auxiliary_env v second.0.names) env n (knows_names first.0.names) second.0.auxiliaries second.1)
+    (λ tries ht. sure_bind Any (Over v) (read_contain (contain_mark lines first.0) tries.1) (λ e. Ok (Contain first.0 second.0 tries.0, e.1)) (sure_any (read_contain (contain_mark lines first.0) tries.1)) (λ e w. (hf, hs, ht.0, ht.1))))))
 
 proof_sure : (v : NamesView) (ls : List Letter) → Sure (Over v) (read_proof v ls)
 unfolding read_proof

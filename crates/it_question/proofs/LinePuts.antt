@@ -14,7 +14,7 @@ use Rattle.it_question.specs.NewNames.{NameSortView, Variable, Rate, with_name, 
 use Rattle.it_question.specs.WrittenTries.{Sets, unnamed_sets, is_whole, part_mark, spell_set, spell_part, with_part, spell_parts, with_parts, try_end_mark, try_mark, spell_tries, tries_of}
 use Rattle.it_question.specs.WrittenLines.{limit_mark, spell_own, own_of, once_mark, spell_once, spell_once_more, spell_distinct, rates_env}
 use Rattle.it_question.specs.Questions.{OwnLinesView}
-use Rattle.it_question.specs.Tables.{givens_alone, joined_lines, size_mark}
+use Rattle.it_question.specs.Tables.{givens_alone, size_mark, contain_mark}
 use Rattle.it_question.specs.WrittenRegions.{auxiliaries_left, spell_region, region_of, auxiliary_env, givens_left, rows_left}
 use Rattle.it_question.specs.WrittenFiles.{spell_verb, verb_of, names_of, spell_question, question_of, spell_questions}
 use Rattle.it_question.proofs.Puts.{AreTokens, HasLines, Puts, no_tokens, tokens_then, one_token, token_then, no_lines, line_of_tokens, lines_then, lines_as, line_then}
@@ -127,7 +127,7 @@ verb_puts own v (Contain x) =
     lines_as (region_line_count first + (region_line_count second + (tries + 1))) (verb_line_count (verb_of v (Contain x)))
     (lines_then (region_line_count first) (region_line_count second + (tries + 1)) (region_puts g r v x.first)
     (lines_then (region_line_count second) (tries + 1) (region_puts (givens_left g first.lines) (rows_left r first.lines) v x.second)
-    (lines_then tries 1 (tries_puts most_lines aux env sets x.tries) (line_of_tokens None (one_token (Word contain_keyword, size_mark first.names (joined_lines own first.lines)) tt)))))
+    (lines_then tries 1 (tries_puts most_lines aux env sets x.tries) (line_of_tokens None (one_token (Word contain_keyword, contain_mark own first) tt)))))
     (omega arith)
 
 kept_rates : (v : NamesView) (ws : List (List ℕ)) → (with_names Variable v ws).rates ≡ v.rates

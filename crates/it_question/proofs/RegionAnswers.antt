@@ -8,7 +8,7 @@ use Rattle.it_syntax.specs.Scopes.{env_of}
 use Rattle.it_syntax.specs.WrittenMeasures.{Environment}
 use Rattle.it_question.specs.Keywords.{region_keyword, aux_keyword, contain_keyword}
 use Rattle.it_question.specs.Questions.{OwnLinesView, RegionView, Contain}
-use Rattle.it_question.specs.Tables.{joined_lines, size_mark}
+use Rattle.it_question.specs.Tables.{contain_mark}
 use Rattle.it_question.specs.WrittenQuestions.{WrittenRegion, WrittenTry, WrittenContainment, most_lines}
 use Rattle.it_question.specs.NewNames.{Variable, spell_names_line, names_line_of}
 use Rattle.it_question.specs.WrittenRegions.{auxiliaries_left, spell_region, region_of, auxiliary_env, givens_left, rows_left, containment_of}
@@ -46,15 +46,11 @@ region_answers g r v x k ends =
 abbrev spell_contain : Option Code → MarkedLetters → MarkedLetters
 spell_contain c k = (Word contain_keyword, c) ∷ without_mark End ∷ k
 
--- what stands against `contain` after a first region
-abbrev mark_after : OwnLinesView → RegionView → Option Code
-mark_after own first = size_mark first.names (joined_lines own first.lines)
-
 -- the second region, the tries and the verb
 abbrev spell_rest : OwnLinesView → ℕ → ℕ → NamesView → RegionView → WrittenContainment → MarkedLetters → MarkedLetters
 spell_rest own g r v first x k =
     let second = region_of v x.second in
-    spell_region g r v x.second (spell_tries most_lines (auxiliary_env v second.names) (env_of first.names) (unnamed_sets second.auxiliaries) x.tries (spell_contain (mark_after own first) k))
+    spell_region g r v x.second (spell_tries most_lines (auxiliary_env v second.names) (env_of first.names) (unnamed_sets second.auxiliaries) x.tries (spell_contain (contain_mark own first) k))
 
 tries_end : (n : ℕ) (aux env : Environment) (sets : List (Option ℕ)) (xs : List WrittenTry) (c : Option Code) (k : MarkedLetters) → EndsRegion (spell_tries n aux env sets xs (spell_contain c k))
 unfolding after_word
@@ -86,7 +82,7 @@ containment_answers own v x k =
     let r = rows_left most_lines own in
     let givens = givens_left g first.lines in
     let rows = rows_left r first.lines in
-    let mark = mark_after own first in
+    let mark = contain_mark own first in
     let verb = spell_contain mark k in
     let lines = spell_tries most_lines aux env sets x.tries verb in
     let bounds = spell_bounds givens rows v x.second lines in
@@ -94,7 +90,7 @@ containment_answers own v x k =
     let tries = tries_of aux env sets x.tries in
     let y = containment_of v x in
     let all = spell_bounds g r v x.first rest in
-    answers_bind (read_region g r v (letters all)) (λ first. read_word region_keyword first.1 >>= λ x. read_region (givens_left g first.0.lines) (rows_left r first.0.lines) v x.1 >>= λ second. read_tries most_lines (auxiliary_env v second.0.names) (env_of first.0.names) (unnamed_sets second.0.auxiliaries) second.1 >>= λ tries. read_contain (size_mark first.0.names (joined_lines own first.0.lines)) tries.1 >>= λ e. Ok (Contain first.0 second.0 tries.0, e.1)) all rest k first y
+    answers_bind (read_region g r v (letters all)) (λ first. read_word region_keyword first.1 >>= λ x. read_region (givens_left g first.0.lines) (rows_left r first.0.lines) v x.1 >>= λ second. read_tries most_lines (auxiliary_env v second.0.names) (env_of first.0.names) (unnamed_sets second.0.auxiliaries) second.1 >>= λ tries. read_contain (contain_mark own first.0) tries.1 >>= λ e. Ok (Contain first.0 second.0 tries.0, e.1)) all rest k first y
     (region_answers g r v x.first rest (record { no_own = record { no_given = refl; no_row = refl }; no_aux = refl }))
     (answers_cons (Word region_keyword) _ bounds y k
     (answers_bind (read_region givens rows v (letters bounds)) (λ second. read_tries most_lines (auxiliary_env v second.0.names) env (unnamed_sets second.0.auxiliaries) second.1 >>= λ tries. read_contain mark tries.1 >>= λ e. Ok (Contain first second.0 tries.0, e.1)) bounds lines k second y

@@ -11,17 +11,13 @@ use Rattle.it_syntax.specs.Scopes.{env_of}
 use Rattle.it_question.specs.Keywords.{region_keyword}
 use Rattle.it_question.specs.Questions.{OwnLinesView, RegionView, VerbView, Contain}
 use Rattle.it_question.specs.Reading.{read_word, read_region, read_tries, read_contain, read_containment}
-use Rattle.it_question.specs.Tables.{joined_lines, size_mark}
+use Rattle.it_question.specs.Tables.{contain_mark}
 use Rattle.it_question.specs.WrittenRegions.{auxiliary_env, givens_left, rows_left}
 use Rattle.it_question.specs.WrittenTries.{unnamed_sets}
 use Rattle.it_question.specs.WrittenQuestions.{most_lines}
 
 abbrev then_contain : Option Code → RegionView → RegionView → List (List ℕ) × List Letter → Reads VerbView
 then_contain c first second tries = read_contain c tries.1 >>= λ e. Ok (Contain first second tries.0, e.1)
-
--- what stands against `contain` after a first region
-abbrev pub mark_after : OwnLinesView → RegionView → Option Code
-mark_after own first = size_mark first.names (joined_lines own first.lines)
 
 abbrev read_first_tries : NamesView → RegionView → RegionView → List Letter → Reads (List (List ℕ))
 read_first_tries v first second ls = read_tries most_lines (auxiliary_env v second.names) (env_of first.names) (unnamed_sets second.auxiliaries) ls
@@ -40,7 +36,7 @@ pub record ReadRegions (own : OwnLinesView) (v : NamesView) (ls a b d : List Let
   pub rows : more_rows ≡ rows_left most_rows first.lines
   pub two : read_region more_givens more_rows v b ≡ Ok (second, d)
 
-up_to_tries : (own : OwnLinesView) (v : NamesView) (ls a b d : List Letter) (first second : RegionView) (i j m n : ℕ) → ReadRegions own v ls a b d first second i j m n → read_containment own v ls ≡ (read_first_tries v first second d >>= then_contain (mark_after own first) first second)
+up_to_tries : (own : OwnLinesView) (v : NamesView) (ls a b d : List Letter) (first second : RegionView) (i j m n : ℕ) → ReadRegions own v ls a b d first second i j m n → read_containment own v ls ≡ (read_first_tries v first second d >>= then_contain (contain_mark own first) first second)
 unfolding read_containment
 up_to_tries own v ls a b d first second i j m n h =
     let g = givens_left most_lines own in
@@ -55,11 +51,11 @@ stops_then {A} (stops.Fault c) rest t f total is h = is ∙ ap (λ (q : Reads A)
 
 -- at a fault in the `try` lines
 pub tries_stop : (e : Stop) (own : OwnLinesView) (v : NamesView) (ls a b d rest : List Letter) (first second : RegionView) (i j m n : ℕ) → ReadRegions own v ls a b d first second i j m n → StopsAs e rest (read_first_tries v first second d) → StopsAs e rest (read_containment own v ls)
-tries_stop e own v ls a b d rest first second i j m n h k = stops_then e rest (read_first_tries v first second d) (then_contain (mark_after own first) first second) (read_containment own v ls) (up_to_tries own v ls a b d first second i j m n h) k
+tries_stop e own v ls a b d rest first second i j m n h k = stops_then e rest (read_first_tries v first second d) (then_contain (contain_mark own first) first second) (read_containment own v ls) (up_to_tries own v ls a b d first second i j m n h) k
 
 -- at a fault after them
 pub contain_stops : (e : Stop) (own : OwnLinesView) (v : NamesView) (ls a b d after rest : List Letter) (first second : RegionView) (i j m n : ℕ) (tries : List (List ℕ)) → ReadRegions own v ls a b d first second i j m n → read_first_tries v first second d ≡ Ok (tries, after)
-    → StopsAs e rest (read_contain (mark_after own first) after) → StopsAs e rest (read_containment own v ls)
+    → StopsAs e rest (read_contain (contain_mark own first) after) → StopsAs e rest (read_containment own v ls)
 contain_stops e own v ls a b d after rest first second i j m n tries h t k =
-    let is : read_containment own v ls ≡ then_contain (mark_after own first) first second (tries, after) = up_to_tries own v ls a b d first second i j m n h ∙ ap (λ (q : Reads (List (List ℕ))). q >>= then_contain (mark_after own first) first second) t in
-    stops_then e rest (read_contain (mark_after own first) after) (λ e. Ok (Contain first second tries, e.1)) (read_containment own v ls) is k
+    let is : read_containment own v ls ≡ then_contain (contain_mark own first) first second (tries, after) = up_to_tries own v ls a b d first second i j m n h ∙ ap (λ (q : Reads (List (List ℕ))). q >>= then_contain (contain_mark own first) first second) t in
+    stops_then e rest (read_contain (contain_mark own first) after) (λ e. Ok (Contain first second tries, e.1)) (read_containment own v ls) is k

@@ -19,7 +19,7 @@ use Rattle.it_question.specs.WrittenLines.{spell_own, own_of}
 use Rattle.it_question.specs.WrittenTries.{unnamed_sets, spell_tries, tries_of}
 use Rattle.it_question.specs.WrittenRegions.{auxiliaries_left, region_of, auxiliary_env, givens_left, rows_left, containment_of}
 use Rattle.it_question.specs.Reading.{read_word, read_names_line, read_lines, read_tries, read_region, after_word, unless_marked, contain_or_fault, read_contain, read_containment}
-use Rattle.it_question.specs.Tables.{joined_lines, size_mark}
+use Rattle.it_question.specs.Tables.{contain_mark}
 use Rattle.it_question.proofs.NameTraces.{marked_here, spell_word, word_traces, names_line_traces}
 use Rattle.it_question.proofs.LineTraces.{lines_traces}
 use Rattle.it_question.proofs.RegionAnswers.{spell_bounds, spell_contained}
@@ -88,16 +88,12 @@ contain_traces c (l ∷ ls) = stuck_here (read_contain c) (spell_contain c) tt l
 abbrev contain_then : Option Code → RegionView → RegionView → List (List ℕ) → List Letter → Reads VerbView
 contain_then c first second tries ls = read_contain c ls >>= λ e. Ok (Contain first second tries, e.1)
 
--- what stands against `contain` after a first region
-abbrev mark_after : OwnLinesView → RegionView → Option Code
-mark_after own first = size_mark first.names (joined_lines own first.lines)
-
 -- what follows two regions
 abbrev after_second : OwnLinesView → NamesView → RegionView → RegionView → List Letter → Reads VerbView
-after_second own v first second ls = read_tries most_lines (auxiliary_env v second.names) (env_of first.names) (unnamed_sets second.auxiliaries) ls >>= λ tries. contain_then (mark_after own first) first second tries.0 tries.1
+after_second own v first second ls = read_tries most_lines (auxiliary_env v second.names) (env_of first.names) (unnamed_sets second.auxiliaries) ls >>= λ tries. contain_then (contain_mark own first) first second tries.0 tries.1
 
 abbrev spell_after_second : OwnLinesView → NamesView → RegionView → RegionView → List WrittenTry → MarkedLetters → MarkedLetters
-spell_after_second own v first second xs k = spell_tries most_lines (auxiliary_env v second.names) (env_of first.names) (unnamed_sets second.auxiliaries) xs ((Word contain_keyword, mark_after own first) ∷ without_mark End ∷ k)
+spell_after_second own v first second xs k = spell_tries most_lines (auxiliary_env v second.names) (env_of first.names) (unnamed_sets second.auxiliaries) xs ((Word contain_keyword, contain_mark own first) ∷ without_mark End ∷ k)
 
 abbrev after_second_of : NamesView → RegionView → RegionView → List WrittenTry → VerbView
 after_second_of v first second xs = Contain first second (tries_of (auxiliary_env v second.names) (env_of first.names) (unnamed_sets second.auxiliaries) xs)
@@ -107,7 +103,7 @@ after_second_traces own v first second =
     let aux = auxiliary_env v second.names in
     let env = env_of first.names in
     let sets = unnamed_sets second.auxiliaries in
-    let mark = mark_after own first in
+    let mark = contain_mark own first in
     traces_bind (read_tries most_lines aux env sets) (contain_then mark first second) (after_second own v first second) (spell_tries most_lines aux env sets) (λ tries. spell_contain mark) (spell_after_second own v first second) (tries_of aux env sets) (λ tries u. Contain first second tries) (after_second_of v first second) (λ xs u. xs)
     (record { is = λ ls. refl; spells = λ y z k. refl; value = λ y z. refl; some = tt; first = tries_traces most_lines aux env sets; second = λ tries. traces_map (read_contain mark) (λ u. Contain first second tries) (spell_contain mark) (λ u. tt) (contain_traces mark) })
 

@@ -27,5 +27,5 @@ IsLineAdded n bytes old new =
     ⊎ ((l : LineView) × (new ≡ old ++ l ∷ []) × IsLine n bytes l × HasTokens l)
 
 -- against the word of a verb whose question's table is too large
-abbrev pub large_mark : Bool → Option Code
-large_mark large = if large then Some codes.Large else None
+abbrev pub mark_if_large : Bool → Option Code
+mark_if_large large = if large then Some codes.Large else None

@@ -18,7 +18,7 @@ use Rattle.it_question.specs.WrittenTries.{Sets, unnamed_sets, is_named, with_se
 use Rattle.it_question.specs.WrittenLines.{no_lines, is_among, rates_env}
 use Rattle.it_question.specs.WrittenRegions.{auxiliaries_left, auxiliary_env, givens_left, rows_left}
 use Rattle.it_syntax.specs.declared.types.Code.{Code}
-use Rattle.it_question.specs.Tables.{givens_alone, joined_lines, size_mark}
+use Rattle.it_question.specs.Tables.{givens_alone, size_mark, contain_mark}
 use Rattle.it_question.specs.WrittenQuestions.{most_questions, most_variables, most_rates, most_lines}
 
 -- a word that must stand there
@@ -259,7 +259,7 @@ read_containment own v ls = do
   x ← read_word region_keyword first.1
   second ← read_region (givens_left (givens_left most_lines own) first.0.lines) (rows_left (rows_left most_lines own) first.0.lines) v x.1
   tries ← read_tries most_lines (auxiliary_env v second.0.names) (env_of first.0.names) (unnamed_sets second.0.auxiliaries) second.1
-  e ← read_contain (size_mark first.0.names (joined_lines own first.0.lines)) tries.1
+  e ← read_contain (contain_mark own first.0) tries.1
   Ok (Contain first.0 second.0 tries.0, e.1)
 
 -- ---- questions and files

@@ -6,7 +6,7 @@ use Rattle.it_syntax.specs.WrittenMeasures.{Environment}
 use Rattle.it_syntax.specs.Scopes.{env_of}
 use Rattle.it_question.specs.Keywords.{region_keyword, aux_keyword, contain_keyword}
 use Rattle.it_question.specs.Questions.{OwnLinesView, RegionView, VerbView}
-use Rattle.it_question.specs.Tables.{joined_lines, size_mark}
+use Rattle.it_question.specs.Tables.{contain_mark}
 use Rattle.it_question.specs.WrittenQuestions.{most_variables, most_auxiliaries, most_lines, WrittenRegion, WrittenContainment}
 use Rattle.it_question.specs.NewNames.{Variable, spell_names_line, names_line_of}
 use Rattle.it_question.specs.WrittenLines.{spell_own, own_of}
@@ -52,7 +52,7 @@ spell_containment own v x k =
     spell_region g r v x.first
     (spell_region (givens_left g first.lines) (rows_left r first.lines) v x.second
     (spell_tries most_lines (auxiliary_env v second.names) (env_of first.names) (unnamed_sets second.auxiliaries) x.tries
-    ((Word contain_keyword, size_mark first.names (joined_lines own first.lines)) ∷ without_mark End ∷ k)))
+    ((Word contain_keyword, contain_mark own first) ∷ without_mark End ∷ k)))
 
 -- what two regions and the `try` lines say, in a question with these names
 abbrev pub containment_of : NamesView → WrittenContainment → VerbView

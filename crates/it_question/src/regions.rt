@@ -9,7 +9,7 @@ ghost use Rattle.it_question.specs.Questions.{own_lines_view, verb_view, region_
 ghost use Rattle.it_space.specs.Spaces.{IsSpace};
 ghost use Rattle.it_demand.specs.LineDemands.{space_of};
 ghost use Rattle.it_question.specs.Limits.{AreLinesOver, IsRegionOf};
-ghost use Rattle.it_question.specs.Tables.{joined_lines, size_mark};
+ghost use Rattle.it_question.specs.Tables.{contain_mark};
 ghost use Rattle.it_question.specs.Reading.{read_names_line, read_region, read_contain, read_containment};
 ghost use Rattle.it_question.specs.Sorts.{HasRoom};
 ghost use Rattle.it_question.specs.NewNames.{Variable};
@@ -120,7 +120,7 @@ fn contain(
     requires space { IsSpace (space_of names.now) }
     requires lines { AreLinesOver names.now (own_lines_view lines.now) }
     requires region { IsRegionOf names.now (region_view first.now) }
-    ensures { Gives result (letters_left cursor.new) (read_contain (size_mark first.now.names (joined_lines (own_lines_view lines.now) (region_view first.now).lines)) (letters_left cursor.old)) }
+    ensures { Gives result (letters_left cursor.new) (read_contain (contain_mark (own_lines_view lines.now) (region_view first.now)) (letters_left cursor.old)) }
 {
     match after_word(*cursor, CONTAIN) {
         Some(after) => {

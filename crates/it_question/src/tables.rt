@@ -9,8 +9,8 @@ ghost use Rattle.it_demand.specs.Demands.{AreStated};
 ghost use Rattle.it_demand.specs.LineDemands.{space_of};
 ghost use Rattle.it_question.specs.Limits.{AreLinesOver, IsRegionOf};
 ghost use Rattle.it_question.specs.Questions.{own_lines_view, region_view};
-ghost use Rattle.it_question.specs.ReaderSteps.{large_mark};
-ghost use Rattle.it_question.specs.Tables.{line_demands, givens_alone, joined_lines, most_entries, size_mark};
+ghost use Rattle.it_question.specs.ReaderSteps.{mark_if_large};
+ghost use Rattle.it_question.specs.Tables.{line_demands, givens_alone, lines_with, most_entries, size_mark, contain_mark};
 
 use crate::types::{OwnLines, Region};
 use it_closure::size;
@@ -56,7 +56,7 @@ pub fn region_constraints(
     requires few_rows { length lines.now.rows.items ≤ 64 }
     requires own { AreLinesOver region.now.names (region_view region.now).lines }
     requires names { space ≡ space_of region.now.names }
-    ensures { IfOk result (λ v. AreStated space (line_demands space.variables (record { givens = (own_lines_view lines.now).givens ++ (region_view region.now).lines.givens; rows = (own_lines_view lines.now).rows ++ (region_view region.now).lines.rows })) v.items) }
+    ensures { IfOk result (λ v. AreStated space (line_demands space.variables (lines_with (own_lines_view lines.now) (region_view region.now))) v.items) }
 {
     let own = &region.lines;
     let first_given = 1 + lines.givens.len() as u16;
@@ -87,7 +87,7 @@ fn is_large(alloc: Global, space: Space, constraints: Vec<Constraint>) -> Result
 pub fn proof_is_large(alloc: Global, names: &Names, lines: &OwnLines) -> Result<bool, Stop>
     requires space { IsSpace (space_of names.now) }
     requires lines { AreLinesOver names.now (own_lines_view lines.now) }
-    ensures large { IfOk result (λ large. size_mark names.now (own_lines_view lines.now) ≡ large_mark large) }
+    ensures large { IfOk result (λ large. size_mark names.now (own_lines_view lines.now) ≡ mark_if_large large) }
     ensures memory { IfErr result (λ e. e ≡ Memory) }
 {
     let space = names.space();
@@ -104,7 +104,7 @@ pub fn proof_is_large(alloc: Global, names: &Names, lines: &OwnLines) -> Result<
 pub fn elimination_is_large(alloc: Global, names: &Names, lines: &OwnLines) -> Result<bool, Stop>
     requires space { IsSpace (space_of names.now) }
     requires lines { AreLinesOver names.now (own_lines_view lines.now) }
-    ensures large { IfOk result (λ large. size_mark names.now (givens_alone (own_lines_view lines.now)) ≡ large_mark large) }
+    ensures large { IfOk result (λ large. size_mark names.now (givens_alone (own_lines_view lines.now)) ≡ mark_if_large large) }
     ensures memory { IfErr result (λ e. e ≡ Memory) }
 {
     let space = names.space();
@@ -127,7 +127,7 @@ pub fn containment_is_large(
     requires space { IsSpace (space_of names.now) }
     requires lines { AreLinesOver names.now (own_lines_view lines.now) }
     requires region { IsRegionOf names.now (region_view first.now) }
-    ensures large { IfOk result (λ large. size_mark first.now.names (joined_lines (own_lines_view lines.now) (region_view first.now).lines) ≡ large_mark large) }
+    ensures large { IfOk result (λ large. contain_mark (own_lines_view lines.now) (region_view first.now) ≡ mark_if_large large) }
     ensures memory { IfErr result (λ e. e ≡ Memory) }
 {
     let space = first.names.space();

@@ -1,12 +1,9 @@
 -- Regions, by the meaning of their lines, and what it means that one lies in another.
-use Rattle.std.specs.Prelude.{◌≡◌, ℕ, ◌+◌, ◌<◌, ◌^◌, ℤ, ◌++◌, length}
+use Rattle.std.specs.Prelude.{◌≡◌, ℕ, ◌+◌, ◌<◌, ◌^◌, ℤ, length}
 use Rattle.it_polymatroid.specs.Polymatroid.{IsPolymatroid}
 use Rattle.it_question.specs.Questions.{OwnLinesView, RegionView, BodyView}
+use Rattle.it_question.specs.Tables.{lines_with}
 use Rattle.it_canon.specs.QuestionDemands.{AreTrueAt}
-
--- the lines before the first region, and after them a region's own
-abbrev pub lines_with : OwnLinesView → RegionView → OwnLinesView
-lines_with own r = record { givens = own.givens ++ r.lines.givens; rows = own.rows ++ r.lines.rows }
 
 -- entropies of the region's variables and values of the rates, as one map from coordinates, that meet all lines
 pub record IsIn (own : OwnLinesView) (r : RegionView) (p : ℕ → ℤ) : Type 0 where

@@ -24,7 +24,7 @@ use Rattle.it_question.proofs.NumberLemmas.{VerbHasSmallNumbers, QuestionHasSmal
 use Rattle.it_demand.specs.Demands.{LineDemand}
 use Rattle.it_demand.specs.LineDemands.{given_demands, row_demands, AreRowsOf}
 use Rattle.it_demand.specs.LineDemands.{space_of}
-use Rattle.it_canon.specs.QuestionDemands.{problem_names, problem_names_by}
+use Rattle.it_question.specs.Tables.{problem_names, problem_names_by}
 use Rattle.it_canon.proofs.DemandForms.{given_lines_up_to, row_lines_up_to}
 use Rattle.it_canon.proofs.ExistenceLemmas.{question_has_problem, relation_has_rows, rows_there}
 use Rattle.it_canon.proofs.SmallForms.{IsFormUpTo}

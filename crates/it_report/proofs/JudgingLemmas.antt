@@ -18,7 +18,8 @@ use Rattle.it_demand.specs.Demands.{AreStated, kind_of}
 use Rattle.it_demand.specs.Targets.{targets, demanded_forms}
 use Rattle.it_demand.specs.LineDemands.{AreRowsOf}
 use Rattle.it_demand.specs.LineDemands.{space_of}
-use Rattle.it_canon.specs.QuestionDemands.{problem_names, problem_names_by, question_demands, IsProblemOf, Poses}
+use Rattle.it_question.specs.Tables.{problem_names, problem_names_by}
+use Rattle.it_canon.specs.QuestionDemands.{question_demands, IsProblemOf, Poses}
 use Rattle.it_region.specs.declared.types.Candidate.{Candidate}
 use Rattle.it_region.specs.declared.types.Pair.{Pair}
 use Rattle.it_region.specs.Obligations.{obligations, ArePartsOf, ArePulledRows}

@@ -20,7 +20,8 @@ use Rattle.it_question.proofs.FileReadings.{file_limits}
 use Rattle.it_demand.specs.Canonical.{form_of}
 use Rattle.it_demand.specs.Targets.{targets}
 use Rattle.it_demand.specs.LineDemands.{space_of}
-use Rattle.it_canon.specs.QuestionDemands.{problem_names, problem_names_by, problem_lines, problem_lines_by, AreTrueAt, IsProblemOf}
+use Rattle.it_question.specs.Tables.{problem_names, problem_names_by, problem_lines, problem_lines_by}
+use Rattle.it_canon.specs.QuestionDemands.{AreTrueAt, IsProblemOf}
 use Rattle.it_demand.proofs.MetLemmas.{targets_met}
 use Rattle.it_canon.proofs.ProblemLemmas.{question_met}
 use Rattle.it_demand.proofs.ZipLemmas.{zip-length}

@@ -7,7 +7,8 @@ use Rattle.it_polymatroid.specs.Polymatroid.{IsPolymatroid}
 use Rattle.it_syntax.specs.Meaning.{RelationView, Holds}
 use Rattle.it_syntax.specs.NamesViews.{NamesView}
 use Rattle.it_question.specs.Questions.{BodyView, QuestionView, RegionView, VerbView, Prove, Eliminate, Contain}
-use Rattle.it_canon.specs.QuestionDemands.{variables_of, problem_lines, AreTrueAt}
+use Rattle.it_question.specs.Tables.{problem_lines}
+use Rattle.it_canon.specs.QuestionDemands.{variables_of, AreTrueAt}
 use Rattle.it_demand.specs.Targets.{targets}
 use Rattle.it_region.specs.Regions.{LiesIn}
 use Rattle.it_certificate.specs.Reports.{ReadsReport}

@@ -1,17 +1,15 @@
 -- Least common multiples of denominators.
-use Rattle.std.proofs.Common.{◌≡◌, ℕ, ◌+◌, ◌*◌, ◌/◌, ◌^◌, ◌≤◌, ◌<◌, Bool, true, false, cond, nat_eq, nat_lt, List, [], ◌∷◌, ◌++◌, length, drop, get_or, All, Option, Some, None, refl, sym, ap, subst, ◌∙◌, arith}
+use Rattle.std.proofs.Common.{◌≡◌, ℕ, ◌+◌, ◌*◌, ◌/◌, ◌^◌, ◌≤◌, ◌<◌, Bool, true, false, cond, nat_eq, nat_lt, List, [], ◌∷◌, ◌++◌, length, map, drop, get_or, All, Some, None, refl, sym, ap, subst, ◌∙◌, arith}
 use Rattle.std.specs.Prelude.{◌||◌}
 use Rattle.std.proofs.lemmas.Bool.Decides.{nat_tests}
 use Rattle.std.proofs.Math.Nat.{div-one, mul-one}
-use native.Mathlib.Nat.{dvd-mul_left, dvd-mul_right, le_of_dvd, pos_of_dvd_of_pos, mul-pos}
-use Prim.Native.Nat.{◌∣◌}
-use Rattle.std.proofs.lemmas.Nat.Gcd.{dvd_refl, dvd_trans}
+use native.Mathlib.Nat.{le_of_dvd, pos_of_dvd_of_pos}
 use Rattle.std.proofs.lemmas.List.Elements.{All-nil, All-cons}
 use Rattle.it_space.proofs.ListLemmas.{drop_item}
 use Rattle.std.proofs.lemmas.List.{drop_all}
 use Rattle.it_space.proofs.OptionLemmas.{some_same}
-use Rattle.it_number.specs.Gcd.{lcm, gcd}
-use Rattle.it_number.proofs.Divisors.{gcd-one, lcm_is}
+use Rattle.it_number.specs.Gcd.{lcm}
+use Rattle.it_number.proofs.Divisors.{gcd-one, lcm_is, lcm-pos, start_divides}
 use Rattle.it_syntax.specs.declared.types.Term.{Term}
 use Rattle.it_syntax.specs.Meaning.{RelationView, multiple_from, multiple_of}
 use Rattle.it_syntax.specs.WrittenRelations.{most_multiple, multiple_with}
@@ -26,30 +24,27 @@ pub multiple-append : (m : ℕ) (ts : List Term) (t : Term) → multiple_from m 
 multiple-append m [] t = refl
 multiple-append m (u ∷ ts) t = multiple-append (lcm m u.denominator) ts t
 
-lcm_some : (a b : ℕ) → 1 ≤ a → 1 ≤ b → 1 ≤ lcm a b
-lcm_some a b h k = pos_of_dvd_of_pos ((lcm_is a b).2 (a * b) (dvd-mul_right a b) (dvd-mul_left b a)) (mul-pos h k)
-
 -- a multiple that goes on with one more term
 pub one_more_multiple : (m so_far next : ℕ) (ts : List Term) (t : Term) → so_far ≡ multiple_from m ts → next ≡ lcm so_far t.denominator → next ≡ multiple_from m (ts ++ t ∷ [])
 one_more_multiple m so_far next ts t e h = h ∙ ap (λ (x : ℕ). lcm x t.denominator) e ∙ sym (multiple-append m ts t)
 
 -- ---- one more denominator
 
-pub no_multiple : (m d : ℕ) → d ≡ 0 → None ≡ multiple_with m d
+pub multiple_with-zero : (m d : ℕ) → d ≡ 0 → None ≡ multiple_with m d
 unfolding multiple_with
-no_multiple m d e = let t : nat_eq d 0 ≡ true = grind (arith, nat_tests) in rw t refl
+multiple_with-zero m d e = let t : nat_eq d 0 ≡ true = grind (arith, nat_tests) in rw t refl
 
-pub small_multiple : (m d x : ℕ) → ¬ (d ≡ 0) → x ≡ lcm m d → x ≤ 2 ^ 32 → Some x ≡ multiple_with m d
+pub multiple_within_limit : (m d x : ℕ) → ¬ (d ≡ 0) → x ≡ lcm m d → x ≤ 2 ^ 32 → Some x ≡ multiple_with m d
 unfolding multiple_with
-small_multiple m d x n e l =
+multiple_within_limit m d x n e l =
     let t : nat_eq d 0 ≡ false = grind (arith, nat_tests) in
     let k : lcm m d ≤ 2 ^ 32 = subst (λ (y : ℕ). y ≤ 2 ^ 32) e l in
     let u : nat_lt most_multiple (lcm m d) ≡ false = grind (arith, nat_tests) in
     rw (t, u, e) refl
 
-pub large_multiple : (m d : ℕ) → 2 ^ 32 < lcm m d → None ≡ multiple_with m d
+pub multiple_past_limit : (m d : ℕ) → 2 ^ 32 < lcm m d → None ≡ multiple_with m d
 unfolding multiple_with
-large_multiple m d l =
+multiple_past_limit m d l =
     let u : nat_lt most_multiple (lcm m d) ≡ true = grind (arith, nat_tests) in
     rw u (by_test (nat_eq d 0))
   where
@@ -68,7 +63,7 @@ multiple_found m d x h e = by_tests (nat_eq d 0) (nat_lt most_multiple (lcm m d)
     by_tests false false t k =
         let same = some_same x (lcm m d) k in
         let some : 1 ≤ d = grind (arith, nat_tests) in
-        (subst (λ (y : ℕ). 1 ≤ y) (sym same) (lcm_some m d h some), same)
+        (subst (λ (y : ℕ). 1 ≤ y) (sym same) (lcm-pos m d h some), same)
 
 -- ---- the limit
 
@@ -89,18 +84,12 @@ multiple_limited m d x h e = by_tests (nat_eq d 0) (nat_lt most_multiple (lcm m 
     by_tests false false t u k =
         let some : 1 ≤ d = grind (arith, nat_tests) in
         let few : lcm m d ≤ 2 ^ 32 = grind (arith, nat_tests) in
-        (lcm_some m d h some, few)
+        (lcm-pos m d h some, few)
 
--- ---- a multiple that is within the limit at the end
-
-start_divides : (m : ℕ) (ts : List Term) → m ∣ multiple_from m ts
-start_divides m [] = dvd_refl m
-start_divides m (t ∷ ts) = dvd_trans m {b = lcm m t.denominator} {c = multiple_from (lcm m t.denominator) ts} (lcm_is m t.denominator).0 (start_divides (lcm m t.denominator) ts)
-
--- is so from the beginning on
+-- a multiple that is within the limit at the end is so from the beginning on
 pub start_limited : (m : ℕ) (ts : List Term) → IsMultiple (multiple_from m ts) → IsMultiple m
 start_limited m ts h =
-    let divides = start_divides m ts in
+    let divides = start_divides m (map (λ (t : Term). t.denominator) ts) in
     (pos_of_dvd_of_pos divides h.0, omega (arith, h.1, le_of_dvd h.0 divides))
 
 -- both numbers of a least common multiple other than 0 are at least 1
@@ -113,8 +102,8 @@ denominators_some m [] h = All-nil (λ (t : Term). 1 ≤ t.denominator)
 denominators_some m (t ∷ ts) h = All-cons (λ (t : Term). 1 ≤ t.denominator) t ts (lcm_parts m t.denominator (start_limited (lcm m t.denominator) ts h).0).1 (denominators_some (lcm m t.denominator) ts h)
 
 -- one more denominator is found
-pub found_multiple : (m d : ℕ) → 1 ≤ d → lcm m d ≤ 2 ^ 32 → None ≡ multiple_with m d → ⊥
-found_multiple m d h k e = let f = small_multiple m d (lcm m d) (λ z. omega (arith, h, z)) refl k ∙ sym e in absurd cc
+pub multiple_not_none : (m d : ℕ) → 1 ≤ d → lcm m d ≤ 2 ^ 32 → None ≡ multiple_with m d → ⊥
+multiple_not_none m d h k e = let f = multiple_within_limit m d (lcm m d) (λ z. omega (arith, h, z)) refl k ∙ sym e in absurd cc
 
 -- what is left of the terms gives the whole multiple, which is within the limit
 pub record IsMultipleSoFar (first : ℕ) (ts : List Term) (i m : ℕ) : Type 0 where

@@ -16,9 +16,9 @@ use Rattle.it_syntax.specs.WrittenRelations.{Scope, multiple_with, most_terms}
 use Rattle.it_syntax.specs.Scopes.{scope_of}
 use Rattle.it_syntax.specs.Lines.{to_end}
 use Rattle.it_syntax.specs.MeasureReading.{Reads, ◌>>=◌, read_measure, read_sign, line_end}
-use Rattle.it_syntax.specs.RelationReading.{rate_or_fault, read_atom, denominator_or_fault, read_denominator, after_slash, after_number, read_term, surplus_rate, read_surplus_term, read_terms, read_counted, read_sum, read_compare, read_relation}
+use Rattle.it_syntax.specs.RelationReading.{rate_or_fault, read_atom, denominator_or_fault, read_denominator, read_over, after_number, read_term, surplus_rate, read_surplus_term, read_terms, read_counted, read_sum, read_compare, read_relation}
 use Rattle.it_syntax.proofs.LimitLemmas.{Sure, sure_bind, Any, sure_any, Knows, HasSets, TermHasSets, AreFew, measure_sure, knows_names}
-use Rattle.it_syntax.proofs.RelationAnswers.{counted_over, counted_reading}
+use Rattle.it_syntax.proofs.RelationAnswers.{fraction_reading, counted_reading}
 use Rattle.it_syntax.proofs.MultipleLemmas.{IsMultiple, lcm_one, multiple_limited, one_is_multiple}
 
 -- the names of a scope are those of n variables and m rates
@@ -38,8 +38,8 @@ atom_sure s n m k [] = tt
 atom_sure s n m k (Bad c ∷ ls) = tt
 atom_sure s n m k (l ∷ ls) = tt
 
-counted_sure : (s : Scope) (n m k d : ℕ) → Covers s n m → IsMultiple (lcm k d) → (b : Bool) (number : ℕ) (ls : List Letter) → Sure (TermHasSets n m k) (read_atom s ls >>= counted_over b number d)
-counted_sure s n m k d c small b number ls = sure_bind (HasSets n m) (TermHasSets n m k) (read_atom s ls) (counted_over b number d) (atom_sure s n m c ls) (λ a ha. (ha, small))
+counted_sure : (s : Scope) (n m k d : ℕ) → Covers s n m → IsMultiple (lcm k d) → (b : Bool) (number : ℕ) (ls : List Letter) → Sure (TermHasSets n m k) (read_atom s ls >>= fraction_reading b number d)
+counted_sure s n m k d c small b number ls = sure_bind (HasSets n m) (TermHasSets n m k) (read_atom s ls) (fraction_reading b number d) (atom_sure s n m c ls) (λ a ha. (ha, small))
 
 -- a denominator 1 leaves the multiple
 once_sure : (s : Scope) (n m k : ℕ) → Covers s n m → IsMultiple k → (b : Bool) (number : ℕ) (ls : List Letter) → Sure (TermHasSets n m k) (read_atom s ls >>= counted_reading b number)
@@ -56,16 +56,16 @@ denominator_sure k small [] = tt
 denominator_sure k small (Bad c ∷ ls) = tt
 denominator_sure k small (l ∷ ls) = tt
 
-slash_sure : (s : Scope) (n m k : ℕ) → Covers s n m → IsMultiple k → (b : Bool) (number : ℕ) (ls : List Letter) → Sure (TermHasSets n m k) (after_slash k s b number ls)
-unfolding after_slash
-slash_sure s n m k c small b number ls =
-    sure_bind (λ (x : ℕ × List Letter). IsMultiple (lcm k x.0)) (TermHasSets n m k) (read_denominator k ls) (λ d. read_atom s d.1 >>= counted_over b number d.0) (denominator_sure k small ls)
+over_sure : (s : Scope) (n m k : ℕ) → Covers s n m → IsMultiple k → (b : Bool) (number : ℕ) (ls : List Letter) → Sure (TermHasSets n m k) (read_over k s b number ls)
+unfolding read_over
+over_sure s n m k c small b number ls =
+    sure_bind (λ (x : ℕ × List Letter). IsMultiple (lcm k x.0)) (TermHasSets n m k) (read_denominator k ls) (λ d. read_atom s d.1 >>= fraction_reading b number d.0) (denominator_sure k small ls)
     (λ d hd. counted_sure s n m k d.0 c hd b number d.1)
 
 after_number_sure : (s : Scope) (n m k : ℕ) → Covers s n m → IsMultiple k → (b : Bool) (number : ℕ) (ls : List Letter) → Sure (TermHasSets n m k) (after_number k s b number ls)
 unfolding after_number
 after_number_sure s n m k c small b number (Word w ∷ ls) = once_sure s n m k c small b number (Word w ∷ ls)
-after_number_sure s n m k c small b number (Sym Slash ∷ ls) = slash_sure s n m k c small b number ls
+after_number_sure s n m k c small b number (Sym Slash ∷ ls) = over_sure s n m k c small b number ls
 after_number_sure s n m k c small b zero [] = (tt, subst IsMultiple (sym (lcm_one k)) small)
 after_number_sure s n m k c small b zero (l ∷ ls) = (tt, subst IsMultiple (sym (lcm_one k)) small)
 after_number_sure s n m k c small b (suc number) [] = tt

@@ -18,7 +18,7 @@ use Rattle.it_syntax.specs.FirstFault.{head, own_code}
 use Rattle.it_syntax.specs.WrittenMeasures.{Entropy, Mutual, TermSign, Positive, Negative, entropy_text, mutual_text, is_measure, unknown_mark, index_or, measure_of, spell_list, spell_measure, mark_surplus}
 use Rattle.it_syntax.specs.WrittenRelations.{Scope, WrittenAtom, Measure, RateOf, WrittenTerm, Zero, Once, Times, Over, WrittenSum, WrittenRelation, multiple_with, multiple_mark, spell_denominator, denominator_of, spell_atom, spell_term, spell_terms, spell_counted, spell_sum, compare_letter, most_terms, spell_relation, atom_of, term_of, terms_of, sum_of, relation_of}
 use Rattle.it_syntax.specs.MeasureReading.{Reads, ◌>>=◌, read_measure, read_sign}
-use Rattle.it_syntax.specs.RelationReading.{rate_or_fault, read_atom, denominator_or_fault, read_denominator, after_slash, after_number, read_term, surplus_rate, read_surplus_term, read_terms, read_counted, read_sum, read_compare, read_relation}
+use Rattle.it_syntax.specs.RelationReading.{rate_or_fault, read_atom, denominator_or_fault, read_denominator, read_over, after_number, read_term, surplus_rate, read_surplus_term, read_terms, read_counted, read_sum, read_compare, read_relation}
 use Rattle.it_syntax.proofs.Traces.{Went, Stuck, By, Traces, traces_bind, traces_map, letter_then, by_equal_reader, by_renaming}
 use Rattle.it_syntax.proofs.MeasureTraces.{for_same_head, for_no_head, stuck_here, stuck_none, some_list}
 use Rattle.it_syntax.proofs.SideTraces.{measure_traces}
@@ -63,11 +63,11 @@ atom_traces s (l ∷ ls) = stuck_here (read_atom s) (spell_atom s) some_atom l l
 
 -- ---- terms
 
-abbrev over_term : Bool → ℕ → ℕ → Atom → Term
-over_term b n d a = record { negative = b; number = n; denominator = d; atom = a }
+abbrev fraction_term : Bool → ℕ → ℕ → Atom → Term
+fraction_term b n d a = record { negative = b; number = n; denominator = d; atom = a }
 
 abbrev counted_term : Bool → ℕ → Atom → Term
-counted_term b n a = over_term b n 1 a
+counted_term b n a = fraction_term b n 1 a
 
 abbrev read_times : Scope → Bool → ℕ → List Letter → Reads Term
 read_times s b n ls = read_atom s ls >>= λ a. Ok (counted_term b n a.0, a.1)
@@ -105,30 +105,30 @@ denominator_traces m [] = stuck_none (read_denominator m) (spell_denominator m) 
 denominator_traces m (l ∷ ls) = stuck_here (read_denominator m) (spell_denominator m) 1 l ls _ (λ t. refl) refl
 
 -- a denominator and an atom
-abbrev Share : Type 0
-Share = ℕ × WrittenAtom
+abbrev OverPart : Type 0
+OverPart = ℕ × WrittenAtom
 
-abbrev spell_share : ℕ → Scope → Share → MarkedLetters → MarkedLetters
-spell_share m s x k = spell_denominator m x.0 (spell_atom s x.1 k)
+abbrev spell_over : ℕ → Scope → OverPart → MarkedLetters → MarkedLetters
+spell_over m s x k = spell_denominator m x.0 (spell_atom s x.1 k)
 
-abbrev share_of : Scope → Bool → ℕ → Share → Term
-share_of s b n x = over_term b n x.0 (atom_of s x.1)
+abbrev over_of : Scope → Bool → ℕ → OverPart → Term
+over_of s b n x = fraction_term b n x.0 (atom_of s x.1)
 
-share_traces : (m : ℕ) (s : Scope) (b : Bool) (n : ℕ) → Traces (after_slash m s b n) (spell_share m s) (share_of s b n)
-unfolding after_slash
-share_traces m s b n = traces_bind (read_denominator m) (λ d ls. read_atom s ls >>= λ a. Ok (over_term b n d a.0, a.1)) (after_slash m s b n) (spell_denominator m) (λ d. spell_atom s) (spell_share m s) (λ d. d) (λ d a. over_term b n d (atom_of s a)) (share_of s b n) (λ d a. (d, a))
-    (record { is = λ ls. refl; spells = λ y z k. refl; value = λ y z. refl; some = some_atom; first = denominator_traces m; second = λ d. traces_map (read_atom s) (over_term b n d) (spell_atom s) (atom_of s) (atom_traces s) })
+over_traces : (m : ℕ) (s : Scope) (b : Bool) (n : ℕ) → Traces (read_over m s b n) (spell_over m s) (over_of s b n)
+unfolding read_over
+over_traces m s b n = traces_bind (read_denominator m) (λ d ls. read_atom s ls >>= λ a. Ok (fraction_term b n d a.0, a.1)) (read_over m s b n) (spell_denominator m) (λ d. spell_atom s) (spell_over m s) (λ d. d) (λ d a. fraction_term b n d (atom_of s a)) (over_of s b n) (λ d a. (d, a))
+    (record { is = λ ls. refl; spells = λ y z k. refl; value = λ y z. refl; some = some_atom; first = denominator_traces m; second = λ d. traces_map (read_atom s) (fraction_term b n d) (spell_atom s) (atom_of s) (atom_traces s) })
 
-abbrev spell_slashed : ℕ → Scope → Share → MarkedLetters → MarkedLetters
-spell_slashed m s x k = without_mark (Sym Slash) ∷ spell_share m s x k
+abbrev spell_slash_over : ℕ → Scope → OverPart → MarkedLetters → MarkedLetters
+spell_slash_over m s x k = without_mark (Sym Slash) ∷ spell_over m s x k
 
-slash_traces : (m : ℕ) (s : Scope) (b : Bool) (n : ℕ) (ls : List Letter) → By (after_number m s b n) (spell_slashed m s) (share_of s b n) (Sym Slash ∷ ls) (after_slash m s b n ls)
+slash_over_traces : (m : ℕ) (s : Scope) (b : Bool) (n : ℕ) (ls : List Letter) → By (after_number m s b n) (spell_slash_over m s) (over_of s b n) (Sym Slash ∷ ls) (read_over m s b n ls)
 unfolding after_number
-slash_traces m s b n ls = letter_then (after_number m s b n) (after_slash m s b n) (Sym Slash) (spell_share m s) (spell_slashed m s) (share_of s b n) (share_of s b n) (λ x. x) ls (λ t. refl) (λ z k. refl) (λ z. refl) (after_slash m s b n ls) (share_traces m s b n ls)
+slash_over_traces m s b n ls = letter_then (after_number m s b n) (read_over m s b n) (Sym Slash) (spell_over m s) (spell_slash_over m s) (over_of s b n) (over_of s b n) (λ x. x) ls (λ t. refl) (λ z k. refl) (λ z. refl) (read_over m s b n ls) (over_traces m s b n ls)
 
-number_slash : (m : ℕ) (s : Scope) (b : Bool) (n : ℕ) (ls : List Letter) → By (read_term m s b) (spell_term m s) (term_of s b) (Number n ∷ Sym Slash ∷ ls) (after_slash m s b n ls)
+number_over : (m : ℕ) (s : Scope) (b : Bool) (n : ℕ) (ls : List Letter) → By (read_term m s b) (spell_term m s) (term_of s b) (Number n ∷ Sym Slash ∷ ls) (read_over m s b n ls)
 unfolding read_term
-number_slash m s b n ls = letter_then (read_term m s b) (after_number m s b n) (Number n) (spell_slashed m s) (spell_term m s) (share_of s b n) (term_of s b) (λ x. Over n x.0 x.1) (Sym Slash ∷ ls) (λ t. refl) (λ z k. refl) (λ z. refl) (after_slash m s b n ls) (slash_traces m s b n ls)
+number_over m s b n ls = letter_then (read_term m s b) (after_number m s b n) (Number n) (spell_slash_over m s) (spell_term m s) (over_of s b n) (term_of s b) (λ x. Over n x.0 x.1) (Sym Slash ∷ ls) (λ t. refl) (λ z k. refl) (λ z. refl) (read_over m s b n ls) (slash_over_traces m s b n ls)
 
 -- ---- a number and an atom
 
@@ -156,7 +156,7 @@ no_atom m s b n l ls c h o = record {
 term_traces : (m : ℕ) (s : Scope) (b : Bool) → Traces (read_term m s b) (spell_term m s) (term_of s b)
 unfolding read_term after_number read_atom
 term_traces m s b (Number n ∷ Word w ∷ ls) = number_then m s b n (Word w ∷ ls) (number_word m s b n w ls)
-term_traces m s b (Number n ∷ Sym Slash ∷ ls) = number_slash m s b n ls
+term_traces m s b (Number n ∷ Sym Slash ∷ ls) = number_over m s b n ls
 term_traces m s b (Number zero ∷ []) = zero_alone m s b [] (for_no_head (λ t. read_term m s b (Number 0 ∷ t) ≡ Ok (term_of s b Zero, t)) refl)
 term_traces m s b (Number zero ∷ l ∷ ls) = zero_alone m s b (l ∷ ls) (for_same_head (λ t. read_term m s b (Number 0 ∷ t) ≡ Ok (term_of s b Zero, t)) l (λ t. refl))
 term_traces m s b (Number (suc n) ∷ []) = record {

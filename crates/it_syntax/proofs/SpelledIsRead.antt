@@ -64,10 +64,10 @@ abbrev pub NoComma : MarkedLetters → Type 0
 NoComma ((Sym Comma, m) ∷ k) = ⊥
 NoComma k = Unit {0}
 
-abbrev pub NoWord : MarkedLetters → Type 0
-NoWord ((Word w, m) ∷ k) = ⊥
-NoWord ((Sym Slash, m) ∷ k) = ⊥
-NoWord k = Unit {0}
+abbrev pub EndsNumber : MarkedLetters → Type 0
+EndsNumber ((Word w, m) ∷ k) = ⊥
+EndsNumber ((Sym Slash, m) ∷ k) = ⊥
+EndsNumber k = Unit {0}
 
 abbrev pub NoSign : MarkedLetters → Type 0
 NoSign ((Sym Plus, m) ∷ k) = ⊥

@@ -1,7 +1,8 @@
 -- What a relation says of entropies and rates, by cases on the tree that was read (Yeung 1997, "A Framework for Linear Information
 -- Inequalities"). A map p gives the number at each coordinate of n variables: p s the joint entropy of the set s, p 0 that of
 -- the empty set, p (2 ^ n + r) rate r.
-use Rattle.std.specs.Prelude.{◌≡◌, ℕ, ◌+◌, ◌*◌, ◌/◌, ◌<◌, ◌^◌, bit_or, ℤ, pos, neg_ℤ, ◌+ℤ◌, ◌-ℤ◌, ◌*ℤ◌, ◌≤ℤ◌, List, [], ◌∷◌, if◌then◌else◌}
+use Rattle.std.specs.Prelude.{◌≡◌, ℕ, ◌+◌, ◌*◌, ◌/◌, ◌<◌, ◌^◌, bit_or, ℤ, pos, neg_ℤ, ◌+ℤ◌, ◌-ℤ◌, ◌*ℤ◌, ◌≤ℤ◌, List, [], ◌∷◌, map, if◌then◌else◌}
+use Rattle.std.specs.List.{fold}
 use Rattle.it_number.specs.Gcd.{lcm}
 use Rattle.it_syntax.specs.declared.types.Atom.{Atom}
 use Rattle.it_syntax.specs.declared.types.Atom.TheVariants.{Nothing, Entropy, Mutual, Rate}
@@ -30,8 +31,7 @@ atom_at n p (Rate r) = p (2 ^ n + r)
 
 -- the least common multiple of a number and the denominators of terms
 abbrev pub multiple_from : ℕ → List Term → ℕ
-multiple_from m [] = m
-multiple_from m (t ∷ ts) = multiple_from (lcm m t.denominator) ts
+multiple_from m ts = fold lcm m (map (λ t. t.denominator) ts)
 
 -- the least common multiple of the denominators of both sides
 abbrev pub multiple_of : RelationView → ℕ

@@ -35,9 +35,9 @@ unfoldable pub read_denominator : ℕ → List Letter → Reads ℕ
 read_denominator m (Number d ∷ ls) = denominator_or_fault d (multiple_with m d) ls
 read_denominator m ls = no_rule ls
 
--- what is counted by a number, under a sign, after a slash
-unfoldable pub after_slash : ℕ → Scope → Bool → ℕ → List Letter → Reads Term
-after_slash m s minus n ls = do
+-- what is counted by a number over a denominator, under a sign, from the denominator on
+unfoldable pub read_over : ℕ → Scope → Bool → ℕ → List Letter → Reads Term
+read_over m s minus n ls = do
   d ← read_denominator m ls
   a ← read_atom s d.1
   Ok (record { negative = minus; number = n; denominator = d.0; atom = a.0 }, a.1)
@@ -47,7 +47,7 @@ unfoldable pub after_number : ℕ → Scope → Bool → ℕ → List Letter →
 after_number m s minus n (Word w ∷ ls) = do
   a ← read_atom s (Word w ∷ ls)
   Ok (record { negative = minus; number = n; denominator = 1; atom = a.0 }, a.1)
-after_number m s minus n (Sym Slash ∷ ls) = after_slash m s minus n ls
+after_number m s minus n (Sym Slash ∷ ls) = read_over m s minus n ls
 after_number m s minus zero ls = Ok (record { negative = minus; number = 0; denominator = 1; atom = Nothing }, ls)
 after_number m s minus (suc n) ls = no_rule ls
 

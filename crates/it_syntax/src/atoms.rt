@@ -3,7 +3,7 @@ ghost use Rattle.std.specs.Prelude.{◌≡◌, ◌≤◌, IfOk};
 ghost use Rattle.it_number.specs.Gcd.{lcm};
 ghost use Rattle.it_syntax.specs.MeasureReading.{read_measure};
 ghost use Rattle.it_syntax.specs.Scopes.{scope_of};
-ghost use Rattle.it_syntax.specs.RelationReading.{read_atom, after_slash, after_number, read_term, read_surplus_term};
+ghost use Rattle.it_syntax.specs.RelationReading.{read_atom, read_over, after_number, read_term, read_surplus_term};
 ghost use Rattle.it_syntax.specs.Gives.{Gives, GivesBy, StopsAs, letters_left};
 
 use crate::denominators::denominator;
@@ -52,9 +52,9 @@ fn atom(rest: &mut Rest<'_>, names: &Names, rates: bool) -> Result<Atom, Stop>
     }
 }
 
-/// A term over a denominator, after its slash, with the least common multiple of all denominators up to it.
-#[tactic(auto, unfolding(crate::specs::RelationReading::after_slash))]
-fn after_slash(
+/// A term over a denominator, from the denominator on, with the least common multiple of all denominators up to it.
+#[tactic(auto, unfolding(crate::specs::RelationReading::read_over))]
+fn term_over(
     negative: bool,
     number: u64,
     multiple: u64,
@@ -63,7 +63,7 @@ fn after_slash(
     rates: bool,
 ) -> Result<(Term, u64), Stop>
     requires some { 1 ≤ multiple }
-    ensures read { GivesBy (λ x. x.0) result (letters_left rest.new) (after_slash multiple (scope_of names.now rates) negative number (letters_left rest.old)) }
+    ensures read { GivesBy (λ x. x.0) result (letters_left rest.new) (read_over multiple (scope_of names.now rates) negative number (letters_left rest.old)) }
     ensures multiple { IfOk result (λ x. (1 ≤ x.1) × (x.1 ≡ lcm multiple x.0.denominator)) }
 {
     let (denominator, multiple) = denominator(multiple, rest)?;
@@ -100,7 +100,7 @@ fn after_number(
         }
         (Piece::Symbol(Symbol::Slash), after) => {
             *rest = after;
-            after_slash(negative, number, multiple, rest, names, rates)
+            term_over(negative, number, multiple, rest, names, rates)
         }
         _ => {
             if number == 0 {

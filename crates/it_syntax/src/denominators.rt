@@ -81,13 +81,13 @@ fn multiple_from(first: u64, terms: &[Term]) -> u64
 {
     let mut multiple = first;
     for term in terms {
-        multiple = joined(multiple, term.denominator);
+        multiple = next_multiple(multiple, term.denominator);
     }
     multiple
 }
 
 /// The least common multiple with one more denominator, which is within the limit.
-fn joined(multiple: u64, denominator: u64) -> u64
+fn next_multiple(multiple: u64, denominator: u64) -> u64
     requires some { 1 ≤ multiple }
     requires both { 1 ≤ denominator }
     requires small { lcm multiple denominator ≤ 2 ^ 32 }

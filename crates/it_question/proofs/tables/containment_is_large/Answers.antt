@@ -4,9 +4,9 @@ use Rattle.it_space.specs.declared.spaces.Space.{Space}
 use Rattle.it_space.specs.Spaces.{IsSpace}
 use Rattle.it_syntax.specs.Givens.{IsGivenOf, IsRelationOf}
 use Rattle.it_question.specs.Questions.{own_lines_view, region_view}
-use Rattle.it_question.specs.Tables.{joined_lines}
+use Rattle.it_question.specs.Tables.{lines_with}
 use Rattle.std.proofs.lemmas.List.Elements.{All-append}
-use Rattle.it_question.proofs.TableLemmas.{region_space, region_givens, region_rows, lines_problem, mark_at}
+use Rattle.it_question.proofs.TableLemmas.{region_space, region_givens, region_rows, lines_problem, space_mark}
 use Rattle.it_question.proofs.tables.containment_is_large.Goals as goal
 
 pub region_constraints-requires-clause-givens : goal.region_constraints-requires-clause-givens
@@ -25,8 +25,8 @@ is_large-requires c =
     let space = subst IsSpace same (region_space c.args.names.now first c.requires.space c.requires.region) in
     let givens = subst (λ (s : Space). All (IsGivenOf s.variables) (own.givens ++ first.lines.givens)) same
     (All-append (IsGivenOf (length first.names.variables)) own.givens first.lines.givens (region_givens c.args.names.now first own.givens c.requires.region c.requires.lines.givens) c.requires.region.lines.givens) in
-    lines_problem c.space-space.result (joined_lines own first.lines) c.in-Ok.constraints.items space givens
+    lines_problem c.space-space.result (lines_with own first) c.in-Ok.constraints.items space givens
     (omega (arith, length-append own.givens first.lines.givens, c.requires.lines.few_givens, c.requires.region.lines.few_givens)) (omega (arith, length-append own.rows first.lines.rows, c.requires.lines.few_rows, c.requires.region.lines.few_rows)) c.in-Ok.ensures
 
 pub returns-in_ok-large-in-Ok-clause-large : goal.returns-in_ok-large-in-Ok-clause-large
-returns-in_ok-large-in-Ok-clause-large c = mark_at c.space-space.result c.args.first.now.names (joined_lines (own_lines_view c.args.lines.now) (region_view c.args.first.now).lines) c.in-Ok.constraints.items c.in_ok-large-in-Ok.large c.space-space.ensures.counts c.in-Ok.ensures c.in_ok-large-in-Ok.ensures.large
+returns-in_ok-large-in-Ok-clause-large c = space_mark c.space-space.result c.args.first.now.names (lines_with (own_lines_view c.args.lines.now) (region_view c.args.first.now)) c.in-Ok.constraints.items c.in_ok-large-in-Ok.large c.space-space.ensures.counts c.in-Ok.ensures c.in_ok-large-in-Ok.ensures.large
