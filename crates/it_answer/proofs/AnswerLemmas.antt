@@ -14,8 +14,7 @@ use Rattle.it_question.specs.Questions.{BodyView, Prove, Eliminate}
 use Rattle.it_demand.specs.Canonical.{IsRowOf}
 use Rattle.it_demand.specs.Demands.{AreStated}
 use Rattle.it_demand.specs.Targets.{negation, targets}
-use Rattle.it_demand.specs.LineDemands.{AreRowsOf}
-use Rattle.it_demand.specs.LineDemands.{space_of}
+use Rattle.it_demand.specs.LineDemands.{AreRowsOf, space_of}
 use Rattle.it_question.specs.Tables.{problem_names, problem_lines}
 use Rattle.it_canon.specs.QuestionDemands.{question_demands as demanded, AreTrueAt}
 use Rattle.it_canon.proofs.ProblemLemmas.{question_met}

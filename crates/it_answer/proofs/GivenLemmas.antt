@@ -10,8 +10,7 @@ use Rattle.it_syntax.specs.Meaning.{Holds}
 use Rattle.it_question.specs.Questions.{BodyView, OwnLinesView, VerbView, Eliminate}
 use Rattle.it_question.specs.Limits.{AreRatesOf, IsQuestion, IsVerbOver}
 use Rattle.it_demand.specs.Demands.{AreStated, LineDemand, States}
-use Rattle.it_demand.specs.LineDemands.{given_demands}
-use Rattle.it_demand.specs.LineDemands.{space_of}
+use Rattle.it_demand.specs.LineDemands.{given_demands, space_of}
 use Rattle.it_question.specs.Tables.{line_demands, problem_names_by, problem_lines_by}
 use Rattle.it_canon.specs.QuestionDemands.{IsProblemOf}
 use Rattle.it_canon.proofs.GivenSets.{given_sets}

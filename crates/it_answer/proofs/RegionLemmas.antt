@@ -18,8 +18,7 @@ use Rattle.it_syntax.specs.Givens.{IsTrueAt}
 use Rattle.it_syntax.specs.Meaning.{RelationView, Holds}
 use Rattle.it_question.specs.Questions.{BodyView, OwnLinesView}
 use Rattle.it_demand.specs.Demands.{AreStated}
-use Rattle.it_demand.specs.LineDemands.{given_demands, system_forms, AreRowsOf, AreAtLeastZero}
-use Rattle.it_demand.specs.LineDemands.{space_of}
+use Rattle.it_demand.specs.LineDemands.{given_demands, system_forms, AreRowsOf, AreAtLeastZero, space_of}
 use Rattle.it_question.specs.Tables.{problem_names_by, problem_lines, problem_lines_by}
 use Rattle.it_canon.specs.QuestionDemands.{variables_of, AreTrueAt}
 use Rattle.it_demand.proofs.UniqueRows.{one_constraint_list, one_row_list}

@@ -14,8 +14,7 @@ use Rattle.it_syntax.specs.Meaning.{RelationView, multiple_of, side_at}
 use Rattle.it_question.specs.Questions.{BodyView, Prove}
 use Rattle.it_demand.specs.Canonical.{IsRowOf, form_of}
 use Rattle.it_demand.specs.Targets.{targets}
-use Rattle.it_demand.specs.LineDemands.{AreRowsOf}
-use Rattle.it_demand.specs.LineDemands.{space_of}
+use Rattle.it_demand.specs.LineDemands.{AreRowsOf, space_of}
 use Rattle.it_question.specs.Tables.{problem_names, problem_lines}
 use Rattle.it_canon.specs.QuestionDemands.{question_demands as demanded, variables_of, AreTrueAt, Poses}
 use Rattle.it_demand.proofs.MetLemmas.{targets_met}

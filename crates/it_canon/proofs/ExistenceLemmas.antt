@@ -17,8 +17,7 @@ use Rattle.it_question.specs.Questions.{VerbView, Prove, Eliminate, Contain, Bod
 use Rattle.it_question.proofs.FileReadings.{file_limits}
 use Rattle.it_question.proofs.NumberLemmas.{HasSmallNumbers, GivenHasSmallNumbers, VerbHasSmallNumbers, QuestionHasSmallNumbers, file_has_small_numbers}
 use Rattle.it_demand.specs.Demands.{LineDemand, AreStated}
-use Rattle.it_demand.specs.LineDemands.{AreRowsOf}
-use Rattle.it_demand.specs.LineDemands.{space_of}
+use Rattle.it_demand.specs.LineDemands.{AreRowsOf, space_of}
 use Rattle.it_question.specs.Tables.{line_demands, givens_alone, lines_with, problem_names, problem_names_by, problem_lines_by}
 use Rattle.it_canon.specs.QuestionDemands.{variables_of, question_demands, IsProblemOf, Poses}
 use Rattle.it_demand.specs.Targets.{targets}

@@ -36,8 +36,7 @@ use Rattle.it_question.specs.Limits.{IsQuestion, IsVerbOver}
 use Rattle.it_question.proofs.AsciiLemmas.{texts_are_ascii}
 use Rattle.it_demand.specs.Canonical.{IsRowOf}
 use Rattle.it_demand.specs.Targets.{targets}
-use Rattle.it_demand.specs.LineDemands.{AreRowsOf}
-use Rattle.it_demand.specs.LineDemands.{space_of}
+use Rattle.it_demand.specs.LineDemands.{AreRowsOf, space_of}
 use Rattle.it_question.specs.Tables.{problem_names, problem_lines}
 use Rattle.it_canon.specs.QuestionDemands.{variables_of, question_demands, AreTrueAt, Poses}
 use Rattle.it_canon.proofs.ProblemLemmas.{question_met}

@@ -22,8 +22,7 @@ use Rattle.it_space.proofs.TermLemmas.{rises-cancelled_row, coefficient-cancelle
 use Rattle.it_polymatroid.specs.Certificates.{Form}
 use Rattle.it_question.specs.Questions.{BodyView}
 use Rattle.it_question.specs.Limits.{IsQuestion}
-use Rattle.it_demand.specs.LineDemands.{AreRowsOf}
-use Rattle.it_demand.specs.LineDemands.{space_of}
+use Rattle.it_demand.specs.LineDemands.{AreRowsOf, space_of}
 use Rattle.it_eliminate.specs.Elimination.{EliminationEnds, PairsFit, with_row, with_lowest_rows, ordered_rows, results, next_list}
 use Rattle.it_eliminate.specs.Elimination as elimination
 use Rattle.it_eliminate.proofs.MemberLemmas.{every_member, member_every}

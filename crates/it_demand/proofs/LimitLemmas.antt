@@ -1,18 +1,14 @@
 -- Relations and constraints within the limits, of more variables and rates, and how many demands lines have.
-use Rattle.std.proofs.Common.{◌≡◌, ℕ, ◌+◌, ◌*◌, ◌<◌, ◌≤◌, ◌^◌, refl, sym, ap, subst, arith, List, [], ◌∷◌, length, All, lit<, length-append}
+use Rattle.std.proofs.Common.{◌≡◌, ℕ, ◌+◌, ◌*◌, ◌<◌, ◌≤◌, ◌^◌, refl, arith, List, [], ◌∷◌, length, All, lit<, length-append}
 use Rattle.std.proofs.Math.Nat.{pow-le-pow_right}
-use Rattle.std.proofs.lemmas.List.Elements.{All-head, All-tail, All-append, All-weaker}
-use Rattle.it_space.specs.declared.spaces.Space.{Space}
-use Rattle.it_space.specs.Spaces.{IsSpace}
+use Rattle.std.proofs.lemmas.List.Elements.{All-head, All-tail, All-weaker}
 use Rattle.it_syntax.specs.declared.types.Atom.{Atom}
 use Rattle.it_syntax.specs.declared.types.Atom.TheVariants.{Nothing, Entropy, Mutual, Rate}
 use Rattle.it_syntax.specs.declared.types.Term.{Term}
-use Rattle.it_syntax.specs.NamesViews.{NamesView}
 use Rattle.it_syntax.specs.Meaning.{RelationView, IsAtomOf}
 use Rattle.it_syntax.specs.Givens.{GivenView, Relation, Markov, Independent, Function, IsRelationOf, AreSetsOf, IsGivenOf}
 use Rattle.it_demand.specs.Demands.{Demand, demands, parts_from, parts_of}
 use Rattle.it_demand.specs.LineDemands.{given_demands, row_demands}
-use Rattle.it_demand.specs.LineDemands.{space_of}
 use Rattle.it_demand.proofs.ChainLemmas.{chain-length}
 
 -- sets of n variables are sets of more

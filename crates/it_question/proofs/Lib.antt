@@ -12,6 +12,7 @@ pub mod LineLimits
 pub mod RateLimits
 pub mod TryLimits
 pub mod LimitLemmas
+pub mod SmallTables
 pub mod NameTraces
 pub mod LineTraces
 pub mod DistinctTraces

@@ -1,5 +1,5 @@
 -- The questions of a file that is read keep the limits.
-use Rattle.std.proofs.Common.{◌≡◌, ℕ, zero, suc, ◌+◌, ◌-◌, ◌≤◌, Bool, true, false, cond, List, [], ◌∷◌, ◌++◌, length, Option, None, Some, Ok, Err, sym, ap, ◌∙◌, subst, arith, length-append}
+use Rattle.std.proofs.Common.{◌≡◌, ℕ, zero, suc, ◌+◌, ◌-◌, ◌≤◌, Bool, true, false, cond, List, [], ◌∷◌, ◌++◌, length, Option, None, Some, Ok, Err, refl, sym, ap, ◌∙◌, subst, arith, length-append}
 use Rattle.std.specs.Prelude.{All, bytes_eq}
 use Rattle.std.proofs.Math.Nat.{min-le_left, min-le_right}
 use Rattle.std.proofs.lemmas.List.Elements.{All-nil, All-cons}
@@ -63,6 +63,18 @@ region_sure g r v few_g few_r few ls =
     (λ names hn. sure_bind (Own g r names.0) (Region v) (read_lines g r names.0 names.1) (λ own. Ok (region_of_lines v names.0 own.0, own.1)) (lines_sure g r names.0 names.1)
     (λ own ho. region_of_own v names.0 own.0 few hn (lines_over g r names.0 own.0 few_g few_r ho))))
 
+abbrev Counted : ℕ → ℕ → RegionView × List Letter → Type 0
+Counted g r x = (length x.0.lines.givens ≤ g) × (length x.0.lines.rows ≤ r)
+
+-- it has as many lines as are allowed
+counted_sure : (g r : ℕ) (v : NamesView) (ls : List Letter) → Sure (Counted g r) (read_region g r v ls)
+unfolding read_region
+counted_sure g r v ls =
+    sure_bind Any (Counted g r) (line_end ls) (λ e. read_names_line Variable (auxiliaries_left v) aux_keyword v e.1 >>= λ names. read_lines g r names.0 names.1 >>= λ own. Ok (region_of_lines v names.0 own.0, own.1)) (sure_any (line_end ls))
+    (λ e u. sure_bind Any (Counted g r) (read_names_line Variable (auxiliaries_left v) aux_keyword v e.1) (λ names. read_lines g r names.0 names.1 >>= λ own. Ok (region_of_lines v names.0 own.0, own.1)) (sure_any (read_names_line Variable (auxiliaries_left v) aux_keyword v e.1))
+    (λ names w. sure_bind (Own g r names.0) (Counted g r) (read_lines g r names.0 names.1) (λ own. Ok (region_of_lines v names.0 own.0, own.1)) (lines_sure g r names.0 names.1)
+    (λ own ho. (ho.few_givens, ho.few_rows))))
+
 -- ---- what a question wants
 
 abbrev Over : NamesView → VerbView × List Letter → Type 0
@@ -97,8 +109,9 @@ elimination_sure v ls =
     let f = read_distinct (rates_env v) in
     sure_bind (Rates m) (Over v) (to_end f ls) (λ x. Ok (Eliminate x.0, x.1)) (ended_sure (AreRatesOf m) f (distinct_sure (rates_env v) m (knows_rates v)) ls) (λ x hx. hx)
 
-marked_sure : {A : Type 0} (P : A × List Letter → Type 0) (c : Option Code) (f : List Letter → Reads A) (after ls : List Letter) → Sure P (f after) → Sure P (unless_marked c f after ls)
-marked_sure P None f after ls h = h
+-- what is read after a letter tells that nothing is said against it
+pub marked_sure : {A : Type 0} (P : A × List Letter → Type 0) (c : Option Code) (f : List Letter → Reads A) (after ls : List Letter) → (c ≡ None → Sure P (f after)) → Sure P (unless_marked c f after ls)
+marked_sure P None f after ls h = h refl
 marked_sure P (Some c) f after ls h = tt
 
 verb_sure : (own : OwnLinesView) (v : NamesView) → length v.variables ≤ 10 → (ls : List Letter) → Sure (Over v) (read_verb own v ls)
@@ -106,8 +119,8 @@ unfolding read_verb
 verb_sure own v few (Word w ∷ ls) = by_tests (bytes_eq w prove_keyword) (bytes_eq w eliminate_keyword) (bytes_eq w region_keyword)
   where
     by_tests : (a b c : Bool) → Sure (Over v) (cond a (unless_marked (size_mark v own) (read_proof v) ls (Word w ∷ ls)) (cond b (unless_marked (size_mark v (givens_alone own)) (read_elimination v) ls (Word w ∷ ls)) (cond c (read_containment own v ls) (no_rule (Word w ∷ ls)))))
-    by_tests true b c = marked_sure (Over v) (size_mark v own) (read_proof v) ls (Word w ∷ ls) (proof_sure v ls)
-    by_tests false true c = marked_sure (Over v) (size_mark v (givens_alone own)) (read_elimination v) ls (Word w ∷ ls) (elimination_sure v ls)
+    by_tests true b c = marked_sure (Over v) (size_mark v own) (read_proof v) ls (Word w ∷ ls) (λ e. proof_sure v ls)
+    by_tests false true c = marked_sure (Over v) (size_mark v (givens_alone own)) (read_elimination v) ls (Word w ∷ ls) (λ e. elimination_sure v ls)
     by_tests false false true = containment_sure own v few ls
     by_tests false false false = tt
 verb_sure own v few [] = tt
@@ -147,35 +160,39 @@ question_sure ls =
     (λ own ho. sure_bind (Over names.0) Asks (read_verb own.0 names.0 own.1) (λ aim. Ok (record { names = names.0; lines = own.0; verb = aim.0 }, aim.1)) (verb_sure own.0 names.0 (few_variables variables.0 names.0 hv hn) own.1)
     (λ aim ha. question_over variables.0 names.0 own.0 aim.0 hv hn (lines_over 64 64 names.0 own.0 (omega arith) (omega arith) ho) ha))))
 
-abbrev pub AreQuestions : List BodyView × List Letter → Type 0
-AreQuestions x = All IsQuestion x.0
+-- what holds of each question that is read holds of those of a file
+module _ (P : BodyView → Type 0) (each : (ls : List Letter) → Sure (λ (x : BodyView × List Letter). P x.0) (read_question ls)) where
+  abbrev AreAll : List BodyView × List Letter → Type 0
+  AreAll x = All P x.0
 
-end_sure : (ls : List Letter) → Sure AreQuestions (read_end ls)
-unfolding read_end
-end_sure (Bad codes.Unfinished ∷ ls) = All-nil IsQuestion
-end_sure [] = tt
-end_sure (Bad c ∷ ls) = tt
-end_sure (l ∷ ls) = tt
+  end_sure : (ls : List Letter) → Sure AreAll (read_end ls)
+  unfolding read_end
+  end_sure (Bad codes.Unfinished ∷ ls) = All-nil P
+  end_sure [] = tt
+  end_sure (Bad c ∷ ls) = tt
+  end_sure (l ∷ ls) = tt
 
-question_list_sure : (f : List Letter → Reads (List BodyView)) → ((ls : List Letter) → Sure AreQuestions (f ls)) → (o : Option (List Letter)) (ls : List Letter) → Sure AreQuestions (if_question f o ls)
-question_list_sure f h (Some after) ls = h after
-question_list_sure f h None ls = end_sure ls
+  question_list_sure : (f : List Letter → Reads (List BodyView)) → ((ls : List Letter) → Sure AreAll (f ls)) → (o : Option (List Letter)) (ls : List Letter) → Sure AreAll (if_question f o ls)
+  question_list_sure f h (Some after) ls = h after
+  question_list_sure f h None ls = end_sure ls
 
-question_then_sure : (f : List Letter → Reads (List BodyView)) → ((ls : List Letter) → Sure AreQuestions (f ls)) → (ls : List Letter) → Sure AreQuestions (question_then f ls)
-question_then_sure f h ls =
-    sure_bind Asks AreQuestions (read_question ls) (λ q. f q.1 >>= λ qs. Ok (q.0 ∷ qs.0, qs.1)) (question_sure ls)
-    (λ q hq. sure_bind AreQuestions AreQuestions (f q.1) (λ qs. Ok (q.0 ∷ qs.0, qs.1)) (h q.1) (λ qs hs. All-cons IsQuestion q.0 qs.0 hq hs))
+  question_then_sure : (f : List Letter → Reads (List BodyView)) → ((ls : List Letter) → Sure AreAll (f ls)) → (ls : List Letter) → Sure AreAll (question_then f ls)
+  question_then_sure f h ls =
+      sure_bind (λ (x : BodyView × List Letter). P x.0) AreAll (read_question ls) (λ q. f q.1 >>= λ qs. Ok (q.0 ∷ qs.0, qs.1)) (each ls)
+      (λ q hq. sure_bind AreAll AreAll (f q.1) (λ qs. Ok (q.0 ∷ qs.0, qs.1)) (h q.1) (λ qs hs. All-cons P q.0 qs.0 hq hs))
 
--- of questions that are read, if they are
-pub questions_sure : (n : ℕ) (ls : List Letter) → Sure AreQuestions (read_questions n ls)
-unfolding read_questions
-questions_sure zero ls = question_list_sure (λ after. Err (codes.Many, ls)) (λ after. tt) (after_word vars_keyword ls) ls
-questions_sure (suc n) ls = question_list_sure (question_then (read_questions n)) (question_then_sure (read_questions n) (questions_sure n)) (after_word vars_keyword ls) ls
+  questions_sure : (n : ℕ) (ls : List Letter) → Sure AreAll (read_questions n ls)
+  unfolding read_questions
+  questions_sure zero ls = question_list_sure (λ after. Err (codes.Many, ls)) (λ after. tt) (after_word vars_keyword ls) ls
+  questions_sure (suc n) ls = question_list_sure (question_then (read_questions n)) (question_then_sure (read_questions n) (questions_sure n)) (after_word vars_keyword ls) ls
+
+  pub each_of_file : (ls r : List Letter) (qs : List BodyView) → read_file ls ≡ Ok (qs, r) → All P qs
+  unfolding read_file
+  each_of_file ls r qs e = subst (Sure AreAll) e (questions_sure most_questions ls)
 
 -- a file that is read
 pub file_limited : (ls r : List Letter) (qs : List BodyView) → read_file ls ≡ Ok (qs, r) → All IsQuestion qs
-unfolding read_file
-file_limited ls r qs e = subst (Sure AreQuestions) e (questions_sure most_questions ls)
+file_limited = each_of_file IsQuestion question_sure
 
 -- ---- what the code's readers of a question read
 
@@ -197,3 +214,12 @@ lines_limited v ls r own e = lines_over 64 64 v own (omega arith) (omega arith) 
 
 pub region_limited : (own : OwnLinesView) (v : NamesView) (ls r : List Letter) (x : RegionView) → IsSpace (space_of v) → read_region (givens_left most_lines own) (rows_left most_lines own) v ls ≡ Ok (x, r) → IsRegionOf v x
 region_limited own v ls r x k e = subst (Sure (Region v)) e (region_sure (givens_left most_lines own) (rows_left most_lines own) v (omega arith) (omega arith) k.few ls)
+
+-- and with the question's own lines its region's are within the limits
+pub region_counted : (own : OwnLinesView) (v : NamesView) (ls r : List Letter) (x : RegionView) → AreLinesOver v own → read_region (givens_left most_lines own) (rows_left most_lines own) v ls ≡ Ok (x, r)
+    → (length own.givens + length x.lines.givens ≤ 64) × (length own.rows + length x.lines.rows ≤ 64)
+region_counted own v ls r x k e =
+    let g = givens_left most_lines own in
+    let m = rows_left most_lines own in
+    let h = subst (Sure (Counted g m)) e (counted_sure g m v ls) in
+    (omega (arith, h.0, k.few_givens), omega (arith, h.1, k.few_rows))

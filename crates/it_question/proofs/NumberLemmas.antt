@@ -13,7 +13,7 @@ use Rattle.it_syntax.specs.declared.types.TokenKind.TheVariants as kinds
 use Rattle.it_syntax.specs.Givens.{GivenView}
 use Rattle.it_syntax.specs.Givens as given_views
 use Rattle.it_syntax.specs.Letters.{Letter, Number, End, MarkedLetters, without_mark, without_marks}
-use Rattle.it_syntax.specs.Meaning.{RelationView}
+use Rattle.it_syntax.specs.Meaning.{RelationView, multiple_from}
 use Rattle.it_syntax.specs.Misspellings.{SpellsUntil}
 use Rattle.it_syntax.specs.NamesViews.{NamesView}
 use Rattle.it_syntax.specs.Scopes.{scope_of, env_of}
@@ -21,7 +21,6 @@ use Rattle.it_syntax.specs.Spans.{letter_of, letters_until, last_letter}
 use Rattle.it_syntax.specs.Spelling.{IsText}
 use Rattle.it_syntax.specs.WrittenMeasures.{Environment, WrittenList, WrittenMeasure, Entropy, EntropyGiven, Mutual, MutualGiven, TermSign, Positive, Negative, sign_letter, mark_surplus, index_or, is_negative, is_minus, spell_more, spell_list, spell_measure, spell_sign}
 use Rattle.it_number.specs.Gcd.{lcm}
-use Rattle.it_syntax.specs.Meaning.{multiple_from}
 use Rattle.it_syntax.specs.WrittenRelations.{Scope, WrittenAtom, Measure, RateOf, WrittenTerm, Zero, Once, Times, Over, WrittenSum, WrittenRelation, most_terms, number_of_terms, denominator_of, spell_atom, spell_term, spell_terms, spell_counted, spell_sum, compare_letter, spell_relation, term_of, terms_of, sum_of, relation_of}
 use Rattle.it_syntax.specs.WrittenGivens.{WrittenGiven, Relation, Markov, Independent, Function, divider_letter, spell_members, spell_bar, spell_given, given_of}
 use Rattle.it_question.specs.Files.{IsFile}

@@ -10,7 +10,7 @@ use Rattle.it_space.specs.Problems.{ProblemView, IsProblem}
 use Rattle.it_space.specs.Rows.{Terms, IsUpTo}
 use Rattle.it_space.specs.Spaces.{IsSpace, size_of}
 use Rattle.std.proofs.Math.Nat.{mul-le-mul, pow-le-pow_right}
-use Rattle.std.proofs.lemmas.List.{length-map}
+use Rattle.std.proofs.lemmas.List.{length-map, append-nil}
 use Rattle.it_elemental.specs.Indexes.{index_pairs}
 use Rattle.it_elemental.proofs.PairLemmas.{length-index_pairs}
 use Rattle.it_elemental.proofs.PlaceLemmas.{length-elementals}
@@ -21,7 +21,6 @@ use Rattle.it_closure.specs.Sizes.{constraint_columns, table_rows, table_columns
 use Rattle.it_closure.proofs.SizeLemmas.{rows-few, columns-few}
 use Rattle.it_syntax.specs.Givens.{GivenView, given_view, IsRelationOf, IsGivenOf}
 use Rattle.it_syntax.specs.declared.types.Given.{Given}
-use Rattle.std.proofs.lemmas.List.{append-nil}
 use Rattle.it_syntax.specs.Meaning.{RelationView}
 use Rattle.it_syntax.specs.NamesViews.{NamesView}
 use Rattle.it_demand.specs.Demands.{LineDemand, States, AreStated}

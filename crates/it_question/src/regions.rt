@@ -120,6 +120,8 @@ fn contain(
     requires space { IsSpace (space_of names.now) }
     requires lines { AreLinesOver names.now (own_lines_view lines.now) }
     requires region { IsRegionOf names.now (region_view first.now) }
+    requires few_givens { length lines.now.givens.items + length first.now.lines.givens.items ≤ 64 }
+    requires few_rows { length lines.now.rows.items + length first.now.lines.rows.items ≤ 64 }
     ensures { Gives result (letters_left cursor.new) (read_contain (contain_mark (own_lines_view lines.now) (region_view first.now)) (letters_left cursor.old)) }
 {
     match after_word(*cursor, CONTAIN) {

@@ -1,5 +1,5 @@
 //! The constraints of a question's lines, and whether the table of the problem that they pose is too large.
-ghost use Rattle.std.specs.Prelude.{◌≡◌, ◌≤◌, ◌++◌, nat_lt, length, map, All, IfOk, IfErr};
+ghost use Rattle.std.specs.Prelude.{◌≡◌, ◌+◌, ◌≤◌, ◌++◌, nat_lt, length, map, All, IfOk, IfErr};
 ghost use Rattle.it_space.specs.Problems.{IsProblem};
 ghost use Rattle.it_space.specs.Spaces.{IsSpace};
 ghost use Rattle.it_closure.specs.Sizes.{table_size};
@@ -22,6 +22,9 @@ use std::alloc::{AllocError, Global};
 
 /// The most entries of a question's table.
 const MOST_ENTRIES: u64 = 4000000;
+
+/// So many variables never have a table with more entries, within the limits of a question's lines.
+const MOST_SMALL: u8 = 9;
 
 /// The constraints of a question's own lines.
 pub fn line_constraints(
@@ -91,6 +94,9 @@ pub fn proof_is_large(alloc: Global, names: &Names, lines: &OwnLines) -> Result<
     ensures memory { IfErr result (λ e. e ≡ Memory) }
 {
     let space = names.space();
+    if space.variables <= MOST_SMALL {
+        return Ok(false);
+    }
     match line_constraints(alloc, lines, space) {
         Ok(constraints) => {
             let large = is_large(alloc, space, constraints)?;
@@ -108,6 +114,9 @@ pub fn elimination_is_large(alloc: Global, names: &Names, lines: &OwnLines) -> R
     ensures memory { IfErr result (λ e. e ≡ Memory) }
 {
     let space = names.space();
+    if space.variables <= MOST_SMALL {
+        return Ok(false);
+    }
     match given_constraints(alloc, lines.givens.as_slice(), 1, space) {
         Ok(constraints) => {
             let large = is_large(alloc, space, constraints)?;
@@ -127,10 +136,15 @@ pub fn containment_is_large(
     requires space { IsSpace (space_of names.now) }
     requires lines { AreLinesOver names.now (own_lines_view lines.now) }
     requires region { IsRegionOf names.now (region_view first.now) }
+    requires few_givens { length lines.now.givens.items + length first.now.lines.givens.items ≤ 64 }
+    requires few_rows { length lines.now.rows.items + length first.now.lines.rows.items ≤ 64 }
     ensures large { IfOk result (λ large. contain_mark (own_lines_view lines.now) (region_view first.now) ≡ mark_if_large large) }
     ensures memory { IfErr result (λ e. e ≡ Memory) }
 {
     let space = first.names.space();
+    if space.variables <= MOST_SMALL {
+        return Ok(false);
+    }
     match region_constraints(alloc, lines, first, space) {
         Ok(constraints) => {
             let large = is_large(alloc, space, constraints)?;

@@ -22,8 +22,7 @@ use Rattle.it_question.specs.Limits.{IsQuestion, IsVerbOver, IsRegionOf}
 use Rattle.it_question.specs.Questions.{BodyView, QuestionView, RegionView, VerbView, Prove, Eliminate, Contain}
 use Rattle.it_question.proofs.NumberLemmas.{VerbHasSmallNumbers, QuestionHasSmallNumbers, file_has_small_numbers}
 use Rattle.it_demand.specs.Demands.{LineDemand}
-use Rattle.it_demand.specs.LineDemands.{given_demands, row_demands, AreRowsOf}
-use Rattle.it_demand.specs.LineDemands.{space_of}
+use Rattle.it_demand.specs.LineDemands.{given_demands, row_demands, AreRowsOf, space_of}
 use Rattle.it_question.specs.Tables.{problem_names, problem_names_by}
 use Rattle.it_canon.proofs.DemandForms.{given_lines_up_to, row_lines_up_to}
 use Rattle.it_canon.proofs.ExistenceLemmas.{question_has_problem, relation_has_rows, rows_there}

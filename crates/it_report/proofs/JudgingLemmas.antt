@@ -16,8 +16,7 @@ use Rattle.it_question.specs.Questions.{BodyView, QuestionView, RegionView, Verb
 use Rattle.it_demand.specs.Canonical.{form_of}
 use Rattle.it_demand.specs.Demands.{AreStated, kind_of}
 use Rattle.it_demand.specs.Targets.{targets, demanded_forms}
-use Rattle.it_demand.specs.LineDemands.{AreRowsOf}
-use Rattle.it_demand.specs.LineDemands.{space_of}
+use Rattle.it_demand.specs.LineDemands.{AreRowsOf, space_of}
 use Rattle.it_question.specs.Tables.{problem_names, problem_names_by}
 use Rattle.it_canon.specs.QuestionDemands.{question_demands, IsProblemOf, Poses}
 use Rattle.it_region.specs.declared.types.Candidate.{Candidate}
