@@ -11,10 +11,12 @@ use Rattle.it_polymatroid.specs.Certificates.{Form}
 use Rattle.it_polymatroid.specs.Polymatroid.{IsPolymatroid}
 use Rattle.it_syntax.specs.Meaning.{RelationView}
 use Rattle.it_question.specs.Questions.{BodyView, VerbView, Prove, Eliminate}
-use Rattle.it_canon.specs.Canonical.{IsRowOf}
-use Rattle.it_canon.specs.Demands.{AreStated}
-use Rattle.it_canon.specs.Targets.{negation, targets}
-use Rattle.it_canon.specs.QuestionDemands.{space_of, variables_of, problem_names, problem_lines, question_demands as demanded, AreTrueAt, AreRowsOf}
+use Rattle.it_demand.specs.Canonical.{IsRowOf}
+use Rattle.it_demand.specs.Demands.{AreStated}
+use Rattle.it_demand.specs.Targets.{negation, targets}
+use Rattle.it_canon.specs.QuestionDemands.{variables_of, question_demands as demanded, AreTrueAt}
+use Rattle.it_demand.specs.LineDemands.{space_of, AreRowsOf}
+use Rattle.it_question.specs.Tables.{problem_names, problem_lines}
 use Rattle.it_canon.proofs.ProblemLemmas.{question_met}
 use Rattle.it_elemental.specs.Generators.{generators}
 use Rattle.it_check.specs.Meaning.{CertifiesRow, RefutesRow}

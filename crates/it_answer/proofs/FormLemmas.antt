@@ -18,8 +18,8 @@ use Rattle.it_polymatroid.proofs.Forms.{one_at-zero, value_linear}
 use Rattle.it_elemental.proofs.GeneratorLemmas.{rows_of_space}
 use Rattle.it_check.specs.Meaning.{CertifiesRow}
 use Rattle.it_elemental.proofs.RowLemmas.{value-row}
-use Rattle.it_canon.specs.Demands.{Demand, LineDemand, States, AreStated}
-use Rattle.it_canon.proofs.ZipLemmas.{zip-append, zip-length}
+use Rattle.it_demand.specs.Demands.{Demand, LineDemand, States, AreStated}
+use Rattle.it_demand.proofs.ZipLemmas.{zip-append, zip-length}
 use Rattle.it_elemental.specs.Generators.{Generator, of_elemental, of_constraint, generator_list, generators, generator_at, forms_of, is_equation}
 use Rattle.it_answer.specs.Forms.{demand_of_elemental, demand_of_line, all_demands, demand_at, Certifies, MayStand}
 

@@ -9,12 +9,14 @@ use Rattle.it_syntax.specs.Givens.{IsGivenOf, IsTrueAt}
 use Rattle.it_syntax.specs.Meaning.{Holds}
 use Rattle.it_question.specs.Questions.{BodyView, OwnLinesView, VerbView, Eliminate}
 use Rattle.it_question.specs.Limits.{AreRatesOf, IsQuestion, IsVerbOver}
-use Rattle.it_canon.specs.Demands.{AreStated, LineDemand, States}
-use Rattle.it_canon.specs.QuestionDemands.{space_of, given_demands, line_demands, problem_names_by, problem_lines_by, IsProblemOf}
+use Rattle.it_demand.specs.Demands.{AreStated, LineDemand, States}
+use Rattle.it_demand.specs.LineDemands.{given_demands, space_of}
+use Rattle.it_question.specs.Tables.{line_demands, problem_names_by, problem_lines_by}
+use Rattle.it_canon.specs.QuestionDemands.{IsProblemOf}
 use Rattle.it_canon.proofs.GivenSets.{given_sets}
-use Rattle.it_canon.proofs.MetLemmas.{lines_met}
-use Rattle.it_canon.proofs.QuestionLemmas.{givens-few}
-use Rattle.it_canon.proofs.ZipLemmas.{zip-length}
+use Rattle.it_canon.proofs.LinesMet.{lines_met}
+use Rattle.it_demand.proofs.LimitLemmas.{givens-few}
+use Rattle.it_demand.proofs.ZipLemmas.{zip-length}
 use Rattle.it_redundant.specs.Theorems.{SpeakOfSets}
 
 module _ (q : BodyView) (rates : List ℕ) (givens : ProblemView) (is : q.verb ≡ Eliminate rates) (own : IsProblemOf q givens) where

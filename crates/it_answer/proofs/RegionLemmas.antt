@@ -17,9 +17,11 @@ use Rattle.it_polymatroid.specs.Polymatroid.{IsPolymatroid}
 use Rattle.it_syntax.specs.Givens.{IsTrueAt}
 use Rattle.it_syntax.specs.Meaning.{RelationView, Holds}
 use Rattle.it_question.specs.Questions.{BodyView, OwnLinesView, VerbView, Eliminate}
-use Rattle.it_canon.specs.Demands.{AreStated}
-use Rattle.it_canon.specs.QuestionDemands.{variables_of, space_of, given_demands, problem_names_by, problem_lines, problem_lines_by, system_forms, AreTrueAt, AreRowsOf, AreAtLeastZero}
-use Rattle.it_canon.proofs.UniqueRows.{one_constraint_list, one_row_list}
+use Rattle.it_demand.specs.Demands.{AreStated}
+use Rattle.it_canon.specs.QuestionDemands.{variables_of, AreTrueAt}
+use Rattle.it_demand.specs.LineDemands.{space_of, given_demands, system_forms, AreRowsOf, AreAtLeastZero}
+use Rattle.it_question.specs.Tables.{problem_names_by, problem_lines, problem_lines_by}
+use Rattle.it_demand.proofs.UniqueRows.{one_constraint_list, one_row_list}
 use Rattle.it_eliminate.specs.Elimination.{Member}
 use Rattle.it_eliminate.specs.Projections.{IsPointOf, LacksCoordinate, Extends}
 use Rattle.it_redundant.specs.Reduction.{NeedView, Needed, Unsettled, kept_rows}

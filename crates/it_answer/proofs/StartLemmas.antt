@@ -9,10 +9,11 @@ use Rattle.it_space.specs.Rows.{Terms}
 use Rattle.it_polymatroid.specs.Certificates.{Form}
 use Rattle.it_syntax.specs.Meaning.{RelationView}
 use Rattle.it_question.specs.Questions.{BodyView, VerbView, Prove, Eliminate, Contain}
-use Rattle.it_canon.specs.Demands.{LineDemand, States}
-use Rattle.it_canon.specs.Targets.{targets}
-use Rattle.it_canon.specs.QuestionDemands.{question_demands, variables_of, AreRowsOf, Poses}
-use Rattle.it_canon.proofs.ZipLemmas.{zip-right}
+use Rattle.it_demand.specs.Demands.{LineDemand, States}
+use Rattle.it_demand.specs.Targets.{targets}
+use Rattle.it_demand.specs.LineDemands.{AreRowsOf}
+use Rattle.it_canon.specs.QuestionDemands.{question_demands, variables_of, Poses}
+use Rattle.it_demand.proofs.ZipLemmas.{zip-right}
 use Rattle.it_prove.proofs.SmallLemmas.{never_at_start}
 use Rattle.it_region.specs.declared.types.Candidate.{Candidate}
 use Rattle.it_contain.specs.Proposals.{Plan}

@@ -11,10 +11,11 @@ use Rattle.it_space.specs.Spaces.{size_of}
 use Rattle.it_polymatroid.specs.Certificates.{Form}
 use Rattle.it_syntax.specs.Meaning.{RelationView}
 use Rattle.it_question.specs.Questions.{BodyView, RegionView, Prove, Contain}
-use Rattle.it_canon.specs.QuestionDemands.{AreRowsOf, problem_names, problem_names_by, space_of}
-use Rattle.it_canon.specs.RowsOfForms.{terms_of_form}
-use Rattle.it_canon.specs.Targets.{targets}
-use Rattle.it_canon.proofs.FormRows.{rows_are_terms_of_forms, told_by_form}
+use Rattle.it_demand.specs.LineDemands.{AreRowsOf, space_of}
+use Rattle.it_question.specs.Tables.{problem_names, problem_names_by}
+use Rattle.it_demand.specs.RowsOfForms.{terms_of_form}
+use Rattle.it_demand.specs.Targets.{targets}
+use Rattle.it_demand.proofs.FormRows.{rows_are_terms_of_forms, told_by_form}
 use Rattle.it_region.specs.declared.types.Candidate.{Candidate}
 use Rattle.it_region.specs.declared.types.Pair.{Pair}
 use Rattle.it_region.specs.Obligations.{ArePulledRows, obligations}

@@ -13,13 +13,15 @@ use Rattle.it_polymatroid.specs.Certificates.{Form, Generators, IsAllowed}
 use Rattle.it_polymatroid.specs.Elementals.{elementals, elemental_value}
 use Rattle.it_polymatroid.proofs.Certified.{weighted_least}
 use Rattle.it_polymatroid.proofs.Generate.{elementals_generate}
-use Rattle.it_syntax.specs.Meaning.{Holds, RelationView, side_at}
+use Rattle.it_syntax.specs.Meaning.{Holds, RelationView, multiple_of, side_at}
 use Rattle.it_question.specs.Questions.{BodyView, RegionView, VerbView, Prove, Eliminate, Contain}
-use Rattle.it_canon.specs.Canonical.{form_of}
-use Rattle.it_canon.specs.Demands.{Demand, LineDemand}
-use Rattle.it_canon.specs.Targets.{targets}
-use Rattle.it_canon.specs.QuestionDemands.{problem_lines, question_demands, given_demands, row_demands, variables_of, AreTrueTogether}
-use Rattle.it_canon.proofs.MetLemmas.{IsSatisfied, givens_satisfied, rows_satisfied, targets_met}
+use Rattle.it_demand.specs.Canonical.{form_of}
+use Rattle.it_demand.specs.Demands.{Demand, LineDemand}
+use Rattle.it_demand.specs.Targets.{targets}
+use Rattle.it_canon.specs.QuestionDemands.{question_demands, variables_of, AreTrueTogether}
+use Rattle.it_question.specs.Tables.{problem_lines}
+use Rattle.it_demand.specs.LineDemands.{given_demands, row_demands}
+use Rattle.it_demand.proofs.MetLemmas.{IsSatisfied, givens_satisfied, rows_satisfied, targets_met}
 use Rattle.it_elemental.specs.Generators.{is_equation}
 use Rattle.it_elemental.proofs.GeneratorLemmas.{every_or}
 use Rattle.it_check.proofs.Truth.{at_least, is_zero}
@@ -80,7 +82,7 @@ shown_by q verb answer is x = subst (λ (v : VerbView). ShowsBy q v answer) is x
 
 pub a_yes_is_true : AYesIsTrue
 a_yes_is_true q r ws is x m together =
-    (targets_met r.sign (side_at (variables_of q) m r.left) (side_at (variables_of q) m r.right) (form_of (variables_of q) r) m refl).0
+    (targets_met r.sign (side_at (variables_of q) m (multiple_of r) r.left) (side_at (variables_of q) m (multiple_of r) r.right) (form_of (variables_of q) r) m refl).0
     (all_valid q m together (targets (variables_of q) r) ws (shown_by q (Prove r) (Yes ws) is x))
 
 not_at_least_zero : (x : ℤ) → x ≤ℤ neg_ℤ (pos 1) → pos 0 ≤ℤ x → ⊥
@@ -100,7 +102,7 @@ pub a_no_is_true : ANoIsTrue
 a_no_is_true q r is_back values is x =
     let v = violates q (targets (variables_of q) r) is_back values (shown_by q (Prove r) (No is_back values) is x) in
     let p = map_of values in
-    (v.0, λ holds. v.1 ((targets_met r.sign (side_at (variables_of q) p r.left) (side_at (variables_of q) p r.right) (form_of (variables_of q) r) p refl).1 holds))
+    (v.0, λ holds. v.1 ((targets_met r.sign (side_at (variables_of q) p (multiple_of r) r.left) (side_at (variables_of q) p (multiple_of r) r.right) (form_of (variables_of q) r) p refl).1 holds))
 
 both_by_verb : (q : BodyView) (verb : VerbView) (ws : List CertificateView) (is_back : Bool) (values : List ℤ) → q.verb ≡ verb → Shows q (Yes ws) → Shows q (No is_back values) → ⊥
 both_by_verb q (Prove r) ws is_back values is x y =

@@ -8,7 +8,7 @@ use Rattle.it_space.specs.Answers as answer_views
 use Rattle.it_space.specs.Rows.{Terms, IsCanonical}
 use Rattle.it_syntax.specs.Meaning.{RelationView}
 use Rattle.it_question.specs.Questions.{BodyView, RegionView, VerbView, Prove, Eliminate, Contain}
-use Rattle.it_canon.proofs.ZipLemmas.{zip-right}
+use Rattle.it_demand.proofs.ZipLemmas.{zip-right}
 use Rattle.it_canon.proofs.PosesLemmas.{same_problem, same_rows}
 use Rattle.it_redundant.specs.ReducedElimination.{ProjectedView}
 use Rattle.it_redundant.specs.ReducedElimination as projections

@@ -4,7 +4,7 @@ use Rattle.it_space.specs.Answers.{AnswerView}
 use Rattle.it_space.specs.Answers.AnswerView.{Yes, No, Undecided, Region, Contained, Open}
 use Rattle.it_polymatroid.specs.Certificates.{Form}
 use Rattle.it_question.specs.Questions.{BodyView, VerbView, Prove, Eliminate, Contain}
-use Rattle.it_canon.specs.Targets.{targets}
+use Rattle.it_demand.specs.Targets.{targets}
 use Rattle.it_canon.specs.QuestionDemands.{variables_of}
 use Rattle.it_region.specs.Obligations.{ArePartsOf, obligations}
 

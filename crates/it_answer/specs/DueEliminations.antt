@@ -8,8 +8,8 @@ use Rattle.it_space.specs.Answers.AnswerView.{Undecided, Region}
 use Rattle.it_space.specs.Problems.{ProblemView}
 use Rattle.it_space.specs.Rows.{Terms}
 use Rattle.it_question.specs.Questions.{BodyView}
-use Rattle.it_canon.specs.Demands.{AreStated}
-use Rattle.it_canon.specs.QuestionDemands.{space_of, given_demands, system_forms, AreRowsOf}
+use Rattle.it_demand.specs.Demands.{AreStated}
+use Rattle.it_demand.specs.LineDemands.{space_of, given_demands, system_forms, AreRowsOf}
 use Rattle.it_redundant.specs.Reduction.{NeedView, Needed, Unsettled}
 use Rattle.it_redundant.specs.ReducedElimination.{ProjectedView, ReducedEnds}
 use Rattle.it_redundant.specs.ReducedElimination as projections

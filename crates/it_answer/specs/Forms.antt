@@ -7,7 +7,7 @@ use Rattle.it_space.specs.Answers.{CertificateView}
 use Rattle.it_polymatroid.specs.Certificates.{Form, combination}
 use Rattle.it_polymatroid.specs.Elementals.{Elemental, elementals, elemental_value}
 use Rattle.it_question.specs.Questions.{BodyView}
-use Rattle.it_canon.specs.Demands.{Demand, LineDemand}
+use Rattle.it_demand.specs.Demands.{Demand, LineDemand}
 use Rattle.it_canon.specs.QuestionDemands.{question_demands, variables_of}
 
 -- an elemental inequality of n variables as a demand

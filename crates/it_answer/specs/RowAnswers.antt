@@ -6,7 +6,7 @@ use Rattle.it_space.specs.Answers.{AnswerView, CertificateView}
 use Rattle.it_space.specs.Answers.AnswerView.{Yes, No, Undecided, Region, Contained, Open}
 use Rattle.it_space.specs.Rows.{Terms}
 use Rattle.it_polymatroid.specs.Certificates.{Form}
-use Rattle.it_canon.specs.QuestionDemands.{AreRowsOf}
+use Rattle.it_demand.specs.LineDemands.{AreRowsOf}
 use Rattle.it_check.specs.Meaning.{CertifiesRow, RefutesRow}
 use Rattle.it_prove.specs.ProofViews.{ProofView}
 use Rattle.it_prove.specs.ProofViews as proof_views

@@ -12,8 +12,10 @@ use Rattle.it_polymatroid.specs.Certificates.{Form}
 use Rattle.it_syntax.specs.Givens.{IsTrueAt}
 use Rattle.it_syntax.specs.Meaning.{RelationView, Holds}
 use Rattle.it_question.specs.Questions.{BodyView, RegionView, VerbView, Prove, Eliminate, Contain}
-use Rattle.it_canon.specs.Targets.{targets}
-use Rattle.it_canon.specs.QuestionDemands.{space_of, problem_names, problem_lines, variables_of, AreTrueAt, AreTrueTogether}
+use Rattle.it_demand.specs.Targets.{targets}
+use Rattle.it_canon.specs.QuestionDemands.{variables_of, AreTrueAt, AreTrueTogether}
+use Rattle.it_demand.specs.LineDemands.{space_of}
+use Rattle.it_question.specs.Tables.{problem_names, problem_lines}
 use Rattle.it_eliminate.specs.Elimination.{Member}
 use Rattle.it_eliminate.specs.Projections.{IsPointOf, LacksCoordinate}
 use Rattle.it_region.specs.Obligations.{ArePartsOf, obligations}

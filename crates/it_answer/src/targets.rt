@@ -5,8 +5,9 @@ ghost use Rattle.it_space.specs.Spaces.{size_of};
 ghost use Rattle.it_syntax.specs.Meaning.{relation_view};
 ghost use Rattle.it_question.specs.Limits.{IsQuestion};
 ghost use Rattle.it_question.specs.Questions.{Contain, Prove, question_body, region_view};
-ghost use Rattle.it_canon.specs.QuestionDemands.{problem_names, space_of};
-ghost use Rattle.it_canon.specs.RowsOfForms.{terms_of_form};
+ghost use Rattle.it_demand.specs.LineDemands.{space_of};
+ghost use Rattle.it_question.specs.Tables.{problem_names};
+ghost use Rattle.it_demand.specs.RowsOfForms.{terms_of_form};
 ghost use Rattle.it_region.specs.Obligations.{ArePartsOf, obligations};
 ghost use Rattle.it_answer.specs.AnswerForms.{IsAnswerTo, answer_forms};
 

@@ -1,6 +1,7 @@
 -- The forms of a question's lines are values of few terms with small coefficients, so that they have their canonical rows.
-use Rattle.std.proofs.Common.{◌≡◌, ℕ, ◌+◌, ◌-◌, ◌*◌, ◌<◌, ◌≤◌, ◌^◌, bit_or, ℤ, pos, neg_ℤ, ◌+ℤ◌, ◌-ℤ◌, ◌*ℤ◌, unsigned_abs, Bool, true, false, cond, List, [], ◌∷◌, length, refl, arith}
+use Rattle.std.proofs.Common.{◌≡◌, ℕ, ◌+◌, ◌-◌, ◌*◌, ◌/◌, ◌<◌, ◌≤◌, ◌^◌, bit_or, ℤ, pos, neg_ℤ, ◌+ℤ◌, ◌-ℤ◌, ◌*ℤ◌, unsigned_abs, Bool, true, false, cond, List, [], ◌∷◌, length, refl, arith}
 use Rattle.std.specs.List.{AllByRecursion as Every}
+use Rattle.std.proofs.Math.Nat.{div-le_self, mul-le-mul_left}
 use Rattle.std.proofs.lemmas.Int.{ints}
 use Rattle.std.proofs.lemmas.Nat.{or_lt, pow_pos}
 use Rattle.it_number.proofs.Integers.{zring}
@@ -12,15 +13,16 @@ use Rattle.it_syntax.specs.declared.types.Sign.{Sign}
 use Rattle.it_syntax.specs.declared.types.Sign.TheVariants.{AtLeast, AtMost, Equal}
 use Rattle.it_syntax.specs.declared.types.Term.{Term}
 use Rattle.it_syntax.specs.Givens.{GivenView, Relation, Markov, Independent, Function, IsRelationOf, IsGivenOf, AreSetsOf, links, links_from, sum_given, union_of}
-use Rattle.it_syntax.specs.Meaning.{RelationView, IsAtomOf, atom_at, side_at, difference_at}
+use Rattle.it_syntax.specs.Meaning.{RelationView, IsAtomOf, multiple_of, times_of, atom_at, side_at, difference_at}
 use Rattle.it_question.specs.Questions.{OwnLinesView}
 use Rattle.it_question.proofs.NumberLemmas.{HasSmallNumbers, GivenHasSmallNumbers, LinesHaveSmallNumbers}
-use Rattle.it_canon.specs.Canonical.{form_of, signed_difference}
-use Rattle.it_canon.specs.Demands.{Demand, LineDemand, demands, equations, independence_form, parts_from, parts_of, kind_of}
-use Rattle.it_canon.specs.QuestionDemands.{given_demands, row_demands, line_demands}
-use Rattle.it_canon.specs.Targets.{negation, targets, demanded_forms}
-use Rattle.it_canon.proofs.ChainLemmas.{union_below}
-use Rattle.it_canon.proofs.QuestionLemmas.{more_rates}
+use Rattle.it_demand.specs.Canonical.{form_of, signed_difference}
+use Rattle.it_demand.specs.Demands.{Demand, LineDemand, demands, equations, independence_form, parts_from, parts_of, kind_of}
+use Rattle.it_demand.specs.LineDemands.{given_demands, row_demands}
+use Rattle.it_question.specs.Tables.{line_demands}
+use Rattle.it_demand.specs.Targets.{negation, targets, demanded_forms}
+use Rattle.it_demand.proofs.ChainLemmas.{union_below}
+use Rattle.it_demand.proofs.LimitLemmas.{more_rates}
 use Rattle.it_canon.proofs.SmallForms.{IsFormUpTo, form_zero, form-add, form-negation, form_same}
 
 -- ---- one atom
@@ -87,54 +89,61 @@ module _ (n m : ℕ) where
 
   -- ---- relations
 
-  signed-small : (b : Bool) (k : ℕ) → k < 2 ^ 64 → 4 * unsigned_abs (cond b (neg_ℤ (pos k)) (pos k)) ≤ 2 ^ 66
+  signed-small : (b : Bool) (k : ℕ) → k < 2 ^ 96 → 4 * unsigned_abs (cond b (neg_ℤ (pos k)) (pos k)) ≤ 2 ^ 98
   signed-small true k h = omega (arith, ints, h)
   signed-small false k h = omega (arith, ints, h)
 
-  side_up_to : (ts : List Term) → Every (λ (t : Term). IsAtomOf n m t.atom) ts → Every (λ (t : Term). t.number < 2 ^ 64) ts → IsFormUpTo last_coordinate (length ts * 2 ^ 66) (λ p. side_at n p ts)
-  side_up_to [] a k = form_same last_coordinate 0 (0 * 2 ^ 66) (λ p. pos 0) (λ p. pos 0) (omega arith) (λ p. refl) (form_zero last_coordinate)
-  side_up_to (t ∷ ts) a k =
-      let x : ℤ = cond t.negative (neg_ℤ (pos t.number)) (pos t.number) in
-      form_same last_coordinate (4 * unsigned_abs x + length ts * 2 ^ 66) (length (t ∷ ts) * 2 ^ 66) (λ p. x *ℤ atom_at n p t.atom +ℤ side_at n p ts) (λ p. side_at n p (t ∷ ts)) (omega (arith, signed-small t.negative t.number k.0)) (λ p. refl)
-      (form-add last_coordinate (4 * unsigned_abs x) (length ts * 2 ^ 66) (λ p. x *ℤ atom_at n p t.atom) (λ p. side_at n p ts) (atom_up_to x t.atom a.0) (side_up_to ts a.1 k.1))
+  times-small : (k m d : ℕ) → k < 2 ^ 64 → m ≤ 2 ^ 32 → k * (m / d) < 2 ^ 96
+  times-small k m d h l =
+      let parts : m / d ≤ 2 ^ 32 = omega (arith, div-le_self m d, l) in
+      omega (arith, mul-le-mul_left k parts, h)
+
+  side_up_to : (k : ℕ) → k ≤ 2 ^ 32 → (ts : List Term) → Every (λ (t : Term). IsAtomOf n m t.atom) ts → Every (λ (t : Term). t.number < 2 ^ 64) ts → IsFormUpTo last_coordinate (length ts * 2 ^ 98) (λ p. side_at n p k ts)
+  side_up_to k l [] a b = form_same last_coordinate 0 (0 * 2 ^ 98) (λ p. pos 0) (λ p. pos 0) (omega arith) (λ p. refl) (form_zero last_coordinate)
+  side_up_to k l (t ∷ ts) a b =
+      let times : ℕ = times_of k t in
+      let x : ℤ = cond t.negative (neg_ℤ (pos times)) (pos times) in
+      form_same last_coordinate (4 * unsigned_abs x + length ts * 2 ^ 98) (length (t ∷ ts) * 2 ^ 98) (λ p. x *ℤ atom_at n p t.atom +ℤ side_at n p k ts) (λ p. side_at n p k (t ∷ ts)) (omega (arith, signed-small t.negative times (times-small t.number k t.denominator b.0 l))) (λ p. refl)
+      (form-add last_coordinate (4 * unsigned_abs x) (length ts * 2 ^ 98) (λ p. x *ℤ atom_at n p t.atom) (λ p. side_at n p k ts) (atom_up_to x t.atom a.0) (side_up_to k l ts a.1 b.1))
 
   plus_negation : (x y : ℤ) → x +ℤ neg_ℤ y ≡ x -ℤ y
   plus_negation x y = omega (arith, ints)
 
-  difference_up_to : (r : RelationView) → IsRelationOf n m r → HasSmallNumbers r → IsFormUpTo last_coordinate (2 ^ 74) (λ p. difference_at n p r)
+  difference_up_to : (r : RelationView) → IsRelationOf n m r → HasSmallNumbers r → IsFormUpTo last_coordinate (2 ^ 106) (λ p. difference_at n p r)
   difference_up_to r h k =
-      form_same last_coordinate (length r.left * 2 ^ 66 + length r.right * 2 ^ 66) (2 ^ 74) (λ p. side_at n p r.left +ℤ neg_ℤ (side_at n p r.right)) (λ p. difference_at n p r) (omega (arith, h.few)) (λ p. plus_negation (side_at n p r.left) (side_at n p r.right))
-      (form-add last_coordinate (length r.left * 2 ^ 66) (length r.right * 2 ^ 66) (λ p. side_at n p r.left) (negation (λ p. side_at n p r.right))
-      (side_up_to r.left (every_of (λ (t : Term). IsAtomOf n m t.atom) r.left h.left) k.0)
-      (form-negation last_coordinate (length r.right * 2 ^ 66) (λ p. side_at n p r.right) (side_up_to r.right (every_of (λ (t : Term). IsAtomOf n m t.atom) r.right h.right) k.1)))
+      let both = multiple_of r in
+      form_same last_coordinate (length r.left * 2 ^ 98 + length r.right * 2 ^ 98) (2 ^ 106) (λ p. side_at n p both r.left +ℤ neg_ℤ (side_at n p both r.right)) (λ p. difference_at n p r) (omega (arith, h.few)) (λ p. plus_negation (side_at n p both r.left) (side_at n p both r.right))
+      (form-add last_coordinate (length r.left * 2 ^ 98) (length r.right * 2 ^ 98) (λ p. side_at n p both r.left) (negation (λ p. side_at n p both r.right))
+      (side_up_to both h.small_multiple r.left (every_of (λ (t : Term). IsAtomOf n m t.atom) r.left h.left) k.0)
+      (form-negation last_coordinate (length r.right * 2 ^ 98) (λ p. side_at n p both r.right) (side_up_to both h.small_multiple r.right (every_of (λ (t : Term). IsAtomOf n m t.atom) r.right h.right) k.1)))
 
-  relation_up_to : (r : RelationView) → IsRelationOf n m r → HasSmallNumbers r → IsFormUpTo last_coordinate (2 ^ 74) (form_of n r)
+  relation_up_to : (r : RelationView) → IsRelationOf n m r → HasSmallNumbers r → IsFormUpTo last_coordinate (2 ^ 106) (form_of n r)
   relation_up_to r h k = by_sign r.sign (difference_up_to r h k)
     where
-      by_sign : (sign : Sign) → IsFormUpTo last_coordinate (2 ^ 74) (λ p. difference_at n p r) → IsFormUpTo last_coordinate (2 ^ 74) (λ p. signed_difference sign (difference_at n p r))
+      by_sign : (sign : Sign) → IsFormUpTo last_coordinate (2 ^ 106) (λ p. difference_at n p r) → IsFormUpTo last_coordinate (2 ^ 106) (λ p. signed_difference sign (difference_at n p r))
       by_sign AtLeast x = x
-      by_sign AtMost x = form-negation last_coordinate (2 ^ 74) (λ p. difference_at n p r) x
+      by_sign AtMost x = form-negation last_coordinate (2 ^ 106) (λ p. difference_at n p r) x
       by_sign Equal x = x
 
   -- and so of its targets
-  pub targets_up_to : (r : RelationView) → IsRelationOf n m r → HasSmallNumbers r → Every (IsFormUpTo last_coordinate (2 ^ 74)) (targets n r)
+  pub targets_up_to : (r : RelationView) → IsRelationOf n m r → HasSmallNumbers r → Every (IsFormUpTo last_coordinate (2 ^ 106)) (targets n r)
   targets_up_to r h k = by_sign r.sign (form_of n r) (relation_up_to r h k)
     where
-      by_sign : (sign : Sign) (f : Form) → IsFormUpTo last_coordinate (2 ^ 74) f → Every (IsFormUpTo last_coordinate (2 ^ 74)) (demanded_forms (kind_of sign) f)
+      by_sign : (sign : Sign) (f : Form) → IsFormUpTo last_coordinate (2 ^ 106) f → Every (IsFormUpTo last_coordinate (2 ^ 106)) (demanded_forms (kind_of sign) f)
       by_sign AtLeast f x = (x, tt)
       by_sign AtMost f x = (x, tt)
-      by_sign Equal f x = (x, (form-negation last_coordinate (2 ^ 74) f x, tt))
+      by_sign Equal f x = (x, (form-negation last_coordinate (2 ^ 106) f x, tt))
 
   -- ---- givens
 
   abbrev pub AreDemandsUpTo : List Demand → Type 0
-  AreDemandsUpTo ds = Every (λ (d : Demand). IsFormUpTo last_coordinate (2 ^ 74) d.form) ds
+  AreDemandsUpTo ds = Every (λ (d : Demand). IsFormUpTo last_coordinate (2 ^ 106) d.form) ds
 
   links_up_to : (past : ℕ) (sets : List ℕ) → past < 2 ^ n → Every (λ (s : ℕ). s < 2 ^ n) sets → AreDemandsUpTo (equations n (links_from past sets))
   links_up_to past [] h a = tt
   links_up_to past (here ∷ []) h a = tt
   links_up_to past (here ∷ next ∷ sets) h a = (
-    form_same last_coordinate 4 (2 ^ 74) (λ p. atom_at n p (Mutual past next here)) (λ p. atom_at n p (Mutual past next here)) (omega arith) (λ p. refl) (once_up_to (Mutual past next here) (h, a.1.0, a.0)),
+    form_same last_coordinate 4 (2 ^ 106) (λ p. atom_at n p (Mutual past next here)) (λ p. atom_at n p (Mutual past next here)) (omega arith) (λ p. refl) (once_up_to (Mutual past next here) (h, a.1.0, a.0)),
     links_up_to (bit_or past here) (next ∷ sets) (or_lt n past here h a.0) a.1,
   )
 
@@ -147,11 +156,11 @@ module _ (n m : ℕ) where
   sum_up_to (x ∷ xs) given h a = form_same last_coordinate (4 + length xs * 4) (length (x ∷ xs) * 4) (λ p. atom_at n p (Entropy x given) +ℤ sum_given n p xs given) (λ p. sum_given n p (x ∷ xs) given) (omega arith) (λ p. refl)
       (form-add last_coordinate 4 (length xs * 4) (λ p. atom_at n p (Entropy x given)) (λ p. sum_given n p xs given) (once_up_to (Entropy x given) (a.0, h)) (sum_up_to xs given h a.1))
 
-  independence_up_to : (members : List ℕ) (given : ℕ) → AreSetsOf n 2 16 members → given < 2 ^ n → IsFormUpTo last_coordinate (2 ^ 74) (independence_form n members given)
+  independence_up_to : (members : List ℕ) (given : ℕ) → AreSetsOf n 2 16 members → given < 2 ^ n → IsFormUpTo last_coordinate (2 ^ 106) (independence_form n members given)
   independence_up_to members given h k =
       let all = every_of (λ (s : ℕ). s < 2 ^ n) members h.within in
       let joint : Atom = Entropy (union_of members) given in
-      form_same last_coordinate (length members * 4 + 4) (2 ^ 74) (λ p. sum_given n p members given +ℤ neg_ℤ (atom_at n p joint)) (independence_form n members given) (omega (arith, h.few)) (λ p. plus_negation (sum_given n p members given) (atom_at n p joint))
+      form_same last_coordinate (length members * 4 + 4) (2 ^ 106) (λ p. sum_given n p members given +ℤ neg_ℤ (atom_at n p joint)) (independence_form n members given) (omega (arith, h.few)) (λ p. plus_negation (sum_given n p members given) (atom_at n p joint))
       (form-add last_coordinate (length members * 4) 4 (λ p. sum_given n p members given) (negation (λ p. atom_at n p joint)) (sum_up_to members given k all)
       (form-negation last_coordinate 4 (λ p. atom_at n p joint) (once_up_to joint (union_below n members h.within, k))))
 
@@ -159,12 +168,12 @@ module _ (n m : ℕ) where
   given_up_to (Relation r) h k = (relation_up_to r (more_rates n m r h) k, tt)
   given_up_to (Markov sets) h k = chain_up_to sets (every_of (λ (s : ℕ). s < 2 ^ n) sets h.within)
   given_up_to (Independent members given) h k = (independence_up_to members given h.0 h.1, tt)
-  given_up_to (Function value argument) h k = (form_same last_coordinate 4 (2 ^ 74) (λ p. atom_at n p (Entropy value argument)) (λ p. atom_at n p (Entropy value argument)) (omega arith) (λ p. refl) (once_up_to (Entropy value argument) h), tt)
+  given_up_to (Function value argument) h k = (form_same last_coordinate 4 (2 ^ 106) (λ p. atom_at n p (Entropy value argument)) (λ p. atom_at n p (Entropy value argument)) (omega arith) (λ p. refl) (once_up_to (Entropy value argument) h), tt)
 
   -- ---- lines
 
   abbrev pub AreLineDemandsUpTo : List LineDemand → Type 0
-  AreLineDemandsUpTo ds = Every (λ (d : LineDemand). IsFormUpTo last_coordinate (2 ^ 74) d.demand.form) ds
+  AreLineDemandsUpTo ds = Every (λ (d : LineDemand). IsFormUpTo last_coordinate (2 ^ 106) d.demand.form) ds
 
   parts_up_to : (part line parts : ℕ) (ds : List Demand) → AreDemandsUpTo ds → AreLineDemandsUpTo (parts_from part line parts ds)
   parts_up_to part line parts [] h = tt
@@ -172,7 +181,7 @@ module _ (n m : ℕ) where
 
   pub given_lines_up_to : (line : ℕ) (gs : List GivenView) → Every (IsGivenOf n) gs → Every GivenHasSmallNumbers gs → AreLineDemandsUpTo (given_demands n line gs)
   given_lines_up_to line [] h k = tt
-  given_lines_up_to line (g ∷ gs) h k = every-append (λ (d : LineDemand). IsFormUpTo last_coordinate (2 ^ 74) d.demand.form) (parts_of line (demands n g)) (given_demands n (line + 1) gs)
+  given_lines_up_to line (g ∷ gs) h k = every-append (λ (d : LineDemand). IsFormUpTo last_coordinate (2 ^ 106) d.demand.form) (parts_of line (demands n g)) (given_demands n (line + 1) gs)
       (parts_up_to 1 line (length (demands n g)) (demands n g) (given_up_to g h.0 k.0)) (given_lines_up_to (line + 1) gs h.1 k.1)
 
   pub row_lines_up_to : (line : ℕ) (rs : List RelationView) → Every (IsRelationOf n m) rs → Every HasSmallNumbers rs → AreLineDemandsUpTo (row_demands n line rs)
@@ -180,5 +189,5 @@ module _ (n m : ℕ) where
   row_lines_up_to line (r ∷ rs) h k = (relation_up_to r h.0 k.0, row_lines_up_to (line + 1) rs h.1 k.1)
 
   pub lines_up_to : (own : OwnLinesView) → Every (IsGivenOf n) own.givens → Every (IsRelationOf n m) own.rows → LinesHaveSmallNumbers own → AreLineDemandsUpTo (line_demands n own)
-  lines_up_to own givens rows small = every-append (λ (d : LineDemand). IsFormUpTo last_coordinate (2 ^ 74) d.demand.form) (given_demands n 1 own.givens) (row_demands n 1 own.rows)
+  lines_up_to own givens rows small = every-append (λ (d : LineDemand). IsFormUpTo last_coordinate (2 ^ 106) d.demand.form) (given_demands n 1 own.givens) (row_demands n 1 own.rows)
       (given_lines_up_to 1 own.givens givens small.0) (row_lines_up_to 1 own.rows rows small.1)

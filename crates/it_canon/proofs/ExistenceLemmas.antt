@@ -16,9 +16,11 @@ use Rattle.it_question.specs.Limits.{IsVerbOver, IsQuestion}
 use Rattle.it_question.specs.Questions.{VerbView, Prove, Eliminate, Contain, BodyView, QuestionView}
 use Rattle.it_question.proofs.FileReadings.{file_limits}
 use Rattle.it_question.proofs.NumberLemmas.{HasSmallNumbers, GivenHasSmallNumbers, VerbHasSmallNumbers, QuestionHasSmallNumbers, file_has_small_numbers}
-use Rattle.it_canon.specs.Demands.{LineDemand, AreStated}
-use Rattle.it_canon.specs.QuestionDemands.{space_of, problem_names, problem_names_by, problem_lines_by, variables_of, line_demands, question_demands, AreRowsOf, IsProblemOf, Poses}
-use Rattle.it_canon.specs.Targets.{targets}
+use Rattle.it_demand.specs.Demands.{LineDemand, AreStated}
+use Rattle.it_demand.specs.LineDemands.{AreRowsOf, space_of}
+use Rattle.it_question.specs.Tables.{line_demands, givens_alone, lines_with, problem_names, problem_names_by, problem_lines_by}
+use Rattle.it_canon.specs.QuestionDemands.{variables_of, question_demands, IsProblemOf, Poses}
+use Rattle.it_demand.specs.Targets.{targets}
 use Rattle.it_canon.specs.Theorems.{QuestionHasProblem, RelationHasRows}
 use Rattle.it_canon.proofs.DemandForms.{AreLineDemandsUpTo, lines_up_to, targets_up_to}
 use Rattle.it_canon.proofs.ProblemLemmas.{question_problem}
@@ -28,7 +30,7 @@ use Rattle.it_canon.proofs.SmallForms.{IsFormUpTo, row_there}
 -- ---- constraints and rows
 
 module _ (s : Space) (k : IsSpace s) where
-  constraints_there : (ds : List LineDemand) → Every (λ (d : LineDemand). IsFormUpTo (size_of s) (2 ^ 74) d.demand.form) ds → (cs : List Constraint) × AreStated s ds cs
+  constraints_there : (ds : List LineDemand) → Every (λ (d : LineDemand). IsFormUpTo (size_of s) (2 ^ 106) d.demand.form) ds → (cs : List Constraint) × AreStated s ds cs
   constraints_there [] h = ([], tt)
   constraints_there (d ∷ ds) h =
       let one = row_there s k d.demand.form h.0 in
@@ -36,7 +38,7 @@ module _ (s : Space) (k : IsSpace s) where
       let c : Constraint = record { row = one.0; kind = d.demand.kind; origin = d.origin } in
       (c ∷ rest.0, (record { row = one.1; kind = refl; origin = refl }, rest.1))
 
-  pub rows_there : (fs : List Form) → Every (IsFormUpTo (size_of s) (2 ^ 74)) fs → (ts : List Terms) × AreRowsOf s fs ts
+  pub rows_there : (fs : List Form) → Every (IsFormUpTo (size_of s) (2 ^ 106)) fs → (ts : List Terms) × AreRowsOf s fs ts
   rows_there [] h = ([], tt)
   rows_there (f ∷ fs) h =
       let one = row_there s k f h.0 in
@@ -56,11 +58,11 @@ module _ (q : BodyView) (k : IsQuestion q) (small : QuestionHasSmallNumbers q) w
           → All (IsRelationOf (length (problem_names_by q.names verb).variables) (length (problem_names_by q.names verb).rates)) q.lines.rows
           → AreLineDemandsUpTo (length (problem_names_by q.names verb).variables) (length (problem_names_by q.names verb).rates) (line_demands (length (problem_names_by q.names verb).variables) (problem_lines_by q.lines verb))
       by_verb (Prove r) over counts givens rows = lines_up_to _ _ q.lines (every_of _ q.lines.givens givens) (every_of _ q.lines.rows rows) small.0
-      by_verb (Eliminate rates) over counts givens rows = lines_up_to _ _ (record { givens = q.lines.givens; rows = [] }) (every_of _ q.lines.givens givens) tt (small.0.0, tt)
+      by_verb (Eliminate rates) over counts givens rows = lines_up_to _ _ (givens_alone q.lines) (every_of _ q.lines.givens givens) tt (small.0.0, tt)
       by_verb (Contain first second tries) over counts givens rows =
           let n = length first.names.variables in
           let m = length first.names.rates in
-          lines_up_to n m (record { givens = q.lines.givens ++ first.lines.givens; rows = q.lines.rows ++ first.lines.rows })
+          lines_up_to n m (lines_with q.lines first)
           (every-append (IsGivenOf n) q.lines.givens first.lines.givens (every_of (IsGivenOf n) q.lines.givens givens) (every_of (IsGivenOf n) first.lines.givens over.0.lines.givens))
           (every-append (IsRelationOf n m) q.lines.rows first.lines.rows (every_of (IsRelationOf n m) q.lines.rows rows) (every_of (IsRelationOf n m) first.lines.rows over.0.lines.rows))
           (every-append GivenHasSmallNumbers q.lines.givens first.lines.givens small.0.0 counts.0.0, every-append HasSmallNumbers q.lines.rows first.lines.rows small.0.1 counts.0.1)
@@ -78,7 +80,7 @@ module _ (q : BodyView) (k : IsQuestion q) (small : QuestionHasSmallNumbers q) w
       let over : IsRelationOf own_space.variables own_space.rates r = subst (λ (v : NamesView). IsRelationOf (length v.variables) (length v.rates) r) (sym (ap (problem_names_by q.names) about)) own in
       let forms = targets_up_to own_space.variables own_space.rates r over (subst VerbHasSmallNumbers about small.1) in
       let b = question_has_problem in
-      let rows = rows_there b.0.space b.1.limits.space (targets (variables_of q) r) (subst (λ (s : Space). Every (IsFormUpTo (size_of s) (2 ^ 74)) (targets (variables_of q) r)) (sym b.1.space) forms) in
+      let rows = rows_there b.0.space b.1.limits.space (targets (variables_of q) r) (subst (λ (s : Space). Every (IsFormUpTo (size_of s) (2 ^ 106)) (targets (variables_of q) r)) (sym b.1.space) forms) in
       record { problem = b.0; is_problem = b.1; rows = rows.0; targets_are = rows.1 }
 
 -- ---- the questions of a file

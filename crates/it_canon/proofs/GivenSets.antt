@@ -17,14 +17,14 @@ use Rattle.it_syntax.specs.declared.types.Atom.TheVariants.{Nothing, Entropy, Mu
 use Rattle.it_syntax.specs.declared.types.Sign.{Sign}
 use Rattle.it_syntax.specs.declared.types.Sign.TheVariants.{AtLeast, AtMost, Equal}
 use Rattle.it_syntax.specs.declared.types.Term.{Term}
-use Rattle.it_syntax.specs.Meaning.{RelationView, IsAtomOf, atom_at, side_at}
+use Rattle.it_syntax.specs.Meaning.{RelationView, IsAtomOf, multiple_of, times_of, atom_at, side_at}
 use Rattle.it_syntax.specs.Givens.{GivenView, Relation, Markov, Independent, Function, union_of, links_from, sum_given, IsRelationOf, IsGivenOf}
-use Rattle.it_canon.specs.Canonical.{IsRowOf, form_of, signed_difference}
-use Rattle.it_canon.specs.Demands.{Demand, LineDemand, equation, equations, demand_of, demands, independence_form, States, AreStated, parts_of}
-use Rattle.it_canon.specs.QuestionDemands.{given_demands}
-use Rattle.it_canon.proofs.ChainLemmas.{union_below}
-use Rattle.it_canon.proofs.MetLemmas.{parts_each}
-use Rattle.it_canon.proofs.ZipLemmas.{zip-passes}
+use Rattle.it_demand.specs.Canonical.{IsRowOf, form_of, signed_difference}
+use Rattle.it_demand.specs.Demands.{Demand, LineDemand, equation, equations, demand_of, demands, independence_form, States, AreStated, parts_of}
+use Rattle.it_demand.specs.LineDemands.{given_demands}
+use Rattle.it_demand.proofs.ChainLemmas.{union_below}
+use Rattle.it_demand.proofs.MetLemmas.{parts_each}
+use Rattle.it_demand.proofs.ZipLemmas.{zip-passes}
 
 -- the form is 0 at the map that is 1 at one coordinate past the sets of n variables and 0 elsewhere
 abbrev IsOfSets : ℕ → Form → Type 0
@@ -67,13 +67,13 @@ atom_of_sets n (Mutual left right given) k c h = ap₂ (λ x y. x -ℤ y)
     (ap₂ (λ x y. x +ℤ y) (at_set n c (bit_or (bit_or left right) given) h (or_lt n (bit_or left right) given (or_lt n left right k.0 k.1) k.2)) (at_set n c given h k.2))
 atom_of_sets n (Rate r) k c h = absurd (omega (arith, k))
 
-side_of_sets : (n : ℕ) (ts : List Term) → All (λ t. IsAtomOf n 0 t.atom) ts → IsOfSets n (λ p. side_at n p ts)
-side_of_sets n [] a c h = refl
-side_of_sets n (t ∷ ts) a c h = ap₂ (λ x y. cond t.negative (neg_ℤ (pos t.number)) (pos t.number) *ℤ x +ℤ y)
-    (atom_of_sets n t.atom (All-head (λ (t : Term). IsAtomOf n 0 t.atom) t ts a) c h) (side_of_sets n ts (All-tail (λ (t : Term). IsAtomOf n 0 t.atom) t ts a) c h) ∙ omega (arith, ints)
+side_of_sets : (n m : ℕ) (ts : List Term) → All (λ t. IsAtomOf n 0 t.atom) ts → IsOfSets n (λ p. side_at n p m ts)
+side_of_sets n m [] a c h = refl
+side_of_sets n m (t ∷ ts) a c h = ap₂ (λ x y. cond t.negative (neg_ℤ (pos (times_of m t))) (pos (times_of m t)) *ℤ x +ℤ y)
+    (atom_of_sets n t.atom (All-head (λ (t : Term). IsAtomOf n 0 t.atom) t ts a) c h) (side_of_sets n m ts (All-tail (λ (t : Term). IsAtomOf n 0 t.atom) t ts a) c h) ∙ omega (arith, ints)
 
 relation_of_sets : (n : ℕ) (r : RelationView) → IsRelationOf n 0 r → IsOfSets n (form_of n r)
-relation_of_sets n r k c h = ap₂ (λ x y. signed_difference r.sign (x -ℤ y)) (side_of_sets n r.left k.left c h) (side_of_sets n r.right k.right c h) ∙ zero_difference r.sign
+relation_of_sets n r k c h = ap₂ (λ x y. signed_difference r.sign (x -ℤ y)) (side_of_sets n (multiple_of r) r.left k.left c h) (side_of_sets n (multiple_of r) r.right k.right c h) ∙ zero_difference r.sign
   where
     zero_difference : (s : Sign) → signed_difference s (pos 0 -ℤ pos 0) ≡ pos 0
     zero_difference AtLeast = refl

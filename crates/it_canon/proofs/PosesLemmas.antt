@@ -6,11 +6,12 @@ use Rattle.it_space.specs.Rows.{Terms}
 use Rattle.it_polymatroid.specs.Certificates.{Form}
 use Rattle.it_syntax.specs.Meaning.{RelationView}
 use Rattle.it_question.specs.Questions.{BodyView}
-use Rattle.it_canon.specs.Demands.{AreStated}
-use Rattle.it_canon.specs.Targets.{targets}
-use Rattle.it_canon.specs.QuestionDemands.{variables_of, question_demands, AreRowsOf, Poses}
+use Rattle.it_demand.specs.Demands.{AreStated}
+use Rattle.it_demand.specs.Targets.{targets}
+use Rattle.it_demand.specs.LineDemands.{AreRowsOf}
+use Rattle.it_canon.specs.QuestionDemands.{variables_of, question_demands, Poses}
 use Rattle.it_canon.specs.Theorems.{OneProblem}
-use Rattle.it_canon.proofs.UniqueRows.{one_constraint_list, one_row_list}
+use Rattle.it_demand.proofs.UniqueRows.{one_constraint_list, one_row_list}
 
 pub one_problem : OneProblem
 one_problem q p r a b = ap₂ (λ (s : Space) (cs : List Constraint). record { space = s; constraints = cs }) same_space (one_constraint_list r.space (question_demands q) p.constraints r.constraints

@@ -17,10 +17,10 @@ use Rattle.it_polymatroid.specs.Certificates.{Form, dot, IsLinear}
 use Rattle.it_polymatroid.specs.Elementals.{span}
 use Rattle.it_polymatroid.proofs.Forms.{linear_at, linear_zero, linear-add, linear-scale}
 use Rattle.it_polymatroid.proofs.Spans.{length-map-span}
-use Rattle.it_canon.specs.Canonical.{IsRowOf}
-use Rattle.it_canon.specs.Coefficients.{dense_form_from, largest, IsNoLarger}
-use Rattle.it_canon.specs.Targets.{negation}
-use Rattle.it_canon.proofs.TermLemmas.{row_canonical, row-value, row_up_to, row_no_larger}
+use Rattle.it_demand.specs.Canonical.{IsRowOf}
+use Rattle.it_demand.specs.Coefficients.{dense_form_from, largest, IsNoLarger}
+use Rattle.it_demand.specs.Targets.{negation}
+use Rattle.it_demand.proofs.TermLemmas.{row_canonical, row-value, row_up_to, row_no_larger}
 
 -- the form is the value of terms with coordinates up to `size`, whose coefficients are `bound` together at most
 pub record IsFormUpTo (size bound : ℕ) (form : Form) : Type 0 where
@@ -101,7 +101,7 @@ largest_below : (f : ℕ → ℤ) (m : ℕ) → ((c : ℕ) → unsigned_abs (f c
 largest_below f m h [] = omega arith
 largest_below f m h (c ∷ cs) = omega (arith, h c, largest_below f m h cs)
 
-module _ (s : Space) (k : IsSpace s) (form : Form) (x : IsFormUpTo (size_of s) (2 ^ 74) form) where
+module _ (s : Space) (k : IsSpace s) (form : Form) (x : IsFormUpTo (size_of s) (2 ^ 106) form) where
   -- its value at the map that is 1 at a coordinate
   abbrev coefficient_at : ℕ → ℤ
   coefficient_at c = value x.terms (one_at c)
@@ -112,8 +112,8 @@ module _ (s : Space) (k : IsSpace s) (form : Form) (x : IsFormUpTo (size_of s) (
   abbrev row : Terms
   row = terms_from 1 (map coefficient_at (span 1 (size_of s)))
 
-  all_small : largest coefficients ≤ 2 ^ 74
-  all_small = largest_below coefficient_at (2 ^ 74) (λ c. omega (arith, value-small x.terms c, x.small)) (span 0 (suc (size_of s)))
+  all_small : largest coefficients ≤ 2 ^ 106
+  all_small = largest_below coefficient_at (2 ^ 106) (λ c. omega (arith, value-small x.terms c, x.small)) (span 0 (suc (size_of s)))
 
   row_same : (p : ℕ → ℤ) → p 0 ≡ pos 0 → value row p ≡ form p
   row_same p z =
@@ -127,7 +127,7 @@ module _ (s : Space) (k : IsSpace s) (form : Form) (x : IsFormUpTo (size_of s) (
   row_is_canonical : IsCanonical row
   row_is_canonical = row_canonical coefficients row refl (omega (arith, all_small))
 
-  size_few : size_of s + 1 ≤ 2 ^ 11
+  size_few : size_of s + 1 ≤ 1040
   size_few = omega (arith, k.few_rates, powers s.variables k.few)
     where
       powers : (n : ℕ) → n ≤ 10 → 2 ^ n ≤ 2 ^ 10
@@ -138,7 +138,7 @@ module _ (s : Space) (k : IsSpace s) (form : Form) (x : IsFormUpTo (size_of s) (
       let fit : IsNoLarger coefficients row = row_no_larger coefficients row refl in
       record {
         few = omega (arith, fit.few, length-map-span coefficient_at 0 (suc (size_of s)), size_few);
-        each = All-weaker (λ (t : ℕ × ℤ). unsigned_abs t.1 ≤ largest coefficients) (λ (t : ℕ × ℤ). unsigned_abs t.1 ≤ 2 ^ 74) (λ t h. omega (arith, h, all_small)) row fit.each;
+        each = All-weaker (λ (t : ℕ × ℤ). unsigned_abs t.1 ≤ largest coefficients) (λ (t : ℕ × ℤ). unsigned_abs t.1 ≤ 2 ^ 106) (λ t h. omega (arith, h, all_small)) row fit.each;
       }
 
   -- the form has its canonical row

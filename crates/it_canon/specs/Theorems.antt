@@ -1,29 +1,19 @@
--- What the rows of a question are told by: a form has one row, and demands have one list of constraints. A question of a file
--- poses a problem, and no other.
-use Rattle.std.specs.Prelude.{◌≡◌, ℕ, List, All}
+-- A question of a file poses a problem, and no other, and its table isn't too large.
+use Rattle.std.specs.Prelude.{◌≡◌, ℕ, ◌≤◌, List, All}
 use Rattle.it_space.specs.declared.spaces.Space.{Space}
 use Rattle.it_space.specs.declared.problems.Constraint.{Constraint}
 use Rattle.it_space.specs.Problems.{ProblemView}
 use Rattle.it_space.specs.Rows.{Terms}
 use Rattle.it_polymatroid.specs.Certificates.{Form}
+use Rattle.it_closure.specs.Sizes.{table_size}
 use Rattle.it_syntax.specs.Meaning.{RelationView}
 use Rattle.it_question.specs.Files.{IsFile}
 use Rattle.it_question.specs.Questions.{BodyView, QuestionView, Prove}
-use Rattle.it_canon.specs.Canonical.{IsRowOf}
-use Rattle.it_canon.specs.Demands.{LineDemand, AreStated}
-use Rattle.it_canon.specs.QuestionDemands.{AreRowsOf, IsProblemOf, Poses}
-
--- a form has one row
-abbrev pub OneRow : Type 0
-OneRow = (s : Space) (form : Form) (r t : Terms) → IsRowOf s form r → IsRowOf s form t → r ≡ t
-
--- forms have one list of rows
-abbrev pub OneRowList : Type 0
-OneRowList = (s : Space) (forms : List Form) (rs ts : List Terms) → AreRowsOf s forms rs → AreRowsOf s forms ts → rs ≡ ts
-
--- demands have one list of constraints that states them
-abbrev pub OneConstraintList : Type 0
-OneConstraintList = (s : Space) (demanded : List LineDemand) (cs ds : List Constraint) → AreStated s demanded cs → AreStated s demanded ds → cs ≡ ds
+use Rattle.it_question.specs.Tables.{most_entries}
+use Rattle.it_demand.specs.Canonical.{IsRowOf}
+use Rattle.it_demand.specs.Demands.{LineDemand, AreStated}
+use Rattle.it_demand.specs.LineDemands.{AreRowsOf}
+use Rattle.it_canon.specs.QuestionDemands.{IsProblemOf, Poses}
 
 -- each question of a file poses a problem
 abbrev pub QuestionHasProblem : Type 0
@@ -32,6 +22,10 @@ QuestionHasProblem = (bytes : List ℕ) (qs : List QuestionView) → IsFile byte
 -- each question of a file about a relation poses it with the rows of the relation's targets
 abbrev pub RelationHasRows : Type 0
 RelationHasRows = (bytes : List ℕ) (qs : List QuestionView) → IsFile bytes qs → All (λ q. (r : RelationView) → q.body.verb ≡ Prove r → Poses q.body r) qs
+
+-- the table with which the run about the problem of a question of a file begins isn't too large
+abbrev pub TableIsSmall : Type 0
+TableIsSmall = (bytes : List ℕ) (qs : List QuestionView) → IsFile bytes qs → All (λ q. (p : ProblemView) → IsProblemOf q.body p → table_size p ≤ most_entries) qs
 
 -- a question poses one problem
 abbrev pub OneProblem : Type 0

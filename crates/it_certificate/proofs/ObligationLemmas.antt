@@ -7,9 +7,9 @@ use Rattle.it_syntax.specs.declared.types.Atom.{Atom}
 use Rattle.it_syntax.specs.Meaning.{RelationView}
 use Rattle.it_syntax.specs.Givens.{GivenView, Relation, Markov, Independent, Function, given_view, links}
 use Rattle.it_question.specs.Questions.{RegionView}
-use Rattle.it_canon.specs.Demands.{Demand, LineDemand, demands, equations, parts_from, parts_of}
-use Rattle.it_canon.specs.QuestionDemands.{given_demands, row_demands}
-use Rattle.it_canon.proofs.ChainLemmas.{links-length}
+use Rattle.it_demand.specs.Demands.{Demand, LineDemand, demands, equations, parts_from, parts_of}
+use Rattle.it_demand.specs.LineDemands.{given_demands, row_demands}
+use Rattle.it_demand.proofs.ChainLemmas.{links-length}
 use Rattle.it_certificate.specs.Obligations.{form_count, obligation_count}
 use Rattle.it_certificate.specs.ReportSteps.{given_form_count, relation_form_count}
 

@@ -10,7 +10,7 @@ use Rattle.it_space.specs.declared.answers.Cause.{Cause}
 use Rattle.it_space.specs.declared.answers.Cause.TheVariants.{Pivots, Width, Scale, Rows, WideRate}
 use Rattle.it_syntax.specs.NamesViews.{NamesView, index_of}
 use Rattle.it_question.specs.Questions.{BodyView, RegionView, VerbView, Prove, Eliminate, Contain}
-use Rattle.it_canon.specs.QuestionDemands.{space_of}
+use Rattle.it_demand.specs.LineDemands.{space_of}
 use Rattle.it_certificate.specs.Numerals.{step_of}
 use Rattle.it_certificate.specs.Values.{rate_name}
 use Rattle.it_certificate.specs.AnswerReading.{is_equality}

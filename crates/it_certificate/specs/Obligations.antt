@@ -4,8 +4,8 @@ use Rattle.it_space.specs.declared.problems.Kind.{Kind}
 use Rattle.it_space.specs.declared.problems.Kind.TheVariants.{Inequality, Equation}
 use Rattle.it_syntax.specs.declared.types.Sign.{Sign}
 use Rattle.it_question.specs.Questions.{RegionView}
-use Rattle.it_canon.specs.Demands.{kind_of}
-use Rattle.it_canon.specs.QuestionDemands.{line_demands}
+use Rattle.it_demand.specs.Demands.{kind_of}
+use Rattle.it_question.specs.Tables.{line_demands}
 
 -- an equation says it of a form and of its negation
 abbrev pub form_count : Kind → ℕ

@@ -9,7 +9,7 @@ use Rattle.it_syntax.specs.NamesViews.{NamesView}
 use Rattle.it_syntax.specs.declared.types.Sign.{Sign}
 use Rattle.it_question.specs.Questions.{QuestionView, RegionView, VerbView, Prove, Eliminate, Contain, question_view}
 use Rattle.it_question.specs.Files.{IsFile}
-use Rattle.it_canon.specs.QuestionDemands.{space_of}
+use Rattle.it_demand.specs.LineDemands.{space_of}
 use Rattle.it_certificate.specs.declared.keys.Key.{Key}
 use Rattle.it_certificate.specs.declared.keys.Key.TheVariants as keys
 use Rattle.it_certificate.specs.declared.keys.ReportFault.{ReportFault}

@@ -34,9 +34,11 @@ use Rattle.it_question.specs.Questions.{BodyView, QuestionView, RegionView, Verb
 use Rattle.it_question.specs.Files.{IsFile}
 use Rattle.it_question.specs.Limits.{IsQuestion, IsVerbOver}
 use Rattle.it_question.proofs.AsciiLemmas.{texts_are_ascii}
-use Rattle.it_canon.specs.Canonical.{IsRowOf}
-use Rattle.it_canon.specs.Targets.{targets}
-use Rattle.it_canon.specs.QuestionDemands.{space_of, problem_names, variables_of, problem_lines, question_demands, AreTrueAt, AreRowsOf, Poses}
+use Rattle.it_demand.specs.Canonical.{IsRowOf}
+use Rattle.it_demand.specs.Targets.{targets}
+use Rattle.it_demand.specs.LineDemands.{AreRowsOf, space_of}
+use Rattle.it_question.specs.Tables.{problem_names, problem_lines}
+use Rattle.it_canon.specs.QuestionDemands.{variables_of, question_demands, AreTrueAt, Poses}
 use Rattle.it_canon.proofs.ProblemLemmas.{question_met}
 use Rattle.it_region.specs.declared.types.Candidate.{Candidate}
 use Rattle.it_region.specs.Obligations.{obligations, ArePulledRows}

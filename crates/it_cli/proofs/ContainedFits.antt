@@ -6,7 +6,9 @@ use Rattle.it_space.specs.Answers.{CertificateView}
 use Rattle.it_space.specs.Answers.AnswerView.{Contained}
 use Rattle.it_space.specs.Problems.{problem_view}
 use Rattle.it_question.specs.Questions.{BodyView, RegionView, Contain}
-use Rattle.it_canon.specs.QuestionDemands.{space_of, problem_names, problem_names_by, IsProblemOf}
+use Rattle.it_canon.specs.QuestionDemands.{IsProblemOf}
+use Rattle.it_demand.specs.LineDemands.{space_of}
+use Rattle.it_question.specs.Tables.{problem_names, problem_names_by}
 use Rattle.it_region.specs.declared.types.Candidate.{Candidate}
 use Rattle.it_region.specs.declared.types.Pair.{Pair}
 use Rattle.it_region.specs.Obligations.{obligations}

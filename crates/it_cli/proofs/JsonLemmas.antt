@@ -31,11 +31,13 @@ use Rattle.it_syntax.specs.declared.types.Sign.TheVariants.{AtLeast, AtMost, Equ
 use Rattle.it_syntax.specs.Meaning.{RelationView}
 use Rattle.it_syntax.specs.NamesViews.{NamesView}
 use Rattle.it_question.specs.Questions.{BodyView, Prove}
-use Rattle.it_canon.specs.Canonical.{form_of}
-use Rattle.it_canon.specs.Demands.{Demand, States, AreStated, kind_of}
-use Rattle.it_canon.specs.Targets.{targets, demanded_forms}
-use Rattle.it_canon.specs.QuestionDemands.{space_of, problem_names, problem_names_by, variables_of, question_demands, Poses}
-use Rattle.it_canon.proofs.ZipLemmas.{zip-length}
+use Rattle.it_demand.specs.Canonical.{form_of}
+use Rattle.it_demand.specs.Demands.{Demand, States, AreStated, kind_of}
+use Rattle.it_demand.specs.Targets.{targets, demanded_forms}
+use Rattle.it_canon.specs.QuestionDemands.{variables_of, question_demands, Poses}
+use Rattle.it_demand.specs.LineDemands.{space_of}
+use Rattle.it_question.specs.Tables.{problem_names, problem_names_by}
+use Rattle.it_demand.proofs.ZipLemmas.{zip-length}
 use Rattle.it_eliminate.specs.Elimination.{Member}
 use Rattle.it_redundant.specs.ReducedElimination.{ProjectedView}
 use Rattle.it_redundant.specs.ReducedElimination as projections

@@ -28,9 +28,11 @@ use Rattle.it_question.specs.AsciiTexts.{IsAsciiQuestion}
 use Rattle.it_certificate.specs.Values.{IsWritable}
 use Rattle.it_question.specs.Limits.{IsQuestion, IsRegionOf, IsVerbOver}
 use Rattle.it_question.specs.Questions.{BodyView, QuestionView, RegionView, VerbView, Prove, Eliminate, Contain}
-use Rattle.it_canon.specs.Demands.{LineDemand, States, AreStated}
-use Rattle.it_canon.specs.QuestionDemands.{question_demands, problem_names, problem_names_by, space_of, variables_of}
-use Rattle.it_canon.proofs.ZipLemmas.{zip-length}
+use Rattle.it_demand.specs.Demands.{LineDemand, States, AreStated}
+use Rattle.it_canon.specs.QuestionDemands.{question_demands, variables_of}
+use Rattle.it_question.specs.Tables.{problem_names, problem_names_by}
+use Rattle.it_demand.specs.LineDemands.{space_of}
+use Rattle.it_demand.proofs.ZipLemmas.{zip-length}
 use Rattle.it_run.specs.Runs.RunEndView.{Weights, Point, Pivots, Width}
 use Rattle.it_run.specs.Runs.{RunEndView}
 use Rattle.it_rational.specs.Rational.{Rational}
@@ -43,7 +45,7 @@ use Rattle.it_answer.specs.Shows.{ShowsBy, ViolatesFirst, region_rows}
 use Rattle.it_answer.specs.DueEliminations.{IsDueElimination, answer_of_end}
 use Rattle.it_answer.specs.DueRelations.{CauseIsDue, IsDueRelation}
 use Rattle.it_answer.specs.Forms.{CertifyAll, MayStand, all_demands}
-use Rattle.it_canon.specs.Targets.{targets}
+use Rattle.it_demand.specs.Targets.{targets}
 use Rattle.it_answer.specs.RightAnswers.{IsDueBy, IsRightAnswer}
 use Rattle.it_print.specs.Lines.{IsCauseOf, IsPrintable, IsRowOver, answer_line, auxiliary_names, auxiliary_names_by, origins_of}
 use Rattle.it_print.specs.ProofLines.{generator_rows, proof_text}
@@ -107,10 +109,10 @@ cause_of_due p budget m (t ∷ ts) cause (inr e) = cause_of_due p budget m ts ca
 -- ---- an answer to `prove`
 
 -- a question of a file has few names, also with those of its first region
-few_names : (q : BodyView) → IsQuestion q → (length (problem_names q).variables ≤ 8) × (length (problem_names q).rates ≤ 16)
+few_names : (q : BodyView) → IsQuestion q → (length (problem_names q).variables ≤ 10) × (length (problem_names q).rates ≤ 16)
 few_names q k = by_verb q.verb k.verb
   where
-    by_verb : (verb : VerbView) → IsVerbOver q.names verb → (length (problem_names_by q.names verb).variables ≤ 8) × (length (problem_names_by q.names verb).rates ≤ 16)
+    by_verb : (verb : VerbView) → IsVerbOver q.names verb → (length (problem_names_by q.names verb).variables ≤ 10) × (length (problem_names_by q.names verb).rates ≤ 16)
     by_verb (Prove r) over = (k.few, k.few_rates)
     by_verb (Eliminate rates) over = (k.few, k.few_rates)
     by_verb (Contain a b tries) over = (over.0.few_variables, subst (λ (rs : List (List ℕ)). length rs ≤ 16) (sym over.0.rates) k.few_rates)
@@ -130,7 +132,7 @@ printable_proof budget q r m (answers.Yes proofs) k few shown due = certificates
 printable_proof budget q r m (answers.No is_back point) k few shown due =
     let size : length point ≡ size_of (space_of (problem_names q)) = point_size q (targets (variables_of q) r) is_back point shown in
     let names = few_names q k in
-    (omega (arith, size, pow_pos (variables_of q)), omega (arith, size, pow_mono {i = variables_of q} {j = 8} names.0, names.1))
+    (omega (arith, size, pow_pos (variables_of q)), omega (arith, size, pow_mono {i = variables_of q} {j = 10} names.0, names.1))
 printable_proof budget q r m (answers.Undecided cause) k few shown due = cause_of_due due.poses.problem budget (length (problem_names q).rates) due.poses.rows cause due.due
 printable_proof budget q r m (answers.Region rows) k few shown due = absurd shown
 printable_proof budget q r m (answers.Contained parts proofs) k few shown due = absurd shown

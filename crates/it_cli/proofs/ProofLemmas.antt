@@ -13,9 +13,11 @@ use Rattle.it_polymatroid.specs.Certificates.{Form}
 use Rattle.it_polymatroid.specs.Elementals.{elementals}
 use Rattle.it_elemental.specs.Generators.{Generator, generator_at, generator_list}
 use Rattle.it_question.specs.Questions.{BodyView}
-use Rattle.it_canon.specs.Demands.{AreStated, LineDemand}
-use Rattle.it_canon.specs.QuestionDemands.{problem_names, question_demands, space_of, variables_of}
-use Rattle.it_canon.proofs.FormRows.{no_terms}
+use Rattle.it_demand.specs.Demands.{AreStated, LineDemand}
+use Rattle.it_demand.specs.LineDemands.{space_of}
+use Rattle.it_question.specs.Tables.{problem_names}
+use Rattle.it_canon.specs.QuestionDemands.{question_demands, variables_of}
+use Rattle.it_demand.proofs.FormRows.{no_terms}
 use Rattle.it_print.specs.Lines.{IsRowOver}
 use Rattle.it_print.specs.ProofLines.{generator_rows}
 use Rattle.it_print.proofs.GeneratorRows.{generators_are, form_up_to}

@@ -22,7 +22,7 @@ use Rattle.it_space.proofs.TermLemmas.{rises-cancelled_row, coefficient-cancelle
 use Rattle.it_polymatroid.specs.Certificates.{Form}
 use Rattle.it_question.specs.Questions.{BodyView}
 use Rattle.it_question.specs.Limits.{IsQuestion}
-use Rattle.it_canon.specs.QuestionDemands.{space_of, AreRowsOf}
+use Rattle.it_demand.specs.LineDemands.{AreRowsOf, space_of}
 use Rattle.it_eliminate.specs.Elimination.{EliminationEnds, PairsFit, with_row, with_lowest_rows, ordered_rows, results, next_list}
 use Rattle.it_eliminate.specs.Elimination as elimination
 use Rattle.it_eliminate.proofs.MemberLemmas.{every_member, member_every}
@@ -141,7 +141,7 @@ rows_fit size (r ∷ rows) few up canonical =
     All-cons (IsRowIn size) r rows (record { terms = pairs_of_row size 0 r.1 few canonical.0 h; canonical = canonical.0; coordinates = h }) (rows_fit size rows few (All-tail (IsUpTo size) r.1 (region_rows rows) up) canonical.1)
 
 few_coordinates : (q : BodyView) → IsQuestion q → size_of (space_of q.names) < 2 ^ 32
-few_coordinates q k = omega (arith, pow_mono {i = length q.names.variables} {j = 8} k.few, k.few_rates)
+few_coordinates q k = omega (arith, pow_mono {i = length q.names.variables} {j = 10} k.few, k.few_rates)
 
 pub right_region_fits : (budgets : Budgets) (q : BodyView) (rates : List ℕ) (rows : List (Mark × Terms)) → IsQuestion q → ShowsRegion q rates rows → IsDueElimination budgets q rates (Region rows)
     → All (IsRowIn (size_of (space_of q.names))) rows

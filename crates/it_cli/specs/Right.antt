@@ -10,9 +10,11 @@ use Rattle.it_space.specs.Spaces.{size_of}
 use Rattle.it_polymatroid.specs.Certificates.{Form}
 use Rattle.it_elemental.specs.Generators.{Generator}
 use Rattle.it_question.specs.Questions.{BodyView, QuestionView}
-use Rattle.it_canon.specs.Demands.{Demand}
-use Rattle.it_canon.specs.QuestionDemands.{problem_names, question_demands, space_of, variables_of}
-use Rattle.it_canon.specs.RowsOfForms.{terms_of_form}
+use Rattle.it_demand.specs.Demands.{Demand}
+use Rattle.it_demand.specs.LineDemands.{space_of}
+use Rattle.it_question.specs.Tables.{problem_names}
+use Rattle.it_canon.specs.QuestionDemands.{question_demands, variables_of}
+use Rattle.it_demand.specs.RowsOfForms.{terms_of_form}
 use Rattle.it_region.specs.declared.types.Candidate.{Candidate}
 use Rattle.it_contain.specs.Proposals.{Plan, plan_after_all}
 use Rattle.it_certificate.specs.Values.{answer_text}

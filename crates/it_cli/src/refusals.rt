@@ -22,6 +22,7 @@ fn word(code: Code) -> &'static [u8]
         Code::Number => b"number",
         Code::Many => b"many",
         Code::Unfinished => b"unfinished",
+        Code::Large => b"large",
     }
 }
 

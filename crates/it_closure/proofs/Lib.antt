@@ -10,3 +10,4 @@ pub mod ReadLemmas
 pub mod ReadLists
 pub mod Listing
 pub mod Serving
+pub mod SizeLemmas

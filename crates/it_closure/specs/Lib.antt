@@ -5,3 +5,4 @@ pub mod Placings
 pub mod Reading
 pub mod ReadLaws
 pub mod Coordinates
+pub mod Sizes

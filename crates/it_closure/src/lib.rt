@@ -6,9 +6,11 @@ mod dependences;
 mod laws;
 mod reading;
 mod row_places;
+mod sizes;
 
 pub use dependences::{Dependence, Dependences, first_open};
 pub use laws::{
     closure_is_least, closures_keep, collapse_keeps, coordinates_serve, reads_exactly,
     spread_out_holds,
 };
+pub use sizes::{column_count, size};

@@ -9,9 +9,9 @@ use Rattle.it_space.specs.Problems.{ProblemView, problem_view}
 use Rattle.it_space.specs.Rows.{Terms}
 use Rattle.it_polymatroid.specs.Certificates.{Form}
 use Rattle.it_question.specs.Questions.{RegionView, BodyView}
-use Rattle.it_canon.specs.Demands.{AreStated}
+use Rattle.it_demand.specs.Demands.{AreStated}
 use Rattle.it_canon.specs.QuestionDemands.{question_demands}
-use Rattle.it_canon.proofs.UniqueRows.{zip-told, one_constraint_list}
+use Rattle.it_demand.proofs.UniqueRows.{zip-told, one_constraint_list}
 use Rattle.it_prove.specs.ProofViews.{Yes, EndsWith, AreProofsOf}
 use Rattle.it_prove.proofs.ProofLemmas.{one_outcome}
 use Rattle.it_region.specs.declared.types.Candidate.{Candidate}

@@ -57,7 +57,7 @@ const FILES: [(&[u8], &[u8]); 65] = [
         b"vars X  \t \nprove H(X)  \t# nothing\n",
         b"refused 2:11 word\n",
     ),
-    (b"vars X, Y / prove 0 >= 0\n", b"refused 1:11 byte\n"),
+    (b"vars X, Y / prove 0 >= 0\n", b"refused 1:11 word\n"),
     (b"vars X, Y prove H(X) >= 0\n", b"refused 1:11 word\n"),
     (b"vars X : Y\n", b"refused 1:8 byte\n"),
     (b"vars X $ Y\n", b"refused 1:8 byte\n"),
@@ -235,7 +235,23 @@ const DECLARATIONS: [(&[u8], &[u8]); 52] = [
     (b"vars X1Y_2, Z-\n", b"refused 1:14 word\n"),
     (b"vars X, X\nprove H(X) >= 0\n", b"refused 1:9 twice\n"),
     (b"vars X, Y, X\n", b"refused 1:12 twice\n"),
-    (b"vars A, B, C, D, E, F, G, J, K\n", b"refused 1:30 many\n"),
+    (
+        b"vars A, B, C, D, E, F, G, J, K\n",
+        b"refused 2:1 unfinished\n",
+    ),
+    (
+        b"vars A, B, C, D, E, F, G, J, K, L, M\n",
+        b"refused 1:36 many\n",
+    ),
+    (b"vars X\nprove 1/0 H(X) >= 0\n", b"refused 2:9 number\n"),
+    (
+        b"vars X\nprove 1/4294967296 H(X) + 1/3 H(X) >= 0\n",
+        b"refused 2:29 number\n",
+    ),
+    (
+        b"vars A, B, C, D, E, F, G, J, K, L\nprove 0 >= 0\n",
+        b"refused 2:1 large\n",
+    ),
     (b"vars A, B, C, D, E, F, G, J, A\n", b"refused 1:30 twice\n"),
     (b"vars A, B, C, D, E, F, G, J, H\n", b"refused 1:30 word\n"),
     (b"vars A, B, C, D, E, F, G, J, 0\n", b"refused 1:30 word\n"),

@@ -1,11 +1,12 @@
 -- The file of drawn questions is read as these questions.
-use Rattle.std.proofs.Common.{◌≡◌, ℕ, zero, suc, ◌+◌, ◌-◌, ◌≤◌, true, List, [], ◌∷◌, ◌++◌, length, None, codes, refl, sym, ap, ◌∙◌, subst, inr, append_assoc, append-nil, arith}
+use Rattle.std.proofs.Common.{◌≡◌, ℕ, zero, suc, ◌+◌, ◌-◌, ◌≤◌, true, List, [], ◌∷◌, ◌++◌, length, Option, None, codes, refl, sym, ap, ◌∙◌, subst, inr, append_assoc, append-nil, arith, lit≤}
 use Rattle.std.proofs.lemmas.List.Elements.{All-nil, All-cons}
 use Rattle.std.specs.Prelude.{All}
 use Rattle.it_syntax.specs.declared.types.Sign.TheVariants.{AtLeast}
 use Rattle.it_syntax.specs.declared.types.Symbol.TheVariants as symbols
 use Rattle.it_syntax.specs.declared.types.Token.{Token}
 use Rattle.it_syntax.specs.declared.types.TokenKind.TheVariants as kinds
+use Rattle.it_syntax.specs.declared.types.Code.{Code}
 use Rattle.it_syntax.specs.Letters.{Word, Sym, End, MarkedLetters, without_mark, letters, without_marks}
 use Rattle.it_syntax.specs.Scopes.{scope_of}
 use Rattle.it_syntax.specs.Spans.{letters_until}
@@ -16,7 +17,10 @@ use Rattle.it_syntax.proofs.Traces.{cleaned_append}
 use Rattle.it_question.specs.Files.{IsFile}
 use Rattle.it_question.specs.Keywords.{vars_keyword, prove_keyword}
 use Rattle.it_question.specs.Lines.{LineView, AreLines, IsFilled, split_lines, file_end, end_line, letters_of_lines}
-use Rattle.it_question.specs.NewNames.{Variable, no_names, is_taken, spell_new_names}
+use Rattle.it_question.specs.NewNames.{Variable, no_names, is_taken, spell_new_names, new_names_of}
+use Rattle.it_question.specs.Tables.{size_mark}
+use Rattle.it_question.specs.WrittenLines.{no_lines}
+use Rattle.it_question.proofs.TableLemmas.{few_variables}
 use Rattle.it_question.specs.Texts.{with_texts}
 use Rattle.it_question.specs.WrittenFiles.{spell_question, spell_questions, questions_of}
 use Rattle.it_question.specs.WrittenQuestions.{WrittenQuestion, Prove, most_variables}
@@ -78,10 +82,10 @@ prove_writes : (x : ℕ) → Writes Anything (prove_line x) (λ k. without_mark 
 unfolding prove_line relation_tree is_word_byte
 prove_writes x =
     let short : 5 ≤ 16 = omega arith in
-    let first = writes_both (keyword (codes "prove") (refl, (refl, (refl, (refl, (refl, (refl, tt))))), short)) (term_writes x) in
-    let second = writes_both (writes_both first plus_writes) (term_writes (state_after 2 x)) in
-    let third = writes_both (writes_both second plus_writes) (term_writes (state_after 4 x)) in
-    writes_both (writes_both third at_least_writes) (bound_writes (state_after 6 x))
+    let first = writes_both (keyword (codes "prove") (refl, (refl, (refl, (refl, (refl, (refl, tt))))), short)) (term_writes 1 x) in
+    let second = writes_both (writes_both first plus_writes) (term_writes 1 (state_after 2 x)) in
+    let third = writes_both (writes_both second plus_writes) (term_writes 1 (state_after 4 x)) in
+    writes_both (writes_both third at_least_writes) (bound_writes 1 (state_after 6 x))
 
 -- ---- lines
 
@@ -114,11 +118,20 @@ question_lines_are : (x : ℕ) (more : List ℕ) → question_text x ++ more ≡
 unfolding question_text vars_line prove_line
 question_lines_are x more = simp append_assoc
 
+-- four variables without lines have a small table
+four_small : size_mark (new_names_of Variable no_names (question_tree 0).variables) no_lines ≡ None
+unfolding question_tree
+four_small = few_variables (new_names_of Variable no_names (question_tree 0).variables) no_lines (omega arith) (omega arith) (All-nil (IsGivenOf 4)) (omega arith) (omega arith)
+
 question_read : (n : ℕ) (x : ℕ) (more : List ℕ) (k : MarkedLetters) → AreRead (n + 1 + 1) more k → AreRead n (question_text x ++ more) (without_mark (Word vars_keyword) ∷ spell_question (question_tree x) k)
 unfolding question_tree is_taken
-question_read n x more k h = subst (λ (bytes : List ℕ). AreRead n bytes (without_mark (Word vars_keyword) ∷ spell_question (question_tree x) k)) (sym (question_lines_are x more))
-    (line_read n vars_line (prove_line x ++ 10 ∷ more) vars_keyword _ (without_mark (Word prove_keyword) ∷ spell_relation (scope_of four_variables true) (relation_tree x) (without_mark End ∷ k)) (line_is_spelled vars_writes tt _)
-    (line_read (n + 1) (prove_line x) more prove_keyword (spell_relation (scope_of four_variables true) (relation_tree x) (without_mark End ∷ k)) k (line_is_spelled (prove_writes x) tt k) h))
+question_read n x more k h =
+    let relation = spell_relation (scope_of four_variables true) (relation_tree x) (without_mark End ∷ k) in
+    let marked : AreRead n (vars_line ++ 10 ∷ (prove_line x ++ 10 ∷ more)) (without_mark (Word vars_keyword) ∷ spell_question (question_tree x) k) =
+    subst (λ (c : Option Code). AreRead n (vars_line ++ 10 ∷ (prove_line x ++ 10 ∷ more)) (without_mark (Word vars_keyword) ∷ spell_new_names Variable most_variables no_names (question_tree 0).variables (without_mark End ∷ ((Word prove_keyword, c) ∷ relation)))) (sym four_small)
+    (line_read n vars_line (prove_line x ++ 10 ∷ more) vars_keyword _ (without_mark (Word prove_keyword) ∷ relation) (line_is_spelled vars_writes tt _)
+    (line_read (n + 1) (prove_line x) more prove_keyword relation k (line_is_spelled (prove_writes x) tt k) h)) in
+    subst (λ (bytes : List ℕ). AreRead n bytes (without_mark (Word vars_keyword) ∷ spell_question (question_tree x) k)) (sym (question_lines_are x more)) marked
 
 -- ---- the file
 

@@ -220,15 +220,15 @@ drawn_below n m x h = mod_below (state_after n x / 65536) m h
 pub drawn_listed : (x : ℕ) → draw 2 28 x < length (elementals 4)
 drawn_listed x = drawn_below 2 28 x (omega arith)
 
-pub term_writes : (x : ℕ) → Writes Anything (generated_term_text x) (spell_term (scope_of four_variables true) (term_tree x))
+pub term_writes : (m x : ℕ) → Writes Anything (generated_term_text x) (spell_term m (scope_of four_variables true) (term_tree x))
 unfolding generated_term_text scope_of
-term_writes x =
+term_writes m x =
     let e = elemental_at 4 (draw 2 28 x) in
     writes_then (digit_writes (1 + draw 1 4 x) (omega (arith, drawn_below 1 4 x (omega arith)))) (elemental_writes e (is_elemental 4 (draw 2 28 x) (drawn_listed x))) (λ rest d. tt)
 
-pub bound_writes : (x : ℕ) → Writes Anything (bound_text x) (spell_term (scope_of four_variables true) (bound_tree x))
+pub bound_writes : (m x : ℕ) → Writes Anything (bound_text x) (spell_term m (scope_of four_variables true) (bound_tree x))
 unfolding bound_text scope_of is_word_byte
-bound_writes x =
+bound_writes m x =
     let s = 1 + draw 2 15 x in
     let some : IsSome s = (omega arith, omega (arith, drawn_below 2 15 x (omega arith))) in
     let number = writes_number (draw 1 3 x) (decimal (draw 1 3 x)) (digit_text (draw 1 3 x) (omega (arith, drawn_below 1 3 x (omega arith)))) in

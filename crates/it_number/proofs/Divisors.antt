@@ -1,9 +1,10 @@
 -- The greatest common divisor, Euclid's lemma, numbers with no common divisor, and the least common multiple.
-use Rattle.std.proofs.Common.{◌≡◌, ℕ, zero, suc, ◌+◌, ◌*◌, ◌/◌, ◌%◌, ◌<◌, ◌≤◌, ◌⊎◌, inl, inr, refl, sym, ap, subst, ◌∙◌, arith, mod-lt, mul_comm, one-mul, zero-mul, mul-zero}
+use Rattle.std.proofs.Common.{◌≡◌, ℕ, zero, suc, ◌+◌, ◌*◌, ◌/◌, ◌%◌, ◌<◌, ◌≤◌, List, [], ◌∷◌, ◌⊎◌, inl, inr, refl, sym, ap, subst, ◌∙◌, arith, mod-lt, mul_comm, mul-pos, one-mul, zero-mul, mul-zero}
 use Prim.Native.Nat.{◌∣◌}
 use native.Mathlib.Nat.{eq-zero-or-pos, dvd-mod_iff, dvd-mul_left, dvd-mul_right, dvd_of_mul-dvd-mul_right, one-dvd, mul-dvd-mul_right, eq-zero_of_zero-dvd, mul-div_cancel', div-mul_cancel, pos_of_dvd_of_pos, le_of_dvd, div-add-mod', add-mul-mod_self_right, mod-eq_of_lt, mul-lt-mul_of_pos_right, mul-div_assoc, mul-dvd-mul_left, zero-div}
 use Rattle.std.proofs.lemmas.Nat.Gcd.{IsGcd-from_zero, IsGcd-from_mod, IsGcd-swap, same_from_IsGcd, dvd_refl, dvd-zero, dvd_trans, dvd_antisymm}
 use Rattle.std.specs.Int.{IsGcd}
+use Rattle.std.specs.List.{fold}
 use Rattle.std.proofs.Math.Nat.{le-mul_of_pos_right}
 use Rattle.it_number.specs.Gcd.{gcd, gcd_within, lcm}
 use Rattle.it_number.specs.Laws.{IsLcm}
@@ -145,3 +146,12 @@ lcm_is a b = by_cases (eq-zero-or-pos (gcd a b))
 pub lcm-over : (a b : ℕ) → a * (b / gcd a b) ≡ lcm a b
 unfolding lcm
 lcm-over a b = sym (product_over a b (gcd a b) (gcd_is a b).1)
+
+-- a least common multiple is above 0 where both numbers are
+pub lcm-pos : (a b : ℕ) → 0 < a → 0 < b → 0 < lcm a b
+lcm-pos a b h k = pos_of_dvd_of_pos ((lcm_is a b).2 (a * b) (dvd-mul_right a b) (dvd-mul_left b a)) (mul-pos h k)
+
+-- the least common multiple of a number and others is a multiple of that number
+pub start_divides : (m : ℕ) (ns : List ℕ) → m ∣ fold lcm m ns
+start_divides m [] = dvd_refl m
+start_divides m (n ∷ ns) = dvd_trans m {b = lcm m n} {c = fold lcm (lcm m n) ns} (lcm_is m n).0 (start_divides (lcm m n) ns)

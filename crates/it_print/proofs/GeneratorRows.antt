@@ -18,9 +18,9 @@ use Rattle.it_elemental.proofs.PlaceLemmas.{is_elemental}
 use Rattle.it_elemental.proofs.RowLemmas.{canonical-row, value-row, within-row}
 use Rattle.it_polymatroid.proofs.Spans.{length-span}
 use Rattle.it_elemental.proofs.Spans.{map-map}
-use Rattle.it_canon.specs.Demands.{AreStated, LineDemand}
-use Rattle.it_canon.specs.RowsOfForms.{terms_of_form}
-use Rattle.it_canon.proofs.FormRows.{stated_rows, told_by_form}
+use Rattle.it_demand.specs.Demands.{AreStated, LineDemand}
+use Rattle.it_demand.specs.RowsOfForms.{terms_of_form}
+use Rattle.it_demand.proofs.FormRows.{stated_rows, told_by_form}
 
 -- a form's terms as a generator
 abbrev pub generator_of : ℕ → Kind → Form → Generator

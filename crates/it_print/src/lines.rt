@@ -2,7 +2,8 @@
 ghost use Rattle.std.specs.Prelude.{◌≡◌, ◌≤◌, ◌<◌, ◌+◌, ◌^◌, ◌++◌, length, map, OnOk, IfOk, All};
 ghost use Rattle.it_space.specs.Answers.{answer_view, certificate_view};
 ghost use Rattle.it_question.specs.Questions.{question_body};
-ghost use Rattle.it_canon.specs.QuestionDemands.{problem_names, variables_of};
+ghost use Rattle.it_question.specs.Tables.{problem_names};
+ghost use Rattle.it_canon.specs.QuestionDemands.{variables_of};
 ghost use Rattle.it_print.specs.Lines.{AreListed, IsCauseOf, IsPrintable, IsRowOver, answer_line, auxiliary_names, cause_text, contained_line, no_line, open_line, origins_of, region_lines, undecided_line, yes_line};
 
 use crate::pieces::write_number;

@@ -4,7 +4,8 @@ ghost use Rattle.it_space.specs.Answers.{answer_view, certificate_view};
 ghost use Rattle.it_polymatroid.specs.Elementals.{elementals, elemental_at};
 ghost use Rattle.it_elemental.specs.Generators.{of_constraint, of_elemental};
 ghost use Rattle.it_question.specs.Questions.{question_body};
-ghost use Rattle.it_canon.specs.QuestionDemands.{problem_names, variables_of};
+ghost use Rattle.it_question.specs.Tables.{problem_names};
+ghost use Rattle.it_canon.specs.QuestionDemands.{variables_of};
 ghost use Rattle.it_print.specs.Lines.{AreListed, IsPrintable, IsRowOver, answer_line, origins_of};
 ghost use Rattle.it_print.specs.ProofLines.{certificate_lines, generator_row_text, generator_rows, proof_lines, proof_text, sum_line, weight_line, weight_lines};
 

@@ -1,7 +1,7 @@
 //! Substitutions: the set that each auxiliary variable stands for.
 ghost use Rattle.std.specs.Prelude.{◌≡◌, ◌<◌, ◌++◌, [], drop, length, slice_index_or, OnOk};
 ghost use Rattle.it_question.specs.Questions.{question_body};
-ghost use Rattle.it_canon.specs.QuestionDemands.{problem_names};
+ghost use Rattle.it_question.specs.Tables.{problem_names};
 ghost use Rattle.it_print.specs.Lines.{auxiliary_names, part_for, parts_for};
 
 use crate::sets::{write_set_or_zero, write_variable};

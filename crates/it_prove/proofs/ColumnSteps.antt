@@ -20,7 +20,8 @@ use Rattle.it_lift.proofs.GeneratorLemmas.{row_of_space}
 use Rattle.it_prove.proofs.ClosedRows.{collapse_same}
 use Rattle.it_prove.specs.Closed.{collapsed_row, collapsed_generator, collapsed_generators, closed_target}
 use Rattle.it_space.proofs.TermLemmas.{coefficient-negated_terms}
-use Rattle.it_prove.specs.Columns.{columns_by, columns_of, columns, column_count, weight_by, weights_from}
+use Rattle.it_closure.specs.Sizes.{column_count}
+use Rattle.it_prove.specs.Columns.{columns_by, columns_of, columns, weight_by, weights_from}
 use Rattle.it_prove.specs.ClosedProblems.{SameRows, AreColumns}
 
 -- ---- columns
@@ -126,10 +127,6 @@ weights_more gs f i j next k w old new h same weight step e inv =
 pub weights_done : (gs : List Generator) (f : ℕ → ℤ) (i j : ℕ) (old : List (ℕ × ℤ)) → length gs ≤ i → old ++ weights_from i j (drop i gs) f ≡ weights_from 0 0 gs f → old ≡ weights_from 0 0 gs f
 unfolding weights_from
 weights_done gs f i j old h inv = sym (append-nil old) ∙ ap (λ xs. old ++ weights_from i j xs f) (sym (drop_all i gs h)) ∙ inv
-
-pub small_step : (k : Kind) → column_count k ≤ 2
-small_step Inequality = omega arith
-small_step Equation = omega arith
 
 -- ---- rows as the code has them
 

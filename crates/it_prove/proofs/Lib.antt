@@ -9,5 +9,6 @@ pub mod ScaleSteps
 pub mod ColumnSteps
 pub mod ProofLemmas
 pub mod RightLemmas
+pub mod SizeLemmas
 pub mod SmallRows
 pub mod SmallLemmas

@@ -33,7 +33,8 @@ use Rattle.it_run.specs.Readings.{AreWeights, SumsUp}
 use Rattle.it_check.specs.Meaning.{CertifiesRow}
 use Rattle.it_check.specs.Verdicts.{column}
 use Rattle.it_prove.specs.Closed.{collapsed_row, collapsed_generators, closed_places, closed_generators, closed_target}
-use Rattle.it_prove.specs.Columns.{columns, columns_by, columns_of, column_count, weight_by, weights_from}
+use Rattle.it_closure.specs.Sizes.{column_count}
+use Rattle.it_prove.specs.Columns.{columns, columns_by, columns_of, weight_by, weights_from}
 use Rattle.it_prove.specs.Scaling.{NumbersFit, numbers_of, scale_of, scaled_weights}
 use Rattle.it_prove.specs.ProofViews.{IsLifted, closed_weights}
 use Rattle.it_prove.proofs.ClosedRows.{In, listed_or_absent, collapsed_at, collapsed_generator_at, collapsed_none}

@@ -6,7 +6,8 @@ use Rattle.it_number.specs.Limit.{IsWithin}
 use Rattle.it_rational.specs.Rational.{Rational}
 use Rattle.it_space.proofs.ListLemmas.{drop_item}
 use Rattle.it_space.specs.Rows.{Terms}
-use Rattle.it_prove.proofs.Scales.{lcm_pos, scale_least}
+use Rattle.it_number.proofs.Divisors.{lcm-pos}
+use Rattle.it_prove.proofs.Scales.{scale_least}
 use Rattle.it_prove.specs.Scaling.{EachFits, numbers_of, scale_from, scale_of, scaled_number, scaled_by}
 
 -- the multiple of the first i denominators
@@ -28,7 +29,7 @@ pub scale_more : (qs : List Rational) (i scale next : ℕ) (q : Rational) → i 
 unfolding scale_from
 scale_more qs i scale next q h is w s = subst (IsScale qs (i + 1)) (sym w.1) (record {
   same = subst (λ xs. scale_from scale xs ≡ scale_of qs) (drop_item qs i q h is) s.same;
-  some = lcm_pos scale q.den s.some q.positive;
+  some = lcm-pos scale q.den s.some q.positive;
   within = w.0;
 })
 
@@ -43,7 +44,7 @@ pub scale_wide : (qs : List Rational) (i scale : ℕ) (q : Rational) → i < len
 unfolding scale_from
 scale_wide qs i scale q h is n s w =
     let e : scale_from (lcm scale q.den) (drop (i + 1) qs) ≡ scale_of qs = subst (λ xs. scale_from scale xs ≡ scale_of qs) (drop_item qs i q h is) s.same in
-    let least : lcm scale q.den ≤ scale_from (lcm scale q.den) (drop (i + 1) qs) = scale_least (lcm scale q.den) (drop (i + 1) qs) (lcm_pos scale q.den s.some q.positive) in
+    let least : lcm scale q.den ≤ scale_from (lcm scale q.den) (drop (i + 1) qs) = scale_least (lcm scale q.den) (drop (i + 1) qs) (lcm-pos scale q.den s.some q.positive) in
     n (smaller_within (lcm scale q.den) (scale_of qs) (omega (arith, e, least)) w)
   where
     smaller_within : (m l : ℕ) → m ≤ l → IsWithin (pos l) → IsWithin (pos m)

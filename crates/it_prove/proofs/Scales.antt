@@ -1,32 +1,27 @@
 -- The least common multiple of denominators, and the numbers times it.
-use Rattle.std.proofs.Common.{ℕ, ◌*◌, ◌<◌, ◌≤◌, List, [], ◌∷◌, mul-pos}
+use Rattle.std.proofs.Common.{ℕ, ◌*◌, ◌<◌, ◌≤◌, List, [], ◌∷◌, map}
 use Prim.Native.Nat.{◌∣◌}
-use native.Mathlib.Nat.{pos_of_dvd_of_pos, dvd-mul_right, dvd-mul_left}
 use Rattle.std.proofs.lemmas.Nat.Gcd.{dvd_refl, dvd_trans, le_of_dvd}
 use Rattle.it_number.specs.Gcd.{lcm}
-use Rattle.it_number.proofs.Divisors.{lcm_is}
+use Rattle.it_number.proofs.Divisors.{lcm_is, lcm-pos, start_divides}
 use Rattle.it_rational.specs.Rational.{Rational}
 use Rattle.std.specs.List.{AllByRecursion as Every}
 use Rattle.it_prove.specs.Scaling.{scale_from}
 
-pub lcm_pos : (a b : ℕ) → 0 < a → 0 < b → 0 < lcm a b
-lcm_pos a b h k = pos_of_dvd_of_pos ((lcm_is a b).2 (a * b) (dvd-mul_right a b) (dvd-mul_left b a)) (mul-pos h k)
-
 pub scale_pos : (k : ℕ) (qs : List Rational) → 0 < k → 0 < scale_from k qs
 unfolding scale_from
 scale_pos k [] h = h
-scale_pos k (q ∷ qs) h = scale_pos (lcm k q.den) qs (lcm_pos k q.den h q.positive)
+scale_pos k (q ∷ qs) h = scale_pos (lcm k q.den) qs (lcm-pos k q.den h q.positive)
 
-pub start_divides : (k : ℕ) (qs : List Rational) → k ∣ scale_from k qs
+scale_divides : (k : ℕ) (qs : List Rational) → k ∣ scale_from k qs
 unfolding scale_from
-start_divides k [] = dvd_refl k
-start_divides k (q ∷ qs) = dvd_trans k {b = lcm k q.den} {c = scale_from (lcm k q.den) qs} (lcm_is k q.den).0 (start_divides (lcm k q.den) qs)
+scale_divides k qs = start_divides k (map (λ (q : Rational). q.den) qs)
 
 -- each denominator divides the scale
 pub denominators_divide : (k : ℕ) (qs : List Rational) → Every (λ q. q.den ∣ scale_from k qs) qs
 unfolding scale_from
 denominators_divide k [] = tt
-denominators_divide k (q ∷ qs) = (dvd_trans q.den {b = lcm k q.den} {c = scale_from (lcm k q.den) qs} (lcm_is k q.den).1 (start_divides (lcm k q.den) qs), denominators_divide (lcm k q.den) qs)
+denominators_divide k (q ∷ qs) = (dvd_trans q.den {b = lcm k q.den} {c = scale_from (lcm k q.den) qs} (lcm_is k q.den).1 (scale_divides (lcm k q.den) qs), denominators_divide (lcm k q.den) qs)
 
 pub scale_least : (k : ℕ) (qs : List Rational) → 0 < k → k ≤ scale_from k qs
-scale_least k qs h = le_of_dvd (scale_pos k qs h) (start_divides k qs)
+scale_least k qs h = le_of_dvd (scale_pos k qs h) (scale_divides k qs)

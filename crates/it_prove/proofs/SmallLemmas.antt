@@ -69,17 +69,17 @@ below_is_narrow b x l h = subst IsNarrow (sym h.1) (
 
 pile : ℕ → ℕ
 pile zero = 0
-pile (suc k) = 2 ^ 85 + pile k
+pile (suc k) = 1040 * 2 ^ 106 + pile k
 
-pile_is : (k : ℕ) → pile k ≡ k * 2 ^ 85
+pile_is : (k : ℕ) → pile k ≡ k * 1040 * 2 ^ 106
 unfolding pile
 pile_is zero = refl
 pile_is (suc k) = omega (arith, pile_is k)
 
-sum_below : (k : ℕ) (f : ℕ → Rational) → ((i : ℕ) → IsBelow (2 ^ 85) (f i)) → IsBelow (pile k) (sum_to ring_ℚ k f)
+sum_below : (k : ℕ) (f : ℕ → Rational) → ((i : ℕ) → IsBelow (1040 * 2 ^ 106) (f i)) → IsBelow (pile k) (sum_to ring_ℚ k f)
 unfolding pile
 sum_below zero f h = below_null 0
-sum_below (suc k) f h = below_add (2 ^ 85) (pile k) (f k) (sum_to ring_ℚ k f) (h k) (sum_below k f h)
+sum_below (suc k) f h = below_add (1040 * 2 ^ 106) (pile k) (f k) (sum_to ring_ℚ k f) (h k) (sum_below k f h)
 
 -- ---- the start
 
@@ -87,22 +87,22 @@ rise_length : (from to : ℕ) (xs : List ℕ) → RiseTo from to xs → from + l
 rise_length from to [] r = omega (arith, r)
 rise_length from to (x ∷ xs) r = omega (arith, r.0, rise_length (x + 1) to xs r.1)
 
-module _ (coords : List ℕ) (cols : List Terms) (t : Terms) (few : length coords ≤ 2 ^ 11) (cs : Every SmallRow cols) (ts : SmallRow t) where
-  entry_below : (k j : ℕ) → IsBelow (2 ^ 85) (start_row field_ℚ (length coords) (length cols) (feasibility_problem coords cols t) k j)
+module _ (coords : List ℕ) (cols : List Terms) (t : Terms) (few : length coords ≤ 1040) (cs : Every SmallRow cols) (ts : SmallRow t) where
+  entry_below : (k j : ℕ) → IsBelow (1040 * 2 ^ 106) (start_row field_ℚ (length coords) (length cols) (feasibility_problem coords cols t) k j)
   entry_below k j = by_test (ltb j (length cols)) (eqb j (length cols + length coords)) (eqb j (length cols + k))
     where
-      column : IsBelow (2 ^ 85) (integer (coefficient (get_or cols j []) (get_or coords k 0)))
+      column : IsBelow (1040 * 2 ^ 106) (integer (coefficient (get_or cols j []) (get_or coords k 0)))
       column = (coefficient (get_or cols j []) (get_or coords k 0), refl, every_or SmallRow cols j [] cs (λ c. omega arith) (get_or coords k 0))
 
-      target_is_small : IsBelow (2 ^ 85) (integer (coefficient t (get_or coords k 0)))
+      target_is_small : IsBelow (1040 * 2 ^ 106) (integer (coefficient t (get_or coords k 0)))
       target_is_small = (coefficient t (get_or coords k 0), refl, ts (get_or coords k 0))
 
-      by_test : (a b c : Bool) → IsBelow (2 ^ 85) (cond a (times (sign field_ℚ (feasibility_problem coords cols t) k) (integer (coefficient (get_or cols j []) (get_or coords k 0))))
+      by_test : (a b c : Bool) → IsBelow (1040 * 2 ^ 106) (cond a (times (sign field_ℚ (feasibility_problem coords cols t) k) (integer (coefficient (get_or cols j []) (get_or coords k 0))))
           (cond b (times (sign field_ℚ (feasibility_problem coords cols t) k) (integer (coefficient t (get_or coords k 0)))) (cond c (integer (pos 1)) (integer (pos 0)))))
-      by_test true b c = below_sign (2 ^ 85) (field_ℚ.order.is_least (integer (coefficient t (get_or coords k 0)))) (integer (coefficient (get_or cols j []) (get_or coords k 0))) column
-      by_test false true c = below_sign (2 ^ 85) (field_ℚ.order.is_least (integer (coefficient t (get_or coords k 0)))) (integer (coefficient t (get_or coords k 0))) target_is_small
-      by_test false false true = below_one (2 ^ 85) (omega arith)
-      by_test false false false = below_null (2 ^ 85)
+      by_test true b c = below_sign (1040 * 2 ^ 106) (field_ℚ.order.is_least (integer (coefficient t (get_or coords k 0)))) (integer (coefficient (get_or cols j []) (get_or coords k 0))) column
+      by_test false true c = below_sign (1040 * 2 ^ 106) (field_ℚ.order.is_least (integer (coefficient t (get_or coords k 0)))) (integer (coefficient t (get_or coords k 0))) target_is_small
+      by_test false false true = below_one (1040 * 2 ^ 106) (omega arith)
+      by_test false false false = below_null (1040 * 2 ^ 106)
 
   start_fits : StartFits (length coords) (length cols) (feasibility_problem coords cols t)
   start_fits k j h l = below_is_narrow (pile k) (sum_to ring_ℚ k (λ i. start_row field_ℚ (length coords) (length cols) (feasibility_problem coords cols t) i j)) (omega (arith, pile_is k, h, few))
@@ -175,7 +175,7 @@ never_at_start q target budget k s e = by_cases e.run (zero_end e.end e.follows)
       own = collapse_fits q.space.variables (dependences_of q) target s.own;
     }
 
-    few_places : length (closed_places q) ≤ 2 ^ 11
+    few_places : length (closed_places q) ≤ 1040
     few_places =
         let power : 2 ^ q.space.variables ≤ 2 ^ 10 = pow_mono {i = q.space.variables} {j = 10} k.space.few in
         omega (arith, power, k.space.few_rates, rise_length 1 (2 ^ q.space.variables + q.space.rates) (closed_places q) (coords_rise q.space.variables q.space.rates (dependences_of q) (dependences_sound q k)))

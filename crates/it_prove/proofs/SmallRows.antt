@@ -27,7 +27,7 @@ abs_neg x a h = omega (arith, ints, h)
 
 -- a term of a small row
 abbrev Small : ℕ × ℤ → Type 0
-Small t = unsigned_abs t.1 ≤ 2 ^ 74
+Small t = unsigned_abs t.1 ≤ 2 ^ 106
 
 -- ---- the rows of the generators
 
@@ -70,43 +70,43 @@ generators_small n cs a = every-append (λ (g : Generator). IsSmall g.row) (map 
 -- ---- rows over closed sets
 
 module _ (n : ℕ) (ds : List Dependence) where
-  parts_fit : (f : ℕ → ℤ) (ts : Terms) (m : ℕ) → ((c : ℕ) → unsigned_abs (f c) ≤ m * 2 ^ 74) → m + length ts ≤ 2 ^ 11 → Every Small ts → PlaceSumsFit f (placed_terms n ds ts)
+  parts_fit : (f : ℕ → ℤ) (ts : Terms) (m : ℕ) → ((c : ℕ) → unsigned_abs (f c) ≤ m * 2 ^ 106) → m + length ts ≤ 1040 → Every Small ts → PlaceSumsFit f (placed_terms n ds ts)
   parts_fit f [] m b l e = tt
   parts_fit f (t ∷ ts) m b l e = (
-    (λ h. omega (arith, l, abs_add (f (place n ds t.0)) t.1 (m * 2 ^ 74) (2 ^ 74) (b (place n ds t.0)) (omega (arith, e.0)))),
+    (λ h. omega (arith, l, abs_add (f (place n ds t.0)) t.1 (m * 2 ^ 106) (2 ^ 106) (b (place n ds t.0)) (omega (arith, e.0)))),
     parts_fit (plus_at f (place n ds t.0, t.1)) ts (suc m) (λ c. sum_stays_small c (nat_eq (place n ds t.0) c)) (omega (arith, l)) e.1,
   )
     where
-      sum_stays_small : (c : ℕ) (s : Bool) → unsigned_abs (f c +ℤ cond s t.1 (pos 0)) ≤ suc m * 2 ^ 74
-      sum_stays_small c true = omega (arith, abs_add (f c) t.1 (m * 2 ^ 74) (2 ^ 74) (b c) (omega (arith, e.0)))
-      sum_stays_small c false = omega (arith, abs_add (f c) (pos 0) (m * 2 ^ 74) 0 (b c) (omega arith))
+      sum_stays_small : (c : ℕ) (s : Bool) → unsigned_abs (f c +ℤ cond s t.1 (pos 0)) ≤ suc m * 2 ^ 106
+      sum_stays_small c true = omega (arith, abs_add (f c) t.1 (m * 2 ^ 106) (2 ^ 106) (b c) (omega (arith, e.0)))
+      sum_stays_small c false = omega (arith, abs_add (f c) (pos 0) (m * 2 ^ 106) 0 (b c) (omega arith))
 
   pub collapse_fits : (row : Terms) → IsSmall row → CollapseFits n ds row
   collapse_fits row s = parts_fit (λ c. pos 0) row 0 (λ c. omega arith) (omega (arith, s.few)) (every_of Small row s.each)
 
-  coefficient_small : (ts : Terms) (c : ℕ) → Every Small ts → unsigned_abs (coefficient (collapsed_row n ds ts) c) ≤ length ts * 2 ^ 74
+  coefficient_small : (ts : Terms) (c : ℕ) → Every Small ts → unsigned_abs (coefficient (collapsed_row n ds ts) c) ≤ length ts * 2 ^ 106
   coefficient_small [] c e = omega arith
   coefficient_small (t ∷ ts) c e = by_test (nat_lt 0 (place n ds t.0)) (coefficient_small ts c e.1)
     where
-      sum_stays_small : (s : Bool) → unsigned_abs (coefficient (collapsed_row n ds ts) c) ≤ length ts * 2 ^ 74 → unsigned_abs (cond s t.1 (pos 0) +ℤ coefficient (collapsed_row n ds ts) c) ≤ suc (length ts) * 2 ^ 74
-      sum_stays_small true h = omega (arith, abs_add t.1 (coefficient (collapsed_row n ds ts) c) (2 ^ 74) (length ts * 2 ^ 74) (omega (arith, e.0)) h)
-      sum_stays_small false h = omega (arith, abs_add (pos 0) (coefficient (collapsed_row n ds ts) c) 0 (length ts * 2 ^ 74) (omega arith) h)
+      sum_stays_small : (s : Bool) → unsigned_abs (coefficient (collapsed_row n ds ts) c) ≤ length ts * 2 ^ 106 → unsigned_abs (cond s t.1 (pos 0) +ℤ coefficient (collapsed_row n ds ts) c) ≤ suc (length ts) * 2 ^ 106
+      sum_stays_small true h = omega (arith, abs_add t.1 (coefficient (collapsed_row n ds ts) c) (2 ^ 106) (length ts * 2 ^ 106) (omega (arith, e.0)) h)
+      sum_stays_small false h = omega (arith, abs_add (pos 0) (coefficient (collapsed_row n ds ts) c) 0 (length ts * 2 ^ 106) (omega arith) h)
 
-      by_test : (s : Bool) → unsigned_abs (coefficient (collapsed_row n ds ts) c) ≤ length ts * 2 ^ 74
-          → unsigned_abs (coefficient (cond s ((place n ds t.0, t.1) ∷ collapsed_row n ds ts) (collapsed_row n ds ts)) c) ≤ suc (length ts) * 2 ^ 74
+      by_test : (s : Bool) → unsigned_abs (coefficient (collapsed_row n ds ts) c) ≤ length ts * 2 ^ 106
+          → unsigned_abs (coefficient (cond s ((place n ds t.0, t.1) ∷ collapsed_row n ds ts) (collapsed_row n ds ts)) c) ≤ suc (length ts) * 2 ^ 106
       by_test true h = sum_stays_small (nat_eq (place n ds t.0) c) h
       by_test false h = omega (arith, h)
 
 -- no coefficient is large
 abbrev pub SmallRow : Terms → Type 0
-SmallRow r = (c : ℕ) → unsigned_abs (coefficient r c) ≤ 2 ^ 85
+SmallRow r = (c : ℕ) → unsigned_abs (coefficient r c) ≤ 1040 * 2 ^ 106
 
 pub small_row : (n : ℕ) (ds : List Dependence) (row : Terms) → IsSmall row → SmallRow (collapsed_row n ds row)
 small_row n ds row s c = omega (arith, s.few, coefficient_small n ds row c (every_of Small row s.each))
 
 by_kind : (k : Kind) (r : Terms) → SmallRow r → Every SmallRow (columns_by k r)
 by_kind Inequality r s = (s, tt)
-by_kind Equation r s = (s, ((λ c. subst (λ (z : ℤ). unsigned_abs z ≤ 2 ^ 85) (sym (coefficient-negated_terms c r)) (abs_neg (coefficient r c) (2 ^ 85) (s c))), tt))
+by_kind Equation r s = (s, ((λ c. subst (λ (z : ℤ). unsigned_abs z ≤ 1040 * 2 ^ 106) (sym (coefficient-negated_terms c r)) (abs_neg (coefficient r c) (1040 * 2 ^ 106) (s c))), tt))
 
 pub columns_small : (gs : List Generator) → Every (λ g. SmallRow g.row) gs → Every SmallRow (columns gs)
 unfolding columns
@@ -116,5 +116,5 @@ columns_small gs e = every-flat_map SmallRow columns_of gs (every-same (λ g. Sm
 pub small-negated_terms : (row : Terms) → IsSmall row → IsSmall (negated_terms row)
 small-negated_terms row s = record {
   few = omega (arith, length-map {B = ℕ × ℤ} row (λ t. (t.0, neg_ℤ t.1)), s.few);
-  each = all_of Small (negated_terms row) (every-map Small (λ (t : ℕ × ℤ). (t.0, neg_ℤ t.1)) row (every-same Small (λ (t : ℕ × ℤ). unsigned_abs (neg_ℤ t.1) ≤ 2 ^ 74) row (λ t h. abs_neg t.1 (2 ^ 74) h) (every_of Small row s.each)));
+  each = all_of Small (negated_terms row) (every-map Small (λ (t : ℕ × ℤ). (t.0, neg_ℤ t.1)) row (every-same Small (λ (t : ℕ × ℤ). unsigned_abs (neg_ℤ t.1) ≤ 2 ^ 106) row (λ t h. abs_neg t.1 (2 ^ 106) h) (every_of Small row s.each)));
 }

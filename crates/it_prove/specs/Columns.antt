@@ -6,6 +6,7 @@ use Rattle.it_space.specs.declared.problems.Kind.{Kind}
 use Rattle.it_space.specs.declared.problems.Kind.TheVariants.{Inequality, Equation}
 use Rattle.it_space.specs.Rows.{Terms, negated_terms, single_term}
 use Rattle.it_elemental.specs.Generators.{Generator}
+use Rattle.it_closure.specs.Sizes.{column_count}
 
 -- the columns of one generator
 abbrev pub columns_by : Kind → Terms → List Terms
@@ -19,11 +20,6 @@ columns_of g = columns_by g.kind g.row
 -- those of all, in order
 unfoldable pub columns : List Generator → List Terms
 columns gs = flat_map columns_of gs
-
--- how many columns a generator has
-abbrev pub column_count : Kind → ℕ
-column_count Inequality = 1
-column_count Equation = 2
 
 -- its weight, where its first column is column j and f has the weight of each column: that of the second counts against it
 abbrev pub weight_by : Kind → (ℕ → ℤ) → ℕ → ℤ

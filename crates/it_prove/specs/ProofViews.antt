@@ -1,6 +1,6 @@
 -- How a question about one target ends: by weights of the run over closed sets, which are lifted to a certificate, by a point of
 -- it, which is spread out, or by neither.
-use Rattle.std.specs.Prelude.{◌≡◌, ◌≢◌, ◌⊎◌, ℕ, ℤ, List, [], All, Option, None}
+use Rattle.std.specs.Prelude.{◌≡◌, ◌≢◌, ◌⊎◌, ℕ, ◌+◌, ◌*◌, ℤ, List, [], length, All, Option, None}
 use Rattle.std.specs.List.{AllZip}
 use Rattle.it_rational.specs.Rational.{Rational}
 use Rattle.it_space.specs.declared.answers.Cause.{Cause}
@@ -16,6 +16,7 @@ use Rattle.it_run.specs.Runs.RunEndView.{Weights, Point, Pivots, Width}
 use Rattle.it_simplex.specs.Answers.{Solves}
 use Rattle.it_elemental.specs.Generators.{generators, generators_of}
 use Rattle.it_closure.specs.Reading.{dependences_of}
+use Rattle.it_closure.specs.Sizes.{table_size}
 use Rattle.it_lift.specs.Fits.{LiftFits}
 use Rattle.it_lift.specs.Lifts.{lifted_weights}
 use Rattle.it_check.specs.Meaning.{CertifiesRow, CertificateFits, RefutesRow, PointFits}
@@ -119,3 +120,7 @@ NeverAtStart = (q : ProblemView) (target : Terms) (budget : Option ℕ) → IsPr
 -- without a budget no question is left open for want of steps
 abbrev pub NeverOutOfSteps : Type 0
 NeverOutOfSteps = (q : ProblemView) (target : Terms) (k : ℕ) → EndsWith q target None (Undecided (causes.Pivots k)) → ⊥
+
+-- the size of a problem's table is that of the run's start: its coordinates times its columns, with an artificial one for each coordinate
+abbrev pub SizeIsOfStart : Type 0
+SizeIsOfStart = (q : ProblemView) → table_size q ≡ length (closed_places q) * (length (columns (closed_generators q)) + length (closed_places q))

@@ -1,5 +1,6 @@
 -- Rational numbers made whole by the least common multiple of their denominators (Knuth vol. 2, 4.5.1).
 use Rattle.std.specs.Prelude.{ℕ, ◌/◌, ℤ, pos, ◌*ℤ◌, List, [], ◌∷◌, map}
+use Rattle.std.specs.List.{fold}
 use Rattle.it_number.specs.Gcd.{lcm}
 use Rattle.it_number.specs.Limit.{IsWithin}
 use Rattle.it_rational.specs.Rational.{Rational}
@@ -10,8 +11,7 @@ use Rattle.it_prove.specs.Columns.{weights_from}
 
 -- the least common multiple of k and of the denominators
 unfoldable pub scale_from : ℕ → List Rational → ℕ
-scale_from k [] = k
-scale_from k (q ∷ qs) = scale_from (lcm k q.den) qs
+scale_from k qs = fold lcm k (map (λ q. q.den) qs)
 
 -- the least common multiple of the denominators
 abbrev pub scale_of : List Rational → ℕ

@@ -6,24 +6,15 @@ ghost use Rattle.it_space.specs.Problems.{IsProblem, problem_view};
 ghost use Rattle.it_space.specs.Rows.{coefficient, single_term};
 ghost use Rattle.it_run.specs.Readings.{AreWeights};
 ghost use Rattle.it_elemental.specs.Generators.{generators};
-ghost use Rattle.it_prove.specs.Columns.{columns, weight_by, weights_from, column_count};
+ghost use Rattle.it_prove.specs.Columns.{columns, weight_by, weights_from};
 ghost use Rattle.it_prove.specs.Scaling.{NumbersFit, certificate_of, numbers_of};
 
 use crate::scaling::{common_scale, numbers, terms};
+use it_closure::column_count;
 use it_elemental::{generator_count, kind_at};
 use it_fraction::Fraction;
 use it_space::{Certificate, Kind, Problem, Row, RowFault};
 use std::alloc::{AllocError, Global};
-
-/// How many columns a generator has.
-fn width(kind: Kind) -> u32
-    ensures { result ≡ column_count kind }
-{
-    match kind {
-        Kind::Inequality => 1,
-        Kind::Equation => 2,
-    }
-}
 
 /// The weight of a generator whose first column is given. The second one of an equation counts against the first.
 fn weight_of(row: &Row, kind: Kind, column: u32) -> i128
@@ -62,7 +53,7 @@ fn generator_weights(
     for index in 0..generator_count(problem) {
         let kind = kind_at(problem, index);
         push_some(&mut weights, index, weight_of(row, kind, column))?;
-        column += width(kind);
+        column += column_count(kind);
     }
     Ok(weights)
 }

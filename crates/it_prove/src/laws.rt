@@ -1,5 +1,5 @@
 //! What the outcomes say, each theorem as the contract of a function.
-ghost use Rattle.it_prove.specs.ProofViews.{EndsAreRight, NeverAtStart, NeverOutOfSteps, OneProofView, ProvenAscends};
+ghost use Rattle.it_prove.specs.ProofViews.{EndsAreRight, NeverAtStart, NeverOutOfSteps, OneProofView, ProvenAscends, SizeIsOfStart};
 
 /// What a run ends with is right: a certificate certifies the target, and a point refutes it.
 pub fn ends_are_right()
@@ -25,4 +25,10 @@ pub fn never_at_start()
 /// Without a budget no target is left open for want of steps.
 pub fn never_out_of_steps()
     ensures { NeverOutOfSteps }
+{}
+
+/// The size of a problem's table is that of the table with which the run about any target begins.
+#[tactic(auto, using(crate::proofs::SizeLemmas::size_of_start))]
+pub fn size_is_of_start()
+    ensures { SizeIsOfStart }
 {}

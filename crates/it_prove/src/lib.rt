@@ -15,6 +15,9 @@ mod types;
 
 pub use closed::ClosedProblem;
 pub use columns::opposite_row;
-pub use laws::{ends_are_right, never_at_start, never_out_of_steps, one_outcome, proven_ascends};
+pub use laws::{
+    ends_are_right, never_at_start, never_out_of_steps, one_outcome, proven_ascends,
+    size_is_of_start,
+};
 pub use proving::prove;
 pub use types::Proof;

@@ -8,7 +8,7 @@ use Rattle.std.proofs.lemmas.Str.{IsAscii-take, IsAscii-drop, IsAscii-append}
 use Rattle.std.proofs.lemmas.Str.Ascii.{IsAscii-nil, IsAscii-cons}
 use Rattle.it_syntax.specs.declared.types.Misspelling.{Misspelling}
 use Rattle.it_syntax.specs.declared.types.Symbol.{Symbol}
-use Rattle.it_syntax.specs.declared.types.Symbol.TheVariants.{LeftParen, RightParen, Comma, Semicolon, Bar, Plus, Minus, Arrow, AtLeast, AtMost, Equal, Assign}
+use Rattle.it_syntax.specs.declared.types.Symbol.TheVariants.{LeftParen, RightParen, Comma, Semicolon, Bar, Plus, Minus, Arrow, AtLeast, AtMost, Equal, Assign, Slash}
 use Rattle.it_syntax.specs.declared.types.Token.{Token}
 use Rattle.it_syntax.specs.declared.types.TokenKind.{TokenKind}
 use Rattle.it_syntax.specs.declared.types.TokenKind.TheVariants as kinds
@@ -68,6 +68,7 @@ symbol_ascii AtLeast = two_ascii 62 61 (omega arith) (omega arith)
 symbol_ascii AtMost = two_ascii 60 61 (omega arith) (omega arith)
 symbol_ascii Equal = one_ascii 61 (omega arith)
 symbol_ascii Assign = two_ascii 58 61 (omega arith) (omega arith)
+symbol_ascii Slash = one_ascii 47 (omega arith)
 
 text_ascii : (k : TokenKind) (text : List ℕ) → IsText k text → IsAscii text
 text_ascii kinds.Word text h = all_ascii is_word_byte word_byte_below text h.1

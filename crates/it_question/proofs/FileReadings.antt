@@ -21,7 +21,9 @@ use Rattle.it_question.specs.Reading.{read_file}
 use Rattle.it_question.specs.WrittenFiles.{spell_file, questions_of}
 use Rattle.it_question.specs.Texts.{question_line_count, with_texts}
 use Rattle.it_question.proofs.FileLemmas.{read_asks, asks_read, read_stops}
-use Rattle.it_question.proofs.LimitLemmas.{file_limited}
+use Rattle.it_question.specs.Tables.{HasSmallTable}
+use Rattle.it_question.proofs.LimitLemmas.{each_of_file, file_limited}
+use Rattle.it_question.proofs.SmallTables.{question_small}
 use Rattle.it_question.proofs.LetterLemmas.{letters_bound, places_length}
 use Rattle.it_question.proofs.ExistenceLemmas.{letters_left}
 
@@ -53,12 +55,20 @@ questions_limited qs lines ys r e are =
     map_twice [] = refl
     map_twice (q ∷ qs) = ap (λ (xs : List BodyView). question_body q ∷ xs) (map_twice qs)
 
+-- what holds of each question that is read holds of those of a file
+of_file : (P : BodyView → Type 0) → ((ls r : List Letter) (ys : List BodyView) → read_file ls ≡ Ok (ys, r) → All P ys) → (bytes : List ℕ) (qs : List QuestionView) → IsFile bytes qs → All (λ (q : QuestionView). P q.body) qs
+of_file P each bytes qs f =
+    let bodies = questions_of f.trees in
+    from_map P (λ (q : QuestionView). q.body) qs (subst (All P) (sym (body_again f.lines bodies) ∙ ap (map (λ (q : QuestionView). q.body)) f.are)
+    (each (letters_of_lines f.lines) [] bodies (asks_read (letters_of_lines f.lines) f.trees f.spelled)))
+
 -- the questions of a file keep the limits
 pub file_limits : (bytes : List ℕ) (qs : List QuestionView) → IsFile bytes qs → All (λ (q : QuestionView). IsQuestion q.body) qs
-file_limits bytes qs f =
-    let bodies = questions_of f.trees in
-    from_map IsQuestion (λ (q : QuestionView). q.body) qs (subst (All IsQuestion) (sym (body_again f.lines bodies) ∙ ap (map (λ (q : QuestionView). q.body)) f.are)
-    (file_limited (letters_of_lines f.lines) [] bodies (asks_read (letters_of_lines f.lines) f.trees f.spelled)))
+file_limits = of_file IsQuestion file_limited
+
+-- and their tables aren't too large
+pub file_has_small_tables : (bytes : List ℕ) (qs : List QuestionView) → IsFile bytes qs → All (λ (q : QuestionView). HasSmallTable q.body) qs
+file_has_small_tables = of_file HasSmallTable (each_of_file HasSmallTable question_small)
 
 -- ---- a fault
 

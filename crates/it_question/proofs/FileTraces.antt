@@ -1,7 +1,8 @@
 -- Questions and files are traced.
-use Rattle.std.proofs.Common.{◌≡◌, ℕ, zero, suc, ◌-◌, Bool, true, false, cond, List, [], ◌∷◌, Option, None, Ok, Err, refl, sym, ap, ◌∙◌, subst, arith}
+use Rattle.std.proofs.Common.{◌≡◌, ℕ, zero, suc, ◌-◌, Bool, true, false, cond, List, [], ◌∷◌, Option, Some, None, Ok, Err, inr, refl, sym, ap, ◌∙◌, subst, arith}
 use Rattle.std.specs.Prelude.{bytes_eq}
 use Rattle.std.proofs.lemmas.Slice.Eq.{bytes_eq-Decides}
+use Rattle.it_syntax.specs.declared.types.Code.{Code}
 use Rattle.it_syntax.specs.declared.types.Code.TheVariants as codes
 use Rattle.it_syntax.specs.NamesViews.{NamesView}
 use Rattle.it_syntax.specs.Letters.{Letter, Word, End, Bad, MarkedLetters, without_mark}
@@ -13,7 +14,7 @@ use Rattle.it_syntax.specs.WrittenRelations.{WrittenRelation, spell_relation, re
 use Rattle.it_syntax.specs.Scopes.{scope_of}
 use Rattle.it_syntax.specs.RelationReading.{read_relation}
 use Rattle.it_syntax.proofs.Traces.{By, Traces, traces_bind, traces_map, letter_then, by_equal_reader, by_renaming}
-use Rattle.it_syntax.proofs.MeasureTraces.{stuck_here, stuck_none}
+use Rattle.it_syntax.proofs.MeasureTraces.{for_same_head, stuck_here, stuck_none, some_list}
 use Rattle.it_syntax.proofs.RelationTraces.{relation_traces}
 use Rattle.it_syntax.proofs.LineEnd.{to_end_traces}
 use Rattle.it_question.specs.Lines.{file_end}
@@ -23,9 +24,10 @@ use Rattle.it_question.specs.Questions as views
 use Rattle.it_question.specs.WrittenQuestions.{WrittenOwnLine, WrittenVerb, Prove, Eliminate, Contain, WrittenQuestion, most_questions, most_variables, most_rates, most_lines}
 use Rattle.it_question.specs.NewNames.{Variable, Rate, no_names, spell_new_names, new_names_of, spell_names_line, names_line_of}
 use Rattle.it_question.specs.WrittenLines.{spell_own, own_of, spell_distinct, distinct_of, rates_env}
-use Rattle.it_question.specs.WrittenRegions.{givens_left, rows_left, containment_of}
+use Rattle.it_question.specs.WrittenRegions.{containment_of}
+use Rattle.it_question.specs.Tables.{givens_alone, size_mark}
 use Rattle.it_question.specs.WrittenFiles.{spell_verb, verb_of, spell_question, question_of, spell_questions, questions_of}
-use Rattle.it_question.specs.Reading.{after_word, read_new_names, read_names_line, read_lines, read_distinct, read_containment, read_proof, read_elimination, read_verb, read_question, read_end, question_then, if_question, read_questions, read_file}
+use Rattle.it_question.specs.Reading.{after_word, read_new_names, read_names_line, read_lines, read_distinct, read_containment, read_proof, read_elimination, unless_marked, read_verb, read_question, read_end, question_then, if_question, read_questions, read_file}
 use Rattle.it_question.proofs.NameTraces.{marked_here, at_word, after_traced, new_names_traces, names_line_traces}
 use Rattle.it_question.proofs.LineTraces.{some_relation, lines_traces}
 use Rattle.it_question.proofs.DistinctTraces.{distinct_traces}
@@ -50,31 +52,49 @@ pub elimination_traces : (v : NamesView) → Traces (read_elimination v) (spell_
 unfolding read_elimination
 elimination_traces v = traces_map (to_end (read_distinct (rates_env v))) views.Eliminate (spell_elimination v) (distinct_of (rates_env v)) (to_end_traces (read_distinct (rates_env v)) (spell_distinct (rates_env v)) (distinct_of (rates_env v)) (distinct_traces (rates_env v)))
 
-abbrev verb_by_word : ℕ → ℕ → NamesView → List ℕ → List Letter → Bool → Bool → Bool → Reads VerbView
-verb_by_word g r v w ls h i j = cond h (read_proof v ls) (cond i (read_elimination v ls) (cond j (read_containment g r v ls) (Err (codes.Word, Word w ∷ ls))))
+-- what is read after a word that may be marked
+abbrev marked_verb : Option Code → (List Letter → Reads VerbView) → List ℕ → List Letter → Reads VerbView
+marked_verb c f w ls = unless_marked c f ls (Word w ∷ ls)
 
-verb_is : (g r : ℕ) (v : NamesView) (w : List ℕ) (h i j : Bool) → bytes_eq w prove_keyword ≡ h → bytes_eq w eliminate_keyword ≡ i → bytes_eq w region_keyword ≡ j → (ls : List Letter) → read_verb g r v (Word w ∷ ls) ≡ verb_by_word g r v w ls h i j
+abbrev verb_by_word : OwnLinesView → NamesView → List ℕ → List Letter → Bool → Bool → Bool → Reads VerbView
+verb_by_word own v w ls h i j = cond h (marked_verb (size_mark v own) (read_proof v) w ls) (cond i (marked_verb (size_mark v (givens_alone own)) (read_elimination v) w ls) (cond j (read_containment own v ls) (Err (codes.Word, Word w ∷ ls))))
+
+verb_is : (own : OwnLinesView) (v : NamesView) (w : List ℕ) (h i j : Bool) → bytes_eq w prove_keyword ≡ h → bytes_eq w eliminate_keyword ≡ i → bytes_eq w region_keyword ≡ j → (ls : List Letter) → read_verb own v (Word w ∷ ls) ≡ verb_by_word own v w ls h i j
 unfolding read_verb
-verb_is g r v w h i j eh ei ej ls = ap (λ (b : Bool). verb_by_word g r v w ls b (bytes_eq w eliminate_keyword) (bytes_eq w region_keyword)) eh ∙ ap (λ (b : Bool). verb_by_word g r v w ls h b (bytes_eq w region_keyword)) ei ∙ ap (λ (b : Bool). verb_by_word g r v w ls h i b) ej
+verb_is own v w h i j eh ei ej ls = ap (λ (b : Bool). verb_by_word own v w ls b (bytes_eq w eliminate_keyword) (bytes_eq w region_keyword)) eh ∙ ap (λ (b : Bool). verb_by_word own v w ls h b (bytes_eq w region_keyword)) ei ∙ ap (λ (b : Bool). verb_by_word own v w ls h i b) ej
 
 some_verb : WrittenVerb
 some_verb = Prove some_relation
 
-verb_by : (g r : ℕ) (v : NamesView) (w : List ℕ) (ls : List Letter) (h i j : Bool) → bytes_eq w prove_keyword ≡ h → bytes_eq w eliminate_keyword ≡ i → bytes_eq w region_keyword ≡ j → By (read_verb g r v) (spell_verb g r v) (verb_of v) (Word w ∷ ls) (verb_by_word g r v w ls h i j)
-verb_by g r v w ls true i j eh ei ej = letter_then (read_verb g r v) (read_proof v) (Word w) (spell_proof v) (spell_verb g r v) (λ x. views.Prove (relation_of (scope_of v true) x)) (verb_of v) Prove ls (verb_is g r v w true i j eh ei ej)
-    (λ z k. ap (λ (t : List ℕ). without_mark (Word t) ∷ spell_proof v z k) (sym ((bytes_eq-Decides w prove_keyword).0 eh))) (λ z. refl) (read_proof v ls) (proof_traces v ls)
-verb_by g r v w ls false true j eh ei ej = letter_then (read_verb g r v) (read_elimination v) (Word w) (spell_elimination v) (spell_verb g r v) (λ l. views.Eliminate (distinct_of (rates_env v) l)) (verb_of v) Eliminate ls (verb_is g r v w false true j eh ei ej)
-    (λ z k. ap (λ (t : List ℕ). without_mark (Word t) ∷ spell_elimination v z k) (sym ((bytes_eq-Decides w eliminate_keyword).0 ei))) (λ z. refl) (read_elimination v ls) (elimination_traces v ls)
-verb_by g r v w ls false false true eh ei ej = letter_then (read_verb g r v) (read_containment g r v) (Word w) (spell_contained g r v) (spell_verb g r v) (containment_of v) (verb_of v) Contain ls (verb_is g r v w false false true eh ei ej)
-    (λ z k. ap (λ (t : List ℕ). without_mark (Word t) ∷ spell_contained g r v z k) (sym ((bytes_eq-Decides w region_keyword).0 ej))) (λ z. refl) (read_containment g r v ls) (containment_traces g r v ls)
-verb_by g r v w ls false false false eh ei ej = stuck_here (read_verb g r v) (spell_verb g r v) some_verb (Word w) ls codes.Word (verb_is g r v w false false false eh ei ej) refl
+-- a keyword that may be marked, and what is traced after it
+keyword_by_mark : {Z : Type 0} (own : OwnLinesView) (v : NamesView) (w keyword : List ℕ) (ls : List Letter) (c : Option Code) (f : List Letter → Reads VerbView) (spell : Z → MarkedLetters → MarkedLetters) (res : Z → VerbView) (make : Z → WrittenVerb) (z : Z)
+    → keyword ≡ w → ((s : List Letter) → read_verb own v (Word w ∷ s) ≡ marked_verb c f w s) → ((x : Z) (k : MarkedLetters) → spell_verb own v (make x) k ≡ (Word keyword, c) ∷ spell x k) → ((x : Z) → verb_of v (make x) ≡ res x)
+    → Traces f spell res → By (read_verb own v) (spell_verb own v) (verb_of v) (Word w ∷ ls) (marked_verb c f w ls)
+keyword_by_mark own v w keyword ls None f spell res make z e is spells value traces = letter_then (read_verb own v) f (Word w) spell (spell_verb own v) res (verb_of v) make ls is
+    (λ x k. spells x k ∙ ap (λ (t : List ℕ). without_mark (Word t) ∷ spell x k) e) value (f ls) (traces ls)
+keyword_by_mark own v w keyword ls (Some c) f spell res make z e is spells value traces = record {
+  tree = make z;
+  front = [];
+  parts = refl;
+  spells = λ k. (spell_verb own v (make z) k, (refl, inr (Word w, spell z k, (spells z k ∙ ap (λ (t : List ℕ). (Word t, Some c) ∷ spell z k) e, refl))));
+  stays = for_same_head (λ t. read_verb own v t ≡ Err (c, t)) (Word w) is;
+}
 
--- what a question wants, where g and r lines may still stand in its regions
-pub verb_traces : (g r : ℕ) (v : NamesView) → Traces (read_verb g r v) (spell_verb g r v) (verb_of v)
+verb_by : (own : OwnLinesView) (v : NamesView) (w : List ℕ) (ls : List Letter) (h i j : Bool) → bytes_eq w prove_keyword ≡ h → bytes_eq w eliminate_keyword ≡ i → bytes_eq w region_keyword ≡ j → By (read_verb own v) (spell_verb own v) (verb_of v) (Word w ∷ ls) (verb_by_word own v w ls h i j)
+verb_by own v w ls true i j eh ei ej = keyword_by_mark own v w prove_keyword ls (size_mark v own) (read_proof v) (spell_proof v) (λ x. views.Prove (relation_of (scope_of v true) x)) Prove some_relation (sym ((bytes_eq-Decides w prove_keyword).0 eh)) (verb_is own v w true i j eh ei ej)
+    (λ x k. refl) (λ x. refl) (proof_traces v)
+verb_by own v w ls false true j eh ei ej = keyword_by_mark own v w eliminate_keyword ls (size_mark v (givens_alone own)) (read_elimination v) (spell_elimination v) (λ l. views.Eliminate (distinct_of (rates_env v) l)) Eliminate some_list (sym ((bytes_eq-Decides w eliminate_keyword).0 ei)) (verb_is own v w false true j eh ei ej)
+    (λ x k. refl) (λ x. refl) (elimination_traces v)
+verb_by own v w ls false false true eh ei ej = letter_then (read_verb own v) (read_containment own v) (Word w) (spell_contained own v) (spell_verb own v) (containment_of v) (verb_of v) Contain ls (verb_is own v w false false true eh ei ej)
+    (λ z k. ap (λ (t : List ℕ). without_mark (Word t) ∷ spell_contained own v z k) (sym ((bytes_eq-Decides w region_keyword).0 ej))) (λ z. refl) (read_containment own v ls) (containment_traces own v ls)
+verb_by own v w ls false false false eh ei ej = stuck_here (read_verb own v) (spell_verb own v) some_verb (Word w) ls codes.Word (verb_is own v w false false false eh ei ej) refl
+
+-- what a question wants, in a question with these own lines
+pub verb_traces : (own : OwnLinesView) (v : NamesView) → Traces (read_verb own v) (spell_verb own v) (verb_of v)
 unfolding read_verb
-verb_traces g r v (Word w ∷ ls) = verb_by g r v w ls (bytes_eq w prove_keyword) (bytes_eq w eliminate_keyword) (bytes_eq w region_keyword) refl refl refl
-verb_traces g r v [] = stuck_none (read_verb g r v) (spell_verb g r v) some_verb refl
-verb_traces g r v (l ∷ ls) = stuck_here (read_verb g r v) (spell_verb g r v) some_verb l ls _ (λ s. refl) refl
+verb_traces own v (Word w ∷ ls) = verb_by own v w ls (bytes_eq w prove_keyword) (bytes_eq w eliminate_keyword) (bytes_eq w region_keyword) refl refl refl
+verb_traces own v [] = stuck_none (read_verb own v) (spell_verb own v) some_verb refl
+verb_traces own v (l ∷ ls) = stuck_here (read_verb own v) (spell_verb own v) some_verb l ls _ (λ s. refl) refl
 
 -- ---- questions
 
@@ -82,7 +102,7 @@ abbrev body_by : NamesView → OwnLinesView → VerbView → BodyView
 body_by v own aim = record { names = v; lines = own; verb = aim }
 
 abbrev verb_then : NamesView → OwnLinesView → List Letter → Reads BodyView
-verb_then v own ls = read_verb (givens_left most_lines own) (rows_left most_lines own) v ls >>= λ aim. Ok (body_by v own aim.0, aim.1)
+verb_then v own ls = read_verb own v ls >>= λ aim. Ok (body_by v own aim.0, aim.1)
 
 -- after the names: lines, and what is wanted
 abbrev Body : Type 0
@@ -92,7 +112,7 @@ abbrev read_body : NamesView → List Letter → Reads BodyView
 read_body v ls = read_lines most_lines most_lines v ls >>= λ own. verb_then v own.0 own.1
 
 abbrev spell_left : NamesView → OwnLinesView → WrittenVerb → MarkedLetters → MarkedLetters
-spell_left v own x k = spell_verb (givens_left most_lines own) (rows_left most_lines own) v x k
+spell_left v own x k = spell_verb own v x k
 
 abbrev spell_body : NamesView → Body → MarkedLetters → MarkedLetters
 spell_body v x k = spell_own most_lines most_lines v x.0 (spell_left v (own_of v x.0) x.1 k)
@@ -102,7 +122,7 @@ body_of v x = body_by v (own_of v x.0) (verb_of v x.1)
 
 body_traces : (v : NamesView) → Traces (read_body v) (spell_body v) (body_of v)
 body_traces v = traces_bind (read_lines most_lines most_lines v) (verb_then v) (read_body v) (spell_own most_lines most_lines v) (spell_left v) (spell_body v) (own_of v) (λ own x. body_by v own (verb_of v x)) (body_of v) (λ own x. (own, x))
-    (record { is = λ ls. refl; spells = λ y z k. refl; value = λ y z. refl; some = some_verb; first = lines_traces most_lines most_lines v; second = λ own. traces_map (read_verb (givens_left most_lines own) (rows_left most_lines own) v) (body_by v own) (spell_left v own) (verb_of v) (verb_traces (givens_left most_lines own) (rows_left most_lines own) v) })
+    (record { is = λ ls. refl; spells = λ y z k. refl; value = λ y z. refl; some = some_verb; first = lines_traces most_lines most_lines v; second = λ own. traces_map (read_verb own v) (body_by v own) (spell_left v own) (verb_of v) (verb_traces own v) })
 
 some_body : Body
 some_body = ([], some_verb)

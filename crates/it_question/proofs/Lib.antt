@@ -12,6 +12,7 @@ pub mod LineLimits
 pub mod RateLimits
 pub mod TryLimits
 pub mod LimitLemmas
+pub mod SmallTables
 pub mod NameTraces
 pub mod LineTraces
 pub mod DistinctTraces
@@ -46,3 +47,5 @@ pub mod FileReadings
 pub mod NumberLemmas
 pub mod QuestionLemmas
 pub mod RegionLemmas
+pub mod StatedLines
+pub mod TableLemmas

@@ -32,7 +32,7 @@ pub given_to_end_answers : (v : NamesView) (x : WrittenGiven) (k : MarkedLetters
 given_to_end_answers v x k =
     let s = scope_of v false in
     to_end_answers (read_given s) (spell_given s x (without_mark End ∷ k)) k (given_of s x)
-    (given_line_answers s x (without_mark End ∷ k) (record { no_comma = tt; no_sign = tt; no_word = tt; no_bar = tt; no_arrow = refl; no_semicolon = refl }))
+    (given_line_answers s x (without_mark End ∷ k) (record { no_comma = tt; no_sign = tt; ends_number = tt; no_bar = tt; no_arrow = refl; no_semicolon = refl }))
 
 -- and a relation
 pub relation_to_end_answers : (v : NamesView) (x : WrittenRelation) (k : MarkedLetters) → Answers (to_end (read_relation (scope_of v true)) (letters (spell_relation (scope_of v true) x (without_mark End ∷ k)))) (spell_relation (scope_of v true) x (without_mark End ∷ k)) (relation_of (scope_of v true) x) k

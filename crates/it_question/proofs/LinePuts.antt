@@ -13,6 +13,8 @@ use Rattle.it_question.specs.WrittenQuestions.{WrittenOwnLine, GivenLine, RowLin
 use Rattle.it_question.specs.NewNames.{NameSortView, Variable, Rate, with_name, no_names, is_taken, new_mark, spell_new, spell_new_more, spell_new_names, with_names, new_names_of, spell_names_line, names_line_of}
 use Rattle.it_question.specs.WrittenTries.{Sets, unnamed_sets, is_whole, part_mark, spell_set, spell_part, with_part, spell_parts, with_parts, try_end_mark, try_mark, spell_tries, tries_of}
 use Rattle.it_question.specs.WrittenLines.{limit_mark, spell_own, own_of, once_mark, spell_once, spell_once_more, spell_distinct, rates_env}
+use Rattle.it_question.specs.Questions.{OwnLinesView}
+use Rattle.it_question.specs.Tables.{givens_alone, size_mark, contain_mark}
 use Rattle.it_question.specs.WrittenRegions.{auxiliaries_left, spell_region, region_of, auxiliary_env, givens_left, rows_left}
 use Rattle.it_question.specs.WrittenFiles.{spell_verb, verb_of, names_of, spell_question, question_of, spell_questions}
 use Rattle.it_question.proofs.Puts.{AreTokens, HasLines, Puts, no_tokens, tokens_then, one_token, token_then, no_lines, line_of_tokens, lines_then, lines_as, line_then}
@@ -110,10 +112,12 @@ region_puts g r v x =
 
 -- ---- questions
 
-verb_puts : (g r : ℕ) (v : NamesView) (x : WrittenVerb) → Puts (HasLines (verb_line_count (verb_of v x))) (spell_verb g r v x)
-verb_puts g r v (Prove x) = line_of_tokens None (token_then (without_mark (Word prove_keyword)) tt (relation_puts (scope_of v true) x))
-verb_puts g r v (Eliminate l) = line_of_tokens None (token_then (without_mark (Word eliminate_keyword)) tt (distinct_puts (rates_env v) l))
-verb_puts g r v (Contain x) =
+verb_puts : (own : OwnLinesView) (v : NamesView) (x : WrittenVerb) → Puts (HasLines (verb_line_count (verb_of v x))) (spell_verb own v x)
+verb_puts own v (Prove x) = line_of_tokens None (token_then (Word prove_keyword, size_mark v own) tt (relation_puts (scope_of v true) x))
+verb_puts own v (Eliminate l) = line_of_tokens None (token_then (Word eliminate_keyword, size_mark v (givens_alone own)) tt (distinct_puts (rates_env v) l))
+verb_puts own v (Contain x) =
+    let g = givens_left most_lines own in
+    let r = rows_left most_lines own in
     let first = region_of v x.first in
     let second = region_of v x.second in
     let aux = auxiliary_env v second.names in
@@ -123,7 +127,7 @@ verb_puts g r v (Contain x) =
     lines_as (region_line_count first + (region_line_count second + (tries + 1))) (verb_line_count (verb_of v (Contain x)))
     (lines_then (region_line_count first) (region_line_count second + (tries + 1)) (region_puts g r v x.first)
     (lines_then (region_line_count second) (tries + 1) (region_puts (givens_left g first.lines) (rows_left r first.lines) v x.second)
-    (lines_then tries 1 (tries_puts most_lines aux env sets x.tries) (line_of_tokens None (one_token (without_mark (Word contain_keyword)) tt)))))
+    (lines_then tries 1 (tries_puts most_lines aux env sets x.tries) (line_of_tokens None (one_token (Word contain_keyword, contain_mark own first) tt)))))
     (omega arith)
 
 kept_rates : (v : NamesView) (ws : List (List ℕ)) → (with_names Variable v ws).rates ≡ v.rates
@@ -157,7 +161,7 @@ question_puts mark x =
     line_then (one_if x.rates + (own_line_count own + verb)) (question_line_count (question_of x)) (line_of_tokens None (token_then (Word vars_keyword, mark) tt (new_names_puts Variable most_variables no_names x.variables)))
     (lines_then (one_if x.rates) (own_line_count own + verb) (names_line_puts Rate most_rates rates_keyword variables x.rates)
     (lines_then (own_line_count own) verb (own_puts most_lines most_lines names x.lines)
-    (verb_puts (givens_left most_lines own) (rows_left most_lines own) names x.verb)))
+    (verb_puts own names x.verb)))
     (omega (arith, rates_lines x))
 
 abbrev pub all_lines : List WrittenQuestion → ℕ

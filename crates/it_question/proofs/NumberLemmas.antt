@@ -13,14 +13,15 @@ use Rattle.it_syntax.specs.declared.types.TokenKind.TheVariants as kinds
 use Rattle.it_syntax.specs.Givens.{GivenView}
 use Rattle.it_syntax.specs.Givens as given_views
 use Rattle.it_syntax.specs.Letters.{Letter, Number, End, MarkedLetters, without_mark, without_marks}
-use Rattle.it_syntax.specs.Meaning.{RelationView}
+use Rattle.it_syntax.specs.Meaning.{RelationView, multiple_from}
 use Rattle.it_syntax.specs.Misspellings.{SpellsUntil}
 use Rattle.it_syntax.specs.NamesViews.{NamesView}
 use Rattle.it_syntax.specs.Scopes.{scope_of, env_of}
 use Rattle.it_syntax.specs.Spans.{letter_of, letters_until, last_letter}
 use Rattle.it_syntax.specs.Spelling.{IsText}
 use Rattle.it_syntax.specs.WrittenMeasures.{Environment, WrittenList, WrittenMeasure, Entropy, EntropyGiven, Mutual, MutualGiven, TermSign, Positive, Negative, sign_letter, mark_surplus, index_or, is_negative, is_minus, spell_more, spell_list, spell_measure, spell_sign}
-use Rattle.it_syntax.specs.WrittenRelations.{Scope, WrittenAtom, Measure, RateOf, WrittenTerm, Zero, Once, Times, WrittenSum, WrittenRelation, most_terms, number_of_terms, spell_atom, spell_term, spell_terms, spell_counted, spell_sum, compare_letter, spell_relation, term_of, terms_of, sum_of, relation_of}
+use Rattle.it_number.specs.Gcd.{lcm}
+use Rattle.it_syntax.specs.WrittenRelations.{Scope, WrittenAtom, Measure, RateOf, WrittenTerm, Zero, Once, Times, Over, WrittenSum, WrittenRelation, most_terms, number_of_terms, denominator_of, spell_atom, spell_term, spell_terms, spell_counted, spell_sum, compare_letter, spell_relation, term_of, terms_of, sum_of, relation_of}
 use Rattle.it_syntax.specs.WrittenGivens.{WrittenGiven, Relation, Markov, Independent, Function, divider_letter, spell_members, spell_bar, spell_given, given_of}
 use Rattle.it_question.specs.Files.{IsFile}
 use Rattle.it_question.specs.Lines.{LineView, AreLines, letters_of_lines, split_lines}
@@ -83,10 +84,11 @@ after_atom : (s : Scope) (q : WrittenAtom) (k : MarkedLetters) → AreSmall (spe
 after_atom s (Measure a) k h = after_measure s.variables a k h
 after_atom s (RateOf r) k h = h
 
-after_term : (s : Scope) (minus : Bool) (t : WrittenTerm) (k : MarkedLetters) → AreSmall (spell_term s t k) → ((term_of s minus t).number < 2 ^ 64) × AreSmall k
-after_term s minus Zero k h = h
-after_term s minus (Once q) k h = (lit< tt, after_atom s q k h)
-after_term s minus (Times n q) k h = (h.0, after_atom s q k h.1)
+after_term : (m : ℕ) (s : Scope) (minus : Bool) (t : WrittenTerm) (k : MarkedLetters) → AreSmall (spell_term m s t k) → ((term_of s minus t).number < 2 ^ 64) × AreSmall k
+after_term m s minus Zero k h = h
+after_term m s minus (Once q) k h = (lit< tt, after_atom s q k h)
+after_term m s minus (Times n q) k h = (h.0, after_atom s q k h.1)
+after_term m s minus (Over n d q) k h = (h.0, after_atom s q k h.1.1)
 
 after_mark : (m : MarkedLetters) → AreSmall (mark_surplus m) → AreSmall m
 after_mark [] h = h
@@ -98,34 +100,38 @@ after_sign : (s : TermSign) (k : MarkedLetters) → AreSmall (without_mark (sign
 after_sign Positive k h = h
 after_sign Negative k h = h
 
-after_terms : (n : ℕ) (s : Scope) (ts : List (TermSign × WrittenTerm)) (k : MarkedLetters) → AreSmall (spell_terms n s ts k) → Every (λ (t : Term). t.number < 2 ^ 64) (terms_of s ts) × AreSmall k
-after_terms n s [] k h = (tt, h)
-after_terms zero s (t ∷ ts) k h =
-    let one = after_term s (is_negative t.0) t.1 (spell_terms zero s ts k) (after_mark (spell_term s t.1 (spell_terms zero s ts k)) (after_sign t.0 _ h)) in
-    let rest = after_terms zero s ts k one.1 in
+after_terms : (n m : ℕ) (s : Scope) (ts : List (TermSign × WrittenTerm)) (k : MarkedLetters) → AreSmall (spell_terms n m s ts k) → Every (λ (t : Term). t.number < 2 ^ 64) (terms_of s ts) × AreSmall k
+after_terms n m s [] k h = (tt, h)
+after_terms zero m s (t ∷ ts) k h =
+    let next = lcm m (denominator_of t.1) in
+    let one = after_term m s (is_negative t.0) t.1 (spell_terms zero next s ts k) (after_mark (spell_term m s t.1 (spell_terms zero next s ts k)) (after_sign t.0 _ h)) in
+    let rest = after_terms zero next s ts k one.1 in
     ((one.0, rest.0), rest.1)
-after_terms (suc n) s (t ∷ ts) k h =
-    let one = after_term s (is_negative t.0) t.1 (spell_terms n s ts k) (after_sign t.0 _ h) in
-    let rest = after_terms n s ts k one.1 in
+after_terms (suc n) m s (t ∷ ts) k h =
+    let next = lcm m (denominator_of t.1) in
+    let one = after_term m s (is_negative t.0) t.1 (spell_terms n next s ts k) (after_sign t.0 _ h) in
+    let rest = after_terms n next s ts k one.1 in
     ((one.0, rest.0), rest.1)
 
-after_counted : (n : ℕ) (s : Scope) (minus : Bool) (t : WrittenTerm) (ts : List (TermSign × WrittenTerm)) (k : MarkedLetters) → AreSmall (spell_counted n s t ts k)
+after_counted : (n m : ℕ) (s : Scope) (minus : Bool) (t : WrittenTerm) (ts : List (TermSign × WrittenTerm)) (k : MarkedLetters) → AreSmall (spell_counted n m s t ts k)
     → (((term_of s minus t).number < 2 ^ 64) × Every (λ (t : Term). t.number < 2 ^ 64) (terms_of s ts)) × AreSmall k
-after_counted zero s minus t ts k h =
-    let one = after_term s minus t (spell_terms zero s ts k) (after_mark (spell_term s t (spell_terms zero s ts k)) h) in
-    let rest = after_terms zero s ts k one.1 in
+after_counted zero m s minus t ts k h =
+    let next = lcm m (denominator_of t) in
+    let one = after_term m s minus t (spell_terms zero next s ts k) (after_mark (spell_term m s t (spell_terms zero next s ts k)) h) in
+    let rest = after_terms zero next s ts k one.1 in
     ((one.0, rest.0), rest.1)
-after_counted (suc n) s minus t ts k h =
-    let one = after_term s minus t (spell_terms n s ts k) h in
-    let rest = after_terms n s ts k one.1 in
+after_counted (suc n) m s minus t ts k h =
+    let next = lcm m (denominator_of t) in
+    let one = after_term m s minus t (spell_terms n next s ts k) h in
+    let rest = after_terms n next s ts k one.1 in
     ((one.0, rest.0), rest.1)
 
 after_first_sign : (o : Option TermSign) (k : MarkedLetters) → AreSmall (spell_sign o k) → AreSmall k
 after_first_sign None k h = h
 after_first_sign (Some s) k h = after_sign s k h
 
-after_sum : (n : ℕ) (s : Scope) (e : WrittenSum) (k : MarkedLetters) → AreSmall (spell_sum n s e k) → Every (λ (t : Term). t.number < 2 ^ 64) (sum_of s e) × AreSmall k
-after_sum n s e k h = after_counted n s (is_minus e.sign) e.first e.more k (after_first_sign e.sign (spell_counted n s e.first e.more k) h)
+after_sum : (n m : ℕ) (s : Scope) (e : WrittenSum) (k : MarkedLetters) → AreSmall (spell_sum n m s e k) → Every (λ (t : Term). t.number < 2 ^ 64) (sum_of s e) × AreSmall k
+after_sum n m s e k h = after_counted n m s (is_minus e.sign) e.first e.more k (after_first_sign e.sign (spell_counted n m s e.first e.more k) h)
 
 after_compare : (s : Sign) (k : MarkedLetters) → AreSmall (without_mark (compare_letter s) ∷ k) → AreSmall k
 after_compare AtLeast k h = h
@@ -134,8 +140,10 @@ after_compare Equal k h = h
 
 after_relation : (s : Scope) (x : WrittenRelation) (k : MarkedLetters) → AreSmall (spell_relation s x k) → HasSmallNumbers (relation_of s x) × AreSmall k
 after_relation s x k h =
-    let left = after_sum most_terms s x.left (without_mark (compare_letter x.sign) ∷ spell_sum (most_terms - number_of_terms x.left) s x.right k) h in
-    let right = after_sum (most_terms - number_of_terms x.left) s x.right k (after_compare x.sign _ left.1) in
+    let n = most_terms - number_of_terms x.left in
+    let m = multiple_from 1 (sum_of s x.left) in
+    let left = after_sum most_terms 1 s x.left (without_mark (compare_letter x.sign) ∷ spell_sum n m s x.right k) h in
+    let right = after_sum n m s x.right k (after_compare x.sign _ left.1) in
     ((left.0, right.0), right.1)
 
 -- ---- `given` and `row` lines
@@ -208,16 +216,18 @@ after_tries n aux env sets (x ∷ xs) k h = after_tries (n - 1) aux env sets xs 
 after_region : (g r : ℕ) (v : NamesView) (x : WrittenRegion) (k : MarkedLetters) → AreSmall (spell_region g r v x k) → LinesHaveSmallNumbers (region_of v x).lines × AreSmall k
 after_region g r v x k h = after_own g r (names_line_of Variable v x.auxiliaries) x.lines k (after_names_line Variable (auxiliaries_left v) aux_keyword v x.auxiliaries _ h)
 
-verb_small : (g r : ℕ) (v : NamesView) (x : WrittenVerb) (k : MarkedLetters) → AreSmall (spell_verb g r v x k) → VerbHasSmallNumbers (verb_of v x) × AreSmall k
-verb_small g r v (Prove x) k h = after_relation (scope_of v true) x (without_mark End ∷ k) h
-verb_small g r v (Eliminate l) k h = (tt, after_rates (index_or (rates_env v l.first) ∷ []) l.more h)
+verb_small : (own : OwnLinesView) (v : NamesView) (x : WrittenVerb) (k : MarkedLetters) → AreSmall (spell_verb own v x k) → VerbHasSmallNumbers (verb_of v x) × AreSmall k
+verb_small own v (Prove x) k h = after_relation (scope_of v true) x (without_mark End ∷ k) h
+verb_small own v (Eliminate l) k h = (tt, after_rates (index_or (rates_env v l.first) ∷ []) l.more h)
   where
     after_rates : (seen : List ℕ) (ws : List (List ℕ)) → AreSmall (spell_once_more (rates_env v) seen ws (without_mark End ∷ k)) → AreSmall k
     after_rates seen [] h = h
     after_rates seen (w ∷ ws) h = after_rates (seen ++ index_or (rates_env v w) ∷ []) ws h
-verb_small g r v (Contain x) k h =
+verb_small own v (Contain x) k h =
     let first = region_of v x.first in
     let second = region_of v x.second in
+    let g = givens_left most_lines own in
+    let r = rows_left most_lines own in
     let one = after_region g r v x.first _ h in
     let two = after_region (givens_left g first.lines) (rows_left r first.lines) v x.second _ one.1 in
     ((one.0, two.0), after_tries most_lines (auxiliary_env v second.names) (env_of first.names) (unnamed_sets second.auxiliaries) x.tries _ two.1)
@@ -228,7 +238,7 @@ after_question x k h =
     let names = names_of x in
     let own = own_of names x.lines in
     let lines = after_own most_lines most_lines names x.lines _ (after_names_line Rate most_rates rates_keyword variables x.rates _ (after_new_names Variable most_variables no_names x.variables _ h)) in
-    let verb = verb_small (givens_left most_lines own) (rows_left most_lines own) names x.verb k lines.1 in
+    let verb = verb_small own names x.verb k lines.1 in
     ((lines.0, verb.0), verb.1)
 
 questions_small : (n : ℕ) (xs : List WrittenQuestion) (k : MarkedLetters) → AreSmall (spell_questions n xs k) → Every QuestionHasSmallNumbers (questions_of xs)

@@ -1,7 +1,7 @@
 -- A line of tokens alone holds no comment, tab, line feed or carriage return, so it stays as it is when it is read as a line.
 use Rattle.std.proofs.Common.{◌≡◌, ℕ, ◌==◌, ◌&&◌, Bool, true, false, not, cond, List, [], ◌∷◌, ◌++◌, map, None, refl, sym, ap, ◌∙◌, subst}
 use Rattle.it_syntax.specs.declared.types.Symbol.{Symbol}
-use Rattle.it_syntax.specs.declared.types.Symbol.TheVariants.{LeftParen, RightParen, Comma, Semicolon, Bar, Plus, Minus, Arrow, AtLeast, AtMost, Equal, Assign}
+use Rattle.it_syntax.specs.declared.types.Symbol.TheVariants.{LeftParen, RightParen, Comma, Semicolon, Bar, Plus, Minus, Arrow, AtLeast, AtMost, Equal, Assign, Slash}
 use Rattle.it_syntax.specs.declared.types.Token.{Token}
 use Rattle.it_syntax.specs.declared.types.TokenKind.{TokenKind}
 use Rattle.it_syntax.specs.declared.types.TokenKind.TheVariants as kinds
@@ -53,6 +53,7 @@ symbol_plain AtLeast = (refl, (refl, tt))
 symbol_plain AtMost = (refl, (refl, tt))
 symbol_plain Equal = (refl, tt)
 symbol_plain Assign = (refl, (refl, tt))
+symbol_plain Slash = (refl, tt)
 
 text_plain : (k : TokenKind) (text : List ℕ) → IsText k text → AreAll is_plain text
 unfolding is_word_byte

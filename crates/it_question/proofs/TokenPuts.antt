@@ -7,7 +7,9 @@ use Rattle.it_syntax.specs.declared.types.Sign.TheVariants.{AtLeast, AtMost, Equ
 use Rattle.it_syntax.specs.declared.types.Symbol.TheVariants as symbols
 use Rattle.it_syntax.specs.Letters.{Word, Number, Sym, MarkedLetters, without_mark}
 use Rattle.it_syntax.specs.WrittenMeasures.{Environment, WrittenList, WrittenMeasure, Entropy, EntropyGiven, Mutual, MutualGiven, TermSign, Positive, Negative, entropy_text, mutual_text, name_mark, unknown_mark, sign_letter, spell_name, spell_more, spell_list, spell_measure, spell_sign}
-use Rattle.it_syntax.specs.WrittenRelations.{Scope, WrittenAtom, Measure, RateOf, WrittenTerm, Zero, Once, Times, WrittenSum, WrittenRelation, most_terms, number_of_terms, spell_atom, spell_term, spell_terms, spell_counted, spell_sum, compare_letter, spell_relation}
+use Rattle.it_number.specs.Gcd.{lcm}
+use Rattle.it_syntax.specs.Meaning.{multiple_from}
+use Rattle.it_syntax.specs.WrittenRelations.{Scope, WrittenAtom, Measure, RateOf, WrittenTerm, Zero, Once, Times, Over, WrittenSum, WrittenRelation, multiple_with, multiple_mark, denominator_of, sum_of, most_terms, number_of_terms, spell_atom, spell_term, spell_terms, spell_counted, spell_sum, compare_letter, spell_relation}
 use Rattle.it_syntax.specs.WrittenGivens.{WrittenChain, WrittenIndependence, WrittenFunction, WrittenGiven, Relation, Markov, Independent, Function, markov_text, indep_text, func_text, of_text, divider_letter, spell_members, spell_chain, spell_bar, spell_independence, spell_function, spell_given}
 use Rattle.it_question.proofs.Puts.{AreTokens, Puts, no_tokens, tokens_then, one_token, token_then, tokens_over}
 
@@ -41,10 +43,11 @@ atom_puts : (s : Scope) (q : WrittenAtom) → Puts AreTokens (spell_atom s q)
 atom_puts s (Measure a) = measure_puts s.variables a
 atom_puts s (RateOf r) = one_token (Word r.text, unknown_mark (s.rates r.text)) tt
 
-term_puts : (s : Scope) (t : WrittenTerm) → Puts AreTokens (spell_term s t)
-term_puts s Zero = one_token (without_mark (Number 0)) tt
-term_puts s (Once q) = atom_puts s q
-term_puts s (Times n q) = token_then (without_mark (Number n)) tt (atom_puts s q)
+term_puts : (m : ℕ) (s : Scope) (t : WrittenTerm) → Puts AreTokens (spell_term m s t)
+term_puts m s Zero = one_token (without_mark (Number 0)) tt
+term_puts m s (Once q) = atom_puts s q
+term_puts m s (Times n q) = token_then (without_mark (Number n)) tt (atom_puts s q)
+term_puts m s (Over n d q) = token_then (without_mark (Number n)) tt (token_then (without_mark (Sym symbols.Slash)) tt (token_then (Number d, multiple_mark (multiple_with m d)) tt (atom_puts s q)))
 
 atom_some : (s : Scope) (q : WrittenAtom) (k : MarkedLetters) → spell_atom s q k ≡ [] → ⊥
 atom_some s (Measure (Entropy a)) k e = absurd cc
@@ -53,30 +56,31 @@ atom_some s (Measure (Mutual a b)) k e = absurd cc
 atom_some s (Measure (MutualGiven a b c)) k e = absurd cc
 atom_some s (RateOf r) k e = absurd cc
 
-term_some : (s : Scope) (t : WrittenTerm) (k : MarkedLetters) → spell_term s t k ≡ [] → ⊥
-term_some s Zero k e = absurd cc
-term_some s (Once q) k e = atom_some s q k e
-term_some s (Times n q) k e = absurd cc
+term_some : (m : ℕ) (s : Scope) (t : WrittenTerm) (k : MarkedLetters) → spell_term m s t k ≡ [] → ⊥
+term_some m s Zero k e = absurd cc
+term_some m s (Once q) k e = atom_some s q k e
+term_some m s (Times n q) k e = absurd cc
+term_some m s (Over n d q) k e = absurd cc
 
 sign_token : (s : TermSign) → AreTokens (sign_letter s ∷ [])
 sign_token Positive = tt
 sign_token Negative = tt
 
-terms_puts : (n : ℕ) (s : Scope) (ts : List (TermSign × WrittenTerm)) → Puts AreTokens (spell_terms n s ts)
-terms_puts n s [] = no_tokens
-terms_puts zero s (t ∷ ts) = token_then (without_mark (sign_letter t.0)) (sign_token t.0) (tokens_over (tokens_then (term_puts s t.1) (terms_puts zero s ts)) (term_some s t.1 (spell_terms zero s ts [])))
-terms_puts (suc n) s (t ∷ ts) = token_then (without_mark (sign_letter t.0)) (sign_token t.0) (tokens_then (term_puts s t.1) (terms_puts n s ts))
+terms_puts : (n m : ℕ) (s : Scope) (ts : List (TermSign × WrittenTerm)) → Puts AreTokens (spell_terms n m s ts)
+terms_puts n m s [] = no_tokens
+terms_puts zero m s (t ∷ ts) = token_then (without_mark (sign_letter t.0)) (sign_token t.0) (tokens_over (tokens_then (term_puts m s t.1) (terms_puts zero (lcm m (denominator_of t.1)) s ts)) (term_some m s t.1 (spell_terms zero (lcm m (denominator_of t.1)) s ts [])))
+terms_puts (suc n) m s (t ∷ ts) = token_then (without_mark (sign_letter t.0)) (sign_token t.0) (tokens_then (term_puts m s t.1) (terms_puts n (lcm m (denominator_of t.1)) s ts))
 
-counted_puts : (n : ℕ) (s : Scope) (t : WrittenTerm) (ts : List (TermSign × WrittenTerm)) → Puts AreTokens (spell_counted n s t ts)
-counted_puts zero s t ts = tokens_over (tokens_then (term_puts s t) (terms_puts zero s ts)) (term_some s t (spell_terms zero s ts []))
-counted_puts (suc n) s t ts = tokens_then (term_puts s t) (terms_puts n s ts)
+counted_puts : (n m : ℕ) (s : Scope) (t : WrittenTerm) (ts : List (TermSign × WrittenTerm)) → Puts AreTokens (spell_counted n m s t ts)
+counted_puts zero m s t ts = tokens_over (tokens_then (term_puts m s t) (terms_puts zero (lcm m (denominator_of t)) s ts)) (term_some m s t (spell_terms zero (lcm m (denominator_of t)) s ts []))
+counted_puts (suc n) m s t ts = tokens_then (term_puts m s t) (terms_puts n (lcm m (denominator_of t)) s ts)
 
 signed_puts : {s : MarkedLetters → MarkedLetters} (o : Option TermSign) → Puts AreTokens s → Puts AreTokens (λ k. spell_sign o (s k))
 signed_puts None p = p
 signed_puts (Some s) p = token_then (without_mark (sign_letter s)) (sign_token s) p
 
-sum_puts : (n : ℕ) (s : Scope) (e : WrittenSum) → Puts AreTokens (spell_sum n s e)
-sum_puts n s e = signed_puts e.sign (counted_puts n s e.first e.more)
+sum_puts : (n m : ℕ) (s : Scope) (e : WrittenSum) → Puts AreTokens (spell_sum n m s e)
+sum_puts n m s e = signed_puts e.sign (counted_puts n m s e.first e.more)
 
 compare_token : (s : Sign) → AreTokens (compare_letter s ∷ [])
 compare_token AtLeast = tt
@@ -84,7 +88,7 @@ compare_token AtMost = tt
 compare_token Equal = tt
 
 pub relation_puts : (s : Scope) (x : WrittenRelation) → Puts AreTokens (spell_relation s x)
-relation_puts s x = tokens_then (sum_puts most_terms s x.left) (token_then (without_mark (compare_letter x.sign)) (compare_token x.sign) (sum_puts (most_terms - number_of_terms x.left) s x.right))
+relation_puts s x = tokens_then (sum_puts most_terms 1 s x.left) (token_then (without_mark (compare_letter x.sign)) (compare_token x.sign) (sum_puts (most_terms - number_of_terms x.left) (multiple_from 1 (sum_of s x.left)) s x.right))
 
 -- ---- constraints
 

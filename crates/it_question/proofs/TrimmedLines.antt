@@ -2,7 +2,7 @@
 use Rattle.std.proofs.Common.{◌≡◌, ℕ, ◌+◌, ◌-◌, Bool, false, List, [], ◌∷◌, ◌++◌, length, take, drop, None, refl, sym, ap, ◌∙◌, subst, length-append, append_assoc, arith}
 use Rattle.std.proofs.lemmas.List.{take_at, drop_at}
 use Rattle.it_syntax.specs.declared.types.Symbol.{Symbol}
-use Rattle.it_syntax.specs.declared.types.Symbol.TheVariants.{LeftParen, RightParen, Comma, Semicolon, Bar, Plus, Minus, Arrow, AtLeast, AtMost, Equal, Assign}
+use Rattle.it_syntax.specs.declared.types.Symbol.TheVariants.{LeftParen, RightParen, Comma, Semicolon, Bar, Plus, Minus, Arrow, AtLeast, AtMost, Equal, Assign, Slash}
 use Rattle.it_syntax.specs.declared.types.Token.{Token}
 use Rattle.it_syntax.specs.declared.types.TokenKind.{TokenKind}
 use Rattle.it_syntax.specs.declared.types.TokenKind.TheVariants as kinds
@@ -37,6 +37,7 @@ symbol_solid AtLeast = (refl, (refl, tt))
 symbol_solid AtMost = (refl, (refl, tt))
 symbol_solid Equal = (refl, tt)
 symbol_solid Assign = (refl, (refl, tt))
+symbol_solid Slash = (refl, tt)
 
 text_solid : (k : TokenKind) (text : List ℕ) → IsText k text → AreSolid text
 unfolding is_word_byte
@@ -60,6 +61,7 @@ symbol_bytes AtLeast = (62, 61 ∷ [], refl)
 symbol_bytes AtMost = (60, 61 ∷ [], refl)
 symbol_bytes Equal = (61, [], refl)
 symbol_bytes Assign = (58, 61 ∷ [], refl)
+symbol_bytes Slash = (47, [], refl)
 
 text_bytes : (k : TokenKind) (text : List ℕ) → IsText k text → HasBytes text
 text_bytes kinds.Word [] h = absurd h.0
@@ -83,6 +85,7 @@ ends_trimmed (kinds.Symbol AtLeast) rest h = tt
 ends_trimmed (kinds.Symbol AtMost) rest h = tt
 ends_trimmed (kinds.Symbol Equal) rest h = tt
 ends_trimmed (kinds.Symbol Assign) rest h = tt
+ends_trimmed (kinds.Symbol Slash) rest h = tt
 
 -- its letter
 letter_by : TokenKind → List ℕ → Letter

@@ -3,6 +3,7 @@ pub mod Cursors
 pub mod Bodies
 pub mod Questions
 pub mod Keywords
+pub mod Tables
 pub mod WrittenQuestions
 pub mod NewNames
 pub mod WrittenLines

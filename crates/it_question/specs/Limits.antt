@@ -12,14 +12,14 @@ pub record AreLinesOver (v : NamesView) (own : OwnLinesView) : Type 0 where
   pub givens : All (IsGivenOf (length v.variables)) own.givens
   pub rows : All (IsRelationOf (length v.variables) (length v.rates)) own.rows
 
--- a region of a question with these names: their variables, and after them at most 4 auxiliaries, 8 in all
+-- a region of a question with these names: their variables, and after them at most 4 auxiliaries, 10 in all
 pub record IsRegionOf (v : NamesView) (r : RegionView) : Type 0 where
   pub own : List (List ℕ)
   pub variables : r.names.variables ≡ v.variables ++ own
   pub rates : r.names.rates ≡ v.rates
   pub counted : r.auxiliaries ≡ length own
   pub few : length own ≤ 4
-  pub few_variables : length r.names.variables ≤ 8
+  pub few_variables : length r.names.variables ≤ 10
   pub lines : AreLinesOver r.names r.lines
 
 -- four sets of n variables
@@ -39,10 +39,10 @@ IsVerbOver v (Prove r) = IsRelationOf (length v.variables) (length v.rates) r
 IsVerbOver v (Eliminate rates) = AreRatesOf (length v.rates) rates
 IsVerbOver v (Contain first second tries) = IsRegionOf v first × IsRegionOf v second × (length tries ≤ 64) × All (IsTryOf (length first.names.variables)) tries
 
--- 1 to 8 variables and at most 16 rates, and lines over them
+-- 1 to 10 variables and at most 16 rates, and lines over them
 pub record IsQuestion (q : BodyView) : Type 0 where
   pub some : 1 ≤ length q.names.variables
-  pub few : length q.names.variables ≤ 8
+  pub few : length q.names.variables ≤ 10
   pub few_rates : length q.names.rates ≤ 16
   pub lines : AreLinesOver q.names q.lines
   pub verb : IsVerbOver q.names q.verb

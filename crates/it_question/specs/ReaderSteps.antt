@@ -1,5 +1,7 @@
 -- What the readers' own functions say of their steps. No public clause cites it.
-use Rattle.std.specs.Prelude.{◌≡◌, ℕ, ◌≤◌, List, ◌++◌, length, ◌==◌, Bool, not, [], ◌∷◌, None, ◌⊎◌}
+use Rattle.std.specs.Prelude.{◌≡◌, ℕ, ◌≤◌, List, ◌++◌, length, ◌==◌, Bool, not, [], ◌∷◌, Option, Some, None, ◌⊎◌, if◌then◌else◌}
+use Rattle.it_syntax.specs.declared.types.Code.{Code}
+use Rattle.it_syntax.specs.declared.types.Code.TheVariants as codes
 use Rattle.it_question.specs.Questions.{OwnLinesView, VerbView, Prove, Eliminate, Contain}
 use Rattle.it_syntax.specs.Misspellings.{SpellsUntil}
 use Rattle.it_question.specs.Lines.{plain_text, LineView, IsLine, HasTokens}
@@ -23,3 +25,7 @@ abbrev pub IsLineAdded : ℕ → List ℕ → List LineView → List LineView �
 IsLineAdded n bytes old new =
     (SpellsUntil 0 (plain_text bytes) [] None × (new ≡ old))
     ⊎ ((l : LineView) × (new ≡ old ++ l ∷ []) × IsLine n bytes l × HasTokens l)
+
+-- against the word of a verb whose question's table is too large
+abbrev pub mark_if_large : Bool → Option Code
+mark_if_large large = if large then Some codes.Large else None

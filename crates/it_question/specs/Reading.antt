@@ -17,6 +17,8 @@ use Rattle.it_question.specs.NewNames.{NameSortView, Variable, Rate, with_name, 
 use Rattle.it_question.specs.WrittenTries.{Sets, unnamed_sets, is_named, with_set, is_whole, sets_view}
 use Rattle.it_question.specs.WrittenLines.{no_lines, is_among, rates_env}
 use Rattle.it_question.specs.WrittenRegions.{auxiliaries_left, auxiliary_env, givens_left, rows_left}
+use Rattle.it_syntax.specs.declared.types.Code.{Code}
+use Rattle.it_question.specs.Tables.{givens_alone, size_mark, contain_mark}
 use Rattle.it_question.specs.WrittenQuestions.{most_questions, most_variables, most_rates, most_lines}
 
 -- a word that must stand there
@@ -236,20 +238,28 @@ read_region g r v ls = do
   own ← read_lines g r names.0 names.1
   Ok (record { names = names.0; auxiliaries = length names.0.variables - length v.variables; lines = own.0 }, own.1)
 
--- a line that is this word alone
-unfoldable pub read_word_line : List ℕ → List Letter → Reads (Unit {0})
-read_word_line text ls = do
-  x ← read_word text ls
-  line_end x.1
+-- what is read by `f` after a letter that nothing is said against
+abbrev pub unless_marked : {A : Type 0} → Option Code → (List Letter → Reads A) → List Letter → List Letter → Reads A
+unless_marked None f after ls = f after
+unless_marked (Some c) f after ls = Err (c, ls)
 
--- after the first `region`
-unfoldable pub read_containment : ℕ → ℕ → NamesView → List Letter → Reads VerbView
-read_containment g r v ls = do
-  first ← read_region g r v ls
+-- `contain`, against which something may be said, and its line's end
+abbrev pub contain_or_fault : Option Code → Option (List Letter) → List Letter → Reads (Unit {0})
+contain_or_fault mark (Some after) ls = unless_marked mark line_end after ls
+contain_or_fault mark None ls = no_rule ls
+
+-- the line of `contain`
+unfoldable pub read_contain : Option Code → List Letter → Reads (Unit {0})
+read_contain mark ls = contain_or_fault mark (after_word contain_keyword ls) ls
+
+-- after the first `region`, in a question with these own lines
+unfoldable pub read_containment : OwnLinesView → NamesView → List Letter → Reads VerbView
+read_containment own v ls = do
+  first ← read_region (givens_left most_lines own) (rows_left most_lines own) v ls
   x ← read_word region_keyword first.1
-  second ← read_region (givens_left g first.0.lines) (rows_left r first.0.lines) v x.1
+  second ← read_region (givens_left (givens_left most_lines own) first.0.lines) (rows_left (rows_left most_lines own) first.0.lines) v x.1
   tries ← read_tries most_lines (auxiliary_env v second.0.names) (env_of first.0.names) (unnamed_sets second.0.auxiliaries) second.1
-  e ← read_word_line contain_keyword tries.1
+  e ← read_contain (contain_mark own first.0) tries.1
   Ok (Contain first.0 second.0 tries.0, e.1)
 
 -- ---- questions and files
@@ -266,10 +276,13 @@ read_elimination v ls = do
   x ← to_end (read_distinct (rates_env v)) ls
   Ok (Eliminate x.0, x.1)
 
--- the lines of a verb, with g `given` and r `row` lines allowed in its regions together
-unfoldable pub read_verb : ℕ → ℕ → NamesView → List Letter → Reads VerbView
-read_verb g r v (Word w ∷ ls) = if bytes_eq w prove_keyword then read_proof v ls else (if bytes_eq w eliminate_keyword then read_elimination v ls else (if bytes_eq w region_keyword then read_containment g r v ls else no_rule (Word w ∷ ls)))
-read_verb g r v ls = no_rule ls
+-- the lines of a verb, in a question with these own lines
+unfoldable pub read_verb : OwnLinesView → NamesView → List Letter → Reads VerbView
+read_verb own v (Word w ∷ ls) =
+    if bytes_eq w prove_keyword then unless_marked (size_mark v own) (read_proof v) ls (Word w ∷ ls) else
+    if bytes_eq w eliminate_keyword then unless_marked (size_mark v (givens_alone own)) (read_elimination v) ls (Word w ∷ ls) else
+    if bytes_eq w region_keyword then read_containment own v ls else no_rule (Word w ∷ ls)
+read_verb own v ls = no_rule ls
 
 -- after `vars`
 unfoldable pub read_question : List Letter → Reads BodyView
@@ -277,7 +290,7 @@ read_question ls = do
   variables ← to_end (read_new_names Variable most_variables no_names) ls
   names ← read_names_line Rate most_rates rates_keyword variables.0 variables.1
   own ← read_lines most_lines most_lines names.0 names.1
-  aim ← read_verb (givens_left most_lines own.0) (rows_left most_lines own.0) names.0 own.1
+  aim ← read_verb own.0 names.0 own.1
   Ok (record { names = names.0; lines = own.0; verb = aim.0 }, aim.1)
 
 -- the file's end

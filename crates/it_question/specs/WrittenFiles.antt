@@ -6,18 +6,19 @@ use Rattle.it_syntax.specs.WrittenRelations.{spell_relation, relation_of}
 use Rattle.it_syntax.specs.Scopes.{scope_of}
 use Rattle.it_question.specs.Lines.{file_end}
 use Rattle.it_question.specs.Keywords.{vars_keyword, rates_keyword, prove_keyword, eliminate_keyword}
-use Rattle.it_question.specs.Questions.{VerbView, BodyView}
+use Rattle.it_question.specs.Questions.{OwnLinesView, VerbView, BodyView}
+use Rattle.it_question.specs.Tables.{givens_alone, size_mark}
 use Rattle.it_question.specs.WrittenQuestions.{most_questions, most_variables, most_rates, most_lines, WrittenVerb, Eliminate, Contain, Prove, WrittenQuestion}
 use Rattle.it_question.specs.NewNames.{Rate, Variable, no_names, spell_new_names, new_names_of, spell_names_line, names_line_of}
 use Rattle.it_question.specs.WrittenLines.{limit_mark, spell_own, own_of, spell_distinct, distinct_of, rates_env}
-use Rattle.it_question.specs.WrittenRegions.{givens_left, rows_left, spell_containment, containment_of}
+use Rattle.it_question.specs.WrittenRegions.{spell_containment, containment_of}
 use Rattle.it_question.specs.Questions as views
 
--- the lines of a verb, with g `given` and r `row` lines allowed in its regions together
-abbrev pub spell_verb : ℕ → ℕ → NamesView → WrittenVerb → MarkedLetters → MarkedLetters
-spell_verb g r v (Prove x) k = without_mark (Word prove_keyword) ∷ spell_relation (scope_of v true) x (without_mark End ∷ k)
-spell_verb g r v (Eliminate l) k = without_mark (Word eliminate_keyword) ∷ spell_distinct (rates_env v) l (without_mark End ∷ k)
-spell_verb g r v (Contain x) k = spell_containment g r v x k
+-- the lines of a verb, in a question with these own lines
+abbrev pub spell_verb : OwnLinesView → NamesView → WrittenVerb → MarkedLetters → MarkedLetters
+spell_verb own v (Prove x) k = (Word prove_keyword, size_mark v own) ∷ spell_relation (scope_of v true) x (without_mark End ∷ k)
+spell_verb own v (Eliminate l) k = (Word eliminate_keyword, size_mark v (givens_alone own)) ∷ spell_distinct (rates_env v) l (without_mark End ∷ k)
+spell_verb own v (Contain x) k = spell_containment own v x k
 
 -- what the lines of a verb say, in a question with these names
 abbrev pub verb_of : NamesView → WrittenVerb → VerbView
@@ -38,7 +39,7 @@ spell_question x k =
     spell_new_names Variable most_variables no_names x.variables
     (without_mark End ∷ spell_names_line Rate most_rates rates_keyword variables x.rates
     (spell_own most_lines most_lines names x.lines
-    (spell_verb (givens_left most_lines own) (rows_left most_lines own) names x.verb k)))
+    (spell_verb own names x.verb k)))
 
 -- what a question asks, without its text
 abbrev pub question_of : WrittenQuestion → BodyView

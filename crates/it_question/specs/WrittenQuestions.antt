@@ -10,7 +10,7 @@ most_questions = 1000
 
 -- how many variables a question has, or a region with its auxiliaries, at most
 abbrev pub most_variables : ℕ
-most_variables = 8
+most_variables = 10
 
 -- how many auxiliaries a region has, at most
 abbrev pub most_auxiliaries : ℕ

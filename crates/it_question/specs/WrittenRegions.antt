@@ -6,6 +6,7 @@ use Rattle.it_syntax.specs.WrittenMeasures.{Environment}
 use Rattle.it_syntax.specs.Scopes.{env_of}
 use Rattle.it_question.specs.Keywords.{region_keyword, aux_keyword, contain_keyword}
 use Rattle.it_question.specs.Questions.{OwnLinesView, RegionView, VerbView}
+use Rattle.it_question.specs.Tables.{contain_mark}
 use Rattle.it_question.specs.WrittenQuestions.{most_variables, most_auxiliaries, most_lines, WrittenRegion, WrittenContainment}
 use Rattle.it_question.specs.NewNames.{Variable, spell_names_line, names_line_of}
 use Rattle.it_question.specs.WrittenLines.{spell_own, own_of}
@@ -41,15 +42,17 @@ givens_left g own = g - length own.givens
 abbrev pub rows_left : ℕ → OwnLinesView → ℕ
 rows_left r own = r - length own.rows
 
--- two regions and the `try` lines, up to `contain`
-abbrev pub spell_containment : ℕ → ℕ → NamesView → WrittenContainment → MarkedLetters → MarkedLetters
-spell_containment g r v x k =
+-- two regions and the `try` lines, up to `contain`, in a question with these own lines
+abbrev pub spell_containment : OwnLinesView → NamesView → WrittenContainment → MarkedLetters → MarkedLetters
+spell_containment own v x k =
     let first = region_of v x.first in
     let second = region_of v x.second in
+    let g = givens_left most_lines own in
+    let r = rows_left most_lines own in
     spell_region g r v x.first
     (spell_region (givens_left g first.lines) (rows_left r first.lines) v x.second
     (spell_tries most_lines (auxiliary_env v second.names) (env_of first.names) (unnamed_sets second.auxiliaries) x.tries
-    (without_mark (Word contain_keyword) ∷ without_mark End ∷ k)))
+    ((Word contain_keyword, contain_mark own first) ∷ without_mark End ∷ k)))
 
 -- what two regions and the `try` lines say, in a question with these names
 abbrev pub containment_of : NamesView → WrittenContainment → VerbView

@@ -3,9 +3,12 @@
 ghost use Rattle.std.specs.Prelude.{◌≡◌, ◌++◌, [], ◌∷◌, map, OnOk, IfErr};
 ghost use Rattle.it_syntax.specs.declared.rest.Stop.TheVariants.{Memory};
 ghost use Rattle.it_syntax.specs.Gives.{GivesBy};
+ghost use Rattle.it_space.specs.Spaces.{IsSpace};
+ghost use Rattle.it_demand.specs.LineDemands.{space_of};
+ghost use Rattle.it_question.specs.Limits.{AreLinesOver};
 ghost use Rattle.it_question.specs.Bodies.{body_view};
 ghost use Rattle.it_question.specs.Cursors.{letters_left};
-ghost use Rattle.it_question.specs.Questions.{verb_view};
+ghost use Rattle.it_question.specs.Questions.{own_lines_view, verb_view};
 ghost use Rattle.it_question.specs.Reading.{read_proof, read_elimination, read_verb, read_question, read_end, read_file};
 
 use crate::bodies::Body;
@@ -14,9 +17,10 @@ use crate::names::{names_line, names_to_end};
 use crate::own::own_lines;
 use crate::parts::relation;
 use crate::rates::rates;
-use crate::regions::{MOST_VARIABLES, containment};
+use crate::regions::{MOST_LINES, MOST_VARIABLES, containment};
 use crate::sorts::NameSort;
-use crate::types::Verb;
+use crate::tables::{elimination_is_large, proof_is_large};
+use crate::types::{OwnLines, Verb};
 use crate::words::{ELIMINATE, PROVE, RATES, REGION, VARS, after_word};
 use it_syntax::Names;
 use it_syntax::rest::{Piece, Stop};
@@ -28,9 +32,6 @@ const MOST_QUESTIONS: usize = 1000;
 
 /// The most rates of a question.
 const MOST_RATES: usize = 16;
-
-/// The most `given` lines of a question, and the most `row` lines.
-const MOST_LINES: usize = 64;
 
 /// What is to be proved, after its `prove`.
 #[tactic(auto, unfolding(crate::specs::Reading::read_proof))]
@@ -50,28 +51,35 @@ fn elimination(alloc: Global, cursor: &mut Cursor<'_>, names: &Names) -> Result<
     Ok(Verb::Eliminate(rates))
 }
 
-/// What is asked, if so many more lines of each kind may stand in regions.
+/// What is asked, in a question with these own lines.
 #[tactic(auto, unfolding(crate::specs::Reading::read_verb))]
 fn verb(
     alloc: Global,
     cursor: &mut Cursor<'_>,
     names: &Names,
-    givens: usize,
-    rows: usize,
+    lines: &OwnLines,
 ) -> Result<Verb, Stop>
-    ensures { GivesBy verb_view result (letters_left cursor.new) (read_verb givens rows names.now (letters_left cursor.old)) }
+    requires space { IsSpace (space_of names.now) }
+    requires lines { AreLinesOver names.now (own_lines_view lines.now) }
+    ensures { GivesBy verb_view result (letters_left cursor.new) (read_verb (own_lines_view lines.now) names.now (letters_left cursor.old)) }
 {
     match cursor.front() {
         Some((Piece::Word(word), after)) => {
             if word == PROVE {
+                if proof_is_large(alloc, names, lines)? {
+                    return Err(Stop::Fault(Code::Large));
+                }
                 *cursor = after;
                 proof(alloc, cursor, names)
             } else if word == ELIMINATE {
+                if elimination_is_large(alloc, names, lines)? {
+                    return Err(Stop::Fault(Code::Large));
+                }
                 *cursor = after;
                 elimination(alloc, cursor, names)
             } else if word == REGION {
                 *cursor = after;
-                containment(alloc, cursor, names, givens, rows)
+                containment(alloc, cursor, names, lines)
             } else {
                 Err(Stop::Fault(Code::Word))
             }
@@ -89,9 +97,7 @@ fn question(alloc: Global, cursor: &mut Cursor<'_>) -> Result<Body, Stop>
     names_to_end(cursor, &mut names, NameSort::Variable, MOST_VARIABLES)?;
     names_line(cursor, &mut names, NameSort::Rate, MOST_RATES, RATES)?;
     let lines = own_lines(alloc, cursor, &names, MOST_LINES, MOST_LINES)?;
-    let givens = lines.givens_left(MOST_LINES);
-    let rows = lines.rows_left(MOST_LINES);
-    let verb = verb(alloc, cursor, &names, givens, rows)?;
+    let verb = verb(alloc, cursor, &names, &lines)?;
     Ok(Body { names, lines, verb })
 }
 

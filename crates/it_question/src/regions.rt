@@ -5,8 +5,12 @@ ghost use Rattle.it_syntax.specs.Gives.{Gives, GivesBy};
 ghost use Rattle.it_question.specs.declared.sorts.NameSort.TheVariants as sorts;
 ghost use Rattle.it_question.specs.Keywords.{aux_keyword};
 ghost use Rattle.it_question.specs.Cursors.{letters_left};
-ghost use Rattle.it_question.specs.Questions.{verb_view, region_view};
-ghost use Rattle.it_question.specs.Reading.{read_names_line, read_region, read_word_line, read_containment};
+ghost use Rattle.it_question.specs.Questions.{own_lines_view, verb_view, region_view};
+ghost use Rattle.it_space.specs.Spaces.{IsSpace};
+ghost use Rattle.it_demand.specs.LineDemands.{space_of};
+ghost use Rattle.it_question.specs.Limits.{AreLinesOver, IsRegionOf};
+ghost use Rattle.it_question.specs.Tables.{contain_mark};
+ghost use Rattle.it_question.specs.Reading.{read_names_line, read_region, read_contain, read_containment};
 ghost use Rattle.it_question.specs.Sorts.{HasRoom};
 ghost use Rattle.it_question.specs.NewNames.{Variable};
 ghost use Rattle.it_question.specs.WrittenRegions.{auxiliaries_left};
@@ -15,18 +19,23 @@ use crate::cursor::Cursor;
 use crate::names::names_line;
 use crate::own::own_lines;
 use crate::sorts::NameSort;
+use crate::tables::containment_is_large;
 use crate::tries::{Regions, tries};
-use crate::types::{Region, Verb};
-use crate::words::{AUXILIARIES, CONTAIN, REGION, line_end, word};
+use crate::types::{OwnLines, Region, Verb};
+use crate::words::{AUXILIARIES, CONTAIN, REGION, after_word, line_end, word};
 use it_syntax::Names;
 use it_syntax::rest::Stop;
+use it_syntax::types::Code;
 use std::alloc::Global;
 
 /// The most variables of a question, with a region's own.
-pub const MOST_VARIABLES: usize = 8;
+pub const MOST_VARIABLES: usize = 10;
 
 /// The most variables that a region has of its own.
 const MOST_AUXILIARIES: usize = 4;
+
+/// The most `given` lines of a question, and the most `row` lines.
+pub const MOST_LINES: usize = 64;
 
 /// The most `try` lines of a question.
 const MOST_TRIES: usize = 64;
@@ -99,30 +108,52 @@ fn region(
     })
 }
 
-/// A line that is this word alone.
-#[tactic(auto, unfolding(crate::specs::Reading::read_word_line))]
-fn word_line(cursor: &mut Cursor<'_>, text: &[u8]) -> Result<(), Stop>
-    ensures { Gives result (letters_left cursor.new) (read_word_line text.now (letters_left cursor.old)) }
+/// The line of `contain`, in a question with these own lines about this first region.
+#[tactic(auto, unfolding(crate::specs::Reading::read_contain))]
+fn contain(
+    alloc: Global,
+    cursor: &mut Cursor<'_>,
+    names: &Names,
+    lines: &OwnLines,
+    first: &Region,
+) -> Result<(), Stop>
+    requires space { IsSpace (space_of names.now) }
+    requires lines { AreLinesOver names.now (own_lines_view lines.now) }
+    requires region { IsRegionOf names.now (region_view first.now) }
+    requires few_givens { length lines.now.givens.items + length first.now.lines.givens.items ≤ 64 }
+    requires few_rows { length lines.now.rows.items + length first.now.lines.rows.items ≤ 64 }
+    ensures { Gives result (letters_left cursor.new) (read_contain (contain_mark (own_lines_view lines.now) (region_view first.now)) (letters_left cursor.old)) }
 {
-    word(cursor, text)?;
-    line_end(cursor)
+    match after_word(*cursor, CONTAIN) {
+        Some(after) => {
+            if containment_is_large(alloc, names, lines, first)? {
+                return Err(Stop::Fault(Code::Large));
+            }
+            *cursor = after;
+            line_end(cursor)
+        }
+        None => Err(cursor.fault()),
+    }
 }
 
-/// Two regions, sets to be tried and `contain`, after the first `region`.
+/// Two regions, sets to be tried and `contain`, after the first `region`, in a question with these own lines.
 #[tactic(auto, unfolding(crate::specs::Reading::read_containment))]
 pub fn containment(
     alloc: Global,
     cursor: &mut Cursor<'_>,
     names: &Names,
-    givens: usize,
-    rows: usize,
+    lines: &OwnLines,
 ) -> Result<Verb, Stop>
-    ensures { GivesBy verb_view result (letters_left cursor.new) (read_containment givens rows names.now (letters_left cursor.old)) }
+    requires space { IsSpace (space_of names.now) }
+    requires lines { AreLinesOver names.now (own_lines_view lines.now) }
+    ensures { GivesBy verb_view result (letters_left cursor.new) (read_containment (own_lines_view lines.now) names.now (letters_left cursor.old)) }
 {
-    let first = region(alloc, cursor, names, givens, rows)?;
+    let most_givens = lines.givens_left(MOST_LINES);
+    let most_rows = lines.rows_left(MOST_LINES);
+    let first = region(alloc, cursor, names, most_givens, most_rows)?;
     word(cursor, REGION)?;
-    let givens = first.lines.givens_left(givens);
-    let rows = first.lines.rows_left(rows);
+    let givens = first.lines.givens_left(most_givens);
+    let rows = first.lines.rows_left(most_rows);
     let second = region(alloc, cursor, names, givens, rows)?;
     let regions = Regions {
         question: names,
@@ -130,7 +161,7 @@ pub fn containment(
         second: &second.names,
     };
     let tries = tries(alloc, cursor, regions, second.auxiliaries, MOST_TRIES)?;
-    word_line(cursor, CONTAIN)?;
+    contain(alloc, cursor, names, lines, &first)?;
     Ok(Verb::Contain {
         first,
         second,

@@ -5,10 +5,10 @@ use Rattle.std.proofs.lemmas.Nat.{or_lt}
 use Rattle.it_syntax.specs.declared.types.Atom.{Atom}
 use Rattle.it_syntax.specs.declared.types.Atom.TheVariants.{Nothing, Entropy, Mutual, Rate}
 use Rattle.it_syntax.specs.declared.types.Term.{Term}
-use Rattle.it_syntax.specs.Meaning.{RelationView, atom_at, side_at, Compares, Holds, IsAtomOf}
+use Rattle.it_syntax.specs.Meaning.{RelationView, multiple_of, times_of, atom_at, side_at, Compares, Holds, IsAtomOf}
 use Rattle.it_syntax.specs.Givens.{GivenView, Relation, Markov, Independent, Function, union_of, links, links_from, sum_given, IsTrueAt, IsRelationOf, IsGivenOf}
-use Rattle.it_canon.proofs.ChainLemmas.{union_below}
-use Rattle.it_canon.proofs.QuestionLemmas.{more_rates}
+use Rattle.it_demand.proofs.ChainLemmas.{union_below}
+use Rattle.it_demand.proofs.LimitLemmas.{more_rates}
 use Rattle.it_region.specs.Regions.{AgreeOnCommon}
 
 module _ (common rates n m : ℕ) (p q : ℕ → ℤ) (h : AgreeOnCommon common rates n m p q) where
@@ -20,13 +20,13 @@ module _ (common rates n m : ℕ) (p q : ℕ → ℤ) (h : AgreeOnCommon common 
       (ap₂ (λ x y. x +ℤ y) (h.on_sets (bit_or (bit_or left right) given) (or_lt common (bit_or left right) given (or_lt common left right k.0 k.1) k.2)) (h.on_sets given k.2))
   atom_same (Rate r) k = h.on_rates r k
 
-  side_same : (ts : List Term) → All (λ t. IsAtomOf common rates t.atom) ts → side_at m q ts ≡ side_at n p ts
-  side_same [] a = refl
-  side_same (t ∷ ts) a = ap₂ (λ x y. cond t.negative (neg_ℤ (pos t.number)) (pos t.number) *ℤ x +ℤ y)
-      (atom_same t.atom (All-head (λ (t : Term). IsAtomOf common rates t.atom) t ts a)) (side_same ts (All-tail (λ (t : Term). IsAtomOf common rates t.atom) t ts a))
+  side_same : (k : ℕ) (ts : List Term) → All (λ t. IsAtomOf common rates t.atom) ts → side_at m q k ts ≡ side_at n p k ts
+  side_same k [] a = refl
+  side_same k (t ∷ ts) a = ap₂ (λ x y. cond t.negative (neg_ℤ (pos (times_of k t))) (pos (times_of k t)) *ℤ x +ℤ y)
+      (atom_same t.atom (All-head (λ (t : Term). IsAtomOf common rates t.atom) t ts a)) (side_same k ts (All-tail (λ (t : Term). IsAtomOf common rates t.atom) t ts a))
 
   pub holds_same : (r : RelationView) → IsRelationOf common rates r → Holds n p r → Holds m q r
-  holds_same r k t = subst₂ (λ (x y : ℤ). Compares r.sign x y) (sym (side_same r.left k.left)) (sym (side_same r.right k.right)) t
+  holds_same r k t = subst₂ (λ (x y : ℤ). Compares r.sign x y) (sym (side_same (multiple_of r) r.left k.left)) (sym (side_same (multiple_of r) r.right k.right)) t
 
   zero_same : (a : Atom) → IsAtomOf common rates a → atom_at n p a ≡ pos 0 → atom_at m q a ≡ pos 0
   zero_same a k t = atom_same a k ∙ t

@@ -11,9 +11,9 @@ use Rattle.it_space.specs.Spaces.{size_of}
 use Rattle.it_question.specs.Limits.{IsQuestion, IsVerbOver, IsRegionOf}
 use Rattle.it_question.specs.Questions.{RegionView, VerbView, Prove, Eliminate, Contain, BodyView}
 use Rattle.it_space.specs.Bounds.{IsSmall}
-use Rattle.it_canon.specs.Demands.{LineDemand, States, AreStated}
-use Rattle.it_canon.specs.QuestionDemands.{space_of}
-use Rattle.it_canon.proofs.ZipLemmas.{zip-right}
+use Rattle.it_demand.specs.Demands.{LineDemand, States, AreStated}
+use Rattle.it_demand.specs.LineDemands.{space_of}
+use Rattle.it_demand.proofs.ZipLemmas.{zip-right}
 use Rattle.it_region.specs.declared.types.Pair.{Pair}
 use Rattle.it_region.specs.Obligations.{own_demands}
 use Rattle.it_region.specs.Pairs.{IsPair, IsPairOf, PairsBy, Pairs, FitsPair, candidate_sets}
@@ -22,11 +22,11 @@ use Rattle.it_region.specs.declared.types.Candidate.{Candidate}
 use Rattle.it_region.proofs.PullingLemmas.{sets_within, length-sets}
 use Rattle.std.proofs.lemmas.List.{length-take-le}
 
-mass_within : (ts : Terms) → All (λ t. unsigned_abs t.1 ≤ 2 ^ 74) ts → row_mass ts ≤ length ts * 2 ^ 74
+mass_within : (ts : Terms) → All (λ t. unsigned_abs t.1 ≤ 2 ^ 106) ts → row_mass ts ≤ length ts * 2 ^ 106
 mass_within [] a = omega arith
 mass_within (t ∷ ts) a =
-    let here = All-head (λ (t : ℕ × ℤ). unsigned_abs t.1 ≤ 2 ^ 74) t ts a in
-    let rest = mass_within ts (All-tail (λ (t : ℕ × ℤ). unsigned_abs t.1 ≤ 2 ^ 74) t ts a) in
+    let here = All-head (λ (t : ℕ × ℤ). unsigned_abs t.1 ≤ 2 ^ 106) t ts a in
+    let rest = mass_within ts (All-tail (λ (t : ℕ × ℤ). unsigned_abs t.1 ≤ 2 ^ 106) t ts a) in
     omega (arith, here, rest)
 
 -- a row from a question file has room to be added up in one place

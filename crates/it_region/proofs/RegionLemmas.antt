@@ -1,18 +1,18 @@
 -- Where the obligations hold at a point of the first region, the pulled-back point is one of the second.
 use Rattle.std.proofs.Common.{◌≡◌, ℕ, ◌+◌, ◌≤◌, ℤ, pos, ◌≤ℤ◌, List, [], ◌∷◌, length, ap, subst, ◌∙◌, arith, All}
 use Rattle.std.proofs.lemmas.List.Elements.{All-nil, All-cons, All-append}
-use Rattle.it_canon.specs.Targets.{demanded_forms}
+use Rattle.it_demand.specs.Targets.{demanded_forms}
 use Rattle.it_polymatroid.specs.Certificates.{Form}
 use Rattle.it_polymatroid.proofs.Images.{pulled_polymatroid}
 use Rattle.it_question.specs.Limits.{IsQuestion, IsVerbOver}
 use Rattle.it_question.specs.Questions.{RegionView, Contain, BodyView}
 use Rattle.it_syntax.specs.Meaning.{Holds}
 use Rattle.it_syntax.specs.Givens.{IsTrueAt}
-use Rattle.it_canon.specs.Demands.{LineDemand}
-use Rattle.it_canon.specs.QuestionDemands.{given_demands, row_demands}
-use Rattle.it_canon.proofs.MetLemmas.{IsSatisfied, givens_satisfied, rows_satisfied}
-use Rattle.it_canon.proofs.ZipLemmas.{All-parts}
-use Rattle.it_canon.proofs.QuestionLemmas.{wider_set}
+use Rattle.it_demand.specs.Demands.{LineDemand}
+use Rattle.it_demand.specs.LineDemands.{given_demands, row_demands}
+use Rattle.it_demand.proofs.MetLemmas.{IsSatisfied, givens_satisfied, rows_satisfied}
+use Rattle.it_demand.proofs.ZipLemmas.{All-parts}
+use Rattle.it_demand.proofs.LimitLemmas.{wider_set}
 use Rattle.it_region.specs.Pulling.{substituted_sets, pulled_coordinate, pulled_map}
 use Rattle.it_region.specs.Regions.{AgreeOnCommon}
 use Rattle.it_region.specs.Obligations.{pulled_form, demand_obligations, own_demands, AreFormsAtLeastZero}

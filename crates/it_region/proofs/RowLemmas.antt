@@ -3,7 +3,7 @@ use Rattle.std.proofs.Common.{◌≡◌, ◌↔◌, ℕ, ◌+◌, ◌-◌, ◌<�
 use Rattle.std.proofs.lemmas.Int.{ints}
 use Rattle.std.proofs.lemmas.List.{drop_all}
 use Rattle.std.proofs.lemmas.List.Elements.{All-nil, All-cons, All-head, All-tail, All-append}
-use Rattle.it_canon.specs.Targets.{demanded_forms}
+use Rattle.it_demand.specs.Targets.{demanded_forms}
 use Rattle.it_number.proofs.Integers.{zring}
 use Rattle.it_space.proofs.ListLemmas.{drop_item}
 use Rattle.it_space.specs.declared.spaces.Space.{Space}
@@ -14,9 +14,9 @@ use Rattle.it_space.specs.Problems.{Meets, IsMet, AreMet}
 use Rattle.it_space.specs.Rows.{Terms, IsCanonical, IsUpTo, value, row_mass}
 use Rattle.it_space.specs.Spaces.{size_of}
 use Rattle.it_polymatroid.specs.Certificates.{Form}
-use Rattle.it_canon.specs.QuestionDemands.{AreAtLeastZero}
-use Rattle.it_canon.specs.Coefficients.{dense_form, largest, signed_by, IsFormAdded}
-use Rattle.it_canon.proofs.ZipLemmas.{All-parts, zip-same, zip-right}
+use Rattle.it_demand.specs.LineDemands.{AreAtLeastZero}
+use Rattle.it_demand.specs.Coefficients.{dense_form, largest, signed_by, IsFormAdded}
+use Rattle.it_demand.proofs.ZipLemmas.{All-parts, zip-same, zip-right}
 use Rattle.it_region.specs.Obligations.{pulled_form, constraint_obligations, IsPulledRow, ArePulledRows}
 
 -- ---- the terms of one row

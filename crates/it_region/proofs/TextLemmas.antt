@@ -3,7 +3,7 @@ use Rattle.std.proofs.Common.{◌≡◌, ℕ, ◌<◌, ◌≤◌, ◌^◌, ℤ, 
 use Rattle.std.specs.List.{AllZip}
 use Rattle.std.proofs.Math.Seq.{take-append_seam}
 use Rattle.std.proofs.lemmas.List.{length-take-le, take-take}
-use Rattle.it_canon.specs.Targets.{demanded_forms}
+use Rattle.it_demand.specs.Targets.{demanded_forms}
 use Rattle.it_space.specs.declared.spaces.Space.{Space}
 use Rattle.it_space.specs.declared.problems.Kind.{Kind}
 use Rattle.it_space.specs.declared.problems.Kind.TheVariants.{Inequality, Equation}
@@ -12,10 +12,10 @@ use Rattle.it_space.specs.Rows.{Terms, value}
 use Rattle.it_space.specs.Spaces.{size_of}
 use Rattle.it_polymatroid.specs.Certificates.{Form}
 use Rattle.it_question.specs.Questions.{BodyView, RegionView}
-use Rattle.it_canon.specs.Demands.{LineDemand, AreStated}
-use Rattle.it_canon.specs.QuestionDemands.{AreRowsOf}
-use Rattle.it_canon.proofs.UniqueRows.{told_by_values, zip-told}
-use Rattle.it_canon.proofs.ZipLemmas.{zip-append}
+use Rattle.it_demand.specs.Demands.{LineDemand, AreStated}
+use Rattle.it_demand.specs.LineDemands.{AreRowsOf}
+use Rattle.it_demand.proofs.UniqueRows.{told_by_values, zip-told}
+use Rattle.it_demand.proofs.ZipLemmas.{zip-append}
 use Rattle.it_region.specs.declared.types.Candidate.{Candidate}
 use Rattle.it_region.specs.declared.types.Pair.{Pair}
 use Rattle.it_region.specs.Obligations.{pulled_form, demand_obligations, constraint_obligations, own_demands, obligations, ArePartsOf, IsPulledRow, ArePulledRows}

@@ -7,9 +7,9 @@ use Rattle.it_space.specs.Rows.{Terms, IsCanonical, IsUpTo, value}
 use Rattle.it_space.specs.Spaces.{size_of}
 use Rattle.it_polymatroid.specs.Certificates.{Form}
 use Rattle.it_question.specs.Questions.{RegionView, BodyView}
-use Rattle.it_canon.specs.Targets.{demanded_forms}
-use Rattle.it_canon.specs.Demands.{LineDemand}
-use Rattle.it_canon.specs.QuestionDemands.{given_demands, row_demands}
+use Rattle.it_demand.specs.Targets.{demanded_forms}
+use Rattle.it_demand.specs.Demands.{LineDemand}
+use Rattle.it_demand.specs.LineDemands.{given_demands, row_demands}
 use Rattle.it_region.specs.Pulling.{substituted_sets, pulled_coordinate}
 
 -- the form at a map pulled back, which has at each coordinate c the value at f c

@@ -5,8 +5,9 @@ use Rattle.it_space.specs.Rows.{IsUpTo, row_mass}
 use Rattle.it_space.specs.Spaces.{IsSpace, size_of}
 use Rattle.it_polymatroid.specs.Certificates.{Form}
 use Rattle.it_question.specs.Questions.{RegionView, VerbView, Contain, BodyView}
-use Rattle.it_canon.specs.Demands.{AreStated}
-use Rattle.it_canon.specs.QuestionDemands.{space_of, question_demands}
+use Rattle.it_demand.specs.Demands.{AreStated}
+use Rattle.it_canon.specs.QuestionDemands.{question_demands}
+use Rattle.it_demand.specs.LineDemands.{space_of}
 use Rattle.it_region.specs.declared.types.Pair.{Pair}
 use Rattle.it_region.specs.declared.types.Candidate.{Candidate}
 use Rattle.it_region.specs.Pulling.{substituted_sets, pulled_coordinate}

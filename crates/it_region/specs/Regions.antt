@@ -2,7 +2,8 @@
 use Rattle.std.specs.Prelude.{◌≡◌, ℕ, ◌+◌, ◌<◌, ◌^◌, ℤ, length}
 use Rattle.it_polymatroid.specs.Polymatroid.{IsPolymatroid}
 use Rattle.it_question.specs.Questions.{OwnLinesView, RegionView, BodyView}
-use Rattle.it_canon.specs.QuestionDemands.{AreTrueAt, lines_with}
+use Rattle.it_canon.specs.QuestionDemands.{AreTrueAt}
+use Rattle.it_question.specs.Tables.{lines_with}
 
 -- entropies of the region's variables and values of the rates, as one map from coordinates, that meet all lines
 pub record IsIn (own : OwnLinesView) (r : RegionView) (p : ℕ → ℤ) : Type 0 where

@@ -3,9 +3,9 @@ ghost use Rattle.std.specs.Prelude.{◌≡◌, ℕ, ℤ, pos, ◌+◌, ◌<◌, 
 ghost use Rattle.it_space.specs.Problems.{AreMet};
 ghost use Rattle.it_space.specs.Rows.{IsUpTo, value, row_mass};
 ghost use Rattle.it_space.specs.Spaces.{size_of};
-ghost use Rattle.it_canon.specs.QuestionDemands.{AreAtLeastZero};
-ghost use Rattle.it_canon.specs.Coefficients.{largest, signed_by, IsFormAdded};
-ghost use Rattle.it_canon.specs.Targets.{demanded_forms};
+ghost use Rattle.it_demand.specs.LineDemands.{AreAtLeastZero};
+ghost use Rattle.it_demand.specs.Coefficients.{largest, signed_by, IsFormAdded};
+ghost use Rattle.it_demand.specs.Targets.{demanded_forms};
 ghost use Rattle.it_region.specs.Obligations.{pulled_form, constraint_obligations, ArePulledRows, IsPulledRow};
 ghost use Rattle.it_region.specs.Pulling.{singles};
 ghost use Rattle.it_region.specs.PairSteps.{AreSetsFor};

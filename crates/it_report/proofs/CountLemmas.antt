@@ -9,9 +9,10 @@ use Rattle.it_syntax.specs.declared.types.Sign.TheVariants.{AtLeast, AtMost, Equ
 use Rattle.it_syntax.specs.Meaning.{RelationView}
 use Rattle.it_syntax.specs.Givens.{GivenView}
 use Rattle.it_question.specs.Questions.{BodyView, RegionView}
-use Rattle.it_canon.specs.Demands.{Demand, LineDemand, demands, demand_of, parts_from, parts_of, kind_of}
-use Rattle.it_canon.specs.QuestionDemands.{given_demands, row_demands, line_demands}
-use Rattle.it_canon.specs.Targets.{demanded_forms}
+use Rattle.it_demand.specs.Demands.{Demand, LineDemand, demands, demand_of, parts_from, parts_of, kind_of}
+use Rattle.it_demand.specs.LineDemands.{given_demands, row_demands}
+use Rattle.it_question.specs.Tables.{line_demands}
+use Rattle.it_demand.specs.Targets.{demanded_forms}
 use Rattle.it_region.specs.Obligations.{pulled_form, demand_obligations, obligations}
 use Rattle.it_region.specs.Pulling.{substituted_sets, pulled_coordinate}
 use Rattle.it_certificate.specs.Obligations.{form_count, obligation_count, target_count}

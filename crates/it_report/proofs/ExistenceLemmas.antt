@@ -21,8 +21,9 @@ use Rattle.it_syntax.specs.Meaning.{RelationView}
 use Rattle.it_question.specs.Limits.{IsQuestion, IsVerbOver, IsRegionOf}
 use Rattle.it_question.specs.Questions.{BodyView, QuestionView, RegionView, VerbView, Prove, Eliminate, Contain}
 use Rattle.it_question.proofs.NumberLemmas.{VerbHasSmallNumbers, QuestionHasSmallNumbers, file_has_small_numbers}
-use Rattle.it_canon.specs.Demands.{LineDemand}
-use Rattle.it_canon.specs.QuestionDemands.{space_of, problem_names, problem_names_by, given_demands, row_demands, AreRowsOf}
+use Rattle.it_demand.specs.Demands.{LineDemand}
+use Rattle.it_demand.specs.LineDemands.{given_demands, row_demands, AreRowsOf, space_of}
+use Rattle.it_question.specs.Tables.{problem_names, problem_names_by}
 use Rattle.it_canon.proofs.DemandForms.{given_lines_up_to, row_lines_up_to}
 use Rattle.it_canon.proofs.ExistenceLemmas.{question_has_problem, relation_has_rows, rows_there}
 use Rattle.it_canon.proofs.SmallForms.{IsFormUpTo}
@@ -81,14 +82,14 @@ module _ (q : BodyView) (k : IsQuestion q) (small : QuestionHasSmallNumbers q) w
       let r = over.1 in
       let givens = given_lines_up_to n m (1 + length q.lines.givens) second.lines.givens (every_of (IsGivenOf n) second.lines.givens r.lines.givens) counts.1.0 in
       let lines = row_lines_up_to n m (1 + length q.lines.rows) second.lines.rows (every_of (IsRelationOf n m) second.lines.rows r.lines.rows) counts.1.1 in
-      let forms = every-append (λ (d : LineDemand). IsFormUpTo (2 ^ n - 1 + m) (2 ^ 74) d.demand.form) (given_demands n (1 + length q.lines.givens) second.lines.givens) (row_demands n (1 + length q.lines.rows) second.lines.rows) givens lines in
+      let forms = every-append (λ (d : LineDemand). IsFormUpTo (2 ^ n - 1 + m) (2 ^ 106) d.demand.form) (given_demands n (1 + length q.lines.givens) second.lines.givens) (row_demands n (1 + length q.lines.rows) second.lines.rows) givens lines in
       let b = question_has_problem q k small in
       let p : ProblemView = b.0 in
       let same : space_of first.names ≡ p.space = sym (b.1.space ∙ ap (λ v. space_of (problem_names_by q.names v)) about) in
       let f : ℕ → ℕ = pulled_coordinate (length first.names.variables) n (substituted_sets (length q.names.variables) parts) in
       let fs : List Form = obligations q first second parts in
       let rows = rows_there p.space b.1.limits.space fs
-      (subst (λ (s : Space). Every (IsFormUpTo (size_of s) (2 ^ 74)) fs) same
+      (subst (λ (s : Space). Every (IsFormUpTo (size_of s) (2 ^ 106)) fs) same
       (obligations_up_to (2 ^ n - 1 + m) (size_of (space_of first.names)) f (places_within first second parts over.0 r h) (own_demands q second) forms)) in
       let v : Verdict = proofs_verdict p rows.0 ws in (
         Judged (problem_names q) v,

@@ -13,10 +13,12 @@ use Rattle.it_syntax.specs.NamesViews.{NamesView}
 use Rattle.it_syntax.specs.declared.types.Sign.{Sign}
 use Rattle.it_syntax.specs.declared.types.Sign.TheVariants.{AtLeast, AtMost, Equal}
 use Rattle.it_question.specs.Questions.{BodyView, QuestionView, RegionView, VerbView, Prove, Eliminate, Contain}
-use Rattle.it_canon.specs.Canonical.{form_of}
-use Rattle.it_canon.specs.Demands.{AreStated, kind_of}
-use Rattle.it_canon.specs.Targets.{targets, demanded_forms}
-use Rattle.it_canon.specs.QuestionDemands.{space_of, problem_names, problem_names_by, question_demands, AreRowsOf, IsProblemOf, Poses}
+use Rattle.it_demand.specs.Canonical.{form_of}
+use Rattle.it_demand.specs.Demands.{AreStated, kind_of}
+use Rattle.it_demand.specs.Targets.{targets, demanded_forms}
+use Rattle.it_demand.specs.LineDemands.{AreRowsOf, space_of}
+use Rattle.it_question.specs.Tables.{problem_names, problem_names_by}
+use Rattle.it_canon.specs.QuestionDemands.{question_demands, IsProblemOf, Poses}
 use Rattle.it_region.specs.declared.types.Candidate.{Candidate}
 use Rattle.it_region.specs.declared.types.Pair.{Pair}
 use Rattle.it_region.specs.Obligations.{obligations, ArePartsOf, ArePulledRows}

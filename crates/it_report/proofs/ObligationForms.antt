@@ -1,13 +1,13 @@
 -- The obligations of a containment are forms of small coefficients, as the demands of its second region are.
 use Rattle.std.proofs.Common.{◌≡◌, ℕ, ◌+◌, ◌≤◌, ◌^◌, ℤ, ◌+ℤ◌, ◌*ℤ◌, unsigned_abs, List, [], ◌∷◌, refl, ap, ◌∙◌, arith}
 use Rattle.std.specs.List.{AllByRecursion as Every}
-use Rattle.it_canon.specs.Targets.{demanded_forms}
+use Rattle.it_demand.specs.Targets.{demanded_forms}
 use Rattle.it_space.specs.declared.problems.Kind.{Kind}
 use Rattle.it_space.specs.declared.problems.Kind.TheVariants.{Inequality, Equation}
 use Rattle.it_space.specs.Rows.{Terms, value, row_mass}
 use Rattle.it_space.proofs.EveryLemmas.{every-append}
 use Rattle.it_polymatroid.specs.Certificates.{Form}
-use Rattle.it_canon.specs.Demands.{LineDemand}
+use Rattle.it_demand.specs.Demands.{LineDemand}
 use Rattle.it_canon.proofs.SmallForms.{IsFormUpTo, form-negation}
 use Rattle.it_region.specs.Obligations.{pulled_form, demand_obligations}
 
@@ -38,12 +38,12 @@ form_moved n m a f g within x = record {
     moved-mass (t ∷ ts) = ap (λ (k : ℕ). unsigned_abs t.1 + k) (moved-mass ts)
 
 -- the obligations that demands give, at the places of a smaller space's coordinates
-pub obligations_up_to : (n m : ℕ) (f : ℕ → ℕ) → ((c : ℕ) → c ≤ n → f c ≤ m) → (ds : List LineDemand) → Every (λ (d : LineDemand). IsFormUpTo n (2 ^ 74) d.demand.form) ds → Every (IsFormUpTo m (2 ^ 74)) (demand_obligations f ds)
+pub obligations_up_to : (n m : ℕ) (f : ℕ → ℕ) → ((c : ℕ) → c ≤ n → f c ≤ m) → (ds : List LineDemand) → Every (λ (d : LineDemand). IsFormUpTo n (2 ^ 106) d.demand.form) ds → Every (IsFormUpTo m (2 ^ 106)) (demand_obligations f ds)
 obligations_up_to n m f within [] h = tt
 obligations_up_to n m f within (d ∷ ds) h =
-    every-append (IsFormUpTo m (2 ^ 74)) (demanded_forms d.demand.kind (pulled_form f d.demand.form)) (demand_obligations f ds)
-    (by_kind d.demand.kind (pulled_form f d.demand.form) (form_moved n m (2 ^ 74) f d.demand.form within h.0)) (obligations_up_to n m f within ds h.1)
+    every-append (IsFormUpTo m (2 ^ 106)) (demanded_forms d.demand.kind (pulled_form f d.demand.form)) (demand_obligations f ds)
+    (by_kind d.demand.kind (pulled_form f d.demand.form) (form_moved n m (2 ^ 106) f d.demand.form within h.0)) (obligations_up_to n m f within ds h.1)
   where
-    by_kind : (kind : Kind) (g : Form) → IsFormUpTo m (2 ^ 74) g → Every (IsFormUpTo m (2 ^ 74)) (demanded_forms kind g)
+    by_kind : (kind : Kind) (g : Form) → IsFormUpTo m (2 ^ 106) g → Every (IsFormUpTo m (2 ^ 106)) (demanded_forms kind g)
     by_kind Inequality g x = (x, tt)
-    by_kind Equation g x = (x, (form-negation m (2 ^ 74) g x, tt))
+    by_kind Equation g x = (x, (form-negation m (2 ^ 106) g x, tt))

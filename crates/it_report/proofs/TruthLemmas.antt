@@ -12,17 +12,19 @@ use Rattle.it_space.specs.Spaces.{size_of}
 use Rattle.it_space.proofs.OptionLemmas.{some_same}
 use Rattle.it_polymatroid.specs.Certificates.{Form}
 use Rattle.it_polymatroid.specs.Polymatroid.{IsPolymatroid}
-use Rattle.it_syntax.specs.Meaning.{RelationView, side_at}
+use Rattle.it_syntax.specs.Meaning.{RelationView, multiple_of, side_at}
 use Rattle.it_syntax.specs.NamesViews.{NamesView}
 use Rattle.it_question.specs.Limits.{IsQuestion}
 use Rattle.it_question.specs.Questions.{BodyView, QuestionView, RegionView, VerbView, Prove, Eliminate, Contain}
 use Rattle.it_question.proofs.FileReadings.{file_limits}
-use Rattle.it_canon.specs.Canonical.{form_of}
-use Rattle.it_canon.specs.Targets.{targets}
-use Rattle.it_canon.specs.QuestionDemands.{space_of, problem_names, problem_names_by, problem_lines, problem_lines_by, AreTrueAt, IsProblemOf}
-use Rattle.it_canon.proofs.MetLemmas.{targets_met}
+use Rattle.it_demand.specs.Canonical.{form_of}
+use Rattle.it_demand.specs.Targets.{targets}
+use Rattle.it_demand.specs.LineDemands.{space_of}
+use Rattle.it_question.specs.Tables.{problem_names, problem_names_by, problem_lines, problem_lines_by}
+use Rattle.it_canon.specs.QuestionDemands.{AreTrueAt, IsProblemOf}
+use Rattle.it_demand.proofs.MetLemmas.{targets_met}
 use Rattle.it_canon.proofs.ProblemLemmas.{question_met}
-use Rattle.it_canon.proofs.ZipLemmas.{zip-length}
+use Rattle.it_demand.proofs.ZipLemmas.{zip-length}
 use Rattle.it_region.specs.Obligations.{obligations, IsPulledRow, ArePulledRows}
 use Rattle.it_region.specs.Regions.{LiesIn}
 use Rattle.it_region.proofs.RegionLemmas.{obligations_contain}
@@ -136,7 +138,7 @@ module _ (q : BodyView) (p : ProblemView) (is : IsProblemOf q p) where
 
   yes_true : (r : RelationView) (ts : List Terms) (ws : List CertificateView) → ArePulledRows p.space (targets variable_count r) ts → length ws ≡ target_count r.sign → proofs_verdict p ts ws ≡ Valid → IsClaimTrueBy q (Prove r) (Yes ws)
   yes_true r ts ws are l e m t =
-      (targets_met r.sign (side_at variable_count m r.left) (side_at variable_count m r.right) (form_of variable_count r) m refl).0
+      (targets_met r.sign (side_at variable_count m (multiple_of r) r.left) (side_at variable_count m (multiple_of r) r.right) (form_of variable_count r) m refl).0
       (all_hold m t.0 t.1 (targets variable_count r) ts ws are (l ∙ sym (targets_counted r.sign (form_of variable_count r))) e)
 
   no_true : (r : RelationView) (ts : List Terms) (back : Bool) (values : List ℤ) → ArePulledRows p.space (targets variable_count r) ts → length values ≡ size_of p.space → place_named back < length ts

@@ -9,8 +9,9 @@ use Rattle.it_space.specs.Rows.{Terms}
 use Rattle.it_polymatroid.specs.Certificates.{Form}
 use Rattle.it_syntax.specs.NamesViews.{NamesView}
 use Rattle.it_question.specs.Questions.{BodyView, QuestionView, VerbView, Prove, Eliminate, Contain}
-use Rattle.it_canon.specs.QuestionDemands.{problem_names, variables_of, IsProblemOf}
-use Rattle.it_canon.specs.Targets.{targets}
+use Rattle.it_question.specs.Tables.{problem_names}
+use Rattle.it_canon.specs.QuestionDemands.{variables_of, IsProblemOf}
+use Rattle.it_demand.specs.Targets.{targets}
 use Rattle.it_region.specs.Obligations.{obligations, ArePulledRows}
 use Rattle.it_certificate.specs.Reports.{ReadsReport}
 use Rattle.it_check.specs.declared.verdicts.Verdict.{Verdict}

@@ -7,7 +7,7 @@ use Rattle.it_syntax.specs.Meaning.{Holds}
 use Rattle.it_syntax.specs.NamesViews.{NamesView}
 use Rattle.it_question.specs.Questions.{BodyView, QuestionView, VerbView, Prove, Contain}
 use Rattle.it_canon.specs.QuestionDemands.{variables_of, AreTrueTogether}
-use Rattle.it_canon.specs.Targets.{targets}
+use Rattle.it_demand.specs.Targets.{targets}
 use Rattle.it_region.specs.Regions.{LiesIn}
 use Rattle.it_certificate.specs.Reports.{ReadsReport}
 use Rattle.it_check.specs.declared.verdicts.Verdict.TheVariants.{Valid}

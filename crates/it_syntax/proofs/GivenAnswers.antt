@@ -14,7 +14,7 @@ use Rattle.it_syntax.specs.Givens as given_views
 use Rattle.it_syntax.specs.MeasureReading.{Reads, ◌>>=◌, semicolon, read_list}
 use Rattle.it_syntax.specs.RelationReading.{read_relation}
 use Rattle.it_syntax.specs.GivenReading.{arrow, read_of, after_divider, surplus_name, read_surplus_member, if_divided, member_then, read_members, with_sets, read_chain, read_bar, read_independence, read_function, read_plain, read_given}
-use Rattle.it_syntax.proofs.SpelledIsRead.{Answers, answers_ok, answers_cons, answers_bind, NoComma, NoWord, NoSign, list_answers, list_then}
+use Rattle.it_syntax.proofs.SpelledIsRead.{Answers, answers_ok, answers_cons, answers_bind, NoComma, EndsNumber, NoSign, list_answers, list_then}
 use Rattle.it_syntax.proofs.RelationAnswers.{relation_answers, letters_over}
 use Rattle.it_syntax.proofs.GivenTraces.{opens_form, opens_form_first, given_by_word}
 
@@ -160,12 +160,12 @@ plain_is s (l ∷ ls) e = refl
 pub record EndsCondition (k : MarkedLetters) : Type 0 where
   pub no_comma : NoComma k
   pub no_sign : NoSign k
-  pub no_word : NoWord k
+  pub ends_number : EndsNumber k
   pub no_bar : NoBar k
   pub no_arrow : NoDivider Arrows k
   pub no_semicolon : NoDivider Semicolons k
 
-plain_answers : (s : Scope) (x : PlainRelation) (k : MarkedLetters) → NoSign k → NoWord k → Answers (read_plain s (letters (spell_relation s x.relation k))) (spell_relation s x.relation k) (given_views.Relation (relation_of s x.relation)) k
+plain_answers : (s : Scope) (x : PlainRelation) (k : MarkedLetters) → NoSign k → EndsNumber k → Answers (read_plain s (letters (spell_relation s x.relation k))) (spell_relation s x.relation k) (given_views.Relation (relation_of s x.relation)) k
 unfolding read_plain
 plain_answers s x k free w =
     let y = given_views.Relation (relation_of s x.relation) in
@@ -174,7 +174,7 @@ plain_answers s x k free w =
 pub given_line_answers : (s : Scope) (x : WrittenGiven) (k : MarkedLetters) → EndsCondition k → Answers (read_given s (letters (spell_given s x k))) (spell_given s x k) (given_of s x) k
 unfolding read_given
 given_line_answers s (Relation x) k e =
-    subst (λ (r : Reads GivenView). Answers r (spell_relation s x.relation k) (given_views.Relation (relation_of s x.relation)) k) (sym (plain_is s (letters (spell_relation s x.relation k)) (opens_form_first s x.relation k ∙ x.plain))) (plain_answers s x k e.no_sign e.no_word)
+    subst (λ (r : Reads GivenView). Answers r (spell_relation s x.relation k) (given_views.Relation (relation_of s x.relation)) k) (sym (plain_is s (letters (spell_relation s x.relation k)) (opens_form_first s x.relation k ∙ x.plain))) (plain_answers s x k e.no_sign e.ends_number)
 given_line_answers s (Markov x) k e = answers_cons (Word markov_text) _ (spell_chain s.variables x k) (chain_of s.variables x) k (chain_answers s.variables x k e.no_arrow e.no_comma)
 given_line_answers s (Independent x) k e = answers_cons (Word indep_text) _ (spell_independence s.variables x k) (independence_of s.variables x) k (independence_answers s.variables x k e.no_semicolon e.no_bar e.no_comma)
 given_line_answers s (Function x) k e = answers_cons (Word func_text) _ (spell_function s.variables x k) (function_of s.variables x) k (function_answers s.variables x k e.no_comma)

@@ -12,7 +12,7 @@ use Rattle.it_syntax.proofs.GivenAnswers.{EndsCondition, given_line_answers}
 use Rattle.it_syntax.proofs.LineLemmas.{IsReader, says_one, says_or_faulty, fault_at_one}
 
 ends_at_end : EndsCondition (without_mark End ∷ [])
-ends_at_end = record { no_comma = tt; no_sign = tt; no_word = tt; no_bar = tt; no_arrow = refl; no_semicolon = refl }
+ends_at_end = record { no_comma = tt; no_sign = tt; ends_number = tt; no_bar = tt; no_arrow = refl; no_semicolon = refl }
 
 pub given_reader : (s : Scope) → IsReader (read_given s) (spell_given s) (given_of s)
 given_reader s = record { traces = given_line_traces s; answers = λ x. given_line_answers s x (without_mark End ∷ []) ends_at_end }

@@ -100,7 +100,7 @@ function_sure env n k ls =
 
 plain_sure : (s : Scope) (n : ℕ) → Covers s n 0 → (ls : List Letter) → Sure (IsMet n) (read_plain s ls)
 unfolding read_plain
-plain_sure s n k ls = sure_bind (IsWithinLimits n 0) (IsMet n) (read_relation s ls) (λ y. Ok (Relation y.0, y.1)) (relation_line_sure s n 0 k ls) (λ y hy. record { few = hy.0; left = hy.1; right = hy.2 })
+plain_sure s n k ls = sure_bind (IsWithinLimits n 0) (IsMet n) (read_relation s ls) (λ y. Ok (Relation y.0, y.1)) (relation_line_sure s n 0 k ls) (λ y hy. record { few = hy.0; left = hy.1; right = hy.2; some_multiple = hy.3.0; small_multiple = hy.3.1 })
 
 given_line_sure : (s : Scope) (n : ℕ) → Covers s n 0 → (ls : List Letter) → Sure (IsMet n) (read_given s ls)
 unfolding read_given

@@ -11,7 +11,7 @@ use Rattle.it_syntax.specs.declared.types.Sign.TheVariants as signs
 use Rattle.it_syntax.specs.Letters.{Letter, Word, Sym, MarkedLetters, without_mark, letters}
 use Rattle.it_syntax.specs.FirstFault.{head, own_code}
 use Rattle.it_syntax.specs.WrittenMeasures.{Environment, WrittenList, Entropy, EntropyGiven, Mutual, MutualGiven, TermSign, Positive, Negative, is_measure, name_mark, spell_list, list_set, mark_surplus}
-use Rattle.it_syntax.specs.WrittenRelations.{Scope, Measure, RateOf, WrittenTerm, Zero, Once, Times, WrittenRelation, spell_sum, spell_relation, relation_of}
+use Rattle.it_syntax.specs.WrittenRelations.{Scope, Measure, RateOf, WrittenTerm, Zero, Once, Times, Over, WrittenRelation, spell_sum, spell_relation, relation_of}
 use Rattle.it_syntax.specs.WrittenGivens.{markov_text, indep_text, func_text, of_text, is_form, is_form_first, WrittenChain, WrittenIndependence, WrittenFunction, WrittenGiven, Relation, Markov, Independent, Function, spell_members, spell_chain, spell_bar, spell_independence, spell_function, spell_given, sets_of, bar_set, chain_of, independence_of, function_of, given_of}
 use Rattle.it_syntax.specs.Givens.{GivenView}
 use Rattle.it_syntax.specs.Givens as given_views
@@ -253,11 +253,12 @@ opens_form ls = false
 pub opens_form_first : (s : Scope) (x : WrittenRelation) (k : MarkedLetters) → opens_form (letters (spell_relation s x k)) ≡ is_form_first x.left.sign x.left.first
 opens_form_first s x k = by_sign x.left.sign x.left.first x.left.more _
   where
-    by_sign : (o : Option TermSign) (t : WrittenTerm) (more : List (TermSign × WrittenTerm)) (k : MarkedLetters) → opens_form (letters (spell_sum 256 s (record { sign = o; first = t; more = more }) k)) ≡ is_form_first o t
+    by_sign : (o : Option TermSign) (t : WrittenTerm) (more : List (TermSign × WrittenTerm)) (k : MarkedLetters) → opens_form (letters (spell_sum 256 1 s (record { sign = o; first = t; more = more }) k)) ≡ is_form_first o t
     by_sign (Some Positive) t more k = refl
     by_sign (Some Negative) t more k = refl
     by_sign None Zero more k = refl
     by_sign None (Times n q) more k = refl
+    by_sign None (Over n d q) more k = refl
     by_sign None (Once (RateOf r)) more k = refl
     by_sign None (Once (Measure (Entropy a))) more k = refl
     by_sign None (Once (Measure (EntropyGiven a c))) more k = refl

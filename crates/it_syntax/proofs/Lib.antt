@@ -1,3 +1,4 @@
+pub mod MultipleLemmas
 pub mod NameLemmas
 pub mod RunLemmas
 pub mod TokenLemmas

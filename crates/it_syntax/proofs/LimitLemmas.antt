@@ -9,7 +9,9 @@ use Rattle.it_syntax.specs.declared.types.Atom.{Atom}
 use Rattle.it_syntax.specs.declared.types.Atom.TheVariants.{Entropy, Mutual}
 use Rattle.it_syntax.specs.declared.types.Term.{Term}
 use Rattle.it_syntax.specs.Letters.{Letter, Word, Sym, Bad}
-use Rattle.it_syntax.specs.Meaning.{IsAtomOf}
+use Rattle.it_syntax.specs.Meaning.{IsAtomOf, multiple_from}
+use Rattle.it_syntax.proofs.MultipleLemmas.{IsMultiple}
+use Rattle.it_number.specs.Gcd.{lcm}
 use Rattle.it_syntax.specs.NamesViews.{NamesView}
 use Rattle.it_syntax.specs.WrittenMeasures.{Environment, entropy_text, mutual_text, is_measure}
 use Rattle.it_syntax.specs.MeasureReading.{Fault, ◌>>=◌, no_rule, variable_or_fault, read_name, read_more, read_list, close_paren, open_paren, semicolon, bar_or_close, read_given_set, read_entropy, read_mutual_information, read_measure}
@@ -128,12 +130,13 @@ measure_sure env n m k [] = tt
 measure_sure env n m k (Bad c ∷ ls) = tt
 measure_sure env n m k (l ∷ ls) = tt
 
-abbrev pub TermHasSets : ℕ → ℕ → Term × List Letter → Type 0
-TermHasSets n m x = IsAtomOf n m x.0.atom
+-- its sets are of the variables that there are, and its denominator leaves the multiple within the limit
+abbrev pub TermHasSets : ℕ → ℕ → ℕ → Term × List Letter → Type 0
+TermHasSets n m k x = IsAtomOf n m x.0.atom × IsMultiple (lcm k x.0.denominator)
 
--- at most so many terms, over the variables that there are
-abbrev pub AreFew : ℕ → ℕ → ℕ → List Term × List Letter → Type 0
-AreFew n m most x = (length x.0 ≤ most) × All (λ t. IsAtomOf n m t.atom) x.0
+-- at most so many terms, over the variables that there are, whose denominators leave the multiple within the limit
+abbrev pub AreFew : ℕ → ℕ → ℕ → ℕ → List Term × List Letter → Type 0
+AreFew n m k most x = (length x.0 ≤ most) × All (λ t. IsAtomOf n m t.atom) x.0 × IsMultiple (multiple_from k x.0)
 
 -- the names of a vocabulary are its variables
 pub knows_names : (v : NamesView) → Knows (env_of v) (length v.variables)

@@ -1,7 +1,7 @@
 -- What is spelled so is read, up to the first mark.
 use Rattle.std.proofs.Common.{◌≡◌, ℕ, Bool, true, false, cond, ◌^◌, List, [], ◌∷◌, ◌++◌, Option, Some, None, Ok, Err, refl, ap, ◌∙◌, inl, inr, ◌⊎◌, append_assoc}
 use Rattle.std.specs.Prelude.{bit_or}
-use Rattle.it_syntax.specs.declared.types.Symbol.TheVariants.{LeftParen, RightParen, Comma, Semicolon, Bar, Plus, Minus}
+use Rattle.it_syntax.specs.declared.types.Symbol.TheVariants.{LeftParen, RightParen, Comma, Semicolon, Bar, Plus, Minus, Slash}
 use Rattle.it_syntax.specs.declared.types.Code.TheVariants as codes
 use Rattle.it_syntax.specs.declared.types.Atom.TheVariants as atoms
 use Rattle.it_syntax.specs.Letters.{Letter, Word, Sym, MarkedLetters, without_mark, letters, without_marks}
@@ -64,9 +64,10 @@ abbrev pub NoComma : MarkedLetters → Type 0
 NoComma ((Sym Comma, m) ∷ k) = ⊥
 NoComma k = Unit {0}
 
-abbrev pub NoWord : MarkedLetters → Type 0
-NoWord ((Word w, m) ∷ k) = ⊥
-NoWord k = Unit {0}
+abbrev pub EndsNumber : MarkedLetters → Type 0
+EndsNumber ((Word w, m) ∷ k) = ⊥
+EndsNumber ((Sym Slash, m) ∷ k) = ⊥
+EndsNumber k = Unit {0}
 
 abbrev pub NoSign : MarkedLetters → Type 0
 NoSign ((Sym Plus, m) ∷ k) = ⊥

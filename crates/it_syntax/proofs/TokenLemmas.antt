@@ -5,7 +5,7 @@ use Rattle.std.proofs.lemmas.List.{take_at, drop_at, take-append-drop}
 use Rattle.std.proofs.lemmas.Bool.Decides.{Decides-eqb, eqb_tells, nat_tests}
 use Rattle.it_number.specs.Decimals.{value_from}
 use Rattle.it_syntax.specs.declared.types.Symbol.{Symbol}
-use Rattle.it_syntax.specs.declared.types.Symbol.TheVariants.{LeftParen, RightParen, Comma, Semicolon, Bar, Plus, Minus, Arrow, AtLeast, AtMost, Equal, Assign}
+use Rattle.it_syntax.specs.declared.types.Symbol.TheVariants.{LeftParen, RightParen, Comma, Semicolon, Bar, Plus, Minus, Arrow, AtLeast, AtMost, Equal, Assign, Slash}
 use Rattle.it_syntax.specs.declared.types.TokenKind.{TokenKind}
 use Rattle.it_syntax.specs.declared.types.TokenKind.TheVariants as kinds
 use Rattle.it_syntax.specs.declared.types.Token.{Token}
@@ -61,6 +61,7 @@ no_letter AtLeast rest h = absurd cc
 no_letter AtMost rest h = absurd cc
 no_letter Equal rest h = absurd cc
 no_letter Assign rest h = absurd cc
+no_letter Slash rest h = absurd cc
 
 no_digit : (s : Symbol) (rest : List ℕ) → StartsWith is_ascii_digit (symbol_text s ++ rest) → ⊥
 no_digit LeftParen rest h = absurd cc
@@ -75,6 +76,7 @@ no_digit AtLeast rest h = absurd cc
 no_digit AtMost rest h = absurd cc
 no_digit Equal rest h = absurd cc
 no_digit Assign rest h = absurd cc
+no_digit Slash rest h = absurd cc
 
 no_both : (b : ℕ) → is_ascii_alphabetic b ≡ true → is_ascii_digit b ≡ true → ⊥
 no_both b h k = grind (arith, nat_tests)
@@ -117,6 +119,7 @@ symbol_spelled AtLeast rest h = refl
 symbol_spelled AtMost rest h = refl
 symbol_spelled Equal rest h = refl
 symbol_spelled Assign rest h = refl
+symbol_spelled Slash rest h = refl
 
 minus_ends : (rest : List ℕ) → symbol_of (45 ∷ rest) ≡ Some Minus → Stops is_greater rest
 unfolding symbol_of
@@ -129,7 +132,7 @@ minus_ends (c ∷ rest) e = by_test (62 == c) rest e
 
 symbol_is : (s : Symbol) (body : List ℕ) → symbol_of body ≡ Some s → body ≡ symbol_text s ++ drop (length (symbol_text s)) body
 unfolding symbol_of
-symbol_is s body e = starts_is (symbol_text s) body (find_is (Arrow ∷ AtLeast ∷ AtMost ∷ Assign ∷ LeftParen ∷ RightParen ∷ Comma ∷ Semicolon ∷ Bar ∷ Plus ∷ Minus ∷ Equal ∷ []) body s e)
+symbol_is s body e = starts_is (symbol_text s) body (find_is (Arrow ∷ AtLeast ∷ AtMost ∷ Assign ∷ LeftParen ∷ RightParen ∷ Comma ∷ Semicolon ∷ Bar ∷ Plus ∷ Minus ∷ Equal ∷ Slash ∷ []) body s e)
 
 symbol_ends : (s : Symbol) (rest : List ℕ) → symbol_of (symbol_text s ++ rest) ≡ Some s → EndsToken (kinds.Symbol s) rest
 symbol_ends Minus rest e = minus_ends rest e
@@ -144,6 +147,7 @@ symbol_ends AtLeast rest e = tt
 symbol_ends AtMost rest e = tt
 symbol_ends Equal rest e = tt
 symbol_ends Assign rest e = tt
+symbol_ends Slash rest e = tt
 
 -- ---- a token in front
 
@@ -227,6 +231,7 @@ text_stops (kinds.Symbol s) text rest t = subst (λ (u : List ℕ). Stops is_spa
     symbol_stops AtMost rest = refl
     symbol_stops Equal rest = refl
     symbol_stops Assign rest = refl
+    symbol_stops Slash rest = refl
 
 -- what a cut tells of the bytes after the spaces
 pub record Found (at g : ℕ) (body : List ℕ) (t : Token) (rest : List ℕ) : Type 0 where
@@ -306,6 +311,7 @@ shape_some k n body h = text_some k n (take n body) (shape_text k n body h).0 (o
         symbol_some AtMost = omega arith
         symbol_some Equal = omega arith
         symbol_some Assign = omega arith
+        symbol_some Slash = omega arith
 
 -- ---- no token in front
 

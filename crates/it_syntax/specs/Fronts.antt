@@ -1,7 +1,7 @@
 -- What stands at the front of some bytes.
 use Rattle.std.specs.Prelude.{ℕ, ◌≤◌, Bool, true, false, ◌&&◌, ◌==◌, List, [], ◌∷◌, length, take, drop, Option, Some, None, if◌then◌else◌}
 use Rattle.it_syntax.specs.declared.types.Symbol.{Symbol}
-use Rattle.it_syntax.specs.declared.types.Symbol.TheVariants.{LeftParen, RightParen, Comma, Semicolon, Bar, Plus, Minus, Arrow, AtLeast, AtMost, Equal, Assign}
+use Rattle.it_syntax.specs.declared.types.Symbol.TheVariants.{LeftParen, RightParen, Comma, Semicolon, Bar, Plus, Minus, Arrow, AtLeast, AtMost, Equal, Assign, Slash}
 use Rattle.it_syntax.specs.Spelling.{symbol_text, AreAll, Stops}
 
 -- the n bytes in front are all of a kind, and the next isn't
@@ -23,4 +23,4 @@ find_symbol (s ∷ ss) bytes = if starts_with (symbol_text s) bytes then Some s 
 
 -- the longest symbol in front
 unfoldable pub symbol_of : List ℕ → Option Symbol
-symbol_of bytes = find_symbol (Arrow ∷ AtLeast ∷ AtMost ∷ Assign ∷ LeftParen ∷ RightParen ∷ Comma ∷ Semicolon ∷ Bar ∷ Plus ∷ Minus ∷ Equal ∷ []) bytes
+symbol_of bytes = find_symbol (Arrow ∷ AtLeast ∷ AtMost ∷ Assign ∷ LeftParen ∷ RightParen ∷ Comma ∷ Semicolon ∷ Bar ∷ Plus ∷ Minus ∷ Equal ∷ Slash ∷ []) bytes

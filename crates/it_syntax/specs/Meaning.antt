@@ -1,7 +1,9 @@
 -- What a relation says of entropies and rates, by cases on the tree that was read (Yeung 1997, "A Framework for Linear Information
 -- Inequalities"). A map p gives the number at each coordinate of n variables: p s the joint entropy of the set s, p 0 that of
 -- the empty set, p (2 ^ n + r) rate r.
-use Rattle.std.specs.Prelude.{◌≡◌, ℕ, ◌+◌, ◌<◌, ◌^◌, bit_or, ℤ, pos, neg_ℤ, ◌+ℤ◌, ◌-ℤ◌, ◌*ℤ◌, ◌≤ℤ◌, List, [], ◌∷◌, if◌then◌else◌}
+use Rattle.std.specs.Prelude.{◌≡◌, ℕ, ◌+◌, ◌*◌, ◌/◌, ◌<◌, ◌^◌, bit_or, ℤ, pos, neg_ℤ, ◌+ℤ◌, ◌-ℤ◌, ◌*ℤ◌, ◌≤ℤ◌, List, [], ◌∷◌, map, if◌then◌else◌}
+use Rattle.std.specs.List.{fold}
+use Rattle.it_number.specs.Gcd.{lcm}
 use Rattle.it_syntax.specs.declared.types.Atom.{Atom}
 use Rattle.it_syntax.specs.declared.types.Atom.TheVariants.{Nothing, Entropy, Mutual, Rate}
 use Rattle.it_syntax.specs.declared.types.Term.{Term}
@@ -27,18 +29,30 @@ atom_at n p (Mutual left right given) =
     (p (bit_or left given) +ℤ p (bit_or right given)) -ℤ (p (bit_or (bit_or left right) given) +ℤ p given)
 atom_at n p (Rate r) = p (2 ^ n + r)
 
--- the value of a term: its atom's, times its number with its sign
-abbrev pub term_at : ℕ → (ℕ → ℤ) → Term → ℤ
-term_at n p t = (if t.negative then neg_ℤ (pos t.number) else pos t.number) *ℤ atom_at n p t.atom
+-- the least common multiple of a number and the denominators of terms
+abbrev pub multiple_from : ℕ → List Term → ℕ
+multiple_from m ts = fold lcm m (map (λ t. t.denominator) ts)
 
--- the sum of the terms
-abbrev pub side_at : ℕ → (ℕ → ℤ) → List Term → ℤ
-side_at n p [] = pos 0
-side_at n p (t ∷ ts) = term_at n p t +ℤ side_at n p ts
+-- the least common multiple of the denominators of both sides
+abbrev pub multiple_of : RelationView → ℕ
+multiple_of r = multiple_from (multiple_from 1 r.left) r.right
 
--- the left side less the right one
+-- how often a term counts its atom, where m times its fraction is a whole number: its number times m over its denominator
+abbrev pub times_of : ℕ → Term → ℕ
+times_of m t = t.number * (m / t.denominator)
+
+-- m times the value of a term: its atom's, so often, with its sign
+abbrev pub term_at : ℕ → (ℕ → ℤ) → ℕ → Term → ℤ
+term_at n p m t = (if t.negative then neg_ℤ (pos (times_of m t)) else pos (times_of m t)) *ℤ atom_at n p t.atom
+
+-- m times the sum of the terms
+abbrev pub side_at : ℕ → (ℕ → ℤ) → ℕ → List Term → ℤ
+side_at n p m [] = pos 0
+side_at n p m (t ∷ ts) = term_at n p m t +ℤ side_at n p m ts
+
+-- the left side less the right one, times the least common multiple of the denominators
 abbrev pub difference_at : ℕ → (ℕ → ℤ) → RelationView → ℤ
-difference_at n p r = side_at n p r.left -ℤ side_at n p r.right
+difference_at n p r = side_at n p (multiple_of r) r.left -ℤ side_at n p (multiple_of r) r.right
 
 -- two numbers compare as the sign says
 abbrev pub Compares : Sign → ℤ → ℤ → Type 0
@@ -46,9 +60,9 @@ Compares AtLeast x y = y ≤ℤ x
 Compares AtMost x y = x ≤ℤ y
 Compares Equal x y = x ≡ y
 
--- the relation is true of the map
+-- the relation is true of the map: both sides compare so, times the least common multiple of the denominators
 abbrev pub Holds : ℕ → (ℕ → ℤ) → RelationView → Type 0
-Holds n p r = Compares r.sign (side_at n p r.left) (side_at n p r.right)
+Holds n p r = Compares r.sign (side_at n p (multiple_of r) r.left) (side_at n p (multiple_of r) r.right)
 
 -- its sets are sets of n variables, and its rates are among m
 abbrev pub IsAtomOf : ℕ → ℕ → Atom → Type 0

@@ -4,7 +4,7 @@ use Rattle.std.specs.List.{AllByRecursion}
 use Rattle.std.specs.Char.{is_ascii_alphabetic, is_ascii_digit}
 use Rattle.it_number.specs.Decimals.{value_from}
 use Rattle.it_syntax.specs.declared.types.Symbol.{Symbol}
-use Rattle.it_syntax.specs.declared.types.Symbol.TheVariants.{LeftParen, RightParen, Comma, Semicolon, Bar, Plus, Minus, Arrow, AtLeast, AtMost, Equal, Assign}
+use Rattle.it_syntax.specs.declared.types.Symbol.TheVariants.{LeftParen, RightParen, Comma, Semicolon, Bar, Plus, Minus, Arrow, AtLeast, AtMost, Equal, Assign, Slash}
 use Rattle.it_syntax.specs.declared.types.TokenKind.{TokenKind}
 use Rattle.it_syntax.specs.declared.types.TokenKind.TheVariants as kinds
 use Rattle.it_syntax.specs.declared.types.Token.{Token}
@@ -53,6 +53,7 @@ symbol_text AtLeast = codes ">="
 symbol_text AtMost = codes "<="
 symbol_text Equal = codes "="
 symbol_text Assign = codes ":="
+symbol_text Slash = codes "/"
 
 -- The text of a token of this kind: a word has a letter first and at most 16 bytes, a number is below 2 ^ 64.
 abbrev pub IsText : TokenKind → List ℕ → Type 0

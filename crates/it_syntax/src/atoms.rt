@@ -1,15 +1,17 @@
 //! Readers of entropies, mutual informations and rates, and of terms that count them.
-ghost use Rattle.std.specs.Prelude.{◌≡◌};
+ghost use Rattle.std.specs.Prelude.{◌≡◌, ◌≤◌, IfOk};
+ghost use Rattle.it_number.specs.Gcd.{lcm};
 ghost use Rattle.it_syntax.specs.MeasureReading.{read_measure};
 ghost use Rattle.it_syntax.specs.Scopes.{scope_of};
-ghost use Rattle.it_syntax.specs.RelationReading.{read_atom, after_number, read_term, read_surplus_term};
-ghost use Rattle.it_syntax.specs.Gives.{Gives, StopsAs, letters_left};
+ghost use Rattle.it_syntax.specs.RelationReading.{read_atom, read_over, after_number, read_term, read_surplus_term};
+ghost use Rattle.it_syntax.specs.Gives.{Gives, GivesBy, StopsAs, letters_left};
 
+use crate::denominators::denominator;
 use crate::lists::is_measure;
 use crate::measures::measure;
 use crate::names::Names;
 use crate::rest::{Piece, Rest, Stop};
-use crate::types::{Atom, Code, Term};
+use crate::types::{Atom, Code, Symbol, Term};
 
 /// The rate of this name, if rates may stand there.
 #[tactic(auto, unfolding(crate::specs::Scopes::scope_of))]
@@ -50,33 +52,59 @@ fn atom(rest: &mut Rest<'_>, names: &Names, rates: bool) -> Result<Atom, Stop>
     }
 }
 
-/// The term after its number; `0` may stand alone.
-#[tactic(auto, unfolding(crate::specs::RelationReading::after_number))]
-fn after_number(
+/// A term over a denominator, from the denominator on, with the least common multiple of all denominators up to it.
+#[tactic(auto, unfolding(crate::specs::RelationReading::read_over))]
+fn term_over(
     negative: bool,
     number: u64,
+    multiple: u64,
     rest: &mut Rest<'_>,
     names: &Names,
     rates: bool,
-) -> Result<Term, Stop>
-    ensures { Gives result (letters_left rest.new) (after_number (scope_of names.now rates) negative number (letters_left rest.old)) }
+) -> Result<(Term, u64), Stop>
+    requires some { 1 ≤ multiple }
+    ensures read { GivesBy (λ x. x.0) result (letters_left rest.new) (read_over multiple (scope_of names.now rates) negative number (letters_left rest.old)) }
+    ensures multiple { IfOk result (λ x. (1 ≤ x.1) × (x.1 ≡ lcm multiple x.0.denominator)) }
+{
+    let (denominator, multiple) = denominator(multiple, rest)?;
+    let atom = atom(rest, names, rates)?;
+    Ok((
+        Term {
+            negative,
+            number,
+            denominator,
+            atom,
+        },
+        multiple,
+    ))
+}
+
+/// The term after its number, with the least common multiple of all denominators up to it; `0` may stand alone.
+#[tactic(auto, using(crate::proofs::MultipleLemmas::lcm_one), unfolding(crate::specs::RelationReading::after_number))]
+fn after_number(
+    negative: bool,
+    number: u64,
+    multiple: u64,
+    rest: &mut Rest<'_>,
+    names: &Names,
+    rates: bool,
+) -> Result<(Term, u64), Stop>
+    requires some { 1 ≤ multiple }
+    ensures read { GivesBy (λ x. x.0) result (letters_left rest.new) (after_number multiple (scope_of names.now rates) negative number (letters_left rest.old)) }
+    ensures multiple { IfOk result (λ x. (1 ≤ x.1) × (x.1 ≡ lcm multiple x.0.denominator)) }
 {
     match rest.front() {
         (Piece::Word(_), _) => {
             let atom = atom(rest, names, rates)?;
-            Ok(Term {
-                negative,
-                number,
-                atom,
-            })
+            Ok((whole_term(negative, number, atom), multiple))
+        }
+        (Piece::Symbol(Symbol::Slash), after) => {
+            *rest = after;
+            term_over(negative, number, multiple, rest, names, rates)
         }
         _ => {
             if number == 0 {
-                Ok(Term {
-                    negative,
-                    number,
-                    atom: Atom::Nothing,
-                })
+                Ok((whole_term(negative, 0, Atom::Nothing), multiple))
             } else {
                 Err(rest.fault())
             }
@@ -84,23 +112,39 @@ fn after_number(
     }
 }
 
-/// A term, after its sign.
-#[tactic(auto, unfolding(crate::specs::RelationReading::read_term))]
-pub fn term(negative: bool, rest: &mut Rest<'_>, names: &Names, rates: bool) -> Result<Term, Stop>
-    ensures { Gives result (letters_left rest.new) (read_term (scope_of names.now rates) negative (letters_left rest.old)) }
+/// A term without a denominator.
+fn whole_term(negative: bool, number: u64, atom: Atom) -> Term
+    ensures { result ≡ record { negative = negative; number = number; denominator = 1; atom = atom } }
+{
+    Term {
+        negative,
+        number,
+        denominator: 1,
+        atom,
+    }
+}
+
+/// A term, after its sign, with the least common multiple of all denominators up to it.
+#[tactic(auto, using(crate::proofs::MultipleLemmas::lcm_one), unfolding(crate::specs::RelationReading::read_term))]
+pub fn term(
+    negative: bool,
+    multiple: u64,
+    rest: &mut Rest<'_>,
+    names: &Names,
+    rates: bool,
+) -> Result<(Term, u64), Stop>
+    requires some { 1 ≤ multiple }
+    ensures read { GivesBy (λ x. x.0) result (letters_left rest.new) (read_term multiple (scope_of names.now rates) negative (letters_left rest.old)) }
+    ensures multiple { IfOk result (λ x. (1 ≤ x.1) × (x.1 ≡ lcm multiple x.0.denominator)) }
 {
     match rest.front() {
         (Piece::Number(number), after) => {
             *rest = after;
-            after_number(negative, number, rest, names, rates)
+            after_number(negative, number, multiple, rest, names, rates)
         }
         _ => {
             let atom = atom(rest, names, rates)?;
-            Ok(Term {
-                negative,
-                number: 1,
-                atom,
-            })
+            Ok((whole_term(negative, 1, atom), multiple))
         }
     }
 }

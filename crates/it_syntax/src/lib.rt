@@ -3,6 +3,7 @@
 
 mod atoms;
 mod cutting;
+mod denominators;
 mod givens;
 mod laws;
 mod lists;
@@ -20,6 +21,7 @@ mod sums;
 pub mod types;
 
 pub use cutting::{line_tokens, tokens};
+pub use denominators::multiple_of;
 pub use givens::given;
 pub use laws::{given_is_one, line_tokens_are_one, relation_is_one};
 pub use lists::is_measure;

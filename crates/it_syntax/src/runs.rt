@@ -70,6 +70,7 @@ pub fn symbol(bytes: &[u8]) -> Option<Symbol>
         [b'>', b'=', ..] => Some(Symbol::AtLeast),
         [b'<', b'=', ..] => Some(Symbol::AtMost),
         [b'=', ..] => Some(Symbol::Equal),
+        [b'/', ..] => Some(Symbol::Slash),
         [b':', b'=', ..] => Some(Symbol::Assign),
         _ => None,
     }

@@ -42,11 +42,13 @@ pub fn add(terms: &mut Vec<Term>, term: Term) -> Result<(), Stop>
     let Term {
         negative,
         number,
+        denominator,
         atom,
     } = term;
     match terms.push(Term {
         negative,
         number,
+        denominator,
         atom,
     }) {
         Ok(()) => Ok(()),

@@ -3,7 +3,7 @@
 use it_space::VarSet;
 use std::alloc::{AllocError, AllocFailed};
 
-/// The symbols, in order: `(` `)` `,` `;` `|` `+` `-` `->` `>=` `<=` `=` `:=`.
+/// The symbols, in order: `(` `)` `,` `;` `|` `+` `-` `->` `>=` `<=` `=` `:=` `/`.
 #[derive(Clone, Copy, Debug, PartialEq, Eq)]
 pub enum Symbol {
     LeftParen,
@@ -18,6 +18,7 @@ pub enum Symbol {
     AtMost,
     Equal,
     Assign,
+    Slash,
 }
 
 /// What a token is: a word of at most 16 bytes, a number with its value, or a symbol.
@@ -37,8 +38,8 @@ pub struct Token {
 }
 
 /// What is wrong with a line: a byte that begins no token; a word that no rule allows there; an unknown name; a name
-/// that is taken; a number that is too large; something past a limit; a file that ends too early; a form that isn't
-/// read yet.
+/// that is taken; a number that is too large, or a denominator that is 0 or makes the least common multiple too large;
+/// something past a limit; a file that ends too early; a question whose table is too large.
 #[derive(Clone, Copy, Debug, PartialEq, Eq)]
 pub enum Code {
     Byte,
@@ -48,6 +49,7 @@ pub enum Code {
     Number,
     Many,
     Unfinished,
+    Large,
 }
 
 /// Where a line has no token: a byte that begins none (`Byte`), a number that is too large (`Number`) or a word that is
@@ -119,11 +121,12 @@ pub enum Atom {
     Rate(u8),
 }
 
-/// A number of times an atom. An atom without a number stands once.
+/// A number of times an atom, over a denominator, which is 1 where none was written. An atom without a number stands once.
 #[derive(Clone, Copy, Debug, PartialEq, Eq)]
 pub struct Term {
     pub negative: bool,
     pub number: u64,
+    pub denominator: u64,
     pub atom: Atom,
 }
 

@@ -25,6 +25,7 @@ const SPACE: Space = Space {
 const NOTHING: Term = Term {
     negative: true,
     number: 0,
+    denominator: 1,
     atom: Atom::Nothing,
 };
 
@@ -101,6 +102,7 @@ fn entropy(number: u64, of: u16, given: u16) -> Term {
     Term {
         negative: false,
         number,
+        denominator: 1,
         atom: Atom::Entropy {
             of: VarSet::from_number(of),
             given: VarSet::from_number(given),
@@ -112,6 +114,7 @@ fn mutual(left: u16, right: u16, given: u16) -> Term {
     Term {
         negative: false,
         number: 1,
+        denominator: 1,
         atom: Atom::Mutual {
             left: VarSet::from_number(left),
             right: VarSet::from_number(right),
@@ -124,6 +127,7 @@ fn rate(number: u64, rate: u8) -> Term {
     Term {
         negative: false,
         number,
+        denominator: 1,
         atom: Atom::Rate(rate),
     }
 }
@@ -132,6 +136,7 @@ fn less(term: Term) -> Term {
     Term {
         negative: true,
         number: term.number,
+        denominator: 1,
         atom: term.atom,
     }
 }

@@ -3,7 +3,7 @@ use Rattle.it_space.specs.Answers.{answer_view}
 use Rattle.it_space.specs.Problems.{problem_view}
 use Rattle.it_syntax.specs.Meaning.{relation_view}
 use Rattle.it_question.specs.Questions.{question_body, verb_view}
-use Rattle.it_canon.specs.Targets.{targets}
+use Rattle.it_demand.specs.Targets.{targets}
 use Rattle.it_run.proofs.AnswerLemmas.{if_ok}
 use Rattle.it_contain.specs.Proposals.{Plan}
 use Rattle.it_answer.specs.RightAnswers.{IsAnswered}

@@ -2,8 +2,8 @@ use Rattle.std.proofs.Common.{◌≡◌, ◌∷◌, [], subst, refl}
 use Rattle.it_space.specs.Answers.{answer_view, certificate_view}
 use Rattle.it_space.specs.Problems.{problem_view}
 use Rattle.it_syntax.specs.Meaning.{relation_view}
-use Rattle.it_canon.specs.Canonical.{form_of}
-use Rattle.it_canon.specs.Targets.{negation}
+use Rattle.it_demand.specs.Canonical.{form_of}
+use Rattle.it_demand.specs.Targets.{negation}
 use Rattle.it_run.proofs.AnswerLemmas.{if_ok}
 use Rattle.it_prove.specs.ProofViews.{EndsWith, IsRightProof, proof_view}
 use Rattle.it_space.specs.Rows.{negated_terms}

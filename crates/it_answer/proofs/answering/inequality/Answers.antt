@@ -2,7 +2,7 @@ use Rattle.std.proofs.Common.{◌≡◌, ◌∷◌, []}
 use Rattle.it_space.specs.Answers.{answer_view}
 use Rattle.it_space.specs.Problems.{problem_view}
 use Rattle.it_syntax.specs.Meaning.{relation_view}
-use Rattle.it_canon.specs.Canonical.{form_of}
+use Rattle.it_demand.specs.Canonical.{form_of}
 use Rattle.it_run.proofs.AnswerLemmas.{if_ok}
 use Rattle.it_prove.specs.ProofViews.{proof_view}
 use Rattle.it_answer.specs.RowAnswers.{AnswersForms, answer_after_one}

@@ -1,8 +1,9 @@
 use Rattle.std.proofs.Common.{◌∙◌, map, ap, sym}
 use Rattle.it_space.specs.Spaces.{size_of}
 use Rattle.it_question.specs.Questions.{question_body, region_view}
-use Rattle.it_canon.specs.QuestionDemands.{problem_names, space_of}
-use Rattle.it_canon.specs.RowsOfForms.{terms_of_form}
+use Rattle.it_demand.specs.LineDemands.{space_of}
+use Rattle.it_question.specs.Tables.{problem_names}
+use Rattle.it_demand.specs.RowsOfForms.{terms_of_form}
 use Rattle.it_answer.proofs.TargetLemmas.{contained_rows, no_obligations}
 use Rattle.it_answer.proofs.targets.contained_rows.Goals as goal
 

@@ -2,8 +2,9 @@ use Rattle.std.proofs.Common.{◌∙◌, map, ap, sym}
 use Rattle.it_space.specs.Spaces.{size_of}
 use Rattle.it_syntax.specs.Meaning.{relation_view}
 use Rattle.it_question.specs.Questions.{question_body}
-use Rattle.it_canon.specs.QuestionDemands.{problem_names, space_of}
-use Rattle.it_canon.specs.RowsOfForms.{terms_of_form}
+use Rattle.it_demand.specs.LineDemands.{space_of}
+use Rattle.it_question.specs.Tables.{problem_names}
+use Rattle.it_demand.specs.RowsOfForms.{terms_of_form}
 use Rattle.it_answer.proofs.TargetLemmas.{no_targets, yes_rows}
 use Rattle.it_answer.proofs.targets.yes_rows.Goals as goal
 

@@ -3,9 +3,9 @@ use Rattle.it_syntax.specs.declared.types.Given.{Given}
 use Rattle.it_syntax.specs.declared.types.Relation.{Relation}
 use Rattle.it_syntax.specs.Givens.{given_view}
 use Rattle.it_syntax.specs.Meaning.{relation_view}
-use Rattle.it_canon.specs.Demands.{AreStated}
-use Rattle.it_canon.specs.QuestionDemands.{given_demands, row_demands}
-use Rattle.it_canon.proofs.ProblemLemmas.{stated-append}
+use Rattle.it_demand.specs.Demands.{AreStated}
+use Rattle.it_demand.specs.LineDemands.{given_demands, row_demands}
+use Rattle.it_question.proofs.StatedLines.{stated-append}
 use Rattle.it_canon.proofs.problems.region_lines.Goals as goal
 
 pub returns : goal.returns

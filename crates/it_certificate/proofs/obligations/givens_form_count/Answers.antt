@@ -1,6 +1,6 @@
 use Rattle.std.proofs.Common.{◌≡◌, ◌≤◌, ◌<◌, rules, arith, length, map, get_or, subst}
 use Rattle.it_syntax.specs.Givens.{IsGivenOf, given_view}
-use Rattle.it_canon.proofs.ZipLemmas.{image-at}
+use Rattle.it_demand.proofs.ZipLemmas.{image-at}
 use Rattle.std.specs.List.{sum_by}
 use Rattle.it_certificate.specs.ReportSteps.{given_form_count}
 use Rattle.it_certificate.proofs.ObligationLemmas.{given_more}

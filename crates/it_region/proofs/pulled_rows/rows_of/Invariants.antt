@@ -1,5 +1,5 @@
 use Rattle.std.proofs.Common.{}
-use Rattle.it_canon.proofs.ZipLemmas.{AreMatched}
+use Rattle.it_demand.proofs.ZipLemmas.{AreMatched}
 use Rattle.it_region.specs.Obligations.{IsPulledRow}
 use Rattle.it_region.specs.Pairs.{pair_coordinate}
 use Rattle.it_region.proofs.RowLemmas.{obligations_from}

@@ -4,7 +4,7 @@ use Rattle.it_space.specs.Answers.AnswerView.{No}
 use Rattle.it_space.specs.Problems.{problem_view}
 use Rattle.it_syntax.specs.Meaning.{relation_view}
 use Rattle.it_question.specs.Questions.{question_body}
-use Rattle.it_canon.specs.Targets.{targets}
+use Rattle.it_demand.specs.Targets.{targets}
 use Rattle.it_canon.proofs.PosesLemmas.{as_many_rows}
 use Rattle.it_report.specs.Judging.{answer_verdict}
 use Rattle.it_report.proofs.JudgingLemmas.{verdict_is_told, has_verdict, no_is_about_relation, target_rows_are, target_is_there, point_is_complete}

@@ -1,0 +1,49 @@
+//! How large the table is with which the run about a problem begins.
+ghost use Rattle.std.specs.Prelude.{◌≡◌, ◌≤◌, ◌*◌, length, IfOk};
+ghost use Rattle.it_space.specs.Problems.{IsProblem, problem_view};
+ghost use Rattle.it_closure.specs.Sizes.{column_count, constraint_columns, table_size};
+
+use crate::dependences::Dependences;
+use it_elemental::count;
+use it_space::{Constraint, Kind, Problem};
+use std::alloc::{AllocError, Global};
+
+/// How many entries the table has with which the run about a problem begins, rows times columns. A row is a closed set other than
+/// the closure of the empty set, or a rate. Each elemental inequality has a column, each inequality among the constraints one and
+/// each equation two, and each row an artificial one.
+#[tactic(auto, unfolding(crate::specs::Sizes::table_size))]
+pub fn size(alloc: Global, problem: &Problem) -> Result<u64, AllocError>
+    requires { IsProblem (problem_view problem.now) }
+    ensures { IfOk result (λ k. k ≡ table_size (problem_view problem.now)) }
+{
+    let dependences = Dependences::read(alloc, problem)?;
+    let coordinates = dependences.closed(alloc, problem.space)?;
+    let rows = coordinates.len() as u64;
+    let constraints = constraint_columns(problem.constraints.as_slice());
+    let columns = count(problem.space.variables) as u64 + constraints + rows;
+    Ok(rows * columns)
+}
+
+/// How many columns constraints have.
+fn constraint_columns(constraints: &[Constraint]) -> u64
+    requires few { length constraints.now ≤ 1048576 }
+    ensures value { result ≡ constraint_columns constraints.now }
+    ensures few { result ≤ 2 * length constraints.now }
+{
+    let mut columns = 0;
+    for constraint in constraints {
+        columns += column_count(constraint.kind) as u64;
+    }
+    columns
+}
+
+/// How many columns a constraint, or a generator, of this kind has.
+pub fn column_count(kind: Kind) -> u32
+    ensures value { result ≡ column_count kind }
+    ensures few { result ≤ 2 }
+{
+    match kind {
+        Kind::Inequality => 1,
+        Kind::Equation => 2,
+    }
+}

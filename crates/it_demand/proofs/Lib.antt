@@ -1,0 +1,11 @@
+pub mod CoefficientLemmas
+pub mod ListLemmas
+pub mod TermLemmas
+pub mod RowLemmas
+pub mod ChainLemmas
+pub mod ZipLemmas
+pub mod GeneratorLemmas
+pub mod MetLemmas
+pub mod LimitLemmas
+pub mod UniqueRows
+pub mod FormRows

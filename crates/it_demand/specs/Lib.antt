@@ -1,0 +1,7 @@
+pub mod Coefficients
+pub mod Canonical
+pub mod Targets
+pub mod Demands
+pub mod LineDemands
+pub mod RowsOfForms
+pub mod Theorems

@@ -1,0 +1,21 @@
+-- A form has one row, and demands have one list of constraints.
+use Rattle.std.specs.Prelude.{◌≡◌, List}
+use Rattle.it_space.specs.declared.spaces.Space.{Space}
+use Rattle.it_space.specs.declared.problems.Constraint.{Constraint}
+use Rattle.it_space.specs.Rows.{Terms}
+use Rattle.it_polymatroid.specs.Certificates.{Form}
+use Rattle.it_demand.specs.Canonical.{IsRowOf}
+use Rattle.it_demand.specs.Demands.{LineDemand, AreStated}
+use Rattle.it_demand.specs.LineDemands.{AreRowsOf}
+
+-- a form has one row
+abbrev pub OneRow : Type 0
+OneRow = (s : Space) (form : Form) (r t : Terms) → IsRowOf s form r → IsRowOf s form t → r ≡ t
+
+-- forms have one list of rows
+abbrev pub OneRowList : Type 0
+OneRowList = (s : Space) (forms : List Form) (rs ts : List Terms) → AreRowsOf s forms rs → AreRowsOf s forms ts → rs ≡ ts
+
+-- demands have one list of constraints that states them
+abbrev pub OneConstraintList : Type 0
+OneConstraintList = (s : Space) (demanded : List LineDemand) (cs ds : List Constraint) → AreStated s demanded cs → AreStated s demanded ds → cs ≡ ds

@@ -1,0 +1,120 @@
+-- The problem of lines, and the mark that its table's size gives.
+use Rattle.std.proofs.Common.{◌≡◌, ℕ, ◌+◌, ◌-◌, ◌*◌, ◌/◌, ◌≤◌, ◌^◌, Bool, true, false, cond, nat_lt, List, [], ◌∷◌, length, map, Option, Some, None, refl, sym, ap, ap₂, subst, ◌∙◌, arith, lit<, length-append}
+use Rattle.std.specs.Prelude.{All}
+use Rattle.std.proofs.lemmas.List.Elements.{All-weaker, All-append}
+use Rattle.it_space.specs.declared.spaces.Space.{Space}
+use Rattle.it_space.specs.declared.problems.Kind.{Kind}
+use Rattle.it_space.specs.declared.problems.Origin.{Origin}
+use Rattle.it_space.specs.declared.problems.Constraint.{Constraint}
+use Rattle.it_space.specs.Problems.{ProblemView, IsProblem}
+use Rattle.it_space.specs.Rows.{Terms, IsUpTo}
+use Rattle.it_space.specs.Spaces.{IsSpace, size_of}
+use Rattle.std.proofs.Math.Nat.{mul-le-mul, pow-le-pow_right}
+use Rattle.std.proofs.lemmas.List.{length-map, append-nil}
+use Rattle.it_elemental.specs.Places.{index_pairs}
+use Rattle.it_elemental.proofs.PairLemmas.{length-index_pairs}
+use Rattle.it_elemental.proofs.PlaceLemmas.{length-elementals}
+use Rattle.std.proofs.lemmas.Bool.Decides.{nat_tests}
+use Rattle.it_polymatroid.specs.Elementals.{elementals}
+use Rattle.it_closure.specs.Reading.{dependences_of}
+use Rattle.it_closure.specs.Sizes.{constraint_columns, table_rows, table_columns, table_size}
+use Rattle.it_closure.proofs.SizeLemmas.{rows-few, columns-few}
+use Rattle.it_syntax.specs.Givens.{GivenView, given_view, IsRelationOf, IsGivenOf}
+use Rattle.it_syntax.specs.declared.types.Given.{Given}
+use Rattle.it_syntax.specs.Meaning.{RelationView}
+use Rattle.it_syntax.specs.NamesViews.{NamesView}
+use Rattle.it_demand.specs.Demands.{LineDemand, States, AreStated}
+use Rattle.it_demand.specs.LineDemands.{space_of, given_demands, row_demands}
+use Rattle.it_demand.specs.RowsOfForms.{terms_of_form}
+use Rattle.it_demand.proofs.FormRows.{row_is_terms_of_form}
+use Rattle.it_demand.proofs.LimitLemmas.{wider_relation, wider_given, givens-few, rows-length}
+use Rattle.it_demand.proofs.ZipLemmas.{zip-length, zip-right}
+use Rattle.it_question.specs.Questions.{OwnLinesView, RegionView}
+use Rattle.it_question.specs.Limits.{IsRegionOf}
+use Rattle.it_question.specs.ReaderSteps.{mark_if_large}
+use Rattle.it_question.specs.Tables.{line_demands, constraint_of, problem_of_lines, most_entries, size_mark}
+
+abbrev constraint : Terms → Kind → Origin → Constraint
+constraint row kind origin = record { row = row; kind = kind; origin = origin }
+
+-- constraints that state demands are those that are made of them
+pub stated_are : (s : Space) (ds : List LineDemand) (cs : List Constraint) → AreStated s ds cs → cs ≡ map (constraint_of s) ds
+stated_are s [] [] a = refl
+stated_are s [] (c ∷ cs) a = absurd a
+stated_are s (d ∷ ds) [] a = absurd a
+stated_are s (d ∷ ds) (c ∷ cs) a =
+    let row = row_is_terms_of_form s d.demand.form c.row a.0.row in
+    let one : c ≡ constraint_of s d = ap₂ (λ (x : Terms) (y : Kind). constraint x y c.origin) row a.0.kind ∙ ap (constraint (terms_of_form (size_of s) d.demand.form) d.demand.kind) a.0.origin in
+    ap₂ (λ (x : Constraint) (xs : List Constraint). x ∷ xs) one (stated_are s ds cs a.1)
+
+-- they are a problem
+pub stated_problem : (s : Space) (ds : List LineDemand) (cs : List Constraint) → IsSpace s → length ds ≤ 2 ^ 20 → AreStated s ds cs → IsProblem (record { space = s; constraints = cs })
+stated_problem s ds cs k few h = record {
+  space = k;
+  rows = zip-right (λ (d : LineDemand) (c : Constraint). States s d.origin d.demand c) (λ c. IsUpTo (size_of s) c.row) (λ d c t. t.row.coordinates) ds cs h;
+  few = omega (arith, zip-length (λ (d : LineDemand) (c : Constraint). States s d.origin d.demand c) ds cs h, few);
+}
+
+-- lines have few demands
+pub lines-few : (n : ℕ) (own : OwnLinesView) → All (IsGivenOf n) own.givens → length (line_demands n own) ≤ 14 * length own.givens + length own.rows
+lines-few n own a = omega (arith, length-append (given_demands n 1 own.givens) (row_demands n 1 own.rows), givens-few n 1 own.givens a, rows-length n 1 own.rows)
+
+-- the mark by the size of the problem with the constraints that were made
+pub mark_by_size : (v : NamesView) (own : OwnLinesView) (cs : List Constraint) (large : Bool) → AreStated (space_of v) (line_demands (length v.variables) own) cs
+    → large ≡ nat_lt most_entries (table_size (record { space = space_of v; constraints = cs })) → size_mark v own ≡ mark_if_large large
+unfolding size_mark
+mark_by_size v own cs large h e =
+    let same = stated_are (space_of v) (line_demands (length v.variables) own) cs h in
+    ap (λ (ds : List Constraint). mark_if_large (nat_lt most_entries (table_size (record { space = space_of v; constraints = ds })))) (sym same) ∙ ap mark_if_large (sym e)
+
+-- ---- a question's lines under the names of its region
+
+region_wider : (v : NamesView) (r : RegionView) → IsRegionOf v r → length v.variables ≤ length r.names.variables
+region_wider v r a = omega (arith, ap length a.variables, length-append v.variables a.own)
+
+pub region_space : (v : NamesView) (r : RegionView) → IsSpace (space_of v) → IsRegionOf v r → IsSpace (space_of r.names)
+region_space v r k a = record { some = omega (arith, k.some, region_wider v r a); few = a.few_variables; few_rates = omega (arith, k.few_rates, ap length a.rates) }
+
+pub region_givens : (v : NamesView) (r : RegionView) (gs : List GivenView) → IsRegionOf v r → All (IsGivenOf (length v.variables)) gs → All (IsGivenOf (length r.names.variables)) gs
+region_givens v r gs a h = All-weaker (IsGivenOf (length v.variables)) (IsGivenOf (length r.names.variables)) (λ c d. wider_given (length v.variables) (length r.names.variables) (region_wider v r a) c d) gs h
+
+pub region_rows : (v : NamesView) (r : RegionView) (rs : List RelationView) → IsRegionOf v r → All (IsRelationOf (length v.variables) (length v.rates)) rs → All (IsRelationOf (length r.names.variables) (length r.names.rates)) rs
+region_rows v r rs a h = All-weaker (IsRelationOf (length v.variables) (length v.rates)) (IsRelationOf (length r.names.variables) (length r.names.rates))
+    (λ x d. subst (λ (m : ℕ). IsRelationOf (length r.names.variables) m x) (sym (ap length a.rates)) (wider_relation (length v.variables) (length r.names.variables) (length v.rates) (region_wider v r a) x d)) rs h
+
+-- the constraints of lines within the limits are a problem
+pub lines_problem : (s : Space) (own : OwnLinesView) (cs : List Constraint) → IsSpace s → All (IsGivenOf s.variables) own.givens → length own.givens ≤ 128 → length own.rows ≤ 128 → AreStated s (line_demands s.variables own) cs → IsProblem (record { space = s; constraints = cs })
+lines_problem s own cs k givens g r h = stated_problem s (line_demands s.variables own) cs k (omega (arith, lines-few s.variables own givens, g, r)) h
+
+-- and give the mark
+pub space_mark : (s : Space) (v : NamesView) (own : OwnLinesView) (cs : List Constraint) (large : Bool) → s ≡ space_of v → AreStated s (line_demands s.variables own) cs
+    → large ≡ nat_lt most_entries (table_size (record { space = s; constraints = cs })) → size_mark v own ≡ mark_if_large large
+space_mark s v own cs large e h k = mark_by_size v own cs large (subst (λ (t : Space). AreStated t (line_demands t.variables own) cs) e h) (subst (λ (t : Space). large ≡ nat_lt most_entries (table_size (record { space = t; constraints = cs }))) e k)
+
+-- the constraints of the givens alone
+pub givens_stated : (s : Space) (slice items : List Given) (cs : List Constraint) → slice ≡ items → AreStated s (given_demands s.variables 1 (map given_view slice)) cs
+    → AreStated s (line_demands s.variables (record { givens = map given_view items; rows = [] })) cs
+givens_stated s slice items cs e h = subst (λ (xs : List LineDemand). AreStated s xs cs) (sym (append-nil (given_demands s.variables 1 (map given_view items)))) (subst (λ (gs : List Given). AreStated s (given_demands s.variables 1 (map given_view gs)) cs) e h)
+
+-- ---- small tables
+
+-- at most nine variables have few elemental inequalities
+elementals-few : (n : ℕ) → n ≤ 9 → length (elementals n) ≤ 4617
+elementals-few n h =
+    let power : 2 ^ n ≤ 2 ^ 9 = pow-le-pow_right (lit< tt) h in
+    let square : n * (n - 1) ≤ 9 * 8 = mul-le-mul h (omega arith) in
+    let both : length (index_pairs n) * (2 ^ n / 4) ≤ 36 * 128 = mul-le-mul (omega (arith, length-index_pairs n, square)) (omega (arith, power)) in
+    omega (arith, length-elementals n, both, h)
+
+-- at most nine variables, with lines within the limits, have a table that isn't too large
+pub few_variables : (v : NamesView) (own : OwnLinesView) → length v.variables ≤ 9 → length v.rates ≤ 16 → All (IsGivenOf (length v.variables)) own.givens → length own.givens ≤ 64 → length own.rows ≤ 64 → size_mark v own ≡ None
+unfolding size_mark table_size
+few_variables v own few rates a givens lines =
+    let n = length v.variables in
+    let q = problem_of_lines v own in
+    let ds = line_demands n own in
+    let rows : table_rows q ≤ 527 = rows-few n 9 (length v.rates) (dependences_of q) few rates in
+    let columns : table_columns q ≤ 7064 = omega (arith, elementals-few n few, columns-few q.constraints, length-map ds (constraint_of (space_of v)), lines-few n own a, givens, lines, rows) in
+    let size : table_rows q * table_columns q ≤ 527 * 7064 = mul-le-mul rows columns in
+    let small : nat_lt most_entries (table_rows q * table_columns q) ≡ false = grind (arith, nat_tests) in
+    rw small refl

@@ -1,0 +1,32 @@
+use Rattle.std.proofs.Common.{◌≡◌, ◌+◌, ◌++◌, sym, subst, arith, length, length-append}
+use Rattle.std.specs.Prelude.{All}
+use Rattle.it_space.specs.declared.spaces.Space.{Space}
+use Rattle.it_space.specs.Spaces.{IsSpace}
+use Rattle.it_syntax.specs.Givens.{IsGivenOf, IsRelationOf}
+use Rattle.it_question.specs.Questions.{own_lines_view, region_view}
+use Rattle.it_question.specs.Tables.{lines_with}
+use Rattle.std.proofs.lemmas.List.Elements.{All-append}
+use Rattle.it_question.proofs.TableLemmas.{region_space, region_givens, region_rows, lines_problem, space_mark}
+use Rattle.it_question.proofs.tables.containment_is_large.Goals as goal
+
+pub region_constraints-requires-clause-givens : goal.region_constraints-requires-clause-givens
+region_constraints-requires-clause-givens c = subst (λ (s : Space). All (IsGivenOf s.variables) (own_lines_view c.args.lines.now).givens) (sym c.space-space.ensures.counts)
+    (region_givens c.args.names.now (region_view c.args.first.now) (own_lines_view c.args.lines.now).givens c.requires.region c.requires.lines.givens)
+
+pub region_constraints-requires-clause-rows : goal.region_constraints-requires-clause-rows
+region_constraints-requires-clause-rows c = subst (λ (s : Space). All (IsRelationOf s.variables s.rates) (own_lines_view c.args.lines.now).rows) (sym c.space-space.ensures.counts)
+    (region_rows c.args.names.now (region_view c.args.first.now) (own_lines_view c.args.lines.now).rows c.requires.region c.requires.lines.rows)
+
+pub is_large-requires : goal.is_large-requires
+is_large-requires c =
+    let own = own_lines_view c.args.lines.now in
+    let first = region_view c.args.first.now in
+    let same = sym c.space-space.ensures.counts in
+    let space = subst IsSpace same (region_space c.args.names.now first c.requires.space c.requires.region) in
+    let givens = subst (λ (s : Space). All (IsGivenOf s.variables) (own.givens ++ first.lines.givens)) same
+    (All-append (IsGivenOf (length first.names.variables)) own.givens first.lines.givens (region_givens c.args.names.now first own.givens c.requires.region c.requires.lines.givens) c.requires.region.lines.givens) in
+    lines_problem c.space-space.result (lines_with own first) c.in-Ok.constraints.items space givens
+    (omega (arith, length-append own.givens first.lines.givens, c.requires.lines.few_givens, c.requires.region.lines.few_givens)) (omega (arith, length-append own.rows first.lines.rows, c.requires.lines.few_rows, c.requires.region.lines.few_rows)) c.in-Ok.ensures
+
+pub returns-in_ok-large-in-Ok-clause-large : goal.returns-in_ok-large-in-Ok-clause-large
+returns-in_ok-large-in-Ok-clause-large c = space_mark c.space-space.result c.args.first.now.names (lines_with (own_lines_view c.args.lines.now) (region_view c.args.first.now)) c.in-Ok.constraints.items c.in_ok-large-in-Ok.large c.space-space.ensures.counts c.in-Ok.ensures c.in_ok-large-in-Ok.ensures.large

@@ -1,0 +1,18 @@
+use Rattle.std.proofs.Common.{◌≡◌, sym, subst, arith}
+use Rattle.std.specs.Prelude.{All}
+use Rattle.it_space.specs.declared.spaces.Space.{Space}
+use Rattle.it_space.specs.Spaces.{IsSpace}
+use Rattle.it_syntax.specs.Givens.{IsGivenOf}
+use Rattle.it_question.specs.Questions.{own_lines_view}
+use Rattle.it_question.proofs.TableLemmas.{lines_problem, space_mark}
+use Rattle.it_question.proofs.tables.proof_is_large.Goals as goal
+
+pub is_large-requires : goal.is_large-requires
+is_large-requires c =
+    let own = own_lines_view c.args.lines.now in
+    let same = sym c.space-space.ensures.counts in
+    lines_problem c.space-space.result own c.in-Ok.constraints.items (subst IsSpace same c.requires.space) (subst (λ (s : Space). All (IsGivenOf s.variables) own.givens) same c.requires.lines.givens)
+    (omega (arith, c.requires.lines.few_givens)) (omega (arith, c.requires.lines.few_rows)) c.in-Ok.ensures
+
+pub returns-in_ok-large-in-Ok-clause-large : goal.returns-in_ok-large-in-Ok-clause-large
+returns-in_ok-large-in-Ok-clause-large c = space_mark c.space-space.result c.args.names.now (own_lines_view c.args.lines.now) c.in-Ok.constraints.items c.in_ok-large-in-Ok.large c.space-space.ensures.counts c.in-Ok.ensures c.in_ok-large-in-Ok.ensures.large

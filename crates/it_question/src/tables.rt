@@ -1,0 +1,155 @@
+//! The constraints of a question's lines, and whether the table of the problem that they pose is too large.
+ghost use Rattle.std.specs.Prelude.{◌≡◌, ◌+◌, ◌≤◌, ◌++◌, nat_lt, length, map, All, IfOk, IfErr};
+ghost use Rattle.it_space.specs.Problems.{IsProblem};
+ghost use Rattle.it_space.specs.Spaces.{IsSpace};
+ghost use Rattle.it_closure.specs.Sizes.{table_size};
+ghost use Rattle.it_syntax.specs.declared.rest.Stop.TheVariants.{Memory};
+ghost use Rattle.it_syntax.specs.Givens.{IsRelationOf, IsGivenOf};
+ghost use Rattle.it_demand.specs.Demands.{AreStated};
+ghost use Rattle.it_demand.specs.LineDemands.{space_of};
+ghost use Rattle.it_question.specs.Limits.{AreLinesOver, IsRegionOf};
+ghost use Rattle.it_question.specs.Questions.{own_lines_view, region_view};
+ghost use Rattle.it_question.specs.ReaderSteps.{mark_if_large};
+ghost use Rattle.it_question.specs.Tables.{line_demands, givens_alone, lines_with, most_entries, size_mark, contain_mark};
+
+use crate::types::{OwnLines, Region};
+use it_closure::size;
+use it_demand::{given_constraints, row_constraints};
+use it_space::{Constraint, Problem, Space};
+use it_syntax::Names;
+use it_syntax::rest::Stop;
+use std::alloc::{AllocError, Global};
+
+/// The most entries of a question's table.
+const MOST_ENTRIES: u64 = 4000000;
+
+/// So many variables never have a table with more entries, within the limits of a question's lines.
+const MOST_SMALL: u8 = 9;
+
+/// The constraints of a question's own lines.
+pub fn line_constraints(
+    alloc: Global,
+    lines: &OwnLines,
+    space: Space,
+) -> Result<Vec<Constraint>, AllocError>
+    requires space { IsSpace space }
+    requires givens { All (IsGivenOf space.variables) (own_lines_view lines.now).givens }
+    requires rows { All (IsRelationOf space.variables space.rates) (own_lines_view lines.now).rows }
+    requires few_givens { length lines.now.givens.items ≤ 64 }
+    requires few_rows { length lines.now.rows.items ≤ 64 }
+    ensures { IfOk result (λ v. AreStated space (line_demands space.variables (own_lines_view lines.now)) v.items) }
+{
+    let mut constraints = given_constraints(alloc, lines.givens.as_slice(), 1, space)?;
+    let mut others = row_constraints(alloc, lines.rows.as_slice(), 1, space)?;
+    constraints.append(&mut others)?;
+    Ok(constraints)
+}
+
+/// The constraints of a question's own lines with those of a region after them.
+pub fn region_constraints(
+    alloc: Global,
+    lines: &OwnLines,
+    region: &Region,
+    space: Space,
+) -> Result<Vec<Constraint>, AllocError>
+    requires space { IsSpace space }
+    requires givens { All (IsGivenOf space.variables) (own_lines_view lines.now).givens }
+    requires rows { All (IsRelationOf space.variables space.rates) (own_lines_view lines.now).rows }
+    requires few_givens { length lines.now.givens.items ≤ 64 }
+    requires few_rows { length lines.now.rows.items ≤ 64 }
+    requires own { AreLinesOver region.now.names (region_view region.now).lines }
+    requires names { space ≡ space_of region.now.names }
+    ensures { IfOk result (λ v. AreStated space (line_demands space.variables (lines_with (own_lines_view lines.now) (region_view region.now))) v.items) }
+{
+    let own = &region.lines;
+    let first_given = 1 + lines.givens.len() as u16;
+    let first_row = 1 + lines.rows.len() as u16;
+    let mut constraints = given_constraints(alloc, lines.givens.as_slice(), 1, space)?;
+    let mut own_givens = given_constraints(alloc, own.givens.as_slice(), first_given, space)?;
+    let mut shared_rows = row_constraints(alloc, lines.rows.as_slice(), 1, space)?;
+    let mut own_rows = row_constraints(alloc, own.rows.as_slice(), first_row, space)?;
+    constraints.append(&mut own_givens)?;
+    constraints.append(&mut shared_rows)?;
+    constraints.append(&mut own_rows)?;
+    Ok(constraints)
+}
+
+/// Whether the table of a problem is too large.
+fn is_large(alloc: Global, space: Space, constraints: Vec<Constraint>) -> Result<bool, Stop>
+    requires { IsProblem (record { space = space; constraints = constraints.items }) }
+    ensures large { IfOk result (λ large. large ≡ nat_lt most_entries (table_size (record { space = space; constraints = constraints.items }))) }
+    ensures memory { IfErr result (λ e. e ≡ Memory) }
+{
+    match size(alloc, &Problem { space, constraints }) {
+        Ok(size) => Ok(MOST_ENTRIES < size),
+        Err(_) => Err(Stop::Memory),
+    }
+}
+
+/// Whether the table of a question with these lines is too large, where it asks for a proof.
+pub fn proof_is_large(alloc: Global, names: &Names, lines: &OwnLines) -> Result<bool, Stop>
+    requires space { IsSpace (space_of names.now) }
+    requires lines { AreLinesOver names.now (own_lines_view lines.now) }
+    ensures large { IfOk result (λ large. size_mark names.now (own_lines_view lines.now) ≡ mark_if_large large) }
+    ensures memory { IfErr result (λ e. e ≡ Memory) }
+{
+    let space = names.space();
+    if space.variables <= MOST_SMALL {
+        return Ok(false);
+    }
+    match line_constraints(alloc, lines, space) {
+        Ok(constraints) => {
+            let large = is_large(alloc, space, constraints)?;
+            Ok(large)
+        }
+        Err(_) => Err(Stop::Memory),
+    }
+}
+
+/// The same where it asks for an elimination.
+pub fn elimination_is_large(alloc: Global, names: &Names, lines: &OwnLines) -> Result<bool, Stop>
+    requires space { IsSpace (space_of names.now) }
+    requires lines { AreLinesOver names.now (own_lines_view lines.now) }
+    ensures large { IfOk result (λ large. size_mark names.now (givens_alone (own_lines_view lines.now)) ≡ mark_if_large large) }
+    ensures memory { IfErr result (λ e. e ≡ Memory) }
+{
+    let space = names.space();
+    if space.variables <= MOST_SMALL {
+        return Ok(false);
+    }
+    match given_constraints(alloc, lines.givens.as_slice(), 1, space) {
+        Ok(constraints) => {
+            let large = is_large(alloc, space, constraints)?;
+            Ok(large)
+        }
+        Err(_) => Err(Stop::Memory),
+    }
+}
+
+/// The same where it asks for a containment, of this first region.
+pub fn containment_is_large(
+    alloc: Global,
+    names: &Names,
+    lines: &OwnLines,
+    first: &Region,
+) -> Result<bool, Stop>
+    requires space { IsSpace (space_of names.now) }
+    requires lines { AreLinesOver names.now (own_lines_view lines.now) }
+    requires region { IsRegionOf names.now (region_view first.now) }
+    requires few_givens { length lines.now.givens.items + length first.now.lines.givens.items ≤ 64 }
+    requires few_rows { length lines.now.rows.items + length first.now.lines.rows.items ≤ 64 }
+    ensures large { IfOk result (λ large. contain_mark (own_lines_view lines.now) (region_view first.now) ≡ mark_if_large large) }
+    ensures memory { IfErr result (λ e. e ≡ Memory) }
+{
+    let space = first.names.space();
+    if space.variables <= MOST_SMALL {
+        return Ok(false);
+    }
+    match region_constraints(alloc, lines, first, space) {
+        Ok(constraints) => {
+            let large = is_large(alloc, space, constraints)?;
+            Ok(large)
+        }
+        Err(_) => Err(Stop::Memory),
+    }
+}
