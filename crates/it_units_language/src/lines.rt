@@ -1,7 +1,7 @@
 //! Tests: lines cut into tokens, and what their parts are read as.
 
 use crate::fixtures::{LONGEST_FILE, names_of, terms_text};
-use it_syntax::types::{Atom, Code, Relation, Sign, Symbol, SyntaxFault, Term, Token, TokenKind};
+use it_syntax::types::{Code, Relation, Sign, Symbol, SyntaxFault, Token, TokenKind};
 use it_syntax::{Names, is_measure, line_tokens, relation, tokens};
 use std::alloc::{AllocError, Global};
 use std::process::Abort;
