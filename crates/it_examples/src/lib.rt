@@ -1,11 +1,5 @@
-//! Worked examples and hostile cases, as tests on the top call over memory and on the reading of question files.
+//! Tests on the top call over sources and sinks in memory.
 #![tactic(auto)]
 
-#[cfg(test)]
-mod limits;
-#[cfg(test)]
-mod readings;
-#[cfg(test)]
-mod refusals;
 #[cfg(test)]
 mod tests;

@@ -7,6 +7,7 @@ ghost use Rattle.it_question.specs.Questions.{question_body};
 use it_question::questions;
 use it_question::types::Question;
 use it_syntax::Names;
+use it_syntax::types::{Atom, Term};
 use std::alloc::{AllocError, Global};
 use std::process::Abort;
 use std::test::Fail;
@@ -38,4 +39,27 @@ pub fn questions_in(rt: &impl Abort, alloc: Global, file: &[u8]) -> Result<Vec<Q
 {
     assert!(rt; file.len() <= LONGEST_FILE);
     Ok(questions(alloc, file)?)
+}
+
+/// The terms in a line: sign, number, and H or I with the numbers of its sets, or R with the number of the rate.
+pub fn terms_text(alloc: Global, terms: &[Term]) -> Result<String, Fail> {
+    let mut out = String::new(alloc);
+    for term in terms {
+        let sign = if term.negative { '-' } else { '+' };
+        let number = term.number;
+        let atom = match term.atom {
+            Atom::Nothing => String::new(alloc),
+            Atom::Entropy { of, given } => format!(in alloc;
+                "H{}|{}",
+                of.number(),
+                given.number()
+            )?,
+            Atom::Mutual { left, right, given } => {
+                format!(in alloc; "I{};{}|{}", left.number(), right.number(), given.number())?
+            }
+            Atom::Rate(rate) => format!(in alloc; "R{rate}")?,
+        };
+        out.push_str(format!(in alloc; "{sign}{number}{atom}")?.as_str())?;
+    }
+    Ok(out)
 }

@@ -10,6 +10,8 @@ mod lines;
 #[cfg(test)]
 mod outside;
 #[cfg(test)]
+mod readings;
+#[cfg(test)]
 mod rows;
 #[cfg(test)]
 mod searches;

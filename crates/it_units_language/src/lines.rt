@@ -1,7 +1,7 @@
 //! Tests: lines cut into tokens, and what their parts are read as.
 
-use crate::fixtures::{LONGEST_FILE, names_of};
-use it_syntax::types::{Atom, Code, Relation, Sign, Symbol, SyntaxFault, Term, Token, TokenKind};
+use crate::fixtures::{LONGEST_FILE, names_of, terms_text};
+use it_syntax::types::{Code, Relation, Sign, Symbol, SyntaxFault, Token, TokenKind};
 use it_syntax::{Names, is_measure, line_tokens, relation, tokens};
 use std::alloc::{AllocError, Global};
 use std::process::Abort;
@@ -125,29 +125,6 @@ fn names_are_found_in_order(rt: HostRuntime) -> Result<(), Fail> {
     Ok(())
 }
 
-/// The terms in a line: sign, number, and H or I with the numbers of its sets.
-fn text_of(alloc: Global, terms: &[Term]) -> Result<String, Fail> {
-    let mut out = String::new(alloc);
-    for term in terms {
-        let sign = if term.negative { '-' } else { '+' };
-        let number = term.number;
-        let atom = match term.atom {
-            Atom::Nothing => String::new(alloc),
-            Atom::Entropy { of, given } => format!(in alloc;
-                "H{}|{}",
-                of.number(),
-                given.number()
-            )?,
-            Atom::Mutual { left, right, given } => {
-                format!(in alloc; "I{};{}|{}", left.number(), right.number(), given.number())?
-            }
-            Atom::Rate(rate) => format!(in alloc; "R{rate}")?,
-        };
-        out.push_str(format!(in alloc; "{sign}{number}{atom}")?.as_str())?;
-    }
-    Ok(out)
-}
-
 /// The relation that the line is from its second token on.
 fn read(
     rt: &impl Abort,
@@ -184,9 +161,15 @@ fn a_relation_is_read_as_its_terms(rt: HostRuntime) -> Result<(), Fail> {
     ];
     for (line, want) in cases {
         let read = read(&rt, alloc, line, &names)?;
-        assert_eq!(rt; text_of(alloc, read.left.terms.as_slice())?.as_str(), want);
+        assert_eq!(rt;
+            terms_text(alloc, read.left.terms.as_slice())?.as_str(),
+            want
+        );
         assert_eq!(rt; read.sign, Sign::AtLeast);
-        assert_eq!(rt; text_of(alloc, read.right.terms.as_slice())?.as_str(), "+0");
+        assert_eq!(rt;
+            terms_text(alloc, read.right.terms.as_slice())?.as_str(),
+            "+0"
+        );
     }
     Ok(())
 }

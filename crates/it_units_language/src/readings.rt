@@ -1,19 +1,15 @@
-//! What question files are read as, written by hand: the names, then each constraint and the verb. A term is its sign, its
+//! Tests: what question files are read as, written by hand: the names, then each constraint and the verb. A term is its sign, its
 //! number and an atom; a set is the sum of 1 for the first variable, 2 for the second, 4 for the third and so on; a
 //! rate is its number from 0.
 
-use it_question::questions;
+use crate::fixtures::{questions_in, terms_text};
 use it_question::types::{OwnLines, Question, Region, Verb};
 use it_space::VarSet;
 use it_syntax::Names;
-use it_syntax::types::{Atom, Given, Relation, Sign, Term};
+use it_syntax::types::{Given, Relation, Sign};
 use std::alloc::Global;
-use std::process::Abort;
 use std::str;
 use std::test::Fail;
-
-/// The most bytes that are read.
-const MOST: usize = 1_048_577;
 
 /// Files, and what they are read as.
 const READ: [(&[u8], &str); 30] = [
@@ -165,28 +161,6 @@ const TEXTS: [(&[u8], &[u8]); 10] = [
     ),
 ];
 
-/// Writes terms after the text.
-fn with_terms(alloc: Global, out: &mut String, terms: &[Term]) -> Result<(), Fail> {
-    for term in terms {
-        let sign = if term.negative { '-' } else { '+' };
-        let number = term.number;
-        let atom = match term.atom {
-            Atom::Nothing => String::new(alloc),
-            Atom::Entropy { of, given } => format!(in alloc;
-                "H{}|{}",
-                of.number(),
-                given.number()
-            )?,
-            Atom::Mutual { left, right, given } => {
-                format!(in alloc; "I{};{}|{}", left.number(), right.number(), given.number())?
-            }
-            Atom::Rate(rate) => format!(in alloc; "R{rate}")?,
-        };
-        out.push_str(format!(in alloc; "{sign}{number}{atom}")?.as_str())?;
-    }
-    Ok(())
-}
-
 /// Writes a relation.
 fn with_relation(alloc: Global, out: &mut String, relation: &Relation) -> Result<(), Fail> {
     let sign = match relation.sign {
@@ -194,9 +168,10 @@ fn with_relation(alloc: Global, out: &mut String, relation: &Relation) -> Result
         Sign::AtMost => "<=",
         Sign::Equal => "=",
     };
-    with_terms(alloc, out, relation.left.terms.as_slice())?;
-    out.push_str(sign)?;
-    with_terms(alloc, out, relation.right.terms.as_slice())
+    let left = terms_text(alloc, relation.left.terms.as_slice())?;
+    let right = terms_text(alloc, relation.right.terms.as_slice())?;
+    out.push_str(format!(in alloc; "{left}{sign}{right}")?.as_str())?;
+    Ok(())
 }
 
 /// Writes sets.
@@ -351,17 +326,11 @@ fn texts(alloc: Global, questions: &[Question]) -> Result<Vec<u8>, Fail> {
     Ok(out)
 }
 
-/// The questions of a file that has a reading.
-fn questions_of(rt: &impl Abort, alloc: Global, input: &[u8]) -> Result<Vec<Question>, Fail> {
-    assert!(rt; input.len() <= MOST);
-    Ok(questions(alloc, input)?)
-}
-
 #[test]
 fn files_are_read_as_their_questions(rt: HostRuntime) -> Result<(), Fail> {
     let alloc = rt.alloc();
     for (case, (input, want)) in READ.iter().enumerate() {
-        let questions = questions_of(&rt, alloc, input)?;
+        let questions = questions_in(&rt, alloc, input)?;
         let written = text_of(alloc, questions.as_slice())?;
         assert_eq!(rt; written.as_str(), *want, "case {case}");
     }
@@ -372,7 +341,7 @@ fn files_are_read_as_their_questions(rt: HostRuntime) -> Result<(), Fail> {
 fn questions_keep_their_texts(rt: HostRuntime) -> Result<(), Fail> {
     let alloc = rt.alloc();
     for (case, (input, want)) in TEXTS.iter().enumerate() {
-        let questions = questions_of(&rt, alloc, input)?;
+        let questions = questions_in(&rt, alloc, input)?;
         let texts = texts(alloc, questions.as_slice())?;
         let texts = str::from_utf8(texts.as_slice())?;
         assert_eq!(rt; texts, str::from_utf8(want)?, "case {case}");
