@@ -2,12 +2,12 @@
 use Rattle.std.specs.Prelude.{◌≡◌, ℕ, ◌+◌, List, [], ◌∷◌, ◌++◌, codes, decimal}
 use Rattle.it_space.specs.Answers.{AnswerView}
 use Rattle.it_space.specs.Answers.AnswerView.{Yes, No, Undecided, Region, Contained, Open}
+use Rattle.it_question.specs.Files.{IsFile}
 use Rattle.it_question.specs.Questions.{QuestionView}
 use Rattle.it_gen.specs.GeneratedFiles.{generated_file}
 use Rattle.it_contain.specs.Proposals.{Plan}
 use Rattle.it_answer.specs.declared.types.Budgets.{Budgets}
 use Rattle.it_answer.specs.Replies.{Reply}
-use Rattle.it_question.specs.Files.{IsFile}
 use Rattle.it_cli.specs.Right.{Context, IsRightAfter, after_answer}
 use Rattle.it_cli.specs.declared.counts.Counts.{Counts}
 

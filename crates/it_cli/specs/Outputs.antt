@@ -5,11 +5,11 @@ use Rattle.it_outside.specs.Traffic.{IsFront}
 use Rattle.it_settings.specs.declared.types.Settings.{Settings}
 use Rattle.it_settings.specs.declared.types.Settings.TheVariants.{Answer, Check, Bench}
 use Rattle.it_question.specs.Lines.{split_lines}
+use Rattle.it_question.specs.Files.{IsFile}
 use Rattle.it_question.specs.Questions.{QuestionView}
 use Rattle.it_contain.specs.Proposals.{Plan}
 use Rattle.it_report.specs.Judging.{IsVerdict}
 use Rattle.it_report.specs.LineVerdicts.{LineVerdict, is_invalid, verdict_line}
-use Rattle.it_question.specs.Files.{IsFile}
 use Rattle.it_cli.specs.Right.{AreAnsweredInPart, Answers, budgets_of}
 use Rattle.it_cli.specs.Counts.{IsBenchLine}
 use Rattle.it_cli.specs.declared.status.Status.{Status}

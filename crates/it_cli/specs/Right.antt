@@ -9,6 +9,7 @@ use Rattle.it_space.specs.Rows.{Terms}
 use Rattle.it_space.specs.Spaces.{size_of}
 use Rattle.it_polymatroid.specs.Certificates.{Form}
 use Rattle.it_elemental.specs.Generators.{Generator}
+use Rattle.it_question.specs.Files.{IsFile}
 use Rattle.it_question.specs.Questions.{BodyView, QuestionView}
 use Rattle.it_demand.specs.Demands.{Demand}
 use Rattle.it_demand.specs.LineDemands.{space_of}
@@ -25,7 +26,6 @@ use Rattle.it_answer.specs.Forms.{all_demands, demand_at}
 use Rattle.it_answer.specs.AnswerForms.{answer_forms}
 use Rattle.it_answer.specs.Replies.{Reply}
 use Rattle.it_answer.specs.RightAnswers.{IsRightAnswer}
-use Rattle.it_question.specs.Files.{IsFile}
 
 -- how much an answer may cost: the steps of a run, if they are bounded, the rows after a rate and the candidates that are tried
 abbrev pub budgets_of : Option ℕ → ℕ → ℕ → Budgets

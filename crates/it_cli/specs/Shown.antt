@@ -1,11 +1,11 @@
--- What a call that is done in mode `answer` has written, without which answers are due: the lines of answers that show what they say.
+-- What a call that is done in mode `answer` has written, whichever answers are due: the lines of answers that show what they say.
 use Rattle.std.specs.Prelude.{◌≡◌, ℕ, ◌+◌, List, [], ◌∷◌, ◌++◌, Option, Some}
 use Rattle.it_space.specs.Answers.{AnswerView}
 use Rattle.it_settings.specs.declared.types.Format.{Format}
 use Rattle.it_settings.specs.declared.types.Settings.TheVariants.{Answer}
+use Rattle.it_question.specs.Files.{IsFile}
 use Rattle.it_question.specs.Questions.{QuestionView}
 use Rattle.it_answer.specs.Shows.{Shows}
-use Rattle.it_question.specs.Files.{IsFile}
 use Rattle.it_cli.specs.Right.{answer_lines}
 use Rattle.it_cli.specs.Ends.{Call, Ends, IsReading}
 use Rattle.it_cli.specs.declared.status.Status.TheVariants.{Done}
