@@ -1,5 +1,5 @@
 -- A question of a file poses a problem, and one about a relation the rows of its targets.
-use Rattle.std.proofs.Common.{◌≡◌, ℕ, ◌^◌, List, [], ◌∷◌, ◌++◌, length, All, refl, sym, ap, subst}
+use Rattle.std.proofs.Common.{◌≡◌, ℕ, ◌^◌, List, [], ◌∷◌, length, All, refl, sym, ap, subst}
 use Rattle.std.specs.List.{AllByRecursion as Every}
 use Rattle.it_space.specs.declared.spaces.Space.{Space}
 use Rattle.it_space.specs.declared.problems.Constraint.{Constraint}

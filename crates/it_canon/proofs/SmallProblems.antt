@@ -1,5 +1,5 @@
 -- The table of the problem that a question poses isn't too large.
-use Rattle.std.proofs.Common.{◌≡◌, ◌≤◌, List, map, All, sym, ap₂, subst}
+use Rattle.std.proofs.Common.{◌≡◌, ◌≤◌, List, map, sym, ap₂, subst}
 use Rattle.std.proofs.lemmas.List.Elements.{All-weaker}
 use Rattle.it_space.specs.declared.problems.Constraint.{Constraint}
 use Rattle.it_space.specs.declared.spaces.Space.{Space}

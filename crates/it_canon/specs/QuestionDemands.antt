@@ -1,20 +1,15 @@
 -- The constraints of a question in generator order, the problem that it poses, and the rows of its system.
-use Rattle.std.specs.Prelude.{◌≡◌, ℕ, ◌+◌, ℤ, pos, ◌≤ℤ◌, List, [], ◌∷◌, ◌++◌, length, All}
-use Rattle.std.specs.List.{AllZip, flat_map}
-use Rattle.it_space.specs.declared.spaces.Space.{Space}
-use Rattle.it_space.specs.declared.problems.Origin.TheVariants.{Rate}
+use Rattle.std.specs.Prelude.{◌≡◌, ℕ, ℤ, List, length, All}
 use Rattle.it_space.specs.Problems.{ProblemView, IsProblem}
-use Rattle.it_space.specs.Rows.{Terms, value}
+use Rattle.it_space.specs.Rows.{Terms}
 use Rattle.it_polymatroid.specs.Polymatroid.{IsPolymatroid}
 use Rattle.it_demand.specs.LineDemands.{space_of, AreRowsOf}
 use Rattle.it_question.specs.Tables.{line_demands, problem_names, problem_lines}
-use Rattle.it_syntax.specs.NamesViews.{NamesView}
 use Rattle.it_syntax.specs.Meaning.{RelationView, Holds}
-use Rattle.it_syntax.specs.Givens.{GivenView, IsTrueAt}
-use Rattle.it_question.specs.Questions.{OwnLinesView, VerbView, Prove, Eliminate, Contain, BodyView}
-use Rattle.it_demand.specs.Canonical.{IsRowOf}
+use Rattle.it_syntax.specs.Givens.{IsTrueAt}
+use Rattle.it_question.specs.Questions.{OwnLinesView, BodyView}
 use Rattle.it_demand.specs.Targets.{targets}
-use Rattle.it_demand.specs.Demands.{LineDemand, AreStated, demands, demand_of, parts_of}
+use Rattle.it_demand.specs.Demands.{LineDemand, AreStated}
 
 -- how many variables the problem has
 abbrev pub variables_of : BodyView → ℕ

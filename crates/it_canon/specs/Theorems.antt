@@ -1,18 +1,11 @@
 -- A question of a file poses a problem, and no other, and its table isn't too large.
 use Rattle.std.specs.Prelude.{◌≡◌, ℕ, ◌≤◌, List, All}
-use Rattle.it_space.specs.declared.spaces.Space.{Space}
-use Rattle.it_space.specs.declared.problems.Constraint.{Constraint}
 use Rattle.it_space.specs.Problems.{ProblemView}
-use Rattle.it_space.specs.Rows.{Terms}
-use Rattle.it_polymatroid.specs.Certificates.{Form}
 use Rattle.it_closure.specs.Sizes.{table_size}
 use Rattle.it_syntax.specs.Meaning.{RelationView}
 use Rattle.it_question.specs.Files.{IsFile}
 use Rattle.it_question.specs.Questions.{BodyView, QuestionView, Prove}
 use Rattle.it_question.specs.Tables.{most_entries}
-use Rattle.it_demand.specs.Canonical.{IsRowOf}
-use Rattle.it_demand.specs.Demands.{LineDemand, AreStated}
-use Rattle.it_demand.specs.LineDemands.{AreRowsOf}
 use Rattle.it_canon.specs.QuestionDemands.{IsProblemOf, Poses}
 
 -- each question of a file poses a problem

@@ -1,4 +1,4 @@
-//! Relations and other constraints as rows over the coordinates of a space.
+//! The problems that questions pose, and the rows of their targets and systems, over the coordinates of a space.
 #![tactic(auto)]
 
 mod laws;

@@ -110,7 +110,7 @@ impl Coefficients {
         self.take_set(given, times);
     }
 
-    /// Adds a side of a relation so many times, or takes it off: a multiple of its denominators.
+    /// Adds a side of a relation times a multiple of its denominators, or takes it off.
     pub fn add_side(&mut self, space: Space, terms: &[Term], multiple: u64, negative: bool)
         requires space { IsSpace space }
         requires atoms { All (λ t. IsAtomOf space.variables space.rates t.atom) terms.now }
@@ -138,7 +138,7 @@ impl Coefficients {
     }
 }
 
-/// The product.
+/// A number so many times.
 fn whole_times(number: u64, parts: u64) -> u128
     requires small { parts ≤ 2 ^ 32 }
     ensures value { result ≡ number * parts }
@@ -147,7 +147,7 @@ fn whole_times(number: u64, parts: u64) -> u128
     number as u128 * parts as u128
 }
 
-/// How often a term counts its atom, on a side that is added or taken off so many times.
+/// How often a term counts its atom, with its sign, on a side that is added so many times, or taken off.
 fn times_of(term: Term, multiple: u64, negative: bool) -> i128
     requires some { 1 ≤ term.denominator }
     requires small { multiple ≤ 2 ^ 32 }

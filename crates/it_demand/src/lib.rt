@@ -1,4 +1,4 @@
-//! Relations and other constraints as rows over the coordinates of a space.
+//! What relations and other constraints demand, as rows over the coordinates of a space.
 #![tactic(auto)]
 
 mod coefficients;

@@ -7,6 +7,7 @@ use Rattle.it_syntax.specs.declared.types.Symbol.TheVariants as symbols
 use Rattle.it_syntax.specs.declared.types.Token.{Token}
 use Rattle.it_syntax.specs.declared.types.TokenKind.TheVariants as kinds
 use Rattle.it_syntax.specs.declared.types.Code.{Code}
+use Rattle.it_syntax.specs.Givens.{IsGivenOf}
 use Rattle.it_syntax.specs.Letters.{Word, Sym, End, MarkedLetters, without_mark, letters, without_marks}
 use Rattle.it_syntax.specs.Scopes.{scope_of}
 use Rattle.it_syntax.specs.Spans.{letters_until}

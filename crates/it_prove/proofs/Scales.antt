@@ -1,7 +1,7 @@
 -- The least common multiple of denominators, and the numbers times it.
-use Rattle.std.proofs.Common.{ℕ, ◌*◌, ◌<◌, ◌≤◌, List, [], ◌∷◌, map}
+use Rattle.std.proofs.Common.{ℕ, ◌<◌, ◌≤◌, List, [], ◌∷◌, map}
 use Prim.Native.Nat.{◌∣◌}
-use Rattle.std.proofs.lemmas.Nat.Gcd.{dvd_refl, dvd_trans, le_of_dvd}
+use Rattle.std.proofs.lemmas.Nat.Gcd.{dvd_trans, le_of_dvd}
 use Rattle.it_number.specs.Gcd.{lcm}
 use Rattle.it_number.proofs.Divisors.{lcm_is, lcm-pos, start_divides}
 use Rattle.it_rational.specs.Rational.{Rational}

@@ -1,5 +1,5 @@
 -- The size of a problem's table, by the columns of the run.
-use Rattle.std.proofs.Common.{◌≡◌, ℕ, ◌+◌, ◌*◌, List, [], ◌∷◌, ◌++◌, map, length, refl, ap, ◌∙◌, arith}
+use Rattle.std.proofs.Common.{◌≡◌, ℕ, ◌+◌, ◌*◌, List, [], ◌∷◌, ◌++◌, map, length, refl, sym, ap, ◌∙◌, arith}
 use Rattle.it_space.specs.declared.problems.Kind.{Kind}
 use Rattle.it_space.specs.declared.problems.Kind.TheVariants.{Inequality, Equation}
 use Rattle.it_space.specs.declared.problems.Constraint.{Constraint}
@@ -37,4 +37,4 @@ size_of_start q =
     let k = length (closed_places q) in
     let gs = map of_constraint q.constraints in
     let e : length (columns (closed_generators q)) ≡ length (elementals n) + constraint_columns q.constraints = length-elementals n ds n (elementals n) gs ∙ ap (λ c. length (elementals n) + c) (length-constraints n ds q.constraints) in
-    ap (λ c. k * (c + k)) e
+    sym (ap (λ c. k * (c + k)) e)

@@ -1,6 +1,5 @@
 -- A file has one reading or one first fault, and how its letters are read tells which.
-use Rattle.std.proofs.Common.{◌≡◌, ℕ, ◌+◌, List, [], ◌∷◌, ◌++◌, length, Option, Some, None, Ok, Err, refl, sym, ap, ◌∙◌, subst, inl, inr, append_assoc}
-use Rattle.std.specs.Prelude.{◌-◌, slice_get}
+use Rattle.std.proofs.Common.{◌≡◌, ℕ, ◌+◌, List, [], ◌∷◌, ◌++◌, Option, Some, None, Ok, Err, refl, sym, ap, ◌∙◌, subst, inl, inr, append_assoc}
 use Rattle.std.proofs.lemmas.List.{append-nil}
 use Rattle.it_syntax.specs.declared.types.Code.{Code}
 use Rattle.it_syntax.specs.declared.types.Misspelling.{Misspelling}
@@ -13,7 +12,7 @@ use Rattle.it_syntax.proofs.Traces.{By, Went}
 use Rattle.it_syntax.proofs.MisspellingLemmas.{line_tokens_are_one}
 use Rattle.it_syntax.proofs.FirstFaults.{letters_append, letters_after, first_fault, one_fault, reads_found, reads_only, clean_is_clean, letters_cleaned}
 use Rattle.it_question.specs.Files.{FileIsOne, FileFaultIsOne, FileOrFault, place_of}
-use Rattle.it_question.specs.Lines.{LineView, AreLines, AreLinesOf, IsLine, HasTokens, IsFilled, split_lines, plain_text, file_end, letters_of_lines, places_of_lines}
+use Rattle.it_question.specs.Lines.{LineView, AreLines, AreLinesOf, IsLine, HasTokens, IsFilled, split_lines, plain_text, file_end, letters_of_lines}
 use Rattle.it_question.specs.Questions.{BodyView}
 use Rattle.it_question.specs.Reading.{read_file}
 use Rattle.it_question.specs.Texts.{with_texts}

@@ -11,7 +11,7 @@ use Rattle.it_syntax.specs.Meaning.{RelationView}
 use Rattle.it_syntax.specs.MeasureReading.{Reads, ◌>>=◌, no_rule, line_end}
 use Rattle.it_syntax.specs.Scopes.{env_of, scope_of}
 use Rattle.it_syntax.specs.RelationReading.{read_relation}
-use Rattle.it_question.specs.Keywords.{vars_keyword, rates_keyword, region_keyword, aux_keyword, prove_keyword, eliminate_keyword, contain_keyword}
+use Rattle.it_question.specs.Keywords.{vars_keyword, rates_keyword, region_keyword, aux_keyword, prove_keyword, eliminate_keyword}
 use Rattle.it_syntax.specs.declared.types.Code.{Code}
 use Rattle.it_space.specs.Spaces.{IsSpace}
 use Rattle.it_demand.specs.LineDemands.{space_of}

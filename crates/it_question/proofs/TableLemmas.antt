@@ -1,12 +1,12 @@
 -- The problem of lines, and the mark that its table's size gives.
-use Rattle.std.proofs.Common.{◌≡◌, ℕ, ◌+◌, ◌-◌, ◌*◌, ◌/◌, ◌≤◌, ◌^◌, Bool, true, false, cond, nat_lt, List, [], ◌∷◌, length, map, Option, Some, None, refl, sym, ap, ap₂, subst, ◌∙◌, arith, lit<, length-append}
+use Rattle.std.proofs.Common.{◌≡◌, ℕ, ◌+◌, ◌-◌, ◌*◌, ◌/◌, ◌≤◌, ◌^◌, Bool, false, nat_lt, List, [], ◌∷◌, length, map, None, refl, sym, ap, ap₂, subst, ◌∙◌, arith, lit<, length-append}
 use Rattle.std.specs.Prelude.{All}
-use Rattle.std.proofs.lemmas.List.Elements.{All-weaker, All-append}
+use Rattle.std.proofs.lemmas.List.Elements.{All-weaker}
 use Rattle.it_space.specs.declared.spaces.Space.{Space}
 use Rattle.it_space.specs.declared.problems.Kind.{Kind}
 use Rattle.it_space.specs.declared.problems.Origin.{Origin}
 use Rattle.it_space.specs.declared.problems.Constraint.{Constraint}
-use Rattle.it_space.specs.Problems.{ProblemView, IsProblem}
+use Rattle.it_space.specs.Problems.{IsProblem}
 use Rattle.it_space.specs.Rows.{Terms, IsUpTo}
 use Rattle.it_space.specs.Spaces.{IsSpace, size_of}
 use Rattle.std.proofs.Math.Nat.{mul-le-mul, pow-le-pow_right}
@@ -17,7 +17,7 @@ use Rattle.it_elemental.proofs.PlaceLemmas.{length-elementals}
 use Rattle.std.proofs.lemmas.Bool.Decides.{nat_tests}
 use Rattle.it_polymatroid.specs.Elementals.{elementals}
 use Rattle.it_closure.specs.Reading.{dependences_of}
-use Rattle.it_closure.specs.Sizes.{constraint_columns, table_rows, table_columns, table_size}
+use Rattle.it_closure.specs.Sizes.{table_rows, table_columns, table_size}
 use Rattle.it_closure.proofs.SizeLemmas.{rows-few, columns-few}
 use Rattle.it_syntax.specs.Givens.{GivenView, given_view, IsRelationOf, IsGivenOf}
 use Rattle.it_syntax.specs.declared.types.Given.{Given}
@@ -102,8 +102,11 @@ givens_stated s slice items cs e h = subst (λ (xs : List LineDemand). AreStated
 elementals-few : (n : ℕ) → n ≤ 9 → length (elementals n) ≤ 4617
 elementals-few n h =
     let power : 2 ^ n ≤ 2 ^ 9 = pow-le-pow_right (lit< tt) h in
-    let square : n * (n - 1) ≤ 9 * 8 = mul-le-mul h (omega arith) in
-    let both : length (index_pairs n) * (2 ^ n / 4) ≤ 36 * 128 = mul-le-mul (omega (arith, length-index_pairs n, square)) (omega (arith, power)) in
+    let less : n - 1 ≤ 8 = omega (arith, h) in
+    let square : n * (n - 1) ≤ 9 * 8 = mul-le-mul h less in
+    let pairs : length (index_pairs n) ≤ 36 = omega (arith, length-index_pairs n, square) in
+    let quarter : 2 ^ n / 4 ≤ 128 = omega (arith, power) in
+    let both : length (index_pairs n) * (2 ^ n / 4) ≤ 36 * 128 = mul-le-mul pairs quarter in
     omega (arith, length-elementals n, both, h)
 
 -- at most nine variables, with lines within the limits, have a table that isn't too large

@@ -91,13 +91,13 @@ pub fn relation_to_end(
 /// The relation that a line is from its token number `from` on, with `>=`, `<=` or `=` between two sums. `tokens` are what
 /// the call `line_tokens` gave for this line.
 ///
-/// A term is a number, or a number, `/` and a denominator, and then an entropy `H(A)` or `H(A|C)`, a mutual information
-/// `I(A;B)` or `I(A;B|C)`, or a rate, or such a thing without a number, or 0; A, B and C are names of variables with `,`
-/// between them. `rates` says whether rates may stand there. At most 256 terms are read, both sides together. The fault is
-/// the first: `Word` at what no rule allows there, `Name` at a name that is unknown or at a rate where none may stand,
-/// `Number` at a denominator that is 0 or with which the least common multiple of the denominators passes 2^32, `Many` at
-/// the first token of the term past the limit, after its sign, and what `tokens` has for a misspelling; the line's end has
-/// the column after its last token.
+/// A term is a coefficient and then an entropy `H(A)` or `H(A|C)`, a mutual information `I(A;B)` or `I(A;B|C)`, or a rate,
+/// or such a thing without a coefficient, or 0; A, B and C are names of variables with `,` between them. A coefficient is a
+/// number, or a number, `/` and a denominator. `rates` says whether rates may stand there. At most 256 terms are read, both
+/// sides together. The fault is the first: `Word` at what no rule allows there, `Name` at a name that is unknown or at a
+/// rate where none may stand, `Number` at a denominator that is 0 or with which the least common multiple of the
+/// denominators, as they are written, both sides together, passes 2^32, `Many` at the first token of the term past the
+/// limit, after its sign, and what `tokens` has for a misspelling; the line's end has the column after its last token.
 pub fn relation(
     alloc: Global,
     line: &[u8],

@@ -1,7 +1,11 @@
+use Rattle.std.proofs.Common.{arith}
+use Rattle.std.proofs.lemmas.List.{length-map}
 use Rattle.std.proofs.lemmas.Result.{err_from_is_err_and}
+use Rattle.it_syntax.specs.Givens.{given_view}
+use Rattle.it_syntax.specs.Meaning.{relation_view}
 use Rattle.it_question.specs.Cursors.{letters_left}
 use Rattle.it_question.specs.Questions.{own_lines_view, region_view}
-use Rattle.it_question.proofs.LimitLemmas.{region_limited}
+use Rattle.it_question.proofs.LimitLemmas.{region_limited, region_counted}
 use Rattle.it_question.proofs.RegionLemmas.{tries_stop, contain_stops, region_under}
 use Rattle.it_question.specs.WrittenQuestions.{most_lines}
 use Rattle.it_question.specs.WrittenRegions.{givens_left, rows_left}
@@ -25,3 +29,19 @@ contain-requires-clause-region c =
     region_limited own c.args.names.now (letters_left c.args.cursor.now) (letters_left c.region.new.cursor) (region_view c.in_ok-first.first) c.requires.space
     (region_under c.givens_left-most_givens.result c.rows_left-most_rows.result (givens_left most_lines own) (rows_left most_lines own) c.args.names.now (letters_left c.args.cursor.now) (letters_left c.region.new.cursor) (region_view c.in_ok-first.first)
     c.givens_left-most_givens.ensures c.rows_left-most_rows.ensures c.in_ok-first.ensures)
+
+pub contain-requires-clause-few_givens : goal.contain-requires-clause-few_givens
+contain-requires-clause-few_givens c =
+    let own = own_lines_view c.args.lines.now in
+    let counted = region_counted own c.args.names.now (letters_left c.args.cursor.now) (letters_left c.region.new.cursor) (region_view c.in_ok-first.first) c.requires.lines
+    (region_under c.givens_left-most_givens.result c.rows_left-most_rows.result (givens_left most_lines own) (rows_left most_lines own) c.args.names.now (letters_left c.args.cursor.now) (letters_left c.region.new.cursor) (region_view c.in_ok-first.first)
+    c.givens_left-most_givens.ensures c.rows_left-most_rows.ensures c.in_ok-first.ensures) in
+    omega (arith, counted.0, length-map c.args.lines.now.givens.items given_view, length-map c.in_ok-first.first.lines.givens.items given_view)
+
+pub contain-requires-clause-few_rows : goal.contain-requires-clause-few_rows
+contain-requires-clause-few_rows c =
+    let own = own_lines_view c.args.lines.now in
+    let counted = region_counted own c.args.names.now (letters_left c.args.cursor.now) (letters_left c.region.new.cursor) (region_view c.in_ok-first.first) c.requires.lines
+    (region_under c.givens_left-most_givens.result c.rows_left-most_rows.result (givens_left most_lines own) (rows_left most_lines own) c.args.names.now (letters_left c.args.cursor.now) (letters_left c.region.new.cursor) (region_view c.in_ok-first.first)
+    c.givens_left-most_givens.ensures c.rows_left-most_rows.ensures c.in_ok-first.ensures) in
+    omega (arith, counted.1, length-map c.args.lines.now.rows.items relation_view, length-map c.in_ok-first.first.lines.rows.items relation_view)

@@ -1,12 +1,14 @@
-use Rattle.std.proofs.Common.{◌≡◌, ◌+◌, ◌++◌, sym, subst, arith, length, length-append}
+use Rattle.std.proofs.Common.{◌++◌, ap, sym, subst, arith, length, length-append}
 use Rattle.std.specs.Prelude.{All}
 use Rattle.it_space.specs.declared.spaces.Space.{Space}
 use Rattle.it_space.specs.Spaces.{IsSpace}
-use Rattle.it_syntax.specs.Givens.{IsGivenOf, IsRelationOf}
+use Rattle.std.proofs.lemmas.List.{length-map}
+use Rattle.it_syntax.specs.Givens.{given_view, IsGivenOf, IsRelationOf}
+use Rattle.it_syntax.specs.Meaning.{relation_view}
 use Rattle.it_question.specs.Questions.{own_lines_view, region_view}
 use Rattle.it_question.specs.Tables.{lines_with}
 use Rattle.std.proofs.lemmas.List.Elements.{All-append}
-use Rattle.it_question.proofs.TableLemmas.{region_space, region_givens, region_rows, lines_problem, space_mark}
+use Rattle.it_question.proofs.TableLemmas.{region_space, region_givens, region_rows, few_variables, lines_problem, space_mark}
 use Rattle.it_question.proofs.tables.containment_is_large.Goals as goal
 
 pub region_constraints-requires-clause-givens : goal.region_constraints-requires-clause-givens
@@ -30,3 +32,14 @@ is_large-requires c =
 
 pub returns-in_ok-large-in-Ok-clause-large : goal.returns-in_ok-large-in-Ok-clause-large
 returns-in_ok-large-in-Ok-clause-large c = space_mark c.space-space.result c.args.first.now.names (lines_with (own_lines_view c.args.lines.now) (region_view c.args.first.now)) c.in-Ok.constraints.items c.in_ok-large-in-Ok.large c.space-space.ensures.counts c.in-Ok.ensures c.in_ok-large-in-Ok.ensures.large
+
+pub returns-then-space-le-MOST_SMALL-clause-large : goal.returns-then-space-le-MOST_SMALL-clause-large
+returns-then-space-le-MOST_SMALL-clause-large c =
+    let own = own_lines_view c.args.lines.now in
+    let first = region_view c.args.first.now in
+    let space = region_space c.args.names.now first c.requires.space c.requires.region in
+    let givens = region_givens c.args.names.now first own.givens c.requires.region c.requires.lines.givens in
+    few_variables first.names (lines_with own first) (omega (arith, ap (λ (s : Space). s.variables) c.space-space.ensures.counts, c.if-space-le-MOST_SMALL.true)) space.few_rates
+    (All-append (IsGivenOf (length first.names.variables)) own.givens first.lines.givens givens c.requires.region.lines.givens)
+    (omega (arith, length-append own.givens first.lines.givens, length-map c.args.lines.now.givens.items given_view, length-map c.args.first.now.lines.givens.items given_view, c.requires.few_givens))
+    (omega (arith, length-append own.rows first.lines.rows, length-map c.args.lines.now.rows.items relation_view, length-map c.args.first.now.lines.rows.items relation_view, c.requires.few_rows))
