@@ -1,5 +1,8 @@
 """What the program is to write: the lines of answers in each format, the verdicts on a report, refusals; for the command's words and an input."""
 
+import re
+import shlex
+
 import contain
 import defined
 import eliminate
@@ -85,3 +88,21 @@ def outcome(words, source):
         return f"refused {fault}\n", 3
     answers = Answers(words)
     return "".join(line + "\n" for number, question in enumerate(questions, 1) for line in answers.lines(number, question)), 0
+
+
+def rows_of(text):
+    """The calls of a file of rows, as `check` beside this folder has them: words, input, status and output."""
+    words, status = ["answer"], 0
+    for line in text.split("\n"):
+        if line.startswith("@ "):
+            status, *words = shlex.split(line[2:])
+        elif line and line[0] != "#":
+            source, _, output = line.rpartition(" =>")
+            source = re.sub(r"<<(.*)\*([0-9]+)>>", lambda piece: piece[1] * int(piece[2]), source)
+            yield words, bytes_of(source), int(status), bytes_of(output.removeprefix(" ")).decode("latin-1")
+
+
+def bytes_of(text):
+    """A text with escapes as `printf` reads them by %b."""
+    escapes = {"n": "\n", "t": "\t", "r": "\r", "\\": "\\"}
+    return re.sub(r"\\(?:0([0-7]{1,3})|(.))", lambda found: chr(int(found[1], 8)) if found[1] else escapes[found[2]], text).encode("latin-1")
