@@ -5,12 +5,13 @@ The simplex method with Bland's rule on the columns over closed sets; the weight
 """
 
 import atexit
-from functools import cache
+from functools import cache, cached_property
 from math import gcd
 from pathlib import Path
 from subprocess import DEVNULL, PIPE, CalledProcessError, run
 from tempfile import TemporaryDirectory
 
+from closures import closure, dependences
 from verify import point_fault, sum_fault, value
 
 # every number of the product is at most this in absolute value
@@ -66,41 +67,6 @@ def subtract(a, b):
     return t // g2, fit((a[1] // g) * (b[1] // g2))
 
 
-# Closures
-
-class Dependence:
-    """Of a given equation h(to) - h(at) = 0, or its negation, with `at` strictly inside `to`."""
-
-    def __init__(self, at, to, generator, turned):
-        self.at, self.to, self.generator, self.turned = at, to, generator, turned
-
-
-def dependences(question, first):
-    """Those of a question, in order of generators; the number of the first constraint is `first`."""
-    found = []
-    for number, constraint in enumerate(question.constraints, first):
-        row = constraint.row
-        if not (constraint.given and constraint.equation) or sorted(row.values()) not in ([-1, 1], [1], [-1]):
-            continue
-        plus = next((at for at, c in row.items() if c == 1), 0)
-        minus = next((at for at, c in row.items() if c == -1), 0)
-        if plus | minus == plus:
-            found.append(Dependence(minus, plus, number, False))
-        elif plus | minus == minus:
-            found.append(Dependence(plus, minus, number, True))
-    return found
-
-
-def closure(found, a):
-    while True:
-        before = a
-        for d in found:
-            if d.at | a == a:
-                a |= d.to
-        if a == before:
-            return a
-
-
 # The run
 
 class Run:
@@ -108,7 +74,7 @@ class Run:
         self.question, self.target, self.budget = question, target, budget
         self.n = len(question.names)
         self.generators = question.generators()
-        self.dependences = dependences(question, len(self.generators) - len(question.constraints))
+        self.dependences = dependences(question.constraints, len(self.generators) - len(question.constraints))
         self.closures = [closure(self.dependences, a) for a in range(2**self.n)]
         self.steps = 0
 
@@ -288,8 +254,9 @@ class Run:
 
     # The lift
 
-    def index(self, name):
-        return next(i for i, g in enumerate(self.generators) if g.name == name)
+    @cached_property
+    def indexes(self):
+        return {g.name: i for i, g in enumerate(self.generators)}
 
     def expand_conditional(self, a, k):
         """Inequalities that sum to H(a|k)."""
@@ -301,7 +268,7 @@ class Run:
                 listed.append(self.mutual(x, y, given))
                 given |= y
             k |= x
-        return [self.index(name) for name in listed]
+        return [self.indexes[name] for name in listed]
 
     def expand_mutual(self, a, b, c):
         """Inequalities that sum to I(a;b|c)."""
@@ -312,7 +279,7 @@ class Run:
                 listed.append(self.mutual(x, y, given))
                 given |= y
             before |= x
-        return [self.index(name) for name in listed]
+        return [self.indexes[name] for name in listed]
 
     def mutual(self, x, y, given):
         return self.question.mutual_text(min(x, y), max(x, y), given)

@@ -8,8 +8,10 @@ from questions import Scope
 
 
 class Generator:
-    def __init__(self, seed):
-        self.random = Random(seed)
+    """`fractions` is the chance of a coefficient to be a fraction."""
+
+    def __init__(self, seed, fractions=0.2):
+        self.random, self.fractions = Random(seed), fractions
 
     def chance(self, probability):
         return self.random.random() < probability
@@ -24,10 +26,15 @@ class Generator:
         bar = f"|{self.list()}" if self.chance(0.4) else ""
         return f"H({self.list()}{bar})" if self.chance(0.5) else f"I({self.list()};{self.list()}{bar})"
 
+    def coefficient(self, numbers=("", "", "2 ", "3 ")):
+        if self.chance(self.fractions):
+            return f"{self.random.randint(0, 7)}/{self.random.choice([1, 2, 2, 3, 3, 4, 5, 6, 8, 12])} "
+        return self.random.choice(numbers)
+
     def side(self, rates):
         if self.chance(0.15):
             return "0"
-        terms = [self.random.choice(["", "", "2 ", "3 "]) + self.atom(rates) for _ in range(self.random.choice([1, 1, 2, 3]))]
+        terms = [self.coefficient() + self.atom(rates) for _ in range(self.random.choice([1, 1, 2, 3]))]
         text = ("- " if self.chance(0.1) else "") + terms[0]
         for term in terms[1:]:
             text += self.random.choice([" + ", " + ", " - "]) + term
@@ -70,7 +77,7 @@ class Generator:
         return "\n".join(lines + ["eliminate " + ", ".join(gone)]) + "\n"
 
     def rate_row(self, rates):
-        terms = [self.random.choice(["", "", "2 ", "3 ", "4 "]) + rate for rate in self.random.sample(rates, self.random.choice([1, 2, 2]))]
+        terms = [self.coefficient(("", "", "2 ", "3 ", "4 ")) + rate for rate in self.random.sample(rates, self.random.choice([1, 2, 2]))]
         signs = [self.random.choice([" + ", " - "]) for _ in terms[1:]]
         left = terms[0] + "".join(sign + term for sign, term in zip(signs, terms[1:]))
         right = self.random.choice(["0", self.atom([]), self.atom([]), f"2 {self.atom([])}"])

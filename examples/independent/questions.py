@@ -1,22 +1,34 @@
-"""Reads question files: what a question says, as rows over joint entropies and rates.
+"""Reads question files: what a question says, as rows over joint entropies and rates, or the first fault of a text that is none.
 
 A set of variables is a whole number whose binary digit i stands for variable i. A row is a dict from a coordinate to a whole
-number: a nonempty set's number, or 2**n + r for rate r. `Fault` says that a text is no question file; where, it doesn't say.
+number: a nonempty set's number, or 2**n + r for rate r. A text is read from the left. Each rule is asked about the next token, or about
+the end of the line where there is none; the first one that isn't kept is the fault. So at one token its spelling is judged first, when it
+is looked at, then its place in the grammar, what it means, and the limits.
 """
 
 import re
+from functools import lru_cache
+from math import lcm
 
-TOKEN = re.compile(r" *(?:([A-Za-z][A-Za-z0-9_]*)|([0-9]+)|(->|>=|<=|:=|[(),;|+=-]))")
+from closures import table_size
+
+BLANKS = re.compile(" *")
+TOKEN = re.compile(r"([A-Za-z][A-Za-z0-9_]*)|([0-9]+)|->|>=|<=|:=|[(),;|+=/-]")
 SIGNS = (">=", "<=", "=")
+
+# at most so many of each, and a table of so many entries
+QUESTIONS, VARIABLES, AUXILIARIES, RATES, LINES, MEMBERS, TERMS = 1000, 10, 4, 16, 64, 16, 256
+ENTRIES = 4000000
+
+# the greatest least common multiple of a relation's denominators
+MULTIPLE = 2**32
 
 
 class Fault(Exception):
-    """What keeps a text from being a question file."""
+    """The first fault of a text: its line and column, from 1, and its word."""
 
-
-def rule(kept, what):
-    if not kept:
-        raise Fault(what)
+    def __init__(self, line, column, word):
+        super().__init__(f"{line}:{column} {word}")
 
 
 class Generator:
@@ -48,19 +60,7 @@ class Scope:
         return f"h({self.set_text(at)})" if at < 2**n else self.rates[at - 2**n]
 
     def elementals(self):
-        """H(X|all others), then I(X;Y|K) for X before Y and K by number."""
-        n = len(self.names)
-        whole = 2**n - 1
-        for i in range(n):
-            others = whole - 2**i
-            yield Generator(self.entropy_text(2**i, others), row_of([(1, whole), (-1, others)]))
-        for i in range(n):
-            for j in range(i + 1, n):
-                x, y = 2**i, 2**j
-                for k in range(2**n):
-                    if not k & (x | y):
-                        terms = [(1, x | k), (1, y | k), (-1, x | y | k), (-1, k)]
-                        yield Generator(self.mutual_text(x, y, k), row_of(terms))
+        return elementals(tuple(self.names))
 
     def entropy_text(self, of, given):
         return f"H({self.set_text(of)}|{self.set_text(given)})" if given else f"H({self.set_text(of)})"
@@ -70,7 +70,25 @@ class Scope:
         return f"I({self.set_text(x)};{self.set_text(y)}{bar})"
 
     def generators(self):
-        return list(self.elementals()) + self.constraints
+        return self.elementals() + self.constraints
+
+
+@lru_cache(maxsize=16)
+def elementals(names):
+    """H(X|all others), then I(X;Y|K) for X before Y and K by number."""
+    scope, n = Scope(names), len(names)
+    whole, found = 2**n - 1, []
+    for i in range(n):
+        others = whole - 2**i
+        found.append(Generator(scope.entropy_text(2**i, others), row_of([(1, whole), (-1, others)])))
+    for i in range(n):
+        for j in range(i + 1, n):
+            x, y = 2**i, 2**j
+            for k in range(2**n):
+                if not k & (x | y):
+                    terms = [(1, x | k), (1, y | k), (-1, x | y | k), (-1, k)]
+                    found.append(Generator(scope.mutual_text(x, y, k), row_of(terms)))
+    return found
 
 
 class Question(Scope):
@@ -111,78 +129,98 @@ def negated(row):
     return {at: -c for at, c in row.items()}
 
 
+def number_of(digits):
+    return int(digits.lstrip("0") or "0") if len(digits.lstrip("0")) < 21 else 2**64
+
+
 class Line:
     """The tokens of a line, read from the left."""
 
-    def __init__(self, text, scope=None):
-        self.tokens, self.at, self.scope = [], 0, scope
-        end = 0
-        while text[end:].strip(" "):
-            match = TOKEN.match(text, end)
-            rule(match, "a byte that begins no token")
-            token = match.group(match.lastindex)
-            rule(match.lastindex != 1 or len(token) <= 16, "a long word")
-            rule(match.lastindex != 2 or int(token) < 2**64, "a number above 2**64 - 1")
-            self.tokens.append(token)
-            end = match.end()
+    def __init__(self, text, number, scope=None):
+        self.text, self.number, self.scope = text, number, scope
+        # where the last token that was taken ends
+        self.at = 0
+        # of a relation: how many terms were begun, and the least common multiple of the denominators
+        self.terms, self.multiple = 0, 1
 
-    def next(self):
-        rule(self.at < len(self.tokens), "the line's end")
-        self.at += 1
-        return self.tokens[self.at - 1]
+    def start(self):
+        """Where the next token starts; where there is none, the end of the last one."""
+        start = BLANKS.match(self.text, self.at).end()
+        return start if start < len(self.text) else self.at
+
+    def rule(self, kept, word):
+        """A rule on the next token, or on the line's end."""
+        if not kept:
+            raise Fault(self.number, self.start() + 1, word)
 
     def peek(self):
-        return self.tokens[self.at] if self.at < len(self.tokens) else None
+        """The next token, which must be spelled rightly; at the line's end an empty text."""
+        start = BLANKS.match(self.text, self.at).end()
+        if start == len(self.text):
+            return ""
+        match = TOKEN.match(self.text, start)
+        self.rule(match, "byte")
+        self.rule(not match[1] or len(match[1]) <= 16, "many")
+        self.rule(not match[2] or number_of(match[2]) < 2**64, "number")
+        return match[0]
+
+    def next(self):
+        token = self.peek()
+        self.at = self.start() + len(token)
+        return token
 
     def take(self, token):
-        if self.peek() == token:
-            self.at += 1
-            return True
-        return False
+        return self.peek() == token and bool(self.next())
 
     def want(self, token):
-        rule(self.take(token), f"no {token}")
+        self.rule(self.take(token), "word")
 
     def end(self):
-        rule(self.peek() is None, "more on the line")
+        self.rule(not self.peek(), "word")
 
     def name(self):
-        name = self.next()
-        rule(name[0].isalpha() and name not in ("H", "I"), "no name")
+        """The next token, which must be a name; it is looked at and not taken."""
+        name = self.peek()
+        self.rule(name[:1].isalpha() and name not in ("H", "I"), "word")
         return name
 
-    def new_names(self, taken):
-        """Names that aren't taken, and differ."""
-        names = list(taken)
+    def new_names(self, taken, most):
+        """Names that aren't taken, and differ; so many at most."""
+        names = []
         while True:
             name = self.name()
-            rule(name not in names, "a name twice")
-            names.append(name)
+            self.rule(name not in taken and name not in names, "twice")
+            self.rule(len(names) < most, "many")
+            names.append(self.next())
             if not self.take(","):
                 self.end()
-                return names[len(taken):]
+                return names
 
-    def known(self, names):
+    def known(self, names, room=True):
+        """The number of the next name, which is one of these; `room` says that one more may stand there."""
         name = self.name()
-        rule(name in names, "an unknown name")
-        return names.index(name)
+        self.rule(name in names, "name")
+        self.rule(room, "many")
+        return names.index(self.next())
 
-    def set(self):
-        number = 2 ** self.known(self.scope.names)
+    def set(self, room=True):
+        number = 2 ** self.known(self.scope.names, room)
         while self.take(","):
             number |= 2 ** self.known(self.scope.names)
         return number
 
     def sets(self, between, least):
         sets = [self.set()]
-        while self.take(between):
-            sets.append(self.set())
-        rule(least <= len(sets) <= 16, "too few or many members")
+        while len(sets) < least or self.peek() == between:
+            self.want(between)
+            sets.append(self.set(len(sets) < MEMBERS))
         return sets
 
-    def atom(self, rates):
+    def atom(self, rates, room=True):
+        """Coordinates with their coefficients."""
         if self.peek() not in ("H", "I"):
-            return [(1, 2 ** len(self.scope.names) + self.known(self.scope.rates if rates else []))]
+            return [(1, 2 ** len(self.scope.names) + self.known(self.scope.rates if rates else [], room))]
+        self.rule(room, "many")
         word = self.next()
         self.want("(")
         left = self.set()
@@ -196,35 +234,55 @@ class Line:
             return [(1, left | given), (-1, given)]
         return [(1, left | given), (1, right | given), (-1, left | right | given), (-1, given)]
 
+    def value(self):
+        """The value of the next token, None where it is no number; it is looked at and not taken."""
+        token = self.peek()
+        return number_of(token) if token[:1].isdigit() else None
+
+    def denominator(self):
+        denominator = self.value()
+        self.rule(denominator is not None, "word")
+        self.rule(denominator and lcm(self.multiple, denominator) <= MULTIPLE, "number")
+        self.multiple = lcm(self.multiple, denominator)
+        self.next()
+        return denominator
+
+    def term(self, rates):
+        """The number and the denominator of a term, and its coordinates with their coefficients."""
+        self.terms += 1
+        room, number, denominator = self.terms <= TERMS, self.value(), 1
+        if number is None:
+            return 1, 1, self.atom(rates, room)
+        self.rule(room, "many")
+        self.next()
+        if self.take("/"):
+            denominator = self.denominator()
+        elif number == 0 and not self.peek()[:1].isalpha():
+            return 0, 1, []
+        return number, denominator, self.atom(rates)
+
     def side(self, rates):
-        """The terms over joint entropies and rates, and how many are written."""
-        terms, sign, count = [], 1, 0
-        if self.peek() in ("+", "-"):
-            sign = 1 if self.next() == "+" else -1
+        """The terms of a sum, each after its sign."""
+        terms, sign = [], self.next() if self.peek() in ("+", "-") else "+"
         while True:
-            number, count = 1, count + 1
-            rule(self.peek() is not None, "no term")
-            if self.peek()[0].isdigit():
-                number = int(self.next())
-                if number == 0 and self.peek() in (None, "+", "-", *SIGNS):
-                    number = None
-            if number is not None:
-                terms += [(sign * number * c, at) for c, at in self.atom(rates)]
+            terms.append((1 if sign == "+" else -1, *self.term(rates)))
             if self.peek() not in ("+", "-"):
-                return terms, count
-            sign = 1 if self.next() == "+" else -1
+                return terms
+            sign = self.next()
 
     def relation(self, rates):
-        """The row that is at least 0, or 0, and whether it is an equation."""
-        left, count = self.side(rates)
+        """The row that is at least 0, or 0, and whether it is an equation. All is multiplied by the least common multiple of the
+        denominators as they are written, those of both sides."""
+        left = self.side(rates)
+        self.rule(self.peek() in SIGNS, "word")
         sign = self.next()
-        rule(sign in SIGNS, "no sign")
-        right, more = self.side(rates)
+        right = self.side(rates)
         self.end()
-        rule(count + more <= 256, "too many terms")
         if sign == "<=":
             left, right = right, left
-        return row_of(left + [(-c, at) for c, at in right]), sign == "="
+        terms = left + [(-minus, *term) for minus, *term in right]
+        row = row_of([(minus * p * (self.multiple // q) * c, at) for minus, p, q, atom in terms for c, at in atom])
+        return row, sign == "="
 
     def given(self, number):
         """The constraints of a `given` line, the line's number among them being `number`."""
@@ -260,29 +318,26 @@ class Line:
 
     def tried(self, first, second):
         """The sets of a `try` line: each auxiliary of the second region once, with a set of the first one's variables."""
-        auxiliaries = second.auxiliary_names()
-        left, sets = list(auxiliaries), {}
+        auxiliaries, sets = second.auxiliary_names(), {}
         self.scope = first
         while True:
-            name = self.tried_name(auxiliaries, left)
-            left.remove(name)
+            name = self.name()
+            self.rule(name in auxiliaries, "name")
+            self.rule(name not in sets, "twice")
+            self.next()
             self.want(":=")
-            if self.peek() is not None and self.peek()[0].isdigit():
-                rule(int(self.next()) == 0, "a number as a set")
-                sets[name] = 0
-            else:
+            number = self.value()
+            self.rule(not number, "word")
+            if number is None:
                 sets[name] = self.set()
+            else:
+                sets[name] = number
+                self.next()
             if not self.take(";"):
                 break
         self.end()
-        rule(not left, "an auxiliary is left out")
+        self.rule(len(sets) == len(auxiliaries), "word")
         return [sets[name] for name in auxiliaries]
-
-    def tried_name(self, auxiliaries, left):
-        name = self.name()
-        rule(name in auxiliaries, "an unknown name")
-        rule(name in left, "an auxiliary twice")
-        return name
 
 
 class File:
@@ -295,85 +350,102 @@ class File:
     def scope(self):
         return self.question.regions[-1] if self.question and self.question.regions else self.question
 
-    def count(self, word, most=64):
-        self.counts[word] = self.counts.get(word, 0) + 1
-        rule(self.counts[word] <= most, f"too many {word} lines")
-        return self.counts[word]
+    def words(self):
+        """What the next line may begin with."""
+        if not self.question:
+            return ["vars"]
+        regions = len(self.question.regions)
+        words = [] if self.before == "try" else ["given", "row"]
+        if self.before == "vars":
+            words.append("rates")
+        if self.before == "region":
+            words.append("aux")
+        if regions == 0:
+            words += ["prove", "eliminate"]
+        if regions < 2:
+            words.append("region")
+        else:
+            words += ["try", "contain"] if self.scope().auxiliaries else ["contain"]
+        return words
+
+    def table_size(self, verb):
+        """The size of the first table of the question: of its `given` lines to eliminate, of its first region's lines to contain."""
+        question = self.question
+        scope = question.regions[0] if verb == "contain" else question
+        constraints = question.constraints + (scope.constraints if scope is not question else [])
+        if verb == "eliminate":
+            constraints = [g for g in constraints if g.given]
+        return table_size(len(scope.names), len(question.rates), constraints)
 
     def read(self, text, number):
-        line = Line(text, self.scope())
-        if line.peek() is None:
+        if not text.strip(" "):
             return
-        word = line.next()
-        rule((word == "vars") == (self.question is None), "a line in a wrong place")
-        rule(word in ("vars", "rates", "given", "row", "region", "aux", "try", "prove", "eliminate", "contain"), "no line")
+        line = Line(text, number, self.scope())
+        word = line.peek()
+        line.rule(word in self.words(), "word")
         if word == "vars":
-            self.question, self.counts = Question(line.new_names([])), {}
-            rule(len(self.question.names) <= 8, "too many variables")
-            self.question.line = number
-        else:
-            getattr(self, word)(line)
+            line.rule(len(self.questions) < QUESTIONS, "many")
+        if word in ("given", "row", "try"):
+            self.counts[word] = self.counts.get(word, 0) + 1
+            line.rule(self.counts[word] <= LINES, "many")
+        if word in ("prove", "eliminate", "contain"):
+            line.rule(self.table_size(word) <= ENTRIES, "large")
+        line.next()
+        getattr(self, word)(line)
         self.before = word
         of = self.question or self.questions[-1]
         of.text += text.strip(" ") + "\n"
 
+    def vars(self, line):
+        self.question, self.counts = Question(line.new_names([], VARIABLES)), {}
+        self.question.line = line.number
+
     def rates(self, line):
-        rule(self.before == "vars", "rates late")
-        self.question.rates = line.new_names(self.question.names)
-        rule(len(self.question.rates) <= 16, "too many rates")
+        self.question.rates = line.new_names(self.question.names, RATES)
 
     def given(self, line):
-        rule(self.before != "try", "given after try")
-        constraints = line.given(self.count("given"))
-        self.scope().constraints += constraints
+        self.scope().constraints += line.given(self.counts["given"])
 
     def row(self, line):
-        rule(self.before != "try", "row after try")
-        name = f"row {self.count('row')}"
         row, equation = line.relation(True)
-        self.scope().constraints.append(Generator(name, row, equation))
+        self.scope().constraints.append(Generator(f"row {self.counts['row']}", row, equation))
 
     def region(self, line):
         line.end()
-        rule(len(self.question.regions) < 2 and self.before != "try", "a region in a wrong place")
         self.question.regions.append(Region(self.question))
 
     def aux(self, line):
-        rule(self.before == "region", "aux late")
         scope = self.scope()
-        names = line.new_names(scope.names + scope.rates)
+        names = line.new_names(scope.names + scope.rates, min(AUXILIARIES, VARIABLES - len(scope.names)))
         scope.names += names
         scope.auxiliaries = len(names)
-        rule(len(names) <= 4 and len(scope.names) <= 8, "too many auxiliaries")
 
     def try_(self, line):
-        rule(len(self.question.regions) == 2 and self.scope().auxiliaries, "try in a wrong place")
-        self.count("try")
         self.question.tries.append(line.tried(*self.question.regions))
 
     def prove(self, line):
-        rule(not self.question.regions, "prove after a region")
         row, equation = line.relation(True)
         self.question.targets = Generator("", row, equation).least()
         self.done("prove")
 
     def eliminate(self, line):
         question = self.question
-        rule(not question.regions, "eliminate after a region")
+        listed = []
         while True:
-            rate = 2 ** len(question.names) + line.known(question.rates)
-            rule(rate not in question.eliminated, "a rate twice")
-            question.eliminated.append(rate)
+            rate = line.name()
+            line.rule(rate in question.rates, "name")
+            line.rule(rate not in listed, "twice")
+            listed.append(line.next())
             if not line.take(","):
                 break
         line.end()
+        question.eliminated = [2 ** len(question.names) + question.rates.index(rate) for rate in listed]
         question.rows = [g for g in question.constraints if not g.given]
         question.constraints = [g for g in question.constraints if g.given]
         self.done("eliminate")
 
     def contain(self, line):
         line.end()
-        rule(len(self.question.regions) == 2, "contain without two regions")
         for region in self.question.regions:
             region.constraints.sort(key=lambda g: not g.given)
         self.done("contain")
@@ -383,7 +455,6 @@ class File:
         self.question.constraints.sort(key=lambda g: not g.given)
         self.question.verb = verb
         self.questions.append(self.question)
-        rule(len(self.questions) <= 1000, "too many questions")
         self.question = None
 
 
@@ -392,9 +463,10 @@ setattr(File, "try", File.try_)
 
 def read(text):
     """The questions of a file, each character of `text` a byte; `Fault` where it is none."""
-    lines = text.split("\n")
+    lines = text.removesuffix("\n").split("\n") if text else []
     file = File()
     for number, line in enumerate(lines, 1):
         file.read(line.removesuffix("\r").split("#")[0].replace("\t", " "), number)
-    rule(file.question is None, "the file ends inside a question")
+    if file.question:
+        raise Fault(len(lines) + 1, 1, "unfinished")
     return file.questions

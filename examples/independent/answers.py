@@ -1,0 +1,108 @@
+"""What the program is to write: the lines of answers in each format, the verdicts on a report, refusals; for the command's words and an input."""
+
+import re
+import shlex
+
+import contain
+import defined
+import eliminate
+from contain import Containment
+from generate import generated_file
+from questions import Fault, read
+from reports import answer_json, judge
+
+# the most bytes of a question file
+BYTES = 1048576
+
+
+def options(words):
+    """The value after each word, an option's among them; `--rows=5` is `--rows 5`."""
+    words = [part for word in words for part in word.split("=")]
+    return dict(zip(words, words[1:]))
+
+
+class Answers:
+    """The answers that are due to the questions of a file, asked for in their order: a containment tries what the last one found."""
+
+    def __init__(self, words=()):
+        chosen = {"--pivots": "20000", "--rows": "512", "--tries": "256", "--format": "text"} | options(words)
+        self.pivots = None if chosen["--pivots"] == "none" else int(chosen["--pivots"])
+        self.rows, self.tries = int(chosen["--rows"]), int(chosen["--tries"])
+        self.format = chosen["--format"]
+        self.kept, self.steps = None, 0
+
+    def answer(self, question):
+        """The end and what it found."""
+        if question.verb == "eliminate":
+            end, found, self.steps = eliminate.eliminate(question, self.rows, self.pivots)
+            return end, found
+        if question.verb == "contain":
+            end, found = Containment(question).answer(self.pivots, self.tries, self.kept)
+            self.kept = found[0] if end == "contained" else self.kept
+            return end, found
+        end, found, self.steps = defined.prove(question, self.pivots)
+        return end, found
+
+    def lines(self, number, question):
+        end, found = self.answer(question)
+        if self.format == "json":
+            return [answer_json(question, end, found)]
+        if question.verb == "eliminate":
+            return eliminate.lines(number, question, end, found)
+        if question.verb == "prove":
+            lines, shown = defined.lines(number, question, end, found), (question, question.targets, found)
+        else:
+            containment = Containment(question)
+            lines = containment.lines(number, end, found)
+            shown = (containment.first, containment.obligations(found[0]), found[1]) if end == "contained" else None
+        if self.format == "proof" and end in ("yes", "contained"):
+            lines += contain.proof_lines(number, *shown)
+        return lines
+
+
+def bench_line(seed, count, answers):
+    """The line of mode `bench`."""
+    ends = [answers.answer(question)[0] for question in read(generated_file(seed, count))]
+    undecided = sum(end not in ("yes", "no") for end in ends)
+    counts = f"yes {ends.count('yes')} no {ends.count('no')} undecided {undecided} region 0 contained 0 open 0"
+    return f"bench seed {seed} count {count} {counts}"
+
+
+def verdict_lines(report):
+    """A verdict for each line of a report."""
+    lines = report.split(b"\n")
+    lines = lines if lines[-1] else lines[:-1]
+    return [judge(number, text.removesuffix(b"\r")) for number, text in enumerate(lines, 1)]
+
+
+def outcome(words, source):
+    """The text and the status that are due where the words ask for mode `answer` or `check`, and the source is bytes."""
+    if "check" in words:
+        lines = verdict_lines(source)
+        return "".join(line + "\n" for line in lines), int(any(" invalid " in line for line in lines))
+    if len(source) > BYTES:
+        return "refused long\n", 3
+    try:
+        questions = read(source.decode("latin-1"))
+    except Fault as fault:
+        return f"refused {fault}\n", 3
+    answers = Answers(words)
+    return "".join(line + "\n" for number, question in enumerate(questions, 1) for line in answers.lines(number, question)), 0
+
+
+def rows_of(text):
+    """The calls of a file of rows, as `check` beside this folder has them: words, input, status and output."""
+    words, status = ["answer"], 0
+    for line in text.split("\n"):
+        if line.startswith("@ "):
+            status, *words = shlex.split(line[2:])
+        elif line and line[0] != "#":
+            source, _, output = line.rpartition(" =>")
+            source = re.sub(r"<<(.*)\*([0-9]+)>>", lambda piece: piece[1] * int(piece[2]), source)
+            yield words, bytes_of(source), int(status), bytes_of(output.removeprefix(" ")).decode("latin-1")
+
+
+def bytes_of(text):
+    """A text with escapes as `printf` reads them by %b."""
+    escapes = {"n": "\n", "t": "\t", "r": "\r", "\\": "\\"}
+    return re.sub(r"\\(?:0([0-7]{1,3})|(.))", lambda found: chr(int(found[1], 8)) if found[1] else escapes[found[2]], text).encode("latin-1")
