@@ -1,5 +1,5 @@
 #!/usr/bin/env python3
-"""Prints the table ROWS of crates/it_fraction/src/tests.rt: the results of Python's exact fractions, and None where
+"""Prints the table ROWS of crates/it_units_solver/src/fractions.rt: the results of Python's exact fractions, and None where
 a number that the operation names passes 2^127 - 1. For a sum these are Knuth's (The Art of Computer Programming
 vol. 2, 4.5.1), for a product and a quotient the two parts in lowest terms."""
 from fractions import Fraction

@@ -1,5 +1,5 @@
-//! The baseline for `bench/run fractions`: the kernels of crates/bench_fractions in plain Rust, over the same
-//! operands, once without the short path for 64-bit parts ("plain") and once with it ("short").
+//! The baseline for `bench/run fractions`: the operations of crates/bench in plain Rust, over the same operands, once without
+//! the short path for 64-bit parts ("plain") and once with it ("short"). VARIANT pairs writes the operands, a pair on a line.
 //! Usage: fractions VARIANT KERNEL PARTS TURNS
 use std::cmp::Ordering;
 use std::marker::PhantomData;
@@ -315,9 +315,13 @@ fn counted<S>(sum: i128, result: Result<Fraction<S>, Wide>) -> i128 {
     }
 }
 
-fn run<S: Steps>(kernel: &str, parts: &str, turns: u32) -> i128 {
+fn pairs<S: Steps>(kernel: &str, parts: &str) -> Vec<Pair<S>> {
     let mut state = 0x9e37_79b9_7f4a_7c15;
-    let pairs: Vec<Pair<S>> = (0..PAIRS).map(|_| made_pair(kernel, parts, &mut state)).collect();
+    (0..PAIRS).map(|_| made_pair(kernel, parts, &mut state)).collect()
+}
+
+fn run<S: Steps>(kernel: &str, parts: &str, turns: u32) -> i128 {
+    let pairs = pairs::<S>(kernel, parts);
     let mut sum: i128 = 0;
     let mut orders: i64 = 0;
     for _ in 0..turns {
@@ -343,6 +347,12 @@ fn main() {
         return;
     };
     let turns = turns.parse().unwrap_or(0);
+    if variant == "pairs" {
+        for (x, y) in pairs::<Plain>(kernel, parts) {
+            println!("{} {} {} {}", x.top, x.bottom, y.top, y.bottom);
+        }
+        return;
+    }
     let sum = match variant.as_str() {
         "plain" => run::<Plain>(kernel, parts, turns),
         _ => run::<Short>(kernel, parts, turns),

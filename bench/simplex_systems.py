@@ -1,11 +1,11 @@
 #!/usr/bin/env python3
-"""The systems of it_simplex's test, with their answers in exact fractions.
+"""The systems of the tests of it_simplex, with their answers in exact fractions.
 
 Each system is a list of columns and a target over the coordinates 1 to m, and a budget of steps. The run is made as a textbook
 has it (first phase of the simplex method, Bland's rule), over dense rows of `fractions.Fraction`, and stops before a step of which
 a number passes 2^127 - 1: the ratios of the entering column, then for each other row its quotient, its products and differences,
 and the quotients of the row that leaves. `python3 bench/simplex_systems.py` prints the tables as Rust, as they stand in
-crates/it_simplex/src/tests.rt: the systems, how many of them are answered on whole numbers alone, and the systems in which that
+crates/it_units_solver/src/runs.rt: the systems, how many of them are answered on whole numbers alone, and the systems in which that
 run stops half-way, with the steps that it makes.
 """
 import random

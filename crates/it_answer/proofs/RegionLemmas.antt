@@ -23,7 +23,7 @@ use Rattle.it_canon.proofs.UniqueRows.{one_constraint_list, one_row_list}
 use Rattle.it_eliminate.specs.Elimination.{Member}
 use Rattle.it_eliminate.specs.Projections.{IsPointOf, LacksCoordinate, Extends}
 use Rattle.it_redundant.specs.Reduction.{NeedView, Needed, Unsettled, kept_rows}
-use Rattle.it_redundant.specs.ReducedElimination.{ProjectionEndView, ReducedEnds}
+use Rattle.it_redundant.specs.ReducedElimination.{ProjectedView, ReducedEnds}
 use Rattle.it_redundant.specs.ReducedElimination as projections
 use Rattle.it_redundant.specs.Theorems as theorems
 use Rattle.it_redundant.specs.Theorems.{IsReducedRegion, RegionIsReduced}
@@ -149,12 +149,12 @@ module _ (q : BodyView) (rates : List ℕ) (givens : ProblemView) (rows : List T
     needed = are_needed kept x.needed;
   }
 
-  shows_end : (end : ProjectionEndView) → RegionIsReduced givens rates rows end → ShowsRegion q rates (answer_of_end end)
+  shows_end : (end : ProjectedView) → RegionIsReduced givens rates rows end → ShowsRegion q rates (answer_of_end end)
   shows_end (projections.Region kept) x = right_region kept x
   shows_end (projections.Rows rate) x = tt
   shows_end (projections.Wide rate) x = tt
 
-  pub right_answer : (budgets : Budgets) (end : ProjectionEndView) (answer : AnswerView) → AreStated givens.space (given_demands givens.space.variables 1 q.lines.givens) givens.constraints
+  pub right_answer : (budgets : Budgets) (end : ProjectedView) (answer : AnswerView) → AreStated givens.space (given_demands givens.space.variables 1 q.lines.givens) givens.constraints
       → AreRowsOf givens.space (system_forms givens.space.variables q.lines.rows) rows → ReducedEnds givens budgets.pivots budgets.rows rows [] rates end → RegionIsReduced givens rates rows end
       → answer ≡ answer_of_end end → IsRightElimination budgets q rates answer
   right_answer budgets end answer stated are ends x is = record {
@@ -189,7 +189,7 @@ one_elimination budgets q rates a b x y =
 
 -- ---- what follows
 
-pub not_width : (step : ℕ) (end : ProjectionEndView) → Undecided (Width step) ≡ answer_of_end end → ⊥
+pub not_width : (step : ℕ) (end : ProjectedView) → Undecided (Width step) ≡ answer_of_end end → ⊥
 not_width step (projections.Region kept) e = cc
 not_width step (projections.Rows rate) e = cc
 not_width step (projections.Wide rate) e = cc

@@ -17,7 +17,7 @@ use Rattle.it_canon.specs.QuestionDemands.{space_of, given_demands, system_forms
 use Rattle.it_eliminate.specs.Elimination.{Member}
 use Rattle.it_eliminate.specs.Projections.{IsPointOf, LacksCoordinate}
 use Rattle.it_redundant.specs.Reduction.{NeedView, Needed, Unsettled}
-use Rattle.it_redundant.specs.ReducedElimination.{ProjectionEndView, ReducedEnds}
+use Rattle.it_redundant.specs.ReducedElimination.{ProjectedView, ReducedEnds}
 use Rattle.it_redundant.specs.ReducedElimination as projections
 use Rattle.it_answer.specs.declared.types.Budgets.{Budgets}
 
@@ -78,7 +78,7 @@ abbrev pub marked_rows : List (Terms × NeedView) → List (Mark × Terms)
 marked_rows kept = map (λ k. (mark_of_need k.1, k.0)) kept
 
 -- a region with its rows in order; or the cause that there is none, with its rate
-abbrev pub answer_of_end : ProjectionEndView → AnswerView
+abbrev pub answer_of_end : ProjectedView → AnswerView
 answer_of_end (projections.Region kept) = Region (marked_rows kept)
 answer_of_end (projections.Rows rate) = Undecided (causes.Rows rate)
 answer_of_end (projections.Wide rate) = Undecided (causes.WideRate rate)
@@ -91,7 +91,7 @@ pub record IsDueElimination (budgets : Budgets) (q : BodyView) (rates : List ℕ
   pub constraints : AreStated givens.space (given_demands (length q.names.variables) 1 q.lines.givens) givens.constraints
   pub rows : List Terms
   pub are_rows : AreRowsOf (space_of q.names) (system_forms (length q.names.variables) q.lines.rows) rows
-  pub end : ProjectionEndView
+  pub end : ProjectedView
   pub ends : ReducedEnds givens budgets.pivots budgets.rows rows [] rates end
   pub is : answer ≡ answer_of_end end
 

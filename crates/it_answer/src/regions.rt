@@ -5,14 +5,14 @@ ghost use Rattle.it_space.specs.Problems.{problem_view};
 ghost use Rattle.it_question.specs.Limits.{IsQuestion};
 ghost use Rattle.it_question.specs.Questions.{Eliminate, question_body};
 ghost use Rattle.it_canon.specs.QuestionDemands.{IsProblemOf};
-ghost use Rattle.it_redundant.specs.ReducedElimination.{projection_end_view};
+ghost use Rattle.it_redundant.specs.ReducedElimination.{projected_view};
 ghost use Rattle.it_redundant.specs.Reduction.{need_view};
 ghost use Rattle.it_answer.specs.RightRegions.{IsRightElimination, answer_of_end, mark_of_need, marked_rows};
 
 use crate::types::{Budgets, budget_of};
 use it_canon::system;
 use it_question::types::Question;
-use it_redundant::{Need, ProjectionEnd, project};
+use it_redundant::{Need, Projected, project};
 use it_space::{Answer, Cause, Mark, Problem, Row};
 use std::alloc::{AllocError, Global};
 
@@ -41,16 +41,16 @@ pub fn region(
 }
 
 /// The answer that tells what reduced elimination ended with.
-fn answer_of_end(alloc: Global, end: ProjectionEnd) -> Result<Answer, AllocError>
-    ensures { IfOk result (λ a. answer_view a ≡ answer_of_end (projection_end_view end)) }
+fn answer_of_end(alloc: Global, end: Projected) -> Result<Answer, AllocError>
+    ensures { IfOk result (λ a. answer_view a ≡ answer_of_end (projected_view end)) }
 {
     match end {
-        ProjectionEnd::Region(reduced) => {
+        Projected::Region(reduced) => {
             let rows = marked_rows(alloc, reduced.kept)?;
             Ok(Answer::Region(rows))
         }
-        ProjectionEnd::Rows { rate } => Ok(Answer::Undecided(Cause::Rows(rate))),
-        ProjectionEnd::Wide { rate } => Ok(Answer::Undecided(Cause::WideRate(rate))),
+        Projected::Rows { rate } => Ok(Answer::Undecided(Cause::Rows(rate))),
+        Projected::Wide { rate } => Ok(Answer::Undecided(Cause::WideRate(rate))),
     }
 }
 

@@ -7,8 +7,6 @@ mod laws;
 mod problems;
 mod relations;
 mod systems;
-#[cfg(test)]
-mod tests;
 
 pub use coefficients::Coefficients;
 pub use givens::canon_given;

@@ -11,7 +11,7 @@ use Rattle.it_certificate.specs.declared.keys.Refusal.{Refusal}
 use Rattle.it_certificate.specs.declared.keys.Refusal.TheVariants.{Memory, Shape}
 use Rattle.it_certificate.specs.declared.keys.ReportFault.{ReportFault}
 use Rattle.it_certificate.specs.declared.keys.ReportFault.TheVariants as faults
-use Rattle.it_certificate.specs.declared.types.Report.{Report}
+use Rattle.it_certificate.specs.declared.types.Reported.{Reported}
 use Rattle.it_certificate.specs.Obligations.{target_count}
 use Rattle.it_certificate.specs.Reports.{IsQuestionOf, ReadsAs}
 
@@ -44,7 +44,7 @@ GivesQuestion d (Err Shape) = (q : QuestionView) → IsQuestionOf d q → ⊥
 GivesQuestion d (Err Memory) = Unit {0}
 
 -- what the reader of a value gave
-abbrev pub ReadsValue : Data → Result Report ReportFault → Type 0
+abbrev pub ReadsValue : Data → Result Reported ReportFault → Type 0
 ReadsValue d (Ok r) = ReadsAs d (Ok (question_view r.question, answer_view r.answer))
 ReadsValue d (Err (faults.Shape key)) = ReadsAs d (Err key)
 ReadsValue d (Err faults.NotJson) = ⊥

@@ -16,7 +16,7 @@ use Rattle.it_certificate.specs.declared.keys.ReportFault.{ReportFault}
 use Rattle.it_certificate.specs.declared.keys.ReportFault.TheVariants as faults
 use Rattle.it_certificate.specs.declared.kinds.AnswerKind.{AnswerKind}
 use Rattle.it_certificate.specs.declared.kinds.AnswerKind.TheVariants.{Yes, No, Undecided, Region, Contained, Open}
-use Rattle.it_certificate.specs.declared.types.Report.{Report}
+use Rattle.it_certificate.specs.declared.types.Reported.{Reported}
 use Rattle.it_certificate.specs.Parts.{text_of, answer_kind_at}
 use Rattle.it_certificate.specs.AnswerReading.{and_then, yes_at, no_at, undecided_at, region_at, contained_at, open_at}
 use Rattle.it_certificate.specs.Obligations.{obligation_count}
@@ -94,7 +94,7 @@ pub record ReadsReport (line : List ℕ) (r : Result (QuestionView × AnswerView
   pub reads : ReadsAs value r
 
 -- what is answered of a line: its question and answer, its first key at fault, that it has no JSON reading, or want of memory
-abbrev pub Reports : List ℕ → Result Report ReportFault → Type 0
+abbrev pub Reports : List ℕ → Result Reported ReportFault → Type 0
 Reports line (Ok r) = ReadsReport line (Ok (question_view r.question, answer_view r.answer))
 Reports line (Err (faults.Shape key)) = ReadsReport line (Err key)
 Reports line (Err faults.NotJson) = IsUtf8 line → read line ≡ None

@@ -25,5 +25,5 @@ pub use laws::{
     texts_read_as_said,
 };
 pub use reports::answer_from_json;
-pub use types::Report;
+pub use types::Reported;
 pub use writing::answer_json;

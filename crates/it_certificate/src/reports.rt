@@ -12,13 +12,13 @@ use crate::answers::fault;
 use crate::keys::{Key, ReportFault};
 use crate::members::answer_kind_at;
 use crate::questions::question_at;
-use crate::types::Report;
+use crate::types::Reported;
 use crate::verbs::question_answer;
 use serde_json::Value;
 use std::alloc::Global;
 
 /// The reading of a JSON value.
-fn report_of(alloc: Global, value: &Value) -> Result<Report, ReportFault>
+fn report_of(alloc: Global, value: &Value) -> Result<Reported, ReportFault>
     ensures reading { ReadsValue (view value.now) result }
     ensures limits { IfOk result (λ r. IsQuestion (question_body r.question)) }
     ensures fits { IfOk result (λ r. HasQuestionShape (question_body r.question) (answer_view r.answer)) }
@@ -32,7 +32,7 @@ fn report_of(alloc: Global, value: &Value) -> Result<Report, ReportFault>
     };
     // `?` would do; with the match each case is a goal of its own, with the reading's equation at hand
     match question_answer(alloc, value, &question, kind) {
-        Ok(answer) => Ok(Report { question, answer }),
+        Ok(answer) => Ok(Reported { question, answer }),
         Err(fault) => Err(fault),
     }
 }
@@ -43,7 +43,7 @@ fn report_of(alloc: Global, value: &Value) -> Result<Report, ReportFault>
 /// `proofs`, for `no` `point` and `side`, for `undecided` `cause` and `at`, for `region` `rows`, for `contained` `parts` and
 /// `proofs`, for `open` `tried`. Of doubled keys the last counts; other keys count for nothing. Nothing is said of whether
 /// the answer is right.
-pub fn answer_from_json(alloc: Global, line: &[u8]) -> Result<Report, ReportFault>
+pub fn answer_from_json(alloc: Global, line: &[u8]) -> Result<Reported, ReportFault>
     ensures reading { Reports line.now result }
     ensures limits { IfOk result (λ r. IsQuestion (question_body r.question)) }
     ensures fits { IfOk result (λ r. HasQuestionShape (question_body r.question) (answer_view r.answer)) }

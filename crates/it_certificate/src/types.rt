@@ -4,7 +4,7 @@ use it_space::Answer;
 
 /// A question, and an answer of the shape that it wants. Nothing says that the answer is right.
 #[derive(Debug, Drop)]
-pub struct Report {
+pub struct Reported {
     pub question: Question,
     pub answer: Answer,
 }

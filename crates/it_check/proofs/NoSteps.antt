@@ -4,7 +4,7 @@ use Rattle.std.specs.Result.{result_ok}
 use Rattle.std.specs.Int.Signed.{lt_z}
 use Rattle.std.proofs.lemmas.Int.{ints}
 use Rattle.std.proofs.lemmas.List.{drop_more, at_drop_all}
-use Rattle.it_fraction.specs.declared.fraction.WideNumber.{WideNumber}
+use Rattle.it_fraction.specs.declared.fraction.Wide.{Wide}
 use Rattle.it_space.specs.declared.problems.Kind.{Kind}
 use Rattle.it_space.specs.Rows.{Terms, ValueFits, value}
 use Rattle.it_elemental.specs.Generators.{Generator, generator_at}
@@ -16,11 +16,11 @@ use Rattle.it_check.proofs.SumLemmas.{sum_is}
 
 -- ---- one generator
 
-module _ (count i : ℕ) (g : Generator) (p : ℕ → ℤ) (r : Result ℤ WideNumber) (o : OkIff r (ValueFits g.row p) (value g.row p)) where
+module _ (count i : ℕ) (g : Generator) (p : ℕ → ℤ) (r : Result ℤ Wide) (o : OkIff r (ValueFits g.row p) (value g.row p)) where
   generator_is : of_generator count i g p ≡ of_value count i g.kind (result_ok r)
   generator_is = ap (of_value count i g.kind) (sum_is r g.row p o)
 
-  pub generator_wide : (e : WideNumber) → r ≡ Err e → Some (Width i) ≡ of_generator count i g p
+  pub generator_wide : (e : Wide) → r ≡ Err e → Some (Width i) ≡ of_generator count i g p
   generator_wide e q = sym (generator_is ∙ ap (λ x. of_value count i g.kind (result_ok x)) q)
 
   module _ (x : ℤ) (q : r ≡ Ok x) (k : Kind) (same : k ≡ g.kind) where
@@ -53,11 +53,11 @@ module _ (count : ℕ) (gs : List Generator) (p : ℕ → ℤ) (i : ℕ) (inv : 
 
 -- ---- the target
 
-module _ (place : ℕ) (row : Terms) (p : ℕ → ℤ) (r : Result ℤ WideNumber) (o : OkIff r (ValueFits row p) (value row p)) where
+module _ (place : ℕ) (row : Terms) (p : ℕ → ℤ) (r : Result ℤ Wide) (o : OkIff r (ValueFits row p) (value row p)) where
   target_is : of_target place (sum_within (pos 0) row p) ≡ of_target place (result_ok r)
   target_is = ap (of_target place) (sum_is r row p o)
 
-  pub target_wide : (e : WideNumber) (k : ℕ) → r ≡ Err e → k ≡ place → Some (Width k) ≡ of_target place (sum_within (pos 0) row p)
+  pub target_wide : (e : Wide) (k : ℕ) → r ≡ Err e → k ≡ place → Some (Width k) ≡ of_target place (sum_within (pos 0) row p)
   target_wide e k q s = ap (λ k. Some (Width k)) s ∙ sym (target_is ∙ ap (λ x. of_target place (result_ok x)) q)
 
   tested_target : (x : ℤ) → r ≡ Ok x → of_target place (sum_within (pos 0) row p) ≡ cond (lt_z x (pos 0)) None (Some (NotViolated x))

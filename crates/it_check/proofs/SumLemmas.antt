@@ -7,7 +7,7 @@ use Rattle.std.proofs.lemmas.Bool.Decides.{Decides-ltb}
 use Rattle.std.proofs.Math.IntN.{+ℤ_idl}
 use Rattle.std.proofs.lemmas.Bool.{false≢true}
 use Rattle.it_number.specs.Limit.{IsWithin}
-use Rattle.it_fraction.specs.declared.fraction.WideNumber.{WideNumber}
+use Rattle.it_fraction.specs.declared.fraction.Wide.{Wide}
 use Rattle.it_space.specs.Rows.{Terms, FitsOnTop, ValueFits, value}
 use Rattle.it_check.specs.Sums.{is_within, product_within, sum_within}
 
@@ -17,10 +17,10 @@ decides_within z = Decides-ltb (unsigned_abs z) (2 ^ 127)
 
 -- ---- products
 
-pub product_is : (r : Result ℤ WideNumber) (a b : ℤ) → OkIff r (IsWithin (a *ℤ b)) (a *ℤ b) → product_within a b ≡ result_ok r
+pub product_is : (r : Result ℤ Wide) (a b : ℤ) → OkIff r (IsWithin (a *ℤ b)) (a *ℤ b) → product_within a b ≡ result_ok r
 product_is r a b o = by_result r (is_within (a *ℤ b)) (decides_within (a *ℤ b)) o
   where
-    by_result : (r : Result ℤ WideNumber) (t : Bool) → Decides t (IsWithin (a *ℤ b)) → OkIff r (IsWithin (a *ℤ b)) (a *ℤ b) → cond t (Some (a *ℤ b)) None ≡ result_ok r
+    by_result : (r : Result ℤ Wide) (t : Bool) → Decides t (IsWithin (a *ℤ b)) → OkIff r (IsWithin (a *ℤ b)) (a *ℤ b) → cond t (Some (a *ℤ b)) None ≡ result_ok r
     by_result (Ok x) true d o = ap Some (sym o.1)
     by_result (Ok x) false d o = absurd (false≢true (d.1 o.0))
     by_result (Err e) true d o = absurd (o (d.0 refl))
@@ -59,7 +59,7 @@ sum_told sum (t ∷ ts) p x e = by_test (is_within (t.1 *ℤ p t.0)) (is_within 
     by_test true false d f e back = absurd (cc)
     by_test false b d f e back = absurd (cc)
 
-pub sum_is : (r : Result ℤ WideNumber) (ts : Terms) (p : ℕ → ℤ) → OkIff r (ValueFits ts p) (value ts p) → sum_within (pos 0) ts p ≡ result_ok r
+pub sum_is : (r : Result ℤ Wide) (ts : Terms) (p : ℕ → ℤ) → OkIff r (ValueFits ts p) (value ts p) → sum_within (pos 0) ts p ≡ result_ok r
 sum_is (Ok x) ts p o = sum_fits (pos 0) ts p o.0 ∙ ap Some (+ℤ_idl (value ts p) ∙ sym o.1)
 sum_is (Err e) ts p o = by_option (sum_within (pos 0) ts p) (λ x q. o (sum_told (pos 0) ts p x q).0)
   where

@@ -6,7 +6,7 @@ use Rattle.std.specs.Ordering.{int_eq}
 use Rattle.std.specs.Result.{result_ok}
 use Rattle.std.proofs.lemmas.List.{at_drop_more, at_drop_all}
 use Rattle.std.proofs.lemmas.Bool.Decides.{Decides-ltb, Decides-int_eq}
-use Rattle.it_fraction.specs.declared.fraction.WideNumber.{WideNumber}
+use Rattle.it_fraction.specs.declared.fraction.Wide.{Wide}
 use Rattle.it_number.specs.Limit.{IsWithin}
 use Rattle.it_space.specs.Answers.{CertificateView}
 use Rattle.it_space.specs.Rows.{Terms, ValueFits, coefficient, value}
@@ -58,8 +58,8 @@ all_known gs ws e = all_of (λ (w : ℕ × ℤ). w.0 < length gs) ws (each_gener
 
 -- ---- coordinates
 
-module _ (gs : List Generator) (target : Terms) (w : CertificateView) (c : ℕ) (l r : Result ℤ WideNumber) (left : OkIff l (IsWithin (w.scale *ℤ coefficient target c)) (w.scale *ℤ coefficient target c)) where
-  pub left_wide : (e : WideNumber) → l ≡ Err e → Some (Width c) ≡ of_coordinate gs target w c
+module _ (gs : List Generator) (target : Terms) (w : CertificateView) (c : ℕ) (l r : Result ℤ Wide) (left : OkIff l (IsWithin (w.scale *ℤ coefficient target c)) (w.scale *ℤ coefficient target c)) where
+  pub left_wide : (e : Wide) → l ≡ Err e → Some (Width c) ≡ of_coordinate gs target w c
   left_wide e is = sym (ap (λ o. of_numbers c o (sum_within (pos 0) w.weights (column gs c))) (product_is l w.scale (coefficient target c) left ∙ ap result_ok is))
 
   module _ (right : OkIff r (ValueFits w.weights (column gs c)) (value w.weights (column gs c))) where
@@ -67,7 +67,7 @@ module _ (gs : List Generator) (target : Terms) (w : CertificateView) (c : ℕ) 
     coordinate_is = ap (λ o. of_numbers c o (sum_within (pos 0) w.weights (column gs c))) (product_is l w.scale (coefficient target c) left)
         ∙ ap (of_numbers c (result_ok l)) (sum_is r w.weights (column gs c) right)
 
-    pub right_wide : (x : ℤ) (e : WideNumber) → l ≡ Ok x → r ≡ Err e → Some (Width c) ≡ of_coordinate gs target w c
+    pub right_wide : (x : ℤ) (e : Wide) → l ≡ Ok x → r ≡ Err e → Some (Width c) ≡ of_coordinate gs target w c
     right_wide x e p q = sym (coordinate_is ∙ ap (λ o. of_numbers c (result_ok o) (result_ok r)) p ∙ ap (λ o. of_numbers c (Some x) (result_ok o)) q)
 
     compared_coordinate : (x y : ℤ) → l ≡ Ok x → r ≡ Ok y → of_coordinate gs target w c ≡ cond (int_eq x y) None (Some (Mismatch c x y))

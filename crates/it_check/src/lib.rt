@@ -11,6 +11,3 @@ pub use laws::{valid_no, valid_yes, yes_is_true};
 pub use no::check_no;
 pub use verdicts::Verdict;
 pub use yes::check_yes;
-
-#[cfg(test)]
-mod tests;

@@ -6,11 +6,11 @@ ghost use Rattle.it_space.specs.Spaces.{size_of};
 ghost use Rattle.it_elemental.specs.Generators.{generators, generator_at};
 
 use it_elemental::{count, value_at as elemental_value};
-use it_fraction::WideNumber;
+use it_fraction::Wide;
 use it_space::{Point, Problem, value};
 
 /// The value of a generator at a point.
-pub fn generator_value(problem: &Problem, index: u32, point: &Point) -> Result<i128, WideNumber>
+pub fn generator_value(problem: &Problem, index: u32, point: &Point) -> Result<i128, Wide>
     requires problem { IsProblem (problem_view problem.now) }
     requires listed { index < length (generators (problem_view problem.now)) }
     requires complete { length point.now ≡ size_of problem.now.space }

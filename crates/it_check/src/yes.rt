@@ -10,7 +10,7 @@ ghost use Rattle.it_check.specs.Verdicts.{column, of_scale, of_weight, of_weight
 
 use crate::verdicts::Verdict;
 use it_elemental::{coefficient_at, generator_count, is_equation};
-use it_fraction::{WideNumber, signed_product};
+use it_fraction::{Wide, signed_product};
 use it_space::{Certificate, Problem, Row, with_product};
 
 /// What is wrong with the scale, None if nothing.
@@ -54,18 +54,14 @@ fn of_weights(problem: &Problem, weights: &[(u32, i128)]) -> Option<Verdict>
 }
 
 /// The scale times the target's coefficient at a coordinate.
-fn left_number(target: &Row, certificate: &Certificate, coordinate: u32) -> Result<i128, WideNumber>
+fn left_number(target: &Row, certificate: &Certificate, coordinate: u32) -> Result<i128, Wide>
     ensures { OkIff result (IsWithin (certificate.now.scale *ℤ coefficient target.now coordinate)) (certificate.now.scale *ℤ coefficient target.now coordinate) }
 {
     signed_product(certificate.scale, target.coefficient(coordinate))
 }
 
 /// The sum of weights times coefficients at a coordinate.
-fn right_number(
-    problem: &Problem,
-    weights: &[(u32, i128)],
-    coordinate: u32,
-) -> Result<i128, WideNumber>
+fn right_number(problem: &Problem, weights: &[(u32, i128)], coordinate: u32) -> Result<i128, Wide>
     requires problem { IsProblem (problem_view problem.now) }
     requires listed { All (λ w. w.0 < length (generators (problem_view problem.now))) weights.now }
     requires from_one { 1 ≤ coordinate }

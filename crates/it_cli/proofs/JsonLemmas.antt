@@ -37,7 +37,7 @@ use Rattle.it_canon.specs.Targets.{targets, demanded_forms}
 use Rattle.it_canon.specs.QuestionDemands.{space_of, problem_names, problem_names_by, variables_of, question_demands, Poses}
 use Rattle.it_canon.proofs.ZipLemmas.{zip-length}
 use Rattle.it_eliminate.specs.Elimination.{Member}
-use Rattle.it_redundant.specs.ReducedElimination.{ProjectionEndView}
+use Rattle.it_redundant.specs.ReducedElimination.{ProjectedView}
 use Rattle.it_redundant.specs.ReducedElimination as projections
 use Rattle.it_answer.specs.declared.types.Budgets.{Budgets}
 use Rattle.it_answer.specs.Forms.{all_demands, generators_by, demand_of_elemental, demand_of_line, CertifyAll}
@@ -262,7 +262,7 @@ pub eliminated_cause_fits : (budgets : Budgets) (q : BodyView) (rates : List ℕ
 eliminated_cause_fits budgets q rates cause named right =
     by_end right.due.end (end_of_rates right.due.givens budgets.pivots budgets.rows right.due.rows [] rates right.due.end right.due.ends) right.due.is
   where
-    by_end : (end : ProjectionEndView) → IsEndOf rates end → Undecided cause ≡ answer_of_end end → IsCauseFor q.names cause
+    by_end : (end : ProjectedView) → IsEndOf rates end → Undecided cause ≡ answer_of_end end → IsCauseFor q.names cause
     by_end (projections.Region kept) h is = absurd (cc)
     by_end (projections.Rows r) h is = subst (IsCauseFor q.names) (sym (answer_cause_same cause (causes.Rows r) is)) (named r h).0
     by_end (projections.Wide r) h is = subst (IsCauseFor q.names) (sym (answer_cause_same cause (causes.WideRate r) is)) (named r h)

@@ -36,7 +36,7 @@ use Rattle.it_run.specs.Runs.{RunEndView}
 use Rattle.it_rational.specs.Rational.{Rational}
 use Rattle.it_prove.specs.ProofViews.{Yes, No, Undecided, Follows}
 use Rattle.it_eliminate.proofs.MemberLemmas.{every_member}
-use Rattle.it_redundant.specs.ReducedElimination.{ProjectionEndView}
+use Rattle.it_redundant.specs.ReducedElimination.{ProjectedView}
 use Rattle.it_redundant.specs.ReducedElimination as projections
 use Rattle.it_answer.specs.declared.types.Budgets.{Budgets}
 use Rattle.it_answer.specs.RightRegions.{IsRightElimination, answer_of_end, region_rows}
@@ -147,7 +147,7 @@ abbrev IsCauseIn : ℕ → AnswerView → Type 0
 IsCauseIn m (views.Undecided cause) = IsCauseOf m cause
 IsCauseIn m _ = Unit {0}
 
-cause_of_end : (m : ℕ) (rates : List ℕ) (end : ProjectionEndView) → All (λ r. r < m) rates → IsEndOf rates end → IsCauseIn m (answer_of_end end)
+cause_of_end : (m : ℕ) (rates : List ℕ) (end : ProjectedView) → All (λ r. r < m) rates → IsEndOf rates end → IsCauseIn m (answer_of_end end)
 cause_of_end m rates (projections.Region kept) within h = tt
 cause_of_end m rates (projections.Rows rate) within h = every_member (λ r. r < m) rates rate (every_of (λ r. r < m) rates within) h
 cause_of_end m rates (projections.Wide rate) within h = every_member (λ r. r < m) rates rate (every_of (λ r. r < m) rates within) h

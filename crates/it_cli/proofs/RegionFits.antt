@@ -29,7 +29,7 @@ use Rattle.it_eliminate.proofs.MemberLemmas.{every_member, member_every}
 use Rattle.it_eliminate.proofs.OrderLemmas.{every-with_row}
 use Rattle.it_eliminate.proofs.StepLemmas.{results_all}
 use Rattle.it_redundant.specs.Reduction.{NeedView, kept_rows}
-use Rattle.it_redundant.specs.ReducedElimination.{ProjectionEndView, ReducedEnds}
+use Rattle.it_redundant.specs.ReducedElimination.{ProjectedView, ReducedEnds}
 use Rattle.it_redundant.specs.ReducedElimination as projections
 use Rattle.it_redundant.proofs.ReductionLemmas.{every_kept}
 use Rattle.it_redundant.proofs.ProjectionLemmas.{same_list}
@@ -120,7 +120,7 @@ answer_same rows others e = cc
 rows_canonical : (budgets : Budgets) (q : BodyView) (rates : List ℕ) (rows : List (Mark × Terms)) → IsRightElimination budgets q rates (Region rows) → Every IsCanonical (region_rows rows)
 rows_canonical budgets q rates rows right = by_end right.due.end right.due.ends right.due.is
   where
-    by_end : (end : ProjectionEndView) → ReducedEnds right.due.givens budgets.pivots budgets.rows right.due.rows [] rates end → Region rows ≡ answer_of_end end → Every IsCanonical (region_rows rows)
+    by_end : (end : ProjectedView) → ReducedEnds right.due.givens budgets.pivots budgets.rows right.due.rows [] rates end → Region rows ≡ answer_of_end end → Every IsCanonical (region_rows rows)
     by_end (projections.Region kept) e is =
         subst (λ (rs : List (Mark × Terms)). Every IsCanonical (region_rows rs)) (sym (answer_same rows (marked_rows kept) is))
         (marked_canonical kept (kept_canonical right.due.givens budgets.pivots budgets.rows right.due.rows [] kept rates (stated_canonical _ _ right.due.rows right.due.are_rows) tt e))

@@ -5,7 +5,7 @@ use Rattle.it_space.specs.Answers.AnswerView.{Undecided}
 use Rattle.it_space.specs.Problems.{ProblemView}
 use Rattle.it_space.specs.Rows.{Terms}
 use Rattle.it_question.specs.Questions.{BodyView, VerbView, Prove, Eliminate, Contain}
-use Rattle.it_redundant.specs.ReducedElimination.{ProjectionEndView}
+use Rattle.it_redundant.specs.ReducedElimination.{ProjectedView}
 use Rattle.it_redundant.specs.ReducedElimination as projections
 use Rattle.it_region.specs.declared.types.Candidate.{Candidate}
 use Rattle.it_prove.specs.ProofViews as proofs
@@ -15,7 +15,7 @@ use Rattle.it_answer.specs.RightAnswers.{CauseIsDue, IsRightAnswerBy}
 use Rattle.it_answer.specs.RightRegions.{answer_of_end}
 use Rattle.it_cli.specs.Laws.{NoLineIsOutOfSteps}
 
-no_steps_at_region_end : (steps : ℕ) (end : ProjectionEndView) → Undecided (causes.Pivots steps) ≡ answer_of_end end → ⊥
+no_steps_at_region_end : (steps : ℕ) (end : ProjectedView) → Undecided (causes.Pivots steps) ≡ answer_of_end end → ⊥
 no_steps_at_region_end steps (projections.Region kept) e = cc
 no_steps_at_region_end steps (projections.Rows rate) e = cc
 no_steps_at_region_end steps (projections.Wide rate) e = cc

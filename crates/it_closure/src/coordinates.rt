@@ -10,7 +10,7 @@ use std::alloc::{AllocError, Global};
 
 impl Dependences {
     /// The coordinates over closed sets: the closed sets by number, without the closure of the empty set, then the rates.
-    pub fn closed_coordinates(&self, alloc: Global, space: Space) -> Result<Vec<u32>, AllocError>
+    pub fn closed(&self, alloc: Global, space: Space) -> Result<Vec<u32>, AllocError>
         requires { space ≡ self.now.space }
         ensures { IfOk result (λ v. v.items ≡ closed_coordinates space.variables space.rates self.now.list) }
     {

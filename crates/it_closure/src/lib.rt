@@ -12,6 +12,3 @@ pub use laws::{
     closure_is_least, closures_keep, collapse_keeps, coordinates_serve, reads_exactly,
     spread_out_holds,
 };
-
-#[cfg(test)]
-mod tests;

@@ -8,7 +8,7 @@ ghost use Rattle.it_closure.specs.Collapse.{CollapseFits, IsCollapseOf, place, p
 ghost use Rattle.it_closure.specs.Placings.{ArePlaced, IsPutAtPlace};
 
 use crate::dependences::Dependences;
-use it_fraction::WideNumber;
+use it_fraction::Wide;
 use it_space::{Row, RowFault, Sums, VarSet};
 use std::alloc::Global;
 
@@ -59,7 +59,7 @@ fn placed_sums(alloc: Global, dependences: &Dependences, row: &Row) -> Result<Su
 }
 
 /// Adds at a place, unless that is 0.
-fn put(sums: &mut Sums, place: u32, amount: i128) -> Result<(), WideNumber>
+fn put(sums: &mut Sums, place: u32, amount: i128) -> Result<(), Wide>
     requires { place < length sums.old }
     ensures put { OnOk result (IsPutAtPlace sums.old sums.new place amount) }
     ensures wide { OnErr result (¬ (0 < place → IsWithin (number_at sums.old place +ℤ amount))) }

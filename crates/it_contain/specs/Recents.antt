@@ -1,4 +1,4 @@
--- The list that `RecentCandidates` proposes.
+-- The list that `Recent` proposes.
 use Rattle.std.specs.Prelude.{◌^◌, ◌==◌, ◌&&◌, List, [], ◌∷◌, Bool, Option, Some, None, if◌then◌else◌, nat_lt, take}
 use Rattle.std.specs.List.{list_all}
 use Rattle.it_region.specs.declared.types.Candidate.{Candidate}

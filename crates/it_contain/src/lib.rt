@@ -10,14 +10,12 @@ mod recent;
 mod search;
 mod singles;
 mod subsets;
-#[cfg(test)]
-mod tests;
 mod tuples;
 pub mod types;
 
 pub use it_region::{Candidate, Pair, fits, obligations, pair};
 pub use proposer::Proposer;
-pub use recent::RecentCandidates;
+pub use recent::Recent;
 pub use search::contain;
 pub use singles::Singles;
 pub use subsets::Subsets;

@@ -39,27 +39,27 @@ fn of_shape(shape: Shape, kept: &Option<Candidate>) -> Option<Candidate>
 /// Proposes the candidate that was proved last, whoever proposed it, to each question whose shape it has. It takes no
 /// memory.
 #[derive(Drop)]
-pub struct RecentCandidates {
+pub struct Recent {
     /// The candidate that was proved last.
     kept: Option<Candidate>,
     /// What is still to come.
     left: Option<Candidate>,
 }
 
-impl RecentCandidates {
+impl Recent {
     /// With nothing kept, and no candidate to come.
-    pub fn new() -> RecentCandidates
-        ensures pending { ⟦<RecentCandidates as Proposer>⟧.pending result ≡ [] }
-        ensures plan { ⟦<RecentCandidates as Proposer>⟧.plan result ≡ (λ shape proved. recent_candidates shape (last_of None proved)) }
+    pub fn new() -> Recent
+        ensures pending { ⟦<Recent as Proposer>⟧.pending result ≡ [] }
+        ensures plan { ⟦<Recent as Proposer>⟧.plan result ≡ (λ shape proved. recent_candidates shape (last_of None proved)) }
     {
-        RecentCandidates {
+        Recent {
             kept: None,
             left: None,
         }
     }
 }
 
-impl Proposer for RecentCandidates {
+impl Proposer for Recent {
     ghost pending = { λ r. option_to_list r.left };
 
     ghost plan = { λ r shape proved. recent_candidates shape (last_of r.kept proved) };

@@ -3,7 +3,7 @@ use Rattle.std.proofs.Common.{◌≡◌, ℕ, ◌+◌, ◌-◌, ◌^◌, ◌<◌
 use Rattle.std.proofs.lemmas.Int.{ints}
 use Rattle.std.proofs.lemmas.Bool.{cases_lt}
 use Rattle.std.proofs.lemmas.List.{get_or_past}
-use Rattle.it_fraction.specs.declared.fraction.WideNumber.{WideNumber}
+use Rattle.it_fraction.specs.declared.fraction.Wide.{Wide}
 use Rattle.it_number.specs.Limit.{IsWithin}
 use Rattle.it_space.specs.Rows.{ValueFits, map_of, value}
 use Rattle.it_polymatroid.specs.Elementals.{Conditional, Mutual, elemental_value}
@@ -21,14 +21,14 @@ point_within values a (suc s) = by_cases (cases_lt s (length values))
     by_cases (inl h) = a s (pos 0) h
     by_cases (inr h) = rw (get_or_past values s (pos 0) h) (lit< tt)
 
-pub conditional_value : (values : List ℤ) (n i : ℕ) (r : Result ℤ WideNumber) (a b : ℤ) → All IsWithin values → a ≡ map_of values (2 ^ n - 1) → b ≡ map_of values (2 ^ n - 1 - 2 ^ i)
+pub conditional_value : (values : List ℤ) (n i : ℕ) (r : Result ℤ Wide) (a b : ℤ) → All IsWithin values → a ≡ map_of values (2 ^ n - 1) → b ≡ map_of values (2 ^ n - 1 - 2 ^ i)
     → OkIff r (IsWithin (a -ℤ b)) (a -ℤ b) → OkIff r (ValueFits (elemental_row n (Conditional i)) (map_of values)) (value (elemental_row n (Conditional i)) (map_of values))
 conditional_value values n i r a b w p q o =
     ok_iff-same r (ValueFits (elemental_row n (Conditional i)) (map_of values)) (IsWithin (map_of values (2 ^ n - 1) -ℤ map_of values (2 ^ n - 1 - 2 ^ i))) _ _
     (conditional_fits n i (map_of values) refl (point_within values w)) (sym (value-row n (Conditional i) (map_of values) refl))
     (subst₂ (λ (x y : ℤ). OkIff r (IsWithin (x -ℤ y)) (x -ℤ y)) p q o)
 
-pub mutual_value : (values : List ℤ) (n i j k : ℕ) (r : Result ℤ WideNumber) (a b c d : ℤ) → All IsWithin values → a ≡ map_of values k → b ≡ map_of values (k + 2 ^ i) → c ≡ map_of values (k + 2 ^ j) → d ≡ map_of values (k + 2 ^ i + 2 ^ j)
+pub mutual_value : (values : List ℤ) (n i j k : ℕ) (r : Result ℤ Wide) (a b c d : ℤ) → All IsWithin values → a ≡ map_of values k → b ≡ map_of values (k + 2 ^ i) → c ≡ map_of values (k + 2 ^ j) → d ≡ map_of values (k + 2 ^ i + 2 ^ j)
     → OkIff r (AlternatingFits a b c d) (((b -ℤ a) +ℤ c) -ℤ d) → OkIff r (ValueFits (elemental_row n (Mutual i j k)) (map_of values)) (value (elemental_row n (Mutual i j k)) (map_of values))
 mutual_value values n i j k r a b c d w p q s u o =
     ok_iff-same r (ValueFits (elemental_row n (Mutual i j k)) (map_of values)) (AlternatingFits a b c d) _ _

@@ -9,12 +9,12 @@ ghost use Rattle.it_elemental.specs.Views.{IsElemental};
 
 use crate::inequalities::{Elemental, parts};
 use crate::sets::{all_but, all_variables, with_variable};
-use it_fraction::{WideNumber, difference, sum};
+use it_fraction::{Wide, difference, sum};
 use it_space::{Point, VarSet};
 
 /// What an inequality says to be at least 0, at a point whose first values are those of the nonempty sets: summed in order
 /// of the sets, and wide exactly where a partial sum is.
-pub fn value_at(n: u8, index: u32, point: &Point) -> Result<i128, WideNumber>
+pub fn value_at(n: u8, index: u32, point: &Point) -> Result<i128, Wide>
     requires some { 1 ≤ n }
     requires few { n ≤ 10 }
     requires listed { index < length (elementals n) }
@@ -44,7 +44,7 @@ fn at_set(point: &Point, set: VarSet) -> i128
 }
 
 /// - a + b + c - d, from left to right.
-pub fn alternating_sum(a: i128, b: i128, c: i128, d: i128) -> Result<i128, WideNumber>
+pub fn alternating_sum(a: i128, b: i128, c: i128, d: i128) -> Result<i128, Wide>
     ensures { OkIff result (AlternatingFits a b c d) (((b -ℤ a) +ℤ c) -ℤ d) }
 {
     let three = sum(difference(b, a)?, c)?;
@@ -52,7 +52,7 @@ pub fn alternating_sum(a: i128, b: i128, c: i128, d: i128) -> Result<i128, WideN
 }
 
 /// The entropy of a variable given all others.
-fn conditional_entropy(point: &Point, n: u8, of: u8) -> Result<i128, WideNumber>
+fn conditional_entropy(point: &Point, n: u8, of: u8) -> Result<i128, Wide>
     requires few { n ≤ 10 }
     requires shape { of < n }
     requires complete { 2 ^ n ≤ length point.now + 1 }
@@ -71,7 +71,7 @@ fn mutual_information(
     left: u8,
     right: u8,
     given: VarSet,
-) -> Result<i128, WideNumber>
+) -> Result<i128, Wide>
     requires few { n ≤ 10 }
     requires shape { IsElemental n (Mutual left right given) }
     requires complete { 2 ^ n ≤ length point.now + 1 }

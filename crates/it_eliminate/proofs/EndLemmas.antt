@@ -2,11 +2,11 @@
 use Rattle.std.proofs.Common.{◌≡◌, inl, inr, ℕ, ◌+◌, ◌<◌, ◌≤◌, refl, sym, subst, subst₂, List, length, drop, get_or}
 use Rattle.std.proofs.lemmas.List.{drop_more, drop_all}
 use Rattle.it_space.specs.Rows.{Terms}
-use Rattle.it_eliminate.specs.Elimination.{EliminationEndView, Region, Rows, Wide, next_list, PairsFit, EliminationEnds}
+use Rattle.it_eliminate.specs.Elimination.{EliminatedView, Region, Rows, Wide, next_list, PairsFit, EliminationEnds}
 
 -- what the rates still to come end with is what all end with
 abbrev pub LeadsTo : ℕ → ℕ → List Terms → List Terms → List ℕ → ℕ → Type 0
-LeadsTo base most start now rates i = (end : EliminationEndView) → EliminationEnds base most now (drop i rates) end → EliminationEnds base most start rates end
+LeadsTo base most start now rates i = (end : EliminatedView) → EliminationEnds base most now (drop i rates) end → EliminationEnds base most start rates end
 
 module _ (base most : ℕ) (start now : List Terms) (rates : List ℕ) (i : ℕ) (l : LeadsTo base most start now rates i) where
   pub ends_done : length rates ≤ i → EliminationEnds base most start rates (Region now)

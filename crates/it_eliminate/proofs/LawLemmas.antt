@@ -5,7 +5,7 @@ use Rattle.it_space.specs.declared.spaces.Space.{Space}
 use Rattle.it_space.specs.Problems.{IsSystem}
 use Rattle.it_space.specs.Rows.{Terms, IsUpTo}
 use Rattle.it_space.specs.Spaces.{IsSpace, size_of}
-use Rattle.it_eliminate.specs.Elimination.{EliminationEndView, Region, Rows, Wide, next_list, EliminationEnds, ordered_rows, list_after}
+use Rattle.it_eliminate.specs.Elimination.{EliminatedView, Region, Rows, Wide, next_list, EliminationEnds, ordered_rows, list_after}
 use Rattle.it_eliminate.specs.Projections.{IsPointOf, Extends, LacksCoordinate, IsProjection}
 use Rattle.it_eliminate.specs.Laws.{OneEnd}
 use Rattle.it_eliminate.proofs.MemberLemmas.{member-map}
@@ -24,12 +24,12 @@ one_end base most rows (r ∷ rs) o u (inr (inr e)) (inl f) = absurd (f.0 e.0)
 one_end base most rows (r ∷ rs) o u (inr (inr e)) (inr (inl f)) = absurd (omega (arith, e.1, f.1))
 one_end base most rows (r ∷ rs) o u (inr (inr e)) (inr (inr f)) = one_end base most (next_list (base + r) rows) rs o u e.2 f.2
 
-abbrev rows_or : EliminationEndView → List Terms → List Terms
+abbrev rows_or : EliminatedView → List Terms → List Terms
 rows_or (Region rows) other = rows
 rows_or (Rows r) other = other
 rows_or (Wide r) other = other
 
-abbrev IsRegion : EliminationEndView → Type 0
+abbrev IsRegion : EliminatedView → Type 0
 IsRegion (Region rows) = Unit {0}
 IsRegion (Rows r) = ⊥
 IsRegion (Wide r) = ⊥

@@ -70,14 +70,14 @@ abbrev pub PairsFit : ℕ → List Terms → Type 0
 PairsFit at rows = (up down : Terms) → Member up rows → Member down rows → pos 0 <ℤ coefficient up at → coefficient down at <ℤ pos 0 → CancelFits at up down
 
 -- the list after all rates; or a rate after which there are too many rows, or at which a pair is wide
-pub data EliminationEndView : Type 0 where
-  Region : (rows : List Terms) → EliminationEndView
-  Rows : (rate : ℕ) → EliminationEndView
-  Wide : (rate : ℕ) → EliminationEndView
+pub data EliminatedView : Type 0 where
+  Region : (rows : List Terms) → EliminatedView
+  Rows : (rate : ℕ) → EliminatedView
+  Wide : (rate : ℕ) → EliminatedView
 
 -- what elimination of rates from rows in order ends with: the first rate with a wide pair or, failing that, with more than `most`
 -- rows after it, or the list after all; rate r is at coordinate `base` + r
-abbrev pub EliminationEnds : ℕ → ℕ → List Terms → List ℕ → EliminationEndView → Type 0
+abbrev pub EliminationEnds : ℕ → ℕ → List Terms → List ℕ → EliminatedView → Type 0
 EliminationEnds base most rows [] end = end ≡ Region rows
 EliminationEnds base most rows (r ∷ rs) end = ((¬ (PairsFit (base + r) rows)) × (end ≡ Wide r))
     ⊎ ((PairsFit (base + r) rows × (most < length (next_list (base + r) rows)) × (end ≡ Rows r))

@@ -4,8 +4,8 @@ use Rattle.std.specs.List.{AllByRecursion as Every}
 use Rattle.it_space.specs.declared.problems.System.{System}
 use Rattle.it_space.specs.Problems.{IsSystem}
 use Rattle.it_space.specs.Rows.{Terms, value, coefficient}
-use Rattle.it_eliminate.specs.declared.types.EliminationEnd.{EliminationEnd}
-use Rattle.it_eliminate.specs.declared.types.EliminationEnd.TheVariants as elimination_ends
+use Rattle.it_eliminate.specs.declared.types.Eliminated.{Eliminated}
+use Rattle.it_eliminate.specs.declared.types.Eliminated.TheVariants as elimination_ends
 use Rattle.it_eliminate.specs.Elimination.{Member}
 
 -- every row is at least 0 at the point
@@ -32,7 +32,7 @@ pub record IsProjection (old : System) (rates : List ℕ) (new : System) : Type 
   pub exact : (p : ℕ → ℤ) → IsPointOf new.rows.items p ↔ Extends (map (λ r. 2 ^ old.space.variables + r) rates) old.rows.items p
 
 -- where elimination ends with a region, that is the projection
-abbrev pub RegionIsProjection : System → List ℕ → EliminationEnd → Type 0
+abbrev pub RegionIsProjection : System → List ℕ → Eliminated → Type 0
 RegionIsProjection system rates (elimination_ends.Region region) = IsProjection system rates region
 RegionIsProjection system rates (elimination_ends.Rows rate) = Unit {0}
 RegionIsProjection system rates (elimination_ends.Wide rate) = Unit {0}

@@ -3,13 +3,13 @@ ghost use Rattle.std.specs.Prelude.{◌≡◌, ◌+◌, ◌^◌, ◌<◌, All, I
 ghost use Rattle.it_space.specs.Problems.{IsSystem};
 ghost use Rattle.it_space.specs.Spaces.{IsSpace};
 ghost use Rattle.it_eliminate.specs.Elimination.{ordered_rows, EliminationEnds};
-ghost use Rattle.it_eliminate.specs.Views.{elimination_end_view};
+ghost use Rattle.it_eliminate.specs.Views.{eliminated_view};
 ghost use Rattle.it_eliminate.specs.Projections.{RegionIsProjection};
 ghost use Rattle.it_eliminate.specs.Gathering.{IsRateEnd};
 
 use crate::ordered::{ordered_rows, row_list};
 use crate::pairs::next_list;
-use crate::types::{EliminationEnd, RateEnd};
+use crate::types::{Eliminated, RateEnd};
 use it_space::{Row, RowFault, Space, System};
 use std::alloc::{AllocError, Global};
 
@@ -20,10 +20,10 @@ pub fn eliminate(
     system: &System,
     rates: &[u8],
     rows: usize,
-) -> Result<EliminationEnd, AllocError>
+) -> Result<Eliminated, AllocError>
     requires system { IsSystem system.now }
     requires rates { All (λ r. r < system.now.space.rates) rates.now }
-    ensures ends { IfOk result (λ e. EliminationEnds (2 ^ system.now.space.variables) rows (ordered_rows system.now.rows.items) rates.now (elimination_end_view e)) }
+    ensures ends { IfOk result (λ e. EliminationEnds (2 ^ system.now.space.variables) rows (ordered_rows system.now.rows.items) rates.now (eliminated_view e)) }
     ensures region { IfOk result (RegionIsProjection system.now rates.now) }
 {
     let ordered = ordered_rows(alloc, system.rows.as_slice())?;
@@ -36,26 +36,21 @@ pub fn eliminate(
             rows,
         )? {
             RateEnd::List(next) => current = next,
-            RateEnd::Rows => return Ok(EliminationEnd::Rows { rate: *rate }),
-            RateEnd::Wide => return Ok(EliminationEnd::Wide { rate: *rate }),
+            RateEnd::Rows => return Ok(Eliminated::Rows { rate: *rate }),
+            RateEnd::Wide => return Ok(Eliminated::Wide { rate: *rate }),
         }
     }
-    Ok(EliminationEnd::Region(System {
+    Ok(Eliminated::Region(System {
         space: system.space,
         rows: current,
     }))
 }
 
 /// Eliminates one rate.
-pub fn step(
-    alloc: Global,
-    system: &System,
-    rate: u8,
-    rows: usize,
-) -> Result<EliminationEnd, AllocError>
+pub fn step(alloc: Global, system: &System, rate: u8, rows: usize) -> Result<Eliminated, AllocError>
     requires system { IsSystem system.now }
     requires rate { rate < system.now.space.rates }
-    ensures ends { IfOk result (λ e. EliminationEnds (2 ^ system.now.space.variables) rows (ordered_rows system.now.rows.items) (rate ∷ []) (elimination_end_view e)) }
+    ensures ends { IfOk result (λ e. EliminationEnds (2 ^ system.now.space.variables) rows (ordered_rows system.now.rows.items) (rate ∷ []) (eliminated_view e)) }
     ensures region { IfOk result (RegionIsProjection system.now (rate ∷ [])) }
 {
     eliminate(alloc, system, [rate].as_slice(), rows)

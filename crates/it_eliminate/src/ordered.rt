@@ -8,7 +8,7 @@ ghost use Rattle.std.specs.List.{AllByRecursion as Every};
 ghost use Rattle.it_eliminate.specs.Gathering.{rows_of, Gathers};
 
 use indexmap::IndexSet;
-use it_space::{Row, lowest_terms};
+use it_space::{Row, normal};
 use std::alloc::{AllocError, Global};
 
 /// Puts a row after the others, unless it is zero or one of them.
@@ -27,7 +27,7 @@ fn put_lowest(rows: &mut IndexSet<Vec<(u32, i128)>>, row: Row) -> Result<(), All
     ensures canonical { OnOk result (Every IsCanonical (rows_of rows.old.keys) → Every IsCanonical (rows_of rows.new.keys)) }
 {
     // with `?`, so that the contract of the call stands at the answer
-    put(rows, lowest_terms(row).into_terms())?;
+    put(rows, normal(row).into_terms())?;
     Ok(())
 }
 

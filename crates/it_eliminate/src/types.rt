@@ -3,7 +3,7 @@ use it_space::{Row, System};
 
 /// What elimination ends with.
 #[derive(Debug, Drop)]
-pub enum EliminationEnd {
+pub enum Eliminated {
     /// The rows that are left after all rates.
     Region(System),
     /// The first rate after which there are more rows than are allowed.

@@ -10,7 +10,7 @@ use Rattle.it_run.specs.Answers.{end_of_answer, HasSigns, RunsFrom}
 use Rattle.it_run.specs.Readings.{weights, point}
 use Rattle.it_run.specs.Runs.RunEndView.{Weights, Point, Pivots}
 use Rattle.it_run.specs.Solving.{RunsTo}
-use Rattle.it_run.specs.declared.answering.RunAnswer.{RunAnswer}
+use Rattle.it_run.specs.declared.answering.Solved.{Solved}
 use Rattle.it_run.proofs.AnswerLemmas.{read_run}
 use Rattle.it_engine.specs.Ends.{AnswersQuestion, AreWeightsOf, IsPointOf}
 use Rattle.it_engine.specs.Engine.{StandsFor, IsFinished}
@@ -46,7 +46,7 @@ module _ (first : TableauView) (columns : List Terms) (limit : ℕ) (old : List 
 -- from the start
 pub answer_from_start : (t : TableauView) (columns : List Terms) (norm limit : ℕ) (rows : List WholeRowView) (basis : List ℕ)
     → AreReadColumns t t.generator_columns columns → IsNorm columns norm → norm * limit < 2 ^ 63 → AreReadRows t limit (height t + 1) rows → IsReadBasis t (height t) basis
-    → (budget : Option ℕ) (solved : RunAnswer) → AnswersQuestion t columns limit rows basis budget solved
+    → (budget : Option ℕ) (solved : Solved) → AnswersQuestion t columns limit rows basis budget solved
     → RunsFrom t budget solved
 answer_from_start t columns norm limit rows basis cs n fit ls bs budget solved a p s =
     subst (λ (m : ℕ). RunsTo m t.generator_columns p budget (table t) (end_of_answer solved)) bs.0

@@ -8,7 +8,7 @@ use Rattle.it_tableau.specs.SimplexTables.{SimplexTable, FeasibilityProblem}
 use Rattle.it_run.specs.Readings.{weights, point}
 use Rattle.it_run.specs.Answers.{end_of_answer, HasSigns}
 use Rattle.it_run.specs.Solving.{RunsTo}
-use Rattle.it_run.specs.declared.answering.RunAnswer.{RunAnswer}
+use Rattle.it_run.specs.declared.answering.Solved.{Solved}
 use Rattle.it_engine.specs.Choosing.{right_side_of}
 use Rattle.it_engine.specs.Engine.{StandsFor}
 use Rattle.it_engine.specs.Whole.{whole_row_at, WholeRowView}
@@ -29,6 +29,6 @@ abbrev pub IsPointOf : TableauView → List WholeRowView → List ℕ → List R
 IsPointOf first rows basis q = (p : FeasibilityProblem Rational) (t : SimplexTable Rational) (columns : List Terms) (limit : ℕ) → HasSigns first p → StandsFor p t columns limit rows basis → q ≡ point field_ℚ (length basis) (length columns) p t
 
 -- the answer to the question whose start the engine shows
-abbrev pub AnswersQuestion : TableauView → List Terms → ℕ → List WholeRowView → List ℕ → Option ℕ → RunAnswer → Type 0
+abbrev pub AnswersQuestion : TableauView → List Terms → ℕ → List WholeRowView → List ℕ → Option ℕ → Solved → Type 0
 AnswersQuestion first columns limit rows basis budget answer = (p : FeasibilityProblem Rational) (t : SimplexTable Rational) → HasSigns first p → StandsFor p t columns limit rows basis
     → RunsTo (length basis) (length columns) p budget t (end_of_answer answer)

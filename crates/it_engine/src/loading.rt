@@ -208,7 +208,7 @@ pub fn basis(alloc: Global, tableau: &Tableau) -> Result<Vec<usize>, AllocError>
 {
     let mut basis = Vec::with_capacity(alloc, tableau.rows())?;
     for i in 0..tableau.rows() {
-        basis.push(tableau.basic_column(i))?;
+        basis.push(tableau.basic(i))?;
     }
     Ok(basis)
 }

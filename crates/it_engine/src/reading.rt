@@ -21,7 +21,7 @@ fn fraction(row: &WholeRow, k: usize) -> Fraction
     requires some { 0 < row.now.bottom }
     ensures { result ≡ quotient (number_at row.now.numbers k) row.now.bottom }
 {
-    Fraction::quotient(i128::from(row.number(k)), i128::from(row.bottom()))
+    Fraction::lowest(i128::from(row.number(k)), i128::from(row.bottom()))
 }
 
 /// The same of row i.

@@ -10,7 +10,7 @@ use crate::columns::Column;
 use crate::engine::{Engine, EngineEnd};
 use crate::loading::{basis, columns, norm, rows};
 use crate::reading::{point, weights};
-use it_run::RunAnswer;
+use it_run::Solved;
 use it_tableau::Tableau;
 use std::alloc::{AllocError, Global};
 
@@ -29,7 +29,7 @@ fn answer(
     limit: u64,
     engine: Engine,
     budget: Option<u32>,
-) -> Result<Option<RunAnswer>, AllocError>
+) -> Result<Option<Solved>, AllocError>
     requires usable { start.now.spent ≡ false }
     requires height { length engine.basis ≡ height start.now }
     requires engine { IsSafe columns.now limit engine.rows engine.basis }
@@ -38,19 +38,19 @@ fn answer(
 {
     let mut engine = engine;
     match engine.run(columns, limit, budget) {
-        Some(EngineEnd::Weights) => Ok(Some(RunAnswer::Weights(weights(
+        Some(EngineEnd::Weights) => Ok(Some(Solved::Weights(weights(
             alloc,
             columns,
             engine.rows(),
             engine.basis(),
         )?))),
-        Some(EngineEnd::Point) => Ok(Some(RunAnswer::Point(point(
+        Some(EngineEnd::Point) => Ok(Some(Solved::Point(point(
             alloc,
             start,
             engine.rows(),
             engine.basis(),
         )?))),
-        Some(EngineEnd::Pivots(steps)) => Ok(Some(RunAnswer::Pivots(steps))),
+        Some(EngineEnd::Pivots(steps)) => Ok(Some(Solved::Pivots(steps))),
         None => Ok(None),
     }
 }
@@ -61,7 +61,7 @@ pub fn whole_run(
     alloc: Global,
     start: &Tableau,
     budget: Option<u32>,
-) -> Result<Option<RunAnswer>, AllocError>
+) -> Result<Option<Solved>, AllocError>
     requires usable { start.now.spent ≡ false }
     requires start { HasProblem start.now }
     ensures { IfOk result (λ o. IfSome o (λ solved. RunsFrom start.now budget solved)) }

@@ -4,7 +4,7 @@ ghost use Rattle.std.specs.Prelude.{◌<◌};
 
 use it_answer::{Budgets, answer};
 use it_cli::{Status, itip};
-use it_contain::{Proposer, RecentCandidates, Singles, Subsets};
+use it_contain::{Proposer, Recent, Singles, Subsets};
 use it_outside::{MemorySink, MemorySource, SureSink, SureSource};
 use it_question::questions;
 use it_question::types::Verb;
@@ -637,7 +637,7 @@ fn call(
     sink: &mut MemorySink,
 ) -> Result<Status, AllocError> {
     let mut proposers: Vec<Box<dyn Proposer>> = Vec::new(alloc);
-    proposers.push(Box::new(alloc, RecentCandidates::new())?)?;
+    proposers.push(Box::new(alloc, Recent::new())?)?;
     proposers.push(Box::new(alloc, Singles::new())?)?;
     proposers.push(Box::new(alloc, Subsets::new())?)?;
     Ok(itip(alloc, words, source, sink, proposers))
@@ -943,6 +943,18 @@ fn a_failed_read_writes_nothing(rt: HostRuntime) -> Result<(), Fail> {
         assert_eq!(rt; status, Status::ReadFault, "call {failing}");
         assert_eq!(rt; sink.bytes(), b"".as_slice(), "call {failing}");
     }
+    Ok(())
+}
+
+#[test]
+fn a_read_that_would_fail_after_the_end_changes_nothing(rt: HostRuntime) -> Result<(), Fail> {
+    let alloc = rt.alloc();
+    // The first 29 calls tell the input and its end, so the thirtieth isn't made.
+    let mut source = source(alloc, MUTUAL, 1, &[30])?;
+    let mut sink = sink(alloc, WHOLE, &[])?;
+    let status = call(alloc, &["answer"], &mut source, &mut sink)?;
+    assert_eq!(rt; status, Status::Done);
+    assert_eq!(rt; sink.bytes(), b"1 yes 1 : 1 I(X;Y)\n".as_slice());
     Ok(())
 }
 

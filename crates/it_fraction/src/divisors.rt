@@ -3,7 +3,7 @@ ghost use Rattle.std.specs.Prelude.{◌≡◌, ◌≤ℤ◌, pos, unsigned_abs, 
 ghost use Rattle.it_number.specs.Gcd.{gcd as gcd_of, lcm as lcm_of};
 ghost use Rattle.it_number.specs.Limit.{IsWithin};
 
-use crate::fraction::WideNumber;
+use crate::fraction::Wide;
 use crate::steps::{common_divisor, product, quotient};
 
 /// The greatest common divisor, at least 0; 0 of 0 and 0.
@@ -17,7 +17,7 @@ pub fn gcd(a: i128, b: i128) -> i128
 }
 
 /// The least common multiple of two numbers above 0.
-pub fn lcm(a: i128, b: i128) -> Result<i128, WideNumber>
+pub fn lcm(a: i128, b: i128) -> Result<i128, Wide>
     requires a_some { pos 1 ≤ℤ a }
     requires b_some { pos 1 ≤ℤ b }
     ensures { let multiple = pos (lcm_of (unsigned_abs a) (unsigned_abs b)) in OkIff result (IsWithin multiple) multiple }

@@ -21,7 +21,7 @@ use std::marker::Model;
 
 /// A number that an operation names is more than 2^127 - 1 in absolute value.
 #[derive(Debug, Clone, Copy, PartialEq, Eq)]
-pub struct WideNumber;
+pub struct Wide;
 
 /// A rational number in lowest terms, whose numerator is at most 2^127 - 1 in absolute value and
 /// whose denominator is from 1 to 2^127 - 1.
@@ -83,7 +83,7 @@ fn are_one(b: u128, d: u128) -> bool
 
 impl Fraction {
     /// The whole number as a fraction.
-    pub fn integer(value: i128) -> Fraction
+    pub fn whole(value: i128) -> Fraction
         requires { IsWithin value }
         ensures { result ≡ integer value }
     {
@@ -91,7 +91,7 @@ impl Fraction {
     }
 
     /// num / den, where den may be below 0.
-    pub fn quotient(num: i128, den: i128) -> Fraction
+    pub fn lowest(num: i128, den: i128) -> Fraction
         requires num_within { IsWithin num }
         requires den_within { IsWithin den }
         requires den_some { den ≢ pos 0 }
@@ -169,7 +169,7 @@ impl Fraction {
     /// Programming vol. 2, 4.5.1). It is refused exactly where one of the four numbers of this way is
     /// too large, so also where the sum itself would fit.
     #[inline]
-    pub fn add(self, other: Fraction) -> Result<Fraction, WideNumber>
+    pub fn add(self, other: Fraction) -> Result<Fraction, Wide>
         ensures { OkIff result (SumFits self other) (plus self other) }
     {
         if are_one(self.bottom, other.bottom) {
@@ -186,7 +186,7 @@ impl Fraction {
 
     /// The difference, as the sum with the other number negated; refused as that sum is.
     #[inline]
-    pub fn sub(self, other: Fraction) -> Result<Fraction, WideNumber>
+    pub fn sub(self, other: Fraction) -> Result<Fraction, Wide>
         ensures { OkIff result (DifferenceFits self other) (plus self (minus other)) }
     {
         self.add(other.neg())
@@ -195,21 +195,21 @@ impl Fraction {
     /// The product, whose common divisors are taken out before anything is multiplied. It is refused
     /// exactly where a part of the result in lowest terms is too large.
     #[inline]
-    pub fn mul(self, other: Fraction) -> Result<Fraction, WideNumber>
+    pub fn mul(self, other: Fraction) -> Result<Fraction, Wide>
         ensures { OkIff result (IsNarrow (times self other)) (times self other) }
     {
         if are_one(self.bottom, other.bottom) {
             return whole_product(self.top, other.top);
         }
         if self.is_zero() || other.is_zero() {
-            return Ok(Fraction::integer(0));
+            return Ok(Fraction::whole(0));
         }
         parts_product(self.top, self.bottom, other.top, other.bottom)
     }
 
     /// The quotient, as the product with the other number turned over; refused as that product is.
     #[inline]
-    pub fn div(self, other: Fraction) -> Result<Fraction, WideNumber>
+    pub fn div(self, other: Fraction) -> Result<Fraction, Wide>
         requires { other.num ≢ pos 0 }
         ensures { OkIff result (IsNarrow (times self (inverse other))) (times self (inverse other)) }
     {

@@ -10,8 +10,5 @@ mod steps;
 mod sums;
 
 pub use divisors::{gcd, lcm};
-pub use fraction::{Fraction, WideNumber};
+pub use fraction::{Fraction, Wide};
 pub use steps::{difference, signed_product, sum};
-
-#[cfg(test)]
-mod tests;

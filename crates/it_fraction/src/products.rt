@@ -5,11 +5,11 @@ ghost use Rattle.it_number.specs.Limit.{IsWithin};
 ghost use Rattle.it_rational.specs.Rational.{quotient, integer};
 ghost use Rattle.it_fraction.specs.Fits.{IsNarrow};
 
-use crate::fraction::{Fraction, WideNumber, in_lowest_terms};
+use crate::fraction::{Fraction, Wide, in_lowest_terms};
 use crate::steps::{common_divisor, product, quotient, signed_product, signed_quotient};
 
 /// The product of a / b and c / d, each in lowest terms.
-pub fn parts_product(a: i128, b: u128, c: i128, d: u128) -> Result<Fraction, WideNumber>
+pub fn parts_product(a: i128, b: u128, c: i128, d: u128) -> Result<Fraction, Wide>
     requires b_some { 0 < b }
     requires d_some { 0 < d }
     requires a_within { IsWithin a }
@@ -28,8 +28,8 @@ pub fn parts_product(a: i128, b: u128, c: i128, d: u128) -> Result<Fraction, Wid
 }
 
 /// The product of two whole numbers.
-pub fn whole_product(a: i128, c: i128) -> Result<Fraction, WideNumber>
+pub fn whole_product(a: i128, c: i128) -> Result<Fraction, Wide>
     ensures { OkIff result (IsWithin (a *ℤ c)) (integer (a *ℤ c)) }
 {
-    Ok(Fraction::integer(signed_product(a, c)?))
+    Ok(Fraction::whole(signed_product(a, c)?))
 }

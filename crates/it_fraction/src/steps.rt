@@ -5,7 +5,7 @@ ghost use Rattle.it_number.specs.Division.{int_quotient};
 ghost use Rattle.it_number.specs.Gcd.{gcd};
 ghost use Rattle.it_number.specs.Limit.{IsWithin};
 
-use crate::fraction::WideNumber;
+use crate::fraction::Wide;
 
 /// The greatest number within the limit, 2^127 - 1.
 const LARGEST: u128 = i128::MAX as u128;
@@ -81,7 +81,7 @@ pub fn signed_quotient(a: i128, k: u128) -> i128
 }
 
 /// The sum, wide past the limit.
-pub fn sum(a: i128, b: i128) -> Result<i128, WideNumber>
+pub fn sum(a: i128, b: i128) -> Result<i128, Wide>
     ensures { OkIff result (IsWithin (a +ℤ b)) (a +ℤ b) }
 {
     if let (Ok(a), Ok(b)) = (i64::try_from(a), i64::try_from(b)) {
@@ -89,7 +89,7 @@ pub fn sum(a: i128, b: i128) -> Result<i128, WideNumber>
     }
     match a.checked_add(b) {
         Some(sum) if sum != i128::MIN => Ok(sum),
-        _ => Err(WideNumber),
+        _ => Err(Wide),
     }
 }
 
@@ -102,27 +102,27 @@ fn short_sum(a: i64, b: i64) -> i128
 }
 
 /// The difference, wide past the limit.
-pub fn difference(a: i128, b: i128) -> Result<i128, WideNumber>
+pub fn difference(a: i128, b: i128) -> Result<i128, Wide>
     ensures { OkIff result (IsWithin (a -ℤ b)) (a -ℤ b) }
 {
     match a.checked_sub(b) {
         Some(rest) if rest != i128::MIN => Ok(rest),
-        _ => Err(WideNumber),
+        _ => Err(Wide),
     }
 }
 
 /// The product, wide past the limit.
-pub fn product(a: u128, b: u128) -> Result<u128, WideNumber>
+pub fn product(a: u128, b: u128) -> Result<u128, Wide>
     ensures { OkIff result (IsWithin (pos (a * b))) (a * b) }
 {
     match a.checked_mul(b) {
         Some(product) if product <= LARGEST => Ok(product),
-        _ => Err(WideNumber),
+        _ => Err(Wide),
     }
 }
 
 /// The product of two signed numbers, wide past the limit.
-pub fn signed_product(a: i128, b: i128) -> Result<i128, WideNumber>
+pub fn signed_product(a: i128, b: i128) -> Result<i128, Wide>
     ensures { OkIff result (IsWithin (a *ℤ b)) (a *ℤ b) }
 {
     if let (Ok(a), Ok(b)) = (i64::try_from(a), i64::try_from(b)) {
@@ -130,7 +130,7 @@ pub fn signed_product(a: i128, b: i128) -> Result<i128, WideNumber>
     }
     match a.checked_mul(b) {
         Some(product) if product != i128::MIN => Ok(product),
-        _ => Err(WideNumber),
+        _ => Err(Wide),
     }
 }
 
@@ -143,7 +143,7 @@ fn short_product(a: i64, b: i64) -> i128
 }
 
 /// a times k, wide past the limit.
-pub fn multiple(a: i128, k: u128) -> Result<i128, WideNumber>
+pub fn multiple(a: i128, k: u128) -> Result<i128, Wide>
     requires { IsWithin (pos k) }
     ensures { OkIff result (IsWithin (a *ℤ pos k)) (a *ℤ pos k) }
 {

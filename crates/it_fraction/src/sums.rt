@@ -5,11 +5,11 @@ ghost use Rattle.it_number.specs.Limit.{IsWithin};
 ghost use Rattle.it_rational.specs.Rational.{quotient, integer};
 ghost use Rattle.it_fraction.specs.Fits.{PartsFit};
 
-use crate::fraction::{Fraction, WideNumber, in_lowest_terms};
+use crate::fraction::{Fraction, Wide, in_lowest_terms};
 use crate::steps::{common_divisor, multiple, product, quotient, signed_quotient, sum};
 
 /// The sum of a / b and c / d, each in lowest terms.
-pub fn parts_sum(a: i128, b: u128, c: i128, d: u128) -> Result<Fraction, WideNumber>
+pub fn parts_sum(a: i128, b: u128, c: i128, d: u128) -> Result<Fraction, Wide>
     requires b_some { 0 < b }
     requires d_some { 0 < d }
     requires b_within { IsWithin (pos b) }
@@ -30,8 +30,8 @@ pub fn parts_sum(a: i128, b: u128, c: i128, d: u128) -> Result<Fraction, WideNum
 }
 
 /// The sum of two whole numbers.
-pub fn whole_sum(a: i128, c: i128) -> Result<Fraction, WideNumber>
+pub fn whole_sum(a: i128, c: i128) -> Result<Fraction, Wide>
     ensures { OkIff result (IsWithin (a +ℤ c)) (integer (a +ℤ c)) }
 {
-    Ok(Fraction::integer(sum(a, c)?))
+    Ok(Fraction::whole(sum(a, c)?))
 }

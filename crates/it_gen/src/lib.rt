@@ -8,6 +8,3 @@ mod laws;
 
 pub use files::questions_of;
 pub use laws::generated_is_file;
-
-#[cfg(test)]
-mod tests;

@@ -11,7 +11,7 @@ ghost use Rattle.it_lift.specs.Lifts.{excess, with_empty};
 
 use it_closure::Dependences;
 use it_elemental::coefficient_at;
-use it_fraction::{WideNumber, difference, signed_product, sum};
+use it_fraction::{Wide, difference, signed_product, sum};
 use it_space::{Certificate, Problem, Row, VarSet};
 
 /// The scale times the target's coefficient at a nonempty set, less the weights times the generators' coefficients.
@@ -20,7 +20,7 @@ pub fn excess(
     target: &Row,
     collapsed: &Certificate,
     set: VarSet,
-) -> Result<i128, WideNumber>
+) -> Result<i128, Wide>
     requires problem { IsProblem (problem_view problem.now) }
     requires listed { All (λ p. p.0 < (generators_of (problem_view problem.now)).count) collapsed.now.weights.items }
     requires some { 0 < set }
@@ -36,7 +36,7 @@ fn left_of(
     weights: &[(u32, i128)],
     set: VarSet,
     whole: i128,
-) -> Result<i128, WideNumber>
+) -> Result<i128, Wide>
     requires problem { IsProblem (problem_view problem.now) }
     requires listed { All (λ p. p.0 < (generators_of (problem_view problem.now)).count) weights.now }
     requires some { 0 < set }
@@ -60,7 +60,7 @@ fn coefficient_at_set(problem: &Problem, index: u32, set: VarSet) -> i128
 }
 
 /// The sum with the product of two numbers taken off.
-fn less_product(sum: i128, a: i128, b: i128) -> Result<i128, WideNumber>
+fn less_product(sum: i128, a: i128, b: i128) -> Result<i128, Wide>
     ensures { OkIff result (IsWithin (a *ℤ b) × IsWithin (sum -ℤ a *ℤ b)) (sum -ℤ a *ℤ b) }
 {
     difference(sum, signed_product(a, b)?)
@@ -72,7 +72,7 @@ pub fn empty_excess(
     dependences: &Dependences,
     target: &Row,
     collapsed: &Certificate,
-) -> Result<i128, WideNumber>
+) -> Result<i128, Wide>
     requires problem { IsProblem (problem_view problem.now) }
     requires space { dependences.now.space ≡ problem.now.space }
     requires listed { All (λ p. p.0 < (generators_of (problem_view problem.now)).count) collapsed.now.weights.items }
@@ -92,7 +92,7 @@ pub fn empty_excess(
 }
 
 /// The total, with a number added where it is wanted.
-fn plus_if(total: i128, wanted: bool, number: i128) -> Result<i128, WideNumber>
+fn plus_if(total: i128, wanted: bool, number: i128) -> Result<i128, Wide>
     requires within { IsWithin total }
     ensures { OkIff result (IsWithin (total +ℤ cond wanted number (pos 0))) (total +ℤ cond wanted number (pos 0)) }
 {

@@ -7,7 +7,7 @@ ghost use Rattle.it_lift.specs.LiftedCertificates.{WeightsAscend};
 ghost use Rattle.it_lift.specs.Lifts.{signed_value};
 ghost use Rattle.it_lift.specs.Sums.{for_each, AreWeightsAdded};
 
-use it_fraction::WideNumber;
+use it_fraction::Wide;
 use it_space::Sums;
 use std::alloc::{AllocError, Global};
 use std::marker::Model;
@@ -51,7 +51,7 @@ impl WeightSums {
     }
 
     /// Adds to one weight, or takes from it.
-    pub fn add(&mut self, index: u32, amount: u128, taken: bool) -> Result<(), WideNumber>
+    pub fn add(&mut self, index: u32, amount: u128, taken: bool) -> Result<(), Wide>
         requires place { index < length self.old }
         requires within { amount < 2 ^ 127 }
         ensures added { OnOk result (AreWeightsAdded self.old self.new ((index, signed_value taken (pos amount)) ∷ [])) }
@@ -61,7 +61,7 @@ impl WeightSums {
     }
 
     /// Adds the same to each of some weights.
-    pub fn add_each(&mut self, indexes: &[u32], amount: u128) -> Result<(), WideNumber>
+    pub fn add_each(&mut self, indexes: &[u32], amount: u128) -> Result<(), Wide>
         requires places { All (λ i. i < length self.old) indexes.now }
         requires within { amount < 2 ^ 127 }
         ensures added { OnOk result (AreWeightsAdded self.old self.new (for_each (pos amount) indexes.now)) }

@@ -1,7 +1,7 @@
 -- Sources and sinks in memory, as contracts see them, and what a call leaves of them.
 use Rattle.std.specs.Prelude.{ℕ, ◌≡◌, ◌-◌, ◌<◌, ◌⊎◌, List, [], ◌++◌, length, min, take, drop, Contains, Result, Ok, Err}
 use Rattle.it_outside.specs.Causes.{next_count}
-use Rattle.it_outside.specs.declared.ends.Failure.{Failure}
+use Rattle.it_outside.specs.declared.ends.Failed.{Failed}
 
 -- a source
 pub record MemorySourceView : Type 0 where
@@ -28,7 +28,7 @@ abbrev pub read_count : MemorySourceView → ℕ → ℕ
 read_count s room = min (min s.step room) (length s.left)
 
 -- the source after a read with this result
-abbrev pub after_read : MemorySourceView → Result ℕ Failure → MemorySourceView
+abbrev pub after_read : MemorySourceView → Result ℕ Failed → MemorySourceView
 after_read s (Ok count) = record s { left = drop count s.left; calls = next_count s.calls }
 after_read s (Err failed) = record s { calls = next_count s.calls; faults = next_count s.faults }
 
@@ -59,6 +59,6 @@ abbrev pub write_count : MemorySinkView → List ℕ → ℕ
 write_count s piece = min (min s.step (length piece)) s.room
 
 -- the sink after a write of this piece with this result
-abbrev pub after_write : MemorySinkView → List ℕ → Result ℕ Failure → MemorySinkView
+abbrev pub after_write : MemorySinkView → List ℕ → Result ℕ Failed → MemorySinkView
 after_write s piece (Ok count) = record s { bytes = s.bytes ++ take count piece; room = s.room - count; calls = next_count s.calls }
 after_write s piece (Err failed) = record s { calls = next_count s.calls; faults = next_count s.faults }

@@ -1,17 +1,12 @@
 -- Adapters over readers and writers, as contracts see them, and what they answer to an outcome of the calls below them.
-use Rattle.std.specs.Prelude.{ℕ, Bool, ◌≡◌, ◌||◌, List, take, is_ok, nat_lt, ⊤, Option, Result, Ok, Err, if◌then◌else◌}
+use Rattle.std.specs.Prelude.{ℕ, Bool, ◌≡◌, ◌||◌, List, take, nat_lt, ⊤, Option, Result, Ok, Err, if◌then◌else◌}
 use Rattle.std.specs.Io.KnownBytes.{Appends}
-use Rattle.it_outside.specs.Causes.{next_count}
-use Rattle.it_outside.specs.declared.ends.Failure.{Failure}
+use Rattle.it_outside.specs.declared.ends.Failed.{Failed}
 
 -- what an adapter stands over, and how many of its calls failed
 pub record Adapter (T : Type 0) : Type 0 where
   pub inner : T
   pub faults : ℕ
-
--- the count of faults after a call with this result
-abbrev pub faults_after : {T E : Type 0} → ℕ → Result T E → ℕ
-faults_after faults result = if is_ok result then faults else next_count faults
 
 -- a writer took the first n bytes of a piece at `Ok(n)`, and some front of it at `Err`
 abbrev pub PassesOn : {E : Type 0} → Option (List ℕ) → Option (List ℕ) → Result ℕ E → List ℕ → Type 0
@@ -19,25 +14,25 @@ PassesOn old new (Ok n) piece = Appends old new (take n piece)
 PassesOn old new (Err e) piece = (count : ℕ) × Appends old new (take count piece)
 
 -- the answer to a read: what the reader gave, or that it failed
-abbrev pub read_answer : {E : Type 0} → Result ℕ E → Result ℕ Failure
+abbrev pub read_answer : {E : Type 0} → Result ℕ E → Result ℕ Failed
 read_answer (Ok count) = Ok count
 read_answer (Err error) = Err (record {})
 
 -- The answer to a write that was flushed: what the writer took, or that the write or the flush failed, or that nothing was
 -- taken of a piece that has a byte.
-abbrev pub write_answer : {E : Type 0} → Result ℕ E → Bool → Result ⊤ E → Result ℕ Failure
+abbrev pub write_answer : {E : Type 0} → Result ℕ E → Bool → Result ⊤ E → Result ℕ Failed
 write_answer (Ok count) is_empty (Ok done) = if nat_lt 0 count || is_empty then Ok count else Err (record {})
 write_answer (Ok count) is_empty (Err error) = Err (record {})
 write_answer (Err error) is_empty flushed = Err (record {})
 
 -- a reader's one call, and the answer to it
-pub record ReadsOnce {R E : Type 0} (Reads : R → Result ℕ E → List ℕ → R → Type 0) (old : R) (result : Result ℕ Failure) (buf : List ℕ) (new : R) : Type 0 where
+pub record ReadsOnce {R E : Type 0} (Reads : R → Result ℕ E → List ℕ → R → Type 0) (old : R) (result : Result ℕ Failed) (buf : List ℕ) (new : R) : Type 0 where
   pub outcome : Result ℕ E
   pub call : Reads old outcome buf new
   pub is : result ≡ read_answer outcome
 
 -- a writer's write and then its flush, and the answer to both
-pub record WritesAndFlushes {W E : Type 0} (Writes : W → List ℕ → Result ℕ E → W → Type 0) (Flushes : W → Result ⊤ E → W → Type 0) (is_empty : Bool) (old : W) (piece : List ℕ) (result : Result ℕ Failure) (new : W) : Type 0 where
+pub record WritesAndFlushes {W E : Type 0} (Writes : W → List ℕ → Result ℕ E → W → Type 0) (Flushes : W → Result ⊤ E → W → Type 0) (is_empty : Bool) (old : W) (piece : List ℕ) (result : Result ℕ Failed) (new : W) : Type 0 where
   pub between : W
   pub written : Result ℕ E
   pub flushed : Result ⊤ E

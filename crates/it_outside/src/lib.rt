@@ -1,4 +1,4 @@
-//! Where bytes come from and go to: sources and sinks, each with a count of faults that never falls.
+//! Where bytes come from and go to: sources and sinks, each with a count of its calls that failed.
 #![tactic(auto)]
 
 mod ends;
@@ -7,11 +7,9 @@ mod memory;
 mod standard;
 mod streams;
 mod sure;
-#[cfg(test)]
-mod tests;
 mod whole;
 
-pub use ends::{Failure, Sink, Source};
+pub use ends::{Failed, Sink, Source};
 pub use memory::{MemorySink, MemorySource};
 pub use standard::{StdSink, StdSource};
 pub use streams::{Reader, Writer};

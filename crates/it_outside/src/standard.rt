@@ -2,11 +2,11 @@
 ghost use Rattle.std.specs.Prelude.{◌≡◌, ◌<◌, length, nat_eq, None, IfOk};
 ghost use Rattle.std.specs.Io.{ReadsAtMost, WritesAtMost};
 ghost use Rattle.std.specs.Io.KnownBytes.{ReadConsumes};
-ghost use Rattle.it_outside.specs.Causes.{HasCause};
-ghost use Rattle.it_outside.specs.Standard.{PassesOn, ReadsOnce, WritesAndFlushes, faults_after, read_answer, write_answer};
+ghost use Rattle.it_outside.specs.Causes.{faults_after};
+ghost use Rattle.it_outside.specs.Standard.{PassesOn, ReadsOnce, WritesAndFlushes, read_answer, write_answer};
 ghost use Rattle.it_outside.specs.Traffic.{WriteGains};
 
-use crate::ends::{Failure, Sink, Source};
+use crate::ends::{Failed, Sink, Source};
 use crate::streams::{Reader, Writer};
 use std::io;
 use std::marker::Model;
@@ -36,20 +36,20 @@ impl<R: Reader + Drop> StdSource<R> {
 }
 
 /// The count of faults after a call with this answer.
-fn faults_after(faults: u64, answer: &Result<usize, Failure>) -> u64
+fn faults_after(faults: u64, answer: &Result<usize, Failed>) -> u64
     ensures { result ≡ faults_after faults answer.now }
 {
     match answer {
         Ok(_) => faults,
-        Err(Failure) => faults.saturating_add(1),
+        Err(Failed) => faults.saturating_add(1),
     }
 }
 
 /// The answer to a read with this outcome.
-fn read_answer(outcome: io::Result<usize>) -> Result<usize, Failure>
+fn read_answer(outcome: io::Result<usize>) -> Result<usize, Failed>
     ensures { result ≡ read_answer outcome }
 {
-    outcome.map_err(|_| Failure)
+    outcome.map_err(|_| Failed)
 }
 
 impl<R: Reader + Drop> Source for StdSource<R> {
@@ -57,11 +57,9 @@ impl<R: Reader + Drop> Source for StdSource<R> {
 
     ghost faults = { λ s. s.faults };
 
-    #[tactic(auto, unfolding(crate::specs::Causes::Rose))]
-    fn read(&mut self, buf: &mut [u8]) -> Result<usize, Failure>
+    fn read(&mut self, buf: &mut [u8]) -> Result<usize, Failed>
         ensures bound { ReadsAtMost result buf.new }
         ensures bytes { ReadConsumes None None result buf.new }
-        ensures cause { HasCause self.old.faults self.new.faults result }
 
         // The reader was called once. What is given is what it gave, and the read fails exactly where it failed.
         ensures once { ReadsOnce R.Reads self.old.inner result buf.new self.new.inner }
@@ -105,12 +103,12 @@ fn write_answer(
     written: io::Result<usize>,
     is_empty: bool,
     flushed: io::Result<()>,
-) -> Result<usize, Failure>
+) -> Result<usize, Failed>
     ensures { result ≡ write_answer written is_empty flushed }
 {
     match (written, flushed) {
         (Ok(count), Ok(())) if count > 0 || is_empty => Ok(count),
-        _ => Err(Failure),
+        _ => Err(Failed),
     }
 }
 
@@ -119,12 +117,10 @@ impl<W: Writer + Drop> Sink for StdSink<W> {
 
     ghost faults = { λ s. s.faults };
 
-    #[tactic(auto, unfolding(crate::specs::Causes::Rose))]
-    fn write(&mut self, piece: &[u8]) -> Result<usize, Failure>
+    fn write(&mut self, piece: &[u8]) -> Result<usize, Failed>
         ensures bound { WritesAtMost result piece.now }
         ensures moves { IfOk result (λ count. 0 < length piece.now → 0 < count) }
         ensures bytes { WriteGains None None result piece.now }
-        ensures cause { HasCause self.old.faults self.new.faults result }
 
         // The writer was called once and then flushed, and the write fails exactly where one of them failed or nothing was
         // taken of a piece that has a byte. The writer may have taken a front of the piece in a write that fails.

@@ -9,8 +9,6 @@ mod rows;
 mod sets;
 mod substitutions;
 mod sums;
-#[cfg(test)]
-mod tests;
 mod values;
 
 pub use generators::write_elemental;

@@ -21,10 +21,10 @@ use Rattle.it_run.specs.Runs.{RunEndView, IsWithinBudget}
 use Rattle.it_run.specs.Runs.RunEndView.{Weights, Point, Pivots, Width}
 use Rattle.it_run.specs.Solving.{RunsTo}
 use Rattle.it_run.proofs.RunLemmas.{EndIsRight}
-use Rattle.it_simplex.specs.Answers.{Solves, IsRightRunAnswer as IsRightAnswer}
+use Rattle.it_simplex.specs.Answers.{Solves, IsRightSolved as IsRightAnswer}
 use Rattle.it_run.specs.Answers.{end_of_answer}
-use Rattle.it_run.specs.declared.answering.RunAnswer.{RunAnswer}
-use Rattle.it_run.specs.declared.answering.RunAnswer.TheVariants.{Weights as OfWeights, Point as OfPoint, Pivots as OfPivots, Width as OfWidth}
+use Rattle.it_run.specs.declared.answering.Solved.{Solved}
+use Rattle.it_run.specs.declared.answering.Solved.TheVariants.{Weights as OfWeights, Point as OfPoint, Pivots as OfPivots, Width as OfWidth}
 use Rattle.it_tableau.specs.SimplexTables as simplex
 use Rattle.it_tableau.specs.SimplexTables.{start}
 use Rattle.it_tableau.specs.Fits.{StartFits}
@@ -140,7 +140,7 @@ wide_start q target budget n = record { end = Width 0; run = inl (n, refl); foll
 abbrev IsRightEnd : List ℕ → List Terms → Terms → RunEndView (List (ℕ × Rational)) (List Rational) → Type 0
 IsRightEnd coords rs r end = EndIsRight field_ℚ (length coords) (length rs) (feasibility_problem coords rs r) end
 
-right_end : (coords : List ℕ) (rs : List Terms) (r : Terms) (x : RunAnswer) → IsRightAnswer coords rs r x → IsRightEnd coords rs r (end_of_answer x)
+right_end : (coords : List ℕ) (rs : List Terms) (r : Terms) (x : Solved) → IsRightAnswer coords rs r x → IsRightEnd coords rs r (end_of_answer x)
 right_end coords rs r (OfWeights ws) h = h
 right_end coords rs r (OfPoint qs) h = h
 right_end coords rs r (OfPivots k) h = tt
@@ -148,7 +148,7 @@ right_end coords rs r (OfWidth k) h = tt
 
 -- the same with what the code has
 module _ (q : ProblemView) (target : Terms) (coords items : List ℕ) (slice : coords ≡ items) (at : items ≡ closed_places q)
-    (rs rows : List Terms) (same : rs ≡ rows) (s : SameRows rows (columns (closed_generators q))) (r : Terms) (e : (c : ℕ) → coefficient r c ≡ coefficient (closed_target q target) c) (x : RunAnswer) where
+    (rs rows : List Terms) (same : rs ≡ rows) (s : SameRows rows (columns (closed_generators q))) (r : Terms) (e : (c : ℕ) → coefficient r c ≡ coefficient (closed_target q target) c) (x : Solved) where
   places_are : coords ≡ closed_places q
   places_are = slice ∙ at
 

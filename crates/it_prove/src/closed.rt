@@ -50,7 +50,7 @@ fn without_columns(alloc: Global, problem: &Problem) -> Result<ClosedProblem, Al
     ensures none { IfOk result (λ c. c.columns.items ≡ []) }
 {
     let dependences = Dependences::read(alloc, problem)?;
-    let coordinates = dependences.closed_coordinates(alloc, problem.space)?;
+    let coordinates = dependences.closed(alloc, problem.space)?;
     Ok(ClosedProblem {
         dependences,
         coordinates,

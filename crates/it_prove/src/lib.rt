@@ -11,8 +11,6 @@ mod laws;
 mod points;
 mod proving;
 mod scaling;
-#[cfg(test)]
-mod tests;
 mod types;
 
 pub use closed::ClosedProblem;

@@ -26,7 +26,7 @@ use it_check::{Verdict, check_no, check_yes};
 use it_closure::Dependences;
 use it_fraction::Fraction;
 use it_lift::lift;
-use it_simplex::{Budget, RunAnswer, solve};
+use it_simplex::{Budget, Solved, solve};
 use it_space::{Cause, Certificate, Problem, Row, RowFault};
 use std::alloc::{AllocError, Global};
 
@@ -159,14 +159,14 @@ fn closed_proof(
         collapsed,
         budget,
     )? {
-        RunAnswer::Weights(weights) => by_weights(
+        Solved::Weights(weights) => by_weights(
             alloc,
             problem,
             &closed.dependences,
             target,
             weights.as_slice(),
         ),
-        RunAnswer::Point(point) => by_point(
+        Solved::Point(point) => by_point(
             alloc,
             problem,
             &closed.dependences,
@@ -174,8 +174,8 @@ fn closed_proof(
             closed.coordinates.as_slice(),
             point.as_slice(),
         ),
-        RunAnswer::Pivots(steps) => Ok(Proof::Undecided(Cause::Pivots(steps))),
-        RunAnswer::Width(step) => Ok(Proof::Undecided(Cause::Width(step))),
+        Solved::Pivots(steps) => Ok(Proof::Undecided(Cause::Pivots(steps))),
+        Solved::Width(step) => Ok(Proof::Undecided(Cause::Width(step))),
     }
 }
 

@@ -5,12 +5,12 @@ ghost use Rattle.it_number.specs.Gcd.{lcm};
 ghost use Rattle.it_number.specs.Limit.{IsWithin};
 ghost use Rattle.it_prove.specs.Scaling.{EachFits, numbers_of, scale_of, scaled_number, scaled_by};
 
-use it_fraction::{Fraction, WideNumber, lcm};
+use it_fraction::{Fraction, Wide, lcm};
 use it_space::RowFault;
 use std::alloc::{AllocError, Global};
 
 /// The least common multiple of the scale and a number's denominator.
-fn with_denominator(scale: u128, number: &Fraction) -> Result<u128, WideNumber>
+fn with_denominator(scale: u128, number: &Fraction) -> Result<u128, Wide>
     requires some { 0 < scale }
     requires within { scale < 2 ^ 127 }
     ensures { OkIff result (IsWithin (pos (lcm scale number.now.den))) (lcm scale number.now.den) }
@@ -19,8 +19,8 @@ fn with_denominator(scale: u128, number: &Fraction) -> Result<u128, WideNumber>
     Ok(multiple as u128)
 }
 
-/// The least common multiple of the denominators. `WideNumber` where it passes the limit.
-pub fn common_scale(numbers: &[Fraction]) -> Result<u128, WideNumber>
+/// The least common multiple of the denominators. `Wide` where it passes the limit.
+pub fn common_scale(numbers: &[Fraction]) -> Result<u128, Wide>
     ensures value { OkIff result (IsWithin (pos (scale_of numbers.now))) (scale_of numbers.now) }
     ensures some { IfOk result (λ l. 0 < l) }
     ensures within { IfOk result (λ l. l < 2 ^ 127) }
@@ -32,19 +32,19 @@ pub fn common_scale(numbers: &[Fraction]) -> Result<u128, WideNumber>
     Ok(scale)
 }
 
-/// The product, or `WideNumber` where it passes the limit.
-fn product(a: i128, b: i128) -> Result<i128, WideNumber>
+/// The product, or `Wide` where it passes the limit.
+fn product(a: i128, b: i128) -> Result<i128, Wide>
     ensures { OkIff result (IsWithin (a *ℤ b)) (a *ℤ b) }
 {
     match a.checked_mul(b) {
         Some(product) if product != i128::MIN => Ok(product),
-        _ => Err(WideNumber),
+        _ => Err(Wide),
     }
 }
 
 /// The scale times a number whose denominator divides it.
 #[tactic(auto, unfolding(crate::specs::Scaling::scaled_number))]
-fn scaled_number(number: &Fraction, scale: u128) -> Result<i128, WideNumber>
+fn scaled_number(number: &Fraction, scale: u128) -> Result<i128, Wide>
     requires { scale < 2 ^ 127 }
     ensures { OkIff result (IsWithin (scaled_number scale number.now)) (scaled_number scale number.now) }
 {

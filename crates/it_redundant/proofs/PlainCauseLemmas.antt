@@ -3,10 +3,10 @@ use Rattle.std.proofs.Common.{◌≡◌, inl, inr, ℕ, ◌+◌, ◌^◌, List, 
 use Rattle.it_space.specs.Answers.{CertificateView}
 use Rattle.it_space.specs.Problems.{ProblemView}
 use Rattle.it_space.specs.Rows.{Terms}
-use Rattle.it_eliminate.specs.Elimination.{Member, EliminationEndView, EliminationEnds, ordered_rows, next_list, results}
+use Rattle.it_eliminate.specs.Elimination.{Member, EliminatedView, EliminationEnds, ordered_rows, next_list, results}
 use Rattle.it_eliminate.proofs.MemberLemmas.{every_member, member_every}
 use Rattle.it_redundant.specs.Reduction.{NeedView, Reduces, kept_rows}
-use Rattle.it_redundant.specs.ReducedElimination.{ProjectionEndView, Region, Rows, Wide, GoesOn, ReducedEnds}
+use Rattle.it_redundant.specs.ReducedElimination.{ProjectedView, Region, Rows, Wide, GoesOn, ReducedEnds}
 use Rattle.it_redundant.specs.PlainCauses.{ComesTo, IsPlainCause, CausesArePlain}
 use Rattle.it_redundant.proofs.PartLemmas.{IsPart, next_list_no_longer, pairs_fit_part, part-next_list, part-ordered}
 use Rattle.it_redundant.proofs.ReductionLemmas.{every_kept}
@@ -20,7 +20,7 @@ module _ (base most : ℕ) (start : List Terms) (r : ℕ) (rs : List ℕ) where
   comes_later : (rate : ℕ) (rows : List Terms) → ComesTo base (next_list (base + r) start) rs rate rows → ComesTo base start (r ∷ rs) rate rows
   comes_later rate rows c = record { before = r ∷ c.before; after = c.after; rates_are = ap (λ xs. r ∷ xs) c.rates_are; rows_are = c.rows_are }
 
-  cause_later : (end : ProjectionEndView) → IsPlainCause base most (next_list (base + r) start) rs end → IsPlainCause base most start (r ∷ rs) end
+  cause_later : (end : ProjectedView) → IsPlainCause base most (next_list (base + r) start) rs end → IsPlainCause base most start (r ∷ rs) end
   cause_later (Region kept) c = tt
   cause_later (Rows rate) (rows, c, many) = (rows, comes_later rate rows c, many)
   cause_later (Wide rate) (rows, c, wide) = (rows, comes_later rate rows c, wide)
@@ -39,7 +39,7 @@ module _ (givens : ProblemView) (budget : Option ℕ) (most : ℕ) where
         part-next_list (base + r) part start p x (part-ordered (kept_rows kept) (results (base + r) part) (kept_part (next_list (base + r) part) kept dropped red) x m)
 
     -- so a cause at this rate is one of plain elimination, and each later one where it is one from the next list
-    step_is_plain : (step : EliminationEndView) (end : ProjectionEndView)
+    step_is_plain : (step : EliminatedView) (end : ProjectedView)
         → ((kept : List (Terms × NeedView)) → IsPart (ordered_rows (kept_rows kept)) (next_list (base + r) start) → later kept → IsPlainCause base most (next_list (base + r) start) rs end)
         → EliminationEnds base most part (r ∷ []) step → GoesOn givens budget later step end → IsPlainCause base most start (r ∷ rs) end
     step_is_plain step end ih (inl e) g =
@@ -53,7 +53,7 @@ module _ (givens : ProblemView) (budget : Option ℕ) (most : ℕ) where
         cause_later base most start r rs end (ih kept (next_part kept dropped red) rest)
 
   -- from rows that are, in order, a part of the start
-  end_is_plain : (rows start : List Terms) (last : List (Terms × NeedView)) (rates : List ℕ) (end : ProjectionEndView) → IsPart (ordered_rows rows) start → ReducedEnds givens budget most rows last rates end
+  end_is_plain : (rows start : List Terms) (last : List (Terms × NeedView)) (rates : List ℕ) (end : ProjectedView) → IsPart (ordered_rows rows) start → ReducedEnds givens budget most rows last rates end
       → IsPlainCause (2 ^ givens.space.variables) most start rates end
   end_is_plain rows start last [] end p e = subst (IsPlainCause (2 ^ givens.space.variables) most start []) (sym e) tt
   end_is_plain rows start last (r ∷ rs) end p (step, ends, g) =

@@ -8,23 +8,23 @@ use Rattle.it_space.specs.Problems.{ProblemView, IsProblem, IsSystem}
 use Rattle.it_space.specs.Rows.{Terms, IsUpTo, coefficient}
 use Rattle.it_space.specs.Spaces.{IsSpace, size_of}
 use Rattle.it_space.proofs.EveryLemmas.{every_of, all_of}
-use Rattle.it_eliminate.specs.Elimination.{Member, EliminationEndView, EliminationEnds, ordered_rows, next_list, list_after}
+use Rattle.it_eliminate.specs.Elimination.{Member, EliminatedView, EliminationEnds, ordered_rows, next_list, list_after}
 use Rattle.it_eliminate.specs.Elimination as elimination
 use Rattle.it_eliminate.specs.Projections.{IsPointOf, Extends, LacksCoordinate}
-use Rattle.it_eliminate.specs.declared.types.EliminationEnd.{EliminationEnd}
-use Rattle.it_eliminate.specs.declared.types.EliminationEnd.TheVariants as elimination_ends
-use Rattle.it_eliminate.specs.Views.{elimination_end_view}
+use Rattle.it_eliminate.specs.declared.types.Eliminated.{Eliminated}
+use Rattle.it_eliminate.specs.declared.types.Eliminated.TheVariants as elimination_ends
+use Rattle.it_eliminate.specs.Views.{eliminated_view}
 use Rattle.it_eliminate.proofs.LawLemmas.{one_end}
 use Rattle.it_eliminate.proofs.MemberLemmas.{member_mapped}
 use Rattle.it_eliminate.proofs.OrderLemmas.{lacks-with_lowest_rows}
 use Rattle.it_eliminate.proofs.RateLemmas.{next_keeps_lacking, projection_exact, rates_exact}
 use Rattle.it_eliminate.proofs.SpaceLemmas.{projection_up_to}
 use Rattle.it_eliminate.proofs.StepLemmas.{next_lacks}
-use Rattle.it_redundant.specs.declared.types.ProjectionEnd.{ProjectionEnd}
-use Rattle.it_redundant.specs.declared.types.ProjectionEnd.TheVariants as projection_ends
-use Rattle.it_redundant.specs.declared.types.Reduction.{Reduction}
+use Rattle.it_redundant.specs.declared.types.Projected.{Projected}
+use Rattle.it_redundant.specs.declared.types.Projected.TheVariants as projection_ends
+use Rattle.it_redundant.specs.declared.types.Reduced.{Reduced}
 use Rattle.it_redundant.specs.Reduction.{NeedView, Reduces, dropped_view, kept_rows, kept_view}
-use Rattle.it_redundant.specs.ReducedElimination.{ProjectionEndView, Region, Rows, Wide, GoesOn, ReducedEnds, projection_end_view}
+use Rattle.it_redundant.specs.ReducedElimination.{ProjectedView, Region, Rows, Wide, GoesOn, ReducedEnds, projected_view}
 use Rattle.it_redundant.specs.ProjectionSteps.{HasRowsUpTo, IsAfterRate, IsNext, Resumes}
 use Rattle.it_redundant.specs.Theorems.{MeetsGivens, HoldAlike, AreNeeded, SpeakOfSets, IsReducedRegion, RegionIsReduced, OneReducedEnd}
 use Rattle.it_redundant.proofs.MultipleLemmas.{multiple_meets}
@@ -63,25 +63,25 @@ kept_up givens budget most rows r next mid dropped up e red = all_of (IsUpTo (si
 -- ---- rate after rate
 
 module _ (givens : ProblemView) (budget : Option ℕ) (most : ℕ) where
-  resumes_more : (rows : List Terms) (last : List (Terms × NeedView)) (r : ℕ) (rs : List ℕ) (now end : ProjectionEndView) → IsAfterRate givens budget most rows r now → Resumes givens budget most rs now end
+  resumes_more : (rows : List Terms) (last : List (Terms × NeedView)) (r : ℕ) (rs : List ℕ) (now end : ProjectedView) → IsAfterRate givens budget most rows r now → Resumes givens budget most rs now end
       → ReducedEnds givens budget most rows last (r ∷ rs) end
   resumes_more rows last r rs now end (elimination.Region next, e, g) h =
-      (elimination.Region next, e, (g.0, g.1, g.2, subst (λ (x : ProjectionEndView). Resumes givens budget most rs x end) g.3 h))
-  resumes_more rows last r rs now end (elimination.Rows rate, e, is) h = (elimination.Rows rate, e, subst (λ (x : ProjectionEndView). Resumes givens budget most rs x end) is h)
-  resumes_more rows last r rs now end (elimination.Wide rate, e, is) h = (elimination.Wide rate, e, subst (λ (x : ProjectionEndView). Resumes givens budget most rs x end) is h)
+      (elimination.Region next, e, (g.0, g.1, g.2, subst (λ (x : ProjectedView). Resumes givens budget most rs x end) g.3 h))
+  resumes_more rows last r rs now end (elimination.Rows rate, e, is) h = (elimination.Rows rate, e, subst (λ (x : ProjectedView). Resumes givens budget most rs x end) is h)
+  resumes_more rows last r rs now end (elimination.Wide rate, e, is) h = (elimination.Wide rate, e, subst (λ (x : ProjectedView). Resumes givens budget most rs x end) is h)
 
-  next_more : (r : ℕ) (rs : List ℕ) (old new end : ProjectionEndView) → IsNext givens budget most r old new → Resumes givens budget most rs new end → Resumes givens budget most (r ∷ rs) old end
+  next_more : (r : ℕ) (rs : List ℕ) (old new end : ProjectedView) → IsNext givens budget most r old new → Resumes givens budget most rs new end → Resumes givens budget most (r ∷ rs) old end
   next_more r rs (Region kept) new end n h = resumes_more (kept_rows kept) kept r rs new end n h
-  next_more r rs (Rows other) new end n h = subst (λ (x : ProjectionEndView). Resumes givens budget most rs x end) n h
-  next_more r rs (Wide other) new end n h = subst (λ (x : ProjectionEndView). Resumes givens budget most rs x end) n h
+  next_more r rs (Rows other) new end n h = subst (λ (x : ProjectedView). Resumes givens budget most rs x end) n h
+  next_more r rs (Wide other) new end n h = subst (λ (x : ProjectedView). Resumes givens budget most rs x end) n h
 
   -- i rates are eliminated: whatever the others end with, all do
-  pub record Leads (size : ℕ) (rows : List Terms) (rates : List ℕ) (now : ProjectionEndView) (i : ℕ) : Type 0 where
-    pub more : (end : ProjectionEndView) → Resumes givens budget most (drop i rates) now end → ReducedEnds givens budget most rows [] rates end
+  pub record Leads (size : ℕ) (rows : List Terms) (rates : List ℕ) (now : ProjectedView) (i : ℕ) : Type 0 where
+    pub more : (end : ProjectedView) → Resumes givens budget most (drop i rates) now end → ReducedEnds givens budget most rows [] rates end
     pub up : HasRowsUpTo size now
 
   module _ (size : ℕ) (rows : List Terms) (rates : List ℕ) where
-    pub leads_more : (old new : ProjectionEndView) (i r : ℕ) → i < length rates → r ≡ get_or rates i 0 → IsNext givens budget most r old new → HasRowsUpTo size new → Leads size rows rates old i → Leads size rows rates new (i + 1)
+    pub leads_more : (old new : ProjectedView) (i r : ℕ) → i < length rates → r ≡ get_or rates i 0 → IsNext givens budget most r old new → HasRowsUpTo size new → Leads size rows rates old i → Leads size rows rates new (i + 1)
     leads_more old new i r below is next up l = record {
       more = λ end h. l.more end (subst (λ (xs : List ℕ). Resumes givens budget most xs old end) (sym (drop_item rates i 0 below is)) (next_more r (drop (i + 1) rates) old new end next h));
       up = up;
@@ -93,10 +93,10 @@ pub one_reduced_end : OneReducedEnd
 one_reduced_end givens budget most rows last [] end other e f = e ∙ sym f
 one_reduced_end givens budget most rows last (r ∷ rs) end other (s, e, g) (t, f, h) =
     let same : s ≡ t = one_end (2 ^ givens.space.variables) most (ordered_rows rows) (r ∷ []) s t e f in
-    by_step s g (subst (λ (x : EliminationEndView). GoesOn givens budget (λ kept. ReducedEnds givens budget most (kept_rows kept) kept rs other) x other) (sym same) h)
+    by_step s g (subst (λ (x : EliminatedView). GoesOn givens budget (λ kept. ReducedEnds givens budget most (kept_rows kept) kept rs other) x other) (sym same) h)
     (λ kept. one_reduced_end givens budget most (kept_rows kept) kept rs end other)
   where
-    by_step : (x : EliminationEndView) → GoesOn givens budget (λ kept. ReducedEnds givens budget most (kept_rows kept) kept rs end) x end
+    by_step : (x : EliminatedView) → GoesOn givens budget (λ kept. ReducedEnds givens budget most (kept_rows kept) kept rs end) x end
         → GoesOn givens budget (λ kept. ReducedEnds givens budget most (kept_rows kept) kept rs other) x other
         → ((kept : List (Terms × NeedView)) → ReducedEnds givens budget most (kept_rows kept) kept rs end → ReducedEnds givens budget most (kept_rows kept) kept rs other → end ≡ other) → end ≡ other
     by_step (elimination.Region next) g h later =
@@ -207,7 +207,7 @@ module _ (givens : ProblemView) (budget : Option ℕ) (most : ℕ) (limits : IsP
   first_region_holds r rs rows kept up (elimination.Rows rate, e, is) = absurd (region_not_rows kept rate is)
   first_region_holds r rs rows kept up (elimination.Wide rate, e, is) = absurd (region_not_wide kept rate is)
 
-  pub region_reduced : (rates : List ℕ) (rows : List Terms) (end : ProjectionEndView) → 1 ≤ length rates → All (IsUpTo (size_of givens.space)) rows → ReducedEnds givens budget most rows [] rates end
+  pub region_reduced : (rates : List ℕ) (rows : List Terms) (end : ProjectedView) → 1 ≤ length rates → All (IsUpTo (size_of givens.space)) rows → ReducedEnds givens budget most rows [] rates end
       → RegionIsReduced givens rates rows end
   region_reduced [] rows end some up e = absurd (omega arith)
   region_reduced (r ∷ rs) rows (Region kept) some up e = (first_region_holds r rs rows kept up e).region
@@ -216,30 +216,30 @@ module _ (givens : ProblemView) (budget : Option ℕ) (most : ℕ) (limits : IsP
 
 -- ---- what the code's step and reduction make
 
-module _ (givens : ProblemView) (budget : Option ℕ) (most : ℕ) (system : System) (rate : ℕ) (end : EliminationEnd) (space : system.space ≡ givens.space)
-    (ends : EliminationEnds (2 ^ system.space.variables) most (ordered_rows system.rows.items) (rate ∷ []) (elimination_end_view end)) where
-  over_givens : (e : EliminationEndView) → elimination_end_view end ≡ e → EliminationEnds (2 ^ givens.space.variables) most (ordered_rows system.rows.items) (rate ∷ []) e
+module _ (givens : ProblemView) (budget : Option ℕ) (most : ℕ) (system : System) (rate : ℕ) (end : Eliminated) (space : system.space ≡ givens.space)
+    (ends : EliminationEnds (2 ^ system.space.variables) most (ordered_rows system.rows.items) (rate ∷ []) (eliminated_view end)) where
+  over_givens : (e : EliminatedView) → eliminated_view end ≡ e → EliminationEnds (2 ^ givens.space.variables) most (ordered_rows system.rows.items) (rate ∷ []) e
   over_givens e is = subst (λ (s : Space). EliminationEnds (2 ^ s.variables) most (ordered_rows system.rows.items) (rate ∷ []) e) space
-      (subst (λ (x : EliminationEndView). EliminationEnds (2 ^ system.space.variables) most (ordered_rows system.rows.items) (rate ∷ []) x) is ends)
+      (subst (λ (x : EliminatedView). EliminationEnds (2 ^ system.space.variables) most (ordered_rows system.rows.items) (rate ∷ []) x) is ends)
 
   module _ (next : System) (is : end ≡ elimination_ends.Region next) where
-    pub region_up : (reduced : Reduction) → All (IsUpTo (size_of system.space)) system.rows.items → Reduces givens budget [] next.rows.items (kept_view reduced) (dropped_view reduced)
+    pub region_up : (reduced : Reduced) → All (IsUpTo (size_of system.space)) system.rows.items → Reduces givens budget [] next.rows.items (kept_view reduced) (dropped_view reduced)
         → All (IsUpTo (size_of givens.space)) (kept_rows (kept_view reduced))
     region_up reduced up red = kept_up givens budget most system.rows.items rate next.rows.items (kept_view reduced) (dropped_view reduced)
-        (subst (λ (s : Space). All (IsUpTo (size_of s)) system.rows.items) space up) (over_givens (elimination.Region next.rows.items) (ap elimination_end_view is)) red
+        (subst (λ (s : Space). All (IsUpTo (size_of s)) system.rows.items) space up) (over_givens (elimination.Region next.rows.items) (ap eliminated_view is)) red
 
 -- of rows that stay, a rate leaves what it leaves of them as a system
-pub next_of_region : {E : Type 0} (givens : ProblemView) (budget : Option ℕ) (most rate : ℕ) (end : ProjectionEnd) (reduced : Reduction) (rows : List Terms) (result : Result ProjectionEnd E) → end ≡ projection_ends.Region reduced
-    → rows ≡ map (λ k. k.0) reduced.kept.items → IfOk result (λ e. IsAfterRate givens budget most rows rate (projection_end_view e)) → IfOk result (λ e. IsNext givens budget most rate (projection_end_view end) (projection_end_view e))
+pub next_of_region : {E : Type 0} (givens : ProblemView) (budget : Option ℕ) (most rate : ℕ) (end : Projected) (reduced : Reduced) (rows : List Terms) (result : Result Projected E) → end ≡ projection_ends.Region reduced
+    → rows ≡ map (λ k. k.0) reduced.kept.items → IfOk result (λ e. IsAfterRate givens budget most rows rate (projected_view e)) → IfOk result (λ e. IsNext givens budget most rate (projected_view end) (projected_view e))
 next_of_region givens budget most rate end reduced rows (Err e) is same h = tt
-next_of_region givens budget most rate end reduced rows (Ok e) is same h = subst (λ (x : ProjectionEnd). IsNext givens budget most rate (projection_end_view x) (projection_end_view e)) (sym is)
-    (subst (λ (xs : List Terms). IsAfterRate givens budget most xs rate (projection_end_view e)) (same ∙ sym (rows_kept reduced.kept.items)) h)
+next_of_region givens budget most rate end reduced rows (Ok e) is same h = subst (λ (x : Projected). IsNext givens budget most rate (projected_view x) (projected_view e)) (sym is)
+    (subst (λ (xs : List Terms). IsAfterRate givens budget most xs rate (projected_view e)) (same ∙ sym (rows_kept reduced.kept.items)) h)
 
 -- the rows that stay are a system over the givens' space
-pub kept_is_system : (givens : ProblemView) (end : ProjectionEnd) (reduced : Reduction) (system : System) → IsSpace givens.space → end ≡ projection_ends.Region reduced → HasRowsUpTo (size_of givens.space) (projection_end_view end)
+pub kept_is_system : (givens : ProblemView) (end : Projected) (reduced : Reduced) (system : System) → IsSpace givens.space → end ≡ projection_ends.Region reduced → HasRowsUpTo (size_of givens.space) (projected_view end)
     → system.space ≡ givens.space → system.rows.items ≡ map (λ k. k.0) reduced.kept.items → IsSystem system
 kept_is_system givens end reduced system limits is up space rows =
-    let kept : All (IsUpTo (size_of givens.space)) (kept_rows (kept_view reduced)) = subst (λ (x : ProjectionEnd). HasRowsUpTo (size_of givens.space) (projection_end_view x)) is up in
+    let kept : All (IsUpTo (size_of givens.space)) (kept_rows (kept_view reduced)) = subst (λ (x : Projected). HasRowsUpTo (size_of givens.space) (projected_view x)) is up in
     record {
       space = subst IsSpace (sym space) limits;
       rows = subst (λ (s : Space). All (IsUpTo (size_of s)) system.rows.items) (sym space)

@@ -3,33 +3,33 @@ use Rattle.std.specs.Prelude.{◌≡◌, ℕ, ◌^◌, List, [], ◌∷◌, Opti
 use Rattle.it_space.specs.Answers.{CertificateView}
 use Rattle.it_space.specs.Problems.{ProblemView}
 use Rattle.it_space.specs.Rows.{Terms}
-use Rattle.it_eliminate.specs.Elimination.{EliminationEndView, EliminationEnds, ordered_rows}
+use Rattle.it_eliminate.specs.Elimination.{EliminatedView, EliminationEnds, ordered_rows}
 use Rattle.it_eliminate.specs.Elimination as elimination
-use Rattle.it_redundant.specs.declared.types.ProjectionEnd.{ProjectionEnd}
-use Rattle.it_redundant.specs.declared.types.ProjectionEnd.TheVariants as ends
+use Rattle.it_redundant.specs.declared.types.Projected.{Projected}
+use Rattle.it_redundant.specs.declared.types.Projected.TheVariants as ends
 use Rattle.it_redundant.specs.Reduction.{NeedView, Reduces, kept_rows, kept_view}
 
 -- the rows that are left, with why each stays; or a rate after which there are too many rows, or at which a pair is wide
-pub data ProjectionEndView : Type 0 where
-  Region : (kept : List (Terms × NeedView)) → ProjectionEndView
-  Rows : (rate : ℕ) → ProjectionEndView
-  Wide : (rate : ℕ) → ProjectionEndView
+pub data ProjectedView : Type 0 where
+  Region : (kept : List (Terms × NeedView)) → ProjectedView
+  Rows : (rate : ℕ) → ProjectedView
+  Wide : (rate : ℕ) → ProjectedView
 
 -- an end of reduced elimination as contracts see it
-abbrev pub projection_end_view : ProjectionEnd → ProjectionEndView
-projection_end_view (ends.Region reduced) = Region (kept_view reduced)
-projection_end_view (ends.Rows rate) = Rows rate
-projection_end_view (ends.Wide rate) = Wide rate
+abbrev pub projected_view : Projected → ProjectedView
+projected_view (ends.Region reduced) = Region (kept_view reduced)
+projected_view (ends.Rows rate) = Rows rate
+projected_view (ends.Wide rate) = Wide rate
 
 -- after a rate's step its list is reduced, and elimination goes on with what stays; a cause is the end
-abbrev pub GoesOn : ProblemView → Option ℕ → (List (Terms × NeedView) → Type 0) → EliminationEndView → ProjectionEndView → Type 0
+abbrev pub GoesOn : ProblemView → Option ℕ → (List (Terms × NeedView) → Type 0) → EliminatedView → ProjectedView → Type 0
 GoesOn givens budget later (elimination.Region next) end = (kept : List (Terms × NeedView)) × (dropped : List (Terms × CertificateView)) × Reduces givens budget [] next kept dropped × later kept
 GoesOn givens budget later (elimination.Rows rate) end = end ≡ Rows rate
 GoesOn givens budget later (elimination.Wide rate) end = end ≡ Wide rate
 
 -- what elimination of rates from rows ends with, where `last` tells why the rows stay so far; each rate's step begins with the rows
 -- in order, and may leave at most `most` before their reduction
-abbrev pub ReducedEnds : ProblemView → Option ℕ → ℕ → List Terms → List (Terms × NeedView) → List ℕ → ProjectionEndView → Type 0
+abbrev pub ReducedEnds : ProblemView → Option ℕ → ℕ → List Terms → List (Terms × NeedView) → List ℕ → ProjectedView → Type 0
 ReducedEnds givens budget most rows last [] end = end ≡ Region last
-ReducedEnds givens budget most rows last (r ∷ rs) end = (step : EliminationEndView) × EliminationEnds (2 ^ givens.space.variables) most (ordered_rows rows) (r ∷ []) step
+ReducedEnds givens budget most rows last (r ∷ rs) end = (step : EliminatedView) × EliminationEnds (2 ^ givens.space.variables) most (ordered_rows rows) (r ∷ []) step
     × GoesOn givens budget (λ kept. ReducedEnds givens budget most (kept_rows kept) kept rs end) step end

@@ -11,7 +11,7 @@ use Rattle.it_space.specs.Rows.{Terms}
 use Rattle.it_prove.specs.ProofViews.{ProofView, Yes, No, Undecided, EndsWith}
 use Rattle.it_redundant.specs.declared.types.Need.{Need}
 use Rattle.it_redundant.specs.declared.types.Need.TheVariants as needs
-use Rattle.it_redundant.specs.declared.types.Reduction.{Reduction}
+use Rattle.it_redundant.specs.declared.types.Reduced.{Reduced}
 
 -- rows as the constraints of `row` lines, from line number `line` on
 abbrev pub row_constraints : ℕ → List Terms → List Constraint
@@ -40,11 +40,11 @@ need_view (needs.Needed point) = Needed point
 need_view (needs.Unsettled cause) = Unsettled cause
 
 -- the rows that stay, each with its need, as contracts see them
-abbrev pub kept_view : Reduction → List (Terms × NeedView)
+abbrev pub kept_view : Reduced → List (Terms × NeedView)
 kept_view r = map (λ k. (k.0, need_view k.1)) r.kept.items
 
 -- the rows that went, each with its certificate, as contracts see them
-abbrev pub dropped_view : Reduction → List (Terms × CertificateView)
+abbrev pub dropped_view : Reduced → List (Terms × CertificateView)
 dropped_view r = map (λ d. (d.0, certificate_view d.1)) r.dropped.items
 
 -- what a row leaves after the rows that stay: nothing where it is proved, itself with its need otherwise

@@ -3,7 +3,7 @@ use Rattle.std.specs.Prelude.{◌≡◌, ℕ, List, ◌++◌, All, Option}
 use Rattle.it_space.specs.Problems.{ProblemView}
 use Rattle.it_space.specs.Rows.{Terms, IsUpTo}
 use Rattle.it_prove.specs.ProofViews.{ProofView, EndsWith}
-use Rattle.it_redundant.specs.declared.types.Reduction.{Reduction}
+use Rattle.it_redundant.specs.declared.types.Reduced.{Reduced}
 use Rattle.it_redundant.specs.Reduction.{with_rows, kept_by, dropped_by, kept_rows, kept_view, dropped_view}
 
 -- the coordinates of each row are from 1 to a number

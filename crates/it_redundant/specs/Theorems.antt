@@ -8,7 +8,7 @@ use Rattle.it_polymatroid.specs.Polymatroid.{IsPolymatroid}
 use Rattle.it_eliminate.specs.Elimination.{Member}
 use Rattle.it_eliminate.specs.Projections.{IsPointOf, Extends, LacksCoordinate}
 use Rattle.it_redundant.specs.Reduction.{NeedView, Needed, Unsettled, Reduces, kept_rows}
-use Rattle.it_redundant.specs.ReducedElimination.{ProjectionEndView, Region, Rows, Wide, ReducedEnds}
+use Rattle.it_redundant.specs.ReducedElimination.{ProjectedView, Region, Rows, Wide, ReducedEnds}
 
 -- a polymatroid and rates that meet the givens
 abbrev pub MeetsGivens : ProblemView → (ℕ → ℤ) → Type 0
@@ -52,12 +52,12 @@ pub record IsReducedRegion (givens : ProblemView) (rates : List ℕ) (rows : Lis
   pub needed : AreNeeded givens kept
 
 -- where reduced elimination ends with a region, that is one
-abbrev pub RegionIsReduced : ProblemView → List ℕ → List Terms → ProjectionEndView → Type 0
+abbrev pub RegionIsReduced : ProblemView → List ℕ → List Terms → ProjectedView → Type 0
 RegionIsReduced givens rates rows (Region kept) = IsReducedRegion givens rates rows kept
 RegionIsReduced givens rates rows (Rows rate) = Unit {0}
 RegionIsReduced givens rates rows (Wide rate) = Unit {0}
 
 -- reduced elimination has one end
 abbrev pub OneReducedEnd : Type 0
-OneReducedEnd = (givens : ProblemView) (budget : Option ℕ) (most : ℕ) (rows : List Terms) (last : List (Terms × NeedView)) (rates : List ℕ) (end other : ProjectionEndView)
+OneReducedEnd = (givens : ProblemView) (budget : Option ℕ) (most : ℕ) (rows : List Terms) (last : List (Terms × NeedView)) (rates : List ℕ) (end other : ProjectedView)
     → ReducedEnds givens budget most rows last rates end → ReducedEnds givens budget most rows last rates other → end ≡ other

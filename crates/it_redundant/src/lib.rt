@@ -5,11 +5,9 @@ mod laws;
 mod others;
 mod projection;
 mod reduction;
-#[cfg(test)]
-mod tests;
 mod types;
 
 pub use laws::{causes_are_plain, reductions_are_determined};
 pub use projection::{kept_system, project};
 pub use reduction::reduce;
-pub use types::{Need, ProjectionEnd, Reduction};
+pub use types::{Need, Projected, Reduced};

@@ -4,12 +4,12 @@ ghost use Rattle.it_space.specs.Problems.{IsProblem, problem_view};
 ghost use Rattle.it_space.specs.Spaces.{size_of};
 ghost use Rattle.it_redundant.specs.ProjectionSteps.{HasRowsUpTo, IsAfterRate, IsNext};
 ghost use Rattle.it_redundant.specs.Reduction.{IsSystemUnder};
-ghost use Rattle.it_redundant.specs.ReducedElimination.{ReducedEnds, projection_end_view};
+ghost use Rattle.it_redundant.specs.ReducedElimination.{ReducedEnds, projected_view};
 ghost use Rattle.it_redundant.specs.Theorems.{RegionIsReduced, SpeakOfSets};
 
 use crate::reduction::reduce;
-use crate::types::{ProjectionEnd, Reduction};
-use it_eliminate::{EliminationEnd, step};
+use crate::types::{Projected, Reduced};
+use it_eliminate::{Eliminated, step};
 use it_simplex::Budget;
 use it_space::{Problem, Space, System};
 use std::alloc::{AllocError, Global};
@@ -24,14 +24,14 @@ pub fn project(
     givens: &Problem,
     rows: usize,
     budget: Budget,
-) -> Result<ProjectionEnd, AllocError>
+) -> Result<Projected, AllocError>
     requires system { IsSystemUnder (problem_view givens.now) system.now }
     requires rates { All (λ r. r < system.now.space.rates) rates.now }
     requires some { 1 ≤ length rates.now }
     requires sets { SpeakOfSets (problem_view givens.now) }
     requires few_rows { rows ≤ 65535 }
-    ensures ends { IfOk result (λ e. ReducedEnds (problem_view givens.now) budget rows system.now.rows.items [] rates.now (projection_end_view e)) }
-    ensures region { IfOk result (λ e. RegionIsReduced (problem_view givens.now) rates.now system.now.rows.items (projection_end_view e)) }
+    ensures ends { IfOk result (λ e. ReducedEnds (problem_view givens.now) budget rows system.now.rows.items [] rates.now (projected_view e)) }
+    ensures region { IfOk result (λ e. RegionIsReduced (problem_view givens.now) rates.now system.now.rows.items (projected_view e)) }
 {
     // named before it is answered, so that the contract of the call stands at the answer
     let end = reduced_elimination(alloc, system, rates, givens, rows, budget)?;
@@ -46,12 +46,12 @@ fn reduced_elimination(
     givens: &Problem,
     rows: usize,
     budget: Budget,
-) -> Result<ProjectionEnd, AllocError>
+) -> Result<Projected, AllocError>
     requires system { IsSystemUnder (problem_view givens.now) system.now }
     requires rates { All (λ r. r < system.now.space.rates) rates.now }
     requires some { 1 ≤ length rates.now }
     requires few_rows { rows ≤ 65535 }
-    ensures { IfOk result (λ e. ReducedEnds (problem_view givens.now) budget rows system.now.rows.items [] rates.now (projection_end_view e)) }
+    ensures { IfOk result (λ e. ReducedEnds (problem_view givens.now) budget rows system.now.rows.items [] rates.now (projected_view e)) }
 {
     let mut end = after_rate(alloc, system, rates[0], givens, rows, budget)?;
     for i in 1..rates.len() {
@@ -63,32 +63,32 @@ fn reduced_elimination(
 /// What is left after a rate, of what was left before it: a cause stays.
 fn next_end(
     alloc: Global,
-    end: ProjectionEnd,
+    end: Projected,
     rate: u8,
     givens: &Problem,
     rows: usize,
     budget: Budget,
-) -> Result<ProjectionEnd, AllocError>
-    requires end { HasRowsUpTo (size_of givens.now.space) (projection_end_view end) }
+) -> Result<Projected, AllocError>
+    requires end { HasRowsUpTo (size_of givens.now.space) (projected_view end) }
     requires rate { rate < givens.now.space.rates }
     requires givens { IsProblem (problem_view givens.now) }
     requires few_rows { rows ≤ 65535 }
     requires few_givens { length givens.now.constraints.items ≤ 65535 }
-    ensures next { IfOk result (λ e. IsNext (problem_view givens.now) budget rows rate (projection_end_view end) (projection_end_view e)) }
-    ensures rows { IfOk result (λ e. HasRowsUpTo (size_of givens.now.space) (projection_end_view e)) }
+    ensures next { IfOk result (λ e. IsNext (problem_view givens.now) budget rows rate (projected_view end) (projected_view e)) }
+    ensures rows { IfOk result (λ e. HasRowsUpTo (size_of givens.now.space) (projected_view e)) }
 {
     match end {
-        ProjectionEnd::Region(reduced) => {
+        Projected::Region(reduced) => {
             let system = kept_system(alloc, givens.space, &reduced)?;
             after_rate(alloc, &system, rate, givens, rows, budget)
         }
-        ProjectionEnd::Rows { rate: other } => Ok(ProjectionEnd::Rows { rate: other }),
-        ProjectionEnd::Wide { rate: other } => Ok(ProjectionEnd::Wide { rate: other }),
+        Projected::Rows { rate: other } => Ok(Projected::Rows { rate: other }),
+        Projected::Wide { rate: other } => Ok(Projected::Wide { rate: other }),
     }
 }
 
 /// The rows that stay of a reduction, in order, as a system over this space.
-pub fn kept_system(alloc: Global, space: Space, reduced: &Reduction) -> Result<System, AllocError>
+pub fn kept_system(alloc: Global, space: Space, reduced: &Reduced) -> Result<System, AllocError>
     ensures space { IfOk result (λ s. s.space ≡ space) }
     ensures rows { IfOk result (λ s. s.rows.items ≡ map (λ k. k.0) reduced.now.kept.items) }
 {
@@ -107,20 +107,20 @@ fn after_rate(
     givens: &Problem,
     rows: usize,
     budget: Budget,
-) -> Result<ProjectionEnd, AllocError>
+) -> Result<Projected, AllocError>
     requires system { IsSystemUnder (problem_view givens.now) system.now }
     requires rate { rate < system.now.space.rates }
     requires few_rows { rows ≤ 65535 }
-    ensures after { IfOk result (λ e. IsAfterRate (problem_view givens.now) budget rows system.now.rows.items rate (projection_end_view e)) }
-    ensures rows { IfOk result (λ e. HasRowsUpTo (size_of givens.now.space) (projection_end_view e)) }
+    ensures after { IfOk result (λ e. IsAfterRate (problem_view givens.now) budget rows system.now.rows.items rate (projected_view e)) }
+    ensures rows { IfOk result (λ e. HasRowsUpTo (size_of givens.now.space) (projected_view e)) }
 {
     let end = step(alloc, system, rate, rows)?;
     match end {
-        EliminationEnd::Region(next) => {
+        Eliminated::Region(next) => {
             let reduced = reduce(alloc, &next, givens, budget)?;
-            Ok(ProjectionEnd::Region(reduced))
+            Ok(Projected::Region(reduced))
         }
-        EliminationEnd::Rows { rate } => Ok(ProjectionEnd::Rows { rate }),
-        EliminationEnd::Wide { rate } => Ok(ProjectionEnd::Wide { rate }),
+        Eliminated::Rows { rate } => Ok(Projected::Rows { rate }),
+        Eliminated::Wide { rate } => Ok(Projected::Wide { rate }),
     }
 }

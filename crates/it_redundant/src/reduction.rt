@@ -11,7 +11,7 @@ ghost use Rattle.it_redundant.specs.ReductionSteps.{AreRowsUpTo, IsVisited};
 ghost use Rattle.it_redundant.specs.Theorems.{AreNeeded, HoldAlike};
 
 use crate::others::problem_with;
-use crate::types::{Need, Reduction};
+use crate::types::{Need, Reduced};
 use it_prove::{ClosedProblem, Proof};
 use it_simplex::Budget;
 use it_space::{Certificate, Problem, Row, System};
@@ -24,7 +24,7 @@ pub fn reduce(
     system: &System,
     givens: &Problem,
     budget: Budget,
-) -> Result<Reduction, AllocError>
+) -> Result<Reduced, AllocError>
     requires system { IsSystemUnder (problem_view givens.now) system.now }
     requires few_rows { length system.now.rows.items ≤ 65535 }
     ensures reduces { IfOk result (λ r. Reduces (problem_view givens.now) budget [] system.now.rows.items (kept_view r) (dropped_view r)) }
@@ -42,7 +42,7 @@ fn reduced_rows(
     rows: &[Row],
     givens: &Problem,
     budget: Budget,
-) -> Result<Reduction, AllocError>
+) -> Result<Reduced, AllocError>
     requires givens { IsProblem (problem_view givens.now) }
     requires rows { AreRowsUpTo (size_of givens.now.space) rows.now }
     requires few_rows { length rows.now ≤ 65535 }
@@ -50,7 +50,7 @@ fn reduced_rows(
     ensures { IfOk result (λ r. Reduces (problem_view givens.now) budget [] rows.now (kept_view r) (dropped_view r)) }
 {
     let mut closed = ClosedProblem::read(alloc, givens)?;
-    let mut reduced = Reduction {
+    let mut reduced = Reduced {
         kept: Vec::new(alloc),
         dropped: Vec::new(alloc),
     };
@@ -73,7 +73,7 @@ fn visit(
     alloc: Global,
     givens: &Problem,
     closed: &mut ClosedProblem,
-    reduced: &mut Reduction,
+    reduced: &mut Reduced,
     row: &Row,
     after: &[Row],
     budget: Budget,
@@ -95,7 +95,7 @@ fn visit(
 }
 
 /// Puts a row where its outcome wants it: after those that went, or after those that stay.
-fn put(alloc: Global, reduced: &mut Reduction, row: &Row, proof: Proof) -> Result<(), AllocError>
+fn put(alloc: Global, reduced: &mut Reduced, row: &Row, proof: Proof) -> Result<(), AllocError>
     ensures kept { OnOk result (kept_view reduced.new ≡ kept_view reduced.old ++ kept_by row.now (proof_view proof)) }
     ensures dropped { OnOk result (dropped_view reduced.new ≡ dropped_view reduced.old ++ dropped_by row.now (proof_view proof)) }
 {
@@ -109,7 +109,7 @@ fn put(alloc: Global, reduced: &mut Reduction, row: &Row, proof: Proof) -> Resul
 /// Puts a row with its certificate after those that went.
 fn drop_row(
     alloc: Global,
-    reduced: &mut Reduction,
+    reduced: &mut Reduced,
     row: &Row,
     certificate: Certificate,
 ) -> Result<(), AllocError>
@@ -121,7 +121,7 @@ fn drop_row(
 }
 
 /// Puts a row with its need after those that stay.
-fn keep(alloc: Global, reduced: &mut Reduction, row: &Row, need: Need) -> Result<(), AllocError>
+fn keep(alloc: Global, reduced: &mut Reduced, row: &Row, need: Need) -> Result<(), AllocError>
     ensures kept { OnOk result (kept_view reduced.new ≡ kept_view reduced.old ++ (row.now, need_view need) ∷ []) }
     ensures dropped { OnOk result (dropped_view reduced.new ≡ dropped_view reduced.old) }
 {

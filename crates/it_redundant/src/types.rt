@@ -13,7 +13,7 @@ pub enum Need {
 /// The rows that stay with their needs, and the rows that went, each with a certificate under the givens and the other rows that
 /// stood then; both in the order of the list.
 #[derive(Debug, Drop)]
-pub struct Reduction {
+pub struct Reduced {
     pub kept: Vec<(Row, Need)>,
     pub dropped: Vec<(Row, Certificate)>,
 }
@@ -21,8 +21,8 @@ pub struct Reduction {
 /// What reduced elimination ends with: the reduction after the last rate, or a rate after which there are too many rows, or at
 /// which a row would pass the limit.
 #[derive(Debug, Drop)]
-pub enum ProjectionEnd {
-    Region(Reduction),
+pub enum Projected {
+    Region(Reduced),
     Rows { rate: u8 },
     Wide { rate: u8 },
 }

@@ -7,11 +7,11 @@ use Rattle.it_tableau.specs.SimplexTables.{FeasibilityProblem, sign, start}
 use Rattle.it_run.specs.Runs.{RunEndView}
 use Rattle.it_run.specs.Runs.RunEndView.{Weights, Point, Pivots, Width}
 use Rattle.it_run.specs.Solving.{RunsTo}
-use Rattle.it_run.specs.declared.answering.RunAnswer.{RunAnswer}
-use Rattle.it_run.specs.declared.answering.RunAnswer.TheVariants as answers
+use Rattle.it_run.specs.declared.answering.Solved.{Solved}
+use Rattle.it_run.specs.declared.answering.Solved.TheVariants as answers
 
 -- the end of the run that it tells
-abbrev pub end_of_answer : RunAnswer → RunEndView (List (ℕ × Rational)) (List Rational)
+abbrev pub end_of_answer : Solved → RunEndView (List (ℕ × Rational)) (List Rational)
 end_of_answer (answers.Weights ws) = Weights ws.items
 end_of_answer (answers.Point q) = Point q.items
 end_of_answer (answers.Pivots k) = Pivots k
@@ -35,5 +35,5 @@ abbrev pub HasProblem : TableauView → Type 0
 HasProblem t = (p : FeasibilityProblem Rational) × IsStartOf p t
 
 -- the answer tells the end of the run from the tableau with a budget or without one, whichever problem it is the start of
-abbrev pub RunsFrom : TableauView → Option ℕ → RunAnswer → Type 0
+abbrev pub RunsFrom : TableauView → Option ℕ → Solved → Type 0
 RunsFrom t budget answer = (p : FeasibilityProblem Rational) → IsStartOf p t → RunsTo (height t) t.generator_columns p budget (table t) (end_of_answer answer)

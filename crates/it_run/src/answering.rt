@@ -10,7 +10,7 @@ use std::alloc::{AllocError, Global};
 
 /// How a run ended.
 #[derive(Debug, Drop)]
-pub enum RunAnswer {
+pub enum Solved {
     /// The target is the sum of these columns, each with its weight above 0, by ascending column.
     Weights(Vec<(usize, Fraction)>),
     /// At this point, a value for each coordinate in order, each column is at least 0 and the target is below 0.
@@ -23,20 +23,16 @@ pub enum RunAnswer {
 }
 
 /// The run from a start, with a budget of steps or without one, and what is read off its last table.
-pub fn exact_run(
-    alloc: Global,
-    start: Tableau,
-    budget: Option<u32>,
-) -> Result<RunAnswer, AllocError>
+pub fn exact_run(alloc: Global, start: Tableau, budget: Option<u32>) -> Result<Solved, AllocError>
     requires usable { start.spent ≡ false }
     requires start { HasProblem start }
     ensures { IfOk result (λ solved. RunsFrom start budget solved) }
 {
     let mut tableau = start;
     match run(&mut tableau, budget)? {
-        RunEnd::Weights => Ok(RunAnswer::Weights(weights(alloc, &tableau)?)),
-        RunEnd::Point => Ok(RunAnswer::Point(point(alloc, &tableau)?)),
-        RunEnd::Pivots(steps) => Ok(RunAnswer::Pivots(steps)),
-        RunEnd::Width(step) => Ok(RunAnswer::Width(step)),
+        RunEnd::Weights => Ok(Solved::Weights(weights(alloc, &tableau)?)),
+        RunEnd::Point => Ok(Solved::Point(point(alloc, &tableau)?)),
+        RunEnd::Pivots(steps) => Ok(Solved::Pivots(steps)),
+        RunEnd::Width(step) => Ok(Solved::Width(step)),
     }
 }

@@ -7,7 +7,7 @@ ghost use Rattle.it_run.specs.Choice.{entering_column as entering_of};
 ghost use Rattle.it_run.specs.Solving.{RatiosFit};
 ghost use Rattle.it_run.specs.Steps.{best_after, ratio_precedes, IsLeaving};
 
-use it_fraction::{Fraction, WideNumber};
+use it_fraction::{Fraction, Wide};
 use it_tableau::Tableau;
 use std::cmp::Ordering;
 
@@ -54,12 +54,7 @@ fn best_after(
     match best {
         None => Some((row, ratio)),
         Some((best_row, least)) => {
-            if ratio_precedes(
-                ratio,
-                tableau.basic_column(row),
-                least,
-                tableau.basic_column(best_row),
-            ) {
+            if ratio_precedes(ratio, tableau.basic(row), least, tableau.basic(best_row)) {
                 Some((row, ratio))
             } else {
                 Some((best_row, least))
@@ -69,7 +64,7 @@ fn best_after(
 }
 
 /// The row with the least ratio of those with an entry above 0, of several the one with the least basic column.
-pub fn leaving_row(tableau: &Tableau, column: usize) -> Result<Option<usize>, WideNumber>
+pub fn leaving_row(tableau: &Tableau, column: usize) -> Result<Option<usize>, Wide>
     requires usable { tableau.now.spent ≡ false }
     requires column { column < tableau.now.generator_columns }
     ensures ok { OnOk result (RatiosFit (height tableau.now) tableau.now.generator_columns (table tableau.now) column) }

@@ -6,4 +6,4 @@ mod choice;
 mod readings;
 mod run;
 
-pub use answering::{RunAnswer, exact_run};
+pub use answering::{Solved, exact_run};

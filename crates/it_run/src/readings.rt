@@ -21,7 +21,7 @@ fn weight_of(tableau: &Tableau, j: usize) -> Option<Fraction>
     ensures none { IfNone result (weight field_ℚ (height tableau.now) tableau.now.generator_columns (table tableau.now) j ≡ integer (pos 0)) }
 {
     for i in 0..tableau.rows() {
-        if tableau.basic_column(i) == j {
+        if tableau.basic(i) == j {
             return Some(tableau.rhs(i));
         }
     }

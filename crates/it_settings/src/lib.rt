@@ -8,6 +8,3 @@ mod reading;
 pub mod types;
 
 pub use reading::settings;
-
-#[cfg(test)]
-mod tests;

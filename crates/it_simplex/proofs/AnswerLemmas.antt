@@ -13,11 +13,11 @@ use Rattle.it_run.specs.Choice.{next, IsDone, IsStuck}
 use Rattle.it_run.specs.Readings.{weights, point}
 use Rattle.it_run.specs.Runs.{RunEndView, IsWithinBudget}
 use Rattle.it_run.specs.Solving.{RunsTo, StepFits}
-use Rattle.it_run.specs.declared.answering.RunAnswer.{RunAnswer}
-use Rattle.it_run.specs.declared.answering.RunAnswer.TheVariants.{Weights, Point, Pivots, Width}
+use Rattle.it_run.specs.declared.answering.Solved.{Solved}
+use Rattle.it_run.specs.declared.answering.Solved.TheVariants.{Weights, Point, Pivots, Width}
 use Rattle.it_run.proofs.BudgetLemmas.{one_end_by, right_by, within_budget}
 use Rattle.it_run.proofs.RunLemmas.{EndIsRight}
-use Rattle.it_simplex.specs.Answers.{IsRightRunAnswer, Solves}
+use Rattle.it_simplex.specs.Answers.{IsRightSolved, Solves}
 
 module _ (cs : List ℕ) (columns : List Terms) (target : Terms) (t : TableauView) (s : IsStart cs columns target t) where
   -- what is said of the start's sizes and table, and of the tableau's
@@ -40,16 +40,16 @@ module _ (cs : List ℕ) (columns : List Terms) (target : Terms) (t : TableauVie
   }
 
   -- the run from the tableau is that from the start
-  run_from_start : (budget : Option ℕ) (a : RunAnswer) → RunsFrom t budget a → RunsTo (length cs) (length columns) (feasibility_problem cs columns target) budget (start_of cs columns target) (end_of_answer a)
+  run_from_start : (budget : Option ℕ) (a : Solved) → RunsFrom t budget a → RunsTo (length cs) (length columns) (feasibility_problem cs columns target) budget (start_of cs columns target) (end_of_answer a)
   run_from_start budget a r = by_start (λ m n t. RunsTo m n (feasibility_problem cs columns target) budget t (end_of_answer a)) (r (feasibility_problem cs columns target) start_is_of_problem)
 
-  pub run_solves : (budget : Option ℕ) (a : RunAnswer) → StartFits (length cs) (length columns) (feasibility_problem cs columns target) → RunsFrom t budget a → Solves cs columns target budget (end_of_answer a)
+  pub run_solves : (budget : Option ℕ) (a : Solved) → StartFits (length cs) (length columns) (feasibility_problem cs columns target) → RunsFrom t budget a → Solves cs columns target budget (end_of_answer a)
   run_solves budget a f r = inr (f, run_from_start budget a r)
 
-  pub answer_is_right : (budget : Option ℕ) (a : RunAnswer) → RunsFrom t budget a → IsRightRunAnswer cs columns target a
+  pub answer_is_right : (budget : Option ℕ) (a : Solved) → RunsFrom t budget a → IsRightSolved cs columns target a
   answer_is_right budget a r = from_end a (right_by field_ℚ (length cs) (length columns) (StepFits (length cs) (length columns)) (feasibility_problem cs columns target) budget (end_of_answer a) (run_from_start budget a r))
     where
-      from_end : (a : RunAnswer) → EndIsRight field_ℚ (length cs) (length columns) (feasibility_problem cs columns target) (end_of_answer a) → IsRightRunAnswer cs columns target a
+      from_end : (a : Solved) → EndIsRight field_ℚ (length cs) (length columns) (feasibility_problem cs columns target) (end_of_answer a) → IsRightSolved cs columns target a
       from_end (Weights ws) x = x
       from_end (Point q) x = x
       from_end (Pivots k) x = tt

@@ -9,9 +9,9 @@ use Rattle.it_run.specs.Readings.{SumsUp, Separates}
 use Rattle.it_run.specs.Runs.{RunEndView}
 use Rattle.it_run.specs.Runs.RunEndView.{Width}
 use Rattle.it_run.specs.Solving.{RunsTo}
-use Rattle.it_run.specs.declared.answering.RunAnswer.{RunAnswer}
-use Rattle.it_run.specs.declared.answering.RunAnswer.TheVariants as answers
-use Rattle.it_run.specs.declared.answering.RunAnswer.TheVariants.{Weights, Point, Pivots}
+use Rattle.it_run.specs.declared.answering.Solved.{Solved}
+use Rattle.it_run.specs.declared.answering.Solved.TheVariants as answers
+use Rattle.it_run.specs.declared.answering.Solved.TheVariants.{Weights, Point, Pivots}
 
 -- the run from the start of a question with a budget of steps or without one ends so; a start that doesn't fit is before step 0
 abbrev pub Solves : List ℕ → List Terms → Terms → Option ℕ → RunEndView (List (ℕ × Rational)) (List Rational) → Type 0
@@ -22,11 +22,11 @@ Solves coordinates columns target budget e =
     (¬ (StartFits m n p) × (e ≡ Width zero)) ⊎ (StartFits m n p × RunsTo m n p budget (start_of coordinates columns target) e)
 
 -- weights sum to the target, and a point separates it from the columns
-abbrev pub IsRightRunAnswer : List ℕ → List Terms → Terms → RunAnswer → Type 0
-IsRightRunAnswer coordinates columns target (Weights ws) = SumsUp field_ℚ (length coordinates) (length columns) (feasibility_problem coordinates columns target) ws.items
-IsRightRunAnswer coordinates columns target (Point q) = Separates field_ℚ (length coordinates) (length columns) (feasibility_problem coordinates columns target) q.items
-IsRightRunAnswer coordinates columns target (Pivots k) = Unit {0}
-IsRightRunAnswer coordinates columns target (answers.Width k) = Unit {0}
+abbrev pub IsRightSolved : List ℕ → List Terms → Terms → Solved → Type 0
+IsRightSolved coordinates columns target (Weights ws) = SumsUp field_ℚ (length coordinates) (length columns) (feasibility_problem coordinates columns target) ws.items
+IsRightSolved coordinates columns target (Point q) = Separates field_ℚ (length coordinates) (length columns) (feasibility_problem coordinates columns target) q.items
+IsRightSolved coordinates columns target (Pivots k) = Unit {0}
+IsRightSolved coordinates columns target (answers.Width k) = Unit {0}
 
 -- a run has one end: what `Solves` says of an answer it says of no other
 abbrev pub EndsOnce : Type 0

@@ -3,17 +3,17 @@ ghost use Rattle.std.specs.Prelude.{◌≡◌, false, IfOk};
 ghost use Rattle.std.specs.Option.{IfNone};
 ghost use Rattle.it_run.specs.Answers.{end_of_answer, HasProblem, RunsFrom};
 ghost use Rattle.it_run.specs.Runs.{IsWithinBudget};
-ghost use Rattle.it_simplex.specs.Answers.{IsRightRunAnswer, Solves};
+ghost use Rattle.it_simplex.specs.Answers.{IsRightSolved, Solves};
 
 use crate::budget::Budget;
 use it_engine::whole_run;
-use it_run::{RunAnswer, exact_run};
+use it_run::{Solved, exact_run};
 use it_space::{Row, RowFault};
 use it_tableau::Tableau;
 use std::alloc::{AllocError, Global};
 
 /// The run by whole numbers, and where these give up by fractions from the start.
-fn run_answer(alloc: Global, start: Tableau, budget: Option<u32>) -> Result<RunAnswer, AllocError>
+fn run_answer(alloc: Global, start: Tableau, budget: Option<u32>) -> Result<Solved, AllocError>
     requires usable { start.spent ≡ false }
     requires start { HasProblem start }
     ensures { IfOk result (λ solved. RunsFrom start budget solved) }
@@ -33,14 +33,14 @@ pub fn solve(
     columns: &[Row],
     target: &Row,
     budget: Budget,
-) -> Result<RunAnswer, AllocError>
+) -> Result<Solved, AllocError>
     ensures end { IfOk result (λ solved. Solves coordinates.now columns.now target.now budget (end_of_answer solved)) }
     ensures unbound { IfNone budget (IfOk result (λ solved. IsWithinBudget (end_of_answer solved))) }
-    ensures right { IfOk result (λ solved. IsRightRunAnswer coordinates.now columns.now target.now solved) }
+    ensures right { IfOk result (λ solved. IsRightSolved coordinates.now columns.now target.now solved) }
 {
     match Tableau::start(alloc, coordinates, columns, target) {
         Ok(start) => run_answer(alloc, start, budget.steps()),
-        Err(RowFault::Wide) => Ok(RunAnswer::Width(0)),
+        Err(RowFault::Wide) => Ok(Solved::Width(0)),
         Err(RowFault::Memory) => Err(AllocError),
     }
 }

@@ -4,10 +4,8 @@
 mod answering;
 mod budget;
 mod laws;
-#[cfg(test)]
-mod tests;
 
 pub use answering::solve;
 pub use budget::Budget;
-pub use it_run::RunAnswer;
+pub use it_run::Solved;
 pub use laws::{ends_at_the_first, ends_once, meets_no_basis_twice, runs_end};

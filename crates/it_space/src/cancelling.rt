@@ -8,7 +8,7 @@ ghost use Rattle.it_space.specs.declared.faults.RowFault.TheVariants.{Wide as Is
 
 use crate::faults::RowFault;
 use crate::rows::Row;
-use it_fraction::{WideNumber, gcd, signed_product, sum};
+use it_fraction::{Wide, gcd, signed_product, sum};
 use std::alloc::Global;
 
 /// The row without a coordinate that two rows give: one that is positive there and one that is negative there, each so many
@@ -159,7 +159,7 @@ fn mixed_coefficient(
     right: &[(u32, i128)],
     b: u128,
     coordinate: u32,
-) -> Result<i128, WideNumber>
+) -> Result<i128, Wide>
     requires left { Ascends coordinate left.now }
     requires right { Ascends coordinate right.now }
     requires a { a < 2 ^ 127 }
@@ -173,11 +173,7 @@ fn mixed_coefficient(
 }
 
 /// So many times the coefficient at a coordinate that none is before.
-fn coefficient_times(
-    terms: &[(u32, i128)],
-    coordinate: u32,
-    times: u128,
-) -> Result<i128, WideNumber>
+fn coefficient_times(terms: &[(u32, i128)], coordinate: u32, times: u128) -> Result<i128, Wide>
     requires terms { Ascends coordinate terms.now }
     requires times { times < 2 ^ 127 }
     ensures { OkIff result (IsWithin (pos times *ℤ coefficient terms.now coordinate)) (pos times *ℤ coefficient terms.now coordinate) }

@@ -10,7 +10,7 @@ use crate::rows::Row;
 use it_fraction::gcd;
 
 /// The row divided by the greatest common divisor of its coefficients. The zero row stays.
-pub fn lowest_terms(row: Row) -> Row
+pub fn normal(row: Row) -> Row
     ensures meaning { AreLowestTermsOf row result }
     ensures lowest_terms { result ≡ lowest_terms row }
     ensures canonical { IsCanonical result }

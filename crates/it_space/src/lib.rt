@@ -16,7 +16,7 @@ mod values;
 
 pub use answers::{Answer, Cause, Certificate, Mark, is_nonzero_weight};
 pub use cancelling::cancel;
-pub use divisors::lowest_terms;
+pub use divisors::normal;
 pub use faults::RowFault;
 pub use points::Point;
 pub use problems::{Constraint, Kind, Origin, Problem, System};
@@ -25,6 +25,3 @@ pub use sets::VarSet;
 pub use spaces::Space;
 pub use sums::Sums;
 pub use values::{value, with_product};
-
-#[cfg(test)]
-mod tests;

@@ -3,7 +3,7 @@ ghost use Rattle.std.specs.Prelude.{◌≡◌, ◌<◌, ◌≤◌, ◌^◌, ◌+
 ghost use Rattle.it_number.specs.Limit.{IsWithin};
 ghost use Rattle.it_space.specs.Sums.{IsAdded, number_at, terms_from};
 
-use it_fraction::{WideNumber, sum};
+use it_fraction::{Wide, sum};
 use std::alloc::{AllocError, Global};
 use std::marker::Model;
 
@@ -39,7 +39,7 @@ impl Sums {
     }
 
     /// Adds an amount at a place, unless the sum is wide.
-    pub fn add(&mut self, place: usize, amount: i128) -> Result<(), WideNumber>
+    pub fn add(&mut self, place: usize, amount: i128) -> Result<(), Wide>
         requires { place < length self.old }
         ensures added { OnOk result (IsAdded self.old self.new place amount) }
         ensures wide { OnErr result (¬ IsWithin (number_at self.old place +ℤ amount)) }
@@ -57,7 +57,7 @@ impl Sums {
 }
 
 /// Adds an amount to the number at a place, which must be there.
-fn add_at(values: &mut [i128], place: usize, amount: i128) -> Result<(), WideNumber>
+fn add_at(values: &mut [i128], place: usize, amount: i128) -> Result<(), Wide>
     requires { place < length values.old }
     ensures added { OnOk result (IsAdded values.old values.new place amount) }
     ensures wide { OnErr result (¬ IsWithin (number_at values.old place +ℤ amount)) }

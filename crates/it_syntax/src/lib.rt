@@ -17,8 +17,6 @@ pub mod rest;
 mod runs;
 mod signs;
 mod sums;
-#[cfg(test)]
-mod tests;
 pub mod types;
 
 pub use cutting::{line_tokens, tokens};

@@ -11,12 +11,12 @@ ghost use Rattle.it_tableau.specs.Summing.{IsRowAdded, AreColumnSums, AreNarrow,
 use crate::merging::{append, column, narrow_number, term};
 use crate::rows::read;
 use crate::sparse_rows::SparseRow;
-use it_fraction::{Fraction, WideNumber};
+use it_fraction::{Fraction, Wide};
 use it_space::RowFault;
 use std::alloc::Global;
 
 /// Adds a number to the sum of a column.
-fn add_number(sums: &mut Vec<Fraction>, column: usize, number: Fraction) -> Result<(), WideNumber>
+fn add_number(sums: &mut Vec<Fraction>, column: usize, number: Fraction) -> Result<(), Wide>
     requires { column < length sums.old.items }
     ensures ok { OnOk result (SumFits number (entry_at sums.old.items column)) }
     ensures value { OnOk result (IsNumberAdded sums.old.items column number sums.new.items) }
@@ -28,7 +28,7 @@ fn add_number(sums: &mut Vec<Fraction>, column: usize, number: Fraction) -> Resu
 }
 
 /// Adds a row's entries, without its right side, to the sums of their columns. A column in which the row has no term keeps its sum.
-fn add_row(sums: &mut Vec<Fraction>, terms: &[(usize, Fraction)]) -> Result<(), WideNumber>
+fn add_row(sums: &mut Vec<Fraction>, terms: &[(usize, Fraction)]) -> Result<(), Wide>
     requires terms { Climbs 0 (length sums.old.items) terms.now }
     requires narrow { AreNarrow sums.old.items }
     ensures ok { OnOk result (SumsFit terms.now sums.old.items) }
@@ -65,7 +65,7 @@ fn column_sums(alloc: Global, rows: &[SparseRow], width: usize) -> Result<Vec<Fr
     ensures value { IfOk result (λ sums. AreColumnSums rows.now width (length rows.now) sums.items) }
     ensures wide { IfErr result (λ fault. fault ≡ RowFault.Wide → ¬ ((j : ℕ) → j < width → ColumnFits rows.now j)) }
 {
-    let mut sums = Vec::from_elem(alloc, Fraction::integer(0), width)?;
+    let mut sums = Vec::from_elem(alloc, Fraction::whole(0), width)?;
     for i in 0..rows.len() {
         add_row(&mut sums, terms_of(rows, i))?;
     }
@@ -73,13 +73,13 @@ fn column_sums(alloc: Global, rows: &[SparseRow], width: usize) -> Result<Vec<Fr
 }
 
 /// The sum of a column with its sign turned, in the order of the rows.
-fn negated_sum(rows: &[SparseRow], j: usize) -> Result<Fraction, WideNumber>
+fn negated_sum(rows: &[SparseRow], j: usize) -> Result<Fraction, Wide>
     requires { (i : ℕ) → i < length rows.now → j < length (row_at rows.now i) }
     ensures ok { OnOk result (ColumnFits rows.now j) }
     ensures value { IfOk result (λ v. v ≡ minus (column_sum rows.now j (length rows.now))) }
     ensures err { OnErr result (¬ (ColumnFits rows.now j)) }
 {
-    let mut sum = Fraction::integer(0);
+    let mut sum = Fraction::whole(0);
     for i in 0..rows.len() {
         sum = read(rows, i, j).add(sum)?;
     }

@@ -9,8 +9,6 @@ mod rows;
 mod sparse_rows;
 mod start;
 mod tableau;
-#[cfg(test)]
-mod tests;
 
 pub use laws::{pivots_combine_start, pivots_keep_invariants, start_has_invariants};
 pub use tableau::Tableau;

@@ -6,7 +6,7 @@ ghost use Rattle.it_tableau.specs.Fits.{EntryFits};
 ghost use Rattle.it_tableau.specs.Merging.{column_at, number_of_term, AreMerged, IsAppended, IsTermSource, MergeFits};
 ghost use Rattle.it_tableau.specs.SparseRows.{Climbs};
 
-use it_fraction::{Fraction, WideNumber};
+use it_fraction::{Fraction, Wide};
 use it_space::RowFault;
 use std::alloc::AllocError;
 
@@ -73,14 +73,14 @@ fn next_source(
 }
 
 /// What a product leaves of 0.
-fn negated_product(by: Fraction, q: Fraction) -> Result<Fraction, WideNumber>
+fn negated_product(by: Fraction, q: Fraction) -> Result<Fraction, Wide>
     ensures { OkIff result (IsNarrow (times by q)) (minus (times by q)) }
 {
     Ok(by.mul(q)?.neg())
 }
 
 /// What a product leaves of an entry.
-pub fn reduced_entry(entry: Fraction, by: Fraction, q: Fraction) -> Result<Fraction, WideNumber>
+pub fn reduced_entry(entry: Fraction, by: Fraction, q: Fraction) -> Result<Fraction, Wide>
     ensures ok { OnOk result (EntryFits entry by q) }
     ensures value { IfOk result (λ v. v ≡ plus entry (minus (times by q))) }
     ensures err { OnErr result (¬ (EntryFits entry by q)) }

@@ -51,7 +51,7 @@ impl SparseRow {
     pub fn placeholder(alloc: Global) -> SparseRow
         ensures { result ≡ dense_row 0 [] (integer (pos 0)) }
     {
-        SparseRow::new(0, Vec::new(alloc), Fraction::integer(0))
+        SparseRow::new(0, Vec::new(alloc), Fraction::whole(0))
     }
 
     /// The entries other than 0, without the right side.
@@ -134,7 +134,7 @@ fn number_in(terms: &[(usize, Fraction)], at: usize, width: usize) -> Fraction
 {
     match terms.binary_search_by_key(&at, |term| term.0) {
         Ok(i) => terms[i].1,
-        Err(_) => Fraction::integer(0),
+        Err(_) => Fraction::whole(0),
     }
 }
 

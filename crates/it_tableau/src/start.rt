@@ -22,7 +22,7 @@ fn number(row: &Row, coordinate: u32) -> Fraction
     ensures value { result ≡ integer (coefficient row.now coordinate) }
     ensures whole_number { IsWholeNumber result }
 {
-    Fraction::integer(row.coefficient(coordinate))
+    Fraction::whole(row.coefficient(coordinate))
 }
 
 /// Whether the start's row of a coordinate keeps its sign: the target's coefficient isn't below 0.
@@ -64,9 +64,9 @@ pub fn start_entry(
     } else if j == columns.len() + coordinates.len() {
         signed_coefficient(target, coordinates[k], kept)
     } else if j == columns.len() + k {
-        Fraction::integer(1)
+        Fraction::whole(1)
     } else {
-        Fraction::integer(0)
+        Fraction::whole(0)
     }
 }
 

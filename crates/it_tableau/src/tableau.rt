@@ -11,7 +11,7 @@ ghost use Rattle.it_tableau.specs.SimplexTables.{pivot, ratio};
 use crate::rows::{pivot_rows, read};
 use crate::sparse_rows::SparseRow;
 use crate::start::{artificials, negations, start_table};
-use it_fraction::{Fraction, WideNumber};
+use it_fraction::{Fraction, Wide};
 use it_space::{Row, RowFault};
 use std::alloc::Global;
 use std::marker::Model;
@@ -92,7 +92,7 @@ impl Tableau {
     }
 
     /// The column that is basic in a row.
-    pub fn basic_column(&self, row: usize) -> usize
+    pub fn basic(&self, row: usize) -> usize
         requires usable { self.now.spent ≡ false }
         requires row { row < height self.now }
         ensures { result ≡ (table self.now).basis row }
@@ -156,7 +156,7 @@ impl Tableau {
 
     /// The right side of a row divided by its entry in a column.
     #[tactic(auto, using(crate::proofs::Positive::positive_some))]
-    pub fn ratio(&self, row: usize, column: usize) -> Result<Fraction, WideNumber>
+    pub fn ratio(&self, row: usize, column: usize) -> Result<Fraction, Wide>
         requires usable { self.now.spent ≡ false }
         requires row { row < height self.now }
         requires column { column < width self.now }

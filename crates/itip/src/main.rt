@@ -2,7 +2,7 @@
 #![tactic(auto)]
 
 use it_cli::{Status, itip};
-use it_contain::{Proposer, RecentCandidates, Singles, Subsets};
+use it_contain::{Proposer, Recent, Singles, Subsets};
 use it_outside::{Sink, Source, StdSink, StdSource};
 use std::alloc::{AllocError, Global};
 use std::process::ExitCode;
@@ -46,7 +46,7 @@ fn call<S: Source, K: Sink>(
     sink: &mut K,
 ) -> Result<Status, AllocError> {
     let mut proposers: Vec<Box<dyn Proposer>> = Vec::new(alloc);
-    proposers.push(Box::new(alloc, RecentCandidates::new())?)?;
+    proposers.push(Box::new(alloc, Recent::new())?)?;
     proposers.push(Box::new(alloc, Singles::new())?)?;
     proposers.push(Box::new(alloc, Subsets::new())?)?;
     Ok(itip(alloc, words, source, sink, proposers))

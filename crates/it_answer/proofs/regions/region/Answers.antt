@@ -5,7 +5,7 @@ use Rattle.it_space.specs.Problems.{problem_view}
 use Rattle.it_syntax.specs.Meaning.{Holds}
 use Rattle.it_question.specs.Questions.{question_body}
 use Rattle.it_canon.specs.QuestionDemands.{system_forms, AreAtLeastZero, AreRowsOf}
-use Rattle.it_redundant.specs.ReducedElimination.{ReducedEnds, projection_end_view}
+use Rattle.it_redundant.specs.ReducedElimination.{ReducedEnds, projected_view}
 use Rattle.it_answer.proofs.GivenLemmas.{space_of_names, givens_stated, met_where_true, few_constraints, constraints_of_sets, rates_of_question}
 use Rattle.it_answer.proofs.RegionLemmas.{right_answer}
 use Rattle.it_answer.proofs.regions.region.Goals as goal
@@ -35,7 +35,7 @@ returns c =
     let rates = c.args.rates.now in
     let givens = problem_view c.args.givens.now in
     let rows = c.in_ok-system.system.rows.items in
-    let end = projection_end_view c.in_ok-end.end in
+    let end = projected_view c.in_ok-end.end in
     let same = space_of_names q rates givens c.requires.eliminates c.requires.givens in
     let of_system = c.in_ok-system.ensures.space ∙ sym same in
     right_answer q rates givens rows same (met_where_true q rates givens c.requires.eliminates c.requires.givens)

@@ -1,7 +1,7 @@
 use Rattle.std.proofs.Common.{◌∙◌, ◌+◌, ◌/◌, ℕ, List, sym, subst}
 use Rattle.std.specs.Option.{IfSome}
 use Rattle.it_run.specs.Answers.{RunsFrom}
-use Rattle.it_run.specs.declared.answering.RunAnswer.{RunAnswer}
+use Rattle.it_run.specs.declared.answering.Solved.{Solved}
 use Rattle.it_run.proofs.AnswerLemmas.{if_ok}
 use Rattle.it_space.specs.Rows.{Terms}
 use Rattle.it_tableau.specs.TableauViews.{height, table}
@@ -47,7 +47,7 @@ returns c =
     let ls = c.new-engine.result.rows in
     let bs = c.new-engine.result.basis in
     let l = 9223372036854775807 / c.in-Some-norm.norm in
-    let Q : RunAnswer → Type 0 = RunsFrom t c.args.budget in
-    let P : RunAnswer → Type 0 = λ solved. AnswersQuestion t cs l ls bs c.args.budget solved in
+    let Q : Solved → Type 0 = RunsFrom t c.args.budget in
+    let P : Solved → Type 0 = λ solved. AnswersQuestion t cs l ls bs c.args.budget solved in
     if_ok c.answer.result (λ o. IfSome o P) (λ o. IfSome o Q) c.answer.ensures
     (λ o h. if_some_more o P Q h (λ solved a. answer_from_start t cs c.in-Some-norm.norm l ls bs (columns_read d) (is_norm d) (limit_fits c.in-Some-norm.norm) (rows_read d) (basis_read d) c.args.budget solved a))

@@ -4,7 +4,7 @@ use Rattle.it_run.specs.Answers.{end_of_answer, RunsFrom}
 use Rattle.it_run.specs.Runs.{IsWithinBudget}
 use Rattle.it_run.proofs.AnswerLemmas.{if_ok}
 use Rattle.it_tableau.specs.Problems.{feasibility_problem}
-use Rattle.it_simplex.specs.Answers.{IsRightRunAnswer, Solves}
+use Rattle.it_simplex.specs.Answers.{IsRightSolved, Solves}
 use Rattle.it_simplex.proofs.AnswerLemmas.{if_none, answer_is_right, run_solves, start_is_of_problem, ends_within_budget}
 use Rattle.it_simplex.proofs.answering.solve.Goals as goal
 
@@ -27,5 +27,5 @@ returns-in-Ok-clause-unbound c =
 
 pub returns-in-Ok-clause-right : goal.returns-in-Ok-clause-right
 returns-in-Ok-clause-right c =
-    if_ok c.run_answer.result (RunsFrom c.in-Ok.start c.steps.result) (IsRightRunAnswer c.args.coordinates.now c.args.columns.now c.args.target.now) c.run_answer.ensures
+    if_ok c.run_answer.result (RunsFrom c.in-Ok.start c.steps.result) (IsRightSolved c.args.coordinates.now c.args.columns.now c.args.target.now) c.run_answer.ensures
     (λ a r. answer_is_right c.args.coordinates.now c.args.columns.now c.args.target.now c.in-Ok.start c.in-Ok.ensures.value c.steps.result a r)

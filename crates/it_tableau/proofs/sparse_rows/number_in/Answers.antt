@@ -15,5 +15,5 @@ returns-in-Ok c =
 
 pub returns-in-Err : goal.returns-in-Err
 returns-in-Err c =
-    c.integer.ensures ∙ sym (entry_where_search_fails c.args.terms.now c.args.at c.in-Err.field-0
+    c.whole.ensures ∙ sym (entry_where_search_fails c.args.terms.now c.args.at c.in-Err.field-0
     (c.in-Err.ensures.position (λ t. t.0) (answers_always _ _ _ (λ f a r f' e. search rules)) (ranks_rise c.args.width c.args.terms.now c.args.at c.requires)))

@@ -8,4 +8,4 @@ use mir.Syntax.{w128}
 pub returns-clause-whole_number : goal.returns-clause-whole_number
 returns-clause-whole_number c =
     let fits : FitsSigned w128 c.coefficient.result = search rules in
-    subst IsWholeNumber (sym (c.integer.ensures ∙ ap integer (to_z-of_z fits))) (whole_number c.coefficient.result c.coefficient.ensures.within)
+    subst IsWholeNumber (sym (c.whole.ensures ∙ ap integer (to_z-of_z fits))) (whole_number c.coefficient.result c.coefficient.ensures.within)

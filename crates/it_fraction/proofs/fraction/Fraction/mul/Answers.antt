@@ -31,8 +31,8 @@ returns-then-is_zero c =
     elim c.then-is_zero.branch [
       | then-is_zero-via-then-is_zero w ↦
           let e : c.args.self.num ≡ pos 0 = top_of_zero c.args.self w.if-is_zero.ensures.yes in
-          (zero-product-narrow c.args.self c.args.other e, c.integer.ensures ∙ sym (zero-product c.args.self c.args.other e))
+          (zero-product-narrow c.args.self c.args.other e, c.whole.ensures ∙ sym (zero-product c.args.self c.args.other e))
       | then-is_zero-via-else-is_zero+then-is_zero-2 w ↦
           let e : c.args.other.num ≡ pos 0 = top_of_zero c.args.other w.if-is_zero-2.ensures.yes in
-          (product-zero-narrow c.args.self c.args.other e, c.integer.ensures ∙ sym (product-zero c.args.self c.args.other e))
+          (product-zero-narrow c.args.self c.args.other e, c.whole.ensures ∙ sym (product-zero c.args.self c.args.other e))
     ]

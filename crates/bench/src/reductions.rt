@@ -1,0 +1,214 @@
+//! Elimination of rates that reduces the list after each.
+
+ghost use Rattle.std.specs.Prelude.{◌≤◌, All, length};
+ghost use Rattle.std.specs.Bool.{OnTrue};
+ghost use Rattle.it_question.specs.Limits.{IsQuestion};
+ghost use Rattle.it_question.specs.Questions.{question_body};
+ghost use Rattle.it_redundant.specs.Reduction.{IsSystemUnder};
+ghost use Rattle.it_space.specs.Problems.{IsProblem, problem_view};
+ghost use Rattle.it_space.specs.Rows.{IsUpTo};
+
+use crate::Task;
+use it_canon::{problem, system};
+use it_eliminate::{Eliminated, step};
+use it_prove::{Proof, prove};
+use it_question::types::{Question, Verb};
+use it_redundant::{kept_system, reduce};
+use it_simplex::Budget;
+use it_space::{Constraint, Kind, Origin, Problem, Row, System};
+use std::alloc::{AllocError, Global};
+use std::io;
+
+/// The most rows that a rate may leave.
+const MOST: usize = 4096;
+
+/// Whether a row uses coordinates up to `size` alone.
+fn is_up_to(row: &Row, size: u32) -> bool
+    ensures { OnTrue result (IsUpTo size row.now) }
+{
+    row.terms()
+        .iter()
+        .all(|(coordinate, _)| 1 <= *coordinate && *coordinate <= size)
+}
+
+/// Whether all rows do.
+fn are_up_to(rows: &[Row], size: u32) -> bool
+    ensures { OnTrue result (All (IsUpTo size) rows.now) }
+{
+    rows.iter().all(|row| is_up_to(row, size))
+}
+
+/// A row as one that is to be at least 0.
+fn at_least_zero(alloc: Global, row: &Row) -> Result<Constraint, AllocError> {
+    Ok(Constraint {
+        row: row.copy(alloc)?,
+        kind: Kind::Inequality,
+        origin: Origin::Rate { line: 1 },
+    })
+}
+
+/// The givens, and the rows before and after one.
+fn problem_around(
+    alloc: Global,
+    givens: &Problem,
+    before: &[Row],
+    after: &[Row],
+) -> Result<Problem, AllocError> {
+    let mut constraints = Vec::new(alloc);
+    for given in &givens.constraints {
+        constraints.push(Constraint {
+            row: given.row.copy(alloc)?,
+            kind: given.kind,
+            origin: given.origin,
+        })?;
+    }
+    for row in before {
+        constraints.push(at_least_zero(alloc, row)?)?;
+    }
+    for row in after {
+        constraints.push(at_least_zero(alloc, row)?)?;
+    }
+    Ok(Problem {
+        space: givens.space,
+        constraints,
+    })
+}
+
+/// Whether the constraints are rows of the space.
+fn is_problem(problem: &Problem) -> bool
+    ensures { OnTrue result (IsProblem (problem_view problem.now)) }
+{
+    let space = problem.space;
+    if space.variables < 1 || space.variables > 10 || space.rates > 16 {
+        return false;
+    }
+    let size = space.size();
+    problem.constraints.len() <= 65535
+        && problem
+            .constraints
+            .iter()
+            .all(|constraint| is_up_to(&constraint.row, size))
+}
+
+/// Whether a row is proved under the givens and the rows before and after it, by a call of its own.
+fn follows(
+    alloc: Global,
+    givens: &Problem,
+    before: &[Row],
+    row: &Row,
+    after: &[Row],
+) -> Result<bool, AllocError> {
+    let problem = problem_around(alloc, givens, before, after)?;
+    if !is_problem(&problem) || !is_up_to(row, problem.space.size()) {
+        return Ok(false);
+    }
+    match prove(alloc, &problem, row, Budget::none())? {
+        Proof::Yes(_) => Ok(true),
+        _ => Ok(false),
+    }
+}
+
+/// A list without the rows that the others give, each by a call of its own.
+fn reduction_anew(alloc: Global, list: &System, givens: &Problem) -> Result<System, AllocError> {
+    let mut kept = Vec::new(alloc);
+    let rows = list.rows.as_slice();
+    for i in 0..rows.len() {
+        let row = &rows[i];
+        if !follows(alloc, givens, kept.as_slice(), row, &rows[i + 1..])? {
+            kept.push(row.copy(alloc)?)?;
+        }
+    }
+    Ok(System {
+        space: list.space,
+        rows: kept,
+    })
+}
+
+/// A list without the rows that the others give, in one of the ways.
+fn reduction(alloc: Global, list: System, givens: &Problem, way: &str) -> Result<System, AllocError>
+    requires under { IsSystemUnder (problem_view givens.now) list }
+    requires few { length list.rows.items ≤ 65535 }
+{
+    match way {
+        "shared" => {
+            let reduced = reduce(alloc, &list, givens, Budget::none())?;
+            kept_system(alloc, list.space, &reduced)
+        }
+        "anew" => reduction_anew(alloc, &list, givens),
+        _ => Ok(list),
+    }
+}
+
+/// Whether the list has few rows of the givens' space.
+fn is_under(list: &System, givens: &Problem) -> bool
+    ensures under { OnTrue result (IsSystemUnder (problem_view givens.now) list.now) }
+    ensures few { OnTrue result (length list.now.rows.items ≤ 65535) }
+{
+    list.space == givens.space
+        && is_problem(givens)
+        && list.rows.len() <= 65535
+        && are_up_to(list.rows.as_slice(), givens.space.size())
+}
+
+/// The list after a rate, if there is one.
+fn after(
+    alloc: Global,
+    list: &System,
+    givens: &Problem,
+    rate: u8,
+) -> Result<Option<System>, AllocError> {
+    if !is_under(list, givens) || rate >= list.space.rates {
+        return Ok(None);
+    }
+    match step(alloc, list, rate, MOST)? {
+        Eliminated::Region(after) => Ok(Some(after)),
+        _ => Ok(None),
+    }
+}
+
+/// How many rows each rate leaves, up to a rate that has no list, and how often the solver was called.
+fn elimination(
+    alloc: Global,
+    question: &Question,
+    rates: &[u8],
+    way: &str,
+) -> Result<(Vec<usize>, usize), AllocError>
+    requires { IsQuestion (question_body question.now) }
+{
+    let givens = problem(alloc, question)?;
+    let mut list = system(alloc, question)?;
+    let (mut counts, mut calls) = (Vec::new(alloc), 0usize);
+    for rate in rates {
+        let Some(after) = after(alloc, &list, &givens, *rate)? else {
+            return Ok((counts, calls));
+        };
+        if !is_under(&after, &givens) {
+            return Ok((counts, calls));
+        }
+        if way != "plain" {
+            calls = calls.wrapping_add(after.rows.len());
+        }
+        list = reduction(alloc, after, &givens, way)?;
+        counts.push(list.rows.len())?;
+    }
+    Ok((counts, calls))
+}
+
+/// Eliminates the rates, and prints the rows after each and the calls.
+pub fn time(rt: HostRuntime, question: &Question, task: &Task<'_>) -> io::Result<()>
+    requires { IsQuestion (question_body question.now) }
+{
+    let alloc = rt.alloc();
+    let Verb::Eliminate(rates) = &question.verb else {
+        return println!(rt; "no rates");
+    };
+    for _ in 1..task.turns {
+        elimination(alloc, question, rates.as_slice(), task.way)?;
+    }
+    let (counts, calls) = elimination(alloc, question, rates.as_slice(), task.way)?;
+    print!(rt; "rows")?;
+    for rows in counts.as_slice() {
+        print!(rt; " {rows}")?;
+    }
+    println!(rt; " calls {calls}")
+}

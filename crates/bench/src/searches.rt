@@ -1,0 +1,162 @@
+//! The search for a substitution.
+
+ghost use Rattle.std.specs.Prelude.{IsTrue};
+ghost use Rattle.it_question.specs.Limits.{IsQuestion};
+ghost use Rattle.it_question.specs.Questions.{question_body, verb_view};
+ghost use Rattle.it_region.specs.Pairs.{IsPair, IsContainment};
+
+use crate::Task;
+use indexmap::IndexSet;
+use it_contain::{
+    Candidate, Pair, Proposer, SearchEnd, Shape, Singles, Subsets, contain, fits, obligations, pair,
+};
+use it_prove::{Proof, prove};
+use it_question::types::{Question, Verb};
+use it_simplex::Budget;
+use std::alloc::{AllocError, Global};
+use std::io;
+
+/// How often the solver was called, and with which rows.
+#[derive(Drop)]
+struct Calls {
+    count: u32,
+    rows: IndexSet<Vec<(u32, i128)>>,
+}
+
+/// Whether the verb is `contain`.
+fn is_containment(verb: &Verb) -> bool
+    ensures { IsTrue result → IsContainment (verb_view verb.now) }
+{
+    match verb {
+        Verb::Prove(_) => false,
+        Verb::Eliminate { .. } => false,
+        Verb::Contain { .. } => true,
+    }
+}
+
+/// Whether a candidate is proved, each obligation by a run of its own.
+fn is_proved(
+    alloc: Global,
+    pair: &Pair,
+    candidate: &Candidate,
+    calls: &mut Calls,
+) -> Result<bool, AllocError>
+    requires { IsPair pair.now }
+{
+    if !fits(pair, candidate) {
+        return Ok(false);
+    }
+    let rows = obligations(alloc, pair, candidate)?;
+    for row in rows.as_slice() {
+        calls.count = calls.count.wrapping_add(1);
+        let terms = row.terms().iter().copied().collect(alloc)?;
+        calls.rows.insert(terms)?;
+        match prove(alloc, &pair.first, row, Budget::none())? {
+            Proof::Yes(_) => {}
+            Proof::No(_) => return Ok(false),
+            Proof::Undecided(_) => return Ok(false),
+        }
+    }
+    Ok(true)
+}
+
+/// How many candidates of a box are tried until one is proved, and whether one is.
+fn search_box(
+    alloc: Global,
+    pair: &Pair,
+    proposer: &mut Box<dyn Proposer>,
+    tries: u32,
+    calls: &mut Calls,
+) -> Result<(u32, bool), AllocError>
+    requires { IsPair pair.now }
+{
+    let shape = Shape {
+        variables: pair.first.space.variables,
+        parts: pair.parts,
+    };
+    proposer.begin(shape);
+    for tried in 0..tries {
+        let Some(candidate) = proposer.next() else {
+            return Ok((tried, false));
+        };
+        if is_proved(alloc, pair, &candidate, calls)? {
+            return Ok((tried, true));
+        }
+    }
+    Ok((tries, false))
+}
+
+/// The search that keeps no outcome of an obligation: how many candidates are tried until one is proved, and whether one is.
+fn search_plainly(
+    alloc: Global,
+    pair: &Pair,
+    boxes: &mut Vec<Box<dyn Proposer>>,
+    tries: u32,
+    calls: &mut Calls,
+) -> Result<(u32, bool), AllocError>
+    requires { IsPair pair.now }
+{
+    let mut count: u32 = 0;
+    for i in 0..boxes.len() {
+        let rest = tries.saturating_sub(count);
+        let (tried, is_found) = search_box(alloc, pair, &mut boxes[i], rest, calls)?;
+        count = count.saturating_add(tried);
+        if is_found {
+            return Ok((count, true));
+        }
+    }
+    Ok((count, false))
+}
+
+/// All sets of at most one variable, and then all sets.
+fn boxes(alloc: Global) -> Result<Vec<Box<dyn Proposer>>, AllocError> {
+    let mut boxes: Vec<Box<dyn Proposer>> = Vec::new(alloc);
+    boxes.push(Box::new(alloc, Singles::new())?)?;
+    boxes.push(Box::new(alloc, Subsets::new())?)?;
+    Ok(boxes)
+}
+
+/// Makes one search, and prints how it ends.
+fn search(
+    rt: HostRuntime,
+    pair: &Pair,
+    boxes: &mut Vec<Box<dyn Proposer>>,
+    task: &Task<'_>,
+) -> io::Result<()>
+    requires { IsPair pair.now }
+{
+    let alloc = rt.alloc();
+    if task.way == "kept" {
+        return match contain(alloc, pair, &[], boxes, task.limit, Budget::none())? {
+            SearchEnd::Found(_, proofs) => println!(rt; "found {} proofs", proofs.len()),
+            SearchEnd::Open { tried } => println!(rt; "open {tried}"),
+        };
+    }
+    let mut calls = Calls {
+        count: 0,
+        rows: IndexSet::new(alloc),
+    };
+    let (tried, is_found) = search_plainly(alloc, pair, boxes, task.limit, &mut calls)?;
+    let end = if is_found { "found" } else { "open" };
+    println!(rt;
+        "{end} {tried} calls {} rows {}",
+        calls.count,
+        calls.rows.len()
+    )
+}
+
+/// Makes the searches of a question, and prints how each ends.
+pub fn time(rt: HostRuntime, question: &Question, task: &Task<'_>) -> io::Result<()>
+    requires { IsQuestion (question_body question.now) }
+{
+    let alloc = rt.alloc();
+    if !is_containment(&question.verb) {
+        return println!(rt; "no containment");
+    }
+    let pair = pair(alloc, question)?;
+    let mut boxes = boxes(alloc)?;
+    for _ in 0..task.turns {
+        search(rt, &pair, &mut boxes, task)?;
+    }
+    Ok(())
+}

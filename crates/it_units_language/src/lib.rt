@@ -1,0 +1,19 @@
+//! Tests of the libraries of words and bytes, of the language, and of containment, printing and drawn questions.
+#![tactic(auto)]
+
+#[cfg(test)]
+mod draws;
+#[cfg(test)]
+mod fixtures;
+#[cfg(test)]
+mod lines;
+#[cfg(test)]
+mod outside;
+#[cfg(test)]
+mod rows;
+#[cfg(test)]
+mod searches;
+#[cfg(test)]
+mod texts;
+#[cfg(test)]
+mod words;
