@@ -99,6 +99,18 @@ fn a_failed_read_writes_nothing(rt: HostRuntime) -> Result<(), Fail> {
 }
 
 #[test]
+fn a_read_that_would_fail_after_the_end_changes_nothing(rt: HostRuntime) -> Result<(), Fail> {
+    let alloc = rt.alloc();
+    // The first 29 calls tell the input and its end, so the thirtieth isn't made.
+    let mut source = source(alloc, MUTUAL, 1, &[30])?;
+    let mut sink = sink(alloc, WHOLE, &[])?;
+    let status = call(alloc, &["answer"], &mut source, &mut sink)?;
+    assert_eq!(rt; status, Status::Done);
+    assert_eq!(rt; sink.bytes(), b"1 yes 1 : 1 I(X;Y)\n".as_slice());
+    Ok(())
+}
+
+#[test]
 fn a_failed_write_leaves_a_front(rt: HostRuntime) -> Result<(), Fail> {
     let alloc = rt.alloc();
     let answer: &[&str] = &["answer"];

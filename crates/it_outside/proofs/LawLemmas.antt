@@ -1,7 +1,6 @@
 -- The laws of a source that tells its bytes, and of a count that stays.
-use Rattle.std.proofs.Common.{ap, sym, ◌∙◌, inl, inr, Some, None, ◌++◌, append-nil, length, length-append, arith}
-use Rattle.it_outside.specs.Causes.{Rose}
-use Rattle.it_outside.specs.Laws.{EndComesLast, MoreWasThere, StayedIsNoRise}
+use Rattle.std.proofs.Common.{ap, sym, ◌∙◌, Some, None, ◌++◌, append-nil, length, length-append, arith}
+use Rattle.it_outside.specs.Laws.{EndComesLast, MoreWasThere, StayedIsNoFault}
 
 pub end_comes_last : EndComesLast
 end_comes_last bytes given None gave = absurd gave.given
@@ -11,7 +10,5 @@ pub more_was_there : MoreWasThere
 more_was_there bytes None limit gave = absurd gave.given
 more_was_there bytes (Some left) limit gave = let e = simp length-append at (ap length gave.given) in omega (arith, e, gave.more)
 
-pub stayed_is_no_rise : StayedIsNoRise
-unfolding Rose
-stayed_is_no_rise count few (inl more) = omega (arith, more)
-stayed_is_no_rise count few (inr last) = omega (arith, few, last)
+pub stayed_is_no_fault : StayedIsNoFault
+stayed_is_no_fault count few stayed = omega (arith, few, stayed)

@@ -1,17 +1,12 @@
 -- Adapters over readers and writers, as contracts see them, and what they answer to an outcome of the calls below them.
-use Rattle.std.specs.Prelude.{ℕ, Bool, ◌≡◌, ◌||◌, List, take, is_ok, nat_lt, ⊤, Option, Result, Ok, Err, if◌then◌else◌}
+use Rattle.std.specs.Prelude.{ℕ, Bool, ◌≡◌, ◌||◌, List, take, nat_lt, ⊤, Option, Result, Ok, Err, if◌then◌else◌}
 use Rattle.std.specs.Io.KnownBytes.{Appends}
-use Rattle.it_outside.specs.Causes.{next_count}
 use Rattle.it_outside.specs.declared.ends.Failed.{Failed}
 
 -- what an adapter stands over, and how many of its calls failed
 pub record Adapter (T : Type 0) : Type 0 where
   pub inner : T
   pub faults : ℕ
-
--- the count of faults after a call with this result
-abbrev pub faults_after : {T E : Type 0} → ℕ → Result T E → ℕ
-faults_after faults result = if is_ok result then faults else next_count faults
 
 -- a writer took the first n bytes of a piece at `Ok(n)`, and some front of it at `Err`
 abbrev pub PassesOn : {E : Type 0} → Option (List ℕ) → Option (List ℕ) → Result ℕ E → List ℕ → Type 0

@@ -1,4 +1,4 @@
-//! Where bytes come from and go to: sources and sinks, each with a count of faults that never falls.
+//! Where bytes come from and go to: sources and sinks, each with a count of its calls that failed.
 #![tactic(auto)]
 
 mod ends;

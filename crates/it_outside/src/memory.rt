@@ -2,7 +2,7 @@
 ghost use Rattle.std.specs.Prelude.{◌≡◌, ◌<◌, ◌≤◌, ◌++◌, ◌↔◌, length, max, take, drop, Some, IsErr, IsOk, IsTrue, IfOk, OnOk, OnErr};
 ghost use Rattle.std.specs.Io.{ReadsAtMost, WritesAtMost};
 ghost use Rattle.std.specs.Io.KnownBytes.{ReadConsumes};
-ghost use Rattle.it_outside.specs.Causes.{HasCause};
+ghost use Rattle.it_outside.specs.Causes.{faults_after};
 ghost use Rattle.it_outside.specs.Memory.{ReadFails, WriteFails, after_read, after_write, new_sink, new_source, read_count, write_count};
 ghost use Rattle.it_outside.specs.Traffic.{WriteGains};
 
@@ -70,11 +70,10 @@ impl Source for MemorySource {
 
     ghost faults = { λ s. s.faults };
 
-    #[tactic(auto, unfolding(crate::specs::Causes::Rose))]
     fn read(&mut self, buf: &mut [u8]) -> Result<usize, Failed>
         ensures bound { ReadsAtMost result buf.new }
         ensures bytes { ReadConsumes (Some self.old.left) (Some self.new.left) result buf.new }
-        ensures cause { HasCause self.old.faults self.new.faults result }
+        ensures counted { self.new.faults ≡ faults_after self.old.faults result }
 
         // Exactly what is given, and exactly when the call fails.
         ensures fails { IsErr result ↔ ReadFails self.old }
@@ -175,12 +174,11 @@ impl Sink for MemorySink {
 
     ghost faults = { λ s. s.faults };
 
-    #[tactic(auto, unfolding(crate::specs::Causes::Rose))]
     fn write(&mut self, piece: &[u8]) -> Result<usize, Failed>
         ensures bound { WritesAtMost result piece.now }
         ensures moves { IfOk result (λ count. 0 < length piece.now → 0 < count) }
         ensures bytes { WriteGains (Some self.old.bytes) (Some self.new.bytes) result piece.now }
-        ensures cause { HasCause self.old.faults self.new.faults result }
+        ensures counted { self.new.faults ≡ faults_after self.old.faults result }
 
         // Exactly what is taken, and exactly when the call fails.
         ensures fails { IsErr result ↔ WriteFails self.old piece.now }

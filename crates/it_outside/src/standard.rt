@@ -2,8 +2,8 @@
 ghost use Rattle.std.specs.Prelude.{◌≡◌, ◌<◌, length, nat_eq, None, IfOk};
 ghost use Rattle.std.specs.Io.{ReadsAtMost, WritesAtMost};
 ghost use Rattle.std.specs.Io.KnownBytes.{ReadConsumes};
-ghost use Rattle.it_outside.specs.Causes.{HasCause};
-ghost use Rattle.it_outside.specs.Standard.{PassesOn, ReadsOnce, WritesAndFlushes, faults_after, read_answer, write_answer};
+ghost use Rattle.it_outside.specs.Causes.{faults_after};
+ghost use Rattle.it_outside.specs.Standard.{PassesOn, ReadsOnce, WritesAndFlushes, read_answer, write_answer};
 ghost use Rattle.it_outside.specs.Traffic.{WriteGains};
 
 use crate::ends::{Failed, Sink, Source};
@@ -57,11 +57,9 @@ impl<R: Reader + Drop> Source for StdSource<R> {
 
     ghost faults = { λ s. s.faults };
 
-    #[tactic(auto, unfolding(crate::specs::Causes::Rose))]
     fn read(&mut self, buf: &mut [u8]) -> Result<usize, Failed>
         ensures bound { ReadsAtMost result buf.new }
         ensures bytes { ReadConsumes None None result buf.new }
-        ensures cause { HasCause self.old.faults self.new.faults result }
 
         // The reader was called once. What is given is what it gave, and the read fails exactly where it failed.
         ensures once { ReadsOnce R.Reads self.old.inner result buf.new self.new.inner }
@@ -119,12 +117,10 @@ impl<W: Writer + Drop> Sink for StdSink<W> {
 
     ghost faults = { λ s. s.faults };
 
-    #[tactic(auto, unfolding(crate::specs::Causes::Rose))]
     fn write(&mut self, piece: &[u8]) -> Result<usize, Failed>
         ensures bound { WritesAtMost result piece.now }
         ensures moves { IfOk result (λ count. 0 < length piece.now → 0 < count) }
         ensures bytes { WriteGains None None result piece.now }
-        ensures cause { HasCause self.old.faults self.new.faults result }
 
         // The writer was called once and then flushed, and the write fails exactly where one of them failed or nothing was
         // taken of a piece that has a byte. The writer may have taken a front of the piece in a write that fails.

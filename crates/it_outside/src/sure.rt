@@ -2,7 +2,7 @@
 ghost use Rattle.std.specs.Prelude.{◌≡◌, ◌<◌, ◌≤◌, ◌++◌, [], length, min, take, drop, Some, Ok, IfOk, vec_capacity};
 ghost use Rattle.std.specs.Io.{ReadsAtMost, WritesAtMost};
 ghost use Rattle.std.specs.Io.KnownBytes.{ReadConsumes};
-ghost use Rattle.it_outside.specs.Causes.{HasCause};
+ghost use Rattle.it_outside.specs.Causes.{faults_after};
 ghost use Rattle.it_outside.specs.Sure.{new_sure_sink, bytes_told, after_sure_write};
 ghost use Rattle.it_outside.specs.Traffic.{WriteGains};
 
@@ -41,11 +41,10 @@ impl Source for SureSource {
 
     ghost faults = { λ s. 0 };
 
-    #[tactic(auto, unfolding(crate::specs::Causes::Rose))]
     fn read(&mut self, buf: &mut [u8]) -> Result<usize, Failed>
         ensures bound { ReadsAtMost result buf.new }
         ensures bytes { ReadConsumes (Some self.old) (Some self.new) result buf.new }
-        ensures cause { HasCause 0 0 result }
+        ensures counted { 0 ≡ faults_after 0 result }
 
         // Exactly what is given: as much as there is, and as fits the buffer.
         ensures gives { result ≡ Ok (min (length buf.old) (length self.old)) }
@@ -114,12 +113,11 @@ impl Sink for SureSink {
 
     ghost faults = { λ s. 0 };
 
-    #[tactic(auto, unfolding(crate::specs::Causes::Rose))]
     fn write(&mut self, piece: &[u8]) -> Result<usize, Failed>
         ensures bound { WritesAtMost result piece.now }
         ensures moves { IfOk result (λ count. 0 < length piece.now → 0 < count) }
         ensures bytes { WriteGains (bytes_told self.old) (bytes_told self.new) result piece.now }
-        ensures cause { HasCause 0 0 result }
+        ensures counted { 0 ≡ faults_after 0 result }
 
         // Exactly what is taken: everything.
         ensures takes { result ≡ Ok (length piece.now) }

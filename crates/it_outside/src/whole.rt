@@ -1,6 +1,6 @@
 //! Reading a source to its end, and writing a piece whole.
-ghost use Rattle.std.specs.Prelude.{◌≢◌, ◌≤◌, length, IfOk, IfErr, OnOk, OnErr, IsErrOf};
-ghost use Rattle.it_outside.specs.Causes.{Rose};
+ghost use Rattle.std.specs.Prelude.{◌≡◌, ◌≢◌, ◌≤◌, length, IfOk, IfErr, OnOk, OnErr, IsErrOf};
+ghost use Rattle.it_outside.specs.Causes.{faults_after, next_count};
 ghost use Rattle.it_outside.specs.Traffic.{Gains, Gave, GaveAtMost, GaveMore, TookFront};
 
 use crate::ends::{Sink, Source};
@@ -28,17 +28,18 @@ pub enum OutFault {
 const CHUNK: usize = 4096;
 
 /// All that the source gives up to its end, of at most `limit` bytes.
-#[tactic(auto, unfolding(crate::specs::Causes::Rose))]
 pub fn read_all<S: Source>(alloc: Global, source: &mut S, limit: usize) -> Result<Vec<u8>, InFault>
     ensures whole { IfOk result (λ bytes. Gave (S.left source.old) (S.left source.new) bytes.items) }
     ensures fits { IfOk result (λ bytes. length bytes.items ≤ limit) }
     ensures long { IsErrOf result InFault.TooLong → GaveMore (S.left source.old) (S.left source.new) limit }
-    ensures read { IsErrOf result InFault.ReadFault → Rose (S.faults source.old) (S.faults source.new) }
+
+    // One read failed where that is the answer, and else none did.
+    ensures read { IsErrOf result InFault.ReadFault → S.faults source.new ≡ next_count (S.faults source.old) }
+    ensures stayed { (IsErrOf result InFault.ReadFault → ⊥) → S.faults source.new ≡ S.faults source.old }
 
     // What was given before a failed read or a want of memory is lost.
     ensures lost { IfErr result (λ fault. fault ≢ InFault.TooLong →
         GaveAtMost (S.left source.old) (S.left source.new) limit) }
-    ensures later { S.faults source.old ≤ S.faults source.new }
 {
     let mut bytes = Vec::new(alloc);
     let mut chunk = [0; CHUNK];
@@ -59,12 +60,13 @@ pub fn read_all<S: Source>(alloc: Global, source: &mut S, limit: usize) -> Resul
 }
 
 /// Writes the whole piece, and takes no memory of its own.
-#[tactic(auto, unfolding(crate::specs::Causes::Rose))]
+#[tactic(auto, using(crate::proofs::Moved::took_front))]
 pub fn write_all<K: Sink>(sink: &mut K, piece: &[u8]) -> Result<(), OutFault>
     ensures whole { OnOk result (Gains (K.taken sink.old) (K.taken sink.new) piece.now) }
     ensures part { OnErr result (TookFront (K.taken sink.old) (K.taken sink.new) piece.now) }
-    ensures write { OnErr result (Rose (K.faults sink.old) (K.faults sink.new)) }
-    ensures later { K.faults sink.old ≤ K.faults sink.new }
+
+    // One write failed where this does, and else none did.
+    ensures counted { K.faults sink.new ≡ faults_after (K.faults sink.old) result }
 {
     let mut at = 0;
     while at < piece.len() {

@@ -5,7 +5,7 @@ use Rattle.clap.specs.declared.error.kind.ErrorKind.TheVariants as kinds
 use Rattle.it_settings.specs.declared.types.WordsFault.{WordsFault}
 use Rattle.it_settings.specs.declared.types.WordsFault.TheVariants.{Usage, Memory}
 
--- every error but want of memory says that there is no reading
+-- an error that is want of memory is one of memory, and every other says that there is no reading
 abbrev pub IsFaultOf : ErrorKind → WordsFault → Type 0
 IsFaultOf kind Usage = kind ≡ kinds.OutOfMemory → ⊥
-IsFaultOf kind Memory = Unit {0}
+IsFaultOf kind Memory = kind ≡ kinds.OutOfMemory

@@ -193,3 +193,34 @@ fn a_sure_sink_keeps_what_a_sure_source_gives(rt: HostRuntime) -> Result<(), Fai
     }
     Ok(())
 }
+
+/// A writer that takes everything, and whose reader is gone, which only the flush finds.
+#[derive(Drop)]
+struct BrokenPipe;
+
+impl Write for BrokenPipe {
+    fn write(&mut self, buf: &[u8]) -> io::Result<usize> {
+        Ok(buf.len())
+    }
+
+    fn flush(&mut self) -> io::Result<()> {
+        Err(ErrorKind::BrokenPipe.into())
+    }
+}
+
+#[test]
+fn a_sink_fails_where_the_flush_finds_a_broken_pipe(rt: HostRuntime) {
+    let mut sink = StdSink::new(BrokenPipe);
+    assert_eq!(rt; write_all(&mut sink, LINE), Err(OutFault::WriteFault));
+}
+
+#[test]
+fn a_read_that_would_fail_after_the_end_changes_nothing(rt: HostRuntime) -> Result<(), Fail> {
+    let alloc = rt.alloc();
+    // Three reads give a byte each and the fourth tells the end, so the fifth isn't made.
+    let failing = Vec::from_slice(alloc, &[5])?;
+    let mut source = MemorySource::new(Vec::from_slice(alloc, b"abc")?, 1, failing);
+    let all = read_all(alloc, &mut source, 3)?;
+    assert_eq!(rt; all.as_slice(), b"abc".as_slice());
+    Ok(())
+}
