@@ -1,5 +1,5 @@
 -- Rows of linear forms, and the forms of relations.
-use Rattle.std.specs.Prelude.{◌≡◌, ℕ, ◌+◌, ℤ, pos, neg_ℤ, unsigned_abs, [], ◌∷◌}
+use Rattle.std.specs.Prelude.{◌≡◌, ℕ, ℤ, pos, neg_ℤ}
 use Rattle.it_space.specs.declared.spaces.Space.{Space}
 use Rattle.it_space.specs.Bounds.{IsSmall}
 use Rattle.it_space.specs.Rows.{Terms, IsCanonical, IsUpTo, value}
