@@ -6,8 +6,7 @@ use Rattle.serde_json.specs.Read.{read}
 use Rattle.it_space.specs.Answers.{AnswerView, answer_view}
 use Rattle.it_space.specs.Spaces.{size_of}
 use Rattle.it_syntax.specs.NamesViews.{NamesView}
-use Rattle.it_syntax.specs.declared.types.Sign.{Sign}
-use Rattle.it_question.specs.Questions.{QuestionView, RegionView, VerbView, Prove, Eliminate, Contain, question_view}
+use Rattle.it_question.specs.Questions.{QuestionView, VerbView, Prove, Eliminate, Contain, question_view}
 use Rattle.it_question.specs.Files.{IsFile}
 use Rattle.it_demand.specs.LineDemands.{space_of}
 use Rattle.it_certificate.specs.declared.keys.Key.{Key}
