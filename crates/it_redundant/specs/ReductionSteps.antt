@@ -11,7 +11,7 @@ abbrev pub AreRowsUpTo : ℕ → List Terms → Type 0
 AreRowsUpTo size rows = All (IsUpTo size) rows
 
 -- a row was visited between the rows that stay so far and those after it
-pub record IsVisited (givens : ProblemView) (budget : Option ℕ) (row : Terms) (after : List Terms) (old new : Reduction) : Type 0 where
+pub record IsVisited (givens : ProblemView) (budget : Option ℕ) (row : Terms) (after : List Terms) (old new : Reduced) : Type 0 where
   pub outcome : ProofView
   pub ends : EndsWith (with_rows givens (kept_rows (kept_view old) ++ after)) row budget outcome
   pub kept : kept_view new ≡ kept_view old ++ kept_by row outcome
