@@ -2,7 +2,7 @@
 use Rattle.std.proofs.Common.{◌≡◌, List, [], ◌∷◌, ◌++◌, map, refl, ap, sym, ◌∙◌, append_assoc}
 use Rattle.std.proofs.Math.Path.{fun_ext}
 use Rattle.it_region.specs.declared.types.Candidate.{Candidate}
-use Rattle.it_contain.specs.Proposals.{Plan, plan_after, plan_after_all}
+use Rattle.it_contain.specs.Proposals.{Plan, plan_after_all}
 
 -- before any is proved nothing has changed
 pub after_none : (plans : List Plan) → map (plan_after_all []) plans ≡ plans

@@ -1,10 +1,8 @@
 -- Proofs of obligations: of one target, of all, and of a candidate.
-use Rattle.std.proofs.Common.{◌≡◌, ℕ, zero, suc, ◌+◌, ◌<◌, ◌≤◌, ℤ, List, [], ◌∷◌, ◌++◌, length, map, drop, get_or, refl, sym, ap, subst, ◌∙◌, arith, Option, Some, None, append-nil, append_assoc}
+use Rattle.std.proofs.Common.{◌≡◌, ℕ, zero, suc, ◌<◌, ◌≤◌, ℤ, List, [], ◌∷◌, ◌++◌, length, drop, get_or, sym, ap, subst, ◌∙◌, arith, Option, Some, None, append-nil}
 use Rattle.std.proofs.lemmas.List.{drop_all}
-use Rattle.it_space.proofs.ListLemmas.{drop_item}
 use Rattle.it_space.specs.declared.answers.Cause.{Cause}
-use Rattle.it_space.specs.declared.answers.Certificate.{Certificate}
-use Rattle.it_space.specs.Answers.{CertificateView, certificate_view}
+use Rattle.it_space.specs.Answers.{CertificateView}
 use Rattle.it_space.specs.Problems.{ProblemView, problem_view}
 use Rattle.it_space.specs.Rows.{Terms}
 use Rattle.it_prove.specs.declared.types.Proof.{Proof}
@@ -15,7 +13,7 @@ use Rattle.it_region.specs.declared.types.Candidate.{Candidate}
 use Rattle.it_region.specs.Obligations.{ArePulledRows}
 use Rattle.it_region.specs.Pairs.{FitsPair, pair_obligations}
 use Rattle.it_region.proofs.TextLemmas.{pulled_rows_told}
-use Rattle.it_contain.specs.Search.{Goal, IsProof, IsProved, Proofs, proof_views}
+use Rattle.it_contain.specs.Search.{Goal, IsProof, IsProved, Proofs}
 use Rattle.it_contain.specs.SearchSteps.{ProvesOne, ProvesAll, Judges}
 
 -- ---- one target

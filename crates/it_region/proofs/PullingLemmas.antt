@@ -1,5 +1,5 @@
 -- Common variables stand for themselves, and pulled coordinates.
-use Rattle.std.proofs.Common.{◌≡◌, ◌≢◌, ℕ, suc, zero, ◌+◌, ◌^◌, ◌<◌, ◌≤◌, List, [], ◌∷◌, ◌++◌, refl, ap, ap₂, sym, subst, ◌∙◌, arith, Bool, true, false, cond, ◌⊎◌, inl, inr, max, bit_or, nat_lt, eqb, lit<, ◌-◌, ◌*◌, ◌%◌, All, length, length-append, append_assoc, append-nil}
+use Rattle.std.proofs.Common.{◌≡◌, ◌≢◌, ℕ, suc, zero, ◌+◌, ◌^◌, ◌<◌, ◌≤◌, List, [], ◌∷◌, ◌++◌, refl, ap, ap₂, sym, subst, ◌∙◌, arith, Bool, true, false, cond, ◌⊎◌, inl, inr, max, bit_or, nat_lt, eqb, lit<, ◌-◌, All, length, length-append, append_assoc, append-nil}
 use Rattle.std.specs.Int.{bit_at}
 use Rattle.std.proofs.Math.Nat.{eq-or-lt_of_le, pow-le-pow_right}
 use Rattle.std.proofs.lemmas.Bool.{cases_lt, eqb-true, le-ltb, lt-ltb}
@@ -10,8 +10,6 @@ use Rattle.it_space.specs.declared.spaces.Space.{Space}
 use Rattle.it_space.specs.Spaces.{size_of}
 use Rattle.it_polymatroid.proofs.Images.{union_below}
 use Rattle.std.proofs.lemmas.Nat.{pow_pos, pow_below}
-use Rattle.std.proofs.Math.Pow.{pow_mono}
-use native.Mathlib.Nat.{mod-eq_of_lt}
 use Rattle.it_region.specs.Pulling.{singles, substituted_sets, pulled_coordinate}
 
 below_next_power : (i s : ℕ) → s < 2 ^ i → s < 2 ^ (i + 1)
