@@ -39,11 +39,16 @@ def closure(found, a):
             return a
 
 
-def table_size(variables, rates, constraints):
-    """Rows times columns of the first table. A row for each closed set but the closure of the empty set, and for each rate; a column for
+def table_shape(variables, rates, constraints):
+    """Rows and columns of the first table. A row for each closed set but the closure of the empty set, and for each rate; a column for
     each elemental inequality, for each inequality of the constraints, two for each equation, and an artificial one for each row."""
     found = dependences(constraints)
     closed = {closure(found, a) for a in range(2**variables)}
     rows = len(closed) - 1 + rates
     elementals = variables + comb(variables, 2) * 2**variables // 4
-    return rows * (elementals + sum(2 if g.equation else 1 for g in constraints) + rows)
+    return rows, elementals + sum(2 if g.equation else 1 for g in constraints) + rows
+
+
+def table_size(variables, rates, constraints):
+    rows, columns = table_shape(variables, rates, constraints)
+    return rows * columns
