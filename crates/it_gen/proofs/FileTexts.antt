@@ -1,5 +1,5 @@
 -- The file of drawn questions is read as these questions.
-use Rattle.std.proofs.Common.{◌≡◌, ℕ, zero, suc, ◌+◌, ◌-◌, ◌≤◌, true, List, [], ◌∷◌, ◌++◌, length, Option, None, codes, refl, sym, ap, ◌∙◌, subst, inr, append_assoc, append-nil, arith, lit≤}
+use Rattle.std.proofs.Common.{◌≡◌, ℕ, zero, suc, ◌+◌, ◌-◌, ◌≤◌, true, List, [], ◌∷◌, ◌++◌, length, Option, None, codes, refl, sym, ap, ◌∙◌, subst, inr, append_assoc, append-nil, arith}
 use Rattle.std.proofs.lemmas.List.Elements.{All-nil, All-cons}
 use Rattle.std.specs.Prelude.{All}
 use Rattle.it_syntax.specs.declared.types.Sign.TheVariants.{AtLeast}
