@@ -60,8 +60,10 @@ class Answers:
         return lines
 
 
-def bench_line(seed, count, answers):
+def bench_line(words):
     """The line of mode `bench`."""
+    chosen, answers = {"--seed": "1", "--count": "100"} | options(words), Answers(words)
+    seed, count = int(chosen["--seed"]), int(chosen["--count"])
     ends = [answers.answer(question)[0] for question in read(generated_file(seed, count))]
     undecided = sum(end not in ("yes", "no") for end in ends)
     counts = f"yes {ends.count('yes')} no {ends.count('no')} undecided {undecided} region 0 contained 0 open 0"
@@ -76,7 +78,9 @@ def verdict_lines(report):
 
 
 def outcome(words, source):
-    """The text and the status that are due where the words ask for mode `answer` or `check`, and the source is bytes."""
+    """The text and the status that are due, where the words have a reading and the source is bytes."""
+    if "bench" in words:
+        return bench_line(words) + "\n", 0
     if "check" in words:
         lines = verdict_lines(source)
         return "".join(line + "\n" for line in lines), int(any(" invalid " in line for line in lines))

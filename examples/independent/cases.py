@@ -17,14 +17,14 @@ SHARES = {"valid": 17, "broken": 18, "limits": 5, "wide": 4, "large": 1, "report
 KINDS = [kind for kind, share in SHARES.items() for _ in range(share)]
 
 BUDGETS = ["--pivots", "60", "--rows", "40", "--tries", "8"]
+FEW = ["--pivots", "150", "--rows", "12", "--tries", "2"]
 WORDS = {
     "valid": [["answer"], ["answer", *BUDGETS], ["answer", "--format", "json", *BUDGETS], ["answer", "--format", "proof", *BUDGETS],
               ["answer", "--pivots", "3", "--rows", "4", "--tries", "3"], ["answer", "--pivots", "none", "--tries", "4"]],
     "broken": [["answer", *BUDGETS]],
     "limits": [["answer", *BUDGETS]],
     "wide": [["answer", *BUDGETS], ["answer", "--format", "json", *BUDGETS], ["answer", "--format", "proof", *BUDGETS]],
-    "large": [["answer", "--pivots", "25", "--rows", "12", "--tries", "2"],
-              ["answer", "--format", "json", "--pivots", "25", "--rows", "12", "--tries", "2"]],
+    "large": [["answer", *FEW], ["answer", "--format", "json", *FEW], ["answer", "--format", "proof", *FEW]],
     "reports": [["check"]],
 }
 TOKENS = re.compile(r"[A-Za-z0-9_]+|->|>=|<=|:=|\s|.", re.DOTALL)
@@ -244,7 +244,9 @@ class Case:
         lines += [f"row {self.generator.relation(rates)}" for _ in rates]
         if verb == "eliminate" and rates:
             return "\n".join(lines + ["eliminate " + ", ".join(rates)]) + "\n"
-        return "\n".join(lines + ["prove " + self.random.choice(["0 >= 0", self.generator.relation(rates), self.generator.relation(rates)])]) + "\n"
+        atom = self.generator.coefficient() + self.generator.atom([])
+        targets = ["0 >= 0", f"{atom} >= 0", f"H({names[0]},{names[1]}) <= H({names[0]}) + {atom}", self.generator.relation(rates)]
+        return "\n".join(lines + ["prove " + self.random.choice(targets)]) + "\n"
 
     # Reports
 
