@@ -8,10 +8,10 @@ use Rattle.it_space.specs.Rows.{Terms, value}
 use Rattle.it_polymatroid.specs.Certificates.{Form}
 use Rattle.it_polymatroid.specs.Polymatroid.{IsPolymatroid}
 use Rattle.it_question.specs.Limits.{IsQuestion}
-use Rattle.it_question.specs.Questions.{OwnLinesView, RegionView, VerbView, BodyView, Contain}
-use Rattle.it_demand.specs.LineDemands.{AreAtLeastZero, space_of}
-use Rattle.it_question.specs.Tables.{problem_names, problem_names_by, problem_lines, problem_lines_by}
+use Rattle.it_question.specs.Questions.{OwnLinesView, RegionView, BodyView, Contain}
 use Rattle.it_canon.specs.QuestionDemands.{AreTrueAt}
+use Rattle.it_demand.specs.LineDemands.{space_of, AreAtLeastZero}
+use Rattle.it_question.specs.Tables.{problem_names, problem_names_by, problem_lines, problem_lines_by}
 use Rattle.it_canon.proofs.ProblemLemmas.{question_met}
 use Rattle.it_check.proofs.Truth.{yes_is_true}
 use Rattle.it_prove.specs.ProofViews.{Yes, AreProofsOf}

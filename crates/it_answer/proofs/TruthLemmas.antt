@@ -6,15 +6,15 @@ use Rattle.std.proofs.lemmas.List.Elements.{All-nil, All-cons, All-head, All-tai
 use Rattle.it_number.proofs.SignLemmas.{least_by_multiple}
 use Rattle.it_space.specs.declared.problems.Kind.TheVariants.{Inequality}
 use Rattle.it_space.specs.Answers.{AnswerView, CertificateView}
-use Rattle.it_space.specs.Answers.AnswerView.{Yes, No, Region, Contained}
+use Rattle.it_space.specs.Answers.AnswerView.{Yes, No, Contained}
 use Rattle.it_space.specs.Rows.{map_of}
 use Rattle.it_space.proofs.EveryLemmas.{every_of, every-append, every-map}
 use Rattle.it_polymatroid.specs.Certificates.{Form, Generators, IsAllowed}
 use Rattle.it_polymatroid.specs.Elementals.{elementals, elemental_value}
 use Rattle.it_polymatroid.proofs.Certified.{weighted_least}
 use Rattle.it_polymatroid.proofs.Generate.{elementals_generate}
-use Rattle.it_syntax.specs.Meaning.{Holds, RelationView, multiple_of, side_at}
-use Rattle.it_question.specs.Questions.{BodyView, RegionView, VerbView, Prove, Eliminate, Contain}
+use Rattle.it_syntax.specs.Meaning.{multiple_of, side_at}
+use Rattle.it_question.specs.Questions.{BodyView, VerbView, Prove, Eliminate, Contain}
 use Rattle.it_demand.specs.Canonical.{form_of}
 use Rattle.it_demand.specs.Demands.{Demand, LineDemand}
 use Rattle.it_demand.specs.Targets.{targets}
@@ -25,7 +25,7 @@ use Rattle.it_demand.proofs.MetLemmas.{IsSatisfied, givens_satisfied, rows_satis
 use Rattle.it_elemental.specs.Generators.{is_equation}
 use Rattle.it_elemental.proofs.GeneratorLemmas.{every_or}
 use Rattle.it_check.proofs.Truth.{at_least, is_zero}
-use Rattle.it_answer.specs.Forms.{Certifies, CertifiesForm, CertifyAll, all_demands, demand_at, demand_of_elemental, demand_of_line, MayStand}
+use Rattle.it_answer.specs.Forms.{CertifiesForm, CertifyAll, all_demands, demand_at, demand_of_elemental, demand_of_line, MayStand}
 use Rattle.it_answer.proofs.FormLemmas.{inequality_unless_equation}
 use Rattle.it_answer.specs.Shows.{AContainmentIsTrue, ANoIsTrue, AYesIsTrue, NeverYesAndNo, Shows, ShowsBy, ViolatesFirst}
 

@@ -1,6 +1,6 @@
 -- What an answer shows, by the meaning of the question's text alone, and what that means: nothing here speaks of a run, of an order
 -- of elimination or of a search.
-use Rattle.std.specs.Prelude.{◌≡◌, ◌↔◌, ℕ, ◌+◌, ◌≤◌, ◌^◌, ℤ, neg_ℤ, pos, ◌≤ℤ◌, ◌*ℤ◌, List, [], ◌∷◌, ◌++◌, length, map, Bool, true, false, All}
+use Rattle.std.specs.Prelude.{◌≡◌, ◌↔◌, ℕ, ◌+◌, ◌≤◌, ◌^◌, ℤ, neg_ℤ, pos, ◌≤ℤ◌, ◌*ℤ◌, List, ◌∷◌, ◌++◌, length, map, Bool, true, false, All}
 use Rattle.it_space.specs.declared.answers.Mark.{Mark}
 use Rattle.it_space.specs.declared.answers.Mark.TheVariants as marks
 use Rattle.it_space.specs.Answers.{AnswerView, CertificateView}

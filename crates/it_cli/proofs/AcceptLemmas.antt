@@ -15,7 +15,7 @@ use Rattle.it_space.specs.Answers.AnswerView.{Yes, No, Undecided, Region, Contai
 use Rattle.it_space.specs.Problems.{ProblemView, IsProblem, problem_view}
 use Rattle.it_space.specs.Rows.{Terms, map_of, value}
 use Rattle.it_space.specs.Spaces.{size_of}
-use Rattle.it_polymatroid.specs.Certificates.{Form, IsCertificate}
+use Rattle.it_polymatroid.specs.Certificates.{Form}
 use Rattle.it_polymatroid.specs.Polymatroid.{IsPolymatroid}
 use Rattle.it_elemental.specs.Generators.{generators}
 use Rattle.it_check.specs.Meaning.{CertifiesRow, CertificateFits, RefutesRow, PointFits}

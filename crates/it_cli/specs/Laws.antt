@@ -1,11 +1,10 @@
 -- What follows from how a call ends and from what a right answer is.
-use Rattle.std.specs.Prelude.{◌≡◌, ℕ, ◌+◌, ℤ, ◌≤◌, ◌<◌, List, [], ◌++◌, length, Bool, ◌⊎◌, Option, Some, None}
+use Rattle.std.specs.Prelude.{◌≡◌, ℕ, ◌+◌, ◌≤◌, ◌<◌, List, [], ◌++◌, length, Bool, ◌⊎◌, Option, Some, None}
 use Rattle.it_outside.specs.Causes.{Rose}
 use Rattle.it_settings.specs.declared.types.Format.{Format}
 use Rattle.it_settings.specs.declared.types.Settings.{Settings}
 use Rattle.it_settings.specs.declared.types.Settings.TheVariants.{Answer, Check, Bench}
-use Rattle.it_space.specs.Answers.{CertificateView}
-use Rattle.it_space.specs.Answers.AnswerView.{Yes, No, Undecided}
+use Rattle.it_space.specs.Answers.AnswerView.{Undecided}
 use Rattle.it_space.specs.declared.answers.Cause.TheVariants.{Pivots}
 use Rattle.it_syntax.specs.declared.types.Code.{Code}
 use Rattle.it_question.specs.Questions.{BodyView, QuestionView}

@@ -18,9 +18,9 @@ use Rattle.it_space.specs.declared.problems.Origin.{Origin}
 use Rattle.it_space.specs.declared.problems.Origin.TheVariants.{Given, Rate}
 use Rattle.it_polymatroid.specs.Elementals.{Elemental, Conditional, Mutual, elementals, elemental_at}
 use Rattle.it_syntax.specs.NamesViews.{NamesView}
-use Rattle.it_question.specs.Questions.{BodyView, VerbView, Prove, Eliminate, Contain}
-use Rattle.it_question.specs.Tables.{problem_names}
+use Rattle.it_question.specs.Questions.{BodyView, VerbView, Contain}
 use Rattle.it_canon.specs.QuestionDemands.{variables_of}
+use Rattle.it_question.specs.Tables.{problem_names}
 
 -- a separator, where something stands before
 abbrev pub between_if : Bool → List ℕ → List ℕ

@@ -1,6 +1,4 @@
 use Rattle.std.proofs.Common.{map}
-use Rattle.std.proofs.lemmas.List.Elements.{All-map}
-use Rattle.it_question.specs.Limits.{IsQuestion}
 use Rattle.it_question.specs.Questions.{question_view}
 use Rattle.it_cli.proofs.benching.generated_line.Goals as goal
 
