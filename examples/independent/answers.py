@@ -1,4 +1,4 @@
-"""What the program is to write: the lines of answers in each format, the verdicts on a report, refusals; for the command's words and an input."""
+"""What the program has to write for the words of a call and an input: answers in each format, verdicts on a report, refusals."""
 
 import re
 import shlex
@@ -109,4 +109,5 @@ def rows_of(text):
 def bytes_of(text):
     """A text with escapes as `printf` reads them by %b."""
     escapes = {"n": "\n", "t": "\t", "r": "\r", "\\": "\\"}
-    return re.sub(r"\\(?:0([0-7]{1,3})|(.))", lambda found: chr(int(found[1], 8)) if found[1] else escapes[found[2]], text).encode("latin-1")
+    escape = re.compile(r"\\(?:0([0-7]{1,3})|(.))")
+    return escape.sub(lambda found: chr(int(found[1], 8)) if found[1] else escapes[found[2]], text).encode("latin-1")

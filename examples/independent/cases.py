@@ -10,7 +10,7 @@ from random import Random
 from answers import outcome
 from closures import table_size
 from generate import Damage, Generator
-from questions import ENTRIES, LINES, MULTIPLE, Fault, read
+from questions import ENTRIES, LINES, read
 
 # of each fifty cases
 SHARES = {"valid": 17, "broken": 18, "limits": 5, "wide": 4, "large": 1, "reports": 5}
@@ -41,93 +41,89 @@ class Case:
         self.kind = KINDS[number % len(KINDS)]
         self.name = f"{self.kind}-{seed}-{number}"
         self.random = Random(self.name)
-        self.words = self.random.choice(WORDS[self.kind])
-        fractions = self.random.choice([0, 0.2, 0.5])
+        self.words = self.pick(WORDS[self.kind])
+        fractions = self.pick([0, 0.2, 0.5])
         self.generator = Generator(self.name + " questions", fractions)
         self.source = getattr(self, self.kind)().encode("latin-1", "replace")
+
+    def pick(self, choices):
+        return self.random.choice(choices)
+
+    def chance(self, probability):
+        return self.random.random() < probability
 
     # Files of every verb
 
     def questions(self):
         makers = [self.generator.question, self.generator.question, self.generator.system, self.generator.containment]
-        return "".join(self.random.choice(makers)() for _ in range(self.random.choice([1, 1, 2, 3])))
+        return "".join(self.pick(makers)() for _ in range(self.pick([1, 1, 2, 3])))
 
     def loose(self, text):
         """The same file with other blanks, comments and line ends."""
-        if self.random.random() < 0.5:
+        if self.chance(0.5):
             return text
-        lines, end = [], self.random.choice(["\n", "\r\n"])
+        lines, end = [], self.pick(["\n", "\r\n"])
         for line in text.splitlines():
-            line = "".join(self.random.choice([" ", " ", "  ", "\t"]) if letter == " " else letter for letter in line)
-            line = self.random.choice(["", "", "  "]) + line + self.random.choice(["", "", " ", " # $ \xe9 >", "#"])
-            lines += [line] + self.random.choice([[], [], [], ["# only a comment"], [""], ["\t "]])
-        return end.join(lines) + self.random.choice(["", end])
+            line = "".join(self.pick([" ", " ", "  ", "\t"]) if letter == " " else letter for letter in line)
+            line = self.pick(["", "", "  "]) + line + self.pick(["", "", " ", " # $ \xe9 >", "#"])
+            lines += [line] + self.pick([[], [], [], ["# only a comment"], [""], ["\t "]])
+        return end.join(lines) + self.pick(["", end])
 
     def valid(self):
         return self.loose(self.questions())
 
     def broken(self):
         pieces = TOKENS.findall(self.loose(self.questions()))
-        for _ in range(self.random.choice([1, 1, 1, 2, 3])):
-            at = self.random.randrange(len(pieces))
-            other = self.random.randrange(len(pieces))
-            kind = self.random.randrange(7)
-            if kind == 0:
-                del pieces[at]
-            elif kind == 1:
-                pieces[at] = self.random.choice(PIECES)
-            elif kind == 2:
-                pieces.insert(at, self.random.choice(PIECES))
-            elif kind == 3:
-                pieces[at], pieces[other] = pieces[other], pieces[at]
-            elif kind == 4:
-                pieces.insert(at, pieces[at])
-            elif kind == 5:
-                pieces = TOKENS.findall(self.broken_lines("".join(pieces)))
-            else:
-                del pieces[at + 1 + self.random.randrange(30) :]
-            pieces = pieces or ["\n"]
+        for _ in range(self.pick([1, 1, 1, 2, 3])):
+            pieces = self.changed(pieces) or ["\n"]
         return "".join(pieces)
 
-    def broken_lines(self, text):
-        lines = text.split("\n")
+    def changed(self, pieces):
+        """One piece left out, exchanged, put in, doubled or swapped with another one; the end cut off; or a line moved."""
+        at, other, new = self.random.randrange(len(pieces)), self.random.randrange(len(pieces)), self.pick(PIECES)
+        swapped = list(pieces)
+        swapped[at], swapped[other] = pieces[other], pieces[at]
+        return self.pick([
+            pieces[:at] + pieces[at + 1 :], pieces[:at] + [new] + pieces[at + 1 :], pieces[:at] + [new] + pieces[at:],
+            pieces[:at] + pieces[at : at + 1] + pieces[at:], swapped, pieces[: at + 1], self.lines_changed(pieces),
+        ])
+
+    def lines_changed(self, pieces):
+        """A line left out, doubled elsewhere or swapped with another one."""
+        lines = "".join(pieces).split("\n")
         at, other = self.random.randrange(len(lines)), self.random.randrange(len(lines))
-        change = self.random.randrange(3)
-        if change == 0:
-            lines.insert(other, lines[at])
-        elif change == 1:
-            lines[at], lines[other] = lines[other], lines[at]
-        else:
-            del lines[at]
-        return "\n".join(lines)
+        swapped = list(lines)
+        swapped[at], swapped[other] = lines[other], lines[at]
+        lines = self.pick([lines[:at] + lines[at + 1 :], lines[:other] + [lines[at]] + lines[other:], swapped])
+        return TOKENS.findall("\n".join(lines))
 
     # Files at a limit
 
     def limits(self):
         makers = [self.many_terms, self.many_lines, self.many_names, self.many_members, self.great_numbers, self.great_multiples]
-        maker = self.many_bytes if self.random.random() < 0.03 else self.random.choice(makers)
+        maker = self.many_bytes if self.chance(0.03) else self.pick(makers)
         return maker()
 
     def near(self, limit):
-        return limit + self.random.choice([-1, 0, 0, 1, 2])
+        return limit + self.pick([-1, 0, 0, 1, 2])
 
     def sum_of(self, count, rates=()):
         self.generator.names = ["X", "Y"]
         terms = [self.generator.coefficient() + self.generator.atom(rates) for _ in range(count)]
-        return self.random.choice(["", "", "- "]) + self.random.choice([" + ", " - "]).join(terms)
+        return self.pick(["", "", "- "]) + self.pick([" + ", " - "]).join(terms)
 
     def many_terms(self):
         count = self.near(256)
         left = self.random.randint(1, count - 1)
         sides = [self.sum_of(left, ["R"]), self.sum_of(count - left, ["R"])]
-        last = self.random.choice(["", "", " + foo", " + 0", " + R", " + )", " + 1/0 R", " - 2/", " +", " + $"])
+        last = self.pick(["", "", " + foo", " + 0", " + R", " + )", " + 1/0 R", " - 2/", " +", " + $"])
         return f"vars X, Y\nrates R\nprove {sides[0]} >= {sides[1]}{last}\n"
 
     def many_lines(self):
-        word = self.random.choice(["given", "row", "try", "question"])
+        word = self.pick(["given", "row", "try", "question"])
         count = self.near(LINES)
         if word == "question":
-            return "vars X\nprove 0 >= 0\n" * self.near(1000) + self.random.choice(["", "vars", "prove", "vars X, X", "$"])
+            return "vars X\nprove 0 >= 0\n" * self.near(1000) + self.pick(["", "vars", "prove", "vars X, X", "$"])
         if word == "try":
             lines = ["vars X", "region", "region", "aux U", "row H(U) <= 0"]
             return "\n".join(lines + self.random.choices(["try U := X", "try U := 0"], k=count) + ["contain"])
@@ -135,47 +131,48 @@ class Case:
         lines = [f"{word} " + (self.generator.given() if word == "given" else self.generator.relation(["R"])) for _ in range(count)]
         lines += ["row H(X) >= 0", "given H(Y) >= 0"]
         self.random.shuffle(lines)
-        if self.random.random() < 0.3:
+        if self.chance(0.3):
             at, more = sorted(self.random.sample(range(len(lines)), 2))
             return "\n".join(["vars X, Y", "rates R", *lines[:at], "region", *lines[at:more], "region", *lines[more:], "contain"])
-        return "\n".join(["vars X, Y", "rates R", *lines, self.random.choice(["prove R >= 0", "eliminate R", "prove foo", ""])])
+        return "\n".join(["vars X, Y", "rates R", *lines, self.pick(["prove R >= 0", "eliminate R", "prove foo", ""])])
 
     def many_names(self):
-        word = self.random.choice(["vars", "rates", "aux"])
-        names = [self.random.choice("ABCD") + f"_{i}" + self.random.choice(["", "", "x" * 13]) for i in range(20)]
-        if self.random.random() < 0.3:
+        word = self.pick(["vars", "rates", "aux"])
+        names = [self.pick("ABCD") + f"_{i}" + self.pick(["", "", "x" * 13]) for i in range(20)]
+        if self.chance(0.3):
             at = self.random.randrange(4, 20)
-            names[at] = self.random.choice([names[at - 1], "H", "X", "R", "1", ""])
+            names[at] = self.pick([names[at - 1], "H", "X", "R", "1", ""])
         if word == "vars":
             return f"vars {', '.join(names[: self.near(10)])}\nprove 0 >= 0\n"
         if word == "rates":
             return f"vars X\nrates {', '.join(names[: self.near(16)])}\nprove 0 >= 0\n"
-        common = ", ".join(["X", "Y", *NAMES[: self.random.choice([0, 3, 5, 6, 8])]])
-        own = ", ".join(names[: self.random.choice([1, 2, 3, 4, 5])])
+        common = ", ".join(["X", "Y", *NAMES[: self.pick([0, 3, 5, 6, 8])]])
+        own = ", ".join(names[: self.pick([1, 2, 3, 4, 5])])
         return f"vars {common}\nregion\naux {own}\nregion\naux U\ncontain\n"
 
     def many_members(self):
-        word, between = self.random.choice([("markov", " -> "), ("indep", "; ")])
+        word, between = self.pick([("markov", " -> "), ("indep", "; ")])
         members = self.random.choices(["X", "Y", "X,Y", "Z", "Z,X"], k=self.near(16))
-        if self.random.random() < 0.3:
-            members[-1] = self.random.choice(["foo", "H", "1", "X,foo", ""])
-        last = self.random.choice(["", "", " | Z", " | foo"])
+        if self.chance(0.3):
+            members[-1] = self.pick(["foo", "H", "1", "X,foo", ""])
+        last = self.pick(["", "", " | Z", " | foo"])
         return f"vars X, Y, Z\ngiven {word} {between.join(members)}{last}\nprove H(X|Y) <= H(Z)\n"
 
     def great_numbers(self):
-        number = "0" * self.random.choice([0, 0, 1, 30, 5000]) + str(self.near(2**64 - 1) if self.random.random() < 0.7 else 10**30)
-        term = self.random.choice([f"{number} H(X)", f"{number}H(X)", f"1/{number} H(X)", f"{number}/2 H(X)", f"{number}", f"H(X) + {number}"])
-        return self.random.choice(["vars X\nprove {} >= 0\n", "vars X\nprove 0 <= {}\n", "vars X\ngiven {} = 0\nprove 0 >= 0\n"]).format(term)
+        number = "0" * self.pick([0, 0, 1, 30, 5000]) + str(self.near(2**64 - 1) if self.chance(0.7) else 10**30)
+        term = self.pick(["{} H(X)", "{}H(X)", "1/{} H(X)", "{}/2 H(X)", "{}", "H(X) + {}"]).format(number)
+        return "vars X\n" + self.pick(["prove {} >= 0\n", "prove 0 <= {}\n", "given {} = 0\nprove 0 >= 0\n"]).format(term)
 
     def great_multiples(self):
         """Denominators whose least common multiple is near 2**32."""
-        parts = [1, 2, 3, 5, 7, 16, 641, 65535, 65536, 65537, 2**31, 2**31 - 1, 2**32 - 5, 2**32 - 1, 2**32, 2**32 + 1, 6700417, 2**64 - 1, 0]
+        parts = [1, 2, 3, 5, 7, 16, 641, 65535, 65536, 65537, 6700417, 2**31 - 1, 2**31, 2**32 - 5, 2**32 - 1, 2**32]
+        parts = parts * 3 + [0, 2**32 + 1, 2**64 - 1]
         terms = []
-        for _ in range(self.random.choice([2, 3, 4, 6])):
-            terms.append(f"{self.random.choice([0, 1, 2, 3, 65536])}/{self.random.choice(parts[:-4] * 3 + parts)} {self.random.choice(['H(X)', 'R', 'I(X;Y)'])}")
+        for _ in range(self.pick([2, 3, 4, 6])):
+            terms.append(f"{self.pick([0, 1, 2, 3, 65536])}/{self.pick(parts)} {self.pick(['H(X)', 'R', 'I(X;Y)'])}")
         at = self.random.randrange(1, len(terms))
-        line = f"{' + '.join(terms[:at])} {self.random.choice(['>=', '=', '<='])} {' - '.join(terms[at:])}"
-        return f"vars X, Y\nrates R\n{self.random.choice(['row', 'row', 'prove'])} {line}\nprove {line if self.random.random() < 0.5 else '0 >= 0'}\n"
+        relation = f"{' + '.join(terms[:at])} {self.pick(['>=', '=', '<='])} {' - '.join(terms[at:])}"
+        return f"vars X, Y\nrates R\n{self.pick(['row', 'row', 'prove'])} {relation}\nprove {self.pick([relation, '0 >= 0'])}\n"
 
     def many_bytes(self):
         text, count = self.questions(), self.near(1048576)
@@ -185,25 +182,25 @@ class Case:
 
     def great(self):
         numbers = [1, 1, 2, 3, 2**32 - 1, 2**32 + 1, 2**63 - 25, 2**64 - 1, 2**64 - 2, 2**64 - 59]
-        number = self.random.choice(numbers)
-        if self.random.random() < self.generator.fractions:
-            return f"{number}/{self.random.choice([2, 3, 7, 65521, 65537, 2**31 - 1, 2**32 - 5])}"
+        number = self.pick(numbers)
+        if self.chance(self.generator.fractions):
+            return f"{number}/{self.pick([2, 3, 7, 65521, 65537, 2**31 - 1, 2**32 - 5])}"
         return str(number)
 
     def great_sum(self, atoms):
-        chosen = self.random.sample(atoms, min(len(atoms), self.random.choice([1, 2, 2, 3])))
-        return self.random.choice(["", "", "- "]) + self.random.choice([" + ", " - "]).join(f"{self.great()} {atom}" for atom in chosen)
+        chosen = self.random.sample(atoms, min(len(atoms), self.pick([1, 2, 2, 3])))
+        return self.pick(["", "", "- "]) + self.pick([" + ", " - "]).join(f"{self.great()} {atom}" for atom in chosen)
 
     def wide(self):
-        rates = ["A", "B", "C"][: self.random.choice([1, 2, 2, 3])]
+        rates = ["A", "B", "C"][: self.pick([1, 2, 2, 3])]
         atoms = rates + ["H(X)", "H(Y)", "I(X;Y)", "H(X|Y)"]
         lines = ["vars X, Y", "rates " + ", ".join(rates)]
-        lines += ["given " + self.random.choice(["func X of Y", "indep X; Y", "H(X) = 0", f"{self.great()} H(X) >= {self.great()} H(Y)"])
-                  for _ in range(self.random.choice([0, 0, 1]))]
-        sums = rates if self.random.random() < 0.5 else atoms
-        lines += [f"row {self.great_sum(sums)} {self.random.choice(['>=', '>=', '<=', '='])} {self.random.choice(['0', self.great_sum(atoms)])}"
-                  for _ in range(self.random.choice([1, 2, 3, 4]))]
-        if self.random.random() < 0.4:
+        lines += ["given " + self.pick(["func X of Y", "indep X; Y", "H(X) = 0", f"{self.great()} H(X) >= {self.great()} H(Y)"])
+                  for _ in range(self.pick([0, 0, 1]))]
+        sums = rates if self.chance(0.5) else atoms
+        for _ in range(self.pick([1, 2, 3, 4])):
+            lines.append(f"row {self.great_sum(sums)} {self.pick(['>=', '>=', '<=', '='])} {self.pick(['0', self.great_sum(atoms)])}")
+        if self.chance(0.4):
             return "\n".join(lines + ["eliminate " + ", ".join(self.random.sample(rates, self.random.randint(1, len(rates))))])
         return "\n".join(lines + [f"prove {self.great_sum(sums)} >= 0"])
 
@@ -212,10 +209,10 @@ class Case:
     def functions(self, names):
         """Lines that make sets of a few variables determine others, by `func` and in other words."""
         lines = []
-        for _ in range(self.random.choice([0, 1, 2, 3, 4, 6, 8, 10])):
-            value = ",".join(self.random.sample(names, self.random.choice([1, 1, 2, 3, 5])))
-            of = ",".join(self.random.sample(names, self.random.choice([1, 1, 2, 3])))
-            lines.append(self.random.choice([f"given func {value} of {of}", f"given func {value} of {of}", f"given H({value}|{of}) = 0",
+        for _ in range(self.pick([0, 1, 2, 3, 4, 6, 8, 10])):
+            value = ",".join(self.random.sample(names, self.pick([1, 1, 2, 3, 5])))
+            of = ",".join(self.random.sample(names, self.pick([1, 1, 2, 3])))
+            lines.append(self.pick([f"given func {value} of {of}", f"given func {value} of {of}", f"given H({value}|{of}) = 0",
                                              f"given 1/3 H({value},{of}) = 1/3 H({of})", f"given 2/3 H({value},{of}) <= 2/3 H({of})"]))
         return lines
 
@@ -228,32 +225,32 @@ class Case:
         return min((self.functions(names[:9]) for _ in range(8)), key=distance)
 
     def large(self):
-        count = self.random.choice([9, 10, 10, 10])
-        names, rates = NAMES[:count], ["R", "S"][: self.random.choice([0, 0, 1, 2])]
-        near = self.random.random() < 0.5
+        count = self.pick([9, 10, 10, 10])
+        names, rates = NAMES[:count], ["R", "S"][: self.pick([0, 0, 1, 2])]
+        near = self.chance(0.5)
         functions = self.functions_near(names, len(rates)) if near else self.functions(names) + self.functions(names)
         self.generator.names = names
-        verb = self.random.choice(["prove", "prove", "prove", "eliminate", "contain"])
+        verb = self.pick(["prove", "prove", "prove", "eliminate", "contain"])
         common = names[:7] if verb == "contain" else names
         lines = ["vars " + ", ".join(common)] + (["rates " + ", ".join(rates)] if rates else [])
         if verb == "contain":
             own = [f"row {rate} <= {self.generator.atom([])}" for rate in rates]
             lines += ["region", "aux " + ", ".join(names[7:]), *functions, *own, "region", "aux U", f"given func U of {common[0]}"]
             return "\n".join([*lines, *[f"row {rate} <= H({common[1]})" for rate in rates], "contain"]) + "\n"
-        lines += functions + ["given " + self.generator.given()] * self.random.choice([0, 1])
+        lines += functions + ["given " + self.generator.given()] * self.pick([0, 1])
         lines += [f"row {self.generator.relation(rates)}" for _ in rates]
         if verb == "eliminate" and rates:
             return "\n".join(lines + ["eliminate " + ", ".join(rates)]) + "\n"
         atom = self.generator.coefficient() + self.generator.atom([])
         targets = ["0 >= 0", f"{atom} >= 0", f"H({names[0]},{names[1]}) <= H({names[0]}) + {atom}", self.generator.relation(rates)]
-        return "\n".join(lines + ["prove " + self.random.choice(targets)]) + "\n"
+        return "\n".join(lines + ["prove " + self.pick(targets)]) + "\n"
 
     # Reports
 
     def reports(self):
         lines = []
-        for _ in range(self.random.choice([1, 2, 3])):
+        for _ in range(self.pick([1, 2, 3])):
             text, _ = outcome(["answer", "--format", "json", *BUDGETS], self.questions().encode())
             lines += text.splitlines()
         damage = Damage(self.name + " damage", lines)
-        return "".join(damage.line() for _ in range(self.random.choice([2, 4, 6])))
+        return "".join(damage.line() for _ in range(self.pick([2, 4, 6])))
