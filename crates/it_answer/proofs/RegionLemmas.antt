@@ -150,12 +150,12 @@ module _ (q : BodyView) (rates : List ℕ) (givens : ProblemView) (rows : List T
   }
 
   shows_end : (end : ProjectedView) → RegionIsReduced givens rates rows end → ShowsRegion q rates (answer_of_end end)
-  shows_end (projections.Region kept) x = right_region kept x
+  shows_end (projections.Region kept dropped) x = right_region kept x
   shows_end (projections.Rows rate) x = tt
   shows_end (projections.Wide rate) x = tt
 
   pub right_answer : (budgets : Budgets) (end : ProjectedView) (answer : AnswerView) → AreStated givens.space (given_demands givens.space.variables 1 q.lines.givens) givens.constraints
-      → AreRowsOf givens.space (system_forms givens.space.variables q.lines.rows) rows → ReducedEnds givens budgets.pivots budgets.rows rows [] rates end → RegionIsReduced givens rates rows end
+      → AreRowsOf givens.space (system_forms givens.space.variables q.lines.rows) rows → ReducedEnds givens budgets.pivots budgets.rows rows [] [] rates end → RegionIsReduced givens rates rows end
       → answer ≡ answer_of_end end → IsRightElimination budgets q rates answer
   right_answer budgets end answer stated are ends x is = record {
     shows = subst (ShowsRegion q rates) (sym is) (shows_end end x);
@@ -182,15 +182,15 @@ one_elimination budgets q rates a b x y =
     (one_constraint_list y.due.givens.space demands x.due.givens.constraints y.due.givens.constraints
     (subst (λ (s : Space). AreStated s demands x.due.givens.constraints) same_space x.due.constraints) y.due.constraints) in
     let same_rows : x.due.rows ≡ y.due.rows = one_row_list (space_of q.names) (system_forms n q.lines.rows) x.due.rows y.due.rows x.due.are_rows y.due.are_rows in
-    let ends : ReducedEnds y.due.givens budgets.pivots budgets.rows y.due.rows [] rates x.due.end =
-    subst (λ (g : ProblemView). ReducedEnds g budgets.pivots budgets.rows y.due.rows [] rates x.due.end) same_givens
-    (subst (λ (rs : List Terms). ReducedEnds x.due.givens budgets.pivots budgets.rows rs [] rates x.due.end) same_rows x.due.ends) in
-    x.due.is ∙ ap answer_of_end (one_reduced_end y.due.givens budgets.pivots budgets.rows y.due.rows [] rates x.due.end y.due.end ends y.due.ends) ∙ sym y.due.is
+    let ends : ReducedEnds y.due.givens budgets.pivots budgets.rows y.due.rows [] [] rates x.due.end =
+    subst (λ (g : ProblemView). ReducedEnds g budgets.pivots budgets.rows y.due.rows [] [] rates x.due.end) same_givens
+    (subst (λ (rs : List Terms). ReducedEnds x.due.givens budgets.pivots budgets.rows rs [] [] rates x.due.end) same_rows x.due.ends) in
+    x.due.is ∙ ap answer_of_end (one_reduced_end y.due.givens budgets.pivots budgets.rows y.due.rows [] [] rates x.due.end y.due.end ends y.due.ends) ∙ sym y.due.is
 
 -- ---- what follows
 
 pub not_width : (step : ℕ) (end : ProjectedView) → Undecided (Width step) ≡ answer_of_end end → ⊥
-not_width step (projections.Region kept) e = cc
+not_width step (projections.Region kept dropped) e = cc
 not_width step (projections.Rows rate) e = cc
 not_width step (projections.Wide rate) e = cc
 

@@ -260,10 +260,10 @@ answer_cause_same c d e = cc
 pub eliminated_cause_fits : (budgets : Budgets) (q : BodyView) (rates : List ℕ) (cause : Cause) → ((r : ℕ) → Member r rates → IsFoundIn q.names r × (step_of (rate_name q.names r) ≡ None))
     → IsRightElimination budgets q rates (Undecided cause) → IsCauseFor q.names cause
 eliminated_cause_fits budgets q rates cause named right =
-    by_end right.due.end (end_of_rates right.due.givens budgets.pivots budgets.rows right.due.rows [] rates right.due.end right.due.ends) right.due.is
+    by_end right.due.end (end_of_rates right.due.givens budgets.pivots budgets.rows right.due.rows [] [] rates right.due.end right.due.ends) right.due.is
   where
     by_end : (end : ProjectedView) → IsEndOf rates end → Undecided cause ≡ answer_of_end end → IsCauseFor q.names cause
-    by_end (projections.Region kept) h is = absurd (cc)
+    by_end (projections.Region kept dropped) h is = absurd (cc)
     by_end (projections.Rows r) h is = subst (IsCauseFor q.names) (sym (answer_cause_same cause (causes.Rows r) is)) (named r h).0
     by_end (projections.Wide r) h is = subst (IsCauseFor q.names) (sym (answer_cause_same cause (causes.WideRate r) is)) (named r h)
 

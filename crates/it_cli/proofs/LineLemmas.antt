@@ -148,7 +148,7 @@ IsCauseIn m (views.Undecided cause) = IsCauseOf m cause
 IsCauseIn m _ = Unit {0}
 
 cause_of_end : (m : ℕ) (rates : List ℕ) (end : ProjectedView) → All (λ r. r < m) rates → IsEndOf rates end → IsCauseIn m (answer_of_end end)
-cause_of_end m rates (projections.Region kept) within h = tt
+cause_of_end m rates (projections.Region kept dropped) within h = tt
 cause_of_end m rates (projections.Rows rate) within h = every_member (λ r. r < m) rates rate (every_of (λ r. r < m) rates within) h
 cause_of_end m rates (projections.Wide rate) within h = every_member (λ r. r < m) rates rate (every_of (λ r. r < m) rates within) h
 
@@ -157,7 +157,7 @@ printable_region budgets q rates m (answers.Yes proofs) names within a = absurd 
 printable_region budgets q rates m (answers.No is_back point) names within a = absurd a.shows
 printable_region budgets q rates m (answers.Undecided cause) names within a =
     subst (λ (v : NamesView). IsCauseOf (length v.rates) cause) (sym names) (subst (IsCauseIn (length q.names.rates)) (sym a.due.is)
-    (cause_of_end (length q.names.rates) rates a.due.end within (end_of_rates a.due.givens budgets.pivots budgets.rows a.due.rows [] rates a.due.end a.due.ends)))
+    (cause_of_end (length q.names.rates) rates a.due.end within (end_of_rates a.due.givens budgets.pivots budgets.rows a.due.rows [] [] rates a.due.end a.due.ends)))
 printable_region budgets q rates m (answers.Region rows) names within a = subst (λ (v : NamesView). All (λ (row : Mark × Terms). IsRowOver v row.1) rows.items) (sym names) (region_rows_over q.names rows.items a.shows.coordinates)
 printable_region budgets q rates m (answers.Contained parts proofs) names within a = absurd a.shows
 printable_region budgets q rates m (answers.Open tried) names within a = absurd a.shows

@@ -42,4 +42,4 @@ returns c =
     (subst (λ (s : Space). (p : ℕ → ℤ) → p 0 ≡ pos 0 → AreAtLeastZero p rows ↔ All (Holds s.variables p) q.lines.rows) of_system c.in_ok-system.ensures.met)
     c.args.budgets end (answer_view c.in_ok-answer.answer) (givens_stated q rates givens c.requires.eliminates c.requires.givens)
     (subst (λ (s : Space). AreRowsOf s (system_forms s.variables q.lines.rows) rows) of_system c.in_ok-system.ensures.rows)
-    (subst (λ (b : Option ℕ). ReducedEnds givens b c.args.budgets.rows rows [] rates end) c.budget_of-budget.ensures c.in_ok-end.ensures.ends) c.in_ok-end.ensures.region c.in_ok-answer.ensures
+    (subst (λ (b : Option ℕ). ReducedEnds givens b c.args.budgets.rows rows [] [] rates end) c.budget_of-budget.ensures c.in_ok-end.ensures.ends) c.in_ok-end.ensures.region c.in_ok-answer.ensures
