@@ -6,7 +6,7 @@ use Rattle.it_syntax.specs.declared.types.Misspelling.{Misspelling}
 use Rattle.it_syntax.specs.Letters.{without_mark, letters, without_marks}
 use Rattle.it_question.proofs.LetterLemmas.{length_with_ends, split_length}
 use Rattle.it_question.specs.Files.{IsFile}
-use Rattle.it_question.specs.Lines.{LineView, AreLines, split_lines, in_front, without_return, before_comment, without_tab, plain_text, file_end, letters_of_lines}
+use Rattle.it_question.specs.Lines.{LineView, AreLines, split_lines, without_return, before_comment, without_tab, plain_text, file_end, letters_of_lines}
 use Rattle.it_question.specs.Questions.{QuestionView}
 use Rattle.it_question.specs.Texts.{without_leading, unless_blank, without_trailing, trimmed_line, text_of_lines, question_line_count, with_texts}
 use Rattle.it_question.specs.WrittenLines.{limit_mark}
