@@ -216,7 +216,7 @@ targets_ascend p budget ts (answer_views.Contained parts proofs) x = absurd x
 targets_ascend p budget ts (answer_views.Open tried) x = absurd x
 
 region_ascends : (answer : AnswerView) (end : ProjectedView) → answer ≡ answer_of_end end → ProofsAscend answer
-region_ascends answer (projections.Region kept) is = subst ProofsAscend (sym is) tt
+region_ascends answer (projections.Region kept dropped) is = subst ProofsAscend (sym is) tt
 region_ascends answer (projections.Rows rate) is = subst ProofsAscend (sym is) tt
 region_ascends answer (projections.Wide rate) is = subst ProofsAscend (sym is) tt
 

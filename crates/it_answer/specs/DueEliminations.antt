@@ -26,7 +26,7 @@ marked_rows kept = map (λ k. (mark_of_need k.1, k.0)) kept
 
 -- a region with its rows in order; or the cause that there is none, with its rate
 abbrev pub answer_of_end : ProjectedView → AnswerView
-answer_of_end (projections.Region kept) = Region (marked_rows kept)
+answer_of_end (projections.Region kept dropped) = Region (marked_rows kept)
 answer_of_end (projections.Rows rate) = Undecided (causes.Rows rate)
 answer_of_end (projections.Wide rate) = Undecided (causes.WideRate rate)
 
@@ -39,5 +39,5 @@ pub record IsDueElimination (budgets : Budgets) (q : BodyView) (rates : List ℕ
   pub rows : List Terms
   pub are_rows : AreRowsOf (space_of q.names) (system_forms (length q.names.variables) q.lines.rows) rows
   pub end : ProjectedView
-  pub ends : ReducedEnds givens budgets.pivots budgets.rows rows [] rates end
+  pub ends : ReducedEnds givens budgets.pivots budgets.rows rows [] [] rates end
   pub is : answer ≡ answer_of_end end

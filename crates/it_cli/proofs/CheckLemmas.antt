@@ -76,7 +76,7 @@ checked_all plans a b bytes rest k some_invalid none h = record {
   wrote = h.written.wrote;
 }
 
-pub verdict_ends : (plans : List Plan) (a b : Option (List ℕ)) (before now : ℕ) (bytes : List ℕ) (some_invalid : Bool) (s : Status) → s ≡ verdict_status some_invalid → WroteOutput plans a b Check bytes (verdict_status some_invalid)
+pub verdict_ends : (plans : List Plan) (a b : Option (List ℕ)) (before now : ℕ) (bytes : List ℕ) (some_invalid : Bool) (s : Status) → s ≡ verdict_status some_invalid → now ≡ before → WroteOutput plans a b Check bytes (verdict_status some_invalid)
     → EndOfBytes plans a b before now Check bytes s
-verdict_ends plans a b before now bytes true s is h = subst (EndOfBytes plans a b before now Check bytes) (sym is) h
-verdict_ends plans a b before now bytes false s is h = subst (EndOfBytes plans a b before now Check bytes) (sym is) h
+verdict_ends plans a b before now bytes true s is stayed h = subst (EndOfBytes plans a b before now Check bytes) (sym is) (stayed, h)
+verdict_ends plans a b before now bytes false s is stayed h = subst (EndOfBytes plans a b before now Check bytes) (sym is) (stayed, h)

@@ -1,7 +1,7 @@
 -- What follows for the status of a call.
 use Rattle.std.proofs.Common.{◌≡◌, ℕ, ◌≤◌, ◌<◌, inl, inr, List, ◌++◌, length, Bool, Option, Some, None, refl, sym, ap, subst, ◌∙◌, arith}
 use Rattle.it_space.proofs.OptionLemmas.{some_same}
-use Rattle.it_outside.specs.Causes.{Rose}
+use Rattle.it_outside.specs.Causes.{next_count}
 use Rattle.it_outside.specs.Traffic.{Gains, Gave, GaveMore}
 use Rattle.it_outside.proofs.LawLemmas.{end_comes_last, more_was_there}
 use Rattle.it_settings.specs.declared.types.Settings.{Settings}
@@ -54,15 +54,15 @@ untouched_in_part r none (inr (inr (inl (u, front)))) = absurd (has_one_or_none 
 untouched_in_part r none (inr (inr (inr part))) = absurd (has_one_or_none r part.settings part.input.reading none)
 
 pub usage_is_due : UsageIsDue
-usage_is_due r Done ends none = absurd (has_one_or_none r ends.settings ends.input.reading none)
-usage_is_due r Invalid ends none = absurd (has_one_or_none r ends.settings ends.input.reading none)
-usage_is_due r Usage (no_reading, untouched, wrote) none = (untouched, inl refl)
-usage_is_due r Refused (inl (t, wrote)) none = absurd (has_one_or_none r t.limit.settings t.limit.reading none)
-usage_is_due r Refused (inr (u, wrote)) none = absurd (has_one_or_none r u.settings u.input.reading none)
-usage_is_due r ReadFault ((most, limit), rose, wrote) none = absurd (has_one_or_none r limit.settings limit.reading none)
-usage_is_due r WriteFault (rose, part) none = (untouched_in_part r none part, inr (inl refl))
-usage_is_due r Memory (inl begun) none = absurd (has_one_or_none r begun.settings begun.reading none)
-usage_is_due r Memory (inr part) none = (untouched_in_part r none part, inr (inr refl))
+usage_is_due r Done (faultless, ends) none = absurd (has_one_or_none r ends.settings ends.input.reading none)
+usage_is_due r Invalid (faultless, ends) none = absurd (has_one_or_none r ends.settings ends.input.reading none)
+usage_is_due r Usage (faultless, no_reading, untouched, wrote) none = (untouched, inl refl)
+usage_is_due r Refused (faultless, inl (t, wrote)) none = absurd (has_one_or_none r t.limit.settings t.limit.reading none)
+usage_is_due r Refused (faultless, inr (u, wrote)) none = absurd (has_one_or_none r u.settings u.input.reading none)
+usage_is_due r ReadFault (failed, (most, limit), wrote) none = absurd (has_one_or_none r limit.settings limit.reading none)
+usage_is_due r WriteFault (failed, part) none = (untouched_in_part r none part, inr (inl refl))
+usage_is_due r Memory (faultless, inl begun) none = absurd (has_one_or_none r begun.settings begun.reading none)
+usage_is_due r Memory (faultless, inr part) none = (untouched_in_part r none part, inr (inr refl))
 
 -- ---- an input of too many bytes
 
@@ -71,11 +71,11 @@ long_given : (r : Call) (settings : Settings) (most : ℕ) (bytes : List ℕ) �
 long_given r settings most bytes reading is e h s given input = let g = input_is_given r settings s most bytes given reading is e input in omega (arith, g.1)
 
 pub long_is_due : LongIsDue
-long_is_due r Done settings most bytes ends reading is e h = absurd (long_given r settings most bytes reading is e h ends.settings ends.bytes ends.input)
-long_is_due r Invalid settings most bytes ends reading is e h = absurd (long_given r settings most bytes reading is e h ends.settings ends.bytes ends.input)
-long_is_due r Usage settings most bytes (none, untouched, wrote) reading is e h = absurd (has_one_or_none r settings reading none)
-long_is_due r Refused settings most bytes (inl (t, wrote)) reading is e h = inl (refl, wrote)
-long_is_due r Refused settings most bytes (inr (u, wrote)) reading is e h = absurd (long_given r settings most bytes reading is e h u.settings u.bytes u.input)
+long_is_due r Done settings most bytes (faultless, ends) reading is e h = absurd (long_given r settings most bytes reading is e h ends.settings ends.bytes ends.input)
+long_is_due r Invalid settings most bytes (faultless, ends) reading is e h = absurd (long_given r settings most bytes reading is e h ends.settings ends.bytes ends.input)
+long_is_due r Usage settings most bytes (faultless, none, untouched, wrote) reading is e h = absurd (has_one_or_none r settings reading none)
+long_is_due r Refused settings most bytes (faultless, inl (t, wrote)) reading is e h = inl (refl, wrote)
+long_is_due r Refused settings most bytes (faultless, inr (u, wrote)) reading is e h = absurd (long_given r settings most bytes reading is e h u.settings u.bytes u.input)
 long_is_due r ReadFault settings most bytes ends reading is e h = inr (inl refl)
 long_is_due r WriteFault settings most bytes ends reading is e h = inr (inr (inl refl))
 long_is_due r Memory settings most bytes ends reading is e h = inr (inr (inr refl))
@@ -110,14 +110,14 @@ module _ (one_fault : FileFaultIsOne) (apart : FileOrFault) where
       subst (λ (c : Code). Wrote r (fault_line line column c)) same.2 (subst (λ (n : ℕ). Wrote r (fault_line line n u.code)) same.1 (subst (λ (n : ℕ). Wrote r (fault_line n u.column u.code)) same.0 w))
 
   pub fault_is_due : FaultIsDue
-  fault_is_due r Done settings bytes line column code ends reading mode e fits fault =
+  fault_is_due r Done settings bytes line column code (faultless, ends) reading mode e fits fault =
       let a = written_has_reading r Done settings bytes reading mode e ends in absurd (apart bytes a.0 line column code a.1 fault)
-  fault_is_due r Invalid settings bytes line column code ends reading mode e fits fault =
+  fault_is_due r Invalid settings bytes line column code (faultless, ends) reading mode e fits fault =
       let a = written_has_reading r Invalid settings bytes reading mode e ends in absurd (apart bytes a.0 line column code a.1 fault)
-  fault_is_due r Usage settings bytes line column code (none, untouched, wrote) reading mode e fits fault = absurd (has_one_or_none r settings reading none)
-  fault_is_due r Refused settings bytes line column code (inl (t, w)) reading mode e fits fault =
+  fault_is_due r Usage settings bytes line column code (faultless, none, untouched, wrote) reading mode e fits fault = absurd (has_one_or_none r settings reading none)
+  fault_is_due r Refused settings bytes line column code (faultless, inl (t, w)) reading mode e fits fault =
       absurd (omega (arith, too_long_for r settings 1048576 bytes reading (answer_limit settings mode) e t))
-  fault_is_due r Refused settings bytes line column code (inr (u, w)) reading mode e fits fault =
+  fault_is_due r Refused settings bytes line column code (faultless, inr (u, w)) reading mode e fits fault =
       inl (refl, told_fault_is r bytes line column code u (fault_of r settings 1048576 bytes u reading (answer_limit settings mode) e) fault w)
   fault_is_due r ReadFault settings bytes line column code ends reading mode e fits fault = inr (inl refl)
   fault_is_due r WriteFault settings bytes line column code ends reading mode e fits fault = inr (inr (inl refl))
@@ -155,16 +155,16 @@ never_invalid r seed count pivots rows tries reading h =
     invalid_not_done e = cc
 
 pub bench_reads_nothing : BenchReadsNothing
-bench_reads_nothing r Done seed count pivots rows tries ends reading = (unread_input r (Bench seed count pivots rows tries) ends.settings ends.bytes reading refl ends.input, inl refl)
-bench_reads_nothing r Invalid seed count pivots rows tries ends reading = absurd (never_invalid r seed count pivots rows tries reading ends)
-bench_reads_nothing r Usage seed count pivots rows tries (none, untouched, wrote) reading = absurd (has_one_or_none r (Bench seed count pivots rows tries) reading none)
-bench_reads_nothing r Refused seed count pivots rows tries (inl (t, wrote)) reading = absurd (no_limit r (Bench seed count pivots rows tries) t.most reading refl t.limit)
-bench_reads_nothing r Refused seed count pivots rows tries (inr (u, wrote)) reading = absurd (answer_mode_of r (Bench seed count pivots rows tries) u reading)
-bench_reads_nothing r ReadFault seed count pivots rows tries ((most, limit), rose, wrote) reading = absurd (no_limit r (Bench seed count pivots rows tries) most reading refl limit)
-bench_reads_nothing r WriteFault seed count pivots rows tries (rose, part) reading = (unread_in_part r seed count pivots rows tries reading part, inr (inl refl))
-bench_reads_nothing r Memory seed count pivots rows tries (inl begun) reading =
+bench_reads_nothing r Done seed count pivots rows tries (faultless, ends) reading = (unread_input r (Bench seed count pivots rows tries) ends.settings ends.bytes reading refl ends.input, inl refl)
+bench_reads_nothing r Invalid seed count pivots rows tries (faultless, ends) reading = absurd (never_invalid r seed count pivots rows tries reading ends)
+bench_reads_nothing r Usage seed count pivots rows tries (faultless, none, untouched, wrote) reading = absurd (has_one_or_none r (Bench seed count pivots rows tries) reading none)
+bench_reads_nothing r Refused seed count pivots rows tries (faultless, inl (t, wrote)) reading = absurd (no_limit r (Bench seed count pivots rows tries) t.most reading refl t.limit)
+bench_reads_nothing r Refused seed count pivots rows tries (faultless, inr (u, wrote)) reading = absurd (answer_mode_of r (Bench seed count pivots rows tries) u reading)
+bench_reads_nothing r ReadFault seed count pivots rows tries (failed, (most, limit), wrote) reading = absurd (no_limit r (Bench seed count pivots rows tries) most reading refl limit)
+bench_reads_nothing r WriteFault seed count pivots rows tries (failed, part) reading = (unread_in_part r seed count pivots rows tries reading part, inr (inl refl))
+bench_reads_nothing r Memory seed count pivots rows tries (faultless, inl begun) reading =
     (begun.unread (ap most_bytes (one_reading r begun.settings (Bench seed count pivots rows tries) begun.reading reading)), inr (inr refl))
-bench_reads_nothing r Memory seed count pivots rows tries (inr part) reading = (unread_in_part r seed count pivots rows tries reading part, inr (inr refl))
+bench_reads_nothing r Memory seed count pivots rows tries (faultless, inr part) reading = (unread_in_part r seed count pivots rows tries reading part, inr (inr refl))
 
 -- ---- completeness
 
@@ -181,25 +181,23 @@ module _ (apart : FileOrFault) where
   not_unread r (Bench seed count pivots rows tries) reading accepted u = answer_mode_of r (Bench seed count pivots rows tries) u reading
 
   pub is_complete : IsComplete
-  is_complete r Done settings ends reading accepted no_fault no_write_fault = inl ends
-  is_complete r Invalid settings ends reading accepted no_fault no_write_fault = inl ends
-  is_complete r Usage settings (none, untouched, wrote) reading accepted no_fault no_write_fault = absurd (has_one_or_none r settings reading none)
-  is_complete r Refused settings (inl (t, w)) reading accepted no_fault no_write_fault = absurd (not_too_long r settings reading accepted t)
-  is_complete r Refused settings (inr (u, w)) reading accepted no_fault no_write_fault = absurd (not_unread r settings reading accepted u)
-  is_complete r ReadFault settings (limit, rose, w) reading accepted no_fault no_write_fault = absurd (no_fault rose)
-  is_complete r WriteFault settings (rose, cut) reading accepted no_fault no_write_fault = absurd (no_write_fault rose)
+  is_complete r Done settings (faultless, ends) reading accepted no_fault no_write_fault = inl ends
+  is_complete r Invalid settings (faultless, ends) reading accepted no_fault no_write_fault = inl ends
+  is_complete r Usage settings (faultless, none, untouched, wrote) reading accepted no_fault no_write_fault = absurd (has_one_or_none r settings reading none)
+  is_complete r Refused settings (faultless, inl (t, w)) reading accepted no_fault no_write_fault = absurd (not_too_long r settings reading accepted t)
+  is_complete r Refused settings (faultless, inr (u, w)) reading accepted no_fault no_write_fault = absurd (not_unread r settings reading accepted u)
+  is_complete r ReadFault settings (failed, limit, w) reading accepted no_fault no_write_fault = absurd (no_fault failed)
+  is_complete r WriteFault settings (failed, cut) reading accepted no_fault no_write_fault = absurd (no_write_fault failed)
   is_complete r Memory settings ends reading accepted no_fault no_write_fault = inr refl
 
 -- ---- no fault without a cause
 
-never_rose : (before now : ℕ) → now ≡ 0 → Rose before now → ⊥
-unfolding Rose
-never_rose before now zero (inl less) = omega (arith, zero)
-never_rose before now zero (inr last) = omega (arith, zero, last)
+never_next : (before now : ℕ) → now ≡ 0 → now ≡ next_count before → ⊥
+never_next before now zero next = omega (arith, zero, next)
 
 pub sure_ends : SureEnds
-sure_ends r ReadFault (limit, rose, wrote) none none_written = ((λ is. never_rose r.read_faults r.read_faults_after none rose), λ is. cc)
-sure_ends r WriteFault (rose, cut) none none_written = ((λ is. cc), λ is. never_rose r.write_faults r.write_faults_after none_written rose)
+sure_ends r ReadFault ends none none_written = ((λ is. never_next r.read_faults r.read_faults_after none ends.0.0), λ is. cc)
+sure_ends r WriteFault ends none none_written = ((λ is. cc), λ is. never_next r.write_faults r.write_faults_after none_written ends.0.1)
 sure_ends r Done ends none none_written = ((λ is. cc), λ is. cc)
 sure_ends r Invalid ends none none_written = ((λ is. cc), λ is. cc)
 sure_ends r Usage ends none none_written = ((λ is. cc), λ is. cc)
@@ -217,7 +215,7 @@ output_of : (r : Call) (s : Status) (settings : Settings) (h : HasOutput r s) �
 output_of r s settings h reading = subst (λ (x : Settings). IsOutput r.plans x h.bytes h.out s) (one_reading r h.settings settings h.input.reading reading) h.output
 
 pub headline : Headline
-headline r format pivots rows tries bytes old new ends reading e taken taken_after =
+headline r format pivots rows tries bytes old new (faultless, ends) reading e taken taken_after =
     let same = input_is_given r (Answer format pivots rows tries) ends.settings 1048576 bytes ends.bytes reading refl e ends.input in
     let output : IsOutput r.plans (Answer format pivots rows tries) bytes ends.out Done =
     subst (λ (b : List ℕ). IsOutput r.plans (Answer format pivots rows tries) b ends.out Done) same.0 (output_of r Done (Answer format pivots rows tries) ends reading) in
@@ -231,8 +229,8 @@ verdicts_by_output r s bytes old new h reading e taken taken_after =
     (output.0, h.out, output.1, gain_is_told r.taken r.taken_after old new h.out taken taken_after h.wrote, output.2)
 
 pub verdicts_are_written : VerdictsAreWritten
-verdicts_are_written r Done bytes old new ends is reading e taken taken_after = verdicts_by_output r Done bytes old new ends reading e taken taken_after
-verdicts_are_written r Invalid bytes old new ends is reading e taken taken_after = verdicts_by_output r Invalid bytes old new ends reading e taken taken_after
+verdicts_are_written r Done bytes old new (faultless, ends) is reading e taken taken_after = verdicts_by_output r Done bytes old new ends reading e taken taken_after
+verdicts_are_written r Invalid bytes old new (faultless, ends) is reading e taken taken_after = verdicts_by_output r Invalid bytes old new ends reading e taken taken_after
 verdicts_are_written r Usage bytes old new ends (inl is) reading e taken taken_after = cc
 verdicts_are_written r Usage bytes old new ends (inr is) reading e taken taken_after = cc
 verdicts_are_written r Refused bytes old new ends (inl is) reading e taken taken_after = cc
@@ -245,6 +243,6 @@ verdicts_are_written r Memory bytes old new ends (inl is) reading e taken taken_
 verdicts_are_written r Memory bytes old new ends (inr is) reading e taken taken_after = cc
 
 pub counts_are_written : CountsAreWritten
-counts_are_written r seed count pivots rows tries old new ends reading taken taken_after =
+counts_are_written r seed count pivots rows tries old new (faultless, ends) reading taken taken_after =
     let output = output_of r Done (Bench seed count pivots rows tries) ends reading in
     (ends.out, output.0, gain_is_told r.taken r.taken_after old new ends.out taken taken_after ends.wrote, unread_input r (Bench seed count pivots rows tries) ends.settings ends.bytes reading refl ends.input)

@@ -9,6 +9,7 @@ use Rattle.it_number.specs.Limit.{IsWithin}
 use Rattle.it_number.proofs.SignLemmas.{factor_above}
 use Rattle.it_space.specs.declared.answers.Mark.{Mark}
 use Rattle.it_space.specs.declared.spaces.Space.{Space}
+use Rattle.it_space.specs.Answers.{CertificateView}
 use Rattle.it_space.specs.Answers.AnswerView.{Region}
 use Rattle.it_space.specs.Cancelling.{times_up, times_down, cancelled_row, CancelFits}
 use Rattle.it_space.specs.Divisors.{lowest_terms}
@@ -88,20 +89,20 @@ step_canonical base most rows r next h (inl e) = let f = e.1 in absurd (cc)
 step_canonical base most rows r next h (inr (inl e)) = let f = e.2 in absurd (cc)
 step_canonical base most rows r next h (inr (inr e)) = subst (Every IsCanonical) (sym (same_list next (next_list (base + r) rows) e.2)) (next_canonical (base + r) rows h e.0)
 
-kept_same : (xs ys : List (Terms × NeedView)) → projections.Region xs ≡ projections.Region ys → xs ≡ ys
-kept_same xs ys e = cc
+kept_same : (xs ys : List (Terms × NeedView)) (ds es : List (Terms × CertificateView)) → projections.Region xs ds ≡ projections.Region ys es → xs ≡ ys
+kept_same xs ys ds es e = cc
 
 -- the rows that stay
 module _ (givens : ProblemView) (budget : Option ℕ) (most : ℕ) where
-  kept_canonical : (rows : List Terms) (last kept : List (Terms × NeedView)) (rates : List ℕ) → Every IsCanonical rows → Every IsCanonical (kept_rows last) → ReducedEnds givens budget most rows last rates (projections.Region kept)
+  kept_canonical : (rows : List Terms) (last kept : List (Terms × NeedView)) (gone dropped : List (Terms × CertificateView)) (rates : List ℕ) → Every IsCanonical rows → Every IsCanonical (kept_rows last) → ReducedEnds givens budget most rows last gone rates (projections.Region kept dropped)
       → Every IsCanonical (kept_rows kept)
-  kept_canonical rows last kept [] h l is = subst (λ (ks : List (Terms × NeedView)). Every IsCanonical (kept_rows ks)) (sym (kept_same kept last is)) l
-  kept_canonical rows last kept (r ∷ rates) h l (elimination.Region next, e, g) =
+  kept_canonical rows last kept gone dropped [] h l is = subst (λ (ks : List (Terms × NeedView)). Every IsCanonical (kept_rows ks)) (sym (kept_same kept last dropped gone is)) l
+  kept_canonical rows last kept gone dropped (r ∷ rates) h l (elimination.Region next, e, g) =
       let stay : Every IsCanonical (kept_rows g.0) =
       every_kept givens budget IsCanonical [] next g.0 g.1 g.2 (step_canonical (2 ^ givens.space.variables) most (ordered_rows rows) r next (with_rows_canonical [] rows tt h) e) in
-      kept_canonical (kept_rows g.0) g.0 kept rates stay stay g.3
-  kept_canonical rows last kept (r ∷ rates) h l (elimination.Rows rate, e, is) = absurd (cc)
-  kept_canonical rows last kept (r ∷ rates) h l (elimination.Wide rate, e, is) = absurd (cc)
+      kept_canonical (kept_rows g.0) g.0 kept g.1 dropped rates stay stay g.3
+  kept_canonical rows last kept gone dropped (r ∷ rates) h l (elimination.Rows rate, e, is) = absurd (cc)
+  kept_canonical rows last kept gone dropped (r ∷ rates) h l (elimination.Wide rate, e, is) = absurd (cc)
 
 stated_canonical : (s : Space) (fs : List Form) (rows : List Terms) → AreRowsOf s fs rows → Every IsCanonical rows
 stated_canonical s [] [] z = tt
@@ -121,10 +122,10 @@ answer_same rows others e = cc
 rows_canonical : (budgets : Budgets) (q : BodyView) (rates : List ℕ) (rows : List (Mark × Terms)) → IsDueElimination budgets q rates (Region rows) → Every IsCanonical (region_rows rows)
 rows_canonical budgets q rates rows due = by_end due.end due.ends due.is
   where
-    by_end : (end : ProjectedView) → ReducedEnds due.givens budgets.pivots budgets.rows due.rows [] rates end → Region rows ≡ answer_of_end end → Every IsCanonical (region_rows rows)
-    by_end (projections.Region kept) e is =
+    by_end : (end : ProjectedView) → ReducedEnds due.givens budgets.pivots budgets.rows due.rows [] [] rates end → Region rows ≡ answer_of_end end → Every IsCanonical (region_rows rows)
+    by_end (projections.Region kept dropped) e is =
         subst (λ (rs : List (Mark × Terms)). Every IsCanonical (region_rows rs)) (sym (answer_same rows (marked_rows kept) is))
-        (marked_canonical kept (kept_canonical due.givens budgets.pivots budgets.rows due.rows [] kept rates (stated_canonical _ _ due.rows due.are_rows) tt e))
+        (marked_canonical kept (kept_canonical due.givens budgets.pivots budgets.rows due.rows [] kept [] dropped rates (stated_canonical _ _ due.rows due.are_rows) tt e))
     by_end (projections.Rows r) e is = absurd (cc)
     by_end (projections.Wide r) e is = absurd (cc)
 

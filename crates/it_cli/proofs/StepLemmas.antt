@@ -17,7 +17,7 @@ use Rattle.it_answer.specs.RightAnswers.{IsDueBy}
 use Rattle.it_cli.specs.Laws.{NoLineIsOutOfSteps}
 
 no_steps_at_region_end : (steps : ℕ) (end : ProjectedView) → Undecided (causes.Pivots steps) ≡ answer_of_end end → ⊥
-no_steps_at_region_end steps (projections.Region kept) e = cc
+no_steps_at_region_end steps (projections.Region kept dropped) e = cc
 no_steps_at_region_end steps (projections.Rows rate) e = cc
 no_steps_at_region_end steps (projections.Wide rate) e = cc
 

@@ -1,6 +1,6 @@
 -- How the calls inside the top call end, by which its end is proved. No public clause cites this module.
 use Rattle.std.specs.Prelude.{◌≡◌, ℕ, List, [], ◌⊎◌, map, Option}
-use Rattle.it_outside.specs.Causes.{Rose}
+use Rattle.it_outside.specs.Causes.{next_count}
 use Rattle.it_outside.specs.Traffic.{Gains, TookFront}
 use Rattle.it_syntax.specs.declared.types.Code.{Code}
 use Rattle.it_question.specs.Questions.{QuestionView}
@@ -20,11 +20,11 @@ use Rattle.it_cli.specs.declared.status.Status.TheVariants.{Done, Invalid, Refus
 -- a line was written and the status is this one, or a front of it was and a write failed
 abbrev pub EndOfLine : Option (List ℕ) → Option (List ℕ) → ℕ → ℕ → List ℕ → Status → Status → Type 0
 EndOfLine old new before now line status result =
-    ((result ≡ status) × Gains old new line) ⊎ ((result ≡ WriteFault) × Rose before now × TookFront old new line)
+    ((result ≡ status) × (now ≡ before) × Gains old new line) ⊎ ((result ≡ WriteFault) × (now ≡ next_count before) × TookFront old new line)
 
 -- and there may have been too little memory for the line
 abbrev pub EndOfLineOrMemory : Option (List ℕ) → Option (List ℕ) → ℕ → ℕ → List ℕ → Status → Status → Type 0
-EndOfLineOrMemory old new before now line status result = EndOfLine old new before now line status result ⊎ ((result ≡ Memory) × Gains old new [])
+EndOfLineOrMemory old new before now line status result = EndOfLine old new before now line status result ⊎ ((result ≡ Memory) × (now ≡ before) × Gains old new [])
 
 -- the lines of a right answer to question k, by boxes with these plans before it and after it
 pub record IsAnswerText (budgets : Budgets) (plans : List Plan) (format : Format) (k : ℕ) (q : QuestionView) (plans_after : List Plan) (bytes : List ℕ) : Type 0 where
@@ -47,9 +47,9 @@ pub record AllAnswers (budgets : Budgets) (plans : List Plan) (format : Format) 
 
 -- what was done for these questions
 abbrev pub EndOfAnswers : Budgets → List Plan → Format → Option (List ℕ) → Option (List ℕ) → ℕ → ℕ → List QuestionView → Status → Type 0
-EndOfAnswers budgets plans format old new before now qs Done = AllAnswers budgets plans format old new qs
-EndOfAnswers budgets plans format old new before now qs WriteFault = Rose before now × AnswersInPart budgets plans format old new qs
-EndOfAnswers budgets plans format old new before now qs Memory = AnswersInPart budgets plans format old new qs
+EndOfAnswers budgets plans format old new before now qs Done = (now ≡ before) × AllAnswers budgets plans format old new qs
+EndOfAnswers budgets plans format old new before now qs WriteFault = (now ≡ next_count before) × AnswersInPart budgets plans format old new qs
+EndOfAnswers budgets plans format old new before now qs Memory = (now ≡ before) × AnswersInPart budgets plans format old new qs
 EndOfAnswers budgets plans format old new before now qs _ = ⊥
 
 -- the line with which bytes are refused, that of their first fault
@@ -70,10 +70,10 @@ pub record WroteInPart (plans : List Plan) (old new : Option (List ℕ)) (settin
 
 -- what was done for these bytes
 abbrev pub EndOfBytes : List Plan → Option (List ℕ) → Option (List ℕ) → ℕ → ℕ → Settings → List ℕ → Status → Type 0
-EndOfBytes plans old new before now settings bytes Refused = IsAnswerMode settings × (text : List ℕ) × IsRefusal bytes text × Gains old new text
-EndOfBytes plans old new before now settings bytes WriteFault = Rose before now
+EndOfBytes plans old new before now settings bytes Refused = (now ≡ before) × IsAnswerMode settings × (text : List ℕ) × IsRefusal bytes text × Gains old new text
+EndOfBytes plans old new before now settings bytes WriteFault = (now ≡ next_count before)
     × ((IsAnswerMode settings × (text : List ℕ) × IsRefusal bytes text × TookFront old new text) ⊎ WroteInPart plans old new settings bytes)
-EndOfBytes plans old new before now settings bytes Done = WroteOutput plans old new settings bytes Done
-EndOfBytes plans old new before now settings bytes Invalid = WroteOutput plans old new settings bytes Invalid
-EndOfBytes plans old new before now settings bytes Memory = (Gains old new []) ⊎ WroteInPart plans old new settings bytes
+EndOfBytes plans old new before now settings bytes Done = (now ≡ before) × WroteOutput plans old new settings bytes Done
+EndOfBytes plans old new before now settings bytes Invalid = (now ≡ before) × WroteOutput plans old new settings bytes Invalid
+EndOfBytes plans old new before now settings bytes Memory = (now ≡ before) × (Gains old new [] ⊎ WroteInPart plans old new settings bytes)
 EndOfBytes plans old new before now settings bytes _ = ⊥

@@ -1,6 +1,5 @@
 -- What follows from how a call ends and from what a right answer is.
 use Rattle.std.specs.Prelude.{◌≡◌, ℕ, ◌+◌, ◌≤◌, ◌<◌, List, [], ◌++◌, length, Bool, ◌⊎◌, Option, Some, None}
-use Rattle.it_outside.specs.Causes.{Rose}
 use Rattle.it_settings.specs.declared.types.Format.{Format}
 use Rattle.it_settings.specs.declared.types.Settings.{Settings}
 use Rattle.it_settings.specs.declared.types.Settings.TheVariants.{Answer, Check, Bench}
@@ -19,7 +18,7 @@ use Rattle.it_cli.specs.Counts.{AreCounted, IsBenchLine, no_counts}
 use Rattle.it_cli.specs.declared.counts.Counts.{Counts}
 use Rattle.it_cli.specs.Outputs.{IsAnswerMode, IsOutput, Verdicts, most_bytes, verdict_status}
 use Rattle.it_cli.specs.Refusals.{long_line, fault_line}
-use Rattle.it_cli.specs.Ends.{Call, Ends, IsReading, HasNone, IsUntouched, Wrote, HasOutput}
+use Rattle.it_cli.specs.Ends.{Call, Ends, IsReading, HasNone, IsUntouched, ReadFailed, WriteFailed, Wrote, HasOutput}
 use Rattle.it_cli.specs.declared.status.Status.{Status}
 use Rattle.it_cli.specs.declared.status.Status.TheVariants.{Done, Invalid, Usage, Refused, ReadFault, WriteFault, Memory}
 
@@ -51,10 +50,10 @@ IsAccepted left (Answer format pivots rows tries) = (bytes : List ℕ) × (qs : 
 IsAccepted left Check = (bytes : List ℕ) × (left ≡ Some bytes) × (length bytes ≤ 67108864)
 IsAccepted left (Bench seed count pivots rows tries) = Unit {0}
 
--- With a reading, an input that is accepted, and no fault counted, the whole output is written or memory is wanted.
+-- With a reading, an input that is accepted, and no fault, the whole output is written or memory is wanted.
 abbrev pub IsComplete : Type 0
 IsComplete = (r : Call) (s : Status) (settings : Settings) → Ends r s → IsReading r settings → IsAccepted r.left settings
-    → (Rose r.read_faults r.read_faults_after → ⊥) → (Rose r.write_faults r.write_faults_after → ⊥)
+    → (ReadFailed r → ⊥) → (WriteFailed r → ⊥)
     → HasOutput r s ⊎ (s ≡ Memory)
 
 -- A source and a sink whose counts of faults are 0, as those that never fail, give neither status of a fault.

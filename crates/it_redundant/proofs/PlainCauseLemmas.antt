@@ -21,7 +21,7 @@ module _ (base most : ℕ) (start : List Terms) (r : ℕ) (rs : List ℕ) where
   comes_later rate rows c = record { before = r ∷ c.before; after = c.after; rates_are = ap (λ xs. r ∷ xs) c.rates_are; rows_are = c.rows_are }
 
   cause_later : (end : ProjectedView) → IsPlainCause base most (next_list (base + r) start) rs end → IsPlainCause base most start (r ∷ rs) end
-  cause_later (Region kept) c = tt
+  cause_later (Region kept dropped) c = tt
   cause_later (Rows rate) (rows, c, many) = (rows, comes_later rate rows c, many)
   cause_later (Wide rate) (rows, c, wide) = (rows, comes_later rate rows c, wide)
 
@@ -32,7 +32,7 @@ module _ (givens : ProblemView) (budget : Option ℕ) (most : ℕ) where
   kept_part : (rows : List Terms) (kept : List (Terms × NeedView)) (dropped : List (Terms × CertificateView)) → Reduces givens budget [] rows kept dropped → IsPart (kept_rows kept) rows
   kept_part rows kept dropped red x m = every_member (λ y. Member y rows) (kept_rows kept) x (every_kept givens budget (λ y. Member y rows) [] rows kept dropped red (member_every (λ y. Member y rows) rows (λ y k. k))) m
 
-  module _ (base : ℕ) (r : ℕ) (rs : List ℕ) (part start : List Terms) (p : IsPart part start) (later : List (Terms × NeedView) → Type 0) where
+  module _ (base : ℕ) (r : ℕ) (rs : List ℕ) (part start : List Terms) (p : IsPart part start) (later : List (Terms × NeedView) → List (Terms × CertificateView) → Type 0) where
     -- the reduced list after a rate, in order, is a part of the plain one
     next_part : (kept : List (Terms × NeedView)) (dropped : List (Terms × CertificateView)) → Reduces givens budget [] (next_list (base + r) part) kept dropped → IsPart (ordered_rows (kept_rows kept)) (next_list (base + r) start)
     next_part kept dropped red x m =
@@ -40,7 +40,7 @@ module _ (givens : ProblemView) (budget : Option ℕ) (most : ℕ) where
 
     -- so a cause at this rate is one of plain elimination, and each later one where it is one from the next list
     step_is_plain : (step : EliminatedView) (end : ProjectedView)
-        → ((kept : List (Terms × NeedView)) → IsPart (ordered_rows (kept_rows kept)) (next_list (base + r) start) → later kept → IsPlainCause base most (next_list (base + r) start) rs end)
+        → ((kept : List (Terms × NeedView)) (dropped : List (Terms × CertificateView)) → IsPart (ordered_rows (kept_rows kept)) (next_list (base + r) start) → later kept dropped → IsPlainCause base most (next_list (base + r) start) rs end)
         → EliminationEnds base most part (r ∷ []) step → GoesOn givens budget later step end → IsPlainCause base most start (r ∷ rs) end
     step_is_plain step end ih (inl e) g =
         let is : end ≡ Wide r = subst (λ x. GoesOn givens budget later x end) e.1 g in
@@ -50,15 +50,15 @@ module _ (givens : ProblemView) (budget : Option ℕ) (most : ℕ) where
         subst (IsPlainCause base most start (r ∷ rs)) (sym is) (start, comes_first base most start r rs, omega (arith, e.1, next_list_no_longer (base + r) part start p))
     step_is_plain step end ih (inr (inr e)) g =
         let (kept, dropped, red, rest) = subst (λ x. GoesOn givens budget later x end) e.2 g in
-        cause_later base most start r rs end (ih kept (next_part kept dropped red) rest)
+        cause_later base most start r rs end (ih kept dropped (next_part kept dropped red) rest)
 
   -- from rows that are, in order, a part of the start
-  end_is_plain : (rows start : List Terms) (last : List (Terms × NeedView)) (rates : List ℕ) (end : ProjectedView) → IsPart (ordered_rows rows) start → ReducedEnds givens budget most rows last rates end
+  end_is_plain : (rows start : List Terms) (last : List (Terms × NeedView)) (gone : List (Terms × CertificateView)) (rates : List ℕ) (end : ProjectedView) → IsPart (ordered_rows rows) start → ReducedEnds givens budget most rows last gone rates end
       → IsPlainCause (2 ^ givens.space.variables) most start rates end
-  end_is_plain rows start last [] end p e = subst (IsPlainCause (2 ^ givens.space.variables) most start []) (sym e) tt
-  end_is_plain rows start last (r ∷ rs) end p (step, ends, g) =
-      step_is_plain (2 ^ givens.space.variables) r rs (ordered_rows rows) start p (λ kept. ReducedEnds givens budget most (kept_rows kept) kept rs end) step end
-      (λ kept q rest. end_is_plain (kept_rows kept) (next_list (2 ^ givens.space.variables + r) start) kept rs end q rest) ends g
+  end_is_plain rows start last gone [] end p e = subst (IsPlainCause (2 ^ givens.space.variables) most start []) (sym e) tt
+  end_is_plain rows start last gone (r ∷ rs) end p (step, ends, g) =
+      step_is_plain (2 ^ givens.space.variables) r rs (ordered_rows rows) start p (λ kept dropped. ReducedEnds givens budget most (kept_rows kept) kept dropped rs end) step end
+      (λ kept dropped q rest. end_is_plain (kept_rows kept) (next_list (2 ^ givens.space.variables + r) start) kept dropped rs end q rest) ends g
 
 pub causes_are_plain : CausesArePlain
-causes_are_plain givens budget most rows last rates end e = end_is_plain givens budget most rows (ordered_rows rows) last rates end (λ x m. m) e
+causes_are_plain givens budget most rows last gone rates end e = end_is_plain givens budget most rows (ordered_rows rows) last gone rates end (λ x m. m) e

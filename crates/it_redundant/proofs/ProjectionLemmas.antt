@@ -63,21 +63,21 @@ kept_up givens budget most rows r next mid dropped up e red = all_of (IsUpTo (si
 -- ---- rate after rate
 
 module _ (givens : ProblemView) (budget : Option ℕ) (most : ℕ) where
-  resumes_more : (rows : List Terms) (last : List (Terms × NeedView)) (r : ℕ) (rs : List ℕ) (now end : ProjectedView) → IsAfterRate givens budget most rows r now → Resumes givens budget most rs now end
-      → ReducedEnds givens budget most rows last (r ∷ rs) end
-  resumes_more rows last r rs now end (elimination.Region next, e, g) h =
+  resumes_more : (rows : List Terms) (last : List (Terms × NeedView)) (gone : List (Terms × CertificateView)) (r : ℕ) (rs : List ℕ) (now end : ProjectedView) → IsAfterRate givens budget most rows r now → Resumes givens budget most rs now end
+      → ReducedEnds givens budget most rows last gone (r ∷ rs) end
+  resumes_more rows last gone r rs now end (elimination.Region next, e, g) h =
       (elimination.Region next, e, (g.0, g.1, g.2, subst (λ (x : ProjectedView). Resumes givens budget most rs x end) g.3 h))
-  resumes_more rows last r rs now end (elimination.Rows rate, e, is) h = (elimination.Rows rate, e, subst (λ (x : ProjectedView). Resumes givens budget most rs x end) is h)
-  resumes_more rows last r rs now end (elimination.Wide rate, e, is) h = (elimination.Wide rate, e, subst (λ (x : ProjectedView). Resumes givens budget most rs x end) is h)
+  resumes_more rows last gone r rs now end (elimination.Rows rate, e, is) h = (elimination.Rows rate, e, subst (λ (x : ProjectedView). Resumes givens budget most rs x end) is h)
+  resumes_more rows last gone r rs now end (elimination.Wide rate, e, is) h = (elimination.Wide rate, e, subst (λ (x : ProjectedView). Resumes givens budget most rs x end) is h)
 
   next_more : (r : ℕ) (rs : List ℕ) (old new end : ProjectedView) → IsNext givens budget most r old new → Resumes givens budget most rs new end → Resumes givens budget most (r ∷ rs) old end
-  next_more r rs (Region kept) new end n h = resumes_more (kept_rows kept) kept r rs new end n h
+  next_more r rs (Region kept dropped) new end n h = resumes_more (kept_rows kept) kept dropped r rs new end n h
   next_more r rs (Rows other) new end n h = subst (λ (x : ProjectedView). Resumes givens budget most rs x end) n h
   next_more r rs (Wide other) new end n h = subst (λ (x : ProjectedView). Resumes givens budget most rs x end) n h
 
   -- i rates are eliminated: whatever the others end with, all do
   pub record Leads (size : ℕ) (rows : List Terms) (rates : List ℕ) (now : ProjectedView) (i : ℕ) : Type 0 where
-    pub more : (end : ProjectedView) → Resumes givens budget most (drop i rates) now end → ReducedEnds givens budget most rows [] rates end
+    pub more : (end : ProjectedView) → Resumes givens budget most (drop i rates) now end → ReducedEnds givens budget most rows [] [] rates end
     pub up : HasRowsUpTo size now
 
   module _ (size : ℕ) (rows : List Terms) (rates : List ℕ) where
@@ -90,18 +90,19 @@ module _ (givens : ProblemView) (budget : Option ℕ) (most : ℕ) where
 -- ---- one end
 
 pub one_reduced_end : OneReducedEnd
-one_reduced_end givens budget most rows last [] end other e f = e ∙ sym f
-one_reduced_end givens budget most rows last (r ∷ rs) end other (s, e, g) (t, f, h) =
+one_reduced_end givens budget most rows last gone [] end other e f = e ∙ sym f
+one_reduced_end givens budget most rows last gone (r ∷ rs) end other (s, e, g) (t, f, h) =
     let same : s ≡ t = one_end (2 ^ givens.space.variables) most (ordered_rows rows) (r ∷ []) s t e f in
-    by_step s g (subst (λ (x : EliminatedView). GoesOn givens budget (λ kept. ReducedEnds givens budget most (kept_rows kept) kept rs other) x other) (sym same) h)
-    (λ kept. one_reduced_end givens budget most (kept_rows kept) kept rs end other)
+    by_step s g (subst (λ (x : EliminatedView). GoesOn givens budget (λ kept dropped. ReducedEnds givens budget most (kept_rows kept) kept dropped rs other) x other) (sym same) h)
+    (λ kept dropped. one_reduced_end givens budget most (kept_rows kept) kept dropped rs end other)
   where
-    by_step : (x : EliminatedView) → GoesOn givens budget (λ kept. ReducedEnds givens budget most (kept_rows kept) kept rs end) x end
-        → GoesOn givens budget (λ kept. ReducedEnds givens budget most (kept_rows kept) kept rs other) x other
-        → ((kept : List (Terms × NeedView)) → ReducedEnds givens budget most (kept_rows kept) kept rs end → ReducedEnds givens budget most (kept_rows kept) kept rs other → end ≡ other) → end ≡ other
+    by_step : (x : EliminatedView) → GoesOn givens budget (λ kept dropped. ReducedEnds givens budget most (kept_rows kept) kept dropped rs end) x end
+        → GoesOn givens budget (λ kept dropped. ReducedEnds givens budget most (kept_rows kept) kept dropped rs other) x other
+        → ((kept : List (Terms × NeedView)) (dropped : List (Terms × CertificateView)) → ReducedEnds givens budget most (kept_rows kept) kept dropped rs end → ReducedEnds givens budget most (kept_rows kept) kept dropped rs other → end ≡ other) → end ≡ other
     by_step (elimination.Region next) g h later =
-        let same : g.0 ≡ h.0 = (one_reduction givens budget [] next g.0 h.0 g.1 h.1 g.2 h.2).0 in
-        later g.0 g.3 (subst (λ (k : List (Terms × NeedView)). ReducedEnds givens budget most (kept_rows k) k rs other) (sym same) h.3)
+        let same = one_reduction givens budget [] next g.0 h.0 g.1 h.1 g.2 h.2 in
+        later g.0 g.1 g.3 (subst (λ (d : List (Terms × CertificateView)). ReducedEnds givens budget most (kept_rows g.0) g.0 d rs other) (sym same.1)
+        (subst (λ (k : List (Terms × NeedView)). ReducedEnds givens budget most (kept_rows k) k h.1 rs other) (sym same.0) h.3))
     by_step (elimination.Rows rate) g h later = g ∙ sym h
     by_step (elimination.Wide rate) g h later = g ∙ sym h
 
@@ -184,33 +185,34 @@ module _ (givens : ProblemView) (budget : Option ℕ) (most : ℕ) (limits : IsP
             ((projection_exact ((2 ^ givens.space.variables + r) ∷ map (λ s. 2 ^ givens.space.variables + s) rs) rows p).1 x) in
             (h.region.exact p m).1 (extends_alike rs next (kept_rows mid) p m (λ q n. (mid_alike q n).0) ((rates_exact (map (λ s. 2 ^ givens.space.variables + s) rs) next p).0 there))
 
-  same_region : (xs ys : List (Terms × NeedView)) → Region xs ≡ Region ys → xs ≡ ys
-  same_region xs ys e = cc
+  same_region : (xs ys : List (Terms × NeedView)) (ds es : List (Terms × CertificateView)) → Region xs ds ≡ Region ys es → xs ≡ ys
+  same_region xs ys ds es e = cc
 
-  region_not_rows : (xs : List (Terms × NeedView)) (r : ℕ) → Region xs ≡ Rows r → ⊥
-  region_not_rows xs r e = cc
+  region_not_rows : (xs : List (Terms × NeedView)) (ds : List (Terms × CertificateView)) (r : ℕ) → Region xs ds ≡ Rows r → ⊥
+  region_not_rows xs ds r e = cc
 
-  region_not_wide : (xs : List (Terms × NeedView)) (r : ℕ) → Region xs ≡ Wide r → ⊥
-  region_not_wide xs r e = cc
+  region_not_wide : (xs : List (Terms × NeedView)) (ds : List (Terms × CertificateView)) (r : ℕ) → Region xs ds ≡ Wide r → ⊥
+  region_not_wide xs ds r e = cc
 
-  later_region_holds : (rs : List ℕ) (mid kept : List (Terms × NeedView)) → All (IsUpTo (size_of givens.space)) (kept_rows mid) → AreNeeded givens mid → ReducedEnds givens budget most (kept_rows mid) mid rs (Region kept)
-      → Holds rs (kept_rows mid) kept
-  later_region_holds [] mid kept up need is = subst (λ (k : List (Terms × NeedView)). Holds [] (kept_rows mid) k) (sym (same_region kept mid is)) (nothing_gone mid up need)
-  later_region_holds (r ∷ rs) mid kept up need (elimination.Region next, e, g) =
-      one_more (kept_rows mid) r next g.0 g.1 up e g.2 rs kept (later_region_holds rs g.0 kept (mid_up (kept_rows mid) r next g.0 g.1 up e g.2) (mid_needed (kept_rows mid) r next g.0 g.1 up e g.2) g.3)
-  later_region_holds (r ∷ rs) mid kept up need (elimination.Rows rate, e, is) = absurd (region_not_rows kept rate is)
-  later_region_holds (r ∷ rs) mid kept up need (elimination.Wide rate, e, is) = absurd (region_not_wide kept rate is)
+  module _ (kept : List (Terms × NeedView)) (dropped : List (Terms × CertificateView)) where
+    later_region_holds : (rs : List ℕ) (mid : List (Terms × NeedView)) (gone : List (Terms × CertificateView)) → All (IsUpTo (size_of givens.space)) (kept_rows mid) → AreNeeded givens mid
+        → ReducedEnds givens budget most (kept_rows mid) mid gone rs (Region kept dropped) → Holds rs (kept_rows mid) kept
+    later_region_holds [] mid gone up need is = subst (λ (k : List (Terms × NeedView)). Holds [] (kept_rows mid) k) (sym (same_region kept mid dropped gone is)) (nothing_gone mid up need)
+    later_region_holds (r ∷ rs) mid gone up need (elimination.Region next, e, g) =
+        one_more (kept_rows mid) r next g.0 g.1 up e g.2 rs kept (later_region_holds rs g.0 g.1 (mid_up (kept_rows mid) r next g.0 g.1 up e g.2) (mid_needed (kept_rows mid) r next g.0 g.1 up e g.2) g.3)
+    later_region_holds (r ∷ rs) mid gone up need (elimination.Rows rate, e, is) = absurd (region_not_rows kept dropped rate is)
+    later_region_holds (r ∷ rs) mid gone up need (elimination.Wide rate, e, is) = absurd (region_not_wide kept dropped rate is)
 
-  first_region_holds : (r : ℕ) (rs : List ℕ) (rows : List Terms) (kept : List (Terms × NeedView)) → All (IsUpTo (size_of givens.space)) rows → ReducedEnds givens budget most rows [] (r ∷ rs) (Region kept) → Holds (r ∷ rs) rows kept
-  first_region_holds r rs rows kept up (elimination.Region next, e, g) =
-      one_more rows r next g.0 g.1 up e g.2 rs kept (later_region_holds rs g.0 kept (mid_up rows r next g.0 g.1 up e g.2) (mid_needed rows r next g.0 g.1 up e g.2) g.3)
-  first_region_holds r rs rows kept up (elimination.Rows rate, e, is) = absurd (region_not_rows kept rate is)
-  first_region_holds r rs rows kept up (elimination.Wide rate, e, is) = absurd (region_not_wide kept rate is)
+    first_region_holds : (r : ℕ) (rs : List ℕ) (rows : List Terms) → All (IsUpTo (size_of givens.space)) rows → ReducedEnds givens budget most rows [] [] (r ∷ rs) (Region kept dropped) → Holds (r ∷ rs) rows kept
+    first_region_holds r rs rows up (elimination.Region next, e, g) =
+        one_more rows r next g.0 g.1 up e g.2 rs kept (later_region_holds rs g.0 g.1 (mid_up rows r next g.0 g.1 up e g.2) (mid_needed rows r next g.0 g.1 up e g.2) g.3)
+    first_region_holds r rs rows up (elimination.Rows rate, e, is) = absurd (region_not_rows kept dropped rate is)
+    first_region_holds r rs rows up (elimination.Wide rate, e, is) = absurd (region_not_wide kept dropped rate is)
 
-  pub region_reduced : (rates : List ℕ) (rows : List Terms) (end : ProjectedView) → 1 ≤ length rates → All (IsUpTo (size_of givens.space)) rows → ReducedEnds givens budget most rows [] rates end
+  pub region_reduced : (rates : List ℕ) (rows : List Terms) (end : ProjectedView) → 1 ≤ length rates → All (IsUpTo (size_of givens.space)) rows → ReducedEnds givens budget most rows [] [] rates end
       → RegionIsReduced givens rates rows end
   region_reduced [] rows end some up e = absurd (omega arith)
-  region_reduced (r ∷ rs) rows (Region kept) some up e = (first_region_holds r rs rows kept up e).region
+  region_reduced (r ∷ rs) rows (Region kept dropped) some up e = (first_region_holds kept dropped r rs rows up e).region
   region_reduced (r ∷ rs) rows (Rows rate) some up e = tt
   region_reduced (r ∷ rs) rows (Wide rate) some up e = tt
 

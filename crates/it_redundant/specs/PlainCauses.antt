@@ -1,5 +1,6 @@
 -- Causes of plain elimination, which goes on past a cause: its lists are over numbers without bounds.
 use Rattle.std.specs.Prelude.{◌≡◌, ℕ, ◌+◌, ◌^◌, ◌<◌, List, ◌∷◌, ◌++◌, length, map, Option}
+use Rattle.it_space.specs.Answers.{CertificateView}
 use Rattle.it_space.specs.Problems.{ProblemView}
 use Rattle.it_space.specs.Rows.{Terms}
 use Rattle.it_eliminate.specs.Elimination.{PairsFit, ordered_rows, next_list, list_after}
@@ -15,11 +16,11 @@ pub record ComesTo (base : ℕ) (start : List Terms) (rates : List ℕ) (rate : 
 
 -- a cause is one of plain elimination at this rate: more than `most` rows after it, or a wide pair of the rows that come to it
 abbrev pub IsPlainCause : ℕ → ℕ → List Terms → List ℕ → ProjectedView → Type 0
-IsPlainCause base most start rates (Region kept) = Unit {0}
+IsPlainCause base most start rates (Region kept dropped) = Unit {0}
 IsPlainCause base most start rates (Rows rate) = (rows : List Terms) × ComesTo base start rates rate rows × (most < length (next_list (base + rate) rows))
 IsPlainCause base most start rates (Wide rate) = (rows : List Terms) × ComesTo base start rates rate rows × (¬ (PairsFit (base + rate) rows))
 
 -- where reduced elimination ends with a cause at a rate, plain elimination has the same cause at this rate
 abbrev pub CausesArePlain : Type 0
-CausesArePlain = (givens : ProblemView) (budget : Option ℕ) (most : ℕ) (rows : List Terms) (last : List (Terms × NeedView)) (rates : List ℕ) (end : ProjectedView)
-    → ReducedEnds givens budget most rows last rates end → IsPlainCause (2 ^ givens.space.variables) most (ordered_rows rows) rates end
+CausesArePlain = (givens : ProblemView) (budget : Option ℕ) (most : ℕ) (rows : List Terms) (last : List (Terms × NeedView)) (gone : List (Terms × CertificateView)) (rates : List ℕ) (end : ProjectedView)
+    → ReducedEnds givens budget most rows last gone rates end → IsPlainCause (2 ^ givens.space.variables) most (ordered_rows rows) rates end

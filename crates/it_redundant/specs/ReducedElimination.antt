@@ -7,29 +7,30 @@ use Rattle.it_eliminate.specs.Elimination.{EliminatedView, EliminationEnds, orde
 use Rattle.it_eliminate.specs.Elimination as elimination
 use Rattle.it_redundant.specs.declared.types.Projected.{Projected}
 use Rattle.it_redundant.specs.declared.types.Projected.TheVariants as ends
-use Rattle.it_redundant.specs.Reduction.{NeedView, Reduces, kept_rows, kept_view}
+use Rattle.it_redundant.specs.Reduction.{NeedView, Reduces, dropped_view, kept_rows, kept_view}
 
--- the rows that are left, with why each stays; or a rate after which there are too many rows, or at which a pair is wide
+-- the last rate's reduction: the rows that are left, with why each stays, and those that went, each with its certificate; or a rate
+-- after which there are too many rows, or at which a pair is wide
 pub data ProjectedView : Type 0 where
-  Region : (kept : List (Terms × NeedView)) → ProjectedView
+  Region : (kept : List (Terms × NeedView)) (dropped : List (Terms × CertificateView)) → ProjectedView
   Rows : (rate : ℕ) → ProjectedView
   Wide : (rate : ℕ) → ProjectedView
 
 -- an end of reduced elimination as contracts see it
 abbrev pub projected_view : Projected → ProjectedView
-projected_view (ends.Region reduced) = Region (kept_view reduced)
+projected_view (ends.Region reduced) = Region (kept_view reduced) (dropped_view reduced)
 projected_view (ends.Rows rate) = Rows rate
 projected_view (ends.Wide rate) = Wide rate
 
 -- after a rate's step its list is reduced, and elimination goes on with what stays; a cause is the end
-abbrev pub GoesOn : ProblemView → Option ℕ → (List (Terms × NeedView) → Type 0) → EliminatedView → ProjectedView → Type 0
-GoesOn givens budget later (elimination.Region next) end = (kept : List (Terms × NeedView)) × (dropped : List (Terms × CertificateView)) × Reduces givens budget [] next kept dropped × later kept
+abbrev pub GoesOn : ProblemView → Option ℕ → (List (Terms × NeedView) → List (Terms × CertificateView) → Type 0) → EliminatedView → ProjectedView → Type 0
+GoesOn givens budget later (elimination.Region next) end = (kept : List (Terms × NeedView)) × (dropped : List (Terms × CertificateView)) × Reduces givens budget [] next kept dropped × later kept dropped
 GoesOn givens budget later (elimination.Rows rate) end = end ≡ Rows rate
 GoesOn givens budget later (elimination.Wide rate) end = end ≡ Wide rate
 
--- what elimination of rates from rows ends with, where `last` tells why the rows stay so far; each rate's step begins with the rows
--- in order, and may leave at most `most` before their reduction
-abbrev pub ReducedEnds : ProblemView → Option ℕ → ℕ → List Terms → List (Terms × NeedView) → List ℕ → ProjectedView → Type 0
-ReducedEnds givens budget most rows last [] end = end ≡ Region last
-ReducedEnds givens budget most rows last (r ∷ rs) end = (step : EliminatedView) × EliminationEnds (2 ^ givens.space.variables) most (ordered_rows rows) (r ∷ []) step
-    × GoesOn givens budget (λ kept. ReducedEnds givens budget most (kept_rows kept) kept rs end) step end
+-- what elimination of rates from rows ends with, where `last` tells why the rows stay so far, and `gone` what the last reduction
+-- dropped; each rate's step begins with the rows in order, and may leave at most `most` before their reduction
+abbrev pub ReducedEnds : ProblemView → Option ℕ → ℕ → List Terms → List (Terms × NeedView) → List (Terms × CertificateView) → List ℕ → ProjectedView → Type 0
+ReducedEnds givens budget most rows last gone [] end = end ≡ Region last gone
+ReducedEnds givens budget most rows last gone (r ∷ rs) end = (step : EliminatedView) × EliminationEnds (2 ^ givens.space.variables) most (ordered_rows rows) (r ∷ []) step
+    × GoesOn givens budget (λ kept dropped. ReducedEnds givens budget most (kept_rows kept) kept dropped rs end) step end

@@ -53,11 +53,11 @@ pub record IsReducedRegion (givens : ProblemView) (rates : List ℕ) (rows : Lis
 
 -- where reduced elimination ends with a region, that is one
 abbrev pub RegionIsReduced : ProblemView → List ℕ → List Terms → ProjectedView → Type 0
-RegionIsReduced givens rates rows (Region kept) = IsReducedRegion givens rates rows kept
+RegionIsReduced givens rates rows (Region kept dropped) = IsReducedRegion givens rates rows kept
 RegionIsReduced givens rates rows (Rows rate) = Unit {0}
 RegionIsReduced givens rates rows (Wide rate) = Unit {0}
 
 -- reduced elimination has one end
 abbrev pub OneReducedEnd : Type 0
-OneReducedEnd = (givens : ProblemView) (budget : Option ℕ) (most : ℕ) (rows : List Terms) (last : List (Terms × NeedView)) (rates : List ℕ) (end other : ProjectedView)
-    → ReducedEnds givens budget most rows last rates end → ReducedEnds givens budget most rows last rates other → end ≡ other
+OneReducedEnd = (givens : ProblemView) (budget : Option ℕ) (most : ℕ) (rows : List Terms) (last : List (Terms × NeedView)) (gone : List (Terms × CertificateView)) (rates : List ℕ) (end other : ProjectedView)
+    → ReducedEnds givens budget most rows last gone rates end → ReducedEnds givens budget most rows last gone rates other → end ≡ other

@@ -30,7 +30,7 @@ pub fn project(
     requires some { 1 ≤ length rates.now }
     requires sets { SpeakOfSets (problem_view givens.now) }
     requires few_rows { rows ≤ 65535 }
-    ensures ends { IfOk result (λ e. ReducedEnds (problem_view givens.now) budget rows system.now.rows.items [] rates.now (projected_view e)) }
+    ensures ends { IfOk result (λ e. ReducedEnds (problem_view givens.now) budget rows system.now.rows.items [] [] rates.now (projected_view e)) }
     ensures region { IfOk result (λ e. RegionIsReduced (problem_view givens.now) rates.now system.now.rows.items (projected_view e)) }
 {
     // named before it is answered, so that the contract of the call stands at the answer
@@ -51,7 +51,7 @@ fn reduced_elimination(
     requires rates { All (λ r. r < system.now.space.rates) rates.now }
     requires some { 1 ≤ length rates.now }
     requires few_rows { rows ≤ 65535 }
-    ensures { IfOk result (λ e. ReducedEnds (problem_view givens.now) budget rows system.now.rows.items [] rates.now (projected_view e)) }
+    ensures { IfOk result (λ e. ReducedEnds (problem_view givens.now) budget rows system.now.rows.items [] [] rates.now (projected_view e)) }
 {
     let mut end = after_rate(alloc, system, rates[0], givens, rows, budget)?;
     for i in 1..rates.len() {

@@ -1,21 +1,22 @@
-use Rattle.std.proofs.Common.{arith}
+use Rattle.std.proofs.Common.{arith, ap, refl, ◌∙◌}
 use Rattle.std.proofs.lemmas.List.{length-map}
+use Rattle.it_outside.specs.Causes.{next_count}
 use Rattle.it_question.specs.AsciiTexts.{IsAsciiQuestion}
-use Rattle.it_cli.proofs.RightLemmas.{all_views, all_written, answers_more, answers_stop, none_written, rose_later, some_written}
+use Rattle.it_cli.proofs.RightLemmas.{all_views, all_written, answers_more, answers_stop, none_written, some_written}
 use Rattle.it_cli.proofs.answering.answer_all.Goals as goal
 
 pub loop-i-init : goal.loop-i-init
-loop-i-init g c = (none_written c.args.budgets _ c.args.format _ _, omega arith)
+loop-i-init g c = (none_written c.args.budgets _ c.args.format _ _, refl)
 
 pub answer_one-requires-clause-ascii : goal.answer_one-requires-clause-ascii
 answer_one-requires-clause-ascii g c = rw c.index-questions-i.is (all_views IsAsciiQuestion c.args.questions.now c.requires.ascii c.loop-i.i c.index-questions-i.result (omega arith))
 
 pub returns-in_default : goal.returns-in_default
-returns-in_default g c = some_written c.args.budgets _ _ c.args.format _ _ _ c.loop-i.i c.loop-i.invariant.0
+returns-in_default g c = (c.loop-i.invariant.1, some_written c.args.budgets _ _ c.args.format _ _ _ c.loop-i.i c.loop-i.invariant.0)
 
 pub returns-in_default-write_all : goal.returns-in_default-write_all
 returns-in_default-write_all g c = (
-  rose_later _ _ _ c.loop-i.invariant.1 c.in_default-write_all.ensures.write,
+  c.in_default-write_all.ensures.counted ∙ ap next_count c.loop-i.invariant.1,
   answers_stop c.args.budgets _ _ _ c.args.format _ _ _ c.args.questions.now c.loop-i.i c.index-questions-i.result c.in-Ok.text.items c.as_slice.result.now c.loop-i.invariant.0 (omega arith) c.index-questions-i.is
       c.in-Ok.ensures c.as_slice.ensures.value c.in_default-write_all.ensures.part,
 )
@@ -24,8 +25,8 @@ pub loop-i-preserved : goal.loop-i-preserved
 loop-i-preserved g c = (
   answers_more c.args.budgets _ _ _ c.args.format _ _ _ c.args.questions.now c.loop-i.i c.index-questions-i.result c.in-Ok.text.items c.as_slice.result.now c.loop-i.invariant.0 (omega arith) c.index-questions-i.is
       c.in-Ok.ensures c.as_slice.ensures.value c.in-Ok-write_all.ensures.whole,
-  omega (arith, c.loop-i.invariant.1, c.in-Ok-write_all.ensures.later),
+  c.in-Ok-write_all.ensures.counted ∙ c.loop-i.invariant.1,
 )
 
 pub returns : goal.returns
-returns g c = all_written c.args.budgets _ _ c.args.format _ _ _ c.loop-i.i c.loop-i.invariant.0 (simp length-map (omega arith))
+returns g c = (c.loop-i.invariant.1, all_written c.args.budgets _ _ c.args.format _ _ _ c.loop-i.i c.loop-i.invariant.0 (simp length-map (omega arith)))
