@@ -1,0 +1,210 @@
+-- What reduced elimination of the rows of the text ends with is the one right answer.
+use Rattle.std.proofs.Common.{◌≡◌, inl, inr, ◌↔◌, ℕ, ◌+◌, ◌^◌, ℤ, pos, ◌*ℤ◌, ◌≤ℤ◌, refl, sym, ap, ap₂, subst, ◌∙◌, arith, List, [], ◌∷◌, ◌++◌, length, map, All}
+use Rattle.std.proofs.lemmas.Int.{ints}
+use Rattle.std.proofs.lemmas.Nat.{pow_pos}
+use Rattle.std.proofs.lemmas.List.Elements.{All-nil, All-cons, All-head, All-tail}
+use Rattle.it_space.specs.declared.answers.Cause.TheVariants.{Width}
+use Rattle.it_space.specs.declared.answers.Mark.{Mark}
+use Rattle.it_space.specs.declared.answers.Mark.TheVariants as marks
+use Rattle.it_space.specs.declared.problems.Constraint.{Constraint}
+use Rattle.it_space.specs.declared.spaces.Space.{Space}
+use Rattle.it_space.specs.Answers.{AnswerView}
+use Rattle.it_space.specs.Answers.AnswerView.{Undecided, Region}
+use Rattle.it_space.specs.Problems.{ProblemView, AreMet}
+use Rattle.it_space.specs.Rows.{Terms, IsUpTo, map_of, value}
+use Rattle.it_space.specs.Spaces.{size_of}
+use Rattle.it_polymatroid.specs.Polymatroid.{IsPolymatroid}
+use Rattle.it_syntax.specs.Givens.{IsTrueAt}
+use Rattle.it_syntax.specs.Meaning.{RelationView, Holds}
+use Rattle.it_question.specs.Questions.{BodyView, OwnLinesView, VerbView, Eliminate}
+use Rattle.it_demand.specs.Demands.{AreStated}
+use Rattle.it_canon.specs.QuestionDemands.{variables_of, AreTrueAt}
+use Rattle.it_demand.specs.LineDemands.{space_of, given_demands, system_forms, AreRowsOf, AreAtLeastZero}
+use Rattle.it_question.specs.Tables.{problem_names_by, problem_lines, problem_lines_by}
+use Rattle.it_demand.proofs.UniqueRows.{one_constraint_list, one_row_list}
+use Rattle.it_eliminate.specs.Elimination.{Member}
+use Rattle.it_eliminate.specs.Projections.{IsPointOf, LacksCoordinate, Extends}
+use Rattle.it_redundant.specs.Reduction.{NeedView, Needed, Unsettled, kept_rows}
+use Rattle.it_redundant.specs.ReducedElimination.{ProjectedView, ReducedEnds}
+use Rattle.it_redundant.specs.ReducedElimination as projections
+use Rattle.it_redundant.specs.Theorems as theorems
+use Rattle.it_redundant.specs.Theorems.{IsReducedRegion, RegionIsReduced}
+use Rattle.it_redundant.proofs.ProjectionLemmas.{one_reduced_end}
+use Rattle.it_answer.specs.declared.types.Budgets.{Budgets}
+use Rattle.it_answer.specs.Shows.{ARegionIsTrue, DoesNotFollow, ShowsRegion, LinesExtend, MarkedRowsAreNeeded, NeededRowsAreNeeded, ShowsBy, region_rows}
+use Rattle.it_answer.specs.DueEliminations.{marked_rows, answer_of_end, IsDueElimination}
+
+-- ---- the rows of the text and its lines
+
+in_of : (rows : List Terms) (p : ℕ → ℤ) → AreAtLeastZero p rows → IsPointOf rows p
+in_of [] p a = tt
+in_of (r ∷ rows) p a = (All-head (λ (row : Terms). pos 0 ≤ℤ value row p) r rows a, in_of rows p (All-tail (λ (row : Terms). pos 0 ≤ℤ value row p) r rows a))
+
+of_in : (rows : List Terms) (p : ℕ → ℤ) → IsPointOf rows p → AreAtLeastZero p rows
+of_in [] p a = All-nil (λ (row : Terms). pos 0 ≤ℤ value row p)
+of_in (r ∷ rows) p a = All-cons (λ (row : Terms). pos 0 ≤ℤ value row p) r rows a.0 (of_in rows p a.1)
+
+abbrev coordinates_of : ℕ → List ℕ → List ℕ
+coordinates_of n rates = map (λ r. 2 ^ n + r) rates
+
+-- coordinate 0 is no rate's
+not_zero : (n : ℕ) (rates : List ℕ) → ¬ (Member 0 (coordinates_of n rates))
+not_zero n [] m = m
+not_zero n (r ∷ rs) (inl e) = omega (arith, e, pow_pos n)
+not_zero n (r ∷ rs) (inr m) = not_zero n rs m
+
+module _ (n : ℕ) (rates : List ℕ) (lines : List RelationView) (rows : List Terms) (met : (p : ℕ → ℤ) → p 0 ≡ pos 0 → AreAtLeastZero p rows ↔ All (Holds n p) lines) where
+  -- at 0 the extended point is 0 as well
+  zero_kept : (k : ℕ) (p q : ℕ → ℤ) → p 0 ≡ pos 0 → ((c : ℕ) → ¬ (Member c (coordinates_of n rates)) → q c ≡ pos k *ℤ p c) → q 0 ≡ pos 0
+  zero_kept k p q z f = f 0 (not_zero n rates) ∙ ap (λ x. pos k *ℤ x) z ∙ omega (arith, ints)
+
+  lines_extend : (p : ℕ → ℤ) → p 0 ≡ pos 0 → Extends (coordinates_of n rates) rows p ↔ LinesExtend n rates lines p
+  lines_extend p z = (
+    λ x. record { factor = x.factor; some = x.some; point = x.point; kept = x.kept; meets = (met x.point (zero_kept x.factor p x.point z x.kept)).0 (of_in rows x.point x.meets) },
+    λ x. record { factor = x.factor; some = x.some; point = x.point; kept = x.kept; meets = in_of rows x.point ((met x.point (zero_kept x.factor p x.point z x.kept)).1 x.meets) },
+  )
+
+-- ---- the rows that stay and their marks
+
+rows_again : (kept : List (Terms × NeedView)) → region_rows (marked_rows kept) ≡ kept_rows kept
+rows_again [] = refl
+rows_again (k ∷ kept) = ap (λ (rs : List Terms). k.0 ∷ rs) (rows_again kept)
+
+-- where a row is marked as needed, it stands between those that stay before it and after it, with its point
+record StandsBetween (kept : List (Terms × NeedView)) (before after : List (Mark × Terms)) (row : Terms) : Type 0 where
+  kept_before : List (Terms × NeedView)
+  kept_after : List (Terms × NeedView)
+  values : List ℤ
+  is : kept ≡ kept_before ++ (row, Needed values) ∷ kept_after
+  before_is : before ≡ marked_rows kept_before
+  after_is : after ≡ marked_rows kept_after
+
+unsettled_not_needed : marks.Unsettled ≡ marks.Needed → ⊥
+unsettled_not_needed e = cc
+
+stands_first : (k : Terms × NeedView) (kept : List (Terms × NeedView)) (after : List (Mark × Terms)) (row : Terms) → marked_rows (k ∷ kept) ≡ (marks.Needed, row) ∷ after → StandsBetween (k ∷ kept) [] after row
+stands_first (t, Needed values) kept after row e = record {
+  kept_before = [];
+  kept_after = kept;
+  values = values;
+  is = let same : (marks.Needed, t) ≡ (marks.Needed, row) = cc in ap (λ (x : Mark × Terms). (x.1, Needed values) ∷ kept) same;
+  before_is = refl;
+  after_is = cc;
+}
+stands_first (t, Unsettled cause) kept after row e =
+    let same : (marks.Unsettled, t) ≡ (marks.Needed, row) = cc in absurd (unsettled_not_needed (ap (λ (x : Mark × Terms). x.0) same))
+
+stands_later : (k : Terms × NeedView) (m : Mark × Terms) (kept : List (Terms × NeedView)) (before after : List (Mark × Terms)) (row : Terms) → marked_rows (k ∷ kept) ≡ m ∷ before ++ (marks.Needed, row) ∷ after
+    → StandsBetween kept before after row → StandsBetween (k ∷ kept) (m ∷ before) after row
+stands_later k m kept before after row e b = record {
+  kept_before = k ∷ b.kept_before;
+  kept_after = b.kept_after;
+  values = b.values;
+  is = ap (λ (ks : List (Terms × NeedView)). k ∷ ks) b.is;
+  before_is = cc;
+  after_is = b.after_is;
+}
+
+stands_between : (kept : List (Terms × NeedView)) (before after : List (Mark × Terms)) (row : Terms) → marked_rows kept ≡ before ++ (marks.Needed, row) ∷ after → StandsBetween kept before after row
+stands_between [] [] after row e = absurd cc
+stands_between [] (m ∷ before) after row e = absurd cc
+stands_between (k ∷ kept) [] after row e = stands_first k kept after row e
+stands_between (k ∷ kept) (m ∷ before) after row e = stands_later k m kept before after row e (stands_between kept before after row cc)
+
+-- ---- what reduced elimination ends with is right
+
+module _ (q : BodyView) (rates : List ℕ) (givens : ProblemView) (rows : List Terms) (same : givens.space ≡ space_of q.names)
+    (true_at : (p : ℕ → ℤ) → p 0 ≡ pos 0 → AreMet p givens.constraints ↔ All (IsTrueAt givens.space.variables p) q.lines.givens)
+    (met : (p : ℕ → ℤ) → p 0 ≡ pos 0 → AreAtLeastZero p rows ↔ All (Holds givens.space.variables p) q.lines.rows) where
+  -- a polymatroid and rates at which the givens are true meet their constraints
+  meets_givens : (p : ℕ → ℤ) → IsPolymatroid (length q.names.variables) p → All (IsTrueAt (length q.names.variables) p) q.lines.givens → theorems.MeetsGivens givens p
+  meets_givens p h g = (
+    subst (λ (s : Space). IsPolymatroid s.variables p) (sym same) h,
+    (true_at p h.empty).1 (subst (λ (s : Space). All (IsTrueAt s.variables p) q.lines.givens) (sym same) g),
+  )
+
+  row_does_not_follow : (others other_rows : List Terms) (row : Terms) (values : List ℤ) → others ≡ other_rows → theorems.SeparatesRow givens others row values → DoesNotFollow q other_rows row
+  row_does_not_follow others other_rows row values e x = record {
+    point = map_of values;
+    polymatroid = subst (λ (s : Space). IsPolymatroid s.variables (map_of values)) same x.meets.0;
+    givens_true = subst (λ (s : Space). All (IsTrueAt s.variables (map_of values)) q.lines.givens) same ((true_at (map_of values) refl).0 x.meets.1);
+    others_hold = subst (λ (rs : List Terms). IsPointOf rs (map_of values)) e x.others_hold;
+    violated = x.violated;
+  }
+
+  are_needed : (kept : List (Terms × NeedView)) → theorems.AreNeeded givens kept → MarkedRowsAreNeeded q (marked_rows kept)
+  are_needed kept need before after row e =
+      let b = stands_between kept before after row e in
+      let others : kept_rows b.kept_before ++ kept_rows b.kept_after ≡ region_rows before ++ region_rows after =
+      ap₂ (λ (xs ys : List Terms). xs ++ ys) (sym (rows_again b.kept_before) ∙ ap region_rows (sym b.before_is)) (sym (rows_again b.kept_after) ∙ ap region_rows (sym b.after_is)) in
+      row_does_not_follow (kept_rows b.kept_before ++ kept_rows b.kept_after) (region_rows before ++ region_rows after) row b.values others (need b.kept_before b.kept_after (row, Needed b.values) b.is)
+
+  region_shown : (kept : List (Terms × NeedView)) → IsReducedRegion givens rates rows kept → ShowsRegion q rates (marked_rows kept)
+  region_shown kept x = record {
+    coordinates = subst (λ (rs : List Terms). All (IsUpTo (size_of (space_of q.names))) rs) (sym (rows_again kept)) (subst (λ (s : Space). All (IsUpTo (size_of s)) (kept_rows kept)) same x.coordinates);
+    free = λ r m. subst (λ (rs : List Terms). LacksCoordinate (2 ^ length q.names.variables + r) rs) (sym (rows_again kept)) (subst (λ (s : Space). LacksCoordinate (2 ^ s.variables + r) (kept_rows kept)) same (x.free r m));
+    exact = λ p h g. subst (λ (rs : List Terms). IsPointOf rs p ↔ LinesExtend (length q.names.variables) rates q.lines.rows p) (sym (rows_again kept))
+        (subst (λ (s : Space). IsPointOf (kept_rows kept) p ↔ LinesExtend s.variables rates q.lines.rows p) same (
+          λ a. (lines_extend givens.space.variables rates q.lines.rows rows met p h.empty).0 ((x.exact p (meets_givens p h g)).0 a),
+          λ e. (x.exact p (meets_givens p h g)).1 ((lines_extend givens.space.variables rates q.lines.rows rows met p h.empty).1 e),
+        ));
+    needed = are_needed kept x.needed;
+  }
+
+  shows_end : (end : ProjectedView) → RegionIsReduced givens rates rows end → ShowsBy q (Eliminate rates) (answer_of_end end)
+  shows_end (projections.Region kept dropped) x = region_shown kept x
+  shows_end (projections.Rows rate) x = tt
+  shows_end (projections.Wide rate) x = tt
+
+  pub region_shows : (end : ProjectedView) (answer : AnswerView) → RegionIsReduced givens rates rows end → answer ≡ answer_of_end end → ShowsBy q (Eliminate rates) answer
+  region_shows end answer x is = subst (ShowsBy q (Eliminate rates)) (sym is) (shows_end end x)
+
+  pub region_is_due : (budgets : Budgets) (end : ProjectedView) (answer : AnswerView) → AreStated givens.space (given_demands givens.space.variables 1 q.lines.givens) givens.constraints
+      → AreRowsOf givens.space (system_forms givens.space.variables q.lines.rows) rows → ReducedEnds givens budgets.pivots budgets.rows rows [] [] rates end → answer ≡ answer_of_end end → IsDueElimination budgets q rates answer
+  region_is_due budgets end answer stated are ends is = record {
+    givens = givens;
+    space = same;
+    constraints = subst (λ (s : Space). AreStated givens.space (given_demands s.variables 1 q.lines.givens) givens.constraints) same stated;
+    rows = rows;
+    are_rows = subst (λ (s : Space). AreRowsOf s (system_forms s.variables q.lines.rows) rows) same are;
+    end = end;
+    ends = ends;
+    is = is;
+  }
+
+-- ---- there is one right answer
+
+pub one_elimination : (budgets : Budgets) (q : BodyView) (rates : List ℕ) (a b : AnswerView) → IsDueElimination budgets q rates a → IsDueElimination budgets q rates b → a ≡ b
+one_elimination budgets q rates a b x y =
+    let n = length q.names.variables in
+    let demands = given_demands n 1 q.lines.givens in
+    let same_space : x.givens.space ≡ y.givens.space = x.space ∙ sym y.space in
+    let same_givens : x.givens ≡ y.givens = ap₂ (λ (s : Space) (cs : List Constraint). record { space = s; constraints = cs }) same_space
+    (one_constraint_list y.givens.space demands x.givens.constraints y.givens.constraints
+    (subst (λ (s : Space). AreStated s demands x.givens.constraints) same_space x.constraints) y.constraints) in
+    let same_rows : x.rows ≡ y.rows = one_row_list (space_of q.names) (system_forms n q.lines.rows) x.rows y.rows x.are_rows y.are_rows in
+    let ends : ReducedEnds y.givens budgets.pivots budgets.rows y.rows [] [] rates x.end =
+    subst (λ (g : ProblemView). ReducedEnds g budgets.pivots budgets.rows y.rows [] [] rates x.end) same_givens
+    (subst (λ (rs : List Terms). ReducedEnds x.givens budgets.pivots budgets.rows rs [] [] rates x.end) same_rows x.ends) in
+    x.is ∙ ap answer_of_end (one_reduced_end y.givens budgets.pivots budgets.rows y.rows [] [] rates x.end y.end ends y.ends) ∙ sym y.is
+
+-- ---- what follows
+
+pub not_width : (step : ℕ) (end : ProjectedView) → Undecided (Width step) ≡ answer_of_end end → ⊥
+not_width step (projections.Region kept dropped) e = cc
+not_width step (projections.Rows rate) e = cc
+not_width step (projections.Wide rate) e = cc
+
+pub a_region_is_true : ARegionIsTrue
+a_region_is_true q rates rows is x p together =
+    let a : ShowsRegion q rates rows = subst (λ (v : VerbView). ShowsBy q v (Region rows)) is x in
+    let n_is : variables_of q ≡ length q.names.variables = ap (λ verb. length (problem_names_by q.names verb).variables) is in
+    subst (λ (n : ℕ). IsPointOf (region_rows rows) p ↔ LinesExtend n rates q.lines.rows p) (sym n_is)
+    (a.exact p (subst (λ (n : ℕ). IsPolymatroid n p) n_is together.0) (subst (λ (n : ℕ). All (IsTrueAt n p) q.lines.givens) n_is (givens_of_lines together.1)))
+  where
+    givens_of_lines : AreTrueAt (variables_of q) p (problem_lines q) → All (IsTrueAt (variables_of q) p) q.lines.givens
+    givens_of_lines l = subst (λ (own : OwnLinesView). All (IsTrueAt (variables_of q) p) own.givens) (ap (problem_lines_by q.lines) is) l.givens
+
+pub needed_rows_are_needed : NeededRowsAreNeeded
+needed_rows_are_needed q rates rows is x =
+    let a : ShowsRegion q rates rows = subst (λ (v : VerbView). ShowsBy q v (Region rows)) is x in a.needed

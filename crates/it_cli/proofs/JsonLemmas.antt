@@ -1,0 +1,284 @@
+-- A right answer fits its question, so that what is written of it reads back as it.
+use Rattle.std.proofs.Common.{◌≡◌, ◌⊎◌, inl, inr, ℕ, zero, suc, ◌+◌, ◌<◌, ◌≤◌, ◌^◌, min, ℤ, List, [], ◌∷◌, map, filter, length, All, Bool, true, false, Option, Some, None, IfSome, refl, sym, ap, subst, ◌∙◌, arith, lit≤, cond}
+use Rattle.std.proofs.lemmas.List.{length-append, length-map}
+use Rattle.std.proofs.lemmas.List.Elements.{All-nil, All-cons, All-head, All-tail}
+use Rattle.it_number.specs.Limit.{IsWithin}
+use Rattle.it_rational.specs.Rational.{Rational}
+use Rattle.it_space.specs.declared.answers.Cause.{Cause}
+use Rattle.it_space.specs.declared.answers.Cause.TheVariants as causes
+use Rattle.it_space.specs.declared.spaces.Space.{Space}
+use Rattle.it_space.specs.Answers.{AnswerView, CertificateView, is_nonzero_weight}
+use Rattle.it_space.specs.Answers.AnswerView.{Yes, No, Undecided, Region, Contained, Open}
+use Rattle.it_space.specs.Problems.{ProblemView, IsProblem}
+use Rattle.it_space.specs.Rows.{Terms, Ascends, IsCanonical}
+use Rattle.it_space.specs.Spaces.{size_of}
+use Rattle.it_polymatroid.specs.Certificates.{Form}
+use Rattle.it_polymatroid.specs.Elementals.{elementals}
+use Rattle.it_elemental.proofs.GeneratorLemmas.{few_elementals}
+use Rattle.it_closure.specs.Reading.{dependences_of}
+use Rattle.it_run.specs.Runs.{RunEndView, EndsAs, EndsBy, IsWithinBudget, clip_end}
+use Rattle.it_run.specs.Runs.RunEndView.{Weights, Point, Pivots, Width}
+use Rattle.it_simplex.specs.Answers.{Solves}
+use Rattle.it_prove.specs.Closed.{closed_places, spread_point, spread_values}
+use Rattle.it_prove.specs.Scaling.{NumbersFit, scale_of, scaled_point}
+use Rattle.it_prove.specs.Steps.{terms_of_places}
+use Rattle.it_prove.specs.ProofViews as proof_views
+use Rattle.it_prove.specs.ProofViews.{Follows, Runs, AreProofsOf}
+use Rattle.it_prove.proofs.ProofLemmas.{scaled_within}
+use Rattle.it_prove.proofs.PointLemmas.{places_rise, pairs_canonical, point_spread, spread_within}
+use Rattle.it_syntax.specs.declared.types.Sign.{Sign}
+use Rattle.it_syntax.specs.declared.types.Sign.TheVariants.{AtLeast, AtMost, Equal}
+use Rattle.it_syntax.specs.Meaning.{RelationView}
+use Rattle.it_syntax.specs.NamesViews.{NamesView}
+use Rattle.it_question.specs.Questions.{BodyView, Prove}
+use Rattle.it_demand.specs.Canonical.{form_of}
+use Rattle.it_demand.specs.Demands.{Demand, States, AreStated, kind_of}
+use Rattle.it_demand.specs.Targets.{targets, demanded_forms}
+use Rattle.it_canon.specs.QuestionDemands.{variables_of, question_demands, Poses}
+use Rattle.it_demand.specs.LineDemands.{space_of}
+use Rattle.it_question.specs.Tables.{problem_names, problem_names_by}
+use Rattle.it_demand.proofs.ZipLemmas.{zip-length}
+use Rattle.it_eliminate.specs.Elimination.{Member}
+use Rattle.it_redundant.specs.ReducedElimination.{ProjectedView}
+use Rattle.it_redundant.specs.ReducedElimination as projections
+use Rattle.it_answer.specs.declared.types.Budgets.{Budgets}
+use Rattle.it_answer.specs.Forms.{all_demands, demand_of_elemental, demand_of_line, CertifyAll, MayStand}
+use Rattle.it_answer.specs.Shows.{ShowsBy, ViolatesFirst}
+use Rattle.it_answer.specs.DueEliminations.{answer_of_end, IsDueElimination}
+use Rattle.it_answer.specs.DueRelations.{PointIsDue, CauseIsDue, IsDueRelation}
+use Rattle.it_answer.proofs.UniqueLemmas.{undecided_same}
+use Rattle.it_certificate.specs.AnswerReading.{is_equality}
+use Rattle.it_certificate.specs.AnswerShapes.{IsNumberedAmount, IsNumbered, IsFoundIn, IsCauseFor, HasVerbShape}
+use Rattle.it_certificate.specs.Numerals.{step_of}
+use Rattle.it_certificate.proofs.RowLemmas.{nonzero_passes}
+use Rattle.it_certificate.specs.Laws.{without_zeros}
+use Rattle.it_certificate.specs.Values.{rate_name}
+use Rattle.it_report.proofs.CountLemmas.{targets_counted}
+use Rattle.it_cli.proofs.LineLemmas.{point_size}
+use Rattle.it_cli.proofs.RateLemmas.{IsEndOf, end_of_rates}
+
+-- ---- the ends of one target
+
+pub yes_same : (v w : CertificateView) → proof_views.Yes v ≡ proof_views.Yes w → v ≡ w
+yes_same v w e = cc
+
+pub no_same : (u v : List ℤ) → proof_views.No u ≡ proof_views.No v → u ≡ v
+no_same u v e = cc
+
+-- a proof's scale is within the limit, and its weights ascend
+pub record IsScaled (w : CertificateView) : Type 0 where
+  pub scale : IsWithin w.scale
+  pub canonical : IsCanonical w.weights
+
+module _ (q : ProblemView) (target : Terms) where
+  scaled_by_end : (w : CertificateView) (e : RunEndView (List (ℕ × Rational)) (List Rational)) → Follows q target e (proof_views.Yes w) → IsScaled w
+  scaled_by_end w (Weights ws) (inl h) =
+      subst IsScaled (yes_same h.0 w (sym h.3)) (record { scale = subst IsWithin (sym h.1.scale) h.2.lifted.numbers.scale; canonical = h.1.canonical })
+  scaled_by_end w (Weights ws) (inr h) = let e = h.1 in absurd (cc)
+  scaled_by_end w (Point qs) (inl h) = let e = h.1 in absurd (cc)
+  scaled_by_end w (Point qs) (inr h) = let e = h.1 in absurd (cc)
+  scaled_by_end w (Pivots k) e = absurd (cc)
+  scaled_by_end w (Width k) e = absurd (cc)
+
+  -- the values of a point are within the limit
+  spread_fits : (qs : List Rational) → IsProblem q → NumbersFit qs → All IsWithin (spread_point q qs)
+  spread_fits qs limits fit =
+      let cs = closed_places q in
+      let row = terms_of_places (closed_places q) (scaled_point qs) in
+      let canonical : IsCanonical row = pairs_canonical cs (scaled_point qs) row refl (places_rise q cs limits refl) (scaled_within (scale_of qs) qs (scaled_point qs) refl fit.numbers) in
+      let values = spread_values q.space.variables (dependences_of q) (size_of q.space) row in
+      subst (All IsWithin) (point_spread q q.space (dependences_of q) cs qs row values refl refl refl refl refl) (spread_within q.space.variables (dependences_of q) (size_of q.space) row canonical)
+
+  values_by_end : IsProblem q → (values : List ℤ) (e : RunEndView (List (ℕ × Rational)) (List Rational)) → Follows q target e (proof_views.No values) → All IsWithin values
+  values_by_end limits values (Weights ws) (inl h) = let e = h.3 in absurd (cc)
+  values_by_end limits values (Weights ws) (inr h) = let e = h.1 in absurd (cc)
+  values_by_end limits values (Point qs) (inl h) = subst (All IsWithin) (no_same (spread_point q qs) values (sym h.1)) (spread_fits qs limits h.0.numbers)
+  values_by_end limits values (Point qs) (inr h) = let e = h.1 in absurd (cc)
+  values_by_end limits values (Pivots k) e = absurd (cc)
+  values_by_end limits values (Width k) e = absurd (cc)
+
+-- ---- numbers of steps that are told
+
+-- the number of a step is at most this
+abbrev IsUpToStep : {W P : Type 0} → ℕ → RunEndView W P → Type 0
+IsUpToStep most (Weights ws) = Unit {0}
+IsUpToStep most (Point qs) = Unit {0}
+IsUpToStep most (Pivots j) = j ≤ most
+IsUpToStep most (Width j) = j ≤ most
+
+-- the greatest number of a step that is told
+abbrev last_step : ℕ
+last_step = 4294967295
+
+up_to_more : {W P : Type 0} (few most : ℕ) (e : RunEndView W P) → few ≤ most → IsUpToStep few e → IsUpToStep most e
+up_to_more few most (Weights ws) l h = tt
+up_to_more few most (Point qs) l h = tt
+up_to_more few most (Pivots j) l h = omega (arith, l, h)
+up_to_more few most (Width j) l h = omega (arith, l, h)
+
+clipped_up_to : {W P : Type 0} (e : RunEndView W P) → IsWithinBudget e → IsUpToStep last_step (clip_end e)
+clipped_up_to (Weights ws) h = tt
+clipped_up_to (Point qs) h = tt
+clipped_up_to (Pivots j) h = absurd h
+clipped_up_to (Width j) h = let l : min j 4294967295 ≤ 4294967295 = omega arith in l
+
+module _ {S W P : Type 0} (IsDone IsStuck Fits : S → Type 0) (next : S → S) (weights : S → W) (point : S → P) where
+  by_step : (left k : ℕ) (s : S) (e : RunEndView W P) → (EndsAs IsDone IsStuck Fits next weights point left (suc k) (next s) e → IsUpToStep (suc k + left) e)
+      → (¬ (Fits s) × (e ≡ Width (suc k))) ⊎ (Fits s × EndsAs IsDone IsStuck Fits next weights point left (suc k) (next s) e) → IsUpToStep (k + suc left) e
+  by_step left k s e more (inl g) = subst (IsUpToStep (k + suc left)) (sym g.1) (let l : suc k ≤ k + suc left = omega arith in l)
+  by_step left k s e more (inr g) = let same : suc k + left ≡ k + suc left = omega arith in subst (λ n. IsUpToStep n e) same (more g.1)
+
+  in_budget : (left k : ℕ) (s : S) (e : RunEndView W P) → EndsAs IsDone IsStuck Fits next weights point left k s e → IsUpToStep (k + left) e
+  in_budget zero k s e (inl h) = subst (IsUpToStep (k + 0)) (sym h.1) tt
+  in_budget zero k s e (inr (inl h)) = subst (IsUpToStep (k + 0)) (sym h.2) tt
+  in_budget zero k s e (inr (inr h)) = subst (IsUpToStep (k + 0)) (sym h.2) (let l : k ≤ k + 0 = omega arith in l)
+  in_budget (suc left) k s e (inl h) = subst (IsUpToStep (k + suc left)) (sym h.1) tt
+  in_budget (suc left) k s e (inr (inl h)) = subst (IsUpToStep (k + suc left)) (sym h.2) tt
+  in_budget (suc left) k s e (inr (inr h)) = by_step left k s e (in_budget left (suc k) (next s) e) h.2
+
+  -- with a budget of 32 bits, or without one
+  ends_told : (budget : Option ℕ) (s : S) (e : RunEndView W P) → IfSome budget (λ n. n < 2 ^ 32) → EndsBy IsDone IsStuck Fits next weights point budget s e → IsUpToStep last_step e
+  ends_told (Some most) s e few h = up_to_more (0 + most) last_step e (omega (arith, few)) (in_budget most 0 s e h)
+  ends_told None s e few h = subst (IsUpToStep last_step) (sym h.is_clipped) (clipped_up_to h.end h.within)
+
+start_up_to : {W P : Type 0} (e : RunEndView W P) → e ≡ Width 0 → IsUpToStep last_step e
+start_up_to e is = subst (IsUpToStep last_step) (sym is) (let l : 0 ≤ last_step = omega arith in l)
+
+solve_end_up_to : (coordinates : List ℕ) (columns : List Terms) (target : Terms) (budget : Option ℕ) (e : RunEndView (List (ℕ × Rational)) (List Rational)) → IfSome budget (λ n. n < 2 ^ 32) → Solves coordinates columns target budget e → IsUpToStep last_step e
+solve_end_up_to coordinates columns target budget e few (inl h) = start_up_to e h.1
+solve_end_up_to coordinates columns target budget e few (inr h) = ends_told _ _ _ _ _ _ budget _ e few h.1
+
+run_end_up_to : (q : ProblemView) (target : Terms) (budget : Option ℕ) (e : RunEndView (List (ℕ × Rational)) (List Rational)) → IfSome budget (λ n. n < 2 ^ 32) → Runs q target budget e → IsUpToStep last_step e
+run_end_up_to q target budget e few (inl h) = start_up_to e h.1
+run_end_up_to q target budget e few (inr h) = solve_end_up_to _ _ _ budget e few h.1
+
+cause_by_end : (v : NamesView) (q : ProblemView) (target : Terms) (c : Cause) (e : RunEndView (List (ℕ × Rational)) (List Rational)) → IsUpToStep last_step e
+    → Follows q target e (proof_views.Undecided c) → IsCauseFor v c
+cause_by_end v q target c (Weights ws) b (inl h) = let e = h.3 in absurd (cc)
+cause_by_end v q target c (Weights ws) b (inr h) = subst (IsCauseFor v) (undecided_same causes.Scale c (sym h.1)) tt
+cause_by_end v q target c (Point qs) b (inl h) = let e = h.1 in absurd (cc)
+cause_by_end v q target c (Point qs) b (inr h) = subst (IsCauseFor v) (undecided_same causes.Scale c (sym h.1)) tt
+cause_by_end v q target c (Pivots k) b e = subst (IsCauseFor v) (undecided_same (causes.Pivots k) c (sym e)) (let l : k < 2 ^ 32 = omega (arith, b) in l)
+cause_by_end v q target c (Width k) b e = subst (IsCauseFor v) (undecided_same (causes.Width k) c (sym e)) (let l : k < 2 ^ 32 = omega (arith, b) in l)
+
+-- ---- certificates
+
+pairs_below : (ds : List Demand) → length ds ≤ 2 ^ 32 → (from : ℕ) (ts : Terms) → Ascends from ts → All (MayStand ds) ts → All IsNumberedAmount ts
+pairs_below ds few from [] a all = All-nil IsNumberedAmount
+pairs_below ds few from (t ∷ ts) a all =
+    let h = All-head (MayStand ds) t ts all in
+    let l : t.0 < 2 ^ 32 = let below = h.0 in omega (arith, below, few) in
+    All-cons IsNumberedAmount t ts (l, a.2) (pairs_below ds few (t.0 + 1) ts a.3 (All-tail (MayStand ds) t ts all))
+
+-- the run's proofs of targets and of obligations
+pub proofs_scaled : (p : ProblemView) (budget : Option ℕ) (ts : List Terms) (ws : List CertificateView) → AreProofsOf p budget ts ws → All IsScaled ws
+proofs_scaled p budget [] [] d = All-nil IsScaled
+proofs_scaled p budget [] (w ∷ ws) d = absurd d
+proofs_scaled p budget (t ∷ ts) [] d = absurd d
+proofs_scaled p budget (t ∷ ts) (w ∷ ws) d = All-cons IsScaled w ws (scaled_by_end p t w d.0.end d.0.follows) (proofs_scaled p budget ts ws d.1)
+
+module _ (q : BodyView) (p : ProblemView) (space : p.space ≡ space_of (problem_names q)) (limits : IsProblem p) (stated : AreStated p.space (question_demands q) p.constraints) where
+  demands_counted : length (question_demands q) ≤ 2 ^ 20
+  demands_counted =
+      let same = zip-length (λ d c. States p.space d.origin d.demand c) (question_demands q) p.constraints stated in
+      omega (arith, same, limits.few)
+
+  few_variables : variables_of q ≤ 10
+  few_variables = subst (λ (s : Space). s.variables ≤ 10) space limits.space.few
+
+  few_generators : length (all_demands (variables_of q) (question_demands q)) ≤ 2 ^ 32
+  unfolding all_demands
+  few_generators =
+      let n = variables_of q in
+      let es = map (demand_of_elemental (variables_of q)) (elementals (variables_of q)) in
+      let ds = map demand_of_line (question_demands q) in
+      let sum = length-append es ds in
+      let first = length-map (elementals (variables_of q)) (demand_of_elemental (variables_of q)) in
+      let second = length-map (question_demands q) demand_of_line in
+      let e : 20000 + 2 ^ 20 ≤ 2 ^ 32 = lit≤ tt in
+      omega (arith, sum, first, second, few_elementals (variables_of q) few_variables, demands_counted, e)
+
+  -- certificates by the text, of such a shape, are numbered
+  pub all_numbered : (fs : List Form) (ws : List CertificateView) → CertifyAll q fs ws → All IsScaled ws → All IsNumbered ws
+  all_numbered fs [] c d = All-nil IsNumbered
+  all_numbered [] (w ∷ ws) c d = absurd c
+  all_numbered (f ∷ fs) (w ∷ ws) c d =
+      let s = All-head IsScaled w ws d in
+      All-cons IsNumbered w ws (record { scale = s.scale; weights = pairs_below (all_demands (variables_of q) (question_demands q)) few_generators 0 w.weights s.canonical c.0.allowed })
+      (all_numbered fs ws c.1 (All-tail IsScaled w ws d))
+
+  pub all_counted : (fs : List Form) (ws : List CertificateView) → CertifyAll q fs ws → length ws ≡ length fs
+  all_counted [] [] c = refl
+  all_counted [] (w ∷ ws) c = absurd c
+  all_counted (f ∷ fs) [] c = absurd c
+  all_counted (f ∷ fs) (w ∷ ws) c = ap suc (all_counted fs ws c.1)
+
+module _ (q : BodyView) (r : RelationView) (b : Poses q r) where
+  -- ---- points
+
+  values_due : (budget : Option ℕ) (ts : List Terms) (back : Bool) (values : List ℤ) → PointIsDue b.problem budget ts back values → All IsWithin values
+  values_due budget [] back values d = absurd d
+  values_due budget (t ∷ ts) false values d = values_by_end b.problem t b.is_problem.limits values d.end d.follows
+  values_due budget (t ∷ []) true values d = absurd d
+  values_due budget (t ∷ u ∷ ts) true values d = values_by_end b.problem u b.is_problem.limits values d.1.end d.1.follows
+
+  second_only : (s : Sign) (f : Form) (back : Bool) (values : List ℤ) → ViolatesFirst q (demanded_forms (kind_of s) f) back values → back ≡ true → is_equality s ≡ true
+  second_only AtLeast f true values c e = absurd c
+  second_only AtMost f true values c e = absurd c
+  second_only Equal f back values c e = refl
+  second_only AtLeast f false values c e = absurd (cc)
+  second_only AtMost f false values c e = absurd (cc)
+
+  -- ---- causes
+
+  cause_due : (budget : Option ℕ) → IfSome budget (λ n. n < 2 ^ 32) → (ts : List Terms) (c : Cause) → CauseIsDue b.problem budget ts c → IsCauseFor q.names c
+  cause_due budget few [] c d = absurd d
+  cause_due budget few (t ∷ ts) c (inl e) = cause_by_end q.names b.problem t c e.end (run_end_up_to b.problem t budget e.end few e.run) e.follows
+  cause_due budget few (t ∷ ts) c (inr d) = cause_due budget few ts c d.1
+
+-- a right answer to `prove` fits its question
+pub right_prove_fits : (budget : Option ℕ) (q : BodyView) (r : RelationView) (a : AnswerView) → IfSome budget (λ n. n < 2 ^ 32) → q.verb ≡ Prove r → ShowsBy q (Prove r) a → IsDueRelation budget q r a → HasVerbShape q.names (Prove r) a
+right_prove_fits budget q r (Yes ws) few verb shown due =
+    let b = due.poses in (
+      all_counted q b.problem b.is_problem.space b.is_problem.limits b.is_problem.constraints (targets (variables_of q) r) ws shown ∙ targets_counted r.sign (form_of (variables_of q) r),
+      all_numbered q b.problem b.is_problem.space b.is_problem.limits b.is_problem.constraints (targets (variables_of q) r) ws shown (proofs_scaled b.problem budget b.rows ws due.due),
+    )
+right_prove_fits budget q r (No back values) few verb shown due =
+    let own : space_of (problem_names q) ≡ space_of q.names = ap (λ (v : _). space_of (problem_names_by q.names v)) verb in (
+      point_size q (targets (variables_of q) r) back values shown ∙ ap size_of own,
+      values_due q r due.poses budget due.poses.rows back values due.due,
+      second_only q r due.poses r.sign (form_of (variables_of q) r) back values shown,
+    )
+right_prove_fits budget q r (Undecided cause) few verb shown due = cause_due q r due.poses budget few due.poses.rows cause due.due
+right_prove_fits budget q r (Region rows) few verb shown due = absurd shown
+right_prove_fits budget q r (Contained parts proofs) few verb shown due = absurd shown
+right_prove_fits budget q r (Open tried) few verb shown due = absurd shown
+
+-- ---- eliminations that end with a cause
+
+answer_cause_same : (c d : Cause) → Undecided c ≡ Undecided d → c ≡ d
+answer_cause_same c d e = cc
+
+-- A cause of an elimination fits, where each listed rate is found by its name, and the name is no number.
+pub eliminated_cause_fits : (budgets : Budgets) (q : BodyView) (rates : List ℕ) (cause : Cause) → ((r : ℕ) → Member r rates → IsFoundIn q.names r × (step_of (rate_name q.names r) ≡ None))
+    → IsDueElimination budgets q rates (Undecided cause) → IsCauseFor q.names cause
+eliminated_cause_fits budgets q rates cause named due =
+    by_end due.end (end_of_rates due.givens budgets.pivots budgets.rows due.rows [] [] rates due.end due.ends) due.is
+  where
+    by_end : (end : ProjectedView) → IsEndOf rates end → Undecided cause ≡ answer_of_end end → IsCauseFor q.names cause
+    by_end (projections.Region kept dropped) h is = absurd (cc)
+    by_end (projections.Rows r) h is = subst (IsCauseFor q.names) (sym (answer_cause_same cause (causes.Rows r) is)) (named r h).0
+    by_end (projections.Wide r) h is = subst (IsCauseFor q.names) (sym (answer_cause_same cause (causes.WideRate r) is)) (named r h)
+
+-- ---- weights other than 0
+
+weights_are_some : (from : ℕ) (ts : Terms) → Ascends from ts → filter is_nonzero_weight ts ≡ ts
+weights_are_some from [] a = refl
+weights_are_some from (t ∷ ts) a = ap (λ b. cond b (t ∷ filter is_nonzero_weight ts) (filter is_nonzero_weight ts)) (nonzero_passes t.1 a.1) ∙ ap (λ zs. t ∷ zs) (weights_are_some (t.0 + 1) ts a.3)
+
+-- A certificate whose weights ascend is written whole.
+pub all_weights_written : (ws : List CertificateView) → All (λ w. IsCanonical w.weights) ws → map without_zeros ws ≡ ws
+all_weights_written [] all = refl
+all_weights_written (w ∷ ws) all =
+    ap (λ ps. record { scale = w.scale; weights = ps } ∷ map without_zeros ws) (weights_are_some 0 w.weights (All-head (λ (w : CertificateView). IsCanonical w.weights) w ws all))
+    ∙ ap (λ vs. w ∷ vs) (all_weights_written ws (All-tail (λ (w : CertificateView). IsCanonical w.weights) w ws all))
