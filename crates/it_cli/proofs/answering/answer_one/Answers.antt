@@ -1,8 +1,7 @@
 use Rattle.it_question.specs.Questions.{question_body}
 use Rattle.it_space.specs.Answers.{answer_view}
 use Rattle.it_answer.proofs.KindLemmas.{is_answer_to}
-use Rattle.it_cli.proofs.LineLemmas.{right_is_printable}
-use Rattle.it_answer.proofs.GivenLemmas.{few_constraints}
+use Rattle.it_cli.proofs.LineLemmas.{few_constraints, right_is_printable}
 use Rattle.it_cli.proofs.answering.answer_one.Goals as goal
 
 pub lines-requires-clause-fits : goal.lines-requires-clause-fits
