@@ -1,6 +1,6 @@
 //! Tests: the rows of relations and of `given` lines, at each verb and each limit.
 
-ghost use Rattle.std.specs.Prelude.{◌<◌, ◌^◌, map, All};
+ghost use Rattle.std.specs.Prelude.{◌≡◌, ◌<◌, ◌^◌, map, All};
 ghost use Rattle.std.specs.Bool.{OnTrue};
 ghost use Rattle.it_syntax.specs.Givens.{given_view, IsRelationOf, AreSetsOf, IsGivenOf};
 ghost use Rattle.it_syntax.specs.Meaning.{IsAtomOf, relation_view};
@@ -68,6 +68,13 @@ fn are_atoms(terms: &[Term], rates: u8) -> bool
     terms.iter().all(|term| is_atom(term, rates))
 }
 
+fn are_whole(terms: &[Term]) -> bool
+    ensures { OnTrue result (All (λ t. t.denominator ≡ 1) terms.now) }
+{
+    terms.iter().all(|term| term.denominator == 1)
+}
+
+#[tactic(auto, using(crate::proofs::WholeTerms::whole_multiple))]
 fn is_relation(relation: &Relation, rates: u8) -> bool
     ensures { OnTrue result (IsRelationOf 4 rates (relation_view relation.now)) }
 {
@@ -75,7 +82,12 @@ fn is_relation(relation: &Relation, rates: u8) -> bool
         relation.left.terms.as_slice(),
         relation.right.terms.as_slice(),
     );
-    left.len() <= 128 && right.len() <= 128 && are_atoms(left, rates) && are_atoms(right, rates)
+    left.len() <= 128
+        && right.len() <= 128
+        && are_atoms(left, rates)
+        && are_atoms(right, rates)
+        && are_whole(left)
+        && are_whole(right)
 }
 
 fn are_sets(sets: &[VarSet], least: usize) -> bool
