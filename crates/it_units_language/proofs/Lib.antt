@@ -1,1 +1,1 @@
-mod WholeTerms
+pub mod PlainLemmas

@@ -2,6 +2,7 @@
 
 ghost use Rattle.std.specs.Prelude.{◌≡◌, ◌<◌, ◌^◌, map, All};
 ghost use Rattle.std.specs.Bool.{OnTrue};
+ghost use Rattle.it_units_language.specs.Plain.{ArePlain};
 ghost use Rattle.it_syntax.specs.Givens.{given_view, IsRelationOf, AreSetsOf, IsGivenOf};
 ghost use Rattle.it_syntax.specs.Meaning.{IsAtomOf, relation_view};
 ghost use Rattle.it_question.specs.Limits.{IsQuestion};
@@ -74,20 +75,18 @@ fn are_whole(terms: &[Term]) -> bool
     terms.iter().all(|term| term.denominator == 1)
 }
 
-#[tactic(auto, using(crate::proofs::WholeTerms::whole_multiple))]
+fn are_plain(terms: &[Term], rates: u8) -> bool
+    ensures { OnTrue result (ArePlain rates terms.now) }
+{
+    terms.len() <= 128 && are_atoms(terms, rates) && are_whole(terms)
+}
+
+#[tactic(auto, using(crate::proofs::PlainLemmas::plain_relation))]
 fn is_relation(relation: &Relation, rates: u8) -> bool
     ensures { OnTrue result (IsRelationOf 4 rates (relation_view relation.now)) }
 {
-    let (left, right) = (
-        relation.left.terms.as_slice(),
-        relation.right.terms.as_slice(),
-    );
-    left.len() <= 128
-        && right.len() <= 128
-        && are_atoms(left, rates)
-        && are_atoms(right, rates)
-        && are_whole(left)
-        && are_whole(right)
+    are_plain(relation.left.terms.as_slice(), rates)
+        && are_plain(relation.right.terms.as_slice(), rates)
 }
 
 fn are_sets(sets: &[VarSet], least: usize) -> bool
