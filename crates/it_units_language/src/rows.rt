@@ -81,7 +81,6 @@ fn are_plain(terms: &[Term], rates: u8) -> bool
     terms.len() <= 128 && are_atoms(terms, rates) && are_whole(terms)
 }
 
-#[tactic(auto, using(crate::proofs::PlainLemmas::plain_relation))]
 fn is_relation(relation: &Relation, rates: u8) -> bool
     ensures { OnTrue result (IsRelationOf 4 rates (relation_view relation.now)) }
 {
