@@ -74,9 +74,10 @@ fn problem_around(
     })
 }
 
-/// Whether the constraints are rows of the space.
+/// Whether the constraints are few rows of the space.
 fn is_problem(problem: &Problem) -> bool
-    ensures { OnTrue result (IsProblem (problem_view problem.now)) }
+    ensures problem { OnTrue result (IsProblem (problem_view problem.now)) }
+    ensures few { OnTrue result (length problem.now.constraints.items ≤ 65535) }
 {
     let space = problem.space;
     if space.variables < 1 || space.variables > 10 || space.rates > 16 {
