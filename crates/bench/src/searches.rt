@@ -108,14 +108,6 @@ fn search_plainly(
     Ok((count, false))
 }
 
-/// All sets of at most one variable, and then all sets.
-fn boxes(alloc: Global) -> Result<Vec<Box<dyn Proposer>>, AllocError> {
-    let mut boxes: Vec<Box<dyn Proposer>> = Vec::new(alloc);
-    boxes.push(Box::new(alloc, Singles::new())?)?;
-    boxes.push(Box::new(alloc, Subsets::new())?)?;
-    Ok(boxes)
-}
-
 /// Makes one search, and prints how it ends.
 fn search(
     rt: HostRuntime,
@@ -145,7 +137,7 @@ fn search(
     )
 }
 
-/// Makes the searches of a question, and prints how each ends.
+/// Makes the searches of a question, among all sets of at most one variable and then all sets, and prints how each ends.
 pub fn time(rt: HostRuntime, question: &Question, task: &Task<'_>) -> io::Result<()>
     requires { IsQuestion (question_body question.now) }
 {
@@ -154,7 +146,16 @@ pub fn time(rt: HostRuntime, question: &Question, task: &Task<'_>) -> io::Result
         return println!(rt; "no containment");
     }
     let pair = pair(alloc, question)?;
-    let mut boxes = boxes(alloc)?;
+    let (Ok(singles), Ok(subsets)) = (
+        Box::new(alloc, Singles::new()),
+        Box::new(alloc, Subsets::new()),
+    ) else {
+        return println!(rt; "no memory");
+    };
+    let mut boxes: Vec<Box<dyn Proposer>> = Vec::new(alloc);
+    let (Ok(()), Ok(())) = (boxes.push(singles), boxes.push(subsets)) else {
+        return println!(rt; "no memory");
+    };
     for _ in 0..task.turns {
         search(rt, &pair, &mut boxes, task)?;
     }
