@@ -8,7 +8,7 @@ ghost use Rattle.it_region.specs.Pairs.{IsPair, IsContainment};
 use crate::Task;
 use indexmap::IndexSet;
 use it_contain::{
-    Candidate, Pair, Proposer, SearchEnd, Shape, Singles, Subsets, contain, fits, obligations, pair,
+    Candidate, Pair, Proposer, Contained, Shape, Singles, Subsets, contain, fits, obligations, pair,
 };
 use it_prove::{Proof, prove};
 use it_question::types::{Question, Verb};
@@ -120,8 +120,8 @@ fn search(
     let alloc = rt.alloc();
     if task.way == "kept" {
         return match contain(alloc, pair, &[], boxes, task.limit, Budget::none())? {
-            SearchEnd::Found(_, proofs) => println!(rt; "found {} proofs", proofs.len()),
-            SearchEnd::Open { tried } => println!(rt; "open {tried}"),
+            Contained::Found(_, proofs) => println!(rt; "found {} proofs", proofs.len()),
+            Contained::Open { tried } => println!(rt; "open {tried}"),
         };
     }
     let mut calls = Calls {

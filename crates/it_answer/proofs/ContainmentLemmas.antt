@@ -24,8 +24,8 @@ use Rattle.it_region.specs.Regions.{IsIn}
 use Rattle.it_region.proofs.RegionLemmas.{obligations_contain}
 use Rattle.it_region.proofs.RowLemmas.{rows_same}
 use Rattle.it_region.proofs.TextLemmas.{candidate_parts, text_rows, parts_are}
-use Rattle.it_contain.specs.declared.types.SearchEnd.{SearchEnd}
-use Rattle.it_contain.specs.declared.types.SearchEnd.TheVariants.{Found, Open}
+use Rattle.it_contain.specs.declared.types.Contained.{Contained}
+use Rattle.it_contain.specs.declared.types.Contained.TheVariants.{Found, Open}
 use Rattle.it_contain.specs.Proposals.{Plan, plan_after_all}
 use Rattle.it_contain.specs.Shapes.{shape_of}
 use Rattle.it_contain.specs.Search.{SearchEnds, IsProof, IsProofBy, Proofs, goal_of, plan_of, proof_views}
@@ -92,7 +92,7 @@ module _ (q : BodyView) (a b : RegionView) (tries : List (List ℕ)) (p : Pair) 
   proof_by budget c w g = g
 
   module _ (budgets : Budgets) (plans plans_after : List Plan) where
-    right_search : (end : SearchEnd) → SearchEnds (goal_of p budgets.pivots) budgets.tries (plan_of (tried_of b tries) plans (shape_of p)) plans end plans_after
+    right_search : (end : Contained) → SearchEnds (goal_of p budgets.pivots) budgets.tries (plan_of (tried_of b tries) plans (shape_of p)) plans end plans_after
         → ShowsBy q (Contain a b tries) (answer_of_search end) × IsDueContainment budgets plans q a b tries (record { answer = answer_of_search end; found = found_of end })
     right_search (Found c w) e =
         let proofs = proof_by budgets.pivots c w e.1 in (
@@ -101,11 +101,11 @@ module _ (q : BodyView) (a b : RegionView) (tries : List (List ℕ)) (p : Pair) 
         )
     right_search (Open t) e = (tt, record { pair = p; pairs = o; due = (e.0, refl) })
 
-    learned_search : (end : SearchEnd) (plan : List Candidate) → SearchEnds (goal_of p budgets.pivots) budgets.tries plan plans end plans_after → plans_after ≡ map (plan_after_all (found_of end)) plans
+    learned_search : (end : Contained) (plan : List Candidate) → SearchEnds (goal_of p budgets.pivots) budgets.tries plan plans end plans_after → plans_after ≡ map (plan_after_all (found_of end)) plans
     learned_search (Found c w) plan e = e.2
     learned_search (Open t) plan e = e.1 ∙ sym (after_none plans)
 
-    pub question_is_answered : (end : SearchEnd) (budget : Option ℕ) (first : List Candidate) (answer : AnswerView) → budget ≡ budgets.pivots → first ≡ tried_of b tries → answer ≡ answer_of_search end
+    pub question_is_answered : (end : Contained) (budget : Option ℕ) (first : List Candidate) (answer : AnswerView) → budget ≡ budgets.pivots → first ≡ tried_of b tries → answer ≡ answer_of_search end
         → SearchEnds (goal_of p budget) budgets.tries (plan_of first plans (shape_of p)) plans end plans_after → IsAnswered budgets plans q answer plans_after
     question_is_answered end budget first answer budget_is first_are answer_is e =
         let bounded : SearchEnds (goal_of p budgets.pivots) budgets.tries (plan_of first plans (shape_of p)) plans end plans_after =

@@ -3,16 +3,16 @@ use Rattle.std.specs.Prelude.{List, [], ◌∷◌, take}
 use Rattle.it_space.specs.Answers.{AnswerView}
 use Rattle.it_space.specs.Answers as answer_views
 use Rattle.it_region.specs.declared.types.Candidate.{Candidate}
-use Rattle.it_contain.specs.declared.types.SearchEnd.{SearchEnd}
-use Rattle.it_contain.specs.declared.types.SearchEnd.TheVariants.{Found, Open}
+use Rattle.it_contain.specs.declared.types.Contained.{Contained}
+use Rattle.it_contain.specs.declared.types.Contained.TheVariants.{Found, Open}
 use Rattle.it_contain.specs.Search.{proof_views}
 
 -- the parts and the proofs of what was found, or how many were tried
-abbrev pub answer_of_search : SearchEnd → AnswerView
+abbrev pub answer_of_search : Contained → AnswerView
 answer_of_search (Found c proofs) = answer_views.Contained (take c.count c.parts) (proof_views proofs)
 answer_of_search (Open tried) = answer_views.Open tried
 
 -- what the boxes know of it
-abbrev pub found_of : SearchEnd → List Candidate
+abbrev pub found_of : Contained → List Candidate
 found_of (Found c proofs) = c ∷ []
 found_of (Open tried) = []

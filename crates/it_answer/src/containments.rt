@@ -8,7 +8,7 @@ ghost use Rattle.it_answer.specs.DueContainments.{tried_of};
 ghost use Rattle.it_answer.specs.SearchAnswers.{answer_of_search};
 
 use crate::types::{Budgets, budget_of};
-use it_contain::types::SearchEnd;
+use it_contain::types::Contained;
 use it_contain::{Proposer, contain};
 use it_question::types::{Question, Region};
 use it_region::{Candidate, pair};
@@ -42,15 +42,15 @@ fn parts_of(alloc: Global, candidate: &Candidate) -> Result<Vec<VarSet>, AllocEr
 }
 
 /// The answer that tells what a search ended with.
-fn answer_of_search(alloc: Global, end: SearchEnd) -> Result<Answer, AllocError>
+fn answer_of_search(alloc: Global, end: Contained) -> Result<Answer, AllocError>
     ensures { IfOk result (λ a. answer_view a ≡ answer_of_search end) }
 {
     match end {
-        SearchEnd::Found(candidate, proofs) => {
+        Contained::Found(candidate, proofs) => {
             let parts = parts_of(alloc, &candidate)?;
             Ok(Answer::Contained { parts, proofs })
         }
-        SearchEnd::Open { tried } => Ok(Answer::Open { tried }),
+        Contained::Open { tried } => Ok(Answer::Open { tried }),
     }
 }
 

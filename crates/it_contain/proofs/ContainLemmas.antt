@@ -4,8 +4,8 @@ use Rattle.std.proofs.lemmas.List.{take-append-drop, take_more, drop_more, take_
 use Rattle.std.proofs.lemmas.Grind.{flat_map-append}
 use Rattle.it_contain.specs.declared.types.Shape.{Shape}
 use Rattle.it_region.specs.declared.types.Candidate.{Candidate}
-use Rattle.it_contain.specs.declared.types.SearchEnd.{SearchEnd}
-use Rattle.it_contain.specs.declared.types.SearchEnd.TheVariants.{Found, Open}
+use Rattle.it_contain.specs.declared.types.Contained.{Contained}
+use Rattle.it_contain.specs.declared.types.Contained.TheVariants.{Found, Open}
 use Rattle.it_contain.specs.Proposals.{Plan, plan_after}
 use Rattle.it_contain.specs.Search.{Goal, Proofs, IsProof, IsFirstProved, IsOpen, SearchEnds, joined_lists, lists_of, plan_of}
 use Rattle.it_contain.specs.SearchSteps.{KeepsLater}
@@ -21,7 +21,7 @@ pub joined_more : (ls : List (List Candidate)) (i : ℕ) → i < length ls → j
 joined_more ls i lt =
     ap joined_lists (take_more ls i [] lt) ∙ flat_map-append (λ xs. xs) (take i ls) (get_or ls i [] ∷ []) ∙ ap (λ zs. joined_lists (take i ls) ++ zs) (append-nil (get_or ls i []))
 
-pub found_at_once : (goal : Goal) (tries : ℕ) (first : List Candidate) (shape : Shape) (plans plans_after plans_first : List Plan) (c : Candidate) (w : Proofs) (r : SearchEnd)
+pub found_at_once : (goal : Goal) (tries : ℕ) (first : List Candidate) (shape : Shape) (plans plans_after plans_first : List Plan) (c : Candidate) (w : Proofs) (r : Contained)
     → SearchEnds goal tries first plans r plans_after → r ≡ Found c w → plans ≡ plans_first
     → IsFirstProved goal tries (plan_of first plans_first shape) c × IsProof goal c w × (plans_after ≡ map (plan_after c) plans_first)
 unfolding plan_of
@@ -29,7 +29,7 @@ found_at_once goal tries first shape plans plans_after plans_first c w r ends is
     let now : SearchEnds goal tries first plans (Found c w) plans_after = subst (λ z. SearchEnds goal tries first plans z plans_after) is ends in
     (first_front goal tries first (joined_lists (lists_of shape plans_first)) c now.0, now.1, now.2 ∙ ap (map (plan_after c)) same)
 
-pub found_in_box : (goal : Goal) (tries : ℕ) (first : List Candidate) (shape : Shape) (plans plans_after plans_first : List Plan) (lists : List (List Candidate)) (i t : ℕ) (c : Candidate) (w : Proofs) (r : SearchEnd)
+pub found_in_box : (goal : Goal) (tries : ℕ) (first : List Candidate) (shape : Shape) (plans plans_after plans_first : List Plan) (lists : List (List Candidate)) (i t : ℕ) (c : Candidate) (w : Proofs) (r : Contained)
     → i < length (lists_of shape plans_first) → drop i lists ≡ drop i (lists_of shape plans_first) → plans ≡ plans_first
     → IsOpen goal tries (first ++ joined_lists (take i (lists_of shape plans_first))) t
     → SearchEnds goal (tries - t) (get_or lists i []) plans r plans_after → r ≡ Found c w
@@ -65,9 +65,9 @@ open_at_end goal tries first shape plans i t few o = subst (λ zs. IsOpen goal t
 pub open_within : (goal : Goal) (tries t : ℕ) (xs : List Candidate) → IsOpen goal tries xs t → t ≤ tries
 open_within goal tries t xs o = let is = o.tried_is in omega (arith, is)
 
-pub open_end : (goal : Goal) (tries : ℕ) (xs : List Candidate) (plans plans_after : List Plan) (r : SearchEnd) (t : ℕ)
+pub open_end : (goal : Goal) (tries : ℕ) (xs : List Candidate) (plans plans_after : List Plan) (r : Contained) (t : ℕ)
     → SearchEnds goal tries xs plans r plans_after → r ≡ Open t → IsOpen goal tries xs t × (plans_after ≡ plans)
 open_end goal tries xs plans plans_after r t ends is = subst (λ z. SearchEnds goal tries xs plans z plans_after) is ends
 
-pub open_keeps_later : (r : SearchEnd) (t : ℕ) (later later_after : List (List Candidate)) → KeepsLater r later later_after → r ≡ Open t → later_after ≡ later
+pub open_keeps_later : (r : Contained) (t : ℕ) (later later_after : List (List Candidate)) → KeepsLater r later later_after → r ≡ Open t → later_after ≡ later
 open_keeps_later r t later later_after kept is = subst (λ z. KeepsLater z later later_after) is kept

@@ -8,8 +8,8 @@ use Rattle.it_space.specs.Problems.{problem_view}
 use Rattle.it_space.specs.Rows.{Terms}
 use Rattle.it_prove.specs.ProofViews.{AreProofsOf}
 use Rattle.it_region.specs.declared.types.Candidate.{Candidate}
-use Rattle.it_contain.specs.declared.types.SearchEnd.{SearchEnd}
-use Rattle.it_contain.specs.declared.types.SearchEnd.TheVariants.{Found, Open}
+use Rattle.it_contain.specs.declared.types.Contained.{Contained}
+use Rattle.it_contain.specs.declared.types.Contained.TheVariants.{Found, Open}
 use Rattle.it_region.specs.declared.types.Pair.{Pair}
 use Rattle.it_contain.specs.declared.types.Shape.{Shape}
 use Rattle.it_region.specs.Obligations.{ArePulledRows}
@@ -80,6 +80,6 @@ unfoldable pub plan_of : List Candidate → List Plan → Shape → List Candida
 plan_of first plans shape = first ++ joined_lists (lists_of shape plans)
 
 -- The end of a search over boxes with these plans: what it found, and the plans that they have then.
-abbrev pub SearchEnds : Goal → ℕ → List Candidate → List Plan → SearchEnd → List Plan → Type 0
+abbrev pub SearchEnds : Goal → ℕ → List Candidate → List Plan → Contained → List Plan → Type 0
 SearchEnds goal tries plan plans (Found c proofs) plans_after = IsFirstProved goal tries plan c × IsProof goal c proofs × (plans_after ≡ map (plan_after c) plans)
 SearchEnds goal tries plan plans (Open tried) plans_after = IsOpen goal tries plan tried × (plans_after ≡ plans)

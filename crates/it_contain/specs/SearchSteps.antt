@@ -7,8 +7,8 @@ use Rattle.it_space.specs.Rows.{Terms}
 use Rattle.it_prove.specs.ProofViews.{Yes, EndsWith, AreProofsOf}
 use Rattle.it_region.specs.declared.types.Candidate.{Candidate}
 use Rattle.it_contain.specs.declared.outcomes.Outcomes.{Outcomes}
-use Rattle.it_contain.specs.declared.types.SearchEnd.{SearchEnd}
-use Rattle.it_contain.specs.declared.types.SearchEnd.TheVariants.{Found, Open}
+use Rattle.it_contain.specs.declared.types.Contained.{Contained}
+use Rattle.it_contain.specs.declared.types.Contained.TheVariants.{Found, Open}
 use Rattle.it_contain.specs.Proposals.{Plan, plan_after}
 use Rattle.it_contain.specs.Search.{Goal, Proofs, proof_views, IsProof, IsUnproved}
 
@@ -44,6 +44,6 @@ pub record IsPast (goal : Goal) (whole rest : List Candidate) (tried : ℕ) : Ty
   pub count : length passed ≡ tried
 
 -- where nothing was found, what was to come later is still to come
-abbrev pub KeepsLater : SearchEnd → List (List Candidate) → List (List Candidate) → Type 0
+abbrev pub KeepsLater : Contained → List (List Candidate) → List (List Candidate) → Type 0
 KeepsLater (Found c proofs) later later_after = Unit {0}
 KeepsLater (Open tried) later later_after = later_after ≡ later

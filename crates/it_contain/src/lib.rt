@@ -19,4 +19,4 @@ pub use recent::Recent;
 pub use search::contain;
 pub use singles::Singles;
 pub use subsets::Subsets;
-pub use types::{SearchEnd, Shape};
+pub use types::{Contained, Shape};

@@ -10,7 +10,7 @@ use crate::boxes::{begin_all, next_at, teach_all, tell_all};
 use crate::judging::proofs_of_candidate;
 use crate::outcomes::Outcomes;
 use crate::proposer::Proposer;
-use crate::types::{SearchEnd, Shape};
+use crate::types::{Contained, Shape};
 use it_region::{Candidate, Pair};
 use it_simplex::Budget;
 use it_space::Certificate;
@@ -27,7 +27,7 @@ pub fn contain(
     boxes: &mut Vec<Box<dyn Proposer>>,
     tries: u32,
     budget: Budget,
-) -> Result<SearchEnd, AllocError>
+) -> Result<Contained, AllocError>
     requires pair { IsPair pair.now }
     ensures { IfOk result (λ r. SearchEnds (goal_of pair.now budget) tries (plan_of first.now (map plan boxes.old.items) (shape_of pair.now)) (map plan boxes.old.items) r (map plan boxes.new.items)) }
 {
@@ -85,7 +85,7 @@ fn try_list(
     tries: u32,
     budget: Budget,
     outcomes: &mut Outcomes,
-) -> Result<SearchEnd, AllocError>
+) -> Result<Contained, AllocError>
     requires pair { IsPair pair.now }
     requires outcomes { AreOutcomes (problem_view pair.now.first) budget outcomes.old }
     ensures ends { IfOk result (λ r. SearchEnds (goal_of pair.now budget) tries first.now (map plan boxes.old.items) r (map plan boxes.new.items)) }
@@ -95,14 +95,14 @@ fn try_list(
     let mut count: u32 = 0;
     for candidate in first {
         if count == tries {
-            return Ok(SearchEnd::Open { tried: count });
+            return Ok(Contained::Open { tried: count });
         }
         match try_one(alloc, pair, candidate, boxes, budget, outcomes)? {
-            Some(proof) => return Ok(SearchEnd::Found(*candidate, proof)),
+            Some(proof) => return Ok(Contained::Found(*candidate, proof)),
             None => count += 1,
         }
     }
-    Ok(SearchEnd::Open { tried: count })
+    Ok(Contained::Open { tried: count })
 }
 
 /// Tries the first `tries` candidates of the box at a place.
@@ -114,7 +114,7 @@ fn try_box(
     tries: u32,
     budget: Budget,
     outcomes: &mut Outcomes,
-) -> Result<SearchEnd, AllocError>
+) -> Result<Contained, AllocError>
     requires pair { IsPair pair.now }
     requires outcomes { AreOutcomes (problem_view pair.now.first) budget outcomes.old }
     requires box_is { i < vec_len boxes.old }
@@ -124,14 +124,14 @@ fn try_box(
 {
     for count in 0..tries {
         let Some(candidate) = next_at(boxes, i) else {
-            return Ok(SearchEnd::Open { tried: count });
+            return Ok(Contained::Open { tried: count });
         };
         match try_one(alloc, pair, &candidate, boxes, budget, outcomes)? {
-            Some(proof) => return Ok(SearchEnd::Found(candidate, proof)),
+            Some(proof) => return Ok(Contained::Found(candidate, proof)),
             None => {}
         }
     }
-    Ok(SearchEnd::Open { tried: tries })
+    Ok(Contained::Open { tried: tries })
 }
 
 /// Tries the first `tries` candidates of the plan for a shape.
@@ -144,7 +144,7 @@ fn try_all(
     tries: u32,
     budget: Budget,
     outcomes: &mut Outcomes,
-) -> Result<SearchEnd, AllocError>
+) -> Result<Contained, AllocError>
     requires pair { IsPair pair.now }
     requires outcomes { AreOutcomes (problem_view pair.now.first) budget outcomes.old }
     requires shape { IsShape shape }
@@ -152,14 +152,14 @@ fn try_all(
 {
     begin_all(boxes, shape);
     let mut count = match try_list(alloc, pair, first, boxes, tries, budget, outcomes)? {
-        SearchEnd::Found(candidate, proof) => return Ok(SearchEnd::Found(candidate, proof)),
-        SearchEnd::Open { tried } => tried,
+        Contained::Found(candidate, proof) => return Ok(Contained::Found(candidate, proof)),
+        Contained::Open { tried } => tried,
     };
     for i in 0..boxes.len() {
         match try_box(alloc, pair, boxes, i, tries - count, budget, outcomes)? {
-            SearchEnd::Found(candidate, proof) => return Ok(SearchEnd::Found(candidate, proof)),
-            SearchEnd::Open { tried: more } => count += more,
+            Contained::Found(candidate, proof) => return Ok(Contained::Found(candidate, proof)),
+            Contained::Open { tried: more } => count += more,
         }
     }
-    Ok(SearchEnd::Open { tried: count })
+    Ok(Contained::Open { tried: count })
 }

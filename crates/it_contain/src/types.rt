@@ -11,7 +11,7 @@ pub struct Shape {
 
 /// What a search ends with.
 #[derive(Debug, Drop)]
-pub enum SearchEnd {
+pub enum Contained {
     /// The first candidate of the plan that is proved, with a certificate for each obligation in order.
     Found(Candidate, Vec<Certificate>),
     /// So many candidates were tried, and none is proved.

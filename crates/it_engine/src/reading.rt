@@ -92,7 +92,7 @@ pub fn point(
     let mut out = Vec::with_capacity(alloc, basis.len())?;
     for k in 0..basis.len() {
         let cost = fraction_at(rows, basis.len(), k);
-        out.push(signed_value(cost, first.is_negated(k)))?;
+        out.push(signed_value(cost, first.sign(k) < 0))?;
     }
     Ok(out)
 }

@@ -26,3 +26,4 @@ pub use files::questions;
 pub use laws::{file_has_one, file_is_one, text_reads_back, texts_are_ascii};
 pub use plain::first_line;
 pub use tables::{line_constraints, region_constraints};
+pub use types::{FileFault, OwnLines, Question, Region, Verb};

@@ -1,8 +1,8 @@
 -- What the answer of a run from a start says.
-use Rattle.std.specs.Prelude.{◌≡◌, ℕ, ◌<◌, false, cond, pos, List, slice_index_or, Option}
-use Rattle.it_rational.specs.Rational.{Rational, integer, minus}
+use Rattle.std.specs.Prelude.{◌≡◌, ℕ, ◌<◌, List, Option}
+use Rattle.it_rational.specs.Rational.{Rational, integer}
 use Rattle.it_rational.proofs.Field.{field_ℚ}
-use Rattle.it_tableau.specs.TableauViews.{TableauView, height, table}
+use Rattle.it_tableau.specs.TableauViews.{TableauView, height, row_sign, table}
 use Rattle.it_tableau.specs.SimplexTables.{FeasibilityProblem, sign, start}
 use Rattle.it_run.specs.Runs.{RunEndView}
 use Rattle.it_run.specs.Runs.RunEndView.{Weights, Point, Pivots, Width}
@@ -19,7 +19,7 @@ end_of_answer (answers.Width k) = Width k
 
 -- the sign of a row as a number
 abbrev pub sign_number : TableauView → ℕ → Rational
-sign_number t k = cond (slice_index_or t.negated k false) (minus (integer (pos 1))) (integer (pos 1))
+sign_number t k = integer (row_sign t k)
 
 -- a problem whose rows were negated as the tableau's
 abbrev pub HasSigns : TableauView → FeasibilityProblem Rational → Type 0

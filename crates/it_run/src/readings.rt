@@ -53,7 +53,7 @@ fn value_at(tableau: &Tableau, k: usize) -> Fraction
 {
     let artificials = tableau.columns() - tableau.rows();
     let cost = tableau.cost(artificials + k);
-    if tableau.is_negated(k) {
+    if tableau.sign(k) < 0 {
         cost.neg()
     } else {
         cost

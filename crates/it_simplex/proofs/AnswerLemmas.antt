@@ -1,5 +1,5 @@
 -- From a run on a tableau to the answer of a question.
-use Rattle.std.proofs.Common.{◌≡◌, inl, inr, ℕ, pos, Bool, true, false, not, cond, List, length, slice_index_or, Option, Some, None, refl, sym, ap, ap₂, subst, ◌∙◌, arith}
+use Rattle.std.proofs.Common.{◌≡◌, inl, inr, ℕ, pos, negsuc, if◌then◌else◌, Bool, true, false, not, cond, List, length, slice_index_or, Option, Some, None, refl, sym, ap, ap₂, subst, ◌∙◌, arith}
 use Rattle.std.specs.Option.{IfNone}
 use Rattle.it_rational.specs.Rational.{Rational, integer, minus, is_at_least_zero}
 use Rattle.it_rational.proofs.Field.{field_ℚ}
@@ -29,7 +29,7 @@ module _ (cs : List ℕ) (columns : List Terms) (target : Terms) (t : TableauVie
   cond_of_not false x y = refl
 
   start_signs : HasSigns t (feasibility_problem cs columns target)
-  start_signs k l = ap (λ b. cond b (minus (integer (pos 1))) (integer (pos 1))) (s.signs_are k (omega (arith, s.height_is)))
+  start_signs k l = ap (λ b. integer (if b then negsuc 0 else pos 1)) (s.signs_are k (omega (arith, s.height_is)))
       ∙ cond_of_not (is_at_least_zero (integer (coefficient target (slice_index_or cs k 0)))) (minus (integer (pos 1))) (integer (pos 1))
 
   -- the tableau is the start of the question's problem

@@ -1,5 +1,5 @@
 -- What contracts see of a tableau.
-use Rattle.std.specs.Prelude.{◌≡◌, ℕ, ◌+◌, ◌<◌, Bool, false, not, List, length, slice_index_or}
+use Rattle.std.specs.Prelude.{◌≡◌, ℕ, ◌+◌, ◌<◌, Bool, false, not, ℤ, pos, negsuc, if◌then◌else◌, List, length, slice_index_or}
 use Rattle.it_rational.specs.Rational.{Rational, minus, integer, is_at_least_zero}
 use Rattle.it_space.specs.Rows.{Terms, coefficient}
 use Rattle.it_tableau.specs.SimplexTables.{SimplexTable}
@@ -34,6 +34,10 @@ table_of rows basis = record { entry = λ i j. entry_at (row_at rows i) j; basis
 -- the table that it shows
 abbrev pub table : TableauView → SimplexTable Rational
 table t = table_of t.rows t.basis
+
+-- the sign by which a row was multiplied at the start
+abbrev pub row_sign : TableauView → ℕ → ℤ
+row_sign t k = if slice_index_or t.negated k false then negsuc 0 else pos 1
 
 -- q is above 0
 abbrev pub IsPositive : Rational → Type 0

@@ -1,11 +1,11 @@
 //! The tableau.
-ghost use Rattle.std.specs.Prelude.{◌≡◌, ◌+◌, ◌<◌, false, true, length, IfErr, IfOk, OkIff, OnErr, OnOk, slice_index_or};
+ghost use Rattle.std.specs.Prelude.{◌≡◌, ◌+◌, ◌<◌, false, true, length, IfErr, IfOk, OkIff, OnErr, OnOk};
 ghost use Rattle.it_rational.proofs.Field.{field_ℚ};
 ghost use Rattle.it_fraction.specs.Fits.{IsNarrow};
 ghost use Rattle.it_tableau.specs.Fits.{PivotFits, StartFits};
 ghost use Rattle.it_tableau.specs.Problems.{feasibility_problem};
 ghost use Rattle.it_tableau.specs.SparseRows.{ListsEntries};
-ghost use Rattle.it_tableau.specs.TableauViews.{height, table, width, IsPositive, IsStart, KeepsFrame};
+ghost use Rattle.it_tableau.specs.TableauViews.{height, row_sign, table, width, IsPositive, IsStart, KeepsFrame};
 ghost use Rattle.it_tableau.specs.SimplexTables.{pivot, ratio};
 
 use crate::rows::{pivot_rows, read};
@@ -100,13 +100,13 @@ impl Tableau {
         self.basis[row]
     }
 
-    /// Whether the row was negated at the start.
-    pub fn is_negated(&self, row: usize) -> bool
+    /// The sign by which the row was multiplied at the start: -1 or 1.
+    pub fn sign(&self, row: usize) -> i8
         requires usable { self.now.spent ≡ false }
         requires row { row < height self.now }
-        ensures { result ≡ slice_index_or self.now.negated row false }
+        ensures { result ≡ row_sign self.now row }
     {
-        self.negated[row]
+        if self.negated[row] { -1 } else { 1 }
     }
 
     /// The entry of a row at a column.

@@ -6,7 +6,7 @@ ghost use Rattle.it_region.specs.Pairs.{IsPair, IsContainment};
 
 use crate::fixtures::LONGEST_FILE;
 use it_contain::{
-    Candidate, Pair, Proposer, Recent, SearchEnd, Shape, Singles, Subsets, contain, pair,
+    Candidate, Contained, Pair, Proposer, Recent, Shape, Singles, Subsets, contain, pair,
 };
 use it_question::questions;
 use it_question::types::Verb;
@@ -95,18 +95,18 @@ fn free_pair(alloc: Global) -> Pair
 }
 
 /// Whether a search tried so many candidates in vain.
-fn is_open(end: &SearchEnd, count: u32) -> bool {
+fn is_open(end: &Contained, count: u32) -> bool {
     match end {
-        SearchEnd::Open { tried } => *tried == count,
-        SearchEnd::Found(..) => false,
+        Contained::Open { tried } => *tried == count,
+        Contained::Found(..) => false,
     }
 }
 
 /// Whether a search found a candidate with this first part.
-fn is_found(end: &SearchEnd, part: VarSet) -> bool {
+fn is_found(end: &Contained, part: VarSet) -> bool {
     match end {
-        SearchEnd::Open { .. } => false,
-        SearchEnd::Found(candidate, _) => candidate.parts[0] == part,
+        Contained::Open { .. } => false,
+        Contained::Found(candidate, _) => candidate.parts[0] == part,
     }
 }
 
@@ -162,7 +162,7 @@ fn pair_of_regions(rt: &impl Abort, alloc: Global) -> Pair
 }
 
 /// How the search ends with three candidates of a set that there isn't, and after them all sets of at most one variable.
-fn end_after_strangers(rt: &impl Abort, alloc: Global, tries: u32) -> SearchEnd {
+fn end_after_strangers(rt: &impl Abort, alloc: Global, tries: u32) -> Contained {
     let pair = pair_of_regions(rt, alloc);
     let mut boxes = boxes_with(rt, alloc, candidate(1, VarSet::single(2)), 3);
     boxes

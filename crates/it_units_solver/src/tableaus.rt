@@ -109,11 +109,11 @@ fn a_start_has_the_rows_with_their_signs(rt: HostRuntime) -> Result<(), Fail> {
     );
     assert_eq!(rt;
         (
-            tableau.is_negated(0),
-            tableau.is_negated(1),
-            tableau.is_negated(2)
+            tableau.sign(0),
+            tableau.sign(1),
+            tableau.sign(2)
         ),
-        (false, false, true)
+        (1, 1, -1)
     );
     assert_eq!(rt;
         row_of(alloc, &tableau, 0)?.as_slice(),
