@@ -7,7 +7,6 @@ use Rattle.it_rational.specs.Rational as Q
 use Rattle.it_rational.proofs.Names.{quotient_names, same_value, whole_names}
 use Rattle.it_rational.proofs.RationalLaws.{ring_ℚ}
 
-
 -- the sign is below 0 where it is -1
 pub sign_is_negative : (b : Bool) → int_lt (to_z w8 (of_z w8 (if b then negsuc 0 else pos 1))) (pos 0) ≡ b
 sign_is_negative true = refl
