@@ -8,7 +8,7 @@ ghost use Rattle.it_closure.specs.Coordinates.{RiseTo};
 ghost use Rattle.it_closure.specs.Reading.{dependences_of};
 ghost use Rattle.it_prove.specs.Closed.{closed_places, spread_point, spread_values};
 ghost use Rattle.it_prove.specs.Steps.{terms_of_places};
-ghost use Rattle.it_prove.specs.Scaling.{NumbersFit, scaled_point};
+ghost use Rattle.it_columns.specs.Scaling.{NumbersFit, scaled_point};
 
 use crate::certificates::push_some;
 use crate::scaling::{common_scale, values};
