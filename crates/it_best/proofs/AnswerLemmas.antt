@@ -27,7 +27,7 @@ use Rattle.it_columns.specs.Columns.{columns}
 use Rattle.it_columns.specs.Scaling.{scale_of, scaled_number, scaled_point}
 use Rattle.it_columns.proofs.Scales.{scale_pos, denominators_divide}
 use Rattle.it_columns.proofs.Wholes.{value_scaled, least_scaled, whole_same, whole_times}
-use Rattle.it_best.specs.Factors.{MeetsProblem, IsLeastFactor, HasNoFactor}
+use Rattle.it_best.specs.Factors.{IsPoint, IsLeastFactor, HasNoFactor, ground_of}
 use Rattle.it_best.specs.Numbers.{weights_certificate}
 use Rattle.it_best.specs.Parts.{first_part, third_part, third_target, right_equation, counterweight}
 use Rattle.it_best.proofs.EquationLemmas.{IsSlack}
@@ -73,9 +73,9 @@ module _ (q : ProblemView) (left right : Terms) (k : IsProblem q) (l : IsUpTo (s
   all_met = every_of (λ g. Meets g.kind (value g.row p)) gs (λ j d h. subst (λ (g : Generator). Meets g.kind (value g.row p)) (get_or_default gs j (record { kind = Inequality; row = [] }) d h)
       (met_by_slack hs (generator_at gs j).kind (generator_at gs j).row _ (parts.generator_value_is q left right k l r ws s j h) (parts.generator_slack q left right k l r ws s j h)))
 
-  pub third_meets : MeetsProblem q (scaled_point hs)
+  pub third_meets : IsPoint (ground_of q) (scaled_point hs)
   third_meets = let both = listed_met q.space.variables q.constraints p refl all_met in
-      record { complete = length-map hs (scaled_number big) ∙ parts.hs_length q left right k l r ws; polymatroid = both.0; met = both.1 }
+      record { complete = length-map hs (scaled_number big) ∙ parts.hs_length q left right k l r ws; holds = both }
 
   left_is : value left p ≡ pos big
   left_is = whole_same (value left p) (pos big) (whole_row hs left ∙ ap (times (integer (pos big))) (parts.left_value_is q left right k l r ws s) ∙ ring ring_ℚ (integer (pos big) ∷ []) (S.times (v 0) S.one) (v 0) refl)
@@ -92,7 +92,7 @@ module _ (q : ProblemView) (left right : Terms) (k : IsProblem q) (l : IsUpTo (s
       ∙ ring ring_ℚ (integer (pos x.den) ∷ integer (pos big) ∷ x ∷ []) (S.times (v 0) (S.times (v 1) (v 2))) (S.times (S.times (v 0) (v 2)) (v 1)) refl
       ∙ ap₂ times (times_den x) (ap integer (sym left_is)) ∙ sym (whole_times x.num (value left p)))
 
-  pub third_right : IsLeastFactor q (value left) (value right) x.num (pos x.den) (weights_certificate (pos x.den) (parts.xs q left right k l r ws)) (scaled_point hs)
+  pub third_right : IsLeastFactor (ground_of q) (value left) (value right) x.num (pos x.den) (weights_certificate (pos x.den) (parts.xs q left right k l r ws)) (scaled_point hs)
   third_right = record { factor = parts.third_factor_right q left right k l r ws s; point = third_meets; some = left_some; equal = sides_equal }
 
 -- ---- the point of the first part, turned
@@ -112,7 +112,7 @@ value_at_turned (t ∷ ts) vs = ap₂ (λ y z. t.1 *ℤ y +ℤ z) (turned_map vs
 
 pub never_right : (q : ProblemView) (left right : Terms) (qs : List Rational) → IsProblem q → IsUpTo (size_of q.space) left → IsUpTo (size_of q.space) right
     → Separates field_ℚ (length (span 1 (size_of q.space))) (length (columns (first_part (generators q) left))) (feasibility_problem (span 1 (size_of q.space)) (columns (first_part (generators q) left)) right) qs
-    → HasNoFactor q (value left) (value right) (map neg_ℤ (scaled_point qs))
+    → HasNoFactor (ground_of q) (value left) (value right) (map neg_ℤ (scaled_point qs))
 unfolding first_part
 never_right q left right qs k l r s =
     let gs = generators q in
@@ -125,7 +125,7 @@ never_right q left right qs k l r s =
     (λ g m. subst (Meets g.kind) (value-negated_terms g.row (map_of (scaled_point qs)) ∙ sym (value_at_turned g.row (scaled_point qs))) m)
     (every_mapped (λ (u : Generator). Meets u.kind (value u.row (map_of (scaled_point qs)))) counterweight gs met.1) in
     let both = listed_met q.space.variables q.constraints (map_of (map neg_ℤ (scaled_point qs))) refl turned in record {
-      point = record { complete = length-map (scaled_point qs) neg_ℤ ∙ length-map qs (scaled_number (scale_of qs)) ∙ s.complete ∙ Rattle.it_polymatroid.proofs.Spans.length-span 1 size; polymatroid = both.0; met = both.1 };
+      point = record { complete = length-map (scaled_point qs) neg_ℤ ∙ length-map qs (scaled_number (scale_of qs)) ∙ s.complete ∙ Rattle.it_polymatroid.proofs.Spans.length-span 1 size; holds = both };
       zero = value_at_turned left (scaled_point qs) ∙ ap neg_ℤ met.0;
       above = subst (λ (z : ℤ). pos 1 ≤ℤ z) (sym (value_at_turned right (scaled_point qs))) (above_zero (value right (map_of (scaled_point qs))) (target_below size (first_part gs left) right qs up r s));
     }

@@ -1,5 +1,5 @@
 -- The weights of a factor as a certificate.
-use Rattle.std.proofs.Common.{◌≡◌, ℕ, zero, suc, ◌+◌, ◌/◌, ◌<◌, ◌≤◌, ℤ, pos, negsuc, ◌+ℤ◌, ◌-ℤ◌, ◌*ℤ◌, ◌≤ℤ◌, List, [], ◌∷◌, length, map, All, true, false, refl, sym, ap, ap₂, subst, ◌∙◌, arith}
+use Rattle.std.proofs.Common.{◌≡◌, ℕ, zero, suc, ◌+◌, ◌/◌, ◌<◌, ◌≤◌, ℤ, pos, negsuc, neg_ℤ, ◌+ℤ◌, ◌-ℤ◌, ◌*ℤ◌, ◌≤ℤ◌, List, [], ◌∷◌, length, map, All, true, false, refl, sym, ap, ap₂, subst, ◌∙◌, arith}
 use Rattle.std.specs.List.{AllByRecursion as Every}
 use Rattle.std.proofs.lemmas.Int.{ints}
 use Rattle.std.proofs.lemmas.List.{length-map}
@@ -18,7 +18,7 @@ use Rattle.it_space.proofs.TermLemmas.{value-one_at}
 use Rattle.it_polymatroid.specs.Certificates.{Form, IsAllowed, IsCertificate, IsLinear, combination}
 use Rattle.it_polymatroid.specs.Polymatroid.{IsPolymatroid}
 use Rattle.it_polymatroid.proofs.Certified.{certificates_prove}
-use Rattle.it_polymatroid.proofs.Forms.{value_linear, linear-scale, linear-sub}
+use Rattle.it_polymatroid.proofs.Forms.{value_linear, linear-scale, linear-sub, linear_same}
 use Rattle.it_elemental.specs.Generators.{Generator, generators, generator_at, forms_of, generators_of, is_equation}
 use Rattle.it_elemental.proofs.GeneratorLemmas.{rows_of_space}
 use Rattle.it_check.specs.Verdicts.{column}
@@ -26,7 +26,7 @@ use Rattle.it_check.proofs.NoMeaning.{met_listed}
 use Rattle.it_columns.specs.Scaling.{scale_of, scaled_number, scaled_point}
 use Rattle.it_columns.proofs.Scales.{scale_pos}
 use Rattle.it_columns.proofs.Wholes.{whole_parts}
-use Rattle.it_best.specs.Factors.{HoldsFactor, IsFactor, factor_form}
+use Rattle.it_best.specs.Factors.{HoldsFactor, IsFactor, factor_form, ground_of}
 use Rattle.it_best.specs.Numbers.{multiples, weights_certificate}
 use Rattle.it_best.specs.Parts.{counterweight}
 use Rattle.it_best.proofs.NumberLemmas.{number_sum, AreNumbers}
@@ -110,7 +110,7 @@ certifies_form size gs form k xs e a s = record {
 -- where a factor's number times the left side less weights times the generators is the right side, the weights certify the factor
 pub factor_certified : (q : ProblemView) (left right : Terms) (x : Rational) (xs : List Rational) → length xs ≡ length (generators q) → AreNumbers xs (map counterweight (generators q))
     → ((c : ℕ) → 1 ≤ c → c ≤ size_of q.space → plus (times x (integer (coefficient left c))) (number_sum c xs (map counterweight (generators q))) ≡ integer (coefficient right c))
-    → IsFactor q (value left) (value right) x.num (pos x.den) (weights_certificate (pos x.den) xs)
+    → IsFactor (ground_of q) (value left) (value right) x.num (pos x.den) (weights_certificate (pos x.den) xs)
 factor_certified q left right x xs e a s = record {
   from_one = some x.den x.positive;
   lowest = x.lowest;
@@ -145,11 +145,19 @@ form_is_least q form w k linear c p h m =
     (λ i l. at_least (generator_at gs i).kind (value (generator_at gs i).row p) (met i none l))
     (λ i l e. is_zero (generator_at gs i).kind (value (generator_at gs i).row p) (met i none l) e)
 
+-- the forms that certificates of factors are of are linear
+pub linear-factor : (size : ℕ) (left right : Terms) (num den : ℤ) → IsUpTo size left → IsUpTo size right → IsLinear (size + 1) (factor_form (value left) (value right) num den)
+linear-factor size left right num den l r =
+    linear-sub (size + 1) (λ p. num *ℤ value left p) (λ p. den *ℤ value right p) (linear-scale (size + 1) num (value left) (value_linear size left l)) (linear-scale (size + 1) den (value right) (value_linear size right r))
+
+pub linear-neg : (size : ℕ) (left : Terms) → IsUpTo size left → IsLinear (size + 1) (λ p. neg_ℤ (value left p))
+linear-neg size left l =
+    linear_same (size + 1) (λ p. neg_ℤ (pos 1) *ℤ value left p) (λ p. neg_ℤ (value left p)) (λ p e. by_minus_one (value left p)) (linear-scale (size + 1) (neg_ℤ (pos 1)) (value left) (value_linear size left l))
+  where
+    by_minus_one : (x : ℤ) → neg_ℤ (pos 1) *ℤ x ≡ neg_ℤ x
+    by_minus_one x = omega (arith, ints)
+
 -- so a certified factor holds
 pub factor_holds : (q : ProblemView) (left right : Terms) (num den : ℤ) (w : CertificateView) → IsProblem q → IsUpTo (size_of q.space) left → IsUpTo (size_of q.space) right
-    → IsFactor q (value left) (value right) num den w → HoldsFactor q (value left) (value right) num den
-factor_holds q left right num den w k l r f p h m =
-    let size = size_of q.space in
-    form_is_least q (factor_form (value left) (value right) num den) w k
-    (linear-sub (size + 1) (λ p. num *ℤ value left p) (λ p. den *ℤ value right p) (linear-scale (size + 1) num (value left) (value_linear size left l)) (linear-scale (size + 1) den (value right) (value_linear size right r)))
-    f.certified p h m
+    → IsFactor (ground_of q) (value left) (value right) num den w → HoldsFactor (ground_of q) (value left) (value right) num den
+factor_holds q left right num den w k l r f p h = form_is_least q (factor_form (value left) (value right) num den) w k (linear-factor (size_of q.space) left right num den l r) f.certified p h.0 h.1

@@ -33,6 +33,7 @@ use Rattle.it_best.specs.Parts.{third_part, third_target, right_equation}
 use Rattle.it_best.specs.Ends.{BestView, Undecided, Never, Least, Unbounded, PartEnds, EndsWith, FirstFollows, SecondFollows, ThirdFollows, OrScale, LeastFits, UnboundedFits, NeverFits, least_view, unbounded_view, never_values, IsRightBest, BestIsRight, OneBest, BestNeverOutOfSteps, first, third}
 use Rattle.it_best.proofs.NumberLemmas.{numbers_sum_up, numbers_signed, length-numbers_from}
 use Rattle.it_best.proofs.FactorLemmas.{multiple_sum}
+use Rattle.it_best.specs.Factors.{ground_of}
 use Rattle.it_best.proofs.CertificateLemmas.{certifies_form, factor_holds}
 use Rattle.it_best.proofs.PartLemmas as parts
 use Rattle.it_best.proofs.AnswerLemmas.{third_right, never_right}
@@ -98,7 +99,7 @@ module _ (q : ProblemView) (left right : Terms) (k : IsProblem q) (l : IsUpTo (s
   -- ---- the answers are right
 
   abbrev Right : BestView → Type 0
-  Right o = IsRightBest q (value left) (value right) o
+  Right o = IsRightBest (ground_of q) (value left) (value right) o
 
   or_scale_right : (Fits : Type 0) (answer o : BestView) → Right answer → OrScale q left right Fits answer o → Right o
   or_scale_right Fits answer o h (inl a) = subst Right (sym a.1) h

@@ -26,7 +26,7 @@ use Rattle.it_columns.proofs.ColumnLemmas.{few_columns}
 use Rattle.it_best.specs.declared.types.Best.{Best}
 use Rattle.it_best.specs.declared.unknowns.Unknown.{Unknown}
 use Rattle.it_best.specs.Ends.{EndsWith, IsRightBest, LeastPointFits, PartEnds, PartSeparates, PartSums, SidesFit, best_view, first, third}
-use Rattle.it_best.specs.Factors.{IsFactor, MeetsProblem}
+use Rattle.it_best.specs.Factors.{IsFactor, IsPoint, ground_of}
 use Rattle.it_best.specs.Numbers.{column_weight, factor_of, numbers, values_of, weights_certificate, weights_of}
 use Rattle.it_best.specs.Parts.{counterweight, coordinate_unknown, first_part, right_equation, slack_by, slacks, third_part, third_target, unknown_view, unknown_views}
 use Rattle.it_best.proofs.AnswerLemmas.{third_meets, left_some}
@@ -105,15 +105,15 @@ module _ (q : ProblemView) (left right : Terms) (k : IsProblem q) (l : IsUpTo (s
   pub third_long : (xs : List Rational) → xs ≡ ns → length (generators q) + size_of q.space < length xs
   third_long xs e = omega (arith, ap length e, numbers_length (third q left right) ws, third_length q.space.variables (size_of q.space) (generators q) left right)
 
-  pub third_factor_is : (x : Rational) (xs : List Rational) → x ≡ factor_of ns → xs ≡ weights_of (length (generators q)) ns → IsFactor q (value left) (value right) x.num (pos x.den) (weights_certificate (pos x.den) xs)
-  third_factor_is x xs e f = subst₂ (λ (x : Rational) (xs : List Rational). IsFactor q (value left) (value right) x.num (pos x.den) (weights_certificate (pos x.den) xs))
+  pub third_factor_is : (x : Rational) (xs : List Rational) → x ≡ factor_of ns → xs ≡ weights_of (length (generators q)) ns → IsFactor (ground_of q) (value left) (value right) x.num (pos x.den) (weights_certificate (pos x.den) xs)
+  third_factor_is x xs e f = subst₂ (λ (x : Rational) (xs : List Rational). IsFactor (ground_of q) (value left) (value right) x.num (pos x.den) (weights_certificate (pos x.den) xs))
       (sym (e ∙ parts.factor_is q left right k l r ws)) (sym (f ∙ parts.weights_are q left right k l r ws)) (parts.third_factor_right q left right k l r ws s)
 
   pub third_values_length : (vs : List Rational) → vs ≡ values_of (length (generators q)) (size_of q.space) ns → length vs ≡ size_of q.space
   third_values_length vs e = ap length (e ∙ parts.values_are q left right k l r ws) ∙ parts.hs_length q left right k l r ws
 
-  pub third_point_meets : (vs : List Rational) → vs ≡ values_of (length (generators q)) (size_of q.space) ns → MeetsProblem q (scaled_point vs)
-  third_point_meets vs e = subst (λ (vs : List Rational). MeetsProblem q (scaled_point vs)) (sym (e ∙ parts.values_are q left right k l r ws)) (third_meets q left right k l r ws s)
+  pub third_point_meets : (vs : List Rational) → vs ≡ values_of (length (generators q)) (size_of q.space) ns → IsPoint (ground_of q) (scaled_point vs)
+  third_point_meets vs e = subst (λ (vs : List Rational). IsPoint (ground_of q) (scaled_point vs)) (sym (e ∙ parts.values_are q left right k l r ws)) (third_meets q left right k l r ws s)
 
   pub third_left_some : (vs : List Rational) → vs ≡ values_of (length (generators q)) (size_of q.space) ns → pos 1 ≤ℤ value left (map_of (scaled_point vs))
   third_left_some vs e = subst (λ (vs : List Rational). pos 1 ≤ℤ value left (map_of (scaled_point vs))) (sym (e ∙ parts.values_are q left right k l r ws)) (left_some q left right k l r ws s)
@@ -127,8 +127,8 @@ module _ (q : ProblemView) (left right : Terms) (ws : List (ℕ × Rational)) (s
   pub first_long : (xs : List Rational) → xs ≡ first_ns → length (generators q) < length xs
   first_long xs e = omega (arith, ap length e, numbers_length (first q left right) ws, first_length (generators q) left)
 
-  pub first_factor_is : (x : Rational) (xs : List Rational) → x ≡ factor_of first_ns → xs ≡ weights_of (length (generators q)) first_ns → IsFactor q (value left) (value right) x.num (pos x.den) (weights_certificate (pos x.den) xs)
-  first_factor_is x xs e f = subst₂ (λ (x : Rational) (xs : List Rational). IsFactor q (value left) (value right) x.num (pos x.den) (weights_certificate (pos x.den) xs)) (sym e) (sym f) (parts.first_right q left right ws s)
+  pub first_factor_is : (x : Rational) (xs : List Rational) → x ≡ factor_of first_ns → xs ≡ weights_of (length (generators q)) first_ns → IsFactor (ground_of q) (value left) (value right) x.num (pos x.den) (weights_certificate (pos x.den) xs)
+  first_factor_is x xs e f = subst₂ (λ (x : Rational) (xs : List Rational). IsFactor (ground_of q) (value left) (value right) x.num (pos x.den) (weights_certificate (pos x.den) xs)) (sym e) (sym f) (parts.first_right q left right ws s)
 
 pub gs_numbers_few : (q : ProblemView) (k : IsProblem q) (ws : List (ℕ × Rational)) (xs : List Rational) → xs ≡ numbers (generators q) ws → length xs < 2 ^ 32
 gs_numbers_few q k ws xs e = omega (arith, ap length e, numbers_length (generators q) ws, few_equations q k)
@@ -142,7 +142,7 @@ pub separates_of : (m : ℕ) (us : List Generator) (target : Terms) (budget : Op
 separates_of m us target budget e qs p is = right_end m us target budget (Point qs) (subst (PartEnds m us target budget) is p)
 
 pub right_result : {E : Type 0} (q : ProblemView) (left right : Terms) (budget : Option ℕ) (r : Result Best E) → IsProblem q → IsUpTo (size_of q.space) left → IsUpTo (size_of q.space) right
-    → IfOk r (λ b. EndsWith q left right budget (best_view b)) → IfOk r (λ b. IsRightBest q (value left) (value right) (best_view b))
+    → IfOk r (λ b. EndsWith q left right budget (best_view b)) → IfOk r (λ b. IsRightBest (ground_of q) (value left) (value right) (best_view b))
 right_result q left right budget (Err e) k l r h = tt
 right_result q left right budget (Ok b) k l r h = best_is_right q left right budget (best_view b) k l r h
 

@@ -21,7 +21,7 @@ use Rattle.it_run.specs.RowValues.{rational_value}
 use Rattle.it_elemental.specs.Generators.{Generator, generators, generator_at}
 use Rattle.it_elemental.proofs.GeneratorLemmas.{rows_of_space, no_coefficient_beyond}
 use Rattle.it_columns.specs.Columns.{columns, count_by}
-use Rattle.it_best.specs.Factors.{IsFactor}
+use Rattle.it_best.specs.Factors.{IsFactor, ground_of}
 use Rattle.it_best.specs.Numbers.{column_weight, factor_of, numbers, number_by, numbers_from, values_of, weights_certificate, weights_of}
 use Rattle.it_best.specs.Parts.{counterweight, coordinate_unknown, coordinate_row, first_part, slacks, third_part, third_target, left_equation, right_equation}
 use Rattle.it_best.proofs.NumberLemmas.{number_sum, numbers_sum_up, AreNumbers, numbers_signed, length-numbers_from}
@@ -66,10 +66,10 @@ module _ (q : ProblemView) (left right : Terms) (ws : List (ℕ × Rational))
   abbrev first_ns : List Rational
   first_ns = numbers (first_part (generators q) left) ws
 
-  pub first_right : IsFactor q (value left) (value right) (factor_of first_ns).num (pos (factor_of first_ns).den)
+  pub first_right : IsFactor (ground_of q) (value left) (value right) (factor_of first_ns).num (pos (factor_of first_ns).den)
       (weights_certificate (pos (factor_of first_ns).den) (weights_of (length (generators q)) first_ns))
-  first_right = subst (λ (ns : List Rational). IsFactor q (value left) (value right) (factor_of ns).num (pos (factor_of ns).den) (weights_certificate (pos (factor_of ns).den) (weights_of (length (generators q)) ns))) (sym first_numbers)
-      (subst (λ (xs : List Rational). IsFactor q (value left) (value right) (number_by Equation (column_weight ws) 0).num (pos (number_by Equation (column_weight ws) 0).den) (weights_certificate (pos (number_by Equation (column_weight ws) 0).den) xs))
+  first_right = subst (λ (ns : List Rational). IsFactor (ground_of q) (value left) (value right) (factor_of ns).num (pos (factor_of ns).den) (weights_certificate (pos (factor_of ns).den) (weights_of (length (generators q)) ns))) (sym first_numbers)
+      (subst (λ (xs : List Rational). IsFactor (ground_of q) (value left) (value right) (number_by Equation (column_weight ws) 0).num (pos (number_by Equation (column_weight ws) 0).den) (weights_certificate (pos (number_by Equation (column_weight ws) 0).den) xs))
       (sym (take_all first_rest (length (generators q)) rest_length))
       (factor_certified q left right (number_by Equation (column_weight ws) 0) first_rest rest_length first_signed first_sum))
 
@@ -259,5 +259,5 @@ module _ (q : ProblemView) (left right : Terms) (k : IsProblem q) (l : IsUpTo (s
         ∙ ap (λ y. plus y x) (ap (λ y. plus (times x y) (plus (rational_value right (rational_map hs)) (integer (pos 0)))) (sym (Rattle.it_columns.proofs.Wholes.whole_minus (pos 1))) ∙ equation)
         ∙ null_plus x
 
-    pub third_factor_right : IsFactor q (value left) (value right) x.num (pos x.den) (weights_certificate (pos x.den) xs)
+    pub third_factor_right : IsFactor (ground_of q) (value left) (value right) x.num (pos x.den) (weights_certificate (pos x.den) xs)
     third_factor_right = factor_certified q left right x xs xs_length signs.0 sides_sum

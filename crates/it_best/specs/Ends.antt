@@ -25,7 +25,7 @@ use Rattle.it_best.specs.declared.types.Best.TheVariants as answers
 use Rattle.it_best.specs.declared.types.BestCause.{BestCause}
 use Rattle.it_best.specs.declared.types.BestCause.TheVariants as causes
 use Rattle.it_best.specs.declared.types.BestCause.TheVariants.{Scale, Size}
-use Rattle.it_best.specs.Factors.{HoldsFactor, IsLeastFactor, HasNoFactor, HasNoLeastFactor}
+use Rattle.it_best.specs.Factors.{Ground, HoldsFactor, IsLeastFactor, HasNoFactor, HasNoLeastFactor, ground_of}
 use Rattle.it_best.specs.Numbers.{DifferencesFit, WeightsFit, column_weight, factor_of, numbers, turned_numbers, values_of, weights_certificate, weights_of}
 use Rattle.it_best.specs.Parts.{first_part, third_part, third_target, right_equation}
 
@@ -193,16 +193,16 @@ module _ (q : ProblemView) (left right : Terms) where
       ⊎ (¬ IsLarge q × ((e : RunEndView (List (ℕ × Rational)) (List Rational)) × PartEnds size first right budget e × FirstFollows budget e o))
 
 -- what an answer says of the forms of the sides is right
-abbrev pub IsRightBest : ProblemView → Form → Form → BestView → Type 0
-IsRightBest q left right (Least num den proof values) = IsLeastFactor q left right num den proof values
-IsRightBest q left right (Never values) = HasNoFactor q left right values
-IsRightBest q left right (Unbounded num den proof below) = HasNoLeastFactor q left right num den proof below
-IsRightBest q left right (Undecided cause) = Unit {0}
+abbrev pub IsRightBest : Ground → Form → Form → BestView → Type 0
+IsRightBest g left right (Least num den proof values) = IsLeastFactor g left right num den proof values
+IsRightBest g left right (Never values) = HasNoFactor g left right values
+IsRightBest g left right (Unbounded num den proof below) = HasNoLeastFactor g left right num den proof below
+IsRightBest g left right (Undecided cause) = Unit {0}
 
 -- what the parts end with is right
 abbrev pub BestIsRight : Type 0
 BestIsRight = (q : ProblemView) (left right : Terms) (budget : Option ℕ) (o : BestView) → IsProblem q → IsUpTo (size_of q.space) left → IsUpTo (size_of q.space) right
-    → EndsWith q left right budget o → IsRightBest q (value left) (value right) o
+    → EndsWith q left right budget o → IsRightBest (ground_of q) (value left) (value right) o
 
 -- sides under a problem have one answer for a budget
 abbrev pub OneBest : Type 0
@@ -217,18 +217,19 @@ BestNeverOutOfSteps = (q : ProblemView) (left right : Terms) (k part : ℕ) → 
 -- the least factor holds, and no smaller one does
 abbrev pub LeastIsLeast : Type 0
 LeastIsLeast = (q : ProblemView) (left right : Terms) (num den : ℤ) (proof : CertificateView) (values : List ℤ) → IsProblem q → IsUpTo (size_of q.space) left → IsUpTo (size_of q.space) right
-    → IsLeastFactor q (value left) (value right) num den proof values
-    → HoldsFactor q (value left) (value right) num den × ((a b : ℤ) → pos 1 ≤ℤ b → HoldsFactor q (value left) (value right) a b → (num *ℤ b) ≤ℤ (a *ℤ den))
+    → IsLeastFactor (ground_of q) (value left) (value right) num den proof values
+    → HoldsFactor (ground_of q) (value left) (value right) num den
+        × ((a b : ℤ) → pos 1 ≤ℤ b → HoldsFactor (ground_of q) (value left) (value right) a b → (num *ℤ b) ≤ℤ (a *ℤ den))
 
 -- at a point at which the left side is 0 and the right one above it no factor holds
 abbrev pub NeverIsNever : Type 0
-NeverIsNever = (q : ProblemView) (left right : Form) (values : List ℤ) → HasNoFactor q left right values → (a b : ℤ) → pos 1 ≤ℤ b → HoldsFactor q left right a b → ⊥
+NeverIsNever = (q : ProblemView) (left right : Form) (values : List ℤ) → HasNoFactor (ground_of q) left right values → (a b : ℤ) → pos 1 ≤ℤ b → HoldsFactor (ground_of q) left right a b → ⊥
 
 -- where the left side is at most 0, a factor that holds and all smaller ones do
 abbrev pub UnboundedIsUnbounded : Type 0
 UnboundedIsUnbounded = (q : ProblemView) (left right : Terms) (num den : ℤ) (proof below : CertificateView) → IsProblem q → IsUpTo (size_of q.space) left → IsUpTo (size_of q.space) right
-    → HasNoLeastFactor q (value left) (value right) num den proof below
-    → (a b : ℤ) → pos 1 ≤ℤ b → (a *ℤ den) ≤ℤ (num *ℤ b) → HoldsFactor q (value left) (value right) a b
+    → HasNoLeastFactor (ground_of q) (value left) (value right) num den proof below
+    → (a b : ℤ) → pos 1 ≤ℤ b → (a *ℤ den) ≤ℤ (num *ℤ b) → HoldsFactor (ground_of q) (value left) (value right) a b
 
 -- that number of columns is that of the third part's columns and of one artificial column for each equation
 abbrev pub SizeIsCounted : Type 0
@@ -241,5 +242,5 @@ AreSameForms f g = (p : ℕ → ℤ) → p 0 ≡ pos 0 → f p ≡ g p
 -- what is right of sides by their rows is right of them by their meaning
 abbrev pub RightByForms : Type 0
 RightByForms = (q : ProblemView) (left right other_left other_right : Form) → AreSameForms left other_left → AreSameForms right other_right
-    → ((o : BestView) → IsRightBest q left right o → IsRightBest q other_left other_right o)
-    × ((num den : ℤ) → HoldsFactor q left right num den → HoldsFactor q other_left other_right num den)
+    → ((o : BestView) → IsRightBest (ground_of q) left right o → IsRightBest (ground_of q) other_left other_right o)
+    × ((num den : ℤ) → HoldsFactor (ground_of q) left right num den → HoldsFactor (ground_of q) other_left other_right num den)

@@ -8,6 +8,7 @@ ghost use Rattle.it_run.specs.Answers.{end_of_answer};
 ghost use Rattle.it_run.specs.Runs.{RunEndView};
 ghost use Rattle.it_elemental.specs.Generators.{generators};
 ghost use Rattle.it_best.specs.Ends.{EndsWith, FirstFollows, IsRightBest, LeastFits, Never, NeverFits, OrScale, PartEnds, PartSeparates, PartSums, SecondFollows, ThirdFollows, UnboundedFits, best_view, first, least_view, never_values, third, unbounded_view};
+ghost use Rattle.it_best.specs.Factors.{ground_of};
 ghost use Rattle.it_best.specs.Parts.{right_equation, third_target, unknown_views};
 
 use crate::judging::{below_proof, factor_proof, least_point, never_point};
@@ -338,7 +339,7 @@ pub fn best(
     requires left { IsUpTo (size_of problem.now.space) left.now }
     requires right { IsUpTo (size_of problem.now.space) right.now }
     ensures ends { IfOk result (λ b. EndsWith (problem_view problem.now) left.now right.now budget (best_view b)) }
-    ensures right { IfOk result (λ b. IsRightBest (problem_view problem.now) (value left.now) (value right.now) (best_view b)) }
+    ensures right { IfOk result (λ b. IsRightBest (ground_of (problem_view problem.now)) (value left.now) (value right.now) (best_view b)) }
 {
     best_by_parts(alloc, problem, left, right, budget)
 }

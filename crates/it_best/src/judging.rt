@@ -11,7 +11,7 @@ ghost use Rattle.it_elemental.specs.Generators.{generators, generators_of};
 ghost use Rattle.it_check.specs.Meaning.{CertificateFits, CertifiesRow, PointFits};
 ghost use Rattle.it_columns.specs.Scaling.{NumbersFit, scaled_point};
 ghost use Rattle.it_best.specs.Ends.{BelowFits, DifferenceOfProductsFits, FactorFits, LeastPointFits, NeverFits, factor_coefficient, factor_row};
-ghost use Rattle.it_best.specs.Factors.{HasNoFactor, IsFactor, MeetsProblem};
+ghost use Rattle.it_best.specs.Factors.{HasNoFactor, IsFactor, IsPoint, ground_of};
 ghost use Rattle.it_best.specs.Numbers.{turned_numbers, weights_certificate};
 
 use crate::numbers::{certificate, turned_point, whole_point};
@@ -101,7 +101,7 @@ pub fn factor_proof(
 ) -> Result<Certificate, RowFault>
     requires problem { IsProblem (problem_view problem.now) }
     requires few { length weights.now < 2 ^ 32 }
-    requires factor { IsFactor (problem_view problem.now) (value left.now) (value right.now) factor.now.num (pos factor.now.den) (weights_certificate (pos factor.now.den) weights.now) }
+    requires factor { IsFactor (ground_of (problem_view problem.now)) (value left.now) (value right.now) factor.now.num (pos factor.now.den) (weights_certificate (pos factor.now.den) weights.now) }
     ensures value { IfOk result (λ c. certificate_view c ≡ weights_certificate (pos factor.now.den) weights.now) }
     ensures fits { OnOk result (FactorFits (problem_view problem.now) left.now right.now factor.now weights.now) }
     ensures wide { IfErr result (λ f. f ≡ RowFault.Wide → ¬ (FactorFits (problem_view problem.now) left.now right.now factor.now weights.now)) }
@@ -139,7 +139,7 @@ pub fn below_proof(
 fn check_point(alloc: Global, problem: &Problem, row: &Row, point: &Point) -> Result<(), RowFault>
     requires problem { IsProblem (problem_view problem.now) }
     requires row { IsUpTo (size_of problem.now.space) row.now }
-    requires meets { MeetsProblem (problem_view problem.now) point.now }
+    requires meets { IsPoint (ground_of (problem_view problem.now)) point.now }
     requires above { pos 1 ≤ℤ value row.now (map_of point.now) }
     ensures fits { OnOk result (PointFits (problem_view problem.now) row.now point.now) }
     ensures wide { IfErr result (λ f. f ≡ RowFault.Wide → ¬ (PointFits (problem_view problem.now) row.now point.now)) }
@@ -184,7 +184,7 @@ pub fn never_point(
     requires left { IsUpTo (size_of problem.now.space) left.now }
     requires right { IsUpTo (size_of problem.now.space) right.now }
     requires complete { length values.now ≡ size_of problem.now.space }
-    requires never { HasNoFactor (problem_view problem.now) (value left.now) (value right.now) (turned_numbers (scaled_point values.now)) }
+    requires never { HasNoFactor (ground_of (problem_view problem.now)) (value left.now) (value right.now) (turned_numbers (scaled_point values.now)) }
     ensures value { IfOk result (λ p. p ≡ turned_numbers (scaled_point values.now)) }
     ensures fits { OnOk result (NeverFits (problem_view problem.now) left.now right.now values.now) }
     ensures wide { IfErr result (λ f. f ≡ RowFault.Wide → ¬ (NeverFits (problem_view problem.now) left.now right.now values.now)) }
@@ -209,7 +209,7 @@ pub fn least_point(
     requires left { IsUpTo (size_of problem.now.space) left.now }
     requires right { IsUpTo (size_of problem.now.space) right.now }
     requires complete { length values.now ≡ size_of problem.now.space }
-    requires meets { MeetsProblem (problem_view problem.now) (scaled_point values.now) }
+    requires meets { IsPoint (ground_of (problem_view problem.now)) (scaled_point values.now) }
     requires some { pos 1 ≤ℤ value left.now (map_of (scaled_point values.now)) }
     ensures value { IfOk result (λ p. p ≡ scaled_point values.now) }
     ensures fits { OnOk result (LeastPointFits (problem_view problem.now) left.now right.now factor.now values.now) }
