@@ -62,7 +62,7 @@ module _ (q : BodyView) (m : ℕ → ℤ) (together : AreTrueTogether q m) where
   satisfied_at : (i : ℕ) → IsSatisfied m (demand_at ds i)
   satisfied_at i = every_or (IsSatisfied m) ds i (record { kind = Inequality; form = λ p. pos 0 }) all_satisfied (omega (arith, ints))
 
-  form_at_least_zero : (f : Form) (w : CertificateView) → CertifiesForm q f w → pos 0 ≤ℤ f m
+  pub form_at_least_zero : (f : Form) (w : CertificateView) → CertifiesForm q f w → pos 0 ≤ℤ f m
   form_at_least_zero f w c = least_by_multiple w.scale (f m) (omega (arith, ints, c.scale_from_one))
       (subst (λ (x : ℤ). pos 0 ≤ℤ x) (sym (c.adds_up m together.0.empty))
       (weighted_least (generators_by ds) (λ i. (demand_at ds i).form m) (λ i l. at_least (demand_at ds i).kind ((demand_at ds i).form m) (satisfied_at i))

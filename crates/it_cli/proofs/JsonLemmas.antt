@@ -20,7 +20,7 @@ use Rattle.it_run.specs.Runs.{RunEndView, EndsAs, EndsBy, IsWithinBudget, clip_e
 use Rattle.it_run.specs.Runs.RunEndView.{Weights, Point, Pivots, Width}
 use Rattle.it_simplex.specs.Answers.{Solves}
 use Rattle.it_prove.specs.Closed.{closed_places, spread_point, spread_values}
-use Rattle.it_prove.specs.Scaling.{NumbersFit, scale_of, scaled_point}
+use Rattle.it_columns.specs.Scaling.{NumbersFit, scale_of, scaled_point}
 use Rattle.it_prove.specs.Steps.{terms_of_places}
 use Rattle.it_prove.specs.ProofViews as proof_views
 use Rattle.it_prove.specs.ProofViews.{Follows, Runs, AreProofsOf}

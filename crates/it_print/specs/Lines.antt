@@ -111,9 +111,22 @@ unfoldable pub coordinate_text : NamesView → ℕ → List ℕ
 coordinate_text v c =
     if nat_lt c (2 ^ length v.variables) then codes "h(" ++ set_text v.variables c ++ codes ")" else slice_index_or v.rates (c - 2 ^ length v.variables) []
 
--- a coordinate with its value, after a blank
+-- a coordinate with its value
+abbrev pub pair_text : NamesView → ℕ → ℤ → List ℕ
+pair_text v c x = coordinate_text v c ++ codes "=" ++ signed_decimal x
+
+-- the same after a blank
 abbrev pub value_text : NamesView → ℕ → ℤ → List ℕ
-value_text v c x = codes " " ++ coordinate_text v c ++ codes "=" ++ signed_decimal x
+value_text v c x = codes " " ++ pair_text v c x
+
+-- the coordinates from c on with their values
+abbrev pub pair_texts : NamesView → ℕ → List ℤ → List (List ℕ)
+pair_texts v c [] = []
+pair_texts v c (x ∷ xs) = pair_text v c x ∷ pair_texts v (c + 1) xs
+
+-- the values of a point with a blank between them
+unfoldable pub values_text : NamesView → List ℤ → List ℕ
+values_text v values = joined_texts (codes " ") false (pair_texts v 1 values)
 
 -- the values of a point from coordinate c on
 unfoldable pub values_from : NamesView → ℕ → List ℤ → List ℕ

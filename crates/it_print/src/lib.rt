@@ -17,4 +17,5 @@ pub use pieces::{write_number, write_signed};
 pub use proof_lines::proof_text;
 pub use rows::row_text;
 pub use sets::write_set;
-pub use values::write_coordinate;
+pub use sums::sum_text;
+pub use values::{values_text, write_coordinate};

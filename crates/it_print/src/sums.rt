@@ -2,10 +2,15 @@
 ghost use Rattle.std.specs.Prelude.{◌≡◌, ◌≤◌, ◌<◌, ◌+◌, ◌++◌, length, map, OnOk, IfOk, All, codes, false};
 ghost use Rattle.it_space.specs.Answers.{certificate_view};
 ghost use Rattle.it_polymatroid.specs.Elementals.{elementals};
+ghost use Rattle.it_question.specs.Questions.{question_body};
+ghost use Rattle.it_question.specs.Tables.{problem_names};
+ghost use Rattle.it_canon.specs.QuestionDemands.{variables_of};
 ghost use Rattle.it_print.specs.Lines.{AreListed, joined_texts, weight_text, origins_of, sum_text, certificate_text};
 
 use crate::generators::write_generator;
 use crate::pieces::{write_if, write_signed};
+use it_canon::problem_names;
+use it_question::types::Question;
 use it_space::{Certificate, Constraint, is_nonzero_weight};
 use it_syntax::Names;
 use std::alloc::{AllocError, Global};
@@ -116,4 +121,27 @@ pub fn write_weight(
     write_signed(out, weight.1)?;
     out.extend_from_slice(b" ")?;
     write_generator(out, names, constraints, weight.0)
+}
+
+/// The weights other than 0 of a certificate, each before its generator, with ` + ` between them, or `0`. The constraints are
+/// those of the question's problem, which are the generators after the elemental inequalities.
+pub fn sum_text(
+    alloc: Global,
+    question: &Question,
+    constraints: &[Constraint],
+    certificate: &Certificate,
+) -> Result<Vec<u8>, AllocError>
+    requires some { 1 ≤ variables_of (question_body question.now) }
+    requires there { All (λ w. w.0 < length (elementals (variables_of (question_body question.now))) + length constraints.now) certificate.now.weights.items }
+    ensures { IfOk result (λ t. t.items ≡ sum_text (problem_names (question_body question.now)).variables (origins_of constraints.now) certificate.now.weights.items) }
+{
+    let mut out = Vec::new(alloc);
+    write_sum(
+        alloc,
+        &mut out,
+        problem_names(question),
+        constraints,
+        certificate.weights.as_slice(),
+    )?;
+    Ok(out)
 }

@@ -16,6 +16,7 @@ use Rattle.it_closure.specs.Coordinates.{closed_coordinates, RiseTo}
 use Rattle.it_closure.proofs.Places.{value-placed}
 use Rattle.it_closure.proofs.Serving.{coordinates_serve}
 use Rattle.it_run.proofs.RowValues.{AreApart}
+use Rattle.it_columns.proofs.ColumnLemmas.{In}
 use Rattle.it_prove.specs.Closed.{collapsed_row, collapsed_generator, collapsed_generators}
 
 -- ---- terms with a coordinate
@@ -86,9 +87,6 @@ module _ (n : ℕ) (ds : List Dependence) where
   collapsed_generator_at (g ∷ gs) (suc i) = collapsed_generator_at gs i
 
 -- ---- coordinates in ascending order
-
-abbrev pub In : List ℕ → ℕ → Type 0
-In xs c = (k : ℕ) × (k < length xs) × (get_or xs k 0 ≡ c)
 
 pub rise_low : (from to : ℕ) (xs : List ℕ) → RiseTo from to xs → (k : ℕ) → k < length xs → from ≤ get_or xs k 0
 rise_low from to [] r k h = absurd (omega arith)

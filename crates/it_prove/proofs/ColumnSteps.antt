@@ -21,7 +21,8 @@ use Rattle.it_prove.proofs.ClosedRows.{collapse_same}
 use Rattle.it_prove.specs.Closed.{collapsed_row, collapsed_generator, collapsed_generators, closed_target}
 use Rattle.it_space.proofs.TermLemmas.{coefficient-negated_terms}
 use Rattle.it_closure.specs.Sizes.{column_count}
-use Rattle.it_prove.specs.Columns.{columns_by, columns_of, columns, weight_by, weights_from}
+use Rattle.it_columns.specs.Columns.{columns_by, columns_of, columns}
+use Rattle.it_prove.specs.Weights.{weight_by, weights_from}
 use Rattle.it_prove.specs.ClosedProblems.{SameRows, AreColumns}
 
 -- ---- columns
@@ -100,19 +101,6 @@ module _ (n : ℕ) (ds : List Dependence) (gs : List Generator) where
   columns_more_by es i old new e h add fit = columns_more i old new h
       (subst (λ (x : List Dependence). (xs : List Terms) → SameRows old xs → SameRows new (xs ++ columns_of (collapsed_generator n x (generator_at gs i)))) e add)
       (subst (λ (x : List Dependence). CollapseFits n x (generator_at gs i).row) e fit)
-
--- there are few
-pub few_columns : (gs : List Generator) → length (columns gs) ≤ 2 * length gs
-unfolding columns
-few_columns [] = omega arith
-few_columns (g ∷ gs) = by_kind g.kind (few_columns gs)
-  where
-    by_kind : (k : Kind) → length (flat_map columns_of gs) ≤ 2 * length gs → length (columns_by k g.row ++ flat_map columns_of gs) ≤ 2 * suc (length gs)
-    by_kind Inequality h = omega arith
-    by_kind Equation h = omega arith
-
-pub few_generators : (q : ProblemView) → IsProblem q → length (generators q) ≤ 2 ^ 21
-few_generators q k = omega (arith, length-listed q.space.variables q.constraints, few_elementals q.space.variables k.space.few, k.few)
 
 -- ---- weights
 

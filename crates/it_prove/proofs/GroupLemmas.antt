@@ -13,7 +13,8 @@ use Rattle.it_space.proofs.EveryLemmas.{every-append}
 use Rattle.it_elemental.specs.Generators.{Generator, generator_at, forms_of, is_equation}
 use Rattle.it_check.specs.Verdicts.{column}
 use Rattle.it_closure.specs.Sizes.{column_count}
-use Rattle.it_prove.specs.Columns.{columns_by, columns, weight_by, weights_from}
+use Rattle.it_columns.specs.Columns.{columns_by, columns}
+use Rattle.it_prove.specs.Weights.{weight_by, weights_from}
 
 -- ---- the sum over columns from number j on of f of the number times the coefficient at a coordinate
 

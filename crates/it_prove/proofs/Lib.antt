@@ -1,11 +1,8 @@
-pub mod Scales
-pub mod Wholes
 pub mod GroupLemmas
 pub mod ClosedRows
 pub mod WeightLemmas
 pub mod LiftLemmas
 pub mod PointLemmas
-pub mod ScaleSteps
 pub mod ColumnSteps
 pub mod ProofLemmas
 pub mod RightLemmas

@@ -34,10 +34,13 @@ use Rattle.it_check.specs.Meaning.{CertifiesRow}
 use Rattle.it_check.specs.Verdicts.{column}
 use Rattle.it_prove.specs.Closed.{collapsed_row, collapsed_generators, closed_places, closed_generators, closed_target}
 use Rattle.it_closure.specs.Sizes.{column_count}
-use Rattle.it_prove.specs.Columns.{columns, columns_by, columns_of, weight_by, weights_from}
-use Rattle.it_prove.specs.Scaling.{NumbersFit, numbers_of, scale_of, scaled_weights}
+use Rattle.it_columns.specs.Columns.{columns, columns_by, columns_of}
+use Rattle.it_prove.specs.Weights.{weight_by, weights_from}
+use Rattle.it_columns.specs.Scaling.{NumbersFit, scale_of}
+use Rattle.it_prove.specs.Weights.{numbers_of, scaled_weights}
 use Rattle.it_prove.specs.ProofViews.{IsLifted, closed_weights}
-use Rattle.it_prove.proofs.ClosedRows.{In, listed_or_absent, collapsed_at, collapsed_generator_at, collapsed_none}
+use Rattle.it_columns.proofs.ColumnLemmas.{In}
+use Rattle.it_prove.proofs.ClosedRows.{listed_or_absent, collapsed_at, collapsed_generator_at, collapsed_none}
 use Rattle.it_prove.proofs.GroupLemmas.{weights_allowed}
 use Rattle.it_prove.proofs.WeightLemmas.{adds_up, scale_least, scaled_positive, scaled_canonical}
 use Rattle.it_space.proofs.TermLemmas.{ascends-single_term}

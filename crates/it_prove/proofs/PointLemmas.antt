@@ -33,42 +33,18 @@ use Rattle.it_closure.specs.declared.dependences.Dependence.{Dependence}
 use Rattle.it_closure.specs.Collapse.{place, spread_out}
 use Rattle.it_closure.specs.Coordinates.{RiseTo}
 use Rattle.it_closure.specs.Reading.{dependences_of}
-use Rattle.it_prove.specs.Columns.{columns_by, columns_of, columns}
+use Rattle.it_columns.specs.Columns.{columns_by, columns_of, columns}
 use Rattle.it_prove.specs.Closed.{collapsed_row, collapsed_generator, closed_places, closed_generators, closed_target, spread_values, spread_point}
 use Rattle.it_prove.specs.Steps.{terms_of_places}
-use Rattle.it_prove.specs.Scaling.{scale_of, scaled_number, scaled_point}
-use Rattle.it_prove.proofs.Scales.{scale_pos, denominators_divide}
-use Rattle.it_prove.proofs.ClosedRows.{In, rise_low, rise_apart, coords_rise, collapsed_over, collapsed_value}
+use Rattle.it_columns.specs.Scaling.{scale_of, scaled_number, scaled_point}
+use Rattle.it_columns.proofs.Scales.{scale_pos, denominators_divide}
+use Rattle.it_columns.proofs.ColumnLemmas.{In}
+use Rattle.it_columns.proofs.ColumnLemmas.{columns_keep, columns_met}
+use Rattle.it_prove.proofs.ClosedRows.{rise_low, rise_apart, coords_rise, collapsed_over, collapsed_value}
 use Rattle.it_prove.proofs.LiftLemmas.{coefficients_within, dependences_sound, below_size}
-use Rattle.it_prove.proofs.Wholes.{whole_scaled, least_scaled, below_scaled}
+use Rattle.it_columns.proofs.Wholes.{whole_scaled, least_scaled, below_scaled}
 use Prim.Native.Nat.{◌∣◌}
 use Rattle.it_space.proofs.TermLemmas.{ascends-single_term, ascends_lower, value-negated_terms, coefficient-append, coefficient-single_term}
-
--- ---- rows of the columns
-
-negated_keeps : (P : ℕ → Type 0) (row : Terms) → Every (λ t. P t.0) row → Every (λ t. P t.0) (negated_terms row)
-negated_keeps P [] u = tt
-negated_keeps P (t ∷ ts) u = (u.0, negated_keeps P ts u.1)
-
-by_kind : (P : ℕ → Type 0) (k : Kind) (row : Terms) → Every (λ t. P t.0) row → Every (λ (r : Terms). Every (λ t. P t.0) r) (columns_by k row)
-by_kind P Inequality row u = (u, tt)
-by_kind P Equation row u = (u, (negated_keeps P row u, tt))
-
-pub columns_keep : (P : ℕ → Type 0) (gs : List Generator) → Every (λ g. Every (λ t. P t.0) g.row) gs → Every (λ (r : Terms). Every (λ t. P t.0) r) (columns gs)
-unfolding columns
-columns_keep P gs u = every-flat_map (λ (r : Terms). Every (λ t. P t.0) r) columns_of gs (every-same (λ g. Every (λ t. P t.0) g.row) (λ g. Every (λ (r : Terms). Every (λ t. P t.0) r) (columns_of g)) gs (λ g h. by_kind P g.kind g.row h) u)
-
--- where each column is at least 0 the generators are met
-met_by_kind : (k : Kind) (row : Terms) (p : ℕ → ℤ) → Every (λ r. pos 0 ≤ℤ value r p) (columns_by k row) → Meets k (value row p)
-met_by_kind Inequality row p e = e.0
-met_by_kind Equation row p e = opposites_are_zero (value row p) (value (negated_terms row) p) e.0 e.1.0 (value-negated_terms row p)
-  where
-    opposites_are_zero : (x y : ℤ) → pos 0 ≤ℤ x → pos 0 ≤ℤ y → y ≡ neg_ℤ x → x ≡ pos 0
-    opposites_are_zero x y h k e = omega (arith, ints, e)
-
-pub columns_met : (gs : List Generator) (p : ℕ → ℤ) → Every (λ r. pos 0 ≤ℤ value r p) (columns gs) → Every (λ g. Meets g.kind (value g.row p)) gs
-unfolding columns
-columns_met gs p e = every-same (λ g. Every (λ r. pos 0 ≤ℤ value r p) (columns_of g)) (λ g. Meets g.kind (value g.row p)) gs (λ g h. met_by_kind g.kind g.row p h) (every_flat_mapped (λ r. pos 0 ≤ℤ value r p) columns_of gs e)
 
 -- ---- a point's values by coordinate
 

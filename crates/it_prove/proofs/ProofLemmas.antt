@@ -34,10 +34,10 @@ use Rattle.it_check.specs.Meaning.{CertifiesRow, CertificateFits, RefutesRow, Po
 use Rattle.it_check.specs.Verdicts.{yes_verdict, no_verdict}
 use Rattle.it_check.specs.declared.verdicts.Verdict.TheVariants.{Valid}
 use Rattle.it_check.proofs.Truth.{valid_yes_is, valid_no_is}
-use Rattle.it_prove.specs.Columns.{columns}
+use Rattle.it_columns.specs.Columns.{columns}
 use Rattle.it_prove.specs.ClosedProblems.{SameRows}
 use Rattle.it_prove.specs.Closed.{closed_places, closed_generators, closed_target, CollapsesFit, spread_point}
-use Rattle.it_prove.specs.Scaling.{EachFits, NumbersFit, scaled_number}
+use Rattle.it_columns.specs.Scaling.{EachFits, NumbersFit, scaled_number}
 use Rattle.it_prove.specs.ProofViews.{ProofView, Yes, No, Undecided, IsLifted, LiftedFit, Follows, Runs, EndsWith, NeverOutOfSteps, OneProofView, ProvenAscends, proof_view}
 use Rattle.it_prove.specs.declared.types.Proof.{Proof}
 use Rattle.it_prove.proofs.PointLemmas.{point_right}

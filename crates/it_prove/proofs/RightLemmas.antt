@@ -13,7 +13,7 @@ use Rattle.it_run.specs.Solving.{StepFits}
 use Rattle.it_run.proofs.BudgetLemmas.{right_by}
 use Rattle.it_run.proofs.RunLemmas.{EndIsRight}
 use Rattle.it_prove.specs.Closed.{closed_places, closed_generators, closed_target}
-use Rattle.it_prove.specs.Columns.{columns}
+use Rattle.it_columns.specs.Columns.{columns}
 use Rattle.it_prove.specs.ProofViews.{ProofView, Follows, Runs, EndsWith, IsRightProof, EndsAreRight, proof_view}
 use Rattle.it_prove.specs.declared.types.Proof.{Proof}
 use Rattle.it_prove.proofs.LiftLemmas.{lifted_certifies}

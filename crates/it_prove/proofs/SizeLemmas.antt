@@ -10,7 +10,7 @@ use Rattle.it_closure.specs.declared.dependences.Dependence.{Dependence}
 use Rattle.it_closure.specs.Reading.{dependences_of}
 use Rattle.it_closure.specs.Sizes.{column_count, constraint_columns, table_size}
 use Rattle.it_prove.specs.Closed.{collapsed_row, collapsed_generators, closed_places, closed_generators}
-use Rattle.it_prove.specs.Columns.{columns_by, columns}
+use Rattle.it_columns.specs.Columns.{columns_by, columns}
 use Rattle.it_prove.specs.ProofViews.{SizeIsOfStart}
 
 length_by_kind : (k : Kind) (row : Terms) (rest : List Terms) → length (columns_by k row ++ rest) ≡ column_count k + length rest

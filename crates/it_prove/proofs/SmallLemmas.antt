@@ -32,12 +32,12 @@ use Rattle.it_run.specs.Runs.{RunEndView, EndsAs, clip_end}
 use Rattle.it_run.specs.Runs.RunEndView.{Weights, Point, Pivots, Width}
 use Rattle.it_run.proofs.RowValues.{whole_plus}
 use Rattle.it_prove.specs.Closed.{collapsed_row, collapsed_generator, closed_places, closed_generators, closed_target, CollapsesFit}
-use Rattle.it_prove.specs.Columns.{columns}
+use Rattle.it_columns.specs.Columns.{columns}
 use Rattle.it_prove.specs.ProofViews.{Undecided, Follows, Runs, NeverAtStart}
 use Rattle.it_prove.proofs.ClosedRows.{coords_rise}
 use Rattle.it_prove.proofs.LiftLemmas.{dependences_sound}
 use Rattle.it_prove.proofs.SmallRows.{abs_add, abs_neg, SmallRow, small_row, columns_small, collapse_fits, generators_small}
-use Rattle.it_prove.proofs.Wholes.{whole_parts, whole_minus}
+use Rattle.it_columns.proofs.Wholes.{whole_parts, whole_minus}
 
 -- ---- whole numbers up to a bound
 

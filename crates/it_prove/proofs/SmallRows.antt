@@ -16,7 +16,7 @@ use Rattle.it_closure.specs.declared.dependences.Dependence.{Dependence}
 use Rattle.it_closure.specs.Collapse.{PlaceSumsFit, CollapseFits, place, placed_terms}
 use Rattle.it_space.specs.Sums.{plus_at}
 use Rattle.it_prove.specs.Closed.{collapsed_row}
-use Rattle.it_prove.specs.Columns.{columns_by, columns_of, columns}
+use Rattle.it_columns.specs.Columns.{columns_by, columns_of, columns}
 use Rattle.it_space.proofs.TermLemmas.{coefficient-negated_terms}
 
 pub abs_add : (x y : ℤ) (a b : ℕ) → unsigned_abs x ≤ a → unsigned_abs y ≤ b → unsigned_abs (x +ℤ y) ≤ a + b

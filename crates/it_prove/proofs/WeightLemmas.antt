@@ -1,22 +1,49 @@
 -- Weights that sum to the target, made whole, are a certificate.
-use Rattle.std.proofs.Common.{◌≡◌, ◌≢◌, ℕ, suc, ◌+◌, ◌<◌, ◌≤◌, ℤ, pos, ◌+ℤ◌, ◌*ℤ◌, ◌≤ℤ◌, ◌<ℤ◌, List, [], ◌∷◌, length, get_or, Bool, true, false, cond, eqb, All, sym, ap, subst, ◌∙◌, arith}
+use Rattle.std.proofs.Common.{◌≡◌, ◌≢◌, ◌↔◌, ℕ, suc, ◌+◌, ◌<◌, ◌≤◌, ℤ, pos, ◌+ℤ◌, ◌*ℤ◌, ◌≤ℤ◌, ◌<ℤ◌, List, [], ◌∷◌, ◌++◌, drop, map, length, get_or, Bool, true, false, cond, eqb, All, refl, sym, ap, ap₂, subst, ◌∙◌, arith}
 use Rattle.std.proofs.lemmas.Int.{ints}
+use Rattle.it_number.proofs.Ring.{ring, v, plus, times, nil}
 use Rattle.it_rational.specs.Rational.{Rational}
+use Rattle.it_rational.specs.Rational as Q
+use Rattle.it_rational.proofs.RationalLaws.{ring_ℚ}
 use Rattle.it_rational.proofs.Field.{field_ℚ}
 use Rattle.it_space.specs.Rows.{Terms, coefficient, value, Ascends}
 use Rattle.std.specs.List.{AllByRecursion as Every}
 use Rattle.it_space.proofs.EveryLemmas.{all_of}
 use Rattle.it_tableau.specs.Problems.{feasibility_problem}
-use Rattle.it_run.specs.Readings.{AreWeights, SumsUp}
-use Rattle.it_run.proofs.RowValues.{sums_up}
+use Rattle.it_run.specs.Readings.{AreWeights, SumsUp, ring_combination}
+use Rattle.it_run.proofs.RowValues.{sums_up, whole_plus}
 use Rattle.it_elemental.specs.Generators.{Generator, generator_at}
 use Rattle.it_check.specs.Verdicts.{column}
-use Rattle.it_prove.specs.Columns.{columns, weights_from}
-use Rattle.it_prove.specs.Scaling.{EachFits, scale_of, scaled_number, scaled_by, scaled_weights, numbers_of}
-use Rattle.it_prove.proofs.Scales.{scale_pos, denominators_divide}
-use Rattle.it_prove.proofs.Wholes.{scaled_sum, scaled_above}
+use Rattle.it_columns.specs.Columns.{columns}
+use Rattle.it_prove.specs.Weights.{weights_from}
+use Rattle.it_columns.specs.Scaling.{EachFits, scale_of, scaled_number}
+use Rattle.it_prove.specs.Weights.{scaled_by, scaled_weights, numbers_of}
+use Rattle.it_columns.proofs.Scales.{scale_pos, denominators_divide}
+use Rattle.it_columns.proofs.Wholes.{scaled_above, whole_same, whole_scaled, whole_times}
 use Rattle.it_prove.proofs.GroupLemmas.{value_total, total_by_generators}
 use Prim.Native.Nat.{◌∣◌}
+
+-- ---- sums of weights
+
+pub weighted_scaled : (l : ℕ) (ws : List (ℕ × Rational)) (f : ℕ → ℤ) → Every (λ q. q.den ∣ l) (map (λ w. w.1) ws)
+    → Q.integer (value (scaled_by l ws) f) ≡ Q.times (Q.integer (pos l)) (ring_combination field_ℚ ws (λ j. Q.integer (f j)))
+weighted_scaled l [] f d = sym (ring ring_ℚ (Q.integer (pos l) ∷ []) (times (v 0) nil) nil refl)
+weighted_scaled l (w ∷ ws) f d =
+    whole_plus (scaled_number l w.1 *ℤ f w.0) (value (scaled_by l ws) f)
+    ∙ ap₂ Q.plus (whole_times (scaled_number l w.1) (f w.0) ∙ ap (λ x. Q.times x (Q.integer (f w.0))) (whole_scaled l w.1 d.0)) (weighted_scaled l ws f d.1)
+    ∙ ring ring_ℚ (Q.integer (pos l) ∷ w.1 ∷ Q.integer (f w.0) ∷ ring_combination field_ℚ ws (λ j. Q.integer (f j)) ∷ [])
+    (plus (times (times (v 0) (v 1)) (v 2)) (times (v 0) (v 3))) (times (v 0) (plus (times (v 1) (v 2)) (v 3))) refl
+
+-- weights that sum to a whole number, times the scale
+pub scaled_sum : (l : ℕ) (ws : List (ℕ × Rational)) (f : ℕ → ℤ) (t : ℤ) → Every (λ q. q.den ∣ l) (map (λ w. w.1) ws)
+    → ring_combination field_ℚ ws (λ j. Q.integer (f j)) ≡ Q.integer t → value (scaled_by l ws) f ≡ pos l *ℤ t
+scaled_sum l ws f t d e = whole_same (value (scaled_by l ws) f) (pos l *ℤ t)
+    (weighted_scaled l ws f d ∙ ap (Q.times (Q.integer (pos l))) e ∙ sym (whole_times (pos l) t))
+
+-- so many of the weights are scaled, as the code puts them one after the other
+pub record AreTerms (l : ℕ) (ws : List (ℕ × Rational)) (i : ℕ) (out : Terms) : Type 0 where
+  pub fits : EachFits l (numbers_of (drop i ws)) ↔ EachFits l (numbers_of ws)
+  pub same : out ++ scaled_by l (drop i ws) ≡ scaled_by l ws
 
 -- each scaled weight is of a column and above 0
 terms_of_columns : (l n from : ℕ) (ws : List (ℕ × Rational)) → AreWeights field_ℚ n from ws → Every (λ (t : ℕ × ℤ). t.0 < n) (scaled_by l ws)

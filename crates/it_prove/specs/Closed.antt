@@ -12,7 +12,7 @@ use Rattle.it_closure.specs.declared.dependences.Dependence.{Dependence}
 use Rattle.it_closure.specs.Collapse.{placed_terms, spread_out, CollapseFits}
 use Rattle.it_closure.specs.Coordinates.{closed_coordinates}
 use Rattle.it_closure.specs.Reading.{dependences_of}
-use Rattle.it_prove.specs.Scaling.{scaled_point}
+use Rattle.it_columns.specs.Scaling.{scaled_point}
 
 -- a row over closed sets: each set replaced by its closure, and the sets with the closure of the empty set left out, which have entropy 0
 abbrev pub collapsed_row : ℕ → List Dependence → Terms → Terms

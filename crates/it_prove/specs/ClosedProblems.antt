@@ -6,7 +6,7 @@ use Rattle.it_elemental.specs.Generators.{Generator, generators, generator_at}
 use Rattle.it_closure.specs.declared.dependences.Dependence.{Dependence}
 use Rattle.it_closure.specs.Collapse.{CollapseFits}
 use Rattle.it_closure.specs.Reading.{dependences_of}
-use Rattle.it_prove.specs.Columns.{columns}
+use Rattle.it_columns.specs.Columns.{columns}
 use Rattle.it_prove.specs.Closed.{closed_places, collapsed_generators}
 use Rattle.it_prove.specs.declared.closed.ClosedProblem.{ClosedProblem}
 

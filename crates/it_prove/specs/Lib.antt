@@ -1,5 +1,4 @@
-pub mod Columns
-pub mod Scaling
+pub mod Weights
 pub mod Closed
 pub mod ClosedProblems
 pub mod ProofViews

@@ -20,9 +20,10 @@ use Rattle.it_closure.specs.Sizes.{table_size}
 use Rattle.it_lift.specs.Fits.{LiftFits}
 use Rattle.it_lift.specs.Lifts.{lifted_weights}
 use Rattle.it_check.specs.Meaning.{CertifiesRow, CertificateFits, RefutesRow, PointFits}
-use Rattle.it_prove.specs.Columns.{columns}
+use Rattle.it_columns.specs.Columns.{columns}
 use Rattle.it_prove.specs.Closed.{closed_places, closed_generators, closed_target, CollapsesFit, spread_point}
-use Rattle.it_prove.specs.Scaling.{NumbersFit, numbers_of, certificate_of}
+use Rattle.it_columns.specs.Scaling.{NumbersFit}
+use Rattle.it_prove.specs.Weights.{numbers_of, certificate_of}
 use Rattle.it_prove.specs.declared.types.Proof.{Proof}
 use Rattle.it_prove.specs.declared.types.Proof.TheVariants as proofs
 

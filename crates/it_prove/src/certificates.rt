@@ -1,16 +1,18 @@
 //! A certificate from the weights of columns.
-ghost use Rattle.std.specs.Prelude.{◌≡◌, ◌<◌, ◌^◌, ◌++◌, ℕ, ℤ, pos, ◌≤ℤ◌, length, IfErr, IfOk, OnOk};
+ghost use Rattle.std.specs.Prelude.{◌≡◌, ◌<◌, ◌^◌, ℕ, ℤ, pos, ◌≤ℤ◌, length, IfErr, IfOk, OnOk};
 ghost use Rattle.it_rational.proofs.Field.{field_ℚ};
 ghost use Rattle.it_space.specs.Answers.{certificate_view};
 ghost use Rattle.it_space.specs.Problems.{IsProblem, problem_view};
-ghost use Rattle.it_space.specs.Rows.{coefficient, single_term};
+ghost use Rattle.it_space.specs.Rows.{coefficient};
 ghost use Rattle.it_run.specs.Readings.{AreWeights};
 ghost use Rattle.it_elemental.specs.Generators.{generators};
-ghost use Rattle.it_prove.specs.Columns.{columns, weight_by, weights_from};
-ghost use Rattle.it_prove.specs.Scaling.{NumbersFit, certificate_of, numbers_of};
+ghost use Rattle.it_columns.specs.Columns.{columns};
+ghost use Rattle.it_columns.specs.Scaling.{NumbersFit};
+ghost use Rattle.it_prove.specs.Weights.{certificate_of, numbers_of, weight_by, weights_from};
 
-use crate::scaling::{common_scale, numbers, terms};
+use crate::scaling::{numbers, terms};
 use it_closure::column_count;
+use it_columns::{common_scale, push_some};
 use it_elemental::{generator_count, kind_at};
 use it_fraction::Fraction;
 use it_space::{Certificate, Kind, Problem, Row, RowFault};
@@ -26,16 +28,6 @@ fn weight_of(row: &Row, kind: Kind, column: u32) -> i128
         Kind::Inequality => row.coefficient(column),
         Kind::Equation => row.coefficient(column) - row.coefficient(column + 1),
     }
-}
-
-/// Puts a weight after the others, unless it is 0.
-pub fn push_some(weights: &mut Vec<(u32, i128)>, index: u32, weight: i128) -> Result<(), AllocError>
-    ensures { OnOk result (weights.new.items ≡ weights.old.items ++ single_term index weight) }
-{
-    if weight != 0 {
-        weights.push((index, weight))?;
-    }
-    Ok(())
 }
 
 /// The weights of generators, each after its number, by a row that has the weight of each column.

@@ -6,7 +6,7 @@ ghost use Rattle.it_closure.specs.Collapse.{CollapseFits};
 ghost use Rattle.it_closure.specs.Reading.{dependences_of};
 ghost use Rattle.it_prove.specs.Closed.{closed_generators};
 ghost use Rattle.it_prove.specs.ClosedProblems.{IsClosedProblem, SameRows};
-ghost use Rattle.it_prove.specs.Columns.{columns};
+ghost use Rattle.it_columns.specs.Columns.{columns};
 
 use crate::columns::push_columns;
 use it_closure::Dependences;

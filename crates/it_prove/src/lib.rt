@@ -14,7 +14,6 @@ mod scaling;
 mod types;
 
 pub use closed::ClosedProblem;
-pub use columns::opposite_row;
 pub use laws::{
     ends_are_right, never_at_start, never_out_of_steps, one_outcome, proven_ascends,
     size_is_of_start,

@@ -8,11 +8,10 @@ ghost use Rattle.it_closure.specs.Coordinates.{RiseTo};
 ghost use Rattle.it_closure.specs.Reading.{dependences_of};
 ghost use Rattle.it_prove.specs.Closed.{closed_places, spread_point, spread_values};
 ghost use Rattle.it_prove.specs.Steps.{terms_of_places};
-ghost use Rattle.it_prove.specs.Scaling.{NumbersFit, scaled_point};
+ghost use Rattle.it_columns.specs.Scaling.{NumbersFit, scaled_point};
 
-use crate::certificates::push_some;
-use crate::scaling::{common_scale, values};
 use it_closure::Dependences;
+use it_columns::{common_scale, push_some, scaled_values};
 use it_fraction::Fraction;
 use it_space::{Point, Problem, Row, RowFault};
 use std::alloc::{AllocError, Global};
@@ -87,7 +86,7 @@ fn whole_row(alloc: Global, coordinates: &[u32], point: &[Fraction]) -> Result<R
     ensures wide { IfErr result (λ f. f ≡ RowFault.Wide → ¬ (NumbersFit point.now)) }
 {
     let scale = common_scale(point)?;
-    let values = values(alloc, point, scale)?;
+    let values = scaled_values(alloc, point, scale)?;
     let terms = terms_of_places(alloc, coordinates, values.as_slice())?;
     Ok(Row::new(terms))
 }

@@ -15,7 +15,7 @@ ghost use Rattle.it_run.specs.Runs.RunEndView.{Point, Weights};
 ghost use Rattle.it_check.specs.Meaning.{CertifiesRow};
 ghost use Rattle.it_prove.specs.Closed.{closed_generators, closed_places, closed_target, CollapsesFit};
 ghost use Rattle.it_prove.specs.ClosedProblems.{IsClosedProblem, SameRows};
-ghost use Rattle.it_prove.specs.Columns.{columns};
+ghost use Rattle.it_columns.specs.Columns.{columns};
 ghost use Rattle.it_prove.specs.ProofViews.{EndsWith, Follows, IsLifted, IsRightProof, LiftedFit, Undecided, proof_view};
 
 use crate::certificates::certificate;

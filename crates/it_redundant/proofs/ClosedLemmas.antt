@@ -15,7 +15,7 @@ use Rattle.it_closure.specs.Reading.{dependences_of, dependence_list, read_from,
 use Rattle.it_prove.specs.declared.closed.ClosedProblem.{ClosedProblem}
 use Rattle.it_prove.specs.Closed.{collapsed_generators}
 use Rattle.it_prove.specs.ClosedProblems.{AreColumns, IsClosedProblem, SameRows}
-use Rattle.it_prove.specs.Columns.{columns}
+use Rattle.it_columns.specs.Columns.{columns}
 use Rattle.it_redundant.specs.Reduction.{row_constraints, with_rows}
 
 -- a row is no dependence

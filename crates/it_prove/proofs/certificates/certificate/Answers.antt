@@ -1,9 +1,10 @@
 use Rattle.it_space.specs.Problems.{problem_view}
 use Rattle.std.proofs.Common.{◌≡◌, ◌^◌, ◌∙◌, ap, arith, length}
 use Rattle.it_elemental.specs.Generators.{generators}
-use Rattle.it_prove.specs.Columns.{columns}
-use Rattle.it_prove.specs.Scaling.{scale_of, numbers_of}
-use Rattle.it_prove.proofs.ColumnSteps.{few_columns, few_generators}
+use Rattle.it_columns.specs.Columns.{columns}
+use Rattle.it_columns.specs.Scaling.{scale_of}
+use Rattle.it_prove.specs.Weights.{numbers_of}
+use Rattle.it_columns.proofs.ColumnLemmas.{few_columns, few_generators}
 use Rattle.it_prove.proofs.WeightLemmas.{columns_below, terms_canonical, terms_positive}
 use Rattle.it_prove.proofs.certificates.certificate.Goals as goal
 use Rattle.it_prove.proofs.certificates.certificate.Goals.{In_ok-scale}

@@ -1,0 +1,246 @@
+-- How the search for the best factor ends: by the ends of the three parts' runs, each made exactly where the parts before it leave it to
+-- be made, and by the numbers of the scaled answer.
+use Rattle.std.specs.Prelude.{◌≡◌, ◌⊎◌, ℕ, ◌+◌, ◌*◌, ◌<◌, ◌≤◌, ℤ, pos, ◌-ℤ◌, ◌*ℤ◌, ◌≤ℤ◌, List, length, map, All, Option, None}
+use Rattle.it_number.specs.Limit.{IsWithin}
+use Rattle.it_rational.specs.Rational.{Rational}
+use Rattle.it_space.specs.Answers.{CertificateView, certificate_view}
+use Rattle.it_space.specs.Problems.{ProblemView, IsProblem}
+use Rattle.it_space.specs.Rows.{Terms, IsUpTo, ValueFits, coefficient, value, map_of, negated_terms}
+use Rattle.it_space.specs.Spaces.{size_of}
+use Rattle.it_space.specs.Sums.{terms_from}
+use Rattle.it_polymatroid.specs.Certificates.{Form}
+use Rattle.it_polymatroid.specs.Elementals.{span}
+use Rattle.it_rational.proofs.Field.{field_ℚ}
+use Rattle.it_tableau.specs.Problems.{feasibility_problem}
+use Rattle.it_run.specs.Readings.{Separates, SumsUp}
+use Rattle.it_run.specs.Runs.{RunEndView}
+use Rattle.it_run.specs.Runs.RunEndView.{Weights, Point, Pivots, Width}
+use Rattle.it_simplex.specs.Answers.{Solves}
+use Rattle.it_elemental.specs.Generators.{Generator, generators}
+use Rattle.it_check.specs.Meaning.{CertificateFits}
+use Rattle.it_columns.specs.Columns.{columns}
+use Rattle.it_columns.specs.Scaling.{NumbersFit, scaled_point}
+use Rattle.it_best.specs.declared.types.Best.{Best}
+use Rattle.it_best.specs.declared.types.Best.TheVariants as answers
+use Rattle.it_best.specs.declared.types.BestCause.{BestCause}
+use Rattle.it_best.specs.declared.types.BestCause.TheVariants as causes
+use Rattle.it_best.specs.declared.types.BestCause.TheVariants.{Scale, Size}
+use Rattle.it_best.specs.Factors.{Ground, HoldsFactor, IsLeastFactor, HasNoFactor, HasNoLeastFactor, ground_of}
+use Rattle.it_best.specs.Numbers.{DifferencesFit, WeightsFit, column_weight, factor_of, numbers, turned_numbers, values_of, weights_certificate, weights_of}
+use Rattle.it_best.specs.Parts.{first_part, third_part, third_target, right_equation}
+
+-- an answer as contracts see it
+pub data BestView : Type 0 where
+  Least : (num den : ℤ) → (proof : CertificateView) → (values : List ℤ) → BestView
+  Never : (values : List ℤ) → BestView
+  Unbounded : (num den : ℤ) → (proof below : CertificateView) → BestView
+  Undecided : (cause : BestCause) → BestView
+
+abbrev pub best_view : Best → BestView
+best_view (answers.Least num den proof point) = Least num den (certificate_view proof) point
+best_view (answers.Never point) = Never point
+best_view (answers.Unbounded num den proof below) = Unbounded num den (certificate_view proof) (certificate_view below)
+best_view (answers.Undecided cause) = Undecided cause
+
+-- ---- the size
+
+-- the equations of the third part
+abbrev pub third_rows : ProblemView → ℕ
+third_rows q = size_of q.space + length (generators q) + 2
+
+-- its columns: two of the factor; two of each generator, since an equation's weight has two, and an inequality's one and what it has above 0
+-- another one; one of each set and two of each rate; and the artificial ones
+abbrev pub third_columns : ProblemView → ℕ
+third_columns q = 2 + 2 * length (generators q) + size_of q.space + q.space.rates + third_rows q
+
+abbrev pub IsLarge : ProblemView → Type 0
+IsLarge q = 4000000 < third_rows q * third_columns q
+
+-- ---- the scaled answers
+
+-- num times the left side less den times the right one, at a coordinate and as a row
+abbrev pub factor_coefficient : Terms → Terms → ℤ → ℤ → ℕ → ℤ
+factor_coefficient left right num den c = num *ℤ coefficient left c -ℤ den *ℤ coefficient right c
+
+unfoldable pub factor_row : ℕ → Terms → Terms → ℤ → ℤ → Terms
+factor_row size left right num den = terms_from 1 (map (factor_coefficient left right num den) (span 1 size))
+
+-- two products and their difference are within the limit
+pub record DifferenceOfProductsFits (a x b y : ℤ) : Type 0 where
+  pub left : IsWithin (a *ℤ x)
+  pub right : IsWithin (b *ℤ y)
+  pub difference : IsWithin (a *ℤ x -ℤ b *ℤ y)
+
+-- the numbers of a factor's certificate are within the limit: the scaled weights, the row, and what the check forms
+pub record FactorFits (q : ProblemView) (left right : Terms) (factor : Rational) (weights : List Rational) : Type 0 where
+  pub scaled : WeightsFit (pos factor.den) weights
+  pub row : (c : ℕ) → 1 ≤ c → c ≤ size_of q.space → DifferenceOfProductsFits factor.num (coefficient left c) (pos factor.den) (coefficient right c)
+  pub check : CertificateFits q (factor_row (size_of q.space) left right factor.num (pos factor.den)) (weights_certificate (pos factor.den) weights)
+
+-- those of the certificate that the left side is at most 0
+pub record BelowFits (q : ProblemView) (left : Terms) (weights : List Rational) : Type 0 where
+  pub scaled : WeightsFit (pos 1) weights
+  pub check : CertificateFits q (negated_terms left) (weights_certificate (pos 1) weights)
+
+-- the values of each generator and of both sides at a point are formed within the limit
+pub record SidesFit (q : ProblemView) (left right : Terms) (values : List ℤ) : Type 0 where
+  pub each : All (λ g. ValueFits g.row (map_of values)) (generators q)
+  pub left_value : ValueFits left (map_of values)
+  pub right_value : ValueFits right (map_of values)
+
+-- those of the point at which a factor holds with equality: the scaled values, and the products of the sides' values with the
+-- numerator and the denominator
+pub record LeastPointFits (q : ProblemView) (left right : Terms) (factor : Rational) (qs : List Rational) : Type 0 where
+  pub scaled : NumbersFit qs
+  pub values : SidesFit q left right (scaled_point qs)
+  pub left_times : IsWithin (factor.num *ℤ value left (map_of (scaled_point qs)))
+  pub right_times : IsWithin (pos factor.den *ℤ value right (map_of (scaled_point qs)))
+
+-- ---- the parts
+
+-- the run of unknowns that are to make a target, over so many equations, ends so
+abbrev pub PartEnds : ℕ → List Generator → Terms → Option ℕ → RunEndView (List (ℕ × Rational)) (List Rational) → Type 0
+PartEnds m us target budget e = Solves (span 1 m) (columns us) target budget e
+
+-- weights of a part sum to its target
+abbrev pub PartSums : ℕ → List Generator → Terms → List (ℕ × Rational) → Type 0
+PartSums m us target ws = SumsUp field_ℚ (length (span 1 m)) (length (columns us)) (feasibility_problem (span 1 m) (columns us) target) ws
+
+-- and a point of it separates its target from its columns
+abbrev pub PartSeparates : ℕ → List Generator → Terms → List Rational → Type 0
+PartSeparates m us target qs = Separates field_ℚ (length (span 1 m)) (length (columns us)) (feasibility_problem (span 1 m) (columns us) target) qs
+
+module _ (q : ProblemView) (left right : Terms) where
+  abbrev pub size : ℕ
+  size = size_of q.space
+
+  abbrev pub first : List Generator
+  first = first_part (generators q) left
+
+  abbrev pub third : List Generator
+  third = third_part q.space.variables size (generators q) left right
+
+  -- what the weights of the third part say: the factor, its weights and the values of the point
+  abbrev pub third_factor : List (ℕ × Rational) → Rational
+  third_factor ws = factor_of (numbers third ws)
+
+  abbrev pub third_weights : List (ℕ × Rational) → List Rational
+  third_weights ws = weights_of (length (generators q)) (numbers third ws)
+
+  abbrev pub third_values : List (ℕ × Rational) → List ℤ
+  third_values ws = scaled_point (values_of (length (generators q)) size (numbers third ws))
+
+  pub record LeastFits (ws : List (ℕ × Rational)) : Type 0 where
+    pub differences : DifferencesFit 0 third (column_weight ws)
+    pub factor : FactorFits q left right (third_factor ws) (third_weights ws)
+    pub point : LeastPointFits q left right (third_factor ws) (values_of (length (generators q)) size (numbers third ws))
+
+  abbrev pub least_view : List (ℕ × Rational) → BestView
+  least_view ws = Least (third_factor ws).num (pos (third_factor ws).den) (weights_certificate (pos (third_factor ws).den) (third_weights ws)) (third_values ws)
+
+  -- what the weights of the first part say
+  abbrev pub first_factor : List (ℕ × Rational) → Rational
+  first_factor ws = factor_of (numbers first ws)
+
+  abbrev pub first_weights : List (ℕ × Rational) → List Rational
+  first_weights ws = weights_of (length (generators q)) (numbers first ws)
+
+  pub record UnboundedFits (ws below : List (ℕ × Rational)) : Type 0 where
+    pub differences : DifferencesFit 0 first (column_weight ws)
+    pub factor : FactorFits q left right (first_factor ws) (first_weights ws)
+    pub below_differences : DifferencesFit 0 (generators q) (column_weight below)
+    pub below_proof : BelowFits q left (numbers (generators q) below)
+
+  abbrev pub unbounded_view : List (ℕ × Rational) → List (ℕ × Rational) → BestView
+  unbounded_view ws below = Unbounded (first_factor ws).num (pos (first_factor ws).den) (weights_certificate (pos (first_factor ws).den) (first_weights ws)) (weights_certificate (pos 1) (numbers (generators q) below))
+
+  -- what the point of the first part says: its negation
+  abbrev pub never_values : List Rational → List ℤ
+  never_values qs = turned_numbers (scaled_point qs)
+
+  pub record NeverFits (qs : List Rational) : Type 0 where
+    pub point : NumbersFit qs
+    pub values : SidesFit q left right (never_values qs)
+
+  -- an answer whose numbers fit, and else none, for the scale
+  abbrev pub OrScale : Type 0 → BestView → BestView → Type 0
+  OrScale Fits answer o = (Fits × (o ≡ answer)) ⊎ (¬ Fits × (o ≡ Undecided Scale))
+
+  -- the answer by the end of the third part, which is never a point
+  abbrev pub ThirdFollows : RunEndView (List (ℕ × Rational)) (List Rational) → BestView → Type 0
+  ThirdFollows (Weights ws) o = OrScale (LeastFits ws) (least_view ws) o
+  ThirdFollows (Point qs) o = ⊥
+  ThirdFollows (Pivots k) o = o ≡ Undecided (causes.Pivots k 3)
+  ThirdFollows (Width k) o = o ≡ Undecided (causes.Width k 3)
+
+  -- by that of the second, where the first one ended by weights
+  abbrev pub SecondFollows : Option ℕ → List (ℕ × Rational) → RunEndView (List (ℕ × Rational)) (List Rational) → BestView → Type 0
+  SecondFollows budget ws (Weights below) o = OrScale (UnboundedFits ws below) (unbounded_view ws below) o
+  SecondFollows budget ws (Point qs) o = (e : RunEndView (List (ℕ × Rational)) (List Rational)) × PartEnds (right_equation size (generators q)) third (third_target size (generators q) right) budget e × ThirdFollows e o
+  SecondFollows budget ws (Pivots k) o = o ≡ Undecided (causes.Pivots k 2)
+  SecondFollows budget ws (Width k) o = o ≡ Undecided (causes.Width k 2)
+
+  -- by that of the first
+  abbrev pub FirstFollows : Option ℕ → RunEndView (List (ℕ × Rational)) (List Rational) → BestView → Type 0
+  FirstFollows budget (Weights ws) o = (e : RunEndView (List (ℕ × Rational)) (List Rational)) × PartEnds size (generators q) (negated_terms left) budget e × SecondFollows budget ws e o
+  FirstFollows budget (Point qs) o = OrScale (NeverFits qs) (Never (never_values qs)) o
+  FirstFollows budget (Pivots k) o = o ≡ Undecided (causes.Pivots k 1)
+  FirstFollows budget (Width k) o = o ≡ Undecided (causes.Width k 1)
+
+  -- the answer with a budget of steps for each part or without one
+  abbrev pub EndsWith : Option ℕ → BestView → Type 0
+  EndsWith budget o = (IsLarge q × (o ≡ Undecided Size))
+      ⊎ (¬ IsLarge q × ((e : RunEndView (List (ℕ × Rational)) (List Rational)) × PartEnds size first right budget e × FirstFollows budget e o))
+
+-- what an answer says of the forms of the sides is right
+abbrev pub IsRightBest : Ground → Form → Form → BestView → Type 0
+IsRightBest g left right (Least num den proof values) = IsLeastFactor g left right num den proof values
+IsRightBest g left right (Never values) = HasNoFactor g left right values
+IsRightBest g left right (Unbounded num den proof below) = HasNoLeastFactor g left right num den proof below
+IsRightBest g left right (Undecided cause) = Unit {0}
+
+-- what the parts end with is right
+abbrev pub BestIsRight : Type 0
+BestIsRight = (q : ProblemView) (left right : Terms) (budget : Option ℕ) (o : BestView) → IsProblem q → IsUpTo (size_of q.space) left → IsUpTo (size_of q.space) right
+    → EndsWith q left right budget o → IsRightBest (ground_of q) (value left) (value right) o
+
+-- sides under a problem have one answer for a budget
+abbrev pub OneBest : Type 0
+OneBest = (q : ProblemView) (left right : Terms) (budget : Option ℕ) (o p : BestView) → EndsWith q left right budget o → EndsWith q left right budget p → o ≡ p
+
+-- without a budget no answer is left open for want of steps
+abbrev pub BestNeverOutOfSteps : Type 0
+BestNeverOutOfSteps = (q : ProblemView) (left right : Terms) (k part : ℕ) → EndsWith q left right None (Undecided (causes.Pivots k part)) → ⊥
+
+-- ---- what right answers say of factors
+
+-- the least factor holds, and no smaller one does
+abbrev pub LeastIsLeast : Type 0
+LeastIsLeast = (q : ProblemView) (left right : Terms) (num den : ℤ) (proof : CertificateView) (values : List ℤ) → IsProblem q → IsUpTo (size_of q.space) left → IsUpTo (size_of q.space) right
+    → IsLeastFactor (ground_of q) (value left) (value right) num den proof values
+    → HoldsFactor (ground_of q) (value left) (value right) num den
+        × ((a b : ℤ) → pos 1 ≤ℤ b → HoldsFactor (ground_of q) (value left) (value right) a b → (num *ℤ b) ≤ℤ (a *ℤ den))
+
+-- at a point at which the left side is 0 and the right one above it no factor holds
+abbrev pub NeverIsNever : Type 0
+NeverIsNever = (q : ProblemView) (left right : Form) (values : List ℤ) → HasNoFactor (ground_of q) left right values → (a b : ℤ) → pos 1 ≤ℤ b → HoldsFactor (ground_of q) left right a b → ⊥
+
+-- where the left side is at most 0, a factor that holds and all smaller ones do
+abbrev pub UnboundedIsUnbounded : Type 0
+UnboundedIsUnbounded = (q : ProblemView) (left right : Terms) (num den : ℤ) (proof below : CertificateView) → IsProblem q → IsUpTo (size_of q.space) left → IsUpTo (size_of q.space) right
+    → HasNoLeastFactor (ground_of q) (value left) (value right) num den proof below
+    → (a b : ℤ) → pos 1 ≤ℤ b → (a *ℤ den) ≤ℤ (num *ℤ b) → HoldsFactor (ground_of q) (value left) (value right) a b
+
+-- that number of columns is that of the third part's columns and of one artificial column for each equation
+abbrev pub SizeIsCounted : Type 0
+SizeIsCounted = (q : ProblemView) (left right : Terms) → third_columns q ≡ length (columns (third q left right)) + third_rows q
+
+-- forms with the same values at each map that is 0 at the empty set
+abbrev pub AreSameForms : Form → Form → Type 0
+AreSameForms f g = (p : ℕ → ℤ) → p 0 ≡ pos 0 → f p ≡ g p
+
+-- what is right of sides by their rows is right of them by their meaning
+abbrev pub RightByForms : Type 0
+RightByForms = (q : ProblemView) (left right other_left other_right : Form) → AreSameForms left other_left → AreSameForms right other_right
+    → ((o : BestView) → IsRightBest (ground_of q) left right o → IsRightBest (ground_of q) other_left other_right o)
+    × ((num den : ℤ) → HoldsFactor (ground_of q) left right num den → HoldsFactor (ground_of q) other_left other_right num den)

@@ -1,0 +1,223 @@
+//! What is found, scaled and checked.
+ghost use Rattle.std.specs.Prelude.{◌≡◌, ◌<◌, ◌≤◌, ◌^◌, ◌+◌, ◌++◌, ℕ, ◌-ℤ◌, ◌*ℤ◌, ◌≤ℤ◌, ℤ, pos, neg_ℤ, length, IfErr, IfOk, OkIff, OnOk};
+ghost use Rattle.it_number.specs.Limit.{IsWithin};
+ghost use Rattle.it_rational.specs.Rational.{Rational};
+ghost use Rattle.it_space.specs.Answers.{certificate_view};
+ghost use Rattle.it_space.specs.Problems.{IsProblem, problem_view};
+ghost use Rattle.it_space.specs.Rows.{IsUpTo, ValueFits, coefficient, map_of, negated_terms, single_term, value};
+ghost use Rattle.it_space.specs.Spaces.{size_of};
+ghost use Rattle.it_polymatroid.specs.Certificates.{IsCertificate};
+ghost use Rattle.it_elemental.specs.Generators.{generators, generators_of};
+ghost use Rattle.it_check.specs.Meaning.{CertificateFits, CertifiesRow, PointFits};
+ghost use Rattle.it_columns.specs.Scaling.{NumbersFit, scaled_point};
+ghost use Rattle.it_best.specs.Ends.{BelowFits, DifferenceOfProductsFits, FactorFits, LeastPointFits, NeverFits, factor_coefficient, factor_row};
+ghost use Rattle.it_best.specs.Factors.{HasNoFactor, IsFactor, IsPoint, ground_of};
+ghost use Rattle.it_best.specs.Numbers.{turned_numbers, weights_certificate};
+
+use crate::numbers::{certificate, turned_point, whole_point};
+use it_check::{Verdict, check_no, check_yes};
+use it_fraction::{Fraction, Wide, difference, signed_product};
+use it_columns::{opposite_row, push_some};
+use it_space::{Certificate, Point, Problem, Row, RowFault, value};
+use std::alloc::{AllocError, Global};
+
+/// A coefficient of `num` times the left side less `den` times the right one.
+fn factor_coefficient(
+    left: &Row,
+    right: &Row,
+    num: i128,
+    den: i128,
+    coordinate: u32,
+) -> Result<i128, Wide>
+    ensures { OkIff result (DifferenceOfProductsFits num (coefficient left.now coordinate) den (coefficient right.now coordinate)) (factor_coefficient left.now right.now num den coordinate) }
+{
+    let above = signed_product(num, left.coefficient(coordinate))?;
+    let below = signed_product(den, right.coefficient(coordinate))?;
+    difference(above, below)
+}
+
+/// Puts a coefficient of that row after the others, unless it is 0.
+fn push_coefficient(
+    terms: &mut Vec<(u32, i128)>,
+    left: &Row,
+    right: &Row,
+    factor: &Fraction,
+    coordinate: u32,
+) -> Result<(), RowFault>
+    ensures value { OnOk result (terms.new.items ≡ terms.old.items ++ single_term coordinate (factor_coefficient left.now right.now factor.now.num (pos factor.now.den) coordinate)) }
+    ensures fits { OnOk result (DifferenceOfProductsFits factor.now.num (coefficient left.now coordinate) (pos factor.now.den) (coefficient right.now coordinate)) }
+    ensures wide { IfErr result (λ f. f ≡ RowFault.Wide → ¬ (DifferenceOfProductsFits factor.now.num (coefficient left.now coordinate) (pos factor.now.den) (coefficient right.now coordinate))) }
+{
+    let coefficient = factor_coefficient(left, right, factor.num(), factor.den(), coordinate)?;
+    match push_some(terms, coordinate, coefficient) {
+        Ok(()) => Ok(()),
+        Err(_) => Err(RowFault::Memory),
+    }
+}
+
+/// The numerator of a factor times the left side less its denominator times the right one. `Wide` where a product or a difference
+/// passes the limit.
+fn factor_row(
+    alloc: Global,
+    problem: &Problem,
+    left: &Row,
+    right: &Row,
+    factor: &Fraction,
+) -> Result<Row, RowFault>
+    requires { IsProblem (problem_view problem.now) }
+    ensures value { IfOk result (λ r. r ≡ factor_row (size_of problem.now.space) left.now right.now factor.now.num (pos factor.now.den)) }
+    ensures fits { OnOk result ((c : ℕ) → 1 ≤ c → c ≤ size_of problem.now.space → DifferenceOfProductsFits factor.now.num (coefficient left.now c) (pos factor.now.den) (coefficient right.now c)) }
+    ensures wide { IfErr result (λ f. f ≡ RowFault.Wide → ¬ ((c : ℕ) → 1 ≤ c → c ≤ size_of problem.now.space → DifferenceOfProductsFits factor.now.num (coefficient left.now c) (pos factor.now.den) (coefficient right.now c))) }
+{
+    let mut terms = Vec::new(alloc);
+    for coordinate in 1..problem.space.size() + 1 {
+        push_coefficient(&mut terms, left, right, factor, coordinate)?;
+    }
+    Ok(Row::new(terms))
+}
+
+/// The certificate where the check finds it valid; else a number of the check passes the limit.
+fn if_valid(problem: &Problem, target: &Row, proof: Certificate) -> Result<Certificate, Wide>
+    requires problem { IsProblem (problem_view problem.now) }
+    requires target { IsUpTo (size_of problem.now.space) target.now }
+    requires certifies { CertifiesRow (problem_view problem.now) target.now (certificate_view proof) }
+    ensures { OkIff result (CertificateFits (problem_view problem.now) target.now (certificate_view proof)) proof }
+{
+    match check_yes(problem, target, &proof) {
+        Verdict::Valid => Ok(proof),
+        _ => Err(Wide),
+    }
+}
+
+/// The certificate of a factor, by the weights of the generators. `Wide` where a number of it, of the row or of the check passes the
+/// limit.
+pub fn factor_proof(
+    alloc: Global,
+    problem: &Problem,
+    left: &Row,
+    right: &Row,
+    factor: &Fraction,
+    weights: &[Fraction],
+) -> Result<Certificate, RowFault>
+    requires problem { IsProblem (problem_view problem.now) }
+    requires few { length weights.now < 2 ^ 32 }
+    requires factor { IsFactor (ground_of (problem_view problem.now)) (value left.now) (value right.now) factor.now.num (pos factor.now.den) (weights_certificate (pos factor.now.den) weights.now) }
+    ensures value { IfOk result (λ c. certificate_view c ≡ weights_certificate (pos factor.now.den) weights.now) }
+    ensures fits { OnOk result (FactorFits (problem_view problem.now) left.now right.now factor.now weights.now) }
+    ensures wide { IfErr result (λ f. f ≡ RowFault.Wide → ¬ (FactorFits (problem_view problem.now) left.now right.now factor.now weights.now)) }
+{
+    let proof = certificate(alloc, weights, factor.den())?;
+    let row = factor_row(alloc, problem, left, right, factor)?;
+    let valid = if_valid(problem, &row, proof)?;
+    Ok(valid)
+}
+
+/// The certificate that the left side is at most 0, by the weights of the generators. `Wide` where a number of it or of the check passes
+/// the limit.
+pub fn below_proof(
+    alloc: Global,
+    problem: &Problem,
+    left: &Row,
+    weights: &[Fraction],
+) -> Result<Certificate, RowFault>
+    requires problem { IsProblem (problem_view problem.now) }
+    requires left { IsUpTo (size_of problem.now.space) left.now }
+    requires few { length weights.now < 2 ^ 32 }
+    requires certified { IsCertificate (size_of problem.now.space + 1) (generators_of (problem_view problem.now)) (λ p. neg_ℤ (value left.now p)) (weights_certificate (pos 1) weights.now) }
+    ensures value { IfOk result (λ c. certificate_view c ≡ weights_certificate (pos 1) weights.now) }
+    ensures fits { OnOk result (BelowFits (problem_view problem.now) left.now weights.now) }
+    ensures wide { IfErr result (λ f. f ≡ RowFault.Wide → ¬ (BelowFits (problem_view problem.now) left.now weights.now)) }
+{
+    let proof = certificate(alloc, weights, 1)?;
+    let row = opposite_row(alloc, left)?;
+    let valid = if_valid(problem, &row, proof)?;
+    Ok(valid)
+}
+
+/// Has the check find the point, which meets the problem, valid for a row that is above 0 there. `Wide` where a number of the check passes
+/// the limit.
+fn check_point(alloc: Global, problem: &Problem, row: &Row, point: &Point) -> Result<(), RowFault>
+    requires problem { IsProblem (problem_view problem.now) }
+    requires row { IsUpTo (size_of problem.now.space) row.now }
+    requires meets { IsPoint (ground_of (problem_view problem.now)) point.now }
+    requires above { pos 1 ≤ℤ value row.now (map_of point.now) }
+    ensures fits { OnOk result (PointFits (problem_view problem.now) row.now point.now) }
+    ensures wide { IfErr result (λ f. f ≡ RowFault.Wide → ¬ (PointFits (problem_view problem.now) row.now point.now)) }
+{
+    let target = opposite_row(alloc, row)?;
+    match check_no(problem, &target, point) {
+        Verdict::Valid => Ok(()),
+        _ => Err(RowFault::Wide),
+    }
+}
+
+/// The values of both sides at a point.
+fn side_values(left: &Row, right: &Row, point: &Point) -> Result<(i128, i128), Wide>
+    requires left { IsUpTo (length point.now) left.now }
+    requires right { IsUpTo (length point.now) right.now }
+    ensures { OkIff result (ValueFits left.now (map_of point.now) × ValueFits right.now (map_of point.now)) (value left.now (map_of point.now), value right.now (map_of point.now)) }
+{
+    let left = value(left, point)?;
+    let right = value(right, point)?;
+    Ok((left, right))
+}
+
+/// Tests the products of the sides' values with a factor's numerator and denominator.
+fn check_products(factor: &Fraction, left: i128, right: i128) -> Result<(), Wide>
+    ensures { OkIff result (IsWithin (factor.now.num *ℤ left) × IsWithin (pos factor.now.den *ℤ right)) tt }
+{
+    signed_product(factor.num(), left)?;
+    signed_product(factor.den(), right)?;
+    Ok(())
+}
+
+/// The point at which no factor holds, by the point of the first part's run. `Wide` where a number of it or of the sides' values passes the
+/// limit.
+pub fn never_point(
+    alloc: Global,
+    problem: &Problem,
+    left: &Row,
+    right: &Row,
+    values: &[Fraction],
+) -> Result<Point, RowFault>
+    requires problem { IsProblem (problem_view problem.now) }
+    requires left { IsUpTo (size_of problem.now.space) left.now }
+    requires right { IsUpTo (size_of problem.now.space) right.now }
+    requires complete { length values.now ≡ size_of problem.now.space }
+    requires never { HasNoFactor (ground_of (problem_view problem.now)) (value left.now) (value right.now) (turned_numbers (scaled_point values.now)) }
+    ensures value { IfOk result (λ p. p ≡ turned_numbers (scaled_point values.now)) }
+    ensures fits { OnOk result (NeverFits (problem_view problem.now) left.now right.now values.now) }
+    ensures wide { IfErr result (λ f. f ≡ RowFault.Wide → ¬ (NeverFits (problem_view problem.now) left.now right.now values.now)) }
+{
+    let point = turned_point(alloc, problem.space, values)?;
+    check_point(alloc, problem, right, &point)?;
+    side_values(left, right, &point)?;
+    Ok(point)
+}
+
+/// The point at which a factor holds with equality, by its values. `Wide` where a number of it, of the sides' values or of the products
+/// passes the limit.
+pub fn least_point(
+    alloc: Global,
+    problem: &Problem,
+    left: &Row,
+    right: &Row,
+    factor: &Fraction,
+    values: &[Fraction],
+) -> Result<Point, RowFault>
+    requires problem { IsProblem (problem_view problem.now) }
+    requires left { IsUpTo (size_of problem.now.space) left.now }
+    requires right { IsUpTo (size_of problem.now.space) right.now }
+    requires complete { length values.now ≡ size_of problem.now.space }
+    requires meets { IsPoint (ground_of (problem_view problem.now)) (scaled_point values.now) }
+    requires some { pos 1 ≤ℤ value left.now (map_of (scaled_point values.now)) }
+    ensures value { IfOk result (λ p. p ≡ scaled_point values.now) }
+    ensures fits { OnOk result (LeastPointFits (problem_view problem.now) left.now right.now factor.now values.now) }
+    ensures wide { IfErr result (λ f. f ≡ RowFault.Wide → ¬ (LeastPointFits (problem_view problem.now) left.now right.now factor.now values.now)) }
+{
+    let point = whole_point(alloc, problem.space, values)?;
+    check_point(alloc, problem, left, &point)?;
+    let (above, below) = side_values(left, right, &point)?;
+    check_products(factor, above, below)?;
+    Ok(point)
+}

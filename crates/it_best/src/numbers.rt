@@ -1,0 +1,245 @@
+//! The numbers that weights of columns give to the unknowns, and these made whole.
+ghost use Rattle.std.specs.Prelude.{◌≡◌, ◌<◌, ◌^◌, ◌++◌, ◌+◌, ◌∷◌, [], length, All, IfErr, IfOk, OkIff, OnOk};
+ghost use Rattle.it_number.specs.Limit.{IsWithin};
+ghost use Rattle.it_rational.proofs.Field.{field_ℚ};
+ghost use Rattle.it_rational.specs.Rational.{integer, times};
+ghost use Rattle.it_fraction.specs.Fits.{IsNarrow};
+ghost use Rattle.it_run.specs.Readings.{AreWeights};
+ghost use Rattle.it_space.specs.Answers.{certificate_view};
+ghost use Rattle.it_space.specs.Spaces.{IsSpace, size_of};
+ghost use Rattle.it_space.specs.Sums.{terms_from};
+ghost use Rattle.it_columns.specs.Scaling.{NumbersFit, scaled_point};
+ghost use Rattle.it_best.specs.Numbers.{DifferencesFit, MultiplesFit, NumberFits, WeightsFit, column_weight, factor_of, values_of, weights_of, multiples, number_by, numbers, turned_numbers, weights_certificate};
+ghost use Rattle.it_best.specs.Parts.{unknown_views};
+ghost use Rattle.it_columns.specs.Columns.{count_by};
+
+use crate::unknowns::Unknown;
+use it_fraction::{Fraction, Wide};
+use it_columns::{common_scale, push_some, scaled_values};
+use it_space::{Certificate, Kind, Point, RowFault, Space};
+use std::alloc::{AllocError, Global};
+
+/// The weight of a column, 0 where it has none.
+fn column_weight(weights: &[(usize, Fraction)], column: usize) -> Fraction
+    requires { AreWeights field_ℚ (2 ^ 63) 0 weights.now }
+    ensures { result ≡ column_weight weights.now column }
+{
+    for weight in weights {
+        if weight.0 == column {
+            return weight.1;
+        }
+    }
+    Fraction::whole(0)
+}
+
+/// How many columns an unknown has.
+fn width(kind: Kind) -> usize
+    ensures { result ≡ count_by kind }
+{
+    match kind {
+        Kind::Inequality => 1,
+        Kind::Equation => 2,
+    }
+}
+
+/// The number of an unknown whose first column is given: the second column's weight counts against the first one's.
+fn number_of(
+    weights: &[(usize, Fraction)],
+    kind: Kind,
+    column: usize,
+) -> Result<Fraction, Wide>
+    requires ordered { AreWeights field_ℚ (2 ^ 63) 0 weights.now }
+    requires few { column < 2 ^ 62 }
+    ensures { OkIff result (NumberFits kind (column_weight weights.now) column) (number_by kind (column_weight weights.now) column) }
+{
+    match kind {
+        Kind::Inequality => Ok(column_weight(weights, column)),
+        Kind::Equation => {
+            let first = column_weight(weights, column);
+            first.sub(column_weight(weights, column + 1))
+        }
+    }
+}
+
+/// Puts the number of an unknown after the others. `Wide` where a difference of two weights passes the limit.
+fn push_number(
+    numbers: &mut Vec<Fraction>,
+    weights: &[(usize, Fraction)],
+    kind: Kind,
+    column: usize,
+) -> Result<(), RowFault>
+    requires ordered { AreWeights field_ℚ (2 ^ 63) 0 weights.now }
+    requires few { column < 2 ^ 62 }
+    ensures value { OnOk result (numbers.new.items ≡ numbers.old.items ++ number_by kind (column_weight weights.now) column ∷ []) }
+    ensures fits { OnOk result (NumberFits kind (column_weight weights.now) column) }
+    ensures wide { IfErr result (λ f. f ≡ RowFault.Wide → ¬ (NumberFits kind (column_weight weights.now) column)) }
+{
+    let number = number_of(weights, kind, column)?;
+    match numbers.push(number) {
+        Ok(()) => Ok(()),
+        Err(_) => Err(RowFault::Memory),
+    }
+}
+
+/// The numbers of the unknowns by the weights of their columns. `Wide` where a difference of two passes the limit.
+pub fn numbers(
+    alloc: Global,
+    unknowns: &[Unknown],
+    weights: &[(usize, Fraction)],
+) -> Result<Vec<Fraction>, RowFault>
+    requires ordered { AreWeights field_ℚ (2 ^ 63) 0 weights.now }
+    requires few { length unknowns.now < 2 ^ 32 }
+    ensures value { IfOk result (λ v. v.items ≡ numbers (unknown_views unknowns.now) weights.now) }
+    ensures fits { OnOk result (DifferencesFit 0 (unknown_views unknowns.now) (column_weight weights.now)) }
+    ensures wide { IfErr result (λ f. f ≡ RowFault.Wide → ¬ (DifferencesFit 0 (unknown_views unknowns.now) (column_weight weights.now))) }
+{
+    let mut numbers = Vec::new(alloc);
+    let mut column = 0;
+    for unknown in unknowns {
+        push_number(&mut numbers, weights, unknown.kind, column)?;
+        column += width(unknown.kind);
+    }
+    Ok(numbers)
+}
+
+/// Puts a number so many times after the others. `Wide` where it passes the limit in lowest terms.
+fn push_multiple(
+    multiples: &mut Vec<Fraction>,
+    number: &Fraction,
+    factor: i128,
+) -> Result<(), RowFault>
+    requires { IsWithin factor }
+    ensures value { OnOk result (multiples.new.items ≡ multiples.old.items ++ times number.now (integer factor) ∷ []) }
+    ensures fits { OnOk result (IsNarrow (times number.now (integer factor))) }
+    ensures wide { IfErr result (λ f. f ≡ RowFault.Wide → ¬ (IsNarrow (times number.now (integer factor)))) }
+{
+    let multiple = number.mul(Fraction::whole(factor))?;
+    match multiples.push(multiple) {
+        Ok(()) => Ok(()),
+        Err(_) => Err(RowFault::Memory),
+    }
+}
+
+/// Each number so many times. `Wide` where one of them passes the limit in lowest terms.
+fn multiples(alloc: Global, numbers: &[Fraction], factor: i128) -> Result<Vec<Fraction>, RowFault>
+    requires { IsWithin factor }
+    ensures value { IfOk result (λ v. v.items ≡ multiples factor numbers.now) }
+    ensures fits { OnOk result (MultiplesFit factor numbers.now) }
+    ensures wide { IfErr result (λ f. f ≡ RowFault.Wide → ¬ (MultiplesFit factor numbers.now)) }
+{
+    let mut multiples = Vec::new(alloc);
+    for number in numbers {
+        push_multiple(&mut multiples, number, factor)?;
+    }
+    Ok(multiples)
+}
+
+/// The values other than 0, each after its number.
+fn weight_terms(alloc: Global, values: &[i128]) -> Result<Vec<(u32, i128)>, AllocError>
+    requires { length values.now < 2 ^ 32 }
+    ensures { IfOk result (λ v. v.items ≡ terms_from 0 values.now) }
+{
+    let mut terms = Vec::new(alloc);
+    for index in 0..values.len() {
+        push_some(&mut terms, index as u32, values[index])?;
+    }
+    Ok(terms)
+}
+
+/// The certificate that has each weight so many times, over their least common denominator.
+pub fn certificate(
+    alloc: Global,
+    numbers: &[Fraction],
+    factor: i128,
+) -> Result<Certificate, RowFault>
+    requires factor { IsWithin factor }
+    requires few { length numbers.now < 2 ^ 32 }
+    ensures value { IfOk result (λ c. certificate_view c ≡ weights_certificate factor numbers.now) }
+    ensures fits { OnOk result (WeightsFit factor numbers.now) }
+    ensures wide { IfErr result (λ f. f ≡ RowFault.Wide → ¬ (WeightsFit factor numbers.now)) }
+{
+    let numbers = multiples(alloc, numbers, factor)?;
+    let scale = common_scale(numbers.as_slice())?;
+    let values = scaled_values(alloc, numbers.as_slice(), scale)?;
+    let weights = weight_terms(alloc, values.as_slice())?;
+    Ok(Certificate {
+        scale: scale as i128,
+        weights,
+    })
+}
+
+/// The values times their least common denominator.
+fn whole_values(alloc: Global, numbers: &[Fraction]) -> Result<Vec<i128>, RowFault>
+    ensures value { IfOk result (λ v. v.items ≡ scaled_point numbers.now) }
+    ensures within { OnOk result (All IsWithin (scaled_point numbers.now)) }
+    ensures fits { OnOk result (NumbersFit numbers.now) }
+    ensures wide { IfErr result (λ f. f ≡ RowFault.Wide → ¬ (NumbersFit numbers.now)) }
+{
+    let scale = common_scale(numbers)?;
+    let values = scaled_values(alloc, numbers, scale)?;
+    Ok(values)
+}
+
+/// The point that has these values times their least common denominator.
+pub fn whole_point(alloc: Global, space: Space, numbers: &[Fraction]) -> Result<Point, RowFault>
+    requires space { IsSpace space }
+    requires complete { length numbers.now ≡ size_of space }
+    ensures value { IfOk result (λ p. p ≡ scaled_point numbers.now) }
+    ensures fits { OnOk result (NumbersFit numbers.now) }
+    ensures wide { IfErr result (λ f. f ≡ RowFault.Wide → ¬ (NumbersFit numbers.now)) }
+{
+    let values = whole_values(alloc, numbers)?;
+    Ok(Point::new(space, values))
+}
+
+/// The values with their signs turned.
+fn turned_values(alloc: Global, values: &[i128]) -> Result<Vec<i128>, AllocError>
+    requires { All IsWithin values.now }
+    ensures { IfOk result (λ v. v.items ≡ turned_numbers values.now) }
+{
+    let mut turned = Vec::new(alloc);
+    for value in values {
+        turned.push(-*value)?;
+    }
+    Ok(turned)
+}
+
+/// The same point turned: each value with its sign turned.
+pub fn turned_point(alloc: Global, space: Space, numbers: &[Fraction]) -> Result<Point, RowFault>
+    requires space { IsSpace space }
+    requires complete { length numbers.now ≡ size_of space }
+    ensures value { IfOk result (λ p. p ≡ turned_numbers (scaled_point numbers.now)) }
+    ensures fits { OnOk result (NumbersFit numbers.now) }
+    ensures wide { IfErr result (λ f. f ≡ RowFault.Wide → ¬ (NumbersFit numbers.now)) }
+{
+    let values = whole_values(alloc, numbers)?;
+    let turned = turned_values(alloc, values.as_slice())?;
+    Ok(Point::new(space, turned))
+}
+
+/// The factor: the first number.
+pub fn factor_of(numbers: &[Fraction]) -> Fraction
+    requires { 0 < length numbers.now }
+    ensures { result ≡ factor_of numbers.now }
+{
+    numbers[0]
+}
+
+/// The weights of so many generators: the numbers after the factor.
+pub fn weights_of(numbers: &[Fraction], count: usize) -> &[Fraction]
+    requires { count < length numbers.now }
+    ensures { result.now ≡ weights_of count numbers.now }
+{
+    let others = &numbers[1..];
+    &others[..count]
+}
+
+/// The values of a point at so many coordinates: the numbers after those.
+pub fn values_of(numbers: &[Fraction], count: usize, size: usize) -> &[Fraction]
+    requires { count + size < length numbers.now }
+    ensures { result.now ≡ values_of count size numbers.now }
+{
+    let others = &numbers[1..];
+    let values = &others[count..];
+    &values[..size]
+}

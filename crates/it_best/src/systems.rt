@@ -1,0 +1,279 @@
+//! The unknowns of the three parts.
+ghost use Rattle.std.specs.Prelude.{◌≡◌, ◌≢◌, ◌<◌, ◌≤◌, ◌+◌, ◌^◌, ◌++◌, ◌∷◌, [], ℕ, ℤ, pos, List, length, map, All, IfOk, OnOk};
+ghost use Rattle.it_number.specs.Limit.{IsWithin};
+ghost use Rattle.it_space.specs.Problems.{IsProblem, problem_view};
+ghost use Rattle.it_space.specs.Rows.{IsUpTo, coefficient, negated_terms};
+ghost use Rattle.it_space.specs.Spaces.{size_of};
+ghost use Rattle.it_polymatroid.specs.Elementals.{span};
+ghost use Rattle.it_elemental.specs.Generators.{Generator, generators, generator_at};
+ghost use Rattle.it_best.specs.Parts.{coordinate_row, coordinate_terms, coordinate_unknown, counterweight, first_part, free_unknown, left_equation, right_equation, slack_by, slacks, third_part, unknown_view, unknown_views};
+
+use crate::unknowns::Unknown;
+use it_elemental::{generator_count, kind_at};
+use it_columns::{generator_row, opposite_row, push_some};
+use it_space::{Kind, Problem, Row};
+use std::alloc::{AllocError, Global};
+
+/// A generator as an unknown: its weight.
+fn weight(alloc: Global, problem: &Problem, index: u32) -> Result<Unknown, AllocError>
+    requires problem { IsProblem (problem_view problem.now) }
+    requires listed { index < length (generators (problem_view problem.now)) }
+    ensures { IfOk result (λ u. unknown_view u ≡ generator_at (generators (problem_view problem.now)) index) }
+{
+    let row = generator_row(alloc, problem, index)?;
+    Ok(Unknown {
+        kind: kind_at(problem, index),
+        row,
+    })
+}
+
+/// The weight of a generator that counts against the factor: the generator turned.
+fn counterweight(alloc: Global, problem: &Problem, index: u32) -> Result<Unknown, AllocError>
+    requires problem { IsProblem (problem_view problem.now) }
+    requires listed { index < length (generators (problem_view problem.now)) }
+    ensures { IfOk result (λ u. unknown_view u ≡ counterweight (generator_at (generators (problem_view problem.now)) index)) }
+{
+    let generator = weight(alloc, problem, index)?;
+    let row = opposite_row(alloc, &generator.row)?;
+    Ok(Unknown {
+        kind: generator.kind,
+        row,
+    })
+}
+
+/// Puts the weights of all generators after the others, each turned.
+fn push_counterweights(
+    unknowns: &mut Vec<Unknown>,
+    alloc: Global,
+    problem: &Problem,
+) -> Result<(), AllocError>
+    requires problem { IsProblem (problem_view problem.now) }
+    ensures { OnOk result (unknown_views unknowns.new.items ≡ unknown_views unknowns.old.items ++ map counterweight (generators (problem_view problem.now))) }
+{
+    for index in 0..generator_count(problem) {
+        let unknown = counterweight(alloc, problem, index)?;
+        unknowns.push(unknown)?;
+    }
+    Ok(())
+}
+
+/// The first part: the factor, and the weights of the generators. They are to make the right side.
+pub fn first_part(alloc: Global, problem: &Problem, left: &Row) -> Result<Vec<Unknown>, AllocError>
+    requires problem { IsProblem (problem_view problem.now) }
+    ensures { IfOk result (λ v. unknown_views v.items ≡ first_part (generators (problem_view problem.now)) left.now) }
+{
+    let mut unknowns = Vec::new(alloc);
+    let row = left.copy(alloc)?;
+    unknowns.push(Unknown {
+        kind: Kind::Equation,
+        row,
+    })?;
+    push_counterweights(&mut unknowns, alloc, problem)?;
+    Ok(unknowns)
+}
+
+/// The second part: the weights of the generators. They are to make the left side turned.
+pub fn second_part(alloc: Global, problem: &Problem) -> Result<Vec<Unknown>, AllocError>
+    requires problem { IsProblem (problem_view problem.now) }
+    ensures { IfOk result (λ v. unknown_views v.items ≡ generators (problem_view problem.now)) }
+{
+    let mut unknowns = Vec::new(alloc);
+    for index in 0..generator_count(problem) {
+        let unknown = weight(alloc, problem, index)?;
+        unknowns.push(unknown)?;
+    }
+    Ok(unknowns)
+}
+
+/// The rows of the generators, in order.
+fn generator_rows(alloc: Global, problem: &Problem) -> Result<Vec<Row>, AllocError>
+    requires problem { IsProblem (problem_view problem.now) }
+    ensures { IfOk result (λ v. v.items ≡ map (λ g. g.row) (generators (problem_view problem.now))) }
+{
+    let mut rows = Vec::new(alloc);
+    for index in 0..generator_count(problem) {
+        let row = generator_row(alloc, problem, index)?;
+        rows.push(row)?;
+    }
+    Ok(rows)
+}
+
+/// The equation of the left side's value at the point, which is 1.
+pub fn left_equation(problem: &Problem) -> u32
+    requires problem { IsProblem (problem_view problem.now) }
+    ensures value { result ≡ left_equation (size_of problem.now.space) (generators (problem_view problem.now)) }
+    ensures few { result < 2 ^ 22 }
+{
+    problem.space.size() + generator_count(problem) + 1
+}
+
+/// The equation of the right side's value at the point, which is the factor.
+pub fn right_equation(problem: &Problem) -> u32
+    requires problem { IsProblem (problem_view problem.now) }
+    ensures value { result ≡ right_equation (size_of problem.now.space) (generators (problem_view problem.now)) }
+    ensures few { result < 2 ^ 22 }
+{
+    problem.space.size() + generator_count(problem) + 2
+}
+
+/// The row with one term more after its own.
+pub fn with_term(
+    alloc: Global,
+    row: &Row,
+    coordinate: u32,
+    coefficient: i128,
+) -> Result<Row, AllocError>
+    requires after { All (λ t. t.0 < coordinate) row.now }
+    requires some { coefficient ≢ pos 0 }
+    requires within { IsWithin coefficient }
+    ensures { IfOk result (λ r. r ≡ row.now ++ (coordinate, coefficient) ∷ []) }
+{
+    let mut terms = row.copy(alloc)?.into_terms();
+    terms.push((coordinate, coefficient))?;
+    Ok(Row::new(terms))
+}
+
+/// The coefficients of a coordinate in rows, the first of which has an equation.
+fn coordinate_terms(
+    alloc: Global,
+    rows: &[Row],
+    first: u32,
+    coordinate: u32,
+) -> Result<Vec<(u32, i128)>, AllocError>
+    requires few { first + length rows.now < 2 ^ 31 }
+    ensures same { IfOk result (λ v. (gs : List Generator) → rows.now ≡ map (λ g. g.row) gs → v.items ≡ coordinate_terms first gs coordinate) }
+    ensures within { OnOk result ((gs : List Generator) → rows.now ≡ map (λ g. g.row) gs → All (λ g. IsWithin (coefficient g.row coordinate)) gs) }
+{
+    let mut terms = Vec::new(alloc);
+    for index in 0..rows.len() {
+        push_some(
+            &mut terms,
+            first + index as u32,
+            rows[index].coefficient(coordinate),
+        )?;
+    }
+    Ok(terms)
+}
+
+/// The coefficients of a coordinate in the generators and in the sides.
+fn coordinate_row(
+    alloc: Global,
+    problem: &Problem,
+    rows: &[Row],
+    left: &Row,
+    right: &Row,
+    coordinate: u32,
+) -> Result<Row, AllocError>
+    requires problem { IsProblem (problem_view problem.now) }
+    requires rows { rows.now ≡ map (λ g. g.row) (generators (problem_view problem.now)) }
+    ensures { IfOk result (λ r. r ≡ coordinate_row (size_of problem.now.space) (generators (problem_view problem.now)) left.now right.now coordinate) }
+{
+    let mut terms = coordinate_terms(alloc, rows, problem.space.size() + 1, coordinate)?;
+    push_some(
+        &mut terms,
+        left_equation(problem),
+        left.coefficient(coordinate),
+    )?;
+    push_some(
+        &mut terms,
+        right_equation(problem),
+        right.coefficient(coordinate),
+    )?;
+    Ok(Row::new(terms))
+}
+
+/// Whether a coordinate's value is at least 0, as that of a set is, or any number, as a rate is.
+fn coordinate_kind(problem: &Problem, coordinate: u32) -> Kind
+    requires problem { IsProblem (problem_view problem.now) }
+    ensures { (n size : ℕ) (gs : List Generator) (left right : List (ℕ × ℤ)) → n ≡ problem.now.space.variables → result ≡ (coordinate_unknown n size gs left right coordinate).kind }
+{
+    if coordinate < 1 << problem.space.variables {
+        Kind::Inequality
+    } else {
+        Kind::Equation
+    }
+}
+
+/// Puts the values of the point at all coordinates after the others.
+fn push_values(
+    unknowns: &mut Vec<Unknown>,
+    alloc: Global,
+    problem: &Problem,
+    rows: &[Row],
+    left: &Row,
+    right: &Row,
+) -> Result<(), AllocError>
+    requires problem { IsProblem (problem_view problem.now) }
+    requires rows { rows.now ≡ map (λ g. g.row) (generators (problem_view problem.now)) }
+    ensures { OnOk result (unknown_views unknowns.new.items ≡ unknown_views unknowns.old.items ++ map (coordinate_unknown problem.now.space.variables (size_of problem.now.space) (generators (problem_view problem.now)) left.now right.now) (span 1 (size_of problem.now.space))) }
+{
+    for coordinate in 1..problem.space.size() + 1 {
+        let row = coordinate_row(alloc, problem, rows, left, right, coordinate)?;
+        let kind = coordinate_kind(problem, coordinate);
+        unknowns.push(Unknown { kind, row })?;
+    }
+    Ok(())
+}
+
+/// Puts what an inequality has above 0 after the others; of an equation that is nothing.
+fn push_slack(
+    unknowns: &mut Vec<Unknown>,
+    alloc: Global,
+    kind: Kind,
+    equation: u32,
+) -> Result<(), AllocError>
+    ensures { OnOk result (unknown_views unknowns.new.items ≡ unknown_views unknowns.old.items ++ slack_by equation kind) }
+{
+    match kind {
+        Kind::Inequality => {
+            let terms = vec![in alloc; (equation, -1)]?;
+            unknowns.push(Unknown {
+                kind: Kind::Inequality,
+                row: Row::new(terms),
+            })?;
+            Ok(())
+        }
+        Kind::Equation => Ok(()),
+    }
+}
+
+/// Puts what each inequality has above 0 at the point after the others.
+fn push_slacks(
+    unknowns: &mut Vec<Unknown>,
+    alloc: Global,
+    problem: &Problem,
+) -> Result<(), AllocError>
+    requires problem { IsProblem (problem_view problem.now) }
+    ensures { OnOk result (unknown_views unknowns.new.items ≡ unknown_views unknowns.old.items ++ slacks (size_of problem.now.space + 1) (generators (problem_view problem.now))) }
+{
+    let first = problem.space.size() + 1;
+    for index in 0..generator_count(problem) {
+        push_slack(unknowns, alloc, kind_at(problem, index), first + index)?;
+    }
+    Ok(())
+}
+
+/// The third part: the factor, the weights of the generators, the values of a point, and what each inequality has above 0 there.
+/// They are to make the right side, and 1 at the equation of the left side's value.
+pub fn third_part(
+    alloc: Global,
+    problem: &Problem,
+    left: &Row,
+    right: &Row,
+) -> Result<Vec<Unknown>, AllocError>
+    requires problem { IsProblem (problem_view problem.now) }
+    requires left { IsUpTo (size_of problem.now.space) left.now }
+    ensures { IfOk result (λ v. unknown_views v.items ≡ third_part problem.now.space.variables (size_of problem.now.space) (generators (problem_view problem.now)) left.now right.now) }
+{
+    let rows = generator_rows(alloc, problem)?;
+    let mut unknowns = Vec::new(alloc);
+    let row = with_term(alloc, left, right_equation(problem), -1)?;
+    unknowns.push(Unknown {
+        kind: Kind::Equation,
+        row,
+    })?;
+    push_counterweights(&mut unknowns, alloc, problem)?;
+    push_values(&mut unknowns, alloc, problem, rows.as_slice(), left, right)?;
+    push_slacks(&mut unknowns, alloc, problem)?;
+    Ok(unknowns)
+}

@@ -1,0 +1,4 @@
+pub mod Scales
+pub mod Wholes
+pub mod ScaleSteps
+pub mod ColumnLemmas

@@ -1,0 +1,11 @@
+//! What proofs of targets and of factors are made with: the columns that the generators of a problem have in a run of the simplex
+//! method, and rational numbers made whole by the least common multiple of their denominators.
+#![tactic(auto)]
+
+mod columns;
+mod rows;
+mod scaling;
+
+pub use columns::push_row;
+pub use rows::{generator_row, opposite_row, push_some};
+pub use scaling::{common_scale, scaled_number, scaled_values};

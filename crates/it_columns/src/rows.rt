@@ -1,0 +1,64 @@
+//! Rows term by term, turned, and by the number of their generator.
+ghost use Rattle.std.specs.Prelude.{◌≡◌, ◌<◌, ◌++◌, neg_ℤ, length, IfOk, OnOk};
+ghost use Rattle.it_number.specs.Limit.{IsWithin};
+ghost use Rattle.it_space.specs.Problems.{IsProblem, problem_view};
+ghost use Rattle.it_space.specs.Rows.{IsCanonical, negated_terms, single_term};
+ghost use Rattle.it_elemental.specs.Generators.{generators, generator_at};
+
+use it_elemental::{count, row};
+use it_space::{Problem, Row};
+use std::alloc::{AllocError, Global};
+
+/// Puts a term after the others, unless its number is 0.
+pub fn push_some(terms: &mut Vec<(u32, i128)>, index: u32, number: i128) -> Result<(), AllocError>
+    ensures { OnOk result (terms.new.items ≡ terms.old.items ++ single_term index number) }
+{
+    if number != 0 {
+        terms.push((index, number))?;
+    }
+    Ok(())
+}
+
+/// The term with its sign turned.
+fn opposite_term(term: &(u32, i128)) -> (u32, i128)
+    requires { IsWithin term.now.1 }
+    ensures { result ≡ (term.now.0, neg_ℤ term.now.1) }
+{
+    (term.0, -term.1)
+}
+
+/// Each term with its sign turned, in order.
+fn opposite_terms(alloc: Global, terms: &[(u32, i128)]) -> Result<Vec<(u32, i128)>, AllocError>
+    requires { IsCanonical terms.now }
+    ensures { IfOk result (λ v. v.items ≡ negated_terms terms.now) }
+{
+    let mut opposites = Vec::with_capacity(alloc, terms.len())?;
+    for term in terms {
+        opposites.push(opposite_term(term))?;
+    }
+    Ok(opposites)
+}
+
+/// The row with all signs turned: its value at each point is the negated one.
+pub fn opposite_row(alloc: Global, row: &Row) -> Result<Row, AllocError>
+    ensures { IfOk result (λ r. r ≡ negated_terms row.now) }
+{
+    let terms = opposite_terms(alloc, row.terms())?;
+    Ok(Row::new(terms))
+}
+
+/// The row of a generator by its number: below their count an elemental inequality, from there on a constraint.
+pub fn generator_row(alloc: Global, problem: &Problem, index: u32) -> Result<Row, AllocError>
+    requires problem { IsProblem (problem_view problem.now) }
+    requires listed { index < length (generators (problem_view problem.now)) }
+    ensures { IfOk result (λ r. r ≡ (generator_at (generators (problem_view problem.now)) index).row) }
+{
+    let n = problem.space.variables;
+    let elementals = count(n);
+    if index < elementals {
+        return row(alloc, n, index);
+    }
+    problem.constraints[(index - elementals) as usize]
+        .row
+        .copy(alloc)
+}

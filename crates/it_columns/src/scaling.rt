@@ -1,0 +1,75 @@
+//! Fractions made whole by the least common multiple of their denominators.
+//! The result of `push` is matched, since `?` makes no `RowFault` of its error.
+ghost use Rattle.std.specs.Prelude.{◌≡◌, ◌<◌, ◌^◌, ◌++◌, ◌∷◌, [], pos, map, IfErr, IfOk, OkIff, OnOk};
+ghost use Rattle.it_number.specs.Gcd.{lcm};
+ghost use Rattle.it_number.specs.Limit.{IsWithin};
+ghost use Rattle.it_columns.specs.Scaling.{EachFits, scale_of, scaled_number};
+
+use it_fraction::{Fraction, Wide, lcm, signed_product};
+use it_space::RowFault;
+use std::alloc::{AllocError, Global};
+
+/// The least common multiple of the scale and a number's denominator.
+fn with_denominator(scale: u128, number: &Fraction) -> Result<u128, Wide>
+    requires some { 0 < scale }
+    requires within { scale < 2 ^ 127 }
+    ensures { OkIff result (IsWithin (pos (lcm scale number.now.den))) (lcm scale number.now.den) }
+{
+    let multiple = lcm(scale as i128, number.den())?;
+    Ok(multiple as u128)
+}
+
+/// The least common multiple of the denominators. `Wide` where it passes the limit.
+pub fn common_scale(numbers: &[Fraction]) -> Result<u128, Wide>
+    ensures value { OkIff result (IsWithin (pos (scale_of numbers.now))) (scale_of numbers.now) }
+    ensures some { IfOk result (λ l. 0 < l) }
+    ensures within { IfOk result (λ l. l < 2 ^ 127) }
+{
+    let mut scale: u128 = 1;
+    for number in numbers {
+        scale = with_denominator(scale, number)?;
+    }
+    Ok(scale)
+}
+
+/// The scale times a number whose denominator divides it.
+#[tactic(auto, unfolding(crate::specs::Scaling::scaled_number))]
+pub fn scaled_number(number: &Fraction, scale: u128) -> Result<i128, Wide>
+    requires { scale < 2 ^ 127 }
+    ensures { OkIff result (IsWithin (scaled_number scale number.now)) (scaled_number scale number.now) }
+{
+    let times = scale / number.den() as u128;
+    signed_product(number.num(), times as i128)
+}
+
+/// Puts the scale times a number after the others.
+fn put_value(values: &mut Vec<i128>, number: &Fraction, scale: u128) -> Result<(), RowFault>
+    requires { scale < 2 ^ 127 }
+    ensures value { OnOk result (values.new.items ≡ values.old.items ++ scaled_number scale number.now ∷ []) }
+    ensures fits { OnOk result (IsWithin (scaled_number scale number.now)) }
+    ensures wide { IfErr result (λ f. f ≡ RowFault.Wide → ¬ (IsWithin (scaled_number scale number.now))) }
+{
+    let value = scaled_number(number, scale)?;
+    match values.push(value) {
+        Ok(()) => Ok(()),
+        Err(_) => Err(RowFault::Memory),
+    }
+}
+
+/// The scale times each number, in order. `Wide` where one of these passes the limit.
+pub fn scaled_values(
+    alloc: Global,
+    numbers: &[Fraction],
+    scale: u128,
+) -> Result<Vec<i128>, RowFault>
+    requires { scale < 2 ^ 127 }
+    ensures value { IfOk result (λ v. v.items ≡ map (scaled_number scale) numbers.now) }
+    ensures fits { OnOk result (EachFits scale numbers.now) }
+    ensures wide { IfErr result (λ f. f ≡ RowFault.Wide → ¬ (EachFits scale numbers.now)) }
+{
+    let mut values = Vec::with_capacity(alloc, numbers.len())?;
+    for number in numbers {
+        put_value(&mut values, number, scale)?;
+    }
+    Ok(values)
+}

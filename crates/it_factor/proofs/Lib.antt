@@ -1,0 +1,4 @@
+pub mod RightLemmas
+pub mod TruthLemmas
+pub mod UniqueLemmas
+pub mod PrintLemmas

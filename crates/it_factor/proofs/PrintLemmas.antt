@@ -1,0 +1,58 @@
+-- What was found of a question's factors can be printed: its generators are there, and its points are of the question's names.
+use Rattle.std.proofs.Common.{◌≡◌, ◌+◌, ◌^◌, ◌<◌, ◌≤◌, ℕ, ℤ, List, length, All, length-append, length-map, ap, arith}
+use Rattle.std.proofs.lemmas.List.Elements.{All-weaker}
+use Rattle.std.proofs.lemmas.Nat.{pow_pos}
+use Rattle.std.proofs.Math.Pow.{pow_mono}
+use Rattle.it_space.specs.declared.answers.Certificate.{Certificate}
+use Rattle.it_space.specs.Answers.{certificate_view}
+use Rattle.it_space.specs.Spaces.{size_of}
+use Rattle.it_polymatroid.specs.Certificates.{Form}
+use Rattle.it_polymatroid.specs.Elementals.{elementals}
+use Rattle.it_syntax.specs.Meaning.{RelationView}
+use Rattle.it_syntax.specs.NamesViews.{NamesView}
+use Rattle.it_question.specs.Limits.{IsQuestion}
+use Rattle.it_question.specs.Questions.{BodyView, VerbView, Prove}
+use Rattle.it_question.specs.Tables.{problem_names, problem_names_by}
+use Rattle.it_demand.specs.Demands.{LineDemand}
+use Rattle.it_demand.specs.LineDemands.{space_of}
+use Rattle.it_canon.specs.QuestionDemands.{question_demands, variables_of}
+use Rattle.it_answer.specs.Forms.{CertifiesForm, MayStand, all_demands}
+use Rattle.it_best.specs.declared.types.Best.{Best}
+use Rattle.it_best.specs.declared.types.Best.TheVariants as answers
+use Rattle.it_best.specs.Ends.{best_view}
+use Rattle.it_best.specs.Factors.{IsPoint}
+use Rattle.it_factor.specs.Lines.{AreValuesOf, IsBestPrintable, IsThere}
+use Rattle.it_factor.specs.RightReplies.{ShowsFactor, question_ground}
+
+length-demands : (n : ℕ) (ds : List LineDemand) → length (all_demands n ds) ≡ length (elementals n) + length ds
+unfolding all_demands
+length-demands n ds = simp (length-append, length-map)
+
+module _ (q : BodyView) (m : ℕ) (count : m ≡ length (question_demands q)) where
+  generators_there : (f : Form) (w : Certificate) → CertifiesForm q f (certificate_view w) → IsThere (variables_of q) m w
+  generators_there f w c = All-weaker (MayStand (all_demands (variables_of q) (question_demands q))) (λ (x : ℕ × ℤ). x.0 < length (elementals (variables_of q)) + m)
+      (λ x a. omega (arith, a.0, length-demands (variables_of q) (question_demands q), count)) w.weights.items c.allowed
+
+  values_of_names : (values : List ℤ) → length (problem_names q).variables ≤ 10 → length (problem_names q).rates ≤ 16 → IsPoint (question_ground q) values → AreValuesOf (problem_names q) values
+  values_of_names values few few_rates i = (
+    omega (arith, i.complete, pow_pos (variables_of q)),
+    omega (arith, i.complete, pow_mono {i = variables_of q} {j = 10} few, few_rates),
+  )
+
+  pub best_printable : (r : RelationView) (best : Best) → IsQuestion q → q.verb ≡ Prove r → ShowsFactor q r (best_view best) → IsBestPrintable (problem_names q) m best
+  best_printable r best k verb shown = by_best best shown
+    where
+      names_are : problem_names q ≡ q.names
+      names_are = ap (problem_names_by q.names) verb
+
+      few : length (problem_names q).variables ≤ 10
+      few = omega (arith, ap (λ (v : NamesView). length v.variables) names_are, k.few)
+
+      few_rates : length (problem_names q).rates ≤ 16
+      few_rates = omega (arith, ap (λ (v : NamesView). length v.rates) names_are, k.few_rates)
+
+      by_best : (best : Best) → ShowsFactor q r (best_view best) → IsBestPrintable (problem_names q) m best
+      by_best (answers.Least num den proof point) s = (generators_there _ proof s.factor.certified, values_of_names point few few_rates s.point)
+      by_best (answers.Never point) s = values_of_names point few few_rates s.point
+      by_best (answers.Unbounded num den proof below) s = (generators_there _ proof s.factor.certified, generators_there _ below s.at_most_zero)
+      by_best (answers.Undecided cause) s = tt

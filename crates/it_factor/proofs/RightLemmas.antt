@@ -1,0 +1,108 @@
+-- What is right of the rows of a relation's sides is right by the meaning of the text.
+use Rattle.std.proofs.Common.{◌≡◌, ◌+◌, ℕ, ℤ, pos, neg_ℤ, ◌-ℤ◌, ◌*ℤ◌, ◌≤ℤ◌, List, [], length, All, Option, Some, None, refl, sym, ap, ap₂, subst, ◌∙◌, arith}
+use Rattle.it_space.specs.declared.problems.Kind.TheVariants.{Inequality}
+use Rattle.it_space.specs.declared.spaces.Space.{Space}
+use Rattle.it_space.specs.Answers.{CertificateView}
+use Rattle.it_space.specs.Problems.{ProblemView}
+use Rattle.it_space.specs.Rows.{Terms, IsUpTo, map_of, value}
+use Rattle.it_space.specs.Spaces.{size_of}
+use Rattle.it_space.proofs.EveryLemmas.{all_of}
+use Rattle.it_polymatroid.specs.Certificates.{Form, IsCertificate, IsLinear, combination}
+use Rattle.it_polymatroid.specs.Polymatroid.{IsPolymatroid}
+use Rattle.it_polymatroid.proofs.Certified.{adds_up_everywhere}
+use Rattle.it_polymatroid.proofs.Forms.{value_linear}
+use Rattle.it_elemental.specs.Generators.{generators, generators_of, generator_at, forms_of}
+use Rattle.it_elemental.proofs.GeneratorLemmas.{rows_of_space}
+use Rattle.it_syntax.specs.Meaning.{RelationView}
+use Rattle.it_syntax.specs.declared.types.Sign.{Sign}
+use Rattle.it_syntax.specs.declared.types.Sign.TheVariants.{AtLeast}
+use Rattle.it_question.specs.Questions.{BodyView, VerbView, Prove}
+use Rattle.it_question.specs.Tables.{problem_lines, problem_names}
+use Rattle.it_demand.specs.Canonical.{IsRowOf}
+use Rattle.it_demand.specs.LineDemands.{space_of}
+use Rattle.it_canon.specs.QuestionDemands.{AreTrueAt, IsProblemOf, question_demands, variables_of}
+use Rattle.it_canon.specs.Sides.{left_form, right_form}
+use Rattle.it_canon.proofs.ProblemLemmas.{question_met}
+use Rattle.it_answer.specs.Forms.{Certifies, CertifiesForm, all_demands}
+use Rattle.it_answer.proofs.FormLemmas.{by_forms, generators_speak}
+use Rattle.it_best.specs.Ends.{BestView, IsRightBest, Least, Never, Unbounded, Undecided}
+use Rattle.it_best.specs.Factors.{IsFactor, IsPoint, factor_form, ground_of}
+use Rattle.it_best.proofs.CertificateLemmas.{linear-factor, linear-neg}
+use Rattle.it_factor.specs.Replies.{ReplyView, Found, Other}
+use Rattle.it_factor.specs.RightReplies.{IsRightFactor, IsRightReply, IsRightReplyTo, ShowsFactor, asked_by, at_least, question_ground}
+use Rattle.it_factor.specs.RowReplies.{IsFoundByRows}
+
+module _ (q : BodyView) (p : ProblemView) (posed : IsProblemOf q p) where
+  in_question_space : (P : Space → Type 0) → P p.space → P (space_of (problem_names q))
+  in_question_space P x = subst P posed.space x
+
+  -- a certificate of a linear form adds up at every map
+  adds_up_at : (f : Form) (w : CertificateView) → IsLinear (size_of p.space + 1) f → IsCertificate (size_of p.space + 1) (generators_of p) f w
+      → (x : ℕ → ℤ) → x 0 ≡ pos 0 → w.scale *ℤ f x ≡ combination w.weights (λ i. (forms_of (generators p)).form i x)
+  adds_up_at f w linear c x e =
+      let size = size_of p.space in
+      let gs = generators p in
+      let rows : All (λ g. IsUpTo size g.row) gs = all_of (λ g. IsUpTo size g.row) gs (rows_of_space p.space.variables size p.constraints (omega arith) posed.limits.rows) in
+      adds_up_everywhere (size + 1) (forms_of gs) f w (λ i l. value_linear size (generator_at gs i).row (rows i (record { kind = Inequality; row = [] }) l)) linear c x e
+
+  certificate_by_text : (f g : Form) (w : CertificateView) → ((x : ℕ → ℤ) → x 0 ≡ pos 0 → f x ≡ g x) → IsLinear (size_of p.space + 1) f → IsCertificate (size_of p.space + 1) (generators_of p) f w → CertifiesForm q g w
+  certificate_by_text f g w same linear c = in_question_space (λ s. Certifies (all_demands s.variables (question_demands q)) g w)
+      (by_forms (all_demands p.space.variables (question_demands q)) (generators p) (generators_speak p.space (question_demands q) p.constraints posed.constraints) (size_of p.space + 1) f g same w c (adds_up_at f w linear c))
+
+  point_by_text : (values : List ℤ) → IsPoint (ground_of p) values → IsPoint (question_ground q) values
+  point_by_text values i = record {
+    complete = in_question_space (λ s. length values ≡ size_of s) i.complete;
+    holds = (
+        in_question_space (λ s. IsPolymatroid s.variables (map_of values)) i.holds.0,
+        in_question_space (λ s. AreTrueAt s.variables (map_of values) (problem_lines q)) ((question_met q p.space p.constraints posed.space posed.constraints (map_of values) refl).0 i.holds.1),
+      );
+  }
+
+  module _ (left right : Form) (l r : Terms) (left_is : IsRowOf p.space left l) (right_is : IsRowOf p.space right r) where
+    factor_by_text : (num den : ℤ) (w : CertificateView) → IsFactor (ground_of p) (value l) (value r) num den w → IsFactor (question_ground q) left right num den w
+    factor_by_text num den w f = record {
+      from_one = f.from_one;
+      lowest = f.lowest;
+      certified = certificate_by_text (factor_form (value l) (value r) num den) (factor_form left right num den) w (λ x e. ap₂ (λ y z. num *ℤ y -ℤ den *ℤ z) (left_is.same x e) (right_is.same x e))
+          (linear-factor (size_of p.space) l r num den left_is.coordinates right_is.coordinates) f.certified;
+    }
+
+    best_by_text : (best : BestView) → IsRightBest (ground_of p) (value l) (value r) best → IsRightBest (question_ground q) left right best
+    best_by_text (Least num den w values) i = record {
+      factor = factor_by_text num den w i.factor;
+      point = point_by_text values i.point;
+      some = subst (λ (x : ℤ). pos 1 ≤ℤ x) (left_is.same (map_of values) refl) i.some;
+      equal = ap (λ x. den *ℤ x) (sym (right_is.same (map_of values) refl)) ∙ i.equal ∙ ap (λ x. num *ℤ x) (left_is.same (map_of values) refl);
+    }
+    best_by_text (Never values) i = record {
+      point = point_by_text values i.point;
+      zero = sym (left_is.same (map_of values) refl) ∙ i.zero;
+      above = subst (λ (x : ℤ). pos 1 ≤ℤ x) (right_is.same (map_of values) refl) i.above;
+    }
+    best_by_text (Unbounded num den w below) i = record {
+      factor = factor_by_text num den w i.factor;
+      at_most_zero = certificate_by_text (λ x. neg_ℤ (value l x)) (λ x. neg_ℤ (left x)) below (λ x e. ap neg_ℤ (left_is.same x e)) (linear-neg (size_of p.space) l left_is.coordinates) i.at_most_zero;
+    }
+    best_by_text (Undecided cause) i = tt
+
+  -- what is found by rows is right by the text, and due
+  pub right_factor : (budget : Option ℕ) (r : RelationView) (best : BestView) → IsFoundByRows p budget r best → IsRightFactor budget q r best
+  right_factor budget r best f =
+      let variables : p.space.variables ≡ variables_of q = ap (λ (s : Space). s.variables) posed.space in
+      let left_is : IsRowOf p.space (left_form (variables_of q) r) f.left = subst (λ n. IsRowOf p.space (left_form n r) f.left) variables f.left_is in
+      let right_is : IsRowOf p.space (right_form (variables_of q) r) f.right = subst (λ n. IsRowOf p.space (right_form n r) f.right) variables f.right_is in record {
+        shows = best_by_text (left_form (variables_of q) r) (right_form (variables_of q) r) f.left f.right left_is right_is best f.right_of_rows;
+        due = record { problem = p; is_problem = posed; left = f.left; left_is = left_is; right = f.right; right_is = right_is; ends = f.ends };
+      }
+
+-- ---- by the verb and the sign
+
+pub found_is_right : (budget : Option ℕ) (q : BodyView) (r : RelationView) (best : BestView) → q.verb ≡ Prove r → r.sign ≡ AtLeast → IsRightFactor budget q r best → IsRightReply budget q (Found best)
+found_is_right budget q r best verb sign right =
+    subst (λ (asked : Option RelationView). IsRightReplyTo budget q asked (Found best)) (sym (ap asked_by verb ∙ ap (λ s. at_least s r) sign)) right
+
+pub other_is_right : (budget : Option ℕ) (q : BodyView) → asked_by q.verb ≡ None → IsRightReply budget q Other
+other_is_right budget q none = subst (λ (asked : Option RelationView). IsRightReplyTo budget q asked Other) (sym none) tt
+
+pub other_by_sign : (q : BodyView) (r : RelationView) (s : Sign) → q.verb ≡ Prove r → r.sign ≡ s → at_least s r ≡ None → asked_by q.verb ≡ None
+other_by_sign q r s verb sign none = ap asked_by verb ∙ ap (λ s. at_least s r) sign ∙ none

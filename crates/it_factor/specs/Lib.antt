@@ -1,0 +1,4 @@
+pub mod Replies
+pub mod RightReplies
+pub mod RowReplies
+pub mod Lines

@@ -1,0 +1,88 @@
+-- The lines of mode `best`.
+use Rattle.std.specs.Prelude.{ℕ, ◌+◌, ◌<◌, ◌^◌, ℤ, List, ◌++◌, All, length, codes, decimal}
+use Rattle.std.specs.Fmt.{signed_decimal}
+use Rattle.it_space.specs.Answers.{CertificateView}
+use Rattle.it_space.specs.declared.answers.Certificate.{Certificate}
+use Rattle.it_space.specs.declared.problems.Origin.{Origin}
+use Rattle.it_polymatroid.specs.Elementals.{elementals}
+use Rattle.it_syntax.specs.NamesViews.{NamesView}
+use Rattle.it_question.specs.Questions.{BodyView}
+use Rattle.it_question.specs.Tables.{problem_names}
+use Rattle.it_print.specs.Lines.{certificate_text, values_text}
+use Rattle.it_best.specs.declared.types.Best.{Best}
+use Rattle.it_best.specs.declared.types.Best.TheVariants as answers
+use Rattle.it_best.specs.declared.types.BestCause.{BestCause}
+use Rattle.it_best.specs.declared.types.BestCause.TheVariants as causes
+use Rattle.it_best.specs.Ends.{BestView, Least, Never, Unbounded, Undecided}
+use Rattle.it_factor.specs.declared.types.Reply.{Reply}
+use Rattle.it_factor.specs.declared.types.Reply.TheVariants as replies
+use Rattle.it_factor.specs.Replies.{ReplyView, Found, Other}
+
+-- a factor as `P/Q`
+unfoldable pub ratio_text : ℤ → ℤ → List ℕ
+ratio_text num den = signed_decimal num ++ codes "/" ++ signed_decimal den
+
+-- a factor, and the certificate that it holds
+unfoldable pub factor_text : List (List ℕ) → List Origin → ℤ → ℤ → CertificateView → List ℕ
+factor_text names origins num den w = ratio_text num den ++ codes " " ++ certificate_text names origins w
+
+-- `best`, the least factor with its certificate, and the values of the point that attains it
+unfoldable pub least_line : ℕ → NamesView → List Origin → ℤ → ℤ → CertificateView → List ℤ → List ℕ
+least_line k v origins num den w values = decimal k ++ codes " best " ++ factor_text v.variables origins num den w ++ codes " at " ++ values_text v values ++ codes "\n"
+
+-- `none`, and the values of the point at which no factor holds
+unfoldable pub never_line : ℕ → NamesView → List ℤ → List ℕ
+never_line k v values = decimal k ++ codes " none " ++ values_text v values ++ codes "\n"
+
+-- `unbounded`, a factor with its certificate, and the certificate that the left side is at most 0
+unfoldable pub unbounded_line : ℕ → List (List ℕ) → List Origin → ℤ → ℤ → CertificateView → CertificateView → List ℕ
+unbounded_line k names origins num den w below = decimal k ++ codes " unbounded " ++ factor_text names origins num den w ++ codes " and " ++ certificate_text names origins below ++ codes "\n"
+
+-- why the factors stay undecided, with the part
+unfoldable pub best_cause_text : BestCause → List ℕ
+best_cause_text (causes.Pivots steps part) = codes "pivots " ++ decimal steps ++ codes " in " ++ decimal part
+best_cause_text (causes.Width step part) = codes "width " ++ decimal step ++ codes " in " ++ decimal part
+best_cause_text causes.Scale = codes "scale"
+best_cause_text causes.Size = codes "size"
+
+-- `undecided`, and the cause
+unfoldable pub undecided_line : ℕ → BestCause → List ℕ
+undecided_line k cause = decimal k ++ codes " undecided " ++ best_cause_text cause ++ codes "\n"
+
+-- `other`
+unfoldable pub other_line : ℕ → List ℕ
+other_line k = decimal k ++ codes " other\n"
+
+-- the line of what was found for question k
+abbrev pub best_line : ℕ → NamesView → List Origin → BestView → List ℕ
+best_line k v origins (Least num den w values) = least_line k v origins num den w values
+best_line k v origins (Never values) = never_line k v values
+best_line k v origins (Unbounded num den w below) = unbounded_line k v.variables origins num den w below
+best_line k v origins (Undecided cause) = undecided_line k cause
+
+-- the line of a reply to question k
+abbrev pub reply_line : ℕ → BodyView → List Origin → ReplyView → List ℕ
+reply_line k q origins (Found best) = best_line k (problem_names q) origins best
+reply_line k q origins Other = other_line k
+
+-- ---- what can be printed
+
+-- the generators of a certificate are there, of n variables and m constraints
+abbrev pub IsThere : ℕ → ℕ → Certificate → Type 0
+IsThere n m c = All (λ w. w.0 < length (elementals n) + m) c.weights.items
+
+-- a point's values are of the names
+abbrev pub AreValuesOf : NamesView → List ℤ → Type 0
+AreValuesOf v values = (length values < 2 ^ length v.variables + length v.rates) × (length values < 2 ^ 16)
+
+-- the generators and the values of what was found are, with m constraints
+abbrev pub IsBestPrintable : NamesView → ℕ → Best → Type 0
+IsBestPrintable v m (answers.Least num den proof point) = IsThere (length v.variables) m proof × AreValuesOf v point
+IsBestPrintable v m (answers.Never point) = AreValuesOf v point
+IsBestPrintable v m (answers.Unbounded num den proof below) = IsThere (length v.variables) m proof × IsThere (length v.variables) m below
+IsBestPrintable v m (answers.Undecided cause) = Unit {0}
+
+-- those of a reply are
+abbrev pub IsPrintable : BodyView → ℕ → Reply → Type 0
+IsPrintable q m (replies.Found best) = IsBestPrintable (problem_names q) m best
+IsPrintable q m replies.Other = Unit {0}

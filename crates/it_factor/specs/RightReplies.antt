@@ -1,0 +1,106 @@
+-- Right replies to questions in mode `best`: they show what they say, by the meaning of the question's text alone, and they are due; and
+-- what follows from it.
+use Rattle.std.specs.Prelude.{◌≡◌, ℕ, ℤ, pos, ◌*ℤ◌, ◌≤ℤ◌, List, Option, Some, None}
+use Rattle.it_space.specs.Answers.{CertificateView}
+use Rattle.it_space.specs.Problems.{ProblemView}
+use Rattle.it_space.specs.Rows.{Terms}
+use Rattle.it_space.specs.Spaces.{size_of}
+use Rattle.it_syntax.specs.Meaning.{RelationView}
+use Rattle.it_syntax.specs.declared.types.Sign.{Sign}
+use Rattle.it_syntax.specs.declared.types.Sign.TheVariants.{AtLeast, AtMost, Equal}
+use Rattle.it_question.specs.Questions.{BodyView, VerbView, Prove, Eliminate, Contain}
+use Rattle.it_question.specs.Tables.{problem_names}
+use Rattle.it_demand.specs.Canonical.{IsRowOf}
+use Rattle.it_demand.specs.LineDemands.{space_of}
+use Rattle.it_canon.specs.QuestionDemands.{AreTrueTogether, IsProblemOf, variables_of}
+use Rattle.it_canon.specs.Sides.{left_form, right_form}
+use Rattle.it_answer.specs.Forms.{CertifiesForm}
+use Rattle.it_best.specs.declared.types.BestCause.TheVariants.{Pivots}
+use Rattle.it_best.specs.Ends.{BestView, EndsWith, IsRightBest, Least, Never, Unbounded, Undecided}
+use Rattle.it_best.specs.Factors.{Ground, HoldsFactor}
+use Rattle.it_factor.specs.Replies.{ReplyView, Found, Other}
+
+-- ---- by the text
+
+-- a relation with the sign `>=`
+abbrev pub at_least : Sign → RelationView → Option RelationView
+at_least AtLeast r = Some r
+at_least AtMost r = None
+at_least Equal r = None
+
+-- the relation whose factors a question asks for: that of `prove E >= F`
+abbrev pub asked_by : VerbView → Option RelationView
+asked_by (Prove r) = at_least r.sign r
+asked_by (Eliminate rates) = None
+asked_by (Contain a b tries) = None
+
+-- where the sides of a question's relation are compared: at the polymatroids and rates that make its lines true, by certificates over
+-- the elemental inequalities and what its lines demand
+abbrev pub question_ground : BodyView → Ground
+question_ground q = record {
+  size = size_of (space_of (problem_names q));
+  Holds = AreTrueTogether q;
+  Certifies = CertifiesForm q;
+}
+
+-- what is found of the factors of the relation is right
+abbrev pub ShowsFactor : BodyView → RelationView → BestView → Type 0
+ShowsFactor q r best = IsRightBest (question_ground q) (left_form (variables_of q) r) (right_form (variables_of q) r) best
+
+-- the factor num / den holds: num times the left side is at least den times the right one wherever the question's lines are true
+abbrev pub HoldsFor : BodyView → RelationView → ℤ → ℤ → Type 0
+HoldsFor q r num den = HoldsFactor (question_ground q) (left_form (variables_of q) r) (right_form (variables_of q) r) num den
+
+-- ---- by the runs
+
+-- what the runs about the rows of both sides end with, under the problem that the question poses
+pub record IsDueFactor (budget : Option ℕ) (q : BodyView) (r : RelationView) (best : BestView) : Type 0 where
+  pub problem : ProblemView
+  pub is_problem : IsProblemOf q problem
+  pub left : Terms
+  pub left_is : IsRowOf problem.space (left_form (variables_of q) r) left
+  pub right : Terms
+  pub right_is : IsRowOf problem.space (right_form (variables_of q) r) right
+  pub ends : EndsWith problem left right budget best
+
+-- ---- right replies
+
+-- what is found is right by the text, and it is due
+pub record IsRightFactor (budget : Option ℕ) (q : BodyView) (r : RelationView) (best : BestView) : Type 0 where
+  pub shows : ShowsFactor q r best
+  pub due : IsDueFactor budget q r best
+
+-- the reply to a question that asks for the factors of this relation, or for none
+abbrev pub IsRightReplyTo : Option ℕ → BodyView → Option RelationView → ReplyView → Type 0
+IsRightReplyTo budget q (Some r) (Found best) = IsRightFactor budget q r best
+IsRightReplyTo budget q (Some r) Other = ⊥
+IsRightReplyTo budget q None (Found best) = ⊥
+IsRightReplyTo budget q None Other = Unit {0}
+
+-- a right reply to a question, by runs with a budget of steps or without one
+abbrev pub IsRightReply : Option ℕ → BodyView → ReplyView → Type 0
+IsRightReply budget q reply = IsRightReplyTo budget q (asked_by q.verb) reply
+
+-- ---- what follows
+
+-- a question has one right reply
+abbrev pub OneRightReply : Type 0
+OneRightReply = (budget : Option ℕ) (q : BodyView) (a b : ReplyView) → IsRightReply budget q a → IsRightReply budget q b → a ≡ b
+
+-- without a budget no reply is undecided for want of steps
+abbrev pub NeverOutOfSteps : Type 0
+NeverOutOfSteps = (q : BodyView) (k part : ℕ) → IsRightReply None q (Found (Undecided (Pivots k part))) → ⊥
+
+-- where a least factor is shown, it holds, and no smaller one does
+abbrev pub LeastIsTrue : Type 0
+LeastIsTrue = (q : BodyView) (r : RelationView) (num den : ℤ) (proof : CertificateView) (values : List ℤ) → ShowsFactor q r (Least num den proof values)
+    → HoldsFor q r num den × ((a b : ℤ) → pos 1 ≤ℤ b → HoldsFor q r a b → (num *ℤ b) ≤ℤ (a *ℤ den))
+
+-- where a point is shown at which the left side is 0 and the right one above it, no factor holds
+abbrev pub NeverIsTrue : Type 0
+NeverIsTrue = (q : BodyView) (r : RelationView) (values : List ℤ) → ShowsFactor q r (Never values) → (a b : ℤ) → pos 1 ≤ℤ b → HoldsFor q r a b → ⊥
+
+-- where it is shown that there is no least factor, the one that is told holds, and all smaller ones do
+abbrev pub UnboundedIsTrue : Type 0
+UnboundedIsTrue = (q : BodyView) (r : RelationView) (num den : ℤ) (proof below : CertificateView) → ShowsFactor q r (Unbounded num den proof below)
+    → (a b : ℤ) → pos 1 ≤ℤ b → (a *ℤ den) ≤ℤ (num *ℤ b) → HoldsFor q r a b

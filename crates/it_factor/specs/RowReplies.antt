@@ -1,0 +1,18 @@
+-- What is found by the rows of a relation's sides; no public clause cites it.
+use Rattle.std.specs.Prelude.{ℕ, Option}
+use Rattle.it_space.specs.Problems.{ProblemView}
+use Rattle.it_space.specs.Rows.{Terms, value}
+use Rattle.it_syntax.specs.Meaning.{RelationView}
+use Rattle.it_demand.specs.Canonical.{IsRowOf}
+use Rattle.it_canon.specs.Sides.{left_form, right_form}
+use Rattle.it_best.specs.Ends.{BestView, EndsWith, IsRightBest}
+use Rattle.it_best.specs.Factors.{ground_of}
+
+-- the runs about rows of both sides under a problem end with it, and it is right of the rows
+pub record IsFoundByRows (p : ProblemView) (budget : Option ℕ) (r : RelationView) (best : BestView) : Type 0 where
+  pub left : Terms
+  pub left_is : IsRowOf p.space (left_form p.space.variables r) left
+  pub right : Terms
+  pub right_is : IsRowOf p.space (right_form p.space.variables r) right
+  pub ends : EndsWith p left right budget best
+  pub right_of_rows : IsRightBest (ground_of p) (value left) (value right) best

@@ -1,0 +1,12 @@
+//! Questions in mode `best`: the right reply to one, which is what is found of the factors of `prove E >= F`, and its line.
+#![tactic(auto)]
+
+mod laws;
+mod lines;
+mod replying;
+mod types;
+
+pub use laws::{factors_are_true, replies_are_determined};
+pub use lines::reply_line;
+pub use replying::reply;
+pub use types::{RepliedProblem, Reply};

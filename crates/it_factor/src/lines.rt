@@ -1,0 +1,243 @@
+//! The lines of mode `best`.
+ghost use Rattle.std.specs.Prelude.{◌≡◌, ◌≤◌, ◌++◌, length, codes, decimal, IfOk, OnOk};
+ghost use Rattle.it_space.specs.Answers.{certificate_view};
+ghost use Rattle.it_question.specs.Questions.{question_body};
+ghost use Rattle.it_question.specs.Tables.{problem_names};
+ghost use Rattle.it_canon.specs.QuestionDemands.{variables_of};
+ghost use Rattle.it_print.specs.Lines.{certificate_text, origins_of};
+ghost use Rattle.it_best.specs.Ends.{best_view};
+ghost use Rattle.it_factor.specs.Lines.{AreValuesOf, IsBestPrintable, IsPrintable, IsThere, best_cause_text, best_line, factor_text, least_line, never_line, other_line, ratio_text, reply_line, unbounded_line, undecided_line};
+ghost use Rattle.it_factor.specs.Replies.{reply_view};
+
+use crate::types::Reply;
+use it_best::types::{Best, BestCause};
+use it_canon::problem_names;
+use it_print::{sum_text, values_text, write_number, write_signed};
+use it_question::types::Question;
+use it_space::{Certificate, Constraint, Point};
+use std::alloc::{AllocError, Global};
+
+/// A certificate: its scale and its sum.
+#[tactic(auto, unfolding(it_print::specs::Lines::certificate_text))]
+fn write_proof(
+    alloc: Global,
+    out: &mut Vec<u8>,
+    question: &Question,
+    constraints: &[Constraint],
+    proof: &Certificate,
+) -> Result<(), AllocError>
+    requires some { 1 ≤ variables_of (question_body question.now) }
+    requires there { IsThere (variables_of (question_body question.now)) (length constraints.now) proof.now }
+    ensures { OnOk result (out.new.items ≡ out.old.items ++ certificate_text (problem_names (question_body question.now)).variables (origins_of constraints.now) (certificate_view proof.now)) }
+{
+    write_signed(out, proof.scale)?;
+    out.extend_from_slice(b" : ")?;
+    let sum = sum_text(alloc, question, constraints, proof)?;
+    out.extend_from_slice(sum.as_slice())
+}
+
+/// A factor.
+#[tactic(auto, unfolding(crate::specs::Lines::ratio_text))]
+fn write_ratio(out: &mut Vec<u8>, num: i128, den: i128) -> Result<(), AllocError>
+    ensures { OnOk result (out.new.items ≡ out.old.items ++ ratio_text num den) }
+{
+    write_signed(out, num)?;
+    out.extend_from_slice(b"/")?;
+    write_signed(out, den)
+}
+
+/// A factor and its certificate.
+#[tactic(auto, unfolding(crate::specs::Lines::factor_text))]
+fn write_factor(
+    alloc: Global,
+    out: &mut Vec<u8>,
+    question: &Question,
+    constraints: &[Constraint],
+    num: i128,
+    den: i128,
+    proof: &Certificate,
+) -> Result<(), AllocError>
+    requires some { 1 ≤ variables_of (question_body question.now) }
+    requires there { IsThere (variables_of (question_body question.now)) (length constraints.now) proof.now }
+    ensures { OnOk result (out.new.items ≡ out.old.items ++ factor_text (problem_names (question_body question.now)).variables (origins_of constraints.now) num den (certificate_view proof.now)) }
+{
+    write_ratio(out, num, den)?;
+    out.extend_from_slice(b" ")?;
+    write_proof(alloc, out, question, constraints, proof)
+}
+
+/// The line of a least factor.
+#[tactic(auto, unfolding(crate::specs::Lines::least_line))]
+fn least_line(
+    alloc: Global,
+    k: usize,
+    question: &Question,
+    constraints: &[Constraint],
+    num: i128,
+    den: i128,
+    proof: &Certificate,
+    point: &Point,
+) -> Result<Vec<u8>, AllocError>
+    requires some { 1 ≤ variables_of (question_body question.now) }
+    requires there { IsThere (variables_of (question_body question.now)) (length constraints.now) proof.now }
+    requires point { AreValuesOf (problem_names (question_body question.now)) point.now }
+    ensures { IfOk result (λ t. t.items ≡ least_line k (problem_names (question_body question.now)) (origins_of constraints.now) num den (certificate_view proof.now) point.now) }
+{
+    let mut out = Vec::new(alloc);
+    write_number(&mut out, k)?;
+    out.extend_from_slice(b" best ")?;
+    write_factor(alloc, &mut out, question, constraints, num, den, proof)?;
+    out.extend_from_slice(b" at ")?;
+    let values = values_text(alloc, problem_names(question), point)?;
+    out.extend_from_slice(values.as_slice())?;
+    out.extend_from_slice(b"\n")?;
+    Ok(out)
+}
+
+/// The line where there is no factor.
+#[tactic(auto, unfolding(crate::specs::Lines::never_line))]
+fn never_line(
+    alloc: Global,
+    k: usize,
+    question: &Question,
+    point: &Point,
+) -> Result<Vec<u8>, AllocError>
+    requires { AreValuesOf (problem_names (question_body question.now)) point.now }
+    ensures { IfOk result (λ t. t.items ≡ never_line k (problem_names (question_body question.now)) point.now) }
+{
+    let mut out = Vec::new(alloc);
+    write_number(&mut out, k)?;
+    out.extend_from_slice(b" none ")?;
+    let values = values_text(alloc, problem_names(question), point)?;
+    out.extend_from_slice(values.as_slice())?;
+    out.extend_from_slice(b"\n")?;
+    Ok(out)
+}
+
+/// The line where there is no least factor.
+#[tactic(auto, unfolding(crate::specs::Lines::unbounded_line))]
+fn unbounded_line(
+    alloc: Global,
+    k: usize,
+    question: &Question,
+    constraints: &[Constraint],
+    num: i128,
+    den: i128,
+    proof: &Certificate,
+    below: &Certificate,
+) -> Result<Vec<u8>, AllocError>
+    requires some { 1 ≤ variables_of (question_body question.now) }
+    requires there { IsThere (variables_of (question_body question.now)) (length constraints.now) proof.now }
+    requires below { IsThere (variables_of (question_body question.now)) (length constraints.now) below.now }
+    ensures { IfOk result (λ t. t.items ≡ unbounded_line k (problem_names (question_body question.now)).variables (origins_of constraints.now) num den (certificate_view proof.now) (certificate_view below.now)) }
+{
+    let mut out = Vec::new(alloc);
+    write_number(&mut out, k)?;
+    out.extend_from_slice(b" unbounded ")?;
+    write_factor(alloc, &mut out, question, constraints, num, den, proof)?;
+    out.extend_from_slice(b" and ")?;
+    write_proof(alloc, &mut out, question, constraints, below)?;
+    out.extend_from_slice(b"\n")?;
+    Ok(out)
+}
+
+/// A number of steps with a part.
+fn write_in_part(out: &mut Vec<u8>, number: u32, part: u8) -> Result<(), AllocError>
+    ensures { OnOk result (out.new.items ≡ out.old.items ++ decimal number ++ codes " in " ++ decimal part) }
+{
+    write_number(out, number as usize)?;
+    out.extend_from_slice(b" in ")?;
+    write_number(out, part as usize)
+}
+
+/// Why the factors stay undecided.
+#[tactic(auto, unfolding(crate::specs::Lines::best_cause_text))]
+fn write_cause(out: &mut Vec<u8>, cause: BestCause) -> Result<(), AllocError>
+    ensures { OnOk result (out.new.items ≡ out.old.items ++ best_cause_text cause) }
+{
+    match cause {
+        BestCause::Pivots { steps, part } => {
+            out.extend_from_slice(b"pivots ")?;
+            write_in_part(out, steps, part)
+        }
+        BestCause::Width { step, part } => {
+            out.extend_from_slice(b"width ")?;
+            write_in_part(out, step, part)
+        }
+        BestCause::Scale => out.extend_from_slice(b"scale"),
+        BestCause::Size => out.extend_from_slice(b"size"),
+    }
+}
+
+/// The line where the factors stay undecided.
+#[tactic(auto, unfolding(crate::specs::Lines::undecided_line))]
+fn undecided_line(alloc: Global, k: usize, cause: BestCause) -> Result<Vec<u8>, AllocError>
+    ensures { IfOk result (λ t. t.items ≡ undecided_line k cause) }
+{
+    let mut out = Vec::new(alloc);
+    write_number(&mut out, k)?;
+    out.extend_from_slice(b" undecided ")?;
+    write_cause(&mut out, cause)?;
+    out.extend_from_slice(b"\n")?;
+    Ok(out)
+}
+
+/// The line of a question that isn't `prove E >= F`.
+#[tactic(auto, unfolding(crate::specs::Lines::other_line))]
+fn other_line(alloc: Global, k: usize) -> Result<Vec<u8>, AllocError>
+    ensures { IfOk result (λ t. t.items ≡ other_line k) }
+{
+    let mut out = Vec::new(alloc);
+    write_number(&mut out, k)?;
+    out.extend_from_slice(b" other\n")?;
+    Ok(out)
+}
+
+/// The line of what was found for question k.
+fn best_line(
+    alloc: Global,
+    k: usize,
+    question: &Question,
+    constraints: &[Constraint],
+    found: &Best,
+) -> Result<Vec<u8>, AllocError>
+    requires some { 1 ≤ variables_of (question_body question.now) }
+    requires printable { IsBestPrintable (problem_names (question_body question.now)) (length constraints.now) found.now }
+    ensures { IfOk result (λ t. t.items ≡ best_line k (problem_names (question_body question.now)) (origins_of constraints.now) (best_view found.now)) }
+{
+    match found {
+        Best::Least {
+            num,
+            den,
+            proof,
+            point,
+        } => least_line(alloc, k, question, constraints, *num, *den, proof, point),
+        Best::Never(point) => never_line(alloc, k, question, point),
+        Best::Unbounded {
+            num,
+            den,
+            proof,
+            below,
+        } => unbounded_line(alloc, k, question, constraints, *num, *den, proof, below),
+        Best::Undecided(cause) => undecided_line(alloc, k, *cause),
+    }
+}
+
+/// The line of a reply to question k, counted from 1. The constraints are those of the question's problem, which are the generators
+/// after the elemental inequalities.
+pub fn reply_line(
+    alloc: Global,
+    k: usize,
+    question: &Question,
+    constraints: &[Constraint],
+    reply: &Reply,
+) -> Result<Vec<u8>, AllocError>
+    requires some { 1 ≤ variables_of (question_body question.now) }
+    requires printable { IsPrintable (question_body question.now) (length constraints.now) reply.now }
+    ensures { IfOk result (λ t. t.items ≡ reply_line k (question_body question.now) (origins_of constraints.now) (reply_view reply.now)) }
+{
+    match reply {
+        Reply::Found(best) => best_line(alloc, k, question, constraints, best),
+        Reply::Other => other_line(alloc, k),
+    }
+}

@@ -1,0 +1,91 @@
+//! The replies to questions.
+ghost use Rattle.std.specs.Prelude.{◌≡◌, length, IfOk};
+ghost use Rattle.it_space.specs.Problems.{IsProblem, problem_view};
+ghost use Rattle.it_syntax.specs.Givens.{IsRelationOf};
+ghost use Rattle.it_syntax.specs.Meaning.{relation_view};
+ghost use Rattle.it_question.specs.Limits.{IsQuestion};
+ghost use Rattle.it_question.specs.Questions.{question_body};
+ghost use Rattle.it_question.specs.Tables.{problem_names};
+ghost use Rattle.it_demand.specs.Demands.{AreStated};
+ghost use Rattle.it_demand.specs.LineDemands.{space_of};
+ghost use Rattle.it_canon.specs.QuestionDemands.{IsProblemOf, question_demands};
+ghost use Rattle.it_best.specs.Ends.{best_view};
+ghost use Rattle.it_factor.specs.Replies.{reply_view};
+ghost use Rattle.it_factor.specs.RightReplies.{IsRightReply};
+ghost use Rattle.it_factor.specs.RowReplies.{IsFoundByRows};
+
+use crate::types::{RepliedProblem, Reply};
+use it_best::best;
+use it_best::types::Best;
+use it_canon::{problem, sides};
+use it_question::types::{Question, Verb};
+use it_simplex::Budget;
+use it_space::Problem;
+use it_syntax::types::{Relation, Sign};
+use std::alloc::{AllocError, Global};
+
+/// The right reply to a question, and the question's problem: to `prove E >= F` what is found of its factors, and `Other` to each
+/// other verb or sign. `pivots` is the most steps of each of the three runs; without it each goes on to its end.
+pub fn reply(
+    alloc: Global,
+    question: &Question,
+    pivots: Option<u32>,
+) -> Result<RepliedProblem, AllocError>
+    requires limits { IsQuestion (question_body question.now) }
+    ensures space { IfOk result (λ a. a.problem.space ≡ space_of (problem_names (question_body question.now))) }
+    ensures problem { IfOk result (λ a. AreStated a.problem.space (question_demands (question_body question.now)) a.problem.constraints.items) }
+    ensures right { IfOk result (λ a. IsRightReply pivots (question_body question.now) (reply_view a.reply)) }
+{
+    let problem = problem(alloc, question)?;
+    let reply = reply_under(alloc, question, &problem, budget_of(pivots))?;
+    Ok(RepliedProblem { problem, reply })
+}
+
+/// The budget of a run: so many steps, or as many as it takes.
+fn budget_of(pivots: Option<u32>) -> Budget
+    ensures { result ≡ pivots }
+{
+    match pivots {
+        Some(steps) => Budget::at_most(steps),
+        None => Budget::none(),
+    }
+}
+
+/// The reply to a question, with the question's problem.
+fn reply_under(
+    alloc: Global,
+    question: &Question,
+    problem: &Problem,
+    budget: Budget,
+) -> Result<Reply, AllocError>
+    requires limits { IsQuestion (question_body question.now) }
+    requires problem { IsProblemOf (question_body question.now) (problem_view problem.now) }
+    ensures { IfOk result (λ r. IsRightReply budget (question_body question.now) (reply_view r)) }
+{
+    match &question.verb {
+        Verb::Prove(relation) => match relation.sign {
+            Sign::AtLeast => {
+                let found = factors(alloc, problem, relation, budget)?;
+                Ok(Reply::Found(found))
+            }
+            Sign::AtMost | Sign::Equal => Ok(Reply::Other),
+        },
+        Verb::Eliminate(_) | Verb::Contain { .. } => Ok(Reply::Other),
+    }
+}
+
+/// What is found of the factors between the sides of a relation under a problem.
+fn factors(
+    alloc: Global,
+    problem: &Problem,
+    relation: &Relation,
+    budget: Budget,
+) -> Result<Best, AllocError>
+    requires problem { IsProblem (problem_view problem.now) }
+    requires relation { IsRelationOf problem.now.space.variables problem.now.space.rates (relation_view relation.now) }
+    ensures { IfOk result (λ b. IsFoundByRows (problem_view problem.now) budget (relation_view relation.now) (best_view b)) }
+{
+    let (left, right) = sides(alloc, relation, problem.space)?;
+    let found = best(alloc, problem, &left, &right, budget)?;
+    Ok(found)
+}

@@ -1,0 +1,20 @@
+//! Replies with their problems.
+use it_best::types::Best;
+use it_space::Problem;
+
+/// What is replied to a question in mode `best`.
+#[derive(Debug, Drop)]
+pub enum Reply {
+    /// To `prove E >= F`: which numbers c make c times E at least F.
+    Found(Best),
+    /// To any other verb, and to a relation with another sign.
+    Other,
+}
+
+/// The reply to a question, and the question's problem. The generators that a certificate numbers are the elemental inequalities
+/// of the problem's space, then its constraints.
+#[derive(Debug, Drop)]
+pub struct RepliedProblem {
+    pub problem: Problem,
+    pub reply: Reply,
+}
