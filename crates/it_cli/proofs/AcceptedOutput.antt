@@ -14,8 +14,9 @@ use Rattle.it_certificate.specs.Values.{answer_text}
 use Rattle.it_contain.specs.Proposals.{Plan, plan_after_all}
 use Rattle.it_answer.specs.declared.types.Budgets.{Budgets}
 use Rattle.it_cli.specs.Accepted.{OutputIsAccepted}
-use Rattle.it_cli.specs.Outputs.{IsVerdictAfter, after_verdict, verdict_text_of, verdict_status}
-use Rattle.it_cli.specs.Right.{Context, IsRightAfter, after_answer, answer_text_of, budgets_of}
+use Rattle.it_cli.specs.Modes.{Replies}
+use Rattle.it_cli.specs.Outputs.{answer_mode, check_mode, verdict_status}
+use Rattle.it_cli.specs.Right.{Context, after_answer, budgets_of}
 use Rattle.it_cli.proofs.AcceptLemmas.{right_accepted}
 use Rattle.it_cli.proofs.FeedLemmas.{split_one}
 use Rattle.it_cli.proofs.ShortTexts.{texts_are_short}
@@ -23,10 +24,10 @@ use Rattle.it_cli.proofs.ShortTexts.{texts_are_short}
 module _ (back : ReadsBack) (budgets : Budgets) (plans : List Plan) (few : IfSome budgets.pivots (λ n. n < 2 ^ 32)) (few_tries : budgets.tries < 2 ^ 32) (bytes : List ℕ) (short : length bytes ≤ 1048576) (whole : List QuestionView) (file : IsFile bytes whole) where
   -- the verdicts on these lines, from number j on
   abbrev Judges : ℕ → Bool → List (List ℕ) → Bool → List ℕ → Type 0
-  Judges j before lines some told = Groups IsVerdictAfter after_verdict verdict_text_of j before lines some told
+  Judges j before lines some told = Groups check_mode.IsRight check_mode.after check_mode.text j before lines some told
 
   none_invalid : (k j : ℕ) (front qs : List QuestionView) (s t : Context) (some : Bool) (out told : List ℕ) → whole ≡ front ++ qs → All (λ q. IsQuestion q.body) qs → All (λ q. length q.text ≤ length bytes + 1) qs
-      → Groups (IsRightAfter budgets plans) after_answer (answer_text_of Json) k s qs t out → Judges j false (split_lines out) some told → some ≡ false
+      → Groups (answer_mode budgets plans Json).IsRight after_answer (answer_mode budgets plans Json).text k s qs t out → Judges j false (split_lines out) some told → some ≡ false
   none_invalid k j front [] s t some out told e limits lengths g v = (subst (λ (o : List ℕ). Judges j false (split_lines o) some told) g.1 v).0
   none_invalid k j front (q ∷ qs) s t some out told e limits lengths g v =
       let long = All-head (λ (q : QuestionView). length q.text ≤ length bytes + 1) q qs lengths in
@@ -42,6 +43,6 @@ module _ (back : ReadsBack) (budgets : Budgets) (plans : List Plan) (few : IfSom
 
 pub output_is_accepted : ReadsBack → OutputIsAccepted
 output_is_accepted back plans pivots rows tries bytes out told answered checked few few_tries short a c =
-    let file = a.0.asked in
-    let none = none_invalid back (budgets_of pivots rows tries) plans few few_tries bytes short a.0.questions file 1 1 [] a.0.questions [] a.0.answered.0 c.0 out told refl (file_limits bytes a.0.questions file) (texts_are_short bytes a.0.questions file) a.0.answered.1 c.1 in
-    c.2 ∙ ap verdict_status none
+    let verdicts = subst (λ (lines : List (List ℕ)). Replies check_mode lines c.state told) c.asked c.replies in
+    let none = none_invalid back (budgets_of pivots rows tries) plans few few_tries bytes short a.items a.asked 1 1 [] a.items [] a.state c.state out told refl (file_limits bytes a.items a.asked) (texts_are_short bytes a.items a.asked) a.replies verdicts in
+    c.is ∙ ap verdict_status none

@@ -1,59 +1,110 @@
--- Groups that are written in part are a front of a whole output, where each item has a right answer in each state.
-use Rattle.std.proofs.Common.{◌≡◌, ℕ, zero, suc, ◌+◌, inl, inr, List, [], ◌∷◌, ◌++◌, take, drop, refl, sym, ap, subst, ◌∙◌, arith, append_assoc}
-use Rattle.it_outside.specs.Groups.{Groups, IsBegun, GroupsInPart}
+-- What is written of an output in part is a front of a whole output: in a mode where each item has a right reply in each state, and in
+-- mode `bench`.
+use Rattle.std.proofs.Common.{◌≡◌, ℕ, ◌+◌, inl, inr, List, [], ◌∷◌, ◌++◌, length, ◌⊎◌, refl, sym, ap, ap₂, subst, ◌∙◌, arith, append_assoc, append-nil}
+use Rattle.it_outside.specs.Groups.{Groups}
 use Rattle.it_outside.specs.Traffic.{IsFront}
+use Rattle.it_contain.specs.Proposals.{Plan}
+use Rattle.it_answer.specs.declared.types.Budgets.{Budgets}
+use Rattle.it_report.specs.Meaning.{EachLineIsJudged}
+use Rattle.it_cli.specs.Counts.{IsBenchLine}
+use Rattle.it_cli.specs.Laws.{CountsAreFront, VerdictsAreFront}
+use Rattle.it_cli.specs.Modes.{FirstOutput, Mode, OutputInPart, WholeOutput}
+use Rattle.it_cli.specs.Outputs.{bench_mode, check_mode}
+use Rattle.it_cli.specs.Right.{budgets_of}
+use Rattle.it_cli.specs.declared.status.Status.{Status}
+use Rattle.it_cli.specs.declared.status.Status.TheVariants.{Done}
 
-module _ {Q A S : Type 0} (right : S → Q → A → Type 0) (after : S → Q → A → S) (text : ℕ → Q → A → List ℕ) where
-  -- all groups of some items, of whose output this is a front
-  pub record IsFrontOfAll (k : ℕ) (s : S) (qs : List Q) (part : List ℕ) : Type 0 where
-    pub state : S
-    pub whole : List ℕ
-    pub groups : Groups right after text k s qs state whole
-    pub front : IsFront part whole
+-- ---- a mode where each item has a right reply in each state
 
-  -- with the text of an answer in front
-  text_in_front : (k : ℕ) (s : S) (q : Q) (qs : List Q) (a : A) (part : List ℕ) → right s q a → IsFrontOfAll (k + 1) (after s q a) qs part → IsFrontOfAll k s (q ∷ qs) (text k q a ++ part)
-  text_in_front k s q qs a part is_right f = record {
-    state = f.state;
-    whole = text k q a ++ f.whole;
-    groups = (a, f.whole, is_right, f.groups, refl);
-    front = (f.front.0, ap (λ out. text k q a ++ out) f.front.1 ∙ sym (append_assoc (text k q a) part f.front.0));
-  }
+module _ (m : Mode) (each : (s : m.State) (x : m.Item) → (reply : m.Reply) × m.IsRight s x reply) where
+  abbrev RepliesFrom : ℕ → m.State → List m.Item → m.State → List ℕ → Type 0
+  RepliesFrom k s xs t out = Groups m.IsRight m.after m.text k s xs t out
 
-  -- a front of a front
-  front_of_front : (k : ℕ) (s : S) (qs : List Q) (part text : List ℕ) → IsFront part text → IsFrontOfAll k s qs text → IsFrontOfAll k s qs part
-  front_of_front k s qs part text (rest, is) f = record {
-    state = f.state;
-    whole = f.whole;
-    groups = f.groups;
-    front = (rest ++ f.front.0, f.front.1 ∙ ap (λ out. out ++ f.front.0) is ∙ append_assoc part rest f.front.0);
-  }
+  some_replies : (k : ℕ) (s : m.State) (xs : List m.Item) → (t : m.State) × (out : List ℕ) × RepliesFrom k s xs t out
+  some_replies k s [] = (s, [], (refl, refl))
+  some_replies k s (x ∷ xs) =
+      let reply = each s x in
+      let rest = some_replies (k + 1) (m.after s x reply.0) xs in
+      (rest.0, m.text k x reply.0 ++ rest.1, (reply.0, rest.1, reply.1, rest.2, refl))
 
-  module _ (each : (s : S) (q : Q) → (a : A) × right s q a) where
-    -- nothing is a front, and so is a text that is begun, and so are groups with such a text after them
-    empty_is_front : (k : ℕ) (s : S) (qs : List Q) → IsFrontOfAll k s qs []
-    empty_is_front k s [] = record { state = s; whole = []; groups = (refl, refl); front = ([], refl) }
-    empty_is_front k s (q ∷ qs) =
-        let a = each s q in
-        front_of_front k s (q ∷ qs) [] (text k q a.0 ++ []) (text k q a.0 ++ [], refl) (text_in_front k s q qs a.0 [] a.1 (empty_is_front (k + 1) (after s q a.0) qs))
+  replies_join : (k n : ℕ) (s t u : m.State) (xs ys : List m.Item) (out more : List ℕ) → n ≡ k + length xs → RepliesFrom k s xs t out → RepliesFrom n t ys u more → RepliesFrom k s (xs ++ ys) u (out ++ more)
+  replies_join k n s t u [] ys out more e (same, none) later =
+      subst (λ (o : List ℕ). RepliesFrom k s ys u (o ++ more)) (sym none)
+      (subst (λ (v : m.State). RepliesFrom k v ys u more) same (subst (λ (i : ℕ). RepliesFrom i t ys u more) (let first : n ≡ k = omega (arith, e) in first) later))
+  replies_join k n s t u (x ∷ xs) ys out more e (reply, rest, right, groups, is) later =
+      (reply, rest ++ more, right, replies_join (k + 1) n (m.after s x reply) t u xs ys rest more (let next : n ≡ (k + 1) + length xs = omega (arith, e) in next) groups later, ap (λ o. o ++ more) is ∙ append_assoc (m.text k x reply) rest more)
 
-    begun_is_front : (k : ℕ) (s : S) (qs : List Q) (part : List ℕ) → IsBegun right text k s qs part → IsFrontOfAll k s qs part
-    begun_is_front k s [] part none = subst (IsFrontOfAll k s []) (sym none) (empty_is_front k s [])
-    begun_is_front k s (q ∷ qs) part (inl none) = subst (IsFrontOfAll k s (q ∷ qs)) (sym none) (empty_is_front k s (q ∷ qs))
-    begun_is_front k s (q ∷ qs) part (inr (a, is_right, (rest, is))) =
-        front_of_front k s (q ∷ qs) part (text k q a ++ []) (rest ++ [], ap (λ out. out ++ []) is ∙ append_assoc part rest [])
-        (text_in_front k s q qs a [] is_right (empty_is_front (k + 1) (after s q a) qs))
+  -- a front of a whole output
+  abbrev IsFrontOfWhole : List ℕ → List ℕ → Type 0
+  IsFrontOfWhole bytes out = (whole : List ℕ) × (status : Status) × WholeOutput m bytes whole status × IsFront out whole
 
-    groups_are_front : (count k n : ℕ) (s : S) (qs : List Q) (state : S) (whole part : List ℕ) → n ≡ k + count → Groups right after text k s (take count qs) state whole → IsBegun right text n state (drop count qs) part
-        → IsFrontOfAll k s qs (whole ++ part)
-    groups_are_front zero k n s qs state whole part e (same, none) begun =
-        subst (λ (w : List ℕ). IsFrontOfAll k s qs (w ++ part)) (sym none)
-        (begun_is_front k s qs part (subst (λ (t : S). IsBegun right text k t qs part) same (subst (λ (i : ℕ). IsBegun right text i state qs part) (let is : n ≡ k = omega (arith, e) in is) begun)))
-    groups_are_front (suc count) k n s [] state whole part e (same, none) begun =
-        subst (λ (w : List ℕ). IsFrontOfAll k s [] (w ++ part)) (sym none) (subst (λ (p : List ℕ). IsFrontOfAll k s [] p) (sym begun) (empty_is_front k s []))
-    groups_are_front (suc count) k n s (q ∷ qs) state whole part e (a, rest, is_right, groups, joined) begun =
-        subst (IsFrontOfAll k s (q ∷ qs)) (sym (ap (λ w. w ++ part) joined ∙ append_assoc (text k q a) rest part))
-        (text_in_front k s q qs a (rest ++ part) is_right (groups_are_front count (k + 1) n (after s q a) qs state rest part (let is : n ≡ (k + 1) + count = omega (arith, e) in is) groups begun))
+  first_is_front : (bytes out : List ℕ) → FirstOutput m bytes out → IsFrontOfWhole bytes out
+  first_is_front bytes out o =
+      let later = some_replies (1 + length o.items) o.state o.later in
+      (
+        out ++ later.1,
+        m.status later.0,
+        record { items = o.items ++ o.later; asked = o.asked; state = later.0; replies = replies_join 1 (1 + length o.items) m.start o.state later.0 o.items o.later out later.1 refl o.replies later.2; is = refl },
+        (later.1, refl),
+      )
 
-    pub part_is_front : (k : ℕ) (s : S) (qs : List Q) (out : List ℕ) → GroupsInPart right after text k s qs out → IsFrontOfAll k s qs out
-    part_is_front k s qs out g = subst (IsFrontOfAll k s qs) (sym g.is) (groups_are_front g.count k (k + g.count) s qs g.state g.whole g.part refl g.first g.next)
+  part_is_front : (bytes out : List ℕ) → OutputInPart m bytes out → IsFrontOfWhole bytes out
+  part_is_front bytes out o =
+      let later = some_replies (length o.items + 1 + 1) (m.after o.state o.next o.reply) o.later in
+      let text = m.text (length o.items + 1) o.next o.reply in
+      (
+        o.whole ++ text ++ later.1,
+        m.status later.0,
+        record {
+          items = o.items ++ o.next ∷ o.later;
+          asked = o.asked;
+          state = later.0;
+          replies = replies_join 1 (length o.items + 1) m.start o.state later.0 o.items (o.next ∷ o.later) o.whole (text ++ later.1) (omega arith) o.replies (o.reply, later.1, o.right, later.2, refl);
+          is = refl;
+        },
+        (
+          o.front.0 ++ later.1,
+          ap (λ t. o.whole ++ t ++ later.1) o.front.1 ∙ ap (λ t. o.whole ++ t) (append_assoc o.part o.front.0 later.1) ∙ sym (append_assoc o.whole o.part (o.front.0 ++ later.1)) ∙ ap (λ t. t ++ o.front.0 ++ later.1) (sym o.is),
+        ),
+      )
+
+pub verdicts_are_front : EachLineIsJudged → VerdictsAreFront
+verdicts_are_front each plans bytes out (inl first) = first_is_front check_mode (λ s line. let judged = (each 1 line).2 in (judged.verdict, judged.is)) bytes out first
+verdicts_are_front each plans bytes out (inr part) = part_is_front check_mode (λ s line. let judged = (each 1 line).2 in (judged.verdict, judged.is)) bytes out part
+
+-- ---- the line of counts
+
+none_follow : {X : Type 0} (xs ys : List X) (y : X) → xs ++ y ∷ ys ≡ [] → ⊥
+none_follow [] ys y e = cc
+none_follow (x ∷ xs) ys y e = cc
+
+module _ (budgets : Budgets) (plans : List Plan) (seed count : ℕ) (bytes : List ℕ) where
+  counts_whole : (line : List ℕ) → IsBenchLine budgets plans seed count line → WholeOutput (bench_mode budgets plans seed count) bytes line Done
+  counts_whole line is = record { items = tt ∷ []; asked = refl; state = tt; replies = (line, [], is, (refl, refl), sym (append-nil line)); is = refl }
+
+  -- what the replies to the first of the items are
+  by_items : (items later : List (Unit {0})) (state : Unit {0}) (out : List ℕ) → items ++ later ≡ tt ∷ [] → Groups (bench_mode budgets plans seed count).IsRight (bench_mode budgets plans seed count).after (bench_mode budgets plans seed count).text 1 tt items state out
+      → (out ≡ []) ⊎ IsBenchLine budgets plans seed count out
+  by_items [] later state out e (same, none) = inl none
+  by_items (x ∷ []) later state out e (line, rest, is, (same, none), joined) =
+      inr (subst (IsBenchLine budgets plans seed count) (sym (joined ∙ ap (λ r. line ++ r) none ∙ append-nil line)) is)
+  by_items (x ∷ y ∷ xs) later state out e replies = absurd (none_follow [] (xs ++ later) y (let tail : y ∷ xs ++ later ≡ [] = cc in tail))
+
+  by_first_items : (items later : List (Unit {0})) (next state : Unit {0}) (whole : List ℕ) → items ++ next ∷ later ≡ tt ∷ [] → Groups (bench_mode budgets plans seed count).IsRight (bench_mode budgets plans seed count).after (bench_mode budgets plans seed count).text 1 tt items state whole
+      → whole ≡ []
+  by_first_items [] later next state whole e (same, none) = none
+  by_first_items (x ∷ xs) later next state whole e replies = absurd (none_follow xs later next (let tail : xs ++ next ∷ later ≡ [] = cc in tail))
+
+pub counts_are_front : CountsAreFront
+counts_are_front plans seed count pivots rows tries bytes out = (
+  λ o. (
+    o.reply,
+    Done,
+    counts_whole (budgets_of pivots rows tries) plans seed count bytes o.reply o.right,
+    (o.front.0, o.front.1 ∙ ap (λ t. t ++ o.front.0) (sym (o.is ∙ ap (λ w. w ++ o.part) (by_first_items (budgets_of pivots rows tries) plans seed count bytes o.items o.later o.next o.state o.whole o.asked o.replies)))),
+  ),
+  λ o. elim (by_items (budgets_of pivots rows tries) plans seed count bytes o.items o.later o.state out o.asked o.replies) [
+    | inl nothing ↦ inl nothing
+    | inr is ↦ inr (out, Done, counts_whole (budgets_of pivots rows tries) plans seed count bytes out is, ([], sym (append-nil out)))
+  ],
+)

@@ -1,19 +1,21 @@
 -- What follows for the status of a call.
-use Rattle.std.proofs.Common.{◌≡◌, ℕ, ◌≤◌, ◌<◌, inl, inr, List, ◌++◌, length, Bool, Option, Some, None, refl, sym, ap, subst, ◌∙◌, arith}
+use Rattle.std.proofs.Common.{◌≡◌, ℕ, ◌≤◌, ◌<◌, inl, inr, List, [], ◌∷◌, ◌++◌, length, Bool, false, ◌⊎◌, Option, Some, None, refl, sym, ap, subst, ◌∙◌, arith, append-nil}
 use Rattle.it_space.proofs.OptionLemmas.{some_same}
 use Rattle.it_outside.specs.Causes.{next_count}
 use Rattle.it_outside.specs.Traffic.{Gains, Gave, GaveMore}
 use Rattle.it_outside.proofs.LawLemmas.{end_comes_last, more_was_there}
 use Rattle.it_settings.specs.declared.types.Settings.{Settings}
-use Rattle.it_settings.specs.declared.types.Settings.TheVariants.{Answer, Check, Bench}
+use Rattle.it_settings.specs.declared.types.Settings.TheVariants.{Check, Bench}
 use Rattle.it_syntax.specs.declared.types.Code.{Code}
-use Rattle.it_question.specs.Questions.{QuestionView}
-use Rattle.it_question.specs.Files.{IsFile, FileFaultAt, FileFaultIsOne, FileOrFault}
 use Rattle.it_contain.specs.Proposals.{Plan}
-use Rattle.it_cli.specs.Outputs.{IsAnswerMode, IsOutput, Verdicts, most_bytes, verdict_status}
+use Rattle.it_answer.specs.declared.types.Budgets.{Budgets}
+use Rattle.it_cli.specs.Counts.{IsBenchLine}
+use Rattle.it_cli.specs.Right.{budgets_of}
+use Rattle.it_cli.specs.Modes.{Replies, WholeOutput}
+use Rattle.it_cli.specs.Outputs.{IsOutput, bench_mode, check_mode, mode_of, most_bytes}
 use Rattle.it_cli.specs.Refusals.{fault_line}
-use Rattle.it_cli.specs.Ends.{Call, Wrote, IsReading, HasNone, IsUntouched, IsTaken, IsInput, HasLimit, HasOutput, IsTooLong, IsUnread, IsDueInPart}
-use Rattle.it_cli.specs.Laws.{BenchReadsNothing, CountsAreWritten, FaultIsDue, Headline, IsAccepted, IsComplete, LongIsDue, SureEnds, UsageIsDue, VerdictsAreWritten}
+use Rattle.it_cli.specs.Ends.{Call, Ends, Wrote, IsReading, HasNone, IsUntouched, IsTaken, IsInput, HasLimit, HasOutput, IsTooLong, IsUnread, IsDueInPart}
+use Rattle.it_cli.specs.Laws.{BenchReadsNothing, CountsAreWritten, FaultIsDue, Headline, IsComplete, IsThere, LongIsDue, ModesAreDetermined, SureEnds, UsageIsDue, VerdictsAreWritten}
 use Rattle.it_cli.specs.declared.status.Status.{Status}
 use Rattle.it_cli.specs.declared.status.Status.TheVariants.{Done, Invalid, Usage, Refused, ReadFault, WriteFault, Memory}
 
@@ -45,6 +47,19 @@ too_long_for r settings most bytes reading is e t =
     subst (λ (n : ℕ). n < length bytes) (one_limit r settings most t.most reading is t.limit)
     (more_was_there bytes r.left_after t.most (subst (λ (o : Option (List ℕ)). GaveMore o r.left_after t.most) e t.more))
 
+-- ---- a mode without an input
+
+unread_input : (r : Call) (settings s : Settings) (bytes : List ℕ) → IsReading r settings → most_bytes settings ≡ None → IsInput r s bytes → IsUntouched r
+unread_input r settings s bytes reading none input =
+    let taken : IsTaken r None bytes = subst (λ (o : Option ℕ). IsTaken r o bytes) (ap most_bytes (one_reading r s settings input.reading reading) ∙ none) input.taken in
+    taken.0
+
+no_limit : (r : Call) (settings : Settings) (most : ℕ) → IsReading r settings → most_bytes settings ≡ None → HasLimit r most → ⊥
+no_limit r settings most reading none h = some_not_none (sym h.limit ∙ ap most_bytes (one_reading r h.settings settings h.reading reading) ∙ none)
+  where
+    some_not_none : Some most ≡ None → ⊥
+    some_not_none e = cc
+
 -- ---- the usage line
 
 untouched_in_part : (r : Call) → HasNone r → IsDueInPart r → IsUntouched r
@@ -61,8 +76,9 @@ usage_is_due r Refused (faultless, inl (t, wrote)) none = absurd (has_one_or_non
 usage_is_due r Refused (faultless, inr (u, wrote)) none = absurd (has_one_or_none r u.settings u.input.reading none)
 usage_is_due r ReadFault (failed, (most, limit), wrote) none = absurd (has_one_or_none r limit.settings limit.reading none)
 usage_is_due r WriteFault (failed, part) none = (untouched_in_part r none part, inr (inl refl))
-usage_is_due r Memory (faultless, inl begun) none = absurd (has_one_or_none r begun.settings begun.reading none)
-usage_is_due r Memory (faultless, inr part) none = (untouched_in_part r none part, inr (inr refl))
+usage_is_due r Memory (faultless, inl (no_reading, untouched, wrote)) none = (untouched, inr (inr refl))
+usage_is_due r Memory (faultless, inr (inl begun)) none = absurd (has_one_or_none r begun.settings begun.reading none)
+usage_is_due r Memory (faultless, inr (inr first)) none = absurd (has_one_or_none r first.settings first.input.reading none)
 
 -- ---- an input of too many bytes
 
@@ -80,76 +96,81 @@ long_is_due r ReadFault settings most bytes ends reading is e h = inr (inl refl)
 long_is_due r WriteFault settings most bytes ends reading is e h = inr (inr (inl refl))
 long_is_due r Memory settings most bytes ends reading is e h = inr (inr (inr refl))
 
--- ---- a file with a fault
+-- ---- an input with a fault
 
-answer_limit : (settings : Settings) → IsAnswerMode settings → most_bytes settings ≡ Some 1048576
-answer_limit (Answer format pivots rows tries) mode = refl
-answer_limit Check mode = absurd mode
-answer_limit (Bench seed count pivots rows tries) mode = absurd mode
+-- what was given for this reading is what is there
+there_is_given : (r : Call) (settings s : Settings) (most : Option ℕ) (bytes given : List ℕ) → IsReading r settings → most_bytes settings ≡ most → IsThere r most bytes → IsInput r s given → given ≡ bytes
+there_is_given r settings s (Some most) bytes given reading is (e, fits) input = (input_is_given r settings s most bytes given reading is e input).0
+there_is_given r settings s None bytes given reading is none input =
+    let taken : IsTaken r None given = subst (λ (o : Option ℕ). IsTaken r o given) (ap most_bytes (one_reading r s settings input.reading reading) ∙ is) input.taken in
+    taken.1 ∙ sym none
 
--- what mode `answer` has written is of a file that has a reading
-output_has_reading : (plans : List Plan) (settings : Settings) (given out : List ℕ) (s : Status) → IsAnswerMode settings → IsOutput plans settings given out s → (qs : List QuestionView) × IsFile given qs
-output_has_reading plans (Answer format pivots rows tries) given out s mode (answers, is) = (answers.questions, answers.asked)
-output_has_reading plans Check given out s mode output = absurd mode
-output_has_reading plans (Bench seed count pivots rows tries) given out s mode output = absurd mode
+-- no limit is passed by what is there
+there_is_short : (r : Call) (settings : Settings) (most : Option ℕ) (bytes : List ℕ) → IsReading r settings → most_bytes settings ≡ most → IsThere r most bytes → IsTooLong r → ⊥
+there_is_short r settings (Some most) bytes reading is (e, fits) t = omega (arith, too_long_for r settings most bytes reading is e t)
+there_is_short r settings None bytes reading is none t = no_limit r settings t.most reading is t.limit
 
-written_has_reading : (r : Call) (s : Status) (settings : Settings) (bytes : List ℕ) → IsReading r settings → IsAnswerMode settings → r.left ≡ Some bytes → HasOutput r s → (qs : List QuestionView) × IsFile bytes qs
-written_has_reading r s settings bytes reading mode e h =
-    let file = output_has_reading r.plans h.settings h.bytes h.out s (subst IsAnswerMode (one_reading r settings h.settings reading h.input.reading) mode) h.output in
-    (file.0, subst (λ (b : List ℕ). IsFile b file.0) (input_is_given r settings h.settings 1048576 bytes h.bytes reading (answer_limit settings mode) e h.input).0 file.1)
+-- the output of the mode that the words ask for
+output_of : (r : Call) (s : Status) (settings : Settings) (h : HasOutput r s) → IsReading r settings → IsOutput r.plans settings h.bytes h.out s
+output_of r s settings h reading = subst (λ (x : Settings). IsOutput r.plans x h.bytes h.out s) (one_reading r h.settings settings h.input.reading reading) h.output
 
-fault_of : (r : Call) (settings : Settings) (most : ℕ) (bytes : List ℕ) (u : IsUnread r) → IsReading r settings → most_bytes settings ≡ Some most → r.left ≡ Some bytes → FileFaultAt bytes u.line u.column u.code
-fault_of r settings most bytes u reading is e =
-    subst (λ (b : List ℕ). FileFaultAt b u.line u.column u.code) (input_is_given r settings u.settings most bytes u.bytes reading is e u.input).0 u.fault
+-- the fault in the mode that the words ask for
+fault_of : (r : Call) (settings : Settings) (u : IsUnread r) → IsReading r settings → (mode_of r.plans settings).FaultAt u.bytes u.line u.column u.code
+fault_of r settings u reading = subst (λ (x : Settings). (mode_of r.plans x).FaultAt u.bytes u.line u.column u.code) (one_reading r u.settings settings u.input.reading reading) u.fault
 
-module _ (one_fault : FileFaultIsOne) (apart : FileOrFault) where
-  told_fault_is : (r : Call) (bytes : List ℕ) (line column : ℕ) (code : Code) (u : IsUnread r) → FileFaultAt bytes u.line u.column u.code → FileFaultAt bytes line column code
-      → Wrote r (fault_line u.line u.column u.code) → Wrote r (fault_line line column code)
-  told_fault_is r bytes line column code u at fault w =
-      let same : (u.line ≡ line) × (u.column ≡ column) × (u.code ≡ code) = one_fault bytes u.line u.column line column u.code code at fault in
+-- that of what is there
+fault_there : (r : Call) (settings : Settings) (bytes : List ℕ) (u : IsUnread r) → IsReading r settings → IsThere r (most_bytes settings) bytes → (mode_of r.plans settings).FaultAt bytes u.line u.column u.code
+fault_there r settings bytes u reading there =
+    subst (λ (b : List ℕ). (mode_of r.plans settings).FaultAt b u.line u.column u.code) (there_is_given r settings u.settings (most_bytes settings) bytes u.bytes reading refl there u.input) (fault_of r settings u reading)
+
+module _ (determined : ModesAreDetermined) where
+  no_output : (r : Call) (s : Status) (settings : Settings) (bytes : List ℕ) (line column : ℕ) (code : Code) → IsReading r settings → IsThere r (most_bytes settings) bytes → (mode_of r.plans settings).FaultAt bytes line column code
+      → HasOutput r s → ⊥
+  no_output r s settings bytes line column code reading there fault h =
+      let output = output_of r s settings h reading in
+      (determined r.plans settings).apart h.bytes output.items line column code output.asked
+      (subst (λ (b : List ℕ). (mode_of r.plans settings).FaultAt b line column code) (sym (there_is_given r settings h.settings (most_bytes settings) bytes h.bytes reading refl there h.input)) fault)
+
+  told_fault_is : (r : Call) (settings : Settings) (bytes : List ℕ) (line column : ℕ) (code : Code) (u : IsUnread r) → (mode_of r.plans settings).FaultAt bytes u.line u.column u.code
+      → (mode_of r.plans settings).FaultAt bytes line column code → Wrote r (fault_line u.line u.column u.code) → Wrote r (fault_line line column code)
+  told_fault_is r settings bytes line column code u at fault w =
+      let same : (u.line ≡ line) × (u.column ≡ column) × (u.code ≡ code) = (determined r.plans settings).one_fault bytes u.line u.column line column u.code code at fault in
       subst (λ (c : Code). Wrote r (fault_line line column c)) same.2 (subst (λ (n : ℕ). Wrote r (fault_line line n u.code)) same.1 (subst (λ (n : ℕ). Wrote r (fault_line n u.column u.code)) same.0 w))
 
   pub fault_is_due : FaultIsDue
-  fault_is_due r Done settings bytes line column code (faultless, ends) reading mode e fits fault =
-      let a = written_has_reading r Done settings bytes reading mode e ends in absurd (apart bytes a.0 line column code a.1 fault)
-  fault_is_due r Invalid settings bytes line column code (faultless, ends) reading mode e fits fault =
-      let a = written_has_reading r Invalid settings bytes reading mode e ends in absurd (apart bytes a.0 line column code a.1 fault)
-  fault_is_due r Usage settings bytes line column code (faultless, none, untouched, wrote) reading mode e fits fault = absurd (has_one_or_none r settings reading none)
-  fault_is_due r Refused settings bytes line column code (faultless, inl (t, w)) reading mode e fits fault =
-      absurd (omega (arith, too_long_for r settings 1048576 bytes reading (answer_limit settings mode) e t))
-  fault_is_due r Refused settings bytes line column code (faultless, inr (u, w)) reading mode e fits fault =
-      inl (refl, told_fault_is r bytes line column code u (fault_of r settings 1048576 bytes u reading (answer_limit settings mode) e) fault w)
-  fault_is_due r ReadFault settings bytes line column code ends reading mode e fits fault = inr (inl refl)
-  fault_is_due r WriteFault settings bytes line column code ends reading mode e fits fault = inr (inr (inl refl))
-  fault_is_due r Memory settings bytes line column code ends reading mode e fits fault = inr (inr (inr refl))
+  fault_is_due r Done settings bytes line column code (faultless, ends) reading there fault = absurd (no_output r Done settings bytes line column code reading there fault ends)
+  fault_is_due r Invalid settings bytes line column code (faultless, ends) reading there fault = absurd (no_output r Invalid settings bytes line column code reading there fault ends)
+  fault_is_due r Usage settings bytes line column code (faultless, none, untouched, wrote) reading there fault = absurd (has_one_or_none r settings reading none)
+  fault_is_due r Refused settings bytes line column code (faultless, inl (t, w)) reading there fault = absurd (there_is_short r settings (most_bytes settings) bytes reading refl there t)
+  fault_is_due r Refused settings bytes line column code (faultless, inr (u, w)) reading there fault = inl (refl, told_fault_is r settings bytes line column code u (fault_there r settings bytes u reading there) fault w)
+  fault_is_due r ReadFault settings bytes line column code ends reading there fault = inr (inl refl)
+  fault_is_due r WriteFault settings bytes line column code ends reading there fault = inr (inr (inl refl))
+  fault_is_due r Memory settings bytes line column code ends reading there fault = inr (inr (inr refl))
+
+  -- ---- completeness
+
+  pub is_complete : IsComplete
+  is_complete r Done settings bytes items (faultless, ends) reading there asked no_fault no_write_fault = inl ends
+  is_complete r Invalid settings bytes items (faultless, ends) reading there asked no_fault no_write_fault = inl ends
+  is_complete r Usage settings bytes items (faultless, none, untouched, wrote) reading there asked no_fault no_write_fault = absurd (has_one_or_none r settings reading none)
+  is_complete r Refused settings bytes items (faultless, inl (t, w)) reading there asked no_fault no_write_fault = absurd (there_is_short r settings (most_bytes settings) bytes reading refl there t)
+  is_complete r Refused settings bytes items (faultless, inr (u, w)) reading there asked no_fault no_write_fault =
+      absurd ((determined r.plans settings).apart bytes items u.line u.column u.code asked (fault_there r settings bytes u reading there))
+  is_complete r ReadFault settings bytes items (failed, limit, w) reading there asked no_fault no_write_fault = absurd (no_fault failed)
+  is_complete r WriteFault settings bytes items (failed, cut) reading there asked no_fault no_write_fault = absurd (no_write_fault failed)
+  is_complete r Memory settings bytes items ends reading there asked no_fault no_write_fault = inr refl
 
 -- ---- mode bench
-
-unread_input : (r : Call) (settings s : Settings) (bytes : List ℕ) → IsReading r settings → most_bytes settings ≡ None → IsInput r s bytes → IsUntouched r
-unread_input r settings s bytes reading none input =
-    let taken : IsTaken r None bytes = subst (λ (o : Option ℕ). IsTaken r o bytes) (ap most_bytes (one_reading r s settings input.reading reading) ∙ none) input.taken in
-    taken.0
-
-no_limit : (r : Call) (settings : Settings) (most : ℕ) → IsReading r settings → most_bytes settings ≡ None → HasLimit r most → ⊥
-no_limit r settings most reading none h = some_not_none (sym h.limit ∙ ap most_bytes (one_reading r h.settings settings h.reading reading) ∙ none)
-  where
-    some_not_none : Some most ≡ None → ⊥
-    some_not_none e = cc
-
-answer_mode_of : (r : Call) (settings : Settings) (u : IsUnread r) → IsReading r settings → IsAnswerMode settings
-answer_mode_of r settings u reading = subst IsAnswerMode (one_reading r u.settings settings u.input.reading reading) u.mode
 
 unread_in_part : (r : Call) (seed count : ℕ) (pivots : Option ℕ) (rows tries : ℕ) → IsReading r (Bench seed count pivots rows tries) → IsDueInPart r → IsUntouched r
 unread_in_part r seed count pivots rows tries reading (inl (none, untouched, front)) = untouched
 unread_in_part r seed count pivots rows tries reading (inr (inl (t, front))) = absurd (no_limit r (Bench seed count pivots rows tries) t.most reading refl t.limit)
-unread_in_part r seed count pivots rows tries reading (inr (inr (inl (u, front)))) = absurd (answer_mode_of r (Bench seed count pivots rows tries) u reading)
+unread_in_part r seed count pivots rows tries reading (inr (inr (inl (u, front)))) = absurd (fault_of r (Bench seed count pivots rows tries) u reading)
 unread_in_part r seed count pivots rows tries reading (inr (inr (inr part))) = unread_input r (Bench seed count pivots rows tries) part.settings part.bytes reading refl part.input
 
 never_invalid : (r : Call) (seed count : ℕ) (pivots : Option ℕ) (rows tries : ℕ) → IsReading r (Bench seed count pivots rows tries) → HasOutput r Invalid → ⊥
 never_invalid r seed count pivots rows tries reading h =
-    let output : IsOutput r.plans (Bench seed count pivots rows tries) h.bytes h.out Invalid =
-    subst (λ (x : Settings). IsOutput r.plans x h.bytes h.out Invalid) (one_reading r h.settings (Bench seed count pivots rows tries) h.input.reading reading) h.output in
-    invalid_not_done output.1
+    invalid_not_done (output_of r Invalid (Bench seed count pivots rows tries) h reading).is
   where
     invalid_not_done : Invalid ≡ Done → ⊥
     invalid_not_done e = cc
@@ -159,36 +180,14 @@ bench_reads_nothing r Done seed count pivots rows tries (faultless, ends) readin
 bench_reads_nothing r Invalid seed count pivots rows tries (faultless, ends) reading = absurd (never_invalid r seed count pivots rows tries reading ends)
 bench_reads_nothing r Usage seed count pivots rows tries (faultless, none, untouched, wrote) reading = absurd (has_one_or_none r (Bench seed count pivots rows tries) reading none)
 bench_reads_nothing r Refused seed count pivots rows tries (faultless, inl (t, wrote)) reading = absurd (no_limit r (Bench seed count pivots rows tries) t.most reading refl t.limit)
-bench_reads_nothing r Refused seed count pivots rows tries (faultless, inr (u, wrote)) reading = absurd (answer_mode_of r (Bench seed count pivots rows tries) u reading)
+bench_reads_nothing r Refused seed count pivots rows tries (faultless, inr (u, wrote)) reading = absurd (fault_of r (Bench seed count pivots rows tries) u reading)
 bench_reads_nothing r ReadFault seed count pivots rows tries (failed, (most, limit), wrote) reading = absurd (no_limit r (Bench seed count pivots rows tries) most reading refl limit)
 bench_reads_nothing r WriteFault seed count pivots rows tries (failed, part) reading = (unread_in_part r seed count pivots rows tries reading part, inr (inl refl))
-bench_reads_nothing r Memory seed count pivots rows tries (faultless, inl begun) reading =
+bench_reads_nothing r Memory seed count pivots rows tries (faultless, inl (none, untouched, wrote)) reading = (untouched, inr (inr refl))
+bench_reads_nothing r Memory seed count pivots rows tries (faultless, inr (inl begun)) reading =
     (begun.unread (ap most_bytes (one_reading r begun.settings (Bench seed count pivots rows tries) begun.reading reading)), inr (inr refl))
-bench_reads_nothing r Memory seed count pivots rows tries (faultless, inr part) reading = (unread_in_part r seed count pivots rows tries reading part, inr (inr refl))
-
--- ---- completeness
-
-module _ (apart : FileOrFault) where
-  not_too_long : (r : Call) (settings : Settings) → IsReading r settings → IsAccepted r.left settings → IsTooLong r → ⊥
-  not_too_long r (Answer format pivots rows tries) reading (bytes, qs, e, fits, file) t = omega (arith, too_long_for r (Answer format pivots rows tries) 1048576 bytes reading refl e t)
-  not_too_long r Check reading (bytes, e, fits) t = omega (arith, too_long_for r Check 67108864 bytes reading refl e t)
-  not_too_long r (Bench seed count pivots rows tries) reading accepted t = no_limit r (Bench seed count pivots rows tries) t.most reading refl t.limit
-
-  not_unread : (r : Call) (settings : Settings) → IsReading r settings → IsAccepted r.left settings → IsUnread r → ⊥
-  not_unread r (Answer format pivots rows tries) reading (bytes, qs, e, fits, file) u =
-      apart bytes qs u.line u.column u.code file (fault_of r (Answer format pivots rows tries) 1048576 bytes u reading refl e)
-  not_unread r Check reading accepted u = answer_mode_of r Check u reading
-  not_unread r (Bench seed count pivots rows tries) reading accepted u = answer_mode_of r (Bench seed count pivots rows tries) u reading
-
-  pub is_complete : IsComplete
-  is_complete r Done settings (faultless, ends) reading accepted no_fault no_write_fault = inl ends
-  is_complete r Invalid settings (faultless, ends) reading accepted no_fault no_write_fault = inl ends
-  is_complete r Usage settings (faultless, none, untouched, wrote) reading accepted no_fault no_write_fault = absurd (has_one_or_none r settings reading none)
-  is_complete r Refused settings (faultless, inl (t, w)) reading accepted no_fault no_write_fault = absurd (not_too_long r settings reading accepted t)
-  is_complete r Refused settings (faultless, inr (u, w)) reading accepted no_fault no_write_fault = absurd (not_unread r settings reading accepted u)
-  is_complete r ReadFault settings (failed, limit, w) reading accepted no_fault no_write_fault = absurd (no_fault failed)
-  is_complete r WriteFault settings (failed, cut) reading accepted no_fault no_write_fault = absurd (no_write_fault failed)
-  is_complete r Memory settings ends reading accepted no_fault no_write_fault = inr refl
+bench_reads_nothing r Memory seed count pivots rows tries (faultless, inr (inr first)) reading =
+    (unread_input r (Bench seed count pivots rows tries) first.settings first.bytes reading refl first.input, inr (inr refl))
 
 -- ---- no fault without a cause
 
@@ -210,39 +209,51 @@ sure_ends r Memory ends none none_written = ((λ is. cc), λ is. cc)
 gain_is_told : (before now : Option (List ℕ)) (old new out : List ℕ) → before ≡ Some old → now ≡ Some new → Gains before now out → new ≡ old ++ out
 gain_is_told before now old new out b n g = subst (λ (o : Option (List ℕ)). Gains (Some old) o out) n (subst (λ (o : Option (List ℕ)). Gains o now out) b g)
 
--- the output of the mode that the words ask for
-output_of : (r : Call) (s : Status) (settings : Settings) (h : HasOutput r s) → IsReading r settings → IsOutput r.plans settings h.bytes h.out s
-output_of r s settings h reading = subst (λ (x : Settings). IsOutput r.plans x h.bytes h.out s) (one_reading r h.settings settings h.input.reading reading) h.output
+-- the output for what the source had left
+output_is_read : (r : Call) (s : Status) (settings : Settings) (most : ℕ) (bytes old new : List ℕ) → HasOutput r s → IsReading r settings → most_bytes settings ≡ Some most
+    → r.left ≡ Some bytes → r.taken ≡ Some old → r.taken_after ≡ Some new → (out : List ℕ) × IsOutput r.plans settings bytes out s × (new ≡ old ++ out)
+output_is_read r s settings most bytes old new h reading is e taken taken_after = (
+  h.out,
+  subst (λ (b : List ℕ). IsOutput r.plans settings b h.out s) (input_is_given r settings h.settings most bytes h.bytes reading is e h.input).0 (output_of r s settings h reading),
+  gain_is_told r.taken r.taken_after old new h.out taken taken_after h.wrote,
+)
+
+-- a call that is done, with a status that says so, has its output
+has_output : (r : Call) (s : Status) → Ends r s → (s ≡ Done) ⊎ (s ≡ Invalid) → HasOutput r s
+has_output r Done (faultless, ends) is = ends
+has_output r Invalid (faultless, ends) is = ends
+has_output r Usage ends (inl is) = cc
+has_output r Usage ends (inr is) = cc
+has_output r Refused ends (inl is) = cc
+has_output r Refused ends (inr is) = cc
+has_output r ReadFault ends (inl is) = cc
+has_output r ReadFault ends (inr is) = cc
+has_output r WriteFault ends (inl is) = cc
+has_output r WriteFault ends (inr is) = cc
+has_output r Memory ends (inl is) = cc
+has_output r Memory ends (inr is) = cc
 
 pub headline : Headline
-headline r format pivots rows tries bytes old new (faultless, ends) reading e taken taken_after =
-    let same = input_is_given r (Answer format pivots rows tries) ends.settings 1048576 bytes ends.bytes reading refl e ends.input in
-    let output : IsOutput r.plans (Answer format pivots rows tries) bytes ends.out Done =
-    subst (λ (b : List ℕ). IsOutput r.plans (Answer format pivots rows tries) b ends.out Done) same.0 (output_of r Done (Answer format pivots rows tries) ends reading) in
-    (ends.out, output.0, gain_is_told r.taken r.taken_after old new ends.out taken taken_after ends.wrote)
-
-verdicts_by_output : (r : Call) (s : Status) (bytes old new : List ℕ) → HasOutput r s → IsReading r Check → r.left ≡ Some bytes → r.taken ≡ Some old → r.taken_after ≡ Some new
-    → (some_invalid : Bool) × (out : List ℕ) × Verdicts bytes some_invalid out × (new ≡ old ++ out) × (s ≡ verdict_status some_invalid)
-verdicts_by_output r s bytes old new h reading e taken taken_after =
-    let same = input_is_given r Check h.settings 67108864 bytes h.bytes reading refl e h.input in
-    let output : IsOutput r.plans Check bytes h.out s = subst (λ (b : List ℕ). IsOutput r.plans Check b h.out s) same.0 (output_of r s Check h reading) in
-    (output.0, h.out, output.1, gain_is_told r.taken r.taken_after old new h.out taken taken_after h.wrote, output.2)
+headline r s settings most bytes old new ends is reading limit e taken taken_after = output_is_read r s settings most bytes old new (has_output r s ends is) reading limit e taken taken_after
 
 pub verdicts_are_written : VerdictsAreWritten
-verdicts_are_written r Done bytes old new (faultless, ends) is reading e taken taken_after = verdicts_by_output r Done bytes old new ends reading e taken taken_after
-verdicts_are_written r Invalid bytes old new (faultless, ends) is reading e taken taken_after = verdicts_by_output r Invalid bytes old new ends reading e taken taken_after
-verdicts_are_written r Usage bytes old new ends (inl is) reading e taken taken_after = cc
-verdicts_are_written r Usage bytes old new ends (inr is) reading e taken taken_after = cc
-verdicts_are_written r Refused bytes old new ends (inl is) reading e taken taken_after = cc
-verdicts_are_written r Refused bytes old new ends (inr is) reading e taken taken_after = cc
-verdicts_are_written r ReadFault bytes old new ends (inl is) reading e taken taken_after = cc
-verdicts_are_written r ReadFault bytes old new ends (inr is) reading e taken taken_after = cc
-verdicts_are_written r WriteFault bytes old new ends (inl is) reading e taken taken_after = cc
-verdicts_are_written r WriteFault bytes old new ends (inr is) reading e taken taken_after = cc
-verdicts_are_written r Memory bytes old new ends (inl is) reading e taken taken_after = cc
-verdicts_are_written r Memory bytes old new ends (inr is) reading e taken taken_after = cc
+verdicts_are_written r s bytes old new ends is reading e taken taken_after =
+    let h = headline r s Check 67108864 bytes old new ends is reading refl e taken taken_after in
+    (h.1.state, h.0, subst (λ (lines : List (List ℕ)). Replies check_mode lines h.1.state h.0) h.1.asked h.1.replies, h.2, h.1.is)
+
+-- the whole output of mode `bench` is its line
+by_one_item : (budgets : Budgets) (plans : List Plan) (seed count : ℕ) (items : List (Unit {0})) (state : Unit {0}) (out : List ℕ) → items ≡ tt ∷ [] → Replies (bench_mode budgets plans seed count) items state out → IsBenchLine budgets plans seed count out
+by_one_item budgets plans seed count items state out is replies =
+    let one = subst (λ (xs : List (Unit {0})). Replies (bench_mode budgets plans seed count) xs state out) is replies in
+    subst (IsBenchLine budgets plans seed count) (sym (one.4 ∙ ap (λ rest. one.0 ++ rest) one.3.1 ∙ append-nil one.0)) one.2
+
+line_of_output : (budgets : Budgets) (plans : List Plan) (seed count : ℕ) (bytes out : List ℕ) (s : Status) → WholeOutput (bench_mode budgets plans seed count) bytes out s → IsBenchLine budgets plans seed count out
+line_of_output budgets plans seed count bytes out s o = by_one_item budgets plans seed count o.items o.state out o.asked o.replies
 
 pub counts_are_written : CountsAreWritten
-counts_are_written r seed count pivots rows tries old new (faultless, ends) reading taken taken_after =
-    let output = output_of r Done (Bench seed count pivots rows tries) ends reading in
-    (ends.out, output.0, gain_is_told r.taken r.taken_after old new ends.out taken taken_after ends.wrote, unread_input r (Bench seed count pivots rows tries) ends.settings ends.bytes reading refl ends.input)
+counts_are_written r seed count pivots rows tries old new (faultless, h) reading taken taken_after = (
+  h.out,
+  line_of_output (budgets_of pivots rows tries) r.plans seed count h.bytes h.out Done (output_of r Done (Bench seed count pivots rows tries) h reading),
+  gain_is_told r.taken r.taken_after old new h.out taken taken_after h.wrote,
+  unread_input r (Bench seed count pivots rows tries) h.settings h.bytes reading refl h.input,
+)

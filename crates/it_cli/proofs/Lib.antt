@@ -1,5 +1,6 @@
 pub mod RateLemmas
 pub mod LineLemmas
+pub mod ReplyLemmas
 pub mod RightLemmas
 pub mod CountLemmas
 pub mod StepLemmas

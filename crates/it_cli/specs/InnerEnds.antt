@@ -4,15 +4,13 @@ use Rattle.it_outside.specs.Causes.{next_count}
 use Rattle.it_outside.specs.Traffic.{Gains, TookFront}
 use Rattle.it_syntax.specs.declared.types.Code.{Code}
 use Rattle.it_question.specs.Questions.{QuestionView}
-use Rattle.it_question.specs.Files.{FileFaultAt}
 use Rattle.it_settings.specs.declared.types.Format.{Format}
-use Rattle.it_settings.specs.declared.types.Settings.{Settings}
 use Rattle.it_contain.specs.Proposals.{Plan, plan_after_all}
 use Rattle.it_answer.specs.declared.types.Budgets.{Budgets}
 use Rattle.it_answer.specs.Replies.{Reply}
 use Rattle.it_answer.specs.RightAnswers.{IsRightAnswer}
-use Rattle.it_cli.specs.Right.{AreAnswered, AreAnsweredInPart, answer_text_of}
-use Rattle.it_cli.specs.Outputs.{IsAnswerMode, IsOutput, IsOutputInPart}
+use Rattle.it_cli.specs.Right.{answer_lines}
+use Rattle.it_cli.specs.Modes.{FirstOutput, Mode, OutputInPart, WholeOutput}
 use Rattle.it_cli.specs.Refusals.{fault_line}
 use Rattle.it_cli.specs.declared.status.Status.{Status}
 use Rattle.it_cli.specs.declared.status.Status.TheVariants.{Done, Invalid, Refused, WriteFault, Memory}
@@ -31,49 +29,39 @@ pub record IsAnswerText (budgets : Budgets) (plans : List Plan) (format : Format
   pub reply : Reply
   pub right : IsRightAnswer budgets plans q.body reply
   pub learned : plans_after ≡ map (plan_after_all reply.found) plans
-  pub is : bytes ≡ answer_text_of format k q reply
-
--- some of the answers stand in the sink
-pub record AnswersInPart (budgets : Budgets) (plans : List Plan) (format : Format) (old new : Option (List ℕ)) (qs : List QuestionView) : Type 0 where
-  pub out : List ℕ
-  pub answered : AreAnsweredInPart budgets plans format qs out
-  pub wrote : Gains old new out
-
--- all of them do
-pub record AllAnswers (budgets : Budgets) (plans : List Plan) (format : Format) (old new : Option (List ℕ)) (qs : List QuestionView) : Type 0 where
-  pub out : List ℕ
-  pub answered : AreAnswered budgets plans format qs out
-  pub wrote : Gains old new out
-
--- what was done for these questions
-abbrev pub EndOfAnswers : Budgets → List Plan → Format → Option (List ℕ) → Option (List ℕ) → ℕ → ℕ → List QuestionView → Status → Type 0
-EndOfAnswers budgets plans format old new before now qs Done = (now ≡ before) × AllAnswers budgets plans format old new qs
-EndOfAnswers budgets plans format old new before now qs WriteFault = (now ≡ next_count before) × AnswersInPart budgets plans format old new qs
-EndOfAnswers budgets plans format old new before now qs Memory = (now ≡ before) × AnswersInPart budgets plans format old new qs
-EndOfAnswers budgets plans format old new before now qs _ = ⊥
+  pub is : bytes ≡ answer_lines format k q reply.answer
 
 -- the line with which bytes are refused, that of their first fault
-abbrev pub IsRefusal : List ℕ → List ℕ → Type 0
-IsRefusal bytes text = (line : ℕ) × (column : ℕ) × (code : Code) × FileFaultAt bytes line column code × (text ≡ fault_line line column code)
+abbrev pub IsRefusal : Mode → List ℕ → List ℕ → Type 0
+IsRefusal m bytes text = (line : ℕ) × (column : ℕ) × (code : Code) × m.FaultAt bytes line column code × (text ≡ fault_line line column code)
 
--- a whole output of a mode stands in the sink
-pub record WroteOutput (plans : List Plan) (old new : Option (List ℕ)) (settings : Settings) (bytes : List ℕ) (status : Status) : Type 0 where
+-- the whole output of a mode stands in the sink
+pub record WroteWhole (m : Mode) (old new : Option (List ℕ)) (bytes : List ℕ) (status : Status) : Type 0 where
   pub out : List ℕ
-  pub output : IsOutput plans settings bytes out status
+  pub output : WholeOutput m bytes out status
   pub wrote : Gains old new out
 
--- a part of an output of a mode stands in the sink
-pub record WroteInPart (plans : List Plan) (old new : Option (List ℕ)) (settings : Settings) (bytes : List ℕ) : Type 0 where
+-- the lines of the first items do
+pub record WroteFirst (m : Mode) (old new : Option (List ℕ)) (bytes : List ℕ) : Type 0 where
   pub out : List ℕ
-  pub output : IsOutputInPart plans settings bytes out
+  pub output : FirstOutput m bytes out
+  pub wrote : Gains old new out
+
+-- the output does in part
+pub record WroteInPart (m : Mode) (old new : Option (List ℕ)) (bytes : List ℕ) : Type 0 where
+  pub out : List ℕ
+  pub output : OutputInPart m bytes out
   pub wrote : Gains old new out
 
 -- what was done for these bytes
-abbrev pub EndOfBytes : List Plan → Option (List ℕ) → Option (List ℕ) → ℕ → ℕ → Settings → List ℕ → Status → Type 0
-EndOfBytes plans old new before now settings bytes Refused = (now ≡ before) × IsAnswerMode settings × (text : List ℕ) × IsRefusal bytes text × Gains old new text
-EndOfBytes plans old new before now settings bytes WriteFault = (now ≡ next_count before)
-    × ((IsAnswerMode settings × (text : List ℕ) × IsRefusal bytes text × TookFront old new text) ⊎ WroteInPart plans old new settings bytes)
-EndOfBytes plans old new before now settings bytes Done = (now ≡ before) × WroteOutput plans old new settings bytes Done
-EndOfBytes plans old new before now settings bytes Invalid = (now ≡ before) × WroteOutput plans old new settings bytes Invalid
-EndOfBytes plans old new before now settings bytes Memory = (now ≡ before) × (Gains old new [] ⊎ WroteInPart plans old new settings bytes)
-EndOfBytes plans old new before now settings bytes _ = ⊥
+abbrev pub EndOfBytes : Mode → Option (List ℕ) → Option (List ℕ) → ℕ → ℕ → List ℕ → Status → Type 0
+EndOfBytes m old new before now bytes Refused = (now ≡ before) × (text : List ℕ) × IsRefusal m bytes text × Gains old new text
+EndOfBytes m old new before now bytes WriteFault = (now ≡ next_count before) × (((text : List ℕ) × IsRefusal m bytes text × TookFront old new text) ⊎ WroteInPart m old new bytes)
+EndOfBytes m old new before now bytes Done = (now ≡ before) × WroteWhole m old new bytes Done
+EndOfBytes m old new before now bytes Invalid = (now ≡ before) × WroteWhole m old new bytes Invalid
+EndOfBytes m old new before now bytes Memory = (now ≡ before) × (Gains old new [] ⊎ WroteFirst m old new bytes)
+EndOfBytes m old new before now bytes _ = ⊥
+
+-- what was done for these items, whichever bytes ask for them
+abbrev pub EndOfItems : (m : Mode) → Option (List ℕ) → Option (List ℕ) → ℕ → ℕ → List m.Item → Status → Type 0
+EndOfItems m old new before now items s = (bytes : List ℕ) → m.Asks bytes items → EndOfBytes m old new before now bytes s

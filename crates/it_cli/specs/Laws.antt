@@ -1,22 +1,22 @@
 -- What follows from how a call ends and from what a right answer is.
 use Rattle.std.specs.Prelude.{◌≡◌, ℕ, ◌+◌, ◌≤◌, ◌<◌, List, [], ◌++◌, length, Bool, ◌⊎◌, Option, Some, None}
-use Rattle.it_settings.specs.declared.types.Format.{Format}
 use Rattle.it_settings.specs.declared.types.Settings.{Settings}
-use Rattle.it_settings.specs.declared.types.Settings.TheVariants.{Answer, Check, Bench}
+use Rattle.it_settings.specs.declared.types.Settings.TheVariants.{Check, Bench}
 use Rattle.it_space.specs.Answers.AnswerView.{Undecided}
 use Rattle.it_space.specs.declared.answers.Cause.TheVariants.{Pivots}
 use Rattle.it_syntax.specs.declared.types.Code.{Code}
 use Rattle.it_question.specs.Questions.{BodyView, QuestionView}
-use Rattle.it_question.specs.Files.{IsFile, FileFaultAt}
+use Rattle.it_question.specs.Files.{IsFile}
 use Rattle.it_region.specs.declared.types.Candidate.{Candidate}
 use Rattle.it_contain.specs.Proposals.{Plan}
 use Rattle.it_answer.specs.declared.types.Budgets.{Budgets}
 use Rattle.it_answer.specs.RightAnswers.{IsRightAnswer}
-use Rattle.it_cli.specs.Right.{Answers, budgets_of}
+use Rattle.it_cli.specs.Right.{budgets_of}
 use Rattle.it_gen.specs.GeneratedFiles.{generated_file}
 use Rattle.it_cli.specs.Counts.{AreCounted, IsBenchLine, no_counts}
 use Rattle.it_cli.specs.declared.counts.Counts.{Counts}
-use Rattle.it_cli.specs.Outputs.{IsAnswerMode, IsOutput, Verdicts, most_bytes, verdict_status}
+use Rattle.it_cli.specs.Modes.{IsDetermined}
+use Rattle.it_cli.specs.Outputs.{IsFirstOutput, IsFrontOfOutput, IsOutput, IsOutputInPart, Verdicts, mode_of, most_bytes, verdict_status}
 use Rattle.it_cli.specs.Refusals.{long_line, fault_line}
 use Rattle.it_cli.specs.Ends.{Call, Ends, IsReading, HasNone, IsUntouched, ReadFailed, WriteFailed, Wrote, HasOutput}
 use Rattle.it_cli.specs.declared.status.Status.{Status}
@@ -24,11 +24,12 @@ use Rattle.it_cli.specs.declared.status.Status.TheVariants.{Done, Invalid, Usage
 
 -- ---- what a call that is done has written
 
--- The headline: where source and sink tell their bytes, in mode `answer` the sink gained right answers for all that the source gave.
+-- The headline: where source and sink tell their bytes, in each mode with an input the sink gained the whole output for all that the
+-- source gave; in mode `answer` that is right answers to all its questions.
 abbrev pub Headline : Type 0
-Headline = (r : Call) (format : Format) (pivots : Option ℕ) (rows tries : ℕ) (bytes old new : List ℕ) → Ends r Done → IsReading r (Answer format pivots rows tries)
+Headline = (r : Call) (s : Status) (settings : Settings) (most : ℕ) (bytes old new : List ℕ) → Ends r s → (s ≡ Done) ⊎ (s ≡ Invalid) → IsReading r settings → most_bytes settings ≡ Some most
     → r.left ≡ Some bytes → r.taken ≡ Some old → r.taken_after ≡ Some new
-    → (out : List ℕ) × Answers (budgets_of pivots rows tries) r.plans format bytes out × (new ≡ old ++ out)
+    → (out : List ℕ) × IsOutput r.plans settings bytes out s × (new ≡ old ++ out)
 
 -- In mode `check` it gained the verdict on each line, and the status says whether one is invalid.
 abbrev pub VerdictsAreWritten : Type 0
@@ -44,16 +45,15 @@ CountsAreWritten = (r : Call) (seed count : ℕ) (pivots : Option ℕ) (rows tri
 
 -- ---- completeness
 
--- what a mode has an output for: a question file and any report, each given whole; mode `bench` needs no input
-abbrev pub IsAccepted : Option (List ℕ) → Settings → Type 0
-IsAccepted left (Answer format pivots rows tries) = (bytes : List ℕ) × (qs : List QuestionView) × (left ≡ Some bytes) × (length bytes ≤ 1048576) × IsFile bytes qs
-IsAccepted left Check = (bytes : List ℕ) × (left ≡ Some bytes) × (length bytes ≤ 67108864)
-IsAccepted left (Bench seed count pivots rows tries) = Unit {0}
+-- the source has these bytes and no more, and they are few enough for the mode; one without an input takes none
+abbrev pub IsThere : Call → Option ℕ → List ℕ → Type 0
+IsThere r (Some most) bytes = (r.left ≡ Some bytes) × (length bytes ≤ most)
+IsThere r None bytes = bytes ≡ []
 
--- With a reading, an input that is accepted, and no fault, the whole output is written or memory is wanted.
+-- With a reading, an input in which the mode is asked something, and no fault, the whole output is written or memory is wanted.
 abbrev pub IsComplete : Type 0
-IsComplete = (r : Call) (s : Status) (settings : Settings) → Ends r s → IsReading r settings → IsAccepted r.left settings
-    → (ReadFailed r → ⊥) → (WriteFailed r → ⊥)
+IsComplete = (r : Call) (s : Status) (settings : Settings) (bytes : List ℕ) (items : List (mode_of r.plans settings).Item) → Ends r s → IsReading r settings
+    → IsThere r (most_bytes settings) bytes → (mode_of r.plans settings).Asks bytes items → (ReadFailed r → ⊥) → (WriteFailed r → ⊥)
     → HasOutput r s ⊎ (s ≡ Memory)
 
 -- A source and a sink whose counts of faults are 0, as those that never fail, give neither status of a fault.
@@ -72,10 +72,10 @@ LongIsDue = (r : Call) (s : Status) (settings : Settings) (most : ℕ) (bytes : 
     → r.left ≡ Some bytes → most < length bytes
     → ((s ≡ Refused) × Wrote r long_line) ⊎ ((s ≡ ReadFault) ⊎ ((s ≡ WriteFault) ⊎ (s ≡ Memory)))
 
--- an input that is to be a question file and has a fault has the line of its fault
+-- an input that has a fault in the mode has the line of its first one
 abbrev pub FaultIsDue : Type 0
-FaultIsDue = (r : Call) (s : Status) (settings : Settings) (bytes : List ℕ) (line column : ℕ) (code : Code) → Ends r s → IsReading r settings → IsAnswerMode settings
-    → r.left ≡ Some bytes → length bytes ≤ 1048576 → FileFaultAt bytes line column code
+FaultIsDue = (r : Call) (s : Status) (settings : Settings) (bytes : List ℕ) (line column : ℕ) (code : Code) → Ends r s → IsReading r settings
+    → IsThere r (most_bytes settings) bytes → (mode_of r.plans settings).FaultAt bytes line column code
     → ((s ≡ Refused) × Wrote r (fault_line line column code)) ⊎ ((s ≡ ReadFault) ⊎ ((s ≡ WriteFault) ⊎ (s ≡ Memory)))
 
 -- mode `bench` leaves the source as it was, whatever the status, and refuses nothing
@@ -91,6 +91,10 @@ CountsAddUp = (budgets : Budgets) (plans : List Plan) (seed count : ℕ) (questi
     → IsFile (generated_file seed count) questions → AreCounted budgets plans [] no_counts questions counts
     → (counts.yes + counts.no + counts.undecided ≡ count) × (counts.regions ≡ 0) × (counts.contained ≡ 0) × (counts.left_open ≡ 0)
 
+-- in each mode bytes ask for one list of items, or have one first fault, and not both; and an item has one right reply in a state
+abbrev pub ModesAreDetermined : Type 0
+ModesAreDetermined = (plans : List Plan) (settings : Settings) → IsDetermined (mode_of plans settings)
+
 -- an input has one output, and one status after it
 abbrev pub OneOutput : Type 0
 OneOutput = (plans : List Plan) (settings : Settings) (bytes out other : List ℕ) (s t : Status) → IsOutput plans settings bytes out s → IsOutput plans settings bytes other t
@@ -100,3 +104,15 @@ OneOutput = (plans : List Plan) (settings : Settings) (bytes out other : List �
 abbrev pub NoLineIsOutOfSteps : Type 0
 NoLineIsOutOfSteps = (budgets : Budgets) (plans : List Plan) (q : BodyView) (steps : ℕ) (found : List Candidate) → budgets.pivots ≡ None
     → IsRightAnswer budgets plans q (record { answer = Undecided (Pivots steps); found = found }) → ⊥
+
+-- ---- what is written in part
+
+-- what is written of the verdicts on a report, whichever way they are cut off, is a front of a whole output
+abbrev pub VerdictsAreFront : Type 0
+VerdictsAreFront = (plans : List Plan) (bytes out : List ℕ) → IsFirstOutput plans Check bytes out ⊎ IsOutputInPart plans Check bytes out → IsFrontOfOutput plans Check bytes out
+
+-- what is written of the line of counts where a write fails is a front of a whole output; where memory is wanted, nothing or a whole output
+abbrev pub CountsAreFront : Type 0
+CountsAreFront = (plans : List Plan) (seed count : ℕ) (pivots : Option ℕ) (rows tries : ℕ) (bytes out : List ℕ)
+    → (IsOutputInPart plans (Bench seed count pivots rows tries) bytes out → IsFrontOfOutput plans (Bench seed count pivots rows tries) bytes out)
+    × (IsFirstOutput plans (Bench seed count pivots rows tries) bytes out → (out ≡ []) ⊎ IsFrontOfOutput plans (Bench seed count pivots rows tries) bytes out)

@@ -1,6 +1,7 @@
 pub mod Refusals
 pub mod Right
 pub mod Counts
+pub mod Modes
 pub mod Outputs
 pub mod Ends
 pub mod Shown

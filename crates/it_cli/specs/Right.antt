@@ -1,6 +1,5 @@
--- The lines of right answers to questions in order.
-use Rattle.std.specs.Prelude.{ℕ, List, [], ◌++◌, map, Option, codes}
-use Rattle.it_outside.specs.Groups.{Groups, GroupsInPart}
+-- Right answers to questions in order, and the lines of each.
+use Rattle.std.specs.Prelude.{ℕ, List, ◌++◌, map, Option, codes}
 use Rattle.it_settings.specs.declared.types.Format.{Format}
 use Rattle.it_settings.specs.declared.types.Format.TheVariants.{Text, Json, Proof}
 use Rattle.it_space.specs.declared.problems.Origin.{Origin}
@@ -9,7 +8,6 @@ use Rattle.it_space.specs.Rows.{Terms}
 use Rattle.it_space.specs.Spaces.{size_of}
 use Rattle.it_polymatroid.specs.Certificates.{Form}
 use Rattle.it_elemental.specs.Generators.{Generator}
-use Rattle.it_question.specs.Files.{IsFile}
 use Rattle.it_question.specs.Questions.{BodyView, QuestionView}
 use Rattle.it_demand.specs.Demands.{Demand}
 use Rattle.it_demand.specs.LineDemands.{space_of}
@@ -70,23 +68,3 @@ abbrev pub answer_lines : Format → ℕ → QuestionView → AnswerView → Lis
 answer_lines Text k q a = answer_line k q.body (question_origins q.body) a
 answer_lines Json k q a = json_line q a
 answer_lines Proof k q a = proof_text k q.body (question_origins q.body) (question_generators q.body) (map (terms_in q.body) (answer_forms q.body a)) a
-
--- the lines of a reply to question k
-abbrev pub answer_text_of : Format → ℕ → QuestionView → Reply → List ℕ
-answer_text_of format k q reply = answer_lines format k q reply.answer
-
--- ---- the output of a file
-
--- one right answer for each question in order
-abbrev pub AreAnswered : Budgets → List Plan → Format → List QuestionView → List ℕ → Type 0
-AreAnswered budgets plans format qs out = (found : Context) × Groups (IsRightAfter budgets plans) after_answer (answer_text_of format) 1 [] qs found out
-
--- right answers to the first questions, and then a front of the lines of a right answer to the next
-abbrev pub AreAnsweredInPart : Budgets → List Plan → Format → List QuestionView → List ℕ → Type 0
-AreAnsweredInPart budgets plans format qs out = GroupsInPart (IsRightAfter budgets plans) after_answer (answer_text_of format) 1 [] qs out
-
--- the lines of one right answer for each of the file's questions
-pub record Answers (budgets : Budgets) (plans : List Plan) (format : Format) (bytes out : List ℕ) : Type 0 where
-  pub questions : List QuestionView
-  pub asked : IsFile bytes questions
-  pub answered : AreAnswered budgets plans format questions out

@@ -1,6 +1,5 @@
 //! Mode `answer`: a question file and its answers.
 ghost use Rattle.std.specs.Prelude.{◌≡◌, ◌≤◌, length, map, All, IfOk, IsAscii};
-ghost use Rattle.it_settings.specs.declared.types.Settings.TheVariants as settings;
 ghost use Rattle.it_space.specs.Answers.{answer_view};
 ghost use Rattle.it_question.specs.AsciiTexts.{IsAsciiQuestion};
 ghost use Rattle.it_question.specs.Limits.{IsQuestion};
@@ -13,7 +12,8 @@ ghost use Rattle.it_answer.specs.AnswerForms.{IsAnswerTo, answer_forms};
 ghost use Rattle.it_print.specs.Lines.{IsPrintable, answer_line, origins_of};
 ghost use Rattle.it_print.specs.ProofLines.{generator_rows, proof_text};
 ghost use Rattle.it_certificate.specs.Values.{IsWritable};
-ghost use Rattle.it_cli.specs.InnerEnds.{EndOfAnswers, EndOfBytes, EndOfLineOrMemory, IsAnswerText};
+ghost use Rattle.it_cli.specs.InnerEnds.{EndOfBytes, EndOfItems, EndOfLineOrMemory, IsAnswerText};
+ghost use Rattle.it_cli.specs.Outputs.{answer_mode};
 ghost use Rattle.it_cli.specs.Refusals.{fault_line};
 ghost use Rattle.it_cli.specs.Right.{answer_lines, json_line, terms_in};
 
@@ -42,7 +42,7 @@ pub fn answer_file<K: Sink>(
     sink: &mut K,
 ) -> Status
     requires { length bytes.now ≤ 1048576 }
-    ensures { EndOfBytes (map plan boxes.old.items) (K.taken sink.old) (K.taken sink.new) (K.faults sink.old) (K.faults sink.new) (settings.Answer format budgets.pivots budgets.rows budgets.tries) bytes.now result }
+    ensures { EndOfBytes (answer_mode budgets (map plan boxes.old.items) format) (K.taken sink.old) (K.taken sink.new) (K.faults sink.old) (K.faults sink.new) bytes.now result }
 {
     match questions(alloc, bytes) {
         Ok(questions) => answer_all(alloc, format, budgets, questions.as_slice(), boxes, sink),
@@ -62,7 +62,7 @@ fn answer_all<K: Sink>(
 ) -> Status
     requires limits { All (λ q. IsQuestion (question_body q)) questions.now }
     requires ascii { All IsAsciiQuestion (map question_view questions.now) }
-    ensures { EndOfAnswers budgets (map plan boxes.old.items) format (K.taken sink.old) (K.taken sink.new) (K.faults sink.old) (K.faults sink.new) (map question_view questions.now) result }
+    ensures { EndOfItems (answer_mode budgets (map plan boxes.old.items) format) (K.taken sink.old) (K.taken sink.new) (K.faults sink.old) (K.faults sink.new) (map question_view questions.now) result }
 {
     for (i, question) in questions.iter().enumerate() {
         let Ok(text) = answer_one(alloc, format, budgets, i + 1, question, boxes) else {

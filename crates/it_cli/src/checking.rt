@@ -1,21 +1,18 @@
 //! Mode `check`: a report and its verdicts.
-ghost use Rattle.std.specs.Prelude.{◌≡◌, List};
-ghost use Rattle.it_settings.specs.declared.types.Settings.TheVariants.{Check};
-ghost use Rattle.it_contain.specs.Proposals.{Plan};
+ghost use Rattle.std.specs.Prelude.{◌≡◌};
 ghost use Rattle.it_cli.specs.InnerEnds.{EndOfBytes};
-ghost use Rattle.it_cli.specs.Outputs.{verdict_status};
+ghost use Rattle.it_cli.specs.Outputs.{check_mode, verdict_status};
 
 use crate::status::Status;
 use it_outside::{Sink, write_all};
 use it_question::first_line;
-use it_report::{each_line_is_judged, judge};
+use it_report::judge;
 use std::alloc::Global;
 
 /// What is done for the bytes of a report: each verdict is written as soon as it is there.
 pub fn check_report<K: Sink>(alloc: Global, bytes: &[u8], sink: &mut K) -> Status
-    ensures { (plans : List Plan) → EndOfBytes plans (K.taken sink.old) (K.taken sink.new) (K.faults sink.old) (K.faults sink.new) Check bytes.now result }
+    ensures { EndOfBytes check_mode (K.taken sink.old) (K.taken sink.new) (K.faults sink.old) (K.faults sink.new) bytes.now result }
 {
-    each_line_is_judged();
     let mut rest = bytes;
     let mut count: usize = 0;
     let mut some_invalid = false;

@@ -2,19 +2,19 @@
 ghost use Rattle.it_answer.specs.Shows.{AContainmentIsTrue, ANoIsTrue, ARegionIsTrue, AYesIsTrue, NeededRowsAreNeeded, NeverYesAndNo};
 ghost use Rattle.it_answer.specs.RightAnswers.{AYesAscends, NoStepIsZero, OneRightAnswer};
 ghost use Rattle.it_cli.specs.Accepted.{OutputIsAccepted, ReportsAreAccepted};
-ghost use Rattle.it_cli.specs.Laws.{BenchReadsNothing, CountsAddUp, CountsAreWritten, FaultIsDue, Headline, IsComplete, LongIsDue, NoLineIsOutOfSteps, OneOutput, SureEnds, UsageIsDue, VerdictsAreWritten};
+ghost use Rattle.it_cli.specs.Laws.{BenchReadsNothing, CountsAddUp, CountsAreFront, CountsAreWritten, FaultIsDue, Headline, IsComplete, LongIsDue, ModesAreDetermined, NoLineIsOutOfSteps, OneOutput, SureEnds, UsageIsDue, VerdictsAreFront, VerdictsAreWritten};
 ghost use Rattle.it_cli.specs.Shown.{AnswersShow};
 
 use it_answer::answers_are_determined;
 use it_certificate::answers_read_back;
 use it_gen::generated_is_file;
 use it_question::file_is_one;
-use it_report::verdict_is_one;
+use it_report::{each_line_is_judged, verdict_is_one};
 
-/// What a call that is done has written: right answers to all that the source gave, or the verdicts on it, or the counts of right
-/// answers to a generated file.
+/// What a call that is done has written: in each mode with an input the whole output for all that the source gave, so in mode `check`
+/// the verdicts on it, and in mode `bench` the counts of right answers to a generated file.
 pub fn headline()
-    ensures answers { Headline }
+    ensures output { Headline }
     ensures verdicts { VerdictsAreWritten }
     ensures counts { CountsAreWritten }
 {}
@@ -24,7 +24,7 @@ pub fn headline()
 pub fn is_complete()
     ensures { IsComplete }
 {
-    file_is_one();
+    modes_are_determined();
 }
 
 /// Over a source and a sink that never count a fault, as `SureSource` and `SureSink` of it_outside, neither status of a fault
@@ -41,7 +41,25 @@ pub fn are_due()
     ensures fault { FaultIsDue }
     ensures bench { BenchReadsNothing }
 {
+    modes_are_determined();
+}
+
+/// In each mode the bytes of an input ask for one list of items, or have one first fault, and not both; and an item has one right
+/// reply.
+pub fn modes_are_determined()
+    ensures { ModesAreDetermined }
+{
+    answers_are_determined();
     file_is_one();
+    verdict_is_one();
+}
+
+/// What modes `check` and `bench` have written of an output in part is a front of a whole output.
+pub fn parts_are_fronts()
+    ensures verdicts { VerdictsAreFront }
+    ensures counts { CountsAreFront }
+{
+    each_line_is_judged();
 }
 
 /// Each answer whose lines are written after `Done` in mode `answer` shows what it says.
@@ -72,8 +90,7 @@ pub fn output_is_determined()
     ensures output { OneOutput }
 {
     answers_are_determined();
-    file_is_one();
-    verdict_is_one();
+    modes_are_determined();
 }
 
 /// The counts of mode `bench` are of yes, no and undecided alone, and sum to the count of questions.

@@ -4,7 +4,7 @@ ghost use Rattle.std.specs.Option.{IfSome};
 ghost use Rattle.it_settings.specs.Settings.{AreInRange, settings_of};
 ghost use Rattle.it_cli.specs.Ends.{Ends, call_of};
 ghost use Rattle.it_cli.specs.InnerEnds.{EndOfBytes};
-ghost use Rattle.it_cli.specs.Outputs.{most_bytes};
+ghost use Rattle.it_cli.specs.Outputs.{mode_of, most_bytes};
 ghost use Rattle.it_cli.specs.Right.{budgets_of};
 
 use crate::answering::answer_file;
@@ -128,7 +128,7 @@ fn reply<K: Sink>(
 ) -> Status
     requires ranges { AreInRange settings }
     requires fits { IfSome (most_bytes settings) (λ most. length bytes.now ≤ most) }
-    ensures { EndOfBytes (map plan boxes.old.items) (K.taken sink.old) (K.taken sink.new) (K.faults sink.old) (K.faults sink.new) settings bytes.now result }
+    ensures { EndOfBytes (mode_of (map plan boxes.old.items) settings) (K.taken sink.old) (K.taken sink.new) (K.faults sink.old) (K.faults sink.new) bytes.now result }
 {
     match settings {
         Settings::Answer {

@@ -1,24 +1,24 @@
-use Rattle.std.proofs.Common.{arith, ap, refl, ◌∙◌}
+use Rattle.std.proofs.Common.{arith, ap, inr, refl, ◌∙◌}
 use Rattle.std.proofs.lemmas.List.{length-map}
 use Rattle.it_outside.specs.Causes.{next_count}
 use Rattle.it_question.specs.AsciiTexts.{IsAsciiQuestion}
-use Rattle.it_cli.proofs.RightLemmas.{all_views, all_written, answers_more, answers_stop, none_written, some_written}
+use Rattle.it_cli.proofs.RightLemmas.{all_answered, all_views, answers_more, answers_stop, first_answered, none_answered}
 use Rattle.it_cli.proofs.answering.answer_all.Goals as goal
 
 pub loop-i-init : goal.loop-i-init
-loop-i-init g c = (none_written c.args.budgets _ c.args.format _ _, refl)
+loop-i-init g c = (none_answered c.args.budgets _ c.args.format _ _, refl)
 
 pub answer_one-requires-clause-ascii : goal.answer_one-requires-clause-ascii
 answer_one-requires-clause-ascii g c = rw c.index-questions-i.is (all_views IsAsciiQuestion c.args.questions.now c.requires.ascii c.loop-i.i c.index-questions-i.result (omega arith))
 
 pub returns-in_default : goal.returns-in_default
-returns-in_default g c = (c.loop-i.invariant.1, some_written c.args.budgets _ _ c.args.format _ _ _ c.loop-i.i c.loop-i.invariant.0)
+returns-in_default g c bytes asked = (c.loop-i.invariant.1, inr (first_answered c.args.budgets _ _ c.args.format _ _ bytes _ c.loop-i.i asked c.loop-i.invariant.0))
 
 pub returns-in_default-write_all : goal.returns-in_default-write_all
-returns-in_default-write_all g c = (
+returns-in_default-write_all g c bytes asked = (
   c.in_default-write_all.ensures.counted ∙ ap next_count c.loop-i.invariant.1,
-  answers_stop c.args.budgets _ _ _ c.args.format _ _ _ c.args.questions.now c.loop-i.i c.index-questions-i.result c.in-Ok.text.items c.as_slice.result.now c.loop-i.invariant.0 (omega arith) c.index-questions-i.is
-      c.in-Ok.ensures c.as_slice.ensures.value c.in_default-write_all.ensures.part,
+  inr (answers_stop c.args.budgets _ _ _ c.args.format _ _ _ bytes c.args.questions.now c.loop-i.i c.index-questions-i.result c.in-Ok.text.items c.as_slice.result.now asked c.loop-i.invariant.0 (omega arith) c.index-questions-i.is
+      c.in-Ok.ensures c.as_slice.ensures.value c.in_default-write_all.ensures.part),
 )
 
 pub loop-i-preserved : goal.loop-i-preserved
@@ -29,4 +29,4 @@ loop-i-preserved g c = (
 )
 
 pub returns : goal.returns
-returns g c = (c.loop-i.invariant.1, all_written c.args.budgets _ _ c.args.format _ _ _ c.loop-i.i c.loop-i.invariant.0 (simp length-map (omega arith)))
+returns g c bytes asked = (c.loop-i.invariant.1, all_answered c.args.budgets _ _ c.args.format _ _ bytes _ c.loop-i.i asked c.loop-i.invariant.0 (simp length-map (omega arith)))

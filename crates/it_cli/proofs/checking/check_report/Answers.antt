@@ -1,16 +1,16 @@
 use Rattle.std.proofs.Common.{inr, ap, ◌∙◌}
 use Rattle.it_outside.specs.Causes.{next_count}
-use Rattle.it_cli.proofs.CheckLemmas.{checked_more, checked_stops, checked_waits, checked_all, verdict_ends}
+use Rattle.it_cli.proofs.CheckLemmas.{checked_all, checked_first, checked_more, checked_stops, verdict_ends}
 use Rattle.it_cli.proofs.checking.check_report.Goals as goal
 
 pub returns-in_default : goal.returns-in_default
-returns-in_default g c plans = (c.loop-rest.invariant.1, inr (checked_waits plans _ _ c.args.bytes.now c.loop-rest.rest.now c.loop-rest.count c.loop-rest.some_invalid c.each_line_is_judged.ensures c.loop-rest.invariant.0))
+returns-in_default g c = (c.loop-rest.invariant.1, inr (checked_first _ _ c.args.bytes.now c.loop-rest.rest.now c.loop-rest.count c.loop-rest.some_invalid c.loop-rest.invariant.0))
 
 pub returns-in_default-write_all : goal.returns-in_default-write_all
-returns-in_default-write_all g c plans = (
+returns-in_default-write_all g c = (
   c.in_default-write_all.ensures.counted ∙ ap next_count c.loop-rest.invariant.1,
-  inr (checked_stops plans _ _ _ c.args.bytes.now c.loop-rest.rest.now c.first_line.result.0.now c.first_line.result.1.now c.loop-rest.count c.loop-rest.some_invalid c.in-Ok.judged.invalid c.in-Ok.judged.text.items
-      c.as_slice.result.now c.each_line_is_judged.ensures c.loop-rest.invariant.0 c.first_line.ensures.split c.in-Ok.ensures c.as_slice.ensures.value c.in_default-write_all.ensures.part),
+  inr (checked_stops _ _ _ c.args.bytes.now c.loop-rest.rest.now c.first_line.result.0.now c.first_line.result.1.now c.loop-rest.count c.loop-rest.some_invalid c.in-Ok.judged.invalid c.in-Ok.judged.text.items
+      c.as_slice.result.now c.loop-rest.invariant.0 c.first_line.ensures.split c.in-Ok.ensures c.as_slice.ensures.value c.in_default-write_all.ensures.part),
 )
 
 pub loop-rest-preserved : goal.loop-rest-preserved
@@ -21,5 +21,5 @@ loop-rest-preserved g c = (
 )
 
 pub returns : goal.returns
-returns g c plans = verdict_ends plans _ _ _ _ c.args.bytes.now c.loop-rest.some_invalid c.status_after.result c.status_after.ensures c.loop-rest.invariant.1
-    (checked_all plans _ _ c.args.bytes.now c.loop-rest.rest.now c.loop-rest.count c.loop-rest.some_invalid c.loop-rest-test.ensures c.loop-rest.invariant.0)
+returns g c = verdict_ends _ _ _ _ c.args.bytes.now c.loop-rest.some_invalid c.status_after.result c.status_after.ensures c.loop-rest.invariant.1
+    (checked_all _ _ c.args.bytes.now c.loop-rest.rest.now c.loop-rest.count c.loop-rest.some_invalid c.loop-rest-test.ensures c.loop-rest.invariant.0)

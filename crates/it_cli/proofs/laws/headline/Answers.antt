@@ -1,8 +1,8 @@
 use Rattle.it_cli.proofs.LawLemmas as proof
 use Rattle.it_cli.proofs.laws.headline.Goals as goal
 
-pub returns-clause-answers : goal.returns-clause-answers
-returns-clause-answers c = proof.headline
+pub returns-clause-output : goal.returns-clause-output
+returns-clause-output c = proof.headline
 
 pub returns-clause-verdicts : goal.returns-clause-verdicts
 returns-clause-verdicts c = proof.verdicts_are_written

@@ -8,4 +8,4 @@ pub returns-clause-ascends : goal.returns-clause-ascends
 returns-clause-ascends c = c.answers_are_determined.ensures.ascends
 
 pub returns-clause-output : goal.returns-clause-output
-returns-clause-output c = one_output c.answers_are_determined.ensures.one c.file_is_one.ensures.one c.verdict_is_one.ensures
+returns-clause-output c = one_output c.modes_are_determined.ensures
