@@ -53,7 +53,7 @@ module _ (m : Mode) (each : (s : m.State) (x : m.Item) → (reply : m.Reply) × 
       let later = some_replies (length o.items + 1 + 1) (m.after o.state o.next o.reply) o.later in
       let text = m.text (length o.items + 1) o.next o.reply in
       (
-        o.whole ++ text ++ later.1,
+        o.whole ++ (text ++ later.1),
         m.status later.0,
         record {
           items = o.items ++ o.next ∷ o.later;
@@ -64,7 +64,7 @@ module _ (m : Mode) (each : (s : m.State) (x : m.Item) → (reply : m.Reply) × 
         },
         (
           o.front.0 ++ later.1,
-          ap (λ t. o.whole ++ t ++ later.1) o.front.1 ∙ ap (λ t. o.whole ++ t) (append_assoc o.part o.front.0 later.1) ∙ sym (append_assoc o.whole o.part (o.front.0 ++ later.1)) ∙ ap (λ t. t ++ o.front.0 ++ later.1) (sym o.is),
+          ap (λ t. o.whole ++ (t ++ later.1)) o.front.1 ∙ ap (λ t. o.whole ++ t) (append_assoc o.part o.front.0 later.1) ∙ sym (append_assoc o.whole o.part (o.front.0 ++ later.1)) ∙ ap (λ t. t ++ (o.front.0 ++ later.1)) (sym o.is),
         ),
       )
 
