@@ -8,7 +8,7 @@ ghost use Rattle.it_region.specs.Pairs.{IsPair, IsContainment};
 use crate::Task;
 use indexmap::IndexSet;
 use it_contain::{
-    Candidate, Pair, Proposer, Contained, Shape, Singles, Subsets, contain, fits, obligations, pair,
+    Candidate, Contained, Pair, Proposer, Shape, Singles, Subsets, contain, fits, obligations, pair,
 };
 use it_prove::{Proof, prove};
 use it_question::types::{Question, Verb};

@@ -1,11 +1,8 @@
 -- What is read off the engine is what is read off the table that it shows.
-use Rattle.std.proofs.Common.{◌≡◌, ◌≢◌, ℕ, suc, ◌+◌, ◌-◌, ◌<◌, ◌≤◌, ◌++◌, Bool, true, false, cond, ℤ, pos, List, [], ◌∷◌, length, slice_index_or, refl, sym, ap, ap₂, ◌∙◌, arith}
+use Rattle.std.proofs.Common.{◌≡◌, ◌≢◌, ℕ, suc, ◌+◌, ◌-◌, ◌<◌, ◌≤◌, ◌++◌, ℤ, pos, List, [], ◌∷◌, length, slice_index_or, refl, sym, ap, ap₂, ◌∙◌, arith}
 use Rattle.std.proofs.lemmas.List.{append_assoc, append-nil}
-use Rattle.it_number.proofs.Ring.{ring, v, one}
-use Rattle.it_number.proofs.Ring as R
-use Rattle.it_rational.specs.Rational.{Rational, quotient, integer, minus, times, IsRatio}
+use Rattle.it_rational.specs.Rational.{Rational, quotient, integer, times, IsRatio}
 use Rattle.it_rational.proofs.Names.{quotient_names, same_value}
-use Rattle.it_rational.proofs.RationalLaws.{ring_ℚ}
 use Rattle.it_rational.proofs.Field.{field_ℚ}
 use Rattle.it_space.specs.Rows.{Terms}
 use Rattle.it_tableau.specs.TableauViews.{TableauView, height}
@@ -64,10 +61,6 @@ point_more first rows basis out k x l m e h = λ p t columns limit sg s.
     ∙ ap (λ xs. out ++ xs) (sym (ap (point_from_row field_ℚ (length basis) (length columns) p t k) here
     ∙ ap (λ i. point_value field_ℚ (length basis) (length columns) p t k ∷ point_from_row field_ℚ (length basis) (length columns) p t i (length basis - (k + 1))) there))
     ∙ h p t columns limit sg s
-
-pub signed_is : (b : Bool) (x : Rational) → cond b (minus x) x ≡ times (cond b (minus (integer (pos 1))) (integer (pos 1))) x
-signed_is true x = ring ring_ℚ (x ∷ []) (R.minus (v 0)) (R.times (R.minus one) (v 0)) refl
-signed_is false x = ring ring_ℚ (x ∷ []) (v 0) (R.times one (v 0)) refl
 
 -- all weights, all values
 pub weights_all : (columns : List Terms) (rows : List WholeRowView) (basis : List ℕ) (out : List (ℕ × Rational)) (j : ℕ) → length columns ≤ j → WeightsSoFar columns rows basis out j

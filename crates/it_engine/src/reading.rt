@@ -1,7 +1,7 @@
 //! What is read off the engine at the end of a run.
-ghost use Rattle.std.specs.Prelude.{◌≡◌, ◌≢◌, ◌<◌, [], ℕ, false, pos, cond, length, slice_index_or, IfOk};
+ghost use Rattle.std.specs.Prelude.{◌≡◌, ◌≢◌, ◌<◌, [], ℕ, false, pos, negsuc, if◌then◌else◌, length, slice_index_or, IfOk};
 ghost use Rattle.std.specs.Option.{IfNone, IfSome};
-ghost use Rattle.it_rational.specs.Rational.{minus, quotient, times, integer};
+ghost use Rattle.it_rational.specs.Rational.{quotient, times, integer};
 ghost use Rattle.it_tableau.specs.TableauViews.{height};
 ghost use Rattle.it_engine.specs.Choosing.{right_side_of};
 ghost use Rattle.it_engine.specs.Engine.{IsSafe};
@@ -72,7 +72,7 @@ pub fn weights(
 
 /// The value, or its negation.
 fn signed_value(value: Fraction, negated: bool) -> Fraction
-    ensures { result ≡ times (cond negated (minus (integer (pos 1))) (integer (pos 1))) value }
+    ensures { result ≡ times (integer (if negated then negsuc 0 else pos 1)) value }
 {
     if negated { value.neg() } else { value }
 }

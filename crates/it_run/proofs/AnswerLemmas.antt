@@ -1,7 +1,7 @@
 -- From a run on a tableau to its answer.
-use Rattle.std.proofs.Common.{◌≡◌, ℕ, pos, Bool, false, cond, List, slice_index_or, Option, Result, Ok, Err, sym, ap, ap₂, subst, ◌∙◌, arith}
+use Rattle.std.proofs.Common.{◌≡◌, ℕ, pos, negsuc, if◌then◌else◌, Bool, false, List, slice_index_or, Option, Result, Ok, Err, sym, ap, ap₂, subst, ◌∙◌, arith}
 use Rattle.std.specs.Result.{IfOk}
-use Rattle.it_rational.specs.Rational.{Rational, integer, minus}
+use Rattle.it_rational.specs.Rational.{Rational, integer}
 use Rattle.it_rational.proofs.Field.{field_ℚ}
 use Rattle.it_tableau.specs.Invariants.{HasInvariants}
 use Rattle.it_tableau.specs.TableauViews.{TableauView, height, table, KeepsFrame}
@@ -31,7 +31,7 @@ module _ (old new : TableauView) (p : FeasibilityProblem Rational) (budget : Opt
   pub by_point : (q : List Rational) → KeepsFrame old new → HasSigns old p → ReachesBy (height old) old.generator_columns budget (table old) (Point (table new))
       → (HasSigns new p → q ≡ point field_ℚ (height new) new.generator_columns p (table new)) → RunsTo (height old) old.generator_columns p budget (table old) (Point q)
   by_point q f s r e = subst (λ (q : List Rational). RunsTo (height old) old.generator_columns p budget (table old) (Point q))
-      (sym (e (λ k l. ap (λ (b : List Bool). cond (slice_index_or b k false) (minus (integer (pos 1))) (integer (pos 1))) f.negated ∙ s k (omega (arith, f.height, l)))
+      (sym (e (λ k l. ap (λ (b : List Bool). integer (if slice_index_or b k false then negsuc 0 else pos 1)) f.negated ∙ s k (omega (arith, f.height, l)))
       ∙ ap₂ (λ m n. point field_ℚ m n p (table new)) f.height f.generator_columns)) (read_run (height old) old.generator_columns p budget (table old) (Point (table new)) r)
 
 -- a start has the invariants

@@ -1,6 +1,7 @@
 pub mod BlandRule
 pub mod Ends
 pub mod RunLemmas
+pub mod SignLemmas
 pub mod Reading
 pub mod Example
 pub mod SearchLemmas

@@ -17,6 +17,7 @@ use Rattle.it_run.specs.declared.answering.Solved.{Solved}
 use Rattle.it_run.specs.declared.answering.Solved.TheVariants.{Weights, Point, Pivots, Width}
 use Rattle.it_run.proofs.BudgetLemmas.{one_end_by, right_by, within_budget}
 use Rattle.it_run.proofs.RunLemmas.{EndIsRight}
+use Rattle.it_run.proofs.SignLemmas.{minus_one}
 use Rattle.it_simplex.specs.Answers.{IsRightSolved, Solves}
 
 module _ (cs : List ℕ) (columns : List Terms) (target : Terms) (t : TableauView) (s : IsStart cs columns target t) where
@@ -24,13 +25,13 @@ module _ (cs : List ℕ) (columns : List Terms) (target : Terms) (t : TableauVie
   by_start : (P : ℕ → ℕ → SimplexTable Rational → Type 0) → P (height t) t.generator_columns (table t) → P (length cs) (length columns) (start_of cs columns target)
   by_start P x = subst (P (length cs) (length columns)) s.table_is (subst (λ (n : ℕ). P (length cs) n (table t)) s.generator_columns_are (subst (λ (m : ℕ). P m t.generator_columns (table t)) s.height_is x))
 
-  cond_of_not : (b : Bool) (x y : Rational) → cond (not b) x y ≡ cond b y x
-  cond_of_not true x y = refl
-  cond_of_not false x y = refl
+  sign_of_not : (b : Bool) → integer (if not b then negsuc 0 else pos 1) ≡ cond b (integer (pos 1)) (minus (integer (pos 1)))
+  sign_of_not true = refl
+  sign_of_not false = sym minus_one
 
   start_signs : HasSigns t (feasibility_problem cs columns target)
   start_signs k l = ap (λ b. integer (if b then negsuc 0 else pos 1)) (s.signs_are k (omega (arith, s.height_is)))
-      ∙ cond_of_not (is_at_least_zero (integer (coefficient target (slice_index_or cs k 0)))) (minus (integer (pos 1))) (integer (pos 1))
+      ∙ sign_of_not (is_at_least_zero (integer (coefficient target (slice_index_or cs k 0))))
 
   -- the tableau is the start of the question's problem
   pub start_is_of_problem : IsStartOf (feasibility_problem cs columns target) t

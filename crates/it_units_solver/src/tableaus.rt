@@ -108,11 +108,7 @@ fn a_start_has_the_rows_with_their_signs(rt: HostRuntime) -> Result<(), Fail> {
         (3, 6, 3)
     );
     assert_eq!(rt;
-        (
-            tableau.sign(0),
-            tableau.sign(1),
-            tableau.sign(2)
-        ),
+        (tableau.sign(0), tableau.sign(1), tableau.sign(2)),
         (1, 1, -1)
     );
     assert_eq!(rt;

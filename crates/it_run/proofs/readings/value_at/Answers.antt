@@ -1,22 +1,27 @@
-use Rattle.std.proofs.Common.{◌≡◌, ◌+◌, ◌∙◌, pos, cond, [], ◌∷◌, refl, sym, ap, arith}
-use Rattle.it_number.proofs.Ring.{ring, v, times, minus, one}
-use Rattle.it_rational.specs.Rational.{Rational, integer}
-use Rattle.it_rational.specs.Rational as Q
-use Rattle.it_rational.proofs.RationalLaws.{ring_ℚ}
+use Rattle.std.proofs.Common.{◌≡◌, ◌+◌, ◌∙◌, pos, Bool, if◌then◌else◌, int_lt, to_z, of_z, w8, false, slice_index_or, sym, ap, arith}
+use Rattle.it_rational.specs.Rational.{minus, times}
 use Rattle.it_tableau.specs.TableauViews.{height, table}
 use Rattle.it_run.specs.Answers.{sign_number}
+use Rattle.it_run.proofs.SignLemmas.{sign_is_negative, signed_is}
 use Rattle.it_run.proofs.readings.value_at.Goals as goal
-use Rattle.it_run.proofs.readings.value_at.Goals.{After-is_negated}
+use Rattle.it_run.proofs.readings.value_at.Goals.{After-sign}
 
-cost_is : (c : After-is_negated) → c.cost-cost.result ≡ (table c.args.tableau.now).entry (height c.args.tableau.now) (c.args.tableau.now.generator_columns + c.args.k)
-cost_is c = c.cost-cost.ensures ∙ ap (λ j. (table c.args.tableau.now).entry (height c.args.tableau.now) j) (omega (arith, c.columns.ensures, c.rows.ensures))
+-- whether the row was negated
+abbrev is_negated : (c : After-sign) → Bool
+is_negated c = slice_index_or c.args.tableau.now.negated c.args.k false
 
-pub returns-then-is_negated : goal.returns-then-is_negated
-returns-then-is_negated c = let d = (goal.at.returns-then-is_negated c).After-is_negated in let x : Rational = c.cost-cost.result in
-    c.neg.ensures ∙ ring ring_ℚ (x ∷ []) (minus (v 0)) (times (minus one) (v 0)) refl
-    ∙ ap (λ b. Q.times (cond b (Q.minus (integer (pos 1))) (integer (pos 1))) x) (sym c.if-is_negated.true ∙ c.is_negated.ensures) ∙ ap (Q.times (sign_number c.args.tableau.now c.args.k)) (cost_is d)
+sign_test : (c : After-sign) → int_lt (to_z w8 (of_z w8 c.sign.result)) (pos 0) ≡ is_negated c
+sign_test c = ap (λ s. int_lt (to_z w8 (of_z w8 s)) (pos 0)) c.sign.ensures ∙ sign_is_negative (is_negated c)
 
-pub returns-else-is_negated : goal.returns-else-is_negated
-returns-else-is_negated c = let d = (goal.at.returns-else-is_negated c).After-is_negated in let x : Rational = c.cost-cost.result in
-    ring ring_ℚ (x ∷ []) (v 0) (times one (v 0)) refl
-    ∙ ap (λ b. Q.times (cond b (Q.minus (integer (pos 1))) (integer (pos 1))) x) (sym c.if-is_negated.false ∙ c.is_negated.ensures) ∙ ap (Q.times (sign_number c.args.tableau.now c.args.k)) (cost_is d)
+signed_cost : (c : After-sign) → (if is_negated c then minus c.cost-cost.result else c.cost-cost.result)
+    ≡ times (sign_number c.args.tableau.now c.args.k) ((table c.args.tableau.now).entry (height c.args.tableau.now) (c.args.tableau.now.generator_columns + c.args.k))
+signed_cost c = signed_is (is_negated c) c.cost-cost.result
+    ∙ ap (times (sign_number c.args.tableau.now c.args.k)) (c.cost-cost.ensures ∙ ap (λ j. (table c.args.tableau.now).entry (height c.args.tableau.now) j) (omega (arith, c.columns.ensures, c.rows.ensures)))
+
+pub returns-then-sign-lt0 : goal.returns-then-sign-lt0
+returns-then-sign-lt0 c = let d = (goal.at.returns-then-sign-lt0 c).After-sign in
+    c.neg.ensures ∙ ap (λ b. if b then minus c.cost-cost.result else c.cost-cost.result) (sym c.if-sign-lt0.true ∙ sign_test d) ∙ signed_cost d
+
+pub returns-else-sign-lt0 : goal.returns-else-sign-lt0
+returns-else-sign-lt0 c = let d = (goal.at.returns-else-sign-lt0 c).After-sign in
+    ap (λ b. if b then minus c.cost-cost.result else c.cost-cost.result) (sym c.if-sign-lt0.false ∙ sign_test d) ∙ signed_cost d
