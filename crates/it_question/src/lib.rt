@@ -24,6 +24,6 @@ mod words;
 
 pub use files::questions;
 pub use laws::{file_has_one, file_is_one, text_reads_back, texts_are_ascii};
-pub use plain::first_line;
+pub use plain::{first_line, plain_text};
 pub use tables::{line_constraints, region_constraints};
 pub use types::{FileFault, OwnLines, Question, Region, Verb};

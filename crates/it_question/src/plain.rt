@@ -1,5 +1,5 @@
 //! The bytes of lines: where a line ends, and what is read of it.
-ghost use Rattle.std.specs.Prelude.{◌≡◌, ◌≤◌, ◌∷◌, ◌+◌, ◌<◌, length, IfOk};
+ghost use Rattle.std.specs.Prelude.{◌≡◌, ◌≤◌, ◌∷◌, ◌+◌, ◌-◌, ◌<◌, drop, length, IfOk};
 ghost use Rattle.it_syntax.specs.Fronts.{IsLongestRun};
 ghost use Rattle.it_question.specs.Lines.{split_lines, without_return, before_comment, without_tab, plain_text};
 ghost use Rattle.it_question.specs.ReaderSteps.{is_other};
@@ -33,6 +33,7 @@ pub fn first_line(bytes: &[u8]) -> (&[u8], &[u8])
     ensures split { split_lines bytes.now ≡ result.0.now ∷ split_lines result.1.now }
     ensures shorter { length result.0.now + length result.1.now ≤ length bytes.now }
     ensures progress { length result.1.now < length bytes.now }
+    ensures back { result.1.now ≡ drop (length bytes.now - length result.1.now) bytes.now }
 {
     let (line, after) = bytes.split_at(count_before(bytes, b'\n'));
     match after {
