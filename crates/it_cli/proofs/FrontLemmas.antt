@@ -1,6 +1,6 @@
 -- What is written of an output in part is a front of a whole output: in a mode where each item has a right reply in each state, and in
 -- mode `bench`.
-use Rattle.std.proofs.Common.{◌≡◌, ℕ, ◌+◌, inl, inr, List, [], ◌∷◌, ◌++◌, length, ◌⊎◌, refl, sym, ap, ap₂, subst, ◌∙◌, arith, append_assoc, append-nil}
+use Rattle.std.proofs.Common.{◌≡◌, ℕ, ◌+◌, inl, inr, List, [], ◌∷◌, ◌++◌, length, ◌⊎◌, refl, sym, ap, subst, ◌∙◌, arith, append_assoc, append-nil}
 use Rattle.it_outside.specs.Groups.{Groups}
 use Rattle.it_outside.specs.Traffic.{IsFront}
 use Rattle.it_contain.specs.Proposals.{Plan}
@@ -40,8 +40,7 @@ module _ (m : Mode) (each : (s : m.State) (x : m.Item) → (reply : m.Reply) × 
 
   first_is_front : (bytes out : List ℕ) → FirstOutput m bytes out → IsFrontOfWhole bytes out
   first_is_front bytes out o =
-      let later = some_replies (1 + length o.items) o.state o.later in
-      (
+      let later = some_replies (1 + length o.items) o.state o.later in (
         out ++ later.1,
         m.status later.0,
         record { items = o.items ++ o.later; asked = o.asked; state = later.0; replies = replies_join 1 (1 + length o.items) m.start o.state later.0 o.items o.later out later.1 refl o.replies later.2; is = refl },
@@ -51,8 +50,7 @@ module _ (m : Mode) (each : (s : m.State) (x : m.Item) → (reply : m.Reply) × 
   part_is_front : (bytes out : List ℕ) → OutputInPart m bytes out → IsFrontOfWhole bytes out
   part_is_front bytes out o =
       let later = some_replies (length o.items + 1 + 1) (m.after o.state o.next o.reply) o.later in
-      let text = m.text (length o.items + 1) o.next o.reply in
-      (
+      let text = m.text (length o.items + 1) o.next o.reply in (
         o.whole ++ (text ++ later.1),
         m.status later.0,
         record {

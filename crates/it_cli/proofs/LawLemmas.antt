@@ -1,5 +1,5 @@
 -- What follows for the status of a call.
-use Rattle.std.proofs.Common.{◌≡◌, ℕ, ◌≤◌, ◌<◌, inl, inr, List, [], ◌∷◌, ◌++◌, length, Bool, false, ◌⊎◌, Option, Some, None, refl, sym, ap, subst, ◌∙◌, arith, append-nil}
+use Rattle.std.proofs.Common.{◌≡◌, ℕ, ◌≤◌, ◌<◌, inl, inr, List, [], ◌∷◌, ◌++◌, length, ◌⊎◌, Option, Some, None, refl, sym, ap, subst, ◌∙◌, arith, append-nil}
 use Rattle.it_space.proofs.OptionLemmas.{some_same}
 use Rattle.it_outside.specs.Causes.{next_count}
 use Rattle.it_outside.specs.Traffic.{Gains, Gave, GaveMore}

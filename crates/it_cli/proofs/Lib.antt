@@ -11,6 +11,7 @@ pub mod ShownLemmas
 pub mod OutputLemmas
 pub mod FrontLemmas
 pub mod CheckLemmas
+pub mod CopyLemmas
 pub mod JsonLemmas
 pub mod ContainedFits
 pub mod DataLemmas

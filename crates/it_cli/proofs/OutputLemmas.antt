@@ -1,19 +1,25 @@
 -- Each mode is determined, and so an input has one output.
-use Rattle.std.proofs.Common.{◌≡◌, ℕ, ◌+◌, List, [], ◌∷◌, ◌++◌, map, sym, ap, ap₂, subst, ◌∙◌}
+use Rattle.std.proofs.Common.{◌≡◌, ℕ, ◌+◌, List, [], ◌∷◌, ◌++◌, map, Option, sym, ap, ap₂, subst, ◌∙◌}
 use Rattle.it_outside.specs.Groups.{Groups}
-use Rattle.it_question.specs.Questions.{QuestionView}
+use Rattle.it_space.specs.Answers.{AnswerView}
+use Rattle.it_question.specs.Questions.{BodyView, QuestionView}
 use Rattle.it_question.specs.Files.{FileFaultIsOne, FileIsOne, FileOrFault}
+use Rattle.it_copy.specs.CopyLines.{CopyView}
+use Rattle.it_copy.specs.Files.{CopyFaultIsOne, CopyFileIsOne, CopyFileOrFault}
+use Rattle.it_copy.specs.Points.{ExtensionOrMisfit, OneExtension, OneMisfit}
 use Rattle.it_contain.specs.Proposals.{Plan, plan_after_all}
+use Rattle.it_answer.specs.Replies.{Reply}
 use Rattle.it_answer.specs.RightAnswers.{OneRightAnswer}
 use Rattle.it_report.specs.Meaning as reports
 use Rattle.it_settings.specs.declared.types.Format.{Format}
-use Rattle.it_settings.specs.declared.types.Settings.TheVariants.{Answer, Check, Bench}
+use Rattle.it_settings.specs.declared.types.Settings.TheVariants.{Answer, Check, Bench, Copy}
 use Rattle.it_answer.specs.declared.types.Budgets.{Budgets}
 use Rattle.it_gen.specs.GeneratedFiles.{generated_file}
+use Rattle.it_cli.specs.Copies.{CopyQuestion, CopyReply, Extended, IsRightCopy, IsRightProof, Misfit, steps_alone, with_copies}
 use Rattle.it_cli.specs.Counts.{AreCounted, IsBenchLine, bench_line, no_counts}
 use Rattle.it_cli.specs.Laws.{ModesAreDetermined, OneOutput}
 use Rattle.it_cli.specs.Modes.{IsDetermined, Mode, Replies, WholeOutput}
-use Rattle.it_cli.specs.Outputs.{answer_mode, bench_mode, check_mode, mode_of}
+use Rattle.it_cli.specs.Outputs.{answer_mode, bench_mode, check_mode, copy_mode, mode_of}
 use Rattle.it_cli.specs.Right.{budgets_of}
 use Rattle.it_cli.specs.declared.status.Status.{Status}
 use Rattle.it_cli.proofs.CountLemmas.{one_count}
@@ -68,11 +74,41 @@ verdicts_are_one one_verdict = record {
   one_reply = λ s x a b f g. one_verdict x a b f g;
 }
 
-module _ (one_answer : OneRightAnswer) (one_file : FileIsOne) (one_fault : FileFaultIsOne) (apart : FileOrFault) (one_verdict : reports.OneVerdict) where
+-- a file with a head has one reading or one fault, and a question one extension or one reason against it
+pub record CopiesAreOne : Type 0 where
+  pub file : CopyFileIsOne
+  pub fault : CopyFaultIsOne
+  pub apart : CopyFileOrFault
+  pub extension : OneExtension
+  pub misfit : OneMisfit
+  pub either : ExtensionOrMisfit
+
+module _ (one_answer : OneRightAnswer) (one : CopiesAreOne) where
+  same_answer : (pivots : Option ℕ) (e : BodyView) (a b : AnswerView) → IsRightProof pivots e a → IsRightProof pivots e b → a ≡ b
+  same_answer pivots e a b f g = ap (λ (r : Reply). r.answer) (one_answer (steps_alone pivots) [] e (record { answer = a; found = [] }) (record { answer = b; found = [] }) f g)
+
+  one_copy : (pivots : Option ℕ) (x : CopyQuestion) (a b : CopyReply) → IsRightCopy pivots x a → IsRightCopy pivots x b → a ≡ b
+  one_copy pivots x (Misfit f) (Misfit g) (told, is) (other, so) = ap Misfit (one.misfit x.question.body x.copies f g told other is so)
+  one_copy pivots x (Misfit f) (Extended e a) (told, is) (extension, right) = absurd (one.either x.question.body e x.copies f told extension is)
+  one_copy pivots x (Extended e a) (Misfit f) (extension, right) (told, is) = absurd (one.either x.question.body e x.copies f told extension is)
+  one_copy pivots x (Extended d a) (Extended e b) (extension, right) (other, is_right) =
+      let same : e ≡ d = one.extension x.question.body e d x.copies other extension in
+      ap₂ Extended (sym same) (same_answer pivots d a b right (subst (λ (q : BodyView). IsRightProof pivots q b) same is_right))
+
+  copies_are_one : (pivots : Option ℕ) → IsDetermined (copy_mode pivots)
+  copies_are_one pivots = record {
+    one_reading = λ bytes xs ys a b. let same = one.file bytes a.copies b.copies a.questions b.questions a.read b.read in a.are ∙ ap₂ (λ (cs : List CopyView) (qs : List QuestionView). map (with_copies cs) qs) same.0 same.1 ∙ sym b.are;
+    one_fault = one.fault;
+    apart = λ bytes xs line column c a f. one.apart bytes a.copies a.questions line column c a.read f;
+    one_reply = λ s x a b f g. one_copy pivots x a b f g;
+  }
+
+module _ (one_answer : OneRightAnswer) (one_file : FileIsOne) (one_fault : FileFaultIsOne) (apart : FileOrFault) (one_verdict : reports.OneVerdict) (copies : CopiesAreOne) where
   pub modes_are_determined : ModesAreDetermined
   modes_are_determined plans (Answer format pivots rows tries) = answers_are_one one_answer one_file one_fault apart (budgets_of pivots rows tries) plans format
   modes_are_determined plans Check = verdicts_are_one one_verdict
   modes_are_determined plans (Bench seed count pivots rows tries) = counts_are_one one_answer one_file one_fault apart (budgets_of pivots rows tries) plans seed count
+  modes_are_determined plans (Copy pivots) = copies_are_one one_answer copies pivots
 
 pub one_output : ModesAreDetermined → OneOutput
 one_output determined plans settings bytes out other s t a b = one_whole (mode_of plans settings) (determined plans settings) bytes out other s t a b

@@ -3,13 +3,19 @@ use Rattle.std.specs.Prelude.{◌≡◌, ℕ, List, [], ◌⊎◌, map, Option}
 use Rattle.it_outside.specs.Causes.{next_count}
 use Rattle.it_outside.specs.Traffic.{Gains, TookFront}
 use Rattle.it_syntax.specs.declared.types.Code.{Code}
-use Rattle.it_question.specs.Questions.{QuestionView}
+use Rattle.it_question.specs.declared.types.FileFault.{FileFault}
+use Rattle.it_question.specs.declared.types.FileFault.TheVariants as faults
+use Rattle.it_question.specs.Questions.{BodyView, QuestionView}
+use Rattle.it_copy.specs.Files.{CopyFileFaultAt}
 use Rattle.it_settings.specs.declared.types.Format.{Format}
 use Rattle.it_contain.specs.Proposals.{Plan, plan_after_all}
+use Rattle.it_space.specs.Answers.{AnswerView}
+use Rattle.it_print.specs.Lines.{answer_line}
 use Rattle.it_answer.specs.declared.types.Budgets.{Budgets}
 use Rattle.it_answer.specs.Replies.{Reply}
 use Rattle.it_answer.specs.RightAnswers.{IsRightAnswer}
-use Rattle.it_cli.specs.Right.{answer_lines}
+use Rattle.it_cli.specs.Right.{answer_lines, question_origins}
+use Rattle.it_cli.specs.Copies.{IsRightProof}
 use Rattle.it_cli.specs.Modes.{FirstOutput, Mode, OutputInPart, WholeOutput}
 use Rattle.it_cli.specs.Refusals.{fault_line}
 use Rattle.it_cli.specs.declared.status.Status.{Status}
@@ -30,6 +36,23 @@ pub record IsAnswerText (budgets : Budgets) (plans : List Plan) (format : Format
   pub right : IsRightAnswer budgets plans q.body reply
   pub learned : plans_after ≡ map (plan_after_all reply.found) plans
   pub is : bytes ≡ answer_lines format k q reply.answer
+
+-- the lines of a right answer to question k, which is about a relation
+pub record IsProofText (pivots : Option ℕ) (k : ℕ) (q : BodyView) (bytes : List ℕ) : Type 0 where
+  pub answer : AnswerView
+  pub right : IsRightProof pivots q answer
+  pub is : bytes ≡ answer_line k q (question_origins q) answer
+
+-- the lines of a right reply to item k of a mode, in a state
+pub record IsTextOf (m : Mode) (s : m.State) (k : ℕ) (x : m.Item) (bytes : List ℕ) : Type 0 where
+  pub reply : m.Reply
+  pub right : m.IsRight s x reply
+  pub is : bytes ≡ m.text k x reply
+
+-- of an error: memory ran out, or it is the first fault of a file with a head
+abbrev pub IsFirstCopyFault : List ℕ → FileFault → Type 0
+IsFirstCopyFault bytes faults.Memory = Unit {0}
+IsFirstCopyFault bytes (faults.Fault line column code) = CopyFileFaultAt bytes line column code
 
 -- the line with which bytes are refused, that of their first fault
 abbrev pub IsRefusal : Mode → List ℕ → List ℕ → Type 0

@@ -2,6 +2,8 @@ pub mod Refusals
 pub mod Right
 pub mod Counts
 pub mod Modes
+pub mod Misfits
+pub mod Copies
 pub mod Outputs
 pub mod Ends
 pub mod Shown

@@ -3,10 +3,11 @@ use Rattle.std.specs.Prelude.{◌≡◌, ℕ, List, [], ◌∷◌, Bool, true, f
 use Rattle.it_outside.specs.Traffic.{IsFront}
 use Rattle.it_settings.specs.declared.types.Format.{Format}
 use Rattle.it_settings.specs.declared.types.Settings.{Settings}
-use Rattle.it_settings.specs.declared.types.Settings.TheVariants.{Answer, Check, Bench}
+use Rattle.it_settings.specs.declared.types.Settings.TheVariants.{Answer, Check, Bench, Copy}
 use Rattle.it_question.specs.Files.{FileFaultAt, IsFile}
 use Rattle.it_question.specs.Lines.{split_lines}
 use Rattle.it_question.specs.Questions.{QuestionView}
+use Rattle.it_copy.specs.Files.{CopyFileFaultAt}
 use Rattle.it_contain.specs.Proposals.{Plan}
 use Rattle.it_answer.specs.declared.types.Budgets.{Budgets}
 use Rattle.it_answer.specs.Replies.{Reply}
@@ -14,6 +15,7 @@ use Rattle.it_report.specs.Judging.{IsVerdict}
 use Rattle.it_report.specs.LineVerdicts.{LineVerdict, is_invalid, verdict_line}
 use Rattle.it_cli.specs.Right.{Context, IsRightAfter, after_answer, answer_lines, budgets_of}
 use Rattle.it_cli.specs.Counts.{IsBenchLine}
+use Rattle.it_cli.specs.Copies.{AsksWithCopies, CopyQuestion, CopyReply, IsRightCopy, copy_text}
 use Rattle.it_cli.specs.Modes.{FirstOutput, Mode, OutputInPart, Replies, WholeOutput}
 use Rattle.it_cli.specs.declared.status.Status.{Status}
 use Rattle.it_cli.specs.declared.status.Status.TheVariants.{Done, Invalid}
@@ -23,6 +25,7 @@ abbrev pub most_bytes : Settings → Option ℕ
 most_bytes (Answer format pivots rows tries) = Some 1048576
 most_bytes Check = Some 67108864
 most_bytes (Bench seed count pivots rows tries) = None
+most_bytes (Copy pivots) = Some 1048576
 
 -- ---- the modes
 
@@ -76,11 +79,27 @@ bench_mode budgets plans seed count = record {
   status = λ s. Done;
 }
 
+-- one right reply to each question of a file with a head
+abbrev pub copy_mode : Option ℕ → Mode
+copy_mode pivots = record {
+  Item = CopyQuestion;
+  Reply = CopyReply;
+  State = Unit {0};
+  Asks = AsksWithCopies;
+  FaultAt = CopyFileFaultAt;
+  start = tt;
+  IsRight = λ s x reply. IsRightCopy pivots x reply;
+  after = λ s x reply. tt;
+  text = λ k x reply. copy_text k reply;
+  status = λ s. Done;
+}
+
 -- the mode that the words ask for; the boxes had these plans
 abbrev pub mode_of : List Plan → Settings → Mode
 mode_of plans (Answer format pivots rows tries) = answer_mode (budgets_of pivots rows tries) plans format
 mode_of plans Check = check_mode
 mode_of plans (Bench seed count pivots rows tries) = bench_mode (budgets_of pivots rows tries) plans seed count
+mode_of plans (Copy pivots) = copy_mode pivots
 
 -- ---- its output
 

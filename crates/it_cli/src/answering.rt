@@ -118,7 +118,7 @@ fn lines(
 }
 
 /// The lines of an answer in the format `text`.
-fn text_lines(
+pub fn text_lines(
     alloc: Global,
     k: usize,
     question: &Question,
@@ -174,7 +174,7 @@ fn proof_lines(
 }
 
 /// Writes the line of the file's first fault.
-fn tell_fault<K: Sink>(alloc: Global, line: u32, column: u32, code: Code, sink: &mut K) -> Status
+pub fn tell_fault<K: Sink>(alloc: Global, line: u32, column: u32, code: Code, sink: &mut K) -> Status
     ensures { EndOfLineOrMemory (K.taken sink.old) (K.taken sink.new) (K.faults sink.old) (K.faults sink.new) (fault_line line column code) Status.Refused result }
 {
     match fault_line(alloc, line, column, code) {

@@ -2,11 +2,13 @@
 ghost use Rattle.it_answer.specs.Shows.{AContainmentIsTrue, ANoIsTrue, ARegionIsTrue, AYesIsTrue, NeededRowsAreNeeded, NeverYesAndNo};
 ghost use Rattle.it_answer.specs.RightAnswers.{AYesAscends, NoStepIsZero, OneRightAnswer};
 ghost use Rattle.it_cli.specs.Accepted.{OutputIsAccepted, ReportsAreAccepted};
+ghost use Rattle.it_cli.specs.Copies.{AYesWithCopiesIsTrue};
 ghost use Rattle.it_cli.specs.Laws.{BenchReadsNothing, CountsAddUp, CountsAreFront, CountsAreWritten, FaultIsDue, Headline, IsComplete, LongIsDue, ModesAreDetermined, NoLineIsOutOfSteps, OneOutput, SureEnds, UsageIsDue, VerdictsAreFront, VerdictsAreWritten};
 ghost use Rattle.it_cli.specs.Shown.{AnswersShow};
 
 use it_answer::answers_are_determined;
 use it_certificate::answers_read_back;
+use it_copy::{copies_are_determined, heads_are_one, yes_by_copies};
 use it_gen::generated_is_file;
 use it_question::file_is_one;
 use it_report::{each_line_is_judged, verdict_is_one};
@@ -52,6 +54,8 @@ pub fn modes_are_determined()
     answers_are_determined();
     file_is_one();
     verdict_is_one();
+    heads_are_one();
+    copies_are_determined();
 }
 
 /// What modes `check` and `bench` have written of an output in part is a front of a whole output.
@@ -80,6 +84,14 @@ pub fn verdicts_are_true()
     ensures contained { AContainmentIsTrue }
 {
     it_answer::verdicts_are_true();
+}
+
+/// Where mode `copy` answers a question by a yes, the question's relation holds at every polymatroid and rates that have such copies.
+pub fn copies_are_true()
+    ensures { AYesWithCopiesIsTrue }
+{
+    it_answer::verdicts_are_true();
+    yes_by_copies();
 }
 
 /// For given budgets and boxes a question has one right answer, whose certificates list their generators in ascending order, and so

@@ -1,5 +1,4 @@
 pub mod PullingLemmas
-pub mod AgreeLemmas
 pub mod RegionLemmas
 pub mod RowLemmas
 pub mod PairLemmas

@@ -14,11 +14,11 @@ use Rattle.it_demand.proofs.MetLemmas.{IsSatisfied, givens_satisfied, rows_satis
 use Rattle.it_demand.proofs.ZipLemmas.{All-parts}
 use Rattle.it_demand.proofs.LimitLemmas.{wider_set}
 use Rattle.it_region.specs.Pulling.{substituted_sets, pulled_coordinate, pulled_map}
-use Rattle.it_region.specs.Regions.{AgreeOnCommon}
+use Rattle.it_canon.specs.Agreement.{AgreeOnCommon}
 use Rattle.it_region.specs.Obligations.{pulled_form, demand_obligations, own_demands, AreFormsAtLeastZero}
 use Rattle.it_region.specs.Theorems.{PulledPointIsIn, ObligationsContain}
 use Rattle.it_region.proofs.PullingLemmas.{common_stay, sets_within, coordinate_of_set, coordinate_of_rate}
-use Rattle.it_region.proofs.AgreeLemmas.{all_true, all_hold}
+use Rattle.it_canon.proofs.AgreeLemmas.{all_true, all_hold}
 use Rattle.it_region.proofs.PairLemmas.{region_wider}
 use Rattle.it_region.proofs.RowLemmas.{demanded_forms_met}
 

@@ -1,7 +1,8 @@
 -- Regions, by the meaning of their lines, and what it means that one lies in another.
-use Rattle.std.specs.Prelude.{◌≡◌, ℕ, ◌+◌, ◌<◌, ◌^◌, ℤ, length}
+use Rattle.std.specs.Prelude.{ℕ, ℤ, length}
 use Rattle.it_polymatroid.specs.Polymatroid.{IsPolymatroid}
 use Rattle.it_question.specs.Questions.{OwnLinesView, RegionView, BodyView}
+use Rattle.it_canon.specs.Agreement.{AgreeOnCommon}
 use Rattle.it_canon.specs.QuestionDemands.{AreTrueAt}
 use Rattle.it_question.specs.Tables.{lines_with}
 
@@ -9,11 +10,6 @@ use Rattle.it_question.specs.Tables.{lines_with}
 pub record IsIn (own : OwnLinesView) (r : RegionView) (p : ℕ → ℤ) : Type 0 where
   pub polymatroid : IsPolymatroid (length r.names.variables) p
   pub lines_hold : AreTrueAt (length r.names.variables) p (lines_with own r)
-
--- one entropy of each set of common variables, and one value of each rate; p is of n variables, and its image of m
-pub record AgreeOnCommon (common rates n m : ℕ) (p image : ℕ → ℤ) : Type 0 where
-  pub on_sets : (s : ℕ) → s < 2 ^ common → image s ≡ p s
-  pub on_rates : (r : ℕ) → r < rates → image (2 ^ m + r) ≡ p (2 ^ n + r)
 
 -- a point of region b that agrees with a point of region a
 pub record IsCounterpart (q : BodyView) (a b : RegionView) (p image : ℕ → ℤ) : Type 0 where

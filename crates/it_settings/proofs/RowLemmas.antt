@@ -2,8 +2,8 @@
 use Rattle.std.proofs.Common.{refl}
 use Rattle.clap.proofs.OnLiterals.{clap_on_literals}
 use Rattle.it_settings.specs.App.{option_rule, mode_rule, bare_app, with_option, itip_app}
-use Rattle.it_settings.specs.Settings.{settings_of, settings_by, answer_of, check_of, bench_of, number_of, pivots_of, format_of}
-use Rattle.it_settings.specs.Rows.{ModesAreRead, FormsAreRead, NumbersAreRead, BenchIsRead, OtherModesAreRead}
+use Rattle.it_settings.specs.Settings.{settings_of, settings_by, answer_of, check_of, bench_of, steps_of, number_of, pivots_of, format_of}
+use Rattle.it_settings.specs.Rows.{ModesAreRead, FormsAreRead, NumbersAreRead, BenchIsRead, CopyIsRead, OtherModesAreRead}
 
 pub modes_are_read : ModesAreRead
 unfolding clap_on_literals settings_of settings_by answer_of check_of bench_of number_of pivots_of format_of itip_app with_option bare_app mode_rule option_rule
@@ -115,4 +115,19 @@ other_modes_are_read = record {
   answer_count = refl;
   check_pivots_without = refl;
   bench_format = refl;
+}
+
+pub copy_is_read : CopyIsRead
+unfolding clap_on_literals settings_of settings_by answer_of check_of bench_of steps_of number_of pivots_of format_of itip_app with_option bare_app mode_rule option_rule
+copy_is_read = record {
+  alone = refl;
+  pivots = refl;
+  pivots_without = refl;
+  pivots_more = refl;
+  format = refl;
+  rows = refl;
+  tries = refl;
+  seed = refl;
+  count = refl;
+  two_modes = refl;
 }

@@ -114,3 +114,16 @@ pub record OtherModesAreRead : Type 0 where
   pub answer_count : HaveNoReading (codes "answer" ∷ codes "--count" ∷ codes "1" ∷ [])
   pub check_pivots_without : HaveNoReading (codes "check" ∷ codes "--pivots" ∷ codes "none" ∷ [])
   pub bench_format : HaveNoReading (codes "bench" ∷ codes "--format" ∷ codes "text" ∷ [])
+
+-- mode `copy`, which takes a budget of steps and no other option
+pub record CopyIsRead : Type 0 where
+  pub alone : AreReadAs (codes "copy" ∷ []) (settings.Copy (Some 20000))
+  pub pivots : AreReadAs (codes "copy" ∷ codes "--pivots" ∷ codes "5" ∷ []) (settings.Copy (Some 5))
+  pub pivots_without : AreReadAs (codes "--pivots=none" ∷ codes "copy" ∷ []) (settings.Copy None)
+  pub pivots_more : HaveNoReading (codes "copy" ∷ codes "--pivots" ∷ codes "1000001" ∷ [])
+  pub format : HaveNoReading (codes "copy" ∷ codes "--format" ∷ codes "text" ∷ [])
+  pub rows : HaveNoReading (codes "copy" ∷ codes "--rows" ∷ codes "512" ∷ [])
+  pub tries : HaveNoReading (codes "copy" ∷ codes "--tries" ∷ codes "256" ∷ [])
+  pub seed : HaveNoReading (codes "copy" ∷ codes "--seed" ∷ codes "1" ∷ [])
+  pub count : HaveNoReading (codes "copy" ∷ codes "--count" ∷ codes "1" ∷ [])
+  pub two_modes : HaveNoReading (codes "copy" ∷ codes "answer" ∷ [])

@@ -86,12 +86,17 @@ bench_of v = if is_none v.format
     then bench_by (number_or 0 2147483647 1 v.seed) (number_or 1 1000 100 v.count) (pivots_or v.pivots) (number_or 1 4096 512 v.rows) (number_or 1 4096 256 v.tries)
     else None
 
+-- the budget of steps of a mode that has no other option
+unfoldable pub steps_of : ValuesView → Option (Option ℕ)
+steps_of v = if is_none v.format && (is_none v.rows && (is_none v.tries && (is_none v.seed && is_none v.count))) then pivots_or v.pivots else None
+
 -- by the mode's word; the modes not named have no reading
 abbrev pub settings_in : ValuesView → Text → Option Settings
 settings_in v mode =
     if bytes_eq mode (codes "answer") then answer_of v else
     if bytes_eq mode (codes "check") then check_of v else
-    if bytes_eq mode (codes "bench") then bench_of v else None
+    if bytes_eq mode (codes "bench") then bench_of v else
+    if bytes_eq mode (codes "copy") then option_map settings.Copy (steps_of v) else None
 
 -- the settings by the texts that were given; without a mode there are none
 unfoldable pub settings_by : ValuesView → Option Settings
@@ -135,3 +140,4 @@ abbrev pub AreInRange : Settings → Type 0
 AreInRange (settings.Answer format pivots rows tries) = AreFew rows tries
 AreInRange settings.Check = Unit {0}
 AreInRange (settings.Bench seed count pivots rows tries) = (seed < 2 ^ 31) × ((1 ≤ count) × (count ≤ 1000)) × AreFew rows tries
+AreInRange (settings.Copy pivots) = Unit {0}

@@ -1,5 +1,5 @@
 //! What command lines are read as, each table as the contract of a function.
-ghost use Rattle.it_settings.specs.Rows.{ModesAreRead, FormsAreRead, NumbersAreRead, BenchIsRead, OtherModesAreRead};
+ghost use Rattle.it_settings.specs.Rows.{ModesAreRead, FormsAreRead, NumbersAreRead, BenchIsRead, CopyIsRead, OtherModesAreRead};
 
 /// The word for the mode, alone and among others.
 #[tactic(auto, using(crate::proofs::RowLemmas::modes_are_read))]
@@ -23,6 +23,12 @@ pub fn numbers_are_read()
 #[tactic(auto, using(crate::proofs::RowLemmas::bench_is_read))]
 pub fn bench_is_read()
     ensures { BenchIsRead }
+{}
+
+/// Mode `copy`, which takes a budget of steps and no other option.
+#[tactic(auto, using(crate::proofs::RowLemmas::copy_is_read))]
+pub fn copy_is_read()
+    ensures { CopyIsRead }
 {}
 
 /// Options of another mode have no reading.

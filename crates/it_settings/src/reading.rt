@@ -1,9 +1,10 @@
 //! The reading of the words: what the command takes, each value then judged.
-ghost use Rattle.std.specs.Prelude.{◌≡◌, Option, map, IfOk, IfSome};
+ghost use Rattle.std.specs.Prelude.{◌≡◌, Option, map, IfOk, IfSome, option_map};
 ghost use Rattle.clap.specs.Words.{first_value, found_of, kind_of};
 ghost use Rattle.it_settings.specs.ValuesViews.{values_view};
+ghost use Rattle.it_settings.specs.declared.types.Settings.TheVariants as settings;
 ghost use Rattle.it_settings.specs.ErrorKinds.{IsFaultOf};
-ghost use Rattle.it_settings.specs.Settings.{answer_of, check_of, bench_of, settings_by, values_by, settings_of, TellsReading, AreInRange};
+ghost use Rattle.it_settings.specs.Settings.{answer_of, check_of, bench_of, steps_of, settings_by, values_by, settings_of, TellsReading, AreInRange};
 
 use crate::command::parse;
 use crate::numbers::{format_or, number_or, pivots_or, rows_or, tries_or};
@@ -98,6 +99,28 @@ fn bench(values: Values) -> Option<Settings>
     })
 }
 
+/// The budget of steps of a mode that has no other option.
+#[tactic(auto, unfolding(crate::specs::Settings::steps_of))]
+fn steps(values: Values) -> Option<Option<u32>>
+    ensures { result ≡ steps_of (values_view values.entry) }
+{
+    let none = values.format.is_none()
+        && values.rows.is_none()
+        && values.tries.is_none()
+        && values.seed.is_none()
+        && values.count.is_none();
+    if none { pivots_or(values.pivots) } else { None }
+}
+
+/// The settings of mode `copy`.
+fn copy(values: Values) -> Option<Settings>
+    ensures reads { result ≡ option_map settings.Copy (steps_of (values_view values.entry)) }
+    ensures ranges { IfSome result AreInRange }
+{
+    let pivots = steps(values)?;
+    Some(Settings::Copy { pivots })
+}
+
 /// The settings by the mode's word.
 #[tactic(auto, unfolding(crate::specs::Settings::settings_by))]
 fn settings_by_mode(values: Values) -> Option<Settings>
@@ -108,6 +131,7 @@ fn settings_by_mode(values: Values) -> Option<Settings>
         Some("answer") => answer(values),
         Some("check") => check(values),
         Some("bench") => bench(values),
+        Some("copy") => copy(values),
         _ => None,
     }
 }

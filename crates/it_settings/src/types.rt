@@ -34,6 +34,11 @@ pub enum Settings {
         rows: u32,
         tries: u32,
     },
+    /// Answer the questions of a file whose head asks for copies of variables.
+    Copy {
+        /// As in mode `answer`.
+        pivots: Option<u32>,
+    },
 }
 
 /// The words have no reading, or memory is wanted.

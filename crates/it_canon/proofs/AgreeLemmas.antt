@@ -9,7 +9,7 @@ use Rattle.it_syntax.specs.Meaning.{RelationView, multiple_of, times_of, atom_at
 use Rattle.it_syntax.specs.Givens.{GivenView, Relation, Markov, Independent, Function, union_of, links, links_from, sum_given, IsTrueAt, IsRelationOf, IsGivenOf}
 use Rattle.it_demand.proofs.ChainLemmas.{union_below}
 use Rattle.it_demand.proofs.LimitLemmas.{more_rates}
-use Rattle.it_region.specs.Regions.{AgreeOnCommon}
+use Rattle.it_canon.specs.Agreement.{AgreeOnCommon}
 
 module _ (common rates n m : ℕ) (p q : ℕ → ℤ) (h : AgreeOnCommon common rates n m p q) where
   atom_same : (a : Atom) → IsAtomOf common rates a → atom_at m q a ≡ atom_at n p a

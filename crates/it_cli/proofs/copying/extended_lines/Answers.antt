@@ -1,0 +1,18 @@
+use Rattle.it_question.specs.Questions.{question_body, question_view}
+use Rattle.it_space.specs.Answers.{answer_view}
+use Rattle.it_cli.proofs.CopyLemmas.{right_alone}
+use Rattle.it_cli.proofs.LineLemmas.{few_constraints, right_is_printable, text_by_places}
+use Rattle.it_cli.proofs.copying.extended_lines.Goals as goal
+
+pub text_lines-requires-clause-printable : goal.text_lines-requires-clause-printable
+text_lines-requires-clause-printable c =
+    right_is_printable _ _ (question_body c.args.question.now) _ c.in_ok-answered.answered.answer c.in_ok-answered.ensures.answered.found c.requires.limits
+    (few_constraints (question_body c.args.question.now) c.in_ok-answered.answered.problem.space c.in_ok-answered.answered.problem.constraints.items c.in_ok-answered.ensures.problem)
+    c.in_ok-answered.ensures.answered.right
+
+pub returns : goal.returns
+returns c = record {
+  answer = answer_view c.in_ok-answered.answered.answer;
+  right = right_alone (record { pivots = c.args.pivots; rows = 1; tries = 1 }) _ (question_body c.args.question.now) (answer_view c.in_ok-answered.answered.answer) c.in_ok-answered.ensures.answered.found c.requires.proof c.in_ok-answered.ensures.answered.right;
+  is = text_by_places (question_view c.args.question.now) c.args.k c.in_ok-answered.answered.problem.space c.in_ok-answered.answered.problem.constraints.items (answer_view c.in_ok-answered.answered.answer) c.in_ok-text.text.items c.in_ok-answered.ensures.problem c.in_ok-text.ensures;
+}

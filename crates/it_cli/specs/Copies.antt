@@ -1,0 +1,64 @@
+-- What mode `copy` replies to a question: a right answer to it with the copies that the file's head asks for, or why it can't have them.
+use Rattle.std.specs.Prelude.{◌≡◌, ℕ, ℤ, List, [], map, length, Option}
+use Rattle.it_space.specs.Answers.{AnswerView, CertificateView}
+use Rattle.it_space.specs.Answers.AnswerView.{Yes}
+use Rattle.it_syntax.specs.Meaning.{RelationView, Holds}
+use Rattle.it_question.specs.Limits.{IsQuestion}
+use Rattle.it_question.specs.Questions.{BodyView, QuestionView, Prove}
+use Rattle.it_copy.specs.declared.types.CopyFault.{CopyFault}
+use Rattle.it_copy.specs.declared.types.CopyFault.TheVariants.{Memory}
+use Rattle.it_copy.specs.CopyLines.{CopyView}
+use Rattle.it_copy.specs.Extensions.{IsExtension, IsMisfit}
+use Rattle.it_copy.specs.Files.{IsCopyFile}
+use Rattle.it_copy.specs.Points.{HasCopies}
+use Rattle.it_print.specs.Lines.{answer_line}
+use Rattle.it_answer.specs.declared.types.Budgets.{Budgets}
+use Rattle.it_answer.specs.RightAnswers.{IsRightAnswer}
+use Rattle.it_answer.specs.Shows.{Shows}
+use Rattle.it_cli.specs.Misfits.{misfit_line}
+use Rattle.it_cli.specs.Right.{question_origins}
+
+-- a question and the copies that it is to have
+pub record CopyQuestion : Type 0 where
+  pub copies : List CopyView
+  pub question : QuestionView
+
+-- the question with these copies
+abbrev pub with_copies : List CopyView → QuestionView → CopyQuestion
+with_copies copies q = record { copies = copies; question = q }
+
+-- the bytes are a file whose head asks for copies in each of these questions
+pub record AsksWithCopies (bytes : List ℕ) (items : List CopyQuestion) : Type 0 where
+  pub copies : List CopyView
+  pub questions : List QuestionView
+  pub read : IsCopyFile bytes copies questions
+  pub are : items ≡ map (with_copies copies) questions
+
+-- why the question can't have the copies, or the question with them and an answer to it
+pub data CopyReply : Type 0 where
+  Misfit : (fault : CopyFault) → CopyReply
+  Extended : (question : BodyView) (answer : AnswerView) → CopyReply
+
+-- budgets of steps alone: a question about a relation tries no candidates and eliminates nothing
+abbrev pub steps_alone : Option ℕ → Budgets
+steps_alone pivots = record { pivots = pivots; rows = 1; tries = 1 }
+
+-- a right answer to a question about a relation
+abbrev pub IsRightProof : Option ℕ → BodyView → AnswerView → Type 0
+IsRightProof pivots q answer = IsRightAnswer (steps_alone pivots) [] q (record { answer = answer; found = [] })
+
+-- a right reply; want of memory is none
+abbrev pub IsRightCopy : Option ℕ → CopyQuestion → CopyReply → Type 0
+IsRightCopy pivots x (Misfit fault) = (fault ≡ Memory → ⊥) × IsMisfit x.question.body x.copies fault
+IsRightCopy pivots x (Extended e answer) = IsExtension x.question.body x.copies e × IsRightProof pivots e answer
+
+-- the lines of a reply to question k
+abbrev pub copy_text : ℕ → CopyReply → List ℕ
+copy_text k (Misfit fault) = misfit_line k fault
+copy_text k (Extended e answer) = answer_line k e (question_origins e) answer
+
+-- Where a yes is shown of the question with copies, the question's own relation holds at every polymatroid and rates that have such
+-- copies.
+abbrev pub AYesWithCopiesIsTrue : Type 0
+AYesWithCopiesIsTrue = (q e : BodyView) (cs : List CopyView) (r : RelationView) (ws : List CertificateView) → IsQuestion q → q.verb ≡ Prove r → IsExtension q cs e → Shows e (Yes ws)
+    → (p : ℕ → ℤ) → HasCopies q e p → Holds (length q.names.variables) p r

@@ -1,0 +1,39 @@
+//! The lines of questions that can't have the copies that are asked for.
+ghost use Rattle.std.specs.Prelude.{◌≡◌, ◌++◌, IfOk, OnOk};
+ghost use Rattle.it_copy.specs.declared.types.CopyFault.TheVariants.{Memory};
+ghost use Rattle.it_cli.specs.Misfits.{misfit_line, misfit_words};
+
+use it_copy::types::CopyFault;
+use it_print::write_number;
+use std::alloc::{AllocError, Global};
+
+/// Appends why a question can't have the copies; for want of memory there is nothing to tell.
+fn write_misfit(out: &mut Vec<u8>, fault: CopyFault) -> Result<(), AllocError>
+    ensures told { OnOk result (out.new.items ≡ out.old.items ++ misfit_words fault) }
+    ensures some { OnOk result (fault ≡ Memory → ⊥) }
+{
+    match fault {
+        CopyFault::Memory => Err(AllocError),
+        CopyFault::Verb => out.extend_from_slice(b"verb"),
+        CopyFault::Copy { line } => {
+            out.extend_from_slice(b"copy ")?;
+            write_number(out, line as usize)
+        }
+        CopyFault::Many => out.extend_from_slice(b"many"),
+        CopyFault::Large => out.extend_from_slice(b"large"),
+    }
+}
+
+/// The line of question k, which can't have the copies.
+#[tactic(auto, unfolding(crate::specs::Misfits::misfit_line))]
+pub fn misfit_line(alloc: Global, k: usize, fault: CopyFault) -> Result<Vec<u8>, AllocError>
+    ensures told { IfOk result (λ text. text.items ≡ misfit_line k fault) }
+    ensures some { IfOk result (λ text. fault ≡ Memory → ⊥) }
+{
+    let mut out = Vec::new(alloc);
+    write_number(&mut out, k)?;
+    out.extend_from_slice(b" misfit ")?;
+    write_misfit(&mut out, fault)?;
+    out.extend_from_slice(b"\n")?;
+    Ok(out)
+}
