@@ -7,8 +7,9 @@ ghost use Rattle.it_space.specs.Spaces.{size_of};
 ghost use Rattle.it_run.specs.Answers.{end_of_answer};
 ghost use Rattle.it_run.specs.Runs.{RunEndView};
 ghost use Rattle.it_elemental.specs.Generators.{generators};
-ghost use Rattle.it_best.specs.Ends.{EndsWith, FirstFollows, IsRightBest, LeastFits, Never, NeverFits, OrScale, PartEnds, PartSeparates, PartSums, SecondFollows, ThirdFollows, UnboundedFits, best_view, first, least_view, never_values, third, unbounded_view};
-ghost use Rattle.it_best.specs.Factors.{ground_of};
+ghost use Rattle.it_best.specs.BestViews.{Never, best_view};
+ghost use Rattle.it_best.specs.Ends.{EndsWith, FirstFollows, LeastFits, NeverFits, OrScale, PartEnds, PartSeparates, PartSums, SecondFollows, ThirdFollows, UnboundedFits, first, least_view, never_values, third, unbounded_view};
+ghost use Rattle.it_best.specs.Factors.{IsRightBest, ground_of};
 ghost use Rattle.it_best.specs.Parts.{right_equation, third_target, unknown_views};
 
 use crate::judging::{below_proof, factor_proof, least_point, never_point};
