@@ -328,7 +328,11 @@ fn best_by_parts(
     }
 }
 
-/// The least number c for which c times the left side is at least the right side wherever a polymatroid and rates meet the problem.
+/// Which numbers c make c times the left side at least the right one wherever a polymatroid and rates meet the problem. The sides
+/// are rows over the coordinates of the problem's space. Three runs of at most the budget's steps each look for it, over all sets:
+/// by the first there is such a number or none (`Never`), by the second there is no least one (`Unbounded`) or there is, and the
+/// third finds it (`Least`). `Size` comes where the third run's table has more than 4,000,000 entries, and is judged first;
+/// `Pivots` and `Width` tell the first run that has no end, `Scale` that the answer has a number past the limit.
 pub fn best(
     alloc: Global,
     problem: &Problem,
