@@ -1,8 +1,9 @@
-"""What the program has to write for the words of a call and an input: answers in each format, verdicts on a report, refusals."""
+"""What the program has to write for the words of a call and an input: answers in each format, best factors, verdicts on a report, refusals."""
 
 import re
 import shlex
 
+import best
 import contain
 import defined
 import eliminate
@@ -28,7 +29,7 @@ class Answers:
         chosen = {"--pivots": "20000", "--rows": "512", "--tries": "256", "--format": "text"} | options(words)
         self.pivots = None if chosen["--pivots"] == "none" else int(chosen["--pivots"])
         self.rows, self.tries = int(chosen["--rows"]), int(chosen["--tries"])
-        self.format = chosen["--format"]
+        self.format, self.mode = chosen["--format"], words[0] if words else "answer"
         self.kept, self.steps = None, 0
 
     def answer(self, question):
@@ -44,6 +45,8 @@ class Answers:
         return end, found
 
     def lines(self, number, question):
+        if self.mode == "best":
+            return [best.line(number, question, self.pivots)]
         end, found = self.answer(question)
         if self.format == "json":
             return [answer_json(question, end, found)]

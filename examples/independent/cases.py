@@ -2,6 +2,7 @@
 
 `valid` files are right, `broken` ones have a few tokens, lines or bytes changed; `limits` are at a limit or just past it; `wide` ones
 have numbers near 2**64 and denominators near 2**32; `large` ones have nine or ten variables; `reports` are right and damaged lines.
+`factors` are right files whose questions ask for factors, most of them `prove E >= F`, in mode `best`.
 """
 
 import re
@@ -12,8 +13,8 @@ from closures import table_size
 from generate import Damage, Generator
 from questions import ENTRIES, LINES, read
 
-# of each fifty cases
-SHARES = {"valid": 17, "broken": 18, "limits": 5, "wide": 4, "large": 1, "reports": 5}
+# of each fifty-five cases
+SHARES = {"valid": 17, "broken": 18, "limits": 5, "wide": 4, "large": 1, "reports": 5, "factors": 5}
 KINDS = [kind for kind, share in SHARES.items() for _ in range(share)]
 
 BUDGETS = ["--pivots", "60", "--rows", "40", "--tries", "8"]
@@ -26,6 +27,7 @@ WORDS = {
     "wide": [["answer", *BUDGETS], ["answer", "--format", "json", *BUDGETS], ["answer", "--format", "proof", *BUDGETS]],
     "large": [["answer", *FEW], ["answer", "--format", "json", *FEW], ["answer", "--format", "proof", *FEW]],
     "reports": [["check"]],
+    "factors": [["best"], ["best", "--pivots", "none"], ["best", "--pivots", "4"]],
 }
 TOKENS = re.compile(r"[A-Za-z0-9_]+|->|>=|<=|:=|\s|.", re.DOTALL)
 PIECES = """H I ( ) , ; | + - -> >= <= = := / 0 1 2 00 1/2 /0 /3 1/0 0/5 18446744073709551615 18446744073709551616 4294967296 4294967297
@@ -71,6 +73,11 @@ class Case:
 
     def valid(self):
         return self.loose(self.questions())
+
+    def factors(self):
+        asked = self.generator.system() if self.chance(0.1) else ""
+        signs = [">="] * 8 + ["<=", "="]
+        return self.loose(asked + "".join(self.generator.question(signs) for _ in range(self.pick([1, 1, 2, 3]))))
 
     def broken(self):
         pieces = TOKENS.findall(self.loose(self.questions()))

@@ -12,6 +12,7 @@ from subprocess import DEVNULL, PIPE, CalledProcessError, run
 from tempfile import TemporaryDirectory
 
 from closures import closure, dependences
+from questions import negated
 from verify import point_fault, sum_fault, value
 
 # every number of the product is at most this in absolute value
@@ -67,55 +68,59 @@ def subtract(a, b):
     return t // g2, fit((a[1] // g) * (b[1] // g2))
 
 
+# Whole numbers
+
+def common_scale(numbers):
+    """The least common multiple of the denominators."""
+    scale = 1
+    for _, den in numbers:
+        scale = fit(scale * (den // gcd(scale, den)))
+    return scale
+
+
+def scaled(number, scale):
+    return fit(number[0] * (scale // number[1]))
+
+
+def check_sums(question, target, scale, weights):
+    """Forms each number of the check that the weights add up to the target."""
+    generators = question.generators()
+    for at in range(1, question.size() + 1):
+        fit(scale * target.get(at, 0))
+        total = 0
+        for number in sorted(weights):
+            if weights[number]:
+                total = fit(total + fit(weights[number] * generators[number].row.get(at, 0)))
+
+
+def check_values(rows, values):
+    """Forms each number of the values of the rows."""
+    for row in rows:
+        total = 0
+        for at in sorted(row):
+            total = fit(total + fit(row[at] * values[at]))
+
+
 # The run
 
-class Run:
-    def __init__(self, question, target, budget):
-        self.question, self.target, self.budget = question, target, budget
-        self.n = len(question.names)
-        self.generators = question.generators()
-        self.dependences = dependences(question.constraints, len(self.generators) - len(question.constraints))
-        self.closures = [closure(self.dependences, a) for a in range(2**self.n)]
-        self.steps = 0
+class Table:
+    """The table of the simplex method for weights of columns that sum to a target, a row for each of the coordinates."""
 
-    def place(self, at):
-        if at >= 2**self.n:
-            return at
-        return 0 if self.closures[at] == self.closures[0] else self.closures[at]
-
-    def collapse(self, row):
-        new = {}
-        for at in sorted(row):
-            if self.place(at):
-                new[self.place(at)] = fit(new.get(self.place(at), 0) + row[at])
-        return {at: c for at, c in new.items() if c}
-
-    def table(self):
-        rates = range(2**self.n, self.question.size() + 1)
-        self.places = [a for a in range(1, 2**self.n) if self.closures[a] == a and a != self.closures[0]] + list(rates)
-        columns, self.column_of = [], []
-        for number, generator in enumerate(self.generators):
-            row = self.collapse(generator.row)
-            columns.append(row)
-            self.column_of.append((number, 1))
-            if generator.equation:
-                columns.append({at: -c for at, c in row.items()})
-                self.column_of.append((number, -1))
-        self.columns = len(columns)
-        target = self.collapse(self.target)
+    def __init__(self, places, columns, target):
+        self.columns, self.steps = len(columns), 0
         self.rows, self.right, self.sign = [], [], []
-        by_place = {at: {} for at in self.places}
+        by_place = {at: {} for at in places}
         for j, column in enumerate(columns):
             for at, c in column.items():
                 by_place[at][j] = (c, 1)
-        for i, at in enumerate(self.places):
+        for i, at in enumerate(places):
             sign = -1 if target.get(at, 0) < 0 else 1
             row = {j: (sign * v[0], 1) for j, v in by_place[at].items()}
             row[self.columns + i] = (1, 1)
             self.rows.append(row)
             self.right.append((sign * target.get(at, 0), 1))
             self.sign.append(sign)
-        self.basic = [self.columns + i for i in range(len(self.places))]
+        self.basic = [self.columns + i for i in range(len(places))]
         self.cost, total = {}, 0
         for row, right in zip(self.rows, self.right):
             for j, v in row.items():
@@ -152,14 +157,10 @@ class Run:
         self.right[r] = divide(right, p)
         self.basic[r] = c
 
-    def end(self):
-        """("weights", by column), ("point", by place), ("pivots", steps) or ("width", step)."""
-        try:
-            self.table()
-        except Wide:
-            return "width", 0
-        if len(self.places) > LARGE:
-            end = self.end_by_program()
+    def end(self, budget):
+        """("weights", by column), ("point", by row), ("pivots", steps) or ("width", step)."""
+        if len(self.rows) > LARGE:
+            end = self.end_by_program(budget)
             if end:
                 return end
         while True:
@@ -167,9 +168,9 @@ class Run:
                 return "weights", {j: self.right[i] for i, j in enumerate(self.basic) if j < self.columns and self.right[i][0]}
             c = min((j for j, v in self.cost.items() if j < self.columns and v[0] < 0), default=None)
             if c is None:
-                costs = [self.cost.get(self.columns + i, (0, 1)) for i in range(len(self.places))]
+                costs = [self.cost.get(self.columns + i, (0, 1)) for i in range(len(self.rows))]
                 return "point", [(sign * v[0], v[1]) for sign, v in zip(self.sign, costs)]
-            if self.steps == self.budget:
+            if self.steps == budget:
                 return "pivots", self.steps
             try:
                 self.step(c)
@@ -177,13 +178,12 @@ class Run:
                 return "width", self.steps + 1
             self.steps += 1
 
-    def end_by_program(self):
+    def end_by_program(self, budget):
         """The same by `steps.rs`, which is told the table; None where its numbers grow too long for it."""
         numbers = [v[0] for row in self.rows for v in row.values()] + [v[0] for v in self.right]
         if max(map(abs, numbers)) >= SHORT:
             return None
-        budget = "" if self.budget is None else f" {self.budget}"
-        lines = [f"{self.columns} {len(self.rows)}{budget}"]
+        lines = [f"{self.columns} {len(self.rows)}" + ("" if budget is None else f" {budget}")]
         lines += [" ".join(f"{j} {v[0]}" for j, v in sorted(row.items()) if j < self.columns) for row in self.rows]
         lines.append(" ".join(str(v[0]) for v in self.right))
         try:
@@ -199,6 +199,51 @@ class Run:
             return end, {j: lowest_terms(num, den) for j, num, den in numbers}
         return end, [lowest_terms(sign * num, den) for sign, (num, den) in zip(self.sign, numbers)]
 
+
+class Run:
+    def __init__(self, question, target, budget):
+        self.question, self.target, self.budget = question, target, budget
+        self.n = len(question.names)
+        self.generators = question.generators()
+        self.dependences = dependences(question.constraints, len(self.generators) - len(question.constraints))
+        self.closures = [closure(self.dependences, a) for a in range(2**self.n)]
+        self.steps = 0
+
+    def place(self, at):
+        if at >= 2**self.n:
+            return at
+        return 0 if self.closures[at] == self.closures[0] else self.closures[at]
+
+    def collapse(self, row):
+        new = {}
+        for at in sorted(row):
+            if self.place(at):
+                new[self.place(at)] = fit(new.get(self.place(at), 0) + row[at])
+        return {at: c for at, c in new.items() if c}
+
+    def table(self):
+        rates = range(2**self.n, self.question.size() + 1)
+        self.places = [a for a in range(1, 2**self.n) if self.closures[a] == a and a != self.closures[0]] + list(rates)
+        columns, self.column_of = [], []
+        for number, generator in enumerate(self.generators):
+            row = self.collapse(generator.row)
+            columns.append(row)
+            self.column_of.append((number, 1))
+            if generator.equation:
+                columns.append(negated(row))
+                self.column_of.append((number, -1))
+        return Table(self.places, columns, self.collapse(self.target))
+
+    def end(self):
+        """("weights", by column), ("point", by place), ("pivots", steps) or ("width", step)."""
+        try:
+            table = self.table()
+        except Wide:
+            return "width", 0
+        end = table.end(self.budget)
+        self.steps = table.steps
+        return end
+
     def answer(self):
         """("yes", scale, weights), ("no", values by coordinate), ("undecided", cause)."""
         end, found = self.end()
@@ -208,49 +253,28 @@ class Run:
             if end == "weights":
                 scale, weights = self.certificate(found)
                 weights = self.lift(scale, weights)
-                self.check_sums(scale, weights)
+                check_sums(self.question, self.target, scale, weights)
                 return "yes", scale, weights
             values = self.point(found)
-            self.check_values(values)
+            check_values([g.row for g in self.generators] + [self.target], values)
             return "no", values
         except Wide:
             return "undecided", "scale"
 
     # What stands at the end
 
-    def scale(self, numbers):
-        scale = 1
-        for _, den in numbers:
-            scale = fit(scale * (den // gcd(scale, den)))
-        return scale
-
     def certificate(self, found):
-        scale = self.scale([found[j] for j in sorted(found)])
+        scale = common_scale([found[j] for j in sorted(found)])
         weights = {}
         for j in sorted(found):
             number, sign = self.column_of[j]
-            weight = fit(found[j][0] * (scale // found[j][1]))
-            weights[number] = weights.get(number, 0) + sign * weight
+            weights[number] = weights.get(number, 0) + sign * scaled(found[j], scale)
         return scale, weights
 
     def point(self, found):
-        scale = self.scale(found)
-        at_place = {at: fit(v[0] * (scale // v[1])) for at, v in zip(self.places, found)}
+        scale = common_scale(found)
+        at_place = {at: scaled(v, scale) for at, v in zip(self.places, found)}
         return {at: at_place.get(self.place(at), 0) for at in range(1, self.question.size() + 1)}
-
-    def check_sums(self, scale, weights):
-        for at in range(1, self.question.size() + 1):
-            fit(scale * self.target.get(at, 0))
-            total = 0
-            for number in sorted(weights):
-                if weights[number]:
-                    total = fit(total + fit(weights[number] * self.generators[number].row.get(at, 0)))
-
-    def check_values(self, values):
-        for row in [g.row for g in self.generators] + [self.target]:
-            total = 0
-            for at in sorted(row):
-                total = fit(total + fit(row[at] * values[at]))
 
     # The lift
 

@@ -57,14 +57,14 @@ class Generator:
             f"H({','.join(self.names)}) = H({self.list()})",
         ])
 
-    def question(self):
+    def question(self, signs=(">=", "<=", "=")):
         self.names = ["X", "Y", "Z", "W"][: self.random.choice([2, 3, 3, 4])]
         rates = [f"R{i}" for i in range(self.random.choice([0, 0, 1, 2]))]
         lines = ["vars " + ", ".join(self.names)]
         lines += ["rates " + ", ".join(rates)] if rates else []
         lines += ["given " + self.given() for _ in range(self.random.choice([0, 1, 1, 2, 3]))]
         lines += ["row " + self.relation(rates) for _ in range(self.random.choice([0, 1, 2] if rates else [0, 0, 0, 1]))]
-        return "\n".join(lines + ["prove " + self.relation(rates)]) + "\n"
+        return "\n".join(lines + ["prove " + self.relation(rates, signs)]) + "\n"
 
     def system(self):
         """Rows over rates and a few entropies, with some of the rates to be eliminated, in any order."""

@@ -92,14 +92,14 @@ def elementals(names):
 
 
 class Question(Scope):
-    """A question by its verb. `prove`: `targets`, rows in `constraints`. `eliminate`: `rows`, and `eliminated` coordinates, the
+    """A question by its verb. `prove`: `targets`, `sides` with the sign, rows in `constraints`. `eliminate`: `rows`, and `eliminated` coordinates, the
     `given` lines alone in `constraints`. `contain`: the two `regions`, each a `Region`, and `tries`, each with a set for each
     auxiliary of the second."""
 
     def __init__(self, names):
         super().__init__(names)
         self.verb, self.targets, self.rows, self.eliminated, self.regions, self.tries = None, [], [], [], [], []
-        self.line, self.text = 0, ""
+        self.line, self.text, self.sides = 0, "", None
 
     def system(self):
         return [row for constraint in self.rows for row in constraint.least()]
@@ -140,8 +140,8 @@ class Line:
         self.text, self.number, self.scope = text, number, scope
         # where the last token that was taken ends
         self.at = 0
-        # of a relation: how many terms were begun, and the least common multiple of the denominators
-        self.terms, self.multiple = 0, 1
+        # of a relation: how many terms were begun, the least common multiple of the denominators, and the sign with the rows of both sides
+        self.terms, self.multiple, self.sides = 0, 1, None
 
     def start(self):
         """Where the next token starts; where there is none, the end of the last one."""
@@ -278,11 +278,11 @@ class Line:
         sign = self.next()
         right = self.side(rates)
         self.end()
+        left, right = [[(minus * p * (self.multiple // q) * c, at) for minus, p, q, atom in side for c, at in atom] for side in (left, right)]
+        self.sides = sign, row_of(left), row_of(right)
         if sign == "<=":
             left, right = right, left
-        terms = left + [(-minus, *term) for minus, *term in right]
-        row = row_of([(minus * p * (self.multiple // q) * c, at) for minus, p, q, atom in terms for c, at in atom])
-        return row, sign == "="
+        return row_of(left + [(-c, at) for c, at in right]), sign == "="
 
     def given(self, number):
         """The constraints of a `given` line, the line's number among them being `number`."""
@@ -425,7 +425,7 @@ class File:
 
     def prove(self, line):
         row, equation = line.relation(True)
-        self.question.targets = Generator("", row, equation).least()
+        self.question.targets, self.question.sides = Generator("", row, equation).least(), line.sides
         self.done("prove")
 
     def eliminate(self, line):

@@ -30,10 +30,12 @@ use Rattle.it_best.specs.declared.types.BestCause.TheVariants as causes
 use Rattle.it_best.specs.declared.types.BestCause.TheVariants.{Scale, Size}
 use Rattle.it_best.specs.Numbers.{numbers, numbers_from, weights_certificate, column_weight, factor_of}
 use Rattle.it_best.specs.Parts.{third_part, third_target, right_equation}
-use Rattle.it_best.specs.Ends.{BestView, Undecided, Never, Least, Unbounded, PartEnds, EndsWith, FirstFollows, SecondFollows, ThirdFollows, OrScale, LeastFits, UnboundedFits, NeverFits, least_view, unbounded_view, never_values, IsRightBest, BestIsRight, OneBest, BestNeverOutOfSteps, first, third}
+use Rattle.it_best.specs.BestViews.{BestView, Undecided, Never, Least, Unbounded}
+use Rattle.it_best.specs.Ends.{PartEnds, EndsWith, FirstFollows, SecondFollows, ThirdFollows, OrScale, LeastFits, UnboundedFits, NeverFits, least_view, unbounded_view, never_values, first, third}
+use Rattle.it_best.specs.Factors.{IsRightBest, ground_of}
+use Rattle.it_best.specs.Theorems.{BestIsRight, OneBest, BestNeverOutOfSteps}
 use Rattle.it_best.proofs.NumberLemmas.{numbers_sum_up, numbers_signed, length-numbers_from}
 use Rattle.it_best.proofs.FactorLemmas.{multiple_sum}
-use Rattle.it_best.specs.Factors.{ground_of}
 use Rattle.it_best.proofs.CertificateLemmas.{certifies_form, factor_holds}
 use Rattle.it_best.proofs.PartLemmas as parts
 use Rattle.it_best.proofs.AnswerLemmas.{third_right, never_right}

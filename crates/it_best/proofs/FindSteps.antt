@@ -25,8 +25,9 @@ use Rattle.it_columns.specs.Scaling.{NumbersFit, scaled_point}
 use Rattle.it_columns.proofs.ColumnLemmas.{few_columns}
 use Rattle.it_best.specs.declared.types.Best.{Best}
 use Rattle.it_best.specs.declared.unknowns.Unknown.{Unknown}
-use Rattle.it_best.specs.Ends.{EndsWith, IsRightBest, LeastPointFits, PartEnds, PartSeparates, PartSums, SidesFit, best_view, first, third}
-use Rattle.it_best.specs.Factors.{IsFactor, IsPoint, ground_of}
+use Rattle.it_best.specs.BestViews.{best_view}
+use Rattle.it_best.specs.Ends.{EndsWith, LeastPointFits, PartEnds, PartSeparates, PartSums, SidesFit, first, third}
+use Rattle.it_best.specs.Factors.{IsRightBest, IsFactor, IsPoint, ground_of}
 use Rattle.it_best.specs.Numbers.{column_weight, factor_of, numbers, values_of, weights_certificate, weights_of}
 use Rattle.it_best.specs.Parts.{counterweight, coordinate_unknown, first_part, right_equation, slack_by, slacks, third_part, third_target, unknown_view, unknown_views}
 use Rattle.it_best.proofs.AnswerLemmas.{third_meets, left_some}

@@ -13,7 +13,8 @@ use Rattle.it_polymatroid.specs.Elementals.{span}
 use Rattle.it_polymatroid.proofs.Spans.{span-append}
 use Rattle.it_elemental.specs.Generators.{Generator, generators}
 use Rattle.it_columns.specs.Columns.{columns, columns_by, columns_of, count_by}
-use Rattle.it_best.specs.Ends.{SizeIsCounted, third}
+use Rattle.it_best.specs.Ends.{third}
+use Rattle.it_best.specs.Theorems.{SizeIsCounted}
 use Rattle.it_best.specs.Parts.{counterweight, coordinate_row, coordinate_unknown, slack_by, slacks, third_part}
 
 abbrev counted : List Generator → ℕ

@@ -1,14 +1,12 @@
 -- How the search for the best factor ends: by the ends of the three parts' runs, each made exactly where the parts before it leave it to
 -- be made, and by the numbers of the scaled answer.
-use Rattle.std.specs.Prelude.{◌≡◌, ◌⊎◌, ℕ, ◌+◌, ◌*◌, ◌<◌, ◌≤◌, ℤ, pos, ◌-ℤ◌, ◌*ℤ◌, ◌≤ℤ◌, List, length, map, All, Option, None}
+use Rattle.std.specs.Prelude.{◌≡◌, ◌⊎◌, ℕ, ◌+◌, ◌*◌, ◌<◌, ◌≤◌, ℤ, pos, ◌-ℤ◌, ◌*ℤ◌, List, length, map, All, Option}
 use Rattle.it_number.specs.Limit.{IsWithin}
 use Rattle.it_rational.specs.Rational.{Rational}
-use Rattle.it_space.specs.Answers.{CertificateView, certificate_view}
-use Rattle.it_space.specs.Problems.{ProblemView, IsProblem}
-use Rattle.it_space.specs.Rows.{Terms, IsUpTo, ValueFits, coefficient, value, map_of, negated_terms}
+use Rattle.it_space.specs.Problems.{ProblemView}
+use Rattle.it_space.specs.Rows.{Terms, ValueFits, coefficient, value, map_of, negated_terms}
 use Rattle.it_space.specs.Spaces.{size_of}
 use Rattle.it_space.specs.Sums.{terms_from}
-use Rattle.it_polymatroid.specs.Certificates.{Form}
 use Rattle.it_polymatroid.specs.Elementals.{span}
 use Rattle.it_rational.proofs.Field.{field_ℚ}
 use Rattle.it_tableau.specs.Problems.{feasibility_problem}
@@ -20,27 +18,11 @@ use Rattle.it_elemental.specs.Generators.{Generator, generators}
 use Rattle.it_check.specs.Meaning.{CertificateFits}
 use Rattle.it_columns.specs.Columns.{columns}
 use Rattle.it_columns.specs.Scaling.{NumbersFit, scaled_point}
-use Rattle.it_best.specs.declared.types.Best.{Best}
-use Rattle.it_best.specs.declared.types.Best.TheVariants as answers
-use Rattle.it_best.specs.declared.types.BestCause.{BestCause}
 use Rattle.it_best.specs.declared.types.BestCause.TheVariants as causes
 use Rattle.it_best.specs.declared.types.BestCause.TheVariants.{Scale, Size}
-use Rattle.it_best.specs.Factors.{Ground, HoldsFactor, IsLeastFactor, HasNoFactor, HasNoLeastFactor, ground_of}
+use Rattle.it_best.specs.BestViews.{BestView, Least, Never, Unbounded, Undecided}
 use Rattle.it_best.specs.Numbers.{DifferencesFit, WeightsFit, column_weight, factor_of, numbers, turned_numbers, values_of, weights_certificate, weights_of}
 use Rattle.it_best.specs.Parts.{first_part, third_part, third_target, right_equation}
-
--- an answer as contracts see it
-pub data BestView : Type 0 where
-  Least : (num den : ℤ) → (proof : CertificateView) → (values : List ℤ) → BestView
-  Never : (values : List ℤ) → BestView
-  Unbounded : (num den : ℤ) → (proof below : CertificateView) → BestView
-  Undecided : (cause : BestCause) → BestView
-
-abbrev pub best_view : Best → BestView
-best_view (answers.Least num den proof point) = Least num den (certificate_view proof) point
-best_view (answers.Never point) = Never point
-best_view (answers.Unbounded num den proof below) = Unbounded num den (certificate_view proof) (certificate_view below)
-best_view (answers.Undecided cause) = Undecided cause
 
 -- ---- the size
 
@@ -53,15 +35,17 @@ third_rows q = size_of q.space + length (generators q) + 2
 abbrev pub third_columns : ProblemView → ℕ
 third_columns q = 2 + 2 * length (generators q) + size_of q.space + q.space.rates + third_rows q
 
+-- the table of the third part's start has more than 4,000,000 entries
 abbrev pub IsLarge : ProblemView → Type 0
 IsLarge q = 4000000 < third_rows q * third_columns q
 
 -- ---- the scaled answers
 
--- num times the left side less den times the right one, at a coordinate and as a row
+-- the coefficient of num times the left side less den times the right one
 abbrev pub factor_coefficient : Terms → Terms → ℤ → ℤ → ℕ → ℤ
 factor_coefficient left right num den c = num *ℤ coefficient left c -ℤ den *ℤ coefficient right c
 
+-- their row over so many coordinates
 unfoldable pub factor_row : ℕ → Terms → Terms → ℤ → ℤ → Terms
 factor_row size left right num den = terms_from 1 (map (factor_coefficient left right num den) (span 1 size))
 
@@ -111,58 +95,69 @@ abbrev pub PartSeparates : ℕ → List Generator → Terms → List Rational �
 PartSeparates m us target qs = Separates field_ℚ (length (span 1 m)) (length (columns us)) (feasibility_problem (span 1 m) (columns us) target) qs
 
 module _ (q : ProblemView) (left right : Terms) where
+  -- how many coordinates there are
   abbrev pub size : ℕ
   size = size_of q.space
 
+  -- the unknowns of the first part
   abbrev pub first : List Generator
   first = first_part (generators q) left
 
+  -- those of the third part
   abbrev pub third : List Generator
   third = third_part q.space.variables size (generators q) left right
 
-  -- what the weights of the third part say: the factor, its weights and the values of the point
+  -- the factor, by the weights of the third part
   abbrev pub third_factor : List (ℕ × Rational) → Rational
   third_factor ws = factor_of (numbers third ws)
 
+  -- the weights of its certificate
   abbrev pub third_weights : List (ℕ × Rational) → List Rational
   third_weights ws = weights_of (length (generators q)) (numbers third ws)
 
+  -- the values of the point, made whole
   abbrev pub third_values : List (ℕ × Rational) → List ℤ
   third_values ws = scaled_point (values_of (length (generators q)) size (numbers third ws))
 
+  -- the numbers of the least factor are within the limit
   pub record LeastFits (ws : List (ℕ × Rational)) : Type 0 where
     pub differences : DifferencesFit 0 third (column_weight ws)
     pub factor : FactorFits q left right (third_factor ws) (third_weights ws)
     pub point : LeastPointFits q left right (third_factor ws) (values_of (length (generators q)) size (numbers third ws))
 
+  -- the least factor, its certificate and its point
   abbrev pub least_view : List (ℕ × Rational) → BestView
   least_view ws = Least (third_factor ws).num (pos (third_factor ws).den) (weights_certificate (pos (third_factor ws).den) (third_weights ws)) (third_values ws)
 
-  -- what the weights of the first part say
+  -- a factor, by the weights of the first part
   abbrev pub first_factor : List (ℕ × Rational) → Rational
   first_factor ws = factor_of (numbers first ws)
 
+  -- the weights of its certificate
   abbrev pub first_weights : List (ℕ × Rational) → List Rational
   first_weights ws = weights_of (length (generators q)) (numbers first ws)
 
+  -- the numbers of a factor and of both certificates are within the limit
   pub record UnboundedFits (ws below : List (ℕ × Rational)) : Type 0 where
     pub differences : DifferencesFit 0 first (column_weight ws)
     pub factor : FactorFits q left right (first_factor ws) (first_weights ws)
     pub below_differences : DifferencesFit 0 (generators q) (column_weight below)
     pub below_proof : BelowFits q left (numbers (generators q) below)
 
+  -- the factor and both certificates, by the weights of the first part and of the second
   abbrev pub unbounded_view : List (ℕ × Rational) → List (ℕ × Rational) → BestView
   unbounded_view ws below = Unbounded (first_factor ws).num (pos (first_factor ws).den) (weights_certificate (pos (first_factor ws).den) (first_weights ws)) (weights_certificate (pos 1) (numbers (generators q) below))
 
-  -- what the point of the first part says: its negation
+  -- the point at which no factor holds: the first part's, made whole and turned
   abbrev pub never_values : List Rational → List ℤ
   never_values qs = turned_numbers (scaled_point qs)
 
+  -- its numbers are within the limit
   pub record NeverFits (qs : List Rational) : Type 0 where
     pub point : NumbersFit qs
     pub values : SidesFit q left right (never_values qs)
 
-  -- an answer whose numbers fit, and else none, for the scale
+  -- the answer, where its numbers fit; else it is undecided for the scale
   abbrev pub OrScale : Type 0 → BestView → BestView → Type 0
   OrScale Fits answer o = (Fits × (o ≡ answer)) ⊎ (¬ Fits × (o ≡ Undecided Scale))
 
@@ -191,56 +186,3 @@ module _ (q : ProblemView) (left right : Terms) where
   abbrev pub EndsWith : Option ℕ → BestView → Type 0
   EndsWith budget o = (IsLarge q × (o ≡ Undecided Size))
       ⊎ (¬ IsLarge q × ((e : RunEndView (List (ℕ × Rational)) (List Rational)) × PartEnds size first right budget e × FirstFollows budget e o))
-
--- what an answer says of the forms of the sides is right
-abbrev pub IsRightBest : Ground → Form → Form → BestView → Type 0
-IsRightBest g left right (Least num den proof values) = IsLeastFactor g left right num den proof values
-IsRightBest g left right (Never values) = HasNoFactor g left right values
-IsRightBest g left right (Unbounded num den proof below) = HasNoLeastFactor g left right num den proof below
-IsRightBest g left right (Undecided cause) = Unit {0}
-
--- what the parts end with is right
-abbrev pub BestIsRight : Type 0
-BestIsRight = (q : ProblemView) (left right : Terms) (budget : Option ℕ) (o : BestView) → IsProblem q → IsUpTo (size_of q.space) left → IsUpTo (size_of q.space) right
-    → EndsWith q left right budget o → IsRightBest (ground_of q) (value left) (value right) o
-
--- sides under a problem have one answer for a budget
-abbrev pub OneBest : Type 0
-OneBest = (q : ProblemView) (left right : Terms) (budget : Option ℕ) (o p : BestView) → EndsWith q left right budget o → EndsWith q left right budget p → o ≡ p
-
--- without a budget no answer is left open for want of steps
-abbrev pub BestNeverOutOfSteps : Type 0
-BestNeverOutOfSteps = (q : ProblemView) (left right : Terms) (k part : ℕ) → EndsWith q left right None (Undecided (causes.Pivots k part)) → ⊥
-
--- ---- what right answers say of factors
-
--- the least factor holds, and no smaller one does
-abbrev pub LeastIsLeast : Type 0
-LeastIsLeast = (q : ProblemView) (left right : Terms) (num den : ℤ) (proof : CertificateView) (values : List ℤ) → IsProblem q → IsUpTo (size_of q.space) left → IsUpTo (size_of q.space) right
-    → IsLeastFactor (ground_of q) (value left) (value right) num den proof values
-    → HoldsFactor (ground_of q) (value left) (value right) num den
-        × ((a b : ℤ) → pos 1 ≤ℤ b → HoldsFactor (ground_of q) (value left) (value right) a b → (num *ℤ b) ≤ℤ (a *ℤ den))
-
--- at a point at which the left side is 0 and the right one above it no factor holds
-abbrev pub NeverIsNever : Type 0
-NeverIsNever = (q : ProblemView) (left right : Form) (values : List ℤ) → HasNoFactor (ground_of q) left right values → (a b : ℤ) → pos 1 ≤ℤ b → HoldsFactor (ground_of q) left right a b → ⊥
-
--- where the left side is at most 0, a factor that holds and all smaller ones do
-abbrev pub UnboundedIsUnbounded : Type 0
-UnboundedIsUnbounded = (q : ProblemView) (left right : Terms) (num den : ℤ) (proof below : CertificateView) → IsProblem q → IsUpTo (size_of q.space) left → IsUpTo (size_of q.space) right
-    → HasNoLeastFactor (ground_of q) (value left) (value right) num den proof below
-    → (a b : ℤ) → pos 1 ≤ℤ b → (a *ℤ den) ≤ℤ (num *ℤ b) → HoldsFactor (ground_of q) (value left) (value right) a b
-
--- that number of columns is that of the third part's columns and of one artificial column for each equation
-abbrev pub SizeIsCounted : Type 0
-SizeIsCounted = (q : ProblemView) (left right : Terms) → third_columns q ≡ length (columns (third q left right)) + third_rows q
-
--- forms with the same values at each map that is 0 at the empty set
-abbrev pub AreSameForms : Form → Form → Type 0
-AreSameForms f g = (p : ℕ → ℤ) → p 0 ≡ pos 0 → f p ≡ g p
-
--- what is right of sides by their rows is right of them by their meaning
-abbrev pub RightByForms : Type 0
-RightByForms = (q : ProblemView) (left right other_left other_right : Form) → AreSameForms left other_left → AreSameForms right other_right
-    → ((o : BestView) → IsRightBest (ground_of q) left right o → IsRightBest (ground_of q) other_left other_right o)
-    × ((num den : ℤ) → HoldsFactor (ground_of q) left right num den → HoldsFactor (ground_of q) other_left other_right num den)

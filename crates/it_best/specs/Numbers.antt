@@ -25,14 +25,16 @@ unfoldable pub numbers_from : ℕ → List Generator → (ℕ → Rational) → 
 numbers_from j [] f = []
 numbers_from j (u ∷ us) f = number_by u.kind f j ∷ numbers_from (j + count_by u.kind) us f
 
+-- those of all, by the weights of columns
 abbrev pub numbers : List Generator → List (ℕ × Rational) → List Rational
 numbers us ws = numbers_from 0 us (column_weight ws)
 
--- the differences of two columns' weights fit
+-- the difference of the two columns' weights of an unknown fits; one with one column has none
 abbrev pub NumberFits : Kind → (ℕ → Rational) → ℕ → Type 0
 NumberFits Inequality f j = Unit {0}
 NumberFits Equation f j = DifferenceFits (f j) (f (j + 1))
 
+-- those of unknowns fit, the first of which has column j
 unfoldable pub DifferencesFit : ℕ → List Generator → (ℕ → Rational) → Type 0
 DifferencesFit j [] f = Unit {0}
 DifferencesFit j (u ∷ us) f = NumberFits u.kind f j × DifferencesFit (j + count_by u.kind) us f
@@ -66,9 +68,10 @@ turned_numbers xs = map neg_ℤ xs
 abbrev pub factor_of : List Rational → Rational
 factor_of qs = slice_index_or qs 0 (integer (pos 0))
 
--- the weights of so many generators after it, and the values of so many coordinates after these
+-- the weights of so many generators after it
 abbrev pub weights_of : ℕ → List Rational → List Rational
 weights_of count qs = take count (drop 1 qs)
 
+-- the values of so many coordinates after these
 abbrev pub values_of : ℕ → ℕ → List Rational → List Rational
 values_of count size qs = take size (drop count (drop 1 qs))

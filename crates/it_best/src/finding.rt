@@ -7,8 +7,9 @@ ghost use Rattle.it_space.specs.Spaces.{size_of};
 ghost use Rattle.it_run.specs.Answers.{end_of_answer};
 ghost use Rattle.it_run.specs.Runs.{RunEndView};
 ghost use Rattle.it_elemental.specs.Generators.{generators};
-ghost use Rattle.it_best.specs.Ends.{EndsWith, FirstFollows, IsRightBest, LeastFits, Never, NeverFits, OrScale, PartEnds, PartSeparates, PartSums, SecondFollows, ThirdFollows, UnboundedFits, best_view, first, least_view, never_values, third, unbounded_view};
-ghost use Rattle.it_best.specs.Factors.{ground_of};
+ghost use Rattle.it_best.specs.BestViews.{Never, best_view};
+ghost use Rattle.it_best.specs.Ends.{EndsWith, FirstFollows, LeastFits, NeverFits, OrScale, PartEnds, PartSeparates, PartSums, SecondFollows, ThirdFollows, UnboundedFits, first, least_view, never_values, third, unbounded_view};
+ghost use Rattle.it_best.specs.Factors.{IsRightBest, ground_of};
 ghost use Rattle.it_best.specs.Parts.{right_equation, third_target, unknown_views};
 
 use crate::judging::{below_proof, factor_proof, least_point, never_point};
@@ -327,7 +328,11 @@ fn best_by_parts(
     }
 }
 
-/// The least number c for which c times the left side is at least the right side wherever a polymatroid and rates meet the problem.
+/// Which numbers c make c times the left side at least the right one wherever a polymatroid and rates meet the problem. The sides
+/// are rows over the coordinates of the problem's space. Three runs of at most the budget's steps each look for it, over all sets:
+/// by the first there is such a number or none (`Never`), by the second there is no least one (`Unbounded`) or there is, and the
+/// third finds it (`Least`). `Size` comes where the third run's table has more than 4,000,000 entries, and is judged first;
+/// `Pivots` and `Width` tell the first run that has no end, `Scale` that the answer has a number past the limit.
 pub fn best(
     alloc: Global,
     problem: &Problem,

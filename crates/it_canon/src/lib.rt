@@ -3,11 +3,11 @@
 
 mod laws;
 mod problems;
-mod sides;
+mod relations;
 mod systems;
 
 pub use it_demand::{Coefficients, canon, canon_given, rows_are_unique};
 pub use laws::questions_pose_problems;
 pub use problems::{problem, problem_names, region_lines};
-pub use sides::sides;
+pub use relations::sides;
 pub use systems::{system, target_rows};

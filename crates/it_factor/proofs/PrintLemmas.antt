@@ -19,7 +19,7 @@ use Rattle.it_canon.specs.QuestionDemands.{question_demands, variables_of}
 use Rattle.it_answer.specs.Forms.{CertifiesForm, MayStand, all_demands}
 use Rattle.it_best.specs.declared.types.Best.{Best}
 use Rattle.it_best.specs.declared.types.Best.TheVariants as answers
-use Rattle.it_best.specs.Ends.{best_view}
+use Rattle.it_best.specs.BestViews.{best_view}
 use Rattle.it_best.specs.Factors.{IsPoint}
 use Rattle.it_factor.specs.Lines.{AreValuesOf, IsBestPrintable, IsThere}
 use Rattle.it_factor.specs.RightReplies.{ShowsFactor, question_ground}

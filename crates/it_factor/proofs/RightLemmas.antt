@@ -25,8 +25,8 @@ use Rattle.it_canon.specs.Sides.{left_form, right_form}
 use Rattle.it_canon.proofs.ProblemLemmas.{question_met}
 use Rattle.it_answer.specs.Forms.{Certifies, CertifiesForm, all_demands}
 use Rattle.it_answer.proofs.FormLemmas.{by_forms, generators_speak}
-use Rattle.it_best.specs.Ends.{BestView, IsRightBest, Least, Never, Unbounded, Undecided}
-use Rattle.it_best.specs.Factors.{IsFactor, IsPoint, factor_form, ground_of}
+use Rattle.it_best.specs.BestViews.{BestView, Least, Never, Unbounded, Undecided}
+use Rattle.it_best.specs.Factors.{IsRightBest, IsFactor, IsPoint, factor_form, ground_of}
 use Rattle.it_best.proofs.CertificateLemmas.{linear-factor, linear-neg}
 use Rattle.it_factor.specs.Replies.{ReplyView, Found, Other}
 use Rattle.it_factor.specs.RightReplies.{IsRightFactor, IsRightReply, IsRightReplyTo, ShowsFactor, asked_by, at_least, question_ground}

@@ -10,7 +10,8 @@ use Rattle.it_canon.specs.QuestionDemands.{variables_of}
 use Rattle.it_canon.specs.Sides.{left_form, right_form}
 use Rattle.it_canon.proofs.PosesLemmas.{one_problem}
 use Rattle.it_best.specs.declared.types.BestCause.TheVariants.{Pivots}
-use Rattle.it_best.specs.Ends.{BestView, EndsWith, Undecided}
+use Rattle.it_best.specs.BestViews.{BestView, Undecided}
+use Rattle.it_best.specs.Ends.{EndsWith}
 use Rattle.it_best.proofs.EndLemmas.{best_never_out_of_steps, one_best}
 use Rattle.it_factor.specs.Replies.{ReplyView, Found, Other}
 use Rattle.it_factor.specs.RightReplies.{IsDueFactor, IsRightReplyTo, NeverOutOfSteps, OneRightReply, asked_by}

@@ -13,7 +13,7 @@ use Rattle.it_best.specs.declared.types.Best.{Best}
 use Rattle.it_best.specs.declared.types.Best.TheVariants as answers
 use Rattle.it_best.specs.declared.types.BestCause.{BestCause}
 use Rattle.it_best.specs.declared.types.BestCause.TheVariants as causes
-use Rattle.it_best.specs.Ends.{BestView, Least, Never, Unbounded, Undecided}
+use Rattle.it_best.specs.BestViews.{BestView, Least, Never, Unbounded, Undecided}
 use Rattle.it_factor.specs.declared.types.Reply.{Reply}
 use Rattle.it_factor.specs.declared.types.Reply.TheVariants as replies
 use Rattle.it_factor.specs.Replies.{ReplyView, Found, Other}

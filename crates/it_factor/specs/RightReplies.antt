@@ -16,8 +16,9 @@ use Rattle.it_canon.specs.QuestionDemands.{AreTrueTogether, IsProblemOf, variabl
 use Rattle.it_canon.specs.Sides.{left_form, right_form}
 use Rattle.it_answer.specs.Forms.{CertifiesForm}
 use Rattle.it_best.specs.declared.types.BestCause.TheVariants.{Pivots}
-use Rattle.it_best.specs.Ends.{BestView, EndsWith, IsRightBest, Least, Never, Unbounded, Undecided}
-use Rattle.it_best.specs.Factors.{Ground, HoldsFactor}
+use Rattle.it_best.specs.BestViews.{BestView, Least, Never, Unbounded, Undecided}
+use Rattle.it_best.specs.Ends.{EndsWith}
+use Rattle.it_best.specs.Factors.{IsRightBest, Ground, HoldsFactor}
 use Rattle.it_factor.specs.Replies.{ReplyView, Found, Other}
 
 -- ---- by the text

@@ -5,8 +5,9 @@ use Rattle.it_space.specs.Rows.{Terms, value}
 use Rattle.it_syntax.specs.Meaning.{RelationView}
 use Rattle.it_demand.specs.Canonical.{IsRowOf}
 use Rattle.it_canon.specs.Sides.{left_form, right_form}
-use Rattle.it_best.specs.Ends.{BestView, EndsWith, IsRightBest}
-use Rattle.it_best.specs.Factors.{ground_of}
+use Rattle.it_best.specs.BestViews.{BestView}
+use Rattle.it_best.specs.Ends.{EndsWith}
+use Rattle.it_best.specs.Factors.{IsRightBest, ground_of}
 
 -- the runs about rows of both sides under a problem end with it, and it is right of the rows
 pub record IsFoundByRows (p : ProblemView) (budget : Option ℕ) (r : RelationView) (best : BestView) : Type 0 where

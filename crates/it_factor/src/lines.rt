@@ -5,7 +5,7 @@ ghost use Rattle.it_question.specs.Questions.{question_body};
 ghost use Rattle.it_question.specs.Tables.{problem_names};
 ghost use Rattle.it_canon.specs.QuestionDemands.{variables_of};
 ghost use Rattle.it_print.specs.Lines.{certificate_text, origins_of};
-ghost use Rattle.it_best.specs.Ends.{best_view};
+ghost use Rattle.it_best.specs.BestViews.{best_view};
 ghost use Rattle.it_factor.specs.Lines.{AreValuesOf, IsBestPrintable, IsPrintable, IsThere, best_cause_text, best_line, factor_text, least_line, never_line, other_line, ratio_text, reply_line, unbounded_line, undecided_line};
 ghost use Rattle.it_factor.specs.Replies.{reply_view};
 

@@ -9,7 +9,7 @@ ghost use Rattle.it_question.specs.Tables.{problem_names};
 ghost use Rattle.it_demand.specs.Demands.{AreStated};
 ghost use Rattle.it_demand.specs.LineDemands.{space_of};
 ghost use Rattle.it_canon.specs.QuestionDemands.{IsProblemOf, question_demands};
-ghost use Rattle.it_best.specs.Ends.{best_view};
+ghost use Rattle.it_best.specs.BestViews.{best_view};
 ghost use Rattle.it_factor.specs.Replies.{reply_view};
 ghost use Rattle.it_factor.specs.RightReplies.{IsRightReply};
 ghost use Rattle.it_factor.specs.RowReplies.{IsFoundByRows};
