@@ -115,7 +115,7 @@ impl Engine {
         if pivot(
             self.alloc,
             self.rows.as_mut_slice(),
-            &mut self.next,
+            self.next.as_mut_slice(),
             &columns[column],
             row,
             limit,

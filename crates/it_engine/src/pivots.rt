@@ -15,19 +15,19 @@ use std::alloc::Global;
 pub fn pivot(
     alloc: Global,
     rows: &mut [WholeRow],
-    next: &mut Vec<usize>,
+    next: &mut [usize],
     column: &Column,
     r: usize,
     limit: u64,
 ) -> bool
     requires row { r < length rows.old }
     requires rows { AreUsable (length rows.old) limit rows.old }
-    requires room { length next.old.items ≡ length rows.old + 1 }
+    requires room { length next.old ≡ length rows.old + 1 }
     requires column { IsFitting (length rows.old) limit column.now }
     requires positive { pos 1 ≤ℤ value column.now (number_at (whole_row_at rows.old r).numbers) }
     requires limit { limit < 2 ^ 63 }
     ensures pivoted { OnTrue result (AreWholeRowsPivoted (length rows.old) limit rows.old column.now r rows.new) }
-    ensures room { length next.new.items ≡ length next.old.items }
+    ensures room { length next.new ≡ length next.old }
 {
     let taken = std::mem::replace(&mut rows[r], WholeRow::empty(alloc));
     let entry = column.price(&taken);
@@ -38,7 +38,7 @@ pub fn pivot(
     // by index, since the invariant speaks of the rows before i and of those from i on
     for i in 0..rows.len() {
         if i != r {
-            if !rows[i].update(&own, next.as_slice(), column, p, limit) {
+            if !rows[i].update(&own, next, column, p, limit) {
                 return false;
             }
         }

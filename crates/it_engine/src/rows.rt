@@ -80,9 +80,9 @@ impl WholeRow {
     }
 
     /// Notes for each place the next one where the row isn't 0.
-    pub fn note_places(&self, next: &mut Vec<usize>)
-        requires { length next.old.items ≡ length self.now.numbers + 1 }
-        ensures { AreNextPlaces self.now.numbers next.new.items }
+    pub fn note_places(&self, next: &mut [usize])
+        requires { length next.old ≡ length self.now.numbers + 1 }
+        ensures { AreNextPlaces self.now.numbers next.new }
     {
         note_places(self.numbers.as_slice(), next);
     }
@@ -109,7 +109,7 @@ impl WholeRow {
         if shared == 1 {
             return;
         }
-        divide(&mut self.numbers, shared);
+        divide(self.numbers.as_mut_slice(), shared);
         self.bottom /= shared;
         self.most = greatest_size(self.numbers.as_slice());
     }
@@ -133,7 +133,7 @@ impl WholeRow {
             return false;
         };
         match combine(
-            &mut self.numbers,
+            self.numbers.as_mut_slice(),
             own.numbers.as_slice(),
             next,
             a,
