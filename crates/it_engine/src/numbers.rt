@@ -12,7 +12,7 @@ use crate::arithmetic::{common_divisor, narrow_difference, quotient};
 
 /// The number at place k.
 #[inline]
-fn read(row: &[i64], k: usize) -> i64
+pub fn read(row: &[i64], k: usize) -> i64
     requires { k < length row.now }
     ensures { result ≡ number_at row.now k }
 {

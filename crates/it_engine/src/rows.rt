@@ -2,10 +2,9 @@
 ghost use Rattle.std.specs.Prelude.{◌≡◌, ◌+◌, ◌<◌, ◌^◌, ◌≤ℤ◌, [], unsigned_abs, length, pos};
 ghost use Rattle.std.specs.Bool.{OnTrue};
 ghost use Rattle.it_space.specs.Sums.{number_at};
-ghost use Rattle.it_engine.specs.Updates.{AreNextPlaces, AreShort, IsFitting, IsWholeRowReduced, IsQuotient, IsShortened, IsUpdated, IsUsable};
+ghost use Rattle.it_engine.specs.Updates.{AreNextPlaces, AreShort, IsWholeRowReduced, IsQuotient, IsShortened, IsUpdated, IsUsable};
 
 use crate::arithmetic::{common_divisor, quotient, short_product};
-use crate::columns::Column;
 use crate::numbers::{combine, divide, divisor, greatest_size, note_places};
 use std::alloc::Global;
 use std::marker::Model;
@@ -154,25 +153,25 @@ impl WholeRow {
         }
     }
 
-    /// The row after a step in which another row leaves, whose entry at the column is the pivot; false where a number would be
-    /// larger than the limit, and then nothing is known of the row. Next has the next places where the leaving row isn't 0.
+    /// The row, which has this entry at the column, after a step in which another row leaves, whose entry there is the pivot; false
+    /// where a number would be larger than the limit, and then nothing is known of the row. Next has the next places where the
+    /// leaving row isn't 0.
     pub fn update(
         &mut self,
         own: &WholeRow,
         next: &[usize],
-        column: &Column,
+        entry: i64,
         pivot: i64,
         limit: u64,
     ) -> bool
         requires row { IsUsable (length own.now.numbers) limit self.old }
         requires own { IsUsable (length own.now.numbers) limit own.now }
         requires places { AreNextPlaces own.now.numbers next.now }
-        requires column { IsFitting (length own.now.numbers) limit column.now }
+        requires entry { unsigned_abs entry < 2 ^ 63 }
         requires pivot { pos 1 ≤ℤ pivot }
         requires limit { limit < 2 ^ 63 }
-        ensures { OnTrue result (IsUpdated (length own.now.numbers) limit self.old own.now column.now pivot self.new) }
+        ensures { OnTrue result (IsUpdated (length own.now.numbers) limit self.old own.now entry pivot self.new) }
     {
-        let entry = column.price(self);
         if entry == 0 {
             return true;
         }
